@@ -1,0 +1,4 @@
+pub mod Gcd
+pub mod Rational
+pub mod Order
+pub mod Sums

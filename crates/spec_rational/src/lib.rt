@@ -1,0 +1,2 @@
+//! The rational numbers: definitions and laws, with no code.
+#![tactic(auto)]
