@@ -5,13 +5,13 @@ use Rattle.std.proofs.lemmas.Cmp.{int_ranked}
 use Rattle.std.specs.Cmp.{IsTotalOrder}
 use Rattle.std.specs.declared.cmp.Ordering.{Ordering}
 use Rattle.std.specs.declared.cmp.Ordering.TheVariants.{Less, Equal, Greater}
-use Rattle.std.specs.Ordering.{MatchOrdering, int_cmp, ordering_reverse}
+use Rattle.std.specs.Ordering.{MatchOrdering, ordering_reverse}
 use Rattle.spec_rational.specs.Rational.{ℚ, 0ℚ, den, ratio, ◌+ℚ◌, ◌-ℚ◌, ◌*ℚ◌, neg_ℚ, IsPositive, IsNotNegative, ◌≤ℚ◌, ◌<ℚ◌}
 use Rattle.spec_rational.specs.Order.{cmp_ℚ}
 use Rattle.spec_rational.proofs.Ring.{var, int, ◌⊕◌, ◌⊗◌, minus}
 use Rattle.spec_rational.proofs.IntRing.{ring_ℤ}
 use Rattle.spec_rational.proofs.Rational.{ring, ratio_back, ratio-add, ratio-neg, cross_same, suc_pos, suc_mul_pos}
-use Rattle.spec_rational.proofs.Sign.{Sign, is_zero, is_pos, is_neg, sign, ratio_pos, pos_ratio, pos_add, nonneg_add, nonneg_mul, pos_mul, pos_nonneg, nonneg_zero, not_both, not_pos_zero, nonneg_cases}
+use Rattle.spec_rational.proofs.Sign.{ratio_pos, pos_ratio, pos_add, nonneg_add, nonneg_mul, pos_mul, pos_nonneg, nonneg_zero, not_pos_zero}
 
 -- ---- gaps
 
@@ -29,7 +29,7 @@ lt_from_cross p q h = record {
   gap =
       let n = neg_mul p.num (den q) in
       let above : pos 0 <ℤ (q.num *ℤ pos (den p) +ℤ neg_ℤ p.num *ℤ pos (den q)) =
-          subst (λ x. pos 0 <ℤ (q.num *ℤ pos (den p) +ℤ x)) (sym n) (omega (arith, ints, h)) in
+      subst (λ x. pos 0 <ℤ (q.num *ℤ pos (den p) +ℤ x)) (sym n) (omega (arith, ints, h)) in
       subst IsPositive (sym (gap_is p q)) (ratio_pos _ _ (suc_mul_pos q.below p.below) above);
 }
 
@@ -37,7 +37,7 @@ pub lt_to_cross : (p q : ℚ) → p <ℚ q → (p.num *ℤ pos (den q)) <ℤ (q.
 lt_to_cross p q h =
     let k = pos_ratio _ _ (suc_mul_pos q.below p.below) (subst IsPositive (gap_is p q) h.gap) in
     let m : pos 0 <ℤ (q.num *ℤ pos (den p) +ℤ neg_ℤ (p.num *ℤ pos (den q))) =
-        subst (λ x. pos 0 <ℤ (q.num *ℤ pos (den p) +ℤ x)) (neg_mul p.num (den q)) k in
+    subst (λ x. pos 0 <ℤ (q.num *ℤ pos (den p) +ℤ x)) (neg_mul p.num (den q)) k in
     omega (arith, ints, m)
 
 -- what the comparison by cross products says

@@ -279,3 +279,15 @@ ratio-neg n d h =
   where
     minus_one : int_ℚ (negsuc 0) *ℚ ratio n d ≡ ratio (negsuc 0) 1 *ℚ ratio n d
     minus_one = ap (λ w. w *ℚ ratio n d) int_is
+
+-- equal ratios have equal cross products
+pub cross_back : (n m : ℤ) (d e : ℕ) → 0 < d → 0 < e → ratio n d ≡ ratio m e → n *ℤ pos e ≡ m *ℤ pos d
+cross_back n m d e h k w =
+    let s = ratio_scaled n d h in
+    let t = ratio_scaled m e k in
+    let p = ratio n d in
+    let q = ratio m e in
+    ap₂ (λ x y. x *ℤ pos y) s.num_is t.den_is
+    ∙ ap₂ (λ x y. (x *ℤ pos s.by) *ℤ (y *ℤ pos t.by)) (ap (λ (r : ℚ). r.num) w) (ap (λ (r : ℚ). pos (den r)) (sym w))
+    ∙ ring_ℤ (q.num ∷ pos s.by ∷ pos (den p) ∷ pos t.by ∷ []) ((x0 ⊗ x1) ⊗ (x2 ⊗ x3)) ((x0 ⊗ x3) ⊗ (x2 ⊗ x1)) refl
+    ∙ sym (ap₂ (λ x y. x *ℤ pos y) t.num_is s.den_is)

@@ -1,9 +1,10 @@
 -- Signs of rationals.
-use Rattle.std.proofs.Common.{◌≡◌, ℕ, zero, suc, ◌*◌, ◌<◌, [], ◌∷◌, ℤ, pos, negsuc, ◌+ℤ◌, ◌*ℤ◌, ◌≤ℤ◌, ◌<ℤ◌, arith, refl, ap, sym, subst, ◌∙◌, mul-pos, zero-lt-suc, ◌⊎◌, inl, inr}
+use Rattle.std.proofs.Common.{◌≡◌, ℕ, zero, suc, ◌*◌, ◌<◌, [], ◌∷◌, ℤ, pos, negsuc, ◌+ℤ◌, ◌*ℤ◌, neg_ℤ, ◌≤ℤ◌, ◌<ℤ◌, arith, refl, ap, sym, subst, ◌∙◌, mul-pos, zero-lt-suc, ◌⊎◌, inl, inr}
 use Rattle.std.proofs.lemmas.Int.{ints}
 use borrow.Author.Differences.{product_is}
 use Rattle.spec_rational.specs.Rational.{ℚ, 0ℚ, 1ℚ, den, ratio, int_ℚ, ◌+ℚ◌, ◌*ℚ◌, neg_ℚ, inv_ℚ, inverted, IsPositive, IsNotNegative}
 use Rattle.spec_rational.proofs.Ring.{var, int, ◌⊕◌, ◌⊗◌, minus}
+use Rattle.spec_rational.proofs.IntRing.{ring_ℤ}
 use Rattle.spec_rational.proofs.Rational.{ratio_scaled, ratio_back, by_ratio, ratio-mul, ratio_same, ring, suc_pos, suc_mul_pos}
 
 z_mul_pos : (a b : ℤ) → pos 0 <ℤ a → pos 0 <ℤ b → pos 0 <ℤ (a *ℤ b)
@@ -156,3 +157,45 @@ product_zero a b h e = go (sign a)
     go (is_zero z) = absurd (h z)
     go (is_pos p) = by_pos a p e
     go (is_neg p) = by_pos (neg_ℚ a) p (ring (a ∷ b ∷ []) (minus (var 0) ⊗ var 1) (minus (var 0 ⊗ var 1)) refl ∙ ap neg_ℚ e ∙ ring [] (minus (int (pos 0))) (int (pos 0)) refl)
+
+-- ---- numbers that are not zero
+
+pub one_not_zero : 1ℚ ≡ 0ℚ → ⊥
+one_not_zero e = not_pos_zero (subst IsPositive e pos_one)
+
+pub zero_or_not : (q : ℚ) → (q ≡ 0ℚ) ⊎ (q ≡ 0ℚ → ⊥)
+zero_or_not q = go (sign q)
+  where
+    go : Sign q → (q ≡ 0ℚ) ⊎ (q ≡ 0ℚ → ⊥)
+    go (is_zero e) = inl e
+    go (is_pos p) = inr (λ e. not_pos_zero (subst IsPositive e p))
+    go (is_neg p) = inr (λ e. not_pos_zero (subst IsPositive (ap neg_ℚ e ∙ ring [] (minus (int (pos 0))) (int (pos 0)) refl) p))
+
+zero_num : (p : ℚ) → p.num ≡ pos 0 → p ≡ 0ℚ
+unfolding int_ℚ
+zero_num p e =
+    sym (ratio_back p)
+    ∙ ratio_same p.num (pos 0) (den p) 1 (suc_pos p.below) (omega arith)
+    (ap (λ z. z *ℤ pos 1) e ∙ ring_ℤ (pos (den p) ∷ []) (int (pos 0) ⊗ int (pos 1)) (int (pos 0) ⊗ var 0) refl)
+
+pub num_not_zero : (p : ℚ) → (p ≡ 0ℚ → ⊥) → p.num ≡ pos 0 → ⊥
+num_not_zero p n e = n (zero_num p e)
+
+own_inverse : (n : ℤ) (b : ℕ) → (n ≡ pos 0 → ⊥) → ratio n (suc b) *ℚ inverted n (suc b) ≡ 1ℚ
+unfolding int_ℚ
+own_inverse (pos zero) b n = absurd (n refl)
+own_inverse (pos (suc k)) b n =
+    ratio-mul (pos (suc k)) (pos (suc b)) (suc b) (suc k) (suc_pos b) (suc_pos k)
+    ∙ ratio_same _ (pos 1) _ 1 (suc_mul_pos b k) (omega arith)
+    (ring_ℤ (pos (suc k) ∷ pos (suc b) ∷ []) ((var 0 ⊗ var 1) ⊗ int (pos 1)) (int (pos 1) ⊗ (var 1 ⊗ var 0)) refl)
+own_inverse (negsuc k) b n =
+    ratio-mul (negsuc k) (neg_ℤ (pos (suc b))) (suc b) (suc k) (suc_pos b) (suc_pos k)
+    ∙ ratio_same _ (pos 1) _ 1 (suc_mul_pos b k) (omega arith)
+    (ring_ℤ (pos (suc k) ∷ pos (suc b) ∷ []) ((minus (var 0) ⊗ minus (var 1)) ⊗ int (pos 1)) (int (pos 1) ⊗ (var 1 ⊗ var 0)) refl)
+
+pub times_inverse : (p : ℚ) → (p ≡ 0ℚ → ⊥) → p *ℚ inv_ℚ p ≡ 1ℚ
+unfolding inv_ℚ
+times_inverse p n = ap (λ q. q *ℚ inverted p.num (den p)) (sym (ratio_back p)) ∙ own_inverse p.num p.below (num_not_zero p n)
+
+pub inverse_not_zero : (p : ℚ) → (p ≡ 0ℚ → ⊥) → inv_ℚ p ≡ 0ℚ → ⊥
+inverse_not_zero p n e = one_not_zero (sym (times_inverse p n) ∙ ap (λ q. p *ℚ q) e ∙ ring (p ∷ []) (var 0 ⊗ int (pos 0)) (int (pos 0)) refl)

@@ -1,5 +1,5 @@
 -- Sums of products: linear in the assignment and in the factors; a coefficient is the value at a unit.
-use Rattle.std.proofs.Common.{◌≡◌, ℕ, ◌+◌, ◌<◌, List, [], ◌∷◌, ◌++◌, length, take, get_or, Bool, true, false, nat_eq, pos, arith, refl, ap, ap₂, sym, subst, ◌∙◌, inl, inr}
+use Rattle.std.proofs.Common.{◌≡◌, ℕ, ◌+◌, ◌<◌, List, [], ◌∷◌, ◌++◌, length, take, get_or, Bool, true, false, nat_eq, pos, arith, refl, ap, ap₂, sym, ◌∙◌, inl, inr}
 use Rattle.std.proofs.lemmas.List.{take_more}
 use Rattle.spec_rational.specs.Rational.{ℚ, 0ℚ, 1ℚ, ◌+ℚ◌, ◌*ℚ◌, neg_ℚ}
 use Rattle.spec_rational.specs.Sums.{Product, sum_at, when, unit, factor_of, scaled_products, negated_products, Mentions}
