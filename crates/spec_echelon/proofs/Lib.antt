@@ -1,0 +1,3 @@
+pub mod Orders
+pub mod Filled
+pub mod Solving

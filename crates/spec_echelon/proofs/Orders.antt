@@ -1,0 +1,44 @@
+-- Variables in an order.
+use Rattle.std.proofs.Common.{◌≡◌, ℕ, List, [], ◌∷◌, ◌++◌, subst, inl, inr}
+use Rattle.spec_rational.specs.Sums.{Product, Mentions}
+use Rattle.spec_linear.specs.Solution.{Has}
+use Rattle.spec_echelon.specs.Echelon.{AreDistinct, InOrder, variables}
+
+pub has_behind : (front targets : List ℕ) (x : ℕ) → Has x targets → Has x (front ++ targets)
+has_behind [] targets x h = h
+has_behind (v ∷ front) targets x h = inr (has_behind front targets x h)
+
+pub in_order-has : (order xs : List ℕ) → InOrder order xs → (x : ℕ) → Has x xs → Has x order
+in_order-has order [] h x k = absurd k
+in_order-has [] (y ∷ xs) h x k = absurd h
+in_order-has (v ∷ order) (y ∷ xs) (inl h) x (inl e) = let e' : x ≡ y = e in inl (subst (λ z. x ≡ z) h.0 e')
+in_order-has (v ∷ order) (y ∷ xs) (inl h) x (inr k) = inr (in_order-has order xs h.1 x k)
+in_order-has (v ∷ order) (y ∷ xs) (inr h) x k = inr (in_order-has order (y ∷ xs) h x k)
+
+-- what begins with a target stands in the targets
+pub in_order-behind : (front targets : List ℕ) (x : ℕ) (xs : List ℕ) → AreDistinct (front ++ targets) → Has x targets → InOrder (front ++ targets) (x ∷ xs) → InOrder targets (x ∷ xs)
+in_order-behind [] targets x xs d h i = i
+in_order-behind (v ∷ front) targets x xs d h (inl i) = absurd (d.0 (subst (λ z. Has z (front ++ targets)) i.0 (has_behind front targets x h)))
+in_order-behind (v ∷ front) targets x xs d h (inr i) = in_order-behind front targets x xs d.1 h i
+
+pub mentions-has : (x : ℕ) (s : List Product) → Mentions x s → Has x (variables s)
+mentions-has x [] h = h
+mentions-has x (m ∷ s) (inl e) = inl e
+mentions-has x (m ∷ s) (inr h) = inr (mentions-has x s h)
+
+pub distinct_behind : (front targets : List ℕ) → AreDistinct (front ++ targets) → AreDistinct targets
+distinct_behind [] targets d = d
+distinct_behind (v ∷ front) targets d = distinct_behind front targets d.1
+
+-- what stands in an order of distinct variables stands in it once
+pub in_order-once : (order : List ℕ) (y : ℕ) (ys : List ℕ) → AreDistinct order → InOrder order (y ∷ ys) → Has y ys → ⊥
+in_order-once [] y ys d h k = h
+in_order-once (v ∷ order) y ys d (inl h) k = d.0 (subst (λ z. Has z order) h.0 (in_order-has order ys h.1 y k))
+in_order-once (v ∷ order) y ys d (inr h) k = in_order-once order y ys d.1 h k
+
+-- what stands behind the first stands in the order by itself
+pub in_order-rest : (order : List ℕ) (x : ℕ) (xs : List ℕ) → InOrder order (x ∷ xs) → InOrder order xs
+in_order-rest [] x xs h = absurd h
+in_order-rest (v ∷ order) x [] h = tt
+in_order-rest (v ∷ order) x (y ∷ xs) (inl h) = inr h.1
+in_order-rest (v ∷ order) x (y ∷ xs) (inr h) = inr (in_order-rest order x (y ∷ xs) h)

@@ -1,0 +1,2 @@
+pub mod Echelon
+pub mod SolvedForm

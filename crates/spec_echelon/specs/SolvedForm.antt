@@ -1,0 +1,34 @@
+-- A list of equations in solved form: some variables as forms of the others, which are free.
+use Rattle.std.specs.Prelude.{◌≡◌, ◌↔◌, ℕ, List, Option, Some, None}
+use Rattle.std.specs.List.{filter_map}
+use Rattle.spec_rational.specs.Rational.{ℚ}
+use Rattle.spec_rational.specs.Sums.{Mentions}
+use Rattle.spec_linear.specs.Form.{Linear, value_at}
+use Rattle.spec_linear.specs.Solution.{Constraint, Fixed, MentionsOnly, Satisfies}
+use Rattle.spec_echelon.specs.Echelon.{Solved, AreDistinct, IsBefore}
+
+-- a gives each variable that is solved for the value of its form
+abbrev pub Agrees : (ℕ → ℚ) → (ℕ → Option Linear) → Type 0
+Agrees a solved = (x : ℕ) (f : Linear) → solved x ≡ Some f → a x ≡ value_at a f
+
+-- The list's variables are in the order. Each that is solved for is a form of free variables behind it, and the list says
+-- just that.
+pub record IsSolvedForm (order : List ℕ) (l : List Constraint) (solved : ℕ → Option Linear) : Type 0 where
+  pub distinct : AreDistinct order
+  pub known : MentionsOnly order l
+  pub before : (x : ℕ) (f : Linear) → solved x ≡ Some f → IsBefore order x f.products
+  pub free : (x y : ℕ) (f : Linear) → solved x ≡ Some f → Mentions y f.products → solved y ≡ None
+  pub same : (a : ℕ → ℚ) → Satisfies a l ↔ Agrees a solved
+
+-- the equation of a variable, if it is solved for
+abbrev pub row_at : ℕ → Option Linear → Option Solved
+row_at x None = None
+row_at x (Some f) = Some (record { variable = x; form = f })
+
+-- the equations of some variables, in their order
+abbrev pub rows_of : (ℕ → Option Linear) → List ℕ → List Solved
+rows_of solved targets = filter_map (λ x. row_at x (solved x)) targets
+
+-- the list gives x no single value
+abbrev pub NotFixed : List Constraint → ℕ → Type 0
+NotFixed l x = (q : ℚ) → Fixed l x q → ⊥
