@@ -1,0 +1,12 @@
+use Rattle.std.proofs.Common.{◌≡◌, map, drop}
+use Rattle.cq_atoms.specs.Texts.{KeepsTexts}
+use Rattle.spec_operators.specs.Standard.{put_names}
+use Rattle.cq_ops.specs.Tables.{AreNamed, named}
+use Rattle.cq_ops.proofs.Ops.put_names.Given as goal
+
+abbrev pub invariant-loop-name : goal.invariant-loop-name
+invariant-loop-name l = record {
+  table : put_names (named l.atoms l.self) l.priority l.kind (map (λ name. name.now) (drop l.name-index l.names)) ≡ put_names (named l.fn.atoms l.fn.self) l.priority l.kind (map (λ name. name.now) l.names);
+  known : AreNamed l.atoms l.self;
+  kept : KeepsTexts l.fn.atoms l.atoms;
+}

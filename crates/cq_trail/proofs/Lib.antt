@@ -1,0 +1,4 @@
+pub mod Restore
+pub mod Stamps
+pub mod Kept
+pub mod Zip

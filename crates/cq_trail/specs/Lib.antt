@@ -1,0 +1,2 @@
+pub mod TrailValue
+pub mod Log
