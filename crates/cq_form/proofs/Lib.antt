@@ -1,0 +1,4 @@
+pub mod Exits
+pub mod Steps
+pub mod Merge
+pub mod Forms
