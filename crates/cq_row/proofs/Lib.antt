@@ -1,0 +1,8 @@
+pub mod Inverse
+pub mod Units
+pub mod Steps
+pub mod Merge
+pub mod Placed
+pub mod Exits
+pub mod Pairs
+pub mod Shifts
