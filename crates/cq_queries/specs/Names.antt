@@ -1,0 +1,6 @@
+-- The entries of a map from names to numbers as the names of a query.
+use Rattle.std.specs.Prelude.{ℕ, List, map, String, string_bytes}
+use Rattle.spec_queries.specs.Tree.{VariableName}
+
+abbrev pub names_of : {A : Type 0} → List (String A × ℕ) → List VariableName
+names_of entries = map (λ e. record { name = string_bytes e.0; number = e.1 }) entries

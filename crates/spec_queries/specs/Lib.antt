@@ -1,0 +1,5 @@
+pub mod Tree
+pub mod Tokens
+pub mod Grammar
+pub mod Meaning
+pub mod Examples
