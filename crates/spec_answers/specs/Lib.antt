@@ -1,0 +1,4 @@
+pub mod Text
+pub mod RowText
+pub mod Answer
+pub mod Samples

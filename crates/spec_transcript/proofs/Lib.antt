@@ -1,0 +1,4 @@
+pub mod Values
+pub mod Solved
+pub mod Rows
+pub mod HiddenVariable

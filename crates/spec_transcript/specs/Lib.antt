@@ -1,0 +1,4 @@
+pub mod Told
+pub mod Moments
+pub mod Session
+pub mod Samples

@@ -1,0 +1,16 @@
+-- Transcripts to try the definitions on.
+use Rattle.std.specs.Prelude.{ℕ, true, false}
+use Rattle.spec_answers.specs.Text.{Text}
+use Rattle.spec_transcript.specs.Session.{Transcript}
+
+-- the input writes this text, without an error line or a stop
+abbrev pub Writes : Text → Text → Type 0
+Writes input text = Transcript input text (record { faulty = false; stopped = false })
+
+-- the same with an error line
+abbrev pub WritesError : Text → Text → Type 0
+WritesError input text = Transcript input text (record { faulty = true; stopped = false })
+
+-- the same with a stop
+abbrev pub WritesStop : Text → Text → Type 0
+WritesStop input text = Transcript input text (record { faulty = false; stopped = true })

@@ -1,0 +1,23 @@
+//! The transcript of a session: definitions, with no code. Each function has an empty body, and its contract is
+//! what the definitions say of examples.
+#![tactic(auto)]
+
+ghost use Rattle.std.specs.Prelude.{[], codes};
+ghost use Rattle.spec_transcript.specs.Told.{ToldRelations};
+ghost use Rattle.spec_transcript.specs.Samples.{Writes, WritesError, WritesStop};
+
+/// A told relation holds just where its sides have the same value.
+pub fn relations_are_told()
+    ensures { ToldRelations }
+{}
+
+/// What a few inputs write.
+pub fn inputs_write()
+    ensures nothing { Writes [] [] }
+    ensures value { Writes (codes "?- {2*X+3=7}.") (codes "X = 2\n;\nno\n") }
+    ensures row { Writes (codes "?- {X+Y=3}.") (codes "{X= -Y+3}\n;\nno\n") }
+    ensures hidden { Writes (codes "?- {X=_A+1, Y=_A+2}.") (codes "{X=Y-1}\n;\nno\n") }
+    ensures contradiction { Writes (codes "{X=1, X=2}.") (codes "no\n") }
+    ensures overflow { WritesStop (codes "?- {X=170141183460469231731687303715884105727+1}.") (codes "stop: overflow\n") }
+    ensures foreign { WritesError (codes "?- {X>1}.") (codes "error: syntax 0\n") }
+{}
