@@ -1,0 +1,4 @@
+pub mod Arguments
+pub mod Meanings
+pub mod Kept
+pub mod Marks

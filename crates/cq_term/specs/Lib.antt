@@ -1,0 +1,4 @@
+pub mod Meaning
+pub mod Shown
+pub mod HeapValue
+pub mod Rep

@@ -1,0 +1,107 @@
+// The small values that name terms, atoms and predicates.
+
+ghost use Rattle.std.specs.Prelude.{◌≡◌, ◌++◌, [], ◌∷◌, List, OnOk, OnErr};
+
+use cq_frac::VarId;
+use std::alloc::{AllocError, Global};
+use std::marker::Model;
+
+/// A term of a heap, by its number: the terms are numbered in the order in which they are made.
+#[derive(Clone, Copy, Debug, PartialEq, Eq, PartialOrd, Ord, Hash)]
+pub struct TermId {
+    number: usize,
+}
+
+impl Model for TermId {
+    ghost use Rattle.std.specs.Prelude.{ℕ};
+
+    ghost Value = { ℕ };
+
+    ghost view = { λ id. id.number };
+
+    ghost inverse = { λ n. record { number = n } };
+}
+
+impl TermId {
+    pub(crate) fn new(number: usize) -> TermId
+        ensures { result ≡ number }
+    {
+        TermId { number }
+    }
+
+    pub(crate) fn index(self) -> usize
+        ensures { result ≡ self }
+    {
+        self.number
+    }
+}
+
+/// A name, by its number.
+#[derive(Clone, Copy, Debug, PartialEq, Eq, Hash)]
+pub struct Atom {
+    number: usize,
+}
+
+impl Model for Atom {
+    ghost use Rattle.std.specs.Prelude.{ℕ};
+
+    ghost Value = { ℕ };
+
+    ghost view = { λ atom. atom.number };
+
+    ghost inverse = { λ n. record { number = n } };
+}
+
+impl Atom {
+    pub fn new(number: usize) -> Atom
+        ensures { result ≡ number }
+    {
+        Atom { number }
+    }
+}
+
+/// A predicate: its name and how many arguments it has.
+#[derive(Clone, Copy, Debug, PartialEq, Eq, Hash)]
+pub struct Pred {
+    pub name: Atom,
+    pub arity: usize,
+}
+
+/// The variables that were bound, in order.
+#[derive(Debug, Drop)]
+pub struct Newly {
+    variables: Vec<VarId>,
+}
+
+impl Model for Newly {
+    ghost use Rattle.std.specs.Prelude.{List};
+    ghost use Rattle.cq_frac.specs.declared.VarId.{VarId};
+
+    ghost Value = { List VarId };
+
+    ghost view = { λ newly. newly.variables.items };
+}
+
+impl Newly {
+    pub fn new(alloc: Global) -> Self
+        ensures { result ≡ [] }
+    {
+        Newly {
+            variables: Vec::new(alloc),
+        }
+    }
+
+    pub fn push(&mut self, variable: VarId) -> Result<(), AllocError>
+        ensures ok { OnOk result (self.new ≡ self.old ++ variable ∷ []) }
+        ensures err { OnErr result (self.new ≡ self.old) }
+    {
+        self.variables.push(variable)?;
+        Ok(())
+    }
+
+    pub fn as_slice(&self) -> &[VarId]
+        ensures { result.now ≡ self.now }
+    {
+        &self.variables
+    }
+}
