@@ -1,0 +1,7 @@
+use Rattle.std.proofs.Common.{◌≡◌, take}
+use Rattle.spec_answers.specs.Answer.{Branch, binding_lines, lines_text}
+use Rattle.cq_answer.specs.Values.{AreValues}
+use Rattle.cq_answer.proofs.value_lines.Given as goal
+
+abbrev pub invariant-names : goal.invariant-names
+invariant-names l = (b : Branch) → AreValues l.names b l.values → l.text.items ≡ lines_text (binding_lines (take l.i l.names) b)

@@ -1,0 +1,134 @@
+//! The text of a row: a variable, `=`, and a sum.
+
+ghost use Rattle.std.specs.Prelude.{◌≡◌, ◌++◌, map, codes, IfOk, OnOk};
+ghost use Rattle.spec_answers.specs.Answer.{name_among, row_line};
+ghost use Rattle.spec_answers.specs.RowText.{begins_with_minus as has_minus, joined, product_text, sum_onto, linear_text as sum_text};
+ghost use Rattle.cq_answer.specs.Coefficient.{coefficient_text};
+ghost use Rattle.cq_project.specs.Rows.{product_of, solved_of};
+
+use crate::numbers::push_number;
+use cq_frac::{Frac, VarId};
+use cq_project::Equation;
+use cq_queries::VariableName;
+use std::alloc::{AllocError, Global};
+
+/// The name of a variable, which is empty for a variable that has none. It goes through the names one by one, since the
+/// rows of an answer are few.
+fn name_of<'a>(names: &'a [VariableName], variable: VarId) -> &'a str
+    ensures { result.now ≡ name_among names.now variable.0 }
+{
+    'names: for named in names {
+        if named.number == variable.0 {
+            return named.name.as_str();
+        }
+    }
+    ""
+}
+
+fn begins_with_minus(text: &[u8]) -> bool
+    ensures { result ≡ has_minus text.now }
+{
+    match text {
+        [first, ..] => *first == b'-',
+        [] => false,
+    }
+}
+
+/// Puts a piece behind a sum, with `+` between them unless the piece brings its own `-`.
+fn join(sum: &mut Vec<u8>, piece: &[u8]) -> Result<(), AllocError>
+    ensures { OnOk result (sum.new.items ≡ joined sum.old.items piece.now) }
+{
+    if !begins_with_minus(piece) {
+        sum.extend_from_slice(b"+")?;
+    }
+    sum.extend_from_slice(piece)
+}
+
+/// What stands before a variable's name: nothing for 1, `-` for -1, and else the number and `*`.
+fn push_coefficient(out: &mut Vec<u8>, factor: Frac) -> Result<(), AllocError>
+    ensures { OnOk result (out.new.items ≡ out.old.items ++ coefficient_text factor) }
+{
+    if factor == Frac::one() {
+        return Ok(());
+    }
+    if factor == Frac::one().neg() {
+        return out.extend_from_slice(b"-");
+    }
+    push_number(out, factor)?;
+    out.extend_from_slice(b"*")
+}
+
+/// A product, in which a coefficient 1 is left away, and -1 is `-`.
+fn push_product(
+    out: &mut Vec<u8>,
+    names: &[VariableName],
+    product: (VarId, Frac),
+) -> Result<(), AllocError>
+    ensures { OnOk result (out.new.items ≡ out.old.items ++ product_text (name_among names.now) (product_of product)) }
+{
+    let (variable, factor) = product;
+    push_coefficient(out, factor)?;
+    out.extend_from_slice(name_of(names, variable).as_bytes())
+}
+
+/// Puts more products behind a sum.
+fn add_products(
+    alloc: Global,
+    sum: &mut Vec<u8>,
+    names: &[VariableName],
+    products: &[(VarId, Frac)],
+) -> Result<(), AllocError>
+    ensures { OnOk result (sum.new.items ≡ sum_onto (name_among names.now) sum.old.items (map product_of products.now)) }
+{
+    let mut piece = Vec::new(alloc);
+    'products: for product in products {
+        piece.clear();
+        push_product(&mut piece, names, *product)?;
+        join(sum, &piece)?;
+    }
+    Ok(())
+}
+
+/// The products and then the constant, which is left away where it is zero and a product stands before it.
+fn linear_text(
+    alloc: Global,
+    names: &[VariableName],
+    products: &[(VarId, Frac)],
+    constant: Frac,
+) -> Result<Vec<u8>, AllocError>
+    ensures { IfOk result (λ text. text.items ≡ sum_text (name_among names.now) (map product_of products.now) constant) }
+{
+    let mut text = Vec::new(alloc);
+    let [first, others @ ..] = products else {
+        push_number(&mut text, constant)?;
+        return Ok(text);
+    };
+    push_product(&mut text, names, *first)?;
+    add_products(alloc, &mut text, names, others)?;
+    if !constant.is_zero() {
+        let mut piece = Vec::new(alloc);
+        push_number(&mut piece, constant)?;
+        join(&mut text, &piece)?;
+    }
+    Ok(text)
+}
+
+/// A row on a line of its own: one blank follows `=` where the right side begins with `-`.
+pub fn push_row(
+    alloc: Global,
+    out: &mut Vec<u8>,
+    names: &[VariableName],
+    row: &Equation,
+) -> Result<(), AllocError>
+    ensures { OnOk result (out.new.items ≡ out.old.items ++ row_line names.now (solved_of row.now) ++ codes "\n") }
+{
+    let right = linear_text(alloc, names, &row.products, row.constant)?;
+    out.extend_from_slice(b"{")?;
+    out.extend_from_slice(name_of(names, row.variable).as_bytes())?;
+    out.extend_from_slice(b"=")?;
+    if begins_with_minus(&right) {
+        out.extend_from_slice(b" ")?;
+    }
+    out.extend_from_slice(&right)?;
+    out.extend_from_slice(b"}\n")
+}

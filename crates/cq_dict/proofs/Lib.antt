@@ -1,0 +1,12 @@
+pub mod Slots
+pub mod Written
+pub mod Free
+pub mod Products
+pub mod Moves
+pub mod Exchanged
+pub mod Turned
+pub mod Places
+pub mod Eliminated
+pub mod Ends
+pub mod Faults
+pub mod Commits

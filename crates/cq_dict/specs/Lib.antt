@@ -1,0 +1,4 @@
+pub mod Changes
+pub mod Dict
+pub mod Forms
+pub mod Table

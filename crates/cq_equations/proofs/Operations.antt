@@ -1,0 +1,211 @@
+-- The pairs that operations on forms refuse, as pairs that a list of operations meets.
+use Rattle.std.proofs.Common.{◌≡◌, inl, inr, ℕ, zero, suc, ◌<◌, ◌≤◌, List, [], ◌∷◌, ◌++◌, length, take, get_or, arith, refl, ap, sym, subst, ◌∙◌}
+use Rattle.std.specs.Prelude.{fold, flat_map, map}
+use Rattle.std.proofs.lemmas.List.Concat.{flat_map-cons}
+use Rattle.spec_rational.specs.Rational.{ℚ, neg_ℚ}
+use Rattle.spec_rational.specs.Sums.{Product, unit, factor_of, negated_products}
+use Rattle.spec_rational.proofs.Ring.{var, minus}
+use Rattle.spec_rational.proofs.Rational.{ring}
+use Rattle.spec_rational.proofs.Sums.{factor_of-is, sum_at-negated_products}
+use Rattle.spec_linear.specs.Form.{Linear, IsSumFrom, IsForm, constant_form, variable_form, negated_form}
+use Rattle.spec_linear.specs.Solution.{Has}
+use Rattle.spec_linear.proofs.Ordered.{factor_of-first, factor_of-rest, form_same, IsForm-variable_form, IsForm-negated_form}
+use Rattle.spec_limits.specs.Overflow.{Operands, of_variable as number_of_variable, of_constant}
+use Rattle.spec_queries.specs.Tree.{Sum, Relation}
+use Rattle.spec_queries.specs.declared.Term.{Term}
+use Rattle.spec_queries.specs.declared.SignedTerm.{SignedTerm}
+use Rattle.spec_queries.specs.Meaning.{term_form, with_term, sum_of_terms, operation_of, term_operations, joining_operations, sum_operations, relation_operations}
+use Rattle.cq_frac.specs.declared.Operation.{Operation}
+use Rattle.cq_frac.specs.declared.Operation.TheVariants.{Sum as Addition, Difference, Product as Times}
+use Rattle.cq_frac.specs.declared.Pair.{Pair}
+use Rattle.cq_frac.specs.declared.VarId.{VarId}
+use Rattle.cq_frac.specs.Fits.{SumRefused}
+use Rattle.cq_frac.specs.Refused.{IsRefused, Refuses as RefusesNumbers}
+use Rattle.cq_form.specs.Pairs.{products_of, form_of}
+use Rattle.cq_form.specs.Steps.{HasCoefficient, of_variable as common, of_variable as multiple, SumPair, coefficients as common_pair, constants as constants_pair, ScalePair, coefficient as multiple_pair, constant as constant_pair}
+use Rattle.cq_equations.specs.Pairs.{Meets, coefficients, constants, operands, Refuses}
+
+-- ---- negated forms
+
+neg-neg : (q : ℚ) → neg_ℚ (neg_ℚ q) ≡ q
+neg-neg q = ring (q ∷ []) (minus (minus (var 0))) (var 0) refl
+
+negated_pairs-products : (s : List (VarId × ℚ)) → products_of (map (λ p. (p.0, neg_ℚ p.1)) s) ≡ negated_products (products_of s)
+negated_pairs-products [] = refl
+negated_pairs-products (p ∷ s) = ap (λ r. record { variable = p.0.0; factor = neg_ℚ p.1 } ∷ r) (negated_pairs-products s)
+
+pub negated_is : (f : Linear) (s t : List (VarId × ℚ)) (c d : ℚ) → products_of s ≡ f.products → t ≡ map (λ p. (p.0, neg_ℚ p.1)) s → c ≡ f.constant → d ≡ neg_ℚ c
+    → form_of d t ≡ negated_form f
+negated_is f s t c d e h i j =
+    form_same (form_of d t) (negated_form f) (ap products_of h ∙ negated_pairs-products s ∙ ap negated_products e) (j ∙ ap neg_ℚ i)
+
+factor_of-negated : (x : ℕ) (s : List Product) → factor_of x s ≡ neg_ℚ (factor_of x (negated_products s))
+factor_of-negated x s =
+    sym (neg-neg (factor_of x s))
+    ∙ ap neg_ℚ (ap neg_ℚ (factor_of-is x s) ∙ sym (sum_at-negated_products (unit x) s) ∙ sym (factor_of-is x (negated_products s)))
+
+-- ---- coefficients
+
+-- no variable of a sum is below its first
+least : (x : ℕ) (q : ℚ) (low : ℕ) (s : List Product) → IsSumFrom low s → HasCoefficient x q s → low ≤ x
+least x q low [] o h = absurd h
+least x q low (n ∷ s) o (inl e) = omega (arith, o.0, ap (λ (p : Product). p.variable) e)
+least x q low (n ∷ s) o (inr h) = omega (arith, o.0, least x q (suc n.variable) s o.2 h)
+
+-- what stands with a variable is its coefficient
+coefficient_is : (low x : ℕ) (q : ℚ) (s : List Product) → IsSumFrom low s → HasCoefficient x q s → factor_of x s ≡ q
+coefficient_is low x q [] o h = absurd h
+coefficient_is low x q (m ∷ s) o (inl e) =
+    ap (λ y. factor_of y (m ∷ s)) (ap (λ (p : Product). p.variable) e) ∙ factor_of-first low m s o ∙ sym (ap (λ (p : Product). p.factor) e)
+coefficient_is low x q (m ∷ s) o (inr h) =
+    let above : suc m.variable ≤ x = least x q (suc m.variable) s o.2 h in
+    factor_of-rest x m s (λ e. absurd (omega (arith, above, e))) ∙ coefficient_is (suc m.variable) x q s o.2 h
+
+-- ---- one operation
+
+abbrev pub on : Operation → Linear → Linear → Operands
+on o f g = record { operation = o; left = f; right = g }
+
+sum_meets : (f g : Linear) → IsForm f → IsForm g → (o : Operation) (p q : ℚ) → SumPair f g o p q → Meets (on Addition f g ∷ []) o p q
+sum_meets f g h k o p q (common_pair m n (common x a b)) =
+    subst (λ r. Meets (on Addition f g ∷ []) Addition r n) (coefficient_is 0 x m f.products h a)
+    (subst (λ r. Meets (on Addition f g ∷ []) Addition (factor_of x f.products) r) (coefficient_is 0 x n g.products k b)
+    (coefficients (on Addition f g) (inl refl) (inl refl) x))
+sum_meets f g h k o p q constants_pair = constants (on Addition f g) (inl refl) (inl refl)
+
+pub sum_refused : (f g : Linear) → IsForm f → IsForm g → (pair : Pair) → SumPair f g pair.operation pair.left pair.right × IsRefused pair → Refuses (on Addition f g ∷ []) pair
+sum_refused f g h k pair w = record { meets = sum_meets f g h k pair.operation pair.left pair.right w.0; refused = w.1 }
+
+difference_meets : (f g : Linear) → IsForm f → IsForm g → (o : Operation) (p q : ℚ) → SumPair f (negated_form g) o p q → Meets (on Difference f g ∷ []) Difference p (neg_ℚ q)
+difference_meets f g h k o p q (common_pair m n (common x a b)) =
+    subst (λ r. Meets (on Difference f g ∷ []) Difference r (neg_ℚ n)) (coefficient_is 0 x m f.products h a)
+    (subst (λ r. Meets (on Difference f g ∷ []) Difference (factor_of x f.products) r)
+    (factor_of-negated x g.products ∙ ap neg_ℚ (coefficient_is 0 x n (negated_products g.products) (IsForm-negated_form g k) b))
+    (coefficients (on Difference f g) (inl refl) (inr refl) x))
+difference_meets f g h k o p q constants_pair =
+    subst (Meets (on Difference f g ∷ []) Difference f.constant) (sym (neg-neg g.constant)) (constants (on Difference f g) (inl refl) (inr refl))
+
+difference_refuses : (f g : Linear) (o : Operation) (p q : ℚ) → SumPair f g o p q → RefusesNumbers o p q → SumRefused p (neg_ℚ (neg_ℚ q))
+difference_refuses f g o p q (common_pair m n w) r = subst (SumRefused m) (sym (neg-neg n)) r
+difference_refuses f g o p q constants_pair r = subst (SumRefused f.constant) (sym (neg-neg g.constant)) r
+
+-- the sum with the negated form refuses a pair: so does the difference, with its right number negated
+pub difference_refused : (f g n : Linear) → IsForm f → IsForm g → n ≡ negated_form g → (pair : Pair) → SumPair f n pair.operation pair.left pair.right × IsRefused pair
+    → (q : ℚ) → q ≡ neg_ℚ pair.right → (told : Pair) → record { operation = Difference; left = pair.left; right = q } ≡ told → Refuses (on Difference f g ∷ []) told
+difference_refused f g n h k i pair w q e told t =
+    let s : SumPair f (negated_form g) pair.operation pair.left pair.right = subst (λ y. SumPair f y pair.operation pair.left pair.right) i w.0 in
+    let all : Refuses (on Difference f g ∷ []) (record { operation = Difference; left = pair.left; right = neg_ℚ pair.right }) = record {
+      meets = difference_meets f g h k pair.operation pair.left pair.right s;
+      refused = difference_refuses f (negated_form g) pair.operation pair.left pair.right s w.1;
+    } in
+    subst (Refuses (on Difference f g ∷ [])) t
+    (subst (λ r. Refuses (on Difference f g ∷ []) (record { operation = Difference; left = pair.left; right = r })) (sym e) all)
+
+product_meets : (k : ℚ) (f : Linear) → IsForm f → (o : Operation) (p q : ℚ) → ScalePair k f o p q → Meets (on Times (constant_form k) f ∷ []) o p q
+product_meets k f h o p q (multiple_pair n (multiple x a)) =
+    subst (Meets (on Times (constant_form k) f ∷ []) Times k) (coefficient_is 0 x n f.products h a)
+    (operands (on Times (constant_form k) f) (inl refl) (inl refl) of_constant (number_of_variable x))
+product_meets k f h o p q constant_pair = operands (on Times (constant_form k) f) (inl refl) (inl refl) of_constant of_constant
+
+pub product_refused : (k : ℚ) (x : ℕ) (f : Linear) → f ≡ variable_form x → (pair : Pair) → ScalePair k f pair.operation pair.left pair.right × IsRefused pair
+    → Refuses (on Times (constant_form k) (variable_form x) ∷ []) pair
+product_refused k x f e pair w = record {
+  meets = product_meets k (variable_form x) (IsForm-variable_form x) pair.operation pair.left pair.right (subst (λ y. ScalePair k y pair.operation pair.left pair.right) e w.0);
+  refused = w.1;
+}
+
+-- ---- more operations
+
+meets_in : {s t : List Operands} → ((o : Operands) → Has o s → Has o t) → (o : Operation) (p q : ℚ) → Meets s o p q → Meets t o p q
+meets_in h o p q (coefficients d has is x) = coefficients d (h d has) is x
+meets_in h o p q (constants d has is) = constants d (h d has) is
+meets_in h o p q (operands d has is a b) = operands d (h d has) is a b
+
+pub refuses_in : {s t : List Operands} → ((o : Operands) → Has o s → Has o t) → (pair : Pair) → Refuses s pair → Refuses t pair
+refuses_in h pair r = record { meets = meets_in h pair.operation pair.left pair.right r.meets; refused = r.refused }
+
+has_front : (s t : List Operands) (o : Operands) → Has o s → Has o (s ++ t)
+has_front [] t o h = absurd h
+has_front (x ∷ s) t o (inl e) = inl e
+has_front (x ∷ s) t o (inr h) = inr (has_front s t o h)
+
+has_back : (s t : List Operands) (o : Operands) → Has o t → Has o (s ++ t)
+has_back [] t o h = h
+has_back (x ∷ s) t o h = inr (has_back s t o h)
+
+pub refuses_front : (s t : List Operands) (pair : Pair) → Refuses s pair → Refuses (s ++ t) pair
+refuses_front s t pair r = refuses_in (has_front s t) pair r
+
+pub refuses_back : (s t : List Operands) (pair : Pair) → Refuses t pair → Refuses (s ++ t) pair
+refuses_back s t pair r = refuses_in (has_back s t) pair r
+
+-- what stands before one operation and at it, with more behind
+has_more : (a b : List Operands) (d o : Operands) → Has o (a ++ d ∷ []) → Has o (a ++ d ∷ b)
+has_more [] b d o (inl e) = inl e
+has_more [] b d o (inr h) = absurd h
+has_more (x ∷ a) b d o (inl e) = inl e
+has_more (x ∷ a) b d o (inr h) = inr (has_more a b d o h)
+
+-- what joins the term at a place is among what joins them all
+has_joining : (f : Linear) (s : List SignedTerm) (i : ℕ) (t : SignedTerm) → i < length s → t ≡ get_or s i t → (o : Operands)
+    → Has o (joining_operations (fold with_term f (take i s)) (t ∷ [])) → Has o (joining_operations f s)
+has_joining f [] i t l e o h = absurd (omega arith)
+has_joining f (u ∷ s) zero t l e o h =
+    has_more (term_operations u.term) (joining_operations (with_term f u) s) (on (operation_of u.sign) f (term_form u.term)) o
+    (subst (λ w. Has o (joining_operations f (w ∷ []))) e h)
+has_joining f (u ∷ s) (suc i) t l e o h =
+    has_back (term_operations u.term) _ o (inr (has_joining (with_term f u) s i t (omega arith) e o h))
+
+-- a term and its joining to the form of what stands before it
+pub joined_refused : (f g : Linear) (t : SignedTerm) → g ≡ term_form t.term → (o : Operation) → operation_of t.sign ≡ o → (pair : Pair)
+    → Refuses (on o f g ∷ []) pair → Refuses (joining_operations f (t ∷ [])) pair
+joined_refused f g t e o i pair r =
+    refuses_back (term_operations t.term) (on (operation_of t.sign) f (term_form t.term) ∷ []) pair
+    (subst (λ p. Refuses (on p f (term_form t.term) ∷ []) pair) (sym i) (subst (λ y. Refuses (on o f y ∷ []) pair) e r))
+
+pub first_refused : (s : Sum) (t : Term) → t ≡ s.first → (pair : Pair) → Refuses (term_operations t) pair → Refuses (sum_operations s) pair
+first_refused s t e pair r =
+    refuses_front (term_operations s.first) (joining_operations (term_form s.first) s.rest) pair (subst (λ y. Refuses (term_operations y) pair) e r)
+
+pub rest_refused : (s : Sum) (rest : List SignedTerm) → rest ≡ s.rest → (g : Linear) (i : ℕ) (t : SignedTerm) → i < length rest → t ≡ get_or rest i t
+    → g ≡ fold with_term (term_form s.first) (take i s.rest) → (pair : Pair) → Refuses (joining_operations g (t ∷ [])) pair → Refuses (sum_operations s) pair
+rest_refused s rest q g i t l e w pair r =
+    let in_rest = has_joining (term_form s.first) s.rest i t (subst (λ y. i < length y) q l) (subst (λ y. t ≡ get_or y i t) q e) in
+    refuses_back (term_operations s.first) (joining_operations (term_form s.first) s.rest) pair
+    (refuses_in in_rest pair (subst (λ y. Refuses (joining_operations y (t ∷ [])) pair) w r))
+
+-- ---- relations
+
+-- the difference of the sides
+abbrev sides : Relation → Operands
+sides r = on Difference (sum_of_terms r.left) (sum_of_terms r.right)
+
+pub left_refused : (r : Relation) (s : Sum) → s ≡ r.left → (pair : Pair) → Refuses (sum_operations s) pair → Refuses (relation_operations r) pair
+left_refused r s e pair w =
+    refuses_front (sum_operations r.left ++ sum_operations r.right) (sides r ∷ []) pair
+    (refuses_front (sum_operations r.left) (sum_operations r.right) pair (subst (λ y. Refuses (sum_operations y) pair) e w))
+
+pub right_refused : (r : Relation) (s : Sum) → s ≡ r.right → (pair : Pair) → Refuses (sum_operations s) pair → Refuses (relation_operations r) pair
+right_refused r s e pair w =
+    refuses_front (sum_operations r.left ++ sum_operations r.right) (sides r ∷ []) pair
+    (refuses_back (sum_operations r.left) (sum_operations r.right) pair (subst (λ y. Refuses (sum_operations y) pair) e w))
+
+pub sides_refused : (r : Relation) (f g : Linear) → f ≡ sum_of_terms r.left → g ≡ sum_of_terms r.right → (pair : Pair)
+    → Refuses (on Difference f g ∷ []) pair → Refuses (relation_operations r) pair
+sides_refused r f g e h pair w =
+    refuses_back (sum_operations r.left ++ sum_operations r.right) (sides r ∷ []) pair
+    (subst (λ y. Refuses (on Difference (sum_of_terms r.left) y ∷ []) pair) h (subst (λ y. Refuses (on Difference y g ∷ []) pair) e w))
+
+has_operations : (s : List Relation) (i : ℕ) (r : Relation) → i < length s → r ≡ get_or s i r → (o : Operands)
+    → Has o (relation_operations r) → Has o (flat_map relation_operations s)
+has_operations [] i r l e o h = absurd (omega arith)
+has_operations (a ∷ s) zero r l e o h =
+    subst (Has o) (sym (flat_map-cons relation_operations a s)) (has_front (relation_operations a) _ o (subst (λ w. Has o (relation_operations w)) e h))
+has_operations (a ∷ s) (suc i) r l e o h =
+    subst (Has o) (sym (flat_map-cons relation_operations a s)) (has_back (relation_operations a) _ o (has_operations s i r (omega arith) e o h))
+
+-- the operations of a relation at a place are among those of all
+pub relation_refused : (s rest : List Relation) → rest ≡ s → (i : ℕ) (r : Relation) → i < length rest → r ≡ get_or rest i r → (pair : Pair)
+    → Refuses (relation_operations r) pair → Refuses (flat_map relation_operations s) pair
+relation_refused s rest q i r l e pair w =
+    refuses_in (has_operations s i r (subst (λ y. i < length y) q l) (subst (λ y. r ≡ get_or y i r) q e)) pair w

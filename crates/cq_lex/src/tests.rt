@@ -1,0 +1,403 @@
+// Tables of texts with their tokens or faults, worked out by hand from the rules.
+use super::{Kind, LexFault, next_token};
+use std::test::Fail;
+
+type Row = (&'static [u8], usize, Result<(Kind, usize, usize), LexFault>);
+
+/// The token at a place within the text, by its kind and its ends.
+fn read(text: &[u8], at: usize) -> Option<Result<(Kind, usize, usize), LexFault>> {
+    if at > text.len() {
+        return None;
+    }
+    match next_token(text, at) {
+        Ok(token) => Some(Ok((token.kind, token.span.start, token.span.end))),
+        Err(fault) => Some(Err(fault)),
+    }
+}
+
+#[test]
+fn layout_and_comments_are_passed_over(rt: HostRuntime) -> Result<(), Fail> {
+    let rows: [Row; 34] = [
+        (b"", 0, Ok((Kind::Eof, 0, 0))),
+        (b" ", 0, Ok((Kind::Eof, 1, 1))),
+        (b"\t\n\r\x0b\x0c a", 0, Ok((Kind::Name, 6, 7))),
+        (b"% c\na", 0, Ok((Kind::Name, 4, 5))),
+        (b"% c", 0, Ok((Kind::Eof, 3, 3))),
+        (b"%", 0, Ok((Kind::Eof, 1, 1))),
+        (b"/* c */a", 0, Ok((Kind::Name, 7, 8))),
+        (b"/**/a", 0, Ok((Kind::Name, 4, 5))),
+        (b"/***/a", 0, Ok((Kind::Name, 5, 6))),
+        (b"/*/ a */b", 0, Ok((Kind::Name, 8, 9))),
+        (b"/* a", 0, Err(LexFault::OpenComment(4))),
+        (b"/*", 0, Err(LexFault::OpenComment(2))),
+        (b"/*/", 0, Err(LexFault::OpenComment(3))),
+        (b"/* * /", 0, Err(LexFault::OpenComment(6))),
+        (b"a/*b*/", 0, Ok((Kind::Name, 0, 1))),
+        (b"a/*b*/", 1, Ok((Kind::Eof, 6, 6))),
+        (b"=/*c*/", 0, Ok((Kind::Name, 0, 3))),
+        (b"./*c*/", 0, Ok((Kind::Name, 0, 3))),
+        (b"1./*c*/", 1, Ok((Kind::Name, 1, 4))),
+        (b"/* \xff */a", 0, Ok((Kind::Name, 7, 8))),
+        (b"% \xff\na", 0, Ok((Kind::Name, 4, 5))),
+        (b"\xa0", 0, Err(LexFault::BadByte(0))),
+        (b"\xc2\xa0", 0, Err(LexFault::BadByte(0))),
+        (b"\xef\xbb\xbfa", 0, Err(LexFault::BadByte(0))),
+        (b"`", 0, Err(LexFault::BadByte(0))),
+        (b"\x00", 0, Err(LexFault::BadByte(0))),
+        (b"\x80", 0, Err(LexFault::BadByte(0))),
+        (b"\xc0\x80", 0, Err(LexFault::BadByte(0))),
+        (b"\xed\xa0\x80", 0, Err(LexFault::BadByte(0))),
+        (b"\xe2\x82", 0, Err(LexFault::BadByte(0))),
+        (b"\x7f", 0, Err(LexFault::BadByte(0))),
+        (b"/ *a*/", 0, Ok((Kind::Name, 0, 1))),
+        (b" % a\n /* b */ \n c", 0, Ok((Kind::Name, 16, 17))),
+        (b"f (a)", 1, Ok((Kind::Punctuation, 2, 3))),
+    ];
+    for (text, at, want) in rows {
+        assert_eq!(rt; read(text, at), Some(want), "at {text:?}");
+    }
+    Ok(())
+}
+
+#[test]
+fn names_are_as_long_as_they_can_be(rt: HostRuntime) -> Result<(), Fail> {
+    let rows: [Row; 49] = [
+        (b"foo", 0, Ok((Kind::Name, 0, 3))),
+        (b"fooBar_1 x", 0, Ok((Kind::Name, 0, 8))),
+        (b"a(", 0, Ok((Kind::Name, 0, 1))),
+        (b"\xc3\xa9", 0, Ok((Kind::Name, 0, 2))),
+        (b"\xc3\xa9a1_", 0, Ok((Kind::Name, 0, 5))),
+        (b"\xc3\x89", 0, Ok((Kind::Name, 0, 2))),
+        (b"a\xc3\xa9(", 0, Ok((Kind::Name, 0, 3))),
+        (b"\xe6\x97\xa5\xe6\x9c\xac", 0, Ok((Kind::Name, 0, 6))),
+        (b"a\xcc\x81", 0, Ok((Kind::Name, 0, 3))),
+        (b"a\xc2\xb7b", 0, Ok((Kind::Name, 0, 4))),
+        (b"a\xff", 0, Ok((Kind::Name, 0, 1))),
+        (b"a\xc3", 0, Ok((Kind::Name, 0, 1))),
+        (b"_", 0, Ok((Kind::Variable, 0, 1))),
+        (b"_a", 0, Ok((Kind::Variable, 0, 2))),
+        (b"X", 0, Ok((Kind::Variable, 0, 1))),
+        (b"X\xc3\xa9", 0, Ok((Kind::Variable, 0, 3))),
+        (b"_1 ", 0, Ok((Kind::Variable, 0, 2))),
+        (b"ABC.d", 0, Ok((Kind::Variable, 0, 3))),
+        (b"!", 0, Ok((Kind::Name, 0, 1))),
+        (b"!!", 0, Ok((Kind::Name, 0, 1))),
+        (b";", 0, Ok((Kind::Name, 0, 1))),
+        (b";;", 0, Ok((Kind::Name, 0, 1))),
+        (b"a1", 0, Ok((Kind::Name, 0, 2))),
+        (b"\xd9\xa3", 0, Err(LexFault::BadByte(0))),
+        (b"a\xd9\xa3", 0, Ok((Kind::Name, 0, 3))),
+        (b"=<", 0, Ok((Kind::Name, 0, 2))),
+        (b"=:=", 0, Ok((Kind::Name, 0, 3))),
+        (b"=-1", 0, Ok((Kind::Name, 0, 2))),
+        (b"{X=-1}", 2, Ok((Kind::Name, 2, 4))),
+        (b":-", 0, Ok((Kind::Name, 0, 2))),
+        (b"-->", 0, Ok((Kind::Name, 0, 3))),
+        (b"=..", 0, Ok((Kind::Name, 0, 3))),
+        (b"=..\n", 0, Ok((Kind::Name, 0, 3))),
+        (b"@=<a", 0, Ok((Kind::Name, 0, 3))),
+        (b"\\+", 0, Ok((Kind::Name, 0, 2))),
+        (b"/\\", 0, Ok((Kind::Name, 0, 2))),
+        (b"#&$", 0, Ok((Kind::Name, 0, 3))),
+        (b"~^?", 0, Ok((Kind::Name, 0, 3))),
+        (b"-", 0, Ok((Kind::Name, 0, 1))),
+        (b"--1", 0, Ok((Kind::Name, 0, 2))),
+        (b"-1", 0, Ok((Kind::Name, 0, 1))),
+        (b"X*-2", 1, Ok((Kind::Name, 1, 3))),
+        (b"}.?-", 1, Ok((Kind::Name, 1, 4))),
+        (b"+(", 0, Ok((Kind::Name, 0, 1))),
+        (b"=!", 0, Ok((Kind::Name, 0, 1))),
+        (b"=;", 0, Ok((Kind::Name, 0, 1))),
+        (b"=,", 0, Ok((Kind::Name, 0, 1))),
+        (b"**", 0, Ok((Kind::Name, 0, 2))),
+        (b">=", 0, Ok((Kind::Name, 0, 2))),
+    ];
+    for (text, at, want) in rows {
+        assert_eq!(rt; read(text, at), Some(want), "at {text:?}");
+    }
+    Ok(())
+}
+
+#[test]
+fn full_stops_end_clauses_and_punctuation_stands_alone(rt: HostRuntime) -> Result<(), Fail> {
+    let rows: [Row; 27] = [
+        (b".", 0, Ok((Kind::End, 0, 1))),
+        (b". ", 0, Ok((Kind::End, 0, 1))),
+        (b".\n", 0, Ok((Kind::End, 0, 1))),
+        (b".%c", 0, Ok((Kind::End, 0, 1))),
+        (b".\t", 0, Ok((Kind::End, 0, 1))),
+        (b".\x0c", 0, Ok((Kind::End, 0, 1))),
+        (b".a", 0, Ok((Kind::Name, 0, 1))),
+        (b"..", 0, Ok((Kind::Name, 0, 2))),
+        (b".5", 0, Ok((Kind::Name, 0, 1))),
+        (b".(", 0, Ok((Kind::Name, 0, 1))),
+        (b"x.", 1, Ok((Kind::End, 1, 2))),
+        (b"x.%c", 1, Ok((Kind::End, 1, 2))),
+        (b"x./*c*/", 1, Ok((Kind::Name, 1, 4))),
+        (b".\xc2\xa0", 0, Ok((Kind::Name, 0, 1))),
+        (b"'.'", 0, Ok((Kind::Quoted, 0, 3))),
+        (b".\"a\"", 0, Ok((Kind::Name, 0, 1))),
+        (b"(", 0, Ok((Kind::Punctuation, 0, 1))),
+        (b")", 0, Ok((Kind::Punctuation, 0, 1))),
+        (b"[", 0, Ok((Kind::Punctuation, 0, 1))),
+        (b"]", 0, Ok((Kind::Punctuation, 0, 1))),
+        (b"{", 0, Ok((Kind::Punctuation, 0, 1))),
+        (b"}", 0, Ok((Kind::Punctuation, 0, 1))),
+        (b",", 0, Ok((Kind::Punctuation, 0, 1))),
+        (b"|", 0, Ok((Kind::Punctuation, 0, 1))),
+        (b"[]", 0, Ok((Kind::Punctuation, 0, 1))),
+        (b"||", 0, Ok((Kind::Punctuation, 0, 1))),
+        (b"( ", 1, Ok((Kind::Eof, 2, 2))),
+    ];
+    for (text, at, want) in rows {
+        assert_eq!(rt; read(text, at), Some(want), "at {text:?}");
+    }
+    Ok(())
+}
+
+#[test]
+fn numerals_end_where_the_rest_does_not_fit(rt: HostRuntime) -> Result<(), Fail> {
+    let rows: [Row; 46] = [
+        (b"0", 0, Ok((Kind::Numeral, 0, 1))),
+        (b"007", 0, Ok((Kind::Numeral, 0, 3))),
+        (b"123abc", 0, Ok((Kind::Numeral, 0, 3))),
+        (b"1r2", 0, Ok((Kind::Numeral, 0, 3))),
+        (b"2r4", 0, Ok((Kind::Numeral, 0, 3))),
+        (b"1r", 0, Ok((Kind::Numeral, 0, 1))),
+        (b"1rx", 0, Ok((Kind::Numeral, 0, 1))),
+        (b"1r 2", 0, Ok((Kind::Numeral, 0, 1))),
+        (b"1 r2", 0, Ok((Kind::Numeral, 0, 1))),
+        (b"0r5", 0, Ok((Kind::Numeral, 0, 3))),
+        (b"1r0", 0, Err(LexFault::WideNumber(0))),
+        (b"1r00", 0, Err(LexFault::WideNumber(0))),
+        (b"0r0", 0, Err(LexFault::WideNumber(0))),
+        (
+            b"170141183460469231731687303715884105727",
+            0,
+            Ok((Kind::Numeral, 0, 39)),
+        ),
+        (
+            b"170141183460469231731687303715884105728",
+            0,
+            Err(LexFault::WideNumber(0)),
+        ),
+        (
+            b"1r170141183460469231731687303715884105727",
+            0,
+            Ok((Kind::Numeral, 0, 41)),
+        ),
+        (
+            b"1r170141183460469231731687303715884105728",
+            0,
+            Err(LexFault::WideNumber(0)),
+        ),
+        (
+            b"000170141183460469231731687303715884105727",
+            0,
+            Ok((Kind::Numeral, 0, 42)),
+        ),
+        (
+            b"170141183460469231731687303715884105728r2",
+            0,
+            Err(LexFault::WideNumber(0)),
+        ),
+        (
+            b"170141183460469231731687303715884105728.5",
+            0,
+            Err(LexFault::WideNumber(0)),
+        ),
+        (b"1r0.5", 0, Err(LexFault::WideNumber(0))),
+        (b"1.5", 0, Err(LexFault::BadByte(1))),
+        (b"a 1.5", 1, Err(LexFault::BadByte(3))),
+        (b"?- X = 1.5.", 6, Err(LexFault::BadByte(8))),
+        (b"1r2.5", 0, Err(LexFault::BadByte(3))),
+        (b"0x1.5", 0, Err(LexFault::BadByte(3))),
+        (b"0'a.5", 0, Err(LexFault::BadByte(3))),
+        (b"1.", 0, Ok((Kind::Numeral, 0, 1))),
+        (b"1.e", 0, Ok((Kind::Numeral, 0, 1))),
+        (b"1..2", 0, Ok((Kind::Numeral, 0, 1))),
+        (b"1.\n", 0, Ok((Kind::Numeral, 0, 1))),
+        (b"0x1F", 0, Ok((Kind::Numeral, 0, 4))),
+        (b"0xfFg", 0, Ok((Kind::Numeral, 0, 4))),
+        (b"0x", 0, Ok((Kind::Numeral, 0, 1))),
+        (b"0xg", 0, Ok((Kind::Numeral, 0, 1))),
+        (b"0o17", 0, Ok((Kind::Numeral, 0, 4))),
+        (b"0o18", 0, Ok((Kind::Numeral, 0, 3))),
+        (b"0o8", 0, Ok((Kind::Numeral, 0, 1))),
+        (b"0b101", 0, Ok((Kind::Numeral, 0, 5))),
+        (b"0b2", 0, Ok((Kind::Numeral, 0, 1))),
+        (b"0b12", 0, Ok((Kind::Numeral, 0, 3))),
+        (
+            b"0x80000000000000000000000000000000",
+            0,
+            Err(LexFault::WideNumber(0)),
+        ),
+        (
+            b"0x7fffffffffffffffffffffffffffffff",
+            0,
+            Ok((Kind::Numeral, 0, 34)),
+        ),
+        (b"00x1", 0, Ok((Kind::Numeral, 0, 2))),
+        (b"1x2", 0, Ok((Kind::Numeral, 0, 1))),
+        (b"0X1", 0, Ok((Kind::Numeral, 0, 1))),
+    ];
+    for (text, at, want) in rows {
+        assert_eq!(rt; read(text, at), Some(want), "at {text:?}");
+    }
+    Ok(())
+}
+
+#[test]
+fn characters_are_numerals_behind_their_marks(rt: HostRuntime) -> Result<(), Fail> {
+    let rows: [Row; 24] = [
+        (b"0'a", 0, Ok((Kind::Numeral, 0, 3))),
+        (b"0' ", 0, Ok((Kind::Numeral, 0, 3))),
+        (b"0'''", 0, Ok((Kind::Numeral, 0, 4))),
+        (b"0''", 0, Ok((Kind::Numeral, 0, 1))),
+        (b"0''x", 0, Ok((Kind::Numeral, 0, 1))),
+        (b"0'\n", 0, Ok((Kind::Numeral, 0, 1))),
+        (b"0'", 0, Ok((Kind::Numeral, 0, 1))),
+        (b"0'\\n", 0, Ok((Kind::Numeral, 0, 4))),
+        (b"0'\\x41\\", 0, Ok((Kind::Numeral, 0, 7))),
+        (b"0'\\q", 0, Ok((Kind::Numeral, 0, 1))),
+        (b"0'\\\n", 0, Ok((Kind::Numeral, 0, 1))),
+        (b"0'\xc3\xa9", 0, Ok((Kind::Numeral, 0, 4))),
+        (b"0'\xff", 0, Ok((Kind::Numeral, 0, 1))),
+        (b"0'A1", 0, Ok((Kind::Numeral, 0, 3))),
+        (b"0'\t", 0, Ok((Kind::Numeral, 0, 3))),
+        (b"0'\"", 0, Ok((Kind::Numeral, 0, 3))),
+        (b"0'\\'", 0, Ok((Kind::Numeral, 0, 4))),
+        (b"00'a", 0, Ok((Kind::Numeral, 0, 2))),
+        (b"0'\\x110000\\", 0, Ok((Kind::Numeral, 0, 1))),
+        (b"0'\\101\\", 0, Ok((Kind::Numeral, 0, 7))),
+        (b"0'\xf0\x9f\x98\x80", 0, Ok((Kind::Numeral, 0, 6))),
+        (b"1'a", 0, Ok((Kind::Numeral, 0, 1))),
+        (b"0'\n", 1, Err(LexFault::OpenQuote(2))),
+        (b"0'\\q", 1, Err(LexFault::BadByte(3))),
+    ];
+    for (text, at, want) in rows {
+        assert_eq!(rt; read(text, at), Some(want), "at {text:?}");
+    }
+    Ok(())
+}
+
+#[test]
+fn quotes_close_or_fault_where_they_stand_open(rt: HostRuntime) -> Result<(), Fail> {
+    let rows: [Row; 20] = [
+        (b"''", 0, Ok((Kind::Quoted, 0, 2))),
+        (b"'a'", 0, Ok((Kind::Quoted, 0, 3))),
+        (b"'a''b'", 0, Ok((Kind::Quoted, 0, 6))),
+        (b"''''", 0, Ok((Kind::Quoted, 0, 4))),
+        (b"'''", 0, Err(LexFault::OpenQuote(3))),
+        (b"'a\"b'", 0, Ok((Kind::Quoted, 0, 5))),
+        (b"\"a\"\"b\"", 0, Ok((Kind::Codes, 0, 6))),
+        (b"\"\"", 0, Ok((Kind::Codes, 0, 2))),
+        (b"\"a'b\"", 0, Ok((Kind::Codes, 0, 5))),
+        (b"'a' 'b'", 0, Ok((Kind::Quoted, 0, 3))),
+        (b"'a", 0, Err(LexFault::OpenQuote(2))),
+        (b"'a\nb'", 0, Err(LexFault::OpenQuote(2))),
+        (b"'", 0, Err(LexFault::OpenQuote(1))),
+        (b"\"abc", 0, Err(LexFault::OpenQuote(4))),
+        (b"'don''t'", 0, Ok((Kind::Quoted, 0, 8))),
+        (b"'a\tb'", 0, Ok((Kind::Quoted, 0, 5))),
+        (b"'a\x00b'", 0, Ok((Kind::Quoted, 0, 5))),
+        (b"'\xc3\xa9'", 0, Ok((Kind::Quoted, 0, 4))),
+        (b"'\xff'", 0, Err(LexFault::BadByte(1))),
+        (b"'a\xc3", 0, Err(LexFault::BadByte(2))),
+    ];
+    for (text, at, want) in rows {
+        assert_eq!(rt; read(text, at), Some(want), "at {text:?}");
+    }
+    Ok(())
+}
+
+#[test]
+fn escapes_are_those_listed(rt: HostRuntime) -> Result<(), Fail> {
+    let rows: [Row; 32] = [
+        (b"'\\n\\t\\\\'", 0, Ok((Kind::Quoted, 0, 8))),
+        (b"'\\a\\b\\f\\r\\v'", 0, Ok((Kind::Quoted, 0, 12))),
+        (b"'\\'\\\"\\`'", 0, Ok((Kind::Quoted, 0, 8))),
+        (b"'\\q'", 0, Err(LexFault::BadByte(2))),
+        (b"'\\e'", 0, Err(LexFault::BadByte(2))),
+        (b"'\\z", 0, Err(LexFault::BadByte(2))),
+        (b"\"\\q\"", 0, Err(LexFault::BadByte(2))),
+        (b"'\\", 0, Err(LexFault::OpenQuote(2))),
+        (b"'\\x41\\'", 0, Ok((Kind::Quoted, 0, 7))),
+        (b"'\\x41'", 0, Err(LexFault::BadByte(2))),
+        (b"'\\x41", 0, Err(LexFault::OpenQuote(5))),
+        (b"'\\x", 0, Err(LexFault::OpenQuote(3))),
+        (b"'\\x\\'", 0, Err(LexFault::BadByte(2))),
+        (b"'\\xg\\'", 0, Err(LexFault::BadByte(2))),
+        (b"'\\x110000\\'", 0, Err(LexFault::BadByte(1))),
+        (b"'\\x10FFFF\\'", 0, Ok((Kind::Quoted, 0, 11))),
+        (b"'\\xD800\\'", 0, Err(LexFault::BadByte(1))),
+        (b"'\\xDFFF\\'", 0, Err(LexFault::BadByte(1))),
+        (b"'\\xE000\\'", 0, Ok((Kind::Quoted, 0, 9))),
+        (b"'\\101\\'", 0, Ok((Kind::Quoted, 0, 7))),
+        (b"'\\0\\'", 0, Ok((Kind::Quoted, 0, 5))),
+        (b"'\\12'", 0, Err(LexFault::BadByte(2))),
+        (b"'\\9\\'", 0, Err(LexFault::BadByte(2))),
+        (b"'\\18\\'", 0, Err(LexFault::BadByte(2))),
+        (b"'\\12", 0, Err(LexFault::OpenQuote(4))),
+        (b"'a\\\nb'", 0, Ok((Kind::Quoted, 0, 6))),
+        (b"'\\\r\n'", 0, Err(LexFault::BadByte(2))),
+        (b"'\\x41\n", 0, Err(LexFault::BadByte(2))),
+        (
+            b"'\\xfffffffffffffffffffffffffffffffffffffff\\'",
+            0,
+            Err(LexFault::BadByte(1)),
+        ),
+        (b"'\\4177777\\'", 0, Ok((Kind::Quoted, 0, 11))),
+        (b"'\\4200000\\'", 0, Err(LexFault::BadByte(1))),
+        (b"'\\x41\\", 0, Err(LexFault::OpenQuote(6))),
+    ];
+    for (text, at, want) in rows {
+        assert_eq!(rt; read(text, at), Some(want), "at {text:?}");
+    }
+    Ok(())
+}
+
+/// The number of a numeral, by its parts.
+fn number(text: &[u8]) -> Option<(i128, i128)> {
+    match next_token(text, 0) {
+        Ok(token) => match token.number {
+            Some(number) => Some(number.parts()),
+            None => None,
+        },
+        Err(_) => None,
+    }
+}
+
+#[test]
+fn numerals_have_their_values(rt: HostRuntime) -> Result<(), Fail> {
+    let rows: [(&'static [u8], Option<(i128, i128)>); 18] = [
+        (b"0", Some((0, 1))),
+        (b"007", Some((7, 1))),
+        (b"2r4", Some((1, 2))),
+        (b"0r5", Some((0, 1))),
+        (
+            b"1r170141183460469231731687303715884105727",
+            Some((1, 170141183460469231731687303715884105727)),
+        ),
+        (
+            b"170141183460469231731687303715884105727",
+            Some((170141183460469231731687303715884105727, 1)),
+        ),
+        (b"0x1F", Some((31, 1))),
+        (b"0xfFg", Some((255, 1))),
+        (b"0o17", Some((15, 1))),
+        (b"0b101", Some((5, 1))),
+        (b"0'a", Some((97, 1))),
+        (b"0' ", Some((32, 1))),
+        (b"0'''", Some((39, 1))),
+        (b"0'\\n", Some((10, 1))),
+        (b"0'\\x41\\", Some((65, 1))),
+        (b"0'\xf0\x9f\x98\x80", Some((128512, 1))),
+        (b"a", None),
+        (b"1r0", None),
+    ];
+    for (text, want) in rows {
+        assert_eq!(rt; number(text), want, "at {text:?}");
+    }
+    Ok(())
+}

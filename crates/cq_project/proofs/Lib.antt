@@ -1,0 +1,4 @@
+pub mod Known
+pub mod Turned
+pub mod Listed
+pub mod Fault

@@ -1,0 +1,4 @@
+pub mod Whole
+pub mod DistinctNames
+pub mod Steps
+pub mod Endings

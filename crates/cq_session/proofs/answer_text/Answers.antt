@@ -1,0 +1,19 @@
+use Rattle.std.proofs.Common.{Some, sym, subst}
+use Rattle.cq_session.specs.Words.{transcript}
+use Rattle.cq_session.specs.declared.Status.TheVariants.{WriteFault, NoMemory}
+use Rattle.cq_session.specs.Outcome.{Ended, write_fault, no_memory}
+use Rattle.cq_session.proofs.Endings.{whole_ended, broken_ended}
+use Rattle.cq_session.proofs.answer_text.Goals as goal
+
+pub returns-in-Ok-clause-text : goal.returns-in-Ok-clause-text
+returns-in-Ok-clause-text g c =
+    subst (λ s. Ended c.args.text.now (Some transcript) s (g.O.Sink.held c.args.out.now) (g.O.Sink.held c.write_transcript.new.out)) (sym c.status.ensures)
+    (whole_ended c.args.text.now c.in-Ok.lines.faulty c.in-Ok.lines.stopped (g.O.Sink.held c.args.out.now) (g.O.Sink.held c.write_transcript.new.out) c.requires.within c.in-Ok.ensures.whole)
+
+pub returns-in-Err-Write-clause-text : goal.returns-in-Err-Write-clause-text
+returns-in-Err-Write-clause-text g c =
+    broken_ended c.args.text.now WriteFault (g.O.Sink.held c.args.out.now) (g.O.Sink.held c.write_transcript.new.out) (λ t w. write_fault w) c.in-Err-Write.ensures.part
+
+pub returns-in-Err-Memory-clause-text : goal.returns-in-Err-Memory-clause-text
+returns-in-Err-Memory-clause-text g c =
+    broken_ended c.args.text.now NoMemory (g.O.Sink.held c.args.out.now) (g.O.Sink.held c.write_transcript.new.out) (λ t w. no_memory w) c.in-Err-Memory.ensures.part

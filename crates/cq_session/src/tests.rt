@@ -1,0 +1,168 @@
+// What runs write and how they end, over objects in memory.
+use crate::{Status, run};
+use cq_outside::{MemSink, MemSource, SteadyShelf};
+use std::test::Fail;
+
+/// The words behind the program's name, the input, the numbers of the reads and of the writes that fail; the
+/// status, and what `out` and `err` hold.
+type Row = (
+    &'static [&'static str],
+    &'static str,
+    &'static [u64],
+    &'static [u64],
+    Status,
+    &'static str,
+    &'static str,
+);
+
+static RUNS: [Row; 16] = [
+    (&["run"], "", &[], &[], Status::Done, "", ""),
+    (&["run"], " \n\t", &[], &[], Status::Done, "", ""),
+    (
+        &["run"],
+        "?- {2*X+3=7}.",
+        &[],
+        &[],
+        Status::Done,
+        "X = 2\n;\nno\n",
+        "",
+    ),
+    (
+        &["run"],
+        "?- {X+Y=3, X-Y=1}.",
+        &[],
+        &[],
+        Status::Done,
+        "X = 2\nY = 1\n;\nno\n",
+        "",
+    ),
+    (
+        &["run"],
+        "?- {X+Y=3}.",
+        &[],
+        &[],
+        Status::Done,
+        "{X= -Y+3}\n;\nno\n",
+        "",
+    ),
+    (
+        &["run"],
+        "?- {X=_A+1, Y=_A+2}.",
+        &[],
+        &[],
+        Status::Done,
+        "{X=Y-1}\n;\nno\n",
+        "",
+    ),
+    (
+        &["run"],
+        "{X=1, X=2}. {3*X=1}.",
+        &[],
+        &[],
+        Status::Done,
+        "no\nX = 1r3\n;\nno\n",
+        "",
+    ),
+    (
+        &["run"],
+        "?- {X=170141183460469231731687303715884105727+1}.",
+        &[],
+        &[],
+        Status::Stopped,
+        "stop: overflow\n",
+        "",
+    ),
+    (
+        &["run"],
+        "{X=1}.",
+        &[],
+        &[2],
+        Status::WriteFault,
+        "X = 1\n;\n",
+        "clpq: write failed\n",
+    ),
+    (
+        &["run"],
+        "{X>1}.",
+        &[],
+        &[],
+        Status::Faulty,
+        "error: syntax 0\n",
+        "",
+    ),
+    (
+        &["run"],
+        "{X=1}. {X=",
+        &[],
+        &[],
+        Status::Faulty,
+        "error: syntax 0\n",
+        "",
+    ),
+    (
+        &["run"],
+        "{X>1}.",
+        &[2],
+        &[],
+        Status::ReadFault,
+        "",
+        "clpq: read failed\n",
+    ),
+    (
+        &["run"],
+        "{X>1}.",
+        &[],
+        &[2],
+        Status::WriteFault,
+        "error: s",
+        "clpq: write failed\n",
+    ),
+    (
+        &[],
+        "",
+        &[],
+        &[],
+        Status::BadWords,
+        "",
+        "clpq: bad command line\n",
+    ),
+    (
+        &["walk"],
+        "",
+        &[],
+        &[],
+        Status::BadWords,
+        "",
+        "clpq: bad command line\n",
+    ),
+    (
+        &["run", "now"],
+        "",
+        &[],
+        &[],
+        Status::BadWords,
+        "",
+        "clpq: bad command line\n",
+    ),
+];
+
+#[test]
+fn runs_write_their_lines_and_end_with_their_status(rt: HostRuntime) -> Result<(), Fail> {
+    let alloc = rt.alloc();
+    for (behind, text, read_fails, write_fails, status, held, line) in &RUNS {
+        let mut words = Vec::new(alloc);
+        words.push(String::from_str(alloc, "clpq")?)?;
+        for word in *behind {
+            words.push(String::from_str(alloc, word)?)?;
+        }
+        let mut shelf = SteadyShelf::new(alloc);
+        let mut input = MemSource::new(alloc, text.as_bytes(), read_fails, 4)?;
+        let mut out = MemSink::new(alloc, write_fails, 8)?;
+        let mut err = MemSink::new(alloc, &[], 8)?;
+        let got = run(alloc, &words, &mut shelf, &mut input, &mut out, &mut err);
+        assert_eq!(rt; got, *status, "of {text}");
+        assert_eq!(rt; out.bytes(), held.as_bytes(), "of {text}");
+        assert_eq!(rt; err.bytes(), line.as_bytes(), "of {text}");
+    }
+    Ok(())
+}

@@ -1,0 +1,149 @@
+-- The columns of a table are free, so the numbers of a row are its value's alone.
+use Rattle.std.proofs.Common.{◌≡◌, ℕ, zero, suc, ◌+◌, ◌<◌, List, [], ◌∷◌, Bool, true, false, arith, refl, ap, ap₂, sym, subst, ◌∙◌, pos, ◌⊎◌, inl, inr}
+use Rattle.spec_rational.specs.Rational.{ℚ, 0ℚ, neg_ℚ, ◌+ℚ◌, ◌*ℚ◌}
+use Rattle.spec_rational.proofs.Ring.{var, int, ◌⊕◌, ◌⊗◌, minus}
+use Rattle.spec_rational.proofs.Rational.{ring}
+use Rattle.cq_row.specs.declared.Entry.{Entry}
+use Rattle.cq_row.specs.Row.{Row}
+use Rattle.cq_row.specs.Rows.{sum_at, IsRowFrom, Has, unit}
+use Rattle.cq_row.specs.Numbers.{right_side, IsOver}
+use Rattle.cq_row.proofs.Units.{at_unit, unit_above, no_entry}
+use Rattle.cq_dict.specs.declared.table.Slot.{Slot}
+use Rattle.cq_dict.specs.declared.table.Slot.TheVariants.{Live, Dropped, Basic}
+use Rattle.cq_dict.specs.Table.{IsAt, is_live, is_dropped, IsTable, Expresses, AreFree, SameNumbers}
+use Rattle.cq_store.proofs.Slots.{at_live, at_dropped, dropped_at}
+
+-- the value of a quantity, where the columns have those of y
+abbrev value_in : Slot → ℚ → (ℕ → ℚ) → ℚ
+value_in Live d y = d
+value_in Dropped d y = d
+value_in (Basic r) d y = right_side y r
+
+abbrev looked_up : List Slot → ℕ → ℚ → (ℕ → ℚ) → ℚ
+looked_up [] i d y = d
+looked_up (s ∷ ss) zero d y = value_in s d y
+looked_up (s ∷ ss) (suc i) d y = looked_up ss i d y
+
+filled : List Slot → (ℕ → ℚ) → ℕ → ℚ
+filled slots y i = looked_up slots i (y i) y
+
+looked_up_at : (slots : List Slot) (i : ℕ) (s : Slot) (d : ℚ) (y : ℕ → ℚ) → IsAt slots i s → looked_up slots i d y ≡ value_in s d y
+looked_up_at [] i s d y h = absurd h
+looked_up_at (t ∷ ts) zero s d y h = ap (λ (z : Slot). value_in z d y) (sym h)
+looked_up_at (t ∷ ts) (suc i) s d y h = looked_up_at ts i s d y h
+
+pub sum_agrees : (p : ℕ → Bool) (lo : ℕ) (x y : ℕ → ℚ) (s : List Entry) → IsRowFrom p lo s → ((c : ℕ) → p c ≡ true → x c ≡ y c) → sum_at x s ≡ sum_at y s
+sum_agrees p lo x y [] r h = refl
+sum_agrees p lo x y (m ∷ s) r h = ap₂ (λ a b. m.factor *ℚ a +ℚ b) (h m.quantity r.1) (sum_agrees p (m.quantity + 1) x y s r.3 h)
+
+filled_live : (slots : List Slot) (y : ℕ → ℚ) (c : ℕ) → is_live slots c ≡ true → filled slots y c ≡ y c
+unfolding filled
+filled_live slots y c h = looked_up_at slots c Live (y c) y (at_live slots c h)
+
+filled_dropped : (slots : List Slot) (y : ℕ → ℚ) (c : ℕ) → is_dropped slots c ≡ true → filled slots y c ≡ y c
+unfolding filled
+filled_dropped slots y c h = looked_up_at slots c Dropped (y c) y (at_dropped slots c h)
+
+filled_row : (slots : List Slot) (y : ℕ → ℚ) (i : ℕ) (r : Row) → IsAt slots i (Basic r) → filled slots y i ≡ right_side y r
+unfolding filled
+filled_row slots y i r h = looked_up_at slots i (Basic r) (y i) y h
+
+pub free : (slots : List Slot) → IsTable slots → AreFree slots
+free slots t y = (
+  filled slots y,
+  record {
+    rows = λ i r h.
+        let o = t.rows i r h in
+        filled_row slots y i r h
+        ∙ sym (ap₂ (λ a b. r.constant +ℚ (a +ℚ b)) (sum_agrees (is_live slots) 0 (filled slots y) y r.live o.live_row (filled_live slots y)) (sum_agrees (is_dropped slots) 0 (filled slots y) y r.dropped o.dropped_row (filled_dropped slots y)));
+  },
+  filled_live slots y,
+  filled_dropped slots y,
+)
+
+-- ---- the numbers of a row are its value's variable_form
+tri : (a b : ℕ) → (a < b) ⊎ ((a ≡ b) ⊎ (b < a))
+tri zero zero = inr (inl refl)
+tri zero (suc b) = inl (omega arith)
+tri (suc a) zero = inr (inr (omega arith))
+tri (suc a) (suc b) = elim (tri a b) [ inl h ↦ inl (omega (arith, h)) | inr k ↦ elim k [ inl e ↦ inr (inl (ap suc e)) | inr h ↦ inr (inr (omega (arith, h))) ] ]
+
+entry_same : (m n : Entry) → m.quantity ≡ n.quantity → m.factor ≡ n.factor → m ≡ n
+entry_same m n e f = ap₂ (λ c q. record { quantity = c; factor = q }) e f
+
+cancel_first : (a b c : ℚ) → a +ℚ b ≡ a +ℚ c → b ≡ c
+cancel_first a b c e = ring (a ∷ b ∷ []) (var 1) (minus (var 0) ⊕ (var 0 ⊕ var 1)) refl ∙ ap (λ w. neg_ℚ a +ℚ w) e ∙ ring (a ∷ c ∷ []) (minus (var 0) ⊕ (var 0 ⊕ var 1)) (var 1) refl
+
+same_list : (p : ℕ → Bool) (lo : ℕ) (s t : List Entry) → IsRowFrom p lo s → IsRowFrom p lo t → ((c : ℕ) → sum_at (unit c) s ≡ sum_at (unit c) t) → s ≡ t
+same_list p lo [] [] r q h = refl
+same_list p lo [] (n ∷ t) r q h = absurd (q.2 (sym (at_unit p lo (n ∷ t) n q (inl refl)) ∙ sym (h n.quantity)))
+same_list p lo (m ∷ s) [] r q h = absurd (r.2 (sym (at_unit p lo (m ∷ s) m r (inl refl)) ∙ h m.quantity))
+same_list p lo (m ∷ s) (n ∷ t) r q h =
+    elim (tri m.quantity n.quantity) [
+      | inl l ↦ absurd (r.2 (sym (at_unit p lo (m ∷ s) m r (inl refl)) ∙ h m.quantity ∙ unit_above p n.quantity m.quantity (n ∷ t) (omega arith, q.1, q.2, q.3) l))
+      | inr k ↦ elim k [
+        | inl e ↦
+            let f : m.factor ≡ n.factor = sym (at_unit p lo (m ∷ s) m r (inl refl)) ∙ h m.quantity ∙ ap (λ c. sum_at (unit c) (n ∷ t)) e ∙ at_unit p lo (n ∷ t) n q (inl refl) in
+            let g : m ≡ n = entry_same m n e f in
+            ap₂ (λ a b. a ∷ b) g
+            (same_list p (m.quantity + 1) s t r.3 (subst (λ c. IsRowFrom p (c + 1) t) (sym e) q.3)
+            (λ c. cancel_first (m.factor *ℚ unit c m.quantity) (sum_at (unit c) s) (sum_at (unit c) t) (h c ∙ ap (λ (z : Entry). z.factor *ℚ unit c z.quantity +ℚ sum_at (unit c) t) (sym g))))
+        | inr l ↦ absurd (q.2 (sym (at_unit p lo (n ∷ t) n q (inl refl)) ∙ sym (h n.quantity) ∙ unit_above p m.quantity n.quantity (m ∷ s) (omega arith, r.1, r.2, r.3) l))
+      ]
+    ]
+
+nothing_at : (s : List Entry) → sum_at (λ c. 0ℚ) s ≡ 0ℚ
+nothing_at [] = refl
+nothing_at (m ∷ s) = ap (λ w. m.factor *ℚ 0ℚ +ℚ w) (nothing_at s) ∙ ring (m.factor ∷ []) (var 0 ⊗ int (pos 0) ⊕ int (pos 0)) (int (pos 0)) refl
+
+passes : (t : ℕ → Bool) (lo : ℕ) (s : List Entry) (m : Entry) → IsRowFrom t lo s → Has m s → t m.quantity ≡ true
+passes t lo [] m r h = absurd h
+passes t lo (x ∷ s) m r (inl e) = subst (λ (z : Entry). t z.quantity ≡ true) (sym e) r.1
+passes t lo (x ∷ s) m r (inr h) = passes t (x.quantity + 1) s m r.3 h
+
+absent : (p : ℕ → Bool) (c : ℕ) (s : List Entry) → IsRowFrom p 0 s → p c ≡ false → sum_at (unit c) s ≡ 0ℚ
+absent p c s r f = no_entry c s (λ m h e. let t : p c ≡ true = subst (λ k. p k ≡ true) e (passes p 0 s m r h) in cc)
+
+module _ (slots : List Slot) (table : IsTable slots) (value : (ℕ → ℚ) → ℚ) (r s : Row) (er : Expresses slots value r) (es : Expresses slots value s) where
+  moved : (y x : ℕ → ℚ) (z : Row) → IsOver (is_live slots) (is_dropped slots) z → ((c : ℕ) → is_live slots c ≡ true → x c ≡ y c) → ((c : ℕ) → is_dropped slots c ≡ true → x c ≡ y c) → right_side x z ≡ right_side y z
+  moved y x z o h k = ap₂ (λ a b. z.constant +ℚ (a +ℚ b)) (sum_agrees (is_live slots) 0 x y z.live o.live_row h) (sum_agrees (is_dropped slots) 0 x y z.dropped o.dropped_row k)
+
+  everywhere_same : (y : ℕ → ℚ) → right_side y r ≡ right_side y s
+  everywhere_same y =
+      let f = free slots table y in
+      sym (moved y f.0 r er.over f.2 f.3) ∙ er.value_is f.0 f.1 ∙ sym (es.value_is f.0 f.1) ∙ moved y f.0 s es.over f.2 f.3
+
+  constant_only : (z : Row) → right_side (λ c. 0ℚ) z ≡ z.constant
+  constant_only z = ap₂ (λ a b. z.constant +ℚ (a +ℚ b)) (nothing_at z.live) (nothing_at z.dropped) ∙ ring (z.constant ∷ []) (var 0 ⊕ (int (pos 0) ⊕ int (pos 0))) (var 0) refl
+
+  constants : r.constant ≡ s.constant
+  constants = sym (constant_only r) ∙ everywhere_same (λ c. 0ℚ) ∙ constant_only s
+
+  both : (c : ℕ) → sum_at (unit c) r.live +ℚ sum_at (unit c) r.dropped ≡ sum_at (unit c) s.live +ℚ sum_at (unit c) s.dropped
+  both c = cancel_first r.constant _ _ (everywhere_same (unit c) ∙ ap (λ w. w +ℚ (sum_at (unit c) s.live +ℚ sum_at (unit c) s.dropped)) (sym constants))
+
+  at_zero_right : (a b : ℚ) → b ≡ 0ℚ → a +ℚ b ≡ a
+  at_zero_right a b e = ap (λ w. a +ℚ w) e ∙ ring (a ∷ []) (var 0 ⊕ int (pos 0)) (var 0) refl
+
+  -- a column is not live and dropped at once
+  only_live : (c : ℕ) → is_live slots c ≡ true → is_dropped slots c ≡ false
+  only_live c h = dropped_at slots c Live (at_live slots c h)
+
+  live_same : (c : ℕ) → sum_at (unit c) r.live ≡ sum_at (unit c) s.live
+  live_same c = go (is_live slots c) refl
+    where
+      go : (b : Bool) → is_live slots c ≡ b → sum_at (unit c) r.live ≡ sum_at (unit c) s.live
+      go true e =
+          sym (at_zero_right (sum_at (unit c) r.live) (sum_at (unit c) r.dropped) (absent (is_dropped slots) c r.dropped er.over.dropped_row (only_live c e)))
+          ∙ both c ∙ at_zero_right (sum_at (unit c) s.live) (sum_at (unit c) s.dropped) (absent (is_dropped slots) c s.dropped es.over.dropped_row (only_live c e))
+      go false e = absent (is_live slots) c r.live er.over.live_row e ∙ sym (absent (is_live slots) c s.live es.over.live_row e)
+
+  dropped_same : (c : ℕ) → sum_at (unit c) r.dropped ≡ sum_at (unit c) s.dropped
+  dropped_same c = cancel_first (sum_at (unit c) r.live) _ _ (both c ∙ ap (λ w. w +ℚ sum_at (unit c) s.dropped) (sym (live_same c)))
+
+  pub same_numbers : SameNumbers r s
+  same_numbers = record {
+    live = same_list (is_live slots) 0 r.live s.live er.over.live_row es.over.live_row live_same;
+    dropped = same_list (is_dropped slots) 0 r.dropped s.dropped er.over.dropped_row es.over.dropped_row dropped_same;
+    constant = constants;
+  }

@@ -1,0 +1,206 @@
+-- The new variables of a form become known one by one.
+use Rattle.std.proofs.Common.{◌≡◌, ℕ, zero, suc, ◌+◌, ◌<◌, ◌≤◌, List, [], ◌∷◌, ◌++◌, length, take, get_or, slice_get, Option, None, Some, Bool, true, false, not, nat_eq, cond, arith, refl, ap, ap₂, sym, subst, ◌∙◌, ◌⊎◌, inl, inr, append-nil, append_assoc}
+use Rattle.std.specs.Prelude.{MatchOption, is_some, OnErr}
+use Rattle.std.proofs.Common.{Result, Ok, Err}
+use Rattle.std.specs.List.{list_any}
+use Rattle.std.proofs.lemmas.List.{take_more}
+use Rattle.spec_rational.specs.Rational.{ℚ}
+use Rattle.spec_rational.specs.Sums.{Product, Mentions}
+use Rattle.spec_linear.specs.Form.{Linear, IsSumFrom}
+use Rattle.spec_linear.specs.Solution.{Has}
+use Rattle.spec_linear.proofs.Denominators.{has_left, has_right}
+use Rattle.spec_limits.specs.Dictionary.{Quantity, variable}
+use Rattle.spec_echelon.specs.Echelon.{variables}
+use Rattle.cq_frac.specs.declared.VarId.{VarId}
+use Rattle.cq_form.specs.Pairs.{products_of}
+use Rattle.cq_row.specs.declared.Entry.{Entry}
+use Rattle.cq_row.specs.Rows as row
+use Rattle.cq_dict.specs.Table.{IsAt}
+use Rattle.cq_store.proofs.Slots.{at_end}
+use Rattle.cq_store.proofs.Names.{place_below}
+use Rattle.cq_dict.specs.declared.table.Slot.TheVariants.{Live, Basic}
+use Rattle.cq_store.specs.declared.table.Name.TheVariants.{Variable, Member}
+use Rattle.cq_store.specs.Describes.{placed}
+use Rattle.cq_store.specs.Contents.{Named, AreNamed, variables_of, place_of}
+use Rattle.cq_store.specs.Told.{new_variables}
+use Rattle.cq_store.specs.Entering.{Extends, AddsVariables, none_added, one_added, AddsMember}
+use Rattle.cq_store.proofs.Telling.{fresh, is_among, among_is, has_fresh, fresh_or_old, mentions-variables, variables-mention, added_order}
+
+-- ---- tests of options
+
+pub none_of : {A : Type 0} (o : Option A) (P : Type 0) (Q : A → Type 0) (b : Bool) → MatchOption o P Q → is_some o ≡ not b → b ≡ true → P
+none_of None P Q b h e t = h
+none_of (Some x) P Q b h e t = let f : true ≡ false = e ∙ ap not t in cc
+
+pub some_of : {A : Type 0} (o : Option A) (P : Type 0) (Q : A → Type 0) (b : Bool) → MatchOption o P Q → is_some o ≡ not b → b ≡ false → (x : A) × Q x
+some_of None P Q b h e t = let f : false ≡ true = e ∙ ap not t in cc
+some_of (Some x) P Q b h e t = (x, h)
+
+pub on_err : {A E : Type 0} {P : Type 0} (r : Result A E) → P → OnErr r P
+on_err (Ok x) p = tt
+on_err (Err e) p = p
+
+-- ---- the products of a list of pairs
+
+products-end : (s : List (VarId × ℚ)) (p : VarId × ℚ) → products_of (s ++ p ∷ []) ≡ products_of s ++ record { variable = p.0.0; factor = p.1 } ∷ []
+products-end [] p = refl
+products-end (q ∷ s) p = ap (λ t. record { variable = q.0.0; factor = q.1 } ∷ t) (products-end s p)
+
+placed-end : (place : Quantity → ℕ) (s : List Product) (m : Product) → placed place (s ++ m ∷ []) ≡ placed place s ++ record { quantity = place (variable m.variable); factor = m.factor } ∷ []
+placed-end place [] m = refl
+placed-end place (n ∷ s) m = ap (λ t. record { quantity = place (variable n.variable); factor = n.factor } ∷ t) (placed-end place s m)
+
+more : (s : List (VarId × ℚ)) (i : ℕ) (p : VarId × ℚ) → i < length s → p ≡ get_or s i p → take (i + 1) s ≡ take i s ++ p ∷ []
+more s i p l e = take_more s i p l ∙ ap (λ x. take i s ++ x ∷ []) (sym e)
+
+pub placed_more : (place : Quantity → ℕ) (s : List (VarId × ℚ)) (i : ℕ) (p : VarId × ℚ) → i < length s → p ≡ get_or s i p →
+    placed place (products_of (take (i + 1) s)) ≡ placed place (products_of (take i s)) ++ record { quantity = place (variable p.0.0); factor = p.1 } ∷ []
+placed_more place s i p l e = ap (λ t. placed place (products_of t)) (more s i p l e) ∙ ap (placed place) (products-end (take i s) p) ∙ placed-end place (products_of (take i s)) (record { variable = p.0.0; factor = p.1 })
+
+pub mention_at : (s : List (VarId × ℚ)) (i : ℕ) (p : VarId × ℚ) → i < length s → p ≡ get_or s i p → Mentions p.0.0 (products_of s)
+mention_at [] i p l e = absurd (omega arith)
+mention_at (q ∷ s) zero p l e = inl (ap (λ (z : VarId × ℚ). z.0.0) e)
+mention_at (q ∷ s) (suc i) p l e = inr (mention_at s i p (omega arith) e)
+
+at_least : (low : ℕ) (s : List (VarId × ℚ)) (i : ℕ) (p : VarId × ℚ) → IsSumFrom low (products_of s) → i < length s → p ≡ get_or s i p → low ≤ p.0.0
+at_least low [] i p f l e = absurd (omega arith)
+at_least low (q ∷ s) zero p f l e = omega (arith, f.0, ap (λ (z : VarId × ℚ). z.0.0) e)
+at_least low (q ∷ s) (suc i) p f l e = omega (arith, f.0, at_least (suc q.0.0) s i p f.2 (omega arith) e)
+
+-- no variable comes twice
+not_earlier : (low : ℕ) (s : List (VarId × ℚ)) (i : ℕ) (p : VarId × ℚ) → IsSumFrom low (products_of s) → i < length s → p ≡ get_or s i p → Has p.0.0 (variables (products_of (take i s))) → ⊥
+not_earlier low [] i p f l e h = absurd (omega arith)
+not_earlier low (q ∷ s) zero p f l e h = h
+not_earlier low (q ∷ s) (suc i) p f l e (inl w) = omega (arith, at_least (suc q.0.0) s i p f.2 (omega arith) e, w)
+not_earlier low (q ∷ s) (suc i) p f l e (inr h) = not_earlier (suc q.0.0) s i p f.2 (omega arith) e h
+
+variables-end : (s : List Product) (m : Product) → variables (s ++ m ∷ []) ≡ variables s ++ m.variable ∷ []
+variables-end [] m = refl
+variables-end (n ∷ s) m = ap (λ t. n.variable ∷ t) (variables-end s m)
+
+variables_more : (s : List (VarId × ℚ)) (i : ℕ) (p : VarId × ℚ) → i < length s → p ≡ get_or s i p → variables (products_of (take (i + 1) s)) ≡ variables (products_of (take i s)) ++ p.0.0 ∷ []
+variables_more s i p l e = ap (λ t. variables (products_of t)) (more s i p l e) ∙ ap variables (products-end (take i s) p) ∙ variables-end (products_of (take i s)) (record { variable = p.0.0; factor = p.1 })
+
+fresh-new : (order xs : List ℕ) (x : ℕ) → (Has x order → ⊥) → fresh order (xs ++ x ∷ []) ≡ fresh order xs ++ x ∷ []
+fresh-new order [] x n = last (list_any (nat_eq x) order) (λ e. n (among_is x order e))
+  where
+    last : (b : Bool) → (b ≡ true → ⊥) → cond (not b) (x ∷ []) [] ≡ x ∷ []
+    last true h = absurd (h refl)
+    last false h = refl
+fresh-new order (y ∷ xs) x n = go (list_any (nat_eq y) order) (fresh-new order xs x n)
+  where
+    go : (b : Bool) → fresh order (xs ++ x ∷ []) ≡ fresh order xs ++ x ∷ [] → cond (not b) (y ∷ fresh order (xs ++ x ∷ [])) (fresh order (xs ++ x ∷ [])) ≡ cond (not b) (y ∷ fresh order xs) (fresh order xs) ++ x ∷ []
+    go true e = e
+    go false e = ap (λ t. y ∷ t) e
+
+fresh-old : (order xs : List ℕ) (x : ℕ) → Has x order → fresh order (xs ++ x ∷ []) ≡ fresh order xs
+fresh-old order [] x h = ap (λ b. cond (not b) (x ∷ []) []) (is_among x order h)
+fresh-old order (y ∷ xs) x h = go (list_any (nat_eq y) order) (fresh-old order xs x h)
+  where
+    go : (b : Bool) → fresh order (xs ++ x ∷ []) ≡ fresh order xs → cond (not b) (y ∷ fresh order (xs ++ x ∷ [])) (fresh order (xs ++ x ∷ [])) ≡ cond (not b) (y ∷ fresh order xs) (fresh order xs)
+    go true e = e
+    go false e = ap (λ t. y ∷ t) e
+
+pub has_split : (x : ℕ) (s t : List ℕ) → Has x (s ++ t) → Has x s ⊎ Has x t
+has_split x [] t h = inr h
+has_split x (y ∷ s) t (inl e) = inl (inl e)
+has_split x (y ∷ s) t (inr h) = elim (has_split x s t h) [ inl k ↦ inl (inr k) | inr k ↦ inr k ]
+
+-- ---- the loop
+
+abbrev pub AddsFirst : Named → List (VarId × ℚ) → ℕ → Named → Type 0
+AddsFirst old s i new = AddsVariables old (fresh (variables_of old.names) (variables (products_of (take i s)))) new
+
+pub adds_new : (old mid : Named) (s : List (VarId × ℚ)) (i : ℕ) (p : VarId × ℚ) → i < length s → p ≡ get_or s i p → AddsFirst old s i mid → (Has p.0.0 (variables_of mid.names) → ⊥) →
+    (new : Named) → new.names ≡ mid.names ++ Variable p.0 ∷ [] → new.slots ≡ mid.slots ++ Live ∷ [] → AddsFirst old s (i + 1) new
+adds_new old mid s i p l e a n new en es =
+    let none : Has p.0.0 (variables_of old.names) → ⊥ = λ h. n (subst (Has p.0.0) (sym (added_order old mid _ a)) (has_left p.0.0 (variables_of old.names) (fresh (variables_of old.names) (variables (products_of (take i s)))) h)) in
+    subst (λ xs. AddsVariables old xs new) (sym (ap (fresh (variables_of old.names)) (variables_more s i p l e) ∙ fresh-new (variables_of old.names) (variables (products_of (take i s))) p.0.0 none))
+    (subst (AddsVariables old (fresh (variables_of old.names) (variables (products_of (take i s))) ++ p.0.0 ∷ [])) (sym (ap₂ (λ x y. record { names = x; slots = y }) en es)) (one_added (fresh (variables_of old.names) (variables (products_of (take i s)))) mid a p.0 n))
+
+pub adds_old : (old mid : Named) (s : List (VarId × ℚ)) (i : ℕ) (p : VarId × ℚ) → i < length s → p ≡ get_or s i p → IsSumFrom 0 (products_of s) → AddsFirst old s i mid → Has p.0.0 (variables_of mid.names) → AddsFirst old s (i + 1) mid
+adds_old old mid s i p l e f a h =
+    elim (has_split p.0.0 (variables_of old.names) (fresh (variables_of old.names) (variables (products_of (take i s)))) (subst (Has p.0.0) (added_order old mid _ a) h)) [
+      | inl k ↦ subst (λ xs. AddsVariables old xs mid) (sym (ap (fresh (variables_of old.names)) (variables_more s i p l e) ∙ fresh-old (variables_of old.names) (variables (products_of (take i s))) p.0.0 k)) a
+      | inr k ↦ absurd (not_earlier 0 s i p f l e (has_fresh (variables_of old.names) (variables (products_of (take i s))) p.0.0 k).0)
+    ]
+
+pub adds_none : (old : Named) → AddsVariables old [] old
+adds_none old = none_added
+
+-- ---- what is known after it
+
+pub known_after : (old known : Named) (f : Linear) → AddsVariables old (new_variables (variables_of old.names) f) known → (x : ℕ) → Mentions x f.products → Has x (variables_of known.names)
+known_after old known f a x m =
+    subst (Has x) (sym (added_order old known _ a))
+    (elim (fresh_or_old (variables_of old.names) (variables f.products) x (mentions-variables x f.products m)) [
+      | inl k ↦ has_left x (variables_of old.names) (new_variables (variables_of old.names) f) k
+      | inr k ↦ has_right x (variables_of old.names) (new_variables (variables_of old.names) f) k
+    ])
+
+pub old_known : (old known : Named) (f : Linear) → AddsVariables old (new_variables (variables_of old.names) f) known → (x : ℕ) → Has x (variables_of old.names) → Has x (variables_of known.names)
+old_known old known f a x h = subst (Has x) (sym (added_order old known _ a)) (has_left x (variables_of old.names) (new_variables (variables_of old.names) f) h)
+
+pub known_before : (old known : Named) (f : Linear) → AddsVariables old (new_variables (variables_of old.names) f) known → (x : ℕ) → Has x (variables_of known.names) → Mentions x f.products ⊎ Has x (variables_of old.names)
+known_before old known f a x h =
+    elim (has_split x (variables_of old.names) (new_variables (variables_of old.names) f) (subst (Has x) (added_order old known _ a) h)) [
+      | inl k ↦ inr k
+      | inr k ↦ inl (variables-mention x f.products (has_fresh (variables_of old.names) (variables f.products) x k).0)
+    ]
+
+pub extends_self : (old : Named) → Extends old old
+extends_self old = record { more_names = []; more_slots = []; names = sym (append-nil old.names); slots = sym (append-nil old.slots) }
+
+pub extends_added : (old new : Named) (xs : List ℕ) → AddsVariables old xs new → Extends old new
+extends_added old new xs a = go a
+  where
+    go : {xs : List ℕ} {new : Named} → AddsVariables old xs new → Extends old new
+    go none_added = extends_self old
+    go (one_added xs mid a x n) =
+        let e = go a in
+        record {
+          more_names = e.more_names ++ Variable x ∷ [];
+          more_slots = e.more_slots ++ Live ∷ [];
+          names = ap (λ s. s ++ Variable x ∷ []) e.names ∙ append_assoc old.names e.more_names (Variable x ∷ []);
+          slots = ap (λ s. s ++ Live ∷ []) e.slots ∙ append_assoc old.slots e.more_slots (Live ∷ []);
+        }
+
+pub extends_member : (old known asked : Named) (f : Linear) → Extends old known → AddsMember known f asked → Extends old asked
+extends_member old known asked f e m = record {
+  more_names = e.more_names ++ Member ∷ [];
+  more_slots = e.more_slots ++ Basic m.row ∷ [];
+  names = m.names ∙ ap (λ s. s ++ Member ∷ []) e.names ∙ append_assoc old.names e.more_names (Member ∷ []);
+  slots = m.slots ∙ ap (λ s. s ++ Basic m.row ∷ []) e.slots ∙ append_assoc old.slots e.more_slots (Basic m.row ∷ []);
+}
+
+take-first : {A : Type 0} (s t : List A) → take (length s) (s ++ t) ≡ s
+take-first [] t = refl
+take-first (x ∷ s) t = ap (λ r. x ∷ r) (take-first s t)
+
+-- what was there is left when the rest is given back
+pub cut_names : (old new : Named) → Extends old new → (n : ℕ) → n ≡ length old.names → take n new.names ≡ old.names
+cut_names old new e n h = ap₂ take h e.names ∙ take-first old.names e.more_names
+
+pub cut_slots : (old new : Named) → Extends old new → (n : ℕ) → n ≡ length old.slots → take n new.slots ≡ old.slots
+cut_slots old new e n h = ap₂ take h e.slots ∙ take-first old.slots e.more_slots
+
+-- ---- the row of the form
+
+pub last_row : (known asked : Named) (f : Linear) (m : AddsMember known f asked) (n : ℕ) → n ≡ length known.slots → IsAt asked.slots n (Basic m.row)
+last_row known asked f m n e = subst (λ k. IsAt asked.slots k (Basic m.row)) (sym e) (subst (λ z. IsAt z (length known.slots) (Basic m.row)) (sym m.slots) (at_end known.slots (Basic m.row)))
+
+pub first_of : (s : List Entry) (m : Entry) → slice_get s 0 ≡ Some m → (rest : List Entry) × (s ≡ m ∷ rest)
+first_of [] m e = cc
+first_of (n ∷ s) m e = let f : n ≡ m = cc in (s, ap (λ z. z ∷ s) f)
+
+pub none_first : (s : List Entry) → slice_get s 0 ≡ None → s ≡ []
+none_first [] e = refl
+none_first (n ∷ s) e = cc
+
+placed_place : (place : Quantity → ℕ) (s : List Product) (m : Entry) → row.Has m (placed place s) → (x : ℕ) × Mentions x s × (m.quantity ≡ place (variable x))
+placed_place place [] m h = absurd h
+placed_place place (n ∷ s) m (inl e) = (n.variable, inl refl, ap (λ (z : Entry). z.quantity) e)
+placed_place place (n ∷ s) m (inr h) = let r = placed_place place s m h in (r.0, inr r.1, r.2)
+
+pub placed_below : (t : Named) → AreNamed t → (s : List Product) → ((x : ℕ) → Mentions x s → Has x (variables_of t.names)) → (m : Entry) → row.Has m (placed (place_of t.names) s) → m.quantity < length t.slots
+placed_below t a s known m h = let r = placed_place (place_of t.names) s m h in omega (arith, r.2, place_below t.names r.0 (known r.0 r.1), a.size)

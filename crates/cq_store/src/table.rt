@@ -1,0 +1,265 @@
+//! The table of a store: a dictionary whose quantities have names.
+
+ghost use Rattle.std.specs.Prelude.{◌≡◌, ◌↔◌, ◌<◌, ◌≤◌, ◌⊎◌, ℕ, List, [], ◌∷◌, ◌++◌, length, take, true, IfOk, OnOk, OnErr, MatchOption, IsTrue, slice_get, Some, is_some};
+ghost use Rattle.spec_linear.specs.Solution.{Has};
+ghost use Rattle.spec_rational.specs.Sums.{Mentions};
+ghost use Rattle.spec_echelon.specs.Echelon.{AreDistinct};
+ghost use Rattle.cq_frac.specs.declared.Pair.{Pair};
+ghost use Rattle.cq_frac.specs.Refused.{IsRefused};
+ghost use Rattle.cq_row.specs.Row.{Row};
+ghost use Rattle.cq_dict.specs.declared.table.Slot.TheVariants.{Live, Basic};
+ghost use Rattle.cq_dict.specs.Table.{IsAt, IsRow, IsTable, HasEntry, PivotPair, FormPair, IsEliminated};
+ghost use Rattle.cq_dict.specs.Dict.{SameMeaning};
+ghost use Rattle.cq_store.specs.declared.table.Name.TheVariants.{Variable, Member};
+
+use cq_dict::dict::{Dict, DictFault};
+use cq_form::Form;
+use cq_frac::{Frac, VarId};
+use cq_row::Entry;
+use indexmap::IndexMap;
+use std::alloc::{AllocError, Global};
+use std::marker::Model;
+
+/// What a quantity stands for: a variable, or the form of a told constraint, these in the order of telling.
+#[derive(Clone, Copy, Debug)]
+pub enum Name {
+    Variable(VarId),
+    Member,
+}
+
+/// The form of a variable that is solved for: a constant, and products of free variables in the store's order.
+#[derive(Debug, Drop)]
+pub struct SolvedRow<'a> {
+    constant: Frac,
+    entries: &'a [Entry],
+    names: &'a [Name],
+}
+
+impl<'a> Model for SolvedRow<'a> {
+    ghost use Rattle.spec_linear.specs.Form.{Linear};
+    ghost use Rattle.cq_form.specs.Pairs.{linear_code};
+    ghost use Rattle.cq_store.specs.Contents.{products_of};
+    ghost use Rattle.cq_store.specs.Numbered.{AreOfVariables};
+
+    ghost Value = { Linear };
+
+    ghost coded = { linear_code };
+
+    ghost view = { λ s. record { products = products_of s.names.now s.entries.now; constant = s.constant } };
+
+    ghost invariant = { λ s. AreOfVariables s.names.now s.entries.now };
+}
+
+impl SolvedRow<'_> {
+    /// The value where the free variables are zero.
+    pub fn constant(&self) -> Frac
+        ensures { result ≡ self.now.constant }
+    {
+        self.constant
+    }
+
+    /// How many products there are.
+    pub fn len(&self) -> usize
+        ensures { result ≡ length self.now.products }
+    {
+        self.entries.len()
+    }
+
+    pub fn is_empty(&self) -> bool
+        ensures { IsTrue result ↔ (self.now.products ≡ []) }
+    {
+        self.entries.is_empty()
+    }
+
+    /// The product at a place: a free variable, and its factor.
+    pub fn get(&self, i: usize) -> (VarId, Frac)
+        requires { i < length self.now.products }
+        ensures { slice_get self.now.products i ≡ Some (record { variable = result.0.0; factor = result.1 }) }
+    {
+        let entries = self.entries;
+        let entry = entries[i];
+        let name = self.names[entry.quantity];
+        match name {
+            Name::Variable(x) => (x, entry.factor),
+            Name::Member => unreachable!(),
+        }
+    }
+}
+
+/// A dictionary whose quantities have names.
+#[derive(Drop)]
+pub struct Table {
+    dict: Dict,
+    names: Vec<Name>,
+    // the number of each variable, in the order of making
+    numbers: IndexMap<VarId, usize>,
+}
+
+impl Model for Table {
+    ghost use Rattle.cq_store.specs.Contents.{Named};
+    ghost use Rattle.cq_store.specs.Numbered.{IsNumbered};
+
+    ghost Value = { Named };
+
+    ghost view = { λ t. record { names = t.names.items; slots = t.dict.slots } };
+
+    ghost invariant = { λ t. IsNumbered (record { names = t.names.items; slots = t.dict.slots }) t.numbers.entries };
+}
+
+impl Table {
+    ghost use Rattle.cq_store.specs.Contents.{Named, AreNamed, variables_of, place_of, place_of_variable, solved_in, number_in};
+    ghost use Rattle.cq_store.specs.Describes.{placed};
+    ghost use Rattle.cq_store.specs.Entering.{AddsMember};
+    ghost use Rattle.cq_store.specs.Told.{numbers_of};
+
+    pub fn new(alloc: Global) -> Table
+        ensures { result ≡ record { names = []; slots = [] } }
+    {
+        Table {
+            dict: Dict::new(alloc),
+            names: Vec::new(alloc),
+            numbers: IndexMap::new(alloc),
+        }
+    }
+
+    /// The number of quantities.
+    pub fn count(&self) -> usize
+        ensures count { result ≡ length self.now.slots }
+        ensures named { AreNamed self.now }
+    {
+        self.names.len()
+    }
+
+    /// The variables, in the order of making.
+    pub fn order(&self) -> &[VarId]
+        ensures { numbers_of result.now ≡ variables_of self.now.names }
+    {
+        self.numbers.keys().as_slice()
+    }
+
+    /// The number of a variable.
+    pub fn number(&self, x: VarId) -> Option<usize>
+        ensures { MatchOption result (Has x.0 (variables_of self.now.names) → ⊥) (λ n. Has x.0 (variables_of self.now.names) × (n ≡ place_of_variable self.now.names x.0)) }
+    {
+        self.numbers.get(&x).copied()
+    }
+
+    /// The form of the variable, if it is solved for.
+    pub fn solved_row(&self, x: VarId) -> Option<SolvedRow<'_>>
+        ensures { result ≡ solved_in self.now x.0 }
+    {
+        let _ = &self.names;
+        let q = self.number(x)?;
+        if !self.dict.is_row(q) {
+            return None;
+        }
+        Some(SolvedRow {
+            constant: self.dict.constant(q),
+            entries: self.dict.row(q),
+            names: &self.names,
+        })
+    }
+
+    /// The number that the variable is, if its form is one.
+    pub fn value(&self, x: VarId) -> Option<Frac>
+        ensures { result ≡ number_in (solved_in self.now x.0) }
+    {
+        let row = self.solved_row(x)?;
+        if row.is_empty() {
+            Some(row.constant())
+        } else {
+            None
+        }
+    }
+
+    /// Whether the variable's form is a number.
+    pub fn has_value(&self, x: VarId) -> bool
+        ensures { result ≡ is_some (number_in (solved_in self.now x.0)) }
+    {
+        self.value(x).is_some()
+    }
+
+    /// Makes a column for a new variable.
+    pub fn add_variable(&mut self, x: VarId) -> Result<(), AllocError>
+        requires { Has x.0 (variables_of self.old.names) → ⊥ }
+        ensures names { OnOk result (self.new.names ≡ self.old.names ++ Variable x ∷ []) }
+        ensures slots { OnOk result (self.new.slots ≡ self.old.slots ++ Live ∷ []) }
+        ensures err { OnErr result (self.new ≡ self.old) }
+    {
+        self.names.reserve(1)?;
+        self.numbers.reserve(1)?;
+        let number = self.dict.add_column(false)?;
+        // There is room for both.
+        self.names.push(Name::Variable(x)).unwrap();
+        self.numbers.insert(x, number).unwrap();
+        Ok(())
+    }
+
+    /// The form over the quantities.
+    fn placed(&self, form: &Form) -> Result<Vec<Entry>, AllocError>
+        requires { (x : ℕ) → Mentions x form.now.products → Has x (variables_of self.now.names) }
+        ensures { IfOk result (λ s. s.items ≡ placed (place_of self.now.names) form.now.products) }
+    {
+        let mut entries = Vec::new(*self.names.allocator());
+        for pair in form.pairs() {
+            let Some(quantity) = self.number(pair.0) else {
+                unreachable!()
+            };
+            entries.push(Entry {
+                quantity,
+                factor: pair.1,
+            })?;
+        }
+        Ok(entries)
+    }
+
+    /// Makes a row for the form of a constraint.
+    pub fn add_member(&mut self, form: &Form) -> Result<(), DictFault>
+        requires { (x : ℕ) → Mentions x form.now.products → Has x (variables_of self.old.names) }
+        ensures added { OnOk result (AddsMember self.old form.now self.new) }
+        ensures overflow { (pair : Pair) → result ≡ Err (DictFault.Overflow pair) → FormPair self.old.slots (placed (place_of self.old.names) form.now.products) form.now.constant pair.operation pair.left pair.right × IsRefused pair }
+        ensures err { OnErr result (self.new ≡ self.old) }
+    {
+        let entries = self.placed(form)?;
+        self.names.reserve(1)?;
+        self.dict.add_row(&entries, form.constant(), false)?;
+        // There is room for it.
+        self.names.push(Name::Member).unwrap();
+        Ok(())
+    }
+
+    /// The row's constant, and its first live entry.
+    pub fn lead(&self, r: usize) -> (Frac, Option<Entry>)
+        requires { IsRow self.now.slots r }
+        ensures { (own : Row) → IsAt self.now.slots r (Basic own) → (result.0 ≡ own.constant) × (result.1 ≡ slice_get own.live 0) }
+    {
+        let first = self.dict.row(r).first().copied();
+        (self.dict.constant(r), first)
+    }
+
+    /// Exchanges the row and the live column, in which the row has an entry, and drops the row's quantity.
+    pub fn eliminate(&mut self, r: usize, c: usize) -> Result<(), DictFault>
+        requires { HasEntry self.old.slots r c }
+        ensures names { self.new.names ≡ self.old.names }
+        ensures same { OnOk result (SameMeaning self.old.slots self.new.slots) }
+        ensures kinds { OnOk result (IsEliminated self.old.slots r c self.new.slots) }
+        ensures table { IsTable self.new.slots }
+        ensures overflow { (pair : Pair) → result ≡ Err (DictFault.Overflow pair) → PivotPair self.old.slots r c pair.operation pair.left pair.right × IsRefused pair }
+        ensures err { OnErr result (self.new ≡ self.old) }
+    {
+        self.dict.eliminate(r, c)?;
+        Ok(())
+    }
+
+    /// Gives back the quantities from a number on, so that these are left, with so many variables. The rows that stay
+    /// have no entry of the others.
+    pub fn cut(&mut self, quantities: usize, variables: usize)
+        requires left { AreNamed (record { names = take quantities self.old.names; slots = take quantities self.old.slots }) }
+        requires count { length (variables_of (take quantities self.old.names)) ≡ variables }
+        ensures { self.new ≡ record { names = take quantities self.old.names; slots = take quantities self.old.slots } }
+    {
+        self.dict.cut(quantities);
+        self.names.truncate(quantities);
+        self.numbers.truncate(variables);
+    }
+}

@@ -1,0 +1,6 @@
+pub mod Characters
+pub mod Held
+pub mod Bounds
+mod Sizes
+pub mod Tiles
+mod Again

@@ -1,0 +1,8 @@
+use Rattle.spec_grammar.proofs.Again.{name_again, symbols_again}
+use Rattle.spec_grammar.proofs.names_are_read_again.Goals as goal
+
+pub returns-clause-letters : goal.returns-clause-letters
+returns-clause-letters c = name_again
+
+pub returns-clause-symbols : goal.returns-clause-symbols
+returns-clause-symbols c = symbols_again

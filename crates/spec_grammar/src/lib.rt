@@ -1,0 +1,103 @@
+//! The tokens of a text: their definition, and laws about them.
+#![tactic(auto)]
+
+ghost use Rattle.std.specs.Prelude.{◌≡◌, ◌≤◌, ◌⊎◌, ◌+◌, ◌==◌, ◌&&◌, ℕ, true, false, List, [], ◌∷◌, ◌++◌, Some, None, Ok, length, drop};
+ghost use Rattle.std.specs.Char.{is_digit, is_ascii_digit};
+ghost use Rattle.std.specs.List.{prefix_len};
+ghost use Rattle.std.specs.Str.{continuation_len};
+ghost use Rattle.spec_grammar.specs.Characters.{first_char, passes, starts_name, is_symbol, begins, begins_with, name_end};
+ghost use Rattle.spec_grammar.specs.Quotes.{digits_len, digits_value, letter, quoted, in_front};
+ghost use Rattle.spec_grammar.specs.Numerals.{whole, plain, goes_on_as_fraction, marked};
+ghost use Rattle.spec_grammar.specs.Laws.{Stands, AllPass, Continues};
+ghost use Rattle.spec_grammar.specs.Tokens.{Token, token, token_at, next_token, numeral, ends_clause, IsInQuotes};
+
+/// The kinds of tokens.
+#[derive(Clone, Copy, Debug, PartialEq, Eq)]
+pub enum Kind {
+    /// An unquoted name.
+    Name,
+    /// A name in single quotes.
+    Quoted,
+    /// A list of character codes in double quotes.
+    Codes,
+    Variable,
+    Numeral,
+    Punctuation,
+    /// The full stop that ends a clause.
+    End,
+    /// The text's end.
+    Eof,
+}
+
+/// The place of a token's first byte, and the place behind its last.
+#[derive(Clone, Copy, Debug, PartialEq, Eq)]
+pub struct Span {
+    pub start: usize,
+    pub end: usize,
+}
+
+/// Why no token stands at a place of a text. Each has the place of the fault.
+#[derive(Clone, Copy, Debug, PartialEq, Eq)]
+pub enum LexFault {
+    /// No token begins with this byte, no character stands there, or an escape or a numeral goes wrong there.
+    BadByte(usize),
+    /// A line feed or the text's end inside quotes.
+    OpenQuote(usize),
+    /// The text's end inside a block comment.
+    OpenComment(usize),
+    /// A numeral of which a part is too large, or the lower one is zero.
+    WideNumber(usize),
+}
+
+/// What a reader stands in before a token.
+#[derive(Clone, Copy, Debug, PartialEq, Eq)]
+pub enum Gap {
+    /// Between tokens.
+    Between,
+    /// In a comment to the line's end.
+    Line,
+    /// Behind the `/` that opens a block comment.
+    Opening,
+    /// In a block comment.
+    Block,
+    /// Before the `/` that closes a block comment.
+    Closing,
+}
+
+/// An escape: how many bytes it has behind its backslash, and the character that it stands for, or none.
+#[derive(Clone, Copy, Debug, PartialEq, Eq)]
+pub struct Escape {
+    pub size: usize,
+    pub stands_for: Option<char>,
+}
+
+/// From every place of a text on there is a token or a fault. Only layout and comments stand before the token, which takes
+/// at least one byte or is the text's end: so the tokens tile the text, and reading them ends. A fault stands within the text.
+pub fn tokens_tile_the_text()
+    ensures { (text : List ℕ) (at : ℕ) → at ≤ length text → Stands text at (next_token text at) }
+{}
+
+/// Of the next token, if it is in quotes, the meant text can be asked.
+pub fn quotes_hold_a_text()
+    ensures { (text : List ℕ) (at : ℕ) (t : Token) → next_token text at ≡ Ok t → (t.kind ≡ Kind.Quoted) ⊎ (t.kind ≡ Kind.Codes) → IsInQuotes text t.span }
+{}
+
+/// A name that is written is read again, where what follows does not go on with it.
+pub fn names_are_read_again()
+    ensures letters { (b : ℕ) (bs more : List ℕ) (at : ℕ) → passes starts_name (first_char (b ∷ bs)) ≡ true → continuation_len b ≤ length bs → Continues (continuation_len b) bs → name_end 0 more (at + length (b ∷ bs)) ≡ at + length (b ∷ bs) → token_at (b ∷ (bs ++ more)) at ≡ Ok (token Kind.Name at (at + length (b ∷ bs))) }
+    ensures symbols { (b : ℕ) (bs more : List ℕ) (at : ℕ) → AllPass is_symbol (b ∷ bs) → prefix_len is_symbol more ≡ 0 → ((b == 46) && (length (b ∷ bs) == 1) && ends_clause (drop (length (b ∷ bs)) (b ∷ (bs ++ more)))) ≡ false → token_at (b ∷ (bs ++ more)) at ≡ Ok (token Kind.Name at (at + length (b ∷ bs))) }
+{}
+
+/// A number that is written in decimal digits, or as a fraction of two such numbers, is spelled again.
+pub fn numbers_are_read_again()
+    ensures numeral { (b : ℕ) (bs : List ℕ) (at : ℕ) → is_ascii_digit b ≡ true → (b ≡ 48 → marked bs ≡ None) → token_at (b ∷ bs) at ≡ numeral (plain (b ∷ bs)) (b ∷ bs) at }
+    ensures whole { (bs more : List ℕ) → AllPass (λ b. is_digit b 10) bs → digits_len 10 more ≡ 0 → goes_on_as_fraction more ≡ false → plain (bs ++ more) ≡ whole (digits_value 10 bs) (length bs) }
+    ensures fraction { (bs ds more : List ℕ) → AllPass (λ b. is_digit b 10) bs → AllPass (λ b. is_digit b 10) ds → begins is_ascii_digit (ds ++ more) ≡ true → digits_len 10 more ≡ 0 → plain (bs ++ 114 ∷ (ds ++ more)) ≡ record { over = digits_value 10 bs; under = digits_value 10 ds; size = length bs + 1 + length ds } }
+{}
+
+/// What is written in quotes, character by character, is read again.
+pub fn quotes_are_read_again()
+    ensures character { (q b : ℕ) (bs more : List ℕ) (c at : ℕ) → first_char (b ∷ bs) ≡ Some c → length bs ≡ continuation_len b → (b == 10) ≡ false → (b == q) ≡ false → (b == 92) ≡ false → quoted q 0 (b ∷ (bs ++ more)) at ≡ in_front (Some c) (quoted q 0 more (at + length (b ∷ bs))) }
+    ensures letter { (q b : ℕ) (more : List ℕ) (c at : ℕ) → letter b ≡ Some c → (92 == q) ≡ false → quoted q 0 (92 ∷ b ∷ more) at ≡ in_front (Some c) (quoted q 0 more (at + 2)) }
+    ensures closing { (q : ℕ) (more : List ℕ) (at : ℕ) → (q == 10) ≡ false → (q == q) ≡ true → begins_with q more ≡ false → quoted q 0 (q ∷ more) at ≡ Ok (record { text = []; stop = at + 1 }) }
+{}
