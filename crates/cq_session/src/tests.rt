@@ -15,7 +15,7 @@ type Row = (
     &'static str,
 );
 
-static RUNS: [Row; 16] = [
+static RUNS: [Row; 19] = [
     (&["run"], "", &[], &[], Status::Done, "", ""),
     (&["run"], " \n\t", &[], &[], Status::Done, "", ""),
     (
@@ -79,6 +79,33 @@ static RUNS: [Row; 16] = [
         &[2],
         Status::WriteFault,
         "X = 1\n;\n",
+        "clpq: write failed\n",
+    ),
+    (
+        &["run"],
+        "?- {X= -1}.",
+        &[],
+        &[],
+        Status::Done,
+        "X = -1\n;\nno\n",
+        "",
+    ),
+    (
+        &["run"],
+        "?- {X=-1}.",
+        &[],
+        &[],
+        Status::Faulty,
+        "error: syntax 0\n",
+        "",
+    ),
+    (
+        &["run"],
+        "{X=1}.",
+        &[],
+        &[1],
+        Status::WriteFault,
+        "",
         "clpq: write failed\n",
     ),
     (
