@@ -7,3 +7,5 @@
 mod entering;
 pub mod store;
 pub mod table;
+#[cfg(test)]
+mod tests;
