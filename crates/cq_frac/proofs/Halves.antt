@@ -1,8 +1,8 @@
 -- Greatest common divisors by halving.
-use Rattle.std.proofs.Common.{◌≡◌, ℕ, zero, suc, ◌+◌, ◌-◌, ◌*◌, ◌/◌, ◌%◌, ◌^◌, ◌<◌, ◌≤◌, min, mod-eq_of_lt, arith, refl, ap, ap₂, sym, subst, ◌∙◌, mul_comm, ◌⊎◌, inl, inr, le-mul_of_pos_right}
+use Rattle.std.proofs.Common.{◌≡◌, ℕ, zero, suc, ◌+◌, ◌-◌, ◌*◌, ◌/◌, ◌%◌, ◌^◌, ◌<◌, ◌≤◌, min, mod-eq_of_lt, arith, refl, ap, ap₂, sym, subst, ◌∙◌, mul_comm, ◌⊎◌, inl, inr}
 use Rattle.std.specs.Int.{IsGcd, ◌∣◌, Width, trailing_zeros, bit_at, abs_diff}
 use Rattle.std.proofs.Math.Nat.{dvd_refl, eq-one_of_dvd-one, dvd-mul_right_of_dvd, mul-dvd-mul_right, le_of_dvd}
-use Rattle.std.proofs.lemmas.Nat.{pow_pos, pow-add, shr_split, mod-pow-add}
+use Rattle.std.proofs.lemmas.Nat.{pow-add, shr_split, mod-pow-add}
 use Rattle.std.proofs.lemmas.Nat.Bits.{bit_at-trailing_zeros}
 use Rattle.std.proofs.lemmas.Nat.Gcd.{IsGcd-from_sub, same_from_IsGcd}
 use Rattle.std.proofs.lemmas.Bool.{cases_lt}

@@ -3,7 +3,6 @@ use Rattle.std.proofs.Common.{◌≡◌, ◌<◌, ◌^◌, ℤ, pos, negsuc, nat
 use Rattle.std.proofs.lemmas.Int.{ints, fits_signed_from_abs, to_z-of_z}
 use mir.Syntax.{w128}
 use Rattle.spec_rational.specs.Rational.{ℚ, den, ratio, neg_ℚ}
-use Rattle.spec_rational.specs.Gcd.{gcd}
 use Rattle.spec_rational.proofs.Rational.{ratio-neg}
 use Rattle.cq_frac.specs.Fits.{IsLowest}
 use Rattle.cq_frac.specs.Lowest.{num-ratio, den-ratio}

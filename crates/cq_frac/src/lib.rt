@@ -1,7 +1,7 @@
 //! Exact fractions of 128 bits: each is seen as the rational number that it is.
 #![tactic(auto)]
 
-ghost use Rattle.std.specs.Prelude.{◌≡◌, ◌≢◌, ◌<◌, ◌↔◌, pos, nat_abs, int_lt, IfOk, OnOk, IsTrue};
+ghost use Rattle.std.specs.Prelude.{◌≡◌, ◌≢◌, ◌<◌, ◌↔◌, pos, nat_abs, int_lt, Some, IfOk, OnOk, IsTrue};
 ghost use Rattle.std.specs.Bool.{OnFalse};
 ghost use Rattle.std.specs.Cmp.{partial_equiv_from_equiv, eq_by_cmp_equiv, partial_order_from_total};
 ghost use Rattle.std.specs.Ordering.{nat_cmp, eq_by_cmp, as_partial_cmp};
@@ -12,6 +12,7 @@ ghost use Rattle.spec_rational.specs.Rational.{0ℚ, 1ℚ, int_ℚ, quotient, ra
 ghost use Rattle.spec_rational.proofs.Order.{cmp_ℚ-total};
 ghost use Rattle.cq_frac.specs.Fits.{Exceeds, Fits, SumAccepted, SumRefused, limit, signed};
 ghost use Rattle.cq_frac.specs.Refused.{AcceptsOrRefuses, NeverBoth};
+ghost use Rattle.cq_frac.specs.Text.{number_text};
 
 #[cfg(test)]
 mod tests;
@@ -360,12 +361,15 @@ impl From<i64> for Frac {
 
 /// `N` for a whole number, and else `NrD`.
 impl fmt::Display for Frac {
+    ghost output = { λ q. Some (number_text q) };
+
     fn fmt<W: fmt::Write>(&self, f: &mut fmt::Formatter<W>) -> fmt::Result {
+        let (numerator, denominator) = self.parts();
         let mut buffer = Buffer::new();
-        f.write_str(buffer.format(self.numer))?;
-        if self.denom != 1 {
+        f.write_str(buffer.format(numerator))?;
+        if denominator != 1 {
             f.write_str("r")?;
-            f.write_str(buffer.format(self.denom))?;
+            f.write_str(buffer.format(denominator))?;
         }
         Ok(())
     }
