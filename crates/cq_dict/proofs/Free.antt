@@ -121,9 +121,6 @@ module _ (slots : List Slot) (table : IsTable slots) (value : (ℕ → ℚ) → 
   at_zero_right : (a b : ℚ) → b ≡ 0ℚ → a +ℚ b ≡ a
   at_zero_right a b e = ap (λ w. a +ℚ w) e ∙ ring (a ∷ []) (var 0 ⊕ int (pos 0)) (var 0) refl
 
-  at_zero_left : (a b : ℚ) → a ≡ 0ℚ → a +ℚ b ≡ b
-  at_zero_left a b e = ap (λ w. w +ℚ b) e ∙ ring (b ∷ []) (int (pos 0) ⊕ var 0) (var 0) refl
-
   -- a column is not live and dropped at once
   only_live : (c : ℕ) → is_live slots c ≡ true → is_dropped slots c ≡ false
   only_live c h = dropped_at slots c Live (slot_live slots c h)

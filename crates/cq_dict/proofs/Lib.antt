@@ -8,5 +8,4 @@ pub mod Turned
 pub mod Places
 pub mod Eliminated
 pub mod Ends
-pub mod Faults
-pub mod Commits
+pub mod Marks

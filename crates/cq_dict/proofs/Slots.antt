@@ -1,5 +1,7 @@
 -- The slot of a number.
-use Rattle.std.proofs.Common.{◌≡◌, ℕ, zero, suc, ◌<◌, List, [], ◌∷◌, ◌++◌, length, get_or, Bool, true, false, nat_eq, arith, refl, ap, sym, subst, ◌∙◌, ◌⊎◌, inl, inr}
+use Rattle.std.proofs.Common.{◌≡◌, ℕ, zero, suc, ◌<◌, List, [], ◌∷◌, ◌++◌, length, get_or, Bool, Some, true, false, nat_eq, arith, refl, ap, sym, subst, ◌∙◌, ◌⊎◌, inl, inr}
+use Rattle.std.specs.Prelude.{slice_get}
+use Rattle.std.proofs.lemmas.Option.{none-some, same_Some}
 use Rattle.cq_row.specs.Row.{Row}
 use Rattle.cq_row.proofs.Units.{nat_eq_self, same_number}
 use Rattle.cq_dict.specs.declared.table.Slot.{Slot}
@@ -40,6 +42,11 @@ at_index [] i s h e = absurd (omega arith)
 at_index (x ∷ l) zero s h e = e
 at_index (x ∷ l) (suc i) s h e = at_index l i s (omega arith) e
 
+pub at_get : (l : List Slot) (i : ℕ) (s : Slot) → slice_get l i ≡ Some s → IsAt l i s
+at_get [] i s e = absurd (none-some s e)
+at_get (x ∷ l) zero s e = sym (same_Some x s e)
+at_get (x ∷ l) (suc i) s e = at_get l i s e
+
 pub at_exists : (l : List Slot) (i : ℕ) → i < length l → (s : Slot) × IsAt l i s
 at_exists [] i h = absurd (omega arith)
 at_exists (x ∷ l) zero h = (x, refl)
@@ -50,10 +57,10 @@ at_below [] i s h = absurd h
 at_below (x ∷ l) zero s h = omega arith
 at_below (x ∷ l) (suc i) s h = let k = at_below l i s h in omega (arith, k)
 
-pub flag_at : (l : List Bool) (i : ℕ) (b : Bool) → i < length l → b ≡ get_or l i b → b ≡ is_restricted l i
-flag_at [] i b h e = absurd (omega arith)
-flag_at (x ∷ l) zero b h e = e
-flag_at (x ∷ l) (suc i) b h e = flag_at l i b (omega arith) e
+pub flag_get : (l : List Bool) (i : ℕ) (b : Bool) → slice_get l i ≡ Some b → b ≡ is_restricted l i
+flag_get [] i b e = absurd (none-some b e)
+flag_get (x ∷ l) zero b e = sym (same_Some x b e)
+flag_get (x ∷ l) (suc i) b e = flag_get l i b e
 
 -- ---- a slot at the end
 pub at_left : (l : List Slot) (i : ℕ) (s t : Slot) → IsAt l i s → IsAt (l ++ t ∷ []) i s
@@ -88,13 +95,7 @@ equal_or_not a b = go (nat_eq a b) refl
     go true e = inl (same_number a b e)
     go false e = inr (differs a b e)
 
--- ---- what is read off a list that is equal
-pub slot_in : (l k : List Slot) (q : ℕ) (s : Slot) → l ≡ k → q < length k → s ≡ get_or l q s → IsAt k q s
-slot_in l k q s e h g = at_index k q s h (subst (λ z. s ≡ get_or z q s) e g)
-
-pub flag_in : (l k : List Bool) (q : ℕ) (b : Bool) → l ≡ k → q < length k → b ≡ get_or l q b → b ≡ is_restricted k q
-flag_in l k q b e h g = flag_at k q b h (subst (λ z. b ≡ get_or z q b) e g)
-
+-- ---- a slot that is read
 pub column_slot : (l : List Slot) (q : ℕ) (s : Slot) → IsAt l q s → ((r : Row) → s ≡ Basic r → ⊥) → IsAt l q Live ⊎ IsAt l q Dropped
 column_slot l q Live a n = inl a
 column_slot l q Dropped a n = inr a
@@ -105,5 +106,5 @@ not_dropped_slot l q Live a n = sym (dropped_at l q Live a)
 not_dropped_slot l q Dropped a n = absurd (n refl)
 not_dropped_slot l q (Basic r) a n = sym (dropped_at l q (Basic r) a)
 
-pub row_one : (l : List Slot) (q : ℕ) (s : Slot) (r o : Row) → IsAt l q s → s ≡ Basic r → IsAt l q (Basic o) → r ≡ o
-row_one l q s r o a e b = let w = at_one l q s (Basic o) a b in cc
+pub row_one : (l : List Slot) (q : ℕ) (r o : Row) → IsAt l q (Basic r) → IsAt l q (Basic o) → r ≡ o
+row_one l q r o a b = let w = at_one l q (Basic r) (Basic o) a b in cc

@@ -158,6 +158,3 @@ module _ (old : List Slot) (changes rest : List Change) (now : List Slot) (w : W
         };
         within = λ d h. let k = w.within d (subst (Changes d) (sym e) (changes_left d c less h)) in let m = ap length f ∙ length_set now c.at c.slot in omega (arith, k, m);
       }
-
-  pub writing_end : length rest ≡ 0 → IsWritten old changes now
-  writing_end e = subst (λ s. IsWritten old s now) (sym (w.all ∙ ap (λ s. s ++ w.done) (no_changes rest e))) w.written

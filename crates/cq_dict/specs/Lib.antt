@@ -1,4 +1,5 @@
 pub mod Changes
 pub mod Dict
+pub mod DictValue
 pub mod Forms
 pub mod Table

@@ -1,6 +1,6 @@
 //! The dictionary: the quantities by their numbers, and the calls that make and change them.
 
-ghost use Rattle.std.specs.Prelude.{◌≡◌, ◌<◌, ◌⊎◌, ◌↔◌, ℕ, List, [], ◌∷◌, ◌++◌, length, true, slice_set, take, IfOk, OnOk, OnErr, MatchBool};
+ghost use Rattle.std.specs.Prelude.{◌≡◌, ◌<◌, ◌≤◌, ◌⊎◌, ◌↔◌, ℕ, List, [], ◌∷◌, ◌++◌, length, true, slice_set, IfOk, OnOk, OnErr, MatchBool};
 ghost use Rattle.spec_rational.specs.Rational.{ℚ};
 ghost use Rattle.cq_frac.specs.declared.Pair.{Pair};
 ghost use Rattle.cq_frac.specs.Refused.{IsRefused};
@@ -8,16 +8,21 @@ ghost use Rattle.cq_row.specs.declared.Entry.{Entry};
 ghost use Rattle.cq_row.specs.Row.{Row};
 ghost use Rattle.cq_row.specs.Rows.{Has};
 ghost use Rattle.cq_dict.specs.declared.dict.DictFault.TheVariants.{NoMemory};
+ghost use Rattle.cq_dict.specs.declared.table.Change.{Change};
+ghost use Rattle.cq_dict.specs.declared.table.Slot.{Slot};
 ghost use Rattle.cq_dict.specs.declared.table.Slot.TheVariants.{Live, Dropped, Basic};
+ghost use Rattle.cq_dict.specs.Changes.{Changes, IsWritten};
 ghost use Rattle.cq_dict.specs.Table.{IsAt, IsRow, IsTable, is_live, is_dropped as has_dropped, is_restricted as flag_of, HasEntry, PivotPair, FormPair, IsExchanged, IsEliminated, ChangesKind};
 ghost use Rattle.cq_dict.specs.Dict.{IsFaultOf, SameMeaning, AddsRow, DefinesLast, NoPivotPair, NoFormPair};
 
 use crate::columns::Turn;
 use crate::exchange::{eliminate, exchange};
 use crate::form::expressed;
-use crate::table::{Slot, write};
+use crate::table::{Change, Slot, write};
 use cq_frac::{Frac, Pair};
+use cq_row::rows::Row;
 use cq_row::{Entry, RowFault};
+use cq_trail::{Mark, Trail, Undo};
 use std::alloc::{AllocError, AllocFailed, Global};
 use std::marker::Model;
 use thiserror::Error;
@@ -56,33 +61,68 @@ impl From<RowFault> for DictFault {
 /// Quantities, numbered in the order of making: columns, which are free, and rows over them.
 ///
 /// A quantity keeps its number as a row and as a column. Restricted quantities are those that may not be negative: the
-/// dictionary keeps the flag and does nothing by it.
+/// dictionary keeps the flag and does nothing by it. Marks take constant time, and `undo` the time of what was made and
+/// changed since: a row that is replaced is kept for the marks and not copied.
 #[derive(Drop)]
 pub struct Dict {
     alloc: Global,
-    slots: Vec<Slot>,
+    slots: Trail<Slot>,
     // apart from the slots, so that to restrict a row is not to write it
-    restricted: Vec<bool>,
+    restricted: Trail<bool>,
 }
 
 impl Model for Dict {
-    ghost use Rattle.cq_dict.specs.Table.{Quantities, AreQuantities};
+    ghost use Rattle.std.specs.Prelude.{min};
+    ghost use Rattle.cq_dict.specs.DictValue.{DictValue, AreMarked, saved_quantities};
 
-    ghost Value = { Quantities };
+    ghost Value = { DictValue };
 
-    ghost view = { λ d. record { slots = d.slots.items; restricted = d.restricted.items } };
+    ghost view = { λ d. record {
+      slots = d.slots.now;
+      restricted = d.restricted.now;
+      saved = saved_quantities d.slots.saved d.restricted.saved;
+      room = min d.slots.room d.restricted.room;
+    } };
 
-    ghost invariant = { λ d. AreQuantities (record { slots = d.slots.items; restricted = d.restricted.items }) };
+    ghost invariant = { λ d. AreMarked d.slots.now d.restricted.now d.slots.saved d.restricted.saved };
 }
 
 impl Dict {
+    ghost use Rattle.cq_dict.specs.DictValue.{quantities_of};
+
     pub fn new(alloc: Global) -> Dict
-        ensures { result ≡ record { slots = []; restricted = [] } }
+        ensures slots { result.slots ≡ [] }
+        ensures flags { result.restricted ≡ [] }
+        ensures saved { result.saved ≡ [] }
     {
         Dict {
             alloc,
-            slots: Vec::new(alloc),
-            restricted: Vec::new(alloc),
+            slots: Trail::new(alloc),
+            restricted: Trail::new(alloc),
+        }
+    }
+
+    fn slots(&self) -> &[Slot]
+        ensures value { result.now ≡ self.now.slots }
+        ensures table { IsTable self.now.slots }
+    {
+        self.slots.as_slice()
+    }
+
+    fn slot(&self, q: usize) -> &Slot
+        requires { q < length self.now.slots }
+        ensures { IsAt self.now.slots q result.now }
+    {
+        self.slots.get(q)
+    }
+
+    fn basic(&self, r: usize) -> &Row
+        requires { IsRow self.now.slots r }
+        ensures { IsAt self.now.slots r (Basic result.now) }
+    {
+        match self.slot(r) {
+            Slot::Basic(row) => row,
+            _ => unreachable!(),
         }
     }
 
@@ -98,7 +138,7 @@ impl Dict {
         requires { q < length self.now.slots }
         ensures { MatchBool result (IsRow self.now.slots q) (IsAt self.now.slots q Live ⊎ IsAt self.now.slots q Dropped) }
     {
-        matches!(self.slots[q], Slot::Basic(_))
+        matches!(self.slot(q), Slot::Basic(_))
     }
 
     /// Whether the quantity is a dropped column.
@@ -106,14 +146,14 @@ impl Dict {
         requires { q < length self.now.slots }
         ensures { result ≡ has_dropped self.now.slots q }
     {
-        matches!(self.slots[q], Slot::Dropped)
+        matches!(self.slot(q), Slot::Dropped)
     }
 
     pub fn is_restricted(&self, q: usize) -> bool
         requires { q < length self.now.slots }
         ensures { result ≡ flag_of self.now.restricted q }
     {
-        self.restricted[q]
+        *self.restricted.get(q)
     }
 
     /// The row's entries of live columns, in ascending order of the columns, none zero.
@@ -121,10 +161,7 @@ impl Dict {
         requires { IsRow self.now.slots r }
         ensures { (own : Row) → IsAt self.now.slots r (Basic own) → result.now ≡ own.live }
     {
-        match &self.slots[r] {
-            Slot::Basic(row) => row.live(),
-            _ => unreachable!(),
-        }
+        self.basic(r).live()
     }
 
     /// The row's entries of dropped columns, in ascending order of the columns, none zero.
@@ -132,10 +169,7 @@ impl Dict {
         requires { IsRow self.now.slots r }
         ensures { (own : Row) → IsAt self.now.slots r (Basic own) → result.now ≡ own.dropped }
     {
-        match &self.slots[r] {
-            Slot::Basic(row) => row.dropped(),
-            _ => unreachable!(),
-        }
+        self.basic(r).dropped()
     }
 
     /// The row's value where all columns are zero.
@@ -143,10 +177,7 @@ impl Dict {
         requires { IsRow self.now.slots r }
         ensures { (own : Row) → IsAt self.now.slots r (Basic own) → result ≡ own.constant }
     {
-        match &self.slots[r] {
-            Slot::Basic(row) => row.constant(),
-            _ => unreachable!(),
-        }
+        self.basic(r).constant()
     }
 
     /// Puts a slot and its flag at the end.
@@ -154,13 +185,27 @@ impl Dict {
         requires { IsTable (self.old.slots ++ slot ∷ []) }
         ensures slots { OnOk result (self.new.slots ≡ self.old.slots ++ slot ∷ []) }
         ensures flags { OnOk result (self.new.restricted ≡ self.old.restricted ++ restricted ∷ []) }
-        ensures err { OnErr result (self.new ≡ self.old) }
+        ensures saved { self.new.saved ≡ self.old.saved }
+        ensures room { self.old.room ≤ self.new.room }
+        ensures err { OnErr result (quantities_of self.new ≡ quantities_of self.old) }
     {
+        self.slots.reserve_places(1)?;
         self.restricted.push(restricted)?;
-        if self.slots.push(slot).is_err() {
-            self.restricted.pop();
-            return Err(AllocError);
-        }
+        self.slots.push(slot).unwrap();
+        Ok(())
+    }
+
+    /// Writes the new slots, all or none.
+    fn write(&mut self, changes: Vec<Change>) -> Result<(), AllocError>
+        requires within { (c : Change) → Changes c changes.items → c.at < length self.old.slots }
+        requires table { (new : List Slot) → IsWritten self.old.slots changes.items new → IsTable new }
+        ensures written { OnOk result (IsWritten self.old.slots changes.items self.new.slots) }
+        ensures flags { self.new.restricted ≡ self.old.restricted }
+        ensures saved { self.new.saved ≡ self.old.saved }
+        ensures room { self.old.room ≤ self.new.room }
+        ensures err { OnErr result (self.new.slots ≡ self.old.slots) }
+    {
+        write(&mut self.slots, changes)?;
         Ok(())
     }
 
@@ -170,7 +215,9 @@ impl Dict {
         ensures slots { OnOk result (self.new.slots ≡ self.old.slots ++ Live ∷ []) }
         ensures flags { OnOk result (self.new.restricted ≡ self.old.restricted ++ restricted ∷ []) }
         ensures same { OnOk result (SameMeaning self.old.slots self.new.slots) }
-        ensures err { OnErr result (self.new ≡ self.old) }
+        ensures saved { self.new.saved ≡ self.old.saved }
+        ensures room { self.old.room ≤ self.new.room }
+        ensures err { OnErr result (quantities_of self.new ≡ quantities_of self.old) }
     {
         let number = self.count();
         self.push(Slot::Live, restricted)?;
@@ -195,10 +242,12 @@ impl Dict {
 
         ensures accepted { OnOk result (NoFormPair self.old.slots form.now constant) }
         ensures overflow { (pair : Pair) → result ≡ Err (DictFault.Overflow pair) → FormPair self.old.slots form.now constant pair.operation pair.left pair.right × IsRefused pair }
-        ensures err { OnErr result (self.new ≡ self.old) }
+        ensures saved { self.new.saved ≡ self.old.saved }
+        ensures room { self.old.room ≤ self.new.room }
+        ensures err { OnErr result (quantities_of self.new ≡ quantities_of self.old) }
     {
         let number = self.count();
-        let row = expressed(self.alloc, &self.slots, form, constant)?;
+        let row = expressed(self.alloc, self.slots(), form, constant)?;
         self.push(Slot::Basic(row), restricted)?;
         Ok(number)
     }
@@ -208,9 +257,11 @@ impl Dict {
         requires { q < length self.old.slots }
         ensures slots { self.new.slots ≡ self.old.slots }
         ensures flags { OnOk result (self.new.restricted ≡ slice_set self.old.restricted q true) }
-        ensures err { OnErr result (self.new ≡ self.old) }
+        ensures saved { self.new.saved ≡ self.old.saved }
+        ensures room { self.old.room ≤ self.new.room }
+        ensures err { OnErr result (quantities_of self.new ≡ quantities_of self.old) }
     {
-        self.restricted[q] = true;
+        self.restricted.set(q, true)?;
         Ok(())
     }
 
@@ -224,10 +275,12 @@ impl Dict {
 
         ensures accepted { OnOk result (NoPivotPair self.old.slots r c) }
         ensures overflow { (pair : Pair) → result ≡ Err (DictFault.Overflow pair) → PivotPair self.old.slots r c pair.operation pair.left pair.right × IsRefused pair }
-        ensures err { OnErr result (self.new ≡ self.old) }
+        ensures saved { self.new.saved ≡ self.old.saved }
+        ensures room { self.old.room ≤ self.new.room }
+        ensures err { OnErr result (self.new.slots ≡ self.old.slots) }
     {
-        let changes = exchange(self.alloc, &self.slots, r, c)?;
-        write(&mut self.slots, changes);
+        let changes = exchange(self.alloc, self.slots(), r, c)?;
+        self.write(changes)?;
         Ok(())
     }
 
@@ -242,10 +295,12 @@ impl Dict {
 
         ensures accepted { OnOk result (NoPivotPair self.old.slots r c) }
         ensures overflow { (pair : Pair) → result ≡ Err (DictFault.Overflow pair) → PivotPair self.old.slots r c pair.operation pair.left pair.right × IsRefused pair }
-        ensures err { OnErr result (self.new ≡ self.old) }
+        ensures saved { self.new.saved ≡ self.old.saved }
+        ensures room { self.old.room ≤ self.new.room }
+        ensures err { OnErr result (self.new.slots ≡ self.old.slots) }
     {
-        let changes = eliminate(self.alloc, &self.slots, r, c)?;
-        write(&mut self.slots, changes);
+        let changes = eliminate(self.alloc, self.slots(), r, c)?;
+        self.write(changes)?;
         Ok(())
     }
 
@@ -256,10 +311,12 @@ impl Dict {
         ensures kinds { OnOk result (ChangesKind self.old.slots c Dropped self.new.slots) }
         ensures flags { self.new.restricted ≡ self.old.restricted }
         ensures table { IsTable self.new.slots }
-        ensures err { OnErr result (self.new ≡ self.old) }
+        ensures saved { self.new.saved ≡ self.old.saved }
+        ensures room { self.old.room ≤ self.new.room }
+        ensures err { OnErr result (self.new.slots ≡ self.old.slots) }
     {
-        let changes = Turn::Dropping.changes(self.alloc, &self.slots, c)?;
-        write(&mut self.slots, changes);
+        let changes = Turn::Dropping.changes(self.alloc, self.slots(), c)?;
+        self.write(changes)?;
         Ok(())
     }
 
@@ -270,20 +327,52 @@ impl Dict {
         ensures kinds { OnOk result (ChangesKind self.old.slots c Live self.new.slots) }
         ensures flags { self.new.restricted ≡ self.old.restricted }
         ensures table { IsTable self.new.slots }
-        ensures err { OnErr result (self.new ≡ self.old) }
+        ensures saved { self.new.saved ≡ self.old.saved }
+        ensures room { self.old.room ≤ self.new.room }
+        ensures err { OnErr result (self.new.slots ≡ self.old.slots) }
     {
-        let changes = Turn::Restoring.changes(self.alloc, &self.slots, c)?;
-        write(&mut self.slots, changes);
+        let changes = Turn::Restoring.changes(self.alloc, self.slots(), c)?;
+        self.write(changes)?;
+        Ok(())
+    }
+}
+
+impl Undo for Dict {
+    ghost use Rattle.cq_dict.specs.Table.{Quantities};
+    ghost use Rattle.cq_dict.specs.DictValue.{quantities_of};
+
+    ghost Value = { Quantities };
+
+    ghost now = { quantities_of };
+
+    ghost saved = { λ d. d.saved };
+
+    ghost room = { λ d. d.room };
+
+    fn mark(&mut self) -> Result<Mark, AllocError> {
+        self.reserve(1)?;
+        let m = self.slots.mark().unwrap();
+        self.restricted.mark().unwrap();
+        Ok(m)
+    }
+
+    fn undo(&mut self, m: Mark) {
+        self.slots.undo(m);
+        self.restricted.undo(m);
+    }
+
+    fn forget(&mut self, m: Mark) {
+        self.slots.forget(m);
+        self.restricted.forget(m);
+    }
+
+    fn reserve(&mut self, n: usize) -> Result<(), AllocError> {
+        self.slots.reserve(n)?;
+        self.restricted.reserve(n)?;
         Ok(())
     }
 
-    /// Gives back the quantities from a number on. The rows that stay have no entry of them.
-    pub fn cut(&mut self, count: usize)
-        requires { IsTable (take count self.old.slots) }
-        ensures slots { self.new.slots ≡ take count self.old.slots }
-        ensures flags { self.new.restricted ≡ take count self.old.restricted }
-    {
-        self.slots.truncate(count);
-        self.restricted.truncate(count);
+    fn spare(&self) -> usize {
+        self.slots.spare().min(self.restricted.spare())
     }
 }

@@ -1,10 +1,12 @@
 //! The slots of a dictionary, and the writing of new ones.
 
-ghost use Rattle.std.specs.Prelude.{◌≡◌, ◌<◌, length, slice_set};
+ghost use Rattle.std.specs.Prelude.{◌≡◌, ◌<◌, ◌≤◌, length, OnOk, OnErr};
 ghost use Rattle.cq_dict.specs.declared.table.Change.{Change};
 ghost use Rattle.cq_dict.specs.Changes.{Changes, IsWritten};
 
 use cq_row::rows::Row;
+use cq_trail::Trail;
+use std::alloc::AllocError;
 
 /// What a quantity is: a live or a dropped column, or a row over columns.
 #[derive(Debug, Drop)]
@@ -21,19 +23,17 @@ pub struct Change {
     pub slot: Slot,
 }
 
-fn set(slots: &mut [Slot], change: Change)
-    requires { change.at < length slots.old }
-    ensures { slots.new ≡ slice_set slots.old change.at change.slot }
+/// Writes the new slots, all or none; all others stay where they are.
+pub fn write(slots: &mut Trail<Slot>, mut changes: Vec<Change>) -> Result<(), AllocError>
+    requires { (c : Change) → Changes c changes.items → c.at < length slots.old.now }
+    ensures written { OnOk result (IsWritten slots.old.now changes.items slots.new.now) }
+    ensures saved { slots.new.saved ≡ slots.old.saved }
+    ensures room { slots.old.room ≤ slots.new.room }
+    ensures err { OnErr result (slots.new.now ≡ slots.old.now) }
 {
-    slots[change.at] = change.slot;
-}
-
-/// Writes the new slots; all others stay where they are.
-pub fn write(slots: &mut [Slot], mut changes: Vec<Change>)
-    requires { (c : Change) → Changes c changes.items → c.at < length slots.old }
-    ensures { IsWritten slots.old changes.items slots.new }
-{
-    while let Some(change) = changes.pop() {
-        set(slots, change);
+    slots.reserve_saves(changes.len())?;
+    while let Some(Change { at, slot }) = changes.pop() {
+        slots.set(at, slot).unwrap();
     }
+    Ok(())
 }

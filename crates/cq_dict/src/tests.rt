@@ -1,6 +1,6 @@
-// Two equations solved by exchanges, a row eliminated, columns dropped, restored and given back, and faults at the ends of
-// the range: by hand.
-ghost use Rattle.std.specs.Prelude.{◌<◌, length};
+// Two equations solved by exchanges, a row eliminated, columns dropped and restored, changes undone, and faults at the ends
+// of the range: by hand.
+ghost use Rattle.std.specs.Prelude.{◌≡◌, ◌<◌, length};
 ghost use Rattle.std.specs.Bool.{OnTrue};
 ghost use Rattle.cq_row.specs.declared.Entry.{Entry};
 ghost use Rattle.cq_row.specs.Rows.{Has};
@@ -8,6 +8,7 @@ ghost use Rattle.cq_row.specs.Rows.{Has};
 use crate::dict::{Dict, DictFault};
 use cq_frac::{Frac, Operation};
 use cq_row::{Entry, entry_at};
+use cq_trail::Undo;
 use std::alloc::Global;
 use std::test::Fail;
 
@@ -24,7 +25,9 @@ fn within(form: &[Entry], count: usize) -> bool
     true
 }
 
-fn add(dict: &mut Dict, form: &[Entry], constant: Frac) -> Result<usize, DictFault> {
+fn add(dict: &mut Dict, form: &[Entry], constant: Frac) -> Result<usize, DictFault>
+    ensures { dict.new.saved ≡ dict.old.saved }
+{
     if within(form, dict.count()) {
         return dict.add_row(form, constant, false);
     }
@@ -32,7 +35,9 @@ fn add(dict: &mut Dict, form: &[Entry], constant: Frac) -> Result<usize, DictFau
 }
 
 /// Exchanges the two, where the row has an entry in the column.
-fn exchange(dict: &mut Dict, r: usize, c: usize) -> Result<(), DictFault> {
+fn exchange(dict: &mut Dict, r: usize, c: usize) -> Result<(), DictFault>
+    ensures { dict.new.saved ≡ dict.old.saved }
+{
     if r < dict.count() && dict.is_row(r) {
         if let Some(_) = entry_at(dict.row(r), c) {
             return dict.pivot(r, c);
@@ -51,16 +56,10 @@ fn eliminate(dict: &mut Dict, r: usize, c: usize) -> Result<(), DictFault> {
     Err(DictFault::NoMemory)
 }
 
-/// Makes a column and gives it back.
-fn undone(dict: &mut Dict) -> Result<(), DictFault> {
-    let count = dict.count();
-    dict.add_column(true)?;
-    dict.cut(count);
-    Ok(())
-}
-
 /// Drops a live column, or restores a dropped one.
-fn turn(dict: &mut Dict, c: usize) -> Result<(), DictFault> {
+fn turn(dict: &mut Dict, c: usize) -> Result<(), DictFault>
+    ensures { dict.new.saved ≡ dict.old.saved }
+{
     if c < dict.count() && !dict.is_row(c) {
         if dict.is_dropped(c) {
             dict.restore_column(c)?;
@@ -70,6 +69,19 @@ fn turn(dict: &mut Dict, c: usize) -> Result<(), DictFault> {
         return Ok(());
     }
     Err(DictFault::NoMemory)
+}
+
+fn restrict(dict: &mut Dict, q: usize) -> Result<(), DictFault>
+    ensures { dict.new.saved ≡ dict.old.saved }
+{
+    if q < dict.count() {
+        dict.restrict(q)?;
+    }
+    Ok(())
+}
+
+fn is_restricted(dict: &Dict, q: usize) -> bool {
+    q < dict.count() && dict.is_restricted(q)
 }
 
 fn entry(quantity: usize, factor: Frac) -> Entry {
@@ -167,12 +179,47 @@ fn an_eliminated_row_is_a_dropped_column_of_all_rows(rt: HostRuntime) -> Result<
     Ok(())
 }
 
+/// Changes the solved dictionary in every way.
+fn change(dict: &mut Dict) -> Result<(), DictFault>
+    ensures { dict.new.saved ≡ dict.old.saved }
+{
+    turn(dict, 2)?;
+    exchange(dict, 0, 2)?;
+    turn(dict, 0)?;
+    restrict(dict, 0)?;
+    add(dict, &[entry(1, Frac::from(2))], Frac::one())?;
+    dict.add_column(true)?;
+    Ok(())
+}
+
+/// Changes it between marks, of which the inner one is forgotten, and undoes the changes.
+fn change_and_undo(dict: &mut Dict) -> Result<(), DictFault> {
+    dict.reserve(2)?;
+    let outer = dict.mark()?;
+    turn(dict, 3)?;
+    let inner = dict.mark()?;
+    change(dict)?;
+    dict.forget(inner);
+    dict.undo(outer);
+    Ok(())
+}
+
 #[test]
-fn a_column_that_is_given_back_leaves_the_others(rt: HostRuntime) -> Result<(), Fail> {
+fn undo_gives_back_each_row_constant_and_flag(rt: HostRuntime) -> Result<(), Fail> {
     let mut dict = solved(rt.alloc())?;
-    undone(&mut dict)?;
+    let half = Frac::new(1, 2)?;
+    restrict(&mut dict, 1)?;
+    change_and_undo(&mut dict)?;
     assert_eq!(rt; dict.count(), 4);
     assert_eq!(rt; constant(&dict, 0), Some(Frac::from(2)));
+    assert_eq!(rt; constant(&dict, 1), Some(Frac::from(1)));
+    assert_eq!(rt; factor(&dict, 0, 2, false), Some(half));
+    assert_eq!(rt; factor(&dict, 0, 3, false), Some(half));
+    assert_eq!(rt; factor(&dict, 1, 2, false), Some(half));
+    assert_eq!(rt; factor(&dict, 1, 3, false), Some(half.neg()));
+    assert!(rt; !is_restricted(&dict, 0));
+    assert!(rt; is_restricted(&dict, 1));
+    assert!(rt; dict.spare() >= 2);
     assert_eq!(rt; dict.add_column(false)?, 4);
     Ok(())
 }

@@ -26,9 +26,9 @@ at_mark log xs p = take p.items (restore (drop p.log (old_values log)) xs)
 abbrev pub saved_since : {T : Type 0} → List (Entry T) → Place → List ℕ
 saved_since log p = drop p.log (places log)
 
-abbrev pub trail_value : {T : Type 0} → List T → List (Entry T) → List Place → ℕ → ℕ → TrailValue T
-trail_value xs log marks room ready =
-    record { now = xs; saved = map (at_mark log xs) marks; changed = map (saved_since log) marks; room = room; ready = ready }
+abbrev pub trail_value : {T : Type 0} → List T → List (Entry T) → List Place → ℕ → ℕ → ℕ → TrailValue T
+trail_value xs log marks room ready saves =
+    record { now = xs; saved = map (at_mark log xs) marks; changed = map (saved_since log) marks; room = room; ready = ready; saves = saves }
 
 -- the newest mark is after the place was made or last saved
 abbrev pub NeedsNoSaving : List Place → ℕ → ℕ → Type 0

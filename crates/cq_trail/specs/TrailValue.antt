@@ -2,13 +2,15 @@
 use Rattle.std.specs.Prelude.{ℕ, ◌≡◌, ◌-◌, ◌⊎◌, List, [], ◌∷◌, ◌++◌, map, length, Contains, slice_index_or}
 
 -- a list; the lists that it was at the live marks, the oldest first; for each of these marks the places whose values
--- were put aside since it; and how many marks, and how many new places, find their memory set aside
+-- were put aside since it; and how many marks, how many new places, and how many changes of places find their
+-- memory set aside
 pub record TrailValue (T : Type 0) : Type 0 where
   pub now : List T
   pub saved : List (List T)
   pub changed : List (List ℕ)
   pub room : ℕ
   pub ready : ℕ
+  pub saves : ℕ
 
 -- the places put aside since the newest mark
 abbrev pub newest : List (List ℕ) → List ℕ

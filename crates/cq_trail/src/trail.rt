@@ -48,7 +48,7 @@ impl<T> Model for Trail<T> {
     ghost use Rattle.cq_trail.specs.Log.{trail_value, IsTrail};
 
     ghost view = { λ t. trail_value t.items.items t.log.items t.marks.items (vec_capacity t.marks - vec_len t.marks)
-        (min (vec_capacity t.items - vec_len t.items) (vec_capacity t.stamps - vec_len t.stamps)) };
+        (min (vec_capacity t.items - vec_len t.items) (vec_capacity t.stamps - vec_len t.stamps)) (vec_capacity t.log - vec_len t.log) };
 
     ghost invariant = { λ t. IsTrail t.items.items t.stamps.items t.log.items t.marks.items };
 }
@@ -86,6 +86,13 @@ impl<T: Drop> Trail<T> {
         &self.items[at]
     }
 
+    /// All values, by place.
+    pub fn as_slice(&self) -> &[T]
+        ensures { result.now ≡ self.now.now }
+    {
+        &self.items
+    }
+
     /// Adds a value at the end.
     pub fn push(&mut self, value: T) -> Result<(), AllocError>
         ensures ok { OnOk result (self.new.now ≡ self.old.now ++ value ∷ []) }
@@ -116,12 +123,28 @@ impl<T: Drop> Trail<T> {
         Ok(())
     }
 
+    /// Sets memory aside for `n` changes of places, so that several places can change together or not at all.
+    pub fn reserve_saves(&mut self, n: usize) -> Result<(), AllocError>
+        ensures ok { OnOk result (n ≤ self.new.saves) }
+        ensures saves { self.old.saves ≤ self.new.saves }
+        ensures ready { self.new.ready ≡ self.old.ready }
+        ensures now { self.new.now ≡ self.old.now }
+        ensures saved { self.new.saved ≡ self.old.saved }
+        ensures changed { self.new.changed ≡ self.old.changed }
+        ensures room { self.old.room ≤ self.new.room }
+    {
+        self.log.reserve(n)?;
+        Ok(())
+    }
+
     /// Replaces the value of a place.
     pub fn set(&mut self, at: usize, value: T) -> Result<(), AllocError>
         requires { at < length self.old.now }
         ensures ok { OnOk result (self.new.now ≡ slice_set self.old.now at value) }
         ensures saved { self.new.saved ≡ self.old.saved }
         ensures once { OnOk result (SavesOnce self.old.changed self.new.changed at) }
+        ensures prepared { 0 < self.old.saves → IsOk result }
+        ensures saves { self.old.saves ≤ self.new.saves + 1 }
         ensures room { self.old.room ≤ self.new.room }
         ensures err { OnErr result (self.new ≡ self.old) }
     {

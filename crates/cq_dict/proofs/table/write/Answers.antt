@@ -1,17 +1,25 @@
-use Rattle.std.proofs.Common.{◌≡◌, length, arith}
-use Rattle.cq_dict.proofs.Written.{writing_start, next_within, writing_more, writing_end}
+use Rattle.std.proofs.Common.{◌≤◌, length, arith, subst, sym}
+use Rattle.cq_dict.proofs.Written.{Writing, writing_start, next_within, writing_more}
 use Rattle.cq_dict.proofs.table.write.Goals as goal
 
-pub loop-change-init : goal.loop-change-init
-loop-change-init c = writing_start c.args.slots.now c.args.changes.items c.requires
+pub loop-at-init : goal.loop-at-init
+loop-at-init c = record {
+  writing = subst (Writing c.args.slots.now.now c.args.changes.items c.args.changes.items) (sym c.reserve_saves.ensures.now) (writing_start c.args.slots.now.now c.args.changes.items c.requires);
+  prepared = omega (arith, c.in_ok-reserve_saves.ensures.ok, c.len.ensures);
+  saved = c.reserve_saves.ensures.saved;
+  room = c.reserve_saves.ensures.room;
+}
 
 pub set-requires : goal.set-requires
-set-requires c = next_within c.args.slots.now c.args.changes.items _ c.loop-change.slots c.loop-change.invariant c.in-Some.change _ c.in-Some.ensures.items
+set-requires c = next_within c.args.slots.now.now c.args.changes.items _ c.loop-at.slots.now c.loop-at.invariant.writing c.in-Some.field-0 _ c.in-Some.ensures.items
 
-pub loop-change-preserved : goal.loop-change-preserved
-loop-change-preserved c = writing_more c.args.slots.now c.args.changes.items _ c.loop-change.slots c.loop-change.invariant c.in-Some.change _ c.set.new.slots c.in-Some.ensures.items c.set.ensures
-
-pub returns : goal.returns
-returns c =
-    let e : length c.loop-change.changes.items ≡ 0 = omega (arith, c.in_default.ensures.cases.0, c.in_default.ensures.len) in
-    writing_end c.args.slots.now c.args.changes.items _ c.loop-change.slots c.loop-change.invariant e
+pub loop-at-preserved : goal.loop-at-preserved
+loop-at-preserved c =
+    let set = rw c.unwrap.ensures at c.set.ensures.ok in
+    let n : length c.loop-at.changes.items ≤ c.loop-at.slots.saves = c.loop-at.invariant.prepared in
+    record {
+      writing = writing_more c.args.slots.now.now c.args.changes.items _ c.loop-at.slots.now c.loop-at.invariant.writing c.in-Some.field-0 _ _ c.in-Some.ensures.items set;
+      prepared = omega (arith, n, c.set.ensures.saves, c.in-Some.ensures.len);
+      saved = cc;
+      room = omega (arith, c.loop-at.invariant.room, c.set.ensures.room);
+    }
