@@ -1,5 +1,7 @@
 // Tables of texts with their tokens or faults, worked out by hand from the rules.
-use super::{Kind, LexFault, next_token};
+use super::{Kind, LexFault, next_token, quoted_text};
+use std::alloc::{AllocError, Global};
+use std::fmt::Write;
 use std::test::Fail;
 
 type Row = (&'static [u8], usize, Result<(Kind, usize, usize), LexFault>);
@@ -398,6 +400,362 @@ fn numerals_have_their_values(rt: HostRuntime) -> Result<(), Fail> {
     ];
     for (text, want) in rows {
         assert_eq!(rt; number(text), want, "at {text:?}");
+    }
+    Ok(())
+}
+
+/// The tokens of a text by their kinds and ends, up to the first fault.
+fn listing(alloc: Global, text: &[u8]) -> Result<String, Fail> {
+    let mut out = String::new(alloc);
+    let mut at = 0;
+    for _ in 0..text.len() {
+        if at > text.len() {
+            break;
+        }
+        match next_token(text, at) {
+            Ok(token) => {
+                if token.kind == Kind::Eof {
+                    break;
+                }
+                let span = token.span;
+                write!(out, "{:?} {}-{}, ", token.kind, span.start, span.end)?;
+                at = span.end;
+            }
+            Err(fault) => {
+                write!(out, "{fault}")?;
+                break;
+            }
+        }
+    }
+    Ok(out)
+}
+
+#[test]
+fn terms_are_cut_into_tokens(rt: HostRuntime) -> Result<(), Fail> {
+    let rows: [(&'static [u8], &'static str); 57] = [
+        (
+            b"-(1) .",
+            "Name 0-1, Punctuation 1-2, Numeral 2-3, Punctuation 3-4, End 5-6, ",
+        ),
+        (b"- 1 .", "Name 0-1, Numeral 2-3, End 4-5, "),
+        (b"-1 .", "Name 0-1, Numeral 1-2, End 3-4, "),
+        (
+            b"-(1)^2 .",
+            "Name 0-1, Punctuation 1-2, Numeral 2-3, Punctuation 3-4, Name 4-5, Numeral 5-6, End 7-8, ",
+        ),
+        (
+            b"- (1)^2 .",
+            "Name 0-1, Punctuation 2-3, Numeral 3-4, Punctuation 4-5, Name 5-6, Numeral 6-7, End 8-9, ",
+        ),
+        (
+            b"-1^2 .",
+            "Name 0-1, Numeral 1-2, Name 2-3, Numeral 3-4, End 5-6, ",
+        ),
+        (b"a- 1 .", "Name 0-1, Name 1-2, Numeral 3-4, End 5-6, "),
+        (b"a -1 .", "Name 0-1, Name 2-3, Numeral 3-4, End 5-6, "),
+        (
+            b"1 - -1 .",
+            "Numeral 0-1, Name 2-3, Name 4-5, Numeral 5-6, End 7-8, ",
+        ),
+        (b"- = a .", "Name 0-1, Name 2-3, Name 4-5, End 6-7, "),
+        (
+            b"- =(a,b) .",
+            "Name 0-1, Name 2-3, Punctuation 3-4, Name 4-5, Punctuation 5-6, Name 6-7, Punctuation 7-8, End 9-10, ",
+        ),
+        (b"- '=' .", "Name 0-1, Quoted 2-5, End 6-7, "),
+        (b"- '=' a .", "Name 0-1, Quoted 2-5, Name 6-7, End 8-9, "),
+        (b"\\+ - .", "Name 0-2, Name 3-4, End 5-6, "),
+        (b"- - .", "Name 0-1, Name 2-3, End 4-5, "),
+        (b"- + 1 .", "Name 0-1, Name 2-3, Numeral 4-5, End 6-7, "),
+        (b"\\ -1 .", "Name 0-1, Name 2-3, Numeral 3-4, End 5-6, "),
+        (
+            b"X = \\+ a.",
+            "Variable 0-1, Name 2-3, Name 4-6, Name 7-8, End 8-9, ",
+        ),
+        (b"X = \\+ .", "Variable 0-1, Name 2-3, Name 4-6, End 7-8, "),
+        (
+            b"f(:- a).",
+            "Name 0-1, Punctuation 1-2, Name 2-4, Name 5-6, Punctuation 6-7, End 7-8, ",
+        ),
+        (
+            b"f(:-) .",
+            "Name 0-1, Punctuation 1-2, Name 2-4, Punctuation 4-5, End 6-7, ",
+        ),
+        (
+            b"[-|T] .",
+            "Punctuation 0-1, Name 1-2, Punctuation 2-3, Variable 3-4, Punctuation 4-5, End 6-7, ",
+        ),
+        (
+            b"{-} .",
+            "Punctuation 0-1, Name 1-2, Punctuation 2-3, End 4-5, ",
+        ),
+        (b"a ',' b .", "Name 0-1, Quoted 2-5, Name 6-7, End 8-9, "),
+        (
+            b"f(a|b).",
+            "Name 0-1, Punctuation 1-2, Name 2-3, Punctuation 3-4, Name 4-5, Punctuation 5-6, End 6-7, ",
+        ),
+        (
+            b"a:-b:-c.",
+            "Name 0-1, Name 1-3, Name 3-4, Name 4-6, Name 6-7, End 7-8, ",
+        ),
+        (
+            b"a = b = c.",
+            "Name 0-1, Name 2-3, Name 4-5, Name 6-7, Name 8-9, End 9-10, ",
+        ),
+        (
+            b"X=(a,b) .",
+            "Variable 0-1, Name 1-2, Punctuation 2-3, Name 3-4, Punctuation 4-5, Name 5-6, Punctuation 6-7, End 8-9, ",
+        ),
+        (
+            b"dynamic = a .",
+            "Name 0-7, Name 8-9, Name 10-11, End 12-13, ",
+        ),
+        (
+            b":- dynamic p/1.",
+            "Name 0-2, Name 3-10, Name 11-12, Name 12-13, Numeral 13-14, End 14-15, ",
+        ),
+        (b"?- a b.", "Name 0-2, Name 3-4, Name 5-6, End 6-7, "),
+        (
+            b"f().",
+            "Name 0-1, Punctuation 1-2, Punctuation 2-3, End 3-4, ",
+        ),
+        (
+            b"[a,].",
+            "Punctuation 0-1, Name 1-2, Punctuation 2-3, Punctuation 3-4, End 4-5, ",
+        ),
+        (
+            b"?- X = 1.5.",
+            "Name 0-2, Variable 3-4, Name 5-6, no token can have the byte at 8",
+        ),
+        (
+            b"?- {X=-1}.",
+            "Name 0-2, Punctuation 3-4, Variable 4-5, Name 5-7, Numeral 7-8, Punctuation 8-9, End 9-10, ",
+        ),
+        (b"a - 1 .", "Name 0-1, Name 2-3, Numeral 4-5, End 6-7, "),
+        (b"a-1 .", "Name 0-1, Name 1-2, Numeral 2-3, End 4-5, "),
+        (
+            b"f(-1) .",
+            "Name 0-1, Punctuation 1-2, Name 2-3, Numeral 3-4, Punctuation 4-5, End 6-7, ",
+        ),
+        (
+            b"[-1] .",
+            "Punctuation 0-1, Name 1-2, Numeral 2-3, Punctuation 3-4, End 5-6, ",
+        ),
+        (
+            b"a - -1 .",
+            "Name 0-1, Name 2-3, Name 4-5, Numeral 5-6, End 7-8, ",
+        ),
+        (b"- -1 .", "Name 0-1, Name 2-3, Numeral 3-4, End 5-6, "),
+        (b"- - 1 .", "Name 0-1, Name 2-3, Numeral 4-5, End 6-7, "),
+        (b"'-'1 .", "Quoted 0-3, Numeral 3-4, End 5-6, "),
+        (b"--1 .", "Name 0-2, Numeral 2-3, End 4-5, "),
+        (
+            b"{X= -1} .",
+            "Punctuation 0-1, Variable 1-2, Name 2-3, Name 4-5, Numeral 5-6, Punctuation 6-7, End 8-9, ",
+        ),
+        (
+            b"0''x'",
+            "Numeral 0-1, Quoted 1-3, Name 3-4, the quotes are still open at 5",
+        ),
+        (b"'a' 'b'", "Quoted 0-3, Quoted 4-7, "),
+        (
+            b"-170141183460469231731687303715884105727 .",
+            "Name 0-1, Numeral 1-40, End 41-42, ",
+        ),
+        (b"[ ] .", "Punctuation 0-1, Punctuation 2-3, End 4-5, "),
+        (b"{} .", "Punctuation 0-1, Punctuation 1-2, End 3-4, "),
+        (
+            b"[](a) .",
+            "Punctuation 0-1, Punctuation 1-2, Punctuation 2-3, Name 3-4, Punctuation 4-5, End 6-7, ",
+        ),
+        (
+            b"'[]'(a) .",
+            "Quoted 0-4, Punctuation 4-5, Name 5-6, Punctuation 6-7, End 8-9, ",
+        ),
+        (
+            b"\"\" [97,98] .",
+            "Codes 0-2, Punctuation 3-4, Numeral 4-6, Punctuation 6-7, Numeral 7-9, Punctuation 9-10, End 11-12, ",
+        ),
+        (
+            b"f (a) .",
+            "Name 0-1, Punctuation 2-3, Name 3-4, Punctuation 4-5, End 6-7, ",
+        ),
+        (
+            b"a b 'x",
+            "Name 0-1, Name 2-3, the quotes are still open at 6",
+        ),
+        (b"a /* b", "Name 0-1, the comment is still open at 6"),
+        (
+            b"X=1r0",
+            "Variable 0-1, Name 1-2, the numeral at 2 is too large, or is divided by zero",
+        ),
+    ];
+    for (text, want) in rows {
+        let found = listing(rt.alloc(), text)?;
+        assert_eq!(rt; found.as_str(), want, "at {text:?}");
+    }
+    Ok(())
+}
+
+#[test]
+fn written_terms_are_cut_into_tokens(rt: HostRuntime) -> Result<(), Fail> {
+    let rows: [(&'static [u8], &'static str); 28] = [
+        (b"- 1^2", "Name 0-1, Numeral 2-3, Name 3-4, Numeral 4-5, "),
+        (
+            b"-(-1)",
+            "Name 0-1, Punctuation 1-2, Name 2-3, Numeral 3-4, Punctuation 4-5, ",
+        ),
+        (
+            b"-(1r2)",
+            "Name 0-1, Punctuation 1-2, Numeral 2-5, Punctuation 5-6, ",
+        ),
+        (
+            b"- -(1)",
+            "Name 0-1, Name 2-3, Punctuation 3-4, Numeral 4-5, Punctuation 5-6, ",
+        ),
+        (
+            b"- (-)",
+            "Name 0-1, Punctuation 2-3, Name 3-4, Punctuation 4-5, ",
+        ),
+        (
+            b"(-)=a",
+            "Punctuation 0-1, Name 1-2, Punctuation 2-3, Name 3-4, Name 4-5, ",
+        ),
+        (
+            b"1-(-1)",
+            "Numeral 0-1, Name 1-2, Punctuation 2-3, Name 3-4, Numeral 4-5, Punctuation 5-6, ",
+        ),
+        (
+            b"(-1)^2",
+            "Punctuation 0-1, Name 1-2, Numeral 2-3, Punctuation 3-4, Name 4-5, Numeral 5-6, ",
+        ),
+        (
+            b"(-(1))^2",
+            "Punctuation 0-1, Name 1-2, Punctuation 2-3, Numeral 3-4, Punctuation 4-5, Punctuation 5-6, Name 6-7, Numeral 7-8, ",
+        ),
+        (b"a= -b", "Name 0-1, Name 1-2, Name 3-4, Name 4-5, "),
+        (
+            b"a=(-1)",
+            "Name 0-1, Name 1-2, Punctuation 2-3, Name 3-4, Numeral 4-5, Punctuation 5-6, ",
+        ),
+        (
+            b"a=(\\+b)",
+            "Name 0-1, Name 1-2, Punctuation 2-3, Name 3-5, Name 5-6, Punctuation 6-7, ",
+        ),
+        (
+            b"1-(2-3)",
+            "Numeral 0-1, Name 1-2, Punctuation 2-3, Numeral 3-4, Name 4-5, Numeral 5-6, Punctuation 6-7, ",
+        ),
+        (
+            b"1-2-3",
+            "Numeral 0-1, Name 1-2, Numeral 2-3, Name 3-4, Numeral 4-5, ",
+        ),
+        (
+            b"a:-b,c",
+            "Name 0-1, Name 1-3, Name 3-4, Punctuation 4-5, Name 5-6, ",
+        ),
+        (
+            b"(a:-b):-c",
+            "Punctuation 0-1, Name 1-2, Name 2-4, Name 4-5, Punctuation 5-6, Name 6-8, Name 8-9, ",
+        ),
+        (
+            b"\\+ (a,b)",
+            "Name 0-2, Punctuation 3-4, Name 4-5, Punctuation 5-6, Name 6-7, Punctuation 7-8, ",
+        ),
+        (
+            b"f((a,b))",
+            "Name 0-1, Punctuation 1-2, Punctuation 2-3, Name 3-4, Punctuation 4-5, Name 5-6, Punctuation 6-7, Punctuation 7-8, ",
+        ),
+        (
+            b"[(a:-b)]",
+            "Punctuation 0-1, Punctuation 1-2, Name 2-3, Name 3-5, Name 5-6, Punctuation 6-7, Punctuation 7-8, ",
+        ),
+        (b"-a", "Name 0-1, Name 1-2, "),
+        (b"-_1", "Name 0-1, Variable 1-3, "),
+        (b"dynamic a", "Name 0-7, Name 8-9, "),
+        (
+            b"dynamic[a]",
+            "Name 0-7, Punctuation 7-8, Name 8-9, Punctuation 9-10, ",
+        ),
+        (
+            b"(dynamic)/1",
+            "Punctuation 0-1, Name 1-8, Punctuation 8-9, Name 9-10, Numeral 10-11, ",
+        ),
+        (
+            b"(',')/2",
+            "Punctuation 0-1, Quoted 1-4, Punctuation 4-5, Name 5-6, Numeral 6-7, ",
+        ),
+        (b"{a}", "Punctuation 0-1, Name 1-2, Punctuation 2-3, "),
+        (
+            b"f(+,-)",
+            "Name 0-1, Punctuation 1-2, Name 2-3, Punctuation 3-4, Name 4-5, Punctuation 5-6, ",
+        ),
+        (
+            b"_1 is 7 mod (-2)",
+            "Variable 0-2, Name 3-5, Numeral 6-7, Name 8-11, Punctuation 12-13, Name 13-14, Numeral 14-15, Punctuation 15-16, ",
+        ),
+    ];
+    for (text, want) in rows {
+        let found = listing(rt.alloc(), text)?;
+        assert_eq!(rt; found.as_str(), want, "at {text:?}");
+    }
+    Ok(())
+}
+
+/// What the quotes at the front of a text mean, if it begins with a token in quotes.
+fn meaning(alloc: Global, text: &[u8]) -> Result<Option<String>, AllocError> {
+    match next_token(text, 0) {
+        Ok(token) => match token.kind {
+            Kind::Quoted => Ok(Some(quoted_text(alloc, text, token.span)?)),
+            Kind::Codes => Ok(Some(quoted_text(alloc, text, token.span)?)),
+            _ => Ok(None),
+        },
+        Err(_) => Ok(None),
+    }
+}
+
+#[test]
+fn quotes_mean_their_characters(rt: HostRuntime) -> Result<(), Fail> {
+    let rows: [(&'static [u8], Option<&'static str>); 35] = [
+        (b"''", Some("")),
+        (b"'hello world'", Some("hello world")),
+        (b"\"\"", Some("")),
+        (b"\"ab\"", Some("ab")),
+        (b"'don''t'", Some("don't")),
+        (b"''''", Some("'")),
+        (b"\"a\"\"b\"", Some("a\"b")),
+        (b"'a\"b'", Some("a\"b")),
+        (b"\"it's\"", Some("it's")),
+        (b"'\\\\'", Some("\\")),
+        (b"'\\''", Some("'")),
+        (b"'\\\"'", Some("\"")),
+        (b"'\\`'", Some("`")),
+        (b"'\\a'", Some("\u{7}")),
+        (b"'\\b'", Some("\u{8}")),
+        (b"'\\f'", Some("\u{c}")),
+        (b"'\\n'", Some("\n")),
+        (b"'\\r'", Some("\u{d}")),
+        (b"'\\t'", Some("\t")),
+        (b"'\\v'", Some("\u{b}")),
+        (b"'\\x41\\'", Some("A")),
+        (b"'\\xe9\\'", Some("\u{e9}")),
+        (b"'\\x1F600\\b'", Some("\u{1f600}b")),
+        (b"'\\x10FFFF\\'", Some("\u{10ffff}")),
+        (b"'\\101\\'", Some("A")),
+        (b"'\\0\\'", Some("\u{0}")),
+        (b"'\\4177777\\'", Some("\u{10ffff}")),
+        (b"'a\\\nb'", Some("ab")),
+        (b"\"a\\\n\"", Some("a")),
+        (b"'a\tb'", Some("a\tb")),
+        (b"'\xc3\xa9\xe6\x97\xa5'", Some("\u{e9}\u{65e5}")),
+        (b"'a' 'b'", Some("a")),
+        (b"a", None),
+        (b"'a", None),
+        (b"1", None),
+    ];
+    for (text, want) in rows {
+        let found = meaning(rt.alloc(), text)?;
+        assert_eq!(rt; found.as_deref(), want, "at {text:?}");
     }
     Ok(())
 }

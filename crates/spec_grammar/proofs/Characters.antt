@@ -6,7 +6,7 @@ use Rattle.std.proofs.lemmas.Bool.Decides.{nat_tests}
 use Rattle.spec_grammar.specs.Characters.{first_char}
 
 -- a character of which bytes are missing is none
-short_chars : (n c : ℕ) (bs : List ℕ) → length bs < n → chars_after n c bs ≡ []
+pub short_chars : (n c : ℕ) (bs : List ℕ) → length bs < n → chars_after n c bs ≡ []
 short_chars zero c bs h = absurd (omega arith)
 short_chars (suc n) c [] h = refl
 short_chars (suc n) c (b ∷ bs) h = short_chars n (c * 64 + (b - 128)) bs (omega arith)

@@ -4,3 +4,8 @@ pub mod Bounds
 mod Sizes
 pub mod Tiles
 mod Again
+mod Kept
+mod KeptQuotes
+mod KeptNumerals
+mod KeptTokens
+mod Settled

@@ -24,7 +24,7 @@ pub record Begins (len at : ℕ) (t : Token) : Type 0 where
   pub within : t.span.end ≤ at + len
   pub at_the_end : t.kind ≡ Eof → (len ≡ 0) × (t.span.end ≡ at)
 
-abbrev BeginsAt : ℕ → ℕ → Result Token LexFault → Type 0
+abbrev pub BeginsAt : ℕ → ℕ → Result Token LexFault → Type 0
 BeginsAt len at (Ok t) = Begins len at t
 BeginsAt len at (Err f) = (at ≤ place f) × (place f ≤ at + len)
 
@@ -58,7 +58,7 @@ module _ (len at : ℕ) where
 symbols_some : (b : ℕ) (bs : List ℕ) → is_symbol b ≡ true → 1 ≤ prefix_len is_symbol (b ∷ bs)
 symbols_some b bs e = rw e (omega arith)
 
-token_begins : (bs : List ℕ) (at : ℕ) → BeginsAt (length bs) at (token_at bs at)
+pub token_begins : (bs : List ℕ) (at : ℕ) → BeginsAt (length bs) at (token_at bs at)
 token_begins [] at = record { begins = refl; takes = λ k. absurd (k refl); within = omega arith; at_the_end = λ k. (refl, refl) }
 token_begins (b ∷ bs) at =
     choice len at (passes starts_name (first_char (b ∷ bs))) _ _
