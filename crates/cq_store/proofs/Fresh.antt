@@ -1,7 +1,6 @@
 -- The new variables of a form become known one by one.
-use Rattle.std.proofs.Common.{◌≡◌, ℕ, zero, suc, ◌+◌, ◌<◌, ◌≤◌, List, [], ◌∷◌, ◌++◌, length, take, get_or, slice_get, Option, None, Some, Bool, true, false, not, nat_eq, cond, arith, refl, ap, ap₂, sym, subst, ◌∙◌, ◌⊎◌, inl, inr, append-nil, append_assoc}
-use Rattle.std.specs.Prelude.{MatchOption, is_some, OnErr}
-use Rattle.std.proofs.Common.{Result, Ok, Err}
+use Rattle.std.proofs.Common.{◌≡◌, ℕ, zero, suc, ◌+◌, ◌<◌, ◌≤◌, List, [], ◌∷◌, ◌++◌, length, take, get_or, slice_get, Option, None, Some, Bool, true, false, not, nat_eq, cond, arith, refl, ap, ap₂, sym, subst, ◌∙◌, ◌⊎◌, inl, inr}
+use Rattle.std.specs.Prelude.{MatchOption, is_some}
 use Rattle.std.specs.List.{list_any}
 use Rattle.std.proofs.lemmas.List.{take_more}
 use Rattle.spec_rational.specs.Rational.{ℚ}
@@ -19,11 +18,11 @@ use Rattle.cq_dict.specs.Table.{IsAt}
 use Rattle.cq_store.proofs.Slots.{at_end}
 use Rattle.cq_store.proofs.Names.{place_below}
 use Rattle.cq_dict.specs.declared.table.Slot.TheVariants.{Live, Basic}
-use Rattle.cq_store.specs.declared.table.Name.TheVariants.{Variable, Member}
+use Rattle.cq_store.specs.declared.table.Name.TheVariants.{Variable}
 use Rattle.cq_store.specs.Describes.{placed}
 use Rattle.cq_store.specs.Contents.{Named, AreNamed, variables_of, place_of}
 use Rattle.cq_store.specs.Told.{new_variables}
-use Rattle.cq_store.specs.Entering.{Extends, AddsVariables, none_added, one_added, AddsMember}
+use Rattle.cq_store.specs.Entering.{AddsVariables, none_added, one_added, AddsMember}
 use Rattle.cq_store.proofs.Telling.{fresh, is_among, among_is, has_fresh, fresh_or_old, mentions-variables, variables-mention, added_order}
 
 -- ---- tests of options
@@ -35,10 +34,6 @@ none_of (Some x) P Q b h e t = let f : true ≡ false = e ∙ ap not t in cc
 pub some_of : {A : Type 0} (o : Option A) (P : Type 0) (Q : A → Type 0) (b : Bool) → MatchOption o P Q → is_some o ≡ not b → b ≡ false → (x : A) × Q x
 some_of None P Q b h e t = let f : false ≡ true = e ∙ ap not t in cc
 some_of (Some x) P Q b h e t = (x, h)
-
-pub on_err : {A E : Type 0} {P : Type 0} (r : Result A E) → P → OnErr r P
-on_err (Ok x) p = tt
-on_err (Err e) p = p
 
 -- ---- the products of a list of pairs
 
@@ -147,42 +142,6 @@ known_before old known f a x h =
       | inl k ↦ inr k
       | inr k ↦ inl (variables-mention x f.products (has_fresh (variables_of old.names) (variables f.products) x k).0)
     ]
-
-pub extends_self : (old : Named) → Extends old old
-extends_self old = record { more_names = []; more_slots = []; names = sym (append-nil old.names); slots = sym (append-nil old.slots) }
-
-pub extends_added : (old new : Named) (xs : List ℕ) → AddsVariables old xs new → Extends old new
-extends_added old new xs a = go a
-  where
-    go : {xs : List ℕ} {new : Named} → AddsVariables old xs new → Extends old new
-    go none_added = extends_self old
-    go (one_added xs mid a x n) =
-        let e = go a in
-        record {
-          more_names = e.more_names ++ Variable x ∷ [];
-          more_slots = e.more_slots ++ Live ∷ [];
-          names = ap (λ s. s ++ Variable x ∷ []) e.names ∙ append_assoc old.names e.more_names (Variable x ∷ []);
-          slots = ap (λ s. s ++ Live ∷ []) e.slots ∙ append_assoc old.slots e.more_slots (Live ∷ []);
-        }
-
-pub extends_member : (old known asked : Named) (f : Linear) → Extends old known → AddsMember known f asked → Extends old asked
-extends_member old known asked f e m = record {
-  more_names = e.more_names ++ Member ∷ [];
-  more_slots = e.more_slots ++ Basic m.row ∷ [];
-  names = m.names ∙ ap (λ s. s ++ Member ∷ []) e.names ∙ append_assoc old.names e.more_names (Member ∷ []);
-  slots = m.slots ∙ ap (λ s. s ++ Basic m.row ∷ []) e.slots ∙ append_assoc old.slots e.more_slots (Basic m.row ∷ []);
-}
-
-take-first : {A : Type 0} (s t : List A) → take (length s) (s ++ t) ≡ s
-take-first [] t = refl
-take-first (x ∷ s) t = ap (λ r. x ∷ r) (take-first s t)
-
--- what was there is left when the rest is given back
-pub cut_names : (old new : Named) → Extends old new → (n : ℕ) → n ≡ length old.names → take n new.names ≡ old.names
-cut_names old new e n h = ap₂ take h e.names ∙ take-first old.names e.more_names
-
-pub cut_slots : (old new : Named) → Extends old new → (n : ℕ) → n ≡ length old.slots → take n new.slots ≡ old.slots
-cut_slots old new e n h = ap₂ take h e.slots ∙ take-first old.slots e.more_slots
 
 -- ---- the row of the form
 

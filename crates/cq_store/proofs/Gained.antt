@@ -1,5 +1,5 @@
 -- The variables that an equation fixes.
-use Rattle.std.proofs.Common.{◌≡◌, ℕ, List, [], ◌∷◌, ◌++◌, length, take, Option, None, Some, Bool, true, false, cond, refl, ap, ap₂, sym, subst, ◌∙◌, ◌⊎◌, inl, inr, append-nil}
+use Rattle.std.proofs.Common.{◌≡◌, ℕ, List, [], ◌∷◌, ◌++◌, Option, None, Some, Bool, true, false, cond, refl, ap, ap₂, sym, subst, ◌∙◌, ◌⊎◌, inl, inr, append-nil}
 use Rattle.std.specs.Prelude.{filter, is_none, is_some, MatchOption}
 use Rattle.spec_rational.specs.Rational.{ℚ}
 use Rattle.spec_linear.specs.Form.{Linear, IsForm}
@@ -23,14 +23,14 @@ use Rattle.cq_store.specs.Faults.{IsStoreFault}
 use Rattle.cq_store.specs.Describes.{with_equation}
 use Rattle.cq_store.specs.Contents.{Named, AreNamed, IsStored, variables_of, variable_forms, solved_in, number_in}
 use Rattle.cq_store.specs.Told.{numbers_of, AreNewlyFixed, new_variables, CallMakes, while_asked}
-use Rattle.cq_store.specs.Entering.{Extends, AddsMember, AreGained, Enters, IsRefused, Meets, in_form, in_exchange}
+use Rattle.cq_store.specs.Entering.{AddsMember, AreGained, Enters, IsRefused, Meets, in_form, in_exchange}
 use Rattle.cq_store.proofs.Names.{has_or_not, variables_of-append}
 use Rattle.cq_store.proofs.Causes.{at_work}
 use Rattle.cq_store.proofs.Values.{value_is}
 use Rattle.cq_store.proofs.Places.{unknown_unsolved}
 use Rattle.cq_store.proofs.Keep.{solved_more}
 use Rattle.cq_store.proofs.Telling.{added_stored, added_order, adding_makes, exchanging_makes, joins_stored, contradicts_unsolvable}
-use Rattle.cq_store.proofs.Fresh.{known_after, old_known, known_before, cut_names, cut_slots}
+use Rattle.cq_store.proofs.Fresh.{known_after, old_known, known_before}
 use Rattle.cq_store.proofs.Solved.{solved_form}
 use Rattle.spec_echelon.proofs.Solving.{solvable}
 use Rattle.cq_frac.specs.Refused.{IsRefused as Refuses}
@@ -161,8 +161,8 @@ module _ (l : List Constraint) (old : Named) (s : IsStored l old) (f : Linear) w
           let z : solved_in new x ≡ None = unknown_unsolved new joined.0.named x (λ m. k (subst (Has x) joined.1 m)) in
           let w = sym (ap number_in z) ∙ ep in cc
 
-  pub refused_unsolvable : (new : Named) → IsRefused old f new → Unsolvable (with_equation l f)
-  refused_unsolvable new r =
+  pub refused_unsolvable : IsRefused old f → Unsolvable (with_equation l f)
+  refused_unsolvable r =
       contradicts_unsolvable l r.known (added_stored l old r.known (new_variables (variables_of old.names) f) s r.adds) f (known_after old r.known f r.adds) r.contradicts
 
   pub meets_due : IsForm f → {o : Operation} {a b : ℚ} → Meets old f o a b → Makes (at_work l (f ∷ variable_forms (variables_of old.names))) o a b
@@ -202,8 +202,8 @@ module _ (l : List Constraint) (old : Named) (s : IsStored l old) (c : Constrain
     pub told_solvable : Solvable told
     told_solvable = solvable (variables_of new.names) told (solved_in new) (solved_form told new told_stored)
 
-  pub told_unsolvable : (new : Named) → IsRefused old f new → Unsolvable (l ++ c ∷ [])
-  told_unsolvable new r = subst Unsolvable list_is (refused_unsolvable l old s f new r)
+  pub told_unsolvable : IsRefused old f → Unsolvable (l ++ c ∷ [])
+  told_unsolvable r = subst Unsolvable list_is (refused_unsolvable l old s f r)
 
   pub call_makes : IsForm f → (pair : Pair) → Meets old f pair.operation pair.left pair.right → Refuses pair → CallMakes l (variables_of old.names) c pair
   call_makes ordered pair m r =
@@ -212,7 +212,3 @@ module _ (l : List Constraint) (old : Named) (s : IsStored l old) (c : Constrain
 -- an error at another type of answers
 pub moved_err : {A B E : Type 0} (x y : E) → ◌≡◌ {A = Result A E} (Err x) (Err y) → ◌≡◌ {A = Result B E} (Err x) (Err y)
 moved_err x y e = let f : x ≡ y = cc in ap Err f
-
--- what was there is left when the rest is given back
-pub cut_back : (old new : Named) → AreNamed old → Extends old new → (n : ℕ) → n ≡ length old.slots → (t : Named) → t ≡ record { names = take n new.names; slots = take n new.slots } → t ≡ old
-cut_back old new a e n h t is = is ∙ ap₂ (λ x y. record { names = x; slots = y }) (cut_names old new e n (h ∙ sym a.size)) (cut_slots old new e n h)

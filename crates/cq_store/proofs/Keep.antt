@@ -12,7 +12,7 @@ use Rattle.cq_row.specs.Rows.{IsRowFrom, sum_at}
 use Rattle.cq_row.proofs.Units.{nat_eq_other}
 use Rattle.cq_dict.specs.declared.table.Slot.{Slot}
 use Rattle.cq_dict.specs.declared.table.Slot.TheVariants.{Live, Dropped, Basic}
-use Rattle.cq_dict.specs.Table.{IsAt, IsTable, is_live, HasEntry, IsEliminated, Expresses}
+use Rattle.cq_dict.specs.Table.{Quantities, IsAt, IsTable, is_live, HasEntry, IsEliminated, Expresses}
 use Rattle.cq_dict.specs.Dict.{AddsRow}
 use Rattle.indexmap.specs.IndexMap.{insert_entry}
 use Rattle.cq_store.specs.declared.table.Name.{Name}
@@ -20,7 +20,9 @@ use Rattle.cq_store.specs.declared.table.Name.TheVariants.{Variable, Member}
 use Rattle.cq_store.specs.Describes.{placed}
 use Rattle.cq_store.specs.Contents.{Named, AreNamed, IsNamed, variables_of, place_of, place_of_variable, products_of, form_of_slot, solved_in, variable_in}
 use Rattle.cq_store.specs.Entering.{AddsMember}
+use Rattle.cq_store.specs.Marked.{AreMarked}
 use Rattle.cq_store.specs.Numbered.{IsNumbered, numbers_from}
+use Rattle.cq_store.proofs.Marks.{marks_more}
 use Rattle.cq_store.proofs.Slots.{at_live, live_at, append_back, at_end}
 use Rattle.cq_store.proofs.Names.{get_at, place_more, place_last, place_below, has_or_not, named_more, variables_of-append}
 use Rattle.cq_store.proofs.Causes.{passes}
@@ -62,18 +64,22 @@ insert_absent eq x k says n (Variable y ∷ names) h =
     ∙ ap (λ s. (y, n) ∷ s) (insert_absent eq x k says (n + 1) names (λ m. h (inr m)))
 
 pub numbered_joins : (t : Named) → AreNamed t → (v : VarId) → (Has v.0 (variables_of t.names) → ⊥) → (eq : VarId → VarId → Bool) → ((y : VarId) → eq v y ≡ nat_eq v.0 y.0) → (n : ℕ) → n ≡ length t.slots → (entries : List (VarId × ℕ)) → entries ≡ numbers_from 0 t.names →
-    (names : List Name) (slots : List Slot) (more : List (VarId × ℕ)) → names ≡ t.names ++ Variable v ∷ [] → slots ≡ t.slots ++ Live ∷ [] → more ≡ insert_entry eq entries v n → IsNumbered (record { names = names; slots = slots }) more
-numbered_joins t a v new eq says n size entries is names slots more e f g = record {
+    (names : List Name) (slots : List Slot) (more : List (VarId × ℕ)) → names ≡ t.names ++ Variable v ∷ [] → slots ≡ t.slots ++ Live ∷ [] → more ≡ insert_entry eq entries v n →
+    (saved saved' : List Quantities) → AreMarked t.names saved → saved' ≡ saved → IsNumbered (record { names = names; slots = slots }) more saved'
+numbered_joins t a v new eq says n size entries is names slots more e f g saved saved' marks k = record {
   named = subst AreNamed (sym (ap₂ (λ x y. record { names = x; slots = y }) e f)) (named_joins t a v new);
   entries_are =
       g ∙ ap (λ s. insert_entry eq s v n) is ∙ insert_absent eq v n says 0 t.names new
       ∙ ap (λ k. numbers_from 0 t.names ++ (v, k) ∷ []) (omega (arith, size, a.size)) ∙ sym (ap (numbers_from 0) e ∙ numbers_from-append 0 t.names (Variable v ∷ []));
+  marks = marks_more t.names saved marks (Variable v ∷ []) names saved' e k;
 }
 
-pub member_numbered : (t : Named) (entries : List (VarId × ℕ)) → IsNumbered t entries → (names : List Name) (slots : List Slot) (row : Row) → names ≡ t.names ++ Member ∷ [] → slots ≡ t.slots ++ Basic row ∷ [] → IsTable slots → IsNumbered (record { names = names; slots = slots }) entries
-member_numbered t entries a names slots row e f table = record {
+pub member_numbered : (t : Named) (entries : List (VarId × ℕ)) (saved : List Quantities) → IsNumbered t entries saved → (names : List Name) (slots : List Slot) (row : Row) → names ≡ t.names ++ Member ∷ [] → slots ≡ t.slots ++ Basic row ∷ [] → IsTable slots →
+    (saved' : List Quantities) → saved' ≡ saved → IsNumbered (record { names = names; slots = slots }) entries saved'
+member_numbered t entries saved a names slots row e f table saved' k = record {
   named = member_named t a.named names slots row e f table;
   entries_are = a.entries_are ∙ sym (ap (numbers_from 0) e ∙ numbers_from-append 0 t.names (Member ∷ []) ∙ nothing_more (numbers_from 0 t.names));
+  marks = marks_more t.names saved a.marks (Member ∷ []) names saved' e k;
 }
   where
     nothing_more : (s : List (VarId × ℕ)) → s ++ [] ≡ s

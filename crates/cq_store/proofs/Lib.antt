@@ -17,3 +17,4 @@ pub mod Telling
 pub mod Keep
 pub mod Fresh
 pub mod Gained
+pub mod Marks

@@ -1,6 +1,7 @@
 -- The entries that tell each variable's number.
-use Rattle.std.proofs.Common.{◌≡◌, ℕ, suc, ◌+◌, List, [], ◌∷◌, ◌++◌, length, take, drop, Option, None, Some, Bool, true, false, cond, nat_eq, arith, refl, ap, sym, subst, ◌∙◌, ◌⊎◌, inl, inr, take-append-drop}
-use Rattle.std.specs.Prelude.{MatchOption}
+use Rattle.std.proofs.Common.{◌≡◌, ℕ, suc, ◌+◌, List, [], ◌∷◌, ◌++◌, length, length-append, append-nil, Option, None, Some, Bool, true, false, cond, nat_eq, arith, refl, ap, sym, subst, ◌∙◌, ◌⊎◌, inl, inr}
+use Rattle.std.specs.Prelude.{◌<◌, MatchOption, IsSome, option_to_list}
+use Rattle.indexmap.proofs.RemoveLemmas.{popped_last}
 use Rattle.std.specs.Map.{keys_of, lookup}
 use Rattle.spec_linear.specs.Solution.{Has}
 use Rattle.cq_row.specs.Rows.{choose}
@@ -17,27 +18,21 @@ numbers-order n [] = refl
 numbers-order n (Variable x ∷ names) = ap (λ s. x.0 ∷ s) (numbers-order (n + 1) names)
 numbers-order n (Member ∷ names) = numbers-order (n + 1) names
 
-length-numbers_from : (n : ℕ) (names : List Name) → length (numbers_from n names) ≡ length (variables_of names)
-length-numbers_from n [] = refl
-length-numbers_from n (Variable x ∷ names) = omega (arith, length-numbers_from (n + 1) names)
-length-numbers_from n (Member ∷ names) = length-numbers_from (n + 1) names
-
 pub numbers_from-append : (n : ℕ) (names more : List Name) → numbers_from n (names ++ more) ≡ numbers_from n names ++ numbers_from (n + length names) more
 numbers_from-append n [] more = ap (λ k. numbers_from k more) (omega arith)
 numbers_from-append n (Variable x ∷ names) more = ap (λ s. (x, n) ∷ s) (numbers_from-append (n + 1) names more ∙ ap (λ k. numbers_from (n + 1) names ++ numbers_from k more) (omega arith))
 numbers_from-append n (Member ∷ names) more = numbers_from-append (n + 1) names more ∙ ap (λ k. numbers_from (n + 1) names ++ numbers_from k more) (omega arith)
 
-take-first : {A : Type 0} (s t : List A) → take (length s) (s ++ t) ≡ s
-take-first [] t = refl
-take-first (x ∷ s) t = ap (λ r. x ∷ r) (take-first s t)
+-- ---- the last name goes
 
--- the first quantities with the variables among them
-pub numbers_from-take : (names : List Name) (quantities variables : ℕ) → length (variables_of (take quantities names)) ≡ variables → take variables (numbers_from 0 names) ≡ numbers_from 0 (take quantities names)
-numbers_from-take names quantities variables e =
-    ap (λ s. take variables (numbers_from 0 s)) (sym (take-append-drop quantities names))
-    ∙ ap (take variables) (numbers_from-append 0 (take quantities names) (drop quantities names))
-    ∙ ap (λ k. take k (numbers_from 0 (take quantities names) ++ numbers_from (0 + length (take quantities names)) (drop quantities names))) (sym (length-numbers_from 0 (take quantities names) ∙ e))
-    ∙ take-first (numbers_from 0 (take quantities names)) (numbers_from (0 + length (take quantities names)) (drop quantities names))
+pub without_member : (names : List Name) → numbers_from 0 (names ++ Member ∷ []) ≡ numbers_from 0 names
+without_member names = numbers_from-append 0 names (Member ∷ []) ∙ append-nil (numbers_from 0 names)
+
+pub without_variable : (names : List Name) (x : VarId) (left : List (VarId × ℕ)) (last : Option (VarId × ℕ)) → numbers_from 0 (names ++ Variable x ∷ []) ≡ left ++ option_to_list last → IsSome last → left ≡ numbers_from 0 names
+without_variable names x left last e is = (popped_last (numbers_from 0 names) left (x, 0 + length names) last (sym (numbers_from-append 0 names (Variable x ∷ [])) ∙ e) is).1
+
+pub some_number : (names : List Name) (x : VarId) → 0 < length (numbers_from 0 (names ++ Variable x ∷ []))
+some_number names x = omega (arith, ap length (numbers_from-append 0 names (Variable x ∷ [])), length-append (numbers_from 0 names) ((x, 0 + length names) ∷ []))
 
 -- what the entries say of a variable that a test tells
 pub lookup-numbers : (test : VarId → Bool) (x : ℕ) → ((y : VarId) → test y ≡ nat_eq x y.0) → (n : ℕ) (names : List Name) →

@@ -7,24 +7,15 @@ use Rattle.cq_frac.specs.declared.VarId.{VarId}
 use Rattle.cq_row.specs.declared.Entry.{Entry}
 use Rattle.cq_row.specs.Row.{Row}
 use Rattle.cq_row.specs.Rows.{sum_at}
-use Rattle.cq_dict.specs.declared.table.Slot.{Slot}
 use Rattle.cq_dict.specs.declared.table.Slot.TheVariants.{Live, Basic}
 use Rattle.cq_dict.specs.Table.{IsTable, Expresses, IsEliminated, FormPair, PivotPair}
 use Rattle.cq_frac.specs.declared.Operation.{Operation}
 use Rattle.spec_echelon.specs.Echelon.{AreDistinct}
 use Rattle.cq_store.specs.Told.{new_variables}
 use Rattle.cq_dict.specs.Dict.{SameMeaning}
-use Rattle.cq_store.specs.declared.table.Name.{Name}
 use Rattle.cq_store.specs.declared.table.Name.TheVariants.{Variable, Member}
 use Rattle.cq_store.specs.Describes.{placed}
 use Rattle.cq_store.specs.Contents.{Named, variables_of, place_of, solved_in, number_in}
-
--- more quantities, behind the others
-pub record Extends (old new : Named) : Type 0 where
-  pub more_names : List Name
-  pub more_slots : List Slot
-  pub names : new.names ≡ old.names ++ more_names
-  pub slots : new.slots ≡ old.slots ++ more_slots
 
 -- these new variables have become live columns, one by one
 pub data AddsVariables (old : Named) : List ℕ → Named → Type 0 where
@@ -78,11 +69,10 @@ pub record Enters (old : Named) (f : Linear) (fixed : List ℕ) (new : Named) : 
   pub gained : AreGained known new fixed
 
 -- new variables, and then a contradiction
-pub record IsRefused (old : Named) (f : Linear) (new : Named) : Type 0 where
+pub record IsRefused (old : Named) (f : Linear) : Type 0 where
   pub known : Named
   pub adds : AddsVariables old (new_variables (variables_of old.names) f) known
   pub contradicts : Contradicts known f
-  pub extends : Extends old new
 
 -- the pairs that are met
 pub data Meets (old : Named) (f : Linear) : Operation → ℚ → ℚ → Type 0 where

@@ -1,8 +1,9 @@
-pub mod Describes
+pub mod Answers
 pub mod Contents
+pub mod Describes
+pub mod Entered
+pub mod Entering
+pub mod Faults
+pub mod Marked
 pub mod Numbered
 pub mod Told
-pub mod Answers
-pub mod Entering
-pub mod Entered
-pub mod Faults

@@ -3,9 +3,11 @@ use Rattle.std.specs.Prelude.{◌≡◌, ℕ, ◌+◌, List, [], ◌∷◌}
 use Rattle.std.specs.List.{AllByRecursion}
 use Rattle.cq_row.specs.declared.Entry.{Entry}
 use Rattle.cq_frac.specs.declared.VarId.{VarId}
+use Rattle.cq_dict.specs.Table.{Quantities}
 use Rattle.cq_store.specs.declared.table.Name.{Name}
 use Rattle.cq_store.specs.declared.table.Name.TheVariants.{Variable, Member}
 use Rattle.cq_store.specs.Contents.{Named, AreNamed, IsNamed}
+use Rattle.cq_store.specs.Marked.{AreMarked}
 
 -- the variables, each with its number, where the first quantity's is n
 abbrev pub numbers_from : ℕ → List Name → List (VarId × ℕ)
@@ -17,7 +19,8 @@ numbers_from n (Member ∷ names) = numbers_from (n + 1) names
 abbrev pub AreOfVariables : List Name → List Entry → Type 0
 AreOfVariables names s = AllByRecursion (λ m. (x : VarId) × IsNamed names m.quantity x) s
 
--- the entries tell each variable's number
-pub record IsNumbered (t : Named) (entries : List (VarId × ℕ)) : Type 0 where
+-- the entries tell each variable's number, now and at each mark
+pub record IsNumbered (t : Named) (entries : List (VarId × ℕ)) (saved : List Quantities) : Type 0 where
   pub named : AreNamed t
   pub entries_are : entries ≡ numbers_from 0 t.names
+  pub marks : AreMarked t.names saved

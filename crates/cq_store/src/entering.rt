@@ -1,14 +1,13 @@
-//! The steps of telling an equation. What they add to the table lies behind what was there, until the last of them,
-//! so that it can be given back.
+//! The steps of telling an equation. Where one of them is refused, the table is left between marks, to be undone.
 
-ghost use Rattle.std.specs.Prelude.{◌≡◌, ◌≤◌, ◌+◌, ℕ, [], length, filter, is_none, is_some, vec_len, vec_capacity, IfOk, OnOk, OnErr};
+ghost use Rattle.std.specs.Prelude.{◌≡◌, ◌≤◌, ◌+◌, ℕ, [], length, filter, is_none, is_some, vec_len, vec_capacity, IfOk, OnOk};
 ghost use Rattle.spec_linear.specs.Form.{IsForm};
 ghost use Rattle.cq_frac.specs.declared.Pair.{Pair};
 ghost use Rattle.cq_frac.specs.Refused.{IsRefused as Refuses};
 ghost use Rattle.cq_store.specs.Contents.{variables_of, solved_in, number_in};
 ghost use Rattle.cq_store.specs.Told.{numbers_of, new_variables};
 ghost use Rattle.cq_store.specs.Entered.{IfJoined, IfContradiction};
-ghost use Rattle.cq_store.specs.Entering.{AddsVariables, Extends, Enters, IsRefused, Meets};
+ghost use Rattle.cq_store.specs.Entering.{AddsVariables, Enters, IsRefused, Meets};
 
 use crate::store::StoreFault;
 use crate::table::Table;
@@ -27,8 +26,8 @@ pub enum Entered {
 
 /// Makes the form's new variables known, in ascending order.
 fn add_variables(table: &mut Table, form: &Form) -> Result<(), AllocError>
-    ensures added { OnOk result (AddsVariables table.old (new_variables (variables_of table.old.names) form.now) table.new) }
-    ensures err { OnErr result (Extends table.old table.new) }
+    ensures added { OnOk result (AddsVariables table.old.now (new_variables (variables_of table.old.now.names) form.now) table.new.now) }
+    ensures saved { table.new.saved ≡ table.old.saved }
     ensures in_order { IsForm form.now }
 {
     for pair in form.pairs() {
@@ -41,7 +40,7 @@ fn add_variables(table: &mut Table, form: &Form) -> Result<(), AllocError>
 
 /// The variables that have no number.
 fn unfixed(alloc: Global, table: &Table) -> Result<Vec<VarId>, AllocError>
-    ensures { IfOk result (λ xs. numbers_of xs.items ≡ filter (λ x. is_none (number_in (solved_in table.now x))) (variables_of table.now.names)) }
+    ensures { IfOk result (λ xs. numbers_of xs.items ≡ filter (λ x. is_none (number_in (solved_in table.now.now x))) (variables_of table.now.now.names)) }
 {
     let mut rest = Vec::new(alloc);
     for x in table.order() {
@@ -56,7 +55,7 @@ fn unfixed(alloc: Global, table: &Table) -> Result<Vec<VarId>, AllocError>
 fn gather(table: &Table, rest: &[VarId], fixed: &mut Vec<VarId>)
     requires empty { fixed.old.items ≡ [] }
     requires room { vec_len fixed.old + length rest.now ≤ vec_capacity fixed.old }
-    ensures { fixed.new.items ≡ filter (λ x. is_some (number_in (solved_in table.now x.0))) rest.now }
+    ensures { fixed.new.items ≡ filter (λ x. is_some (number_in (solved_in table.now.now x.0))) rest.now }
 {
     for x in rest {
         if table.has_value(*x) {
@@ -67,11 +66,11 @@ fn gather(table: &Table, rest: &[VarId], fixed: &mut Vec<VarId>)
 
 /// Enters the equation that the form is zero.
 pub fn enter(alloc: Global, table: &mut Table, form: &Form) -> Result<Entered, StoreFault>
-    ensures joined { IfOk result (λ e. IfJoined e (λ fixed. Enters table.old form.now (numbers_of fixed) table.new)) }
-    ensures contradiction { IfOk result (λ e. IfContradiction e (IsRefused table.old form.now table.new)) }
-    ensures overflow { (pair : Pair) → result ≡ Err (StoreFault.Overflow pair) → Meets table.old form.now pair.operation pair.left pair.right × Refuses pair }
+    ensures joined { IfOk result (λ e. IfJoined e (λ fixed. Enters table.old.now form.now (numbers_of fixed) table.new.now)) }
+    ensures contradiction { IfOk result (λ e. IfContradiction e (IsRefused table.old.now form.now)) }
+    ensures overflow { (pair : Pair) → result ≡ Err (StoreFault.Overflow pair) → Meets table.old.now form.now pair.operation pair.left pair.right × Refuses pair }
     ensures pivots { (n : ℕ) → result ≡ Err (StoreFault.Pivots n) → ⊥ }
-    ensures err { OnErr result (Extends table.old table.new) }
+    ensures saved { table.new.saved ≡ table.old.saved }
     ensures in_order { IsForm form.now }
 {
     add_variables(table, form)?;

@@ -16,6 +16,7 @@ use crate::table::{SolvedRow, Table};
 use cq_dict::dict::DictFault;
 use cq_form::{Cert, Constraint};
 use cq_frac::{Frac, Pair, VarId};
+use cq_trail::Undo;
 use std::alloc::{AllocError, Global};
 use std::marker::Model;
 use thiserror::Error;
@@ -73,9 +74,9 @@ impl Model for Store {
 
     ghost Value = { Contents };
 
-    ghost view = { λ s. record { pivots = s.pivots; told = s.told.items; table = s.table } };
+    ghost view = { λ s. record { pivots = s.pivots; told = s.told.items; table = s.table.now } };
 
-    ghost invariant = { λ s. IsStored s.told.items s.table };
+    ghost invariant = { λ s. IsStored s.told.items s.table.now };
 }
 
 impl Store {
@@ -167,21 +168,21 @@ impl Store {
         ensures budget { self.new.pivots ≡ self.old.pivots }
         ensures solved { IsSolvedForm (order_of self.new) (told_of self.new) (solved_of self.new) }
     {
-        let quantities = self.table.count();
-        let variables = self.table.order().len();
         // so that nothing fails once the equation has joined
         self.told.reserve(1)?;
+        let start = self.table.mark()?;
         match enter(self.alloc, &mut self.table, &c.form) {
             Ok(Entered::Joined(fixed)) => {
+                self.table.forget(start);
                 self.told.push(c).unwrap();
                 Ok(Told::Kept(fixed))
             }
             Ok(Entered::Contradiction) => {
-                self.table.cut(quantities, variables);
+                self.table.undo(start);
                 Ok(Told::Unsolvable(Cert::empty(self.alloc)))
             }
             Err(fault) => {
-                self.table.cut(quantities, variables);
+                self.table.undo(start);
                 Err(fault)
             }
         }

@@ -10,12 +10,15 @@ ghost use Rattle.cq_row.specs.Row.{Row};
 ghost use Rattle.cq_dict.specs.declared.table.Slot.TheVariants.{Live, Basic};
 ghost use Rattle.cq_dict.specs.Table.{IsAt, IsRow, IsTable, HasEntry, PivotPair, FormPair, IsEliminated};
 ghost use Rattle.cq_dict.specs.Dict.{SameMeaning};
+ghost use Rattle.cq_store.specs.declared.table.Name.{Name};
 ghost use Rattle.cq_store.specs.declared.table.Name.TheVariants.{Variable, Member};
+ghost use Rattle.cq_store.specs.Numbered.{numbers_from};
 
 use cq_dict::dict::{Dict, DictFault};
 use cq_form::Form;
 use cq_frac::{Frac, VarId};
 use cq_row::Entry;
+use cq_trail::{Mark, Undo};
 use indexmap::IndexMap;
 use std::alloc::{AllocError, Global};
 use std::marker::Model;
@@ -96,14 +99,19 @@ pub struct Table {
 }
 
 impl Model for Table {
-    ghost use Rattle.cq_store.specs.Contents.{Named};
+    ghost use Rattle.std.specs.Prelude.{map};
+    ghost use Rattle.cq_store.specs.Marked.{TableValue, named_at};
     ghost use Rattle.cq_store.specs.Numbered.{IsNumbered};
 
-    ghost Value = { Named };
+    ghost Value = { TableValue };
 
-    ghost view = { λ t. record { names = t.names.items; slots = t.dict.slots } };
+    ghost view = { λ t. record {
+      now = record { names = t.names.items; slots = t.dict.slots };
+      saved = map (named_at t.names.items) t.dict.saved;
+      room = t.dict.room;
+    } };
 
-    ghost invariant = { λ t. IsNumbered (record { names = t.names.items; slots = t.dict.slots }) t.numbers.entries };
+    ghost invariant = { λ t. IsNumbered (record { names = t.names.items; slots = t.dict.slots }) t.numbers.entries t.dict.saved };
 }
 
 impl Table {
@@ -113,7 +121,8 @@ impl Table {
     ghost use Rattle.cq_store.specs.Told.{numbers_of};
 
     pub fn new(alloc: Global) -> Table
-        ensures { result ≡ record { names = []; slots = [] } }
+        ensures now { result.now ≡ record { names = []; slots = [] } }
+        ensures saved { result.saved ≡ [] }
     {
         Table {
             dict: Dict::new(alloc),
@@ -124,29 +133,29 @@ impl Table {
 
     /// The number of quantities.
     pub fn count(&self) -> usize
-        ensures count { result ≡ length self.now.slots }
-        ensures named { AreNamed self.now }
+        ensures count { result ≡ length self.now.now.slots }
+        ensures named { AreNamed self.now.now }
     {
         self.names.len()
     }
 
     /// The variables, in the order of making.
     pub fn order(&self) -> &[VarId]
-        ensures { numbers_of result.now ≡ variables_of self.now.names }
+        ensures { numbers_of result.now ≡ variables_of self.now.now.names }
     {
         self.numbers.keys().as_slice()
     }
 
     /// The number of a variable.
     pub fn number(&self, x: VarId) -> Option<usize>
-        ensures { MatchOption result (Has x.0 (variables_of self.now.names) → ⊥) (λ n. Has x.0 (variables_of self.now.names) × (n ≡ place_of_variable self.now.names x.0)) }
+        ensures { MatchOption result (Has x.0 (variables_of self.now.now.names) → ⊥) (λ n. Has x.0 (variables_of self.now.now.names) × (n ≡ place_of_variable self.now.now.names x.0)) }
     {
         self.numbers.get(&x).copied()
     }
 
     /// The form of the variable, if it is solved for.
     pub fn solved_row(&self, x: VarId) -> Option<SolvedRow<'_>>
-        ensures { result ≡ solved_in self.now x.0 }
+        ensures { result ≡ solved_in self.now.now x.0 }
     {
         let _ = &self.names;
         let q = self.number(x)?;
@@ -162,7 +171,7 @@ impl Table {
 
     /// The number that the variable is, if its form is one.
     pub fn value(&self, x: VarId) -> Option<Frac>
-        ensures { result ≡ number_in (solved_in self.now x.0) }
+        ensures { result ≡ number_in (solved_in self.now.now x.0) }
     {
         let row = self.solved_row(x)?;
         if row.is_empty() {
@@ -174,17 +183,18 @@ impl Table {
 
     /// Whether the variable's form is a number.
     pub fn has_value(&self, x: VarId) -> bool
-        ensures { result ≡ is_some (number_in (solved_in self.now x.0)) }
+        ensures { result ≡ is_some (number_in (solved_in self.now.now x.0)) }
     {
         self.value(x).is_some()
     }
 
     /// Makes a column for a new variable.
     pub fn add_variable(&mut self, x: VarId) -> Result<(), AllocError>
-        requires { Has x.0 (variables_of self.old.names) → ⊥ }
-        ensures names { OnOk result (self.new.names ≡ self.old.names ++ Variable x ∷ []) }
-        ensures slots { OnOk result (self.new.slots ≡ self.old.slots ++ Live ∷ []) }
-        ensures err { OnErr result (self.new ≡ self.old) }
+        requires { Has x.0 (variables_of self.old.now.names) → ⊥ }
+        ensures names { OnOk result (self.new.now.names ≡ self.old.now.names ++ Variable x ∷ []) }
+        ensures slots { OnOk result (self.new.now.slots ≡ self.old.now.slots ++ Live ∷ []) }
+        ensures saved { self.new.saved ≡ self.old.saved }
+        ensures err { OnErr result (self.new.now ≡ self.old.now) }
     {
         self.names.reserve(1)?;
         self.numbers.reserve(1)?;
@@ -197,8 +207,8 @@ impl Table {
 
     /// The form over the quantities.
     fn placed(&self, form: &Form) -> Result<Vec<Entry>, AllocError>
-        requires { (x : ℕ) → Mentions x form.now.products → Has x (variables_of self.now.names) }
-        ensures { IfOk result (λ s. s.items ≡ placed (place_of self.now.names) form.now.products) }
+        requires { (x : ℕ) → Mentions x form.now.products → Has x (variables_of self.now.now.names) }
+        ensures { IfOk result (λ s. s.items ≡ placed (place_of self.now.now.names) form.now.products) }
     {
         let mut entries = Vec::new(*self.names.allocator());
         for pair in form.pairs() {
@@ -215,10 +225,11 @@ impl Table {
 
     /// Makes a row for the form of a constraint.
     pub fn add_member(&mut self, form: &Form) -> Result<(), DictFault>
-        requires { (x : ℕ) → Mentions x form.now.products → Has x (variables_of self.old.names) }
-        ensures added { OnOk result (AddsMember self.old form.now self.new) }
-        ensures overflow { (pair : Pair) → result ≡ Err (DictFault.Overflow pair) → FormPair self.old.slots (placed (place_of self.old.names) form.now.products) form.now.constant pair.operation pair.left pair.right × IsRefused pair }
-        ensures err { OnErr result (self.new ≡ self.old) }
+        requires { (x : ℕ) → Mentions x form.now.products → Has x (variables_of self.old.now.names) }
+        ensures added { OnOk result (AddsMember self.old.now form.now self.new.now) }
+        ensures overflow { (pair : Pair) → result ≡ Err (DictFault.Overflow pair) → FormPair self.old.now.slots (placed (place_of self.old.now.names) form.now.products) form.now.constant pair.operation pair.left pair.right × IsRefused pair }
+        ensures saved { self.new.saved ≡ self.old.saved }
+        ensures err { OnErr result (self.new.now ≡ self.old.now) }
     {
         let entries = self.placed(form)?;
         self.names.reserve(1)?;
@@ -230,8 +241,8 @@ impl Table {
 
     /// The row's constant, and its first live entry.
     pub fn lead(&self, r: usize) -> (Frac, Option<Entry>)
-        requires { IsRow self.now.slots r }
-        ensures { (own : Row) → IsAt self.now.slots r (Basic own) → (result.0 ≡ own.constant) × (result.1 ≡ slice_get own.live 0) }
+        requires { IsRow self.now.now.slots r }
+        ensures { (own : Row) → IsAt self.now.now.slots r (Basic own) → (result.0 ≡ own.constant) × (result.1 ≡ slice_get own.live 0) }
     {
         let first = self.dict.row(r).first().copied();
         (self.dict.constant(r), first)
@@ -239,27 +250,78 @@ impl Table {
 
     /// Exchanges the row and the live column, in which the row has an entry, and drops the row's quantity.
     pub fn eliminate(&mut self, r: usize, c: usize) -> Result<(), DictFault>
-        requires { HasEntry self.old.slots r c }
-        ensures names { self.new.names ≡ self.old.names }
-        ensures same { OnOk result (SameMeaning self.old.slots self.new.slots) }
-        ensures kinds { OnOk result (IsEliminated self.old.slots r c self.new.slots) }
-        ensures table { IsTable self.new.slots }
-        ensures overflow { (pair : Pair) → result ≡ Err (DictFault.Overflow pair) → PivotPair self.old.slots r c pair.operation pair.left pair.right × IsRefused pair }
-        ensures err { OnErr result (self.new ≡ self.old) }
+        requires { HasEntry self.old.now.slots r c }
+        ensures names { self.new.now.names ≡ self.old.now.names }
+        ensures same { OnOk result (SameMeaning self.old.now.slots self.new.now.slots) }
+        ensures kinds { OnOk result (IsEliminated self.old.now.slots r c self.new.now.slots) }
+        ensures table { IsTable self.new.now.slots }
+        ensures overflow { (pair : Pair) → result ≡ Err (DictFault.Overflow pair) → PivotPair self.old.now.slots r c pair.operation pair.left pair.right × IsRefused pair }
+        ensures saved { self.new.saved ≡ self.old.saved }
+        ensures err { OnErr result (self.new.now ≡ self.old.now) }
     {
         self.dict.eliminate(r, c)?;
         Ok(())
     }
+}
 
-    /// Gives back the quantities from a number on, so that these are left, with so many variables. The rows that stay
-    /// have no entry of the others.
-    pub fn cut(&mut self, quantities: usize, variables: usize)
-        requires left { AreNamed (record { names = take quantities self.old.names; slots = take quantities self.old.slots }) }
-        requires count { length (variables_of (take quantities self.old.names)) ≡ variables }
-        ensures { self.new ≡ record { names = take quantities self.old.names; slots = take quantities self.old.slots } }
-    {
-        self.dict.cut(quantities);
-        self.names.truncate(quantities);
-        self.numbers.truncate(variables);
+impl Undo for Table {
+    ghost use Rattle.cq_store.specs.Contents.{Named};
+
+    ghost Value = { Named };
+
+    ghost now = { λ t. t.now };
+
+    ghost saved = { λ t. t.saved };
+
+    ghost room = { λ t. t.room };
+
+    fn mark(&mut self) -> Result<Mark, AllocError> {
+        let m = self.dict.mark()?;
+        Ok(m)
+    }
+
+    fn undo(&mut self, m: Mark) {
+        self.dict.undo(m);
+        // No name changes, so those of a mark are the first ones still.
+        shorten(&mut self.names, &mut self.numbers, self.dict.count());
+    }
+
+    fn forget(&mut self, m: Mark) {
+        self.dict.forget(m);
+    }
+
+    fn reserve(&mut self, n: usize) -> Result<(), AllocError> {
+        self.dict.reserve(n)?;
+        Ok(())
+    }
+
+    fn spare(&self) -> usize {
+        self.dict.spare()
+    }
+}
+
+/// Gives back the names from a number on, and with them the numbers of their variables.
+fn shorten(names: &mut Vec<Name>, numbers: &mut IndexMap<VarId, usize>, count: usize)
+    requires { numbers.old.entries ≡ numbers_from 0 names.old.items }
+    ensures names { names.new.items ≡ take count names.old.items }
+    ensures numbers { numbers.new.entries ≡ numbers_from 0 names.new.items }
+{
+    while names.len() > count {
+        remove_last(names, numbers);
+    }
+}
+
+fn remove_last(names: &mut Vec<Name>, numbers: &mut IndexMap<VarId, usize>)
+    requires some { 0 < length names.old.items }
+    requires numbers { numbers.old.entries ≡ numbers_from 0 names.old.items }
+    ensures names { (last : Name) × (names.old.items ≡ names.new.items ++ last ∷ []) }
+    ensures numbers { numbers.new.entries ≡ numbers_from 0 names.new.items }
+{
+    match names.pop() {
+        Some(Name::Variable(_)) => {
+            numbers.pop();
+        }
+        Some(Name::Member) => {}
+        None => {}
     }
 }

@@ -6,6 +6,6 @@ use Rattle.cq_store.proofs.entering.gather.Given as goal
 
 abbrev pub invariant-loop-x : goal.invariant-loop-x
 invariant-loop-x l = record {
-  gathered : l.fixed.items ≡ filter (λ x. is_some (number_in (solved_in l.table x.0))) (take l.x-index l.rest);
+  gathered : l.fixed.items ≡ filter (λ x. is_some (number_in (solved_in l.table.now x.0))) (take l.x-index l.rest);
   room : vec_len l.fixed + (length l.rest - l.x-index) ≤ vec_capacity l.fixed;
 }

@@ -6,4 +6,4 @@ use Rattle.cq_store.specs.Told.{numbers_of}
 use Rattle.cq_store.proofs.entering.unfixed.Given as goal
 
 abbrev pub invariant-loop-x : goal.invariant-loop-x
-invariant-loop-x l = numbers_of l.rest.items ≡ filter (λ x. is_none (number_in (solved_in l.table x))) (numbers_of (take l.x-index l.x-items))
+invariant-loop-x l = numbers_of l.rest.items ≡ filter (λ x. is_none (number_in (solved_in l.table.now x))) (numbers_of (take l.x-index l.x-items))

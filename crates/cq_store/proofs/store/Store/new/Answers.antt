@@ -3,4 +3,4 @@ use Rattle.cq_store.proofs.Variables.{empty_is_stored}
 use Rattle.cq_store.proofs.store.Store.new.Goals as goal
 
 pub invariant_of-result : goal.invariant_of-result
-invariant_of-result c = rw (c.new.ensures.items, c.new-2.ensures) empty_is_stored
+invariant_of-result c = rw (c.new.ensures.items, c.new-2.ensures.now) empty_is_stored

@@ -3,4 +3,4 @@ use Rattle.cq_store.proofs.Solved.{solved_form}
 use Rattle.cq_store.proofs.store.Store.order.Goals as goal
 
 pub returns-clause-solved : goal.returns-clause-solved
-returns-clause-solved c = rw (← c.self.view_is) (solved_form c.self.inside.told.items c.self.inside.table c.self.invariant)
+returns-clause-solved c = rw (← c.self.view_is) (solved_form c.self.inside.told.items c.self.inside.table.now c.self.invariant)

@@ -4,4 +4,4 @@ use Rattle.cq_store.proofs.store.Store.value.Goals as goal
 
 pub returns-clause-fixed : goal.returns-clause-fixed
 returns-clause-fixed c =
-    rw (← c.self.view_is, c.value.ensures) (value_is c.self.inside.told.items c.self.inside.table c.self.invariant c.args.x.0)
+    rw (← c.self.view_is, c.value.ensures) (value_is c.self.inside.told.items c.self.inside.table.now c.self.invariant c.args.x.0)

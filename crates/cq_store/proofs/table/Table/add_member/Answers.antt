@@ -4,6 +4,7 @@ use Rattle.cq_row.specs.Rows as row
 use Rattle.cq_store.specs.declared.table.Name.TheVariants.{Member}
 use Rattle.cq_store.proofs.Fresh.{placed_below}
 use Rattle.cq_store.proofs.Keep.{member_numbered, member_added}
+use Rattle.cq_store.proofs.Marks.{saved_more}
 use Rattle.cq_store.proofs.table.Table.add_member.Goals as goal
 
 pub add_row-requires : goal.add_row-requires
@@ -15,8 +16,8 @@ pub invariant_of-self-2 : goal.invariant_of-self-2
 invariant_of-self-2 c =
     let e : c.push.new.self.items ≡ c.reserve.new.self.items ++ Member ∷ [] = rw c.unwrap.ensures at c.push.ensures.items in
     let a = c.in_ok-add_row.ensures.slots in
-    member_numbered (record { names = c.self.inside.names.items; slots = c.self.inside.dict.slots }) c.self.inside.numbers.entries c.self.invariant c.push.new.self.items c.add_row.new.self.slots a.row
-    (e ∙ ap (λ s. s ++ Member ∷ []) c.reserve.ensures.items) a.last c.in_ok-add_row.ensures.table
+    member_numbered (record { names = c.self.inside.names.items; slots = c.self.inside.dict.slots }) c.self.inside.numbers.entries c.self.inside.dict.saved c.self.invariant c.push.new.self.items c.add_row.new.self.slots a.row
+    (e ∙ ap (λ s. s ++ Member ∷ []) c.reserve.ensures.items) a.last c.in_ok-add_row.ensures.table c.add_row.new.self.saved c.in_ok-add_row.ensures.saved
 
 pub returns-clause-added : goal.returns-clause-added
 returns-clause-added c =
@@ -24,3 +25,8 @@ returns-clause-added c =
     rw (← c.self.view_is)
     (member_added (record { names = c.self.inside.names.items; slots = c.self.inside.dict.slots }) c.args.form.now c.push.new.self.items c.add_row.new.self.slots c.deref.result.now c.constant.result
     (e ∙ ap (λ s. s ++ Member ∷ []) c.reserve.ensures.items) (c.deref.ensures.value ∙ (rw (← c.self.view_is) at c.in_ok-entries.ensures)) c.constant.ensures c.in_ok-add_row.ensures.slots)
+
+pub returns-clause-saved : goal.returns-clause-saved
+returns-clause-saved c =
+    let e : c.push.new.self.items ≡ c.reserve.new.self.items ++ Member ∷ [] = rw c.unwrap.ensures at c.push.ensures.items in
+    rw (← c.self.view_is) (saved_more c.self.inside.names.items c.self.inside.dict.saved c.self.invariant.marks (Member ∷ []) _ _ (e ∙ ap (λ s. s ++ Member ∷ []) c.reserve.ensures.items) c.in_ok-add_row.ensures.saved)

@@ -4,6 +4,7 @@ use Rattle.indexmap.specs.IndexMap.{insert_entry}
 use Rattle.cq_frac.specs.contracts.VarIdPartialEq.TheImpl.{eq-value}
 use Rattle.cq_store.specs.declared.table.Name.TheVariants.{Variable}
 use Rattle.cq_store.proofs.Keep.{numbered_joins}
+use Rattle.cq_store.proofs.Marks.{saved_more}
 use Rattle.cq_store.proofs.table.Table.add_variable.Goals as goal
 
 pub invariant_of-self-2 : goal.invariant_of-self-2
@@ -13,4 +14,9 @@ invariant_of-self-2 c =
     numbered_joins (record { names = c.self.inside.names.items; slots = c.self.inside.dict.slots }) c.self.invariant.named c.args.x (rw (← c.self.view_is) at c.requires) eq-value.it (λ y. refl)
     c.in_ok-number.number c.in_ok-number.ensures.number c.self.inside.numbers.entries c.self.invariant.entries_are
     c.push.new.self.items c.add_column.new.self.slots c.insert.new.self.entries
-    (e ∙ ap (λ s. s ++ Variable c.args.x ∷ []) c.reserve.ensures.items) c.in_ok-number.ensures.slots (g ∙ ap (λ s. insert_entry eq-value.it s c.args.x c.in_ok-number.number) c.reserve-2.ensures.entries)
+    (e ∙ ap (λ s. s ++ Variable c.args.x ∷ []) c.reserve.ensures.items) c.in_ok-number.ensures.slots (g ∙ ap (λ s. insert_entry eq-value.it s c.args.x c.in_ok-number.number) c.reserve-2.ensures.entries) c.self.inside.dict.saved c.add_column.new.self.saved c.self.invariant.marks c.in_ok-number.ensures.saved
+
+pub returns-clause-saved : goal.returns-clause-saved
+returns-clause-saved c =
+    let e : c.push.new.self.items ≡ c.reserve.new.self.items ++ Variable c.args.x ∷ [] = rw c.unwrap.ensures at c.push.ensures.items in
+    rw (← c.self.view_is) (saved_more c.self.inside.names.items c.self.inside.dict.saved c.self.invariant.marks (Variable c.args.x ∷ []) _ _ (e ∙ ap (λ s. s ++ Variable c.args.x ∷ []) c.reserve.ensures.items) c.in_ok-number.ensures.saved)

@@ -1,4 +1,6 @@
 -- The names stay.
+use Rattle.std.proofs.Common.{sym, subst}
+use Rattle.cq_store.specs.Marked.{AreMarked}
 use Rattle.cq_store.proofs.Keep.{eliminated_named}
 use Rattle.cq_store.proofs.table.Table.eliminate.Goals as goal
 
@@ -6,4 +8,5 @@ pub invariant_of-self-2 : goal.invariant_of-self-2
 invariant_of-self-2 c = record {
   named = eliminated_named (record { names = c.self.inside.names.items; slots = c.self.inside.dict.slots }) c.self.invariant.named c.args.r c.args.c (rw (← c.self.view_is) at c.requires) c.eliminate.new.self.slots c.in_ok-eliminate.ensures.kinds c.in_ok-eliminate.ensures.table;
   entries_are = c.self.invariant.entries_are;
+  marks = subst (AreMarked c.self.inside.names.items) (sym c.in_ok-eliminate.ensures.saved) c.self.invariant.marks;
 }

@@ -15,4 +15,4 @@ pub loop-pair-preserved : goal.loop-pair-preserved
 loop-pair-preserved c =
     c.in_ok-push.ensures.items
     ∙ ap₂ (λ (s : List Entry) (q : ℕ). s ++ record { quantity = q; factor = c.pair-item.result.1 } ∷ []) c.loop-pair.invariant c.in-Some.ensures.1
-    ∙ sym (placed_more (place_of c.args.self.now.names) c.pairs-pair-items.result.now c.loop-pair.pair-index c.pair-item.result c.loop-pair-test.true c.pair-item.is)
+    ∙ sym (placed_more (place_of c.args.self.now.now.names) c.pairs-pair-items.result.now c.loop-pair.pair-index c.pair-item.result c.loop-pair-test.true c.pair-item.is)

@@ -6,4 +6,4 @@ use Rattle.cq_store.specs.Contents.{place_of}
 use Rattle.cq_store.proofs.table.Table.placed.Given as goal
 
 abbrev pub invariant-loop-pair : goal.invariant-loop-pair
-invariant-loop-pair l = l.entries.items ≡ placed (place_of l.self.names) (products_of (take l.pair-index l.pair-items))
+invariant-loop-pair l = l.entries.items ≡ placed (place_of l.self.now.names) (products_of (take l.pair-index l.pair-items))
