@@ -1,0 +1,10 @@
+pub mod Slots
+pub mod Columns
+pub mod Entries
+pub mod Ratios
+pub mod Exits
+pub mod Turns
+pub mod Steps
+pub mod Greatest
+pub mod Going
+pub mod Feasibility

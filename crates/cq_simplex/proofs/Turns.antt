@@ -1,0 +1,40 @@
+-- What is found in one dictionary, put together.
+use Rattle.std.proofs.Common.{◌≡◌, ℕ, List, Bool, true, false, [], ◌∷◌, pos, refl, subst, ◌↔◌, IsTrue}
+use Rattle.std.specs.Prelude.{MatchBool}
+use Rattle.std.specs.Bool.{OnFalse}
+use Rattle.spec_rational.specs.Rational.{ℚ, 0ℚ, neg_ℚ, IsPositive, IsNotNegative, ◌≤ℚ◌}
+use Rattle.spec_rational.proofs.Ring.{var, int, ◌⊕◌, minus}
+use Rattle.spec_rational.proofs.Rational.{ring}
+use Rattle.spec_simplex.specs.Rule.{Raises, Enters, IsOptimal}
+use Rattle.cq_frac.specs.declared.Pair.{Pair}
+use Rattle.cq_dict.specs.declared.table.Slot.{Slot}
+use Rattle.cq_dict.specs.Table.{is_live, is_restricted}
+use Rattle.cq_simplex.specs.Tableau.{dictionary, factor_at}
+use Rattle.cq_simplex.specs.declared.Aim.{Aim}
+use Rattle.cq_simplex.specs.declared.Aim.TheVariants.{Positive}
+use Rattle.cq_simplex.specs.Answers.{IsOverflow, IsShort}
+use Rattle.cq_simplex.specs.Turns.{IsRefusedRatio}
+
+pub not_above : (v : ℚ) → IsNotNegative (neg_ℚ v) → v ≤ℚ 0ℚ
+not_above v h = record { gap = subst IsNotNegative (ring (v ∷ []) (minus (var 0)) (int (pos 0) ⊕ minus (var 0)) refl) h }
+
+pub optimal : (slots : List Slot) (flags : List Bool) (asked : ℕ) →
+    ((c : ℕ) → is_live slots c ≡ true → is_restricted flags c ≡ false → factor_at slots asked c ≡ 0ℚ) →
+    ((c : ℕ) → Raises (is_restricted flags) (dictionary slots asked) c → ⊥) → IsOptimal (is_restricted flags) (dictionary slots asked)
+optimal slots flags asked free none = record { restricted_columns = none; other_columns = free }
+
+pub overflows : (slots : List Slot) (flags : List Bool) (asked column : ℕ) (pair : Pair) → Enters (is_restricted flags) (dictionary slots asked) column →
+    ((row : ℕ) × IsRefusedRatio slots flags asked column row pair) → IsOverflow flags asked slots pair
+overflows slots flags asked column pair e r = record {
+  column = column;
+  row = r.0;
+  enters = e;
+  limits = r.1.limits;
+  made = r.1.made;
+  refused = r.1.refused;
+}
+
+-- the aim Positive, by the test of the value
+pub positive_reached : (b : Bool) (aim : Aim) (v : ℚ) → aim ≡ Positive → (IsTrue b ↔ IsPositive v) → OnFalse b (IsNotNegative (neg_ℚ v)) → MatchBool b ((aim ≡ Positive) × IsPositive v) (IsShort aim v)
+positive_reached true aim v e t f = (e, t.0 refl)
+positive_reached false aim v e t f = λ _. not_above v f

@@ -1,0 +1,8 @@
+use Rattle.std.proofs.Common.{◌≡◌, true, take}
+use Rattle.cq_row.specs.declared.Entry.{Entry}
+use Rattle.cq_row.specs.Rows.{Has}
+use Rattle.cq_dict.specs.Table.{is_restricted}
+use Rattle.cq_simplex.proofs.rising.free_column.Given as goal
+
+abbrev pub invariant-loop-m : goal.invariant-loop-m
+invariant-loop-m l = (n : Entry) → Has n (take l.m-index l.m-items) → is_restricted l.dict.restricted n.quantity ≡ true

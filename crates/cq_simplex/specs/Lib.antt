@@ -1,0 +1,4 @@
+pub mod Tableau
+pub mod Answers
+pub mod Checked
+pub mod Turns

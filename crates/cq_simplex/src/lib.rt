@@ -1,0 +1,122 @@
+//! The greatest value of a row of a dictionary, where restricted quantities are not below zero: the simplex method of
+//! Dantzig (1947) with Bland's rule (1977), by which it ends.
+#![tactic(auto)]
+
+pub mod leaving;
+pub mod rising;
+pub mod turn;
+
+ghost use Rattle.std.specs.Prelude.{◌≡◌, ℕ, ◌≤◌, ◌^◌, length, IfOk};
+ghost use Rattle.spec_simplex.specs.Dictionary.{IsFeasible};
+ghost use Rattle.cq_frac.specs.declared.Pair.{Pair};
+ghost use Rattle.cq_dict.specs.Table.{IsRow, is_restricted};
+ghost use Rattle.cq_simplex.specs.declared.SimplexFault.TheVariants.{Overflow, Pivots, NoMemory};
+ghost use Rattle.cq_simplex.specs.Tableau.{dictionary};
+ghost use Rattle.cq_simplex.specs.Answers.{IsAnswer, IsWithin, AreSpent, IsOverflow, IsFaultOf};
+
+use crate::turn::{Turn, next_turn};
+use cq_dict::dict::{Col, Dict, DictFault};
+use cq_frac::{Frac, Pair};
+use cq_row::Entry;
+use std::alloc::{AllocError, Global};
+use thiserror::Error;
+
+/// What is wanted of a row: its greatest value, or no more than a value above zero.
+#[derive(Clone, Copy, Debug)]
+pub enum Aim {
+    Best,
+    Positive,
+}
+
+/// What is known of a row's greatest value.
+#[derive(Debug, Drop)]
+pub enum Max {
+    /// The greatest value, and the columns that hold the row to it, each with its multiplier.
+    At(Frac, Vec<Entry>),
+    /// A value above zero is reached, and was the aim.
+    Positive,
+    /// There is none: the row rises without end along the column.
+    Unbounded(Col),
+}
+
+/// Why no greatest value is found.
+#[derive(Clone, Copy, Debug, Error)]
+pub enum SimplexFault {
+    #[error("a number past 128 bits")]
+    Overflow(Pair),
+    #[error("{0} pivots and no end")]
+    Pivots(u64),
+    #[error("out of memory")]
+    NoMemory,
+}
+
+impl From<AllocError> for SimplexFault {
+    ghost from_gives = { λ _ fault. fault ≡ NoMemory };
+
+    fn from(_: AllocError) -> SimplexFault {
+        SimplexFault::NoMemory
+    }
+}
+
+impl From<DictFault> for SimplexFault {
+    ghost from_gives = { IsFaultOf };
+
+    fn from(fault: DictFault) -> SimplexFault {
+        match fault {
+            DictFault::Overflow(pair) => SimplexFault::Overflow(pair),
+            DictFault::NoMemory => SimplexFault::NoMemory,
+        }
+    }
+}
+
+impl From<Pair> for SimplexFault {
+    ghost from_gives = { λ pair fault. fault ≡ Overflow pair };
+
+    fn from(pair: Pair) -> SimplexFault {
+        SimplexFault::Overflow(pair)
+    }
+}
+
+/// Maximises a row of a feasible dictionary over the solutions of its rows in which dropped columns are zero and restricted
+/// quantities are not below zero.
+///
+/// Makes `budget` exchanges at most. Of the restricted columns that raise the row the least-numbered enters; of the
+/// restricted rows that limit it first the least-numbered leaves (Bland 1977). Whatever the answer, also a fault, the
+/// dictionary is the last that was reached: it has the solutions that it had, and is feasible.
+pub fn maximise(
+    dict: &mut Dict,
+    alloc: Global,
+    row: usize,
+    aim: Aim,
+    budget: u64,
+) -> Result<Max, SimplexFault>
+    requires row { IsRow dict.old.slots row }
+    requires feasible { IsFeasible (is_restricted dict.old.restricted) (dictionary dict.old.slots row) }
+    ensures answer { IfOk result (λ max. IsAnswer dict.old.slots dict.old.restricted row aim dict.new.slots max) }
+    ensures dictionary { IsWithin dict.old.slots dict.old.restricted row budget dict.new.slots }
+    ensures flags { dict.new.restricted ≡ dict.old.restricted }
+    ensures saved { dict.new.saved ≡ dict.old.saved }
+    ensures room { dict.old.room ≤ dict.new.room }
+
+    ensures overflow { (pair : Pair) → result ≡ Err (Overflow pair) → IsOverflow dict.old.restricted row dict.new.slots pair }
+    ensures pivots { (n : ℕ) → result ≡ Err (Pivots n) → (n ≡ budget) × AreSpent dict.old.slots dict.old.restricted row aim budget dict.new.slots }
+    ensures enough { 2 ^ length dict.old.slots ≤ budget → (n : ℕ) → result ≡ Err (Pivots n) → ⊥ }
+{
+    // the count's contract is also what tells that the slots are a table
+    prove!(row < dict.count());
+    for _ in 0..budget {
+        match next_turn(dict, alloc, row, aim)? {
+            Turn::Ends(max) => return Ok(max),
+            Turn::Exchange(leaving, entering) => {
+                dict.pivot(leaving, entering)?;
+            }
+        }
+    }
+    match next_turn(dict, alloc, row, aim)? {
+        Turn::Ends(max) => Ok(max),
+        Turn::Exchange(_, _) => Err(SimplexFault::Pivots(budget)),
+    }
+}
+
+#[cfg(test)]
+mod tests;
