@@ -214,7 +214,11 @@ fn a_sink_that_fails_at_any_call_holds_what_came_before(rt: HostRuntime) -> Resu
         let got = run(alloc, &words, &mut shelf, &mut input, &mut out, &mut err);
         assert_eq!(rt; got, Status::WriteFault, "after {before} bytes");
         assert_eq!(rt; out.bytes(), &transcript[..before], "after {before} bytes");
-        assert_eq!(rt; err.bytes(), b"clpq: write failed\n".as_slice(), "after {before} bytes");
+        assert_eq!(rt;
+            err.bytes(),
+            b"clpq: write failed\n".as_slice(),
+            "after {before} bytes"
+        );
     }
     Ok(())
 }
