@@ -6,8 +6,9 @@ ghost use Rattle.cq_term.specs.Meaning.{at};
 ghost use Rattle.cq_term.specs.Rep.{IsHeap, Resolved};
 ghost use Rattle.cq_term.specs.Shown.{view_of, arguments, IsUnbound};
 
-use crate::names::{Atom, TermId};
+use crate::names::TermId;
 use crate::view::View;
+use cq_atoms::Atom;
 use cq_frac::{Frac, VarId};
 use cq_trail::{Mark, Trail, Undo};
 use std::alloc::{AllocError, Global};
@@ -156,6 +157,11 @@ impl Heap {
         self.bound.set(variable, Some(term))?;
         self.order.push(Binding { variable, term }).unwrap();
         Ok(())
+    }
+
+    /// Where the heap takes its memory.
+    pub fn alloc(&self) -> Global {
+        self.alloc
     }
 
     /// The head of a term. A variable that it shows is unbound.

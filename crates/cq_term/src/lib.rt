@@ -7,6 +7,7 @@ mod names;
 mod tests;
 mod view;
 
+pub use cq_atoms::Atom;
 pub use heap::Heap;
-pub use names::{Atom, Newly, Pred, TermId};
+pub use names::{Newly, Pred, TermId};
 pub use view::View;

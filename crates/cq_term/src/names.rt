@@ -1,7 +1,8 @@
-// The small values that name terms, atoms and predicates.
+// The small values that name terms and predicates.
 
-ghost use Rattle.std.specs.Prelude.{◌≡◌, ◌++◌, [], ◌∷◌, List, OnOk, OnErr};
+ghost use Rattle.std.specs.Prelude.{◌≡◌, ◌++◌, [], ◌∷◌, List, take, OnOk, OnErr};
 
+use cq_atoms::Atom;
 use cq_frac::VarId;
 use std::alloc::{AllocError, Global};
 use std::marker::Model;
@@ -33,30 +34,6 @@ impl TermId {
         ensures { result ≡ self }
     {
         self.number
-    }
-}
-
-/// A name, by its number.
-#[derive(Clone, Copy, Debug, PartialEq, Eq, Hash)]
-pub struct Atom {
-    number: usize,
-}
-
-impl Model for Atom {
-    ghost use Rattle.std.specs.Prelude.{ℕ};
-
-    ghost Value = { ℕ };
-
-    ghost view = { λ atom. atom.number };
-
-    ghost inverse = { λ n. record { number = n } };
-}
-
-impl Atom {
-    pub fn new(number: usize) -> Atom
-        ensures { result ≡ number }
-    {
-        Atom { number }
     }
 }
 
@@ -97,6 +74,13 @@ impl Newly {
     {
         self.variables.push(variable)?;
         Ok(())
+    }
+
+    /// Keeps the first `n`, or all where there are fewer.
+    pub fn truncate(&mut self, n: usize)
+        ensures { self.new ≡ take n self.old }
+    {
+        self.variables.truncate(n);
     }
 
     pub fn as_slice(&self) -> &[VarId]

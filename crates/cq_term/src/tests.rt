@@ -4,6 +4,7 @@ ghost use Rattle.std.specs.Prelude.{◌≡◌, ◌<◌, ◌≤◌, length, IfOk}
 ghost use Rattle.cq_term.specs.Shown.{IsUnbound};
 
 use crate::{Atom, Heap, Newly, TermId, View};
+use cq_atoms::Atoms;
 use cq_frac::{Frac, VarId};
 use cq_trail::Undo;
 use std::alloc::AllocError;
@@ -76,7 +77,8 @@ fn a_chain_and_a_term_of_a_million_are_built_read_and_undone(rt: HostRuntime) ->
     let last = chained(&mut heap, variable)?;
     assert!(rt; last != variable);
     assert!(rt; heap.view(first) == View::Var(last));
-    let whole = nested(&mut heap, Atom::new(7), first)?;
+    let f = Atoms::new(rt.alloc()).intern("f")?;
+    let whole = nested(&mut heap, f, first)?;
     assert_eq!(rt; depth(&heap, whole), DEPTH);
     heap.undo(m);
     assert!(rt; heap.view(first) == View::Var(variable));
@@ -88,8 +90,9 @@ fn each_kind_of_term_shows_its_head(rt: HostRuntime) -> Result<(), Fail> {
     let mut heap = Heap::new(rt.alloc());
     let number = heap.number(Frac::one())?;
     assert!(rt; heap.view(number) == View::Number(Frac::one()));
-    let name = heap.atom(Atom::new(3))?;
-    assert!(rt; heap.view(name) == View::Name(Atom::new(3)));
+    let a = Atoms::new(rt.alloc()).intern("a")?;
+    let name = heap.atom(a)?;
+    assert!(rt; heap.view(name) == View::Name(a));
     let term = heap.new_var()?;
     if let View::Var(variable) = heap.view(term) {
         assert_eq!(rt; heap.var_term(variable), term);
