@@ -1,0 +1,9 @@
+pub mod Equations
+pub mod Heads
+pub mod Listing
+pub mod Occurrences
+pub mod Places
+pub mod Progress
+pub mod Renamed
+pub mod Steps
+pub mod Unbound

@@ -1,0 +1,148 @@
+-- Whether a variable stands in one of the terms that are still to be visited.
+use Rattle.std.proofs.Common.{◌≡◌, ◌≢◌, ℕ, ◌+◌, ◌<◌, List, [], ◌∷◌, ◌++◌, length, map, reverse, Some, refl, ap, sym, ◌∙◌, subst, inl, inr, arith}
+use Rattle.std.specs.Prelude.{All, ◌↔◌, ◌⊎◌}
+use Rattle.std.specs.List.{sum_by}
+use Rattle.std.proofs.lemmas.List.{map-append, reverse-append}
+use Rattle.std.proofs.lemmas.List.Elements.{All-append, All-same, All-pop}
+use Rattle.std.proofs.lemmas.List.Sums.{sum_by-append}
+use Rattle.spec_rational.specs.Rational.{ℚ}
+use Rattle.spec_terms.specs.Term.{Var, Number, Name, Compound, one, more, list_of, size, Occurs, OccursIn, Terms}
+use Rattle.spec_terms.proofs.Substitution.{size_positive}
+use Rattle.cq_term.specs.Meaning.{HeapTerm, at}
+use Rattle.cq_term.specs.Shown.{view_of, arguments}
+use Rattle.cq_term.specs.declared.view.View.{View}
+use Rattle.cq_term.specs.declared.view.View.TheVariants as view
+use Rattle.cq_frac.specs.declared.VarId.{VarId}
+use Rattle.cq_unify.specs.Listing.{PushesArguments}
+use Rattle.cq_unify.proofs.Listing.{sizes_arguments}
+
+-- the variable stands in one of the terms
+abbrev pub StandsAmong : ℕ → List HeapTerm → Type 0
+StandsAmong v [] = ⊥
+StandsAmong v (t ∷ ts) = Occurs v t ⊎ StandsAmong v ts
+
+among-append : (v : ℕ) (ts us : List HeapTerm) → StandsAmong v (ts ++ us) ↔ (StandsAmong v ts ⊎ StandsAmong v us)
+among-append v [] us = (λ h. inr h, λ h. elim h [ inl p ↦ absurd p | inr q ↦ q ])
+among-append v (t ∷ ts) us = (
+  λ h. elim h [
+    | inl p ↦ inl (inl p)
+    | inr q ↦ elim ((among-append v ts us).0 q) [ inl a ↦ inl (inr a) | inr b ↦ inr b ]
+  ],
+  λ h. elim h [
+    | inl p ↦ elim p [ inl a ↦ inl a | inr b ↦ inr ((among-append v ts us).1 (inl b)) ]
+    | inr q ↦ inr ((among-append v ts us).1 (inr q))
+  ],
+)
+
+among-reverse : (v : ℕ) (ts : List HeapTerm) → StandsAmong v (reverse ts) ↔ StandsAmong v ts
+among-reverse v [] = (λ h. h, λ h. h)
+among-reverse v (t ∷ ts) = (
+  λ h. elim ((among-append v (reverse ts) (t ∷ [])).0 (subst (StandsAmong v) (reverse-append (t ∷ []) ts) h)) [
+    | inl p ↦ inr ((among-reverse v ts).0 p)
+    | inr q ↦ elim q [ inl a ↦ inl a | inr b ↦ absurd b ]
+  ],
+  λ h. subst (StandsAmong v) (sym (reverse-append (t ∷ []) ts)) ((among-append v (reverse ts) (t ∷ [])).1 (elim h [ inl a ↦ inr (inl a) | inr b ↦ inl ((among-reverse v ts).1 b) ])),
+)
+
+among-list_of : (v : ℕ) (us : Terms ℕ) → StandsAmong v (list_of us) ↔ OccursIn v us
+among-list_of v (one t) = (λ h. elim h [ inl a ↦ a | inr b ↦ absurd b ], λ h. inl h)
+among-list_of v (more t us) = (
+  λ h. elim h [ inl a ↦ inl a | inr b ↦ inr ((among-list_of v us).0 b) ],
+  λ h. elim h [ inl a ↦ inl a | inr b ↦ inr ((among-list_of v us).1 b) ],
+)
+
+-- the arguments of a compound in place of the compound
+among_arguments : (v : ℕ) (t : HeapTerm) (f n : ℕ) → view_of t ≡ view.Compound f n → StandsAmong v (reverse (arguments t)) ↔ Occurs v t
+among_arguments v (Compound g us) f n e = (
+  λ h. (among-list_of v us).0 ((among-reverse v (list_of us)).0 h),
+  λ h. (among-reverse v (list_of us)).1 ((among-list_of v us).1 h),
+)
+among_arguments v (Var x) f n e = cc
+among_arguments v (Number x) f n e = cc
+among_arguments v (Name x) f n e = cc
+
+-- ---- how much there is to visit
+abbrev pub sizes : List HeapTerm → ℕ
+sizes ts = sum_by size ts
+
+-- ---- a term is visited
+pub record Looks (ts : List HeapTerm) (v : ℕ) (t : HeapTerm) (work : List ℕ) : Type 0 where
+  pub live : All (λ (id : ℕ). id < length ts) work
+  pub same : Occurs v t ↔ StandsAmong v (map (at ts) work)
+
+pub looks_start : (ts : List HeapTerm) (v id : ℕ) (work : List ℕ) → work ≡ id ∷ [] → All (λ (k : ℕ). k < length ts) (id ∷ []) → Looks ts v (at ts id) work
+looks_start ts v id work e live = record {
+  live = All-same (λ (k : ℕ). k < length ts) work (id ∷ []) e live;
+  same = (
+    λ o. subst (λ (is : List ℕ). StandsAmong v (map (at ts) is)) (sym e) (inl o),
+    λ h. elim (subst (λ (is : List ℕ). StandsAmong v (map (at ts) is)) e h) [ inl a ↦ a | inr b ↦ absurd b ],
+  );
+}
+
+module _ (ts : List HeapTerm) (v : ℕ) (t : HeapTerm) (old work : List ℕ) (id : ℕ) (is : old ≡ work ++ id ∷ []) where
+  terms_pop : map (at ts) old ≡ map (at ts) work ++ at ts id ∷ []
+  terms_pop = ap (map (at ts)) is ∙ map-append (at ts) work (id ∷ [])
+
+  sizes_pop : sizes (map (at ts) old) ≡ sizes (map (at ts) work) + size (at ts id)
+  sizes_pop = omega (arith, ap sizes terms_pop, sum_by-append size (map (at ts) work) (at ts id ∷ []))
+
+  pub sizes_less : sizes (map (at ts) work) < sizes (map (at ts) old)
+  sizes_less = omega (arith, sizes_pop, size_positive (at ts id))
+
+  among_pop : StandsAmong v (map (at ts) old) ↔ (StandsAmong v (map (at ts) work) ⊎ Occurs v (at ts id))
+  among_pop =
+      let k = among-append v (map (at ts) work) (at ts id ∷ []) in (
+        λ h. elim (k.0 (subst (StandsAmong v) terms_pop h)) [
+          | inl a ↦ inl a
+          | inr b ↦ elim b [ inl c ↦ inr c | inr d ↦ absurd d ]
+        ],
+        λ h. subst (StandsAmong v) (sym terms_pop) (k.1 (elim h [ inl a ↦ inl a | inr b ↦ inr (inl b) ])),
+      )
+
+  module _ (looks : Looks ts v t old) where
+    pub live_front : All (λ (k : ℕ). k < length ts) work × (id < length ts)
+    live_front = All-pop (λ (k : ℕ). k < length ts) old work (Some id) is looks.live
+
+    pub looks_found : at ts id ≡ Var v → Occurs v t
+    looks_found e = looks.same.1 (among_pop.1 (inr (subst (Occurs v) (sym e) refl)))
+
+    pub looks_past : (Occurs v (at ts id) → ⊥) → Looks ts v t work
+    looks_past absent = record {
+      live = live_front.0;
+      same = (λ o. elim (among_pop.0 (looks.same.0 o)) [ inl a ↦ a | inr b ↦ absurd (absent b) ], λ h. looks.same.1 (among_pop.1 (inl h)));
+    }
+
+    module _ (f n : ℕ) (shown : view_of (at ts id) ≡ view.Compound f n) (new : List ℕ) (pushes : PushesArguments ts (at ts id) 0 work new) where
+      terms_push : map (at ts) new ≡ map (at ts) work ++ reverse (arguments (at ts id))
+      terms_push = ap (map (at ts)) pushes.1 ∙ map-append (at ts) work pushes.0 ∙ ap (λ us. map (at ts) work ++ us) pushes.2.terms
+
+      pub looks_push : Looks ts v t new
+      looks_push =
+          let k = among-append v (map (at ts) work) (reverse (arguments (at ts id))) in
+          let r = among_arguments v (at ts id) f n shown in record {
+            live = All-same (λ (k : ℕ). k < length ts) new (work ++ pushes.0) pushes.1 (All-append (λ (k : ℕ). k < length ts) work pushes.0 live_front.0 pushes.2.live);
+            same = (
+              λ o. subst (StandsAmong v) (sym terms_push) (k.1 (elim (among_pop.0 (looks.same.0 o)) [ inl a ↦ inl a | inr b ↦ inr (r.1 b) ])),
+              λ h. looks.same.1 (among_pop.1 (elim (k.0 (subst (StandsAmong v) terms_push h)) [ inl a ↦ inl a | inr b ↦ inr (r.0 b) ])),
+            );
+          }
+
+      pub sizes_push : sizes (map (at ts) new) < sizes (map (at ts) old)
+      sizes_push = omega (arith, ap sizes terms_push, sum_by-append size (map (at ts) work) (reverse (arguments (at ts id))), sizes_arguments (at ts id) f n shown, sizes_pop)
+
+pub looks_none : (ts : List HeapTerm) (v : ℕ) (t : HeapTerm) (work : List ℕ) → Looks ts v t work → length work ≡ 0 → Occurs v t → ⊥
+looks_none ts v t [] looks n o = looks.same.0 o
+looks_none ts v t (id ∷ work) looks n o = absurd (omega arith)
+
+-- ---- a variable in a term that shows its head
+pub not_another : (t : HeapTerm) (v : ℕ) (w : VarId) → view_of t ≡ view.Var w → w.0 ≢ v → Occurs v t → ⊥
+not_another (Var x) v w e n o = (let h : ◌≡◌ {A = VarId} (record { 0 = x }) w = cc in n (sym (ap (λ (y : VarId). y.0) h) ∙ sym o))
+not_another (Number x) v w e n o = cc
+not_another (Name x) v w e n o = cc
+not_another (Compound g us) v w e n o = cc
+
+pub not_in_constant : (t : HeapTerm) (v : ℕ) (shown : View) → ((q : ℚ) × (shown ≡ view.Number q)) ⊎ ((a : ℕ) × (shown ≡ view.Name a)) → shown ≡ view_of t → Occurs v t → ⊥
+not_in_constant (Number p) v shown h e o = o
+not_in_constant (Name b) v shown h e o = o
+not_in_constant (Var x) v shown h e o = elim h [ inl k ↦ (let d = k.1 in cc) | inr k ↦ (let d = k.1 in cc) ]
+not_in_constant (Compound g us) v shown h e o = elim h [ inl k ↦ (let d = k.1 in cc) | inr k ↦ (let d = k.1 in cc) ]

@@ -1,0 +1,5 @@
+pub mod Copied
+pub mod Copying
+pub mod Listing
+pub mod Unified
+pub mod Work

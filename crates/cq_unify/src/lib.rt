@@ -1,0 +1,15 @@
+//! Calls over whole terms of a heap: unification, copies, and lists of variables.
+#![tactic(auto)]
+
+mod arguments;
+mod copies;
+mod occurs;
+mod pairs;
+#[cfg(test)]
+mod tests;
+mod unification;
+mod variables;
+
+pub use copies::copy;
+pub use unification::unify;
+pub use variables::vars_of;

@@ -1,0 +1,179 @@
+// Small unifications and what they leave, a term copied and its variables listed, a long chain of bindings, and terms that
+// are deeper than any stack.
+
+ghost use Rattle.std.specs.Prelude.{◌≡◌, ◌<◌, ◌≤◌, length, IfOk};
+
+use crate::{copy, unify, vars_of};
+use cq_atoms::Atoms;
+use cq_frac::VarId;
+use cq_term::{Atom, Heap, Newly, TermId, View};
+use std::alloc::AllocError;
+use std::test::Fail;
+
+const DEPTH: usize = 1_000_000;
+
+/// A name over two terms.
+fn pair(heap: &mut Heap, name: Atom, first: TermId, second: TermId) -> Result<TermId, AllocError>
+    requires first { first < length heap.old.now.terms }
+    requires second { second < length heap.old.now.terms }
+    ensures live { IfOk result (λ id. id < length heap.new.now.terms) }
+    ensures more { length heap.old.now.terms ≤ length heap.new.now.terms }
+{
+    heap.compound(name, &[first, second])
+}
+
+fn unified(heap: &mut Heap, newly: &mut Newly, a: TermId, b: TermId) -> Result<bool, AllocError>
+    requires a { a < length heap.old.now.terms }
+    requires b { b < length heap.old.now.terms }
+    ensures more { length heap.old.now.terms ≤ length heap.new.now.terms }
+{
+    let same = unify(heap, newly, a, b)?;
+    Ok(same)
+}
+
+fn variable(heap: &mut Heap) -> Result<TermId, AllocError>
+    ensures live { IfOk result (λ id. id < length heap.new.now.terms) }
+    ensures more { length heap.old.now.terms ≤ length heap.new.now.terms }
+{
+    let id = heap.new_var()?;
+    Ok(id)
+}
+
+fn constant(heap: &mut Heap, name: Atom) -> Result<TermId, AllocError>
+    ensures live { IfOk result (λ id. id < length heap.new.now.terms) }
+    ensures more { length heap.old.now.terms ≤ length heap.new.now.terms }
+{
+    let id = heap.atom(name)?;
+    Ok(id)
+}
+
+#[test]
+fn two_variables_become_a_name(rt: HostRuntime) -> Result<(), Fail> {
+    let f = Atoms::new(rt.alloc()).intern("f")?;
+    let mut heap = Heap::new(rt.alloc());
+    let x = variable(&mut heap)?;
+    let y = variable(&mut heap)?;
+    let name = constant(&mut heap, f)?;
+    let left = pair(&mut heap, f, x, y)?;
+    let right = pair(&mut heap, f, y, name)?;
+    let mut newly = Newly::new(rt.alloc());
+    assert!(rt; unified(&mut heap, &mut newly, left, right)?);
+    assert!(rt; heap.view(x) == View::Name(f));
+    assert_eq!(rt; newly.as_slice().len(), 2);
+    assert!(rt; !unified(&mut heap, &mut newly, left, x)?);
+    Ok(())
+}
+
+#[test]
+fn a_variable_does_not_become_a_term_around_it(rt: HostRuntime) -> Result<(), Fail> {
+    let f = Atoms::new(rt.alloc()).intern("f")?;
+    let mut heap = Heap::new(rt.alloc());
+    let x = variable(&mut heap)?;
+    let around = pair(&mut heap, f, x, x)?;
+    let mut newly = Newly::new(rt.alloc());
+    assert!(rt; !unified(&mut heap, &mut newly, x, around)?);
+    Ok(())
+}
+
+/// Two lists of variables, each of the first one younger than its partner, and the first variable of the first list.
+#[derive(Clone, Copy)]
+struct Lists {
+    younger: TermId,
+    older: TermId,
+    youngest: TermId,
+}
+
+/// The youngest variables stand first, so that each is bound to one that is bound after it.
+fn shifted(heap: &mut Heap, name: Atom, oldest: TermId) -> Result<Lists, AllocError>
+    requires { oldest < length heap.old.now.terms }
+    ensures younger { IfOk result (λ made. made.younger < length heap.new.now.terms) }
+    ensures older { IfOk result (λ made. made.older < length heap.new.now.terms) }
+    ensures youngest { IfOk result (λ made. made.youngest < length heap.new.now.terms) }
+    ensures more { length heap.old.now.terms ≤ length heap.new.now.terms }
+{
+    let (mut younger, mut older, mut youngest) = (oldest, oldest, oldest);
+    for _variable in 0..DEPTH {
+        let next = variable(heap)?;
+        younger = pair(heap, name, next, younger)?;
+        older = pair(heap, name, youngest, older)?;
+        youngest = next;
+    }
+    Ok(Lists {
+        younger,
+        older,
+        youngest,
+    })
+}
+
+#[test]
+fn deep_terms_unify_into_a_long_chain(rt: HostRuntime) -> Result<(), Fail> {
+    let f = Atoms::new(rt.alloc()).intern("f")?;
+    let mut heap = Heap::new(rt.alloc());
+    let oldest = variable(&mut heap)?;
+    let made = shifted(&mut heap, f, oldest)?;
+    let mut newly = Newly::new(rt.alloc());
+    assert!(rt; unified(&mut heap, &mut newly, made.younger, made.older)?);
+    assert_eq!(rt; newly.as_slice().len(), DEPTH);
+    assert!(rt; heap.view(made.youngest) == heap.view(oldest));
+    Ok(())
+}
+
+/// f(Y, f(X, Y)), where X is the older variable.
+fn sample(heap: &mut Heap, name: Atom) -> Result<TermId, AllocError>
+    ensures { IfOk result (λ id. id < length heap.new.now.terms) }
+{
+    let x = variable(heap)?;
+    let y = variable(heap)?;
+    let inner = pair(heap, name, x, y)?;
+    let whole = pair(heap, name, y, inner)?;
+    Ok(whole)
+}
+
+/// A variable under so many names.
+fn nested(heap: &mut Heap, name: Atom) -> Result<TermId, AllocError>
+    ensures { IfOk result (λ id. id < length heap.new.now.terms) }
+{
+    let inner = variable(heap)?;
+    let mut whole = inner;
+    for _level in 0..DEPTH {
+        whole = pair(heap, name, whole, inner)?;
+    }
+    Ok(whole)
+}
+
+fn copied(heap: &mut Heap, term: TermId) -> Result<TermId, AllocError>
+    requires { term < length heap.old.now.terms }
+    ensures live { IfOk result (λ id. id < length heap.new.now.terms) }
+    ensures more { IfOk result (λ id. length heap.old.now.terms ≤ length heap.new.now.terms) }
+{
+    let id = copy(heap, term)?;
+    Ok(id)
+}
+
+fn has_variables(heap: &Heap, term: TermId, expected: &[VarId]) -> Result<bool, AllocError>
+    requires { term < length heap.now.now.terms }
+{
+    let listed = vars_of(heap, term)?;
+    Ok(listed.as_slice() == expected)
+}
+
+#[test]
+fn a_copy_has_new_variables_in_the_order_of_the_term(rt: HostRuntime) -> Result<(), Fail> {
+    let f = Atoms::new(rt.alloc()).intern("f")?;
+    let mut heap = Heap::new(rt.alloc());
+    let term = sample(&mut heap, f)?;
+    let second = copied(&mut heap, term)?;
+    assert!(rt; has_variables(&heap, term, &[VarId(1), VarId(0)])?);
+    assert!(rt; has_variables(&heap, second, &[VarId(2), VarId(3)])?);
+    Ok(())
+}
+
+#[test]
+fn a_deep_term_is_copied_and_its_variables_listed(rt: HostRuntime) -> Result<(), Fail> {
+    let f = Atoms::new(rt.alloc()).intern("f")?;
+    let mut heap = Heap::new(rt.alloc());
+    let term = nested(&mut heap, f)?;
+    let second = copied(&mut heap, term)?;
+    assert!(rt; has_variables(&heap, second, &[VarId(1)])?);
+    Ok(())
+}
