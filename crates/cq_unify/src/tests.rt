@@ -47,31 +47,39 @@ fn constant(heap: &mut Heap, name: Atom) -> Result<TermId, AllocError>
     Ok(id)
 }
 
+/// f(X, Y) and f(Y, f), where X is unbound before and the name f after.
+fn become_a_name(heap: &mut Heap, newly: &mut Newly, f: Atom) -> Result<bool, AllocError> {
+    let x = variable(heap)?;
+    let y = variable(heap)?;
+    let name = constant(heap, f)?;
+    let left = pair(heap, f, x, y)?;
+    let right = pair(heap, f, y, name)?;
+    let same = unified(heap, newly, left, right)?;
+    Ok(same && heap.view(x) == View::Name(f) && newly.as_slice().len() == 2)
+}
+
 #[test]
 fn two_variables_become_a_name(rt: HostRuntime) -> Result<(), Fail> {
     let f = Atoms::new(rt.alloc()).intern("f")?;
     let mut heap = Heap::new(rt.alloc());
-    let x = variable(&mut heap)?;
-    let y = variable(&mut heap)?;
-    let name = constant(&mut heap, f)?;
-    let left = pair(&mut heap, f, x, y)?;
-    let right = pair(&mut heap, f, y, name)?;
     let mut newly = Newly::new(rt.alloc());
-    assert!(rt; unified(&mut heap, &mut newly, left, right)?);
-    assert!(rt; heap.view(x) == View::Name(f));
-    assert_eq!(rt; newly.as_slice().len(), 2);
-    assert!(rt; !unified(&mut heap, &mut newly, left, x)?);
+    assert!(rt; become_a_name(&mut heap, &mut newly, f)?);
     Ok(())
+}
+
+/// X and f(X, X).
+fn become_one(heap: &mut Heap, newly: &mut Newly, f: Atom) -> Result<bool, AllocError> {
+    let x = variable(heap)?;
+    let around = pair(heap, f, x, x)?;
+    unified(heap, newly, x, around)
 }
 
 #[test]
 fn a_variable_does_not_become_a_term_around_it(rt: HostRuntime) -> Result<(), Fail> {
     let f = Atoms::new(rt.alloc()).intern("f")?;
     let mut heap = Heap::new(rt.alloc());
-    let x = variable(&mut heap)?;
-    let around = pair(&mut heap, f, x, x)?;
     let mut newly = Newly::new(rt.alloc());
-    assert!(rt; !unified(&mut heap, &mut newly, x, around)?);
+    assert!(rt; !become_one(&mut heap, &mut newly, f)?);
     Ok(())
 }
 
@@ -105,16 +113,21 @@ fn shifted(heap: &mut Heap, name: Atom, oldest: TermId) -> Result<Lists, AllocEr
     })
 }
 
+/// Two lists of the same length, after which the youngest variable is the oldest.
+fn become_a_chain(heap: &mut Heap, newly: &mut Newly, f: Atom) -> Result<bool, AllocError> {
+    let oldest = variable(heap)?;
+    let made = shifted(heap, f, oldest)?;
+    let same = unified(heap, newly, made.younger, made.older)?;
+    Ok(same && heap.view(made.youngest) == heap.view(oldest))
+}
+
 #[test]
 fn deep_terms_unify_into_a_long_chain(rt: HostRuntime) -> Result<(), Fail> {
     let f = Atoms::new(rt.alloc()).intern("f")?;
     let mut heap = Heap::new(rt.alloc());
-    let oldest = variable(&mut heap)?;
-    let made = shifted(&mut heap, f, oldest)?;
     let mut newly = Newly::new(rt.alloc());
-    assert!(rt; unified(&mut heap, &mut newly, made.younger, made.older)?);
+    assert!(rt; become_a_chain(&mut heap, &mut newly, f)?);
     assert_eq!(rt; newly.as_slice().len(), DEPTH);
-    assert!(rt; heap.view(made.youngest) == heap.view(oldest));
     Ok(())
 }
 
@@ -157,23 +170,34 @@ fn has_variables(heap: &Heap, term: TermId, expected: &[VarId]) -> Result<bool, 
     Ok(listed.as_slice() == expected)
 }
 
+/// The variables of the term and of its copy, numbered by age.
+fn has_new_variables(heap: &mut Heap, f: Atom) -> Result<bool, AllocError> {
+    let term = sample(heap, f)?;
+    let second = copied(heap, term)?;
+    let old = has_variables(heap, term, &[VarId(1), VarId(0)])?;
+    let new = has_variables(heap, second, &[VarId(2), VarId(3)])?;
+    Ok(old && new)
+}
+
 #[test]
 fn a_copy_has_new_variables_in_the_order_of_the_term(rt: HostRuntime) -> Result<(), Fail> {
     let f = Atoms::new(rt.alloc()).intern("f")?;
     let mut heap = Heap::new(rt.alloc());
-    let term = sample(&mut heap, f)?;
-    let second = copied(&mut heap, term)?;
-    assert!(rt; has_variables(&heap, term, &[VarId(1), VarId(0)])?);
-    assert!(rt; has_variables(&heap, second, &[VarId(2), VarId(3)])?);
+    assert!(rt; has_new_variables(&mut heap, f)?);
     Ok(())
+}
+
+/// The same of a term deeper than any stack.
+fn has_a_new_variable(heap: &mut Heap, f: Atom) -> Result<bool, AllocError> {
+    let term = nested(heap, f)?;
+    let second = copied(heap, term)?;
+    has_variables(heap, second, &[VarId(1)])
 }
 
 #[test]
 fn a_deep_term_is_copied_and_its_variables_listed(rt: HostRuntime) -> Result<(), Fail> {
     let f = Atoms::new(rt.alloc()).intern("f")?;
     let mut heap = Heap::new(rt.alloc());
-    let term = nested(&mut heap, f)?;
-    let second = copied(&mut heap, term)?;
-    assert!(rt; has_variables(&heap, second, &[VarId(1)])?);
+    assert!(rt; has_a_new_variable(&mut heap, f)?);
     Ok(())
 }
