@@ -67,6 +67,42 @@ fn two_variables_become_a_name(rt: HostRuntime) -> Result<(), Fail> {
     Ok(())
 }
 
+/// f(X, f) and f(f, f(X, f)).
+fn clash_at_the_end(heap: &mut Heap, newly: &mut Newly, f: Atom) -> Result<bool, AllocError> {
+    let x = variable(heap)?;
+    let name = constant(heap, f)?;
+    let left = pair(heap, f, x, name)?;
+    let right = pair(heap, f, name, left)?;
+    let same = unified(heap, newly, left, right)?;
+    Ok(!same && heap.view(x) != View::Name(f))
+}
+
+#[test]
+fn a_clash_in_the_last_argument_binds_nothing(rt: HostRuntime) -> Result<(), Fail> {
+    let f = Atoms::new(rt.alloc()).intern("f")?;
+    let mut heap = Heap::new(rt.alloc());
+    let mut newly = Newly::new(rt.alloc());
+    assert!(rt; clash_at_the_end(&mut heap, &mut newly, f)?);
+    assert_eq!(rt; newly.as_slice().len(), 0);
+    Ok(())
+}
+
+/// Two variables.
+fn become_equal(heap: &mut Heap, newly: &mut Newly) -> Result<bool, AllocError> {
+    let older = variable(heap)?;
+    let younger = variable(heap)?;
+    unified(heap, newly, older, younger)
+}
+
+#[test]
+fn of_two_variables_the_younger_is_bound(rt: HostRuntime) -> Result<(), Fail> {
+    let mut heap = Heap::new(rt.alloc());
+    let mut newly = Newly::new(rt.alloc());
+    assert!(rt; become_equal(&mut heap, &mut newly)?);
+    assert_eq!(rt; newly.as_slice(), [VarId(1)].as_slice());
+    Ok(())
+}
+
 /// X and f(X, X).
 fn become_one(heap: &mut Heap, newly: &mut Newly, f: Atom) -> Result<bool, AllocError> {
     let x = variable(heap)?;
