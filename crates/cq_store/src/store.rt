@@ -123,8 +123,8 @@ impl Store {
         ensures fixed { MatchOption result (NotFixed (told_of self.now) x.0) (λ q. Fixed (told_of self.now) x.0 q) }
         ensures number { result ≡ number_in (solved_of self.now x.0) }
     {
-        let _ = &self.alloc;
-        self.table.value(x)
+        let Store { table, .. } = self;
+        table.value(x)
     }
 
     /// The form of the variable, if it is solved for.

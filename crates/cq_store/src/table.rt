@@ -157,15 +157,15 @@ impl Table {
     pub fn solved_row(&self, x: VarId) -> Option<SolvedRow<'_>>
         ensures { result ≡ solved_in self.now.now x.0 }
     {
-        let _ = &self.names;
+        let Table { dict, names, .. } = self;
         let q = self.number(x)?;
-        if !self.dict.is_row(q) {
+        if !dict.is_row(q) {
             return None;
         }
         Some(SolvedRow {
-            constant: self.dict.constant(q),
-            entries: self.dict.row(q),
-            names: &self.names,
+            constant: dict.constant(q),
+            entries: dict.row(q),
+            names,
         })
     }
 
