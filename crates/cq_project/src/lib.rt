@@ -78,15 +78,11 @@ fn known_variables(
 {
     let mut known = IndexSet::new(alloc);
     'wanted: for &x in keep {
-        let Ok(_) = known.insert(x) else {
-            return Err(AllocError);
-        };
+        known.insert(x)?;
     }
     'members: for c in told {
         'pairs: for &(x, _) in c.form.pairs() {
-            let Ok(_) = known.insert(x) else {
-                return Err(AllocError);
-            };
+            known.insert(x)?;
         }
     }
     Ok(known)
@@ -157,9 +153,7 @@ fn solved_for(alloc: Global, variable: VarId, form: &SolvedRow<'_>) -> Result<Eq
 {
     let mut products = Vec::new(alloc);
     'places: for i in 0..form.len() {
-        let Ok(()) = products.push(form.get(i)) else {
-            return Err(AllocError);
-        };
+        products.push(form.get(i))?;
     }
     Ok(Equation {
         variable,
@@ -179,9 +173,7 @@ fn equations_in(alloc: Global, store: &Store, keep: &[VarId]) -> Result<Vec<Equa
         let Some(form) = store.row(x) else {
             continue;
         };
-        let Ok(()) = equations.push(solved_for(alloc, x, &form)?) else {
-            return Err(AllocError);
-        };
+        equations.push(solved_for(alloc, x, &form)?)?;
     }
     Ok(equations)
 }

@@ -28,9 +28,7 @@ fn values(
 {
     let mut values = Vec::new(alloc);
     'names: for named in names {
-        let Ok(()) = values.push(store.value(VarId(named.number))) else {
-            return Err(AllocError);
-        };
+        values.push(store.value(VarId(named.number)))?;
     }
     Ok(values)
 }
@@ -57,9 +55,7 @@ fn unbound(
         if !is_target(named, values[i]) {
             continue;
         }
-        let Ok(()) = unbound.push(VarId(named.number)) else {
-            return Err(AllocError);
-        };
+        unbound.push(VarId(named.number))?;
     }
     Ok(unbound)
 }
