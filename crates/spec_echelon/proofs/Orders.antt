@@ -42,3 +42,11 @@ in_order-rest [] x xs h = absurd h
 in_order-rest (v ∷ order) x [] h = tt
 in_order-rest (v ∷ order) x (y ∷ xs) (inl h) = inr h.1
 in_order-rest (v ∷ order) x (y ∷ xs) (inr h) = inr (in_order-rest order x (y ∷ xs) h)
+
+-- of two variables only one stands behind the other
+pub in_order-apart : (order : List ℕ) (x y : ℕ) (xs ys : List ℕ) → AreDistinct order → InOrder order (x ∷ xs) → Has y xs → InOrder order (y ∷ ys) → Has x ys → ⊥
+in_order-apart [] x y xs ys d i h j k = i
+in_order-apart (v ∷ order) x y xs ys d (inl i) h (inl j) k = d.0 (subst (λ z. Has z order) j.0 (in_order-has order xs i.1 y h))
+in_order-apart (v ∷ order) x y xs ys d (inl i) h (inr j) k = d.0 (subst (λ z. Has z order) i.0 (in_order-has order (y ∷ ys) j x (inr k)))
+in_order-apart (v ∷ order) x y xs ys d (inr i) h (inl j) k = d.0 (subst (λ z. Has z order) j.0 (in_order-has order (x ∷ xs) i y (inr h)))
+in_order-apart (v ∷ order) x y xs ys d (inr i) h (inr j) k = in_order-apart order x y xs ys d.1 i h j k

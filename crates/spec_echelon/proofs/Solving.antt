@@ -20,7 +20,7 @@ agrees_through : (targets : List ℕ) (a : ℕ → ℚ) (p : Point) → ((x : �
 agrees_through [] a p h = tt
 agrees_through (x ∷ targets) a p h = (h x (inl refl), agrees_through targets a p (λ y k. h y (inr k)))
 
-negated-mentions : (x : ℕ) (s : List Product) → Mentions x (negated_products s) → Mentions x s
+pub negated-mentions : (x : ℕ) (s : List Product) → Mentions x (negated_products s) → Mentions x s
 negated-mentions x [] h = h
 negated-mentions x (m ∷ s) (inl e) = inl e
 negated-mentions x (m ∷ s) (inr h) = inr (negated-mentions x s h)

@@ -6,7 +6,7 @@ ghost use Rattle.std.specs.Prelude.{◌≡◌, ℕ, List, [], ◌∷◌, ◌++�
 ghost use Rattle.spec_rational.specs.Sums.{Product};
 ghost use Rattle.spec_linear.specs.Form.{Linear};
 ghost use Rattle.spec_linear.specs.Solution.{Constraint, Solvable, Fixed, Same};
-ghost use Rattle.spec_echelon.specs.Echelon.{equations, IsEchelon};
+ghost use Rattle.spec_echelon.specs.Echelon.{Solved, equations, AreDistinct, IsEchelon};
 ghost use Rattle.spec_echelon.specs.SolvedForm.{IsSolvedForm, NotFixed, rows_of};
 
 /// A list in solved form is solvable, whatever values the free variables have.
@@ -31,4 +31,10 @@ pub fn last_rows_are_the_echelon_form()
         IsEchelon targets l (rows_of solved targets) }
     ensures same { (front targets : List ℕ) (l : List Constraint) (solved : ℕ → Option Linear) → IsSolvedForm (front ++ targets) l solved →
         Same targets (equations (rows_of solved targets)) l }
+{}
+
+/// There is one reduced echelon form in an order of variables of what a list entails.
+pub fn echelon_forms_are_unique()
+    ensures { (order : List ℕ) (l : List Constraint) (es gs : List Solved) → AreDistinct order →
+        IsEchelon order l es → IsEchelon order l gs → es ≡ gs }
 {}
