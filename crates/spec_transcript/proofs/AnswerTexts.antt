@@ -6,7 +6,8 @@ use Rattle.std.proofs.lemmas.List.Elements.{filter_agree}
 use Rattle.spec_rational.specs.Rational.{ℚ}
 use Rattle.spec_linear.specs.Solution.{Constraint, Fixes}
 use Rattle.spec_linear.proofs.Lists.{told_once}
-use Rattle.spec_echelon.specs.Echelon.{Solved, AreDistinct, IsEchelon}
+use Rattle.spec_echelon.specs.Echelon.{AreDistinct, IsEchelon}
+use Rattle.spec_echelon.proofs.Uniqueness.{unique_echelon}
 use Rattle.spec_answers.specs.Text.{Text}
 use Rattle.spec_answers.specs.Answer.{AnswerForm, query_variables, targets, binding_line, binding_lines, row_line, or_true, lines_text}
 use Rattle.spec_answers.proofs.Names.{distinct_targets}
@@ -30,18 +31,17 @@ filter_map-agree : {A B : Type 0} → (f g : A → Option B) → ((a : A) → f 
 filter_map-agree f g same [] = refl
 filter_map-agree f g same (a ∷ s) = ap₂ cons_option (same a) (filter_map-agree f g same s)
 
-module _ (unique : (order : List ℕ) (l : List Constraint) (es gs : List Solved) → AreDistinct order → IsEchelon order l es → IsEchelon order l gs → es ≡ gs) where
-  module _ (q : Query) (f g : ℕ → Option ℚ) (same : (x : ℕ) → f x ≡ g x) where
-    same_targets : targets q.names (branch_of q f) ≡ targets q.names (branch_of q g)
-    same_targets = ap (map (λ (n : VariableName). n.number)) (filter_agree (λ n. is_none (f n.number)) (λ n. is_none (g n.number)) (λ n. ap is_none (same n.number)) (query_variables q.names))
+module _ (q : Query) (f g : ℕ → Option ℚ) (same : (x : ℕ) → f x ≡ g x) where
+  same_targets : targets q.names (branch_of q f) ≡ targets q.names (branch_of q g)
+  same_targets = ap (map (λ (n : VariableName). n.number)) (filter_agree (λ n. is_none (f n.number)) (λ n. is_none (g n.number)) (λ n. ap is_none (same n.number)) (query_variables q.names))
 
-    same_bindings : binding_lines q.names (branch_of q f) ≡ binding_lines q.names (branch_of q g)
-    same_bindings = filter_map-agree (λ (n : VariableName). binding_line n.name (f n.number)) (λ n. binding_line n.name (g n.number)) (λ n. ap (binding_line n.name) (same n.number)) (query_variables q.names)
+  same_bindings : binding_lines q.names (branch_of q f) ≡ binding_lines q.names (branch_of q g)
+  same_bindings = filter_map-agree (λ (n : VariableName). binding_line n.name (f n.number)) (λ n. binding_line n.name (g n.number)) (λ n. ap (binding_line n.name) (same n.number)) (query_variables q.names)
 
-    pub same_text : (t u : Text) → AreDistinct (map (λ n. n.number) q.names) → AnswerForm q.names (branch_of q f) t → AnswerForm q.names (branch_of q g) u → t ≡ u
-    same_text t u distinct a b = a.lines ∙ ap₂ (λ bindings rows. lines_text (or_true (bindings ++ map (row_line q.names) rows))) same_bindings same_rows ∙ sym b.lines
-      where
-        same_rows : a.rows ≡ b.rows
-        same_rows =
-            unique (targets q.names (branch_of q f)) (told q) a.rows b.rows (distinct_targets q.names (branch_of q f) distinct) a.echelon
-            (subst (λ order. IsEchelon order (told q) b.rows) (sym same_targets) b.echelon)
+  pub same_text : (t u : Text) → AreDistinct (map (λ n. n.number) q.names) → AnswerForm q.names (branch_of q f) t → AnswerForm q.names (branch_of q g) u → t ≡ u
+  same_text t u distinct a b = a.lines ∙ ap₂ (λ bindings rows. lines_text (or_true (bindings ++ map (row_line q.names) rows))) same_bindings same_rows ∙ sym b.lines
+    where
+      same_rows : a.rows ≡ b.rows
+      same_rows =
+          unique_echelon (targets q.names (branch_of q f)) (told q) a.rows b.rows (distinct_targets q.names (branch_of q f) distinct) a.echelon
+          (subst (λ order. IsEchelon order (told q) b.rows) (sym same_targets) b.echelon)

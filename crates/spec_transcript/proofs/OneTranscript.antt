@@ -2,8 +2,6 @@
 use Rattle.std.proofs.Common.{◌≡◌, ℕ, List, [], ◌++◌, map, Bool, false, true, Option, Some, None, refl, sym, ap₂}
 use Rattle.std.proofs.lemmas.Bool.{true≢false}
 use Rattle.std.proofs.lemmas.List.Elements.{recursion_from_All}
-use Rattle.spec_linear.specs.Solution.{Constraint}
-use Rattle.spec_echelon.specs.Echelon.{Solved, AreDistinct, IsEchelon}
 use Rattle.spec_answers.specs.Text.{Text}
 use Rattle.spec_answers.proofs.Names.{distinct_names}
 use Rattle.spec_queries.specs.Tree.{Query}
@@ -38,15 +36,14 @@ none_from_over same s = elim s [ ]
 none_to_over : {a c : Session} {t : Text} {w : Mark} → Alike a over → Step a t w c → ⊥
 none_to_over same s = elim s [ ]
 
-module _ (unique : (order : List ℕ) (l : List Constraint) (es gs : List Solved) → AreDistinct order → IsEchelon order l es → IsEchelon order l gs → es ≡ gs) where
-  same_to_the_end : {a b : Session} {t u : Text} {m n : Marks} → Onward a t m over → Onward b u n over → AllDistinct a → Alike a b → m.stopped ≡ false → n.stopped ≡ false → (t ≡ u) × (m ≡ n)
-  same_to_the_end here here d e k l = (refl, refl)
-  same_to_the_end here (first s r) d e k l = absurd (none_from_over e s)
-  same_to_the_end (first s r) here d e k l = absurd (none_to_over e s)
-  same_to_the_end (first {marks = m} {mark = w} s r) (first {marks = n} {mark = v} z y) d e k l =
-      let one = alike_steps unique d e s z (no_stop m w k) (no_stop n v l) in
-      let more = same_to_the_end r y (still_distinct s d) one.alike (none_later m w k) (none_later n v l) in
-      (ap₂ (λ x y. x ++ y) one.text more.0, ap₂ marked more.1 one.mark)
+same_to_the_end : {a b : Session} {t u : Text} {m n : Marks} → Onward a t m over → Onward b u n over → AllDistinct a → Alike a b → m.stopped ≡ false → n.stopped ≡ false → (t ≡ u) × (m ≡ n)
+same_to_the_end here here d e k l = (refl, refl)
+same_to_the_end here (first s r) d e k l = absurd (none_from_over e s)
+same_to_the_end (first s r) here d e k l = absurd (none_to_over e s)
+same_to_the_end (first {marks = m} {mark = w} s r) (first {marks = n} {mark = v} z y) d e k l =
+    let one = alike_steps d e s z (no_stop m w k) (no_stop n v l) in
+    let more = same_to_the_end r y (still_distinct s d) one.alike (none_later m w k) (none_later n v l) in
+    (ap₂ (λ x y. x ++ y) one.text more.0, ap₂ marked more.1 one.mark)
 
-  pub one_transcript : (input text other : Text) (m n : Marks) → Transcript input text m → Transcript input other n → m.stopped ≡ false → n.stopped ≡ false → (text ≡ other) × (m ≡ n)
-  one_transcript input text other m n r s k l = same_to_the_end (onward r) (onward s) (distinct_begin input (queries_of input) refl) same k l
+pub one_transcript : (input text other : Text) (m n : Marks) → Transcript input text m → Transcript input other n → m.stopped ≡ false → n.stopped ≡ false → (text ≡ other) × (m ≡ n)
+one_transcript input text other m n r s k l = same_to_the_end (onward r) (onward s) (distinct_begin input (queries_of input) refl) same k l
