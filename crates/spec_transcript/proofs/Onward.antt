@@ -1,5 +1,5 @@
 -- Some steps, from the first on.
-use Rattle.std.proofs.Common.{◌≡◌, List, [], ◌++◌, refl, sym, subst, append_assoc, append-nil}
+use Rattle.std.proofs.Common.{◌≡◌, [], ◌++◌, refl, sym, subst, append_assoc, append-nil}
 use Rattle.spec_answers.specs.Text.{Text}
 use Rattle.spec_transcript.specs.Session.{Session, Mark, plain_line, error_line, stop_line, Marks, unmarked, marked, Step, Runs, no_step, one_more}
 
