@@ -5,7 +5,7 @@ use Rattle.std.specs.List.{All, AllPairs}
 use Rattle.std.proofs.lemmas.List.Elements.{All-head, All-tail, All-weaker}
 use Rattle.spec_linear.specs.Solution.{Has}
 use Rattle.spec_echelon.specs.Echelon.{AreDistinct}
-use Rattle.spec_answers.specs.Answer.{Branch, is_hidden, targets}
+use Rattle.spec_answers.specs.Answer.{Branch, HasDistinctNames, is_hidden, targets}
 use Rattle.spec_queries.specs.Tree.{VariableName, Query}
 use Rattle.spec_queries.specs.Grammar.{queries_of}
 use Rattle.spec_queries.proofs.Names.{numbers_of_their_own}
@@ -28,9 +28,9 @@ distinct_numbers (n ∷ names) apart = (none_has names n.number first, distinct_
     later i j d before within = apart (suc i) (suc j) d (omega arith) (omega arith)
 
 -- each query of a text names different variables
-pub distinct_names : (text : List ℕ) (qs : List Query) → queries_of text ≡ Some qs → All (λ q. AreDistinct (map (λ n. n.number) q.names)) qs
+pub distinct_names : (text : List ℕ) (qs : List Query) → queries_of text ≡ Some qs → All HasDistinctNames qs
 distinct_names text qs e =
-    All-weaker (λ (q : Query). AllPairs (λ m n. m.number ≢ n.number) q.names) (λ q. AreDistinct (map (λ n. n.number) q.names)) (λ q apart. distinct_numbers q.names apart) qs
+    All-weaker (λ (q : Query). AllPairs (λ m n. m.number ≢ n.number) q.names) HasDistinctNames (λ q apart. distinct_numbers q.names apart) qs
     (numbers_of_their_own text qs e)
 
 -- ---- some of the names

@@ -1,21 +1,17 @@
 -- Sessions that are the same but for the functions that give the values of a settled branch, and the steps from them:
 -- steps that are no stops write the same.
-use Rattle.std.proofs.Common.{◌≡◌, ℕ, List, ◌++◌, map, Option, refl, ap}
+use Rattle.std.proofs.Common.{◌≡◌, ℕ, List, ◌++◌, Option, refl, ap}
 use Rattle.std.specs.List.{AllByRecursion}
 use Rattle.std.specs.Prelude.{⊤}
 use Rattle.spec_rational.specs.Rational.{ℚ}
-use Rattle.spec_echelon.specs.Echelon.{AreDistinct}
 use Rattle.spec_answers.specs.Text.{Text}
-use Rattle.spec_answers.specs.Answer.{AnswerForm}
+use Rattle.spec_answers.specs.Answer.{HasDistinctNames, AnswerForm}
 use Rattle.spec_queries.specs.Tree.{Query}
 use Rattle.spec_queries.specs.Meaning.{told}
 use Rattle.spec_transcript.specs.Session.{Session, reading, searching, foreign, over, settled, ended, Mark, plain_line, error_line, stop_line, branch_of, answer_end, Step, refuses, ends, asks, selects, prunes, settles, answers, fails, stops_settling, stops_answering}
 use Rattle.spec_transcript.proofs.AnswerTexts.{same_values, same_text}
 
 -- ---- the queries that are still to be answered name different variables
-
-abbrev pub HasDistinctNames : Query → Type 0
-HasDistinctNames q = AreDistinct (map (λ n. n.number) q.names)
 
 abbrev pub AllDistinct : Session → Type 0
 AllDistinct (reading qs) = AllByRecursion HasDistinctNames qs

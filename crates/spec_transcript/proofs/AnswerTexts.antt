@@ -6,10 +6,10 @@ use Rattle.std.proofs.lemmas.List.Elements.{filter_agree}
 use Rattle.spec_rational.specs.Rational.{ℚ}
 use Rattle.spec_linear.specs.Solution.{Constraint, Fixes}
 use Rattle.spec_linear.proofs.Lists.{told_once}
-use Rattle.spec_echelon.specs.Echelon.{AreDistinct, IsEchelon}
+use Rattle.spec_echelon.specs.Echelon.{IsEchelon}
 use Rattle.spec_echelon.proofs.Uniqueness.{unique_echelon}
 use Rattle.spec_answers.specs.Text.{Text}
-use Rattle.spec_answers.specs.Answer.{AnswerForm, query_variables, targets, binding_line, binding_lines, row_line, or_true, lines_text}
+use Rattle.spec_answers.specs.Answer.{HasDistinctNames, AnswerForm, query_variables, targets, binding_line, binding_lines, row_line, or_true, lines_text}
 use Rattle.spec_answers.proofs.Names.{distinct_targets}
 use Rattle.spec_queries.specs.Tree.{VariableName, Query}
 use Rattle.spec_queries.specs.Meaning.{told}
@@ -38,7 +38,7 @@ module _ (q : Query) (f g : ℕ → Option ℚ) (same : (x : ℕ) → f x ≡ g 
   same_bindings : binding_lines q.names (branch_of q f) ≡ binding_lines q.names (branch_of q g)
   same_bindings = filter_map-agree (λ (n : VariableName). binding_line n.name (f n.number)) (λ n. binding_line n.name (g n.number)) (λ n. ap (binding_line n.name) (same n.number)) (query_variables q.names)
 
-  pub same_text : (t u : Text) → AreDistinct (map (λ n. n.number) q.names) → AnswerForm q.names (branch_of q f) t → AnswerForm q.names (branch_of q g) u → t ≡ u
+  pub same_text : (t u : Text) → HasDistinctNames q → AnswerForm q.names (branch_of q f) t → AnswerForm q.names (branch_of q g) u → t ≡ u
   same_text t u distinct a b = a.lines ∙ ap₂ (λ bindings rows. lines_text (or_true (bindings ++ map (row_line q.names) rows))) same_bindings same_rows ∙ sym b.lines
     where
       same_rows : a.rows ≡ b.rows
