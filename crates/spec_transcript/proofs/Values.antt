@@ -1,6 +1,6 @@
 -- What told relations say of values.
 use Rattle.std.proofs.Common.{◌≡◌, ℕ, List, [], ◌∷◌, pos, refl, ap, ap₂, sym, ◌∙◌, fold}
-use Rattle.spec_rational.specs.Rational.{ℚ, 0ℚ, int_ℚ, ◌+ℚ◌, ◌-ℚ◌, ◌*ℚ◌}
+use Rattle.spec_rational.specs.Rational.{ℚ, 0ℚ, ◌+ℚ◌, ◌-ℚ◌, ◌*ℚ◌}
 use Rattle.spec_rational.proofs.Ring.{var, int, ◌⊕◌, minus as less}
 use Rattle.spec_rational.proofs.Rational.{ring}
 use Rattle.spec_linear.specs.Form.{Linear, value_at, variable_form}
