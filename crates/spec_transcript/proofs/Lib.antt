@@ -6,3 +6,5 @@ pub mod AnswerTexts
 pub mod Onward
 pub mod AlikeSessions
 pub mod OneTranscript
+pub mod VariableOrders
+pub mod SomeTranscript

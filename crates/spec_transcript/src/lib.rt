@@ -1,5 +1,5 @@
 //! The transcript of a session: definitions, with no code. Each function has an empty body, and its contract is
-//! what the definitions say of examples.
+//! a law of the definitions, or what they say of examples.
 #![tactic(auto)]
 
 ghost use Rattle.std.specs.Prelude.{◌≡◌, [], codes, false};
@@ -28,4 +28,9 @@ pub fn inputs_write()
 pub fn transcripts_without_a_stop_are_the_same()
     ensures { (input text other : Text) (m n : Marks) → Transcript input text m → Transcript input other n →
         m.stopped ≡ false → n.stopped ≡ false → (text ≡ other) × (m ≡ n) }
+{}
+
+/// Every input has a transcript without a stop.
+pub fn every_input_has_a_transcript()
+    ensures { (input : Text) → (text : Text) × (m : Marks) × Transcript input text m × (m.stopped ≡ false) }
 {}
