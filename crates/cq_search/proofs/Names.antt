@@ -4,15 +4,8 @@ use Rattle.std.specs.Prelude.{is_none}
 use Rattle.std.proofs.lemmas.List.{take_more, map-append}
 use Rattle.std.proofs.lemmas.List.Elements.{filter-append}
 use Rattle.spec_rational.specs.Rational.{ℚ}
-use Rattle.spec_linear.specs.Solution.{AreEquations}
 use Rattle.spec_answers.specs.Answer.{Branch, is_hidden, targets}
-use Rattle.spec_queries.specs.Tree.{VariableName, Relation}
-use Rattle.spec_queries.specs.Meaning.{constraint_of}
-
--- what a query tells are equations
-pub told_are_equations : (rs : List Relation) → AreEquations (map constraint_of rs)
-told_are_equations [] = tt
-told_are_equations (r ∷ rs) = (refl, told_are_equations rs)
+use Rattle.spec_queries.specs.Tree.{VariableName}
 
 abbrev number_of : VariableName → ℕ
 number_of n = n.number
