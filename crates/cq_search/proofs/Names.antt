@@ -1,44 +1,14 @@
 -- Names that are listed one by one, with the values of their variables.
-use Rattle.std.proofs.Common.{◌≡◌, ℕ, ◌+◌, ◌<◌, List, [], ◌∷◌, ◌++◌, length, map, take, get_or, filter, not, Bool, true, false, cond, ◌&&◌, Option, refl, ap, ap₂, sym, ◌∙◌, inl, inr, append-nil}
+use Rattle.std.proofs.Common.{◌≡◌, ℕ, ◌+◌, ◌<◌, List, [], ◌∷◌, ◌++◌, length, map, take, get_or, filter, not, Bool, true, false, cond, ◌&&◌, Option, refl, ap, ap₂, sym, ◌∙◌, append-nil}
 use Rattle.std.specs.Prelude.{is_none}
 use Rattle.std.proofs.lemmas.List.{take_more, map-append}
 use Rattle.std.proofs.lemmas.List.Elements.{filter-append}
 use Rattle.spec_rational.specs.Rational.{ℚ}
-use Rattle.spec_linear.specs.Solution.{Has, AreEquations}
-use Rattle.spec_echelon.specs.Echelon.{AreDistinct}
 use Rattle.spec_answers.specs.Answer.{Branch, is_hidden, targets}
-use Rattle.spec_queries.specs.Tree.{VariableName, Relation}
-use Rattle.spec_queries.specs.Meaning.{constraint_of}
-
--- what a query tells are equations
-pub told_are_equations : (rs : List Relation) → AreEquations (map constraint_of rs)
-told_are_equations [] = tt
-told_are_equations (r ∷ rs) = (refl, told_are_equations rs)
+use Rattle.spec_queries.specs.Tree.{VariableName}
 
 abbrev number_of : VariableName → ℕ
 number_of n = n.number
-
--- ---- some of the names
-
-has_some : (p : VariableName → Bool) (names : List VariableName) (x : ℕ) → Has x (map (λ n. n.number) (filter p names)) → Has x (map (λ n. n.number) names)
-has_some p [] x h = h
-has_some p (n ∷ names) x h = go (has_some p names x) (p n) h
-  where
-    go : (Has x (map (λ (m : VariableName). m.number) (filter p names)) → Has x (map (λ (m : VariableName). m.number) names)) → (b : Bool) → Has x (map (λ (m : VariableName). m.number) (cond b (n ∷ filter p names) (filter p names))) → Has x (map (λ (m : VariableName). m.number) (n ∷ names))
-    go rest true (inl e) = inl e
-    go rest true (inr k) = inr (rest k)
-    go rest false k = inr (rest k)
-
-distinct_some : (p : VariableName → Bool) (names : List VariableName) → AreDistinct (map (λ n. n.number) names) → AreDistinct (map (λ n. n.number) (filter p names))
-distinct_some p [] d = tt
-distinct_some p (n ∷ names) d = go (distinct_some p names d.1) (p n)
-  where
-    go : AreDistinct (map (λ (m : VariableName). m.number) (filter p names)) → (b : Bool) → AreDistinct (map (λ (m : VariableName). m.number) (cond b (n ∷ filter p names) (filter p names)))
-    go rest true = ((λ h. d.0 (has_some p names n.number h)), rest)
-    go rest false = rest
-
-pub distinct_targets : (names : List VariableName) (b : Branch) → AreDistinct (map (λ n. n.number) names) → AreDistinct (targets names b)
-distinct_targets names b d = distinct_some (λ n. is_none (b.values n.number)) (filter (λ n. not (is_hidden n.name)) names) (distinct_some (λ n. not (is_hidden n.name)) names d)
 
 -- ---- one name more
 

@@ -1,4 +1,3 @@
 pub mod Whole
-pub mod DistinctNames
 pub mod Steps
 pub mod Endings

@@ -1,9 +1,8 @@
 -- How far the work on an input came: the steps that were taken, and what was appended to what `out` holds.
-use Rattle.std.specs.Prelude.{◌≡◌, ℕ, List, ◌∷◌, ◌++◌, map, Bool, true, false, ◌||◌, Option, Ok, Err, Result, ⊤}
+use Rattle.std.specs.Prelude.{◌≡◌, ℕ, List, ◌∷◌, ◌++◌, Bool, true, false, ◌||◌, Option, Ok, Err, Result, ⊤}
 use Rattle.cq_outside.specs.Counts.{Rose}
 use Rattle.cq_outside.specs.Bytes.{Appends}
 use Rattle.spec_answers.specs.Text.{Text}
-use Rattle.spec_echelon.specs.Echelon.{AreDistinct}
 use Rattle.spec_queries.specs.Tree.{Query}
 use Rattle.spec_transcript.specs.Session.{Session, Marks, Runs, reading}
 use Rattle.cq_session.specs.declared.Status.{Status}
@@ -32,10 +31,6 @@ whole_status true false = Faulty
 whole_status false false = Done
 
 -- ---- queries
-
--- the names of the query have different numbers
-abbrev pub HasDistinctNames : Query → Type 0
-HasDistinctNames q = AreDistinct (map (λ n. n.number) q.names)
 
 -- the query writes this text, whatever is asked behind it, and the text may be a stop
 abbrev pub IsBlock : Query → Text → Bool → Type 0

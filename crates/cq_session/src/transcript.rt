@@ -1,8 +1,9 @@
 // The transcript of a text, written query by query.
 ghost use Rattle.std.specs.Prelude.{◌≡◌, [], IfOk, OnErr};
 ghost use Rattle.std.specs.List.{All};
+ghost use Rattle.spec_answers.specs.Answer.{HasDistinctNames};
 ghost use Rattle.spec_transcript.specs.Session.{reading, over, start};
-ghost use Rattle.cq_session.specs.Progress.{Advanced, Broken, CountsWrites, HasDistinctNames, IsBlock, marks_of, stop_marks};
+ghost use Rattle.cq_session.specs.Progress.{Advanced, Broken, CountsWrites, IsBlock, marks_of, stop_marks};
 
 use crate::Status;
 use cq_outside::{Sink, SinkFailed, write_whole};

@@ -3,8 +3,8 @@ use Rattle.std.specs.Prelude.{◌≡◌, ℕ, ◌==◌, List, [], ◌∷◌, ◌
 use Rattle.std.specs.List.{filter_map}
 use Rattle.spec_rational.specs.Rational.{ℚ}
 use Rattle.spec_linear.specs.Solution.{Constraint, Same}
-use Rattle.spec_echelon.specs.Echelon.{Solved, IsEchelon, equations}
-use Rattle.spec_queries.specs.Tree.{VariableName}
+use Rattle.spec_echelon.specs.Echelon.{Solved, AreDistinct, IsEchelon, equations}
+use Rattle.spec_queries.specs.Tree.{VariableName, Query}
 use Rattle.spec_answers.specs.Text.{Text, number_text}
 use Rattle.spec_answers.specs.RowText.{equation_text}
 
@@ -12,6 +12,10 @@ use Rattle.spec_answers.specs.RowText.{equation_text}
 pub record Branch : Type 0 where
   pub values : ℕ → Option ℚ
   pub linear : List Constraint
+
+-- the names of the query have different numbers
+abbrev pub HasDistinctNames : Query → Type 0
+HasDistinctNames q = AreDistinct (map (λ n. n.number) q.names)
 
 -- the text begins with `_`
 abbrev pub is_hidden : Text → Bool

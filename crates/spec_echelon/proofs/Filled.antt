@@ -10,6 +10,7 @@ use Rattle.spec_linear.specs.Form.{Linear, value_at}
 use Rattle.spec_linear.specs.Solution.{Constraint, Has, Satisfies}
 use Rattle.spec_echelon.specs.Echelon.{Solved, difference, equations, InOrder}
 use Rattle.spec_echelon.specs.SolvedForm.{Agrees, IsSolvedForm, row_at, rows_of}
+use Rattle.spec_echelon.proofs.Orders.{in_order-more}
 
 -- ---- an equation says that the variable is the form
 
@@ -69,10 +70,6 @@ each_row P solved (x ∷ targets) h = go (solved x) refl (each_row P solved targ
     go : (o : Option Linear) → solved x ≡ o → AllByRecursion P (rows_of solved targets) → AllByRecursion P (cons_option (row_at x o) (rows_of solved targets))
     go None e r = r
     go (Some f) e r = (h x f (inl refl) e, r)
-
-in_order-more : (x : ℕ) (order ys : List ℕ) → InOrder order ys → InOrder (x ∷ order) ys
-in_order-more x order [] h = tt
-in_order-more x order (y ∷ ys) h = inr h
 
 pub rows-sorted : (solved : ℕ → Option Linear) (targets : List ℕ) → InOrder targets (map (λ e. e.variable) (rows_of solved targets))
 rows-sorted solved [] = tt

@@ -5,3 +5,6 @@ pub mod SameProducts
 pub mod UniqueForms
 pub mod Found
 pub mod Uniqueness
+pub mod Listed
+pub mod Elimination
+pub mod Existence

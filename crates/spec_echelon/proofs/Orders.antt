@@ -8,6 +8,11 @@ pub has_behind : (front targets : List ℕ) (x : ℕ) → Has x targets → Has 
 has_behind [] targets x h = h
 has_behind (v ∷ front) targets x h = inr (has_behind front targets x h)
 
+-- one variable more in the order
+pub in_order-more : (x : ℕ) (order ys : List ℕ) → InOrder order ys → InOrder (x ∷ order) ys
+in_order-more x order [] h = tt
+in_order-more x order (y ∷ ys) h = inr h
+
 pub in_order-has : (order xs : List ℕ) → InOrder order xs → (x : ℕ) → Has x xs → Has x order
 in_order-has order [] h x k = absurd k
 in_order-has [] (y ∷ xs) h x k = absurd h

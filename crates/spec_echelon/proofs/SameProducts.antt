@@ -12,7 +12,7 @@ use Rattle.spec_linear.proofs.Ordered.{product_same, form_same}
 use Rattle.spec_echelon.specs.Echelon.{AreDistinct, InOrder, variables, IsBefore}
 use Rattle.spec_echelon.proofs.Orders.{in_order-has, in_order-once, in_order-rest, mentions-has}
 
-cancelled : (c p q : ℚ) → c +ℚ p ≡ c +ℚ q → p ≡ q
+pub cancelled : (c p q : ℚ) → c +ℚ p ≡ c +ℚ q → p ≡ q
 cancelled c p q e =
     ring (c ∷ p ∷ []) (var 1) ((var 0 ⊕ var 1) ⊕ minus (var 0)) refl ∙ ap (λ r. r -ℚ c) e
     ∙ ring (c ∷ q ∷ []) ((var 0 ⊕ var 1) ⊕ minus (var 0)) (var 1) refl

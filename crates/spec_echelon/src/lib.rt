@@ -2,10 +2,10 @@
 //! empty body, and its contract is a law of the definitions.
 #![tactic(auto)]
 
-ghost use Rattle.std.specs.Prelude.{◌≡◌, ℕ, List, [], ◌∷◌, ◌++◌, Option, Some, None};
+ghost use Rattle.std.specs.Prelude.{◌≡◌, ◌⊎◌, ℕ, List, [], ◌∷◌, ◌++◌, Option, Some, None};
 ghost use Rattle.spec_rational.specs.Sums.{Product};
 ghost use Rattle.spec_linear.specs.Form.{Linear};
-ghost use Rattle.spec_linear.specs.Solution.{Constraint, Solvable, Fixed, Same};
+ghost use Rattle.spec_linear.specs.Solution.{Constraint, Solvable, Unsolvable, AreEquations, MentionsOnly, Fixed, Same};
 ghost use Rattle.spec_echelon.specs.Echelon.{Solved, equations, AreDistinct, IsEchelon};
 ghost use Rattle.spec_echelon.specs.SolvedForm.{IsSolvedForm, NotFixed, rows_of};
 
@@ -37,4 +37,10 @@ pub fn last_rows_are_the_echelon_form()
 pub fn echelon_forms_are_unique()
     ensures { (order : List ℕ) (l : List Constraint) (es gs : List Solved) → AreDistinct order →
         IsEchelon order l es → IsEchelon order l gs → es ≡ gs }
+{}
+
+/// Equations over some variables have no solution, or a solved form in any order of these variables.
+pub fn equations_have_a_solved_form()
+    ensures { (order : List ℕ) (l : List Constraint) → AreDistinct order → AreEquations l → MentionsOnly order l →
+        Unsolvable l ⊎ ((solved : ℕ → Option Linear) × IsSolvedForm order l solved) }
 {}

@@ -3,13 +3,14 @@
 //! a law or an example.
 #![tactic(auto)]
 
-ghost use Rattle.std.specs.Prelude.{◌≡◌, [], ◌∷◌, ◌++◌, Some, None, codes, pos};
+ghost use Rattle.std.specs.Prelude.{◌≡◌, ◌≢◌, ℕ, List, [], ◌∷◌, ◌++◌, All, AllPairs, Some, None, codes, pos};
 ghost use Rattle.spec_rational.specs.Rational.{int_ℚ};
 ghost use Rattle.spec_linear.specs.Form.{constant_form, variable_form, difference_form};
 ghost use Rattle.spec_linear.specs.declared.Relation.TheVariants.{Eq};
 ghost use Rattle.cq_frac.specs.declared.Operation.TheVariants.{Difference, Product};
 ghost use Rattle.spec_queries.specs.declared.Sign.TheVariants.{Plus, Minus};
 ghost use Rattle.spec_queries.specs.declared.Term.TheVariants.{Variable};
+ghost use Rattle.spec_queries.specs.Tree.{Query};
 ghost use Rattle.spec_queries.specs.Grammar.{queries_of};
 ghost use Rattle.spec_queries.specs.Meaning.{told, operations};
 ghost use Rattle.spec_queries.specs.Examples.{number, negative, times, negative_times, alone, joined, equation, named, query, difference_example, twice_second, first_less_twice_second};
@@ -82,4 +83,9 @@ pub fn other_texts()
 pub fn what_a_query_says()
     ensures told { told difference_example ≡ record { relation = Eq; form = difference_form first_less_twice_second (constant_form (int_ℚ (pos 3))) } ∷ [] }
     ensures operations { operations difference_example ≡ record { operation = Product; left = constant_form (int_ℚ (pos 2)); right = variable_form 1 } ∷ record { operation = Difference; left = variable_form 0; right = twice_second } ∷ record { operation = Difference; left = first_less_twice_second; right = constant_form (int_ℚ (pos 3)) } ∷ [] }
+{}
+
+/// In each query of a text the names have different numbers.
+pub fn names_have_numbers_of_their_own()
+    ensures { (text : List ℕ) (qs : List Query) → queries_of text ≡ Some qs → All (λ q. AllPairs (λ m n. m.number ≢ n.number) q.names) qs }
 {}

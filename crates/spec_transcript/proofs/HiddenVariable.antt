@@ -14,8 +14,8 @@ use Rattle.spec_answers.specs.Answer.{AnswerForm}
 use Rattle.spec_queries.specs.declared.Sign.TheVariants.{Plus}
 use Rattle.spec_queries.specs.declared.Term.TheVariants.{Variable}
 use Rattle.spec_queries.specs.Tree.{Relation, Query}
-use Rattle.spec_queries.specs.Meaning.{told, constraint_of, operations}
-use Rattle.spec_queries.specs.Examples.{number as numeral, times, alone, joined, equation, named, query}
+use Rattle.spec_queries.specs.Meaning.{told}
+use Rattle.spec_queries.specs.Examples.{number as numeral, alone, joined, equation, named, query}
 use Rattle.spec_transcript.specs.Session.{reading, no_step, one_more, asks, selects, settles, answers, fails, ends, branch_of}
 use Rattle.spec_transcript.specs.Samples.{Writes}
 use Rattle.spec_transcript.proofs.Values.{told_relations}

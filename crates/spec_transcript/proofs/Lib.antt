@@ -2,3 +2,9 @@ pub mod Values
 pub mod Solved
 pub mod Rows
 pub mod HiddenVariable
+pub mod AnswerTexts
+pub mod Onward
+pub mod AlikeSessions
+pub mod OneTranscript
+pub mod VariableOrders
+pub mod SomeTranscript

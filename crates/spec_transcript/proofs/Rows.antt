@@ -1,5 +1,5 @@
 -- What a few inputs write.
-use Rattle.std.proofs.Common.{◌≡◌, ◌≢◌, ◌↔◌, ℕ, zero, suc, List, [], ◌∷◌, ◌++◌, map, ℤ, pos, negsuc, Option, Some, None, inl, inr, codes, refl, sym, ap, ◌∙◌, subst, lit≤}
+use Rattle.std.proofs.Common.{◌≡◌, ◌≢◌, ◌↔◌, ℕ, zero, suc, List, [], ◌∷◌, ◌++◌, map, pos, negsuc, Option, Some, None, inl, inr, codes, refl, sym, ap, ◌∙◌, subst, lit≤}
 use Rattle.spec_rational.specs.Gcd.{gcd}
 use Rattle.spec_rational.specs.Rational.{ℚ, 0ℚ, 1ℚ, ratio, int_ℚ, neg_ℚ, ◌+ℚ◌, ◌*ℚ◌}
 use Rattle.spec_rational.specs.Sums.{Mentions}

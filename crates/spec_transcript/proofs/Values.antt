@@ -1,9 +1,10 @@
 -- What told relations say of values.
-use Rattle.std.proofs.Common.{◌≡◌, ℕ, List, [], ◌∷◌, pos, refl, ap, ap₂, sym, ◌∙◌, fold}
-use Rattle.spec_rational.specs.Rational.{ℚ, 0ℚ, int_ℚ, ◌+ℚ◌, ◌-ℚ◌, ◌*ℚ◌}
+use Rattle.std.proofs.Common.{◌≡◌, ℕ, List, [], ◌∷◌, pos, refl, ap, ap₂, sym, ◌∙◌, fold, map}
+use Rattle.spec_rational.specs.Rational.{ℚ, 0ℚ, ◌+ℚ◌, ◌-ℚ◌, ◌*ℚ◌}
 use Rattle.spec_rational.proofs.Ring.{var, int, ◌⊕◌, minus as less}
 use Rattle.spec_rational.proofs.Rational.{ring}
 use Rattle.spec_linear.specs.Form.{Linear, value_at, variable_form}
+use Rattle.spec_linear.specs.Solution.{AreEquations}
 use Rattle.spec_linear.proofs.Values.{value_at-constant_form, value_at-variable_form, value_at-sum_form, value_at-scaled_form, value_at-difference_form}
 use Rattle.spec_queries.specs.declared.Sign.{Sign}
 use Rattle.spec_queries.specs.declared.Sign.TheVariants.{Plus, Minus}
@@ -49,3 +50,8 @@ told_relations a r = (
   λ holds. equal_if_no_difference (sum_value a r.left) (sum_value a r.right) (sym (value_at-constraint_of a r) ∙ holds),
   λ same. value_at-constraint_of a r ∙ no_difference (sum_value a r.left) (sum_value a r.right) same,
 )
+
+-- what a query tells are equations
+pub told_are_equations : (rs : List Relation) → AreEquations (map constraint_of rs)
+told_are_equations [] = tt
+told_are_equations (r ∷ rs) = (refl, told_are_equations rs)

@@ -1,5 +1,5 @@
 -- Transcripts to try the definitions on.
-use Rattle.std.specs.Prelude.{ℕ, true, false}
+use Rattle.std.specs.Prelude.{true, false}
 use Rattle.spec_answers.specs.Text.{Text}
 use Rattle.spec_transcript.specs.Session.{Transcript}
 

@@ -1,9 +1,11 @@
 //! The transcript of a session: definitions, with no code. Each function has an empty body, and its contract is
-//! what the definitions say of examples.
+//! a law of the definitions, or what they say of examples.
 #![tactic(auto)]
 
-ghost use Rattle.std.specs.Prelude.{[], codes};
+ghost use Rattle.std.specs.Prelude.{◌≡◌, [], codes, false};
+ghost use Rattle.spec_answers.specs.Text.{Text};
 ghost use Rattle.spec_transcript.specs.Told.{ToldRelations};
+ghost use Rattle.spec_transcript.specs.Session.{Marks, Transcript};
 ghost use Rattle.spec_transcript.specs.Samples.{Writes, WritesError, WritesStop};
 
 /// A told relation holds just where its sides have the same value.
@@ -20,4 +22,15 @@ pub fn inputs_write()
     ensures contradiction { Writes (codes "{X=1, X=2}.") (codes "no\n") }
     ensures overflow { WritesStop (codes "?- {X=170141183460469231731687303715884105727+1}.") (codes "stop: overflow\n") }
     ensures foreign { WritesError (codes "?- {X>1}.") (codes "error: syntax 0\n") }
+{}
+
+/// An input has one transcript without a stop, at most.
+pub fn transcripts_without_a_stop_are_the_same()
+    ensures { (input text other : Text) (m n : Marks) → Transcript input text m → Transcript input other n →
+        m.stopped ≡ false → n.stopped ≡ false → (text ≡ other) × (m ≡ n) }
+{}
+
+/// Every input has a transcript without a stop.
+pub fn every_input_has_a_transcript()
+    ensures { (input : Text) → (text : Text) × (m : Marks) × Transcript input text m × (m.stopped ≡ false) }
 {}

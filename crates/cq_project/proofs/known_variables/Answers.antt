@@ -10,12 +10,12 @@ pub wanted-preserved : goal.wanted-preserved
 wanted-preserved c =
     let within : c.wanted.x-index < length c.args.keep.now = omega arith in
     wanted_more same_variable.eq-value.it (λ a b. refl) c.args.keep.now c.wanted.known.keys c.insert.new.self.keys c.wanted.x-index
-    (get_or c.args.keep.now c.wanted.x-index (record { 0 = 0 })) c.requires within (get_or_default c.args.keep.now c.wanted.x-index _ _ within) c.wanted.invariant c.in-Ok.ensures.keys
+    (get_or c.args.keep.now c.wanted.x-index (record { 0 = 0 })) c.requires within (get_or_default c.args.keep.now c.wanted.x-index _ _ within) c.wanted.invariant c.in_ok-insert.ensures.keys
 
 pub pairs-preserved : goal.pairs-preserved
 pairs-preserved c =
     let within : c.pairs.x-index < length c.pairs-x-items.result.now = omega arith in
-    let new = knows_more same_variable.eq-value.it (λ a b. refl) c.args.keep.now (take c.members.c-index c.args.told.now) c.pairs.known.keys c.insert-in-pairs.new.self.keys c.pairs-item.result.0 c.pairs.invariant.0 c.in-Ok-insert.ensures.keys in
+    let new = knows_more same_variable.eq-value.it (λ a b. refl) c.args.keep.now (take c.members.c-index c.args.told.now) c.pairs.known.keys c.insert-in-pairs.new.self.keys c.pairs-item.result.0 c.pairs.invariant.0 c.in_ok-insert-2.ensures.keys in
     (new.knows, pair_more c.pairs.known.keys c.insert-in-pairs.new.self.keys c.pairs-x-items.result.now c.pairs.x-index c.pairs-item.result within c.pairs-item.is new.there new.stays c.pairs.invariant.1)
 
 pub members-preserved : goal.members-preserved

@@ -11,7 +11,8 @@ use Rattle.cq_store.specs.Contents.{told_of, order_of, solved_of}
 use Rattle.cq_project.specs.Rows.{numbers_of, equations_of}
 use Rattle.cq_search.specs.Values.{bound_by, branch_in}
 use Rattle.cq_search.specs.Finding.{AreBound, Stops, while_answering}
-use Rattle.cq_search.proofs.Names.{told_are_equations, distinct_targets}
+use Rattle.spec_answers.proofs.Names.{distinct_targets}
+use Rattle.spec_transcript.proofs.Values.{told_are_equations}
 use Rattle.cq_search.proofs.Fixed.{fixes}
 use Rattle.cq_search.proofs.Dues.{due_in_telling}
 use Rattle.cq_search.proofs.answered.answered.Goals as goal
