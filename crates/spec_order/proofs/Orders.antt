@@ -11,12 +11,12 @@ use Rattle.spec_terms.specs.Term.{Term, Terms, Var, Number, Name, Compound, one,
 use Rattle.spec_order.specs.Order.{Text, compare_texts, compare_terms, compare_all}
 
 -- ---- two comparisons, one after the other
-first_equal : (o p : Ordering) → ordering_then o p ≡ Equal → o ≡ Equal
+pub first_equal : (o p : Ordering) → ordering_then o p ≡ Equal → o ≡ Equal
 first_equal Less p e = e
 first_equal Equal p e = refl
 first_equal Greater p e = e
 
-second_equal : (o p : Ordering) → ordering_then o p ≡ Equal → p ≡ Equal
+pub second_equal : (o p : Ordering) → ordering_then o p ≡ Equal → p ≡ Equal
 second_equal Less p e = cc
 second_equal Equal p e = e
 second_equal Greater p e = cc
@@ -38,7 +38,7 @@ then_chain Equal Greater xz xy' yz' xz' chain left right rest h k = cc
 then_chain Greater yz xz xy' yz' xz' chain left right rest h k = cc
 
 -- ---- the same place, the same term
-nat_cmp-equal : (m n : ℕ) → nat_cmp m n ≡ Equal → m ≡ n
+pub nat_cmp-equal : (m n : ℕ) → nat_cmp m n ≡ Equal → m ≡ n
 nat_cmp-equal m n e = ranked m n Equal (sym e)
 
 texts_equal : (a b : Text) → compare_texts a b ≡ Equal → a ≡ b
