@@ -8,7 +8,7 @@ use Rattle.spec_terms.specs.Variables.{with_variable, variables_after, variables
 use Rattle.std.proofs.lemmas.List.{map-append}
 use Rattle.spec_terms.proofs.Substitution.{apply-followed_by, apply_agree, apply-identity}
 
-abbrev Member : ℕ → List ℕ → Type 0
+abbrev pub Member : ℕ → List ℕ → Type 0
 Member v [] = ⊥
 Member v (w ∷ ws) = (w ≡ v) ⊎ Member v ws
 
@@ -21,7 +21,7 @@ contains_member [] v k lt e = absurd (omega arith)
 contains_member (w ∷ ws) v zero lt e = inl e
 contains_member (w ∷ ws) v (suc k) lt e = inr (contains_member ws v k (omega arith) e)
 
-member_contains : (vs : List ℕ) (v : ℕ) → Member v vs → Contains vs v
+pub member_contains : (vs : List ℕ) (v : ℕ) → Member v vs → Contains vs v
 member_contains [] v m = absurd m
 member_contains (w ∷ ws) v m = elim m [
   | inl e ↦ (0, omega arith, e)
@@ -62,14 +62,14 @@ with_from vs v w m = go (list_any (λ x. x == v) vs) m
     go true m = inl m
     go false m = elim (member_push vs v w m) [ inl h ↦ inl h | inr e ↦ inr (sym e) ]
 
-with_kept : (vs : List ℕ) (v w : ℕ) → Member w vs → Member w (with_variable vs v)
+pub with_kept : (vs : List ℕ) (v w : ℕ) → Member w vs → Member w (with_variable vs v)
 with_kept vs v w m = go (list_any (λ x. x == v) vs)
   where
     go : (b : Bool) → Member w (cond b vs (vs ++ v ∷ []))
     go true = m
     go false = member_kept vs v w m
 
-with_last : (vs : List ℕ) (v : ℕ) → Member v (with_variable vs v)
+pub with_last : (vs : List ℕ) (v : ℕ) → Member v (with_variable vs v)
 with_last vs v = go (list_any (λ x. x == v) vs) refl
   where
     go : (b : Bool) → list_any (λ x. x == v) vs ≡ b → Member v (cond b vs (vs ++ v ∷ []))
@@ -113,24 +113,24 @@ module _ {A : Type 0} where
     ]
 
   mutual
-    listed_kept : (vs : List ℕ) (t : Term A) (w : ℕ) → Member w vs → Member w (variables_after vs t)
+    pub listed_kept : (vs : List ℕ) (t : Term A) (w : ℕ) → Member w vs → Member w (variables_after vs t)
     listed_kept vs (Var v) w m = with_kept vs v w m
     listed_kept vs (Number q) w m = m
     listed_kept vs (Name a) w m = m
     listed_kept vs (Compound f ts) w m = listed_in_kept vs ts w m
 
-    listed_in_kept : (vs : List ℕ) (ts : Terms A) (w : ℕ) → Member w vs → Member w (variables_in vs ts)
+    pub listed_in_kept : (vs : List ℕ) (ts : Terms A) (w : ℕ) → Member w vs → Member w (variables_in vs ts)
     listed_in_kept vs (one t) w m = listed_kept vs t w m
     listed_in_kept vs (more t ts) w m = listed_in_kept (variables_after vs t) ts w (listed_kept vs t w m)
 
   mutual
-    listed_here : (vs : List ℕ) (t : Term A) (w : ℕ) → Occurs w t → Member w (variables_after vs t)
+    pub listed_here : (vs : List ℕ) (t : Term A) (w : ℕ) → Occurs w t → Member w (variables_after vs t)
     listed_here vs (Var v) w o = subst (λ (x : ℕ). Member x (with_variable vs v)) (sym o) (with_last vs v)
     listed_here vs (Number q) w o = absurd o
     listed_here vs (Name a) w o = absurd o
     listed_here vs (Compound f ts) w o = listed_in_here vs ts w o
 
-    listed_in_here : (vs : List ℕ) (ts : Terms A) (w : ℕ) → OccursIn w ts → Member w (variables_in vs ts)
+    pub listed_in_here : (vs : List ℕ) (ts : Terms A) (w : ℕ) → OccursIn w ts → Member w (variables_in vs ts)
     listed_in_here vs (one t) w o = listed_here vs t w o
     listed_in_here vs (more t ts) w o = elim o [
       | inl h ↦ listed_in_kept (variables_after vs t) ts w (listed_here vs t w h)
@@ -187,7 +187,7 @@ map_members f g [] h = refl
 map_members f g (v ∷ vs) h = λ i. h v (inl refl) i ∷ map_members f g vs (λ w m. h w (inr m)) i
 
 -- f tells the variables of the list apart
-abbrev Separates : (ℕ → ℕ) → List ℕ → Type 0
+abbrev pub Separates : (ℕ → ℕ) → List ℕ → Type 0
 Separates f all = (v w : ℕ) → Member v all → Member w all → f v ≡ f w → v ≡ w
 
 any_map : (f : ℕ → ℕ) (all vs : List ℕ) (v : ℕ) → Separates f all → ((w : ℕ) → Member w vs → Member w all) → Member v all →
@@ -226,11 +226,11 @@ counted n (v ∷ vs) d = λ i. first i ∷ (rest ∙ counted (suc n) vs d.1) i
     rest = map_members (λ w. n + position_or_len (λ x. x == w) (v ∷ vs)) (λ w. suc n + position_or_len (λ x. x == w) vs) vs step
 
 module _ {A : Type 0} where
-  abbrev renaming : (ℕ → ℕ) → ℕ → Term A
+  abbrev pub renaming : (ℕ → ℕ) → ℕ → Term A
   renaming f v = Var (f v)
 
   mutual
-    variables_after-renamed : (f : ℕ → ℕ) (all vs : List ℕ) (t : Term A) → Separates f all → ((w : ℕ) → Member w (variables_after vs t) → Member w all) →
+    pub variables_after-renamed : (f : ℕ → ℕ) (all vs : List ℕ) (t : Term A) → Separates f all → ((w : ℕ) → Member w (variables_after vs t) → Member w all) →
         variables_after (map f vs) (apply (renaming f) t) ≡ map f (variables_after vs t)
     variables_after-renamed f all vs (Var v) s within = with-map f all vs v s (λ w m. within w (with_kept vs v w m)) (within v (with_last vs v))
     variables_after-renamed f all vs (Number q) s within = refl

@@ -1,0 +1,5 @@
+pub mod Ahead
+pub mod Sameness
+pub mod Ranks
+pub mod Places
+pub mod Matches

@@ -1,0 +1,6 @@
+use Rattle.std.proofs.Common.{refl}
+use Rattle.spec_order.proofs.Orders.{compare_terms-total, compare_terms-equal, compare_terms-itself}
+use Rattle.spec_order.proofs.standard_order.Goals as goal
+
+pub returns : goal.returns
+returns c = record { total = compare_terms-total; same = λ t u. (compare_terms-equal t u, compare_terms-itself t u); kinds = λ v q a f ts. (refl, refl, refl) }
