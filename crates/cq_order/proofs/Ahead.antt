@@ -4,7 +4,7 @@ use Rattle.std.specs.Prelude.{All, slice_get, ◌↔◌}
 use Rattle.std.proofs.lemmas.List.{map-append, reverse-append, reverse-reverse}
 use Rattle.std.proofs.lemmas.Option.{none-some, same_Some}
 use Rattle.std.proofs.lemmas.List.Elements.{All-push, All-append, All-same, All-pop}
-use Rattle.spec_terms.specs.Term.{Terms, Var, Number, Name, Compound, one, more, count, list_of, size, total_size}
+use Rattle.spec_terms.specs.Term.{Terms, Var, Number, Name, Compound, one, more, list_of, size, total_size}
 use Rattle.spec_terms.proofs.Substitution.{size_positive}
 use Rattle.cq_term.specs.Meaning.{HeapTerm, at}
 use Rattle.cq_term.specs.Shown.{view_of, arguments}

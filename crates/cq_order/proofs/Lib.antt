@@ -3,3 +3,4 @@ pub mod Sameness
 pub mod Ranks
 pub mod Places
 pub mod Matches
+pub mod Known

@@ -1,11 +1,10 @@
 -- Whether the pairs of terms that are left match, pair by pair, with the variables that were met before them.
-use Rattle.std.proofs.Common.{◌≡◌, ℕ, List, [], ◌∷◌, ◌++◌, length, refl, ap, sym, ◌∙◌, subst, arith}
+use Rattle.std.proofs.Common.{◌≡◌, ℕ, List, [], ◌∷◌, ◌++◌, refl, ap, sym, ◌∙◌, subst, arith}
 use Rattle.std.specs.Prelude.{All, ◌↔◌, ⊤}
 use Rattle.spec_terms.specs.Term.{Terms, Var, Number, Name, Compound, one, more, count, list_of}
 use Rattle.spec_terms.specs.Variables.{with_variable, variables_after, variables_in}
 use Rattle.spec_order.specs.Variants.{AreVariants}
 use Rattle.spec_order.proofs.Renamings.{place, Match, MatchAll, match_variants}
-use Rattle.cq_frac.specs.declared.VarId.{VarId}
 use Rattle.cq_term.specs.Meaning.{HeapTerm, at}
 use Rattle.cq_term.specs.Shown.{view_of, arguments}
 use Rattle.cq_order.specs.Work.{IsLive, Both, both, side_by_side, IsConstant, AreUnlike, AreAlike, PushesPairs}

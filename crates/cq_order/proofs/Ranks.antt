@@ -1,5 +1,5 @@
 -- How the pairs of terms that are left stand in the standard order, the first that differs.
-use Rattle.std.proofs.Common.{◌≡◌, ◌≢◌, ℕ, ◌<◌, List, [], ◌∷◌, ◌++◌, length, refl, ap, sym, ◌∙◌, subst, arith}
+use Rattle.std.proofs.Common.{◌≡◌, ◌≢◌, ℕ, List, [], ◌∷◌, ◌++◌, length, refl, ap, sym, ◌∙◌, subst, arith}
 use Rattle.std.specs.Prelude.{All, ⊤}
 use Rattle.std.specs.declared.cmp.Ordering.{Ordering}
 use Rattle.std.specs.declared.cmp.Ordering.TheVariants.{Less, Equal, Greater}
@@ -14,7 +14,7 @@ use Rattle.cq_term.specs.Shown.{view_of, arguments}
 use Rattle.cq_term.specs.declared.view.View.TheVariants as view
 use Rattle.cq_order.specs.Names.{HasNamesBelow, HaveNamesBelow}
 use Rattle.cq_order.specs.Standing.{order_of, AreAlikeCompounds, Stands, TellsCompounds}
-use Rattle.cq_order.specs.Work.{IsLive, Both, both, side_by_side, PushesPairs}
+use Rattle.cq_order.specs.Work.{IsLive, Both, side_by_side, PushesPairs}
 use Rattle.cq_order.specs.declared.order.Standing.{Standing}
 use Rattle.cq_order.specs.declared.order.Standing.TheVariants as standing
 use Rattle.cq_order.specs.declared.pairs.Pair.{Pair}

@@ -1,11 +1,10 @@
 -- Whether the pairs of terms that are left are the same, pair by pair.
-use Rattle.std.proofs.Common.{◌≡◌, ◌≢◌, ℕ, List, [], ◌∷◌, ◌++◌, length, refl, ap, sym, ◌∙◌, subst, arith}
-use Rattle.std.specs.Prelude.{All, ◌↔◌, ⊤}
+use Rattle.std.proofs.Common.{◌≡◌, ℕ, List, [], ◌∷◌, ◌++◌, ap, sym, subst, arith}
+use Rattle.std.specs.Prelude.{◌↔◌, ⊤}
 use Rattle.spec_terms.specs.Term.{Terms, Var, Number, Name, Compound, one, more, count, list_of}
-use Rattle.cq_frac.specs.declared.VarId.{VarId}
 use Rattle.cq_term.specs.Meaning.{HeapTerm, at}
-use Rattle.cq_term.specs.Shown.{view_of, arguments}
-use Rattle.cq_order.specs.Work.{IsLive, Both, both, side_by_side, AreAlike, PushesPairs}
+use Rattle.cq_term.specs.Shown.{arguments}
+use Rattle.cq_order.specs.Work.{Both, side_by_side, AreAlike, PushesPairs}
 use Rattle.cq_order.specs.declared.pairs.Pair.{Pair}
 use Rattle.cq_order.proofs.Ahead.{ahead, ahead_pop, ahead_push, live_pop, live_push, Remains}
 

@@ -23,6 +23,7 @@ pub record AreAlikeCompounds (texts : List Text) (t u : HeapTerm) (n : ℕ) : Ty
   pub right : view_of u ≡ view.Compound right_name n
   pub names : compare_texts (text_of texts left_name) (text_of texts right_name) ≡ Equal
 
+-- what the heads say of the order of two terms
 abbrev pub Stands : List Text → HeapTerm → HeapTerm → Standing → Type 0
 Stands texts t u standing.Same = order_of texts t u ≡ Equal
 Stands texts t u (standing.Apart o) = (order_of texts t u ≡ o) × (o ≢ Equal)

@@ -2,6 +2,7 @@
 #![tactic(auto)]
 
 mod equality;
+mod names;
 mod order;
 mod pairs;
 #[cfg(test)]
@@ -9,5 +10,6 @@ mod tests;
 mod variants;
 
 pub use equality::same;
+pub use names::names_stay_below;
 pub use order::compare;
 pub use variants::variant;

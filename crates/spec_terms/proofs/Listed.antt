@@ -130,7 +130,7 @@ module _ {A : Type 0} where
     listed_here vs (Name a) w o = absurd o
     listed_here vs (Compound f ts) w o = listed_in_here vs ts w o
 
-    pub listed_in_here : (vs : List ℕ) (ts : Terms A) (w : ℕ) → OccursIn w ts → Member w (variables_in vs ts)
+    listed_in_here : (vs : List ℕ) (ts : Terms A) (w : ℕ) → OccursIn w ts → Member w (variables_in vs ts)
     listed_in_here vs (one t) w o = listed_here vs t w o
     listed_in_here vs (more t ts) w o = elim o [
       | inl h ↦ listed_in_kept (variables_after vs t) ts w (listed_here vs t w h)

@@ -1,4 +1,4 @@
-use Rattle.std.proofs.Common.{◌≡◌, sym, ◌∙◌, ap, rules, true, false, length}
+use Rattle.std.proofs.Common.{ap}
 use Rattle.cq_term.specs.Meaning.{at}
 use Rattle.cq_term.proofs.Arguments.{length-arguments}
 use Rattle.cq_order.specs.Places.{numbers_of}
