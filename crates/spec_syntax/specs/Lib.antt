@@ -3,3 +3,5 @@ pub mod Trees
 pub mod Grammar
 pub mod Machine
 pub mod Yields
+pub mod TextTokens
+pub mod Examples
