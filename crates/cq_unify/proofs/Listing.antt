@@ -43,10 +43,16 @@ sizes_arguments (Name a) f n e = cc
 sizes_arguments (Compound g us) f n e = omega (arith, sizes-reverse us)
 
 -- the last id is taken off
+pub terms_pop : (ts : List HeapTerm) (old work : List ℕ) (id : ℕ) → old ≡ work ++ id ∷ [] → map (at ts) old ≡ map (at ts) work ++ at ts id ∷ []
+terms_pop ts old work id e = ap (map (at ts)) e ∙ map-append (at ts) work (id ∷ [])
+
+-- and its arguments are added
+pub terms_push : (ts : List HeapTerm) (t : HeapTerm) (work new : List ℕ) → PushesArguments ts t 0 work new → map (at ts) new ≡ map (at ts) work ++ reverse (arguments t)
+terms_push ts t work new p = ap (map (at ts)) p.1 ∙ map-append (at ts) work p.0 ∙ ap (λ us. map (at ts) work ++ us) p.2.terms
+
 through_pop : (ts : List HeapTerm) (vs old work : List ℕ) (id : ℕ) → old ≡ work ++ id ∷ [] → variables_through vs (map (at ts) old) ≡ variables_through (variables_after vs (at ts id)) (map (at ts) work)
 through_pop ts vs old work id e =
-    ap (λ ids. variables_through vs (map (at ts) ids)) e
-    ∙ ap (variables_through vs) (map-append (at ts) work (id ∷ []))
+    ap (variables_through vs) (terms_pop ts old work id e)
     ∙ through-append vs (map (at ts) work) (at ts id ∷ [])
 
 -- a term is visited that changes the variables seen so far as it has to
@@ -56,12 +62,10 @@ through_visit ts vs ws old work id e seen = ap (λ us. variables_through us (map
 pub live_push : (ts : List HeapTerm) (t : HeapTerm) (work new : List ℕ) → All (λ id. id < length ts) work → PushesArguments ts t 0 work new → All (λ id. id < length ts) new
 live_push ts t work new live p = All-same (λ id. id < length ts) new (work ++ p.0) p.1 (All-append (λ id. id < length ts) work p.0 live p.2.live)
 
--- and its arguments are added
 pub through_push : (ts : List HeapTerm) (vs old work new : List ℕ) (id f n : ℕ) → old ≡ work ++ id ∷ [] → view_of (at ts id) ≡ view.Compound f n → PushesArguments ts (at ts id) 0 work new →
     variables_through vs (map (at ts) new) ≡ variables_through vs (map (at ts) old)
 through_push ts vs old work new id f n e shown p =
-    ap (λ ids. variables_through vs (map (at ts) ids)) p.1
-    ∙ ap (variables_through vs) (map-append (at ts) work p.0 ∙ ap (λ us. map (at ts) work ++ us) p.2.terms)
+    ap (variables_through vs) (terms_push ts (at ts id) work new p)
     ∙ through-append vs (map (at ts) work) (reverse (arguments (at ts id)))
     ∙ ap (λ ws. variables_through ws (map (at ts) work)) (through_arguments vs (at ts id) f n shown)
     ∙ sym (through_pop ts vs old work id e)
@@ -70,12 +74,10 @@ pub sizes_push : (ts : List HeapTerm) (old work new : List ℕ) (id f n : ℕ) �
     sum_by size (map (at ts) new) < sum_by size (map (at ts) old)
 sizes_push ts old work new id f n e shown p =
     let more : sum_by size (map (at ts) new) ≡ sum_by size (map (at ts) work) + sum_by size (reverse (arguments (at ts id))) =
-    ap (λ ids. sum_by size (map (at ts) ids)) p.1
-    ∙ ap (sum_by size) (map-append (at ts) work p.0 ∙ ap (λ us. map (at ts) work ++ us) p.2.terms)
+    ap (sum_by size) (terms_push ts (at ts id) work new p)
     ∙ sum_by-append size (map (at ts) work) (reverse (arguments (at ts id))) in
     let less : sum_by size (map (at ts) old) ≡ sum_by size (map (at ts) work) + (0 + size (at ts id)) =
-    ap (λ ids. sum_by size (map (at ts) ids)) e
-    ∙ ap (sum_by size) (map-append (at ts) work (id ∷ []))
+    ap (sum_by size) (terms_pop ts old work id e)
     ∙ sum_by-append size (map (at ts) work) (at ts id ∷ []) in
     omega (arith, more, less, sizes_arguments (at ts id) f n shown)
 
@@ -123,9 +125,10 @@ module _ (eq : VarId → VarId → Bool) (same : (a b : VarId) → eq a b ≡ na
       go true = refl
       go false = map-append (λ (w : VarId). w.0) ks (v ∷ [])
 
-  pub all_insert_key : (P : VarId → Type 0) (ks : List VarId) (v : VarId) → All P ks → P v → All P (insert_key eq ks v)
-  all_insert_key P ks v all p = go (list_any (eq v) ks)
-    where
-      go : (b : Bool) → All P (if b then ks else ks ++ v ∷ [])
-      go true = all
-      go false = All-push P ks v all p
+-- ---- one more key of a set
+pub all_insert_key : {K : Type 0} (eq : K → K → Bool) (P : K → Type 0) (ks : List K) (k : K) → All P ks → P k → All P (insert_key eq ks k)
+all_insert_key eq P ks k all p = go (list_any (eq k) ks)
+  where
+    go : (b : Bool) → All P (if b then ks else ks ++ k ∷ [])
+    go true = all
+    go false = All-push P ks k all p

@@ -7,13 +7,15 @@ ghost use Rattle.cq_term.specs.Meaning.{at};
 use crate::arguments::push_arguments;
 use cq_frac::VarId;
 use cq_term::{Heap, TermId, View};
+use indexmap::IndexSet;
 use std::alloc::AllocError;
 
-/// Whether an unbound variable stands in a term.
+/// Whether an unbound variable stands in a term. A compound that stands at several places is looked into once.
 pub(crate) fn occurs(heap: &Heap, variable: VarId, term: TermId) -> Result<bool, AllocError>
     requires { term < length heap.now.now.terms }
     ensures { IfOk result (λ found. IsTrue found ↔ Occurs variable.0 (at heap.now.now.terms term)) }
 {
+    let mut visited = IndexSet::new(heap.alloc());
     let mut work = vec![in heap.alloc(); term]?;
     while let Some(id) = work.pop() {
         match heap.view(id) {
@@ -23,7 +25,12 @@ pub(crate) fn occurs(heap: &Heap, variable: VarId, term: TermId) -> Result<bool,
                 }
             }
             View::Number(_) | View::Name(_) => {}
-            View::Compound(_, arity) => push_arguments(heap, id, arity, &mut work)?,
+            View::Compound(_, arity) => {
+                let is_new = visited.insert(id)?;
+                if is_new {
+                    push_arguments(heap, id, arity, &mut work)?;
+                }
+            }
         }
     }
     Ok(false)

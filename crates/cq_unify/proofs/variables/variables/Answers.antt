@@ -22,7 +22,7 @@ loop-id-preserved-in_ok-insert-in-Var c =
           through_visit ts (numbers_of keys) (numbers_of c.insert.new.self.keys) c.loop-id.work.items c.pop.new.self.items c.in-Some.id c.in-Some.ensures.items
           (ap numbers_of more ∙ numbers_of-insert_key same_variable.eq-value.it (λ a b. refl) keys v ∙ ap (variables_after (numbers_of keys)) (sym shown))
           ∙ c.loop-id.invariant.variables;
-      unbound = All-same (λ w. IsUnbound c.args.heap.now.now.images w.0) _ _ more (all_insert_key same_variable.eq-value.it (λ a b. refl) (λ w. IsUnbound c.args.heap.now.now.images w.0) keys v c.loop-id.invariant.unbound (c.in-Var.ensures.unbound v.0 shown));
+      unbound = All-same (λ w. IsUnbound c.args.heap.now.now.images w.0) _ _ more (all_insert_key same_variable.eq-value.it (λ w. IsUnbound c.args.heap.now.now.images w.0) keys v c.loop-id.invariant.unbound (c.in-Var.ensures.unbound v.0 shown));
     }
 
 pub loop-id-preserved-in-Number : goal.loop-id-preserved-in-Number
