@@ -1,20 +1,17 @@
 -- Whether a variable stands in one of the terms that are still to be visited.
-use Rattle.std.proofs.Common.{◌≡◌, ◌≢◌, ℕ, ◌+◌, ◌<◌, List, [], ◌∷◌, ◌++◌, length, map, reverse, Some, refl, ap, sym, ◌∙◌, subst, inl, inr, arith}
+use Rattle.std.proofs.Common.{◌≡◌, ◌≢◌, ℕ, ◌<◌, List, [], ◌∷◌, ◌++◌, length, map, reverse, Some, refl, ap, sym, ◌∙◌, subst, inl, inr, arith}
 use Rattle.std.specs.Prelude.{All, ◌↔◌, ◌⊎◌}
-use Rattle.std.specs.List.{sum_by}
 use Rattle.std.proofs.lemmas.List.{reverse-append}
 use Rattle.std.proofs.lemmas.List.Elements.{All-append, All-same, All-pop}
-use Rattle.std.proofs.lemmas.List.Sums.{sum_by-append}
 use Rattle.spec_rational.specs.Rational.{ℚ}
-use Rattle.spec_terms.specs.Term.{Var, Number, Name, Compound, one, more, list_of, size, Occurs, OccursIn, Terms}
-use Rattle.spec_terms.proofs.Substitution.{size_positive}
+use Rattle.spec_terms.specs.Term.{Var, Number, Name, Compound, one, more, list_of, Occurs, OccursIn, Terms}
 use Rattle.cq_term.specs.Meaning.{HeapTerm, at}
 use Rattle.cq_term.specs.Shown.{view_of, arguments}
 use Rattle.cq_term.specs.declared.view.View.{View}
 use Rattle.cq_term.specs.declared.view.View.TheVariants as view
 use Rattle.cq_frac.specs.declared.VarId.{VarId}
 use Rattle.cq_unify.specs.Listing.{PushesArguments}
-use Rattle.cq_unify.proofs.Listing.{sizes_arguments, terms_pop, terms_push}
+use Rattle.cq_unify.proofs.Listing.{terms_pop, terms_push}
 
 -- the variable stands in one of the terms
 abbrev pub StandsAmong : ℕ → List HeapTerm → Type 0
@@ -61,10 +58,6 @@ among_arguments v (Var x) f n e = cc
 among_arguments v (Number x) f n e = cc
 among_arguments v (Name x) f n e = cc
 
--- ---- how much there is to visit
-abbrev pub sizes : List HeapTerm → ℕ
-sizes ts = sum_by size ts
-
 -- ---- a term is visited
 pub record Looks (ts : List HeapTerm) (v : ℕ) (t : HeapTerm) (work : List ℕ) : Type 0 where
   pub live : All (λ (id : ℕ). id < length ts) work
@@ -82,12 +75,6 @@ looks_start ts v id work e live = record {
 module _ (ts : List HeapTerm) (v : ℕ) (t : HeapTerm) (old work : List ℕ) (id : ℕ) (is : old ≡ work ++ id ∷ []) where
   popped : map (at ts) old ≡ map (at ts) work ++ at ts id ∷ []
   popped = terms_pop ts old work id is
-
-  sizes_pop : sizes (map (at ts) old) ≡ sizes (map (at ts) work) + size (at ts id)
-  sizes_pop = omega (arith, ap sizes popped, sum_by-append size (map (at ts) work) (at ts id ∷ []))
-
-  pub sizes_less : sizes (map (at ts) work) < sizes (map (at ts) old)
-  sizes_less = omega (arith, sizes_pop, size_positive (at ts id))
 
   among_pop : StandsAmong v (map (at ts) old) ↔ (StandsAmong v (map (at ts) work) ⊎ Occurs v (at ts id))
   among_pop =
@@ -126,9 +113,6 @@ module _ (ts : List HeapTerm) (v : ℕ) (t : HeapTerm) (old work : List ℕ) (id
               λ h. looks.same.1 (among_pop.1 (elim (k.0 (subst (StandsAmong v) pushed h)) [ inl a ↦ inl a | inr b ↦ inr (r.0 b) ])),
             );
           }
-
-      pub sizes_push : sizes (map (at ts) new) < sizes (map (at ts) old)
-      sizes_push = omega (arith, ap sizes pushed, sum_by-append size (map (at ts) work) (reverse (arguments (at ts id))), sizes_arguments (at ts id) f n shown, sizes_pop)
 
 pub looks_none : (ts : List HeapTerm) (v : ℕ) (t : HeapTerm) (work : List ℕ) → Looks ts v t work → length work ≡ 0 → Occurs v t → ⊥
 looks_none ts v t [] looks n o = looks.same.0 o

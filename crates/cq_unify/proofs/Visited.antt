@@ -1,20 +1,18 @@
 -- Compounds that were visited before. Each variable of theirs was met, or it stands on top of the work that is left: in a
 -- term that is smaller than the compound, as are all terms that are visited before that one. So a compound that is on
 -- top itself has no variable that was not met.
-use Rattle.std.proofs.Common.{◌≡◌, ℕ, ◌+◌, ◌<◌, List, [], ◌∷◌, ◌++◌, map, reverse, get_or, Bool, true, if◌then◌else◌, refl, ap, sym, ◌∙◌, subst, inl, inr, arith}
-use Rattle.std.specs.Prelude.{All, ◌⊎◌, ⊤}
-use Rattle.std.specs.List.{sum_by, list_any}
-use Rattle.std.proofs.lemmas.List.Elements.{All-contains, All-same}
+use Rattle.std.proofs.Common.{◌≡◌, ℕ, ◌+◌, ◌<◌, List, [], ◌∷◌, ◌++◌, map, reverse, length, get_or, ap, ◌∙◌, sym, subst, inl, inr, arith}
+use Rattle.std.specs.Prelude.{All, Contains, ◌⊎◌, ⊤}
+use Rattle.std.specs.List.{sum_by}
+use Rattle.std.proofs.lemmas.List.Elements.{All-contains, All-push, All-same}
 use Rattle.std.proofs.lemmas.List.Sums.{sum_by-append}
-use Rattle.indexmap.specs.IndexSet.{insert_key}
-use Rattle.indexmap.proofs.CallerLemmas.{Contains-list_any}
 use Rattle.spec_terms.specs.Term.{size, Occurs}
 use Rattle.cq_term.specs.Meaning.{HeapTerm, at}
 use Rattle.cq_term.specs.Shown.{view_of, arguments}
 use Rattle.cq_term.specs.declared.view.View.TheVariants as view
-use Rattle.cq_unify.specs.Listing.{PushesArguments}
-use Rattle.cq_unify.proofs.Listing.{sizes_arguments, terms_pop, terms_push, all_insert_key}
-use Rattle.cq_unify.proofs.Occurrences.{StandsAmong, among_arguments}
+use Rattle.cq_unify.specs.Listing.{variables_through, PushesArguments, VisitsArguments}
+use Rattle.cq_unify.proofs.Listing.{live_push, through_known, through_push, sizes_arguments, sizes_pop, sizes_push, terms_pop, terms_push}
+use Rattle.cq_unify.proofs.Occurrences.{StandsAmong, among_arguments, Looks, looks_past, looks_push}
 
 -- each of the terms has a size below n
 abbrev pub AreBelow : ℕ → List HeapTerm → Type 0
@@ -103,27 +101,53 @@ module _ (ts : List HeapTerm) (met : Type 0) (v : ℕ) (old work : List ℕ) (id
   read_pop u h = subst (λ us. IsVisited met v us u) (terms_pop ts old work id is) h
 
   pub all_past : (now : Type 0) → (met → now) → (Occurs v (at ts id) → now) → AreVisited ts now v work visited
-  all_past now stays here k d lt = let u = at ts (get_or visited k d) in visited_past met now v (map (at ts) work) (at ts id) u stays here (read_pop u (all k d lt))
+  all_past now stays here k d lt = visited_past met now v (map (at ts) work) (at ts id) (at ts (get_or visited k d)) stays here (read_pop (at ts (get_or visited k d)) (all k d lt))
 
-  -- the id was visited before
-  module _ (eq : ℕ → ℕ → Bool) (same : (a b : ℕ) → eq a b ≡ true → a ≡ b) (found : list_any (eq id) visited ≡ true) where
-    pub met_before : Occurs v (at ts id) → met
-    met_before o =
-        let again = All-contains (λ (i : ℕ). IsVisited met v (map (at ts) old) (at ts i)) visited id all (Contains-list_any eq same visited id found) in
-        visited_again met v (map (at ts) work) (at ts id) (read_pop (at ts id) again) o
+  pub met_before : Contains visited id → Occurs v (at ts id) → met
+  met_before known o =
+      let again = All-contains (λ (i : ℕ). IsVisited met v (map (at ts) old) (at ts i)) visited id all known in
+      visited_again met v (map (at ts) work) (at ts id) (read_pop (at ts id) again) o
 
-    pub all_again : (more : List ℕ) → more ≡ insert_key eq visited id → AreVisited ts met v work more
-    all_again more e =
-        All-same (λ (i : ℕ). IsVisited met v (map (at ts) work) (at ts i)) more visited (e ∙ ap (λ b. if b then visited else visited ++ id ∷ []) found)
-        (all_past met (λ m. m) met_before)
+  module _ (f n : ℕ) (shown : view_of (at ts id) ≡ view.Compound f n) (new : List ℕ) where
+    all_push : PushesArguments ts (at ts id) 0 work new → AreVisited ts met v new (visited ++ id ∷ [])
+    all_push pushes =
+        All-push (λ (i : ℕ). IsVisited met v (map (at ts) new) (at ts i)) visited id
+        (λ k d lt. read_push (at ts (get_or visited k d)) (visited_spread met v (map (at ts) work) (at ts id) f n shown (at ts (get_or visited k d)) (read_pop (at ts (get_or visited k d)) (all k d lt))))
+        (read_push (at ts id) (visited_first met v (map (at ts) work) (at ts id) f n shown))
+      where
+        read_push : (u : HeapTerm) → IsVisited met v (map (at ts) work ++ reverse (arguments (at ts id))) u → IsVisited met v (map (at ts) new) u
+        read_push u h = subst (λ us. IsVisited met v us u) (sym (terms_push ts (at ts id) work new pushes)) h
 
-  module _ (f n : ℕ) (shown : view_of (at ts id) ≡ view.Compound f n) (new : List ℕ) (pushes : PushesArguments ts (at ts id) 0 work new) where
-    read_push : (u : HeapTerm) → IsVisited met v (map (at ts) work ++ reverse (arguments (at ts id))) u → IsVisited met v (map (at ts) new) u
-    read_push u h = subst (λ us. IsVisited met v us u) (sym (terms_push ts (at ts id) work new pushes)) h
+    pub all_visit : (more : List ℕ) → VisitsArguments ts id visited more work new → AreVisited ts met v new more
+    all_visit more visits = elim visits [
+      | inl k ↦ (let same : AreVisited ts met v work more = subst (AreVisited ts met v work) (sym k.1) (all_past met (λ m. m) (met_before k.0)) in subst (λ (ids : List ℕ). AreVisited ts met v ids more) (sym k.2) same)
+      | inr k ↦ subst (AreVisited ts met v new) (sym k.1) (all_push k.2)
+    ]
 
-    pub all_push : (eq : ℕ → ℕ → Bool) (more : List ℕ) → more ≡ insert_key eq visited id → AreVisited ts met v new more
-    all_push eq more e =
-        All-same (λ (i : ℕ). IsVisited met v (map (at ts) new) (at ts i)) more (insert_key eq visited id) e
-        (all_insert_key eq (λ (i : ℕ). IsVisited met v (map (at ts) new) (at ts i)) visited id
-        (λ k d lt. let u = at ts (get_or visited k d) in read_push u (visited_spread met v (map (at ts) work) (at ts id) f n shown u (read_pop u (all k d lt))))
-        (read_push (at ts id) (visited_first met v (map (at ts) work) (at ts id) f n shown)))
+-- the work gets smaller, whether the arguments are added or not
+pub sizes_visit : (ts : List HeapTerm) (old work new visited more : List ℕ) (id f n : ℕ) → old ≡ work ++ id ∷ [] → view_of (at ts id) ≡ view.Compound f n → VisitsArguments ts id visited more work new →
+    sum_by size (map (at ts) new) < sum_by size (map (at ts) old)
+sizes_visit ts old work new visited more id f n is shown visits = elim visits [
+  | inl k ↦ subst (λ (ids : List ℕ). sum_by size (map (at ts) ids) < sum_by size (map (at ts) old)) (sym k.2) (sizes_pop ts old work id is)
+  | inr k ↦ sizes_push ts old work new id f n is shown k.2
+]
+
+pub looks_visit : (ts : List HeapTerm) (v : ℕ) (t : HeapTerm) (old work new visited more : List ℕ) (id f n : ℕ) → old ≡ work ++ id ∷ [] → view_of (at ts id) ≡ view.Compound f n → VisitsArguments ts id visited more work new →
+    AreVisited ts ⊥ v old visited → Looks ts v t old → Looks ts v t new
+looks_visit ts v t old work new visited more id f n is shown visits all looks = elim visits [
+  | inl k ↦ subst (λ (ids : List ℕ). Looks ts v t ids) (sym k.2) (looks_past ts v t old work id is looks (met_before ts ⊥ v old work id is visited all k.0))
+  | inr k ↦ looks_push ts v t old work id is looks f n shown new k.2
+]
+
+pub through_visits : (ts : List HeapTerm) (vs old work new visited more : List ℕ) (id f n : ℕ) → old ≡ work ++ id ∷ [] → view_of (at ts id) ≡ view.Compound f n → VisitsArguments ts id visited more work new →
+    ((v : ℕ) → AreVisited ts (Contains vs v) v old visited) → variables_through vs (map (at ts) new) ≡ variables_through vs (map (at ts) old)
+through_visits ts vs old work new visited more id f n is shown visits all = elim visits [
+  | inl k ↦ ap (λ (ids : List ℕ). variables_through vs (map (at ts) ids)) k.2 ∙ through_known ts vs old work id is (λ v. met_before ts (Contains vs v) v old work id is visited (all v) k.0)
+  | inr k ↦ through_push ts vs old work new id f n is shown k.2
+]
+
+pub live_visit : (ts : List HeapTerm) (work new visited more : List ℕ) (id : ℕ) → VisitsArguments ts id visited more work new → All (λ (i : ℕ). i < length ts) work → All (λ (i : ℕ). i < length ts) new
+live_visit ts work new visited more id visits live = elim visits [
+  | inl k ↦ All-same (λ (i : ℕ). i < length ts) new work k.2 live
+  | inr k ↦ live_push ts (at ts id) work new live k.2
+]

@@ -4,13 +4,13 @@ ghost use Rattle.std.specs.Prelude.{◌<◌, ◌↔◌, length, IsTrue, IfOk};
 ghost use Rattle.spec_terms.specs.Term.{Occurs};
 ghost use Rattle.cq_term.specs.Meaning.{at};
 
-use crate::arguments::push_arguments;
+use crate::arguments::visit_arguments;
 use cq_frac::VarId;
 use cq_term::{Heap, TermId, View};
 use indexmap::IndexSet;
 use std::alloc::AllocError;
 
-/// Whether an unbound variable stands in a term. A compound that stands at several places is looked into once.
+/// Whether an unbound variable stands in a term.
 pub(crate) fn occurs(heap: &Heap, variable: VarId, term: TermId) -> Result<bool, AllocError>
     requires { term < length heap.now.now.terms }
     ensures { IfOk result (λ found. IsTrue found ↔ Occurs variable.0 (at heap.now.now.terms term)) }
@@ -26,10 +26,7 @@ pub(crate) fn occurs(heap: &Heap, variable: VarId, term: TermId) -> Result<bool,
             }
             View::Number(_) | View::Name(_) => {}
             View::Compound(_, arity) => {
-                let is_new = visited.insert(id)?;
-                if is_new {
-                    push_arguments(heap, id, arity, &mut work)?;
-                }
+                visit_arguments(heap, id, arity, &mut visited, &mut work)?;
             }
         }
     }

@@ -1,6 +1,8 @@
 use Rattle.std.proofs.Common.{map}
+use Rattle.std.specs.List.{sum_by}
+use Rattle.spec_terms.specs.Term.{size}
 use Rattle.cq_term.specs.Meaning.{at}
-use Rattle.cq_unify.proofs.Occurrences.{Looks, sizes}
+use Rattle.cq_unify.proofs.Occurrences.{Looks}
 use Rattle.cq_unify.proofs.Visited.{AreVisited}
 use Rattle.cq_unify.proofs.occurs.occurs.Given as goal
 
@@ -11,4 +13,4 @@ invariant-loop-id l = record {
 }
 
 abbrev pub decreases-loop-id : goal.decreases-loop-id
-decreases-loop-id l = sizes (map (at l.heap.now.terms) l.work.items)
+decreases-loop-id l = sum_by size (map (at l.heap.now.terms) l.work.items)
