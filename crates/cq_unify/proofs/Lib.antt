@@ -7,3 +7,4 @@ pub mod Progress
 pub mod Renamed
 pub mod Steps
 pub mod Unbound
+pub mod Visited

@@ -1,14 +1,18 @@
 -- The list of a term's variables, by the terms that are still to be visited.
-use Rattle.std.proofs.Common.{◌≡◌, ℕ, zero, suc, ◌+◌, ◌<◌, List, [], ◌∷◌, ◌++◌, length, map, reverse, drop, Bool, true, false, cond, if◌then◌else◌, nat_eq, Some, refl, ap, sym, ◌∙◌, inl, inr, arith, append_assoc}
-use Rattle.std.specs.Prelude.{All, slice_get, ◌⊎◌}
+use Rattle.std.proofs.Common.{◌≡◌, ℕ, zero, suc, ◌+◌, ◌<◌, List, [], ◌∷◌, ◌++◌, length, map, reverse, drop, get_or, Bool, true, false, cond, if◌then◌else◌, nat_eq, Some, refl, ap, sym, ◌∙◌, inl, inr, arith, append_assoc}
+use Rattle.std.specs.Prelude.{All, Contains, slice_get, ◌⊎◌}
 use Rattle.std.specs.List.{sum_by, list_any}
 use Rattle.std.proofs.lemmas.List.{map-append, reverse-append}
+use Rattle.std.proofs.lemmas.Bool.{eq-eqb, eqb-true}
+use Rattle.std.proofs.lemmas.List.Folds.{list_any_at}
 use Rattle.std.proofs.lemmas.Option.{none-some, same_Some}
-use Rattle.std.proofs.lemmas.List.Elements.{All-push, All-append, All-same}
+use Rattle.std.proofs.lemmas.List.Elements.{All-push, All-append, All-same, Contains-append_left}
 use Rattle.std.proofs.lemmas.List.Sums.{sum_by-append}
 use Rattle.indexmap.specs.IndexSet.{insert_key}
+use Rattle.indexmap.proofs.CallerLemmas.{Contains-insert_key}
 use Rattle.spec_rational.specs.Rational.{ℚ}
-use Rattle.spec_terms.specs.Term.{Terms, Var, Number, Name, Compound, one, more, size, total_size, list_of}
+use Rattle.spec_terms.specs.Term.{Terms, Var, Number, Name, Compound, one, more, size, total_size, list_of, Occurs, OccursIn}
+use Rattle.spec_terms.proofs.Substitution.{size_positive}
 use Rattle.spec_terms.specs.Variables.{with_variable, variables_after, variables_in}
 use Rattle.cq_term.specs.Meaning.{HeapTerm, at}
 use Rattle.cq_term.specs.Shown.{view_of, arguments}
@@ -43,10 +47,16 @@ sizes_arguments (Name a) f n e = cc
 sizes_arguments (Compound g us) f n e = omega (arith, sizes-reverse us)
 
 -- the last id is taken off
+pub terms_pop : (ts : List HeapTerm) (old work : List ℕ) (id : ℕ) → old ≡ work ++ id ∷ [] → map (at ts) old ≡ map (at ts) work ++ at ts id ∷ []
+terms_pop ts old work id e = ap (map (at ts)) e ∙ map-append (at ts) work (id ∷ [])
+
+-- and its arguments are added
+pub terms_push : (ts : List HeapTerm) (t : HeapTerm) (work new : List ℕ) → PushesArguments ts t 0 work new → map (at ts) new ≡ map (at ts) work ++ reverse (arguments t)
+terms_push ts t work new p = ap (map (at ts)) p.1 ∙ map-append (at ts) work p.0 ∙ ap (λ us. map (at ts) work ++ us) p.2.terms
+
 through_pop : (ts : List HeapTerm) (vs old work : List ℕ) (id : ℕ) → old ≡ work ++ id ∷ [] → variables_through vs (map (at ts) old) ≡ variables_through (variables_after vs (at ts id)) (map (at ts) work)
 through_pop ts vs old work id e =
-    ap (λ ids. variables_through vs (map (at ts) ids)) e
-    ∙ ap (variables_through vs) (map-append (at ts) work (id ∷ []))
+    ap (variables_through vs) (terms_pop ts old work id e)
     ∙ through-append vs (map (at ts) work) (at ts id ∷ [])
 
 -- a term is visited that changes the variables seen so far as it has to
@@ -56,26 +66,26 @@ through_visit ts vs ws old work id e seen = ap (λ us. variables_through us (map
 pub live_push : (ts : List HeapTerm) (t : HeapTerm) (work new : List ℕ) → All (λ id. id < length ts) work → PushesArguments ts t 0 work new → All (λ id. id < length ts) new
 live_push ts t work new live p = All-same (λ id. id < length ts) new (work ++ p.0) p.1 (All-append (λ id. id < length ts) work p.0 live p.2.live)
 
--- and its arguments are added
 pub through_push : (ts : List HeapTerm) (vs old work new : List ℕ) (id f n : ℕ) → old ≡ work ++ id ∷ [] → view_of (at ts id) ≡ view.Compound f n → PushesArguments ts (at ts id) 0 work new →
     variables_through vs (map (at ts) new) ≡ variables_through vs (map (at ts) old)
 through_push ts vs old work new id f n e shown p =
-    ap (λ ids. variables_through vs (map (at ts) ids)) p.1
-    ∙ ap (variables_through vs) (map-append (at ts) work p.0 ∙ ap (λ us. map (at ts) work ++ us) p.2.terms)
+    ap (variables_through vs) (terms_push ts (at ts id) work new p)
     ∙ through-append vs (map (at ts) work) (reverse (arguments (at ts id)))
     ∙ ap (λ ws. variables_through ws (map (at ts) work)) (through_arguments vs (at ts id) f n shown)
     ∙ sym (through_pop ts vs old work id e)
+
+pub sizes_pop : (ts : List HeapTerm) (old work : List ℕ) (id : ℕ) → old ≡ work ++ id ∷ [] → sum_by size (map (at ts) work) < sum_by size (map (at ts) old)
+sizes_pop ts old work id e =
+    omega (arith, ap (sum_by size) (terms_pop ts old work id e), sum_by-append size (map (at ts) work) (at ts id ∷ []), size_positive (at ts id))
 
 pub sizes_push : (ts : List HeapTerm) (old work new : List ℕ) (id f n : ℕ) → old ≡ work ++ id ∷ [] → view_of (at ts id) ≡ view.Compound f n → PushesArguments ts (at ts id) 0 work new →
     sum_by size (map (at ts) new) < sum_by size (map (at ts) old)
 sizes_push ts old work new id f n e shown p =
     let more : sum_by size (map (at ts) new) ≡ sum_by size (map (at ts) work) + sum_by size (reverse (arguments (at ts id))) =
-    ap (λ ids. sum_by size (map (at ts) ids)) p.1
-    ∙ ap (sum_by size) (map-append (at ts) work p.0 ∙ ap (λ us. map (at ts) work ++ us) p.2.terms)
+    ap (sum_by size) (terms_push ts (at ts id) work new p)
     ∙ sum_by-append size (map (at ts) work) (reverse (arguments (at ts id))) in
     let less : sum_by size (map (at ts) old) ≡ sum_by size (map (at ts) work) + (0 + size (at ts id)) =
-    ap (λ ids. sum_by size (map (at ts) ids)) e
-    ∙ ap (sum_by size) (map-append (at ts) work (id ∷ []))
+    ap (sum_by size) (terms_pop ts old work id e)
     ∙ sum_by-append size (map (at ts) work) (at ts id ∷ []) in
     omega (arith, more, less, sizes_arguments (at ts id) f n shown)
 
@@ -85,6 +95,37 @@ none_in_constant vs (Number p) shown h e = refl
 none_in_constant vs (Name b) shown h e = refl
 none_in_constant vs (Var v) shown h e = elim h [ inl k ↦ (let d = k.1 in cc) | inr k ↦ (let d = k.1 in cc) ]
 none_in_constant vs (Compound g us) shown h e = elim h [ inl k ↦ (let d = k.1 in cc) | inr k ↦ (let d = k.1 in cc) ]
+
+-- ---- variables that are on the list
+with_known : (vs : List ℕ) (v : ℕ) → Contains vs v → with_variable vs v ≡ vs
+with_known vs v known =
+    let e : list_any (λ w. nat_eq w v) vs ≡ true = list_any_at (λ w. nat_eq w v) vs known.0 v known.1 (eq-eqb (get_or vs known.0 v) v known.2) in
+    ap (λ b. cond b vs (vs ++ v ∷ [])) e
+
+pub with_last : (vs : List ℕ) (v : ℕ) → Contains (with_variable vs v) v
+with_last vs v = Contains-insert_key (λ a b. nat_eq b a) (λ a b e. sym (eqb-true b a e)) vs v
+
+pub with_kept : (vs : List ℕ) (v w : ℕ) → Contains vs w → Contains (with_variable vs v) w
+with_kept vs v w known = go (list_any (λ x. nat_eq x v) vs)
+  where
+    go : (b : Bool) → Contains (cond b vs (vs ++ v ∷ [])) w
+    go true = known
+    go false = Contains-append_left vs (v ∷ []) w known
+
+-- a term whose variables are all on the list adds none
+mutual
+  after_known : (vs : List ℕ) (t : HeapTerm) → ((v : ℕ) → Occurs v t → Contains vs v) → variables_after vs t ≡ vs
+  after_known vs (Var v) known = with_known vs v (known v refl)
+  after_known vs (Number q) known = refl
+  after_known vs (Name a) known = refl
+  after_known vs (Compound f ts) known = in_known vs ts known
+
+  in_known : (vs : List ℕ) (ts : Terms ℕ) → ((v : ℕ) → OccursIn v ts → Contains vs v) → variables_in vs ts ≡ vs
+  in_known vs (one t) known = after_known vs t known
+  in_known vs (more t ts) known = ap (λ ws. variables_in ws ts) (after_known vs t (λ v o. known v (inl o))) ∙ in_known vs ts (λ v o. known v (inr o))
+
+pub through_known : (ts : List HeapTerm) (vs old work : List ℕ) (id : ℕ) → old ≡ work ++ id ∷ [] → ((v : ℕ) → Occurs v (at ts id) → Contains vs v) → variables_through vs (map (at ts) work) ≡ variables_through vs (map (at ts) old)
+through_known ts vs old work id e known = through_visit ts vs vs old work id e (sym (after_known vs (at ts id) known))
 
 -- ---- one more argument on the list
 drop_get : {A : Type 0} (xs : List A) (j : ℕ) (x : A) → slice_get xs j ≡ Some x → drop j xs ≡ x ∷ drop (suc j) xs

@@ -1,20 +1,17 @@
 -- Whether a variable stands in one of the terms that are still to be visited.
-use Rattle.std.proofs.Common.{◌≡◌, ◌≢◌, ℕ, ◌+◌, ◌<◌, List, [], ◌∷◌, ◌++◌, length, map, reverse, Some, refl, ap, sym, ◌∙◌, subst, inl, inr, arith}
+use Rattle.std.proofs.Common.{◌≡◌, ◌≢◌, ℕ, ◌<◌, List, [], ◌∷◌, ◌++◌, length, map, reverse, Some, refl, ap, sym, ◌∙◌, subst, inl, inr, arith}
 use Rattle.std.specs.Prelude.{All, ◌↔◌, ◌⊎◌}
-use Rattle.std.specs.List.{sum_by}
-use Rattle.std.proofs.lemmas.List.{map-append, reverse-append}
+use Rattle.std.proofs.lemmas.List.{reverse-append}
 use Rattle.std.proofs.lemmas.List.Elements.{All-append, All-same, All-pop}
-use Rattle.std.proofs.lemmas.List.Sums.{sum_by-append}
 use Rattle.spec_rational.specs.Rational.{ℚ}
-use Rattle.spec_terms.specs.Term.{Var, Number, Name, Compound, one, more, list_of, size, Occurs, OccursIn, Terms}
-use Rattle.spec_terms.proofs.Substitution.{size_positive}
+use Rattle.spec_terms.specs.Term.{Var, Number, Name, Compound, one, more, list_of, Occurs, OccursIn, Terms}
 use Rattle.cq_term.specs.Meaning.{HeapTerm, at}
 use Rattle.cq_term.specs.Shown.{view_of, arguments}
 use Rattle.cq_term.specs.declared.view.View.{View}
 use Rattle.cq_term.specs.declared.view.View.TheVariants as view
 use Rattle.cq_frac.specs.declared.VarId.{VarId}
 use Rattle.cq_unify.specs.Listing.{PushesArguments}
-use Rattle.cq_unify.proofs.Listing.{sizes_arguments}
+use Rattle.cq_unify.proofs.Listing.{terms_pop, terms_push}
 
 -- the variable stands in one of the terms
 abbrev pub StandsAmong : ℕ → List HeapTerm → Type 0
@@ -52,7 +49,7 @@ among-list_of v (more t us) = (
 )
 
 -- the arguments of a compound in place of the compound
-among_arguments : (v : ℕ) (t : HeapTerm) (f n : ℕ) → view_of t ≡ view.Compound f n → StandsAmong v (reverse (arguments t)) ↔ Occurs v t
+pub among_arguments : (v : ℕ) (t : HeapTerm) (f n : ℕ) → view_of t ≡ view.Compound f n → StandsAmong v (reverse (arguments t)) ↔ Occurs v t
 among_arguments v (Compound g us) f n e = (
   λ h. (among-list_of v us).0 ((among-reverse v (list_of us)).0 h),
   λ h. (among-reverse v (list_of us)).1 ((among-list_of v us).1 h),
@@ -60,10 +57,6 @@ among_arguments v (Compound g us) f n e = (
 among_arguments v (Var x) f n e = cc
 among_arguments v (Number x) f n e = cc
 among_arguments v (Name x) f n e = cc
-
--- ---- how much there is to visit
-abbrev pub sizes : List HeapTerm → ℕ
-sizes ts = sum_by size ts
 
 -- ---- a term is visited
 pub record Looks (ts : List HeapTerm) (v : ℕ) (t : HeapTerm) (work : List ℕ) : Type 0 where
@@ -80,23 +73,17 @@ looks_start ts v id work e live = record {
 }
 
 module _ (ts : List HeapTerm) (v : ℕ) (t : HeapTerm) (old work : List ℕ) (id : ℕ) (is : old ≡ work ++ id ∷ []) where
-  terms_pop : map (at ts) old ≡ map (at ts) work ++ at ts id ∷ []
-  terms_pop = ap (map (at ts)) is ∙ map-append (at ts) work (id ∷ [])
-
-  sizes_pop : sizes (map (at ts) old) ≡ sizes (map (at ts) work) + size (at ts id)
-  sizes_pop = omega (arith, ap sizes terms_pop, sum_by-append size (map (at ts) work) (at ts id ∷ []))
-
-  pub sizes_less : sizes (map (at ts) work) < sizes (map (at ts) old)
-  sizes_less = omega (arith, sizes_pop, size_positive (at ts id))
+  popped : map (at ts) old ≡ map (at ts) work ++ at ts id ∷ []
+  popped = terms_pop ts old work id is
 
   among_pop : StandsAmong v (map (at ts) old) ↔ (StandsAmong v (map (at ts) work) ⊎ Occurs v (at ts id))
   among_pop =
       let k = among-append v (map (at ts) work) (at ts id ∷ []) in (
-        λ h. elim (k.0 (subst (StandsAmong v) terms_pop h)) [
+        λ h. elim (k.0 (subst (StandsAmong v) popped h)) [
           | inl a ↦ inl a
           | inr b ↦ elim b [ inl c ↦ inr c | inr d ↦ absurd d ]
         ],
-        λ h. subst (StandsAmong v) (sym terms_pop) (k.1 (elim h [ inl a ↦ inl a | inr b ↦ inr (inl b) ])),
+        λ h. subst (StandsAmong v) (sym popped) (k.1 (elim h [ inl a ↦ inl a | inr b ↦ inr (inl b) ])),
       )
 
   module _ (looks : Looks ts v t old) where
@@ -113,8 +100,8 @@ module _ (ts : List HeapTerm) (v : ℕ) (t : HeapTerm) (old work : List ℕ) (id
     }
 
     module _ (f n : ℕ) (shown : view_of (at ts id) ≡ view.Compound f n) (new : List ℕ) (pushes : PushesArguments ts (at ts id) 0 work new) where
-      terms_push : map (at ts) new ≡ map (at ts) work ++ reverse (arguments (at ts id))
-      terms_push = ap (map (at ts)) pushes.1 ∙ map-append (at ts) work pushes.0 ∙ ap (λ us. map (at ts) work ++ us) pushes.2.terms
+      pushed : map (at ts) new ≡ map (at ts) work ++ reverse (arguments (at ts id))
+      pushed = terms_push ts (at ts id) work new pushes
 
       pub looks_push : Looks ts v t new
       looks_push =
@@ -122,13 +109,10 @@ module _ (ts : List HeapTerm) (v : ℕ) (t : HeapTerm) (old work : List ℕ) (id
           let r = among_arguments v (at ts id) f n shown in record {
             live = All-same (λ (k : ℕ). k < length ts) new (work ++ pushes.0) pushes.1 (All-append (λ (k : ℕ). k < length ts) work pushes.0 live_front.0 pushes.2.live);
             same = (
-              λ o. subst (StandsAmong v) (sym terms_push) (k.1 (elim (among_pop.0 (looks.same.0 o)) [ inl a ↦ inl a | inr b ↦ inr (r.1 b) ])),
-              λ h. looks.same.1 (among_pop.1 (elim (k.0 (subst (StandsAmong v) terms_push h)) [ inl a ↦ inl a | inr b ↦ inr (r.0 b) ])),
+              λ o. subst (StandsAmong v) (sym pushed) (k.1 (elim (among_pop.0 (looks.same.0 o)) [ inl a ↦ inl a | inr b ↦ inr (r.1 b) ])),
+              λ h. looks.same.1 (among_pop.1 (elim (k.0 (subst (StandsAmong v) pushed h)) [ inl a ↦ inl a | inr b ↦ inr (r.0 b) ])),
             );
           }
-
-      pub sizes_push : sizes (map (at ts) new) < sizes (map (at ts) old)
-      sizes_push = omega (arith, ap sizes terms_push, sum_by-append size (map (at ts) work) (reverse (arguments (at ts id))), sizes_arguments (at ts id) f n shown, sizes_pop)
 
 pub looks_none : (ts : List HeapTerm) (v : ℕ) (t : HeapTerm) (work : List ℕ) → Looks ts v t work → length work ≡ 0 → Occurs v t → ⊥
 looks_none ts v t [] looks n o = looks.same.0 o

@@ -1,6 +1,6 @@
 -- The variables of the terms that are still to be visited.
-use Rattle.std.specs.Prelude.{◌≡◌, ℕ, ◌<◌, List, [], ◌∷◌, ◌++◌, map, reverse, drop, length, All, ◌==◌}
-use Rattle.std.specs.List.{position_or_len}
+use Rattle.std.specs.Prelude.{◌≡◌, ℕ, ◌<◌, List, [], ◌∷◌, ◌++◌, map, reverse, drop, length, All, ◌==◌, ◌⊎◌}
+use Rattle.std.specs.List.{position_or_len, Contains}
 use Rattle.spec_terms.specs.Variables.{variables_after}
 use Rattle.cq_term.specs.Meaning.{HeapTerm, at}
 use Rattle.cq_term.specs.Shown.{arguments}
@@ -26,3 +26,7 @@ pub record AreArguments (ts : List HeapTerm) (t : HeapTerm) (i : ℕ) (ids : Lis
 -- a list of ids has got the arguments of a term from the i-th on at its end, the last one first
 abbrev pub PushesArguments : List HeapTerm → HeapTerm → ℕ → List ℕ → List ℕ → Type 0
 PushesArguments ts t i old new = (ids : List ℕ) × (new ≡ old ++ ids) × AreArguments ts t i ids
+
+-- a compound that was visited before is left alone; another one is visited now, and its arguments are at the end of the list
+abbrev pub VisitsArguments : List HeapTerm → ℕ → List ℕ → List ℕ → List ℕ → List ℕ → Type 0
+VisitsArguments ts id visited now old new = (Contains visited id × (now ≡ visited) × (new ≡ old)) ⊎ ((Contains visited id → ⊥) × (now ≡ visited ++ id ∷ []) × PushesArguments ts (at ts id) 0 old new)

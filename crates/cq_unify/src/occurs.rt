@@ -4,9 +4,10 @@ ghost use Rattle.std.specs.Prelude.{◌<◌, ◌↔◌, length, IsTrue, IfOk};
 ghost use Rattle.spec_terms.specs.Term.{Occurs};
 ghost use Rattle.cq_term.specs.Meaning.{at};
 
-use crate::arguments::push_arguments;
+use crate::arguments::visit_arguments;
 use cq_frac::VarId;
 use cq_term::{Heap, TermId, View};
+use indexmap::IndexSet;
 use std::alloc::AllocError;
 
 /// Whether an unbound variable stands in a term.
@@ -14,6 +15,7 @@ pub(crate) fn occurs(heap: &Heap, variable: VarId, term: TermId) -> Result<bool,
     requires { term < length heap.now.now.terms }
     ensures { IfOk result (λ found. IsTrue found ↔ Occurs variable.0 (at heap.now.now.terms term)) }
 {
+    let mut visited = IndexSet::new(heap.alloc());
     let mut work = vec![in heap.alloc(); term]?;
     while let Some(id) = work.pop() {
         match heap.view(id) {
@@ -23,7 +25,9 @@ pub(crate) fn occurs(heap: &Heap, variable: VarId, term: TermId) -> Result<bool,
                 }
             }
             View::Number(_) | View::Name(_) => {}
-            View::Compound(_, arity) => push_arguments(heap, id, arity, &mut work)?,
+            View::Compound(_, arity) => {
+                visit_arguments(heap, id, arity, &mut visited, &mut work)?;
+            }
         }
     }
     Ok(false)

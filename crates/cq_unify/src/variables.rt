@@ -6,7 +6,7 @@ ghost use Rattle.cq_term.specs.Meaning.{at};
 ghost use Rattle.cq_term.specs.Shown.{IsUnbound};
 ghost use Rattle.cq_unify.specs.Listing.{numbers_of};
 
-use crate::arguments::push_arguments;
+use crate::arguments::visit_arguments;
 use cq_frac::VarId;
 use cq_term::{Heap, TermId, View};
 use indexmap::IndexSet;
@@ -30,6 +30,7 @@ pub(crate) fn variables(heap: &Heap, term: TermId) -> Result<IndexSet<VarId>, Al
     ensures unbound { IfOk result (λ found. All (λ v. IsUnbound heap.now.now.images v.0) found.keys) }
 {
     let mut found = IndexSet::new(heap.alloc());
+    let mut visited = IndexSet::new(heap.alloc());
     let mut work = vec![in heap.alloc(); term]?;
     while let Some(id) = work.pop() {
         match heap.view(id) {
@@ -37,7 +38,9 @@ pub(crate) fn variables(heap: &Heap, term: TermId) -> Result<IndexSet<VarId>, Al
                 found.insert(variable)?;
             }
             View::Number(_) | View::Name(_) => {}
-            View::Compound(_, arity) => push_arguments(heap, id, arity, &mut work)?,
+            View::Compound(_, arity) => {
+                visit_arguments(heap, id, arity, &mut visited, &mut work)?;
+            }
         }
     }
     Ok(found)

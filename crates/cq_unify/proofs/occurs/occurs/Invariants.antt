@@ -1,10 +1,16 @@
 use Rattle.std.proofs.Common.{map}
+use Rattle.std.specs.List.{sum_by}
+use Rattle.spec_terms.specs.Term.{size}
 use Rattle.cq_term.specs.Meaning.{at}
-use Rattle.cq_unify.proofs.Occurrences.{Looks, sizes}
+use Rattle.cq_unify.proofs.Occurrences.{Looks}
+use Rattle.cq_unify.proofs.Visited.{AreVisited}
 use Rattle.cq_unify.proofs.occurs.occurs.Given as goal
 
 abbrev pub invariant-loop-id : goal.invariant-loop-id
-invariant-loop-id l = Looks l.heap.now.terms l.variable.0 (at l.heap.now.terms l.fn.term) l.work.items
+invariant-loop-id l = record {
+  looks : Looks l.heap.now.terms l.variable.0 (at l.heap.now.terms l.fn.term) l.work.items;
+  visited : AreVisited l.heap.now.terms ⊥ l.variable.0 l.work.items l.visited.keys;
+}
 
 abbrev pub decreases-loop-id : goal.decreases-loop-id
-decreases-loop-id l = sizes (map (at l.heap.now.terms) l.work.items)
+decreases-loop-id l = sum_by size (map (at l.heap.now.terms) l.work.items)
