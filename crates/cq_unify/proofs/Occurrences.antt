@@ -63,15 +63,6 @@ pub record Looks (ts : List HeapTerm) (v : ℕ) (t : HeapTerm) (work : List ℕ)
   pub live : All (λ (id : ℕ). id < length ts) work
   pub same : Occurs v t ↔ StandsAmong v (map (at ts) work)
 
-pub looks_start : (ts : List HeapTerm) (v id : ℕ) (work : List ℕ) → work ≡ id ∷ [] → All (λ (k : ℕ). k < length ts) (id ∷ []) → Looks ts v (at ts id) work
-looks_start ts v id work e live = record {
-  live = All-same (λ (k : ℕ). k < length ts) work (id ∷ []) e live;
-  same = (
-    λ o. subst (λ (is : List ℕ). StandsAmong v (map (at ts) is)) (sym e) (inl o),
-    λ h. elim (subst (λ (is : List ℕ). StandsAmong v (map (at ts) is)) e h) [ inl a ↦ a | inr b ↦ absurd b ],
-  );
-}
-
 module _ (ts : List HeapTerm) (v : ℕ) (t : HeapTerm) (old work : List ℕ) (id : ℕ) (is : old ≡ work ++ id ∷ []) where
   popped : map (at ts) old ≡ map (at ts) work ++ at ts id ∷ []
   popped = terms_pop ts old work id is

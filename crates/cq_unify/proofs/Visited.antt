@@ -93,9 +93,6 @@ module _ (met : Type 0) (v : ℕ) (work : List HeapTerm) (t : HeapTerm) (f n : �
 abbrev pub AreVisited : List HeapTerm → Type 0 → ℕ → List ℕ → List ℕ → Type 0
 AreVisited ts met v work visited = All (λ (id : ℕ). IsVisited met v (map (at ts) work) (at ts id)) visited
 
-pub none_visited : (ts : List HeapTerm) (met : Type 0) (v : ℕ) (work visited : List ℕ) → visited ≡ [] → AreVisited ts met v work visited
-none_visited ts met v work visited e = All-same (λ (id : ℕ). IsVisited met v (map (at ts) work) (at ts id)) visited [] e (λ k d lt. absurd (omega arith))
-
 module _ (ts : List HeapTerm) (met : Type 0) (v : ℕ) (old work : List ℕ) (id : ℕ) (is : old ≡ work ++ id ∷ []) (visited : List ℕ) (all : AreVisited ts met v old visited) where
   read_pop : (u : HeapTerm) → IsVisited met v (map (at ts) old) u → IsVisited met v (map (at ts) work ++ at ts id ∷ []) u
   read_pop u h = subst (λ us. IsVisited met v us u) (terms_pop ts old work id is) h
