@@ -103,10 +103,19 @@ fn of_two_variables_the_younger_is_bound(rt: HostRuntime) -> Result<(), Fail> {
     Ok(())
 }
 
-/// X and f(X, X).
+/// A name over one term.
+fn over(heap: &mut Heap, name: Atom, part: TermId) -> Result<TermId, AllocError>
+    requires { part < length heap.old.now.terms }
+    ensures live { IfOk result (λ id. id < length heap.new.now.terms) }
+    ensures more { length heap.old.now.terms ≤ length heap.new.now.terms }
+{
+    heap.compound(name, &[part])
+}
+
+/// X and f(X).
 fn become_one(heap: &mut Heap, newly: &mut Newly, f: Atom) -> Result<bool, AllocError> {
     let x = variable(heap)?;
-    let around = pair(heap, f, x, x)?;
+    let around = over(heap, f, x)?;
     unified(heap, newly, x, around)
 }
 
