@@ -1,3 +1,5 @@
 mod Behind
 mod Steps
 mod Runs
+mod Written
+mod ReadBack

@@ -2,15 +2,16 @@
 //! code; the functions here have empty bodies: each contract is a law or an example.
 #![tactic(auto)]
 
-ghost use Rattle.std.specs.Prelude.{◌≡◌, ◌↔◌, List, ◌∷◌, Some, None, codes};
+ghost use Rattle.std.specs.Prelude.{◌≡◌, ◌↔◌, List, [], ◌∷◌, ◌++◌, Some, None, codes};
 ghost use Rattle.spec_operators.specs.Operators.{Ops};
 ghost use Rattle.spec_operators.specs.Standard.{standard};
 ghost use Rattle.spec_terms.specs.Term.{Compound, Name, Var, more, one};
-ghost use Rattle.spec_syntax.specs.Tokens.{Token};
+ghost use Rattle.spec_syntax.specs.Tokens.{Token, End};
 ghost use Rattle.spec_syntax.specs.Trees.{Tree, unary, binary, nil, cell};
 ghost use Rattle.spec_syntax.specs.Grammar.{Parses, BeginsClause, IsNeither, IsRefused};
 ghost use Rattle.spec_syntax.specs.Machine.{State, Whole, IsOpen, step, run};
 ghost use Rattle.spec_syntax.specs.Yields.{Yields, YieldsFrom};
+ghost use Rattle.spec_syntax.specs.Writing.{IsTable, written};
 ghost use Rattle.spec_syntax.specs.Examples.{code, number, negative, with_factorial, Reads, Refuses};
 
 /// From a state tokens make a clause exactly where, from the state behind the first of them, the others make it.
@@ -36,6 +37,11 @@ pub fn the_machine_reads_clauses()
 pub fn one_reading()
     ensures one { (ops : Ops) (ts : List Token) (t u : Tree) → Parses ops ts t → Parses ops ts u → t ≡ u }
     ensures nothing_behind { (ops : Ops) (ts : List Token) (t : Tree) → Parses ops ts t → BeginsClause ops ts → ⊥ }
+{}
+
+/// The tokens of a term as it is written are the term again, whatever its names, and whatever the operators that `op/3` makes.
+pub fn what_is_written_is_read_again()
+    ensures { (ops : Ops) (t : Tree) → IsTable ops → Parses ops (written ops t ++ End ∷ []) t }
 {}
 
 /// Clauses and their trees.
