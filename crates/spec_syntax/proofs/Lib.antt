@@ -3,3 +3,4 @@ mod Steps
 mod Runs
 mod Written
 mod ReadBack
+mod Tables

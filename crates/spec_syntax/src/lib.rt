@@ -2,8 +2,8 @@
 //! code; the functions here have empty bodies: each contract is a law or an example.
 #![tactic(auto)]
 
-ghost use Rattle.std.specs.Prelude.{◌≡◌, ◌↔◌, List, [], ◌∷◌, ◌++◌, Some, None, codes};
-ghost use Rattle.spec_operators.specs.Operators.{Ops};
+ghost use Rattle.std.specs.Prelude.{◌≡◌, ◌↔◌, List, [], ◌∷◌, ◌++◌, Some, None, Ok, ℤ, codes};
+ghost use Rattle.spec_operators.specs.Operators.{Ops, Text, set};
 ghost use Rattle.spec_operators.specs.Standard.{standard};
 ghost use Rattle.spec_terms.specs.Term.{Compound, Name, Var, more, one};
 ghost use Rattle.spec_syntax.specs.Tokens.{Token, End};
@@ -37,6 +37,12 @@ pub fn the_machine_reads_clauses()
 pub fn one_reading()
     ensures one { (ops : Ops) (ts : List Token) (t u : Tree) → Parses ops ts t → Parses ops ts u → t ≡ u }
     ensures nothing_behind { (ops : Ops) (ts : List Token) (t : Tree) → Parses ops ts t → BeginsClause ops ts → ⊥ }
+{}
+
+/// The operators at the start are a table, and `op/3` makes no other of one.
+pub fn operator_tables()
+    ensures at_the_start { IsTable standard }
+    ensures changed { (ops after : Ops) (priority : ℤ) (kind name : Text) → IsTable ops → set ops priority kind name ≡ Ok after → IsTable after }
 {}
 
 /// The tokens of a term as it is written are the term again, whatever its names, and whatever the operators that `op/3` makes.
