@@ -1,3 +1,6 @@
 mod Behind
 mod Steps
 mod Runs
+mod Written
+mod ReadBack
+mod Tables

@@ -1,5 +1,5 @@
 -- Trees in short, for examples, and what the examples say.
-use Rattle.std.specs.Prelude.{ℕ, take, slice_index_or, List, [], pos, codes, unwrap_or}
+use Rattle.std.specs.Prelude.{◌≡◌, ◌∷◌, ◌++◌, ℕ, take, slice_index_or, List, [], pos, codes, unwrap_or}
 use Rattle.spec_rational.specs.Rational.{ratio, int_ℚ, neg_ℚ}
 use Rattle.spec_operators.specs.Operators.{Ops, put}
 use Rattle.spec_operators.specs.Standard.{standard}
@@ -9,6 +9,7 @@ use Rattle.spec_syntax.specs.Tokens.{Token, End}
 use Rattle.spec_syntax.specs.Trees.{Tree}
 use Rattle.spec_syntax.specs.Grammar.{Parses, IsRefused}
 use Rattle.spec_syntax.specs.TextTokens.{clause_tokens}
+use Rattle.spec_syntax.specs.Writing.{written}
 
 -- a character's code
 abbrev pub code : ℕ → Tree
@@ -37,3 +38,7 @@ Reads ops text t = Parses ops (tokens_of text) t
 -- the token of this number, from 0 on, is the first one of the text that begins no clause
 abbrev pub Refuses : Ops → List ℕ → ℕ → Type 0
 Refuses ops text n = IsRefused ops (take n (tokens_of text)) (slice_index_or (tokens_of text) n End)
+
+-- the text is a clause, and has just the tokens that are written of its tree
+abbrev pub IsWrittenAgain : Ops → List ℕ → Type 0
+IsWrittenAgain ops text = (t : Tree) × Reads ops text t × (tokens_of text ≡ written ops t ++ End ∷ [])

@@ -4,4 +4,5 @@ pub mod Grammar
 pub mod Machine
 pub mod Yields
 pub mod TextTokens
+pub mod Writing
 pub mod Examples

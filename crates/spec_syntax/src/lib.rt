@@ -2,16 +2,17 @@
 //! code; the functions here have empty bodies: each contract is a law or an example.
 #![tactic(auto)]
 
-ghost use Rattle.std.specs.Prelude.{◌≡◌, ◌↔◌, List, ◌∷◌, Some, None, codes};
-ghost use Rattle.spec_operators.specs.Operators.{Ops};
+ghost use Rattle.std.specs.Prelude.{◌≡◌, ◌↔◌, List, [], ◌∷◌, ◌++◌, Some, None, Ok, ℤ, codes};
+ghost use Rattle.spec_operators.specs.Operators.{Ops, Text, set};
 ghost use Rattle.spec_operators.specs.Standard.{standard};
 ghost use Rattle.spec_terms.specs.Term.{Compound, Name, Var, more, one};
-ghost use Rattle.spec_syntax.specs.Tokens.{Token};
+ghost use Rattle.spec_syntax.specs.Tokens.{Token, End};
 ghost use Rattle.spec_syntax.specs.Trees.{Tree, unary, binary, nil, cell};
 ghost use Rattle.spec_syntax.specs.Grammar.{Parses, BeginsClause, IsNeither, IsRefused};
 ghost use Rattle.spec_syntax.specs.Machine.{State, Whole, IsOpen, step, run};
 ghost use Rattle.spec_syntax.specs.Yields.{Yields, YieldsFrom};
-ghost use Rattle.spec_syntax.specs.Examples.{code, number, negative, with_factorial, Reads, Refuses};
+ghost use Rattle.spec_syntax.specs.Writing.{IsTable, written};
+ghost use Rattle.spec_syntax.specs.Examples.{code, number, negative, with_factorial, Reads, Refuses, IsWrittenAgain};
 
 /// From a state tokens make a clause exactly where, from the state behind the first of them, the others make it.
 pub fn steps_keep_what_is_allowed()
@@ -36,6 +37,17 @@ pub fn the_machine_reads_clauses()
 pub fn one_reading()
     ensures one { (ops : Ops) (ts : List Token) (t u : Tree) → Parses ops ts t → Parses ops ts u → t ≡ u }
     ensures nothing_behind { (ops : Ops) (ts : List Token) (t : Tree) → Parses ops ts t → BeginsClause ops ts → ⊥ }
+{}
+
+/// The operators at the start are a table, and `op/3` makes no other of one.
+pub fn operator_tables()
+    ensures at_the_start { IsTable standard }
+    ensures changed { (ops after : Ops) (priority : ℤ) (kind name : Text) → IsTable ops → set ops priority kind name ≡ Ok after → IsTable after }
+{}
+
+/// The tokens of a term as it is written are the term again, whatever its names, and whatever the operators that `op/3` makes.
+pub fn what_is_written_is_read_again()
+    ensures { (ops : Ops) (t : Tree) → IsTable ops → Parses ops (written ops t ++ End ∷ []) t }
 {}
 
 /// Clauses and their trees.
@@ -86,6 +98,43 @@ pub fn postfix_operators()
     ensures taken_within { Reads with_factorial (codes "- 3 fact.") (unary (codes "-") (unary (codes "fact") (number 3))) }
     ensures taken_outside { Reads with_factorial (codes "3*4 fact.") (binary (codes "*") (number 3) (unary (codes "fact") (number 4))) }
     ensures as_atom { Reads with_factorial (codes "fact.") (Name (codes "fact")) }
+{}
+
+/// Texts with just the tokens that are written of their trees: where parentheses stand, and where they do not.
+pub fn texts_that_are_written_again()
+    ensures operator_and_number { IsWrittenAgain standard (codes "-(1) .") }
+    ensures operator_and_power { IsWrittenAgain standard (codes "- 1^2 .") }
+    ensures operator_and_negative { IsWrittenAgain standard (codes "-(-1) .") }
+    ensures operator_and_fraction { IsWrittenAgain standard (codes "-(1r2) .") }
+    ensures nested_operators { IsWrittenAgain standard (codes "- -(1) .") }
+    ensures operator_and_atom { IsWrittenAgain standard (codes "- (-) .") }
+    ensures atom_on_the_left { IsWrittenAgain standard (codes "(-)=a .") }
+    ensures atom_on_the_right { IsWrittenAgain standard (codes "a=(=) .") }
+    ensures negative_on_the_right { IsWrittenAgain standard (codes "1-(-1) .") }
+    ensures negative_on_the_left { IsWrittenAgain standard (codes "(-1)^2 .") }
+    ensures operator_on_the_left { IsWrittenAgain standard (codes "(-(1))^2 .") }
+    ensures prefix_on_the_right { IsWrittenAgain standard (codes "a= -b .") }
+    ensures high_priority_on_the_right { IsWrittenAgain standard (codes "a=(\\+b) .") }
+    ensures grouped_right { IsWrittenAgain standard (codes "1-(2-3) .") }
+    ensures grouped_left { IsWrittenAgain standard (codes "1-2-3 .") }
+    ensures right_of_a_right { IsWrittenAgain standard (codes "2^3^4 .") }
+    ensures left_of_a_right { IsWrittenAgain standard (codes "(2^3)^4 .") }
+    ensures rule { IsWrittenAgain standard (codes "a:-b,c .") }
+    ensures rule_on_the_left { IsWrittenAgain standard (codes "(a:-b):-c .") }
+    ensures conjunction { IsWrittenAgain standard (codes "\\+ (a,b) .") }
+    ensures argument { IsWrittenAgain standard (codes "f((a,b),-,a=b) .") }
+    ensures element { IsWrittenAgain standard (codes "[(a:-b),-|c] .") }
+    ensures list { IsWrittenAgain standard (codes "[a,b|_] .") }
+    ensures empty_list { IsWrittenAgain standard (codes "[] .") }
+    ensures pair { IsWrittenAgain standard (codes "[a|b] .") }
+    ensures letters { IsWrittenAgain standard (codes "dynamic a .") }
+    ensures letters_and_list { IsWrittenAgain standard (codes "dynamic[a] .") }
+    ensures indicator { IsWrittenAgain standard (codes "(dynamic)/1 .") }
+    ensures quoted_comma { IsWrittenAgain standard (codes "(',')/2 .") }
+    ensures braces { IsWrittenAgain standard (codes "{a,b} .") }
+    ensures empty_braces { IsWrittenAgain standard (codes "{} .") }
+    ensures remainder { IsWrittenAgain standard (codes "_ is 7 mod (-2) .") }
+    ensures postfix { IsWrittenAgain with_factorial (codes "(3 fact)fact .") }
 {}
 
 /// Texts that are refused, and at which token, counted from 0.
