@@ -1,3 +1,3 @@
 mod Behind
 mod Steps
-mod Runs
+pub mod Runs

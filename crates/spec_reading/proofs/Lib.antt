@@ -1,0 +1,4 @@
+mod Seen
+mod Once
+mod ByMachine
+mod Onward
