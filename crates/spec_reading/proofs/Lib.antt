@@ -1,4 +1,6 @@
-mod Seen
-mod Once
+pub mod Seen
+pub mod Once
 mod ByMachine
-mod Onward
+pub mod Onward
+mod Later
+pub mod Counted

@@ -86,7 +86,7 @@ module _ (ops : Ops) (text : List ℕ) where
 
   -- a state behind a whole clause needs no token
   abbrev InState : State → ℕ → Variables → Read → Type 0
-  InState (Whole tree) at variables r = r ≡ Clause tree variables.names at
+  InState (Whole tree) at variables r = r ≡ Clause tree variables at
   InState s at variables r = ByResult s variables (next_token text at) r
 
   in_open : (s : State) (at : ℕ) (variables : Variables) (r : Read) → IsOpen s → ByResult s variables (next_token text at) r → InState s at variables r

@@ -196,7 +196,7 @@ module _ (ops : Ops) (text : List ℕ) where
   read_within zero s at variables fits enough = absurd (omega arith)
   read_within (suc n) s at variables fits enough = elim (open_or_whole s) [
     | inl is_open ↦ on_token s at variables (next_token text at) is_open fits refl (λ s' mid more less within. read_within n s' mid more within (omega (arith, less, enough)))
-    | inr (tree, same) ↦ subst (λ x. HasReading x at variables) (sym same) (Clause tree variables.names at, whole)
+    | inr (tree, same) ↦ subst (λ x. HasReading x at variables) (sym same) (Clause tree variables at, whole)
   ]
 
   read_there : (at : ℕ) → at ≤ length text → (n : Result lexical.Token LexFault) → next_token text at ≡ n → (r : Read) × MachineReads ops text at r

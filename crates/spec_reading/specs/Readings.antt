@@ -8,12 +8,12 @@ use Rattle.spec_grammar.specs.Tokens as lexical
 use Rattle.spec_grammar.specs.Tokens.{next_token}
 use Rattle.spec_syntax.specs.Tokens.{Token}
 use Rattle.spec_syntax.specs.Trees.{Tree}
-use Rattle.spec_syntax.specs.TextTokens.{VariableName, Variables, no_variables, variables_after, seen}
+use Rattle.spec_syntax.specs.TextTokens.{Variables, no_variables, variables_after, seen}
 use Rattle.spec_syntax.specs.Grammar.{Parses, BeginsClause, IsRefused}
 
 pub data Read : Type 0 where
-  -- a clause: its tree, the variables that have names, and the place behind its end token
-  Clause : Tree → List VariableName → ℕ → Read
+  -- a clause: its tree, its variables, and the place behind its end token
+  Clause : Tree → Variables → ℕ → Read
   -- only layout and comments are left
   Ended : Read
   -- an error: its place, and the place where reading goes on
@@ -38,7 +38,7 @@ module _ (text : List ℕ) where
 pub data Reads (ops : Ops) (text : List ℕ) (at : ℕ) : Read → Type 0 where
   ended : {t : lexical.Token} → next_token text at ≡ Ok t → t.kind ≡ kind.Eof → Reads ops text at Ended
   clause : {toks : List Token} {to : ℕ} {variables : Variables} {tree : Tree} → AreTokens text at no_variables toks to variables → Parses ops toks tree →
-      Reads ops text at (Clause tree variables.names to)
+      Reads ops text at (Clause tree variables to)
   -- The first token with which the tokens so far neither are a clause nor begin one. An end token may be that too, and then
   -- reading goes on behind it.
   refused : {toks : List Token} {to resume : ℕ} {variables : Variables} {t : lexical.Token} {tok : Token} → AreTokens text at no_variables toks to variables →

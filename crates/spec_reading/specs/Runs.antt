@@ -14,7 +14,7 @@ use Rattle.spec_reading.specs.Readings.{Read, Clause, Ended, Syntax, Resumes}
 
 -- what is read from a state on, at a place and behind these variables
 pub data ReadsOn (ops : Ops) (text : List ℕ) : State → ℕ → Variables → Read → Type 0 where
-  whole : {tree : Tree} {at : ℕ} {variables : Variables} → ReadsOn ops text (Whole tree) at variables (Clause tree variables.names at)
+  whole : {tree : Tree} {at : ℕ} {variables : Variables} → ReadsOn ops text (Whole tree) at variables (Clause tree variables at)
   onward : {s s' : State} {at : ℕ} {variables : Variables} {t : lexical.Token} {tok : Token} {r : Read} → next_token text at ≡ Ok t → seen text variables t ≡ Some tok →
       step ops s tok ≡ Some s' → ReadsOn ops text s' t.span.end (variables_after text variables t) r → ReadsOn ops text s at variables r
   stuck : {s : State} {at resume : ℕ} {variables : Variables} {t : lexical.Token} {tok : Token} → IsOpen s → next_token text at ≡ Ok t → seen text variables t ≡ Some tok →

@@ -7,8 +7,11 @@ ghost use Rattle.spec_operators.specs.Operators.{Ops};
 ghost use Rattle.spec_operators.specs.Standard.{standard};
 ghost use Rattle.spec_terms.specs.Term.{Name, Var};
 ghost use Rattle.spec_syntax.specs.Trees.{binary};
+ghost use Rattle.spec_syntax.specs.TextTokens.{no_variables};
 ghost use Rattle.spec_reading.specs.Readings.{Read, Clause, Ended, Syntax, Reads};
-ghost use Rattle.spec_reading.specs.Runs.{MachineReads};
+ghost use Rattle.spec_reading.specs.Runs.{ReadsOn, IsBefore, MachineReads};
+ghost use Rattle.spec_reading.specs.Later.{variables_from, read_later};
+ghost use Rattle.spec_syntax.specs.Machine.{start};
 ghost use Rattle.spec_reading.specs.Laws.{MovesOn};
 
 /// A place has one reading at most, and each place of a text has one.
@@ -27,20 +30,28 @@ pub fn readings_move_on()
     ensures { (ops : Ops) (text : List ℕ) (at : ℕ) (r : Read) → at ≤ length text → Reads ops text at r → MovesOn text at r }
 {}
 
+/// Where the variables of a clause are counted on from a number, as a heap's youngest, the reading is the same but for that.
+pub fn variables_may_be_counted_on()
+    ensures on { (ops : Ops) (text : List ℕ) (at n : ℕ) (r : Read) → ReadsOn ops text start at no_variables r
+        → ReadsOn ops text start at (variables_from n) (read_later n r) }
+    ensures back { (ops : Ops) (text : List ℕ) (at n : ℕ) (r : Read) → at ≤ length text → IsBefore text at
+        → ReadsOn ops text start at (variables_from n) r → (q : Read) × Reads ops text at q × (r ≡ read_later n q) }
+{}
+
 /// Clauses one behind another, and the end behind the last.
 pub fn clauses()
-    ensures first { Reads standard (codes "a. b.") 0 (Clause (Name (codes "a")) [] 2) }
-    ensures second { Reads standard (codes "a. b.") 2 (Clause (Name (codes "b")) [] 5) }
+    ensures first { Reads standard (codes "a. b.") 0 (Clause (Name (codes "a")) no_variables 2) }
+    ensures second { Reads standard (codes "a. b.") 2 (Clause (Name (codes "b")) no_variables 5) }
     ensures end { Reads standard (codes "a. b.") 5 Ended }
     ensures nothing { Reads standard (codes "") 0 Ended }
     ensures comment { Reads standard (codes " % a.") 0 Ended }
-    ensures names { Reads standard (codes "f(_,Xy).") 0 (Clause (binary (codes "f") (Var 0) (Var 1)) (record { name = codes "Xy"; number = 1 } ∷ []) 8) }
+    ensures names { Reads standard (codes "f(_,Xy).") 0 (Clause (binary (codes "f") (Var 0) (Var 1)) (record { names = record { name = codes "Xy"; number = 1 } ∷ []; count = 2 }) 8) }
 {}
 
 /// Errors, each with its place and the place where reading goes on.
 pub fn errors()
     ensures refused { Reads standard (codes "foo bar. baz.") 0 (Syntax 4 8) }
-    ensures behind { Reads standard (codes "foo bar. baz.") 8 (Clause (Name (codes "baz")) [] 13) }
+    ensures behind { Reads standard (codes "foo bar. baz.") 8 (Clause (Name (codes "baz")) no_variables 13) }
     ensures cut { Reads standard (codes "?- {X = ") 0 (Syntax 8 8) }
     ensures open_quote { Reads standard (codes "'ab") 0 (Syntax 3 3) }
     ensures open_comment { Reads standard (codes "a. /* b.") 2 (Syntax 8 8) }
