@@ -1,6 +1,6 @@
 mod Behind
 mod Steps
-mod Runs
+pub mod Runs
 mod Written
 mod ReadBack
 mod Tables

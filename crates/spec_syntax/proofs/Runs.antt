@@ -147,7 +147,7 @@ module _ (ops : Ops) where
   run_back (tok ∷ ts) (Some s) rest t g = step_back ops s tok (ts ++ rest) t (run_back ts (step ops s tok) rest t g)
   run_back (tok ∷ ts) None rest t g = g
 
-  run_onward : (ts : List Token) (o : Option State) (s : State) (tok : Token) → run_from ops o ts ≡ Some s → run_from ops o (ts ++ tok ∷ []) ≡ step ops s tok
+  pub run_onward : (ts : List Token) (o : Option State) (s : State) (tok : Token) → run_from ops o ts ≡ Some s → run_from ops o (ts ++ tok ∷ []) ≡ step ops s tok
   run_onward [] (Some r) s tok e = ap (λ x. step ops x tok) (same_state r s e)
   run_onward [] None s tok e = cc
   run_onward (t ∷ ts) (Some r) s tok e = run_onward ts (step ops r t) s tok e
