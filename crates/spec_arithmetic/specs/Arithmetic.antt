@@ -1,6 +1,6 @@
 -- What a term is worth as an arithmetic expression. Arguments are evaluated from left to right, and then the
 -- operation; what comes first of errors and overflows is the result.
-use Rattle.std.specs.Prelude.{ℕ, Option, Some, None}
+use Rattle.std.specs.Prelude.{Option, Some, None}
 use Rattle.spec_rational.specs.Rational.{ℚ}
 use Rattle.spec_terms.specs.Term.{Term, Var, Number, Name, Compound, one, more, count}
 use Rattle.spec_arithmetic.specs.declared.UnaryOperation.{UnaryOperation}

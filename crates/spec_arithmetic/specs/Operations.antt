@@ -1,5 +1,5 @@
 -- The operations of arithmetic: their names, and what each makes of numbers.
-use Rattle.std.specs.Prelude.{◌≡◌, ℕ, zero, suc, Bool, true, false, not, ◌||◌, nat_le, nat_abs, bytes_eq, codes, List, Option, Some, None, ℤ, pos, negsuc, ◌+ℤ◌, if◌then◌else◌}
+use Rattle.std.specs.Prelude.{ℕ, zero, suc, Bool, true, false, not, ◌||◌, nat_le, nat_abs, bytes_eq, codes, List, Option, Some, None, ℤ, pos, negsuc, ◌+ℤ◌, if◌then◌else◌}
 use Rattle.std.specs.Int.{is_negative, int_signum}
 use Rattle.std.specs.declared.cmp.Ordering.TheVariants.{Less, Equal, Greater}
 use Rattle.spec_rational.specs.Order.{cmp_ℚ}
