@@ -1,13 +1,9 @@
-// A library with one function.
+//! Arithmetic over terms of a heap: the values of expressions.
 #![tactic(auto)]
 
-ghost use Rattle.std.specs.Prelude.{◌≡◌};
-ghost use Rattle.cq_arith.specs.Echo.{echo_of};
+mod eval;
+mod faults;
+mod operations;
 
-// The `ensures` clause is the contract: what `echo` returns is `echo_of` of its argument, a definition
-// in `specs/Echo.antt`, which a caller's clause can cite too.
-pub fn echo(x: usize) -> usize
-    ensures { result ≡ echo_of x }
-{
-    x
-}
+pub use eval::eval;
+pub use faults::{EvalError, EvalFault};

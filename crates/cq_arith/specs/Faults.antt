@@ -1,0 +1,22 @@
+-- What the fault of an evaluation says of the expression.
+use Rattle.std.specs.Prelude.{◌≡◌, List, ⊤}
+use Rattle.spec_arithmetic.specs.Operations.{Text, ArithmeticError, Evaluated, Fails, Overflows}
+use Rattle.spec_arithmetic.specs.Operations as arithmetic
+use Rattle.cq_atoms.specs.Texts.{text_of}
+use Rattle.cq_arith.specs.declared.faults.EvalError.{EvalError}
+use Rattle.cq_arith.specs.declared.faults.EvalError.TheVariants as error
+use Rattle.cq_arith.specs.declared.faults.EvalFault.{EvalFault}
+use Rattle.cq_arith.specs.declared.faults.EvalFault.TheVariants as fault
+
+-- the error, with texts in the places of names
+abbrev pub told : List Text → EvalError → ArithmeticError Text
+told texts error.Instantiation = arithmetic.Instantiation
+told texts (error.NotEvaluable name count) = arithmetic.NotEvaluable (text_of texts name) count
+told texts (error.NotInteger q) = arithmetic.NotInteger q
+told texts error.ZeroDivisor = arithmetic.ZeroDivisor
+
+-- the expression comes to this error or overflow; want of memory says nothing of it
+abbrev pub ComesTo : List Text → Evaluated → EvalFault → Type 0
+ComesTo texts result (fault.Error e) = result ≡ Fails (told texts e)
+ComesTo texts result (fault.Overflow p) = result ≡ Overflows p
+ComesTo texts result fault.NoMemory = ⊤
