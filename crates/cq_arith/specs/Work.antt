@@ -6,10 +6,10 @@ use Rattle.spec_arithmetic.specs.Arithmetic.{evaluate, after_one, after_right, a
 use Rattle.cq_atoms.specs.Texts.{text_of}
 use Rattle.cq_term.specs.Meaning.{HeapTerm, at}
 use Rattle.cq_term.specs.Names.{HasNamesBelow}
-use Rattle.cq_arith.specs.declared.eval.Waiting.{Waiting}
-use Rattle.cq_arith.specs.declared.eval.Waiting.TheVariants as waiting
-use Rattle.cq_arith.specs.declared.eval.Step.{Step}
-use Rattle.cq_arith.specs.declared.eval.Step.TheVariants as step
+use Rattle.cq_arith.specs.declared.evaluation.Waiting.{Waiting}
+use Rattle.cq_arith.specs.declared.evaluation.Waiting.TheVariants as waiting
+use Rattle.cq_arith.specs.declared.evaluation.Step.{Step}
+use Rattle.cq_arith.specs.declared.evaluation.Step.TheVariants as step
 
 -- what an id comes to
 abbrev pub evaluated_at : List Text → List HeapTerm → ℕ → Evaluated
@@ -62,11 +62,11 @@ all_work ts (w ∷ ws) = waiting_work ts w + all_work ts ws
 pub record IsUnderWay (texts : List Text) (ts : List HeapTerm) (result : Evaluated) (ws : List Waiting) (next : Step) : Type 0 where
   pub leads : all_resumed texts ts ws (outcome texts ts next) ≡ result
   pub waiting : All (CanResume texts ts) ws
-  pub next : CanTake texts ts next
+  pub ready : CanTake texts ts next
 
 -- from the operations that waited and a result that was to come, with so much to do for it
 pub record GoesOn (texts : List Text) (ts : List HeapTerm) (old : List Waiting) (result : Evaluated) (work : ℕ) (new : List Waiting) (next : Step) : Type 0 where
   pub leads : all_resumed texts ts new (outcome texts ts next) ≡ all_resumed texts ts old result
   pub waiting : All (CanResume texts ts) old → All (CanResume texts ts) new
-  pub next : CanTake texts ts next
+  pub ready : CanTake texts ts next
   pub less : all_work ts new + step_work ts next < all_work ts old + work

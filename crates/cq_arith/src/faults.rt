@@ -9,7 +9,7 @@ use std::alloc::AllocError;
 use thiserror::Error;
 
 /// What is wrong with an expression.
-#[derive(Clone, Copy, Debug, Drop, Error)]
+#[derive(Debug, Drop, Error)]
 pub enum EvalError {
     #[error("a variable in an expression")]
     Instantiation,
@@ -24,7 +24,7 @@ pub enum EvalError {
 }
 
 /// Why an evaluation gives no number.
-#[derive(Clone, Copy, Debug, Drop, Error)]
+#[derive(Debug, Drop, Error)]
 pub enum EvalFault {
     #[error("{0}")]
     Error(EvalError),

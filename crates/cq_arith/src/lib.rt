@@ -1,9 +1,9 @@
 //! Arithmetic over terms of a heap: the values of expressions.
 #![tactic(auto)]
 
-mod eval;
+mod evaluation;
 mod faults;
 mod operations;
 
-pub use eval::eval;
+pub use evaluation::eval;
 pub use faults::{EvalError, EvalFault};

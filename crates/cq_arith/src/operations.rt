@@ -5,7 +5,7 @@ ghost use Rattle.cq_frac.specs.Fits.{limit};
 ghost use Rattle.spec_rational.specs.Rational.{int_ℚ};
 ghost use Rattle.spec_arithmetic.specs.Operations.{Text, Value, unary_named, binary_named, unary_value, whole_value, exact_result, whole_result, binary_result, least, greatest};
 ghost use Rattle.spec_arithmetic.specs.Rounding.{floor as floor_of, ceiling as ceiling_of, truncate as truncate_of, modulo as modulo_of};
-ghost use Rattle.cq_arith.specs.Faults.{ComesTo};
+ghost use Rattle.cq_arith.specs.Faults.{ComesTo, IsComputed};
 
 use crate::faults::{EvalError, EvalFault};
 use cq_frac::{Frac, FracFault, Operation, Pair};
@@ -141,13 +141,7 @@ fn exact_operation(operation: Operation, left: Frac, right: Frac) -> Result<Frac
     ensures value { IfOk result (λ q. exact_result operation left right ≡ Value q) }
     ensures fault { IfErr result (λ fault. (texts : List Text) → ComesTo texts (exact_result operation left right) fault) }
 {
-    let computed = match operation {
-        Operation::Sum => left.add(right),
-        Operation::Difference => left.sub(right),
-        Operation::Product => left.mul(right),
-        Operation::Quotient => left.div(right),
-    };
-    match computed {
+    match computed(operation, left, right) {
         Ok(value) => Ok(value),
         Err(FracFault::ZeroDivisor) => Err(EvalFault::Error(EvalError::ZeroDivisor)),
         Err(FracFault::Overflow) => Err(EvalFault::Overflow(Pair {
@@ -155,6 +149,17 @@ fn exact_operation(operation: Operation, left: Frac, right: Frac) -> Result<Frac
             left,
             right,
         })),
+    }
+}
+
+fn computed(operation: Operation, left: Frac, right: Frac) -> Result<Frac, FracFault>
+    ensures { IsComputed operation left right result }
+{
+    match operation {
+        Operation::Sum => left.add(right),
+        Operation::Difference => left.sub(right),
+        Operation::Product => left.mul(right),
+        Operation::Quotient => left.div(right),
     }
 }
 

@@ -53,10 +53,16 @@ pub fn eval(heap: &Heap, atoms: &Atoms, term: TermId) -> Result<Frac, EvalFault>
     let mut step = Step::Visit(term);
     loop {
         match step {
-            Step::Visit(id) => step = visit(heap, atoms, id, &mut under_way)?,
+            Step::Visit(id) => match visit(heap, atoms, id, &mut under_way) {
+                Ok(next) => step = next,
+                Err(fault) => return Err(fault),
+            },
             Step::Return(value) => match under_way.pop() {
-                Some(waiting) => step = resume(waiting, value, &mut under_way)?,
                 None => return Ok(value),
+                Some(waiting) => match resume(waiting, value, &mut under_way) {
+                    Ok(next) => step = next,
+                    Err(fault) => return Err(fault),
+                },
             },
         }
     }
@@ -164,9 +170,9 @@ fn resume(
             wait(under_way, Waiting::Right(operation, value))?;
             Ok(Step::Visit(right))
         }
-        Waiting::Right(operation, left) => {
-            let whole = binary(operation, left, value)?;
-            Ok(Step::Return(whole))
-        }
+        Waiting::Right(operation, left) => match binary(operation, left, value) {
+            Ok(whole) => Ok(Step::Return(whole)),
+            Err(fault) => Err(fault),
+        },
     }
 }
