@@ -2,7 +2,7 @@
 use Rattle.std.proofs.Common.{◌≡◌, ℕ, suc, ◌+◌, ◌*◌, ◌<◌, List, [], ◌∷◌, ◌++◌, length, None, ◌≢◌, refl, ap, sym, ◌∙◌, subst, arith, Some}
 use Rattle.std.specs.Prelude.{All, ⊤, slice_get}
 use Rattle.std.proofs.lemmas.Option.{same_Some}
-use Rattle.std.proofs.lemmas.List.Elements.{All-push, All-same, All-append, All-head, All-tail}
+use Rattle.std.proofs.lemmas.List.Elements.{All-push, All-same, All-pop}
 use Rattle.spec_terms.specs.Term.{Terms, Var, Number, Name, Compound, one, more, count, size, named, named_all}
 use Rattle.spec_arithmetic.specs.declared.UnaryOperation.{UnaryOperation}
 use Rattle.spec_arithmetic.specs.declared.BinaryOperation.{BinaryOperation}
@@ -58,10 +58,6 @@ module _ (texts : List Text) (ts : List HeapTerm) where
   comes_through ws result (fault.Overflow p) h = ap (all_resumed texts ts ws) h ∙ all_overflow ws p
   comes_through ws result fault.NoMemory h = tt
 
-  -- a value goes to the operations that wait
-  pub goes_back : (ws : List Waiting) (result : Evaluated) (work : ℕ) (next : Step) → outcome texts ts next ≡ result → CanTake texts ts next → step_work ts next < work → GoesOn texts ts ws result work ws next
-  goes_back ws result work next e h k = record { leads = ap (all_resumed texts ts ws) e; waiting = λ all. all; ready = h; less = omega arith }
-
   -- one operation more waits
   pub waits : (old new : List Waiting) (w : Waiting) (result : Evaluated) (work : ℕ) (next : Step) → new ≡ old ++ w ∷ [] → resumed texts ts w (outcome texts ts next) ≡ result → CanResume texts ts w → CanTake texts ts next → waiting_work ts w + step_work ts next < work →
       GoesOn texts ts old result work new next
@@ -74,9 +70,38 @@ module _ (texts : List Text) (ts : List HeapTerm) where
         less = omega arith;
       }
 
-  module _ (result came : Evaluated) (old new : List Waiting) (work : ℕ) (next : Step) (h : GoesOn texts ts old came work new next) where
-    pub still_under_way : all_resumed texts ts old came ≡ result → All (CanResume texts ts) old → IsUnderWay texts ts result new next
-    still_under_way e all = record { leads = h.leads ∙ e; waiting = h.waiting all; ready = h.ready }
+  -- ---- the loop
+  module _ (result : Evaluated) (ws : List Waiting) (s : Step) (h : IsUnderWay texts ts result ws s) where
+    visited : (id : ℕ) → s ≡ step.Visit id → all_resumed texts ts ws (evaluated_at texts ts id) ≡ result
+    visited id e = ap (λ t. all_resumed texts ts ws (outcome texts ts t)) (sym e) ∙ h.leads
+
+    pub visit_stops : (id : ℕ) (f : EvalFault) → s ≡ step.Visit id → ComesTo texts (evaluated_at texts ts id) f → ComesTo texts result f
+    visit_stops id f e c = subst (λ r. ComesTo texts r f) (visited id e) (comes_through ws (evaluated_at texts ts id) f c)
+
+    module _ (q : ℚ) (old : List Waiting) (w : Waiting) (e : s ≡ step.Return q) (n : ws ≡ old ++ w ∷ []) where
+      returned : all_resumed texts ts old (resumed texts ts w (Value q)) ≡ result
+      returned =
+          sym (all_resumed-append old w (Value q))
+          ∙ ap (λ us. all_resumed texts ts us (Value q)) (sym n) ∙ ap (λ t. all_resumed texts ts ws (outcome texts ts t)) (sym e) ∙ h.leads
+
+      popped : All (CanResume texts ts) old × CanResume texts ts w
+      popped = All-pop (CanResume texts ts) ws old (Some w) n h.waiting
+
+      pub resume_stops : (f : EvalFault) → ((texts : List Text) (ts : List HeapTerm) → ComesTo texts (resumed texts ts w (Value q)) f) → ComesTo texts result f
+      resume_stops f c = subst (λ r. ComesTo texts r f) returned (comes_through old (resumed texts ts w (Value q)) f (c texts ts))
+
+      module _ (new : List Waiting) (next : Step) (g : (texts : List Text) (ts : List HeapTerm) → CanResume texts ts w → GoesOn texts ts old (resumed texts ts w (Value q)) (waiting_work ts w) new next) where
+        goes : GoesOn texts ts old (resumed texts ts w (Value q)) (waiting_work ts w) new next
+        goes = g texts ts popped.1
+
+        pub resume_goes_on : IsUnderWay texts ts result new next
+        resume_goes_on = let k = goes in record { leads = k.leads ∙ returned; waiting = k.waiting popped.0; ready = k.ready }
+
+        pub resume_is_less : all_work ts new + step_work ts next < all_work ts ws + step_work ts s
+        resume_is_less =
+            let less : all_work ts new + step_work ts next < all_work ts old + waiting_work ts w = goes.less in
+            let more : all_work ts ws ≡ all_work ts old + (waiting_work ts w + 0) = ap (all_work ts) n ∙ all_work-append ts old (w ∷ []) in
+            omega (arith, less, more)
 
 -- ---- the arguments of a compound
 pub only_argument : (t : HeapTerm) (f : ℕ) → view_of t ≡ view.Compound f 1 → (a : HeapTerm) × (t ≡ Compound f (one a))
@@ -84,16 +109,16 @@ only_argument (Var v) f e = cc
 only_argument (Number q) f e = cc
 only_argument (Name b) f e = cc
 only_argument (Compound g (one t)) f e = let h : f ≡ g = cc in (t, ap (λ k. Compound k (one t)) (sym h))
-only_argument (Compound g (more t (one u))) f e = let h : 2 ≡ 1 = cc in absurd (omega (arith, h))
+only_argument (Compound g (more t (one u))) f e = let h : ◌≡◌ {A = ℕ} 2 1 = cc in absurd (omega (arith, h))
 only_argument (Compound g (more t (more u us))) f e = let h : suc (suc (count us)) ≡ 1 = cc in absurd (omega (arith, h))
 
 pub both_arguments : (t : HeapTerm) (f : ℕ) → view_of t ≡ view.Compound f 2 → (a : HeapTerm) × (b : HeapTerm) × (t ≡ Compound f (more a (one b)))
 both_arguments (Var v) f e = cc
 both_arguments (Number q) f e = cc
 both_arguments (Name b) f e = cc
-both_arguments (Compound g (one t)) f e = let h : 1 ≡ 2 = cc in absurd (omega (arith, h))
+both_arguments (Compound g (one t)) f e = let h : ◌≡◌ {A = ℕ} 1 2 = cc in absurd (omega (arith, h))
 both_arguments (Compound g (more t (one u))) f e = let h : f ≡ g = cc in (t, u, ap (λ k. Compound k (more t (one u))) (sym h))
-both_arguments (Compound g (more t (more u (one w)))) f e = let h : 3 ≡ 2 = cc in absurd (omega (arith, h))
+both_arguments (Compound g (more t (more u (one w)))) f e = let h : ◌≡◌ {A = ℕ} 3 2 = cc in absurd (omega (arith, h))
 both_arguments (Compound g (more t (more u (more w us)))) f e = let h : suc (suc (suc (count us))) ≡ 2 = cc in absurd (omega (arith, h))
 
 pub has_one : (t : HeapTerm) (f : ℕ) → view_of t ≡ view.Compound f 1 → 0 < length (arguments t)
@@ -134,8 +159,8 @@ module _ (texts : List Text) where
   too_many (Var v) f n e h k = cc
   too_many (Number q) f n e h k = cc
   too_many (Name b) f n e h k = cc
-  too_many (Compound g (one t)) f n e h k = let d : n ≡ 1 = cc in absurd (h d)
-  too_many (Compound g (more t (one u))) f n e h k = let d : n ≡ 2 = cc in absurd (k d)
+  too_many (Compound g (one t)) f n e h k = let d : ◌≡◌ {A = ℕ} n 1 = cc in absurd (h d)
+  too_many (Compound g (more t (one u))) f n e h k = let d : ◌≡◌ {A = ℕ} n 2 = cc in absurd (k d)
   too_many (Compound g (more t (more u us))) f n e h k =
       let d : g ≡ f = cc in
       let c : suc (suc (count us)) ≡ n = cc in
