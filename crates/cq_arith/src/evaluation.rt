@@ -156,11 +156,7 @@ fn wait(under_way: &mut Vec<Waiting>, waiting: Waiting) -> Result<(), AllocError
 }
 
 /// Gives the value to an operation.
-fn resume(
-    waiting: Waiting,
-    value: Frac,
-    under_way: &mut Vec<Waiting>,
-) -> Result<Step, EvalFault>
+fn resume(waiting: Waiting, value: Frac, under_way: &mut Vec<Waiting>) -> Result<Step, EvalFault>
     ensures goes_on { IfOk result (λ next. (texts : List Text) (ts : List HeapTerm) → CanResume texts ts waiting → GoesOn texts ts under_way.old.items (resumed texts ts waiting (Value value)) (waiting_work ts waiting) under_way.new.items next) }
     ensures fault { IfErr result (λ fault. (texts : List Text) (ts : List HeapTerm) → ComesTo texts (resumed texts ts waiting (Value value)) fault) }
 {

@@ -121,11 +121,7 @@ fn whole(value: i128) -> Frac
 }
 
 /// The value of an operation on two numbers, its error, or its overflow.
-pub(crate) fn binary(
-    operation: BinaryOperation,
-    left: Frac,
-    right: Frac,
-) -> Result<Frac, EvalFault>
+pub(crate) fn binary(operation: BinaryOperation, left: Frac, right: Frac) -> Result<Frac, EvalFault>
     ensures value { IfOk result (λ q. binary_result operation left right ≡ Value q) }
     ensures fault { IfErr result (λ fault. (texts : List Text) → ComesTo texts (binary_result operation left right) fault) }
 {
@@ -164,11 +160,7 @@ fn computed(operation: Operation, left: Frac, right: Frac) -> Result<Frac, FracF
 }
 
 /// Whether both numbers are whole is looked at first, the left one before the right one, and then the zero.
-fn whole_operation(
-    operation: WholeOperation,
-    left: Frac,
-    right: Frac,
-) -> Result<Frac, EvalFault>
+fn whole_operation(operation: WholeOperation, left: Frac, right: Frac) -> Result<Frac, EvalFault>
     ensures value { IfOk result (λ q. whole_result operation left right ≡ Value q) }
     ensures fault { IfErr result (λ fault. (texts : List Text) → ComesTo texts (whole_result operation left right) fault) }
 {
