@@ -112,25 +112,50 @@ fn pair(heap: &mut Heap, name: Atom, first: TermId, second: TermId) -> Result<Te
     Ok(id)
 }
 
+fn outcome_of(heap: &Heap, atoms: &Atoms, term: TermId) -> Outcome
+    requires live { term < length heap.now.now.terms }
+    requires names { All (HasNamesBelow (length atoms.now)) heap.now.now.terms }
+{
+    told(eval(heap, atoms, term))
+}
+
+fn over_one(heap: &mut Heap, atoms: &Atoms, name: Atom, value: Frac) -> Result<Outcome, AllocError>
+    requires known { name < length atoms.now }
+    requires names { All (HasNamesBelow (length atoms.now)) heap.old.now.terms }
+{
+    let argument = number(heap, value)?;
+    let term = single(heap, name, argument)?;
+    Ok(outcome_of(heap, atoms, term))
+}
+
+fn over_two(
+    heap: &mut Heap,
+    atoms: &Atoms,
+    name: Atom,
+    left: Frac,
+    right: Frac,
+) -> Result<Outcome, AllocError>
+    requires known { name < length atoms.now }
+    requires names { All (HasNamesBelow (length atoms.now)) heap.old.now.terms }
+{
+    let first = number(heap, left)?;
+    let second = number(heap, right)?;
+    let term = pair(heap, name, first, second)?;
+    Ok(outcome_of(heap, atoms, term))
+}
+
 /// What a name over one number comes to.
 fn of_one(alloc: Global, text: &str, value: Frac) -> Result<Outcome, AllocError> {
     let mut atoms = Atoms::new(alloc);
     let name = named(&mut atoms, text)?;
-    let mut heap = Heap::new(alloc);
-    let argument = number(&mut heap, value)?;
-    let term = single(&mut heap, name, argument)?;
-    Ok(told(eval(&heap, &atoms, term)))
+    over_one(&mut Heap::new(alloc), &atoms, name, value)
 }
 
 /// What a name over two numbers comes to.
 fn of_two(alloc: Global, text: &str, left: Frac, right: Frac) -> Result<Outcome, AllocError> {
     let mut atoms = Atoms::new(alloc);
     let name = named(&mut atoms, text)?;
-    let mut heap = Heap::new(alloc);
-    let first = number(&mut heap, left)?;
-    let second = number(&mut heap, right)?;
-    let term = pair(&mut heap, name, first, second)?;
-    Ok(told(eval(&heap, &atoms, term)))
+    over_two(&mut Heap::new(alloc), &atoms, name, left, right)
 }
 
 #[test]
@@ -198,74 +223,78 @@ fn operations_on_two_numbers(rt: HostRuntime) -> Result<(), Fail> {
     Ok(())
 }
 
-#[derive(Clone, Copy)]
-struct Names {
+/// foo + X: the left argument comes first.
+fn atom_on_the_left(
+    heap: &mut Heap,
+    atoms: &Atoms,
     plus: Atom,
     foo: Atom,
-}
-
-fn two_names(atoms: &mut Atoms) -> Result<Names, AllocError>
-    ensures plus { IfOk result (λ names. names.plus < length atoms.new) }
-    ensures foo { IfOk result (λ names. names.foo < length atoms.new) }
-{
-    let plus = named(atoms, "+")?;
-    let foo = named(atoms, "foo")?;
-    Ok(Names { plus, foo })
-}
-
-/// foo + X: the left argument comes first.
-fn atom_on_the_left(heap: &mut Heap, atoms: &Atoms, names: Names) -> Result<Outcome, AllocError>
-    requires plus { names.plus < length atoms.now }
-    requires foo { names.foo < length atoms.now }
+) -> Result<Outcome, AllocError>
+    requires plus { plus < length atoms.now }
+    requires foo { foo < length atoms.now }
     requires names { All (HasNamesBelow (length atoms.now)) heap.old.now.terms }
 {
-    let left = constant(heap, names.foo)?;
+    let left = constant(heap, foo)?;
     let right = variable(heap)?;
-    let term = pair(heap, names.plus, left, right)?;
-    Ok(told(eval(heap, atoms, term)))
+    let term = pair(heap, plus, left, right)?;
+    Ok(outcome_of(heap, atoms, term))
 }
 
 /// X + foo.
-fn variable_on_the_left(heap: &mut Heap, atoms: &Atoms, names: Names) -> Result<Outcome, AllocError>
-    requires plus { names.plus < length atoms.now }
-    requires foo { names.foo < length atoms.now }
+fn variable_on_the_left(
+    heap: &mut Heap,
+    atoms: &Atoms,
+    plus: Atom,
+    foo: Atom,
+) -> Result<Outcome, AllocError>
+    requires plus { plus < length atoms.now }
+    requires foo { foo < length atoms.now }
     requires names { All (HasNamesBelow (length atoms.now)) heap.old.now.terms }
 {
     let left = variable(heap)?;
-    let right = constant(heap, names.foo)?;
-    let term = pair(heap, names.plus, left, right)?;
-    Ok(told(eval(heap, atoms, term)))
+    let right = constant(heap, foo)?;
+    let term = pair(heap, plus, left, right)?;
+    Ok(outcome_of(heap, atoms, term))
 }
 
 /// foo(X): the argument is not evaluated.
-fn unlisted(heap: &mut Heap, atoms: &Atoms, names: Names) -> Result<Outcome, AllocError>
-    requires foo { names.foo < length atoms.now }
+fn unlisted(heap: &mut Heap, atoms: &Atoms, foo: Atom) -> Result<Outcome, AllocError>
+    requires foo { foo < length atoms.now }
     requires names { All (HasNamesBelow (length atoms.now)) heap.old.now.terms }
 {
     let argument = variable(heap)?;
-    let term = single(heap, names.foo, argument)?;
-    Ok(told(eval(heap, atoms, term)))
+    let term = single(heap, foo, argument)?;
+    Ok(outcome_of(heap, atoms, term))
+}
+
+fn an_atom_is_first(alloc: Global) -> Result<bool, AllocError> {
+    let mut atoms = Atoms::new(alloc);
+    let plus = named(&mut atoms, "+")?;
+    let foo = named(&mut atoms, "foo")?;
+    let told = atom_on_the_left(&mut Heap::new(alloc), &atoms, plus, foo)?;
+    Ok(told == Outcome::NotEvaluable(foo, 0))
+}
+
+fn a_variable_is_first(alloc: Global) -> Result<bool, AllocError> {
+    let mut atoms = Atoms::new(alloc);
+    let plus = named(&mut atoms, "+")?;
+    let foo = named(&mut atoms, "foo")?;
+    let told = variable_on_the_left(&mut Heap::new(alloc), &atoms, plus, foo)?;
+    Ok(told == Outcome::Instantiation)
+}
+
+fn a_name_is_unlisted(alloc: Global) -> Result<bool, AllocError> {
+    let mut atoms = Atoms::new(alloc);
+    let foo = named(&mut atoms, "foo")?;
+    let told = unlisted(&mut Heap::new(alloc), &atoms, foo)?;
+    Ok(told == Outcome::NotEvaluable(foo, 1))
 }
 
 #[test]
 fn the_first_error_from_the_left(rt: HostRuntime) -> Result<(), Fail> {
-    let mut atoms = Atoms::new(rt.alloc());
-    let names = two_names(&mut atoms)?;
-    let mut heap = Heap::new(rt.alloc());
-    assert_eq!(rt;
-        atom_on_the_left(&mut heap, &atoms, names)?,
-        Outcome::NotEvaluable(names.foo, 0)
-    );
-    let mut heap = Heap::new(rt.alloc());
-    assert_eq!(rt;
-        variable_on_the_left(&mut heap, &atoms, names)?,
-        Outcome::Instantiation
-    );
-    let mut heap = Heap::new(rt.alloc());
-    assert_eq!(rt;
-        unlisted(&mut heap, &atoms, names)?,
-        Outcome::NotEvaluable(names.foo, 1)
-    );
+    assert!(rt; an_atom_is_first(rt.alloc())?);
+    assert!(rt; a_variable_is_first(rt.alloc())?);
+    assert!(rt; a_name_is_unlisted(rt.alloc())?);
     Ok(())
 }
 
@@ -287,14 +316,14 @@ fn deep_sum(heap: &mut Heap, atoms: &Atoms, plus: Atom) -> Result<Outcome, Alloc
     requires names { All (HasNamesBelow (length atoms.now)) heap.old.now.terms }
 {
     let term = nested(heap, plus)?;
-    Ok(told(eval(heap, atoms, term)))
+    Ok(outcome_of(heap, atoms, term))
 }
 
 #[test]
 fn a_sum_deeper_than_any_stack(rt: HostRuntime) -> Result<(), Fail> {
     let mut atoms = Atoms::new(rt.alloc());
-    let names = two_names(&mut atoms)?;
+    let plus = named(&mut atoms, "+")?;
     let mut heap = Heap::new(rt.alloc());
-    assert_eq!(rt; deep_sum(&mut heap, &atoms, names.plus)?, Value(200_001, 1));
+    assert_eq!(rt; deep_sum(&mut heap, &atoms, plus)?, Value(200_001, 1));
     Ok(())
 }
