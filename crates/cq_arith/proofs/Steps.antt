@@ -1,6 +1,6 @@
 -- The steps of an evaluation: what the operations under way make of what a step comes to.
 use Rattle.std.proofs.Common.{◌≡◌, ℕ, suc, ◌+◌, ◌*◌, ◌<◌, List, [], ◌∷◌, ◌++◌, length, None, ◌≢◌, refl, ap, sym, ◌∙◌, subst, arith, Some}
-use Rattle.std.specs.Prelude.{All, ⊤, slice_get}
+use Rattle.std.specs.Prelude.{All, slice_get}
 use Rattle.std.proofs.lemmas.Option.{same_Some}
 use Rattle.std.proofs.lemmas.List.Elements.{All-push, All-same, All-pop}
 use Rattle.spec_terms.specs.Term.{Terms, Var, Number, Name, Compound, one, more, count, size, named, named_all}
@@ -22,7 +22,7 @@ use Rattle.cq_arith.specs.declared.evaluation.Step.TheVariants as step
 use Rattle.cq_arith.specs.declared.faults.EvalFault.{EvalFault}
 use Rattle.cq_arith.specs.declared.faults.EvalFault.TheVariants as fault
 use Rattle.cq_arith.specs.Faults.{ComesTo, told}
-use Rattle.cq_arith.specs.Work.{evaluated_at, outcome, resumed, all_resumed, CanVisit, CanTake, CanResume, step_work, waiting_work, all_work, IsUnderWay, GoesOn}
+use Rattle.cq_arith.specs.Work.{evaluated_at, outcome, resumed, all_resumed, CanTake, CanResume, step_work, waiting_work, all_work, IsUnderWay, GoesOn}
 
 pub all_work-append : (ts : List HeapTerm) (ws us : List Waiting) → all_work ts (ws ++ us) ≡ all_work ts ws + all_work ts us
 all_work-append ts [] us = omega arith

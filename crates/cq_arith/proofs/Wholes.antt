@@ -1,7 +1,7 @@
 -- Whole numbers as fractions, and what the fractions answer as a result of arithmetic.
-use Rattle.std.proofs.Common.{◌≡◌, ◌≢◌, ◌<◌, ℕ, ℤ, pos, nat_abs, Result, Ok, Err, IsOk, IfOk, refl, ap, sym, ◌∙◌, subst, arith, inl, inr}
-use Rattle.std.specs.Prelude.{OnOk, ◌↔◌}
-use Rattle.spec_rational.specs.Rational.{ℚ, 0ℚ, ratio, int_ℚ, quotient}
+use Rattle.std.proofs.Common.{◌≡◌, ◌≢◌, ◌<◌, ℤ, pos, nat_abs, Result, Ok, Err, IsOk, IfOk, refl, ap, sym, ◌∙◌, subst, arith, inl, inr}
+use Rattle.std.specs.Prelude.{OnOk}
+use Rattle.spec_rational.specs.Rational.{ℚ, 0ℚ, ratio, int_ℚ}
 use Rattle.cq_frac.specs.Fits.{limit, Exceeds}
 use Rattle.cq_frac.specs.declared.FracFault.{FracFault}
 use Rattle.cq_frac.specs.declared.FracFault.TheVariants.{Overflow, ZeroDivisor}

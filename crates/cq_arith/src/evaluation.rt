@@ -51,6 +51,7 @@ pub fn eval(heap: &Heap, atoms: &Atoms, term: TermId) -> Result<Frac, EvalFault>
 {
     let mut under_way = Vec::new(heap.alloc());
     let mut step = Step::Visit(term);
+    // (The faults go out by `match`: a `?` on an error that holds an enum gets no generated proof.)
     loop {
         match step {
             Step::Visit(id) => match visit(heap, atoms, id, &mut under_way) {

@@ -1,5 +1,5 @@
 use Rattle.std.proofs.Common.{sym, subst}
-use Rattle.cq_frac.specs.declared.Operation.TheVariants.{Sum, Difference, Product, Quotient}
+use Rattle.cq_frac.specs.declared.Operation.TheVariants.{Sum, Difference, Product}
 use Rattle.cq_arith.specs.Faults.{IsComputed}
 use Rattle.cq_arith.proofs.Wholes.{computed, computed_quotient}
 use Rattle.cq_arith.proofs.operations.computed.Goals as goal

@@ -1,4 +1,4 @@
-use Rattle.std.proofs.Common.{◌≡◌, ◌<◌, nat_abs, to_z, of_z, sym, subst, ap, ◌∙◌}
+use Rattle.std.proofs.Common.{◌<◌, nat_abs, to_z, of_z, sym, subst, ap, ◌∙◌}
 use Rattle.std.proofs.lemmas.Int.{to_z-of_z}
 use mir.Syntax.{w128}
 use Rattle.spec_rational.specs.Rational.{int_ℚ}
