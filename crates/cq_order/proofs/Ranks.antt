@@ -12,7 +12,7 @@ use Rattle.cq_atoms.specs.Texts.{text_of}
 use Rattle.cq_term.specs.Meaning.{HeapTerm, at}
 use Rattle.cq_term.specs.Shown.{view_of, arguments}
 use Rattle.cq_term.specs.declared.view.View.TheVariants as view
-use Rattle.cq_order.specs.Names.{HasNamesBelow, HaveNamesBelow}
+use Rattle.cq_term.specs.Names.{HasNamesBelow, HaveNamesBelow}
 use Rattle.cq_order.specs.Standing.{order_of, AreAlikeCompounds, Stands, TellsCompounds}
 use Rattle.cq_order.specs.Work.{IsLive, Both, side_by_side, PushesPairs}
 use Rattle.cq_order.specs.declared.order.Standing.{Standing}

@@ -6,7 +6,7 @@ ghost use Rattle.spec_terms.specs.Term.{named};
 ghost use Rattle.spec_order.specs.Order.{compare_terms, compare_texts};
 ghost use Rattle.cq_atoms.specs.Texts.{text_of};
 ghost use Rattle.cq_term.specs.Meaning.{at};
-ghost use Rattle.cq_order.specs.Names.{HasNamesBelow};
+ghost use Rattle.cq_term.specs.Names.{HasNamesBelow};
 ghost use Rattle.cq_order.specs.Standing.{Stands, Tells, TellsCompounds};
 
 use crate::pairs::{Pair, push_pairs};

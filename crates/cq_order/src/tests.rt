@@ -1,7 +1,7 @@
 // The three calls on small terms, the standard order of one term of each kind, and terms deeper than any stack.
 
 ghost use Rattle.std.specs.Prelude.{◌≡◌, ◌<◌, ◌≤◌, ℕ, length, All, IfOk, OnOk};
-ghost use Rattle.cq_order.specs.Names.{HasNamesBelow};
+ghost use Rattle.cq_term.specs.Names.{HasNamesBelow};
 
 use crate::{compare, same, variant};
 use cq_atoms::Atoms;

@@ -1,0 +1,11 @@
+//! Arithmetic over terms of a heap: the values of expressions.
+#![tactic(auto)]
+
+mod evaluation;
+mod faults;
+mod operations;
+#[cfg(test)]
+mod tests;
+
+pub use evaluation::eval;
+pub use faults::{EvalError, EvalFault};

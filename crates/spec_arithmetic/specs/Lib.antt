@@ -1,0 +1,4 @@
+pub mod Rounding
+pub mod Operations
+pub mod Arithmetic
+pub mod Examples
