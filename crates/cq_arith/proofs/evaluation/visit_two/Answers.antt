@@ -19,7 +19,9 @@ arg-left-requires-clause-within c =
     omega (arith, two)
 
 pub arg-right-requires-clause-within : goal.arg-right-requires-clause-within
-arg-right-requires-clause-within c = has_two (at c.args.heap.now.now.terms c.args.id) c.args.name c.requires.shown
+arg-right-requires-clause-within c =
+    let two : 1 < length (arguments (at c.args.heap.now.now.terms c.args.id)) = has_two (at c.args.heap.now.now.terms c.args.id) c.args.name c.requires.shown in
+    omega (arith, two)
 
 pub returns-clause-goes_on : goal.returns-clause-goes_on
 returns-clause-goes_on c =
