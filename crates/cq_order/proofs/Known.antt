@@ -4,7 +4,7 @@ use Rattle.std.specs.Prelude.{All}
 use Rattle.std.proofs.lemmas.List.Elements.{All-head, All-tail}
 use Rattle.spec_terms.specs.Term.{Terms, Subst, Var, Number, Name, Compound, one, more, Occurs, OccursIn, apply, apply_all, terms_of, with_arguments}
 use Rattle.cq_term.specs.Meaning.{HeapTerm}
-use Rattle.cq_order.specs.Names.{HasNamesBelow, HaveNamesBelow}
+use Rattle.cq_term.specs.Names.{HasNamesBelow, HaveNamesBelow}
 
 module _ (m n : ℕ) (le : m ≤ n) where
   mutual

@@ -3,7 +3,7 @@
 ghost use Rattle.std.specs.Prelude.{ℕ, ◌<◌, ◌≤◌, List, All};
 ghost use Rattle.spec_terms.specs.Term.{Subst, Occurs, apply, with_arguments};
 ghost use Rattle.cq_term.specs.Meaning.{HeapTerm};
-ghost use Rattle.cq_order.specs.Names.{HasNamesBelow};
+ghost use Rattle.cq_term.specs.Names.{HasNamesBelow};
 
 /// A term keeps its names below a count where the count grows, where terms of such names take the places of
 /// variables, and where such a name is put over such terms.
