@@ -1,0 +1,85 @@
+// What the reader keeps of a clause that it is in.
+
+use cq_atoms::Atom;
+use cq_term::TermId;
+use spec_operators::OpDef;
+
+/// What a term that is read is for, with the most that the priority of the term around it may be.
+#[derive(Debug, Drop)]
+pub enum Frame {
+    /// The right operand of an infix operator.
+    RightOf {
+        name: Atom,
+        left: TermId,
+        op: OpDef,
+        most: u16,
+    },
+    /// The operand of a prefix operator.
+    OperandOf {
+        name: Atom,
+        op: OpDef,
+        most: u16,
+    },
+    /// The term in parentheses.
+    InGroup {
+        most: u16,
+    },
+    /// The term in braces.
+    InCurly {
+        most: u16,
+    },
+    /// An argument, behind others.
+    InArguments {
+        name: Atom,
+        before: Vec<TermId>,
+        most: u16,
+    },
+    /// An element of a list, behind others.
+    InElements {
+        before: Vec<TermId>,
+        most: u16,
+    },
+    /// The tail of a list.
+    InTail {
+        before: Vec<TermId>,
+        most: u16,
+    },
+}
+
+/// Where the reader stands, with the most that the priority of the term there may be.
+#[derive(Clone, Copy, Debug)]
+pub enum Stand {
+    BeforeTerm {
+        most: u16,
+    },
+    /// Behind an operand of this priority.
+    AfterOperand {
+        most: u16,
+        priority: u16,
+        operand: TermId,
+    },
+    /// Behind a name that may be applied.
+    AfterName {
+        name: Atom,
+        most: u16,
+    },
+    /// Before the `(` of arguments.
+    AfterFunctor {
+        name: Atom,
+        most: u16,
+    },
+    /// Before the numeral of a negative number.
+    AfterMinus {
+        most: u16,
+    },
+    AfterOpenList {
+        most: u16,
+    },
+    AfterOpenCurly {
+        most: u16,
+    },
+    /// Behind a whole clause.
+    Whole {
+        term: TermId,
+    },
+}
