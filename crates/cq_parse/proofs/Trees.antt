@@ -50,7 +50,7 @@ module _ (texts : List Text) (ts : List HeapTerm) where
 pub text_known : (texts : List Text) (name : ℕ) (text : Text) → slice_get texts name ≡ Some text → text_of texts name ≡ text
 text_known texts name text e = get_or_from_slice_get texts name text [] e
 
--- ---- what the reader builds
+-- ---- what the machine builds
 
 module _ (texts : List Text) (ts us : List HeapTerm) where
   pub argument_closed : (f : ℕ) (before new : List ℕ) (id whole : ℕ) → new ≡ before ++ id ∷ [] → at us whole ≡ with_arguments f (map (at ts) new) →

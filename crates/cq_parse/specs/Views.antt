@@ -1,4 +1,4 @@
--- What the reader's tokens, frames and stand mean, by the texts of the names and the terms of the heap.
+-- What the machine's tokens, frames and stand mean, by the texts of the names and the terms of the heap.
 use Rattle.std.specs.Prelude.{◌≡◌, ℕ, ◌<◌, ◌≤◌, List, ◌++◌, Option, Some, None, map, reverse, All, ⊤}
 use Rattle.std.specs.String.{string_bytes}
 use Rattle.cq_atoms.specs.Texts.{Text, text_of}

@@ -1,10 +1,11 @@
-// What the reader keeps of a clause that it is in.
+// What the machine keeps of a clause that it is in.
 
 use cq_atoms::Atom;
 use cq_term::TermId;
 use spec_operators::OpDef;
 
-/// What a term that is read is for, with the most that the priority of the term around it may be.
+/// What a term that is being read is for, with the most that the priority of the term around it may be. The frames of a
+/// clause stand in a vector, the innermost last; arguments and elements that were read stand in their order.
 #[derive(Debug, Drop)]
 pub enum Frame {
     /// The right operand of an infix operator.
@@ -46,9 +47,10 @@ pub enum Frame {
     },
 }
 
-/// Where the reader stands, with the most that the priority of the term there may be.
+/// Where the machine stands in the innermost frame, with the most that the priority of the term there may be.
 #[derive(Clone, Copy, Debug)]
 pub enum Stand {
+    /// Where a term begins. A clause begins here, at 1200 and with no frames.
     BeforeTerm {
         most: u16,
     },
@@ -72,13 +74,15 @@ pub enum Stand {
     AfterMinus {
         most: u16,
     },
+    /// Behind `[`.
     AfterOpenList {
         most: u16,
     },
+    /// Behind `{`.
     AfterOpenCurly {
         most: u16,
     },
-    /// Behind a whole clause.
+    /// Behind a whole clause, where every token is refused.
     Whole {
         term: TermId,
     },

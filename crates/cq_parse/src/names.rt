@@ -17,6 +17,7 @@ pub fn interned(atoms: &mut Atoms, text: &str) -> Result<Atom, AllocError>
     atoms.intern(text)
 }
 
+/// The numbers of `-`, `,`, `[]`, `{}` and `.`, which the grammar puts into terms or takes as operators by itself.
 #[derive(Clone, Copy, Debug)]
 pub struct Names {
     pub minus: Atom,
@@ -28,6 +29,7 @@ pub struct Names {
 }
 
 impl Names {
+    /// Gives each of them a number, where older numbers keep their texts. It fails where memory is wanting, alone.
     pub fn new(atoms: &mut Atoms) -> Result<Names, AllocError>
         ensures names { IfOk result (AreGrammarNames atoms.new) }
         ensures kept { KeepsTexts atoms.old atoms.new }

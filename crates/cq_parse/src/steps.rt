@@ -1,4 +1,4 @@
-// The steps of the reader, a token each.
+// The steps of the machine, a token each.
 
 ghost use Rattle.std.specs.Prelude.{◌≡◌, ◌<◌, ◌≤◌, ℕ, List, [], ◌∷◌, Some, length, IfOk, OnOk};
 ghost use Rattle.cq_atoms.specs.Texts.{Text, text_of};
@@ -22,7 +22,7 @@ use cq_term::{Heap, TermId};
 use std::alloc::AllocError;
 
 /// The step at the token behind an operand of this priority, within a term of priority at most `most`.
-pub fn behind(
+fn behind(
     ops: &Ops,
     names: &Names,
     heap: &mut Heap,
@@ -340,7 +340,13 @@ fn after_open_curly(
     }
 }
 
-/// The step at a token: where the reader stands behind it, or none where the token is refused.
+/// The step at a token: where the machine stands behind it, or None where the token is refused, since then no clause
+/// begins with the tokens so far. The frames and the stand that came of one step, and the heap, are the next one's; they
+/// may only hold live terms. Behind a whole clause every token is refused.
+///
+/// The heap gets new terms, and older ones and the variables stay as they are, also where the token is refused. What the
+/// frames are then is of no use. It fails where memory is wanting, alone: then the heap may have new terms too, and goes
+/// back to its marks as before, but nothing is said of the frames.
 pub fn step(
     ops: &Ops,
     names: &Names,

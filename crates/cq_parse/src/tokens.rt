@@ -6,6 +6,7 @@ use cq_frac::{Frac, VarId};
 /// A token. A name and a sign say what stands directly behind them.
 #[derive(Debug, Drop)]
 pub enum Token {
+    /// A variable of the heap, which must be unbound.
     Variable(VarId),
     Numeral(Frac),
     /// A text in double quotes.
