@@ -1,0 +1,4 @@
+pub mod Kept
+pub mod Trees
+pub mod Interned
+pub mod Defaults

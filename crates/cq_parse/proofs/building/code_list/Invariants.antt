@@ -1,0 +1,24 @@
+use Rattle.std.proofs.Common.{◌≡◌, ◌<◌, ◌≤◌, List, length, vec_len, map}
+use Rattle.std.specs.Prelude.{reverse, pos}
+use Rattle.spec_rational.specs.Rational.{int_ℚ}
+use Rattle.spec_terms.specs.Term.{Number}
+use Rattle.spec_syntax.specs.Trees.{code_list}
+use Rattle.spec_syntax.specs.Machine.{with_elements_before}
+use Rattle.cq_atoms.specs.Texts.{Text}
+use Rattle.cq_parse.specs.Views.{IsPrefix, tree}
+use Rattle.cq_parse.specs.Known.{AreGrammarNames}
+use Rattle.cq_parse.proofs.building.code_list.Given as goal
+
+abbrev pub invariant-loop-c : goal.invariant-loop-c
+invariant-loop-c l = record {
+  whole : l.whole < length l.heap.now.terms;
+  list : (texts : List Text) → AreGrammarNames texts l.names →
+      with_elements_before (reverse (map (λ c. Number (int_ℚ (pos c))) l.left.items)) (tree texts l.heap.now.terms l.whole) ≡ code_list l.text;
+  terms : IsPrefix l.fn.heap.now.terms l.heap.now.terms;
+  images : l.heap.now.images ≡ l.fn.heap.now.images;
+  saved : l.heap.saved ≡ l.fn.heap.saved;
+  room : l.fn.heap.room ≤ l.heap.room;
+}
+
+abbrev pub decreases-loop-c : goal.decreases-loop-c
+decreases-loop-c l = vec_len l.left

@@ -1,0 +1,32 @@
+use Rattle.std.proofs.Common.{refl, codes, subst, ◌≡◌}
+use Rattle.std.specs.Prelude.{IfOk}
+use Rattle.cq_parse.specs.Views.{frames_of, state_or_none}
+use Rattle.cq_parse.proofs.Kept.{frames_kept}
+use Rattle.cq_parse.proofs.Trees.{name_tree}
+use Rattle.cq_parse.proofs.Defaults.{curly_begins}
+use Rattle.cq_parse.proofs.steps.after_open_curly.Goals as goal
+
+pub returns-in_ok-atom-in-CloseCurly-clause-step : goal.returns-in_ok-atom-in-CloseCurly-clause-step
+returns-in_ok-atom-in-CloseCurly-clause-step c ops texts known =
+    let ts = c.args.heap.now.now.terms in
+    let us = c.atom.new.heap.now.terms in
+    rw (
+      c.in-CloseCurly.is,
+      c.after.ensures,
+      frames_kept texts ts us c.in_ok-atom-in-CloseCurly.ensures.terms c.args.frames.now.items c.requires.frames,
+      name_tree texts us us c.args.names.now.curly c.in_ok-atom-in-CloseCurly.field-0 (codes "{}") c.in_ok-atom-in-CloseCurly.ensures.built known.curly,
+    ) refl
+
+pub returns-in_default : goal.returns-in_default
+returns-in_default c = record {
+  step = λ ops texts known.
+      subst (λ s. IfOk c.first_in_braces.result (λ next. state_or_none texts c.first_in_braces.new.heap.now.terms c.first_in_braces.new.frames.items next ≡ s))
+      (curly_begins ops texts c.args.most (frames_of texts c.args.heap.now.now.terms c.args.frames.now.items) c.args.token.now c.in_default.not-CloseCurly) (c.first_in_braces.ensures.step ops texts known);
+  known = c.first_in_braces.ensures.known;
+  frames = c.first_in_braces.ensures.frames;
+  stand = c.first_in_braces.ensures.stand;
+  terms = c.first_in_braces.ensures.terms;
+  images = c.first_in_braces.ensures.images;
+  saved = c.first_in_braces.ensures.saved;
+  room = c.first_in_braces.ensures.room;
+}

@@ -1,0 +1,29 @@
+use Rattle.std.proofs.Common.{refl}
+use Rattle.cq_parse.proofs.Kept.{frames_kept}
+use Rattle.cq_parse.proofs.steps.before_term.Goals as goal
+
+pub returns-in-Variable-clause-step : goal.returns-in-Variable-clause-step
+returns-in-Variable-clause-step c ops texts known =
+    let unbound = rw c.in-Variable.is at c.requires.variable in
+    rw (c.in-Variable.is, c.after.ensures, c.var_term.ensures.term, unbound.1) refl
+
+pub returns-in_ok-number-in-Numeral-clause-step : goal.returns-in_ok-number-in-Numeral-clause-step
+returns-in_ok-number-in-Numeral-clause-step c ops texts known =
+    let ts = c.args.heap.now.now.terms in
+    rw (
+      c.in-Numeral.is,
+      c.after-in-Numeral.ensures,
+      frames_kept texts ts c.number.new.heap.now.terms c.in_ok-number-in-Numeral.ensures.terms c.args.frames.now.items c.requires.frames,
+      c.in_ok-number-in-Numeral.ensures.built,
+    ) refl
+
+pub returns-in_ok-code_list-in-Codes-clause-step : goal.returns-in_ok-code_list-in-Codes-clause-step
+returns-in_ok-code_list-in-Codes-clause-step c ops texts known =
+    let ts = c.args.heap.now.now.terms in
+    rw (
+      c.in-Codes.is,
+      c.after-in-Codes.ensures,
+      frames_kept texts ts c.code_list.new.heap.now.terms c.in_ok-code_list-in-Codes.ensures.terms c.args.frames.now.items c.requires.frames,
+      c.in_ok-code_list-in-Codes.ensures.list texts known,
+      c.deref.ensures,
+    ) refl

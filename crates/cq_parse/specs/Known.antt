@@ -1,0 +1,46 @@
+-- Which names a table of texts knows.
+use Rattle.std.specs.Prelude.{◌≡◌, ℕ, List, Option, Some, None, codes, slice_get, ⊤}
+use Rattle.cq_atoms.specs.Texts.{Text, AreDifferent, text_of}
+use Rattle.cq_parse.specs.declared.tokens.Token.{Token}
+use Rattle.cq_parse.specs.declared.tokens.Token.TheVariants as token
+use Rattle.cq_parse.specs.declared.frames.Stand.{Stand}
+use Rattle.cq_parse.specs.declared.frames.Stand.TheVariants as stand
+use Rattle.cq_parse.specs.declared.folding.Folded.{Folded}
+use Rattle.cq_parse.specs.declared.folding.Folded.TheVariants as folded
+use Rattle.cq_parse.specs.declared.names.Names.{Names}
+
+-- the number has a text
+abbrev pub IsKnown : List Text → ℕ → Type 0
+IsKnown texts name = slice_get texts name ≡ Some (text_of texts name)
+
+-- the names that the grammar itself speaks of
+pub record AreGrammarNames (texts : List Text) (names : Names) : Type 0 where
+  pub minus : slice_get texts names.minus ≡ Some (codes "-")
+  pub comma : slice_get texts names.comma ≡ Some (codes ",")
+  pub nil : slice_get texts names.nil ≡ Some (codes "[]")
+  pub curly : slice_get texts names.curly ≡ Some (codes "{}")
+  pub dot : slice_get texts names.dot ≡ Some (codes ".")
+
+-- the name of a token, if it has one, is known
+abbrev pub KnowsToken : List Text → Token → Type 0
+KnowsToken texts (token.Named f quoted) = IsKnown texts f
+KnowsToken texts (token.Functor f) = IsKnown texts f
+KnowsToken texts tok = ⊤
+
+abbrev pub KnowsStand : List Text → Stand → Type 0
+KnowsStand texts (stand.AfterName f most) = IsKnown texts f
+KnowsStand texts s = ⊤
+
+abbrev pub KnowsOrNone : List Text → Option Stand → Type 0
+KnowsOrNone texts None = ⊤
+KnowsOrNone texts (Some s) = KnowsStand texts s
+
+abbrev pub KnowsFolded : List Text → Folded → Type 0
+KnowsFolded texts (folded.Operand most priority operand) = ⊤
+KnowsFolded texts (folded.Done next) = KnowsOrNone texts next
+
+-- the texts differ, and have the names that a step looks at
+pub record Knows (texts : List Text) (names : Names) (tok : Token) : Type 0 where
+  pub different : AreDifferent texts
+  pub grammar : AreGrammarNames texts names
+  pub token : KnowsToken texts tok

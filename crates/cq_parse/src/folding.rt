@@ -1,0 +1,276 @@
+// An operand that is put into the frame that waits for it.
+
+ghost use Rattle.std.specs.Prelude.{◌≡◌, ◌<◌, ◌≤◌, ◌∷◌, ℕ, List, All, length, vec_len, IfOk, OnOk};
+ghost use Rattle.cq_atoms.specs.Texts.{Text, text_of};
+ghost use Rattle.spec_operators.specs.Operators.{Ops as OpsOfTexts};
+ghost use Rattle.spec_syntax.specs.Grammar.{Outside};
+ghost use Rattle.spec_syntax.specs.Machine.{after_operand, end_group, end_curly, end_argument, end_element, end_tail};
+ghost use Rattle.cq_parse.specs.Views.{IsPrefix, tree, trees, token_of, frame_of, frames_of, state_or_none, IsLiveFrame, AreLive, IsLiveOrNone, Folds, IsLiveFolded, NoMoreFrames};
+ghost use Rattle.cq_parse.specs.Known.{AreGrammarNames, KnowsOrNone, KnowsFolded};
+ghost use Rattle.cq_term.specs.Meaning.{HeapTerm};
+
+use crate::building::{atom, compound, list};
+use crate::frames::{Frame, Stand};
+use crate::names::Names;
+use crate::tokens::Token;
+use cq_atoms::Atom;
+use cq_term::{Heap, TermId};
+use std::alloc::AllocError;
+
+/// What becomes of an operand.
+#[derive(Clone, Copy, Debug)]
+pub enum Folded {
+    /// An operand of the term around it.
+    Operand {
+        most: u16,
+        priority: u16,
+        operand: TermId,
+    },
+    /// The token was used, or is refused.
+    Done(Option<Stand>),
+}
+
+/// `)` or `,` behind an argument.
+fn end_argument(
+    heap: &mut Heap,
+    frames: &mut Vec<Frame>,
+    name: Atom,
+    before: Vec<TermId>,
+    most: u16,
+    operand: TermId,
+    token: &Token,
+) -> Result<Option<Stand>, AllocError>
+    requires frames { AreLive (length heap.old.now.terms) frames.old.items }
+    requires before { All (λ id. id < length heap.old.now.terms) before.items }
+    requires operand { operand < length heap.old.now.terms }
+    ensures step { (ops : OpsOfTexts) (texts : List Text) → IfOk result (λ next. state_or_none texts heap.new.now.terms frames.new.items next
+        ≡ end_argument ops (text_of texts name) (trees texts heap.old.now.terms before.items) most (tree texts heap.old.now.terms operand) (frames_of texts heap.old.now.terms frames.old.items) (token_of texts token.now)) }
+    ensures frames { OnOk result (AreLive (length heap.new.now.terms) frames.new.items) }
+    ensures known { (texts : List Text) → IfOk result (KnowsOrNone texts) }
+    ensures stand { IfOk result (IsLiveOrNone (length heap.new.now.terms)) }
+    ensures terms { OnOk result (IsPrefix heap.old.now.terms heap.new.now.terms) }
+    ensures images { OnOk result (heap.new.now.images ≡ heap.old.now.images) }
+    ensures saved { heap.new.saved ≡ heap.old.saved }
+    ensures room { heap.old.room ≤ heap.new.room }
+{
+    let mut args = before;
+    match token {
+        Token::Close => {
+            args.push(operand)?;
+            let whole = compound(heap, name, &args)?;
+            Ok(Some(Stand::AfterOperand {
+                most,
+                priority: 0,
+                operand: whole,
+            }))
+        }
+        Token::Comma => {
+            args.push(operand)?;
+            frames.push(Frame::InArguments {
+                name,
+                before: args,
+                most,
+            })?;
+            Ok(Some(Stand::BeforeTerm { most: 999 }))
+        }
+        _ => Ok(None),
+    }
+}
+
+/// `]`, `,` or `|` behind an element of a list.
+fn end_element(
+    heap: &mut Heap,
+    names: &Names,
+    frames: &mut Vec<Frame>,
+    before: Vec<TermId>,
+    most: u16,
+    operand: TermId,
+    token: &Token,
+) -> Result<Option<Stand>, AllocError>
+    requires frames { AreLive (length heap.old.now.terms) frames.old.items }
+    requires before { All (λ id. id < length heap.old.now.terms) before.items }
+    requires operand { operand < length heap.old.now.terms }
+    ensures step { (ops : OpsOfTexts) (texts : List Text) → AreGrammarNames texts names.now → IfOk result (λ next. state_or_none texts heap.new.now.terms frames.new.items next
+        ≡ end_element ops (trees texts heap.old.now.terms before.items) most (tree texts heap.old.now.terms operand) (frames_of texts heap.old.now.terms frames.old.items) (token_of texts token.now)) }
+    ensures frames { OnOk result (AreLive (length heap.new.now.terms) frames.new.items) }
+    ensures known { (texts : List Text) → IfOk result (KnowsOrNone texts) }
+    ensures stand { IfOk result (IsLiveOrNone (length heap.new.now.terms)) }
+    ensures terms { OnOk result (IsPrefix heap.old.now.terms heap.new.now.terms) }
+    ensures images { OnOk result (heap.new.now.images ≡ heap.old.now.images) }
+    ensures saved { heap.new.saved ≡ heap.old.saved }
+    ensures room { heap.old.room ≤ heap.new.room }
+{
+    let mut elements = before;
+    match token {
+        Token::CloseList => {
+            elements.push(operand)?;
+            let nil = atom(heap, names.nil)?;
+            let whole = list(heap, names, elements, nil)?;
+            Ok(Some(Stand::AfterOperand {
+                most,
+                priority: 0,
+                operand: whole,
+            }))
+        }
+        Token::Comma => {
+            elements.push(operand)?;
+            frames.push(Frame::InElements {
+                before: elements,
+                most,
+            })?;
+            Ok(Some(Stand::BeforeTerm { most: 999 }))
+        }
+        Token::Bar => {
+            elements.push(operand)?;
+            frames.push(Frame::InTail {
+                before: elements,
+                most,
+            })?;
+            Ok(Some(Stand::BeforeTerm { most: 999 }))
+        }
+        _ => Ok(None),
+    }
+}
+
+/// `]` behind the tail of a list.
+fn end_tail(
+    heap: &mut Heap,
+    names: &Names,
+    before: Vec<TermId>,
+    most: u16,
+    operand: TermId,
+    token: &Token,
+) -> Result<Option<Stand>, AllocError>
+    requires before { All (λ id. id < length heap.old.now.terms) before.items }
+    requires operand { operand < length heap.old.now.terms }
+    ensures step { (ops : OpsOfTexts) (texts : List Text) (frames : List Frame) → AreGrammarNames texts names.now → AreLive (length heap.old.now.terms) frames
+        → IfOk result (λ next. state_or_none texts heap.new.now.terms frames next
+        ≡ end_tail ops (trees texts heap.old.now.terms before.items) most (tree texts heap.old.now.terms operand) (frames_of texts heap.old.now.terms frames) (token_of texts token.now)) }
+    ensures known { (texts : List Text) → IfOk result (KnowsOrNone texts) }
+    ensures stand { IfOk result (IsLiveOrNone (length heap.new.now.terms)) }
+    ensures terms { OnOk result (IsPrefix heap.old.now.terms heap.new.now.terms) }
+    ensures images { OnOk result (heap.new.now.images ≡ heap.old.now.images) }
+    ensures saved { heap.new.saved ≡ heap.old.saved }
+    ensures room { heap.old.room ≤ heap.new.room }
+{
+    match token {
+        Token::CloseList => {
+            let whole = list(heap, names, before, operand)?;
+            Ok(Some(Stand::AfterOperand {
+                most,
+                priority: 0,
+                operand: whole,
+            }))
+        }
+        _ => Ok(None),
+    }
+}
+
+/// `}` behind the term in braces.
+fn end_curly(
+    heap: &mut Heap,
+    names: &Names,
+    most: u16,
+    operand: TermId,
+    token: &Token,
+) -> Result<Option<Stand>, AllocError>
+    requires operand { operand < length heap.old.now.terms }
+    ensures step { (ops : OpsOfTexts) (texts : List Text) (frames : List Frame) → AreGrammarNames texts names.now → AreLive (length heap.old.now.terms) frames
+        → IfOk result (λ next. state_or_none texts heap.new.now.terms frames next
+        ≡ end_curly ops most (tree texts heap.old.now.terms operand) (frames_of texts heap.old.now.terms frames) (token_of texts token.now)) }
+    ensures known { (texts : List Text) → IfOk result (KnowsOrNone texts) }
+    ensures stand { IfOk result (IsLiveOrNone (length heap.new.now.terms)) }
+    ensures terms { OnOk result (IsPrefix heap.old.now.terms heap.new.now.terms) }
+    ensures images { OnOk result (heap.new.now.images ≡ heap.old.now.images) }
+    ensures saved { heap.new.saved ≡ heap.old.saved }
+    ensures room { heap.old.room ≤ heap.new.room }
+{
+    match token {
+        Token::CloseCurly => {
+            let whole = compound(heap, names.curly, &[operand])?;
+            Ok(Some(Stand::AfterOperand {
+                most,
+                priority: 0,
+                operand: whole,
+            }))
+        }
+        _ => Ok(None),
+    }
+}
+
+/// `)` behind the term in parentheses.
+fn end_group(most: u16, operand: TermId, token: &Token) -> Option<Stand>
+    ensures step { (ops : OpsOfTexts) (texts : List Text) (ts : List HeapTerm) (frames : List Frame) → state_or_none texts ts frames result ≡ end_group ops most (tree texts ts operand) (frames_of texts ts frames) (token_of texts token.now) }
+    ensures known { (texts : List Text) → KnowsOrNone texts result }
+    ensures stand { (n : ℕ) → operand < n → IsLiveOrNone n result }
+{
+    match token {
+        Token::Close => Some(Stand::AfterOperand {
+            most,
+            priority: 0,
+            operand,
+        }),
+        _ => None,
+    }
+}
+
+/// Puts an operand at which its term ends into the frame that waits for it.
+pub fn fold(
+    heap: &mut Heap,
+    names: &Names,
+    frames: &mut Vec<Frame>,
+    frame: Frame,
+    operand: TermId,
+    token: &Token,
+) -> Result<Folded, AllocError>
+    requires frames { AreLive (length heap.old.now.terms) frames.old.items }
+    requires frame { IsLiveFrame (length heap.old.now.terms) frame }
+    requires operand { operand < length heap.old.now.terms }
+    ensures folds { (ops : OpsOfTexts) (texts : List Text) (m : ℕ) → AreGrammarNames texts names.now → IfOk result (Folds ops texts heap.new.now.terms frames.new.items (token_of texts token.now)
+        (after_operand ops (frame_of texts heap.old.now.terms frame ∷ frames_of texts heap.old.now.terms frames.old.items) m (tree texts heap.old.now.terms operand) (token_of texts token.now) Outside)) }
+    ensures frames { OnOk result (AreLive (length heap.new.now.terms) frames.new.items) }
+    ensures known { (texts : List Text) → IfOk result (KnowsFolded texts) }
+    ensures folded { IfOk result (IsLiveFolded (length heap.new.now.terms)) }
+    ensures fewer { IfOk result (NoMoreFrames (vec_len frames.old) (vec_len frames.new)) }
+    ensures terms { OnOk result (IsPrefix heap.old.now.terms heap.new.now.terms) }
+    ensures images { OnOk result (heap.new.now.images ≡ heap.old.now.images) }
+    ensures saved { heap.new.saved ≡ heap.old.saved }
+    ensures room { heap.old.room ≤ heap.new.room }
+{
+    match frame {
+        Frame::RightOf {
+            name,
+            left,
+            op,
+            most,
+        } => {
+            let operand = compound(heap, name, &[left, operand])?;
+            Ok(Folded::Operand {
+                most,
+                priority: op.priority,
+                operand,
+            })
+        }
+        Frame::OperandOf { name, op, most } => {
+            let operand = compound(heap, name, &[operand])?;
+            Ok(Folded::Operand {
+                most,
+                priority: op.priority,
+                operand,
+            })
+        }
+        Frame::InGroup { most } => Ok(Folded::Done(end_group(most, operand, token))),
+        Frame::InCurly { most } => {
+            Ok(Folded::Done(end_curly(heap, names, most, operand, token)?))
+        }
+        Frame::InArguments { name, before, most } => Ok(Folded::Done(end_argument(
+            heap, frames, name, before, most, operand, token,
+        )?)),
+        Frame::InElements { before, most } => Ok(Folded::Done(end_element(
+            heap, names, frames, before, most, operand, token,
+        )?)),
+        Frame::InTail { before, most } => Ok(Folded::Done(end_tail(
+            heap, names, before, most, operand, token,
+        )?)),
+    }
+}
