@@ -13,6 +13,8 @@ mod frames;
 mod names;
 mod operators;
 mod steps;
+#[cfg(test)]
+mod tests;
 mod tokens;
 
 pub use frames::{Frame, Stand};
