@@ -4,7 +4,7 @@ use mir.Syntax.{w128}
 use Rattle.std.specs.Prelude.{nat_abs}
 use Rattle.std.specs.Fmt.{decimal, signed_decimal, digits_onto, digit_glyph}
 use Rattle.std.proofs.lemmas.Fmt.{decimal_by_steps_wide}
-use Rattle.spec_rational.specs.Rational.{ℚ, den}
+use Rattle.spec_rational.specs.Rational.{ℚ, denominator}
 use Rattle.spec_answers.specs.Text.{Text, whole_text, under_text, number_text}
 use Rattle.cq_frac.specs.Fits.{Fits}
 
@@ -52,25 +52,25 @@ no_under : (below : ℕ) → suc below ≡ 1 → under_text below ≡ []
 no_under zero h = refl
 no_under (suc n) h = absurd (omega arith)
 
-number_is : (q : ℚ) → Fits q → number_text q ≡ signed_decimal q.num ++ under_text q.below
-number_is q fits = let h = fits.num_fits in top_is q.num q.below (omega (arith, h))
+number_is : (q : ℚ) → Fits q → number_text q ≡ signed_decimal q.numerator ++ under_text q.below
+number_is q fits = let h = fits.num_fits in top_is q.numerator q.below (omega (arith, h))
 
-pub quotient_is : (q : ℚ) → Fits q → (den q ≡ 1 → ⊥) → number_text q ≡ signed_decimal q.num ++ (codes "r" ++ signed_decimal (pos (den q)))
-quotient_is q fits other = let h = fits.den_fits in number_is q fits ∙ ap (λ t. signed_decimal q.num ++ t) (under_is q.below (omega (arith, h)) other)
+pub quotient_is : (q : ℚ) → Fits q → (denominator q ≡ 1 → ⊥) → number_text q ≡ signed_decimal q.numerator ++ (codes "r" ++ signed_decimal (pos (denominator q)))
+quotient_is q fits other = let h = fits.den_fits in number_is q fits ∙ ap (λ t. signed_decimal q.numerator ++ t) (under_is q.below (omega (arith, h)) other)
 
-pub integer_is : (q : ℚ) → Fits q → den q ≡ 1 → number_text q ≡ signed_decimal q.num
-integer_is q fits is = number_is q fits ∙ ap (λ t. signed_decimal q.num ++ t) (no_under q.below is) ∙ append-nil (signed_decimal q.num)
+pub integer_is : (q : ℚ) → Fits q → denominator q ≡ 1 → number_text q ≡ signed_decimal q.numerator
+integer_is q fits is = number_is q fits ∙ ap (λ t. signed_decimal q.numerator ++ t) (no_under q.below is) ∙ append-nil (signed_decimal q.numerator)
 
 -- out gains the numerator alone
-pub writes_integer : (q : ℚ) (n d : ℤ) (old out : List ℕ) → Fits q → n ≡ q.num → d ≡ pos (den q) → of_z w128 d ≡ 1 → out ≡ old ++ signed_decimal n → out ≡ old ++ number_text q
+pub writes_integer : (q : ℚ) (n d : ℤ) (old out : List ℕ) → Fits q → n ≡ q.numerator → d ≡ pos (denominator q) → of_z w128 d ≡ 1 → out ≡ old ++ signed_decimal n → out ≡ old ++ number_text q
 writes_integer q n d old out fits top bottom is e =
     e ∙ ap (λ z. old ++ signed_decimal z) top ∙ ap (λ t. old ++ t) (sym (integer_is q fits (sym (ap (of_z w128) bottom) ∙ is)))
 
 -- out gains the numerator, `r` and the denominator
-pub writes_quotient : (q : ℚ) (n d : ℤ) (old first second out : List ℕ) → Fits q → n ≡ q.num → d ≡ pos (den q) → (of_z w128 d ≡ 1 → ⊥) →
+pub writes_quotient : (q : ℚ) (n d : ℤ) (old first second out : List ℕ) → Fits q → n ≡ q.numerator → d ≡ pos (denominator q) → (of_z w128 d ≡ 1 → ⊥) →
     first ≡ old ++ signed_decimal n → second ≡ first ++ codes "r" → out ≡ second ++ signed_decimal d → out ≡ old ++ number_text q
 writes_quotient q n d old first second out fits top bottom is e f g =
     let text = quotient_is q fits (λ one. is (ap (of_z w128) bottom ∙ one)) in
     g ∙ ap (λ t. t ++ signed_decimal d) (f ∙ ap (λ t. t ++ codes "r") e)
     ∙ append_assoc (old ++ signed_decimal n) (codes "r") (signed_decimal d) ∙ append_assoc old (signed_decimal n) (codes "r" ++ signed_decimal d)
-    ∙ ap (λ t. old ++ t) (ap (λ z. signed_decimal z ++ (codes "r" ++ signed_decimal d)) top ∙ ap (λ z. signed_decimal q.num ++ (codes "r" ++ signed_decimal z)) bottom ∙ sym text)
+    ∙ ap (λ t. old ++ t) (ap (λ z. signed_decimal z ++ (codes "r" ++ signed_decimal d)) top ∙ ap (λ z. signed_decimal q.numerator ++ (codes "r" ++ signed_decimal z)) bottom ∙ sym text)

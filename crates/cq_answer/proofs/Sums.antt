@@ -7,7 +7,7 @@ use Rattle.std.proofs.lemmas.Cmp.{int_ranked}
 use Rattle.std.proofs.lemmas.List.{take_all, take_more, map-append}
 use Rattle.spec_rational.specs.Gcd.{gcd}
 use Rattle.spec_rational.specs.Rational.{ℚ, 0ℚ, 1ℚ, neg_ℚ, int_ℚ, ratio}
-use Rattle.spec_rational.specs.Sums.{Product}
+use Rattle.spec_rational.specs.Sums.{Monomial}
 use Rattle.spec_rational.proofs.Rational.{ℚ_same}
 use Rattle.spec_linear.specs.Form.{is_zero}
 use Rattle.spec_linear.proofs.Values.{is_zero-of, is_zero-true}
@@ -33,10 +33,10 @@ int_same x y e = go (int_cmp x y) (int_ranked x y (int_cmp x y) refl) e
     go Greater m k = let n : false ≡ true = k in cc
 
 same_true : (p q : ℚ) → same_number p q ≡ true → p ≡ q
-same_true p q e = let h = both (int_eq p.num q.num) (p.below == q.below) e in ℚ_same p q (int_same p.num q.num h.0) (eqb-true p.below q.below h.1)
+same_true p q e = let h = both (int_eq p.numerator q.numerator) (p.below == q.below) e in ℚ_same p q (int_same p.numerator q.numerator h.0) (eqb-true p.below q.below h.1)
 
 same_itself : (q : ℚ) → same_number q q ≡ true
-same_itself q = ap (λ b. b && (q.below == q.below)) (int_eq_equiv.refl q.num) ∙ eq-eqb q.below q.below refl
+same_itself q = ap (λ b. b && (q.below == q.below)) (int_eq_equiv.refl q.numerator) ∙ eq-eqb q.below q.below refl
 
 same_of : (p q : ℚ) → p ≡ q → same_number p q ≡ true
 same_of p q e = subst (λ r. same_number p r ≡ true) e (same_itself p)
@@ -78,7 +78,7 @@ rest_is [] = refl
 rest_is (p ∷ ps) = take_all (suc (length ps) - 1) ps (omega arith)
 
 module _ (name : ℕ → Text) where
-  pub product_is : (m : Product) → product_text name m ≡ coefficient_text m.factor ++ name m.variable
+  pub product_is : (m : Monomial) → product_text name m ≡ coefficient_text m.factor ++ name m.variable
   product_is m = go (same_number m.factor 1ℚ) (same_number m.factor (neg_ℚ 1ℚ))
     where
       go : (one minus : Bool) → cond one (name m.variable) (cond minus (codes "-" ++ name m.variable) (number_text m.factor ++ codes "*" ++ name m.variable)) ≡ tested m.factor one minus ++ name m.variable
@@ -86,7 +86,7 @@ module _ (name : ℕ → Text) where
       go false true = refl
       go false false = refl
 
-  sum_push : (sum : Text) (ms : List Product) (m : Product) → sum_onto name sum (ms ++ m ∷ []) ≡ joined (sum_onto name sum ms) (product_text name m)
+  sum_push : (sum : Text) (ms : List Monomial) (m : Monomial) → sum_onto name sum (ms ++ m ∷ []) ≡ joined (sum_onto name sum ms) (product_text name m)
   sum_push sum [] m = refl
   sum_push sum (n ∷ ms) m = sum_push (joined sum (product_text name n)) ms m
 
@@ -99,13 +99,13 @@ module _ (name : ℕ → Text) where
       ∙ ap (λ s. sum_onto name sum (map product_of s)) (sym (take_more ps i p l ∙ ap (λ r. take i ps ++ r ∷ []) (sym e)))
 
   -- the constant is left away
-  without_constant : (m : Product) (ms : List Product) (q : ℚ) → q ≡ 0ℚ → sum_onto name (product_text name m) ms ≡ linear_text name (m ∷ ms) q
+  without_constant : (m : Monomial) (ms : List Monomial) (q : ℚ) → q ≡ 0ℚ → sum_onto name (product_text name m) ms ≡ linear_text name (m ∷ ms) q
   without_constant m ms q z =
       let sum = sum_onto name (product_text name m) ms in
       ap (λ b. cond b sum (joined sum (number_text q))) (sym (is_zero-of q z))
 
   -- or it follows
-  with_constant : (m : Product) (ms : List Product) (q : ℚ) → q ≢ 0ℚ → joined (sum_onto name (product_text name m) ms) (number_text q) ≡ linear_text name (m ∷ ms) q
+  with_constant : (m : Monomial) (ms : List Monomial) (q : ℚ) → q ≢ 0ℚ → joined (sum_onto name (product_text name m) ms) (number_text q) ≡ linear_text name (m ∷ ms) q
   with_constant m ms q z = go (is_zero q) refl
     where
       go : (b : Bool) → is_zero q ≡ b → joined (sum_onto name (product_text name m) ms) (number_text q) ≡ cond b (sum_onto name (product_text name m) ms) (joined (sum_onto name (product_text name m) ms) (number_text q))

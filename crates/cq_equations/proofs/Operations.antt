@@ -3,7 +3,7 @@ use Rattle.std.proofs.Common.{◌≡◌, inl, inr, ℕ, zero, suc, ◌<◌, ◌�
 use Rattle.std.specs.Prelude.{fold, flat_map, map}
 use Rattle.std.proofs.lemmas.List.Concat.{flat_map-cons}
 use Rattle.spec_rational.specs.Rational.{ℚ, neg_ℚ}
-use Rattle.spec_rational.specs.Sums.{Product, unit, factor_of, negated_products}
+use Rattle.spec_rational.specs.Sums.{Monomial, unit, factor_of, negated_products}
 use Rattle.spec_rational.proofs.Ring.{var, minus}
 use Rattle.spec_rational.proofs.Rational.{ring}
 use Rattle.spec_rational.proofs.Sums.{factor_of-is, sum_at-negated_products}
@@ -39,7 +39,7 @@ pub negated_is : (f : Linear) (s t : List (VarId × ℚ)) (c d : ℚ) → produc
 negated_is f s t c d e h i j =
     form_same (form_of d t) (negated_form f) (ap products_of h ∙ negated_pairs-products s ∙ ap negated_products e) (j ∙ ap neg_ℚ i)
 
-factor_of-negated : (x : ℕ) (s : List Product) → factor_of x s ≡ neg_ℚ (factor_of x (negated_products s))
+factor_of-negated : (x : ℕ) (s : List Monomial) → factor_of x s ≡ neg_ℚ (factor_of x (negated_products s))
 factor_of-negated x s =
     sym (neg-neg (factor_of x s))
     ∙ ap neg_ℚ (ap neg_ℚ (factor_of-is x s) ∙ sym (sum_at-negated_products (unit x) s) ∙ sym (factor_of-is x (negated_products s)))
@@ -47,16 +47,16 @@ factor_of-negated x s =
 -- ---- coefficients
 
 -- no variable of a sum is below its first
-least : (x : ℕ) (q : ℚ) (low : ℕ) (s : List Product) → IsSumFrom low s → HasCoefficient x q s → low ≤ x
+least : (x : ℕ) (q : ℚ) (low : ℕ) (s : List Monomial) → IsSumFrom low s → HasCoefficient x q s → low ≤ x
 least x q low [] o h = absurd h
-least x q low (n ∷ s) o (inl e) = omega (arith, o.0, ap (λ (p : Product). p.variable) e)
+least x q low (n ∷ s) o (inl e) = omega (arith, o.0, ap (λ (p : Monomial). p.variable) e)
 least x q low (n ∷ s) o (inr h) = omega (arith, o.0, least x q (suc n.variable) s o.2 h)
 
 -- what stands with a variable is its coefficient
-coefficient_is : (low x : ℕ) (q : ℚ) (s : List Product) → IsSumFrom low s → HasCoefficient x q s → factor_of x s ≡ q
+coefficient_is : (low x : ℕ) (q : ℚ) (s : List Monomial) → IsSumFrom low s → HasCoefficient x q s → factor_of x s ≡ q
 coefficient_is low x q [] o h = absurd h
 coefficient_is low x q (m ∷ s) o (inl e) =
-    ap (λ y. factor_of y (m ∷ s)) (ap (λ (p : Product). p.variable) e) ∙ factor_of-first low m s o ∙ sym (ap (λ (p : Product). p.factor) e)
+    ap (λ y. factor_of y (m ∷ s)) (ap (λ (p : Monomial). p.variable) e) ∙ factor_of-first low m s o ∙ sym (ap (λ (p : Monomial). p.factor) e)
 coefficient_is low x q (m ∷ s) o (inr h) =
     let above : suc m.variable ≤ x = least x q (suc m.variable) s o.2 h in
     factor_of-rest x m s (λ e. absurd (omega (arith, above, e))) ∙ coefficient_is (suc m.variable) x q s o.2 h

@@ -2,7 +2,7 @@
 use Rattle.std.proofs.Common.{◌≡◌, ◌≢◌, inl, inr, ℕ, suc, ◌≤◌, List, [], ◌∷◌, Bool, true, false, cond, not, pos, arith, refl, ap, ap₂, sym, subst, ◌∙◌}
 use Rattle.std.specs.Prelude.{◌==◌}
 use Rattle.spec_rational.specs.Rational.{ℚ, 0ℚ, ◌+ℚ◌, ◌*ℚ◌}
-use Rattle.spec_rational.specs.Sums.{Product, Mentions, factor_of, scaled_products}
+use Rattle.spec_rational.specs.Sums.{Monomial, Mentions, factor_of, scaled_products}
 use Rattle.spec_rational.proofs.Ring.{var, int, ◌⊗◌}
 use Rattle.spec_rational.proofs.Rational.{ring}
 use Rattle.spec_rational.proofs.Sums.{sum_at-agrees}
@@ -17,10 +17,10 @@ use Rattle.cq_form.specs.Steps.{HasCoefficient, CommonPair, MultiplePair, SumPai
 
 -- ---- order
 
-pub sum_in_order : (s t : List Product) → IsSumFrom 0 s → IsSumFrom 0 t → IsSumFrom 0 (sum_products s t)
+pub sum_in_order : (s t : List Monomial) → IsSumFrom 0 s → IsSumFrom 0 t → IsSumFrom 0 (sum_products s t)
 sum_in_order s t h k = IsForm-sum_form (record { products = s; constant = 0ℚ }) (record { products = t; constant = 0ℚ }) h k
 
-pub multiple_in_order : (k : ℚ) (s : List Product) → IsSumFrom 0 s → IsSumFrom 0 (without_zeros (scaled_products k s))
+pub multiple_in_order : (k : ℚ) (s : List Monomial) → IsSumFrom 0 s → IsSumFrom 0 (without_zeros (scaled_products k s))
 multiple_in_order k s h = IsForm-scaled_form k (record { products = s; constant = 0ℚ }) h
 
 -- ---- the pairs of a sum
@@ -34,13 +34,13 @@ module _ (f g : Linear) where
   constants_refused c d pair e h t =
       told_pair (SumPair f g) Sum f.constant g.constant pair (subst (λ x. Tells Sum x g.constant pair) e (subst (λ x. Tells Sum c x pair) h t)) constants
 
-  pub coefficients_refused : (s t : List Product) (pair : Pair) → s ≡ f.products → t ≡ g.products
+  pub coefficients_refused : (s t : List Monomial) (pair : Pair) → s ≡ f.products → t ≡ g.products
       → CommonPair s t pair.left pair.right × Tells Sum pair.left pair.right pair → SumPair f g pair.operation pair.left pair.right × IsRefused pair
   coefficients_refused s t pair e h w =
       told_pair (SumPair f g) Sum pair.left pair.right pair w.1
       (coefficients pair.left pair.right (subst (λ x. CommonPair x g.products pair.left pair.right) e (subst (λ x. CommonPair s x pair.left pair.right) h w.0)))
 
-  pub sum_accepted : (c d : ℚ) (s t : List Product) → c ≡ f.constant → d ≡ g.constant → s ≡ f.products → t ≡ g.products
+  pub sum_accepted : (c d : ℚ) (s t : List Monomial) → c ≡ f.constant → d ≡ g.constant → s ≡ f.products → t ≡ g.products
       → Accepts Sum c d → ((p q : ℚ) → CommonPair s t p q → Accepts Sum p q) → (o : Operation) (p q : ℚ) → SumPair f g o p q → Accepts o p q
   sum_accepted c d s t e h i j a b o p q (coefficients m n w) = b m n (subst (λ x. CommonPair x t m n) (sym i) (subst (λ x. CommonPair f.products x m n) (sym j) w))
   sum_accepted c d s t e h i j a b o p q constants = subst (λ x. Accepts Sum x g.constant) e (subst (Accepts Sum c) h a)
@@ -51,44 +51,44 @@ module _ (k : ℚ) (f : Linear) where
   pub constant_refused : (c : ℚ) (pair : Pair) → c ≡ f.constant → Tells Times k c pair → ScalePair k f pair.operation pair.left pair.right × IsRefused pair
   constant_refused c pair e t = told_pair (ScalePair k f) Times k f.constant pair (subst (λ x. Tells Times k x pair) e t) constant
 
-  pub coefficient_refused : (s : List Product) (pair : Pair) → s ≡ f.products → MultiplePair s pair.right × Tells Times k pair.right pair
+  pub coefficient_refused : (s : List Monomial) (pair : Pair) → s ≡ f.products → MultiplePair s pair.right × Tells Times k pair.right pair
       → ScalePair k f pair.operation pair.left pair.right × IsRefused pair
   coefficient_refused s pair e w =
       told_pair (ScalePair k f) Times k pair.right pair w.1 (coefficient pair.right (subst (λ x. MultiplePair x pair.right) e w.0))
 
-  pub multiple_accepted : (c : ℚ) (s : List Product) → c ≡ f.constant → s ≡ f.products → Accepts Times k c → ((q : ℚ) → MultiplePair s q → Accepts Times k q)
+  pub multiple_accepted : (c : ℚ) (s : List Monomial) → c ≡ f.constant → s ≡ f.products → Accepts Times k c → ((q : ℚ) → MultiplePair s q → Accepts Times k q)
       → (o : Operation) (p q : ℚ) → ScalePair k f o p q → Accepts o p q
   multiple_accepted c s e h a b o p q (coefficient n w) = b n (subst (λ x. MultiplePair x n) (sym h) w)
   multiple_accepted c s e h a b o p q constant = subst (Accepts Times k) e a
 
 -- ---- a form with another in the place of a variable
 
-mentions_of : (x : ℕ) (k : ℚ) (s : List Product) → HasCoefficient x k s → Mentions x s
+mentions_of : (x : ℕ) (k : ℚ) (s : List Monomial) → HasCoefficient x k s → Mentions x s
 mentions_of x k [] h = absurd h
-mentions_of x k (m ∷ s) (inl e) = inl (ap (λ (p : Product). p.variable) e)
+mentions_of x k (m ∷ s) (inl e) = inl (ap (λ (p : Monomial). p.variable) e)
 mentions_of x k (m ∷ s) (inr h) = inr (mentions_of x k s h)
 
 -- the coefficient of a variable that stands there
-coefficient_is : (low x : ℕ) (k : ℚ) (s : List Product) → IsSumFrom low s → HasCoefficient x k s → factor_of x s ≡ k
+coefficient_is : (low x : ℕ) (k : ℚ) (s : List Monomial) → IsSumFrom low s → HasCoefficient x k s → factor_of x s ≡ k
 coefficient_is low x k [] o h = absurd h
 coefficient_is low x k (m ∷ s) o (inl e) =
-    ap (λ y. factor_of y (m ∷ s)) (ap (λ (p : Product). p.variable) e) ∙ factor_of-first low m s o ∙ sym (ap (λ (p : Product). p.factor) e)
+    ap (λ y. factor_of y (m ∷ s)) (ap (λ (p : Monomial). p.variable) e) ∙ factor_of-first low m s o ∙ sym (ap (λ (p : Monomial). p.factor) e)
 coefficient_is low x k (m ∷ s) o (inr h) =
     let above : suc m.variable ≤ x = least (suc m.variable) s o.2 h in
     factor_of-rest x m s (λ e. absurd (omega (arith, above, e))) ∙ coefficient_is (suc m.variable) x k s o.2 h
   where
-    least : (low : ℕ) (s : List Product) → IsSumFrom low s → HasCoefficient x k s → low ≤ x
+    least : (low : ℕ) (s : List Monomial) → IsSumFrom low s → HasCoefficient x k s → low ≤ x
     least low [] o h = absurd h
-    least low (n ∷ s) o (inl e) = omega (arith, o.0, ap (λ (p : Product). p.variable) e)
+    least low (n ∷ s) o (inl e) = omega (arith, o.0, ap (λ (p : Monomial). p.variable) e)
     least low (n ∷ s) o (inr h) = omega (arith, o.0, least (suc n.variable) s o.2 h)
 
 -- of a variable that does not, it is 0
-coefficient_none : (x : ℕ) (s : List Product) → (Mentions x s → ⊥) → factor_of x s ≡ 0ℚ
+coefficient_none : (x : ℕ) (s : List Monomial) → (Mentions x s → ⊥) → factor_of x s ≡ 0ℚ
 coefficient_none x [] n = refl
 coefficient_none x (m ∷ s) n = factor_of-rest x m s (λ e. n (inl e)) ∙ coefficient_none x s (λ h. n (inr h))
 
 -- 0 times a sum is empty
-nothing_left : (k : ℚ) (s : List Product) → k ≡ 0ℚ → without_zeros (scaled_products k s) ≡ []
+nothing_left : (k : ℚ) (s : List Monomial) → k ≡ 0ℚ → without_zeros (scaled_products k s) ≡ []
 nothing_left k [] e = refl
 nothing_left k (m ∷ s) e = go (is_zero (k *ℚ m.factor)) (is_zero-of (k *ℚ m.factor) (ap (λ r. r *ℚ m.factor) e ∙ ring (m.factor ∷ []) (int (pos 0) ⊗ var 0) (int (pos 0)) refl)) (nothing_left k s e)
   where

@@ -2,7 +2,7 @@
 use Rattle.std.proofs.Common.{◌≡◌, ◌≢◌, ◌⊎◌, inl, inr, ℕ, zero, suc, ◌+◌, ◌≤◌, List, [], ◌∷◌, ◌++◌, length, drop, drop_of_length-le, arith, refl, ap, ap₂, sym, subst, ◌∙◌, pos, append-nil}
 use Rattle.std.proofs.lemmas.List.{append_assoc}
 use Rattle.spec_rational.specs.Rational.{ℚ, 0ℚ, ◌+ℚ◌, ◌*ℚ◌}
-use Rattle.spec_rational.specs.Sums.{Product, sum_at, unit}
+use Rattle.spec_rational.specs.Sums.{Monomial, sum_at, unit}
 use Rattle.spec_rational.proofs.Ring.{var, int, ◌⊕◌, ◌⊗◌}
 use Rattle.spec_rational.proofs.Rational.{ring}
 use Rattle.spec_rational.proofs.Sums.{factor_of-is, sum_at-push}
@@ -19,9 +19,9 @@ use Rattle.cq_form.specs.Steps.{HasCoefficient, CommonPair, of_variable, Tells, 
 use Rattle.cq_form.proofs.Steps.{products_of-end}
 
 -- what a sum from low on has is at least low
-least : (low : ℕ) (s : List Product) (m : Product) → IsSumFrom low s → Has m s → low ≤ m.variable
+least : (low : ℕ) (s : List Monomial) (m : Monomial) → IsSumFrom low s → Has m s → low ≤ m.variable
 least low [] m o h = absurd h
-least low (n ∷ s) m o (inl e) = let k : m.variable ≡ n.variable = ap (λ (p : Product). p.variable) e in let d : low ≤ n.variable = o.0 in omega arith
+least low (n ∷ s) m o (inl e) = let k : m.variable ≡ n.variable = ap (λ (p : Monomial). p.variable) e in let d : low ≤ n.variable = o.0 in omega arith
 least low (n ∷ s) m o (inr h) = let d : low ≤ n.variable = o.0 in let k : suc n.variable ≤ m.variable = least (suc n.variable) s m o.2 h in omega arith
 
 -- a list that begins above x is a sum above x
@@ -32,7 +32,7 @@ above x low (p ∷ s) h o = (omega (arith, h), o.1, o.2)
 -- what is done goes on by what is at least low; the rest of both lists is; and so far each common pair was accepted
 pub record State (a b done : List (VarId × ℚ)) (i j : ℕ) : Type 0 where
   pub low : ℕ
-  pub joins : (t : List Product) → IsSumFrom low t → IsSumFrom 0 (products_of done ++ t)
+  pub joins : (t : List Monomial) → IsSumFrom low t → IsSumFrom 0 (products_of done ++ t)
   pub left : IsSumFrom low (products_of (drop i a))
   pub right : IsSumFrom low (products_of (drop j b))
   pub value : (v : ℕ → ℚ) → sum_at v (products_of a) +ℚ sum_at v (products_of b) ≡ sum_at v (products_of done) +ℚ (sum_at v (products_of (drop i a)) +ℚ sum_at v (products_of (drop j b)))
@@ -54,7 +54,7 @@ started a b done e o u = record {
 module _ {a b done : List (VarId × ℚ)} {i j : ℕ} (g : State a b done i j) where
   -- a pair at the end
   joins_more : (p : VarId × ℚ) (more : List (VarId × ℚ)) → g.low ≤ p.0.0 → p.1 ≢ 0ℚ → more ≡ done ++ p ∷ []
-      → (t : List Product) → IsSumFrom (suc p.0.0) t → IsSumFrom 0 (products_of more ++ t)
+      → (t : List Monomial) → IsSumFrom (suc p.0.0) t → IsSumFrom 0 (products_of more ++ t)
   joins_more p more l n m t h =
       subst (IsSumFrom 0)
       (sym (append_assoc (products_of done) (product_of p ∷ []) t) ∙ ap (λ s. s ++ t) (sym (ap products_of m ∙ products_of-end done p)))
@@ -90,7 +90,7 @@ module _ {a b done : List (VarId × ℚ)} {i j : ℕ} (g : State a b done i j) w
           go : HasCoefficient x q (product_of p ∷ products_of (drop (i + 1) a)) → Accepts Sum q r ⊎ (HasCoefficient x q (products_of (drop (i + 1) a)) × HasCoefficient x r (products_of (drop j b)))
           go (inl f) = absurd (
               let d : suc p.0.0 ≤ x = least (suc p.0.0) (products_of (drop j b)) (record { variable = x; factor = r }) u k.1 in
-              let w : x ≡ p.0.0 = ap (λ (m : Product). m.variable) f in
+              let w : x ≡ p.0.0 = ap (λ (m : Monomial). m.variable) f in
               omega arith)
           go (inr f) = inr (f, k.1)
 
@@ -120,7 +120,7 @@ module _ {a b done : List (VarId × ℚ)} {i j : ℕ} (g : State a b done i j) w
           go : HasCoefficient x r (product_of p ∷ products_of (drop (j + 1) b)) → Accepts Sum q r ⊎ (HasCoefficient x q (products_of (drop i a)) × HasCoefficient x r (products_of (drop (j + 1) b)))
           go (inl f) = absurd (
               let d : suc p.0.0 ≤ x = least (suc p.0.0) (products_of (drop i a)) (record { variable = x; factor = q }) u k.0 in
-              let w : x ≡ p.0.0 = ap (λ (m : Product). m.variable) f in
+              let w : x ≡ p.0.0 = ap (λ (m : Monomial). m.variable) f in
               omega arith)
           go (inr f) = inr (k.0, f)
 
@@ -150,14 +150,14 @@ module _ {a b done : List (VarId × ℚ)} {i j : ℕ} (g : State a b done i j) w
       where
         go : HasCoefficient x r (product_of p ∷ products_of (drop (i + 1) a)) → HasCoefficient x t (product_of q ∷ products_of (drop (j + 1) b))
             → Accepts Sum r t ⊎ (HasCoefficient x r (products_of (drop (i + 1) a)) × HasCoefficient x t (products_of (drop (j + 1) b)))
-        go (inl y) (inl z) = inl (subst (λ n. Accepts Sum n t) (sym (ap (λ (m : Product). m.factor) y)) (subst (Accepts Sum p.1) (sym (ap (λ (m : Product). m.factor) z)) ok))
+        go (inl y) (inl z) = inl (subst (λ n. Accepts Sum n t) (sym (ap (λ (m : Monomial). m.factor) y)) (subst (Accepts Sum p.1) (sym (ap (λ (m : Monomial). m.factor) z)) ok))
         go (inl y) (inr z) = absurd (
             let d : suc p.0.0 ≤ x = least (suc p.0.0) (products_of (drop (j + 1) b)) (record { variable = x; factor = t }) rest_right z in
-            let w : x ≡ p.0.0 = ap (λ (m : Product). m.variable) y in
+            let w : x ≡ p.0.0 = ap (λ (m : Monomial). m.variable) y in
             omega arith)
         go (inr y) (inl z) = absurd (
             let d : suc p.0.0 ≤ x = least (suc p.0.0) (products_of (drop (i + 1) a)) (record { variable = x; factor = r }) opened_left.2 y in
-            let w : x ≡ q.0.0 = ap (λ (m : Product). m.variable) z in
+            let w : x ≡ q.0.0 = ap (λ (m : Monomial). m.variable) z in
             omega arith)
         go (inr y) (inr z) = inr (y, z)
 
@@ -231,7 +231,7 @@ module _ {a b done : List (VarId × ℚ)} {i j : ℕ} (g : State a b done i j) (
 pub has_next : (s : List (VarId × ℚ)) (i : ℕ) (p : VarId × ℚ) → IsNextAt s i p → Has (product_of p) (products_of s)
 has_next s i p e = dropped s i (product_of p) (subst (λ t. Has (product_of p) (products_of t)) (sym e) (inl refl))
   where
-    dropped : (s : List (VarId × ℚ)) (i : ℕ) (m : Product) → Has m (products_of (drop i s)) → Has m (products_of s)
+    dropped : (s : List (VarId × ℚ)) (i : ℕ) (m : Monomial) → Has m (products_of (drop i s)) → Has m (products_of s)
     dropped [] i m h = subst (λ t. Has m (products_of t)) (drop_of_length-le [] (omega arith)) h
     dropped (x ∷ s) zero m h = h
     dropped (x ∷ s) (suc i) m h = inr (dropped s i m h)

@@ -3,7 +3,7 @@ use Rattle.std.proofs.Common.{◌≡◌, ◌≢◌, ◌⊎◌, inl, inr, ℕ, ze
 use Rattle.std.proofs.lemmas.List.{take_more, map-append}
 use Rattle.std.proofs.lemmas.List.Elements.{filter-append}
 use Rattle.spec_rational.specs.Rational.{ℚ, 0ℚ, ◌*ℚ◌}
-use Rattle.spec_rational.specs.Sums.{Product, Mentions, scaled_products}
+use Rattle.spec_rational.specs.Sums.{Monomial, Mentions, scaled_products}
 use Rattle.spec_linear.specs.Form.{is_zero, without_zeros}
 use Rattle.spec_linear.specs.Solution.{Has}
 use Rattle.spec_linear.proofs.Values.{is_zero-of, is_zero-true}
@@ -23,15 +23,15 @@ products_of-end s p = map-append product_of s (p ∷ [])
 pub taken : (s : List (VarId × ℚ)) (i : ℕ) (p : VarId × ℚ) → i < length s → p ≡ get_or s i p → products_of (take (i + 1) s) ≡ products_of (take i s) ++ product_of p ∷ []
 taken s i p l e = ap products_of (take_more s i p l ∙ ap (λ x. take i s ++ x ∷ []) (sym e)) ∙ products_of-end (take i s) p
 
-scaled_products-append : (k : ℚ) (s t : List Product) → scaled_products k (s ++ t) ≡ scaled_products k s ++ scaled_products k t
+scaled_products-append : (k : ℚ) (s t : List Monomial) → scaled_products k (s ++ t) ≡ scaled_products k s ++ scaled_products k t
 scaled_products-append k [] t = refl
 scaled_products-append k (m ∷ s) t = ap (λ r. record { variable = m.variable; factor = k *ℚ m.factor } ∷ r) (scaled_products-append k s t)
 
-scaled-end : (k : ℚ) (s : List Product) (m : Product)
+scaled-end : (k : ℚ) (s : List Monomial) (m : Monomial)
     → without_zeros (scaled_products k (s ++ m ∷ [])) ≡ without_zeros (scaled_products k s) ++ without_zeros (scaled_products k (m ∷ []))
 scaled-end k s m = ap without_zeros (scaled_products-append k s (m ∷ [])) ∙ filter-append (λ n. not (is_zero n.factor)) (scaled_products k s) (scaled_products k (m ∷ []))
 
-has_end : (s : List Product) (m n : Product) → Has m (s ++ n ∷ []) → Has m s ⊎ (m ≡ n)
+has_end : (s : List Monomial) (m n : Monomial) → Has m (s ++ n ∷ []) → Has m s ⊎ (m ≡ n)
 has_end [] m n (inl e) = inr e
 has_end [] m n (inr h) = absurd h
 has_end (x ∷ s) m n (inl e) = inl (inl e)
@@ -57,7 +57,7 @@ module _ {k : ℚ} {s done : List (VarId × ℚ)} {i : ℕ} (g : Scaled k s done
     where
       go : Has (record { variable = x; factor = r }) (products_of (take i s)) ⊎ (record { variable = x; factor = r } ≡ product_of p) → Accepts Times k r
       go (inl h) = g.accepted r (of_variable x h)
-      go (inr f) = subst (Accepts Times k) (sym (ap (λ (m : Product). m.factor) f)) ok
+      go (inr f) = subst (Accepts Times k) (sym (ap (λ (m : Monomial). m.factor) f)) ok
 
   end_is : without_zeros (scaled_products k (products_of (take (i + 1) s))) ≡ products_of done ++ without_zeros (scaled_products k (product_of p ∷ []))
   end_is =
@@ -89,7 +89,7 @@ module _ {k : ℚ} {s done : List (VarId × ℚ)} {i : ℕ} (g : Scaled k s done
 
 -- ---- the search of a variable
 
-mentions_end : (x : ℕ) (s : List Product) (m : Product) → Mentions x (s ++ m ∷ []) → Mentions x s ⊎ (x ≡ m.variable)
+mentions_end : (x : ℕ) (s : List Monomial) (m : Monomial) → Mentions x (s ++ m ∷ []) → Mentions x s ⊎ (x ≡ m.variable)
 mentions_end x [] m (inl e) = inr e
 mentions_end x [] m (inr h) = absurd h
 mentions_end x (n ∷ s) m (inl e) = inl (inl e)

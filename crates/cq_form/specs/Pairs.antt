@@ -3,7 +3,7 @@ use Rattle.std.specs.Prelude.{◌≡◌, ℕ, List, map}
 use Rattle.std.proofs.Common.{zero, suc, refl, ap}
 use Rattle.std.specs.Coded.{Coded, code_by, coded×, coded_ℕ, coded_list}
 use Rattle.spec_rational.specs.Rational.{ℚ}
-use Rattle.spec_rational.specs.Sums.{Product}
+use Rattle.spec_rational.specs.Sums.{Monomial}
 use Rattle.spec_linear.specs.declared.Relation.{Relation}
 use Rattle.spec_linear.specs.declared.Relation.TheVariants.{Eq, Gt, Ge, Ne}
 use Rattle.spec_linear.specs.Form.{Linear}
@@ -11,10 +11,10 @@ use Rattle.spec_linear.specs.Solution.{Constraint}
 use Rattle.cq_frac.specs.Code.{rational_code}
 use Rattle.cq_frac.specs.declared.VarId.{VarId}
 
-abbrev pub product_of : VarId × ℚ → Product
+abbrev pub product_of : VarId × ℚ → Monomial
 product_of p = record { variable = p.0.0; factor = p.1 }
 
-abbrev pub products_of : List (VarId × ℚ) → List Product
+abbrev pub products_of : List (VarId × ℚ) → List Monomial
 products_of s = map product_of s
 
 abbrev pub form_of : ℚ → List (VarId × ℚ) → Linear
@@ -22,11 +22,11 @@ form_of constant s = record { products = products_of s; constant = constant }
 
 -- ---- codes
 
-abbrev pub product_code : Coded Product
+abbrev pub product_code : Coded Monomial
 product_code = code_by (ℕ × ℚ) (coded× coded_ℕ rational_code) (λ p. (p.variable, p.factor)) (λ p. record { variable = p.0; factor = p.1 }) (λ _. refl)
 
 abbrev pub linear_code : Coded Linear
-linear_code = code_by (List Product × ℚ) (coded× (coded_list product_code) rational_code) (λ f. (f.products, f.constant)) (λ p. record { products = p.0; constant = p.1 }) (λ _. refl)
+linear_code = code_by (List Monomial × ℚ) (coded× (coded_list product_code) rational_code) (λ f. (f.products, f.constant)) (λ p. record { products = p.0; constant = p.1 }) (λ _. refl)
 
 -- a relation as a number
 abbrev pub number_of : Relation → ℕ

@@ -1,7 +1,7 @@
 -- The pairs of numbers that an operation on forms meets. A number that a form doesn't have makes no pair.
 use Rattle.std.specs.Prelude.{◌≡◌, ℕ, ◌+◌, ◌<◌, List, [], ◌∷◌, ⊤, drop}
 use Rattle.spec_rational.specs.Rational.{ℚ}
-use Rattle.spec_rational.specs.Sums.{Product}
+use Rattle.spec_rational.specs.Sums.{Monomial}
 use Rattle.spec_linear.specs.Form.{Linear, without, scaled_form}
 use Rattle.spec_linear.specs.Solution.{Has}
 use Rattle.cq_frac.specs.declared.Operation.{Operation}
@@ -13,15 +13,15 @@ use Rattle.cq_form.specs.declared.pairs.Next.{Next}
 use Rattle.cq_form.specs.declared.pairs.Next.TheVariants.{Left, Right, Both}
 
 -- q is the coefficient of x
-abbrev pub HasCoefficient : ℕ → ℚ → List Product → Type 0
+abbrev pub HasCoefficient : ℕ → ℚ → List Monomial → Type 0
 HasCoefficient x q s = Has (record { variable = x; factor = q }) s
 
 -- p and q are the coefficients of one variable
-pub data CommonPair (s t : List Product) (p q : ℚ) : Type 0 where
+pub data CommonPair (s t : List Monomial) (p q : ℚ) : Type 0 where
   of_variable : (x : ℕ) → HasCoefficient x p s → HasCoefficient x q t → CommonPair s t p q
 
 -- q is a coefficient
-pub data MultiplePair (s : List Product) (q : ℚ) : Type 0 where
+pub data MultiplePair (s : List Monomial) (q : ℚ) : Type 0 where
   of_variable : (x : ℕ) → HasCoefficient x q s → MultiplePair s q
 
 -- the sum of two forms: two coefficients of one variable, or the constants

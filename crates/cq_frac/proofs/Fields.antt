@@ -9,7 +9,7 @@ use Rattle.std.specs.Ordering.{eq_by_cmp, is_eq}
 use mir.Syntax.{w64, w128}
 use mir.Val.{SFits}
 use Rattle.spec_rational.specs.Gcd.{gcd}
-use Rattle.spec_rational.specs.Rational.{ℚ, 0ℚ, den, ratio, int_ℚ, neg_ℚ, ◌<ℚ◌, IsPositive, IsNotNegative}
+use Rattle.spec_rational.specs.Rational.{ℚ, 0ℚ, denominator, ratio, int_ℚ, neg_ℚ, ◌<ℚ◌, IsPositive, IsNotNegative}
 use Rattle.spec_rational.specs.Order.{cmp_ℚ}
 use Rattle.spec_rational.proofs.Order.{cmp_ℚ-total, cmp_ℚ-equal, lt_from_cross, lt_to_cross}
 use Rattle.spec_rational.proofs.Rational.{suc_pos}
@@ -72,23 +72,23 @@ module _ {n d m e : ℤ} {q r : ℚ} (f : Fields n d q) (g : Fields m e r) where
     (λ t. sym f.is
         ∙ ap₂ (λ x y. ratio x (nat_abs y)) (same_bits n m f.lowest.num_fits g.lowest.num_fits z) (same_bits d e f.lowest.den_fits g.lowest.den_fits (test_says _ _ t))
         ∙ g.is),
-    (λ w. says_test _ _ (ap (of_z w128) (den_is n d q f.lowest f.is ∙ ap (λ (x : ℚ). pos (den x)) w ∙ sym (den_is m e r g.lowest g.is)))),
+    (λ w. says_test _ _ (ap (of_z w128) (den_is n d q f.lowest f.is ∙ ap (λ (x : ℚ). pos (denominator x)) w ∙ sym (den_is m e r g.lowest g.is)))),
   )
 
   -- where they differ, the numbers do
   pub other_num : (of_z w128 n ≡ of_z w128 m → ⊥) → IsTrue (nat_eq (of_z w128 n) (of_z w128 m)) ↔ (q ≡ r)
   other_num z = (
     (λ t. absurd (z (test_says _ _ t))),
-    (λ w. says_test _ _ (ap (of_z w128) (num_is n d q f.lowest f.is ∙ ap (λ (x : ℚ). x.num) w ∙ sym (num_is m e r g.lowest g.is)))),
+    (λ w. says_test _ _ (ap (of_z w128) (num_is n d q f.lowest f.is ∙ ap (λ (x : ℚ). x.numerator) w ∙ sym (num_is m e r g.lowest g.is)))),
   )
 
 -- ---- zero and signs
 
-zero_den : den 0ℚ ≡ 1
+zero_den : denominator 0ℚ ≡ 1
 unfolding int_ℚ ratio gcd
 zero_den = refl
 
-read_num : (n d : ℤ) (q : ℚ) → Fields n d q → to_z w128 (of_z w128 n) ≡ q.num
+read_num : (n d : ℤ) (q : ℚ) → Fields n d q → to_z w128 (of_z w128 n) ≡ q.numerator
 read_num n d q f = back n f.lowest.num_fits ∙ num_is n d q f.lowest f.is
 
 bits_zero : (z : ℤ) → nat_abs z < limit → of_z w128 z ≡ 0 → z ≡ pos 0
@@ -106,12 +106,12 @@ times_one z k e = ap (λ x. z *ℤ pos x) e ∙ omega (arith, ints)
 zero_times : (z : ℤ) (k : ℕ) → z ≡ pos 0 → z *ℤ pos k ≡ pos 0
 zero_times z k e = ap (λ x. x *ℤ pos k) e ∙ ap pos (omega arith)
 
-below_zero : (q : ℚ) → (q.num <ℤ pos 0) ↔ (q <ℚ 0ℚ)
+below_zero : (q : ℚ) → (q.numerator <ℤ pos 0) ↔ (q <ℚ 0ℚ)
 below_zero q =
-    let a = times_one q.num (den 0ℚ) zero_den in
-    let b = zero_times 0ℚ.num (den q) (zero_num 0ℚ refl) in (
-      (λ h. lt_from_cross q 0ℚ (subst (λ x. x <ℤ (0ℚ.num *ℤ pos (den q))) (sym a) (subst (λ x. q.num <ℤ x) (sym b) h))),
-      (λ h. subst (λ x. q.num <ℤ x) b (subst (λ x. x <ℤ (0ℚ.num *ℤ pos (den q))) a (lt_to_cross q 0ℚ h))),
+    let a = times_one q.numerator (denominator 0ℚ) zero_den in
+    let b = zero_times 0ℚ.numerator (denominator q) (zero_num 0ℚ refl) in (
+      (λ h. lt_from_cross q 0ℚ (subst (λ x. x <ℤ (0ℚ.numerator *ℤ pos (denominator q))) (sym a) (subst (λ x. q.numerator <ℤ x) (sym b) h))),
+      (λ h. subst (λ x. q.numerator <ℤ x) b (subst (λ x. x <ℤ (0ℚ.numerator *ℤ pos (denominator q))) a (lt_to_cross q 0ℚ h))),
     )
 
 pub negative_test : (n d : ℤ) (q : ℚ) → Fields n d q → IsTrue (int_lt (to_z w128 (of_z w128 n)) (pos 0)) ↔ (q <ℚ 0ℚ)
@@ -135,7 +135,7 @@ neg_up z h = omega (arith, ints)
 pub not_positive_test : (n d : ℤ) (q : ℚ) → Fields n d q → OnFalse (int_lt (pos 0) (to_z w128 (of_z w128 n))) (IsNotNegative (neg_ℚ q))
 unfolding neg_ℚ
 not_positive_test n d q f =
-    on_false (int_lt (pos 0) (to_z w128 (of_z w128 n))) (IsNotNegative (neg_ℚ q)) (λ e. ratio_nonneg (neg_ℤ q.num) (den q) (suc_pos q.below) (neg_up q.num (subst (λ x. x ≤ℤ pos 0) (read_num n d q f) (not_lt_says _ _ e))))
+    on_false (int_lt (pos 0) (to_z w128 (of_z w128 n))) (IsNotNegative (neg_ℚ q)) (λ e. ratio_nonneg (neg_ℤ q.numerator) (denominator q) (suc_pos q.below) (neg_up q.numerator (subst (λ x. x ≤ℤ pos 0) (read_num n d q f) (not_lt_says _ _ e))))
 
 -- ---- whole numbers
 

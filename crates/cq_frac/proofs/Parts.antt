@@ -5,7 +5,7 @@ use Rattle.std.proofs.Math.Nat.{mul-div_cancel'}
 use mathlib.Core.Bool.{beq}
 use lib.Signed.{lt_z}
 use Rattle.spec_rational.specs.Gcd.{gcd, gcd_is, gcd_pos, gcd-quotients}
-use Rattle.spec_rational.specs.Rational.{ℚ, den, ratio, quotient, neg_ℚ}
+use Rattle.spec_rational.specs.Rational.{ℚ, denominator, ratio, quotient, neg_ℚ}
 use Rattle.spec_rational.proofs.Rational.{ratio_same, ratio_back, ratio-neg}
 use Rattle.cq_frac.specs.Fits.{signed, Exceeds, Fits, limit}
 
@@ -48,18 +48,18 @@ nat_abs-signed true zero = refl
 nat_abs-signed true (suc a) = refl
 nat_abs-signed false a = refl
 
-pub lowest_parts : (s : Bool) (a b : ℕ) → 0 < b → gcd a b ≡ 1 → (nat_abs (ratio (signed s a) b).num ≡ a) × (den (ratio (signed s a) b) ≡ b)
+pub lowest_parts : (s : Bool) (a b : ℕ) → 0 < b → gcd a b ≡ 1 → (nat_abs (ratio (signed s a) b).numerator ≡ a) × (denominator (ratio (signed s a) b) ≡ b)
 lowest_parts s a zero h e = absurd (omega arith)
 lowest_parts s a (suc b) h e =
-    let q : ratio (signed s a) (suc b) ≡ record { num = signed s a; below = b; lowest = ap (λ x. gcd x (suc b)) (nat_abs-signed s a) ∙ e } =
-    ratio_back (record { num = signed s a; below = b; lowest = ap (λ x. gcd x (suc b)) (nat_abs-signed s a) ∙ e }) in
-    (ap (λ (x : ℚ). nat_abs x.num) q ∙ nat_abs-signed s a, ap den q)
+    let q : ratio (signed s a) (suc b) ≡ record { numerator = signed s a; below = b; lowest = ap (λ x. gcd x (suc b)) (nat_abs-signed s a) ∙ e } =
+    ratio_back (record { numerator = signed s a; below = b; lowest = ap (λ x. gcd x (suc b)) (nat_abs-signed s a) ∙ e }) in
+    (ap (λ (x : ℚ). nat_abs x.numerator) q ∙ nat_abs-signed s a, ap denominator q)
 
 pub exceeds_parts : (q : ℚ) (s : Bool) (a b : ℕ) → 0 < b → gcd a b ≡ 1 → ratio (signed s a) b ≡ q → ((limit ≤ a) ⊎ (limit ≤ b)) ↔ Exceeds q
 exceeds_parts q s a b h e w =
     let l = lowest_parts s a b h e in
-    let m : nat_abs q.num ≡ a = ap (λ (x : ℚ). nat_abs x.num) (sym w) ∙ l.0 in
-    let k : den q ≡ b = ap den (sym w) ∙ l.1 in (
+    let m : nat_abs q.numerator ≡ a = ap (λ (x : ℚ). nat_abs x.numerator) (sym w) ∙ l.0 in
+    let k : denominator q ≡ b = ap denominator (sym w) ∙ l.1 in (
       (λ z. elim z [ inl x ↦ inl (subst (λ y. limit ≤ y) (sym m) x) | inr x ↦ inr (subst (λ y. limit ≤ y) (sym k) x) ]),
       (λ z. elim z [ inl x ↦ inl (subst (λ y. limit ≤ y) m x) | inr x ↦ inr (subst (λ y. limit ≤ y) k x) ]),
     )
@@ -67,8 +67,8 @@ exceeds_parts q s a b h e w =
 pub fits_parts : (q : ℚ) (s : Bool) (a b : ℕ) → 0 < b → gcd a b ≡ 1 → ratio (signed s a) b ≡ q → a < limit → b < limit → Fits q
 fits_parts q s a b h e w m n =
     let l = lowest_parts s a b h e in record {
-      num_fits = subst (λ x. x < limit) (sym l.0 ∙ ap (λ (x : ℚ). nat_abs x.num) w) m;
-      den_fits = subst (λ x. x < limit) (sym l.1 ∙ ap den w) n;
+      num_fits = subst (λ x. x < limit) (sym l.0 ∙ ap (λ (x : ℚ). nat_abs x.numerator) w) m;
+      den_fits = subst (λ x. x < limit) (sym l.1 ∙ ap denominator w) n;
     }
 
 pub fits_not_exceeds : (q : ℚ) → Fits q → Exceeds q → ⊥

@@ -6,7 +6,7 @@ use Rattle.spec_rational.proofs.Ring.{var, ◌⊗◌, minus}
 use Rattle.spec_rational.proofs.IntRing.{ring_ℤ}
 use mathlib.Core.Bool.{beq}
 use Rattle.spec_rational.specs.Gcd.{gcd, gcd_is, gcd_pos, gcd-quotients}
-use Rattle.spec_rational.specs.Rational.{ℚ, den, ratio, neg_ℚ, ◌*ℚ◌}
+use Rattle.spec_rational.specs.Rational.{ℚ, denominator, ratio, neg_ℚ, ◌*ℚ◌}
 use Rattle.spec_rational.proofs.Gcd.{coprime_products, coprime_parts}
 use Rattle.spec_rational.proofs.Rational.{ratio_same, ratio-neg, ratio-mul, ratio_back}
 use Rattle.cq_frac.specs.Fits.{signed, Exceeds, Fits, limit}
@@ -40,10 +40,10 @@ regroup : (a b c d g h w x y z : ℕ) → g * w ≡ a → g * z ≡ d → h * x 
 regroup a b c d g h w x y z e f i j = rw (← e, ← f, ← i, ← j) (omega arith)
 
 pub record Crossed (p q : ℚ) (a b c d g h : ℕ) : Type 0 where
-  pub a_is : a ≡ nat_abs p.num
-  pub b_is : b ≡ den p
-  pub c_is : c ≡ nat_abs q.num
-  pub d_is : d ≡ den q
+  pub a_is : a ≡ nat_abs p.numerator
+  pub b_is : b ≡ denominator p
+  pub c_is : c ≡ nat_abs q.numerator
+  pub d_is : d ≡ denominator q
   pub g_is : g ≡ gcd a d
   pub h_is : h ≡ gcd c b
 
@@ -83,17 +83,17 @@ module _ {p q : ℚ} {a b c d g h : ℕ} (r : Crossed p q a b c d g h) where
   left_pos : 0 < (b / h) * (d / g)
   left_pos = mul-pos (rw r.h_is (bottom_pos c b b_pos)) (rw r.g_is (bottom_pos a d d_pos))
 
-  value : ratio (signed (unlike (int_lt p.num (pos 0)) (int_lt q.num (pos 0))) ((a / g) * (c / h))) ((b / h) * (d / g)) ≡ p *ℚ q
+  value : ratio (signed (unlike (int_lt p.numerator (pos 0)) (int_lt q.numerator (pos 0))) ((a / g) * (c / h))) ((b / h) * (d / g)) ≡ p *ℚ q
   value =
-      signed_same (unlike (int_lt p.num (pos 0)) (int_lt q.num (pos 0))) ((a / g) * (c / h)) (a * c) ((b / h) * (d / g)) (b * d) left_pos (mul-pos b_pos d_pos)
+      signed_same (unlike (int_lt p.numerator (pos 0)) (int_lt q.numerator (pos 0))) ((a / g) * (c / h)) (a * c) ((b / h) * (d / g)) (b * d) left_pos (mul-pos b_pos d_pos)
       (regroup a b c d g h (a / g) (c / h) (b / h) (d / g) (mul-div_cancel' g ga) (mul-div_cancel' g gd) (mul-div_cancel' h hc) (mul-div_cancel' h hb))
       ∙ ap₂ ratio
-      (sym (signed-mul (int_lt p.num (pos 0)) (int_lt q.num (pos 0)) a c)
+      (sym (signed-mul (int_lt p.numerator (pos 0)) (int_lt q.numerator (pos 0)) a c)
       ∙ ap₂ (λ x y. x *ℤ y)
-      (ap (signed (int_lt p.num (pos 0))) r.a_is ∙ signed_back p.num)
-      (ap (signed (int_lt q.num (pos 0))) r.c_is ∙ signed_back q.num))
+      (ap (signed (int_lt p.numerator (pos 0))) r.a_is ∙ signed_back p.numerator)
+      (ap (signed (int_lt q.numerator (pos 0))) r.c_is ∙ signed_back q.numerator))
       (ap₂ (λ x y. x * y) r.b_is r.d_is)
-      ∙ sym (ratio-mul p.num q.num (den p) (den q) (zero-lt-suc p.below) (zero-lt-suc q.below))
+      ∙ sym (ratio-mul p.numerator q.numerator (denominator p) (denominator q) (zero-lt-suc p.below) (zero-lt-suc q.below))
       ∙ ap₂ (λ x y. x *ℚ y) (ratio_back p) (ratio_back q)
 
 -- the parts that are left, w of a and z of d by g, and x of c and y of b by h
@@ -118,7 +118,7 @@ module _ {p q : ℚ} {a b c d g h w x y z : ℕ} (r : Cut p q a b c d g h w x y 
   cut-pos = rw bottom_is (left_pos r.crossed)
 
   abbrev negative : Bool
-  negative = unlike (int_lt p.num (pos 0)) (int_lt q.num (pos 0))
+  negative = unlike (int_lt p.numerator (pos 0)) (int_lt q.numerator (pos 0))
 
   cut-value : ratio (signed negative (w * x)) (y * z) ≡ p *ℚ q
   cut-value = ap₂ (λ s t. ratio (signed negative s) t) top_is bottom_is ∙ value r.crossed
@@ -134,7 +134,7 @@ module _ {p q : ℚ} {a b c d g h w x y z : ℕ} (r : Cut p q a b c d g h w x y 
     pub made-pos : 0 < n
     made-pos = rw f cut-pos
 
-    pub made-value : (s t : Bool) → s ≡ int_lt p.num (pos 0) → t ≡ int_lt q.num (pos 0) → ratio (signed (unlike s t) m) n ≡ p *ℚ q
+    pub made-value : (s t : Bool) → s ≡ int_lt p.numerator (pos 0) → t ≡ int_lt q.numerator (pos 0) → ratio (signed (unlike s t) m) n ≡ p *ℚ q
     made-value s t i j = ap₂ (λ k l. ratio (signed k l) n) (ap₂ unlike i j) e ∙ ap (λ l. ratio (signed negative (w * x)) l) f ∙ cut-value
 
     pub made-fits : m < limit → n < limit → Fits (p *ℚ q)

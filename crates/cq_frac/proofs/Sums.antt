@@ -7,7 +7,7 @@ use mir.Syntax.{w128}
 use Rattle.std.proofs.Math.Nat.{mul-div_cancel', dvd-add, dvd-sub, dvd_refl, dvd_trans, dvd-mul_left, dvd-mul_right_of_dvd, eq-one_of_dvd-one}
 use Rattle.std.specs.Int.{◌∣◌}
 use Rattle.spec_rational.specs.Gcd.{gcd, gcd_is, gcd_pos, gauss, gcd-quotients}
-use Rattle.spec_rational.specs.Rational.{ℚ, den, ratio, ◌+ℚ◌}
+use Rattle.spec_rational.specs.Rational.{ℚ, denominator, ratio, ◌+ℚ◌}
 use Rattle.spec_rational.proofs.Ring.{Poly, var, ◌⊕◌, ◌⊗◌}
 use Rattle.spec_rational.proofs.IntRing.{ring_ℤ}
 use Rattle.spec_rational.proofs.Rational.{ratio_same, ratio-add, ratio_back}
@@ -89,8 +89,8 @@ signed-times s z a k e f =
 
 -- b and d are the denominators, and g their greatest common divisor
 pub record Aligned (p q : ℚ) (b d g : ℕ) : Type 0 where
-  pub b_is : b ≡ den p
-  pub d_is : d ≡ den q
+  pub b_is : b ≡ denominator p
+  pub d_is : d ≡ denominator q
   pub g_is : g ≡ gcd b d
 
 module _ {p q : ℚ} {b d g : ℕ} (r : Aligned p q b d g) where
@@ -115,66 +115,66 @@ module _ {p q : ℚ} {b d g : ℕ} (r : Aligned p q b d g) where
   common_pos : 0 < (b / g) * d
   common_pos = mul-pos part_pos d_pos
 
-  same_g : gcd (den p) (den q) ≡ g
+  same_g : gcd (denominator p) (denominator q) ≡ g
   same_g = sym (r.g_is ∙ ap₂ gcd r.b_is r.d_is)
 
-  left_is : left_term p q ≡ p.num *ℤ pos (d / g)
-  left_is = ap₂ (λ x y. p.num *ℤ pos (x / y)) (sym r.d_is) same_g
+  left_is : left_term p q ≡ p.numerator *ℤ pos (d / g)
+  left_is = ap₂ (λ x y. p.numerator *ℤ pos (x / y)) (sym r.d_is) same_g
 
-  right_is : right_term p q ≡ q.num *ℤ pos (b / g)
-  right_is = ap₂ (λ x y. q.num *ℤ pos (x / y)) (sym r.b_is) same_g
+  right_is : right_term p q ≡ q.numerator *ℤ pos (b / g)
+  right_is = ap₂ (λ x y. q.numerator *ℤ pos (x / y)) (sym r.b_is) same_g
 
   common_is : common_den p q ≡ (b / g) * d
   common_is = ap₂ (λ x y. x * y) (ap₂ (λ x y. x / y) (sym r.b_is) same_g) (sym r.d_is)
 
-  abs_left : nat_abs (left_term p q) ≡ nat_abs p.num * (d / g)
-  abs_left = ap nat_abs left_is ∙ unsigned_abs-mul p.num (pos (d / g))
+  abs_left : nat_abs (left_term p q) ≡ nat_abs p.numerator * (d / g)
+  abs_left = ap nat_abs left_is ∙ unsigned_abs-mul p.numerator (pos (d / g))
 
-  abs_right : nat_abs (right_term p q) ≡ nat_abs q.num * (b / g)
-  abs_right = ap nat_abs right_is ∙ unsigned_abs-mul q.num (pos (b / g))
+  abs_right : nat_abs (right_term p q) ≡ nat_abs q.numerator * (b / g)
+  abs_right = ap nat_abs right_is ∙ unsigned_abs-mul q.numerator (pos (b / g))
 
-  sum_value : ratio (p.num *ℤ pos (d / g) +ℤ q.num *ℤ pos (b / g)) ((b / g) * d) ≡ p +ℚ q
+  sum_value : ratio (p.numerator *ℤ pos (d / g) +ℤ q.numerator *ℤ pos (b / g)) ((b / g) * d) ≡ p +ℚ q
   sum_value =
-      ratio_same _ (p.num *ℤ pos d +ℤ q.num *ℤ pos b) ((b / g) * d) (b * d) common_pos (mul-pos b_pos d_pos)
-      (ap₂ (λ x y. (p.num *ℤ pos (d / g) +ℤ q.num *ℤ pos (b / g)) *ℤ pos (x * y)) (sym (mul-div_cancel' g gb)) (sym (mul-div_cancel' g gd))
-      ∙ ring_ℤ (p.num ∷ q.num ∷ pos (d / g) ∷ pos (b / g) ∷ pos g ∷ [])
+      ratio_same _ (p.numerator *ℤ pos d +ℤ q.numerator *ℤ pos b) ((b / g) * d) (b * d) common_pos (mul-pos b_pos d_pos)
+      (ap₂ (λ x y. (p.numerator *ℤ pos (d / g) +ℤ q.numerator *ℤ pos (b / g)) *ℤ pos (x * y)) (sym (mul-div_cancel' g gb)) (sym (mul-div_cancel' g gd))
+      ∙ ring_ℤ (p.numerator ∷ q.numerator ∷ pos (d / g) ∷ pos (b / g) ∷ pos g ∷ [])
       ((x0 ⊗ x2 ⊕ x1 ⊗ x3) ⊗ ((x4 ⊗ x3) ⊗ (x4 ⊗ x2))) ((x0 ⊗ (x4 ⊗ x2) ⊕ x1 ⊗ (x4 ⊗ x3)) ⊗ (x3 ⊗ (x4 ⊗ x2))) refl
-      ∙ ap₂ (λ x y. (p.num *ℤ pos y +ℤ q.num *ℤ pos x) *ℤ pos ((b / g) * y)) (mul-div_cancel' g gb) (mul-div_cancel' g gd))
-      ∙ ap₂ (λ x y. ratio (p.num *ℤ pos y +ℤ q.num *ℤ pos x) (x * y)) r.b_is r.d_is
-      ∙ sym (ratio-add p.num q.num (den p) (den q) (zero-lt-suc p.below) (zero-lt-suc q.below))
+      ∙ ap₂ (λ x y. (p.numerator *ℤ pos y +ℤ q.numerator *ℤ pos x) *ℤ pos ((b / g) * y)) (mul-div_cancel' g gb) (mul-div_cancel' g gd))
+      ∙ ap₂ (λ x y. ratio (p.numerator *ℤ pos y +ℤ q.numerator *ℤ pos x) (x * y)) r.b_is r.d_is
+      ∙ sym (ratio-add p.numerator q.numerator (denominator p) (denominator q) (zero-lt-suc p.below) (zero-lt-suc q.below))
       ∙ ap₂ (λ x y. x +ℚ y) (ratio_back p) (ratio_back q)
 
   -- the numerator of the sum is prime to both parts that are left of the denominators
-  num_prime_b : gcd (nat_abs p.num * (d / g)) (b / g) ≡ 1
+  num_prime_b : gcd (nat_abs p.numerator * (d / g)) (b / g) ≡ 1
   num_prime_b =
-      coprime_mul (nat_abs p.num) (d / g) (b / g)
-      (coprime_parts (nat_abs p.num) (b / g) (nat_abs p.num) (den p) (dvd_refl (nat_abs p.num)) (subst (λ x. b / g ∣ x) r.b_is (part_dvd b g gb)) p.lowest)
+      coprime_mul (nat_abs p.numerator) (d / g) (b / g)
+      (coprime_parts (nat_abs p.numerator) (b / g) (nat_abs p.numerator) (denominator p) (dvd_refl (nat_abs p.numerator)) (subst (λ x. b / g ∣ x) r.b_is (part_dvd b g gb)) p.lowest)
       (gcd_comm (d / g) (b / g) ∙ rw r.g_is (gcd-quotients b d d_pos))
 
-  num_prime_d : gcd (nat_abs q.num * (b / g)) (d / g) ≡ 1
+  num_prime_d : gcd (nat_abs q.numerator * (b / g)) (d / g) ≡ 1
   num_prime_d =
-      coprime_mul (nat_abs q.num) (b / g) (d / g)
-      (coprime_parts (nat_abs q.num) (d / g) (nat_abs q.num) (den q) (dvd_refl (nat_abs q.num)) (subst (λ x. d / g ∣ x) r.d_is (part_dvd d g gd)) q.lowest)
+      coprime_mul (nat_abs q.numerator) (b / g) (d / g)
+      (coprime_parts (nat_abs q.numerator) (d / g) (nat_abs q.numerator) (denominator q) (dvd_refl (nat_abs q.numerator)) (subst (λ x. d / g ∣ x) r.d_is (part_dvd d g gd)) q.lowest)
       (rw r.g_is (gcd-quotients b d d_pos))
 
-  sum_prime_b : gcd (nat_abs (p.num *ℤ pos (d / g) +ℤ q.num *ℤ pos (b / g))) (b / g) ≡ 1
+  sum_prime_b : gcd (nat_abs (p.numerator *ℤ pos (d / g) +ℤ q.numerator *ℤ pos (b / g))) (b / g) ≡ 1
   sum_prime_b =
-      prime_sum (p.num *ℤ pos (d / g)) (q.num *ℤ pos (b / g)) (b / g)
-      (subst (λ x. b / g ∣ x) (sym (unsigned_abs-mul q.num (pos (b / g)))) (dvd-mul_left (b / g) (nat_abs q.num)))
-      (ap (λ x. gcd x (b / g)) (unsigned_abs-mul p.num (pos (d / g))) ∙ num_prime_b)
+      prime_sum (p.numerator *ℤ pos (d / g)) (q.numerator *ℤ pos (b / g)) (b / g)
+      (subst (λ x. b / g ∣ x) (sym (unsigned_abs-mul q.numerator (pos (b / g)))) (dvd-mul_left (b / g) (nat_abs q.numerator)))
+      (ap (λ x. gcd x (b / g)) (unsigned_abs-mul p.numerator (pos (d / g))) ∙ num_prime_b)
 
-  sum_prime_d : gcd (nat_abs (p.num *ℤ pos (d / g) +ℤ q.num *ℤ pos (b / g))) (d / g) ≡ 1
+  sum_prime_d : gcd (nat_abs (p.numerator *ℤ pos (d / g) +ℤ q.numerator *ℤ pos (b / g))) (d / g) ≡ 1
   sum_prime_d =
-      ap (λ x. gcd (nat_abs x) (d / g)) (+ℤ_comm (p.num *ℤ pos (d / g)) (q.num *ℤ pos (b / g)))
-      ∙ prime_sum (q.num *ℤ pos (b / g)) (p.num *ℤ pos (d / g)) (d / g)
-      (subst (λ x. d / g ∣ x) (sym (unsigned_abs-mul p.num (pos (d / g)))) (dvd-mul_left (d / g) (nat_abs p.num)))
-      (ap (λ x. gcd x (d / g)) (unsigned_abs-mul q.num (pos (b / g))) ∙ num_prime_d)
+      ap (λ x. gcd (nat_abs x) (d / g)) (+ℤ_comm (p.numerator *ℤ pos (d / g)) (q.numerator *ℤ pos (b / g)))
+      ∙ prime_sum (q.numerator *ℤ pos (b / g)) (p.numerator *ℤ pos (d / g)) (d / g)
+      (subst (λ x. d / g ∣ x) (sym (unsigned_abs-mul p.numerator (pos (d / g)))) (dvd-mul_left (d / g) (nat_abs p.numerator)))
+      (ap (λ x. gcd x (d / g)) (unsigned_abs-mul q.numerator (pos (b / g))) ∙ num_prime_d)
 
   -- so its divisors in the common denominator are those in g (Knuth)
-  sum_gcd : gcd (nat_abs (p.num *ℤ pos (d / g) +ℤ q.num *ℤ pos (b / g))) ((b / g) * d) ≡ gcd (nat_abs (p.num *ℤ pos (d / g) +ℤ q.num *ℤ pos (b / g))) g
+  sum_gcd : gcd (nat_abs (p.numerator *ℤ pos (d / g) +ℤ q.numerator *ℤ pos (b / g))) ((b / g) * d) ≡ gcd (nat_abs (p.numerator *ℤ pos (d / g) +ℤ q.numerator *ℤ pos (b / g))) g
   sum_gcd =
       drop_prime _ (b / g) d sum_prime_b
-      ∙ ap (gcd (nat_abs (p.num *ℤ pos (d / g) +ℤ q.num *ℤ pos (b / g)))) (sym (mul-div_cancel' g gd) ∙ mul_comm g (d / g))
+      ∙ ap (gcd (nat_abs (p.numerator *ℤ pos (d / g) +ℤ q.numerator *ℤ pos (b / g)))) (sym (mul-div_cancel' g gd) ∙ mul_comm g (d / g))
       ∙ drop_prime _ (d / g) g sum_prime_d
 
 -- ---- the code's numbers
@@ -186,11 +186,11 @@ first_is s z f a k left e i j h w =
 -- the numbers that the sum goes through: the two numerators' sizes, the sum z and the denominator y
 pub record Summed (p q : ℚ) (b d g left right y : ℕ) (z : ℤ) : Type 0 where
   pub aligned : Aligned p q b d g
-  pub left_is : left ≡ nat_abs p.num * (d / g)
+  pub left_is : left ≡ nat_abs p.numerator * (d / g)
   pub left_fits : left < limit
-  pub right_is : right ≡ nat_abs q.num * (b / g)
+  pub right_is : right ≡ nat_abs q.numerator * (b / g)
   pub right_fits : right < limit
-  pub sum_is : z ≡ p.num *ℤ pos (d / g) +ℤ q.num *ℤ pos (b / g)
+  pub sum_is : z ≡ p.numerator *ℤ pos (d / g) +ℤ q.numerator *ℤ pos (b / g)
   pub sum_fits : nat_abs z < limit
   pub y_is : y ≡ (b / g) * d
   pub y_fits : y < limit
@@ -238,7 +238,7 @@ module _ {p q : ℚ} {b d g left right y : ℕ} {z : ℤ} (r : Summed p q b d g 
           ap₂ (λ k l. ratio (signed (int_lt (to_z w128 (of_z w128 z)) (pos 0)) k) l) v_is w_is
           ∙ signed_cut (int_lt (to_z w128 (of_z w128 z)) (pos 0)) n y y_pos
           ∙ ap (λ k. ratio k y) (ap (signed (int_lt (to_z w128 (of_z w128 z)) (pos 0))) e ∙ signed_back (to_z w128 (of_z w128 z)) ∙ back z r.sum_fits ∙ r.sum_is)
-          ∙ ap (ratio (p.num *ℤ pos (d / g) +ℤ q.num *ℤ pos (b / g))) r.y_is
+          ∙ ap (ratio (p.numerator *ℤ pos (d / g) +ℤ q.numerator *ℤ pos (b / g))) r.y_is
           ∙ sum_value r.aligned
 
 pub accepted_not_refused : (p q : ℚ) → SumAccepted p q → SumRefused p q → ⊥

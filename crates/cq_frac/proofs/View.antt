@@ -2,16 +2,16 @@
 use Rattle.std.proofs.Common.{◌≡◌, ◌<◌, ◌^◌, ℤ, pos, negsuc, nat_abs, neg_ℤ, ◌-ℤ◌, arith, ap, ap₂, sym, ◌∙◌, to_z, of_z}
 use Rattle.std.proofs.lemmas.Int.{ints, fits_signed_from_abs, to_z-of_z}
 use mir.Syntax.{w128}
-use Rattle.spec_rational.specs.Rational.{ℚ, den, ratio, neg_ℚ}
+use Rattle.spec_rational.specs.Rational.{ℚ, denominator, ratio, neg_ℚ}
 use Rattle.spec_rational.proofs.Rational.{ratio-neg}
 use Rattle.cq_frac.specs.Fits.{IsLowest}
-use Rattle.cq_frac.specs.Lowest.{num-ratio, den-ratio}
+use Rattle.cq_frac.specs.Lowest.{numerator-ratio, denominator-ratio}
 
-pub num_is : (n d : ℤ) (q : ℚ) → IsLowest n d → ratio n (nat_abs d) ≡ q → n ≡ q.num
-num_is n d q h e = sym (num-ratio n d h) ∙ ap (λ (x : ℚ). x.num) e
+pub num_is : (n d : ℤ) (q : ℚ) → IsLowest n d → ratio n (nat_abs d) ≡ q → n ≡ q.numerator
+num_is n d q h e = sym (numerator-ratio n d h) ∙ ap (λ (x : ℚ). x.numerator) e
 
-pub den_is : (n d : ℤ) (q : ℚ) → IsLowest n d → ratio n (nat_abs d) ≡ q → d ≡ pos (den q)
-den_is n d q h e = sym (den-ratio n d h) ∙ ap (λ (x : ℚ). pos (den x)) e
+pub den_is : (n d : ℤ) (q : ℚ) → IsLowest n d → ratio n (nat_abs d) ≡ q → d ≡ pos (denominator q)
+den_is n d q h e = sym (denominator-ratio n d h) ∙ ap (λ (x : ℚ). pos (denominator x)) e
 
 -- a number of the right size is read back from its bits
 pub back : (z : ℤ) → nat_abs z < 2 ^ 127 → to_z w128 (of_z w128 z) ≡ z

@@ -1,6 +1,6 @@
 -- Which rationals fit into 128 bits, and which sums are taken or refused.
 use Rattle.std.specs.Prelude.{◌≡◌, ℕ, ◌*◌, ◌<◌, ◌≤◌, ◌^◌, ◌/◌, Bool, true, false, ℤ, pos, nat_abs, neg_ℤ, ◌*ℤ◌, ◌+ℤ◌, ◌⊎◌, ◌<ℤ◌}
-use Rattle.spec_rational.specs.Rational.{ℚ, den}
+use Rattle.spec_rational.specs.Rational.{ℚ, denominator}
 use Rattle.spec_rational.specs.Gcd.{gcd}
 
 -- one more than the greatest part, 2 ^ 127 - 1
@@ -9,12 +9,12 @@ limit = 2 ^ 127
 
 -- in lowest terms both parts are below the limit
 pub record Fits (q : ℚ) : Type 0 where
-  pub num_fits : nat_abs q.num < limit
-  pub den_fits : den q < limit
+  pub num_fits : nat_abs q.numerator < limit
+  pub den_fits : denominator q < limit
 
 -- in lowest terms some part reaches the limit
 abbrev pub Exceeds : ℚ → Type 0
-Exceeds q = (limit ≤ nat_abs q.num) ⊎ (limit ≤ den q)
+Exceeds q = (limit ≤ nat_abs q.numerator) ⊎ (limit ≤ denominator q)
 
 -- what the fields of a number are
 pub record IsLowest (n d : ℤ) : Type 0 where
@@ -26,15 +26,15 @@ pub record IsLowest (n d : ℤ) : Type 0 where
 -- a / b + c / d over the least common denominator, where g is the greatest common divisor of b and d:
 -- the first numerator there, a * (d / g)
 abbrev pub left_term : ℚ → ℚ → ℤ
-left_term p q = p.num *ℤ pos (den q / gcd (den p) (den q))
+left_term p q = p.numerator *ℤ pos (denominator q / gcd (denominator p) (denominator q))
 
 -- the second, c * (b / g)
 abbrev pub right_term : ℚ → ℚ → ℤ
-right_term p q = q.num *ℤ pos (den p / gcd (den p) (den q))
+right_term p q = q.numerator *ℤ pos (denominator p / gcd (denominator p) (denominator q))
 
 -- the denominator, (b / g) * d
 abbrev pub common_den : ℚ → ℚ → ℕ
-common_den p q = (den p / gcd (den p) (den q)) * den q
+common_den p q = (denominator p / gcd (denominator p) (denominator q)) * denominator q
 
 -- each of the four numbers that the sum goes through is below the limit
 pub record SumAccepted (p q : ℚ) : Type 0 where

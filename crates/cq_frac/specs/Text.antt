@@ -9,4 +9,4 @@ denominator_text zero = []
 denominator_text (suc below) = codes "r" ++ decimal (suc (suc below))
 
 abbrev pub number_text : ℚ → List ℕ
-number_text q = signed_decimal q.num ++ denominator_text q.below
+number_text q = signed_decimal q.numerator ++ denominator_text q.below

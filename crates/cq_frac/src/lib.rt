@@ -8,7 +8,7 @@ ghost use Rattle.std.specs.Ordering.{nat_cmp, eq_by_cmp, as_partial_cmp};
 ghost use Rattle.std.proofs.Common.{refl};
 ghost use Rattle.spec_rational.specs.Gcd.{gcd as gcd_of};
 ghost use Rattle.spec_rational.specs.Order.{cmp_ℚ};
-ghost use Rattle.spec_rational.specs.Rational.{0ℚ, 1ℚ, int_ℚ, quotient, ratio, neg_ℚ, inv_ℚ, ◌+ℚ◌, ◌-ℚ◌, ◌*ℚ◌, ◌/ℚ◌, ◌<ℚ◌, den, IsPositive, IsNotNegative};
+ghost use Rattle.spec_rational.specs.Rational.{0ℚ, 1ℚ, int_ℚ, quotient, ratio, neg_ℚ, inv_ℚ, ◌+ℚ◌, ◌-ℚ◌, ◌*ℚ◌, ◌/ℚ◌, ◌<ℚ◌, denominator, IsPositive, IsNotNegative};
 ghost use Rattle.spec_rational.proofs.Order.{cmp_ℚ-total};
 ghost use Rattle.cq_frac.specs.Fits.{Exceeds, Fits, SumAccepted, SumRefused, limit, signed};
 ghost use Rattle.cq_frac.specs.Refused.{AcceptsOrRefuses, NeverBoth};
@@ -64,7 +64,7 @@ pub struct Frac {
 }
 
 impl Model for Frac {
-    ghost use Rattle.spec_rational.specs.Rational.{ℚ, ratio, den};
+    ghost use Rattle.spec_rational.specs.Rational.{ℚ, ratio, denominator};
     ghost use Rattle.cq_frac.specs.Code.{rational_code};
     ghost use Rattle.cq_frac.specs.Fits.{IsLowest};
     ghost use Rattle.std.specs.Prelude.{nat_abs, pos};
@@ -77,11 +77,11 @@ impl Model for Frac {
 
     ghost invariant = { λ f. IsLowest f.numer f.denom };
 
-    ghost inverse = { λ q. record { numer = q.num; denom = pos (den q) } };
+    ghost inverse = { λ q. record { numer = q.numerator; denom = pos (denominator q) } };
 
-    ghost use Rattle.cq_frac.specs.Lowest.{num-ratio, den-ratio};
+    ghost use Rattle.cq_frac.specs.Lowest.{numerator-ratio, denominator-ratio};
 
-    ghost inverse_ok = { λ a h. λ i. record { numer = num-ratio a.numer a.denom h i; denom = den-ratio a.numer a.denom h i } };
+    ghost inverse_ok = { λ a h. λ i. record { numer = numerator-ratio a.numer a.denom h i; denom = denominator-ratio a.numer a.denom h i } };
 }
 
 /// The number with these parts, which have no common divisor.
@@ -136,8 +136,8 @@ impl Frac {
 
     /// The numerator and the denominator, in lowest terms.
     pub fn parts(self) -> (i128, i128)
-        ensures numerator { result.0 ≡ self.num }
-        ensures denominator { result.1 ≡ pos (den self) }
+        ensures numerator { result.0 ≡ self.numerator }
+        ensures denominator { result.1 ≡ pos (denominator self) }
         ensures fits { Fits self }
     {
         (self.numer, self.denom)
@@ -267,7 +267,7 @@ impl Frac {
 
     /// The size of the numerator.
     fn top(self) -> u128
-        ensures value { result ≡ nat_abs self.num }
+        ensures value { result ≡ nat_abs self.numerator }
         ensures fits { result < limit }
     {
         self.numer.unsigned_abs()
@@ -275,14 +275,14 @@ impl Frac {
 
     /// The denominator.
     fn bottom(self) -> u128
-        ensures value { result ≡ den self }
+        ensures value { result ≡ denominator self }
         ensures fits { result < limit }
     {
         self.denom.unsigned_abs()
     }
 
     fn sign_is_negative(self) -> bool
-        ensures { result ≡ int_lt self.num (pos 0) }
+        ensures { result ≡ int_lt self.numerator (pos 0) }
     {
         self.numer < 0
     }

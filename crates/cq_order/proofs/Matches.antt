@@ -7,7 +7,7 @@ use Rattle.spec_order.specs.Variants.{AreVariants}
 use Rattle.spec_order.proofs.Renamings.{place, Match, MatchAll, match_variants}
 use Rattle.cq_term.specs.Meaning.{HeapTerm, at}
 use Rattle.cq_term.specs.Shown.{view_of, arguments}
-use Rattle.cq_order.specs.Work.{IsLive, Both, both, side_by_side, IsConstant, AreUnlike, AreAlike, PushesPairs}
+use Rattle.cq_order.specs.Work.{IsLive, Both, both, side_by_side, IsConstant, AreUnlike, HaveSameFunctor, PushesPairs}
 use Rattle.cq_order.specs.declared.pairs.Pair.{Pair}
 use Rattle.cq_order.proofs.Ahead.{ahead, ahead_pop, ahead_push, live_pop, live_push, Remains}
 
@@ -29,7 +29,7 @@ match_lists vs ws (more t ts) (more u us) bs n =
     )
 
 -- the arguments of two compounds in place of the compounds
-match_arguments : (vs ws : List ℕ) (t u : HeapTerm) (n : ℕ) (bs : List Both) → AreAlike t u n →
+match_arguments : (vs ws : List ℕ) (t u : HeapTerm) (n : ℕ) (bs : List Both) → HaveSameFunctor t u n →
     MatchAhead vs ws (side_by_side (arguments t) (arguments u) ++ bs) ↔ (Match vs ws t u × MatchAhead (variables_after vs t) (variables_after ws u) bs)
 match_arguments vs ws (Compound f ts) (Compound g us) n bs (h, p, q) =
     let c : count ts ≡ count us = cc in
@@ -113,7 +113,7 @@ module _ (ts : List HeapTerm) (claim : Type 0) (vs ws : List ℕ) (old work : Li
     pub match_other_places : (place vs v ≡ place ws w → ⊥) → claim → ⊥
     match_other_places n k = n (subst (Match vs ws (Var v)) right (subst (λ t. Match vs ws t (at ts p.right)) left (next_matches.0 k).0))
 
-  pub match_spread : (n : ℕ) (new : List Pair) → AreAlike (at ts p.left) (at ts p.right) n → PushesPairs ts p.left p.right 0 work new → Remains ts claim (MatchAhead vs ws) new
+  pub match_spread : (n : ℕ) (new : List Pair) → HaveSameFunctor (at ts p.left) (at ts p.right) n → PushesPairs ts p.left p.right 0 work new → Remains ts claim (MatchAhead vs ws) new
   match_spread n new alike pushes =
       let on = ahead_push ts old work p is new pushes in
       let around = match_arguments vs ws (at ts p.left) (at ts p.right) n (ahead ts work) alike in record {

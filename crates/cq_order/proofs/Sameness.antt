@@ -4,7 +4,7 @@ use Rattle.std.specs.Prelude.{◌↔◌, ⊤}
 use Rattle.spec_terms.specs.Term.{Terms, Var, Number, Name, Compound, one, more, count, list_of}
 use Rattle.cq_term.specs.Meaning.{HeapTerm, at}
 use Rattle.cq_term.specs.Shown.{arguments}
-use Rattle.cq_order.specs.Work.{Both, side_by_side, AreAlike, PushesPairs}
+use Rattle.cq_order.specs.Work.{Both, side_by_side, HaveSameFunctor, PushesPairs}
 use Rattle.cq_order.specs.declared.pairs.Pair.{Pair}
 use Rattle.cq_order.proofs.Ahead.{ahead, ahead_pop, ahead_push, live_pop, live_push, Remains}
 
@@ -25,7 +25,7 @@ same_lists (more t ts) (more u us) bs n =
     )
 
 -- the arguments of two compounds in place of the compounds
-same_arguments : (t u : HeapTerm) (n : ℕ) (bs : List Both) → AreAlike t u n → AllSame (side_by_side (arguments t) (arguments u) ++ bs) ↔ ((t ≡ u) × AllSame bs)
+same_arguments : (t u : HeapTerm) (n : ℕ) (bs : List Both) → HaveSameFunctor t u n → AllSame (side_by_side (arguments t) (arguments u) ++ bs) ↔ ((t ≡ u) × AllSame bs)
 same_arguments (Compound f ts) (Compound g us) n bs (h, p, q) =
     let c : count ts ≡ count us = cc in
     let name : f ≡ g = cc in
@@ -50,7 +50,7 @@ module _ (ts : List HeapTerm) (claim : Type 0) (old work : List Pair) (p : Pair)
     decides = (λ h. (next_same.0 h).1, λ h. next_same.1 (e, h));
   }
 
-  pub same_spread : (n : ℕ) (new : List Pair) → AreAlike (at ts p.left) (at ts p.right) n → PushesPairs ts p.left p.right 0 work new → Remains ts claim AllSame new
+  pub same_spread : (n : ℕ) (new : List Pair) → HaveSameFunctor (at ts p.left) (at ts p.right) n → PushesPairs ts p.left p.right 0 work new → Remains ts claim AllSame new
   same_spread n new alike pushes =
       let on = ahead_push ts old work p is new pushes in
       let around = same_arguments (at ts p.left) (at ts p.right) n (ahead ts work) alike in record {

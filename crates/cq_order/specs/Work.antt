@@ -20,14 +20,14 @@ pub record AreUnlike (t u : HeapTerm) : Type 0 where
   pub apart : (v w : ℕ) → t ≡ Var v → u ≡ Var w → ⊥
 
 -- both are compounds of the same name with so many arguments
-abbrev pub AreAlike : HeapTerm → HeapTerm → ℕ → Type 0
-AreAlike t u n = (f : ℕ) × (view_of t ≡ view.Compound f n) × (view_of u ≡ view.Compound f n)
+abbrev pub HaveSameFunctor : HeapTerm → HeapTerm → ℕ → Type 0
+HaveSameFunctor t u n = (f : ℕ) × (view_of t ≡ view.Compound f n) × (view_of u ≡ view.Compound f n)
 
 abbrev pub Compared : HeapTerm → HeapTerm → Heads → Type 0
 Compared t u heads.Same = IsConstant t × (t ≡ u)
 Compared t u heads.Different = AreUnlike t u
 Compared t u (heads.Variables v w) = (t ≡ Var v.0) × (u ≡ Var w.0)
-Compared t u (heads.Arguments n) = AreAlike t u n
+Compared t u (heads.Arguments n) = HaveSameFunctor t u n
 
 abbrev pub IsLive : List HeapTerm → Pair → Type 0
 IsLive ts p = (p.left < length ts) × (p.right < length ts)

@@ -3,7 +3,7 @@ use Rattle.std.proofs.Common.{◌≡◌, ℕ, ◌+◌, ◌<◌, List, [], ◌∷
 use Rattle.std.specs.List.{list_any}
 use Rattle.std.proofs.lemmas.List.{take_more, take-append-drop}
 use Rattle.indexmap.specs.IndexSet.{insert_key}
-use Rattle.spec_rational.specs.Sums.{Product, Mentions}
+use Rattle.spec_rational.specs.Sums.{Monomial, Mentions}
 use Rattle.spec_linear.specs.Solution.{Constraint, Has, SomeMentions}
 use Rattle.spec_echelon.specs.Echelon.{AreDistinct}
 use Rattle.cq_frac.specs.declared.VarId.{VarId}
@@ -145,7 +145,7 @@ knows_wanted keep keys d e = record {
   all = λ y m. absurd m;
 }
 
-mentions_either : (s t : List Product) (y : ℕ) → Mentions y (s ++ t) → Mentions y s ⊎ Mentions y t
+mentions_either : (s t : List Monomial) (y : ℕ) → Mentions y (s ++ t) → Mentions y s ⊎ Mentions y t
 mentions_either [] t y h = inr h
 mentions_either (m ∷ s) t y (inl e) = inl (inl e)
 mentions_either (m ∷ s) t y (inr h) = go (mentions_either s t y h)

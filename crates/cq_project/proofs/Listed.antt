@@ -5,7 +5,7 @@ use Rattle.std.specs.List.{cons_option}
 use Rattle.std.proofs.lemmas.List.{take_more, map-append}
 use Rattle.std.proofs.lemmas.List.Elements.{filter_map-append}
 use Rattle.spec_rational.specs.Rational.{ℚ}
-use Rattle.spec_rational.specs.Sums.{Product}
+use Rattle.spec_rational.specs.Sums.{Monomial}
 use Rattle.spec_linear.specs.Form.{Linear}
 use Rattle.spec_echelon.specs.SolvedForm.{row_at, rows_of}
 use Rattle.cq_frac.specs.declared.VarId.{VarId}
@@ -13,12 +13,12 @@ use Rattle.cq_project.specs.declared.Equation.{Equation}
 use Rattle.cq_project.specs.Rows.{numbers_of, product_of, solved_of, equations_of}
 
 -- one more product
-pub places_more : (s : List Product) (items new : List (VarId × ℚ)) (i : ℕ) (p : VarId × ℚ) → map product_of items ≡ take i s → i < length s → slice_get s i ≡ Some (product_of p) → new ≡ items ++ p ∷ [] → map product_of new ≡ take (i + 1) s
+pub places_more : (s : List Monomial) (items new : List (VarId × ℚ)) (i : ℕ) (p : VarId × ℚ) → map product_of items ≡ take i s → i < length s → slice_get s i ≡ Some (product_of p) → new ≡ items ++ p ∷ [] → map product_of new ≡ take (i + 1) s
 places_more s items new i p h l g n =
     ap (map product_of) n ∙ map-append product_of items (p ∷ []) ∙ ap (λ t. t ++ product_of p ∷ []) h
     ∙ ap (λ m. take i s ++ m ∷ []) (sym (got s i (product_of p) g)) ∙ sym (take_more s i (product_of p) l)
   where
-    got : (s : List Product) (i : ℕ) (m : Product) → slice_get s i ≡ Some m → get_or s i m ≡ m
+    got : (s : List Monomial) (i : ℕ) (m : Monomial) → slice_get s i ≡ Some m → get_or s i m ≡ m
     got [] i m e = refl
     got (n ∷ s) zero m e = cc
     got (n ∷ s) (suc i) m e = got s i m e

@@ -3,7 +3,7 @@ use Rattle.std.proofs.Common.{◌≡◌, ℕ, zero, suc, ◌+◌, ◌-◌, ◌<�
 use Rattle.std.specs.List.{list_any}
 use Rattle.std.proofs.lemmas.List.{take_more, take_all, take-append-drop, length-drop, map-append}
 use Rattle.std.proofs.Math.Seq.{drop-append_seam}
-use Rattle.spec_rational.specs.Sums.{Product, Mentions}
+use Rattle.spec_rational.specs.Sums.{Monomial, Mentions}
 use Rattle.spec_linear.specs.declared.Relation.TheVariants.{Eq}
 use Rattle.spec_linear.specs.Solution.{Constraint, Has, SomeMentions, AreEquations, Solves, Solvable, Unsolvable}
 use Rattle.spec_echelon.specs.Echelon.{AreDistinct, variables}
@@ -102,7 +102,7 @@ known_any (y ∷ order) x (inr h) = go (nat_eq x y) (known_any order x h)
     go false k = k
 
 -- no variable of products over the order is new
-pub none_new : (order : List ℕ) (s : List Product) → ((x : ℕ) → Mentions x s → Has x order) → filter (λ x. not (list_any (nat_eq x) order)) (variables s) ≡ []
+pub none_new : (order : List ℕ) (s : List Monomial) → ((x : ℕ) → Mentions x s → Has x order) → filter (λ x. not (list_any (nat_eq x) order)) (variables s) ≡ []
 none_new order [] h = refl
 none_new order (m ∷ s) h =
     let known : not (list_any (nat_eq m.variable) order) ≡ false = ap not (known_any order m.variable (h m.variable (inl refl))) in

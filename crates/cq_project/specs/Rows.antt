@@ -1,7 +1,7 @@
 -- The rows of an answer, and the pairs of numbers that may stop the making of them.
 use Rattle.std.specs.Prelude.{◌≡◌, ℕ, List, ◌∷◌, ◌++◌, map}
 use Rattle.spec_rational.specs.Rational.{ℚ}
-use Rattle.spec_rational.specs.Sums.{Product}
+use Rattle.spec_rational.specs.Sums.{Monomial}
 use Rattle.spec_linear.specs.Solution.{Constraint, MentionsOnly}
 use Rattle.spec_echelon.specs.Echelon.{Solved, AreDistinct}
 use Rattle.cq_frac.specs.declared.Pair.{Pair}
@@ -14,7 +14,7 @@ abbrev pub numbers_of : List VarId → List ℕ
 numbers_of xs = map (λ x. x.0) xs
 
 -- a variable and its factor
-abbrev pub product_of : VarId × ℚ → Product
+abbrev pub product_of : VarId × ℚ → Monomial
 product_of p = record { variable = p.0.0; factor = p.1 }
 
 -- the equation that a row is

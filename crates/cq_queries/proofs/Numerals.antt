@@ -27,7 +27,7 @@ coprime_one n = gcd-mod n 1 ∙ gcd-zero 1 (n % 1) (mod-one n)
 
 -- a whole number as a fraction
 abbrev whole_number : ℕ → ℚ
-whole_number n = record { num = pos n; below = 0; lowest = coprime_one n }
+whole_number n = record { numerator = pos n; below = 0; lowest = coprime_one n }
 
 -- as a signed number it is the same
 pub as_signed : (n : ℕ) → n < limit → to_z w128 n ≡ pos n

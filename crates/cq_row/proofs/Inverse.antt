@@ -1,6 +1,6 @@
 -- 1 over a number that is not zero.
 use Rattle.std.proofs.Common.{◌≡◌, ℕ, zero, suc, ◌<◌, ◌*◌, [], ◌∷◌, ℤ, pos, negsuc, ◌*ℤ◌, neg_ℤ, arith, refl, ap, sym, subst, ◌∙◌}
-use Rattle.spec_rational.specs.Rational.{ℚ, 0ℚ, 1ℚ, den, ratio, int_ℚ, inv_ℚ, inverted, IsPositive, ◌*ℚ◌}
+use Rattle.spec_rational.specs.Rational.{ℚ, 0ℚ, 1ℚ, denominator, ratio, int_ℚ, inv_ℚ, inverted, IsPositive, ◌*ℚ◌}
 use Rattle.spec_rational.proofs.Ring.{var, int, ◌⊗◌, minus}
 use Rattle.spec_rational.proofs.IntRing.{ring_ℤ}
 use Rattle.spec_rational.proofs.Rational.{ring, ratio-mul, ratio_same, ratio_back}
@@ -26,15 +26,15 @@ own_inverse (negsuc k) d h n =
     product_pos (suc d) k h = omega arith
     product_pos zero k h = absurd (omega arith)
 
-num_not_zero : (p : ℚ) → (p ≡ 0ℚ → ⊥) → p.num ≡ pos 0 → ⊥
+num_not_zero : (p : ℚ) → (p ≡ 0ℚ → ⊥) → p.numerator ≡ pos 0 → ⊥
 unfolding int_ℚ
 num_not_zero p n e =
-    n (sym (ratio_back p) ∙ ratio_same p.num (pos 0) (den p) 1 (omega arith) (omega arith)
-    (ap (λ z. z *ℤ pos 1) e ∙ ring_ℤ (pos (den p) ∷ []) (int (pos 0) ⊗ int (pos 1)) (int (pos 0) ⊗ var 0) refl))
+    n (sym (ratio_back p) ∙ ratio_same p.numerator (pos 0) (denominator p) 1 (omega arith) (omega arith)
+    (ap (λ z. z *ℤ pos 1) e ∙ ring_ℤ (pos (denominator p) ∷ []) (int (pos 0) ⊗ int (pos 1)) (int (pos 0) ⊗ var 0) refl))
 
 pub times_inverse : (p : ℚ) → (p ≡ 0ℚ → ⊥) → p *ℚ inv_ℚ p ≡ 1ℚ
 unfolding inv_ℚ
-times_inverse p n = ap (λ q. q *ℚ inverted p.num (den p)) (sym (ratio_back p)) ∙ own_inverse p.num (den p) (omega arith) (num_not_zero p n)
+times_inverse p n = ap (λ q. q *ℚ inverted p.numerator (denominator p)) (sym (ratio_back p)) ∙ own_inverse p.numerator (denominator p) (omega arith) (num_not_zero p n)
 
 pub one_not_zero : 1ℚ ≡ 0ℚ → ⊥
 one_not_zero e = not_pos_zero (subst IsPositive e pos_one)

@@ -10,7 +10,7 @@ use Rattle.spec_limits.specs.Dictionary.{Quantity}
 use Rattle.spec_limits.specs.Overflow.{Operands, Stage, settling, Moment, IsInUse, beside_feasible, in_answer, IsRow, quantity_row, asked_row, Row, Exchange, Adding, Makes, coefficients, constants, operands, quotient, inverse, product, product_inverse, difference, scaled, added, divided, between, between_constants}
 use Rattle.spec_queries.specs.Tree.{Query}
 use Rattle.spec_queries.specs.Meaning.{told, operations}
-use Rattle.spec_transcript.specs.Moments.{IsAsked, of_equation, of_variable, turned, IsDue}
+use Rattle.spec_transcript.specs.Moments.{IsAsked, of_equation, of_variable, turned, IsStopDue}
 use Rattle.cq_store.specs.Told.{CallMakes, while_asked}
 use Rattle.cq_store.specs.Contents.{variable_forms}
 use Rattle.cq_equations.specs.Pairs as equation
@@ -78,7 +78,7 @@ module _ (q : Query) where
   met l asked (equation.constants o h s) = constants o (has_front (operations q) (map turned q.relations) o h) s
   met l asked (equation.operands o h s l' r) = operands o (has_front (operations q) (map turned q.relations) o h) s l' r
 
-  pub due_in_terms : (p : Pair) → equation.Refuses (operations q) p → IsDue q settling p
+  pub due_in_terms : (p : Pair) → equation.Refuses (operations q) p → IsStopDue q settling p
   due_in_terms p r = record {
     moment = record { stage = settling; list = []; asked = []; operations = terms; rows = [] };
     is_moment = record { stage_is = refl; later = told q; joined = refl; asked = tt; terms = refl; rows = refl };
@@ -90,7 +90,7 @@ module _ (q : Query) where
   variables_asked (x ∷ order) = (of_variable x, variables_asked order)
 
   module _ (stage : Stage) (p : Pair) where
-    by_call : (before after : List Constraint) (c : Constraint) (order : List ℕ) → told q ≡ before ++ c ∷ after → CallMakes before order c p → IsDue q stage p
+    by_call : (before after : List Constraint) (c : Constraint) (order : List ℕ) → told q ≡ before ++ c ∷ after → CallMakes before order c p → IsStopDue q stage p
     by_call before after c order split (while_asked due) = record {
       moment = record { stage = stage; list = before; asked = c.form ∷ variable_forms order; operations = terms; rows = [] };
       is_moment = record {
@@ -105,5 +105,5 @@ module _ (q : Query) where
     }
 
     -- told one by one, for a store or for the rows of an answer
-    pub due_in_telling : (l : List Constraint) → l ≡ told q → ProjectionMakes l p → IsDue q stage p
+    pub due_in_telling : (l : List Constraint) → l ≡ told q → ProjectionMakes l p → IsStopDue q stage p
     due_in_telling l e m = by_call m.before m.after m.member m.order (sym e ∙ m.split) m.made

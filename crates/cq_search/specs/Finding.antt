@@ -7,7 +7,7 @@ use Rattle.spec_answers.specs.Text.{Text}
 use Rattle.spec_answers.specs.Answer.{AnswerForm}
 use Rattle.spec_queries.specs.Tree.{Query}
 use Rattle.spec_queries.specs.Meaning.{told}
-use Rattle.spec_transcript.specs.Moments.{IsDue}
+use Rattle.spec_transcript.specs.Moments.{IsStopDue}
 use Rattle.spec_transcript.specs.Session.{branch_of}
 use Rattle.cq_frac.specs.declared.Pair.{Pair}
 use Rattle.cq_search.specs.declared.Found.{Found}
@@ -26,8 +26,8 @@ pub record IsAnswer (q : Query) (text : Text) : Type 0 where
 
 -- the pair stops the search, while its equations join or while its answer is made
 pub data Stops (q : Query) (p : Pair) : Type 0 where
-  while_settling : IsDue q settling p → Stops q p
-  while_answering : (values : ℕ → Option ℚ) → AreBound q values → IsDue q answering p → Stops q p
+  while_settling : IsStopDue q settling p → Stops q p
+  while_answering : (values : ℕ → Option ℚ) → AreBound q values → IsStopDue q answering p → Stops q p
 
 -- what was found is so
 abbrev pub IsFound : Query → Found → Type 0

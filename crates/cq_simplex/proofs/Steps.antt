@@ -4,7 +4,7 @@ use Rattle.spec_rational.specs.Rational.{ℚ, neg_ℚ, IsPositive}
 use Rattle.spec_rational.proofs.Ring.{int, minus}
 use Rattle.spec_rational.proofs.Rational.{ring}
 use Rattle.spec_rational.proofs.Sign.{not_pos_zero, not_both, pos_nonneg}
-use Rattle.spec_simplex.specs.Dictionary.{IsDictionary, Satisfies, AreAlike, IsFeasible}
+use Rattle.spec_simplex.specs.Dictionary.{IsDictionary, Satisfies, AreEquivalent, IsFeasible}
 use Rattle.spec_simplex.specs.Rule.{IsDue, Exchanged, Chain}
 use Rattle.spec_simplex.proofs.Solutions.{writes, alike_itself, true_not_false}
 use Rattle.spec_simplex.proofs.Chains.{no_exchange, one_more}
@@ -89,7 +89,7 @@ module _ (flags : List Bool) (asked : ℕ) (old : List Slot) (n : ℕ) (now new 
   dictionary_new : IsDictionary (length old) (dictionary new asked)
   dictionary_new = subst (λ k. IsDictionary k (dictionary new asked)) size_new (is_dictionary new t asked)
 
-  alike : AreAlike (length old) (dictionary now asked) (dictionary new asked)
+  alike : AreEquivalent (length old) (dictionary now asked) (dictionary new asked)
   alike y z = (
     λ s. subst (λ k. Satisfies k (dictionary new asked) y z) size_new
         (carried now new asked h.table t h.asked_row asked_after (λ v m. (same v).0 m) dropped_now y z (subst (λ k. Satisfies k (dictionary now asked) y z) (sym size_now) s)),

@@ -1,7 +1,7 @@
 -- The pairs of the table's steps are pairs that may overflow.
 use Rattle.std.proofs.Common.{◌≡◌, ℕ, ◌+◌, List, [], ◌∷◌, ◌++◌, Bool, true, refl, ap, ap₂, sym, subst, ◌∙◌, pos, inl, inr}
 use Rattle.spec_rational.specs.Rational.{ℚ, 0ℚ, 1ℚ, ◌+ℚ◌, ◌*ℚ◌, ◌/ℚ◌}
-use Rattle.spec_rational.specs.Sums.{Product, Mentions, sum_at}
+use Rattle.spec_rational.specs.Sums.{Monomial, Mentions, sum_at}
 use Rattle.spec_rational.proofs.Ring.{var, int, ◌⊕◌}
 use Rattle.spec_rational.proofs.Rational.{ring}
 use Rattle.spec_linear.specs.Form.{Linear, IsForm, variable_form}
@@ -59,8 +59,8 @@ never_zero t lo (x ∷ s) m r (inl e) z = r.2 (ap (λ (y : Entry). y.factor) (sy
 never_zero t lo (x ∷ s) m r (inr h) z = never_zero t (x.quantity + 1) s m r.3 h z
 
 -- ---- forms over variables and over quantities
-split_placed : (place : Quantity → ℕ) (s : List Product) (earlier later : List Entry) (m : Entry) → placed place s ≡ earlier ++ m ∷ later →
-    (before : List Product) × (n : Product) × (after : List Product) × (s ≡ before ++ n ∷ after) × (placed place before ≡ earlier) × (record { quantity = place (variable n.variable); factor = n.factor } ≡ m)
+split_placed : (place : Quantity → ℕ) (s : List Monomial) (earlier later : List Entry) (m : Entry) → placed place s ≡ earlier ++ m ∷ later →
+    (before : List Monomial) × (n : Monomial) × (after : List Monomial) × (s ≡ before ++ n ∷ after) × (placed place before ≡ earlier) × (record { quantity = place (variable n.variable); factor = n.factor } ≡ m)
 split_placed place [] [] later m e = cc
 split_placed place [] (x ∷ earlier) later m e = cc
 split_placed place (n ∷ s) [] later m e = ([], n, s, refl, refl, (cc))
@@ -70,16 +70,16 @@ split_placed place (n ∷ s) (x ∷ earlier) later m e =
     let r = split_placed place s earlier later m f in
     (n ∷ r.0, r.1, r.2, ap (λ t. n ∷ t) r.3, ap₂ (λ a b. a ∷ b) g r.4, r.5)
 
-mentions_here : (before after : List Product) (n : Product) → Mentions n.variable (before ++ n ∷ after)
+mentions_here : (before after : List Monomial) (n : Monomial) → Mentions n.variable (before ++ n ∷ after)
 mentions_here [] after n = inl refl
 mentions_here (x ∷ before) after n = inr (mentions_here before after n)
 
-mentions_more : (x : ℕ) (s t : List Product) → Mentions x s → Mentions x (s ++ t)
+mentions_more : (x : ℕ) (s t : List Monomial) → Mentions x s → Mentions x (s ++ t)
 mentions_more x [] t h = absurd h
 mentions_more x (n ∷ s) t (inl e) = inl e
 mentions_more x (n ∷ s) t (inr h) = inr (mentions_more x s t h)
 
-pub placed_sum : (place : Quantity → ℕ) (v x : ℕ → ℚ) (s : List Product) → ((y : ℕ) → Mentions y s → x (place (variable y)) ≡ v y) → row.sum_at x (placed place s) ≡ sum_at v s
+pub placed_sum : (place : Quantity → ℕ) (v x : ℕ → ℚ) (s : List Monomial) → ((y : ℕ) → Mentions y s → x (place (variable y)) ≡ v y) → row.sum_at x (placed place s) ≡ sum_at v s
 placed_sum place v x [] h = refl
 placed_sum place v x (n ∷ s) h = ap₂ (λ a b. n.factor *ℚ a +ℚ b) (h n.variable (inl refl)) (placed_sum place v x s (λ y k. h y (inr k)))
 
@@ -124,7 +124,7 @@ module _ (l : List Constraint) (asked : List Linear) (slots : List Slot) (place 
     agrees : (v x : ℕ → ℚ) → Agree l asked place v x → (y : ℕ) → Mentions y f.products → x (place (variable y)) ≡ v y
     agrees v x a y h = a.same (variable y) (inr (asked_mentions f asked y f_asked h)) ∙ value_at-variable_form v y
 
-    module _ (earlier later : List Product) (n : Product) (split : f.products ≡ earlier ++ n ∷ later) (before own : Row)
+    module _ (earlier later : List Monomial) (n : Monomial) (split : f.products ≡ earlier ++ n ∷ later) (before own : Row)
         (b : Expresses slots (λ x. f.constant +ℚ row.sum_at x (placed place earlier)) before) (w : Expresses slots (λ x. x (place (variable n.variable))) own) where
       mention_n : Mentions n.variable f.products
       mention_n = subst (Mentions n.variable) (sym split) (mentions_here earlier later n)
@@ -149,9 +149,9 @@ module _ (l : List Constraint) (asked : List Linear) (slots : List Slot) (place 
       }
 
     record Split (a : table.Adding slots (placed place f.products) f.constant) : Type 0 where
-      pub earlier : List Product
-      pub now : Product
-      pub later : List Product
+      pub earlier : List Monomial
+      pub now : Monomial
+      pub later : List Monomial
       pub split : f.products ≡ earlier ++ now ∷ later
       pub factor : now.factor ≡ a.now.factor
       pub gave : Expresses slots (λ x. f.constant +ℚ row.sum_at x (placed place earlier)) a.before

@@ -4,7 +4,7 @@ use Rattle.std.specs.Prelude.{MatchOption, is_some}
 use Rattle.std.specs.List.{list_any}
 use Rattle.std.proofs.lemmas.List.{take_more}
 use Rattle.spec_rational.specs.Rational.{ℚ}
-use Rattle.spec_rational.specs.Sums.{Product, Mentions}
+use Rattle.spec_rational.specs.Sums.{Monomial, Mentions}
 use Rattle.spec_linear.specs.Form.{Linear, IsSumFrom}
 use Rattle.spec_linear.specs.Solution.{Has}
 use Rattle.spec_linear.proofs.Denominators.{has_left, has_right}
@@ -41,7 +41,7 @@ products-end : (s : List (VarId × ℚ)) (p : VarId × ℚ) → products_of (s +
 products-end [] p = refl
 products-end (q ∷ s) p = ap (λ t. record { variable = q.0.0; factor = q.1 } ∷ t) (products-end s p)
 
-placed-end : (place : Quantity → ℕ) (s : List Product) (m : Product) → placed place (s ++ m ∷ []) ≡ placed place s ++ record { quantity = place (variable m.variable); factor = m.factor } ∷ []
+placed-end : (place : Quantity → ℕ) (s : List Monomial) (m : Monomial) → placed place (s ++ m ∷ []) ≡ placed place s ++ record { quantity = place (variable m.variable); factor = m.factor } ∷ []
 placed-end place [] m = refl
 placed-end place (n ∷ s) m = ap (λ t. record { quantity = place (variable n.variable); factor = n.factor } ∷ t) (placed-end place s m)
 
@@ -69,7 +69,7 @@ not_earlier low (q ∷ s) zero p f l e h = h
 not_earlier low (q ∷ s) (suc i) p f l e (inl w) = omega (arith, at_least (suc q.0.0) s i p f.2 (omega arith) e, w)
 not_earlier low (q ∷ s) (suc i) p f l e (inr h) = not_earlier (suc q.0.0) s i p f.2 (omega arith) e h
 
-variables-end : (s : List Product) (m : Product) → variables (s ++ m ∷ []) ≡ variables s ++ m.variable ∷ []
+variables-end : (s : List Monomial) (m : Monomial) → variables (s ++ m ∷ []) ≡ variables s ++ m.variable ∷ []
 variables-end [] m = refl
 variables-end (n ∷ s) m = ap (λ t. n.variable ∷ t) (variables-end s m)
 
@@ -156,10 +156,10 @@ pub none_first : (s : List Entry) → slice_get s 0 ≡ None → s ≡ []
 none_first [] e = refl
 none_first (n ∷ s) e = cc
 
-placed_place : (place : Quantity → ℕ) (s : List Product) (m : Entry) → row.Has m (placed place s) → (x : ℕ) × Mentions x s × (m.quantity ≡ place (variable x))
+placed_place : (place : Quantity → ℕ) (s : List Monomial) (m : Entry) → row.Has m (placed place s) → (x : ℕ) × Mentions x s × (m.quantity ≡ place (variable x))
 placed_place place [] m h = absurd h
 placed_place place (n ∷ s) m (inl e) = (n.variable, inl refl, ap (λ (z : Entry). z.quantity) e)
 placed_place place (n ∷ s) m (inr h) = let r = placed_place place s m h in (r.0, inr r.1, r.2)
 
-pub placed_below : (t : Named) → AreNamed t → (s : List Product) → ((x : ℕ) → Mentions x s → Has x (variables_of t.names)) → (m : Entry) → row.Has m (placed (place_of t.names) s) → m.quantity < length t.slots
+pub placed_below : (t : Named) → AreNamed t → (s : List Monomial) → ((x : ℕ) → Mentions x s → Has x (variables_of t.names)) → (m : Entry) → row.Has m (placed (place_of t.names) s) → m.quantity < length t.slots
 placed_below t a s known m h = let r = placed_place (place_of t.names) s m h in omega (arith, r.2, place_below t.names r.0 (known r.0 r.1), a.size)

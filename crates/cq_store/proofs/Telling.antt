@@ -3,7 +3,7 @@ use Rattle.std.proofs.Common.{◌≡◌, ◌↔◌, ℕ, pos, ◌+◌, List, [],
 use Rattle.std.specs.Prelude.{filter}
 use Rattle.std.specs.List.{list_any}
 use Rattle.spec_rational.specs.Rational.{ℚ, 0ℚ, ◌+ℚ◌}
-use Rattle.spec_rational.specs.Sums.{Product, Mentions}
+use Rattle.spec_rational.specs.Sums.{Monomial, Mentions}
 use Rattle.spec_rational.proofs.Ring.{var, int, ◌⊕◌}
 use Rattle.spec_rational.proofs.Rational.{ring}
 use Rattle.spec_linear.specs.Form.{Linear, IsForm, value_at}
@@ -108,12 +108,12 @@ fresh_or_old order (y ∷ xs) x h = go (list_any (nat_eq y) order) refl (λ k. f
     go false e rest (inl w) = inr (inl w)
     go false e rest (inr k) = elim (rest k) [ inl m ↦ inl m | inr m ↦ inr (inr m) ]
 
-pub mentions-variables : (x : ℕ) (s : List Product) → Mentions x s → Has x (variables s)
+pub mentions-variables : (x : ℕ) (s : List Monomial) → Mentions x s → Has x (variables s)
 mentions-variables x [] h = h
 mentions-variables x (m ∷ s) (inl e) = inl e
 mentions-variables x (m ∷ s) (inr h) = inr (mentions-variables x s h)
 
-pub variables-mention : (x : ℕ) (s : List Product) → Has x (variables s) → Mentions x s
+pub variables-mention : (x : ℕ) (s : List Monomial) → Has x (variables s) → Mentions x s
 variables-mention x [] h = h
 variables-mention x (m ∷ s) (inl e) = inl e
 variables-mention x (m ∷ s) (inr h) = inr (variables-mention x s h)

@@ -1,7 +1,7 @@
 -- What the forms of a solved list that are numbers say.
 use Rattle.std.proofs.Common.{◌≡◌, ℕ, List, [], ◌∷◌, Option, None, Some, refl}
 use Rattle.std.specs.Prelude.{MatchOption}
-use Rattle.spec_rational.specs.Sums.{Product}
+use Rattle.spec_rational.specs.Sums.{Monomial}
 use Rattle.spec_linear.specs.Form.{Linear}
 use Rattle.spec_linear.specs.Solution.{Constraint, Fixed}
 use Rattle.spec_echelon.specs.SolvedForm.{NotFixed}
@@ -17,6 +17,6 @@ module _ (l : List Constraint) (t : Named) (s : IsStored l t) (x : ℕ) where
       go None e = free-not_fixed (variables_of t.names) l (solved_in t) (solved_form l t s) x e
       go (Some f) e = by_products f.products refl
         where
-          by_products : (p : List Product) → f.products ≡ p → MatchOption (number_if_empty p f.constant) (NotFixed l x) (λ q. Fixed l x q)
+          by_products : (p : List Monomial) → f.products ≡ p → MatchOption (number_if_empty p f.constant) (NotFixed l x) (λ q. Fixed l x q)
           by_products [] z = fixed (variables_of t.names) l (solved_in t) (solved_form l t s) x f e z
           by_products (m ∷ p) z = dependent-not_fixed (variables_of t.names) l (solved_in t) (solved_form l t s) x f m p e z

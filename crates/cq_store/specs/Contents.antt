@@ -1,7 +1,7 @@
 -- What a store holds: the told list, and a table of its quantities with their names.
 use Rattle.std.specs.Prelude.{◌≡◌, ℕ, zero, suc, List, [], ◌∷◌, length, map, Option, None, Some, slice_get, nat_eq, option_and_then, true}
 use Rattle.spec_rational.specs.Rational.{ℚ}
-use Rattle.spec_rational.specs.Sums.{Product}
+use Rattle.spec_rational.specs.Sums.{Monomial}
 use Rattle.spec_linear.specs.Form.{Linear, variable_form}
 use Rattle.spec_linear.specs.Solution.{Constraint, MentionsOnly}
 use Rattle.spec_limits.specs.Dictionary.{Quantity, variable, member}
@@ -67,7 +67,7 @@ members_in (Member ∷ names) = suc (members_in names)
 -- ---- rows
 
 -- entries of variables, as products
-abbrev pub products_of : List Name → List Entry → List Product
+abbrev pub products_of : List Name → List Entry → List Monomial
 products_of names s = map (λ m. record { variable = variable_in (slice_get names m.quantity); factor = m.factor }) s
 
 -- a row's constant and its live entries, as a form; columns have none
@@ -90,7 +90,7 @@ abbrev pub solved_in : Named → ℕ → Option Linear
 solved_in t x = option_and_then (form_of_slot t.names) (slice_get t.slots (place_of_variable t.names x))
 
 -- the number that a form is
-abbrev pub number_if_empty : List Product → ℚ → Option ℚ
+abbrev pub number_if_empty : List Monomial → ℚ → Option ℚ
 number_if_empty [] q = Some q
 number_if_empty (m ∷ s) q = None
 

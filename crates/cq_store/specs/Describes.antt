@@ -1,7 +1,7 @@
 -- How the quantities of a table are those of a list of equations.
 use Rattle.std.specs.Prelude.{◌≡◌, ◌⊎◌, ℕ, ◌+◌, ◌<◌, suc, List, [], ◌∷◌, ◌++◌, length, true}
 use Rattle.spec_rational.specs.Rational.{ℚ, 0ℚ, ◌+ℚ◌}
-use Rattle.spec_rational.specs.Sums.{Product}
+use Rattle.spec_rational.specs.Sums.{Monomial}
 use Rattle.spec_linear.specs.Form.{Linear, value_at}
 use Rattle.spec_linear.specs.Solution.{Constraint, Has}
 use Rattle.spec_linear.specs.declared.Relation.TheVariants.{Eq}
@@ -53,7 +53,7 @@ members_from n [] = []
 members_from n (c ∷ l) = member n ∷ members_from (suc n) l
 
 -- a form over variables as one over the table's quantities
-abbrev pub placed : (Quantity → ℕ) → List Product → List Entry
+abbrev pub placed : (Quantity → ℕ) → List Monomial → List Entry
 placed place [] = []
 placed place (m ∷ s) = record { quantity = place (variable m.variable); factor = m.factor } ∷ placed place s
 

@@ -1,7 +1,7 @@
 //! The store: equations told one by one, kept in solved form.
 
 ghost use Rattle.std.specs.Prelude.{◌≡◌, ◌↔◌, ◌<◌, ℕ, List, [], ◌∷◌, ◌++◌, length, map, slice_get, IfOk, OnOk, OnErr, IsTrue, MatchOption};
-ghost use Rattle.spec_rational.specs.Sums.{Product};
+ghost use Rattle.spec_rational.specs.Sums.{Monomial};
 ghost use Rattle.spec_linear.specs.Form.{Linear};
 ghost use Rattle.spec_linear.specs.Solution.{Has, Solvable, Unsolvable, Fixed};
 ghost use Rattle.spec_linear.specs.declared.Relation.TheVariants.{Eq};

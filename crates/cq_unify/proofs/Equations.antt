@@ -11,7 +11,7 @@ use Rattle.cq_term.specs.Meaning.{HeapTerm, at}
 use Rattle.cq_term.specs.HeapValue.{Terms as HeapTerms}
 use Rattle.cq_term.specs.Shown.{arguments}
 use Rattle.cq_frac.specs.declared.VarId.{VarId}
-use Rattle.cq_unify.specs.Work.{IsLive, equation_of, equations, AreAlike, Compared, Narrowed, pairwise, PushesPairs}
+use Rattle.cq_unify.specs.Work.{IsLive, equation_of, equations, HaveSameFunctor, Compared, Narrowed, pairwise, PushesPairs}
 use Rattle.cq_unify.specs.declared.pairs.Pair.{Pair}
 use Rattle.cq_unify.specs.declared.pairs.Heads.TheVariants as heads
 use Rattle.cq_unify.specs.declared.pairs.Step.TheVariants as step
@@ -43,7 +43,7 @@ equates-pairwise s (more t ts) (more u us) n = (
 )
 
 -- the arguments of two compounds in place of the compounds
-equates_arguments : (s : Subst ℕ) (t u : HeapTerm) (n : ℕ) → AreAlike t u n → Equates s (reverse (pairwise (arguments t) (arguments u))) ↔ (apply s t ≡ apply s u)
+equates_arguments : (s : Subst ℕ) (t u : HeapTerm) (n : ℕ) → HaveSameFunctor t u n → Equates s (reverse (pairwise (arguments t) (arguments u))) ↔ (apply s t ≡ apply s u)
 equates_arguments s (Compound f ts) (Compound g us) n (h, p, q) =
     let c : count ts ≡ count us = cc in
     let name : f ≡ g = cc in
@@ -81,7 +81,7 @@ left_sizes-pairwise (one t) (u ∷ us) = omega arith
 left_sizes-pairwise (more t ts) [] = omega arith
 left_sizes-pairwise (more t ts) (u ∷ us) = omega (arith, left_sizes-pairwise ts us)
 
-left_sizes_arguments : (t u : HeapTerm) (n : ℕ) → AreAlike t u n → left_sizes (reverse (pairwise (arguments t) (arguments u))) < size t
+left_sizes_arguments : (t u : HeapTerm) (n : ℕ) → HaveSameFunctor t u n → left_sizes (reverse (pairwise (arguments t) (arguments u))) < size t
 left_sizes_arguments (Compound f ts) u n (h, p, q) = omega (arith, left_sizes-reverse (pairwise (list_of ts) (arguments u)), left_sizes-pairwise ts (arguments u))
 left_sizes_arguments (Var x) u n (h, p, q) = cc
 left_sizes_arguments (Number x) u n (h, p, q) = cc
@@ -108,7 +108,7 @@ module _ (ts : List HeapTerm) (old work : List Pair) (p : Pair) (is : old ≡ wo
   pub live_pop : All (IsLive ts) old → All (IsLive ts) work × IsLive ts p
   live_pop live = All-pop (IsLive ts) old work (Some p) is live
 
-module _ (ts : List HeapTerm) (a b n : ℕ) (alike : AreAlike (at ts a) (at ts b) n) (work new : List Pair) (pushes : PushesPairs ts a b 0 work new) where
+module _ (ts : List HeapTerm) (a b n : ℕ) (alike : HaveSameFunctor (at ts a) (at ts b) n) (work new : List Pair) (pushes : PushesPairs ts a b 0 work new) where
   equations_push : equations ts new ≡ equations ts work ++ reverse (pairwise (arguments (at ts a)) (arguments (at ts b)))
   equations_push = ap (equations ts) pushes.pushed ∙ map-append (equation_of ts) work pushes.pairs ∙ ap (λ es. equations ts work ++ es) pushes.equal
 
@@ -144,7 +144,7 @@ module _ (heap : HeapTerms) (old now work : List Pair) (p : Pair) (is : now ≡ 
     same = λ s. (λ h. ((equates_pop ts now work p is s).0 ((remains.same s).0 h)).0, λ h. (remains.same s).1 ((equates_pop ts now work p is s).1 (h, ap (apply s) e)));
   }
 
-  pub remains_spread : (n : ℕ) (new : List Pair) → AreAlike (at heap.terms p.left) (at heap.terms p.right) n → PushesPairs heap.terms p.left p.right 0 work new → Remains heap.terms old new
+  pub remains_spread : (n : ℕ) (new : List Pair) → HaveSameFunctor (at heap.terms p.left) (at heap.terms p.right) n → PushesPairs heap.terms p.left p.right 0 work new → Remains heap.terms old new
   remains_spread n new alike pushes = record {
     live = live_push ts p.left p.right n alike work new pushes (live_pop ts now work p is remains.live).0;
     same = λ s.
@@ -153,7 +153,7 @@ module _ (heap : HeapTerms) (old now work : List Pair) (p : Pair) (is : now ≡ 
         (λ h. on.1 (off.0 ((remains.same s).0 h)), λ h. (remains.same s).1 (off.1 (on.0 h)));
   }
 
-  pub spread_less : (n : ℕ) (new : List Pair) → AreAlike (at heap.terms p.left) (at heap.terms p.right) n → PushesPairs heap.terms p.left p.right 0 work new → weight heap.terms new < weight heap.terms now
+  pub spread_less : (n : ℕ) (new : List Pair) → HaveSameFunctor (at heap.terms p.left) (at heap.terms p.right) n → PushesPairs heap.terms p.left p.right 0 work new → weight heap.terms new < weight heap.terms now
   spread_less n new alike pushes = omega (arith, weight_push ts p.left p.right n alike work new pushes, weight_pop ts now work p is)
 
   pub remains_clash : Compared heap p.left p.right heads.Clash → HasNoUnifier (equations heap.terms old)

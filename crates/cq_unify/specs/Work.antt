@@ -30,8 +30,8 @@ pub record CanBind (heap : Terms) (v : VarId) (t : ℕ) : Type 0 where
   pub older : (w : ℕ) → at heap.terms t ≡ Var w → IsUnbound heap.images w × (w < v.0)
 
 -- both are compounds of the same name with so many arguments
-abbrev pub AreAlike : HeapTerm → HeapTerm → ℕ → Type 0
-AreAlike t u n = (f : ℕ) × (view_of t ≡ view.Compound f n) × (view_of u ≡ view.Compound f n)
+abbrev pub HaveSameFunctor : HeapTerm → HeapTerm → ℕ → Type 0
+HaveSameFunctor t u n = (f : ℕ) × (view_of t ≡ view.Compound f n) × (view_of u ≡ view.Compound f n)
 
 -- the substitution makes the two equal
 abbrev pub Joins : Subst ℕ → Terms → ℕ → ℕ → Type 0
@@ -42,7 +42,7 @@ abbrev pub Compared : Terms → ℕ → ℕ → Heads → Type 0
 Compared heap a b heads.Same = at heap.terms a ≡ at heap.terms b
 Compared heap a b heads.Clash = (s : Subst ℕ) → Joins s heap a b → ⊥
 Compared heap a b (heads.Bind v t) = CanBind heap v t × ((s : Subst ℕ) → Joins s heap a b ↔ (s v.0 ≡ apply s (at heap.terms t)))
-Compared heap a b (heads.Arguments n) = AreAlike (at heap.terms a) (at heap.terms b) n
+Compared heap a b (heads.Arguments n) = HaveSameFunctor (at heap.terms a) (at heap.terms b) n
 
 -- what is left of the old pairs
 abbrev pub Narrowed : Terms → List Pair → List Pair → Step → Type 0

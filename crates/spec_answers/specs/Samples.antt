@@ -1,7 +1,7 @@
 -- Answers to try the texts on.
 use Rattle.std.specs.Prelude.{ℕ, pos, negsuc, List, [], ◌∷◌, codes, Option, Some, None, ◌==◌, if◌then◌else◌}
 use Rattle.spec_rational.specs.Rational.{ℚ, ratio, int_ℚ, 0ℚ}
-use Rattle.spec_rational.specs.Sums.{Product}
+use Rattle.spec_rational.specs.Sums.{Monomial}
 use Rattle.spec_echelon.specs.Echelon.{Solved}
 use Rattle.spec_answers.specs.Text.{Text}
 use Rattle.spec_queries.specs.Tree.{VariableName}
@@ -10,7 +10,7 @@ use Rattle.spec_answers.specs.Answer.{answer_lines, or_true, lines_text}
 abbrev pub named : Text → ℕ → VariableName
 named text v = record { name = text; number = v }
 
-abbrev pub times : ℚ → ℕ → Product
+abbrev pub times : ℚ → ℕ → Monomial
 times q v = record { variable = v; factor = q }
 
 -- the text of an answer with these values and rows

@@ -18,7 +18,7 @@ under_text (suc n) = codes "r" ++ whole_text (suc (suc n))
 
 -- a number in lowest terms: N or NrD, with `-` in front where it is below zero
 abbrev pub number_text : ℚ → Text
-number_text q = elim q.num [
+number_text q = elim q.numerator [
   | pos n ↦ whole_text n ++ under_text q.below
   | negsuc n ↦ codes "-" ++ whole_text (suc n) ++ under_text q.below
 ]

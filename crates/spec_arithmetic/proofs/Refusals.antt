@@ -1,7 +1,7 @@
 -- The test of a refusal tells what the fractions take and refuse.
 use Rattle.std.proofs.Common.{◌≡◌, ℕ, ◌<◌, ◌≤◌, Bool, true, false, ◌⊎◌, inl, inr, refl, ap, ◌∙◌, arith, nat_le, nat_abs, ◌+ℤ◌, ◌||◌}
 use Rattle.std.proofs.lemmas.Bool.Decides.{nat_tests}
-use Rattle.spec_rational.specs.Rational.{ℚ, den, neg_ℚ, ◌*ℚ◌, ◌/ℚ◌}
+use Rattle.spec_rational.specs.Rational.{ℚ, denominator, neg_ℚ, ◌*ℚ◌, ◌/ℚ◌}
 use Rattle.cq_frac.specs.Fits.{Fits, Exceeds, SumAccepted, SumRefused, limit, left_term, right_term, common_den}
 use Rattle.cq_frac.specs.Refused.{Refuses, Accepts}
 use Rattle.cq_frac.specs.declared.Operation.{Operation}
@@ -25,8 +25,8 @@ neither : (x y : Bool) → x ≡ false → y ≡ false → (x || y) ≡ false
 neither x y e d = ap (λ b. b || y) e ∙ d
 
 exceeds_true : (q : ℚ) → Exceeds q → exceeds q ≡ true
-exceeds_true q (inl h) = or_left (nat_le limit (nat_abs q.num)) (nat_le limit (den q)) (reaches limit (nat_abs q.num) h)
-exceeds_true q (inr h) = or_right (nat_le limit (nat_abs q.num)) (nat_le limit (den q)) (reaches limit (den q) h)
+exceeds_true q (inl h) = or_left (nat_le limit (nat_abs q.numerator)) (nat_le limit (denominator q)) (reaches limit (nat_abs q.numerator) h)
+exceeds_true q (inr h) = or_right (nat_le limit (nat_abs q.numerator)) (nat_le limit (denominator q)) (reaches limit (denominator q) h)
 
 exceeds_false : (q : ℚ) → Fits q → exceeds q ≡ false
 exceeds_false q h = neither _ _ (stays_below _ _ h.num_fits) (stays_below _ _ h.den_fits)
@@ -72,11 +72,11 @@ of_two true b e = inl refl
 of_two false b e = inr e
 
 exceeds_back : (q : ℚ) → exceeds q ≡ true → Exceeds q
-exceeds_back q e = go (of_two (nat_le limit (nat_abs q.num)) (nat_le limit (den q)) e)
+exceeds_back q e = go (of_two (nat_le limit (nat_abs q.numerator)) (nat_le limit (denominator q)) e)
   where
-    go : (nat_le limit (nat_abs q.num) ≡ true) ⊎ (nat_le limit (den q) ≡ true) → Exceeds q
-    go (inl d) = inl (at_least limit (nat_abs q.num) d)
-    go (inr d) = inr (at_least limit (den q) d)
+    go : (nat_le limit (nat_abs q.numerator) ≡ true) ⊎ (nat_le limit (denominator q) ≡ true) → Exceeds q
+    go (inl d) = inl (at_least limit (nat_abs q.numerator) d)
+    go (inr d) = inr (at_least limit (denominator q) d)
 
 module _ (a b c d : ℕ) where
   of_four : (nat_le limit a || (nat_le limit b || (nat_le limit c || nat_le limit d))) ≡ true → (limit ≤ a) ⊎ ((limit ≤ b) ⊎ ((limit ≤ c) ⊎ (limit ≤ d)))

@@ -33,7 +33,7 @@ pub unless_zero : (o : Operation) (p q : ℚ) → (o ≡ Quotient → q ≢ 0ℚ
 unless_zero Sum p q h = refl
 unless_zero Difference p q h = refl
 unless_zero Product p q h = refl
-unless_zero Quotient p q h = ap (λ b. if b then Fails ZeroDivisor else unless_refused Quotient p q) (not_zero q.num (num_not_zero q (h refl)))
+unless_zero Quotient p q h = ap (λ b. if b then Fails ZeroDivisor else unless_refused Quotient p q) (not_zero q.numerator (num_not_zero q (h refl)))
 
 pub no_divisor : (p : ℚ) → exact_result Quotient p 0ℚ ≡ Fails ZeroDivisor
 unfolding int_ℚ ratio gcd
@@ -51,7 +51,7 @@ exact_stops : (o : Operation) (p q : ℚ) (r : Pair) → exact_result o p q ≡ 
 exact_stops Sum p q r e = unless_stops Sum p q r e
 exact_stops Difference p q r e = unless_stops Difference p q r e
 exact_stops Product p q r e = unless_stops Product p q r e
-exact_stops Quotient p q r e = go (is_zero q.num) e
+exact_stops Quotient p q r e = go (is_zero q.numerator) e
   where
     go : (b : Bool) → (if b then Fails ZeroDivisor else unless_refused Quotient p q) ≡ Overflows r → IsRefused r
     go true e = cc
@@ -60,15 +60,15 @@ exact_stops Quotient p q r e = go (is_zero q.num) e
 whole_goes_on : (o : WholeOperation) (p q : ℚ) (r : Pair) → whole_result o p q ≡ Overflows r → ⊥
 whole_goes_on o p q r e = first (is_whole p) e
   where
-    third : (b : Bool) → (if b then Fails ZeroDivisor else Value (int_ℚ (whole_value o p.num q.num))) ≡ Overflows r → ⊥
+    third : (b : Bool) → (if b then Fails ZeroDivisor else Value (int_ℚ (whole_value o p.numerator q.numerator))) ≡ Overflows r → ⊥
     third true e = cc
     third false e = cc
 
-    second : (b : Bool) → (if not b then Fails (NotInteger q) else if is_zero q.num then Fails ZeroDivisor else Value (int_ℚ (whole_value o p.num q.num))) ≡ Overflows r → ⊥
-    second true e = third (is_zero q.num) e
+    second : (b : Bool) → (if not b then Fails (NotInteger q) else if is_zero q.numerator then Fails ZeroDivisor else Value (int_ℚ (whole_value o p.numerator q.numerator))) ≡ Overflows r → ⊥
+    second true e = third (is_zero q.numerator) e
     second false e = cc
 
-    first : (b : Bool) → (if not b then Fails (NotInteger p) else if not (is_whole q) then Fails (NotInteger q) else if is_zero q.num then Fails ZeroDivisor else Value (int_ℚ (whole_value o p.num q.num))) ≡ Overflows r → ⊥
+    first : (b : Bool) → (if not b then Fails (NotInteger p) else if not (is_whole q) then Fails (NotInteger q) else if is_zero q.numerator then Fails ZeroDivisor else Value (int_ℚ (whole_value o p.numerator q.numerator))) ≡ Overflows r → ⊥
     first true e = second (is_whole q) e
     first false e = cc
 

@@ -5,7 +5,7 @@ use Rattle.std.proofs.Math.Nat.{div-add-mod, mod-one, mod-le, zero-div}
 use Rattle.std.proofs.lemmas.Int.{ints, quot-rem, rem_below}
 use borrow.Author.Differences.{product_is}
 use Rattle.spec_rational.specs.Gcd.{gcd}
-use Rattle.spec_rational.specs.Rational.{ℚ, den, int_ℚ, ◌≤ℚ◌, ◌<ℚ◌}
+use Rattle.spec_rational.specs.Rational.{ℚ, denominator, int_ℚ, ◌≤ℚ◌, ◌<ℚ◌}
 use Rattle.spec_rational.proofs.Gcd.{gcd-zero, gcd-mod}
 use Rattle.spec_rational.proofs.Rational.{ratio_back}
 use Rattle.spec_rational.proofs.Order.{lt_or_le, lt_to_cross, lt_from_cross}
@@ -99,7 +99,7 @@ coprime_one n = gcd-mod n 1 ∙ gcd-zero 1 (n % 1) (mod-one n)
 
 -- a whole number by its parts
 abbrev pub whole_number : ℤ → ℚ
-whole_number z = record { num = z; below = 0; lowest = coprime_one (nat_abs z) }
+whole_number z = record { numerator = z; below = 0; lowest = coprime_one (nat_abs z) }
 
 pub int_ℚ-is : (z : ℤ) → int_ℚ z ≡ whole_number z
 unfolding int_ℚ
@@ -108,7 +108,7 @@ int_ℚ-is z = ratio_back (whole_number z)
 times_one : (z : ℤ) → z *ℤ pos 1 ≡ z
 times_one z = ring_ℤ (z ∷ []) (var 0 ⊗ int (pos 1)) (var 0) refl
 
-le_by_cross : (p q : ℚ) → (p.num *ℤ pos (den q)) ≤ℤ (q.num *ℤ pos (den p)) → p ≤ℚ q
+le_by_cross : (p q : ℚ) → (p.numerator *ℤ pos (denominator q)) ≤ℤ (q.numerator *ℤ pos (denominator p)) → p ≤ℚ q
 le_by_cross p q h = go (lt_or_le q p)
   where
     go : (q <ℚ p) ⊎ (p ≤ℚ q) → p ≤ℚ q
@@ -116,36 +116,36 @@ le_by_cross p q h = go (lt_or_le q p)
     go (inr k) = k
 
 module _ (z : ℤ) (q : ℚ) where
-  pub at_most : (z *ℤ pos (den q)) ≤ℤ q.num → int_ℚ z ≤ℚ q
-  at_most h = subst (λ p. p ≤ℚ q) (sym (int_ℚ-is z)) (le_by_cross (whole_number z) q (subst (λ n. (z *ℤ pos (den q)) ≤ℤ n) (sym (times_one q.num)) h))
+  pub at_most : (z *ℤ pos (denominator q)) ≤ℤ q.numerator → int_ℚ z ≤ℚ q
+  at_most h = subst (λ p. p ≤ℚ q) (sym (int_ℚ-is z)) (le_by_cross (whole_number z) q (subst (λ n. (z *ℤ pos (denominator q)) ≤ℤ n) (sym (times_one q.numerator)) h))
 
-  pub at_least : q.num ≤ℤ (z *ℤ pos (den q)) → q ≤ℚ int_ℚ z
-  at_least h = subst (λ p. q ≤ℚ p) (sym (int_ℚ-is z)) (le_by_cross q (whole_number z) (subst (λ n. n ≤ℤ (z *ℤ pos (den q))) (sym (times_one q.num)) h))
+  pub at_least : q.numerator ≤ℤ (z *ℤ pos (denominator q)) → q ≤ℚ int_ℚ z
+  at_least h = subst (λ p. q ≤ℚ p) (sym (int_ℚ-is z)) (le_by_cross q (whole_number z) (subst (λ n. n ≤ℤ (z *ℤ pos (denominator q))) (sym (times_one q.numerator)) h))
 
-  pub less : (z *ℤ pos (den q)) <ℤ q.num → int_ℚ z <ℚ q
-  less h = subst (λ p. p <ℚ q) (sym (int_ℚ-is z)) (lt_from_cross (whole_number z) q (subst (λ n. (z *ℤ pos (den q)) <ℤ n) (sym (times_one q.num)) h))
+  pub less : (z *ℤ pos (denominator q)) <ℤ q.numerator → int_ℚ z <ℚ q
+  less h = subst (λ p. p <ℚ q) (sym (int_ℚ-is z)) (lt_from_cross (whole_number z) q (subst (λ n. (z *ℤ pos (denominator q)) <ℤ n) (sym (times_one q.numerator)) h))
 
-  pub greater : q.num <ℤ (z *ℤ pos (den q)) → q <ℚ int_ℚ z
-  greater h = subst (λ p. q <ℚ p) (sym (int_ℚ-is z)) (lt_from_cross q (whole_number z) (subst (λ n. n <ℤ (z *ℤ pos (den q))) (sym (times_one q.num)) h))
+  pub greater : q.numerator <ℤ (z *ℤ pos (denominator q)) → q <ℚ int_ℚ z
+  greater h = subst (λ p. q <ℚ p) (sym (int_ℚ-is z)) (lt_from_cross q (whole_number z) (subst (λ n. n <ℤ (z *ℤ pos (denominator q))) (sym (times_one q.numerator)) h))
 
 pub floor_between : (q : ℚ) → (int_ℚ (floor q) ≤ℚ q) × (q <ℚ int_ℚ (floor q +ℤ pos 1))
 floor_between q =
-    let f = floor_quotient_is q.num (den q) (omega arith) in
-    let e : (floor q +ℤ pos 1) *ℤ pos (den q) ≡ floor q *ℤ pos (den q) +ℤ pos (den q) =
-    ring_ℤ (floor q ∷ pos (den q) ∷ []) ((var 0 ⊕ int (pos 1)) ⊗ var 1) ((var 0 ⊗ var 1) ⊕ var 1) refl in
-    (at_most (floor q) q f.below, greater (floor q +ℤ pos 1) q (subst (λ n. q.num <ℤ n) (sym e) f.above))
+    let f = floor_quotient_is q.numerator (denominator q) (omega arith) in
+    let e : (floor q +ℤ pos 1) *ℤ pos (denominator q) ≡ floor q *ℤ pos (denominator q) +ℤ pos (denominator q) =
+    ring_ℤ (floor q ∷ pos (denominator q) ∷ []) ((var 0 ⊕ int (pos 1)) ⊗ var 1) ((var 0 ⊗ var 1) ⊕ var 1) refl in
+    (at_most (floor q) q f.below, greater (floor q +ℤ pos 1) q (subst (λ n. q.numerator <ℤ n) (sym e) f.above))
 
 pub ceiling_between : (q : ℚ) → (q ≤ℚ int_ℚ (ceiling q)) × (int_ℚ (ceiling q -ℤ pos 1) <ℚ q)
 ceiling_between q =
-    let z = floor_quotient (neg_ℤ q.num) (den q) in
-    let f = floor_quotient_is (neg_ℤ q.num) (den q) (omega arith) in
+    let z = floor_quotient (neg_ℤ q.numerator) (denominator q) in
+    let f = floor_quotient_is (neg_ℤ q.numerator) (denominator q) (omega arith) in
     let b = f.below in
     let a = f.above in
-    let e : ceiling q *ℤ pos (den q) ≡ neg_ℤ (floor_quotient (neg_ℤ q.num) (den q) *ℤ pos (den q)) =
-    ring_ℤ (floor_quotient (neg_ℤ q.num) (den q) ∷ pos (den q) ∷ []) (minus (var 0) ⊗ var 1) (minus (var 0 ⊗ var 1)) refl in
-    let d : (ceiling q -ℤ pos 1) *ℤ pos (den q) ≡ neg_ℤ (floor_quotient (neg_ℤ q.num) (den q) *ℤ pos (den q) +ℤ pos (den q)) =
-    ring_ℤ (floor_quotient (neg_ℤ q.num) (den q) ∷ pos (den q) ∷ []) ((minus (var 0) ⊕ minus (int (pos 1))) ⊗ var 1) (minus ((var 0 ⊗ var 1) ⊕ var 1)) refl in
-    (at_least (ceiling q) q (subst (λ n. q.num ≤ℤ n) (sym e) (omega (arith, ints))), less (ceiling q -ℤ pos 1) q (subst (λ n. n <ℤ q.num) (sym d) (omega (arith, ints))))
+    let e : ceiling q *ℤ pos (denominator q) ≡ neg_ℤ (floor_quotient (neg_ℤ q.numerator) (denominator q) *ℤ pos (denominator q)) =
+    ring_ℤ (floor_quotient (neg_ℤ q.numerator) (denominator q) ∷ pos (denominator q) ∷ []) (minus (var 0) ⊗ var 1) (minus (var 0 ⊗ var 1)) refl in
+    let d : (ceiling q -ℤ pos 1) *ℤ pos (denominator q) ≡ neg_ℤ (floor_quotient (neg_ℤ q.numerator) (denominator q) *ℤ pos (denominator q) +ℤ pos (denominator q)) =
+    ring_ℤ (floor_quotient (neg_ℤ q.numerator) (denominator q) ∷ pos (denominator q) ∷ []) ((minus (var 0) ⊕ minus (int (pos 1))) ⊗ var 1) (minus ((var 0 ⊗ var 1) ⊕ var 1)) refl in
+    (at_least (ceiling q) q (subst (λ n. q.numerator ≤ℤ n) (sym e) (omega (arith, ints))), less (ceiling q -ℤ pos 1) q (subst (λ n. n <ℤ q.numerator) (sym d) (omega (arith, ints))))
 
 -- for a number and its denominator
 pub truncated_down : (n : ℤ) (d : ℕ) → pos 0 ≤ℤ n → int_div n (pos d) ≡ floor_quotient n d

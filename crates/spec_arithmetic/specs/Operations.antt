@@ -3,7 +3,7 @@ use Rattle.std.specs.Prelude.{ℕ, zero, suc, Bool, true, false, not, ◌||◌, 
 use Rattle.std.specs.Int.{is_negative, int_signum}
 use Rattle.std.specs.declared.cmp.Ordering.TheVariants.{Less, Equal, Greater}
 use Rattle.spec_rational.specs.Order.{cmp_ℚ}
-use Rattle.spec_rational.specs.Rational.{ℚ, den, int_ℚ, neg_ℚ, ◌+ℚ◌, ◌-ℚ◌, ◌*ℚ◌, ◌/ℚ◌}
+use Rattle.spec_rational.specs.Rational.{ℚ, denominator, int_ℚ, neg_ℚ, ◌+ℚ◌, ◌-ℚ◌, ◌*ℚ◌, ◌/ℚ◌}
 use Rattle.cq_frac.specs.Fits.{limit, left_term, right_term, common_den}
 use Rattle.cq_frac.specs.declared.Operation.{Operation}
 use Rattle.cq_frac.specs.declared.Operation.TheVariants.{Sum, Difference, Product, Quotient}
@@ -83,7 +83,7 @@ is_whole q = is_one q.below
 
 -- some part of the number reaches the limit
 abbrev pub exceeds : ℚ → Bool
-exceeds q = nat_le limit (nat_abs q.num) || nat_le limit (den q)
+exceeds q = nat_le limit (nat_abs q.numerator) || nat_le limit (denominator q)
 
 -- one of the four numbers that a sum goes through reaches it
 abbrev pub refuses_sum : ℚ → ℚ → Bool
@@ -104,8 +104,8 @@ refuses Quotient p q = exceeds (p /ℚ q)
 abbrev pub unary_value : UnaryOperation → ℚ → ℚ
 unary_value Same q = q
 unary_value Opposite q = neg_ℚ q
-unary_value Absolute q = if is_negative q.num then neg_ℚ q else q
-unary_value Sign q = int_ℚ (int_signum q.num)
+unary_value Absolute q = if is_negative q.numerator then neg_ℚ q else q
+unary_value Sign q = int_ℚ (int_signum q.numerator)
 unary_value Floor q = int_ℚ (floor q)
 unary_value Ceiling q = int_ℚ (ceiling q)
 unary_value Truncate q = int_ℚ (truncate q)
@@ -125,7 +125,7 @@ abbrev pub exact_result : Operation → ℚ → ℚ → Evaluated
 exact_result Sum p q = unless_refused Sum p q
 exact_result Difference p q = unless_refused Difference p q
 exact_result Product p q = unless_refused Product p q
-exact_result Quotient p q = if is_zero q.num then Fails ZeroDivisor else unless_refused Quotient p q
+exact_result Quotient p q = if is_zero q.numerator then Fails ZeroDivisor else unless_refused Quotient p q
 
 abbrev pub whole_value : WholeOperation → ℤ → ℤ → ℤ
 whole_value WholeQuotient m n = whole_quotient m n
@@ -137,8 +137,8 @@ abbrev pub whole_result : WholeOperation → ℚ → ℚ → Evaluated
 whole_result o p q =
     if not (is_whole p) then Fails (NotInteger p)
     else if not (is_whole q) then Fails (NotInteger q)
-    else if is_zero q.num then Fails ZeroDivisor
-    else Value (int_ℚ (whole_value o p.num q.num))
+    else if is_zero q.numerator then Fails ZeroDivisor
+    else Value (int_ℚ (whole_value o p.numerator q.numerator))
 
 abbrev pub least : ℚ → ℚ → ℚ
 least p q = elim (cmp_ℚ p q) [ Less ↦ p | Equal ↦ p | Greater ↦ q ]

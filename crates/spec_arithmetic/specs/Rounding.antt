@@ -1,6 +1,6 @@
 -- Rationals rounded to whole numbers, and quotients of whole numbers.
 use Rattle.std.specs.Prelude.{ℕ, suc, ◌/◌, ℤ, pos, negsuc, neg_ℤ, ◌*ℤ◌, ◌-ℤ◌, int_div}
-use Rattle.spec_rational.specs.Rational.{ℚ, den}
+use Rattle.spec_rational.specs.Rational.{ℚ, denominator}
 
 -- n / d rounded down, where d is not 0
 abbrev pub floor_quotient : ℤ → ℕ → ℤ
@@ -9,15 +9,15 @@ floor_quotient (negsuc n) d = negsuc (n / d)
 
 -- the greatest whole number that is at most q
 abbrev pub floor : ℚ → ℤ
-floor q = floor_quotient q.num (den q)
+floor q = floor_quotient q.numerator (denominator q)
 
 -- the least whole number that is at least q
 abbrev pub ceiling : ℚ → ℤ
-ceiling q = neg_ℤ (floor_quotient (neg_ℤ q.num) (den q))
+ceiling q = neg_ℤ (floor_quotient (neg_ℤ q.numerator) (denominator q))
 
 -- what is left of q without its fraction, which is rounded toward zero
 abbrev pub truncate : ℚ → ℤ
-truncate q = int_div q.num (pos (den q))
+truncate q = int_div q.numerator (pos (denominator q))
 
 -- m / n rounded down, where n is not 0
 abbrev pub floor_division : ℤ → ℤ → ℤ

@@ -79,8 +79,8 @@ pub fn quotients_of_whole_numbers()
 pub fn roundings()
     ensures floor { (q : ℚ) → (int_ℚ (floor q) ≤ℚ q) × (q <ℚ int_ℚ (floor q +ℤ pos 1)) }
     ensures ceiling { (q : ℚ) → (q ≤ℚ int_ℚ (ceiling q)) × (int_ℚ (ceiling q -ℤ pos 1) <ℚ q) }
-    ensures down { (q : ℚ) → pos 0 ≤ℤ q.num → truncate q ≡ floor q }
-    ensures up { (q : ℚ) → q.num ≤ℤ pos 0 → truncate q ≡ ceiling q }
+    ensures down { (q : ℚ) → pos 0 ≤ℤ q.numerator → truncate q ≡ floor q }
+    ensures up { (q : ℚ) → q.numerator ≤ℤ pos 0 → truncate q ≡ ceiling q }
 {}
 
 /// Expressions worked by hand.

@@ -2,7 +2,7 @@
 use Rattle.std.proofs.Common.{◌≡◌, ◌≢◌, ◌↔◌, ◌⊎◌, ℕ, List, [], ◌∷◌, Bool, true, false, cond, arith, Option, Some, None, refl, ap, ap₂, sym, subst, ◌∙◌, inl, inr}
 use Rattle.std.specs.Prelude.{◌==◌}
 use Rattle.spec_rational.specs.Rational.{ℚ, 0ℚ, ◌+ℚ◌, ◌*ℚ◌}
-use Rattle.spec_rational.specs.Sums.{Product, Mentions, sum_at, unit, factor_of}
+use Rattle.spec_rational.specs.Sums.{Monomial, Mentions, sum_at, unit, factor_of}
 use Rattle.spec_rational.proofs.Ring.{var, ◌⊕◌}
 use Rattle.spec_rational.proofs.Rational.{ring}
 use Rattle.spec_rational.proofs.Sign.{zero_or_not}
@@ -26,7 +26,7 @@ abbrev form_in : Option Linear → ℕ → Linear
 form_in None x = variable_form x
 form_in (Some f) x = f
 
-abbrev put_in : (ℕ → Option Linear) → ℚ → List Product → Linear
+abbrev put_in : (ℕ → Option Linear) → ℚ → List Monomial → Linear
 put_in solved c [] = constant_form c
 put_in solved c (m ∷ s) = sum_form (scaled_form m.factor (form_in (solved m.variable) m.variable)) (put_in solved c s)
 
@@ -34,7 +34,7 @@ value_at-form_in : (a : ℕ → ℚ) (o : Option Linear) (x : ℕ) → value_at 
 value_at-form_in a None x = value_at-variable_form a x
 value_at-form_in a (Some f) x = refl
 
-value_at-put_in : (solved : ℕ → Option Linear) (a : ℕ → ℚ) (c : ℚ) (s : List Product) → value_at a (put_in solved c s) ≡ c +ℚ sum_at (filled solved a) s
+value_at-put_in : (solved : ℕ → Option Linear) (a : ℕ → ℚ) (c : ℚ) (s : List Monomial) → value_at a (put_in solved c s) ≡ c +ℚ sum_at (filled solved a) s
 value_at-put_in solved a c [] = refl
 value_at-put_in solved a c (m ∷ s) =
     let f : Linear = form_in (solved m.variable) m.variable in

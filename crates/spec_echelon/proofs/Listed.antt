@@ -2,7 +2,7 @@
 use Rattle.std.proofs.Common.{◌≡◌, ◌≢◌, ℕ, List, [], ◌∷◌, Bool, true, false, cond, pos, refl, ap, ap₂, sym, subst, ◌∙◌, inl, inr}
 use Rattle.std.specs.List.{AllByRecursion}
 use Rattle.spec_rational.specs.Rational.{ℚ, 0ℚ, ◌+ℚ◌, ◌*ℚ◌}
-use Rattle.spec_rational.specs.Sums.{Product, Mentions, sum_at, unit, factor_of}
+use Rattle.spec_rational.specs.Sums.{Monomial, Mentions, sum_at, unit, factor_of}
 use Rattle.spec_rational.proofs.Ring.{var, int, ◌⊕◌, ◌⊗◌}
 use Rattle.spec_rational.proofs.Rational.{ring}
 use Rattle.spec_rational.proofs.Sums.{sum_at-plus, sum_at-times, sum_at-nowhere, factor_of-is, unit-self, unit-other}
@@ -17,7 +17,7 @@ abbrev pub DependsOn : List ℕ → Linear → Type 0
 DependsOn order f = (a b : ℕ → ℚ) → ((x : ℕ) → Has x order → a x ≡ b x) → value_at a f ≡ value_at b f
 
 -- the products of the variables of the order, where the factor is not zero
-abbrev pub listed : (ℕ → ℚ) → List ℕ → List Product
+abbrev pub listed : (ℕ → ℚ) → List ℕ → List Monomial
 listed factor [] = []
 listed factor (x ∷ order) = in_front (record { variable = x; factor = factor x }) (listed factor order)
 
@@ -78,7 +78,7 @@ only_on-there (x ∷ order) a y d (inr k) =
     ∙ ring (a x ∷ only_on order a y ∷ []) (var 1) (var 0 ⊗ int (pos 0) ⊕ var 1) refl
     ∙ ap (λ u. a x *ℚ u +ℚ only_on order a y) (sym (unit-other x y (λ e. d.0 (subst (λ z. Has z order) (sym e) k))))
 
-sum_at-only_on : (order : List ℕ) (a : ℕ → ℚ) (s : List Product) → sum_at (only_on order a) s ≡ sum_at a (listed (λ x. factor_of x s) order)
+sum_at-only_on : (order : List ℕ) (a : ℕ → ℚ) (s : List Monomial) → sum_at (only_on order a) s ≡ sum_at a (listed (λ x. factor_of x s) order)
 sum_at-only_on [] a s = sum_at-nowhere s
 sum_at-only_on (x ∷ order) a s =
     sum_at-plus (λ y. a x *ℚ unit x y) (only_on order a) s

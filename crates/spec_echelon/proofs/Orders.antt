@@ -1,6 +1,6 @@
 -- Variables in an order.
 use Rattle.std.proofs.Common.{◌≡◌, ℕ, List, [], ◌∷◌, ◌++◌, subst, inl, inr}
-use Rattle.spec_rational.specs.Sums.{Product, Mentions}
+use Rattle.spec_rational.specs.Sums.{Monomial, Mentions}
 use Rattle.spec_linear.specs.Solution.{Has}
 use Rattle.spec_echelon.specs.Echelon.{AreDistinct, InOrder, variables}
 
@@ -26,7 +26,7 @@ in_order-behind [] targets x xs d h i = i
 in_order-behind (v ∷ front) targets x xs d h (inl i) = absurd (d.0 (subst (λ z. Has z (front ++ targets)) i.0 (has_behind front targets x h)))
 in_order-behind (v ∷ front) targets x xs d h (inr i) = in_order-behind front targets x xs d.1 h i
 
-pub mentions-has : (x : ℕ) (s : List Product) → Mentions x s → Has x (variables s)
+pub mentions-has : (x : ℕ) (s : List Monomial) → Mentions x s → Has x (variables s)
 mentions-has x [] h = h
 mentions-has x (m ∷ s) (inl e) = inl e
 mentions-has x (m ∷ s) (inr h) = inr (mentions-has x s h)

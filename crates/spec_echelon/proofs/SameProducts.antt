@@ -2,7 +2,7 @@
 use Rattle.std.proofs.Common.{◌≡◌, ◌≢◌, ℕ, List, [], ◌∷◌, pos, refl, ap, ap₂, sym, subst, ◌∙◌, inl, inr}
 use Rattle.std.specs.List.{AllByRecursion}
 use Rattle.spec_rational.specs.Rational.{ℚ, 0ℚ, ◌+ℚ◌, ◌*ℚ◌, ◌-ℚ◌}
-use Rattle.spec_rational.specs.Sums.{Product, Mentions, sum_at, unit}
+use Rattle.spec_rational.specs.Sums.{Monomial, Mentions, sum_at, unit}
 use Rattle.spec_rational.proofs.Ring.{var, int, ◌⊕◌, ◌⊗◌, minus}
 use Rattle.spec_rational.proofs.Rational.{ring}
 use Rattle.spec_rational.proofs.Sums.{sum_at-agrees, sum_at-nowhere, unit-self, unit-other}
@@ -19,33 +19,33 @@ cancelled c p q e =
 
 -- ---- a unit tells the factor of its variable
 
-unit-nowhere : (x : ℕ) (s : List Product) → (Mentions x s → ⊥) → sum_at (unit x) s ≡ 0ℚ
+unit-nowhere : (x : ℕ) (s : List Monomial) → (Mentions x s → ⊥) → sum_at (unit x) s ≡ 0ℚ
 unit-nowhere x s n = sum_at-agrees (unit x) (λ y. 0ℚ) s (λ y k. unit-other x y (λ e. n (subst (λ z. Mentions z s) (sym e) k))) ∙ sum_at-nowhere s
 
-unit-first : (m : Product) (s : List Product) → (Mentions m.variable s → ⊥) → sum_at (unit m.variable) (m ∷ s) ≡ m.factor
+unit-first : (m : Monomial) (s : List Monomial) → (Mentions m.variable s → ⊥) → sum_at (unit m.variable) (m ∷ s) ≡ m.factor
 unit-first m s n =
     ap₂ (λ v w. m.factor *ℚ v +ℚ w) (unit-self m.variable) (unit-nowhere m.variable s n)
     ∙ ring (m.factor ∷ []) (var 0 ⊗ int (pos 1) ⊕ int (pos 0)) (var 0) refl
 
 -- a first product stands once, where the order has its variable once
-once : (order : List ℕ) (m : Product) (s : List Product) → AreDistinct order → InOrder order (variables (m ∷ s)) → Mentions m.variable s → ⊥
+once : (order : List ℕ) (m : Monomial) (s : List Monomial) → AreDistinct order → InOrder order (variables (m ∷ s)) → Mentions m.variable s → ⊥
 once order m s d i k = in_order-once order m.variable (variables s) d i (mentions-has m.variable s k)
 
 -- products with the same sums don't lack the variable of a first product
-not_lacked : (order : List ℕ) (m : Product) (s t : List Product) → AreDistinct order → InOrder order (variables (m ∷ s)) → m.factor ≢ 0ℚ
+not_lacked : (order : List ℕ) (m : Monomial) (s t : List Monomial) → AreDistinct order → InOrder order (variables (m ∷ s)) → m.factor ≢ 0ℚ
     → ((a : ℕ → ℚ) → sum_at a (m ∷ s) ≡ sum_at a t) → (Mentions m.variable t → ⊥) → ⊥
 not_lacked order m s t d i n e k = n (sym (unit-first m s (once order m s d i)) ∙ e (unit m.variable) ∙ unit-nowhere m.variable t k)
 
 -- what stands in the rest of the order lacks the first variable
-lacks : (v x : ℕ) (order : List ℕ) (t : List Product) → (Has v order → ⊥) → x ≡ v → InOrder order (variables t) → Mentions x t → ⊥
+lacks : (v x : ℕ) (order : List ℕ) (t : List Monomial) → (Has v order → ⊥) → x ≡ v → InOrder order (variables t) → Mentions x t → ⊥
 lacks v x order t n e i k = n (subst (λ z. Has z order) e (in_order-has order (variables t) i x (mentions-has x t k)))
 
-abbrev AreNonzero : List Product → Type 0
+abbrev AreNonzero : List Monomial → Type 0
 AreNonzero s = AllByRecursion (λ m. m.factor ≢ 0ℚ) s
 
 -- ---- the same sums
 
-module _ (v : ℕ) (order : List ℕ) (d : AreDistinct (v ∷ order)) (m n : Product) (s t : List Product) (is : m.variable ≡ v) (it : n.variable ≡ v)
+module _ (v : ℕ) (order : List ℕ) (d : AreDistinct (v ∷ order)) (m n : Monomial) (s t : List Monomial) (is : m.variable ≡ v) (it : n.variable ≡ v)
     (i : InOrder order (variables s)) (j : InOrder order (variables t)) (same : (a : ℕ → ℚ) → sum_at a (m ∷ s) ≡ sum_at a (n ∷ t)) where
   first_same : m ≡ n
   first_same = product_same m n (is ∙ sym it) (
@@ -53,16 +53,16 @@ module _ (v : ℕ) (order : List ℕ) (d : AreDistinct (v ∷ order)) (m n : Pro
       ∙ ap (λ x. sum_at (unit x) (n ∷ t)) (is ∙ sym it) ∙ unit-first n t (lacks v n.variable order t d.0 it j))
 
   rest_same : (a : ℕ → ℚ) → sum_at a s ≡ sum_at a t
-  rest_same a = cancelled (m.factor *ℚ a m.variable) (sum_at a s) (sum_at a t) (same a ∙ ap (λ (p : Product). p.factor *ℚ a p.variable +ℚ sum_at a t) (sym first_same))
+  rest_same a = cancelled (m.factor *ℚ a m.variable) (sum_at a s) (sum_at a t) (same a ∙ ap (λ (p : Monomial). p.factor *ℚ a p.variable +ℚ sum_at a t) (sym first_same))
 
-products_same : (order : List ℕ) (s t : List Product) → AreDistinct order → InOrder order (variables s) → InOrder order (variables t) → AreNonzero s → AreNonzero t
+products_same : (order : List ℕ) (s t : List Monomial) → AreDistinct order → InOrder order (variables s) → InOrder order (variables t) → AreNonzero s → AreNonzero t
     → ((a : ℕ → ℚ) → sum_at a s ≡ sum_at a t) → s ≡ t
 products_same order [] [] d i j k l e = refl
 products_same order (m ∷ s) [] d i j k l e = absurd (not_lacked order m s [] d i k.0 e (λ w. w))
 products_same order [] (n ∷ t) d i j k l e = absurd (not_lacked order n t [] d j l.0 (λ a. sym (e a)) (λ w. w))
 products_same [] (m ∷ s) (n ∷ t) d i j k l e = absurd i
 products_same (v ∷ order) (m ∷ s) (n ∷ t) d (inl i) (inl j) k l e =
-    ap₂ (λ (p : Product) r. p ∷ r) (first_same v order d m n s t i.0 j.0 i.1 j.1 e)
+    ap₂ (λ (p : Monomial) r. p ∷ r) (first_same v order d m n s t i.0 j.0 i.1 j.1 e)
     (products_same order s t d.1 i.1 j.1 k.1 l.1 (rest_same v order d m n s t i.0 j.0 i.1 j.1 e))
 products_same (v ∷ order) (m ∷ s) (n ∷ t) d (inl i) (inr j) k l e =
     absurd (not_lacked (v ∷ order) m s (n ∷ t) d (inl i) k.0 e (lacks v m.variable order (n ∷ t) d.0 i.0 j))

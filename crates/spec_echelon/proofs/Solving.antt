@@ -2,7 +2,7 @@
 use Rattle.std.proofs.Common.{◌≡◌, ◌≢◌, ℕ, List, [], ◌∷◌, ◌++◌, Option, Some, None, pos, refl, ap, ap₂, sym, subst, ◌∙◌, inl, inr}
 use Rattle.std.specs.List.{AllByRecursion}
 use Rattle.spec_rational.specs.Rational.{ℚ, 0ℚ, 1ℚ, ◌+ℚ◌, ◌*ℚ◌, ◌-ℚ◌}
-use Rattle.spec_rational.specs.Sums.{Product, Mentions, sum_at, unit, negated_products}
+use Rattle.spec_rational.specs.Sums.{Monomial, Mentions, sum_at, unit, negated_products}
 use Rattle.spec_rational.proofs.Ring.{var, int, ◌⊕◌, ◌⊗◌, minus}
 use Rattle.spec_rational.proofs.Rational.{ring}
 use Rattle.spec_rational.proofs.Sign.{one_not_zero}
@@ -20,7 +20,7 @@ agrees_through : (targets : List ℕ) (a : ℕ → ℚ) (p : Point) → ((x : �
 agrees_through [] a p h = tt
 agrees_through (x ∷ targets) a p h = (h x (inl refl), agrees_through targets a p (λ y k. h y (inr k)))
 
-pub negated-mentions : (x : ℕ) (s : List Product) → Mentions x (negated_products s) → Mentions x s
+pub negated-mentions : (x : ℕ) (s : List Monomial) → Mentions x (negated_products s) → Mentions x s
 negated-mentions x [] h = h
 negated-mentions x (m ∷ s) (inl e) = inl e
 negated-mentions x (m ∷ s) (inr h) = inr (negated-mentions x s h)
@@ -55,7 +55,7 @@ module _ (order : List ℕ) (l : List Constraint) (solved : ℕ → Option Linea
       one_not_zero (sym (filled-free solved (λ y. 1ℚ) x e) ∙ same-at (λ y. 1ℚ) x q f ∙ sym (same-at (λ y. 0ℚ) x q f) ∙ filled-free solved (λ y. 0ℚ) x e)
 
   -- a form that has a product has two values
-  pub dependent-not_fixed : (x : ℕ) (f : Linear) (m : Product) (rest : List Product) → solved x ≡ Some f → f.products ≡ m ∷ rest → NotFixed l x
+  pub dependent-not_fixed : (x : ℕ) (f : Linear) (m : Monomial) (rest : List Monomial) → solved x ≡ Some f → f.products ≡ m ∷ rest → NotFixed l x
   dependent-not_fixed x f m rest e z q h =
       nonzero (ring (m.factor ∷ f.constant ∷ []) (var 0) ((var 1 ⊕ var 0) ⊕ minus (var 1)) refl
       ∙ ap (λ w. w -ℚ f.constant) (at_unit ∙ at_zero) ∙ ring (f.constant ∷ []) (var 0 ⊕ minus (var 0)) (int (pos 0)) refl)

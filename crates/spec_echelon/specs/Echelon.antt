@@ -2,7 +2,7 @@
 use Rattle.std.specs.Prelude.{◌≡◌, ◌≢◌, ◌⊎◌, ℕ, List, [], ◌∷◌, map, ⊤}
 use Rattle.std.specs.List.{AllByRecursion}
 use Rattle.spec_rational.specs.Rational.{0ℚ, 1ℚ, neg_ℚ}
-use Rattle.spec_rational.specs.Sums.{Product, Mentions, negated_products}
+use Rattle.spec_rational.specs.Sums.{Monomial, Mentions, negated_products}
 use Rattle.spec_linear.specs.declared.Relation.TheVariants.{Eq}
 use Rattle.spec_linear.specs.Form.{Linear}
 use Rattle.spec_linear.specs.Solution.{Constraint, Entails, Has}
@@ -41,16 +41,16 @@ InOrder [] (x ∷ xs) = ⊥
 InOrder (v ∷ order) (x ∷ xs) = ((x ≡ v) × InOrder order xs) ⊎ InOrder order (x ∷ xs)
 
 -- the variables of products
-abbrev pub variables : List Product → List ℕ
+abbrev pub variables : List Monomial → List ℕ
 variables s = map (λ m. m.variable) s
 
 -- a variable and products behind it in the order, no factor zero
-pub record IsBefore (order : List ℕ) (x : ℕ) (s : List Product) : Type 0 where
+pub record IsBefore (order : List ℕ) (x : ℕ) (s : List Monomial) : Type 0 where
   pub ordered : InOrder order (x ∷ variables s)
   pub nonzero : AllByRecursion (λ m. m.factor ≢ 0ℚ) s
 
 -- no variable of the products is solved for
-abbrev pub MentionsNone : List Solved → List Product → Type 0
+abbrev pub MentionsNone : List Solved → List Monomial → Type 0
 MentionsNone es s = AllByRecursion (λ e. Mentions e.variable s → ⊥) es
 
 -- each product is of one of the variables

@@ -3,7 +3,7 @@
 #![tactic(auto)]
 
 ghost use Rattle.std.specs.Prelude.{◌≡◌, ◌⊎◌, ℕ, List, [], ◌∷◌, ◌++◌, Option, Some, None};
-ghost use Rattle.spec_rational.specs.Sums.{Product};
+ghost use Rattle.spec_rational.specs.Sums.{Monomial};
 ghost use Rattle.spec_linear.specs.Form.{Linear};
 ghost use Rattle.spec_linear.specs.Solution.{Constraint, Solvable, Unsolvable, AreEquations, MentionsOnly, Fixed, Same};
 ghost use Rattle.spec_echelon.specs.Echelon.{Solved, equations, AreDistinct, IsEchelon};
@@ -19,7 +19,7 @@ pub fn constant_forms_are_fixed()
     ensures constant { (order : List ℕ) (l : List Constraint) (solved : ℕ → Option Linear) → IsSolvedForm order l solved →
         (x : ℕ) (f : Linear) → solved x ≡ Some f → f.products ≡ [] → Fixed l x f.constant }
     ensures dependent { (order : List ℕ) (l : List Constraint) (solved : ℕ → Option Linear) → IsSolvedForm order l solved →
-        (x : ℕ) (f : Linear) (m : Product) (rest : List Product) → solved x ≡ Some f → f.products ≡ m ∷ rest → NotFixed l x }
+        (x : ℕ) (f : Linear) (m : Monomial) (rest : List Monomial) → solved x ≡ Some f → f.products ≡ m ∷ rest → NotFixed l x }
     ensures free { (order : List ℕ) (l : List Constraint) (solved : ℕ → Option Linear) → IsSolvedForm order l solved →
         (x : ℕ) → solved x ≡ None → NotFixed l x }
 {}

@@ -2,7 +2,7 @@
 use Rattle.std.proofs.Common.{◌≡◌, ◌⊎◌, inl, inr, ℕ, List, [], ◌∷◌, pos, refl, ap, ap₂, sym, subst, ◌∙◌}
 use Rattle.std.specs.Prelude.{⊤}
 use Rattle.spec_rational.specs.Rational.{ℚ, 0ℚ, 1ℚ, ◌+ℚ◌, ◌*ℚ◌, inv_ℚ, IsPositive, IsNotNegative}
-use Rattle.spec_rational.specs.Sums.{Product, sum_at}
+use Rattle.spec_rational.specs.Sums.{Monomial, sum_at}
 use Rattle.spec_rational.proofs.Ring.{var, int, ◌⊕◌, ◌⊗◌}
 use Rattle.spec_rational.proofs.Rational.{ring, add_comm}
 use Rattle.spec_rational.proofs.Sign.{pos_add, nonneg_add, nonneg_mul, pos_nonneg, pos_one, inv_mul, inv_pos}
@@ -82,7 +82,7 @@ far t a w x = inv_ℚ (t +ℚ 1ℚ) *ℚ (t *ℚ a x +ℚ w x)
 more_than_zero : (t : ℚ) → IsNotNegative t → IsPositive (t +ℚ 1ℚ)
 more_than_zero t n = subst IsPositive (add_comm 1ℚ t) (pos_add pos_one n)
 
-sum_at-far : (t : ℚ) (a w : ℕ → ℚ) (s : List Product) → sum_at (far t a w) s ≡ inv_ℚ (t +ℚ 1ℚ) *ℚ (t *ℚ sum_at a s +ℚ sum_at w s)
+sum_at-far : (t : ℚ) (a w : ℕ → ℚ) (s : List Monomial) → sum_at (far t a w) s ≡ inv_ℚ (t +ℚ 1ℚ) *ℚ (t *ℚ sum_at a s +ℚ sum_at w s)
 sum_at-far t a w s =
     sum_at-times (inv_ℚ (t +ℚ 1ℚ)) (λ x. t *ℚ a x +ℚ w x) s
     ∙ ap (λ q. inv_ℚ (t +ℚ 1ℚ) *ℚ q) (sum_at-plus (λ x. t *ℚ a x) w s ∙ ap (λ q. q +ℚ sum_at w s) (sum_at-times t a s))

@@ -1,7 +1,7 @@
 -- A form whose coefficients are all zero is a number: with its like terms collected it has no product.
 use Rattle.std.proofs.Common.{◌≡◌, ℕ, List, [], ◌∷◌, pos, refl, ap, ap₂, sym, ◌∙◌}
 use Rattle.spec_rational.specs.Rational.{ℚ, 0ℚ, ◌+ℚ◌, ◌-ℚ◌}
-use Rattle.spec_rational.specs.Sums.{Product, sum_at, factor_of, unit, scaled_products}
+use Rattle.spec_rational.specs.Sums.{Monomial, sum_at, factor_of, unit, scaled_products}
 use Rattle.spec_rational.proofs.Ring.{var, int, ◌⊕◌, ◌⊗◌, minus}
 use Rattle.spec_rational.proofs.Rational.{ring}
 use Rattle.spec_rational.proofs.Sums.{factor_of-is, sum_at-nowhere}
@@ -11,28 +11,28 @@ use Rattle.spec_linear.proofs.Ordered.{IsForm-sum_form, IsForm-scaled_form, IsFo
 use Rattle.spec_inequalities.specs.Certificate.{HasNoVariable}
 
 -- the products added one by one
-abbrev collected : List Product → Linear
+abbrev collected : List Monomial → Linear
 collected [] = constant_form 0ℚ
 collected (m ∷ s) = sum_form (scaled_form m.factor (variable_form m.variable)) (collected s)
 
-IsForm-collected : (s : List Product) → IsForm (collected s)
+IsForm-collected : (s : List Monomial) → IsForm (collected s)
 IsForm-collected [] = tt
 IsForm-collected (m ∷ s) =
     IsForm-sum_form (scaled_form m.factor (variable_form m.variable)) (collected s)
     (IsForm-scaled_form m.factor (variable_form m.variable) (IsForm-variable_form m.variable)) (IsForm-collected s)
 
-sum_at-collected : (a : ℕ → ℚ) (s : List Product) → sum_at a (collected s).products ≡ sum_at a s
+sum_at-collected : (a : ℕ → ℚ) (s : List Monomial) → sum_at a (collected s).products ≡ sum_at a s
 sum_at-collected a [] = refl
 sum_at-collected a (m ∷ s) =
-    let one : List Product = scaled_products m.factor (variable_form m.variable).products in
+    let one : List Monomial = scaled_products m.factor (variable_form m.variable).products in
     sum_at-sum_products a (without_zeros one) (collected s).products
     ∙ ap₂ (λ p q. p +ℚ q) (sum_at-without_zeros a one) (sum_at-collected a s)
     ∙ ring (m.factor ∷ a m.variable ∷ sum_at a s ∷ []) ((var 0 ⊗ int (pos 1)) ⊗ var 1 ⊕ int (pos 0) ⊕ var 2) (var 0 ⊗ var 1 ⊕ var 2) refl
 
-factor_of-collected : (x : ℕ) (s : List Product) → factor_of x (collected s).products ≡ factor_of x s
+factor_of-collected : (x : ℕ) (s : List Monomial) → factor_of x (collected s).products ≡ factor_of x s
 factor_of-collected x s = factor_of-is x (collected s).products ∙ sum_at-collected (unit x) s ∙ sym (factor_of-is x s)
 
-sum_vanishes : (a : ℕ → ℚ) (s : List Product) → ((x : ℕ) → factor_of x s ≡ 0ℚ) → sum_at a s ≡ 0ℚ
+sum_vanishes : (a : ℕ → ℚ) (s : List Monomial) → ((x : ℕ) → factor_of x s ≡ 0ℚ) → sum_at a s ≡ 0ℚ
 sum_vanishes a s z =
     sym (sum_at-collected a s)
     ∙ ap (sum_at a) (products_same 0 (collected s).products [] (IsForm-collected s) tt (λ x. factor_of-collected x s ∙ z x))

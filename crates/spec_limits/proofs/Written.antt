@@ -1,7 +1,7 @@
 -- Over a dictionary each form of the quantities is written in one way, and in no other.
 use Rattle.std.proofs.Common.{◌≡◌, inl, inr, ℕ, List, [], ◌∷◌, pos, refl, ap, ap₂, sym, subst, ◌∙◌}
 use Rattle.spec_rational.specs.Rational.{ℚ, 0ℚ, 1ℚ, ◌+ℚ◌, ◌*ℚ◌, neg_ℚ}
-use Rattle.spec_rational.specs.Sums.{Product, Mentions, sum_at}
+use Rattle.spec_rational.specs.Sums.{Monomial, Mentions, sum_at}
 use Rattle.spec_rational.proofs.Ring.{var, int, ◌⊕◌, ◌⊗◌, minus}
 use Rattle.spec_rational.proofs.Rational.{ring}
 use Rattle.spec_linear.specs.Form.{Linear, value_at}
@@ -39,7 +39,7 @@ module _ (l : List Constraint) (asked : List Linear) (zeros columns : List Quant
   number_written : (c : ℚ) → IsWritten l zeros columns (record { products = []; constant = c }) (record { constant = c; entry = λ q. 0ℚ })
   number_written c = record { same = λ v z. sym (ap (λ r. c +ℚ r) (nothing_over l v columns columns)) }
 
-  products_written : (c : ℚ) (s : List Product) → ((x : ℕ) → Mentions x s → IsQuantity l asked (variable x))
+  products_written : (c : ℚ) (s : List Monomial) → ((x : ℕ) → Mentions x s → IsQuantity l asked (variable x))
       → (e : Expression) × IsWritten l zeros columns (record { products = s; constant = c }) e
   products_written c [] h = (record { constant = c; entry = λ q. 0ℚ }, number_written c)
   products_written c (m ∷ s) h =

@@ -2,7 +2,7 @@
 -- No law takes these relations apart: only code introduces them, so that they can grow by constructors.
 use Rattle.std.specs.Prelude.{◌≡◌, ◌⊎◌, ◌↔◌, ℕ, List, ◌∷◌, ◌++◌, ⊤}
 use Rattle.spec_rational.specs.Rational.{ℚ, 0ℚ, 1ℚ, ◌*ℚ◌, ◌/ℚ◌, neg_ℚ, IsPositive}
-use Rattle.spec_rational.specs.Sums.{Product, factor_of}
+use Rattle.spec_rational.specs.Sums.{Monomial, factor_of}
 use Rattle.spec_linear.specs.Form.{Linear, IsForm, variable_form}
 use Rattle.spec_linear.specs.Solution.{Constraint, Has}
 use Rattle.cq_frac.specs.declared.Operation.{Operation}
@@ -97,9 +97,9 @@ pub record Adding (m : Moment) : Type 0 where
   pub is_asked : Has form m.asked
   pub ordered : IsForm form
   -- the earlier products, the one that is added, and the later ones
-  pub earlier : List Product
-  pub now : Product
-  pub later : List Product
+  pub earlier : List Monomial
+  pub now : Monomial
+  pub later : List Monomial
   pub split : form.products ≡ earlier ++ now ∷ later
   -- the numbers of the variable's row, and what the constant and the earlier variables gave
   pub numbers : Expression

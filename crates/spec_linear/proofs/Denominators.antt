@@ -1,8 +1,8 @@
 -- Rationals for finitely many variables have one denominator, so rationals that satisfy a list extend to a solution.
 use Rattle.std.proofs.Common.{◌≡◌, ◌↔◌, ◌⊎◌, inl, inr, ℕ, ◌*◌, List, [], ◌∷◌, ◌++◌, Bool, true, false, cond, ℤ, pos, ◌*ℤ◌, arith, refl, ap, sym, subst, ◌∙◌, mul-pos, zero-lt-suc}
 use Rattle.std.specs.Prelude.{◌==◌, map}
-use Rattle.spec_rational.specs.Rational.{ℚ, den, ratio, ◌+ℚ◌}
-use Rattle.spec_rational.specs.Sums.{Product, Mentions}
+use Rattle.spec_rational.specs.Rational.{ℚ, denominator, ratio, ◌+ℚ◌}
+use Rattle.spec_rational.specs.Sums.{Monomial, Mentions}
 use Rattle.spec_rational.proofs.Ring.{var, ◌⊗◌}
 use Rattle.spec_rational.proofs.IntRing.{ring_ℤ}
 use Rattle.spec_rational.proofs.Rational.{ratio_same, ratio_back}
@@ -23,14 +23,14 @@ has_right x [] t h = h
 has_right x (y ∷ s) t h = inr (has_right x s t h)
 
 -- the variables of a list of constraints, as often as they stand there
-abbrev pub variables_of : List Product → List ℕ
+abbrev pub variables_of : List Monomial → List ℕ
 variables_of s = map (λ m. m.variable) s
 
 abbrev variables : List Constraint → List ℕ
 variables [] = []
 variables (c ∷ l) = variables_of c.form.products ++ variables l
 
-pub has_mentioned : (x : ℕ) (s : List Product) → Mentions x s → Has x (variables_of s)
+pub has_mentioned : (x : ℕ) (s : List Monomial) → Mentions x s → Has x (variables_of s)
 has_mentioned x [] h = absurd h
 has_mentioned x (m ∷ s) (inl e) = inl e
 has_mentioned x (m ∷ s) (inr h) = inr (has_mentioned x s h)
@@ -54,26 +54,26 @@ satisfies_agrees a b (c ∷ l) e h = (holds_agrees a b c (λ x k. e x (inl k)) h
 -- the point with q at one more variable, over a greater denominator
 abbrev widened : Point → ℕ → ℚ → Point
 widened p x q = record {
-  denominator = p.denominator * den q;
+  denominator = p.denominator * denominator q;
   positive = mul-pos p.positive (zero-lt-suc q.below);
-  numerator = λ y. cond (x == y) (q.num *ℤ pos p.denominator) (p.numerator y *ℤ pos (den q));
+  numerator = λ y. cond (x == y) (q.numerator *ℤ pos p.denominator) (p.numerator y *ℤ pos (denominator q));
 }
 
-same_ratio : (p : Point) (q : ℚ) (n : ℤ) → ratio (n *ℤ pos (den q)) (p.denominator * den q) ≡ ratio n p.denominator
+same_ratio : (p : Point) (q : ℚ) (n : ℤ) → ratio (n *ℤ pos (denominator q)) (p.denominator * denominator q) ≡ ratio n p.denominator
 same_ratio p q n =
     ratio_same _ n _ p.denominator (mul-pos p.positive (zero-lt-suc q.below)) p.positive
-    (ring_ℤ (n ∷ pos (den q) ∷ pos p.denominator ∷ []) ((var 0 ⊗ var 1) ⊗ var 2) (var 0 ⊗ (var 2 ⊗ var 1)) refl)
+    (ring_ℤ (n ∷ pos (denominator q) ∷ pos p.denominator ∷ []) ((var 0 ⊗ var 1) ⊗ var 2) (var 0 ⊗ (var 2 ⊗ var 1)) refl)
 
-own_ratio : (p : Point) (q : ℚ) → ratio (q.num *ℤ pos p.denominator) (p.denominator * den q) ≡ q
+own_ratio : (p : Point) (q : ℚ) → ratio (q.numerator *ℤ pos p.denominator) (p.denominator * denominator q) ≡ q
 own_ratio p q =
-    ratio_same _ q.num _ (den q) (mul-pos p.positive (zero-lt-suc q.below)) (zero-lt-suc q.below)
-    (ring_ℤ (q.num ∷ pos p.denominator ∷ pos (den q) ∷ []) ((var 0 ⊗ var 1) ⊗ var 2) (var 0 ⊗ (var 1 ⊗ var 2)) refl)
+    ratio_same _ q.numerator _ (denominator q) (mul-pos p.positive (zero-lt-suc q.below)) (zero-lt-suc q.below)
+    (ring_ℤ (q.numerator ∷ pos p.denominator ∷ pos (denominator q) ∷ []) ((var 0 ⊗ var 1) ⊗ var 2) (var 0 ⊗ (var 1 ⊗ var 2)) refl)
     ∙ ratio_back q
 
 widened_is : (p : Point) (x y : ℕ) (q : ℚ) → number (widened p x q) y ≡ cond (x == y) q (number p y)
 widened_is p x y q = go (x == y)
   where
-    go : (b : Bool) → ratio (cond b (q.num *ℤ pos p.denominator) (p.numerator y *ℤ pos (den q))) (p.denominator * den q) ≡ cond b q (ratio (p.numerator y) p.denominator)
+    go : (b : Bool) → ratio (cond b (q.numerator *ℤ pos p.denominator) (p.numerator y *ℤ pos (denominator q))) (p.denominator * denominator q) ≡ cond b q (ratio (p.numerator y) p.denominator)
     go true = own_ratio p q
     go false = same_ratio p q (p.numerator y)
 

@@ -5,7 +5,7 @@ use Rattle.spec_rational.proofs.Ring.{var, int, ◌⊕◌, minus}
 use Rattle.spec_rational.proofs.Rational.{ring}
 use Rattle.spec_rational.proofs.Sign.{one_not_zero}
 use Rattle.spec_linear.specs.Form.{value_at, constant_form, variable_form, difference_form}
-use Rattle.spec_linear.specs.Solution.{Constraint, false_constraint, equal_to, Point, number, Holds, Solves, Solvable, Unsolvable, Fixed, Fixes, Entails, AreAlike, HoldsAt, Satisfies, Has}
+use Rattle.spec_linear.specs.Solution.{Constraint, false_constraint, equal_to, Point, number, Holds, Solves, Solvable, Unsolvable, Fixed, Fixes, Entails, Equivalent, HoldsAt, Satisfies, Has}
 use Rattle.spec_linear.proofs.Values.{value_at-constant_form, value_at-variable_form, value_at-difference_form}
 use Rattle.spec_linear.proofs.Points.{holds_same, solves_same}
 use Rattle.spec_linear.proofs.Denominators.{extends, agrees_at, variables_of, has_mentioned, holds_agrees}
@@ -35,7 +35,7 @@ pub fixed_more : (l m : List Constraint) (x : ℕ) (q : ℚ) → Fixed l x q →
 fixed_more l m x q f s = record { solvable = s; always = λ p h. f.always p ((solves_append p l m).0 h).0 }
 
 -- an entailed member may stand anywhere, or not at all
-pub entailed_member : (l m : List Constraint) (c : Constraint) → Entails (l ++ m) c → AreAlike (l ++ c ∷ m) (l ++ m)
+pub entailed_member : (l m : List Constraint) (c : Constraint) → Entails (l ++ m) c → Equivalent (l ++ c ∷ m) (l ++ m)
 entailed_member l m c e p = (
   (λ h. let k = (solves_append p l (c ∷ m)).0 h in (solves_append p l m).1 (k.0, k.1.1)),
   (λ h. let k = (solves_append p l m).0 h in (solves_append p l (c ∷ m)).1 (k.0, (e p h, k.1))),
@@ -97,11 +97,11 @@ fixed_same l x q = (
 
 -- ---- lists with the same solutions
 
-pub alike_solvable : (l m : List Constraint) → AreAlike l m → Solvable l → Solvable m
+pub alike_solvable : (l m : List Constraint) → Equivalent l m → Solvable l → Solvable m
 alike_solvable l m e s = (s.0, (e s.0).0 s.1)
 
-pub alike_entails : (l m : List Constraint) (c : Constraint) → AreAlike l m → Entails l c → Entails m c
+pub alike_entails : (l m : List Constraint) (c : Constraint) → Equivalent l m → Entails l c → Entails m c
 alike_entails l m c e k p h = k p ((e p).1 h)
 
-pub alike_fixed : (l m : List Constraint) (x : ℕ) (q : ℚ) → AreAlike l m → Fixed l x q → Fixed m x q
+pub alike_fixed : (l m : List Constraint) (x : ℕ) (q : ℚ) → Equivalent l m → Fixed l x q → Fixed m x q
 alike_fixed l m x q e f = record { solvable = alike_solvable l m e f.solvable; always = λ p h. f.always p ((e p).1 h) }

@@ -2,7 +2,7 @@
 use Rattle.std.proofs.Common.{◌≡◌, ◌≢◌, ℕ, suc, ◌≤◌, ◌<◌, List, [], ◌∷◌, Bool, true, false, cond, not, pos, arith, refl, sym, ap, ap₂, subst, ◌∙◌}
 use Rattle.std.specs.Prelude.{◌==◌, nat_eq, nat_lt}
 use Rattle.spec_rational.specs.Rational.{ℚ, 0ℚ, ◌+ℚ◌, ◌*ℚ◌, neg_ℚ}
-use Rattle.spec_rational.specs.Sums.{Product, when, unit, factor_of, scaled_products, negated_products}
+use Rattle.spec_rational.specs.Sums.{Monomial, when, unit, factor_of, scaled_products, negated_products}
 use Rattle.spec_rational.proofs.Ring.{var, int, ◌⊕◌, minus}
 use Rattle.spec_rational.proofs.Rational.{ring}
 use Rattle.spec_rational.proofs.Sums.{factor_of-is, sum_at-nowhere}
@@ -12,11 +12,11 @@ use Rattle.spec_linear.proofs.Values.{nat_same, is_zero-false}
 
 -- ---- sums stay in order
 
-pub IsSumFrom-lower : (low k : ℕ) (s : List Product) → low ≤ k → IsSumFrom k s → IsSumFrom low s
+pub IsSumFrom-lower : (low k : ℕ) (s : List Monomial) → low ≤ k → IsSumFrom k s → IsSumFrom low s
 IsSumFrom-lower low k [] h o = tt
 IsSumFrom-lower low k (m ∷ s) h o = let d : k ≤ m.variable = o.0 in (omega arith, o.1, o.2)
 
-IsSumFrom-in_front : (low : ℕ) (m : Product) (s : List Product) → low ≤ m.variable → IsSumFrom (suc m.variable) s → IsSumFrom low (in_front m s)
+IsSumFrom-in_front : (low : ℕ) (m : Monomial) (s : List Monomial) → low ≤ m.variable → IsSumFrom (suc m.variable) s → IsSumFrom low (in_front m s)
 IsSumFrom-in_front low m s h o = go (is_zero m.factor) refl
   where
     go : (b : Bool) → is_zero m.factor ≡ b → IsSumFrom low (cond b s (m ∷ s))
@@ -29,7 +29,7 @@ less_is x y e = grind arith
 more_is : (x y : ℕ) → nat_lt x y ≡ false → (x == y) ≡ false → suc y ≤ x
 more_is x y e f = grind arith
 
-IsSumFrom-with_product : (low : ℕ) (p : Product) (s : List Product) → low ≤ p.variable → IsSumFrom low s → IsSumFrom low (with_product p s)
+IsSumFrom-with_product : (low : ℕ) (p : Monomial) (s : List Monomial) → low ≤ p.variable → IsSumFrom low s → IsSumFrom low (with_product p s)
 IsSumFrom-with_product low p [] h o = IsSumFrom-in_front low p [] h tt
 IsSumFrom-with_product low p (m ∷ s) h o =
     go (nat_lt p.variable m.variable) (p.variable == m.variable) refl refl (λ k. IsSumFrom-with_product (suc m.variable) p s k o.2)
@@ -45,14 +45,14 @@ IsSumFrom-with_product low p (m ∷ s) h o =
         (subst (λ y. IsSumFrom (suc y) s) (sym (nat_same p.variable m.variable f)) o.2)
     go false false e f r = (o.0, o.1, r (more_is p.variable m.variable e f))
 
-IsSumFrom-sum_products : (low : ℕ) (s t : List Product) → IsSumFrom low s → IsSumFrom low t → IsSumFrom low (sum_products s t)
+IsSumFrom-sum_products : (low : ℕ) (s t : List Monomial) → IsSumFrom low s → IsSumFrom low t → IsSumFrom low (sum_products s t)
 IsSumFrom-sum_products low [] t o p = p
 IsSumFrom-sum_products low (m ∷ s) t o p =
     let h : low ≤ m.variable = o.0 in
     IsSumFrom-with_product low m (sum_products s t) h (IsSumFrom-sum_products low s t (IsSumFrom-lower low (suc m.variable) s (omega arith) o.2) p)
 
 -- multiplied by a number, without the zeros
-IsSumFrom-scaled : (low : ℕ) (k : ℚ) (s : List Product) → IsSumFrom low s → IsSumFrom low (without_zeros (scaled_products k s))
+IsSumFrom-scaled : (low : ℕ) (k : ℚ) (s : List Monomial) → IsSumFrom low s → IsSumFrom low (without_zeros (scaled_products k s))
 IsSumFrom-scaled low k [] o = tt
 IsSumFrom-scaled low k (m ∷ s) o = go (is_zero (k *ℚ m.factor)) refl (IsSumFrom-scaled (suc m.variable) k s o.2)
   where
@@ -64,11 +64,11 @@ IsSumFrom-scaled low k (m ∷ s) o = go (is_zero (k *ℚ m.factor)) refl (IsSumF
 neg-zero : (q : ℚ) → neg_ℚ q ≡ 0ℚ → q ≡ 0ℚ
 neg-zero q e = ring (q ∷ []) (var 0) (minus (minus (var 0))) refl ∙ ap neg_ℚ e ∙ ring [] (minus (int (pos 0))) (int (pos 0)) refl
 
-IsSumFrom-negated_products : (low : ℕ) (s : List Product) → IsSumFrom low s → IsSumFrom low (negated_products s)
+IsSumFrom-negated_products : (low : ℕ) (s : List Monomial) → IsSumFrom low s → IsSumFrom low (negated_products s)
 IsSumFrom-negated_products low [] o = tt
 IsSumFrom-negated_products low (m ∷ s) o = (o.0, (λ z. o.1 (neg-zero m.factor z)), IsSumFrom-negated_products (suc m.variable) s o.2)
 
-pub IsSumFrom-without : (low x : ℕ) (s : List Product) → IsSumFrom low s → IsSumFrom low (without x s)
+pub IsSumFrom-without : (low x : ℕ) (s : List Monomial) → IsSumFrom low s → IsSumFrom low (without x s)
 IsSumFrom-without low x [] o = tt
 IsSumFrom-without low x (m ∷ s) o = go (x == m.variable) (IsSumFrom-without (suc m.variable) x s o.2)
   where
@@ -110,7 +110,7 @@ when-same : (x y : ℕ) (q : ℚ) → x ≡ y → when (nat_eq x y) q ≡ q
 when-same x y q h = let e : nat_eq x y ≡ true = grind arith in ap (λ b. when b q) e
 
 -- a sum has no variable below its first
-pub factor_of-below : (x low : ℕ) (s : List Product) → x < low → IsSumFrom low s → factor_of x s ≡ 0ℚ
+pub factor_of-below : (x low : ℕ) (s : List Monomial) → x < low → IsSumFrom low s → factor_of x s ≡ 0ℚ
 factor_of-below x low [] h o = refl
 factor_of-below x low (m ∷ s) h o =
     let k : low ≤ m.variable = o.0 in
@@ -118,13 +118,13 @@ factor_of-below x low (m ∷ s) h o =
     ∙ ring [] (int (pos 0) ⊕ int (pos 0)) (int (pos 0)) refl
 
 -- the coefficient of a sum's first variable
-pub factor_of-first : (low : ℕ) (m : Product) (s : List Product) → IsSumFrom low (m ∷ s) → factor_of m.variable (m ∷ s) ≡ m.factor
+pub factor_of-first : (low : ℕ) (m : Monomial) (s : List Monomial) → IsSumFrom low (m ∷ s) → factor_of m.variable (m ∷ s) ≡ m.factor
 factor_of-first low m s o =
     ap₂ (λ p q. p +ℚ q) (when-same m.variable m.variable m.factor refl) (factor_of-below m.variable (suc m.variable) s (omega arith) o.2)
     ∙ ring (m.factor ∷ []) (var 0 ⊕ int (pos 0)) (var 0) refl
 
 -- and of another one
-pub factor_of-rest : (x : ℕ) (m : Product) (s : List Product) → x ≢ m.variable → factor_of x (m ∷ s) ≡ factor_of x s
+pub factor_of-rest : (x : ℕ) (m : Monomial) (s : List Monomial) → x ≢ m.variable → factor_of x (m ∷ s) ≡ factor_of x s
 factor_of-rest x m s n = ap (λ p. p +ℚ factor_of x s) (when-other x m.variable m.factor n) ∙ ring (factor_of x s ∷ []) (int (pos 0) ⊕ var 0) (var 0) refl
 
 -- ---- sums with the same coefficients are the same
@@ -142,10 +142,10 @@ order x y = go (nat_lt x y) (x == y) refl refl
     go false true e f = equal (nat_same x y f)
     go false false e f = after (more_is x y e f)
 
-pub product_same : (m n : Product) → m.variable ≡ n.variable → m.factor ≡ n.factor → m ≡ n
-product_same m n e f = ap₂ (λ (x : ℕ) (q : ℚ). let p : Product = record { variable = x; factor = q } in p) e f
+pub product_same : (m n : Monomial) → m.variable ≡ n.variable → m.factor ≡ n.factor → m ≡ n
+product_same m n e f = ap₂ (λ (x : ℕ) (q : ℚ). let p : Monomial = record { variable = x; factor = q } in p) e f
 
-module _ (m n : Product) (s t : List Product) (low : ℕ) (o : IsSumFrom low (m ∷ s)) (p : IsSumFrom low (n ∷ t))
+module _ (m n : Monomial) (s t : List Monomial) (low : ℕ) (o : IsSumFrom low (m ∷ s)) (p : IsSumFrom low (n ∷ t))
     (same : (x : ℕ) → factor_of x (m ∷ s) ≡ factor_of x (n ∷ t)) where
   -- the two first variables are one
   first_same : m.variable ≡ n.variable
@@ -172,17 +172,17 @@ module _ (m n : Product) (s t : List Product) (low : ℕ) (o : IsSumFrom low (m 
           let k : x ≢ n.variable = λ z. h (z ∙ sym first_same) in
           sym (factor_of-rest x m s h) ∙ same x ∙ factor_of-rest x n t k
 
-pub products_same : (low : ℕ) (s t : List Product) → IsSumFrom low s → IsSumFrom low t → ((x : ℕ) → factor_of x s ≡ factor_of x t) → s ≡ t
+pub products_same : (low : ℕ) (s t : List Monomial) → IsSumFrom low s → IsSumFrom low t → ((x : ℕ) → factor_of x s ≡ factor_of x t) → s ≡ t
 products_same low [] [] o p h = refl
 products_same low [] (n ∷ t) o p h = absurd (p.1 (sym (factor_of-first low n t p) ∙ sym (h n.variable)))
 products_same low (m ∷ s) [] o p h = absurd (o.1 (sym (factor_of-first low m s o) ∙ h m.variable))
 products_same low (m ∷ s) (n ∷ t) o p h =
     let e : m.variable ≡ n.variable = first_same m n s t low o p h in
-    ap₂ (λ (u : Product) v. u ∷ v) (product_same m n e (factors_same m n s t low o p h))
+    ap₂ (λ (u : Monomial) v. u ∷ v) (product_same m n e (factors_same m n s t low o p h))
     (products_same (suc m.variable) s t o.2 (subst (λ y. IsSumFrom (suc y) t) (sym e) p.2) (rest_same m n s t low o p h))
 
 pub form_same : (f g : Linear) → f.products ≡ g.products → f.constant ≡ g.constant → f ≡ g
-form_same f g e h = ap₂ (λ (s : List Product) (q : ℚ). let r : Linear = record { products = s; constant = q } in r) e h
+form_same f g e h = ap₂ (λ (s : List Monomial) (q : ℚ). let r : Linear = record { products = s; constant = q } in r) e h
 
 -- ---- forms with the same values are the same
 

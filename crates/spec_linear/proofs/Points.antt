@@ -1,7 +1,7 @@
 -- A form multiplied through is the denominator times its value at the rationals, so a point and its rationals solve the same lists.
 use Rattle.std.proofs.Common.{◌≡◌, ◌≢◌, ◌↔◌, ℕ, List, [], ◌∷◌, pos, arith, refl, ap, ap₂, sym, subst, ◌∙◌}
 use Rattle.spec_rational.specs.Rational.{ℚ, 0ℚ, int_ℚ, ◌+ℚ◌, ◌*ℚ◌, inv_ℚ, IsPositive}
-use Rattle.spec_rational.specs.Sums.{Product, sum_at}
+use Rattle.spec_rational.specs.Sums.{Monomial, sum_at}
 use Rattle.spec_rational.proofs.Ring.{var, int, ◌⊕◌, ◌⊗◌}
 use Rattle.spec_rational.proofs.IntRing.{ring_ℤ}
 use Rattle.spec_rational.proofs.Rational.{ring, ratio-mul, ratio_same}
@@ -27,7 +27,7 @@ numerator_is p x =
     ∙ ratio_same _ (p.numerator x) _ 1 (omega (arith, p.positive)) (omega arith)
     (ring_ℤ (pos p.denominator ∷ p.numerator x ∷ []) ((var 0 ⊗ var 1) ⊗ int (pos 1)) (var 1 ⊗ (int (pos 1) ⊗ var 0)) refl))
 
-sum_through : (p : Point) (s : List Product) → sum_at (λ x. int_ℚ (p.numerator x)) s ≡ size p *ℚ sum_at (number p) s
+sum_through : (p : Point) (s : List Monomial) → sum_at (λ x. int_ℚ (p.numerator x)) s ≡ size p *ℚ sum_at (number p) s
 sum_through p [] = ring (size p ∷ []) (int (pos 0)) (var 0 ⊗ int (pos 0)) refl
 sum_through p (m ∷ s) =
     ap₂ (λ a b. m.factor *ℚ a +ℚ b) (numerator_is p m.variable) (sum_through p s)

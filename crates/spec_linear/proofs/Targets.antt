@@ -1,7 +1,7 @@
 -- The same solutions on the targets: an equivalence of lists over them, which keeps what is solvable, entailed and fixed there.
 use Rattle.std.proofs.Common.{◌↔◌, inl, ℕ, List, [], ◌∷◌, refl, sym, ◌∙◌}
 use Rattle.spec_rational.specs.Rational.{ℚ}
-use Rattle.spec_linear.specs.Solution.{Constraint, Point, number, Solves, Solvable, Fixed, Entails, AreAlike, Satisfies, AgreesOn, Extends, Has, MentionsOnly, Same}
+use Rattle.spec_linear.specs.Solution.{Constraint, Point, number, Solves, Solvable, Fixed, Entails, Equivalent, Satisfies, AgreesOn, Extends, Has, MentionsOnly, Same}
 use Rattle.spec_linear.proofs.Points.{holds_same, solves_same}
 use Rattle.spec_linear.proofs.Denominators.{extends, agrees_at, satisfies_agrees, holds_agrees}
 use Rattle.spec_linear.proofs.Lists.{entails_same, fixed_same}
@@ -53,7 +53,7 @@ same_trans targets k l m s t = record {
 
 -- ---- lists with the same solutions
 
-pub same_for_alike_lists : (targets : List ℕ) (rows l m : List Constraint) → AreAlike l m → Same targets rows l → Same targets rows m
+pub same_for_alike_lists : (targets : List ℕ) (rows l m : List Constraint) → Equivalent l m → Same targets rows l → Same targets rows m
 same_for_alike_lists targets rows l m e s = record {
   mentions = s.mentions;
   same = λ a. (
@@ -62,7 +62,7 @@ same_for_alike_lists targets rows l m e s = record {
   );
 }
 
-pub same_for_alike_rows : (targets : List ℕ) (k rows l : List Constraint) → AreAlike k rows → MentionsOnly targets k → Same targets rows l → Same targets k l
+pub same_for_alike_rows : (targets : List ℕ) (k rows l : List Constraint) → Equivalent k rows → MentionsOnly targets k → Same targets rows l → Same targets k l
 same_for_alike_rows targets k rows l e m s =
     same_trans targets k rows l (same_for_alike_lists targets k k rows e (same_refl targets k m)) s
 

@@ -3,8 +3,8 @@ use Rattle.std.proofs.Common.{◌≡◌, ◌≢◌, ℕ, List, [], ◌∷◌, Bo
 use Rattle.std.proofs.lemmas.Int.{ints}
 use Rattle.std.specs.Prelude.{◌==◌, nat_eq, nat_lt}
 use Rattle.spec_rational.specs.Gcd.{gcd}
-use Rattle.spec_rational.specs.Rational.{ℚ, den, 0ℚ, int_ℚ, ratio, ◌+ℚ◌, ◌-ℚ◌, ◌*ℚ◌, neg_ℚ}
-use Rattle.spec_rational.specs.Sums.{Product, sum_at, when, factor_of, scaled_products}
+use Rattle.spec_rational.specs.Rational.{ℚ, denominator, 0ℚ, int_ℚ, ratio, ◌+ℚ◌, ◌-ℚ◌, ◌*ℚ◌, neg_ℚ}
+use Rattle.spec_rational.specs.Sums.{Monomial, sum_at, when, factor_of, scaled_products}
 use Rattle.spec_rational.proofs.Ring.{var, int, ◌⊕◌, ◌⊗◌, minus}
 use Rattle.spec_rational.proofs.Rational.{ring, cross_same}
 use Rattle.spec_rational.proofs.Sums.{sum_at-scaled_products, sum_at-negated_products}
@@ -25,7 +25,7 @@ zero_cross z d e = omega (arith, ints, e)
 -- the test says that the number is 0
 pub is_zero-true : (q : ℚ) → is_zero q ≡ true → q ≡ 0ℚ
 unfolding int_ℚ ratio gcd
-is_zero-true q e = cross_same q 0ℚ (zero_cross q.num (den q) (num_zero q.num e))
+is_zero-true q e = cross_same q 0ℚ (zero_cross q.numerator (denominator q) (num_zero q.numerator e))
 
 pub is_zero-of : (q : ℚ) → q ≡ 0ℚ → is_zero q ≡ true
 unfolding int_ℚ ratio gcd
@@ -37,7 +37,7 @@ is_zero-false q e z = let k : is_zero q ≡ true = is_zero-of q z in let n : tru
 
 -- ---- sums
 
-pub sum_at-in_front : (a : ℕ → ℚ) (m : Product) (s : List Product) → sum_at a (in_front m s) ≡ m.factor *ℚ a m.variable +ℚ sum_at a s
+pub sum_at-in_front : (a : ℕ → ℚ) (m : Monomial) (s : List Monomial) → sum_at a (in_front m s) ≡ m.factor *ℚ a m.variable +ℚ sum_at a s
 sum_at-in_front a m s = go (is_zero m.factor) refl
   where
     go : (b : Bool) → is_zero m.factor ≡ b → sum_at a (cond b s (m ∷ s)) ≡ m.factor *ℚ a m.variable +ℚ sum_at a s
@@ -46,7 +46,7 @@ sum_at-in_front a m s = go (is_zero m.factor) refl
         ∙ ap (λ q. q *ℚ a m.variable +ℚ sum_at a s) (sym (is_zero-true m.factor e))
     go false e = refl
 
-pub sum_at-with_product : (a : ℕ → ℚ) (p : Product) (s : List Product) → sum_at a (with_product p s) ≡ p.factor *ℚ a p.variable +ℚ sum_at a s
+pub sum_at-with_product : (a : ℕ → ℚ) (p : Monomial) (s : List Monomial) → sum_at a (with_product p s) ≡ p.factor *ℚ a p.variable +ℚ sum_at a s
 sum_at-with_product a p [] = sum_at-in_front a p []
 sum_at-with_product a p (m ∷ s) = go (nat_lt p.variable m.variable) (p.variable == m.variable) refl (sum_at-with_product a p s)
   where
@@ -64,14 +64,14 @@ sum_at-with_product a p (m ∷ s) = go (nat_lt p.variable m.variable) (p.variabl
         ap (λ t. m.factor *ℚ a m.variable +ℚ t) h
         ∙ ring ((p.factor *ℚ a p.variable) ∷ (m.factor *ℚ a m.variable) ∷ sum_at a s ∷ []) (var 1 ⊕ (var 0 ⊕ var 2)) (var 0 ⊕ (var 1 ⊕ var 2)) refl
 
-pub sum_at-sum_products : (a : ℕ → ℚ) (s t : List Product) → sum_at a (sum_products s t) ≡ sum_at a s +ℚ sum_at a t
+pub sum_at-sum_products : (a : ℕ → ℚ) (s t : List Monomial) → sum_at a (sum_products s t) ≡ sum_at a s +ℚ sum_at a t
 sum_at-sum_products a [] t = ring (sum_at a t ∷ []) (var 0) (int (pos 0) ⊕ var 0) refl
 sum_at-sum_products a (m ∷ s) t =
     sum_at-with_product a m (sum_products s t)
     ∙ ap (λ r. m.factor *ℚ a m.variable +ℚ r) (sum_at-sum_products a s t)
     ∙ ring ((m.factor *ℚ a m.variable) ∷ sum_at a s ∷ sum_at a t ∷ []) (var 0 ⊕ (var 1 ⊕ var 2)) (var 0 ⊕ var 1 ⊕ var 2) refl
 
-pub sum_at-without_zeros : (a : ℕ → ℚ) (s : List Product) → sum_at a (without_zeros s) ≡ sum_at a s
+pub sum_at-without_zeros : (a : ℕ → ℚ) (s : List Monomial) → sum_at a (without_zeros s) ≡ sum_at a s
 sum_at-without_zeros a [] = refl
 sum_at-without_zeros a (m ∷ s) = go (is_zero m.factor) refl (sum_at-without_zeros a s)
   where
@@ -83,7 +83,7 @@ sum_at-without_zeros a (m ∷ s) = go (is_zero m.factor) refl (sum_at-without_ze
     go false e h = ap (λ r. m.factor *ℚ a m.variable +ℚ r) h
 
 -- the products of x, and the others
-pub sum_at-without : (a : ℕ → ℚ) (x : ℕ) (s : List Product) → sum_at a s ≡ factor_of x s *ℚ a x +ℚ sum_at a (without x s)
+pub sum_at-without : (a : ℕ → ℚ) (x : ℕ) (s : List Monomial) → sum_at a s ≡ factor_of x s *ℚ a x +ℚ sum_at a (without x s)
 sum_at-without a x [] = ring (a x ∷ []) (int (pos 0)) (int (pos 0) ⊗ var 0 ⊕ int (pos 0)) refl
 sum_at-without a x (m ∷ s) = go (x == m.variable) refl (sum_at-without a x s)
   where
@@ -97,7 +97,7 @@ sum_at-without a x (m ∷ s) = go (x == m.variable) refl (sum_at-without a x s)
         ∙ ring ((m.factor *ℚ a m.variable) ∷ factor_of x s ∷ a x ∷ sum_at a (without x s) ∷ []) (var 0 ⊕ (var 1 ⊗ var 2 ⊕ var 3)) ((int (pos 0) ⊕ var 1) ⊗ var 2 ⊕ (var 0 ⊕ var 3)) refl
 
 -- the others don't look at x
-sum_at-changed : (a : ℕ → ℚ) (x : ℕ) (q : ℚ) (s : List Product) → sum_at (changed_at x q a) (without x s) ≡ sum_at a (without x s)
+sum_at-changed : (a : ℕ → ℚ) (x : ℕ) (q : ℚ) (s : List Monomial) → sum_at (changed_at x q a) (without x s) ≡ sum_at a (without x s)
 sum_at-changed a x q [] = refl
 sum_at-changed a x q (m ∷ s) = go (x == m.variable) refl (sum_at-changed a x q s)
   where

@@ -2,11 +2,11 @@
 -- A form lists its products by ascending variable, each variable once and no factor zero.
 use Rattle.std.specs.Prelude.{◌≢◌, ℕ, suc, ◌≤◌, List, [], ◌∷◌, ⊤, Bool, true, false, cond, not, ◌==◌, nat_eq, nat_lt, nat_abs, filter}
 use Rattle.spec_rational.specs.Rational.{ℚ, 0ℚ, 1ℚ, ◌+ℚ◌, ◌*ℚ◌, neg_ℚ}
-use Rattle.spec_rational.specs.Sums.{Product, sum_at, factor_of, scaled_products, negated_products}
+use Rattle.spec_rational.specs.Sums.{Monomial, sum_at, factor_of, scaled_products, negated_products}
 
 -- the products, and the constant
 pub record Linear : Type 0 where
-  pub products : List Product
+  pub products : List Monomial
   pub constant : ℚ
 
 -- what the form is where a gives the variables their values
@@ -14,7 +14,7 @@ abbrev pub value_at : (ℕ → ℚ) → Linear → ℚ
 value_at a f = f.constant +ℚ sum_at a f.products
 
 -- each variable is at least low and above the one before it, and no factor is zero
-abbrev pub IsSumFrom : ℕ → List Product → Type 0
+abbrev pub IsSumFrom : ℕ → List Monomial → Type 0
 IsSumFrom low [] = ⊤
 IsSumFrom low (m ∷ s) = (low ≤ m.variable) × (m.factor ≢ 0ℚ) × IsSumFrom (suc m.variable) s
 
@@ -26,30 +26,30 @@ IsForm f = IsSumFrom 0 f.products
 
 -- the number is 0
 abbrev pub is_zero : ℚ → Bool
-is_zero q = nat_eq (nat_abs q.num) 0
+is_zero q = nat_eq (nat_abs q.numerator) 0
 
 -- the product in front, unless its factor is zero
-abbrev pub in_front : Product → List Product → List Product
+abbrev pub in_front : Monomial → List Monomial → List Monomial
 in_front m s = cond (is_zero m.factor) s (m ∷ s)
 
 -- a product added to a sum
-abbrev pub with_product : Product → List Product → List Product
+abbrev pub with_product : Monomial → List Monomial → List Monomial
 with_product p [] = in_front p []
 with_product p (m ∷ s) =
     cond (nat_lt p.variable m.variable) (in_front p (m ∷ s)) (
     cond (p.variable == m.variable) (in_front (record { variable = p.variable; factor = p.factor +ℚ m.factor }) s) (m ∷ with_product p s))
 
 -- both sums together
-abbrev pub sum_products : List Product → List Product → List Product
+abbrev pub sum_products : List Monomial → List Monomial → List Monomial
 sum_products [] t = t
 sum_products (p ∷ s) t = with_product p (sum_products s t)
 
 -- the products whose factors are not zero
-abbrev pub without_zeros : List Product → List Product
+abbrev pub without_zeros : List Monomial → List Monomial
 without_zeros s = filter (λ m. not (is_zero m.factor)) s
 
 -- the products of other variables than x
-abbrev pub without : ℕ → List Product → List Product
+abbrev pub without : ℕ → List Monomial → List Monomial
 without x s = filter (λ m. not (x == m.variable)) s
 
 abbrev pub constant_form : ℚ → Linear
@@ -75,7 +75,7 @@ abbrev pub substituted_form : ℕ → Linear → Linear → Linear
 substituted_form x g f =
     sum_form (record { products = without x f.products; constant = f.constant }) (scaled_form (factor_of x f.products) g)
 
-abbrev pub is_empty : List Product → Bool
+abbrev pub is_empty : List Monomial → Bool
 is_empty [] = true
 is_empty (m ∷ s) = false
 

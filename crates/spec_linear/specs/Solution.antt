@@ -75,8 +75,8 @@ abbrev pub Entails : List Constraint → Constraint → Type 0
 Entails l c = (p : Point) → Solves p l → Holds p c
 
 -- the lists have the same solutions
-abbrev pub AreAlike : List Constraint → List Constraint → Type 0
-AreAlike l m = (p : Point) → Solves p l ↔ Solves p m
+abbrev pub Equivalent : List Constraint → List Constraint → Type 0
+Equivalent l m = (p : Point) → Solves p l ↔ Solves p m
 
 -- each constraint is an equation
 abbrev pub AreEquations : List Constraint → Type 0

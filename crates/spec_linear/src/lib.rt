@@ -5,7 +5,7 @@
 ghost use Rattle.std.specs.Prelude.{◌≡◌, ◌≢◌, ◌↔◌, ◌++◌, [], ◌∷◌, ℕ, List, Option, Some};
 ghost use Rattle.spec_rational.specs.Rational.{ℚ, 0ℚ, ◌+ℚ◌, ◌-ℚ◌, ◌*ℚ◌, neg_ℚ, IsPositive};
 ghost use Rattle.spec_linear.specs.Form.{Linear, value_at, IsForm, constant_form, variable_form, sum_form, scaled_form, negated_form, difference_form, substituted_form, changed_at};
-ghost use Rattle.spec_linear.specs.Solution.{Constraint, false_constraint, equal_to, Point, number, Holds, Solves, Solvable, Unsolvable, Fixed, Fixes, Entails, AreAlike, AreEquations, HoldsAt, Satisfies, Extends, Has, MentionsOnly, Same};
+ghost use Rattle.spec_linear.specs.Solution.{Constraint, false_constraint, equal_to, Point, number, Holds, Solves, Solvable, Unsolvable, Fixed, Fixes, Entails, Equivalent, AreEquations, HoldsAt, Satisfies, Extends, Has, MentionsOnly, Same};
 
 /// How a form stands to zero: `= 0`, `> 0`, `>= 0`, `=\= 0`.
 #[derive(Clone, Copy, PartialEq, Eq, Debug)]
@@ -91,10 +91,10 @@ pub fn fixed_values()
 /// the same solutions entail and fix the same.
 pub fn lists_with_the_same_solutions()
     ensures entailed { (l m : List Constraint) (c : Constraint) → Entails (l ++ m) c
-        → AreAlike (l ++ c ∷ m) (l ++ m) }
-    ensures solvable { (l m : List Constraint) → AreAlike l m → Solvable l → Solvable m }
-    ensures entails { (l m : List Constraint) (c : Constraint) → AreAlike l m → Entails l c → Entails m c }
-    ensures fixed { (l m : List Constraint) (x : ℕ) (q : ℚ) → AreAlike l m → Fixed l x q → Fixed m x q }
+        → Equivalent (l ++ c ∷ m) (l ++ m) }
+    ensures solvable { (l m : List Constraint) → Equivalent l m → Solvable l → Solvable m }
+    ensures entails { (l m : List Constraint) (c : Constraint) → Equivalent l m → Entails l c → Entails m c }
+    ensures fixed { (l m : List Constraint) (x : ℕ) (q : ℚ) → Equivalent l m → Fixed l x q → Fixed m x q }
 {}
 
 /// Where the solutions of a list of equations give a variable two values, they give it every value.
@@ -116,9 +116,9 @@ pub fn same_solutions()
 /// It looks at the solutions of the rows and of the list alone, so an entailed constraint may join or
 /// leave either.
 pub fn same_for_alike()
-    ensures lists { (targets : List ℕ) (rows l m : List Constraint) → AreAlike l m → Same targets rows l
+    ensures lists { (targets : List ℕ) (rows l m : List Constraint) → Equivalent l m → Same targets rows l
         → Same targets rows m }
-    ensures rows { (targets : List ℕ) (k rows l : List Constraint) → AreAlike k rows
+    ensures rows { (targets : List ℕ) (k rows l : List Constraint) → Equivalent k rows
         → MentionsOnly targets k → Same targets rows l → Same targets k l }
 {}
 

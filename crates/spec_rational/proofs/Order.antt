@@ -6,7 +6,7 @@ use Rattle.std.specs.Cmp.{IsTotalOrder}
 use Rattle.std.specs.declared.cmp.Ordering.{Ordering}
 use Rattle.std.specs.declared.cmp.Ordering.TheVariants.{Less, Equal, Greater}
 use Rattle.std.specs.Ordering.{MatchOrdering, ordering_reverse}
-use Rattle.spec_rational.specs.Rational.{ℚ, 0ℚ, den, ratio, ◌+ℚ◌, ◌-ℚ◌, ◌*ℚ◌, neg_ℚ, IsPositive, IsNotNegative, ◌≤ℚ◌, ◌<ℚ◌}
+use Rattle.spec_rational.specs.Rational.{ℚ, 0ℚ, denominator, ratio, ◌+ℚ◌, ◌-ℚ◌, ◌*ℚ◌, neg_ℚ, IsPositive, IsNotNegative, ◌≤ℚ◌, ◌<ℚ◌}
 use Rattle.spec_rational.specs.Order.{cmp_ℚ}
 use Rattle.spec_rational.proofs.Ring.{var, int, ◌⊕◌, ◌⊗◌, minus}
 use Rattle.spec_rational.proofs.IntRing.{ring_ℤ}
@@ -15,36 +15,36 @@ use Rattle.spec_rational.proofs.Sign.{ratio_pos, pos_ratio, pos_add, nonneg_add,
 
 -- ---- gaps
 
-gap_is : (p q : ℚ) → q -ℚ p ≡ ratio (q.num *ℤ pos (den p) +ℤ neg_ℤ p.num *ℤ pos (den q)) (den q * den p)
+gap_is : (p q : ℚ) → q -ℚ p ≡ ratio (q.numerator *ℤ pos (denominator p) +ℤ neg_ℤ p.numerator *ℤ pos (denominator q)) (denominator q * denominator p)
 gap_is p q =
     ap₂ (λ x y. x +ℚ neg_ℚ y) (sym (ratio_back q)) (sym (ratio_back p))
-    ∙ ap (λ y. ratio q.num (den q) +ℚ y) (ratio-neg p.num (den p) (suc_pos p.below))
-    ∙ ratio-add q.num (neg_ℤ p.num) (den q) (den p) (suc_pos q.below) (suc_pos p.below)
+    ∙ ap (λ y. ratio q.numerator (denominator q) +ℚ y) (ratio-neg p.numerator (denominator p) (suc_pos p.below))
+    ∙ ratio-add q.numerator (neg_ℤ p.numerator) (denominator q) (denominator p) (suc_pos q.below) (suc_pos p.below)
 
 neg_mul : (a : ℤ) (d : ℕ) → neg_ℤ a *ℤ pos d ≡ neg_ℤ (a *ℤ pos d)
 neg_mul a d = ring_ℤ (a ∷ pos d ∷ []) (minus (var 0) ⊗ var 1) (minus (var 0 ⊗ var 1)) refl
 
-pub lt_from_cross : (p q : ℚ) → (p.num *ℤ pos (den q)) <ℤ (q.num *ℤ pos (den p)) → p <ℚ q
+pub lt_from_cross : (p q : ℚ) → (p.numerator *ℤ pos (denominator q)) <ℤ (q.numerator *ℤ pos (denominator p)) → p <ℚ q
 lt_from_cross p q h = record {
   gap =
-      let n = neg_mul p.num (den q) in
-      let above : pos 0 <ℤ (q.num *ℤ pos (den p) +ℤ neg_ℤ p.num *ℤ pos (den q)) =
-      subst (λ x. pos 0 <ℤ (q.num *ℤ pos (den p) +ℤ x)) (sym n) (omega (arith, ints, h)) in
+      let n = neg_mul p.numerator (denominator q) in
+      let above : pos 0 <ℤ (q.numerator *ℤ pos (denominator p) +ℤ neg_ℤ p.numerator *ℤ pos (denominator q)) =
+      subst (λ x. pos 0 <ℤ (q.numerator *ℤ pos (denominator p) +ℤ x)) (sym n) (omega (arith, ints, h)) in
       subst IsPositive (sym (gap_is p q)) (ratio_pos _ _ (suc_mul_pos q.below p.below) above);
 }
 
-pub lt_to_cross : (p q : ℚ) → p <ℚ q → (p.num *ℤ pos (den q)) <ℤ (q.num *ℤ pos (den p))
+pub lt_to_cross : (p q : ℚ) → p <ℚ q → (p.numerator *ℤ pos (denominator q)) <ℤ (q.numerator *ℤ pos (denominator p))
 lt_to_cross p q h =
     let k = pos_ratio _ _ (suc_mul_pos q.below p.below) (subst IsPositive (gap_is p q) h.gap) in
-    let m : pos 0 <ℤ (q.num *ℤ pos (den p) +ℤ neg_ℤ (p.num *ℤ pos (den q))) =
-    subst (λ x. pos 0 <ℤ (q.num *ℤ pos (den p) +ℤ x)) (neg_mul p.num (den q)) k in
+    let m : pos 0 <ℤ (q.numerator *ℤ pos (denominator p) +ℤ neg_ℤ (p.numerator *ℤ pos (denominator q))) =
+    subst (λ x. pos 0 <ℤ (q.numerator *ℤ pos (denominator p) +ℤ x)) (neg_mul p.numerator (denominator q)) k in
     omega (arith, ints, m)
 
 -- what the comparison by cross products says
 pub cmp_ℚ-matches : (p q : ℚ) → MatchOrdering (cmp_ℚ p q) (p <ℚ q) (p ≡ q) (q <ℚ p)
 cmp_ℚ-matches p q = go (cmp_ℚ p q) (int_ranked _ _ (cmp_ℚ p q) refl)
   where
-    go : (o : Ordering) → MatchOrdering o ((p.num *ℤ pos (den q)) <ℤ (q.num *ℤ pos (den p))) (p.num *ℤ pos (den q) ≡ q.num *ℤ pos (den p)) ((q.num *ℤ pos (den p)) <ℤ (p.num *ℤ pos (den q))) → MatchOrdering o (p <ℚ q) (p ≡ q) (q <ℚ p)
+    go : (o : Ordering) → MatchOrdering o ((p.numerator *ℤ pos (denominator q)) <ℤ (q.numerator *ℤ pos (denominator p))) (p.numerator *ℤ pos (denominator q) ≡ q.numerator *ℤ pos (denominator p)) ((q.numerator *ℤ pos (denominator p)) <ℤ (p.numerator *ℤ pos (denominator q))) → MatchOrdering o (p <ℚ q) (p ≡ q) (q <ℚ p)
     go Less h = lt_from_cross p q h
     go Equal h = cross_same p q h
     go Greater h = lt_from_cross q p h

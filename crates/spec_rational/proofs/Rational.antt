@@ -8,16 +8,16 @@ use mathlib.Core.HLevel.{is_prop→PathP, hedberg}
 use Rattle.std.specs.Int.{◌∣◌}
 use Rattle.std.proofs.Math.Nat.{mul-div_cancel', dvd_antisymm, dvd-mul_left}
 use Rattle.spec_rational.specs.Gcd.{gcd, gcd_is, gcd_pos, gauss}
-use Rattle.spec_rational.specs.Rational.{ℚ, den, divided, ratio, int_ℚ, ◌+ℚ◌, ◌*ℚ◌, neg_ℚ, quotient_pos}
+use Rattle.spec_rational.specs.Rational.{ℚ, denominator, divided, ratio, int_ℚ, ◌+ℚ◌, ◌*ℚ◌, neg_ℚ, quotient_pos}
 use Rattle.spec_rational.proofs.Ring.{IsRing, Poly, var, int, ◌⊕◌, ◌⊗◌, minus, solve, value, normal}
 use Rattle.spec_rational.proofs.IntRing.{ring_ℤ}
 
 ℕ_is_set : IsSet ℕ
 ℕ_is_set = hedberg ℕ_discrete
 
-pub ℚ_same : (p q : ℚ) → p.num ≡ q.num → p.below ≡ q.below → p ≡ q
+pub ℚ_same : (p q : ℚ) → p.numerator ≡ q.numerator → p.below ≡ q.below → p ≡ q
 ℚ_same p q e f = λ i. record {
-  num = e i;
+  numerator = e i;
   below = f i;
   lowest = is_prop→PathP (λ j. gcd (nat_abs (e j)) (suc (f j)) ≡ 1) (λ j. ℕ_is_set (gcd (nat_abs (e j)) (suc (f j))) 1) p.lowest q.lowest i;
 }
@@ -31,20 +31,20 @@ cancel_ℤ a b g h e =
     let d : down a * g ≡ down b * g = omega (arith, product_is a (pos g), product_is b (pos g), same_out (a *ℤ pos g) (b *ℤ pos g) e) in
     same_in a b (omega (arith, cancel_ℕ (up a) (up b) g h u, cancel_ℕ (down a) (down b) g h d))
 
-pub cross_same : (p q : ℚ) → p.num *ℤ pos (den q) ≡ q.num *ℤ pos (den p) → p ≡ q
+pub cross_same : (p q : ℚ) → p.numerator *ℤ pos (denominator q) ≡ q.numerator *ℤ pos (denominator p) → p ≡ q
 cross_same p q e =
-    let a : nat_abs p.num * den q ≡ nat_abs q.num * den p = sym (unsigned_abs-mul p.num (pos (den q))) ∙ ap nat_abs e ∙ unsigned_abs-mul q.num (pos (den p)) in
-    let pq : den p ∣ den q = gauss (nat_abs p.num) (den p) (den q) p.lowest (subst (λ x. den p ∣ x) (sym a) (dvd-mul_left (den p) (nat_abs q.num))) in
-    let qp : den q ∣ den p = gauss (nat_abs q.num) (den q) (den p) q.lowest (subst (λ x. den q ∣ x) a (dvd-mul_left (den q) (nat_abs p.num))) in
-    let same : den p ≡ den q = dvd_antisymm pq qp in
-    ℚ_same p q (cancel_ℤ p.num q.num (den q) (omega arith) (e ∙ ap (λ d. q.num *ℤ pos d) same)) (omega arith)
+    let a : nat_abs p.numerator * denominator q ≡ nat_abs q.numerator * denominator p = sym (unsigned_abs-mul p.numerator (pos (denominator q))) ∙ ap nat_abs e ∙ unsigned_abs-mul q.numerator (pos (denominator p)) in
+    let pq : denominator p ∣ denominator q = gauss (nat_abs p.numerator) (denominator p) (denominator q) p.lowest (subst (λ x. denominator p ∣ x) (sym a) (dvd-mul_left (denominator p) (nat_abs q.numerator))) in
+    let qp : denominator q ∣ denominator p = gauss (nat_abs q.numerator) (denominator q) (denominator p) q.lowest (subst (λ x. denominator q ∣ x) a (dvd-mul_left (denominator q) (nat_abs p.numerator))) in
+    let same : denominator p ≡ denominator q = dvd_antisymm pq qp in
+    ℚ_same p q (cancel_ℤ p.numerator q.numerator (denominator q) (omega arith) (e ∙ ap (λ d. q.numerator *ℤ pos d) same)) (omega arith)
 
 -- a ratio's parts times what was cancelled
 pub record Scaled (n : ℤ) (d : ℕ) (q : ℚ) : Type 0 where
   pub by : ℕ
   pub by_pos : 0 < by
-  pub num_is : n ≡ q.num *ℤ pos by
-  pub den_is : d ≡ den q * by
+  pub num_is : n ≡ q.numerator *ℤ pos by
+  pub den_is : d ≡ denominator q * by
 
 divided_back : (n : ℤ) (g : ℕ) → g * (nat_abs n / g) ≡ nat_abs n → n ≡ divided n g *ℤ pos g
 divided_back (pos a) g e = ap pos (omega (arith, e))
@@ -89,33 +89,33 @@ x5 = var 5
 -- a g = n, b g = d, c h = m, f h = e: where n e = m d, a f = c b
 scaled_cross : (n m : ℤ) (d e : ℕ) (p q : ℚ) → Scaled n d p → Scaled m e q → n *ℤ pos e ≡ m *ℤ pos d → p ≡ q
 scaled_cross n m d e p q s t h =
-    let w : (p.num *ℤ pos s.by) *ℤ (pos (den q) *ℤ pos t.by) ≡ (q.num *ℤ pos t.by) *ℤ (pos (den p) *ℤ pos s.by) =
+    let w : (p.numerator *ℤ pos s.by) *ℤ (pos (denominator q) *ℤ pos t.by) ≡ (q.numerator *ℤ pos t.by) *ℤ (pos (denominator p) *ℤ pos s.by) =
     ap₂ (λ x y. x *ℤ pos y) (sym s.num_is) (sym t.den_is) ∙ h ∙ ap₂ (λ x y. x *ℤ pos y) t.num_is s.den_is in
     cross_same p q (cancel_ℤ _ _ (s.by * t.by) (mul-pos s.by_pos t.by_pos)
-    (ring_ℤ (p.num ∷ pos s.by ∷ pos (den q) ∷ pos t.by ∷ []) (x0 ⊗ x2 ⊗ (x1 ⊗ x3)) (x0 ⊗ x1 ⊗ (x2 ⊗ x3)) refl
-    ∙ w ∙ ring_ℤ (q.num ∷ pos t.by ∷ pos (den p) ∷ pos s.by ∷ []) (x0 ⊗ x1 ⊗ (x2 ⊗ x3)) (x0 ⊗ x2 ⊗ (x3 ⊗ x1)) refl))
+    (ring_ℤ (p.numerator ∷ pos s.by ∷ pos (denominator q) ∷ pos t.by ∷ []) (x0 ⊗ x2 ⊗ (x1 ⊗ x3)) (x0 ⊗ x1 ⊗ (x2 ⊗ x3)) refl
+    ∙ w ∙ ring_ℤ (q.numerator ∷ pos t.by ∷ pos (denominator p) ∷ pos s.by ∷ []) (x0 ⊗ x1 ⊗ (x2 ⊗ x3)) (x0 ⊗ x2 ⊗ (x3 ⊗ x1)) refl))
 
 pub ratio_same : (n m : ℤ) (d e : ℕ) → 0 < d → 0 < e → n *ℤ pos e ≡ m *ℤ pos d → ratio n d ≡ ratio m e
 ratio_same n m d e h k w = scaled_cross n m d e (ratio n d) (ratio m e) (ratio_scaled n d h) (ratio_scaled m e k) w
 
-self_scaled : (q : ℚ) → Scaled q.num (den q) q
+self_scaled : (q : ℚ) → Scaled q.numerator (denominator q) q
 self_scaled q = record { by = 1; by_pos = omega arith; num_is = omega (arith, ints); den_is = omega arith }
 
-pub ratio_back : (q : ℚ) → ratio q.num (den q) ≡ q
-ratio_back q = scaled_cross q.num q.num (den q) (den q) (ratio q.num (den q)) q (ratio_scaled q.num (den q) (omega arith)) (self_scaled q) refl
+pub ratio_back : (q : ℚ) → ratio q.numerator (denominator q) ≡ q
+ratio_back q = scaled_cross q.numerator q.numerator (denominator q) (denominator q) (ratio q.numerator (denominator q)) q (ratio_scaled q.numerator (denominator q) (omega arith)) (self_scaled q) refl
 
 -- what holds of every ratio holds of every rational
 pub by_ratio : (P : ℚ → Type 0) → ((n : ℤ) (k : ℕ) → P (ratio n (suc k))) → (q : ℚ) → P q
-by_ratio P h q = subst P (ratio_back q) (h q.num q.below)
+by_ratio P h q = subst P (ratio_back q) (h q.numerator q.below)
 
 sum_scaled : (a c : ℤ) (b d : ℕ) (p q : ℚ) → Scaled a b p → Scaled c d q → 0 < b * d → p +ℚ q ≡ ratio (a *ℤ pos d +ℤ c *ℤ pos b) (b * d)
 unfolding ◌+ℚ◌
 sum_scaled a c b d p q s t h =
-    let w : ((p.num *ℤ pos s.by) *ℤ (pos (den q) *ℤ pos t.by) +ℤ (q.num *ℤ pos t.by) *ℤ (pos (den p) *ℤ pos s.by)) *ℤ (pos (den p) *ℤ pos (den q)) ≡ (a *ℤ pos d +ℤ c *ℤ pos b) *ℤ pos (den p * den q) =
-    ap (λ x. x *ℤ pos (den p * den q)) (ap₂ (λ x y. x +ℤ y) (ap₂ (λ x y. x *ℤ pos y) (sym s.num_is) (sym t.den_is)) (ap₂ (λ x y. x *ℤ pos y) (sym t.num_is) (sym s.den_is))) in
-    ratio_same _ _ (den p * den q) (b * d) (mul-pos (zero-lt-suc _) (zero-lt-suc _)) h
-    (ap₂ (λ x y. (p.num *ℤ pos (den q) +ℤ q.num *ℤ pos (den p)) *ℤ pos (x * y)) s.den_is t.den_is
-    ∙ ring_ℤ (p.num ∷ pos (den p) ∷ q.num ∷ pos (den q) ∷ pos s.by ∷ pos t.by ∷ [])
+    let w : ((p.numerator *ℤ pos s.by) *ℤ (pos (denominator q) *ℤ pos t.by) +ℤ (q.numerator *ℤ pos t.by) *ℤ (pos (denominator p) *ℤ pos s.by)) *ℤ (pos (denominator p) *ℤ pos (denominator q)) ≡ (a *ℤ pos d +ℤ c *ℤ pos b) *ℤ pos (denominator p * denominator q) =
+    ap (λ x. x *ℤ pos (denominator p * denominator q)) (ap₂ (λ x y. x +ℤ y) (ap₂ (λ x y. x *ℤ pos y) (sym s.num_is) (sym t.den_is)) (ap₂ (λ x y. x *ℤ pos y) (sym t.num_is) (sym s.den_is))) in
+    ratio_same _ _ (denominator p * denominator q) (b * d) (mul-pos (zero-lt-suc _) (zero-lt-suc _)) h
+    (ap₂ (λ x y. (p.numerator *ℤ pos (denominator q) +ℤ q.numerator *ℤ pos (denominator p)) *ℤ pos (x * y)) s.den_is t.den_is
+    ∙ ring_ℤ (p.numerator ∷ pos (denominator p) ∷ q.numerator ∷ pos (denominator q) ∷ pos s.by ∷ pos t.by ∷ [])
     ((x0 ⊗ x3 ⊕ x2 ⊗ x1) ⊗ ((x1 ⊗ x4) ⊗ (x3 ⊗ x5)))
     (((x0 ⊗ x4) ⊗ (x3 ⊗ x5) ⊕ (x2 ⊗ x5) ⊗ (x1 ⊗ x4)) ⊗ (x1 ⊗ x3)) refl
     ∙ w)
@@ -126,11 +126,11 @@ ratio-add a c b d h k = sum_scaled a c b d (ratio a b) (ratio c d) (ratio_scaled
 product_scaled : (a c : ℤ) (b d : ℕ) (p q : ℚ) → Scaled a b p → Scaled c d q → 0 < b * d → p *ℚ q ≡ ratio (a *ℤ c) (b * d)
 unfolding ◌*ℚ◌
 product_scaled a c b d p q s t h =
-    let w : ((p.num *ℤ pos s.by) *ℤ (q.num *ℤ pos t.by)) *ℤ (pos (den p) *ℤ pos (den q)) ≡ (a *ℤ c) *ℤ pos (den p * den q) =
-    ap (λ x. x *ℤ pos (den p * den q)) (ap₂ (λ x y. x *ℤ y) (sym s.num_is) (sym t.num_is)) in
-    ratio_same _ _ (den p * den q) (b * d) (mul-pos (zero-lt-suc _) (zero-lt-suc _)) h
-    (ap₂ (λ x y. (p.num *ℤ q.num) *ℤ pos (x * y)) s.den_is t.den_is
-    ∙ ring_ℤ (p.num ∷ pos (den p) ∷ q.num ∷ pos (den q) ∷ pos s.by ∷ pos t.by ∷ [])
+    let w : ((p.numerator *ℤ pos s.by) *ℤ (q.numerator *ℤ pos t.by)) *ℤ (pos (denominator p) *ℤ pos (denominator q)) ≡ (a *ℤ c) *ℤ pos (denominator p * denominator q) =
+    ap (λ x. x *ℤ pos (denominator p * denominator q)) (ap₂ (λ x y. x *ℤ y) (sym s.num_is) (sym t.num_is)) in
+    ratio_same _ _ (denominator p * denominator q) (b * d) (mul-pos (zero-lt-suc _) (zero-lt-suc _)) h
+    (ap₂ (λ x y. (p.numerator *ℤ q.numerator) *ℤ pos (x * y)) s.den_is t.den_is
+    ∙ ring_ℤ (p.numerator ∷ pos (denominator p) ∷ q.numerator ∷ pos (denominator q) ∷ pos s.by ∷ pos t.by ∷ [])
     ((x0 ⊗ x2) ⊗ ((x1 ⊗ x4) ⊗ (x3 ⊗ x5)))
     (((x0 ⊗ x4) ⊗ (x2 ⊗ x5)) ⊗ (x1 ⊗ x3)) refl
     ∙ w)
@@ -231,9 +231,9 @@ neg_is : (p : ℚ) → neg_ℚ p ≡ int_ℚ (negsuc 0) *ℚ p
 unfolding int_ℚ neg_ℚ
 neg_is p =
     sym (ap (λ w. ratio (negsuc 0) 1 *ℚ w) (sym (ratio_back p))
-    ∙ ratio-mul (negsuc 0) p.num 1 (den p) one (suc_pos p.below)
-    ∙ ratio_same _ (neg_ℤ p.num) _ (den p) (mul-pos one (suc_pos p.below)) (suc_pos p.below)
-    (ring_ℤ (p.num ∷ pos (den p) ∷ []) ((int (negsuc 0) ⊗ x0) ⊗ x1) (minus x0 ⊗ (int (pos 1) ⊗ x1)) refl))
+    ∙ ratio-mul (negsuc 0) p.numerator 1 (denominator p) one (suc_pos p.below)
+    ∙ ratio_same _ (neg_ℤ p.numerator) _ (denominator p) (mul-pos one (suc_pos p.below)) (suc_pos p.below)
+    (ring_ℤ (p.numerator ∷ pos (denominator p) ∷ []) ((int (negsuc 0) ⊗ x0) ⊗ x1) (minus x0 ⊗ (int (pos 1) ⊗ x1)) refl))
 
 of_add : (a b : ℤ) → int_ℚ (a +ℤ b) ≡ int_ℚ a +ℚ int_ℚ b
 unfolding int_ℚ
@@ -288,6 +288,6 @@ cross_back n m d e h k w =
     let p = ratio n d in
     let q = ratio m e in
     ap₂ (λ x y. x *ℤ pos y) s.num_is t.den_is
-    ∙ ap₂ (λ x y. (x *ℤ pos s.by) *ℤ (y *ℤ pos t.by)) (ap (λ (r : ℚ). r.num) w) (ap (λ (r : ℚ). pos (den r)) (sym w))
-    ∙ ring_ℤ (q.num ∷ pos s.by ∷ pos (den p) ∷ pos t.by ∷ []) ((x0 ⊗ x1) ⊗ (x2 ⊗ x3)) ((x0 ⊗ x3) ⊗ (x2 ⊗ x1)) refl
+    ∙ ap₂ (λ x y. (x *ℤ pos s.by) *ℤ (y *ℤ pos t.by)) (ap (λ (r : ℚ). r.numerator) w) (ap (λ (r : ℚ). pos (denominator r)) (sym w))
+    ∙ ring_ℤ (q.numerator ∷ pos s.by ∷ pos (denominator p) ∷ pos t.by ∷ []) ((x0 ⊗ x1) ⊗ (x2 ⊗ x3)) ((x0 ⊗ x3) ⊗ (x2 ⊗ x1)) refl
     ∙ sym (ap₂ (λ x y. x *ℤ pos y) t.num_is s.den_is)

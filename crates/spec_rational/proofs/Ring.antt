@@ -11,7 +11,7 @@ pub data Poly : Type 0 where
   minus : Poly → Poly
 
 -- a coefficient, and a product of variables
-pub record Monomial : Type 0 where
+pub record PowerProduct : Type 0 where
   pub coef : ℤ
   pub vars : List ℕ
 
@@ -35,12 +35,12 @@ abbrev pub join_vars : List ℕ → List ℕ → List ℕ
 join_vars [] ys = ys
 join_vars (x ∷ xs) ys = put_var x (join_vars xs ys)
 
-abbrev pub keep : ℤ → List ℕ → List Monomial → List Monomial
+abbrev pub keep : ℤ → List ℕ → List PowerProduct → List PowerProduct
 keep (pos zero) m s = s
 keep (pos (suc n)) m s = record { coef = pos (suc n); vars = m } ∷ s
 keep (negsuc n) m s = record { coef = negsuc n; vars = m } ∷ s
 
-abbrev pub put : ℤ → List ℕ → List Monomial → List Monomial
+abbrev pub put : ℤ → List ℕ → List PowerProduct → List PowerProduct
 put c m [] = keep c m []
 put c m (t ∷ s) =
     elim (eq_vars m t.vars) [
@@ -48,19 +48,19 @@ put c m (t ∷ s) =
       | false ↦ elim (lt_vars m t.vars) [ true ↦ keep c m (t ∷ s) | false ↦ t ∷ put c m s ]
     ]
 
-abbrev pub plus : List Monomial → List Monomial → List Monomial
+abbrev pub plus : List PowerProduct → List PowerProduct → List PowerProduct
 plus [] r = r
 plus (t ∷ s) r = put t.coef t.vars (plus s r)
 
-abbrev pub scaled : ℤ → List ℕ → List Monomial → List Monomial
+abbrev pub scaled : ℤ → List ℕ → List PowerProduct → List PowerProduct
 scaled c m [] = []
 scaled c m (t ∷ s) = put (c *ℤ t.coef) (join_vars m t.vars) (scaled c m s)
 
-abbrev pub times : List Monomial → List Monomial → List Monomial
+abbrev pub times : List PowerProduct → List PowerProduct → List PowerProduct
 times [] r = []
 times (t ∷ s) r = plus (scaled t.coef t.vars r) (times s r)
 
-abbrev pub normal : Poly → List Monomial
+abbrev pub normal : Poly → List PowerProduct
 normal (var k) = put (pos 1) (k ∷ []) []
 normal (int z) = keep z [] []
 normal (e ⊕ f) = plus (normal e) (normal f)
@@ -111,7 +111,7 @@ module _ (R : Type 0) (add mul : R → R → R) (neg : R → R) (of_int : ℤ �
   of_vars [] = of_int (pos 1)
   of_vars (x ∷ m) = mul (at x) (of_vars m)
 
-  abbrev of_monomials : List Monomial → R
+  abbrev of_monomials : List PowerProduct → R
   of_monomials [] = of_int (pos 0)
   of_monomials (t ∷ s) = add (mul (of_int t.coef) (of_vars t.vars)) (of_monomials s)
 
@@ -143,12 +143,12 @@ module _ (R : Type 0) (add mul : R → R → R) (neg : R → R) (of_int : ℤ �
   join_vars_is (x ∷ m) k =
       put_var_is x (join_vars m k) ∙ ap (mul (at x)) (join_vars_is m k) ∙ sym (laws.mul_assoc (at x) (of_vars m) (of_vars k))
 
-  keep_is : (c : ℤ) (m : List ℕ) (s : List Monomial) → of_monomials (keep c m s) ≡ add (mul (of_int c) (of_vars m)) (of_monomials s)
+  keep_is : (c : ℤ) (m : List ℕ) (s : List PowerProduct) → of_monomials (keep c m s) ≡ add (mul (of_int c) (of_vars m)) (of_monomials s)
   keep_is (pos zero) m s = sym (ap (λ w. add w (of_monomials s)) (laws.zero_mul (of_vars m)) ∙ laws.zero_add (of_monomials s))
   keep_is (pos (suc n)) m s = refl
   keep_is (negsuc n) m s = refl
 
-  put_is : (c : ℤ) (m : List ℕ) (s : List Monomial) → of_monomials (put c m s) ≡ add (mul (of_int c) (of_vars m)) (of_monomials s)
+  put_is : (c : ℤ) (m : List ℕ) (s : List PowerProduct) → of_monomials (put c m s) ≡ add (mul (of_int c) (of_vars m)) (of_monomials s)
   put_is c m [] = keep_is c m []
   put_is c m (t ∷ s) = go (eq_vars m t.vars) refl (put_is c m s)
     where
@@ -167,7 +167,7 @@ module _ (R : Type 0) (add mul : R → R → R) (neg : R → R) (of_int : ℤ �
       go true h rec = keep_is (c +ℤ t.coef) m s ∙ same h
       go false h rec = rest (lt_vars m t.vars) rec
 
-  plus_is : (s r : List Monomial) → of_monomials (plus s r) ≡ add (of_monomials s) (of_monomials r)
+  plus_is : (s r : List PowerProduct) → of_monomials (plus s r) ≡ add (of_monomials s) (of_monomials r)
   plus_is [] r = sym (laws.zero_add (of_monomials r))
   plus_is (t ∷ s) r =
       put_is t.coef t.vars (plus s r)
@@ -182,14 +182,14 @@ module _ (R : Type 0) (add mul : R → R → R) (neg : R → R) (of_int : ℤ �
       ∙ ap (mul (of_int c)) (swap_mul (of_int d) (of_vars m) (of_vars k))
       ∙ sym (laws.mul_assoc (of_int c) (of_vars m) (mul (of_int d) (of_vars k)))
 
-  scaled_is : (c : ℤ) (m : List ℕ) (s : List Monomial) → of_monomials (scaled c m s) ≡ mul (mul (of_int c) (of_vars m)) (of_monomials s)
+  scaled_is : (c : ℤ) (m : List ℕ) (s : List PowerProduct) → of_monomials (scaled c m s) ≡ mul (mul (of_int c) (of_vars m)) (of_monomials s)
   scaled_is c m [] = sym (laws.mul_comm (mul (of_int c) (of_vars m)) (of_int (pos 0)) ∙ laws.zero_mul (mul (of_int c) (of_vars m)))
   scaled_is c m (t ∷ s) =
       put_is (c *ℤ t.coef) (join_vars m t.vars) (scaled c m s)
       ∙ ap₂ add (mix c t.coef m t.vars) (scaled_is c m s)
       ∙ sym (laws.mul_add (mul (of_int c) (of_vars m)) (mul (of_int t.coef) (of_vars t.vars)) (of_monomials s))
 
-  times_is : (s r : List Monomial) → of_monomials (times s r) ≡ mul (of_monomials s) (of_monomials r)
+  times_is : (s r : List PowerProduct) → of_monomials (times s r) ≡ mul (of_monomials s) (of_monomials r)
   times_is [] r = sym (laws.zero_mul (of_monomials r))
   times_is (t ∷ s) r =
       plus_is (scaled t.coef t.vars r) (times s r)

@@ -2,7 +2,7 @@
 use Rattle.std.proofs.Common.{◌≡◌, ℕ, zero, suc, ◌*◌, ◌<◌, [], ◌∷◌, ℤ, pos, negsuc, ◌+ℤ◌, ◌*ℤ◌, neg_ℤ, ◌≤ℤ◌, ◌<ℤ◌, arith, refl, ap, sym, subst, ◌∙◌, mul-pos, zero-lt-suc, ◌⊎◌, inl, inr}
 use Rattle.std.proofs.lemmas.Int.{ints}
 use borrow.Author.Differences.{product_is}
-use Rattle.spec_rational.specs.Rational.{ℚ, 0ℚ, 1ℚ, den, ratio, int_ℚ, ◌+ℚ◌, ◌*ℚ◌, neg_ℚ, inv_ℚ, inverted, IsPositive, IsNotNegative}
+use Rattle.spec_rational.specs.Rational.{ℚ, 0ℚ, 1ℚ, denominator, ratio, int_ℚ, ◌+ℚ◌, ◌*ℚ◌, neg_ℚ, inv_ℚ, inverted, IsPositive, IsNotNegative}
 use Rattle.spec_rational.proofs.Ring.{var, int, ◌⊕◌, ◌⊗◌, minus}
 use Rattle.spec_rational.proofs.IntRing.{ring_ℤ}
 use Rattle.spec_rational.proofs.Rational.{ratio_scaled, ratio_back, by_ratio, ratio-mul, ratio_same, ring, suc_pos, suc_mul_pos}
@@ -32,16 +32,16 @@ p_is : (n : ℕ) → 0 < n → pos 0 <ℤ pos n
 p_is n h = omega (arith, ints)
 
 pub ratio_pos : (n : ℤ) (d : ℕ) → 0 < d → pos 0 <ℤ n → IsPositive (ratio n d)
-ratio_pos n d h k = let s = ratio_scaled n d h in record { positive = z_pos_back (ratio n d).num s.by (subst (λ x. pos 0 <ℤ x) s.num_is k) }
+ratio_pos n d h k = let s = ratio_scaled n d h in record { positive = z_pos_back (ratio n d).numerator s.by (subst (λ x. pos 0 <ℤ x) s.num_is k) }
 
 pub pos_ratio : (n : ℤ) (d : ℕ) → 0 < d → IsPositive (ratio n d) → pos 0 <ℤ n
-pos_ratio n d h k = let s = ratio_scaled n d h in subst (λ x. pos 0 <ℤ x) (sym s.num_is) (z_mul_pos (ratio n d).num (pos s.by) k.positive (p_is s.by s.by_pos))
+pos_ratio n d h k = let s = ratio_scaled n d h in subst (λ x. pos 0 <ℤ x) (sym s.num_is) (z_mul_pos (ratio n d).numerator (pos s.by) k.positive (p_is s.by s.by_pos))
 
 pub ratio_nonneg : (n : ℤ) (d : ℕ) → 0 < d → pos 0 ≤ℤ n → IsNotNegative (ratio n d)
-ratio_nonneg n d h k = let s = ratio_scaled n d h in record { not_negative = z_nonneg_back (ratio n d).num s.by s.by_pos (subst (λ x. pos 0 ≤ℤ x) s.num_is k) }
+ratio_nonneg n d h k = let s = ratio_scaled n d h in record { not_negative = z_nonneg_back (ratio n d).numerator s.by s.by_pos (subst (λ x. pos 0 ≤ℤ x) s.num_is k) }
 
 pub nonneg_ratio : (n : ℤ) (d : ℕ) → 0 < d → IsNotNegative (ratio n d) → pos 0 ≤ℤ n
-nonneg_ratio n d h k = let s = ratio_scaled n d h in subst (λ x. pos 0 ≤ℤ x) (sym s.num_is) (z_mul_nonneg (ratio n d).num (pos s.by) k.not_negative (omega (arith, ints)))
+nonneg_ratio n d h k = let s = ratio_scaled n d h in subst (λ x. pos 0 ≤ℤ x) (sym s.num_is) (z_mul_nonneg (ratio n d).numerator (pos s.by) k.not_negative (omega (arith, ints)))
 
 z_sum_pos : (a b : ℤ) → pos 0 <ℤ a → pos 0 ≤ℤ b → pos 0 <ℤ (a +ℤ b)
 z_sum_pos a b h k = omega (arith, ints)
@@ -52,24 +52,24 @@ z_sum_nonneg a b h k = omega (arith, ints)
 pub pos_add : {p q : ℚ} → IsPositive p → IsNotNegative q → IsPositive (p +ℚ q)
 unfolding ◌+ℚ◌
 pos_add {p} {q} h k =
-    ratio_pos _ (den p * den q) (suc_mul_pos p.below q.below)
-    (z_sum_pos _ _ (z_mul_pos p.num (pos (den q)) h.positive (p_is (den q) (suc_pos q.below)))
-    (z_mul_nonneg q.num (pos (den p)) k.not_negative (omega (arith, ints))))
+    ratio_pos _ (denominator p * denominator q) (suc_mul_pos p.below q.below)
+    (z_sum_pos _ _ (z_mul_pos p.numerator (pos (denominator q)) h.positive (p_is (denominator q) (suc_pos q.below)))
+    (z_mul_nonneg q.numerator (pos (denominator p)) k.not_negative (omega (arith, ints))))
 
 pub nonneg_add : {p q : ℚ} → IsNotNegative p → IsNotNegative q → IsNotNegative (p +ℚ q)
 unfolding ◌+ℚ◌
 nonneg_add {p} {q} h k =
-    ratio_nonneg _ (den p * den q) (suc_mul_pos p.below q.below)
-    (z_sum_nonneg _ _ (z_mul_nonneg p.num (pos (den q)) h.not_negative (omega (arith, ints)))
-    (z_mul_nonneg q.num (pos (den p)) k.not_negative (omega (arith, ints))))
+    ratio_nonneg _ (denominator p * denominator q) (suc_mul_pos p.below q.below)
+    (z_sum_nonneg _ _ (z_mul_nonneg p.numerator (pos (denominator q)) h.not_negative (omega (arith, ints)))
+    (z_mul_nonneg q.numerator (pos (denominator p)) k.not_negative (omega (arith, ints))))
 
 pub pos_mul : {p q : ℚ} → IsPositive p → IsPositive q → IsPositive (p *ℚ q)
 unfolding ◌*ℚ◌
-pos_mul {p} {q} h k = ratio_pos _ (den p * den q) (suc_mul_pos p.below q.below) (z_mul_pos p.num q.num h.positive k.positive)
+pos_mul {p} {q} h k = ratio_pos _ (denominator p * denominator q) (suc_mul_pos p.below q.below) (z_mul_pos p.numerator q.numerator h.positive k.positive)
 
 pub nonneg_mul : {p q : ℚ} → IsNotNegative p → IsNotNegative q → IsNotNegative (p *ℚ q)
 unfolding ◌*ℚ◌
-nonneg_mul {p} {q} h k = ratio_nonneg _ (den p * den q) (suc_mul_pos p.below q.below) (z_mul_nonneg p.num q.num h.not_negative k.not_negative)
+nonneg_mul {p} {q} h k = ratio_nonneg _ (denominator p * denominator q) (suc_mul_pos p.below q.below) (z_mul_nonneg p.numerator q.numerator h.not_negative k.not_negative)
 
 pub pos_nonneg : {q : ℚ} → IsPositive q → IsNotNegative q
 pos_nonneg {q} h = let k = h.positive in record { not_negative = omega (arith, ints) }
@@ -126,13 +126,13 @@ nonneg_cases q h = go (sign q)
 -- the inverse
 pub inv_mul : {q : ℚ} → IsPositive q → q *ℚ inv_ℚ q ≡ 1ℚ
 unfolding inv_ℚ int_ℚ
-inv_mul {q} h = go q.num refl h.positive
+inv_mul {q} h = go q.numerator refl h.positive
   where
-    go : (n : ℤ) → q.num ≡ n → pos 0 <ℤ n → q *ℚ inverted n (den q) ≡ 1ℚ
+    go : (n : ℤ) → q.numerator ≡ n → pos 0 <ℤ n → q *ℚ inverted n (denominator q) ≡ 1ℚ
     go (pos zero) e k = absurd (omega (arith, ints))
     go (pos (suc n)) e k =
-        ap (λ w. w *ℚ ratio (pos (den q)) (suc n)) (sym (ratio_back q) ∙ ap (λ w. ratio w (den q)) e)
-        ∙ ratio-mul (pos (suc n)) (pos (den q)) (den q) (suc n) (suc_pos q.below) (suc_pos n)
+        ap (λ w. w *ℚ ratio (pos (denominator q)) (suc n)) (sym (ratio_back q) ∙ ap (λ w. ratio w (denominator q)) e)
+        ∙ ratio-mul (pos (suc n)) (pos (denominator q)) (denominator q) (suc n) (suc_pos q.below) (suc_pos n)
         ∙ ratio_same _ (pos 1) _ 1 (suc_mul_pos q.below n) (omega arith) (omega (arith, ints))
     go (negsuc n) e k = absurd (omega (arith, ints))
 
@@ -171,14 +171,14 @@ zero_or_not q = go (sign q)
     go (is_pos p) = inr (λ e. not_pos_zero (subst IsPositive e p))
     go (is_neg p) = inr (λ e. not_pos_zero (subst IsPositive (ap neg_ℚ e ∙ ring [] (minus (int (pos 0))) (int (pos 0)) refl) p))
 
-zero_num : (p : ℚ) → p.num ≡ pos 0 → p ≡ 0ℚ
+zero_num : (p : ℚ) → p.numerator ≡ pos 0 → p ≡ 0ℚ
 unfolding int_ℚ
 zero_num p e =
     sym (ratio_back p)
-    ∙ ratio_same p.num (pos 0) (den p) 1 (suc_pos p.below) (omega arith)
-    (ap (λ z. z *ℤ pos 1) e ∙ ring_ℤ (pos (den p) ∷ []) (int (pos 0) ⊗ int (pos 1)) (int (pos 0) ⊗ var 0) refl)
+    ∙ ratio_same p.numerator (pos 0) (denominator p) 1 (suc_pos p.below) (omega arith)
+    (ap (λ z. z *ℤ pos 1) e ∙ ring_ℤ (pos (denominator p) ∷ []) (int (pos 0) ⊗ int (pos 1)) (int (pos 0) ⊗ var 0) refl)
 
-pub num_not_zero : (p : ℚ) → (p ≡ 0ℚ → ⊥) → p.num ≡ pos 0 → ⊥
+pub num_not_zero : (p : ℚ) → (p ≡ 0ℚ → ⊥) → p.numerator ≡ pos 0 → ⊥
 num_not_zero p n e = n (zero_num p e)
 
 own_inverse : (n : ℤ) (b : ℕ) → (n ≡ pos 0 → ⊥) → ratio n (suc b) *ℚ inverted n (suc b) ≡ 1ℚ
@@ -195,7 +195,7 @@ own_inverse (negsuc k) b n =
 
 pub times_inverse : (p : ℚ) → (p ≡ 0ℚ → ⊥) → p *ℚ inv_ℚ p ≡ 1ℚ
 unfolding inv_ℚ
-times_inverse p n = ap (λ q. q *ℚ inverted p.num (den p)) (sym (ratio_back p)) ∙ own_inverse p.num p.below (num_not_zero p n)
+times_inverse p n = ap (λ q. q *ℚ inverted p.numerator (denominator p)) (sym (ratio_back p)) ∙ own_inverse p.numerator p.below (num_not_zero p n)
 
 pub inverse_not_zero : (p : ℚ) → (p ≡ 0ℚ → ⊥) → inv_ℚ p ≡ 0ℚ → ⊥
 inverse_not_zero p n e = one_not_zero (sym (times_inverse p n) ∙ ap (λ q. p *ℚ q) e ∙ ring (p ∷ []) (var 0 ⊗ int (pos 0)) (int (pos 0)) refl)

@@ -2,56 +2,56 @@
 use Rattle.std.proofs.Common.{◌≡◌, ℕ, ◌+◌, ◌<◌, List, [], ◌∷◌, ◌++◌, length, take, get_or, Bool, true, false, nat_eq, pos, arith, refl, ap, ap₂, sym, ◌∙◌, inl, inr}
 use Rattle.std.proofs.lemmas.List.{take_more}
 use Rattle.spec_rational.specs.Rational.{ℚ, 0ℚ, 1ℚ, ◌+ℚ◌, ◌*ℚ◌, neg_ℚ}
-use Rattle.spec_rational.specs.Sums.{Product, sum_at, when, unit, factor_of, scaled_products, negated_products, Mentions}
+use Rattle.spec_rational.specs.Sums.{Monomial, sum_at, when, unit, factor_of, scaled_products, negated_products, Mentions}
 use Rattle.spec_rational.proofs.Ring.{var, int, ◌⊕◌, ◌⊗◌, minus}
 use Rattle.spec_rational.proofs.Rational.{ring}
 
 -- ---- in the assignment
 
-pub sum_at-plus : (v w : ℕ → ℚ) (s : List Product) → sum_at (λ x. v x +ℚ w x) s ≡ sum_at v s +ℚ sum_at w s
+pub sum_at-plus : (v w : ℕ → ℚ) (s : List Monomial) → sum_at (λ x. v x +ℚ w x) s ≡ sum_at v s +ℚ sum_at w s
 sum_at-plus v w [] = ring [] (int (pos 0)) (int (pos 0) ⊕ int (pos 0)) refl
 sum_at-plus v w (m ∷ s) =
     ap (λ r. m.factor *ℚ (v m.variable +ℚ w m.variable) +ℚ r) (sum_at-plus v w s)
     ∙ ring (m.factor ∷ v m.variable ∷ w m.variable ∷ sum_at v s ∷ sum_at w s ∷ []) (var 0 ⊗ (var 1 ⊕ var 2) ⊕ (var 3 ⊕ var 4)) ((var 0 ⊗ var 1 ⊕ var 3) ⊕ (var 0 ⊗ var 2 ⊕ var 4)) refl
 
-pub sum_at-times : (t : ℚ) (v : ℕ → ℚ) (s : List Product) → sum_at (λ x. t *ℚ v x) s ≡ t *ℚ sum_at v s
+pub sum_at-times : (t : ℚ) (v : ℕ → ℚ) (s : List Monomial) → sum_at (λ x. t *ℚ v x) s ≡ t *ℚ sum_at v s
 sum_at-times t v [] = ring (t ∷ []) (int (pos 0)) (var 0 ⊗ int (pos 0)) refl
 sum_at-times t v (m ∷ s) =
     ap (λ r. m.factor *ℚ (t *ℚ v m.variable) +ℚ r) (sum_at-times t v s)
     ∙ ring (m.factor ∷ v m.variable ∷ t ∷ sum_at v s ∷ []) (var 0 ⊗ (var 2 ⊗ var 1) ⊕ var 2 ⊗ var 3) (var 2 ⊗ (var 0 ⊗ var 1 ⊕ var 3)) refl
 
-pub sum_at-nowhere : (s : List Product) → sum_at (λ x. 0ℚ) s ≡ 0ℚ
+pub sum_at-nowhere : (s : List Monomial) → sum_at (λ x. 0ℚ) s ≡ 0ℚ
 sum_at-nowhere [] = refl
 sum_at-nowhere (m ∷ s) = ap (λ w. m.factor *ℚ 0ℚ +ℚ w) (sum_at-nowhere s) ∙ ring (m.factor ∷ []) (var 0 ⊗ int (pos 0) ⊕ int (pos 0)) (int (pos 0)) refl
 
 -- the sum looks at the variables of its products alone
-pub sum_at-agrees : (v w : ℕ → ℚ) (s : List Product) → ((x : ℕ) → Mentions x s → v x ≡ w x) → sum_at v s ≡ sum_at w s
+pub sum_at-agrees : (v w : ℕ → ℚ) (s : List Monomial) → ((x : ℕ) → Mentions x s → v x ≡ w x) → sum_at v s ≡ sum_at w s
 sum_at-agrees v w [] h = refl
 sum_at-agrees v w (m ∷ s) h = ap₂ (λ a b. m.factor *ℚ a +ℚ b) (h m.variable (inl refl)) (sum_at-agrees v w s (λ x k. h x (inr k)))
 
 -- ---- in the products
 
-pub sum_at-append : (v : ℕ → ℚ) (s t : List Product) → sum_at v (s ++ t) ≡ sum_at v s +ℚ sum_at v t
+pub sum_at-append : (v : ℕ → ℚ) (s t : List Monomial) → sum_at v (s ++ t) ≡ sum_at v s +ℚ sum_at v t
 sum_at-append v [] t = ring (sum_at v t ∷ []) (var 0) (int (pos 0) ⊕ var 0) refl
 sum_at-append v (m ∷ s) t =
     ap (λ w. m.factor *ℚ v m.variable +ℚ w) (sum_at-append v s t)
     ∙ ring (m.factor ∷ v m.variable ∷ sum_at v s ∷ sum_at v t ∷ []) (var 0 ⊗ var 1 ⊕ (var 2 ⊕ var 3)) (var 0 ⊗ var 1 ⊕ var 2 ⊕ var 3) refl
 
-pub sum_at-push : (v : ℕ → ℚ) (s t : List Product) (m : Product) → t ≡ s ++ m ∷ [] → sum_at v t ≡ sum_at v s +ℚ m.factor *ℚ v m.variable
+pub sum_at-push : (v : ℕ → ℚ) (s t : List Monomial) (m : Monomial) → t ≡ s ++ m ∷ [] → sum_at v t ≡ sum_at v s +ℚ m.factor *ℚ v m.variable
 sum_at-push v s t m e =
     ap (sum_at v) e ∙ sum_at-append v s (m ∷ [])
     ∙ ring (sum_at v s ∷ m.factor ∷ v m.variable ∷ []) (var 0 ⊕ (var 1 ⊗ var 2 ⊕ int (pos 0))) (var 0 ⊕ var 1 ⊗ var 2) refl
 
-pub sum_at-take : (v : ℕ → ℚ) (s : List Product) (i : ℕ) (m : Product) → i < length s → m ≡ get_or s i m → sum_at v (take (i + 1) s) ≡ sum_at v (take i s) +ℚ m.factor *ℚ v m.variable
+pub sum_at-take : (v : ℕ → ℚ) (s : List Monomial) (i : ℕ) (m : Monomial) → i < length s → m ≡ get_or s i m → sum_at v (take (i + 1) s) ≡ sum_at v (take i s) +ℚ m.factor *ℚ v m.variable
 sum_at-take v s i m h e = sum_at-push v (take i s) (take (i + 1) s) m (take_more s i m h ∙ ap (λ x. take i s ++ x ∷ []) (sym e))
 
-pub sum_at-scaled_products : (v : ℕ → ℚ) (k : ℚ) (s : List Product) → sum_at v (scaled_products k s) ≡ k *ℚ sum_at v s
+pub sum_at-scaled_products : (v : ℕ → ℚ) (k : ℚ) (s : List Monomial) → sum_at v (scaled_products k s) ≡ k *ℚ sum_at v s
 sum_at-scaled_products v k [] = ring (k ∷ []) (int (pos 0)) (var 0 ⊗ int (pos 0)) refl
 sum_at-scaled_products v k (m ∷ s) =
     ap (λ w. (k *ℚ m.factor) *ℚ v m.variable +ℚ w) (sum_at-scaled_products v k s)
     ∙ ring (k ∷ m.factor ∷ v m.variable ∷ sum_at v s ∷ []) ((var 0 ⊗ var 1) ⊗ var 2 ⊕ var 0 ⊗ var 3) (var 0 ⊗ (var 1 ⊗ var 2 ⊕ var 3)) refl
 
-pub sum_at-negated_products : (v : ℕ → ℚ) (s : List Product) → sum_at v (negated_products s) ≡ neg_ℚ (sum_at v s)
+pub sum_at-negated_products : (v : ℕ → ℚ) (s : List Monomial) → sum_at v (negated_products s) ≡ neg_ℚ (sum_at v s)
 sum_at-negated_products v [] = ring [] (int (pos 0)) (minus (int (pos 0))) refl
 sum_at-negated_products v (m ∷ s) =
     ap (λ b. neg_ℚ m.factor *ℚ v m.variable +ℚ b) (sum_at-negated_products v s)
@@ -63,7 +63,7 @@ when_unit : (b : Bool) (q : ℚ) → when b q ≡ q *ℚ when b 1ℚ
 when_unit true q = ring (q ∷ []) (var 0) (var 0 ⊗ int (pos 1)) refl
 when_unit false q = ring (q ∷ []) (int (pos 0)) (var 0 ⊗ int (pos 0)) refl
 
-pub factor_of-is : (x : ℕ) (s : List Product) → factor_of x s ≡ sum_at (unit x) s
+pub factor_of-is : (x : ℕ) (s : List Monomial) → factor_of x s ≡ sum_at (unit x) s
 factor_of-is x [] = refl
 factor_of-is x (m ∷ s) = ap₂ (λ a b. a +ℚ b) (when_unit (nat_eq x m.variable) m.factor) (factor_of-is x s)
 

@@ -9,8 +9,8 @@ ghost use Rattle.std.specs.Cmp.{IsTotalOrder};
 ghost use Rattle.std.specs.Ordering.{MatchOrdering};
 ghost use Rattle.spec_rational.specs.Gcd.{gcd};
 ghost use Rattle.spec_rational.specs.Order.{cmp_ℚ};
-ghost use Rattle.spec_rational.specs.Rational.{ℚ, 0ℚ, 1ℚ, den, ratio, quotient, ◌+ℚ◌, ◌-ℚ◌, ◌*ℚ◌, ◌/ℚ◌, neg_ℚ, inv_ℚ, IsPositive, IsNotNegative, ◌≤ℚ◌, ◌<ℚ◌};
-ghost use Rattle.spec_rational.specs.Sums.{Product, sum_at, factor_of, unit};
+ghost use Rattle.spec_rational.specs.Rational.{ℚ, 0ℚ, 1ℚ, denominator, ratio, quotient, ◌+ℚ◌, ◌-ℚ◌, ◌*ℚ◌, ◌/ℚ◌, neg_ℚ, inv_ℚ, IsPositive, IsNotNegative, ◌≤ℚ◌, ◌<ℚ◌};
+ghost use Rattle.spec_rational.specs.Sums.{Monomial, sum_at, factor_of, unit};
 
 /// `gcd` is the greatest common divisor, and what has no divisor in common with one factor of a
 /// product and divides the product divides the other factor (Gauss 1801).
@@ -24,7 +24,7 @@ pub fn greatest_common_divisor()
 pub fn equal_quotients()
     ensures same { (n m : ℤ) (d e : ℕ) → 0 < d → 0 < e → n *ℤ pos e ≡ m *ℤ pos d → ratio n d ≡ ratio m e }
     ensures back { (n m : ℤ) (d e : ℕ) → 0 < d → 0 < e → ratio n d ≡ ratio m e → n *ℤ pos e ≡ m *ℤ pos d }
-    ensures own { (q : ℚ) → ratio q.num (den q) ≡ q }
+    ensures own { (q : ℚ) → ratio q.numerator (denominator q) ≡ q }
 {}
 
 /// The operations are those of quotients as they are taught.
@@ -52,7 +52,7 @@ pub fn field()
 pub fn total_order()
     ensures told { (p q : ℚ) → MatchOrdering (cmp_ℚ p q) (p <ℚ q) (p ≡ q) (q <ℚ p) }
     ensures total { IsTotalOrder cmp_ℚ }
-    ensures cross { (p q : ℚ) → p <ℚ q → (p.num *ℤ pos (den q)) <ℤ (q.num *ℤ pos (den p)) }
+    ensures cross { (p q : ℚ) → p <ℚ q → (p.numerator *ℤ pos (denominator q)) <ℤ (q.numerator *ℤ pos (denominator p)) }
     ensures irreflexive { (p : ℚ) → p <ℚ p → ⊥ }
     ensures weak { (p q : ℚ) → (p <ℚ q) ⊎ (q ≤ℚ p) }
     ensures antisymmetric { (p q : ℚ) → p ≤ℚ q → q ≤ℚ p → p ≡ q }
@@ -62,5 +62,5 @@ pub fn total_order()
 
 /// A coefficient of a sum of products is the sum's value where its variable is 1 and the others are 0.
 pub fn coefficients()
-    ensures { (x : ℕ) (s : List Product) → factor_of x s ≡ sum_at (unit x) s }
+    ensures { (x : ℕ) (s : List Monomial) → factor_of x s ≡ sum_at (unit x) s }
 {}

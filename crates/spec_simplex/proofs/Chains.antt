@@ -1,6 +1,6 @@
 -- A chain of no exchange, and a chain with one exchange more.
 use Rattle.std.proofs.Common.{◌≡◌, ℕ, suc, ◌<◌, ◌≤◌, Bool, true, false, nat_lt, arith, refl, ap, sym, subst, ◌∙◌, ◌⊎◌, inl, inr}
-use Rattle.spec_simplex.specs.Dictionary.{Dictionary, IsDictionary, AreAlike}
+use Rattle.spec_simplex.specs.Dictionary.{Dictionary, IsDictionary, AreEquivalent}
 use Rattle.spec_simplex.specs.Rule.{Chain, IsDue, Exchanged}
 use Rattle.spec_simplex.proofs.Solutions.{alike_itself}
 
@@ -31,7 +31,7 @@ not_past n k h = grind arith
 last_or_before : (n k : ℕ) → k < suc n → (k ≡ n) ⊎ (k < n)
 last_or_before n k h = grind arith
 
-module _ (size : ℕ) (restricted : ℕ → Bool) (first : Dictionary) (n : ℕ) (d e : Dictionary) (chain : Chain size restricted first n d) (c r : ℕ) (w : IsDictionary size e) (a : AreAlike size d e) (due : IsDue restricted d c r) (ex : Exchanged d c r e) where
+module _ (size : ℕ) (restricted : ℕ → Bool) (first : Dictionary) (n : ℕ) (d e : Dictionary) (chain : Chain size restricted first n d) (c r : ℕ) (w : IsDictionary size e) (a : AreEquivalent size d e) (due : IsDue restricted d c r) (ex : Exchanged d c r e) where
   abbrev stage_after : ℕ → Dictionary
   stage_after k = past (nat_lt n k) e (chain.stage k)
 
@@ -41,16 +41,16 @@ module _ (size : ℕ) (restricted : ℕ → Bool) (first : Dictionary) (n : ℕ)
   abbrev row_at : ℕ → ℕ
   row_at k = past (nat_lt k n) (chain.row k) r
 
-  alike_to_last : AreAlike size first e
+  alike_to_last : AreEquivalent size first e
   alike_to_last x z =
-      let p = subst (λ s. AreAlike size first s) chain.ends (chain.alike n) in
+      let p = subst (λ s. AreEquivalent size first s) chain.ends (chain.alike n) in
       (λ s. (a x z).0 ((p x z).0 s), λ s. (p x z).1 ((a x z).1 s))
 
   is_at : (b : Bool) (k : ℕ) → IsDictionary size (past b e (chain.stage k))
   is_at true k = w
   is_at false k = chain.is k
 
-  alike_at : (b : Bool) (k : ℕ) → AreAlike size first (past b e (chain.stage k))
+  alike_at : (b : Bool) (k : ℕ) → AreEquivalent size first (past b e (chain.stage k))
   alike_at true k = alike_to_last
   alike_at false k = chain.alike k
 

@@ -3,7 +3,7 @@ use Rattle.std.proofs.Common.{◌≡◌, ℕ, ◌<◌, [], ◌∷◌, Bool, true
 use Rattle.spec_rational.specs.Rational.{ℚ, 0ℚ, ◌+ℚ◌, ◌*ℚ◌}
 use Rattle.spec_rational.proofs.Ring.{var, int, ◌⊕◌, ◌⊗◌}
 use Rattle.spec_rational.proofs.Rational.{ring}
-use Rattle.spec_simplex.specs.Dictionary.{Dictionary, IsDictionary, Satisfies, AreAlike, sum_below, pick, ray, basic_solution}
+use Rattle.spec_simplex.specs.Dictionary.{Dictionary, IsDictionary, Satisfies, AreEquivalent, sum_below, pick, ray, basic_solution}
 use Rattle.spec_simplex.proofs.Sums.{sum_none, sum_only}
 
 -- ---- small facts
@@ -81,7 +81,7 @@ module _ (size : ℕ) (d : Dictionary) (w : IsDictionary size d) where
   }
 
 -- a dictionary writes what satisfies it or one that is alike
-pub writes : (size : ℕ) (d e : Dictionary) → IsDictionary size e → AreAlike size d e → Writes size (Satisfies size d) e
+pub writes : (size : ℕ) (d e : Dictionary) → IsDictionary size e → AreEquivalent size d e → Writes size (Satisfies size d) e
 writes size d e w a = record {
   rows_below = w.rows_below;
   columns_below = w.columns_below;
@@ -94,5 +94,5 @@ writes size d e w a = record {
   rays = λ c h y. (a _ _).1 (ray_satisfies size e w c h y);
 }
 
-pub alike_itself : (size : ℕ) (d : Dictionary) → AreAlike size d d
+pub alike_itself : (size : ℕ) (d : Dictionary) → AreEquivalent size d d
 alike_itself size d x z = (λ s. s, λ s. s)

@@ -44,8 +44,8 @@ pub record Satisfies (size : ℕ) (d : Dictionary) (x : ℕ → ℚ) (z : ℚ) :
   pub asked : z ≡ d.value +ℚ sum_below size (λ c. d.coefficient c *ℚ x c)
 
 -- the same values satisfy both
-abbrev pub AreAlike : ℕ → Dictionary → Dictionary → Type 0
-AreAlike size d e = (x : ℕ → ℚ) (z : ℚ) → Satisfies size d x z ↔ Satisfies size e x z
+abbrev pub AreEquivalent : ℕ → Dictionary → Dictionary → Type 0
+AreEquivalent size d e = (x : ℕ → ℚ) (z : ℚ) → Satisfies size d x z ↔ Satisfies size e x z
 
 -- the restricted quantities are not below zero
 abbrev pub Obeys : (ℕ → Bool) → (ℕ → ℚ) → Type 0

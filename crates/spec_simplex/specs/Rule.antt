@@ -1,7 +1,7 @@
 -- Exchanges by the rule of the least numbers (Bland 1977), and chains of them.
 use Rattle.std.specs.Prelude.{◌≡◌, ℕ, suc, ◌<◌, ◌≤◌, Bool, true, false}
 use Rattle.spec_rational.specs.Rational.{ℚ, 0ℚ, ◌/ℚ◌, neg_ℚ, IsPositive, ◌≤ℚ◌}
-use Rattle.spec_simplex.specs.Dictionary.{Dictionary, IsDictionary, AreAlike}
+use Rattle.spec_simplex.specs.Dictionary.{Dictionary, IsDictionary, AreEquivalent}
 
 -- a restricted column with a positive coefficient in the asked form
 pub record Raises (restricted : ℕ → Bool) (d : Dictionary) (c : ℕ) : Type 0 where
@@ -50,7 +50,7 @@ pub record Chain (size : ℕ) (restricted : ℕ → Bool) (first : Dictionary) (
   pub begins : stage 0 ≡ first
   pub ends : stage n ≡ last
   pub is : (k : ℕ) → IsDictionary size (stage k)
-  pub alike : (k : ℕ) → AreAlike size first (stage k)
+  pub alike : (k : ℕ) → AreEquivalent size first (stage k)
   pub due : (k : ℕ) → k < n → IsDue restricted (stage k) (column k) (row k)
   pub exchanged : (k : ℕ) → k < n → Exchanged (stage k) (column k) (row k) (stage (suc k))
 

@@ -5,14 +5,14 @@
 
 ghost use Rattle.std.specs.Prelude.{◌≡◌, ℕ, suc, ◌<◌, ◌≤◌, ◌^◌, Bool};
 ghost use Rattle.spec_rational.specs.Rational.{◌≤ℚ◌};
-ghost use Rattle.spec_simplex.specs.Dictionary.{Dictionary, IsDictionary, AreAlike, IsFeasible, IsGreatest, IsUnbounded};
+ghost use Rattle.spec_simplex.specs.Dictionary.{Dictionary, IsDictionary, AreEquivalent, IsFeasible, IsGreatest, IsUnbounded};
 ghost use Rattle.spec_simplex.specs.Rule.{IsDue, Exchanged, Chain, IsOptimal, IsUnlimited, IsFree};
 
 /// A dictionary is a chain of no exchange, and a chain goes on by an exchange that is due.
 pub fn chains_go_on()
     ensures begin { (size : ℕ) (restricted : ℕ → Bool) (d : Dictionary) → IsDictionary size d → Chain size restricted d 0 d }
     ensures go_on { (size : ℕ) (restricted : ℕ → Bool) (first : Dictionary) (n : ℕ) (d e : Dictionary) (c r : ℕ)
-        → Chain size restricted first n d → IsDictionary size e → AreAlike size d e → IsDue restricted d c r → Exchanged d c r e
+        → Chain size restricted first n d → IsDictionary size e → AreEquivalent size d e → IsDue restricted d c r → Exchanged d c r e
         → Chain size restricted first (suc n) e }
 {}
 
@@ -29,9 +29,9 @@ pub fn chains_end()
 /// An exchange of the rule keeps the dictionary feasible, and the asked form's value does not fall.
 pub fn exchanges_keep_feasibility()
     ensures feasible { (size : ℕ) (restricted : ℕ → Bool) (d e : Dictionary) (c r : ℕ)
-        → IsDictionary size d → IsDictionary size e → AreAlike size d e → IsFeasible restricted d → IsDue restricted d c r → Exchanged d c r e → IsFeasible restricted e }
+        → IsDictionary size d → IsDictionary size e → AreEquivalent size d e → IsFeasible restricted d → IsDue restricted d c r → Exchanged d c r e → IsFeasible restricted e }
     ensures value { (size : ℕ) (restricted : ℕ → Bool) (d e : Dictionary) (c r : ℕ)
-        → IsDictionary size d → IsDictionary size e → AreAlike size d e → IsFeasible restricted d → IsDue restricted d c r → Exchanged d c r e → d.value ≤ℚ e.value }
+        → IsDictionary size d → IsDictionary size e → AreEquivalent size d e → IsFeasible restricted d → IsDue restricted d c r → Exchanged d c r e → d.value ≤ℚ e.value }
 {}
 
 /// What the last dictionary of a chain says of the asked form.

@@ -66,7 +66,7 @@ open_end ops t = right_end (operator_of ops t)
 
 -- a number below zero
 abbrev pub is_negative : ℚ → Bool
-is_negative q = elim q.num [ pos n ↦ false | negsuc n ↦ true ]
+is_negative q = elim q.numerator [ pos n ↦ false | negsuc n ↦ true ]
 
 -- an atom that is an operator, or a negative number: as an operand of an operator it has parentheses
 abbrev pub is_never_bare : Ops → Tree → Bool

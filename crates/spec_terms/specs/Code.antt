@@ -2,13 +2,13 @@
 use base.Stored.{Coded, Gv, gnil, gnum, gcons}
 use Rattle.std.specs.Prelude.{◌≡◌, ℕ, ℤ}
 use Rattle.std.specs.Coded.{code_by, coded×, coded_ℕ, coded_ℤ}
-use Rattle.spec_rational.specs.Rational.{ℚ, den, ratio}
+use Rattle.spec_rational.specs.Rational.{ℚ, denominator, ratio}
 use Rattle.spec_rational.proofs.Rational.{ratio_back}
 use Rattle.spec_terms.specs.Term.{Term, Terms, Var, Number, Name, Compound, one, more}
 
 -- a rational as a stored value
 abbrev pub coded_rational : Coded ℚ
-coded_rational = code_by (ℤ × ℕ) (coded× coded_ℤ coded_ℕ) (λ q. (q.num, den q)) (λ p. ratio p.0 p.1) ratio_back
+coded_rational = code_by (ℤ × ℕ) (coded× coded_ℤ coded_ℕ) (λ q. (q.numerator, denominator q)) (λ p. ratio p.0 p.1) ratio_back
 
 abbrev mutual
   pub term_code : {A : Type 0} → Coded A → Term A → Gv

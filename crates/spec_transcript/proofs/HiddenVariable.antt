@@ -2,7 +2,7 @@
 use Rattle.std.proofs.Common.{◌≡◌, ◌≢◌, ℕ, zero, suc, List, [], ◌∷◌, pos, negsuc, Option, Some, None, inl, inr, codes, refl, sym, ap, ◌∙◌, subst}
 use Rattle.spec_rational.specs.Gcd.{gcd}
 use Rattle.spec_rational.specs.Rational.{ℚ, 0ℚ, 1ℚ, ratio, int_ℚ, neg_ℚ, ◌+ℚ◌, ◌*ℚ◌}
-use Rattle.spec_rational.specs.Sums.{Product, Mentions}
+use Rattle.spec_rational.specs.Sums.{Monomial, Mentions}
 use Rattle.spec_rational.proofs.Ring.{var, int, ◌⊕◌, ◌⊗◌}
 use Rattle.spec_rational.proofs.Rational.{ring}
 use Rattle.spec_linear.specs.Form.{Linear, value_at}
@@ -32,7 +32,7 @@ second = equation (alone (Variable 2)) (joined (Variable 1) Plus (numeral 2))
 abbrev shifts : Query
 shifts = query (first ∷ second ∷ []) (named (codes "X") 0 ∷ named (codes "_A") 1 ∷ named (codes "Y") 2 ∷ []) 3
 
-abbrev y_alone : List Product
+abbrev y_alone : List Monomial
 y_alone = record { variable = 2; factor = 1ℚ } ∷ []
 
 -- Y-1
@@ -67,7 +67,7 @@ known x (inr (inr never)) = elim never [ ]
 
 one_nonzero : 1ℚ ≢ 0ℚ
 unfolding ratio int_ℚ gcd
-one_nonzero e = let same : pos 1 ≡ pos 0 = ap (λ (q : ℚ). q.num) e in cc
+one_nonzero e = let same : pos 1 ≡ pos 0 = ap (λ (q : ℚ). q.numerator) e in cc
 
 before : (x : ℕ) (f : Linear) → shift_at x ≡ Some f → IsBefore order x f.products
 before zero f e = let same : less_one ≡ f = cc in subst (λ g. IsBefore order 0 g.products) same (record { ordered = inr (inl (refl, inl (refl, tt))); nonzero = (one_nonzero, tt) })

@@ -21,7 +21,7 @@ use Rattle.spec_queries.specs.declared.Term.TheVariants.{Variable}
 use Rattle.spec_queries.specs.Tree.{Relation, Query}
 use Rattle.spec_queries.specs.Meaning.{told, constraint_of, operations}
 use Rattle.spec_queries.specs.Examples.{number as numeral, times, alone, joined, equation, named, query}
-use Rattle.spec_transcript.specs.Moments.{IsDue, turned}
+use Rattle.spec_transcript.specs.Moments.{IsStopDue, turned}
 use Rattle.spec_transcript.specs.Session.{reading, no_step, one_more, asks, selects, prunes, settles, answers, fails, ends, stops_settling, branch_of}
 use Rattle.spec_transcript.specs.Samples.{Writes, WritesStop}
 use Rattle.spec_transcript.proofs.Values.{told_relations}
@@ -134,7 +134,7 @@ sum_known x (inr never) = elim never [ ]
 
 minus_one_nonzero : int_ℚ (negsuc 0) ≢ 0ℚ
 unfolding ratio int_ℚ gcd
-minus_one_nonzero e = let same : negsuc 0 ≡ pos 0 = ap (λ (q : ℚ). q.num) e in cc
+minus_one_nonzero e = let same : negsuc 0 ≡ pos 0 = ap (λ (q : ℚ). q.numerator) e in cc
 
 sum_before : (x : ℕ) (f : Linear) → rest_at x ≡ Some f → IsBefore both x f.products
 sum_before zero f e = let same : rest ≡ f = cc in subst (λ g. IsBefore both 0 g.products) same (record { ordered = inl (refl, inl (refl, tt)); nonzero = (minus_one_nonzero, tt) })
@@ -200,7 +200,7 @@ two_numbers = query (is_number 1 ∷ is_number 2 ∷ []) (named (codes "X") 0 �
 
 one_is_two : int_ℚ (pos 1) ≡ int_ℚ (pos 2) → ⊥
 unfolding ratio int_ℚ gcd
-one_is_two e = let same : pos 1 ≡ pos 2 = ap (λ (q : ℚ). q.num) e in cc
+one_is_two e = let same : pos 1 ≡ pos 2 = ap (λ (q : ℚ). q.numerator) e in cc
 
 contradicts : (a : ℕ → ℚ) → Satisfies a (told two_numbers) → ⊥
 contradicts a (one, (two, _)) = one_is_two (sym ((told_relations a (is_number 1)).0 one) ∙ (told_relations a (is_number 2)).0 two)
@@ -228,7 +228,7 @@ the_operation = record { operation = Sum; left = constant_form (int_ℚ (pos gre
 abbrev the_moment : Moment
 the_moment = record { stage = settling; list = []; asked = []; operations = operations past ++ map turned past.relations; rows = [] }
 
-is_due : IsDue past settling the_pair
+is_due : IsStopDue past settling the_pair
 unfolding ratio int_ℚ gcd
 is_due = record {
   moment = the_moment;

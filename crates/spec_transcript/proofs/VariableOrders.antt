@@ -1,7 +1,7 @@
 -- Others in front of some distinct variables, so that all that a list mentions stand in the order.
 use Rattle.std.proofs.Common.{◌≡◌, ◌⊎◌, ℕ, List, [], ◌∷◌, ◌++◌, Bool, true, false, arith, refl, sym, subst, append_assoc, inl, inr}
 use Rattle.std.specs.Prelude.{◌==◌}
-use Rattle.spec_rational.specs.Sums.{Product, Mentions}
+use Rattle.spec_rational.specs.Sums.{Monomial, Mentions}
 use Rattle.spec_linear.specs.Solution.{Constraint, Has, SomeMentions}
 use Rattle.spec_linear.proofs.Denominators.{has_right}
 use Rattle.spec_linear.proofs.Values.{nat_same}
@@ -44,7 +44,7 @@ with_both targets P Q q p = record {
     has x (inl m) = p.has x m
     has x (inr m) = has_right x p.others (q.others ++ targets) (q.has x m)
 
-with_products : (s : List Product) (targets : List ℕ) → AreDistinct targets → Extended targets (λ x. Mentions x s)
+with_products : (s : List Monomial) (targets : List ℕ) → AreDistinct targets → Extended targets (λ x. Mentions x s)
 with_products [] targets d = record { others = []; distinct = d; has = λ x m. absurd m }
 with_products (m ∷ s) targets d =
     let r = with_products s targets d in

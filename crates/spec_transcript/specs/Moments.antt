@@ -32,7 +32,7 @@ pub record IsMoment (q : Query) (stage : Stage) (m : Moment) : Type 0 where
   pub rows : m.rows ≡ []
 
 -- at some moment of this stage an operation refuses the pair
-pub record IsDue (q : Query) (stage : Stage) (p : Pair) : Type 0 where
+pub record IsStopDue (q : Query) (stage : Stage) (p : Pair) : Type 0 where
   pub moment : Moment
   pub is_moment : IsMoment q stage moment
   pub due : OverflowDue moment p

@@ -9,7 +9,7 @@ use Rattle.spec_answers.specs.Answer.{Branch, AnswerForm}
 use Rattle.spec_queries.specs.Tree.{Query}
 use Rattle.spec_queries.specs.Grammar.{queries_of}
 use Rattle.spec_queries.specs.Meaning.{told}
-use Rattle.spec_transcript.specs.Moments.{IsDue}
+use Rattle.spec_transcript.specs.Moments.{IsStopDue}
 
 -- ---- lines
 
@@ -94,8 +94,8 @@ pub data Step : Session → Text → Mark → Session → Type 0 where
       Step (searching q (settled values) qs) (text ++ answer_end) plain_line (searching q ended qs)
   fails : {q : Query} {qs : List Query} → Step (searching q ended qs) no_line plain_line (reading qs)
   -- A stop has its cause, a pair that an operation refuses. Nothing is written of a stopped answer.
-  stops_settling : {q : Query} {qs : List Query} (p : Pair) → IsDue q settling p → Step (searching q unsettled qs) overflow_line stop_line (reading qs)
-  stops_answering : {q : Query} {qs : List Query} {values : ℕ → Option ℚ} (p : Pair) → IsDue q answering p →
+  stops_settling : {q : Query} {qs : List Query} (p : Pair) → IsStopDue q settling p → Step (searching q unsettled qs) overflow_line stop_line (reading qs)
+  stops_answering : {q : Query} {qs : List Query} {values : ℕ → Option ℚ} (p : Pair) → IsStopDue q answering p →
       Step (searching q (settled values) qs) overflow_line stop_line (reading qs)
 
 -- some steps, with all that they write

@@ -1,4 +1,4 @@
-use Rattle.spec_rational.specs.Rational.{den}
+use Rattle.spec_rational.specs.Rational.{denominator}
 use Rattle.spec_arithmetic.proofs.Rounded.{floor_between, ceiling_between, truncated_down, truncated_up}
 use Rattle.spec_arithmetic.proofs.roundings.Goals as goal
 
@@ -6,6 +6,6 @@ pub returns : goal.returns
 returns c = record {
   floor = floor_between;
   ceiling = ceiling_between;
-  down = λ q h. truncated_down q.num (den q) h;
-  up = λ q h. truncated_up q.num (den q) h;
+  down = λ q h. truncated_down q.numerator (denominator q) h;
+  up = λ q h. truncated_up q.numerator (denominator q) h;
 }

@@ -22,8 +22,8 @@ summed c r = record {
   right_fits = c.in-Some-fitting.ensures.1;
   sum_is = c.in-Some-total.ensures.0
       ∙ ap₂ (λ x y. x +ℤ y)
-      (first_is c.sign_is_negative.result c.args.self.num c.with_sign-first.result c.top.result _ c.in-Some.left c.sign_is_negative.ensures c.top.ensures.value (c.in-Some.ensures.0 ∙ ap (λ x. c.top.result * x) c.part-d_rest.ensures) c.in-Some.ensures.1 c.with_sign-first.ensures)
-      (first_is c.sign_is_negative-2.result c.args.other.num c.with_sign-second.result c.top-2.result _ c.in-Some-fitting.right c.sign_is_negative-2.ensures c.top-2.ensures.value (c.in-Some-fitting.ensures.0 ∙ ap (λ x. c.top-2.result * x) c.part-b_rest.ensures) c.in-Some-fitting.ensures.1 c.with_sign-second.ensures);
+      (first_is c.sign_is_negative.result c.args.self.numerator c.with_sign-first.result c.top.result _ c.in-Some.left c.sign_is_negative.ensures c.top.ensures.value (c.in-Some.ensures.0 ∙ ap (λ x. c.top.result * x) c.part-d_rest.ensures) c.in-Some.ensures.1 c.with_sign-first.ensures)
+      (first_is c.sign_is_negative-2.result c.args.other.numerator c.with_sign-second.result c.top-2.result _ c.in-Some-fitting.right c.sign_is_negative-2.ensures c.top-2.ensures.value (c.in-Some-fitting.ensures.0 ∙ ap (λ x. c.top-2.result * x) c.part-b_rest.ensures) c.in-Some-fitting.ensures.1 c.with_sign-second.ensures);
   sum_fits = c.in-Some-total.ensures.1;
   y_is = c.in-Some-fitting-2.ensures.0 ∙ ap (λ x. x * c.bottom-d.result) c.part-b_rest.ensures;
   y_fits = c.in-Some-fitting-2.ensures.1;
