@@ -514,3 +514,12 @@ arg_live n is e i x lt at_i below le =
 pub arg_is : (ts : List HeapTerm) (us : List HeapTerm) (is : List ℕ) (i x : ℕ) → us ≡ map (at ts) is → i < length is → x ≡ get_or is i x → slice_get us i ≡ Some (at ts x)
 arg_is ts us is i x e lt at_i =
     ap (λ (l : List HeapTerm). slice_get l i) e ∙ slice_get-map (at ts) is i ∙ ap (option_map (at ts)) (slice_get_read is (length is) i x refl lt at_i)
+
+pub inside_free : (cells : List Cell) (vars : List ℕ) (bound : List (Option ℕ)) (order : List Binding) (heap : IsHeap cells vars bound order) (id v : ℕ) → Occurs v (at (meanings cells order) id) → (v < length (map (at (meanings cells order)) vars)) × (at (map (at (meanings cells order)) vars) v ≡ Var v)
+inside_free cells vars bound order heap id v e =
+    let f = heap.free id v e in
+    let w : v < length vars = omega (arith, f.0, heap.one_each) in
+    let c = heap.homes v (get_or vars v 0) (slice_get-get_or vars v 0 w) in (
+      omega (arith, length-map vars (at (meanings cells order))),
+      get_or-map (at (meanings cells order)) vars v 0 blank w ∙ MatchOption-at_none (at (meanings cells order) (get_or vars v 0) ≡ Var v) (λ u. at (meanings cells order) (get_or vars v 0) ≡ at (meanings cells order) u) f.1 (heap.heads (get_or vars v 0) (cell.Var v) c),
+    )

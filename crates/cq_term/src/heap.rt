@@ -1,6 +1,6 @@
 // A heap of terms: cells that stay as they were built, and the variables' bindings beside them.
 
-ghost use Rattle.std.specs.Prelude.{List, ℕ, ◌≡◌, ◌<◌, ◌≤◌, ◌++◌, [], ◌∷◌, map, length, All, slice_get, Some, IfOk, OnOk, OnErr};
+ghost use Rattle.std.specs.Prelude.{List, ℕ, ◌≡◌, ◌<◌, ◌≤◌, ◌++◌, [], ◌∷◌, map, length, All, slice_get, Some, IfOk, OnOk, OnErr, IsTrue};
 ghost use Rattle.spec_terms.specs.Term.{Var, Number, Name, Occurs, with_arguments, apply, single};
 ghost use Rattle.cq_term.specs.Meaning.{at};
 ghost use Rattle.cq_term.specs.Rep.{IsHeap, Resolved};
@@ -169,6 +169,7 @@ impl Heap {
         requires { id < length self.now.now.terms }
         ensures view { result ≡ view_of (at self.now.now.terms id) }
         ensures unbound { (v : ℕ) → at self.now.now.terms id ≡ Var v → IsUnbound self.now.now.images v }
+        ensures inside { (v : ℕ) → Occurs v (at self.now.now.terms id) → IsUnbound self.now.now.images v }
     {
         let end = resolve(&self.cells, &self.bound, &self.order, id);
         match self.cells.get(end.index()) {
@@ -176,6 +177,18 @@ impl Heap {
             Cell::Number(number) => View::Number(*number),
             Cell::Name(name) => View::Name(*name),
             Cell::Compound(name, args) => View::Compound(*name, args.len()),
+        }
+    }
+
+    /// Whether a term is known to have no variable: it was built of numbers and names alone. A term whose variables
+    /// were all bound to such terms may still answer false.
+    pub fn is_ground(&self, id: TermId) -> bool
+        requires { id < length self.now.now.terms }
+        ensures { IsTrue result → (v : ℕ) → Occurs v (at self.now.now.terms id) → ⊥ }
+    {
+        match self.view(id) {
+            View::Number(_) | View::Name(_) => true,
+            View::Var(_) | View::Compound(..) => false,
         }
     }
 

@@ -2,6 +2,7 @@
 #![tactic(auto)]
 
 mod heap;
+mod laws;
 mod names;
 #[cfg(test)]
 mod tests;
@@ -9,5 +10,6 @@ mod view;
 
 pub use cq_atoms::Atom;
 pub use heap::Heap;
+pub use laws::names_stay_below;
 pub use names::{Newly, Pred, TermId};
 pub use view::View;

@@ -1,7 +1,7 @@
 use Rattle.std.proofs.Common.{◌∙◌, ap, sym}
 use Rattle.std.specs.Prelude.{slice_get}
 use Rattle.cq_term.proofs.Meanings.{length-meanings}
-use Rattle.cq_term.proofs.Kept.{shows, var_free}
+use Rattle.cq_term.proofs.Kept.{shows, var_free, inside_free}
 use Rattle.cq_term.specs.declared.heap.Cell.TheVariants as cell
 use Rattle.cq_term.proofs.heap.Heap.view.Goals as goal
 
@@ -31,3 +31,15 @@ returns-in-Compound-clause-view c = rw (← c.self.view_is, c.len.ensures, c.in-
 
 pub returns-in-Compound-clause-unbound : goal.returns-in-Compound-clause-unbound
 returns-in-Compound-clause-unbound c = rw (← c.self.view_is) (var_free c.self.inside.cells.now c.self.inside.vars.now c.self.inside.bound.now c.self.inside.order.now c.self.invariant.heap c.args.id)
+
+pub returns-in-Var-clause-inside : goal.returns-in-Var-clause-inside
+returns-in-Var-clause-inside c = rw (← c.self.view_is) (inside_free c.self.inside.cells.now c.self.inside.vars.now c.self.inside.bound.now c.self.inside.order.now c.self.invariant.heap c.args.id)
+
+pub returns-in-Number-clause-inside : goal.returns-in-Number-clause-inside
+returns-in-Number-clause-inside c = rw (← c.self.view_is) (inside_free c.self.inside.cells.now c.self.inside.vars.now c.self.inside.bound.now c.self.inside.order.now c.self.invariant.heap c.args.id)
+
+pub returns-in-Name-clause-inside : goal.returns-in-Name-clause-inside
+returns-in-Name-clause-inside c = rw (← c.self.view_is) (inside_free c.self.inside.cells.now c.self.inside.vars.now c.self.inside.bound.now c.self.inside.order.now c.self.invariant.heap c.args.id)
+
+pub returns-in-Compound-clause-inside : goal.returns-in-Compound-clause-inside
+returns-in-Compound-clause-inside c = rw (← c.self.view_is) (inside_free c.self.inside.cells.now c.self.inside.vars.now c.self.inside.bound.now c.self.inside.order.now c.self.invariant.heap c.args.id)
