@@ -1,0 +1,47 @@
+//! Branches of the derivation, closures of waiting constraints, and settling. No code: each function has an empty
+//! body, and its contract is a law of the definitions.
+#![tactic(auto)]
+
+ghost use Rattle.std.specs.Prelude.{◌≡◌, ℕ, List, [], Bool, false, Option};
+ghost use Rattle.spec_rational.specs.Rational.{ℚ};
+ghost use Rattle.spec_linear.specs.Solution.{Constraint, Solvable, Fixes, Equivalent};
+ghost use Rattle.spec_operators.specs.Operators.{Text};
+ghost use Rattle.spec_terms.specs.Term.{Subst};
+ghost use Rattle.spec_terms.specs.Unifier.{Equation, IsUnifier, read_under};
+ghost use Rattle.spec_syntax.specs.Trees.{Tree};
+ghost use Rattle.spec_branch.specs.Branch.{Item, State, Pending, Branch, no_work};
+ghost use Rattle.spec_branch.specs.Closure.{IsClosure};
+ghost use Rattle.spec_branch.specs.Settling.{Settles, Kept, Pruned, Why, kept_branch};
+ghost use Rattle.spec_branch.specs.Alike.{SameClosure, SameBranch, idle, no_values};
+
+/// From lists with the same solutions, in whatever order waiting constraints become linear, solvable ends have
+/// the same solutions, the same waiting terms in the same order, and the same fixed values.
+pub fn any_order_gives_the_same()
+    ensures { (s : Subst Text) (k l m n : List Constraint) (w x y : List Tree) → Equivalent k l
+        → IsClosure s k w m x → IsClosure s l w n y → (f g : ℕ → Option ℚ) → Fixes m f → Fixes n g
+        → Solvable m → Solvable n → SameClosure m x n y }
+{}
+
+/// Where one end is solvable, so is each other one.
+pub fn any_order_is_as_solvable()
+    ensures { (s : Subst Text) (k l m n : List Constraint) (w x y : List Tree) → Equivalent k l
+        → IsClosure s k w m x → IsClosure s l w n y → (f : ℕ → Option ℚ) → Fixes m f
+        → Solvable m → Solvable n }
+{}
+
+/// A branch that is kept is never pruned, whatever the order, and is kept as one branch but for the form of its
+/// linear constraints.
+pub fn settling_is_determined()
+    ensures kept { (items : List Item) (st : State) (p : Pending) (b c : Branch)
+        → Settles items st p (Kept b) → Settles items st p (Kept c) → SameBranch b c }
+    ensures never_both { (items : List Item) (st : State) (p : Pending) (b : Branch) (why : Why)
+        → Settles items st p (Kept b) → Settles items st p (Pruned why) → ⊥ }
+{}
+
+/// Where no variable is numeric, and nothing waits or sleeps, settling unifies the pairs and that is all.
+pub fn settling_without_constraints()
+    ensures { (items : List Item) (b : Subst Text) (numeric : ℕ → Bool) (next fresh : ℕ)
+        → ((v : ℕ) → numeric v ≡ false) → (es : List (Equation Text)) (u : Subst Text) → IsUnifier (read_under b es) u
+        → Settles items (idle b numeric next fresh) (record no_work { equations = es })
+        (Kept (kept_branch items (idle b numeric next fresh) (record no_work { equations = es }) u [] [] no_values)) }
+{}

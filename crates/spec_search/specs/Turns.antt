@@ -1,0 +1,89 @@
+-- The turns of a search, and what they show.
+use Rattle.std.specs.Prelude.{◌≡◌, ℕ, suc, List, [], ◌∷◌, ◌++◌, length, Option, Some, None}
+use Rattle.cq_frac.specs.declared.Pair.{Pair}
+use Rattle.spec_operators.specs.Operators.{Text, Ops}
+use Rattle.spec_syntax.specs.Trees.{Tree}
+use Rattle.spec_branch.specs.Branch.{State, Copied, Item, Branch, Pending, read, IsCopy}
+use Rattle.spec_branch.specs.Settling.{Settles, Kept, Pruned, Why}
+use Rattle.spec_search.specs.Database.{Database, clause_removed}
+use Rattle.spec_search.specs.Replies as reply
+use Rattle.spec_search.specs.Replies.{Writer, Place, Made}
+use Rattle.spec_search.specs.Rows.{reply_of}
+use Rattle.spec_search.specs.Steps.{Steps, Ball, Children}
+use Rattle.spec_search.specs.Balls.{last, Hands, Uncaught, CaughtBy}
+use Rattle.spec_search.specs.Search.{Search, gather, Over, Settling, Moving, Collecting, Selecting, Answering, look_at}
+
+-- what a turn shows: output, which may be empty; an answer, with the operators of the moment; a ball that nothing catches;
+-- that no branch is left
+pub data Event : Type 0 where
+  Wrote : Text → Event
+  Answered : State → Ops → Event
+  Threw : Copied → Event
+  Ended : Event
+
+-- ---- the search after a turn
+
+abbrev pub with_branches : List Branch → Search → Search
+with_branches bs s = record s { branches = bs }
+
+-- the clause of a kept child is removed
+abbrev pub after_removal : Option ℕ → Database → Database
+after_removal None db = db
+after_removal (Some n) db = clause_removed n db
+
+-- where the front goal of a branch is selected
+abbrev pub place_of : Search → State → List Item → ℕ → List Branch → Place
+place_of s st rest cut bs = record { database = s.database; state = st; rest = rest; cut = cut; height = length bs }
+
+-- the older branches that are left
+abbrev pub older : Option ℕ → List Branch → List Branch
+older None bs = bs
+older (Some k) bs = last k bs
+
+-- one more goal was selected, and its children stand in place of its branch
+abbrev pub after_step : Search → Made → List Branch → Search
+after_step s m bs = record { database = m.database; branches = m.children ++ older m.keeps bs; selected = suc s.selected }
+
+-- one more goal was selected, and raised a ball
+abbrev pub after_ball : Search → List Branch → Search
+after_ball s bs = record s { branches = bs; selected = suc s.selected }
+
+-- ---- turns
+
+-- one turn, by the first branch
+pub data Turn (w : Writer) (s : Search) : Event → Search → Type 0 where
+  keeps : {items : List Item} {st : State} {p : Pending} {b : Branch} {bs : List Branch}
+      → look_at s.branches ≡ Settling items st p bs → Settles items st p (Kept b)
+      → Turn w s (Wrote []) (record s { database = after_removal p.removes s.database; branches = b ∷ bs })
+  prunes : {items : List Item} {st : State} {p : Pending} {why : Why} {bs : List Branch}
+      → look_at s.branches ≡ Settling items st p bs → Settles items st p (Pruned why)
+      → Turn w s (Wrote []) (with_branches bs s)
+  moves : {bs : List Branch} → look_at s.branches ≡ Moving bs → Turn w s (Wrote []) (with_branches bs s)
+  collects : {k : ℕ} {t : Tree} {st : State} {bs : List Branch} {c : Copied}
+      → look_at s.branches ≡ Collecting k t st bs → IsCopy st t c
+      → Turn w s (Wrote []) (with_branches (gather k c bs) s)
+  steps : {goal : Tree} {cut : ℕ} {items : List Item} {st : State} {bs : List Branch} {m : Made}
+      → look_at s.branches ≡ Selecting goal cut items st bs
+      → Steps w (place_of s st items cut bs) (read st goal) (Children m)
+      → Turn w s (Wrote m.output) (after_step s m bs)
+  catches : {goal : Tree} {cut : ℕ} {items : List Item} {st : State} {bs kept : List Branch} {ball : Copied} {b : Branch}
+      → look_at s.branches ≡ Selecting goal cut items st bs
+      → Steps w (place_of s st items cut bs) (read st goal) (Ball ball) → Hands ball items bs (CaughtBy b kept)
+      → Turn w s (Wrote []) (after_ball s (b ∷ kept))
+  throws : {goal : Tree} {cut : ℕ} {items : List Item} {st : State} {bs : List Branch} {ball : Copied}
+      → look_at s.branches ≡ Selecting goal cut items st bs
+      → Steps w (place_of s st items cut bs) (read st goal) (Ball ball) → Hands ball items bs Uncaught
+      → Turn w s (Threw ball) (after_ball s [])
+  answers : {st : State} {bs : List Branch} → look_at s.branches ≡ Answering st bs
+      → Turn w s (Answered st s.database.operators) (with_branches bs s)
+  ends : look_at s.branches ≡ Over → Turn w s Ended s
+
+-- the next turn selects a goal whose arithmetic refuses the pair; so it has no turn
+pub record Refuses (w : Writer) (s : Search) (pair : Pair) : Type 0 where
+  pub goal : Tree
+  pub cut : ℕ
+  pub items : List Item
+  pub state : State
+  pub behind : List Branch
+  pub selects : look_at s.branches ≡ Selecting goal cut items state behind
+  pub refused : reply_of w (place_of s state items cut behind) (read state goal) ≡ reply.Overflows pair
