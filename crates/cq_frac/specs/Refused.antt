@@ -1,5 +1,5 @@
 -- When an operation takes two numbers, and when it refuses them.
-use Rattle.std.specs.Prelude.{◌⊎◌}
+use Rattle.std.specs.Prelude.{◌≡◌, ◌⊎◌}
 use Rattle.spec_rational.specs.Rational.{ℚ, neg_ℚ, ◌*ℚ◌, ◌/ℚ◌}
 use Rattle.cq_frac.specs.declared.Operation.{Operation}
 use Rattle.cq_frac.specs.declared.Operation.TheVariants.{Sum, Difference, Product, Quotient}
@@ -21,6 +21,11 @@ Accepts Quotient p q = Fits (p /ℚ q)
 
 abbrev pub IsRefused : Pair → Type 0
 IsRefused p = Refuses p.operation p.left p.right
+
+-- the operation refuses the numbers, and the pair tells of it
+pub record Tells (o : Operation) (left right : ℚ) (pair : Pair) : Type 0 where
+  pub is_pair : pair ≡ record { operation = o; left = left; right = right }
+  pub refused : Refuses o left right
 
 -- an operation takes two numbers or refuses them
 abbrev pub AcceptsOrRefuses : Type 0

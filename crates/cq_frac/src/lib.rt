@@ -1,7 +1,7 @@
 //! Exact fractions of 128 bits: each is seen as the rational number that it is.
 #![tactic(auto)]
 
-ghost use Rattle.std.specs.Prelude.{◌≡◌, ◌≢◌, ◌<◌, ◌↔◌, pos, nat_abs, int_lt, Some, IfOk, OnOk, IsTrue};
+ghost use Rattle.std.specs.Prelude.{◌≡◌, ◌≢◌, ◌<◌, ◌↔◌, pos, nat_abs, int_lt, Some, IfOk, OnOk, MatchResult, IsTrue};
 ghost use Rattle.std.specs.Bool.{OnFalse};
 ghost use Rattle.std.specs.Cmp.{partial_equiv_from_equiv, eq_by_cmp_equiv, partial_order_from_total};
 ghost use Rattle.std.specs.Ordering.{nat_cmp, eq_by_cmp, as_partial_cmp};
@@ -11,7 +11,9 @@ ghost use Rattle.spec_rational.specs.Order.{cmp_ℚ};
 ghost use Rattle.spec_rational.specs.Rational.{0ℚ, 1ℚ, int_ℚ, quotient, ratio, neg_ℚ, inv_ℚ, ◌+ℚ◌, ◌-ℚ◌, ◌*ℚ◌, ◌/ℚ◌, ◌<ℚ◌, denominator, IsPositive, IsNotNegative};
 ghost use Rattle.spec_rational.proofs.Order.{cmp_ℚ-total};
 ghost use Rattle.cq_frac.specs.Fits.{Exceeds, Fits, SumAccepted, SumRefused, limit, signed};
-ghost use Rattle.cq_frac.specs.Refused.{AcceptsOrRefuses, NeverBoth};
+ghost use Rattle.cq_frac.specs.Refused.{Accepts, Tells, AcceptsOrRefuses, NeverBoth};
+ghost use Rattle.cq_frac.specs.declared.Operation.TheVariants.{Sum, Difference, Product, Quotient};
+ghost use Rattle.cq_frac.specs.declared.Refusal.TheVariants.{Overflow, NoMemory};
 ghost use Rattle.cq_frac.specs.Text.{number_text};
 
 #[cfg(test)]
@@ -20,6 +22,7 @@ mod wholes;
 
 use crate::wholes::{LIMIT, fitting, gcd, order, part, total, with_sign};
 use itoa::Buffer;
+use std::alloc::{AllocError, AllocFailed};
 use std::cmp::Ordering;
 use std::fmt;
 use std::marker::Model;
@@ -53,6 +56,39 @@ pub struct Pair {
     pub operation: Operation,
     pub left: Frac,
     pub right: Frac,
+}
+
+/// Why there is no result: an operation refuses two numbers, or memory is out.
+#[derive(Clone, Copy, Debug, Error)]
+pub enum Refusal {
+    #[error("a number past 128 bits")]
+    Overflow(Pair),
+    #[error("out of memory")]
+    NoMemory,
+}
+
+impl From<AllocError> for Refusal {
+    ghost from_gives = { λ _ refusal. refusal ≡ NoMemory };
+
+    fn from(_: AllocError) -> Refusal {
+        Refusal::NoMemory
+    }
+}
+
+impl<T: Drop> From<AllocFailed<T>> for Refusal {
+    ghost from_gives = { λ _ refusal. refusal ≡ NoMemory };
+
+    fn from(_refused: AllocFailed<T>) -> Refusal {
+        Refusal::NoMemory
+    }
+}
+
+impl From<Pair> for Refusal {
+    ghost from_gives = { λ pair refusal. refusal ≡ Overflow pair };
+
+    fn from(pair: Pair) -> Refusal {
+        Refusal::Overflow(pair)
+    }
 }
 
 /// A rational number in lowest terms, with a numerator from `-M` to `M` and a denominator from 1 to `M`,
@@ -373,6 +409,51 @@ impl fmt::Display for Frac {
         }
         Ok(())
     }
+}
+
+/// The sum, or the refused pair.
+pub fn sum(left: Frac, right: Frac) -> Result<Frac, Pair>
+    ensures { MatchResult result (λ q. (q ≡ left +ℚ right) × Accepts Sum left right) (Tells Sum left right) }
+{
+    left.add(right).map_err(|_| Pair {
+        operation: Operation::Sum,
+        left,
+        right,
+    })
+}
+
+/// The difference, or the refused pair.
+pub fn difference(left: Frac, right: Frac) -> Result<Frac, Pair>
+    ensures { MatchResult result (λ q. (q ≡ left -ℚ right) × Accepts Difference left right) (Tells Difference left right) }
+{
+    left.sub(right).map_err(|_| Pair {
+        operation: Operation::Difference,
+        left,
+        right,
+    })
+}
+
+/// The product, or the refused pair.
+pub fn product(left: Frac, right: Frac) -> Result<Frac, Pair>
+    ensures { MatchResult result (λ q. (q ≡ left *ℚ right) × Accepts Product left right) (Tells Product left right) }
+{
+    left.mul(right).map_err(|_| Pair {
+        operation: Operation::Product,
+        left,
+        right,
+    })
+}
+
+/// The quotient by a number that is not zero, or the refused pair.
+pub fn quotient(left: Frac, right: Frac) -> Result<Frac, Pair>
+    requires divisor { right ≢ 0ℚ }
+    ensures { MatchResult result (λ q. (q ≡ left /ℚ right) × Accepts Quotient left right) (Tells Quotient left right) }
+{
+    left.div(right).map_err(|_| Pair {
+        operation: Operation::Quotient,
+        left,
+        right,
+    })
 }
 
 /// Law: an operation takes two numbers or refuses them.

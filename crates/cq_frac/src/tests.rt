@@ -1,5 +1,5 @@
 // The rules at the ends of the range, against vectors by Python's `fractions`, and the printed text.
-use super::{Frac, FracFault, Operation, Pair, VarId};
+use super::{Frac, FracFault, Operation, Pair, VarId, difference, product, quotient, sum};
 use std::cmp::Ordering;
 use std::test::Fail;
 
@@ -208,6 +208,38 @@ fn every_two_numbers_make_a_fraction_or_a_fault(rt: HostRuntime) {
     for ((n, d), want) in rows {
         assert_eq!(rt; Frac::new(n, d).map(|f| f.parts()), want, "{n} over {d}");
     }
+}
+
+/// The numerators of a refused pair with its operation; the number where there is one.
+fn told(outcome: Result<Frac, Pair>) -> Result<i128, (Operation, i128, i128)> {
+    match outcome {
+        Ok(number) => Ok(number.parts().0),
+        Err(pair) => Err((pair.operation, pair.left.parts().0, pair.right.parts().0)),
+    }
+}
+
+#[test]
+fn a_refusal_tells_its_pair(rt: HostRuntime) -> Result<(), Fail> {
+    let most = Frac::new(i128::MAX, 1)?;
+    let (two, half) = (Frac::from(2), Frac::new(1, 2)?);
+    assert_eq!(rt; told(sum(most, two)), Err((Operation::Sum, i128::MAX, 2)));
+    assert_eq!(rt;
+        told(difference(two.neg(), most)),
+        Err((Operation::Difference, -2, i128::MAX))
+    );
+    assert_eq!(rt;
+        told(product(two, most)),
+        Err((Operation::Product, 2, i128::MAX))
+    );
+    assert_eq!(rt;
+        told(quotient(most, half)),
+        Err((Operation::Quotient, i128::MAX, 1))
+    );
+    assert_eq!(rt; told(sum(two, two)), Ok(4));
+    assert_eq!(rt; told(difference(two, most)), Ok(2 - i128::MAX));
+    assert_eq!(rt; told(product(two, two)), Ok(4));
+    assert_eq!(rt; told(quotient(two, half)), Ok(4));
+    Ok(())
 }
 
 #[test]
