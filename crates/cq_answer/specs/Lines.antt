@@ -3,7 +3,7 @@ use Rattle.std.specs.Prelude.{[], ◌++◌, codes, Option, Some, None, if◌then
 use Rattle.spec_rational.specs.Rational.{ℚ}
 use Rattle.spec_queries.specs.Tree.{VariableName}
 use Rattle.spec_answers.specs.Text.{Text, number_text}
-use Rattle.spec_answers.specs.Answer.{is_hidden}
+use Rattle.spec_answers.specs.Lines.{is_hidden}
 
 -- a name's binding with its line feed, if its variable has a value and is shown
 abbrev pub value_text : VariableName → Option ℚ → Text

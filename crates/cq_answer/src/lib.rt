@@ -5,7 +5,8 @@ mod numbers;
 mod rows;
 
 ghost use Rattle.std.specs.Prelude.{◌≡◌, ◌++◌, length, IfOk, OnOk};
-ghost use Rattle.spec_answers.specs.Answer.{Branch, answer_lines as lines_of, or_true, lines_text, binding_lines};
+ghost use Rattle.spec_answers.specs.Lines.{or_true, lines_text};
+ghost use Rattle.spec_equations.specs.Answer.{Branch, answer_lines as lines_of, binding_lines};
 ghost use Rattle.cq_project.specs.Rows.{equations_of};
 ghost use Rattle.cq_answer.specs.Values.{AreValues};
 ghost use Rattle.cq_answer.specs.Lines.{value_text};

@@ -1,7 +1,7 @@
 //! The text of a row: a variable, `=`, and a sum.
 
 ghost use Rattle.std.specs.Prelude.{◌≡◌, ◌++◌, map, codes, IfOk, OnOk};
-ghost use Rattle.spec_answers.specs.Answer.{name_among, row_line};
+ghost use Rattle.spec_equations.specs.Answer.{name_among, row_line};
 ghost use Rattle.spec_answers.specs.RowText.{begins_with_minus as has_minus, joined, product_text, sum_onto, linear_text as sum_text};
 ghost use Rattle.cq_answer.specs.Coefficient.{coefficient_text};
 ghost use Rattle.cq_project.specs.Rows.{product_of, solved_of};

@@ -10,7 +10,7 @@ use Rattle.spec_limits.specs.Dictionary.{Quantity}
 use Rattle.spec_limits.specs.Overflow.{Operands, Stage, settling, Moment, IsInUse, beside_feasible, in_answer, IsRow, quantity_row, asked_row, Row, Exchange, Adding, Makes, coefficients, constants, operands, quotient, inverse, product, product_inverse, difference, scaled, added, divided, between, between_constants}
 use Rattle.spec_queries.specs.Tree.{Query}
 use Rattle.spec_queries.specs.Meaning.{told, operations}
-use Rattle.spec_transcript.specs.Moments.{IsAsked, of_equation, of_variable, turned, IsStopDue}
+use Rattle.spec_equations.specs.Moments.{IsAsked, of_equation, of_variable, turned, IsStopDue}
 use Rattle.cq_store.specs.Told.{CallMakes, while_asked}
 use Rattle.cq_store.specs.Contents.{variable_forms}
 use Rattle.cq_equations.specs.Pairs as equation

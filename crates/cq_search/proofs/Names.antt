@@ -4,7 +4,8 @@ use Rattle.std.specs.Prelude.{is_none}
 use Rattle.std.proofs.lemmas.List.{take_more, map-append}
 use Rattle.std.proofs.lemmas.List.Elements.{filter-append}
 use Rattle.spec_rational.specs.Rational.{ℚ}
-use Rattle.spec_answers.specs.Answer.{Branch, is_hidden, targets}
+use Rattle.spec_answers.specs.Lines.{is_hidden}
+use Rattle.spec_equations.specs.Answer.{Branch, targets}
 use Rattle.spec_queries.specs.Tree.{VariableName}
 
 abbrev number_of : VariableName → ℕ

@@ -4,11 +4,11 @@ use Rattle.spec_rational.specs.Rational.{ℚ}
 use Rattle.spec_linear.specs.Solution.{Solvable, Unsolvable, Fixes}
 use Rattle.spec_limits.specs.Overflow.{settling, answering}
 use Rattle.spec_answers.specs.Text.{Text}
-use Rattle.spec_answers.specs.Answer.{AnswerForm}
+use Rattle.spec_equations.specs.Answer.{AnswerForm}
 use Rattle.spec_queries.specs.Tree.{Query}
 use Rattle.spec_queries.specs.Meaning.{told}
-use Rattle.spec_transcript.specs.Moments.{IsStopDue}
-use Rattle.spec_transcript.specs.Session.{branch_of}
+use Rattle.spec_equations.specs.Moments.{IsStopDue}
+use Rattle.spec_equations.specs.Session.{branch_of}
 use Rattle.cq_frac.specs.declared.Pair.{Pair}
 use Rattle.cq_search.specs.declared.Found.{Found}
 use Rattle.cq_search.specs.declared.Found.TheVariants.{Nothing, Answer, Stopped}

@@ -1,7 +1,7 @@
 -- The values that a store gives variables.
 use Rattle.std.specs.Prelude.{ℕ, Option}
 use Rattle.spec_rational.specs.Rational.{ℚ}
-use Rattle.spec_answers.specs.Answer.{Branch}
+use Rattle.spec_equations.specs.Answer.{Branch}
 use Rattle.cq_store.specs.Contents.{Contents, told_of, solved_of, number_in}
 
 -- the number that a variable's form is

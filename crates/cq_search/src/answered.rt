@@ -2,7 +2,8 @@
 
 ghost use Rattle.std.specs.Prelude.{◌≡◌, ◌&&◌, IfOk, map, not, is_none};
 ghost use Rattle.spec_echelon.specs.Echelon.{AreDistinct};
-ghost use Rattle.spec_answers.specs.Answer.{is_hidden, targets};
+ghost use Rattle.spec_answers.specs.Lines.{is_hidden};
+ghost use Rattle.spec_equations.specs.Answer.{targets};
 ghost use Rattle.spec_queries.specs.Meaning.{told};
 ghost use Rattle.cq_store.specs.Contents.{told_of};
 ghost use Rattle.cq_project.specs.Rows.{numbers_of};

@@ -2,7 +2,7 @@
 use Rattle.std.proofs.Common.{◌≡◌, ℕ, ◌<◌, ◌≤◌, length, List, [], Bool, true, false, Option, Some, None, IfSome, refl, sym, subst}
 use Rattle.spec_answers.specs.Text.{Text}
 use Rattle.cq_outside.specs.declared.shelf.TheConstants.{SIZE_LIMIT}
-use Rattle.spec_transcript.specs.Session.{Runs, no_step, start, over, unmarked, WrittenSoFar}
+use Rattle.spec_equations.specs.Session.{Runs, no_step, start, over, unmarked, WrittenSoFar}
 use Rattle.cq_session.specs.Words.{Asked, transcript}
 use Rattle.cq_session.specs.declared.Status.{Status}
 use Rattle.cq_session.specs.declared.Status.TheVariants.{BadWords, NoFile, ReadFault, NoMemory}

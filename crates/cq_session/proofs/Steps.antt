@@ -8,7 +8,7 @@ use Rattle.spec_linear.specs.Solution.{Unsolvable}
 use Rattle.spec_queries.specs.Tree.{Query}
 use Rattle.spec_queries.specs.Meaning.{told}
 use Rattle.spec_queries.specs.Grammar.{queries_of}
-use Rattle.spec_transcript.specs.Session.{start, Session, Marks, unmarked, Mark, plain_line, error_line, stop_line, marked, Runs, no_step, one_more, reading, over, begun, refuses, ends, asks, selects, prunes, settles, answers, fails, stops_settling, stops_answering, no_line, syntax_line, answer_end}
+use Rattle.spec_equations.specs.Session.{start, Session, Marks, unmarked, Mark, plain_line, error_line, stop_line, marked, Runs, no_step, one_more, reading, over, begun, refuses, ends, asks, selects, prunes, settles, answers, fails, stops_settling, stops_answering, no_line, syntax_line, answer_end}
 use Rattle.cq_frac.specs.declared.Pair.{Pair}
 use Rattle.cq_search.specs.Finding.{IsAnswer, Stops, while_settling, while_answering}
 use Rattle.cq_session.specs.Progress.{both, stop_marks, IsBlock, Advanced, Broken}

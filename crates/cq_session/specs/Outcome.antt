@@ -4,7 +4,7 @@ use Rattle.cq_outside.specs.Counts.{Rose, RoseBeyond}
 use Rattle.cq_outside.specs.Bytes.{Adds, Appends, Begins}
 use Rattle.cq_outside.specs.declared.shelf.TheConstants.{SIZE_LIMIT}
 use Rattle.spec_answers.specs.Text.{Text}
-use Rattle.spec_transcript.specs.Session.{Session, Marks, stop_line, Step, Runs, start, Transcript, WrittenSoFar}
+use Rattle.spec_equations.specs.Session.{Session, Marks, stop_line, Step, Runs, start, Transcript, WrittenSoFar}
 use Rattle.cq_session.specs.Words.{Asked, transcript}
 use Rattle.cq_session.specs.declared.Status.{Status}
 use Rattle.cq_session.specs.declared.Status.TheVariants.{Done, Faulty, BadWords, NoFile, ReadFault, WriteFault, Stopped, NoMemory}

@@ -4,7 +4,7 @@ use Rattle.cq_outside.specs.Counts.{Rose}
 use Rattle.cq_outside.specs.Bytes.{Appends}
 use Rattle.spec_answers.specs.Text.{Text}
 use Rattle.spec_queries.specs.Tree.{Query}
-use Rattle.spec_transcript.specs.Session.{Session, Marks, Runs, reading}
+use Rattle.spec_equations.specs.Session.{Session, Marks, Runs, reading}
 use Rattle.cq_session.specs.declared.Status.{Status}
 use Rattle.cq_session.specs.declared.Status.TheVariants.{Done, Faulty, BadWords, NoFile, ReadFault, WriteFault, Stopped, NoMemory}
 use Rattle.cq_session.specs.declared.transcript.Halt.{Halt}

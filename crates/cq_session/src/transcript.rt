@@ -1,8 +1,8 @@
 // The transcript of a text, written query by query.
 ghost use Rattle.std.specs.Prelude.{◌≡◌, [], IfOk, OnErr};
 ghost use Rattle.std.specs.List.{All};
-ghost use Rattle.spec_answers.specs.Answer.{HasDistinctNames};
-ghost use Rattle.spec_transcript.specs.Session.{reading, over, start};
+ghost use Rattle.spec_equations.specs.Answer.{HasDistinctNames};
+ghost use Rattle.spec_equations.specs.Session.{reading, over, start};
 ghost use Rattle.cq_session.specs.Progress.{Advanced, Broken, CountsWrites, IsBlock, marks_of, stop_marks};
 
 use crate::Status;

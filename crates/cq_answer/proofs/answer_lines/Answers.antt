@@ -1,5 +1,5 @@
 use Rattle.std.proofs.Common.{◌<◌, ◌∙◌, codes, length, arith, append_assoc}
-use Rattle.spec_answers.specs.Answer.{binding_lines, row_line}
+use Rattle.spec_equations.specs.Answer.{binding_lines, row_line}
 use Rattle.cq_project.specs.Rows.{solved_of}
 use Rattle.cq_answer.proofs.Texts.{row_more}
 use Rattle.cq_answer.proofs.answer_lines.Goals as goal

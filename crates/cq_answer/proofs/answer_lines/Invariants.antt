@@ -1,5 +1,6 @@
 use Rattle.std.proofs.Common.{◌≡◌, ◌++◌, map, take}
-use Rattle.spec_answers.specs.Answer.{Branch, binding_lines, row_line, lines_text}
+use Rattle.spec_answers.specs.Lines.{lines_text}
+use Rattle.spec_equations.specs.Answer.{Branch, binding_lines, row_line}
 use Rattle.cq_project.specs.Rows.{equations_of}
 use Rattle.cq_answer.specs.Values.{AreValues}
 use Rattle.cq_answer.proofs.answer_lines.Given as goal

@@ -1,5 +1,6 @@
 use Rattle.std.proofs.Common.{◌≡◌, take}
-use Rattle.spec_answers.specs.Answer.{Branch, binding_lines, lines_text}
+use Rattle.spec_answers.specs.Lines.{lines_text}
+use Rattle.spec_equations.specs.Answer.{Branch, binding_lines}
 use Rattle.cq_answer.specs.Values.{AreValues}
 use Rattle.cq_answer.proofs.value_lines.Given as goal
 

@@ -2,7 +2,7 @@ use Rattle.std.proofs.Common.{rules, sym, subst, ◌∙◌}
 use Rattle.spec_linear.specs.Solution.{AreEquations, Unsolvable}
 use Rattle.spec_limits.specs.Overflow.{settling}
 use Rattle.cq_search.specs.Finding.{Stops, while_settling}
-use Rattle.spec_transcript.proofs.Values.{told_are_equations}
+use Rattle.spec_equations.proofs.Values.{told_are_equations}
 use Rattle.cq_search.proofs.Dues.{due_in_terms, due_in_telling}
 use Rattle.cq_search.proofs.search.Goals as goal
 

@@ -1,5 +1,5 @@
 use Rattle.std.proofs.Common.{◌<◌, ◌++◌, ◌∙◌, ap, length, arith}
-use Rattle.spec_answers.specs.Answer.{name_among}
+use Rattle.spec_equations.specs.Answer.{name_among}
 use Rattle.spec_answers.specs.RowText.{product_text}
 use Rattle.cq_project.specs.Rows.{product_of}
 use Rattle.cq_answer.proofs.Sums.{sum_more}

@@ -1,5 +1,5 @@
 use Rattle.std.proofs.Common.{◌≡◌, map, take}
-use Rattle.spec_answers.specs.Answer.{name_among}
+use Rattle.spec_equations.specs.Answer.{name_among}
 use Rattle.spec_answers.specs.RowText.{sum_onto}
 use Rattle.cq_project.specs.Rows.{product_of}
 use Rattle.cq_answer.proofs.rows.add_products.Given as goal

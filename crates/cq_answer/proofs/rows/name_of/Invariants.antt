@@ -1,5 +1,5 @@
 use Rattle.std.proofs.Common.{◌≡◌, drop}
-use Rattle.spec_answers.specs.Answer.{name_among}
+use Rattle.spec_equations.specs.Answer.{name_among}
 use Rattle.cq_answer.proofs.rows.name_of.Given as goal
 
 abbrev pub invariant-names : goal.invariant-names

@@ -1,6 +1,6 @@
 use Rattle.std.proofs.Common.{arith}
 use Rattle.std.proofs.lemmas.Grind.{common_steps}
-use Rattle.spec_answers.specs.Answer.{name_among}
+use Rattle.spec_equations.specs.Answer.{name_among}
 use Rattle.cq_project.specs.Rows.{product_of}
 use Rattle.cq_answer.proofs.Sums.{product_is}
 use Rattle.cq_answer.proofs.rows.push_product.Goals as goal

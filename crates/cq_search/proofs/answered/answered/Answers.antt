@@ -2,17 +2,18 @@ use Rattle.std.proofs.Common.{rules, ◌≡◌, map, ap, sym, subst, ◌∙◌}
 use Rattle.spec_linear.specs.Solution.{AreEquations, Solvable, Fixes, Same}
 use Rattle.spec_echelon.specs.Echelon.{AreDistinct, IsEchelon, equations}
 use Rattle.spec_echelon.proofs.Solving.{solvable}
-use Rattle.spec_answers.specs.Answer.{Branch, targets, answer_lines, or_true, lines_text}
+use Rattle.spec_answers.specs.Lines.{or_true, lines_text}
+use Rattle.spec_equations.specs.Answer.{Branch, targets, answer_lines}
 use Rattle.spec_queries.specs.Tree.{VariableName}
 use Rattle.spec_queries.specs.Meaning.{told}
-use Rattle.spec_transcript.specs.Session.{branch_of}
+use Rattle.spec_equations.specs.Session.{branch_of}
 use Rattle.spec_limits.specs.Overflow.{answering}
 use Rattle.cq_store.specs.Contents.{told_of, order_of, solved_of}
 use Rattle.cq_project.specs.Rows.{numbers_of, equations_of}
 use Rattle.cq_search.specs.Values.{bound_by, branch_in}
 use Rattle.cq_search.specs.Finding.{AreBound, Stops, while_answering}
-use Rattle.spec_answers.proofs.Names.{distinct_targets}
-use Rattle.spec_transcript.proofs.Values.{told_are_equations}
+use Rattle.spec_equations.proofs.Names.{distinct_targets}
+use Rattle.spec_equations.proofs.Values.{told_are_equations}
 use Rattle.cq_search.proofs.Fixed.{fixes}
 use Rattle.cq_search.proofs.Dues.{due_in_telling}
 use Rattle.cq_search.proofs.answered.answered.Goals as goal

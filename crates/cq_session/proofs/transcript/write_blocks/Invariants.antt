@@ -1,5 +1,5 @@
 use Rattle.std.proofs.Common.{◌≡◌, drop}
-use Rattle.spec_transcript.specs.Session.{reading}
+use Rattle.spec_equations.specs.Session.{reading}
 use Rattle.cq_session.specs.Progress.{Advanced, stop_marks}
 use Rattle.cq_session.proofs.transcript.write_blocks.Given as goal
 

@@ -2,9 +2,9 @@ use Rattle.std.proofs.Common.{rules, ◌≡◌, [], Some, None, sym, subst}
 use Rattle.std.specs.List.{All}
 use Rattle.std.proofs.lemmas.Result.{err_from_is_err_and}
 use Rattle.spec_queries.specs.Grammar.{queries_of}
-use Rattle.spec_answers.specs.Answer.{HasDistinctNames}
-use Rattle.spec_answers.proofs.Names.{distinct_names}
-use Rattle.spec_transcript.specs.Session.{start, reading}
+use Rattle.spec_equations.specs.Answer.{HasDistinctNames}
+use Rattle.spec_equations.proofs.Names.{distinct_names}
+use Rattle.spec_equations.specs.Session.{start, reading}
 use Rattle.cq_session.specs.Progress.{Advanced, stop_marks}
 use Rattle.cq_session.proofs.Steps.{at_start, broken_here, broken_more, advanced_more, foreign_runs, at_over}
 use Rattle.cq_session.proofs.transcript.write_transcript.Goals as goal

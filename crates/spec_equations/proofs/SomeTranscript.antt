@@ -9,15 +9,16 @@ use Rattle.spec_echelon.specs.SolvedForm.{IsSolvedForm, rows_of}
 use Rattle.spec_echelon.proofs.Solving.{solvable, echelon, same-rows}
 use Rattle.spec_echelon.proofs.Existence.{solved_form_or_none}
 use Rattle.spec_answers.specs.Text.{Text}
-use Rattle.spec_answers.specs.Answer.{HasDistinctNames, AnswerForm, targets, answer_lines, or_true, lines_text}
-use Rattle.spec_answers.proofs.Names.{distinct_names, distinct_targets}
+use Rattle.spec_answers.specs.Lines.{or_true, lines_text}
+use Rattle.spec_equations.specs.Answer.{HasDistinctNames, AnswerForm, targets, answer_lines}
+use Rattle.spec_equations.proofs.Names.{distinct_names, distinct_targets}
 use Rattle.spec_queries.specs.Tree.{Query}
 use Rattle.spec_queries.specs.Grammar.{queries_of}
 use Rattle.spec_queries.specs.Meaning.{told}
-use Rattle.spec_transcript.specs.Session.{Session, reading, over, Marks, Runs, no_step, one_more, refuses, ends, asks, selects, prunes, settles, answers, fails, branch_of, begun, Transcript}
-use Rattle.spec_transcript.proofs.Values.{told_are_equations}
-use Rattle.spec_transcript.proofs.Solved.{number_in, solved_form_fixes}
-use Rattle.spec_transcript.proofs.VariableOrders.{Extended, with_variables}
+use Rattle.spec_equations.specs.Session.{Session, reading, over, Marks, Runs, no_step, one_more, refuses, ends, asks, selects, prunes, settles, answers, fails, branch_of, begun, Transcript}
+use Rattle.spec_equations.proofs.Values.{told_are_equations}
+use Rattle.spec_equations.proofs.Solved.{number_in, solved_form_fixes}
+use Rattle.spec_equations.proofs.VariableOrders.{Extended, with_variables}
 
 -- ---- one query
 

@@ -1,16 +1,24 @@
-//! The transcript of a session: definitions, with no code. Each function has an empty body, and its contract is
+//! The answers and the transcript of queries of linear equations: definitions, with no code. Each function has an empty body, and its contract is
 //! a law of the definitions, or what they say of examples.
 #![tactic(auto)]
 
 ghost use Rattle.std.specs.Prelude.{◌≡◌, [], codes, false};
 ghost use Rattle.spec_answers.specs.Text.{Text};
-ghost use Rattle.spec_transcript.specs.Told.{ToldRelations};
-ghost use Rattle.spec_transcript.specs.Session.{Marks, Transcript};
-ghost use Rattle.spec_transcript.specs.Samples.{Writes, WritesError, WritesStop};
+ghost use Rattle.spec_equations.specs.Told.{ToldRelations};
+ghost use Rattle.spec_equations.specs.Session.{Marks, Transcript};
+ghost use Rattle.spec_equations.specs.AnswerSamples.{bindings_and_a_row, nothing as no_line_of_its_own, two_rows};
+ghost use Rattle.spec_equations.specs.Samples.{Writes, WritesError, WritesStop};
 
 /// A told relation holds just where its sides have the same value.
 pub fn relations_are_told()
     ensures { ToldRelations }
+{}
+
+/// The lines of a few answers.
+pub fn answers_write()
+    ensures bindings { bindings_and_a_row ≡ codes "X = -7r2\nY = 0\n{Z=2*W-3r5*U+1}\n" }
+    ensures rows { two_rows ≡ codes "{X= -Y+3}\n{Z=Y}\n" }
+    ensures nothing { no_line_of_its_own ≡ codes "true\n" }
 {}
 
 /// What a few inputs write.

@@ -9,11 +9,12 @@ use Rattle.spec_linear.proofs.Lists.{told_once}
 use Rattle.spec_echelon.specs.Echelon.{IsEchelon}
 use Rattle.spec_echelon.proofs.Uniqueness.{unique_echelon}
 use Rattle.spec_answers.specs.Text.{Text}
-use Rattle.spec_answers.specs.Answer.{HasDistinctNames, AnswerForm, query_variables, targets, binding_line, binding_lines, row_line, or_true, lines_text}
-use Rattle.spec_answers.proofs.Names.{distinct_targets}
+use Rattle.spec_answers.specs.Lines.{or_true, lines_text}
+use Rattle.spec_equations.specs.Answer.{HasDistinctNames, AnswerForm, query_variables, targets, binding_line, binding_lines, row_line}
+use Rattle.spec_equations.proofs.Names.{distinct_targets}
 use Rattle.spec_queries.specs.Tree.{VariableName, Query}
 use Rattle.spec_queries.specs.Meaning.{told}
-use Rattle.spec_transcript.specs.Session.{branch_of}
+use Rattle.spec_equations.specs.Session.{branch_of}
 
 -- ---- the values
 

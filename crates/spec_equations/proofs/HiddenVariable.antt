@@ -10,16 +10,16 @@ use Rattle.spec_linear.specs.Solution.{Satisfies, Has, MentionsOnly}
 use Rattle.spec_echelon.specs.Echelon.{IsBefore}
 use Rattle.spec_echelon.specs.SolvedForm.{IsSolvedForm, Agrees, rows_of}
 use Rattle.spec_echelon.proofs.Solving.{solvable, echelon, same-rows}
-use Rattle.spec_answers.specs.Answer.{AnswerForm}
+use Rattle.spec_equations.specs.Answer.{AnswerForm}
 use Rattle.spec_queries.specs.declared.Sign.TheVariants.{Plus}
 use Rattle.spec_queries.specs.declared.Term.TheVariants.{Variable}
 use Rattle.spec_queries.specs.Tree.{Relation, Query}
 use Rattle.spec_queries.specs.Meaning.{told}
 use Rattle.spec_queries.specs.Examples.{number as numeral, alone, joined, equation, named, query}
-use Rattle.spec_transcript.specs.Session.{reading, no_step, one_more, asks, selects, settles, answers, fails, ends, branch_of}
-use Rattle.spec_transcript.specs.Samples.{Writes}
-use Rattle.spec_transcript.proofs.Values.{told_relations}
-use Rattle.spec_transcript.proofs.Solved.{number_in, solved_form_fixes}
+use Rattle.spec_equations.specs.Session.{reading, no_step, one_more, asks, selects, settles, answers, fails, ends, branch_of}
+use Rattle.spec_equations.specs.Samples.{Writes}
+use Rattle.spec_equations.proofs.Values.{told_relations}
+use Rattle.spec_equations.proofs.Solved.{number_in, solved_form_fixes}
 
 -- X=_A+1
 abbrev first : Relation

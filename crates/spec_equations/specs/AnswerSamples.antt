@@ -5,7 +5,8 @@ use Rattle.spec_rational.specs.Sums.{Monomial}
 use Rattle.spec_echelon.specs.Echelon.{Solved}
 use Rattle.spec_answers.specs.Text.{Text}
 use Rattle.spec_queries.specs.Tree.{VariableName}
-use Rattle.spec_answers.specs.Answer.{answer_lines, or_true, lines_text}
+use Rattle.spec_answers.specs.Lines.{or_true, lines_text}
+use Rattle.spec_equations.specs.Answer.{answer_lines}
 
 abbrev pub named : Text → ℕ → VariableName
 named text v = record { name = text; number = v }

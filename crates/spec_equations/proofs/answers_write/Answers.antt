@@ -1,7 +1,7 @@
 use Rattle.std.proofs.Common.{refl}
 use Rattle.spec_rational.specs.Gcd.{gcd}
 use Rattle.spec_rational.specs.Rational.{ratio, int_ℚ, neg_ℚ}
-use Rattle.spec_answers.proofs.lines.Goals as goal
+use Rattle.spec_equations.proofs.answers_write.Goals as goal
 
 pub returns-clause-bindings : goal.returns-clause-bindings
 unfolding ratio int_ℚ neg_ℚ gcd

@@ -1,7 +1,7 @@
 -- Transcripts to try the definitions on.
 use Rattle.std.specs.Prelude.{true, false}
 use Rattle.spec_answers.specs.Text.{Text}
-use Rattle.spec_transcript.specs.Session.{Transcript}
+use Rattle.spec_equations.specs.Session.{Transcript}
 
 -- the input writes this text, without an error line or a stop
 abbrev pub Writes : Text → Text → Type 0

@@ -13,7 +13,7 @@ use Rattle.spec_queries.specs.declared.Term.TheVariants.{Number, Variable, Multi
 use Rattle.spec_queries.specs.declared.SignedTerm.{SignedTerm}
 use Rattle.spec_queries.specs.Tree.{Sum, Relation}
 use Rattle.spec_queries.specs.Meaning.{term_form, with_term, sum_of_terms, constraint_of}
-use Rattle.spec_transcript.specs.Told.{term_value, joined_value, sum_value, ToldRelations}
+use Rattle.spec_equations.specs.Told.{term_value, joined_value, sum_value, ToldRelations}
 
 value_at-term_form : (a : ℕ → ℚ) (t : Term) → value_at a (term_form t) ≡ term_value a t
 value_at-term_form a (Number q) = value_at-constant_form a q

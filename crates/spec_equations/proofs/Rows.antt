@@ -15,17 +15,17 @@ use Rattle.spec_echelon.proofs.Solving.{solvable, echelon, same-rows}
 use Rattle.cq_frac.specs.declared.Operation.TheVariants.{Sum}
 use Rattle.cq_frac.specs.declared.Pair.{Pair}
 use Rattle.spec_limits.specs.Overflow.{settling, Operands, Moment, constants}
-use Rattle.spec_answers.specs.Answer.{AnswerForm}
+use Rattle.spec_equations.specs.Answer.{AnswerForm}
 use Rattle.spec_queries.specs.declared.Sign.TheVariants.{Plus}
 use Rattle.spec_queries.specs.declared.Term.TheVariants.{Variable}
 use Rattle.spec_queries.specs.Tree.{Relation, Query}
 use Rattle.spec_queries.specs.Meaning.{told, constraint_of, operations}
 use Rattle.spec_queries.specs.Examples.{number as numeral, times, alone, joined, equation, named, query}
-use Rattle.spec_transcript.specs.Moments.{IsStopDue, turned}
-use Rattle.spec_transcript.specs.Session.{reading, no_step, one_more, asks, selects, prunes, settles, answers, fails, ends, stops_settling, branch_of}
-use Rattle.spec_transcript.specs.Samples.{Writes, WritesStop}
-use Rattle.spec_transcript.proofs.Values.{told_relations}
-use Rattle.spec_transcript.proofs.Solved.{number_in, solved_form_fixes}
+use Rattle.spec_equations.specs.Moments.{IsStopDue, turned}
+use Rattle.spec_equations.specs.Session.{reading, no_step, one_more, asks, selects, prunes, settles, answers, fails, ends, stops_settling, branch_of}
+use Rattle.spec_equations.specs.Samples.{Writes, WritesStop}
+use Rattle.spec_equations.proofs.Values.{told_relations}
+use Rattle.spec_equations.proofs.Solved.{number_in, solved_form_fixes}
 
 -- ---- {2*X+3=7}
 

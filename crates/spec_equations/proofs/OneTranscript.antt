@@ -3,13 +3,13 @@ use Rattle.std.proofs.Common.{◌≡◌, List, ◌++◌, false, Option, Some, No
 use Rattle.std.proofs.lemmas.Bool.{true≢false}
 use Rattle.std.proofs.lemmas.List.Elements.{recursion_from_All}
 use Rattle.spec_answers.specs.Text.{Text}
-use Rattle.spec_answers.specs.Answer.{HasDistinctNames}
-use Rattle.spec_answers.proofs.Names.{distinct_names}
+use Rattle.spec_equations.specs.Answer.{HasDistinctNames}
+use Rattle.spec_equations.proofs.Names.{distinct_names}
 use Rattle.spec_queries.specs.Tree.{Query}
 use Rattle.spec_queries.specs.Grammar.{queries_of}
-use Rattle.spec_transcript.specs.Session.{Session, over, Mark, plain_line, error_line, stop_line, Marks, marked, Step, begun, Transcript}
-use Rattle.spec_transcript.proofs.Onward.{Onward, here, first, onward}
-use Rattle.spec_transcript.proofs.AlikeSessions.{AllDistinct, still_distinct, Alike, same, IsNoStop, alike_steps}
+use Rattle.spec_equations.specs.Session.{Session, over, Mark, plain_line, error_line, stop_line, Marks, marked, Step, begun, Transcript}
+use Rattle.spec_equations.proofs.Onward.{Onward, here, first, onward}
+use Rattle.spec_equations.proofs.AlikeSessions.{AllDistinct, still_distinct, Alike, same, IsNoStop, alike_steps}
 
 -- ---- the start
 

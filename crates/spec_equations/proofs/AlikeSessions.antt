@@ -5,11 +5,11 @@ use Rattle.std.specs.List.{AllByRecursion}
 use Rattle.std.specs.Prelude.{⊤}
 use Rattle.spec_rational.specs.Rational.{ℚ}
 use Rattle.spec_answers.specs.Text.{Text}
-use Rattle.spec_answers.specs.Answer.{HasDistinctNames, AnswerForm}
+use Rattle.spec_equations.specs.Answer.{HasDistinctNames, AnswerForm}
 use Rattle.spec_queries.specs.Tree.{Query}
 use Rattle.spec_queries.specs.Meaning.{told}
-use Rattle.spec_transcript.specs.Session.{Session, reading, searching, foreign, over, settled, ended, Mark, plain_line, error_line, stop_line, branch_of, answer_end, Step, refuses, ends, asks, selects, prunes, settles, answers, fails, stops_settling, stops_answering}
-use Rattle.spec_transcript.proofs.AnswerTexts.{same_values, same_text}
+use Rattle.spec_equations.specs.Session.{Session, reading, searching, foreign, over, settled, ended, Mark, plain_line, error_line, stop_line, branch_of, answer_end, Step, refuses, ends, asks, selects, prunes, settles, answers, fails, stops_settling, stops_answering}
+use Rattle.spec_equations.proofs.AnswerTexts.{same_values, same_text}
 
 -- ---- the queries that are still to be answered name different variables
 

@@ -5,11 +5,11 @@ use Rattle.spec_linear.specs.Solution.{Solvable, Unsolvable, Fixes}
 use Rattle.cq_frac.specs.declared.Pair.{Pair}
 use Rattle.spec_limits.specs.Overflow.{settling, answering}
 use Rattle.spec_answers.specs.Text.{Text}
-use Rattle.spec_answers.specs.Answer.{Branch, AnswerForm}
+use Rattle.spec_equations.specs.Answer.{Branch, AnswerForm}
 use Rattle.spec_queries.specs.Tree.{Query}
 use Rattle.spec_queries.specs.Grammar.{queries_of}
 use Rattle.spec_queries.specs.Meaning.{told}
-use Rattle.spec_transcript.specs.Moments.{IsStopDue}
+use Rattle.spec_equations.specs.Moments.{IsStopDue}
 
 -- ---- lines
 

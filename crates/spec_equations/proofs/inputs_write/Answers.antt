@@ -1,7 +1,7 @@
-use Rattle.spec_transcript.specs.Session.{no_step, one_more, ends, refuses}
-use Rattle.spec_transcript.proofs.Rows.{value_row, sum_row, contradiction_row, overflow_row}
-use Rattle.spec_transcript.proofs.HiddenVariable.{hidden_row}
-use Rattle.spec_transcript.proofs.inputs_write.Goals as goal
+use Rattle.spec_equations.specs.Session.{no_step, one_more, ends, refuses}
+use Rattle.spec_equations.proofs.Rows.{value_row, sum_row, contradiction_row, overflow_row}
+use Rattle.spec_equations.proofs.HiddenVariable.{hidden_row}
+use Rattle.spec_equations.proofs.inputs_write.Goals as goal
 
 pub returns-clause-nothing : goal.returns-clause-nothing
 returns-clause-nothing c = one_more no_step ends

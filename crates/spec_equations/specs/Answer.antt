@@ -1,5 +1,5 @@
 -- The lines of an answer: bindings, then rows, then nothing else in a language of linear equations alone.
-use Rattle.std.specs.Prelude.{◌≡◌, ℕ, ◌==◌, List, [], ◌∷◌, ◌++◌, map, filter, codes, Bool, false, not, Option, Some, None, is_none, if◌then◌else◌}
+use Rattle.std.specs.Prelude.{◌≡◌, ℕ, ◌==◌, List, [], ◌∷◌, ◌++◌, map, filter, codes, not, Option, Some, None, is_none, if◌then◌else◌}
 use Rattle.std.specs.List.{filter_map}
 use Rattle.spec_rational.specs.Rational.{ℚ}
 use Rattle.spec_linear.specs.Solution.{Constraint, Same}
@@ -7,6 +7,7 @@ use Rattle.spec_echelon.specs.Echelon.{Solved, AreDistinct, IsEchelon, equations
 use Rattle.spec_queries.specs.Tree.{VariableName, Query}
 use Rattle.spec_answers.specs.Text.{Text, number_text}
 use Rattle.spec_answers.specs.RowText.{equation_text}
+use Rattle.spec_answers.specs.Lines.{is_hidden, or_true, lines_text}
 
 -- what an answer shows of a branch: the values that are bound, and the linear constraints in the order in which they joined
 pub record Branch : Type 0 where
@@ -16,11 +17,6 @@ pub record Branch : Type 0 where
 -- the names of the query have different numbers
 abbrev pub HasDistinctNames : Query → Type 0
 HasDistinctNames q = AreDistinct (map (λ n. n.number) q.names)
-
--- the text begins with `_`
-abbrev pub is_hidden : Text → Bool
-is_hidden [] = false
-is_hidden (b ∷ bs) = b == 95
 
 -- a variable whose name begins with `_` is no query variable
 abbrev pub query_variables : List VariableName → List VariableName
@@ -53,16 +49,6 @@ row_line names e = codes "{" ++ equation_text (name_among names) e ++ codes "}"
 
 abbrev pub answer_lines : List VariableName → Branch → List Solved → List Text
 answer_lines names b rows = binding_lines names b ++ map (row_line names) rows
-
--- an answer without a line writes `true`
-abbrev pub or_true : List Text → List Text
-or_true [] = codes "true" ∷ []
-or_true (l ∷ ls) = l ∷ ls
-
--- each line with its line feed
-abbrev pub lines_text : List Text → Text
-lines_text [] = []
-lines_text (l ∷ ls) = l ++ codes "\n" ++ lines_text ls
 
 -- The text is that of an answer: some rows are the reduced echelon form over the targets and leave them just the branch's solutions,
 -- and the text is the lines of bindings and rows.

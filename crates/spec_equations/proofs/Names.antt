@@ -5,7 +5,8 @@ use Rattle.std.specs.List.{All, AllPairs}
 use Rattle.std.proofs.lemmas.List.Elements.{All-head, All-tail, All-weaker}
 use Rattle.spec_linear.specs.Solution.{Has}
 use Rattle.spec_echelon.specs.Echelon.{AreDistinct}
-use Rattle.spec_answers.specs.Answer.{Branch, HasDistinctNames, is_hidden, targets}
+use Rattle.spec_answers.specs.Lines.{is_hidden}
+use Rattle.spec_equations.specs.Answer.{Branch, HasDistinctNames, targets}
 use Rattle.spec_queries.specs.Tree.{VariableName, Query}
 use Rattle.spec_queries.specs.Grammar.{queries_of}
 use Rattle.spec_queries.proofs.Names.{numbers_of_their_own}
