@@ -3,7 +3,7 @@ pub mod Held
 pub mod Bounds
 mod Sizes
 pub mod Tiles
-mod Again
+pub mod Again
 mod Kept
 mod KeptQuotes
 mod KeptNumerals

@@ -1,6 +1,6 @@
 mod Behind
 mod Steps
 pub mod Runs
-mod Written
-mod ReadBack
+pub mod Written
+pub mod ReadBack
 mod Tables

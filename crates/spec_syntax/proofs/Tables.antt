@@ -78,7 +78,7 @@ none_fit = record { prefix = λ f op e. cc; infixed = λ f op e. cc; postfix = �
 pub standard_table : IsTable standard
 standard_table =
     let fit = rows_fit empty rows refl none_fit in
-    record { prefix = fit.prefix; infixed = fit.infixed; postfix = fit.postfix; not_both = λ f op e. refl; comma = refl }
+    record { prefix = fit.prefix; infixed = fit.infixed; postfix = fit.postfix; not_both = λ f op e. refl; comma = refl; no_prefix_comma = refl }
 
 -- ---- what `op/3` makes of a table
 
@@ -135,17 +135,22 @@ module _ (ops : Ops) (p : ℕ) (kind : OpKind) (name : Text) (are : IsTable ops)
   never_both Infix odd f op e = infix_alone odd f op e
   never_both Postfix odd f op e = postfix_alone odd f op e
 
-  comma_aside : bytes_eq name (codes ",") ≡ false → changed ops.infixed name (entry p kind) (codes ",") ≡ ops.infixed (codes ",")
-  comma_aside other = by _ refl
+  comma_aside : (table : Text → Option OpDef) → bytes_eq name (codes ",") ≡ false → changed table name (entry p kind) (codes ",") ≡ table (codes ",")
+  comma_aside table other = by _ refl
     where
-      by : (b : Bool) → bytes_eq (codes ",") name ≡ b → (if b then entry p kind else ops.infixed (codes ",")) ≡ ops.infixed (codes ",")
+      by : (b : Bool) → bytes_eq (codes ",") name ≡ b → (if b then entry p kind else table (codes ",")) ≡ table (codes ",")
       by true s = let h : true ≡ false = sym ((bytes_decides name (codes ",")).1 (sym ((bytes_decides (codes ",") name).0 s))) ∙ other in cc
       by false s = refl
 
   comma_kept : (position : Position) → bytes_eq name (codes ",") ≡ false → (put_at position ops name (entry p kind)).infixed (codes ",") ≡ ops.infixed (codes ",")
   comma_kept Prefix other = refl
-  comma_kept Infix other = comma_aside other
+  comma_kept Infix other = comma_aside ops.infixed other
   comma_kept Postfix other = refl
+
+  prefix_kept : (position : Position) → bytes_eq name (codes ",") ≡ false → (put_at position ops name (entry p kind)).prefix (codes ",") ≡ ops.prefix (codes ",")
+  prefix_kept Prefix other = comma_aside ops.prefix other
+  prefix_kept Infix other = refl
+  prefix_kept Postfix other = refl
 
   put_table : p ≤ 1200 → bytes_eq name (codes ",") ≡ false → clashes ops p kind name ≡ false → IsTable (put ops p kind name)
   put_table low other apart =
@@ -156,6 +161,7 @@ module _ (ops : Ops) (p : ℕ) (kind : OpKind) (name : Text) (are : IsTable ops)
         postfix = fit.postfix;
         not_both = never_both (position_of kind) (second_false (is_bracket name) _ apart);
         comma = comma_kept (position_of kind) other ∙ are.comma;
+        no_prefix_comma = prefix_kept (position_of kind) other ∙ are.no_prefix_comma;
       }
 
 same_table : (a b : Ops) (x : Result Ops Refusal) → x ≡ Ok a → x ≡ Ok b → a ≡ b

@@ -22,6 +22,8 @@ pub record IsTable (ops : Ops) : Type 0 where
   pub postfix : (f : Text) (op : OpDef) → ops.postfix f ≡ Some op → Fits Postfix op
   pub not_both : (f : Text) (op : OpDef) → ops.infixed f ≡ Some op → ops.postfix f ≡ None
   pub comma : ops.infixed (codes ",") ≡ Some (record { priority = 1000; kind = Xfy })
+  -- the comma is an infix operator alone
+  pub no_prefix_comma : ops.prefix (codes ",") ≡ None
 
 -- ---- the operator of a term
 

@@ -1,0 +1,86 @@
+-- Each token that is written in quotes leaves a text.
+use Rattle.std.proofs.Common.{◌≡◌, ℕ, zero, suc, Bool, true, false, List, [], ◌∷◌, ◌++◌, codes, length, refl, ap, arith, pos, negsuc}
+use Rattle.std.specs.Prelude.{ℤ, ◌/◌, ◌%◌, ◌==◌, if◌then◌else◌}
+use Rattle.std.specs.Fmt.{digits_onto, digit_glyph}
+use Rattle.std.proofs.lemmas.Bool.Decides.{nat_tests}
+use Rattle.spec_rational.specs.Rational.{ℚ}
+use Rattle.spec_operators.specs.Operators.{Text}
+use Rattle.spec_syntax.specs.Tokens.{Token, Variable, Numeral, Codes, Named, Functor, Minus, Open, Close, OpenList, CloseList, OpenCurly, CloseCurly, Comma, Bar, End}
+use Rattle.spec_syntax.specs.Writing.{needs_quotes}
+use Rattle.spec_writing.specs.Pieces.{Piece, pieces}
+use Rattle.spec_writing.specs.declared.Style.TheVariants.{Quoted}
+use Rattle.spec_writing.specs.Numbers.{whole_text, under_text, number_text}
+use Rattle.spec_writing.specs.Texts.{is_quoted, in_quotes, name_text, token_text, text_of, seen}
+use Rattle.spec_writing.specs.Written.{counted_name}
+use Rattle.spec_writing.proofs.Left.{NothingIsHidden}
+
+-- the text is not empty
+abbrev IsSome : Text → Type 0
+IsSome [] = ⊥
+IsSome (b ∷ bs) = Unit {0}
+
+some_more : (a b : Text) → IsSome a → IsSome (a ++ b)
+some_more [] b h = elim h [ ]
+some_more (x ∷ a) b h = tt
+
+digits_some : (fuel base : ℕ) (upper : Bool) (n : ℕ) (acc : Text) → IsSome acc → IsSome (digits_onto fuel base upper n acc)
+digits_some zero base upper n acc h = h
+digits_some (suc fuel) base upper n acc h = by (n / base == 0) (digits_some fuel base upper (n / base) (digit_glyph upper (n % base) ∷ acc) tt)
+  where
+    by : (b : Bool) → IsSome (digits_onto fuel base upper (n / base) (digit_glyph upper (n % base) ∷ acc)) →
+        IsSome (if b then digit_glyph upper (n % base) ∷ acc else digits_onto fuel base upper (n / base) (digit_glyph upper (n % base) ∷ acc))
+    by true g = tt
+    by false g = g
+
+whole_some : (n : ℕ) → IsSome (whole_text n)
+whole_some n = by (n / 10 == 0) (digits_some n 10 false (n / 10) (digit_glyph false (n % 10) ∷ []) tt)
+  where
+    by : (b : Bool) → IsSome (digits_onto n 10 false (n / 10) (digit_glyph false (n % 10) ∷ [])) →
+        IsSome (if b then digit_glyph false (n % 10) ∷ [] else digits_onto n 10 false (n / 10) (digit_glyph false (n % 10) ∷ []))
+    by true g = tt
+    by false g = g
+
+number_some : (q : ℚ) → IsSome (number_text q)
+number_some q = by q.numerator
+  where
+    by : (z : ℤ) → IsSome (elim z [ pos n ↦ whole_text n ++ under_text q.below | negsuc n ↦ codes "-" ++ whole_text (suc n) ++ under_text q.below ])
+    by (pos n) = some_more (whole_text n) _ (whole_some n)
+    by (negsuc n) = tt
+
+name_by : (f : Text) (b : Bool) → is_quoted f ≡ b → IsSome (if b then in_quotes 39 f else f)
+unfolding needs_quotes
+name_by f true e = tt
+name_by [] false e = cc
+name_by (b ∷ bs) false e = tt
+
+name_some : (f : Text) → IsSome (name_text Quoted f)
+unfolding name_text
+name_some f = name_by f (is_quoted f) refl
+
+token_some : (tok : Token) → IsSome (token_text Quoted counted_name tok)
+token_some (Variable v) = tt
+token_some (Numeral q) = number_some q
+token_some (Codes bytes) = tt
+token_some (Named f quoted) = name_some f
+token_some (Functor f) = name_some f
+token_some Minus = tt
+token_some Open = tt
+token_some Close = tt
+token_some OpenList = tt
+token_some CloseList = tt
+token_some OpenCurly = tt
+token_some CloseCurly = tt
+token_some Comma = tt
+token_some Bar = tt
+token_some End = tt
+
+not_empty : (a : Text) → IsSome a → (length a == 0) ≡ false
+not_empty [] h = elim h [ ]
+not_empty (b ∷ bs) h = grind (arith, nat_tests)
+
+all_seen : (ps : List Piece) → seen Quoted counted_name ps ≡ ps
+all_seen [] = refl
+all_seen (p ∷ ps) = rw (not_empty (text_of Quoted counted_name p) (token_some p.token)) (ap (λ qs. p ∷ qs) (all_seen ps))
+
+pub nothing_hidden : NothingIsHidden
+nothing_hidden ops t = all_seen (pieces ops t)
