@@ -1,5 +1,5 @@
 -- A clause whose head no substitution makes equal to the goal is pruned as soon as it is settled.
-use Rattle.std.proofs.Common.{◌≡◌, ap, List, [], ◌∷◌, sym, ◌∙◌}
+use Rattle.std.proofs.Common.{◌≡◌, refl, ap, List, [], ◌∷◌, sym, ◌∙◌}
 use Rattle.spec_operators.specs.Operators.{Text}
 use Rattle.spec_terms.specs.Term.{Subst, followed_by}
 use Rattle.spec_terms.specs.Unifier.{Equation, Equates, HasNoUnifier, read_under}
@@ -27,4 +27,4 @@ left_out p goal c h = no_unifier (λ r k. h (followed_by p.state.bindings r) (eq
 pub dropped : (w : Writer) (s : Search) (p : Place) (goal : Tree) (c : Clause) (bs : List Branch)
     → HasNoUnifier ((goal ≐ (instance p c).head) ∷ []) → s.branches ≡ clause_child p goal c ∷ bs
     → Turn w s (Wrote []) (with_branches bs s)
-dropped w s p goal c bs h e = prunes (ap look_at e) (left_out p goal c h)
+dropped w s p goal c bs h e = prunes (ap look_at e) (left_out p goal c h) refl

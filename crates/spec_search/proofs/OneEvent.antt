@@ -1,38 +1,28 @@
 -- All turns of one search show the same.
-use Rattle.std.proofs.Common.{◌≡◌, ℕ, List, [], ◌∷◌, Bool, true, false, refl, sym, ap, ◌∙◌, subst}
+use Rattle.std.proofs.Common.{◌≡◌, ℕ, List, [], Option, Some, None, refl, sym, ap, ◌∙◌, subst}
 use Rattle.spec_operators.specs.Operators.{Text}
 use Rattle.spec_syntax.specs.Trees.{Tree}
-use Rattle.spec_branch.specs.Branch.{State, Item, Branch, Copied, read}
+use Rattle.spec_branch.specs.Branch.{State, Item, Branch, Copied, Pending, read}
+use Rattle.spec_branch.specs.Settling.{Settles, Kept, Pruned, Why}
 use Rattle.spec_branch.proofs.Determined as settling
-use Rattle.spec_search.specs.Replies.{Writer, Place, Made, landed}
-use Rattle.spec_search.specs.Control.{call_of}
+use Rattle.spec_search.specs.Replies.{Writer, Place, Made}
 use Rattle.spec_search.specs.Steps.{Steps, Ball, Children}
-use Rattle.spec_search.specs.Balls.{Hands, Handed, Uncaught, CaughtBy, no_mark, passed, caught, missed, caught_work}
+use Rattle.spec_search.specs.Balls.{handed}
 use Rattle.spec_search.specs.Search.{Search, Look, Over, Settling, Moving, Collecting, Selecting, Answering, look_at}
-use Rattle.spec_search.specs.Turns.{Turn, Event, Wrote, Answered, Threw, Ended, keeps, prunes, moves, collects, steps, catches, throws, answers, ends, place_of}
+use Rattle.spec_search.specs.Turns.{Turn, Event, Wrote, Answered, Threw, Ended, keeps, prunes, hands_on, escapes, moves, collects, steps, catches, throws, answers, ends, place_of}
 use Rattle.spec_search.proofs.OneStep.{Alike, one_step, both_call, steps_alike}
 
 -- ---- balls
 
-abbrev is_caught : Handed → Bool
-is_caught Uncaught = false
-is_caught (CaughtBy b bs) = true
+-- a ball shows where nothing catches it
+abbrev of_ball : Copied → Option (List Branch) → Event
+of_ball ball None = Threw ball
+of_ball ball (Some bs) = Wrote []
 
--- a ball is caught whichever way it is handed on, or never
-one_catch : (ball : Copied) {items : List Item} {bs : List Branch} {o q : Handed} → Hands ball items bs o
-    → Hands ball items bs q → is_caught o ≡ is_caught q
-one_catch ball no_mark no_mark = refl
-one_catch ball (passed e h) (passed f k) = one_catch ball h k
-one_catch ball (passed e h) (caught k) = cc
-one_catch ball (passed e h) (missed k l) = cc
-one_catch ball (caught h) (passed e k) = cc
-one_catch ball (caught h) (caught k) = refl
-one_catch ball (caught {st = st} {c = c} {r = r} {items = items} {b = b} h) (missed {why = why} k l) =
-    absurd (settling.never_both (call_of r ∷ items) (landed st (ball ∷ [])).state (caught_work st ball c) b why h k)
-one_catch ball (missed h l) (passed e k) = cc
-one_catch ball (missed {st = st} {c = c} {r = r} {items = items} {why = why} h l) (caught {b = b} k) =
-    absurd (settling.never_both (call_of r ∷ items) (landed st (ball ∷ [])).state (caught_work st ball c) b why k h)
-one_catch ball (missed h l) (missed k m) = one_catch ball l m
+-- a pruned branch shows its ball, if it has one
+abbrev of_pruned : List Item → List Branch → Option Copied → Event
+of_pruned items bs None = Wrote []
+of_pruned items bs (Some ball) = of_ball ball (handed ball items bs)
 
 module _ (w : Writer) (s : Search) where
   -- ---- what is shown where a goal is selected
@@ -40,11 +30,8 @@ module _ (w : Writer) (s : Search) where
   data Chooses (goal : Tree) (cut : ℕ) (items : List Item) (st : State) (bs : List Branch) : Event → Type 0 where
     made : (m : Made) → Steps w (place_of s st items cut bs) (read st goal) (Children m)
         → Chooses goal cut items st bs (Wrote m.output)
-    held : {ball : Copied} {b : Branch} {older : List Branch}
-        → Steps w (place_of s st items cut bs) (read st goal) (Ball ball) → Hands ball items bs (CaughtBy b older)
-        → Chooses goal cut items st bs (Wrote [])
-    lost : {ball : Copied} → Steps w (place_of s st items cut bs) (read st goal) (Ball ball)
-        → Hands ball items bs Uncaught → Chooses goal cut items st bs (Threw ball)
+    fell : (ball : Copied) → Steps w (place_of s st items cut bs) (read st goal) (Ball ball)
+        → Chooses goal cut items st bs (of_ball ball (handed ball items bs))
 
   no_ball : (p : Place) (goal : Tree) (m : Made) (ball : Copied) → Alike p goal (Children m) (Ball ball) → ⊥
   no_ball p goal m ball (one_step e) = cc
@@ -65,47 +52,69 @@ module _ (w : Writer) (s : Search) where
   one_choice : (goal : Tree) (cut : ℕ) (items : List Item) (st : State) (bs : List Branch) (e f : Event)
       → Chooses goal cut items st bs e → Chooses goal cut items st bs f → e ≡ f
   one_choice goal cut items st bs e f (made m h) (made n k) =
-      ap (λ (t : Text). Wrote t) (same_output (place_of s st items cut bs) (read st goal) m n (steps_alike (place_of s st items cut bs) (read st goal) w (Children m) (Children n) h k))
-  one_choice goal cut items st bs e f (made m h) (held {ball = ball} k i) = absurd (no_ball (place_of s st items cut bs) (read st goal) m ball (steps_alike (place_of s st items cut bs) (read st goal) w (Children m) (Ball ball) h k))
-  one_choice goal cut items st bs e f (made m h) (lost {ball = ball} k i) = absurd (no_ball (place_of s st items cut bs) (read st goal) m ball (steps_alike (place_of s st items cut bs) (read st goal) w (Children m) (Ball ball) h k))
-  one_choice goal cut items st bs e f (held {ball = ball} h i) (made m k) = absurd (no_ball (place_of s st items cut bs) (read st goal) m ball (steps_alike (place_of s st items cut bs) (read st goal) w (Children m) (Ball ball) k h))
-  one_choice goal cut items st bs e f (held h i) (held k j) = refl
-  one_choice goal cut items st bs e f (held {ball = a} {b = x} {older = xs} h i) (lost {ball = b} k j) =
-      let c : a ≡ b = same_ball (place_of s st items cut bs) (read st goal) a b (steps_alike (place_of s st items cut bs) (read st goal) w (Ball a) (Ball b) h k) in
-      let d : true ≡ false = one_catch b (subst (λ y. Hands y items bs (CaughtBy x xs)) c i) j in
-      cc
-  one_choice goal cut items st bs e f (lost {ball = ball} h i) (made m k) = absurd (no_ball (place_of s st items cut bs) (read st goal) m ball (steps_alike (place_of s st items cut bs) (read st goal) w (Children m) (Ball ball) k h))
-  one_choice goal cut items st bs e f (lost {ball = a} h i) (held {ball = b} k j) =
-      let c : a ≡ b = same_ball (place_of s st items cut bs) (read st goal) a b (steps_alike (place_of s st items cut bs) (read st goal) w (Ball a) (Ball b) h k) in
-      let d : false ≡ true = one_catch b (subst (λ x. Hands x items bs Uncaught) c i) j in
-      cc
-  one_choice goal cut items st bs e f (lost {ball = a} h i) (lost {ball = b} k j) =
-      ap (λ x. Threw x) (same_ball (place_of s st items cut bs) (read st goal) a b (steps_alike (place_of s st items cut bs) (read st goal) w (Ball a) (Ball b) h k))
+      let p : Place = place_of s st items cut bs in
+      ap (λ (t : Text). Wrote t) (same_output p (read st goal) m n (steps_alike p (read st goal) w (Children m) (Children n) h k))
+  one_choice goal cut items st bs e f (made m h) (fell ball k) =
+      let p : Place = place_of s st items cut bs in
+      absurd (no_ball p (read st goal) m ball (steps_alike p (read st goal) w (Children m) (Ball ball) h k))
+  one_choice goal cut items st bs e f (fell ball h) (made m k) =
+      let p : Place = place_of s st items cut bs in
+      absurd (no_ball p (read st goal) m ball (steps_alike p (read st goal) w (Children m) (Ball ball) k h))
+  one_choice goal cut items st bs e f (fell a h) (fell b k) =
+      let p : Place = place_of s st items cut bs in
+      ap (λ x. of_ball x (handed x items bs)) (same_ball p (read st goal) a b (steps_alike p (read st goal) w (Ball a) (Ball b) h k))
+
+  -- ---- what is shown where a branch is settled
+
+  data Decides (items : List Item) (st : State) (p : Pending) (bs : List Branch) : Event → Type 0 where
+    kept : (b : Branch) → Settles items st p (Kept b) → Decides items st p bs (Wrote [])
+    pruned : (why : Why) → Settles items st p (Pruned why) → Decides items st p bs (of_pruned items bs p.ball)
+
+  one_decision : (items : List Item) (st : State) (p : Pending) (bs : List Branch) (e f : Event)
+      → Decides items st p bs e → Decides items st p bs f → e ≡ f
+  one_decision items st p bs e f (kept b h) (kept c k) = refl
+  one_decision items st p bs e f (kept b h) (pruned why k) = absurd (settling.never_both items st p b why h k)
+  one_decision items st p bs e f (pruned why h) (kept b k) = absurd (settling.never_both items st p b why k h)
+  one_decision items st p bs e f (pruned why h) (pruned other k) = refl
 
   -- ---- what is shown, by what the first branch is for
 
   abbrev Shows : Look → Event → Type 0
   Shows Over e = e ≡ Ended
-  Shows (Settling items st p bs) e = e ≡ Wrote []
+  Shows (Settling items st p bs) e = Decides items st p bs e
   Shows (Moving bs) e = e ≡ Wrote []
   Shows (Collecting k t st bs) e = e ≡ Wrote []
   Shows (Selecting goal cut items st bs) e = Chooses goal cut items st bs e
   Shows (Answering st bs) e = e ≡ Answered st s.database.operators
 
+  -- a pruned branch, given what its ball comes to
+  falls : (items : List Item) (st : State) (p : Pending) (bs : List Branch) (why : Why)
+      → Settles items st p (Pruned why) → (ball : Option Copied) → p.ball ≡ ball → (e : Event)
+      → of_pruned items bs ball ≡ e → Decides items st p bs e
+  falls items st p bs why h ball g e k =
+      subst (λ x. Decides items st p bs x) (ap (of_pruned items bs) g ∙ k) (pruned why h)
+
   shows : {e : Event} {t : Search} → Turn w s e t → Shows (look_at s.branches) e
-  shows (keeps h k) = subst (λ l. Shows l (Wrote [])) (sym h) refl
-  shows (prunes h k) = subst (λ l. Shows l (Wrote [])) (sym h) refl
+  shows (keeps {b = b} h k) = subst (λ l. Shows l (Wrote [])) (sym h) (kept b k)
+  shows (prunes {items} {st} {p} {bs} {why} h k g) =
+      subst (λ l. Shows l (Wrote [])) (sym h) (falls items st p bs why k None g (Wrote []) refl)
+  shows (hands_on {items} {st} {p} {bs} {next} {why} {ball} h k g i) =
+      subst (λ l. Shows l (Wrote [])) (sym h) (falls items st p bs why k (Some ball) g (Wrote []) (ap (of_ball ball) i))
+  shows (escapes {items} {st} {p} {bs} {why} {ball} h k g i) =
+      subst (λ l. Shows l (Threw ball)) (sym h) (falls items st p bs why k (Some ball) g (Threw ball) (ap (of_ball ball) i))
   shows (moves h) = subst (λ l. Shows l (Wrote [])) (sym h) refl
   shows (collects h k) = subst (λ l. Shows l (Wrote [])) (sym h) refl
   shows (steps {m = m} h k) = subst (λ l. Shows l (Wrote m.output)) (sym h) (made m k)
-  shows (catches h k i) = subst (λ l. Shows l (Wrote [])) (sym h) (held k i)
-  shows (throws {ball = ball} h k i) = subst (λ l. Shows l (Threw ball)) (sym h) (lost k i)
+  shows (catches {goal} {cut} {items} {st} {bs} {next} {ball} h k i) =
+      subst (λ l. Shows l (Wrote [])) (sym h) (subst (λ e. Chooses goal cut items st bs e) (ap (of_ball ball) i) (fell ball k))
+  shows (throws {goal} {cut} {items} {st} {bs} {ball} h k i) =
+      subst (λ l. Shows l (Threw ball)) (sym h) (subst (λ e. Chooses goal cut items st bs e) (ap (of_ball ball) i) (fell ball k))
   shows (answers {st = st} h) = subst (λ l. Shows l (Answered st s.database.operators)) (sym h) refl
   shows (ends h) = subst (λ l. Shows l Ended) (sym h) refl
 
   shows_once : (l : Look) (e f : Event) → Shows l e → Shows l f → e ≡ f
   shows_once Over e f a b = a ∙ sym b
-  shows_once (Settling items st p bs) e f a b = a ∙ sym b
+  shows_once (Settling items st p bs) e f a b = one_decision items st p bs e f a b
   shows_once (Moving bs) e f a b = a ∙ sym b
   shows_once (Collecting k t st bs) e f a b = a ∙ sym b
   shows_once (Selecting goal cut items st bs) e f a b = one_choice goal cut items st bs e f a b

@@ -7,13 +7,15 @@ use Rattle.spec_search.specs.Rows.{reply_of}
 use Rattle.spec_search.specs.Steps.{Steps, Stepped, Children, ball_of, raises, throws, copies, makes, calls, not_linear, entailed, not_entailed, expression_waits, expression_false, extent, no_extent}
 use Rattle.spec_search.specs.Search.{Search, Moving, look_at}
 use Rattle.spec_search.specs.Turns as turn
-use Rattle.spec_search.specs.Turns.{Event, Wrote, Turn, keeps, prunes, moves, collects, steps, catches, answers, ends, with_branches}
+use Rattle.spec_search.specs.Turns.{Event, Wrote, Turn, keeps, prunes, hands_on, escapes, moves, collects, steps, catches, answers, ends, with_branches}
 
 -- a mark in front
 pub one_move : (w : Writer) (s t : Search) (e : Event) (bs : List Branch) → look_at s.branches ≡ Moving bs
     → Turn w s e t → (e ≡ Wrote []) × (t ≡ with_branches bs s)
 one_move w s t e bs h (keeps k _) = let c = sym h ∙ k in cc
-one_move w s t e bs h (prunes k _) = let c = sym h ∙ k in cc
+one_move w s t e bs h (prunes k _ _) = let c = sym h ∙ k in cc
+one_move w s t e bs h (hands_on k _ _ _) = let c = sym h ∙ k in cc
+one_move w s t e bs h (escapes k _ _ _) = let c = sym h ∙ k in cc
 one_move w s t e bs h (moves {bs = cs} k) =
     let c : Moving cs ≡ Moving bs = sym k ∙ h in
     let d : cs ≡ bs = cc in

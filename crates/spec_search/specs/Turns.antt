@@ -10,11 +10,11 @@ use Rattle.spec_search.specs.Replies as reply
 use Rattle.spec_search.specs.Replies.{Writer, Place, Made}
 use Rattle.spec_search.specs.Rows.{reply_of}
 use Rattle.spec_search.specs.Steps.{Steps, Ball, Children}
-use Rattle.spec_search.specs.Balls.{last, Hands, Uncaught, CaughtBy}
+use Rattle.spec_search.specs.Balls.{last, handed}
 use Rattle.spec_search.specs.Search.{Search, gather, Over, Settling, Moving, Collecting, Selecting, Answering, look_at}
 
--- what a turn shows: output, which may be empty; an answer, with the operators of the moment; a ball that nothing catches;
--- that no branch is left
+-- what a turn shows: output, which may be empty; an answer, with the operators of the moment; a ball that nothing
+-- catches; or that no branch is left
 pub data Event : Type 0 where
   Wrote : Text → Event
   Answered : State → Ops → Event
@@ -52,12 +52,19 @@ after_ball s bs = record s { branches = bs; selected = suc s.selected }
 
 -- one turn, by the first branch
 pub data Turn (w : Writer) (s : Search) : Event → Search → Type 0 where
-  keeps : {items : List Item} {st : State} {p : Pending} {b : Branch} {bs : List Branch}
+  keeps : {items : List Item} {st : State} {p : Pending} {bs : List Branch} {b : Branch}
       → look_at s.branches ≡ Settling items st p bs → Settles items st p (Kept b)
       → Turn w s (Wrote []) (record s { database = after_removal p.removes s.database; branches = b ∷ bs })
-  prunes : {items : List Item} {st : State} {p : Pending} {why : Why} {bs : List Branch}
-      → look_at s.branches ≡ Settling items st p bs → Settles items st p (Pruned why)
+  prunes : {items : List Item} {st : State} {p : Pending} {bs : List Branch} {why : Why}
+      → look_at s.branches ≡ Settling items st p bs → Settles items st p (Pruned why) → p.ball ≡ None
       → Turn w s (Wrote []) (with_branches bs s)
+  -- a catch that doesn't take its ball hands it on to the next one outwards
+  hands_on : {items : List Item} {st : State} {p : Pending} {bs next : List Branch} {why : Why} {ball : Copied}
+      → look_at s.branches ≡ Settling items st p bs → Settles items st p (Pruned why) → p.ball ≡ Some ball
+      → handed ball items bs ≡ Some next → Turn w s (Wrote []) (with_branches next s)
+  escapes : {items : List Item} {st : State} {p : Pending} {bs : List Branch} {why : Why} {ball : Copied}
+      → look_at s.branches ≡ Settling items st p bs → Settles items st p (Pruned why) → p.ball ≡ Some ball
+      → handed ball items bs ≡ None → Turn w s (Threw ball) (with_branches [] s)
   moves : {bs : List Branch} → look_at s.branches ≡ Moving bs → Turn w s (Wrote []) (with_branches bs s)
   collects : {k : ℕ} {t : Tree} {st : State} {bs : List Branch} {c : Copied}
       → look_at s.branches ≡ Collecting k t st bs → IsCopy st t c
@@ -66,13 +73,15 @@ pub data Turn (w : Writer) (s : Search) : Event → Search → Type 0 where
       → look_at s.branches ≡ Selecting goal cut items st bs
       → Steps w (place_of s st items cut bs) (read st goal) (Children m)
       → Turn w s (Wrote m.output) (after_step s m bs)
-  catches : {goal : Tree} {cut : ℕ} {items : List Item} {st : State} {bs kept : List Branch} {ball : Copied} {b : Branch}
+  -- a goal raises a ball, which a catch is to take
+  catches : {goal : Tree} {cut : ℕ} {items : List Item} {st : State} {bs next : List Branch} {ball : Copied}
       → look_at s.branches ≡ Selecting goal cut items st bs
-      → Steps w (place_of s st items cut bs) (read st goal) (Ball ball) → Hands ball items bs (CaughtBy b kept)
-      → Turn w s (Wrote []) (after_ball s (b ∷ kept))
+      → Steps w (place_of s st items cut bs) (read st goal) (Ball ball) → handed ball items bs ≡ Some next
+      → Turn w s (Wrote []) (after_ball s next)
+  -- a goal raises a ball that nothing catches
   throws : {goal : Tree} {cut : ℕ} {items : List Item} {st : State} {bs : List Branch} {ball : Copied}
       → look_at s.branches ≡ Selecting goal cut items st bs
-      → Steps w (place_of s st items cut bs) (read st goal) (Ball ball) → Hands ball items bs Uncaught
+      → Steps w (place_of s st items cut bs) (read st goal) (Ball ball) → handed ball items bs ≡ None
       → Turn w s (Threw ball) (after_ball s [])
   answers : {st : State} {bs : List Branch} → look_at s.branches ≡ Answering st bs
       → Turn w s (Answered st s.database.operators) (with_branches bs s)
