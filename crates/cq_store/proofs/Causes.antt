@@ -9,7 +9,7 @@ use Rattle.spec_linear.specs.Solution.{Constraint, Has}
 use Rattle.spec_linear.proofs.Denominators.{has_left, has_right}
 use Rattle.spec_linear.proofs.Values.{value_at-variable_form}
 use Rattle.spec_limits.specs.Dictionary.{Quantity, variable}
-use Rattle.spec_limits.specs.Overflow.{Moment, settling, IsInUse, beside_feasible, IsRow, asked_row, quantity_row, Row as Numbered, Place, constant, column, IsPlace, number_at, Exchange, Adding, Makes, scaled, added, quotient, inverse, product, product_inverse, difference}
+use Rattle.spec_limits.specs.Overflow.{Moment, settling, IsInUse, beside_feasible, IsRow, asked_row, quantity_row, Row as Numbered, RowIndex, constant, column, IsRowIndex, number_at, Exchange, Adding, Makes, scaled, added, quotient, inverse, product, product_inverse, difference}
 use Rattle.spec_limits.proofs.Written.{asked_mentions}
 use Rattle.cq_frac.specs.declared.Operation.{Operation}
 use Rattle.cq_frac.specs.declared.Operation.TheVariants.{Difference, Product as Times, Quotient}
@@ -103,17 +103,17 @@ module _ (l : List Constraint) (asked : List Linear) (slots : List Slot) (place 
 
   -- ---- where the numbers of a row stand
 
-  abbrev Stands : own.Place → Place → Type 0
+  abbrev Stands : own.Place → RowIndex → Type 0
   Stands own.at_constant p = p ≡ constant
   Stands (own.at_live c) p = (q : Quantity) × (place q ≡ c) × (p ≡ column q)
   Stands (own.at_dropped c) p = (q : Quantity) × (place q ≡ c) × (p ≡ column q)
 
-  place_of_number : (r : Row) → IsOver (is_live slots) (is_dropped slots) r → {at : own.Place} {n : ℚ} → IsNumber r at n → (p : Place) × IsPlace (live ++ gone) p × Stands at p
+  place_of_number : (r : Row) → IsOver (is_live slots) (is_dropped slots) r → {at : own.Place} {n : ℚ} → IsNumber r at n → (p : RowIndex) × IsRowIndex (live ++ gone) p × Stands at p
   place_of_number r o constant_number = (constant, tt, refl)
   place_of_number r o (live_number m h) = let e = d.each_live m.quantity (passes (is_live slots) 0 r.live m o.live_row h) in (column e.0, has_left e.0 live gone e.1, (e.0, e.2, refl))
   place_of_number r o (dropped_number m h) = let e = d.each_gone m.quantity (passes (is_dropped slots) 0 r.dropped m o.dropped_row h) in (column e.0, has_right e.0 live gone e.1, (e.0, e.2, refl))
 
-  number_there : (r : Row) → IsOver (is_live slots) (is_dropped slots) r → {at : own.Place} {n : ℚ} → IsNumber r at n → (p : Place) → Stands at p → number_at (numbers place r) p ≡ n
+  number_there : (r : Row) → IsOver (is_live slots) (is_dropped slots) r → {at : own.Place} {n : ℚ} → IsNumber r at n → (p : RowIndex) → Stands at p → number_at (numbers place r) p ≡ n
   number_there r o constant_number p e = ap (number_at (numbers place r)) e
   number_there r o (live_number m h) p s = ap (number_at (numbers place r)) s.2 ∙ number_live slots place r o s.0 m s.1 h
   number_there r o (dropped_number m h) p s = ap (number_at (numbers place r)) s.2 ∙ number_dropped slots place r o s.0 m s.1 h

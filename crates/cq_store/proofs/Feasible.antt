@@ -8,7 +8,8 @@ use Rattle.spec_linear.specs.Solution.{Constraint, Has, Meets, HoldsAt, Satisfie
 use Rattle.spec_linear.specs.declared.Relation.TheVariants.{Eq}
 use Rattle.spec_linear.proofs.Denominators.{has_left, has_right}
 use Rattle.spec_linear.proofs.Points.{solves_same}
-use Rattle.spec_limits.specs.Dictionary.{Quantity, variable, member, member_at, IsSet, IsQuantity, Expression, IsWritten, AreOne, IsFeasible, IsRestricted, IsInequality, amount, sum_over, expressed, form_of, AllZero, in_front_unless_disequation, without_disequations}
+use Rattle.spec_limits.specs.Dictionary.{Quantity, variable, member, member_at, IsSet, IsQuantity, Expression, IsWritten, AreOne, IsFeasible, IsRestricted, amount, sum_over, expressed, form_of, AllZero, in_front_unless_disequation, without_disequations}
+use Rattle.spec_projection.specs.Elimination.{IsInequality}
 use Rattle.cq_row.specs.declared.Entry.{Entry}
 use Rattle.cq_row.specs.Row.{Row}
 use Rattle.cq_row.specs.Rows.{sum_at, unit, choose}

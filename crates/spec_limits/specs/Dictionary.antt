@@ -6,6 +6,7 @@ use Rattle.spec_rational.specs.Sums.{Mentions}
 use Rattle.spec_linear.specs.declared.Relation.{Relation}
 use Rattle.spec_linear.specs.declared.Relation.TheVariants.{Eq, Gt, Ge, Ne}
 use Rattle.spec_linear.specs.Form.{Linear, value_at, constant_form, variable_form}
+use Rattle.spec_projection.specs.Elimination.{IsInequality}
 use Rattle.spec_linear.specs.Solution.{Constraint, number, Point, Solves, Has, SomeMentions}
 
 -- ---- quantities
@@ -37,13 +38,6 @@ SomeFormMentions x (f ∷ asked) = Mentions x f.products ⊎ SomeFormMentions x 
 abbrev pub IsQuantity : List Constraint → List Linear → Quantity → Type 0
 IsQuantity l asked (variable x) = SomeMentions x l ⊎ SomeFormMentions x asked
 IsQuantity l asked (member i) = i < length l
-
--- the relation says that a form is not below zero
-abbrev pub IsInequality : Relation → Type 0
-IsInequality Eq = ⊥
-IsInequality Gt = ⊤
-IsInequality Ge = ⊤
-IsInequality Ne = ⊥
 
 -- the forms of `> 0` and `>= 0` are restricted
 abbrev pub IsRestricted : List Constraint → Quantity → Type 0

@@ -61,17 +61,17 @@ pub record Row (m : Moment) (zeros columns : List Quantity) : Type 0 where
   pub numbers : Expression
   pub written : IsWritten m.list zeros columns form numbers
 
--- the places of a row are its columns and its constant
-pub data Place : Type 0 where
-  constant : Place
-  column : Quantity → Place
+-- where a number of a row stands: its constant, or its entry in a column
+pub data RowIndex : Type 0 where
+  constant : RowIndex
+  column : Quantity → RowIndex
 
-abbrev pub IsPlace : List Quantity → Place → Type 0
-IsPlace columns constant = ⊤
-IsPlace columns (column q) = Has q columns
+abbrev pub IsRowIndex : List Quantity → RowIndex → Type 0
+IsRowIndex columns constant = ⊤
+IsRowIndex columns (column q) = Has q columns
 
--- the number at a place
-abbrev pub number_at : Expression → Place → ℚ
+-- the number that stands there
+abbrev pub number_at : Expression → RowIndex → ℚ
 number_at e constant = e.constant
 number_at e (column q) = e.entry q
 
@@ -128,17 +128,17 @@ pub data Makes (m : Moment) : Operation → ℚ → ℚ → Type 0 where
   -- terms: for a product or quotient coefficients or constants of the two forms
   operands : (o : Operands) → Has o m.operations → IsProductOrQuotient o.operation → {a b : ℚ} → IsNumberOf o.left a → IsNumberOf o.right b → Makes m o.operation a b
   -- exchange: a number of the row, or 1, by the entry
-  quotient : (x : Exchange m) (at : Place) → IsPlace x.columns at → Makes m Quotient (number_at x.row.numbers at) (pivot_entry x)
+  quotient : (x : Exchange m) (at : RowIndex) → IsRowIndex x.columns at → Makes m Quotient (number_at x.row.numbers at) (pivot_entry x)
   inverse : (x : Exchange m) → Makes m Quotient 1ℚ (pivot_entry x)
   -- exchange: another row's entry in the column, times such a quotient
-  product : (x : Exchange m) (other : Row m x.zeros x.columns) (at : Place) → IsPlace x.columns at → Makes m Times (other.numbers.entry x.column) (number_at x.row.numbers at /ℚ pivot_entry x)
+  product : (x : Exchange m) (other : Row m x.zeros x.columns) (at : RowIndex) → IsRowIndex x.columns at → Makes m Times (other.numbers.entry x.column) (number_at x.row.numbers at /ℚ pivot_entry x)
   product_inverse : (x : Exchange m) (other : Row m x.zeros x.columns) → Makes m Times (other.numbers.entry x.column) (1ℚ /ℚ pivot_entry x)
   -- exchange: that other row's number less that product, at the quotient's place
-  difference : (x : Exchange m) (other : Row m x.zeros x.columns) (at : Place) → IsPlace x.columns at → Makes m Difference (number_at other.numbers at) (other.numbers.entry x.column *ℚ (number_at x.row.numbers at /ℚ pivot_entry x))
+  difference : (x : Exchange m) (other : Row m x.zeros x.columns) (at : RowIndex) → IsRowIndex x.columns at → Makes m Difference (number_at other.numbers at) (other.numbers.entry x.column *ℚ (number_at x.row.numbers at /ℚ pivot_entry x))
   -- adding a form: its coefficient of x and a number of x's row
-  scaled : (a : Adding m) (at : Place) → IsPlace a.columns at → Makes m Times a.now.factor (number_at a.numbers at)
+  scaled : (a : Adding m) (at : RowIndex) → IsRowIndex a.columns at → Makes m Times a.now.factor (number_at a.numbers at)
   -- adding a form: what its constant and earlier variables gave at a place, and that product there
-  added : (a : Adding m) (at : Place) → IsPlace a.columns at → Makes m Sum (number_at a.before at) (a.now.factor *ℚ number_at a.numbers at)
+  added : (a : Adding m) (at : RowIndex) → IsRowIndex a.columns at → Makes m Sum (number_at a.before at) (a.now.factor *ℚ number_at a.numbers at)
   -- answers: a number of a row by one of its coefficients
   divided : (f : Linear) → Has f m.rows → {a : ℚ} → IsNumberOf f a → (x : ℕ) → (factor_of x f.products ≡ 0ℚ → ⊥) → Makes m Quotient a (factor_of x f.products)
   -- answers: two such quotients at one place, of a lower and an upper row for one variable

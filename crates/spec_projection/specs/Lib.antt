@@ -1,0 +1,14 @@
+pub mod Targets
+pub mod Others
+pub mod Elimination
+pub mod Lists
+pub mod Irredundant
+pub mod Substitution
+pub mod Strict
+pub mod Partial
+pub mod Projection
+pub mod Follows
+pub mod Interior
+pub mod Samples
+pub mod Arranged
+pub mod Printed
