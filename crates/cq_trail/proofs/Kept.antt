@@ -66,17 +66,6 @@ module _ {T : Type 0} where
       ap (take p.items) (restore-append_right cs xs (x ∷ []) w) ∙ take-append-le p.items (restore cs xs) (x ∷ []) l)
 
   -- ---- set, where nothing needs saving
-  pub is_trail_write : (xs : List T) (stamps : List ℕ) (log : List (Entry T)) (marks : List Place) (i : ℕ) (x : T) → IsTrail xs stamps log marks → IsTrail (set xs i x) stamps log marks
-  is_trail_write xs stamps log marks i x is = record {
-    stamped = is.stamped ∙ sym (length-set xs i x);
-    entries = λ j e q. rw length-set (is.entries j e q);
-    within = λ k p q. rw length-set (is.within k p q);
-    before = is.before;
-    sorted = is.sorted;
-    links = is.links;
-    unsaved = is.unsaved;
-  }
-
   pub saved_write : (xs : List T) (stamps : List ℕ) (log : List (Entry T)) (marks : List Place) (i : ℕ) (x : T) → IsTrail xs stamps log marks → NeedsNoSaving marks i (get_or stamps i 0) → map (at_mark log (set xs i x)) marks ≡ map (at_mark log xs) marks
   saved_write xs stamps log marks i x is safe = map_same (at_mark log (set xs i x)) (at_mark log xs) marks (λ k p q.
       let lt : k < length marks = slice_get_within marks k p q in

@@ -2,3 +2,4 @@ pub mod Restore
 pub mod Stamps
 pub mod Kept
 pub mod Zip
+pub mod Cut

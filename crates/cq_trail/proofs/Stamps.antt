@@ -6,7 +6,7 @@ use Rattle.std.proofs.lemmas.Option.{none-some, same_Some, slice_get-get_or}
 use Rattle.std.proofs.lemmas.Bool.{cases_eq}
 use Rattle.cq_trail.specs.declared.trail.Entry.{Entry}
 use Rattle.cq_trail.specs.Log.{restore, old_values, old_stamps, places}
-use Rattle.cq_trail.proofs.Restore.{get-drop, get_take, get_kept, Within, Has, has_or_not, get_or-restore_apart, restore_last, drop-take-drop}
+use Rattle.cq_trail.proofs.Restore.{get-drop, get_kept, Within, Has, has_or_not, get_or-restore_apart, restore_last, drop-take-drop}
 use Rattle.std.proofs.Math.Seq.{drop-cons}
 
 module _ {T : Type 0} where
@@ -33,9 +33,6 @@ module _ {T : Type 0} where
   stamps_within n [] w (suc j) c q = absurd (none-some c q)
   stamps_within n (e ∷ es) w zero c q = subst (λ (d : ℕ × ℕ). d.0 < n) (same_Some (stamp_of e) c q) (w 0 e refl)
   stamps_within n (e ∷ es) w (suc j) c q = stamps_within n es (λ k y h. w (suc k) y h) j c q
-
-  pub entries_take : (n m : ℕ) (log : List (Entry T)) → EntriesWithin n log → EntriesWithin n (take m log)
-  entries_take n m log w = λ j e q. w j e (get_take m j log e q).0
 
   pub entries_front : (n : ℕ) (log : List (Entry T)) (e : Entry T) → EntriesWithin n (log ++ e ∷ []) → EntriesWithin n log
   entries_front n log e w = λ j f q. w j f (get_kept log (e ∷ []) j f q)

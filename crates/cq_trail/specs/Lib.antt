@@ -1,2 +1,3 @@
 pub mod TrailValue
 pub mod Log
+pub mod StackValue

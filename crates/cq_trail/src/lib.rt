@@ -1,12 +1,15 @@
-//! Values that go back to what they were: the trait `Undo`, a list with a trail of its older values, and pairs.
+//! Values that go back to what they were: the trait `Undo`, a list with a trail of its older values, a list that
+//! only grows, and pairs.
 #![tactic(auto)]
 
 mod both;
+mod stack;
 #[cfg(test)]
 mod tests;
 mod trail;
 mod undo;
 
 pub use both::Both;
+pub use stack::Stack;
 pub use trail::Trail;
 pub use undo::{Mark, Undo};

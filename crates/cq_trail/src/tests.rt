@@ -3,7 +3,7 @@
 ghost use Rattle.std.specs.Prelude.{◌≡◌, length};
 ghost use Rattle.std.specs.List.{zip};
 
-use crate::{Both, Mark, Trail, Undo};
+use crate::{Both, Mark, Stack, Trail, Undo};
 use std::alloc::{AllocError, Global};
 use std::test::Fail;
 
@@ -127,5 +127,23 @@ fn goes_back_to_whole_copies(rt: HostRuntime) -> Result<(), Fail> {
         step(rt.alloc(), &mut watched, random >> 8)?;
         assert!(rt; both_agree(&watched), "at turn {turn}");
     }
+    Ok(())
+}
+
+#[test]
+fn a_list_that_grew_is_cut_off(rt: HostRuntime) -> Result<(), Fail> {
+    let mut stack = Stack::new(rt.alloc());
+    assert!(rt; stack.is_empty());
+    stack.push(7)?;
+    let m = stack.mark()?;
+    stack.push(8)?;
+    stack.push(9)?;
+    assert_eq!(rt; stack.as_slice(), [7, 8, 9].as_slice());
+    stack.undo(m);
+    assert_eq!(rt; stack.as_slice(), [7].as_slice());
+    stack.reserve_places(2)?;
+    stack.push(5)?;
+    assert_eq!(rt; stack.len(), 2);
+    assert_eq!(rt; *stack.get(1), 5);
     Ok(())
 }
