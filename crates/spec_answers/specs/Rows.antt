@@ -1,0 +1,75 @@
+-- The rows of an answer as they are printed, what they say, and their texts.
+use Rattle.std.specs.Prelude.{ℕ, List, [], ◌∷◌, ◌++◌, map, codes}
+use Rattle.spec_rational.specs.Rational.{ℚ, 0ℚ}
+use Rattle.spec_rational.specs.Sums.{Monomial}
+use Rattle.spec_linear.specs.Solution.{Constraint}
+use Rattle.spec_echelon.specs.Echelon.{Solved, variables}
+use Rattle.spec_projection.specs.Printed.{Comparison, AtLeast, Above, AtMost, Below, compared, unequal_to}
+use Rattle.spec_answers.specs.Text.{Text, number_text}
+use Rattle.spec_answers.specs.RowText.{related, linear_text, equation_text}
+
+-- products, a comparison, and the number on the right
+pub record Inequality : Type 0 where
+  pub products : List Monomial
+  pub comparison : Comparison
+  pub bound : ℚ
+
+-- products =\= the number on the right
+pub record Disequation : Type 0 where
+  pub products : List Monomial
+  pub bound : ℚ
+
+pub record Rows : Type 0 where
+  pub equations : List Solved
+  pub inequalities : List Inequality
+  pub disequations : List Disequation
+
+abbrev pub no_rows : Rows
+no_rows = record { equations = []; inequalities = []; disequations = [] }
+
+-- ---- what they say
+
+abbrev pub inequality : Inequality → Constraint
+inequality i = compared i.products i.comparison i.bound
+
+abbrev pub disequation : Disequation → Constraint
+disequation d = unequal_to d.products d.bound
+
+-- the constraints that are no equations
+abbrev pub other_constraints : Rows → List Constraint
+other_constraints r = map inequality r.inequalities ++ map disequation r.disequations
+
+-- ---- the variables that stand in rows, an occurrence each
+
+abbrev pub equation_variables : List Solved → List ℕ
+equation_variables [] = []
+equation_variables (e ∷ es) = e.variable ∷ variables e.form.products ++ equation_variables es
+
+abbrev pub inequality_variables : List Inequality → List ℕ
+inequality_variables [] = []
+inequality_variables (i ∷ is) = variables i.products ++ inequality_variables is
+
+abbrev pub disequation_variables : List Disequation → List ℕ
+disequation_variables [] = []
+disequation_variables (d ∷ ds) = variables d.products ++ disequation_variables ds
+
+abbrev pub row_variables : Rows → List ℕ
+row_variables r = equation_variables r.equations ++ inequality_variables r.inequalities ++ disequation_variables r.disequations
+
+-- ---- texts
+
+abbrev pub comparison_text : Comparison → Text
+comparison_text AtLeast = codes ">="
+comparison_text Above = codes ">"
+comparison_text AtMost = codes "=<"
+comparison_text Below = codes "<"
+
+-- with these names of variables
+abbrev pub inequality_text : (ℕ → Text) → Inequality → Text
+inequality_text name i = related (linear_text name i.products 0ℚ) (comparison_text i.comparison) (number_text i.bound)
+
+abbrev pub disequation_text : (ℕ → Text) → Disequation → Text
+disequation_text name d = related (linear_text name d.products 0ℚ) (codes "=\\=") (number_text d.bound)
+
+abbrev pub row_texts : (ℕ → Text) → Rows → List Text
+row_texts name r = map (equation_text name) r.equations ++ map (inequality_text name) r.inequalities ++ map (disequation_text name) r.disequations
