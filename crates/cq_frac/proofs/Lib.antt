@@ -6,3 +6,5 @@ pub mod Sums
 pub mod Zero
 pub mod Halves
 pub mod Fields
+pub mod Refusals
+pub mod Exits

@@ -218,6 +218,15 @@ fn told(outcome: Result<Frac, Pair>) -> Result<i128, (Operation, i128, i128)> {
     }
 }
 
+/// The same of a quotient; no answer for the divisor zero.
+fn quotient_told(left: Frac, right: Frac) -> Option<Result<i128, (Operation, i128, i128)>> {
+    if right.is_zero() {
+        None
+    } else {
+        Some(told(quotient(left, right)))
+    }
+}
+
 #[test]
 fn a_refusal_tells_its_pair(rt: HostRuntime) -> Result<(), Fail> {
     let most = Frac::new(i128::MAX, 1)?;
@@ -232,13 +241,13 @@ fn a_refusal_tells_its_pair(rt: HostRuntime) -> Result<(), Fail> {
         Err((Operation::Product, 2, i128::MAX))
     );
     assert_eq!(rt;
-        told(quotient(most, half)),
-        Err((Operation::Quotient, i128::MAX, 1))
+        quotient_told(most, half),
+        Some(Err((Operation::Quotient, i128::MAX, 1)))
     );
     assert_eq!(rt; told(sum(two, two)), Ok(4));
     assert_eq!(rt; told(difference(two, most)), Ok(2 - i128::MAX));
     assert_eq!(rt; told(product(two, two)), Ok(4));
-    assert_eq!(rt; told(quotient(two, half)), Ok(4));
+    assert_eq!(rt; quotient_told(two, half), Some(Ok(4)));
     Ok(())
 }
 
