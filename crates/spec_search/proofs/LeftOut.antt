@@ -9,7 +9,7 @@ use Rattle.spec_builtins.specs.Alternatives.{◌≐◌}
 use Rattle.spec_branch.specs.Branch.{Branch}
 use Rattle.spec_branch.specs.Settling.{Settles, no_unifier, Pruned, Clash}
 use Rattle.spec_search.specs.Database.{Clause}
-use Rattle.spec_search.specs.Replies.{Writer, Place}
+use Rattle.spec_search.specs.Replies.{Place}
 use Rattle.spec_search.specs.Control.{instance, clause_items, clause_state, clause_work, clause_child}
 use Rattle.spec_search.specs.Search.{Search, look_at}
 use Rattle.spec_search.specs.Turns.{Turn, Wrote, prunes, with_branches}
@@ -24,7 +24,7 @@ pub left_out : (p : Place) (goal : Tree) (c : Clause) → HasNoUnifier ((goal �
 left_out p goal c h = no_unifier (λ r k. h (followed_by p.state.bindings r) (equates_back p.state.bindings r ((goal ≐ (instance p c).head) ∷ []) k))
 
 -- its child is dropped, and nothing is shown
-pub dropped : (w : Writer) (s : Search) (p : Place) (goal : Tree) (c : Clause) (bs : List Branch)
+pub dropped : (s : Search) (p : Place) (goal : Tree) (c : Clause) (bs : List Branch)
     → HasNoUnifier ((goal ≐ (instance p c).head) ∷ []) → s.branches ≡ clause_child p goal c ∷ bs
-    → Turn w s (Wrote []) (with_branches bs s)
-dropped w s p goal c bs h e = prunes (ap look_at e) (left_out p goal c h) refl
+    → Turn s (Wrote []) (with_branches bs s)
+dropped s p goal c bs h e = prunes (ap look_at e) (left_out p goal c h) refl

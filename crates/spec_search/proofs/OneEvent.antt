@@ -5,7 +5,7 @@ use Rattle.spec_syntax.specs.Trees.{Tree}
 use Rattle.spec_branch.specs.Branch.{State, Item, Branch, Copied, Pending, read}
 use Rattle.spec_branch.specs.Settling.{Settles, Kept, Pruned, Why}
 use Rattle.spec_branch.proofs.Determined as settling
-use Rattle.spec_search.specs.Replies.{Writer, Place, Made}
+use Rattle.spec_search.specs.Replies.{Place, Made}
 use Rattle.spec_search.specs.Steps.{Steps, Ball, Children}
 use Rattle.spec_search.specs.Balls.{handed}
 use Rattle.spec_search.specs.Search.{Search, Look, Over, Settling, Moving, Collecting, Selecting, Answering, look_at}
@@ -24,13 +24,13 @@ abbrev of_pruned : List Item → List Branch → Option Copied → Event
 of_pruned items bs None = Wrote []
 of_pruned items bs (Some ball) = of_ball ball (handed ball items bs)
 
-module _ (w : Writer) (s : Search) where
+module _ (s : Search) where
   -- ---- what is shown where a goal is selected
 
   data Chooses (goal : Tree) (cut : ℕ) (items : List Item) (st : State) (bs : List Branch) : Event → Type 0 where
-    made : (m : Made) → Steps w (place_of s st items cut bs) (read st goal) (Children m)
+    made : (m : Made) → Steps (place_of s st items cut bs) (read st goal) (Children m)
         → Chooses goal cut items st bs (Wrote m.output)
-    fell : (ball : Copied) → Steps w (place_of s st items cut bs) (read st goal) (Ball ball)
+    fell : (ball : Copied) → Steps (place_of s st items cut bs) (read st goal) (Ball ball)
         → Chooses goal cut items st bs (of_ball ball (handed ball items bs))
 
   no_ball : (p : Place) (goal : Tree) (m : Made) (ball : Copied) → Alike p goal (Children m) (Ball ball) → ⊥
@@ -53,16 +53,16 @@ module _ (w : Writer) (s : Search) where
       → Chooses goal cut items st bs e → Chooses goal cut items st bs f → e ≡ f
   one_choice goal cut items st bs e f (made m h) (made n k) =
       let p : Place = place_of s st items cut bs in
-      ap (λ (t : Text). Wrote t) (same_output p (read st goal) m n (steps_alike p (read st goal) w (Children m) (Children n) h k))
+      ap (λ (t : Text). Wrote t) (same_output p (read st goal) m n (steps_alike p (read st goal) (Children m) (Children n) h k))
   one_choice goal cut items st bs e f (made m h) (fell ball k) =
       let p : Place = place_of s st items cut bs in
-      absurd (no_ball p (read st goal) m ball (steps_alike p (read st goal) w (Children m) (Ball ball) h k))
+      absurd (no_ball p (read st goal) m ball (steps_alike p (read st goal) (Children m) (Ball ball) h k))
   one_choice goal cut items st bs e f (fell ball h) (made m k) =
       let p : Place = place_of s st items cut bs in
-      absurd (no_ball p (read st goal) m ball (steps_alike p (read st goal) w (Children m) (Ball ball) k h))
+      absurd (no_ball p (read st goal) m ball (steps_alike p (read st goal) (Children m) (Ball ball) k h))
   one_choice goal cut items st bs e f (fell a h) (fell b k) =
       let p : Place = place_of s st items cut bs in
-      ap (λ x. of_ball x (handed x items bs)) (same_ball p (read st goal) a b (steps_alike p (read st goal) w (Ball a) (Ball b) h k))
+      ap (λ x. of_ball x (handed x items bs)) (same_ball p (read st goal) a b (steps_alike p (read st goal) (Ball a) (Ball b) h k))
 
   -- ---- what is shown where a branch is settled
 
@@ -94,7 +94,7 @@ module _ (w : Writer) (s : Search) where
   falls items st p bs why h ball g e k =
       subst (λ x. Decides items st p bs x) (ap (of_pruned items bs) g ∙ k) (pruned why h)
 
-  shows : {e : Event} {t : Search} → Turn w s e t → Shows (look_at s.branches) e
+  shows : {e : Event} {t : Search} → Turn s e t → Shows (look_at s.branches) e
   shows (keeps {b = b} h k) = subst (λ l. Shows l (Wrote [])) (sym h) (kept b k)
   shows (prunes {items} {st} {p} {bs} {why} h k g) =
       subst (λ l. Shows l (Wrote [])) (sym h) (falls items st p bs why k None g (Wrote []) refl)
@@ -120,5 +120,5 @@ module _ (w : Writer) (s : Search) where
   shows_once (Selecting goal cut items st bs) e f a b = one_choice goal cut items st bs e f a b
   shows_once (Answering st bs) e f a b = a ∙ sym b
 
-  pub one_event : (e f : Event) (t u : Search) → Turn w s e t → Turn w s f u → e ≡ f
+  pub one_event : (e f : Event) (t u : Search) → Turn s e t → Turn s f u → e ≡ f
   one_event e f t u h k = shows_once (look_at s.branches) e f (shows h) (shows k)

@@ -15,7 +15,7 @@ use Rattle.spec_branch.proofs.Waiting.{one_map}
 use Rattle.spec_search.specs.Database.{Clause}
 use Rattle.spec_search.specs.Builtins.{Side, Least, Greatest}
 use Rattle.spec_search.specs.Replies as reply
-use Rattle.spec_search.specs.Replies.{Writer, Place, Reply, Raises, Throws, WithCopy, Makes, Calls, IfEntailed, WithExtent}
+use Rattle.spec_search.specs.Replies.{Place, Reply, Raises, Throws, WithCopy, Makes, Calls, IfEntailed, WithExtent}
 use Rattle.spec_search.specs.Control.{clause_child}
 use Rattle.spec_search.specs.Rows.{reply_of}
 use Rattle.spec_search.specs.Steps.{Steps, Stepped, Ball, Children, ball_of, children, is_not_linear, IsEntailed, IsBroken, AllEntailed, IsExtent, HasNoExtent, raises, throws, copies, makes, calls, not_linear, entailed, not_entailed, expression_waits, expression_false, extent, no_extent}
@@ -121,19 +121,19 @@ module _ (p : Place) (goal : Tree) where
   Result (IfEntailed ms b) o = (fixed : ℕ → Option ℚ) × Fixes p.state.linear fixed × Asks ms b fixed o
   Result (WithExtent side e f) o = (fixed : ℕ → Option ℚ) × Fixes p.state.linear fixed × Reaches side e f fixed o
 
-  result : (w : Writer) (o : Stepped) → Steps w p goal o → Result (reply_of w p goal) o
-  result w o (raises {e = e} h) = subst (λ r. Result r (ball_of goal e)) (sym h) refl
-  result w o (throws {t = t} {c = c} h k) = subst (λ r. Result r (Ball c)) (sym h) (ap (λ x. Ball x) k)
-  result w o (copies {t = t} {f = f} {c = c} h k) = subst (λ r. Result r (children p (f c ∷ []))) (sym h) (ap (λ x. children p (f x ∷ [])) k)
-  result w o (makes {m = m} h) = subst (λ r. Result r (Children m)) (sym h) refl
-  result w o (calls {all = cs} {some = ds} h k) = subst (λ r. Result r (children p (map (clause_child p goal) ds))) (sym h) (map (clause_child p goal) ds, refl)
-  result w o (not_linear {m = m} fixed h k e) = subst (λ r. Result r (ball_of goal (type_error "linear" m))) (sym h) (fixed, k, refused e)
-  result w o (entailed {b = b} fixed h k e a) = subst (λ r. Result r (children p (b ∷ []))) (sym h) (fixed, k, all e a)
-  result w o (not_entailed m fixed h k e i x) = subst (λ r. Result r (children p [])) (sym h) (fixed, k, broken m e i x)
-  result w o (expression_waits {e = e} fixed h k a) = subst (λ r. Result r (ball_of goal (type_error "linear" e))) (sym h) (fixed, k, waiting a)
-  result w o (expression_false fixed h k a) = subst (λ r. Result r (children p [])) (sym h) (fixed, k, false_one a)
-  result w o (extent {f = f} {q = q} fixed h k a x) = subst (λ r. Result r (children p (f q ∷ []))) (sym h) (fixed, k, value q a x)
-  result w o (no_extent fixed h k a x) = subst (λ r. Result r (children p [])) (sym h) (fixed, k, no_value a x)
+  result : (o : Stepped) → Steps p goal o → Result (reply_of p goal) o
+  result o (raises {e = e} h) = subst (λ r. Result r (ball_of goal e)) (sym h) refl
+  result o (throws {t = t} {c = c} h k) = subst (λ r. Result r (Ball c)) (sym h) (ap (λ x. Ball x) k)
+  result o (copies {t = t} {f = f} {c = c} h k) = subst (λ r. Result r (children p (f c ∷ []))) (sym h) (ap (λ x. children p (f x ∷ [])) k)
+  result o (makes {m = m} h) = subst (λ r. Result r (Children m)) (sym h) refl
+  result o (calls {all = cs} {some = ds} h k) = subst (λ r. Result r (children p (map (clause_child p goal) ds))) (sym h) (map (clause_child p goal) ds, refl)
+  result o (not_linear {m = m} fixed h k e) = subst (λ r. Result r (ball_of goal (type_error "linear" m))) (sym h) (fixed, k, refused e)
+  result o (entailed {b = b} fixed h k e a) = subst (λ r. Result r (children p (b ∷ []))) (sym h) (fixed, k, all e a)
+  result o (not_entailed m fixed h k e i x) = subst (λ r. Result r (children p [])) (sym h) (fixed, k, broken m e i x)
+  result o (expression_waits {e = e} fixed h k a) = subst (λ r. Result r (ball_of goal (type_error "linear" e))) (sym h) (fixed, k, waiting a)
+  result o (expression_false fixed h k a) = subst (λ r. Result r (children p [])) (sym h) (fixed, k, false_one a)
+  result o (extent {f = f} {q = q} fixed h k a x) = subst (λ r. Result r (children p (f q ∷ []))) (sym h) (fixed, k, value q a x)
+  result o (no_extent fixed h k a x) = subst (λ r. Result r (children p [])) (sym h) (fixed, k, no_value a x)
 
   one_fixed : (f g : ℕ → Option ℚ) → Fixes p.state.linear f → Fixes p.state.linear g → f ≡ g
   one_fixed f g h k = one_map p.state.linear p.state.linear f g (λ x. ((λ s. s), (λ s. s))) h k
@@ -149,9 +149,9 @@ module _ (p : Place) (goal : Tree) where
   result_once (IfEntailed ms br) n o q a b = asks_once ms br b.0 o q (subst (λ f. Asks ms br f o) (one_fixed a.0 b.0 a.1 b.1) a.2) b.2
   result_once (WithExtent side e f) n o q a b = reaches_once side e f b.0 o q (subst (λ g. Reaches side e f g o) (one_fixed a.0 b.0 a.1 b.1) a.2) b.2
 
-  pub step_once : (w : Writer) → ((cs : List Clause) → reply_of w p goal ≡ Calls cs → ⊥) → (o q : Stepped)
-      → Steps w p goal o → Steps w p goal q → o ≡ q
-  step_once w n o q a b = result_once (reply_of w p goal) n o q (result w o a) (result w q b)
+  pub step_once : ((cs : List Clause) → reply_of p goal ≡ Calls cs → ⊥) → (o q : Stepped)
+      → Steps p goal o → Steps p goal q → o ≡ q
+  step_once n o q a b = result_once (reply_of p goal) n o q (result o a) (result q b)
 
   -- two steps are one, or both have children and nothing else
   pub data Alike (o q : Stepped) : Type 0 where
@@ -168,5 +168,5 @@ module _ (p : Place) (goal : Tree) where
   result_alike (IfEntailed ms br) o q a b = one_step (asks_once ms br b.0 o q (subst (λ f. Asks ms br f o) (one_fixed a.0 b.0 a.1 b.1) a.2) b.2)
   result_alike (WithExtent side e f) o q a b = one_step (reaches_once side e f b.0 o q (subst (λ g. Reaches side e f g o) (one_fixed a.0 b.0 a.1 b.1) a.2) b.2)
 
-  pub steps_alike : (w : Writer) (o q : Stepped) → Steps w p goal o → Steps w p goal q → Alike o q
-  steps_alike w o q a b = result_alike (reply_of w p goal) o q (result w o a) (result w q b)
+  pub steps_alike : (o q : Stepped) → Steps p goal o → Steps p goal q → Alike o q
+  steps_alike o q a b = result_alike (reply_of p goal) o q (result o a) (result q b)

@@ -6,20 +6,15 @@ use Rattle.spec_rational.specs.Sums.{Monomial}
 use Rattle.cq_frac.specs.declared.Pair.{Pair}
 use Rattle.spec_linear.specs.Form.{with_product}
 use Rattle.spec_linear.specs.Solution.{Constraint}
-use Rattle.spec_operators.specs.Operators.{Text, Ops}
+use Rattle.spec_operators.specs.Operators.{Text}
 use Rattle.spec_terms.specs.Term.{apply}
 use Rattle.spec_terms.specs.Unifier.{Equation}
 use Rattle.spec_terms.specs.Variables.{numbered_from}
-use Rattle.spec_syntax.specs.TextTokens.{VariableName}
 use Rattle.spec_syntax.specs.Trees.{Tree}
 use Rattle.spec_builtins.specs.Alternatives.{Solutions, Faults, Offers, Alternative}
 use Rattle.spec_branch.specs.Branch.{Asleep, Frozen, State, Copied, Item, Pending, Unsettled, Branch, no_work}
 use Rattle.spec_search.specs.Database.{Database, Clause}
-use Rattle.spec_search.specs.Builtins.{Side, Style}
-
--- how terms are written: in which style, by which operators, with which names of variables, at which priority
-abbrev pub Writer : Type 0
-Writer = Style → Ops → List VariableName → ℕ → Tree → Text
+use Rattle.spec_search.specs.Builtins.{Side}
 
 -- where a goal is selected: the database, the state of its branch, the items behind it, the height that a cut in it
 -- goes back to, and how many branches are behind its own

@@ -14,7 +14,7 @@ use Rattle.spec_told.specs.Checks.{is_either}
 use Rattle.spec_branch.specs.Branch.{Branch, Copied, plain_copy, IsCopy}
 use Rattle.spec_search.specs.Database.{Clause}
 use Rattle.spec_search.specs.Builtins.{Side, Least, Greatest}
-use Rattle.spec_search.specs.Replies.{Writer, Place, Made, Raises, Throws, WithCopy, Makes, Calls, IfEntailed, WithExtent, made}
+use Rattle.spec_search.specs.Replies.{Place, Made, Raises, Throws, WithCopy, Makes, Calls, IfEntailed, WithExtent, made}
 use Rattle.spec_search.specs.Control.{instance, clause_child}
 use Rattle.spec_search.specs.Rows.{reply_of}
 
@@ -79,35 +79,35 @@ abbrev pub children : Place → List Branch → Stepped
 children p bs = Children (made p bs)
 
 -- the steps of a goal as it reads
-pub data Steps (w : Writer) (p : Place) (goal : Tree) : Stepped → Type 0 where
-  raises : {e : Tree} → reply_of w p goal ≡ Raises e → Steps w p goal (ball_of goal e)
-  throws : {t : Tree} {c : Copied} → reply_of w p goal ≡ Throws t → IsCopy p.state t c → Steps w p goal (Ball c)
-  copies : {t : Tree} {f : Copied → Branch} {c : Copied} → reply_of w p goal ≡ WithCopy t f → IsCopy p.state t c
-      → Steps w p goal (children p (f c ∷ []))
-  makes : {m : Made} → reply_of w p goal ≡ Makes m → Steps w p goal (Children m)
-  calls : {all some : List Clause} → reply_of w p goal ≡ Calls all → IsSelection p goal all some
-      → Steps w p goal (children p (map (clause_child p goal) some))
-  not_linear : {ms : List Tree} {b : Branch} {m : Tree} (fixed : ℕ → Option ℚ) → reply_of w p goal ≡ IfEntailed ms b
+pub data Steps (p : Place) (goal : Tree) : Stepped → Type 0 where
+  raises : {e : Tree} → reply_of p goal ≡ Raises e → Steps p goal (ball_of goal e)
+  throws : {t : Tree} {c : Copied} → reply_of p goal ≡ Throws t → IsCopy p.state t c → Steps p goal (Ball c)
+  copies : {t : Tree} {f : Copied → Branch} {c : Copied} → reply_of p goal ≡ WithCopy t f → IsCopy p.state t c
+      → Steps p goal (children p (f c ∷ []))
+  makes : {m : Made} → reply_of p goal ≡ Makes m → Steps p goal (Children m)
+  calls : {all some : List Clause} → reply_of p goal ≡ Calls all → IsSelection p goal all some
+      → Steps p goal (children p (map (clause_child p goal) some))
+  not_linear : {ms : List Tree} {b : Branch} {m : Tree} (fixed : ℕ → Option ℚ) → reply_of p goal ≡ IfEntailed ms b
       → Fixes p.state.linear fixed
-      → find (is_not_linear fixed) ms ≡ Some m → Steps w p goal (ball_of goal (type_error "linear" m))
-  entailed : {ms : List Tree} {b : Branch} (fixed : ℕ → Option ℚ) → reply_of w p goal ≡ IfEntailed ms b
+      → find (is_not_linear fixed) ms ≡ Some m → Steps p goal (ball_of goal (type_error "linear" m))
+  entailed : {ms : List Tree} {b : Branch} (fixed : ℕ → Option ℚ) → reply_of p goal ≡ IfEntailed ms b
       → Fixes p.state.linear fixed
       → find (is_not_linear fixed) ms ≡ None → AllEntailed p.state.linear fixed ms
-      → Steps w p goal (children p (b ∷ []))
+      → Steps p goal (children p (b ∷ []))
   not_entailed : {ms : List Tree} {b : Branch} (m : Tree) (fixed : ℕ → Option ℚ)
-      → reply_of w p goal ≡ IfEntailed ms b → Fixes p.state.linear fixed
+      → reply_of p goal ≡ IfEntailed ms b → Fixes p.state.linear fixed
       → find (is_not_linear fixed) ms ≡ None → Has m ms → IsBroken p.state.linear (lin fixed m)
-      → Steps w p goal (children p [])
+      → Steps p goal (children p [])
   expression_waits : {side : Side} {e : Tree} {f : ℚ → Branch} (fixed : ℕ → Option ℚ)
-      → reply_of w p goal ≡ WithExtent side e f → Fixes p.state.linear fixed
-      → lin_expression fixed e ≡ Waits → Steps w p goal (ball_of goal (type_error "linear" e))
+      → reply_of p goal ≡ WithExtent side e f → Fixes p.state.linear fixed
+      → lin_expression fixed e ≡ Waits → Steps p goal (ball_of goal (type_error "linear" e))
   expression_false : {side : Side} {e : Tree} {f : ℚ → Branch} (fixed : ℕ → Option ℚ)
-      → reply_of w p goal ≡ WithExtent side e f → Fixes p.state.linear fixed
-      → lin_expression fixed e ≡ False → Steps w p goal (children p [])
+      → reply_of p goal ≡ WithExtent side e f → Fixes p.state.linear fixed
+      → lin_expression fixed e ≡ False → Steps p goal (children p [])
   extent : {side : Side} {e : Tree} {f : ℚ → Branch} {form : Linear} {q : ℚ} (fixed : ℕ → Option ℚ)
-      → reply_of w p goal ≡ WithExtent side e f → Fixes p.state.linear fixed
+      → reply_of p goal ≡ WithExtent side e f → Fixes p.state.linear fixed
       → lin_expression fixed e ≡ Is form → IsExtent side p.state.linear form q
-      → Steps w p goal (children p (f q ∷ []))
+      → Steps p goal (children p (f q ∷ []))
   no_extent : {side : Side} {e : Tree} {f : ℚ → Branch} {form : Linear} (fixed : ℕ → Option ℚ)
-      → reply_of w p goal ≡ WithExtent side e f → Fixes p.state.linear fixed
-      → lin_expression fixed e ≡ Is form → HasNoExtent side p.state.linear form → Steps w p goal (children p [])
+      → reply_of p goal ≡ WithExtent side e f → Fixes p.state.linear fixed
+      → lin_expression fixed e ≡ Is form → HasNoExtent side p.state.linear form → Steps p goal (children p [])

@@ -7,7 +7,7 @@ use Rattle.spec_branch.specs.Branch.{State, Copied, Item, Branch, Pending, read,
 use Rattle.spec_branch.specs.Settling.{Settles, Kept, Pruned, Why}
 use Rattle.spec_search.specs.Database.{Database, clause_removed}
 use Rattle.spec_search.specs.Replies as reply
-use Rattle.spec_search.specs.Replies.{Writer, Place, Made}
+use Rattle.spec_search.specs.Replies.{Place, Made}
 use Rattle.spec_search.specs.Rows.{reply_of}
 use Rattle.spec_search.specs.Steps.{Steps, Ball, Children}
 use Rattle.spec_search.specs.Balls.{last, handed}
@@ -51,48 +51,48 @@ after_ball s bs = record s { branches = bs; selected = suc s.selected }
 -- ---- turns
 
 -- one turn, by the first branch
-pub data Turn (w : Writer) (s : Search) : Event → Search → Type 0 where
+pub data Turn (s : Search) : Event → Search → Type 0 where
   keeps : {items : List Item} {st : State} {p : Pending} {bs : List Branch} {b : Branch}
       → look_at s.branches ≡ Settling items st p bs → Settles items st p (Kept b)
-      → Turn w s (Wrote []) (record s { database = after_removal p.removes s.database; branches = b ∷ bs })
+      → Turn s (Wrote []) (record s { database = after_removal p.removes s.database; branches = b ∷ bs })
   prunes : {items : List Item} {st : State} {p : Pending} {bs : List Branch} {why : Why}
       → look_at s.branches ≡ Settling items st p bs → Settles items st p (Pruned why) → p.ball ≡ None
-      → Turn w s (Wrote []) (with_branches bs s)
+      → Turn s (Wrote []) (with_branches bs s)
   -- a catch that doesn't take its ball hands it on to the next one outwards
   hands_on : {items : List Item} {st : State} {p : Pending} {bs next : List Branch} {why : Why} {ball : Copied}
       → look_at s.branches ≡ Settling items st p bs → Settles items st p (Pruned why) → p.ball ≡ Some ball
-      → handed ball items bs ≡ Some next → Turn w s (Wrote []) (with_branches next s)
+      → handed ball items bs ≡ Some next → Turn s (Wrote []) (with_branches next s)
   escapes : {items : List Item} {st : State} {p : Pending} {bs : List Branch} {why : Why} {ball : Copied}
       → look_at s.branches ≡ Settling items st p bs → Settles items st p (Pruned why) → p.ball ≡ Some ball
-      → handed ball items bs ≡ None → Turn w s (Threw ball) (with_branches [] s)
-  moves : {bs : List Branch} → look_at s.branches ≡ Moving bs → Turn w s (Wrote []) (with_branches bs s)
+      → handed ball items bs ≡ None → Turn s (Threw ball) (with_branches [] s)
+  moves : {bs : List Branch} → look_at s.branches ≡ Moving bs → Turn s (Wrote []) (with_branches bs s)
   collects : {k : ℕ} {t : Tree} {st : State} {bs : List Branch} {c : Copied}
       → look_at s.branches ≡ Collecting k t st bs → IsCopy st t c
-      → Turn w s (Wrote []) (with_branches (gather k c bs) s)
+      → Turn s (Wrote []) (with_branches (gather k c bs) s)
   steps : {goal : Tree} {cut : ℕ} {items : List Item} {st : State} {bs : List Branch} {m : Made}
       → look_at s.branches ≡ Selecting goal cut items st bs
-      → Steps w (place_of s st items cut bs) (read st goal) (Children m)
-      → Turn w s (Wrote m.output) (after_step s m bs)
+      → Steps (place_of s st items cut bs) (read st goal) (Children m)
+      → Turn s (Wrote m.output) (after_step s m bs)
   -- a goal raises a ball, which a catch is to take
   catches : {goal : Tree} {cut : ℕ} {items : List Item} {st : State} {bs next : List Branch} {ball : Copied}
       → look_at s.branches ≡ Selecting goal cut items st bs
-      → Steps w (place_of s st items cut bs) (read st goal) (Ball ball) → handed ball items bs ≡ Some next
-      → Turn w s (Wrote []) (after_ball s next)
+      → Steps (place_of s st items cut bs) (read st goal) (Ball ball) → handed ball items bs ≡ Some next
+      → Turn s (Wrote []) (after_ball s next)
   -- a goal raises a ball that nothing catches
   throws : {goal : Tree} {cut : ℕ} {items : List Item} {st : State} {bs : List Branch} {ball : Copied}
       → look_at s.branches ≡ Selecting goal cut items st bs
-      → Steps w (place_of s st items cut bs) (read st goal) (Ball ball) → handed ball items bs ≡ None
-      → Turn w s (Threw ball) (after_ball s [])
+      → Steps (place_of s st items cut bs) (read st goal) (Ball ball) → handed ball items bs ≡ None
+      → Turn s (Threw ball) (after_ball s [])
   answers : {st : State} {bs : List Branch} → look_at s.branches ≡ Answering st bs
-      → Turn w s (Answered st s.database.operators) (with_branches bs s)
-  ends : look_at s.branches ≡ Over → Turn w s Ended s
+      → Turn s (Answered st s.database.operators) (with_branches bs s)
+  ends : look_at s.branches ≡ Over → Turn s Ended s
 
 -- the next turn selects a goal whose arithmetic refuses the pair; so it has no turn
-pub record Refuses (w : Writer) (s : Search) (pair : Pair) : Type 0 where
+pub record Refuses (s : Search) (pair : Pair) : Type 0 where
   pub goal : Tree
   pub cut : ℕ
   pub items : List Item
   pub state : State
   pub behind : List Branch
   pub selects : look_at s.branches ≡ Selecting goal cut items state behind
-  pub refused : reply_of w (place_of s state items cut behind) (read state goal) ≡ reply.Overflows pair
+  pub refused : reply_of (place_of s state items cut behind) (read state goal) ≡ reply.Overflows pair
