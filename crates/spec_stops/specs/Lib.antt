@@ -1,0 +1,5 @@
+pub mod Causes
+pub mod Operands
+pub mod Settlings
+pub mod Questions
+pub mod Due
