@@ -5,7 +5,8 @@ use Rattle.std.proofs.lemmas.List.{take_more, map-append, get_or-map}
 use Rattle.std.proofs.lemmas.List.Elements.{filter_map-append, filter-append}
 use Rattle.spec_rational.specs.Rational.{ℚ}
 use Rattle.spec_queries.specs.Tree.{VariableName}
-use Rattle.spec_answers.specs.Text.{Text, number_text}
+use Rattle.spec_lists.specs.Texts.{Text}
+use Rattle.spec_answers.specs.Text.{number_text}
 use Rattle.spec_answers.specs.Lines.{is_hidden, or_true, lines_text}
 use Rattle.spec_equations.specs.Answer.{Branch, query_variables, binding_line, binding_lines, row_line}
 use Rattle.cq_project.specs.declared.Equation.{Equation}

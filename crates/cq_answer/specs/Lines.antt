@@ -2,7 +2,8 @@
 use Rattle.std.specs.Prelude.{[], ◌++◌, codes, Option, Some, None, if◌then◌else◌}
 use Rattle.spec_rational.specs.Rational.{ℚ}
 use Rattle.spec_queries.specs.Tree.{VariableName}
-use Rattle.spec_answers.specs.Text.{Text, number_text}
+use Rattle.spec_lists.specs.Texts.{Text}
+use Rattle.spec_answers.specs.Text.{number_text}
 use Rattle.spec_answers.specs.Lines.{is_hidden}
 
 -- a name's binding with its line feed, if its variable has a value and is shown

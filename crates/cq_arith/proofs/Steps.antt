@@ -6,7 +6,8 @@ use Rattle.std.proofs.lemmas.List.Elements.{All-push, All-same, All-pop}
 use Rattle.spec_terms.specs.Term.{Terms, Var, Number, Name, Compound, one, more, count, size, named, named_all}
 use Rattle.spec_arithmetic.specs.declared.UnaryOperation.{UnaryOperation}
 use Rattle.spec_arithmetic.specs.declared.BinaryOperation.{BinaryOperation}
-use Rattle.spec_arithmetic.specs.Operations.{Text, unary_named, binary_named, NotEvaluable, Evaluated, Value, Fails, Overflows, ArithmeticError}
+use Rattle.spec_lists.specs.Texts.{Text}
+use Rattle.spec_arithmetic.specs.Operations.{unary_named, binary_named, NotEvaluable, Evaluated, Value, Fails, Overflows, ArithmeticError}
 use Rattle.spec_arithmetic.specs.Arithmetic.{evaluate, unary_applied, binary_applied}
 use Rattle.spec_rational.specs.Rational.{ℚ}
 use Rattle.cq_atoms.specs.Texts.{text_of}

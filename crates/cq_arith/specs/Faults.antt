@@ -4,7 +4,8 @@ use Rattle.spec_rational.specs.Rational.{ℚ}
 use Rattle.cq_frac.specs.declared.FracFault.{FracFault}
 use Rattle.cq_frac.specs.declared.FracFault.TheVariants as frac
 use Rattle.cq_frac.specs.declared.Operation.{Operation}
-use Rattle.spec_arithmetic.specs.Operations.{Text, ArithmeticError, Evaluated, Value, Fails, Overflows, exact_result}
+use Rattle.spec_lists.specs.Texts.{Text}
+use Rattle.spec_arithmetic.specs.Operations.{ArithmeticError, Evaluated, Value, Fails, Overflows, exact_result}
 use Rattle.spec_arithmetic.specs.Operations as arithmetic
 use Rattle.cq_atoms.specs.Texts.{text_of}
 use Rattle.cq_arith.specs.declared.faults.EvalError.{EvalError}

@@ -1,7 +1,8 @@
 -- An evaluation under way: the operations that wait for a value, the innermost last, and the step that is next.
 use Rattle.std.specs.Prelude.{◌≡◌, ℕ, ◌+◌, ◌*◌, ◌<◌, List, [], ◌∷◌, length, All, ⊤}
 use Rattle.spec_terms.specs.Term.{named, size}
-use Rattle.spec_arithmetic.specs.Operations.{Text, Evaluated, Value}
+use Rattle.spec_lists.specs.Texts.{Text}
+use Rattle.spec_arithmetic.specs.Operations.{Evaluated, Value}
 use Rattle.spec_arithmetic.specs.Arithmetic.{evaluate, after_one, after_right, after_both}
 use Rattle.cq_atoms.specs.Texts.{text_of}
 use Rattle.cq_term.specs.Meaning.{HeapTerm, at}

@@ -3,7 +3,8 @@
 
 ghost use Rattle.std.specs.Prelude.{◌≡◌, ℕ, ◌<◌, ◌*◌, ◌++◌, ◌∷◌, [], List, length, IfOk, IfErr, OnOk};
 ghost use Rattle.spec_terms.specs.Term.{named, size};
-ghost use Rattle.spec_arithmetic.specs.Operations.{Text, Value};
+ghost use Rattle.spec_lists.specs.Texts.{Text};
+ghost use Rattle.spec_arithmetic.specs.Operations.{Value};
 ghost use Rattle.spec_arithmetic.specs.Arithmetic.{evaluate};
 ghost use Rattle.cq_atoms.specs.Texts.{text_of};
 ghost use Rattle.cq_term.specs.Meaning.{HeapTerm, at};

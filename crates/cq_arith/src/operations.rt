@@ -3,7 +3,8 @@
 ghost use Rattle.std.specs.Prelude.{◌≡◌, ◌≢◌, ◌<◌, List, pos, nat_abs, IfOk, IfErr};
 ghost use Rattle.cq_frac.specs.Fits.{limit};
 ghost use Rattle.spec_rational.specs.Rational.{int_ℚ};
-ghost use Rattle.spec_arithmetic.specs.Operations.{Text, Value, unary_named, binary_named, unary_value, whole_value, exact_result, whole_result, binary_result, least, greatest};
+ghost use Rattle.spec_lists.specs.Texts.{Text};
+ghost use Rattle.spec_arithmetic.specs.Operations.{Value, unary_named, binary_named, unary_value, whole_value, exact_result, whole_result, binary_result, least, greatest};
 ghost use Rattle.spec_arithmetic.specs.Rounding.{floor as floor_of, ceiling as ceiling_of, truncate as truncate_of, modulo as modulo_of};
 ghost use Rattle.cq_arith.specs.Faults.{ComesTo, IsComputed};
 

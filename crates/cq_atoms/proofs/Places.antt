@@ -8,7 +8,8 @@ use Rattle.std.proofs.lemmas.Option.{slice_get-get_or, slice_get-map}
 use Rattle.std.specs.Option.{option_map}
 use Rattle.std.specs.Prelude.{if◌then◌else◌}
 use Rattle.std.proofs.lemmas.Bool.Decides.{nat_tests}
-use Rattle.cq_atoms.specs.Texts.{Text, AreDifferent, KeepsTexts, with_text}
+use Rattle.spec_lists.specs.Texts.{Text}
+use Rattle.cq_atoms.specs.Texts.{AreDifferent, KeepsTexts, with_text}
 
 -- what stands where a test is first passed
 pub record StandsAt {A : Type 0} (test : A → Bool) (xs : List A) (i : ℕ) : Type 0 where

@@ -1,10 +1,11 @@
 -- The texts of the names: the place of a text in the list is its number.
 use Rattle.std.specs.Prelude.{◌≡◌, ℕ, List, [], ◌∷◌, ◌++◌, Some, slice_get, slice_index_or, bytes_eq, if◌then◌else◌}
 use Rattle.std.specs.List.{list_any}
-
--- the bytes of a name in UTF-8
-abbrev pub Text : Type 0
-Text = List ℕ
+use Rattle.spec_lists.specs.Texts.{Text}
+use Rattle.spec_lists.specs.Texts.{Text}
+use Rattle.spec_lists.specs.Texts.{Text}
+use Rattle.spec_lists.specs.Texts.{Text}
+use Rattle.spec_lists.specs.Texts.{Text}
 
 -- the text of a number that was given
 abbrev pub text_of : List Text → ℕ → Text

@@ -2,7 +2,8 @@
 #![tactic(auto)]
 
 ghost use Rattle.std.specs.Prelude.{◌≡◌, ℕ, ◌<◌, List, [], Some, length, slice_get, IfOk, OnOk, OnErr};
-ghost use Rattle.cq_atoms.specs.Texts.{Text, AreDifferent, KeepsTexts, with_text, text_of};
+ghost use Rattle.spec_lists.specs.Texts.{Text};
+ghost use Rattle.cq_atoms.specs.Texts.{AreDifferent, KeepsTexts, with_text, text_of};
 
 use indexmap::IndexSet;
 use std::alloc::{AllocError, Global};
@@ -34,7 +35,8 @@ pub struct Atoms {
 impl Model for Atoms {
     ghost use Rattle.std.specs.Prelude.{List, map};
     ghost use Rattle.std.specs.String.{string_bytes};
-    ghost use Rattle.cq_atoms.specs.Texts.{Text, AreDifferent};
+    ghost use Rattle.spec_lists.specs.Texts.{Text};
+    ghost use Rattle.cq_atoms.specs.Texts.{AreDifferent};
 
     ghost Value = { List Text };
 

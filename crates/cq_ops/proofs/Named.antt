@@ -16,7 +16,8 @@ use Rattle.std.proofs.lemmas.Bool.Decides.{nat_tests}
 use Rattle.cq_atoms.specs.Texts.{AreDifferent, KeepsTexts}
 use Rattle.cq_atoms.proofs.Places.{stands_at}
 use Rattle.spec_operators.specs.declared.OpDef.{OpDef}
-use Rattle.spec_operators.specs.Operators.{Text, Ops, Position, Prefix, Infix, Postfix, Fits, changed, entry, put, put_at, position_of, in_range, kind_named, is_bracket, is_at_odds, clashes, set, set_checked, Comma, Clash}
+use Rattle.spec_lists.specs.Texts.{Text}
+use Rattle.spec_operators.specs.Operators.{Ops, Position, Prefix, Infix, Postfix, Fits, changed, entry, put, put_at, position_of, in_range, kind_named, is_bracket, is_at_odds, clashes, set, set_checked, Comma, Clash}
 use Rattle.cq_ops.specs.Tables.{Tables, AllFit, AreFit, AllBelow, AreNamed, entry_of, named, change, put_number, put_number_at, is_number_at_odds}
 use Rattle.cq_atoms.specs.Texts.{text_of}
 use Rattle.spec_operators.specs.Standard.{put_names, empty as no_operators}

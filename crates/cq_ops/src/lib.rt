@@ -6,7 +6,8 @@ mod standard;
 
 ghost use Rattle.std.specs.Prelude.{◌≡◌, ℕ, ◌<◌, ◌≤◌, ◌&&◌, ◌||◌, ◌==◌, not, nat_le, pos, is_some, List, Some, None, Ok, length, slice_get, bytes_eq, codes, IfSome, IfErr, OnOk, OnErr, MatchOption};
 ghost use Rattle.std.specs.FinMap as map;
-ghost use Rattle.cq_atoms.specs.Texts.{Text, AreDifferent, KeepsTexts, text_of};
+ghost use Rattle.spec_lists.specs.Texts.{Text};
+ghost use Rattle.cq_atoms.specs.Texts.{AreDifferent, KeepsTexts, text_of};
 ghost use Rattle.spec_operators.specs.Operators.{Fits, Prefix, Infix, Postfix, entry, in_range, position_of, kind_named, is_bracket, set};
 ghost use Rattle.cq_ops.specs.Tables.{Tables, AreNamed, named, put_number, is_number_at_odds};
 ghost use Rattle.cq_ops.specs.Faults.{Explains};

@@ -1,6 +1,7 @@
 // The operators at the start.
 ghost use Rattle.std.specs.Prelude.{◌≡◌, ◌≤◌, List, map, IfOk, OnOk};
-ghost use Rattle.cq_atoms.specs.Texts.{Text, KeepsTexts};
+ghost use Rattle.spec_lists.specs.Texts.{Text};
+ghost use Rattle.cq_atoms.specs.Texts.{KeepsTexts};
 ghost use Rattle.spec_operators.specs.Standard.{standard, put_names, empty};
 ghost use Rattle.cq_ops.specs.Tables.{AreNamed, named};
 

@@ -6,7 +6,8 @@ use Rattle.std.specs.declared.cmp.Ordering.TheVariants.{Less, Equal, Greater}
 use Rattle.std.specs.Ordering.{nat_cmp, ordering_then}
 use Rattle.std.proofs.lemmas.Cmp.{nat_cmp_total, tied_itself}
 use Rattle.spec_terms.specs.Term.{Terms, Var, Number, Name, Compound, one, more, count, list_of, named, named_all}
-use Rattle.spec_order.specs.Order.{Text, compare_texts, compare_all}
+use Rattle.spec_lists.specs.Texts.{Text}
+use Rattle.spec_order.specs.Order.{compare_texts, compare_all}
 use Rattle.spec_order.proofs.Orders.{first_equal, second_equal, nat_cmp-equal, compare_terms-itself}
 use Rattle.cq_atoms.specs.Texts.{text_of}
 use Rattle.cq_term.specs.Meaning.{HeapTerm, at}

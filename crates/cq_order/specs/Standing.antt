@@ -3,7 +3,8 @@ use Rattle.std.specs.Prelude.{◌≡◌, ◌≢◌, ℕ, List}
 use Rattle.std.specs.declared.cmp.Ordering.{Ordering}
 use Rattle.std.specs.declared.cmp.Ordering.TheVariants.{Equal}
 use Rattle.spec_terms.specs.Term.{named}
-use Rattle.spec_order.specs.Order.{Text, compare_terms, compare_texts}
+use Rattle.spec_lists.specs.Texts.{Text}
+use Rattle.spec_order.specs.Order.{compare_terms, compare_texts}
 use Rattle.cq_atoms.specs.Texts.{text_of}
 use Rattle.cq_term.specs.Meaning.{HeapTerm}
 use Rattle.cq_term.specs.Shown.{view_of}

@@ -2,7 +2,7 @@
 use Rattle.std.proofs.Common.{◌≡◌, ℕ, List, [], ◌∷◌, refl}
 use Rattle.spec_operators.specs.Operators.{Ops}
 use Rattle.spec_syntax.specs.Machine.{Frame, InElements, InCurly, before_term, after_open_list, after_open_curly}
-use Rattle.cq_atoms.specs.Texts.{Text}
+use Rattle.spec_lists.specs.Texts.{Text}
 use Rattle.cq_parse.specs.declared.tokens.Token.{Token}
 use Rattle.cq_parse.specs.declared.tokens.Token.TheVariants as token
 use Rattle.cq_parse.specs.Views.{token_of}

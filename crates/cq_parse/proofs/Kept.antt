@@ -5,7 +5,8 @@ use Rattle.std.specs.Prelude.{All, reverse}
 use Rattle.std.proofs.lemmas.List.{reverse-append, map-append, get_or_append_left}
 use Rattle.std.proofs.lemmas.List.Elements.{All-weaker, All-head, All-tail}
 use Rattle.spec_terms.specs.Term as terms
-use Rattle.cq_atoms.specs.Texts.{Text, text_of}
+use Rattle.spec_lists.specs.Texts.{Text}
+use Rattle.cq_atoms.specs.Texts.{text_of}
 use Rattle.cq_term.specs.Meaning.{HeapTerm, at, blank}
 use Rattle.cq_parse.specs.declared.frames.Frame.{Frame}
 use Rattle.cq_parse.specs.declared.frames.Frame.TheVariants as frame

@@ -7,7 +7,8 @@ use Rattle.spec_rational.specs.Rational.{int_ℚ}
 use Rattle.spec_terms.specs.Term.{Name, Number, Terms, Compound, one, more, terms_of, with_arguments, named, named_all}
 use Rattle.spec_syntax.specs.Trees.{Tree, unary, binary, nil, cell, list_tree}
 use Rattle.spec_syntax.specs.Machine.{with_arguments_before, with_elements_before}
-use Rattle.cq_atoms.specs.Texts.{Text, text_of}
+use Rattle.spec_lists.specs.Texts.{Text}
+use Rattle.cq_atoms.specs.Texts.{text_of}
 use Rattle.cq_term.specs.Meaning.{HeapTerm, at}
 use Rattle.cq_parse.specs.Views.{IsPrefix, tree, trees}
 use Rattle.cq_parse.proofs.Kept.{all_front, tree_kept, trees_kept, trees_push}

@@ -1,6 +1,7 @@
 -- Which names a table of texts knows.
 use Rattle.std.specs.Prelude.{◌≡◌, ℕ, List, Option, Some, None, codes, slice_get, ⊤}
-use Rattle.cq_atoms.specs.Texts.{Text, AreDifferent, text_of}
+use Rattle.spec_lists.specs.Texts.{Text}
+use Rattle.cq_atoms.specs.Texts.{AreDifferent, text_of}
 use Rattle.cq_parse.specs.declared.tokens.Token.{Token}
 use Rattle.cq_parse.specs.declared.tokens.Token.TheVariants as token
 use Rattle.cq_parse.specs.declared.frames.Stand.{Stand}

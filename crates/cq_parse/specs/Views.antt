@@ -1,7 +1,8 @@
 -- What the machine's tokens, frames and stand mean, by the texts of the names and the terms of the heap.
 use Rattle.std.specs.Prelude.{◌≡◌, ℕ, ◌<◌, ◌≤◌, List, ◌++◌, Option, Some, None, map, reverse, All, ⊤}
 use Rattle.std.specs.String.{string_bytes}
-use Rattle.cq_atoms.specs.Texts.{Text, text_of}
+use Rattle.spec_lists.specs.Texts.{Text}
+use Rattle.cq_atoms.specs.Texts.{text_of}
 use Rattle.cq_term.specs.Meaning.{HeapTerm, at}
 use Rattle.cq_term.specs.Shown.{IsUnbound}
 use Rattle.spec_operators.specs.Operators.{Ops}

@@ -1,7 +1,8 @@
 // Terms that are built on the heap.
 
 ghost use Rattle.std.specs.Prelude.{◌≡◌, ◌<◌, ◌≤◌, [], ◌∷◌, List, map, pos, chars, length, All, IfOk, OnOk};
-ghost use Rattle.cq_atoms.specs.Texts.{Text, text_of};
+ghost use Rattle.spec_lists.specs.Texts.{Text};
+ghost use Rattle.cq_atoms.specs.Texts.{text_of};
 ghost use Rattle.spec_terms.specs.Term.{Number, with_arguments};
 ghost use Rattle.spec_syntax.specs.Machine.{with_elements_before};
 ghost use Rattle.spec_syntax.specs.Trees.{code_list};

@@ -1,7 +1,8 @@
 // An operand that is put into the frame that waits for it.
 
 ghost use Rattle.std.specs.Prelude.{◌≡◌, ◌<◌, ◌≤◌, ◌∷◌, ℕ, List, All, length, vec_len, IfOk, OnOk};
-ghost use Rattle.cq_atoms.specs.Texts.{Text, text_of};
+ghost use Rattle.spec_lists.specs.Texts.{Text};
+ghost use Rattle.cq_atoms.specs.Texts.{text_of};
 ghost use Rattle.spec_operators.specs.Operators.{Ops as OpsOfTexts};
 ghost use Rattle.spec_syntax.specs.Grammar.{Outside};
 ghost use Rattle.spec_syntax.specs.Machine.{after_operand, end_group, end_curly, end_argument, end_element, end_tail};

@@ -1,7 +1,8 @@
 // Operators behind an operand and before one.
 
 ghost use Rattle.std.specs.Prelude.{◌≡◌, List, [], ◌∷◌, Option, option_map, IfSome, MatchOption};
-ghost use Rattle.cq_atoms.specs.Texts.{Text, text_of, AreDifferent};
+ghost use Rattle.spec_lists.specs.Texts.{Text};
+ghost use Rattle.cq_atoms.specs.Texts.{text_of, AreDifferent};
 ghost use Rattle.cq_ops.specs.Tables.{named};
 ghost use Rattle.spec_operators.specs.Operators.{right_most, left_most};
 ghost use Rattle.spec_syntax.specs.Grammar.{operator_name, allowed, use_of, may_begin, begins_term, applied_as};

@@ -1,7 +1,8 @@
 // The steps of the machine, a token each.
 
 ghost use Rattle.std.specs.Prelude.{◌≡◌, ◌<◌, ◌≤◌, ℕ, List, [], ◌∷◌, Some, length, IfOk, OnOk};
-ghost use Rattle.cq_atoms.specs.Texts.{Text, text_of};
+ghost use Rattle.spec_lists.specs.Texts.{Text};
+ghost use Rattle.cq_atoms.specs.Texts.{text_of};
 ghost use Rattle.spec_operators.specs.Operators.{Ops as OpsOfTexts};
 ghost use Rattle.cq_term.specs.Meaning.{HeapTerm};
 ghost use Rattle.cq_ops.specs.Tables.{named};

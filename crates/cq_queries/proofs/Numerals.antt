@@ -2,10 +2,9 @@
 use Rattle.std.proofs.Common.{◌≡◌, ◌∷◌, ◌<◌, ◌≤◌, ◌%◌, ℕ, suc, List, [], length, get_or, drop, fold, arith, drop-cons, pos, Result, Ok, Err, IsOk, IfOk, subst, refl, ap, sym, ◌∙◌, inl, inr, to_z}
 use Rattle.std.proofs.lemmas.Int.{to_z-of_z}
 use mir.Syntax.{w128}
-use Rattle.std.proofs.Math.Nat.{mod-one}
 use Rattle.spec_rational.specs.Rational.{ℚ, ratio, int_ℚ}
 use Rattle.spec_rational.specs.Gcd.{gcd}
-use Rattle.spec_rational.proofs.Gcd.{gcd-zero, gcd-mod}
+use Rattle.spec_rational.proofs.Gcd.{coprime_one}
 use Rattle.spec_rational.proofs.Rational.{ratio_back}
 use Rattle.cq_frac.specs.Fits.{limit, Exceeds}
 use Rattle.cq_frac.specs.declared.FracFault.{FracFault}
@@ -21,9 +20,6 @@ pub at_digit : (n i : ℕ) (digits : List ℕ) → i < length digits → fold wi
 at_digit n i digits h e =
     let k = grows (with_digit n (get_or digits i 0)) (drop (suc i) digits) in
     subst (λ v. with_digit n (get_or digits i 0) ≤ v) (sym (ap (fold with_digit n) (drop-cons digits i 0 h)) ∙ e) k
-
-coprime_one : (n : ℕ) → gcd n 1 ≡ 1
-coprime_one n = gcd-mod n 1 ∙ gcd-zero 1 (n % 1) (mod-one n)
 
 -- a whole number as a fraction
 abbrev whole_number : ℕ → ℚ

@@ -1,6 +1,6 @@
 -- How a run ends, from what was read and what was written.
 use Rattle.std.proofs.Common.{◌≡◌, ℕ, ◌<◌, ◌≤◌, length, List, [], Bool, true, false, Option, Some, None, IfSome, refl, sym, subst}
-use Rattle.spec_answers.specs.Text.{Text}
+use Rattle.spec_lists.specs.Texts.{Text}
 use Rattle.cq_outside.specs.declared.shelf.TheConstants.{SIZE_LIMIT}
 use Rattle.spec_equations.specs.Session.{Runs, no_step, start, over, unmarked, WrittenSoFar}
 use Rattle.cq_session.specs.Words.{Asked, transcript}

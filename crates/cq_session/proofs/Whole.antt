@@ -1,6 +1,6 @@
 -- What a run's ending says together with the counts: where nothing stands in the way, it is whole.
 use Rattle.std.proofs.Common.{◌≡◌, ◌<◌, ◌≤◌, inl, inr, true, length, Some, refl, arith}
-use Rattle.spec_answers.specs.Text.{Text}
+use Rattle.spec_lists.specs.Texts.{Text}
 use Rattle.spec_equations.specs.Session.{Session, plain_line, error_line, stop_line, Marks, Step, Runs, no_step, one_more}
 use Rattle.cq_outside.specs.declared.shelf.TheConstants.{SIZE_LIMIT}
 use Rattle.cq_session.specs.Words.{transcript}

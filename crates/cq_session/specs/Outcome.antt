@@ -3,7 +3,7 @@ use Rattle.std.specs.Prelude.{◌≡◌, ◌⊎◌, ◌<◌, ◌≤◌, ℕ, Lis
 use Rattle.cq_outside.specs.Counts.{Rose, RoseBeyond}
 use Rattle.cq_outside.specs.Bytes.{Adds, Appends, Begins}
 use Rattle.cq_outside.specs.declared.shelf.TheConstants.{SIZE_LIMIT}
-use Rattle.spec_answers.specs.Text.{Text}
+use Rattle.spec_lists.specs.Texts.{Text}
 use Rattle.spec_equations.specs.Session.{Session, Marks, stop_line, Step, Runs, start, Transcript, WrittenSoFar}
 use Rattle.cq_session.specs.Words.{Asked, transcript}
 use Rattle.cq_session.specs.declared.Status.{Status}

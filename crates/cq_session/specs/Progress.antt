@@ -2,7 +2,7 @@
 use Rattle.std.specs.Prelude.{◌≡◌, ℕ, List, ◌∷◌, ◌++◌, Bool, true, false, ◌||◌, Option, Ok, Err, Result, ⊤}
 use Rattle.cq_outside.specs.Counts.{Rose}
 use Rattle.cq_outside.specs.Bytes.{Appends}
-use Rattle.spec_answers.specs.Text.{Text}
+use Rattle.spec_lists.specs.Texts.{Text}
 use Rattle.spec_queries.specs.Tree.{Query}
 use Rattle.spec_equations.specs.Session.{Session, Marks, Runs, reading}
 use Rattle.cq_session.specs.declared.Status.{Status}

@@ -1,7 +1,7 @@
 -- The command's language.
 use Rattle.std.specs.Prelude.{List, [], ◌∷◌, Option, Some, None, codes, bytes_eq, if◌then◌else◌, map, string_bytes, String}
 use Rattle.std.specs.declared.alloc.Global.{Global}
-use Rattle.spec_answers.specs.Text.{Text}
+use Rattle.spec_lists.specs.Texts.{Text}
 
 -- what the words ask for: the transcript of the input
 pub data Asked : Type 0 where

@@ -10,7 +10,7 @@ use Rattle.spec_writing.specs.Written.{is_unnamed, shown, text_by}
 use Rattle.spec_projection.specs.Others.{AreOthers, AreAscending}
 use Rattle.spec_projection.specs.Projection.{Keeps}
 use Rattle.spec_branch.specs.Branch.{State, read}
-use Rattle.spec_answers.specs.Text.{Text}
+use Rattle.spec_lists.specs.Texts.{Text}
 use Rattle.spec_answers.specs.Lines.{or_true, lines_text}
 use Rattle.spec_answers.specs.Rows.{Rows, row_variables, row_texts}
 use Rattle.spec_answers.specs.Forms.{AreAnswerRows}

@@ -10,7 +10,7 @@ use Rattle.spec_syntax.specs.TextTokens.{VariableName}
 use Rattle.spec_syntax.specs.Trees.{binary}
 use Rattle.spec_projection.specs.Printed.{AtLeast, Above}
 use Rattle.spec_branch.specs.Branch.{State, Frozen}
-use Rattle.spec_answers.specs.Text.{Text}
+use Rattle.spec_lists.specs.Texts.{Text}
 use Rattle.spec_answers.specs.Lines.{or_true, lines_text}
 use Rattle.spec_answers.specs.Rows.{Rows, no_rows}
 use Rattle.spec_answers.specs.Answer.{answer_lines}

@@ -1,11 +1,12 @@
 -- How numbers are written.
-use Rattle.std.specs.Prelude.{ℕ, zero, suc, pos, negsuc, false, List, [], ◌++◌, codes}
+use Rattle.std.specs.Prelude.{ℕ, zero, suc, pos, negsuc, false, [], ◌++◌, codes}
 use Rattle.std.specs.Fmt.{digits_onto}
 use Rattle.spec_rational.specs.Rational.{ℚ}
-
--- the bytes of a text
-abbrev pub Text : Type 0
-Text = List ℕ
+use Rattle.spec_lists.specs.Texts.{Text}
+use Rattle.spec_lists.specs.Texts.{Text}
+use Rattle.spec_lists.specs.Texts.{Text}
+use Rattle.spec_lists.specs.Texts.{Text}
+use Rattle.spec_lists.specs.Texts.{Text}
 
 -- the decimal digits of a number of any length
 abbrev pub whole_text : ℕ → Text

@@ -13,7 +13,8 @@ use Rattle.spec_arithmetic.specs.declared.UnaryOperation.{UnaryOperation}
 use Rattle.spec_arithmetic.specs.declared.BinaryOperation.{BinaryOperation}
 use Rattle.spec_arithmetic.specs.declared.BinaryOperation.TheVariants.{Exact, Whole, Least, Greatest}
 use Rattle.spec_arithmetic.specs.declared.WholeOperation.{WholeOperation}
-use Rattle.spec_arithmetic.specs.Operations.{Text, Evaluated, Value, Fails, Overflows, NotInteger, ZeroDivisor, is_zero, is_whole, refuses, unless_refused, exact_result, exact_value, whole_result, whole_value, binary_result, unary_named, binary_named}
+use Rattle.spec_lists.specs.Texts.{Text}
+use Rattle.spec_arithmetic.specs.Operations.{Evaluated, Value, Fails, Overflows, NotInteger, ZeroDivisor, is_zero, is_whole, refuses, unless_refused, exact_result, exact_value, whole_result, whole_value, binary_result, unary_named, binary_named}
 use Rattle.spec_arithmetic.specs.Arithmetic.{evaluate, after_one, after_right, after_both, unary_applied, binary_applied}
 use Rattle.spec_arithmetic.proofs.Refusals.{refuses_true, refuses_false, true_refuses}
 

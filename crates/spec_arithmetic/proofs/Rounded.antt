@@ -1,12 +1,11 @@
 -- Quotients of whole numbers between their neighbours, and what they leave.
 use Rattle.std.proofs.Common.{◌≡◌, ◌≢◌, ℕ, zero, suc, ◌/◌, ◌%◌, ◌<◌, [], ◌∷◌, ℤ, pos, negsuc, neg_ℤ, nat_abs, ◌+ℤ◌, ◌-ℤ◌, ◌*ℤ◌, ◌≤ℤ◌, ◌<ℤ◌, arith, refl, ap, sym, ◌∙◌, subst, mul_comm, ◌⊎◌, inl, inr}
 use Rattle.std.specs.Prelude.{int_div, int_rem}
-use Rattle.std.proofs.Math.Nat.{div-add-mod, mod-one, mod-le, zero-div}
+use Rattle.std.proofs.Math.Nat.{div-add-mod, mod-le, zero-div}
 use Rattle.std.proofs.lemmas.Int.{ints, quot-rem, rem_below}
 use borrow.Author.Differences.{product_is}
-use Rattle.spec_rational.specs.Gcd.{gcd}
 use Rattle.spec_rational.specs.Rational.{ℚ, denominator, int_ℚ, ◌≤ℚ◌, ◌<ℚ◌}
-use Rattle.spec_rational.proofs.Gcd.{gcd-zero, gcd-mod}
+use Rattle.spec_rational.proofs.Gcd.{coprime_one}
 use Rattle.spec_rational.proofs.Rational.{ratio_back}
 use Rattle.spec_rational.proofs.Order.{lt_or_le, lt_to_cross, lt_from_cross}
 use Rattle.spec_rational.proofs.Ring.{var, int, ◌⊕◌, ◌⊗◌, minus}
@@ -94,9 +93,6 @@ over_negative m (pos d) h = absurd (omega (arith, ints))
 over_negative m (negsuc d) h = modulo_negative m d
 
 -- ---- rationals between whole numbers
-pub coprime_one : (n : ℕ) → gcd n 1 ≡ 1
-coprime_one n = gcd-mod n 1 ∙ gcd-zero 1 (n % 1) (mod-one n)
-
 -- a whole number by its parts
 abbrev pub whole_number : ℤ → ℚ
 whole_number z = record { numerator = z; below = 0; lowest = coprime_one (nat_abs z) }

@@ -5,7 +5,8 @@ use Rattle.spec_rational.specs.Rational.{ℚ}
 use Rattle.spec_terms.specs.Term.{Term, Var, Number, Name, Compound, one, more, count}
 use Rattle.spec_arithmetic.specs.declared.UnaryOperation.{UnaryOperation}
 use Rattle.spec_arithmetic.specs.declared.BinaryOperation.{BinaryOperation}
-use Rattle.spec_arithmetic.specs.Operations.{Text, unary_named, binary_named, unary_value, binary_result, Evaluated, Value, Fails, Overflows, Instantiation, NotEvaluable}
+use Rattle.spec_lists.specs.Texts.{Text}
+use Rattle.spec_arithmetic.specs.Operations.{unary_named, binary_named, unary_value, binary_result, Evaluated, Value, Fails, Overflows, Instantiation, NotEvaluable}
 
 -- an operation on what one argument came to
 abbrev pub after_one : UnaryOperation → Evaluated → Evaluated

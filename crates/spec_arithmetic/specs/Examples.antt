@@ -2,7 +2,7 @@
 use Rattle.std.specs.Prelude.{ℤ}
 use Rattle.spec_rational.specs.Rational.{int_ℚ}
 use Rattle.spec_terms.specs.Term.{Term, Number, Compound, one, more}
-use Rattle.spec_arithmetic.specs.Operations.{Text}
+use Rattle.spec_lists.specs.Texts.{Text}
 
 abbrev pub whole : ℤ → Term Text
 whole z = Number (int_ℚ z)

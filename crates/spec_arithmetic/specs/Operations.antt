@@ -1,5 +1,5 @@
 -- The operations of arithmetic: their names, and what each makes of numbers.
-use Rattle.std.specs.Prelude.{ℕ, zero, suc, Bool, true, false, not, ◌||◌, nat_le, nat_abs, bytes_eq, codes, List, Option, Some, None, ℤ, pos, negsuc, ◌+ℤ◌, if◌then◌else◌}
+use Rattle.std.specs.Prelude.{ℕ, zero, suc, Bool, true, false, not, ◌||◌, nat_le, nat_abs, bytes_eq, codes, Option, Some, None, ℤ, pos, negsuc, ◌+ℤ◌, if◌then◌else◌}
 use Rattle.std.specs.Int.{is_negative, int_signum}
 use Rattle.std.specs.declared.cmp.Ordering.TheVariants.{Less, Equal, Greater}
 use Rattle.spec_rational.specs.Order.{cmp_ℚ}
@@ -15,10 +15,11 @@ use Rattle.spec_arithmetic.specs.declared.WholeOperation.TheVariants.{WholeQuoti
 use Rattle.spec_arithmetic.specs.declared.BinaryOperation.{BinaryOperation}
 use Rattle.spec_arithmetic.specs.declared.BinaryOperation.TheVariants.{Exact, Whole, Least, Greatest}
 use Rattle.spec_arithmetic.specs.Rounding.{floor, ceiling, truncate, whole_quotient, remainder, modulo}
-
--- the bytes of a name in UTF-8
-abbrev pub Text : Type 0
-Text = List ℕ
+use Rattle.spec_lists.specs.Texts.{Text}
+use Rattle.spec_lists.specs.Texts.{Text}
+use Rattle.spec_lists.specs.Texts.{Text}
+use Rattle.spec_lists.specs.Texts.{Text}
+use Rattle.spec_lists.specs.Texts.{Text}
 
 -- ---- names
 

@@ -8,7 +8,8 @@ ghost use Rattle.cq_frac.specs.declared.Operation.TheVariants.{Quotient};
 ghost use Rattle.cq_frac.specs.declared.Pair.{Pair};
 ghost use Rattle.spec_terms.specs.Term.{Term, Var, Number, Name, Compound, one};
 ghost use Rattle.spec_arithmetic.specs.Rounding.{floor, ceiling, truncate, floor_division, whole_quotient, remainder, modulo};
-ghost use Rattle.spec_arithmetic.specs.Operations.{Text, ArithmeticError, Evaluated, Value, Fails, Overflows, Instantiation, NotEvaluable, NotInteger, ZeroDivisor, exact_result, exact_value};
+ghost use Rattle.spec_lists.specs.Texts.{Text};
+ghost use Rattle.spec_arithmetic.specs.Operations.{ArithmeticError, Evaluated, Value, Fails, Overflows, Instantiation, NotEvaluable, NotInteger, ZeroDivisor, exact_result, exact_value};
 ghost use Rattle.spec_arithmetic.specs.Arithmetic.{evaluate, after_both};
 ghost use Rattle.spec_arithmetic.specs.Examples.{binary, whole};
 

@@ -4,7 +4,7 @@ use Rattle.std.specs.Prelude.{filter, IsPermutation}
 use Rattle.spec_rational.specs.Rational.{ℚ, int_ℚ}
 use Rattle.spec_rational.proofs.Sign.{one_not_zero}
 use Rattle.spec_linear.specs.Solution.{Point, Fixed, Fixes}
-use Rattle.spec_operators.specs.Operators.{Text}
+use Rattle.spec_lists.specs.Texts.{Text}
 use Rattle.spec_terms.specs.Term.{Subst, followed_by}
 use Rattle.spec_terms.specs.Unifier.{Equation, IsUnifier, read_under}
 use Rattle.spec_terms.specs.Variables.{counted_from}

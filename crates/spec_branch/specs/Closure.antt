@@ -1,7 +1,7 @@
 -- Waiting terms become linear, in any order, until none can (Holzbaur 1995).
 use Rattle.std.specs.Prelude.{◌≡◌, List, [], ◌∷◌, ◌++◌, Some}
 use Rattle.spec_linear.specs.Solution.{Constraint, Solvable}
-use Rattle.spec_operators.specs.Operators.{Text}
+use Rattle.spec_lists.specs.Texts.{Text}
 use Rattle.spec_terms.specs.Term.{Subst, apply}
 use Rattle.spec_syntax.specs.Trees.{Tree}
 use Rattle.spec_told.specs.Relations.{Lin, row_of, IsLin}

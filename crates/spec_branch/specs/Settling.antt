@@ -5,7 +5,7 @@ use Rattle.spec_rational.specs.Rational.{ℚ}
 use Rattle.spec_linear.specs.declared.Relation.TheVariants.{Eq}
 use Rattle.spec_linear.specs.Form.{Linear, constant_form, variable_form, difference_form}
 use Rattle.spec_linear.specs.Solution.{Constraint, Solvable, Unsolvable, Fixes}
-use Rattle.spec_operators.specs.Operators.{Text}
+use Rattle.spec_lists.specs.Texts.{Text}
 use Rattle.spec_terms.specs.Term.{Subst, Var, Number, apply, followed_by}
 use Rattle.spec_terms.specs.Unifier.{IsUnifier, HasNoUnifier, read_under}
 use Rattle.spec_terms.specs.Variables.{variables, counted_from}

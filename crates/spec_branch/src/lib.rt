@@ -5,7 +5,7 @@
 ghost use Rattle.std.specs.Prelude.{◌≡◌, ℕ, List, [], Bool, false, Option};
 ghost use Rattle.spec_rational.specs.Rational.{ℚ};
 ghost use Rattle.spec_linear.specs.Solution.{Constraint, Solvable, Fixes, Equivalent};
-ghost use Rattle.spec_operators.specs.Operators.{Text};
+ghost use Rattle.spec_lists.specs.Texts.{Text};
 ghost use Rattle.spec_terms.specs.Term.{Subst};
 ghost use Rattle.spec_terms.specs.Unifier.{Equation, IsUnifier, read_under};
 ghost use Rattle.spec_syntax.specs.Trees.{Tree};

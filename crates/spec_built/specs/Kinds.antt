@@ -1,6 +1,6 @@
 -- Kinds of terms, and terms as lists.
 use Rattle.std.specs.Prelude.{ℕ, List, [], ◌∷◌, Bool, true, false, not, ◌||◌, if◌then◌else◌, bytes_eq, codes, ℤ, pos, negsuc}
-use Rattle.spec_operators.specs.Operators.{Text}
+use Rattle.spec_lists.specs.Texts.{Text}
 use Rattle.spec_arithmetic.specs.Operations.{is_whole}
 use Rattle.spec_terms.specs.Term.{Var, Number, Name, Compound, one, more}
 use Rattle.spec_syntax.specs.Writing.{is_negative}

@@ -9,7 +9,8 @@ use Rattle.spec_rational.proofs.Sign.{zero_or_not, times_inverse}
 use Rattle.spec_rational.proofs.Sums.{sum_at-plus, sum_at-times, sum_at-agrees, factor_of-is}
 use Rattle.spec_linear.specs.Form.{Linear, value_at, variable_form, scaled_form, difference_form, substituted_form, changed_at}
 use Rattle.spec_linear.specs.Solution.{Constraint, Meets, AreEquations, Satisfies, Has, MentionsOnly}
-use Rattle.spec_linear.proofs.Values.{nat_same, value_at-variable_form, value_at-scaled_form, value_at-difference_form, value_at-substituted_form}
+use Rattle.spec_linear.proofs.Values.{value_at-variable_form, value_at-scaled_form, value_at-difference_form, value_at-substituted_form}
+use Rattle.spec_lists.proofs.Tests.{nat_eq-same}
 use Rattle.spec_linear.proofs.Denominators.{satisfies_agrees}
 use Rattle.spec_echelon.specs.Echelon.{AreDistinct, equal_zero}
 use Rattle.spec_echelon.proofs.Filled.{value_at-agrees}
@@ -24,7 +25,7 @@ changed-nothing : (a : ℕ → ℚ) (v : ℕ) (q : ℚ) → a v ≡ q → (x : �
 changed-nothing a v q e x = go (v == x) refl
   where
     go : (b : Bool) → (v == x) ≡ b → cond b q (a x) ≡ a x
-    go true w = sym e ∙ ap a (nat_same v x w)
+    go true w = sym e ∙ ap a (nat_eq-same v x w)
     go false w = refl
 
 -- where two assignments agree on the order, they do with the same change on one variable more
@@ -48,7 +49,7 @@ changed-value a v q f =
     at : (x : ℕ) (b : Bool) → (v == x) ≡ b → cond b q (a x) ≡ a x +ℚ (q -ℚ a v) *ℚ when b 1ℚ
     at x true w =
         ring (q ∷ a v ∷ []) (var 0) (var 1 ⊕ (var 0 ⊕ minus (var 1)) ⊗ int (pos 1)) refl
-        ∙ ap (λ r. r +ℚ (q -ℚ a v) *ℚ 1ℚ) (ap a (nat_same v x w))
+        ∙ ap (λ r. r +ℚ (q -ℚ a v) *ℚ 1ℚ) (ap a (nat_eq-same v x w))
     at x false w = ring (a x ∷ (q -ℚ a v) ∷ []) (var 0) (var 0 ⊕ var 1 ⊗ int (pos 0)) refl
 
 -- ---- an equation solved for a variable

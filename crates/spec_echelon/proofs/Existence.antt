@@ -9,7 +9,8 @@ use Rattle.spec_rational.proofs.Sign.{zero_or_not}
 use Rattle.spec_rational.proofs.Sums.{sum_at-nowhere, factor_of-is, unit-other}
 use Rattle.spec_linear.specs.Form.{Linear, value_at, constant_form, variable_form, sum_form, scaled_form}
 use Rattle.spec_linear.specs.Solution.{Constraint, Meets, Unsolvable, number, AreEquations, Satisfies, Has, MentionsOnly}
-use Rattle.spec_linear.proofs.Values.{nat_same, value_at-variable_form, value_at-sum_form, value_at-scaled_form}
+use Rattle.spec_linear.proofs.Values.{value_at-variable_form, value_at-sum_form, value_at-scaled_form}
+use Rattle.spec_lists.proofs.Tests.{nat_eq-same}
 use Rattle.spec_linear.proofs.Points.{solves_same}
 use Rattle.spec_linear.proofs.Denominators.{satisfies_agrees}
 use Rattle.spec_echelon.specs.Echelon.{AreDistinct, IsBefore, IsOver, variables}
@@ -141,7 +142,7 @@ module _ (v : ℕ) (order : List ℕ) (d : AreDistinct (v ∷ order)) (l : List 
     with_own-other x k = go (v == x) refl
       where
         go : (b : Bool) → (v == x) ≡ b → cond b (Some own) (solved x) ≡ solved x
-        go true w = absurd (d.0 (subst (λ z. Has z order) (sym (nat_same v x w)) k))
+        go true w = absurd (d.0 (subst (λ z. Has z order) (sym (nat_eq-same v x w)) k))
         go false w = refl
 
     with_own-self : with_own v ≡ Some own
@@ -152,7 +153,7 @@ module _ (v : ℕ) (order : List ℕ) (d : AreDistinct (v ∷ order)) (l : List 
     each_form P first rest x f e = go (v == x) refl e
       where
         go : (b : Bool) → (v == x) ≡ b → cond b (Some own) (solved x) ≡ Some f → P x f
-        go true w k = let same : own ≡ f = cc in subst (P x) same (subst (λ y. P y own) (nat_same v x w) first)
+        go true w k = let same : own ≡ f = cc in subst (P x) same (subst (λ y. P y own) (nat_eq-same v x w) first)
         go false w k = rest x f k
 
     own-agrees : (a : ℕ → ℚ) → Agrees a solved → value_at a own ≡ value_at a pivot_form

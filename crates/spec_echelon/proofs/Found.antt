@@ -6,7 +6,7 @@ use Rattle.spec_rational.specs.Rational.{ℚ}
 use Rattle.spec_rational.specs.Sums.{Mentions}
 use Rattle.spec_linear.specs.Form.{Linear, value_at}
 use Rattle.spec_linear.specs.Solution.{Constraint, MentionsOnly, Has, Satisfies}
-use Rattle.spec_linear.proofs.Values.{nat_same}
+use Rattle.spec_lists.proofs.Tests.{nat_eq-same}
 use Rattle.spec_echelon.specs.Echelon.{Solved, equations, AreDistinct, InOrder, IsEchelon}
 use Rattle.spec_echelon.specs.SolvedForm.{Agrees, IsSolvedForm, row_at, rows_of}
 use Rattle.spec_echelon.proofs.Orders.{in_order-has, in_order-once, in_order-rest}
@@ -32,7 +32,7 @@ found-of P (e ∷ es) h x f k = go (x == e.variable) refl k (λ i. found-of P es
     go : (b : Bool) → (x == e.variable) ≡ b → cond b (Some e.form) (found es x) ≡ Some f → (found es x ≡ Some f → P (record { variable = x; form = f })) → P (record { variable = x; form = f })
     go true w i r =
         let is : e.form ≡ f = cc in
-        subst P (ap₂ (λ (y : ℕ) (g : Linear). let d : Solved = record { variable = y; form = g } in d) (sym (nat_same x e.variable w)) is) h.0
+        subst P (ap₂ (λ (y : ℕ) (g : Linear). let d : Solved = record { variable = y; form = g } in d) (sym (nat_eq-same x e.variable w)) is) h.0
     go false w i r = r i
 
 found-first : (e : Solved) (es : List Solved) → found (e ∷ es) e.variable ≡ Some e.form

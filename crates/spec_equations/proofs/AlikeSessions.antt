@@ -4,7 +4,7 @@ use Rattle.std.proofs.Common.{◌≡◌, ℕ, List, ◌++◌, Option, refl, ap}
 use Rattle.std.specs.List.{AllByRecursion}
 use Rattle.std.specs.Prelude.{⊤}
 use Rattle.spec_rational.specs.Rational.{ℚ}
-use Rattle.spec_answers.specs.Text.{Text}
+use Rattle.spec_lists.specs.Texts.{Text}
 use Rattle.spec_equations.specs.Answer.{HasDistinctNames, AnswerForm}
 use Rattle.spec_queries.specs.Tree.{Query}
 use Rattle.spec_queries.specs.Meaning.{told}

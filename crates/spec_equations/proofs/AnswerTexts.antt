@@ -8,7 +8,7 @@ use Rattle.spec_linear.specs.Solution.{Constraint, Fixes}
 use Rattle.spec_linear.proofs.Lists.{told_once}
 use Rattle.spec_echelon.specs.Echelon.{IsEchelon}
 use Rattle.spec_echelon.proofs.Uniqueness.{unique_echelon}
-use Rattle.spec_answers.specs.Text.{Text}
+use Rattle.spec_lists.specs.Texts.{Text}
 use Rattle.spec_answers.specs.Lines.{or_true, lines_text}
 use Rattle.spec_equations.specs.Answer.{HasDistinctNames, AnswerForm, query_variables, targets, binding_line, binding_lines, row_line}
 use Rattle.spec_equations.proofs.Names.{distinct_targets}

@@ -2,7 +2,7 @@
 use Rattle.std.proofs.Common.{◌≡◌, List, ◌++◌, false, Option, Some, None, refl, ap₂}
 use Rattle.std.proofs.lemmas.Bool.{true≢false}
 use Rattle.std.proofs.lemmas.List.Elements.{recursion_from_All}
-use Rattle.spec_answers.specs.Text.{Text}
+use Rattle.spec_lists.specs.Texts.{Text}
 use Rattle.spec_equations.specs.Answer.{HasDistinctNames}
 use Rattle.spec_equations.proofs.Names.{distinct_names}
 use Rattle.spec_queries.specs.Tree.{Query}

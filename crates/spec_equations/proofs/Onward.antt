@@ -1,6 +1,6 @@
 -- Some steps, from the first on.
 use Rattle.std.proofs.Common.{◌≡◌, [], ◌++◌, refl, sym, subst, append_assoc, append-nil}
-use Rattle.spec_answers.specs.Text.{Text}
+use Rattle.spec_lists.specs.Texts.{Text}
 use Rattle.spec_equations.specs.Session.{Session, Mark, plain_line, error_line, stop_line, Marks, unmarked, marked, Step, Runs, no_step, one_more}
 
 -- some steps, with all that they write: the first step, and those behind it

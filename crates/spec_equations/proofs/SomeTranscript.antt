@@ -8,7 +8,7 @@ use Rattle.spec_linear.specs.Solution.{Solvable, Unsolvable, Fixes, SomeMentions
 use Rattle.spec_echelon.specs.SolvedForm.{IsSolvedForm, rows_of}
 use Rattle.spec_echelon.proofs.Solving.{solvable, echelon, same-rows}
 use Rattle.spec_echelon.proofs.Existence.{solved_form_or_none}
-use Rattle.spec_answers.specs.Text.{Text}
+use Rattle.spec_lists.specs.Texts.{Text}
 use Rattle.spec_answers.specs.Lines.{or_true, lines_text}
 use Rattle.spec_equations.specs.Answer.{HasDistinctNames, AnswerForm, targets, answer_lines}
 use Rattle.spec_equations.proofs.Names.{distinct_names, distinct_targets}

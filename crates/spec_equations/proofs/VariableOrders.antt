@@ -4,7 +4,7 @@ use Rattle.std.specs.Prelude.{◌==◌}
 use Rattle.spec_rational.specs.Sums.{Monomial, Mentions}
 use Rattle.spec_linear.specs.Solution.{Constraint, Has, SomeMentions}
 use Rattle.spec_linear.proofs.Denominators.{has_right}
-use Rattle.spec_linear.proofs.Values.{nat_same}
+use Rattle.spec_lists.proofs.Tests.{nat_eq-same}
 use Rattle.spec_echelon.specs.Echelon.{AreDistinct}
 
 -- others in front of the targets, so that all variables of a kind are in the order
@@ -18,7 +18,7 @@ has_or_not x [] = inr (λ h. h)
 has_or_not x (y ∷ xs) = go (x == y) refl (has_or_not x xs)
   where
     go : (b : Bool) → (x == y) ≡ b → Has x xs ⊎ (Has x xs → ⊥) → Has x (y ∷ xs) ⊎ (Has x (y ∷ xs) → ⊥)
-    go true w r = inl (inl (nat_same x y w))
+    go true w r = inl (inl (nat_eq-same x y w))
     go false w (inl k) = inl (inr k)
     go false w (inr n) = inr neither
       where

@@ -3,7 +3,7 @@ use Rattle.std.specs.Prelude.{ℕ, pos, negsuc, List, [], ◌∷◌, codes, Opti
 use Rattle.spec_rational.specs.Rational.{ℚ, ratio, int_ℚ, 0ℚ}
 use Rattle.spec_rational.specs.Sums.{Monomial}
 use Rattle.spec_echelon.specs.Echelon.{Solved}
-use Rattle.spec_answers.specs.Text.{Text}
+use Rattle.spec_lists.specs.Texts.{Text}
 use Rattle.spec_queries.specs.Tree.{VariableName}
 use Rattle.spec_answers.specs.Lines.{or_true, lines_text}
 use Rattle.spec_equations.specs.Answer.{answer_lines}

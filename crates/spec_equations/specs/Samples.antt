@@ -1,6 +1,6 @@
 -- Transcripts to try the definitions on.
 use Rattle.std.specs.Prelude.{true, false}
-use Rattle.spec_answers.specs.Text.{Text}
+use Rattle.spec_lists.specs.Texts.{Text}
 use Rattle.spec_equations.specs.Session.{Transcript}
 
 -- the input writes this text, without an error line or a stop

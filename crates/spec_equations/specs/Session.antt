@@ -4,7 +4,7 @@ use Rattle.spec_rational.specs.Rational.{ℚ}
 use Rattle.spec_linear.specs.Solution.{Solvable, Unsolvable, Fixes}
 use Rattle.cq_frac.specs.declared.Pair.{Pair}
 use Rattle.spec_limits.specs.Overflow.{settling, answering}
-use Rattle.spec_answers.specs.Text.{Text}
+use Rattle.spec_lists.specs.Texts.{Text}
 use Rattle.spec_equations.specs.Answer.{Branch, AnswerForm}
 use Rattle.spec_queries.specs.Tree.{Query}
 use Rattle.spec_queries.specs.Grammar.{queries_of}

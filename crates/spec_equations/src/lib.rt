@@ -3,7 +3,7 @@
 #![tactic(auto)]
 
 ghost use Rattle.std.specs.Prelude.{◌≡◌, [], codes, false};
-ghost use Rattle.spec_answers.specs.Text.{Text};
+ghost use Rattle.spec_lists.specs.Texts.{Text};
 ghost use Rattle.spec_equations.specs.Told.{ToldRelations};
 ghost use Rattle.spec_equations.specs.Session.{Marks, Transcript};
 ghost use Rattle.spec_equations.specs.AnswerSamples.{bindings_and_a_row, nothing as no_line_of_its_own, two_rows};

@@ -8,7 +8,7 @@ use Rattle.spec_rational.proofs.IntRing.{ring_ℤ}
 use Rattle.spec_rational.proofs.Rational.{ratio_same, ratio_back}
 use Rattle.spec_rational.proofs.Sums.{sum_at-agrees}
 use Rattle.spec_linear.specs.Solution.{Constraint, Meets, Point, number, Solvable, HoldsAt, Satisfies, AgreesOn, Extends, Has, SomeMentions}
-use Rattle.spec_linear.proofs.Values.{nat_same}
+use Rattle.spec_lists.proofs.Tests.{nat_eq-same}
 use Rattle.spec_linear.proofs.Points.{solves_same}
 
 -- ---- lists that have what another has
@@ -87,7 +87,7 @@ point_of-is a [] y h = absurd h
 point_of-is a (x ∷ xs) y h = widened_is (point_of a xs) x y (a x) ∙ go (x == y) refl h (point_of-is a xs y)
   where
     go : (b : Bool) → (x == y) ≡ b → (y ≡ x) ⊎ Has y xs → (Has y xs → number (point_of a xs) y ≡ a y) → cond b (a x) (number (point_of a xs) y) ≡ a y
-    go true e k r = ap a (nat_same x y e)
+    go true e k r = ap a (nat_eq-same x y e)
     go false e (inl k) r = absurd (grind arith)
     go false e (inr k) r = r k
 

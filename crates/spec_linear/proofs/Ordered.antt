@@ -8,7 +8,8 @@ use Rattle.spec_rational.proofs.Rational.{ring}
 use Rattle.spec_rational.proofs.Sums.{factor_of-is, sum_at-nowhere}
 use Rattle.spec_rational.proofs.Sign.{one_not_zero}
 use Rattle.spec_linear.specs.Form.{Linear, value_at, IsSumFrom, IsForm, is_zero, in_front, with_product, sum_products, without_zeros, without, constant_form, variable_form, sum_form, scaled_form, negated_form, difference_form, substituted_form}
-use Rattle.spec_linear.proofs.Values.{nat_same, is_zero-false}
+use Rattle.spec_linear.proofs.Values.{is_zero-false}
+use Rattle.spec_lists.proofs.Tests.{nat_eq-same}
 
 -- ---- sums stay in order
 
@@ -42,7 +43,7 @@ IsSumFrom-with_product low p (m ∷ s) h o =
     go true c e f r = IsSumFrom-in_front low p (m ∷ s) h (less_is p.variable m.variable e, o.1, o.2)
     go false true e f r =
         IsSumFrom-in_front low (record { variable = p.variable; factor = p.factor +ℚ m.factor }) s h
-        (subst (λ y. IsSumFrom (suc y) s) (sym (nat_same p.variable m.variable f)) o.2)
+        (subst (λ y. IsSumFrom (suc y) s) (sym (nat_eq-same p.variable m.variable f)) o.2)
     go false false e f r = (o.0, o.1, r (more_is p.variable m.variable e f))
 
 IsSumFrom-sum_products : (low : ℕ) (s t : List Monomial) → IsSumFrom low s → IsSumFrom low t → IsSumFrom low (sum_products s t)
@@ -139,7 +140,7 @@ order x y = go (nat_lt x y) (x == y) refl refl
   where
     go : (b c : Bool) → nat_lt x y ≡ b → (x == y) ≡ c → Order x y
     go true c e f = before (less_is x y e)
-    go false true e f = equal (nat_same x y f)
+    go false true e f = equal (nat_eq-same x y f)
     go false false e f = after (more_is x y e f)
 
 pub product_same : (m n : Monomial) → m.variable ≡ n.variable → m.factor ≡ n.factor → m ≡ n
@@ -164,7 +165,7 @@ module _ (m n : Monomial) (s t : List Monomial) (low : ℕ) (o : IsSumFrom low (
     where
       go : (b : Bool) → (x == m.variable) ≡ b → factor_of x s ≡ factor_of x t
       go true e =
-          let h : x ≡ m.variable = nat_same x m.variable e in
+          let h : x ≡ m.variable = nat_eq-same x m.variable e in
           let k : m.variable ≡ n.variable = first_same in
           factor_of-below x (suc m.variable) s (omega arith) o.2 ∙ sym (factor_of-below x (suc n.variable) t (omega arith) p.2)
       go false e =

@@ -9,14 +9,12 @@ use Rattle.spec_rational.proofs.Ring.{var, int, ◌⊕◌, ◌⊗◌, minus}
 use Rattle.spec_rational.proofs.Rational.{ring, cross_same}
 use Rattle.spec_rational.proofs.Sums.{sum_at-scaled_products, sum_at-negated_products}
 use Rattle.spec_linear.specs.Form.{Linear, value_at, is_zero, in_front, with_product, sum_products, without_zeros, without, constant_form, variable_form, sum_form, scaled_form, negated_form, difference_form, substituted_form, changed_at}
+use Rattle.spec_lists.proofs.Tests.{nat_eq-same}
 
 -- ---- the test of zero
 
-pub nat_same : (a b : ℕ) → nat_eq a b ≡ true → a ≡ b
-nat_same a b e = grind arith
-
 num_zero : (z : ℤ) → nat_eq (nat_abs z) 0 ≡ true → z ≡ pos 0
-num_zero (pos a) e = ap pos (nat_same a 0 e)
+num_zero (pos a) e = ap pos (nat_eq-same a 0 e)
 num_zero (negsuc a) e = absurd (grind arith)
 
 zero_cross : (z : ℤ) (d : ℕ) → z ≡ pos 0 → z *ℤ pos 1 ≡ pos 0 *ℤ pos d
@@ -59,7 +57,7 @@ sum_at-with_product a p (m ∷ s) = go (nat_lt p.variable m.variable) (p.variabl
     go false true e h =
         sum_at-in_front a (record { variable = p.variable; factor = p.factor +ℚ m.factor }) s
         ∙ ring (p.factor ∷ m.factor ∷ a p.variable ∷ sum_at a s ∷ []) ((var 0 ⊕ var 1) ⊗ var 2 ⊕ var 3) (var 0 ⊗ var 2 ⊕ (var 1 ⊗ var 2 ⊕ var 3)) refl
-        ∙ ap (λ y. p.factor *ℚ a p.variable +ℚ (m.factor *ℚ a y +ℚ sum_at a s)) (nat_same p.variable m.variable e)
+        ∙ ap (λ y. p.factor *ℚ a p.variable +ℚ (m.factor *ℚ a y +ℚ sum_at a s)) (nat_eq-same p.variable m.variable e)
     go false false e h =
         ap (λ t. m.factor *ℚ a m.variable +ℚ t) h
         ∙ ring ((p.factor *ℚ a p.variable) ∷ (m.factor *ℚ a m.variable) ∷ sum_at a s ∷ []) (var 1 ⊕ (var 0 ⊕ var 2)) (var 0 ⊕ (var 1 ⊕ var 2)) refl
@@ -90,7 +88,7 @@ sum_at-without a x (m ∷ s) = go (x == m.variable) refl (sum_at-without a x s)
     go : (b : Bool) → (x == m.variable) ≡ b → sum_at a s ≡ factor_of x s *ℚ a x +ℚ sum_at a (without x s)
         → m.factor *ℚ a m.variable +ℚ sum_at a s ≡ (when b m.factor +ℚ factor_of x s) *ℚ a x +ℚ sum_at a (cond (not b) (m ∷ without x s) (without x s))
     go true e h =
-        ap₂ (λ y r. m.factor *ℚ a y +ℚ r) (sym (nat_same x m.variable e)) h
+        ap₂ (λ y r. m.factor *ℚ a y +ℚ r) (sym (nat_eq-same x m.variable e)) h
         ∙ ring (m.factor ∷ a x ∷ factor_of x s ∷ sum_at a (without x s) ∷ []) (var 0 ⊗ var 1 ⊕ (var 2 ⊗ var 1 ⊕ var 3)) ((var 0 ⊕ var 2) ⊗ var 1 ⊕ var 3) refl
     go false e h =
         ap (λ r. m.factor *ℚ a m.variable +ℚ r) h

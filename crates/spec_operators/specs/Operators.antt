@@ -1,12 +1,13 @@
 -- The operator table: a finite map from a name and a position to a priority and a kind, and what `op/3` does to it.
-use Rattle.std.specs.Prelude.{ℕ, ◌≡◌, ◌-◌, ◌≤◌, ℤ, pos, negsuc, Bool, false, not, ◌&&◌, ◌||◌, ◌==◌, nat_le, bytes_eq, List, codes, Option, Some, None, is_some, Result, Ok, Err, if◌then◌else◌}
+use Rattle.std.specs.Prelude.{ℕ, ◌≡◌, ◌-◌, ◌≤◌, ℤ, pos, negsuc, Bool, false, not, ◌&&◌, ◌||◌, ◌==◌, nat_le, bytes_eq, codes, Option, Some, None, is_some, Result, Ok, Err, if◌then◌else◌}
 use Rattle.spec_operators.specs.declared.OpKind.{OpKind}
 use Rattle.spec_operators.specs.declared.OpKind.TheVariants.{Xfx, Xfy, Yfx, Fy, Fx, Xf, Yf}
 use Rattle.spec_operators.specs.declared.OpDef.{OpDef}
-
--- the bytes of a name in UTF-8
-abbrev pub Text : Type 0
-Text = List ℕ
+use Rattle.spec_lists.specs.Texts.{Text}
+use Rattle.spec_lists.specs.Texts.{Text}
+use Rattle.spec_lists.specs.Texts.{Text}
+use Rattle.spec_lists.specs.Texts.{Text}
+use Rattle.spec_lists.specs.Texts.{Text}
 
 -- where an operator stands: before its operand, between two, or behind one
 pub data Position : Type 0 where

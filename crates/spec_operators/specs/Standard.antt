@@ -2,7 +2,8 @@
 use Rattle.std.specs.Prelude.{ℕ, List, [], ◌∷◌, codes, None}
 use Rattle.spec_operators.specs.declared.OpKind.{OpKind}
 use Rattle.spec_operators.specs.declared.OpKind.TheVariants.{Xfx, Xfy, Yfx, Fy, Fx}
-use Rattle.spec_operators.specs.Operators.{Text, Ops, put}
+use Rattle.spec_lists.specs.Texts.{Text}
+use Rattle.spec_operators.specs.Operators.{Ops, put}
 
 -- names of one priority and kind
 pub record Row : Type 0 where

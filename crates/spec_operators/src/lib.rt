@@ -2,7 +2,8 @@
 #![tactic(auto)]
 
 ghost use Rattle.std.specs.Prelude.{◌≡◌, Some, None, Ok, Err, codes, pos, neg_ℤ, IsSome, IsTrue, ◌⊎◌};
-ghost use Rattle.spec_operators.specs.Operators.{Ops, set, Position, Prefix, Infix, Postfix, Fits, Text, Refusal, BadPriority, BadKind, Comma, Clash};
+ghost use Rattle.spec_lists.specs.Texts.{Text};
+ghost use Rattle.spec_operators.specs.Operators.{Ops, set, Position, Prefix, Infix, Postfix, Fits, Refusal, BadPriority, BadKind, Comma, Clash};
 ghost use Rattle.spec_operators.specs.Standard.{standard};
 
 /// The kinds of operators: `f` is the operator, `y` an operand of at most its priority, `x` one of a lower priority.

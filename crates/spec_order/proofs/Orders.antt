@@ -8,7 +8,8 @@ use Rattle.std.specs.Ordering.{nat_cmp, ordering_reverse, ordering_then}
 use Rattle.std.proofs.lemmas.Cmp.{ranked, nat_cmp_total, lists_total, tied_itself, alike_right}
 use Rattle.spec_rational.proofs.Order.{cmp_ℚ-total, cmp_ℚ-equal}
 use Rattle.spec_terms.specs.Term.{Term, Terms, Var, Number, Name, Compound, one, more, count}
-use Rattle.spec_order.specs.Order.{Text, compare_texts, compare_terms, compare_all}
+use Rattle.spec_lists.specs.Texts.{Text}
+use Rattle.spec_order.specs.Order.{compare_texts, compare_terms, compare_all}
 
 -- ---- two comparisons, one after the other
 pub first_equal : (o p : Ordering) → ordering_then o p ≡ Equal → o ≡ Equal

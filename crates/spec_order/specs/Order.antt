@@ -1,15 +1,16 @@
 -- The standard order of terms.
-use Rattle.std.specs.Prelude.{ℕ, List}
+use Rattle.std.specs.Prelude.{ℕ}
 use Rattle.std.specs.declared.cmp.Ordering.{Ordering}
 use Rattle.std.specs.declared.cmp.Ordering.TheVariants.{Less, Greater}
 use Rattle.std.specs.Ordering.{nat_cmp, ordering_then}
 use Rattle.std.specs.Cmp.Lexicographic.{slice_cmp}
 use Rattle.spec_rational.specs.Order.{cmp_ℚ}
 use Rattle.spec_terms.specs.Term.{Term, Terms, Var, Number, Name, Compound, one, more, count}
-
--- the bytes of a name in UTF-8
-abbrev pub Text : Type 0
-Text = List ℕ
+use Rattle.spec_lists.specs.Texts.{Text}
+use Rattle.spec_lists.specs.Texts.{Text}
+use Rattle.spec_lists.specs.Texts.{Text}
+use Rattle.spec_lists.specs.Texts.{Text}
+use Rattle.spec_lists.specs.Texts.{Text}
 
 -- the first byte that differs decides; a text stands before those that go on after it
 abbrev pub compare_texts : Text → Text → Ordering

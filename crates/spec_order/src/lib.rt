@@ -8,7 +8,8 @@ ghost use Rattle.std.specs.declared.cmp.Ordering.TheVariants.{Less, Equal};
 ghost use Rattle.spec_rational.specs.Rational.{ℚ};
 ghost use Rattle.spec_terms.specs.Term.{Term, Terms, Var, Number, Name, Compound};
 ghost use Rattle.spec_terms.specs.Variables.{renamed_from};
-ghost use Rattle.spec_order.specs.Order.{Text, compare_terms};
+ghost use Rattle.spec_lists.specs.Texts.{Text};
+ghost use Rattle.spec_order.specs.Order.{compare_terms};
 ghost use Rattle.spec_order.specs.Variants.{AreVariants};
 
 /// The standard order is a total order, in which no two terms have one place, and it keeps the kinds of terms apart.

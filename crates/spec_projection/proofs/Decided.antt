@@ -10,7 +10,8 @@ use Rattle.spec_linear.specs.declared.Relation.{Relation}
 use Rattle.spec_linear.specs.declared.Relation.TheVariants.{Eq, Gt, Ge, Ne}
 use Rattle.spec_linear.specs.Form.{Linear, value_at, negated_form, changed_at}
 use Rattle.spec_linear.specs.Solution.{Constraint, Meets, HoldsAt, Satisfies, Has}
-use Rattle.spec_linear.proofs.Values.{value_at-negated_form, nat_same}
+use Rattle.spec_linear.proofs.Values.{value_at-negated_form}
+use Rattle.spec_lists.proofs.Tests.{nat_eq-same}
 use Rattle.spec_linear.proofs.Denominators.{satisfies_agrees, has_left, has_right}
 use Rattle.spec_inequalities.specs.Weak.{above_zero, at_least_zero}
 use Rattle.spec_inequalities.proofs.Far.{member_satisfied}
@@ -54,7 +55,7 @@ pub nat_dec : (x y : ℕ) → (x ≡ y) ⊎ (x ≡ y → ⊥)
 nat_dec x y = go (nat_eq x y) refl
   where
     go : (b : Bool) → nat_eq x y ≡ b → (x ≡ y) ⊎ (x ≡ y → ⊥)
-    go true e = inl (nat_same x y e)
+    go true e = inl (nat_eq-same x y e)
     go false e = inr (λ h. grind arith)
 
 -- the coefficients of all other variables are zero

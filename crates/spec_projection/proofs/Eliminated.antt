@@ -10,7 +10,8 @@ use Rattle.spec_rational.proofs.Sign.{inv_mul}
 use Rattle.spec_rational.proofs.Sums.{sum_at-plus, sum_at-times, sum_at-agrees, factor_of-is}
 use Rattle.spec_linear.specs.Form.{Linear, value_at, scaled_form, changed_at}
 use Rattle.spec_linear.specs.Solution.{Constraint, Meets, HoldsAt}
-use Rattle.spec_linear.proofs.Values.{nat_same, value_at-sum_form, value_at-scaled_form}
+use Rattle.spec_linear.proofs.Values.{value_at-sum_form, value_at-scaled_form}
+use Rattle.spec_lists.proofs.Tests.{nat_eq-same}
 use Rattle.spec_linear.proofs.Points.{meets_same}
 use Rattle.spec_projection.specs.Elimination.{is_above_zero, is_positive, coefficient, combination}
 
@@ -38,7 +39,7 @@ changed_is : (a : ℕ → ℚ) (x y : ℕ) (q : ℚ) → changed_at x q a y ≡ 
 changed_is a x y q = go (x == y) refl
   where
     go : (b : Bool) → (x == y) ≡ b → cond b q (a y) ≡ a y +ℚ (q -ℚ a x) *ℚ when b 1ℚ
-    go true e = ring (q ∷ a x ∷ []) (var 0) (var 1 ⊕ (var 0 ⊕ minus (var 1)) ⊗ int (pos 1)) refl ∙ ap (λ z. a z +ℚ (q -ℚ a x) *ℚ 1ℚ) (nat_same x y e)
+    go true e = ring (q ∷ a x ∷ []) (var 0) (var 1 ⊕ (var 0 ⊕ minus (var 1)) ⊗ int (pos 1)) refl ∙ ap (λ z. a z +ℚ (q -ℚ a x) *ℚ 1ℚ) (nat_eq-same x y e)
     go false e = ring (a y ∷ (q -ℚ a x) ∷ []) (var 0) (var 0 ⊕ var 1 ⊗ int (pos 0)) refl
 
 pub value_at-changed : (a : ℕ → ℚ) (x : ℕ) (q : ℚ) (f : Linear) → value_at (changed_at x q a) f ≡ value_at a f +ℚ (q -ℚ a x) *ℚ factor_of x f.products

@@ -9,7 +9,8 @@ use Rattle.spec_rational.proofs.Sign.{zero_or_not, inv_mul}
 use Rattle.spec_rational.proofs.Sums.{factor_of-is, sum_at-scaled_products}
 use Rattle.spec_linear.specs.Form.{Linear, IsSumFrom, IsForm, sum_form, scaled_form}
 use Rattle.spec_linear.specs.Solution.{Constraint, Has, SomeMentions}
-use Rattle.spec_linear.proofs.Values.{nat_same, sum_at-sum_products, sum_at-without_zeros}
+use Rattle.spec_linear.proofs.Values.{sum_at-sum_products, sum_at-without_zeros}
+use Rattle.spec_lists.proofs.Tests.{nat_eq-same}
 use Rattle.spec_linear.proofs.Ordered.{factor_of-first, factor_of-rest, IsForm-sum_form, IsForm-scaled_form}
 use Rattle.spec_projection.specs.Elimination.{coefficient, lower_rows, upper_rows, other_rows, combination, combinations, eliminated}
 use Rattle.spec_projection.specs.Lists.{AreForms}
@@ -35,7 +36,7 @@ factor_mentioned x [] n = absurd (n refl)
 factor_mentioned x (m ∷ s) n = go (nat_eq x m.variable) refl n (factor_mentioned x s)
   where
     go : (b : Bool) → nat_eq x m.variable ≡ b → when b m.factor +ℚ factor_of x s ≢ 0ℚ → (factor_of x s ≢ 0ℚ → Mentions x s) → Mentions x (m ∷ s)
-    go true e k rest = inl (nat_same x m.variable e)
+    go true e k rest = inl (nat_eq-same x m.variable e)
     go false e k rest = inr (rest (λ z. k (ap (λ w. 0ℚ +ℚ w) z ∙ ring [] (int (pos 0) ⊕ int (pos 0)) (int (pos 0)) refl)))
 
 pub unmentioned_factor : (x : ℕ) (s : List Monomial) → (Mentions x s → ⊥) → factor_of x s ≡ 0ℚ

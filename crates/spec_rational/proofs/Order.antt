@@ -159,7 +159,7 @@ is_less p q h = go (cmp_ℚ p q) (cmp_ℚ-matches p q)
     go Equal m = absurd (lt_irrefl (subst (λ x. p <ℚ x) (sym m) h))
     go Greater m = absurd (lt_irrefl (lt_trans h m))
 
-is_less_back : (p q : ℚ) → cmp_ℚ p q ≡ Less → p <ℚ q
+pub is_less_back : (p q : ℚ) → cmp_ℚ p q ≡ Less → p <ℚ q
 is_less_back p q e = subst (λ o. MatchOrdering o (p <ℚ q) (p ≡ q) (q <ℚ p)) e (cmp_ℚ-matches p q)
 
 is_equal : (p q : ℚ) → p ≡ q → cmp_ℚ p q ≡ Equal

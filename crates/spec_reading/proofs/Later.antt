@@ -4,7 +4,8 @@ use Rattle.std.proofs.lemmas.List.{map-append}
 use Rattle.std.specs.Prelude.{option_map, unwrap_or, ◌==◌, ◌&&◌, if◌then◌else◌, bytes_eq, chars, pos}
 use Rattle.spec_rational.specs.Rational.{int_ℚ, ℚ}
 use Rattle.spec_operators.specs.declared.OpDef.{OpDef}
-use Rattle.spec_operators.specs.Operators.{Text, Ops, right_most}
+use Rattle.spec_lists.specs.Texts.{Text}
+use Rattle.spec_operators.specs.Operators.{Ops, right_most}
 use Rattle.spec_terms.specs.Term.{Terms, Var, Number, Name, Compound, one, more, apply_all}
 use Rattle.spec_grammar.specs.declared.Kind.{Kind}
 use Rattle.spec_grammar.specs.declared.Kind.TheVariants as kind

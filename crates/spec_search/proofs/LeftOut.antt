@@ -1,6 +1,6 @@
 -- A clause whose head no substitution makes equal to the goal is pruned as soon as it is settled.
 use Rattle.std.proofs.Common.{◌≡◌, refl, ap, List, [], ◌∷◌, sym, ◌∙◌}
-use Rattle.spec_operators.specs.Operators.{Text}
+use Rattle.spec_lists.specs.Texts.{Text}
 use Rattle.spec_terms.specs.Term.{Subst, followed_by}
 use Rattle.spec_terms.specs.Unifier.{Equation, Equates, HasNoUnifier, read_under}
 use Rattle.spec_terms.proofs.Substitution.{apply-followed_by}

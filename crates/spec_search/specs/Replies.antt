@@ -6,7 +6,7 @@ use Rattle.spec_rational.specs.Sums.{Monomial}
 use Rattle.cq_frac.specs.declared.Pair.{Pair}
 use Rattle.spec_linear.specs.Form.{with_product}
 use Rattle.spec_linear.specs.Solution.{Constraint}
-use Rattle.spec_operators.specs.Operators.{Text}
+use Rattle.spec_lists.specs.Texts.{Text}
 use Rattle.spec_terms.specs.Term.{apply}
 use Rattle.spec_terms.specs.Unifier.{Equation}
 use Rattle.spec_terms.specs.Variables.{numbered_from}

@@ -7,7 +7,8 @@ use Rattle.spec_rational.proofs.Sign.{pos_add, nonneg_add, nonneg_mul, pos_nonne
 use Rattle.spec_simplex.specs.Dictionary.{Dictionary, IsDictionary, IsFeasible, Obeys, IsGreatest, Exceeds, IsUnbounded, sum_below, pick, ray, basic_solution}
 use Rattle.spec_simplex.specs.Rule.{IsOptimal, IsUnlimited, IsFree}
 use Rattle.spec_simplex.proofs.Sums.{sum_falls}
-use Rattle.spec_simplex.proofs.Solutions.{true_not_false, same_number, basic_satisfies, ray_satisfies}
+use Rattle.spec_simplex.proofs.Solutions.{true_not_false, basic_satisfies, ray_satisfies}
+use Rattle.spec_lists.proofs.Tests.{nat_eq-same}
 
 module _ (size : ℕ) (restricted : ℕ → Bool) (d : Dictionary) (w : IsDictionary size d) (f : IsFeasible restricted d) where
   pub basic_obeys : Obeys restricted (basic_solution d)
@@ -95,7 +96,7 @@ module _ (size : ℕ) (restricted : ℕ → Bool) (d : Dictionary) (w : IsDictio
   ray_obeys c y own rows q r = go (nat_eq q c) refl (d.is_row q) refl
     where
       go : (b : Bool) → nat_eq q c ≡ b → (k : Bool) → d.is_row q ≡ k → IsNotNegative (pick b y (pick k (d.constant q +ℚ d.entry q c *ℚ y) 0ℚ))
-      go true g k e = own (subst (λ z. restricted z ≡ true) (same_number q c g) r)
+      go true g k e = own (subst (λ z. restricted z ≡ true) (nat_eq-same q c g) r)
       go false g true e = nonneg_add (f.constants q e r) (rows q e r)
       go false g false e = nonneg_zero
 

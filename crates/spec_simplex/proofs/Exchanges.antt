@@ -8,7 +8,8 @@ use Rattle.spec_rational.proofs.Sign.{nonneg_add, nonneg_mul, pos_nonneg, not_po
 use Rattle.spec_simplex.specs.Dictionary.{Dictionary, IsFeasible, pick, ray, basic_solution, sum_below}
 use Rattle.spec_simplex.specs.Rule.{Raises, Limits, IsDue, Exchanged, ratio}
 use Rattle.spec_simplex.proofs.Sums.{sum_none, sum_only, sum_difference}
-use Rattle.spec_simplex.proofs.Solutions.{Writes, same_number, true_not_false, equal_to_itself, other_number, not_equal, pick_true, pick_false}
+use Rattle.spec_simplex.proofs.Solutions.{Writes, true_not_false, pick_true, pick_false}
+use Rattle.spec_lists.proofs.Tests.{nat_eq-same, nat_eq-self, nat_eq-other, nat_eq-apart}
 
 -- ---- one dictionary
 module _ (size : ℕ) (S : (ℕ → ℚ) → ℚ → Type 0) (d : Dictionary) (w : Writes size S d) where
@@ -40,7 +41,7 @@ module _ (size : ℕ) (S : (ℕ → ℚ) → ℚ → Type 0) (d : Dictionary) (w
   ray_at_zero c q h = go (nat_eq q c) refl (d.is_row q) refl
     where
       go : (b : Bool) → nat_eq q c ≡ b → (k : Bool) → d.is_row q ≡ k → pick b 0ℚ (pick k (d.constant q +ℚ d.entry q c *ℚ 0ℚ) 0ℚ) ≡ pick k (d.constant q) 0ℚ
-      go true e true f = absurd (row_is_no_column q c f h (same_number q c e))
+      go true e true f = absurd (row_is_no_column q c f h (nat_eq-same q c e))
       go true e false f = refl
       go false e true f = ring (d.constant q ∷ d.entry q c ∷ []) (var 0 ⊕ var 1 ⊗ int (pos 0)) (var 0) refl
       go false e false f = refl
@@ -51,21 +52,21 @@ module _ (size : ℕ) (S : (ℕ → ℚ) → ℚ → Type 0) (d : Dictionary) (w
 
   pub rise_of_column : (c : ℕ) → rise c c ≡ 1ℚ
   rise_of_column c =
-      ap₂ (λ x y. x -ℚ y) (pick_true (nat_eq c c) 1ℚ _ (equal_to_itself c)) (pick_true (nat_eq c c) 0ℚ _ (equal_to_itself c))
+      ap₂ (λ x y. x -ℚ y) (pick_true (nat_eq c c) 1ℚ _ (nat_eq-self c)) (pick_true (nat_eq c c) 0ℚ _ (nat_eq-self c))
       ∙ ring [] (int (pos 1) ⊕ minus (int (pos 0))) (int (pos 1)) refl
 
   pub rise_of_row : (c q : ℕ) → (q ≡ c → ⊥) → d.is_row q ≡ true → rise c q ≡ d.entry q c
   rise_of_row c q n h =
       ap₂ (λ x y. x -ℚ y)
-      (pick_false (nat_eq q c) 1ℚ _ (not_equal q c n) ∙ pick_true (d.is_row q) _ 0ℚ h)
-      (pick_false (nat_eq q c) 0ℚ _ (not_equal q c n) ∙ pick_true (d.is_row q) _ 0ℚ h)
+      (pick_false (nat_eq q c) 1ℚ _ (nat_eq-apart q c n) ∙ pick_true (d.is_row q) _ 0ℚ h)
+      (pick_false (nat_eq q c) 0ℚ _ (nat_eq-apart q c n) ∙ pick_true (d.is_row q) _ 0ℚ h)
       ∙ ring (d.constant q ∷ d.entry q c ∷ []) (var 0 ⊕ var 1 ⊗ int (pos 1) ⊕ minus (var 0 ⊕ var 1 ⊗ int (pos 0))) (var 1) refl
 
   pub rise_of_other : (c q : ℕ) → (q ≡ c → ⊥) → d.is_row q ≡ false → rise c q ≡ 0ℚ
   rise_of_other c q n h =
       ap₂ (λ x y. x -ℚ y)
-      (pick_false (nat_eq q c) 1ℚ _ (not_equal q c n) ∙ pick_false (d.is_row q) _ 0ℚ h)
-      (pick_false (nat_eq q c) 0ℚ _ (not_equal q c n) ∙ pick_false (d.is_row q) _ 0ℚ h)
+      (pick_false (nat_eq q c) 1ℚ _ (nat_eq-apart q c n) ∙ pick_false (d.is_row q) _ 0ℚ h)
+      (pick_false (nat_eq q c) 0ℚ _ (nat_eq-apart q c n) ∙ pick_false (d.is_row q) _ 0ℚ h)
       ∙ ring [] (int (pos 0) ⊕ minus (int (pos 0))) (int (pos 0)) refl
 
 -- ---- the rise along a column of d, by another dictionary of the same solutions
@@ -114,9 +115,9 @@ module _ (size : ℕ) (S : (ℕ → ℚ) → ℚ → Type 0) (restricted : ℕ �
   ray_there q h = go (nat_eq q c) refl (nat_eq q r) refl
     where
       go : (b : Bool) → nat_eq q c ≡ b → (k : Bool) → nat_eq q r ≡ k → pick b length_of (pick (d.is_row q) (d.constant q +ℚ d.entry q c *ℚ length_of) 0ℚ) ≡ 0ℚ
-      go true g k i = absurd (true_not_false (e.is_row q) (subst (λ z. e.is_row z ≡ true) (sym (same_number q c g)) ex.row) h)
-      go false g true i = subst (λ z. pick (d.is_row z) (d.constant z +ℚ d.entry z c *ℚ length_of) 0ℚ ≡ 0ℚ) (sym (same_number q r i)) (pick_true (d.is_row r) _ 0ℚ limits.row ∙ row_there)
-      go false g false i = pick_false (d.is_row q) _ 0ℚ (sym (ex.other_rows q (other_number q c g) (other_number q r i)) ∙ h)
+      go true g k i = absurd (true_not_false (e.is_row q) (subst (λ z. e.is_row z ≡ true) (sym (nat_eq-same q c g)) ex.row) h)
+      go false g true i = subst (λ z. pick (d.is_row z) (d.constant z +ℚ d.entry z c *ℚ length_of) 0ℚ ≡ 0ℚ) (sym (nat_eq-same q r i)) (pick_true (d.is_row r) _ 0ℚ limits.row ∙ row_there)
+      go false g false i = pick_false (d.is_row q) _ 0ℚ (sym (ex.other_rows q (nat_eq-other q c g) (nat_eq-other q r i)) ∙ h)
 
   -- that point is the basic solution of e
   there : (d.value +ℚ d.coefficient c *ℚ length_of ≡ e.value) × ((q : ℕ) → e.is_row q ≡ true → ray d c length_of q ≡ e.constant q)

@@ -1,26 +1,15 @@
 -- A dictionary and the solutions that it writes: its columns are free, so rays are solutions.
-use Rattle.std.proofs.Common.{◌≡◌, ℕ, ◌<◌, [], ◌∷◌, Bool, true, false, nat_eq, pos, arith, refl, ap, sym, subst, ◌∙◌, eqb→eq, T}
+use Rattle.std.proofs.Common.{◌≡◌, ℕ, ◌<◌, [], ◌∷◌, Bool, true, false, nat_eq, pos, refl, ap, sym, subst, ◌∙◌}
 use Rattle.spec_rational.specs.Rational.{ℚ, 0ℚ, ◌+ℚ◌, ◌*ℚ◌}
 use Rattle.spec_rational.proofs.Ring.{var, int, ◌⊕◌, ◌⊗◌}
 use Rattle.spec_rational.proofs.Rational.{ring}
 use Rattle.spec_simplex.specs.Dictionary.{Dictionary, IsDictionary, Satisfies, AreEquivalent, sum_below, pick, ray, basic_solution}
 use Rattle.spec_simplex.proofs.Sums.{sum_none, sum_only}
+use Rattle.spec_lists.proofs.Tests.{nat_eq-apart, nat_eq-self}
 
 -- ---- small facts
-pub same_number : (x y : ℕ) → nat_eq x y ≡ true → x ≡ y
-same_number x y h = eqb→eq x y (subst T (sym h) tt)
-
 pub true_not_false : (b : Bool) → b ≡ true → b ≡ false → ⊥
 true_not_false b h k = cc
-
-pub equal_to_itself : (x : ℕ) → nat_eq x x ≡ true
-equal_to_itself x = grind arith
-
-pub other_number : (x y : ℕ) → nat_eq x y ≡ false → x ≡ y → ⊥
-other_number x y h e = grind arith
-
-pub not_equal : (x y : ℕ) → (x ≡ y → ⊥) → nat_eq x y ≡ false
-not_equal x y n = grind arith
 
 pub pick_true : (b : Bool) (p q : ℚ) → b ≡ true → pick b p q ≡ p
 pick_true true p q h = refl
@@ -54,12 +43,12 @@ module _ (size : ℕ) (d : Dictionary) (w : IsDictionary size d) where
   one : (a : ℕ → ℚ) → ((c : ℕ) → d.is_column c ≡ false → a c ≡ 0ℚ) → (c : ℕ) → d.is_column c ≡ true → (y : ℚ) → sum_below size (λ j. a j *ℚ ray d c y j) ≡ a c *ℚ y
   one a n c h y =
       sum_only size _ c (w.columns_below c h) (λ j m. term j m (d.is_column j) refl)
-      ∙ ap (λ v. a c *ℚ v) (pick_true (nat_eq c c) y _ (equal_to_itself c))
+      ∙ ap (λ v. a c *ℚ v) (pick_true (nat_eq c c) y _ (nat_eq-self c))
     where
       term : (j : ℕ) → (j ≡ c → ⊥) → (b : Bool) → d.is_column j ≡ b → a j *ℚ ray d c y j ≡ 0ℚ
       term j m false e = ap (λ v. v *ℚ ray d c y j) (n j e) ∙ ring (ray d c y j ∷ []) (int (pos 0) ⊗ var 0) (int (pos 0)) refl
       term j m true e =
-          ap (λ v. a j *ℚ v) (pick_false (nat_eq j c) y _ (not_equal j c m) ∙ pick_false (d.is_row j) _ 0ℚ (w.apart j e))
+          ap (λ v. a j *ℚ v) (pick_false (nat_eq j c) y _ (nat_eq-apart j c m) ∙ pick_false (d.is_row j) _ 0ℚ (w.apart j e))
           ∙ ring (a j ∷ []) (var 0 ⊗ int (pos 0)) (int (pos 0)) refl
 
   pub basic_satisfies : Satisfies size d (basic_solution d) d.value
@@ -74,7 +63,7 @@ module _ (size : ℕ) (d : Dictionary) (w : IsDictionary size d) where
   pub ray_satisfies : (c : ℕ) → d.is_column c ≡ true → (y : ℚ) → Satisfies size d (ray d c y) (d.value +ℚ d.coefficient c *ℚ y)
   ray_satisfies c h y = record {
     rows = λ q k.
-        pick_false (nat_eq q c) y _ (not_equal q c (λ e. true_not_false (d.is_row c) (subst (λ z. d.is_row z ≡ true) e k) (w.apart c h)))
+        pick_false (nat_eq q c) y _ (nat_eq-apart q c (λ e. true_not_false (d.is_row c) (subst (λ z. d.is_row z ≡ true) e k) (w.apart c h)))
         ∙ pick_true (d.is_row q) _ 0ℚ k
         ∙ ap (λ v. d.constant q +ℚ v) (sym (one (d.entry q) (λ c e. w.no_other_entry q c e) c h y));
     asked = ap (λ v. d.value +ℚ v) (sym (one d.coefficient w.no_other_coefficient c h y));

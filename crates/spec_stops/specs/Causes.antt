@@ -1,7 +1,7 @@
 -- What a query may spend, and why one stops before its search ends.
 use Rattle.std.specs.Prelude.{ℕ, List, codes}
 use Rattle.cq_frac.specs.declared.Pair.{Pair}
-use Rattle.spec_operators.specs.Operators.{Text}
+use Rattle.spec_lists.specs.Texts.{Text}
 use Rattle.spec_linear.specs.Solution.{Constraint}
 
 -- selected goals, exchanges of one maximisation, answers, and rows that eliminating a variable leaves

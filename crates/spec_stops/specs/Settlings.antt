@@ -5,7 +5,7 @@ use Rattle.spec_rational.specs.Rational.{ℚ}
 use Rattle.spec_linear.specs.Solution.{Constraint, Fixes, Has}
 use Rattle.spec_limits.specs.Overflow.{Moment, settling}
 use Rattle.spec_limits.specs.Asked.{IsAsked, IsInForce, NoQuestion}
-use Rattle.spec_operators.specs.Operators.{Text}
+use Rattle.spec_lists.specs.Texts.{Text}
 use Rattle.spec_terms.specs.Term.{Subst, apply, followed_by}
 use Rattle.spec_terms.specs.Unifier.{IsUnifier, read_under}
 use Rattle.spec_syntax.specs.Trees.{Tree}

@@ -1,6 +1,7 @@
 -- Each step behind an operand keeps what the grammar allows.
-use Rattle.std.proofs.Common.{◌≡◌, ℕ, ◌≤◌, true, false, List, [], ◌∷◌, codes, inl, inr, refl, sym, ap, subst, arith, nat_le}
-use Rattle.spec_operators.specs.Operators.{Text, Ops}
+use Rattle.std.proofs.Common.{◌≡◌, ℕ, ◌≤◌, false, List, [], ◌∷◌, codes, inl, inr, refl, sym, ap, subst, arith, nat_le}
+use Rattle.spec_lists.specs.Texts.{Text}
+use Rattle.spec_operators.specs.Operators.{Ops}
 use Rattle.spec_terms.specs.Term.{Terms, Compound, one, more}
 use Rattle.spec_syntax.specs.Tokens.{Token, Close, CloseList, CloseCurly, Comma, Bar, End}
 use Rattle.spec_syntax.specs.Trees.{Tree, unary, binary, nil, cell}
@@ -14,9 +15,6 @@ tail_is e = cc
 
 pub not_low : (x m : ℕ) → nat_le x m ≡ false → x ≤ m → ⊥
 not_low x m e low = grind (arith, nat_tests)
-
-pub is_low : (x m : ℕ) → nat_le x m ≡ true → x ≤ m
-is_low x m e = grind (arith, nat_tests)
 
 module _ (ops : Ops) where
   -- what is known of a step behind an operand, from what is known where term(m) ends there

@@ -6,7 +6,8 @@ use Rattle.spec_rational.specs.Rational.{ℚ, neg_ℚ}
 use Rattle.spec_rational.proofs.Ring.{var, minus}
 use Rattle.spec_rational.proofs.Rational.{ring}
 use Rattle.spec_operators.specs.declared.OpDef.{OpDef}
-use Rattle.spec_operators.specs.Operators.{Text, Ops, left_most, right_most}
+use Rattle.spec_lists.specs.Texts.{Text}
+use Rattle.spec_operators.specs.Operators.{Ops, left_most, right_most}
 use Rattle.spec_terms.specs.Term.{Terms, Var, Number, Name, Compound, one, more}
 use Rattle.spec_syntax.specs.Tokens.{Token, Variable, Numeral, Named, Minus, Close, OpenList, CloseList, OpenCurly, CloseCurly, Comma, Bar, End}
 use Rattle.spec_syntax.specs.Trees.{Tree, cell}

@@ -2,14 +2,16 @@
 use Rattle.std.proofs.Common.{◌≡◌, ℕ, ◌≤◌, Bool, true, false, List, [], ◌∷◌, codes, Option, Some, None, refl, subst, nat_le}
 use Rattle.spec_rational.specs.Rational.{neg_ℚ}
 use Rattle.spec_operators.specs.declared.OpDef.{OpDef}
-use Rattle.spec_operators.specs.Operators.{Text, Ops, right_most}
+use Rattle.spec_lists.specs.Texts.{Text}
+use Rattle.spec_operators.specs.Operators.{Ops, right_most}
 use Rattle.spec_terms.specs.Term.{Var, Number, Name, Compound}
 use Rattle.spec_syntax.specs.Tokens.{Token, Variable, Numeral, Codes, Named, Functor, Minus, Open, Close, OpenList, CloseList, OpenCurly, CloseCurly}
 use Rattle.spec_syntax.specs.Trees.{Tree, unary, nil, code_list}
 use Rattle.spec_syntax.specs.Grammar.{applied_as, IsTerm, term, IsOperand, variable, numeral, negative, text, compound, atom, applied, group, empty_list, listed, empty_curly, curly, IsAfter, AreElements, final, further, tailed}
 use Rattle.spec_syntax.specs.Machine.{Frame, OperandOf, InCurly, InElements, State, BeforeTerm, AfterOperand, AfterName, AfterFunctor, AfterMinus, AfterOpenList, AfterOpenCurly, Whole, before_term, apply_if, after_name, after_functor, after_minus, after_open_list, after_open_curly, step}
 use Rattle.spec_syntax.specs.Yields.{Then, Fills, FromOperand, Yields, YieldsFrom}
-use Rattle.spec_syntax.proofs.Behind.{not_low, is_low, after_operand_to, after_operand_back, arguments_to, arguments_back, elements_to, elements_back}
+use Rattle.spec_syntax.proofs.Behind.{not_low, after_operand_to, after_operand_back, arguments_to, arguments_back, elements_to, elements_back}
+use Rattle.spec_lists.proofs.Tests.{true_le}
 
 module _ (ops : Ops) where
   -- quotes do not matter to the name itself
@@ -70,7 +72,7 @@ module _ (ops : Ops) where
 
   apply_back : (b : Bool) (f : Text) (op : OpDef) (m : ℕ) (k : List Frame) (tok : Token) (ts : List Token) (t : Tree) → nat_le op.priority m ≡ b →
       YieldsFrom ops (apply_if ops b f op m k tok) ts t → (op.priority ≤ m) × Yields ops (BeforeTerm (right_most op) (OperandOf f op m ∷ k)) (tok ∷ ts) t
-  apply_back true f op m k tok ts t e g = (is_low op.priority m e, term_begins_back (right_most op) (OperandOf f op m ∷ k) tok ts t g)
+  apply_back true f op m k tok ts t e g = (true_le op.priority m e, term_begins_back (right_most op) (OperandOf f op m ∷ k) tok ts t g)
   apply_back false f op m k tok ts t e g = elim g [ ]
 
   after_name_by : (f : Text) (m : ℕ) (k : List Frame) (tok : Token) (ts : List Token) (t : Tree) (o : Option OpDef) → applied_as ops f (tok ∷ ts) ≡ o →

@@ -1,22 +1,22 @@
 -- The operators at the start are a table as the law of reading again wants it, and so is what `op/3` makes of one.
-use Rattle.std.proofs.Common.{◌≡◌, ℕ, ◌≤◌, ℤ, pos, negsuc, Bool, true, false, not, ◌&&◌, ◌||◌, List, [], ◌∷◌, codes, Option, Some, None, is_some, Result, Ok, Err, refl, sym, ◌∙◌, subst, arith, nat_le}
+use Rattle.std.proofs.Common.{◌≡◌, ℕ, ◌≤◌, ℤ, pos, negsuc, Bool, true, false, not, ◌&&◌, ◌||◌, List, [], ◌∷◌, codes, Option, Some, None, Result, Ok, Err, refl, sym, ◌∙◌, subst, arith, nat_le}
 use Rattle.std.specs.Prelude.{if◌then◌else◌, bytes_eq, ◌==◌}
 use Rattle.std.specs.Cmp.Lexicographic.{bytes_decides}
 use Rattle.std.proofs.lemmas.Bool.Decides.{nat_tests}
 use Rattle.spec_operators.specs.declared.OpDef.{OpDef}
 use Rattle.spec_operators.specs.declared.OpKind.{OpKind}
-use Rattle.spec_operators.specs.Operators.{Text, Ops, Position, Prefix, Infix, Postfix, Fits, position_of, entry, changed, put_at, put, Refusal, kind_named, is_bracket, is_at_odds, clashes, in_range, set_checked, set}
+use Rattle.spec_lists.specs.Texts.{Text}
+use Rattle.spec_operators.specs.Operators.{Ops, Position, Prefix, Infix, Postfix, Fits, position_of, entry, changed, put_at, put, Refusal, kind_named, is_bracket, is_at_odds, clashes, in_range, set_checked, set}
 use Rattle.spec_operators.specs.Standard.{Row, rows, put_names, put_rows, empty, standard}
 use Rattle.spec_syntax.specs.Writing.{IsTable}
+use Rattle.spec_lists.proofs.Tests.{true_le}
+use Rattle.spec_lists.proofs.Places.{none_is}
 
 -- the operators of each position may stand there
 record AreFitting (ops : Ops) : Type 0 where
   prefix : (f : Text) (op : OpDef) → ops.prefix f ≡ Some op → Fits Prefix op
   infixed : (f : Text) (op : OpDef) → ops.infixed f ≡ Some op → Fits Infix op
   postfix : (f : Text) (op : OpDef) → ops.postfix f ≡ Some op → Fits Postfix op
-
-true_le : (x m : ℕ) → nat_le x m ≡ true → x ≤ m
-true_le x m e = grind (arith, nat_tests)
 
 not_zero : (p : ℕ) → (p == 0) ≡ false → 1 ≤ p
 not_zero p e = grind (arith, nat_tests)
@@ -90,10 +90,6 @@ not_and : (b x : Bool) → b ≡ false → (not b && x) ≡ false → x ≡ fals
 not_and true x e h = cc
 not_and false x e h = h
 
-is_none : (o : Option OpDef) → is_some o ≡ false → o ≡ None
-is_none None e = refl
-is_none (Some op) e = cc
-
 entry_some : (p : ℕ) (kind : OpKind) (op : OpDef) → entry p kind ≡ Some op → (p == 0) ≡ false
 entry_some p kind op = by _
   where
@@ -119,14 +115,14 @@ module _ (ops : Ops) (p : ℕ) (kind : OpKind) (name : Text) (are : IsTable ops)
   infix_alone odd f op = by _ refl
     where
       by : (b : Bool) → bytes_eq f name ≡ b → (if b then entry p kind else ops.infixed f) ≡ Some op → ops.postfix f ≡ None
-      by true s e = subst (λ g. ops.postfix g ≡ None) (sym ((bytes_decides f name).0 s)) (is_none _ (not_and (p == 0) _ (entry_some p kind op e) odd))
+      by true s e = subst (λ g. ops.postfix g ≡ None) (sym ((bytes_decides f name).0 s)) (none_is _ (not_and (p == 0) _ (entry_some p kind op e) odd))
       by false s e = are.not_both f op e
 
   postfix_alone : (not (p == 0) && is_at_odds Postfix ops name) ≡ false → (f : Text) (op : OpDef) → ops.infixed f ≡ Some op → changed ops.postfix name (entry p kind) f ≡ None
   postfix_alone odd f op e = by _ refl
     where
       by : (b : Bool) → bytes_eq f name ≡ b → (if b then entry p kind else ops.postfix f) ≡ None
-      by true s = entry_none p kind (λ h. none_some (ops.infixed name) op (is_none _ (not_and (p == 0) _ h odd)) (subst (λ g. ops.infixed g ≡ Some op) ((bytes_decides f name).0 s) e))
+      by true s = entry_none p kind (λ h. none_some (ops.infixed name) op (none_is _ (not_and (p == 0) _ h odd)) (subst (λ g. ops.infixed g ≡ Some op) ((bytes_decides f name).0 s) e))
       by false s = are.not_both f op e
 
   never_both : (position : Position) → (not (p == 0) && is_at_odds position ops name) ≡ false → (f : Text) (op : OpDef) →

@@ -7,21 +7,15 @@ use Rattle.spec_rational.specs.Rational.{ℚ}
 use Rattle.spec_operators.specs.declared.OpDef.{OpDef}
 use Rattle.spec_operators.specs.declared.OpKind.{OpKind}
 use Rattle.spec_operators.specs.declared.OpKind.TheVariants.{Xfx, Xfy, Yfx, Fy, Fx, Xf, Yf}
-use Rattle.spec_operators.specs.Operators.{Text, Ops, left_most, right_most, is_operator}
+use Rattle.spec_lists.specs.Texts.{Text}
+use Rattle.spec_operators.specs.Operators.{Ops, left_most, right_most, is_operator}
 use Rattle.spec_terms.specs.Term.{Var, Number, Name, Compound, one, more}
 use Rattle.spec_syntax.specs.Tokens.{Token, Numeral, Named, Minus, Open, Comma}
 use Rattle.spec_syntax.specs.Trees.{Tree}
 use Rattle.spec_syntax.specs.Grammar.{operator_name, allowed, AsInfix, AsPostfix, Outside, use_of, Stops, may_begin, begins_term, applied_as}
 use Rattle.spec_syntax.specs.Writing.{IsTable, or_else, operator_of, priority_of, right_end, priority, open_end, is_negative, is_never_bare, is_bare_right, is_bare_left, is_bare_argument, unless, needs_quotes, name_before, infix_token, Alone, InList, number_tokens, atom_tokens, name_tokens, is_signed, prefix_tokens, operand_tokens, unary_tokens, infix_tokens, binary_tokens, written_at}
-
-le_true : (x m : ℕ) → x ≤ m → nat_le x m ≡ true
-le_true x m h = grind (arith, nat_tests)
-
-le_false : (x m : ℕ) → m < x → nat_le x m ≡ false
-le_false x m h = grind (arith, nat_tests)
-
-true_le : (x m : ℕ) → nat_le x m ≡ true → x ≤ m
-true_le x m e = grind (arith, nat_tests)
+use Rattle.spec_lists.proofs.Tests.{le_false, le_true, neither_is, true_le}
+use Rattle.spec_lists.proofs.Places.{none_is}
 
 true_lt : (x m : ℕ) → nat_lt x m ≡ true → x < m
 true_lt x m e = grind (arith, nat_tests)
@@ -34,14 +28,6 @@ both false b e = cc
 not_true : (a : Bool) → not a ≡ true → a ≡ false
 not_true true e = cc
 not_true false e = refl
-
-none_is : (o : Option OpDef) → is_some o ≡ false → o ≡ None
-none_is None e = refl
-none_is (Some op) e = cc
-
-neither_is : (a b : Bool) → (a || b) ≡ false → (a ≡ false) × (b ≡ false)
-neither_is true b e = cc
-neither_is false b e = (refl, e)
 
 or_true : (b : Bool) → (b || true) ≡ true
 or_true true = refl

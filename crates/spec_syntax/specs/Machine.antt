@@ -2,7 +2,8 @@
 use Rattle.std.specs.Prelude.{ℕ, Bool, true, false, nat_le, List, [], ◌∷◌, codes, ⊤, Option, Some, None}
 use Rattle.spec_rational.specs.Rational.{neg_ℚ}
 use Rattle.spec_operators.specs.declared.OpDef.{OpDef}
-use Rattle.spec_operators.specs.Operators.{Text, Ops, right_most}
+use Rattle.spec_lists.specs.Texts.{Text}
+use Rattle.spec_operators.specs.Operators.{Ops, right_most}
 use Rattle.spec_terms.specs.Term.{Terms, Var, Number, Name, Compound, one, more}
 use Rattle.spec_syntax.specs.Tokens.{Token, Variable, Numeral, Codes, Named, Functor, Minus, Open, Close, OpenList, CloseList, OpenCurly, CloseCurly, Comma, Bar, End}
 use Rattle.spec_syntax.specs.Trees.{Tree, unary, binary, nil, cell, code_list}

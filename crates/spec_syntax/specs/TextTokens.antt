@@ -1,6 +1,6 @@
 -- The tokens of a text, as the grammar sees them.
 use Rattle.std.specs.Prelude.{ℕ, zero, suc, ◌&&◌, ◌==◌, drop, length, Bool, true, false, if◌then◌else◌, List, [], ◌∷◌, ◌++◌, Option, Some, None, option_map, unwrap_or, Ok, Err, codes, bytes_eq}
-use Rattle.spec_operators.specs.Operators.{Text}
+use Rattle.spec_lists.specs.Texts.{Text}
 use Rattle.spec_grammar.specs.declared.Kind.TheVariants as kind
 use Rattle.spec_grammar.specs.Tokens as lexical
 use Rattle.spec_grammar.specs.Tokens.{next_token, opens_directly, digit_directly, bytes_of, quotes_at, meant}

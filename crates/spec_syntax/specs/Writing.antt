@@ -3,7 +3,8 @@ use Rattle.std.specs.Prelude.{◌≡◌, ℕ, ◌==◌, nat_le, nat_lt, codes, b
 use Rattle.spec_rational.specs.Rational.{ℚ, neg_ℚ}
 use Rattle.spec_operators.specs.declared.OpDef.{OpDef}
 use Rattle.spec_operators.specs.declared.OpKind.TheVariants.{Xfy}
-use Rattle.spec_operators.specs.Operators.{Text, Ops, left_most, right_most, is_operator, Prefix, Infix, Postfix, Fits}
+use Rattle.spec_lists.specs.Texts.{Text}
+use Rattle.spec_operators.specs.Operators.{Ops, left_most, right_most, is_operator, Prefix, Infix, Postfix, Fits}
 use Rattle.spec_terms.specs.Term.{Terms, Var, Number, Name, Compound, one, more}
 use Rattle.spec_grammar.specs.declared.Kind.TheVariants as kind
 use Rattle.spec_grammar.specs.declared.LexFault.{LexFault}

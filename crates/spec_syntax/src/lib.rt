@@ -3,7 +3,8 @@
 #![tactic(auto)]
 
 ghost use Rattle.std.specs.Prelude.{◌≡◌, ◌↔◌, List, [], ◌∷◌, ◌++◌, Some, None, Ok, ℤ, codes};
-ghost use Rattle.spec_operators.specs.Operators.{Ops, Text, set};
+ghost use Rattle.spec_lists.specs.Texts.{Text};
+ghost use Rattle.spec_operators.specs.Operators.{Ops, set};
 ghost use Rattle.spec_operators.specs.Standard.{standard};
 ghost use Rattle.spec_terms.specs.Term.{Compound, Name, Var, more, one};
 ghost use Rattle.spec_syntax.specs.Tokens.{Token, End};

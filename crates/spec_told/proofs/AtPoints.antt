@@ -6,7 +6,7 @@ use Rattle.spec_linear.specs.declared.Relation.{Relation}
 use Rattle.spec_linear.specs.Form.{Linear, value_at, is_zero, is_constant}
 use Rattle.spec_linear.specs.Solution.{Constraint, Meets, Point, number, Solves, Fixes, Holds}
 use Rattle.spec_linear.proofs.Points.{holds_same}
-use Rattle.spec_operators.specs.Operators.{Text}
+use Rattle.spec_lists.specs.Texts.{Text}
 use Rattle.spec_terms.specs.Term.{Var, Number, Name, Compound, one, more}
 use Rattle.spec_syntax.specs.Trees.{Tree}
 use Rattle.spec_told.specs.Expressions.{number_of, form_of, has_zero_divisor, is_zero_form}

@@ -5,7 +5,8 @@ use Rattle.spec_rational.specs.Rational.{ℚ, 1ℚ, ◌+ℚ◌, ◌*ℚ◌, neg_
 use Rattle.spec_rational.proofs.Ring.{var, int, ◌⊗◌}
 use Rattle.spec_rational.proofs.Rational.{ring}
 use Rattle.spec_linear.specs.Form.{Linear, value_at, is_zero, constant_form, variable_form, sum_form, scaled_form, negated_form}
-use Rattle.spec_linear.proofs.Values.{nat_same, value_at-constant_form, value_at-variable_form, value_at-sum_form, value_at-scaled_form, value_at-negated_form}
+use Rattle.spec_linear.proofs.Values.{value_at-constant_form, value_at-variable_form, value_at-sum_form, value_at-scaled_form, value_at-negated_form}
+use Rattle.spec_lists.proofs.Tests.{nat_eq-same}
 use Rattle.spec_linear.proofs.Ordered.{forms_same}
 use Rattle.spec_terms.specs.Term.{Var, Number, Name, Compound, one, more}
 use Rattle.spec_syntax.specs.Trees.{Tree}
@@ -130,8 +131,8 @@ module _ (later : ℕ → Option ℚ) where
 
       some : (y : ℚ) → number_of f' ≡ Some y → (b c : Bool) → (n == 0) ≡ b → (n == 1) ≡ c
           → Grows (cond b (Some (constant_form 1ℚ)) (cond c (Some f) None)) (Some (constant_form (power y n)))
-      some y d true c h i = subst (λ (m : ℕ). Grows (Some (constant_form 1ℚ)) (Some (constant_form (power y m)))) (sym (nat_same n 0 h)) (itself (constant_form 1ℚ))
-      some y d false true h i = subst (λ (m : ℕ). Grows (Some f) (Some (constant_form (power y m)))) (sym (nat_same n 1 i)) (first y d)
+      some y d true c h i = subst (λ (m : ℕ). Grows (Some (constant_form 1ℚ)) (Some (constant_form (power y m)))) (sym (nat_eq-same n 0 h)) (itself (constant_form 1ℚ))
+      some y d false true h i = subst (λ (m : ℕ). Grows (Some f) (Some (constant_form (power y m)))) (sym (nat_eq-same n 1 i)) (first y d)
       some y d false false h i = tt
 
       go : (p' : Option ℚ) → number_of f' ≡ p' → Grows (power_of_form f n) (power_form f' p' (Some n))

@@ -5,7 +5,7 @@ use Rattle.std.specs.Cmp.Lexicographic.{bytes_decides}
 use Rattle.spec_rational.specs.Rational.{ℚ, inv_ℚ}
 use Rattle.spec_linear.specs.Form.{Linear, is_zero, is_constant, difference_form, negated_form, scaled_form}
 use Rattle.spec_linear.specs.Solution.{Constraint}
-use Rattle.spec_operators.specs.Operators.{Text}
+use Rattle.spec_lists.specs.Texts.{Text}
 use Rattle.spec_terms.specs.Term.{Var, Number, Name, Compound, one, more}
 use Rattle.spec_syntax.specs.Trees.{Tree}
 use Rattle.spec_told.specs.Expressions.{UnaryName, BinaryName, Over, unary_name, binary_name, unary_of, binary_of, quotient_form, form_of, has_zero_divisor, is_zero_form}

@@ -2,7 +2,7 @@
 use Rattle.std.specs.Prelude.{ℕ, zero, suc, Bool, false, if◌then◌else◌, ◌&&◌, ◌||◌, ◌==◌, ℤ, pos, negsuc, nat_le, codes, bytes_eq, Option, Some, None}
 use Rattle.spec_rational.specs.Rational.{ℚ, 1ℚ, ◌*ℚ◌, inv_ℚ}
 use Rattle.spec_linear.specs.Form.{Linear, is_zero, constant_form, variable_form, sum_form, scaled_form, negated_form, difference_form, is_constant}
-use Rattle.spec_operators.specs.Operators.{Text}
+use Rattle.spec_lists.specs.Texts.{Text}
 use Rattle.spec_arithmetic.specs.Operations.{is_whole, unary_value, least, greatest}
 use Rattle.spec_arithmetic.specs.declared.UnaryOperation.TheVariants as unary
 use Rattle.spec_terms.specs.Term.{Var, Number, Name, Compound, one, more}

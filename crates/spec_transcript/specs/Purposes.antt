@@ -1,6 +1,7 @@
 -- What the clauses of a text are for, and the lines that are written beside answers.
 use Rattle.std.specs.Prelude.{ℕ, ◌++◌, codes, bytes_eq, if◌then◌else◌}
-use Rattle.spec_operators.specs.Operators.{Text, Ops}
+use Rattle.spec_lists.specs.Texts.{Text}
+use Rattle.spec_operators.specs.Operators.{Ops}
 use Rattle.spec_terms.specs.Term.{Compound, one}
 use Rattle.spec_syntax.specs.Trees.{Tree}
 use Rattle.spec_writing.specs.Numbers.{whole_text}

@@ -1,7 +1,8 @@
 -- The transcript: what the texts of some files and of the input write, step by step.
 use Rattle.std.specs.Prelude.{◌≡◌, ◌⊎◌, ℕ, suc, ◌+◌, ◌<◌, List, [], ◌∷◌, ◌++◌, Bool, true, false, Option, Some, None, codes}
 use Rattle.cq_frac.specs.declared.Pair.{Pair}
-use Rattle.spec_operators.specs.Operators.{Text, Ops}
+use Rattle.spec_lists.specs.Texts.{Text}
+use Rattle.spec_operators.specs.Operators.{Ops}
 use Rattle.spec_syntax.specs.TextTokens.{VariableName, Variables}
 use Rattle.spec_syntax.specs.Trees.{Tree}
 use Rattle.spec_reading.specs.Readings.{Reads, Clause, Ended as TextEnds, Syntax}

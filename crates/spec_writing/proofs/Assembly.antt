@@ -3,7 +3,8 @@ use Rattle.std.proofs.Common.{◌≡◌, ℕ, ◌+◌, Bool, true, false, List, 
 use Rattle.std.specs.Prelude.{◌==◌, if◌then◌else◌}
 use Rattle.std.specs.List.{position_or_len}
 use Rattle.std.proofs.lemmas.Bool.Decides.{nat_tests}
-use Rattle.spec_operators.specs.Operators.{Text, Ops}
+use Rattle.spec_lists.specs.Texts.{Text}
+use Rattle.spec_operators.specs.Operators.{Ops}
 use Rattle.spec_terms.specs.Variables.{variables, renamed_from}
 use Rattle.spec_grammar.specs.Tokens.{next_token}
 use Rattle.spec_grammar.proofs.Again.{end_again}

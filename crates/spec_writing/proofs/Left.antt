@@ -3,7 +3,8 @@ use Rattle.std.proofs.Common.{◌≡◌, ℕ, suc, ◌+◌, Bool, true, false, L
 use Rattle.std.specs.Prelude.{⊤, ◌==◌, if◌then◌else◌, ◌≢◌, ◌≤◌}
 use Rattle.std.specs.Char.{is_ascii_digit, is_digit}
 use Rattle.std.specs.Str.{is_utf8, chars}
-use Rattle.spec_operators.specs.Operators.{Text, Ops}
+use Rattle.spec_lists.specs.Texts.{Text}
+use Rattle.spec_operators.specs.Operators.{Ops}
 use Rattle.spec_terms.specs.Term.{Var, apply}
 use Rattle.spec_terms.specs.Variables.{variables, renamed_from}
 use Rattle.spec_grammar.specs.declared.Gap.TheVariants.{Between}

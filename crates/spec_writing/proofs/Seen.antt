@@ -4,7 +4,7 @@ use Rattle.std.specs.Prelude.{ℤ, ◌/◌, ◌%◌, ◌==◌, if◌then◌else�
 use Rattle.std.specs.Fmt.{digits_onto, digit_glyph}
 use Rattle.std.proofs.lemmas.Bool.Decides.{nat_tests}
 use Rattle.spec_rational.specs.Rational.{ℚ}
-use Rattle.spec_operators.specs.Operators.{Text}
+use Rattle.spec_lists.specs.Texts.{Text}
 use Rattle.spec_syntax.specs.Tokens.{Token, Variable, Numeral, Codes, Named, Functor, Minus, Open, Close, OpenList, CloseList, OpenCurly, CloseCurly, Comma, Bar, End}
 use Rattle.spec_syntax.specs.Writing.{needs_quotes}
 use Rattle.spec_writing.specs.Pieces.{Piece, pieces}

@@ -2,7 +2,7 @@
 use Rattle.std.specs.Prelude.{ℕ, suc, ◌==◌, bytes_eq, codes, chars, encode_utf8, Bool, false, not, ◌&&◌, ◌||◌, if◌then◌else◌, List, [], ◌∷◌, ◌++◌, length, Option, Some, None}
 use Rattle.std.specs.Char.{is_ascii_digit, is_control}
 use Rattle.std.specs.Fmt.{digits_onto}
-use Rattle.spec_operators.specs.Operators.{Text}
+use Rattle.spec_lists.specs.Texts.{Text}
 use Rattle.spec_grammar.specs.Characters.{is_symbol, starts_name, continues_name, begins, begins_with, first_char, passes}
 use Rattle.spec_syntax.specs.Tokens.{Token, Variable, Numeral, Codes, Named, Functor, Minus, Open, Close, OpenList, CloseList, OpenCurly, CloseCurly, Comma, Bar, End}
 use Rattle.spec_syntax.specs.Writing.{needs_quotes}

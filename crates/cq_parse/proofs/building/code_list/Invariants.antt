@@ -4,7 +4,7 @@ use Rattle.spec_rational.specs.Rational.{int_ℚ}
 use Rattle.spec_terms.specs.Term.{Number}
 use Rattle.spec_syntax.specs.Trees.{code_list}
 use Rattle.spec_syntax.specs.Machine.{with_elements_before}
-use Rattle.cq_atoms.specs.Texts.{Text}
+use Rattle.spec_lists.specs.Texts.{Text}
 use Rattle.cq_parse.specs.Views.{IsPrefix, tree}
 use Rattle.cq_parse.specs.Known.{AreGrammarNames}
 use Rattle.cq_parse.proofs.building.code_list.Given as goal

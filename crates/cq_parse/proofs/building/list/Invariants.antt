@@ -1,5 +1,5 @@
 use Rattle.std.proofs.Common.{◌≡◌, ◌<◌, ◌≤◌, List, length, All, vec_len}
-use Rattle.cq_atoms.specs.Texts.{Text}
+use Rattle.spec_lists.specs.Texts.{Text}
 use Rattle.spec_syntax.specs.Machine.{with_elements_before}
 use Rattle.cq_parse.specs.Views.{IsPrefix, tree, trees}
 use Rattle.cq_parse.specs.Known.{AreGrammarNames}

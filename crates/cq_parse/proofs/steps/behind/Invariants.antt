@@ -1,5 +1,5 @@
 use Rattle.std.proofs.Common.{◌≡◌, ◌<◌, ◌≤◌, List, length, vec_len}
-use Rattle.cq_atoms.specs.Texts.{Text}
+use Rattle.spec_lists.specs.Texts.{Text}
 use Rattle.cq_ops.specs.Tables.{named}
 use Rattle.spec_syntax.specs.Grammar.{use_of}
 use Rattle.spec_syntax.specs.Machine.{after_operand}
