@@ -2,6 +2,7 @@
 use Rattle.std.specs.Prelude.{ℕ, List}
 use Rattle.spec_queries.specs.declared.Term.{Term}
 use Rattle.spec_queries.specs.declared.SignedTerm.{SignedTerm}
+pub use Rattle.spec_terms.specs.VariableName.{VariableName}
 
 -- one or more terms, each but the first with its sign
 pub record Sum : Type 0 where
@@ -12,11 +13,6 @@ pub record Sum : Type 0 where
 pub record Relation : Type 0 where
   pub left : Sum
   pub right : Sum
-
--- a name, which is not a bare `_`, and the number of its variable
-pub record VariableName : Type 0 where
-  pub name : List ℕ
-  pub number : ℕ
 
 -- the relations, the names in order of first occurrence, and how many variables there are, bare `_` counted:
 -- their numbers are those from 0 on, in the order of the text

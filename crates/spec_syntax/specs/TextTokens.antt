@@ -5,13 +5,9 @@ use Rattle.spec_grammar.specs.declared.Kind.TheVariants as kind
 use Rattle.spec_grammar.specs.Tokens as lexical
 use Rattle.spec_grammar.specs.Tokens.{next_token, opens_directly, digit_directly, bytes_of, quotes_at, meant}
 use Rattle.spec_syntax.specs.Tokens.{Token, Variable, Numeral, Codes, Named, Functor, Minus, Open, Close, OpenList, CloseList, OpenCurly, CloseCurly, Comma, Bar, End}
+pub use Rattle.spec_terms.specs.VariableName.{VariableName}
 
 -- ---- variables
-
--- a variable's name and its number in the clause
-pub record VariableName : Type 0 where
-  pub name : Text
-  pub number : ℕ
 
 -- the variables of a clause so far: those that have names, by first occurrence, and how many there are with the bare `_`
 pub record Variables : Type 0 where

@@ -2,11 +2,13 @@
 //! functions here have empty bodies: each contract is a law, for names of any type.
 #![tactic(auto)]
 
-ghost use Rattle.std.specs.Prelude.{◌≡◌, ◌≢◌, ◌↔◌, ℕ, ◌≤◌, List, length, Contains};
+ghost use Rattle.std.specs.Prelude.{◌≡◌, ◌≢◌, ◌↔◌, ℕ, ◌<◌, ◌≤◌, List, length, Contains};
 ghost use Rattle.std.specs.List.{AllPairs};
+ghost use Rattle.spec_lists.specs.Texts.{Text};
 ghost use Rattle.spec_terms.specs.Term.{Term, Subst, Var, apply, identity, single, followed_by, Occurs, size, named};
 ghost use Rattle.spec_terms.specs.Unifier.{Equation, IsUnifier, HasNoUnifier};
 ghost use Rattle.spec_terms.specs.Variables.{variables, renamed_from, original_from, counted_from};
+ghost use Rattle.spec_terms.specs.Names.{EachName, EachNameInPairs, AreDifferentBelow, named_pairs, named_images};
 
 /// Substitutions compose, and what one makes of a term depends on the images of its variables, and on each of them.
 pub fn substitutions<N>()
@@ -49,7 +51,24 @@ pub fn renamed_terms<N>()
     ensures back { (n : ℕ) (t : Term N) → apply (original_from n (variables t)) (renamed_from n t) ≡ t }
 {}
 
-/// Names may be replaced before or after a substitution.
+/// Names may be replaced before or after a substitution, and other names change neither the variables of a term nor
+/// its copies.
 pub fn replaced_names<M, N>()
-    ensures { (f : M → N) (s : Subst M) (t : Term M) → named f (apply s t) ≡ apply (λ v. named f (s v)) (named f t) }
+    ensures applied { (f : M → N) (s : Subst M) (t : Term M) → named f (apply s t) ≡ apply (named_images f s) (named f t) }
+    ensures variables { (f : M → N) (t : Term M) → variables (named f t) ≡ variables t }
+    ensures renamed { (f : M → N) (n : ℕ) (t : Term M) → named f (renamed_from n t) ≡ renamed_from n (named f t) }
+    ensures no_unifier { (f : M → N) (es : List (Equation M)) → HasNoUnifier (named_pairs f es) → HasNoUnifier es }
+{}
+
+/// Where the first n numbers have different texts, terms whose names are such numbers may be read with their texts:
+/// different terms stay different, a unifier is one of the terms with texts, and where there is none there is none of
+/// those.
+pub fn numbered_names()
+    ensures same { (n : ℕ) (f : ℕ → Text) (t u : Term ℕ) → AreDifferentBelow n f → EachName (λ a. a < n) t
+        → EachName (λ a. a < n) u → named f t ≡ named f u → t ≡ u }
+    ensures unifier { (n : ℕ) (f : ℕ → Text) (es : List (Equation ℕ)) (s : Subst ℕ) → AreDifferentBelow n f
+        → EachNameInPairs (λ a. a < n) es → ((v : ℕ) → EachName (λ a. a < n) (s v)) → IsUnifier es s
+        → IsUnifier (named_pairs f es) (named_images f s) }
+    ensures no_unifier { (n : ℕ) (f : ℕ → Text) (es : List (Equation ℕ)) → AreDifferentBelow n f
+        → EachNameInPairs (λ a. a < n) es → HasNoUnifier es → HasNoUnifier (named_pairs f es) }
 {}
