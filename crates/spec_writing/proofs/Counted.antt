@@ -1,5 +1,5 @@
 -- The names `_1`, `_2` and so on are cut, and are known again by their numbers.
-use Rattle.std.proofs.Common.{◌≡◌, ℕ, zero, suc, ◌+◌, ◌<◌, ◌≤◌, Bool, true, false, List, [], ◌∷◌, ◌++◌, length, Some, Ok, refl, sym, ap, subst, ◌∙◌, arith}
+use Rattle.std.proofs.Common.{◌≡◌, ℕ, zero, suc, ◌+◌, ◌<◌, ◌≤◌, Bool, true, false, List, [], ◌∷◌, ◌++◌, codes, length, Some, None, Ok, refl, sym, ap, subst, ◌∙◌, arith}
 use Rattle.std.specs.Prelude.{◌==◌, if◌then◌else◌, bytes_eq}
 use Rattle.std.specs.Char.{is_digit}
 use Rattle.std.specs.Str.{continuation_len}
@@ -11,13 +11,13 @@ use Rattle.spec_grammar.specs.Quotes.{digits_value}
 use Rattle.spec_grammar.specs.Tokens.{token, token_at}
 use Rattle.spec_grammar.specs.Laws.{AllPass, Continues}
 use Rattle.spec_grammar.proofs.Again.{first_char-ascii, variable_again}
-use Rattle.spec_syntax.specs.TextTokens.{number_of}
+use Rattle.spec_syntax.specs.TextTokens.{number_of, known, with_name}
 use Rattle.spec_writing.specs.Numbers.{whole_text}
 use Rattle.spec_writing.specs.Written.{counted_name}
-use Rattle.spec_writing.specs.ReadingBack.{counted_names}
-use Rattle.spec_writing.proofs.Wholes.{whole_digits, whole_value}
+use Rattle.spec_writing.specs.ReadingBack.{counted_names, counted}
+use Rattle.spec_writing.proofs.Wholes.{IsSome, whole_some, whole_digits, whole_value}
 
-digit_continues : (b : ℕ) → is_digit b 10 ≡ true → (continues_name b ≡ true) × (b < 128) × (continuation_len b ≡ 0)
+pub digit_continues : (b : ℕ) → is_digit b 10 ≡ true → (continues_name b ≡ true) × (b < 128) × (continuation_len b ≡ 0)
 digit_continues b h =
     let lo : b < 58 = grind (arith, nat_tests) in
     let hi : 48 ≤ b = grind (arith, nat_tests) in
@@ -60,3 +60,47 @@ known_again n (suc k) v h g = by (bytes_eq (counted_name v) (counted_name n)) re
         on : (x : Bool) → (n == v) ≡ x → number_of (counted_names (suc n) k) (counted_name v) ≡ Some v
         on false x = let d : (n ≡ v → ⊥) = (λ s. grind (arith, nat_tests)) in r (omega (arith, h, d))
         on true x = let s : n ≡ v = grind (arith, nat_tests) in let z : true ≡ false = sym ((bytes_decides (counted_name v) (counted_name n)).1 (ap counted_name (sym s))) ∙ e in cc
+
+-- ---- the names in turn
+
+-- one name more
+counted-more : (n k : ℕ) → counted_names n (suc k) ≡ counted_names n k ++ record { name = counted_name (n + k); number = n + k } ∷ []
+counted-more n zero = let e : n ≡ n + 0 = omega arith in ap (λ m. record { name = counted_name m; number = m } ∷ []) e
+counted-more n (suc k) =
+    let e : suc n + k ≡ n + suc k = omega arith in
+    ap (λ names. record { name = counted_name n; number = n } ∷ names) (counted-more (suc n) k ∙ ap (λ m. counted_names (suc n) k ++ record { name = counted_name m; number = m } ∷ []) e)
+
+-- no name before it is the next one's
+next_unknown : (n k v : ℕ) → n + k ≤ v → number_of (counted_names n k) (counted_name v) ≡ None
+next_unknown n zero v h = refl
+next_unknown n (suc k) v h = by (bytes_eq (counted_name v) (counted_name n)) refl (next_unknown (suc n) k v (omega arith))
+  where
+    by : (b : Bool) → bytes_eq (counted_name v) (counted_name n) ≡ b → number_of (counted_names (suc n) k) (counted_name v) ≡ None →
+        (if b then Some n else number_of (counted_names (suc n) k) (counted_name v)) ≡ None
+    by true e r = let s : v ≡ n = name_tells v n ((bytes_decides (counted_name v) (counted_name n)).0 e) in absurd (omega (arith, s, h))
+    by false e r = r
+
+no_bare : (v : ℕ) → bytes_eq (counted_name v) (codes "_") ≡ false
+no_bare v = by (bytes_eq (counted_name v) (codes "_")) refl
+  where
+    empty : (w : List ℕ) → IsSome w → 95 ∷ w ≡ 95 ∷ [] → ⊥
+    empty [] some e = elim some [ ]
+    empty (b ∷ bs) some e = let h : b ∷ bs ≡ [] = ap tail_of e in cc
+
+    by : (b : Bool) → bytes_eq (counted_name v) (codes "_") ≡ b → b ≡ false
+    by false e = refl
+    by true e = absurd (empty (whole_text (1 + v)) (whole_some (1 + v)) ((bytes_decides (counted_name v) (codes "_")).0 e))
+
+-- a variable that was written is known by its name
+pub known_number : (k v : ℕ) → v < k → known (counted k) (counted_name v) ≡ Some v
+known_number k v h = rw (no_bare v) (known_again 0 k v (omega arith) (omega arith))
+
+-- the next is not
+pub unknown_number : (k : ℕ) → known (counted k) (counted_name k) ≡ None
+unknown_number k = rw (no_bare k) (next_unknown 0 k k (omega arith))
+
+-- the variables with the next
+pub counted_next : (k : ℕ) → with_name (counted k) (counted_name k) ≡ counted_names 0 (suc k)
+counted_next k =
+    let e : 0 + k ≡ k = omega arith in
+    rw (no_bare k) (sym (counted-more 0 k ∙ ap (λ m. counted_names 0 k ++ record { name = counted_name m; number = m } ∷ []) e))

@@ -18,20 +18,20 @@ use Rattle.spec_writing.specs.Written.{counted_name}
 use Rattle.spec_writing.proofs.Blanks.{drop-before}
 use Rattle.spec_writing.proofs.Names.{StopsName, name_cut}
 use Rattle.spec_writing.proofs.Cuts.{gap_none, name_gap}
-use Rattle.spec_writing.proofs.Left.{IsCut, count_after}
+use Rattle.spec_writing.proofs.Stops.{IsCut, count_after}
 
 take-front : (w more : List ℕ) → take (length w) (w ++ more) ≡ w
 take-front [] more = refl
 take-front (b ∷ w) more = ap (λ bs. b ∷ bs) (take-front w more)
 
 -- the bytes from a place on, so many
-bytes_there : (before w more : List ℕ) (stop : ℕ) → stop ≡ length before + length w → bytes_of (before ++ (w ++ more)) (record { start = length before; end = stop }) ≡ w
+pub bytes_there : (before w more : List ℕ) (stop : ℕ) → stop ≡ length before + length w → bytes_of (before ++ (w ++ more)) (record { start = length before; end = stop }) ≡ w
 bytes_there before w more stop e =
     let z : stop - length before ≡ length w = omega (arith, e) in
     rw (drop-before before (w ++ more), z) (take-front w more)
 
 -- what stands behind them
-behind_there : (before w more : List ℕ) (stop : ℕ) → stop ≡ length before + length w → drop stop (before ++ (w ++ more)) ≡ more
+pub behind_there : (before w more : List ℕ) (stop : ℕ) → stop ≡ length before + length w → drop stop (before ++ (w ++ more)) ≡ more
 behind_there before w more stop e =
     let l : length (before ++ w) ≡ stop = length-append before w ∙ sym e in
     let z : before ++ (w ++ more) ≡ (before ++ w) ++ more = rw append_assoc refl in
@@ -74,7 +74,7 @@ bare_cut before more k tok f text bare stops is counts = record {
   variables = rw counts refl;
 }
 
-bare_text : (f : Text) → needs_quotes f ≡ false → name_text Quoted f ≡ f
+pub bare_text : (f : Text) → needs_quotes f ≡ false → name_text Quoted f ≡ f
 unfolding name_text
 bare_text f bare = rw bare refl
 

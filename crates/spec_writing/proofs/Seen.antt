@@ -1,4 +1,4 @@
--- Each token that is written in quotes leaves a text.
+-- Each token that is written in quotes leaves a text, so no piece is left out.
 use Rattle.std.proofs.Common.{◌≡◌, ℕ, zero, suc, Bool, true, false, List, [], ◌∷◌, ◌++◌, codes, length, refl, ap, arith, pos, negsuc}
 use Rattle.std.specs.Prelude.{ℤ, ◌/◌, ◌%◌, ◌==◌, if◌then◌else◌}
 use Rattle.std.specs.Fmt.{digits_onto, digit_glyph}
@@ -12,33 +12,11 @@ use Rattle.spec_writing.specs.declared.Style.TheVariants.{Quoted}
 use Rattle.spec_writing.specs.Numbers.{whole_text, under_text, number_text}
 use Rattle.spec_writing.specs.Texts.{is_quoted, in_quotes, name_text, token_text, text_of, seen}
 use Rattle.spec_writing.specs.Written.{counted_name}
-use Rattle.spec_writing.proofs.Left.{NothingIsHidden}
-
--- the text is not empty
-abbrev IsSome : Text → Type 0
-IsSome [] = ⊥
-IsSome (b ∷ bs) = Unit {0}
+use Rattle.spec_writing.proofs.Wholes.{IsSome, whole_some}
 
 some_more : (a b : Text) → IsSome a → IsSome (a ++ b)
 some_more [] b h = elim h [ ]
 some_more (x ∷ a) b h = tt
-
-digits_some : (fuel base : ℕ) (upper : Bool) (n : ℕ) (acc : Text) → IsSome acc → IsSome (digits_onto fuel base upper n acc)
-digits_some zero base upper n acc h = h
-digits_some (suc fuel) base upper n acc h = by (n / base == 0) (digits_some fuel base upper (n / base) (digit_glyph upper (n % base) ∷ acc) tt)
-  where
-    by : (b : Bool) → IsSome (digits_onto fuel base upper (n / base) (digit_glyph upper (n % base) ∷ acc)) →
-        IsSome (if b then digit_glyph upper (n % base) ∷ acc else digits_onto fuel base upper (n / base) (digit_glyph upper (n % base) ∷ acc))
-    by true g = tt
-    by false g = g
-
-whole_some : (n : ℕ) → IsSome (whole_text n)
-whole_some n = by (n / 10 == 0) (digits_some n 10 false (n / 10) (digit_glyph false (n % 10) ∷ []) tt)
-  where
-    by : (b : Bool) → IsSome (digits_onto n 10 false (n / 10) (digit_glyph false (n % 10) ∷ [])) →
-        IsSome (if b then digit_glyph false (n % 10) ∷ [] else digits_onto n 10 false (n / 10) (digit_glyph false (n % 10) ∷ []))
-    by true g = tt
-    by false g = g
 
 number_some : (q : ℚ) → IsSome (number_text q)
 number_some q = by q.numerator
@@ -78,9 +56,6 @@ not_empty : (a : Text) → IsSome a → (length a == 0) ≡ false
 not_empty [] h = elim h [ ]
 not_empty (b ∷ bs) h = grind (arith, nat_tests)
 
-all_seen : (ps : List Piece) → seen Quoted counted_name ps ≡ ps
+pub all_seen : (ps : List Piece) → seen Quoted counted_name ps ≡ ps
 all_seen [] = refl
 all_seen (p ∷ ps) = rw (not_empty (text_of Quoted counted_name p) (token_some p.token)) (ap (λ qs. p ∷ qs) (all_seen ps))
-
-pub nothing_hidden : NothingIsHidden
-nothing_hidden ops t = all_seen (pieces ops t)

@@ -3,8 +3,8 @@ use Rattle.std.proofs.Common.{◌≡◌, ℕ, Bool, true, false, not, ◌&&◌, 
 use Rattle.std.specs.Prelude.{◌==◌, bytes_eq, if◌then◌else◌}
 use Rattle.spec_rational.specs.Rational.{ℚ}
 use Rattle.spec_operators.specs.declared.OpDef.{OpDef}
-use Rattle.spec_lists.specs.Texts.{Text}
 use Rattle.spec_operators.specs.Operators.{Ops, right_most}
+use Rattle.spec_lists.specs.Texts.{Text}
 use Rattle.spec_terms.specs.Term.{Terms, Var, Number, Name, Compound, one, more, apply, apply_all}
 use Rattle.spec_syntax.specs.Tokens.{Token, Variable, Numeral, Codes, Named, Functor, Minus, Open, Close, OpenList, CloseList, OpenCurly, CloseCurly, Comma, Bar, End}
 use Rattle.spec_syntax.specs.Trees.{Tree}
@@ -13,8 +13,7 @@ use Rattle.spec_writing.specs.Pieces.{Piece, piece, prefix_piece, infix_piece, t
 use Rattle.spec_writing.specs.Pieces as pc
 use Rattle.spec_writing.specs.declared.Style.TheVariants.{Quoted}
 use Rattle.spec_writing.specs.Texts.{token_text, text_of, is_apart, blank_behind, joined, seen}
-use Rattle.spec_writing.specs.Written.{pieces_within}
-use Rattle.spec_writing.proofs.Left.{NamesAreShown}
+use Rattle.spec_writing.specs.Written.{pieces_within, text_by}
 
 module _ (f : ℕ → ℕ) where
   abbrev ren : Tree → Tree
@@ -238,7 +237,9 @@ module _ (f : ℕ → ℕ) where
     seen_same (p ∷ ps) =
         rw (token_same p.token, seen_same ps) (rens_if ((length (text_of Quoted other p) == 0) && not p.has_blanks) (seen Quoted other ps) (p ∷ seen Quoted other ps))
 
-pub names_shown : NamesAreShown
+-- the text takes no notice of the variables but for their names
+pub names_shown : (ops : Ops) (name other : ℕ → Text) (f : ℕ → ℕ) (m : ℕ) (t : Tree) → ((v : ℕ) → name (f v) ≡ other v) →
+    text_by Quoted ops name m (apply (λ v. Var (f v)) t) ≡ text_by Quoted ops other m t
 names_shown ops name other f m t names =
     ap (λ ps. joined Quoted name (seen Quoted name ps)) (ren_within f ops m t)
     ∙ ap (joined Quoted name) (seen_same f name other names (pieces_within ops m t))

@@ -2,8 +2,8 @@
 use Rattle.std.specs.Prelude.{◌≡◌, ◌≢◌, ◌⊎◌, ◌≤◌, ℕ, zero, suc, ◌+◌, nat_abs, List, [], ◌∷◌, ◌++◌, length, true, false, codes, ⊤}
 use Rattle.std.specs.Str.{is_utf8}
 use Rattle.spec_rational.specs.Rational.{ℚ, denominator}
-use Rattle.spec_lists.specs.Texts.{Text}
 use Rattle.spec_operators.specs.Operators.{Ops, is_operator}
+use Rattle.spec_lists.specs.Texts.{Text}
 use Rattle.spec_terms.specs.Term.{Terms, Var, Number, Name, Compound, one, more}
 use Rattle.spec_terms.specs.Variables.{variables, renamed_from}
 use Rattle.spec_grammar.specs.Numerals.{greatest}

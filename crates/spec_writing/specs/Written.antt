@@ -1,8 +1,8 @@
 -- The text of a term.
 use Rattle.std.specs.Prelude.{ℕ, ◌==◌, nat_le, codes, Bool, true, false, List, [], ◌∷◌, ◌++◌, Option, Some, None, if◌then◌else◌, filter, ◌+◌}
 use Rattle.std.specs.List.{position_or_len}
-use Rattle.spec_lists.specs.Texts.{Text}
 use Rattle.spec_operators.specs.Operators.{Ops}
+use Rattle.spec_lists.specs.Texts.{Text}
 use Rattle.spec_terms.specs.Variables.{variables}
 use Rattle.spec_syntax.specs.Trees.{Tree}
 use Rattle.spec_syntax.specs.TextTokens.{VariableName}
