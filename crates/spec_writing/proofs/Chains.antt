@@ -1,6 +1,6 @@
 -- The pieces of a term follow each other so that each token goes no further than its text.
 use Rattle.std.proofs.Common.{◌≡◌, ℕ, Bool, true, false, not, ◌&&◌, ◌||◌, inl, inr, ◌⊎◌, List, [], ◌∷◌, ◌++◌, codes, Option, Some, None, is_some, refl, sym, ap, subst, ◌∙◌, append_assoc, append-nil}
-use Rattle.std.specs.Prelude.{⊤, if◌then◌else◌, bytes_eq, ◌≢◌}
+use Rattle.std.specs.Prelude.{⊤, if◌then◌else◌, bytes_eq}
 use Rattle.std.specs.Cmp.Lexicographic.{bytes_decides}
 use Rattle.spec_lists.specs.Texts.{Text}
 use Rattle.spec_lists.proofs.Tests.{or_left, or_right}
@@ -13,15 +13,9 @@ use Rattle.spec_syntax.specs.Trees.{Tree}
 use Rattle.spec_syntax.specs.Writing.{IsTable, Place, Alone, InList, is_negative, is_bare_right, is_bare_left, is_bare_argument, is_signed, is_spaced, needs_quotes, name_before, infix_token}
 use Rattle.spec_writing.specs.Pieces.{Piece, piece, prefix_piece, infix_piece, tokens, unless, as_argument, placed, number_pieces, nil_pieces, atom_pieces, name_pieces, functional, prefix_pieces, operand_pieces, unary_pieces, infix_pieces, binary_pieces, pieces, pieces_at, argument_pieces}
 use Rattle.spec_writing.specs.ReadingBack.{NamesAreBare}
-use Rattle.spec_writing.proofs.Touching.{ComesBehind, IsUnbound, IsOpen, IsNumeral, Touch, NameBefore, Precedes}
+use Rattle.spec_writing.proofs.Touching.{ComesBehind, IsUnbound, Precedes, IsLast}
 
 -- ---- chains
-
--- a piece with this token may stand last
-abbrev pub IsLast : Token → Type 0
-IsLast (Functor f) = ⊥
-IsLast Minus = ⊥
-IsLast tok = ⊤
 
 -- the token is a name
 abbrev pub IsNamed : Token → Type 0

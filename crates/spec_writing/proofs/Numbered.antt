@@ -12,11 +12,11 @@ use Rattle.spec_operators.specs.Operators.{Ops, right_most}
 use Rattle.spec_lists.specs.Texts.{Text}
 use Rattle.spec_terms.specs.Term.{Terms, Var, Number, Name, Compound, one, more, apply, apply_all}
 use Rattle.spec_terms.specs.Variables.{with_variable, variables_after, variables_in, variables, renamed_from}
-use Rattle.spec_syntax.specs.Tokens.{Token, Numeral, Variable, Named, Functor, Minus, Open, Close, OpenList, CloseList, OpenCurly, CloseCurly, Comma, Bar}
+use Rattle.spec_syntax.specs.Tokens.{Token, Numeral, Variable, Named, Minus, Open, Close, CloseList, CloseCurly, Comma}
 use Rattle.spec_syntax.specs.Trees.{Tree}
 use Rattle.spec_syntax.specs.Writing.{Place, Alone, InList, is_negative, is_bare_right, is_bare_left, is_bare_argument, is_spaced, needs_quotes, unless, as_argument, placed, number_tokens, nil_tokens, atom_tokens, name_tokens, functional, is_signed, prefix_tokens, operand_tokens, unary_tokens, infix_token, name_before, infix_tokens, binary_tokens, written, written_at, arguments_written}
 use Rattle.spec_writing.specs.ReadingBack.{FitsNumber, CanBeRead, AllCanBeRead}
-use Rattle.spec_writing.proofs.Stops.{IsWritableName, IsWritable, count_after, AllFit}
+use Rattle.spec_writing.proofs.Stops.{IsWritableName, count_after, AllFit}
 
 -- ---- lists of tokens
 

@@ -1,10 +1,10 @@
 -- A number that is not below zero is cut as it is written, and read as the number.
-use Rattle.std.proofs.Common.{◌≡◌, ℕ, zero, suc, ◌+◌, ◌<◌, ◌≤◌, ℤ, pos, negsuc, Bool, true, false, not, ◌&&◌, List, [], ◌∷◌, ◌++◌, codes, length, length-append, append_assoc, append-nil, drop, nat_lt, Some, None, Ok, refl, sym, ap, subst, ◌∙◌, arith}
-use Rattle.std.specs.Prelude.{◌%◌, ◌==◌, ◌||◌, if◌then◌else◌, nat_abs}
+use Rattle.std.proofs.Common.{◌≡◌, ℕ, zero, suc, ◌+◌, ◌<◌, ◌≤◌, ℤ, pos, negsuc, Bool, true, false, List, [], ◌∷◌, ◌++◌, codes, length, length-append, append_assoc, append-nil, drop, nat_lt, Some, None, Ok, refl, sym, ap, subst, ◌∙◌, arith}
+use Rattle.std.specs.Prelude.{◌%◌, ◌==◌, nat_abs}
 use Rattle.std.specs.Char.{is_digit, is_ascii_digit}
 use Rattle.std.proofs.lemmas.Bool.Decides.{nat_tests}
 use Rattle.spec_rational.specs.Gcd.{gcd, gcd_within}
-use Rattle.spec_rational.specs.Rational.{ℚ, ratio, denominator}
+use Rattle.spec_rational.specs.Rational.{ℚ, ratio}
 use Rattle.spec_rational.proofs.Rational.{ratio_back}
 use Rattle.spec_lists.specs.Texts.{Text}
 use Rattle.spec_grammar.specs.declared.Kind.TheVariants as kind
@@ -12,7 +12,7 @@ use Rattle.spec_grammar.specs.declared.Gap.TheVariants.{Between}
 use Rattle.spec_grammar.specs.Characters.{is_layout, begins, begins_with, first_char, passes, continues_name}
 use Rattle.spec_grammar.specs.Gaps.{gap}
 use Rattle.spec_grammar.specs.Quotes.{digits_len, digits_value}
-use Rattle.spec_grammar.specs.Numerals.{greatest, whole, Spelling, is_wide, goes_on_as_fraction, goes_on_as_float, marked, value}
+use Rattle.spec_grammar.specs.Numerals.{greatest, whole, Spelling, is_wide, goes_on_as_fraction, goes_on_as_float, marked}
 use Rattle.spec_grammar.specs.Tokens.{Token, token_at, numeral}
 use Rattle.spec_grammar.specs.Laws.{AllPass}
 use Rattle.spec_grammar.proofs.Again.{first_char-ascii, numeral_again, whole_again, fraction_again}
@@ -104,9 +104,9 @@ whole_cut n more at fits stops = by (whole_text n) refl
         let all : AllPass (λ b. is_digit b 10) (b ∷ bs) = subst (AllPass (λ b. is_digit b 10)) e (whole_digits n) in
         let worth : digits_value 10 (b ∷ bs) ≡ n = ap (digits_value 10) (sym e) ∙ whole_value n in
         let zero_alone : (b ≡ 48 → marked (bs ++ more) ≡ None) = (λ z.
-            let none : n ≡ 0 = whole_zero n (ap (begins_with 48) e ∙ begins_zero b bs z) in
-            let alone : bs ≡ [] = tail_of b bs (ap whole_text (sym none) ∙ e) in
-            ap (λ xs. marked (xs ++ more)) alone ∙ unmarked more stops) in
+        let none : n ≡ 0 = whole_zero n (ap (begins_with 48) e ∙ begins_zero b bs z) in
+        let alone : bs ≡ [] = tail_of b bs (ap whole_text (sym none) ∙ e) in
+        ap (λ xs. marked (xs ++ more)) alone ∙ unmarked more stops) in
         numeral_again b (bs ++ more) at (ascii_digit b all.0) zero_alone
         ∙ ap (λ s. numeral s (b ∷ (bs ++ more)) at) (whole_again (b ∷ bs) more all (no_more_digits more stops) (no_fraction more stops) ∙ ap (λ v. whole v (length (b ∷ bs))) worth)
         ∙ spelled n 1 (length (b ∷ bs)) (b ∷ (bs ++ more)) more at fits (omega arith) (omega arith) (drop-before (b ∷ bs) more) stops.float
@@ -134,10 +134,10 @@ fraction_cut n d more at over under some below stops = by (whole_text n) refl
         let all : AllPass (λ b. is_digit b 10) (b ∷ bs) = subst (AllPass (λ b. is_digit b 10)) e (whole_digits n) in
         let worth : digits_value 10 (b ∷ bs) ≡ n = ap (digits_value 10) (sym e) ∙ whole_value n in
         let not_zero : (b ≡ 48 → marked (bs ++ (114 ∷ (whole_text d ++ more))) ≡ None) = (λ z.
-            let none : n ≡ 0 = whole_zero n (ap (begins_with 48) e ∙ begins_zero b bs z) in absurd (omega (arith, none, some))) in
+        let none : n ≡ 0 = whole_zero n (ap (begins_with 48) e ∙ begins_zero b bs z) in absurd (omega (arith, none, some))) in
         let spelling = fraction_again (b ∷ bs) (whole_text d) more all (whole_digits d) (begins_digit (whole_text d) more (whole_some d) (whole_digits d)) (no_more_digits more stops) in
         let parts : record { over = digits_value 10 (b ∷ bs); under = digits_value 10 (whole_text d); size = length (b ∷ bs) + 1 + length (whole_text d) }
-            ≡ (let s : Spelling = record { over = n; under = d; size = length (b ∷ bs) + 1 + length (whole_text d) } in s) = rw (worth, whole_value d) refl in
+        ≡ (let s : Spelling = record { over = n; under = d; size = length (b ∷ bs) + 1 + length (whole_text d) } in s) = rw (worth, whole_value d) refl in
         numeral_again b (bs ++ (114 ∷ (whole_text d ++ more))) at (ascii_digit b all.0) not_zero
         ∙ ap (λ s. numeral s (b ∷ (bs ++ (114 ∷ (whole_text d ++ more)))) at) (spelling ∙ parts)
         ∙ spelled n d (length (b ∷ bs) + 1 + length (whole_text d)) (b ∷ (bs ++ (114 ∷ (whole_text d ++ more)))) more at over under below (size_is (b ∷ bs)) stops.float

@@ -1,6 +1,6 @@
 -- A name in quotes is cut as it is written, and means the name again.
-use Rattle.std.proofs.Common.{◌≡◌, ℕ, suc, ◌+◌, ◌<◌, ◌≤◌, Bool, true, false, ◌&&◌, List, [], ◌∷◌, ◌++◌, codes, length, length-append, append_assoc, append-nil, take, nat_lt, slice_get, Some, None, Ok, refl, sym, ap, subst, ◌∙◌, arith}
-use Rattle.std.specs.Prelude.{◌/◌, ◌%◌, ◌==◌, ◌||◌, if◌then◌else◌, encode_utf8}
+use Rattle.std.proofs.Common.{◌≡◌, ℕ, suc, ◌+◌, ◌<◌, ◌≤◌, Bool, true, false, ◌&&◌, List, [], ◌∷◌, ◌++◌, codes, length, length-append, append_assoc, append-nil, take, nat_lt, Some, Ok, refl, sym, ap, subst, ◌∙◌, arith}
+use Rattle.std.specs.Prelude.{◌/◌, ◌%◌, ◌==◌, if◌then◌else◌, encode_utf8}
 use Rattle.std.specs.Char.{is_control}
 use Rattle.std.specs.Str.{chars, is_utf8, continuation_len, all_scalars, encode_utf8_all}
 use Rattle.std.specs.Fmt.{digits_onto}
@@ -9,7 +9,7 @@ use Rattle.std.proofs.lemmas.Str.{IsUtf8-encode, encode_ascii, chars-encodes, en
 use lib.Utf8.{scalar, encode}
 use Rattle.spec_lists.specs.Texts.{Text}
 use Rattle.spec_grammar.specs.Characters.{first_char, begins_with}
-use Rattle.spec_grammar.specs.Quotes.{digits_value, is_scalar, letter, quoted, in_front}
+use Rattle.spec_grammar.specs.Quotes.{digits_value, is_scalar, quoted, in_front}
 use Rattle.spec_grammar.proofs.Again.{character_again, letter_again, hexadecimal_again, closing_again}
 use Rattle.spec_writing.specs.Texts.{escaped, all_escaped}
 use Rattle.spec_writing.proofs.Wholes.{IsSome, number_some, hexadecimal_digits, hexadecimal_value}

@@ -1,13 +1,12 @@
 -- Each token that is written in quotes leaves a text, so no piece is left out.
-use Rattle.std.proofs.Common.{◌≡◌, ℕ, zero, suc, Bool, true, false, List, [], ◌∷◌, ◌++◌, codes, length, refl, ap, arith, pos, negsuc}
-use Rattle.std.specs.Prelude.{ℤ, ◌/◌, ◌%◌, ◌==◌, if◌then◌else◌}
-use Rattle.std.specs.Fmt.{digits_onto, digit_glyph}
+use Rattle.std.proofs.Common.{◌≡◌, suc, Bool, true, false, List, [], ◌∷◌, ◌++◌, codes, length, refl, ap, arith, pos, negsuc}
+use Rattle.std.specs.Prelude.{ℤ, ◌==◌, if◌then◌else◌}
 use Rattle.std.proofs.lemmas.Bool.Decides.{nat_tests}
 use Rattle.spec_rational.specs.Rational.{ℚ}
 use Rattle.spec_lists.specs.Texts.{Text}
 use Rattle.spec_syntax.specs.Tokens.{Token, Variable, Numeral, Codes, Named, Functor, Minus, Open, Close, OpenList, CloseList, OpenCurly, CloseCurly, Comma, Bar, End}
 use Rattle.spec_syntax.specs.Writing.{needs_quotes}
-use Rattle.spec_writing.specs.Pieces.{Piece, pieces}
+use Rattle.spec_writing.specs.Pieces.{Piece}
 use Rattle.spec_writing.specs.declared.Style.TheVariants.{Quoted}
 use Rattle.spec_writing.specs.Numbers.{whole_text, under_text, number_text}
 use Rattle.spec_writing.specs.Texts.{is_quoted, in_quotes, name_text, token_text, text_of, seen}

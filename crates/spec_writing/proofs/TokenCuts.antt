@@ -1,5 +1,5 @@
 -- Each token that can be written is cut from its text, where what follows does not go on with it.
-use Rattle.std.proofs.Common.{◌≡◌, ℕ, suc, ◌+◌, ◌≤◌, ◌<◌, Bool, true, false, not, ◌&&◌, List, [], ◌∷◌, ◌++◌, codes, length, length-append, append_assoc, drop, Option, Some, None, Ok, refl, sym, ap, subst, ◌∙◌, arith}
+use Rattle.std.proofs.Common.{◌≡◌, ℕ, suc, ◌+◌, ◌≤◌, ◌<◌, Bool, true, false, List, [], ◌∷◌, ◌++◌, codes, length, length-append, append_assoc, Some, None, Ok, refl, sym, ap, ◌∙◌, arith}
 use Rattle.std.specs.Prelude.{◌==◌, if◌then◌else◌, ◌≢◌, bytes_eq, unwrap_or}
 use Rattle.std.specs.Cmp.Lexicographic.{bytes_decides}
 use Rattle.std.specs.Str.{is_utf8, chars}
@@ -9,7 +9,7 @@ use Rattle.spec_lists.specs.Texts.{Text}
 use Rattle.spec_grammar.specs.declared.Kind.TheVariants as kind
 use Rattle.spec_grammar.specs.Characters.{begins_with}
 use Rattle.spec_grammar.specs.Quotes.{quoted}
-use Rattle.spec_grammar.specs.Tokens.{token, token_at, bytes_of, in_quotes, quotes_at, meant}
+use Rattle.spec_grammar.specs.Tokens.{token, token_at, in_quotes, meant}
 use Rattle.spec_grammar.proofs.Again.{opening_again}
 use Rattle.spec_syntax.specs.Tokens.{Token, Variable, Numeral, Codes, Named, Functor, Minus, Open, Close, OpenList, CloseList, OpenCurly, CloseCurly, Comma, Bar, End}
 use Rattle.spec_syntax.specs.TextTokens.{Variables, known, next_number, with_name, with_variable}
@@ -112,7 +112,7 @@ quoted_is_cut before more k tok f text valid apart is counts = record {
   token = rw text (quoted_token f more (length before) valid apart);
   stop = rw text refl;
   seen = rw (text, drop-before before (texts.in_quotes 39 f ++ more), behind_there before (texts.in_quotes 39 f) more (length before + length (texts.in_quotes 39 f)) refl)
-    (ap (λ r. Some (if begins_with 40 more then Functor (meant r) else Named (meant r) true)) (quotes_there f more (length before) valid apart) ∙ ap Some is);
+      (ap (λ r. Some (if begins_with 40 more then Functor (meant r) else Named (meant r) true)) (quotes_there f more (length before) valid apart) ∙ ap Some is);
   variables = rw counts refl;
 }
 

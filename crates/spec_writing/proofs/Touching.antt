@@ -1,5 +1,5 @@
 -- Neighbouring pieces of a term stop each other's tokens, with a blank between them or without.
-use Rattle.std.proofs.Common.{◌≡◌, ℕ, Bool, true, false, not, ◌&&◌, ◌||◌, ◌⊎◌, inl, inr, ◌<◌, List, [], ◌∷◌, ◌++◌, codes, Option, refl, sym, ap, subst, ◌∙◌, arith}
+use Rattle.std.proofs.Common.{◌≡◌, Bool, true, false, ◌&&◌, ◌||◌, ◌⊎◌, inl, inr, ◌<◌, [], ◌∷◌, ◌++◌, codes, refl, sym, ap, subst, ◌∙◌, arith}
 use Rattle.std.specs.Prelude.{⊤, ◌==◌, if◌then◌else◌, ◌≢◌, bytes_eq}
 use Rattle.std.specs.Cmp.Lexicographic.{bytes_decides}
 use Rattle.std.specs.Char.{is_ascii_digit}
@@ -7,7 +7,7 @@ use Rattle.std.specs.Str.{chars}
 use Rattle.std.proofs.lemmas.Bool.Decides.{nat_tests}
 use Rattle.spec_rational.specs.Rational.{ℚ}
 use Rattle.spec_lists.specs.Texts.{Text}
-use Rattle.spec_grammar.specs.Characters.{is_symbol, starts_name, continues_name, begins, begins_with, first_char, passes}
+use Rattle.spec_grammar.specs.Characters.{is_symbol, continues_name, begins, begins_with, first_char, passes}
 use Rattle.spec_grammar.specs.Numerals.{goes_on_as_float}
 use Rattle.spec_grammar.proofs.Again.{first_char-ascii}
 use Rattle.spec_syntax.specs.Tokens.{Token, Variable, Numeral, Codes, Named, Functor, Minus, Open, Close, OpenList, CloseList, OpenCurly, CloseCurly, Comma, Bar, End}
@@ -20,7 +20,7 @@ use Rattle.spec_writing.specs.Written.{counted_name}
 use Rattle.spec_writing.proofs.Names.{StopsName}
 use Rattle.spec_writing.proofs.Marks.{bare_text}
 use Rattle.spec_writing.proofs.Numerals.{StopsNumeral, number_begins}
-use Rattle.spec_writing.proofs.Edges.{false_true, IsWhole, first_char-behind, begins-behind, BareFront, bare_front, NameFront, name_front, text_whole, variable_ends, numeral_ends, letters_last, symbols_last, no_symbol_first}
+use Rattle.spec_writing.proofs.Edges.{false_true, IsWhole, first_char-behind, begins-behind, bare_front, name_front, text_whole, variable_ends, numeral_ends, letters_last, symbols_last, no_symbol_first}
 use Rattle.spec_writing.proofs.Stops.{StopsNamed, GoesNoFurther, IsWritableName, IsWritable}
 
 -- ---- what may stand before what
@@ -154,23 +154,48 @@ unbound_digit f End w h e = elim w [ ]
 
 -- ---- a blank between
 
-stops_at_blank : (tok : Token) (p q : Piece) (any : Text) → p.token ≡ tok → IsWritable tok → Precedes tok p q → (IsOpen q.token × Touch p q → ⊥) → (p.token ≡ Minus → IsNumeral q.token × Touch p q → ⊥) → GoesNoFurther tok (32 ∷ any)
+-- a token that a blank may follow
+abbrev pub IsLast : Token → Type 0
+IsLast (Functor f) = ⊥
+IsLast Minus = ⊥
+IsLast tok = ⊤
+
+-- a blank stops it
+pub stops_at_blank : (tok : Token) (any : Text) → IsLast tok → GoesNoFurther tok (32 ∷ any)
 unfolding first_char
-stops_at_blank (Variable v) p q any e w h o n = refl
-stops_at_blank (Numeral x) p q any e w h o n = record { letters = refl; quote = refl; float = refl }
-stops_at_blank (Codes bytes) p q any e w h o n = tt
-stops_at_blank (Named f quoted) p q any e w h o n = record { apart = λ a. refl; closed = refl; no_digit = λ a. refl; goes = λ a. record { symbols = λ s. refl; letters = λ s. refl } }
-stops_at_blank (Functor f) p q any e w h o n = absurd (o h)
-stops_at_blank Minus p q any e w h o n = absurd (n e h)
-stops_at_blank Open p q any e w h o n = tt
-stops_at_blank Close p q any e w h o n = tt
-stops_at_blank OpenList p q any e w h o n = tt
-stops_at_blank CloseList p q any e w h o n = tt
-stops_at_blank OpenCurly p q any e w h o n = tt
-stops_at_blank CloseCurly p q any e w h o n = tt
-stops_at_blank Comma p q any e w h o n = tt
-stops_at_blank Bar p q any e w h o n = tt
-stops_at_blank End p q any e w h o n = tt
+stops_at_blank (Variable v) any h = refl
+stops_at_blank (Numeral n) any h = record { letters = refl; quote = refl; float = refl }
+stops_at_blank (Codes bytes) any h = tt
+stops_at_blank (Named f quoted) any h = record { apart = λ a. refl; closed = refl; no_digit = λ a. refl; goes = λ a. record { symbols = λ s. refl; letters = λ s. refl } }
+stops_at_blank (Functor f) any h = elim h [ ]
+stops_at_blank Minus any h = elim h [ ]
+stops_at_blank Open any h = tt
+stops_at_blank Close any h = tt
+stops_at_blank OpenList any h = tt
+stops_at_blank CloseList any h = tt
+stops_at_blank OpenCurly any h = tt
+stops_at_blank CloseCurly any h = tt
+stops_at_blank Comma any h = tt
+stops_at_blank Bar any h = tt
+stops_at_blank End any h = tt
+
+-- a token that stands before a piece with a blank between, since neither a functor nor a sign does
+last_by : (tok : Token) (p q : Piece) → p.token ≡ tok → Precedes tok p q → (IsOpen q.token × Touch p q → ⊥) → (p.token ≡ Minus → IsNumeral q.token × Touch p q → ⊥) → IsLast tok
+last_by (Functor f) p q e h o n = o h
+last_by Minus p q e h o n = n e h
+last_by (Variable v) p q e h o n = tt
+last_by (Numeral x) p q e h o n = tt
+last_by (Codes bytes) p q e h o n = tt
+last_by (Named f quoted) p q e h o n = tt
+last_by Open p q e h o n = tt
+last_by Close p q e h o n = tt
+last_by OpenList p q e h o n = tt
+last_by CloseList p q e h o n = tt
+last_by OpenCurly p q e h o n = tt
+last_by CloseCurly p q e h o n = tt
+last_by Comma p q e h o n = tt
+last_by Bar p q e h o n = tt
+last_by End p q e h o n = tt
 
 -- ---- no blank between
 
@@ -373,6 +398,6 @@ stops_before p q any wp wq h = by (is_apart Quoted counted_name p q) refl
   where
     by : (x : Bool) → is_apart Quoted counted_name p q ≡ x → GoesNoFurther p.token ((if x then codes " " else []) ++ (text_of Quoted counted_name q ++ any))
     by true e =
-        stops_at_blank p.token p q (text_of Quoted counted_name q ++ any) refl wp h
-        (λ o. false_true (sym (open_touches p q o) ∙ e)) (λ m n. false_true (sym (minus_touches p q wq m n) ∙ e))
+        stops_at_blank p.token (text_of Quoted counted_name q ++ any)
+        (last_by p.token p q refl h (λ o. false_true (sym (open_touches p q o) ∙ e)) (λ m n. false_true (sym (minus_touches p q wq m n) ∙ e)))
     by false e = stops_touching p.token p q any refl wp wq h (not_apart p q e)

@@ -8,11 +8,11 @@ ghost use Rattle.spec_operators.specs.Operators.{Ops};
 ghost use Rattle.spec_operators.specs.Standard.{standard};
 ghost use Rattle.spec_terms.specs.Term.{Compound, Name, Number, Var, more, one};
 ghost use Rattle.spec_syntax.specs.Trees.{Tree, unary, binary, nil, cell};
-ghost use Rattle.spec_syntax.specs.Writing.{written};
+ghost use Rattle.spec_syntax.specs.Writing.{IsTable, written};
 ghost use Rattle.spec_syntax.specs.Examples.{number, negative};
 ghost use Rattle.spec_writing.specs.Pieces.{pieces, tokens};
 ghost use Rattle.spec_writing.specs.Written.{write, writeq};
-ghost use Rattle.spec_writing.specs.ReadingBack.{ReadsBack};
+ghost use Rattle.spec_writing.specs.ReadingBack.{NamesAreBare, CanBeRead, ReadsBack};
 
 /// How names are written.
 #[derive(Clone, Copy, Debug, PartialEq, Eq)]
@@ -26,6 +26,12 @@ pub enum Style {
 /// The tokens of a term's pieces are the tokens that are written of it.
 pub fn pieces_have_the_tokens()
     ensures { (ops : Ops) (t : Tree) → tokens (pieces ops t) ≡ written ops t }
+{}
+
+/// The text that `writeq` writes of a term, followed by ` .` and a line feed, reads as the term, but for the names of its
+/// variables, whatever the operators are whose names need no quotes.
+pub fn what_is_written_reads_back()
+    ensures { (ops : Ops) (t : Tree) → IsTable ops → NamesAreBare ops → CanBeRead t → ReadsBack ops t }
 {}
 
 /// Terms as `writeq` writes them: operators and their operands.
