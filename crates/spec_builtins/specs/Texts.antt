@@ -8,7 +8,7 @@ use Rattle.spec_grammar.specs.Characters.{is_layout, begins_with}
 use Rattle.spec_grammar.specs.Tokens as lexical
 use Rattle.spec_grammar.specs.Tokens.{token_at}
 use Rattle.spec_lists.specs.Texts.{Text}
-use Rattle.spec_answers.specs.Text.{number_text}
+use Rattle.spec_writing.specs.Numbers.{number_text}
 use Rattle.spec_terms.specs.Term.{Number, Name}
 use Rattle.spec_terms.specs.Variables.{counted_from}
 use Rattle.spec_terms.specs.Unifier.{Equation}

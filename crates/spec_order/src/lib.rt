@@ -2,12 +2,13 @@
 //! functions here have empty bodies: each contract is a law.
 #![tactic(auto)]
 
-ghost use Rattle.std.specs.Prelude.{◌≡◌, ◌↔◌, ℕ};
+ghost use Rattle.std.specs.Prelude.{◌≡◌, ◌↔◌, ℕ, ◌<◌};
 ghost use Rattle.std.specs.Cmp.{IsTotalOrder};
 ghost use Rattle.std.specs.declared.cmp.Ordering.TheVariants.{Less, Equal};
 ghost use Rattle.spec_rational.specs.Rational.{ℚ};
-ghost use Rattle.spec_terms.specs.Term.{Term, Terms, Var, Number, Name, Compound};
+ghost use Rattle.spec_terms.specs.Term.{Term, Terms, Var, Number, Name, Compound, named};
 ghost use Rattle.spec_terms.specs.Variables.{renamed_from};
+ghost use Rattle.spec_terms.specs.Names.{EachName, AreDifferentBelow};
 ghost use Rattle.spec_lists.specs.Texts.{Text};
 ghost use Rattle.spec_order.specs.Order.{compare_terms};
 ghost use Rattle.spec_order.specs.Variants.{AreVariants};
@@ -25,4 +26,11 @@ pub fn variants<N>()
     ensures itself { (t : Term N) → AreVariants t t }
     ensures turned { (t u : Term N) → AreVariants t u → AreVariants u t }
     ensures chained { (t u w : Term N) → AreVariants t u → AreVariants u w → AreVariants t w }
+{}
+
+/// Terms whose names are numbers with different texts are variants exactly where they are so with their texts.
+pub fn variants_by_names()
+    ensures named { (f : ℕ → Text) (t u : Term ℕ) → AreVariants t u → AreVariants (named f t) (named f u) }
+    ensures back { (n : ℕ) (f : ℕ → Text) (t u : Term ℕ) → AreDifferentBelow n f → EachName (λ a. a < n) t
+        → EachName (λ a. a < n) u → AreVariants (named f t) (named f u) → AreVariants t u }
 {}

@@ -1,0 +1,8 @@
+use Rattle.std.proofs.Common.{refl}
+use Rattle.spec_rational.specs.Rational.{int_ℚ, ratio}
+use Rattle.spec_rational.specs.Gcd.{gcd}
+use Rattle.spec_builtins.proofs.goals_on_terms.Goals as goal
+
+pub returns : goal.returns
+unfolding int_ℚ ratio gcd
+returns c = record { built = refl; atom = refl; number = refl; known = refl; argument = refl; no_argument = refl; argument_0 = refl; taken_apart = refl; put_together = refl; before = refl; after = refl }

@@ -1,0 +1,35 @@
+-- Small constraints and fixed values to try the definitions on.
+use Prim.Native.String.{String}
+use Rattle.std.specs.Prelude.{ℕ, pos, if◌then◌else◌, ◌==◌, codes, Option, Some, None}
+use Rattle.spec_rational.specs.Rational.{ℚ, int_ℚ, ratio}
+use Rattle.spec_terms.specs.Term.{Var, Number}
+use Rattle.spec_syntax.specs.Trees.{Tree, unary, binary}
+
+abbrev pub X : Tree
+X = Var 0
+
+abbrev pub Y : Tree
+Y = Var 1
+
+abbrev pub Z : Tree
+Z = Var 2
+
+-- a half
+abbrev pub half : Tree
+half = Number (ratio (pos 1) 2)
+
+-- a name with two arguments
+abbrev pub between : String → Tree → Tree → Tree
+between s t u = binary (codes s) t u
+
+-- a name with one argument
+abbrev pub of : String → Tree → Tree
+of s t = unary (codes s) t
+
+-- no variable has a fixed value
+abbrev pub none_fixed : ℕ → Option ℚ
+none_fixed x = None
+
+-- Y is 2
+abbrev pub two_fixed : ℕ → Option ℚ
+two_fixed x = if x == 1 then Some (int_ℚ (pos 2)) else None
