@@ -1,0 +1,4 @@
+pub mod Unify
+pub mod Read
+pub mod Settled
+pub mod Walk

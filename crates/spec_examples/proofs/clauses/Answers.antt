@@ -1,0 +1,29 @@
+use Rattle.std.proofs.Common.{[], codes, refl}
+use Rattle.std.specs.Char.{encode_utf8}
+use Rattle.std.specs.Str.{chars, is_utf8}
+use Rattle.spec_rational.specs.Gcd.{gcd}
+use Rattle.spec_rational.specs.Rational.{ratio, int_ℚ, neg_ℚ, inv_ℚ, ◌+ℚ◌, ◌*ℚ◌}
+use Rattle.spec_grammar.specs.Characters.{first_char}
+use Rattle.spec_syntax.specs.Grammar.{use_of, begins_term}
+use Rattle.spec_syntax.specs.Writing.{is_bare_right, is_bare_left, is_bare_argument, needs_quotes, is_spaced, infix_token}
+use Rattle.spec_writing.specs.Pieces.{pieces_at, argument_pieces}
+use Rattle.spec_writing.specs.Texts.{name_text, is_apart}
+use Rattle.spec_examples.specs.Rows.{answers, goals, some_goals, no_files, file, one_name}
+use Rattle.spec_examples.proofs.Walk.{derived}
+use Rattle.spec_examples.proofs.clauses.Goals as goal
+
+pub returns-clause-cut : goal.returns-clause-cut
+unfolding encode_utf8 chars is_utf8 first_char use_of begins_term ratio int_ℚ neg_ℚ inv_ℚ gcd ◌+ℚ◌ ◌*ℚ◌ is_bare_right is_bare_left is_bare_argument needs_quotes is_spaced infix_token pieces_at argument_pieces name_text is_apart
+returns-clause-cut c = derived some_goals (file (codes "q(1). q(2). r(X) :- q(X), !.")) (codes "?- r(X).") one_name refl refl
+
+pub returns-clause-opaque : goal.returns-clause-opaque
+unfolding encode_utf8 chars is_utf8 first_char use_of begins_term ratio int_ℚ neg_ℚ inv_ℚ gcd ◌+ℚ◌ ◌*ℚ◌ is_bare_right is_bare_left is_bare_argument needs_quotes is_spaced infix_token pieces_at argument_pieces name_text is_apart
+returns-clause-opaque c = derived some_goals (file (codes "p(1). p(2).")) (codes "?- call((p(X),!)), p(Y).") one_name refl refl
+
+pub returns-clause-snapshot : goal.returns-clause-snapshot
+unfolding encode_utf8 chars is_utf8 first_char use_of begins_term ratio int_ℚ neg_ℚ inv_ℚ gcd ◌+ℚ◌ ◌*ℚ◌ is_bare_right is_bare_left is_bare_argument needs_quotes is_spaced infix_token pieces_at argument_pieces name_text is_apart
+returns-clause-snapshot c = derived some_goals (file (codes ":- dynamic p/1. p(1).")) (codes "?- p(X), Y is X+1, assertz(p(Y)). ?- p(X).") one_name refl refl
+
+pub returns-clause-changed : goal.returns-clause-changed
+unfolding encode_utf8 chars is_utf8 first_char use_of begins_term ratio int_ℚ neg_ℚ inv_ℚ gcd ◌+ℚ◌ ◌*ℚ◌ is_bare_right is_bare_left is_bare_argument needs_quotes is_spaced infix_token pieces_at argument_pieces name_text is_apart
+returns-clause-changed c = derived some_goals (file (codes ":- dynamic q/1. q(1). q(2).")) (codes "?- retract(q(X)), assertz(q(9)), fail. ?- findall(X,q(X),L).") one_name refl refl

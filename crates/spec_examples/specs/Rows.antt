@@ -1,0 +1,61 @@
+-- What commands write: with a hundred goals and ten answers to each query, where nothing else is said.
+use Rattle.std.specs.Prelude.{ℕ, List, [], ◌∷◌, codes, true, false, Option, Some, None}
+use Rattle.spec_operators.specs.Operators.{Text}
+use Rattle.spec_stops.specs.Causes.{Budgets}
+use Rattle.spec_transcript.specs.Session.{Marks, Transcript}
+
+abbrev pub some_goals : Budgets
+some_goals = record { steps = 100; pivots = 10; answers = 10; rows = 10 }
+
+abbrev pub goals : ℕ → Budgets
+goals n = record some_goals { steps = n }
+
+abbrev pub answers : ℕ → Budgets
+answers n = record some_goals { answers = n }
+
+-- no error line, and no stop
+abbrev pub lawful : Marks
+lawful = record { faulty = false; stopped = false }
+
+abbrev pub with_error : Marks
+with_error = record { faulty = true; stopped = false }
+
+abbrev pub with_stop : Marks
+with_stop = record { faulty = false; stopped = true }
+
+-- no file is named, and none is there
+abbrev pub no_files : Text → Option (List ℕ)
+no_files name = None
+
+-- one file
+abbrev pub file : Text → Text → Option (List ℕ)
+file bytes name = Some bytes
+
+abbrev pub one_name : List Text
+one_name = codes "p.pl" ∷ []
+
+-- the input writes this text, without an error line or a stop
+abbrev pub Writes : Text → Text → Type 0
+Writes input text = Transcript some_goals no_files input [] text lawful
+
+-- the same with an error line
+abbrev pub WritesError : Text → Text → Type 0
+WritesError input text = Transcript some_goals no_files input [] text with_error
+
+-- the same with a stop
+abbrev pub WritesStop : Text → Text → Type 0
+WritesStop input text = Transcript some_goals no_files input [] text with_stop
+
+-- with these budgets
+abbrev pub WritesWithin : Budgets → Text → Text → Type 0
+WritesWithin budgets input text = Transcript budgets no_files input [] text lawful
+
+abbrev pub StopsWithin : Budgets → Text → Text → Type 0
+StopsWithin budgets input text = Transcript budgets no_files input [] text with_stop
+
+-- behind a file
+abbrev pub WritesAfter : Text → Text → Text → Type 0
+WritesAfter bytes input text = Transcript some_goals (file bytes) input one_name text lawful
+
+abbrev pub StopsAfter : Text → Text → Text → Type 0
+StopsAfter bytes input text = Transcript some_goals (file bytes) input one_name text with_stop
