@@ -3,10 +3,6 @@ use Rattle.std.specs.Prelude.{ℕ, zero, suc, pos, negsuc, false, [], ◌++◌, 
 use Rattle.std.specs.Fmt.{digits_onto}
 use Rattle.spec_rational.specs.Rational.{ℚ}
 use Rattle.spec_lists.specs.Texts.{Text}
-use Rattle.spec_lists.specs.Texts.{Text}
-use Rattle.spec_lists.specs.Texts.{Text}
-use Rattle.spec_lists.specs.Texts.{Text}
-use Rattle.spec_lists.specs.Texts.{Text}
 
 -- the decimal digits of a number of any length
 abbrev pub whole_text : ℕ → Text

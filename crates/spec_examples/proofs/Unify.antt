@@ -7,7 +7,7 @@ use Rattle.std.proofs.lemmas.Bool.Decides.{Decides-eqb, Decides-ltb, Decides-int
 use Rattle.std.proofs.lemmas.Slice.Eq.{bytes_eq-Decides}
 use Rattle.spec_rational.specs.Rational.{ℚ}
 use Rattle.spec_rational.proofs.Rational.{ℚ_same}
-use Rattle.spec_operators.specs.Operators.{Text}
+use Rattle.spec_lists.specs.Texts.{Text}
 use Rattle.spec_terms.specs.Term.{Term, Terms, Subst, Var, Number, Name, Compound, one, more, apply, apply_all, identity, single, followed_by, Occurs, OccursIn}
 use Rattle.spec_terms.specs.Unifier.{Equation, Equates, IsUnifier, HasNoUnifier, read_under}
 use Rattle.spec_terms.proofs.Substitution.{apply-followed_by, apply-single_absent, apply-single_instance, single_same, single_other, occurs_clash}

@@ -4,7 +4,7 @@ use Rattle.std.specs.Prelude.{nat_lt, length, map}
 use Rattle.std.proofs.lemmas.Bool.Decides.{Decides-eqb, Decides-ltb}
 use Rattle.cq_frac.specs.declared.Pair.{Pair}
 use Rattle.spec_linear.specs.Solution.{Constraint}
-use Rattle.spec_operators.specs.Operators.{Text}
+use Rattle.spec_lists.specs.Texts.{Text}
 use Rattle.spec_syntax.specs.TextTokens.{VariableName, Variables}
 use Rattle.spec_syntax.specs.Trees.{Tree}
 use Rattle.spec_reading.specs.Readings.{Read, Clause, Ended as TextEnds, Syntax, Reads}
