@@ -1,21 +1,43 @@
 -- A heap that grows keeps what the frames mean.
 use Rattle.std.proofs.lemmas.Bool.Decides.{nat_tests}
-use Rattle.std.proofs.Common.{◌≡◌, nat_le, true, ℕ, ◌<◌, ◌≤◌, List, [], ◌∷◌, ◌++◌, map, length, refl, ap, subst, ◌∙◌, arith, append_assoc, length-append}
-use Rattle.std.specs.Prelude.{All, reverse}
-use Rattle.std.proofs.lemmas.List.{reverse-append, map-append, get_or_append_left}
+use Rattle.std.proofs.Common.{◌≡◌, nat_le, true, ℕ, ◌<◌, ◌≤◌, List, [], ◌∷◌, ◌++◌, map, length, refl, sym, ap, subst, ◌∙◌, arith, append_assoc, length-append}
+use Rattle.std.specs.Prelude.{All, reverse, Result, Ok, Err, OnOk, OnErr}
+use Rattle.std.specs.declared.alloc.AllocError.{AllocError}
+use Rattle.std.proofs.lemmas.List.{append-nil, reverse-append, map-append, get_or_append_left}
 use Rattle.std.proofs.lemmas.List.Elements.{All-weaker, All-head, All-tail}
 use Rattle.spec_terms.specs.Term as terms
 use Rattle.spec_lists.specs.Texts.{Text}
 use Rattle.cq_atoms.specs.Texts.{text_of}
+use Rattle.cq_term.specs.HeapValue.{HeapValue}
 use Rattle.cq_term.specs.Meaning.{HeapTerm, at, blank}
 use Rattle.cq_parse.specs.declared.frames.Frame.{Frame}
 use Rattle.cq_parse.specs.declared.frames.Frame.TheVariants as frame
-use Rattle.cq_parse.specs.Views.{IsPrefix, tree, trees, frame_of, frames_of, IsLiveFrame, AreLive}
+use Rattle.spec_lists.specs.Prefixes.{IsPrefix}
+use Rattle.cq_parse.specs.Views.{OnlyGrows, tree, trees, frame_of, frames_of, IsLiveFrame, AreLive}
 
--- ---- terms
+-- ---- the heap
 
 pub prefix_both : (ts us vs : List HeapTerm) → IsPrefix ts us → IsPrefix us vs → IsPrefix ts vs
 prefix_both ts us vs p q = (p.0 ++ q.0, q.1 ∙ ap (λ xs. xs ++ q.0) p.1 ∙ append_assoc ts p.0 q.0)
+
+pub grows_not : (h : HeapValue) → OnlyGrows h h
+grows_not h = record { terms = ([], sym (append-nil h.now.terms)); images = refl; saved = refl; room = omega arith }
+
+pub grows_both : (g h k : HeapValue) → OnlyGrows g h → OnlyGrows h k → OnlyGrows g k
+grows_both g h k p q = record {
+  terms = prefix_both g.now.terms h.now.terms k.now.terms p.terms q.terms;
+  images = q.images ∙ p.images;
+  saved = q.saved ∙ p.saved;
+  room = omega (arith, p.room, q.room);
+}
+
+-- by a term at most
+pub grows_by : (old new : HeapValue) (t : HeapTerm) (r : Result ℕ AllocError) → OnOk r (new.now.terms ≡ old.now.terms ++ t ∷ []) → OnOk r (new.now.images ≡ old.now.images) →
+    new.saved ≡ old.saved → old.room ≤ new.room → OnErr r (new.now ≡ old.now) → OnlyGrows old new
+grows_by old new t (Ok id) terms images saved room err = record { terms = (t ∷ [], terms); images = images; saved = saved; room = room }
+grows_by old new t (Err e) terms images saved room err = record { terms = ([], ap (λ n. n.terms) err ∙ sym (append-nil old.now.terms)); images = ap (λ n. n.images) err; saved = saved; room = room }
+
+-- ---- terms
 
 pub prefix_length : (ts us : List HeapTerm) → IsPrefix ts us → length ts ≤ length us
 prefix_length ts us p = omega (arith, ap length p.1, length-append ts p.0)

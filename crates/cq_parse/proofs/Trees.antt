@@ -10,7 +10,8 @@ use Rattle.spec_syntax.specs.Machine.{with_arguments_before, with_elements_befor
 use Rattle.spec_lists.specs.Texts.{Text}
 use Rattle.cq_atoms.specs.Texts.{text_of}
 use Rattle.cq_term.specs.Meaning.{HeapTerm, at}
-use Rattle.cq_parse.specs.Views.{IsPrefix, tree, trees}
+use Rattle.spec_lists.specs.Prefixes.{IsPrefix}
+use Rattle.cq_parse.specs.Views.{tree, trees}
 use Rattle.cq_parse.proofs.Kept.{all_front, tree_kept, trees_kept, trees_push}
 
 module _ (texts : List Text) (ts : List HeapTerm) where

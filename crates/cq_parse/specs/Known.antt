@@ -4,18 +4,18 @@ use Rattle.spec_lists.specs.Texts.{Text}
 use Rattle.cq_atoms.specs.Texts.{AreDifferent, text_of}
 use Rattle.cq_parse.specs.declared.tokens.Token.{Token}
 use Rattle.cq_parse.specs.declared.tokens.Token.TheVariants as token
-use Rattle.cq_parse.specs.declared.frames.Stand.{Stand}
-use Rattle.cq_parse.specs.declared.frames.Stand.TheVariants as stand
+use Rattle.cq_parse.specs.declared.frames.State.{State}
+use Rattle.cq_parse.specs.declared.frames.State.TheVariants as state
 use Rattle.cq_parse.specs.declared.folding.Folded.{Folded}
 use Rattle.cq_parse.specs.declared.folding.Folded.TheVariants as folded
-use Rattle.cq_parse.specs.declared.names.Names.{Names}
+use Rattle.cq_parse.specs.declared.names.GrammarNames.{GrammarNames}
 
 -- the number has a text
 abbrev pub IsKnown : List Text → ℕ → Type 0
 IsKnown texts name = slice_get texts name ≡ Some (text_of texts name)
 
 -- the names that the grammar itself speaks of
-pub record AreGrammarNames (texts : List Text) (names : Names) : Type 0 where
+pub record AreGrammarNames (texts : List Text) (names : GrammarNames) : Type 0 where
   pub minus : slice_get texts names.minus ≡ Some (codes "-")
   pub comma : slice_get texts names.comma ≡ Some (codes ",")
   pub nil : slice_get texts names.nil ≡ Some (codes "[]")
@@ -28,20 +28,20 @@ KnowsToken texts (token.Named f quoted) = IsKnown texts f
 KnowsToken texts (token.Functor f) = IsKnown texts f
 KnowsToken texts tok = ⊤
 
-abbrev pub KnowsStand : List Text → Stand → Type 0
-KnowsStand texts (stand.AfterName f most) = IsKnown texts f
-KnowsStand texts s = ⊤
+abbrev pub KnowsState : List Text → State → Type 0
+KnowsState texts (state.AfterName f most) = IsKnown texts f
+KnowsState texts s = ⊤
 
-abbrev pub KnowsOrNone : List Text → Option Stand → Type 0
+abbrev pub KnowsOrNone : List Text → Option State → Type 0
 KnowsOrNone texts None = ⊤
-KnowsOrNone texts (Some s) = KnowsStand texts s
+KnowsOrNone texts (Some s) = KnowsState texts s
 
 abbrev pub KnowsFolded : List Text → Folded → Type 0
 KnowsFolded texts (folded.Operand most priority operand) = ⊤
 KnowsFolded texts (folded.Done next) = KnowsOrNone texts next
 
 -- the texts differ, and have the names that a step looks at
-pub record Knows (texts : List Text) (names : Names) (tok : Token) : Type 0 where
+pub record Knows (texts : List Text) (names : GrammarNames) (tok : Token) : Type 0 where
   pub different : AreDifferent texts
   pub grammar : AreGrammarNames texts names
   pub token : KnowsToken texts tok

@@ -1,9 +1,11 @@
--- What the machine's tokens, frames and stand mean, by the texts of the names and the terms of the heap.
+-- What the machine's tokens, frames and state mean, by the texts of the names and the terms of the heap.
 use Rattle.std.specs.Prelude.{◌≡◌, ℕ, ◌<◌, ◌≤◌, List, ◌++◌, Option, Some, None, map, reverse, All, ⊤}
 use Rattle.std.specs.String.{string_bytes}
 use Rattle.spec_lists.specs.Texts.{Text}
+use Rattle.spec_lists.specs.Prefixes.{IsPrefix}
 use Rattle.cq_atoms.specs.Texts.{text_of}
 use Rattle.cq_term.specs.Meaning.{HeapTerm, at}
+use Rattle.cq_term.specs.HeapValue.{HeapValue}
 use Rattle.cq_term.specs.Shown.{IsUnbound}
 use Rattle.spec_operators.specs.Operators.{Ops}
 use Rattle.spec_terms.specs.Term as terms
@@ -15,16 +17,19 @@ use Rattle.cq_parse.specs.declared.tokens.Token.{Token}
 use Rattle.cq_parse.specs.declared.tokens.Token.TheVariants as token
 use Rattle.cq_parse.specs.declared.frames.Frame.{Frame}
 use Rattle.cq_parse.specs.declared.frames.Frame.TheVariants as frame
-use Rattle.cq_parse.specs.declared.frames.Stand.{Stand}
-use Rattle.cq_parse.specs.declared.frames.Stand.TheVariants as stand
+use Rattle.cq_parse.specs.declared.frames.State.{State}
+use Rattle.cq_parse.specs.declared.frames.State.TheVariants as state
 use Rattle.cq_parse.specs.declared.operators.UseThere.{UseThere}
 use Rattle.cq_parse.specs.declared.operators.UseThere.TheVariants as use_there
 use Rattle.cq_parse.specs.declared.folding.Folded.{Folded}
 use Rattle.cq_parse.specs.declared.folding.Folded.TheVariants as folded
 
--- what stands in the old list stands in the new one at the same places
-abbrev pub IsPrefix : List HeapTerm → List HeapTerm → Type 0
-IsPrefix old new = (more : List HeapTerm) × (new ≡ old ++ more)
+-- The heap got new terms, and no more: older terms and the variables stand as they did, and its marks with their room too.
+pub record OnlyGrows (old new : HeapValue) : Type 0 where
+  pub terms : IsPrefix old.now.terms new.now.terms
+  pub images : new.now.images ≡ old.now.images
+  pub saved : new.saved ≡ old.saved
+  pub room : old.room ≤ new.room
 
 -- the tree of a term
 abbrev pub tree : List Text → List HeapTerm → ℕ → Tree
@@ -64,17 +69,17 @@ frame_of texts ts (frame.InTail before most) = machine.InTail (trees texts ts be
 abbrev pub frames_of : List Text → List HeapTerm → List Frame → List machine.Frame
 frames_of texts ts frames = reverse (map (frame_of texts ts) frames)
 
-abbrev pub state_of : List Text → List HeapTerm → List machine.Frame → Stand → machine.State
-state_of texts ts k (stand.BeforeTerm most) = machine.BeforeTerm most k
-state_of texts ts k (stand.AfterOperand most priority operand) = machine.AfterOperand most priority (tree texts ts operand) k
-state_of texts ts k (stand.AfterName f most) = machine.AfterName (text_of texts f) most k
-state_of texts ts k (stand.AfterFunctor f most) = machine.AfterFunctor (text_of texts f) most k
-state_of texts ts k (stand.AfterMinus most) = machine.AfterMinus most k
-state_of texts ts k (stand.AfterOpenList most) = machine.AfterOpenList most k
-state_of texts ts k (stand.AfterOpenCurly most) = machine.AfterOpenCurly most k
-state_of texts ts k (stand.Whole term) = machine.Whole (tree texts ts term)
+abbrev pub state_of : List Text → List HeapTerm → List machine.Frame → State → machine.State
+state_of texts ts k (state.BeforeTerm most) = machine.BeforeTerm most k
+state_of texts ts k (state.AfterOperand most priority operand) = machine.AfterOperand most priority (tree texts ts operand) k
+state_of texts ts k (state.AfterName f most) = machine.AfterName (text_of texts f) most k
+state_of texts ts k (state.AfterFunctor f most) = machine.AfterFunctor (text_of texts f) most k
+state_of texts ts k (state.AfterMinus most) = machine.AfterMinus most k
+state_of texts ts k (state.AfterOpenList most) = machine.AfterOpenList most k
+state_of texts ts k (state.AfterOpenCurly most) = machine.AfterOpenCurly most k
+state_of texts ts k (state.Whole term) = machine.Whole (tree texts ts term)
 
-abbrev pub state_or_none : List Text → List HeapTerm → List Frame → Option Stand → Option machine.State
+abbrev pub state_or_none : List Text → List HeapTerm → List Frame → Option State → Option machine.State
 state_or_none texts ts frames None = None
 state_or_none texts ts frames (Some s) = Some (state_of texts ts (frames_of texts ts frames) s)
 
@@ -97,14 +102,14 @@ IsLiveFrame n (frame.InTail before most) = All (λ id. id < n) before.items
 abbrev pub AreLive : ℕ → List Frame → Type 0
 AreLive n frames = All (IsLiveFrame n) frames
 
-abbrev pub IsLiveStand : ℕ → Stand → Type 0
-IsLiveStand n (stand.AfterOperand most priority operand) = operand < n
-IsLiveStand n (stand.Whole term) = term < n
-IsLiveStand n s = ⊤
+abbrev pub IsLiveState : ℕ → State → Type 0
+IsLiveState n (state.AfterOperand most priority operand) = operand < n
+IsLiveState n (state.Whole term) = term < n
+IsLiveState n s = ⊤
 
-abbrev pub IsLiveOrNone : ℕ → Option Stand → Type 0
+abbrev pub IsLiveOrNone : ℕ → Option State → Type 0
 IsLiveOrNone n None = ⊤
-IsLiveOrNone n (Some s) = IsLiveStand n s
+IsLiveOrNone n (Some s) = IsLiveState n s
 
 -- ---- an operand that is put into its frame
 

@@ -8,10 +8,10 @@ ghost use Rattle.spec_syntax.specs.Machine.{with_elements_before};
 ghost use Rattle.spec_syntax.specs.Trees.{code_list};
 ghost use Rattle.spec_rational.specs.Rational.{int_ℚ};
 ghost use Rattle.cq_term.specs.Meaning.{at};
-ghost use Rattle.cq_parse.specs.Views.{IsPrefix, tree, trees};
+ghost use Rattle.cq_parse.specs.Views.{OnlyGrows, tree, trees};
 ghost use Rattle.cq_parse.specs.Known.{AreGrammarNames};
 
-use crate::names::Names;
+use crate::names::GrammarNames;
 use cq_atoms::Atom;
 use cq_frac::Frac;
 use cq_term::{Heap, TermId};
@@ -23,10 +23,7 @@ pub fn compound(heap: &mut Heap, name: Atom, args: &[TermId]) -> Result<TermId, 
     requires live { All (λ i. i < length heap.old.now.terms) args.now }
     ensures live { IfOk result (λ id. id < length heap.new.now.terms) }
     ensures built { IfOk result (λ id. at heap.new.now.terms id ≡ with_arguments name (map (at heap.old.now.terms) args.now)) }
-    ensures terms { OnOk result (IsPrefix heap.old.now.terms heap.new.now.terms) }
-    ensures images { OnOk result (heap.new.now.images ≡ heap.old.now.images) }
-    ensures saved { heap.new.saved ≡ heap.old.saved }
-    ensures room { heap.old.room ≤ heap.new.room }
+    ensures heap { OnlyGrows heap.old heap.new }
 {
     heap.compound(name, args)
 }
@@ -35,10 +32,7 @@ pub fn compound(heap: &mut Heap, name: Atom, args: &[TermId]) -> Result<TermId, 
 pub fn atom(heap: &mut Heap, name: Atom) -> Result<TermId, AllocError>
     ensures live { IfOk result (λ id. id < length heap.new.now.terms) }
     ensures built { IfOk result (λ id. at heap.new.now.terms id ≡ with_arguments name []) }
-    ensures terms { OnOk result (IsPrefix heap.old.now.terms heap.new.now.terms) }
-    ensures images { OnOk result (heap.new.now.images ≡ heap.old.now.images) }
-    ensures saved { heap.new.saved ≡ heap.old.saved }
-    ensures room { heap.old.room ≤ heap.new.room }
+    ensures heap { OnlyGrows heap.old heap.new }
 {
     heap.atom(name)
 }
@@ -46,7 +40,7 @@ pub fn atom(heap: &mut Heap, name: Atom) -> Result<TermId, AllocError>
 /// The list of elements that were read one after another, with a tail.
 pub fn list(
     heap: &mut Heap,
-    names: &Names,
+    names: &GrammarNames,
     elements: Vec<TermId>,
     tail: TermId,
 ) -> Result<TermId, AllocError>
@@ -55,10 +49,7 @@ pub fn list(
     ensures live { IfOk result (λ id. id < length heap.new.now.terms) }
     ensures list { (texts : List Text) → AreGrammarNames texts names.now
         → IfOk result (λ id. tree texts heap.new.now.terms id ≡ with_elements_before (trees texts heap.old.now.terms elements.items) (tree texts heap.old.now.terms tail)) }
-    ensures terms { OnOk result (IsPrefix heap.old.now.terms heap.new.now.terms) }
-    ensures images { OnOk result (heap.new.now.images ≡ heap.old.now.images) }
-    ensures saved { heap.new.saved ≡ heap.old.saved }
-    ensures room { heap.old.room ≤ heap.new.room }
+    ensures heap { OnlyGrows heap.old heap.new }
 {
     let mut left = elements;
     let mut whole = tail;
@@ -72,10 +63,7 @@ pub fn list(
 pub fn number(heap: &mut Heap, number: Frac) -> Result<TermId, AllocError>
     ensures live { IfOk result (λ id. id < length heap.new.now.terms) }
     ensures built { IfOk result (λ id. at heap.new.now.terms id ≡ Number number) }
-    ensures terms { OnOk result (IsPrefix heap.old.now.terms heap.new.now.terms) }
-    ensures images { OnOk result (heap.new.now.images ≡ heap.old.now.images) }
-    ensures saved { heap.new.saved ≡ heap.old.saved }
-    ensures room { heap.old.room ≤ heap.new.room }
+    ensures heap { OnlyGrows heap.old heap.new }
 {
     heap.number(number)
 }
@@ -95,13 +83,10 @@ fn characters(alloc: Global, text: &str) -> Result<Vec<char>, AllocError>
 }
 
 /// The list of the codes of a text's characters.
-pub fn code_list(heap: &mut Heap, names: &Names, text: &str) -> Result<TermId, AllocError>
+pub fn code_list(heap: &mut Heap, names: &GrammarNames, text: &str) -> Result<TermId, AllocError>
     ensures live { IfOk result (λ id. id < length heap.new.now.terms) }
     ensures list { (texts : List Text) → AreGrammarNames texts names.now → IfOk result (λ id. tree texts heap.new.now.terms id ≡ code_list text.now) }
-    ensures terms { OnOk result (IsPrefix heap.old.now.terms heap.new.now.terms) }
-    ensures images { OnOk result (heap.new.now.images ≡ heap.old.now.images) }
-    ensures saved { heap.new.saved ≡ heap.old.saved }
-    ensures room { heap.old.room ≤ heap.new.room }
+    ensures heap { OnlyGrows heap.old heap.new }
 {
     let mut left = characters(heap.alloc(), text)?;
     let mut whole = atom(heap, names.nil)?;

@@ -6,13 +6,13 @@ ghost use Rattle.cq_atoms.specs.Texts.{text_of};
 ghost use Rattle.spec_operators.specs.Operators.{Ops as OpsOfTexts};
 ghost use Rattle.spec_syntax.specs.Grammar.{Outside};
 ghost use Rattle.spec_syntax.specs.Machine.{after_operand, end_group, end_curly, end_argument, end_element, end_tail};
-ghost use Rattle.cq_parse.specs.Views.{IsPrefix, tree, trees, token_of, frame_of, frames_of, state_or_none, IsLiveFrame, AreLive, IsLiveOrNone, Folds, IsLiveFolded, NoMoreFrames};
+ghost use Rattle.cq_parse.specs.Views.{OnlyGrows, tree, trees, token_of, frame_of, frames_of, state_or_none, IsLiveFrame, AreLive, IsLiveOrNone, Folds, IsLiveFolded, NoMoreFrames};
 ghost use Rattle.cq_parse.specs.Known.{AreGrammarNames, KnowsOrNone, KnowsFolded};
 ghost use Rattle.cq_term.specs.Meaning.{HeapTerm};
 
 use crate::building::{atom, compound, list};
-use crate::frames::{Frame, Stand};
-use crate::names::Names;
+use crate::frames::{Frame, State};
+use crate::names::GrammarNames;
 use crate::tokens::Token;
 use cq_atoms::Atom;
 use cq_term::{Heap, TermId};
@@ -28,7 +28,7 @@ pub enum Folded {
         operand: TermId,
     },
     /// The token was used, or is refused.
-    Done(Option<Stand>),
+    Done(Option<State>),
 }
 
 /// `)` or `,` behind an argument.
@@ -40,7 +40,7 @@ fn end_argument(
     most: u16,
     operand: TermId,
     token: &Token,
-) -> Result<Option<Stand>, AllocError>
+) -> Result<Option<State>, AllocError>
     requires frames { AreLive (length heap.old.now.terms) frames.old.items }
     requires before { All (λ id. id < length heap.old.now.terms) before.items }
     requires operand { operand < length heap.old.now.terms }
@@ -48,18 +48,15 @@ fn end_argument(
         ≡ end_argument ops (text_of texts name) (trees texts heap.old.now.terms before.items) most (tree texts heap.old.now.terms operand) (frames_of texts heap.old.now.terms frames.old.items) (token_of texts token.now)) }
     ensures frames { OnOk result (AreLive (length heap.new.now.terms) frames.new.items) }
     ensures known { (texts : List Text) → IfOk result (KnowsOrNone texts) }
-    ensures stand { IfOk result (IsLiveOrNone (length heap.new.now.terms)) }
-    ensures terms { OnOk result (IsPrefix heap.old.now.terms heap.new.now.terms) }
-    ensures images { OnOk result (heap.new.now.images ≡ heap.old.now.images) }
-    ensures saved { heap.new.saved ≡ heap.old.saved }
-    ensures room { heap.old.room ≤ heap.new.room }
+    ensures state { IfOk result (IsLiveOrNone (length heap.new.now.terms)) }
+    ensures heap { OnlyGrows heap.old heap.new }
 {
     let mut args = before;
     match token {
         Token::Close => {
             args.push(operand)?;
             let whole = compound(heap, name, &args)?;
-            Ok(Some(Stand::AfterOperand {
+            Ok(Some(State::AfterOperand {
                 most,
                 priority: 0,
                 operand: whole,
@@ -72,7 +69,7 @@ fn end_argument(
                 before: args,
                 most,
             })?;
-            Ok(Some(Stand::BeforeTerm { most: 999 }))
+            Ok(Some(State::BeforeTerm { most: 999 }))
         }
         _ => Ok(None),
     }
@@ -81,13 +78,13 @@ fn end_argument(
 /// `]`, `,` or `|` behind an element of a list.
 fn end_element(
     heap: &mut Heap,
-    names: &Names,
+    names: &GrammarNames,
     frames: &mut Vec<Frame>,
     before: Vec<TermId>,
     most: u16,
     operand: TermId,
     token: &Token,
-) -> Result<Option<Stand>, AllocError>
+) -> Result<Option<State>, AllocError>
     requires frames { AreLive (length heap.old.now.terms) frames.old.items }
     requires before { All (λ id. id < length heap.old.now.terms) before.items }
     requires operand { operand < length heap.old.now.terms }
@@ -95,11 +92,8 @@ fn end_element(
         ≡ end_element ops (trees texts heap.old.now.terms before.items) most (tree texts heap.old.now.terms operand) (frames_of texts heap.old.now.terms frames.old.items) (token_of texts token.now)) }
     ensures frames { OnOk result (AreLive (length heap.new.now.terms) frames.new.items) }
     ensures known { (texts : List Text) → IfOk result (KnowsOrNone texts) }
-    ensures stand { IfOk result (IsLiveOrNone (length heap.new.now.terms)) }
-    ensures terms { OnOk result (IsPrefix heap.old.now.terms heap.new.now.terms) }
-    ensures images { OnOk result (heap.new.now.images ≡ heap.old.now.images) }
-    ensures saved { heap.new.saved ≡ heap.old.saved }
-    ensures room { heap.old.room ≤ heap.new.room }
+    ensures state { IfOk result (IsLiveOrNone (length heap.new.now.terms)) }
+    ensures heap { OnlyGrows heap.old heap.new }
 {
     let mut elements = before;
     match token {
@@ -107,7 +101,7 @@ fn end_element(
             elements.push(operand)?;
             let nil = atom(heap, names.nil)?;
             let whole = list(heap, names, elements, nil)?;
-            Ok(Some(Stand::AfterOperand {
+            Ok(Some(State::AfterOperand {
                 most,
                 priority: 0,
                 operand: whole,
@@ -119,7 +113,7 @@ fn end_element(
                 before: elements,
                 most,
             })?;
-            Ok(Some(Stand::BeforeTerm { most: 999 }))
+            Ok(Some(State::BeforeTerm { most: 999 }))
         }
         Token::Bar => {
             elements.push(operand)?;
@@ -127,7 +121,7 @@ fn end_element(
                 before: elements,
                 most,
             })?;
-            Ok(Some(Stand::BeforeTerm { most: 999 }))
+            Ok(Some(State::BeforeTerm { most: 999 }))
         }
         _ => Ok(None),
     }
@@ -136,28 +130,25 @@ fn end_element(
 /// `]` behind the tail of a list.
 fn end_tail(
     heap: &mut Heap,
-    names: &Names,
+    names: &GrammarNames,
     before: Vec<TermId>,
     most: u16,
     operand: TermId,
     token: &Token,
-) -> Result<Option<Stand>, AllocError>
+) -> Result<Option<State>, AllocError>
     requires before { All (λ id. id < length heap.old.now.terms) before.items }
     requires operand { operand < length heap.old.now.terms }
     ensures step { (ops : OpsOfTexts) (texts : List Text) (frames : List Frame) → AreGrammarNames texts names.now → AreLive (length heap.old.now.terms) frames
         → IfOk result (λ next. state_or_none texts heap.new.now.terms frames next
         ≡ end_tail ops (trees texts heap.old.now.terms before.items) most (tree texts heap.old.now.terms operand) (frames_of texts heap.old.now.terms frames) (token_of texts token.now)) }
     ensures known { (texts : List Text) → IfOk result (KnowsOrNone texts) }
-    ensures stand { IfOk result (IsLiveOrNone (length heap.new.now.terms)) }
-    ensures terms { OnOk result (IsPrefix heap.old.now.terms heap.new.now.terms) }
-    ensures images { OnOk result (heap.new.now.images ≡ heap.old.now.images) }
-    ensures saved { heap.new.saved ≡ heap.old.saved }
-    ensures room { heap.old.room ≤ heap.new.room }
+    ensures state { IfOk result (IsLiveOrNone (length heap.new.now.terms)) }
+    ensures heap { OnlyGrows heap.old heap.new }
 {
     match token {
         Token::CloseList => {
             let whole = list(heap, names, before, operand)?;
-            Ok(Some(Stand::AfterOperand {
+            Ok(Some(State::AfterOperand {
                 most,
                 priority: 0,
                 operand: whole,
@@ -170,26 +161,23 @@ fn end_tail(
 /// `}` behind the term in braces.
 fn end_curly(
     heap: &mut Heap,
-    names: &Names,
+    names: &GrammarNames,
     most: u16,
     operand: TermId,
     token: &Token,
-) -> Result<Option<Stand>, AllocError>
+) -> Result<Option<State>, AllocError>
     requires operand { operand < length heap.old.now.terms }
     ensures step { (ops : OpsOfTexts) (texts : List Text) (frames : List Frame) → AreGrammarNames texts names.now → AreLive (length heap.old.now.terms) frames
         → IfOk result (λ next. state_or_none texts heap.new.now.terms frames next
         ≡ end_curly ops most (tree texts heap.old.now.terms operand) (frames_of texts heap.old.now.terms frames) (token_of texts token.now)) }
     ensures known { (texts : List Text) → IfOk result (KnowsOrNone texts) }
-    ensures stand { IfOk result (IsLiveOrNone (length heap.new.now.terms)) }
-    ensures terms { OnOk result (IsPrefix heap.old.now.terms heap.new.now.terms) }
-    ensures images { OnOk result (heap.new.now.images ≡ heap.old.now.images) }
-    ensures saved { heap.new.saved ≡ heap.old.saved }
-    ensures room { heap.old.room ≤ heap.new.room }
+    ensures state { IfOk result (IsLiveOrNone (length heap.new.now.terms)) }
+    ensures heap { OnlyGrows heap.old heap.new }
 {
     match token {
         Token::CloseCurly => {
             let whole = compound(heap, names.curly, &[operand])?;
-            Ok(Some(Stand::AfterOperand {
+            Ok(Some(State::AfterOperand {
                 most,
                 priority: 0,
                 operand: whole,
@@ -200,13 +188,13 @@ fn end_curly(
 }
 
 /// `)` behind the term in parentheses.
-fn end_group(most: u16, operand: TermId, token: &Token) -> Option<Stand>
+fn end_group(most: u16, operand: TermId, token: &Token) -> Option<State>
     ensures step { (ops : OpsOfTexts) (texts : List Text) (ts : List HeapTerm) (frames : List Frame) → state_or_none texts ts frames result ≡ end_group ops most (tree texts ts operand) (frames_of texts ts frames) (token_of texts token.now) }
     ensures known { (texts : List Text) → KnowsOrNone texts result }
-    ensures stand { (n : ℕ) → operand < n → IsLiveOrNone n result }
+    ensures state { (n : ℕ) → operand < n → IsLiveOrNone n result }
 {
     match token {
-        Token::Close => Some(Stand::AfterOperand {
+        Token::Close => Some(State::AfterOperand {
             most,
             priority: 0,
             operand,
@@ -218,7 +206,7 @@ fn end_group(most: u16, operand: TermId, token: &Token) -> Option<Stand>
 /// Puts an operand at which its term ends into the frame that waits for it.
 pub fn fold(
     heap: &mut Heap,
-    names: &Names,
+    names: &GrammarNames,
     frames: &mut Vec<Frame>,
     frame: Frame,
     operand: TermId,
@@ -233,10 +221,7 @@ pub fn fold(
     ensures known { (texts : List Text) → IfOk result (KnowsFolded texts) }
     ensures folded { IfOk result (IsLiveFolded (length heap.new.now.terms)) }
     ensures fewer { IfOk result (NoMoreFrames (vec_len frames.old) (vec_len frames.new)) }
-    ensures terms { OnOk result (IsPrefix heap.old.now.terms heap.new.now.terms) }
-    ensures images { OnOk result (heap.new.now.images ≡ heap.old.now.images) }
-    ensures saved { heap.new.saved ≡ heap.old.saved }
-    ensures room { heap.old.room ≤ heap.new.room }
+    ensures heap { OnlyGrows heap.old heap.new }
 {
     match frame {
         Frame::RightOf {

@@ -49,7 +49,7 @@ pub enum Frame {
 
 /// Where the machine stands in the innermost frame, with the most that the priority of the term there may be.
 #[derive(Clone, Copy, Debug)]
-pub enum Stand {
+pub enum State {
     /// Where a term begins. A clause begins here, at 1200 and with no frames.
     BeforeTerm {
         most: u16,

@@ -5,6 +5,7 @@ ghost use Rattle.cq_atoms.specs.Texts.{KeepsTexts, AreDifferent};
 ghost use Rattle.cq_parse.specs.Known.{AreGrammarNames};
 
 use cq_atoms::{Atom, Atoms};
+use cq_ops::Ops;
 use std::alloc::AllocError;
 
 /// The number of a text, where older numbers keep theirs.
@@ -19,7 +20,7 @@ pub fn interned(atoms: &mut Atoms, text: &str) -> Result<Atom, AllocError>
 
 /// The numbers of `-`, `,`, `[]`, `{}` and `.`, which the grammar puts into terms or takes as operators by itself.
 #[derive(Clone, Copy, Debug)]
-pub struct Names {
+pub struct GrammarNames {
     pub minus: Atom,
     pub comma: Atom,
     pub nil: Atom,
@@ -28,9 +29,9 @@ pub struct Names {
     pub dot: Atom,
 }
 
-impl Names {
+impl GrammarNames {
     /// Gives each of them a number, where older numbers keep their texts. It fails where memory is wanting, alone.
-    pub fn new(atoms: &mut Atoms) -> Result<Names, AllocError>
+    pub fn new(atoms: &mut Atoms) -> Result<GrammarNames, AllocError>
         ensures names { IfOk result (AreGrammarNames atoms.new) }
         ensures kept { KeepsTexts atoms.old atoms.new }
     {
@@ -39,7 +40,7 @@ impl Names {
         let nil = interned(atoms, "[]")?;
         let curly = interned(atoms, "{}")?;
         let dot = interned(atoms, ".")?;
-        Ok(Names {
+        Ok(GrammarNames {
             minus,
             comma,
             nil,
@@ -47,4 +48,11 @@ impl Names {
             dot,
         })
     }
+}
+
+/// What a text is read by: its operators, and the names that the grammar itself speaks of.
+#[derive(Clone, Copy)]
+pub struct Grammar<'a> {
+    pub ops: &'a Ops,
+    pub names: &'a GrammarNames,
 }

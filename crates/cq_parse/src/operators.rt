@@ -9,7 +9,7 @@ ghost use Rattle.spec_syntax.specs.Grammar.{operator_name, allowed, use_of, may_
 ghost use Rattle.cq_parse.specs.Views.{token_of, use_by_text};
 ghost use Rattle.cq_parse.specs.Known.{AreGrammarNames, IsKnown, KnowsToken, Knows};
 
-use crate::names::Names;
+use crate::names::{Grammar, GrammarNames};
 use crate::tokens::Token;
 use cq_atoms::Atom;
 use cq_ops::Ops;
@@ -47,7 +47,7 @@ fn left_most(op: OpDef) -> u16
 }
 
 /// The name as which a token may be an operator behind an operand.
-fn operator_name(names: &Names, token: &Token) -> Option<Atom>
+fn operator_name(names: &GrammarNames, token: &Token) -> Option<Atom>
     ensures name { (texts : List Text) → AreGrammarNames texts names.now → option_map (text_of texts) result ≡ operator_name (token_of texts token.now) }
     ensures known { (texts : List Text) → AreGrammarNames texts names.now → KnowsToken texts token.now → IfSome result (IsKnown texts) }
 {
@@ -72,17 +72,17 @@ fn allowed(most: u16, priority: u16, op: Option<OpDef>) -> Option<OpDef>
 
 /// What a term of priority at most `most` does at a token behind an operand of this priority.
 #[tactic(auto, unfolding(spec_syntax::specs::Grammar::use_of))]
-pub fn use_there(ops: &Ops, names: &Names, most: u16, priority: u16, token: &Token) -> UseThere
-    ensures { (texts : List Text) → Knows texts names.now token.now
-        → use_by_text texts result ≡ use_of (named texts ops.now) most priority (token_of texts token.now) }
+pub fn use_there(grammar: &Grammar<'_>, most: u16, priority: u16, token: &Token) -> UseThere
+    ensures { (texts : List Text) → Knows texts grammar.now.names.now token.now
+        → use_by_text texts result ≡ use_of (named texts grammar.now.ops.now) most priority (token_of texts token.now) }
 {
-    let Some(name) = operator_name(names, token) else {
+    let Some(name) = operator_name(grammar.names, token) else {
         return UseThere::Outside;
     };
-    if let Some(op) = allowed(most, priority, ops.infix(name)) {
+    if let Some(op) = allowed(most, priority, grammar.ops.infix(name)) {
         return UseThere::Infix(name, op);
     }
-    if let Some(op) = allowed(most, priority, ops.postfix(name)) {
+    if let Some(op) = allowed(most, priority, grammar.ops.postfix(name)) {
         return UseThere::Postfix(name, op);
     }
     UseThere::Outside
@@ -97,13 +97,13 @@ fn may_begin(ops: &Ops, name: Atom) -> bool
 
 /// Whether a prefix operator in front of this token is applied.
 #[tactic(auto, unfolding(spec_syntax::specs::Grammar::begins_term))]
-fn begins_term(ops: &Ops, names: &Names, token: &Token) -> bool
-    ensures { (texts : List Text) → Knows texts names.now token.now → result ≡ begins_term (named texts ops.now) (token_of texts token.now) }
+fn begins_term(grammar: &Grammar<'_>, token: &Token) -> bool
+    ensures { (texts : List Text) → Knows texts grammar.now.names.now token.now → result ≡ begins_term (named texts grammar.now.ops.now) (token_of texts token.now) }
 {
     match token {
         Token::Variable(_) | Token::Numeral(_) | Token::Codes(_) | Token::Functor(_) => true,
-        Token::Named(name, quoted) => *quoted || may_begin(ops, *name),
-        Token::Minus => may_begin(ops, names.minus),
+        Token::Named(name, quoted) => *quoted || may_begin(grammar.ops, *name),
+        Token::Minus => may_begin(grammar.ops, grammar.names.minus),
         Token::Open | Token::OpenList | Token::OpenCurly => true,
         Token::Close | Token::CloseList | Token::CloseCurly => false,
         Token::Comma | Token::Bar | Token::End => false,
@@ -111,12 +111,12 @@ fn begins_term(ops: &Ops, names: &Names, token: &Token) -> bool
 }
 
 /// The prefix operator as which a name in front of this token is applied, if it is.
-pub fn applied_as(ops: &Ops, names: &Names, name: Atom, token: &Token) -> Option<OpDef>
-    ensures { (texts : List Text) → Knows texts names.now token.now → IsKnown texts name
-        → result ≡ applied_as (named texts ops.now) (text_of texts name) (token_of texts token.now ∷ []) }
+pub fn applied_as(grammar: &Grammar<'_>, name: Atom, token: &Token) -> Option<OpDef>
+    ensures { (texts : List Text) → Knows texts grammar.now.names.now token.now → IsKnown texts name
+        → result ≡ applied_as (named texts grammar.now.ops.now) (text_of texts name) (token_of texts token.now ∷ []) }
 {
-    if begins_term(ops, names, token) {
-        ops.prefix(name)
+    if begins_term(grammar, token) {
+        grammar.ops.prefix(name)
     } else {
         None
     }

@@ -8,4 +8,5 @@ mod Kept
 mod KeptQuotes
 mod KeptNumerals
 mod KeptTokens
-mod Settled
+pub mod Settled
+pub mod Names

@@ -1,5 +1,5 @@
 -- Which bytes settle the tokens before them.
-use Rattle.std.proofs.Common.{◌≡◌, ℕ, zero, suc, ◌+◌, ◌-◌, ◌<◌, ◌≤◌, Bool, true, false, List, [], ◌∷◌, ◌++◌, length, length-drop, take, drop, Option, Some, Result, Ok, Err, refl, sym, ap, subst, ◌∙◌, arith}
+use Rattle.std.proofs.Common.{◌≡◌, ℕ, zero, suc, ◌+◌, ◌-◌, ◌<◌, ◌≤◌, Bool, true, false, List, [], ◌∷◌, ◌++◌, length, length-drop, take, drop, Option, Some, None, Result, Ok, Err, refl, sym, ap, subst, ◌∙◌, arith}
 use Rattle.std.specs.Prelude.{if◌then◌else◌}
 use Rattle.std.proofs.lemmas.List.{drop-append-le}
 use Rattle.spec_grammar.specs.declared.Kind.{Kind}
@@ -9,9 +9,13 @@ use Rattle.spec_grammar.specs.declared.LexFault.{LexFault}
 use Rattle.spec_grammar.specs.declared.LexFault.TheVariants.{BadByte, WideNumber}
 use Rattle.spec_grammar.specs.Characters.{begins, begins_with}
 use Rattle.spec_grammar.specs.Numerals.{Spelling, spelling, value, is_wide, goes_on_as_float}
-use Rattle.spec_grammar.specs.Tokens.{Token, numeral, next_token}
+use Rattle.spec_grammar.specs.Gaps.{place}
+use Rattle.spec_grammar.specs.Quotes.{quoted, in_front, ends, Quoted as InQuotes}
+use Rattle.spec_grammar.specs.Tokens.{Token, numeral, next_token, quotes_at, IsInQuotes}
 use Rattle.spec_grammar.specs.Laws.{behind, looks, settles, IsZeroBeforeQuote}
-use Rattle.spec_grammar.proofs.KeptQuotes.{Settling, settling, escape_settled}
+use Rattle.spec_grammar.proofs.Held.{IsQuoting, quotes_hold, next_in_quotes}
+use Rattle.spec_grammar.proofs.Bounds.{Within, quoted_within}
+use Rattle.spec_grammar.proofs.KeptQuotes.{Settling, settling, Asks, quoted_kept, escape_settled}
 use Rattle.spec_grammar.proofs.KeptNumerals.{spelling_kept, spelling_settled, float_kept, float_settled}
 use Rattle.spec_grammar.proofs.KeptTokens.{AsksToken, number_kept, next_kept, KeepsNumeral}
 
@@ -108,3 +112,55 @@ directly test text rest other c t fits =
     same : (q : List ℕ) → begins test (q ++ c ∷ other) ≡ begins test (q ++ c ∷ rest)
     same [] = refl
     same (b ∷ q) = refl
+
+-- quotes that end by this place, or a fault in them that stands before it
+abbrev EndsBy : ℕ → Result InQuotes LexFault → Type 0
+EndsBy end (Ok held) = held.stop ≤ end
+EndsBy end (Err f) = place f < end
+
+ends_inside : (end : ℕ) (k : Option ℕ) (r : Result InQuotes LexFault) → EndsBy end (in_front k r) → EndsBy end r
+ends_inside end k (Ok held) p = p
+ends_inside end k (Err f) p = p
+
+no_quotes : {f : LexFault} {held : InQuotes} → Err f ≡ Ok held → ⊥
+no_quotes e = cc
+
+-- quotes end behind the place where they begin
+stops_past : (bs : List ℕ) (at : ℕ) (held : InQuotes) → quotes_at bs at ≡ Ok held → at < held.stop
+stops_past [] at held e = absurd (no_quotes e)
+stops_past (b ∷ bs) at held e =
+    let w : Within (at + 1) (at + 1 + length bs) (ends (Ok held)) = subst (λ r. Within (at + 1) (at + 1 + length bs) (ends r)) e (quoted_within b 0 bs (at + 1)) in
+    omega (arith, w.0)
+
+-- a byte that settles does so for what quotes before it hold
+pub held_settled : (text rest other : List ℕ) (at c : ℕ) (t : Token) → settles c ≡ true → next_token (text ++ c ∷ rest) at ≡ Ok t → IsQuoting t.kind → t.span.end ≤ length text
+    → quotes_at (drop t.span.start (text ++ c ∷ other)) t.span.start ≡ quotes_at (drop t.span.start (text ++ c ∷ rest)) t.span.start
+held_settled text rest other at c t e found quoting fits =
+    let start = t.span.start in
+    let there = (next_in_quotes (text ++ c ∷ rest) at t found quoting).token in
+    let here = quotes_hold (drop start (text ++ c ∷ rest)) start (record { kind = (next_in_quotes (text ++ c ∷ rest) at t found quoting).kind; span = t.span; number = None }) there (next_in_quotes (text ++ c ∷ rest) at t found quoting).quotes in
+    let stops : here.0.stop ≡ t.span.end = sym (ap (λ (u : Token). u.span.end) here.2) in
+    by (drop start text) refl (quotes_at (drop start (text ++ c ∷ rest)) start) refl here.0 here.1 (omega (arith, stops, fits))
+  where
+    s : Settling c
+    s = settling c e
+
+    asked : Asks (EndsBy (length text)) (length text)
+    asked = record { ends_by = λ held p. p; faults_before = λ f p. p; inside = ends_inside (length text) }
+
+    split_at : (start : ℕ) (more : List ℕ) → start ≤ length text → drop start (text ++ c ∷ more) ≡ drop start text ++ c ∷ more
+    split_at start more h = drop-append-le start text (c ∷ more) h
+
+    by : (q : List ℕ) → drop t.span.start text ≡ q → (r : Result InQuotes LexFault) → quotes_at (drop t.span.start (text ++ c ∷ rest)) t.span.start ≡ r → (held : InQuotes) → r ≡ Ok held → held.stop ≤ length text →
+        quotes_at (drop t.span.start (text ++ c ∷ other)) t.span.start ≡ quotes_at (drop t.span.start (text ++ c ∷ rest)) t.span.start
+    by [] split r is held ok stop =
+        absurd (omega (arith, stops_past (drop t.span.start (text ++ c ∷ rest)) t.span.start held (is ∙ ok), length-drop t.span.start text, ap length split, stop))
+    by (b ∷ q) split r is held ok stop =
+        let inside : t.span.start ≤ length text = omega (arith, length-drop t.span.start text, ap length split) in
+        let mine : drop t.span.start (text ++ c ∷ rest) ≡ b ∷ (q ++ c ∷ rest) = split_at t.span.start rest inside ∙ ap (λ bs. bs ++ c ∷ rest) split in
+        let theirs : drop t.span.start (text ++ c ∷ other) ≡ b ∷ (q ++ c ∷ other) = split_at t.span.start other inside ∙ ap (λ bs. bs ++ c ∷ other) split in
+        let end : length text ≡ t.span.start + 1 + length q = omega (arith, length-drop t.span.start text, ap length split) in
+        let ends : EndsBy (length text) (quoted b 0 (q ++ c ∷ rest) (t.span.start + 1)) = subst (λ bs. EndsBy (length text) (quotes_at bs t.span.start)) mine (subst (EndsBy (length text)) (sym (is ∙ ok)) stop) in
+        ap (λ bs. quotes_at bs t.span.start) theirs
+        ∙ quoted_kept c s.small rest other (EndsBy (length text)) (length text) asked (λ p at f h is. escape_settled c s.small rest other p at s ∙ is) b 0 q (t.span.start + 1) end ends
+        ∙ sym (ap (λ bs. quotes_at bs t.span.start) mine)

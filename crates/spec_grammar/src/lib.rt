@@ -4,12 +4,12 @@
 ghost use Rattle.std.specs.Prelude.{◌≡◌, ◌<◌, ◌≤◌, ◌⊎◌, ◌+◌, ◌==◌, ◌&&◌, ◌||◌, ℕ, true, false, List, [], ◌∷◌, ◌++◌, Some, None, Ok, length, drop};
 ghost use Rattle.std.specs.Char.{is_digit, is_ascii_digit};
 ghost use Rattle.std.specs.List.{prefix_len};
-ghost use Rattle.std.specs.Str.{continuation_len};
+ghost use Rattle.std.specs.Str.{IsUtf8, continuation_len};
 ghost use Rattle.spec_grammar.specs.Characters.{first_char, passes, starts_name, starts_variable, is_symbol, is_punctuation, begins, begins_with, name_end};
 ghost use Rattle.spec_grammar.specs.Quotes.{digits_len, digits_value, is_scalar, letter, quoted, in_front};
 ghost use Rattle.spec_grammar.specs.Numerals.{whole, plain, goes_on_as_fraction, marked};
 ghost use Rattle.spec_grammar.specs.Laws.{Stands, AllPass, Continues, behind, looks, settles, IsZeroBeforeQuote};
-ghost use Rattle.spec_grammar.specs.Tokens.{Token, token, in_quotes, token_at, next_token, numeral, ends_clause, opens_directly, digit_directly, IsInQuotes};
+ghost use Rattle.spec_grammar.specs.Tokens.{Token, token, in_quotes, token_at, next_token, numeral, ends_clause, bytes_of, quotes_at, opens_directly, digit_directly, IsInQuotes};
 
 use thiserror::Error;
 
@@ -88,10 +88,16 @@ pub fn quotes_hold_a_text()
     ensures { (text : List ℕ) (at : ℕ) (t : Token) → next_token text at ≡ Ok t → (t.kind ≡ Kind.Quoted) ⊎ (t.kind ≡ Kind.Codes) → IsInQuotes text t.span }
 {}
 
+/// The bytes of a name that is not in quotes, and of a variable, are UTF-8.
+pub fn names_are_texts()
+    ensures { (text : List ℕ) (at : ℕ) (t : Token) → next_token text at ≡ Ok t → (t.kind ≡ Kind.Name) ⊎ (t.kind ≡ Kind.Variable) → IsUtf8 (bytes_of text t.span) }
+{}
+
 /// A token does not depend on what comes after the bytes behind it at which it looks: one byte, or two behind a numeral. That
 /// byte is below 128, since behind a name one from 128 on may begin a character that goes on with it. How far a 0 before a
 /// quote looks has no bound. A byte that settles decides every token and fault before it, such a 0 too; so a text that comes
-/// in pieces can be read up to any such byte. Whether a `(` or a digit stands directly behind a token takes one byte.
+/// in pieces can be read up to any such byte. It decides what quotes before it hold, too. Whether a `(` or a digit stands
+/// directly behind a token takes one byte.
 pub fn following_bytes_settle_tokens()
     ensures token { (text rest other : List ℕ) (at c : ℕ) (t : Token) → c < 128
         → next_token (text ++ c ∷ rest) at ≡ Ok t
@@ -101,6 +107,11 @@ pub fn following_bytes_settle_tokens()
     ensures settled { (text rest other : List ℕ) (at c : ℕ) → settles c ≡ true
         → behind (next_token (text ++ c ∷ rest) at) ≤ length text
         → next_token (text ++ c ∷ other) at ≡ next_token (text ++ c ∷ rest) at }
+    ensures quotes { (text rest other : List ℕ) (at c : ℕ) (t : Token) → settles c ≡ true
+        → next_token (text ++ c ∷ rest) at ≡ Ok t → (t.kind ≡ Kind.Quoted) ⊎ (t.kind ≡ Kind.Codes)
+        → t.span.end ≤ length text
+        → quotes_at (drop t.span.start (text ++ c ∷ other)) t.span.start
+        ≡ quotes_at (drop t.span.start (text ++ c ∷ rest)) t.span.start }
     ensures opens_directly { (text rest other : List ℕ) (c : ℕ) (t : Token) → t.span.end ≤ length text
         → opens_directly (text ++ c ∷ other) t ≡ opens_directly (text ++ c ∷ rest) t }
     ensures digit_directly { (text rest other : List ℕ) (c : ℕ) (t : Token) → t.span.end ≤ length text

@@ -4,3 +4,6 @@ pub mod ByMachine
 pub mod Onward
 mod Later
 pub mod Counted
+mod Ends
+mod Decides
+mod Anywhere

@@ -33,20 +33,20 @@ module _ (text : List ℕ) where
       let empty : drop at text ≡ [] = none_left (drop at text) (omega (arith, length-drop at text, far)) in
       ap (λ bs. token_behind text (gap Between bs at)) empty ∙ ap (λ bs. token_at bs at) empty
 
-  next_there : (at : ℕ) (t : lexical.Token) → at ≤ length text → next_token text at ≡ Ok t → IsNext text at t
+  pub next_there : (at : ℕ) (t : lexical.Token) → at ≤ length text → next_token text at ≡ Ok t → IsNext text at t
   next_there at t fits e = subst (Stands text at) e (stands text at fits)
 
-  fault_there : (at : ℕ) (f : LexFault) → at ≤ length text → next_token text at ≡ Err f → (at ≤ place f) × (place f ≤ length text)
+  pub fault_there : (at : ℕ) (f : LexFault) → at ≤ length text → next_token text at ≡ Err f → (at ≤ place f) × (place f ≤ length text)
   fault_there at f fits e = subst (Stands text at) e (stands text at fits)
 
   -- where reading goes on lies behind the place, or is the text's end
   IsOnward : ℕ → ℕ → Type 0
   IsOnward at to = (at < to) × (to ≤ length text)
 
-  resumes_at_end : (at to : ℕ) → length text ≤ at → Resumes text at to → to ≡ length text
+  pub resumes_at_end : (at to : ℕ) → length text ≤ at → Resumes text at to → to ≡ length text
   resumes_at_end at to far r = subst (λ n. ResumesAt text n to) (end_there at far) (resumes_at text at to r)
 
-  far_or_not : (n : ℕ) → (length text ≤ n) ⊎ (n < length text)
+  pub far_or_not : (n : ℕ) → (length text ≤ n) ⊎ (n < length text)
   far_or_not n = by (nat_lt n (length text)) refl
     where
       by : (b : Bool) → nat_lt n (length text) ≡ b → (length text ≤ n) ⊎ (n < length text)
@@ -75,6 +75,10 @@ module _ (text : List ℕ) where
       let n = fault_there at f (omega (arith, inside)) e in
       onward_from at (suc (place f)) to inside (omega (arith, n.0)) (λ h. resumes_at_end (suc (place f)) to h r) (λ h. resumes_on (suc (place f)) to h r)
 
+  pub resumes_past : (at to : ℕ) → at < length text → Resumes text at to → (at < to) × (to ≤ length text)
+  unfolding IsOnward
+  resumes_past at to inside r = resumes_on at to inside r
+
   -- an error at a place, where reading goes on behind it or at the text's end
   fails_on : (at error resume : ℕ) → at < length text → at ≤ error → error ≤ length text → Resumes text error resume → MovesOn text at (Syntax error resume)
   unfolding IsOnward
@@ -83,7 +87,7 @@ module _ (text : List ℕ) where
     | inr h ↦ let on = resumes_on error resume h r in (less, omega (arith, on.0), omega (arith, on.0, less), on.1)
   ]
 
-  eof_or_not : (k : Kind) → (k ≡ kind.Eof) ⊎ (k ≢ kind.Eof)
+  pub eof_or_not : (k : Kind) → (k ≡ kind.Eof) ⊎ (k ≢ kind.Eof)
   eof_or_not kind.Eof = inl refl
   eof_or_not kind.End = inr (λ e. cc)
   eof_or_not kind.Name = inr (λ e. cc)
@@ -93,7 +97,7 @@ module _ (text : List ℕ) where
   eof_or_not kind.Numeral = inr (λ e. cc)
   eof_or_not kind.Punctuation = inr (λ e. cc)
 
-  end_or_not : (k : Kind) → (k ≡ kind.End) ⊎ (k ≢ kind.End)
+  pub end_or_not : (k : Kind) → (k ≡ kind.End) ⊎ (k ≢ kind.End)
   end_or_not kind.End = inl refl
   end_or_not kind.Eof = inr (λ e. cc)
   end_or_not kind.Name = inr (λ e. cc)
@@ -166,7 +170,7 @@ module _ (ops : Ops) (text : List ℕ) where
     | inr (before, on) ↦ moves at at start no_variables r (inside_by at fits before) fits (omega arith) (inl tt) on
   ]
 
-  open_or_whole : (s : State) → IsOpen s ⊎ ((tree : Tree) × (s ≡ Whole tree))
+  pub open_or_whole : (s : State) → IsOpen s ⊎ ((tree : Tree) × (s ≡ Whole tree))
   open_or_whole (Whole tree) = inr (tree, refl)
   open_or_whole s = inl tt
 

@@ -2,3 +2,4 @@ pub mod Readings
 pub mod Runs
 pub mod Laws
 pub mod Later
+pub mod Decided

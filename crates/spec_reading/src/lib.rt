@@ -2,7 +2,7 @@
 //! Definitions with no code; the functions here have empty bodies: each contract is a law or an example.
 #![tactic(auto)]
 
-ghost use Rattle.std.specs.Prelude.{◌≡◌, ◌≤◌, ◌↔◌, ℕ, List, [], ◌∷◌, length, codes};
+ghost use Rattle.std.specs.Prelude.{◌≡◌, ◌<◌, ◌≤◌, ◌↔◌, ℕ, List, [], ◌∷◌, ◌++◌, length, codes};
 ghost use Rattle.spec_operators.specs.Operators.{Ops};
 ghost use Rattle.spec_operators.specs.Standard.{standard};
 ghost use Rattle.spec_terms.specs.Term.{Name, Var};
@@ -13,6 +13,7 @@ ghost use Rattle.spec_reading.specs.Runs.{ReadsOn, IsBefore, MachineReads};
 ghost use Rattle.spec_reading.specs.Later.{variables_from, read_later};
 ghost use Rattle.spec_syntax.specs.Machine.{start};
 ghost use Rattle.spec_reading.specs.Laws.{MovesOn};
+ghost use Rattle.spec_reading.specs.Decided.{Decided, IsClosed, IsFullStop, MayGoOn};
 
 /// A place has one reading at most, and each place of a text has one.
 pub fn one_reading()
@@ -36,6 +37,20 @@ pub fn variables_may_be_counted_on()
         → ReadsOn ops text start at (variables_from n) (read_later n r) }
     ensures back { (ops : Ops) (text : List ℕ) (at n : ℕ) (r : Read) → at ≤ length text → IsBefore text at
         → ReadsOn ops text start at (variables_from n) r → (q : Read) × Reads ops text at q × (r ≡ read_later n q) }
+{}
+
+/// The bytes of a text decide what is read at a place just where reading goes on before their end. Then a full stop that ends
+/// a clause stands behind the place, with one more byte behind it, and, whatever the operators are, reading goes on where it
+/// does from the place or from the first fault behind it. What no text decides no shorter one does.
+pub fn readings_that_are_decided()
+    ensures decided { (ops : Ops) (text : List ℕ) (at : ℕ) (r : Read) → at ≤ length text → Reads ops text at r
+        → Decided ops text at ↔ IsClosed r (length text) }
+    ensures stop { (ops : Ops) (text : List ℕ) (at : ℕ) (r : Read) → at ≤ length text → Reads ops text at r
+        → IsClosed r (length text) → (stop : ℕ) × (at ≤ stop) × IsFullStop text stop }
+    ensures anyway { (ops : Ops) (text : List ℕ) (at : ℕ) (r : Read) → at ≤ length text → Reads ops text at r
+        → IsClosed r (length text) → (to : ℕ) × (to < length text) × MayGoOn text at to }
+    ensures earlier { (ops : Ops) (text more : List ℕ) (at : ℕ) (r : Read) → at ≤ length text → Reads ops (text ++ more) at r
+        → IsClosed r (length text) → Reads ops text at r }
 {}
 
 /// Clauses one behind another, and the end behind the last.

@@ -1,5 +1,5 @@
 use Rattle.std.specs.Prelude.{◌==◌}
-use Rattle.spec_grammar.proofs.Settled.{token_settled, all_settled, directly}
+use Rattle.spec_grammar.proofs.Settled.{token_settled, all_settled, held_settled, directly}
 use Rattle.std.specs.Char.{is_ascii_digit}
 use Rattle.spec_grammar.proofs.following_bytes_settle_tokens.Goals as goal
 
@@ -14,3 +14,6 @@ returns-clause-opens_directly c text rest other b t fits = directly (λ x. x == 
 
 pub returns-clause-digit_directly : goal.returns-clause-digit_directly
 returns-clause-digit_directly c text rest other b t fits = directly is_ascii_digit text rest other b t fits
+
+pub returns-clause-quotes : goal.returns-clause-quotes
+returns-clause-quotes c = held_settled

@@ -1,7 +1,7 @@
-use Rattle.std.proofs.Common.{◌≡◌, ◌∙◌, ap, map, arith, codes}
+use Rattle.std.proofs.Common.{◌≡◌, ◌∙◌, ap, map, codes}
 use Rattle.std.specs.Prelude.{reverse}
 use Rattle.spec_syntax.specs.Machine.{with_elements_before}
-use Rattle.cq_parse.proofs.Kept.{prefix_both}
+use Rattle.cq_parse.proofs.Kept.{grows_both}
 use Rattle.cq_parse.proofs.Trees.{code_of, code_more, listed, name_tree}
 use Rattle.cq_parse.specs.Views.{tree}
 use Rattle.spec_syntax.specs.Trees.{nil}
@@ -15,10 +15,7 @@ loop-c-init c = record {
       let us = c.atom.new.heap.now.terms in
       let end : tree texts us c.in_ok-whole.whole ≡ nil = name_tree texts us us c.args.names.now.nil c.in_ok-whole.whole (codes "[]") c.in_ok-whole.ensures.built known.nil in
       (λ i. with_elements_before (reverse (map code_of (c.in_ok-left.ensures i))) (end i)) ∙ listed (map code_of _);
-  terms = c.in_ok-whole.ensures.terms;
-  images = c.in_ok-whole.ensures.images;
-  saved = c.atom.ensures.saved;
-  room = c.atom.ensures.room;
+  heap = c.atom.ensures.heap;
 }
 
 pub loop-c-preserved : goal.loop-c-preserved
@@ -26,14 +23,10 @@ loop-c-preserved c =
     let ts = c.loop-c.heap.now.terms in
     let ns = c.number.new.heap.now.terms in
     let us = c.compound.new.heap.now.terms in
-    let older = c.args.heap.now.now.terms in
     record {
       whole = c.in_ok-whole-2.ensures.live;
-      list = λ texts known. code_more texts ts ns us c.in_ok-element.ensures.terms c.args.names.now.dot c.in_ok-element.element c.loop-c.whole c.in_ok-whole-2.whole c.in-Some.c c.loop-c.left.items c.pop.new.self.items _
+      list = λ texts known. code_more texts ts ns us c.in_ok-element.ensures.heap.terms c.args.names.now.dot c.in_ok-element.element c.loop-c.whole c.in_ok-whole-2.whole c.in-Some.c c.loop-c.left.items c.pop.new.self.items _
           c.in-Some.ensures.items c.loop-c.invariant.whole c.in_ok-whole-2.ensures.built known.dot
           (c.in_ok-element.ensures.built ∙ ap (λ q. Number q) c.code.ensures) (c.loop-c.invariant.list texts known);
-      terms = prefix_both older ts us c.loop-c.invariant.terms (prefix_both ts ns us c.in_ok-element.ensures.terms c.in_ok-whole-2.ensures.terms);
-      images = c.in_ok-whole-2.ensures.images ∙ c.in_ok-element.ensures.images ∙ c.loop-c.invariant.images;
-      saved = c.compound.ensures.saved ∙ c.number.ensures.saved ∙ c.loop-c.invariant.saved;
-      room = omega (arith, c.compound.ensures.room, c.number.ensures.room, c.loop-c.invariant.room);
+      heap = grows_both c.args.heap.now c.loop-c.heap c.compound.new.heap c.loop-c.invariant.heap (grows_both c.loop-c.heap c.number.new.heap c.compound.new.heap c.number.ensures.heap c.compound.ensures.heap);
     }

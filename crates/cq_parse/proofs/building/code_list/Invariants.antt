@@ -5,7 +5,7 @@ use Rattle.spec_terms.specs.Term.{Number}
 use Rattle.spec_syntax.specs.Trees.{code_list}
 use Rattle.spec_syntax.specs.Machine.{with_elements_before}
 use Rattle.spec_lists.specs.Texts.{Text}
-use Rattle.cq_parse.specs.Views.{IsPrefix, tree}
+use Rattle.cq_parse.specs.Views.{OnlyGrows, tree}
 use Rattle.cq_parse.specs.Known.{AreGrammarNames}
 use Rattle.cq_parse.proofs.building.code_list.Given as goal
 
@@ -14,10 +14,7 @@ invariant-loop-c l = record {
   whole : l.whole < length l.heap.now.terms;
   list : (texts : List Text) → AreGrammarNames texts l.names →
       with_elements_before (reverse (map (λ c. Number (int_ℚ (pos c))) l.left.items)) (tree texts l.heap.now.terms l.whole) ≡ code_list l.text;
-  terms : IsPrefix l.fn.heap.now.terms l.heap.now.terms;
-  images : l.heap.now.images ≡ l.fn.heap.now.images;
-  saved : l.heap.saved ≡ l.fn.heap.saved;
-  room : l.fn.heap.room ≤ l.heap.room;
+  heap : OnlyGrows l.fn.heap l.heap;
 }
 
 abbrev pub decreases-loop-c : goal.decreases-loop-c

@@ -1,5 +1,5 @@
-use Rattle.std.proofs.Common.{◌<◌, length, ◌∙◌, subst, ◌∷◌, [], arith, All}
-use Rattle.cq_parse.proofs.Kept.{all_front, prefix_all, prefix_both}
+use Rattle.std.proofs.Common.{◌<◌, length, subst, ◌∷◌, [], All}
+use Rattle.cq_parse.proofs.Kept.{all_front, prefix_all, grows_both}
 use Rattle.cq_parse.proofs.Trees.{list_more}
 use Rattle.cq_parse.proofs.building.list.Goals as goal
 
@@ -7,7 +7,7 @@ pub loop-element-preserved : goal.loop-element-preserved
 loop-element-preserved c =
     let ts = c.loop-element.heap.now.terms in
     let us = c.compound.new.heap.now.terms in
-    let grown = c.in_ok-whole.ensures.terms in
+    let grown = c.in_ok-whole.ensures.heap.terms in
     let split = c.in-Some.ensures.items in
     let rest = c.pop.new.self.items in
     record {
@@ -15,8 +15,5 @@ loop-element-preserved c =
       whole = c.in_ok-whole.ensures.live;
       list = λ texts known. list_more texts ts us grown c.args.names.now.dot c.in-Some.element c.loop-element.whole c.in_ok-whole.whole c.loop-element.left.items rest _ split
           c.loop-element.invariant.elements c.in_ok-whole.ensures.built known.dot (c.loop-element.invariant.list texts known);
-      terms = prefix_both c.args.heap.now.now.terms ts us c.loop-element.invariant.terms grown;
-      images = c.in_ok-whole.ensures.images ∙ c.loop-element.invariant.images;
-      saved = c.compound.ensures.saved ∙ c.loop-element.invariant.saved;
-      room = omega (arith, c.compound.ensures.room, c.loop-element.invariant.room);
+      heap = grows_both c.args.heap.now c.loop-element.heap c.compound.new.heap c.loop-element.invariant.heap c.compound.ensures.heap;
     }

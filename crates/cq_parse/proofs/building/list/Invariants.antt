@@ -1,7 +1,7 @@
 use Rattle.std.proofs.Common.{◌≡◌, ◌<◌, ◌≤◌, List, length, All, vec_len}
 use Rattle.spec_lists.specs.Texts.{Text}
 use Rattle.spec_syntax.specs.Machine.{with_elements_before}
-use Rattle.cq_parse.specs.Views.{IsPrefix, tree, trees}
+use Rattle.cq_parse.specs.Views.{OnlyGrows, tree, trees}
 use Rattle.cq_parse.specs.Known.{AreGrammarNames}
 use Rattle.cq_parse.proofs.building.list.Given as goal
 
@@ -11,10 +11,7 @@ invariant-loop-element l = record {
   whole : l.whole < length l.heap.now.terms;
   list : (texts : List Text) → AreGrammarNames texts l.names →
       with_elements_before (trees texts l.heap.now.terms l.left.items) (tree texts l.heap.now.terms l.whole) ≡ with_elements_before (trees texts l.fn.heap.now.terms l.fn.elements.items) (tree texts l.fn.heap.now.terms l.fn.tail);
-  terms : IsPrefix l.fn.heap.now.terms l.heap.now.terms;
-  images : l.heap.now.images ≡ l.fn.heap.now.images;
-  saved : l.heap.saved ≡ l.fn.heap.saved;
-  room : l.fn.heap.room ≤ l.heap.room;
+  heap : OnlyGrows l.fn.heap l.heap;
 }
 
 abbrev pub decreases-loop-element : goal.decreases-loop-element

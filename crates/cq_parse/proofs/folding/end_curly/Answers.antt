@@ -8,4 +8,4 @@ returns-in_ok-whole-in-CloseCurly-clause-step c ops texts frames known live =
     let ts = c.args.heap.now.now.terms in
     let us = c.compound.new.heap.now.terms in
     let whole = curly_tree texts ts us c.args.names.now.curly c.args.operand c.in_ok-whole-in-CloseCurly.whole (codes "{}") c.in_ok-whole-in-CloseCurly.ensures.built known.curly in
-    rw (c.in-CloseCurly.is, frames_kept texts ts us c.in_ok-whole-in-CloseCurly.ensures.terms frames live, whole) refl
+    rw (c.in-CloseCurly.is, frames_kept texts ts us c.in_ok-whole-in-CloseCurly.ensures.heap.terms frames live, whole) refl

@@ -8,8 +8,8 @@ returns-in_ok-whole-in-CloseList-clause-step c ops texts known =
     let ts = c.args.heap.now.now.terms in
     let us = c.atom.new.heap.now.terms in
     let vs = c.list.new.heap.now.terms in
-    let first = c.in_ok-nil-in-CloseList.ensures.terms in
-    let grown = prefix_both ts us vs first c.in_ok-whole-in-CloseList.ensures.terms in
+    let first = c.in_ok-nil-in-CloseList.ensures.heap.terms in
+    let grown = prefix_both ts us vs first c.in_ok-whole-in-CloseList.ensures.heap.terms in
     let nil = name_tree texts us us c.args.names.now.nil c.in_ok-nil-in-CloseList.nil (codes "[]") c.in_ok-nil-in-CloseList.ensures.built known.nil in
     let whole = elements_closed texts ts us first vs c.args.before.items c.push.new.self.items c.args.operand c.in_ok-nil-in-CloseList.nil c.in_ok-whole-in-CloseList.whole
     c.in_ok-push-in-CloseList.ensures.items c.requires.before c.requires.operand (c.in_ok-whole-in-CloseList.ensures.list texts known) nil in
@@ -20,4 +20,4 @@ returns-in_ok-whole-in-CloseList-clause-frames c =
     let ts = c.args.heap.now.now.terms in
     let us = c.atom.new.heap.now.terms in
     let vs = c.list.new.heap.now.terms in
-    frames_live ts vs c.args.frames.now.items (prefix_both ts us vs c.in_ok-nil-in-CloseList.ensures.terms c.in_ok-whole-in-CloseList.ensures.terms) c.requires.frames
+    frames_live ts vs c.args.frames.now.items (prefix_both ts us vs c.in_ok-nil-in-CloseList.ensures.heap.terms c.in_ok-whole-in-CloseList.ensures.heap.terms) c.requires.frames

@@ -9,13 +9,13 @@ returns-in_ok-operand-in-RightOf-clause-folds c ops texts m known =
     let us = c.compound.new.heap.now.terms in
     rw (
       c.in-RightOf.is,
-      frames_kept texts ts us c.in_ok-operand-in-RightOf.ensures.terms c.args.frames.now.items c.requires.frames,
+      frames_kept texts ts us c.in_ok-operand-in-RightOf.ensures.heap.terms c.args.frames.now.items c.requires.frames,
       binary_tree texts ts us c.in-RightOf.name c.in-RightOf.left c.args.operand c.in_ok-operand-in-RightOf.operand c.in_ok-operand-in-RightOf.ensures.built,
     ) refl
 
 pub returns-in_ok-operand-in-RightOf-clause-frames : goal.returns-in_ok-operand-in-RightOf-clause-frames
 returns-in_ok-operand-in-RightOf-clause-frames c =
-    frames_live c.args.heap.now.now.terms c.compound.new.heap.now.terms c.args.frames.now.items c.in_ok-operand-in-RightOf.ensures.terms c.requires.frames
+    frames_live c.args.heap.now.now.terms c.compound.new.heap.now.terms c.args.frames.now.items c.in_ok-operand-in-RightOf.ensures.heap.terms c.requires.frames
 
 pub returns-in_ok-operand-in-OperandOf-clause-folds : goal.returns-in_ok-operand-in-OperandOf-clause-folds
 returns-in_ok-operand-in-OperandOf-clause-folds c ops texts m known =
@@ -23,7 +23,7 @@ returns-in_ok-operand-in-OperandOf-clause-folds c ops texts m known =
     let us = c.compound-in-OperandOf.new.heap.now.terms in
     rw (
       c.in-OperandOf.is,
-      frames_kept texts ts us c.in_ok-operand-in-OperandOf.ensures.terms c.args.frames.now.items c.requires.frames,
+      frames_kept texts ts us c.in_ok-operand-in-OperandOf.ensures.heap.terms c.args.frames.now.items c.requires.frames,
       unary_tree texts ts us c.in-OperandOf.name c.args.operand c.in_ok-operand-in-OperandOf.operand c.in_ok-operand-in-OperandOf.ensures.built,
     ) refl
 

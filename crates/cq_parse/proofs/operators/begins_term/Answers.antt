@@ -8,5 +8,5 @@ pub returns-in-Minus : goal.returns-in-Minus
 unfolding begins_term
 returns-in-Minus c texts known =
     let minus = known.grammar.minus in
-    rw c.in-Minus.is (c.may_begin-in-Minus.ensures texts known.different (is_known texts c.args.names.now.minus (codes "-") minus)
-    ∙ ap (may_begin (named texts c.args.ops.now)) (text_known texts c.args.names.now.minus (codes "-") minus))
+    rw c.in-Minus.is (c.may_begin-in-Minus.ensures texts known.different (is_known texts c.args.grammar.now.names.now.minus (codes "-") minus)
+    ∙ ap (may_begin (named texts c.args.grammar.now.ops.now)) (text_known texts c.args.grammar.now.names.now.minus (codes "-") minus))

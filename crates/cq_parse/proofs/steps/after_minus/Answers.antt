@@ -8,7 +8,7 @@ returns-in_ok-number-in-Numeral-clause-step c ops texts =
     rw (
       c.in-Numeral.is,
       c.after.ensures,
-      frames_kept texts ts c.number.new.heap.now.terms c.in_ok-number-in-Numeral.ensures.terms c.args.frames.now.items c.requires.frames,
+      frames_kept texts ts c.number.new.heap.now.terms c.in_ok-number-in-Numeral.ensures.heap.terms c.args.frames.now.items c.requires.frames,
       c.in_ok-number-in-Numeral.ensures.built,
       c.neg.ensures,
     ) refl

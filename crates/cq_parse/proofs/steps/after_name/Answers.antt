@@ -10,7 +10,7 @@ use Rattle.cq_parse.proofs.steps.after_name.Goals as goal
 
 pub returns-in_ok-push-in-Some-clause-step : goal.returns-in_ok-push-in-Some-clause-step
 returns-in_ok-push-in-Some-clause-step c texts known is =
-    let ops = named texts c.args.ops.now in
+    let ops = named texts c.args.grammar.now.ops.now in
     let f = text_of texts c.args.name in
     let ts = c.args.heap.now.now.terms in
     let k = frames_of texts ts c.args.frames.now.items in
@@ -23,14 +23,14 @@ returns-in_ok-push-in-Some-clause-step c texts known is =
 
 pub returns-in_ok-operand-in-None-clause-step : goal.returns-in_ok-operand-in-None-clause-step
 returns-in_ok-operand-in-None-clause-step c texts known is =
-    let ops = named texts c.args.ops.now in
+    let ops = named texts c.args.grammar.now.ops.now in
     let f = text_of texts c.args.name in
     let ts = c.args.heap.now.now.terms in
     let us = c.atom.new.heap.now.terms in
     let k = frames_of texts ts c.args.frames.now.items in
     let tok = token_of texts c.args.token.now in
     let there : after_operand ops (frames_of texts us c.args.frames.now.items) c.args.most (tree texts us c.in_ok-operand-in-None.operand) tok (use_of ops c.args.most 0 tok) ≡ after_name ops f c.args.most k tok (applied_as ops f (tok ∷ [])) =
-    rw (sym (c.in-None.ensures texts known is), frames_kept texts ts us c.in_ok-operand-in-None.ensures.terms c.args.frames.now.items c.requires.frames, c.in_ok-operand-in-None.ensures.built) refl in
+    rw (sym (c.in-None.ensures texts known is), frames_kept texts ts us c.in_ok-operand-in-None.ensures.heap.terms c.args.frames.now.items c.requires.frames, c.in_ok-operand-in-None.ensures.built) refl in
     subst (λ s. IfOk c.behind.result (λ next. state_or_none texts c.behind.new.heap.now.terms c.behind.new.frames.items next ≡ s)) there (c.behind.ensures.step texts known)
 
 pub returns-in_ok-operand-in-None-clause-known : goal.returns-in_ok-operand-in-None-clause-known

@@ -13,8 +13,8 @@ returns-in_ok-atom-in-CloseCurly-clause-step c ops texts known =
     rw (
       c.in-CloseCurly.is,
       c.after.ensures,
-      frames_kept texts ts us c.in_ok-atom-in-CloseCurly.ensures.terms c.args.frames.now.items c.requires.frames,
-      name_tree texts us us c.args.names.now.curly c.in_ok-atom-in-CloseCurly.field-0 (codes "{}") c.in_ok-atom-in-CloseCurly.ensures.built known.curly,
+      frames_kept texts ts us c.in_ok-atom-in-CloseCurly.ensures.heap.terms c.args.frames.now.items c.requires.frames,
+      name_tree texts us us c.args.grammar.now.names.now.curly c.in_ok-atom-in-CloseCurly.field-0 (codes "{}") c.in_ok-atom-in-CloseCurly.ensures.built known.curly,
     ) refl
 
 pub returns-in_default : goal.returns-in_default
@@ -24,9 +24,6 @@ returns-in_default c = record {
       (curly_begins ops texts c.args.most (frames_of texts c.args.heap.now.now.terms c.args.frames.now.items) c.args.token.now c.in_default.not-CloseCurly) (c.first_in_braces.ensures.step ops texts known);
   known = c.first_in_braces.ensures.known;
   frames = c.first_in_braces.ensures.frames;
-  stand = c.first_in_braces.ensures.stand;
-  terms = c.first_in_braces.ensures.terms;
-  images = c.first_in_braces.ensures.images;
-  saved = c.first_in_braces.ensures.saved;
-  room = c.first_in_braces.ensures.room;
+  state = c.first_in_braces.ensures.state;
+  heap = c.first_in_braces.ensures.heap;
 }

@@ -13,8 +13,8 @@ returns-in_ok-atom-in-CloseList-clause-step c ops texts known =
     rw (
       c.in-CloseList.is,
       c.after.ensures,
-      frames_kept texts ts us c.in_ok-atom-in-CloseList.ensures.terms c.args.frames.now.items c.requires.frames,
-      name_tree texts us us c.args.names.now.nil c.in_ok-atom-in-CloseList.field-0 (codes "[]") c.in_ok-atom-in-CloseList.ensures.built known.nil,
+      frames_kept texts ts us c.in_ok-atom-in-CloseList.ensures.heap.terms c.args.frames.now.items c.requires.frames,
+      name_tree texts us us c.args.grammar.now.names.now.nil c.in_ok-atom-in-CloseList.field-0 (codes "[]") c.in_ok-atom-in-CloseList.ensures.built known.nil,
     ) refl
 
 pub returns-in_default : goal.returns-in_default
@@ -24,9 +24,6 @@ returns-in_default c = record {
       (list_begins ops texts c.args.most (frames_of texts c.args.heap.now.now.terms c.args.frames.now.items) c.args.token.now c.in_default.not-CloseList) (c.first_element.ensures.step ops texts known);
   known = c.first_element.ensures.known;
   frames = c.first_element.ensures.frames;
-  stand = c.first_element.ensures.stand;
-  terms = c.first_element.ensures.terms;
-  images = c.first_element.ensures.images;
-  saved = c.first_element.ensures.saved;
-  room = c.first_element.ensures.room;
+  state = c.first_element.ensures.state;
+  heap = c.first_element.ensures.heap;
 }

@@ -13,7 +13,7 @@ returns-in_ok-number-in-Numeral-clause-step c ops texts known =
     rw (
       c.in-Numeral.is,
       c.after-in-Numeral.ensures,
-      frames_kept texts ts c.number.new.heap.now.terms c.in_ok-number-in-Numeral.ensures.terms c.args.frames.now.items c.requires.frames,
+      frames_kept texts ts c.number.new.heap.now.terms c.in_ok-number-in-Numeral.ensures.heap.terms c.args.frames.now.items c.requires.frames,
       c.in_ok-number-in-Numeral.ensures.built,
     ) refl
 
@@ -23,7 +23,7 @@ returns-in_ok-code_list-in-Codes-clause-step c ops texts known =
     rw (
       c.in-Codes.is,
       c.after-in-Codes.ensures,
-      frames_kept texts ts c.code_list.new.heap.now.terms c.in_ok-code_list-in-Codes.ensures.terms c.args.frames.now.items c.requires.frames,
+      frames_kept texts ts c.code_list.new.heap.now.terms c.in_ok-code_list-in-Codes.ensures.heap.terms c.args.frames.now.items c.requires.frames,
       c.in_ok-code_list-in-Codes.ensures.list texts known,
       c.deref.ensures,
     ) refl

@@ -1,7 +1,7 @@
 use Rattle.std.proofs.Common.{◌≡◌, refl, sym, ◌∙◌, arith, []}
 use Rattle.std.proofs.lemmas.Grind.{common_steps}
 use Rattle.cq_ops.specs.Tables.{named}
-use Rattle.cq_parse.proofs.Kept.{frames_kept, frames_live, frames_push, prefix_both}
+use Rattle.cq_parse.proofs.Kept.{frames_kept, frames_live, frames_push, grows_both}
 use Rattle.cq_parse.proofs.Trees.{unary_tree}
 use Rattle.cq_parse.proofs.steps.behind.Goals as goal
 
@@ -12,23 +12,23 @@ returns-in-Postfix-clause-step c texts known =
     rw (
       ← c.loop-name.invariant.same texts known,
       sym (c.in-Postfix.ensures texts known),
-      frames_kept texts ts us c.in_ok-operand-in-Postfix.ensures.terms c.loop-name.frames.items c.loop-name.invariant.frames,
+      frames_kept texts ts us c.in_ok-operand-in-Postfix.ensures.heap.terms c.loop-name.frames.items c.loop-name.invariant.frames,
       unary_tree texts ts us c.in-Postfix.name c.loop-name.a c.in_ok-operand-in-Postfix.operand c.in_ok-operand-in-Postfix.ensures.built,
     ) refl
 
 pub returns-in-Postfix-clause-frames : goal.returns-in-Postfix-clause-frames
 returns-in-Postfix-clause-frames c =
-    frames_live c.loop-name.heap.now.terms c.compound.new.heap.now.terms c.loop-name.frames.items c.in_ok-operand-in-Postfix.ensures.terms c.loop-name.invariant.frames
+    frames_live c.loop-name.heap.now.terms c.compound.new.heap.now.terms c.loop-name.frames.items c.in_ok-operand-in-Postfix.ensures.heap.terms c.loop-name.invariant.frames
 
 pub returns-in-None-clause-step : goal.returns-in-None-clause-step
 returns-in-None-clause-step c texts known =
     let old : c.loop-name.frames.items ≡ [] = grind (arith, common_steps, c.in-None.ensures.variant) in
     let new : c.pop.new.self.items ≡ [] = grind (arith, common_steps, c.in-None.ensures.rest, old) in
-    rw (← c.loop-name.invariant.same texts known, sym (c.in-Outside.ensures texts known), old, new) (c.whole.ensures.step (named texts c.args.ops.now) texts c.loop-name.heap.now.terms)
+    rw (← c.loop-name.invariant.same texts known, sym (c.in-Outside.ensures texts known), old, new) (c.whole.ensures.step (named texts c.args.grammar.now.ops.now) texts c.loop-name.heap.now.terms)
 
 pub returns-in-Done-clause-step : goal.returns-in-Done-clause-step
 returns-in-Done-clause-step c texts known =
-    let done = rw c.in-Done.is at (c.in_ok-next-in-Some.ensures.folds (named texts c.args.ops.now) texts c.loop-name.m known.grammar) in
+    let done = rw c.in-Done.is at (c.in_ok-next-in-Some.ensures.folds (named texts c.args.grammar.now.ops.now) texts c.loop-name.m known.grammar) in
     rw (← c.loop-name.invariant.same texts known, sym (c.in-Outside.ensures texts known), c.in-Some.ensures.items, frames_push) done
 
 pub loop-name-preserved : goal.loop-name-preserved
@@ -38,12 +38,9 @@ loop-name-preserved c =
       frames = folded.frames;
       operand = rw c.in-Operand.is at folded.folded;
       same = λ texts known.
-          let operand = rw c.in-Operand.is at (folded.folds (named texts c.args.ops.now) texts c.loop-name.m known.grammar) in
+          let operand = rw c.in-Operand.is at (folded.folds (named texts c.args.grammar.now.ops.now) texts c.loop-name.m known.grammar) in
           rw (← c.loop-name.invariant.same texts known, sym (c.in-Outside.ensures texts known), c.in-Some.ensures.items, frames_push) operand;
-      terms = prefix_both c.args.heap.now.now.terms c.loop-name.heap.now.terms c.fold.new.heap.now.terms c.loop-name.invariant.terms folded.terms;
-      images = folded.images ∙ c.loop-name.invariant.images;
-      saved = c.fold.ensures.saved ∙ c.loop-name.invariant.saved;
-      room = omega (arith, c.fold.ensures.room, c.loop-name.invariant.room);
+      heap = grows_both c.args.heap.now c.loop-name.heap c.fold.new.heap c.loop-name.invariant.heap c.fold.ensures.heap;
     }
 
 pub returns-in-Done-clause-known : goal.returns-in-Done-clause-known

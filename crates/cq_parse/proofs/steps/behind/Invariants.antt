@@ -3,7 +3,7 @@ use Rattle.spec_lists.specs.Texts.{Text}
 use Rattle.cq_ops.specs.Tables.{named}
 use Rattle.spec_syntax.specs.Grammar.{use_of}
 use Rattle.spec_syntax.specs.Machine.{after_operand}
-use Rattle.cq_parse.specs.Views.{IsPrefix, tree, token_of, frames_of, AreLive}
+use Rattle.cq_parse.specs.Views.{OnlyGrows, tree, token_of, frames_of, AreLive}
 use Rattle.cq_parse.specs.Known.{Knows}
 use Rattle.cq_parse.proofs.steps.behind.Given as goal
 
@@ -11,13 +11,10 @@ abbrev pub invariant-loop-name : goal.invariant-loop-name
 invariant-loop-name l = record {
   frames : AreLive (length l.heap.now.terms) l.frames.items;
   operand : l.a < length l.heap.now.terms;
-  same : (texts : List Text) → Knows texts l.names l.token →
-      after_operand (named texts l.ops) (frames_of texts l.heap.now.terms l.frames.items) l.m (tree texts l.heap.now.terms l.a) (token_of texts l.token) (use_of (named texts l.ops) l.m l.l (token_of texts l.token))
-      ≡ after_operand (named texts l.ops) (frames_of texts l.fn.heap.now.terms l.fn.frames.items) l.fn.most (tree texts l.fn.heap.now.terms l.fn.operand) (token_of texts l.token) (use_of (named texts l.ops) l.fn.most l.fn.priority (token_of texts l.token));
-  terms : IsPrefix l.fn.heap.now.terms l.heap.now.terms;
-  images : l.heap.now.images ≡ l.fn.heap.now.images;
-  saved : l.heap.saved ≡ l.fn.heap.saved;
-  room : l.fn.heap.room ≤ l.heap.room;
+  same : (texts : List Text) → Knows texts l.grammar.names.now l.token →
+      after_operand (named texts l.grammar.ops.now) (frames_of texts l.heap.now.terms l.frames.items) l.m (tree texts l.heap.now.terms l.a) (token_of texts l.token) (use_of (named texts l.grammar.ops.now) l.m l.l (token_of texts l.token))
+      ≡ after_operand (named texts l.grammar.ops.now) (frames_of texts l.fn.heap.now.terms l.fn.frames.items) l.fn.most (tree texts l.fn.heap.now.terms l.fn.operand) (token_of texts l.token) (use_of (named texts l.grammar.ops.now) l.fn.most l.fn.priority (token_of texts l.token));
+  heap : OnlyGrows l.fn.heap l.heap;
 }
 
 abbrev pub decreases-loop-name : goal.decreases-loop-name

@@ -1,0 +1,7 @@
+use Rattle.spec_terms.specs.Term.{Number}
+use Rattle.cq_parse.proofs.Kept.{grows_by}
+use Rattle.cq_parse.proofs.building.number.Goals as goal
+
+pub returns-clause-heap : goal.returns-clause-heap
+returns-clause-heap c =
+    grows_by c.args.heap.now c.number.new.self (Number c.args.number) c.number.result c.number.ensures.terms c.number.ensures.images c.number.ensures.saved c.number.ensures.room c.number.ensures.err
