@@ -2,6 +2,8 @@
 use Rattle.std.proofs.Common.{◌≡◌, ℕ, Bool, true, false, not, ◌&&◌, ◌||◌, inl, inr, ◌⊎◌, List, [], ◌∷◌, ◌++◌, codes, Option, Some, None, is_some, refl, sym, ap, subst, ◌∙◌, append_assoc, append-nil}
 use Rattle.std.specs.Prelude.{⊤, if◌then◌else◌, bytes_eq}
 use Rattle.std.specs.Cmp.Lexicographic.{bytes_decides}
+use Rattle.std.proofs.lemmas.Bool.{false≢true}
+use Rattle.std.proofs.lemmas.Option.{none-some}
 use Rattle.spec_lists.specs.Texts.{Text}
 use Rattle.spec_lists.proofs.Tests.{or_left, or_right}
 use Rattle.spec_rational.specs.Rational.{ℚ, neg_ℚ}
@@ -199,14 +201,8 @@ good_more ops a ps qs good others rest h c =
 
 -- ---- operators
 
-false_true : false ≡ true → ⊥
-false_true e = cc
-
 some_true : (o : Option OpDef) (op : OpDef) → o ≡ Some op → is_some o ≡ true
 some_true o op e = ap is_some e
-
-none_some : (o : Option OpDef) (op : OpDef) → o ≡ None → o ≡ Some op → ⊥
-none_some o op e h = let g : None ≡ Some op = sym e ∙ h in cc
 
 module _ (ops : Ops) (are : IsTable ops) (bare : NamesAreBare ops) where
   -- a name of the table that is not the comma needs no quotes
@@ -220,17 +216,17 @@ module _ (ops : Ops) (are : IsTable ops) (bare : NamesAreBare ops) where
   prefix_bare : (f : Text) (op : OpDef) → ops.prefix f ≡ Some op → needs_quotes f ≡ false
   prefix_bare f op e =
       other_than_comma f (or_left (is_some (ops.prefix f) || is_some (ops.infixed f)) (is_some (ops.postfix f)) (or_left (is_some (ops.prefix f)) (is_some (ops.infixed f)) (some_true (ops.prefix f) op e)))
-      (λ comma. none_some (ops.prefix f) op (ap ops.prefix comma ∙ are.no_prefix_comma) e)
+      (λ comma. none-some op (sym (ap ops.prefix comma ∙ are.no_prefix_comma) ∙ e))
 
   postfix_bare : (f : Text) (op : OpDef) → ops.postfix f ≡ Some op → needs_quotes f ≡ false
   postfix_bare f op e =
       other_than_comma f (or_right (is_some (ops.prefix f) || is_some (ops.infixed f)) (is_some (ops.postfix f)) (some_true (ops.postfix f) op e))
-      (λ comma. none_some (ops.postfix f) op (are.not_both f _ (ap ops.infixed comma ∙ are.comma)) e)
+      (λ comma. none-some op (sym (are.not_both f _ (ap ops.infixed comma ∙ are.comma)) ∙ e))
 
   infix_bare : (f : Text) (op : OpDef) → ops.infixed f ≡ Some op → bytes_eq f (codes ",") ≡ false → needs_quotes f ≡ false
   infix_bare f op e other =
       other_than_comma f (or_left (is_some (ops.prefix f) || is_some (ops.infixed f)) (is_some (ops.postfix f)) (or_right (is_some (ops.prefix f)) (is_some (ops.infixed f)) (some_true (ops.infixed f) op e)))
-      (λ comma. false_true (sym other ∙ (bytes_decides f (codes ",")).1 comma))
+      (λ comma. false≢true (sym other ∙ (bytes_decides f (codes ",")).1 comma))
 
   good_prefix : (op : OpDef) (b : Bool) (f : Text) (a : Tree) (ps : List Piece) → ops.prefix f ≡ Some op → Good ps → Good (prefix_pieces ops op b f a ps)
   good_prefix op true f a ps e good rest h c = good_functional f ps good rest h c
@@ -274,7 +270,7 @@ module _ (ops : Ops) (are : IsTable ops) (bare : NamesAreBare ops) where
           signed : (n : ℚ) (b x : Bool) → (b ≡ true → ⊥) → (y : Bool) → bytes_eq f (codes "-") ≡ y →
               (let p : Piece = record { token = (if y then Minus else Named f (needs_quotes f)); has_blanks = false; is_prefix = false } in ComesBehind p.token × HasBlanksByName p × Precedes p.token p (record { token = Numeral n; has_blanks = b; is_prefix = x }))
           signed n b x k true i = (tt, (λ z. cc), (tt, record { no_blanks = refl; no_blanks_behind = touching b k; no_prefix = refl }))
-          signed n b x k false i = simply (Numeral n) b x (λ same. false_true (sym i ∙ (bytes_decides f (codes "-")).1 same))
+          signed n b x k false i = simply (Numeral n) b x (λ same. false≢true (sym i ∙ (bytes_decides f (codes "-")).1 same))
 
           on : (t : Token) (b x : Bool) → (b ≡ true → IsNamed t) →
               (let p : Piece = record { token = name_before f (t ∷ tokens ps); has_blanks = false; is_prefix = false } in ComesBehind p.token × HasBlanksByName p × Precedes p.token p (record { token = t; has_blanks = b; is_prefix = x }))

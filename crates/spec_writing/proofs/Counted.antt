@@ -6,7 +6,7 @@ use Rattle.std.specs.Str.{continuation_len}
 use Rattle.std.specs.Cmp.Lexicographic.{bytes_decides}
 use Rattle.std.proofs.lemmas.Bool.Decides.{nat_tests}
 use Rattle.spec_grammar.specs.declared.Kind.TheVariants as kind
-use Rattle.spec_grammar.specs.Characters.{first_char, passes, continues_name, name_end}
+use Rattle.spec_grammar.specs.Characters.{first_char, passes, continues_name}
 use Rattle.spec_grammar.specs.Quotes.{digits_value}
 use Rattle.spec_grammar.specs.Tokens.{token, token_at}
 use Rattle.spec_grammar.specs.Laws.{AllPass, Continues}
@@ -15,6 +15,7 @@ use Rattle.spec_syntax.specs.TextTokens.{number_of, known, with_name}
 use Rattle.spec_writing.specs.Numbers.{whole_text}
 use Rattle.spec_writing.specs.Written.{counted_name}
 use Rattle.spec_writing.specs.ReadingBack.{counted_names, counted}
+use Rattle.spec_writing.proofs.Names.{stops_there}
 use Rattle.spec_writing.proofs.Wholes.{IsSome, whole_some, whole_digits, whole_value}
 
 pub digit_continues : (b : ℕ) → is_digit b 10 ≡ true → (continues_name b ≡ true) × (b < 128) × (continuation_len b ≡ 0)
@@ -29,10 +30,6 @@ digits_continue [] h = tt
 digits_continue (b ∷ bs) h =
     let d = digit_continues b h.0 in
     (ap (passes continues_name) (first_char-ascii b bs d.1) ∙ d.0, rw d.2 (omega arith), subst (λ k. Continues k bs) (sym d.2) (digits_continue bs h.1))
-
-stops_there : (more : List ℕ) (at : ℕ) → passes continues_name (first_char more) ≡ false → name_end 0 more at ≡ at
-stops_there [] at e = refl
-stops_there (b ∷ bs) at e = rw e refl
 
 pub variable_cut : (v : ℕ) (more : List ℕ) (at : ℕ) → passes continues_name (first_char more) ≡ false → token_at (counted_name v ++ more) at ≡ Ok (token kind.Variable at (at + length (counted_name v)))
 variable_cut v more at stops = variable_again 95 (whole_text (1 + v)) more at refl (digits_continue (whole_text (1 + v)) (whole_digits (1 + v))) (stops_there more _ stops)

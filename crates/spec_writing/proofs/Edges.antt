@@ -4,10 +4,12 @@ use Rattle.std.specs.Prelude.{◌==◌, encode_utf8}
 use Rattle.std.specs.Char.{is_digit, is_ascii_digit}
 use Rattle.std.specs.Str.{is_utf8, chars, IsAscii, continuation_len, all_scalars, encode_utf8_all}
 use Rattle.std.proofs.lemmas.Bool.Decides.{nat_tests}
+use Rattle.std.proofs.lemmas.Bool.{and_parts, false≢true}
 use Rattle.std.proofs.lemmas.Str.{chars-IsAscii, encodes-chars, scalars-chars, IsUtf8-from_is_utf8}
 use lib.Utf8.{scalar}
 use Rattle.spec_rational.specs.Rational.{ℚ}
 use Rattle.spec_lists.specs.Texts.{Text}
+use Rattle.spec_lists.proofs.Tests.{or_left, or_right}
 use Rattle.spec_grammar.specs.Characters.{is_symbol, starts_name, continues_name, begins, begins_with, first_char, passes}
 use Rattle.spec_grammar.specs.Numerals.{goes_on_as_float}
 use Rattle.spec_grammar.specs.Laws.{AllPass, Continues}
@@ -28,24 +30,9 @@ use Rattle.spec_writing.proofs.Stops.{IsWritableName, IsWritable}
 
 -- ---- tests of bytes
 
-or_true : (a : Bool) → (a || true) ≡ true
-or_true true = refl
-or_true false = refl
-
-true_or : (a b : Bool) → a ≡ true → (a || b) ≡ true
-true_or a b e = rw e refl
-
-both : (a b : Bool) → (a && b) ≡ true → (a ≡ true) × (b ≡ true)
-both true true e = (refl, refl)
-both true false e = cc
-both false b e = cc
-
-not_true : (a : Bool) → (a ≡ true → ⊥) → a ≡ false
+pub not_true : (a : Bool) → (a ≡ true → ⊥) → a ≡ false
 not_true true h = absurd (h refl)
 not_true false h = refl
-
-pub false_true : false ≡ true → ⊥
-false_true e = cc
 
 symbol_small : (b : ℕ) → is_symbol b ≡ true → b < 128
 symbol_small b e = grind (arith, nat_tests)
@@ -57,16 +44,16 @@ symbol_starts_none b e = grind (arith, nat_tests)
 letter_byte : (b n : ℕ) (bs : List ℕ) → passes starts_name (first_char (b ∷ bs)) ≡ true → n < 128 → starts_name n ≡ false → (b == n) ≡ false
 letter_byte b n bs starts low no_start = not_true (b == n) (λ e.
     let same : b ≡ n = grind (arith, nat_tests) in
-    false_true (sym no_start ∙ ap (passes starts_name) (sym (first_char-ascii b bs (omega (arith, same, low)) ∙ ap Some same)) ∙ starts))
+    false≢true (sym no_start ∙ ap (passes starts_name) (sym (first_char-ascii b bs (omega (arith, same, low)) ∙ ap Some same)) ∙ starts))
 
 starts_no_digit : (b : ℕ) (bs : List ℕ) → passes starts_name (first_char (b ∷ bs)) ≡ true → is_ascii_digit b ≡ false
 starts_no_digit b bs starts = not_true (is_ascii_digit b) (λ e.
     let low : b < 128 = grind (arith, nat_tests) in
     let none : starts_name b ≡ false = grind (arith, nat_tests) in
-    false_true (sym none ∙ ap (passes starts_name) (sym (first_char-ascii b bs low)) ∙ starts))
+    false≢true (sym none ∙ ap (passes starts_name) (sym (first_char-ascii b bs low)) ∙ starts))
 
 symbol_not : (b n : ℕ) → is_symbol b ≡ true → is_symbol n ≡ false → (b == n) ≡ false
-symbol_not b n symbol other = not_true (b == n) (λ e. let same : b ≡ n = grind (arith, nat_tests) in false_true (sym other ∙ ap is_symbol (sym same) ∙ symbol))
+symbol_not b n symbol other = not_true (b == n) (λ e. let same : b ≡ n = grind (arith, nat_tests) in false≢true (sym other ∙ ap is_symbol (sym same) ∙ symbol))
 
 symbol_no_digit : (b : ℕ) → is_symbol b ≡ true → is_ascii_digit b ≡ false
 symbol_no_digit b e = grind (arith, nat_tests)
@@ -204,13 +191,13 @@ abbrev is_word : ℕ → Bool
 is_word b = nat_lt b 128 && ends_name b
 
 word_small : (b : ℕ) → is_word b ≡ true → b < 128
-word_small b e = let h = (both (nat_lt b 128) (ends_name b) e).0 in grind (arith, nat_tests)
+word_small b e = let h = (and_parts (nat_lt b 128) (ends_name b) e).0 in grind (arith, nat_tests)
 
 digit_word : (b : ℕ) → is_digit b 10 ≡ true → is_word b ≡ true
 digit_word b e =
     let small : nat_lt b 128 ≡ true = grind (arith, nat_tests) in
     let goes : continues_name b ≡ true = grind (arith, nat_tests) in
-    rw (goes, or_true (starts_name b), small) refl
+    rw (goes, or_right (starts_name b) true refl, small) refl
 
 words_of_digits : (w : Text) → AllPass (λ b. is_digit b 10) w → AllPass is_word w
 words_of_digits [] all = tt
@@ -222,7 +209,7 @@ words-append (c ∷ w) x a b = (a.0, words-append w x a.1 b)
 
 passes_weaker : (o : Option ℕ) → passes is_word o ≡ true → passes ends_name o ≡ true
 passes_weaker None e = e
-passes_weaker (Some c) e = (both (nat_lt c 128) (ends_name c) e).1
+passes_weaker (Some c) e = (and_parts (nat_lt c 128) (ends_name c) e).1
 
 last_word : (w : Text) → IsSome w → AllPass is_word w → passes ends_name (last_of (chars w)) ≡ true
 last_word w some all = passes_weaker (last_of (chars w)) (last_ascii is_word word_small w some all)
@@ -255,20 +242,20 @@ skip_past (b ∷ bs) more h = skip_past bs more h
 all_end : (cs : List ℕ) → all_scalars cs ≡ true → Continues 0 (encode_utf8_all cs) → AllPass ends_name cs
 all_end [] s h = tt
 all_end (c ∷ cs) s h =
-    let p = both (scalar c) (all_scalars cs) s in
+    let p = and_parts (scalar c) (all_scalars cs) s in
     let k = is_char c p.0 in
     let bytes : encode_utf8 c ++ encode_utf8_all cs ≡ k.first ∷ (k.others ++ encode_utf8_all cs) = ap (λ xs. xs ++ encode_utf8_all cs) k.bytes in
     let g : Continues 0 (k.first ∷ (k.others ++ encode_utf8_all cs)) = subst (Continues 0) bytes h in
     let first : first_char (k.first ∷ (k.others ++ encode_utf8_all cs)) ≡ Some c = first_char-append k.first k.others (encode_utf8_all cs) (omega (arith, k.size)) ∙ k.char in
     let goes : continues_name c ≡ true = ap (passes continues_name) (sym first) ∙ g.0 in
     let rest : Continues (length k.others) (k.others ++ encode_utf8_all cs) = subst (λ n. Continues n (k.others ++ encode_utf8_all cs)) (sym k.size) g.2 in
-    (ap (λ x. starts_name c || x) goes ∙ or_true (starts_name c), all_end cs p.1 (skip_past k.others (encode_utf8_all cs) rest))
+    (ap (λ x. starts_name c || x) goes ∙ or_right (starts_name c) true refl, all_end cs p.1 (skip_past k.others (encode_utf8_all cs) rest))
 
 -- a name of letters: the first character starts it
 letters_end : (cs : List ℕ) (b : ℕ) (bs : List ℕ) → all_scalars cs ≡ true → encode_utf8_all cs ≡ b ∷ bs → passes starts_name (first_char (b ∷ bs)) ≡ true → Continues (continuation_len b) bs → IsSome cs × AllPass ends_name cs
 letters_end [] b bs s e starts h = cc
 letters_end (c ∷ cs) b bs s e starts h =
-    let p = both (scalar c) (all_scalars cs) s in
+    let p = and_parts (scalar c) (all_scalars cs) s in
     let k = is_char c p.0 in
     let bytes : k.first ∷ (k.others ++ encode_utf8_all cs) ≡ b ∷ bs = sym (ap (λ xs. xs ++ encode_utf8_all cs) k.bytes) ∙ e in
     let lead : k.first ≡ b = cc in
@@ -277,7 +264,7 @@ letters_end (c ∷ cs) b bs s e starts h =
     let begin : starts_name c ≡ true = ap (passes starts_name) (sym first) ∙ starts in
     let size : continuation_len b ≡ length k.others = ap continuation_len (sym lead) ∙ sym k.size in
     let rest : Continues (length k.others) (k.others ++ encode_utf8_all cs) = subst (λ xs. Continues (length k.others) xs) (sym tail) (subst (λ n. Continues n bs) size h) in
-    (tt, (true_or (starts_name c) (continues_name c) begin, all_end cs p.1 (skip_past k.others (encode_utf8_all cs) rest)))
+    (tt, (or_left (starts_name c) (continues_name c) begin, all_end cs p.1 (skip_past k.others (encode_utf8_all cs) rest)))
 
 -- the last character of a name of letters ends it
 pub letters_last : (f : Text) → is_utf8 f ≡ true → needs_quotes f ≡ false → passes starts_name (first_char f) ≡ true → passes ends_name (last_of (chars f)) ≡ true
@@ -289,11 +276,11 @@ letters_last (b ∷ bs) valid bare starts = by (bare_kind b bs bare)
         let u = IsUtf8-from_is_utf8 (b ∷ bs) valid in
         let p = letters_end (chars (b ∷ bs)) b bs (scalars-chars (b ∷ bs) u) (encodes-chars (b ∷ bs) u) begin continues in
         last_passes ends_name (chars (b ∷ bs)) p.0 p.1
-    by (Symbols all no_stop) = absurd (false_true (sym (symbol_starts_none b all.0) ∙ ap (passes starts_name) (sym (first_char-ascii b bs (symbol_small b all.0))) ∙ starts))
+    by (Symbols all no_stop) = absurd (false≢true (sym (symbol_starts_none b all.0) ∙ ap (passes starts_name) (sym (first_char-ascii b bs (symbol_small b all.0))) ∙ starts))
     by (Sign sign alone) =
         let low : b < 128 = grind (arith, nat_tests) in
         let none : starts_name b ≡ false = grind (arith, nat_tests) in
-        absurd (false_true (sym none ∙ ap (passes starts_name) (sym (first_char-ascii b bs low)) ∙ starts))
+        absurd (false≢true (sym none ∙ ap (passes starts_name) (sym (first_char-ascii b bs low)) ∙ starts))
 
 -- the last character of a name of symbol characters is one
 pub symbols_last : (f : Text) → needs_quotes f ≡ false → begins is_symbol f ≡ true → passes is_symbol (last_of (chars f)) ≡ true
@@ -302,10 +289,10 @@ symbols_last (b ∷ bs) bare symbol = by (bare_kind b bs bare)
   where
     by : BareKind b bs → passes is_symbol (last_of (chars (b ∷ bs))) ≡ true
     by (Symbols all no_stop) = last_ascii is_symbol symbol_small (b ∷ bs) tt all
-    by (Letters begin size continues) = absurd (false_true (sym (symbol_starts_none b symbol) ∙ ap (passes starts_name) (sym (first_char-ascii b bs (symbol_small b symbol))) ∙ begin))
-    by (Sign sign alone) = let none : is_symbol b ≡ false = grind (arith, nat_tests) in absurd (false_true (sym none ∙ symbol))
+    by (Letters begin size continues) = absurd (false≢true (sym (symbol_starts_none b symbol) ∙ ap (passes starts_name) (sym (first_char-ascii b bs (symbol_small b symbol))) ∙ begin))
+    by (Sign sign alone) = let none : is_symbol b ≡ false = grind (arith, nat_tests) in absurd (false≢true (sym none ∙ symbol))
 
 -- a text that begins with a symbol character has it as its first character
 pub no_symbol_first : (w : Text) → passes is_symbol (first_char w) ≡ false → begins is_symbol w ≡ false
 no_symbol_first [] e = refl
-no_symbol_first (b ∷ bs) e = not_true (is_symbol b) (λ symbol. false_true (sym e ∙ ap (passes is_symbol) (first_char-ascii b bs (symbol_small b symbol)) ∙ symbol))
+no_symbol_first (b ∷ bs) e = not_true (is_symbol b) (λ symbol. false≢true (sym e ∙ ap (passes is_symbol) (first_char-ascii b bs (symbol_small b symbol)) ∙ symbol))

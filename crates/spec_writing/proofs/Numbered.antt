@@ -10,6 +10,7 @@ use Rattle.spec_rational.specs.Rational.{ℚ, neg_ℚ, ratio, denominator}
 use Rattle.spec_operators.specs.declared.OpDef.{OpDef}
 use Rattle.spec_operators.specs.Operators.{Ops, right_most}
 use Rattle.spec_lists.specs.Texts.{Text}
+use Rattle.spec_lists.proofs.Tests.{nat_eq-self, nat_eq-apart}
 use Rattle.spec_terms.specs.Term.{Terms, Var, Number, Name, Compound, one, more, apply, apply_all}
 use Rattle.spec_terms.specs.Variables.{with_variable, variables_after, variables_in, variables, renamed_from}
 use Rattle.spec_syntax.specs.Tokens.{Token, Numeral, Variable, Named, Minus, Open, Close, CloseList, CloseCurly, Comma}
@@ -189,12 +190,6 @@ place_new v (w ∷ vs) rest e = by (w == v) refl e (λ h. place_new v vs rest h)
     by true i h next = cc
     by false i h next = let r : place_of v (vs ++ v ∷ rest) ≡ length vs = next h in omega (arith, r)
 
-is_self : (n : ℕ) → (n == n) ≡ true
-is_self n = grind (arith, nat_tests)
-
-is_other : (m n : ℕ) → m < n → (m == n) ≡ false
-is_other m n h = grind (arith, nat_tests)
-
 module _ (ops : Ops) (all : List ℕ) where
   abbrev number : ℕ → ℕ
   number v = 0 + place_of v all
@@ -209,12 +204,12 @@ module _ (ops : Ops) (all : List ℕ) where
       by true e front =
           let low : place_of v (vs ++ front.0) < length vs = place_known v vs front.0 e in
           let place : number v ≡ place_of v (vs ++ front.0) = ap (λ xs. 0 + place_of v xs) (sym front.1) ∙ omega arith in
-          let differs : (number v == length vs) ≡ false = is_other (number v) (length vs) (omega (arith, place, low)) in
+          let differs : (number v == length vs) ≡ false = nat_eq-apart (number v) (length vs) (λ e. absurd (omega (arith, place, low, e))) in
           (tt, omega (arith, place, low), rw differs refl)
       by false e front =
           let whole : vs ++ v ∷ front.0 ≡ all = sym (append_assoc vs (v ∷ []) front.0) ∙ front.1 in
           let place : number v ≡ length vs = ap (λ xs. 0 + place_of v xs) (sym whole) ∙ (let z : 0 + place_of v (vs ++ v ∷ front.0) ≡ length vs = omega (arith, place_new v vs front.0 e) in z) in
-          let same : (number v == length vs) ≡ true = ap (λ n. n == length vs) place ∙ is_self (length vs) in
+          let same : (number v == length vs) ≡ true = ap (λ n. n == length vs) place ∙ nat_eq-self (length vs) in
           let l : length (vs ++ v ∷ []) ≡ length vs + 1 = length-append vs (v ∷ []) in
           (tt, omega (arith, place), rw same (omega (arith, l)))
 

@@ -1,13 +1,15 @@
 -- A name in quotes is cut as it is written, and means the name again.
-use Rattle.std.proofs.Common.{◌≡◌, ℕ, suc, ◌+◌, ◌<◌, ◌≤◌, Bool, true, false, ◌&&◌, List, [], ◌∷◌, ◌++◌, codes, length, length-append, append_assoc, append-nil, take, nat_lt, Some, Ok, refl, sym, ap, subst, ◌∙◌, arith}
+use Rattle.std.proofs.Common.{◌≡◌, ℕ, suc, ◌+◌, ◌<◌, ◌≤◌, Bool, true, false, List, [], ◌∷◌, ◌++◌, codes, length, length-append, append_assoc, append-nil, take, nat_lt, Some, Ok, refl, sym, ap, subst, ◌∙◌, arith}
 use Rattle.std.specs.Prelude.{◌/◌, ◌%◌, ◌==◌, if◌then◌else◌, encode_utf8}
 use Rattle.std.specs.Char.{is_control}
 use Rattle.std.specs.Str.{chars, is_utf8, continuation_len, all_scalars, encode_utf8_all}
 use Rattle.std.specs.Fmt.{digits_onto}
 use Rattle.std.proofs.lemmas.Bool.Decides.{nat_tests}
+use Rattle.std.proofs.lemmas.Bool.{and_parts}
 use Rattle.std.proofs.lemmas.Str.{IsUtf8-encode, encode_ascii, chars-encodes, encodes-chars, scalars-chars, IsUtf8-from_is_utf8, is_utf8-from_IsUtf8}
 use lib.Utf8.{scalar, encode}
 use Rattle.spec_lists.specs.Texts.{Text}
+use Rattle.spec_lists.proofs.Tests.{nat_eq-same}
 use Rattle.spec_grammar.specs.Characters.{first_char, begins_with}
 use Rattle.spec_grammar.specs.Quotes.{digits_value, is_scalar, quoted, in_front}
 use Rattle.spec_grammar.proofs.Again.{character_again, letter_again, hexadecimal_again, closing_again}
@@ -111,9 +113,6 @@ is_char c s = by (nat_lt c 128) (nat_lt c 2048) (nat_lt c 65536) refl refl refl
 
 -- ---- escapes
 
-is_same : (m n : ℕ) → (m == n) ≡ true → m ≡ n
-is_same m n e = grind (arith, nat_tests)
-
 some_length : (ds : List ℕ) → IsSome ds → 0 < length ds
 some_length [] h = elim h [ ]
 some_length (d ∷ ds) h = omega arith
@@ -157,30 +156,25 @@ escaped_again c rest at s = by (c == 92) (c == 39) (c == 10) (c == 9) (is_contro
         not_that m n d = go (m == n) refl
           where
             go : (b : Bool) → (m == n) ≡ b → b ≡ false
-            go true e = absurd (d (is_same m n e))
+            go true e = absurd (d (nat_eq-same m n e))
             go false e = refl
 
     by : (v w x y z : Bool) → (c == 92) ≡ v → (c == 39) ≡ w → (c == 10) ≡ x → (c == 9) ≡ y → is_control c ≡ z →
         Again (if v then codes "\\\\" else if w then 92 ∷ 39 ∷ [] else if x then codes "\\n" else if y then codes "\\t" else if z then codes "\\x" ++ digits_onto (suc c) 16 false c [] ++ codes "\\" else encode_utf8 c)
-    by true w x y z v1 w1 x1 y1 z1 = letter_again 39 92 rest c at (ap Some (sym (is_same c 92 v1))) refl
-    by false true x y z v1 w1 x1 y1 z1 = letter_again 39 39 rest c at (ap Some (sym (is_same c 39 w1))) refl
-    by false false true y z v1 w1 x1 y1 z1 = letter_again 39 110 rest c at (ap Some (sym (is_same c 10 x1))) refl
-    by false false false true z v1 w1 x1 y1 z1 = letter_again 39 116 rest c at (ap Some (sym (is_same c 9 y1))) refl
+    by true w x y z v1 w1 x1 y1 z1 = letter_again 39 92 rest c at (ap Some (sym (nat_eq-same c 92 v1))) refl
+    by false true x y z v1 w1 x1 y1 z1 = letter_again 39 39 rest c at (ap Some (sym (nat_eq-same c 39 w1))) refl
+    by false false true y z v1 w1 x1 y1 z1 = letter_again 39 110 rest c at (ap Some (sym (nat_eq-same c 10 x1))) refl
+    by false false false true z v1 w1 x1 y1 z1 = letter_again 39 116 rest c at (ap Some (sym (nat_eq-same c 9 y1))) refl
     by false false false false true v1 w1 x1 y1 z1 = by_number z1
     by false false false false false v1 w1 x1 y1 z1 = as_it_is v1 w1 x1
 
 -- ---- names
 
-both : (a b : Bool) → (a && b) ≡ true → (a ≡ true) × (b ≡ true)
-both true true e = (refl, refl)
-both true false e = cc
-both false b e = cc
-
 all_again : (cs more : List ℕ) (at : ℕ) → all_scalars cs ≡ true → begins_with 39 more ≡ false →
     quoted 39 0 (all_escaped 39 cs ++ 39 ∷ more) at ≡ Ok (record { text = encode_utf8_all cs; stop = at + length (all_escaped 39 cs) + 1 })
 all_again [] more at s apart = closing_again 39 more at refl apart ∙ ap (λ n. Ok (record { text = []; stop = n })) (omega arith)
 all_again (c ∷ cs) more at s apart =
-    let p = both (scalar c) (all_scalars cs) s in
+    let p = and_parts (scalar c) (all_scalars cs) s in
     let rest = all_escaped 39 cs ++ 39 ∷ more in
     let there = at + length (escaped 39 c) in
     let len : length (escaped 39 c ++ all_escaped 39 cs) ≡ length (escaped 39 c) + length (all_escaped 39 cs) = length-append (escaped 39 c) (all_escaped 39 cs) in

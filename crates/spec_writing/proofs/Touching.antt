@@ -1,12 +1,14 @@
 -- Neighbouring pieces of a term stop each other's tokens, with a blank between them or without.
-use Rattle.std.proofs.Common.{◌≡◌, Bool, true, false, ◌&&◌, ◌||◌, ◌⊎◌, inl, inr, ◌<◌, [], ◌∷◌, ◌++◌, codes, refl, sym, ap, subst, ◌∙◌, arith}
+use Rattle.std.proofs.Common.{◌≡◌, Bool, true, false, ◌&&◌, ◌⊎◌, inl, inr, ◌<◌, [], ◌∷◌, ◌++◌, codes, refl, sym, ap, subst, ◌∙◌, arith}
 use Rattle.std.specs.Prelude.{⊤, ◌==◌, if◌then◌else◌, ◌≢◌, bytes_eq}
 use Rattle.std.specs.Cmp.Lexicographic.{bytes_decides}
 use Rattle.std.specs.Char.{is_ascii_digit}
 use Rattle.std.specs.Str.{chars}
+use Rattle.std.proofs.lemmas.Bool.{false≢true}
 use Rattle.std.proofs.lemmas.Bool.Decides.{nat_tests}
 use Rattle.spec_rational.specs.Rational.{ℚ}
 use Rattle.spec_lists.specs.Texts.{Text}
+use Rattle.spec_lists.proofs.Tests.{neither_is}
 use Rattle.spec_grammar.specs.Characters.{is_symbol, continues_name, begins, begins_with, first_char, passes}
 use Rattle.spec_grammar.specs.Numerals.{goes_on_as_float}
 use Rattle.spec_grammar.proofs.Again.{first_char-ascii}
@@ -20,7 +22,7 @@ use Rattle.spec_writing.specs.Written.{counted_name}
 use Rattle.spec_writing.proofs.Names.{StopsName}
 use Rattle.spec_writing.proofs.Marks.{bare_text}
 use Rattle.spec_writing.proofs.Numerals.{StopsNumeral, number_begins}
-use Rattle.spec_writing.proofs.Edges.{false_true, IsWhole, first_char-behind, begins-behind, bare_front, name_front, text_whole, variable_ends, numeral_ends, letters_last, symbols_last, no_symbol_first}
+use Rattle.spec_writing.proofs.Edges.{IsWhole, first_char-behind, begins-behind, bare_front, name_front, text_whole, variable_ends, numeral_ends, letters_last, symbols_last, no_symbol_first}
 use Rattle.spec_writing.proofs.Stops.{StopsNamed, GoesNoFurther, IsWritableName, IsWritable}
 
 -- ---- what may stand before what
@@ -72,10 +74,6 @@ Precedes Minus p q = IsNumeral q.token × Touch p q
 Precedes tok p q = ⊤
 
 -- ---- the text of a piece that comes behind
-
-either_false : (a b : Bool) → (a || b) ≡ false → (a ≡ false) × (b ≡ false)
-either_false true b e = cc
-either_false false b e = (refl, e)
 
 right_false : (a b : Bool) → a ≡ true → (a && b) ≡ false → b ≡ false
 right_false true b e h = h
@@ -209,10 +207,10 @@ pub record NotApart (p q : Piece) : Type 0 where
 not_apart : (p q : Piece) → is_apart Quoted counted_name p q ≡ false → NotApart p q
 unfolding is_apart
 not_apart p q e =
-    let a = either_false _ _ e in
-    let b = either_false _ _ a.0 in
-    let c = either_false _ _ b.0 in
-    let d = either_false _ _ b.1 in
+    let a = neither_is _ _ e in
+    let b = neither_is _ _ a.0 in
+    let c = neither_is _ _ b.0 in
+    let d = neither_is _ _ b.1 in
     record { no_blanks = c.0; symbols = d.0; words = d.1; unbound = λ prefix. right_false p.is_prefix _ prefix a.1 }
 
 module _ (p q : Piece) (wq : IsWritable q.token) (any : Text) (near : NotApart p q) where
@@ -248,7 +246,7 @@ module _ (p q : Piece) (wq : IsWritable q.token) (any : Text) (near : NotApart p
     apart_by (inr comes) needs = (behind_by q.token comes).no_quote any
 
     opens_by : (p.is_prefix ≡ true) ⊎ ((p.has_blanks ≡ true) ⊎ IsUnbound f q.token) → begins_with 40 behind ≡ false
-    opens_by (inl prefix) = (either_false _ _ (near.unbound prefix)).0
+    opens_by (inl prefix) = (neither_is _ _ (near.unbound prefix)).0
     opens_by (inr (inl blanks)) = let z : true ≡ false = sym blanks ∙ near.no_blanks in cc
     opens_by (inr (inr free)) = unbound_open f q.token wq free
 
@@ -259,7 +257,7 @@ module _ (p q : Piece) (wq : IsWritable q.token) (any : Text) (near : NotApart p
     digit_by : (p.is_prefix ≡ true) ⊎ ((p.has_blanks ≡ true) ⊎ IsUnbound f q.token) → f ≡ codes "-" → begins is_ascii_digit behind ≡ false
     digit_by (inl prefix) e =
         let same : text_of Quoted counted_name p ≡ codes "-" = text ∙ ap (name_text Quoted) e ∙ bare_text (codes "-") minus_bare in
-        right_false (bytes_eq (text_of Quoted counted_name p) (codes "-")) _ ((bytes_decides (text_of Quoted counted_name p) (codes "-")).1 same) (either_false _ _ (near.unbound prefix)).1
+        right_false (bytes_eq (text_of Quoted counted_name p) (codes "-")) _ ((bytes_decides (text_of Quoted counted_name p) (codes "-")).1 same) (neither_is _ _ (near.unbound prefix)).1
     digit_by (inr (inl blanks)) e = let z : true ≡ false = sym blanks ∙ near.no_blanks in cc
     digit_by (inr (inr free)) e = unbound_digit f q.token wq free e
 
@@ -399,5 +397,5 @@ stops_before p q any wp wq h = by (is_apart Quoted counted_name p q) refl
     by : (x : Bool) → is_apart Quoted counted_name p q ≡ x → GoesNoFurther p.token ((if x then codes " " else []) ++ (text_of Quoted counted_name q ++ any))
     by true e =
         stops_at_blank p.token (text_of Quoted counted_name q ++ any)
-        (last_by p.token p q refl h (λ o. false_true (sym (open_touches p q o) ∙ e)) (λ m n. false_true (sym (minus_touches p q wq m n) ∙ e)))
+        (last_by p.token p q refl h (λ o. false≢true (sym (open_touches p q o) ∙ e)) (λ m n. false≢true (sym (minus_touches p q wq m n) ∙ e)))
     by false e = stops_touching p.token p q any refl wp wq h (not_apart p q e)
