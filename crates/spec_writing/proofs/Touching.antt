@@ -269,39 +269,45 @@ module _ (p q : Piece) (wq : IsWritable q.token) (any : Text) (near : NotApart p
       goes = stops_name;
     }
 
+only_open : (tok : Token) → IsOpen tok → tok ≡ Open
+only_open Open h = refl
+only_open (Variable v) h = elim h [ ]
+only_open (Numeral q) h = elim h [ ]
+only_open (Codes bytes) h = elim h [ ]
+only_open (Named f quoted) h = elim h [ ]
+only_open (Functor f) h = elim h [ ]
+only_open Minus h = elim h [ ]
+only_open Close h = elim h [ ]
+only_open OpenList h = elim h [ ]
+only_open CloseList h = elim h [ ]
+only_open OpenCurly h = elim h [ ]
+only_open CloseCurly h = elim h [ ]
+only_open Comma h = elim h [ ]
+only_open Bar h = elim h [ ]
+only_open End h = elim h [ ]
+
+digit_begins : (tok : Token) → IsWritable tok → IsNumeral tok → begins is_ascii_digit (token_text Quoted counted_name tok) ≡ true
+digit_begins (Numeral q) w h = number_begins q w.1
+digit_begins Open w h = elim h [ ]
+digit_begins (Variable v) w h = elim h [ ]
+digit_begins (Codes bytes) w h = elim h [ ]
+digit_begins (Named f quoted) w h = elim h [ ]
+digit_begins (Functor f) w h = elim h [ ]
+digit_begins Minus w h = elim h [ ]
+digit_begins Close w h = elim h [ ]
+digit_begins OpenList w h = elim h [ ]
+digit_begins CloseList w h = elim h [ ]
+digit_begins OpenCurly w h = elim h [ ]
+digit_begins CloseCurly w h = elim h [ ]
+digit_begins Comma w h = elim h [ ]
+digit_begins Bar w h = elim h [ ]
+digit_begins End w h = elim h [ ]
+
 opens_there : (tok : Token) (any : Text) → IsOpen tok → begins_with 40 (token_text Quoted counted_name tok ++ any) ≡ true
-opens_there Open any h = refl
-opens_there (Variable v) any h = elim h [ ]
-opens_there (Numeral q) any h = elim h [ ]
-opens_there (Codes bytes) any h = elim h [ ]
-opens_there (Named f quoted) any h = elim h [ ]
-opens_there (Functor f) any h = elim h [ ]
-opens_there Minus any h = elim h [ ]
-opens_there Close any h = elim h [ ]
-opens_there OpenList any h = elim h [ ]
-opens_there CloseList any h = elim h [ ]
-opens_there OpenCurly any h = elim h [ ]
-opens_there CloseCurly any h = elim h [ ]
-opens_there Comma any h = elim h [ ]
-opens_there Bar any h = elim h [ ]
-opens_there End any h = elim h [ ]
+opens_there tok any h = ap (λ t. begins_with 40 (token_text Quoted counted_name t ++ any)) (only_open tok h)
 
 digit_there : (tok : Token) (any : Text) → IsWritable tok → IsNumeral tok → begins is_ascii_digit (token_text Quoted counted_name tok ++ any) ≡ true
-digit_there (Numeral q) any w h = begins-behind is_ascii_digit (number_text q) any (text_whole (Numeral q) w) ∙ number_begins q w.1
-digit_there Open any w h = elim h [ ]
-digit_there (Variable v) any w h = elim h [ ]
-digit_there (Codes bytes) any w h = elim h [ ]
-digit_there (Named f quoted) any w h = elim h [ ]
-digit_there (Functor f) any w h = elim h [ ]
-digit_there Minus any w h = elim h [ ]
-digit_there Close any w h = elim h [ ]
-digit_there OpenList any w h = elim h [ ]
-digit_there CloseList any w h = elim h [ ]
-digit_there OpenCurly any w h = elim h [ ]
-digit_there CloseCurly any w h = elim h [ ]
-digit_there Comma any w h = elim h [ ]
-digit_there Bar any w h = elim h [ ]
-digit_there End any w h = elim h [ ]
+digit_there tok any w h = begins-behind is_ascii_digit (token_text Quoted counted_name tok) any (text_whole tok w) ∙ digit_begins tok w h
 
 stops_touching : (tok : Token) (p q : Piece) (any : Text) → p.token ≡ tok → IsWritable tok → IsWritable q.token → Precedes tok p q → NotApart p q → GoesNoFurther tok (text_of Quoted counted_name q ++ any)
 stops_touching (Variable v) p q any e w wq h near =
@@ -331,23 +337,6 @@ apart_false : (p q : Piece) → Touch p q → run_together Quoted counted_name (
 unfolding is_apart
 apart_false p q t e = rw (t.no_blanks, t.no_blanks_behind, e, t.no_prefix) refl
 
-only_open : (tok : Token) → IsOpen tok → tok ≡ Open
-only_open Open h = refl
-only_open (Variable v) h = elim h [ ]
-only_open (Numeral q) h = elim h [ ]
-only_open (Codes bytes) h = elim h [ ]
-only_open (Named f quoted) h = elim h [ ]
-only_open (Functor f) h = elim h [ ]
-only_open Minus h = elim h [ ]
-only_open Close h = elim h [ ]
-only_open OpenList h = elim h [ ]
-only_open CloseList h = elim h [ ]
-only_open OpenCurly h = elim h [ ]
-only_open CloseCurly h = elim h [ ]
-only_open Comma h = elim h [ ]
-only_open Bar h = elim h [ ]
-only_open End h = elim h [ ]
-
 open_alone : (left : Text) → run_together Quoted counted_name left (codes "(") ≡ false
 unfolding first_char
 open_alone left = rw (and_false (passes is_symbol (last_of (chars left))), and_false (passes ends_name (last_of (chars left)))) refl
@@ -361,23 +350,6 @@ digit_no_symbol (b ∷ bs) e =
     let low : b < 128 = grind (arith, nat_tests) in
     let none : is_symbol b ≡ false = grind (arith, nat_tests) in
     ap (passes is_symbol) (first_char-ascii b bs low) ∙ none
-
-digit_begins : (tok : Token) → IsWritable tok → IsNumeral tok → begins is_ascii_digit (token_text Quoted counted_name tok) ≡ true
-digit_begins (Numeral q) w h = number_begins q w.1
-digit_begins Open w h = elim h [ ]
-digit_begins (Variable v) w h = elim h [ ]
-digit_begins (Codes bytes) w h = elim h [ ]
-digit_begins (Named f quoted) w h = elim h [ ]
-digit_begins (Functor f) w h = elim h [ ]
-digit_begins Minus w h = elim h [ ]
-digit_begins Close w h = elim h [ ]
-digit_begins OpenList w h = elim h [ ]
-digit_begins CloseList w h = elim h [ ]
-digit_begins OpenCurly w h = elim h [ ]
-digit_begins CloseCurly w h = elim h [ ]
-digit_begins Comma w h = elim h [ ]
-digit_begins Bar w h = elim h [ ]
-digit_begins End w h = elim h [ ]
 
 minus_alone : (right : Text) → begins is_ascii_digit right ≡ true → run_together Quoted counted_name (codes "-") right ≡ false
 unfolding chars

@@ -34,6 +34,11 @@ pub fn what_is_written_reads_back()
     ensures { (ops : Ops) (t : Tree) → IsTable ops → NamesAreBare ops → CanBeRead t → ReadsBack ops t }
 {}
 
+/// The names of the operators at the start need no quotes.
+pub fn names_at_the_start_are_bare()
+    ensures { NamesAreBare standard }
+{}
+
 /// Terms as `writeq` writes them: operators and their operands.
 pub fn operators_as_written()
     ensures operator_and_power { writeq standard (unary (codes "-") (binary (codes "^") (number 1) (number 2))) ≡ codes "- 1^2" }
@@ -76,12 +81,4 @@ pub fn terms_as_written()
     ensures fraction { writeq standard (Number (neg_ℚ (ratio (pos 1) 2))) ≡ codes "-1r2" }
     ensures variables { writeq standard (Compound (codes "f") (more (Var 9) (more (Var 4) (one (Var 9))))) ≡ codes "f(_1,_2,_1)" }
     ensures nothing_between { write standard (binary (codes "-") (unary (codes "-") (Name (codes ""))) (Name (codes "a"))) ≡ codes "- -a" }
-{}
-
-/// Texts of terms that read back.
-pub fn texts_that_read_back()
-    ensures operator_and_power { ReadsBack standard (unary (codes "-") (binary (codes "^") (number 1) (number 2))) }
-    ensures variables { ReadsBack standard (Compound (codes "f") (more (Var 9) (more (Var 4) (one (Var 9))))) }
-    ensures escapes { ReadsBack standard (Name (codes "it's\n\t\u{1}\\")) }
-    ensures list { ReadsBack standard (cell (negative 1) (Var 3)) }
 {}
