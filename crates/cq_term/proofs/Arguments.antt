@@ -1,6 +1,7 @@
 -- A name over a list of arguments.
 use Rattle.std.specs.Prelude.{All}
 use Rattle.std.proofs.Common.{◌≡◌, ℕ, zero, suc, ◌<◌, List, [], ◌∷◌, length, refl, ap, ◌∙◌, inl, inr, arith, map}
+use Rattle.std.proofs.lemmas.List.Elements.{All-head, All-tail}
 use Rattle.spec_terms.specs.Term.{Terms, Var, Number, Name, Compound, one, more, apply, apply_all, Occurs, OccursIn, count, list_of, terms_of, with_arguments}
 use Rattle.cq_term.specs.Meaning.{HeapTerm, at}
 use Rattle.cq_term.specs.Shown.{view_of, arguments}
@@ -22,6 +23,18 @@ occurs_terms_of ts i (j ∷ is) v o = elim o [ inl h ↦ (i, h) | inr h ↦ occu
 pub occurs_with_arguments : (ts : List HeapTerm) (f : ℕ) (is : List ℕ) (v : ℕ) → Occurs v (with_arguments f (map (at ts) is)) → (i : ℕ) × Occurs v (at ts i)
 occurs_with_arguments ts f [] v o = absurd o
 occurs_with_arguments ts f (i ∷ is) v o = occurs_terms_of ts i is v o
+
+absent_terms_of : (ts : List HeapTerm) (i : ℕ) (is : List ℕ) (v : ℕ) → (Occurs v (at ts i) → ⊥) → All (λ j. Occurs v (at ts j) → ⊥) is → OccursIn v (terms_of (at ts i) (map (at ts) is)) → ⊥
+absent_terms_of ts i [] v apart all o = apart o
+absent_terms_of ts i (j ∷ is) v apart all o = elim o [
+  | inl h ↦ apart h
+  | inr h ↦ absent_terms_of ts j is v (All-head (λ k. Occurs v (at ts k) → ⊥) j is all) (All-tail (λ k. Occurs v (at ts k) → ⊥) j is all) h
+]
+
+-- a variable that stands in no argument
+pub absent_with_arguments : (ts : List HeapTerm) (f : ℕ) (is : List ℕ) (v : ℕ) → All (λ j. Occurs v (at ts j) → ⊥) is → Occurs v (with_arguments f (map (at ts) is)) → ⊥
+absent_with_arguments ts f [] v all o = o
+absent_with_arguments ts f (i ∷ is) v all o = absent_terms_of ts i is v (All-head (λ k. Occurs v (at ts k) → ⊥) i is all) (All-tail (λ k. Occurs v (at ts k) → ⊥) i is all) o
 
 list_of-terms_of : (t : HeapTerm) (us : List HeapTerm) → list_of (terms_of t us) ≡ t ∷ us
 list_of-terms_of t [] = refl

@@ -1,7 +1,7 @@
 -- A heap stays one with a new cell and with a new binding.
 use Rattle.std.proofs.Common.{◌≡◌, ◌≢◌, ℕ, zero, suc, ◌+◌, ◌<◌, ◌≤◌, List, [], ◌∷◌, ◌++◌, length, Option, None, Some, refl, sym, ap, ◌∙◌, subst, inl, inr, ◌⊎◌, get_or, set, arith, length-append, Bool, true, false, cond, map, eq-eqb, length-set, add-one}
 use Rattle.std.proofs.lemmas.List.{get_or_push, get_or-map, length-map, map-append}
-use Rattle.std.proofs.lemmas.Option.{slice_get_within, same_Some, none-some, MatchOption-at_none, MatchOption-at_some, slice_get_read, slice_get-get_or, get_or_from_slice_get, slice_get-map}
+use Rattle.std.proofs.lemmas.Option.{slice_get_within, same_Some, none-some, MatchOption-at_none, MatchOption-at_some, slice_get_read, slice_get-get_or, slice_get-map}
 use Rattle.std.proofs.lemmas.List.{get_or_read}
 use Rattle.std.specs.Option.{option_map}
 use Rattle.std.proofs.lemmas.Bool.{cases_eq, eqb-true}
@@ -13,12 +13,11 @@ use Rattle.cq_term.specs.Meaning.{HeapTerm, at, blank, raw_cell, raws_from, afte
 use Rattle.cq_term.specs.Rep.{IsHeap, Head, Fits, AllBelow, target, left_after, Resolved}
 use Rattle.cq_term.specs.Shown.{view_of, arguments}
 use Rattle.cq_term.proofs.Arguments.{apply-with_arguments, occurs_with_arguments, arguments-with_arguments, view_of-with_arguments}
-use Rattle.std.proofs.Common.{Vec, Global}
 use Rattle.cq_term.specs.declared.view.View.{View}
 use Rattle.cq_term.specs.declared.view.View.TheVariants as view
-use Rattle.cq_term.specs.declared.heap.Cell.{Cell}
-use Rattle.cq_term.specs.declared.heap.Cell.TheVariants as cell
-use Rattle.cq_term.specs.declared.heap.Binding.{Binding}
+use Rattle.cq_term.specs.Built.{Built}
+use Rattle.cq_term.specs.Built as built
+use Rattle.cq_term.specs.declared.lists.Binding.{Binding}
 use Rattle.cq_term.proofs.Meanings.{raws_push, length-raws, after_push, length-meanings, at-append, map_at-append, map_at-map, after_more, subst-new, steps_left, left_at}
 
 pub get_push : {X : Type 0} (xs : List X) (y : X) (i : ℕ) (c : X) → slice_get (xs ++ y ∷ []) i ≡ Some c → (slice_get xs i ≡ Some c) ⊎ ((i ≡ length xs) × (y ≡ c))
@@ -54,7 +53,7 @@ target_past [] n h = refl
 target_past (b ∷ bound) zero h = absurd (omega arith)
 target_past (b ∷ bound) (suc n) h = target_past bound n (omega arith)
 
-pub meanings_push : (cells : List Cell) (vars : List ℕ) (bound : List (Option ℕ)) (order : List Binding) (c : Cell) → IsHeap cells vars bound order → Fits (length cells) (suc (length bound)) c → ((n : ℕ) → c ≡ cell.Var n → n ≡ length bound) →
+pub meanings_push : (cells : List Built) (vars : List ℕ) (bound : List (Option ℕ)) (order : List Binding) (c : Built) → IsHeap cells vars bound order → Fits (length cells) (suc (length bound)) c → ((n : ℕ) → c ≡ built.Var n → n ≡ length bound) →
     meanings (cells ++ c ∷ []) order ≡ meanings cells order ++ raw_cell (meanings cells order) c ∷ []
 unfolding meanings
 meanings_push cells vars bound order c heap fits new =
@@ -68,37 +67,37 @@ head_var_more : (o : Option ℕ) (ts us : List HeapTerm) (n : ℕ) (t : HeapTerm
 head_var_more None ts us n t h m = m
 head_var_more (Some u) ts us n t h m = m ∙ sym (at-append ts us u (h u refl))
 
-pub head_more : (ts us : List HeapTerm) (bound : List (Option ℕ)) (c : Cell) (t : HeapTerm) (vars : ℕ) → ((v u : ℕ) → target bound v ≡ Some u → u < length ts) → Fits (length ts) vars c → Head ts bound c t → Head (ts ++ us) bound c t
-head_more ts us bound (cell.Var n) t vars h f m = head_var_more (target bound n) ts us n t (h n) m
-head_more ts us bound (cell.Number n) t vars h f m = m
-head_more ts us bound (cell.Name n) t vars h f m = m
-head_more ts us bound (cell.Compound g args) t vars h f m = m ∙ ap (with_arguments g) (sym (map_at-append ts us args.items (length ts) (omega arith) f.1))
+pub head_more : (ts us : List HeapTerm) (bound : List (Option ℕ)) (c : Built) (t : HeapTerm) (vars : ℕ) → ((v u : ℕ) → target bound v ≡ Some u → u < length ts) → Fits (length ts) vars c → Head ts bound c t → Head (ts ++ us) bound c t
+head_more ts us bound (built.Var n) t vars h f m = head_var_more (target bound n) ts us n t (h n) m
+head_more ts us bound (built.Number n) t vars h f m = m
+head_more ts us bound (built.Name n) t vars h f m = m
+head_more ts us bound (built.Compound g args) t vars h f m = m ∙ ap (with_arguments g) (sym (map_at-append ts us args (length ts) (omega arith) f.1))
 
 -- the head of a cell is by what its variable is bound to
-pub head_bound : (ts : List HeapTerm) (bound other : List (Option ℕ)) (c : Cell) (t : HeapTerm) → ((n : ℕ) → c ≡ cell.Var n → target other n ≡ target bound n) → Head ts bound c t → Head ts other c t
-head_bound ts bound other (cell.Var n) t e m = rw (e n refl) m
-head_bound ts bound other (cell.Number n) t e m = m
-head_bound ts bound other (cell.Name n) t e m = m
-head_bound ts bound other (cell.Compound g args) t e m = m
+pub head_bound : (ts : List HeapTerm) (bound other : List (Option ℕ)) (c : Built) (t : HeapTerm) → ((n : ℕ) → c ≡ built.Var n → target other n ≡ target bound n) → Head ts bound c t → Head ts other c t
+head_bound ts bound other (built.Var n) t e m = rw (e n refl) m
+head_bound ts bound other (built.Number n) t e m = m
+head_bound ts bound other (built.Name n) t e m = m
+head_bound ts bound other (built.Compound g args) t e m = m
 
 all_below : (i j : ℕ) (is : List ℕ) → i ≤ j → AllBelow i is → AllBelow j is
 all_below i j [] h a = tt
 all_below i j (x ∷ is) h a = (omega (arith, a.0), all_below i j is h a.1)
 
-pub fits_up : (i j vars : ℕ) (c : Cell) → i ≤ j → Fits i vars c → Fits j vars c
-fits_up i j vars (cell.Var n) h f = f
-fits_up i j vars (cell.Number n) h f = tt
-fits_up i j vars (cell.Name n) h f = tt
-fits_up i j vars (cell.Compound g args) h f = (f.0, all_below i j args.items h f.1)
+pub fits_up : (i j vars : ℕ) (c : Built) → i ≤ j → Fits i vars c → Fits j vars c
+fits_up i j vars (built.Var n) h f = f
+fits_up i j vars (built.Number n) h f = tt
+fits_up i j vars (built.Name n) h f = tt
+fits_up i j vars (built.Compound g args) h f = (f.0, all_below i j args h f.1)
 
-pub fits_below : (i j vars : ℕ) (c : Cell) → i ≤ j → Fits i vars c → Fits j (suc vars) c
-fits_below i j vars (cell.Var n) h f = omega arith
-fits_below i j vars (cell.Number n) h f = tt
-fits_below i j vars (cell.Name n) h f = tt
-fits_below i j vars (cell.Compound g args) h f = (f.0, all_below i j args.items h f.1)
+pub fits_below : (i j vars : ℕ) (c : Built) → i ≤ j → Fits i vars c → Fits j (suc vars) c
+fits_below i j vars (built.Var n) h f = omega arith
+fits_below i j vars (built.Number n) h f = tt
+fits_below i j vars (built.Name n) h f = tt
+fits_below i j vars (built.Compound g args) h f = (f.0, all_below i j args h f.1)
 
 -- one more cell, which is no variable
-module _ (cells : List Cell) (vars : List ℕ) (bound : List (Option ℕ)) (order : List Binding) (c : Cell) (heap : IsHeap cells vars bound order) (fits : Fits (length cells) (length bound) c) (plain : (n : ℕ) → c ≡ cell.Var n → ⊥) where
+module _ (cells : List Built) (vars : List ℕ) (bound : List (Option ℕ)) (order : List Binding) (c : Built) (heap : IsHeap cells vars bound order) (fits : Fits (length cells) (length bound) c) (plain : (n : ℕ) → c ≡ built.Var n → ⊥) where
   ts : List HeapTerm
   ts = meanings cells order
 
@@ -108,7 +107,7 @@ module _ (cells : List Cell) (vars : List ℕ) (bound : List (Option ℕ)) (orde
   pub meanings_cell : meanings (cells ++ c ∷ []) order ≡ meanings cells order ++ raw_cell (meanings cells order) c ∷ []
   meanings_cell = meanings_push cells vars bound order c heap new_fits (λ n e. absurd (plain n e))
 
-  heads_old : (i : ℕ) (d : Cell) → slice_get cells i ≡ Some d → Head (meanings cells order ++ raw_cell (meanings cells order) c ∷ []) bound d (at (meanings cells order ++ raw_cell (meanings cells order) c ∷ []) i)
+  heads_old : (i : ℕ) (d : Built) → slice_get cells i ≡ Some d → Head (meanings cells order ++ raw_cell (meanings cells order) c ∷ []) bound d (at (meanings cells order ++ raw_cell (meanings cells order) c ∷ []) i)
   heads_old i d h =
       let l = length-meanings cells order in
       let w : i < length cells = slice_get_within cells i d h in
@@ -121,56 +120,56 @@ module _ (cells : List Cell) (vars : List ℕ) (bound : List (Option ℕ)) (orde
   head_new : Head (meanings cells order ++ raw_cell (meanings cells order) c ∷ []) bound c (raw_cell (meanings cells order) c)
   head_new = go c fits plain
     where
-      go : (d : Cell) → Fits (length cells) (length bound) d → ((n : ℕ) → d ≡ cell.Var n → ⊥) → Head (meanings cells order ++ raw_cell (meanings cells order) c ∷ []) bound d (raw_cell (meanings cells order) d)
-      go (cell.Var n) f p = absurd (p n refl)
-      go (cell.Number n) f p = refl
-      go (cell.Name n) f p = refl
-      go (cell.Compound g args) f p = ap (with_arguments g) (sym (map_at-append (meanings cells order) (raw_cell (meanings cells order) c ∷ []) args.items (length cells) (omega (arith, length-meanings cells order)) f.1))
+      go : (d : Built) → Fits (length cells) (length bound) d → ((n : ℕ) → d ≡ built.Var n → ⊥) → Head (meanings cells order ++ raw_cell (meanings cells order) c ∷ []) bound d (raw_cell (meanings cells order) d)
+      go (built.Var n) f p = absurd (p n refl)
+      go (built.Number n) f p = refl
+      go (built.Name n) f p = refl
+      go (built.Compound g args) f p = ap (with_arguments g) (sym (map_at-append (meanings cells order) (raw_cell (meanings cells order) c ∷ []) args (length cells) (omega (arith, length-meanings cells order)) f.1))
 
   free_new : (v : ℕ) → Occurs v (raw_cell (meanings cells order) c) → (v < length bound) × (target bound v ≡ None)
   free_new = go c plain
     where
-      go : (d : Cell) → ((n : ℕ) → d ≡ cell.Var n → ⊥) → (v : ℕ) → Occurs v (raw_cell (meanings cells order) d) → (v < length bound) × (target bound v ≡ None)
-      go (cell.Var n) p v o = absurd (p n refl)
-      go (cell.Number n) p v o = absurd o
-      go (cell.Name n) p v o = absurd o
-      go (cell.Compound g args) p v o = let q = occurs_with_arguments (meanings cells order) g args.items v o in heap.free q.0 v q.1
+      go : (d : Built) → ((n : ℕ) → d ≡ built.Var n → ⊥) → (v : ℕ) → Occurs v (raw_cell (meanings cells order) d) → (v < length bound) × (target bound v ≡ None)
+      go (built.Var n) p v o = absurd (p n refl)
+      go (built.Number n) p v o = absurd o
+      go (built.Name n) p v o = absurd o
+      go (built.Compound g args) p v o = let q = occurs_with_arguments (meanings cells order) g args v o in heap.free q.0 v q.1
 
   pub is_heap_cell : IsHeap (cells ++ c ∷ []) vars bound order
   is_heap_cell = record {
     fits = λ i d h. elim (get_push cells c i d h) [
       | inl p ↦ heap.fits i d p
-      | inr q ↦ subst (λ (x : Cell). Fits i (length bound) x) q.1 (subst (λ (x : ℕ). Fits x (length bound) c) (sym q.0) fits)
+      | inr q ↦ subst (λ (x : Built). Fits i (length bound) x) q.1 (subst (λ (x : ℕ). Fits x (length bound) c) (sym q.0) fits)
     ];
     heads = λ i d h. rw meanings_cell (elim (get_push cells c i d h) [
       | inl p ↦ heads_old i d p
-      | inr q ↦ subst (λ (x : Cell). Head (meanings cells order ++ raw_cell (meanings cells order) c ∷ []) bound x (at (meanings cells order ++ raw_cell (meanings cells order) c ∷ []) i)) q.1
+      | inr q ↦ subst (λ (x : Built). Head (meanings cells order ++ raw_cell (meanings cells order) c ∷ []) bound x (at (meanings cells order ++ raw_cell (meanings cells order) c ∷ []) i)) q.1
           (rw (get_or_push (meanings cells order) (raw_cell (meanings cells order) c) blank i (length-meanings cells order ∙ sym q.0)) head_new)
     ]);
     free = λ i v. rw meanings_cell (λ o. elim (at_cases (meanings cells order) (raw_cell (meanings cells order) c) i) [
       | inl p ↦ heap.free i v (rw p at o)
       | inr q ↦ free_new v (rw q at o)
     ]);
-    homes = λ n i h. get_kept cells (c ∷ []) i (cell.Var n) (heap.homes n i h);
+    homes = λ n i h. get_kept cells (c ∷ []) i (built.Var n) (heap.homes n i h);
     one_each = heap.one_each;
     bindings = λ k b h. let p = heap.bindings k b h in (omega (arith, p.0, length-append cells (c ∷ [])), p.1);
     targets = λ v u h. let p = heap.targets v u h in (omega (arith, p.0, length-append cells (c ∷ [])), p.1);
     unbound = heap.unbound;
-    chain = λ v u m h e. elim (get_push cells c u (cell.Var m) e) [
+    chain = λ v u m h e. elim (get_push cells c u (built.Var m) e) [
       | inl p ↦ heap.chain v u m h p
       | inr q ↦ absurd (plain m q.1)
     ];
   }
 
-fits_grow : (i : ℕ) (bound : List (Option ℕ)) (d : Cell) → Fits i (length bound) d → Fits i (length (bound ++ None ∷ [])) d
+fits_grow : (i : ℕ) (bound : List (Option ℕ)) (d : Built) → Fits i (length bound) d → Fits i (length (bound ++ None ∷ [])) d
 fits_grow i bound d f = rw (length-append, add-one) (fits_below i i (length bound) d (omega arith) f)
 
 -- one more variable
-module _ (cells : List Cell) (vars : List ℕ) (bound : List (Option ℕ)) (order : List Binding) (heap : IsHeap cells vars bound order) where
-  pub meanings_var : meanings (cells ++ cell.Var (length bound) ∷ []) order ≡ meanings cells order ++ Var (length bound) ∷ []
-  meanings_var = meanings_push cells vars bound order (cell.Var (length bound)) heap (omega arith) (λ n e. cc)
+module _ (cells : List Built) (vars : List ℕ) (bound : List (Option ℕ)) (order : List Binding) (heap : IsHeap cells vars bound order) where
+  pub meanings_var : meanings (cells ++ built.Var (length bound) ∷ []) order ≡ meanings cells order ++ Var (length bound) ∷ []
+  meanings_var = meanings_push cells vars bound order (built.Var (length bound)) heap (omega arith) (λ n e. cc)
 
-  heads_var_old : (i : ℕ) (d : Cell) → slice_get cells i ≡ Some d → Head (meanings cells order ++ Var (length bound) ∷ []) (bound ++ None ∷ []) d (at (meanings cells order ++ Var (length bound) ∷ []) i)
+  heads_var_old : (i : ℕ) (d : Built) → slice_get cells i ≡ Some d → Head (meanings cells order ++ Var (length bound) ∷ []) (bound ++ None ∷ []) d (at (meanings cells order ++ Var (length bound) ∷ []) i)
   heads_var_old i d h =
       let l = length-meanings cells order in
       let w : i < length cells = slice_get_within cells i d h in
@@ -181,18 +180,18 @@ module _ (cells : List Cell) (vars : List ℕ) (bound : List (Option ℕ)) (orde
       (fits_below i (length (meanings cells order)) (length bound) d (omega arith) (heap.fits i d h))
       (heap.heads i d h)))
 
-  head_var_new : Head (meanings cells order ++ Var (length bound) ∷ []) (bound ++ None ∷ []) (cell.Var (length bound)) (Var (length bound))
+  head_var_new : Head (meanings cells order ++ Var (length bound) ∷ []) (bound ++ None ∷ []) (built.Var (length bound)) (Var (length bound))
   head_var_new = rw (target-push bound (length bound), target_past bound (length bound) (omega arith)) refl
 
-  pub is_heap_var : IsHeap (cells ++ cell.Var (length bound) ∷ []) (vars ++ length cells ∷ []) (bound ++ None ∷ []) order
+  pub is_heap_var : IsHeap (cells ++ built.Var (length bound) ∷ []) (vars ++ length cells ∷ []) (bound ++ None ∷ []) order
   is_heap_var = record {
-    fits = λ i d h. elim (get_push cells (cell.Var (length bound)) i d h) [
+    fits = λ i d h. elim (get_push cells (built.Var (length bound)) i d h) [
       | inl p ↦ fits_grow i bound d (heap.fits i d p)
-      | inr q ↦ subst (λ (x : Cell). Fits i (length (bound ++ None ∷ [])) x) q.1 (simp (length-append) (omega arith))
+      | inr q ↦ subst (λ (x : Built). Fits i (length (bound ++ None ∷ [])) x) q.1 (simp (length-append) (omega arith))
     ];
-    heads = λ i d h. rw meanings_var (elim (get_push cells (cell.Var (length bound)) i d h) [
+    heads = λ i d h. rw meanings_var (elim (get_push cells (built.Var (length bound)) i d h) [
       | inl p ↦ heads_var_old i d p
-      | inr q ↦ subst (λ (x : Cell). Head (meanings cells order ++ Var (length bound) ∷ []) (bound ++ None ∷ []) x (at (meanings cells order ++ Var (length bound) ∷ []) i)) q.1
+      | inr q ↦ subst (λ (x : Built). Head (meanings cells order ++ Var (length bound) ∷ []) (bound ++ None ∷ []) x (at (meanings cells order ++ Var (length bound) ∷ []) i)) q.1
           (rw (get_or_push (meanings cells order) (Var (length bound)) blank i (length-meanings cells order ∙ sym q.0)) head_var_new)
     ]);
     free = λ i v. rw (meanings_var, length-append, target-push bound v) (λ o. elim (at_cases (meanings cells order) (Var (length bound)) i) [
@@ -200,14 +199,14 @@ module _ (cells : List Cell) (vars : List ℕ) (bound : List (Option ℕ)) (orde
       | inr q ↦ (let e : v ≡ length bound = rw q at o in (omega arith, target_past bound v (omega arith)))
     ]);
     homes = λ n i h. elim (get_push vars (length cells) n i h) [
-      | inl p ↦ get_kept cells (cell.Var (length bound) ∷ []) i (cell.Var n) (heap.homes n i p)
-      | inr q ↦ subst (λ (x : ℕ). slice_get (cells ++ cell.Var (length bound) ∷ []) x ≡ Some (cell.Var n)) q.1 (rw (q.0, heap.one_each) (get_last cells (cell.Var (length bound))))
+      | inl p ↦ get_kept cells (built.Var (length bound) ∷ []) i (built.Var n) (heap.homes n i p)
+      | inr q ↦ subst (λ (x : ℕ). slice_get (cells ++ built.Var (length bound) ∷ []) x ≡ Some (built.Var n)) q.1 (rw (q.0, heap.one_each) (get_last cells (built.Var (length bound))))
     ];
     one_each = simp (length-append) (omega (arith, heap.one_each));
-    bindings = λ k b h. let p = heap.bindings k b h in (omega (arith, p.0, length-append cells (cell.Var (length bound) ∷ [])), omega (arith, p.1, length-append bound (None ∷ [])));
-    targets = λ v u. rw (target-push bound v) (λ h. (let p = heap.targets v u h in (omega (arith, p.0, length-append cells (cell.Var (length bound) ∷ [])), p.1)));
+    bindings = λ k b h. let p = heap.bindings k b h in (omega (arith, p.0, length-append cells (built.Var (length bound) ∷ [])), omega (arith, p.1, length-append bound (None ∷ [])));
+    targets = λ v u. rw (target-push bound v) (λ h. (let p = heap.targets v u h in (omega (arith, p.0, length-append cells (built.Var (length bound) ∷ [])), p.1)));
     unbound = λ v. rw (target-push bound v) (heap.unbound v);
-    chain = λ v u m. rw (target-push bound v) (λ h e. elim (get_push cells (cell.Var (length bound)) u (cell.Var m) e) [
+    chain = λ v u m. rw (target-push bound v) (λ h e. elim (get_push cells (built.Var (length bound)) u (built.Var m) e) [
       | inl p ↦ heap.chain v u m h p
       | inr q ↦ (let w = heap.targets v u h in absurd (omega (arith, w.0, q.0)))
     ]);
@@ -245,7 +244,7 @@ pub subst_same : (v : ℕ) (u : HeapTerm) → apply (single v u) (Var v) ≡ u
 subst_same v u = single_same v u
 
 -- one more binding
-module _ (cells : List Cell) (vars : List ℕ) (bound : List (Option ℕ)) (order : List Binding) (v t : ℕ) (heap : IsHeap cells vars bound order) (there : v < length bound) (unbound : target bound v ≡ None) (live : t < length cells) (apart : Occurs v (at (meanings cells order) t) → ⊥) (last : (n : ℕ) → slice_get cells t ≡ Some (cell.Var n) → target bound n ≡ None) where
+module _ (cells : List Built) (vars : List ℕ) (bound : List (Option ℕ)) (order : List Binding) (v t : ℕ) (heap : IsHeap cells vars bound order) (there : v < length bound) (unbound : target bound v ≡ None) (live : t < length cells) (apart : Occurs v (at (meanings cells order) t) → ⊥) (last : (n : ℕ) → slice_get cells t ≡ Some (built.Var n) → target bound n ≡ None) where
   abbrev u : HeapTerm
   u = at (meanings cells order) t
 
@@ -255,9 +254,6 @@ module _ (cells : List Cell) (vars : List ℕ) (bound : List (Option ℕ)) (orde
   pub meanings_bind : meanings cells (order ++ binding ∷ []) ≡ map (apply (single v u)) (meanings cells order)
   unfolding meanings
   meanings_bind = after_push order binding (raws_from [] cells)
-
-  bound' : List (Option ℕ)
-  bound' = set bound v (Some t)
 
   same : target (set bound v (Some t)) v ≡ Some t
   same = get_or-set_same bound v (Some t) None there
@@ -269,17 +265,17 @@ module _ (cells : List Cell) (vars : List ℕ) (bound : List (Option ℕ)) (orde
   head_other n None x h m = rw m (subst-new v n u (λ e. h (sym e)))
   head_other n (Some w) x h m = ap (apply (single v u)) m ∙ sym (at-map-subst v u (meanings cells order) w)
 
-  head_bind : (d : Cell) (x : HeapTerm) → Fits (length cells) (length bound) d → Head (meanings cells order) bound d x → Head (map (apply (single v u)) (meanings cells order)) (set bound v (Some t)) d (apply (single v u) x)
-  head_bind (cell.Var n) x f m = elim (cases_eq n v) [
+  head_bind : (d : Built) (x : HeapTerm) → Fits (length cells) (length bound) d → Head (meanings cells order) bound d x → Head (map (apply (single v u)) (meanings cells order)) (set bound v (Some t)) d (apply (single v u) x)
+  head_bind (built.Var n) x f m = elim (cases_eq n v) [
     | inl e ↦ rw (e, same) (let p : x ≡ Var v = rw (e, unbound) at m in
         ap (apply (single v u)) p ∙ subst_same v u ∙ sym (at-map-subst v u (meanings cells order) t ∙ apply-single_absent v u u apart))
     | inr ne ↦ rw (other n ne) (head_other n (target bound n) x ne m)
   ]
-  head_bind (cell.Number n) x f m = ap (apply (single v u)) m
-  head_bind (cell.Name n) x f m = ap (apply (single v u)) m
-  head_bind (cell.Compound g args) x f m = ap (apply (single v u)) m ∙ apply-with_arguments (single v u) g (map (at (meanings cells order)) args.items) ∙ ap (with_arguments g) (sym (map_at-map v u (meanings cells order) args.items (length cells) (omega (arith, length-meanings cells order)) f.1))
+  head_bind (built.Number n) x f m = ap (apply (single v u)) m
+  head_bind (built.Name n) x f m = ap (apply (single v u)) m
+  head_bind (built.Compound g args) x f m = ap (apply (single v u)) m ∙ apply-with_arguments (single v u) g (map (at (meanings cells order)) args) ∙ ap (with_arguments g) (sym (map_at-map v u (meanings cells order) args (length cells) (omega (arith, length-meanings cells order)) f.1))
 
-  fits_within : (i : ℕ) (d : Cell) → slice_get cells i ≡ Some d → Fits (length cells) (length bound) d
+  fits_within : (i : ℕ) (d : Built) → slice_get cells i ≡ Some d → Fits (length cells) (length bound) d
   fits_within i d h = let w : i < length cells = slice_get_within cells i d h in fits_up i (length cells) (length bound) d (omega arith) (heap.fits i d h)
 
   free_bind : (w : ℕ) (x : HeapTerm) → ((y : ℕ) → Occurs y x → (y < length bound) × (target bound y ≡ None)) → Occurs w (apply (single v u) x) → (w < length (set bound v (Some t))) × (target (set bound v (Some t)) w ≡ None)
@@ -315,12 +311,12 @@ module _ (cells : List Cell) (vars : List ℕ) (bound : List (Option ℕ)) (orde
     | inr ne ↦ inr (ne, rw (other w ne) at h)
   ]
 
-  chain_bind : (w x m : ℕ) → target (set bound v (Some t)) w ≡ Some x → slice_get cells x ≡ Some (cell.Var m) → left_after (order ++ binding ∷ []) m < left_after (order ++ binding ∷ []) w
+  chain_bind : (w x m : ℕ) → target (set bound v (Some t)) w ≡ Some x → slice_get cells x ≡ Some (built.Var m) → left_after (order ++ binding ∷ []) m < left_after (order ++ binding ∷ []) w
   chain_bind w x m h e = elim (target_cases w x h) [
     | inl p ↦ (
-        let c : slice_get cells t ≡ Some (cell.Var m) = rw p.1 at e in
+        let c : slice_get cells t ≡ Some (built.Var m) = rw p.1 at e in
         let z = heap.unbound m (last m c) in
-        let ne : m ≢ v = λ q. apart (subst (λ (y : HeapTerm). Occurs v y) (sym (MatchOption-at_none _ _ (last m c) (heap.heads t (cell.Var m) c))) (sym q)) in
+        let ne : m ≢ v = λ q. apart (subst (λ (y : HeapTerm). Occurs v y) (sym (MatchOption-at_none _ _ (last m c) (heap.heads t (built.Var m) c))) (sym q)) in
         rw (p.0, left_same, left_none m z ne) (omega arith))
     | inr p ↦ (
         let lt = heap.chain w x m p.1 e in
@@ -350,31 +346,28 @@ module _ (cells : List Cell) (vars : List ℕ) (bound : List (Option ℕ)) (orde
   }
 
 -- ---- reading
-pub read_at : (cells : List Cell) (i : ℕ) (x c : Cell) → i < length cells → x ≡ get_or cells i x → x ≡ c → slice_get cells i ≡ Some c
+pub read_at : (cells : List Built) (i : ℕ) (x c : Built) → i < length cells → x ≡ get_or cells i x → x ≡ c → slice_get cells i ≡ Some c
 read_at cells i x c h e s = slice_get_read cells (length cells) i x refl h e ∙ ap Some s
 
-module _ (cells : List Cell) (vars : List ℕ) (bound : List (Option ℕ)) (order : List Binding) (heap : IsHeap cells vars bound order) (i n u : ℕ) (here : slice_get cells i ≡ Some (cell.Var n)) (bind : target bound n ≡ Some u) where
+module _ (cells : List Built) (vars : List ℕ) (bound : List (Option ℕ)) (order : List Binding) (heap : IsHeap cells vars bound order) (i n u : ℕ) (here : slice_get cells i ≡ Some (built.Var n)) (bind : target bound n ≡ Some u) where
   pub follow_same : at (meanings cells order) u ≡ at (meanings cells order) i
-  follow_same = sym (MatchOption-at_some (at (meanings cells order) i ≡ Var n) (λ w. at (meanings cells order) i ≡ at (meanings cells order) w) u bind (heap.heads i (cell.Var n) here))
+  follow_same = sym (MatchOption-at_some (at (meanings cells order) i ≡ Var n) (λ w. at (meanings cells order) i ≡ at (meanings cells order) w) u bind (heap.heads i (built.Var n) here))
 
   pub follow_less : steps_left cells order u < steps_left cells order i
   follow_less = rw here (go (slice_get cells u) refl)
     where
-      go : (o : Option Cell) → slice_get cells u ≡ o → left_at order o < left_after order n
+      go : (o : Option Built) → slice_get cells u ≡ o → left_at order o < left_after order n
       go None e = (heap.targets n u bind).1
-      go (Some (cell.Var m)) e = heap.chain n u m bind e
-      go (Some (cell.Number m)) e = (heap.targets n u bind).1
-      go (Some (cell.Name m)) e = (heap.targets n u bind).1
-      go (Some (cell.Compound f args)) e = (heap.targets n u bind).1
+      go (Some (built.Var m)) e = heap.chain n u m bind e
+      go (Some (built.Number m)) e = (heap.targets n u bind).1
+      go (Some (built.Name m)) e = (heap.targets n u bind).1
+      go (Some (built.Compound f args)) e = (heap.targets n u bind).1
 
-pub not_var : (cells : List Cell) (i : ℕ) (x : Cell) → i < length cells → x ≡ get_or cells i x → ((n : ℕ) → x ≡ cell.Var n → ⊥) → (n : ℕ) → slice_get cells i ≡ Some (cell.Var n) → ⊥
-not_var cells i x h e other n s = other n (same_Some x (cell.Var n) (sym (slice_get_read cells (length cells) i x refl h e) ∙ s))
-
-pub at_none : (cells : List Cell) (bound : List (Option ℕ)) (i n m : ℕ) → slice_get cells i ≡ Some (cell.Var n) → target bound n ≡ None → slice_get cells i ≡ Some (cell.Var m) → target bound m ≡ None
+pub at_none : (cells : List Built) (bound : List (Option ℕ)) (i n m : ℕ) → slice_get cells i ≡ Some (built.Var n) → target bound n ≡ None → slice_get cells i ≡ Some (built.Var m) → target bound m ≡ None
 at_none cells bound i n m c b e = let q : n ≡ m = cc in rw (← q) b
 
 -- an unbound variable, by its image
-module _ (cells : List Cell) (vars : List ℕ) (bound : List (Option ℕ)) (order : List Binding) (heap : IsHeap cells vars bound order) (v : ℕ) (there : v < length (map (at (meanings cells order)) vars)) (image : at (map (at (meanings cells order)) vars) v ≡ Var v) where
+module _ (cells : List Built) (vars : List ℕ) (bound : List (Option ℕ)) (order : List Binding) (heap : IsHeap cells vars bound order) (v : ℕ) (there : v < length (map (at (meanings cells order)) vars)) (image : at (map (at (meanings cells order)) vars) v ≡ Var v) where
   pub var_within : v < length bound
   var_within = omega (arith, length-map vars (at (meanings cells order)), heap.one_each)
 
@@ -399,21 +392,21 @@ pub bind_images : (v : ℕ) (u : HeapTerm) (ts us : List HeapTerm) (is : List �
 bind_images v u ts us is e = rw e (map_at_subst v u ts is)
 
 -- what a cell shows
-abbrev pub cell_view : Cell → View
-cell_view (cell.Var n) = view.Var (record { 0 = n })
-cell_view (cell.Number n) = view.Number n
-cell_view (cell.Name a) = view.Name a
-cell_view (cell.Compound f args) = view.Compound f (length args.items)
+abbrev pub cell_view : Built → View
+cell_view (built.Var n) = view.Var (record { 0 = n })
+cell_view (built.Number n) = view.Number n
+cell_view (built.Name a) = view.Name a
+cell_view (built.Compound f args) = view.Compound f (length args)
 
-head_shows : (ts : List HeapTerm) (bound : List (Option ℕ)) (c : Cell) (t : HeapTerm) (i vars : ℕ) → Fits i vars c → ((n : ℕ) → c ≡ cell.Var n → target bound n ≡ None) → Head ts bound c t → view_of t ≡ cell_view c
-head_shows ts bound (cell.Var n) t i vars f last h = ap view_of (MatchOption-at_none (t ≡ Var n) (λ u. t ≡ at ts u) (last n refl) h)
-head_shows ts bound (cell.Number n) t i vars f last h = ap view_of h
-head_shows ts bound (cell.Name a) t i vars f last h = ap view_of h
-head_shows ts bound (cell.Compound g args) t i vars f last h =
-    let size : length (map (at ts) args.items) ≡ length args.items = rw length-map in
-    ap view_of h ∙ view_of-with_arguments g (map (at ts) args.items) (rw size f.0) ∙ ap (view.Compound g) size
+head_shows : (ts : List HeapTerm) (bound : List (Option ℕ)) (c : Built) (t : HeapTerm) (i vars : ℕ) → Fits i vars c → ((n : ℕ) → c ≡ built.Var n → target bound n ≡ None) → Head ts bound c t → view_of t ≡ cell_view c
+head_shows ts bound (built.Var n) t i vars f last h = ap view_of (MatchOption-at_none (t ≡ Var n) (λ u. t ≡ at ts u) (last n refl) h)
+head_shows ts bound (built.Number n) t i vars f last h = ap view_of h
+head_shows ts bound (built.Name a) t i vars f last h = ap view_of h
+head_shows ts bound (built.Compound g args) t i vars f last h =
+    let size : length (map (at ts) args) ≡ length args = rw length-map in
+    ap view_of h ∙ view_of-with_arguments g (map (at ts) args) (rw size f.0) ∙ ap (view.Compound g) size
 
-pub shows : (cells : List Cell) (vars : List ℕ) (bound : List (Option ℕ)) (order : List Binding) (heap : IsHeap cells vars bound order) (id e : ℕ) (r : Resolved cells bound order id e) (x c : Cell) → slice_get cells e ≡ Some x → x ≡ c → view_of (at (meanings cells order) id) ≡ cell_view c
+pub shows : (cells : List Built) (vars : List ℕ) (bound : List (Option ℕ)) (order : List Binding) (heap : IsHeap cells vars bound order) (id e : ℕ) (r : Resolved cells bound order id e) (x c : Built) → slice_get cells e ≡ Some x → x ≡ c → view_of (at (meanings cells order) id) ≡ cell_view c
 shows cells vars bound order heap id e r x c at_e same =
     let s : slice_get cells e ≡ Some c = at_e ∙ ap Some same in
     rw (← r.same) (head_shows (meanings cells order) bound c (at (meanings cells order) e) e (length bound) (heap.fits e c s) (λ n q. r.last n (s ∙ ap Some q)) (heap.heads e c s))
@@ -423,22 +416,22 @@ map_at_more : (ts us : List HeapTerm) (is : List ℕ) → AllBelow (length ts) i
 map_at_more ts us [] h = refl
 map_at_more ts us (i ∷ is) h = λ k. at-append ts us i h.0 k ∷ map_at_more ts us is h.1 k
 
-homes_below : (cells : List Cell) (vars : List ℕ) → ((n i : ℕ) → slice_get vars n ≡ Some i → i < length cells) → AllBelow (length cells) vars
+homes_below : (cells : List Built) (vars : List ℕ) → ((n i : ℕ) → slice_get vars n ≡ Some i → i < length cells) → AllBelow (length cells) vars
 homes_below cells [] h = tt
 homes_below cells (i ∷ vars) h = (h 0 i refl, homes_below cells vars (λ n j e. h (suc n) j e))
 
-module _ (cells : List Cell) (vars : List ℕ) (bound : List (Option ℕ)) (order : List Binding) (heap : IsHeap cells vars bound order) where
+module _ (cells : List Built) (vars : List ℕ) (bound : List (Option ℕ)) (order : List Binding) (heap : IsHeap cells vars bound order) where
   pub homes_in : AllBelow (length (meanings cells order)) vars
-  homes_in = rw (length-meanings cells order) (homes_below cells vars (λ n i e. slice_get_within cells i (cell.Var n) (heap.homes n i e)))
+  homes_in = rw (length-meanings cells order) (homes_below cells vars (λ n i e. slice_get_within cells i (built.Var n) (heap.homes n i e)))
 
-  pub images_var : map (at (meanings (cells ++ cell.Var (length bound) ∷ []) order)) (vars ++ length cells ∷ []) ≡ map (at (meanings cells order)) vars ++ Var (length bound) ∷ []
+  pub images_var : map (at (meanings (cells ++ built.Var (length bound) ∷ []) order)) (vars ++ length cells ∷ []) ≡ map (at (meanings cells order)) vars ++ Var (length bound) ∷ []
   images_var =
       let m = meanings cells order in
       let x : HeapTerm = Var (length bound) in
       rw (meanings_var cells vars bound order heap, map-append)
       (λ k. map_at_more m (x ∷ []) vars homes_in k ++ get_or_push m x blank (length cells) (length-meanings cells order) k ∷ [])
 
-  pub images_cell : (c : Cell) → Fits (length cells) (length bound) c → ((n : ℕ) → c ≡ cell.Var n → ⊥) → map (at (meanings (cells ++ c ∷ []) order)) vars ≡ map (at (meanings cells order)) vars
+  pub images_cell : (c : Built) → Fits (length cells) (length bound) c → ((n : ℕ) → c ≡ built.Var n → ⊥) → map (at (meanings (cells ++ c ∷ []) order)) vars ≡ map (at (meanings cells order)) vars
   images_cell c fits plain = rw (meanings_cell cells vars bound order c heap fits plain) (map_at_more (meanings cells order) (raw_cell (meanings cells order) c ∷ []) vars homes_in)
 
 pub empty_meanings : meanings [] [] ≡ []
@@ -465,38 +458,23 @@ below_at n (x ∷ is) zero a h = a.0
 below_at n (x ∷ is) (suc i) a h = below_at n is i a.1 (omega arith)
 
 -- the arguments of what a cell means
-pub arguments_at : (cells : List Cell) (vars : List ℕ) (bound : List (Option ℕ)) (order : List Binding) (heap : IsHeap cells vars bound order) (id e : ℕ) (r : Resolved cells bound order id e) (g : ℕ) (args : Vec ℕ Global) →
-    slice_get cells e ≡ Some (cell.Compound g args) → arguments (at (meanings cells order) id) ≡ map (at (meanings cells order)) args.items
+pub arguments_at : (cells : List Built) (vars : List ℕ) (bound : List (Option ℕ)) (order : List Binding) (heap : IsHeap cells vars bound order) (id e : ℕ) (r : Resolved cells bound order id e) (g : ℕ) (args : List ℕ) →
+    slice_get cells e ≡ Some (built.Compound g args) → arguments (at (meanings cells order) id) ≡ map (at (meanings cells order)) args
 arguments_at cells vars bound order heap id e r g args s =
-    ap arguments (sym r.same ∙ heap.heads e (cell.Compound g args) s) ∙ arguments-with_arguments g (map (at (meanings cells order)) args.items)
+    ap arguments (sym r.same ∙ heap.heads e (built.Compound g args) s) ∙ arguments-with_arguments g (map (at (meanings cells order)) args)
 
 -- another cell means a term without arguments
-pub no_arguments : (cells : List Cell) (vars : List ℕ) (bound : List (Option ℕ)) (order : List Binding) (heap : IsHeap cells vars bound order) (id e : ℕ) (r : Resolved cells bound order id e) (x : Cell) →
-    slice_get cells e ≡ Some x → ((g : ℕ) (args : Vec ℕ Global) → x ≡ cell.Compound g args → ⊥) → arguments (at (meanings cells order) id) ≡ []
-no_arguments cells vars bound order heap id e r (cell.Var n) s other = ap arguments (sym r.same ∙ MatchOption-at_none (at (meanings cells order) e ≡ Var n) (λ u. at (meanings cells order) e ≡ at (meanings cells order) u) (r.last n s) (heap.heads e (cell.Var n) s))
-no_arguments cells vars bound order heap id e r (cell.Number n) s other = ap arguments (sym r.same ∙ heap.heads e (cell.Number n) s)
-no_arguments cells vars bound order heap id e r (cell.Name a) s other = ap arguments (sym r.same ∙ heap.heads e (cell.Name a) s)
-no_arguments cells vars bound order heap id e r (cell.Compound g args) s other = absurd (other g args refl)
-
--- a variable that is a term is its own image
-pub var_free : (cells : List Cell) (vars : List ℕ) (bound : List (Option ℕ)) (order : List Binding) (heap : IsHeap cells vars bound order) (id v : ℕ) → at (meanings cells order) id ≡ Var v → (v < length (map (at (meanings cells order)) vars)) × (at (map (at (meanings cells order)) vars) v ≡ Var v)
-var_free cells vars bound order heap id v e =
-    let f = heap.free id v (subst (λ (x : HeapTerm). Occurs v x) (sym e) refl) in
-    let w : v < length vars = omega (arith, f.0, heap.one_each) in
-    let c = heap.homes v (get_or vars v 0) (slice_get-get_or vars v 0 w) in (
-      omega (arith, length-map vars (at (meanings cells order))),
-      get_or-map (at (meanings cells order)) vars v 0 blank w ∙ MatchOption-at_none (at (meanings cells order) (get_or vars v 0) ≡ Var v) (λ u. at (meanings cells order) (get_or vars v 0) ≡ at (meanings cells order) u) f.1 (heap.heads (get_or vars v 0) (cell.Var v) c),
-    )
+pub no_arguments : (cells : List Built) (vars : List ℕ) (bound : List (Option ℕ)) (order : List Binding) (heap : IsHeap cells vars bound order) (id e : ℕ) (r : Resolved cells bound order id e) (x : Built) →
+    slice_get cells e ≡ Some x → ((g : ℕ) (args : List ℕ) → x ≡ built.Compound g args → ⊥) → arguments (at (meanings cells order) id) ≡ []
+no_arguments cells vars bound order heap id e r (built.Var n) s other = ap arguments (sym r.same ∙ MatchOption-at_none (at (meanings cells order) e ≡ Var n) (λ u. at (meanings cells order) e ≡ at (meanings cells order) u) (r.last n s) (heap.heads e (built.Var n) s))
+no_arguments cells vars bound order heap id e r (built.Number n) s other = ap arguments (sym r.same ∙ heap.heads e (built.Number n) s)
+no_arguments cells vars bound order heap id e r (built.Name a) s other = ap arguments (sym r.same ∙ heap.heads e (built.Name a) s)
+no_arguments cells vars bound order heap id e r (built.Compound g args) s other = absurd (other g args refl)
 
 -- the term of a variable
-module _ (cells : List Cell) (vars : List ℕ) (bound : List (Option ℕ)) (order : List Binding) (heap : IsHeap cells vars bound order) (v i : ℕ) (home : slice_get vars v ≡ Some i) where
+module _ (cells : List Built) (vars : List ℕ) (bound : List (Option ℕ)) (order : List Binding) (heap : IsHeap cells vars bound order) (v i : ℕ) (home : slice_get vars v ≡ Some i) where
   pub home_live : i < length (meanings cells order)
-  home_live = rw (length-meanings cells order) (slice_get_within cells i (cell.Var v) (heap.homes v i home))
-
-  pub home_image : at (meanings cells order) i ≡ at (map (at (meanings cells order)) vars) v
-  home_image =
-      let there : v < length vars = slice_get_within vars v i home in
-      sym (get_or-map (at (meanings cells order)) vars v 0 blank there ∙ ap (at (meanings cells order)) (get_or_from_slice_get vars v i 0 home))
+  home_live = rw (length-meanings cells order) (slice_get_within cells i (built.Var v) (heap.homes v i home))
 
 pub all_to_below : (n : ℕ) (is : List ℕ) → All (λ i. i < n) is → AllBelow n is
 all_to_below n [] h = tt
@@ -515,11 +493,15 @@ pub arg_is : (ts : List HeapTerm) (us : List HeapTerm) (is : List ℕ) (i x : �
 arg_is ts us is i x e lt at_i =
     ap (λ (l : List HeapTerm). slice_get l i) e ∙ slice_get-map (at ts) is i ∙ ap (option_map (at ts)) (slice_get_read is (length is) i x refl lt at_i)
 
-pub inside_free : (cells : List Cell) (vars : List ℕ) (bound : List (Option ℕ)) (order : List Binding) (heap : IsHeap cells vars bound order) (id v : ℕ) → Occurs v (at (meanings cells order) id) → (v < length (map (at (meanings cells order)) vars)) × (at (map (at (meanings cells order)) vars) v ≡ Var v)
+-- a variable that stands in a term is its own image
+pub inside_free : (cells : List Built) (vars : List ℕ) (bound : List (Option ℕ)) (order : List Binding) (heap : IsHeap cells vars bound order) (id v : ℕ) → Occurs v (at (meanings cells order) id) → (v < length (map (at (meanings cells order)) vars)) × (at (map (at (meanings cells order)) vars) v ≡ Var v)
 inside_free cells vars bound order heap id v e =
     let f = heap.free id v e in
     let w : v < length vars = omega (arith, f.0, heap.one_each) in
     let c = heap.homes v (get_or vars v 0) (slice_get-get_or vars v 0 w) in (
       omega (arith, length-map vars (at (meanings cells order))),
-      get_or-map (at (meanings cells order)) vars v 0 blank w ∙ MatchOption-at_none (at (meanings cells order) (get_or vars v 0) ≡ Var v) (λ u. at (meanings cells order) (get_or vars v 0) ≡ at (meanings cells order) u) f.1 (heap.heads (get_or vars v 0) (cell.Var v) c),
+      get_or-map (at (meanings cells order)) vars v 0 blank w ∙ MatchOption-at_none (at (meanings cells order) (get_or vars v 0) ≡ Var v) (λ u. at (meanings cells order) (get_or vars v 0) ≡ at (meanings cells order) u) f.1 (heap.heads (get_or vars v 0) (built.Var v) c),
     )
+
+pub var_free : (cells : List Built) (vars : List ℕ) (bound : List (Option ℕ)) (order : List Binding) (heap : IsHeap cells vars bound order) (id v : ℕ) → at (meanings cells order) id ≡ Var v → (v < length (map (at (meanings cells order)) vars)) × (at (map (at (meanings cells order)) vars) v ≡ Var v)
+var_free cells vars bound order heap id v e = inside_free cells vars bound order heap id v (subst (λ (x : HeapTerm). Occurs v x) (sym e) refl)

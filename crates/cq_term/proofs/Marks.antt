@@ -1,83 +1,274 @@
--- The heaps at the marks, place by place.
-use Rattle.std.proofs.Common.{◌≡◌, ℕ, zero, suc, ◌<◌, List, [], ◌∷◌, ◌++◌, length, Option, Some, refl, ap, take, arith, inl, inr, length-append, length-take}
-use Rattle.std.proofs.lemmas.Option.{none-some, same_Some, slice_get_within}
-use Rattle.std.specs.Prelude.{slice_get}
-use Rattle.cq_term.specs.Rep.{IsHeap, IsMarkedHeap, terms_of_parts, saved_terms}
-use Rattle.cq_term.specs.declared.heap.Cell.{Cell}
-use Rattle.cq_term.specs.declared.heap.Binding.{Binding}
-use Rattle.cq_term.proofs.Kept.{get_push, empty_heap}
+-- The lists at the marks, after each change.
+use Rattle.std.proofs.Common.{◌≡◌, ℕ, zero, suc, ◌+◌, ◌<◌, ◌≤◌, List, [], ◌∷◌, ◌++◌, length, Option, None, Some, refl, sym, ap, ◌∙◌, subst, inl, inr, set, take, drop, arith, length-append, length-take, map}
+use Rattle.std.specs.Prelude.{slice_get, All, Bool, IsTrue, ℤ}
+use Rattle.std.specs.List.{take-map}
+use Rattle.std.proofs.lemmas.List.{take-append-le, take-take, take_all, drop_all, get_or_push, length-map, map-append, drop-map, set-set, set-get_or}
+use Rattle.std.proofs.lemmas.Option.{slice_get_within, none-some, same_Some}
+use Rattle.spec_rational.specs.Rational.{ℚ, int_ℚ, 0ℚ}
+use Rattle.spec_terms.specs.Term.{Var, Number, Name, Occurs, with_arguments}
+use Rattle.cq_trail.specs.Log.{restore}
+use Rattle.cq_trail.proofs.Restore.{map_same, get-drop, get_push, get_take, Within, length-restore, restore-append_right, restore-take-restore, restore_last}
+use Rattle.cq_term.specs.Built.{Built}
+use Rattle.cq_term.specs.Built as built
+use Rattle.cq_term.specs.Meaning.{HeapTerm, at, raw_cell}
+use Rattle.cq_term.specs.Rep.{Fits, AllBelow, target}
+use Rattle.cq_term.specs.Layout.{Contents, IsWhole, IsMarked, IsWithin, IsEarlier, contents_at, terms_at, terms_of, unbinding, restored, read, all_built, meant, IsKept, IsClosed, HasNoVariable, Leads}
+use Rattle.cq_term.specs.declared.lists.Cell.{Cell}
+use Rattle.cq_term.specs.declared.lists.Binding.{Binding}
+use Rattle.cq_term.specs.declared.heap.Place.{Place}
+use Rattle.cq_term.specs.declared.lists.Cell.TheVariants as cell
+use Rattle.cq_term.proofs.Meanings.{length-meanings}
+use Rattle.cq_term.proofs.Arguments.{absent_with_arguments}
+use Rattle.cq_term.proofs.Kept.{all_to_below, var_unbound}
+use Rattle.cq_term.proofs.Cells.{Longer, longer_same, longer_wide, longer_args, read_new, with_cell, with_var, with_binding, whole_cell, meant_cell, images_more, whole_var, whole_binding, whole_new}
 
--- a change of the heap under the same marks
-pub marked : {cells : List Cell} {vars : List ℕ} {bound : List (Option ℕ)} {order : List Binding} {cs : List (List Cell)} {vs : List (List ℕ)} {bs : List (List (Option ℕ))} {os : List (List Binding)} {cells' : List Cell} {vars' : List ℕ} {bound' : List (Option ℕ)} {order' : List Binding} →
-    IsMarkedHeap cells vars bound order cs vs bs os → IsHeap cells' vars' bound' order' → IsMarkedHeap cells' vars' bound' order' cs vs bs os
-marked is heap = record { heap = heap; vars_marks = is.vars_marks; bound_marks = is.bound_marks; order_marks = is.order_marks; marks = is.marks }
+-- each binding is of a variable that is there
+abbrev pub AllThere : ℕ → List Binding → Type 0
+AllThere n bs = (j : ℕ) (b : Binding) → slice_get bs j ≡ Some b → b.variable < n
 
-get_take : {X : Type 0} (n k : ℕ) (ys : List X) (y : X) → slice_get (take n ys) k ≡ Some y → slice_get ys k ≡ Some y
-get_take zero k ys y e = absurd (none-some y e)
-get_take (suc n) k [] y e = absurd (none-some y e)
-get_take (suc n) zero (z ∷ ys) y e = e
-get_take (suc n) (suc k) (z ∷ ys) y e = get_take n k ys y e
+pub there_within : (n : ℕ) (bs : List Binding) → AllThere n bs → Within n (map unbinding bs)
+there_within n [] w j c q = absurd (none-some c q)
+there_within n (b ∷ bs) w zero c q = subst (λ (d : ℕ × Option ℕ). d.0 < n) (same_Some (unbinding b) c q) (w 0 b refl)
+there_within n (b ∷ bs) w (suc j) c q = there_within n bs (λ k y h. w (suc k) y h) j c q
 
-pub saved_take : (n : ℕ) (cs : List (List Cell)) (vs : List (List ℕ)) (os : List (List Binding)) → saved_terms (take n cs) (take n vs) (take n os) ≡ take n (saved_terms cs vs os)
-saved_take zero cs vs os = refl
-saved_take (suc n) [] vs os = refl
-saved_take (suc n) (c ∷ cs) [] os = refl
-saved_take (suc n) (c ∷ cs) (v ∷ vs) [] = refl
-saved_take (suc n) (c ∷ cs) (v ∷ vs) (o ∷ os) = ap (λ l. terms_of_parts c v o ∷ l) (saved_take n cs vs os)
+-- the newest binding taken back
+pub unbind_last : (bs : List Binding) (b : Binding) (m : ℕ) (bound : List (Option ℕ)) → m ≤ length bs → restored (drop m (bs ++ b ∷ [])) bound ≡ restored (drop m bs) (set bound b.variable None)
+unbind_last bs b m bound le =
+    ap (λ (l : List (ℕ × Option ℕ)). restore l bound) (sym (drop-map unbinding m (bs ++ b ∷ [])) ∙ ap (drop m) (map-append unbinding bs (b ∷ [])))
+    ∙ restore_last (map unbinding bs) (b.variable, None) m bound (rw length-map le)
+    ∙ ap (λ (l : List (ℕ × Option ℕ)). restore l (set bound b.variable None)) (drop-map unbinding m bs)
 
-pub saved_at : (n : ℕ) (cs : List (List Cell)) (vs : List (List ℕ)) (os : List (List Binding)) (c : List Cell) (v : List ℕ) (o : List Binding) → slice_get cs n ≡ Some c → slice_get vs n ≡ Some v → slice_get os n ≡ Some o → slice_get (saved_terms cs vs os) n ≡ Some (terms_of_parts c v o)
-saved_at n [] vs os c v o p q r = absurd (none-some c p)
-saved_at n (c' ∷ cs) [] os c v o p q r = absurd (none-some v q)
-saved_at n (c' ∷ cs) (v' ∷ vs) [] c v o p q r = absurd (none-some o r)
-saved_at zero (c' ∷ cs) (v' ∷ vs) (o' ∷ os) c v o p q r = λ i. Some (terms_of_parts (same_Some c' c p i) (same_Some v' v q i) (same_Some o' o r i))
-saved_at (suc n) (c' ∷ cs) (v' ∷ vs) (o' ∷ os) c v o p q r = saved_at n cs vs os c v o p q r
+same_contents : {x y : Contents} → x.cells ≡ y.cells → x.wide ≡ y.wide → x.args ≡ y.args → x.vars ≡ y.vars → x.bound ≡ y.bound → x.order ≡ y.order → x ≡ y
+same_contents a b c d e f = λ i. record { cells = a i; wide = b i; args = c i; vars = d i; bound = e i; order = f i }
 
-pub saved_push : (cs : List (List Cell)) (vs : List (List ℕ)) (os : List (List Binding)) (c : List Cell) (v : List ℕ) (o : List Binding) → length vs ≡ length cs → length os ≡ length cs →
-    saved_terms (cs ++ c ∷ []) (vs ++ v ∷ []) (os ++ o ∷ []) ≡ saved_terms cs vs os ++ terms_of_parts c v o ∷ []
-saved_push [] [] [] c v o e d = refl
-saved_push [] [] (o' ∷ os) c v o e d = absurd (omega arith)
-saved_push [] (v' ∷ vs) os c v o e d = absurd (omega arith)
-saved_push (c' ∷ cs) [] os c v o e d = absurd (omega arith)
-saved_push (c' ∷ cs) (v' ∷ vs) [] c v o e d = absurd (omega arith)
-saved_push (c' ∷ cs) (v' ∷ vs) (o' ∷ os) c v o e d = ap (λ l. terms_of_parts c' v' o' ∷ l) (saved_push cs vs os c v o (omega arith) (omega arith))
+-- a change after which each mark has what it had
+pub record Keeps (x y : Contents) : Type 0 where
+  pub lengths : (p : Place) → IsWithin p x → IsWithin p y
+  pub parts : (p : Place) → IsWithin p x → contents_at y p ≡ contents_at x p
 
-pub length-saved : (cs : List (List Cell)) (vs : List (List ℕ)) (os : List (List Binding)) → length vs ≡ length cs → length os ≡ length cs → length (saved_terms cs vs os) ≡ length cs
-length-saved [] vs os e d = refl
-length-saved (c ∷ cs) [] os e d = absurd (omega arith)
-length-saved (c ∷ cs) (v ∷ vs) [] e d = absurd (omega arith)
-length-saved (c ∷ cs) (v ∷ vs) (o ∷ os) e d = ap suc (length-saved cs vs os (omega arith) (omega arith))
+pub marked_keeps : {x y : Contents} {marks : List Place} → IsMarked x marks → IsWhole y → Keeps x y → IsMarked y marks
+marked_keeps is whole keeps = record {
+  now = whole;
+  within = λ k p q. keeps.lengths p (is.within k p q);
+  before = λ k p q. subst IsWhole (sym (keeps.parts p (is.within k p q))) (is.before k p q);
+  sorted = is.sorted;
+}
 
-module _ (cells : List Cell) (vars : List ℕ) (bound : List (Option ℕ)) (order : List Binding) (cs : List (List Cell)) (vs : List (List ℕ)) (bs : List (List (Option ℕ))) (os : List (List Binding)) (is : IsMarkedHeap cells vars bound order cs vs bs os) where
-  pub marked_more : IsMarkedHeap cells vars bound order (cs ++ cells ∷ []) (vs ++ vars ∷ []) (bs ++ bound ∷ []) (os ++ order ∷ [])
-  marked_more = record {
-    heap = is.heap;
-    vars_marks = omega (arith, length-append vs (vars ∷ []), length-append cs (cells ∷ []), is.vars_marks);
-    bound_marks = omega (arith, length-append bs (bound ∷ []), length-append cs (cells ∷ []), is.bound_marks);
-    order_marks = omega (arith, length-append os (order ∷ []), length-append cs (cells ∷ []), is.order_marks);
-    marks = λ k c v b o p q r s. elim (get_push cs cells k c p) [
-      | inl p' ↦ (
-          let lt : k < length cs = slice_get_within cs k c p' in
-          let q' : slice_get vs k ≡ Some v = elim (get_push vs vars k v q) [ inl h ↦ h | inr h ↦ absurd (omega (arith, h.0, is.vars_marks)) ] in
-          let r' : slice_get bs k ≡ Some b = elim (get_push bs bound k b r) [ inl h ↦ h | inr h ↦ absurd (omega (arith, h.0, is.bound_marks)) ] in
-          let s' : slice_get os k ≡ Some o = elim (get_push os order k o s) [ inl h ↦ h | inr h ↦ absurd (omega (arith, h.0, is.order_marks)) ] in
-          is.marks k c v b o p' q' r' s')
-      | inr p' ↦ (
-          let q' : vars ≡ v = elim (get_push vs vars k v q) [ inl h ↦ absurd (omega (arith, p'.0, slice_get_within vs k v h, is.vars_marks)) | inr h ↦ h.1 ] in
-          let r' : bound ≡ b = elim (get_push bs bound k b r) [ inl h ↦ absurd (omega (arith, p'.0, slice_get_within bs k b h, is.bound_marks)) | inr h ↦ h.1 ] in
-          let s' : order ≡ o = elim (get_push os order k o s) [ inl h ↦ absurd (omega (arith, p'.0, slice_get_within os k o h, is.order_marks)) | inr h ↦ h.1 ] in
-          rw (← p'.1, ← q', ← r', ← s') is.heap)
-    ];
+pub saved_keeps : {x y : Contents} {marks : List Place} → IsMarked x marks → Keeps x y → map (terms_at y) marks ≡ map (terms_at x) marks
+saved_keeps {x = x} {y = y} {marks = marks} is keeps = map_same (terms_at y) (terms_at x) marks (λ k p q. ap terms_of (keeps.parts p (is.within k p q)))
+
+pub keeps_cell : (x : Contents) (wide : List ℚ) (args : List ℕ) → Longer x wide args → (c : Cell) → Keeps x (with_cell x wide args c)
+keeps_cell x wide args longer c = record {
+  lengths = λ p w. record {
+    cells = omega (arith, w.cells, length-append x.cells (c ∷ []));
+    wide = omega (arith, w.wide, longer.wides);
+    args = omega (arith, w.args, longer.arguments);
+    vars = w.vars;
+    order = w.order;
+  };
+  parts = λ p w. same_contents
+      (take-append-le p.cells x.cells (c ∷ []) w.cells)
+      (longer.cut_wide p.wide w.wide)
+      (longer.cut_args p.args w.args)
+      refl refl refl;
+}
+
+module _ (x : Contents) (whole : IsWhole x) where
+  all_there : AllThere (length x.bound) x.order
+  all_there j b q = (whole.heap.bindings j b q).1
+
+  rest_there : (n : ℕ) → AllThere (length x.bound) (drop n x.order)
+  rest_there n j b q = all_there (n + j) b (sym (get-drop n x.order j) ∙ q)
+
+  pub keeps_var : Keeps x (with_var x)
+  keeps_var = record {
+    lengths = λ p w. record {
+      cells = omega (arith, w.cells, length-append x.cells (cell.Var (length x.bound) ∷ []));
+      wide = w.wide;
+      args = w.args;
+      vars = omega (arith, w.vars, length-append x.vars (length x.cells ∷ []));
+      order = w.order;
+    };
+    parts = λ p w. same_contents
+        (take-append-le p.cells x.cells (cell.Var (length x.bound) ∷ []) w.cells)
+        refl refl
+        (take-append-le p.vars x.vars (length x.cells ∷ []) w.vars)
+        (ap (take p.vars) (restore-append_right (map unbinding (drop p.order x.order)) x.bound (None ∷ []) (there_within (length x.bound) (drop p.order x.order) (rest_there p.order)))
+        ∙ take-append-le p.vars (restored (drop p.order x.order) x.bound) (None ∷ []) (omega (arith, w.vars, whole.heap.one_each, length-restore (map unbinding (drop p.order x.order)) x.bound)))
+        refl;
   }
 
-  module _ (n : ℕ) where
-    pub marked_take : (cells' : List Cell) (vars' : List ℕ) (bound' : List (Option ℕ)) (order' : List Binding) → IsHeap cells' vars' bound' order' → IsMarkedHeap cells' vars' bound' order' (take n cs) (take n vs) (take n bs) (take n os)
-    marked_take cells' vars' bound' order' heap = record {
-      heap = heap;
-      vars_marks = simp (length-take) (omega (arith, is.vars_marks));
-      bound_marks = simp (length-take) (omega (arith, is.bound_marks));
-      order_marks = simp (length-take) (omega (arith, is.order_marks));
-      marks = λ k c v b o p q r s. is.marks k c v b o (get_take n k cs c p) (get_take n k vs v q) (get_take n k bs b r) (get_take n k os o s);
+  pub keeps_binding : (v t : ℕ) → target x.bound v ≡ None → Keeps x (with_binding x v t)
+  keeps_binding v t none = record {
+    lengths = λ p w. record {
+      cells = w.cells;
+      wide = w.wide;
+      args = w.args;
+      vars = w.vars;
+      order = omega (arith, w.order, length-append x.order (record { variable = v; term = t } ∷ []));
+    };
+    parts = λ p w. same_contents refl refl refl refl
+        (ap (take p.vars) (
+        unbind_last x.order (record { variable = v; term = t }) p.order (set x.bound v (Some t)) w.order
+        ∙ ap (restored (drop p.order x.order)) (set-set x.bound v (Some t) None ∙ ap (set x.bound v) (sym none) ∙ set-get_or x.bound v None)))
+        (take-append-le p.order x.order (record { variable = v; term = t } ∷ []) w.order);
+  }
+
+-- the lengths now
+pub record Measures (p : Place) (x : Contents) : Type 0 where
+  pub cells : p.cells ≡ length x.cells
+  pub wide : p.wide ≡ length x.wide
+  pub args : p.args ≡ length x.args
+  pub vars : p.vars ≡ length x.vars
+  pub order : p.order ≡ length x.order
+
+module _ (x : Contents) (marks : List Place) (is : IsMarked x marks) where
+  module _ (p : Place) (m : Measures p x) where
+    pub contents_now : contents_at x p ≡ x
+    contents_now = same_contents
+        (take_all p.cells x.cells (omega (arith, m.cells)))
+        (take_all p.wide x.wide (omega (arith, m.wide)))
+        (take_all p.args x.args (omega (arith, m.args)))
+        (take_all p.vars x.vars (omega (arith, m.vars)))
+        (ap (λ (l : List Binding). take p.vars (restored l x.bound)) (drop_all p.order x.order (omega (arith, m.order))) ∙ take_all p.vars x.bound (omega (arith, m.vars, is.now.heap.one_each)))
+        (take_all p.order x.order (omega (arith, m.order)))
+
+    within_now : IsWithin p x
+    within_now = record { cells = omega (arith, m.cells); wide = omega (arith, m.wide); args = omega (arith, m.args); vars = omega (arith, m.vars); order = omega (arith, m.order) }
+
+    earlier_now : (q : Place) → IsWithin q x → IsEarlier q p
+    earlier_now q w = record { cells = omega (arith, m.cells, w.cells); wide = omega (arith, m.wide, w.wide); args = omega (arith, m.args, w.args); vars = omega (arith, m.vars, w.vars); order = omega (arith, m.order, w.order) }
+
+    pub marked_more : IsMarked x (marks ++ p ∷ [])
+    marked_more = record {
+      now = is.now;
+      within = λ k q h. elim (get_push marks p k q h) [ inl g ↦ is.within k q g | inr g ↦ subst (λ (y : Place). IsWithin y x) g.1 within_now ];
+      before = λ k q h. elim (get_push marks p k q h) [
+        | inl g ↦ is.before k q g
+        | inr g ↦ subst (λ (y : Place). IsWhole (contents_at x y)) g.1 (subst IsWhole (sym contents_now) is.now)
+      ];
+      sorted = λ j k q r h i le. elim (get_push marks p k r i) [
+        | inl g ↦ elim (get_push marks p j q h) [
+          | inl f ↦ is.sorted j k q r f g le
+          | inr f ↦ absurd (omega (arith, f.0, slice_get_within marks k r g))
+        ]
+        | inr g ↦ subst (IsEarlier q) g.1 (elim (get_push marks p j q h) [
+          | inl f ↦ earlier_now q (is.within j q f)
+          | inr f ↦ subst (λ (y : Place). IsEarlier y p) f.1 (earlier_now p within_now)
+        ])
+      ];
     }
 
-pub marked_new : IsMarkedHeap [] [] [] [] [] [] [] []
-marked_new = record { heap = empty_heap; vars_marks = refl; bound_marks = refl; order_marks = refl; marks = λ k c v b o p q r s. absurd (none-some c p) }
+    pub saved_more : map (terms_at x) (marks ++ p ∷ []) ≡ map (terms_at x) marks ++ terms_of x ∷ []
+    saved_more = map-append (terms_at x) marks (p ∷ []) ∙ ap (λ (y : Contents). map (terms_at x) marks ++ terms_of y ∷ []) contents_now
+
+  pub marked_take : (n : ℕ) → IsMarked x (take n marks)
+  marked_take n = record {
+    now = is.now;
+    within = λ k p q. is.within k p (get_take n k marks p q).0;
+    before = λ k p q. is.before k p (get_take n k marks p q).0;
+    sorted = λ j k p q h i le. is.sorted j k p q (get_take n j marks p h).0 (get_take n k marks q i).0 le;
+  }
+
+  module _ (n : ℕ) (p : Place) (here : slice_get marks n ≡ Some p) where
+    at_p : IsWithin p x
+    at_p = is.within n p here
+
+    cut_there : Within p.vars (take p.order (map unbinding x.order))
+    cut_there = subst (Within p.vars) (sym (take-map unbinding p.order x.order)) (there_within p.vars (take p.order x.order) (λ j b q.
+        let lt = ((is.before n p here).heap.bindings j b q).1 in
+        omega (arith, lt, length-take p.vars (restored (drop p.order x.order) x.bound))))
+
+    -- an earlier mark has in the lists at this one what it has now
+    earlier_same : (q : Place) → IsEarlier q p → contents_at (contents_at x p) q ≡ contents_at x q
+    earlier_same q e = same_contents
+        (take-take q.cells p.cells x.cells e.cells)
+        (take-take q.wide p.wide x.wide e.wide)
+        (take-take q.args p.args x.args e.args)
+        (take-take q.vars p.vars x.vars e.vars)
+        (ap (take q.vars) (
+        ap (λ (l : List (ℕ × Option ℕ)). restore l (take p.vars (restored (drop p.order x.order) x.bound))) (sym (drop-map unbinding q.order (take p.order x.order)) ∙ ap (drop q.order) (sym (take-map unbinding p.order x.order)))
+        ∙ ap (λ (l : List (ℕ × Option ℕ)). restore (drop q.order (take p.order (map unbinding x.order))) (take p.vars (restore l x.bound))) (sym (drop-map unbinding p.order x.order))
+        ∙ restore-take-restore (map unbinding x.order) x.bound p.vars q.order p.order e.order cut_there
+        ∙ ap (λ (l : List (ℕ × Option ℕ)). take p.vars (restore l x.bound)) (drop-map unbinding q.order x.order))
+        ∙ take-take q.vars p.vars (restored (drop q.order x.order) x.bound) e.vars)
+        (take-take q.order p.order x.order e.order)
+
+    within_cut : (q : Place) → IsEarlier q p → IsWithin q (contents_at x p)
+    within_cut q e = record {
+      cells = omega (arith, e.cells, at_p.cells, length-take p.cells x.cells);
+      wide = omega (arith, e.wide, at_p.wide, length-take p.wide x.wide);
+      args = omega (arith, e.args, at_p.args, length-take p.args x.args);
+      vars = omega (arith, e.vars, at_p.vars, length-take p.vars x.vars);
+      order = omega (arith, e.order, at_p.order, length-take p.order x.order);
+    }
+
+    pub marked_undo : IsMarked (contents_at x p) (take n marks)
+    marked_undo = record {
+      now = is.before n p here;
+      within = λ k q h. (let g = get_take n k marks q h in within_cut q (is.sorted k n q p g.0 here (omega (arith, g.1))));
+      before = λ k q h. (let g = get_take n k marks q h in subst IsWhole (sym (earlier_same q (is.sorted k n q p g.0 here (omega (arith, g.1))))) (is.before k q g.0));
+      sorted = λ j k q r h i le. is.sorted j k q r (get_take n j marks q h).0 (get_take n k marks r i).0 le;
+    }
+
+    pub saved_undo : map (terms_at (contents_at x p)) (take n marks) ≡ take n (map (terms_at x) marks)
+    saved_undo =
+        map_same (terms_at (contents_at x p)) (terms_at x) (take n marks) (λ k q h. (let g = get_take n k marks q h in ap terms_of (earlier_same q (is.sorted k n q p g.0 here (omega (arith, g.1))))))
+        ∙ sym (take-map (terms_at x) n marks)
+
+pub marked_new : IsMarked (record { cells = []; wide = []; args = []; vars = []; bound = []; order = [] }) []
+marked_new = record { now = whole_new; within = λ k p q. absurd (none-some p q); before = λ k p q. absurd (none-some p q); sorted = λ j k p q h i le. absurd (none-some p h) }
+
+-- a cell was added that means a term, under the same marks
+pub record Adds (x y : Contents) (marks : List Place) (t : HeapTerm) : Type 0 where
+  pub marked : IsMarked y marks
+  pub saved : map (terms_at y) marks ≡ map (terms_at x) marks
+  pub terms : meant y ≡ meant x ++ t ∷ []
+  pub images : map (at (meant y)) y.vars ≡ map (at (meant x)) x.vars
+
+module _ (x : Contents) (marks : List Place) (is : IsMarked x marks) where
+  adds_cell : (wide : List ℚ) (args : List ℕ) → Longer x wide args → (c : Cell) (b : Built) → read wide args c ≡ b → Fits (length (all_built x)) (length x.bound) b → ((n : ℕ) → b ≡ built.Var n → ⊥) → IsKept (length wide) (length args) c → (IsClosed c → HasNoVariable (raw_cell (meant x) b)) →
+      Adds x (with_cell x wide args c) marks (raw_cell (meant x) b)
+  adds_cell wide args longer c b reads fits plain kept closed =
+      let keeps = keeps_cell x wide args longer c in
+      record {
+        marked = marked_keeps is (whole_cell x is.now wide args longer c b reads fits plain kept closed) keeps;
+        saved = saved_keeps is keeps;
+        terms = meant_cell x is.now wide args longer c b reads fits plain;
+        images = images_more x is.now wide args longer c b reads fits plain;
+      }
+
+  pub adds_whole : (n : ℤ) → Adds x (with_cell x x.wide x.args (cell.Whole n)) marks (Number (int_ℚ n))
+  adds_whole n = adds_cell x.wide x.args (longer_same x) (cell.Whole n) (built.Number (int_ℚ n)) refl tt (λ m e. cc) tt (λ g v o. o)
+
+  pub adds_wide : (q : ℚ) → Adds x (with_cell x (x.wide ++ q ∷ []) x.args (cell.Wide (length x.wide))) marks (Number q)
+  adds_wide q = adds_cell (x.wide ++ q ∷ []) x.args (longer_wide x q) (cell.Wide (length x.wide)) (built.Number q)
+      (ap built.Number (get_or_push x.wide q 0ℚ (length x.wide) refl)) tt (λ m e. cc) (omega (arith, length-append x.wide (q ∷ []))) (λ g v o. o)
+
+  pub adds_name : (a : ℕ) → Adds x (with_cell x x.wide x.args (cell.Name a)) marks (Name a)
+  adds_name a = adds_cell x.wide x.args (longer_same x) (cell.Name a) (built.Name a) refl tt (λ m e. cc) tt (λ g v o. o)
+
+  pub adds_compound : (g : Bool) (f : ℕ) (ids : List ℕ) → 0 < length ids → All (λ i. i < length (meant x)) ids → (IsTrue g → All (λ i. HasNoVariable (at (meant x) i)) ids) →
+      Adds x (with_cell x x.wide (x.args ++ ids) (cell.Compound g f (length x.args) (length ids))) marks (with_arguments f (map (at (meant x)) ids))
+  adds_compound g f ids some live ground =
+      let below : AllBelow (length (all_built x)) ids = subst (λ (n : ℕ). AllBelow n ids) (length-meanings (all_built x) x.order) (all_to_below (length (meant x)) ids live) in
+      adds_cell x.wide (x.args ++ ids) (longer_args x ids) (cell.Compound g f (length x.args) (length ids)) (built.Compound f ids)
+      (ap (built.Compound f) (read_new x.args ids)) (some, below) (λ m e. cc) (omega (arith, length-append x.args ids))
+      (λ t v. absent_with_arguments (meant x) f ids v (λ k d lt. ground t k d lt v))
+
+  pub marked_var : IsMarked (with_var x) marks
+  marked_var = marked_keeps is (whole_var x is.now) (keeps_var x is.now)
+
+  pub saved_var : map (terms_at (with_var x)) marks ≡ map (terms_at x) marks
+  saved_var = saved_keeps is (keeps_var x is.now)
+
+  -- a binding of an unbound variable to the end of the bindings from a term in which it doesn't stand
+  module _ (v : ℕ) (there : v < length (map (at (meant x)) x.vars)) (image : at (map (at (meant x)) x.vars) v ≡ Var v) (term end : ℕ) (leads : Leads x term end) (apart : Occurs v (at (meant x) term) → ⊥) where
+    keeps : Keeps x (with_binding x v end)
+    keeps = keeps_binding x is.now v end (var_unbound (all_built x) x.vars x.bound x.order is.now.heap v there image)
+
+    pub marked_binding : IsMarked (with_binding x v end) marks
+    marked_binding = marked_keeps is (whole_binding x is.now v there image term end leads apart) keeps
+
+    pub saved_binding : map (terms_at (with_binding x v end)) marks ≡ map (terms_at x) marks
+    saved_binding = saved_keeps is keeps

@@ -1,22 +1,22 @@
 -- How what the ids mean changes with a new cell and a new binding.
 use Rattle.std.proofs.Common.{◌≡◌, ◌≢◌, ℕ, zero, suc, ◌+◌, ◌<◌, ◌≤◌, List, [], ◌∷◌, ◌++◌, length, Option, None, Some, refl, sym, ap, ◌∙◌, arith, length-append, map}
 use Rattle.std.proofs.lemmas.List.{get_or-map, length-map, map-append}
-use Rattle.std.specs.Prelude.{slice_get, ⊤}
+use Rattle.std.specs.Prelude.{slice_get}
 use Rattle.spec_terms.specs.Term.{Var, apply, single, with_arguments}
 use Rattle.spec_terms.proofs.Substitution.{single_other}
 use Rattle.cq_term.specs.Meaning.{HeapTerm, at, blank, raw_cell, raws_from, after, bind_one, meanings}
 use Rattle.cq_term.specs.Rep.{Fits, AllBelow, left_after}
-use Rattle.cq_term.specs.declared.heap.Cell.{Cell}
-use Rattle.cq_term.specs.declared.heap.Cell.TheVariants as cell
-use Rattle.cq_term.specs.declared.heap.Binding.{Binding}
+use Rattle.cq_term.specs.Built.{Built}
+use Rattle.cq_term.specs.Built as built
+use Rattle.cq_term.specs.declared.lists.Binding.{Binding}
 use Rattle.cq_term.proofs.Arguments.{apply-with_arguments}
 
-pub raws_push : (ts : List HeapTerm) (cs : List Cell) (c : Cell) → raws_from ts (cs ++ c ∷ []) ≡ raws_from ts cs ++ raw_cell (raws_from ts cs) c ∷ []
+pub raws_push : (ts : List HeapTerm) (cs : List Built) (c : Built) → raws_from ts (cs ++ c ∷ []) ≡ raws_from ts cs ++ raw_cell (raws_from ts cs) c ∷ []
 unfolding raws_from
 raws_push ts [] c = refl
 raws_push ts (d ∷ cs) c = raws_push (ts ++ raw_cell ts d ∷ []) cs c
 
-pub length-raws : (ts : List HeapTerm) (cs : List Cell) → length (raws_from ts cs) ≡ length ts + length cs
+pub length-raws : (ts : List HeapTerm) (cs : List Built) → length (raws_from ts cs) ≡ length ts + length cs
 unfolding raws_from
 length-raws ts [] = omega arith
 length-raws ts (d ∷ cs) = length-raws (ts ++ raw_cell ts d ∷ []) cs ∙ omega (arith, length-append ts (raw_cell ts d ∷ []))
@@ -31,7 +31,7 @@ unfolding after
 length-after [] ts = refl
 length-after (b ∷ bs) ts = length-after bs (bind_one b ts) ∙ length-map ts (apply (single b.variable (at ts b.term)))
 
-pub length-meanings : (cells : List Cell) (order : List Binding) → length (meanings cells order) ≡ length cells
+pub length-meanings : (cells : List Built) (order : List Binding) → length (meanings cells order) ≡ length cells
 unfolding meanings
 length-meanings cells order = length-after order (raws_from [] cells) ∙ length-raws [] cells ∙ omega arith
 
@@ -58,13 +58,6 @@ map_at-map v u ts (i ∷ is) n h a =
     let d : map (at (map (apply (single v u)) ts)) is ≡ map (apply (single v u)) (map (at ts) is) = map_at-map v u ts is n h a.1 in
     cc
 
--- what a new cell means: its variable is in no binding
-abbrev pub IsNew : List Binding → Cell → Type 0
-IsNew order (cell.Var n) = (k : ℕ) (b : Binding) → slice_get order k ≡ Some b → b.variable ≢ n
-IsNew order (cell.Number n) = ⊤
-IsNew order (cell.Name a) = ⊤
-IsNew order (cell.Compound f args) = ⊤
-
 abbrev pub AllWithin : ℕ → List Binding → Type 0
 AllWithin n bs = (k : ℕ) (b : Binding) → slice_get bs k ≡ Some b → b.term < n
 
@@ -72,14 +65,14 @@ pub subst-new : (v n : ℕ) (u : HeapTerm) → v ≢ n → apply (single v u) (V
 subst-new v n u h = single_other v n u h
 
 -- one binding takes a new cell's term to the new cell's term
-pub raw_bind : (b : Binding) (ts : List HeapTerm) (c : Cell) (vars : ℕ) → Fits (length ts) vars c → ((n : ℕ) → c ≡ cell.Var n → b.variable ≢ n) → apply (single b.variable (at ts b.term)) (raw_cell ts c) ≡ raw_cell (bind_one b ts) c
-raw_bind b ts (cell.Var n) vars f h = subst-new b.variable n (at ts b.term) (h n refl)
-raw_bind b ts (cell.Number n) vars f h = refl
-raw_bind b ts (cell.Name a) vars f h = refl
-raw_bind b ts (cell.Compound g args) vars f h =
-    apply-with_arguments (single b.variable (at ts b.term)) g (map (at ts) args.items) ∙ ap (with_arguments g) (sym (map_at-map b.variable (at ts b.term) ts args.items (length ts) (omega arith) f.1))
+pub raw_bind : (b : Binding) (ts : List HeapTerm) (c : Built) (vars : ℕ) → Fits (length ts) vars c → ((n : ℕ) → c ≡ built.Var n → b.variable ≢ n) → apply (single b.variable (at ts b.term)) (raw_cell ts c) ≡ raw_cell (bind_one b ts) c
+raw_bind b ts (built.Var n) vars f h = subst-new b.variable n (at ts b.term) (h n refl)
+raw_bind b ts (built.Number n) vars f h = refl
+raw_bind b ts (built.Name a) vars f h = refl
+raw_bind b ts (built.Compound g args) vars f h =
+    apply-with_arguments (single b.variable (at ts b.term)) g (map (at ts) args) ∙ ap (with_arguments g) (sym (map_at-map b.variable (at ts b.term) ts args (length ts) (omega arith) f.1))
 
-pub after_more : (bs : List Binding) (ts : List HeapTerm) (c : Cell) (vars : ℕ) → AllWithin (length ts) bs → Fits (length ts) vars c → ((k : ℕ) (b : Binding) (n : ℕ) → slice_get bs k ≡ Some b → c ≡ cell.Var n → b.variable ≢ n) →
+pub after_more : (bs : List Binding) (ts : List HeapTerm) (c : Built) (vars : ℕ) → AllWithin (length ts) bs → Fits (length ts) vars c → ((k : ℕ) (b : Binding) (n : ℕ) → slice_get bs k ≡ Some b → c ≡ built.Var n → b.variable ≢ n) →
     after bs (ts ++ raw_cell ts c ∷ []) ≡ after bs ts ++ raw_cell (after bs ts) c ∷ []
 unfolding after
 after_more [] ts c vars w f h = refl
@@ -92,12 +85,12 @@ after_more (b ∷ bs) ts c vars w f h =
     rw d (after_more bs (bind_one b ts) c vars (rw l (λ k x q. w (suc k) x q)) (rw l f) (λ k x n q. h (suc k) x n q))
 
 -- how many bindings can still be followed
-abbrev pub left_at : List Binding → Option Cell → ℕ
+abbrev pub left_at : List Binding → Option Built → ℕ
 left_at order None = 0
-left_at order (Some (cell.Var n)) = left_after order n
-left_at order (Some (cell.Number n)) = 0
-left_at order (Some (cell.Name n)) = 0
-left_at order (Some (cell.Compound f args)) = 0
+left_at order (Some (built.Var n)) = left_after order n
+left_at order (Some (built.Number n)) = 0
+left_at order (Some (built.Name n)) = 0
+left_at order (Some (built.Compound f args)) = 0
 
-abbrev pub steps_left : List Cell → List Binding → ℕ → ℕ
+abbrev pub steps_left : List Built → List Binding → ℕ → ℕ
 steps_left cells order i = left_at order (slice_get cells i)

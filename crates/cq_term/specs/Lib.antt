@@ -1,5 +1,7 @@
+pub mod Built
 pub mod Meaning
 pub mod Shown
 pub mod HeapValue
 pub mod Rep
+pub mod Layout
 pub mod Names

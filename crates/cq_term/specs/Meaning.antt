@@ -2,9 +2,9 @@
 -- they were made.
 use Rattle.std.specs.Prelude.{ℕ, List, [], ◌∷◌, ◌++◌, map, slice_index_or}
 use Rattle.spec_terms.specs.Term.{Term, Var, Number, Name, with_arguments, apply, single}
-use Rattle.cq_term.specs.declared.heap.Cell.{Cell}
-use Rattle.cq_term.specs.declared.heap.Cell.TheVariants as cell
-use Rattle.cq_term.specs.declared.heap.Binding.{Binding}
+use Rattle.cq_term.specs.Built.{Built}
+use Rattle.cq_term.specs.Built as built
+use Rattle.cq_term.specs.declared.lists.Binding.{Binding}
 
 -- a term whose names are the numbers of atoms
 abbrev pub HeapTerm : Type 0
@@ -19,13 +19,13 @@ abbrev pub at : List HeapTerm → ℕ → HeapTerm
 at ts i = slice_index_or ts i blank
 
 -- a cell over the terms before it
-abbrev pub raw_cell : List HeapTerm → Cell → HeapTerm
-raw_cell ts (cell.Var v) = Var v
-raw_cell ts (cell.Number q) = Number q
-raw_cell ts (cell.Name a) = Name a
-raw_cell ts (cell.Compound f args) = with_arguments f (map (at ts) args.items)
+abbrev pub raw_cell : List HeapTerm → Built → HeapTerm
+raw_cell ts (built.Var v) = Var v
+raw_cell ts (built.Number q) = Number q
+raw_cell ts (built.Name a) = Name a
+raw_cell ts (built.Compound f args) = with_arguments f (map (at ts) args)
 
-unfoldable pub raws_from : List HeapTerm → List Cell → List HeapTerm
+unfoldable pub raws_from : List HeapTerm → List Built → List HeapTerm
 raws_from ts [] = ts
 raws_from ts (c ∷ cs) = raws_from (ts ++ raw_cell ts c ∷ []) cs
 
@@ -38,5 +38,5 @@ after [] ts = ts
 after (b ∷ bs) ts = after bs (bind_one b ts)
 
 -- what the ids mean
-unfoldable pub meanings : List Cell → List Binding → List HeapTerm
+unfoldable pub meanings : List Built → List Binding → List HeapTerm
 meanings cells order = after order (raws_from [] cells)

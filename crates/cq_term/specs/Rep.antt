@@ -4,75 +4,59 @@ use Rattle.std.specs.declared.option.Option.{Option}
 use Rattle.spec_terms.specs.Term.{Var, Number, Name, Occurs, with_arguments}
 use Rattle.cq_term.specs.Meaning.{HeapTerm, at, meanings}
 use Rattle.cq_term.specs.HeapValue.{Terms}
-use Rattle.cq_term.specs.declared.heap.Cell.{Cell}
-use Rattle.cq_term.specs.declared.heap.Cell.TheVariants as cell
-use Rattle.cq_term.specs.declared.heap.Binding.{Binding}
+use Rattle.cq_term.specs.Built.{Built}
+use Rattle.cq_term.specs.Built as built
+use Rattle.cq_term.specs.declared.lists.Binding.{Binding}
 
 -- what a variable is bound to
 abbrev pub target : List (Option ℕ) → ℕ → Option ℕ
 target bound v = slice_index_or bound v None
 
 -- the term of a cell, by the terms of the ids in it
-abbrev pub Head : List HeapTerm → List (Option ℕ) → Cell → HeapTerm → Type 0
-Head ts bound (cell.Var v) t = MatchOption (target bound v) (t ≡ Var v) (λ u. t ≡ at ts u)
-Head ts bound (cell.Number q) t = t ≡ Number q
-Head ts bound (cell.Name a) t = t ≡ Name a
-Head ts bound (cell.Compound f args) t = t ≡ with_arguments f (map (at ts) args.items)
+abbrev pub Head : List HeapTerm → List (Option ℕ) → Built → HeapTerm → Type 0
+Head ts bound (built.Var v) t = MatchOption (target bound v) (t ≡ Var v) (λ u. t ≡ at ts u)
+Head ts bound (built.Number q) t = t ≡ Number q
+Head ts bound (built.Name a) t = t ≡ Name a
+Head ts bound (built.Compound f args) t = t ≡ with_arguments f (map (at ts) args)
 
 abbrev pub AllBelow : ℕ → List ℕ → Type 0
 AllBelow i [] = ⊤
 AllBelow i (x ∷ xs) = (x < i) × AllBelow i xs
 
 -- ids in a cell stand before it, variables are there, and a compound has an argument
-abbrev pub Fits : ℕ → ℕ → Cell → Type 0
-Fits i vars (cell.Var v) = v < vars
-Fits i vars (cell.Number q) = ⊤
-Fits i vars (cell.Name a) = ⊤
-Fits i vars (cell.Compound f args) = (0 < length args.items) × AllBelow i args.items
+abbrev pub Fits : ℕ → ℕ → Built → Type 0
+Fits i vars (built.Var v) = v < vars
+Fits i vars (built.Number q) = ⊤
+Fits i vars (built.Name a) = ⊤
+Fits i vars (built.Compound f args) = (0 < length args) × AllBelow i args
 
 -- how many bindings were made from that of a variable on, or 0 where it has none
 abbrev pub left_after : List Binding → ℕ → ℕ
 left_after [] v = 0
 left_after (b ∷ bs) v = cond (b.variable == v) (suc (length bs)) (left_after bs v)
 
-pub record IsHeap (cells : List Cell) (vars : List ℕ) (bound : List (Option ℕ)) (order : List Binding) : Type 0 where
-  pub fits : (i : ℕ) (c : Cell) → slice_get cells i ≡ Some c → Fits i (length bound) c
-  pub heads : (i : ℕ) (c : Cell) → slice_get cells i ≡ Some c → Head (meanings cells order) bound c (at (meanings cells order) i)
+pub record IsHeap (cells : List Built) (vars : List ℕ) (bound : List (Option ℕ)) (order : List Binding) : Type 0 where
+  pub fits : (i : ℕ) (c : Built) → slice_get cells i ≡ Some c → Fits i (length bound) c
+  pub heads : (i : ℕ) (c : Built) → slice_get cells i ≡ Some c → Head (meanings cells order) bound c (at (meanings cells order) i)
   -- a variable in a term is there and isn't bound
   pub free : (i v : ℕ) → Occurs v (at (meanings cells order) i) → (v < length bound) × (target bound v ≡ None)
-  pub homes : (v i : ℕ) → slice_get vars v ≡ Some i → slice_get cells i ≡ Some (cell.Var v)
+  pub homes : (v i : ℕ) → slice_get vars v ≡ Some i → slice_get cells i ≡ Some (built.Var v)
   pub one_each : length vars ≡ length bound
   pub bindings : (k : ℕ) (b : Binding) → slice_get order k ≡ Some b → (b.term < length cells) × (b.variable < length bound)
   pub targets : (v u : ℕ) → target bound v ≡ Some u → (u < length cells) × (0 < left_after order v)
   pub unbound : (v : ℕ) → target bound v ≡ None → left_after order v ≡ 0
   -- a variable that a bound one leads to was bound later
-  pub chain : (v u w : ℕ) → target bound v ≡ Some u → slice_get cells u ≡ Some (cell.Var w) → left_after order w < left_after order v
+  pub chain : (v u w : ℕ) → target bound v ≡ Some u → slice_get cells u ≡ Some (built.Var w) → left_after order w < left_after order v
 
 -- the end of the bindings from an id: it means the same, and is no bound variable
-pub record Resolved (cells : List Cell) (bound : List (Option ℕ)) (order : List Binding) (id end : ℕ) : Type 0 where
+pub record Resolved (cells : List Built) (bound : List (Option ℕ)) (order : List Binding) (id end : ℕ) : Type 0 where
   pub live : end < length cells
   pub same : at (meanings cells order) end ≡ at (meanings cells order) id
-  pub last : (v : ℕ) → slice_get cells end ≡ Some (cell.Var v) → target bound v ≡ None
+  pub last : (v : ℕ) → slice_get cells end ≡ Some (built.Var v) → target bound v ≡ None
 
-pub record Reaches (cells : List Cell) (order : List Binding) (id end : ℕ) : Type 0 where
+pub record Reaches (cells : List Built) (order : List Binding) (id end : ℕ) : Type 0 where
   pub live : end < length cells
   pub same : at (meanings cells order) end ≡ at (meanings cells order) id
 
-abbrev pub terms_of_parts : List Cell → List ℕ → List Binding → Terms
+abbrev pub terms_of_parts : List Built → List ℕ → List Binding → Terms
 terms_of_parts cells vars order = record { terms = meanings cells order; images = map (at (meanings cells order)) vars }
-
--- the terms at each mark, by the parts at each
-abbrev pub saved_terms : List (List Cell) → List (List ℕ) → List (List Binding) → List Terms
-saved_terms [] vs os = []
-saved_terms (c ∷ cs) [] os = []
-saved_terms (c ∷ cs) (v ∷ vs) [] = []
-saved_terms (c ∷ cs) (v ∷ vs) (o ∷ os) = terms_of_parts c v o ∷ saved_terms cs vs os
-
--- the parts now, and at each of the marks that they share, are those of a heap
-pub record IsMarkedHeap (cells : List Cell) (vars : List ℕ) (bound : List (Option ℕ)) (order : List Binding) (cs : List (List Cell)) (vs : List (List ℕ)) (bs : List (List (Option ℕ))) (os : List (List Binding)) : Type 0 where
-  pub heap : IsHeap cells vars bound order
-  pub vars_marks : length vs ≡ length cs
-  pub bound_marks : length bs ≡ length cs
-  pub order_marks : length os ≡ length cs
-  pub marks : (k : ℕ) (c : List Cell) (v : List ℕ) (b : List (Option ℕ)) (o : List Binding) →
-      slice_get cs k ≡ Some c → slice_get vs k ≡ Some v → slice_get bs k ≡ Some b → slice_get os k ≡ Some o → IsHeap c v b o

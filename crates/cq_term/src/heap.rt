@@ -2,65 +2,58 @@
 
 ghost use Rattle.std.specs.Prelude.{List, ℕ, ◌≡◌, ◌<◌, ◌≤◌, ◌++◌, [], ◌∷◌, map, length, All, slice_get, Some, IfOk, OnOk, OnErr, IsTrue};
 ghost use Rattle.spec_terms.specs.Term.{Var, Number, Name, Occurs, with_arguments, apply, single};
+ghost use Rattle.spec_rational.specs.Rational.{int_ℚ};
 ghost use Rattle.cq_term.specs.Meaning.{at};
-ghost use Rattle.cq_term.specs.Rep.{IsHeap, Resolved};
+ghost use Rattle.cq_term.specs.Layout.{HasNoVariable};
 ghost use Rattle.cq_term.specs.Shown.{view_of, arguments, IsUnbound};
 
+use crate::lists::{Binding, Cell, Lists, unbind, word};
 use crate::names::TermId;
 use crate::view::View;
 use cq_atoms::Atom;
 use cq_frac::{Frac, VarId};
-use cq_trail::{Mark, Trail, Undo};
+use cq_trail::{Mark, Undo};
 use std::alloc::{AllocError, Global};
 use std::marker::Model;
 
-/// What was built: a variable, a number, a name, or a name over terms that were built before.
-#[derive(Drop)]
-enum Cell {
-    Var(usize),
-    Number(Frac),
-    Name(Atom),
-    Compound(Atom, Vec<TermId>),
-}
-
-/// A variable and the term that it was bound to.
+/// How long the lists were at a mark.
 #[derive(Clone, Copy, Debug)]
-struct Binding {
-    variable: usize,
-    term: TermId,
+struct Place {
+    cells: usize,
+    wide: usize,
+    args: usize,
+    vars: usize,
+    order: usize,
 }
 
 /// Finite terms by number, over variables that can be bound. Each id means one term, read through the bindings.
-/// Marks take constant time, and `undo` the time of what was built and bound since.
+/// A term takes a cell of 32 bytes, and a compound 8 more for each argument. `mark` takes constant time, `undo` the
+/// time of the bindings made since, and `forget` leaves nothing of the mark behind.
 #[derive(Drop)]
 pub struct Heap {
-    cells: Trail<Cell>,
-    /// The cell of each variable.
-    vars: Trail<TermId>,
-    /// What each variable is bound to.
-    bound: Trail<Option<TermId>>,
-    /// The bindings, the oldest first.
-    order: Trail<Binding>,
+    lists: Lists,
+    /// The live marks, the oldest first.
+    marks: Vec<Place>,
     alloc: Global,
 }
 
 impl Model for Heap {
-    ghost use Rattle.std.specs.Prelude.{min};
+    ghost use Rattle.std.specs.Prelude.{map, vec_capacity, vec_len, ◌-◌};
     ghost use Rattle.cq_term.specs.HeapValue.{HeapValue, heap_code};
 
     ghost Value = { HeapValue };
 
     ghost coded = { heap_code };
 
-    ghost use Rattle.cq_term.specs.Rep.{terms_of_parts, saved_terms, IsMarkedHeap};
+    ghost use Rattle.cq_term.specs.Layout.{IsMarked, contents, terms_of, terms_at};
 
     ghost view = { λ h. record {
-      now = terms_of_parts h.cells.now h.vars.now h.order.now;
-      saved = saved_terms h.cells.saved h.vars.saved h.order.saved;
-      room = min (min h.cells.room h.vars.room) (min h.bound.room h.order.room);
+      now = terms_of (contents h.lists);
+      saved = map (terms_at (contents h.lists)) h.marks.items;
+      room = vec_capacity h.marks - vec_len h.marks;
     } };
 
-    ghost invariant = { λ h. IsMarkedHeap h.cells.now h.vars.now h.bound.now h.order.now h.cells.saved h.vars.saved h.bound.saved h.order.saved };
+    ghost invariant = { λ h. IsMarked (contents h.lists) h.marks.items };
 }
 
 impl Heap {
@@ -70,10 +63,15 @@ impl Heap {
         ensures saved { result.saved ≡ [] }
     {
         Heap {
-            cells: Trail::new(alloc),
-            vars: Trail::new(alloc),
-            bound: Trail::new(alloc),
-            order: Trail::new(alloc),
+            lists: Lists {
+                cells: Vec::new(alloc),
+                wide: Vec::new(alloc),
+                args: Vec::new(alloc),
+                vars: Vec::new(alloc),
+                bound: Vec::new(alloc),
+                order: Vec::new(alloc),
+            },
+            marks: Vec::new(alloc),
             alloc,
         }
     }
@@ -86,8 +84,40 @@ impl Heap {
         ensures room { self.old.room ≤ self.new.room }
         ensures err { OnErr result (self.new.now ≡ self.old.now) }
     {
-        let id = self.cells.len();
-        self.cells.push(Cell::Number(number))?;
+        match word(number) {
+            Some(whole) => self.whole(whole),
+            None => self.wide(number),
+        }
+    }
+
+    /// A number that fits a word.
+    fn whole(&mut self, number: i64) -> Result<TermId, AllocError>
+        ensures id { IfOk result (λ id. id ≡ length self.old.now.terms) }
+        ensures terms { OnOk result (self.new.now.terms ≡ self.old.now.terms ++ Number (int_ℚ number) ∷ []) }
+        ensures images { OnOk result (self.new.now.images ≡ self.old.now.images) }
+        ensures saved { self.new.saved ≡ self.old.saved }
+        ensures room { self.old.room ≤ self.new.room }
+        ensures err { OnErr result (self.new.now ≡ self.old.now) }
+    {
+        let id = self.lists.cells.len();
+        self.lists.cells.push(Cell::Whole(number))?;
+        Ok(TermId::new(id))
+    }
+
+    /// A number that needs more than a word.
+    fn wide(&mut self, number: Frac) -> Result<TermId, AllocError>
+        ensures id { IfOk result (λ id. id ≡ length self.old.now.terms) }
+        ensures terms { OnOk result (self.new.now.terms ≡ self.old.now.terms ++ Number number ∷ []) }
+        ensures images { OnOk result (self.new.now.images ≡ self.old.now.images) }
+        ensures saved { self.new.saved ≡ self.old.saved }
+        ensures room { self.old.room ≤ self.new.room }
+        ensures err { OnErr result (self.new.now ≡ self.old.now) }
+    {
+        let id = self.lists.cells.len();
+        let place = self.lists.wide.len();
+        self.lists.cells.reserve(1)?;
+        self.lists.wide.push(number)?;
+        self.lists.cells.push(Cell::Wide(place)).unwrap();
         Ok(TermId::new(id))
     }
 
@@ -99,8 +129,8 @@ impl Heap {
         ensures room { self.old.room ≤ self.new.room }
         ensures err { OnErr result (self.new.now ≡ self.old.now) }
     {
-        let id = self.cells.len();
-        self.cells.push(Cell::Name(name))?;
+        let id = self.lists.cells.len();
+        self.lists.cells.push(Cell::Name(name))?;
         Ok(TermId::new(id))
     }
 
@@ -114,9 +144,18 @@ impl Heap {
         ensures room { self.old.room ≤ self.new.room }
         ensures err { OnErr result (self.new.now ≡ self.old.now) }
     {
-        let id = self.cells.len();
-        let args = args.to_vec(self.alloc)?;
-        self.cells.push(Cell::Compound(name, args))?;
+        let id = self.lists.cells.len();
+        let ground = self.are_ground(args);
+        let start = self.lists.args.len();
+        self.lists.cells.reserve(1)?;
+        self.lists.args.extend_from_slice(args)?;
+        let cell = Cell::Compound {
+            ground,
+            name,
+            start,
+            count: args.len(),
+        };
+        self.lists.cells.push(cell).unwrap();
         Ok(TermId::new(id))
     }
 
@@ -129,13 +168,13 @@ impl Heap {
         ensures room { self.old.room ≤ self.new.room }
         ensures err { OnErr result (self.new.now ≡ self.old.now) }
     {
-        let id = self.cells.len();
-        let variable = self.vars.len();
-        self.vars.reserve_places(1)?;
-        self.bound.reserve_places(1)?;
-        self.cells.push(Cell::Var(variable))?;
-        self.vars.push(TermId::new(id)).unwrap();
-        self.bound.push(None).unwrap();
+        let id = self.lists.cells.len();
+        let variable = self.lists.bound.len();
+        self.lists.vars.reserve(1)?;
+        self.lists.bound.reserve(1)?;
+        self.lists.cells.push(Cell::Var(variable))?;
+        self.lists.vars.push(TermId::new(id)).unwrap();
+        self.lists.bound.push(None).unwrap();
         Ok(TermId::new(id))
     }
 
@@ -152,10 +191,9 @@ impl Heap {
         ensures err { OnErr result (self.new.now ≡ self.old.now) }
     {
         let variable = variable.0;
-        let term = resolve(&self.cells, &self.bound, &self.order, term);
-        self.order.reserve_places(1)?;
-        self.bound.set(variable, Some(term))?;
-        self.order.push(Binding { variable, term }).unwrap();
+        let term = self.lists.resolve(term);
+        self.lists.order.push(Binding { variable, term })?;
+        self.lists.bound[variable] = Some(term);
         Ok(())
     }
 
@@ -171,12 +209,13 @@ impl Heap {
         ensures unbound { (v : ℕ) → at self.now.now.terms id ≡ Var v → IsUnbound self.now.now.images v }
         ensures inside { (v : ℕ) → Occurs v (at self.now.now.terms id) → IsUnbound self.now.now.images v }
     {
-        let end = resolve(&self.cells, &self.bound, &self.order, id);
-        match self.cells.get(end.index()) {
-            Cell::Var(variable) => View::Var(VarId(*variable)),
-            Cell::Number(number) => View::Number(*number),
-            Cell::Name(name) => View::Name(*name),
-            Cell::Compound(name, args) => View::Compound(*name, args.len()),
+        let end = self.lists.resolve(id);
+        match self.lists.cells[end.index()] {
+            Cell::Var(variable) => View::Var(VarId(variable)),
+            Cell::Whole(number) => View::Number(Frac::from(number)),
+            Cell::Wide(place) => View::Number(self.lists.wide[place]),
+            Cell::Name(name) => View::Name(name),
+            Cell::Compound { name, count, .. } => View::Compound(name, count),
         }
     }
 
@@ -186,10 +225,24 @@ impl Heap {
         requires { id < length self.now.now.terms }
         ensures { IsTrue result → (v : ℕ) → Occurs v (at self.now.now.terms id) → ⊥ }
     {
-        match self.view(id) {
-            View::Number(_) | View::Name(_) => true,
-            View::Var(_) | View::Compound(..) => false,
+        let end = self.lists.resolve(id);
+        match self.lists.cells[end.index()] {
+            Cell::Var(_) => false,
+            Cell::Whole(_) | Cell::Wide(_) | Cell::Name(_) => true,
+            Cell::Compound { ground, .. } => ground,
         }
+    }
+
+    fn are_ground(&self, ids: &[TermId]) -> bool
+        requires { All (λ i. i < length self.now.now.terms) ids.now }
+        ensures { IsTrue result → All (λ i. HasNoVariable (at self.now.now.terms i)) ids.now }
+    {
+        for id in ids {
+            if !self.is_ground(*id) {
+                return false;
+            }
+        }
+        true
     }
 
     /// An argument of a compound, counted from 0.
@@ -199,9 +252,9 @@ impl Heap {
         ensures live { result < length self.now.now.terms }
         ensures arg { slice_get (arguments (at self.now.now.terms id)) i ≡ Some (at self.now.now.terms result) }
     {
-        let end = resolve(&self.cells, &self.bound, &self.order, id);
-        match self.cells.get(end.index()) {
-            Cell::Compound(_, args) => args[i],
+        let end = self.lists.resolve(id);
+        match self.lists.cells[end.index()] {
+            Cell::Compound { start, .. } => self.lists.args[start + i],
             _ => unreachable!(),
         }
     }
@@ -212,7 +265,7 @@ impl Heap {
         ensures live { result < length self.now.now.terms }
         ensures term { at self.now.now.terms result ≡ at self.now.now.images variable.0 }
     {
-        *self.vars.get(variable.0)
+        self.lists.vars[variable.0]
     }
 }
 
@@ -228,60 +281,39 @@ impl Undo for Heap {
     ghost room = { λ h. h.room };
 
     fn mark(&mut self) -> Result<Mark, AllocError> {
-        self.reserve(1)?;
-        let m = self.cells.mark().unwrap();
-        self.vars.mark().unwrap();
-        self.bound.mark().unwrap();
-        self.order.mark().unwrap();
-        Ok(m)
+        let number = self.marks.len();
+        self.marks.push(Place {
+            cells: self.lists.cells.len(),
+            wide: self.lists.wide.len(),
+            args: self.lists.args.len(),
+            vars: self.lists.vars.len(),
+            order: self.lists.order.len(),
+        })?;
+        Ok(Mark { number })
     }
 
     fn undo(&mut self, m: Mark) {
-        self.cells.undo(m);
-        self.vars.undo(m);
-        self.bound.undo(m);
-        self.order.undo(m);
+        let place = self.marks[m.number];
+        let lists = &mut self.lists;
+        unbind(&mut lists.bound, &mut lists.order, place.order);
+        lists.bound.truncate(place.vars);
+        lists.vars.truncate(place.vars);
+        lists.args.truncate(place.args);
+        lists.wide.truncate(place.wide);
+        lists.cells.truncate(place.cells);
+        self.marks.truncate(m.number);
     }
 
     fn forget(&mut self, m: Mark) {
-        self.cells.forget(m);
-        self.vars.forget(m);
-        self.bound.forget(m);
-        self.order.forget(m);
+        self.marks.truncate(m.number);
     }
 
     fn reserve(&mut self, n: usize) -> Result<(), AllocError> {
-        self.cells.reserve(n)?;
-        self.vars.reserve(n)?;
-        self.bound.reserve(n)?;
-        self.order.reserve(n)?;
+        self.marks.reserve(n)?;
         Ok(())
     }
 
     fn spare(&self) -> usize {
-        let terms = self.cells.spare().min(self.vars.spare());
-        let bindings = self.bound.spare().min(self.order.spare());
-        terms.min(bindings)
+        self.marks.capacity() - self.marks.len()
     }
-}
-
-/// Where the bindings lead from a term.
-fn resolve(
-    cells: &Trail<Cell>,
-    bound: &Trail<Option<TermId>>,
-    order: &Trail<Binding>,
-    id: TermId,
-) -> TermId
-    requires live { id < length cells.now.now }
-    requires heap { (vars : List ℕ) × IsHeap cells.now.now vars bound.now.now order.now.now }
-    ensures { Resolved cells.now.now bound.now.now order.now.now id result }
-{
-    let mut end = id;
-    while let Cell::Var(variable) = cells.get(end.index()) {
-        match *bound.get(*variable) {
-            Some(next) => end = next,
-            None => break,
-        }
-    }
-    end
 }

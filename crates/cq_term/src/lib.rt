@@ -3,6 +3,7 @@
 
 mod heap;
 mod laws;
+mod lists;
 mod names;
 #[cfg(test)]
 mod tests;

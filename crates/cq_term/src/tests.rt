@@ -1,4 +1,4 @@
-// A small heap read by hand, and a chain and a term that are deeper than any stack.
+// Terms of each kind read back, and a chain and a term that are deeper than any stack.
 
 ghost use Rattle.std.specs.Prelude.{◌≡◌, ◌<◌, ◌≤◌, length, IfOk};
 ghost use Rattle.cq_term.specs.Shown.{IsUnbound};
@@ -66,43 +66,104 @@ fn depth(heap: &Heap, term: TermId) -> usize
     0
 }
 
+fn shows_number(heap: &mut Heap, numerator: i128, denominator: i128) -> Result<bool, AllocError> {
+    let Ok(number) = Frac::new(numerator, denominator) else {
+        return Ok(false);
+    };
+    let term = heap.number(number)?;
+    Ok(heap.view(term) == View::Number(number) && heap.is_ground(term))
+}
+
+fn shows_name(heap: &mut Heap, name: Atom) -> Result<bool, AllocError> {
+    let term = heap.atom(name)?;
+    Ok(heap.view(term) == View::Name(name) && heap.is_ground(term))
+}
+
+fn shows_variable(heap: &mut Heap) -> Result<bool, AllocError> {
+    let term = heap.new_var()?;
+    let View::Var(variable) = heap.view(term) else {
+        return Ok(false);
+    };
+    Ok(heap.var_term(variable) == term && !heap.is_ground(term))
+}
+
+fn shows_ground_compound(heap: &mut Heap, name: Atom) -> Result<bool, AllocError> {
+    let number = heap.number(Frac::one())?;
+    let whole = heap.compound(name, &[number])?;
+    Ok(heap.view(whole) == View::Compound(name, 1) && heap.is_ground(whole))
+}
+
+fn is_open_over_a_variable(heap: &mut Heap, name: Atom) -> Result<bool, AllocError> {
+    let term = heap.new_var()?;
+    let whole = heap.compound(name, &[term])?;
+    Ok(!heap.is_ground(whole))
+}
+
+#[test]
+fn each_kind_of_term_shows_its_head(rt: HostRuntime) -> Result<(), Fail> {
+    let mut heap = Heap::new(rt.alloc());
+    let name = Atoms::new(rt.alloc()).intern("f")?;
+    let numbers = [
+        (0, 1),
+        (-9_223_372_036_854_775_808, 1),
+        (9_223_372_036_854_775_808, 1),
+        (-1, 3),
+    ];
+    for (numerator, denominator) in numbers {
+        assert!(rt;
+            shows_number(&mut heap, numerator, denominator)?,
+            "{numerator}r{denominator}"
+        );
+    }
+    assert!(rt; shows_name(&mut heap, name)?);
+    assert!(rt; shows_variable(&mut heap)?);
+    assert!(rt; shows_ground_compound(&mut heap, name)?);
+    assert!(rt; is_open_over_a_variable(&mut heap, name)?);
+    Ok(())
+}
+
+/// A chain and a term of this depth, built and read after a mark.
+fn reaches_the_depth(
+    heap: &mut Heap,
+    variable: VarId,
+    first: TermId,
+    name: Atom,
+) -> Result<bool, AllocError>
+    requires unbound { IsUnbound heap.old.now.images variable.0 }
+    requires live { first < length heap.old.now.terms }
+    ensures saved { heap.new.saved ≡ heap.old.saved }
+    ensures more { length heap.old.now.terms ≤ length heap.new.now.terms }
+{
+    let last = chained(heap, variable)?;
+    let leads = heap.view(first) == View::Var(last);
+    let whole = nested(heap, name, first)?;
+    Ok(leads && last != variable && depth(heap, whole) == DEPTH)
+}
+
 #[test]
 fn a_chain_and_a_term_of_a_million_are_built_read_and_undone(rt: HostRuntime) -> Result<(), Fail> {
     let mut heap = Heap::new(rt.alloc());
+    let name = Atoms::new(rt.alloc()).intern("f")?;
     let first = heap.new_var()?;
     let View::Var(variable) = heap.view(first) else {
         return Ok(());
     };
     let m = heap.mark()?;
-    let last = chained(&mut heap, variable)?;
-    assert!(rt; last != variable);
-    assert!(rt; heap.view(first) == View::Var(last));
-    let f = Atoms::new(rt.alloc()).intern("f")?;
-    let whole = nested(&mut heap, f, first)?;
-    assert_eq!(rt; depth(&heap, whole), DEPTH);
+    assert!(rt; reaches_the_depth(&mut heap, variable, first, name)?);
     heap.undo(m);
     assert!(rt; heap.view(first) == View::Var(variable));
     Ok(())
 }
 
 #[test]
-fn each_kind_of_term_shows_its_head(rt: HostRuntime) -> Result<(), Fail> {
+fn marks_find_their_room(rt: HostRuntime) -> Result<(), Fail> {
     let mut heap = Heap::new(rt.alloc());
-    let number = heap.number(Frac::one())?;
-    assert!(rt; heap.view(number) == View::Number(Frac::one()));
-    let a = Atoms::new(rt.alloc()).intern("a")?;
-    let name = heap.atom(a)?;
-    assert!(rt; heap.view(name) == View::Name(a));
-    let term = heap.new_var()?;
-    if let View::Var(variable) = heap.view(term) {
-        assert_eq!(rt; heap.var_term(variable), term);
-        let mut newly = Newly::new(rt.alloc());
-        newly.push(variable)?;
-        assert_eq!(rt; newly.as_slice(), [variable].as_slice());
-    }
     heap.reserve(2)?;
     assert!(rt; heap.spare() >= 2);
     let m = heap.mark()?;
     heap.forget(m);
+    let mut newly = Newly::new(rt.alloc());
+    newly.push(VarId(3))?;
+    assert_eq!(rt; newly.as_slice(), [VarId(3)].as_slice());
     Ok(())
 }

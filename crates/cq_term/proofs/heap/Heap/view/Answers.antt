@@ -1,45 +1,89 @@
-use Rattle.std.proofs.Common.{◌∙◌, ap, sym}
-use Rattle.std.specs.Prelude.{slice_get}
-use Rattle.cq_term.proofs.Meanings.{length-meanings}
-use Rattle.cq_term.proofs.Kept.{shows, var_free, inside_free}
-use Rattle.cq_term.specs.declared.heap.Cell.TheVariants as cell
+use Rattle.std.proofs.lemmas.Int.{to_z-of_z}
+use mir.Val.{SFits}
+use mir.Syntax.{w64}
+use Rattle.std.proofs.Common.{rules, ◌<◌, ◌∙◌, ap, sym, length}
+use Rattle.std.proofs.lemmas.List.{get_or_read}
+use Rattle.spec_rational.specs.Rational.{0ℚ}
+use Rattle.cq_term.specs.Layout.{contents, all_built}
+use Rattle.cq_term.specs.declared.lists.Cell.TheVariants as cell
+use Rattle.cq_term.specs.declared.view.View.TheVariants as view
+use Rattle.cq_term.proofs.Kept.{var_free, inside_free}
+use Rattle.cq_term.proofs.Cells.{length-built, length-meant}
+use Rattle.cq_term.proofs.Reading.{cell_at, shown, shown_compound}
 use Rattle.cq_term.proofs.heap.Heap.view.Goals as goal
 
 pub resolve-end-requires-clause-live : goal.resolve-end-requires-clause-live
-resolve-end-requires-clause-live c = rw (← length-meanings c.self.inside.cells.now c.self.inside.order.now) (rw (← c.self.view_is) at c.requires)
+resolve-end-requires-clause-live c = rw (← length-meant (contents c.self.inside.lists)) (rw (← c.self.view_is) at c.requires)
+
+pub index-requires-in-Wide : goal.index-requires-in-Wide
+index-requires-in-Wide c =
+    let lt : c.resolve-end.result < length c.self.inside.lists.cells.items = rw (← length-built (contents c.self.inside.lists)) c.resolve-end.ensures.live in
+    let e = rw c.index.ensures at c.index-2.ensures in
+    let here = cell_at (contents c.self.inside.lists) c.resolve-end.result c.index-2.result.now (cell.Wide c.in-Wide.place) lt e c.in-Wide.is in
+    rw c.self.inside.lists.wide.ok.0 (c.self.invariant.now.kept c.resolve-end.result (cell.Wide c.in-Wide.place) here)
 
 pub returns-in-Var-clause-view : goal.returns-in-Var-clause-view
-returns-in-Var-clause-view c = rw (← c.self.view_is) (sym (shows c.self.inside.cells.now c.self.inside.vars.now c.self.inside.bound.now c.self.inside.order.now c.self.invariant.heap c.args.id c.resolve-end.result c.resolve-end.ensures c.get.result.now (cell.Var c.in-Var.variable) (ap (slice_get c.self.inside.cells.now) (sym c.index.ensures) ∙ c.get.ensures) c.in-Var.is))
+returns-in-Var-clause-view c =
+    let lt : c.resolve-end.result < length c.self.inside.lists.cells.items = rw (← length-built (contents c.self.inside.lists)) c.resolve-end.ensures.live in
+    let e = rw c.index.ensures at c.index-2.ensures in
+    let here = cell_at (contents c.self.inside.lists) c.resolve-end.result c.index-2.result.now (cell.Var c.in-Var.variable) lt e c.in-Var.is in
+    rw (← c.self.view_is) (sym (shown (contents c.self.inside.lists) c.self.invariant.now c.args.id c.resolve-end.result c.resolve-end.ensures (cell.Var c.in-Var.variable) here))
 
 pub returns-in-Var-clause-unbound : goal.returns-in-Var-clause-unbound
-returns-in-Var-clause-unbound c = rw (← c.self.view_is) (var_free c.self.inside.cells.now c.self.inside.vars.now c.self.inside.bound.now c.self.inside.order.now c.self.invariant.heap c.args.id)
-
-pub returns-in-Number-clause-view : goal.returns-in-Number-clause-view
-returns-in-Number-clause-view c = rw (← c.self.view_is) (sym (shows c.self.inside.cells.now c.self.inside.vars.now c.self.inside.bound.now c.self.inside.order.now c.self.invariant.heap c.args.id c.resolve-end.result c.resolve-end.ensures c.get.result.now (cell.Number c.in-Number.number) (ap (slice_get c.self.inside.cells.now) (sym c.index.ensures) ∙ c.get.ensures) c.in-Number.is))
-
-pub returns-in-Number-clause-unbound : goal.returns-in-Number-clause-unbound
-returns-in-Number-clause-unbound c = rw (← c.self.view_is) (var_free c.self.inside.cells.now c.self.inside.vars.now c.self.inside.bound.now c.self.inside.order.now c.self.invariant.heap c.args.id)
-
-pub returns-in-Name-clause-view : goal.returns-in-Name-clause-view
-returns-in-Name-clause-view c = rw (← c.self.view_is) (sym (shows c.self.inside.cells.now c.self.inside.vars.now c.self.inside.bound.now c.self.inside.order.now c.self.invariant.heap c.args.id c.resolve-end.result c.resolve-end.ensures c.get.result.now (cell.Name c.in-Name.name) (ap (slice_get c.self.inside.cells.now) (sym c.index.ensures) ∙ c.get.ensures) c.in-Name.is))
-
-pub returns-in-Name-clause-unbound : goal.returns-in-Name-clause-unbound
-returns-in-Name-clause-unbound c = rw (← c.self.view_is) (var_free c.self.inside.cells.now c.self.inside.vars.now c.self.inside.bound.now c.self.inside.order.now c.self.invariant.heap c.args.id)
-
-pub returns-in-Compound-clause-view : goal.returns-in-Compound-clause-view
-returns-in-Compound-clause-view c = rw (← c.self.view_is, c.len.ensures, c.in-Compound.args.ok.0) (sym (shows c.self.inside.cells.now c.self.inside.vars.now c.self.inside.bound.now c.self.inside.order.now c.self.invariant.heap c.args.id c.resolve-end.result c.resolve-end.ensures c.get.result.now (cell.Compound c.in-Compound.name c.in-Compound.args) (ap (slice_get c.self.inside.cells.now) (sym c.index.ensures) ∙ c.get.ensures) c.in-Compound.is))
-
-pub returns-in-Compound-clause-unbound : goal.returns-in-Compound-clause-unbound
-returns-in-Compound-clause-unbound c = rw (← c.self.view_is) (var_free c.self.inside.cells.now c.self.inside.vars.now c.self.inside.bound.now c.self.inside.order.now c.self.invariant.heap c.args.id)
+returns-in-Var-clause-unbound c = rw (← c.self.view_is) (var_free (all_built (contents c.self.inside.lists)) c.self.inside.lists.vars.items c.self.inside.lists.bound.items c.self.inside.lists.order.items c.self.invariant.now.heap c.args.id)
 
 pub returns-in-Var-clause-inside : goal.returns-in-Var-clause-inside
-returns-in-Var-clause-inside c = rw (← c.self.view_is) (inside_free c.self.inside.cells.now c.self.inside.vars.now c.self.inside.bound.now c.self.inside.order.now c.self.invariant.heap c.args.id)
+returns-in-Var-clause-inside c = rw (← c.self.view_is) (inside_free (all_built (contents c.self.inside.lists)) c.self.inside.lists.vars.items c.self.inside.lists.bound.items c.self.inside.lists.order.items c.self.invariant.now.heap c.args.id)
 
-pub returns-in-Number-clause-inside : goal.returns-in-Number-clause-inside
-returns-in-Number-clause-inside c = rw (← c.self.view_is) (inside_free c.self.inside.cells.now c.self.inside.vars.now c.self.inside.bound.now c.self.inside.order.now c.self.invariant.heap c.args.id)
+pub returns-in-Whole-clause-view : goal.returns-in-Whole-clause-view
+returns-in-Whole-clause-view c =
+    let lt : c.resolve-end.result < length c.self.inside.lists.cells.items = rw (← length-built (contents c.self.inside.lists)) c.resolve-end.ensures.live in
+    let e = rw c.index.ensures at c.index-2.ensures in
+    let here = cell_at (contents c.self.inside.lists) c.resolve-end.result c.index-2.result.now (cell.Whole c.in-Whole.number) lt e c.in-Whole.is in
+    let fits : SFits w64 c.in-Whole.number = search rules in
+    rw (← c.self.view_is, c.from.ensures, to_z-of_z w64 c.in-Whole.number fits) (sym (shown (contents c.self.inside.lists) c.self.invariant.now c.args.id c.resolve-end.result c.resolve-end.ensures (cell.Whole c.in-Whole.number) here))
+
+pub returns-in-Whole-clause-unbound : goal.returns-in-Whole-clause-unbound
+returns-in-Whole-clause-unbound c = rw (← c.self.view_is) (var_free (all_built (contents c.self.inside.lists)) c.self.inside.lists.vars.items c.self.inside.lists.bound.items c.self.inside.lists.order.items c.self.invariant.now.heap c.args.id)
+
+pub returns-in-Whole-clause-inside : goal.returns-in-Whole-clause-inside
+returns-in-Whole-clause-inside c = rw (← c.self.view_is) (inside_free (all_built (contents c.self.inside.lists)) c.self.inside.lists.vars.items c.self.inside.lists.bound.items c.self.inside.lists.order.items c.self.invariant.now.heap c.args.id)
+
+pub returns-in-Wide-clause-view : goal.returns-in-Wide-clause-view
+returns-in-Wide-clause-view c =
+    let lt : c.resolve-end.result < length c.self.inside.lists.cells.items = rw (← length-built (contents c.self.inside.lists)) c.resolve-end.ensures.live in
+    let e = rw c.index.ensures at c.index-2.ensures in
+    let here = cell_at (contents c.self.inside.lists) c.resolve-end.result c.index-2.result.now (cell.Wide c.in-Wide.place) lt e c.in-Wide.is in
+    rw (← c.self.view_is) (ap view.Number (get_or_read c.self.inside.lists.wide.items c.in-Wide.place c.index-in-Wide.result.now (c.self.invariant.now.kept c.resolve-end.result (cell.Wide c.in-Wide.place) here) c.index-in-Wide.ensures 0ℚ) ∙ sym (shown (contents c.self.inside.lists) c.self.invariant.now c.args.id c.resolve-end.result c.resolve-end.ensures (cell.Wide c.in-Wide.place) here))
+
+pub returns-in-Wide-clause-unbound : goal.returns-in-Wide-clause-unbound
+returns-in-Wide-clause-unbound c = rw (← c.self.view_is) (var_free (all_built (contents c.self.inside.lists)) c.self.inside.lists.vars.items c.self.inside.lists.bound.items c.self.inside.lists.order.items c.self.invariant.now.heap c.args.id)
+
+pub returns-in-Wide-clause-inside : goal.returns-in-Wide-clause-inside
+returns-in-Wide-clause-inside c = rw (← c.self.view_is) (inside_free (all_built (contents c.self.inside.lists)) c.self.inside.lists.vars.items c.self.inside.lists.bound.items c.self.inside.lists.order.items c.self.invariant.now.heap c.args.id)
+
+pub returns-in-Name-clause-view : goal.returns-in-Name-clause-view
+returns-in-Name-clause-view c =
+    let lt : c.resolve-end.result < length c.self.inside.lists.cells.items = rw (← length-built (contents c.self.inside.lists)) c.resolve-end.ensures.live in
+    let e = rw c.index.ensures at c.index-2.ensures in
+    let here = cell_at (contents c.self.inside.lists) c.resolve-end.result c.index-2.result.now (cell.Name c.in-Name.name) lt e c.in-Name.is in
+    rw (← c.self.view_is) (sym (shown (contents c.self.inside.lists) c.self.invariant.now c.args.id c.resolve-end.result c.resolve-end.ensures (cell.Name c.in-Name.name) here))
+
+pub returns-in-Name-clause-unbound : goal.returns-in-Name-clause-unbound
+returns-in-Name-clause-unbound c = rw (← c.self.view_is) (var_free (all_built (contents c.self.inside.lists)) c.self.inside.lists.vars.items c.self.inside.lists.bound.items c.self.inside.lists.order.items c.self.invariant.now.heap c.args.id)
 
 pub returns-in-Name-clause-inside : goal.returns-in-Name-clause-inside
-returns-in-Name-clause-inside c = rw (← c.self.view_is) (inside_free c.self.inside.cells.now c.self.inside.vars.now c.self.inside.bound.now c.self.inside.order.now c.self.invariant.heap c.args.id)
+returns-in-Name-clause-inside c = rw (← c.self.view_is) (inside_free (all_built (contents c.self.inside.lists)) c.self.inside.lists.vars.items c.self.inside.lists.bound.items c.self.inside.lists.order.items c.self.invariant.now.heap c.args.id)
+
+pub returns-in-Compound-clause-view : goal.returns-in-Compound-clause-view
+returns-in-Compound-clause-view c =
+    let lt : c.resolve-end.result < length c.self.inside.lists.cells.items = rw (← length-built (contents c.self.inside.lists)) c.resolve-end.ensures.live in
+    let e = rw c.index.ensures at c.index-2.ensures in
+    let here = cell_at (contents c.self.inside.lists) c.resolve-end.result c.index-2.result.now (cell.Compound c.in-Compound.ground c.in-Compound.name c.in-Compound.start c.in-Compound.count) lt e c.in-Compound.is in
+    rw (← c.self.view_is) (sym (shown_compound (contents c.self.inside.lists) c.self.invariant.now c.args.id c.resolve-end.result c.resolve-end.ensures c.in-Compound.ground c.in-Compound.name c.in-Compound.start c.in-Compound.count here))
+
+pub returns-in-Compound-clause-unbound : goal.returns-in-Compound-clause-unbound
+returns-in-Compound-clause-unbound c = rw (← c.self.view_is) (var_free (all_built (contents c.self.inside.lists)) c.self.inside.lists.vars.items c.self.inside.lists.bound.items c.self.inside.lists.order.items c.self.invariant.now.heap c.args.id)
 
 pub returns-in-Compound-clause-inside : goal.returns-in-Compound-clause-inside
-returns-in-Compound-clause-inside c = rw (← c.self.view_is) (inside_free c.self.inside.cells.now c.self.inside.vars.now c.self.inside.bound.now c.self.inside.order.now c.self.invariant.heap c.args.id)
+returns-in-Compound-clause-inside c = rw (← c.self.view_is) (inside_free (all_built (contents c.self.inside.lists)) c.self.inside.lists.vars.items c.self.inside.lists.bound.items c.self.inside.lists.order.items c.self.invariant.now.heap c.args.id)

@@ -1,26 +1,24 @@
-use Rattle.std.proofs.Common.{◌∙◌, sym}
-use Rattle.cq_term.proofs.Marks.{marked_more, saved_push, length-saved}
+use Rattle.std.proofs.Common.{◌∙◌}
+use Rattle.cq_term.specs.Layout.{contents}
+use Rattle.cq_term.proofs.Marks.{marked_more, saved_more}
 use Rattle.cq_term.proofs.heap.HeapUndo.mark.Goals as goal
 
-pub invariant_of-self : goal.invariant_of-self
-invariant_of-self c =
-    let cells = rw c.unwrap-m.ensures at c.mark.ensures.saved in
-    let vars = rw c.unwrap.ensures at c.mark-2.ensures.saved in
-    let bound = rw c.unwrap-2.ensures at c.mark-3.ensures.saved in
-    let order = rw c.unwrap-3.ensures at c.mark-4.ensures.saved in
-    rw (cells, vars, bound, order, c.mark.ensures.now, c.mark-2.ensures.now, c.mark-3.ensures.now, c.mark-4.ensures.now)
-    (marked_more _ _ _ _ _ _ _ _ c.self.invariant)
-
-pub returns-clause-mark : goal.returns-clause-mark
-returns-clause-mark c =
-    let number = rw c.unwrap-m.ensures at c.mark.ensures.mark in
-    rw (← c.reserve.ensures.saved, ← c.self.view_is)
-    (number ∙ sym (length-saved c.self.inside.cells.saved c.self.inside.vars.saved c.self.inside.order.saved c.self.invariant.vars_marks c.self.invariant.order_marks))
+pub invariant_of-self-2 : goal.invariant_of-self-2
+invariant_of-self-2 c = rw c.in_ok-push.ensures.items (marked_more (contents c.self.inside.lists) c.self.inside.marks.items c.self.invariant (record { cells = c.len.result; wide = c.len-2.result; args = c.len-3.result; vars = c.len-4.result; order = c.len-5.result })
+    (record {
+      cells = c.len.ensures ∙ c.self.inside.lists.cells.ok.0;
+      wide = c.len-2.ensures ∙ c.self.inside.lists.wide.ok.0;
+      args = c.len-3.ensures ∙ c.self.inside.lists.args.ok.0;
+      vars = c.len-4.ensures ∙ c.self.inside.lists.vars.ok.0;
+      order = c.len-5.ensures ∙ c.self.inside.lists.order.ok.0;
+    }))
 
 pub returns-clause-saved : goal.returns-clause-saved
-returns-clause-saved c =
-    let cells = rw c.unwrap-m.ensures at c.mark.ensures.saved in
-    let vars = rw c.unwrap.ensures at c.mark-2.ensures.saved in
-    let order = rw c.unwrap-3.ensures at c.mark-4.ensures.saved in
-    rw (← c.reserve.ensures.saved, ← c.reserve.ensures.now, ← c.self.view_is, cells, vars, order)
-    (saved_push c.self.inside.cells.saved c.self.inside.vars.saved c.self.inside.order.saved _ _ _ c.self.invariant.vars_marks c.self.invariant.order_marks)
+returns-clause-saved c = rw (← c.self.view_is, c.in_ok-push.ensures.items) (saved_more (contents c.self.inside.lists) c.self.inside.marks.items c.self.invariant (record { cells = c.len.result; wide = c.len-2.result; args = c.len-3.result; vars = c.len-4.result; order = c.len-5.result })
+    (record {
+      cells = c.len.ensures ∙ c.self.inside.lists.cells.ok.0;
+      wide = c.len-2.ensures ∙ c.self.inside.lists.wide.ok.0;
+      args = c.len-3.ensures ∙ c.self.inside.lists.args.ok.0;
+      vars = c.len-4.ensures ∙ c.self.inside.lists.vars.ok.0;
+      order = c.len-5.ensures ∙ c.self.inside.lists.order.ok.0;
+    }))

@@ -1,30 +1,34 @@
-use Rattle.std.proofs.Common.{arith}
-use Rattle.cq_term.proofs.Marks.{marked_take, saved_take, length-saved, saved_at}
+use Rattle.std.proofs.Common.{◌<◌, ◌∙◌, ap, length, refl}
+use Rattle.std.specs.Option.{option_map}
+use Rattle.std.proofs.lemmas.List.{length-map}
+use Rattle.std.proofs.lemmas.Option.{slice_get_read, slice_get-map}
+use Rattle.cq_term.specs.Layout.{contents, terms_at}
+use Rattle.cq_term.proofs.Marks.{marked_undo, saved_undo}
 use Rattle.cq_term.proofs.heap.HeapUndo.undo.Goals as goal
 
-pub undo-requires : goal.undo-requires
-undo-requires c = let k = length-saved c.self.inside.cells.saved c.self.inside.vars.saved c.self.inside.order.saved c.self.invariant.vars_marks c.self.invariant.order_marks in let h = rw (← c.self.view_is) at c.requires in omega (arith, h, k)
+pub unbind-requires-clause-from : goal.unbind-requires-clause-from
+unbind-requires-clause-from c =
+    let w : c.args.m.number < length c.self.inside.marks.items = rw length-map at (rw (← c.self.view_is) at c.requires) in
+    let here = slice_get_read c.self.inside.marks.items (length c.self.inside.marks.items) c.args.m.number c.index-place.result.now refl w c.index-place.ensures in
+    (c.self.invariant.within c.args.m.number c.index-place.result.now here).order
 
-pub undo-requires-2 : goal.undo-requires-2
-undo-requires-2 c = let k = length-saved c.self.inside.cells.saved c.self.inside.vars.saved c.self.inside.order.saved c.self.invariant.vars_marks c.self.invariant.order_marks in let h = rw (← c.self.view_is) at c.requires in omega (arith, h, k, c.self.invariant.vars_marks)
-
-pub undo-requires-3 : goal.undo-requires-3
-undo-requires-3 c = let k = length-saved c.self.inside.cells.saved c.self.inside.vars.saved c.self.inside.order.saved c.self.invariant.vars_marks c.self.invariant.order_marks in let h = rw (← c.self.view_is) at c.requires in omega (arith, h, k, c.self.invariant.bound_marks)
-
-pub undo-requires-4 : goal.undo-requires-4
-undo-requires-4 c = let k = length-saved c.self.inside.cells.saved c.self.inside.vars.saved c.self.inside.order.saved c.self.invariant.vars_marks c.self.invariant.order_marks in let h = rw (← c.self.view_is) at c.requires in omega (arith, h, k, c.self.invariant.order_marks)
+pub unbind-requires-clause-there : goal.unbind-requires-clause-there
+unbind-requires-clause-there c = λ j b q. (c.self.invariant.now.heap.bindings j b q).1
 
 pub invariant_of-self : goal.invariant_of-self
-invariant_of-self c = rw (c.undo.ensures.saved, c.undo-2.ensures.saved, c.undo-3.ensures.saved, c.undo-4.ensures.saved)
-    (marked_take c.self.inside.cells.now c.self.inside.vars.now c.self.inside.bound.now c.self.inside.order.now c.self.inside.cells.saved c.self.inside.vars.saved c.self.inside.bound.saved c.self.inside.order.saved c.self.invariant c.args.m.number _ _ _ _ (c.self.invariant.marks c.args.m.number _ _ _ _ c.undo.ensures.now c.undo-2.ensures.now c.undo-3.ensures.now c.undo-4.ensures.now))
+invariant_of-self c =
+    let w : c.args.m.number < length c.self.inside.marks.items = rw length-map at (rw (← c.self.view_is) at c.requires) in
+    let here = slice_get_read c.self.inside.marks.items (length c.self.inside.marks.items) c.args.m.number c.index-place.result.now refl w c.index-place.ensures in
+    rw (c.truncate.ensures.items, c.truncate-2.ensures.items, c.truncate-3.ensures.items, c.truncate-4.ensures.items, c.truncate-5.ensures.items, c.unbind.ensures.bound, c.unbind.ensures.order, c.truncate-6.ensures.items) (marked_undo (contents c.self.inside.lists) c.self.inside.marks.items c.self.invariant c.args.m.number c.index-place.result.now here)
 
 pub returns-clause-now : goal.returns-clause-now
-returns-clause-now c = rw (← c.self.view_is) (saved_at c.args.m.number c.self.inside.cells.saved c.self.inside.vars.saved c.self.inside.order.saved _ _ _ c.undo.ensures.now c.undo-2.ensures.now c.undo-4.ensures.now)
+returns-clause-now c =
+    let w : c.args.m.number < length c.self.inside.marks.items = rw length-map at (rw (← c.self.view_is) at c.requires) in
+    let here = slice_get_read c.self.inside.marks.items (length c.self.inside.marks.items) c.args.m.number c.index-place.result.now refl w c.index-place.ensures in
+    rw (← c.self.view_is, c.truncate-2.ensures.items, c.truncate-3.ensures.items, c.truncate-4.ensures.items, c.truncate-5.ensures.items, c.unbind.ensures.order) (slice_get-map (terms_at (contents c.self.inside.lists)) c.self.inside.marks.items c.args.m.number ∙ ap (option_map (terms_at (contents c.self.inside.lists))) here)
 
 pub returns-clause-saved : goal.returns-clause-saved
-returns-clause-saved c = rw (← c.self.view_is, c.undo.ensures.saved, c.undo-2.ensures.saved, c.undo-4.ensures.saved) (saved_take c.args.m.number c.self.inside.cells.saved c.self.inside.vars.saved c.self.inside.order.saved)
-
-pub returns-clause-room : goal.returns-clause-room
-returns-clause-room c =
-    let k = length-saved c.self.inside.cells.saved c.self.inside.vars.saved c.self.inside.order.saved c.self.invariant.vars_marks c.self.invariant.order_marks in
-    rw (← c.self.view_is) (omega (arith, k, c.self.invariant.vars_marks, c.self.invariant.bound_marks, c.self.invariant.order_marks, c.undo.ensures.room, c.undo-2.ensures.room, c.undo-3.ensures.room, c.undo-4.ensures.room))
+returns-clause-saved c =
+    let w : c.args.m.number < length c.self.inside.marks.items = rw length-map at (rw (← c.self.view_is) at c.requires) in
+    let here = slice_get_read c.self.inside.marks.items (length c.self.inside.marks.items) c.args.m.number c.index-place.result.now refl w c.index-place.ensures in
+    rw (← c.self.view_is, c.truncate-2.ensures.items, c.truncate-3.ensures.items, c.truncate-4.ensures.items, c.truncate-5.ensures.items, c.unbind.ensures.order, c.truncate-6.ensures.items) (saved_undo (contents c.self.inside.lists) c.self.inside.marks.items c.self.invariant c.args.m.number c.index-place.result.now here)

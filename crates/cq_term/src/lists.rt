@@ -1,0 +1,95 @@
+// The lists that a heap is made of: cells of one small size, and beside them what has no room there.
+
+ghost use Rattle.std.specs.Prelude.{ℕ, ◌≡◌, ◌≤◌, ◌<◌, length, take, drop, slice_get, Some, IfSome};
+ghost use Rattle.spec_rational.specs.Rational.{int_ℚ};
+ghost use Rattle.cq_term.specs.Layout.{IsWhole, Leads, contents, restored};
+
+use crate::names::TermId;
+use cq_atoms::Atom;
+use cq_frac::Frac;
+
+/// What was built: a variable, a number, a name, or a name over terms that were built before.
+#[derive(Clone, Copy, Debug)]
+pub(crate) enum Cell {
+    Var(usize),
+    /// A whole number that fits a word.
+    Whole(i64),
+    /// Another number, by its place among those.
+    Wide(usize),
+    Name(Atom),
+    /// Its arguments are so many from `start` on among the arguments of all compounds. The flag stands first, where
+    /// it takes no room of its own.
+    Compound {
+        ground: bool,
+        name: Atom,
+        start: usize,
+        count: usize,
+    },
+}
+
+/// A variable and the term that it was bound to.
+#[derive(Clone, Copy, Debug)]
+pub(crate) struct Binding {
+    pub variable: usize,
+    pub term: TermId,
+}
+
+/// What was built and bound. All but `bound` only grow, and are cut off at `undo`.
+#[derive(Drop)]
+pub(crate) struct Lists {
+    pub cells: Vec<Cell>,
+    /// The numbers that do not fit a word.
+    pub wide: Vec<Frac>,
+    /// The arguments of all compounds, side by side.
+    pub args: Vec<TermId>,
+    /// The cell of each variable.
+    pub vars: Vec<TermId>,
+    /// What each variable is bound to.
+    pub bound: Vec<Option<TermId>>,
+    /// The bindings, the oldest first.
+    pub order: Vec<Binding>,
+}
+
+impl Lists {
+    /// Where the bindings lead from a term.
+    pub fn resolve(&self, id: TermId) -> TermId
+        requires live { id < length self.now.cells.items }
+        requires whole { IsWhole (contents self.now) }
+        ensures { Leads (contents self.now) id result }
+    {
+        let mut end = id;
+        while let Cell::Var(variable) = self.cells[end.index()] {
+            match self.bound[variable] {
+                Some(next) => end = next,
+                None => break,
+            }
+        }
+        end
+    }
+}
+
+/// The number as one word, where it is whole and fits.
+pub(crate) fn word(number: Frac) -> Option<i64>
+    ensures { IfSome result (λ n. number ≡ int_ℚ n) }
+{
+    let (numerator, denominator) = number.parts();
+    if denominator == 1 {
+        i64::try_from(numerator).ok()
+    } else {
+        None
+    }
+}
+
+/// Takes back the bindings from a place in their order on, the newest first.
+pub(crate) fn unbind(bound: &mut Vec<Option<TermId>>, order: &mut Vec<Binding>, from: usize)
+    requires from { from ≤ length order.old.items }
+    requires there { (j : ℕ) (b : Binding) → slice_get order.old.items j ≡ Some b → b.variable < length bound.old.items }
+    ensures bound { bound.new.items ≡ restored (drop from order.old.items) bound.old.items }
+    ensures order { order.new.items ≡ take from order.old.items }
+{
+    while order.len() > from {
+        if let Some(binding) = order.pop() {
+            bound[binding.variable] = None;
+        }
+    }
+}
