@@ -13,7 +13,7 @@ use std::alloc::AllocError;
 pub fn interned(atoms: &mut Atoms, text: &str) -> Result<Atom, AllocError>
     ensures number { IfOk result (λ atom. slice_get atoms.new atom ≡ Some text.now) }
     ensures kept { KeepsTexts atoms.old atoms.new }
-    ensures different { AreDifferent atoms.old → AreDifferent atoms.new }
+    ensures different { AreDifferent atoms.new }
 {
     atoms.intern(text)
 }
@@ -34,6 +34,7 @@ impl GrammarNames {
     pub fn new(atoms: &mut Atoms) -> Result<GrammarNames, AllocError>
         ensures names { IfOk result (AreGrammarNames atoms.new) }
         ensures kept { KeepsTexts atoms.old atoms.new }
+        ensures different { AreDifferent atoms.new }
     {
         let minus = interned(atoms, "-")?;
         let comma = interned(atoms, ",")?;
