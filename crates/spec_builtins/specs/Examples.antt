@@ -1,5 +1,5 @@
 -- Terms and ways to try the predicates with.
-use Rattle.std.specs.Prelude.{List, [], ◌∷◌, map}
+use Rattle.std.specs.Prelude.{List, map}
 use Rattle.spec_lists.specs.Texts.{Text}
 use Rattle.spec_terms.specs.Term.{Var}
 use Rattle.spec_terms.specs.Unifier.{Equation}

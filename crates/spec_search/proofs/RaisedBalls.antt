@@ -33,4 +33,4 @@ declaration_balls_raised = (refl, (refl, (refl, (refl, (refl, (refl, (refl, (ref
 
 pub constraint_balls_raised : AllRaise here constraint_balls
 unfolding int_ℚ ratio gcd ◌*ℚ◌ neg_ℚ inv_ℚ ◌+ℚ◌ chars encode
-constraint_balls_raised = (refl, (refl, (refl, (refl, (refl, (refl, (refl, (refl, (refl, (refl, (refl, (refl, tt))))))))))))
+constraint_balls_raised = (refl, (refl, (refl, (refl, (refl, (refl, (refl, (refl, (refl, (refl, (refl, (refl, (refl, tt)))))))))))))

@@ -188,6 +188,7 @@ constraint_balls =
     ∷ (goal "{}" (compound2 ">" (compound1 "foo" X) Y ∷ []), no_function "foo" 1)
     ∷ (goal "entailed" (X ∷ []), instantiation)
     ∷ (goal "entailed" (atom "a" ∷ []), type_error "constraint" (atom "a"))
+    ∷ (goal "entailed" (compound2 ";" X (atom "a") ∷ []), type_error "linear" (compound2 ";" X (atom "a")))
     ∷ (goal "sup" (atom "a" ∷ X ∷ []), no_function "a" 0)
     ∷ (goal "inf" (compound2 "f" X Y ∷ Z ∷ []), no_function "f" 2)
     ∷ (goal "minimize" (atom "a" ∷ []), no_function "a" 0)

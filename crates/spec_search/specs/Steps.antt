@@ -1,5 +1,5 @@
 -- The steps of a selected goal: a ball, or children.
-use Rattle.std.specs.Prelude.{◌≡◌, ℕ, List, [], ◌∷◌, Bool, true, false, ◌||◌, Option, Some, None, ⊤, find, map}
+use Rattle.std.specs.Prelude.{◌≡◌, ℕ, List, [], ◌∷◌, Bool, true, false, Option, Some, None, ⊤, find, map}
 use Rattle.spec_rational.specs.Rational.{ℚ}
 use Rattle.spec_linear.specs.Form.{Linear, negated_form}
 use Rattle.spec_linear.specs.Solution.{Constraint, Fixes, Entails, Has}
@@ -10,7 +10,6 @@ use Rattle.spec_built.specs.Built.{indicator_of}
 use Rattle.spec_built.specs.Errors.{type_error, error_ball}
 use Rattle.spec_builtins.specs.Alternatives.{◌≐◌}
 use Rattle.spec_told.specs.Relations.{Lin, Is, Waits, False, lin, lin_expression}
-use Rattle.spec_told.specs.Checks.{is_either}
 use Rattle.spec_branch.specs.Branch.{Branch, Copied, plain_copy, IsCopy}
 use Rattle.spec_search.specs.Database.{Clause}
 use Rattle.spec_search.specs.Builtins.{Side, Least, Greatest}
@@ -35,9 +34,9 @@ abbrev pub waits : {A : Type 0} → Lin A → Bool
 waits Waits = true
 waits r = false
 
--- the member is refused as not linear: a disjunction, or what waits
+-- the member is refused as not linear
 abbrev pub is_not_linear : (ℕ → Option ℚ) → Tree → Bool
-is_not_linear fixed m = is_either m || waits (lin fixed m)
+is_not_linear fixed m = waits (lin fixed m)
 
 -- the member is entailed; a false one isn't
 abbrev pub IsEntailed : List Constraint → Lin Constraint → Type 0
