@@ -2,3 +2,8 @@ pub mod Unify
 pub mod Read
 pub mod Settled
 pub mod Walk
+pub mod Values
+pub mod Equation
+pub mod Value
+pub mod Delayed
+pub mod Overflow

@@ -1,8 +1,7 @@
 -- Settling where no variable is numeric and nothing is told, waits or sleeps, within so many steps of unification.
-use Rattle.std.proofs.Common.{◌≡◌, ℕ, List, [], ◌∷◌, ◌++◌, Bool, true, false, ◌&&◌, ◌||◌, not, cond, map, Option, None, refl, sym, ap, ◌∙◌, subst}
+use Rattle.std.proofs.Common.{◌≡◌, ℕ, List, [], ◌∷◌, Bool, true, false, ◌&&◌, ◌||◌, not, cond, Option, None, refl, ap, ◌∙◌, subst}
 use Rattle.std.specs.Prelude.{filter}
 use Rattle.std.specs.List.{list_any}
-use Rattle.spec_rational.specs.Rational.{ℚ}
 use Rattle.spec_lists.specs.Texts.{Text}
 use Rattle.spec_terms.specs.Term.{Subst, Var, identity, apply, followed_by}
 use Rattle.spec_terms.specs.Unifier.{Equation, IsUnifier, read_under}
@@ -11,7 +10,7 @@ use Rattle.spec_terms.proofs.Substitution.{apply-identity}
 use Rattle.spec_syntax.specs.Trees.{Tree}
 use Rattle.spec_linear.specs.Solution.{Constraint}
 use Rattle.spec_branch.specs.Branch.{State, Sleeper, Item, Copied, Pending, Branch, Settled, no_work}
-use Rattle.spec_branch.specs.Settling.{Settles, no_unifier, unified, SettlesUnified, clash as clashes, no_solution, kept, Kept, Pruned, Clash, Outcome, kept_branch, bindings_after, fixed_values, value_or_variable, newly_bound, numeric_after, is_bound, is_the_variable, stands_in}
+use Rattle.spec_branch.specs.Settling.{Settles, no_unifier, unified, SettlesUnified, clash as clashes, no_solution, kept, Kept, Pruned, Clash, Outcome, kept_branch, bindings_after, value_or_variable, newly_bound, numeric_after, is_bound, is_the_variable, stands_in}
 use Rattle.spec_branch.specs.Alike.{idle, no_values}
 use Rattle.spec_branch.proofs.Idle.{idle_settles}
 use Rattle.spec_examples.proofs.Unify.{Unified, unifier, clash, unknown, unify, no_pairs}

@@ -1,5 +1,5 @@
 -- Unification within so many steps, each answer with its proof (Robinson 1965).
-use Rattle.std.proofs.Common.{◌≡◌, ◌≢◌, ◌↔◌, ◌⊎◌, ℕ, zero, suc, ◌<◌, ◌≤◌, ◌==◌, List, [], ◌∷◌, Bool, true, false, ◌&&◌, Option, Some, None, inl, inr, arith, refl, sym, ap, ◌∙◌, subst, cond}
+use Rattle.std.proofs.Common.{◌≡◌, ◌↔◌, ◌⊎◌, ℕ, zero, suc, ◌<◌, ◌≤◌, ◌==◌, List, [], ◌∷◌, Bool, true, false, inl, inr, arith, refl, sym, ap, ◌∙◌, subst}
 use Rattle.std.specs.Ordering.{int_eq}
 use Rattle.std.specs.Prelude.{bytes_eq, nat_lt}
 use Rattle.std.proofs.lemmas.Bool.{cases_eq}
@@ -8,7 +8,7 @@ use Rattle.std.proofs.lemmas.Slice.Eq.{bytes_eq-Decides}
 use Rattle.spec_rational.specs.Rational.{ℚ}
 use Rattle.spec_rational.proofs.Rational.{ℚ_same}
 use Rattle.spec_lists.specs.Texts.{Text}
-use Rattle.spec_terms.specs.Term.{Term, Terms, Subst, Var, Number, Name, Compound, one, more, apply, apply_all, identity, single, followed_by, Occurs, OccursIn}
+use Rattle.spec_terms.specs.Term.{Terms, Subst, Var, Number, Name, Compound, one, more, apply, apply_all, identity, single, followed_by, Occurs, OccursIn}
 use Rattle.spec_terms.specs.Unifier.{Equation, Equates, IsUnifier, HasNoUnifier, read_under}
 use Rattle.spec_terms.proofs.Substitution.{apply-followed_by, apply-single_absent, apply-single_instance, single_same, single_other, occurs_clash}
 use Rattle.spec_syntax.specs.Trees.{Tree}

@@ -1,16 +1,15 @@
 -- A session walked through step by step, each step with its proof: where no constraint is told, the walk goes on to the end.
-use Rattle.std.proofs.Common.{◌≡◌, ℕ, zero, suc, ◌<◌, List, [], ◌∷◌, ◌++◌, Bool, true, false, ◌==◌, Option, Some, None, inl, inr, refl, sym, ap, subst}
+use Rattle.std.proofs.Common.{◌≡◌, ℕ, zero, suc, List, [], ◌∷◌, ◌++◌, Bool, true, false, ◌==◌, Option, Some, None, inl, inr, refl, sym, ap, subst}
 use Rattle.std.specs.Prelude.{nat_lt, length, map}
 use Rattle.std.proofs.lemmas.Bool.Decides.{Decides-eqb, Decides-ltb}
-use Rattle.cq_frac.specs.declared.Pair.{Pair}
 use Rattle.spec_linear.specs.Solution.{Constraint}
 use Rattle.spec_lists.specs.Texts.{Text}
 use Rattle.spec_syntax.specs.TextTokens.{VariableName, Variables}
 use Rattle.spec_syntax.specs.Trees.{Tree}
-use Rattle.spec_reading.specs.Readings.{Read, Clause, Ended as TextEnds, Syntax, Reads}
+use Rattle.spec_reading.specs.Readings.{Clause, Ended as TextEnds, Syntax, Reads}
 use Rattle.spec_built.specs.Built.{indicator_of}
 use Rattle.spec_built.specs.Errors.{error_ball}
-use Rattle.spec_answers.specs.Answer.{answer_lines, AnswerForm}
+use Rattle.spec_answers.specs.Answer.{answer_lines}
 use Rattle.spec_answers.specs.Lines.{or_true, lines_text}
 use Rattle.spec_answers.specs.Rows.{no_rows}
 use Rattle.spec_answers.specs.Targets.{wanted}
@@ -243,12 +242,26 @@ module _ (budgets : Budgets) (shelf : Text → Option (List ℕ)) (input : List 
 
   -- ---- the whole transcript
 
+  -- further by one step that is given
+  abbrev pub further : (start : Session) (run : Run start) (out : Text) (mark : Mark) (there : Session) → Step budgets shelf input run.now out mark there → Run start
+  further start run out mark there step = record {
+    numerics = run.numerics;
+    text = run.text ++ out;
+    marks = marked run.marks mark;
+    now = there;
+    runs = λ n. then (run.runs n) step;
+  }
+
+  -- further by as many steps as the walk finds
+  abbrev pub onward : (start : Session) (run : Run start) → Run start
+  onward start run = drive start 1000 run
+
   abbrev pub is_over : Session → Bool
   is_over (Over db) = true
   is_over a = false
 
   abbrev pub walk : (files : List Text) → Run (Opening initial files)
-  walk files = drive (Opening initial files) 1000 (begin (Opening initial files))
+  walk files = onward (Opening initial files) (begin (Opening initial files))
 
   ended : (files : List Text) (text : Text) (marks : Marks) (a : Session) → is_over a ≡ true → Runs budgets shelf input (Opening initial files) text marks a
       → Transcript budgets shelf input files text marks
@@ -257,7 +270,11 @@ module _ (budgets : Budgets) (shelf : Text → Option (List ℕ)) (input : List 
   ended files text marks (Searching s who r) e runs = cc
   ended files text marks (Over db) e runs = record { last = db; runs = runs }
 
-  -- what a walk that comes to the end has written
+  -- what a walk that came to the end has written
+  pub finished : (files : List Text) (run : Run (Opening initial files)) → is_over run.now ≡ true → run.numerics ≡ nones (length run.numerics)
+      → Transcript budgets shelf input files run.text run.marks
+  finished files run e n = ended files run.text run.marks run.now e (run.runs (subst AllNone (sym n) (fill (length run.numerics))))
+
   pub derived : (files : List Text) → is_over (walk files).now ≡ true → (walk files).numerics ≡ nones (length (walk files).numerics)
       → Transcript budgets shelf input files (walk files).text (walk files).marks
-  derived files e n = ended files (walk files).text (walk files).marks (walk files).now e ((walk files).runs (subst AllNone (sym n) (fill (length (walk files).numerics))))
+  derived files e n = finished files (walk files) e n

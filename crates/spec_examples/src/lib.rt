@@ -67,3 +67,10 @@ pub fn clauses()
     ensures snapshot { WritesAfter (codes ":- dynamic p/1. p(1).") (codes "?- p(X), Y is X+1, assertz(p(Y)). ?- p(X).") (codes "X = 1\nY = 2\n;\nno\nX = 1\n;\nX = 2\n;\nno\n") }
     ensures changed { WritesAfter (codes ":- dynamic q/1. q(1). q(2).") (codes "?- retract(q(X)), assertz(q(9)), fail. ?- findall(X,q(X),L).") (codes "no\nL = [9,9]\n;\nno\n") }
 {}
+
+/// Told constraints: one that fixes a variable, one that waits, and one whose numbers overflow.
+pub fn constraints()
+    ensures value { Writes (codes "?- {2*X+3=7}.") (codes "X = 2\n;\nno\n") }
+    ensures delayed { Writes (codes "?- {X*Y=6}.") (codes "{X*Y=6}\n;\nno\n") }
+    ensures overflow { WritesStop (codes "?- {X=170141183460469231731687303715884105727+1}.") (codes "stop: overflow\n") }
+{}

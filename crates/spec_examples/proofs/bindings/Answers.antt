@@ -8,7 +8,7 @@ use Rattle.spec_syntax.specs.Grammar.{use_of, begins_term}
 use Rattle.spec_syntax.specs.Writing.{is_bare_right, is_bare_left, is_bare_argument, needs_quotes, is_spaced, infix_token}
 use Rattle.spec_writing.specs.Pieces.{pieces_at, argument_pieces}
 use Rattle.spec_writing.specs.Texts.{name_text, is_apart}
-use Rattle.spec_examples.specs.Rows.{answers, goals, some_goals, no_files, file, one_name}
+use Rattle.spec_examples.specs.Rows.{some_goals, no_files}
 use Rattle.spec_examples.proofs.Walk.{derived}
 use Rattle.spec_examples.proofs.bindings.Goals as goal
 

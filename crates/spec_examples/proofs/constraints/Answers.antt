@@ -1,0 +1,7 @@
+use Rattle.spec_examples.proofs.Value.{value_row}
+use Rattle.spec_examples.proofs.Delayed.{delayed_row}
+use Rattle.spec_examples.proofs.Overflow.{overflow_row}
+use Rattle.spec_examples.proofs.constraints.Goals as goal
+
+pub returns : goal.returns
+returns c = record { value = value_row; delayed = delayed_row; overflow = overflow_row }
