@@ -33,4 +33,12 @@ no_values x = None
 
 -- nothing is told, waits or sleeps
 abbrev pub idle : Subst Text → (ℕ → Bool) → ℕ → ℕ → State
-idle b numeric next fresh = record { bindings = b; linear = []; delayed = []; numeric = numeric; sleepers = []; next_sleeper = next; fresh = fresh }
+idle b numeric next fresh = record {
+  bindings = b;
+  linear = [];
+  delayed = [];
+  numeric = numeric;
+  sleepers = [];
+  next_sleeper = next;
+  fresh = fresh;
+}

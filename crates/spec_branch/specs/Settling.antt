@@ -60,7 +60,8 @@ stands_in s ts v = list_any (λ t. list_any (λ w. w == v) (variables (apply s t
 
 -- the numeric variables then: those before, the images of newly bound ones, and those of told terms
 abbrev pub numeric_after : State → Subst Text → Subst Text → List Tree → ℕ → Bool
-numeric_after st u s told v = st.numeric v || list_any (λ w. is_the_variable v (s w)) (newly_bound st u) || stands_in s told v
+numeric_after st u s told v =
+    st.numeric v || list_any (λ w. is_the_variable v (s w)) (newly_bound st u) || stands_in s told v
 
 -- ---- fixed values
 
@@ -117,7 +118,9 @@ pub record Settling (st : State) (p : Pending) (u : Subst Text) : Type 0 where
 
 -- the bindings with the fixed values
 abbrev pub bindings_after : State → Pending → Subst Text → (ℕ → Option ℚ) → Subst Text
-bindings_after st p u fixed = followed_by (followed_by st.bindings u) (fixed_values (numeric_after st u (followed_by st.bindings u) p.told) fixed)
+bindings_after st p u fixed =
+    let s = followed_by st.bindings u in
+    followed_by s (fixed_values (numeric_after st u s p.told) fixed)
 
 -- the branch that is kept
 abbrev pub kept_branch : List Item → State → Pending → Subst Text → List Constraint → List Tree → (ℕ → Option ℚ)

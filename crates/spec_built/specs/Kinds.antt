@@ -68,7 +68,8 @@ no_cell t = record { elements = []; tail = t }
 
 -- the parts of a compound of two arguments, from those of its second one
 abbrev pub cell_parts : Text → Tree → Tree → Parts → Parts
-cell_parts f whole head rest = if bytes_eq f (codes ".") then record rest { elements = head ∷ rest.elements } else no_cell whole
+cell_parts f whole head rest =
+    if bytes_eq f (codes ".") then record rest { elements = head ∷ rest.elements } else no_cell whole
 
 abbrev pub parts : Tree → Parts
 parts (Compound f (more head (one t))) = cell_parts f (Compound f (more head (one t))) head (parts t)

@@ -106,7 +106,8 @@ char_code_row c n =
     faults_if (is_other is_character c) (type_error "character" c) (
     faults_if (is_other is_integer n) (type_error "integer" n) (
     faults_if (is_other is_code n) (representation_error "character_code") (
-    if is_variable c then one_way ((c ≐ name_of (natural_of n ∷ [])) ∷ []) else one_way ((n ≐ natural (code_of c)) ∷ [])))))
+    if is_variable c then one_way ((c ≐ name_of (natural_of n ∷ [])) ∷ [])
+    else one_way ((n ≐ natural (code_of c)) ∷ [])))))
 
 -- ---- number_codes(N,L)
 
@@ -138,7 +139,8 @@ codes_of_number n l = Faults (type_error "number" n)
 -- a list of codes is read, whatever N is
 abbrev pub number_codes_row : Tree → Tree → Solutions
 number_codes_row n l =
-    if is_list l && list_all is_code (parts l).elements then number_read n (number_in (encode_utf8_all (map natural_of (parts l).elements)))
+    if is_list l && list_all is_code (parts l).elements
+    then number_read n (number_in (encode_utf8_all (map natural_of (parts l).elements)))
     else faults_if (is_variable n) instantiation (codes_of_number n l)
 
 -- ---- atom_concat(A,B,C) and sub_atom(A,B,L,R,S)
@@ -167,12 +169,14 @@ atom_concat_row a b c =
 -- so many characters behind the first `before`: how many stand before, in and after the part, and the part
 abbrev pub part_at : Tree → Tree → Tree → Tree → List ℕ → ℕ → ℕ → List (Equation Text)
 part_at b l r s cs before len =
-    (b ≐ natural before) ∷ (l ≐ natural len) ∷ (r ≐ natural (length cs - before - len)) ∷ (s ≐ name_of (take len (drop before cs))) ∷ []
+    (b ≐ natural before) ∷ (l ≐ natural len) ∷ (r ≐ natural (length cs - before - len))
+    ∷ (s ≐ name_of (take len (drop before cs))) ∷ []
 
 -- the parts by their place, then by their length
 abbrev pub parts_at : Tree → Tree → Tree → Tree → List ℕ → List (List (Equation Text))
 parts_at b l r s cs =
-    flat_map (λ before. map (part_at b l r s cs before) (counted_from 0 (length cs - before + 1))) (counted_from 0 (length cs + 1))
+    flat_map (λ before. map (part_at b l r s cs before) (counted_from 0 (length cs - before + 1)))
+    (counted_from 0 (length cs + 1))
 
 abbrev pub sub_atom_row : Tree → Tree → Tree → Tree → Tree → Solutions
 sub_atom_row a b l r s =

@@ -111,7 +111,10 @@ offers p (Offers ways) = makes p (map (alternative_child p) ways)
 
 -- one more sleeper, with the next number
 abbrev pub suspended : State → Asleep → State
-suspended st a = record st { sleepers = st.sleepers ++ record { number = st.next_sleeper; asleep = a } ∷ []; next_sleeper = suc st.next_sleeper }
+suspended st a = record st {
+  sleepers = st.sleepers ++ record { number = st.next_sleeper; asleep = a } ∷ [];
+  next_sleeper = suc st.next_sleeper;
+}
 
 abbrev pub all_suspended : State → List Asleep → State
 all_suspended st [] = st
@@ -126,10 +129,12 @@ place_from n vs v = n + position_or_len (λ w. w == v) vs
 -- products with their variables numbered from n on, in ascending order
 abbrev pub placed_products : ℕ → List ℕ → List Monomial → List Monomial
 placed_products n vs [] = []
-placed_products n vs (m ∷ s) = with_product (record { variable = place_from n vs m.variable; factor = m.factor }) (placed_products n vs s)
+placed_products n vs (m ∷ s) =
+    with_product (record { variable = place_from n vs m.variable; factor = m.factor }) (placed_products n vs s)
 
 abbrev pub placed_constraint : ℕ → List ℕ → Constraint → Constraint
-placed_constraint n vs c = record c { form = record { products = placed_products n vs c.form.products; constant = c.form.constant } }
+placed_constraint n vs c =
+    record c { form = record { products = placed_products n vs c.form.products; constant = c.form.constant } }
 
 abbrev pub placed_asleep : ℕ → List ℕ → Asleep → Asleep
 placed_asleep n vs (Frozen x g) = Frozen (apply (numbered_from n vs) x) (apply (numbered_from n vs) g)
