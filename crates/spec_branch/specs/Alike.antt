@@ -25,6 +25,10 @@ pub record SameBranch (b c : Branch) : Type 0 where
   pub next_sleeper : b.state.next_sleeper ≡ c.state.next_sleeper
   pub fresh : b.state.fresh ≡ c.state.fresh
 
+-- the state with another list of linear constraints
+abbrev pub with_linear : List Constraint → State → State
+with_linear l st = record st { linear = l }
+
 -- ---- settling without constraints
 
 -- no list of constraints fixes a value

@@ -12,7 +12,7 @@ ghost use Rattle.spec_syntax.specs.Trees.{Tree};
 ghost use Rattle.spec_branch.specs.Branch.{Item, State, Pending, Branch, no_work};
 ghost use Rattle.spec_branch.specs.Closure.{IsClosure};
 ghost use Rattle.spec_branch.specs.Settling.{Settles, Kept, Pruned, Why, kept_branch};
-ghost use Rattle.spec_branch.specs.Alike.{SameClosure, SameBranch, idle, no_values};
+ghost use Rattle.spec_branch.specs.Alike.{SameClosure, SameBranch, with_linear, idle, no_values};
 
 /// From lists with the same solutions, in whatever order waiting constraints become linear, solvable ends have
 /// the same solutions, the same waiting terms in the same order, and the same fixed values.
@@ -29,13 +29,15 @@ pub fn any_order_is_as_solvable()
         → Solvable m → Solvable n }
 {}
 
-/// A branch that is kept is never pruned, whatever the order, and is kept as one branch but for the form of its
-/// linear constraints.
+/// What settling comes to is determined by the solutions of the linear constraints, whatever their form and whatever
+/// the order: a branch that is kept is never pruned, and is kept as one branch but for the form of its constraints.
 pub fn settling_is_determined()
-    ensures kept { (items : List Item) (st : State) (p : Pending) (b c : Branch)
-        → Settles items st p (Kept b) → Settles items st p (Kept c) → SameBranch b c }
-    ensures never_both { (items : List Item) (st : State) (p : Pending) (b : Branch) (why : Why)
-        → Settles items st p (Kept b) → Settles items st p (Pruned why) → ⊥ }
+    ensures kept { (items : List Item) (st : State) (l : List Constraint) (p : Pending) (b c : Branch)
+        → Equivalent st.linear l → Settles items st p (Kept b) → Settles items (with_linear l st) p (Kept c)
+        → SameBranch b c }
+    ensures never_both { (items : List Item) (st : State) (l : List Constraint) (p : Pending) (b : Branch) (why : Why)
+        → Equivalent st.linear l → Settles items st p (Kept b)
+        → Settles items (with_linear l st) p (Pruned why) → ⊥ }
 {}
 
 /// Where no variable is numeric, and nothing waits or sleeps, settling unifies the pairs and that is all.
