@@ -7,15 +7,15 @@ use Rattle.cq_term.specs.HeapValue.{Terms as HeapTerms}
 use Rattle.cq_term.specs.Shown.{view_of, IsUnbound}
 use Rattle.cq_term.specs.declared.view.View.TheVariants as view
 use Rattle.cq_term.proofs.Arguments.{shown_variable}
-use Rattle.cq_unify.specs.Work.{Compared}
-use Rattle.cq_unify.specs.declared.pairs.Heads.TheVariants as heads
+use Rattle.cq_unify.specs.Work.{Demands}
+use Rattle.cq_unify.specs.declared.pairs.Demand.TheVariants as demand
 
 abbrev pub IsFree : HeapTerms → ℕ → Type 0
 IsFree heap a = (x : ℕ) → at heap.terms a ≡ Var x → IsUnbound heap.images x
 
 module _ (heap : HeapTerms) (a b : ℕ) (v : VarId) (free_a : IsFree heap a) (free_b : IsFree heap b) where
   -- the right one is the variable
-  pub bind_to_left : view_of (at heap.terms b) ≡ view.Var v → a < length heap.terms → ((x : VarId) → view_of (at heap.terms a) ≡ view.Var x → x.0 < v.0) → Compared heap a b (heads.Bind v a)
+  pub bind_to_left : view_of (at heap.terms b) ≡ view.Var v → a < length heap.terms → ((x : VarId) → view_of (at heap.terms a) ≡ view.Var x → x.0 < v.0) → Demands heap a b (demand.Bind v a)
   bind_to_left shown live less =
       let q : at heap.terms b ≡ Var v.0 = shown_variable (at heap.terms b) v shown in
       let under = λ (w : ℕ) (h : at heap.terms a ≡ Var w). less (record { 0 = w }) (ap view_of h) in (
@@ -29,7 +29,7 @@ module _ (heap : HeapTerms) (a b : ℕ) (v : VarId) (free_a : IsFree heap a) (fr
       )
 
   -- the left one is the variable
-  pub bind_to_right : view_of (at heap.terms a) ≡ view.Var v → b < length heap.terms → ((x : VarId) → view_of (at heap.terms b) ≡ view.Var x → x.0 < v.0) → Compared heap a b (heads.Bind v b)
+  pub bind_to_right : view_of (at heap.terms a) ≡ view.Var v → b < length heap.terms → ((x : VarId) → view_of (at heap.terms b) ≡ view.Var x → x.0 < v.0) → Demands heap a b (demand.Bind v b)
   bind_to_right shown live less =
       let q : at heap.terms a ≡ Var v.0 = shown_variable (at heap.terms a) v shown in
       let under = λ (w : ℕ) (h : at heap.terms b ≡ Var w). less (record { 0 = w }) (ap view_of h) in (

@@ -1,5 +1,5 @@
 -- Whether a variable stands in one of the terms that are still to be visited.
-use Rattle.std.proofs.Common.{◌≡◌, ◌≢◌, ℕ, ◌<◌, List, [], ◌∷◌, ◌++◌, length, map, reverse, Some, refl, ap, sym, ◌∙◌, subst, inl, inr, arith}
+use Rattle.std.proofs.Common.{◌≡◌, ◌≢◌, ℕ, ◌<◌, List, [], ◌∷◌, ◌++◌, length, map, reverse, Some, refl, ap, sym, ◌∙◌, subst, inl, inr}
 use Rattle.std.specs.Prelude.{All, ◌↔◌, ◌⊎◌}
 use Rattle.std.proofs.lemmas.List.{reverse-append}
 use Rattle.std.proofs.lemmas.List.Elements.{All-append, All-same, All-pop}
@@ -10,8 +10,8 @@ use Rattle.cq_term.specs.Shown.{view_of, arguments}
 use Rattle.cq_term.specs.declared.view.View.{View}
 use Rattle.cq_term.specs.declared.view.View.TheVariants as view
 use Rattle.cq_frac.specs.declared.VarId.{VarId}
-use Rattle.cq_unify.specs.Listing.{PushesArguments}
-use Rattle.cq_unify.proofs.Listing.{terms_pop, terms_push}
+use Rattle.cq_walk.specs.Arguments.{PushesArguments}
+use Rattle.cq_walk.proofs.Arguments.{terms_pop, terms_push}
 
 -- the variable stands in one of the terms
 abbrev pub StandsAmong : ℕ → List HeapTerm → Type 0
@@ -104,10 +104,6 @@ module _ (ts : List HeapTerm) (v : ℕ) (t : HeapTerm) (old work : List ℕ) (id
               λ h. looks.same.1 (among_pop.1 (elim (k.0 (subst (StandsAmong v) pushed h)) [ inl a ↦ inl a | inr b ↦ inr (r.0 b) ])),
             );
           }
-
-pub looks_none : (ts : List HeapTerm) (v : ℕ) (t : HeapTerm) (work : List ℕ) → Looks ts v t work → length work ≡ 0 → Occurs v t → ⊥
-looks_none ts v t [] looks n o = looks.same.0 o
-looks_none ts v t (id ∷ work) looks n o = absurd (omega arith)
 
 -- ---- a variable in a term that shows its head
 pub not_another : (t : HeapTerm) (v : ℕ) (w : VarId) → view_of t ≡ view.Var w → w.0 ≢ v → Occurs v t → ⊥

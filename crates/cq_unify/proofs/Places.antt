@@ -1,16 +1,19 @@
 -- Places of variables in a list, and lists of terms that grow at their ends.
-use Rattle.std.proofs.Common.{◌≡◌, ℕ, zero, suc, ◌+◌, ◌<◌, List, [], ◌∷◌, ◌++◌, length, map, take, drop, not, cond, get_or, Bool, None, Some, nat_eq, refl, ap, sym, ◌∙◌, subst, inl, inr, arith, append_assoc, append-nil, length-append}
+use Rattle.std.proofs.Common.{◌≡◌, ℕ, zero, suc, ◌+◌, ◌<◌, List, [], ◌∷◌, ◌++◌, length, map, take, drop, get_or, Bool, None, Some, nat_eq, refl, ap, sym, ◌∙◌, subst, inl, inr, arith, append_assoc, append-nil, length-append}
 use Rattle.std.specs.Prelude.{All, Contains}
 use Rattle.std.specs.List.{position, position_or_len}
 use Rattle.std.proofs.lemmas.Bool.{cases_eq, eq-eqb, ne_eqb, cond_below}
 use Rattle.std.proofs.lemmas.List.{map-append, length-map, get_or_append_left, get_or_push, take-map}
 use Rattle.std.proofs.lemmas.List.Elements.{All-head, All-tail, All-take}
+use Rattle.spec_lists.specs.Prefixes.{IsPrefix}
+use Rattle.spec_lists.proofs.Prefixes.{prefix_get_or}
 use Rattle.spec_terms.specs.Term.{Var, with_arguments}
 use Rattle.spec_terms.specs.Variables.{counted_from}
 use Rattle.cq_term.specs.Meaning.{HeapTerm, at, blank}
 use Rattle.cq_frac.specs.declared.VarId.{VarId}
-use Rattle.cq_unify.specs.Listing.{numbers_of, place_of}
-use Rattle.cq_unify.specs.Copied.{IsPrefix, unbound_from}
+use Rattle.cq_walk.specs.Places.{numbers_of, place_of}
+use Rattle.cq_walk.proofs.Places.{position_or_len-place}
+use Rattle.cq_unify.specs.Copied.{unbound_from}
 use Rattle.cq_unify.specs.Copying.{with_compound}
 
 -- ---- places
@@ -30,14 +33,6 @@ place_within_numbers (w ∷ vs) v c = elim (cases_eq w v) [
 
 pub place_within : (ks : List VarId) (v : ℕ) → Contains (numbers_of ks) v → place_of ks v < length ks
 place_within ks v c = omega (arith, place_within_numbers (numbers_of ks) v c, length-map ks (λ (w : VarId). w.0))
-
-nat_eq-sym : (a b : ℕ) → nat_eq a b ≡ nat_eq b a
-nat_eq-sym a b = grind arith
-
--- a test for a variable finds it at its place
-position_or_len-place : (test : VarId → Bool) (v : ℕ) → ((w : VarId) → test w ≡ nat_eq v w.0) → (ks : List VarId) → position_or_len test ks ≡ place_of ks v
-position_or_len-place test v same [] = refl
-position_or_len-place test v same (k ∷ ks) = λ i. cond (not ((same k ∙ nat_eq-sym v k.0) i)) (1 + position_or_len-place test v same ks i) 0
 
 pub position-place : (test : VarId → Bool) (v : ℕ) → ((w : VarId) → test w ≡ nat_eq v w.0) → (ks : List VarId) → Contains (numbers_of ks) v → position test ks ≡ Some (place_of ks v)
 position-place test v same ks c =
@@ -63,27 +58,9 @@ at-unbound_from n (suc k) zero lt = (let e : n ≡ n + 0 = omega arith in ap (λ
 at-unbound_from n (suc k) (suc p) lt = (let e : suc n + p ≡ n + suc p = omega arith in at-unbound_from (suc n) k p (omega arith) ∙ ap (λ m. Var m) e)
 
 -- ---- lists that grow
-pub prefix_same : (ts us : List HeapTerm) → us ≡ ts → IsPrefix ts us
-prefix_same ts us e = ([], e ∙ sym (append-nil ts))
-
-pub prefix_push : (ts us vs : List HeapTerm) (t : HeapTerm) → IsPrefix ts us → vs ≡ us ++ t ∷ [] → IsPrefix ts vs
-prefix_push ts us vs t p e = (p.0 ++ t ∷ [], e ∙ ap (λ xs. xs ++ t ∷ []) p.1 ∙ append_assoc ts p.0 (t ∷ []))
-
-pub prefix_both : (ts us vs : List HeapTerm) → IsPrefix ts us → IsPrefix us vs → IsPrefix ts vs
-prefix_both ts us vs p q = (p.0 ++ q.0, q.1 ∙ ap (λ xs. xs ++ q.0) p.1 ∙ append_assoc ts p.0 q.0)
-
-pub prefix_live : (ts us : List HeapTerm) (i : ℕ) → IsPrefix ts us → i < length ts → i < length us
-prefix_live ts us i p lt = omega (arith, ap length p.1, length-append ts p.0, lt)
-
-pub prefix_all_live : (ts us : List HeapTerm) (ids : List ℕ) → IsPrefix ts us → All (λ i. i < length ts) ids → All (λ i. i < length us) ids
-prefix_all_live ts us ids p all k d lt = prefix_live ts us (get_or ids k d) p (all k d lt)
-
-pub prefix_at : (ts us : List HeapTerm) (i : ℕ) → IsPrefix ts us → i < length ts → at us i ≡ at ts i
-prefix_at ts us i p lt = ap (λ xs. at xs i) p.1 ∙ get_or_append_left ts p.0 blank i lt
-
 pub prefix_map : (ts us : List HeapTerm) (ids : List ℕ) → IsPrefix ts us → All (λ i. i < length ts) ids → map (at us) ids ≡ map (at ts) ids
 prefix_map ts us [] p all = refl
-prefix_map ts us (i ∷ ids) p all = λ j. prefix_at ts us i p (All-head (λ n. n < length ts) i ids all) j ∷ prefix_map ts us ids p (All-tail (λ n. n < length ts) i ids all) j
+prefix_map ts us (i ∷ ids) p all = λ j. prefix_get_or ts us i blank p (All-head (λ n. n < length ts) i ids all) j ∷ prefix_map ts us ids p (All-tail (λ n. n < length ts) i ids all) j
 
 -- ---- what is built at the end of a list of terms
 drop-map : (f : ℕ → HeapTerm) (n : ℕ) (ids : List ℕ) → drop n (map f ids) ≡ map f (drop n ids)

@@ -1,5 +1,5 @@
 -- What the bindings made so far and the pairs that are left keep true.
-use Rattle.std.proofs.Common.{◌≡◌, ◌≢◌, ℕ, zero, suc, ◌<◌, ◌≤◌, List, [], ◌∷◌, ◌++◌, length, refl, sym, ap, ◌∙◌, arith, map, inl, inr, subst, get_or, append-nil, append_assoc}
+use Rattle.std.proofs.Common.{◌≡◌, ◌≢◌, ℕ, ◌<◌, ◌≤◌, List, [], ◌∷◌, ◌++◌, length, refl, sym, ap, ◌∙◌, arith, map, inl, inr, subst, get_or, append-nil, append_assoc}
 use Rattle.std.specs.Prelude.{◌↔◌, All, Contains}
 use Rattle.std.specs.List.{AllPairs}
 use Rattle.std.proofs.lemmas.Bool.{cases_eq}
@@ -14,8 +14,11 @@ use Rattle.cq_term.specs.Meaning.{HeapTerm, at}
 use Rattle.cq_term.specs.HeapValue.{Terms, HeapValue}
 use Rattle.cq_term.specs.Shown.{IsUnbound}
 use Rattle.cq_unify.specs.Unified.{Binding, in_turn, variables_of, equation, IsNewlyBound, Unified}
-use Rattle.cq_unify.specs.Work.{IsLive, equations, CanBind, Narrowed}
-use Rattle.cq_unify.specs.declared.pairs.Pair.{Pair}
+use Rattle.cq_walk.specs.Pairs.{IsLive, equations}
+use Rattle.cq_walk.specs.declared.pairs.Pair.{Pair}
+use Rattle.cq_walk.proofs.SideBySide.{live_one}
+use Rattle.cq_unify.specs.Work.{CanBind, IsBound, Demands, Narrowed}
+use Rattle.cq_unify.specs.declared.pairs.Demand.TheVariants as demand
 use Rattle.cq_unify.specs.declared.pairs.Step.TheVariants as step
 use Rattle.cq_unify.proofs.Unbound.{at-map, variable_from, unbound_before, bound_now, unbound_now}
 
@@ -74,10 +77,6 @@ pub record Progress (old now : Terms) (goal : List (Equation ℕ)) (bs : List Bi
   pub unbound : (w : ℕ) → IsUnbound now.images w → IsUnbound old.images w
   pub newly : (v : VarId) → Contains (variables_of bs) v ↔ IsNewlyBound old now v
   pub once : AllPairs ◌≢◌ (variables_of bs)
-
-live_one : (ts : List HeapTerm) (p : Pair) → IsLive ts p → All (IsLive ts) (p ∷ [])
-live_one ts p h zero d lt = h
-live_one ts p h (suc k) d lt = absurd (omega arith)
 
 progress_start : (heap : Terms) (a b : ℕ) (work : List Pair) → work ≡ record { left = a; right = b } ∷ [] → a < length heap.terms → b < length heap.terms → Progress heap heap (equation heap a b) [] work
 progress_start heap a b work e live_a live_b = record {
@@ -207,15 +206,14 @@ same_terms : (x y : Terms) → x.terms ≡ y.terms → x.images ≡ y.images →
 same_terms x y e d = λ i. record { terms = e i; images = d i }
 
 module _ (old now : HeapValue) (a b : ℕ) (before told : List VarId) (work rest : List Pair) (h : Solving old now a b before told work) where
-  pub solving_bind : (v : VarId) (t : ℕ) (next : HeapValue) (told_next : List VarId) → Narrowed now.now work rest (step.Bind v t) → (Occurs v.0 (at now.now.terms t) → ⊥) →
-      next.now.terms ≡ map (apply (single v.0 (at now.now.terms t))) now.now.terms → next.now.images ≡ map (apply (single v.0 (at now.now.terms t))) now.now.images → next.saved ≡ now.saved → now.room ≤ next.room →
+  pub solving_bind : (v : VarId) (t : ℕ) (next : HeapValue) (told_next : List VarId) → Narrowed now.now work rest (step.Bind v t) → IsBound now.now next.now v t → next.saved ≡ now.saved → now.room ≤ next.room →
       told_next ≡ told ++ v ∷ [] → Solving old next a b before told_next rest
-  solving_bind v t next told_next narrowed apart terms images saved room pushed =
+  solving_bind v t next told_next narrowed bound saved room pushed =
       let made : Binding = record { variable = v; term = at now.now.terms t } in record {
         bindings = h.bindings ++ made ∷ [];
         progress = subst (λ (x : Terms). Progress old.now x (equation old.now a b) (h.bindings ++ made ∷ []) rest)
-            (sym (same_terms next.now (bound_terms old.now now.now (equation old.now a b) h.bindings work rest h.progress v t narrowed apart) terms images))
-            (progress_bind old.now now.now (equation old.now a b) h.bindings work rest h.progress v t narrowed apart);
+            (sym (same_terms next.now (bound_terms old.now now.now (equation old.now a b) h.bindings work rest h.progress v t narrowed bound.apart) bound.terms bound.images))
+            (progress_bind old.now now.now (equation old.now a b) h.bindings work rest h.progress v t narrowed bound.apart);
         told = pushed ∙ ap (λ vs. vs ++ v ∷ []) h.told ∙ append_assoc before (variables_of h.bindings) (v ∷ []) ∙ ap (λ vs. before ++ vs) (sym (map-append (λ (x : Binding). x.variable) h.bindings (made ∷ [])));
         saved = saved ∙ h.saved;
         room = omega (arith, h.room);
@@ -230,3 +228,26 @@ module _ (old now : HeapValue) (a b : ℕ) (before told : List VarId) (work rest
   -- a variable inside the term that it is to become
   pub solving_occurs : (v : VarId) (t : ℕ) → Narrowed now.now work rest (step.Bind v t) → Occurs v.0 (at now.now.terms t) → HasNoUnifier (equation old.now a b)
   solving_occurs v t narrowed inside s e = occurs_clash s v.0 (at now.now.terms t) inside narrowed.0.other ((narrowed.2 s).0 (h.progress.general s e).1).0
+
+-- ---- two terms whose heads say all
+module _ (heap : HeapValue) (a b : ℕ) (live_a : a < length heap.now.terms) (live_b : b < length heap.now.terms) (told : List VarId) where
+  abbrev both : List Pair
+  both = record { left = a; right = b } ∷ []
+
+  started : Solving heap heap a b told told both
+  started = solving_start heap a b told both refl live_a live_b
+
+  pub alike_unified : Demands heap.now a b demand.Same → (more : List VarId) × (told ≡ told ++ more) × Unified heap.now heap.now a b more
+  alike_unified e = solving_done heap heap a b told told both both started (λ s. (ap (apply s) e, tt))
+
+  module _ (v : VarId) (t : ℕ) (binds : Demands heap.now a b (demand.Bind v t)) where
+    narrowed_all : Narrowed heap.now both [] (step.Bind v t)
+    narrowed_all = (binds.0, (λ k d lt. absurd (omega arith)), λ s. (λ e. ((binds.1 s).0 e.0, tt), λ e. ((binds.1 s).1 e.0, tt)))
+
+    pub bound_unified : (next : HeapValue) (told_next : List VarId) → IsBound heap.now next.now v t → next.saved ≡ heap.saved → heap.room ≤ next.room → told_next ≡ told ++ v ∷ [] →
+        (more : List VarId) × (told_next ≡ told ++ more) × Unified heap.now next.now a b more
+    bound_unified next told_next bound saved room pushed =
+        solving_done heap next a b told told_next [] [] (solving_bind heap heap a b told told both [] started v t next told_next narrowed_all bound saved room pushed) (λ s. tt)
+
+    pub inside_unified : Occurs v.0 (at heap.now.terms t) → HasNoUnifier (equation heap.now a b)
+    inside_unified inside = solving_occurs heap heap a b told told both [] started v t narrowed_all inside

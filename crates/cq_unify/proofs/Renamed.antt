@@ -1,20 +1,22 @@
 -- The term with the new variables of a renaming in the places of its own.
-use Rattle.std.proofs.Common.{◌≡◌, ℕ, ◌+◌, ◌<◌, List, length, map, ap, sym, ◌∙◌, subst, arith}
+use Rattle.std.proofs.Common.{◌≡◌, ℕ, ◌+◌, ◌<◌, List, [], ◌++◌, length, map, ap, sym, ◌∙◌, subst, arith, append-nil}
 use Rattle.std.specs.Prelude.{All, Contains, ◌==◌}
 use Rattle.std.specs.List.{position_or_len}
 use Rattle.std.proofs.lemmas.List.{length-map, get_or-map}
 use Rattle.std.proofs.lemmas.List.Elements.{All-map, All-contains}
-use Rattle.spec_terms.specs.Term.{Var, Occurs, apply}
+use Rattle.spec_terms.specs.Term.{Subst, Var, Occurs, apply, identity}
 use Rattle.spec_terms.specs.Variables.{variables, numbered_from, renamed_from}
 use Rattle.spec_terms.proofs.Listed.{occurs_listed}
-use Rattle.spec_terms.proofs.Substitution.{apply_agree, occurs_from}
+use Rattle.spec_terms.proofs.Substitution.{apply_agree, apply-identity, occurs_from}
 use Rattle.cq_term.specs.Meaning.{HeapTerm, at, blank}
 use Rattle.cq_term.specs.Shown.{IsUnbound}
 use Rattle.cq_frac.specs.declared.VarId.{VarId}
 use Rattle.cq_unify.specs.declared.copies.Renaming.{Renaming}
-use Rattle.cq_unify.specs.Listing.{numbers_of, place_of}
+use Rattle.cq_walk.specs.Places.{numbers_of, place_of}
 use Rattle.cq_unify.specs.Copied.{ShareNoVariable, unbound_from}
 use Rattle.cq_unify.specs.Copying.{IsRenaming, image_of}
+use Rattle.cq_walk.specs.Visits.{IsGround}
+use Rattle.cq_walk.proofs.Ground.{after_ground}
 use Rattle.cq_unify.proofs.Places.{place_within, length-unbound_from, at-unbound_from}
 
 module _ (ts : List HeapTerm) (t : HeapTerm) (r : Renaming) (n : ℕ) (listed : numbers_of r.originals.keys ≡ variables t) (fresh : map (at ts) r.images.items ≡ unbound_from n (length r.originals.keys)) where
@@ -46,3 +48,10 @@ renamed_apart images t u keys listed unbound e v o k =
     let below : IsUnbound images v = All-contains (λ n. IsUnbound images n) (numbers_of keys) v (All-map (λ n. IsUnbound images n) (λ (w : VarId). w.0) keys unbound) (subst (λ vs. Contains vs v) (sym listed) (occurs_listed t v o)) in
     let from = occurs_from (numbered_from (length images) (variables t)) v t (subst (Occurs v) e k) in
     omega (arith, below.0, from.2)
+
+-- ---- a term without variables
+pub ground_stays : (s : Subst ℕ) (t : HeapTerm) → IsGround t → t ≡ apply s t
+ground_stays s t ground = sym (apply-identity t) ∙ apply_agree identity s t (λ v o. absurd (ground v o))
+
+pub ground_images : (images : List HeapTerm) (n : ℕ) (t : HeapTerm) → IsGround t → images ≡ images ++ unbound_from n (length (variables t))
+ground_images images n t ground = sym (append-nil images) ∙ ap (λ vs. images ++ unbound_from n (length vs)) (sym (after_ground [] t ground))

@@ -7,7 +7,7 @@ use Rattle.std.proofs.lemmas.List.Elements.{All-head, All-tail, All-push, All-sa
 use Rattle.std.proofs.lemmas.List.Sums.{sum_by-append}
 use Rattle.spec_rational.specs.Rational.{ℚ}
 use Rattle.spec_terms.specs.Term.{Terms, Subst, Var, Number, Name, Compound, one, more, size, list_of, terms_of, apply, apply_all, OccursIn, with_arguments}
-use Rattle.cq_term.specs.Meaning.{HeapTerm, at}
+use Rattle.cq_term.specs.Meaning.{HeapTerm, at, blank}
 use Rattle.cq_term.specs.Shown.{view_of, arguments}
 use Rattle.cq_term.proofs.Arguments.{apply-with_arguments}
 use Rattle.cq_term.specs.declared.view.View.{View}
@@ -15,11 +15,13 @@ use Rattle.cq_term.specs.declared.view.View.TheVariants as view
 use Rattle.cq_unify.specs.declared.copies.Renaming.{Renaming}
 use Rattle.cq_unify.specs.declared.copies.Step.{Step}
 use Rattle.cq_unify.specs.declared.copies.Step.TheVariants.{Visit, Build}
-use Rattle.cq_unify.specs.Listing.{numbers_of, place_of, PushesArguments}
-use Rattle.cq_unify.specs.Copied.{IsPrefix}
+use Rattle.cq_walk.specs.Arguments.{PushesArguments}
+use Rattle.cq_walk.specs.Places.{numbers_of, place_of}
+use Rattle.cq_walk.proofs.Arguments.{sizes_arguments, pushes_more}
+use Rattle.spec_lists.specs.Prefixes.{IsPrefix}
 use Rattle.cq_unify.specs.Copying.{image_of, Covers, with_compound, act, finish, CanAct, CanFinish, Leads, PushesVisits, work_left}
-use Rattle.cq_unify.proofs.Listing.{sizes_arguments, pushes_more}
-use Rattle.cq_unify.proofs.Places.{place_within, prefix_at, prefix_all_live, prefix_live}
+use Rattle.spec_lists.proofs.Prefixes.{prefix_get_or, prefix_all_within, prefix_within}
+use Rattle.cq_unify.proofs.Places.{place_within}
 
 -- ---- steps one after another
 module _ (s : Subst ℕ) (ts : List HeapTerm) where
@@ -49,17 +51,17 @@ work_left-append ts (Build f first ∷ xs) ys = omega (arith, work_left-append t
 module _ (s : Subst ℕ) (vs : List ℕ) (ts us : List HeapTerm) (p : IsPrefix ts us) where
   finish_longer : (built : List HeapTerm) (xs : List Step) → CanFinish s vs ts built xs → finish s us built xs ≡ finish s ts built xs
   finish_longer built [] h = refl
-  finish_longer built (Visit id ∷ xs) h = λ i. finish_longer built xs h.1 i ++ apply s (prefix_at ts us id p h.0.0 i) ∷ []
+  finish_longer built (Visit id ∷ xs) h = λ i. finish_longer built xs h.1 i ++ apply s (prefix_get_or ts us id blank p h.0.0 i) ∷ []
   finish_longer built (Build f first ∷ xs) h = ap (with_compound f first) (finish_longer built xs h.1)
 
   can_longer : (built : List HeapTerm) (xs : List Step) → CanFinish s vs ts built xs → CanFinish s vs us built xs
   can_longer built [] h = tt
-  can_longer built (Visit id ∷ xs) h = ((prefix_live ts us id p h.0.0, subst (Covers vs) (sym (prefix_at ts us id p h.0.0)) h.0.1), can_longer built xs h.1)
+  can_longer built (Visit id ∷ xs) h = ((prefix_within ts us id p h.0.0, subst (Covers vs) (sym (prefix_get_or ts us id blank p h.0.0)) h.0.1), can_longer built xs h.1)
   can_longer built (Build f first ∷ xs) h = (subst (λ (b : List HeapTerm). first < length b) (sym (finish_longer built xs h.1)) h.0, can_longer built xs h.1)
 
   work_left_longer : (built : List HeapTerm) (xs : List Step) → CanFinish s vs ts built xs → work_left us xs ≡ work_left ts xs
   work_left_longer built [] h = refl
-  work_left_longer built (Visit id ∷ xs) h = λ i. 2 * size (prefix_at ts us id p h.0.0 i) + work_left_longer built xs h.1 i
+  work_left_longer built (Visit id ∷ xs) h = λ i. 2 * size (prefix_get_or ts us id blank p h.0.0 i) + work_left_longer built xs h.1 i
   work_left_longer built (Build f first ∷ xs) h = ap (λ n. 1 + n) (work_left_longer built xs h.1)
 
 -- ---- the arguments of a compound
@@ -225,13 +227,13 @@ module _ (s : Subst ℕ) (t : HeapTerm) (ts : List HeapTerm) (r : Renaming) (wor
       image_longer : (v : ℕ) → Contains originals v → image_of us r v ≡ image_of ts r v
       image_longer v c =
           let within : place_of r.originals.keys v < length r.images.items = omega (arith, place_within r.originals.keys v c, h.matched) in
-          prefix_at ts us (get_or r.images.items (place_of r.originals.keys v) 0) p (All-get_or (λ k. k < length ts) r.images.items (place_of r.originals.keys v) 0 within h.images_live)
+          prefix_get_or ts us (get_or r.images.items (place_of r.originals.keys v) 0) blank p (All-get_or (λ k. k < length ts) r.images.items (place_of r.originals.keys v) 0 within h.images_live)
 
       pub leads_compounded : (new : List ℕ) → All (λ i. i < length us) new → map (at us) new ≡ with_compound f first now → Leads s t us r work new
       leads_compounded new live e = record {
         images = λ v c. image_longer v c ∙ h.images v c;
         matched = h.matched;
-        images_live = prefix_all_live ts us r.images.items p h.images_live;
+        images_live = prefix_all_within ts us r.images.items p h.images_live;
         live = live;
         can = subst (λ (b : List HeapTerm). CanFinish s originals us b work) (sym e) (can_longer s originals ts us p (with_compound f first now) work rest_built);
         leads = ap (λ (b : List HeapTerm). finish s us b work) e

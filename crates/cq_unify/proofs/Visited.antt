@@ -10,8 +10,11 @@ use Rattle.spec_terms.specs.Term.{size, Occurs}
 use Rattle.cq_term.specs.Meaning.{HeapTerm, at}
 use Rattle.cq_term.specs.Shown.{view_of, arguments}
 use Rattle.cq_term.specs.declared.view.View.TheVariants as view
-use Rattle.cq_unify.specs.Listing.{variables_through, PushesArguments, VisitsArguments}
-use Rattle.cq_unify.proofs.Listing.{live_push, through_known, through_push, sizes_arguments, sizes_pop, sizes_push, terms_pop, terms_push}
+use Rattle.cq_walk.specs.Arguments.{PushesArguments}
+use Rattle.cq_walk.specs.Visits.{Visits, IsGround, VisitsArguments}
+use Rattle.cq_walk.proofs.Arguments.{live_push, sizes_arguments, sizes_pop, sizes_push, terms_pop, terms_push}
+use Rattle.cq_unify.specs.Listing.{variables_through}
+use Rattle.cq_unify.proofs.Listing.{through_known, through_push}
 use Rattle.cq_unify.proofs.Occurrences.{StandsAmong, among_arguments, Looks, looks_past, looks_push}
 
 -- each of the terms has a size below n
@@ -89,62 +92,69 @@ module _ (met : Type 0) (v : ℕ) (work : List HeapTerm) (t : HeapTerm) (f n : �
     ]))
   ]
 
--- ---- the ids that were visited
+-- ---- the ids that were recorded
 abbrev pub AreVisited : List HeapTerm → Type 0 → ℕ → List ℕ → List ℕ → Type 0
-AreVisited ts met v work visited = All (λ (id : ℕ). IsVisited met v (map (at ts) work) (at ts id)) visited
+AreVisited ts met v work known = All (λ (id : ℕ). IsVisited met v (map (at ts) work) (at ts id)) known
 
-module _ (ts : List HeapTerm) (met : Type 0) (v : ℕ) (old work : List ℕ) (id : ℕ) (is : old ≡ work ++ id ∷ []) (visited : List ℕ) (all : AreVisited ts met v old visited) where
+module _ (ts : List HeapTerm) (met : Type 0) (v : ℕ) (old work : List ℕ) (id : ℕ) (is : old ≡ work ++ id ∷ []) (before : Visits) (all : AreVisited ts met v old before.known) where
   read_pop : (u : HeapTerm) → IsVisited met v (map (at ts) old) u → IsVisited met v (map (at ts) work ++ at ts id ∷ []) u
   read_pop u h = subst (λ us. IsVisited met v us u) (terms_pop ts old work id is) h
 
-  pub all_past : (now : Type 0) → (met → now) → (Occurs v (at ts id) → now) → AreVisited ts now v work visited
-  all_past now stays here k d lt = visited_past met now v (map (at ts) work) (at ts id) (at ts (get_or visited k d)) stays here (read_pop (at ts (get_or visited k d)) (all k d lt))
+  pub all_past : (now : Type 0) → (met → now) → (Occurs v (at ts id) → now) → AreVisited ts now v work before.known
+  all_past now stays here k d lt = visited_past met now v (map (at ts) work) (at ts id) (at ts (get_or before.known k d)) stays here (read_pop (at ts (get_or before.known k d)) (all k d lt))
 
-  pub met_before : Contains visited id → Occurs v (at ts id) → met
-  met_before known o =
-      let again = All-contains (λ (i : ℕ). IsVisited met v (map (at ts) old) (at ts i)) visited id all known in
-      visited_again met v (map (at ts) work) (at ts id) (read_pop (at ts id) again) o
+  pub met_before : IsGround (at ts id) ⊎ Contains before.known id → Occurs v (at ts id) → met
+  met_before passed o = elim passed [
+    | inl none ↦ absurd (none v o)
+    | inr known ↦ visited_again met v (map (at ts) work) (at ts id) (read_pop (at ts id) (All-contains (λ (i : ℕ). IsVisited met v (map (at ts) old) (at ts i)) before.known id all known)) o
+  ]
 
   module _ (f n : ℕ) (shown : view_of (at ts id) ≡ view.Compound f n) (new : List ℕ) where
-    all_push : PushesArguments ts (at ts id) 0 work new → AreVisited ts met v new (visited ++ id ∷ [])
-    all_push pushes =
-        All-push (λ (i : ℕ). IsVisited met v (map (at ts) new) (at ts i)) visited id
-        (λ k d lt. read_push (at ts (get_or visited k d)) (visited_spread met v (map (at ts) work) (at ts id) f n shown (at ts (get_or visited k d)) (read_pop (at ts (get_or visited k d)) (all k d lt))))
-        (read_push (at ts id) (visited_first met v (map (at ts) work) (at ts id) f n shown))
-      where
-        read_push : (u : HeapTerm) → IsVisited met v (map (at ts) work ++ reverse (arguments (at ts id))) u → IsVisited met v (map (at ts) new) u
-        read_push u h = subst (λ us. IsVisited met v us u) (sym (terms_push ts (at ts id) work new pushes)) h
+    module _ (pushes : PushesArguments ts (at ts id) 0 work new) where
+      read_push : (u : HeapTerm) → IsVisited met v (map (at ts) work ++ reverse (arguments (at ts id))) u → IsVisited met v (map (at ts) new) u
+      read_push u h = subst (λ us. IsVisited met v us u) (sym (terms_push ts (at ts id) work new pushes)) h
 
-    pub all_visit : (more : List ℕ) → VisitsArguments ts id visited more work new → AreVisited ts met v new more
-    all_visit more visits = elim visits [
-      | inl k ↦ (let same : AreVisited ts met v work more = subst (AreVisited ts met v work) (sym k.1) (all_past met (λ m. m) (met_before k.0)) in subst (λ (ids : List ℕ). AreVisited ts met v ids more) (sym k.2) same)
-      | inr k ↦ subst (AreVisited ts met v new) (sym k.1) (all_push k.2)
+      all_spread : AreVisited ts met v new before.known
+      all_spread k d lt = read_push (at ts (get_or before.known k d)) (visited_spread met v (map (at ts) work) (at ts id) f n shown (at ts (get_or before.known k d)) (read_pop (at ts (get_or before.known k d)) (all k d lt)))
+
+      all_record : AreVisited ts met v new (before.known ++ id ∷ [])
+      all_record =
+          All-push (λ (i : ℕ). IsVisited met v (map (at ts) new) (at ts i)) before.known id all_spread
+          (read_push (at ts id) (visited_first met v (map (at ts) work) (at ts id) f n shown))
+
+    pub all_visit : (after : Visits) → VisitsArguments ts id before after work new → AreVisited ts met v new after.known
+    all_visit after visits = elim visits [
+      | inl k ↦ subst (λ (ids : List ℕ). AreVisited ts met v ids after.known) (sym k.2) (subst (λ (w : Visits). AreVisited ts met v work w.known) (sym k.1) (all_past met (λ m. m) (met_before k.0)))
+      | inr k ↦ elim k.0 [
+        | inl first ↦ subst (AreVisited ts met v new) (sym first.1) (all_spread k.1)
+        | inr later ↦ subst (AreVisited ts met v new) (sym later.2) (all_record k.1)
+      ]
     ]
 
 -- the work gets smaller, whether the arguments are added or not
-pub sizes_visit : (ts : List HeapTerm) (old work new visited more : List ℕ) (id f n : ℕ) → old ≡ work ++ id ∷ [] → view_of (at ts id) ≡ view.Compound f n → VisitsArguments ts id visited more work new →
+pub sizes_visit : (ts : List HeapTerm) (old work new : List ℕ) (before after : Visits) (id f n : ℕ) → old ≡ work ++ id ∷ [] → view_of (at ts id) ≡ view.Compound f n → VisitsArguments ts id before after work new →
     sum_by size (map (at ts) new) < sum_by size (map (at ts) old)
-sizes_visit ts old work new visited more id f n is shown visits = elim visits [
+sizes_visit ts old work new before after id f n is shown visits = elim visits [
   | inl k ↦ subst (λ (ids : List ℕ). sum_by size (map (at ts) ids) < sum_by size (map (at ts) old)) (sym k.2) (sizes_pop ts old work id is)
-  | inr k ↦ sizes_push ts old work new id f n is shown k.2
+  | inr k ↦ sizes_push ts old work new id f n is shown k.1
 ]
 
-pub looks_visit : (ts : List HeapTerm) (v : ℕ) (t : HeapTerm) (old work new visited more : List ℕ) (id f n : ℕ) → old ≡ work ++ id ∷ [] → view_of (at ts id) ≡ view.Compound f n → VisitsArguments ts id visited more work new →
-    AreVisited ts ⊥ v old visited → Looks ts v t old → Looks ts v t new
-looks_visit ts v t old work new visited more id f n is shown visits all looks = elim visits [
-  | inl k ↦ subst (λ (ids : List ℕ). Looks ts v t ids) (sym k.2) (looks_past ts v t old work id is looks (met_before ts ⊥ v old work id is visited all k.0))
-  | inr k ↦ looks_push ts v t old work id is looks f n shown new k.2
+pub looks_visit : (ts : List HeapTerm) (v : ℕ) (t : HeapTerm) (old work new : List ℕ) (before after : Visits) (id f n : ℕ) → old ≡ work ++ id ∷ [] → view_of (at ts id) ≡ view.Compound f n → VisitsArguments ts id before after work new →
+    AreVisited ts ⊥ v old before.known → Looks ts v t old → Looks ts v t new
+looks_visit ts v t old work new before after id f n is shown visits all looks = elim visits [
+  | inl k ↦ subst (λ (ids : List ℕ). Looks ts v t ids) (sym k.2) (looks_past ts v t old work id is looks (met_before ts ⊥ v old work id is before all k.0))
+  | inr k ↦ looks_push ts v t old work id is looks f n shown new k.1
 ]
 
-pub through_visits : (ts : List HeapTerm) (vs old work new visited more : List ℕ) (id f n : ℕ) → old ≡ work ++ id ∷ [] → view_of (at ts id) ≡ view.Compound f n → VisitsArguments ts id visited more work new →
-    ((v : ℕ) → AreVisited ts (Contains vs v) v old visited) → variables_through vs (map (at ts) new) ≡ variables_through vs (map (at ts) old)
-through_visits ts vs old work new visited more id f n is shown visits all = elim visits [
-  | inl k ↦ ap (λ (ids : List ℕ). variables_through vs (map (at ts) ids)) k.2 ∙ through_known ts vs old work id is (λ v. met_before ts (Contains vs v) v old work id is visited (all v) k.0)
-  | inr k ↦ through_push ts vs old work new id f n is shown k.2
+pub through_visits : (ts : List HeapTerm) (vs old work new : List ℕ) (before after : Visits) (id f n : ℕ) → old ≡ work ++ id ∷ [] → view_of (at ts id) ≡ view.Compound f n → VisitsArguments ts id before after work new →
+    ((v : ℕ) → AreVisited ts (Contains vs v) v old before.known) → variables_through vs (map (at ts) new) ≡ variables_through vs (map (at ts) old)
+through_visits ts vs old work new before after id f n is shown visits all = elim visits [
+  | inl k ↦ ap (λ (ids : List ℕ). variables_through vs (map (at ts) ids)) k.2 ∙ through_known ts vs old work id is (λ v. met_before ts (Contains vs v) v old work id is before (all v) k.0)
+  | inr k ↦ through_push ts vs old work new id f n is shown k.1
 ]
 
-pub live_visit : (ts : List HeapTerm) (work new visited more : List ℕ) (id : ℕ) → VisitsArguments ts id visited more work new → All (λ (i : ℕ). i < length ts) work → All (λ (i : ℕ). i < length ts) new
-live_visit ts work new visited more id visits live = elim visits [
+pub live_visit : (ts : List HeapTerm) (work new : List ℕ) (before after : Visits) (id : ℕ) → VisitsArguments ts id before after work new → All (λ (i : ℕ). i < length ts) work → All (λ (i : ℕ). i < length ts) new
+live_visit ts work new before after id visits live = elim visits [
   | inl k ↦ All-same (λ (i : ℕ). i < length ts) new work k.2 live
-  | inr k ↦ live_push ts (at ts id) work new live k.2
+  | inr k ↦ live_push ts (at ts id) work new live k.1
 ]

@@ -1,12 +1,8 @@
--- What a copy leaves as it was, and what is new.
-use Rattle.std.specs.Prelude.{◌≡◌, ℕ, List, ◌++◌, map}
+-- What is new in a copy.
+use Rattle.std.specs.Prelude.{ℕ, List, map}
 use Rattle.spec_terms.specs.Term.{Var, Occurs}
 use Rattle.spec_terms.specs.Variables.{counted_from}
 use Rattle.cq_term.specs.Meaning.{HeapTerm}
-
--- what stands in the old list stands in the new one at the same places
-abbrev pub IsPrefix : List HeapTerm → List HeapTerm → Type 0
-IsPrefix old new = (more : List HeapTerm) × (new ≡ old ++ more)
 
 -- so many variables that are unbound, numbered from n on
 abbrev pub unbound_from : ℕ → ℕ → List HeapTerm

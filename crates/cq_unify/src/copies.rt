@@ -5,8 +5,9 @@ ghost use Rattle.spec_terms.specs.Term.{Subst, apply, size};
 ghost use Rattle.spec_terms.specs.Variables.{variables as variables_of_term, renamed_from};
 ghost use Rattle.cq_term.specs.Meaning.{HeapTerm, at};
 ghost use Rattle.cq_term.specs.Shown.{arguments};
-ghost use Rattle.cq_unify.specs.Listing.{numbers_of, place_of};
-ghost use Rattle.cq_unify.specs.Copied.{IsPrefix, ShareNoVariable, unbound_from};
+ghost use Rattle.cq_walk.specs.Places.{numbers_of, place_of};
+ghost use Rattle.spec_lists.specs.Prefixes.{IsPrefix};
+ghost use Rattle.cq_unify.specs.Copied.{ShareNoVariable, unbound_from};
 ghost use Rattle.cq_unify.specs.Copying.{IsRenaming, image_of, Leads, PushesVisits, with_compound, work_left};
 ghost use Rattle.cq_unify.specs.declared.copies.Step.TheVariants.{Visit};
 
@@ -34,7 +35,8 @@ enum Step {
 }
 
 /// A copy of a term read through bindings: its variables are replaced by new ones, numbered in the order of their
-/// first occurrences from left to right. Numbers and names are shared with the old term. An error is want of memory.
+/// first occurrences from left to right. Parts that are known to have no variable are shared with the old term, which is
+/// its own copy where it has none. An error is want of memory.
 pub fn copy(heap: &mut Heap, term: TermId) -> Result<TermId, AllocError>
     requires { term < length heap.old.now.terms }
     ensures live { IfOk result (λ id. id < length heap.new.now.terms) }
@@ -49,6 +51,9 @@ pub fn copy(heap: &mut Heap, term: TermId) -> Result<TermId, AllocError>
     ensures saved { heap.new.saved ≡ heap.old.saved }
     ensures room { heap.old.room ≤ heap.new.room }
 {
+    if heap.is_ground(term) {
+        return Ok(term);
+    }
     let m = heap.mark()?;
     match renamed(heap, term) {
         Ok(id) => {
@@ -128,8 +133,8 @@ fn rebuild(heap: &mut Heap, renaming: &Renaming, term: TermId) -> Result<TermId,
     Ok(built.pop().unwrap())
 }
 
-/// Adds what takes the place of a variable, or a number or a name as it is; for a compound it adds its arguments to
-/// the work, and behind them the step that builds the copy over theirs.
+/// Adds what takes the place of a variable, or a term that is known to have none as it is; for another compound it adds
+/// its arguments to the work, and behind them the step that builds the copy over theirs.
 fn visit(
     heap: &Heap,
     renaming: &Renaming,
@@ -141,6 +146,10 @@ fn visit(
     ensures leads { OnOk result ((s : Subst ℕ) (t : HeapTerm) → Leads s t heap.now.now.terms renaming.now (work.old.items ++ Visit id ∷ []) built.old.items → Leads s t heap.now.now.terms renaming.now work.new.items built.new.items) }
     ensures less { OnOk result (work_left heap.now.now.terms work.new.items < work_left heap.now.now.terms work.old.items + 2 * size (at heap.now.now.terms id)) }
 {
+    if heap.is_ground(id) {
+        built.push(id)?;
+        return Ok(());
+    }
     match heap.view(id) {
         View::Var(variable) => built.push(renaming.image(variable))?,
         View::Number(_) | View::Name(_) => built.push(id)?,

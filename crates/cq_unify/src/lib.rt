@@ -1,7 +1,6 @@
 //! Calls over whole terms of a heap: unification, copies, and lists of variables.
 #![tactic(auto)]
 
-mod arguments;
 mod copies;
 mod occurs;
 mod pairs;

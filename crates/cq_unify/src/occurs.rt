@@ -4,18 +4,32 @@ ghost use Rattle.std.specs.Prelude.{◌<◌, ◌↔◌, length, IsTrue, IfOk};
 ghost use Rattle.spec_terms.specs.Term.{Occurs};
 ghost use Rattle.cq_term.specs.Meaning.{at};
 
-use crate::arguments::visit_arguments;
 use cq_frac::VarId;
 use cq_term::{Heap, TermId, View};
-use indexmap::IndexSet;
+use cq_walk::Visited;
 use std::alloc::AllocError;
 
-/// Whether an unbound variable stands in a term.
+/// Whether an unbound variable stands in a term. Without a compound that may have variables this takes no memory.
 pub(crate) fn occurs(heap: &Heap, variable: VarId, term: TermId) -> Result<bool, AllocError>
     requires { term < length heap.now.now.terms }
     ensures { IfOk result (λ found. IsTrue found ↔ Occurs variable.0 (at heap.now.now.terms term)) }
 {
-    let mut visited = IndexSet::new(heap.alloc());
+    if heap.is_ground(term) {
+        return Ok(false);
+    }
+    match heap.view(term) {
+        View::Var(shown) => Ok(shown.0 == variable.0),
+        View::Number(_) | View::Name(_) => Ok(false),
+        View::Compound(_, _) => occurs_inside(heap, variable, term),
+    }
+}
+
+/// The same by a walk.
+fn occurs_inside(heap: &Heap, variable: VarId, term: TermId) -> Result<bool, AllocError>
+    requires { term < length heap.now.now.terms }
+    ensures { IfOk result (λ found. IsTrue found ↔ Occurs variable.0 (at heap.now.now.terms term)) }
+{
+    let mut visited = Visited::new(heap.alloc());
     let mut work = vec![in heap.alloc(); term]?;
     while let Some(id) = work.pop() {
         match heap.view(id) {
@@ -25,9 +39,7 @@ pub(crate) fn occurs(heap: &Heap, variable: VarId, term: TermId) -> Result<bool,
                 }
             }
             View::Number(_) | View::Name(_) => {}
-            View::Compound(_, arity) => {
-                visit_arguments(heap, id, arity, &mut visited, &mut work)?;
-            }
+            View::Compound(_, arity) => visited.visit(heap, id, arity, &mut work)?,
         }
     }
     Ok(false)

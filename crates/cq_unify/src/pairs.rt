@@ -1,24 +1,17 @@
 // Pairs of terms that are still to be made equal, and the comparison of two terms at their heads.
 
-ghost use Rattle.std.specs.Prelude.{◌≡◌, ◌<◌, length, All, IfOk, OnOk, if◌then◌else◌};
-ghost use Rattle.cq_term.specs.Meaning.{at};
-ghost use Rattle.cq_term.specs.Shown.{arguments};
-ghost use Rattle.cq_unify.specs.Work.{IsLive, Compared, Narrowed, PushesPairs};
+ghost use Rattle.std.specs.Prelude.{◌≡◌, ◌<◌, length, All, IfOk, if◌then◌else◌};
+ghost use Rattle.cq_walk.specs.Pairs.{IsLive};
+ghost use Rattle.cq_unify.specs.Work.{Demands, Narrowed};
 
 use cq_frac::VarId;
 use cq_term::{Heap, TermId, View};
+use cq_walk::{Pair, push_pairs};
 use std::alloc::AllocError;
-
-/// Two terms that are to be made equal.
-#[derive(Clone, Copy, Debug)]
-pub(crate) struct Pair {
-    pub left: TermId,
-    pub right: TermId,
-}
 
 /// What it takes to make two terms equal, by their heads.
 #[derive(Clone, Copy, Debug)]
-pub(crate) enum Heads {
+pub(crate) enum Demand {
     /// Nothing: they are equal.
     Same,
     /// Nothing makes them equal.
@@ -47,87 +40,66 @@ pub(crate) fn next(heap: &Heap, work: &mut Vec<Pair>) -> Result<Step, AllocError
     ensures { IfOk result (Narrowed heap.now.now work.old.items work.new.items) }
 {
     while let Some(pair) = work.pop() {
-        match compare(heap, pair.left, pair.right) {
-            Heads::Same => {}
-            Heads::Clash => return Ok(Step::Clash),
-            Heads::Bind(variable, term) => return Ok(Step::Bind(variable, term)),
-            Heads::Arguments(arity) => push_pairs(heap, pair.left, pair.right, arity, work)?,
+        match demand_of(heap, pair.left, pair.right) {
+            Demand::Same => {}
+            Demand::Clash => return Ok(Step::Clash),
+            Demand::Bind(variable, term) => return Ok(Step::Bind(variable, term)),
+            Demand::Arguments(arity) => push_pairs(heap, pair.left, pair.right, arity, work)?,
         }
     }
     Ok(Step::Done)
 }
 
-/// Of two variables the younger is to be bound.
-fn compare(heap: &Heap, left: TermId, right: TermId) -> Heads
+/// Terms that share an id are equal, and are not looked into. Of two variables the younger is to be bound.
+pub(crate) fn demand_of(heap: &Heap, left: TermId, right: TermId) -> Demand
     requires left { left < length heap.now.now.terms }
     requires right { right < length heap.now.now.terms }
-    ensures { Compared heap.now.now left right result }
+    ensures { Demands heap.now.now left right result }
 {
+    if left == right {
+        return Demand::Same;
+    }
     let shown = heap.view(right);
     match heap.view(left) {
         View::Var(v) => match shown {
             View::Var(w) => {
                 if v.0 < w.0 {
-                    Heads::Bind(w, left)
+                    Demand::Bind(w, left)
                 } else if w.0 < v.0 {
-                    Heads::Bind(v, right)
+                    Demand::Bind(v, right)
                 } else {
-                    Heads::Same
+                    Demand::Same
                 }
             }
-            _ => Heads::Bind(v, right),
+            _ => Demand::Bind(v, right),
         },
         View::Number(m) => match shown {
-            View::Var(w) => Heads::Bind(w, left),
+            View::Var(w) => Demand::Bind(w, left),
             View::Number(n) => same_or_clash(m == n),
-            _ => Heads::Clash,
+            _ => Demand::Clash,
         },
         View::Name(a) => match shown {
-            View::Var(w) => Heads::Bind(w, left),
+            View::Var(w) => Demand::Bind(w, left),
             View::Name(b) => same_or_clash(a == b),
-            _ => Heads::Clash,
+            _ => Demand::Clash,
         },
         View::Compound(f, n) => match shown {
-            View::Var(w) => Heads::Bind(w, left),
+            View::Var(w) => Demand::Bind(w, left),
             View::Compound(g, m) => {
                 if f == g && n == m {
-                    Heads::Arguments(n)
+                    Demand::Arguments(n)
                 } else {
-                    Heads::Clash
+                    Demand::Clash
                 }
             }
-            _ => Heads::Clash,
+            _ => Demand::Clash,
         },
     }
 }
 
 /// What it takes where the heads are constants.
-fn same_or_clash(same: bool) -> Heads
-    ensures { result ≡ (if same then Heads.Same else Heads.Clash) }
+fn same_or_clash(same: bool) -> Demand
+    ensures { result ≡ (if same then Demand.Same else Demand.Clash) }
 {
-    if same { Heads::Same } else { Heads::Clash }
-}
-
-/// Adds the pairs of the arguments of two compounds, the last one first, so that the first is taken first.
-fn push_pairs(
-    heap: &Heap,
-    left: TermId,
-    right: TermId,
-    arity: usize,
-    work: &mut Vec<Pair>,
-) -> Result<(), AllocError>
-    requires left { left < length heap.now.now.terms }
-    requires right { right < length heap.now.now.terms }
-    requires left_arity { length (arguments (at heap.now.now.terms left)) ≡ arity }
-    requires right_arity { length (arguments (at heap.now.now.terms right)) ≡ arity }
-    ensures { OnOk result (PushesPairs heap.now.now.terms left right 0 work.old.items work.new.items) }
-{
-    for i in (0..arity).rev() {
-        let pair = Pair {
-            left: heap.arg(left, i),
-            right: heap.arg(right, i),
-        };
-        work.push(pair)?;
-    }
-    Ok(())
+    if same { Demand::Same } else { Demand::Clash }
 }

@@ -4,11 +4,11 @@ ghost use Rattle.std.specs.Prelude.{◌≡◌, ◌<◌, length, All, IfOk};
 ghost use Rattle.spec_terms.specs.Variables.{variables as variables_of_term};
 ghost use Rattle.cq_term.specs.Meaning.{at};
 ghost use Rattle.cq_term.specs.Shown.{IsUnbound};
-ghost use Rattle.cq_unify.specs.Listing.{numbers_of};
+ghost use Rattle.cq_walk.specs.Places.{numbers_of};
 
-use crate::arguments::visit_arguments;
 use cq_frac::VarId;
 use cq_term::{Heap, TermId, View};
+use cq_walk::Visited;
 use indexmap::IndexSet;
 use std::alloc::AllocError;
 
@@ -30,7 +30,10 @@ pub(crate) fn variables(heap: &Heap, term: TermId) -> Result<IndexSet<VarId>, Al
     ensures unbound { IfOk result (λ found. All (λ v. IsUnbound heap.now.now.images v.0) found.keys) }
 {
     let mut found = IndexSet::new(heap.alloc());
-    let mut visited = IndexSet::new(heap.alloc());
+    if heap.is_ground(term) {
+        return Ok(found);
+    }
+    let mut visited = Visited::new(heap.alloc());
     let mut work = vec![in heap.alloc(); term]?;
     while let Some(id) = work.pop() {
         match heap.view(id) {
@@ -38,9 +41,7 @@ pub(crate) fn variables(heap: &Heap, term: TermId) -> Result<IndexSet<VarId>, Al
                 found.insert(variable)?;
             }
             View::Number(_) | View::Name(_) => {}
-            View::Compound(_, arity) => {
-                visit_arguments(heap, id, arity, &mut visited, &mut work)?;
-            }
+            View::Compound(_, arity) => visited.visit(heap, id, arity, &mut work)?,
         }
     }
     Ok(found)

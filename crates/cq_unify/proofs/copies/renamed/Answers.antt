@@ -2,12 +2,12 @@ use Rattle.std.proofs.Common.{◌≡◌, ◌∙◌, ap, sym, length, map, List}
 use Rattle.std.proofs.lemmas.Result.{IfOk-weaker}
 use Rattle.spec_terms.specs.Variables.{variables as variables_of_term, renamed_from}
 use Rattle.spec_terms.specs.Term.{apply}
-use Rattle.cq_term.specs.Meaning.{HeapTerm, at}
+use Rattle.cq_term.specs.Meaning.{HeapTerm, at, blank}
 use Rattle.cq_unify.specs.declared.copies.Renaming.{Renaming}
-use Rattle.cq_unify.specs.Listing.{numbers_of}
+use Rattle.cq_walk.specs.Places.{numbers_of}
 use Rattle.cq_unify.specs.Copied.{unbound_from}
 use Rattle.cq_unify.specs.Copying.{image_of}
-use Rattle.cq_unify.proofs.Places.{prefix_at, prefix_both}
+use Rattle.spec_lists.proofs.Prefixes.{prefix_get_or, prefix_both}
 use Rattle.cq_unify.proofs.Renamed.{is_renaming, renamed_by, renamed_apart}
 use Rattle.cq_unify.proofs.copies.renamed.Goals as goal
 use Rattle.cq_unify.proofs.copies.renamed.Goals.{In_ok-images}
@@ -23,7 +23,7 @@ module _ (c : In_ok-images) where
   renaming = record { originals = c.in_ok-originals.originals; images = c.in_ok-images.images }
 
   same : at now c.args.term ≡ at older c.args.term
-  same = prefix_at older now c.args.term c.in_ok-images.ensures.terms c.requires
+  same = prefix_get_or older now c.args.term blank c.in_ok-images.ensures.terms c.requires
 
   listed : numbers_of renaming.originals.keys ≡ variables_of_term (at now c.args.term)
   listed = c.in_ok-originals.ensures.variables ∙ ap variables_of_term (sym same)

@@ -1,11 +1,12 @@
 use Rattle.std.proofs.Common.{sym, ◌∙◌}
 use Rattle.cq_term.specs.Meaning.{at}
 use Rattle.cq_term.proofs.Arguments.{length-arguments}
-use Rattle.cq_unify.proofs.Equations.{weight_less, remains_same, remains_spread, spread_less, remains_clash, remains_bind, equates_none}
+use Rattle.cq_walk.proofs.SideBySide.{pop_less, push_less}
+use Rattle.cq_unify.proofs.Equations.{remains_same, remains_spread, remains_clash, remains_bind, equates_none}
 use Rattle.cq_unify.proofs.pairs.next.Goals as goal
 
 pub loop-pair-smaller-in-Same : goal.loop-pair-smaller-in-Same
-loop-pair-smaller-in-Same c = weight_less c.args.heap.now.now.terms c.loop-pair.work.items c.pop.new.self.items c.in-Some.pair c.in-Some.ensures.items
+loop-pair-smaller-in-Same c = pop_less c.args.heap.now.now.terms c.loop-pair.work.items c.pop.new.self.items c.in-Some.pair c.in-Some.ensures.items
 
 pub loop-pair-preserved-in-Same : goal.loop-pair-preserved-in-Same
 loop-pair-preserved-in-Same c = remains_same c.args.heap.now.now c.args.work.now.items c.loop-pair.work.items c.pop.new.self.items c.in-Some.pair c.in-Some.ensures.items c.loop-pair.invariant c.in-Same.ensures
@@ -23,7 +24,9 @@ pub push_pairs-requires-clause-right_arity : goal.push_pairs-requires-clause-rig
 push_pairs-requires-clause-right_arity c = length-arguments (at c.args.heap.now.now.terms c.in-Some.pair.right) c.in-Arguments.ensures.0 c.in-Arguments.arity c.in-Arguments.ensures.2
 
 pub loop-pair-smaller : goal.loop-pair-smaller
-loop-pair-smaller c = spread_less c.args.heap.now.now c.args.work.now.items c.loop-pair.work.items c.pop.new.self.items c.in-Some.pair c.in-Some.ensures.items c.loop-pair.invariant c.in-Arguments.arity c.push_pairs.new.work.items c.in-Arguments.ensures c.in_ok-push_pairs-in-Arguments.ensures
+loop-pair-smaller c =
+    push_less c.args.heap.now.now.terms c.loop-pair.work.items c.pop.new.self.items c.in-Some.pair c.in-Some.ensures.items c.push_pairs.new.work.items c.in_ok-push_pairs-in-Arguments.ensures
+    c.in-Arguments.ensures.0 c.in-Arguments.arity c.in-Arguments.ensures.1
 
 pub loop-pair-preserved : goal.loop-pair-preserved
 loop-pair-preserved c = remains_spread c.args.heap.now.now c.args.work.now.items c.loop-pair.work.items c.pop.new.self.items c.in-Some.pair c.in-Some.ensures.items c.loop-pair.invariant c.in-Arguments.arity c.push_pairs.new.work.items c.in-Arguments.ensures c.in_ok-push_pairs-in-Arguments.ensures

@@ -1,4 +1,5 @@
-use Rattle.cq_unify.proofs.Equations.{Remains, weight}
+use Rattle.cq_walk.proofs.SideBySide.{weight}
+use Rattle.cq_unify.proofs.Equations.{Remains}
 use Rattle.cq_unify.proofs.pairs.next.Given as goal
 
 abbrev pub invariant-loop-pair : goal.invariant-loop-pair

@@ -1,4 +1,4 @@
-use Rattle.std.proofs.Common.{rules}
+use Rattle.std.proofs.Common.{Ok, ap}
 use Rattle.cq_unify.proofs.Progress.{solving_start, solving_bind, solving_done, solving_clash, solving_occurs}
 use Rattle.cq_unify.proofs.Unbound.{fewer_unbound}
 use Rattle.cq_unify.proofs.unification.solve.Goals as goal
@@ -12,19 +12,23 @@ returns-in-Done-clause-unified c = λ _. solving_done c.args.heap.now c.bindings
 pub returns-in-Clash-clause-none : goal.returns-in-Clash-clause-none
 returns-in-Clash-clause-none c = λ _. solving_clash c.args.heap.now c.bindings.heap c.args.a c.args.b c.args.newly.now c.bindings.newly c.bindings.work.items c.next.new.work.items c.bindings.invariant (rw c.in-Clash.is at c.in_ok-next.ensures)
 
-pub returns-then-branch-clause-none : goal.returns-then-branch-clause-none
-returns-then-branch-clause-none c = λ _.
+pub bind_apart-requires : goal.bind_apart-requires
+bind_apart-requires c = (rw c.in-Bind.is at c.in_ok-next.ensures).0
+
+pub returns-then-not-is_bound-clause-none : goal.returns-then-not-is_bound-clause-none
+returns-then-not-is_bound-clause-none c = λ _.
     solving_occurs c.args.heap.now c.bindings.heap c.args.a c.args.b c.args.newly.now c.bindings.newly c.bindings.work.items c.next.new.work.items c.bindings.invariant
-    c.in-Bind.variable c.in-Bind.term (rw c.in-Bind.is at c.in_ok-next.ensures) (c.in_ok-occurs-in-Bind.ensures.0 (rw c.if-branch.true (search rules)))
+    c.in-Bind.variable c.in-Bind.term (rw c.in-Bind.is at c.in_ok-next.ensures) (c.in_ok-is_bound-in-Bind.ensures.inside (ap Ok c.if-not-is_bound.true))
 
 pub bindings-smaller : goal.bindings-smaller
 bindings-smaller c =
     let narrowed = rw c.in-Bind.is at c.in_ok-next.ensures in
-    rw c.in_ok-bind-in-Bind.ensures.images (fewer_unbound c.bindings.heap.now c.in-Bind.variable c.in-Bind.term narrowed.0)
+    let bound = c.in_ok-is_bound-in-Bind.ensures.bound (ap Ok c.if-not-is_bound.false) in
+    rw bound.images (fewer_unbound c.bindings.heap.now c.in-Bind.variable c.in-Bind.term narrowed.0)
 
 pub bindings-preserved : goal.bindings-preserved
 bindings-preserved c =
     solving_bind c.args.heap.now c.bindings.heap c.args.a c.args.b c.args.newly.now c.bindings.newly c.bindings.work.items c.next.new.work.items c.bindings.invariant
-    c.in-Bind.variable c.in-Bind.term c.bind.new.self c.push.new.self (rw c.in-Bind.is at c.in_ok-next.ensures)
-    (λ inside. let found = rw c.if-branch.false at (c.in_ok-occurs-in-Bind.ensures.1 inside) in cc)
-    c.in_ok-bind-in-Bind.ensures.terms c.in_ok-bind-in-Bind.ensures.images c.bind.ensures.saved c.bind.ensures.room c.in_ok-push-in-Bind.ensures.ok
+    c.in-Bind.variable c.in-Bind.term c.bind_apart.new.heap c.bind_apart.new.newly (rw c.in-Bind.is at c.in_ok-next.ensures)
+    (c.in_ok-is_bound-in-Bind.ensures.bound (ap Ok c.if-not-is_bound.false)) c.bind_apart.ensures.saved c.bind_apart.ensures.room
+    (c.in_ok-is_bound-in-Bind.ensures.told (ap Ok c.if-not-is_bound.false))

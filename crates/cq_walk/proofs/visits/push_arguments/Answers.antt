@@ -1,7 +1,7 @@
 use Rattle.std.proofs.Common.{◌-◌, arith}
 use Rattle.cq_term.specs.Meaning.{at}
-use Rattle.cq_unify.proofs.Listing.{pushes_more}
-use Rattle.cq_unify.proofs.arguments.push_arguments.Goals as goal
+use Rattle.cq_walk.proofs.Arguments.{pushes_more}
+use Rattle.cq_walk.proofs.visits.push_arguments.Goals as goal
 
 pub loop-i-preserved : goal.loop-i-preserved
 loop-i-preserved c =

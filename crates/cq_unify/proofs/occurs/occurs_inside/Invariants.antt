@@ -4,12 +4,12 @@ use Rattle.spec_terms.specs.Term.{size}
 use Rattle.cq_term.specs.Meaning.{at}
 use Rattle.cq_unify.proofs.Occurrences.{Looks}
 use Rattle.cq_unify.proofs.Visited.{AreVisited}
-use Rattle.cq_unify.proofs.occurs.occurs.Given as goal
+use Rattle.cq_unify.proofs.occurs.occurs_inside.Given as goal
 
 abbrev pub invariant-loop-id : goal.invariant-loop-id
 invariant-loop-id l = record {
   looks : Looks l.heap.now.terms l.variable.0 (at l.heap.now.terms l.fn.term) l.work.items;
-  visited : AreVisited l.heap.now.terms ⊥ l.variable.0 l.work.items l.visited.keys;
+  visited : AreVisited l.heap.now.terms ⊥ l.variable.0 l.work.items l.visited.known;
 }
 
 abbrev pub decreases-loop-id : goal.decreases-loop-id

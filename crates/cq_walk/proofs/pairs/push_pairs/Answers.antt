@@ -1,9 +1,9 @@
-use Rattle.std.proofs.Common.{◌-◌, arith, sym, append-nil}
-use Rattle.cq_unify.proofs.Equations.{pushes_none, pushes_more}
-use Rattle.cq_unify.proofs.pairs.push_pairs.Goals as goal
+use Rattle.std.proofs.Common.{◌-◌, arith}
+use Rattle.cq_walk.proofs.SideBySide.{pushes_none, pushes_more}
+use Rattle.cq_walk.proofs.pairs.push_pairs.Goals as goal
 
 pub loop-i-init : goal.loop-i-init
-loop-i-init c = pushes_none c.args.heap.now.now.terms c.args.left c.args.right c.args.arity c.args.work.now.items (omega arith) (sym (append-nil c.args.work.now.items))
+loop-i-init c = pushes_none c.args.heap.now.now.terms c.args.left c.args.right c.args.arity c.args.work.now.items (omega arith)
 
 pub loop-i-preserved : goal.loop-i-preserved
 loop-i-preserved c =

@@ -1,5 +1,5 @@
-use Rattle.cq_unify.specs.Work.{PushesPairs}
-use Rattle.cq_unify.proofs.pairs.push_pairs.Given as goal
+use Rattle.cq_walk.specs.Pairs.{PushesPairs}
+use Rattle.cq_walk.proofs.pairs.push_pairs.Given as goal
 
 abbrev pub invariant-loop-i : goal.invariant-loop-i
 invariant-loop-i l = PushesPairs l.heap.now.terms l.left l.right l.i l.fn.work.items l.work.items

@@ -1,0 +1,4 @@
+pub mod Arguments
+pub mod Ground
+pub mod SideBySide
+pub mod Places

@@ -1,0 +1,4 @@
+pub mod Arguments
+pub mod Pairs
+pub mod Places
+pub mod Visits
