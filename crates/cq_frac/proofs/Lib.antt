@@ -1,5 +1,5 @@
 pub mod View
-pub mod Quotients
+pub mod Wide
 pub mod Parts
 pub mod Products
 pub mod Sums

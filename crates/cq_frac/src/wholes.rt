@@ -12,7 +12,13 @@ pub(crate) const LIMIT: u128 = 0x7fff_ffff_ffff_ffff_ffff_ffff_ffff_ffff;
 
 const MAX_64: u128 = 0xffff_ffff_ffff_ffff;
 
-/// The greatest common divisor, by halving and subtracting (Stein 1967), which takes no division.
+const BASE: u128 = 0x1_0000_0000_0000_0000;
+
+/// How many bits apart two numbers are where one remainder takes less time than halving.
+const FAR: u32 = 8;
+
+/// The greatest common divisor, by halving and subtracting (Stein 1967), after one remainder where the sizes are far
+/// apart.
 pub(crate) fn gcd(a: u128, b: u128) -> u128
     ensures { result ≡ gcd_of a b }
 {
@@ -22,6 +28,23 @@ pub(crate) fn gcd(a: u128, b: u128) -> u128
     if a == 0 {
         return b;
     }
+    if b == 0 {
+        return a;
+    }
+    if a >> FAR > b {
+        return halved_gcd(b, rest(a, b));
+    }
+    if b >> FAR > a {
+        return halved_gcd(a, rest(b, a));
+    }
+    halved_gcd(a, b)
+}
+
+/// The greatest common divisor, by halving and subtracting.
+fn halved_gcd(a: u128, b: u128) -> u128
+    requires { 0 < a }
+    ensures { result ≡ gcd_of a b }
+{
     if b == 0 {
         return a;
     }
@@ -94,6 +117,18 @@ pub(crate) fn part(a: u128, g: u128) -> u128
     }
 }
 
+/// The remainder, in 64 bits where both fit there.
+fn rest(a: u128, b: u128) -> u128
+    requires { 0 < b }
+    ensures { result ≡ a % b }
+{
+    if a <= MAX_64 && b <= MAX_64 {
+        u128::from(a as u64 % b as u64)
+    } else {
+        a % b
+    }
+}
+
 /// The product, where it fits.
 pub(crate) fn fitting(a: u128, b: u128) -> Option<u128>
     ensures { MatchOption result (limit ≤ a * b) (λ p. (p ≡ a * b) × (p < limit)) }
@@ -122,45 +157,43 @@ pub(crate) fn with_sign(negative: bool, size: u128) -> i128
     if negative { -size } else { size }
 }
 
-/// The order of a/b and c/d: by the cross products where they fit, and else by the whole parts and then by
-/// the inverses of what is left.
-pub(crate) fn order(a: u128, b: u128, c: u128, d: u128) -> Ordering
-    requires b_pos { 0 < b }
-    requires d_pos { 0 < d }
-    ensures { result ≡ nat_cmp (a * d) (c * b) }
+/// The upper and the lower half.
+fn halves(a: u128) -> (u64, u64)
+    ensures { result.0 * 2 ^ 64 + result.1 ≡ a }
 {
-    if let Some(left) = a.checked_mul(d)
-        && let Some(right) = c.checked_mul(b)
-    {
-        return left.cmp(&right);
-    }
-    by_wholes(a, b, c, d)
+    ((a / BASE) as u64, (a % BASE) as u64)
 }
 
-fn by_wholes(a: u128, b: u128, c: u128, d: u128) -> Ordering
-    requires b_pos { 0 < b }
-    requires d_pos { 0 < d }
+/// The product of two halves.
+fn product_64(a: u64, b: u64) -> u128
+    ensures value { result ≡ a * b }
+    ensures bound { result ≤ 0xffff_ffff_ffff_ffff * 0xffff_ffff_ffff_ffff }
+{
+    u128::from(a) * u128::from(b)
+}
+
+/// The upper and the lower 128 bits of a product.
+fn wide(a: u128, b: u128) -> (u128, u128)
+    ensures value { result.0 * 2 ^ 128 + result.1 ≡ a * b }
+    ensures low { result.1 < 2 ^ 128 }
+{
+    let (a_high, a_low) = halves(a);
+    let (b_high, b_low) = halves(b);
+    let lowest = product_64(a_low, b_low);
+    let first = product_64(a_high, b_low) + lowest / BASE;
+    let second = product_64(a_low, b_high) + first % BASE;
+    let high = product_64(a_high, b_high) + first / BASE + second / BASE;
+    (high, second % BASE * BASE + lowest % BASE)
+}
+
+/// The order of a/b and c/d, by the cross products.
+pub(crate) fn order(a: u128, b: u128, c: u128, d: u128) -> Ordering
     ensures { result ≡ nat_cmp (a * d) (c * b) }
 {
-    let mut a = a;
-    let mut b = b;
-    let mut c = c;
-    let mut d = d;
-    loop {
-        match (a / b).cmp(&(c / d)) {
-            Ordering::Less => return Ordering::Less,
-            Ordering::Greater => return Ordering::Greater,
-            Ordering::Equal => {}
-        }
-        let left = a % b;
-        let right = c % d;
-        if left == 0 || right == 0 {
-            return left.cmp(&right);
-        }
-        // left / b stands to right / d as d / right to b / left
-        a = d;
-        c = b;
-        b = right;
-        d = left;
+    let left = wide(a, d);
+    let right = wide(c, b);
+    match left.0.cmp(&right.0) {
+        Ordering::Equal => left.1.cmp(&right.1),
+        unequal => unequal,
     }
 }

@@ -1,7 +1,7 @@
-use Rattle.std.proofs.Common.{◌∙◌, sym, ap₂, inl, inr, ◌*◌, ◌^◌}
-use Rattle.std.specs.Int.{w128}
-use Rattle.spec_rational.proofs.Gcd.{gcd-zero, gcd_comm}
-use Rattle.cq_frac.proofs.Halves.{gcd-one, gcd-halved, gcd_fits, shifted}
+use Rattle.std.proofs.Common.{◌∙◌, sym, ap, inl, inr}
+use Rattle.spec_rational.specs.Gcd.{gcd as gcd_of}
+use Rattle.spec_rational.proofs.Gcd.{gcd-zero, gcd_comm, gcd-mod}
+use Rattle.cq_frac.proofs.Halves.{gcd-one}
 use Rattle.cq_frac.proofs.wholes.gcd.Goals as goal
 
 pub returns-then-a-eq1 : goal.returns-then-a-eq1
@@ -13,9 +13,8 @@ returns-then-a-eq0 c = sym (gcd_comm _ _ ∙ gcd-zero _ _ c.if-a-eq0.true)
 pub returns-then-b-eq0 : goal.returns-then-b-eq0
 returns-then-b-eq0 c = sym (gcd-zero _ _ c.if-b-eq0.true)
 
-pub returns : goal.returns
-returns c =
-    shifted w128 c.odd_gcd.result c.min-twos.result _
-    (ap₂ (λ x k. x * 2 ^ k) c.odd_gcd.ensures c.min-twos.ensures
-    ∙ sym (gcd-halved c.args.a c.args.b c.odd_part.result c.odd_part-2.result _ _ c.odd_part.ensures.rest c.odd_part-2.ensures.rest c.odd_part.ensures.odd c.odd_part-2.ensures.odd))
-    (gcd_fits _ _ _ c.if-a-eq0.false c.ranges.a.fits)
+pub returns-then-a-b : goal.returns-then-a-b
+returns-then-a-b c = c.halved_gcd.ensures ∙ ap (gcd_of c.args.b) c.rest.ensures ∙ sym (gcd-mod c.args.a c.args.b)
+
+pub returns-then-b-a : goal.returns-then-b-a
+returns-then-b-a c = c.halved_gcd-then-b-a.ensures ∙ ap (gcd_of c.args.a) c.rest-then-b-a.ensures ∙ sym (gcd-mod c.args.b c.args.a) ∙ gcd_comm c.args.b c.args.a
