@@ -44,9 +44,9 @@ module _ (ops : Ops) (names : List VariableName) (st : State) (order : List ℕ)
       ++ map (λ t. braced (term_text 1200 (read st t))) st.delayed
       ++ map (λ s. term_text 1200 (read st (asleep_term s.asleep))) st.sleepers
 
--- The text is that of an answer. The variables that are no targets are solved for, the youngest first; some of them are kept
--- since they stand in a disequation. Some rows are in the form of an answer over the targets and those that are kept, the
--- older first, and the text is their lines among the others.
+-- The text is that of an answer. The variables that are no targets are solved for, the youngest first; some of them
+-- are kept since they stand in a disequation. Some rows are in the form of an answer over the targets and those
+-- that are kept, the older first, and the text is their lines among the others.
 pub record AnswerForm (ops : Ops) (names : List VariableName) (st : State) (text : Text) : Type 0 where
   pub front : List ℕ
   pub others : AreOthers (wanted names st) st.linear front

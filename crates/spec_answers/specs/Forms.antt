@@ -36,7 +36,8 @@ rank Below = 3
 
 -- by coefficients, then by comparison, then the lesser number first
 abbrev pub InequalityBefore : List ℕ → Inequality → Inequality → Type 0
-InequalityBefore order i j = Before order i.products j.products ((rank i.comparison < rank j.comparison) ⊎ ((i.comparison ≡ j.comparison) × (i.bound <ℚ j.bound)))
+InequalityBefore order i j = Before order i.products j.products ((rank i.comparison < rank j.comparison)
+    ⊎ ((i.comparison ≡ j.comparison) × (i.bound <ℚ j.bound)))
 
 -- by coefficients, then the lesser number first
 abbrev pub DisequationBefore : List ℕ → Disequation → Disequation → Type 0

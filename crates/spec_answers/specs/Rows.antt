@@ -55,7 +55,8 @@ disequation_variables [] = []
 disequation_variables (d ∷ ds) = variables d.products ++ disequation_variables ds
 
 abbrev pub row_variables : Rows → List ℕ
-row_variables r = equation_variables r.equations ++ inequality_variables r.inequalities ++ disequation_variables r.disequations
+row_variables r = equation_variables r.equations ++ inequality_variables r.inequalities
+    ++ disequation_variables r.disequations
 
 -- ---- texts
 
@@ -73,4 +74,5 @@ abbrev pub disequation_text : (ℕ → Text) → Disequation → Text
 disequation_text name d = related (linear_text name d.products 0ℚ) (codes "=\\=") (number_text d.bound)
 
 abbrev pub row_texts : (ℕ → Text) → Rows → List Text
-row_texts name r = map (equation_text name) r.equations ++ map (inequality_text name) r.inequalities ++ map (disequation_text name) r.disequations
+row_texts name r = map (equation_text name) r.equations ++ map (inequality_text name) r.inequalities
+    ++ map (disequation_text name) r.disequations

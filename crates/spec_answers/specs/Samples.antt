@@ -47,7 +47,8 @@ residues =
       delayed = binary (codes "=") (binary (codes "*") (Var 0) (Var 1)) (Name (codes "a")) ∷ [];
       sleepers = record { number = 0; asleep = Frozen (Var 2) (Var 1) } ∷ [];
     } in
-    lines_text (or_true (answer_lines standard (named (codes "X") 0 ∷ named (codes "_Y") 1 ∷ named (codes "Z") 2 ∷ []) st (0 ∷ 2 ∷ 1 ∷ []) no_rows))
+    let names = named (codes "X") 0 ∷ named (codes "_Y") 1 ∷ named (codes "Z") 2 ∷ [] in
+    lines_text (or_true (answer_lines standard names st (0 ∷ 2 ∷ 1 ∷ []) no_rows))
 
 -- X>0 was told
 abbrev pub above_zero : State

@@ -24,7 +24,8 @@ free_queries names st = filter (λ n. not (is_bound st.bindings n.number)) (quer
 
 -- the terms of the bindings' lines, the delayed constraints and the suspended goals, as they read
 abbrev pub shown_terms : List VariableName → State → List Tree
-shown_terms names st = map (λ n. st.bindings n.number) (bound_queries names st) ++ map (read st) st.delayed ++ map (λ s. read st (asleep_term s.asleep)) st.sleepers
+shown_terms names st = map (λ n. st.bindings n.number) (bound_queries names st) ++ map (read st) st.delayed
+    ++ map (λ s. read st (asleep_term s.asleep)) st.sleepers
 
 -- the unbound query variables, then the others of those terms by first occurrence
 abbrev pub wanted : List VariableName → State → List ℕ

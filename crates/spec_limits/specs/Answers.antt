@@ -1,5 +1,5 @@
--- The moments while the rows of an answer over some targets are made of a list of constraints, and when they are too many.
--- No law takes these relations apart: only code introduces them, so that they can grow by constructors.
+-- The moments while the rows of an answer over some targets are made of a list of constraints, and when they are
+-- too many. No law takes these relations apart: only code introduces them, so that they can grow by constructors.
 use Rattle.std.specs.Prelude.{◌≡◌, ℕ, List, [], ◌++◌, map}
 use Rattle.std.specs.List.{AllByRecursion}
 use Rattle.spec_linear.specs.Form.{Linear}
@@ -16,7 +16,8 @@ use Rattle.spec_limits.specs.Overflow.{Moment, answering}
 
 -- ---- the steps up to the elimination
 
--- the entailed equations solve for the other variables first, the youngest before the older ones, and then for the targets
+-- the entailed equations solve for the other variables first, the youngest before the older ones, and then for the
+-- targets
 pub record Solves (targets : List ℕ) (l : List Constraint) (es : List Solved) : Type 0 where
   pub front : List ℕ
   pub others : AreOthers targets l front
@@ -37,21 +38,27 @@ pub record Leaves (targets : List ℕ) (l : List Constraint) (kept : List ℕ) (
 
 -- ---- moments
 
--- the list from which an answer goes out: a beginning of the branch's list, or some of the inequalities with some disequations
--- beside them, before and while variables are eliminated
+-- the list from which an answer goes out: a beginning of the branch's list, or some of the inequalities with some
+-- disequations beside them, before and while variables are eliminated
 pub data IsAnswerList (targets : List ℕ) (l : List Constraint) : List Constraint → Type 0 where
   beginning : (earlier later : List Constraint) → l ≡ earlier ++ later → IsAnswerList targets l earlier
-  substituted : {es : List Solved} {strict some beside : List Constraint} → Solves targets l es → Strengthens l es strict
-      → IsSublist some strict → IsSublist beside (map (put_into es) (disequations_of l)) → IsAnswerList targets l (some ++ beside)
-  projected : {kept : List ℕ} {es : List Solved} {strict rows some beside : List Constraint} → Leaves targets l kept es strict
-      → IsPartialProjection (targets ++ kept) strict rows → IsSublist some rows → IsSublist beside (map (put_into es) (disequations_of l))
+  substituted : {es : List Solved} {strict some beside : List Constraint} → Solves targets l es
+      → Strengthens l es strict
+      → IsSublist some strict → IsSublist beside (map (put_into es) (disequations_of l))
+      → IsAnswerList targets l (some ++ beside)
+  projected : {kept : List ℕ} {es : List Solved} {strict rows some beside : List Constraint}
+      → Leaves targets l kept es strict
+      → IsPartialProjection (targets ++ kept) strict rows → IsSublist some rows
+      → IsSublist beside (map (put_into es) (disequations_of l))
       → IsAnswerList targets l (some ++ beside)
 
 -- the form of a row of the answer: after the equations are put in, or of a partial projection without redundant rows
 pub data IsAnswerRow (targets : List ℕ) (l : List Constraint) : Linear → Type 0 where
-  substituted : {es : List Solved} (c : Constraint) → Solves targets l es → Has c (map (put_into es) (inequalities_of l ++ disequations_of l))
+  substituted : {es : List Solved} (c : Constraint) → Solves targets l es
+      → Has c (map (put_into es) (inequalities_of l ++ disequations_of l))
       → IsAnswerRow targets l c.form
-  projected : {kept : List ℕ} {es : List Solved} {strict rows : List Constraint} (c : Constraint) → Leaves targets l kept es strict
+  projected : {kept : List ℕ} {es : List Solved} {strict rows : List Constraint} (c : Constraint)
+      → Leaves targets l kept es strict
       → IsPartial (targets ++ kept) strict rows → Has c rows → IsAnswerRow targets l c.form
 
 -- the branch's constraints join
@@ -75,7 +82,8 @@ pub record IsAnswerMoment (targets : List ℕ) (l : List Constraint) (m : Moment
 
 -- ---- too many rows
 
--- eliminating the next variable from these rows, with p lower, n upper and so many other ones, leaves more rows than the limit
+-- eliminating the next variable from these rows, with p lower, n upper and so many other ones, leaves more rows
+-- than the limit
 pub record IsProjectionDue (targets : List ℕ) (l : List Constraint) (limit p n rest : ℕ) (rows : List Constraint) : Type 0 where
   pub kept : List ℕ
   pub es : List Solved

@@ -11,7 +11,8 @@ use Rattle.spec_projection.specs.Follows.{opposite}
 abbrev pub IsEither : Linear → Linear → Type 0
 IsEither f g = (g ≡ f) ⊎ (g ≡ negated_form f)
 
--- the forms that are asked: those of a list's members, of constraints that join it or are asked about, of variables, and their negatives
+-- the forms that are asked: those of a list's members, of constraints that join it or are asked about, of
+-- variables, and their negatives
 pub data IsAsked (l : List Constraint) (Joins Questions : Constraint → Type 0) : Linear → Type 0 where
   of_member : (c : Constraint) → Has c l → IsAsked l Joins Questions c.form
   of_joining : (c : Constraint) → Joins c → IsAsked l Joins Questions c.form
@@ -23,11 +24,13 @@ pub data IsAsked (l : List Constraint) (Joins Questions : Constraint → Type 0)
 pub data IsInForce (l : List Constraint) (Joins Questions : Constraint → Type 0) : List Constraint → Type 0 where
   alone : IsInForce l Joins Questions l
   -- while an equation joins: its form or its negative is not below zero
-  while_joining : (f g : Linear) → Joins (record { relation = Eq; form = f }) → IsEither f g → IsInForce l Joins Questions (l ++ at_least_zero g ∷ [])
+  while_joining : (f g : Linear) → Joins (record { relation = Eq; form = f }) → IsEither f g
+      → IsInForce l Joins Questions (l ++ at_least_zero g ∷ [])
   -- while it is asked whether the list entails a constraint: the opposite
   while_asked : (c : Constraint) → Questions c → IsInForce l Joins Questions (l ++ opposite c ∷ [])
   -- and where that is an equation, what stands there while an equation joins
-  while_asked_unequal : (f g : Linear) → Questions (record { relation = Ne; form = f }) → IsEither f g → IsInForce l Joins Questions (l ++ at_least_zero g ∷ [])
+  while_asked_unequal : (f g : Linear) → Questions (record { relation = Ne; form = f }) → IsEither f g
+      → IsInForce l Joins Questions (l ++ at_least_zero g ∷ [])
 
 -- nothing is asked
 abbrev pub NoQuestion : Constraint → Type 0

@@ -14,24 +14,30 @@ pub record IsNumbering (quantity : ℕ → Quantity) (size : ℕ) : Type 0 where
   pub ascends : (i j a b : ℕ) → i < size → j < size → quantity i ≡ member a → quantity j ≡ member b → a < b → i < j
 
 -- the expression has this constant and, over the columns, these entries
-pub record HasNumbers (quantity : ℕ → Quantity) (is_column : ℕ → Bool) (e : Expression) (constant : ℚ) (entry : ℕ → ℚ) : Type 0 where
+pub record HasNumbers (quantity : ℕ → Quantity) (is_column : ℕ → Bool) (e : Expression)
+    (constant : ℚ) (entry : ℕ → ℚ) : Type 0 where
   pub constant_is : e.constant ≡ constant
   pub entries_are : (c : ℕ) → is_column c ≡ true → e.entry (quantity c) ≡ entry c
 
 -- the form is written over the columns with this constant and these entries
-pub record IsWrittenWith (m : Moment) (zeros columns : List Quantity) (quantity : ℕ → Quantity) (is_column : ℕ → Bool) (f : Linear) (constant : ℚ) (entry : ℕ → ℚ) : Type 0 where
+pub record IsWrittenWith (m : Moment) (zeros columns : List Quantity) (quantity : ℕ → Quantity)
+    (is_column : ℕ → Bool) (f : Linear) (constant : ℚ) (entry : ℕ → ℚ) : Type 0 where
   pub expression : Expression
   pub written : IsWritten m.list zeros columns f expression
   pub numbers : HasNumbers quantity is_column expression constant entry
 
 -- the dictionary of numbered quantities is that of the moment's list over these columns, and asks for the form
-pub record Shows (m : Moment) (zeros columns : List Quantity) (quantity : ℕ → Quantity) (f : Linear) (d : Dictionary) : Type 0 where
+pub record Shows (m : Moment) (zeros columns : List Quantity) (quantity : ℕ → Quantity)
+    (f : Linear) (d : Dictionary) : Type 0 where
   pub columns_are : (c : ℕ) → (d.is_column c ≡ true) ↔ Has (quantity c) columns
   pub each_column : (q : Quantity) → Has q columns → (c : ℕ) × (quantity c ≡ q)
-  pub rows_are : (q : ℕ) → d.is_row q ≡ true → IsQuantity m.list m.asked (quantity q) × (Has (quantity q) columns → ⊥) × (Has (quantity q) zeros → ⊥)
+  pub rows_are : (q : ℕ) → d.is_row q ≡ true
+      → IsQuantity m.list m.asked (quantity q) × (Has (quantity q) columns → ⊥) × (Has (quantity q) zeros → ⊥)
   -- each restricted quantity that is neither a column nor in the zero set is among the rows
-  pub each_restricted : (q : Quantity) → IsRestricted m.list q → (Has q columns → ⊥) → (Has q zeros → ⊥) → (i : ℕ) × (d.is_row i ≡ true) × (quantity i ≡ q)
-  pub rows : (q : ℕ) → d.is_row q ≡ true → IsWrittenWith m zeros columns quantity d.is_column (form_of m.list (quantity q)) (d.constant q) (d.entry q)
+  pub each_restricted : (q : Quantity) → IsRestricted m.list q → (Has q columns → ⊥) → (Has q zeros → ⊥)
+      → (i : ℕ) × (d.is_row i ≡ true) × (quantity i ≡ q)
+  pub rows : (q : ℕ) → d.is_row q ≡ true
+      → IsWrittenWith m zeros columns quantity d.is_column (form_of m.list (quantity q)) (d.constant q) (d.entry q)
   pub asked : IsWrittenWith m zeros columns quantity d.is_column f d.value d.coefficient
 
 -- from a feasible dictionary of the list there are n successive exchanges for an asked form, after which another is due

@@ -107,7 +107,8 @@ pub record IsDictionary (l : List Constraint) (asked : List Linear) (zeros colum
   pub outside : (q : Quantity) → Has q columns → Has q zeros → ⊥
   -- where the zero set is zero, each quantity is written by the columns in one way, and in no other
   pub some_way : (q : Quantity) → IsQuantity l asked q → (e : Expression) × IsWritten l zeros columns (form_of l q) e
-  pub one_way : (q : Quantity) → IsQuantity l asked q → (d e : Expression) → IsWritten l zeros columns (form_of l q) d → IsWritten l zeros columns (form_of l q) e → AreOne columns d e
+  pub one_way : (q : Quantity) → IsQuantity l asked q → (d e : Expression) → IsWritten l zeros columns (form_of l q) d
+      → IsWritten l zeros columns (form_of l q) e → AreOne columns d e
 
 -- a dictionary from which the simplex method may start
 pub record IsFeasible (l : List Constraint) (asked : List Linear) (zeros columns : List Quantity) : Type 0 where
@@ -115,6 +116,8 @@ pub record IsFeasible (l : List Constraint) (asked : List Linear) (zeros columns
   -- the zero set has the equations' forms
   pub equations : (i : ℕ) → i < length l → (member_at l i).relation ≡ Eq → Has (member i) zeros
   -- each restricted quantity outside the columns and the zero set has a constant not below 0
-  pub constants : (q : Quantity) → IsRestricted l q → (Has q columns → ⊥) → (Has q zeros → ⊥) → (e : Expression) → IsWritten l zeros columns (form_of l q) e → IsNotNegative e.constant
+  pub constants : (q : Quantity) → IsRestricted l q → (Has q columns → ⊥) → (Has q zeros → ⊥) → (e : Expression)
+      → IsWritten l zeros columns (form_of l q) e → IsNotNegative e.constant
   -- a variable among the columns stands in no restricted quantity's row
-  pub free : (x : ℕ) → Has (variable x) columns → (q : Quantity) → IsRestricted l q → (e : Expression) → IsWritten l zeros columns (form_of l q) e → e.entry (variable x) ≡ 0ℚ
+  pub free : (x : ℕ) → Has (variable x) columns → (q : Quantity) → IsRestricted l q → (e : Expression)
+      → IsWritten l zeros columns (form_of l q) e → e.entry (variable x) ≡ 0ℚ

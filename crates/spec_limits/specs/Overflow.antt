@@ -13,8 +13,8 @@ use Rattle.spec_limits.specs.Dictionary.{Quantity, Expression, IsQuantity, IsDic
 
 -- ---- the moment of an operation
 
--- an operation in a constraint told or asked, with the linear forms of its operands; a power counts as a product of its base,
--- and the two sides of a relation as the operands of a difference, in either order
+-- an operation in a constraint told or asked, with the linear forms of its operands; a power counts as a product of
+-- its base, and the two sides of a relation as the operands of a difference, in either order
 pub record Operands : Type 0 where
   pub operation : Operation
   pub left : Linear
@@ -34,8 +34,8 @@ pub record Moment : Type 0 where
 
 -- ---- the dictionaries whose steps may overflow
 
--- the dictionary goes with a feasible one: its zero set is a part of that one's, and its columns outside that one's zero set are
--- that one's columns
+-- the dictionary goes with a feasible one: its zero set is a part of that one's, and its columns outside that one's
+-- zero set are that one's columns
 pub record GoesWithFeasible (m : Moment) (zeros columns : List Quantity) : Type 0 where
   pub own : IsDictionary m.list m.asked zeros columns
   pub all_zeros : List Quantity
@@ -123,27 +123,41 @@ pub data IsNumberOf (f : Linear) : ℚ → Type 0 where
 -- the operation, and the two numbers that a step gives it
 pub data Makes (m : Moment) : Operation → ℚ → ℚ → Type 0 where
   -- terms: for a sum or difference two coefficients of one variable, or both constants
-  coefficients : (o : Operands) → Has o m.operations → IsSumOrDifference o.operation → (x : ℕ) → Makes m o.operation (factor_of x o.left.products) (factor_of x o.right.products)
-  constants : (o : Operands) → Has o m.operations → IsSumOrDifference o.operation → Makes m o.operation o.left.constant o.right.constant
+  coefficients : (o : Operands) → Has o m.operations → IsSumOrDifference o.operation → (x : ℕ)
+      → Makes m o.operation (factor_of x o.left.products) (factor_of x o.right.products)
+  constants : (o : Operands) → Has o m.operations → IsSumOrDifference o.operation
+      → Makes m o.operation o.left.constant o.right.constant
   -- terms: for a product or quotient coefficients or constants of the two forms
-  operands : (o : Operands) → Has o m.operations → IsProductOrQuotient o.operation → {a b : ℚ} → IsNumberOf o.left a → IsNumberOf o.right b → Makes m o.operation a b
+  operands : (o : Operands) → Has o m.operations → IsProductOrQuotient o.operation → {a b : ℚ} → IsNumberOf o.left a
+      → IsNumberOf o.right b → Makes m o.operation a b
   -- exchange: a number of the row, or 1, by the entry
-  quotient : (x : Exchange m) (at : RowIndex) → IsRowIndex x.columns at → Makes m Quotient (number_at x.row.numbers at) (pivot_entry x)
+  quotient : (x : Exchange m) (at : RowIndex) → IsRowIndex x.columns at
+      → Makes m Quotient (number_at x.row.numbers at) (pivot_entry x)
   inverse : (x : Exchange m) → Makes m Quotient 1ℚ (pivot_entry x)
   -- exchange: another row's entry in the column, times such a quotient
-  product : (x : Exchange m) (other : Row m x.zeros x.columns) (at : RowIndex) → IsRowIndex x.columns at → Makes m Times (other.numbers.entry x.column) (number_at x.row.numbers at /ℚ pivot_entry x)
-  product_inverse : (x : Exchange m) (other : Row m x.zeros x.columns) → Makes m Times (other.numbers.entry x.column) (1ℚ /ℚ pivot_entry x)
+  product : (x : Exchange m) (other : Row m x.zeros x.columns) (at : RowIndex) → IsRowIndex x.columns at
+      → Makes m Times (other.numbers.entry x.column) (number_at x.row.numbers at /ℚ pivot_entry x)
+  product_inverse : (x : Exchange m) (other : Row m x.zeros x.columns)
+      → Makes m Times (other.numbers.entry x.column) (1ℚ /ℚ pivot_entry x)
   -- exchange: that other row's number less that product, at the quotient's place
-  difference : (x : Exchange m) (other : Row m x.zeros x.columns) (at : RowIndex) → IsRowIndex x.columns at → Makes m Difference (number_at other.numbers at) (other.numbers.entry x.column *ℚ (number_at x.row.numbers at /ℚ pivot_entry x))
+  difference : (x : Exchange m) (other : Row m x.zeros x.columns) (at : RowIndex) → IsRowIndex x.columns at
+      → Makes m Difference (number_at other.numbers at) (other.numbers.entry x.column *ℚ (number_at x.row.numbers at /ℚ pivot_entry x))
   -- adding a form: its coefficient of x and a number of x's row
-  scaled : (a : Adding m) (at : RowIndex) → IsRowIndex a.columns at → Makes m Times a.now.factor (number_at a.numbers at)
+  scaled : (a : Adding m) (at : RowIndex) → IsRowIndex a.columns at
+      → Makes m Times a.now.factor (number_at a.numbers at)
   -- adding a form: what its constant and earlier variables gave at a place, and that product there
-  added : (a : Adding m) (at : RowIndex) → IsRowIndex a.columns at → Makes m Sum (number_at a.before at) (a.now.factor *ℚ number_at a.numbers at)
+  added : (a : Adding m) (at : RowIndex) → IsRowIndex a.columns at
+      → Makes m Sum (number_at a.before at) (a.now.factor *ℚ number_at a.numbers at)
   -- answers: a number of a row by one of its coefficients
-  divided : (f : Linear) → Has f m.rows → {a : ℚ} → IsNumberOf f a → (x : ℕ) → (factor_of x f.products ≡ 0ℚ → ⊥) → Makes m Quotient a (factor_of x f.products)
+  divided : (f : Linear) → Has f m.rows → {a : ℚ} → IsNumberOf f a → (x : ℕ) → (factor_of x f.products ≡ 0ℚ → ⊥)
+      → Makes m Quotient a (factor_of x f.products)
   -- answers: two such quotients at one place, of a lower and an upper row for one variable
-  between : (f g : Linear) → Has f m.rows → Has g m.rows → (x y : ℕ) → IsPositive (factor_of x f.products) → IsPositive (neg_ℚ (factor_of x g.products)) → Makes m Difference (factor_of y f.products /ℚ factor_of x f.products) (factor_of y g.products /ℚ factor_of x g.products)
-  between_constants : (f g : Linear) → Has f m.rows → Has g m.rows → (x : ℕ) → IsPositive (factor_of x f.products) → IsPositive (neg_ℚ (factor_of x g.products)) → Makes m Difference (f.constant /ℚ factor_of x f.products) (g.constant /ℚ factor_of x g.products)
+  between : (f g : Linear) → Has f m.rows → Has g m.rows → (x y : ℕ) → IsPositive (factor_of x f.products)
+      → IsPositive (neg_ℚ (factor_of x g.products))
+      → Makes m Difference (factor_of y f.products /ℚ factor_of x f.products) (factor_of y g.products /ℚ factor_of x g.products)
+  between_constants : (f g : Linear) → Has f m.rows → Has g m.rows → (x : ℕ) → IsPositive (factor_of x f.products)
+      → IsPositive (neg_ℚ (factor_of x g.products))
+      → Makes m Difference (f.constant /ℚ factor_of x f.products) (g.constant /ℚ factor_of x g.products)
 
 -- a step of the moment gives the pair's operation its two numbers, and it refuses them
 pub record OverflowDue (m : Moment) (p : Pair) : Type 0 where

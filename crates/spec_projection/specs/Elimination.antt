@@ -1,4 +1,5 @@
--- One variable eliminated from a list of inequalities (Fourier 1826): each lower row with each upper row, and the others.
+-- One variable eliminated from a list of inequalities (Fourier 1826): each lower row with each upper row, and the
+-- others.
 use Rattle.std.proofs.Common.{zero}
 use Rattle.std.specs.Prelude.{◌≡◌, ◌⊎◌, ℕ, suc, List, [], ◌∷◌, ◌++◌, map, filter, Bool, true, false, ⊤, ℤ, pos, negsuc}
 use Rattle.spec_rational.specs.Rational.{ℚ, 0ℚ, neg_ℚ, inv_ℚ}

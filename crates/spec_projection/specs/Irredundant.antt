@@ -22,12 +22,15 @@ pub record IsIrredundantSublist (k l : List Constraint) : Type 0 where
 
 -- no row of this part follows from the rest of it and all that is beside it
 abbrev pub NoneFollows : List Constraint → List Constraint → Type 0
-NoneFollows part beside = (k m : List Constraint) (c : Constraint) → part ≡ k ++ c ∷ m → Entails (k ++ m ++ beside) c → ⊥
+NoneFollows part beside =
+    (k m : List Constraint) (c : Constraint) → part ≡ k ++ c ∷ m → Entails (k ++ m ++ beside) c → ⊥
 
--- The rows that are left are gone through in order. Each that follows from those kept, those left behind it and those beside
--- is dropped.
+-- The rows that are left are gone through in order. Each that follows from those kept, those left behind it and
+-- those beside is dropped.
 pub data Sifts (beside : List Constraint) : List Constraint → List Constraint → List Constraint → Type 0 where
   done : {kept : List Constraint} → Sifts beside kept [] kept
-  dropped : {c : Constraint} {kept left final : List Constraint} → Entails (kept ++ left ++ beside) c → Sifts beside kept left final → Sifts beside kept (c ∷ left) final
-  stays : {c : Constraint} {kept left final : List Constraint} → (Entails (kept ++ left ++ beside) c → ⊥) → Sifts beside (kept ++ c ∷ []) left final →
+  dropped : {c : Constraint} {kept left final : List Constraint} → Entails (kept ++ left ++ beside) c
+      → Sifts beside kept left final → Sifts beside kept (c ∷ left) final
+  stays : {c : Constraint} {kept left final : List Constraint} → (Entails (kept ++ left ++ beside) c → ⊥)
+      → Sifts beside (kept ++ c ∷ []) left final →
       Sifts beside kept (c ∷ left) final

@@ -1,4 +1,5 @@
--- The moments of a goal that asks the linear constraints. No law takes these relations apart: only code introduces them.
+-- The moments of a goal that asks the linear constraints. No law takes these relations apart: only code introduces
+-- them.
 use Rattle.std.specs.Prelude.{◌≡◌, ◌⊎◌, ℕ, List, [], flat_map, Option}
 use Rattle.std.specs.List.{AllByRecursion}
 use Rattle.spec_rational.specs.Rational.{ℚ}
@@ -19,11 +20,13 @@ JoinsNothing c = ⊥
 
 -- the constraints of which the goal asks whether they are entailed
 pub data AsksAbout (fixed : ℕ → Option ℚ) : Reply → Constraint → Type 0 where
-  member : {ms : List Tree} {b : Branch} {c : Constraint} (m : Tree) → Has m ms → lin fixed m ≡ Is c → AsksAbout fixed (IfEntailed ms b) c
+  member : {ms : List Tree} {b : Branch} {c : Constraint} (m : Tree) → Has m ms → lin fixed m ≡ Is c
+      → AsksAbout fixed (IfEntailed ms b) c
 
 -- the form of the expression that the goal asks the extent of, and its negative
 pub data AsksExtent (fixed : ℕ → Option ℚ) : Reply → Linear → Type 0 where
-  expression : {side : Side} {e : Tree} {f : ℚ → Branch} {g : Linear} → lin_expression fixed e ≡ Is g → AsksExtent fixed (WithExtent side e f) g
+  expression : {side : Side} {e : Tree} {f : ℚ → Branch} {g : Linear} → lin_expression fixed e ≡ Is g
+      → AsksExtent fixed (WithExtent side e f) g
   negated : {side : Side} {e : Tree} {f : ℚ → Branch} {g : Linear} → lin_expression fixed e ≡ Is g
       → AsksExtent fixed (WithExtent side e f) (negated_form g)
 

@@ -15,8 +15,8 @@ use Rattle.spec_branch.specs.Closure.{Moves}
 use Rattle.spec_branch.specs.Settling.{binding_equation, newly_bound}
 use Rattle.spec_stops.specs.Operands.{relation_operands}
 
--- the list during a settling, with the unifier u of its pairs: none, some or all of the equations of newly bound variables and of
--- the rows have joined, and some waiting terms
+-- the list during a settling, with the unifier u of its pairs: none, some or all of the equations of newly bound
+-- variables and of the rows have joined, and some waiting terms
 pub record IsListOf (st : State) (p : Pending) (u : Subst Text) (l : List Constraint) : Type 0 where
   pub is_unifier : IsUnifier (read_under st.bindings p.equations) u
   pub equations : List Constraint
@@ -45,6 +45,7 @@ pub record IsSettlingMoment (st : State) (p : Pending) (m : Moment) : Type 0 whe
   -- the operations of all terms that wait or are told
   pub fixed : ℕ → Option ℚ
   pub fixes : Fixes list fixed
-  pub operations : m.operations ≡ flat_map (λ t. relation_operands fixed (apply (followed_by st.bindings unifier) t)) (st.delayed ++ p.told)
+  pub operations : m.operations
+      ≡ flat_map (λ t. relation_operands fixed (apply (followed_by st.bindings unifier) t)) (st.delayed ++ p.told)
   -- no row of an answer is divided
   pub rows : m.rows ≡ []

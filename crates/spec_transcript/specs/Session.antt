@@ -78,7 +78,8 @@ pub record Stands (db : Database) (r : Reader) (what : Purpose) (variables : Var
   pub reads : Reads db.operators r.bytes r.at (Clause term variables next)
   pub purpose_is : purpose r.source term ≡ what
 
--- The search of a goal, with its variables counted on from any number: a heap's next one, or 0. The text does not tell which.
+-- The search of a goal, with its variables counted on from any number: a heap's next one, or 0. The text does not
+-- tell which.
 abbrev pub begun : Database → Tree → ℕ → Variables → Search
 begun db g base vs = start db (tree_later base g) (base + vs.count)
 
@@ -105,24 +106,31 @@ module _ (budgets : Budgets) (shelf : Text → Option (List ℕ)) (input : List 
         → Step (Opening db (name ∷ names)) [] PlainLine (Reading db (beginning File bytes names))
     opens_input : {db : Database} → Step (Opening db []) [] PlainLine (Reading db (beginning Input input []))
     -- the goals of `initialization` run after the file, in order
-    initializes : {db : Database} {r : Reader} {a : Asked} {more : List Asked} (base : ℕ) → Reads db.operators r.bytes r.at TextEnds → r.later ≡ a ∷ more
+    initializes : {db : Database} {r : Reader} {a : Asked} {more : List Asked} (base : ℕ)
+        → Reads db.operators r.bytes r.at TextEnds → r.later ≡ a ∷ more
         → Step (Reading db r) [] PlainLine (Searching (begun db (once a.goal) base a.variables) ADirective (record r { later = more }))
     file_ends : {db : Database} {r : Reader} → Reads db.operators r.bytes r.at TextEnds → r.source ≡ File → r.later ≡ []
         → Step (Reading db r) [] PlainLine (Opening db r.files)
-    input_ends : {db : Database} {r : Reader} → Reads db.operators r.bytes r.at TextEnds → r.source ≡ Input → r.later ≡ []
+    input_ends : {db : Database} {r : Reader} → Reads db.operators r.bytes r.at TextEnds → r.source ≡ Input
+        → r.later ≡ []
         → Step (Reading db r) [] PlainLine (Over db)
     -- after a syntax error reading goes on further on
     syntax : {db : Database} {r : Reader} {at resume : ℕ} → Reads db.operators r.bytes r.at (Syntax at resume)
         → Step (Reading db r) (syntax_line at) ErrorLine (Reading db (record r { at = resume }))
-    directs : {db : Database} {r : Reader} {g : Tree} {vs : Variables} {next : ℕ} (base : ℕ) → Stands db r (Directive g) vs next
+    directs : {db : Database} {r : Reader} {g : Tree} {vs : Variables} {next : ℕ} (base : ℕ)
+        → Stands db r (Directive g) vs next
         → Step (Reading db r) [] PlainLine (Searching (begun db (once g) base vs) ADirective (record r { at = next }))
     waits : {db : Database} {r : Reader} {g : Tree} {vs : Variables} {next : ℕ} → Stands db r (Initialization g) vs next
-        → Step (Reading db r) [] PlainLine (Reading db (record r { at = next; later = r.later ++ record { goal = g; variables = vs } ∷ [] }))
-    asks : {db : Database} {r : Reader} {g : Tree} {vs : Variables} {next : ℕ} (base : ℕ) → Stands db r (Query g) vs next
+        → Step (Reading db r) [] PlainLine
+            (Reading db (record r { at = next; later = r.later ++ record { goal = g; variables = vs } ∷ [] }))
+    asks : {db : Database} {r : Reader} {g : Tree} {vs : Variables} {next : ℕ} (base : ℕ)
+        → Stands db r (Query g) vs next
         → Step (Reading db r) [] PlainLine (Searching (begun db g base vs) (AQuery (names_from base vs) budgets.answers) (record r { at = next }))
-    adds : {db : Database} {r : Reader} {t : Tree} {vs : Variables} {next : ℕ} → Stands db r (Fact t) vs next → consult_error t ≡ None
+    adds : {db : Database} {r : Reader} {t : Tree} {vs : Variables} {next : ℕ} → Stands db r (Fact t) vs next
+        → consult_error t ≡ None
         → Step (Reading db r) [] PlainLine (Reading (consulted t db) (record r { at = next }))
-    refuses : {db : Database} {r : Reader} {t e : Tree} {vs : Variables} {next : ℕ} → Stands db r (Fact t) vs next → consult_error t ≡ Some e
+    refuses : {db : Database} {r : Reader} {t e : Tree} {vs : Variables} {next : ℕ} → Stands db r (Fact t) vs next
+        → consult_error t ≡ Some e
         → Step (Reading db r) (ball_line db.operators (refusal_ball e)) ErrorLine (Reading db (record r { at = next }))
     -- a search goes on, perhaps with output
     turns : {s t : Search} {who : Asker} {r : Reader} {text : Text} → MayGo budgets s → Turn s (Wrote text) t
@@ -130,30 +138,36 @@ module _ (budgets : Budgets) (shelf : Text → Option (List ℕ)) (input : List 
     -- an answer, and the last one that is allowed, after which no search follows
     answers : {s t : Search} {st : State} {ops : Ops} {names : List VariableName} {n : ℕ} {r : Reader} {text : Text}
         → Turn s (Answered st ops) t → AnswerForm ops names st text
-        → Step (Searching s (AQuery names (suc (suc n))) r) (text ++ answer_end) PlainLine (Searching t (AQuery names (suc n)) r)
+        → Step (Searching s (AQuery names (suc (suc n))) r) (text ++ answer_end) PlainLine
+            (Searching t (AQuery names (suc n)) r)
     answers_last : {s t : Search} {st : State} {ops : Ops} {names : List VariableName} {r : Reader} {text : Text}
         → Turn s (Answered st ops) t → AnswerForm ops names st text
         → Step (Searching s (AQuery names 1) r) (text ++ answer_end ++ more_line) PlainLine (Reading t.database r)
     -- a directive that succeeds writes nothing
     succeeds : {s t : Search} {st : State} {ops : Ops} {r : Reader} → Turn s (Answered st ops) t
         → Step (Searching s ADirective r) [] PlainLine (Reading t.database r)
-    fails : {s t : Search} {who : Asker} {r : Reader} → Turn s Ended t → Step (Searching s who r) no_line PlainLine (Reading t.database r)
+    fails : {s t : Search} {who : Asker} {r : Reader} → Turn s Ended t
+        → Step (Searching s who r) no_line PlainLine (Reading t.database r)
     raises : {s t : Search} {who : Asker} {r : Reader} {ball : Copied} → MayGo budgets s → Turn s (Threw ball) t
         → Step (Searching s who r) (ball_line t.database.operators ball.term) ErrorLine (Reading t.database r)
     -- exactly where another goal would be selected
-    runs_out : {s : Search} {who : Asker} {r : Reader} → is_selecting (look_at s.branches) ≡ true → s.selected ≡ budgets.steps
+    runs_out : {s : Search} {who : Asker} {r : Reader} → is_selecting (look_at s.branches) ≡ true
+        → s.selected ≡ budgets.steps
         → Step (Searching s who r) (stop_line (Resolutions budgets.steps)) StopLine (Reading s.database r)
     -- exactly where the arithmetic of the selected goal refuses two numbers
     overflows : {s : Search} {who : Asker} {r : Reader} (pair : Pair) → MayGo budgets s → Refuses s pair
         → Step (Searching s who r) (stop_line (Overflow pair)) StopLine (Reading s.database r)
-    -- where what is kept shows the cause; a stopped turn leaves the database as before it, and writes nothing of its answer
-    stops : {s : Search} {who : Asker} {r : Reader} (cause : Cause) → MayGo budgets s → Due budgets (names_of who) s cause
+    -- where what is kept shows the cause; a stopped turn leaves the database as before it, and writes nothing of
+    -- its answer
+    stops : {s : Search} {who : Asker} {r : Reader} (cause : Cause) → MayGo budgets s
+        → Due budgets (names_of who) s cause
         → Step (Searching s who r) (stop_line cause) StopLine (Reading s.database r)
 
   -- some steps, with all that they write
   pub data Runs : Session → Text → Marks → Session → Type 0 where
     none : {a : Session} → Runs a [] no_marks a
-    then : {a b c : Session} {text out : Text} {marks : Marks} {mark : Mark} → Runs a text marks b → Step b out mark c → Runs a (text ++ out) (marked marks mark) c
+    then : {a b c : Session} {text out : Text} {marks : Marks} {mark : Mark} → Runs a text marks b → Step b out mark c
+        → Runs a (text ++ out) (marked marks mark) c
 
   -- the whole transcript of these files and the input, and which lines it has
   pub record Transcript (files : List Text) (text : Text) (marks : Marks) : Type 0 where
