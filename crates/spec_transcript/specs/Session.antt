@@ -122,7 +122,7 @@ module _ (budgets : Budgets) (shelf : Text → Option (List ℕ)) (input : List 
         → Step (Reading db r) [] PlainLine (Searching (begun db (once g) base vs) ADirective (record r { at = next }))
     waits : {db : Database} {r : Reader} {g : Tree} {vs : Variables} {next : ℕ} → Stands db r (Initialization g) vs next
         → Step (Reading db r) [] PlainLine
-            (Reading db (record r { at = next; later = r.later ++ record { goal = g; variables = vs } ∷ [] }))
+        (Reading db (record r { at = next; later = r.later ++ record { goal = g; variables = vs } ∷ [] }))
     asks : {db : Database} {r : Reader} {g : Tree} {vs : Variables} {next : ℕ} (base : ℕ)
         → Stands db r (Query g) vs next
         → Step (Reading db r) [] PlainLine (Searching (begun db g base vs) (AQuery (names_from base vs) budgets.answers) (record r { at = next }))
@@ -139,7 +139,7 @@ module _ (budgets : Budgets) (shelf : Text → Option (List ℕ)) (input : List 
     answers : {s t : Search} {st : State} {ops : Ops} {names : List VariableName} {n : ℕ} {r : Reader} {text : Text}
         → Turn s (Answered st ops) t → AnswerForm ops names st text
         → Step (Searching s (AQuery names (suc (suc n))) r) (text ++ answer_end) PlainLine
-            (Searching t (AQuery names (suc n)) r)
+        (Searching t (AQuery names (suc n)) r)
     answers_last : {s t : Search} {st : State} {ops : Ops} {names : List VariableName} {r : Reader} {text : Text}
         → Turn s (Answered st ops) t → AnswerForm ops names st text
         → Step (Searching s (AQuery names 1) r) (text ++ answer_end ++ more_line) PlainLine (Reading t.database r)
