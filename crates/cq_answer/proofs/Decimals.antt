@@ -6,7 +6,7 @@ use Rattle.std.specs.Fmt.{decimal, signed_decimal, digits_onto, digit_glyph}
 use Rattle.std.proofs.lemmas.Fmt.{decimal_by_steps_wide}
 use Rattle.spec_rational.specs.Rational.{ℚ, denominator}
 use Rattle.spec_lists.specs.Texts.{Text}
-use Rattle.spec_answers.specs.Text.{whole_text, under_text, number_text}
+use Rattle.spec_writing.specs.Numbers.{whole_text, under_text, number_text}
 use Rattle.cq_frac.specs.Fits.{Fits}
 
 glyph : (n : ℕ) → digit_glyph false (n % 10) ≡ 48 + n % 10

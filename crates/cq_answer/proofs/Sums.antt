@@ -12,7 +12,7 @@ use Rattle.spec_rational.proofs.Rational.{ℚ_same}
 use Rattle.spec_linear.specs.Form.{is_zero}
 use Rattle.spec_linear.proofs.Values.{is_zero-of, is_zero-true}
 use Rattle.spec_lists.specs.Texts.{Text}
-use Rattle.spec_answers.specs.Text.{number_text}
+use Rattle.spec_writing.specs.Numbers.{number_text}
 use Rattle.spec_answers.specs.RowText.{same_number, joined, product_text, sum_onto, linear_text}
 use Rattle.cq_frac.specs.declared.VarId.{VarId}
 use Rattle.cq_project.specs.Rows.{product_of}

@@ -6,7 +6,7 @@ use Rattle.std.proofs.lemmas.List.Elements.{filter_map-append, filter-append}
 use Rattle.spec_rational.specs.Rational.{ℚ}
 use Rattle.spec_queries.specs.Tree.{VariableName}
 use Rattle.spec_lists.specs.Texts.{Text}
-use Rattle.spec_answers.specs.Text.{number_text}
+use Rattle.spec_writing.specs.Numbers.{number_text}
 use Rattle.spec_answers.specs.Lines.{is_hidden, or_true, lines_text}
 use Rattle.spec_equations.specs.Answer.{Branch, query_variables, binding_line, binding_lines, row_line}
 use Rattle.cq_project.specs.declared.Equation.{Equation}

@@ -2,7 +2,7 @@
 use Rattle.std.specs.Prelude.{[], ◌++◌, codes, if◌then◌else◌}
 use Rattle.spec_rational.specs.Rational.{ℚ, 1ℚ, neg_ℚ}
 use Rattle.spec_lists.specs.Texts.{Text}
-use Rattle.spec_answers.specs.Text.{number_text}
+use Rattle.spec_writing.specs.Numbers.{number_text}
 use Rattle.spec_answers.specs.RowText.{same_number}
 
 -- what stands before the name of a product's variable

@@ -3,7 +3,7 @@ use Rattle.std.specs.Prelude.{[], ◌++◌, codes, Option, Some, None, if◌then
 use Rattle.spec_rational.specs.Rational.{ℚ}
 use Rattle.spec_queries.specs.Tree.{VariableName}
 use Rattle.spec_lists.specs.Texts.{Text}
-use Rattle.spec_answers.specs.Text.{number_text}
+use Rattle.spec_writing.specs.Numbers.{number_text}
 use Rattle.spec_answers.specs.Lines.{is_hidden}
 
 -- a name's binding with its line feed, if its variable has a value and is shown

@@ -1,7 +1,7 @@
 //! The text of a number.
 
 ghost use Rattle.std.specs.Prelude.{◌≡◌, ◌++◌, OnOk};
-ghost use Rattle.spec_answers.specs.Text.{number_text};
+ghost use Rattle.spec_writing.specs.Numbers.{number_text};
 
 use cq_frac::Frac;
 use itoa::Buffer;

@@ -1,4 +1,3 @@
-pub mod Text
 pub mod RowText
 pub mod Lines
 pub mod Rows

@@ -6,7 +6,7 @@ use Rattle.spec_rational.specs.Sums.{Monomial}
 use Rattle.spec_linear.specs.Form.{is_zero}
 use Rattle.spec_echelon.specs.Echelon.{Solved}
 use Rattle.spec_lists.specs.Texts.{Text}
-use Rattle.spec_answers.specs.Text.{number_text}
+use Rattle.spec_writing.specs.Numbers.{number_text}
 
 -- the numbers are the same
 abbrev pub same_number : ℚ → ℚ → Bool

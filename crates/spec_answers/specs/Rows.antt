@@ -6,7 +6,7 @@ use Rattle.spec_linear.specs.Solution.{Constraint}
 use Rattle.spec_echelon.specs.Echelon.{Solved, variables}
 use Rattle.spec_projection.specs.Printed.{Comparison, AtLeast, Above, AtMost, Below, compared, unequal_to}
 use Rattle.spec_lists.specs.Texts.{Text}
-use Rattle.spec_answers.specs.Text.{number_text}
+use Rattle.spec_writing.specs.Numbers.{number_text}
 use Rattle.spec_answers.specs.RowText.{related, linear_text, equation_text}
 
 -- products, a comparison, and the number on the right

@@ -6,7 +6,7 @@ use Rattle.spec_linear.specs.Solution.{Constraint, Same}
 use Rattle.spec_echelon.specs.Echelon.{Solved, AreDistinct, IsEchelon, equations}
 use Rattle.spec_queries.specs.Tree.{VariableName, Query}
 use Rattle.spec_lists.specs.Texts.{Text}
-use Rattle.spec_answers.specs.Text.{number_text}
+use Rattle.spec_writing.specs.Numbers.{number_text}
 use Rattle.spec_answers.specs.RowText.{equation_text}
 use Rattle.spec_answers.specs.Lines.{is_hidden, or_true, lines_text}
 

@@ -1,7 +1,7 @@
 use Rattle.std.proofs.Common.{◌≡◌, ◌≢◌, ◌++◌, ◌∙◌, ap, true, false, refl, drop, map}
 use Rattle.spec_rational.specs.Rational.{0ℚ}
 use Rattle.spec_equations.specs.Answer.{name_among}
-use Rattle.spec_answers.specs.Text.{number_text}
+use Rattle.spec_writing.specs.Numbers.{number_text}
 use Rattle.spec_answers.specs.RowText.{product_text, sum_onto, joined}
 use Rattle.cq_project.specs.Rows.{product_of}
 use Rattle.cq_answer.proofs.Sums.{rest_is, products_alone, products_and_constant}
