@@ -53,18 +53,6 @@ same_false p q ne = go (same_number p q) refl
 abbrev tested : ℚ → Bool → Bool → Text
 tested q one minus = cond one [] (cond minus (codes "-") (number_text q ++ codes "*"))
 
-minus_is_not_one : same_number (neg_ℚ 1ℚ) 1ℚ ≡ false
-unfolding neg_ℚ int_ℚ ratio gcd
-minus_is_not_one = refl
-
-pub coefficient_one : (q : ℚ) → q ≡ 1ℚ → coefficient_text q ≡ []
-coefficient_one q e = ap (λ b. tested q b (same_number q (neg_ℚ 1ℚ))) (same_of q 1ℚ e)
-
-pub coefficient_minus : (q : ℚ) → q ≡ neg_ℚ 1ℚ → coefficient_text q ≡ codes "-"
-coefficient_minus q e =
-    ap (λ b. tested q b (same_number q (neg_ℚ 1ℚ))) (ap (λ r. same_number r 1ℚ) e ∙ minus_is_not_one)
-    ∙ ap (λ b. tested q false b) (same_of q (neg_ℚ 1ℚ) e)
-
 pub coefficient_other : (q : ℚ) → q ≢ 1ℚ → q ≢ neg_ℚ 1ℚ → coefficient_text q ≡ number_text q ++ codes "*"
 coefficient_other q one minus =
     ap (λ b. tested q b (same_number q (neg_ℚ 1ℚ))) (same_false q 1ℚ one) ∙ ap (λ b. tested q false b) (same_false q (neg_ℚ 1ℚ) minus)

@@ -1,4 +1,4 @@
--- An exchange of a row and a column: the new slots, the assignments that meet them, and the pairs.
+-- An exchange of a row and a column: the new roles, the assignments that meet them, and the pairs.
 use Rattle.std.proofs.Common.{◌≡◌, ℕ, ◌≤◌, List, [], ◌∷◌, length, Bool, true, arith, refl, ap, ap₂, sym, subst, ◌∙◌, pos, inl, inr}
 use Rattle.spec_rational.specs.Rational.{ℚ, 0ℚ, 1ℚ, inv_ℚ, ◌+ℚ◌, ◌-ℚ◌, ◌*ℚ◌, ◌/ℚ◌}
 use Rattle.spec_rational.proofs.Ring.{var, int, ◌⊕◌, ◌⊗◌, minus}
@@ -17,17 +17,17 @@ use Rattle.cq_row.proofs.Inverse.{times_inverse, inverse_not_zero}
 use Rattle.cq_row.proofs.Shifts.{entry_not_zero, over_anywhere, passes}
 use Rattle.cq_row.proofs.Units.{row_weaker, row_over, sum_at-over, at_unit, except_below}
 use Rattle.cq_dict.specs.declared.table.Change.{Change}
-use Rattle.cq_dict.specs.declared.table.Slot.{Slot}
-use Rattle.cq_dict.specs.declared.table.Slot.TheVariants.{Live, Dropped, Basic}
+use Rattle.cq_dict.specs.declared.table.Role.{Role}
+use Rattle.cq_dict.specs.declared.table.Role.TheVariants.{Live, Dropped, Basic}
 use Rattle.cq_dict.specs.Changes.{Covers, IsWritten, IsMoved, NoShiftPair, Moved, IsSolved, Exchanges}
 use Rattle.cq_dict.specs.Dict.{NoPivotPair}
-use Rattle.cq_dict.specs.Table.{IsAt, IsRow, is_live, is_dropped, IsTable, IsMet, HasEntry, PivotPair, pivot_quotient, pivot_inverse, pivot_product, pivot_product_inverse, pivot_difference, IsExchanged}
+use Rattle.cq_dict.specs.Roles.{IsAt, IsRow, is_live, is_dropped, AreOverColumns, IsMet, HasEntry, PivotPair, pivot_quotient, pivot_inverse, pivot_product, pivot_product_inverse, pivot_difference, IsExchanged}
 use Rattle.cq_dict.proofs.Moves.{also_cases}
-use Rattle.cq_dict.proofs.Slots.{at_one, live_at, dropped_at, slot_live, slot_dropped, equal_or_not}
+use Rattle.cq_dict.proofs.Roles.{at_one, live_at, role_live, role_dropped, equal_or_not, one_kind}
 use Rattle.cq_dict.proofs.Written.{covers_each, went, found}
 
--- ---- what one slot becomes
-module _ (leaving column : ℕ) (q : Row) (rate : ℚ) (n : ℕ) (s t : Slot) where
+-- ---- what one role becomes
+module _ (leaving column : ℕ) (q : Row) (rate : ℚ) (n : ℕ) (s t : Role) where
   pub when_leaving : n ≡ leaving → t ≡ Live → Moved leaving column q rate n s t
   when_leaving e f = record { leaves = λ h. f; enters = λ h k. absurd (h e); live = λ h k l. absurd (h e); dropped = λ h k l. absurd (h e); row = λ h k o l. absurd (h e) }
 
@@ -49,7 +49,7 @@ module _ (leaving column : ℕ) (q : Row) (rate : ℚ) (n : ℕ) (s t : Slot) wh
     row = λ h k p l. let w : o ≡ p = cc in (r, f, subst (λ (z : Row). IsMoved z column q leaving rate r) w i, subst (λ (z : Row). NoShiftPair z column q rate) w j);
   }
 
-pub when_kept : (leaving column : ℕ) (q : Row) (rate : ℚ) (n : ℕ) (s t : Slot) → (n ≡ leaving → ⊥) → (n ≡ column → ⊥) → ((r : Row) → s ≡ Basic r → ⊥) → t ≡ s → Moved leaving column q rate n s t
+pub when_kept : (leaving column : ℕ) (q : Row) (rate : ℚ) (n : ℕ) (s t : Role) → (n ≡ leaving → ⊥) → (n ≡ column → ⊥) → ((r : Row) → s ≡ Basic r → ⊥) → t ≡ s → Moved leaving column q rate n s t
 when_kept leaving column q rate n Live t a b h e = when_live leaving column q rate n Live t a b refl e
 when_kept leaving column q rate n Dropped t a b h e = when_dropped leaving column q rate n Dropped t a b refl e
 when_kept leaving column q rate n (Basic r) t a b h e = absurd (h r refl)
@@ -80,73 +80,73 @@ module _ (row q : Row) (p : ℚ) (divided : IsDivided row p q) where
       let r = has_over p row.dropped m (subst (Has m) divided.dropped h) in
       (r.0.factor, subst (λ c. IsNumber row (at_dropped c) r.0.factor) (sym (ap (λ (t : Entry). t.quantity) r.2)) (dropped_number r.0 r.1), ap (λ (t : Entry). t.factor) r.2)
 
--- ---- all slots
-module _ (slots : List Slot) (leaving column : ℕ) (row : Row) (p : ℚ)
-    (table : IsTable slots) (row_at : IsAt slots leaving (Basic row)) (entry : Has (record { quantity = column; factor = p }) row.live) where
-  row_over_slots : IsOver (is_live slots) (is_dropped slots) row
-  row_over_slots = table.rows leaving row row_at
+-- ---- all roles
+module _ (roles : List Role) (leaving column : ℕ) (row : Row) (p : ℚ)
+    (table : AreOverColumns roles) (row_at : IsAt roles leaving (Basic row)) (entry : Has (record { quantity = column; factor = p }) row.live) where
+  row_over_roles : IsOver (is_live roles) (is_dropped roles) row
+  row_over_roles = table.rows leaving row row_at
 
-  column_at : is_live slots column ≡ true
-  column_at = passes (is_live slots) 0 row.live (record { quantity = column; factor = p }) row_over_slots.live_row entry
+  column_at : is_live roles column ≡ true
+  column_at = passes (is_live roles) 0 row.live (record { quantity = column; factor = p }) row_over_roles.live_row entry
 
   pub p_not_zero : p ≡ 0ℚ → ⊥
-  p_not_zero = entry_not_zero (is_live slots) 0 row.live column p row_over_slots.live_row entry
+  p_not_zero = entry_not_zero (is_live roles) 0 row.live column p row_over_roles.live_row entry
 
-  not_leaving : (y : ℕ) → is_live slots y ≡ true → y ≡ leaving → ⊥
-  not_leaving y h e = let k = live_at slots leaving (Basic row) row_at in let f : is_live slots leaving ≡ true = subst (λ z. is_live slots z ≡ true) e h in cc
+  not_leaving : (y : ℕ) → is_live roles y ≡ true → y ≡ leaving → ⊥
+  not_leaving y h e = let k = live_at roles leaving (Basic row) row_at in let f : is_live roles leaving ≡ true = subst (λ z. is_live roles z ≡ true) e h in cc
 
   pub apart : leaving ≡ column → ⊥
   apart e = not_leaving column column_at (sym e)
 
-  pub lacks_leaving : (dropped : ℕ → Bool) (o : Row) → IsOver (is_live slots) dropped o → Lacks leaving o.live
-  lacks_leaving dropped o k = λ m h e. not_leaving m.quantity (passes (is_live slots) 0 o.live m k.live_row h) e
+  pub lacks_leaving : (dropped : ℕ → Bool) (o : Row) → IsOver (is_live roles) dropped o → Lacks leaving o.live
+  lacks_leaving dropped o k = λ m h e. not_leaving m.quantity (passes (is_live roles) 0 o.live m k.live_row h) e
 
-  not_column : (i : ℕ) (s : Slot) → IsAt slots i s → i ≡ column → s ≡ Live
-  not_column i s h e = at_one slots column s Live (subst (λ k. IsAt slots k s) e h) (slot_live slots column column_at)
+  not_column : (i : ℕ) (s : Role) → IsAt roles i s → i ≡ column → s ≡ Live
+  not_column i s h e = at_one roles column s Live (subst (λ k. IsAt roles k s) e h) (role_live roles column column_at)
 
-  abbrev the_entry : HasEntry slots leaving column
+  abbrev the_entry : HasEntry roles leaving column
   the_entry = record { own = row; factor = p; is_row = row_at; in_row = entry }
 
-  pub inverse_pair : (pair : Pair) (one : ℚ) → one ≡ 1ℚ → Tells Quotient one p pair → PivotPair slots leaving column pair.operation pair.left pair.right × IsRefused pair
+  pub inverse_pair : (pair : Pair) (one : ℚ) → one ≡ 1ℚ → Tells Quotient one p pair → PivotPair roles leaving column pair.operation pair.left pair.right × IsRefused pair
   inverse_pair pair one e t = (
-    subst (λ (z : Pair). PivotPair slots leaving column z.operation z.left z.right) (sym t.is_pair) (subst (λ z. PivotPair slots leaving column Quotient z p) (sym e) (pivot_inverse the_entry)),
+    subst (λ (z : Pair). PivotPair roles leaving column z.operation z.left z.right) (sym t.is_pair) (subst (λ z. PivotPair roles leaving column Quotient z p) (sym e) (pivot_inverse the_entry)),
     subst IsRefused (sym t.is_pair) t.refused,
   )
 
-  pub by_quotient : (pair : Pair) → QuotientPair row p pair.operation pair.left pair.right × IsRefused pair → PivotPair slots leaving column pair.operation pair.left pair.right × IsRefused pair
+  pub by_quotient : (pair : Pair) → QuotientPair row p pair.operation pair.left pair.right × IsRefused pair → PivotPair roles leaving column pair.operation pair.left pair.right × IsRefused pair
   by_quotient pair h = (go h.0, h.1)
     where
-      go : {o : Operation} {a b : ℚ} → QuotientPair row p o a b → PivotPair slots leaving column o a b
+      go : {o : Operation} {a b : ℚ} → QuotientPair row p o a b → PivotPair roles leaving column o a b
       go (quotient_pair at n k) = pivot_quotient the_entry at n k
 
   module _ (q : Row) (rate : ℚ) (divided : IsDivided row p q) (rate_is : rate ≡ 1ℚ /ℚ p) where
     pub rate_not_zero : rate ≡ 0ℚ → ⊥
     rate_not_zero z = inverse_not_zero p p_not_zero (ring (inv_ℚ p ∷ []) (var 0) (int (pos 1) ⊗ var 0) refl ∙ sym rate_is ∙ z)
 
-    abbrev other_entry : (i : ℕ) (other : Row) (e : ℚ) → IsAt slots i (Basic other) → Has (record { quantity = column; factor = e }) other.live → HasEntry slots i column
+    abbrev other_entry : (i : ℕ) (other : Row) (e : ℚ) → IsAt roles i (Basic other) → Has (record { quantity = column; factor = e }) other.live → HasEntry roles i column
     other_entry i other e a h = record { own = other; factor = e; is_row = a; in_row = h }
 
-    pub by_shift : (i : ℕ) (other : Row) (e : ℚ) (pair : Pair) → (i ≡ leaving → ⊥) → IsAt slots i (Basic other) → Has (record { quantity = column; factor = e }) other.live → ShiftPair other e q rate pair.operation pair.left pair.right × IsRefused pair → PivotPair slots leaving column pair.operation pair.left pair.right × IsRefused pair
+    pub by_shift : (i : ℕ) (other : Row) (e : ℚ) (pair : Pair) → (i ≡ leaving → ⊥) → IsAt roles i (Basic other) → Has (record { quantity = column; factor = e }) other.live → ShiftPair other e q rate pair.operation pair.left pair.right × IsRefused pair → PivotPair roles leaving column pair.operation pair.left pair.right × IsRefused pair
     by_shift i other e pair n a h s = (go s.0, s.1)
       where
-        of_join : {o : Operation} {a b : ℚ} → JoinPair other Less e q o a b → PivotPair slots leaving column o a b
-        of_join (product_pair at m k) = let w = number_under row q p divided at m k in subst (λ z. PivotPair slots leaving column Product e z) (sym w.2) (pivot_product the_entry i (other_entry i other e a h) n at w.0 w.1)
-        of_join (joined_pair at l m j k) = let w = number_under row q p divided at m k in subst (λ z. PivotPair slots leaving column Difference l (e *ℚ z)) (sym w.2) (pivot_difference the_entry i (other_entry i other e a h) n at l w.0 j w.1)
+        of_join : {o : Operation} {a b : ℚ} → JoinPair other Less e q o a b → PivotPair roles leaving column o a b
+        of_join (product_pair at m k) = let w = number_under row q p divided at m k in subst (λ z. PivotPair roles leaving column Product e z) (sym w.2) (pivot_product the_entry i (other_entry i other e a h) n at w.0 w.1)
+        of_join (joined_pair at l m j k) = let w = number_under row q p divided at m k in subst (λ z. PivotPair roles leaving column Difference l (e *ℚ z)) (sym w.2) (pivot_difference the_entry i (other_entry i other e a h) n at l w.0 j w.1)
 
-        go : {o : Operation} {a b : ℚ} → ShiftPair other e q rate o a b → PivotPair slots leaving column o a b
+        go : {o : Operation} {a b : ℚ} → ShiftPair other e q rate o a b → PivotPair roles leaving column o a b
         go (of_rows j) = of_join j
-        go of_rate = subst (λ z. PivotPair slots leaving column Product e z) (sym rate_is) (pivot_product_inverse the_entry i (other_entry i other e a h) n)
+        go of_rate = subst (λ z. PivotPair roles leaving column Product e z) (sym rate_is) (pivot_product_inverse the_entry i (other_entry i other e a h) n)
 
-    pub q_over : IsOver (is_live slots) (is_dropped slots) q
+    pub q_over : IsOver (is_live roles) (is_dropped roles) q
     q_over = record {
-      live_row = subst (IsRowFrom (is_live slots) 0) (sym divided.live) (row_over (is_live slots) 0 p row.live p_not_zero row_over_slots.live_row);
-      dropped_row = subst (IsRowFrom (is_dropped slots) 0) (sym divided.dropped) (row_over (is_dropped slots) 0 p row.dropped p_not_zero row_over_slots.dropped_row);
+      live_row = subst (IsRowFrom (is_live roles) 0) (sym divided.live) (row_over (is_live roles) 0 p row.live p_not_zero row_over_roles.live_row);
+      dropped_row = subst (IsRowFrom (is_dropped roles) 0) (sym divided.dropped) (row_over (is_dropped roles) 0 p row.dropped p_not_zero row_over_roles.dropped_row);
     }
 
     pub own : sum_at (unit column) q.live ≡ 1ℚ
     own =
         ap (sum_at (unit column)) divided.live ∙ sum_at-over (unit column) p row.live
-        ∙ ap (λ w. inv_ℚ p *ℚ w) (at_unit (is_live slots) 0 row.live (record { quantity = column; factor = p }) row_over_slots.live_row entry)
+        ∙ ap (λ w. inv_ℚ p *ℚ w) (at_unit (is_live roles) 0 row.live (record { quantity = column; factor = p }) row_over_roles.live_row entry)
         ∙ ring (inv_ℚ p ∷ p ∷ []) (var 0 ⊗ var 1) (var 1 ⊗ var 0) refl ∙ times_inverse p p_not_zero
 
     q_value : (x : ℕ → ℚ) → right_side x q ≡ inv_ℚ p *ℚ right_side x row
@@ -187,25 +187,25 @@ module _ (slots : List Slot) (leaving column : ℕ) (row : Row) (p : ℚ)
     same_value : (x : ℕ → ℚ) (o r : Row) → gap x ≡ 0ℚ → IsMoved o column q leaving rate r → right_side x r ≡ right_side x o
     same_value x o r z i = moved_value x o r i ∙ ap (λ w. right_side x o +ℚ sum_at (unit column) o.live *ℚ w) z ∙ ring (right_side x o ∷ sum_at (unit column) o.live ∷ []) (var 0 ⊕ var 1 ⊗ int (pos 0)) (var 0) refl
 
-    module _ (i : ℕ) (changes : List Change) (covers : Covers (Moved leaving column q rate) slots i changes) (all : length slots ≤ i) where
-      pub none_refused : ((o : Operation) (a b : ℚ) → QuotientPair row p o a b → Refuses o a b → ⊥) → (Refuses Quotient 1ℚ p → ⊥) → NoPivotPair slots leaving column
+    module _ (i : ℕ) (changes : List Change) (covers : Covers (Moved leaving column q rate) roles i changes) (all : length roles ≤ i) where
+      pub none_refused : ((o : Operation) (a b : ℚ) → QuotientPair row p o a b → Refuses o a b → ⊥) → (Refuses Quotient 1ℚ p → ⊥) → NoPivotPair roles leaving column
       none_refused nq ni o a b w r = go w r
         where
-          same_row : (x : HasEntry slots leaving column) → x.own ≡ row
-          same_row x = let w = at_one slots leaving (Basic x.own) (Basic row) x.is_row row_at in cc
+          same_row : (x : HasEntry roles leaving column) → x.own ≡ row
+          same_row x = let w = at_one roles leaving (Basic x.own) (Basic row) x.is_row row_at in cc
 
-          same_entry : (x : HasEntry slots leaving column) → x.factor ≡ p
+          same_entry : (x : HasEntry roles leaving column) → x.factor ≡ p
           same_entry x =
-              sym (at_unit (is_live slots) 0 row.live (record { quantity = column; factor = x.factor }) row_over_slots.live_row (subst (λ (z : Row). Has (record { quantity = column; factor = x.factor }) z.live) (same_row x) x.in_row))
-              ∙ at_unit (is_live slots) 0 row.live (record { quantity = column; factor = p }) row_over_slots.live_row entry
+              sym (at_unit (is_live roles) 0 row.live (record { quantity = column; factor = x.factor }) row_over_roles.live_row (subst (λ (z : Row). Has (record { quantity = column; factor = x.factor }) z.live) (same_row x) x.in_row))
+              ∙ at_unit (is_live roles) 0 row.live (record { quantity = column; factor = p }) row_over_roles.live_row entry
 
-          own_number : (x : HasEntry slots leaving column) (at : Place) (n : ℚ) → IsNumber x.own at n → IsNumber row at n
+          own_number : (x : HasEntry roles leaving column) (at : Place) (n : ℚ) → IsNumber x.own at n → IsNumber row at n
           own_number x at n k = subst (λ (z : Row). IsNumber z at n) (same_row x) k
 
-          ns : (j : ℕ) (o : Row) → IsAt slots j (Basic o) → (j ≡ leaving → ⊥) → NoShiftPair o column q rate
-          ns j o h n = let t = covers_each (Moved leaving column q rate) slots i changes covers all j (Basic o) h in (t.1.row n (λ e. let w = not_column j (Basic o) h e in cc) o refl).3
+          ns : (j : ℕ) (o : Row) → IsAt roles j (Basic o) → (j ≡ leaving → ⊥) → NoShiftPair o column q rate
+          ns j o h n = let t = covers_each (Moved leaving column q rate) roles i changes covers all j (Basic o) h in (t.1.row n (λ e. let w = not_column j (Basic o) h e in cc) o refl).3
 
-          go : {o : Operation} {a b : ℚ} → PivotPair slots leaving column o a b → Refuses o a b → ⊥
+          go : {o : Operation} {a b : ℚ} → PivotPair roles leaving column o a b → Refuses o a b → ⊥
           go (pivot_quotient x at n k) r = nq Quotient n p (quotient_pair at n (own_number x at n k)) (subst (λ z. Refuses Quotient n z) (same_entry x) r)
           go (pivot_inverse x) r = ni (subst (λ z. Refuses Quotient 1ℚ z) (same_entry x) r)
           go (pivot_product x j y d at n k) r =
@@ -216,76 +216,75 @@ module _ (slots : List Slot) (leaving column : ℕ) (row : Row) (p : ℚ)
               ns j y.own y.is_row d y.factor y.in_row Difference m (y.factor *ℚ (n /ℚ p)) (of_rows (joined_pair at m (n /ℚ p) h (number_over row q p divided at n (own_number x at n k))))
               (subst (λ z. Refuses Difference m (y.factor *ℚ (n /ℚ z))) (same_entry x) r)
 
-      module _ (new : List Slot) (written : IsWritten slots changes new) where
-        go_to : (j : ℕ) (s : Slot) → IsAt slots j s → (t : Slot) × IsAt new j t × Moved leaving column q rate j s t
-        go_to j s h = went (Moved leaving column q rate) slots i changes covers all new written j s h
+      module _ (new : List Role) (written : IsWritten roles changes new) where
+        go_to : (j : ℕ) (s : Role) → IsAt roles j s → (t : Role) × IsAt new j t × Moved leaving column q rate j s t
+        go_to j s h = went (Moved leaving column q rate) roles i changes covers all new written j s h
 
-        come_from : (j : ℕ) (t : Slot) → IsAt new j t → (s : Slot) × IsAt slots j s × Moved leaving column q rate j s t
-        come_from j t h = found (Moved leaving column q rate) slots i changes covers all new written j t h
+        come_from : (j : ℕ) (t : Role) → IsAt new j t → (s : Role) × IsAt roles j s × Moved leaving column q rate j s t
+        come_from j t h = found (Moved leaving column q rate) roles i changes covers all new written j t h
 
-        was_live : (j : ℕ) (s : Slot) → IsAt slots j s → Moved leaving column q rate j s Live → (j ≡ leaving → ⊥) → (j ≡ column → ⊥) → IsAt slots j Live
+        was_live : (j : ℕ) (s : Role) → IsAt roles j s → Moved leaving column q rate j s Live → (j ≡ leaving → ⊥) → (j ≡ column → ⊥) → IsAt roles j Live
         was_live j Live a m n k = a
         was_live j Dropped a m n k = let w = m.dropped n k refl in cc
         was_live j (Basic o) a m n k = let w = (m.row n k o refl).1 in cc
 
-        was_dropped : (j : ℕ) (s : Slot) → IsAt slots j s → Moved leaving column q rate j s Dropped → (j ≡ leaving → ⊥) → (j ≡ column → ⊥) → IsAt slots j Dropped
+        was_dropped : (j : ℕ) (s : Role) → IsAt roles j s → Moved leaving column q rate j s Dropped → (j ≡ leaving → ⊥) → (j ≡ column → ⊥) → IsAt roles j Dropped
         was_dropped j Live a m n k = let w = m.live n k refl in cc
         was_dropped j Dropped a m n k = a
         was_dropped j (Basic o) a m n k = let w = (m.row n k o refl).1 in cc
 
-        was_row : (j : ℕ) (r : Row) (s : Slot) → IsAt slots j s → Moved leaving column q rate j s (Basic r) → (j ≡ leaving → ⊥) → (j ≡ column → ⊥) → IsRow slots j
+        was_row : (j : ℕ) (r : Row) (s : Role) → IsAt roles j s → Moved leaving column q rate j s (Basic r) → (j ≡ leaving → ⊥) → (j ≡ column → ⊥) → IsRow roles j
         was_row j r Live a m n k = let w = m.live n k refl in cc
         was_row j r Dropped a m n k = let w = m.dropped n k refl in cc
         was_row j r (Basic o) a m n k = (o, a)
 
-        kinds : IsExchanged slots leaving column new
+        kinds : IsExchanged roles leaving column new
         kinds =
             let a = go_to leaving (Basic row) row_at in
-            let b = go_to column Live (slot_live slots column column_at) in
+            let b = go_to column Live (role_live roles column column_at) in
             let e = b.2.enters (λ z. apart (sym z)) refl in
             record {
               size = written.size;
               leaves = subst (IsAt new leaving) (a.2.leaves refl) a.1;
               enters = (e.0, subst (IsAt new column) e.1 b.1);
-              others = λ j n k. record {
-                live = ((λ h. let t = go_to j Live h in subst (IsAt new j) (t.2.live n k refl) t.1), (λ h. let f = come_from j Live h in was_live j f.0 f.1 f.2 n k));
-                dropped = ((λ h. let t = go_to j Dropped h in subst (IsAt new j) (t.2.dropped n k refl) t.1), (λ h. let f = come_from j Dropped h in was_dropped j f.0 f.1 f.2 n k));
-                row = ((λ h. let t = go_to j (Basic h.0) h.1 in let r = t.2.row n k h.0 refl in (r.0, subst (IsAt new j) r.1 t.1)), (λ h. let f = come_from j (Basic h.0) h.1 in was_row j h.0 f.0 f.1 f.2 n k));
-              };
+              others = λ j n k. one_kind roles new j
+                ((λ h. let t = go_to j Live h in subst (IsAt new j) (t.2.live n k refl) t.1), (λ h. let f = come_from j Live h in was_live j f.0 f.1 f.2 n k))
+                ((λ h. let t = go_to j Dropped h in subst (IsAt new j) (t.2.dropped n k refl) t.1), (λ h. let f = come_from j Dropped h in was_dropped j f.0 f.1 f.2 n k))
+                ((λ h. let t = go_to j (Basic h.0) h.1 in let r = t.2.row n k h.0 refl in (r.0, subst (IsAt new j) r.1 t.1)), (λ h. let f = come_from j (Basic h.0) h.1 in was_row j h.0 f.0 f.1 f.2 n k));
             }
 
-        new_live : (y : ℕ) → also leaving (except column (is_live slots)) y ≡ true → is_live new y ≡ true
+        new_live : (y : ℕ) → also leaving (except column (is_live roles)) y ≡ true → is_live new y ≡ true
         new_live y h =
-            elim (also_cases leaving y (except column (is_live slots)) h) [
+            elim (also_cases leaving y (except column (is_live roles)) h) [
               | inl e ↦ subst (λ z. is_live new z ≡ true) (sym e) (live_at new leaving Live kinds.leaves)
-              | inr k ↦ let b = except_below column y (is_live slots) k in live_at new y Live ((kinds.others y (not_leaving y b.0) b.1).live.0 (slot_live slots y b.0))
+              | inr k ↦ let b = except_below column y (is_live roles) k in (kinds.others y (not_leaving y b.0) b.1).live ∙ b.0
             ]
 
-        new_dropped : (y : ℕ) → is_dropped slots y ≡ true → is_dropped new y ≡ true
+        new_dropped : (y : ℕ) → is_dropped roles y ≡ true → is_dropped new y ≡ true
         new_dropped y h =
-            let a = slot_dropped slots y h in
-            let n : y ≡ leaving → ⊥ = λ e. let w = at_one slots leaving Dropped (Basic row) (subst (λ k. IsAt slots k Dropped) e a) row_at in cc in
+            let a = role_dropped roles y h in
+            let n : y ≡ leaving → ⊥ = λ e. let w = at_one roles leaving Dropped (Basic row) (subst (λ k. IsAt roles k Dropped) e a) row_at in cc in
             let k : y ≡ column → ⊥ = λ e. let w = not_column y Dropped a e in cc in
-            dropped_at new y Dropped ((kinds.others y n k).dropped.0 a)
+            (kinds.others y n k).dropped ∙ h
 
-        still_over : (r : Row) → IsOver (also leaving (except column (is_live slots))) (is_dropped slots) r → IsOver (is_live new) (is_dropped new) r
+        still_over : (r : Row) → IsOver (also leaving (except column (is_live roles))) (is_dropped roles) r → IsOver (is_live new) (is_dropped new) r
         still_over r o = record {
-          live_row = row_weaker (also leaving (except column (is_live slots))) (is_live new) 0 r.live new_live o.live_row;
-          dropped_row = row_weaker (is_dropped slots) (is_dropped new) 0 r.dropped new_dropped o.dropped_row;
+          live_row = row_weaker (also leaving (except column (is_live roles))) (is_live new) 0 r.live new_live o.live_row;
+          dropped_row = row_weaker (is_dropped roles) (is_dropped new) 0 r.dropped new_dropped o.dropped_row;
         }
 
         -- a row of the new list is the entered one, or another one moved
         data NewRow (j : ℕ) (r : Row) : Type 0 where
           entering : j ≡ column → IsEntered q column leaving rate r → NewRow j r
-          another : (j ≡ leaving → ⊥) → (o : Row) → IsAt slots j (Basic o) → IsMoved o column q leaving rate r → NewRow j r
+          another : (j ≡ leaving → ⊥) → (o : Row) → IsAt roles j (Basic o) → IsMoved o column q leaving rate r → NewRow j r
 
         row_same : (r z : Row) → Basic r ≡ Basic z → z ≡ r
         row_same r z e = cc
 
-        of_slot : (j : ℕ) (r : Row) (s : Slot) → IsAt slots j s → Moved leaving column q rate j s (Basic r) → (j ≡ leaving → ⊥) → (j ≡ column → ⊥) → NewRow j r
-        of_slot j r Live a m n k = let e : Basic r ≡ Live = m.live n k refl in cc
-        of_slot j r Dropped a m n k = let e : Basic r ≡ Dropped = m.dropped n k refl in cc
-        of_slot j r (Basic o) a m n k = let w = m.row n k o refl in another n o a (subst (λ (z : Row). IsMoved o column q leaving rate z) (row_same r w.0 w.1) w.2)
+        of_role : (j : ℕ) (r : Row) (s : Role) → IsAt roles j s → Moved leaving column q rate j s (Basic r) → (j ≡ leaving → ⊥) → (j ≡ column → ⊥) → NewRow j r
+        of_role j r Live a m n k = let e : Basic r ≡ Live = m.live n k refl in cc
+        of_role j r Dropped a m n k = let e : Basic r ≡ Dropped = m.dropped n k refl in cc
+        of_role j r (Basic o) a m n k = let w = m.row n k o refl in another n o a (subst (λ (z : Row). IsMoved o column q leaving rate z) (row_same r w.0 w.1) w.2)
 
         new_row : (j : ℕ) (r : Row) → IsAt new j (Basic r) → NewRow j r
         new_row j r h =
@@ -294,20 +293,20 @@ module _ (slots : List Slot) (leaving column : ℕ) (row : Row) (p : ℚ)
               | inl e ↦ let w : Basic r ≡ Live = f.2.leaves e in cc
               | inr n ↦ elim (equal_or_not j column) [
                 | inl e ↦ let w = f.2.enters n e in entering e (subst (λ (z : Row). IsEntered q column leaving rate z) (row_same r w.0 w.1) w.2)
-                | inr k ↦ of_slot j r f.0 f.1 f.2 n k
+                | inr k ↦ of_role j r f.0 f.1 f.2 n k
               ]
             ]
 
-        new_table : IsTable new
+        new_table : AreOverColumns new
         new_table = record {
           rows = λ j r h.
               elim (new_row j r h) [
-                | entering e k ↦ still_over r (k.over (is_live slots) (is_dropped slots) q_over)
-                | another n o a k ↦ still_over r (k.over (is_live slots) (is_dropped slots) (table.rows j o a) q_over)
+                | entering e k ↦ still_over r (k.over (is_live roles) (is_dropped roles) q_over)
+                | another n o a k ↦ still_over r (k.over (is_live roles) (is_dropped roles) (table.rows j o a) q_over)
               ];
         }
 
-        to_new : (x : ℕ → ℚ) → IsMet x slots → IsMet x new
+        to_new : (x : ℕ → ℚ) → IsMet x roles → IsMet x new
         to_new x m =
             let z = gap_zero x (m.rows leaving row row_at) in
             record {
@@ -320,19 +319,19 @@ module _ (slots : List Slot) (leaving column : ℕ) (row : Row) (p : ℚ)
 
         zero_gap : (x : ℕ → ℚ) → IsMet x new → gap x ≡ 0ℚ
         zero_gap x m =
-            let b = go_to column Live (slot_live slots column column_at) in
+            let b = go_to column Live (role_live roles column column_at) in
             let e = b.2.enters (λ z. apart (sym z)) refl in
             let w = m.rows column e.0 (subst (IsAt new column) e.1 b.1) ∙ entered_value x e.0 e.2 in
             ring (gap x ∷ x column ∷ []) (var 0) ((var 0 ⊕ var 1) ⊕ minus (var 1)) refl ∙ ap (λ v. v -ℚ x column) (sym w) ∙ ring (x column ∷ []) (var 0 ⊕ minus (var 0)) (int (pos 0)) refl
 
-        to_old : (x : ℕ → ℚ) → IsMet x new → IsMet x slots
+        to_old : (x : ℕ → ℚ) → IsMet x new → IsMet x roles
         to_old x m =
             let z = zero_gap x m in
             record {
               rows = λ j r h.
                   elim (equal_or_not j leaving) [
                     | inl e ↦
-                        let s : row ≡ r = let w = at_one slots leaving (Basic row) (Basic r) row_at (subst (λ k. IsAt slots k (Basic r)) e h) in cc in
+                        let s : row ≡ r = let w = at_one roles leaving (Basic row) (Basic r) row_at (subst (λ k. IsAt roles k (Basic r)) e h) in cc in
                         ap x e ∙ gap_back x z ∙ ap (right_side x) s
                     | inr n ↦
                         let t = go_to j (Basic r) h in
@@ -341,38 +340,38 @@ module _ (slots : List Slot) (leaving column : ℕ) (row : Row) (p : ℚ)
                   ];
             }
 
-        pub exchanges : Exchanges slots leaving column new
+        pub exchanges : Exchanges roles leaving column new
         exchanges = record { table = new_table; same = λ x. (to_new x, to_old x); kinds = kinds }
 
 -- ---- the same, where the leaving row is solved for the column
-module _ (slots : List Slot) (leaving column : ℕ) (q : Row) (rate : ℚ) (table : IsTable slots) (s : IsSolved slots leaving column q rate) where
+module _ (roles : List Role) (leaving column : ℕ) (q : Row) (rate : ℚ) (table : AreOverColumns roles) (s : IsSolved roles leaving column q rate) where
   pub solved_over : IsOver everywhere everywhere q
-  solved_over = over_anywhere (is_live slots) (is_dropped slots) q (q_over slots leaving column s.entry.own s.entry.factor table s.entry.is_row s.entry.in_row q rate s.divided s.rate_is)
+  solved_over = over_anywhere (is_live roles) (is_dropped roles) q (q_over roles leaving column s.entry.own s.entry.factor table s.entry.is_row s.entry.in_row q rate s.divided s.rate_is)
 
   pub solved_own : sum_at (unit column) q.live ≡ 1ℚ
-  solved_own = own slots leaving column s.entry.own s.entry.factor table s.entry.is_row s.entry.in_row q rate s.divided s.rate_is
+  solved_own = own roles leaving column s.entry.own s.entry.factor table s.entry.is_row s.entry.in_row q rate s.divided s.rate_is
 
   pub solved_apart : leaving ≡ column → ⊥
-  solved_apart = apart slots leaving column s.entry.own s.entry.factor table s.entry.is_row s.entry.in_row
+  solved_apart = apart roles leaving column s.entry.own s.entry.factor table s.entry.is_row s.entry.in_row
 
   pub solved_rate : rate ≡ 0ℚ → ⊥
-  solved_rate = rate_not_zero slots leaving column s.entry.own s.entry.factor table s.entry.is_row s.entry.in_row q rate s.divided s.rate_is
+  solved_rate = rate_not_zero roles leaving column s.entry.own s.entry.factor table s.entry.is_row s.entry.in_row q rate s.divided s.rate_is
 
   pub solved_lacks : Lacks leaving q.live
-  solved_lacks = lacks_leaving slots leaving column s.entry.own s.entry.factor table s.entry.is_row s.entry.in_row (is_dropped slots) q (q_over slots leaving column s.entry.own s.entry.factor table s.entry.is_row s.entry.in_row q rate s.divided s.rate_is)
+  solved_lacks = lacks_leaving roles leaving column s.entry.own s.entry.factor table s.entry.is_row s.entry.in_row (is_dropped roles) q (q_over roles leaving column s.entry.own s.entry.factor table s.entry.is_row s.entry.in_row q rate s.divided s.rate_is)
 
-  pub other_over : (i : ℕ) (o : Row) → IsAt slots i (Basic o) → IsOver everywhere everywhere o
-  other_over i o a = over_anywhere (is_live slots) (is_dropped slots) o (table.rows i o a)
+  pub other_over : (i : ℕ) (o : Row) → IsAt roles i (Basic o) → IsOver everywhere everywhere o
+  other_over i o a = over_anywhere (is_live roles) (is_dropped roles) o (table.rows i o a)
 
-  pub other_lacks : (i : ℕ) (o : Row) → IsAt slots i (Basic o) → Lacks leaving o.live
-  other_lacks i o a = lacks_leaving slots leaving column s.entry.own s.entry.factor table s.entry.is_row s.entry.in_row (is_dropped slots) o (table.rows i o a)
+  pub other_lacks : (i : ℕ) (o : Row) → IsAt roles i (Basic o) → Lacks leaving o.live
+  other_lacks i o a = lacks_leaving roles leaving column s.entry.own s.entry.factor table s.entry.is_row s.entry.in_row (is_dropped roles) o (table.rows i o a)
 
-  pub solved_shift : (i : ℕ) (o : Row) (pair : Pair) → (i ≡ leaving → ⊥) → IsAt slots i (Basic o) → ((e : ℚ) × Has (record { quantity = column; factor = e }) o.live × ShiftPair o e q rate pair.operation pair.left pair.right × IsRefused pair) → PivotPair slots leaving column pair.operation pair.left pair.right × IsRefused pair
-  solved_shift i o pair n a h = by_shift slots leaving column s.entry.own s.entry.factor table s.entry.is_row s.entry.in_row q rate s.divided s.rate_is i o h.0 pair n a h.1 (h.2, h.3)
+  pub solved_shift : (i : ℕ) (o : Row) (pair : Pair) → (i ≡ leaving → ⊥) → IsAt roles i (Basic o) → ((e : ℚ) × Has (record { quantity = column; factor = e }) o.live × ShiftPair o e q rate pair.operation pair.left pair.right × IsRefused pair) → PivotPair roles leaving column pair.operation pair.left pair.right × IsRefused pair
+  solved_shift i o pair n a h = by_shift roles leaving column s.entry.own s.entry.factor table s.entry.is_row s.entry.in_row q rate s.divided s.rate_is i o h.0 pair n a h.1 (h.2, h.3)
 
-  module _ (changes : List Change) (covers : Covers (Moved leaving column q rate) slots (length slots) changes) where
-    pub solved_exchanges : (new : List Slot) → IsWritten slots changes new → Exchanges slots leaving column new
-    solved_exchanges new w = exchanges slots leaving column s.entry.own s.entry.factor table s.entry.is_row s.entry.in_row q rate s.divided s.rate_is (length slots) changes covers (omega arith) new w
+  module _ (changes : List Change) (covers : Covers (Moved leaving column q rate) roles (length roles) changes) where
+    pub solved_exchanges : (new : List Role) → IsWritten roles changes new → Exchanges roles leaving column new
+    solved_exchanges new w = exchanges roles leaving column s.entry.own s.entry.factor table s.entry.is_row s.entry.in_row q rate s.divided s.rate_is (length roles) changes covers (omega arith) new w
 
-    pub solved_accepted : ((o : Operation) (a b : ℚ) → QuotientPair s.entry.own s.entry.factor o a b → Refuses o a b → ⊥) → (Refuses Quotient 1ℚ s.entry.factor → ⊥) → NoPivotPair slots leaving column
-    solved_accepted nq ni = none_refused slots leaving column s.entry.own s.entry.factor table s.entry.is_row s.entry.in_row q rate s.divided s.rate_is (length slots) changes covers (omega arith) nq ni
+    pub solved_accepted : ((o : Operation) (a b : ℚ) → QuotientPair s.entry.own s.entry.factor o a b → Refuses o a b → ⊥) → (Refuses Quotient 1ℚ s.entry.factor → ⊥) → NoPivotPair roles leaving column
+    solved_accepted nq ni = none_refused roles leaving column s.entry.own s.entry.factor table s.entry.is_row s.entry.in_row q rate s.divided s.rate_is (length roles) changes covers (omega arith) nq ni

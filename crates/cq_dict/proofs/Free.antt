@@ -9,57 +9,57 @@ use Rattle.cq_row.specs.Rows.{sum_at, IsRowFrom, unit}
 use Rattle.cq_row.specs.Numbers.{right_side, IsOver}
 use Rattle.cq_row.proofs.Shifts.{passes}
 use Rattle.cq_row.proofs.Units.{at_unit, unit_above, no_entry}
-use Rattle.cq_dict.specs.declared.table.Slot.{Slot}
-use Rattle.cq_dict.specs.declared.table.Slot.TheVariants.{Live, Dropped, Basic}
-use Rattle.cq_dict.specs.Table.{IsAt, is_live, is_dropped, IsTable, Expresses, SameNumbers, AreFree}
-use Rattle.cq_dict.proofs.Slots.{slot_live, slot_dropped, dropped_at}
+use Rattle.cq_dict.specs.declared.table.Role.{Role}
+use Rattle.cq_dict.specs.declared.table.Role.TheVariants.{Live, Dropped, Basic}
+use Rattle.cq_dict.specs.Roles.{IsAt, is_live, is_dropped, AreOverColumns, Expresses, SameNumbers, AreFree}
+use Rattle.cq_dict.proofs.Roles.{role_live, role_dropped, dropped_at}
 
 -- the value of a quantity, where the columns have those of y
-abbrev value_in : Slot → ℚ → (ℕ → ℚ) → ℚ
+abbrev value_in : Role → ℚ → (ℕ → ℚ) → ℚ
 value_in Live d y = d
 value_in Dropped d y = d
 value_in (Basic r) d y = right_side y r
 
-abbrev looked_up : List Slot → ℕ → ℚ → (ℕ → ℚ) → ℚ
+abbrev looked_up : List Role → ℕ → ℚ → (ℕ → ℚ) → ℚ
 looked_up [] i d y = d
 looked_up (s ∷ ss) zero d y = value_in s d y
 looked_up (s ∷ ss) (suc i) d y = looked_up ss i d y
 
-filled : List Slot → (ℕ → ℚ) → ℕ → ℚ
-filled slots y i = looked_up slots i (y i) y
+filled : List Role → (ℕ → ℚ) → ℕ → ℚ
+filled roles y i = looked_up roles i (y i) y
 
-looked_up_at : (slots : List Slot) (i : ℕ) (s : Slot) (d : ℚ) (y : ℕ → ℚ) → IsAt slots i s → looked_up slots i d y ≡ value_in s d y
+looked_up_at : (roles : List Role) (i : ℕ) (s : Role) (d : ℚ) (y : ℕ → ℚ) → IsAt roles i s → looked_up roles i d y ≡ value_in s d y
 looked_up_at [] i s d y h = absurd h
-looked_up_at (t ∷ ts) zero s d y h = ap (λ (z : Slot). value_in z d y) (sym h)
+looked_up_at (t ∷ ts) zero s d y h = ap (λ (z : Role). value_in z d y) (sym h)
 looked_up_at (t ∷ ts) (suc i) s d y h = looked_up_at ts i s d y h
 
 pub sum_agrees : (p : ℕ → Bool) (lo : ℕ) (x y : ℕ → ℚ) (s : List Entry) → IsRowFrom p lo s → ((c : ℕ) → p c ≡ true → x c ≡ y c) → sum_at x s ≡ sum_at y s
 sum_agrees p lo x y [] r h = refl
 sum_agrees p lo x y (m ∷ s) r h = ap₂ (λ a b. m.factor *ℚ a +ℚ b) (h m.quantity r.1) (sum_agrees p (m.quantity + 1) x y s r.3 h)
 
-filled_live : (slots : List Slot) (y : ℕ → ℚ) (c : ℕ) → is_live slots c ≡ true → filled slots y c ≡ y c
+filled_live : (roles : List Role) (y : ℕ → ℚ) (c : ℕ) → is_live roles c ≡ true → filled roles y c ≡ y c
 unfolding filled
-filled_live slots y c h = looked_up_at slots c Live (y c) y (slot_live slots c h)
+filled_live roles y c h = looked_up_at roles c Live (y c) y (role_live roles c h)
 
-filled_dropped : (slots : List Slot) (y : ℕ → ℚ) (c : ℕ) → is_dropped slots c ≡ true → filled slots y c ≡ y c
+filled_dropped : (roles : List Role) (y : ℕ → ℚ) (c : ℕ) → is_dropped roles c ≡ true → filled roles y c ≡ y c
 unfolding filled
-filled_dropped slots y c h = looked_up_at slots c Dropped (y c) y (slot_dropped slots c h)
+filled_dropped roles y c h = looked_up_at roles c Dropped (y c) y (role_dropped roles c h)
 
-filled_row : (slots : List Slot) (y : ℕ → ℚ) (i : ℕ) (r : Row) → IsAt slots i (Basic r) → filled slots y i ≡ right_side y r
+filled_row : (roles : List Role) (y : ℕ → ℚ) (i : ℕ) (r : Row) → IsAt roles i (Basic r) → filled roles y i ≡ right_side y r
 unfolding filled
-filled_row slots y i r h = looked_up_at slots i (Basic r) (y i) y h
+filled_row roles y i r h = looked_up_at roles i (Basic r) (y i) y h
 
-pub free : (slots : List Slot) → IsTable slots → AreFree slots
-free slots t y = (
-  filled slots y,
+pub free : (roles : List Role) → AreOverColumns roles → AreFree roles
+free roles t y = (
+  filled roles y,
   record {
     rows = λ i r h.
         let o = t.rows i r h in
-        filled_row slots y i r h
-        ∙ sym (ap₂ (λ a b. r.constant +ℚ (a +ℚ b)) (sum_agrees (is_live slots) 0 (filled slots y) y r.live o.live_row (filled_live slots y)) (sum_agrees (is_dropped slots) 0 (filled slots y) y r.dropped o.dropped_row (filled_dropped slots y)));
+        filled_row roles y i r h
+        ∙ sym (ap₂ (λ a b. r.constant +ℚ (a +ℚ b)) (sum_agrees (is_live roles) 0 (filled roles y) y r.live o.live_row (filled_live roles y)) (sum_agrees (is_dropped roles) 0 (filled roles y) y r.dropped o.dropped_row (filled_dropped roles y)));
   },
-  filled_live slots y,
-  filled_dropped slots y,
+  filled_live roles y,
+  filled_dropped roles y,
 )
 
 -- ---- the numbers of a row are its value's alone
@@ -72,7 +72,7 @@ tri (suc a) (suc b) = elim (tri a b) [ inl h ↦ inl (omega (arith, h)) | inr k 
 entry_same : (m n : Entry) → m.quantity ≡ n.quantity → m.factor ≡ n.factor → m ≡ n
 entry_same m n e f = ap₂ (λ c q. record { quantity = c; factor = q }) e f
 
-cancel_first : (a b c : ℚ) → a +ℚ b ≡ a +ℚ c → b ≡ c
+pub cancel_first : (a b c : ℚ) → a +ℚ b ≡ a +ℚ c → b ≡ c
 cancel_first a b c e = ring (a ∷ b ∷ []) (var 1) (minus (var 0) ⊕ (var 0 ⊕ var 1)) refl ∙ ap (λ w. neg_ℚ a +ℚ w) e ∙ ring (a ∷ c ∷ []) (minus (var 0) ⊕ (var 0 ⊕ var 1)) (var 1) refl
 
 same_list : (p : ℕ → Bool) (lo : ℕ) (s t : List Entry) → IsRowFrom p lo s → IsRowFrom p lo t → ((c : ℕ) → sum_at (unit c) s ≡ sum_at (unit c) t) → s ≡ t
@@ -93,20 +93,20 @@ same_list p lo (m ∷ s) (n ∷ t) r q h =
       ]
     ]
 
-nothing_at : (s : List Entry) → sum_at (λ c. 0ℚ) s ≡ 0ℚ
+pub nothing_at : (s : List Entry) → sum_at (λ c. 0ℚ) s ≡ 0ℚ
 nothing_at [] = refl
 nothing_at (m ∷ s) = ap (λ w. m.factor *ℚ 0ℚ +ℚ w) (nothing_at s) ∙ ring (m.factor ∷ []) (var 0 ⊗ int (pos 0) ⊕ int (pos 0)) (int (pos 0)) refl
 
 absent : (p : ℕ → Bool) (c : ℕ) (s : List Entry) → IsRowFrom p 0 s → p c ≡ false → sum_at (unit c) s ≡ 0ℚ
 absent p c s r f = no_entry c s (λ m h e. let t : p c ≡ true = subst (λ k. p k ≡ true) e (passes p 0 s m r h) in cc)
 
-module _ (slots : List Slot) (table : IsTable slots) (value : (ℕ → ℚ) → ℚ) (r s : Row) (er : Expresses slots value r) (es : Expresses slots value s) where
-  moved : (y x : ℕ → ℚ) (z : Row) → IsOver (is_live slots) (is_dropped slots) z → ((c : ℕ) → is_live slots c ≡ true → x c ≡ y c) → ((c : ℕ) → is_dropped slots c ≡ true → x c ≡ y c) → right_side x z ≡ right_side y z
-  moved y x z o h k = ap₂ (λ a b. z.constant +ℚ (a +ℚ b)) (sum_agrees (is_live slots) 0 x y z.live o.live_row h) (sum_agrees (is_dropped slots) 0 x y z.dropped o.dropped_row k)
+module _ (roles : List Role) (table : AreOverColumns roles) (value : (ℕ → ℚ) → ℚ) (r s : Row) (er : Expresses roles value r) (es : Expresses roles value s) where
+  moved : (y x : ℕ → ℚ) (z : Row) → IsOver (is_live roles) (is_dropped roles) z → ((c : ℕ) → is_live roles c ≡ true → x c ≡ y c) → ((c : ℕ) → is_dropped roles c ≡ true → x c ≡ y c) → right_side x z ≡ right_side y z
+  moved y x z o h k = ap₂ (λ a b. z.constant +ℚ (a +ℚ b)) (sum_agrees (is_live roles) 0 x y z.live o.live_row h) (sum_agrees (is_dropped roles) 0 x y z.dropped o.dropped_row k)
 
   everywhere_same : (y : ℕ → ℚ) → right_side y r ≡ right_side y s
   everywhere_same y =
-      let f = free slots table y in
+      let f = free roles table y in
       sym (moved y f.0 r er.over f.2 f.3) ∙ er.value_is f.0 f.1 ∙ sym (es.value_is f.0 f.1) ∙ moved y f.0 s es.over f.2 f.3
 
   constant_only : (z : Row) → right_side (λ c. 0ℚ) z ≡ z.constant
@@ -122,24 +122,24 @@ module _ (slots : List Slot) (table : IsTable slots) (value : (ℕ → ℚ) → 
   at_zero_right a b e = ap (λ w. a +ℚ w) e ∙ ring (a ∷ []) (var 0 ⊕ int (pos 0)) (var 0) refl
 
   -- a column is not live and dropped at once
-  only_live : (c : ℕ) → is_live slots c ≡ true → is_dropped slots c ≡ false
-  only_live c h = dropped_at slots c Live (slot_live slots c h)
+  only_live : (c : ℕ) → is_live roles c ≡ true → is_dropped roles c ≡ false
+  only_live c h = dropped_at roles c Live (role_live roles c h)
 
   live_same : (c : ℕ) → sum_at (unit c) r.live ≡ sum_at (unit c) s.live
-  live_same c = go (is_live slots c) refl
+  live_same c = go (is_live roles c) refl
     where
-      go : (b : Bool) → is_live slots c ≡ b → sum_at (unit c) r.live ≡ sum_at (unit c) s.live
+      go : (b : Bool) → is_live roles c ≡ b → sum_at (unit c) r.live ≡ sum_at (unit c) s.live
       go true e =
-          sym (at_zero_right (sum_at (unit c) r.live) (sum_at (unit c) r.dropped) (absent (is_dropped slots) c r.dropped er.over.dropped_row (only_live c e)))
-          ∙ both c ∙ at_zero_right (sum_at (unit c) s.live) (sum_at (unit c) s.dropped) (absent (is_dropped slots) c s.dropped es.over.dropped_row (only_live c e))
-      go false e = absent (is_live slots) c r.live er.over.live_row e ∙ sym (absent (is_live slots) c s.live es.over.live_row e)
+          sym (at_zero_right (sum_at (unit c) r.live) (sum_at (unit c) r.dropped) (absent (is_dropped roles) c r.dropped er.over.dropped_row (only_live c e)))
+          ∙ both c ∙ at_zero_right (sum_at (unit c) s.live) (sum_at (unit c) s.dropped) (absent (is_dropped roles) c s.dropped es.over.dropped_row (only_live c e))
+      go false e = absent (is_live roles) c r.live er.over.live_row e ∙ sym (absent (is_live roles) c s.live es.over.live_row e)
 
   dropped_same : (c : ℕ) → sum_at (unit c) r.dropped ≡ sum_at (unit c) s.dropped
   dropped_same c = cancel_first (sum_at (unit c) r.live) _ _ (both c ∙ ap (λ w. w +ℚ sum_at (unit c) s.dropped) (sym (live_same c)))
 
   pub same_numbers : SameNumbers r s
   same_numbers = record {
-    live = same_list (is_live slots) 0 r.live s.live er.over.live_row es.over.live_row live_same;
-    dropped = same_list (is_dropped slots) 0 r.dropped s.dropped er.over.dropped_row es.over.dropped_row dropped_same;
+    live = same_list (is_live roles) 0 r.live s.live er.over.live_row es.over.live_row live_same;
+    dropped = same_list (is_dropped roles) 0 r.dropped s.dropped er.over.dropped_row es.over.dropped_row dropped_same;
     constant = constants;
   }

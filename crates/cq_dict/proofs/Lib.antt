@@ -1,4 +1,4 @@
-pub mod Slots
+pub mod Roles
 pub mod Written
 pub mod Free
 pub mod Products

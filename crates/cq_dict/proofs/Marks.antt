@@ -2,57 +2,57 @@
 use Rattle.std.proofs.Common.{◌≡◌, ℕ, zero, suc, ◌<◌, List, [], ◌∷◌, ◌++◌, length, Bool, Some, refl, ap, ap₂, take, arith, inl, inr, length-append, length-take, ◌⊎◌}
 use Rattle.std.proofs.lemmas.Option.{none-some, same_Some, slice_get_within}
 use Rattle.std.specs.Prelude.{slice_get}
-use Rattle.cq_dict.specs.declared.table.Slot.{Slot}
-use Rattle.cq_dict.specs.Table.{AreQuantities}
+use Rattle.cq_dict.specs.declared.table.Role.{Role}
+use Rattle.cq_dict.specs.Roles.{AreQuantities}
 use Rattle.cq_dict.specs.DictValue.{saved_quantities, AreMarked}
 
-get_take : {X : Type 0} (n k : ℕ) (ys : List X) (y : X) → slice_get (take n ys) k ≡ Some y → slice_get ys k ≡ Some y
+pub get_take : {X : Type 0} (n k : ℕ) (ys : List X) (y : X) → slice_get (take n ys) k ≡ Some y → slice_get ys k ≡ Some y
 get_take zero k ys y e = absurd (none-some y e)
 get_take (suc n) k [] y e = absurd (none-some y e)
 get_take (suc n) zero (z ∷ ys) y e = e
 get_take (suc n) (suc k) (z ∷ ys) y e = get_take n k ys y e
 
-get_push : {X : Type 0} (xs : List X) (x : X) (k : ℕ) (y : X) → slice_get (xs ++ x ∷ []) k ≡ Some y → (slice_get xs k ≡ Some y) ⊎ ((k ≡ length xs) × (x ≡ y))
+pub get_push : {X : Type 0} (xs : List X) (x : X) (k : ℕ) (y : X) → slice_get (xs ++ x ∷ []) k ≡ Some y → (slice_get xs k ≡ Some y) ⊎ ((k ≡ length xs) × (x ≡ y))
 get_push [] x zero y e = inr (refl, same_Some x y e)
 get_push [] x (suc k) y e = absurd (none-some y e)
 get_push (z ∷ xs) x zero y e = inl e
 get_push (z ∷ xs) x (suc k) y e = elim (get_push xs x k y e) [ inl h ↦ inl h | inr h ↦ inr (ap suc h.0, h.1) ]
 
-pub saved_take : (n : ℕ) (ss : List (List Slot)) (fs : List (List Bool)) → saved_quantities (take n ss) (take n fs) ≡ take n (saved_quantities ss fs)
+pub saved_take : (n : ℕ) (ss : List (List Role)) (fs : List (List Bool)) → saved_quantities (take n ss) (take n fs) ≡ take n (saved_quantities ss fs)
 saved_take zero ss fs = refl
 saved_take (suc n) [] fs = refl
 saved_take (suc n) (s ∷ ss) [] = refl
-saved_take (suc n) (s ∷ ss) (f ∷ fs) = ap (λ l. record { slots = s; restricted = f } ∷ l) (saved_take n ss fs)
+saved_take (suc n) (s ∷ ss) (f ∷ fs) = ap (λ l. record { roles = s; restricted = f } ∷ l) (saved_take n ss fs)
 
-pub saved_at : (n : ℕ) (ss : List (List Slot)) (fs : List (List Bool)) (s : List Slot) (f : List Bool) → slice_get ss n ≡ Some s → slice_get fs n ≡ Some f → slice_get (saved_quantities ss fs) n ≡ Some (record { slots = s; restricted = f })
+pub saved_at : (n : ℕ) (ss : List (List Role)) (fs : List (List Bool)) (s : List Role) (f : List Bool) → slice_get ss n ≡ Some s → slice_get fs n ≡ Some f → slice_get (saved_quantities ss fs) n ≡ Some (record { roles = s; restricted = f })
 saved_at n [] fs s f p q = absurd (none-some s p)
 saved_at n (s' ∷ ss) [] s f p q = absurd (none-some f q)
-saved_at zero (s' ∷ ss) (f' ∷ fs) s f p q = ap₂ (λ x y. Some (record { slots = x; restricted = y })) (same_Some s' s p) (same_Some f' f q)
+saved_at zero (s' ∷ ss) (f' ∷ fs) s f p q = ap₂ (λ x y. Some (record { roles = x; restricted = y })) (same_Some s' s p) (same_Some f' f q)
 saved_at (suc n) (s' ∷ ss) (f' ∷ fs) s f p q = saved_at n ss fs s f p q
 
-pub saved_push : (ss : List (List Slot)) (fs : List (List Bool)) (s : List Slot) (f : List Bool) → length fs ≡ length ss →
-    saved_quantities (ss ++ s ∷ []) (fs ++ f ∷ []) ≡ saved_quantities ss fs ++ record { slots = s; restricted = f } ∷ []
+pub saved_push : (ss : List (List Role)) (fs : List (List Bool)) (s : List Role) (f : List Bool) → length fs ≡ length ss →
+    saved_quantities (ss ++ s ∷ []) (fs ++ f ∷ []) ≡ saved_quantities ss fs ++ record { roles = s; restricted = f } ∷ []
 saved_push [] [] s f e = refl
 saved_push [] (f' ∷ fs) s f e = absurd (omega arith)
 saved_push (s' ∷ ss) [] s f e = absurd (omega arith)
-saved_push (s' ∷ ss) (f' ∷ fs) s f e = ap (λ l. record { slots = s'; restricted = f' } ∷ l) (saved_push ss fs s f (omega arith))
+saved_push (s' ∷ ss) (f' ∷ fs) s f e = ap (λ l. record { roles = s'; restricted = f' } ∷ l) (saved_push ss fs s f (omega arith))
 
-pub length-saved : (ss : List (List Slot)) (fs : List (List Bool)) → length fs ≡ length ss → length (saved_quantities ss fs) ≡ length ss
+pub length-saved : (ss : List (List Role)) (fs : List (List Bool)) → length fs ≡ length ss → length (saved_quantities ss fs) ≡ length ss
 length-saved [] fs e = refl
 length-saved (s ∷ ss) [] e = absurd (omega arith)
 length-saved (s ∷ ss) (f ∷ fs) e = ap suc (length-saved ss fs (omega arith))
 
 -- a change under the same marks
-pub marked : {slots slots' : List Slot} {flags flags' : List Bool} {ss ss' : List (List Slot)} {fs fs' : List (List Bool)} →
-    AreMarked slots flags ss fs → ss' ≡ ss → fs' ≡ fs → AreQuantities (record { slots = slots'; restricted = flags' }) → AreMarked slots' flags' ss' fs'
+pub marked : {roles roles' : List Role} {flags flags' : List Bool} {ss ss' : List (List Role)} {fs fs' : List (List Bool)} →
+    AreMarked roles flags ss fs → ss' ≡ ss → fs' ≡ fs → AreQuantities (record { roles = roles'; restricted = flags' }) → AreMarked roles' flags' ss' fs'
 marked are e f now = rw (e, f) (record { now = now; together = are.together; marks = are.marks })
 
-module _ (slots : List Slot) (flags : List Bool) (ss : List (List Slot)) (fs : List (List Bool)) (are : AreMarked slots flags ss fs) where
-  pub marked_more : AreMarked slots flags (ss ++ slots ∷ []) (fs ++ flags ∷ [])
+module _ (roles : List Role) (flags : List Bool) (ss : List (List Role)) (fs : List (List Bool)) (are : AreMarked roles flags ss fs) where
+  pub marked_more : AreMarked roles flags (ss ++ roles ∷ []) (fs ++ flags ∷ [])
   marked_more = record {
     now = are.now;
-    together = omega (arith, length-append fs (flags ∷ []), length-append ss (slots ∷ []), are.together);
-    marks = λ k s f p q. elim (get_push ss slots k s p) [
+    together = omega (arith, length-append fs (flags ∷ []), length-append ss (roles ∷ []), are.together);
+    marks = λ k s f p q. elim (get_push ss roles k s p) [
       | inl p' ↦ (
           let lt : k < length ss = slice_get_within ss k s p' in
           let q' : slice_get fs k ≡ Some f = elim (get_push fs flags k f q) [ inl h ↦ h | inr h ↦ absurd (omega (arith, h.0, are.together)) ] in
@@ -63,8 +63,8 @@ module _ (slots : List Slot) (flags : List Bool) (ss : List (List Slot)) (fs : L
     ];
   }
 
-  pub marked_take : (n : ℕ) (slots' : List Slot) (flags' : List Bool) → AreQuantities (record { slots = slots'; restricted = flags' }) → AreMarked slots' flags' (take n ss) (take n fs)
-  marked_take n slots' flags' now = record {
+  pub marked_take : (n : ℕ) (roles' : List Role) (flags' : List Bool) → AreQuantities (record { roles = roles'; restricted = flags' }) → AreMarked roles' flags' (take n ss) (take n fs)
+  marked_take n roles' flags' now = record {
     now = now;
     together = simp (length-take) (omega (arith, are.together));
     marks = λ k s f p q. are.marks k s f (get_take n k ss s p) (get_take n k fs f q);

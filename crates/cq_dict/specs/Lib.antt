@@ -2,4 +2,4 @@ pub mod Changes
 pub mod Dict
 pub mod DictValue
 pub mod Forms
-pub mod Table
+pub mod Roles

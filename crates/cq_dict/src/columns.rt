@@ -1,16 +1,16 @@
-//! The new slots where a column is dropped or restored: its own, and those of the rows with an entry there.
+//! The new roles where a column is dropped or restored: its own, and those of the rows with an entry there.
 
 ghost use Rattle.std.specs.Prelude.{◌≡◌, ◌<◌, ℕ, List, length, true, unwrap_or, IfOk};
 ghost use Rattle.cq_row.specs.Row.{Row};
 ghost use Rattle.cq_row.specs.Rows.{everywhere, Lacks};
 ghost use Rattle.cq_row.specs.Numbers.{IsOver, IsDropped, IsRestored};
 ghost use Rattle.cq_dict.specs.declared.table.Change.{Change};
-ghost use Rattle.cq_dict.specs.declared.table.Slot.{Slot};
-ghost use Rattle.cq_dict.specs.declared.table.Slot.TheVariants.{Basic};
-ghost use Rattle.cq_dict.specs.Table.{IsTable};
+ghost use Rattle.cq_dict.specs.declared.table.Role.{Role};
+ghost use Rattle.cq_dict.specs.declared.table.Role.TheVariants.{Basic};
+ghost use Rattle.cq_dict.specs.Roles.{AreOverColumns};
 ghost use Rattle.cq_dict.specs.Changes.{Changes, IsWritten, had, kind_of, IsTurnedRow, LacksOther, Turned, AreTurned, Turns};
 
-use crate::table::{Change, Slot};
+use crate::table::{Change, Role};
 use cq_row::entry_at;
 use cq_row::rows::Row;
 use std::alloc::{AllocError, Global};
@@ -22,7 +22,7 @@ pub enum Turn {
     Restoring,
 }
 
-fn dropped(alloc: Global, row: &Row, column: usize) -> Result<Option<Slot>, AllocError>
+fn dropped(alloc: Global, row: &Row, column: usize) -> Result<Option<Role>, AllocError>
     requires row { IsOver everywhere everywhere row.now }
     requires new { Lacks column row.now.dropped }
     ensures { IfOk result (λ next. (r : Row) × (unwrap_or next (Basic row.now) ≡ Basic r) × IsDropped row.now column r) }
@@ -30,13 +30,13 @@ fn dropped(alloc: Global, row: &Row, column: usize) -> Result<Option<Slot>, Allo
     match entry_at(row.live(), column) {
         Some(factor) => {
             let turned = row.with_dropped(alloc, column, factor)?;
-            Ok(Some(Slot::Basic(turned)))
+            Ok(Some(Role::Basic(turned)))
         }
         None => Ok(None),
     }
 }
 
-fn restored(alloc: Global, row: &Row, column: usize) -> Result<Option<Slot>, AllocError>
+fn restored(alloc: Global, row: &Row, column: usize) -> Result<Option<Role>, AllocError>
     requires row { IsOver everywhere everywhere row.now }
     requires new { Lacks column row.now.live }
     ensures { IfOk result (λ next. (r : Row) × (unwrap_or next (Basic row.now) ≡ Basic r) × IsRestored row.now column r) }
@@ -44,24 +44,24 @@ fn restored(alloc: Global, row: &Row, column: usize) -> Result<Option<Slot>, All
     match entry_at(row.dropped(), column) {
         Some(factor) => {
             let turned = row.with_restored(alloc, column, factor)?;
-            Ok(Some(Slot::Basic(turned)))
+            Ok(Some(Role::Basic(turned)))
         }
         None => Ok(None),
     }
 }
 
 impl Turn {
-    fn kind(self) -> Slot
+    fn kind(self) -> Role
         ensures { result ≡ kind_of self }
     {
         match self {
-            Turn::Dropping => Slot::Dropped,
-            Turn::Restoring => Slot::Live,
+            Turn::Dropping => Role::Dropped,
+            Turn::Restoring => Role::Live,
         }
     }
 
     /// What a row becomes; None where it has no entry in the column, and stays.
-    fn row(self, alloc: Global, row: &Row, column: usize) -> Result<Option<Slot>, AllocError>
+    fn row(self, alloc: Global, row: &Row, column: usize) -> Result<Option<Role>, AllocError>
         requires row { IsOver everywhere everywhere row.now }
         requires new { LacksOther self column row.now }
         ensures { IfOk result (λ next. (r : Row) × (unwrap_or next (Basic row.now) ≡ Basic r) × IsTurnedRow self column row.now r) }
@@ -72,44 +72,44 @@ impl Turn {
         }
     }
 
-    /// What the slot of a number becomes; None where it stays.
+    /// What the role of a number becomes; None where it stays.
     fn next(
         self,
         alloc: Global,
         number: usize,
-        slot: &Slot,
+        role: &Role,
         column: usize,
-    ) -> Result<Option<Slot>, AllocError>
-        requires row { (o : Row) → slot.now ≡ Basic o → IsOver everywhere everywhere o }
-        requires new { (o : Row) → slot.now ≡ Basic o → LacksOther self column o }
-        ensures { IfOk result (λ next. Turned self column number slot.now (unwrap_or next slot.now)) }
+    ) -> Result<Option<Role>, AllocError>
+        requires row { (o : Row) → role.now ≡ Basic o → IsOver everywhere everywhere o }
+        requires new { (o : Row) → role.now ≡ Basic o → LacksOther self column o }
+        ensures { IfOk result (λ next. Turned self column number role.now (unwrap_or next role.now)) }
     {
         if number == column {
             return Ok(Some(self.kind()));
         }
-        match slot {
-            Slot::Basic(row) => self.row(alloc, row, column),
+        match role {
+            Role::Basic(row) => self.row(alloc, row, column),
             _ => Ok(None),
         }
     }
 
-    /// The new slots where the column goes this way.
+    /// The new roles where the column goes this way.
     pub fn changes(
         self,
         alloc: Global,
-        slots: &[Slot],
+        roles: &[Role],
         column: usize,
     ) -> Result<Vec<Change>, AllocError>
-        requires table { IsTable slots.now }
-        requires column { had self slots.now column ≡ true }
-        ensures within { IfOk result (λ changes. (c : Change) → Changes c changes.items → c.at < length slots.now) }
-        ensures turns { IfOk result (λ changes. (new : List Slot) → IsWritten slots.now changes.items new → Turns self slots.now column new) }
+        requires table { AreOverColumns roles.now }
+        requires column { had self roles.now column ≡ true }
+        ensures within { IfOk result (λ changes. (c : Change) → Changes c changes.items → c.at < length roles.now) }
+        ensures turns { IfOk result (λ changes. (new : List Role) → IsWritten roles.now changes.items new → Turns self roles.now column new) }
     {
         let mut changes = Vec::new(alloc);
-        for (i, slot) in slots.iter().enumerate() {
-            let next = self.next(alloc, i, slot, column)?;
-            if let Some(slot) = next {
-                changes.push(Change { at: i, slot })?;
+        for (i, role) in roles.iter().enumerate() {
+            let next = self.next(alloc, i, role, column)?;
+            if let Some(role) = next {
+                changes.push(Change { at: i, role })?;
             }
         }
         Ok(changes)
@@ -122,16 +122,16 @@ impl Turn {
         mut changes: Vec<Change>,
         column: usize,
     ) -> Result<Vec<Change>, AllocError>
-        requires rows { (c : Change) (o : Row) → Changes c changes.items → c.slot ≡ Basic o → IsOver everywhere everywhere o }
-        requires new { (c : Change) (o : Row) → Changes c changes.items → c.slot ≡ Basic o → LacksOther self column o }
+        requires rows { (c : Change) (o : Row) → Changes c changes.items → c.role ≡ Basic o → IsOver everywhere everywhere o }
+        requires new { (c : Change) (o : Row) → Changes c changes.items → c.role ≡ Basic o → LacksOther self column o }
         ensures { IfOk result (λ turned. AreTurned self column changes.items turned.items) }
     {
         let mut turned = Vec::new(alloc);
         while let Some(change) = changes.pop() {
             let at = change.at;
-            let next = self.next(alloc, at, &change.slot, column)?;
-            let slot = next.unwrap_or(change.slot);
-            turned.push(Change { at, slot })?;
+            let next = self.next(alloc, at, &change.role, column)?;
+            let role = next.unwrap_or(change.role);
+            turned.push(Change { at, role })?;
         }
         Ok(turned)
     }

@@ -3,60 +3,30 @@
 ghost use Rattle.std.specs.Prelude.{◌≡◌, ◌<◌, ◌≤◌, ◌⊎◌, ◌↔◌, ℕ, List, [], ◌∷◌, ◌++◌, length, true, slice_set, IfOk, OnOk, OnErr, MatchBool};
 ghost use Rattle.spec_rational.specs.Rational.{ℚ};
 ghost use Rattle.cq_frac.specs.declared.Pair.{Pair};
-ghost use Rattle.cq_frac.specs.Refused.{IsRefused};
 ghost use Rattle.cq_row.specs.declared.Entry.{Entry};
 ghost use Rattle.cq_row.specs.Row.{Row};
-ghost use Rattle.cq_row.specs.Rows.{Has};
-ghost use Rattle.cq_dict.specs.declared.dict.DictFault.TheVariants.{NoMemory};
+ghost use Rattle.cq_row.specs.Numbers.{IsOver};
+ghost use Rattle.cq_row.specs.Rows.{Has, IsRowFrom};
 ghost use Rattle.cq_dict.specs.declared.table.Change.{Change};
-ghost use Rattle.cq_dict.specs.declared.table.Slot.{Slot};
-ghost use Rattle.cq_dict.specs.declared.table.Slot.TheVariants.{Live, Dropped, Basic};
+ghost use Rattle.cq_dict.specs.declared.table.Role.{Role};
+ghost use Rattle.cq_dict.specs.declared.table.Role.TheVariants.{Live, Dropped, Basic};
 ghost use Rattle.cq_dict.specs.Changes.{Changes, IsWritten};
-ghost use Rattle.cq_dict.specs.Table.{IsAt, IsRow, IsTable, is_live, is_dropped as has_dropped, is_restricted as flag_of, HasEntry, PivotPair, FormPair, IsExchanged, IsEliminated, ChangesKind};
-ghost use Rattle.cq_dict.specs.Dict.{IsFaultOf, SameMeaning, AddsRow, DefinesLast, NoPivotPair, NoFormPair};
+ghost use Rattle.cq_dict.specs.Roles.{IsAt, IsRow, AreOverColumns, is_live, is_dropped as has_dropped, is_restricted as flag_of, HasEntry, IsExchanged, IsEliminated, ChangesKind};
+ghost use Rattle.cq_dict.specs.Dict.{SameMeaning, AddsRow, DefinesLast, RefusesPivot, RefusesForm, NoPivotPair, NoFormPair};
 
 use crate::columns::Turn;
 use crate::exchange::{eliminate, exchange};
 use crate::form::expressed;
-use crate::table::{Change, Slot, write};
-use cq_frac::{Frac, Pair};
+use crate::table::{Change, Role, write};
+use cq_frac::{Frac, Refusal};
 use cq_row::rows::Row;
-use cq_row::{Entry, RowFault};
+use cq_row::Entry;
 use cq_trail::{Mark, Trail, Undo};
-use std::alloc::{AllocError, AllocFailed, Global};
+use std::alloc::{AllocError, Global};
 use std::marker::Model;
-use thiserror::Error;
 
 /// The number of a quantity that is a column.
 pub type Col = usize;
-
-/// Why a dictionary does not change.
-#[derive(Clone, Copy, Debug, Error)]
-pub enum DictFault {
-    #[error("a number past 128 bits")]
-    Overflow(Pair),
-    #[error("out of memory")]
-    NoMemory,
-}
-
-impl From<AllocError> for DictFault {
-    ghost from_gives = { λ _ fault. fault ≡ NoMemory };
-
-    fn from(_: AllocError) -> DictFault {
-        DictFault::NoMemory
-    }
-}
-
-impl From<RowFault> for DictFault {
-    ghost from_gives = { IsFaultOf };
-
-    fn from(fault: RowFault) -> DictFault {
-        match fault {
-            RowFault::Overflow(pair) => DictFault::Overflow(pair),
-            RowFault::NoMemory => DictFault::NoMemory,
-        }
-    }
-}
 
 /// Quantities, numbered in the order of making: columns, which are free, and rows over them.
 ///
@@ -66,8 +36,8 @@ impl From<RowFault> for DictFault {
 #[derive(Drop)]
 pub struct Dict {
     alloc: Global,
-    slots: Trail<Slot>,
-    // apart from the slots, so that to restrict a row is not to write it
+    roles: Trail<Role>,
+    // apart from the roles, so that to restrict a row is not to write it
     restricted: Trail<bool>,
 }
 
@@ -78,79 +48,81 @@ impl Model for Dict {
     ghost Value = { DictValue };
 
     ghost view = { λ d. record {
-      slots = d.slots.now;
+      roles = d.roles.now;
       restricted = d.restricted.now;
-      saved = saved_quantities d.slots.saved d.restricted.saved;
-      room = min d.slots.room d.restricted.room;
+      saved = saved_quantities d.roles.saved d.restricted.saved;
+      room = min d.roles.room d.restricted.room;
     } };
 
-    ghost invariant = { λ d. AreMarked d.slots.now d.restricted.now d.slots.saved d.restricted.saved };
+    ghost invariant = { λ d. AreMarked d.roles.now d.restricted.now d.roles.saved d.restricted.saved };
 }
 
 impl Dict {
     ghost use Rattle.cq_dict.specs.DictValue.{quantities_of};
 
     pub fn new(alloc: Global) -> Dict
-        ensures slots { result.slots ≡ [] }
+        ensures roles { result.roles ≡ [] }
         ensures flags { result.restricted ≡ [] }
         ensures saved { result.saved ≡ [] }
     {
         Dict {
             alloc,
-            slots: Trail::new(alloc),
+            roles: Trail::new(alloc),
             restricted: Trail::new(alloc),
         }
     }
 
-    fn slots(&self) -> &[Slot]
-        ensures value { result.now ≡ self.now.slots }
-        ensures table { IsTable self.now.slots }
+    fn roles(&self) -> &[Role]
+        ensures value { result.now ≡ self.now.roles }
+        ensures table { AreOverColumns self.now.roles }
     {
-        self.slots.as_slice()
+        self.roles.as_slice()
     }
 
-    fn slot(&self, q: usize) -> &Slot
-        requires { q < length self.now.slots }
-        ensures { IsAt self.now.slots q result.now }
+    fn role(&self, q: usize) -> &Role
+        requires { q < length self.now.roles }
+        ensures role { IsAt self.now.roles q result.now }
+        ensures table { AreOverColumns self.now.roles }
     {
-        self.slots.get(q)
+        self.roles.get(q)
     }
 
     fn basic(&self, r: usize) -> &Row
-        requires { IsRow self.now.slots r }
-        ensures { IsAt self.now.slots r (Basic result.now) }
+        requires { IsRow self.now.roles r }
+        ensures row { IsAt self.now.roles r (Basic result.now) }
+        ensures columns { IsOver (is_live self.now.roles) (has_dropped self.now.roles) result.now }
     {
-        match self.slot(r) {
-            Slot::Basic(row) => row,
+        match self.role(r) {
+            Role::Basic(row) => row,
             _ => unreachable!(),
         }
     }
 
     /// The number of quantities made.
     pub fn count(&self) -> usize
-        ensures value { result ≡ length self.now.slots }
-        ensures table { IsTable self.now.slots }
+        ensures value { result ≡ length self.now.roles }
+        ensures table { AreOverColumns self.now.roles }
     {
-        self.slots.len()
+        self.roles.len()
     }
 
     pub fn is_row(&self, q: usize) -> bool
-        requires { q < length self.now.slots }
-        ensures { MatchBool result (IsRow self.now.slots q) (IsAt self.now.slots q Live ⊎ IsAt self.now.slots q Dropped) }
+        requires { q < length self.now.roles }
+        ensures { MatchBool result (IsRow self.now.roles q) (IsAt self.now.roles q Live ⊎ IsAt self.now.roles q Dropped) }
     {
-        matches!(self.slot(q), Slot::Basic(_))
+        matches!(self.role(q), Role::Basic(_))
     }
 
     /// Whether the quantity is a dropped column.
     pub fn is_dropped(&self, q: usize) -> bool
-        requires { q < length self.now.slots }
-        ensures { result ≡ has_dropped self.now.slots q }
+        requires { q < length self.now.roles }
+        ensures { result ≡ has_dropped self.now.roles q }
     {
-        matches!(self.slot(q), Slot::Dropped)
+        matches!(self.role(q), Role::Dropped)
     }
 
     pub fn is_restricted(&self, q: usize) -> bool
-        requires { q < length self.now.slots }
+        requires { q < length self.now.roles }
         ensures { result ≡ flag_of self.now.restricted q }
     {
         *self.restricted.get(q)
@@ -158,69 +130,71 @@ impl Dict {
 
     /// The row's entries of live columns, in ascending order of the columns, none zero.
     pub fn row(&self, r: usize) -> &[Entry]
-        requires { IsRow self.now.slots r }
-        ensures { (own : Row) → IsAt self.now.slots r (Basic own) → result.now ≡ own.live }
+        requires { IsRow self.now.roles r }
+        ensures entries { (own : Row) → IsAt self.now.roles r (Basic own) → result.now ≡ own.live }
+        ensures columns { IsRowFrom (is_live self.now.roles) 0 result.now }
     {
         self.basic(r).live()
     }
 
     /// The row's entries of dropped columns, in ascending order of the columns, none zero.
     pub fn dropped(&self, r: usize) -> &[Entry]
-        requires { IsRow self.now.slots r }
-        ensures { (own : Row) → IsAt self.now.slots r (Basic own) → result.now ≡ own.dropped }
+        requires { IsRow self.now.roles r }
+        ensures entries { (own : Row) → IsAt self.now.roles r (Basic own) → result.now ≡ own.dropped }
+        ensures columns { IsRowFrom (has_dropped self.now.roles) 0 result.now }
     {
         self.basic(r).dropped()
     }
 
     /// The row's value where all columns are zero.
     pub fn constant(&self, r: usize) -> Frac
-        requires { IsRow self.now.slots r }
-        ensures { (own : Row) → IsAt self.now.slots r (Basic own) → result ≡ own.constant }
+        requires { IsRow self.now.roles r }
+        ensures { (own : Row) → IsAt self.now.roles r (Basic own) → result ≡ own.constant }
     {
         self.basic(r).constant()
     }
 
-    /// Puts a slot and its flag at the end.
-    fn push(&mut self, slot: Slot, restricted: bool) -> Result<(), AllocError>
-        requires { IsTable (self.old.slots ++ slot ∷ []) }
-        ensures slots { OnOk result (self.new.slots ≡ self.old.slots ++ slot ∷ []) }
+    /// Puts a role and its flag at the end.
+    fn push(&mut self, role: Role, restricted: bool) -> Result<(), AllocError>
+        requires { AreOverColumns (self.old.roles ++ role ∷ []) }
+        ensures roles { OnOk result (self.new.roles ≡ self.old.roles ++ role ∷ []) }
         ensures flags { OnOk result (self.new.restricted ≡ self.old.restricted ++ restricted ∷ []) }
         ensures saved { self.new.saved ≡ self.old.saved }
         ensures room { self.old.room ≤ self.new.room }
         ensures err { OnErr result (quantities_of self.new ≡ quantities_of self.old) }
     {
-        self.slots.reserve_places(1)?;
+        self.roles.reserve_places(1)?;
         self.restricted.push(restricted)?;
-        self.slots.push(slot).unwrap();
+        self.roles.push(role).unwrap();
         Ok(())
     }
 
-    /// Writes the new slots, all or none.
+    /// Writes the new roles, all or none.
     fn write(&mut self, changes: Vec<Change>) -> Result<(), AllocError>
-        requires within { (c : Change) → Changes c changes.items → c.at < length self.old.slots }
-        requires table { (new : List Slot) → IsWritten self.old.slots changes.items new → IsTable new }
-        ensures written { OnOk result (IsWritten self.old.slots changes.items self.new.slots) }
+        requires within { (c : Change) → Changes c changes.items → c.at < length self.old.roles }
+        requires table { (new : List Role) → IsWritten self.old.roles changes.items new → AreOverColumns new }
+        ensures written { OnOk result (IsWritten self.old.roles changes.items self.new.roles) }
         ensures flags { self.new.restricted ≡ self.old.restricted }
         ensures saved { self.new.saved ≡ self.old.saved }
         ensures room { self.old.room ≤ self.new.room }
-        ensures err { OnErr result (self.new.slots ≡ self.old.slots) }
+        ensures err { OnErr result (self.new.roles ≡ self.old.roles) }
     {
-        write(&mut self.slots, changes)?;
+        write(&mut self.roles, changes)?;
         Ok(())
     }
 
     /// Makes a new quantity, which is a live column.
     pub fn add_column(&mut self, restricted: bool) -> Result<Col, AllocError>
-        ensures number { IfOk result (λ c. c ≡ length self.old.slots) }
-        ensures slots { OnOk result (self.new.slots ≡ self.old.slots ++ Live ∷ []) }
+        ensures number { IfOk result (λ c. c ≡ length self.old.roles) }
+        ensures roles { OnOk result (self.new.roles ≡ self.old.roles ++ Live ∷ []) }
         ensures flags { OnOk result (self.new.restricted ≡ self.old.restricted ++ restricted ∷ []) }
-        ensures same { OnOk result (SameMeaning self.old.slots self.new.slots) }
+        ensures same { OnOk result (SameMeaning self.old.roles self.new.roles) }
         ensures saved { self.new.saved ≡ self.old.saved }
         ensures room { self.old.room ≤ self.new.room }
         ensures err { OnErr result (quantities_of self.new ≡ quantities_of self.old) }
     {
         let number = self.count();
-        self.push(Slot::Live, restricted)?;
+        self.push(Role::Live, restricted)?;
         Ok(number)
     }
 
@@ -232,30 +206,30 @@ impl Dict {
         form: &[Entry],
         constant: Frac,
         restricted: bool,
-    ) -> Result<usize, DictFault>
-        requires { (m : Entry) → Has m form.now → m.quantity < length self.old.slots }
-        ensures number { IfOk result (λ r. r ≡ length self.old.slots) }
-        ensures slots { OnOk result (AddsRow self.old.slots form.now constant self.new.slots) }
+    ) -> Result<usize, Refusal>
+        requires { (m : Entry) → Has m form.now → m.quantity < length self.old.roles }
+        ensures number { IfOk result (λ r. r ≡ length self.old.roles) }
+        ensures roles { OnOk result (AddsRow self.old.roles form.now constant self.new.roles) }
         ensures flags { OnOk result (self.new.restricted ≡ self.old.restricted ++ restricted ∷ []) }
-        ensures value { OnOk result (DefinesLast self.old.slots form.now constant self.new.slots) }
-        ensures table { IsTable self.new.slots }
+        ensures value { OnOk result (DefinesLast self.old.roles form.now constant self.new.roles) }
+        ensures table { AreOverColumns self.new.roles }
 
-        ensures accepted { OnOk result (NoFormPair self.old.slots form.now constant) }
-        ensures overflow { (pair : Pair) → result ≡ Err (DictFault.Overflow pair) → FormPair self.old.slots form.now constant pair.operation pair.left pair.right × IsRefused pair }
+        ensures accepted { OnOk result (NoFormPair self.old.roles form.now constant) }
+        ensures overflow { (pair : Pair) → result ≡ Err (Refusal.Overflow pair) → RefusesForm self.old.roles form.now constant pair }
         ensures saved { self.new.saved ≡ self.old.saved }
         ensures room { self.old.room ≤ self.new.room }
         ensures err { OnErr result (quantities_of self.new ≡ quantities_of self.old) }
     {
         let number = self.count();
-        let row = expressed(self.alloc, self.slots(), form, constant)?;
-        self.push(Slot::Basic(row), restricted)?;
+        let row = expressed(self.alloc, self.roles(), form, constant)?;
+        self.push(Role::Basic(row), restricted)?;
         Ok(number)
     }
 
     /// Makes the quantity a restricted one.
     pub fn restrict(&mut self, q: usize) -> Result<(), AllocError>
-        requires { q < length self.old.slots }
-        ensures slots { self.new.slots ≡ self.old.slots }
+        requires { q < length self.old.roles }
+        ensures roles { self.new.roles ≡ self.old.roles }
         ensures flags { OnOk result (self.new.restricted ≡ slice_set self.old.restricted q true) }
         ensures saved { self.new.saved ≡ self.old.saved }
         ensures room { self.old.room ≤ self.new.room }
@@ -266,79 +240,79 @@ impl Dict {
     }
 
     /// Exchanges the row and the live column, in which the row has an entry.
-    pub fn pivot(&mut self, r: usize, c: Col) -> Result<(), DictFault>
-        requires { HasEntry self.old.slots r c }
-        ensures same { OnOk result (SameMeaning self.old.slots self.new.slots) }
-        ensures kinds { OnOk result (IsExchanged self.old.slots r c self.new.slots) }
+    pub fn pivot(&mut self, r: usize, c: Col) -> Result<(), Refusal>
+        requires { HasEntry self.old.roles r c }
+        ensures same { OnOk result (SameMeaning self.old.roles self.new.roles) }
+        ensures kinds { OnOk result (IsExchanged self.old.roles r c self.new.roles) }
         ensures flags { self.new.restricted ≡ self.old.restricted }
-        ensures table { IsTable self.new.slots }
+        ensures table { AreOverColumns self.new.roles }
 
-        ensures accepted { OnOk result (NoPivotPair self.old.slots r c) }
-        ensures overflow { (pair : Pair) → result ≡ Err (DictFault.Overflow pair) → PivotPair self.old.slots r c pair.operation pair.left pair.right × IsRefused pair }
+        ensures accepted { OnOk result (NoPivotPair self.old.roles r c) }
+        ensures overflow { (pair : Pair) → result ≡ Err (Refusal.Overflow pair) → RefusesPivot self.old.roles r c pair }
         ensures saved { self.new.saved ≡ self.old.saved }
         ensures room { self.old.room ≤ self.new.room }
-        ensures err { OnErr result (self.new.slots ≡ self.old.slots) }
+        ensures err { OnErr result (self.new.roles ≡ self.old.roles) }
     {
-        let changes = exchange(self.alloc, self.slots(), r, c)?;
+        let changes = exchange(self.alloc, self.roles(), r, c)?;
         self.write(changes)?;
         Ok(())
     }
 
     /// Exchanges the row and the live column, in which the row has an entry, and drops the row's quantity, which has
     /// become a column.
-    pub fn eliminate(&mut self, r: usize, c: Col) -> Result<(), DictFault>
-        requires { HasEntry self.old.slots r c }
-        ensures same { OnOk result (SameMeaning self.old.slots self.new.slots) }
-        ensures kinds { OnOk result (IsEliminated self.old.slots r c self.new.slots) }
+    pub fn eliminate(&mut self, r: usize, c: Col) -> Result<(), Refusal>
+        requires { HasEntry self.old.roles r c }
+        ensures same { OnOk result (SameMeaning self.old.roles self.new.roles) }
+        ensures kinds { OnOk result (IsEliminated self.old.roles r c self.new.roles) }
         ensures flags { self.new.restricted ≡ self.old.restricted }
-        ensures table { IsTable self.new.slots }
+        ensures table { AreOverColumns self.new.roles }
 
-        ensures accepted { OnOk result (NoPivotPair self.old.slots r c) }
-        ensures overflow { (pair : Pair) → result ≡ Err (DictFault.Overflow pair) → PivotPair self.old.slots r c pair.operation pair.left pair.right × IsRefused pair }
+        ensures accepted { OnOk result (NoPivotPair self.old.roles r c) }
+        ensures overflow { (pair : Pair) → result ≡ Err (Refusal.Overflow pair) → RefusesPivot self.old.roles r c pair }
         ensures saved { self.new.saved ≡ self.old.saved }
         ensures room { self.old.room ≤ self.new.room }
-        ensures err { OnErr result (self.new.slots ≡ self.old.slots) }
+        ensures err { OnErr result (self.new.roles ≡ self.old.roles) }
     {
-        let changes = eliminate(self.alloc, self.slots(), r, c)?;
+        let changes = eliminate(self.alloc, self.roles(), r, c)?;
         self.write(changes)?;
         Ok(())
     }
 
     /// Makes the live column a dropped one: its entries stand among the dropped ones.
     pub fn drop_column(&mut self, c: Col) -> Result<(), AllocError>
-        requires { is_live self.old.slots c ≡ true }
-        ensures same { OnOk result (SameMeaning self.old.slots self.new.slots) }
-        ensures kinds { OnOk result (ChangesKind self.old.slots c Dropped self.new.slots) }
+        requires { is_live self.old.roles c ≡ true }
+        ensures same { OnOk result (SameMeaning self.old.roles self.new.roles) }
+        ensures kinds { OnOk result (ChangesKind self.old.roles c Dropped self.new.roles) }
         ensures flags { self.new.restricted ≡ self.old.restricted }
-        ensures table { IsTable self.new.slots }
+        ensures table { AreOverColumns self.new.roles }
         ensures saved { self.new.saved ≡ self.old.saved }
         ensures room { self.old.room ≤ self.new.room }
-        ensures err { OnErr result (self.new.slots ≡ self.old.slots) }
+        ensures err { OnErr result (self.new.roles ≡ self.old.roles) }
     {
-        let changes = Turn::Dropping.changes(self.alloc, self.slots(), c)?;
+        let changes = Turn::Dropping.changes(self.alloc, self.roles(), c)?;
         self.write(changes)?;
         Ok(())
     }
 
     /// Makes the dropped column a live one again.
     pub fn restore_column(&mut self, c: Col) -> Result<(), AllocError>
-        requires { has_dropped self.old.slots c ≡ true }
-        ensures same { OnOk result (SameMeaning self.old.slots self.new.slots) }
-        ensures kinds { OnOk result (ChangesKind self.old.slots c Live self.new.slots) }
+        requires { has_dropped self.old.roles c ≡ true }
+        ensures same { OnOk result (SameMeaning self.old.roles self.new.roles) }
+        ensures kinds { OnOk result (ChangesKind self.old.roles c Live self.new.roles) }
         ensures flags { self.new.restricted ≡ self.old.restricted }
-        ensures table { IsTable self.new.slots }
+        ensures table { AreOverColumns self.new.roles }
         ensures saved { self.new.saved ≡ self.old.saved }
         ensures room { self.old.room ≤ self.new.room }
-        ensures err { OnErr result (self.new.slots ≡ self.old.slots) }
+        ensures err { OnErr result (self.new.roles ≡ self.old.roles) }
     {
-        let changes = Turn::Restoring.changes(self.alloc, self.slots(), c)?;
+        let changes = Turn::Restoring.changes(self.alloc, self.roles(), c)?;
         self.write(changes)?;
         Ok(())
     }
 }
 
 impl Undo for Dict {
-    ghost use Rattle.cq_dict.specs.Table.{Quantities};
+    ghost use Rattle.cq_dict.specs.Roles.{Quantities};
     ghost use Rattle.cq_dict.specs.DictValue.{quantities_of};
 
     ghost Value = { Quantities };
@@ -351,28 +325,28 @@ impl Undo for Dict {
 
     fn mark(&mut self) -> Result<Mark, AllocError> {
         self.reserve(1)?;
-        let m = self.slots.mark().unwrap();
+        let m = self.roles.mark().unwrap();
         self.restricted.mark().unwrap();
         Ok(m)
     }
 
     fn undo(&mut self, m: Mark) {
-        self.slots.undo(m);
+        self.roles.undo(m);
         self.restricted.undo(m);
     }
 
     fn forget(&mut self, m: Mark) {
-        self.slots.forget(m);
+        self.roles.forget(m);
         self.restricted.forget(m);
     }
 
     fn reserve(&mut self, n: usize) -> Result<(), AllocError> {
-        self.slots.reserve(n)?;
+        self.roles.reserve(n)?;
         self.restricted.reserve(n)?;
         Ok(())
     }
 
     fn spare(&self) -> usize {
-        self.slots.spare().min(self.restricted.spare())
+        self.roles.spare().min(self.restricted.spare())
     }
 }

@@ -4,26 +4,26 @@
 //! dropped, as in Holzbaur's solver (1995), and can be restored.
 #![tactic(auto)]
 
-pub mod columns;
+mod columns;
 pub mod dict;
-pub mod exchange;
-pub mod form;
+mod exchange;
+mod form;
 pub mod table;
 
 ghost use Rattle.std.specs.Prelude.{ℕ, List};
 ghost use Rattle.spec_rational.specs.Rational.{ℚ};
 ghost use Rattle.cq_row.specs.Row.{Row};
-ghost use Rattle.cq_dict.specs.declared.table.Slot.{Slot};
-ghost use Rattle.cq_dict.specs.Table.{IsTable, AreFree, Expresses, SameNumbers};
+ghost use Rattle.cq_dict.specs.declared.table.Role.{Role};
+ghost use Rattle.cq_dict.specs.Roles.{AreOverColumns, AreFree, Expresses, SameNumbers};
 
-/// The columns of a table are free: every choice of their values is that of an assignment that meets it.
+/// Law: the columns are free, so every choice of their values is that of an assignment that meets the rows.
 pub fn columns_are_free()
-    ensures { (slots : List Slot) → IsTable slots → AreFree slots }
+    ensures { (roles : List Role) → AreOverColumns roles → AreFree roles }
 {}
 
 /// Over one table a value is expressed by one row alone.
 pub fn expressions_are_unique()
-    ensures { (slots : List Slot) (value : (ℕ → ℚ) → ℚ) (r s : Row) → IsTable slots → Expresses slots value r → Expresses slots value s → SameNumbers r s }
+    ensures { (roles : List Role) (value : (ℕ → ℚ) → ℚ) (r s : Row) → AreOverColumns roles → Expresses roles value r → Expresses roles value s → SameNumbers r s }
 {}
 
 #[cfg(test)]

@@ -1,4 +1,4 @@
-//! The slots of a dictionary, and the writing of new ones.
+//! The roles of a dictionary, and the writing of new ones.
 
 ghost use Rattle.std.specs.Prelude.{◌≡◌, ◌<◌, ◌≤◌, length, OnOk, OnErr};
 ghost use Rattle.cq_dict.specs.declared.table.Change.{Change};
@@ -10,30 +10,30 @@ use std::alloc::AllocError;
 
 /// What a quantity is: a live or a dropped column, or a row over columns.
 #[derive(Debug, Drop)]
-pub enum Slot {
+pub enum Role {
     Live,
     Dropped,
     Basic(Row),
 }
 
-/// A new slot for a quantity.
+/// A new role for a quantity.
 #[derive(Debug, Drop)]
 pub struct Change {
     pub at: usize,
-    pub slot: Slot,
+    pub role: Role,
 }
 
-/// Writes the new slots, all or none; all others stay where they are.
-pub fn write(slots: &mut Trail<Slot>, mut changes: Vec<Change>) -> Result<(), AllocError>
-    requires { (c : Change) → Changes c changes.items → c.at < length slots.old.now }
-    ensures written { OnOk result (IsWritten slots.old.now changes.items slots.new.now) }
-    ensures saved { slots.new.saved ≡ slots.old.saved }
-    ensures room { slots.old.room ≤ slots.new.room }
-    ensures err { OnErr result (slots.new.now ≡ slots.old.now) }
+/// Writes the new roles, all or none; all others stay where they are.
+pub fn write(roles: &mut Trail<Role>, mut changes: Vec<Change>) -> Result<(), AllocError>
+    requires { (c : Change) → Changes c changes.items → c.at < length roles.old.now }
+    ensures written { OnOk result (IsWritten roles.old.now changes.items roles.new.now) }
+    ensures saved { roles.new.saved ≡ roles.old.saved }
+    ensures room { roles.old.room ≤ roles.new.room }
+    ensures err { OnErr result (roles.new.now ≡ roles.old.now) }
 {
-    slots.reserve_saves(changes.len())?;
-    while let Some(Change { at, slot }) = changes.pop() {
-        slots.set(at, slot).unwrap();
+    roles.reserve_saves(changes.len())?;
+    while let Some(Change { at, role }) = changes.pop() {
+        roles.set(at, role).unwrap();
     }
     Ok(())
 }

@@ -5,8 +5,8 @@ ghost use Rattle.std.specs.Bool.{OnTrue};
 ghost use Rattle.cq_row.specs.declared.Entry.{Entry};
 ghost use Rattle.cq_row.specs.Rows.{Has};
 
-use crate::dict::{Dict, DictFault};
-use cq_frac::{Frac, Operation};
+use crate::dict::Dict;
+use cq_frac::{Frac, Operation, Refusal};
 use cq_row::{Entry, entry_at};
 use cq_trail::Undo;
 use std::alloc::Global;
@@ -25,17 +25,17 @@ fn within(form: &[Entry], count: usize) -> bool
     true
 }
 
-fn add(dict: &mut Dict, form: &[Entry], constant: Frac) -> Result<usize, DictFault>
+fn add(dict: &mut Dict, form: &[Entry], constant: Frac) -> Result<usize, Refusal>
     ensures { dict.new.saved ≡ dict.old.saved }
 {
     if within(form, dict.count()) {
         return dict.add_row(form, constant, false);
     }
-    Err(DictFault::NoMemory)
+    Err(Refusal::NoMemory)
 }
 
 /// Exchanges the two, where the row has an entry in the column.
-fn exchange(dict: &mut Dict, r: usize, c: usize) -> Result<(), DictFault>
+fn exchange(dict: &mut Dict, r: usize, c: usize) -> Result<(), Refusal>
     ensures { dict.new.saved ≡ dict.old.saved }
 {
     if r < dict.count() && dict.is_row(r) {
@@ -43,21 +43,21 @@ fn exchange(dict: &mut Dict, r: usize, c: usize) -> Result<(), DictFault>
             return dict.pivot(r, c);
         }
     }
-    Err(DictFault::NoMemory)
+    Err(Refusal::NoMemory)
 }
 
 /// The same, where the row's quantity is dropped at once.
-fn eliminate(dict: &mut Dict, r: usize, c: usize) -> Result<(), DictFault> {
+fn eliminate(dict: &mut Dict, r: usize, c: usize) -> Result<(), Refusal> {
     if r < dict.count() && dict.is_row(r) {
         if let Some(_) = entry_at(dict.row(r), c) {
             return dict.eliminate(r, c);
         }
     }
-    Err(DictFault::NoMemory)
+    Err(Refusal::NoMemory)
 }
 
 /// Drops a live column, or restores a dropped one.
-fn turn(dict: &mut Dict, c: usize) -> Result<(), DictFault>
+fn turn(dict: &mut Dict, c: usize) -> Result<(), Refusal>
     ensures { dict.new.saved ≡ dict.old.saved }
 {
     if c < dict.count() && !dict.is_row(c) {
@@ -68,10 +68,10 @@ fn turn(dict: &mut Dict, c: usize) -> Result<(), DictFault>
         }
         return Ok(());
     }
-    Err(DictFault::NoMemory)
+    Err(Refusal::NoMemory)
 }
 
-fn restrict(dict: &mut Dict, q: usize) -> Result<(), DictFault>
+fn restrict(dict: &mut Dict, q: usize) -> Result<(), Refusal>
     ensures { dict.new.saved ≡ dict.old.saved }
 {
     if q < dict.count() {
@@ -110,7 +110,7 @@ fn factor(dict: &Dict, r: usize, c: usize, live: bool) -> Option<Frac> {
 }
 
 /// X + Y = 3 and X - Y = 1, with X and Y the quantities 0 and 1, and the equations 2 and 3.
-fn solved(alloc: Global) -> Result<Dict, DictFault> {
+fn solved(alloc: Global) -> Result<Dict, Refusal> {
     let one = Frac::one();
     let mut dict = Dict::new(alloc);
     let x = dict.add_column(false)?;
@@ -180,7 +180,7 @@ fn an_eliminated_row_is_a_dropped_column_of_all_rows(rt: HostRuntime) -> Result<
 }
 
 /// Changes the solved dictionary in every way.
-fn change(dict: &mut Dict) -> Result<(), DictFault>
+fn change(dict: &mut Dict) -> Result<(), Refusal>
     ensures { dict.new.saved ≡ dict.old.saved }
 {
     turn(dict, 2)?;
@@ -193,7 +193,7 @@ fn change(dict: &mut Dict) -> Result<(), DictFault>
 }
 
 /// Changes it between marks, of which the inner one is forgotten, and undoes the changes.
-fn change_and_undo(dict: &mut Dict) -> Result<(), DictFault> {
+fn change_and_undo(dict: &mut Dict) -> Result<(), Refusal> {
     dict.reserve(2)?;
     let outer = dict.mark()?;
     turn(dict, 3)?;
@@ -235,7 +235,7 @@ fn a_fault_tells_its_pair_and_leaves_all_as_it_was(rt: HostRuntime) -> Result<()
         dict.restrict(x)?;
     }
     match add(&mut dict, &[entry(row, Frac::from(2))], Frac::zero()) {
-        Err(DictFault::Overflow(pair)) => {
+        Err(Refusal::Overflow(pair)) => {
             assert_eq!(rt; pair.operation, Operation::Product);
             assert_eq!(rt; pair.left, Frac::from(2));
             assert_eq!(rt; pair.right, most);
@@ -243,7 +243,7 @@ fn a_fault_tells_its_pair_and_leaves_all_as_it_was(rt: HostRuntime) -> Result<()
         _ => assert!(rt; false),
     }
     match exchange(&mut dict, row, x) {
-        Err(DictFault::Overflow(pair)) => {
+        Err(Refusal::Overflow(pair)) => {
             assert_eq!(rt; pair.operation, Operation::Quotient);
             assert_eq!(rt; pair.left, most);
             assert_eq!(rt; pair.right, half);

@@ -23,7 +23,7 @@ use Rattle.cq_frac.specs.Fits.{SumRefused}
 use Rattle.cq_frac.specs.Refused.{IsRefused, Refuses as RefusesNumbers}
 use Rattle.cq_form.specs.Pairs.{products_of, form_of}
 use Rattle.cq_form.specs.Steps.{HasCoefficient, of_variable as common, of_variable as multiple, SumPair, coefficients as common_pair, constants as constants_pair, ScalePair, coefficient as multiple_pair, constant as constant_pair}
-use Rattle.cq_equations.specs.Pairs.{Meets, coefficients, constants, operands, Refuses}
+use Rattle.cq_equations.specs.Pairs.{OperandPair, coefficients, constants, operands, Refuses}
 
 -- ---- negated forms
 
@@ -66,24 +66,24 @@ coefficient_is low x q (m ∷ s) o (inr h) =
 abbrev pub on : Operation → Linear → Linear → Operands
 on o f g = record { operation = o; left = f; right = g }
 
-sum_meets : (f g : Linear) → IsForm f → IsForm g → (o : Operation) (p q : ℚ) → SumPair f g o p q → Meets (on Addition f g ∷ []) o p q
+sum_meets : (f g : Linear) → IsForm f → IsForm g → (o : Operation) (p q : ℚ) → SumPair f g o p q → OperandPair (on Addition f g ∷ []) o p q
 sum_meets f g h k o p q (common_pair m n (common x a b)) =
-    subst (λ r. Meets (on Addition f g ∷ []) Addition r n) (coefficient_is 0 x m f.products h a)
-    (subst (λ r. Meets (on Addition f g ∷ []) Addition (factor_of x f.products) r) (coefficient_is 0 x n g.products k b)
+    subst (λ r. OperandPair (on Addition f g ∷ []) Addition r n) (coefficient_is 0 x m f.products h a)
+    (subst (λ r. OperandPair (on Addition f g ∷ []) Addition (factor_of x f.products) r) (coefficient_is 0 x n g.products k b)
     (coefficients (on Addition f g) (inl refl) (inl refl) x))
 sum_meets f g h k o p q constants_pair = constants (on Addition f g) (inl refl) (inl refl)
 
 pub sum_refused : (f g : Linear) → IsForm f → IsForm g → (pair : Pair) → SumPair f g pair.operation pair.left pair.right × IsRefused pair → Refuses (on Addition f g ∷ []) pair
 sum_refused f g h k pair w = record { meets = sum_meets f g h k pair.operation pair.left pair.right w.0; refused = w.1 }
 
-difference_meets : (f g : Linear) → IsForm f → IsForm g → (o : Operation) (p q : ℚ) → SumPair f (negated_form g) o p q → Meets (on Difference f g ∷ []) Difference p (neg_ℚ q)
+difference_meets : (f g : Linear) → IsForm f → IsForm g → (o : Operation) (p q : ℚ) → SumPair f (negated_form g) o p q → OperandPair (on Difference f g ∷ []) Difference p (neg_ℚ q)
 difference_meets f g h k o p q (common_pair m n (common x a b)) =
-    subst (λ r. Meets (on Difference f g ∷ []) Difference r (neg_ℚ n)) (coefficient_is 0 x m f.products h a)
-    (subst (λ r. Meets (on Difference f g ∷ []) Difference (factor_of x f.products) r)
+    subst (λ r. OperandPair (on Difference f g ∷ []) Difference r (neg_ℚ n)) (coefficient_is 0 x m f.products h a)
+    (subst (λ r. OperandPair (on Difference f g ∷ []) Difference (factor_of x f.products) r)
     (factor_of-negated x g.products ∙ ap neg_ℚ (coefficient_is 0 x n (negated_products g.products) (IsForm-negated_form g k) b))
     (coefficients (on Difference f g) (inl refl) (inr refl) x))
 difference_meets f g h k o p q constants_pair =
-    subst (Meets (on Difference f g ∷ []) Difference f.constant) (sym (neg-neg g.constant)) (constants (on Difference f g) (inl refl) (inr refl))
+    subst (OperandPair (on Difference f g ∷ []) Difference f.constant) (sym (neg-neg g.constant)) (constants (on Difference f g) (inl refl) (inr refl))
 
 difference_refuses : (f g : Linear) (o : Operation) (p q : ℚ) → SumPair f g o p q → RefusesNumbers o p q → SumRefused p (neg_ℚ (neg_ℚ q))
 difference_refuses f g o p q (common_pair m n w) r = subst (SumRefused m) (sym (neg-neg n)) r
@@ -101,9 +101,9 @@ difference_refused f g n h k i pair w q e told t =
     subst (Refuses (on Difference f g ∷ [])) t
     (subst (λ r. Refuses (on Difference f g ∷ []) (record { operation = Difference; left = pair.left; right = r })) (sym e) all)
 
-product_meets : (k : ℚ) (f : Linear) → IsForm f → (o : Operation) (p q : ℚ) → ScalePair k f o p q → Meets (on Times (constant_form k) f ∷ []) o p q
+product_meets : (k : ℚ) (f : Linear) → IsForm f → (o : Operation) (p q : ℚ) → ScalePair k f o p q → OperandPair (on Times (constant_form k) f ∷ []) o p q
 product_meets k f h o p q (multiple_pair n (multiple x a)) =
-    subst (Meets (on Times (constant_form k) f ∷ []) Times k) (coefficient_is 0 x n f.products h a)
+    subst (OperandPair (on Times (constant_form k) f ∷ []) Times k) (coefficient_is 0 x n f.products h a)
     (operands (on Times (constant_form k) f) (inl refl) (inl refl) of_constant (number_of_variable x))
 product_meets k f h o p q constant_pair = operands (on Times (constant_form k) f) (inl refl) (inl refl) of_constant of_constant
 
@@ -116,7 +116,7 @@ product_refused k x f e pair w = record {
 
 -- ---- more operations
 
-meets_in : {s t : List Operands} → ((o : Operands) → Has o s → Has o t) → (o : Operation) (p q : ℚ) → Meets s o p q → Meets t o p q
+meets_in : {s t : List Operands} → ((o : Operands) → Has o s → Has o t) → (o : Operation) (p q : ℚ) → OperandPair s o p q → OperandPair t o p q
 meets_in h o p q (coefficients d has is x) = coefficients d (h d has) is x
 meets_in h o p q (constants d has is) = constants d (h d has) is
 meets_in h o p q (operands d has is a b) = operands d (h d has) is a b

@@ -9,7 +9,8 @@ use Rattle.spec_echelon.specs.Echelon.{AreDistinct}
 use Rattle.cq_frac.specs.declared.VarId.{VarId}
 use Rattle.spec_rational.specs.Rational.{ℚ}
 use Rattle.cq_form.specs.Pairs.{product_of, products_of}
-use Rattle.cq_project.specs.Rows.{numbers_of, Knows}
+use Rattle.cq_store.specs.Told.{numbers_of}
+use Rattle.cq_project.specs.Rows.{Knows}
 
 nat_same : (a b : ℕ) → nat_eq a b ≡ true → a ≡ b
 nat_same a b e = grind arith
@@ -53,10 +54,6 @@ once : (ps qs : List VarId) (x : VarId) → AreDistinct (numbers_of (ps ++ x ∷
 once [] qs x d h = h
 once (a ∷ ps) qs x d (inl e) = d.0 (subst (λ z. Has z (numbers_of (ps ++ x ∷ qs))) e (has_back ps (x ∷ qs) x.0 (inl refl)))
 once (a ∷ ps) qs x d (inr h) = once ps qs x d.1 h
-
-front_distinct : (ps qs : List VarId) → AreDistinct (numbers_of (ps ++ qs)) → AreDistinct (numbers_of ps)
-front_distinct [] qs d = tt
-front_distinct (a ∷ ps) qs d = ((λ h. d.0 (has_front ps qs a.0 h)), front_distinct ps qs d.1)
 
 -- distinct variables with the front behind
 pub distinct_swap : (ps qs : List VarId) → AreDistinct (numbers_of (ps ++ qs)) → AreDistinct (numbers_of (qs ++ ps))
@@ -135,15 +132,6 @@ module _ (eq : VarId → VarId → Bool) (same : (a b : VarId) → eq a b ≡ na
             there = subst (λ t. Has x.0 (numbers_of t)) e (has_back keys (x ∷ []) x.0 (inl refl));
             stays = grow;
           }
-
--- at the start
-pub knows_wanted : (keep keys : List VarId) → AreDistinct (numbers_of keep) → keys ≡ keep → Knows keep [] keys
-knows_wanted keep keys d e = record {
-  others = [];
-  split = e ∙ sym (append-nil keep);
-  distinct = subst (λ t. AreDistinct (numbers_of t)) (sym e) d;
-  all = λ y m. absurd m;
-}
 
 mentions_either : (s t : List Monomial) (y : ℕ) → Mentions y (s ++ t) → Mentions y s ⊎ Mentions y t
 mentions_either [] t y h = inr h

@@ -10,7 +10,8 @@ use Rattle.spec_linear.specs.Form.{Linear}
 use Rattle.spec_echelon.specs.SolvedForm.{row_at, rows_of}
 use Rattle.cq_frac.specs.declared.VarId.{VarId}
 use Rattle.cq_project.specs.declared.Equation.{Equation}
-use Rattle.cq_project.specs.Rows.{numbers_of, product_of, solved_of, equations_of}
+use Rattle.cq_store.specs.Told.{numbers_of}
+use Rattle.cq_project.specs.Rows.{product_of, solved_of, equations_of}
 
 -- one more product
 pub places_more : (s : List Monomial) (items new : List (VarId × ℚ)) (i : ℕ) (p : VarId × ℚ) → map product_of items ≡ take i s → i < length s → slice_get s i ≡ Some (product_of p) → new ≡ items ++ p ∷ [] → map product_of new ≡ take (i + 1) s

@@ -8,7 +8,8 @@ use Rattle.spec_linear.specs.declared.Relation.TheVariants.{Eq}
 use Rattle.spec_linear.specs.Solution.{Constraint, Has, SomeMentions, AreEquations, Solves, Solvable, Unsolvable}
 use Rattle.spec_echelon.specs.Echelon.{AreDistinct, variables}
 use Rattle.cq_frac.specs.declared.VarId.{VarId}
-use Rattle.cq_project.specs.Rows.{numbers_of, Knows, IsOrdered}
+use Rattle.cq_store.specs.Told.{numbers_of}
+use Rattle.cq_project.specs.Rows.{Knows, IsOrdered}
 use Rattle.cq_project.proofs.Known.{distinct_swap}
 
 has_ends : (ps qs : List ℕ) (x : ℕ) → Has x (ps ++ x ∷ qs)

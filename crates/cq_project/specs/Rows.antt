@@ -6,12 +6,8 @@ use Rattle.spec_linear.specs.Solution.{Constraint, MentionsOnly}
 use Rattle.spec_echelon.specs.Echelon.{Solved, AreDistinct}
 use Rattle.cq_frac.specs.declared.Pair.{Pair}
 use Rattle.cq_frac.specs.declared.VarId.{VarId}
-use Rattle.cq_store.specs.Told.{CallMakes}
+use Rattle.cq_store.specs.Told.{numbers_of, CallMakes}
 use Rattle.cq_project.specs.declared.Equation.{Equation}
-
--- the numbers of variables
-abbrev pub numbers_of : List VarId → List ℕ
-numbers_of xs = map (λ x. x.0) xs
 
 -- a variable and its factor
 abbrev pub product_of : VarId × ℚ → Monomial

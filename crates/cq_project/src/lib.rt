@@ -8,7 +8,8 @@ ghost use Rattle.spec_echelon.specs.Echelon.{AreDistinct, IsEchelon, equations};
 ghost use Rattle.spec_echelon.specs.SolvedForm.{rows_of, IsSolvedForm};
 ghost use Rattle.cq_store.specs.Contents.{told_of, order_of, solved_of as solution_of};
 ghost use Rattle.cq_frac.specs.declared.Pair.{Pair};
-ghost use Rattle.cq_project.specs.Rows.{numbers_of, equations_of, solved_of, Knows, IsOrdered, ProjectionMakes};
+ghost use Rattle.cq_store.specs.Told.{numbers_of};
+ghost use Rattle.cq_project.specs.Rows.{equations_of, solved_of, Knows, IsOrdered, ProjectionMakes};
 
 use cq_form::Constraint;
 use cq_frac::{Frac, Pair, VarId};

@@ -1,6 +1,7 @@
 //! Sparse rows of exact fractions: entries in ascending order of their quantities, none of them zero.
 #![tactic(auto)]
 
+pub mod fault;
 pub mod rows;
 
 ghost use Rattle.std.specs.Prelude.{◌≡◌, ◌≢◌, ◌≤◌, ◌⊎◌, ℕ, Bool, true, List, length, IfOk, OnOk, OnErr, MatchOption, MatchResult};

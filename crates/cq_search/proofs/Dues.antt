@@ -72,7 +72,7 @@ module _ (q : Query) where
   abbrev terms : List Operands
   terms = operations q ++ map turned q.relations
 
-  met : (l : List Constraint) (asked : List Linear) {o : Operation} {a b : ℚ} → equation.Meets (operations q) o a b
+  met : (l : List Constraint) (asked : List Linear) {o : Operation} {a b : ℚ} → equation.OperandPair (operations q) o a b
       → Makes (record { stage = settling; list = l; asked = asked; operations = terms; rows = [] }) o a b
   met l asked (equation.coefficients o h s x) = coefficients o (has_front (operations q) (map turned q.relations) o h) s x
   met l asked (equation.constants o h s) = constants o (has_front (operations q) (map turned q.relations) o h) s

@@ -6,7 +6,7 @@ ghost use Rattle.spec_answers.specs.Lines.{is_hidden};
 ghost use Rattle.spec_equations.specs.Answer.{targets};
 ghost use Rattle.spec_queries.specs.Meaning.{told};
 ghost use Rattle.cq_store.specs.Contents.{told_of};
-ghost use Rattle.cq_project.specs.Rows.{numbers_of};
+ghost use Rattle.cq_store.specs.Told.{numbers_of};
 ghost use Rattle.cq_search.specs.Finding.{IsFound};
 ghost use Rattle.cq_search.specs.Values.{bound_by, branch_in};
 

@@ -10,12 +10,11 @@ use Rattle.cq_row.specs.Rows.{Has, Lacks, IsRowFrom, negated}
 use Rattle.cq_row.proofs.Units.{at_unit, no_entry, has_least}
 use Rattle.cq_row.proofs.Steps.{has_end}
 use Rattle.cq_row.proofs.Shifts.{entry_not_zero}
-use Rattle.cq_dict.specs.declared.table.Slot.{Slot}
-use Rattle.cq_dict.specs.declared.table.Slot.TheVariants.{Live, Basic}
-use Rattle.cq_dict.specs.Table.{IsAt, IsTable, HasEntry, is_live, is_restricted}
-use Rattle.cq_dict.proofs.Slots.{equal_or_not, at_below, slot_live}
-use Rattle.cq_simplex.specs.Tableau.{dictionary, is_row, factor_at}
-use Rattle.cq_simplex.proofs.Slots.{Found, found, factor_is}
+use Rattle.cq_dict.specs.declared.table.Role.{Role}
+use Rattle.cq_dict.specs.declared.table.Role.TheVariants.{Live, Basic}
+use Rattle.cq_dict.specs.Roles.{IsAt, AreOverColumns, HasEntry, is_live, is_restricted, is_row, factor_at}
+use Rattle.cq_dict.proofs.Roles.{equal_or_not, at_below, role_live, Found, found, factor_is}
+use Rattle.cq_simplex.specs.Dictionary.{dictionary}
 use Rattle.cq_simplex.proofs.Columns.{entry_live}
 
 -- the list has an entry of the quantity, or none
@@ -51,27 +50,27 @@ each_more P s i m l e h p n k =
     let t = take_more s i m l ∙ ap (λ x. take i s ++ x ∷ []) (sym e) in
     elim (has_end (take i s) n m (subst (Has n) t k)) [ inl g ↦ h n g | inr g ↦ subst P (sym g) p ]
 
-module _ (slots : List Slot) (flags : List Bool) (table : IsTable slots) (asked : ℕ) (own : Row) (at : IsAt slots asked (Basic own)) where
-  pub entry_below : (m : Entry) → Has m own.live → m.quantity < length slots
-  entry_below m h = at_below slots m.quantity Live (slot_live slots m.quantity (entry_live slots table asked asked own at m h))
+module _ (roles : List Role) (flags : List Bool) (table : AreOverColumns roles) (asked : ℕ) (own : Row) (at : IsAt roles asked (Basic own)) where
+  pub entry_below : (m : Entry) → Has m own.live → m.quantity < length roles
+  entry_below m h = at_below roles m.quantity Live (role_live roles m.quantity (entry_live roles table asked asked own at m h))
 
-  pub factor_of : (m : Entry) → Has m own.live → factor_at slots asked m.quantity ≡ m.factor
-  factor_of m h = factor_is slots asked own at m.quantity ∙ at_unit (is_live slots) 0 own.live m (table.rows asked own at).live_row h
+  pub factor_of : (m : Entry) → Has m own.live → factor_at roles asked m.quantity ≡ m.factor
+  factor_of m h = factor_is roles asked own at m.quantity ∙ at_unit (is_live roles) 0 own.live m (table.rows asked own at).live_row h
 
-  pub free_is : (m : Entry) → Has m own.live → is_restricted flags m.quantity ≡ false → IsFree (is_restricted flags) (dictionary slots asked) m.quantity
+  pub free_is : (m : Entry) → Has m own.live → is_restricted flags m.quantity ≡ false → IsFree (is_restricted flags) (dictionary roles asked) m.quantity
   free_is m h f = record {
-    column = entry_live slots table asked asked own at m h;
+    column = entry_live roles table asked asked own at m h;
     flag = f;
-    coefficient = λ e. entry_not_zero (is_live slots) 0 own.live m.quantity m.factor (table.rows asked own at).live_row h (sym (factor_of m h) ∙ e);
+    coefficient = λ e. entry_not_zero (is_live roles) 0 own.live m.quantity m.factor (table.rows asked own at).live_row h (sym (factor_of m h) ∙ e);
   }
 
-  lacking : (c : ℕ) → Lacks c own.live → factor_at slots asked c ≡ 0ℚ
-  lacking c l = factor_is slots asked own at c ∙ no_entry c own.live l
+  lacking : (c : ℕ) → Lacks c own.live → factor_at roles asked c ≡ 0ℚ
+  lacking c l = factor_is roles asked own at c ∙ no_entry c own.live l
 
-  pub none_free : ((m : Entry) → Has m own.live → is_restricted flags m.quantity ≡ true) → (c : ℕ) → is_live slots c ≡ true → is_restricted flags c ≡ false → factor_at slots asked c ≡ 0ℚ
+  pub none_free : ((m : Entry) → Has m own.live → is_restricted flags m.quantity ≡ true) → (c : ℕ) → is_live roles c ≡ true → is_restricted flags c ≡ false → factor_at roles asked c ≡ 0ℚ
   none_free h c l f = go (entry_or_lacks c own.live)
     where
-      go : EntryOf c own.live ⊎ Lacks c own.live → factor_at slots asked c ≡ 0ℚ
+      go : EntryOf c own.live ⊎ Lacks c own.live → factor_at roles asked c ≡ 0ℚ
       go (inr k) = lacking c k
       go (inl e) = let g = subst (λ z. is_restricted flags z ≡ true) e.of (h e.entry e.in_list) in cc
 
@@ -79,14 +78,14 @@ module _ (slots : List Slot) (flags : List Bool) (table : IsTable slots) (asked 
   abbrev pub Raising : Entry → Type 0
   Raising m = IsPositive m.factor × (is_restricted flags m.quantity ≡ true)
 
-  pub raises_is : (m : Entry) → Has m own.live → Raising m → Raises (is_restricted flags) (dictionary slots asked) m.quantity
+  pub raises_is : (m : Entry) → Has m own.live → Raising m → Raises (is_restricted flags) (dictionary roles asked) m.quantity
   raises_is m h r = record {
-    column = entry_live slots table asked asked own at m h;
+    column = entry_live roles table asked asked own at m h;
     flag = r.1;
     coefficient = subst IsPositive (sym (factor_of m h)) r.0;
   }
 
-  pub entry_raising : (c : ℕ) → Raises (is_restricted flags) (dictionary slots asked) c → (m : Entry) × Has m own.live × (m.quantity ≡ c) × Raising m
+  pub entry_raising : (c : ℕ) → Raises (is_restricted flags) (dictionary roles asked) c → (m : Entry) × Has m own.live × (m.quantity ≡ c) × Raising m
   entry_raising c r = go (entry_or_lacks c own.live)
     where
       go : EntryOf c own.live ⊎ Lacks c own.live → (m : Entry) × Has m own.live × (m.quantity ≡ c) × Raising m
@@ -96,34 +95,34 @@ module _ (slots : List Slot) (flags : List Bool) (table : IsTable slots) (asked 
         e.in_list,
         e.of,
         (
-          subst IsPositive (sym (ap (factor_at slots asked) e.of) ∙ factor_of e.entry e.in_list) (subst (λ z. IsPositive (factor_at slots asked z)) refl r.coefficient),
+          subst IsPositive (sym (ap (factor_at roles asked) e.of) ∙ factor_of e.entry e.in_list) (subst (λ z. IsPositive (factor_at roles asked z)) refl r.coefficient),
           subst (λ z. is_restricted flags z ≡ true) (sym e.of) r.flag,
         ),
       )
 
-  pub none_raises : ((m : Entry) → Has m own.live → Raising m → ⊥) → (c : ℕ) → Raises (is_restricted flags) (dictionary slots asked) c → ⊥
+  pub none_raises : ((m : Entry) → Has m own.live → Raising m → ⊥) → (c : ℕ) → Raises (is_restricted flags) (dictionary roles asked) c → ⊥
   none_raises h c r = let e = entry_raising c r in h e.0 e.1 e.3
 
-  pub first_enters : (i : ℕ) (m : Entry) → i < length own.live → m ≡ get_or own.live i m → Has m own.live → ((n : Entry) → Has n (take i own.live) → Raising n → ⊥) → Raising m → Enters (is_restricted flags) (dictionary slots asked) m.quantity
+  pub first_enters : (i : ℕ) (m : Entry) → i < length own.live → m ≡ get_or own.live i m → Has m own.live → ((n : Entry) → Has n (take i own.live) → Raising n → ⊥) → Raising m → Enters (is_restricted flags) (dictionary roles asked) m.quantity
   first_enters i m l e h none r = record { raises = raises_is m h r; least = λ q k. least q k }
     where
-      least : (q : ℕ) → Raises (is_restricted flags) (dictionary slots asked) q → m.quantity ≤ q
+      least : (q : ℕ) → Raises (is_restricted flags) (dictionary roles asked) q → m.quantity ≤ q
       least q k =
           let n = entry_raising q k in
-          elim (before_or_after (is_live slots) 0 own.live i m n.0 (table.rows asked own at).live_row l e n.1) [
+          elim (before_or_after (is_live roles) 0 own.live i m n.0 (table.rows asked own at).live_row l e n.1) [
             | inl g ↦ absurd (none n.0 g n.3)
             | inr g ↦ omega (arith, g, n.2)
           ]
 
 -- a column with a factor in a row is one of its entries
-pub has_entry : (slots : List Slot) (r c : ℕ) → is_row slots r ≡ true → (factor_at slots r c ≡ 0ℚ → ⊥) → HasEntry slots r c
-has_entry slots r c h n = at_row (found slots r h)
+pub has_entry : (roles : List Role) (r c : ℕ) → is_row roles r ≡ true → (factor_at roles r c ≡ 0ℚ → ⊥) → HasEntry roles r c
+has_entry roles r c h n = at_row (found roles r h)
   where
-    at_row : Found slots r → HasEntry slots r c
+    at_row : Found roles r → HasEntry roles r c
     at_row f = go (entry_or_lacks c f.row.live)
       where
-        go : EntryOf c f.row.live ⊎ Lacks c f.row.live → HasEntry slots r c
-        go (inr l) = absurd (n (factor_is slots r f.row f.at c ∙ no_entry c f.row.live l))
+        go : EntryOf c f.row.live ⊎ Lacks c f.row.live → HasEntry roles r c
+        go (inr l) = absurd (n (factor_is roles r f.row f.at c ∙ no_entry c f.row.live l))
         go (inl e) = record {
           own = f.row;
           factor = e.entry.factor;

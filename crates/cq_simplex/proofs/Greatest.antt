@@ -15,20 +15,20 @@ use Rattle.cq_row.specs.Row.{Row}
 use Rattle.cq_row.specs.Rows.{sum_at, Has, negated}
 use Rattle.cq_row.proofs.Units.{sum_at-negated}
 use Rattle.cq_row.proofs.Shifts.{entry_not_zero}
-use Rattle.cq_dict.specs.declared.table.Slot.{Slot}
-use Rattle.cq_dict.specs.declared.table.Slot.TheVariants.{Basic}
-use Rattle.cq_dict.specs.Table.{IsAt, is_live, is_dropped, is_restricted}
+use Rattle.cq_dict.specs.declared.table.Role.{Role}
+use Rattle.cq_dict.specs.declared.table.Role.TheVariants.{Basic}
+use Rattle.cq_dict.specs.Roles.{IsAt, is_live, is_dropped, is_restricted, constant_at, is_row}
 use Rattle.cq_simplex.specs.declared.Aim.{Aim}
 use Rattle.cq_simplex.specs.declared.Max.{Max}
 use Rattle.cq_simplex.specs.declared.Max.TheVariants as max_of
-use Rattle.cq_simplex.specs.Tableau.{dictionary, constant_at, is_row, IsReached}
-use Rattle.cq_simplex.specs.Answers.{IsAdmitted, IsSolution, IsMaximum, AreMultipliers, IsUnbounded, IsAnswer, AreSpent}
+use Rattle.cq_simplex.specs.Dictionary.{dictionary, IsReached}
+use Rattle.cq_simplex.specs.Answers.{IsAdmitted, IsSolution, IsMaximum, AreMultipliers, RisesWithoutEnd, IsAnswer, AreSpent}
 use Rattle.cq_simplex.specs.Turns.{IsFound}
-use Rattle.cq_simplex.proofs.Slots.{is_row_of, row_is_not_dropped, dropped_is_no_row, constant_is}
+use Rattle.cq_dict.proofs.Roles.{is_row_of, row_is_not_dropped, dropped_is_no_row, constant_is}
 use Rattle.cq_simplex.proofs.Columns.{is_dictionary, satisfies, admitted, admitted_as, cleared, cleared_is, asked_is, entry_live, sum_zero}
 use Rattle.cq_simplex.proofs.Entries.{raises_is, factor_of, negated_entry}
 
-module _ (flags : List Bool) (asked : ℕ) (old : List Slot) (n : ℕ) (now : List Slot) (h : IsReached flags asked old n now) where
+module _ (flags : List Bool) (asked : ℕ) (old : List Role) (n : ℕ) (now : List Role) (h : IsReached flags asked old n now) where
   abbrev d : Dictionary
   d = dictionary now asked
 
@@ -97,7 +97,7 @@ module _ (flags : List Bool) (asked : ℕ) (old : List Slot) (n : ℕ) (now : Li
       }
 
   -- ---- no greatest value
-  unbounded : of_spec.IsUnbounded (length now) (is_restricted flags) d → IsUnbounded old flags asked
+  unbounded : of_spec.IsUnbounded (length now) (is_restricted flags) d → RisesWithoutEnd old flags asked
   unbounded u r = go (u r)
     where
       go : Exceeds (length now) (is_restricted flags) d r → (x : ℕ → ℚ) × IsSolution old flags x × (r <ℚ x asked)
@@ -125,7 +125,7 @@ module _ (flags : List Bool) (asked : ℕ) (old : List Slot) (n : ℕ) (now : Li
   answers aim (max_of.Unbounded c) (inr u) = (unbounded (free_value (length now) (is_restricted flags) d is_one h.feasible c u), inr u)
 
 -- ---- a budget that suffices
-pub suffices : (flags : List Bool) (asked : ℕ) (old : List Slot) (aim : Aim) (budget : ℕ) (new : List Slot) → IsFeasible (is_restricted flags) (dictionary old asked) → AreSpent old flags asked aim budget new → 2 ^ length old ≤ budget → ⊥
+pub suffices : (flags : List Bool) (asked : ℕ) (old : List Role) (aim : Aim) (budget : ℕ) (new : List Role) → IsFeasible (is_restricted flags) (dictionary old asked) → AreSpent old flags asked aim budget new → 2 ^ length old ≤ budget → ⊥
 suffices flags asked old aim budget new f s e =
     let short = chain_short (length old) (is_restricted flags) (dictionary old asked) budget (dictionary new asked) f s.reached.chain in
     omega (arith, short, e)

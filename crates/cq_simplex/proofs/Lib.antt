@@ -1,4 +1,4 @@
-pub mod Slots
+pub mod Roles
 pub mod Columns
 pub mod Entries
 pub mod Ratios

@@ -9,19 +9,19 @@ use Rattle.spec_simplex.specs.Rule.{IsDue, Exchanged, Chain}
 use Rattle.spec_simplex.proofs.Solutions.{writes, alike_itself, true_not_false}
 use Rattle.spec_simplex.proofs.Chains.{no_exchange, one_more}
 use Rattle.spec_simplex.proofs.Exchanges.{feasible_after}
-use Rattle.cq_dict.specs.declared.table.Slot.{Slot}
-use Rattle.cq_dict.specs.declared.table.Slot.TheVariants.{Live}
-use Rattle.cq_dict.specs.Table.{IsRow, IsTable, IsMet, HasEntry, IsExchanged, is_live, is_dropped, is_restricted}
+use Rattle.cq_dict.specs.declared.table.Role.{Role}
+use Rattle.cq_dict.specs.declared.table.Role.TheVariants.{Live}
+use Rattle.cq_dict.specs.Roles.{IsRow, AreOverColumns, IsMet, HasEntry, IsExchanged, is_live, is_dropped, is_restricted, is_row, factor_at}
 use Rattle.cq_dict.specs.Dict.{SameMeaning}
-use Rattle.cq_dict.proofs.Slots.{live_at}
-use Rattle.cq_simplex.specs.Tableau.{dictionary, is_row, factor_at, IsReached}
+use Rattle.cq_dict.proofs.Roles.{live_at, found, is_row_of, live_is_no_row, row_is_not_dropped, row_on}
+use Rattle.cq_simplex.specs.Dictionary.{dictionary, IsReached}
 use Rattle.cq_simplex.specs.Answers.{IsAdmitted}
-use Rattle.cq_simplex.proofs.Slots.{found, is_row_of, live_is_no_row, row_is_not_dropped, row_kind, live_kind, dropped_after}
+use Rattle.cq_simplex.proofs.Roles.{dropped_after}
 use Rattle.cq_simplex.proofs.Columns.{is_dictionary, satisfies, agrees, admitted, cleared, cleared_is, asked_is}
 use Rattle.cq_simplex.proofs.Entries.{has_entry}
 
 -- what satisfies one table's dictionary satisfies another's, where the same assignments meet both
-pub carried : (one two : List Slot) (asked : ℕ) → IsTable one → IsTable two → IsRow one asked → IsRow two asked →
+pub carried : (one two : List Role) (asked : ℕ) → AreOverColumns one → AreOverColumns two → IsRow one asked → IsRow two asked →
     ((x : ℕ → ℚ) → IsMet x one → IsMet x two) → ((c : ℕ) → is_dropped two c ≡ is_dropped one c) →
     (x : ℕ → ℚ) (z : ℚ) → Satisfies (length one) (dictionary one asked) x z → Satisfies (length two) (dictionary two asked) x z
 carried one two asked t u r v met dropped x z s =
@@ -32,24 +32,24 @@ carried one two asked t u r v met dropped x z s =
     agrees two u asked y x z (λ q h. sym (cleared_is one t asked x q (sym (dropped q) ∙ h)))
     (subst (λ w. Satisfies (length two) (dictionary two asked) y w) (own ∙ sym (asked_is one t asked r x z s)) (satisfies two u asked v y b))
 
-pub begins : (flags : List Bool) (asked : ℕ) (slots : List Slot) → IsTable slots → IsRow slots asked → IsFeasible (is_restricted flags) (dictionary slots asked) → IsReached flags asked slots 0 slots
-begins flags asked slots t r f = record {
+pub begins : (flags : List Bool) (asked : ℕ) (roles : List Role) → AreOverColumns roles → IsRow roles asked → IsFeasible (is_restricted flags) (dictionary roles asked) → IsReached flags asked roles 0 roles
+begins flags asked roles t r f = record {
   table = t;
   size = refl;
   same = λ x. (λ m. m, λ m. m);
   dropped = λ c. refl;
   asked_row = r;
   feasible = f;
-  chain = no_exchange (length slots) (is_restricted flags) (dictionary slots asked) (is_dictionary slots t asked);
+  chain = no_exchange (length roles) (is_restricted flags) (dictionary roles asked) (is_dictionary roles t asked);
 }
 
 -- the row and the column of an exchange that is due
-pub due_entry : (slots : List Slot) (restricted : ℕ → Bool) (asked c r : ℕ) → IsDue restricted (dictionary slots asked) c r → HasEntry slots r c
-due_entry slots restricted asked c r d =
-    has_entry slots r c d.leaves.limits.row
+pub due_entry : (roles : List Role) (restricted : ℕ → Bool) (asked c r : ℕ) → IsDue restricted (dictionary roles asked) c r → HasEntry roles r c
+due_entry roles restricted asked c r d =
+    has_entry roles r c d.leaves.limits.row
     (λ e. not_pos_zero (subst IsPositive (ap neg_ℚ e ∙ ring [] (minus (int (pos 0))) (int (pos 0)) refl) d.leaves.limits.falls))
 
-module _ (flags : List Bool) (asked : ℕ) (old : List Slot) (n : ℕ) (now new : List Slot) (h : IsReached flags asked old n now) (c r : ℕ) (due : IsDue (is_restricted flags) (dictionary now asked) c r) (same : SameMeaning now new) (x : IsExchanged now r c new) (t : IsTable new) where
+module _ (flags : List Bool) (asked : ℕ) (old : List Role) (n : ℕ) (now new : List Role) (h : IsReached flags asked old n now) (c r : ℕ) (due : IsDue (is_restricted flags) (dictionary now asked) c r) (same : SameMeaning now new) (x : IsExchanged now r c new) (t : AreOverColumns new) where
   column : is_live now c ≡ true
   column = due.enters.raises.column
 
@@ -61,7 +61,7 @@ module _ (flags : List Bool) (asked : ℕ) (old : List Slot) (n : ℕ) (now new 
   not_entering e = true_not_false (is_row now c) (subst (λ q. is_row now q ≡ true) e (is_row_of now asked h.asked_row)) (live_is_no_row now c column)
 
   asked_after : IsRow new asked
-  asked_after = (x.others asked not_leaving not_entering).row.0 h.asked_row
+  asked_after = row_on now new asked (x.others asked not_leaving not_entering) h.asked_row
 
   leaving_row : IsRow now r
   leaving_row = let f = found now r due.leaves.limits.row in (f.row, f.at)
@@ -73,8 +73,8 @@ module _ (flags : List Bool) (asked : ℕ) (old : List Slot) (n : ℕ) (now new 
   exchanged = record {
     row = is_row_of new c x.enters;
     column = live_at new r Live x.leaves;
-    other_rows = λ q k l. row_kind now new q (x.others q l k);
-    other_columns = λ q k l. live_kind now new q (x.others q l k);
+    other_rows = λ q k l. (x.others q l k).row;
+    other_columns = λ q k l. (x.others q l k).live;
   }
 
   size_now : length now ≡ length old

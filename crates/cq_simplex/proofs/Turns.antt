@@ -7,9 +7,9 @@ use Rattle.spec_rational.proofs.Ring.{var, int, ◌⊕◌, minus}
 use Rattle.spec_rational.proofs.Rational.{ring}
 use Rattle.spec_simplex.specs.Rule.{Raises, Enters, IsOptimal}
 use Rattle.cq_frac.specs.declared.Pair.{Pair}
-use Rattle.cq_dict.specs.declared.table.Slot.{Slot}
-use Rattle.cq_dict.specs.Table.{is_live, is_restricted}
-use Rattle.cq_simplex.specs.Tableau.{dictionary, factor_at}
+use Rattle.cq_dict.specs.declared.table.Role.{Role}
+use Rattle.cq_dict.specs.Roles.{is_live, is_restricted, factor_at}
+use Rattle.cq_simplex.specs.Dictionary.{dictionary}
 use Rattle.cq_simplex.specs.declared.Aim.{Aim}
 use Rattle.cq_simplex.specs.declared.Aim.TheVariants.{Positive}
 use Rattle.cq_simplex.specs.Answers.{IsOverflow, IsShort}
@@ -18,14 +18,14 @@ use Rattle.cq_simplex.specs.Turns.{IsRefusedRatio}
 pub not_above : (v : ℚ) → IsNotNegative (neg_ℚ v) → v ≤ℚ 0ℚ
 not_above v h = record { gap = subst IsNotNegative (ring (v ∷ []) (minus (var 0)) (int (pos 0) ⊕ minus (var 0)) refl) h }
 
-pub optimal : (slots : List Slot) (flags : List Bool) (asked : ℕ) →
-    ((c : ℕ) → is_live slots c ≡ true → is_restricted flags c ≡ false → factor_at slots asked c ≡ 0ℚ) →
-    ((c : ℕ) → Raises (is_restricted flags) (dictionary slots asked) c → ⊥) → IsOptimal (is_restricted flags) (dictionary slots asked)
-optimal slots flags asked free none = record { restricted_columns = none; other_columns = free }
+pub optimal : (roles : List Role) (flags : List Bool) (asked : ℕ) →
+    ((c : ℕ) → is_live roles c ≡ true → is_restricted flags c ≡ false → factor_at roles asked c ≡ 0ℚ) →
+    ((c : ℕ) → Raises (is_restricted flags) (dictionary roles asked) c → ⊥) → IsOptimal (is_restricted flags) (dictionary roles asked)
+optimal roles flags asked free none = record { restricted_columns = none; other_columns = free }
 
-pub overflows : (slots : List Slot) (flags : List Bool) (asked column : ℕ) (pair : Pair) → Enters (is_restricted flags) (dictionary slots asked) column →
-    ((row : ℕ) × IsRefusedRatio slots flags asked column row pair) → IsOverflow flags asked slots pair
-overflows slots flags asked column pair e r = record {
+pub overflows : (roles : List Role) (flags : List Bool) (asked column : ℕ) (pair : Pair) → Enters (is_restricted flags) (dictionary roles asked) column →
+    ((row : ℕ) × IsRefusedRatio roles flags asked column row pair) → IsOverflow flags asked roles pair
+overflows roles flags asked column pair e r = record {
   column = column;
   row = r.0;
   enters = e;

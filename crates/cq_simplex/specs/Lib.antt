@@ -1,4 +1,4 @@
-pub mod Tableau
+pub mod Dictionary
 pub mod Answers
 pub mod Checked
 pub mod Turns

@@ -1,12 +1,9 @@
 //! The ratio test: which row limits a column first.
 
-ghost use Rattle.std.specs.Prelude.{◌≡◌, ℕ, ◌<◌, length, true, IfOk, MatchOption};
-ghost use Rattle.spec_rational.specs.Rational.{ℚ};
-ghost use Rattle.spec_simplex.specs.Rule.{Limits, Leaves, ratio};
+ghost use Rattle.std.specs.Prelude.{◌≡◌, ℕ, ◌<◌, length, true, IfOk};
 ghost use Rattle.cq_frac.specs.declared.Pair.{Pair};
-ghost use Rattle.cq_dict.specs.Table.{IsTable, is_live, is_restricted as flag_of};
-ghost use Rattle.cq_simplex.specs.Tableau.{dictionary};
-ghost use Rattle.cq_simplex.specs.Turns.{IsFirstOf, IsRefusedRatio};
+ghost use Rattle.cq_dict.specs.Roles.{AreOverColumns, is_live};
+ghost use Rattle.cq_simplex.specs.Turns.{IsRatio, IsLeaving, IsFirstOf, IsRefusedRatio, IsRefusedSome};
 
 use cq_dict::dict::{Col, Dict};
 use cq_frac::{Frac, Pair};
@@ -24,11 +21,11 @@ struct Limit {
 ///
 /// A row without an entry in the column is not looked at further.
 fn ratio_of(dict: &Dict, row: usize, column: Col) -> Result<Option<Frac>, Pair>
-    requires table { IsTable dict.now.slots }
-    requires there { row < length dict.now.slots }
-    requires column { is_live dict.now.slots column ≡ true }
-    ensures value { (asked : ℕ) → IfOk result (λ found. MatchOption found (Limits (flag_of dict.now.restricted) (dictionary dict.now.slots asked) column row → ⊥) (λ q. Limits (flag_of dict.now.restricted) (dictionary dict.now.slots asked) column row × (q ≡ ratio (dictionary dict.now.slots asked) column row))) }
-    ensures overflow { (pair : Pair) → result ≡ Err pair → (asked : ℕ) → IsRefusedRatio dict.now.slots dict.now.restricted asked column row pair }
+    requires table { AreOverColumns dict.now.roles }
+    requires there { row < length dict.now.roles }
+    requires column { is_live dict.now.roles column ≡ true }
+    ensures value { (asked : ℕ) → IfOk result (IsRatio dict.now.roles dict.now.restricted asked column row) }
+    ensures overflow { (pair : Pair) → result ≡ Err pair → (asked : ℕ) → IsRefusedRatio dict.now.roles dict.now.restricted asked column row pair }
 {
     if !dict.is_row(row) || !dict.is_restricted(row) {
         return Ok(None);
@@ -58,9 +55,9 @@ fn first_of(before: Option<Limit>, next: Limit) -> Limit
 
 /// Of the restricted rows with the least ratio in the column the one of the least number; None where no row limits it.
 pub fn leaving(dict: &Dict, column: Col) -> Result<Option<usize>, Pair>
-    requires column { is_live dict.now.slots column ≡ true }
-    ensures value { (asked : ℕ) → IfOk result (λ found. MatchOption found ((q : ℕ) → Limits (flag_of dict.now.restricted) (dictionary dict.now.slots asked) column q → ⊥) (λ r. Leaves (flag_of dict.now.restricted) (dictionary dict.now.slots asked) column r)) }
-    ensures overflow { (pair : Pair) → result ≡ Err pair → (asked : ℕ) → (row : ℕ) × IsRefusedRatio dict.now.slots dict.now.restricted asked column row pair }
+    requires column { is_live dict.now.roles column ≡ true }
+    ensures value { (asked : ℕ) → IfOk result (IsLeaving dict.now.roles dict.now.restricted asked column) }
+    ensures overflow { (pair : Pair) → result ≡ Err pair → (asked : ℕ) → IsRefusedSome dict.now.roles dict.now.restricted asked column pair }
 {
     let mut first: Option<Limit> = None;
     for row in 0..dict.count() {

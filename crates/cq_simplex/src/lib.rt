@@ -2,21 +2,21 @@
 //! Dantzig (1947) with Bland's rule (1977), by which it ends.
 #![tactic(auto)]
 
-pub mod leaving;
-pub mod rising;
-pub mod turn;
+mod leaving;
+mod rising;
+mod turn;
 
 ghost use Rattle.std.specs.Prelude.{◌≡◌, ℕ, ◌≤◌, ◌^◌, length, IfOk};
 ghost use Rattle.spec_simplex.specs.Dictionary.{IsFeasible};
 ghost use Rattle.cq_frac.specs.declared.Pair.{Pair};
-ghost use Rattle.cq_dict.specs.Table.{IsRow, is_restricted};
+ghost use Rattle.cq_dict.specs.Roles.{IsRow, is_restricted};
 ghost use Rattle.cq_simplex.specs.declared.SimplexFault.TheVariants.{Overflow, Pivots, NoMemory};
-ghost use Rattle.cq_simplex.specs.Tableau.{dictionary};
+ghost use Rattle.cq_simplex.specs.Dictionary.{dictionary};
 ghost use Rattle.cq_simplex.specs.Answers.{IsAnswer, IsWithin, AreSpent, IsOverflow, IsFaultOf};
 
 use crate::turn::{Turn, next_turn};
-use cq_dict::dict::{Col, Dict, DictFault};
-use cq_frac::{Frac, Pair};
+use cq_dict::dict::{Col, Dict};
+use cq_frac::{Frac, Pair, Refusal};
 use cq_row::Entry;
 use std::alloc::{AllocError, Global};
 use thiserror::Error;
@@ -58,13 +58,13 @@ impl From<AllocError> for SimplexFault {
     }
 }
 
-impl From<DictFault> for SimplexFault {
+impl From<Refusal> for SimplexFault {
     ghost from_gives = { IsFaultOf };
 
-    fn from(fault: DictFault) -> SimplexFault {
-        match fault {
-            DictFault::Overflow(pair) => SimplexFault::Overflow(pair),
-            DictFault::NoMemory => SimplexFault::NoMemory,
+    fn from(refusal: Refusal) -> SimplexFault {
+        match refusal {
+            Refusal::Overflow(pair) => SimplexFault::Overflow(pair),
+            Refusal::NoMemory => SimplexFault::NoMemory,
         }
     }
 }
@@ -90,19 +90,19 @@ pub fn maximise(
     aim: Aim,
     budget: u64,
 ) -> Result<Max, SimplexFault>
-    requires row { IsRow dict.old.slots row }
-    requires feasible { IsFeasible (is_restricted dict.old.restricted) (dictionary dict.old.slots row) }
-    ensures answer { IfOk result (λ max. IsAnswer dict.old.slots dict.old.restricted row aim dict.new.slots max) }
-    ensures dictionary { IsWithin dict.old.slots dict.old.restricted row budget dict.new.slots }
+    requires row { IsRow dict.old.roles row }
+    requires feasible { IsFeasible (is_restricted dict.old.restricted) (dictionary dict.old.roles row) }
+    ensures answer { IfOk result (λ max. IsAnswer dict.old.roles dict.old.restricted row aim dict.new.roles max) }
+    ensures dictionary { IsWithin dict.old.roles dict.old.restricted row budget dict.new.roles }
     ensures flags { dict.new.restricted ≡ dict.old.restricted }
     ensures saved { dict.new.saved ≡ dict.old.saved }
     ensures room { dict.old.room ≤ dict.new.room }
 
-    ensures overflow { (pair : Pair) → result ≡ Err (Overflow pair) → IsOverflow dict.old.restricted row dict.new.slots pair }
-    ensures pivots { (n : ℕ) → result ≡ Err (Pivots n) → (n ≡ budget) × AreSpent dict.old.slots dict.old.restricted row aim budget dict.new.slots }
-    ensures enough { 2 ^ length dict.old.slots ≤ budget → (n : ℕ) → result ≡ Err (Pivots n) → ⊥ }
+    ensures overflow { (pair : Pair) → result ≡ Err (Overflow pair) → IsOverflow dict.old.restricted row dict.new.roles pair }
+    ensures pivots { (n : ℕ) → result ≡ Err (Pivots n) → (n ≡ budget) × AreSpent dict.old.roles dict.old.restricted row aim budget dict.new.roles }
+    ensures enough { 2 ^ length dict.old.roles ≤ budget → (n : ℕ) → result ≡ Err (Pivots n) → ⊥ }
 {
-    // the count's contract is also what tells that the slots are a table
+    // the count's contract is also what tells that the roles are a table
     prove!(row < dict.count());
     for _ in 0..budget {
         match next_turn(dict, alloc, row, aim)? {

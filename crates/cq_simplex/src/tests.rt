@@ -5,14 +5,14 @@ ghost use Rattle.std.specs.Bool.{OnTrue};
 ghost use Rattle.spec_simplex.specs.Dictionary.{IsFeasible};
 ghost use Rattle.cq_row.specs.declared.Entry.{Entry};
 ghost use Rattle.cq_row.specs.Rows.{Has};
-ghost use Rattle.cq_dict.specs.Table.{IsTable, is_restricted};
+ghost use Rattle.cq_dict.specs.Roles.{AreOverColumns, is_restricted};
 ghost use Rattle.cq_simplex.specs.Checked.{IsRowFeasible};
-ghost use Rattle.cq_simplex.specs.Tableau.{dictionary};
+ghost use Rattle.cq_simplex.specs.Dictionary.{dictionary};
 
 use crate::rising::free_column;
 use crate::{Aim, Max, SimplexFault, maximise};
-use cq_dict::dict::{Dict, DictFault};
-use cq_frac::Frac;
+use cq_dict::dict::Dict;
+use cq_frac::{Frac, Refusal};
 use cq_row::Entry;
 use std::alloc::{AllocError, Global};
 use std::test::Fail;
@@ -34,17 +34,17 @@ fn add(
     form: &[Entry],
     constant: i64,
     restricted: bool,
-) -> Result<usize, DictFault> {
+) -> Result<usize, Refusal> {
     if within(form, dict.count()) {
         return dict.add_row(form, Frac::from(constant), restricted);
     }
-    Err(DictFault::NoMemory)
+    Err(Refusal::NoMemory)
 }
 
 fn row_is_feasible(dict: &Dict, q: usize) -> bool
-    requires table { IsTable dict.now.slots }
-    requires there { q < length dict.now.slots }
-    ensures { OnTrue result ((asked : ℕ) → IsRowFeasible (is_restricted dict.now.restricted) (dictionary dict.now.slots asked) q) }
+    requires table { AreOverColumns dict.now.roles }
+    requires there { q < length dict.now.roles }
+    ensures { OnTrue result ((asked : ℕ) → IsRowFeasible (is_restricted dict.now.restricted) (dictionary dict.now.roles asked) q) }
 {
     if !dict.is_row(q) || !dict.is_restricted(q) {
         return true;
@@ -59,7 +59,7 @@ fn row_is_feasible(dict: &Dict, q: usize) -> bool
 }
 
 fn is_feasible(dict: &Dict) -> bool
-    ensures { OnTrue result ((asked : ℕ) → IsFeasible (is_restricted dict.now.restricted) (dictionary dict.now.slots asked)) }
+    ensures { OnTrue result ((asked : ℕ) → IsFeasible (is_restricted dict.now.restricted) (dictionary dict.now.roles asked)) }
 {
     for q in 0..dict.count() {
         if !row_is_feasible(dict, q) {

@@ -3,7 +3,7 @@
 ghost use Rattle.std.specs.Prelude.{◌≡◌, ℕ, IfOk, MatchBool};
 ghost use Rattle.spec_rational.specs.Rational.{IsPositive};
 ghost use Rattle.cq_frac.specs.declared.Pair.{Pair};
-ghost use Rattle.cq_dict.specs.Table.{IsRow, IsTable};
+ghost use Rattle.cq_dict.specs.Roles.{IsRow, AreOverColumns};
 ghost use Rattle.cq_simplex.specs.declared.Aim.TheVariants.{Positive};
 ghost use Rattle.cq_simplex.specs.declared.SimplexFault.TheVariants.{Overflow, Pivots};
 ghost use Rattle.cq_simplex.specs.Answers.{IsOverflow, IsShort};
@@ -38,10 +38,10 @@ pub enum Turn {
 
 /// What the dictionary says of the row.
 pub fn next_turn(dict: &Dict, alloc: Global, row: usize, aim: Aim) -> Result<Turn, SimplexFault>
-    requires table { IsTable dict.now.slots }
-    requires row { IsRow dict.now.slots row }
-    ensures turn { IfOk result (λ next. IsTurn dict.now.slots dict.now.restricted row aim next) }
-    ensures overflow { (pair : Pair) → result ≡ Err (Overflow pair) → IsOverflow dict.now.restricted row dict.now.slots pair }
+    requires table { AreOverColumns dict.now.roles }
+    requires row { IsRow dict.now.roles row }
+    ensures turn { IfOk result (λ next. IsTurn dict.now.roles dict.now.restricted row aim next) }
+    ensures overflow { (pair : Pair) → result ≡ Err (Overflow pair) → IsOverflow dict.now.restricted row dict.now.roles pair }
     ensures pivots { (n : ℕ) → result ≡ Err (Pivots n) → ⊥ }
 {
     let value = dict.constant(row);

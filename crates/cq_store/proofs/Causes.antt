@@ -18,39 +18,35 @@ use Rattle.cq_row.specs.Row.{Row}
 use Rattle.cq_row.specs.Rows as row
 use Rattle.cq_row.specs.Numbers as own
 use Rattle.cq_row.specs.Numbers.{IsOver, IsNumber, constant_number, live_number, dropped_number}
+use Rattle.cq_row.proofs.Shifts.{passes}
 use Rattle.cq_row.proofs.Units.{at_unit, no_entry}
-use Rattle.cq_dict.specs.declared.table.Slot.{Slot}
-use Rattle.cq_dict.specs.declared.table.Slot.TheVariants.{Live, Dropped, Basic}
-use Rattle.cq_dict.specs.Table.{IsAt, is_live, is_dropped, IsTable, IsMet, Expresses, HasEntry, FormPair, form_product, form_sum, PivotPair, pivot_quotient, pivot_inverse, pivot_product, pivot_product_inverse, pivot_difference}
-use Rattle.cq_dict.specs.Table as table
+use Rattle.cq_dict.specs.declared.table.Role.{Role}
+use Rattle.cq_dict.specs.declared.table.Role.TheVariants.{Live, Dropped, Basic}
+use Rattle.cq_dict.specs.Roles.{IsAt, is_live, is_dropped, AreOverColumns, IsMet, Expresses, HasEntry, FormPair, form_product, form_sum, PivotPair, pivot_quotient, pivot_inverse, pivot_product, pivot_product_inverse, pivot_difference}
+use Rattle.cq_dict.specs.Roles as table
 use Rattle.cq_store.specs.Describes.{Agree, Describes, IsSolved, AllKnown, Known, members_from, numbers, placed}
-use Rattle.cq_store.proofs.Slots.{at_live, at_dropped, at_one}
+use Rattle.cq_dict.proofs.Roles.{role_live, role_dropped, at_one}
 use Rattle.cq_store.proofs.Dictionary.{dictionary, row_written, has_either}
 use Rattle.cq_store.proofs.Feasible.{feasible, rest}
 
 -- ---- numbers at places
-pub passes : (t : ℕ → Bool) (lo : ℕ) (s : List Entry) (m : Entry) → row.IsRowFrom t lo s → row.Has m s → t m.quantity ≡ true
-passes t lo [] m r h = absurd h
-passes t lo (x ∷ s) m r (inl e) = subst (λ (z : Entry). t z.quantity ≡ true) (sym e) r.1
-passes t lo (x ∷ s) m r (inr h) = passes t (x.quantity + 1) s m r.3 h
+pub not_both : (roles : List Role) (c : ℕ) → is_live roles c ≡ true → is_dropped roles c ≡ true → ⊥
+not_both roles c h k = let w = at_one roles c Live Dropped (role_live roles c h) (role_dropped roles c k) in cc
 
-pub not_both : (slots : List Slot) (c : ℕ) → is_live slots c ≡ true → is_dropped slots c ≡ true → ⊥
-not_both slots c h k = let w = at_one slots c Live Dropped (at_live slots c h) (at_dropped slots c k) in cc
-
-module _ (slots : List Slot) (place : Quantity → ℕ) (r : Row) (o : IsOver (is_live slots) (is_dropped slots) r) (q : Quantity) (n : Entry) (e : place q ≡ n.quantity) where
+module _ (roles : List Role) (place : Quantity → ℕ) (r : Row) (o : IsOver (is_live roles) (is_dropped roles) r) (q : Quantity) (n : Entry) (e : place q ≡ n.quantity) where
   pub number_live : row.Has n r.live → (numbers place r).entry q ≡ n.factor
   number_live h =
       ap (λ c. row.sum_at (row.unit c) r.live +ℚ row.sum_at (row.unit c) r.dropped) e
-      ∙ ap₂ (λ a b. a +ℚ b) (at_unit (is_live slots) 0 r.live n o.live_row h)
-      (no_entry n.quantity r.dropped (λ m k f. not_both slots n.quantity (passes (is_live slots) 0 r.live n o.live_row h) (subst (λ c. is_dropped slots c ≡ true) f (passes (is_dropped slots) 0 r.dropped m o.dropped_row k))))
+      ∙ ap₂ (λ a b. a +ℚ b) (at_unit (is_live roles) 0 r.live n o.live_row h)
+      (no_entry n.quantity r.dropped (λ m k f. not_both roles n.quantity (passes (is_live roles) 0 r.live n o.live_row h) (subst (λ c. is_dropped roles c ≡ true) f (passes (is_dropped roles) 0 r.dropped m o.dropped_row k))))
       ∙ ring (n.factor ∷ []) (var 0 ⊕ int (pos 0)) (var 0) refl
 
   pub number_dropped : row.Has n r.dropped → (numbers place r).entry q ≡ n.factor
   number_dropped h =
       ap (λ c. row.sum_at (row.unit c) r.live +ℚ row.sum_at (row.unit c) r.dropped) e
       ∙ ap₂ (λ a b. a +ℚ b)
-      (no_entry n.quantity r.live (λ m k f. not_both slots n.quantity (subst (λ c. is_live slots c ≡ true) f (passes (is_live slots) 0 r.live m o.live_row k)) (passes (is_dropped slots) 0 r.dropped n o.dropped_row h)))
-      (at_unit (is_dropped slots) 0 r.dropped n o.dropped_row h)
+      (no_entry n.quantity r.live (λ m k f. not_both roles n.quantity (subst (λ c. is_live roles c ≡ true) f (passes (is_live roles) 0 r.live m o.live_row k)) (passes (is_dropped roles) 0 r.dropped n o.dropped_row h)))
+      (at_unit (is_dropped roles) 0 r.dropped n o.dropped_row h)
       ∙ ring (n.factor ∷ []) (int (pos 0) ⊕ var 0) (var 0) refl
 
 pub never_zero : (t : ℕ → Bool) (lo : ℕ) (s : List Entry) (m : Entry) → row.IsRowFrom t lo s → row.Has m s → m.factor ≡ 0ℚ → ⊥
@@ -90,15 +86,15 @@ at_work l asked = record { stage = settling; list = l; asked = asked; operations
 makes_same : (m : Moment) (o : Operation) (a b c d : ℚ) → a ≡ c → b ≡ d → Makes m o a b → Makes m o c d
 makes_same m o a b c d e f h = subst (λ y. Makes m o c y) f (subst (λ x. Makes m o x b) e h)
 
-module _ (l : List Constraint) (asked : List Linear) (slots : List Slot) (place : Quantity → ℕ) (live gone : List Quantity) (is_table : IsTable slots) (d : Describes l asked slots place live gone) (solved : IsSolved l slots place gone) where
+module _ (l : List Constraint) (asked : List Linear) (roles : List Role) (place : Quantity → ℕ) (live gone : List Quantity) (is_table : AreOverColumns roles) (d : Describes l asked roles place live gone) (solved : IsSolved l roles place gone) where
   pub in_use : IsInUse (at_work l asked) [] (live ++ gone)
   in_use = beside_feasible (record {
-    own = dictionary l asked slots place live gone is_table d;
+    own = dictionary l asked roles place live gone is_table d;
     all_zeros = members_from 0 l;
     live = live;
-    feasible = feasible l asked slots place live gone is_table d solved;
+    feasible = feasible l asked roles place live gone is_table d solved;
     part = λ q h. absurd h;
-    rest = rest l asked slots place live gone is_table d solved;
+    rest = rest l asked roles place live gone is_table d solved;
   })
 
   -- ---- where the numbers of a row stand
@@ -108,15 +104,15 @@ module _ (l : List Constraint) (asked : List Linear) (slots : List Slot) (place 
   Stands (own.at_live c) p = (q : Quantity) × (place q ≡ c) × (p ≡ column q)
   Stands (own.at_dropped c) p = (q : Quantity) × (place q ≡ c) × (p ≡ column q)
 
-  place_of_number : (r : Row) → IsOver (is_live slots) (is_dropped slots) r → {at : own.Place} {n : ℚ} → IsNumber r at n → (p : RowIndex) × IsRowIndex (live ++ gone) p × Stands at p
+  place_of_number : (r : Row) → IsOver (is_live roles) (is_dropped roles) r → {at : own.Place} {n : ℚ} → IsNumber r at n → (p : RowIndex) × IsRowIndex (live ++ gone) p × Stands at p
   place_of_number r o constant_number = (constant, tt, refl)
-  place_of_number r o (live_number m h) = let e = d.each_live m.quantity (passes (is_live slots) 0 r.live m o.live_row h) in (column e.0, has_left e.0 live gone e.1, (e.0, e.2, refl))
-  place_of_number r o (dropped_number m h) = let e = d.each_gone m.quantity (passes (is_dropped slots) 0 r.dropped m o.dropped_row h) in (column e.0, has_right e.0 live gone e.1, (e.0, e.2, refl))
+  place_of_number r o (live_number m h) = let e = d.each_live m.quantity (passes (is_live roles) 0 r.live m o.live_row h) in (column e.0, has_left e.0 live gone e.1, (e.0, e.2, refl))
+  place_of_number r o (dropped_number m h) = let e = d.each_gone m.quantity (passes (is_dropped roles) 0 r.dropped m o.dropped_row h) in (column e.0, has_right e.0 live gone e.1, (e.0, e.2, refl))
 
-  number_there : (r : Row) → IsOver (is_live slots) (is_dropped slots) r → {at : own.Place} {n : ℚ} → IsNumber r at n → (p : RowIndex) → Stands at p → number_at (numbers place r) p ≡ n
+  number_there : (r : Row) → IsOver (is_live roles) (is_dropped roles) r → {at : own.Place} {n : ℚ} → IsNumber r at n → (p : RowIndex) → Stands at p → number_at (numbers place r) p ≡ n
   number_there r o constant_number p e = ap (number_at (numbers place r)) e
-  number_there r o (live_number m h) p s = ap (number_at (numbers place r)) s.2 ∙ number_live slots place r o s.0 m s.1 h
-  number_there r o (dropped_number m h) p s = ap (number_at (numbers place r)) s.2 ∙ number_dropped slots place r o s.0 m s.1 h
+  number_there r o (live_number m h) p s = ap (number_at (numbers place r)) s.2 ∙ number_live roles place r o s.0 m s.1 h
+  number_there r o (dropped_number m h) p s = ap (number_at (numbers place r)) s.2 ∙ number_dropped roles place r o s.0 m s.1 h
 
   -- ---- adding an asked form
 
@@ -125,7 +121,7 @@ module _ (l : List Constraint) (asked : List Linear) (slots : List Slot) (place 
     agrees v x a y h = a.same (variable y) (inr (asked_mentions f asked y f_asked h)) ∙ value_at-variable_form v y
 
     module _ (earlier later : List Monomial) (n : Monomial) (split : f.products ≡ earlier ++ n ∷ later) (before own : Row)
-        (b : Expresses slots (λ x. f.constant +ℚ row.sum_at x (placed place earlier)) before) (w : Expresses slots (λ x. x (place (variable n.variable))) own) where
+        (b : Expresses roles (λ x. f.constant +ℚ row.sum_at x (placed place earlier)) before) (w : Expresses roles (λ x. x (place (variable n.variable))) own) where
       mention_n : Mentions n.variable f.products
       mention_n = subst (Mentions n.variable) (sym split) (mentions_here earlier later n)
 
@@ -142,22 +138,22 @@ module _ (l : List Constraint) (asked : List Linear) (slots : List Slot) (place 
         later = later;
         split = split;
         numbers = numbers place own;
-        written = row_written l asked slots place live gone is_table d (variable_form n.variable) own w.over (λ v x m a. sym (a.same (variable n.variable) (inr (asked_mentions f asked n.variable f_asked mention_n))) ∙ sym (w.value_is x m));
+        written = row_written l asked roles place live gone is_table d (variable_form n.variable) own w.over (λ v x m a. sym (a.same (variable n.variable) (inr (asked_mentions f asked n.variable f_asked mention_n))) ∙ sym (w.value_is x m));
         before = numbers place before;
-        gave = row_written l asked slots place live gone is_table d (record { products = earlier; constant = f.constant }) before b.over
+        gave = row_written l asked roles place live gone is_table d (record { products = earlier; constant = f.constant }) before b.over
             (λ v x m a. ap (λ s. f.constant +ℚ s) (sym (placed_sum place v x earlier (λ y h. agrees v x a y (subst (Mentions y) (sym split) (mentions_more y earlier (n ∷ later) h))))) ∙ sym (b.value_is x m));
       }
 
-    record Split (a : table.Adding slots (placed place f.products) f.constant) : Type 0 where
+    record Split (a : table.Adding roles (placed place f.products) f.constant) : Type 0 where
       pub earlier : List Monomial
       pub now : Monomial
       pub later : List Monomial
       pub split : f.products ≡ earlier ++ now ∷ later
       pub factor : now.factor ≡ a.now.factor
-      pub gave : Expresses slots (λ x. f.constant +ℚ row.sum_at x (placed place earlier)) a.before
-      pub expresses : Expresses slots (λ x. x (place (variable now.variable))) a.own
+      pub gave : Expresses roles (λ x. f.constant +ℚ row.sum_at x (placed place earlier)) a.before
+      pub expresses : Expresses roles (λ x. x (place (variable now.variable))) a.own
 
-    split_of : (a : table.Adding slots (placed place f.products) f.constant) → Split a
+    split_of : (a : table.Adding roles (placed place f.products) f.constant) → Split a
     split_of a =
         let s = split_placed place f.products a.earlier a.later a.now a.split in
         record {
@@ -166,11 +162,11 @@ module _ (l : List Constraint) (asked : List Linear) (slots : List Slot) (place 
           later = s.2;
           split = s.3;
           factor = ap (λ (z : Entry). z.factor) s.5;
-          gave = subst (λ z. Expresses slots (λ x. f.constant +ℚ row.sum_at x z) a.before) (sym s.4) a.gave;
-          expresses = subst (λ z. Expresses slots (λ x. x z) a.own) (sym (ap (λ (z : Entry). z.quantity) s.5)) a.expresses;
+          gave = subst (λ z. Expresses roles (λ x. f.constant +ℚ row.sum_at x z) a.before) (sym s.4) a.gave;
+          expresses = subst (λ z. Expresses roles (λ x. x z) a.own) (sym (ap (λ (z : Entry). z.quantity) s.5)) a.expresses;
         }
 
-    pub form_pairs : {o : Operation} {p q : ℚ} → FormPair slots (placed place f.products) f.constant o p q → Makes (at_work l asked) o p q
+    pub form_pairs : {o : Operation} {p q : ℚ} → FormPair roles (placed place f.products) f.constant o p q → Makes (at_work l asked) o p q
     unfolding adding
     form_pairs (form_product a at n h) =
         let s = split_of a in
@@ -185,42 +181,42 @@ module _ (l : List Constraint) (asked : List Linear) (slots : List Slot) (place 
 
   -- ---- an exchange
 
-  module _ (known : AllKnown l asked slots place) where
+  module _ (known : AllKnown l asked roles place) where
     -- a row is no column
-    no_column : (q : Quantity) (i : ℕ) (r : Row) → IsAt slots i (Basic r) → place q ≡ i → Has q (live ++ gone) → ⊥
+    no_column : (q : Quantity) (i : ℕ) (r : Row) → IsAt roles i (Basic r) → place q ≡ i → Has q (live ++ gone) → ⊥
     no_column q i r a e h =
         elim (has_either q live gone h) [
-          | inl k ↦ let w = at_one slots i (Basic r) Live a (subst (λ c. IsAt slots c Live) e (at_live slots (place q) (d.live_is q k))) in cc
-          | inr k ↦ let w = at_one slots i (Basic r) Dropped a (subst (λ c. IsAt slots c Dropped) e (at_dropped slots (place q) (d.gone_is q k))) in cc
+          | inl k ↦ let w = at_one roles i (Basic r) Live a (subst (λ c. IsAt roles c Live) e (role_live roles (place q) (d.live_is q k))) in cc
+          | inr k ↦ let w = at_one roles i (Basic r) Dropped a (subst (λ c. IsAt roles c Dropped) e (role_dropped roles (place q) (d.gone_is q k))) in cc
         ]
 
-    is_row : (i : ℕ) (r : Row) → IsAt slots i (Basic r) → (k : Known l asked slots place i) → IsRow (at_work l asked) (live ++ gone) k.form
+    is_row : (i : ℕ) (r : Row) → IsAt roles i (Basic r) → (k : Known l asked roles place i) → IsRow (at_work l asked) (live ++ gone) k.form
     is_row i r a k =
         elim k.kind [
           | inl h ↦ subst (IsRow (at_work l asked) (live ++ gone)) h.3 (quantity_row h.0 h.1 (no_column h.0 i r a h.2))
           | inr h ↦ asked_row h
         ]
 
-    pub numbered : (i : ℕ) (r : Row) → IsAt slots i (Basic r) → Numbered (at_work l asked) [] (live ++ gone)
+    pub numbered : (i : ℕ) (r : Row) → IsAt roles i (Basic r) → Numbered (at_work l asked) [] (live ++ gone)
     numbered i r a =
         let k = known i r a in
         record {
           form = k.form;
           is_row = is_row i r a k;
           numbers = numbers place r;
-          written = row_written l asked slots place live gone is_table d k.form r (is_table.rows i r a) (λ v x m g. k.value v x m g ∙ m.rows i r a);
+          written = row_written l asked roles place live gone is_table d k.form r (is_table.rows i r a) (λ v x m g. k.value v x m g ∙ m.rows i r a);
         }
 
-    module _ (leaving c : ℕ) (x : HasEntry slots leaving c) where
-      o : IsOver (is_live slots) (is_dropped slots) x.own
+    module _ (leaving c : ℕ) (x : HasEntry roles leaving c) where
+      o : IsOver (is_live roles) (is_dropped roles) x.own
       o = is_table.rows leaving x.own x.is_row
 
       column_of : (q : Quantity) × Has q (live ++ gone) × (place q ≡ c)
-      column_of = let e = d.each_live c (passes (is_live slots) 0 x.own.live (record { quantity = c; factor = x.factor }) o.live_row x.in_row) in (e.0, has_left e.0 live gone e.1, e.2)
+      column_of = let e = d.each_live c (passes (is_live roles) 0 x.own.live (record { quantity = c; factor = x.factor }) o.live_row x.in_row) in (e.0, has_left e.0 live gone e.1, e.2)
 
       -- the entry of a row in the column
-      entry_is : (i : ℕ) (y : HasEntry slots i c) → (numbers place y.own).entry column_of.0 ≡ y.factor
-      entry_is i y = number_live slots place y.own (is_table.rows i y.own y.is_row) column_of.0 (record { quantity = c; factor = y.factor }) column_of.2 y.in_row
+      entry_is : (i : ℕ) (y : HasEntry roles i c) → (numbers place y.own).entry column_of.0 ≡ y.factor
+      entry_is i y = number_live roles place y.own (is_table.rows i y.own y.is_row) column_of.0 (record { quantity = c; factor = y.factor }) column_of.2 y.in_row
 
       pub exchange : Exchange (at_work l asked)
       unfolding numbered
@@ -231,7 +227,7 @@ module _ (l : List Constraint) (asked : List Linear) (slots : List Slot) (place 
         row = numbered leaving x.own x.is_row;
         column = column_of.0;
         is_column = column_of.1;
-        not_zero = λ z. never_zero (is_live slots) 0 x.own.live (record { quantity = c; factor = x.factor }) o.live_row x.in_row (sym (entry_is leaving x) ∙ z);
+        not_zero = λ z. never_zero (is_live roles) 0 x.own.live (record { quantity = c; factor = x.factor }) o.live_row x.in_row (sym (entry_is leaving x) ∙ z);
       }
 
       quotient_due : {at : own.Place} {n : ℚ} → IsNumber x.own at n → Makes (at_work l asked) Quotient n x.factor
@@ -244,17 +240,17 @@ module _ (l : List Constraint) (asked : List Linear) (slots : List Slot) (place 
       unfolding exchange numbered
       inverse_due = makes_same (at_work l asked) _ _ _ _ _ refl (entry_is leaving x) (inverse exchange)
 
-      product_due : (i : ℕ) (y : HasEntry slots i c) → {at : own.Place} {n : ℚ} → IsNumber x.own at n → Makes (at_work l asked) Times y.factor (n /ℚ x.factor)
+      product_due : (i : ℕ) (y : HasEntry roles i c) → {at : own.Place} {n : ℚ} → IsNumber x.own at n → Makes (at_work l asked) Times y.factor (n /ℚ x.factor)
       unfolding exchange numbered
       product_due i y h =
           let t = place_of_number x.own o h in
           makes_same (at_work l asked) _ _ _ _ _ (entry_is i y) (ap₂ (λ a b. a /ℚ b) (number_there x.own o h t.0 t.2) (entry_is leaving x)) (product exchange (numbered i y.own y.is_row) t.0 t.1)
 
-      product_inverse_due : (i : ℕ) (y : HasEntry slots i c) → Makes (at_work l asked) Times y.factor (1ℚ /ℚ x.factor)
+      product_inverse_due : (i : ℕ) (y : HasEntry roles i c) → Makes (at_work l asked) Times y.factor (1ℚ /ℚ x.factor)
       unfolding exchange numbered
       product_inverse_due i y = makes_same (at_work l asked) _ _ _ _ _ (entry_is i y) (ap (λ b. 1ℚ /ℚ b) (entry_is leaving x)) (product_inverse exchange (numbered i y.own y.is_row))
 
-      difference_due : (i : ℕ) (y : HasEntry slots i c) → {at : own.Place} {m n : ℚ} → IsNumber y.own at m → IsNumber x.own at n → Makes (at_work l asked) Difference m (y.factor *ℚ (n /ℚ x.factor))
+      difference_due : (i : ℕ) (y : HasEntry roles i c) → {at : own.Place} {m n : ℚ} → IsNumber y.own at m → IsNumber x.own at n → Makes (at_work l asked) Difference m (y.factor *ℚ (n /ℚ x.factor))
       unfolding exchange numbered
       difference_due i y g h =
           let t = place_of_number x.own o h in
@@ -262,7 +258,7 @@ module _ (l : List Constraint) (asked : List Linear) (slots : List Slot) (place 
           (ap₂ (λ a b. a *ℚ b) (entry_is i y) (ap₂ (λ a b. a /ℚ b) (number_there x.own o h t.0 t.2) (entry_is leaving x)))
           (difference exchange (numbered i y.own y.is_row) t.0 t.1)
 
-    pub pivot_pairs : (leaving c : ℕ) {a : Operation} {x y : ℚ} → PivotPair slots leaving c a x y → Makes (at_work l asked) a x y
+    pub pivot_pairs : (leaving c : ℕ) {a : Operation} {x y : ℚ} → PivotPair roles leaving c a x y → Makes (at_work l asked) a x y
     pivot_pairs leaving c (pivot_quotient x at n h) = quotient_due leaving c x h
     pivot_pairs leaving c (pivot_inverse x) = inverse_due leaving c x
     pivot_pairs leaving c (pivot_product x i y ne at n h) = product_due leaving c x i y h

@@ -12,10 +12,10 @@ use Rattle.cq_row.specs.Row.{Row}
 use Rattle.cq_row.specs.Rows.{sum_at, IsRowFrom, unit, choose}
 use Rattle.cq_row.specs.Numbers.{right_side, IsOver}
 use Rattle.cq_row.proofs.Units.{unit_self, unit_other}
-use Rattle.cq_dict.specs.declared.table.Slot.{Slot}
-use Rattle.cq_dict.specs.Table.{is_live, is_dropped, IsTable, IsMet}
+use Rattle.cq_dict.specs.declared.table.Role.{Role}
+use Rattle.cq_dict.specs.Roles.{is_live, is_dropped, AreOverColumns, IsMet}
 use Rattle.cq_store.specs.Describes.{Agree, Describes, numbers}
-use Rattle.cq_store.proofs.Free.{free}
+use Rattle.cq_dict.proofs.Free.{free}
 
 -- ---- sums over quantities
 pub sum_same : (f g : Quantity → ℚ) (s : List Quantity) → ((q : Quantity) → Has q s → f q ≡ g q) → sum_over f s ≡ sum_over g s
@@ -65,27 +65,27 @@ has_either q [] t h = inr h
 has_either q (r ∷ s) t (inl e) = inl (inl e)
 has_either q (r ∷ s) t (inr h) = elim (has_either q s t h) [ inl k ↦ inl (inr k) | inr k ↦ inr k ]
 
-module _ (l : List Constraint) (asked : List Linear) (slots : List Slot) (place : Quantity → ℕ) (live gone : List Quantity) (table : IsTable slots) (d : Describes l asked slots place live gone) where
-  each_live : (c : ℕ) → is_live slots c ≡ true → (q : Quantity) × Has q (live ++ gone) × (place q ≡ c)
+module _ (l : List Constraint) (asked : List Linear) (roles : List Role) (place : Quantity → ℕ) (live gone : List Quantity) (table : AreOverColumns roles) (d : Describes l asked roles place live gone) where
+  each_live : (c : ℕ) → is_live roles c ≡ true → (q : Quantity) × Has q (live ++ gone) × (place q ≡ c)
   each_live c h = let e = d.each_live c h in (e.0, has_left e.0 live gone e.1, e.2)
 
-  each_gone : (c : ℕ) → is_dropped slots c ≡ true → (q : Quantity) × Has q (live ++ gone) × (place q ≡ c)
+  each_gone : (c : ℕ) → is_dropped roles c ≡ true → (q : Quantity) × Has q (live ++ gone) × (place q ≡ c)
   each_gone c h = let e = d.each_gone c h in (e.0, has_right e.0 live gone e.1, e.2)
 
   -- what a row says at assignments that agree
-  pub row_value : (v x : ℕ → ℚ) (r : Row) → Agree l asked place v x → IsOver (is_live slots) (is_dropped slots) r → right_side x r ≡ expressed l v (live ++ gone) (numbers place r)
+  pub row_value : (v x : ℕ → ℚ) (r : Row) → Agree l asked place v x → IsOver (is_live roles) (is_dropped roles) r → right_side x r ≡ expressed l v (live ++ gone) (numbers place r)
   row_value v x r a o =
       ap (λ w. r.constant +ℚ w)
       (ap₂ (λ u w. u +ℚ w)
-      (by_quantities place x (live ++ gone) (is_live slots) 0 r.live d.once d.apart each_live o.live_row)
-      (by_quantities place x (live ++ gone) (is_dropped slots) 0 r.dropped d.once d.apart each_gone o.dropped_row)
+      (by_quantities place x (live ++ gone) (is_live roles) 0 r.live d.once d.apart each_live o.live_row)
+      (by_quantities place x (live ++ gone) (is_dropped roles) 0 r.dropped d.once d.apart each_gone o.dropped_row)
       ∙ sym (sum_plus (λ q. sum_at (unit (place q)) r.live *ℚ x (place q)) (λ q. sum_at (unit (place q)) r.dropped *ℚ x (place q)) (live ++ gone))
       ∙ sum_same _ (λ q. (numbers place r).entry q *ℚ amount l v q) (live ++ gone) (λ q h.
       ring (sum_at (unit (place q)) r.live ∷ sum_at (unit (place q)) r.dropped ∷ x (place q) ∷ []) (var 0 ⊗ var 2 ⊕ var 1 ⊗ var 2) ((var 0 ⊕ var 1) ⊗ var 2) refl
       ∙ ap (λ w. (sum_at (unit (place q)) r.live +ℚ sum_at (unit (place q)) r.dropped) *ℚ w) (a.same q (d.columns q h))))
 
   -- a form that is a row's value wherever assignments agree is written by its numbers
-  pub row_written : (f : Linear) (r : Row) → IsOver (is_live slots) (is_dropped slots) r → ((v x : ℕ → ℚ) → IsMet x slots → Agree l asked place v x → value_at v f ≡ right_side x r) → IsWritten l [] (live ++ gone) f (numbers place r)
+  pub row_written : (f : Linear) (r : Row) → IsOver (is_live roles) (is_dropped roles) r → ((v x : ℕ → ℚ) → IsMet x roles → Agree l asked place v x → value_at v f ≡ right_side x r) → IsWritten l [] (live ++ gone) f (numbers place r)
   row_written f r o h = record { same = λ v z. let x = d.forth v in h v x.0 x.1 x.2 ∙ row_value v x.0 r x.2 o }
 
   -- a column is written by itself
@@ -109,7 +109,7 @@ module _ (l : List Constraint) (asked : List Linear) (slots : List Slot) (place 
   -- both expressions agree at every choice of the columns' values
   chosen : (y : ℕ → ℚ) (f : Linear) (e g : Expression) → IsWritten l [] (live ++ gone) f e → IsWritten l [] (live ++ gone) f g → e.constant +ℚ sum_over (λ q. e.entry q *ℚ y (place q)) (live ++ gone) ≡ g.constant +ℚ sum_over (λ q. g.entry q *ℚ y (place q)) (live ++ gone)
   chosen y f e g we wg =
-      let x = free slots table y in
+      let x = free roles table y in
       let v = d.back x.0 x.1 in
       let value : (q : Quantity) → Has q (live ++ gone) → amount l v.0 q ≡ y (place q) =
       λ q h. sym (v.1.same q (d.columns q h)) ∙ elim (has_either q live gone h) [ inl k ↦ x.2 (place q) (d.live_is q k) | inr k ↦ x.3 (place q) (d.gone_is q k) ] in

@@ -14,12 +14,12 @@ use Rattle.cq_row.specs.declared.Entry.{Entry}
 use Rattle.cq_row.specs.Row.{Row}
 use Rattle.cq_row.specs.Rows.{sum_at, unit, choose}
 use Rattle.cq_row.specs.Numbers.{right_side, IsOver}
-use Rattle.cq_dict.specs.declared.table.Slot.{Slot}
-use Rattle.cq_dict.specs.declared.table.Slot.TheVariants.{Live, Dropped, Basic}
-use Rattle.cq_dict.specs.Table.{IsAt, is_live, is_dropped, IsTable}
+use Rattle.cq_dict.specs.declared.table.Role.{Role}
+use Rattle.cq_dict.specs.declared.table.Role.TheVariants.{Live, Dropped, Basic}
+use Rattle.cq_dict.specs.Roles.{IsAt, is_live, is_dropped, AreOverColumns}
 use Rattle.cq_store.specs.Describes.{Describes, IsSolved, members_from}
-use Rattle.cq_store.proofs.Slots.{at_live, at_dropped, at_one, live_at}
-use Rattle.cq_store.proofs.Free.{free, sum_agrees}
+use Rattle.cq_dict.proofs.Roles.{role_live, role_dropped, at_one, live_at}
+use Rattle.cq_dict.proofs.Free.{free, sum_agrees}
 use Rattle.cq_store.proofs.Dictionary.{sum_same, sum_zero, pick_one, has_either, dictionary}
 
 sum_append : (f : Quantity → ℚ) (s t : List Quantity) → sum_over f (s ++ t) ≡ sum_over f s +ℚ sum_over f t
@@ -73,7 +73,7 @@ turned a b = ap (λ t. choose t 1ℚ 0ℚ) (eq_turned a b)
     eq_turned : (a b : ℕ) → nat_eq b a ≡ nat_eq a b
     eq_turned a b = grind arith
 
-module _ (l : List Constraint) (asked : List Linear) (slots : List Slot) (place : Quantity → ℕ) (live gone : List Quantity) (table : IsTable slots) (d : Describes l asked slots place live gone) (solved : IsSolved l slots place gone) where
+module _ (l : List Constraint) (asked : List Linear) (roles : List Role) (place : Quantity → ℕ) (live gone : List Quantity) (table : AreOverColumns roles) (d : Describes l asked roles place live gone) (solved : IsSolved l roles place gone) where
   pub gone_in : (q : Quantity) → Has q gone → Has q (members_from 0 l)
   gone_in q h = let m = solved.only q h in subst (λ y. Has y (members_from 0 l)) (sym m.2) (in_members m.0 l m.1)
 
@@ -85,9 +85,9 @@ module _ (l : List Constraint) (asked : List Linear) (slots : List Slot) (place 
       elim (solved.members m.0 m.1) [
         | inl g ↦ set_apart live gone q d.once h (subst (λ y. Has y gone) (sym e) g)
         | inr r ↦
-            let a = at_live slots (place q) (d.live_is q h) in
-            let b : IsAt slots (place q) (Basic r.0) = subst (λ y. IsAt slots (place y) (Basic r.0)) (sym e) r.1 in
-            let w = at_one slots (place q) Live (Basic r.0) a b in cc
+            let a = role_live roles (place q) (d.live_is q h) in
+            let b : IsAt roles (place q) (Basic r.0) = subst (λ y. IsAt roles (place y) (Basic r.0)) (sym e) r.1 in
+            let w = at_one roles (place q) Live (Basic r.0) a b in cc
       ]
 
   -- where the members' forms are zero, the dropped columns add nothing
@@ -101,19 +101,19 @@ module _ (l : List Constraint) (asked : List Linear) (slots : List Slot) (place 
 
   some_way : (q : Quantity) → IsQuantity l asked q → (e : Expression) × IsWritten l (members_from 0 l) live (form_of l q) e
   some_way q i =
-      let w = (dictionary l asked slots place live gone table d).some_way q i in
+      let w = (dictionary l asked roles place live gone table d).some_way q i in
       (w.0, record { same = λ v z. w.1.same v tt ∙ without_gone v w.0 z })
 
   -- the live columns can be chosen while every member's form is zero
   abbrev only_live : (ℕ → ℚ) → ℕ → ℚ
-  only_live y c = choose (is_live slots c) (y c) 0ℚ
+  only_live y c = choose (is_live roles c) (y c) 0ℚ
 
-  pub no_live : (c : ℕ) → is_dropped slots c ≡ true → is_live slots c ≡ false
-  no_live c h = live_at slots c Dropped (at_dropped slots c h)
+  pub no_live : (c : ℕ) → is_dropped roles c ≡ true → is_live roles c ≡ false
+  no_live c h = live_at roles c Dropped (role_dropped roles c h)
 
-  pub row_zero : (x : ℕ → ℚ) (r : Row) → IsOver (is_live slots) (is_dropped slots) r → ((c : ℕ) → is_dropped slots c ≡ true → x c ≡ 0ℚ) → r.live ≡ [] → r.constant ≡ 0ℚ → right_side x r ≡ 0ℚ
+  pub row_zero : (x : ℕ → ℚ) (r : Row) → IsOver (is_live roles) (is_dropped roles) r → ((c : ℕ) → is_dropped roles c ≡ true → x c ≡ 0ℚ) → r.live ≡ [] → r.constant ≡ 0ℚ → right_side x r ≡ 0ℚ
   row_zero x r o h e f =
-      ap₂ (λ a b. a +ℚ b) f (ap₂ (λ a b. a +ℚ b) (ap (sum_at x) e) (sum_agrees (is_dropped slots) 0 x (λ c. 0ℚ) r.dropped o.dropped_row h ∙ nothing_there r.dropped))
+      ap₂ (λ a b. a +ℚ b) f (ap₂ (λ a b. a +ℚ b) (ap (sum_at x) e) (sum_agrees (is_dropped roles) 0 x (λ c. 0ℚ) r.dropped o.dropped_row h ∙ nothing_there r.dropped))
       ∙ ring [] (int (pos 0) ⊕ (int (pos 0) ⊕ int (pos 0))) (int (pos 0)) refl
     where
       nothing_there : (s : List Entry) → sum_at (λ c. 0ℚ) s ≡ 0ℚ
@@ -128,9 +128,9 @@ module _ (l : List Constraint) (asked : List Linear) (slots : List Slot) (place 
   -- for every choice of the live columns' values there is an assignment of the variables at which each member's form is zero
   pub choice : (y : ℕ → ℚ) → Chosen y
   choice y =
-      let x = free slots table (only_live y) in
+      let x = free roles table (only_live y) in
       let v = d.back x.0 x.1 in
-      let dropped_zero : (c : ℕ) → is_dropped slots c ≡ true → x.0 c ≡ 0ℚ = λ c h. x.3 c h ∙ ap (λ b. choose b (y c) 0ℚ) (no_live c h) in
+      let dropped_zero : (c : ℕ) → is_dropped roles c ≡ true → x.0 c ≡ 0ℚ = λ c h. x.3 c h ∙ ap (λ b. choose b (y c) 0ℚ) (no_live c h) in
       let member_zero : (i : ℕ) → i < length l → IsQuantity l asked (member i) → amount l v.0 (member i) ≡ 0ℚ =
       λ i k j.
       elim (solved.members i k) [

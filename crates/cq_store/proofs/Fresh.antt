@@ -14,10 +14,10 @@ use Rattle.cq_frac.specs.declared.VarId.{VarId}
 use Rattle.cq_form.specs.Pairs.{products_of}
 use Rattle.cq_row.specs.declared.Entry.{Entry}
 use Rattle.cq_row.specs.Rows as row
-use Rattle.cq_dict.specs.Table.{IsAt}
-use Rattle.cq_store.proofs.Slots.{at_end}
+use Rattle.cq_dict.specs.Roles.{IsAt}
+use Rattle.cq_dict.proofs.Roles.{at_last}
 use Rattle.cq_store.proofs.Names.{place_below}
-use Rattle.cq_dict.specs.declared.table.Slot.TheVariants.{Live, Basic}
+use Rattle.cq_dict.specs.declared.table.Role.TheVariants.{Live, Basic}
 use Rattle.cq_store.specs.declared.table.Name.TheVariants.{Variable}
 use Rattle.cq_store.specs.Describes.{placed}
 use Rattle.cq_store.specs.Contents.{Named, AreNamed, variables_of, place_of}
@@ -107,11 +107,11 @@ abbrev pub AddsFirst : Named → List (VarId × ℚ) → ℕ → Named → Type 
 AddsFirst old s i new = AddsVariables old (fresh (variables_of old.names) (variables (products_of (take i s)))) new
 
 pub adds_new : (old mid : Named) (s : List (VarId × ℚ)) (i : ℕ) (p : VarId × ℚ) → i < length s → p ≡ get_or s i p → AddsFirst old s i mid → (Has p.0.0 (variables_of mid.names) → ⊥) →
-    (new : Named) → new.names ≡ mid.names ++ Variable p.0 ∷ [] → new.slots ≡ mid.slots ++ Live ∷ [] → AddsFirst old s (i + 1) new
+    (new : Named) → new.names ≡ mid.names ++ Variable p.0 ∷ [] → new.roles ≡ mid.roles ++ Live ∷ [] → AddsFirst old s (i + 1) new
 adds_new old mid s i p l e a n new en es =
     let none : Has p.0.0 (variables_of old.names) → ⊥ = λ h. n (subst (Has p.0.0) (sym (added_order old mid _ a)) (has_left p.0.0 (variables_of old.names) (fresh (variables_of old.names) (variables (products_of (take i s)))) h)) in
     subst (λ xs. AddsVariables old xs new) (sym (ap (fresh (variables_of old.names)) (variables_more s i p l e) ∙ fresh-new (variables_of old.names) (variables (products_of (take i s))) p.0.0 none))
-    (subst (AddsVariables old (fresh (variables_of old.names) (variables (products_of (take i s))) ++ p.0.0 ∷ [])) (sym (ap₂ (λ x y. record { names = x; slots = y }) en es)) (one_added (fresh (variables_of old.names) (variables (products_of (take i s)))) mid a p.0 n))
+    (subst (AddsVariables old (fresh (variables_of old.names) (variables (products_of (take i s))) ++ p.0.0 ∷ [])) (sym (ap₂ (λ x y. record { names = x; roles = y }) en es)) (one_added (fresh (variables_of old.names) (variables (products_of (take i s)))) mid a p.0 n))
 
 pub adds_old : (old mid : Named) (s : List (VarId × ℚ)) (i : ℕ) (p : VarId × ℚ) → i < length s → p ≡ get_or s i p → IsSumFrom 0 (products_of s) → AddsFirst old s i mid → Has p.0.0 (variables_of mid.names) → AddsFirst old s (i + 1) mid
 adds_old old mid s i p l e f a h =
@@ -145,8 +145,8 @@ known_before old known f a x h =
 
 -- ---- the row of the form
 
-pub last_row : (known asked : Named) (f : Linear) (m : AddsMember known f asked) (n : ℕ) → n ≡ length known.slots → IsAt asked.slots n (Basic m.row)
-last_row known asked f m n e = subst (λ k. IsAt asked.slots k (Basic m.row)) (sym e) (subst (λ z. IsAt z (length known.slots) (Basic m.row)) (sym m.slots) (at_end known.slots (Basic m.row)))
+pub last_row : (known asked : Named) (f : Linear) (m : AddsMember known f asked) (n : ℕ) → n ≡ length known.roles → IsAt asked.roles n (Basic m.row)
+last_row known asked f m n e = subst (λ k. IsAt asked.roles k (Basic m.row)) (sym e) (subst (λ z. IsAt z (length known.roles) (Basic m.row)) (sym m.roles) (at_last known.roles (Basic m.row)))
 
 pub first_of : (s : List Entry) (m : Entry) → slice_get s 0 ≡ Some m → (rest : List Entry) × (s ≡ m ∷ rest)
 first_of [] m e = cc
@@ -161,5 +161,5 @@ placed_place place [] m h = absurd h
 placed_place place (n ∷ s) m (inl e) = (n.variable, inl refl, ap (λ (z : Entry). z.quantity) e)
 placed_place place (n ∷ s) m (inr h) = let r = placed_place place s m h in (r.0, inr r.1, r.2)
 
-pub placed_below : (t : Named) → AreNamed t → (s : List Monomial) → ((x : ℕ) → Mentions x s → Has x (variables_of t.names)) → (m : Entry) → row.Has m (placed (place_of t.names) s) → m.quantity < length t.slots
+pub placed_below : (t : Named) → AreNamed t → (s : List Monomial) → ((x : ℕ) → Mentions x s → Has x (variables_of t.names)) → (m : Entry) → row.Has m (placed (place_of t.names) s) → m.quantity < length t.roles
 placed_below t a s known m h = let r = placed_place (place_of t.names) s m h in omega (arith, r.2, place_below t.names r.0 (known r.0 r.1), a.size)

@@ -9,21 +9,21 @@ use Rattle.spec_echelon.specs.Echelon.{AreDistinct}
 use Rattle.spec_echelon.specs.SolvedForm.{NotFixed}
 use Rattle.cq_frac.specs.declared.Operation.{Operation}
 use Rattle.cq_frac.specs.declared.VarId.{VarId}
-use Rattle.cq_dict.specs.declared.table.Slot.TheVariants.{Basic}
+use Rattle.cq_dict.specs.declared.table.Role.TheVariants.{Basic}
 use Rattle.cq_store.specs.declared.table.Name.TheVariants.{Member}
 use Rattle.spec_linear.specs.declared.Relation.TheVariants.{Eq}
 use Rattle.std.specs.Prelude.{IsErrAnd}
 use Rattle.std.proofs.Common.{Result, Err}
 use Rattle.cq_frac.specs.declared.Pair.{Pair}
-use Rattle.cq_dict.specs.declared.dict.DictFault.{DictFault}
-use Rattle.cq_dict.specs.declared.dict.DictFault.TheVariants as of_dict
+use Rattle.cq_frac.specs.declared.Refusal.{Refusal}
+use Rattle.cq_frac.specs.declared.Refusal.TheVariants as of_refusal
 use Rattle.cq_store.specs.declared.store.StoreFault.{StoreFault}
 use Rattle.cq_store.specs.declared.store.StoreFault.TheVariants.{Overflow}
 use Rattle.cq_store.specs.Faults.{IsStoreFault}
 use Rattle.cq_store.specs.Describes.{with_equation}
 use Rattle.cq_store.specs.Contents.{Named, AreNamed, IsStored, variables_of, variable_forms, solved_in, number_in}
 use Rattle.cq_store.specs.Told.{numbers_of, AreNewlyFixed, new_variables, CallMakes, while_asked}
-use Rattle.cq_store.specs.Entering.{AddsMember, AreGained, Enters, IsRefused, Meets, in_form, in_exchange}
+use Rattle.cq_store.specs.Entering.{AddsMember, AreGained, TakesEquation, IsRefused, EnteringPair, in_form, in_exchange}
 use Rattle.cq_store.proofs.Names.{has_or_not, variables_of-append}
 use Rattle.cq_store.proofs.Causes.{at_work}
 use Rattle.cq_store.proofs.Values.{value_is}
@@ -86,7 +86,7 @@ filter_agrees p q (y ∷ s) h = ap₂ (λ b t. cond b (y ∷ t) t) (h y (inl ref
 
 -- the form's row gives no known variable a number
 same_known : (known asked : Named) (f : Linear) → AreNamed known → AddsMember known f asked → (x : ℕ) → Has x (variables_of known.names) → solved_in asked x ≡ solved_in known x
-same_known known asked f a m x h = ap (λ t. solved_in t x) (ap₂ (λ n z. record { names = n; slots = z }) m.names m.slots) ∙ solved_more known a (Member ∷ []) (Basic m.row ∷ []) x h
+same_known known asked f a m x h = ap (λ t. solved_in t x) (ap₂ (λ n z. record { names = n; roles = z }) m.names m.roles) ∙ solved_more known a (Member ∷ []) (Basic m.row ∷ []) x h
 
 pub known_rest : (known asked : Named) (f : Linear) → AreNamed known → AddsMember known f asked → (rest : List ℕ) → rest ≡ filter (λ x. is_none (number_in (solved_in asked x))) (variables_of asked.names) →
     rest ≡ filter (λ x. is_none (number_in (solved_in known x))) (variables_of known.names)
@@ -123,16 +123,16 @@ none_gained known new f a m = record {
 -- ---- what telling it says
 
 module _ (l : List Constraint) (old : Named) (s : IsStored l old) (f : Linear) where
-  pub entered_stored : (fixed : List ℕ) (new : Named) → Enters old f fixed new → IsStored (with_equation l f) new
+  pub entered_stored : (fixed : List ℕ) (new : Named) → TakesEquation old f fixed new → IsStored (with_equation l f) new
   entered_stored fixed new e =
       (joins_stored l e.known (added_stored l old e.known (new_variables (variables_of old.names) f) s e.adds) f (known_after old e.known f e.adds) new e.joins).0
 
-  pub entered_order : (fixed : List ℕ) (new : Named) → Enters old f fixed new → variables_of new.names ≡ variables_of old.names ++ new_variables (variables_of old.names) f
+  pub entered_order : (fixed : List ℕ) (new : Named) → TakesEquation old f fixed new → variables_of new.names ≡ variables_of old.names ++ new_variables (variables_of old.names) f
   entered_order fixed new e =
       (joins_stored l e.known (added_stored l old e.known (new_variables (variables_of old.names) f) s e.adds) f (known_after old e.known f e.adds) new e.joins).1
       ∙ added_order old e.known (new_variables (variables_of old.names) f) e.adds
 
-  pub newly_fixed : (fixed : List ℕ) (new : Named) → Enters old f fixed new → AreNewlyFixed l (with_equation l f) fixed
+  pub newly_fixed : (fixed : List ℕ) (new : Named) → TakesEquation old f fixed new → AreNewlyFixed l (with_equation l f) fixed
   newly_fixed fixed new e = record {
     once = e.gained.once;
     fixed = λ x h. let q = e.gained.gained x h in (q.0, subst (λ o. MatchOption o (NotFixed (with_equation l f) x) (λ q. Fixed (with_equation l f) x q)) q.1 (new_value x));
@@ -165,7 +165,7 @@ module _ (l : List Constraint) (old : Named) (s : IsStored l old) (f : Linear) w
   refused_unsolvable r =
       contradicts_unsolvable l r.known (added_stored l old r.known (new_variables (variables_of old.names) f) s r.adds) f (known_after old r.known f r.adds) r.contradicts
 
-  pub meets_due : IsForm f → {o : Operation} {a b : ℚ} → Meets old f o a b → Makes (at_work l (f ∷ variable_forms (variables_of old.names))) o a b
+  pub meets_due : IsForm f → {o : Operation} {a b : ℚ} → EnteringPair old f o a b → Makes (at_work l (f ∷ variable_forms (variables_of old.names))) o a b
   meets_due ordered (in_form known adds p) =
       adding_makes l known (added_stored l old known (new_variables (variables_of old.names) f) s adds) f (known_after old known f adds) (variables_of old.names) (old_known old known f adds) (known_before old known f adds) ordered _ _ _ p
   meets_due ordered (in_exchange known asked adds member column p) =
@@ -176,12 +176,12 @@ equation_is : (c : Constraint) → c.relation ≡ Eq → (l : List Constraint) �
 equation_is c e l = ap (λ r. l ++ record { relation = r; form = c.form } ∷ []) (sym e)
 
 -- a fault that was handed on
-pub fault_of : {A : Type 0} (r : Result A StoreFault) (fault : DictFault) → IsErrAnd r (IsStoreFault fault) → (pair : Pair) → r ≡ Err (Overflow pair) → fault ≡ of_dict.Overflow pair
+pub fault_of : {A : Type 0} (r : Result A StoreFault) (fault : Refusal) → IsErrAnd r (IsStoreFault fault) → (pair : Pair) → r ≡ Err (Overflow pair) → fault ≡ of_refusal.Overflow pair
 fault_of r fault h pair e = go fault (subst (λ z. IsErrAnd z (IsStoreFault fault)) e h)
   where
-    go : (fault : DictFault) → IsStoreFault fault (Overflow pair) → fault ≡ of_dict.Overflow pair
-    go (of_dict.Overflow p) w = let f : pair ≡ p = cc in ap of_dict.Overflow (sym f)
-    go of_dict.NoMemory w = cc
+    go : (fault : Refusal) → IsStoreFault fault (Overflow pair) → fault ≡ of_refusal.Overflow pair
+    go (of_refusal.Overflow p) w = let f : pair ≡ p = cc in ap of_refusal.Overflow (sym f)
+    go of_refusal.NoMemory w = cc
 
 -- ---- what it says of the told list
 
@@ -189,7 +189,7 @@ module _ (l : List Constraint) (old : Named) (s : IsStored l old) (c : Constrain
   list_is : with_equation l f ≡ l ++ c ∷ []
   list_is = ap (with_equation l) f_is ∙ equation_is c is l
 
-  module _ (fixed : List ℕ) (new : Named) (e : Enters old f fixed new) (told : List Constraint) (told_is : told ≡ l ++ c ∷ []) where
+  module _ (fixed : List ℕ) (new : Named) (e : TakesEquation old f fixed new) (told : List Constraint) (told_is : told ≡ l ++ c ∷ []) where
     pub told_stored : IsStored told new
     told_stored = subst (λ m. IsStored m new) (list_is ∙ sym told_is) (entered_stored l old s f fixed new e)
 
@@ -205,7 +205,7 @@ module _ (l : List Constraint) (old : Named) (s : IsStored l old) (c : Constrain
   pub told_unsolvable : IsRefused old f → Unsolvable (l ++ c ∷ [])
   told_unsolvable r = subst Unsolvable list_is (refused_unsolvable l old s f r)
 
-  pub call_makes : IsForm f → (pair : Pair) → Meets old f pair.operation pair.left pair.right → Refuses pair → CallMakes l (variables_of old.names) c pair
+  pub call_makes : IsForm f → (pair : Pair) → EnteringPair old f pair.operation pair.left pair.right → Refuses pair → CallMakes l (variables_of old.names) c pair
   call_makes ordered pair m r =
       while_asked (record { made = subst (λ g. Makes (at_work l (g ∷ variable_forms (variables_of old.names))) pair.operation pair.left pair.right) f_is (meets_due l old s f ordered m); refused = r })
 

@@ -12,25 +12,26 @@ use Rattle.cq_row.specs.Row.{Row}
 use Rattle.cq_row.specs.Rows as row
 use Rattle.cq_row.specs.Numbers.{IsOver}
 use Rattle.cq_row.proofs.Units.{nat_eq_self, same_number, row_weaker}
-use Rattle.cq_dict.specs.declared.table.Slot.{Slot}
-use Rattle.cq_dict.specs.declared.table.Slot.TheVariants.{Live, Dropped, Basic}
-use Rattle.cq_dict.specs.Table.{IsAt, is_live, is_dropped, IsTable, IsMet, Expresses, IsEliminated}
+use Rattle.cq_dict.specs.declared.table.Role.{Role}
+use Rattle.cq_dict.specs.declared.table.Role.TheVariants.{Live, Dropped, Basic}
+use Rattle.cq_dict.specs.Roles.{IsAt, is_live, is_dropped, AreOverColumns, IsMet, Expresses, IsEliminated}
 use Rattle.cq_store.specs.Describes.{Agree, Describes, IsSolved, NoOtherRows, placed, with_equation}
-use Rattle.cq_store.proofs.Slots.{at_live, at_dropped, at_one, live_at, dropped_at, at_append, at_end, append_back, at_below}
-use Rattle.cq_store.proofs.Free.{free, sum_agrees, same_numbers}
+use Rattle.cq_dict.proofs.Roles.{role_live, role_dropped, at_one, live_at, dropped_at, at_last, at_below, live_on, live_back, dropped_on, dropped_back, row_on, row_back}
+use Rattle.cq_store.proofs.Roles.{at_append, append_back}
+use Rattle.cq_dict.proofs.Free.{free, sum_agrees, same_numbers}
 use Rattle.cq_store.proofs.Dictionary.{has_either}
 use Rattle.cq_store.proofs.Causes.{placed_sum}
 
 -- the kinds after a row and a column are exchanged, and the row's quantity, now a column, is dropped
-pub record IsTurned (slots : List Slot) (row column : ℕ) (new : List Slot) : Type 0 where
+pub record IsTurned (roles : List Role) (row column : ℕ) (new : List Role) : Type 0 where
   pub drops : IsAt new row Dropped
   pub enters : (r : Row) × IsAt new column (Basic r)
-  pub live : (i : ℕ) → (i ≡ row → ⊥) → (i ≡ column → ⊥) → IsAt slots i Live → IsAt new i Live
-  pub dropped : (i : ℕ) → IsAt slots i Dropped → IsAt new i Dropped
-  pub rows : (i : ℕ) (r : Row) → (i ≡ row → ⊥) → IsAt slots i (Basic r) → (s : Row) × IsAt new i (Basic s)
-  pub back_live : (i : ℕ) → IsAt new i Live → (i ≡ column → ⊥) × IsAt slots i Live
-  pub back_dropped : (i : ℕ) → IsAt new i Dropped → (i ≡ row) ⊎ IsAt slots i Dropped
-  pub back_rows : (i : ℕ) (r : Row) → IsAt new i (Basic r) → (i ≡ column) ⊎ ((i ≡ row → ⊥) × ((s : Row) × IsAt slots i (Basic s)))
+  pub live : (i : ℕ) → (i ≡ row → ⊥) → (i ≡ column → ⊥) → IsAt roles i Live → IsAt new i Live
+  pub dropped : (i : ℕ) → IsAt roles i Dropped → IsAt new i Dropped
+  pub rows : (i : ℕ) (r : Row) → (i ≡ row → ⊥) → IsAt roles i (Basic r) → (s : Row) × IsAt new i (Basic s)
+  pub back_live : (i : ℕ) → IsAt new i Live → (i ≡ column → ⊥) × IsAt roles i Live
+  pub back_dropped : (i : ℕ) → IsAt new i Dropped → (i ≡ row) ⊎ IsAt roles i Dropped
+  pub back_rows : (i : ℕ) (r : Row) → IsAt new i (Basic r) → (i ≡ column) ⊎ ((i ≡ row → ⊥) × ((s : Row) × IsAt roles i (Basic s)))
 
 pub same_or_not : (i j : ℕ) → (i ≡ j) ⊎ (i ≡ j → ⊥)
 same_or_not i j = go (nat_eq i j) refl
@@ -39,41 +40,41 @@ same_or_not i j = go (nat_eq i j) refl
     go true e = inl (same_number i j e)
     go false e = inr (λ z. let t : nat_eq i j ≡ true = subst (λ k. nat_eq k j ≡ true) (sym z) (nat_eq_self j) in cc)
 
-pub turned_is : (slots new : List Slot) (n c : ℕ) (own : Row) → IsAt slots n (Basic own) → IsAt slots c Live → IsEliminated slots n c new → IsTurned slots n c new
-turned_is slots new n c own at_row at_column e = record {
+pub turned_is : (roles new : List Role) (n c : ℕ) (own : Row) → IsAt roles n (Basic own) → IsAt roles c Live → IsEliminated roles n c new → IsTurned roles n c new
+turned_is roles new n c own at_row at_column e = record {
   drops = e.leaves;
   enters = e.enters;
-  live = λ i h k w. (e.others i h k).live.0 w;
-  dropped = λ i w. (e.others i (row_apart i w) (column_apart i w)).dropped.0 w;
-  rows = λ i r h w. (e.others i h (λ z. basic_apart i r w z)).row.0 (r, w);
+  live = λ i h k w. live_on roles new i (e.others i h k) w;
+  dropped = λ i w. dropped_on roles new i (e.others i (row_apart i w) (column_apart i w)) w;
+  rows = λ i r h w. row_on roles new i (e.others i h (λ z. basic_apart i r w z)) (r, w);
   back_live = λ i w.
       let m : i ≡ c → ⊥ = λ z. new_column i Live z w (λ r f. cc) in
       let h : i ≡ n → ⊥ = λ z. let f : Live ≡ Dropped = at_one new n Live Dropped (subst (λ k. IsAt new k Live) z w) e.leaves in cc in
-      (m, (e.others i h m).live.1 w);
+      (m, live_back roles new i (e.others i h m) w);
   back_dropped = λ i w.
       elim (same_or_not i n) [
         | inl z ↦ inl z
-        | inr h ↦ inr ((e.others i h (λ z. new_column i Dropped z w (λ r f. cc))).dropped.1 w)
+        | inr h ↦ inr (dropped_back roles new i (e.others i h (λ z. new_column i Dropped z w (λ r f. cc))) w)
       ];
   back_rows = λ i r w.
       elim (same_or_not i c) [
         | inl z ↦ inl z
         | inr m ↦
             let h : i ≡ n → ⊥ = λ z. let f : Basic r ≡ Dropped = at_one new n (Basic r) Dropped (subst (λ k. IsAt new k (Basic r)) z w) e.leaves in cc in
-            inr (h, (e.others i h m).row.1 (r, w))
+            inr (h, row_back roles new i (e.others i h m) (r, w))
       ];
 }
   where
-    row_apart : (i : ℕ) → IsAt slots i Dropped → i ≡ n → ⊥
-    row_apart i w z = let f : Dropped ≡ Basic own = at_one slots n Dropped (Basic own) (subst (λ k. IsAt slots k Dropped) z w) at_row in cc
+    row_apart : (i : ℕ) → IsAt roles i Dropped → i ≡ n → ⊥
+    row_apart i w z = let f : Dropped ≡ Basic own = at_one roles n Dropped (Basic own) (subst (λ k. IsAt roles k Dropped) z w) at_row in cc
 
-    column_apart : (i : ℕ) → IsAt slots i Dropped → i ≡ c → ⊥
-    column_apart i w z = let f : Dropped ≡ Live = at_one slots c Dropped Live (subst (λ k. IsAt slots k Dropped) z w) at_column in cc
+    column_apart : (i : ℕ) → IsAt roles i Dropped → i ≡ c → ⊥
+    column_apart i w z = let f : Dropped ≡ Live = at_one roles c Dropped Live (subst (λ k. IsAt roles k Dropped) z w) at_column in cc
 
-    basic_apart : (i : ℕ) (r : Row) → IsAt slots i (Basic r) → i ≡ c → ⊥
-    basic_apart i r w z = let f : Basic r ≡ Live = at_one slots c (Basic r) Live (subst (λ k. IsAt slots k (Basic r)) z w) at_column in cc
+    basic_apart : (i : ℕ) (r : Row) → IsAt roles i (Basic r) → i ≡ c → ⊥
+    basic_apart i r w z = let f : Basic r ≡ Live = at_one roles c (Basic r) Live (subst (λ k. IsAt roles k (Basic r)) z w) at_column in cc
 
-    new_column : (i : ℕ) (s : Slot) → i ≡ c → IsAt new i s → ((r : Row) → s ≡ Basic r → ⊥) → ⊥
+    new_column : (i : ℕ) (s : Role) → i ≡ c → IsAt new i s → ((r : Row) → s ≡ Basic r → ⊥) → ⊥
     new_column i s z w never = never e.enters.0 (at_one new c s (Basic e.enters.0) (subst (λ k. IsAt new k s) z w) e.enters.1)
 
 -- ---- lists of constraints
@@ -166,23 +167,23 @@ not_twice r [] t g h k = h.0 (has_left r t g k)
 not_twice r (x ∷ s) t g h (inl e) = h.0 (subst (λ y. Has y ((s ++ r ∷ t) ++ g)) e (has_left r (s ++ r ∷ t) g (here_in r s t)))
 not_twice r (x ∷ s) t g h (inr k) = not_twice r s t g h.1 k
 
-module _ (l : List Constraint) (f : Linear) (asked : List Linear) (slots : List Slot) (place place' : Quantity → ℕ) (same_place : (q : Quantity) → IsQuantity l (f ∷ asked) q → place' q ≡ place q) (new_place : place' (member (length l)) ≡ length slots) (before : List Quantity) (q0 : Quantity) (after gone : List Quantity)
-    (table : IsTable slots) (d : Describes l (f ∷ asked) slots place (before ++ q0 ∷ after) gone) (solved : IsSolved l slots place gone)
-    (r0 : Row) (ex : Expresses slots (λ x. f.constant +ℚ row.sum_at x (placed place f.products)) r0)
-    (fresh : List Slot) (table1 : IsTable (slots ++ Basic r0 ∷ [])) (table3 : IsTable fresh)
-    (same : (x : ℕ → ℚ) → IsMet x (slots ++ Basic r0 ∷ []) ↔ IsMet x fresh) (turned : IsTurned (slots ++ Basic r0 ∷ []) (length slots) (place q0) fresh) where
-  up : (i : ℕ) (s : Slot) → IsAt slots i s → IsAt (slots ++ Basic r0 ∷ []) i s
-  up i s h = at_append slots (Basic r0 ∷ []) i s h
+module _ (l : List Constraint) (f : Linear) (asked : List Linear) (roles : List Role) (place place' : Quantity → ℕ) (same_place : (q : Quantity) → IsQuantity l (f ∷ asked) q → place' q ≡ place q) (new_place : place' (member (length l)) ≡ length roles) (before : List Quantity) (q0 : Quantity) (after gone : List Quantity)
+    (table : AreOverColumns roles) (d : Describes l (f ∷ asked) roles place (before ++ q0 ∷ after) gone) (solved : IsSolved l roles place gone)
+    (r0 : Row) (ex : Expresses roles (λ x. f.constant +ℚ row.sum_at x (placed place f.products)) r0)
+    (fresh : List Role) (table1 : AreOverColumns (roles ++ Basic r0 ∷ [])) (table3 : AreOverColumns fresh)
+    (same : (x : ℕ → ℚ) → IsMet x (roles ++ Basic r0 ∷ []) ↔ IsMet x fresh) (turned : IsTurned (roles ++ Basic r0 ∷ []) (length roles) (place q0) fresh) where
+  up : (i : ℕ) (s : Role) → IsAt roles i s → IsAt (roles ++ Basic r0 ∷ []) i s
+  up i s h = at_append roles (Basic r0 ∷ []) i s h
 
-  old_met : (x : ℕ → ℚ) → IsMet x (slots ++ Basic r0 ∷ []) → IsMet x slots
+  old_met : (x : ℕ → ℚ) → IsMet x (roles ++ Basic r0 ∷ []) → IsMet x roles
   old_met x m = record { rows = λ i r h. m.rows i r (up i (Basic r) h) }
 
-  new_value : (v x : ℕ → ℚ) → IsMet x (slots ++ Basic r0 ∷ []) → Agree l (f ∷ asked) place v x → x (length slots) ≡ value_at v f
+  new_value : (v x : ℕ → ℚ) → IsMet x (roles ++ Basic r0 ∷ []) → Agree l (f ∷ asked) place v x → x (length roles) ≡ value_at v f
   new_value v x m a =
-      m.rows (length slots) r0 (at_end slots (Basic r0)) ∙ ex.value_is x (old_met x m)
+      m.rows (length roles) r0 (at_last roles (Basic r0)) ∙ ex.value_is x (old_met x m)
       ∙ ap (λ w. f.constant +ℚ w) (placed_sum place v x f.products (λ y h. a.same (variable y) (inr (inl h)) ∙ value_at-variable_form v y))
 
-  agree_more : (v x : ℕ → ℚ) → IsMet x (slots ++ Basic r0 ∷ []) → Agree l (f ∷ asked) place v x → Agree (with_equation l f) asked place' v x
+  agree_more : (v x : ℕ → ℚ) → IsMet x (roles ++ Basic r0 ∷ []) → Agree l (f ∷ asked) place v x → Agree (with_equation l f) asked place' v x
   agree_more v x m a = record {
     same = λ q i.
         elim (which l f asked q i) [
@@ -196,9 +197,9 @@ module _ (l : List Constraint) (f : Linear) (asked : List Linear) (slots : List 
   forth : (v : ℕ → ℚ) → (x : ℕ → ℚ) × IsMet x fresh × Agree (with_equation l f) asked place' v x
   forth v =
       let o = d.forth v in
-      let x = free (slots ++ Basic r0 ∷ []) table1 o.0 in
-      let live : (c : ℕ) → is_live slots c ≡ true → x.0 c ≡ o.0 c = λ c h. x.2 c (live_at (slots ++ Basic r0 ∷ []) c Live (up c Live (at_live slots c h))) in
-      let dropped : (c : ℕ) → is_dropped slots c ≡ true → x.0 c ≡ o.0 c = λ c h. x.3 c (dropped_at (slots ++ Basic r0 ∷ []) c Dropped (up c Dropped (at_dropped slots c h))) in
+      let x = free (roles ++ Basic r0 ∷ []) table1 o.0 in
+      let live : (c : ℕ) → is_live roles c ≡ true → x.0 c ≡ o.0 c = λ c h. x.2 c (live_at (roles ++ Basic r0 ∷ []) c Live (up c Live (role_live roles c h))) in
+      let dropped : (c : ℕ) → is_dropped roles c ≡ true → x.0 c ≡ o.0 c = λ c h. x.3 c (dropped_at (roles ++ Basic r0 ∷ []) c Dropped (up c Dropped (role_dropped roles c h))) in
       let a : Agree l (f ∷ asked) place v x.0 = record {
         same = λ q i.
             elim (d.others q i) [
@@ -209,7 +210,7 @@ module _ (l : List Constraint) (f : Linear) (asked : List Linear) (slots : List 
               | inr r ↦
                   let t = table.rows (place q) r.0 r.1 in
                   x.1.rows (place q) r.0 (up (place q) (Basic r.0) r.1)
-                  ∙ ap₂ (λ u w. r.0.constant +ℚ (u +ℚ w)) (sum_agrees (is_live slots) 0 x.0 o.0 r.0.live t.live_row live) (sum_agrees (is_dropped slots) 0 x.0 o.0 r.0.dropped t.dropped_row dropped)
+                  ∙ ap₂ (λ u w. r.0.constant +ℚ (u +ℚ w)) (sum_agrees (is_live roles) 0 x.0 o.0 r.0.live t.live_row live) (sum_agrees (is_dropped roles) 0 x.0 o.0 r.0.dropped t.dropped_row dropped)
                   ∙ sym (o.1.rows (place q) r.0 r.1) ∙ o.2.same q i
             ];
       } in
@@ -232,17 +233,17 @@ module _ (l : List Constraint) (f : Linear) (asked : List Linear) (slots : List 
   old_place : (q : Quantity) → Has q ((before ++ q0 ∷ after) ++ gone) → place' q ≡ place q
   old_place q h = same_place q (d.columns q h)
 
-  below : (q : Quantity) → Has q ((before ++ q0 ∷ after) ++ gone) → place q < length slots
+  below : (q : Quantity) → Has q ((before ++ q0 ∷ after) ++ gone) → place q < length roles
   below q h =
       elim (has_either q (before ++ q0 ∷ after) gone h) [
-        | inl k ↦ at_below slots (place q) Live (at_live slots (place q) (d.live_is q k))
-        | inr k ↦ at_below slots (place q) Dropped (at_dropped slots (place q) (d.gone_is q k))
+        | inl k ↦ at_below roles (place q) Live (role_live roles (place q) (d.live_is q k))
+        | inr k ↦ at_below roles (place q) Dropped (role_dropped roles (place q) (d.gone_is q k))
       ]
 
-  not_the_row : (q : Quantity) → Has q ((before ++ q0 ∷ after) ++ gone) → place q ≡ length slots → ⊥
+  not_the_row : (q : Quantity) → Has q ((before ++ q0 ∷ after) ++ gone) → place q ≡ length roles → ⊥
   not_the_row q h e = omega (arith, below q h, e)
 
-  new_is : (q : Quantity) → q ≡ member (length l) → place' q ≡ length slots
+  new_is : (q : Quantity) → q ≡ member (length l) → place' q ≡ length roles
   new_is q e = ap place' e ∙ new_place
 
   apart : (q r : Quantity) → Has q ((before ++ after) ++ member (length l) ∷ gone) → Has r ((before ++ after) ++ member (length l) ∷ gone) → place' q ≡ place' r → q ≡ r
@@ -256,22 +257,22 @@ module _ (l : List Constraint) (f : Linear) (asked : List Linear) (slots : List 
   live_is q h =
       let k = back_in q q0 before after h in
       let w = has_left q (before ++ q0 ∷ after) gone k in
-      let a = up (place q) Live (at_live slots (place q) (d.live_is q k)) in
+      let a = up (place q) Live (role_live roles (place q) (d.live_is q k)) in
       let c : place q ≡ place q0 → ⊥ = λ e. not_twice q0 before after gone d.once (subst (λ y. Has y (before ++ after)) (d.apart q q0 w (has_left q0 (before ++ q0 ∷ after) gone (here_in q0 before after)) e) h) in
       subst (λ n. is_live fresh n ≡ true) (sym (old_place q w)) (live_at fresh (place q) Live (turned.live (place q) (not_the_row q w) c a))
 
   gone_is : (q : Quantity) → Has q (member (length l) ∷ gone) → is_dropped fresh (place' q) ≡ true
-  gone_is q (inl e) = subst (λ n. is_dropped fresh n ≡ true) (sym (new_is q e)) (dropped_at fresh (length slots) Dropped turned.drops)
+  gone_is q (inl e) = subst (λ n. is_dropped fresh n ≡ true) (sym (new_is q e)) (dropped_at fresh (length roles) Dropped turned.drops)
   gone_is q (inr h) =
       subst (λ n. is_dropped fresh n ≡ true) (sym (old_place q (has_right q (before ++ q0 ∷ after) gone h)))
-      (dropped_at fresh (place q) Dropped (turned.dropped (place q) (up (place q) Dropped (at_dropped slots (place q) (d.gone_is q h)))))
+      (dropped_at fresh (place q) Dropped (turned.dropped (place q) (up (place q) Dropped (role_dropped roles (place q) (d.gone_is q h)))))
 
   each_live : (c : ℕ) → is_live fresh c ≡ true → (q : Quantity) × Has q (before ++ after) × (place' q ≡ c)
   each_live c h =
-      let b = turned.back_live c (at_live fresh c h) in
-      elim (append_back slots (Basic r0) Live c b.1) [
+      let b = turned.back_live c (role_live fresh c h) in
+      elim (append_back roles (Basic r0) Live c b.1) [
         | inl k ↦
-            let q = d.each_live c (live_at slots c Live k) in
+            let q = d.each_live c (live_at roles c Live k) in
             elim (out q.0 q0 before after q.1) [
               | inl e ↦ absurd (b.0 (sym q.2 ∙ ap place e))
               | inr w ↦ (q.0, w, old_place q.0 (has_left q.0 (before ++ q0 ∷ after) gone q.1) ∙ q.2)
@@ -281,17 +282,17 @@ module _ (l : List Constraint) (f : Linear) (asked : List Linear) (slots : List 
 
   each_gone : (c : ℕ) → is_dropped fresh c ≡ true → (q : Quantity) × Has q (member (length l) ∷ gone) × (place' q ≡ c)
   each_gone c h =
-      elim (turned.back_dropped c (at_dropped fresh c h)) [
+      elim (turned.back_dropped c (role_dropped fresh c h)) [
         | inl e ↦ (member (length l), inl refl, new_place ∙ sym e)
-        | inr b ↦ elim (append_back slots (Basic r0) Dropped c b) [
-          | inl k ↦ let q = d.each_gone c (dropped_at slots c Dropped k) in (q.0, inr q.1, old_place q.0 (has_right q.0 (before ++ q0 ∷ after) gone q.1) ∙ q.2)
+        | inr b ↦ elim (append_back roles (Basic r0) Dropped c b) [
+          | inl k ↦ let q = d.each_gone c (dropped_at roles c Dropped k) in (q.0, inr q.1, old_place q.0 (has_right q.0 (before ++ q0 ∷ after) gone q.1) ∙ q.2)
           | inr k ↦ let w = k.1 in cc
         ]
       ]
 
-  row_stays : (q : Quantity) → IsQuantity l (f ∷ asked) q → (r : Row) → IsAt slots (place q) (Basic r) → (s : Row) × IsAt fresh (place' q) (Basic s)
+  row_stays : (q : Quantity) → IsQuantity l (f ∷ asked) q → (r : Row) → IsAt roles (place q) (Basic r) → (s : Row) × IsAt fresh (place' q) (Basic s)
   row_stays q h r a =
-      let b = at_below slots (place q) (Basic r) a in
+      let b = at_below roles (place q) (Basic r) a in
       let s = turned.rows (place q) r (λ e. omega (arith, b, e)) (up (place q) (Basic r) a) in
       (s.0, subst (λ i. IsAt fresh i (Basic s.0)) (sym (same_place q h)) s.1)
 
@@ -311,13 +312,13 @@ module _ (l : List Constraint) (f : Linear) (asked : List Linear) (slots : List 
         ]
       ]
 
-  pub each_row : NoOtherRows l (f ∷ asked) slots place → (i : ℕ) (r : Row) → IsAt fresh i (Basic r) → (q : Quantity) × IsQuantity (with_equation l f) asked q × (place' q ≡ i)
+  pub each_row : NoOtherRows l (f ∷ asked) roles place → (i : ℕ) (r : Row) → IsAt fresh i (Basic r) → (q : Quantity) × IsQuantity (with_equation l f) asked q × (place' q ≡ i)
   each_row known i r h =
       elim (turned.back_rows i r h) [
         | inl e ↦
             let w = has_left q0 (before ++ q0 ∷ after) gone (here_in q0 before after) in
             (q0, kept l f asked q0 (d.columns q0 w), old_place q0 w ∙ sym e)
-        | inr b ↦ elim (append_back slots (Basic r0) (Basic b.1.0) i b.1.1) [
+        | inr b ↦ elim (append_back roles (Basic r0) (Basic b.1.0) i b.1.1) [
           | inl k ↦ let q = known i b.1.0 k in (q.0, kept l f asked q.0 q.1, same_place q.0 q.1 ∙ q.2)
           | inr k ↦ absurd (b.0 k.0)
         ]
@@ -343,16 +344,16 @@ module _ (l : List Constraint) (f : Linear) (asked : List Linear) (slots : List 
     others = others;
   }
 
-  old_member : (i : ℕ) → i < length l → (r : Row) × IsAt slots (place (member i)) (Basic r) × (r.live ≡ []) × (r.constant ≡ 0ℚ) →
+  old_member : (i : ℕ) → i < length l → (r : Row) × IsAt roles (place (member i)) (Basic r) × (r.live ≡ []) × (r.constant ≡ 0ℚ) →
       (s : Row) × IsAt fresh (place' (member i)) (Basic s) × (s.live ≡ []) × (s.constant ≡ 0ℚ)
   old_member i h r =
-      let b = at_below slots (place (member i)) (Basic r.0) r.1 in
+      let b = at_below roles (place (member i)) (Basic r.0) r.1 in
       let s = turned.rows (place (member i)) r.0 (λ e. omega (arith, b, e)) (up (place (member i)) (Basic r.0) r.1) in
       let o = table.rows (place (member i)) r.0 r.1 in
       let er : Expresses fresh (λ x. x (place (member i))) r.0 = record {
         over = record {
           live_row = subst (row.IsRowFrom (is_live fresh) 0) (sym r.2) tt;
-          dropped_row = row_weaker (is_dropped slots) (is_dropped fresh) 0 r.0.dropped (λ c k. dropped_at fresh c Dropped (turned.dropped c (up c Dropped (at_dropped slots c k)))) o.dropped_row;
+          dropped_row = row_weaker (is_dropped roles) (is_dropped fresh) 0 r.0.dropped (λ c k. dropped_at fresh c Dropped (turned.dropped c (up c Dropped (role_dropped roles c k)))) o.dropped_row;
         };
         value_is = λ x m. sym (((same x).1 m).rows (place (member i)) r.0 (up (place (member i)) (Basic r.0) r.1));
       } in
@@ -378,17 +379,17 @@ module _ (l : List Constraint) (f : Linear) (asked : List Linear) (slots : List 
   }
 
 -- one more row over the table's columns keeps it a table
-pub append_table : (slots : List Slot) (r0 : Row) → IsTable slots → IsOver (is_live slots) (is_dropped slots) r0 → IsTable (slots ++ Basic r0 ∷ [])
-append_table slots r0 t o = record {
+pub append_table : (roles : List Role) (r0 : Row) → AreOverColumns roles → IsOver (is_live roles) (is_dropped roles) r0 → AreOverColumns (roles ++ Basic r0 ∷ [])
+append_table roles r0 t o = record {
   rows = λ i r h.
-      elim (append_back slots (Basic r0) (Basic r) i h) [
+      elim (append_back roles (Basic r0) (Basic r) i h) [
         | inl k ↦ wider r (t.rows i r k)
-        | inr k ↦ let e : r ≡ r0 = let w = k.1 in cc in wider r (subst (λ (z : Row). IsOver (is_live slots) (is_dropped slots) z) (sym e) o)
+        | inr k ↦ let e : r ≡ r0 = let w = k.1 in cc in wider r (subst (λ (z : Row). IsOver (is_live roles) (is_dropped roles) z) (sym e) o)
       ];
 }
   where
-    wider : (r : Row) → IsOver (is_live slots) (is_dropped slots) r → IsOver (is_live (slots ++ Basic r0 ∷ [])) (is_dropped (slots ++ Basic r0 ∷ [])) r
+    wider : (r : Row) → IsOver (is_live roles) (is_dropped roles) r → IsOver (is_live (roles ++ Basic r0 ∷ [])) (is_dropped (roles ++ Basic r0 ∷ [])) r
     wider r o = record {
-      live_row = row_weaker (is_live slots) (is_live (slots ++ Basic r0 ∷ [])) 0 r.live (λ c k. live_at (slots ++ Basic r0 ∷ []) c Live (at_append slots (Basic r0 ∷ []) c Live (at_live slots c k))) o.live_row;
-      dropped_row = row_weaker (is_dropped slots) (is_dropped (slots ++ Basic r0 ∷ [])) 0 r.dropped (λ c k. dropped_at (slots ++ Basic r0 ∷ []) c Dropped (at_append slots (Basic r0 ∷ []) c Dropped (at_dropped slots c k))) o.dropped_row;
+      live_row = row_weaker (is_live roles) (is_live (roles ++ Basic r0 ∷ [])) 0 r.live (λ c k. live_at (roles ++ Basic r0 ∷ []) c Live (at_append roles (Basic r0 ∷ []) c Live (role_live roles c k))) o.live_row;
+      dropped_row = row_weaker (is_dropped roles) (is_dropped (roles ++ Basic r0 ∷ [])) 0 r.dropped (λ c k. dropped_at (roles ++ Basic r0 ∷ []) c Dropped (at_append roles (Basic r0 ∷ []) c Dropped (role_dropped roles c k))) o.dropped_row;
     }

@@ -1,5 +1,4 @@
-pub mod Slots
-pub mod Free
+pub mod Roles
 pub mod Dictionary
 pub mod Feasible
 pub mod Causes

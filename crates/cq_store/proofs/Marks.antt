@@ -6,28 +6,17 @@ use Rattle.std.proofs.Math.Seq.{take-length}
 use Rattle.std.specs.List.{take-map}
 use Rattle.std.specs.Option.{option_map}
 use Rattle.std.specs.Prelude.{slice_get}
-use Rattle.cq_dict.specs.Table.{Quantities}
+use Rattle.cq_dict.specs.Roles.{Quantities}
+use Rattle.cq_dict.proofs.Marks.{get_take, get_push}
 use Rattle.cq_store.specs.declared.table.Name.{Name}
 use Rattle.cq_store.specs.Contents.{Named, AreNamed}
 use Rattle.cq_store.specs.Marked.{named_at, AreMarked}
-
-get_take : {X : Type 0} (n k : ℕ) (ys : List X) (y : X) → slice_get (take n ys) k ≡ Some y → slice_get ys k ≡ Some y
-get_take zero k ys y e = absurd (none-some y e)
-get_take (suc n) k [] y e = absurd (none-some y e)
-get_take (suc n) zero (z ∷ ys) y e = e
-get_take (suc n) (suc k) (z ∷ ys) y e = get_take n k ys y e
 
 taken_before : {X : Type 0} (n k : ℕ) (ys : List X) (y : X) → slice_get (take n ys) k ≡ Some y → k < n
 taken_before zero k ys y e = absurd (none-some y e)
 taken_before (suc n) k [] y e = absurd (none-some y e)
 taken_before (suc n) zero (z ∷ ys) y e = omega arith
 taken_before (suc n) (suc k) (z ∷ ys) y e = omega (arith, taken_before n k ys y e)
-
-get_push : {X : Type 0} (xs : List X) (x : X) (k : ℕ) (y : X) → slice_get (xs ++ x ∷ []) k ≡ Some y → (slice_get xs k ≡ Some y) ⊎ ((k ≡ length xs) × (x ≡ y))
-get_push [] x zero y e = inr (refl, same_Some x y e)
-get_push [] x (suc k) y e = absurd (none-some y e)
-get_push (z ∷ xs) x zero y e = inl e
-get_push (z ∷ xs) x (suc k) y e = elim (get_push xs x k y e) [ inl h ↦ inl h | inr h ↦ inr (ap suc h.0, h.1) ]
 
 -- the value of the newest mark
 pub newest : {X : Type 0} (xs : List X) (x : X) (n : ℕ) → n ≡ length xs → (all : List X) → all ≡ xs ++ x ∷ [] → (y : X) → slice_get all n ≡ Some y → y ≡ x
@@ -48,15 +37,15 @@ take_less (suc j) (suc n) [] h = refl
 take_less (suc j) (suc n) (x ∷ xs) h = ap (λ ys. x ∷ ys) (take_less j n xs (omega (arith, h)))
 
 -- the quantities now are those of a mark that is made now
-pub named_now : (t : Named) → AreNamed t → (flags : List Bool) → named_at t.names (record { slots = t.slots; restricted = flags }) ≡ t
-named_now t a flags = ap (λ n. record { names = n; slots = t.slots }) (ap (λ n. take n t.names) (sym a.size) ∙ take-length t.names)
+pub named_now : (t : Named) → AreNamed t → (flags : List Bool) → named_at t.names (record { roles = t.roles; restricted = flags }) ≡ t
+named_now t a flags = ap (λ n. record { names = n; roles = t.roles }) (ap (λ n. take n t.names) (sym a.size) ∙ take-length t.names)
 
 module _ (names : List Name) (saved : List Quantities) (marks : AreMarked names saved) where
-  within : (k : ℕ) (q : Quantities) → slice_get saved k ≡ Some q → length q.slots ≤ length names
-  within k q e = omega (arith, sym (length-take (length q.slots) names) ∙ (marks.named k q e).size)
+  within : (k : ℕ) (q : Quantities) → slice_get saved k ≡ Some q → length q.roles ≤ length names
+  within k q e = omega (arith, sym (length-take (length q.roles) names) ∙ (marks.named k q e).size)
 
   named_more : (more : List Name) (k : ℕ) (q : Quantities) → slice_get saved k ≡ Some q → named_at (names ++ more) q ≡ named_at names q
-  named_more more k q e = ap (λ n. record { names = n; slots = q.slots }) (take-append-le (length q.slots) names more (within k q e))
+  named_more more k q e = ap (λ n. record { names = n; roles = q.roles }) (take-append-le (length q.roles) names more (within k q e))
 
   -- names are added
   pub marks_more : (more names' : List Name) (saved' : List Quantities) → names' ≡ names ++ more → saved' ≡ saved → AreMarked names' saved'
@@ -78,42 +67,42 @@ module _ (names : List Name) (saved : List Quantities) (marks : AreMarked names 
   })
 
   module _ (m : ℕ) (q : Quantities) (at : slice_get saved m ≡ Some q) where
-    named_less : (k : ℕ) (p : Quantities) → slice_get (take m saved) k ≡ Some p → named_at (take (length q.slots) names) p ≡ named_at names p
+    named_less : (k : ℕ) (p : Quantities) → slice_get (take m saved) k ≡ Some p → named_at (take (length q.roles) names) p ≡ named_at names p
     named_less k p e =
-        let l : length p.slots ≤ length q.slots = marks.sorted k m p q (get_take m k saved p e) at (omega (arith, taken_before m k saved p e)) in
-        ap (λ n. record { names = n; slots = p.slots }) (take_less (length p.slots) (length q.slots) names l)
+        let l : length p.roles ≤ length q.roles = marks.sorted k m p q (get_take m k saved p e) at (omega (arith, taken_before m k saved p e)) in
+        ap (λ n. record { names = n; roles = p.roles }) (take_less (length p.roles) (length q.roles) names l)
 
-    pub marks_undo : AreMarked (take (length q.slots) names) (take m saved)
+    pub marks_undo : AreMarked (take (length q.roles) names) (take m saved)
     marks_undo = record {
       named = λ k p g. subst AreNamed (sym (named_less k p g)) (marks.named k p (get_take m k saved p g));
       sorted = λ j k p r g h. marks.sorted j k p r (get_take m j saved p g) (get_take m k saved r h);
     }
 
-    pub saved_undo : map (named_at (take (length q.slots) names)) (take m saved) ≡ take m (map (named_at names) saved)
-    saved_undo = map_same (named_at (take (length q.slots) names)) (named_at names) (take m saved) named_less ∙ sym (take-map (named_at names) m saved)
+    pub saved_undo : map (named_at (take (length q.roles) names)) (take m saved) ≡ take m (map (named_at names) saved)
+    saved_undo = map_same (named_at (take (length q.roles) names)) (named_at names) (take m saved) named_less ∙ sym (take-map (named_at names) m saved)
 
 -- a mark is made
 module _ (t : Named) (a : AreNamed t) (saved : List Quantities) (marks : AreMarked t.names saved) (flags : List Bool) where
-  below : (k : ℕ) (q : Quantities) → slice_get saved k ≡ Some q → length q.slots ≤ length t.slots
+  below : (k : ℕ) (q : Quantities) → slice_get saved k ≡ Some q → length q.roles ≤ length t.roles
   below k q e = omega (arith, within t.names saved marks k q e, a.size)
 
-  pub marks_mark : AreMarked t.names (saved ++ record { slots = t.slots; restricted = flags } ∷ [])
+  pub marks_mark : AreMarked t.names (saved ++ record { roles = t.roles; restricted = flags } ∷ [])
   marks_mark = record {
-    named = λ k q g. elim (get_push saved (record { slots = t.slots; restricted = flags }) k q g) [
+    named = λ k q g. elim (get_push saved (record { roles = t.roles; restricted = flags }) k q g) [
       | inl h ↦ marks.named k q h
       | inr h ↦ subst (λ z. AreNamed (named_at t.names z)) h.1 (subst AreNamed (sym (named_now t a flags)) a)
     ];
-    sorted = λ j k p q g h l. elim (get_push saved (record { slots = t.slots; restricted = flags }) k q h) [
-      | inl h' ↦ elim (get_push saved (record { slots = t.slots; restricted = flags }) j p g) [
+    sorted = λ j k p q g h l. elim (get_push saved (record { roles = t.roles; restricted = flags }) k q h) [
+      | inl h' ↦ elim (get_push saved (record { roles = t.roles; restricted = flags }) j p g) [
         | inl g' ↦ marks.sorted j k p q g' h' l
         | inr g' ↦ absurd (omega (arith, l, g'.0, slice_get_within saved k q h'))
       ]
-      | inr h' ↦ elim (get_push saved (record { slots = t.slots; restricted = flags }) j p g) [
-        | inl g' ↦ subst (λ (z : Quantities). length p.slots ≤ length z.slots) h'.1 (below j p g')
-        | inr g' ↦ subst (λ (z : Quantities). length p.slots ≤ length z.slots) h'.1 (subst (λ (z : Quantities). length z.slots ≤ length t.slots) g'.1 (omega arith))
+      | inr h' ↦ elim (get_push saved (record { roles = t.roles; restricted = flags }) j p g) [
+        | inl g' ↦ subst (λ (z : Quantities). length p.roles ≤ length z.roles) h'.1 (below j p g')
+        | inr g' ↦ subst (λ (z : Quantities). length p.roles ≤ length z.roles) h'.1 (subst (λ (z : Quantities). length z.roles ≤ length t.roles) g'.1 (omega arith))
       ]
     ];
   }
 
-  pub saved_mark : map (named_at t.names) (saved ++ record { slots = t.slots; restricted = flags } ∷ []) ≡ map (named_at t.names) saved ++ t ∷ []
-  saved_mark = map-append (named_at t.names) saved (record { slots = t.slots; restricted = flags } ∷ []) ∙ ap (λ z. map (named_at t.names) saved ++ z ∷ []) (named_now t a flags)
+  pub saved_mark : map (named_at t.names) (saved ++ record { roles = t.roles; restricted = flags } ∷ []) ≡ map (named_at t.names) saved ++ t ∷ []
+  saved_mark = map-append (named_at t.names) saved (record { roles = t.roles; restricted = flags } ∷ []) ∙ ap (λ z. map (named_at t.names) saved ++ z ∷ []) (named_now t a flags)

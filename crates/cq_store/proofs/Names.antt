@@ -7,25 +7,25 @@ use Rattle.cq_row.specs.declared.Entry.{Entry}
 use Rattle.cq_row.specs.Rows.{choose, IsRowFrom, everywhere}
 use Rattle.cq_row.specs.Rows as row
 use Rattle.cq_row.proofs.Units.{nat_eq_self, nat_eq_other, same_number}
-use Rattle.cq_dict.specs.declared.table.Slot.{Slot}
-use Rattle.cq_dict.specs.Table.{IsAt}
+use Rattle.cq_dict.specs.declared.table.Role.{Role}
+use Rattle.cq_dict.specs.Roles.{IsAt}
 use Rattle.cq_store.specs.declared.table.Name.{Name}
 use Rattle.cq_store.specs.declared.table.Name.TheVariants.{Variable, Member}
 use Rattle.cq_store.specs.Contents.{IsNamed, variables_of, place_of_variable, place_of_member, members_in}
 
--- ---- slots as reads of the list
+-- ---- roles as reads of the list
 
-pub get_at : (l : List Slot) (i : ℕ) (s : Slot) → slice_get l i ≡ Some s → IsAt l i s
+pub get_at : (l : List Role) (i : ℕ) (s : Role) → slice_get l i ≡ Some s → IsAt l i s
 get_at [] i s h = cc
 get_at (x ∷ l) zero s h = let e : x ≡ s = cc in sym e
 get_at (x ∷ l) (suc i) s h = get_at l i s h
 
-pub at_get : (l : List Slot) (i : ℕ) (s : Slot) → IsAt l i s → slice_get l i ≡ Some s
+pub at_get : (l : List Role) (i : ℕ) (s : Role) → IsAt l i s → slice_get l i ≡ Some s
 at_get [] i s h = absurd h
 at_get (x ∷ l) zero s h = ap Some (sym h)
 at_get (x ∷ l) (suc i) s h = at_get l i s h
 
-pub get_none : (l : List Slot) (i : ℕ) → length l ≤ i → slice_get l i ≡ None
+pub get_none : (l : List Role) (i : ℕ) → length l ≤ i → slice_get l i ≡ None
 get_none [] i h = refl
 get_none (x ∷ l) zero h = absurd (omega arith)
 get_none (x ∷ l) (suc i) h = get_none l i (omega arith)

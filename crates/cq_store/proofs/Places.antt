@@ -5,11 +5,11 @@ use Rattle.cq_frac.specs.declared.VarId.{VarId}
 use Rattle.cq_row.specs.declared.Entry.{Entry}
 use Rattle.cq_row.specs.Rows.{IsRowFrom}
 use Rattle.cq_row.specs.Row.{Row}
-use Rattle.cq_dict.specs.declared.table.Slot.TheVariants.{Live, Dropped, Basic}
-use Rattle.cq_dict.specs.Table.{IsAt, is_live}
+use Rattle.cq_dict.specs.declared.table.Role.TheVariants.{Live, Dropped, Basic}
+use Rattle.cq_dict.specs.Roles.{IsAt, is_live}
 use Rattle.cq_store.specs.declared.table.Name.{Name}
 use Rattle.cq_store.specs.declared.table.Name.TheVariants.{Variable}
-use Rattle.cq_store.specs.Contents.{Named, AreNamed, IsNamed, variables_of, variable_in, products_of, solved_in, form_of_slot, place_of_variable}
+use Rattle.cq_store.specs.Contents.{Named, AreNamed, IsNamed, variables_of, variable_in, products_of, solved_in, form_of_role, place_of_variable}
 use Rattle.cq_store.specs.Numbered.{AreOfVariables}
 use Rattle.std.specs.Option.{option_and_then}
 use Rattle.cq_store.proofs.Names.{get_none, at_get, place_absent}
@@ -40,20 +40,20 @@ length-products_of names [] = refl
 length-products_of names (m ∷ s) = omega (arith, length-products_of names s)
 
 -- the live entries of a row are of variables
-pub are_of_variables : (t : Named) → AreNamed t → (lo : ℕ) (s : List Entry) → IsRowFrom (is_live t.slots) lo s → AreOfVariables t.names s
+pub are_of_variables : (t : Named) → AreNamed t → (lo : ℕ) (s : List Entry) → IsRowFrom (is_live t.roles) lo s → AreOfVariables t.names s
 are_of_variables t a lo [] r = tt
 are_of_variables t a lo (m ∷ s) r = (a.columns m.quantity r.1, are_of_variables t a (m.quantity + 1) s r.3)
 
 -- ---- what is not solved for
 
 pub unknown_unsolved : (t : Named) → AreNamed t → (x : ℕ) → (Has x (variables_of t.names) → ⊥) → solved_in t x ≡ None
-unknown_unsolved t a x n = ap (option_and_then (form_of_slot t.names)) (get_none t.slots (place_of_variable t.names x) (omega (arith, place_absent t.names x n, a.size)))
+unknown_unsolved t a x n = ap (option_and_then (form_of_role t.names)) (get_none t.roles (place_of_variable t.names x) (omega (arith, place_absent t.names x n, a.size)))
 
-pub live_unsolved : (t : Named) (x : ℕ) → IsAt t.slots (place_of_variable t.names x) Live → solved_in t x ≡ None
-live_unsolved t x h = ap (option_and_then (form_of_slot t.names)) (at_get t.slots (place_of_variable t.names x) Live h)
+pub live_unsolved : (t : Named) (x : ℕ) → IsAt t.roles (place_of_variable t.names x) Live → solved_in t x ≡ None
+live_unsolved t x h = ap (option_and_then (form_of_role t.names)) (at_get t.roles (place_of_variable t.names x) Live h)
 
-pub dropped_unsolved : (t : Named) (x : ℕ) → IsAt t.slots (place_of_variable t.names x) Dropped → solved_in t x ≡ None
-dropped_unsolved t x h = ap (option_and_then (form_of_slot t.names)) (at_get t.slots (place_of_variable t.names x) Dropped h)
+pub dropped_unsolved : (t : Named) (x : ℕ) → IsAt t.roles (place_of_variable t.names x) Dropped → solved_in t x ≡ None
+dropped_unsolved t x h = ap (option_and_then (form_of_role t.names)) (at_get t.roles (place_of_variable t.names x) Dropped h)
 
-pub row_solved : (t : Named) (x : ℕ) (r : Row) → IsAt t.slots (place_of_variable t.names x) (Basic r) → solved_in t x ≡ Some (record { products = products_of t.names r.live; constant = r.constant })
-row_solved t x r h = ap (option_and_then (form_of_slot t.names)) (at_get t.slots (place_of_variable t.names x) (Basic r) h)
+pub row_solved : (t : Named) (x : ℕ) (r : Row) → IsAt t.roles (place_of_variable t.names x) (Basic r) → solved_in t x ≡ Some (record { products = products_of t.names r.live; constant = r.constant })
+row_solved t x r h = ap (option_and_then (form_of_role t.names)) (at_get t.roles (place_of_variable t.names x) (Basic r) h)

@@ -23,17 +23,17 @@ use Rattle.cq_row.specs.Rows as row
 use Rattle.cq_row.specs.Rows.{IsRowFrom, everywhere, choose}
 use Rattle.cq_row.specs.Numbers.{right_side, IsOver}
 use Rattle.cq_row.proofs.Units.{row_weaker}
-use Rattle.cq_dict.specs.declared.table.Slot.{Slot}
-use Rattle.cq_dict.specs.declared.table.Slot.TheVariants.{Live, Dropped, Basic}
-use Rattle.cq_dict.specs.Table.{IsAt, is_live, is_dropped}
+use Rattle.cq_dict.specs.declared.table.Role.{Role}
+use Rattle.cq_dict.specs.declared.table.Role.TheVariants.{Live, Dropped, Basic}
+use Rattle.cq_dict.specs.Roles.{IsAt, is_live, is_dropped}
 use Rattle.cq_store.specs.declared.table.Name.{Name}
 use Rattle.cq_store.specs.Describes.{Agree}
-use Rattle.cq_store.specs.Contents.{Named, IsStored, IsNamed, variables_of, variable_in, place_of, place_of_variable, products_of, form_of_slot, solved_in, variable_forms}
-use Rattle.cq_store.proofs.Slots.{at_live, at_below}
-use Rattle.cq_store.proofs.Free.{sum_agrees}
+use Rattle.cq_store.specs.Contents.{Named, IsStored, IsNamed, variables_of, variable_in, place_of, place_of_variable, products_of, form_of_role, solved_in, variable_forms}
+use Rattle.cq_dict.proofs.Roles.{role_live, at_below}
+use Rattle.cq_dict.proofs.Free.{sum_agrees}
 use Rattle.cq_store.proofs.Dictionary.{has_either}
 use Rattle.cq_store.proofs.Feasible.{Chosen, choice, in_members, zero_of, holds_at}
-use Rattle.cq_store.proofs.Causes.{passes}
+use Rattle.cq_row.proofs.Shifts.{passes}
 use Rattle.cq_store.proofs.Names.{get_at, at_get, place_named, place_absent, has_or_not, named_has, named_place, AreVariables, numbers_by, entries_in_order}
 
 -- ---- the forms of variables
@@ -85,52 +85,52 @@ module _ (l : List Constraint) (t : Named) (s : IsStored l t) where
   known_variable x h = inr (mentioned_form x (variables_of t.names) h)
 
   -- a live column is a variable
-  pub live_named : (c : ℕ) → is_live t.slots c ≡ true → (v : VarId) × IsNamed t.names c v
+  pub live_named : (c : ℕ) → is_live t.roles c ≡ true → (v : VarId) × IsNamed t.names c v
   live_named c h = s.named.columns c h
 
   -- ---- rows and forms
 
-  pub row_of : (x : ℕ) (f : Linear) → solved_in t x ≡ Some f → (r : Row) × IsAt t.slots (place_of_variable t.names x) (Basic r) × (record { products = products_of t.names r.live; constant = r.constant } ≡ f)
-  row_of x f e = go (slice_get t.slots (place_of_variable t.names x)) refl e
+  pub row_of : (x : ℕ) (f : Linear) → solved_in t x ≡ Some f → (r : Row) × IsAt t.roles (place_of_variable t.names x) (Basic r) × (record { products = products_of t.names r.live; constant = r.constant } ≡ f)
+  row_of x f e = go (slice_get t.roles (place_of_variable t.names x)) refl e
     where
-      go : (o : Option Slot) → slice_get t.slots (place_of_variable t.names x) ≡ o → option_and_then (form_of_slot t.names) o ≡ Some f →
-          (r : Row) × IsAt t.slots (place_of_variable t.names x) (Basic r) × (record { products = products_of t.names r.live; constant = r.constant } ≡ f)
+      go : (o : Option Role) → slice_get t.roles (place_of_variable t.names x) ≡ o → option_and_then (form_of_role t.names) o ≡ Some f →
+          (r : Row) × IsAt t.roles (place_of_variable t.names x) (Basic r) × (record { products = products_of t.names r.live; constant = r.constant } ≡ f)
       go None w h = cc
       go (Some Live) w h = cc
       go (Some Dropped) w h = cc
-      go (Some (Basic r)) w h = (r, get_at t.slots (place_of_variable t.names x) (Basic r) w, (cc))
+      go (Some (Basic r)) w h = (r, get_at t.roles (place_of_variable t.names x) (Basic r) w, (cc))
 
-  pub solved_row : (x : ℕ) (r : Row) → IsAt t.slots (place_of_variable t.names x) (Basic r) → solved_in t x ≡ Some (record { products = products_of t.names r.live; constant = r.constant })
-  solved_row x r a = ap (option_and_then (form_of_slot t.names)) (at_get t.slots (place_of_variable t.names x) (Basic r) a)
+  pub solved_row : (x : ℕ) (r : Row) → IsAt t.roles (place_of_variable t.names x) (Basic r) → solved_in t x ≡ Some (record { products = products_of t.names r.live; constant = r.constant })
+  solved_row x r a = ap (option_and_then (form_of_role t.names)) (at_get t.roles (place_of_variable t.names x) (Basic r) a)
 
-  pub live_free : (x : ℕ) → IsAt t.slots (place_of_variable t.names x) Live → solved_in t x ≡ None
-  live_free x a = ap (option_and_then (form_of_slot t.names)) (at_get t.slots (place_of_variable t.names x) Live a)
+  pub live_free : (x : ℕ) → IsAt t.roles (place_of_variable t.names x) Live → solved_in t x ≡ None
+  live_free x a = ap (option_and_then (form_of_role t.names)) (at_get t.roles (place_of_variable t.names x) Live a)
 
-  row_known : (x : ℕ) (r : Row) → IsAt t.slots (place_of_variable t.names x) (Basic r) → Has x (variables_of t.names)
+  row_known : (x : ℕ) (r : Row) → IsAt t.roles (place_of_variable t.names x) (Basic r) → Has x (variables_of t.names)
   row_known x r a =
       elim (has_or_not x (variables_of t.names)) [
         | inl h ↦ h
-        | inr n ↦ let b = at_below t.slots (place_of_variable t.names x) (Basic r) a in absurd (omega (arith, b, place_absent t.names x n, s.named.size))
+        | inr n ↦ let b = at_below t.roles (place_of_variable t.names x) (Basic r) a in absurd (omega (arith, b, place_absent t.names x n, s.named.size))
       ]
 
-  over_of : (i : ℕ) (r : Row) → IsAt t.slots i (Basic r) → IsOver (is_live t.slots) (is_dropped t.slots) r
+  over_of : (i : ℕ) (r : Row) → IsAt t.roles i (Basic r) → IsOver (is_live t.roles) (is_dropped t.roles) r
   over_of i r a = s.named.table.rows i r a
 
   -- the variables of a row's entries
-  row_variables : (x : ℕ) (r : Row) → IsAt t.slots (place_of_variable t.names x) (Basic r) → AreVariables (naming t.names) 0 t.names (record { quantity = place_of_variable t.names x; factor = 1ℚ } ∷ r.live)
+  row_variables : (x : ℕ) (r : Row) → IsAt t.roles (place_of_variable t.names x) (Basic r) → AreVariables (naming t.names) 0 t.names (record { quantity = place_of_variable t.names x; factor = 1ℚ } ∷ r.live)
   row_variables x r a m (inl e) =
       let v = place_named t.names x (row_known x r a) in
       let q : m.quantity ≡ place_of_variable t.names x = ap (λ (y : Entry). y.quantity) e in
       (place_of_variable t.names x, omega (arith, q), (v.0, v.1, ap (naming t.names) q ∙ named-naming t.names (place_of_variable t.names x) v.0 v.1))
   row_variables x r a m (inr h) =
-      let v = live_named m.quantity (passes (is_live t.slots) 0 r.live m (over_of (place_of_variable t.names x) r a).live_row h) in
+      let v = live_named m.quantity (passes (is_live t.roles) 0 r.live m (over_of (place_of_variable t.names x) r a).live_row h) in
       (m.quantity, omega arith, (v.0, v.1, named-naming t.names m.quantity v.0 v.1))
 
-  before_row : (x : ℕ) (r : Row) → IsAt t.slots (place_of_variable t.names x) (Basic r) → IsBefore (variables_of t.names) x (products_of t.names r.live)
+  before_row : (x : ℕ) (r : Row) → IsAt t.roles (place_of_variable t.names x) (Basic r) → IsBefore (variables_of t.names) x (products_of t.names r.live)
   before_row x r a =
       let v = place_named t.names x (row_known x r a) in
       let first : naming t.names (place_of_variable t.names x) ≡ x = named-naming t.names (place_of_variable t.names x) v.0 v.1 ∙ v.2 in
-      let b : IsRowFrom everywhere (place_of_variable t.names x + 1) r.live = row_weaker (is_live t.slots) everywhere (place_of_variable t.names x + 1) r.live (λ c h. refl) (s.behind.behind (place_of_variable t.names x) r a) in
+      let b : IsRowFrom everywhere (place_of_variable t.names x + 1) r.live = row_weaker (is_live t.roles) everywhere (place_of_variable t.names x + 1) r.live (λ c h. refl) (s.behind.behind (place_of_variable t.names x) r a) in
       record {
         ordered =
             subst (λ y. InOrder (variables_of t.names) (y ∷ variables (products_of t.names r.live))) first
@@ -146,16 +146,16 @@ module _ (l : List Constraint) (t : Named) (s : IsStored l t) where
   free x y f e m =
       let r = row_of x f e in
       let n = products-mention t.names y r.0.live (subst (λ (g : Linear). Mentions y g.products) (sym r.2) m) in
-      let l = passes (is_live t.slots) 0 r.0.live n.0 (over_of (place_of_variable t.names x) r.0 r.1).live_row n.1 in
+      let l = passes (is_live t.roles) 0 r.0.live n.0 (over_of (place_of_variable t.names x) r.0 r.1).live_row n.1 in
       let v = live_named n.0.quantity l in
       let w : v.0.0 ≡ y = sym (named-naming t.names n.0.quantity v.0 v.1) ∙ sym n.2 in
       let p : place_of_variable t.names y ≡ n.0.quantity = ap (place_of_variable t.names) (sym w) ∙ named_place t.names n.0.quantity v.0 s.named.distinct v.1 in
-      live_free y (subst (λ c. IsAt t.slots c Live) (sym p) (at_live t.slots n.0.quantity l))
+      live_free y (subst (λ c. IsAt t.roles c Live) (sym p) (role_live t.roles n.0.quantity l))
 
   -- ---- solutions
 
   -- where the list is satisfied, the dropped columns are zero
-  pub dropped_zero : (v x : ℕ → ℚ) → Satisfies v l → Agree l (variable_forms (variables_of t.names)) (place_of t.names) v x → (c : ℕ) → is_dropped t.slots c ≡ true → x c ≡ 0ℚ
+  pub dropped_zero : (v x : ℕ → ℚ) → Satisfies v l → Agree l (variable_forms (variables_of t.names)) (place_of t.names) v x → (c : ℕ) → is_dropped t.roles c ≡ true → x c ≡ 0ℚ
   dropped_zero v x h a c k =
       let q = s.describes.each_gone c k in
       let m = s.solved.only q.0 q.1 in
@@ -163,19 +163,19 @@ module _ (l : List Constraint) (t : Named) (s : IsStored l t) where
       ap x (sym q.2) ∙ a.same q.0 (s.describes.columns q.0 (has_right q.0 s.live s.gone q.1)) ∙ ap (amount l v) m.2 ∙ w
 
   -- and a row says what its form says
-  pub row_says : (v x : ℕ → ℚ) → Satisfies v l → Agree l (variable_forms (variables_of t.names)) (place_of t.names) v x → (r : Row) → IsOver (is_live t.slots) (is_dropped t.slots) r →
+  pub row_says : (v x : ℕ → ℚ) → Satisfies v l → Agree l (variable_forms (variables_of t.names)) (place_of t.names) v x → (r : Row) → IsOver (is_live t.roles) (is_dropped t.roles) r →
       right_side x r ≡ value_at v (record { products = products_of t.names r.live; constant = r.constant })
   row_says v x h a r o =
       ap₂ (λ u w. r.constant +ℚ (u +ℚ w))
-      (sum_agrees (is_live t.slots) 0 x (λ c. v (naming t.names c)) r.live o.live_row column ∙ sym (products-sum t.names v r.live))
-      (sum_agrees (is_dropped t.slots) 0 x (λ c. 0ℚ) r.dropped o.dropped_row (dropped_zero v x h a) ∙ zero_sum r.dropped)
+      (sum_agrees (is_live t.roles) 0 x (λ c. v (naming t.names c)) r.live o.live_row column ∙ sym (products-sum t.names v r.live))
+      (sum_agrees (is_dropped t.roles) 0 x (λ c. 0ℚ) r.dropped o.dropped_row (dropped_zero v x h a) ∙ zero_sum r.dropped)
       ∙ ring (r.constant ∷ sum_at v (products_of t.names r.live) ∷ []) (var 0 ⊕ (var 1 ⊕ int (pos 0))) (var 0 ⊕ var 1) refl
     where
       zero_sum : (s : List Entry) → row.sum_at (λ c. 0ℚ) s ≡ 0ℚ
       zero_sum [] = refl
       zero_sum (m ∷ s) = ap (λ w. m.factor *ℚ 0ℚ +ℚ w) (zero_sum s) ∙ ring (m.factor ∷ []) (var 0 ⊗ int (pos 0) ⊕ int (pos 0)) (int (pos 0)) refl
 
-      column : (c : ℕ) → is_live t.slots c ≡ true → x c ≡ v (naming t.names c)
+      column : (c : ℕ) → is_live t.roles c ≡ true → x c ≡ v (naming t.names c)
       column c k =
           let w = live_named c k in
           let q : Has w.0.0 (variables_of t.names) = named_has t.names c w.0 w.1 in
@@ -192,8 +192,8 @@ module _ (l : List Constraint) (t : Named) (s : IsStored l t) where
   agrees-satisfied : (a : ℕ → ℚ) → Agrees a (solved_in t) → Satisfies a l
   agrees-satisfied a h = satisfies_agrees c.v a l (λ x m. same x (s.known x m)) v_satisfies
     where
-      c : Chosen l (variable_forms (variables_of t.names)) t.slots (place_of t.names) s.live s.gone s.named.table s.describes s.solved (λ c. a (naming t.names c))
-      c = choice l (variable_forms (variables_of t.names)) t.slots (place_of t.names) s.live s.gone s.named.table s.describes s.solved (λ c. a (naming t.names c))
+      c : Chosen l (variable_forms (variables_of t.names)) t.roles (place_of t.names) s.live s.gone s.named.table s.describes s.solved (λ c. a (naming t.names c))
+      c = choice l (variable_forms (variables_of t.names)) t.roles (place_of t.names) s.live s.gone s.named.table s.describes s.solved (λ c. a (naming t.names c))
 
       v_satisfies : Satisfies c.v l
       v_satisfies = solves_from c.v l (λ i k. subst (λ r. Meets r (value_at c.v (member_at l i).form)) (sym (s.solved.equations i k)) (zero_of l c.v _ (member i) c.zero (in_members i l k)))
@@ -217,7 +217,7 @@ module _ (l : List Constraint) (t : Named) (s : IsStored l t) where
       mentioned_known x y f e m =
           let r = row_of x f e in
           let n = products-mention t.names y r.0.live (subst (λ (g : Linear). Mentions y g.products) (sym r.2) m) in
-          let v = live_named n.0.quantity (passes (is_live t.slots) 0 r.0.live n.0 (over_of (place_of_variable t.names x) r.0 r.1).live_row n.1) in
+          let v = live_named n.0.quantity (passes (is_live t.roles) 0 r.0.live n.0 (over_of (place_of_variable t.names x) r.0 r.1).live_row n.1) in
           subst (λ z. Has z (variables_of t.names)) (sym (named-naming t.names n.0.quantity v.0 v.1) ∙ sym n.2) (named_has t.names n.0.quantity v.0 v.1)
 
       same : (x : ℕ) → Has x (variables_of t.names) → c.v x ≡ a x

@@ -21,16 +21,18 @@ use Rattle.cq_row.specs.Rows as row
 use Rattle.cq_row.specs.Rows.{IsRowFrom}
 use Rattle.cq_row.specs.Numbers.{right_side}
 use Rattle.cq_row.proofs.Units.{nat_eq_self, row_weaker, same_number}
-use Rattle.cq_dict.specs.declared.table.Slot.{Slot}
-use Rattle.cq_dict.specs.declared.table.Slot.TheVariants.{Live, Basic}
-use Rattle.cq_dict.specs.Table.{is_live, IsTable, IsMet, Expresses, FormPair, PivotPair, IsEliminated}
+use Rattle.cq_dict.specs.declared.table.Role.{Role}
+use Rattle.cq_dict.specs.declared.table.Role.TheVariants.{Live, Basic}
+use Rattle.cq_dict.specs.Roles.{is_live, AreOverColumns, IsMet, Expresses, FormPair, PivotPair, IsEliminated}
 use Rattle.cq_store.specs.declared.table.Name.TheVariants.{Variable, Member}
 use Rattle.cq_store.specs.Describes.{Agree, Describes, NoOtherRows, placed, with_equation}
 use Rattle.cq_store.specs.Contents.{Named, AreNamed, IsStored, variables_of, place_of, members_in, products_of, variable_forms}
 use Rattle.cq_store.specs.Entering.{AddsVariables, none_added, one_added, AddsMember, Joins, follows, eliminates, Contradicts}
-use Rattle.cq_store.proofs.Slots.{at_live, live_at, at_append, at_end, append_back}
+use Rattle.cq_dict.proofs.Roles.{role_live, live_at, at_last}
+use Rattle.cq_store.proofs.Roles.{at_append, append_back}
 use Rattle.cq_store.proofs.Names.{place_more, member_more, member_last, variables_of-append, members_in-append, named_more}
-use Rattle.cq_store.proofs.Causes.{at_work, passes, form_pairs, pivot_pairs, placed_sum}
+use Rattle.cq_row.proofs.Shifts.{passes}
+use Rattle.cq_store.proofs.Causes.{at_work, form_pairs, pivot_pairs, placed_sum}
 use Rattle.cq_store.proofs.Joining.{IsTurned, turned_is, same_or_not, append_table}
 use Rattle.cq_store.proofs.Joining as joining
 use Rattle.cq_store.proofs.Asking as asking
@@ -41,11 +43,11 @@ use Rattle.cq_store.proofs.Variables.{variable_joins, live_more}
 
 -- ---- asked forms that make the same quantities
 
-module _ (l : List Constraint) (asked asked' : List Linear) (slots : List Slot) (place : Quantity → ℕ) (live gone : List Quantity) (same : (q : Quantity) → IsQuantity l asked q ↔ IsQuantity l asked' q) where
+module _ (l : List Constraint) (asked asked' : List Linear) (roles : List Role) (place : Quantity → ℕ) (live gone : List Quantity) (same : (q : Quantity) → IsQuantity l asked q ↔ IsQuantity l asked' q) where
   pub agree_same : (v x : ℕ → ℚ) → Agree l asked place v x → Agree l asked' place v x
   agree_same v x a = record { same = λ q i. a.same q ((same q).1 i) }
 
-  pub describes_same : Describes l asked slots place live gone → Describes l asked' slots place live gone
+  pub describes_same : Describes l asked roles place live gone → Describes l asked' roles place live gone
   describes_same d = record {
     forth = λ v. let x = d.forth v in (x.0, x.1, agree_same v x.0 x.2);
     back = λ x m. let v = d.back x m in (v.0, agree_same v.0 x v.1);
@@ -59,7 +61,7 @@ module _ (l : List Constraint) (asked asked' : List Linear) (slots : List Slot) 
     others = λ q i. d.others q ((same q).1 i);
   }
 
-  pub rows_same : NoOtherRows l asked slots place → NoOtherRows l asked' slots place
+  pub rows_same : NoOtherRows l asked roles place → NoOtherRows l asked' roles place
   rows_same n i r h = let q = n i r h in (q.0, (same q.0).0 q.1, q.2)
 
 -- ---- new variables
@@ -147,33 +149,33 @@ module _ (l : List Constraint) (t : Named) (s : IsStored l t) (f : Linear) (know
     )
     same_quantities (member i) = ((λ h. h), (λ h. h))
 
-    pub asked_describes : Describes l (f ∷ variable_forms order) t.slots (place_of t.names) s.live s.gone
-    asked_describes = describes_same l (variable_forms (variables_of t.names)) (f ∷ variable_forms order) t.slots (place_of t.names) s.live s.gone same_quantities s.describes
+    pub asked_describes : Describes l (f ∷ variable_forms order) t.roles (place_of t.names) s.live s.gone
+    asked_describes = describes_same l (variable_forms (variables_of t.names)) (f ∷ variable_forms order) t.roles (place_of t.names) s.live s.gone same_quantities s.describes
 
-    pub asked_rows : NoOtherRows l (f ∷ variable_forms order) t.slots (place_of t.names)
-    asked_rows = rows_same l (variable_forms (variables_of t.names)) (f ∷ variable_forms order) t.slots (place_of t.names) s.live s.gone same_quantities s.rows
+    pub asked_rows : NoOtherRows l (f ∷ variable_forms order) t.roles (place_of t.names)
+    asked_rows = rows_same l (variable_forms (variables_of t.names)) (f ∷ variable_forms order) t.roles (place_of t.names) s.live s.gone same_quantities s.rows
 
     -- the pairs of adding the form
-    pub adding_makes : IsForm f → (o : Operation) (a b : ℚ) → FormPair t.slots (placed (place_of t.names) f.products) f.constant o a b → Makes (at_work l (f ∷ variable_forms order)) o a b
+    pub adding_makes : IsForm f → (o : Operation) (a b : ℚ) → FormPair t.roles (placed (place_of t.names) f.products) f.constant o a b → Makes (at_work l (f ∷ variable_forms order)) o a b
     adding_makes ordered o a b p =
-        form_pairs l (f ∷ variable_forms order) t.slots (place_of t.names) s.live s.gone s.named.table asked_describes s.solved f (inl refl) ordered p
+        form_pairs l (f ∷ variable_forms order) t.roles (place_of t.names) s.live s.gone s.named.table asked_describes s.solved f (inl refl) ordered p
 
     -- the pairs of the exchange
-    pub exchanging_makes : (asked : Named) (m : AddsMember t f asked) (c : ℕ) (o : Operation) (a b : ℚ) → PivotPair asked.slots (length t.slots) c o a b → Makes (at_work l (f ∷ variable_forms order)) o a b
+    pub exchanging_makes : (asked : Named) (m : AddsMember t f asked) (c : ℕ) (o : Operation) (a b : ℚ) → PivotPair asked.roles (length t.roles) c o a b → Makes (at_work l (f ∷ variable_forms order)) o a b
     exchanging_makes asked m c o a b p =
-        pivot_pairs l (f ∷ variable_forms order) (t.slots ++ Basic m.row ∷ []) (place_of t.names) s.live s.gone (append_table t.slots m.row s.named.table m.expresses.over)
-        (asking.describes l f (variable_forms order) t.slots (place_of t.names) s.live s.gone s.named.table asked_describes s.solved m.row m.expresses)
-        (asking.still l f (variable_forms order) t.slots (place_of t.names) s.live s.gone s.named.table asked_describes s.solved m.row m.expresses)
-        (asking.known l f (variable_forms order) t.slots (place_of t.names) s.live s.gone s.named.table asked_describes s.solved m.row m.expresses asked_rows)
-        (length t.slots) c (subst (λ z. PivotPair z (length t.slots) c o a b) m.slots p)
+        pivot_pairs l (f ∷ variable_forms order) (t.roles ++ Basic m.row ∷ []) (place_of t.names) s.live s.gone (append_table t.roles m.row s.named.table m.expresses.over)
+        (asking.describes l f (variable_forms order) t.roles (place_of t.names) s.live s.gone s.named.table asked_describes s.solved m.row m.expresses)
+        (asking.still l f (variable_forms order) t.roles (place_of t.names) s.live s.gone s.named.table asked_describes s.solved m.row m.expresses)
+        (asking.known l f (variable_forms order) t.roles (place_of t.names) s.live s.gone s.named.table asked_describes s.solved m.row m.expresses asked_rows)
+        (length t.roles) c (subst (λ z. PivotPair z (length t.roles) c o a b) m.roles p)
 
   own : (x : ℕ) → Has x (variables_of t.names) → Mentions x f.products ⊎ Has x (variables_of t.names)
   own x h = inr h
 
-  asked_own : Describes l (f ∷ variable_forms (variables_of t.names)) t.slots (place_of t.names) s.live s.gone
+  asked_own : Describes l (f ∷ variable_forms (variables_of t.names)) t.roles (place_of t.names) s.live s.gone
   asked_own = asked_describes (variables_of t.names) (λ x h. h) own
 
-  rows_own : NoOtherRows l (f ∷ variable_forms (variables_of t.names)) t.slots (place_of t.names)
+  rows_own : NoOtherRows l (f ∷ variable_forms (variables_of t.names)) t.roles (place_of t.names)
   rows_own = asked_rows (variables_of t.names) (λ x h. h) own
 
   -- ---- the numbers once the form is the last member's
@@ -190,7 +192,7 @@ module _ (l : List Constraint) (t : Named) (s : IsStored l t) (f : Linear) (know
   same_place (variable x) h = place_more t.names (Member ∷ []) x (known_quantity x h)
   same_place (member i) h = member_more t.names (Member ∷ []) i (omega (arith, h, s.members))
 
-  new_place : place_of (t.names ++ Member ∷ []) (member (length l)) ≡ length t.slots
+  new_place : place_of (t.names ++ Member ∷ []) (member (length l)) ≡ length t.roles
   new_place = ap (λ i. place_of (t.names ++ Member ∷ []) (member i)) (sym s.members) ∙ member_last t.names ∙ s.named.size
 
   longer : length (with_equation l f) ≡ length l + 1
@@ -206,7 +208,7 @@ module _ (l : List Constraint) (t : Named) (s : IsStored l t) (f : Linear) (know
   asked_order : (P : List Linear → Type 0) → P (variable_forms (variables_of t.names)) → P (variable_forms (variables_of (t.names ++ Member ∷ [])))
   asked_order P h = subst (λ o. P (variable_forms o)) (sym order_same) h
 
-  wide_named : (new : List Slot) → IsTable new → length new ≡ length t.slots + 1 → ((c : ℕ) → is_live new c ≡ true → is_live t.slots c ≡ true) → AreNamed (record { names = t.names ++ Member ∷ []; slots = new })
+  wide_named : (new : List Role) → AreOverColumns new → length new ≡ length t.roles + 1 → ((c : ℕ) → is_live new c ≡ true → is_live t.roles c ≡ true) → AreNamed (record { names = t.names ++ Member ∷ []; roles = new })
   wide_named new table size back = record {
     table = table;
     size = length-append t.names (Member ∷ []) ∙ ap (λ n. n + 1) s.named.size ∙ sym size;
@@ -214,32 +216,32 @@ module _ (l : List Constraint) (t : Named) (s : IsStored l t) (f : Linear) (know
     columns = λ c h. let w = s.named.columns c (back c h) in (w.0, named_more t.names (Member ∷ []) c w.0 w.1);
   }
 
-  module _ (r : Row) (ex : Expresses t.slots (λ x. f.constant +ℚ row.sum_at x (placed (place_of t.names) f.products)) r) where
-    wide_table : IsTable (t.slots ++ Basic r ∷ [])
-    wide_table = append_table t.slots r s.named.table ex.over
+  module _ (r : Row) (ex : Expresses t.roles (λ x. f.constant +ℚ row.sum_at x (placed (place_of t.names) f.products)) r) where
+    wide_table : AreOverColumns (t.roles ++ Basic r ∷ [])
+    wide_table = append_table t.roles r s.named.table ex.over
 
-    wide_back : (c : ℕ) → is_live (t.slots ++ Basic r ∷ []) c ≡ true → is_live t.slots c ≡ true
-    wide_back c h = elim (append_back t.slots (Basic r) Live c (at_live (t.slots ++ Basic r ∷ []) c h)) [ inl k ↦ live_at t.slots c Live k | inr k ↦ let w = k.1 in cc ]
+    wide_back : (c : ℕ) → is_live (t.roles ++ Basic r ∷ []) c ≡ true → is_live t.roles c ≡ true
+    wide_back c h = elim (append_back t.roles (Basic r) Live c (role_live (t.roles ++ Basic r ∷ []) c h)) [ inl k ↦ live_at t.roles c Live k | inr k ↦ let w = k.1 in cc ]
 
-    pub named_asked : AreNamed (record { names = t.names ++ Member ∷ []; slots = t.slots ++ Basic r ∷ [] })
-    named_asked = wide_named (t.slots ++ Basic r ∷ []) wide_table (length-append t.slots (Basic r ∷ [])) wide_back
+    pub named_asked : AreNamed (record { names = t.names ++ Member ∷ []; roles = t.roles ++ Basic r ∷ [] })
+    named_asked = wide_named (t.roles ++ Basic r ∷ []) wide_table (length-append t.roles (Basic r ∷ [])) wide_back
 
     -- the equation follows
-    pub follows_stored : r.live ≡ [] → r.constant ≡ 0ℚ → IsStored (with_equation l f) (record { names = t.names ++ Member ∷ []; slots = t.slots ++ Basic r ∷ [] })
+    pub follows_stored : r.live ≡ [] → r.constant ≡ 0ℚ → IsStored (with_equation l f) (record { names = t.names ++ Member ∷ []; roles = t.roles ++ Basic r ∷ [] })
     follows_stored nl nc = record {
       named = named_asked;
       live = s.live;
       gone = s.gone;
-      describes = asked_order (λ v. Describes (with_equation l f) v (t.slots ++ Basic r ∷ []) (place_of (t.names ++ Member ∷ [])) s.live s.gone)
-          (keeps l f (variable_forms (variables_of t.names)) t.slots (place_of t.names) (place_of (t.names ++ Member ∷ [])) same_place new_place s.live s.gone s.named.table asked_own s.solved r ex nl nc);
-      solved = keeps_solved l f (variable_forms (variables_of t.names)) t.slots (place_of t.names) (place_of (t.names ++ Member ∷ [])) same_place new_place s.live s.gone s.named.table asked_own s.solved r ex nl nc;
-      rows = asked_order (λ v. NoOtherRows (with_equation l f) v (t.slots ++ Basic r ∷ []) (place_of (t.names ++ Member ∷ [])))
-          (keeps_rows l f (variable_forms (variables_of t.names)) t.slots (place_of t.names) (place_of (t.names ++ Member ∷ [])) same_place new_place s.live s.gone s.named.table asked_own s.solved r ex nl nc rows_own);
+      describes = asked_order (λ v. Describes (with_equation l f) v (t.roles ++ Basic r ∷ []) (place_of (t.names ++ Member ∷ [])) s.live s.gone)
+          (keeps l f (variable_forms (variables_of t.names)) t.roles (place_of t.names) (place_of (t.names ++ Member ∷ [])) same_place new_place s.live s.gone s.named.table asked_own s.solved r ex nl nc);
+      solved = keeps_solved l f (variable_forms (variables_of t.names)) t.roles (place_of t.names) (place_of (t.names ++ Member ∷ [])) same_place new_place s.live s.gone s.named.table asked_own s.solved r ex nl nc;
+      rows = asked_order (λ v. NoOtherRows (with_equation l f) v (t.roles ++ Basic r ∷ []) (place_of (t.names ++ Member ∷ [])))
+          (keeps_rows l f (variable_forms (variables_of t.names)) t.roles (place_of t.names) (place_of (t.names ++ Member ∷ [])) same_place new_place s.live s.gone s.named.table asked_own s.solved r ex nl nc rows_own);
       behind = record {
         behind = λ i w h.
-            elim (append_back t.slots (Basic r) (Basic w) i h) [
-              | inl k ↦ row_weaker (is_live t.slots) (is_live (t.slots ++ Basic r ∷ [])) (i + 1) w.live (live_more t.slots (Basic r ∷ [])) (s.behind.behind i w k)
-              | inr k ↦ let e : w ≡ r = let z = k.1 in cc in subst (IsRowFrom (is_live (t.slots ++ Basic r ∷ [])) (i + 1)) (sym (ap (λ (y : Row). y.live) e ∙ nl)) tt
+            elim (append_back t.roles (Basic r) (Basic w) i h) [
+              | inl k ↦ row_weaker (is_live t.roles) (is_live (t.roles ++ Basic r ∷ [])) (i + 1) w.live (live_more t.roles (Basic r ∷ [])) (s.behind.behind i w k)
+              | inr k ↦ let e : w ≡ r = let z = k.1 in cc in subst (IsRowFrom (is_live (t.roles ++ Basic r ∷ [])) (i + 1)) (sym (ap (λ (y : Row). y.live) e ∙ nl)) tt
             ];
       };
       known = more_known;
@@ -264,35 +266,35 @@ module _ (l : List Constraint) (t : Named) (s : IsStored l t) (f : Linear) (know
         constant_there v r e = ring (r.constant ∷ []) (var 0) (var 0 ⊕ int (pos 0)) refl ∙ ap (λ y. value_at v (record { products = products_of t.names y; constant = r.constant })) (sym e)
 
     -- the equation is solved for a variable
-    module _ (m : Entry) (rest : List Entry) (live_is : r.live ≡ m ∷ rest) (new : List Slot) (table : IsTable new) (same : (x : ℕ → ℚ) → IsMet x (t.slots ++ Basic r ∷ []) ↔ IsMet x new)
-        (kinds : IsEliminated (t.slots ++ Basic r ∷ []) (length t.slots) m.quantity new) where
-      column_live : is_live t.slots m.quantity ≡ true
-      column_live = passes (is_live t.slots) 0 r.live m ex.over.live_row (subst (row.Has m) (sym live_is) (inl refl))
+    module _ (m : Entry) (rest : List Entry) (live_is : r.live ≡ m ∷ rest) (new : List Role) (table : AreOverColumns new) (same : (x : ℕ → ℚ) → IsMet x (t.roles ++ Basic r ∷ []) ↔ IsMet x new)
+        (kinds : IsEliminated (t.roles ++ Basic r ∷ []) (length t.roles) m.quantity new) where
+      column_live : is_live t.roles m.quantity ≡ true
+      column_live = passes (is_live t.roles) 0 r.live m ex.over.live_row (subst (row.Has m) (sym live_is) (inl refl))
 
-      turned : IsTurned (t.slots ++ Basic r ∷ []) (length t.slots) m.quantity new
-      turned = turned_is (t.slots ++ Basic r ∷ []) new (length t.slots) m.quantity r (at_end t.slots (Basic r)) (at_append t.slots (Basic r ∷ []) m.quantity Live (at_live t.slots m.quantity column_live)) kinds
+      turned : IsTurned (t.roles ++ Basic r ∷ []) (length t.roles) m.quantity new
+      turned = turned_is (t.roles ++ Basic r ∷ []) new (length t.roles) m.quantity r (at_last t.roles (Basic r)) (at_append t.roles (Basic r ∷ []) m.quantity Live (role_live t.roles m.quantity column_live)) kinds
 
       split_at : (q : Quantity) (a : List Quantity) → Has q a → (before after : List Quantity) × (a ≡ before ++ q ∷ after)
       split_at q [] h = absurd h
       split_at q (r ∷ a) (inl e) = ([], a, ap (λ z. z ∷ a) (sym e))
       split_at q (r ∷ a) (inr h) = let w = split_at q a h in (r ∷ w.0, w.1, ap (λ z. r ∷ z) w.2)
 
-      pub eliminated_stored : IsStored (with_equation l f) (record { names = t.names ++ Member ∷ []; slots = new })
+      pub eliminated_stored : IsStored (with_equation l f) (record { names = t.names ++ Member ∷ []; roles = new })
       eliminated_stored =
           let q = s.describes.each_live m.quantity column_live in
           let w = split_at q.0 s.live q.1 in
-          let d : Describes l (f ∷ variable_forms (variables_of t.names)) t.slots (place_of t.names) (w.0 ++ q.0 ∷ w.1) s.gone = subst (λ z. Describes l (f ∷ variable_forms (variables_of t.names)) t.slots (place_of t.names) z s.gone) w.2 asked_own in
-          let u : IsTurned (t.slots ++ Basic r ∷ []) (length t.slots) (place_of t.names q.0) new = subst (λ c. IsTurned (t.slots ++ Basic r ∷ []) (length t.slots) c new) (sym q.2) turned in
+          let d : Describes l (f ∷ variable_forms (variables_of t.names)) t.roles (place_of t.names) (w.0 ++ q.0 ∷ w.1) s.gone = subst (λ z. Describes l (f ∷ variable_forms (variables_of t.names)) t.roles (place_of t.names) z s.gone) w.2 asked_own in
+          let u : IsTurned (t.roles ++ Basic r ∷ []) (length t.roles) (place_of t.names q.0) new = subst (λ c. IsTurned (t.roles ++ Basic r ∷ []) (length t.roles) c new) (sym q.2) turned in
           record {
-            named = wide_named new table (kinds.size ∙ length-append t.slots (Basic r ∷ [])) (λ c h. wide_back c (live_at (t.slots ++ Basic r ∷ []) c Live (turned.back_live c (at_live new c h)).1));
+            named = wide_named new table (kinds.size ∙ length-append t.roles (Basic r ∷ [])) (λ c h. wide_back c (live_at (t.roles ++ Basic r ∷ []) c Live (turned.back_live c (role_live new c h)).1));
             live = w.0 ++ w.1;
             gone = member (length l) ∷ s.gone;
             describes = asked_order (λ v. Describes (with_equation l f) v new (place_of (t.names ++ Member ∷ [])) (w.0 ++ w.1) (member (length l) ∷ s.gone))
-                (joining.describes l f (variable_forms (variables_of t.names)) t.slots (place_of t.names) (place_of (t.names ++ Member ∷ [])) same_place new_place w.0 q.0 w.1 s.gone s.named.table d s.solved r ex new wide_table table same u);
-            solved = joining.still_solved l f (variable_forms (variables_of t.names)) t.slots (place_of t.names) (place_of (t.names ++ Member ∷ [])) same_place new_place w.0 q.0 w.1 s.gone s.named.table d s.solved r ex new wide_table table same u;
+                (joining.describes l f (variable_forms (variables_of t.names)) t.roles (place_of t.names) (place_of (t.names ++ Member ∷ [])) same_place new_place w.0 q.0 w.1 s.gone s.named.table d s.solved r ex new wide_table table same u);
+            solved = joining.still_solved l f (variable_forms (variables_of t.names)) t.roles (place_of t.names) (place_of (t.names ++ Member ∷ [])) same_place new_place w.0 q.0 w.1 s.gone s.named.table d s.solved r ex new wide_table table same u;
             rows = asked_order (λ v. NoOtherRows (with_equation l f) v new (place_of (t.names ++ Member ∷ [])))
-                (joining.each_row l f (variable_forms (variables_of t.names)) t.slots (place_of t.names) (place_of (t.names ++ Member ∷ [])) same_place new_place w.0 q.0 w.1 s.gone s.named.table d s.solved r ex new wide_table table same u rows_own);
-            behind = reaches_still t.slots s.named.table s.behind r m rest live_is ex.over new table same turned;
+                (joining.each_row l f (variable_forms (variables_of t.names)) t.roles (place_of t.names) (place_of (t.names ++ Member ∷ [])) same_place new_place w.0 q.0 w.1 s.gone s.named.table d s.solved r ex new wide_table table same u rows_own);
+            behind = reaches_still t.roles s.named.table s.behind r m rest live_is ex.over new table same turned;
             known = more_known;
             members = more_members;
           }
@@ -301,12 +303,12 @@ module _ (l : List Constraint) (t : Named) (s : IsStored l t) (f : Linear) (know
 
   pub joins_stored : (new : Named) → Joins t f new → IsStored (with_equation l f) new × (variables_of new.names ≡ variables_of t.names)
   joins_stored new (follows m nl nc) = (
-    subst (IsStored (with_equation l f)) (sym (ap₂ (λ n z. record { names = n; slots = z }) m.names m.slots)) (follows_stored m.row m.expresses nl nc),
+    subst (IsStored (with_equation l f)) (sym (ap₂ (λ n z. record { names = n; roles = z }) m.names m.roles)) (follows_stored m.row m.expresses nl nc),
     ap variables_of m.names ∙ order_same,
   )
   joins_stored new (eliminates asked m e) = (
-    subst (λ n. IsStored (with_equation l f) (record { names = n; slots = new.slots })) (sym (e.names ∙ m.names))
-        (eliminated_stored m.row m.expresses e.first e.rest e.live new.slots e.table (subst (λ z. (x : ℕ → ℚ) → IsMet x z ↔ IsMet x new.slots) m.slots e.same) (subst (λ z. IsEliminated z (length t.slots) e.first.quantity new.slots) m.slots e.kinds)),
+    subst (λ n. IsStored (with_equation l f) (record { names = n; roles = new.roles })) (sym (e.names ∙ m.names))
+        (eliminated_stored m.row m.expresses e.first e.rest e.live new.roles e.table (subst (λ z. (x : ℕ → ℚ) → IsMet x z ↔ IsMet x new.roles) m.roles e.same) (subst (λ z. IsEliminated z (length t.roles) e.first.quantity new.roles) m.roles e.kinds)),
     ap variables_of (e.names ∙ m.names) ∙ order_same,
   )
 

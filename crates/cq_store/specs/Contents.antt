@@ -9,9 +9,9 @@ use Rattle.spec_echelon.specs.Echelon.{AreDistinct}
 use Rattle.cq_frac.specs.declared.VarId.{VarId}
 use Rattle.cq_row.specs.declared.Entry.{Entry}
 use Rattle.cq_row.specs.Rows.{choose}
-use Rattle.cq_dict.specs.declared.table.Slot.{Slot}
-use Rattle.cq_dict.specs.declared.table.Slot.TheVariants.{Live, Dropped, Basic}
-use Rattle.cq_dict.specs.Table.{IsTable, is_live}
+use Rattle.cq_dict.specs.declared.table.Role.{Role}
+use Rattle.cq_dict.specs.declared.table.Role.TheVariants.{Live, Dropped, Basic}
+use Rattle.cq_dict.specs.Roles.{AreOverColumns, is_live}
 use Rattle.cq_store.specs.declared.table.Name.{Name}
 use Rattle.cq_store.specs.declared.table.Name.TheVariants.{Variable, Member}
 use Rattle.cq_store.specs.Describes.{Describes, IsSolved, NoOtherRows, ReachesBehind}
@@ -19,7 +19,7 @@ use Rattle.cq_store.specs.Describes.{Describes, IsSolved, NoOtherRows, ReachesBe
 -- the quantities by their numbers: what each stands for, and what it is in the table
 pub record Named : Type 0 where
   pub names : List Name
-  pub slots : List Slot
+  pub roles : List Role
 
 pub record Contents : Type 0 where
   -- how many exchanges a call may make
@@ -71,10 +71,10 @@ abbrev pub products_of : List Name → List Entry → List Monomial
 products_of names s = map (λ m. record { variable = variable_in (slice_get names m.quantity); factor = m.factor }) s
 
 -- a row's constant and its live entries, as a form; columns have none
-abbrev pub form_of_slot : List Name → Slot → Option Linear
-form_of_slot names Live = None
-form_of_slot names Dropped = None
-form_of_slot names (Basic r) = Some (record { products = products_of names r.live; constant = r.constant })
+abbrev pub form_of_role : List Name → Role → Option Linear
+form_of_role names Live = None
+form_of_role names Dropped = None
+form_of_role names (Basic r) = Some (record { products = products_of names r.live; constant = r.constant })
 
 -- ---- what the contents say
 
@@ -87,7 +87,7 @@ order_of s = variables_of s.table.names
 
 -- the form of free variables that a variable is; none for a free or an unknown one
 abbrev pub solved_in : Named → ℕ → Option Linear
-solved_in t x = option_and_then (form_of_slot t.names) (slice_get t.slots (place_of_variable t.names x))
+solved_in t x = option_and_then (form_of_role t.names) (slice_get t.roles (place_of_variable t.names x))
 
 -- the number that a form is
 abbrev pub number_if_empty : List Monomial → ℚ → Option ℚ
@@ -113,19 +113,19 @@ pub record IsNamed (names : List Name) (n : ℕ) (x : VarId) : Type 0 where
 
 -- each quantity has a name, no variable has two, and live columns are variables
 pub record AreNamed (t : Named) : Type 0 where
-  pub table : IsTable t.slots
-  pub size : length t.names ≡ length t.slots
+  pub table : AreOverColumns t.roles
+  pub size : length t.names ≡ length t.roles
   pub distinct : AreDistinct (variables_of t.names)
-  pub columns : (c : ℕ) → is_live t.slots c ≡ true → (x : VarId) × IsNamed t.names c x
+  pub columns : (c : ℕ) → is_live t.roles c ≡ true → (x : VarId) × IsNamed t.names c x
 
 -- the told list is one of equations, which the table speaks of and is solved for
 pub record IsStored (told : List Constraint) (t : Named) : Type 0 where
   pub named : AreNamed t
   pub live : List Quantity
   pub gone : List Quantity
-  pub describes : Describes told (variable_forms (variables_of t.names)) t.slots (place_of t.names) live gone
-  pub solved : IsSolved told t.slots (place_of t.names) gone
-  pub rows : NoOtherRows told (variable_forms (variables_of t.names)) t.slots (place_of t.names)
-  pub behind : ReachesBehind t.slots
+  pub describes : Describes told (variable_forms (variables_of t.names)) t.roles (place_of t.names) live gone
+  pub solved : IsSolved told t.roles (place_of t.names) gone
+  pub rows : NoOtherRows told (variable_forms (variables_of t.names)) t.roles (place_of t.names)
+  pub behind : ReachesBehind t.roles
   pub known : MentionsOnly (variables_of t.names) told
   pub members : members_in t.names ≡ length told

@@ -7,12 +7,13 @@ use Rattle.cq_frac.specs.declared.VarId.{VarId}
 use Rattle.cq_row.specs.declared.Entry.{Entry}
 use Rattle.cq_row.specs.Row.{Row}
 use Rattle.cq_row.specs.Rows.{sum_at}
-use Rattle.cq_dict.specs.declared.table.Slot.TheVariants.{Live, Basic}
-use Rattle.cq_dict.specs.Table.{IsTable, Expresses, IsEliminated, FormPair, PivotPair}
+use Rattle.cq_dict.specs.declared.table.Role.TheVariants.{Live, Basic}
+use Rattle.cq_dict.specs.Roles.{AreOverColumns, Expresses, IsEliminated, FormPair, PivotPair}
 use Rattle.cq_frac.specs.declared.Operation.{Operation}
+use Rattle.cq_frac.specs.declared.Pair.{Pair}
 use Rattle.spec_echelon.specs.Echelon.{AreDistinct}
 use Rattle.cq_store.specs.Told.{new_variables}
-use Rattle.cq_dict.specs.Dict.{SameMeaning}
+use Rattle.cq_dict.specs.Dict.{SameMeaning, RefusesForm}
 use Rattle.cq_store.specs.declared.table.Name.TheVariants.{Variable, Member}
 use Rattle.cq_store.specs.Describes.{placed}
 use Rattle.cq_store.specs.Contents.{Named, variables_of, place_of, solved_in, number_in}
@@ -21,14 +22,18 @@ use Rattle.cq_store.specs.Contents.{Named, variables_of, place_of, solved_in, nu
 pub data AddsVariables (old : Named) : List ℕ → Named → Type 0 where
   none_added : AddsVariables old [] old
   one_added : (xs : List ℕ) (mid : Named) → AddsVariables old xs mid → (x : VarId) → (Has x.0 (variables_of mid.names) → ⊥) →
-      AddsVariables old (xs ++ x.0 ∷ []) (record { names = mid.names ++ Variable x ∷ []; slots = mid.slots ++ Live ∷ [] })
+      AddsVariables old (xs ++ x.0 ∷ []) (record { names = mid.names ++ Variable x ∷ []; roles = mid.roles ++ Live ∷ [] })
 
 -- a row that expresses the form stands last
 pub record AddsMember (old : Named) (f : Linear) (new : Named) : Type 0 where
   pub row : Row
   pub names : new.names ≡ old.names ++ Member ∷ []
-  pub slots : new.slots ≡ old.slots ++ Basic row ∷ []
-  pub expresses : Expresses old.slots (λ x. f.constant +ℚ sum_at x (placed (place_of old.names) f.products)) row
+  pub roles : new.roles ≡ old.roles ++ Basic row ∷ []
+  pub expresses : Expresses old.roles (λ x. f.constant +ℚ sum_at x (placed (place_of old.names) f.products)) row
+
+-- an operation of that refuses the pair
+abbrev pub RefusesMember : Named → Linear → Pair → Type 0
+RefusesMember old f pair = RefusesForm old.roles (placed (place_of old.names) f.products) f.constant pair
 
 -- the row's quantity is a dropped column, and the first of its live columns a row
 pub record Eliminates (old asked : Named) (row : Row) (new : Named) : Type 0 where
@@ -36,9 +41,9 @@ pub record Eliminates (old asked : Named) (row : Row) (new : Named) : Type 0 whe
   pub rest : List Entry
   pub live : row.live ≡ first ∷ rest
   pub names : new.names ≡ asked.names
-  pub same : SameMeaning asked.slots new.slots
-  pub kinds : IsEliminated asked.slots (length old.slots) first.quantity new.slots
-  pub table : IsTable new.slots
+  pub same : SameMeaning asked.roles new.roles
+  pub kinds : IsEliminated asked.roles (length old.roles) first.quantity new.roles
+  pub table : AreOverColumns new.roles
 
 -- the equation follows where its row is zero, and else it is solved for a variable
 pub data Joins (old : Named) (f : Linear) (new : Named) : Type 0 where
@@ -62,7 +67,7 @@ pub record AreGained (old new : Named) (xs : List ℕ) : Type 0 where
   pub each : (x : ℕ) (q : ℚ) → Has x (variables_of old.names) → number_in (solved_in old x) ≡ None → number_in (solved_in new x) ≡ Some q → Has x xs
 
 -- new variables, and then the equation with the variables that it gives a number
-pub record Enters (old : Named) (f : Linear) (fixed : List ℕ) (new : Named) : Type 0 where
+pub record TakesEquation (old : Named) (f : Linear) (fixed : List ℕ) (new : Named) : Type 0 where
   pub known : Named
   pub adds : AddsVariables old (new_variables (variables_of old.names) f) known
   pub joins : Joins known f new
@@ -74,9 +79,9 @@ pub record IsRefused (old : Named) (f : Linear) : Type 0 where
   pub adds : AddsVariables old (new_variables (variables_of old.names) f) known
   pub contradicts : Contradicts known f
 
--- the pairs that are met
-pub data Meets (old : Named) (f : Linear) : Operation → ℚ → ℚ → Type 0 where
+-- the operations of that: of adding the form as a row, and of the row's exchange
+pub data EnteringPair (old : Named) (f : Linear) : Operation → ℚ → ℚ → Type 0 where
   in_form : (known : Named) → AddsVariables old (new_variables (variables_of old.names) f) known → {o : Operation} {a b : ℚ} →
-      FormPair known.slots (placed (place_of known.names) f.products) f.constant o a b → Meets old f o a b
+      FormPair known.roles (placed (place_of known.names) f.products) f.constant o a b → EnteringPair old f o a b
   in_exchange : (known asked : Named) → AddsVariables old (new_variables (variables_of old.names) f) known → AddsMember known f asked → (column : ℕ) → {o : Operation} {a b : ℚ} →
-      PivotPair asked.slots (length known.slots) column o a b → Meets old f o a b
+      PivotPair asked.roles (length known.roles) column o a b → EnteringPair old f o a b

@@ -3,7 +3,7 @@ use Rattle.std.specs.Prelude.{◌≡◌, ℕ, ◌+◌, List, [], ◌∷◌}
 use Rattle.std.specs.List.{AllByRecursion}
 use Rattle.cq_row.specs.declared.Entry.{Entry}
 use Rattle.cq_frac.specs.declared.VarId.{VarId}
-use Rattle.cq_dict.specs.Table.{Quantities}
+use Rattle.cq_dict.specs.Roles.{Quantities}
 use Rattle.cq_store.specs.declared.table.Name.{Name}
 use Rattle.cq_store.specs.declared.table.Name.TheVariants.{Variable, Member}
 use Rattle.cq_store.specs.Contents.{Named, AreNamed, IsNamed}

@@ -7,7 +7,7 @@ ghost use Rattle.cq_frac.specs.Refused.{IsRefused as Refuses};
 ghost use Rattle.cq_store.specs.Contents.{variables_of, solved_in, number_in};
 ghost use Rattle.cq_store.specs.Told.{numbers_of, new_variables};
 ghost use Rattle.cq_store.specs.Entered.{IfJoined, IfContradiction};
-ghost use Rattle.cq_store.specs.Entering.{AddsVariables, Enters, IsRefused, Meets};
+ghost use Rattle.cq_store.specs.Entering.{AddsVariables, TakesEquation, IsRefused, EnteringPair};
 
 use crate::store::StoreFault;
 use crate::table::Table;
@@ -66,9 +66,9 @@ fn gather(table: &Table, rest: &[VarId], fixed: &mut Vec<VarId>)
 
 /// Enters the equation that the form is zero.
 pub fn enter(alloc: Global, table: &mut Table, form: &Form) -> Result<Entered, StoreFault>
-    ensures joined { IfOk result (λ e. IfJoined e (λ fixed. Enters table.old.now form.now (numbers_of fixed) table.new.now)) }
+    ensures joined { IfOk result (λ e. IfJoined e (λ fixed. TakesEquation table.old.now form.now (numbers_of fixed) table.new.now)) }
     ensures contradiction { IfOk result (λ e. IfContradiction e (IsRefused table.old.now form.now)) }
-    ensures overflow { (pair : Pair) → result ≡ Err (StoreFault.Overflow pair) → Meets table.old.now form.now pair.operation pair.left pair.right × Refuses pair }
+    ensures overflow { (pair : Pair) → result ≡ Err (StoreFault.Overflow pair) → EnteringPair table.old.now form.now pair.operation pair.left pair.right × Refuses pair }
     ensures pivots { (n : ℕ) → result ≡ Err (StoreFault.Pivots n) → ⊥ }
     ensures saved { table.new.saved ≡ table.old.saved }
     ensures in_order { IsForm form.now }

@@ -13,9 +13,8 @@ ghost use Rattle.cq_store.specs.Told.{numbers_of, AreNewlyFixed, new_variables, 
 
 use crate::entering::{Entered, enter};
 use crate::table::{SolvedRow, Table};
-use cq_dict::dict::DictFault;
 use cq_form::{Cert, Constraint};
-use cq_frac::{Frac, Pair, VarId};
+use cq_frac::{Frac, Pair, Refusal, VarId};
 use cq_trail::Undo;
 use std::alloc::{AllocError, Global};
 use std::marker::Model;
@@ -49,13 +48,13 @@ impl From<AllocError> for StoreFault {
     }
 }
 
-impl From<DictFault> for StoreFault {
+impl From<Refusal> for StoreFault {
     ghost from_gives = { IsStoreFault };
 
-    fn from(fault: DictFault) -> StoreFault {
-        match fault {
-            DictFault::Overflow(pair) => StoreFault::Overflow(pair),
-            DictFault::NoMemory => StoreFault::NoMemory,
+    fn from(refusal: Refusal) -> StoreFault {
+        match refusal {
+            Refusal::Overflow(pair) => StoreFault::Overflow(pair),
+            Refusal::NoMemory => StoreFault::NoMemory,
         }
     }
 }
@@ -85,7 +84,7 @@ impl Store {
 
     /// An empty store. A call may make as many exchanges as `pivots` says.
     pub fn new(alloc: Global, pivots: u64) -> Store
-        ensures { result ≡ record { pivots = pivots; told = []; table = record { names = []; slots = [] } } }
+        ensures { result ≡ record { pivots = pivots; told = []; table = record { names = []; roles = [] } } }
     {
         Store {
             alloc,

@@ -5,18 +5,17 @@ ghost use Rattle.spec_linear.specs.Solution.{Has};
 ghost use Rattle.spec_rational.specs.Sums.{Mentions};
 ghost use Rattle.spec_echelon.specs.Echelon.{AreDistinct};
 ghost use Rattle.cq_frac.specs.declared.Pair.{Pair};
-ghost use Rattle.cq_frac.specs.Refused.{IsRefused};
 ghost use Rattle.cq_row.specs.Row.{Row};
-ghost use Rattle.cq_dict.specs.declared.table.Slot.TheVariants.{Live, Basic};
-ghost use Rattle.cq_dict.specs.Table.{IsAt, IsRow, IsTable, HasEntry, PivotPair, FormPair, IsEliminated};
-ghost use Rattle.cq_dict.specs.Dict.{SameMeaning};
+ghost use Rattle.cq_dict.specs.declared.table.Role.TheVariants.{Live, Basic};
+ghost use Rattle.cq_dict.specs.Roles.{IsAt, IsRow, AreOverColumns, HasEntry, IsEliminated};
+ghost use Rattle.cq_dict.specs.Dict.{SameMeaning, RefusesPivot};
 ghost use Rattle.cq_store.specs.declared.table.Name.{Name};
 ghost use Rattle.cq_store.specs.declared.table.Name.TheVariants.{Variable, Member};
 ghost use Rattle.cq_store.specs.Numbered.{numbers_from};
 
-use cq_dict::dict::{Dict, DictFault};
+use cq_dict::dict::Dict;
 use cq_form::Form;
-use cq_frac::{Frac, VarId};
+use cq_frac::{Frac, Refusal, VarId};
 use cq_row::Entry;
 use cq_trail::{Mark, Undo};
 use indexmap::IndexMap;
@@ -106,22 +105,22 @@ impl Model for Table {
     ghost Value = { TableValue };
 
     ghost view = { λ t. record {
-      now = record { names = t.names.items; slots = t.dict.slots };
+      now = record { names = t.names.items; roles = t.dict.roles };
       saved = map (named_at t.names.items) t.dict.saved;
       room = t.dict.room;
     } };
 
-    ghost invariant = { λ t. IsNumbered (record { names = t.names.items; slots = t.dict.slots }) t.numbers.entries t.dict.saved };
+    ghost invariant = { λ t. IsNumbered (record { names = t.names.items; roles = t.dict.roles }) t.numbers.entries t.dict.saved };
 }
 
 impl Table {
     ghost use Rattle.cq_store.specs.Contents.{Named, AreNamed, variables_of, place_of, place_of_variable, solved_in, number_in};
     ghost use Rattle.cq_store.specs.Describes.{placed};
-    ghost use Rattle.cq_store.specs.Entering.{AddsMember};
+    ghost use Rattle.cq_store.specs.Entering.{AddsMember, RefusesMember};
     ghost use Rattle.cq_store.specs.Told.{numbers_of};
 
     pub fn new(alloc: Global) -> Table
-        ensures now { result.now ≡ record { names = []; slots = [] } }
+        ensures now { result.now ≡ record { names = []; roles = [] } }
         ensures saved { result.saved ≡ [] }
     {
         Table {
@@ -133,7 +132,7 @@ impl Table {
 
     /// The number of quantities.
     pub fn count(&self) -> usize
-        ensures count { result ≡ length self.now.now.slots }
+        ensures count { result ≡ length self.now.now.roles }
         ensures named { AreNamed self.now.now }
     {
         self.names.len()
@@ -192,7 +191,7 @@ impl Table {
     pub fn add_variable(&mut self, x: VarId) -> Result<(), AllocError>
         requires { Has x.0 (variables_of self.old.now.names) → ⊥ }
         ensures names { OnOk result (self.new.now.names ≡ self.old.now.names ++ Variable x ∷ []) }
-        ensures slots { OnOk result (self.new.now.slots ≡ self.old.now.slots ++ Live ∷ []) }
+        ensures roles { OnOk result (self.new.now.roles ≡ self.old.now.roles ++ Live ∷ []) }
         ensures saved { self.new.saved ≡ self.old.saved }
         ensures err { OnErr result (self.new.now ≡ self.old.now) }
     {
@@ -224,10 +223,10 @@ impl Table {
     }
 
     /// Makes a row for the form of a constraint.
-    pub fn add_member(&mut self, form: &Form) -> Result<(), DictFault>
+    pub fn add_member(&mut self, form: &Form) -> Result<(), Refusal>
         requires { (x : ℕ) → Mentions x form.now.products → Has x (variables_of self.old.now.names) }
         ensures added { OnOk result (AddsMember self.old.now form.now self.new.now) }
-        ensures overflow { (pair : Pair) → result ≡ Err (DictFault.Overflow pair) → FormPair self.old.now.slots (placed (place_of self.old.now.names) form.now.products) form.now.constant pair.operation pair.left pair.right × IsRefused pair }
+        ensures overflow { (pair : Pair) → result ≡ Err (Refusal.Overflow pair) → RefusesMember self.old.now form.now pair }
         ensures saved { self.new.saved ≡ self.old.saved }
         ensures err { OnErr result (self.new.now ≡ self.old.now) }
     {
@@ -241,21 +240,21 @@ impl Table {
 
     /// The row's constant, and its first live entry.
     pub fn lead(&self, r: usize) -> (Frac, Option<Entry>)
-        requires { IsRow self.now.now.slots r }
-        ensures { (own : Row) → IsAt self.now.now.slots r (Basic own) → (result.0 ≡ own.constant) × (result.1 ≡ slice_get own.live 0) }
+        requires { IsRow self.now.now.roles r }
+        ensures { (own : Row) → IsAt self.now.now.roles r (Basic own) → (result.0 ≡ own.constant) × (result.1 ≡ slice_get own.live 0) }
     {
         let first = self.dict.row(r).first().copied();
         (self.dict.constant(r), first)
     }
 
     /// Exchanges the row and the live column, in which the row has an entry, and drops the row's quantity.
-    pub fn eliminate(&mut self, r: usize, c: usize) -> Result<(), DictFault>
-        requires { HasEntry self.old.now.slots r c }
+    pub fn eliminate(&mut self, r: usize, c: usize) -> Result<(), Refusal>
+        requires { HasEntry self.old.now.roles r c }
         ensures names { self.new.now.names ≡ self.old.now.names }
-        ensures same { OnOk result (SameMeaning self.old.now.slots self.new.now.slots) }
-        ensures kinds { OnOk result (IsEliminated self.old.now.slots r c self.new.now.slots) }
-        ensures table { IsTable self.new.now.slots }
-        ensures overflow { (pair : Pair) → result ≡ Err (DictFault.Overflow pair) → PivotPair self.old.now.slots r c pair.operation pair.left pair.right × IsRefused pair }
+        ensures same { OnOk result (SameMeaning self.old.now.roles self.new.now.roles) }
+        ensures kinds { OnOk result (IsEliminated self.old.now.roles r c self.new.now.roles) }
+        ensures table { AreOverColumns self.new.now.roles }
+        ensures overflow { (pair : Pair) → result ≡ Err (Refusal.Overflow pair) → RefusesPivot self.old.now.roles r c pair }
         ensures saved { self.new.saved ≡ self.old.saved }
         ensures err { OnErr result (self.new.now ≡ self.old.now) }
     {

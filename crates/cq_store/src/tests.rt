@@ -4,28 +4,141 @@ ghost use Rattle.spec_linear.specs.declared.Relation.TheVariants.{Eq};
 
 use crate::store::{Store, StoreFault, Told};
 use cq_form::{Constraint, Form};
-use cq_frac::{Frac, Operation, VarId};
+use cq_frac::{Frac, Operation, Pair, VarId};
 use spec_linear::Relation;
 use std::alloc::Global;
 use std::test::Fail;
 
 const M: i128 = 170141183460469231731687303715884105727;
 
+/// What an equation comes to: it is kept and fixes these variables, it contradicts, or an operation on these numbers is
+/// refused.
+enum Wanted<'a> {
+    Fixes(&'a [usize]),
+    Contradicts,
+    Overflows(Operation, (i128, i128), (i128, i128)),
+}
+
+/// The equation that the products and the constant add up to zero.
+struct Step<'a> {
+    products: &'a [(i128, usize)],
+    constant: i128,
+    wanted: Wanted<'a>,
+}
+
+/// Equations, and at their end values of variables and the number of told equations.
+struct Case<'a> {
+    steps: &'a [Step<'a>],
+    values: &'a [(usize, Option<(i128, i128)>)],
+    told: usize,
+}
+
+// X0 + X1 = 3
+const SUM: Step = Step {
+    products: &[(1, 0), (1, 1)],
+    constant: -3,
+    wanted: Wanted::Fixes(&[]),
+};
+
+// X0 - X1 = 1
+const DIFFERENCE: Step = Step {
+    products: &[(1, 0), (-1, 1)],
+    constant: -1,
+    wanted: Wanted::Fixes(&[0, 1]),
+};
+
+// X0 = M
+const LARGE: Step = Step {
+    products: &[(1, 0)],
+    constant: -M,
+    wanted: Wanted::Fixes(&[0]),
+};
+
+const CASES: [Case; 5] = [
+    // 2 * X0 + 3 = 7
+    Case {
+        steps: &[Step {
+            products: &[(2, 0)],
+            constant: -4,
+            wanted: Wanted::Fixes(&[0]),
+        }],
+        values: &[(0, Some((2, 1))), (1, None)],
+        told: 1,
+    },
+    Case {
+        steps: &[SUM, DIFFERENCE],
+        values: &[(0, Some((2, 1))), (1, Some((1, 1)))],
+        told: 2,
+    },
+    // X0 + X1 = 4 leaves the store as it was
+    Case {
+        steps: &[
+            SUM,
+            DIFFERENCE,
+            Step {
+                products: &[(1, 0), (1, 1)],
+                constant: -4,
+                wanted: Wanted::Contradicts,
+            },
+        ],
+        values: &[(0, Some((2, 1))), (1, Some((1, 1)))],
+        told: 2,
+    },
+    // 2 * X0 + 2 * X1 = 6 follows, and 3 * X1 = 1 finds its way past its row
+    Case {
+        steps: &[
+            SUM,
+            Step {
+                products: &[(2, 0), (2, 1)],
+                constant: -6,
+                wanted: Wanted::Fixes(&[]),
+            },
+            Step {
+                products: &[(3, 1)],
+                constant: -1,
+                wanted: Wanted::Fixes(&[0, 1]),
+            },
+        ],
+        values: &[(0, Some((8, 3))), (1, Some((1, 3)))],
+        told: 3,
+    },
+    // X1 = X0 + 1 is M + 1, and X1 = X0 - 1 still joins
+    Case {
+        steps: &[
+            LARGE,
+            Step {
+                products: &[(1, 0), (-1, 1)],
+                constant: 1,
+                wanted: Wanted::Overflows(Operation::Sum, (1, 1), (M, 1)),
+            },
+            Step {
+                products: &[(1, 0), (-1, 1)],
+                constant: -1,
+                wanted: Wanted::Fixes(&[1]),
+            },
+        ],
+        values: &[(0, Some((M, 1))), (1, Some((M - 1, 1)))],
+        told: 2,
+    },
+];
+
 fn number(n: i128) -> Frac {
     Frac::new(n, 1).unwrap_or(Frac::zero())
 }
 
-fn variable(alloc: Global, x: usize) -> Result<Form, Fail> {
-    Ok(Form::new(alloc, Frac::zero(), &[(VarId(x), Frac::one())])?)
+/// The form and the product of a number and a variable.
+fn with_product(alloc: Global, form: &Form, factor: i128, x: usize) -> Result<Form, Fail> {
+    let variable = Form::new(alloc, Frac::zero(), &[(VarId(x), Frac::one())])?;
+    let product = variable.scale(number(factor))?;
+    Ok(form.add(&product)?)
 }
 
-// The equation that the sum of the products and the constant is zero.
 fn equation(alloc: Global, products: &[(i128, usize)], constant: i128) -> Result<Constraint, Fail>
     ensures { IfOk result (λ c. c.relation ≡ Eq) }
 {
     let mut form = Form::new(alloc, number(constant), &[])?;
     for (factor, x) in products {
-        form = form.add(&variable(alloc, *x)?.scale(number(*factor))?)?;
+        form = with_product(alloc, &form, *factor, *x)?;
     }
     Ok(Constraint {
         relation: Relation::Eq,
@@ -33,124 +146,88 @@ fn equation(alloc: Global, products: &[(i128, usize)], constant: i128) -> Result
     })
 }
 
-fn tell(
-    store: &mut Store,
-    alloc: Global,
-    products: &[(i128, usize)],
-    constant: i128,
-) -> Result<Told, Fail> {
-    Ok(store.tell(equation(alloc, products, constant)?)?)
+fn is_pair(pair: &Pair, operation: Operation, left: (i128, i128), right: (i128, i128)) -> bool {
+    pair.operation == operation && pair.left.parts() == left && pair.right.parts() == right
 }
 
-fn is_kept(answer: &Told, fixed: &[usize]) -> bool {
-    match answer {
-        Told::Kept(xs) => xs.len() == fixed.len() && xs.iter().zip(fixed).all(|(x, y)| x.0 == *y),
-        Told::Unsolvable(_) => false,
+fn are_variables(xs: &[VarId], numbers: &[usize]) -> bool {
+    xs.len() == numbers.len() && xs.iter().zip(numbers).all(|(x, y)| x.0 == *y)
+}
+
+fn is_wanted(answer: &Result<Told, StoreFault>, wanted: &Wanted) -> bool {
+    match (answer, wanted) {
+        (Ok(Told::Kept(xs)), Wanted::Fixes(fixed)) => are_variables(xs, *fixed),
+        (Ok(Told::Unsolvable(_)), Wanted::Contradicts) => true,
+        (Err(StoreFault::Overflow(pair)), Wanted::Overflows(operation, left, right)) => {
+            is_pair(pair, *operation, *left, *right)
+        }
+        _ => false,
     }
 }
 
-fn value(store: &Store, x: usize) -> Option<(i128, i128)> {
-    store.value(VarId(x)).map(|q| q.parts())
+fn comes_to_what_is_wanted(store: &mut Store, alloc: Global, step: &Step) -> Result<bool, Fail> {
+    let answer = store.tell(equation(alloc, step.products, step.constant)?);
+    Ok(is_wanted(&answer, &step.wanted))
+}
+
+fn has_value(store: &Store, x: usize, value: Option<(i128, i128)>) -> bool {
+    store.value(VarId(x)).map(|q| q.parts()) == value
+}
+
+fn has_values(store: &Store, values: &[(usize, Option<(i128, i128)>)]) -> bool {
+    for (x, value) in values {
+        if !has_value(store, *x, *value) {
+            return false;
+        }
+    }
+    true
+}
+
+fn holds(alloc: Global, case: &Case) -> Result<bool, Fail> {
+    let mut store = Store::new(alloc, 7);
+    for step in case.steps {
+        if !comes_to_what_is_wanted(&mut store, alloc, step)? {
+            return Ok(false);
+        }
+    }
+    Ok(has_values(&store, case.values) && store.told().len() == case.told)
 }
 
 #[test]
-fn an_equation_of_one_variable_fixes_it(rt: HostRuntime) -> Result<(), Fail> {
-    let mut store = Store::new(rt.alloc(), 7);
-    // 2 * X0 + 3 = 7
-    let answer = tell(&mut store, rt.alloc(), &[(2, 0)], -4)?;
-    assert!(rt; is_kept(&answer, &[0]), "{answer:?}");
-    assert_eq!(rt; value(&store, 0), Some((2, 1)));
-    assert_eq!(rt; value(&store, 1), None);
-    assert_eq!(rt; store.pivots(), 7);
+fn equations_fix_what_they_leave_no_choice(rt: HostRuntime) -> Result<(), Fail> {
+    for case in &CASES {
+        let told = case.told;
+        assert!(rt; holds(rt.alloc(), case)?, "{told}");
+    }
     Ok(())
 }
 
-#[test]
-fn the_second_equation_of_two_variables_fixes_both(rt: HostRuntime) -> Result<(), Fail> {
-    let mut store = Store::new(rt.alloc(), 7);
-    // X0 + X1 = 3, X0 - X1 = 1
-    let answer = tell(&mut store, rt.alloc(), &[(1, 0), (1, 1)], -3)?;
-    assert!(rt; is_kept(&answer, &[]), "{answer:?}");
-    let answer = tell(&mut store, rt.alloc(), &[(1, 0), (-1, 1)], -1)?;
-    assert!(rt; is_kept(&answer, &[0, 1]), "{answer:?}");
-    assert_eq!(rt; value(&store, 0), Some((2, 1)));
-    assert_eq!(rt; value(&store, 1), Some((1, 1)));
-    assert_eq!(rt; store.told().len(), 2);
-    Ok(())
+/// Whether the variable is the constant and one product of another variable.
+fn is_row(store: &Store, x: usize, constant: (i128, i128), other: usize, factor: (i128, i128)) -> bool {
+    let Some(row) = store.row(VarId(x)) else {
+        return false;
+    };
+    if row.len() != 1 {
+        return false;
+    }
+    let (y, q) = row.get(0);
+    row.constant().parts() == constant && y.0 == other && q.parts() == factor
+}
+
+/// A store that knows X5 and was told X2 + X5 = 3.
+fn knowing_the_second(alloc: Global) -> Result<Store, Fail> {
+    let mut store = Store::new(alloc, 7);
+    store.add_variable(VarId(5))?;
+    store.tell(equation(alloc, &[(1, 2), (1, 5)], -3)?)?;
+    Ok(store)
 }
 
 #[test]
 fn the_first_variable_in_the_order_is_solved_for(rt: HostRuntime) -> Result<(), Fail> {
-    let mut store = Store::new(rt.alloc(), 7);
-    store.add_variable(VarId(5))?;
-    // X2 + X5 = 3, where X5 comes before X2
-    let answer = tell(&mut store, rt.alloc(), &[(1, 2), (1, 5)], -3)?;
-    assert!(rt; is_kept(&answer, &[]), "{answer:?}");
-    let order = store.order();
-    assert_eq!(rt; order.len(), 2);
-    assert_eq!(rt; order[0].0, 5);
-    assert_eq!(rt; order[1].0, 2);
+    let store = knowing_the_second(rt.alloc())?;
+    assert!(rt; are_variables(store.order(), &[5, 2]));
+    assert!(rt; is_row(&store, 5, (3, 1), 2, (-1, 1)));
     assert!(rt; store.row(VarId(2)).is_none());
-    let Some(row) = store.row(VarId(5)) else {
-        return Err(Fail::from("X5 is solved for"));
-    };
-    assert_eq!(rt; row.constant().parts(), (3, 1));
-    assert!(rt; !row.is_empty());
-    assert_eq!(rt; row.len(), 1);
-    let (x, factor) = row.get(0);
-    assert_eq!(rt; x.0, 2);
-    assert_eq!(rt; factor.parts(), (-1, 1));
-    Ok(())
-}
-
-#[test]
-fn a_refused_equation_leaves_the_store_as_it_was(rt: HostRuntime) -> Result<(), Fail> {
-    let mut store = Store::new(rt.alloc(), 7);
-    tell(&mut store, rt.alloc(), &[(1, 0), (1, 1)], -3)?;
-    tell(&mut store, rt.alloc(), &[(1, 0), (-1, 1)], -1)?;
-    // X0 + X1 = 4
-    let answer = tell(&mut store, rt.alloc(), &[(1, 0), (1, 1)], -4)?;
-    assert!(rt; matches!(answer, Told::Unsolvable(_)), "{answer:?}");
-    assert_eq!(rt; store.told().len(), 2);
-    assert_eq!(rt; store.order().len(), 2);
-    assert_eq!(rt; value(&store, 0), Some((2, 1)));
-    assert_eq!(rt; value(&store, 1), Some((1, 1)));
-    Ok(())
-}
-
-#[test]
-fn an_equation_that_follows_is_kept_and_fixes_nothing(rt: HostRuntime) -> Result<(), Fail> {
-    let mut store = Store::new(rt.alloc(), 7);
-    tell(&mut store, rt.alloc(), &[(1, 0), (1, 1)], -3)?;
-    let answer = tell(&mut store, rt.alloc(), &[(2, 0), (2, 1)], -6)?;
-    assert!(rt; is_kept(&answer, &[]), "{answer:?}");
-    // and later equations find their way past its row
-    let answer = tell(&mut store, rt.alloc(), &[(3, 1)], -1)?;
-    assert!(rt; is_kept(&answer, &[0, 1]), "{answer:?}");
-    assert_eq!(rt; value(&store, 0), Some((8, 3)));
-    assert_eq!(rt; store.told().len(), 3);
-    Ok(())
-}
-
-#[test]
-fn a_number_past_128_bits_stops_the_call_alone(rt: HostRuntime) -> Result<(), Fail> {
-    let mut store = Store::new(rt.alloc(), 7);
-    tell(&mut store, rt.alloc(), &[(1, 0)], -M)?;
-    // X1 = X0 + 1 is M + 1
-    let Err(fault) = store.tell(equation(rt.alloc(), &[(1, 0), (-1, 1)], 1)?) else {
-        return Err(Fail::from("M + 1 does not fit"));
-    };
-    let StoreFault::Overflow(pair) = fault else {
-        return Err(Fail::from("the fault is an overflow"));
-    };
-    assert_eq!(rt; pair.operation, Operation::Sum);
-    assert_eq!(rt; pair.left.parts(), (1, 1));
-    assert_eq!(rt; pair.right.parts(), (M, 1));
-    assert_eq!(rt; store.told().len(), 1);
-    assert_eq!(rt; store.order().len(), 1);
-    assert_eq!(rt; value(&store, 0), Some((M, 1)));
-    // X1 = X0 - 1 still joins
-    let answer = tell(&mut store, rt.alloc(), &[(1, 0), (-1, 1)], -1)?;
-    assert!(rt; is_kept(&answer, &[1]), "{answer:?}");
+    assert_eq!(rt; store.pivots(), 7);
     Ok(())
 }

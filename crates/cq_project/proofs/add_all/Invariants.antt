@@ -1,5 +1,5 @@
 use Rattle.std.proofs.Common.{◌≡◌, ◌++◌, take}
-use Rattle.cq_project.specs.Rows.{numbers_of}
+use Rattle.cq_store.specs.Told.{numbers_of}
 use Rattle.cq_store.specs.Contents.{told_of, order_of}
 use Rattle.cq_project.proofs.add_all.Given as goal
 

@@ -1,7 +1,8 @@
 use Rattle.std.proofs.Common.{◌≡◌, take}
 use Rattle.spec_echelon.specs.SolvedForm.{rows_of}
 use Rattle.cq_store.specs.Contents.{solved_of}
-use Rattle.cq_project.specs.Rows.{numbers_of, equations_of}
+use Rattle.cq_store.specs.Told.{numbers_of}
+use Rattle.cq_project.specs.Rows.{equations_of}
 use Rattle.cq_project.proofs.equations_in.Given as goal
 
 abbrev pub invariant-wanted : goal.invariant-wanted

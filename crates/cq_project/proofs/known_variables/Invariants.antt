@@ -1,7 +1,8 @@
 use Rattle.std.proofs.Common.{◌≡◌, ℕ, take}
 use Rattle.spec_rational.specs.Sums.{Mentions}
 use Rattle.spec_linear.specs.Solution.{Has}
-use Rattle.cq_project.specs.Rows.{numbers_of, Knows}
+use Rattle.cq_store.specs.Told.{numbers_of}
+use Rattle.cq_project.specs.Rows.{Knows}
 use Rattle.cq_form.specs.Pairs.{products_of}
 use Rattle.cq_project.proofs.known_variables.Given as goal
 

@@ -1,7 +1,7 @@
 use Rattle.std.proofs.Common.{◌++◌, refl, ap, sym, subst, ◌∙◌}
 use Rattle.spec_echelon.specs.Echelon.{AreDistinct}
 use Rattle.cq_store.specs.Contents.{order_of}
-use Rattle.cq_project.specs.Rows.{numbers_of}
+use Rattle.cq_store.specs.Told.{numbers_of}
 use Rattle.cq_project.proofs.Turned.{behind_is, turned, distinct_turned, distinct_others}
 use Rattle.cq_project.proofs.ordered.Goals as goal
 

@@ -3,7 +3,8 @@ use Rattle.spec_linear.specs.Solution.{Same}
 use Rattle.spec_echelon.specs.Echelon.{IsEchelon, equations}
 use Rattle.spec_echelon.proofs.Solving.{echelon, same-rows}
 use Rattle.cq_store.specs.Contents.{order_of, told_of, solved_of}
-use Rattle.cq_project.specs.Rows.{numbers_of, equations_of}
+use Rattle.cq_store.specs.Told.{numbers_of}
+use Rattle.cq_project.specs.Rows.{equations_of}
 use Rattle.cq_project.proofs.project.Goals as goal
 
 pub returns-clause-echelon : goal.returns-clause-echelon

@@ -1,14 +1,14 @@
 use Rattle.std.proofs.Common.{subst, sym}
 use Rattle.cq_row.proofs.Shifts.{anywhere}
 use Rattle.cq_row.specs.Rows.{IsRowFrom, everywhere, Has}
-use Rattle.cq_dict.specs.Table.{is_live}
+use Rattle.cq_dict.specs.Roles.{is_live}
 use Rattle.cq_dict.proofs.tests.eliminate.Goals as goal
 
 pub entry_at-requires : goal.entry_at-requires
 entry_at-requires c =
     let own = c.if-is_row.ensures.0 in
     let at = c.if-is_row.ensures.1 in
-    record { row = subst (IsRowFrom everywhere 0) (sym (c.row.ensures own at)) (anywhere (is_live c.args.dict.now.slots) 0 own.live (c.count.ensures.table.rows c.args.r own at).live_row) }
+    record { row = subst (IsRowFrom everywhere 0) (sym (c.row.ensures own at)) (anywhere (is_live c.args.dict.now.roles) 0 own.live (c.count.ensures.table.rows c.args.r own at).live_row) }
 
 pub eliminate-requires : goal.eliminate-requires
 eliminate-requires c =

@@ -9,7 +9,8 @@ use Rattle.spec_queries.specs.Meaning.{told}
 use Rattle.spec_equations.specs.Session.{branch_of}
 use Rattle.spec_limits.specs.Overflow.{answering}
 use Rattle.cq_store.specs.Contents.{told_of, order_of, solved_of}
-use Rattle.cq_project.specs.Rows.{numbers_of, equations_of}
+use Rattle.cq_store.specs.Told.{numbers_of}
+use Rattle.cq_project.specs.Rows.{equations_of}
 use Rattle.cq_search.specs.Values.{bound_by, branch_in}
 use Rattle.cq_search.specs.Finding.{AreBound, Stops, while_answering}
 use Rattle.spec_equations.proofs.Names.{distinct_targets}

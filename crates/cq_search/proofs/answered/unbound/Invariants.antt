@@ -1,6 +1,6 @@
 use Rattle.std.proofs.Common.{◌≡◌, take}
 use Rattle.spec_equations.specs.Answer.{targets}
-use Rattle.cq_project.specs.Rows.{numbers_of}
+use Rattle.cq_store.specs.Told.{numbers_of}
 use Rattle.cq_search.specs.Values.{branch_in}
 use Rattle.cq_search.proofs.answered.unbound.Given as goal
 

@@ -1,10 +1,10 @@
 use Rattle.std.proofs.Common.{◌≡◌, ◌+◌, Err, arith, refl, ap, sym, subst}
 use Rattle.std.specs.Prelude.{MatchOption}
 use Rattle.spec_simplex.specs.Rule.{Limits, ratio}
-use Rattle.cq_simplex.specs.Tableau.{dictionary}
+use Rattle.cq_simplex.specs.Dictionary.{dictionary}
 use Rattle.cq_simplex.proofs.Exits.{pair_kept}
-use Rattle.cq_dict.specs.Table.{is_restricted}
-use Rattle.cq_simplex.proofs.Slots.{all_below}
+use Rattle.cq_dict.specs.Roles.{is_restricted}
+use Rattle.cq_simplex.proofs.Roles.{all_below}
 use Rattle.cq_simplex.proofs.Ratios.{First, first_kept, first_more, none_at_end, leaves_at_end}
 use Rattle.cq_simplex.proofs.leaving.leaving.Goals as goal
 use Rattle.cq_simplex.proofs.leaving.leaving.Goals.{in-Some, in_default}
@@ -14,7 +14,7 @@ returns-in_err-ratio-clause-overflow c = λ pair e asked. (c.loop-row.row, c.in_
 
 pub loop-row-preserved : goal.loop-row-preserved
 loop-row-preserved c = λ asked.
-    let s = c.args.dict.now.slots in
+    let s = c.args.dict.now.roles in
     let f = is_restricted c.args.dict.now.restricted in
     elim c.match-branch-2.branch [
       | in-Some w ↦
@@ -28,14 +28,14 @@ loop-row-preserved c = λ asked.
 
 pub returns-in-Some-first-clause-value : goal.returns-in-Some-first-clause-value
 returns-in-Some-first-clause-value c = λ asked.
-    let s = c.args.dict.now.slots in
+    let s = c.args.dict.now.roles in
     let f = is_restricted c.args.dict.now.restricted in
     leaves_at_end f s asked c.args.column c.loop-row.row (λ q k. all_below s c.loop-row.row q k.row (omega (arith, c.loop-row-test.false, c.loop-row.auto.row-end, c.count-row-end.ensures.value)))
     c.in-Some-first.limit (subst (First f s asked c.args.column c.loop-row.row) c.in-Some-first.is (c.loop-row.invariant asked))
 
 pub returns-in-None-clause-value : goal.returns-in-None-clause-value
 returns-in-None-clause-value c = λ asked.
-    let s = c.args.dict.now.slots in
+    let s = c.args.dict.now.roles in
     let f = is_restricted c.args.dict.now.restricted in
     none_at_end f s asked c.args.column c.loop-row.row (λ q k. all_below s c.loop-row.row q k.row (omega (arith, c.loop-row-test.false, c.loop-row.auto.row-end, c.count-row-end.ensures.value)))
     (subst (First f s asked c.args.column c.loop-row.row) c.in-None.is (c.loop-row.invariant asked))

@@ -1,7 +1,7 @@
 use Rattle.std.proofs.Common.{◌≡◌, true, take}
 use Rattle.cq_row.specs.declared.Entry.{Entry}
 use Rattle.cq_row.specs.Rows.{Has}
-use Rattle.cq_dict.specs.Table.{is_restricted}
+use Rattle.cq_dict.specs.Roles.{is_restricted}
 use Rattle.cq_simplex.proofs.rising.free_column.Given as goal
 
 abbrev pub invariant-loop-m : goal.invariant-loop-m

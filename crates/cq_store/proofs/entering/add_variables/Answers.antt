@@ -18,7 +18,7 @@ loop-pair-preserved c =
         added = subst (AddsFirst c.args.table.now.now c.pairs-pair-items.result.now (c.loop-pair.pair-index + 1)) (sym (ap (λ (t : TableValue). t.now) w.table-is))
             (adds_new c.args.table.now.now c.loop-pair.table.now c.pairs-pair-items.result.now c.loop-pair.pair-index c.pair-item.result c.loop-pair-test.true c.pair-item.is c.loop-pair.invariant.added
             (none_of c.number.result (Has c.pair-item.result.0.0 (variables_of c.loop-pair.table.now.names) → ⊥) (λ n. Has c.pair-item.result.0.0 (variables_of c.loop-pair.table.now.names) × (n ≡ place_of_variable c.loop-pair.table.now.names c.pair-item.result.0.0)) c.is_none.result c.number.ensures c.is_none.ensures w.if-is_none.true)
-            w.add_variable.new.self.now w.in_ok-add_variable.ensures.names w.in_ok-add_variable.ensures.slots);
+            w.add_variable.new.self.now w.in_ok-add_variable.ensures.names w.in_ok-add_variable.ensures.roles);
         saved = ap (λ (t : TableValue). t.saved) w.table-is ∙ w.in_ok-add_variable.ensures.saved ∙ c.loop-pair.invariant.saved;
       }
       | else-is_none w ↦ record {

@@ -3,7 +3,7 @@ use Rattle.std.proofs.Common.{ap, sym, subst, ◌∙◌, inl, refl, Err}
 use Rattle.std.specs.Prelude.{is_some, filter}
 use Rattle.cq_frac.specs.declared.VarId.{VarId}
 use Rattle.cq_row.specs.Rows as row
-use Rattle.cq_dict.specs.Table.{PivotPair, IsEliminated}
+use Rattle.cq_dict.specs.Roles.{PivotPair, IsEliminated}
 use Rattle.cq_store.specs.Contents.{solved_in, number_in}
 use Rattle.cq_store.specs.Told.{numbers_of}
 use Rattle.cq_store.specs.Entering.{AreGained, follows, eliminates, in_form, in_exchange}
@@ -37,7 +37,7 @@ returns-in_err-eliminate-in-Some-clause-overflow c = λ pair e.
     let f = fault_of c.from_residual-in_err-eliminate-in-Some.result c.in_err-eliminate-in-Some.field-0.0 c.from_residual-in_err-eliminate-in-Some.ensures.1 pair e in
     let p = c.in_err-eliminate-in-Some.ensures.overflow pair (ap Err f) in (
       in_exchange c.add_variables.new.table.now c.add_member.new.self.now c.in_ok-add_variables.ensures.added c.in_ok-add_member.ensures.added c.in-Some.first.quantity
-          (subst (λ n. PivotPair c.add_member.new.self.now.slots n c.in-Some.first.quantity pair.operation pair.left pair.right) c.count-row.ensures.count p.0),
+          (subst (λ n. PivotPair c.add_member.new.self.now.roles n c.in-Some.first.quantity pair.operation pair.left pair.right) c.count-row.ensures.count p.0),
       p.1,
     )
 
@@ -55,7 +55,7 @@ returns-in_ok-eliminate-in-Some-clause-joined c =
         live = r.1;
         names = c.in_ok-eliminate-in-Some.ensures.names;
         same = c.in_ok-eliminate-in-Some.ensures.same;
-        kinds = subst (λ n. IsEliminated c.add_member.new.self.now.slots n c.in-Some.first.quantity c.eliminate.new.self.now.slots) c.count-row.ensures.count c.in_ok-eliminate-in-Some.ensures.kinds;
+        kinds = subst (λ n. IsEliminated c.add_member.new.self.now.roles n c.in-Some.first.quantity c.eliminate.new.self.now.roles) c.count-row.ensures.count c.in_ok-eliminate-in-Some.ensures.kinds;
         table = c.in_ok-eliminate-in-Some.ensures.table;
       });
       gained = gained_by c.add_variables.new.table.now c.eliminate.new.self.now c.count-row.ensures.named.distinct c.in_ok-rest-in-Some.rest.items c.gather.new.fixed.items

@@ -16,10 +16,10 @@ next-requires-clause-new c = λ o e.
 
 pub loop-change-preserved : goal.loop-change-preserved
 loop-change-preserved c =
-    let t : Turned c.args.self c.args.column c.in-Some.change.at c.in-Some.change.slot c.unwrap_or-slot.result =
-    subst (Turned c.args.self c.args.column c.in-Some.change.at c.in-Some.change.slot) (sym c.unwrap_or-slot.ensures) c.in_ok-next.ensures in
+    let t : Turned c.args.self c.args.column c.in-Some.change.at c.in-Some.change.role c.unwrap_or-role.result =
+    subst (Turned c.args.self c.args.column c.in-Some.change.at c.in-Some.change.role) (sym c.unwrap_or-role.ensures) c.in_ok-next.ensures in
     turning_more c.args.self c.args.column c.args.changes.items _ c.loop-change.turned.items c.loop-change.invariant c.in-Some.change
-    (record { at = c.in-Some.change.at; slot = c.unwrap_or-slot.result }) c.pop.new.self.items c.push.new.self.items c.in-Some.ensures.items c.in_ok-push.ensures.items refl t
+    (record { at = c.in-Some.change.at; role = c.unwrap_or-role.result }) c.pop.new.self.items c.push.new.self.items c.in-Some.ensures.items c.in_ok-push.ensures.items refl t
 
 pub returns : goal.returns
 returns c =

@@ -1,7 +1,12 @@
-use Rattle.std.proofs.Common.{◌∙◌, ap}
+use Rattle.std.proofs.Common.{◌∙◌, ap, sym, subst}
 use Rattle.cq_row.specs.Row.{Row}
-use Rattle.cq_dict.proofs.Slots.{row_one}
+use Rattle.cq_row.specs.Rows.{IsRowFrom}
+use Rattle.cq_dict.specs.Roles.{is_dropped}
+use Rattle.cq_dict.proofs.Roles.{row_one}
 use Rattle.cq_dict.proofs.dict.Dict.dropped.Goals as goal
 
-pub returns : goal.returns
-returns c = λ own a. c.dropped.ensures ∙ ap (λ (z : Row). z.dropped) (row_one c.args.self.now.slots c.args.r c.basic.result.now own c.basic.ensures a)
+pub returns-clause-entries : goal.returns-clause-entries
+returns-clause-entries c = λ own a. c.dropped.ensures ∙ ap (λ (z : Row). z.dropped) (row_one c.args.self.now.roles c.args.r c.basic.result.now own c.basic.ensures.row a)
+
+pub returns-clause-columns : goal.returns-clause-columns
+returns-clause-columns c = subst (IsRowFrom (is_dropped c.args.self.now.roles) 0) (sym c.dropped.ensures) c.basic.ensures.columns.dropped_row

@@ -1,5 +1,5 @@
 use Rattle.std.proofs.Common.{arith}
-use Rattle.cq_dict.proofs.Slots.{flag_get}
+use Rattle.cq_dict.proofs.Roles.{flag_get}
 use Rattle.cq_dict.proofs.dict.Dict.is_restricted.Goals as goal
 
 pub get-requires : goal.get-requires

@@ -3,20 +3,20 @@ use Rattle.cq_dict.proofs.Marks.{marked_take, saved_take, length-saved}
 use Rattle.cq_dict.proofs.dict.DictUndo.forget.Goals as goal
 
 pub forget-requires : goal.forget-requires
-forget-requires c = let k = length-saved c.self.inside.slots.saved c.self.inside.restricted.saved c.self.invariant.together in let h = rw (← c.self.view_is) at c.requires in omega (arith, h, k)
+forget-requires c = let k = length-saved c.self.inside.roles.saved c.self.inside.restricted.saved c.self.invariant.together in let h = rw (← c.self.view_is) at c.requires in omega (arith, h, k)
 
 pub forget-requires-2 : goal.forget-requires-2
-forget-requires-2 c = let k = length-saved c.self.inside.slots.saved c.self.inside.restricted.saved c.self.invariant.together in let h = rw (← c.self.view_is) at c.requires in omega (arith, h, k, c.self.invariant.together)
+forget-requires-2 c = let k = length-saved c.self.inside.roles.saved c.self.inside.restricted.saved c.self.invariant.together in let h = rw (← c.self.view_is) at c.requires in omega (arith, h, k, c.self.invariant.together)
 
 pub invariant_of-self : goal.invariant_of-self
 invariant_of-self c =
     rw (c.forget.ensures.saved, c.forget-2.ensures.saved, c.forget.ensures.now, c.forget-2.ensures.now)
-    (marked_take c.self.inside.slots.now c.self.inside.restricted.now c.self.inside.slots.saved c.self.inside.restricted.saved c.self.invariant c.args.m.number _ _ c.self.invariant.now)
+    (marked_take c.self.inside.roles.now c.self.inside.restricted.now c.self.inside.roles.saved c.self.inside.restricted.saved c.self.invariant c.args.m.number _ _ c.self.invariant.now)
 
 pub returns-clause-saved : goal.returns-clause-saved
-returns-clause-saved c = rw (← c.self.view_is, c.forget.ensures.saved, c.forget-2.ensures.saved) (saved_take c.args.m.number c.self.inside.slots.saved c.self.inside.restricted.saved)
+returns-clause-saved c = rw (← c.self.view_is, c.forget.ensures.saved, c.forget-2.ensures.saved) (saved_take c.args.m.number c.self.inside.roles.saved c.self.inside.restricted.saved)
 
 pub returns-clause-room : goal.returns-clause-room
 returns-clause-room c =
-    let k = length-saved c.self.inside.slots.saved c.self.inside.restricted.saved c.self.invariant.together in
+    let k = length-saved c.self.inside.roles.saved c.self.inside.restricted.saved c.self.invariant.together in
     rw (← c.self.view_is) (omega (arith, k, c.self.invariant.together, c.forget.ensures.room, c.forget-2.ensures.room))

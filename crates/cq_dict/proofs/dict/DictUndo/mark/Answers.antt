@@ -4,17 +4,17 @@ use Rattle.cq_dict.proofs.dict.DictUndo.mark.Goals as goal
 
 pub invariant_of-self : goal.invariant_of-self
 invariant_of-self c =
-    let slots = rw c.unwrap-m.ensures at c.mark.ensures.saved in
+    let roles = rw c.unwrap-m.ensures at c.mark.ensures.saved in
     let flags = rw c.unwrap.ensures at c.mark-2.ensures.saved in
-    rw (slots, flags, c.mark.ensures.now, c.mark-2.ensures.now) (marked_more _ _ _ _ c.self.invariant)
+    rw (roles, flags, c.mark.ensures.now, c.mark-2.ensures.now) (marked_more _ _ _ _ c.self.invariant)
 
 pub returns-clause-mark : goal.returns-clause-mark
 returns-clause-mark c =
     let number = rw c.unwrap-m.ensures at c.mark.ensures.mark in
-    rw (← c.reserve.ensures.saved, ← c.self.view_is) (number ∙ sym (length-saved c.self.inside.slots.saved c.self.inside.restricted.saved c.self.invariant.together))
+    rw (← c.reserve.ensures.saved, ← c.self.view_is) (number ∙ sym (length-saved c.self.inside.roles.saved c.self.inside.restricted.saved c.self.invariant.together))
 
 pub returns-clause-saved : goal.returns-clause-saved
 returns-clause-saved c =
-    let slots = rw c.unwrap-m.ensures at c.mark.ensures.saved in
+    let roles = rw c.unwrap-m.ensures at c.mark.ensures.saved in
     let flags = rw c.unwrap.ensures at c.mark-2.ensures.saved in
-    rw (← c.reserve.ensures.saved, ← c.reserve.ensures.now, ← c.self.view_is, slots, flags) (saved_push c.self.inside.slots.saved c.self.inside.restricted.saved _ _ c.self.invariant.together)
+    rw (← c.reserve.ensures.saved, ← c.reserve.ensures.now, ← c.self.view_is, roles, flags) (saved_push c.self.inside.roles.saved c.self.inside.restricted.saved _ _ c.self.invariant.together)

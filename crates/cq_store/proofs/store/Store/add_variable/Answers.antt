@@ -9,7 +9,7 @@ use Rattle.cq_store.proofs.store.Store.add_variable.Goals as goal
 
 pub invariant_of-self-2 : goal.invariant_of-self-2
 invariant_of-self-2 c =
-    subst (IsStored c.self.inside.told.items) (sym (ap₂ (λ n s. record { names = n; slots = s }) c.in_ok-add_variable.ensures.names c.in_ok-add_variable.ensures.slots))
+    subst (IsStored c.self.inside.told.items) (sym (ap₂ (λ n s. record { names = n; roles = s }) c.in_ok-add_variable.ensures.names c.in_ok-add_variable.ensures.roles))
     (variable_joins c.self.inside.table.now c.self.invariant.named c.args.x (rw (← c.self.view_is) at c.requires) c.self.inside.told.items c.self.invariant)
 
 pub returns-clause-order : goal.returns-clause-order
@@ -18,5 +18,5 @@ returns-clause-order c = rw (← c.self.view_is) (ap variables_of c.in_ok-add_va
 pub returns-clause-solved : goal.returns-clause-solved
 returns-clause-solved c = λ y.
     rw (← c.self.view_is)
-    (ap (λ t. solved_in t y) (ap₂ (λ n s. record { names = n; slots = s }) c.in_ok-add_variable.ensures.names c.in_ok-add_variable.ensures.slots)
+    (ap (λ t. solved_in t y) (ap₂ (λ n s. record { names = n; roles = s }) c.in_ok-add_variable.ensures.names c.in_ok-add_variable.ensures.roles)
     ∙ variable_solved c.self.inside.table.now c.self.invariant.named c.args.x (rw (← c.self.view_is) at c.requires) y)

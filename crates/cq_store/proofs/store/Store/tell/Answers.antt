@@ -2,7 +2,7 @@
 use Rattle.std.proofs.Common.{◌≡◌, [], ◌∷◌, ◌++◌, List, ap, ap₂, sym, subst, ◌∙◌}
 use Rattle.spec_linear.specs.Solution.{Constraint}
 use Rattle.cq_store.specs.Contents.{Named, Contents, IsStored}
-use Rattle.cq_store.specs.Entering.{Enters, IsRefused, Meets}
+use Rattle.cq_store.specs.Entering.{TakesEquation, IsRefused, EnteringPair}
 use Rattle.cq_store.specs.Told.{numbers_of}
 use Rattle.cq_store.proofs.Solved.{solved_form}
 use Rattle.cq_store.proofs.Gained.{told_stored, told_fixed, told_order, told_solvable, told_unsolvable, call_makes, moved_err}
@@ -13,10 +13,10 @@ use Rattle.cq_store.proofs.store.Store.tell.Goals.{After-unwrap, After-undo, Aft
 told_is : (c : After-unwrap) → c.push.new.self.items ≡ c.self.inside.told.items ++ c.args.c ∷ []
 told_is c = (rw c.unwrap.ensures at c.push.ensures.items) ∙ ap (λ l. l ++ c.args.c ∷ []) c.reserve.ensures.items
 
-entered : (c : After-unwrap) → Enters c.self.inside.table.now c.c.inside.form (numbers_of c.in-Ok-Joined.fixed.items) c.forget.new.self.now
+entered : (c : After-unwrap) → TakesEquation c.self.inside.table.now c.c.inside.form (numbers_of c.in-Ok-Joined.fixed.items) c.forget.new.self.now
 entered c =
-    subst (λ t. Enters c.self.inside.table.now c.c.inside.form (numbers_of c.in-Ok-Joined.fixed.items) t) (sym c.forget.ensures.now)
-    (subst (λ t. Enters t c.c.inside.form (numbers_of c.in-Ok-Joined.fixed.items) c.enter.new.table.now) c.mark.ensures.now (rw c.in-Ok-Joined.field-0-is at c.in-Ok-Joined.ensures.joined))
+    subst (λ t. TakesEquation c.self.inside.table.now c.c.inside.form (numbers_of c.in-Ok-Joined.fixed.items) t) (sym c.forget.ensures.now)
+    (subst (λ t. TakesEquation t c.c.inside.form (numbers_of c.in-Ok-Joined.fixed.items) c.enter.new.table.now) c.mark.ensures.now (rw c.in-Ok-Joined.field-0-is at c.in-Ok-Joined.ensures.joined))
 
 undone : (c : After-undo) → c.undo.new.self.now ≡ c.self.inside.table.now
 undone c = newest c.self.inside.table.saved c.self.inside.table.now c.in_ok-start.start.number c.in_ok-start.ensures.mark c.enter.new.table.saved (c.enter.ensures.saved ∙ c.in_ok-start.ensures.saved) c.undo.new.self.now c.undo.ensures.now
@@ -86,7 +86,7 @@ returns-in-Ok-Contradiction-clause-solved c =
 pub returns-in-Err-clause-overflow : goal.returns-in-Err-clause-overflow
 returns-in-Err-clause-overflow c = λ pair e.
     let p = c.in-Err.ensures.overflow pair (moved_err c.in-Err.fault _ e) in
-    let met = subst (λ t. Meets t c.c.inside.form pair.operation pair.left pair.right) c.mark.ensures.now p.0 in
+    let met = subst (λ t. EnteringPair t c.c.inside.form pair.operation pair.left pair.right) c.mark.ensures.now p.0 in
     rw (← c.self.view_is) (call_makes c.self.inside.told.items c.self.inside.table.now c.self.invariant c.args.c c.requires c.c.inside.form (ap (λ (z : Constraint). z.form) c.c.view_is) c.in-Err.ensures.in_order pair met p.1)
 
 pub returns-in-Err-clause-err : goal.returns-in-Err-clause-err

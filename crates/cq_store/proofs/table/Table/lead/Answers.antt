@@ -11,4 +11,4 @@ constant-requires c = rw (← c.self.view_is) at c.requires
 pub returns : goal.returns
 returns c = λ own h.
     let a = rw (← c.self.view_is) at h in
-    (c.constant.ensures own a, c.copied-first.ensures ∙ c.first.ensures.value ∙ ap (λ s. slice_get s 0) (c.row.ensures own a))
+    (c.constant.ensures own a, c.copied-first.ensures ∙ c.first.ensures.value ∙ ap (λ s. slice_get s 0) (c.row.ensures.entries own a))

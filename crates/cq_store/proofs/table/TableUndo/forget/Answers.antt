@@ -1,7 +1,7 @@
 -- The names stay.
 use Rattle.std.proofs.Common.{◌∙◌, ap, map, sym, subst}
 use Rattle.std.specs.List.{take-map}
-use Rattle.cq_dict.specs.Table.{Quantities}
+use Rattle.cq_dict.specs.Roles.{Quantities}
 use Rattle.cq_store.specs.Contents.{AreNamed}
 use Rattle.cq_store.specs.Marked.{named_at}
 use Rattle.cq_store.proofs.Marks.{marks_forget}
@@ -9,7 +9,7 @@ use Rattle.cq_store.proofs.table.TableUndo.forget.Goals as goal
 
 pub invariant_of-self : goal.invariant_of-self
 invariant_of-self c = record {
-  named = subst (λ (q : Quantities). AreNamed (record { names = c.self.inside.names.items; slots = q.slots })) (sym c.forget.ensures.now) c.self.invariant.named;
+  named = subst (λ (q : Quantities). AreNamed (record { names = c.self.inside.names.items; roles = q.roles })) (sym c.forget.ensures.now) c.self.invariant.named;
   entries_are = c.self.invariant.entries_are;
   marks = marks_forget c.self.inside.names.items c.self.inside.dict.saved c.self.invariant.marks c.args.m.number c.forget.new.self.saved c.forget.ensures.saved;
 }

@@ -1,16 +1,16 @@
 -- The names of the mark are the first ones still.
 use Rattle.std.proofs.Common.{◌≡◌, ◌∙◌, ap, length, take}
 use Rattle.std.proofs.lemmas.List.{length-map}
-use Rattle.cq_dict.specs.Table.{Quantities}
+use Rattle.cq_dict.specs.Roles.{Quantities}
 use Rattle.cq_store.proofs.Marks.{marks_undo, saved_undo, saved_at}
 use Rattle.cq_store.proofs.table.TableUndo.undo.Goals as goal
 use Rattle.cq_store.proofs.table.TableUndo.undo.Goals.{After-shorten}
 
-then_is : (c : After-shorten) → c.shorten.new.names.items ≡ take (length c.undo.new.self.slots) c.self.inside.names.items
+then_is : (c : After-shorten) → c.shorten.new.names.items ≡ take (length c.undo.new.self.roles) c.self.inside.names.items
 then_is c = c.shorten.ensures.names ∙ ap (λ k. take k c.self.inside.names.items) c.count.ensures.value
 
 abbrev at : After-shorten → Quantities
-at c = record { slots = c.undo.new.self.slots; restricted = c.undo.new.self.restricted }
+at c = record { roles = c.undo.new.self.roles; restricted = c.undo.new.self.restricted }
 
 pub undo-requires : goal.undo-requires
 undo-requires c = rw length-map at (rw (← c.self.view_is) at c.requires)
