@@ -1,8 +1,7 @@
 -- The text of a sum, product by product, and of a row, piece by piece.
-use Rattle.std.proofs.Common.{◌≡◌, ◌≢◌, ℕ, suc, ℤ, ◌<ℤ◌, ◌-◌, ◌+◌, ◌<◌, List, [], ◌∷◌, ◌++◌, Bool, true, false, cond, codes, length, take, drop, ◌≤◌, get_or, map, refl, sym, ap, subst, ◌∙◌, arith, eqb-true, eq-eqb, ◌==◌, ◌&&◌}
+use Rattle.std.proofs.Common.{◌≡◌, ◌≢◌, ℕ, suc, ℤ, ◌<ℤ◌, ◌-◌, ◌+◌, ◌<◌, List, [], ◌∷◌, ◌++◌, Bool, true, false, cond, codes, length, take, drop, ◌≤◌, get_or, map, refl, sym, ap, subst, ◌∙◌, arith, eqb-true, ◌==◌, ◌&&◌}
 use Rattle.std.specs.Ordering.{int_eq, int_cmp, is_eq, MatchOrdering}
 use Rattle.std.proofs.Common.{Ordering, Less, Equal, Greater}
-use Rattle.std.specs.Cmp.{int_eq_equiv}
 use Rattle.std.proofs.lemmas.Cmp.{int_ranked}
 use Rattle.std.proofs.lemmas.List.{take_all, take_more, map-append}
 use Rattle.spec_rational.specs.Gcd.{gcd}
@@ -15,7 +14,7 @@ use Rattle.spec_lists.specs.Texts.{Text}
 use Rattle.spec_writing.specs.Numbers.{number_text}
 use Rattle.spec_answers.specs.RowText.{same_number, joined, product_text, sum_onto, linear_text}
 use Rattle.cq_frac.specs.declared.VarId.{VarId}
-use Rattle.cq_project.specs.Rows.{product_of}
+use Rattle.cq_project.specs.Rows.{monomial_of}
 use Rattle.cq_answer.specs.Coefficient.{coefficient_text}
 
 -- ---- the coefficient
@@ -35,12 +34,6 @@ int_same x y e = go (int_cmp x y) (int_ranked x y (int_cmp x y) refl) e
 
 same_true : (p q : ℚ) → same_number p q ≡ true → p ≡ q
 same_true p q e = let h = both (int_eq p.numerator q.numerator) (p.below == q.below) e in ℚ_same p q (int_same p.numerator q.numerator h.0) (eqb-true p.below q.below h.1)
-
-same_itself : (q : ℚ) → same_number q q ≡ true
-same_itself q = ap (λ b. b && (q.below == q.below)) (int_eq_equiv.refl q.numerator) ∙ eq-eqb q.below q.below refl
-
-same_of : (p q : ℚ) → p ≡ q → same_number p q ≡ true
-same_of p q e = subst (λ r. same_number p r ≡ true) e (same_itself p)
 
 same_false : (p q : ℚ) → p ≢ q → same_number p q ≡ false
 same_false p q ne = go (same_number p q) refl
@@ -80,12 +73,12 @@ module _ (name : ℕ → Text) where
   sum_push sum (n ∷ ms) m = sum_push (joined sum (product_text name n)) ms m
 
   -- the next product
-  pub sum_more : (sum : Text) (ps : List (VarId × ℚ)) (i : ℕ) (p : VarId × ℚ) (text piece new : Text) → i < length ps → p ≡ get_or ps i p → text ≡ sum_onto name sum (map product_of (take i ps)) →
-      piece ≡ product_text name (product_of p) → new ≡ joined text piece → new ≡ sum_onto name sum (map product_of (take (i + 1) ps))
+  pub sum_more : (sum : Text) (ps : List (VarId × ℚ)) (i : ℕ) (p : VarId × ℚ) (text piece new : Text) → i < length ps → p ≡ get_or ps i p → text ≡ sum_onto name sum (map monomial_of (take i ps)) →
+      piece ≡ product_text name (monomial_of p) → new ≡ joined text piece → new ≡ sum_onto name sum (map monomial_of (take (i + 1) ps))
   sum_more sum ps i p text piece new l e t q n =
-      n ∙ ap (λ s. joined s piece) t ∙ ap (joined (sum_onto name sum (map product_of (take i ps)))) q
-      ∙ sym (sum_push sum (map product_of (take i ps)) (product_of p)) ∙ ap (sum_onto name sum) (sym (map-append product_of (take i ps) (p ∷ [])))
-      ∙ ap (λ s. sum_onto name sum (map product_of s)) (sym (take_more ps i p l ∙ ap (λ r. take i ps ++ r ∷ []) (sym e)))
+      n ∙ ap (λ s. joined s piece) t ∙ ap (joined (sum_onto name sum (map monomial_of (take i ps)))) q
+      ∙ sym (sum_push sum (map monomial_of (take i ps)) (monomial_of p)) ∙ ap (sum_onto name sum) (sym (map-append monomial_of (take i ps) (p ∷ [])))
+      ∙ ap (λ s. sum_onto name sum (map monomial_of s)) (sym (take_more ps i p l ∙ ap (λ r. take i ps ++ r ∷ []) (sym e)))
 
   -- the constant is left away
   without_constant : (m : Monomial) (ms : List Monomial) (q : ℚ) → q ≡ 0ℚ → sum_onto name (product_text name m) ms ≡ linear_text name (m ∷ ms) q
@@ -107,10 +100,10 @@ module _ (name : ℕ → Text) where
   first_and_rest (p ∷ ps) first l e = ap (λ r. r ∷ ps) (sym e)
 
   module _ (ps : List (VarId × ℚ)) (first : VarId × ℚ) (q : ℚ) (text : Text) (l : 1 ≤ length ps) (e : first ≡ get_or ps 0 first)
-      (t : text ≡ sum_onto name (product_text name (product_of first)) (map product_of (drop 1 ps))) where
-    pub products_alone : q ≡ 0ℚ → text ≡ linear_text name (map product_of ps) q
-    products_alone z = t ∙ without_constant (product_of first) (map product_of (drop 1 ps)) q z ∙ ap (λ xs. linear_text name (map product_of xs) q) (sym (first_and_rest ps first l e))
+      (t : text ≡ sum_onto name (product_text name (monomial_of first)) (map monomial_of (drop 1 ps))) where
+    pub products_alone : q ≡ 0ℚ → text ≡ linear_text name (map monomial_of ps) q
+    products_alone z = t ∙ without_constant (monomial_of first) (map monomial_of (drop 1 ps)) q z ∙ ap (λ xs. linear_text name (map monomial_of xs) q) (sym (first_and_rest ps first l e))
 
-    pub products_and_constant : q ≢ 0ℚ → joined text (number_text q) ≡ linear_text name (map product_of ps) q
+    pub products_and_constant : q ≢ 0ℚ → joined text (number_text q) ≡ linear_text name (map monomial_of ps) q
     products_and_constant z =
-        ap (λ s. joined s (number_text q)) t ∙ with_constant (product_of first) (map product_of (drop 1 ps)) q z ∙ ap (λ xs. linear_text name (map product_of xs) q) (sym (first_and_rest ps first l e))
+        ap (λ s. joined s (number_text q)) t ∙ with_constant (monomial_of first) (map monomial_of (drop 1 ps)) q z ∙ ap (λ xs. linear_text name (map monomial_of xs) q) (sym (first_and_rest ps first l e))

@@ -4,7 +4,7 @@ ghost use Rattle.std.specs.Prelude.{◌≡◌, ◌++◌, map, codes, IfOk, OnOk}
 ghost use Rattle.spec_equations.specs.Answer.{name_among, row_line};
 ghost use Rattle.spec_answers.specs.RowText.{begins_with_minus as has_minus, joined, product_text, sum_onto, linear_text as sum_text};
 ghost use Rattle.cq_answer.specs.Coefficient.{coefficient_text};
-ghost use Rattle.cq_project.specs.Rows.{product_of, solved_of};
+ghost use Rattle.cq_project.specs.Rows.{monomial_of, solved_of};
 
 use crate::numbers::push_number;
 use cq_frac::{Frac, VarId};
@@ -64,7 +64,7 @@ fn push_product(
     names: &[VariableName],
     product: (VarId, Frac),
 ) -> Result<(), AllocError>
-    ensures { OnOk result (out.new.items ≡ out.old.items ++ product_text (name_among names.now) (product_of product)) }
+    ensures { OnOk result (out.new.items ≡ out.old.items ++ product_text (name_among names.now) (monomial_of product)) }
 {
     let (variable, factor) = product;
     push_coefficient(out, factor)?;
@@ -78,7 +78,7 @@ fn add_products(
     names: &[VariableName],
     products: &[(VarId, Frac)],
 ) -> Result<(), AllocError>
-    ensures { OnOk result (sum.new.items ≡ sum_onto (name_among names.now) sum.old.items (map product_of products.now)) }
+    ensures { OnOk result (sum.new.items ≡ sum_onto (name_among names.now) sum.old.items (map monomial_of products.now)) }
 {
     let mut piece = Vec::new(alloc);
     'products: for product in products {
@@ -96,7 +96,7 @@ fn linear_text(
     products: &[(VarId, Frac)],
     constant: Frac,
 ) -> Result<Vec<u8>, AllocError>
-    ensures { IfOk result (λ text. text.items ≡ sum_text (name_among names.now) (map product_of products.now) constant) }
+    ensures { IfOk result (λ text. text.items ≡ sum_text (name_among names.now) (map monomial_of products.now) constant) }
 {
     let mut text = Vec::new(alloc);
     let [first, others @ ..] = products else {

@@ -248,9 +248,9 @@ module _ (roles : List Role) (leaving column : ℕ) (row : Row) (p : ℚ)
               leaves = subst (IsAt new leaving) (a.2.leaves refl) a.1;
               enters = (e.0, subst (IsAt new column) e.1 b.1);
               others = λ j n k. one_kind roles new j
-                ((λ h. let t = go_to j Live h in subst (IsAt new j) (t.2.live n k refl) t.1), (λ h. let f = come_from j Live h in was_live j f.0 f.1 f.2 n k))
-                ((λ h. let t = go_to j Dropped h in subst (IsAt new j) (t.2.dropped n k refl) t.1), (λ h. let f = come_from j Dropped h in was_dropped j f.0 f.1 f.2 n k))
-                ((λ h. let t = go_to j (Basic h.0) h.1 in let r = t.2.row n k h.0 refl in (r.0, subst (IsAt new j) r.1 t.1)), (λ h. let f = come_from j (Basic h.0) h.1 in was_row j h.0 f.0 f.1 f.2 n k));
+                  ((λ h. let t = go_to j Live h in subst (IsAt new j) (t.2.live n k refl) t.1), (λ h. let f = come_from j Live h in was_live j f.0 f.1 f.2 n k))
+                  ((λ h. let t = go_to j Dropped h in subst (IsAt new j) (t.2.dropped n k refl) t.1), (λ h. let f = come_from j Dropped h in was_dropped j f.0 f.1 f.2 n k))
+                  ((λ h. let t = go_to j (Basic h.0) h.1 in let r = t.2.row n k h.0 refl in (r.0, subst (IsAt new j) r.1 t.1)), (λ h. let f = come_from j (Basic h.0) h.1 in was_row j h.0 f.0 f.1 f.2 n k));
             }
 
         new_live : (y : ℕ) → also leaving (except column (is_live roles)) y ≡ true → is_live new y ≡ true

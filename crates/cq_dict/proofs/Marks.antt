@@ -2,21 +2,10 @@
 use Rattle.std.proofs.Common.{◌≡◌, ℕ, zero, suc, ◌<◌, List, [], ◌∷◌, ◌++◌, length, Bool, Some, refl, ap, ap₂, take, arith, inl, inr, length-append, length-take, ◌⊎◌}
 use Rattle.std.proofs.lemmas.Option.{none-some, same_Some, slice_get_within}
 use Rattle.std.specs.Prelude.{slice_get}
+use Rattle.spec_lists.proofs.Places.{get_push, get_take}
 use Rattle.cq_dict.specs.declared.table.Role.{Role}
 use Rattle.cq_dict.specs.Roles.{AreQuantities}
 use Rattle.cq_dict.specs.DictValue.{saved_quantities, AreMarked}
-
-pub get_take : {X : Type 0} (n k : ℕ) (ys : List X) (y : X) → slice_get (take n ys) k ≡ Some y → slice_get ys k ≡ Some y
-get_take zero k ys y e = absurd (none-some y e)
-get_take (suc n) k [] y e = absurd (none-some y e)
-get_take (suc n) zero (z ∷ ys) y e = e
-get_take (suc n) (suc k) (z ∷ ys) y e = get_take n k ys y e
-
-pub get_push : {X : Type 0} (xs : List X) (x : X) (k : ℕ) (y : X) → slice_get (xs ++ x ∷ []) k ≡ Some y → (slice_get xs k ≡ Some y) ⊎ ((k ≡ length xs) × (x ≡ y))
-get_push [] x zero y e = inr (refl, same_Some x y e)
-get_push [] x (suc k) y e = absurd (none-some y e)
-get_push (z ∷ xs) x zero y e = inl e
-get_push (z ∷ xs) x (suc k) y e = elim (get_push xs x k y e) [ inl h ↦ inl h | inr h ↦ inr (ap suc h.0, h.1) ]
 
 pub saved_take : (n : ℕ) (ss : List (List Role)) (fs : List (List Bool)) → saved_quantities (take n ss) (take n fs) ≡ take n (saved_quantities ss fs)
 saved_take zero ss fs = refl
@@ -67,5 +56,5 @@ module _ (roles : List Role) (flags : List Bool) (ss : List (List Role)) (fs : L
   marked_take n roles' flags' now = record {
     now = now;
     together = simp (length-take) (omega (arith, are.together));
-    marks = λ k s f p q. are.marks k s f (get_take n k ss s p) (get_take n k fs f q);
+    marks = λ k s f p q. are.marks k s f (get_take n k ss s p).0 (get_take n k fs f q).0;
   }

@@ -99,9 +99,9 @@ module _ (turn : Turn) (roles : List Role) (column : ℕ) (table : AreOverColumn
         size = written.size;
         own = subst (IsAt new column) (a.2.own refl) a.1;
         others = λ j n. one_kind roles new j
-          ((λ h. let t = go_to j Live h in subst (IsAt new j) (t.2.live n refl) t.1), (λ h. let f = come_from j Live h in was_live j f.0 f.1 f.2 n))
-          ((λ h. let t = go_to j Dropped h in subst (IsAt new j) (t.2.dropped n refl) t.1), (λ h. let f = come_from j Dropped h in was_dropped j f.0 f.1 f.2 n))
-          ((λ h. let t = go_to j (Basic h.0) h.1 in let r = t.2.row n h.0 refl in (r.0, subst (IsAt new j) r.1 t.1)), (λ h. let f = come_from j (Basic h.0) h.1 in was_row j h.0 f.0 f.1 f.2 n));
+            ((λ h. let t = go_to j Live h in subst (IsAt new j) (t.2.live n refl) t.1), (λ h. let f = come_from j Live h in was_live j f.0 f.1 f.2 n))
+            ((λ h. let t = go_to j Dropped h in subst (IsAt new j) (t.2.dropped n refl) t.1), (λ h. let f = come_from j Dropped h in was_dropped j f.0 f.1 f.2 n))
+            ((λ h. let t = go_to j (Basic h.0) h.1 in let r = t.2.row n h.0 refl in (r.0, subst (IsAt new j) r.1 t.1)), (λ h. let f = come_from j (Basic h.0) h.1 in was_row j h.0 f.0 f.1 f.2 n));
       }
 
   live_stays : (y : ℕ) → is_live roles y ≡ true → (y ≡ column → ⊥) → is_live new y ≡ true

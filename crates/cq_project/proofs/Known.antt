@@ -7,16 +7,11 @@ use Rattle.spec_rational.specs.Sums.{Monomial, Mentions}
 use Rattle.spec_linear.specs.Solution.{Constraint, Has, SomeMentions}
 use Rattle.spec_echelon.specs.Echelon.{AreDistinct}
 use Rattle.cq_frac.specs.declared.VarId.{VarId}
+use Rattle.spec_lists.proofs.Tests.{nat_eq-same, nat_eq-other}
 use Rattle.spec_rational.specs.Rational.{ℚ}
 use Rattle.cq_form.specs.Pairs.{product_of, products_of}
 use Rattle.cq_store.specs.Told.{numbers_of}
 use Rattle.cq_project.specs.Rows.{Knows}
-
-nat_same : (a b : ℕ) → nat_eq a b ≡ true → a ≡ b
-nat_same a b e = grind arith
-
-nat_other : (a b : ℕ) → nat_eq a b ≡ false → a ≡ b → ⊥
-nat_other a b e h = grind arith
 
 has_front : (ps qs : List VarId) (x : ℕ) → Has x (numbers_of ps) → Has x (numbers_of (ps ++ qs))
 has_front [] qs x h = absurd h
@@ -68,7 +63,7 @@ module _ (eq : VarId → VarId → Bool) (same : (a b : VarId) → eq a b ≡ na
   any_has (k ∷ ks) x h = go (eq x k) refl (any_has ks x) h
     where
       go : (b : Bool) → eq x k ≡ b → (list_any (eq x) ks ≡ true → Has x.0 (numbers_of ks)) → (b || list_any (eq x) ks) ≡ true → Has x.0 (numbers_of (k ∷ ks))
-      go true e r h = inl (nat_same x.0 k.0 (sym (same x k) ∙ e))
+      go true e r h = inl (nat_eq-same x.0 k.0 (sym (same x k) ∙ e))
       go false e r h = inr (r h)
 
   none_has : (ks : List VarId) (x : VarId) → list_any (eq x) ks ≡ false → Has x.0 (numbers_of ks) → ⊥
@@ -77,7 +72,7 @@ module _ (eq : VarId → VarId → Bool) (same : (a b : VarId) → eq a b ≡ na
     where
       go : (b : Bool) → eq x k ≡ b → (list_any (eq x) ks ≡ false → Has x.0 (numbers_of ks) → ⊥) → (b || list_any (eq x) ks) ≡ false → Has x.0 (numbers_of (k ∷ ks)) → ⊥
       go true e r h m = cc
-      go false e r h (inl i) = nat_other x.0 k.0 (sym (same x k) ∙ e) i
+      go false e r h (inl i) = nat_eq-other x.0 k.0 (sym (same x k) ∙ e) i
       go false e r h (inr m) = r h m
 
   -- a key that is there, or one more

@@ -11,13 +11,13 @@ use Rattle.spec_echelon.specs.SolvedForm.{row_at, rows_of}
 use Rattle.cq_frac.specs.declared.VarId.{VarId}
 use Rattle.cq_project.specs.declared.Equation.{Equation}
 use Rattle.cq_store.specs.Told.{numbers_of}
-use Rattle.cq_project.specs.Rows.{product_of, solved_of, equations_of}
+use Rattle.cq_project.specs.Rows.{monomial_of, solved_of, equations_of}
 
 -- one more product
-pub places_more : (s : List Monomial) (items new : List (VarId × ℚ)) (i : ℕ) (p : VarId × ℚ) → map product_of items ≡ take i s → i < length s → slice_get s i ≡ Some (product_of p) → new ≡ items ++ p ∷ [] → map product_of new ≡ take (i + 1) s
+pub places_more : (s : List Monomial) (items new : List (VarId × ℚ)) (i : ℕ) (p : VarId × ℚ) → map monomial_of items ≡ take i s → i < length s → slice_get s i ≡ Some (monomial_of p) → new ≡ items ++ p ∷ [] → map monomial_of new ≡ take (i + 1) s
 places_more s items new i p h l g n =
-    ap (map product_of) n ∙ map-append product_of items (p ∷ []) ∙ ap (λ t. t ++ product_of p ∷ []) h
-    ∙ ap (λ m. take i s ++ m ∷ []) (sym (got s i (product_of p) g)) ∙ sym (take_more s i (product_of p) l)
+    ap (map monomial_of) n ∙ map-append monomial_of items (p ∷ []) ∙ ap (λ t. t ++ monomial_of p ∷ []) h
+    ∙ ap (λ m. take i s ++ m ∷ []) (sym (got s i (monomial_of p) g)) ∙ sym (take_more s i (monomial_of p) l)
   where
     got : (s : List Monomial) (i : ℕ) (m : Monomial) → slice_get s i ≡ Some m → get_or s i m ≡ m
     got [] i m e = refl

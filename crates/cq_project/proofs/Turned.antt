@@ -5,7 +5,7 @@ use Rattle.std.proofs.lemmas.List.{take_more, take_all, take-append-drop, length
 use Rattle.std.proofs.Math.Seq.{drop-append_seam}
 use Rattle.spec_rational.specs.Sums.{Monomial, Mentions}
 use Rattle.spec_linear.specs.declared.Relation.TheVariants.{Eq}
-use Rattle.spec_linear.specs.Solution.{Constraint, Has, SomeMentions, AreEquations, Solves, Solvable, Unsolvable}
+use Rattle.spec_linear.specs.Solution.{Constraint, Has, SomeMentions, MentionsOnly, AreEquations, Solves, Solvable, Unsolvable}
 use Rattle.spec_echelon.specs.Echelon.{AreDistinct, variables}
 use Rattle.cq_frac.specs.declared.VarId.{VarId}
 use Rattle.cq_store.specs.Told.{numbers_of}
@@ -111,22 +111,23 @@ none_new order (m ∷ s) h =
     ∙ none_new order s (λ x k. h x (inr k))
 
 -- the order stays where a constraint mentions known variables alone
-pub order_stays : (keep : List VarId) (told : List Constraint) (i : ℕ) (c : Constraint) (order new : List ℕ) → IsOrdered keep told order → i < length told → c ≡ get_or told i c → new ≡ order ++ filter (λ x. not (list_any (nat_eq x) order)) (variables c.form.products) → IsOrdered keep told new
-order_stays keep told i c order new o l e n =
-    subst (IsOrdered keep told)
-    (sym (n ∙ ap (λ t. order ++ t) (none_new order c.form.products (λ x m. o.all x (subst (SomeMentions x) (sym (parted told i c l e)) (some_behind (take i told) c (drop (i + 1) told) x m)))) ∙ append-nil order)) o
+pub order_stays : (told : List Constraint) (i : ℕ) (c : Constraint) (order new : List ℕ) → MentionsOnly order told → i < length told → c ≡ get_or told i c →
+    new ≡ order ++ filter (λ x. not (list_any (nat_eq x) order)) (variables c.form.products) → new ≡ order
+order_stays told i c order new all l e n =
+    n ∙ ap (λ t. order ++ t) (none_new order c.form.products (λ x m. all x (subst (SomeMentions x) (sym (parted told i c l e)) (some_behind (take i told) c (drop (i + 1) told) x m))))
+    ∙ append-nil order
   where
     some_behind : (before : List Constraint) (c : Constraint) (after : List Constraint) (x : ℕ) → Mentions x c.form.products → SomeMentions x (before ++ c ∷ after)
     some_behind [] c after x m = inl m
     some_behind (d ∷ before) c after x m = inr (some_behind before c after x m)
 
 -- a list that begins with one that has no solution has none
-pub no_solution : (told : List Constraint) (i : ℕ) (c : Constraint) → i < length told → c ≡ get_or told i c → Unsolvable (take i told ++ c ∷ []) → Solvable told → ⊥
-no_solution told i c l e u s =
+pub no_solution : (told : List Constraint) (i : ℕ) (c : Constraint) → i < length told → c ≡ get_or told i c → Unsolvable (take i told ++ c ∷ []) → Unsolvable told
+no_solution told i c l e u p s =
     let split : told ≡ (take i told ++ c ∷ []) ++ drop (i + 1) told = parted told i c l e ∙ sym (append_assoc (take i told) (c ∷ []) (drop (i + 1) told)) in
-    u s.0 (front (take i told ++ c ∷ []) (drop (i + 1) told) (subst (Solves s.0) split s.1))
+    u p (front (take i told ++ c ∷ []) (drop (i + 1) told) (subst (Solves p) split s))
   where
-    front : (l m : List Constraint) → Solves s.0 (l ++ m) → Solves s.0 l
+    front : (l m : List Constraint) → Solves p (l ++ m) → Solves p l
     front [] m h = tt
     front (d ∷ l) m h = (h.0, front l m h.1)
 

@@ -10,12 +10,12 @@ use Rattle.cq_store.specs.Told.{numbers_of, CallMakes}
 use Rattle.cq_project.specs.declared.Equation.{Equation}
 
 -- a variable and its factor
-abbrev pub product_of : VarId × ℚ → Monomial
-product_of p = record { variable = p.0.0; factor = p.1 }
+abbrev pub monomial_of : VarId × ℚ → Monomial
+monomial_of p = record { variable = p.0.0; factor = p.1 }
 
 -- the equation that a row is
 abbrev pub solved_of : Equation → Solved
-solved_of e = record { variable = e.variable.0; form = record { products = map product_of e.products.items; constant = e.constant } }
+solved_of e = record { variable = e.variable.0; form = record { products = map monomial_of e.products.items; constant = e.constant } }
 
 -- the equations that the rows are
 abbrev pub equations_of : List Equation → List Solved

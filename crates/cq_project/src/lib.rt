@@ -2,8 +2,8 @@
 //! reduced echelon form over these variables, by exchanges of a dictionary in which the other variables come first.
 #![tactic(auto)]
 
-ghost use Rattle.std.specs.Prelude.{◌≡◌, ℕ, [], ◌∷◌, ◌++◌, IfOk, OnOk, OnErr};
-ghost use Rattle.spec_linear.specs.Solution.{Solvable, AreEquations, Same};
+ghost use Rattle.std.specs.Prelude.{◌≡◌, ℕ, [], ◌∷◌, ◌++◌, IfOk, OnOk, OnErr, MatchBool};
+ghost use Rattle.spec_linear.specs.Solution.{Solvable, Unsolvable, AreEquations, MentionsOnly, Same};
 ghost use Rattle.spec_echelon.specs.Echelon.{AreDistinct, IsEchelon, equations};
 ghost use Rattle.spec_echelon.specs.SolvedForm.{rows_of, IsSolvedForm};
 ghost use Rattle.cq_store.specs.Contents.{told_of, order_of, solved_of as solution_of};
@@ -120,6 +120,28 @@ fn ordered(
     Ok(store)
 }
 
+/// Tells the equations, in their order, to a store that has been told nothing. Where they have no solution, just those in
+/// front of the one that shows it are told.
+pub fn tell_all(store: &mut Store, told: &[Constraint]) -> Result<bool, StoreFault>
+    requires new { told_of store.old ≡ [] }
+    requires equations { AreEquations told.now }
+    ensures kept { IfOk result (λ kept. MatchBool kept (told_of store.new ≡ told.now) (Unsolvable told.now)) }
+    ensures order { MentionsOnly (order_of store.old) told.now → OnOk result (order_of store.new ≡ order_of store.old) }
+    ensures overflow { (pair : Pair) → result ≡ Err (StoreFault.Overflow pair) → ProjectionMakes told.now pair }
+    // Equations are eliminated by exchanges that no budget counts.
+    ensures pivots { (n : ℕ) → result ≡ Err (StoreFault.Pivots n) → ⊥ }
+{
+    'members: for c in told {
+        let c = c.clone()?;
+        match store.tell(c) {
+            Ok(Told::Kept(_)) => continue,
+            Ok(Told::Unsolvable(_)) => return Ok(false),
+            Err(fault) => return Err(fault),
+        }
+    }
+    Ok(true)
+}
+
 /// The store that has been told the constraints.
 fn solved(
     alloc: Global,
@@ -136,16 +158,12 @@ fn solved(
     ensures pivots { (n : ℕ) → result ≡ Err (ProjectFault.Pivots n) → ⊥ }
 {
     let mut store = ordered(alloc, told, keep, pivots)?;
-    'members: for c in told {
-        let c = c.clone()?;
-        match store.tell(c) {
-            Ok(Told::Kept(_)) => continue,
-            // A part of a list that has a solution has one.
-            Ok(Told::Unsolvable(_)) => unreachable!(),
-            Err(fault) => return Err(ProjectFault::from(fault)),
-        }
+    match tell_all(&mut store, told) {
+        Ok(true) => Ok(store),
+        // A list that has a solution is kept whole.
+        Ok(false) => unreachable!(),
+        Err(fault) => Err(ProjectFault::from(fault)),
     }
-    Ok(store)
 }
 
 /// The equation that a variable is solved for.

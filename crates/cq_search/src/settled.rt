@@ -7,7 +7,8 @@ ghost use Rattle.cq_store.specs.Contents.{told_of};
 ghost use Rattle.cq_project.specs.Rows.{ProjectionMakes};
 
 use cq_form::Constraint;
-use cq_store::store::{Store, StoreFault, Told};
+use cq_project::tell_all;
+use cq_store::store::{Store, StoreFault};
 use std::alloc::Global;
 
 /// How many exchanges a call of the store may make. An equation takes one, which no budget counts.
@@ -22,13 +23,9 @@ pub fn settled(alloc: Global, equations: &[Constraint]) -> Result<Option<Store>,
     ensures pivots { (n : ℕ) → result ≡ Err (StoreFault.Pivots n) → ⊥ }
 {
     let mut store = Store::new(alloc, PIVOTS);
-    'equations: for equation in equations {
-        let equation = equation.clone()?;
-        match store.tell(equation) {
-            Ok(Told::Kept(_)) => continue,
-            Ok(Told::Unsolvable(_)) => return Ok(None),
-            Err(fault) => return Err(fault),
-        }
+    if tell_all(&mut store, equations)? {
+        Ok(Some(store))
+    } else {
+        Ok(None)
     }
-    Ok(Some(store))
 }

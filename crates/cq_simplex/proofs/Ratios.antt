@@ -41,9 +41,6 @@ opposite_quotient n f k =
     other : neg_ℚ f ≡ 0ℚ → ⊥
     other e = k (ring (f ∷ []) (var 0) (minus (minus (var 0))) refl ∙ ap neg_ℚ e ∙ ring [] (minus (int (pos 0))) (int (pos 0)) refl)
 
-pub less_ratio : (p q : ℚ) → cmp_ℚ p q ≡ Less → p <ℚ q
-less_ratio p q e = subst (λ o. MatchOrdering o (p <ℚ q) (p ≡ q) (q <ℚ p)) e (cmp_ℚ-matches p q)
-
 pub not_less_ratio : (p q : ℚ) → (cmp_ℚ p q ≡ Less → ⊥) → q ≤ℚ p
 not_less_ratio p q n = go (cmp_ℚ p q) n (cmp_ℚ-matches p q)
   where

@@ -29,12 +29,7 @@ fn within(form: &[Entry], count: usize) -> bool
 }
 
 /// Adds a row over quantities that are there.
-fn add(
-    dict: &mut Dict,
-    form: &[Entry],
-    constant: i64,
-    restricted: bool,
-) -> Result<usize, Refusal> {
+fn add(dict: &mut Dict, form: &[Entry], constant: i64, restricted: bool) -> Result<usize, Refusal> {
     if within(form, dict.count()) {
         return dict.add_row(form, Frac::from(constant), restricted);
     }

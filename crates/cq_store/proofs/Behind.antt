@@ -1,6 +1,6 @@
 -- After an equation is eliminated at its row's first live column, rows still reach behind their own numbers alone.
 use Rattle.std.proofs.Common.{◌≡◌, ◌↔◌, ℕ, ◌+◌, ◌-◌, ◌<◌, ◌≤◌, List, [], ◌∷◌, ◌++◌, length, true, arith, refl, ap, ap₂, sym, subst, ◌∙◌, pos, ◌⊎◌, inl, inr}
-use Rattle.spec_rational.specs.Rational.{ℚ, 0ℚ, neg_ℚ, ◌+ℚ◌, ◌-ℚ◌, ◌*ℚ◌}
+use Rattle.spec_rational.specs.Rational.{ℚ, 0ℚ, ◌+ℚ◌, ◌-ℚ◌, ◌*ℚ◌}
 use Rattle.spec_rational.proofs.Ring.{var, int, ◌⊕◌, ◌⊗◌, minus}
 use Rattle.spec_rational.proofs.Rational.{ring}
 use Rattle.spec_rational.proofs.Sign.{product_zero}

@@ -1,34 +1,16 @@
 -- The quantities at the marks and their names, mark by mark.
-use Rattle.std.proofs.Common.{◌≡◌, ℕ, zero, suc, ◌<◌, ◌≤◌, List, [], ◌∷◌, ◌++◌, length, map, take, Bool, Some, arith, refl, ap, ap₂, sym, subst, ◌∙◌, ◌⊎◌, inl, inr}
+use Rattle.std.proofs.Common.{◌≡◌, ℕ, zero, suc, ◌≤◌, List, [], ◌∷◌, ◌++◌, length, map, take, Bool, Some, arith, refl, ap, sym, subst, ◌∙◌, inl, inr}
 use Rattle.std.proofs.lemmas.List.{length-take, map-append, take-append-le}
-use Rattle.std.proofs.lemmas.Option.{none-some, same_Some, slice_get_within, slice_get-map}
+use Rattle.std.proofs.lemmas.Option.{slice_get_within, slice_get-map}
 use Rattle.std.proofs.Math.Seq.{take-length}
 use Rattle.std.specs.List.{take-map}
 use Rattle.std.specs.Option.{option_map}
 use Rattle.std.specs.Prelude.{slice_get}
+use Rattle.spec_lists.proofs.Places.{get_push, get_take, map_same}
 use Rattle.cq_dict.specs.Roles.{Quantities}
-use Rattle.cq_dict.proofs.Marks.{get_take, get_push}
 use Rattle.cq_store.specs.declared.table.Name.{Name}
 use Rattle.cq_store.specs.Contents.{Named, AreNamed}
 use Rattle.cq_store.specs.Marked.{named_at, AreMarked}
-
-taken_before : {X : Type 0} (n k : ℕ) (ys : List X) (y : X) → slice_get (take n ys) k ≡ Some y → k < n
-taken_before zero k ys y e = absurd (none-some y e)
-taken_before (suc n) k [] y e = absurd (none-some y e)
-taken_before (suc n) zero (z ∷ ys) y e = omega arith
-taken_before (suc n) (suc k) (z ∷ ys) y e = omega (arith, taken_before n k ys y e)
-
--- the value of the newest mark
-pub newest : {X : Type 0} (xs : List X) (x : X) (n : ℕ) → n ≡ length xs → (all : List X) → all ≡ xs ++ x ∷ [] → (y : X) → slice_get all n ≡ Some y → y ≡ x
-newest xs x n e all f y g =
-    elim (get_push xs x n y (rw (← f) g)) [
-      | inl h ↦ absurd (omega (arith, slice_get_within xs n y h, e))
-      | inr h ↦ sym h.1
-    ]
-
-map_same : {X Y : Type 0} (f g : X → Y) (xs : List X) → ((k : ℕ) (x : X) → slice_get xs k ≡ Some x → f x ≡ g x) → map f xs ≡ map g xs
-map_same f g [] h = refl
-map_same f g (x ∷ xs) h = ap₂ (λ y ys. y ∷ ys) (h 0 x refl) (map_same f g xs (λ k z e. h (suc k) z e))
 
 take_less : {X : Type 0} (j n : ℕ) (xs : List X) → j ≤ n → take j (take n xs) ≡ take j xs
 take_less zero n xs h = refl
@@ -62,20 +44,20 @@ module _ (names : List Name) (saved : List Quantities) (marks : AreMarked names 
 
   pub marks_forget : (m : ℕ) (saved' : List Quantities) → saved' ≡ take m saved → AreMarked names saved'
   marks_forget m saved' f = rw f (record {
-    named = λ k q g. marks.named k q (get_take m k saved q g);
-    sorted = λ j k p q g h. marks.sorted j k p q (get_take m j saved p g) (get_take m k saved q h);
+    named = λ k q g. marks.named k q (get_take m k saved q g).0;
+    sorted = λ j k p q g h. marks.sorted j k p q (get_take m j saved p g).0 (get_take m k saved q h).0;
   })
 
   module _ (m : ℕ) (q : Quantities) (at : slice_get saved m ≡ Some q) where
     named_less : (k : ℕ) (p : Quantities) → slice_get (take m saved) k ≡ Some p → named_at (take (length q.roles) names) p ≡ named_at names p
     named_less k p e =
-        let l : length p.roles ≤ length q.roles = marks.sorted k m p q (get_take m k saved p e) at (omega (arith, taken_before m k saved p e)) in
+        let l : length p.roles ≤ length q.roles = marks.sorted k m p q (get_take m k saved p e).0 at (omega (arith, (get_take m k saved p e).1)) in
         ap (λ n. record { names = n; roles = p.roles }) (take_less (length p.roles) (length q.roles) names l)
 
     pub marks_undo : AreMarked (take (length q.roles) names) (take m saved)
     marks_undo = record {
-      named = λ k p g. subst AreNamed (sym (named_less k p g)) (marks.named k p (get_take m k saved p g));
-      sorted = λ j k p r g h. marks.sorted j k p r (get_take m j saved p g) (get_take m k saved r h);
+      named = λ k p g. subst AreNamed (sym (named_less k p g)) (marks.named k p (get_take m k saved p g).0);
+      sorted = λ j k p r g h. marks.sorted j k p r (get_take m j saved p g).0 (get_take m k saved r h).0;
     }
 
     pub saved_undo : map (named_at (take (length q.roles) names)) (take m saved) ≡ take m (map (named_at names) saved)

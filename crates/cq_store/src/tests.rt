@@ -203,7 +203,13 @@ fn equations_fix_what_they_leave_no_choice(rt: HostRuntime) -> Result<(), Fail> 
 }
 
 /// Whether the variable is the constant and one product of another variable.
-fn is_row(store: &Store, x: usize, constant: (i128, i128), other: usize, factor: (i128, i128)) -> bool {
+fn is_row(
+    store: &Store,
+    x: usize,
+    constant: (i128, i128),
+    other: usize,
+    factor: (i128, i128),
+) -> bool {
     let Some(row) = store.row(VarId(x)) else {
         return false;
     };

@@ -1,43 +1,15 @@
-use Rattle.std.proofs.Common.{rules, ◌≡◌, ◌+◌, ◌<◌, [], ◌∷◌, ◌++◌, length, take, drop, get_or, arith, sym, subst}
+use Rattle.std.proofs.Common.{◌≡◌, subst}
+use Rattle.std.specs.Prelude.{MatchBool}
 use Rattle.spec_linear.specs.Solution.{Unsolvable}
-use Rattle.cq_store.specs.Told.{CallMakes, new_variables}
-use Rattle.cq_store.specs.Contents.{order_of, told_of}
+use Rattle.cq_store.specs.Contents.{told_of}
 use Rattle.cq_project.proofs.Fault.{overflow_back}
-use Rattle.cq_project.proofs.Turned.{relation_at, parted, order_stays, no_solution, told_more}
 use Rattle.cq_project.proofs.solved.Goals as goal
-
-pub tell-requires : goal.tell-requires
-tell-requires c =
-    let within : c.members.c-index < length c.args.told.now = omega arith in
-    relation_at c.args.told.now c.members.c-index c.in_ok-c.c c.requires.equations within
-    (subst (λ d. d ≡ get_or c.args.told.now c.members.c-index d) (sym c.in_ok-c.ensures.cases) c.c-item.is)
 
 pub unreachable-requires : goal.unreachable-requires
 unreachable-requires c =
-    let within : c.members.c-index < length c.args.told.now = omega arith in
-    let is = subst (λ d. d ≡ get_or c.args.told.now c.members.c-index d) (sym c.in_ok-c.ensures.cases) c.c-item.is in
-    let none : Unsolvable (told_of c.members.store ++ c.in_ok-c.c ∷ []) = search rules in
-    no_solution c.args.told.now c.members.c-index c.in_ok-c.c within is (subst (λ t. Unsolvable (t ++ c.in_ok-c.c ∷ [])) c.members.invariant.0 none) c.requires.solvable
+    let none : Unsolvable c.args.told.now =
+    subst (λ b. MatchBool b (told_of c.tell_all.new.store ≡ c.args.told.now) (Unsolvable c.args.told.now)) c.in-Ok-false.field-0-test c.in-Ok-false.ensures.kept in
+    none c.requires.solvable.0 c.requires.solvable.1
 
 pub returns-in-Err-clause-overflow : goal.returns-in-Err-clause-overflow
-returns-in-Err-clause-overflow c pair e =
-    let within : c.members.c-index < length c.args.told.now = omega arith in
-    let is = subst (λ d. d ≡ get_or c.args.told.now c.members.c-index d) (sym c.in_ok-c.ensures.cases) c.c-item.is in
-    record {
-      before = take c.members.c-index c.args.told.now;
-      member = c.in_ok-c.c;
-      after = drop (c.members.c-index + 1) c.args.told.now;
-      order = order_of c.members.store;
-      split = parted c.args.told.now c.members.c-index c.in_ok-c.c within is;
-      made = subst (λ t. CallMakes t (order_of c.members.store) c.in_ok-c.c pair) c.members.invariant.0 (c.in-Err.ensures.overflow pair (overflow_back c.in-Err.fault c.from.result pair c.from.ensures e));
-    }
-
-pub members-preserved : goal.members-preserved
-members-preserved c =
-    let within : c.members.c-index < length c.args.told.now = omega arith in
-    let is = subst (λ d. d ≡ get_or c.args.told.now c.members.c-index d) (sym c.in_ok-c.ensures.cases) c.c-item.is in
-    let told : told_of c.tell.new.self ≡ told_of c.members.store ++ c.in_ok-c.c ∷ [] = search rules in
-    let order : order_of c.tell.new.self ≡ order_of c.members.store ++ new_variables (order_of c.members.store) c.in_ok-c.c.form = search rules in (
-      told_more c.args.told.now (told_of c.members.store) (told_of c.tell.new.self) c.members.c-index c.in_ok-c.c within is c.members.invariant.0 told,
-      order_stays c.args.keep.now c.args.told.now c.members.c-index c.in_ok-c.c (order_of c.members.store) (order_of c.tell.new.self) c.members.invariant.1 within is order,
-    )
+returns-in-Err-clause-overflow c pair e = c.in-Err.ensures.overflow pair (overflow_back c.in-Err.fault c.from.result pair c.from.ensures e)

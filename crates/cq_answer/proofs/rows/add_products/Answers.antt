@@ -1,7 +1,7 @@
 use Rattle.std.proofs.Common.{◌<◌, ◌++◌, ◌∙◌, ap, length, arith}
 use Rattle.spec_equations.specs.Answer.{name_among}
 use Rattle.spec_answers.specs.RowText.{product_text}
-use Rattle.cq_project.specs.Rows.{product_of}
+use Rattle.cq_project.specs.Rows.{monomial_of}
 use Rattle.cq_answer.proofs.Sums.{sum_more}
 use Rattle.cq_answer.proofs.rows.add_products.Goals as goal
 
@@ -11,4 +11,4 @@ products-preserved c =
     let product = c.product-item.result in
     let within : c.products.product-index < length c.args.products.now = omega arith in
     sum_more name c.args.sum.now.items c.args.products.now c.products.product-index product c.products.sum.items c.deref.result.now c.join.new.sum.items within c.product-item.is c.products.invariant
-    (c.deref.ensures.value ∙ c.in_ok-push_product.ensures ∙ ap (λ t. t ++ product_text name (product_of product)) c.clear.ensures.items) c.in_ok-join.ensures
+    (c.deref.ensures.value ∙ c.in_ok-push_product.ensures ∙ ap (λ t. t ++ product_text name (monomial_of product)) c.clear.ensures.items) c.in_ok-join.ensures

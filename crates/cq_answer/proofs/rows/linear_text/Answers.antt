@@ -3,7 +3,7 @@ use Rattle.spec_rational.specs.Rational.{0ℚ}
 use Rattle.spec_equations.specs.Answer.{name_among}
 use Rattle.spec_writing.specs.Numbers.{number_text}
 use Rattle.spec_answers.specs.RowText.{product_text, sum_onto, joined}
-use Rattle.cq_project.specs.Rows.{product_of}
+use Rattle.cq_project.specs.Rows.{monomial_of}
 use Rattle.cq_answer.proofs.Sums.{rest_is, products_alone, products_and_constant}
 use Rattle.cq_answer.proofs.rows.linear_text.Goals as goal
 use Rattle.cq_answer.proofs.rows.linear_text.Goals.{then-not-is_zero+in_ok-push_number-2+in_ok-join, else-not-is_zero}
@@ -14,8 +14,8 @@ returns c =
     let first = c.first-item.result in
     let ps = c.args.products.now in
     let q = c.args.constant in
-    let start : c.push_product.new.out.items ≡ product_text name (product_of first) = c.in_ok-push_product.ensures ∙ ap (λ t. t ++ product_text name (product_of first)) c.new-text.ensures.items in
-    let sum : c.add_products.new.sum.items ≡ sum_onto name (product_text name (product_of first)) (map product_of (drop 1 ps)) = c.in_ok-add_products.ensures ∙ ap (λ t. sum_onto name c.push_product.new.out.items (map product_of t)) (rest_is ps) ∙ ap (λ t. sum_onto name t (map product_of (drop 1 ps))) start in
+    let start : c.push_product.new.out.items ≡ product_text name (monomial_of first) = c.in_ok-push_product.ensures ∙ ap (λ t. t ++ product_text name (monomial_of first)) c.new-text.ensures.items in
+    let sum : c.add_products.new.sum.items ≡ sum_onto name (product_text name (monomial_of first)) (map monomial_of (drop 1 ps)) = c.in_ok-add_products.ensures ∙ ap (λ t. sum_onto name c.push_product.new.out.items (map monomial_of t)) (rest_is ps) ∙ ap (λ t. sum_onto name t (map monomial_of (drop 1 ps))) start in
     elim c.if-not-is_zero.branch [
       | then-not-is_zero+in_ok-push_number-2+in_ok-join w ↦
           let some : q ≢ 0ℚ = λ e. let n : false ≡ true = w.if-not-is_zero.ensures.1 e in cc in

@@ -6,7 +6,7 @@ use Rattle.cq_store.specs.Entering.{TakesEquation, IsRefused, EnteringPair}
 use Rattle.cq_store.specs.Told.{numbers_of}
 use Rattle.cq_store.proofs.Solved.{solved_form}
 use Rattle.cq_store.proofs.Gained.{told_stored, told_fixed, told_order, told_solvable, told_unsolvable, call_makes, moved_err}
-use Rattle.cq_store.proofs.Marks.{newest}
+use Rattle.spec_lists.proofs.Places.{newest}
 use Rattle.cq_store.proofs.store.Store.tell.Goals as goal
 use Rattle.cq_store.proofs.store.Store.tell.Goals.{After-unwrap, After-undo, After-undo-in-Err}
 
