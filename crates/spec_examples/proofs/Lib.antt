@@ -7,3 +7,4 @@ pub mod Equation
 pub mod Value
 pub mod Delayed
 pub mod Overflow
+pub mod Clashing

@@ -68,9 +68,11 @@ pub fn clauses()
     ensures changed { WritesAfter (codes ":- dynamic q/1. q(1). q(2).") (codes "?- retract(q(X)), assertz(q(9)), fail. ?- findall(X,q(X),L).") (codes "no\nL = [9,9]\n;\nno\n") }
 {}
 
-/// Told constraints: one that fixes a variable, one that waits, and one whose numbers overflow.
+/// Told constraints: one that fixes a variable, one that waits, one that a binding breaks, and one whose numbers overflow.
 pub fn constraints()
     ensures value { Writes (codes "?- {2*X+3=7}.") (codes "X = 2\n;\nno\n") }
     ensures delayed { Writes (codes "?- {X*Y=6}.") (codes "{X*Y=6}\n;\nno\n") }
+    // a numeric variable becomes no atom
+    ensures clash { Writes (codes "?- {X>0}, X=a.") (codes "no\n") }
     ensures overflow { WritesStop (codes "?- {X=170141183460469231731687303715884105727+1}.") (codes "stop: overflow\n") }
 {}

@@ -1,5 +1,6 @@
 pub mod Causes
 pub mod Operands
+pub mod Samples
 pub mod Settlings
 pub mod Questions
 pub mod Due
