@@ -14,6 +14,7 @@ NextFails c = Contains c.fails.items (next_call c)
 pub record AreToFail (numbers : List ℕ) (c : Calls) : Type 0 where
   pub told : c.fails.items ≡ numbers
   pub unused : c.made ≡ 0
+  pub faultless : c.faults ≡ 0
 
 -- one more call is made
 pub record IsNext (old new : Calls) : Type 0 where

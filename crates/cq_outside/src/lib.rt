@@ -14,7 +14,7 @@ mod tests;
 mod whole;
 
 pub use memory_shelf::{MemShelf, SteadyShelf};
-pub use memory_sink::{MemSink, SteadySink};
+pub use memory_sink::MemSink;
 pub use memory_source::{MemSource, SteadySource};
 pub use shelf::{SIZE_LIMIT, Shelf, ShelfFault};
 pub use sink::{Sink, SinkFailed};

@@ -1,5 +1,5 @@
 // Shelves of files in memory: one that never fails, and one whose loads fail where told.
-ghost use Rattle.std.specs.Prelude.{◌≡◌, ℕ, List, None, Some, IfOk, OnErr, IfOk, OnOk};
+ghost use Rattle.std.specs.Prelude.{◌≡◌, ◌↔◌, ℕ, List, None, Some, IfOk, IsErrOf, OnErr, OnOk};
 
 use crate::calls::Calls;
 use crate::{SIZE_LIMIT, Shelf, ShelfFault};
@@ -20,7 +20,8 @@ impl SteadyShelf {
 
     /// A shelf with no file.
     pub fn new(alloc: Global) -> Self
-        ensures { IsBare (steady_shelf_files result) }
+        ensures files { IsBare (steady_shelf_files result) }
+        ensures refused { steady_shelf_refused result ≡ 0 }
     {
         SteadyShelf {
             alloc,
@@ -78,6 +79,7 @@ impl MemShelf {
     pub fn new(alloc: Global, fails: &[u64]) -> Result<Self, AllocError>
         ensures files { IfOk result (λ shelf. IsBare (shelf_files shelf)) }
         ensures fails { IfOk result (λ shelf. AreToFail fails.now (shelf_calls shelf)) }
+        ensures refused { IfOk result (λ shelf. shelf_refused shelf ≡ 0) }
     {
         Ok(MemShelf {
             files: SteadyShelf::new(alloc),
@@ -105,7 +107,18 @@ impl Shelf for MemShelf {
 
     ghost refused = { λ s. s.files.refused };
 
-    fn load(&mut self, alloc: Global, name: &str) -> Result<Vec<u8>, ShelfFault> {
+    ghost use Rattle.cq_outside.specs.Files.{Loads, CountsFault, CountsRefusal};
+    ghost use Rattle.cq_outside.specs.Calls.{IsNext, NextFails};
+    ghost use Rattle.cq_outside.specs.Memory.{shelf_files, shelf_refused, shelf_calls};
+
+    fn load(&mut self, alloc: Global, name: &str) -> Result<Vec<u8>, ShelfFault>
+        ensures same { shelf_files self.new ≡ shelf_files self.old }
+        ensures bytes { Loads (Some (shelf_files self.old)) name.now result }
+        ensures cause { CountsFault (shelf_calls self.old).faults (shelf_calls self.new).faults result }
+        ensures refuses { CountsRefusal (shelf_refused self.old) (shelf_refused self.new) result }
+        ensures fails { IsErrOf result ShelfFault.Failed ↔ NextFails (shelf_calls self.old) }
+        ensures next { IsNext (shelf_calls self.old) (shelf_calls self.new) }
+    {
         if self.calls.next_fails() {
             return Err(ShelfFault::Failed);
         }

@@ -1,56 +1,9 @@
-// Sinks that keep their bytes in memory: one that never fails, and one whose writes are short and fail
-// where told.
-ghost use Rattle.std.specs.Prelude.{◌≡◌, ◌<◌, [], None, Some, IfOk, if◌then◌else◌, option_copied};
+// A sink that keeps its bytes in memory, whose writes are short and fail where told.
+ghost use Rattle.std.specs.Prelude.{◌≡◌, ◌≤◌, ◌<◌, [], Some, IfOk, IsErr, length, min};
 
 use crate::calls::Calls;
 use crate::{Sink, SinkFailed};
 use std::alloc::{AllocError, Global};
-
-/// Bytes in memory. No write fails: a sink that finds no memory for a piece takes it all the same, and
-/// from then on doesn't tell what it holds.
-#[derive(Drop)]
-pub struct SteadySink {
-    bytes: Vec<u8>,
-    is_whole: bool,
-}
-
-impl SteadySink {
-    ghost use Rattle.cq_outside.specs.Memory.{steady_sink_bytes};
-
-    /// A sink that holds nothing yet.
-    pub fn new(alloc: Global) -> Self
-        ensures { steady_sink_bytes result ≡ Some [] }
-    {
-        SteadySink {
-            bytes: Vec::new(alloc),
-            is_whole: true,
-        }
-    }
-
-    /// All bytes that were written, or `None` once memory was wanting for some of them.
-    pub fn bytes(&self) -> Option<&[u8]>
-        ensures { option_copied result ≡ steady_sink_bytes self.now }
-    {
-        if self.is_whole {
-            Some(&self.bytes)
-        } else {
-            None
-        }
-    }
-}
-
-impl Sink for SteadySink {
-    ghost held = { λ s. if s.is_whole then Some s.bytes.items else None };
-
-    ghost faults = { λ _. 0 };
-
-    fn write(&mut self, piece: &[u8]) -> Result<usize, SinkFailed> {
-        if self.is_whole {
-            self.is_whole = self.bytes.extend_from_slice(piece).is_ok();
-        }
-        Ok(piece.len())
-    }
-}
 
 /// Bytes in memory, written in pieces. The writes that it is told to fail take nothing, nor do those for
 /// which memory is wanting, which count as faults too.
@@ -63,7 +16,7 @@ pub struct MemSink {
 }
 
 impl MemSink {
-    ghost use Rattle.cq_outside.specs.Memory.{sink_bytes, sink_calls};
+    ghost use Rattle.cq_outside.specs.Memory.{sink_bytes, sink_calls, sink_piece};
     ghost use Rattle.cq_outside.specs.Calls.{AreToFail};
 
     /// A sink that holds nothing yet. The writes with these numbers, counted from 1, fail, and no write
@@ -72,6 +25,7 @@ impl MemSink {
         requires { 0 < piece }
         ensures bytes { IfOk result (λ sink. sink_bytes sink ≡ []) }
         ensures fails { IfOk result (λ sink. AreToFail fails.now (sink_calls sink)) }
+        ensures piece { IfOk result (λ sink. sink_piece sink ≡ piece) }
     {
         Ok(MemSink {
             bytes: Vec::new(alloc),
@@ -93,7 +47,22 @@ impl Sink for MemSink {
 
     ghost faults = { λ s. s.calls.faults };
 
-    fn write(&mut self, piece: &[u8]) -> Result<usize, SinkFailed> {
+    ghost use Rattle.cq_outside.specs.Bytes.{Takes};
+    ghost use Rattle.cq_outside.specs.Counts.{HasCause};
+    ghost use Rattle.cq_outside.specs.Calls.{IsNext, NextFails};
+    ghost use Rattle.cq_outside.specs.Memory.{sink_bytes, sink_calls, sink_piece};
+
+    /// Takes as much as a piece may have. A write for which memory is wanting fails too.
+    fn write(&mut self, piece: &[u8]) -> Result<usize, SinkFailed>
+        ensures bound { IfOk result (λ n. n ≤ length piece.now) }
+        ensures some { IfOk result (λ n. 0 < length piece.now → 0 < n) }
+        ensures bytes { Takes (Some (sink_bytes self.old)) (Some (sink_bytes self.new)) result piece.now }
+        ensures cause { HasCause (sink_calls self.old).faults (sink_calls self.new).faults result }
+        ensures fails { NextFails (sink_calls self.old) → IsErr result }
+        ensures next { IsNext (sink_calls self.old) (sink_calls self.new) }
+        ensures all { IfOk result (λ n. n ≡ min (length piece.now) (sink_piece self.old)) }
+        ensures piece { sink_piece self.new ≡ sink_piece self.old }
+    {
         if self.calls.next_fails() {
             return Err(SinkFailed);
         }

@@ -1,5 +1,5 @@
 // Sources over bytes in memory: one that never fails, and one whose reads are short and fail where told.
-ghost use Rattle.std.specs.Prelude.{◌≡◌, ◌≤◌, ◌<◌, None, Some, IfOk, length, drop};
+ghost use Rattle.std.specs.Prelude.{◌≡◌, ◌↔◌, ◌≤◌, ◌<◌, None, Some, IfOk, IsOk, IsErr, MatchResult, length, min, drop};
 
 use crate::calls::Calls;
 use crate::{Source, SourceFailed};
@@ -14,11 +14,12 @@ pub struct SteadySource {
 }
 
 impl SteadySource {
-    ghost use Rattle.cq_outside.specs.Memory.{steady_source_bytes};
+    ghost use Rattle.cq_outside.specs.Memory.{steady_source_bytes, steady_source_taken};
 
     /// A source of these bytes.
     pub fn new(alloc: Global, bytes: &[u8]) -> Result<Self, AllocError>
-        ensures { IfOk result (λ source. steady_source_bytes source ≡ bytes.now) }
+        ensures bytes { IfOk result (λ source. steady_source_bytes source ≡ bytes.now) }
+        ensures taken { IfOk result (λ source. steady_source_taken source ≡ 0) }
     {
         Ok(SteadySource {
             bytes: bytes.to_vec(alloc)?,
@@ -34,7 +35,20 @@ impl Source for SteadySource {
 
     ghost taken = { λ s. s.at };
 
-    fn read(&mut self, buf: &mut [u8]) -> Result<usize, SourceFailed> {
+    ghost use Rattle.std.specs.Io.{ReadsAtMost};
+    ghost use Rattle.std.specs.Io.KnownBytes.{ReadConsumes};
+    ghost use Rattle.cq_outside.specs.Counts.{HasCause, Counts};
+    ghost use Rattle.cq_outside.specs.Memory.{steady_source_bytes, steady_source_taken};
+
+    /// Takes as many bytes as there are and as the buffer has room for.
+    fn read(&mut self, buf: &mut [u8]) -> Result<usize, SourceFailed>
+        ensures bound { ReadsAtMost result buf.new }
+        ensures bytes { ReadConsumes (Some (steady_source_bytes self.old)) (Some (steady_source_bytes self.new)) result buf.new }
+        ensures counts { MatchResult result (λ n. Counts n (steady_source_taken self.old) (steady_source_taken self.new)) (λ _. steady_source_taken self.new ≡ steady_source_taken self.old) }
+        ensures cause { HasCause 0 0 result }
+        ensures never { IsOk result }
+        ensures all { IfOk result (λ n. n ≡ min (length buf.old) (length (steady_source_bytes self.old))) }
+    {
         let n = buf.len().min(self.bytes.len() - self.at);
         let end = self.at + n;
         buf[..n].copy_from_slice(&self.bytes[self.at..end]);
@@ -53,7 +67,7 @@ pub struct MemSource {
 }
 
 impl MemSource {
-    ghost use Rattle.cq_outside.specs.Memory.{source_bytes, source_calls};
+    ghost use Rattle.cq_outside.specs.Memory.{source_bytes, source_calls, source_piece, source_taken};
     ghost use Rattle.cq_outside.specs.Calls.{AreToFail};
 
     /// A source of these bytes. The reads with these numbers, counted from 1, fail, and no read takes
@@ -62,6 +76,8 @@ impl MemSource {
         requires { 0 < piece }
         ensures bytes { IfOk result (λ source. source_bytes source ≡ bytes.now) }
         ensures fails { IfOk result (λ source. AreToFail fails.now (source_calls source)) }
+        ensures piece { IfOk result (λ source. source_piece source ≡ piece) }
+        ensures taken { IfOk result (λ source. source_taken source ≡ 0) }
     {
         Ok(MemSource {
             bytes: SteadySource::new(alloc, bytes)?,
@@ -78,7 +94,23 @@ impl Source for MemSource {
 
     ghost taken = { λ s. s.bytes.at };
 
-    fn read(&mut self, buf: &mut [u8]) -> Result<usize, SourceFailed> {
+    ghost use Rattle.std.specs.Io.{ReadsAtMost};
+    ghost use Rattle.std.specs.Io.KnownBytes.{ReadConsumes};
+    ghost use Rattle.cq_outside.specs.Counts.{HasCause, Counts};
+    ghost use Rattle.cq_outside.specs.Calls.{IsNext, NextFails};
+    ghost use Rattle.cq_outside.specs.Memory.{source_bytes, source_calls, source_piece, source_taken};
+
+    /// Takes as many bytes as there are, as the buffer has room for and as a piece may have.
+    fn read(&mut self, buf: &mut [u8]) -> Result<usize, SourceFailed>
+        ensures bound { ReadsAtMost result buf.new }
+        ensures bytes { ReadConsumes (Some (source_bytes self.old)) (Some (source_bytes self.new)) result buf.new }
+        ensures counts { MatchResult result (λ n. Counts n (source_taken self.old) (source_taken self.new)) (λ _. source_taken self.new ≡ source_taken self.old) }
+        ensures cause { HasCause (source_calls self.old).faults (source_calls self.new).faults result }
+        ensures fails { IsErr result ↔ NextFails (source_calls self.old) }
+        ensures next { IsNext (source_calls self.old) (source_calls self.new) }
+        ensures all { IfOk result (λ n. n ≡ min (min (length buf.old) (source_piece self.old)) (length (source_bytes self.old))) }
+        ensures piece { source_piece self.new ≡ source_piece self.old }
+    {
         if self.calls.next_fails() {
             return Err(SourceFailed);
         }

@@ -62,16 +62,6 @@ fn a_sink_takes_pieces_and_fails_at_the_told_writes(rt: HostRuntime) -> Result<(
 }
 
 #[test]
-fn a_steady_sink_holds_what_was_written(rt: HostRuntime) -> Result<(), Fail> {
-    let mut sink = SteadySink::new(rt.alloc());
-    for text in ["ab", "", "cde"] {
-        write_whole(&mut sink, text.as_bytes())?;
-    }
-    assert_eq!(rt; sink.bytes().ok_or("lost")?, b"abcde".as_slice());
-    Ok(())
-}
-
-#[test]
 fn a_shelf_gives_its_files_and_fails_at_the_told_loads(rt: HostRuntime) -> Result<(), Fail> {
     let mut shelf = MemShelf::new(rt.alloc(), &[2, 3])?;
     shelf.add("a.pl", b"first")?;
