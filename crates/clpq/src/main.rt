@@ -3,7 +3,8 @@
 
 use cq_outside::SteadyShelf;
 use cq_real::{ReaderSource, WriterSink};
-use cq_session::run;
+use cq_session::{WordsFault, run, run_without_words};
+use std::io::ErrorKind;
 use std::process::ExitCode;
 use std::{env, io};
 
@@ -16,19 +17,26 @@ fn words(rt: &HostRuntime) -> io::Result<Vec<String>> {
     Ok(words)
 }
 
-fn main(rt: HostRuntime) -> io::Result<ExitCode> {
-    let words = words(&rt)?;
-    let mut shelf = SteadyShelf::new(rt.alloc());
-    let mut input = ReaderSource::new(rt.stdin());
-    let mut out = WriterSink::new(rt.stdout());
+/// Why there are no words, from the system's error.
+fn words_fault(error: &io::Error) -> WordsFault {
+    match error.kind() {
+        ErrorKind::OutOfMemory => WordsFault::NoMemory,
+        _ => WordsFault::NotText,
+    }
+}
+
+fn main(rt: HostRuntime) -> ExitCode {
     let mut err = WriterSink::new(rt.stderr());
-    let status = run(
-        rt.alloc(),
-        &words,
-        &mut shelf,
-        &mut input,
-        &mut out,
-        &mut err,
-    );
-    Ok(ExitCode::from(status.number()))
+    let status = match words(&rt) {
+        Ok(words) => run(
+            rt.alloc(),
+            &words,
+            &mut SteadyShelf::new(rt.alloc()),
+            &mut ReaderSource::new(rt.stdin()),
+            &mut WriterSink::new(rt.stdout()),
+            &mut err,
+        ),
+        Err(error) => run_without_words(words_fault(&error), &mut err),
+    };
+    ExitCode::from(status.number())
 }

@@ -1,5 +1,5 @@
 -- Steps one behind the other, what queries write, and what was appended so far.
-use Rattle.std.proofs.Common.{◌≡◌, ℕ, ◌+◌, ◌<◌, ◌≤◌, length, drop, get_or, List, [], ◌∷◌, ◌++◌, Bool, ◌||◌, true, false, Option, Some, None, codes, refl, sym, ap, ◌∙◌, subst, append_assoc, append-nil}
+use Rattle.std.proofs.Common.{◌≡◌, ℕ, ◌+◌, ◌<◌, ◌≤◌, length, drop, get_or, List, [], ◌∷◌, ◌++◌, Bool, ◌||◌, true, false, Option, Some, None, codes, refl, sym, ap, ap₂, ◌∙◌, subst, append_assoc, append-nil}
 use Rattle.std.proofs.lemmas.List.{drop_more, drop_all}
 use Rattle.cq_outside.specs.Bytes.{Adds, Appends, Begins}
 use Rattle.cq_outside.proofs.Told.{appends_more}
@@ -11,7 +11,9 @@ use Rattle.spec_queries.specs.Grammar.{queries_of}
 use Rattle.spec_equations.specs.Session.{start, Session, Marks, unmarked, Mark, plain_line, error_line, stop_line, marked, Runs, no_step, one_more, reading, over, begun, refuses, ends, asks, selects, prunes, settles, answers, fails, stops_settling, stops_answering, no_line, syntax_line, answer_end}
 use Rattle.cq_frac.specs.declared.Pair.{Pair}
 use Rattle.cq_search.specs.Finding.{IsAnswer, Stops, while_settling, while_answering}
+use Rattle.cq_session.specs.declared.transcript.Halt.TheVariants.{Write, Memory}
 use Rattle.cq_session.specs.Progress.{both, stop_marks, IsBlock, Advanced, Broken}
+use Rattle.std.proofs.lemmas.Option.{none-some, same_Some}
 
 -- ---- steps one behind the other
 
@@ -44,8 +46,8 @@ stop_block q p (while_answering values bound due) later =
 -- ---- what was appended
 
 pub appends_nothing : (held : Option (List ℕ)) → Appends held held []
-appends_nothing (Some bytes) = sym (append-nil bytes)
-appends_nothing None = tt
+appends_nothing (Some bytes) = ap Some (sym (append-nil bytes))
+appends_nothing None = refl
 
 pub at_start : (a : Session) (held : Option (List ℕ)) → Advanced a unmarked a held held
 at_start a held = record { text = []; runs = no_step; written = appends_nothing held }
@@ -57,7 +59,7 @@ advanced_more a b c m k u held mid now before runs written = record {
   written = appends_more held mid now before.text u before.written written;
 }
 
-pub broken_here : (a b : Session) (m : Marks) (held now : Option (List ℕ)) → Advanced a m b held now → Broken a held now
+pub broken_here : (a b : Session) (m : Marks) (held now : Option (List ℕ)) → Advanced a m b held now → Broken a Memory held now
 broken_here a b m held now before = record {
   text = before.text;
   whole = before.text;
@@ -70,13 +72,22 @@ broken_here a b m held now before = record {
 }
 
 -- what was added is a part that some text has behind it
-part_of : (mid now : Option (List ℕ)) (u : Text) → Adds mid now (λ part. Begins part u) → (part : Text) × (more : Text) × (u ≡ part ++ more) × Appends mid now part
-part_of (Some m) (Some n) u (part, same, (more, begins)) = (part, more, begins, same)
+part_of : (mid now : Option (List ℕ)) (u : Text) → Adds mid now (λ part. Begins part u) → (part : Text) × (more : Text) × (u ≡ part ++ more) × Adds mid now (λ added. added ≡ part)
+part_of (Some m) (Some n) u (part, same, (more, begins)) = (part, more, begins, (part, same, refl))
 part_of (Some m) None u added = ([], u, refl, tt)
 part_of None (Some n) u added = absurd added
 part_of None None u added = ([], u, refl, tt)
 
-pub broken_more : (a b c : Session) (m k : Marks) (u : Text) (held mid now : Option (List ℕ)) → Advanced a m b held mid → Runs b u k c → Adds mid now (λ part. Begins part u) → Broken a held now
+added_more : (held mid now : Option (List ℕ)) (text part : Text) → Appends held mid text → Adds mid now (λ added. added ≡ part) → Adds held now (λ added. added ≡ text ++ part)
+added_more (Some h) (Some m) (Some n) text part a (added, same, e) =
+    (text ++ part, same ∙ ap₂ (λ l r. l ++ r) (same_Some m (h ++ text) a) e ∙ append_assoc h text part, refl)
+added_more (Some h) (Some m) None text part a b = tt
+added_more (Some h) None now text part a b = absurd (none-some (h ++ text) a)
+added_more None (Some m) now text part a b = absurd (none-some m (sym a))
+added_more None None (Some n) text part a b = absurd b
+added_more None None None text part a b = tt
+
+pub broken_more : (a b c : Session) (m k : Marks) (u : Text) (held mid now : Option (List ℕ)) → Advanced a m b held mid → Runs b u k c → Adds mid now (λ part. Begins part u) → Broken a Write held now
 broken_more a b c m k u held mid now before runs added =
     let (part, more, begins, written) = part_of mid now u added in
     record {
@@ -87,7 +98,7 @@ broken_more a b c m k u held mid now before runs added =
       here = c;
       runs = joined_runs a b c before.text u m k before.runs runs;
       begins = ap (λ x. before.text ++ x) begins ∙ sym (append_assoc before.text part more);
-      written = appends_more held mid now before.text part before.written written;
+      written = added_more held mid now before.text part before.written written;
     }
 
 -- ---- the queries, one by one
@@ -111,7 +122,7 @@ module _ (qs : List Query) (i : ℕ) (q : Query) (s b : Bool) (text : Text) (hel
       subst (λ x. Advanced (reading qs) (stop_marks x) (reading (drop (i + 1) qs)) held now) (or_comm s b)
       (advanced_more _ _ _ (stop_marks s) (stop_marks b) text held mid now due (block (drop (i + 1) qs)) written)
 
-  pub part_block : Adds mid now (λ part. Begins part text) → Broken (reading qs) held now
+  pub part_block : Adds mid now (λ part. Begins part text) → Broken (reading qs) Write held now
   part_block added = broken_more _ _ _ (stop_marks s) (stop_marks b) text held mid now due (block (drop (i + 1) qs)) added
 
 pub all_blocks : (qs : List Query) (i : ℕ) (s : Bool) (held now : Option (List ℕ)) → length qs ≤ i → Advanced (reading qs) (stop_marks s) (reading (drop i qs)) held now → Advanced (reading qs) (stop_marks s) (reading []) held now

@@ -6,6 +6,9 @@ use Rattle.cq_outside.specs.declared.shelf.TheConstants.{SIZE_LIMIT}
 use Rattle.spec_lists.specs.Texts.{Text}
 use Rattle.spec_equations.specs.Session.{Session, Marks, stop_line, Step, Runs, start, Transcript, WrittenSoFar}
 use Rattle.cq_session.specs.Words.{Asked, transcript}
+use Rattle.cq_session.specs.declared.WordsFault.{WordsFault}
+use Rattle.cq_session.specs.declared.WordsFault.TheVariants.{NotText}
+use Rattle.cq_session.specs.declared.WordsFault.TheVariants as words_fault
 use Rattle.cq_session.specs.declared.Status.{Status}
 use Rattle.cq_session.specs.declared.Status.TheVariants.{Done, Faulty, BadWords, NoFile, ReadFault, WriteFault, Stopped, NoMemory}
 
@@ -19,6 +22,11 @@ number_of ReadFault = 4
 number_of WriteFault = 5
 number_of Stopped = 6
 number_of NoMemory = 7
+
+-- how a run ends whose words are not there
+abbrev pub status_without : WordsFault → Status
+status_without NotText = BadWords
+status_without words_fault.NoMemory = NoMemory
 
 -- ---- the text on `out`
 
@@ -37,11 +45,22 @@ pub data Ends (input : Text) : Option Asked → Status → Text → Type 0 where
   no_memory : {text : Text} → WrittenSoFar input text → Ends input (Some transcript) NoMemory text
   no_memory_for_words : Ends input None NoMemory []
 
+-- what `out` gained at this status: after a failed write it may tell no more
+abbrev pub Gains : Status → Option (List ℕ) → Option (List ℕ) → Text → Type 0
+Gains WriteFault held now text = Adds held now (λ part. part ≡ text)
+Gains NoMemory held now text = Appends held now text
+Gains Done held now text = Appends held now text
+Gains Faulty held now text = Appends held now text
+Gains BadWords held now text = Appends held now text
+Gains NoFile held now text = Appends held now text
+Gains ReadFault held now text = Appends held now text
+Gains Stopped held now text = Appends held now text
+
 -- a run ended so, and what it wrote is what `out` gained
 pub record Ended (input : Text) (asked : Option Asked) (status : Status) (held now : Option (List ℕ)) : Type 0 where
   pub text : Text
   pub ends : Ends input asked status text
-  pub written : Appends held now text
+  pub written : Gains status held now text
 
 -- ---- the words and the counts
 

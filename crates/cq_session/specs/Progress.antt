@@ -1,7 +1,7 @@
 -- How far the work on an input came: the steps that were taken, and what was appended to what `out` holds.
 use Rattle.std.specs.Prelude.{◌≡◌, ℕ, List, ◌∷◌, ◌++◌, Bool, true, false, ◌||◌, Option, Ok, Err, Result, ⊤}
 use Rattle.cq_outside.specs.Counts.{Rose}
-use Rattle.cq_outside.specs.Bytes.{Appends}
+use Rattle.cq_outside.specs.Bytes.{Adds, Appends}
 use Rattle.spec_lists.specs.Texts.{Text}
 use Rattle.spec_queries.specs.Tree.{Query}
 use Rattle.spec_equations.specs.Session.{Session, Marks, Runs, reading}
@@ -44,8 +44,13 @@ pub record Advanced (from : Session) (marks : Marks) (to : Session) (held now : 
   pub runs : Runs from text marks to
   pub written : Appends held now text
 
+-- what was appended where a transcript breaks off: after a failed write `out` may tell no more
+abbrev pub LeftBy : Halt → Option (List ℕ) → Option (List ℕ) → Text → Type 0
+LeftBy Write held now text = Adds held now (λ part. part ≡ text)
+LeftBy Memory held now text = Appends held now text
+
 -- what was appended is a beginning of what some steps write
-pub record Broken (from : Session) (held now : Option (List ℕ)) : Type 0 where
+pub record Broken (from : Session) (halt : Halt) (held now : Option (List ℕ)) : Type 0 where
   pub text : Text
   pub whole : Text
   pub more : Text
@@ -53,7 +58,7 @@ pub record Broken (from : Session) (held now : Option (List ℕ)) : Type 0 where
   pub here : Session
   pub runs : Runs from whole marks here
   pub begins : whole ≡ text ++ more
-  pub written : Appends held now text
+  pub written : LeftBy halt held now text
 
 -- a write failed only where the count of faults rose, which else stays
 abbrev pub CountsWrites : {T : Type 0} → ℕ → ℕ → Result T Halt → Type 0

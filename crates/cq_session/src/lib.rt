@@ -2,7 +2,7 @@
 #![tactic(auto)]
 
 ghost use Rattle.std.specs.Prelude.{◌≡◌, ◌≤◌, ℕ, length, IfSome, MatchBool, None, Some};
-ghost use Rattle.cq_session.specs.Outcome.{Caused, Completeness, Ended, IsClear, IsLine, IsWhole, Tells};
+ghost use Rattle.cq_session.specs.Outcome.{Caused, Completeness, Ended, IsClear, IsLine, IsWhole, Tells, status_without};
 ghost use Rattle.cq_session.specs.Progress.{CausedByOut};
 ghost use Rattle.cq_session.specs.Words.{asked_by, transcript};
 
@@ -77,6 +77,7 @@ fn answer_text<O: Sink>(alloc: Global, text: &[u8], out: &mut O) -> Status
 
 /// Does what the words ask for.
 fn answer<I: Source, O: Sink>(alloc: Global, words: &[String], input: &mut I, out: &mut O) -> Status
+    ensures unread { asked_by words.now ≡ None → input.new ≡ input.old }
     ensures text { IfSome (I.left input.old) (λ bytes. Ended bytes (asked_by words.now) result (O.held out.old) (O.held out.new)) }
 
     // The counts of a shelf don't matter.
@@ -136,6 +137,10 @@ pub fn run<F: Shelf, I: Source, O: Sink, E: Sink>(
 
     ensures line { Tells result (E.faults err.old) (E.faults err.new) (E.held err.old) (E.held err.new) }
 
+    // Words outside the command's language read nothing, and without a file's name the shelf is not asked.
+    ensures unread { asked_by words.now ≡ None → input.new ≡ input.old }
+    ensures shelf { shelf.new ≡ shelf.old }
+
     // Where nothing stands in the way, the transcript is whole, unless memory is wanting.
     ensures complete { asked_by words.now ≡ Some transcript → IfSome (I.left input.old) (λ bytes. IsClear bytes
         (record { shelf_faults = F.faults shelf.old; shelf_refused = F.refused shelf.old; source_faults = I.faults input.old; source_taken = I.taken input.old; out_faults = O.faults out.old })
@@ -143,6 +148,39 @@ pub fn run<F: Shelf, I: Source, O: Sink, E: Sink>(
         → IsWhole result) }
 {
     let status = answer(alloc, words, input, out);
+    tell(err, status);
+    status
+}
+
+/// Why the words of the command line are not there.
+#[derive(Clone, Copy, Debug, PartialEq, Eq)]
+pub enum WordsFault {
+    /// A word is not UTF-8.
+    NotText,
+    /// Memory was wanting.
+    NoMemory,
+}
+
+impl WordsFault {
+    ghost use Rattle.cq_session.specs.Outcome.{status_without};
+
+    /// How a run ends that has no words.
+    fn status(self) -> Status
+        ensures { result ≡ status_without self }
+    {
+        match self {
+            WordsFault::NotText => Status::BadWords,
+            WordsFault::NoMemory => Status::NoMemory,
+        }
+    }
+}
+
+/// Ends a run whose words could not be read: writes its status's line to `err`.
+pub fn run_without_words<E: Sink>(fault: WordsFault, err: &mut E) -> Status
+    ensures status { result ≡ status_without fault }
+    ensures line { Tells result (E.faults err.old) (E.faults err.new) (E.held err.old) (E.held err.new) }
+{
+    let status = fault.status();
     tell(err, status);
     status
 }

@@ -1,5 +1,5 @@
 // What runs write and how they end, over objects in memory.
-use crate::{Status, run};
+use crate::{Status, WordsFault, run, run_without_words};
 use cq_outside::{MemSink, MemSource, SteadyShelf};
 use std::alloc::{AllocError, Global};
 use std::test::Fail;
@@ -173,6 +173,27 @@ static RUNS: [Row; 19] = [
         "clpq: bad command line\n",
     ),
 ];
+
+#[test]
+fn a_run_without_words_writes_its_line(rt: HostRuntime) -> Result<(), Fail> {
+    for (fault, status, line) in [
+        (
+            WordsFault::NotText,
+            Status::BadWords,
+            "clpq: bad command line\n",
+        ),
+        (
+            WordsFault::NoMemory,
+            Status::NoMemory,
+            "clpq: out of memory\n",
+        ),
+    ] {
+        let mut err = MemSink::new(rt.alloc(), &[], 8)?;
+        assert_eq!(rt; run_without_words(fault, &mut err), status);
+        assert_eq!(rt; err.bytes(), line.as_bytes());
+    }
+    Ok(())
+}
 
 /// The command's words, the program's name first.
 fn words_of(alloc: Global, behind: &[&str]) -> Result<Vec<String>, AllocError> {

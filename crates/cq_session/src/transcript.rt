@@ -1,5 +1,5 @@
 // The transcript of a text, written query by query.
-ghost use Rattle.std.specs.Prelude.{◌≡◌, [], IfOk, OnErr};
+ghost use Rattle.std.specs.Prelude.{◌≡◌, [], IfOk, IfErr};
 ghost use Rattle.std.specs.List.{All};
 ghost use Rattle.spec_equations.specs.Answer.{HasDistinctNames};
 ghost use Rattle.spec_equations.specs.Session.{reading, over, start};
@@ -97,7 +97,7 @@ fn block_of(alloc: Global, query: &Query) -> Result<Block, AllocError>
 fn write_blocks<O: Sink>(alloc: Global, queries: &[Query], out: &mut O) -> Result<bool, Halt>
     requires distinct { All HasDistinctNames queries.now }
     ensures whole { IfOk result (λ stopped. Advanced (reading queries.now) (stop_marks stopped) (reading []) (O.held out.old) (O.held out.new)) }
-    ensures part { OnErr result (Broken (reading queries.now) (O.held out.old) (O.held out.new)) }
+    ensures part { IfErr result (λ halt. Broken (reading queries.now) halt (O.held out.old) (O.held out.new)) }
     ensures cause { CountsWrites (O.faults out.old) (O.faults out.new) result }
 {
     let mut stopped = false;
@@ -112,7 +112,7 @@ fn write_blocks<O: Sink>(alloc: Global, queries: &[Query], out: &mut O) -> Resul
 /// Writes the transcript of a text.
 pub fn write_transcript<O: Sink>(alloc: Global, text: &[u8], out: &mut O) -> Result<Lines, Halt>
     ensures whole { IfOk result (λ lines. Advanced (start text.now) (marks_of lines) over (O.held out.old) (O.held out.new)) }
-    ensures part { OnErr result (Broken (start text.now) (O.held out.old) (O.held out.new)) }
+    ensures part { IfErr result (λ halt. Broken (start text.now) halt (O.held out.old) (O.held out.new)) }
     ensures cause { CountsWrites (O.faults out.old) (O.faults out.new) result }
 {
     let Some(queries) = read_queries(alloc, text)? else {

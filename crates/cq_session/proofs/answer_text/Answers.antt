@@ -1,6 +1,7 @@
 use Rattle.std.proofs.Common.{Some, sym, subst}
 use Rattle.cq_session.specs.Words.{transcript}
 use Rattle.cq_session.specs.declared.Status.TheVariants.{WriteFault, NoMemory}
+use Rattle.cq_session.specs.declared.transcript.Halt.TheVariants.{Write, Memory}
 use Rattle.cq_session.specs.Outcome.{Ended, write_fault, no_memory}
 use Rattle.cq_session.proofs.Endings.{whole_ended, broken_ended}
 use Rattle.cq_session.proofs.answer_text.Goals as goal
@@ -12,8 +13,8 @@ returns-in-Ok-clause-text g c =
 
 pub returns-in-Err-Write-clause-text : goal.returns-in-Err-Write-clause-text
 returns-in-Err-Write-clause-text g c =
-    broken_ended c.args.text.now WriteFault (g.O.Sink.held c.args.out.now) (g.O.Sink.held c.write_transcript.new.out) (λ t w. write_fault w) c.in-Err-Write.ensures.part
+    broken_ended c.args.text.now WriteFault Write (g.O.Sink.held c.args.out.now) (g.O.Sink.held c.write_transcript.new.out) (λ t w. write_fault w) (λ t w. w) c.in-Err-Write.ensures.part
 
 pub returns-in-Err-Memory-clause-text : goal.returns-in-Err-Memory-clause-text
 returns-in-Err-Memory-clause-text g c =
-    broken_ended c.args.text.now NoMemory (g.O.Sink.held c.args.out.now) (g.O.Sink.held c.write_transcript.new.out) (λ t w. no_memory w) c.in-Err-Memory.ensures.part
+    broken_ended c.args.text.now NoMemory Memory (g.O.Sink.held c.args.out.now) (g.O.Sink.held c.write_transcript.new.out) (λ t w. no_memory w) (λ t w. w) c.in-Err-Memory.ensures.part

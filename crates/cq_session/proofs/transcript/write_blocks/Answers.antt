@@ -9,7 +9,7 @@ loop-query-init g c = (at_start _ _, refl)
 pub returns-in_err-block-clause-part : goal.returns-in_err-block-clause-part
 returns-in_err-block-clause-part g c =
     let p = err_from_is_err_and c.from_residual.result c.from_residual.ensures.1 in
-    rw p.1 (broken_here _ _ _ _ _ c.loop-query.invariant.0)
+    rw (p.1, p.2) (broken_here _ _ _ _ _ c.loop-query.invariant.0)
 
 pub returns-in_err-block-clause-cause : goal.returns-in_err-block-clause-cause
 returns-in_err-block-clause-cause g c =
@@ -20,7 +20,7 @@ pub returns-in_err-write_whole-clause-part : goal.returns-in_err-write_whole-cla
 returns-in_err-write_whole-clause-part g c =
     let p = err_from_is_err_and c.from_residual-in_err-write_whole.result c.from_residual-in_err-write_whole.ensures.1 in
     let within : c.loop-query.query-index < length c.args.queries.now = omega arith in
-    rw p.1 (part_block c.args.queries.now c.loop-query.query-index c.query-item.result c.loop-query.stopped c.in_ok-block.block.stopped c.in_ok-block.block.text.items _ _ _ within c.query-item.is
+    rw (p.1, p.2) (part_block c.args.queries.now c.loop-query.query-index c.query-item.result c.loop-query.stopped c.in_ok-block.block.stopped c.in_ok-block.block.text.items _ _ _ within c.query-item.is
     c.loop-query.invariant.0 c.in_ok-block.ensures (rw c.deref.ensures.value at c.in_err-write_whole.ensures.part))
 
 pub returns-in_err-write_whole-clause-cause : goal.returns-in_err-write_whole-clause-cause

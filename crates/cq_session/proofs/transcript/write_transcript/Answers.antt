@@ -12,13 +12,13 @@ use Rattle.cq_session.proofs.transcript.write_transcript.Goals as goal
 pub returns-in_err-queries-clause-part : goal.returns-in_err-queries-clause-part
 returns-in_err-queries-clause-part g c =
     let p = err_from_is_err_and c.from_residual.result c.from_residual.ensures.1 in
-    rw p.1 (broken_here _ _ _ _ _ (at_start (start c.args.text.now) (g.O.Sink.held c.args.out.now)))
+    rw (p.1, p.2) (broken_here _ _ _ _ _ (at_start (start c.args.text.now) (g.O.Sink.held c.args.out.now)))
 
 pub returns-in_err-write_whole-clause-part : goal.returns-in_err-write_whole-clause-part
 returns-in_err-write_whole-clause-part g c =
     let p = err_from_is_err_and c.from_residual-in_err-write_whole.result c.from_residual-in_err-write_whole.ensures.1 in
     let none : queries_of c.args.text.now ≡ None = search rules in
-    rw p.1 (broken_more _ _ _ _ _ _ _ _ _ (at_start (start c.args.text.now) (g.O.Sink.held c.args.out.now)) (foreign_runs c.args.text.now none) c.in_err-write_whole.ensures.part)
+    rw (p.1, p.2) (broken_more _ _ _ _ _ _ _ _ _ (at_start (start c.args.text.now) (g.O.Sink.held c.args.out.now)) (foreign_runs c.args.text.now none) c.in_err-write_whole.ensures.part)
 
 pub returns-in_default-clause-whole : goal.returns-in_default-clause-whole
 returns-in_default-clause-whole g c =
