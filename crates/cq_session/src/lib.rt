@@ -180,9 +180,8 @@ pub fn run_without_words<E: Sink>(fault: WordsFault, err: &mut E) -> Status
     ensures status { result ≡ status_without fault }
     ensures line { Tells result (E.faults err.old) (E.faults err.new) (E.held err.old) (E.held err.new) }
 {
-    let status = fault.status();
-    tell(err, status);
-    status
+    tell(err, fault.status());
+    fault.status()
 }
 
 /// Where nothing stands in the way, a run that ends as its text and its counts say is whole.
