@@ -1,6 +1,10 @@
--- Why `set` refuses.
-use Rattle.std.specs.Prelude.{◌≡◌, Result, Err}
-use Rattle.spec_operators.specs.Operators.{Ops, Refusal, BadPriority, BadKind, Comma, Clash}
+-- Why `set` refuses, and what it takes.
+use Rattle.std.specs.Prelude.{◌≡◌, ℕ, ℤ, ◌≤◌, ◌&&◌, ◌||◌, ◌==◌, not, Bool, false, List, codes, bytes_eq, Option, Some, Result, Err}
+use Rattle.spec_lists.specs.Texts.{Text}
+use Rattle.spec_operators.specs.declared.OpKind.{OpKind}
+use Rattle.spec_operators.specs.Operators.{Ops, Refusal, BadPriority, BadKind, Comma, Clash, in_range, kind_named, is_bracket, position_of}
+use Rattle.cq_atoms.specs.Texts.{AreDifferent, text_of}
+use Rattle.cq_ops.specs.Tables.{Tables, is_number_at_odds}
 use Rattle.cq_ops.specs.declared.OpFault.{OpFault}
 use Rattle.cq_ops.specs.declared.OpFault.TheVariants as fault
 
@@ -11,3 +15,12 @@ Explains fault.BadKind r = r ≡ Err BadKind
 Explains fault.Comma r = r ≡ Err Comma
 Explains fault.Clash r = r ≡ Err Clash
 Explains fault.NoMemory r = Unit {0}
+
+-- the priority and the kind are these, and the name may be such an operator
+pub record IsAdmitted (texts : List Text) (tables : Tables) (priority : ℤ) (kind : Text) (name p : ℕ) (k : OpKind) : Type 0 where
+  pub different : AreDifferent texts
+  pub priority_is : Some p ≡ in_range priority
+  pub low : p ≤ 1200
+  pub kind_is : Some k ≡ kind_named kind
+  pub no_comma : bytes_eq (text_of texts name) (codes ",") ≡ false
+  pub no_clash : (is_bracket (text_of texts name) || (not (p == 0) && is_number_at_odds (position_of k) tables name)) ≡ false

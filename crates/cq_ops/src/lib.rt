@@ -4,13 +4,14 @@
 mod operators;
 mod standard;
 
-ghost use Rattle.std.specs.Prelude.{◌≡◌, ℕ, ◌<◌, ◌≤◌, ◌&&◌, ◌||◌, ◌==◌, not, nat_le, pos, is_some, List, Some, None, Ok, length, slice_get, bytes_eq, codes, IfSome, IfErr, OnOk, OnErr, MatchOption};
+ghost use Rattle.std.specs.Prelude.{◌≡◌, ℕ, ◌<◌, ◌≤◌, ◌&&◌, ◌||◌, ◌==◌, not, nat_le, pos, is_some, List, Some, None, Ok, length, slice_get, bytes_eq, codes, IfSome, IfOk, IfErr, IsOk, Err, OnOk, OnErr, ◌≢◌, MatchOption};
+ghost use Rattle.spec_syntax.specs.Writing.{IsTable};
 ghost use Rattle.std.specs.FinMap as map;
 ghost use Rattle.spec_lists.specs.Texts.{Text};
 ghost use Rattle.cq_atoms.specs.Texts.{AreDifferent, KeepsTexts, text_of};
 ghost use Rattle.spec_operators.specs.Operators.{Fits, Prefix, Infix, Postfix, entry, in_range, position_of, kind_named, is_bracket, set};
 ghost use Rattle.cq_ops.specs.Tables.{Tables, AreNamed, named, put_number, is_number_at_odds};
-ghost use Rattle.cq_ops.specs.Faults.{Explains};
+ghost use Rattle.cq_ops.specs.Faults.{Explains, IsAdmitted};
 
 use cq_atoms::{Atom, Atoms};
 use operators::Operators;
@@ -84,6 +85,25 @@ impl Ops {
         self.postfix.get(name)
     }
 
+    /// Looks whether `set` would set the operator, where memory suffices.
+    pub fn check(
+        &self,
+        atoms: &Atoms,
+        priority: i128,
+        kind: &str,
+        name: Atom,
+    ) -> Result<(), OpFault>
+        requires { name < length atoms.now }
+        ensures ok { OnOk result (IsOk (set (named atoms.now self.now) priority kind.now (text_of atoms.now name))) }
+        ensures refused { IfErr result (λ fault. Explains fault (set (named atoms.now self.now) priority kind.now (text_of atoms.now name))) }
+        ensures memory { result ≢ Err OpFault.NoMemory }
+    {
+        match self.admitted(atoms, priority, kind, name) {
+            Ok(_) => Ok(()),
+            Err(fault) => Err(fault),
+        }
+    }
+
     /// Sets an operator, as the goal `op/3` does, or takes it away at priority 0.
     pub fn set(
         &mut self,
@@ -97,6 +117,30 @@ impl Ops {
         ensures refused { IfErr result (λ fault. Explains fault (set (named atoms.now self.old) priority kind.now (text_of atoms.now name))) }
         ensures unchanged { OnErr result (self.new ≡ self.old) }
         ensures known { AreNamed atoms.now self.old → AreNamed atoms.now self.new }
+        ensures table { IsTable (named atoms.now self.old) → IsTable (named atoms.now self.new) }
+    {
+        let (priority, kind) = match self.admitted(atoms, priority, kind, name) {
+            Ok(admitted) => admitted,
+            Err(fault) => return Err(fault),
+        };
+        match self.put(priority, kind, name) {
+            Ok(()) => Ok(()),
+            Err(_) => Err(OpFault::NoMemory),
+        }
+    }
+
+    /// The priority and the kind, where the operator may be set.
+    fn admitted(
+        &self,
+        atoms: &Atoms,
+        priority: i128,
+        kind: &str,
+        name: Atom,
+    ) -> Result<(u16, OpKind), OpFault>
+        requires { name < length atoms.now }
+        ensures ok { IfOk result (λ op. IsAdmitted atoms.now self.now priority kind.now name op.0 op.1) }
+        ensures refused { IfErr result (λ fault. Explains fault (set (named atoms.now self.now) priority kind.now (text_of atoms.now name))) }
+        ensures memory { result ≢ Err OpFault.NoMemory }
     {
         let Some(priority) = priority_in_range(priority) else {
             return Err(OpFault::BadPriority);
@@ -111,10 +155,7 @@ impl Ops {
         if self.clashes(text, priority, kind, name) {
             return Err(OpFault::Clash);
         }
-        match self.put(priority, kind, name) {
-            Ok(()) => Ok(()),
-            Err(_) => Err(OpFault::NoMemory),
-        }
+        Ok((priority, kind))
     }
 
     /// Whether the name, of this text, may not be such an operator.

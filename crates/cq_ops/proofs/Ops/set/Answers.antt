@@ -1,34 +1,17 @@
-use Rattle.std.proofs.Common.{◌≡◌, Some, true, false, sym, ap, subst, ◌∙◌}
-use Rattle.std.specs.Int.{w128}
-use Rattle.std.proofs.lemmas.Int.{to_z-of_z}
-use Rattle.std.specs.Prelude.{bytes_eq, codes}
+use Rattle.std.proofs.Common.{sym, subst}
+use Rattle.spec_syntax.specs.Writing.{IsTable}
+use Rattle.spec_syntax.proofs.Tables.{changed_table}
 use Rattle.cq_atoms.specs.Texts.{text_of}
-use Rattle.spec_operators.specs.Operators.{position_of, entry, in_range}
-use Rattle.cq_ops.specs.Tables.{AreNamed}
-use Rattle.cq_ops.proofs.Named.{clash, set_clash, set_ok, are_named-put_number}
+use Rattle.spec_operators.specs.Operators.{position_of, entry}
+use Rattle.cq_ops.specs.Tables.{AreNamed, named}
+use Rattle.cq_ops.proofs.Named.{set_ok, are_named-put_number}
 use Rattle.cq_ops.proofs.Ops.set.Goals as goal
 
-pub returns-then-clashes-clause-refused : goal.returns-then-clashes-clause-refused
-returns-then-clashes-clause-refused c =
-    let texts = c.args.atoms.now in
-    let p = c.in-Some.priority in
-    let kind = c.in-Some-kind_named.kind in
-    let in_priority : Some p ≡ in_range c.args.priority = c.in-Some.ensures ∙ ap in_range (to_z-of_z w128 c.args.priority c.ranges.priority) in
-    let no_comma : bytes_eq (text_of texts c.args.name) (codes ",") ≡ false = cc in
-    let clashes : clash texts c.args.self.now c.args.priority c.args.kind.now c.args.name p kind c.text-text.ensures.different c.requires in_priority c.in-Some-kind_named.ensures no_comma ≡ true = cc in
-    set_clash texts c.args.self.now c.args.priority c.args.kind.now c.args.name p kind c.text-text.ensures.different c.requires in_priority c.in-Some-kind_named.ensures no_comma clashes
+pub returns-in-Ok-put-clause-ok : goal.returns-in-Ok-put-clause-ok
+returns-in-Ok-put-clause-ok c = ?
 
-pub returns-in-Ok-clause-ok : goal.returns-in-Ok-clause-ok
-returns-in-Ok-clause-ok c =
-    let texts = c.args.atoms.now in
-    let p = c.in-Some.priority in
-    let kind = c.in-Some-kind_named.kind in
-    let in_priority : Some p ≡ in_range c.args.priority = c.in-Some.ensures ∙ ap in_range (to_z-of_z w128 c.args.priority c.ranges.priority) in
-    let no_comma : bytes_eq (text_of texts c.args.name) (codes ",") ≡ false = cc in
-    let fits : clash texts c.args.self.now c.args.priority c.args.kind.now c.args.name p kind c.text-text.ensures.different c.requires in_priority c.in-Some-kind_named.ensures no_comma ≡ false = cc in
-    set_ok texts c.args.self.now c.args.priority c.args.kind.now c.args.name p kind c.text-text.ensures.different c.requires in_priority c.in-Some-kind_named.ensures no_comma fits c.put.new.self c.in-Ok.ensures.ok
+pub returns-in-Ok-put-clause-known : goal.returns-in-Ok-put-clause-known
+returns-in-Ok-put-clause-known c = λ known. ?
 
-pub returns-in-Ok-clause-known : goal.returns-in-Ok-clause-known
-returns-in-Ok-clause-known c = λ known.
-    subst (AreNamed c.args.atoms.now) (sym c.in-Ok.ensures.ok)
-    (are_named-put_number (position_of c.in-Some-kind_named.kind) c.args.atoms.now c.args.self.now c.args.name (entry c.in-Some.priority c.in-Some-kind_named.kind) c.requires known)
+pub returns-in-Ok-put-clause-table : goal.returns-in-Ok-put-clause-table
+returns-in-Ok-put-clause-table c = λ is. ?
