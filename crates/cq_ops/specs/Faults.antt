@@ -1,5 +1,5 @@
 -- Why `set` refuses, and what it takes.
-use Rattle.std.specs.Prelude.{◌≡◌, ℕ, ℤ, ◌≤◌, ◌&&◌, ◌||◌, ◌==◌, not, Bool, false, List, codes, bytes_eq, Option, Some, Result, Err}
+use Rattle.std.specs.Prelude.{◌≡◌, ℕ, ℤ, ◌≤◌, ◌&&◌, ◌||◌, ◌==◌, not, false, List, codes, bytes_eq, Some, Result, Err}
 use Rattle.spec_lists.specs.Texts.{Text}
 use Rattle.spec_operators.specs.declared.OpKind.{OpKind}
 use Rattle.spec_operators.specs.Operators.{Ops, Refusal, BadPriority, BadKind, Comma, Clash, in_range, kind_named, is_bracket, position_of}

@@ -3,4 +3,4 @@ mod Steps
 pub mod Runs
 pub mod Written
 pub mod ReadBack
-mod Tables
+pub mod Tables

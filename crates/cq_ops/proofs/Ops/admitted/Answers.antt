@@ -16,15 +16,3 @@ returns-then-clashes-clause-refused c =
     let no_comma : bytes_eq (text_of texts c.args.name) (codes ",") ≡ false = cc in
     let clashes : clash texts c.args.self.now c.args.priority c.args.kind.now c.args.name p kind c.text-text.ensures.different c.requires in_priority c.in-Some-kind_named.ensures no_comma ≡ true = cc in
     set_clash texts c.args.self.now c.args.priority c.args.kind.now c.args.name p kind c.text-text.ensures.different c.requires in_priority c.in-Some-kind_named.ensures no_comma clashes
-
-pub returns-in-Ok-clause-ok : goal.returns-in-Ok-clause-ok
-returns-in-Ok-clause-ok c =
-    let texts = c.args.atoms.now in
-    record {
-      different = c.text-text.ensures.different;
-      priority_is = c.in-Some.ensures ∙ ap in_range (to_z-of_z w128 c.args.priority c.ranges.priority);
-      low = ?;
-      kind_is = c.in-Some-kind_named.ensures;
-      no_comma = cc;
-      no_clash = cc;
-    }
