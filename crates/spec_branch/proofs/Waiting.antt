@@ -3,7 +3,7 @@ use Rattle.std.proofs.Common.{◌≡◌, ℕ, List, [], ◌∷◌, ◌++◌, Boo
 use Rattle.std.specs.Prelude.{filter, is_some}
 use Rattle.spec_rational.specs.Rational.{ℚ}
 use Rattle.spec_linear.specs.Solution.{Constraint, Solvable, Fixes, Has, Equivalent, false_constraint}
-use Rattle.spec_linear.proofs.Lists.{told_once, alike_fixed}
+use Rattle.spec_linear.proofs.Lists.{told_once, alike_fixed, alike_sym}
 use Rattle.spec_lists.specs.Texts.{Text}
 use Rattle.spec_terms.specs.Term.{Subst, apply}
 use Rattle.spec_syntax.specs.Trees.{Tree}
@@ -14,13 +14,10 @@ use Rattle.spec_branch.proofs.Absorbed.{moves_below, became, can_move, Row, clos
 
 -- ---- fixed values
 
-pub alike_back : (l m : List Constraint) → Equivalent l m → Equivalent m l
-alike_back l m e p = ((e p).1, (e p).0)
-
 alike_fixes : (l m : List Constraint) → Equivalent l m → (fixed : ℕ → Option ℚ) → Fixes l fixed → Fixes m fixed
 alike_fixes l m e fixed f = record {
   sound = λ x q h. alike_fixed l m x q e (f.sound x q h);
-  complete = λ x q g. f.complete x q (alike_fixed m l x q (alike_back l m e) g);
+  complete = λ x q g. f.complete x q (alike_fixed m l x q (alike_sym l m e) g);
 }
 
 -- two maps with the same values are one
@@ -35,7 +32,7 @@ same_map f g h k = λ i x. at x (f x) (g x) refl refl i
 
 -- lists with the same solutions have one map of fixed values
 pub one_map : (l m : List Constraint) (f g : ℕ → Option ℚ) → Equivalent l m → Fixes l f → Fixes m g → f ≡ g
-one_map l m f g e hf hg = same_map f g (told_once m f g (alike_fixes l m e f hf) hg) (told_once l g f (alike_fixes m l (alike_back l m e) g hg) hf)
+one_map l m f g e hf hg = same_map f g (told_once m f g (alike_fixes l m e f hf) hg) (told_once l g f (alike_fixes m l (alike_sym l m e) g hg) hf)
 
 -- ---- waiting terms
 
@@ -97,5 +94,5 @@ same_closures s k l m n w x y begins a b f g hf hg sm sn =
     record {
       solutions = e;
       waiting = waiting-is s m f hf sm k w x a ∙ ap (λ (h : ℕ → Option ℚ). filter (waits s h) w) d ∙ sym (waiting-is s n g hg sn l w y b);
-      fixed = λ v q. (alike_fixed m n v q e, alike_fixed n m v q (alike_back m n e));
+      fixed = λ v q. (alike_fixed m n v q e, alike_fixed n m v q (alike_sym m n e));
     }

@@ -8,7 +8,7 @@ use Rattle.spec_rational.proofs.Rational.{ring}
 use Rattle.spec_rational.proofs.Sums.{sum_at-agrees, sum_at-nowhere, unit-self, unit-other}
 use Rattle.spec_linear.specs.Form.{Linear, value_at}
 use Rattle.spec_linear.specs.Solution.{Has}
-use Rattle.spec_linear.proofs.Ordered.{product_same, form_same}
+use Rattle.spec_linear.proofs.Ordered.{product_same, form_same, constant_is}
 use Rattle.spec_echelon.specs.Echelon.{AreDistinct, InOrder, variables, IsBefore}
 use Rattle.spec_echelon.proofs.Orders.{in_order-has, in_order-once, in_order-rest, mentions-has}
 
@@ -71,9 +71,6 @@ products_same (v ∷ order) (m ∷ s) (n ∷ t) d (inr i) (inl j) k l e =
 products_same (v ∷ order) (m ∷ s) (n ∷ t) d (inr i) (inr j) k l e = products_same order (m ∷ s) (n ∷ t) d.1 i j k l e
 
 -- ---- the same values
-
-constant_is : (f : Linear) → value_at (λ x. 0ℚ) f ≡ f.constant
-constant_is f = ap (λ r. f.constant +ℚ r) (sum_at-nowhere f.products) ∙ ring (f.constant ∷ []) (var 0 ⊕ int (pos 0)) (var 0) refl
 
 pub forms_same : (order : List ℕ) (x : ℕ) (f g : Linear) → AreDistinct order → IsBefore order x f.products → IsBefore order x g.products
     → ((a : ℕ → ℚ) → value_at a f ≡ value_at a g) → f ≡ g

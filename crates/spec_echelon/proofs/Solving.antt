@@ -8,17 +8,13 @@ use Rattle.spec_rational.proofs.Rational.{ring}
 use Rattle.spec_rational.proofs.Sign.{one_not_zero}
 use Rattle.spec_rational.proofs.Sums.{sum_at-agrees, sum_at-nowhere, unit-self, unit-other}
 use Rattle.spec_linear.specs.Form.{Linear}
-use Rattle.spec_linear.specs.Solution.{Constraint, Point, number, Solvable, Fixed, Entails, AgreesOn, Same, Has, MentionsOnly, Satisfies}
-use Rattle.spec_linear.proofs.Denominators.{agrees_at, extends}
+use Rattle.spec_linear.specs.Solution.{Constraint, number, Solvable, Fixed, Entails, Same, Has, MentionsOnly, Satisfies}
+use Rattle.spec_linear.proofs.Denominators.{agrees_at, extends, agrees_on}
 use Rattle.spec_linear.proofs.Points.{holds_same, solves_same}
 use Rattle.spec_echelon.specs.Echelon.{Solved, equation, equations, AreDistinct, InOrder, variables, IsBefore, IsOver, equal_zero, IsEchelon}
 use Rattle.spec_echelon.specs.SolvedForm.{IsSolvedForm, NotFixed, rows_of}
 use Rattle.spec_echelon.proofs.Orders.{in_order-has, in_order-behind, in_order-once, in_order-rest, mentions-has}
 use Rattle.spec_echelon.proofs.Filled.{value_at-agrees, equation-said, filled, filled-free, filled-solved, filled-satisfies, each_row, rows-sorted, rows-satisfied, filled-target}
-
-agrees_through : (targets : List ℕ) (a : ℕ → ℚ) (p : Point) → ((x : ℕ) → Has x targets → number p x ≡ a x) → AgreesOn targets a p
-agrees_through [] a p h = tt
-agrees_through (x ∷ targets) a p h = (h x (inl refl), agrees_through targets a p (λ y k. h y (inr k)))
 
 pub negated-mentions : (x : ℕ) (s : List Monomial) → Mentions x (negated_products s) → Mentions x s
 negated-mentions x [] h = h
@@ -123,7 +119,7 @@ module _ (order : List ℕ) (l : List Constraint) (solved : ℕ → Option Linea
       same = λ a. (
         (λ sat.
             let e = extends targets (filled solved a) l (filled-satisfies order l solved s a) in
-            (e.0, agrees_through targets a e.0 (λ x k. agrees_at targets (filled solved a) e.0 e.1 x k ∙ filled-target a solved targets sat x k), e.2)),
+            (e.0, agrees_on targets a e.0 (λ x k. agrees_at targets (filled solved a) e.0 e.1 x k ∙ filled-target a solved targets sat x k), e.2)),
         (λ e. rows-satisfied a solved targets (λ x f h d.
             sym (agrees_at targets a e.0 e.1 x h)
             ∙ (s.same (number e.0)).0 ((solves_same e.0 l).0 e.2) x f d

@@ -80,10 +80,10 @@ end_again more at is = rw (first_char-ascii 46 more (omega arith), stops more is
 pub opening_again : (bs : List ℕ) (at : ℕ) → (token_at (39 ∷ bs) at ≡ in_quotes Quoted at (quoted 39 0 bs (at + 1))) × (token_at (34 ∷ bs) at ≡ in_quotes Codes at (quoted 34 0 bs (at + 1)))
 opening_again bs at = (rw (first_char-ascii 39 bs (omega arith)) refl, rw (first_char-ascii 34 bs (omega arith)) refl)
 
-symbol_small : (b : ℕ) → is_symbol b ≡ true → b < 128
+pub symbol_small : (b : ℕ) → is_symbol b ≡ true → b < 128
 symbol_small b e = grind (arith, nat_tests)
 
-symbol_starts_none : (b : ℕ) → is_symbol b ≡ true → starts_name b ≡ false
+pub symbol_starts_none : (b : ℕ) → is_symbol b ≡ true → starts_name b ≡ false
 symbol_starts_none b e = grind (arith, nat_tests)
 
 symbol_no_capital : (b : ℕ) → is_symbol b ≡ true → starts_variable b ≡ false

@@ -1,6 +1,6 @@
 -- The bytes of names and variables are UTF-8.
-use Rattle.std.proofs.Common.{◌≡◌, ℕ, zero, suc, ◌+◌, ◌-◌, ◌<◌, ◌≤◌, Bool, true, false, cond, List, [], ◌∷◌, ◌++◌, take, drop, length, nat_lt, slice_get, Option, Some, None, Result, Ok, Err, ◌⊎◌, inl, inr, refl, sym, ap, subst, ◌∙◌, arith}
-use Rattle.std.specs.Prelude.{◌==◌, ◌||◌, ◌&&◌, if◌then◌else◌}
+use Rattle.std.proofs.Common.{◌≡◌, ℕ, zero, suc, ◌+◌, ◌-◌, ◌<◌, ◌≤◌, Bool, true, false, cond, List, [], ◌∷◌, take, drop, length, nat_lt, slice_get, Option, Some, None, Result, Ok, Err, ◌⊎◌, inl, inr, refl, sym, ap, subst, ◌∙◌, arith}
+use Rattle.std.specs.Prelude.{◌==◌, ◌||◌, if◌then◌else◌}
 use Rattle.std.specs.Char.{is_ascii_digit}
 use Rattle.std.specs.List.{prefix_len}
 use Rattle.std.specs.Str.{IsUtf8, IsAscii, is_utf8, chars, continuation_len}
@@ -11,11 +11,11 @@ use Rattle.spec_grammar.specs.declared.Kind.{Kind}
 use Rattle.spec_grammar.specs.declared.Kind.TheVariants.{Name, Quoted, Codes, Variable, Numeral, Punctuation, End, Eof}
 use Rattle.spec_grammar.specs.declared.Gap.TheVariants.{Between}
 use Rattle.spec_grammar.specs.declared.LexFault.{LexFault}
-use Rattle.spec_grammar.specs.Characters.{is_symbol, is_punctuation, begins_with, first_char, passes, continues_name, starts_name, starts_variable, name_end}
+use Rattle.spec_grammar.specs.Characters.{is_symbol, is_punctuation, first_char, passes, continues_name, starts_name, starts_variable, name_end}
 use Rattle.spec_grammar.specs.Gaps.{gap}
 use Rattle.spec_grammar.specs.Quotes.{Quoted as InQuotes}
 use Rattle.spec_grammar.specs.Numerals.{Spelling, spelling, is_wide, goes_on_as_float}
-use Rattle.spec_grammar.specs.Tokens.{Token, token, ends_clause, in_quotes, numeral, token_at, token_behind, next_token, bytes_of}
+use Rattle.spec_grammar.specs.Tokens.{Token, token, in_quotes, numeral, token_at, token_behind, next_token, bytes_of}
 use Rattle.spec_grammar.proofs.Characters.{whole_char}
 use Rattle.spec_grammar.proofs.Tiles.{BeginsAt, token_begins}
 

@@ -11,7 +11,7 @@ use Rattle.spec_grammar.specs.Characters.{begins, begins_with}
 use Rattle.spec_grammar.specs.Numerals.{Spelling, spelling, value, is_wide, goes_on_as_float}
 use Rattle.spec_grammar.specs.Gaps.{place}
 use Rattle.spec_grammar.specs.Quotes.{quoted, in_front, ends, Quoted as InQuotes}
-use Rattle.spec_grammar.specs.Tokens.{Token, numeral, next_token, quotes_at, IsInQuotes}
+use Rattle.spec_grammar.specs.Tokens.{Token, numeral, next_token, quotes_at}
 use Rattle.spec_grammar.specs.Laws.{behind, looks, settles, IsZeroBeforeQuote}
 use Rattle.spec_grammar.proofs.Held.{IsQuoting, quotes_hold, next_in_quotes}
 use Rattle.spec_grammar.proofs.Bounds.{Within, quoted_within}

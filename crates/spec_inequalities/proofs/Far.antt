@@ -61,7 +61,7 @@ member_satisfied a (d ∷ l) c (inr k) s = member_satisfied a l c k s.1
 abbrev pub Carries : Relation → ℚ → ℚ → Type 0
 Carries r p q = (Weakly r p × Meets r q) ⊎ (Meets r p × Weakly r q)
 
-zeros : (t p q : ℚ) → p ≡ 0ℚ → q ≡ 0ℚ → t *ℚ p +ℚ q ≡ 0ℚ
+pub zeros : (t p q : ℚ) → p ≡ 0ℚ → q ≡ 0ℚ → t *ℚ p +ℚ q ≡ 0ℚ
 zeros t p q h k = ap₂ (λ x y. t *ℚ x +ℚ y) h k ∙ ring (t ∷ []) (var 0 ⊗ int (pos 0) ⊕ int (pos 0)) (int (pos 0)) refl
 
 carried : (r : Relation) (p q : ℚ) → Carries r p q → Eventually (λ t. Meets r (t *ℚ p +ℚ q))

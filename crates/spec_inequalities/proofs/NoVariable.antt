@@ -40,7 +40,7 @@ sum_vanishes a s z =
 pub number_everywhere : (f : Linear) → HasNoVariable f → (a : ℕ → ℚ) → value_at a f ≡ f.constant
 number_everywhere f n a = ap (λ r. f.constant +ℚ r) (sum_vanishes a f.products n) ∙ ring (f.constant ∷ []) (var 0 ⊕ int (pos 0)) (var 0) refl
 
-constant_is : (f : Linear) → f.constant ≡ value_at (λ x. 0ℚ) f
+pub constant_is : (f : Linear) → f.constant ≡ value_at (λ x. 0ℚ) f
 constant_is f = ring (f.constant ∷ []) (var 0) (var 0 ⊕ int (pos 0)) refl ∙ ap (λ r. f.constant +ℚ r) (sym (sum_at-nowhere f.products))
 
 factor_is : (x : ℕ) (f : Linear) → factor_of x f.products ≡ value_at (unit x) f -ℚ f.constant

@@ -91,7 +91,7 @@ point_of-is a (x ∷ xs) y h = widened_is (point_of a xs) x y (a x) ∙ go (x ==
     go false e (inl k) r = absurd (grind arith)
     go false e (inr k) r = r k
 
-agrees_on : (targets : List ℕ) (a : ℕ → ℚ) (p : Point) → ((x : ℕ) → Has x targets → number p x ≡ a x) → AgreesOn targets a p
+pub agrees_on : (targets : List ℕ) (a : ℕ → ℚ) (p : Point) → ((x : ℕ) → Has x targets → number p x ≡ a x) → AgreesOn targets a p
 agrees_on [] a p h = tt
 agrees_on (x ∷ targets) a p h = (h x (inl refl), agrees_on targets a p (λ y k. h y (inr k)))
 

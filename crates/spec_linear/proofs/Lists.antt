@@ -97,6 +97,12 @@ fixed_same l x q = (
 
 -- ---- lists with the same solutions
 
+pub alike_sym : (k l : List Constraint) → Equivalent k l → Equivalent l k
+alike_sym k l h p = ((h p).1, (h p).0)
+
+pub alike_trans : (k l m : List Constraint) → Equivalent k l → Equivalent l m → Equivalent k m
+alike_trans k l m h i p = ((λ s. (i p).0 ((h p).0 s)), (λ s. (h p).1 ((i p).1 s)))
+
 pub alike_solvable : (l m : List Constraint) → Equivalent l m → Solvable l → Solvable m
 alike_solvable l m e s = (s.0, (e s.0).0 s.1)
 

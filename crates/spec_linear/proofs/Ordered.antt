@@ -187,7 +187,7 @@ form_same f g e h = ap₂ (λ (s : List Monomial) (q : ℚ). let r : Linear = re
 
 -- ---- forms with the same values are the same
 
-constant_is : (f : Linear) → value_at (λ x. 0ℚ) f ≡ f.constant
+pub constant_is : (f : Linear) → value_at (λ x. 0ℚ) f ≡ f.constant
 constant_is f = ap (λ r. f.constant +ℚ r) (sum_at-nowhere f.products) ∙ ring (f.constant ∷ []) (var 0 ⊕ int (pos 0)) (var 0) refl
 
 factor_is : (x : ℕ) (f : Linear) → value_at (unit x) f ≡ f.constant +ℚ factor_of x f.products

@@ -41,7 +41,7 @@ through_is p f =
 
 -- ---- a positive factor changes no relation to zero
 
-times_zero : (s q : ℚ) → q ≡ 0ℚ → s *ℚ q ≡ 0ℚ
+pub times_zero : (s q : ℚ) → q ≡ 0ℚ → s *ℚ q ≡ 0ℚ
 times_zero s q e = ap (λ r. s *ℚ r) e ∙ ring (s ∷ []) (var 0 ⊗ int (pos 0)) (int (pos 0)) refl
 
 pos_not_zero : (s : ℚ) → IsPositive s → s ≢ 0ℚ

@@ -1,5 +1,5 @@
 -- What the tests of numbers tell.
-use Rattle.std.proofs.Common.{◌≡◌, ℕ, ◌<◌, ◌≤◌, Bool, true, false, nat_eq, nat_le, inl, inr, ◌⊎◌, ◌||◌, refl, ap, ◌∙◌, arith}
+use Rattle.std.proofs.Common.{◌≡◌, ℕ, ◌<◌, ◌≤◌, Bool, true, false, nat_eq, nat_le, inl, inr, ◌⊎◌, ◌||◌, ◌&&◌, refl, ap, ◌∙◌, arith}
 use Rattle.std.proofs.lemmas.Bool.Decides.{nat_tests}
 
 pub le_true : (m n : ℕ) → m ≤ n → nat_le m n ≡ true
@@ -46,3 +46,7 @@ neither_is false b e = (refl, e)
 pub one_is : (a b : Bool) → (a || b) ≡ true → (a ≡ true) ⊎ (b ≡ true)
 one_is true b e = inl refl
 one_is false b e = inr e
+
+pub both_are : (a b : Bool) → (a && b) ≡ true → (a ≡ true) × (b ≡ true)
+both_are true b e = (refl, e)
+both_are false b e = cc

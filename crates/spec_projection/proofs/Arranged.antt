@@ -1,20 +1,23 @@
 -- Lists of multiples of each other's constraints have the same solutions and mention the same variables.
 use Rattle.std.proofs.Common.{inl, inr, subst, ◌++◌, ◌≡◌, ℕ, List, [], ◌∷◌, pos, refl, ap, ap₂, sym, ◌∙◌}
-use Rattle.spec_rational.specs.Rational.{0ℚ, ◌+ℚ◌, ◌-ℚ◌, ◌*ℚ◌, inv_ℚ}
+use Rattle.spec_rational.specs.Rational.{0ℚ, ◌-ℚ◌, ◌*ℚ◌, inv_ℚ}
 use Rattle.spec_rational.specs.Sums.{Mentions, factor_of, unit, sum_at}
 use Rattle.spec_rational.proofs.Ring.{var, int, ◌⊕◌, ◌⊗◌, minus}
 use Rattle.spec_rational.proofs.Rational.{ring}
 use Rattle.spec_rational.proofs.Sign.{product_zero, times_inverse, inverse_not_zero}
-use Rattle.spec_rational.proofs.Sums.{factor_of-is, sum_at-nowhere}
+use Rattle.spec_rational.proofs.Sums.{factor_of-is}
 use Rattle.spec_linear.specs.Form.{Linear, value_at}
 use Rattle.spec_linear.specs.Solution.{Constraint, Equivalent, Has, SomeMentions}
 use Rattle.spec_projection.specs.Strict.{AreMultiples, IsMultiple, AreScaled, no_row, one_row, HasForm}
 use Rattle.spec_projection.specs.Arranged.{IsArranged}
 use Rattle.spec_projection.specs.Irredundant.{IsIrredundant}
-use Rattle.spec_projection.proofs.Members.{alike_trans, alike_by_same_members}
+use Rattle.spec_projection.proofs.Members.{alike_by_same_members}
 use Rattle.spec_projection.proofs.Reordered.{reordered_has, reordered_back, reordered_both, reordered_irredundant}
-use Rattle.spec_projection.proofs.Strong.{times_zero, scaled_alike, scaled_both, scaled_irredundant}
+use Rattle.spec_projection.proofs.Strong.{scaled_alike, scaled_both, scaled_irredundant}
 use Rattle.spec_projection.proofs.Mentions.{factor_mentioned, some_mentions, mentioning}
+use Rattle.spec_linear.proofs.Lists.{alike_trans}
+use Rattle.spec_inequalities.proofs.NoVariable.{constant_is}
+use Rattle.spec_linear.proofs.Points.{times_zero}
 
 -- a member of the list of which c is a multiple
 pub record HasSource (c : Constraint) (l : List Constraint) : Type 0 where
@@ -41,9 +44,6 @@ arranged_irredundant k l m n r s i =
     (reordered_irredundant (k ++ m) (r.order ++ s.order) (reordered_both k r.order m s.order r.reordered s.reordered) i)
 
 -- ---- coefficients of multiples
-
-pub constant_is : (f : Linear) → f.constant ≡ value_at (λ x. 0ℚ) f
-constant_is f = ring (f.constant ∷ []) (var 0) (var 0 ⊕ int (pos 0)) refl ∙ ap (λ r. f.constant +ℚ r) (sym (sum_at-nowhere f.products))
 
 factor_is : (x : ℕ) (f : Linear) → factor_of x f.products ≡ value_at (unit x) f -ℚ value_at (λ y. 0ℚ) f
 factor_is x f =

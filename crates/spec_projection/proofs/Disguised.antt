@@ -8,12 +8,12 @@ use Rattle.spec_linear.specs.declared.Relation.TheVariants.{Eq, Gt, Ge, Ne}
 use Rattle.spec_linear.specs.Form.{Linear, value_at}
 use Rattle.spec_linear.specs.Solution.{Constraint, Meets, HoldsAt, Satisfies, Solvable, Entails, Equivalent, AreEquations, Has, SomeMentions}
 use Rattle.spec_linear.proofs.Denominators.{solvable_same, has_left, has_right}
-use Rattle.spec_linear.proofs.Lists.{entails_same, alike_solvable, alike_entails}
+use Rattle.spec_linear.proofs.Lists.{entails_same, alike_solvable, alike_entails, alike_sym}
 use Rattle.spec_echelon.specs.Echelon.{equal_zero}
 use Rattle.spec_inequalities.specs.Weak.{above_zero, at_least_zero, with_weak, weak}
 use Rattle.spec_inequalities.proofs.Far.{Weakly, weak_satisfied, weak_member}
 use Rattle.spec_projection.specs.Interior.{strictly, is_equation, equations_of}
-use Rattle.spec_projection.proofs.Members.{has_either, has_filtered, alike_by_members, member_entailed, alike_sym}
+use Rattle.spec_projection.proofs.Members.{has_either, has_filtered, alike_by_members, member_entailed}
 use Rattle.spec_projection.proofs.Splits.{entails_members}
 use Rattle.spec_projection.proofs.Decided.{HasValues}
 use Rattle.spec_projection.proofs.Decision.{decided_above}

@@ -14,7 +14,7 @@ use Rattle.spec_projection.specs.Irredundant.{IsIrredundant}
 use Rattle.spec_projection.specs.Substitution.{put_into, AreFreeOf}
 use Rattle.spec_projection.specs.Strict.{HasForm, IsStrictWhereUnequal}
 use Rattle.spec_projection.specs.Projection.{inequalities_of, disequations_of, Projects, AreProjectedRows}
-use Rattle.spec_projection.proofs.Members.{has_either, has_mapped, alike_sym, alike_trans, alike_front, alike_behind, alike_swapped}
+use Rattle.spec_projection.proofs.Members.{has_either, has_mapped, alike_front, alike_behind, alike_swapped}
 use Rattle.spec_projection.proofs.SameOn.{same_from_same_on, same_on_trans, same_on_solvable, alike_same_on}
 use Rattle.spec_projection.proofs.Sifted.{none_yet, sifted_none, sifted_alike}
 use Rattle.spec_projection.proofs.Strong.{strengthened_alike}
@@ -24,6 +24,7 @@ use Rattle.spec_projection.proofs.Rows.{equations_irredundant, two_passes}
 use Rattle.spec_projection.proofs.Arranged.{source, arranged_alike, arranged_irredundant, arranged_form}
 use Rattle.spec_projection.proofs.PutIn.{put_disequations, put_in_alike}
 use Rattle.spec_projection.proofs.Whole as whole
+use Rattle.spec_linear.proofs.Lists.{alike_sym, alike_trans}
 
 equations_append : (s t : List Solved) → equations (s ++ t) ≡ equations s ++ equations t
 equations_append [] t = refl

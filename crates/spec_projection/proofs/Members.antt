@@ -78,12 +78,6 @@ alike_by_same_members k l h = alike_by_members k l (λ c m. member_entailed l c 
 pub alike_refl : (l : List Constraint) → Equivalent l l
 alike_refl l p = ((λ s. s), (λ s. s))
 
-pub alike_sym : (k l : List Constraint) → Equivalent k l → Equivalent l k
-alike_sym k l h p = ((h p).1, (h p).0)
-
-pub alike_trans : (k l m : List Constraint) → Equivalent k l → Equivalent l m → Equivalent k m
-alike_trans k l m h i p = ((λ s. (i p).0 ((h p).0 s)), (λ s. (h p).1 ((i p).1 s)))
-
 -- ---- lists together
 
 pub alike_front : (k l beside : List Constraint) → Equivalent k l → Equivalent (k ++ beside) (l ++ beside)

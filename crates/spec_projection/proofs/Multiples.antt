@@ -11,11 +11,11 @@ use Rattle.spec_linear.specs.Form.{Linear, value_at, IsForm, scaled_form, differ
 use Rattle.spec_linear.specs.Solution.{Constraint}
 use Rattle.spec_linear.proofs.Values.{value_at-scaled_form, value_at-difference_form}
 use Rattle.spec_linear.proofs.Ordered.{IsForm-scaled_form, IsForm-difference_form}
-use Rattle.spec_inequalities.proofs.NoVariable.{same_number_everywhere}
+use Rattle.spec_inequalities.proofs.NoVariable.{same_number_everywhere, constant_is}
 use Rattle.spec_projection.specs.Lists.{AreForms}
 use Rattle.spec_projection.specs.Strict.{AreMultiples, HasForm}
 use Rattle.spec_projection.proofs.Mentions.{mentioned_factor}
-use Rattle.spec_projection.proofs.Arranged.{constant_is, multiple_factor}
+use Rattle.spec_projection.proofs.Arranged.{multiple_factor}
 
 -- the second form has k times the values of the first
 abbrev Times : ℚ → Linear → Linear → Type 0

@@ -11,12 +11,13 @@ use Rattle.spec_projection.specs.Elimination.{IsInequality}
 use Rattle.spec_projection.specs.Partial.{AreInequalities}
 use Rattle.spec_projection.specs.Substitution.{put_into}
 use Rattle.spec_projection.specs.Projection.{is_inequality, is_disequation, inequalities_of, disequations_of}
-use Rattle.spec_projection.proofs.Members.{has_either, has_filtered, has_passed, has_mapped, alike_by_members, member_entailed, alike_trans}
+use Rattle.spec_projection.proofs.Members.{has_either, has_filtered, has_passed, has_mapped, alike_by_members, member_entailed}
 use Rattle.spec_projection.proofs.Splits.{entails_members}
 use Rattle.spec_projection.proofs.Mentions.{some_mentions}
 use Rattle.spec_projection.proofs.Filled.{each}
 use Rattle.spec_projection.proofs.PutInto.{put_into-alike}
 use Rattle.spec_projection.proofs.Echelons.{equation_follows}
+use Rattle.spec_linear.proofs.Lists.{alike_trans}
 
 map_append : (f : Constraint → Constraint) (s t : List Constraint) → map f (s ++ t) ≡ map f s ++ map f t
 map_append f [] t = refl

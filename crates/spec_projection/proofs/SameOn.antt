@@ -1,15 +1,11 @@
 -- Lists that leave the targets the same values: an equivalence, which ends in rows over the targets alone.
-use Rattle.std.proofs.Common.{◌≡◌, ◌↔◌, inl, inr, ℕ, List, [], ◌∷◌, refl, ◌∙◌}
+use Rattle.std.proofs.Common.{◌↔◌, inl, ℕ, List, [], ◌∷◌, refl, ◌∙◌}
 use Rattle.spec_rational.specs.Rational.{ℚ}
-use Rattle.spec_linear.specs.Solution.{Constraint, Point, number, Solvable, Entails, Equivalent, Satisfies, AgreesOn, Extends, Has, MentionsOnly, Same}
+use Rattle.spec_linear.specs.Solution.{Constraint, number, Solvable, Entails, Equivalent, Satisfies, Extends, Has, MentionsOnly, Same}
 use Rattle.spec_linear.proofs.Points.{solves_same}
-use Rattle.spec_linear.proofs.Denominators.{extends, agrees_at, satisfies_agrees, holds_agrees}
+use Rattle.spec_linear.proofs.Denominators.{extends, agrees_at, satisfies_agrees, holds_agrees, agrees_on}
 use Rattle.spec_linear.proofs.Lists.{entails_same}
 use Rattle.spec_projection.specs.Targets.{AgreeOn, SameOn}
-
-agrees_on : (targets : List ℕ) (a : ℕ → ℚ) (p : Point) → ((x : ℕ) → Has x targets → number p x ≡ a x) → AgreesOn targets a p
-agrees_on [] a p h = tt
-agrees_on (x ∷ targets) a p h = (h x (inl refl), agrees_on targets a p (λ y k. h y (inr k)))
 
 -- values of the targets extend to a solution exactly where they extend to rationals that satisfy the list
 pub extends_by_values : (targets : List ℕ) (a : ℕ → ℚ) (l : List Constraint) → Extends targets a l ↔ ((b : ℕ → ℚ) × AgreeOn targets a b × Satisfies b l)

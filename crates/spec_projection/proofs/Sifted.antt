@@ -3,8 +3,9 @@ use Rattle.std.proofs.Common.{◌≡◌, ◌⊎◌, inl, inr, List, [], ◌∷�
 use Rattle.std.proofs.lemmas.List.{append_assoc, append-nil}
 use Rattle.spec_linear.specs.Solution.{Constraint, Entails, Equivalent, Has}
 use Rattle.spec_projection.specs.Irredundant.{IsSublist, empty, kept, left_out, IsIrredundantSublist, NoneFollows, Sifts, done, dropped, stays}
-use Rattle.spec_projection.proofs.Members.{has_either, alike_by_members, alike_refl, alike_trans, member_entailed}
+use Rattle.spec_projection.proofs.Members.{has_either, alike_by_members, alike_refl, member_entailed}
 use Rattle.spec_projection.proofs.Splits.{Before, Behind, split, split_one, entails_members, In, in_first, in_second, in_third, has_in, in_has}
+use Rattle.spec_linear.proofs.Lists.{alike_trans}
 
 pub sublist_has : (k l : List Constraint) → IsSublist k l → (c : Constraint) → Has c k → Has c l
 sublist_has _ _ empty c h = h

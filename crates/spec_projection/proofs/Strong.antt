@@ -1,14 +1,12 @@
 -- Multiples of constraints hold where these do, and a weak row beside a disequation of its form holds strictly.
-use Rattle.std.proofs.Common.{◌≡◌, ◌≢◌, ◌↔◌, inl, inr, ℕ, List, [], ◌∷◌, ◌++◌, pos, refl, ap, sym, subst, ◌∙◌}
+use Rattle.std.proofs.Common.{◌≡◌, ◌≢◌, ◌↔◌, inl, inr, ℕ, List, [], ◌∷◌, ◌++◌, refl, ap, sym, subst, ◌∙◌}
 use Rattle.spec_rational.specs.Rational.{ℚ, 0ℚ, ◌*ℚ◌, IsPositive}
-use Rattle.spec_rational.proofs.Ring.{var, int, ◌⊗◌}
-use Rattle.spec_rational.proofs.Rational.{ring}
 use Rattle.spec_rational.proofs.Sign.{product_zero, nonneg_cases, pos_nonneg, not_pos_zero}
 use Rattle.spec_linear.specs.declared.Relation.{Relation}
 use Rattle.spec_linear.specs.declared.Relation.TheVariants.{Eq, Gt, Ge, Ne}
 use Rattle.spec_linear.specs.Form.{Linear, value_at}
 use Rattle.spec_linear.specs.Solution.{Constraint, Meets, number, HoldsAt, Satisfies, Entails, Equivalent, Has}
-use Rattle.spec_linear.proofs.Points.{meets_same, solves_same}
+use Rattle.spec_linear.proofs.Points.{meets_same, solves_same, times_zero}
 use Rattle.spec_linear.proofs.Lists.{entails_same, solves_append}
 use Rattle.spec_inequalities.specs.Weak.{above_zero, at_least_zero, not_zero}
 use Rattle.spec_inequalities.proofs.Far.{member_satisfied}
@@ -16,9 +14,6 @@ use Rattle.spec_projection.specs.Elimination.{IsInequality}
 use Rattle.spec_projection.specs.Irredundant.{IsIrredundant}
 use Rattle.spec_projection.specs.Strict.{AreMultiples, IsMultiple, AreScaled, no_row, one_row, HasForm, Strengthened, no_more, made_strict, left_alone}
 use Rattle.spec_projection.proofs.Members.{satisfies_parts, satisfies_both}
-
-pub times_zero : (s q : ℚ) → q ≡ 0ℚ → s *ℚ q ≡ 0ℚ
-times_zero s q e = ap (λ r. s *ℚ r) e ∙ ring (s ∷ []) (var 0 ⊗ int (pos 0)) (int (pos 0)) refl
 
 meets_multiple : (r : Relation) (k q : ℚ) → k ≢ 0ℚ → (IsInequality r → IsPositive k) → Meets r (k *ℚ q) ↔ Meets r q
 meets_multiple Eq k q n h = ((λ e. product_zero k q n e), (λ e. times_zero k q e))

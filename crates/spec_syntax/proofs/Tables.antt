@@ -9,7 +9,7 @@ use Rattle.spec_lists.specs.Texts.{Text}
 use Rattle.spec_operators.specs.Operators.{Ops, Position, Prefix, Infix, Postfix, Fits, position_of, entry, changed, put_at, put, Refusal, kind_named, is_bracket, is_at_odds, clashes, in_range, set_checked, set}
 use Rattle.spec_operators.specs.Standard.{Row, rows, put_names, put_rows, empty, standard}
 use Rattle.spec_syntax.specs.Writing.{IsTable}
-use Rattle.spec_lists.proofs.Tests.{true_le}
+use Rattle.spec_lists.proofs.Tests.{true_le, both_are}
 use Rattle.spec_lists.proofs.Places.{none_is}
 
 -- the operators of each position may stand there
@@ -62,14 +62,10 @@ abbrev are_low : List Row → Bool
 are_low [] = true
 are_low (r ∷ rs) = nat_le r.priority 1200 && are_low rs
 
-first_true : (a b : Bool) → (a && b) ≡ true → (a ≡ true) × (b ≡ true)
-first_true true b e = (refl, e)
-first_true false b e = cc
-
 rows_fit : (ops : Ops) (rs : List Row) → are_low rs ≡ true → AreFitting ops → AreFitting (put_rows ops rs)
 rows_fit ops [] low fit = fit
 rows_fit ops (r ∷ rs) low fit =
-    let h = first_true (nat_le r.priority 1200) _ low in
+    let h = both_are (nat_le r.priority 1200) _ low in
     rows_fit (put_names ops r.priority r.kind r.names) rs h.1 (names_fit ops r.priority r.kind r.names (true_le r.priority 1200 h.0) fit)
 
 none_fit : AreFitting empty

@@ -14,11 +14,9 @@ use Rattle.spec_told.specs.Relations.{Lin, Is, False, lin, related_forms, relati
 use Rattle.spec_told.proofs.Kept.{Good, GoodOption, form_good}
 use Rattle.spec_told.proofs.Refined.{Refines, Grows, Agrees, form_grows, stays_number}
 use Rattle.spec_told.proofs.Stable.{StaysLinear, stays_linear}
+use Rattle.spec_lists.proofs.Tests.{both_are}
 
 -- ---- zero divisors stay
-and_parts : (a b : Bool) → (a && b) ≡ true → (a ≡ true) × (b ≡ true)
-and_parts true b e = (refl, e)
-and_parts false b e = cc
 
 or_grows : (a b c d : Bool) → (a ≡ true → c ≡ true) → (b ≡ true → d ≡ true) → (a || b) ≡ true → (c || d) ≡ true
 or_grows true b c d h k e = ap (λ (x : Bool). x || d) (h refl)
@@ -41,7 +39,7 @@ module _ (earlier later : ℕ → Option ℚ) (kept : (x : ℕ) (q : ℚ) → ea
   zero_form : (f g : Linear) → Refines later f g → Good later g → (is_constant f && is_zero f.constant) ≡ true
       → (is_constant g && is_zero g.constant) ≡ true
   zero_form f g r good e =
-      let p = and_parts (is_constant f) (is_zero f.constant) e in
+      let p = both_are (is_constant f) (is_zero f.constant) e in
       let n : number_of f ≡ Some f.constant = ap (λ (b : Bool). cond b (Some f.constant) None) p.0 in
       let m = number_of-constant g f.constant (stays_number later f g r good f.constant n) in
       ap₂ (λ (b : Bool) (q : ℚ). b && is_zero q) m.0 m.1 ∙ p.1

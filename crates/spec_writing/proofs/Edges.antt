@@ -13,7 +13,7 @@ use Rattle.spec_lists.proofs.Tests.{or_left, or_right}
 use Rattle.spec_grammar.specs.Characters.{is_symbol, starts_name, continues_name, begins, begins_with, first_char, passes}
 use Rattle.spec_grammar.specs.Numerals.{goes_on_as_float}
 use Rattle.spec_grammar.specs.Laws.{AllPass, Continues}
-use Rattle.spec_grammar.proofs.Again.{first_char-ascii, first_char-append}
+use Rattle.spec_grammar.proofs.Again.{first_char-ascii, first_char-append, symbol_small, symbol_starts_none}
 use Rattle.spec_syntax.specs.Tokens.{Token, Variable, Numeral, Codes, Named, Functor, Minus, Open, Close, OpenList, CloseList, OpenCurly, CloseCurly, Comma, Bar, End}
 use Rattle.spec_syntax.specs.Writing.{is_negative, needs_quotes}
 use Rattle.spec_writing.specs.declared.Style.TheVariants.{Quoted}
@@ -33,12 +33,6 @@ use Rattle.spec_writing.proofs.Stops.{IsWritableName, IsWritable}
 pub not_true : (a : Bool) → (a ≡ true → ⊥) → a ≡ false
 not_true true h = absurd (h refl)
 not_true false h = refl
-
-symbol_small : (b : ℕ) → is_symbol b ≡ true → b < 128
-symbol_small b e = grind (arith, nat_tests)
-
-symbol_starts_none : (b : ℕ) → is_symbol b ≡ true → starts_name b ≡ false
-symbol_starts_none b e = grind (arith, nat_tests)
 
 -- a byte below 128 that begins a name of letters is a small letter
 letter_byte : (b n : ℕ) (bs : List ℕ) → passes starts_name (first_char (b ∷ bs)) ≡ true → n < 128 → starts_name n ≡ false → (b == n) ≡ false
