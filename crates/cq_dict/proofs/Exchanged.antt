@@ -7,12 +7,12 @@ use Rattle.spec_rational.proofs.Sign.{product_zero}
 use Rattle.cq_frac.specs.declared.Operation.{Operation}
 use Rattle.cq_frac.specs.declared.Operation.TheVariants.{Difference, Product, Quotient}
 use Rattle.cq_frac.specs.declared.Pair.{Pair}
-use Rattle.cq_frac.specs.Refused.{Refuses, IsRefused}
+use Rattle.cq_frac.specs.Refused.{Refuses, IsRefused, Tells}
 use Rattle.cq_row.specs.declared.Entry.{Entry}
 use Rattle.cq_row.specs.declared.Joining.TheVariants.{Less}
 use Rattle.cq_row.specs.Row.{Row}
-use Rattle.cq_row.specs.Rows.{sum_at, IsRowFrom, everywhere, Has, Lacks, Tells, over, unit, except}
-use Rattle.cq_row.specs.Numbers.{right_side, IsOver, Place, at_live, at_dropped, at_constant, IsNumber, constant_number, live_number, dropped_number, IsDivided, QuotientPair, quotient_pair, JoinPair, product_pair, joined_pair, ShiftPair, of_rows, of_rate, also, IsEntered}
+use Rattle.cq_row.specs.Rows.{sum_at, IsRowFrom, everywhere, Has, Lacks, over, unit, except}
+use Rattle.cq_row.specs.Numbers.{right_side, IsOver, Site, at_live, at_dropped, at_constant, IsNumber, constant_number, live_number, dropped_number, IsDivided, QuotientPair, quotient_pair, JoinPair, product_pair, joined_pair, ShiftPair, of_rows, of_rate, also, IsEntered}
 use Rattle.cq_row.proofs.Inverse.{times_inverse, inverse_not_zero}
 use Rattle.cq_row.proofs.Shifts.{entry_not_zero, over_anywhere, passes}
 use Rattle.cq_row.proofs.Units.{row_weaker, row_over, sum_at-over, at_unit, except_below}
@@ -66,12 +66,12 @@ has_over k (m ∷ s) n (inl e) = (m, inl refl, e)
 has_over k (m ∷ s) n (inr h) = let r = has_over k s n h in (r.0, inr r.1, r.2)
 
 module _ (row q : Row) (p : ℚ) (divided : IsDivided row p q) where
-  number_over : (at : Place) (n : ℚ) → IsNumber row at n → IsNumber q at (n /ℚ p)
+  number_over : (at : Site) (n : ℚ) → IsNumber row at n → IsNumber q at (n /ℚ p)
   number_over at n constant_number = subst (IsNumber q at_constant) divided.constant constant_number
   number_over at n (live_number m h) = live_number (record { quantity = m.quantity; factor = m.factor /ℚ p }) (subst (Has (record { quantity = m.quantity; factor = m.factor /ℚ p })) (sym divided.live) (over_has p row.live m h))
   number_over at n (dropped_number m h) = dropped_number (record { quantity = m.quantity; factor = m.factor /ℚ p }) (subst (Has (record { quantity = m.quantity; factor = m.factor /ℚ p })) (sym divided.dropped) (over_has p row.dropped m h))
 
-  number_under : (at : Place) (n : ℚ) → IsNumber q at n → (k : ℚ) × IsNumber row at k × (n ≡ k /ℚ p)
+  number_under : (at : Site) (n : ℚ) → IsNumber q at n → (k : ℚ) × IsNumber row at k × (n ≡ k /ℚ p)
   number_under at n constant_number = (row.constant, constant_number, divided.constant)
   number_under at n (live_number m h) =
       let r = has_over p row.live m (subst (Has m) divided.live h) in
@@ -199,7 +199,7 @@ module _ (roles : List Role) (leaving column : ℕ) (row : Row) (p : ℚ)
               sym (at_unit (is_live roles) 0 row.live (record { quantity = column; factor = x.factor }) row_over_roles.live_row (subst (λ (z : Row). Has (record { quantity = column; factor = x.factor }) z.live) (same_row x) x.in_row))
               ∙ at_unit (is_live roles) 0 row.live (record { quantity = column; factor = p }) row_over_roles.live_row entry
 
-          own_number : (x : HasEntry roles leaving column) (at : Place) (n : ℚ) → IsNumber x.own at n → IsNumber row at n
+          own_number : (x : HasEntry roles leaving column) (at : Site) (n : ℚ) → IsNumber x.own at n → IsNumber row at n
           own_number x at n k = subst (λ (z : Row). IsNumber z at n) (same_row x) k
 
           ns : (j : ℕ) (o : Row) → IsAt roles j (Basic o) → (j ≡ leaving → ⊥) → NoShiftPair o column q rate

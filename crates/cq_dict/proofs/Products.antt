@@ -9,11 +9,11 @@ use Rattle.cq_frac.specs.declared.Pair.{Pair}
 use Rattle.cq_frac.specs.Refused.{Refuses, IsRefused}
 use Rattle.cq_row.specs.declared.Entry.{Entry}
 use Rattle.cq_row.specs.declared.Joining.TheVariants.{Plus}
-use Rattle.cq_row.specs.declared.RowFault.{RowFault}
-use Rattle.cq_row.specs.declared.RowFault.TheVariants.{Overflow}
+use Rattle.cq_frac.specs.declared.Refusal.{Refusal}
+use Rattle.cq_frac.specs.declared.Refusal.TheVariants.{Overflow}
 use Rattle.cq_row.specs.Row.{Row}
 use Rattle.cq_row.specs.Rows.{sum_at, Has}
-use Rattle.cq_row.specs.Numbers.{IsJoined, Place, IsNumber, constant_number, live_number, dropped_number, JoinPair, product_pair, joined_pair}
+use Rattle.cq_row.specs.Numbers.{IsJoined, Site, IsNumber, constant_number, live_number, dropped_number, JoinPair, product_pair, joined_pair}
 use Rattle.cq_row.proofs.Inverse.{one_not_zero}
 use Rattle.cq_dict.specs.declared.table.Role.{Role}
 use Rattle.cq_dict.specs.declared.table.Role.TheVariants.{Live, Dropped, Basic}
@@ -41,11 +41,11 @@ module _ (roles : List Role) (q : ℕ) where
 
 -- ---- adding products
 module _ (roles : List Role) (sum : Row) (m : Entry) (own : Row) (e : Expresses roles (λ x. x m.quantity) own) where
-  pub adds_product : (r : Result Row RowFault) → IfOk r (λ z. IsJoined sum Plus m.factor own z) → IfOk r (λ z. (o : Operation) (p q : ℚ) → JoinPair sum Plus m.factor own o p q → Refuses o p q → ⊥) → IfOk r (λ z. AddsProduct roles sum m z)
+  pub adds_product : (r : Result Row Refusal) → IfOk r (λ z. IsJoined sum Plus m.factor own z) → IfOk r (λ z. (o : Operation) (p q : ℚ) → JoinPair sum Plus m.factor own o p q → Refuses o p q → ⊥) → IfOk r (λ z. AddsProduct roles sum m z)
   adds_product (Ok z) j n = record { own = own; expresses = e; joined = j; accepted = n }
   adds_product (Err f) j n = tt
 
-  pub refuses_product : (r : Result Row RowFault) → ((pair : Pair) → r ≡ Err (Overflow pair) → JoinPair sum Plus m.factor own pair.operation pair.left pair.right × IsRefused pair) → (pair : Pair) → r ≡ Err (Overflow pair) → RefusesProduct roles sum m pair
+  pub refuses_product : (r : Result Row Refusal) → ((pair : Pair) → r ≡ Err (Overflow pair) → JoinPair sum Plus m.factor own pair.operation pair.left pair.right × IsRefused pair) → (pair : Pair) → r ≡ Err (Overflow pair) → RefusesProduct roles sum m pair
   refuses_product r n pair h = let k = n pair h in record { own = own; expresses = e; made = k.0; refused = k.1 }
 
 sum_at-end : (x : ℕ → ℚ) (s : List Entry) (m : Entry) → sum_at x (s ++ m ∷ []) ≡ sum_at x s +ℚ m.factor *ℚ x m.quantity
@@ -97,7 +97,7 @@ module _ (roles : List Role) (form : List Entry) (constant : ℚ) (i : ℕ) (m :
       go (product_pair at n k) = form_product this at n k
       go (joined_pair at n p k j) = form_sum this at n p k j
 
-number_as : (r s : Row) → SameNumbers r s → (at : Place) (n : ℚ) → IsNumber r at n → IsNumber s at n
+number_as : (r s : Row) → SameNumbers r s → (at : Site) (n : ℚ) → IsNumber r at n → IsNumber s at n
 number_as r s e at n constant_number = subst (λ z. IsNumber s at z) (sym e.constant) constant_number
 number_as r s e at n (live_number m h) = live_number m (subst (Has m) e.live h)
 number_as r s e at n (dropped_number m h) = dropped_number m (subst (Has m) e.dropped h)

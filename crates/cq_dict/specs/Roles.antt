@@ -6,7 +6,7 @@ use Rattle.cq_frac.specs.declared.Operation.TheVariants.{Sum, Difference, Produc
 use Rattle.cq_row.specs.declared.Entry.{Entry}
 use Rattle.cq_row.specs.Row.{Row}
 use Rattle.cq_row.specs.Rows.{sum_at, unit, Has}
-use Rattle.cq_row.specs.Numbers.{right_side, IsOver, Place, IsNumber}
+use Rattle.cq_row.specs.Numbers.{right_side, IsOver, Site, IsNumber}
 use Rattle.cq_dict.specs.declared.table.Role.{Role}
 use Rattle.cq_dict.specs.declared.table.Role.TheVariants.{Live, Dropped, Basic}
 
@@ -152,11 +152,11 @@ pub record HasEntry (roles : List Role) (row column : ℕ) : Type 0 where
 -- the operations of an exchange of the row and the column, by the row's entry there: quotients of the row's numbers, or of 1, by it;
 -- and for each other row with an entry there products of that entry and those quotients, and differences of the other row's numbers and those products
 pub data PivotPair (roles : List Role) (row column : ℕ) : Operation → ℚ → ℚ → Type 0 where
-  pivot_quotient : (x : HasEntry roles row column) (at : Place) (n : ℚ) → IsNumber x.own at n → PivotPair roles row column Quotient n x.factor
+  pivot_quotient : (x : HasEntry roles row column) (at : Site) (n : ℚ) → IsNumber x.own at n → PivotPair roles row column Quotient n x.factor
   pivot_inverse : (x : HasEntry roles row column) → PivotPair roles row column Quotient 1ℚ x.factor
-  pivot_product : (x : HasEntry roles row column) (i : ℕ) (y : HasEntry roles i column) → (i ≡ row → ⊥) → (at : Place) (n : ℚ) → IsNumber x.own at n → PivotPair roles row column Product y.factor (n /ℚ x.factor)
+  pivot_product : (x : HasEntry roles row column) (i : ℕ) (y : HasEntry roles i column) → (i ≡ row → ⊥) → (at : Site) (n : ℚ) → IsNumber x.own at n → PivotPair roles row column Product y.factor (n /ℚ x.factor)
   pivot_product_inverse : (x : HasEntry roles row column) (i : ℕ) (y : HasEntry roles i column) → (i ≡ row → ⊥) → PivotPair roles row column Product y.factor (1ℚ /ℚ x.factor)
-  pivot_difference : (x : HasEntry roles row column) (i : ℕ) (y : HasEntry roles i column) → (i ≡ row → ⊥) → (at : Place) (m n : ℚ) → IsNumber y.own at m → IsNumber x.own at n → PivotPair roles row column Difference m (y.factor *ℚ (n /ℚ x.factor))
+  pivot_difference : (x : HasEntry roles row column) (i : ℕ) (y : HasEntry roles i column) → (i ≡ row → ⊥) → (at : Site) (m n : ℚ) → IsNumber y.own at m → IsNumber x.own at n → PivotPair roles row column Difference m (y.factor *ℚ (n /ℚ x.factor))
 
 -- one product of a form, with the row that expresses what the constant and the earlier products gave, and the row of its quantity
 pub record Adding (roles : List Role) (form : List Entry) (constant : ℚ) : Type 0 where
@@ -173,5 +173,5 @@ pub record Adding (roles : List Role) (form : List Entry) (constant : ℚ) : Typ
 -- the operations of adding a form, product by product in its order: products of the factor and the numbers of its quantity's row,
 -- and sums of what came before at each place and that product
 pub data FormPair (roles : List Role) (form : List Entry) (constant : ℚ) : Operation → ℚ → ℚ → Type 0 where
-  form_product : (a : Adding roles form constant) (at : Place) (n : ℚ) → IsNumber a.own at n → FormPair roles form constant Product a.now.factor n
-  form_sum : (a : Adding roles form constant) (at : Place) (m n : ℚ) → IsNumber a.before at m → IsNumber a.own at n → FormPair roles form constant Sum m (a.now.factor *ℚ n)
+  form_product : (a : Adding roles form constant) (at : Site) (n : ℚ) → IsNumber a.own at n → FormPair roles form constant Product a.now.factor n
+  form_sum : (a : Adding roles form constant) (at : Site) (m n : ℚ) → IsNumber a.before at m → IsNumber a.own at n → FormPair roles form constant Sum m (a.now.factor *ℚ n)

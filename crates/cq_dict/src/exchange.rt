@@ -16,9 +16,9 @@ ghost use Rattle.cq_dict.specs.Dict.{RefusesPivot, NoPivotPair};
 
 use crate::columns::Turn;
 use crate::table::{Change, Role};
-use cq_frac::Frac;
+use cq_frac::{Frac, Refusal, quotient};
+use cq_row::entry_at;
 use cq_row::rows::Row;
-use cq_row::{RowFault, entry_at, quotient};
 use std::alloc::Global;
 
 /// What another row becomes; None where it has no entry in the column, and stays.
@@ -29,7 +29,7 @@ fn moved(
     q: &Row,
     leaving: usize,
     rate: Frac,
-) -> Result<Option<Role>, RowFault>
+) -> Result<Option<Role>, Refusal>
     requires other_row { IsOver everywhere everywhere other.now }
     requires q_row { IsOver everywhere everywhere q.now }
     requires own { sum_at (unit column) q.now.live ≡ 1ℚ }
@@ -37,7 +37,7 @@ fn moved(
     requires apart { leaving ≢ column }
     requires nonzero { rate ≢ 0ℚ }
     ensures value { IfOk result (λ next. (r : Row) × (unwrap_or next (Basic other.now) ≡ Basic r) × IsMoved other.now column q.now leaving rate r) }
-    ensures overflow { (pair : Pair) → result ≡ Err (RowFault.Overflow pair) → RefusesShift other.now column q.now rate pair }
+    ensures overflow { (pair : Pair) → result ≡ Err (Refusal.Overflow pair) → RefusesShift other.now column q.now rate pair }
     ensures accepted { OnOk result (NoShiftPair other.now column q.now rate) }
 {
     match entry_at(other.live(), column) {
@@ -58,11 +58,11 @@ fn all_moved(
     column: usize,
     q: &Row,
     rate: Frac,
-) -> Result<Vec<Change>, RowFault>
+) -> Result<Vec<Change>, Refusal>
     requires table { AreOverColumns roles.now }
     requires solved { IsSolved roles.now leaving column q.now rate }
     ensures covers { IfOk result (λ changes. Covers (Moved leaving column q.now rate) roles.now (length roles.now) changes.items) }
-    ensures overflow { (pair : Pair) → result ≡ Err (RowFault.Overflow pair) → RefusesPivot roles.now leaving column pair }
+    ensures overflow { (pair : Pair) → result ≡ Err (Refusal.Overflow pair) → RefusesPivot roles.now leaving column pair }
 {
     let mut changes = Vec::new(alloc);
     for (i, role) in roles.iter().enumerate() {
@@ -89,7 +89,7 @@ pub fn exchange(
     roles: &[Role],
     leaving: usize,
     column: usize,
-) -> Result<Vec<Change>, RowFault>
+) -> Result<Vec<Change>, Refusal>
     requires table { AreOverColumns roles.now }
     requires there { leaving < length roles.now }
     requires entry { HasEntry roles.now leaving column }
@@ -97,7 +97,7 @@ pub fn exchange(
     ensures exchanges { IfOk result (λ changes. (new : List Role) → IsWritten roles.now changes.items new → Exchanges roles.now leaving column new) }
     ensures moved { IfOk result (λ changes. AreMoved roles.now leaving column changes.items) }
     ensures accepted { OnOk result (NoPivotPair roles.now leaving column) }
-    ensures overflow { (pair : Pair) → result ≡ Err (RowFault.Overflow pair) → RefusesPivot roles.now leaving column pair }
+    ensures overflow { (pair : Pair) → result ≡ Err (Refusal.Overflow pair) → RefusesPivot roles.now leaving column pair }
 {
     let Role::Basic(row) = &roles[leaving] else {
         unreachable!()
@@ -116,14 +116,14 @@ pub fn eliminate(
     roles: &[Role],
     leaving: usize,
     column: usize,
-) -> Result<Vec<Change>, RowFault>
+) -> Result<Vec<Change>, Refusal>
     requires table { AreOverColumns roles.now }
     requires there { leaving < length roles.now }
     requires entry { HasEntry roles.now leaving column }
     ensures within { IfOk result (λ changes. (c : Change) → Changes c changes.items → c.at < length roles.now) }
     ensures eliminates { IfOk result (λ changes. (new : List Role) → IsWritten roles.now changes.items new → Eliminates roles.now leaving column new) }
     ensures accepted { OnOk result (NoPivotPair roles.now leaving column) }
-    ensures overflow { (pair : Pair) → result ≡ Err (RowFault.Overflow pair) → RefusesPivot roles.now leaving column pair }
+    ensures overflow { (pair : Pair) → result ≡ Err (Refusal.Overflow pair) → RefusesPivot roles.now leaving column pair }
 {
     let changes = exchange(alloc, roles, leaving, column)?;
     let turned = Turn::Dropping.after(alloc, changes, leaving)?;

@@ -11,19 +11,19 @@ ghost use Rattle.cq_dict.specs.Dict.{RefusesForm, NoFormPair};
 ghost use Rattle.cq_dict.specs.Forms.{AddsProduct, RefusesProduct};
 
 use crate::table::Role;
-use cq_frac::Frac;
+use cq_frac::{Frac, Refusal};
 use cq_row::rows::Row;
-use cq_row::{Entry, Joining, RowFault};
+use cq_row::{Entry, Joining};
 use std::alloc::Global;
 
 /// The row and one product more: its factor times the row of its quantity, which for a column is the column itself.
-fn added(alloc: Global, roles: &[Role], sum: &Row, m: Entry) -> Result<Row, RowFault>
+fn added(alloc: Global, roles: &[Role], sum: &Row, m: Entry) -> Result<Row, Refusal>
     requires table { AreOverColumns roles.now }
     requires sum_row { IsOver everywhere everywhere sum.now }
     requires there { m.quantity < length roles.now }
     requires nonzero { m.factor ≢ 0ℚ }
     ensures value { IfOk result (λ r. AddsProduct roles.now sum.now m r) }
-    ensures overflow { (pair : Pair) → result ≡ Err (RowFault.Overflow pair) → RefusesProduct roles.now sum.now m pair }
+    ensures overflow { (pair : Pair) → result ≡ Err (Refusal.Overflow pair) → RefusesProduct roles.now sum.now m pair }
 {
     match &roles[m.quantity] {
         Role::Live => {
@@ -44,11 +44,11 @@ pub fn expressed(
     roles: &[Role],
     form: &[Entry],
     constant: Frac,
-) -> Result<Row, RowFault>
+) -> Result<Row, Refusal>
     requires table { AreOverColumns roles.now }
     requires there { (m : Entry) → Has m form.now → m.quantity < length roles.now }
     ensures value { IfOk result (λ r. Expresses roles.now (λ x. constant +ℚ sum_at x form.now) r) }
-    ensures overflow { (pair : Pair) → result ≡ Err (RowFault.Overflow pair) → RefusesForm roles.now form.now constant pair }
+    ensures overflow { (pair : Pair) → result ≡ Err (Refusal.Overflow pair) → RefusesForm roles.now form.now constant pair }
     ensures accepted { OnOk result (NoFormPair roles.now form.now constant) }
 {
     let mut sum = Row::of_constant(alloc, constant);

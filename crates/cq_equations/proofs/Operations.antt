@@ -10,7 +10,7 @@ use Rattle.spec_rational.proofs.Sums.{factor_of-is, sum_at-negated_products}
 use Rattle.spec_linear.specs.Form.{Linear, IsSumFrom, IsForm, constant_form, variable_form, negated_form}
 use Rattle.spec_linear.specs.Solution.{Has}
 use Rattle.spec_linear.proofs.Ordered.{factor_of-first, factor_of-rest, form_same, IsForm-variable_form, IsForm-negated_form}
-use Rattle.spec_limits.specs.Overflow.{Operands, of_variable as number_of_variable, of_constant}
+use Rattle.spec_limits.specs.Overflow.{Operands, IsSumOrDifference, of_variable as number_of_variable, of_constant}
 use Rattle.spec_queries.specs.Tree.{Sum, Relation}
 use Rattle.spec_queries.specs.declared.Term.{Term}
 use Rattle.spec_queries.specs.declared.SignedTerm.{SignedTerm}
@@ -21,85 +21,32 @@ use Rattle.cq_frac.specs.declared.Pair.{Pair}
 use Rattle.cq_frac.specs.declared.VarId.{VarId}
 use Rattle.cq_frac.specs.Fits.{SumRefused}
 use Rattle.cq_frac.specs.Refused.{IsRefused, Refuses as RefusesNumbers}
-use Rattle.cq_form.specs.Pairs.{products_of, form_of}
-use Rattle.cq_form.specs.Steps.{HasCoefficient, of_variable as common, of_variable as multiple, SumPair, coefficients as common_pair, constants as constants_pair, ScalePair, coefficient as multiple_pair, constant as constant_pair}
+use Rattle.cq_row.specs.declared.Joining.{Joining}
+use Rattle.cq_row.specs.declared.Joining.TheVariants.{Plus, Less}
+use Rattle.cq_row.specs.Rows as row
+use Rattle.cq_form.proofs.Forms.{coefficient_is}
+use Rattle.cq_form.specs.Steps.{HasCoefficient, of_variable as common, of_variable as multiple, JoinedPair, coefficients as common_pair, constants as constants_pair, ScalePair, coefficient as multiple_pair, constant as constant_pair}
 use Rattle.cq_equations.specs.Pairs.{OperandPair, coefficients, constants, operands, Refuses}
-
--- ---- negated forms
-
-neg-neg : (q : ℚ) → neg_ℚ (neg_ℚ q) ≡ q
-neg-neg q = ring (q ∷ []) (minus (minus (var 0))) (var 0) refl
-
-negated_pairs-products : (s : List (VarId × ℚ)) → products_of (map (λ p. (p.0, neg_ℚ p.1)) s) ≡ negated_products (products_of s)
-negated_pairs-products [] = refl
-negated_pairs-products (p ∷ s) = ap (λ r. record { variable = p.0.0; factor = neg_ℚ p.1 } ∷ r) (negated_pairs-products s)
-
-pub negated_is : (f : Linear) (s t : List (VarId × ℚ)) (c d : ℚ) → products_of s ≡ f.products → t ≡ map (λ p. (p.0, neg_ℚ p.1)) s → c ≡ f.constant → d ≡ neg_ℚ c
-    → form_of d t ≡ negated_form f
-negated_is f s t c d e h i j =
-    form_same (form_of d t) (negated_form f) (ap products_of h ∙ negated_pairs-products s ∙ ap negated_products e) (j ∙ ap neg_ℚ i)
-
-factor_of-negated : (x : ℕ) (s : List Monomial) → factor_of x s ≡ neg_ℚ (factor_of x (negated_products s))
-factor_of-negated x s =
-    sym (neg-neg (factor_of x s))
-    ∙ ap neg_ℚ (ap neg_ℚ (factor_of-is x s) ∙ sym (sum_at-negated_products (unit x) s) ∙ sym (factor_of-is x (negated_products s)))
-
--- ---- coefficients
-
--- no variable of a sum is below its first
-least : (x : ℕ) (q : ℚ) (low : ℕ) (s : List Monomial) → IsSumFrom low s → HasCoefficient x q s → low ≤ x
-least x q low [] o h = absurd h
-least x q low (n ∷ s) o (inl e) = omega (arith, o.0, ap (λ (p : Monomial). p.variable) e)
-least x q low (n ∷ s) o (inr h) = omega (arith, o.0, least x q (suc n.variable) s o.2 h)
-
--- what stands with a variable is its coefficient
-coefficient_is : (low x : ℕ) (q : ℚ) (s : List Monomial) → IsSumFrom low s → HasCoefficient x q s → factor_of x s ≡ q
-coefficient_is low x q [] o h = absurd h
-coefficient_is low x q (m ∷ s) o (inl e) =
-    ap (λ y. factor_of y (m ∷ s)) (ap (λ (p : Monomial). p.variable) e) ∙ factor_of-first low m s o ∙ sym (ap (λ (p : Monomial). p.factor) e)
-coefficient_is low x q (m ∷ s) o (inr h) =
-    let above : suc m.variable ≤ x = least x q (suc m.variable) s o.2 h in
-    factor_of-rest x m s (λ e. absurd (omega (arith, above, e))) ∙ coefficient_is (suc m.variable) x q s o.2 h
 
 -- ---- one operation
 
 abbrev pub on : Operation → Linear → Linear → Operands
 on o f g = record { operation = o; left = f; right = g }
 
-sum_meets : (f g : Linear) → IsForm f → IsForm g → (o : Operation) (p q : ℚ) → SumPair f g o p q → OperandPair (on Addition f g ∷ []) o p q
-sum_meets f g h k o p q (common_pair m n (common x a b)) =
-    subst (λ r. OperandPair (on Addition f g ∷ []) Addition r n) (coefficient_is 0 x m f.products h a)
-    (subst (λ r. OperandPair (on Addition f g ∷ []) Addition (factor_of x f.products) r) (coefficient_is 0 x n g.products k b)
-    (coefficients (on Addition f g) (inl refl) (inl refl) x))
-sum_meets f g h k o p q constants_pair = constants (on Addition f g) (inl refl) (inl refl)
+is_joining : (how : Joining) → IsSumOrDifference (row.operation_of how)
+is_joining Plus = inl refl
+is_joining Less = inr refl
 
-pub sum_refused : (f g : Linear) → IsForm f → IsForm g → (pair : Pair) → SumPair f g pair.operation pair.left pair.right × IsRefused pair → Refuses (on Addition f g ∷ []) pair
-sum_refused f g h k pair w = record { meets = sum_meets f g h k pair.operation pair.left pair.right w.0; refused = w.1 }
+joined_meets : (how : Joining) (f g : Linear) → IsForm f → IsForm g → (o : Operation) (p q : ℚ) → JoinedPair how f g o p q → OperandPair (on (row.operation_of how) f g ∷ []) o p q
+joined_meets how f g h k o p q (common_pair m n (common x a b)) =
+    subst (λ r. OperandPair (on (row.operation_of how) f g ∷ []) (row.operation_of how) r n) (coefficient_is 0 x m f.products h a)
+    (subst (λ r. OperandPair (on (row.operation_of how) f g ∷ []) (row.operation_of how) (factor_of x f.products) r) (coefficient_is 0 x n g.products k b)
+    (coefficients (on (row.operation_of how) f g) (inl refl) (is_joining how) x))
+joined_meets how f g h k o p q constants_pair = constants (on (row.operation_of how) f g) (inl refl) (is_joining how)
 
-difference_meets : (f g : Linear) → IsForm f → IsForm g → (o : Operation) (p q : ℚ) → SumPair f (negated_form g) o p q → OperandPair (on Difference f g ∷ []) Difference p (neg_ℚ q)
-difference_meets f g h k o p q (common_pair m n (common x a b)) =
-    subst (λ r. OperandPair (on Difference f g ∷ []) Difference r (neg_ℚ n)) (coefficient_is 0 x m f.products h a)
-    (subst (λ r. OperandPair (on Difference f g ∷ []) Difference (factor_of x f.products) r)
-    (factor_of-negated x g.products ∙ ap neg_ℚ (coefficient_is 0 x n (negated_products g.products) (IsForm-negated_form g k) b))
-    (coefficients (on Difference f g) (inl refl) (inr refl) x))
-difference_meets f g h k o p q constants_pair =
-    subst (OperandPair (on Difference f g ∷ []) Difference f.constant) (sym (neg-neg g.constant)) (constants (on Difference f g) (inl refl) (inr refl))
-
-difference_refuses : (f g : Linear) (o : Operation) (p q : ℚ) → SumPair f g o p q → RefusesNumbers o p q → SumRefused p (neg_ℚ (neg_ℚ q))
-difference_refuses f g o p q (common_pair m n w) r = subst (SumRefused m) (sym (neg-neg n)) r
-difference_refuses f g o p q constants_pair r = subst (SumRefused f.constant) (sym (neg-neg g.constant)) r
-
--- the sum with the negated form refuses a pair: so does the difference, with its right number negated
-pub difference_refused : (f g n : Linear) → IsForm f → IsForm g → n ≡ negated_form g → (pair : Pair) → SumPair f n pair.operation pair.left pair.right × IsRefused pair
-    → (q : ℚ) → q ≡ neg_ℚ pair.right → (told : Pair) → record { operation = Difference; left = pair.left; right = q } ≡ told → Refuses (on Difference f g ∷ []) told
-difference_refused f g n h k i pair w q e told t =
-    let s : SumPair f (negated_form g) pair.operation pair.left pair.right = subst (λ y. SumPair f y pair.operation pair.left pair.right) i w.0 in
-    let all : Refuses (on Difference f g ∷ []) (record { operation = Difference; left = pair.left; right = neg_ℚ pair.right }) = record {
-      meets = difference_meets f g h k pair.operation pair.left pair.right s;
-      refused = difference_refuses f (negated_form g) pair.operation pair.left pair.right s w.1;
-    } in
-    subst (Refuses (on Difference f g ∷ [])) t
-    (subst (λ r. Refuses (on Difference f g ∷ []) (record { operation = Difference; left = pair.left; right = r })) (sym e) all)
+-- the sum or the difference of two forms
+pub operands_refused : (how : Joining) (f g : Linear) → IsForm f → IsForm g → (pair : Pair) → JoinedPair how f g pair.operation pair.left pair.right × IsRefused pair → Refuses (on (row.operation_of how) f g ∷ []) pair
+operands_refused how f g h k pair w = record { meets = joined_meets how f g h k pair.operation pair.left pair.right w.0; refused = w.1 }
 
 product_meets : (k : ℚ) (f : Linear) → IsForm f → (o : Operation) (p q : ℚ) → ScalePair k f o p q → OperandPair (on Times (constant_form k) f ∷ []) o p q
 product_meets k f h o p q (multiple_pair n (multiple x a)) =

@@ -1,7 +1,7 @@
 // The equations of queries against forms worked out by hand.
 use super::equations;
-use cq_form::{Constraint, FormFault};
-use cq_frac::Operation;
+use cq_form::Constraint;
+use cq_frac::{Operation, Refusal};
 use cq_queries::{Query, read_queries};
 use spec_linear::Relation;
 use std::alloc::{AllocError, Global};
@@ -23,15 +23,15 @@ fn query(alloc: Global, text: &str) -> Result<Option<Query>, AllocError> {
 fn is_given(constraint: &Constraint, given: &Given) -> bool {
     let form = &constraint.form;
     let mut same = constraint.relation == Relation::Eq
-        && form.pairs().len() == given.0.len()
+        && form.entries().len() == given.0.len()
         && form.constant().parts() == (given.1, 1);
-    for (pair, want) in form.pairs().iter().zip(given.0) {
-        same = same && pair.0.0 == want.0 && pair.1.parts() == (want.1, 1);
+    for (entry, want) in form.entries().iter().zip(given.0) {
+        same = same && entry.quantity == want.0 && entry.factor.parts() == (want.1, 1);
     }
     same
 }
 
-fn tells(alloc: Global, text: &str, wanted: &[Given]) -> Result<bool, FormFault> {
+fn tells(alloc: Global, text: &str, wanted: &[Given]) -> Result<bool, Refusal> {
     let Some(query) = query(alloc, text)? else {
         return Ok(false);
     };
@@ -54,8 +54,8 @@ fn is_refused(
         return Ok(false);
     };
     match equations(alloc, &query) {
-        Ok(_) | Err(FormFault::NoMemory) => Ok(false),
-        Err(FormFault::Overflow(pair)) => {
+        Ok(_) | Err(Refusal::NoMemory) => Ok(false),
+        Err(Refusal::Overflow(pair)) => {
             Ok(
                 pair.operation == operation
                     && pair.left.parts() == (left, 1)

@@ -1,24 +1,38 @@
 -- Forms that are made of constants and lists of pairs: their order, their values, and the pairs that they meet.
 use Rattle.std.proofs.Common.{◌≡◌, ◌≢◌, inl, inr, ℕ, suc, ◌≤◌, List, [], ◌∷◌, Bool, true, false, cond, not, pos, arith, refl, ap, ap₂, sym, subst, ◌∙◌}
 use Rattle.std.specs.Prelude.{◌==◌}
-use Rattle.spec_rational.specs.Rational.{ℚ, 0ℚ, ◌+ℚ◌, ◌*ℚ◌}
+use Rattle.spec_rational.specs.Gcd.{gcd}
+use Rattle.spec_rational.specs.Rational.{ℚ, 0ℚ, int_ℚ, ratio, ◌+ℚ◌, ◌*ℚ◌}
 use Rattle.spec_rational.specs.Sums.{Monomial, Mentions, factor_of, scaled_products}
 use Rattle.spec_rational.proofs.Ring.{var, int, ◌⊗◌}
 use Rattle.spec_rational.proofs.Rational.{ring}
 use Rattle.spec_rational.proofs.Sums.{sum_at-agrees}
-use Rattle.spec_linear.specs.Form.{Linear, value_at, IsSumFrom, IsForm, is_zero, without, without_zeros, sum_products, sum_form, scaled_form, substituted_form, changed_at}
+use Rattle.spec_linear.specs.Form.{Linear, value_at, IsSumFrom, IsForm, is_zero, without, without_zeros, sum_form, difference_form, scaled_form, substituted_form, changed_at}
 use Rattle.spec_linear.proofs.Values.{is_zero-of, value_at-substituted_form}
-use Rattle.spec_linear.proofs.Ordered.{IsForm-sum_form, IsForm-scaled_form, IsSumFrom-without, factor_of-first, factor_of-rest, forms_same}
+use Rattle.spec_linear.proofs.Ordered.{IsForm-sum_form, IsForm-difference_form, IsForm-scaled_form, IsSumFrom-without, factor_of-first, factor_of-rest, form_same, forms_same}
 use Rattle.cq_frac.specs.declared.Operation.{Operation}
-use Rattle.cq_frac.specs.declared.Operation.TheVariants.{Sum, Product as Times}
+use Rattle.cq_frac.specs.declared.Operation.TheVariants.{Product as Times}
 use Rattle.cq_frac.specs.declared.Pair.{Pair}
-use Rattle.cq_frac.specs.Refused.{Accepts, IsRefused}
-use Rattle.cq_form.specs.Steps.{HasCoefficient, CommonPair, MultiplePair, SumPair, coefficients, constants, ScalePair, coefficient, constant, SubstPair, of_product, of_sum, Tells}
+use Rattle.cq_frac.specs.Fits.{Fits}
+use Rattle.cq_frac.specs.Refused.{Accepts, IsRefused, Tells}
+use Rattle.cq_row.specs.declared.Joining.{Joining}
+use Rattle.cq_row.specs.declared.Joining.TheVariants.{Plus, Less}
+use Rattle.cq_row.specs.Rows.{joined, operation_of}
+use Rattle.cq_form.specs.Steps.{joined_products, joined_form, HasCoefficient, CommonPair, MultiplePair, JoinedPair, SumPair, coefficients, constants, ScalePair, coefficient, constant, SubstPair, of_product, of_sum}
+
+fits_zero : Fits 0ℚ
+unfolding int_ℚ ratio gcd
+fits_zero = record { num_fits = omega arith; den_fits = omega arith }
 
 -- ---- order
 
-pub sum_in_order : (s t : List Monomial) → IsSumFrom 0 s → IsSumFrom 0 t → IsSumFrom 0 (sum_products s t)
-sum_in_order s t h k = IsForm-sum_form (record { products = s; constant = 0ℚ }) (record { products = t; constant = 0ℚ }) h k
+pub joined_in_order : (how : Joining) (s t : List Monomial) → IsSumFrom 0 s → IsSumFrom 0 t → IsSumFrom 0 (joined_products how s t)
+joined_in_order Plus s t h k = IsForm-sum_form (record { products = s; constant = 0ℚ }) (record { products = t; constant = 0ℚ }) h k
+joined_in_order Less s t h k = IsForm-difference_form (record { products = s; constant = 0ℚ }) (record { products = t; constant = 0ℚ }) h k
+
+pub joined_form_is : (how : Joining) (f g r : Linear) → r.products ≡ joined_products how f.products g.products → r.constant ≡ joined how f.constant g.constant → r ≡ joined_form how f g
+joined_form_is Plus f g r e h = form_same r (sum_form f g) e h
+joined_form_is Less f g r e h = form_same r (difference_form f g) e h
 
 pub multiple_in_order : (k : ℚ) (s : List Monomial) → IsSumFrom 0 s → IsSumFrom 0 (without_zeros (scaled_products k s))
 multiple_in_order k s h = IsForm-scaled_form k (record { products = s; constant = 0ℚ }) h
@@ -29,21 +43,22 @@ multiple_in_order k s h = IsForm-scaled_form k (record { products = s; constant 
 told_pair : (P : Operation → ℚ → ℚ → Type 0) (o : Operation) (p q : ℚ) (pair : Pair) → Tells o p q pair → P o p q → P pair.operation pair.left pair.right × IsRefused pair
 told_pair P o p q pair t h = subst (λ (x : Pair). P x.operation x.left x.right × IsRefused x) (sym t.is_pair) (h, t.refused)
 
-module _ (f g : Linear) where
-  pub constants_refused : (c d : ℚ) (pair : Pair) → c ≡ f.constant → d ≡ g.constant → Tells Sum c d pair → SumPair f g pair.operation pair.left pair.right × IsRefused pair
+module _ (how : Joining) (f g : Linear) where
+  pub constants_refused : (c d : ℚ) (pair : Pair) → c ≡ f.constant → d ≡ g.constant → Tells (operation_of how) c d pair → JoinedPair how f g pair.operation pair.left pair.right × IsRefused pair
   constants_refused c d pair e h t =
-      told_pair (SumPair f g) Sum f.constant g.constant pair (subst (λ x. Tells Sum x g.constant pair) e (subst (λ x. Tells Sum c x pair) h t)) constants
+      told_pair (JoinedPair how f g) (operation_of how) f.constant g.constant pair
+      (subst (λ x. Tells (operation_of how) x g.constant pair) e (subst (λ x. Tells (operation_of how) c x pair) h t)) constants
 
   pub coefficients_refused : (s t : List Monomial) (pair : Pair) → s ≡ f.products → t ≡ g.products
-      → CommonPair s t pair.left pair.right × Tells Sum pair.left pair.right pair → SumPair f g pair.operation pair.left pair.right × IsRefused pair
+      → CommonPair s t pair.left pair.right × Tells (operation_of how) pair.left pair.right pair → JoinedPair how f g pair.operation pair.left pair.right × IsRefused pair
   coefficients_refused s t pair e h w =
-      told_pair (SumPair f g) Sum pair.left pair.right pair w.1
+      told_pair (JoinedPair how f g) (operation_of how) pair.left pair.right pair w.1
       (coefficients pair.left pair.right (subst (λ x. CommonPair x g.products pair.left pair.right) e (subst (λ x. CommonPair s x pair.left pair.right) h w.0)))
 
-  pub sum_accepted : (c d : ℚ) (s t : List Monomial) → c ≡ f.constant → d ≡ g.constant → s ≡ f.products → t ≡ g.products
-      → Accepts Sum c d → ((p q : ℚ) → CommonPair s t p q → Accepts Sum p q) → (o : Operation) (p q : ℚ) → SumPair f g o p q → Accepts o p q
-  sum_accepted c d s t e h i j a b o p q (coefficients m n w) = b m n (subst (λ x. CommonPair x t m n) (sym i) (subst (λ x. CommonPair f.products x m n) (sym j) w))
-  sum_accepted c d s t e h i j a b o p q constants = subst (λ x. Accepts Sum x g.constant) e (subst (Accepts Sum c) h a)
+  pub joined_accepted : (c d : ℚ) (s t : List Monomial) → c ≡ f.constant → d ≡ g.constant → s ≡ f.products → t ≡ g.products
+      → Accepts (operation_of how) c d → ((p q : ℚ) → CommonPair s t p q → Accepts (operation_of how) p q) → (o : Operation) (p q : ℚ) → JoinedPair how f g o p q → Accepts o p q
+  joined_accepted c d s t e h i j a b o p q (coefficients m n w) = b m n (subst (λ x. CommonPair x t m n) (sym i) (subst (λ x. CommonPair f.products x m n) (sym j) w))
+  joined_accepted c d s t e h i j a b o p q constants = subst (λ x. Accepts (operation_of how) x g.constant) e (subst (Accepts (operation_of how) c) h a)
 
 -- ---- the pairs of a multiple
 
@@ -69,7 +84,7 @@ mentions_of x k (m ∷ s) (inl e) = inl (ap (λ (p : Monomial). p.variable) e)
 mentions_of x k (m ∷ s) (inr h) = inr (mentions_of x k s h)
 
 -- the coefficient of a variable that stands there
-coefficient_is : (low x : ℕ) (k : ℚ) (s : List Monomial) → IsSumFrom low s → HasCoefficient x k s → factor_of x s ≡ k
+pub coefficient_is : (low x : ℕ) (k : ℚ) (s : List Monomial) → IsSumFrom low s → HasCoefficient x k s → factor_of x s ≡ k
 coefficient_is low x k [] o h = absurd h
 coefficient_is low x k (m ∷ s) o (inl e) =
     ap (λ y. factor_of y (m ∷ s)) (ap (λ (p : Monomial). p.variable) e) ∙ factor_of-first low m s o ∙ sym (ap (λ (p : Monomial). p.factor) e)
@@ -87,8 +102,12 @@ coefficient_none : (x : ℕ) (s : List Monomial) → (Mentions x s → ⊥) → 
 coefficient_none x [] n = refl
 coefficient_none x (m ∷ s) n = factor_of-rest x m s (λ e. n (inl e)) ∙ coefficient_none x s (λ h. n (inr h))
 
+-- 0 times a number is 0, and fits
+pub zero_accepted : (k q : ℚ) → k ≡ 0ℚ → Accepts Times k q
+zero_accepted k q e = subst Fits (sym (ap (λ r. r *ℚ q) e ∙ ring (q ∷ []) (int (pos 0) ⊗ var 0) (int (pos 0)) refl)) fits_zero
+
 -- 0 times a sum is empty
-nothing_left : (k : ℚ) (s : List Monomial) → k ≡ 0ℚ → without_zeros (scaled_products k s) ≡ []
+pub nothing_left : (k : ℚ) (s : List Monomial) → k ≡ 0ℚ → without_zeros (scaled_products k s) ≡ []
 nothing_left k [] e = refl
 nothing_left k (m ∷ s) e = go (is_zero (k *ℚ m.factor)) (is_zero-of (k *ℚ m.factor) (ap (λ r. r *ℚ m.factor) e ∙ ring (m.factor ∷ []) (int (pos 0) ⊗ var 0) (int (pos 0)) refl)) (nothing_left k s e)
   where

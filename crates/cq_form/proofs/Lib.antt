@@ -1,4 +1,2 @@
-pub mod Exits
-pub mod Steps
-pub mod Merge
 pub mod Forms
+pub mod Rows

@@ -1,92 +1,56 @@
 //! Linear forms with exact coefficients, linear constraints, and certificates that constraints have no solution.
 #![tactic(auto)]
 
-mod pairs;
+mod entries;
 #[cfg(test)]
 mod tests;
 
-ghost use Rattle.std.specs.Prelude.{◌≡◌, [], ℕ, List, IfOk, OnOk, MatchOption, slice_get};
+ghost use Rattle.std.specs.Prelude.{◌≡◌, [], map, IfOk, OnOk, slice_get};
 ghost use Rattle.std.specs.Option.{option_map};
 ghost use Rattle.spec_rational.specs.Rational.{ℚ};
-ghost use Rattle.spec_rational.specs.Sums.{Mentions};
-ghost use Rattle.spec_linear.specs.Form.{IsForm, sum_form, scaled_form, substituted_form};
-ghost use Rattle.spec_linear.specs.Solution.{Has};
+ghost use Rattle.spec_linear.specs.Form.{IsForm, sum_form, difference_form, scaled_form, substituted_form};
 ghost use Rattle.cq_frac.specs.declared.Operation.{Operation};
 ghost use Rattle.cq_frac.specs.declared.Pair.{Pair};
 ghost use Rattle.cq_frac.specs.Refused.{Accepts, IsRefused};
-ghost use Rattle.cq_form.specs.Pairs.{form_of, product_of, products_of};
-ghost use Rattle.cq_form.specs.Steps.{SumPair, ScalePair, SubstPair};
-ghost use Rattle.cq_form.specs.declared.FormFault.TheVariants.{Overflow, NoMemory};
+ghost use Rattle.cq_form.specs.Entries.{entry_of, form_of, product_of, products_of};
+ghost use Rattle.cq_form.specs.Steps.{joined_form, JoinedPair, SumPair, DifferencePair, ScalePair, SubstPair};
 
-use crate::pairs::{coefficient, merged, others, product, scaled, sum};
-use cq_frac::{Frac, Pair, VarId};
+use crate::entries::{coefficient, entries_of, joined, others, scaled};
+use cq_frac::{Frac, Refusal, VarId, product};
+use cq_row::{Entry, Joining};
 use spec_linear::Relation;
-use std::alloc::{AllocError, AllocFailed, Global};
+use std::alloc::{AllocError, Global};
 use std::marker::Model;
-use thiserror::Error;
-
-/// Why an operation gives no form.
-#[derive(Clone, Copy, Debug, Error)]
-pub enum FormFault {
-    #[error("a number past 128 bits")]
-    Overflow(Pair),
-    #[error("out of memory")]
-    NoMemory,
-}
-
-impl From<AllocError> for FormFault {
-    ghost from_gives = { λ _ fault. fault ≡ NoMemory };
-
-    fn from(_: AllocError) -> FormFault {
-        FormFault::NoMemory
-    }
-}
-
-impl<T: Drop> From<AllocFailed<T>> for FormFault {
-    ghost from_gives = { λ _ fault. fault ≡ NoMemory };
-
-    fn from(_refused: AllocFailed<T>) -> FormFault {
-        FormFault::NoMemory
-    }
-}
-
-impl From<Pair> for FormFault {
-    ghost from_gives = { λ pair fault. fault ≡ Overflow pair };
-
-    fn from(pair: Pair) -> FormFault {
-        FormFault::Overflow(pair)
-    }
-}
 
 /// A linear form: variables with their coefficients, by ascending variable and none zero, and a constant.
 #[derive(Debug, Drop)]
 pub struct Form {
     constant: Frac,
-    pairs: Vec<(VarId, Frac)>,
+    entries: Vec<Entry>,
 }
 
 impl Model for Form {
     ghost use Rattle.spec_linear.specs.Form.{Linear, IsForm};
-    ghost use Rattle.cq_form.specs.Pairs.{form_of, linear_code};
+    ghost use Rattle.cq_form.specs.Entries.{form_of, linear_code};
 
     ghost Value = { Linear };
 
     ghost coded = { linear_code };
 
-    ghost view = { λ f. form_of f.constant f.pairs.items };
+    ghost view = { λ f. form_of f.constant f.entries.items };
 
-    ghost invariant = { λ f. IsForm (form_of f.constant f.pairs.items) };
+    ghost invariant = { λ f. IsForm (form_of f.constant f.entries.items) };
 }
 
 impl Form {
     /// The form of a constant and the coefficients of variables.
     pub fn new(alloc: Global, constant: Frac, pairs: &[(VarId, Frac)]) -> Result<Form, AllocError>
-        requires in_order { IsForm (form_of constant pairs.now) }
-        ensures { IfOk result (λ f. f ≡ form_of constant pairs.now) }
+        requires in_order { IsForm (form_of constant (map entry_of pairs.now)) }
+        ensures { IfOk result (λ f. f ≡ form_of constant (map entry_of pairs.now)) }
     {
         Ok(Form {
             constant,
-            pairs: Vec::from_slice(alloc, pairs)?,
+            entries: entries_of(alloc, pairs)?,
         })
     }
 
@@ -97,64 +61,87 @@ impl Form {
     }
 
     /// The variables with their coefficients, in order.
-    pub fn pairs(&self) -> &[(VarId, Frac)]
+    pub fn entries(&self) -> &[Entry]
         ensures value { products_of result.now ≡ self.now.products }
         ensures in_order { IsForm self.now }
     {
-        &self.pairs
+        &self.entries
     }
 
     /// The oldest variable with its coefficient; None where the form is a number.
     pub fn lead(&self) -> Option<(VarId, Frac)>
-        ensures { option_map product_of result ≡ slice_get self.now.products 0 }
+        ensures { option_map (λ p. product_of (entry_of p)) result ≡ slice_get self.now.products 0 }
     {
-        self.pairs.first().copied()
+        match self.entries.first() {
+            Some(first) => Some((VarId(first.quantity), first.factor)),
+            None => None,
+        }
     }
 
-    /// The sum. Overflow where two coefficients of one variable, or the constants, have a refused sum.
-    pub fn add(&self, other: &Form) -> Result<Form, FormFault>
-        ensures value { IfOk result (λ f. f ≡ sum_form self.now other.now) }
+    /// The sum. Overflow where two coefficients of one variable, or the constants, have a refused one.
+    pub fn add(self, other: &Form) -> Result<Form, Refusal>
+        ensures value { IfOk result (λ f. f ≡ sum_form self other.now) }
         ensures accepted { OnOk result ((o : Operation) (p q : ℚ)
-            → SumPair self.now other.now o p q → Accepts o p q) }
-        ensures overflow { (pair : Pair) → result ≡ Err (FormFault.Overflow pair)
-            → SumPair self.now other.now pair.operation pair.left pair.right × IsRefused pair }
+            → SumPair self other.now o p q → Accepts o p q) }
+        ensures overflow { (pair : Pair) → result ≡ Err (Refusal.Overflow pair)
+            → SumPair self other.now pair.operation pair.left pair.right × IsRefused pair }
     {
-        Ok(Form {
-            constant: sum(self.constant, other.constant)?,
-            pairs: merged(*self.pairs.allocator(), &self.pairs, &other.pairs)?,
-        })
+        self.joined(Joining::Plus, other)
+    }
+
+    /// The difference. Overflow where two coefficients of one variable, or the constants, have a refused one.
+    pub fn sub(self, other: &Form) -> Result<Form, Refusal>
+        ensures value { IfOk result (λ f. f ≡ difference_form self other.now) }
+        ensures accepted { OnOk result ((o : Operation) (p q : ℚ)
+            → DifferencePair self other.now o p q → Accepts o p q) }
+        ensures overflow { (pair : Pair) → result ≡ Err (Refusal.Overflow pair)
+            → DifferencePair self other.now pair.operation pair.left pair.right × IsRefused pair }
+    {
+        self.joined(Joining::Less, other)
+    }
+
+    fn joined(self, how: Joining, other: &Form) -> Result<Form, Refusal>
+        ensures value { IfOk result (λ f. f ≡ joined_form how self other.now) }
+        ensures accepted { OnOk result ((o : Operation) (p q : ℚ)
+            → JoinedPair how self other.now o p q → Accepts o p q) }
+        ensures overflow { (pair : Pair) → result ≡ Err (Refusal.Overflow pair)
+            → JoinedPair how self other.now pair.operation pair.left pair.right × IsRefused pair }
+    {
+        let constant = how.of(self.constant, other.constant)?;
+        let entries = joined(self.entries, how, &other.entries)?;
+        Ok(Form { constant, entries })
     }
 
     /// The form times `k`. Overflow where `k` times a coefficient or the constant is refused.
-    pub fn scale(&self, k: Frac) -> Result<Form, FormFault>
+    pub fn scale(&self, k: Frac) -> Result<Form, Refusal>
         ensures value { IfOk result (λ f. f ≡ scaled_form k self.now) }
         ensures accepted { OnOk result ((o : Operation) (p q : ℚ) → ScalePair k self.now o p q
             → Accepts o p q) }
-        ensures overflow { (pair : Pair) → result ≡ Err (FormFault.Overflow pair)
+        ensures overflow { (pair : Pair) → result ≡ Err (Refusal.Overflow pair)
             → ScalePair k self.now pair.operation pair.left pair.right × IsRefused pair }
     {
         Ok(Form {
             constant: product(k, self.constant)?,
-            pairs: scaled(*self.pairs.allocator(), k, &self.pairs)?,
+            entries: scaled(*self.entries.allocator(), k, &self.entries)?,
         })
     }
 
     /// The form with `form` in the place of `variable`. Overflow where the variable's coefficient times a number of
     /// `form` is refused, or the sum of that product and this form's own number.
-    pub fn subst(&self, variable: VarId, form: &Form) -> Result<Form, FormFault>
+    pub fn subst(&self, variable: VarId, form: &Form) -> Result<Form, Refusal>
         ensures value { IfOk result (λ f. f ≡ substituted_form variable.0 form.now self.now) }
         ensures accepted { OnOk result ((o : Operation) (p q : ℚ)
             → SubstPair variable.0 form.now self.now o p q → Accepts o p q) }
-        ensures overflow { (pair : Pair) → result ≡ Err (FormFault.Overflow pair)
+        ensures overflow { (pair : Pair) → result ≡ Err (Refusal.Overflow pair)
             → SubstPair variable.0 form.now self.now pair.operation pair.left pair.right
             × IsRefused pair }
     {
-        let Some(k) = coefficient(&self.pairs, variable) else {
+        let Some(k) = coefficient(&self.entries, variable) else {
             return Ok(self.clone()?);
         };
         let rest = Form {
             constant: self.constant,
-            pairs: others(*self.pairs.allocator(), &self.pairs, variable)?,
+            entries: others(*self.entries.allocator(), &self.entries, variable)?,
         };
         rest.add(&form.scale(k)?)
     }
@@ -166,7 +153,7 @@ impl Clone for Form {
     fn clone(&self) -> Result<Form, AllocError> {
         Ok(Form {
             constant: self.constant,
-            pairs: Vec::from_slice(*self.pairs.allocator(), &self.pairs)?,
+            entries: Vec::from_slice(*self.entries.allocator(), &self.entries)?,
         })
     }
 }
@@ -180,7 +167,7 @@ pub struct Constraint {
 
 impl Model for Constraint {
     ghost use Rattle.spec_linear.specs.Solution.{Constraint};
-    ghost use Rattle.cq_form.specs.Pairs.{constraint_code};
+    ghost use Rattle.cq_form.specs.Entries.{constraint_code};
 
     ghost Value = { Constraint };
 
@@ -209,7 +196,7 @@ pub struct Cert {
 impl Model for Cert {
     ghost use Rattle.std.specs.Prelude.{ℕ, List};
     ghost use Rattle.spec_rational.specs.Rational.{ℚ};
-    ghost use Rattle.cq_form.specs.Pairs.{cert_code};
+    ghost use Rattle.cq_form.specs.Entries.{cert_code};
 
     ghost Value = { List (ℕ × ℚ) };
 

@@ -1,6 +1,6 @@
 // Sums, multiples and substitutions against vectors made by hand and by Python's `fractions`.
-use super::{Cert, Constraint, Form, FormFault};
-use cq_frac::{Frac, Operation, VarId};
+use super::{Cert, Constraint, Form};
+use cq_frac::{Frac, Operation, Refusal, VarId};
 use spec_linear::Relation;
 use std::alloc::{AllocError, Global};
 use std::test::Fail;
@@ -18,7 +18,7 @@ fn variable(alloc: Global, x: usize) -> Result<Form, AllocError> {
     Form::new(alloc, Frac::zero(), &[(VarId(x), Frac::one())])
 }
 
-fn form(alloc: Global, given: &Given) -> Result<Form, FormFault> {
+fn form(alloc: Global, given: &Given) -> Result<Form, Refusal> {
     let mut sum = Form::new(alloc, number(given.1, given.2), &[])?;
     for (x, n, d) in given.0 {
         sum = sum.add(&variable(alloc, *x)?.scale(number(*n, *d))?)?;
@@ -27,23 +27,23 @@ fn form(alloc: Global, given: &Given) -> Result<Form, FormFault> {
 }
 
 fn is_given(form: &Form, given: &Given) -> bool {
-    let mut same = form.pairs().len() == given.0.len()
+    let mut same = form.entries().len() == given.0.len()
         && form.constant().parts() == (given.1, given.2);
-    for (pair, want) in form.pairs().iter().zip(given.0) {
-        same = same && pair.0.0 == want.0 && pair.1.parts() == (want.1, want.2);
+    for (entry, want) in form.entries().iter().zip(given.0) {
+        same = same && entry.quantity == want.0 && entry.factor.parts() == (want.1, want.2);
     }
     same
 }
 
 fn is_refused(
-    fault: Option<FormFault>,
+    fault: Option<Refusal>,
     operation: Operation,
     left: (i128, i128),
     right: (i128, i128),
 ) -> bool {
     match fault {
-        None | Some(FormFault::NoMemory) => false,
-        Some(FormFault::Overflow(pair)) => {
+        None | Some(Refusal::NoMemory) => false,
+        Some(Refusal::Overflow(pair)) => {
             pair.operation == operation && pair.left.parts() == left && pair.right.parts() == right
         }
     }
@@ -62,6 +62,29 @@ fn sums_collect_like_terms(rt: HostRuntime) -> Result<(), Fail> {
     for (left, right, want) in rows {
         let sum = form(rt.alloc(), &left)?.add(&form(rt.alloc(), &right)?)?;
         assert!(rt; is_given(&sum, &want), "{sum:?}");
+    }
+    Ok(())
+}
+
+#[test]
+fn differences_collect_like_terms(rt: HostRuntime) -> Result<(), Fail> {
+    let f: Given = (&[(1, 1, 1), (4, -2, 3)], 5, 2);
+    let rows: [(Given, Given); 5] = [
+        ((&[], 7, 1), (&[(1, 1, 1), (4, -2, 3)], -9, 2)),
+        (
+            (&[(0, 1, 6)], 0, 1),
+            (&[(0, -1, 6), (1, 1, 1), (4, -2, 3)], 5, 2),
+        ),
+        ((&[(4, 1, 3)], 1, 1), (&[(1, 1, 1), (4, -1, 1)], 3, 2)),
+        ((&[(4, -2, 3)], 1, 1), (&[(1, 1, 1)], 3, 2)),
+        (
+            (&[(1, 1, 1), (7, 3, 1)], 1, 2),
+            (&[(4, -2, 3), (7, -3, 1)], 2, 1),
+        ),
+    ];
+    for (right, want) in rows {
+        let difference = form(rt.alloc(), &f)?.sub(&form(rt.alloc(), &right)?)?;
+        assert!(rt; is_given(&difference, &want), "{difference:?}");
     }
     Ok(())
 }
@@ -87,7 +110,7 @@ fn substitutions_put_a_form_in_the_place_of_a_variable(rt: HostRuntime) -> Resul
 fn a_refusal_names_the_operation_and_its_two_numbers(rt: HostRuntime) -> Result<(), Fail> {
     let wide: Given = (&[(3, M, 1)], 1, 1);
     let f = form(rt.alloc(), &wide)?;
-    let sum = f.add(&f).err();
+    let sum = f.clone()?.add(&f).err();
     assert!(rt; is_refused(sum, Operation::Sum, (M, 1), (M, 1)));
     let multiple = f.scale(number(2, 1)).err();
     assert!(rt; is_refused(multiple, Operation::Product, (2, 1), (M, 1)));

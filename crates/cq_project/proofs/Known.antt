@@ -9,7 +9,8 @@ use Rattle.spec_echelon.specs.Echelon.{AreDistinct}
 use Rattle.cq_frac.specs.declared.VarId.{VarId}
 use Rattle.spec_lists.proofs.Tests.{nat_eq-same, nat_eq-other}
 use Rattle.spec_rational.specs.Rational.{ℚ}
-use Rattle.cq_form.specs.Pairs.{product_of, products_of}
+use Rattle.cq_row.specs.declared.Entry.{Entry}
+use Rattle.cq_form.specs.Entries.{product_of, products_of}
 use Rattle.cq_store.specs.Told.{numbers_of}
 use Rattle.cq_project.specs.Rows.{Knows}
 
@@ -161,15 +162,15 @@ knows_member keep told keys i c k l e h = record {
     go y (inr (inr m)) = absurd m
 
 -- one more variable of a form is known
-pub pair_more : (keys new : List VarId) (pairs : List (VarId × ℚ)) (i : ℕ) (p : VarId × ℚ) → i < length pairs → p ≡ get_or pairs i p → Has p.0.0 (numbers_of new) → ((y : ℕ) → Has y (numbers_of keys) → Has y (numbers_of new)) → ((y : ℕ) → Mentions y (products_of (take i pairs)) → Has y (numbers_of keys)) → (y : ℕ) → Mentions y (products_of (take (i + 1) pairs)) → Has y (numbers_of new)
-pair_more keys new pairs i p l e there stays h y m =
-    go (mentions_either (products_of (take i pairs)) (products_of (p ∷ [])) y (subst (Mentions y) (ap products_of (take_more pairs i p l ∙ ap (λ q. take i pairs ++ q ∷ []) (sym e)) ∙ products_append (take i pairs)) m))
+pub entry_more : (keys new : List VarId) (entries : List Entry) (i : ℕ) (p : Entry) → i < length entries → p ≡ get_or entries i p → Has p.quantity (numbers_of new) → ((y : ℕ) → Has y (numbers_of keys) → Has y (numbers_of new)) → ((y : ℕ) → Mentions y (products_of (take i entries)) → Has y (numbers_of keys)) → (y : ℕ) → Mentions y (products_of (take (i + 1) entries)) → Has y (numbers_of new)
+entry_more keys new entries i p l e there stays h y m =
+    go (mentions_either (products_of (take i entries)) (products_of (p ∷ [])) y (subst (Mentions y) (ap products_of (take_more entries i p l ∙ ap (λ q. take i entries ++ q ∷ []) (sym e)) ∙ products_append (take i entries)) m))
   where
-    products_append : (s : List (VarId × ℚ)) → products_of (s ++ p ∷ []) ≡ products_of s ++ products_of (p ∷ [])
+    products_append : (s : List Entry) → products_of (s ++ p ∷ []) ≡ products_of s ++ products_of (p ∷ [])
     products_append [] = refl
     products_append (q ∷ s) = ap (λ t. product_of q ∷ t) (products_append s)
 
-    go : Mentions y (products_of (take i pairs)) ⊎ Mentions y (products_of (p ∷ [])) → Has y (numbers_of new)
+    go : Mentions y (products_of (take i entries)) ⊎ Mentions y (products_of (p ∷ [])) → Has y (numbers_of new)
     go (inl k) = stays y (h y k)
     go (inr (inl k)) = subst (λ z. Has z (numbers_of new)) (sym k) there
     go (inr (inr k)) = absurd k

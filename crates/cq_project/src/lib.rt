@@ -82,8 +82,8 @@ fn known_variables(
         known.insert(x)?;
     }
     'members: for c in told {
-        'pairs: for &(x, _) in c.form.pairs() {
-            known.insert(x)?;
+        'entries: for entry in c.form.entries() {
+            known.insert(VarId(entry.quantity))?;
         }
     }
     Ok(known)

@@ -3,6 +3,6 @@ pub mod Units
 pub mod Steps
 pub mod Merge
 pub mod Placed
-pub mod Exits
 pub mod Pairs
 pub mod Shifts
+pub mod OneMore

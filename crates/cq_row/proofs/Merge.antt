@@ -1,15 +1,16 @@
 -- One step of a merge of two lists.
-use Rattle.std.proofs.Common.{◌≡◌, ℕ, ◌+◌, ◌<◌, ◌≤◌, List, [], ◌∷◌, ◌++◌, length, Bool, true, arith, rules, refl, ap, ap₂, sym, subst, ◌∙◌, pos, inl, inr, take, take_all, drop, drop_of_length-le}
+use Rattle.std.proofs.Common.{◌≡◌, ℕ, ◌+◌, ◌<◌, ◌≤◌, List, [], ◌∷◌, ◌++◌, length, Bool, true, arith, rules, refl, ap, ap₂, sym, subst, ◌∙◌, pos, inl, inr, Option, Some, None, take, take_all, drop, drop_of_length-le}
 use Rattle.spec_rational.specs.Rational.{ℚ, 0ℚ, neg_ℚ, ◌+ℚ◌, ◌*ℚ◌}
 use Rattle.spec_rational.proofs.Ring.{var, int, ◌⊕◌, ◌⊗◌, minus}
 use Rattle.spec_rational.proofs.Rational.{ring}
-use Rattle.cq_frac.specs.Refused.{Refuses}
+use Rattle.cq_frac.specs.Refused.{Refuses, Tells}
+use Rattle.cq_frac.proofs.Refusals.{never_both}
 use Rattle.cq_frac.specs.declared.Operation.TheVariants.{Product}
 use Rattle.cq_frac.specs.declared.Pair.{Pair}
 use Rattle.cq_row.specs.declared.Entry.{Entry}
 use Rattle.cq_row.specs.declared.Joining.{Joining}
 use Rattle.cq_row.specs.declared.Joining.TheVariants.{Plus, Less}
-use Rattle.cq_row.specs.Rows.{sum_at, IsRowFrom, Has, joined, operation_of, everywhere, times, Tells, IsProductPair, IsJoinedPair, NoJoinedPair, NoProductPair, StartsAbove, IsNextAt}
+use Rattle.cq_row.specs.Rows.{sum_at, IsRowFrom, Has, joined, operation_of, everywhere, times, IsJoinedPair, NoJoinedPair, StartsAbove, IsNextAt, multiplier, AcceptsScaled, TellsScaled, IsScaledPair, NoScaledPair}
 use Rattle.cq_row.proofs.Units.{row_lower, has_least, sum_at-times}
 use Rattle.cq_row.proofs.Steps.{has_next, drop-times, no_product_more}
 
@@ -238,79 +239,88 @@ times_above k c b j h = subst (StartsAbove c) (sym (drop-times k b j)) (starts_t
 pub times_end : (k : ℚ) (b : List Entry) (j : ℕ) → length b ≤ j → drop j (times k b) ≡ []
 times_end k b j l = drop-times k b j ∙ ap (times k) (drop_of_length-le b l)
 
+no_scaled_start : (scale : Option ℚ) (b : List Entry) → NoScaledPair scale (take 0 b)
+no_scaled_start None b = tt
+no_scaled_start (Some k) b = λ m h r. h
+
+no_scaled_more : (scale : Option ℚ) (s : List Entry) (j : ℕ) (m : Entry) (t : List Entry) → drop j s ≡ m ∷ t → NoScaledPair scale (take j s) → AcceptsScaled scale m.factor → NoScaledPair scale (take (j + 1) s)
+no_scaled_more None s j m t e h a = tt
+no_scaled_more (Some k) s j m t e h a = no_product_more k s j m t e h (λ r. never_both Product k m.factor a r)
+
 -- all that the loop keeps
-pub record State (how : Joining) (k : ℚ) (a b done : List Entry) (i j : ℕ) : Type 0 where
-  pub going : (p : ℕ → Bool) → IsRowFrom p 0 a → IsRowFrom p 0 (times k b) → Going how p a (times k b) done i j
-  pub adds : Adds how a (times k b) done i j
-  pub products : NoProductPair k (take j b)
+pub record State (how : Joining) (scale : Option ℚ) (a b done : List Entry) (i j : ℕ) : Type 0 where
+  pub going : (p : ℕ → Bool) → IsRowFrom p 0 a → IsRowFrom p 0 (times (multiplier scale) b) → Going how p a (times (multiplier scale) b) done i j
+  pub adds : Adds how a (times (multiplier scale) b) done i j
+  pub products : NoScaledPair scale (take j b)
 
-pub started : (how : Joining) (k : ℚ) (a b s : List Entry) → s ≡ [] → State how k a b s 0 0
-started how k a b s e = record { going = λ p h r. going_start how p a (times k b) s e h r; adds = adds_start how a (times k b) s e; products = λ m h r. h }
+pub started : (how : Joining) (scale : Option ℚ) (a b s : List Entry) → s ≡ [] → State how scale a b s 0 0
+started how scale a b s e = record { going = λ p h r. going_start how p a (times (multiplier scale) b) s e h r; adds = adds_start how a (times (multiplier scale) b) s e; products = no_scaled_start scale b }
 
-module _ {how : Joining} {k : ℚ} {a b done : List Entry} {i j : ℕ} (s : State how k a b done i j) where
-  pub left_more : (x : Entry) (more : List Entry) → IsNextAt a i x × StartsAbove x.quantity (drop j b) → more ≡ done ++ x ∷ [] → State how k a b more (i + 1) j
+module _ {how : Joining} {scale : Option ℚ} {a b done : List Entry} {i j : ℕ} (s : State how scale a b done i j) where
+  pub left_more : (x : Entry) (more : List Entry) → IsNextAt a i x × StartsAbove x.quantity (drop j b) → more ≡ done ++ x ∷ [] → State how scale a b more (i + 1) j
   left_more x more n e = record {
-    going = λ p h r. let g = s.going p h r in take_left g x more n.0 (raised p g.lo x.quantity (drop j (times k b)) g.b_row (times_above k x.quantity b j n.1)) e;
+    going = λ p h r. let g = s.going p h r in take_left g x more n.0 (raised p g.lo x.quantity (drop j (times (multiplier scale) b)) g.b_row (times_above (multiplier scale) x.quantity b j n.1)) e;
     adds = add_left s.adds x more n.0 e;
     products = s.products;
   }
 
-  pub right_more : (y : Entry) (product z : ℚ) (more : List Entry) → IsNextAt b j y × StartsAbove y.quantity (drop i a) → product ≡ k *ℚ y.factor → (Refuses Product k y.factor → ⊥) → z ≡ joined how 0ℚ product → more ≡ done ++ record { quantity = y.quantity; factor = z } ∷ [] → State how k a b more i (j + 1)
+  pub right_more : (y : Entry) (product z : ℚ) (more : List Entry) → IsNextAt b j y × StartsAbove y.quantity (drop i a) → product ≡ multiplier scale *ℚ y.factor → AcceptsScaled scale y.factor → z ≡ joined how 0ℚ product → more ≡ done ++ record { quantity = y.quantity; factor = z } ∷ [] → State how scale a b more i (j + 1)
   right_more y product z more n f r w e =
-      let o = times_next k b j y n.0 in
-      let v : z ≡ joined how 0ℚ (k *ℚ y.factor) = w ∙ ap (joined how 0ℚ) f in
+      let o = times_next (multiplier scale) b j y n.0 in
+      let v : z ≡ joined how 0ℚ (multiplier scale *ℚ y.factor) = w ∙ ap (joined how 0ℚ) f in
       record {
-        going = λ p h t. let g = s.going p h t in take_right g (record { quantity = y.quantity; factor = k *ℚ y.factor }) (record { quantity = y.quantity; factor = z }) more o (raised p g.lo y.quantity (drop i a) g.a_row n.1) refl (alone_not_zero how (k *ℚ y.factor) z v) e;
-        adds = add_right s.adds (record { quantity = y.quantity; factor = k *ℚ y.factor }) z more o v e;
-        products = no_product_more k b j y (drop (j + 1) b) n.0 s.products r;
+        going = λ p h t. let g = s.going p h t in take_right g (record { quantity = y.quantity; factor = multiplier scale *ℚ y.factor }) (record { quantity = y.quantity; factor = z }) more o (raised p g.lo y.quantity (drop i a) g.a_row n.1) refl (alone_not_zero how (multiplier scale *ℚ y.factor) z v) e;
+        adds = add_right s.adds (record { quantity = y.quantity; factor = multiplier scale *ℚ y.factor }) z more o v e;
+        products = no_scaled_more scale b j y (drop (j + 1) b) n.0 s.products r;
       }
 
-  module _ (x y : Entry) (product z : ℚ) (n : IsNextAt a i x × IsNextAt b j y × (x.quantity ≡ y.quantity)) (f : product ≡ k *ℚ y.factor) (r : Refuses Product k y.factor → ⊥)
+  module _ (x y : Entry) (product z : ℚ) (n : IsNextAt a i x × IsNextAt b j y × (x.quantity ≡ y.quantity)) (f : product ≡ multiplier scale *ℚ y.factor) (r : AcceptsScaled scale y.factor)
       (w : z ≡ joined how x.factor product) (t : Refuses (operation_of how) x.factor product → ⊥) where
-    sum_is : z ≡ joined how x.factor (k *ℚ y.factor)
+    sum_is : z ≡ joined how x.factor (multiplier scale *ℚ y.factor)
     sum_is = w ∙ ap (joined how x.factor) f
 
-    not_refused : Refuses (operation_of how) x.factor (k *ℚ y.factor) → ⊥
+    not_refused : Refuses (operation_of how) x.factor (multiplier scale *ℚ y.factor) → ⊥
     not_refused q = t (subst (Refuses (operation_of how) x.factor) (sym f) q)
 
-    pub both_zero : z ≡ 0ℚ → State how k a b done (i + 1) (j + 1)
+    pub both_zero : z ≡ 0ℚ → State how scale a b done (i + 1) (j + 1)
     both_zero gone = record {
-      going = λ p h u. take_both (s.going p h u) x (record { quantity = y.quantity; factor = k *ℚ y.factor }) n.0 (times_next k b j y n.1) n.2 not_refused;
-      adds = add_none s.adds x (record { quantity = y.quantity; factor = k *ℚ y.factor }) z n.0 (times_next k b j y n.1) n.2 sum_is gone;
-      products = no_product_more k b j y (drop (j + 1) b) n.1 s.products r;
+      going = λ p h u. take_both (s.going p h u) x (record { quantity = y.quantity; factor = multiplier scale *ℚ y.factor }) n.0 (times_next (multiplier scale) b j y n.1) n.2 not_refused;
+      adds = add_none s.adds x (record { quantity = y.quantity; factor = multiplier scale *ℚ y.factor }) z n.0 (times_next (multiplier scale) b j y n.1) n.2 sum_is gone;
+      products = no_scaled_more scale b j y (drop (j + 1) b) n.1 s.products r;
     }
 
-    pub both_more : (more : List Entry) → (z ≡ 0ℚ → ⊥) → more ≡ done ++ record { quantity = x.quantity; factor = z } ∷ [] → State how k a b more (i + 1) (j + 1)
+    pub both_more : (more : List Entry) → (z ≡ 0ℚ → ⊥) → more ≡ done ++ record { quantity = x.quantity; factor = z } ∷ [] → State how scale a b more (i + 1) (j + 1)
     both_more more nonzero e = record {
-      going = λ p h u. put (s.going p h u) x (record { quantity = y.quantity; factor = k *ℚ y.factor }) (record { quantity = x.quantity; factor = z }) more n.0 (times_next k b j y n.1) n.2 not_refused refl nonzero e;
-      adds = add_both s.adds x (record { quantity = y.quantity; factor = k *ℚ y.factor }) z more n.0 (times_next k b j y n.1) n.2 sum_is e;
-      products = no_product_more k b j y (drop (j + 1) b) n.1 s.products r;
+      going = λ p h u. put (s.going p h u) x (record { quantity = y.quantity; factor = multiplier scale *ℚ y.factor }) (record { quantity = x.quantity; factor = z }) more n.0 (times_next (multiplier scale) b j y n.1) n.2 not_refused refl nonzero e;
+      adds = add_both s.adds x (record { quantity = y.quantity; factor = multiplier scale *ℚ y.factor }) z more n.0 (times_next (multiplier scale) b j y n.1) n.2 sum_is e;
+      products = no_scaled_more scale b j y (drop (j + 1) b) n.1 s.products r;
     }
 
-  pub row_at_end : (p : ℕ → Bool) → IsRowFrom p 0 a → IsRowFrom p 0 (times k b) → IsRowFrom p 0 done
+  pub row_at_end : (p : ℕ → Bool) → IsRowFrom p 0 a → IsRowFrom p 0 (times (multiplier scale) b) → IsRowFrom p 0 done
   row_at_end p h r = (s.going p h r).done_row
 
   module _ (la : length a ≤ i) (lb : length b ≤ j) where
-    pub value_end : (x : ℕ → ℚ) → sum_at x done ≡ joined how (sum_at x a) (k *ℚ sum_at x b)
-    value_end x = add_end s.adds (drop_of_length-le a la) (times_end k b j lb) x ∙ ap (joined how (sum_at x a)) (sum_at-times x k b)
+    pub value_end : (x : ℕ → ℚ) → sum_at x done ≡ joined how (sum_at x a) (multiplier scale *ℚ sum_at x b)
+    value_end x = add_end s.adds (drop_of_length-le a la) (times_end (multiplier scale) b j lb) x ∙ ap (joined how (sum_at x a)) (sum_at-times x (multiplier scale) b)
 
-    pub products_end : NoProductPair k b
-    products_end = let e : take j b ≡ b = search (rules, take_all) in subst (NoProductPair k) e s.products
+    pub products_end : NoScaledPair scale b
+    products_end = let e : take j b ≡ b = search (rules, take_all) in subst (NoScaledPair scale) e s.products
 
-    pub joined_end : IsRowFrom everywhere 0 a → IsRowFrom everywhere 0 (times k b) → NoJoinedPair a how (times k b)
+    pub joined_end : IsRowFrom everywhere 0 a → IsRowFrom everywhere 0 (times (multiplier scale) b) → NoJoinedPair a how (times (multiplier scale) b)
     joined_end h r = none_left (s.going everywhere h r) (drop_of_length-le a la)
 
 -- the pair of a refused product
-pub product_shown : (k : ℚ) (b : List Entry) (j : ℕ) (y : Entry) (pair : Pair) → IsNextAt b j y → Tells Product k y.factor pair → IsProductPair k b pair
-product_shown k b j y pair n t = record { entry = y; in_row = has_next b j y (drop (j + 1) b) n; tells = t }
+pub scaled_shown : (scale : Option ℚ) (b : List Entry) (j : ℕ) (y : Entry) (pair : Pair) → IsNextAt b j y → TellsScaled scale y.factor pair → IsScaledPair scale b pair
+scaled_shown None b j y pair n t = t
+scaled_shown (Some k) b j y pair n t = record { entry = y; in_row = has_next b j y (drop (j + 1) b) n; tells = t }
 
 -- the pair of a refused sum
-pub joined_shown : (how : Joining) (k : ℚ) (a b : List Entry) (i j : ℕ) (x y : Entry) (product : ℚ) (pair : Pair) → IsNextAt a i x × IsNextAt b j y × (x.quantity ≡ y.quantity) → product ≡ k *ℚ y.factor → Tells (operation_of how) x.factor product pair → IsJoinedPair a how (times k b) pair
-joined_shown how k a b i j x y product pair n f t = record {
+pub joined_shown : (how : Joining) (scale : Option ℚ) (a b : List Entry) (i j : ℕ) (x y : Entry) (product : ℚ) (pair : Pair) → IsNextAt a i x × IsNextAt b j y × (x.quantity ≡ y.quantity) → product ≡ multiplier scale *ℚ y.factor → Tells (operation_of how) x.factor product pair → IsJoinedPair a how (times (multiplier scale) b) pair
+joined_shown how scale a b i j x y product pair n f t = record {
   left = x;
-  right = record { quantity = y.quantity; factor = k *ℚ y.factor };
+  right = record { quantity = y.quantity; factor = multiplier scale *ℚ y.factor };
   in_left = has_next a i x (drop (i + 1) a) n.0;
-  in_right = has_next (times k b) j _ (drop (j + 1) (times k b)) (times_next k b j y n.1);
+  in_right = has_next (times (multiplier scale) b) j _ (drop (j + 1) (times (multiplier scale) b)) (times_next (multiplier scale) b j y n.1);
   same = n.2;
   tells = subst (λ q. Tells (operation_of how) x.factor q pair) f t;
 }

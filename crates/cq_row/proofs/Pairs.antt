@@ -4,27 +4,27 @@ use Rattle.spec_rational.specs.Rational.{ℚ, ◌*ℚ◌}
 use Rattle.cq_frac.specs.declared.Operation.{Operation}
 use Rattle.cq_frac.specs.declared.Operation.TheVariants.{Product, Quotient}
 use Rattle.cq_frac.specs.declared.Pair.{Pair}
-use Rattle.cq_frac.specs.Refused.{Refuses, IsRefused}
+use Rattle.cq_frac.specs.Refused.{Refuses, IsRefused, Tells}
 use Rattle.cq_row.specs.declared.Entry.{Entry}
 use Rattle.cq_row.specs.declared.Joining.{Joining}
 use Rattle.cq_row.specs.declared.Joining.TheVariants.{Less}
 use Rattle.cq_row.specs.Row.{Row}
-use Rattle.cq_row.specs.Rows.{Has, operation_of, times, Tells, IsProductPair, IsQuotientPair, IsJoinedPair, NoProductPair, NoQuotientPair, NoJoinedPair}
-use Rattle.cq_row.specs.Numbers.{Place, at_constant, at_live, at_dropped, IsNumber, constant_number, live_number, dropped_number, JoinPair, product_pair, joined_pair, QuotientPair, quotient_pair, ShiftPair, of_rows, of_rate}
+use Rattle.cq_row.specs.Rows.{Has, operation_of, times, IsProductPair, IsQuotientPair, IsJoinedPair, NoProductPair, NoQuotientPair, NoJoinedPair}
+use Rattle.cq_row.specs.Numbers.{Site, at_constant, at_live, at_dropped, IsNumber, constant_number, live_number, dropped_number, JoinPair, product_pair, joined_pair, QuotientPair, quotient_pair, ShiftPair, of_rows, of_rate}
 use Rattle.cq_row.proofs.Units.{has_times}
 
 -- ---- the numbers at a place
-pub live_at : (r : Row) (at : Place) (n : ℚ) (c : ℕ) → IsNumber r at n → at ≡ at_live c → Has (record { quantity = c; factor = n }) r.live
+pub live_at : (r : Row) (at : Site) (n : ℚ) (c : ℕ) → IsNumber r at n → at ≡ at_live c → Has (record { quantity = c; factor = n }) r.live
 live_at r at n c constant_number e = cc
 live_at r at n c (live_number m h) e = let f : m.quantity ≡ c = cc in subst (λ k. Has (record { quantity = k; factor = m.factor }) r.live) f h
 live_at r at n c (dropped_number m h) e = cc
 
-pub dropped_at : (r : Row) (at : Place) (n : ℚ) (c : ℕ) → IsNumber r at n → at ≡ at_dropped c → Has (record { quantity = c; factor = n }) r.dropped
+pub dropped_at : (r : Row) (at : Site) (n : ℚ) (c : ℕ) → IsNumber r at n → at ≡ at_dropped c → Has (record { quantity = c; factor = n }) r.dropped
 dropped_at r at n c constant_number e = cc
 dropped_at r at n c (live_number m h) e = cc
 dropped_at r at n c (dropped_number m h) e = let f : m.quantity ≡ c = cc in subst (λ k. Has (record { quantity = k; factor = m.factor }) r.dropped) f h
 
-pub constant_at : (r : Row) (at : Place) (n : ℚ) → IsNumber r at n → at ≡ at_constant → n ≡ r.constant
+pub constant_at : (r : Row) (at : Site) (n : ℚ) → IsNumber r at n → at ≡ at_constant → n ≡ r.constant
 constant_at r at n constant_number e = refl
 constant_at r at n (live_number m h) e = cc
 constant_at r at n (dropped_number m h) e = cc
@@ -39,7 +39,7 @@ times_has k (n ∷ s) m (inl e) = inl (ap (λ (t : Entry). record { quantity = t
 times_has k (n ∷ s) m (inr h) = inr (times_has k s m h)
 
 -- a pair of the two lists, where each shows a number of its row at one place
-list_pair : (a : Row) (how : Joining) (k : ℚ) (b : Row) (place : ℕ → Place) (s t : List Entry) (pair : Pair) →
+list_pair : (a : Row) (how : Joining) (k : ℚ) (b : Row) (place : ℕ → Site) (s t : List Entry) (pair : Pair) →
     ((m : Entry) → Has m s → IsNumber a (place m.quantity) m.factor) → ((m : Entry) → Has m t → IsNumber b (place m.quantity) m.factor) →
     IsProductPair k t pair ⊎ IsJoinedPair s how (times k t) pair → JoinPair a how k b pair.operation pair.left pair.right × IsRefused pair
 list_pair a how k b place s t pair left right (inl h) =
@@ -76,12 +76,12 @@ module _ (a : Row) (how : Joining) (k : ℚ) (b : Row) where
   pub join_accepted : Accepted → (o : Operation) (p q : ℚ) → JoinPair a how k b o p q → Refuses o p q → ⊥
   join_accepted n o p q w r = go w r
     where
-      one : (at : Place) (m : ℚ) → IsNumber b at m → Refuses Product k m → ⊥
+      one : (at : Site) (m : ℚ) → IsNumber b at m → Refuses Product k m → ⊥
       one at m constant_number r = n.product r
       one at m (live_number x h) r = n.live.0 x h r
       one at m (dropped_number x h) r = n.dropped.0 x h r
 
-      two : (at : Place) (l m : ℚ) → IsNumber a at l → IsNumber b at m → Refuses (operation_of how) l (k *ℚ m) → ⊥
+      two : (at : Site) (l m : ℚ) → IsNumber a at l → IsNumber b at m → Refuses (operation_of how) l (k *ℚ m) → ⊥
       two at l m constant_number h r = n.sum (subst (λ z. Refuses (operation_of how) a.constant (k *ℚ z)) (constant_at b at_constant m h refl) r)
       two at l m (live_number x w) h r = n.live.1 x (record { quantity = x.quantity; factor = k *ℚ m }) w (times_has k b.live (record { quantity = x.quantity; factor = m }) (live_at b (at_live x.quantity) m x.quantity h refl)) refl r
       two at l m (dropped_number x w) h r = n.dropped.1 x (record { quantity = x.quantity; factor = k *ℚ m }) w (times_has k b.dropped (record { quantity = x.quantity; factor = m }) (dropped_at b (at_dropped x.quantity) m x.quantity h refl)) refl r
@@ -103,7 +103,7 @@ module _ (row : Row) (p : ℚ) where
   pub quotient_accepted : NoQuotientPair row.live p → NoQuotientPair row.dropped p → (Refuses Quotient row.constant p → ⊥) → (o : Operation) (a b : ℚ) → QuotientPair row p o a b → Refuses o a b → ⊥
   quotient_accepted nl nd nc o a b w r = go w r
     where
-      one : (at : Place) (m : ℚ) → IsNumber row at m → Refuses Quotient m p → ⊥
+      one : (at : Site) (m : ℚ) → IsNumber row at m → Refuses Quotient m p → ⊥
       one at m constant_number r = nc r
       one at m (live_number x h) r = nl x h r
       one at m (dropped_number x h) r = nd x h r

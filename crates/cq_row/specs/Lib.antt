@@ -1,4 +1,3 @@
-pub mod Faults
 pub mod Numbers
 pub mod Row
 pub mod Rows

@@ -19,13 +19,13 @@ pub record IsOver (live dropped : ℕ → Bool) (r : Row) : Type 0 where
   pub dropped_row : IsRowFrom dropped 0 r.dropped
 
 -- where a number of a row stands
-pub data Place : Type 0 where
-  at_constant : Place
-  at_live : ℕ → Place
-  at_dropped : ℕ → Place
+pub data Site : Type 0 where
+  at_constant : Site
+  at_live : ℕ → Site
+  at_dropped : ℕ → Site
 
 -- the row has this number at the place
-pub data IsNumber (r : Row) : Place → ℚ → Type 0 where
+pub data IsNumber (r : Row) : Site → ℚ → Type 0 where
   constant_number : IsNumber r at_constant r.constant
   live_number : (m : Entry) → Has m r.live → IsNumber r (at_live m.quantity) m.factor
   dropped_number : (m : Entry) → Has m r.dropped → IsNumber r (at_dropped m.quantity) m.factor
@@ -39,8 +39,8 @@ pub record IsJoined (a : Row) (how : Joining) (k : ℚ) (b r : Row) : Type 0 whe
 
 -- the operations of that: products of k and a number of b, and at each place the number of a and that product
 pub data JoinPair (a : Row) (how : Joining) (k : ℚ) (b : Row) : Operation → ℚ → ℚ → Type 0 where
-  product_pair : (at : Place) (n : ℚ) → IsNumber b at n → JoinPair a how k b Product k n
-  joined_pair : (at : Place) (m n : ℚ) → IsNumber a at m → IsNumber b at n → JoinPair a how k b (operation_of how) m (k *ℚ n)
+  product_pair : (at : Site) (n : ℚ) → IsNumber b at n → JoinPair a how k b Product k n
+  joined_pair : (at : Site) (m n : ℚ) → IsNumber a at m → IsNumber b at n → JoinPair a how k b (operation_of how) m (k *ℚ n)
 
 -- each number of the row by p
 pub record IsDivided (row : Row) (p : ℚ) (q : Row) : Type 0 where
@@ -50,7 +50,7 @@ pub record IsDivided (row : Row) (p : ℚ) (q : Row) : Type 0 where
 
 -- the operations of that
 pub data QuotientPair (row : Row) (p : ℚ) : Operation → ℚ → ℚ → Type 0 where
-  quotient_pair : (at : Place) (n : ℚ) → IsNumber row at n → QuotientPair row p Quotient n p
+  quotient_pair : (at : Site) (n : ℚ) → IsNumber row at n → QuotientPair row p Quotient n p
 
 -- the test, and one more column
 abbrev pub also : ℕ → (ℕ → Bool) → ℕ → Bool

@@ -1,10 +1,10 @@
 -- Sparse lists of entries in order, and the pairs of numbers that an operation on them meets.
-use Rattle.std.specs.Prelude.{◌≡◌, ℕ, ◌+◌, ◌<◌, ◌≤◌, List, [], ◌∷◌, ◌⊎◌, Bool, true, false, nat_eq, drop}
+use Rattle.std.specs.Prelude.{◌≡◌, ℕ, ◌+◌, ◌<◌, ◌≤◌, List, [], ◌∷◌, ◌⊎◌, ⊤, Option, Some, None, Bool, true, false, nat_eq, length, slice_index_or, take, drop}
 use Rattle.spec_rational.specs.Rational.{ℚ, 0ℚ, 1ℚ, neg_ℚ, ◌+ℚ◌, ◌-ℚ◌, ◌*ℚ◌, ◌/ℚ◌}
 use Rattle.cq_frac.specs.declared.Operation.{Operation}
 use Rattle.cq_frac.specs.declared.Operation.TheVariants.{Sum, Difference, Product, Quotient}
 use Rattle.cq_frac.specs.declared.Pair.{Pair}
-use Rattle.cq_frac.specs.Refused.{Refuses}
+use Rattle.cq_frac.specs.Refused.{Refuses, Accepts, Tells}
 use Rattle.cq_row.specs.declared.Entry.{Entry}
 use Rattle.cq_row.specs.declared.Joining.{Joining}
 use Rattle.cq_row.specs.declared.Joining.TheVariants.{Plus, Less}
@@ -74,11 +74,6 @@ unit c y = choose (nat_eq y c) 1ℚ 0ℚ
 abbrev pub except : ℕ → (ℕ → Bool) → ℕ → Bool
 except c p y = choose (nat_eq y c) false (p y)
 
--- the operation refuses the numbers, and the pair tells of it
-pub record Tells (o : Operation) (a b : ℚ) (pair : Pair) : Type 0 where
-  pub is_pair : pair ≡ record { operation = o; left = a; right = b }
-  pub refused : Refuses o a b
-
 -- a factor of the list, by p
 pub record IsQuotientPair (s : List Entry) (p : ℚ) (pair : Pair) : Type 0 where
   pub entry : Entry
@@ -110,6 +105,30 @@ NoProductPair k s = (m : Entry) → Has m s → Refuses Product k m.factor → �
 abbrev pub NoJoinedPair : List Entry → Joining → List Entry → Type 0
 NoJoinedPair a how b = (m n : Entry) → Has m a → Has n b → m.quantity ≡ n.quantity → Refuses (operation_of how) m.factor n.factor → ⊥
 
+-- ---- a list with a multiplier, or as it is
+
+-- the multiplier, or 1
+abbrev pub multiplier : Option ℚ → ℚ
+multiplier None = 1ℚ
+multiplier (Some k) = k
+
+-- what a product with the multiplier says, taken or refused; without one there is none
+abbrev pub AcceptsScaled : Option ℚ → ℚ → Type 0
+AcceptsScaled None q = ⊤
+AcceptsScaled (Some k) q = Accepts Product k q
+
+abbrev pub TellsScaled : Option ℚ → ℚ → Pair → Type 0
+TellsScaled None q pair = ⊥
+TellsScaled (Some k) q pair = Tells Product k q pair
+
+abbrev pub IsScaledPair : Option ℚ → List Entry → Pair → Type 0
+IsScaledPair None s pair = ⊥
+IsScaledPair (Some k) s pair = IsProductPair k s pair
+
+abbrev pub NoScaledPair : Option ℚ → List Entry → Type 0
+NoScaledPair None s = ⊤
+NoScaledPair (Some k) s = NoProductPair k s
+
 -- ---- a merge of two lists that has come to the places i and j
 
 -- the list begins above the quantity c, or is empty
@@ -125,3 +144,24 @@ abbrev pub IsNext : List Entry → ℕ → List Entry → ℕ → Next → Type 
 IsNext a i b j (Left x) = IsNextAt a i x × StartsAbove x.quantity (drop j b)
 IsNext a i b j (Right y) = IsNextAt b j y × StartsAbove y.quantity (drop i a)
 IsNext a i b j (Both x y) = IsNextAt a i x × IsNextAt b j y × (x.quantity ≡ y.quantity)
+
+-- ---- the place of a quantity
+
+-- all that stands before the place is below the quantity
+abbrev pub BelowAt : ℕ → List Entry → ℕ → Type 0
+BelowAt c s i = (m : Entry) → Has m (take i s) → m.quantity < c
+
+-- all from the place on is above it
+abbrev pub AboveFrom : ℕ → List Entry → ℕ → Type 0
+AboveFrom c s i = (m : Entry) → Has m (drop i s) → c < m.quantity
+
+-- the entry at the place is of the quantity
+pub record IsFoundAt (c : ℕ) (s : List Entry) (i : ℕ) : Type 0 where
+  pub within : i < length s
+  pub own : (d : Entry) → (slice_index_or s i d).quantity ≡ c
+
+-- no entry is of the quantity, and the place is where one would stand
+pub record IsGapAt (c : ℕ) (s : List Entry) (i : ℕ) : Type 0 where
+  pub within : i ≤ length s
+  pub below : BelowAt c s i
+  pub above : AboveFrom c s i

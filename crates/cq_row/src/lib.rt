@@ -1,22 +1,19 @@
 //! Sparse rows of exact fractions: entries in ascending order of their quantities, none of them zero.
 #![tactic(auto)]
 
-pub mod fault;
 pub mod rows;
 
-ghost use Rattle.std.specs.Prelude.{◌≡◌, ◌≢◌, ◌≤◌, ◌⊎◌, ℕ, Bool, true, List, length, IfOk, OnOk, OnErr, MatchOption, MatchResult};
+ghost use Rattle.std.specs.Prelude.{◌≡◌, ◌≢◌, ◌≤◌, ◌<◌, ◌⊎◌, ℕ, Bool, true, List, [], ◌∷◌, length, slice_index_or, IfOk, OnOk, OnErr, MatchOption, MatchResult};
+ghost use Rattle.std.specs.List.Sorted.{IsNonDecreasingBy};
 ghost use Rattle.spec_rational.specs.Rational.{ℚ, 0ℚ, ◌+ℚ◌, ◌*ℚ◌, ◌/ℚ◌};
 ghost use Rattle.cq_frac.specs.declared.Pair.{Pair};
-ghost use Rattle.cq_frac.specs.declared.Operation.TheVariants.{Product, Quotient};
-ghost use Rattle.cq_frac.specs.Refused.{Refuses};
+ghost use Rattle.cq_frac.specs.Refused.{Accepts, Tells};
 ghost use Rattle.cq_row.specs.declared.Entry.{Entry};
-ghost use Rattle.cq_row.specs.Rows.{sum_at, IsRowFrom, everywhere, Has, Lacks, joined, operation_of, times, over, negated, others, Tells, IsQuotientPair, IsProductPair, IsJoinedPair, NoQuotientPair, NoProductPair, NoJoinedPair, IsNext};
-ghost use Rattle.cq_row.specs.declared.RowFault.TheVariants.{Overflow, NoMemory};
+ghost use Rattle.cq_row.specs.Rows.{sum_at, IsRowFrom, everywhere, Has, Lacks, joined, operation_of, times, over, negated, others, IsQuotientPair, IsProductPair, IsJoinedPair, NoQuotientPair, NoProductPair, NoJoinedPair, multiplier, TellsScaled, AcceptsScaled, IsScaledPair, NoScaledPair, IsNext, IsFoundAt, IsGapAt};
 
-use cq_frac::{Frac, Operation, Pair};
-use std::alloc::{AllocError, AllocFailed, Global};
+use cq_frac::{Frac, Operation, Pair, Refusal, difference, product, quotient, sum};
+use std::alloc::{AllocError, Global};
 use std::cmp::Ordering;
-use thiserror::Error;
 
 /// A quantity, by its number, with a factor.
 #[derive(Clone, Copy, Debug)]
@@ -32,85 +29,15 @@ pub enum Joining {
     Less,
 }
 
-/// Why an operation gives no row.
-#[derive(Clone, Copy, Debug, Error)]
-pub enum RowFault {
-    #[error("a number past 128 bits")]
-    Overflow(Pair),
-    #[error("out of memory")]
-    NoMemory,
-}
-
-impl From<AllocError> for RowFault {
-    ghost from_gives = { λ _ fault. fault ≡ NoMemory };
-
-    fn from(_: AllocError) -> RowFault {
-        RowFault::NoMemory
-    }
-}
-
-impl<T: Drop> From<AllocFailed<T>> for RowFault {
-    ghost from_gives = { λ _ fault. fault ≡ NoMemory };
-
-    fn from(_refused: AllocFailed<T>) -> RowFault {
-        RowFault::NoMemory
-    }
-}
-
-impl From<Pair> for RowFault {
-    ghost from_gives = { λ pair fault. fault ≡ Overflow pair };
-
-    fn from(pair: Pair) -> RowFault {
-        RowFault::Overflow(pair)
-    }
-}
-
-/// The product, or the pair of its refusal.
-pub fn product(left: Frac, right: Frac) -> Result<Frac, Pair>
-    ensures { MatchResult result (λ q. (q ≡ left *ℚ right) × (Refuses Product left right → ⊥)) (λ pair. Tells Product left right pair) }
-{
-    left.mul(right).map_err(|_| Pair {
-        operation: Operation::Product,
-        left,
-        right,
-    })
-}
-
-/// The quotient, or the pair of its refusal.
-pub fn quotient(left: Frac, right: Frac) -> Result<Frac, Pair>
-    requires divisor { right ≢ 0ℚ }
-    ensures { MatchResult result (λ q. (q ≡ left /ℚ right) × (Refuses Quotient left right → ⊥)) (λ pair. Tells Quotient left right pair) }
-{
-    left.div(right).map_err(|_| Pair {
-        operation: Operation::Quotient,
-        left,
-        right,
-    })
-}
-
 impl Joining {
-    fn operation(self) -> Operation
-        ensures { result ≡ operation_of self }
+    /// The first number with the second joined to it, or the refused pair.
+    pub fn of(self, left: Frac, right: Frac) -> Result<Frac, Pair>
+        ensures { MatchResult result (λ q. (q ≡ joined self left right) × Accepts (operation_of self) left right) (Tells (operation_of self) left right) }
     {
         match self {
-            Joining::Plus => Operation::Sum,
-            Joining::Less => Operation::Difference,
+            Joining::Plus => sum(left, right),
+            Joining::Less => difference(left, right),
         }
-    }
-
-    /// The first number with the second joined to it, or the pair of the refusal.
-    pub fn of(self, left: Frac, right: Frac) -> Result<Frac, Pair>
-        ensures { MatchResult result (λ q. (q ≡ joined self left right) × (Refuses (operation_of self) left right → ⊥)) (λ pair. Tells (operation_of self) left right pair) }
-    {
-        let sum = match self {
-            Joining::Plus => left.add(right),
-            Joining::Less => left.sub(right),
-        };
-        sum.map_err(|_| Pair {
-            operation: self.operation(),
-            left,
-            right,
-        })
     }
 
     /// A number joined to nothing.
@@ -148,6 +75,67 @@ fn next_of(a: &[Entry], i: usize, b: &[Entry], j: usize) -> Option<Next>
     }
 }
 
+/// The number times the multiplier, or as it is where there is none; or the refused pair.
+fn scaled(scale: Option<Frac>, number: Frac) -> Result<Frac, Pair>
+    ensures { MatchResult result (λ q. (q ≡ multiplier scale *ℚ number) × AcceptsScaled scale number) (TellsScaled scale number) }
+{
+    match scale {
+        Some(k) => product(k, number),
+        None => Ok(number),
+    }
+}
+
+/// The first row, and the second joined to it, with the multiplier where there is one.
+fn merged(
+    alloc: Global,
+    a: &[Entry],
+    how: Joining,
+    scale: Option<Frac>,
+    b: &[Entry],
+) -> Result<Vec<Entry>, Refusal>
+    requires a_row { IsRowFrom everywhere 0 a.now }
+    requires b_row { IsRowFrom everywhere 0 b.now }
+    requires nonzero { multiplier scale ≢ 0ℚ }
+    ensures row { (p : ℕ → Bool) → IsRowFrom p 0 a.now → IsRowFrom p 0 b.now → IfOk result (λ r. IsRowFrom p 0 r.items) }
+    ensures value { IfOk result (λ r. (x : ℕ → ℚ) → sum_at x r.items ≡ joined how (sum_at x a.now) (multiplier scale *ℚ sum_at x b.now)) }
+    ensures overflow { (pair : Pair) → result ≡ Err (Refusal.Overflow pair)
+        → IsScaledPair scale b.now pair ⊎ IsJoinedPair a.now how (times (multiplier scale) b.now) pair }
+    ensures accepted { OnOk result (NoScaledPair scale b.now × NoJoinedPair a.now how (times (multiplier scale) b.now)) }
+{
+    let mut row = Vec::with_capacity(alloc, a.len() + b.len())?;
+    let mut i = 0;
+    let mut j = 0;
+    while let Some(next) = next_of(a, i, b, j) {
+        match next {
+            Next::Left(left) => {
+                row.push(left)?;
+                i += 1;
+            }
+            Next::Right(right) => {
+                let factor = how.alone(scaled(scale, right.factor)?);
+                row.push(Entry {
+                    quantity: right.quantity,
+                    factor,
+                })?;
+                j += 1;
+            }
+            Next::Both(left, right) => {
+                let factor = how.of(left.factor, scaled(scale, right.factor)?)?;
+                i += 1;
+                j += 1;
+                if factor.is_zero() {
+                    continue;
+                }
+                row.push(Entry {
+                    quantity: left.quantity,
+                    factor,
+                })?;
+            }
+        }
+    }
+    Ok(row)
+}
+
 /// The first row, and `k` times the second joined to it.
 pub fn combined(
     alloc: Global,
@@ -155,57 +143,56 @@ pub fn combined(
     how: Joining,
     k: Frac,
     b: &[Entry],
-) -> Result<Vec<Entry>, RowFault>
+) -> Result<Vec<Entry>, Refusal>
     requires a_row { IsRowFrom everywhere 0 a.now }
     requires b_row { IsRowFrom everywhere 0 b.now }
     requires nonzero { k ≢ 0ℚ }
     ensures row { (p : ℕ → Bool) → IsRowFrom p 0 a.now → IsRowFrom p 0 b.now → IfOk result (λ r. IsRowFrom p 0 r.items) }
     ensures value { IfOk result (λ r. (x : ℕ → ℚ) → sum_at x r.items ≡ joined how (sum_at x a.now) (k *ℚ sum_at x b.now)) }
-    ensures overflow { (pair : Pair) → result ≡ Err (RowFault.Overflow pair) → IsProductPair k b.now pair ⊎ IsJoinedPair a.now how (times k b.now) pair }
+    ensures overflow { (pair : Pair) → result ≡ Err (Refusal.Overflow pair) → IsProductPair k b.now pair ⊎ IsJoinedPair a.now how (times k b.now) pair }
     ensures accepted { OnOk result (NoProductPair k b.now × NoJoinedPair a.now how (times k b.now)) }
 {
-    let mut sum = Vec::new(alloc);
-    let mut i = 0;
-    let mut j = 0;
-    while let Some(next) = next_of(a, i, b, j) {
-        match next {
-            Next::Left(left) => {
-                sum.push(left)?;
-                i += 1;
-            }
-            Next::Right(right) => {
-                let factor = how.alone(product(k, right.factor)?);
-                sum.push(Entry {
-                    quantity: right.quantity,
-                    factor,
-                })?;
-                j += 1;
-            }
-            Next::Both(left, right) => {
-                let factor = how.of(left.factor, product(k, right.factor)?)?;
-                i += 1;
-                j += 1;
-                if factor.is_zero() {
-                    continue;
-                }
-                sum.push(Entry {
-                    quantity: left.quantity,
-                    factor,
-                })?;
-            }
-        }
+    merged(alloc, a, how, Some(k), b)
+}
+
+/// The second row joined to the first.
+fn added(alloc: Global, a: &[Entry], how: Joining, b: &[Entry]) -> Result<Vec<Entry>, Refusal>
+    requires a_row { IsRowFrom everywhere 0 a.now }
+    requires b_row { IsRowFrom everywhere 0 b.now }
+    ensures row { IfOk result (λ r. IsRowFrom everywhere 0 r.items) }
+    ensures value { IfOk result (λ r. (x : ℕ → ℚ) → sum_at x r.items ≡ joined how (sum_at x a.now) (sum_at x b.now)) }
+    ensures overflow { (pair : Pair) → result ≡ Err (Refusal.Overflow pair) → IsJoinedPair a.now how b.now pair }
+    ensures accepted { OnOk result (NoJoinedPair a.now how b.now) }
+{
+    merged(alloc, a, how, None, b)
+}
+
+/// The second row joined to the first: in place where it has at most one entry.
+pub fn joined(row: Vec<Entry>, how: Joining, b: &[Entry]) -> Result<Vec<Entry>, Refusal>
+    requires row { IsRowFrom everywhere 0 row.items }
+    requires b_row { IsRowFrom everywhere 0 b.now }
+    ensures row { IfOk result (λ r. IsRowFrom everywhere 0 r.items) }
+    ensures value { IfOk result (λ r. (x : ℕ → ℚ) → sum_at x r.items ≡ joined how (sum_at x row.items) (sum_at x b.now)) }
+    ensures overflow { (pair : Pair) → result ≡ Err (Refusal.Overflow pair) → IsJoinedPair row.items how b.now pair }
+    ensures accepted { OnOk result (NoJoinedPair row.items how b.now) }
+{
+    if b.is_empty() {
+        return Ok(row);
     }
-    Ok(sum)
+    if b.len() == 1 {
+        return join(row, how, b[0]);
+    }
+    added(*row.allocator(), &row, how, b)
 }
 
 /// Each entry by the divisor.
-pub fn divided(alloc: Global, row: &[Entry], divisor: Frac) -> Result<Vec<Entry>, RowFault>
+pub fn divided(alloc: Global, row: &[Entry], divisor: Frac) -> Result<Vec<Entry>, Refusal>
     requires nonzero { divisor ≢ 0ℚ }
     ensures value { IfOk result (λ r. r.items ≡ over divisor row.now) }
-    ensures overflow { (pair : Pair) → result ≡ Err (RowFault.Overflow pair) → IsQuotientPair row.now divisor pair }
+    ensures overflow { (pair : Pair) → result ≡ Err (Refusal.Overflow pair) → IsQuotientPair row.now divisor pair }
     ensures accepted { OnOk result (NoQuotientPair row.now divisor) }
 {
-    let mut quotients = Vec::new(alloc);
+    let mut quotients = Vec::with_capacity(alloc, row.len())?;
     for m in row {
         quotients.push(Entry {
             quantity: m.quantity,
@@ -219,7 +206,7 @@ pub fn divided(alloc: Global, row: &[Entry], divisor: Frac) -> Result<Vec<Entry>
 pub fn opposed(alloc: Global, row: &[Entry]) -> Result<Vec<Entry>, AllocError>
     ensures { IfOk result (λ r. r.items ≡ negated row.now) }
 {
-    let mut opposite = Vec::new(alloc);
+    let mut opposite = Vec::with_capacity(alloc, row.len())?;
     for m in row {
         opposite.push(Entry {
             quantity: m.quantity,
@@ -233,7 +220,7 @@ pub fn opposed(alloc: Global, row: &[Entry]) -> Result<Vec<Entry>, AllocError>
 pub fn without(alloc: Global, row: &[Entry], quantity: usize) -> Result<Vec<Entry>, AllocError>
     ensures { IfOk result (λ r. r.items ≡ others quantity row.now) }
 {
-    let mut rest = Vec::new(alloc);
+    let mut rest = Vec::with_capacity(alloc, row.len())?;
     for m in row {
         if m.quantity == quantity {
             continue;
@@ -243,21 +230,38 @@ pub fn without(alloc: Global, row: &[Entry], quantity: usize) -> Result<Vec<Entr
     Ok(rest)
 }
 
+/// How many entries are of lower quantities.
+fn place_of(row: &[Entry], quantity: usize) -> usize
+    requires rising { IsNonDecreasingBy (λ (m : Entry). m.quantity) row.now }
+    ensures bound { result ≤ length row.now }
+    ensures below { (k : ℕ) (d : Entry) → k < result → (slice_index_or row.now k d).quantity < quantity }
+    ensures rest { (k : ℕ) (d : Entry) → result ≤ k → k < length row.now → quantity ≤ (slice_index_or row.now k d).quantity }
+{
+    row.partition_point(|m| m.quantity < quantity)
+}
+
+/// The place of the quantity, or where its entry would stand.
+fn find(row: &[Entry], quantity: usize) -> Result<usize, usize>
+    requires row { IsRowFrom everywhere 0 row.now }
+    ensures { MatchResult result (IsFoundAt quantity row.now) (IsGapAt quantity row.now) }
+{
+    let at = place_of(row, quantity);
+    if at < row.len() && row[at].quantity == quantity {
+        Ok(at)
+    } else {
+        Err(at)
+    }
+}
+
 /// The factor of the quantity, if the row has one.
 pub fn entry_at(row: &[Entry], quantity: usize) -> Option<Frac>
     requires row { IsRowFrom everywhere 0 row.now }
     ensures { MatchOption result (Lacks quantity row.now) (λ f. Has (record { quantity = quantity; factor = f }) row.now) }
 {
-    for m in row {
-        if m.quantity >= quantity {
-            return if m.quantity == quantity {
-                Some(m.factor)
-            } else {
-                None
-            };
-        }
+    match find(row, quantity) {
+        Ok(at) => Some(row[at].factor),
+        Err(_) => None,
     }
-    None
 }
 
 /// Puts an entry of a new quantity in its place.
@@ -269,10 +273,43 @@ pub fn put(row: &mut Vec<Entry>, entry: Entry) -> Result<(), AllocError>
     ensures value { OnOk result ((x : ℕ → ℚ) → sum_at x row.new.items ≡ sum_at x row.old.items +ℚ entry.factor *ℚ x entry.quantity) }
     ensures err { OnErr result (row.new.items ≡ row.old.items) }
 {
-    let mut at = 0;
-    while at < row.len() && row[at].quantity < entry.quantity {
-        at += 1;
-    }
+    let at = place_of(row, entry.quantity);
     row.insert(at, entry)?;
     Ok(())
+}
+
+/// The row with one entry joined to it, in place.
+fn join(row: Vec<Entry>, how: Joining, entry: Entry) -> Result<Vec<Entry>, Refusal>
+    requires row { IsRowFrom everywhere 0 row.items }
+    requires nonzero { entry.factor ≢ 0ℚ }
+    ensures row { IfOk result (λ r. IsRowFrom everywhere 0 r.items) }
+    ensures value { IfOk result (λ r. (x : ℕ → ℚ) → sum_at x r.items ≡ joined how (sum_at x row.items) (entry.factor *ℚ x entry.quantity)) }
+    ensures overflow { (pair : Pair) → result ≡ Err (Refusal.Overflow pair) → IsJoinedPair row.items how (entry ∷ []) pair }
+    ensures accepted { OnOk result (NoJoinedPair row.items how (entry ∷ [])) }
+{
+    let mut row = row;
+    match find(&row, entry.quantity) {
+        Ok(at) => {
+            let factor = how.of(row[at].factor, entry.factor)?;
+            if factor.is_zero() {
+                row.remove(at);
+                return Ok(row);
+            }
+            row[at] = Entry {
+                quantity: entry.quantity,
+                factor,
+            };
+            Ok(row)
+        }
+        Err(at) => {
+            row.insert(
+                at,
+                Entry {
+                    quantity: entry.quantity,
+                    factor: how.alone(entry.factor),
+                },
+            )?;
+            Ok(row)
+        }
+    }
 }

@@ -9,10 +9,8 @@ ghost use Rattle.cq_row.specs.declared.Entry.{Entry};
 ghost use Rattle.cq_row.specs.Rows.{everywhere, Has, Lacks};
 ghost use Rattle.cq_row.specs.Numbers.{IsOver, IsJoined, JoinPair, IsDivided, QuotientPair, IsEntered, IsShifted, ShiftPair, IsDropped, IsRestored};
 
-use crate::{
-    Entry, Joining, RowFault, combined, divided, opposed, product, put, quotient, without,
-};
-use cq_frac::Frac;
+use crate::{Entry, Joining, combined, divided, opposed, put, without};
+use cq_frac::{Frac, Refusal, product, quotient};
 use std::alloc::{AllocError, Global};
 use std::marker::Model;
 
@@ -87,12 +85,12 @@ impl Row {
     }
 
     /// This row, with `k` times the row `b` joined to it, place by place.
-    pub fn joined(&self, alloc: Global, how: Joining, k: Frac, b: &Row) -> Result<Row, RowFault>
+    pub fn joined(&self, alloc: Global, how: Joining, k: Frac, b: &Row) -> Result<Row, Refusal>
         requires own { IsOver everywhere everywhere self.now }
         requires b_row { IsOver everywhere everywhere b.now }
         requires nonzero { k ≢ 0ℚ }
         ensures value { IfOk result (λ r. IsJoined self.now how k b.now r) }
-        ensures overflow { (pair : Pair) → result ≡ Err (RowFault.Overflow pair) → JoinPair self.now how k b.now pair.operation pair.left pair.right × IsRefused pair }
+        ensures overflow { (pair : Pair) → result ≡ Err (Refusal.Overflow pair) → JoinPair self.now how k b.now pair.operation pair.left pair.right × IsRefused pair }
         ensures accepted { OnOk result ((o : Operation) (p q : ℚ) → JoinPair self.now how k b.now o p q → Refuses o p q → ⊥) }
     {
         Ok(Row {
@@ -103,10 +101,10 @@ impl Row {
     }
 
     /// Each number of the row by the divisor.
-    pub fn divided(&self, alloc: Global, divisor: Frac) -> Result<Row, RowFault>
+    pub fn divided(&self, alloc: Global, divisor: Frac) -> Result<Row, Refusal>
         requires nonzero { divisor ≢ 0ℚ }
         ensures value { IfOk result (λ q. IsDivided self.now divisor q) }
-        ensures overflow { (pair : Pair) → result ≡ Err (RowFault.Overflow pair) → QuotientPair self.now divisor pair.operation pair.left pair.right × IsRefused pair }
+        ensures overflow { (pair : Pair) → result ≡ Err (Refusal.Overflow pair) → QuotientPair self.now divisor pair.operation pair.left pair.right × IsRefused pair }
         ensures accepted { OnOk result ((o : Operation) (p q : ℚ) → QuotientPair self.now divisor o p q → Refuses o p q → ⊥) }
     {
         Ok(Row {
@@ -155,14 +153,14 @@ impl Row {
         q: &Row,
         leaving: usize,
         rate: Frac,
-    ) -> Result<Row, RowFault>
+    ) -> Result<Row, Refusal>
         requires own { IsOver everywhere everywhere self.now }
         requires q_row { IsOver everywhere everywhere q.now }
         requires new { Lacks leaving self.now.live × Lacks leaving q.now.live }
         requires entry { e ≢ 0ℚ }
         requires nonzero { rate ≢ 0ℚ }
         ensures value { IfOk result (λ r. IsShifted self.now e q.now leaving rate r) }
-        ensures overflow { (pair : Pair) → result ≡ Err (RowFault.Overflow pair) → ShiftPair self.now e q.now rate pair.operation pair.left pair.right × IsRefused pair }
+        ensures overflow { (pair : Pair) → result ≡ Err (Refusal.Overflow pair) → ShiftPair self.now e q.now rate pair.operation pair.left pair.right × IsRefused pair }
         ensures accepted { OnOk result ((o : Operation) (a b : ℚ) → ShiftPair self.now e q.now rate o a b → Refuses o a b → ⊥) }
     {
         let factor = product(e, rate)?;

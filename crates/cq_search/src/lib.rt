@@ -11,8 +11,7 @@ ghost use Rattle.cq_search.specs.Finding.{IsFound};
 use crate::answered::answered;
 use crate::settled::settled;
 use cq_equations::equations;
-use cq_form::FormFault;
-use cq_frac::Pair;
+use cq_frac::{Pair, Refusal};
 use cq_queries::Query;
 use cq_store::store::StoreFault;
 use std::alloc::{AllocError, Global};
@@ -35,8 +34,8 @@ pub fn search(alloc: Global, query: &Query) -> Result<Found, AllocError>
 {
     let told = match equations(alloc, query) {
         Ok(told) => told,
-        Err(FormFault::Overflow(pair)) => return Ok(Found::Stopped(pair)),
-        Err(FormFault::NoMemory) => return Err(AllocError),
+        Err(Refusal::Overflow(pair)) => return Ok(Found::Stopped(pair)),
+        Err(Refusal::NoMemory) => return Err(AllocError),
     };
     match settled(alloc, &told) {
         Ok(Some(store)) => answered(alloc, query, &store),

@@ -13,8 +13,9 @@ use Rattle.std.specs.Ordering.{MatchOrdering}
 use Rattle.spec_simplex.specs.Rule.{Limits, Leaves, ratio}
 use Rattle.cq_frac.specs.declared.Operation.TheVariants.{Quotient}
 use Rattle.cq_frac.specs.declared.Pair.{Pair}
+use Rattle.cq_frac.specs.Refused.{Tells}
 use Rattle.cq_row.specs.Row.{Row}
-use Rattle.cq_row.specs.Rows.{Has, Lacks, Tells}
+use Rattle.cq_row.specs.Rows.{Has, Lacks}
 use Rattle.cq_row.specs.Numbers.{at_constant, constant_number}
 use Rattle.cq_row.proofs.Units.{at_unit, no_entry}
 use Rattle.cq_row.proofs.Shifts.{entry_not_zero}

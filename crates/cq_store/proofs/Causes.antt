@@ -99,17 +99,17 @@ module _ (l : List Constraint) (asked : List Linear) (roles : List Role) (place 
 
   -- ---- where the numbers of a row stand
 
-  abbrev Stands : own.Place → RowIndex → Type 0
+  abbrev Stands : own.Site → RowIndex → Type 0
   Stands own.at_constant p = p ≡ constant
   Stands (own.at_live c) p = (q : Quantity) × (place q ≡ c) × (p ≡ column q)
   Stands (own.at_dropped c) p = (q : Quantity) × (place q ≡ c) × (p ≡ column q)
 
-  place_of_number : (r : Row) → IsOver (is_live roles) (is_dropped roles) r → {at : own.Place} {n : ℚ} → IsNumber r at n → (p : RowIndex) × IsRowIndex (live ++ gone) p × Stands at p
+  place_of_number : (r : Row) → IsOver (is_live roles) (is_dropped roles) r → {at : own.Site} {n : ℚ} → IsNumber r at n → (p : RowIndex) × IsRowIndex (live ++ gone) p × Stands at p
   place_of_number r o constant_number = (constant, tt, refl)
   place_of_number r o (live_number m h) = let e = d.each_live m.quantity (passes (is_live roles) 0 r.live m o.live_row h) in (column e.0, has_left e.0 live gone e.1, (e.0, e.2, refl))
   place_of_number r o (dropped_number m h) = let e = d.each_gone m.quantity (passes (is_dropped roles) 0 r.dropped m o.dropped_row h) in (column e.0, has_right e.0 live gone e.1, (e.0, e.2, refl))
 
-  number_there : (r : Row) → IsOver (is_live roles) (is_dropped roles) r → {at : own.Place} {n : ℚ} → IsNumber r at n → (p : RowIndex) → Stands at p → number_at (numbers place r) p ≡ n
+  number_there : (r : Row) → IsOver (is_live roles) (is_dropped roles) r → {at : own.Site} {n : ℚ} → IsNumber r at n → (p : RowIndex) → Stands at p → number_at (numbers place r) p ≡ n
   number_there r o constant_number p e = ap (number_at (numbers place r)) e
   number_there r o (live_number m h) p s = ap (number_at (numbers place r)) s.2 ∙ number_live roles place r o s.0 m s.1 h
   number_there r o (dropped_number m h) p s = ap (number_at (numbers place r)) s.2 ∙ number_dropped roles place r o s.0 m s.1 h
@@ -230,7 +230,7 @@ module _ (l : List Constraint) (asked : List Linear) (roles : List Role) (place 
         not_zero = λ z. never_zero (is_live roles) 0 x.own.live (record { quantity = c; factor = x.factor }) o.live_row x.in_row (sym (entry_is leaving x) ∙ z);
       }
 
-      quotient_due : {at : own.Place} {n : ℚ} → IsNumber x.own at n → Makes (at_work l asked) Quotient n x.factor
+      quotient_due : {at : own.Site} {n : ℚ} → IsNumber x.own at n → Makes (at_work l asked) Quotient n x.factor
       unfolding exchange numbered
       quotient_due h =
           let t = place_of_number x.own o h in
@@ -240,7 +240,7 @@ module _ (l : List Constraint) (asked : List Linear) (roles : List Role) (place 
       unfolding exchange numbered
       inverse_due = makes_same (at_work l asked) _ _ _ _ _ refl (entry_is leaving x) (inverse exchange)
 
-      product_due : (i : ℕ) (y : HasEntry roles i c) → {at : own.Place} {n : ℚ} → IsNumber x.own at n → Makes (at_work l asked) Times y.factor (n /ℚ x.factor)
+      product_due : (i : ℕ) (y : HasEntry roles i c) → {at : own.Site} {n : ℚ} → IsNumber x.own at n → Makes (at_work l asked) Times y.factor (n /ℚ x.factor)
       unfolding exchange numbered
       product_due i y h =
           let t = place_of_number x.own o h in
@@ -250,7 +250,7 @@ module _ (l : List Constraint) (asked : List Linear) (roles : List Role) (place 
       unfolding exchange numbered
       product_inverse_due i y = makes_same (at_work l asked) _ _ _ _ _ (entry_is i y) (ap (λ b. 1ℚ /ℚ b) (entry_is leaving x)) (product_inverse exchange (numbered i y.own y.is_row))
 
-      difference_due : (i : ℕ) (y : HasEntry roles i c) → {at : own.Place} {m n : ℚ} → IsNumber y.own at m → IsNumber x.own at n → Makes (at_work l asked) Difference m (y.factor *ℚ (n /ℚ x.factor))
+      difference_due : (i : ℕ) (y : HasEntry roles i c) → {at : own.Site} {m n : ℚ} → IsNumber y.own at m → IsNumber x.own at n → Makes (at_work l asked) Difference m (y.factor *ℚ (n /ℚ x.factor))
       unfolding exchange numbered
       difference_due i y g h =
           let t = place_of_number x.own o h in

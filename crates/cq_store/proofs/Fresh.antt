@@ -11,7 +11,7 @@ use Rattle.spec_linear.proofs.Denominators.{has_left, has_right}
 use Rattle.spec_limits.specs.Dictionary.{Quantity, variable}
 use Rattle.spec_echelon.specs.Echelon.{variables}
 use Rattle.cq_frac.specs.declared.VarId.{VarId}
-use Rattle.cq_form.specs.Pairs.{products_of}
+use Rattle.cq_form.specs.Entries.{products_of}
 use Rattle.cq_row.specs.declared.Entry.{Entry}
 use Rattle.cq_row.specs.Rows as row
 use Rattle.cq_dict.specs.Roles.{IsAt}
@@ -35,46 +35,46 @@ pub some_of : {A : Type 0} (o : Option A) (P : Type 0) (Q : A → Type 0) (b : B
 some_of None P Q b h e t = let f : false ≡ true = e ∙ ap not t in cc
 some_of (Some x) P Q b h e t = (x, h)
 
--- ---- the products of a list of pairs
+-- ---- the products of a list of entries
 
-products-end : (s : List (VarId × ℚ)) (p : VarId × ℚ) → products_of (s ++ p ∷ []) ≡ products_of s ++ record { variable = p.0.0; factor = p.1 } ∷ []
+products-end : (s : List Entry) (p : Entry) → products_of (s ++ p ∷ []) ≡ products_of s ++ record { variable = p.quantity; factor = p.factor } ∷ []
 products-end [] p = refl
-products-end (q ∷ s) p = ap (λ t. record { variable = q.0.0; factor = q.1 } ∷ t) (products-end s p)
+products-end (q ∷ s) p = ap (λ t. record { variable = q.quantity; factor = q.factor } ∷ t) (products-end s p)
 
 placed-end : (place : Quantity → ℕ) (s : List Monomial) (m : Monomial) → placed place (s ++ m ∷ []) ≡ placed place s ++ record { quantity = place (variable m.variable); factor = m.factor } ∷ []
 placed-end place [] m = refl
 placed-end place (n ∷ s) m = ap (λ t. record { quantity = place (variable n.variable); factor = n.factor } ∷ t) (placed-end place s m)
 
-more : (s : List (VarId × ℚ)) (i : ℕ) (p : VarId × ℚ) → i < length s → p ≡ get_or s i p → take (i + 1) s ≡ take i s ++ p ∷ []
+more : (s : List Entry) (i : ℕ) (p : Entry) → i < length s → p ≡ get_or s i p → take (i + 1) s ≡ take i s ++ p ∷ []
 more s i p l e = take_more s i p l ∙ ap (λ x. take i s ++ x ∷ []) (sym e)
 
-pub placed_more : (place : Quantity → ℕ) (s : List (VarId × ℚ)) (i : ℕ) (p : VarId × ℚ) → i < length s → p ≡ get_or s i p →
-    placed place (products_of (take (i + 1) s)) ≡ placed place (products_of (take i s)) ++ record { quantity = place (variable p.0.0); factor = p.1 } ∷ []
-placed_more place s i p l e = ap (λ t. placed place (products_of t)) (more s i p l e) ∙ ap (placed place) (products-end (take i s) p) ∙ placed-end place (products_of (take i s)) (record { variable = p.0.0; factor = p.1 })
+pub placed_more : (place : Quantity → ℕ) (s : List Entry) (i : ℕ) (p : Entry) → i < length s → p ≡ get_or s i p →
+    placed place (products_of (take (i + 1) s)) ≡ placed place (products_of (take i s)) ++ record { quantity = place (variable p.quantity); factor = p.factor } ∷ []
+placed_more place s i p l e = ap (λ t. placed place (products_of t)) (more s i p l e) ∙ ap (placed place) (products-end (take i s) p) ∙ placed-end place (products_of (take i s)) (record { variable = p.quantity; factor = p.factor })
 
-pub mention_at : (s : List (VarId × ℚ)) (i : ℕ) (p : VarId × ℚ) → i < length s → p ≡ get_or s i p → Mentions p.0.0 (products_of s)
+pub mention_at : (s : List Entry) (i : ℕ) (p : Entry) → i < length s → p ≡ get_or s i p → Mentions p.quantity (products_of s)
 mention_at [] i p l e = absurd (omega arith)
-mention_at (q ∷ s) zero p l e = inl (ap (λ (z : VarId × ℚ). z.0.0) e)
+mention_at (q ∷ s) zero p l e = inl (ap (λ (z : Entry). z.quantity) e)
 mention_at (q ∷ s) (suc i) p l e = inr (mention_at s i p (omega arith) e)
 
-at_least : (low : ℕ) (s : List (VarId × ℚ)) (i : ℕ) (p : VarId × ℚ) → IsSumFrom low (products_of s) → i < length s → p ≡ get_or s i p → low ≤ p.0.0
+at_least : (low : ℕ) (s : List Entry) (i : ℕ) (p : Entry) → IsSumFrom low (products_of s) → i < length s → p ≡ get_or s i p → low ≤ p.quantity
 at_least low [] i p f l e = absurd (omega arith)
-at_least low (q ∷ s) zero p f l e = omega (arith, f.0, ap (λ (z : VarId × ℚ). z.0.0) e)
-at_least low (q ∷ s) (suc i) p f l e = omega (arith, f.0, at_least (suc q.0.0) s i p f.2 (omega arith) e)
+at_least low (q ∷ s) zero p f l e = omega (arith, f.0, ap (λ (z : Entry). z.quantity) e)
+at_least low (q ∷ s) (suc i) p f l e = omega (arith, f.0, at_least (suc q.quantity) s i p f.2 (omega arith) e)
 
 -- no variable comes twice
-not_earlier : (low : ℕ) (s : List (VarId × ℚ)) (i : ℕ) (p : VarId × ℚ) → IsSumFrom low (products_of s) → i < length s → p ≡ get_or s i p → Has p.0.0 (variables (products_of (take i s))) → ⊥
+not_earlier : (low : ℕ) (s : List Entry) (i : ℕ) (p : Entry) → IsSumFrom low (products_of s) → i < length s → p ≡ get_or s i p → Has p.quantity (variables (products_of (take i s))) → ⊥
 not_earlier low [] i p f l e h = absurd (omega arith)
 not_earlier low (q ∷ s) zero p f l e h = h
-not_earlier low (q ∷ s) (suc i) p f l e (inl w) = omega (arith, at_least (suc q.0.0) s i p f.2 (omega arith) e, w)
-not_earlier low (q ∷ s) (suc i) p f l e (inr h) = not_earlier (suc q.0.0) s i p f.2 (omega arith) e h
+not_earlier low (q ∷ s) (suc i) p f l e (inl w) = omega (arith, at_least (suc q.quantity) s i p f.2 (omega arith) e, w)
+not_earlier low (q ∷ s) (suc i) p f l e (inr h) = not_earlier (suc q.quantity) s i p f.2 (omega arith) e h
 
 variables-end : (s : List Monomial) (m : Monomial) → variables (s ++ m ∷ []) ≡ variables s ++ m.variable ∷ []
 variables-end [] m = refl
 variables-end (n ∷ s) m = ap (λ t. n.variable ∷ t) (variables-end s m)
 
-variables_more : (s : List (VarId × ℚ)) (i : ℕ) (p : VarId × ℚ) → i < length s → p ≡ get_or s i p → variables (products_of (take (i + 1) s)) ≡ variables (products_of (take i s)) ++ p.0.0 ∷ []
-variables_more s i p l e = ap (λ t. variables (products_of t)) (more s i p l e) ∙ ap variables (products-end (take i s) p) ∙ variables-end (products_of (take i s)) (record { variable = p.0.0; factor = p.1 })
+variables_more : (s : List Entry) (i : ℕ) (p : Entry) → i < length s → p ≡ get_or s i p → variables (products_of (take (i + 1) s)) ≡ variables (products_of (take i s)) ++ p.quantity ∷ []
+variables_more s i p l e = ap (λ t. variables (products_of t)) (more s i p l e) ∙ ap variables (products-end (take i s) p) ∙ variables-end (products_of (take i s)) (record { variable = p.quantity; factor = p.factor })
 
 fresh-new : (order xs : List ℕ) (x : ℕ) → (Has x order → ⊥) → fresh order (xs ++ x ∷ []) ≡ fresh order xs ++ x ∷ []
 fresh-new order [] x n = last (list_any (nat_eq x) order) (λ e. n (among_is x order e))
@@ -103,21 +103,21 @@ has_split x (y ∷ s) t (inr h) = elim (has_split x s t h) [ inl k ↦ inl (inr 
 
 -- ---- the loop
 
-abbrev pub AddsFirst : Named → List (VarId × ℚ) → ℕ → Named → Type 0
+abbrev pub AddsFirst : Named → List Entry → ℕ → Named → Type 0
 AddsFirst old s i new = AddsVariables old (fresh (variables_of old.names) (variables (products_of (take i s)))) new
 
-pub adds_new : (old mid : Named) (s : List (VarId × ℚ)) (i : ℕ) (p : VarId × ℚ) → i < length s → p ≡ get_or s i p → AddsFirst old s i mid → (Has p.0.0 (variables_of mid.names) → ⊥) →
-    (new : Named) → new.names ≡ mid.names ++ Variable p.0 ∷ [] → new.roles ≡ mid.roles ++ Live ∷ [] → AddsFirst old s (i + 1) new
+pub adds_new : (old mid : Named) (s : List Entry) (i : ℕ) (p : Entry) → i < length s → p ≡ get_or s i p → AddsFirst old s i mid → (Has p.quantity (variables_of mid.names) → ⊥) →
+    (new : Named) → new.names ≡ mid.names ++ Variable (record { 0 = p.quantity }) ∷ [] → new.roles ≡ mid.roles ++ Live ∷ [] → AddsFirst old s (i + 1) new
 adds_new old mid s i p l e a n new en es =
-    let none : Has p.0.0 (variables_of old.names) → ⊥ = λ h. n (subst (Has p.0.0) (sym (added_order old mid _ a)) (has_left p.0.0 (variables_of old.names) (fresh (variables_of old.names) (variables (products_of (take i s)))) h)) in
-    subst (λ xs. AddsVariables old xs new) (sym (ap (fresh (variables_of old.names)) (variables_more s i p l e) ∙ fresh-new (variables_of old.names) (variables (products_of (take i s))) p.0.0 none))
-    (subst (AddsVariables old (fresh (variables_of old.names) (variables (products_of (take i s))) ++ p.0.0 ∷ [])) (sym (ap₂ (λ x y. record { names = x; roles = y }) en es)) (one_added (fresh (variables_of old.names) (variables (products_of (take i s)))) mid a p.0 n))
+    let none : Has p.quantity (variables_of old.names) → ⊥ = λ h. n (subst (Has p.quantity) (sym (added_order old mid _ a)) (has_left p.quantity (variables_of old.names) (fresh (variables_of old.names) (variables (products_of (take i s)))) h)) in
+    subst (λ xs. AddsVariables old xs new) (sym (ap (fresh (variables_of old.names)) (variables_more s i p l e) ∙ fresh-new (variables_of old.names) (variables (products_of (take i s))) p.quantity none))
+    (subst (AddsVariables old (fresh (variables_of old.names) (variables (products_of (take i s))) ++ p.quantity ∷ [])) (sym (ap₂ (λ x y. record { names = x; roles = y }) en es)) (one_added (fresh (variables_of old.names) (variables (products_of (take i s)))) mid a (record { 0 = p.quantity }) n))
 
-pub adds_old : (old mid : Named) (s : List (VarId × ℚ)) (i : ℕ) (p : VarId × ℚ) → i < length s → p ≡ get_or s i p → IsSumFrom 0 (products_of s) → AddsFirst old s i mid → Has p.0.0 (variables_of mid.names) → AddsFirst old s (i + 1) mid
+pub adds_old : (old mid : Named) (s : List Entry) (i : ℕ) (p : Entry) → i < length s → p ≡ get_or s i p → IsSumFrom 0 (products_of s) → AddsFirst old s i mid → Has p.quantity (variables_of mid.names) → AddsFirst old s (i + 1) mid
 adds_old old mid s i p l e f a h =
-    elim (has_split p.0.0 (variables_of old.names) (fresh (variables_of old.names) (variables (products_of (take i s)))) (subst (Has p.0.0) (added_order old mid _ a) h)) [
-      | inl k ↦ subst (λ xs. AddsVariables old xs mid) (sym (ap (fresh (variables_of old.names)) (variables_more s i p l e) ∙ fresh-old (variables_of old.names) (variables (products_of (take i s))) p.0.0 k)) a
-      | inr k ↦ absurd (not_earlier 0 s i p f l e (has_fresh (variables_of old.names) (variables (products_of (take i s))) p.0.0 k).0)
+    elim (has_split p.quantity (variables_of old.names) (fresh (variables_of old.names) (variables (products_of (take i s)))) (subst (Has p.quantity) (added_order old mid _ a) h)) [
+      | inl k ↦ subst (λ xs. AddsVariables old xs mid) (sym (ap (fresh (variables_of old.names)) (variables_more s i p l e) ∙ fresh-old (variables_of old.names) (variables (products_of (take i s))) p.quantity k)) a
+      | inr k ↦ absurd (not_earlier 0 s i p f l e (has_fresh (variables_of old.names) (variables (products_of (take i s))) p.quantity k).0)
     ]
 
 pub adds_none : (old : Named) → AddsVariables old [] old

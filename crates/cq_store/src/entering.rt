@@ -30,9 +30,10 @@ fn add_variables(table: &mut Table, form: &Form) -> Result<(), AllocError>
     ensures saved { table.new.saved ≡ table.old.saved }
     ensures in_order { IsForm form.now }
 {
-    for pair in form.pairs() {
-        if table.number(pair.0).is_none() {
-            table.add_variable(pair.0)?;
+    for entry in form.entries() {
+        let x = VarId(entry.quantity);
+        if table.number(x).is_none() {
+            table.add_variable(x)?;
         }
     }
     Ok(())

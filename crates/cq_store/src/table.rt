@@ -39,7 +39,7 @@ pub struct SolvedRow<'a> {
 
 impl<'a> Model for SolvedRow<'a> {
     ghost use Rattle.spec_linear.specs.Form.{Linear};
-    ghost use Rattle.cq_form.specs.Pairs.{linear_code};
+    ghost use Rattle.cq_form.specs.Entries.{linear_code};
     ghost use Rattle.cq_store.specs.Contents.{products_of};
     ghost use Rattle.cq_store.specs.Numbered.{AreOfVariables};
 
@@ -210,13 +210,13 @@ impl Table {
         ensures { IfOk result (λ s. s.items ≡ placed (place_of self.now.now.names) form.now.products) }
     {
         let mut entries = Vec::new(*self.names.allocator());
-        for pair in form.pairs() {
-            let Some(quantity) = self.number(pair.0) else {
+        for entry in form.entries() {
+            let Some(quantity) = self.number(VarId(entry.quantity)) else {
                 unreachable!()
             };
             entries.push(Entry {
                 quantity,
-                factor: pair.1,
+                factor: entry.factor,
             })?;
         }
         Ok(entries)

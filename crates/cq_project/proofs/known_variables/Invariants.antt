@@ -3,7 +3,7 @@ use Rattle.spec_rational.specs.Sums.{Mentions}
 use Rattle.spec_linear.specs.Solution.{Has}
 use Rattle.cq_store.specs.Told.{numbers_of}
 use Rattle.cq_project.specs.Rows.{Knows}
-use Rattle.cq_form.specs.Pairs.{products_of}
+use Rattle.cq_form.specs.Entries.{products_of}
 use Rattle.cq_project.proofs.known_variables.Given as goal
 
 abbrev pub invariant-wanted : goal.invariant-wanted
@@ -12,5 +12,5 @@ invariant-wanted l = l.known.keys ≡ take l.x-index l.keep
 abbrev pub invariant-members : goal.invariant-members
 invariant-members l = Knows l.keep (take l.c-index l.told) l.known.keys
 
-abbrev pub invariant-pairs : goal.invariant-pairs
-invariant-pairs l = Knows l.keep (take l.c-index l.told) l.known.keys × ((y : ℕ) → Mentions y (products_of (take l.x-index l.x-items)) → Has y (numbers_of l.known.keys))
+abbrev pub invariant-entries : goal.invariant-entries
+invariant-entries l = Knows l.keep (take l.c-index l.told) l.known.keys × ((y : ℕ) → Mentions y (products_of (take l.entry-index l.entry-items)) → Has y (numbers_of l.known.keys))

@@ -1,26 +1,16 @@
-use Rattle.std.proofs.Common.{◌≡◌, ◌<◌, length, take, take_all, subst, arith, rules}
-use Rattle.cq_row.specs.Rows.{everywhere, Has, Lacks}
-use Rattle.cq_row.proofs.Placed.{lacks_from}
-use Rattle.cq_row.proofs.Steps.{has_at, lacks_more}
+use Rattle.std.proofs.Common.{◌≡◌, ◌∙◌, ap, subst}
+use Rattle.cq_row.specs.declared.Entry.{Entry}
+use Rattle.cq_row.specs.Rows.{Has}
+use Rattle.cq_row.proofs.Placed.{gap_lacks}
+use Rattle.cq_row.proofs.Steps.{has_at}
 use Rattle.cq_row.proofs.entry_at.Goals as goal
 
-pub returns-then-m-quantity-2 : goal.returns-then-m-quantity-2
-returns-then-m-quantity-2 c =
-    let l : c.loop-m.m-index < length c.args.row.now = omega arith in
-    let e : c.m-item.result.quantity ≡ c.args.quantity = omega arith in
-    subst (λ n. Has (record { quantity = n; factor = c.m-item.result.factor }) c.args.row.now) e (has_at _ _ c.m-item.result l c.m-item.is)
+pub returns-in-Ok : goal.returns-in-Ok
+returns-in-Ok c =
+    let m = c.index-row-at.result in
+    let own : m.quantity ≡ c.args.quantity = ap (λ (t : Entry). t.quantity) c.index-row-at.is ∙ c.in-Ok.ensures.own m in
+    subst (λ (t : Entry). Has (record { quantity = c.args.quantity; factor = t.factor }) c.args.row.now) c.index-row-at.is
+    (subst (λ n. Has (record { quantity = n; factor = m.factor }) c.args.row.now) own (has_at c.args.row.now c.in-Ok.at m c.in-Ok.ensures.within c.index-row-at.is))
 
-pub returns-else-m-quantity-2 : goal.returns-else-m-quantity-2
-returns-else-m-quantity-2 c =
-    let l : c.loop-m.m-index < length c.args.row.now = omega arith in
-    lacks_from everywhere 0 c.args.quantity c.args.row.now c.loop-m.m-index c.m-item.result c.requires.row l c.m-item.is c.if-m-quantity.true (λ e. c.if-m-quantity-2.false e) c.loop-m.invariant
-
-pub loop-m-preserved : goal.loop-m-preserved
-loop-m-preserved c =
-    let l : c.loop-m.m-index < length c.args.row.now = omega arith in
-    lacks_more c.args.quantity c.args.row.now c.loop-m.m-index c.m-item.result l c.m-item.is c.loop-m.invariant (λ e. let f = c.if-m-quantity.false in omega (arith, e, f))
-
-pub returns : goal.returns
-returns c =
-    let e : take c.loop-m.m-index c.args.row.now ≡ c.args.row.now = search (rules, take_all) in
-    subst (Lacks c.args.quantity) e c.loop-m.invariant
+pub returns-in-Err : goal.returns-in-Err
+returns-in-Err c = gap_lacks c.args.quantity c.args.row.now c.in-Err.field-0 c.in-Err.ensures

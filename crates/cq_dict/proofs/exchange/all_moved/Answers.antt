@@ -1,6 +1,6 @@
 use Rattle.std.proofs.Common.{◌≡◌, ◌∙◌, ◌+◌, length, Option, Err, arith, ap, ap₂, sym, subst}
 use Rattle.std.specs.Prelude.{unwrap_or}
-use Rattle.cq_row.proofs.Exits.{fault_told}
+use Rattle.cq_frac.proofs.Exits.{refusal_told}
 use Rattle.cq_dict.specs.declared.table.Role.{Role}
 use Rattle.cq_dict.specs.declared.table.Role.TheVariants.{Basic}
 use Rattle.cq_dict.specs.Roles.{IsAt}
@@ -50,7 +50,7 @@ moved-requires-clause-nonzero c = solved_rate c.args.roles.now c.args.leaving c.
 pub returns-in_err-next-clause-overflow : goal.returns-in_err-next-clause-overflow
 returns-in_err-next-clause-overflow c = λ pair e.
     solved_shift c.args.roles.now c.args.leaving c.args.column c.args.q.now c.args.rate c.requires.table c.requires.solved c.loop-i.i c.in-Basic.other pair c.if-i-leaving.false
-    (other_at (goal.at.returns-in_err-next-clause-overflow c).In-Basic) (c.in_err-next.ensures.overflow pair (ap Err (fault_told _ _ pair c.from_residual-in_err-next.ensures.1 e)))
+    (other_at (goal.at.returns-in_err-next-clause-overflow c).In-Basic) (c.in_err-next.ensures.overflow pair (ap Err (refusal_told _ _ pair c.from_residual-in_err-next.ensures.1 e)))
 
 pub loop-i-preserved : goal.loop-i-preserved
 loop-i-preserved c =

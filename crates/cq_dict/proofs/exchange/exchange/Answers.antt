@@ -1,10 +1,11 @@
 use Rattle.std.proofs.Common.{◌≡◌, ◌∙◌, Err, refl, ap, sym, subst}
 use Rattle.spec_rational.specs.Rational.{◌/ℚ◌}
 use Rattle.cq_frac.specs.declared.Operation.TheVariants.{Quotient}
-use Rattle.cq_frac.specs.Refused.{Refuses}
+use Rattle.cq_frac.specs.Refused.{Refuses, Tells}
 use Rattle.cq_row.specs.Row.{Row}
-use Rattle.cq_row.specs.Rows.{IsRowFrom, everywhere, Has, Tells}
-use Rattle.cq_row.proofs.Exits.{pair_told, fault_told}
+use Rattle.cq_row.specs.Rows.{IsRowFrom, everywhere, Has}
+use Rattle.cq_frac.proofs.Exits.{pair_told, refusal_told}
+use Rattle.cq_frac.proofs.Refusals.{never_both}
 use Rattle.cq_row.proofs.Shifts.{anywhere}
 use Rattle.cq_dict.specs.declared.table.Role.TheVariants.{Basic}
 use Rattle.cq_dict.specs.Roles.{IsAt, is_live}
@@ -58,7 +59,7 @@ pub returns-in_err-q-clause-overflow : goal.returns-in_err-q-clause-overflow
 returns-in_err-q-clause-overflow c = λ pair e.
     let k = goal.at.returns-in_err-q-clause-overflow c in
     by_quotient c.args.roles.now c.args.leaving c.args.column c.in-Basic.row c.in-Some.p c.requires.table (row_at k.In-Basic) (entry_in k.In-Some) pair
-    (c.in_err-q.ensures.overflow pair (ap Err (fault_told _ _ pair c.from_residual-in_err-q.ensures.1 e)))
+    (c.in_err-q.ensures.overflow pair (ap Err (refusal_told _ _ pair c.from_residual-in_err-q.ensures.1 e)))
 
 -- what is known once the leaving row is divided
 abbrev solved : (c : In_ok-q) → IsAt c.args.roles.now c.args.leaving (Basic c.in-Basic.row) → Has (record { quantity = c.args.column; factor = c.in-Some.p }) c.in-Basic.row.live → IsSolved c.args.roles.now c.args.leaving c.args.column c.in_ok-q.q c.in_ok-rate.rate
@@ -92,5 +93,5 @@ returns-clause-accepted c =
     let k = goal.at.returns-clause-accepted c in
     if_ok c.all_moved.result _ _
     (λ changes h. solved_accepted c.args.roles.now c.args.leaving c.args.column c.in_ok-q.q c.in_ok-rate.rate c.requires.table (solved k.In_ok-q (row_at k.In-Basic) (entry_in k.In-Some)) changes.items h c.in_ok-q.ensures.accepted
-    (subst (λ z. Refuses Quotient z c.in-Some.p → ⊥) c.one.ensures c.in_ok-rate.ensures.1))
+    (subst (λ z. Refuses Quotient z c.in-Some.p → ⊥) c.one.ensures (never_both Quotient _ _ c.in_ok-rate.ensures.1)))
     c.all_moved.ensures.covers

@@ -1,7 +1,7 @@
 use Rattle.std.proofs.Common.{◌≡◌, ◌∙◌, Err, ap, sym, subst, refl}
 use Rattle.cq_row.specs.Rows.{everywhere, Has, Lacks}
 use Rattle.cq_row.specs.Numbers.{ShiftPair}
-use Rattle.cq_row.proofs.Exits.{fault_told}
+use Rattle.cq_frac.proofs.Exits.{refusal_told}
 use Rattle.cq_row.proofs.Shifts.{entry_not_zero}
 use Rattle.cq_row.proofs.Units.{at_unit}
 use Rattle.cq_dict.proofs.Moves.{moved_some, moved_none}
@@ -16,7 +16,7 @@ shifted-requires-clause-entry c = entry_not_zero everywhere 0 c.args.other.now.l
 
 pub returns-in_err-row-in-Some-clause-overflow : goal.returns-in_err-row-in-Some-clause-overflow
 returns-in_err-row-in-Some-clause-overflow c = λ pair e.
-    let h = c.in_err-row-in-Some.ensures.overflow pair (ap Err (fault_told _ _ pair c.from_residual.ensures.1 e)) in
+    let h = c.in_err-row-in-Some.ensures.overflow pair (ap Err (refusal_told _ _ pair c.from_residual.ensures.1 e)) in
     (c.in-Some.e, entry (goal.at.returns-in_err-row-in-Some-clause-overflow c).In-Some, h.0, h.1)
 
 pub returns-in_ok-row-in-Some-clause-value : goal.returns-in_ok-row-in-Some-clause-value

@@ -1,6 +1,6 @@
 use Rattle.std.proofs.Common.{◌<◌, ◌≤◌, Err, ap, sym, subst, arith, length}
 use Rattle.spec_rational.specs.Rational.{◌+ℚ◌, 0ℚ}
-use Rattle.cq_row.proofs.Exits.{fault_told}
+use Rattle.cq_frac.proofs.Exits.{refusal_told}
 use Rattle.cq_row.proofs.Shifts.{over_anywhere}
 use Rattle.cq_row.proofs.Steps.{has_at}
 use Rattle.cq_dict.specs.Roles.{Expresses, is_live, is_dropped}
@@ -33,7 +33,7 @@ pub returns-in_err-sum-clause-overflow : goal.returns-in_err-sum-clause-overflow
 returns-in_err-sum-clause-overflow c = λ pair e.
     let l : c.loop-m.m-index < length c.args.form.now = omega arith in
     form_pair c.args.roles.now c.args.form.now c.args.constant c.loop-m.m-index c.m-item.result c.loop-m.sum l c.m-item.is c.loop-m.invariant.gave pair
-    (λ z. let t = c.is_zero.ensures.1 z in let f = c.if-is_zero.false in cc) (c.in_err-sum.ensures.overflow pair (ap Err (fault_told _ _ pair c.from_residual.ensures.1 e)))
+    (λ z. let t = c.is_zero.ensures.1 z in let f = c.if-is_zero.false in cc) (c.in_err-sum.ensures.overflow pair (ap Err (refusal_told _ _ pair c.from_residual.ensures.1 e)))
 
 pub loop-m-preserved : goal.loop-m-preserved
 loop-m-preserved c =

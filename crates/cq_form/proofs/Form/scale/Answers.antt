@@ -1,9 +1,9 @@
 use Rattle.std.proofs.Common.{◌∙◌, Err, ap, sym, subst}
 use Rattle.spec_linear.specs.Form.{Linear, IsSumFrom}
 use Rattle.cq_frac.specs.declared.Operation.TheVariants.{Product}
-use Rattle.cq_form.specs.Pairs.{products_of}
-use Rattle.cq_form.specs.Steps.{Tells}
-use Rattle.cq_form.proofs.Exits.{pair_told, fault_told}
+use Rattle.cq_form.specs.Entries.{products_of}
+use Rattle.cq_frac.specs.Refused.{Tells}
+use Rattle.cq_frac.proofs.Exits.{pair_told, refusal_told}
 use Rattle.cq_form.proofs.Forms.{multiple_in_order, constant_refused, coefficient_refused, multiple_accepted}
 use Rattle.cq_form.proofs.Form.scale.Goals as goal
 
@@ -16,7 +16,7 @@ pub returns-in_err-scaled-clause-overflow : goal.returns-in_err-scaled-clause-ov
 returns-in_err-scaled-clause-overflow c = λ pair e.
     coefficient_refused c.args.k c.args.self.now _ pair
     (ap products_of c.deref.ensures.value ∙ ap (λ (f : Linear). f.products) c.self.view_is)
-    (c.in_err-scaled.ensures.overflow pair (ap Err (fault_told _ _ pair c.from_residual-in_err-scaled.ensures.1 e)))
+    (c.in_err-scaled.ensures.overflow pair (ap Err (refusal_told _ _ pair c.from_residual-in_err-scaled.ensures.1 e)))
 
 pub invariant_of-result : goal.invariant_of-result
 invariant_of-result c =

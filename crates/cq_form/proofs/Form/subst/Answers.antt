@@ -2,9 +2,10 @@ use Rattle.std.proofs.Common.{◌≡◌, ◌∙◌, Err, ap, sym, subst}
 use Rattle.spec_rational.specs.Sums.{Mentions}
 use Rattle.spec_linear.specs.Form.{Linear, IsSumFrom, IsForm, without}
 use Rattle.spec_linear.proofs.Ordered.{IsSumFrom-without, form_same}
-use Rattle.cq_form.specs.Pairs.{products_of, form_of}
+use Rattle.cq_form.specs.Entries.{products_of, form_of}
 use Rattle.cq_form.specs.Steps.{HasCoefficient}
-use Rattle.cq_form.proofs.Exits.{fault_told, if_ok, on_ok}
+use Rattle.cq_frac.proofs.Exits.{refusal_told}
+use Rattle.cq_row.proofs.OneMore.{if_ok, on_ok}
 use Rattle.cq_form.proofs.Forms.{not_substituted, no_pair, substituted, product_refused, sum_refused, substitution_accepted}
 use Rattle.cq_form.proofs.Form.subst.Goals as goal
 use Rattle.cq_form.proofs.Form.subst.Goals.{In-Some, In_default, In_ok-others}
@@ -42,10 +43,10 @@ pub returns-in_err-scale-clause-overflow : goal.returns-in_err-scale-clause-over
 returns-in_err-scale-clause-overflow c = λ pair e.
     let w = (goal.at.returns-in_err-scale-clause-overflow c).In-Some in
     product_refused c.args.variable.0 c.args.form.now c.args.self.now c.in-Some.k (in_order w) (has w) pair
-    (c.in_err-scale.ensures.overflow pair (ap Err (fault_told _ _ pair c.from_residual-in_err-scale.ensures.1 e)))
+    (c.in_err-scale.ensures.overflow pair (ap Err (refusal_told _ _ pair c.from_residual-in_err-scale.ensures.1 e)))
 
-pub invariant_of-rest : goal.invariant_of-rest
-invariant_of-rest c =
+pub invariant_of-add : goal.invariant_of-add
+invariant_of-add c =
     subst (IsSumFrom 0) (sym c.in_ok-others.ensures)
     (IsSumFrom-without 0 c.args.variable.0 _ (subst (λ s. IsSumFrom 0 (products_of s)) (sym c.deref-2.ensures.value) c.self.invariant))
 

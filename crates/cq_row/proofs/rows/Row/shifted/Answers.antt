@@ -1,9 +1,11 @@
 use Rattle.std.proofs.Common.{◌∙◌, Err, ap, subst, sym}
 use Rattle.spec_rational.specs.Rational.{◌+ℚ◌, ◌*ℚ◌}
 use Rattle.cq_frac.specs.declared.Operation.TheVariants.{Product}
+use Rattle.cq_frac.specs.Refused.{Tells}
+use Rattle.cq_frac.proofs.Refusals.{never_both}
 use Rattle.cq_row.specs.Row.{Row}
-use Rattle.cq_row.specs.Rows.{Tells, IsRowFrom, Lacks, everywhere, sum_at}
-use Rattle.cq_row.proofs.Exits.{pair_told, fault_told}
+use Rattle.cq_row.specs.Rows.{IsRowFrom, Lacks, everywhere, sum_at}
+use Rattle.cq_frac.proofs.Exits.{pair_told, refusal_told}
 use Rattle.cq_row.proofs.Pairs.{rate_pair, rows_pair, shift_accepted}
 use Rattle.cq_row.proofs.Shifts.{gain_not_zero, joined_lacks, shifted_is}
 use Rattle.cq_row.proofs.rows.Row.shifted.Goals as goal
@@ -16,7 +18,7 @@ returns-in_err-factor-clause-overflow c = λ pair e.
 pub returns-in_err-row-clause-overflow : goal.returns-in_err-row-clause-overflow
 returns-in_err-row-clause-overflow c = λ pair e.
     rows_pair c.args.self.now c.args.e c.args.q.now c.args.rate pair
-    (c.in_err-row.ensures.overflow pair (ap Err (fault_told _ _ pair c.from_residual-in_err-row.ensures.1 e)))
+    (c.in_err-row.ensures.overflow pair (ap Err (refusal_told _ _ pair c.from_residual-in_err-row.ensures.1 e)))
 
 pub put-requires-clause-row : goal.put-requires-clause-row
 put-requires-clause-row c =
@@ -41,4 +43,4 @@ returns-clause-value c =
     })
 
 pub returns-clause-accepted : goal.returns-clause-accepted
-returns-clause-accepted c = shift_accepted c.args.self.now c.args.e c.args.q.now c.args.rate c.in_ok-row.ensures.accepted c.in_ok-factor.ensures.1
+returns-clause-accepted c = shift_accepted c.args.self.now c.args.e c.args.q.now c.args.rate c.in_ok-row.ensures.accepted (never_both Product _ _ c.in_ok-factor.ensures.1)

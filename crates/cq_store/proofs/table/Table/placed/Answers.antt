@@ -9,10 +9,10 @@ use Rattle.cq_store.proofs.table.Table.placed.Goals as goal
 pub unreachable-requires : goal.unreachable-requires
 unreachable-requires c =
     c.in_default.ensures
-    (c.requires c.pair-item.result.0.0 (subst (Mentions c.pair-item.result.0.0) c.pairs-pair-items.ensures.value (mention_at c.pairs-pair-items.result.now c.loop-pair.pair-index c.pair-item.result c.loop-pair-test.true c.pair-item.is)))
+    (c.requires c.entry-item.result.quantity (subst (Mentions c.entry-item.result.quantity) c.entries-entry-items.ensures.value (mention_at c.entries-entry-items.result.now c.loop-entry.entry-index c.entry-item.result c.loop-entry-test.true c.entry-item.is)))
 
-pub loop-pair-preserved : goal.loop-pair-preserved
-loop-pair-preserved c =
+pub loop-entry-preserved : goal.loop-entry-preserved
+loop-entry-preserved c =
     c.in_ok-push.ensures.items
-    ∙ ap₂ (λ (s : List Entry) (q : ℕ). s ++ record { quantity = q; factor = c.pair-item.result.1 } ∷ []) c.loop-pair.invariant c.in-Some.ensures.1
-    ∙ sym (placed_more (place_of c.args.self.now.now.names) c.pairs-pair-items.result.now c.loop-pair.pair-index c.pair-item.result c.loop-pair-test.true c.pair-item.is)
+    ∙ ap₂ (λ (s : List Entry) (q : ℕ). s ++ record { quantity = q; factor = c.entry-item.result.factor } ∷ []) c.loop-entry.invariant c.in-Some.ensures.1
+    ∙ sym (placed_more (place_of c.args.self.now.now.names) c.entries-entry-items.result.now c.loop-entry.entry-index c.entry-item.result c.loop-entry-test.true c.entry-item.is)
