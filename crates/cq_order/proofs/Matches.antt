@@ -1,22 +1,28 @@
 -- Whether the pairs of terms that are left match, pair by pair, with the variables that were met before them.
-use Rattle.std.proofs.Common.{◌≡◌, ℕ, List, [], ◌∷◌, ◌++◌, refl, ap, sym, ◌∙◌, subst, arith}
+use Rattle.std.proofs.Common.{◌≡◌, ℕ, List, [], ◌∷◌, ◌++◌, refl, ap, sym, ◌∙◌, subst, inl, inr, arith}
 use Rattle.std.specs.Prelude.{All, ◌↔◌, ⊤}
-use Rattle.spec_terms.specs.Term.{Terms, Var, Number, Name, Compound, one, more, count, list_of}
+use Rattle.spec_terms.specs.Term.{Terms, Var, Number, Name, Compound, one, more, count, list_of, identity, OccursIn}
 use Rattle.spec_terms.specs.Variables.{with_variable, variables_after, variables_in}
+use Rattle.spec_terms.proofs.Substitution.{apply-identity}
 use Rattle.spec_order.specs.Variants.{AreVariants}
 use Rattle.spec_order.proofs.Renamings.{place, Match, MatchAll, match_variants}
 use Rattle.cq_term.specs.Meaning.{HeapTerm, at}
 use Rattle.cq_term.specs.Shown.{view_of, arguments}
-use Rattle.cq_order.specs.Work.{IsLive, Both, both, side_by_side, IsConstant, AreUnlike, HaveSameFunctor, PushesPairs}
-use Rattle.cq_order.specs.declared.pairs.Pair.{Pair}
-use Rattle.cq_order.proofs.Ahead.{ahead, ahead_pop, ahead_push, live_pop, live_push, Remains}
+use Rattle.spec_terms.specs.Unifier.{Equation}
+use Rattle.cq_walk.specs.Pairs.{IsLive, equation_of, pairwise, HaveSameFunctor, PushesPairs}
+use Rattle.cq_order.specs.Work.{IsConstant, AreUnlike}
+use Rattle.cq_walk.specs.declared.pairs.Pair.{Pair}
+use Rattle.cq_walk.proofs.SideBySide.{live_pop, live_push}
+use Rattle.cq_walk.specs.Visits.{IsGround}
+use Rattle.cq_walk.proofs.Ground.{after_ground}
+use Rattle.cq_order.proofs.Ahead.{ahead, ahead_pop, ahead_push, Remains}
 
-abbrev pub MatchAhead : List ℕ → List ℕ → List Both → Type 0
+abbrev pub MatchAhead : List ℕ → List ℕ → List (Equation ℕ) → Type 0
 MatchAhead vs ws [] = ⊤
 MatchAhead vs ws (b ∷ bs) = Match vs ws b.left b.right × MatchAhead (variables_after vs b.left) (variables_after ws b.right) bs
 
-match_lists : (vs ws : List ℕ) (ts us : Terms ℕ) (bs : List Both) → count ts ≡ count us →
-    MatchAhead vs ws (side_by_side (list_of ts) (list_of us) ++ bs) ↔ (MatchAll vs ws ts us × MatchAhead (variables_in vs ts) (variables_in ws us) bs)
+match_lists : (vs ws : List ℕ) (ts us : Terms ℕ) (bs : List (Equation ℕ)) → count ts ≡ count us →
+    MatchAhead vs ws (pairwise (list_of ts) (list_of us) ++ bs) ↔ (MatchAll vs ws ts us × MatchAhead (variables_in vs ts) (variables_in ws us) bs)
 match_lists vs ws (one t) (one u) bs n = (λ h. h, λ h. h)
 match_lists vs ws (one t) (more u (one w)) bs n = absurd (omega arith)
 match_lists vs ws (one t) (more u (more w us)) bs n = absurd (omega arith)
@@ -29,8 +35,8 @@ match_lists vs ws (more t ts) (more u us) bs n =
     )
 
 -- the arguments of two compounds in place of the compounds
-match_arguments : (vs ws : List ℕ) (t u : HeapTerm) (n : ℕ) (bs : List Both) → HaveSameFunctor t u n →
-    MatchAhead vs ws (side_by_side (arguments t) (arguments u) ++ bs) ↔ (Match vs ws t u × MatchAhead (variables_after vs t) (variables_after ws u) bs)
+match_arguments : (vs ws : List ℕ) (t u : HeapTerm) (n : ℕ) (bs : List (Equation ℕ)) → HaveSameFunctor t u n →
+    MatchAhead vs ws (pairwise (arguments t) (arguments u) ++ bs) ↔ (Match vs ws t u × MatchAhead (variables_after vs t) (variables_after ws u) bs)
 match_arguments vs ws (Compound f ts) (Compound g us) n bs (h, p, q) =
     let c : count ts ≡ count us = cc in
     let name : f ≡ g = cc in
@@ -74,12 +80,34 @@ constant_after vs (Number q) h = refl
 constant_after vs (Name a) h = refl
 constant_after vs (Compound f ts) h = absurd h
 
+-- a term without variables matches itself, whatever was met
+mutual
+  ground_matches : (vs ws : List ℕ) (t : HeapTerm) → IsGround t → Match vs ws t t
+  ground_matches vs ws (Var v) ground = absurd (ground v refl)
+  ground_matches vs ws (Number q) ground = refl
+  ground_matches vs ws (Name a) ground = refl
+  ground_matches vs ws (Compound f ts) ground = (refl, all_ground_match vs ws ts ground)
+
+  all_ground_match : (vs ws : List ℕ) (ts : Terms ℕ) → ((v : ℕ) → OccursIn v ts → ⊥) → MatchAll vs ws ts ts
+  all_ground_match vs ws (one t) ground = ground_matches vs ws t ground
+  all_ground_match vs ws (more t ts) ground = (ground_matches vs ws t (λ v o. ground v (inl o)), all_ground_match (variables_after vs t) (variables_after ws t) ts (λ v o. ground v (inr o)))
+
+-- ---- two terms whose heads say all
+pub itself_variant : (t u : HeapTerm) → t ≡ u → AreVariants t u
+itself_variant t u e = subst (AreVariants t) e ((identity, apply-identity t), (identity, apply-identity t))
+
+pub unlike_variants : (t u : HeapTerm) → AreUnlike t u → AreVariants t u → ⊥
+unlike_variants t u unlike h = unlike_terms [] [] t u unlike ((match_variants t u).1 h)
+
+pub variables_variant : (t u : HeapTerm) (v w : ℕ) → t ≡ Var v → u ≡ Var w → AreVariants t u
+variables_variant t u v w p q = subst (λ x. AreVariants x u) (sym p) (subst (AreVariants (Var v)) (sym q) ((match_variants (Var v) (Var w)).0 refl))
+
 -- ---- the pairs that are left
 pub match_start : (ts : List HeapTerm) (p : Pair) (vs ws : List ℕ) (work : List Pair) → vs ≡ [] → ws ≡ [] → work ≡ p ∷ [] → All (IsLive ts) (p ∷ []) →
     Remains ts (AreVariants (at ts p.left) (at ts p.right)) (MatchAhead vs ws) work
 match_start ts p vs ws work v w e live =
     let alone = match_variants (at ts p.left) (at ts p.right) in
-    let all : MatchAhead vs ws (ahead ts work) ≡ MatchAhead [] [] (both ts p ∷ []) = (λ i. MatchAhead (v i) (w i) (ahead ts (e i))) in record {
+    let all : MatchAhead vs ws (ahead ts work) ≡ MatchAhead [] [] (equation_of ts p ∷ []) = (λ i. MatchAhead (v i) (w i) (ahead ts (e i))) in record {
       live = subst (All (IsLive ts)) (sym e) live;
       decides = (λ h. subst (λ T. T) (sym all) (alone.1 h, tt), λ h. alone.0 (subst (λ T. T) all h).0);
     }
@@ -100,6 +128,11 @@ module _ (ts : List HeapTerm) (claim : Type 0) (vs ws : List ℕ) (old work : Li
 
   pub match_constants : IsConstant (at ts p.left) → at ts p.left ≡ at ts p.right → Remains ts claim (MatchAhead vs ws) work
   match_constants h e = past vs ws (constant_after vs (at ts p.left) h) (constant_after ws (at ts p.right) (subst IsConstant e h)) (constants_match vs ws (at ts p.left) (at ts p.right) h e)
+
+  pub match_ground : p.left ≡ p.right → IsGround (at ts p.left) → Remains ts claim (MatchAhead vs ws) work
+  match_ground e ground =
+      let same : at ts p.left ≡ at ts p.right = ap (at ts) e in
+      past vs ws (after_ground vs (at ts p.left) ground) (after_ground ws (at ts p.right) (subst IsGround same ground)) (subst (Match vs ws (at ts p.left)) same (ground_matches vs ws (at ts p.left) ground))
 
   pub match_unlike : AreUnlike (at ts p.left) (at ts p.right) → claim → ⊥
   match_unlike h k = unlike_terms vs ws (at ts p.left) (at ts p.right) h (next_matches.0 k).0

@@ -15,11 +15,13 @@ use Rattle.cq_term.specs.Shown.{view_of, arguments}
 use Rattle.cq_term.specs.declared.view.View.TheVariants as view
 use Rattle.cq_term.specs.Names.{HasNamesBelow, HaveNamesBelow}
 use Rattle.cq_order.specs.Standing.{order_of, AreAlikeCompounds, Stands, TellsCompounds}
-use Rattle.cq_order.specs.Work.{IsLive, Both, side_by_side, PushesPairs}
+use Rattle.spec_terms.specs.Unifier.{Equation}
+use Rattle.cq_walk.specs.Pairs.{IsLive, pairwise, PushesPairs}
 use Rattle.cq_order.specs.declared.order.Standing.{Standing}
 use Rattle.cq_order.specs.declared.order.Standing.TheVariants as standing
-use Rattle.cq_order.specs.declared.pairs.Pair.{Pair}
-use Rattle.cq_order.proofs.Ahead.{ahead, ahead_pop, ahead_push, live_pop, live_push}
+use Rattle.cq_walk.specs.declared.pairs.Pair.{Pair}
+use Rattle.cq_walk.proofs.SideBySide.{live_pop, live_push}
+use Rattle.cq_order.proofs.Ahead.{ahead, ahead_pop, ahead_push}
 
 -- ---- one comparison after another
 then-assoc : (o p q : Ordering) → ordering_then (ordering_then o p) q ≡ ordering_then o (ordering_then p q)
@@ -85,25 +87,25 @@ module _ (texts : List Text) where
   stands_same ts a b e = compare_terms-itself (named (text_of texts) (at ts a)) (named (text_of texts) (at ts b)) (ap (λ i. named (text_of texts) (at ts i)) e)
 
   -- ---- the pairs that are left
-  abbrev pub order_ahead : List Both → Ordering
+  abbrev pub order_ahead : List (Equation ℕ) → Ordering
   order_ahead [] = Equal
   order_ahead (b ∷ bs) = ordering_then (order_of texts b.left b.right) (order_ahead bs)
 
-  abbrev pub HaveTexts : List Both → Type 0
+  abbrev pub HaveTexts : List (Equation ℕ) → Type 0
   HaveTexts [] = ⊤
   HaveTexts (b ∷ bs) = (HasNamesBelow (length texts) b.left × HasNamesBelow (length texts) b.right) × HaveTexts bs
 
-  texts_lists : (ts us : Terms ℕ) (bs : List Both) → HaveNamesBelow (length texts) ts → HaveNamesBelow (length texts) us → HaveTexts bs → HaveTexts (side_by_side (list_of ts) (list_of us) ++ bs)
+  texts_lists : (ts us : Terms ℕ) (bs : List (Equation ℕ)) → HaveNamesBelow (length texts) ts → HaveNamesBelow (length texts) us → HaveTexts bs → HaveTexts (pairwise (list_of ts) (list_of us) ++ bs)
   texts_lists (one t) (one u) bs h k rest = ((h, k), rest)
   texts_lists (one t) (more u us) bs h k rest = ((h, k.0), rest)
   texts_lists (more t ts) (one u) bs h k rest = ((h.0, k), texts_short (list_of ts) bs rest)
     where
-      texts_short : (xs : List HeapTerm) (cs : List Both) → HaveTexts cs → HaveTexts (side_by_side xs [] ++ cs)
+      texts_short : (xs : List HeapTerm) (cs : List (Equation ℕ)) → HaveTexts cs → HaveTexts (pairwise xs [] ++ cs)
       texts_short [] cs r = r
       texts_short (x ∷ xs) cs r = r
   texts_lists (more t ts) (more u us) bs h k rest = ((h.0, k.0), texts_lists ts us bs h.1 k.1 rest)
 
-  order_lists : (ts us : Terms ℕ) (bs : List Both) → count ts ≡ count us → order_ahead (side_by_side (list_of ts) (list_of us) ++ bs) ≡ ordering_then (compare_all (named_all (text_of texts) ts) (named_all (text_of texts) us)) (order_ahead bs)
+  order_lists : (ts us : Terms ℕ) (bs : List (Equation ℕ)) → count ts ≡ count us → order_ahead (pairwise (list_of ts) (list_of us) ++ bs) ≡ ordering_then (compare_all (named_all (text_of texts) ts) (named_all (text_of texts) us)) (order_ahead bs)
   order_lists (one t) (one u) bs n = refl
   order_lists (one t) (more u (one w)) bs n = absurd (omega arith)
   order_lists (one t) (more u (more w us)) bs n = absurd (omega arith)
@@ -114,7 +116,7 @@ module _ (texts : List Text) where
       ∙ sym (then-assoc (order_of texts t u) (compare_all (named_all (text_of texts) ts) (named_all (text_of texts) us)) (order_ahead bs))
 
   -- the arguments of two compounds in place of the compounds
-  order_arguments : (t u : HeapTerm) (n : ℕ) (bs : List Both) → AreAlikeCompounds texts t u n → order_ahead (side_by_side (arguments t) (arguments u) ++ bs) ≡ ordering_then (order_of texts t u) (order_ahead bs)
+  order_arguments : (t u : HeapTerm) (n : ℕ) (bs : List (Equation ℕ)) → AreAlikeCompounds texts t u n → order_ahead (pairwise (arguments t) (arguments u) ++ bs) ≡ ordering_then (order_of texts t u) (order_ahead bs)
   order_arguments (Compound f ts) (Compound g us) n bs h =
       let p = h.left in
       let q = h.right in
@@ -136,7 +138,7 @@ module _ (texts : List Text) where
   order_arguments (Number x) u n bs h = (let q = h.left in cc)
   order_arguments (Name x) u n bs h = (let q = h.left in cc)
 
-  texts_arguments : (t u : HeapTerm) (n : ℕ) (bs : List Both) → AreAlikeCompounds texts t u n → HasNamesBelow (length texts) t → HasNamesBelow (length texts) u → HaveTexts bs → HaveTexts (side_by_side (arguments t) (arguments u) ++ bs)
+  texts_arguments : (t u : HeapTerm) (n : ℕ) (bs : List (Equation ℕ)) → AreAlikeCompounds texts t u n → HasNamesBelow (length texts) t → HasNamesBelow (length texts) u → HaveTexts bs → HaveTexts (pairwise (arguments t) (arguments u) ++ bs)
   texts_arguments (Compound f ts) (Compound g us) n bs h k l rest = texts_lists ts us bs k.1 l.1 rest
   texts_arguments (Compound f ts) (Var x) n bs h k l rest = (let q = h.right in cc)
   texts_arguments (Compound f ts) (Number x) n bs h k l rest = (let q = h.right in cc)

@@ -4,15 +4,17 @@ use Rattle.std.specs.Prelude.{◌↔◌, ⊤}
 use Rattle.spec_terms.specs.Term.{Terms, Var, Number, Name, Compound, one, more, count, list_of}
 use Rattle.cq_term.specs.Meaning.{HeapTerm, at}
 use Rattle.cq_term.specs.Shown.{arguments}
-use Rattle.cq_order.specs.Work.{Both, side_by_side, HaveSameFunctor, PushesPairs}
-use Rattle.cq_order.specs.declared.pairs.Pair.{Pair}
-use Rattle.cq_order.proofs.Ahead.{ahead, ahead_pop, ahead_push, live_pop, live_push, Remains}
+use Rattle.spec_terms.specs.Unifier.{Equation}
+use Rattle.cq_walk.specs.Pairs.{pairwise, HaveSameFunctor, PushesPairs}
+use Rattle.cq_walk.specs.declared.pairs.Pair.{Pair}
+use Rattle.cq_walk.proofs.SideBySide.{live_pop, live_push}
+use Rattle.cq_order.proofs.Ahead.{ahead, ahead_pop, ahead_push, Remains}
 
-abbrev pub AllSame : List Both → Type 0
+abbrev pub AllSame : List (Equation ℕ) → Type 0
 AllSame [] = ⊤
 AllSame (b ∷ bs) = (b.left ≡ b.right) × AllSame bs
 
-same_lists : (ts us : Terms ℕ) (bs : List Both) → count ts ≡ count us → AllSame (side_by_side (list_of ts) (list_of us) ++ bs) ↔ ((ts ≡ us) × AllSame bs)
+same_lists : (ts us : Terms ℕ) (bs : List (Equation ℕ)) → count ts ≡ count us → AllSame (pairwise (list_of ts) (list_of us) ++ bs) ↔ ((ts ≡ us) × AllSame bs)
 same_lists (one t) (one u) bs n = (λ h. (ap (λ x. one x) h.0, h.1), λ h. (let k = h.0 in let e : t ≡ u = cc in (e, h.1)))
 same_lists (one t) (more u (one w)) bs n = absurd (omega arith)
 same_lists (one t) (more u (more w us)) bs n = absurd (omega arith)
@@ -25,7 +27,7 @@ same_lists (more t ts) (more u us) bs n =
     )
 
 -- the arguments of two compounds in place of the compounds
-same_arguments : (t u : HeapTerm) (n : ℕ) (bs : List Both) → HaveSameFunctor t u n → AllSame (side_by_side (arguments t) (arguments u) ++ bs) ↔ ((t ≡ u) × AllSame bs)
+same_arguments : (t u : HeapTerm) (n : ℕ) (bs : List (Equation ℕ)) → HaveSameFunctor t u n → AllSame (pairwise (arguments t) (arguments u) ++ bs) ↔ ((t ≡ u) × AllSame bs)
 same_arguments (Compound f ts) (Compound g us) n bs (h, p, q) =
     let c : count ts ≡ count us = cc in
     let name : f ≡ g = cc in

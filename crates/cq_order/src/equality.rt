@@ -3,13 +3,31 @@
 ghost use Rattle.std.specs.Prelude.{◌≡◌, ◌<◌, ◌↔◌, length, IsTrue, IfOk};
 ghost use Rattle.cq_term.specs.Meaning.{at};
 
-use crate::pairs::{Heads, Pair, compare_heads, push_pairs};
+use crate::pairs::{Heads, compare_heads};
 use cq_term::{Heap, TermId};
+use cq_walk::{Pair, push_pairs};
 use std::alloc::AllocError;
 
-/// Whether two terms, read through bindings, are the same. Terms that share an id are not looked into. An error is
-/// want of memory.
+/// Whether two terms, read through bindings, are the same. Terms that share an id are not looked into, and only two
+/// compounds take memory, of which an error is the want.
 pub fn same(heap: &Heap, a: TermId, b: TermId) -> Result<bool, AllocError>
+    requires a { a < length heap.now.now.terms }
+    requires b { b < length heap.now.now.terms }
+    ensures { IfOk result (λ same. IsTrue same ↔ (at heap.now.now.terms a ≡ at heap.now.now.terms b)) }
+{
+    if a == b {
+        return Ok(true);
+    }
+    match compare_heads(heap, a, b) {
+        Heads::Same => Ok(true),
+        Heads::Different => Ok(false),
+        Heads::Variables(v, w) => Ok(v.0 == w.0),
+        Heads::Arguments(_) => same_throughout(heap, a, b),
+    }
+}
+
+/// The same by a walk.
+fn same_throughout(heap: &Heap, a: TermId, b: TermId) -> Result<bool, AllocError>
     requires a { a < length heap.now.now.terms }
     requires b { b < length heap.now.now.terms }
     ensures { IfOk result (λ same. IsTrue same ↔ (at heap.now.now.terms a ≡ at heap.now.now.terms b)) }

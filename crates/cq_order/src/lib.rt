@@ -2,7 +2,6 @@
 #![tactic(auto)]
 
 mod equality;
-mod names;
 mod order;
 mod pairs;
 #[cfg(test)]
@@ -10,6 +9,5 @@ mod tests;
 mod variants;
 
 pub use equality::same;
-pub use names::names_stay_below;
 pub use order::compare;
 pub use variants::variant;

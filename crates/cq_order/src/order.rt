@@ -9,9 +9,9 @@ ghost use Rattle.cq_term.specs.Meaning.{at};
 ghost use Rattle.cq_term.specs.Names.{HasNamesBelow};
 ghost use Rattle.cq_order.specs.Standing.{Stands, Tells, TellsCompounds};
 
-use crate::pairs::{Pair, push_pairs};
 use cq_atoms::Atoms;
 use cq_term::{Atom, Heap, TermId, View};
+use cq_walk::{Pair, push_pairs};
 use std::alloc::AllocError;
 use std::cmp::Ordering;
 
@@ -26,8 +26,28 @@ enum Standing {
 }
 
 /// How two terms, read through bindings, stand in the standard order. Names stand by their texts, of which `atoms`
-/// has to know those in the two terms. An error is want of memory.
+/// has to know those in the two terms. Only two compounds take memory, of which an error is the want.
 pub fn compare(heap: &Heap, atoms: &Atoms, a: TermId, b: TermId) -> Result<Ordering, AllocError>
+    requires a { a < length heap.now.now.terms }
+    requires b { b < length heap.now.now.terms }
+    requires a_names { HasNamesBelow (length atoms.now) (at heap.now.now.terms a) }
+    requires b_names { HasNamesBelow (length atoms.now) (at heap.now.now.terms b) }
+    ensures { IfOk result (λ o. o ≡ compare_terms (named (text_of atoms.now) (at heap.now.now.terms a)) (named (text_of atoms.now) (at heap.now.now.terms b))) }
+{
+    match rank_heads(heap, atoms, a, b) {
+        Standing::Same => Ok(Ordering::Equal),
+        Standing::Apart(order) => Ok(order),
+        Standing::Arguments(_) => compare_throughout(heap, atoms, a, b),
+    }
+}
+
+/// The same by a walk.
+fn compare_throughout(
+    heap: &Heap,
+    atoms: &Atoms,
+    a: TermId,
+    b: TermId,
+) -> Result<Ordering, AllocError>
     requires a { a < length heap.now.now.terms }
     requires b { b < length heap.now.now.terms }
     requires a_names { HasNamesBelow (length atoms.now) (at heap.now.now.terms a) }

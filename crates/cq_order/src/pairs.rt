@@ -1,20 +1,12 @@
-// Pairs of terms that are still to be compared, and what the heads of two terms say.
+// What the heads of two terms say.
 
-ghost use Rattle.std.specs.Prelude.{◌≡◌, ◌<◌, length, OnOk, if◌then◌else◌};
+ghost use Rattle.std.specs.Prelude.{◌≡◌, ◌<◌, length, IsTrue, if◌then◌else◌};
 ghost use Rattle.cq_term.specs.Meaning.{at};
-ghost use Rattle.cq_term.specs.Shown.{arguments};
-ghost use Rattle.cq_order.specs.Work.{Compared, PushesPairs};
+ghost use Rattle.cq_walk.specs.Visits.{IsGround};
+ghost use Rattle.cq_order.specs.Work.{Compared};
 
 use cq_frac::VarId;
 use cq_term::{Heap, TermId, View};
-use std::alloc::AllocError;
-
-/// Two terms that are to be compared.
-#[derive(Clone, Copy, Debug)]
-pub(crate) struct Pair {
-    pub left: TermId,
-    pub right: TermId,
-}
 
 /// What the heads of two terms say of the terms.
 #[derive(Clone, Copy, Debug)]
@@ -67,26 +59,15 @@ fn same_or_different(same: bool) -> Heads
     if same { Heads::Same } else { Heads::Different }
 }
 
-/// Adds the pairs of the arguments of two compounds, the last one first, so that the first is taken first.
-pub(crate) fn push_pairs(
-    heap: &Heap,
-    left: TermId,
-    right: TermId,
-    arity: usize,
-    work: &mut Vec<Pair>,
-) -> Result<(), AllocError>
-    requires left { left < length heap.now.now.terms }
-    requires right { right < length heap.now.now.terms }
-    requires left_arity { length (arguments (at heap.now.now.terms left)) ≡ arity }
-    requires right_arity { length (arguments (at heap.now.now.terms right)) ≡ arity }
-    ensures { OnOk result (PushesPairs heap.now.now.terms left right 0 work.old.items work.new.items) }
+/// Whether two ids are the same, of a term that is known to have no variable.
+pub(crate) fn is_one_ground_term(heap: &Heap, left: TermId, right: TermId) -> bool
+    requires { left < length heap.now.now.terms }
+    ensures same { IsTrue result → left ≡ right }
+    ensures ground { IsTrue result → IsGround (at heap.now.now.terms left) }
 {
-    for i in (0..arity).rev() {
-        let pair = Pair {
-            left: heap.arg(left, i),
-            right: heap.arg(right, i),
-        };
-        work.push(pair)?;
+    if left == right {
+        heap.is_ground(left)
+    } else {
+        false
     }
-    Ok(())
 }

@@ -4,11 +4,12 @@ ghost use Rattle.std.specs.Prelude.{◌≡◌, ◌<◌, ◌↔◌, length, IsTru
 ghost use Rattle.spec_terms.specs.Variables.{with_variable};
 ghost use Rattle.spec_order.specs.Variants.{AreVariants};
 ghost use Rattle.cq_term.specs.Meaning.{at};
-ghost use Rattle.cq_order.specs.Places.{numbers_of, place_of};
+ghost use Rattle.cq_walk.specs.Places.{numbers_of, place_of};
 
-use crate::pairs::{Heads, Pair, compare_heads, push_pairs};
+use crate::pairs::{Heads, compare_heads, is_one_ground_term};
 use cq_frac::VarId;
 use cq_term::{Heap, TermId};
+use cq_walk::{Pair, push_pairs};
 use indexmap::IndexSet;
 use std::alloc::AllocError;
 
@@ -19,8 +20,26 @@ struct Met {
     right: IndexSet<VarId>,
 }
 
-/// Whether each of two terms, read through bindings, is an instance of the other. An error is want of memory.
+/// Whether each of two terms, read through bindings, is an instance of the other. Terms that share an id are not looked
+/// into, and only two compounds take memory, of which an error is the want.
 pub fn variant(heap: &Heap, a: TermId, b: TermId) -> Result<bool, AllocError>
+    requires a { a < length heap.now.now.terms }
+    requires b { b < length heap.now.now.terms }
+    ensures { IfOk result (λ variant. IsTrue variant ↔ AreVariants (at heap.now.now.terms a) (at heap.now.now.terms b)) }
+{
+    if a == b {
+        return Ok(true);
+    }
+    match compare_heads(heap, a, b) {
+        Heads::Same => Ok(true),
+        Heads::Different => Ok(false),
+        Heads::Variables(_, _) => Ok(true),
+        Heads::Arguments(_) => variant_throughout(heap, a, b),
+    }
+}
+
+/// The same by a walk.
+fn variant_throughout(heap: &Heap, a: TermId, b: TermId) -> Result<bool, AllocError>
     requires a { a < length heap.now.now.terms }
     requires b { b < length heap.now.now.terms }
     ensures { IfOk result (λ variant. IsTrue variant ↔ AreVariants (at heap.now.now.terms a) (at heap.now.now.terms b)) }
@@ -31,6 +50,9 @@ pub fn variant(heap: &Heap, a: TermId, b: TermId) -> Result<bool, AllocError>
     };
     let mut work = vec![in heap.alloc(); Pair { left: a, right: b }]?;
     while let Some(pair) = work.pop() {
+        if is_one_ground_term(heap, pair.left, pair.right) {
+            continue;
+        }
         match compare_heads(heap, pair.left, pair.right) {
             Heads::Same => {}
             Heads::Different => return Ok(false),

@@ -1,37 +1,23 @@
-use Rattle.std.proofs.Common.{◌≡◌, sym, ◌∙◌, ap, eqb-true}
+use Rattle.std.proofs.Common.{◌≡◌, ap, sym, ◌∙◌, refl, eqb-true, eq-eqb}
 use Rattle.spec_terms.specs.Term.{Var}
-use Rattle.cq_term.specs.Meaning.{at}
-use Rattle.cq_term.proofs.Arguments.{length-arguments}
-use Rattle.cq_order.proofs.Ahead.{fewer_left, spread_less}
-use Rattle.cq_order.proofs.Sameness.{same_past, same_spread}
+use Rattle.cq_term.specs.Meaning.{HeapTerm, at}
+use Rattle.cq_term.specs.Shown.{view_of}
 use Rattle.cq_order.proofs.equality.same.Goals as goal
 
-pub loop-pair-smaller-then-eq : goal.loop-pair-smaller-then-eq
-loop-pair-smaller-then-eq c = fewer_left c.args.heap.now.now.terms c.loop-pair.work.items c.pop.new.self.items c.in-Some.pair c.in-Some.ensures.items
+pub returns-then-eq : goal.returns-then-eq
+returns-then-eq c = (λ h. ap (at c.args.heap.now.now.terms) (eqb-true c.args.a c.args.b (sym c.eq.ensures ∙ c.if-eq.true)), λ h. refl)
 
-pub loop-pair-preserved-then-eq : goal.loop-pair-preserved-then-eq
-loop-pair-preserved-then-eq c =
-    let ts = c.args.heap.now.now.terms in
-    let same : c.in-Some.pair.left ≡ c.in-Some.pair.right = eqb-true c.in-Some.pair.left c.in-Some.pair.right (sym c.eq.ensures ∙ c.if-eq.true) in
-    same_past ts _ c.loop-pair.work.items c.pop.new.self.items c.in-Some.pair c.in-Some.ensures.items c.loop-pair.invariant (ap (at ts) same)
+pub returns-in-Same : goal.returns-in-Same
+returns-in-Same c = (λ h. c.in-Same.ensures.1, λ h. refl)
 
-pub loop-pair-preserved-in-Same : goal.loop-pair-preserved-in-Same
-loop-pair-preserved-in-Same c = same_past c.args.heap.now.now.terms _ c.loop-pair.work.items c.pop.new.self.items c.in-Some.pair c.in-Some.ensures.items c.loop-pair.invariant c.in-Same.ensures.1
+pub returns-in-Different : goal.returns-in-Different
+returns-in-Different c = (λ h. cc, λ h. absurd (c.in-Different.ensures.other (ap view_of h)))
 
-pub loop-pair-preserved-else-v-w : goal.loop-pair-preserved-else-v-w
-loop-pair-preserved-else-v-w c = same_past c.args.heap.now.now.terms _ c.loop-pair.work.items c.pop.new.self.items c.in-Some.pair c.in-Some.ensures.items
-    c.loop-pair.invariant (c.in-Variables.ensures.0 ∙ ap (λ x. Var x) c.if-v-w.false ∙ sym c.in-Variables.ensures.1)
-
-pub push_pairs-requires-clause-left_arity : goal.push_pairs-requires-clause-left_arity
-push_pairs-requires-clause-left_arity c = length-arguments (at c.args.heap.now.now.terms c.in-Some.pair.left) c.in-Arguments.ensures.0 c.in-Arguments.arity c.in-Arguments.ensures.1
-
-pub push_pairs-requires-clause-right_arity : goal.push_pairs-requires-clause-right_arity
-push_pairs-requires-clause-right_arity c = length-arguments (at c.args.heap.now.now.terms c.in-Some.pair.right) c.in-Arguments.ensures.0 c.in-Arguments.arity c.in-Arguments.ensures.2
-
-pub loop-pair-smaller : goal.loop-pair-smaller
-loop-pair-smaller c =
-    spread_less c.args.heap.now.now.terms c.loop-pair.work.items c.pop.new.self.items c.in-Some.pair c.in-Some.ensures.items c.push_pairs.new.work.items c.in_ok-push_pairs-in-Arguments.ensures c.in-Arguments.ensures.0 c.in-Arguments.arity c.in-Arguments.ensures.1
-
-pub loop-pair-preserved : goal.loop-pair-preserved
-loop-pair-preserved c =
-    same_spread c.args.heap.now.now.terms _ c.loop-pair.work.items c.pop.new.self.items c.in-Some.pair c.in-Some.ensures.items c.loop-pair.invariant c.in-Arguments.arity c.push_pairs.new.work.items c.in-Arguments.ensures c.in_ok-push_pairs-in-Arguments.ensures
+pub returns-in-Variables : goal.returns-in-Variables
+returns-in-Variables c = (
+  λ h. c.in-Variables.ensures.0 ∙ ap (λ x. Var x) (eqb-true c.in-Variables.v.0 c.in-Variables.w.0 h) ∙ sym c.in-Variables.ensures.1,
+  λ e.
+      let k : ◌≡◌ {A = HeapTerm} (Var c.in-Variables.v.0) (Var c.in-Variables.w.0) = sym c.in-Variables.ensures.0 ∙ e ∙ c.in-Variables.ensures.1 in
+      let q : c.in-Variables.v.0 ≡ c.in-Variables.w.0 = cc in
+      eq-eqb c.in-Variables.v.0 c.in-Variables.w.0 q,
+)

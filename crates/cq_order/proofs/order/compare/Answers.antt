@@ -1,26 +1,8 @@
-use Rattle.cq_term.specs.Meaning.{at}
-use Rattle.cq_term.proofs.Arguments.{length-arguments}
-use Rattle.cq_order.proofs.Ahead.{fewer_left, spread_less}
-use Rattle.cq_order.proofs.Ranks.{tell_past, tell_spread}
+use Rattle.std.proofs.Common.{sym}
 use Rattle.cq_order.proofs.order.compare.Goals as goal
 
-pub loop-pair-smaller-in-Same : goal.loop-pair-smaller-in-Same
-loop-pair-smaller-in-Same c = fewer_left c.args.heap.now.now.terms c.loop-pair.work.items c.pop.new.self.items c.in-Some.pair c.in-Some.ensures.items
+pub returns-in-Same : goal.returns-in-Same
+returns-in-Same c = sym c.in-Same.ensures
 
-pub loop-pair-preserved-in-Same : goal.loop-pair-preserved-in-Same
-loop-pair-preserved-in-Same c = tell_past c.args.atoms.now c.args.heap.now.now.terms _ c.loop-pair.work.items c.pop.new.self.items c.in-Some.pair c.in-Some.ensures.items c.loop-pair.invariant c.in-Same.ensures
-
-pub push_pairs-requires-clause-left_arity : goal.push_pairs-requires-clause-left_arity
-push_pairs-requires-clause-left_arity c = length-arguments (at c.args.heap.now.now.terms c.in-Some.pair.left) c.in-Arguments.ensures.left_name c.in-Arguments.arity c.in-Arguments.ensures.left
-
-pub push_pairs-requires-clause-right_arity : goal.push_pairs-requires-clause-right_arity
-push_pairs-requires-clause-right_arity c = length-arguments (at c.args.heap.now.now.terms c.in-Some.pair.right) c.in-Arguments.ensures.right_name c.in-Arguments.arity c.in-Arguments.ensures.right
-
-pub loop-pair-smaller : goal.loop-pair-smaller
-loop-pair-smaller c =
-    spread_less c.args.heap.now.now.terms c.loop-pair.work.items c.pop.new.self.items c.in-Some.pair c.in-Some.ensures.items c.push_pairs.new.work.items c.in_ok-push_pairs-in-Arguments.ensures
-    c.in-Arguments.ensures.left_name c.in-Arguments.arity c.in-Arguments.ensures.left
-
-pub loop-pair-preserved : goal.loop-pair-preserved
-loop-pair-preserved c =
-    tell_spread c.args.atoms.now c.args.heap.now.now.terms _ c.loop-pair.work.items c.pop.new.self.items c.in-Some.pair c.in-Some.ensures.items c.loop-pair.invariant c.in-Arguments.arity c.push_pairs.new.work.items c.in-Arguments.ensures c.in_ok-push_pairs-in-Arguments.ensures
+pub returns-in-Apart : goal.returns-in-Apart
+returns-in-Apart c = sym c.in-Apart.ensures.0

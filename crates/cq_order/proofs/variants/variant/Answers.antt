@@ -1,58 +1,18 @@
-use Rattle.std.proofs.Common.{ap}
+use Rattle.std.proofs.Common.{◌≡◌, ap, sym, ◌∙◌, refl, eqb-true}
 use Rattle.cq_term.specs.Meaning.{at}
-use Rattle.cq_term.proofs.Arguments.{length-arguments}
-use Rattle.cq_order.specs.Places.{numbers_of}
-use Rattle.cq_order.proofs.Ahead.{live_one, live_pop, spread_less}
-use Rattle.cq_order.proofs.Matches.{match_start, match_constants, match_unlike, match_variables, match_other_places, match_spread}
+use Rattle.cq_order.proofs.Matches.{itself_variant, unlike_variants, variables_variant}
 use Rattle.cq_order.proofs.variants.variant.Goals as goal
 
-pub loop-pair-init : goal.loop-pair-init
-loop-pair-init c =
-    match_start c.args.heap.now.now.terms (record { left = c.args.a; right = c.args.b }) (numbers_of c.new.result.keys) (numbers_of c.new-2.result.keys) c.in_ok-work.work.items
-    (ap numbers_of c.new.ensures.empty) (ap numbers_of c.new-2.ensures.empty) c.in_ok-work.ensures.items (live_one c.args.heap.now.now.terms (record { left = c.args.a; right = c.args.b }) c.requires.a c.requires.b)
+pub returns-then-eq : goal.returns-then-eq
+returns-then-eq c =
+    let ts = c.args.heap.now.now.terms in
+    (λ h. itself_variant (at ts c.args.a) (at ts c.args.b) (ap (at ts) (eqb-true c.args.a c.args.b (sym c.eq.ensures ∙ c.if-eq.true))), λ h. refl)
 
-pub compare_heads-requires-clause-left : goal.compare_heads-requires-clause-left
-compare_heads-requires-clause-left c = (live_pop c.args.heap.now.now.terms c.loop-pair.work.items c.pop.new.self.items c.in-Some.pair c.in-Some.ensures.items c.loop-pair.invariant.live).1.0
-
-pub compare_heads-requires-clause-right : goal.compare_heads-requires-clause-right
-compare_heads-requires-clause-right c = (live_pop c.args.heap.now.now.terms c.loop-pair.work.items c.pop.new.self.items c.in-Some.pair c.in-Some.ensures.items c.loop-pair.invariant.live).1.1
-
-pub loop-pair-preserved-in-Same : goal.loop-pair-preserved-in-Same
-loop-pair-preserved-in-Same c =
-    match_constants c.args.heap.now.now.terms _ (numbers_of c.loop-pair.met.left.keys) (numbers_of c.loop-pair.met.right.keys) c.loop-pair.work.items c.pop.new.self.items c.in-Some.pair c.in-Some.ensures.items c.loop-pair.invariant
-    c.in-Same.ensures.0 c.in-Same.ensures.1
+pub returns-in-Same : goal.returns-in-Same
+returns-in-Same c = (λ h. itself_variant (at c.args.heap.now.now.terms c.args.a) (at c.args.heap.now.now.terms c.args.b) c.in-Same.ensures.1, λ h. refl)
 
 pub returns-in-Different : goal.returns-in-Different
-returns-in-Different c = (
-  λ h. cc,
-  λ h. absurd (match_unlike c.args.heap.now.now.terms _ (numbers_of c.loop-pair.met.left.keys) (numbers_of c.loop-pair.met.right.keys) c.loop-pair.work.items c.pop.new.self.items c.in-Some.pair c.in-Some.ensures.items c.loop-pair.invariant
-      c.in-Different.ensures h),
-)
+returns-in-Different c = (λ h. cc, λ h. absurd (unlike_variants (at c.args.heap.now.now.terms c.args.a) (at c.args.heap.now.now.terms c.args.b) c.in-Different.ensures h))
 
-pub returns-then-not-branch : goal.returns-then-not-branch
-returns-then-not-branch c = (
-  λ h. cc,
-  λ h. absurd (match_other_places c.args.heap.now.now.terms _ (numbers_of c.loop-pair.met.left.keys) (numbers_of c.loop-pair.met.right.keys) c.loop-pair.work.items c.pop.new.self.items c.in-Some.pair c.in-Some.ensures.items c.loop-pair.invariant
-      c.in-Variables.v.0 c.in-Variables.w.0 c.in-Variables.ensures.0 c.in-Variables.ensures.1 (λ e. let k = c.in_ok-have_one_place-in-Variables.ensures.place.1 e in let n = c.if-not-branch.true in cc) h),
-)
-
-pub loop-pair-preserved-else-not-branch : goal.loop-pair-preserved-else-not-branch
-loop-pair-preserved-else-not-branch c =
-    match_variables c.args.heap.now.now.terms _ (numbers_of c.loop-pair.met.left.keys) (numbers_of c.loop-pair.met.right.keys) c.loop-pair.work.items c.pop.new.self.items c.in-Some.pair c.in-Some.ensures.items c.loop-pair.invariant
-    c.in-Variables.v.0 c.in-Variables.w.0 c.in-Variables.ensures.0 c.in-Variables.ensures.1 _ _ c.in_ok-have_one_place-in-Variables.ensures.left c.in_ok-have_one_place-in-Variables.ensures.right
-    (c.in_ok-have_one_place-in-Variables.ensures.place.0 c.if-not-branch.false)
-
-pub push_pairs-requires-clause-left_arity : goal.push_pairs-requires-clause-left_arity
-push_pairs-requires-clause-left_arity c = length-arguments (at c.args.heap.now.now.terms c.in-Some.pair.left) c.in-Arguments.ensures.0 c.in-Arguments.arity c.in-Arguments.ensures.1
-
-pub push_pairs-requires-clause-right_arity : goal.push_pairs-requires-clause-right_arity
-push_pairs-requires-clause-right_arity c = length-arguments (at c.args.heap.now.now.terms c.in-Some.pair.right) c.in-Arguments.ensures.0 c.in-Arguments.arity c.in-Arguments.ensures.2
-
-pub loop-pair-smaller : goal.loop-pair-smaller
-loop-pair-smaller c =
-    spread_less c.args.heap.now.now.terms c.loop-pair.work.items c.pop.new.self.items c.in-Some.pair c.in-Some.ensures.items c.push_pairs.new.work.items c.in_ok-push_pairs-in-Arguments.ensures c.in-Arguments.ensures.0 c.in-Arguments.arity c.in-Arguments.ensures.1
-
-pub loop-pair-preserved : goal.loop-pair-preserved
-loop-pair-preserved c =
-    match_spread c.args.heap.now.now.terms _ (numbers_of c.loop-pair.met.left.keys) (numbers_of c.loop-pair.met.right.keys) c.loop-pair.work.items c.pop.new.self.items c.in-Some.pair c.in-Some.ensures.items c.loop-pair.invariant
-    c.in-Arguments.arity c.push_pairs.new.work.items c.in-Arguments.ensures c.in_ok-push_pairs-in-Arguments.ensures
+pub returns-in-Variables : goal.returns-in-Variables
+returns-in-Variables c = (λ h. variables_variant (at c.args.heap.now.now.terms c.args.a) (at c.args.heap.now.now.terms c.args.b) c.in-Variables.field-0.0 c.in-Variables.field-1.0 c.in-Variables.ensures.0 c.in-Variables.ensures.1, λ h. refl)
