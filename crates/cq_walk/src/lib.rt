@@ -3,6 +3,8 @@
 #![tactic(auto)]
 
 mod pairs;
+#[cfg(test)]
+mod tests;
 mod visits;
 
 pub use pairs::{Pair, push_pairs};
