@@ -5,12 +5,12 @@ ghost use Rattle.std.specs.Prelude.{◌≡◌, ◌<◌, ◌≤◌, length, IfOk}
 
 use crate::{copy, unify, vars_of};
 use cq_atoms::Atoms;
-use cq_frac::VarId;
+use cq_frac::{Frac, VarId};
 use cq_term::{Atom, Heap, Newly, TermId, View};
 use std::alloc::AllocError;
 use std::test::Fail;
 
-const DEPTH: usize = 1_000_000;
+const DEPTH: usize = 200_000;
 
 /// A name over two terms.
 fn pair(heap: &mut Heap, name: Atom, first: TermId, second: TermId) -> Result<TermId, AllocError>
@@ -84,6 +84,33 @@ fn a_clash_in_the_last_argument_binds_nothing(rt: HostRuntime) -> Result<(), Fai
     let mut newly = Newly::new(rt.alloc());
     assert!(rt; clash_at_the_end(&mut heap, &mut newly, f)?);
     assert_eq!(rt; newly.as_slice().len(), 0);
+    Ok(())
+}
+
+/// X and f.
+fn becomes_a_name(heap: &mut Heap, newly: &mut Newly, f: Atom) -> Result<bool, AllocError> {
+    let x = variable(heap)?;
+    let name = constant(heap, f)?;
+    let same = unified(heap, newly, x, name)?;
+    Ok(same && heap.view(x) == View::Name(f))
+}
+
+/// f and f, which are two terms of the heap, and f beside 1.
+fn are_told_apart(heap: &mut Heap, newly: &mut Newly, f: Atom) -> Result<bool, AllocError> {
+    let name = constant(heap, f)?;
+    let again = constant(heap, f)?;
+    let one = heap.number(Frac::one())?;
+    Ok(unified(heap, newly, name, again)? && !unified(heap, newly, name, one)?)
+}
+
+#[test]
+fn constants_meet_variables_and_constants(rt: HostRuntime) -> Result<(), Fail> {
+    let f = Atoms::new(rt.alloc()).intern("f")?;
+    let mut heap = Heap::new(rt.alloc());
+    let mut newly = Newly::new(rt.alloc());
+    assert!(rt; becomes_a_name(&mut heap, &mut newly, f)?);
+    assert!(rt; are_told_apart(&mut heap, &mut newly, f)?);
+    assert_eq!(rt; newly.as_slice(), [VarId(0)].as_slice());
     Ok(())
 }
 
@@ -229,6 +256,23 @@ fn a_copy_has_new_variables_in_the_order_of_the_term(rt: HostRuntime) -> Result<
     let f = Atoms::new(rt.alloc()).intern("f")?;
     let mut heap = Heap::new(rt.alloc());
     assert!(rt; has_new_variables(&mut heap, f)?);
+    Ok(())
+}
+
+/// f and f(f).
+fn is_copied_as_it_is(heap: &mut Heap, f: Atom) -> Result<bool, AllocError> {
+    let name = constant(heap, f)?;
+    let around = over(heap, f, name)?;
+    let second = copied(heap, around)?;
+    let third = copied(heap, name)?;
+    Ok(heap.view(second) == View::Compound(f, 1) && heap.view(third) == View::Name(f))
+}
+
+#[test]
+fn terms_without_variables_are_copied(rt: HostRuntime) -> Result<(), Fail> {
+    let f = Atoms::new(rt.alloc()).intern("f")?;
+    let mut heap = Heap::new(rt.alloc());
+    assert!(rt; is_copied_as_it_is(&mut heap, f)?);
     Ok(())
 }
 
