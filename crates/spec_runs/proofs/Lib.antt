@@ -1,0 +1,10 @@
+pub mod Shapes
+pub mod Heights
+pub mod Landing
+pub mod Replies
+pub mod Rows
+pub mod Settlings
+pub mod Stepping
+pub mod Turning
+pub mod SameTurns
+pub mod SameRuns
