@@ -15,8 +15,8 @@ wanted-preserved c =
 pub entries-preserved : goal.entries-preserved
 entries-preserved c =
     let within : c.entries.entry-index < length c.entries-entry-items.result.now = omega arith in
-    let new = knows_more same_variable.eq-value.it (λ a b. refl) c.args.keep.now (take c.members.c-index c.args.told.now) c.entries.known.keys c.insert-in-entries.new.self.keys (record { 0 = c.entries-item.result.quantity }) c.entries.invariant.0 c.in_ok-insert-2.ensures.keys in
-    (new.knows, entry_more c.entries.known.keys c.insert-in-entries.new.self.keys c.entries-entry-items.result.now c.entries.entry-index c.entries-item.result within c.entries-item.is new.there new.stays c.entries.invariant.1)
+    let new = knows_more same_variable.eq-value.it (λ a b. refl) c.args.keep.now (take c.members.c-index c.args.told.now) c.entries.known.keys c.insert-in-entries.new.self.keys (record { 0 = c.entry-item.result.quantity }) c.entries.invariant.0 c.in_ok-insert-2.ensures.keys in
+    (new.knows, entry_more c.entries.known.keys c.insert-in-entries.new.self.keys c.entries-entry-items.result.now c.entries.entry-index c.entry-item.result within c.entry-item.is new.there new.stays c.entries.invariant.1)
 
 pub members-preserved : goal.members-preserved
 members-preserved c =
