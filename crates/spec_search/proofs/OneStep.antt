@@ -18,13 +18,13 @@ use Rattle.spec_search.specs.Replies as reply
 use Rattle.spec_search.specs.Replies.{Place, Reply, Raises, Throws, WithCopy, Makes, Calls, IfEntailed, WithExtent}
 use Rattle.spec_search.specs.Control.{clause_child}
 use Rattle.spec_search.specs.Rows.{reply_of}
-use Rattle.spec_search.specs.Steps.{Steps, Stepped, Ball, Children, ball_of, children, is_not_linear, IsEntailed, IsBroken, AllEntailed, IsExtent, HasNoExtent, raises, throws, copies, makes, calls, not_linear, entailed, not_entailed, expression_waits, expression_false, extent, no_extent}
+use Rattle.spec_search.specs.Steps.{IsSelection, Steps, Stepped, Ball, Children, ball_of, children, is_not_linear, IsEntailed, IsBroken, AllEntailed, IsExtent, HasNoExtent, raises, throws, copies, makes, calls, not_linear, entailed, not_entailed, expression_waits, expression_false, extent, no_extent}
 
 module _ (p : Place) (goal : Tree) where
   -- ---- questions
 
   -- what members come to
-  data Asks (ms : List Tree) (b : Branch) (fixed : ℕ → Option ℚ) : Stepped → Type 0 where
+  pub data Asks (ms : List Tree) (b : Branch) (fixed : ℕ → Option ℚ) : Stepped → Type 0 where
     refused : {m : Tree} → find (is_not_linear fixed) ms ≡ Some m
         → Asks ms b fixed (ball_of goal (type_error "linear" m))
     all : find (is_not_linear fixed) ms ≡ None → AllEntailed p.state.linear fixed ms
@@ -43,7 +43,7 @@ module _ (p : Place) (goal : Tree) where
   all_or_broken fixed (t ∷ ms) a m (inl e) x = entailed_or_broken (lin fixed t) a.0 (subst (λ u. IsBroken p.state.linear (lin fixed u)) e x)
   all_or_broken fixed (t ∷ ms) a m (inr h) x = all_or_broken fixed ms a.1 m h x
 
-  asks_once : (ms : List Tree) (b : Branch) (fixed : ℕ → Option ℚ) (o q : Stepped) → Asks ms b fixed o
+  pub asks_once : (ms : List Tree) (b : Branch) (fixed : ℕ → Option ℚ) (o q : Stepped) → Asks ms b fixed o
       → Asks ms b fixed q → o ≡ q
   asks_once ms b fixed o q (refused {m = m} e) (refused {m = n} f) =
       let c : Some m ≡ Some n = sym e ∙ f in
@@ -59,7 +59,7 @@ module _ (p : Place) (goal : Tree) where
   asks_once ms b fixed o q (broken n e h x) (broken m f i y) = refl
 
   -- what an expression comes to
-  data Reaches (side : Side) (e : Tree) (f : ℚ → Branch) (fixed : ℕ → Option ℚ) : Stepped → Type 0 where
+  pub data Reaches (side : Side) (e : Tree) (f : ℚ → Branch) (fixed : ℕ → Option ℚ) : Stepped → Type 0 where
     waiting : lin_expression fixed e ≡ Waits → Reaches side e f fixed (ball_of goal (type_error "linear" e))
     false_one : lin_expression fixed e ≡ False → Reaches side e f fixed (children p [])
     value : {form : Linear} (q : ℚ) → lin_expression fixed e ≡ Is form → IsExtent side p.state.linear form q
@@ -83,7 +83,7 @@ module _ (p : Place) (goal : Tree) where
   form_same : (side : Side) (f g : Linear) → Is f ≡ Is g → f ≡ g
   form_same side f g e = cc
 
-  reaches_once : (side : Side) (e : Tree) (f : ℚ → Branch) (fixed : ℕ → Option ℚ) (o q : Stepped)
+  pub reaches_once : (side : Side) (e : Tree) (f : ℚ → Branch) (fixed : ℕ → Option ℚ) (o q : Stepped)
       → Reaches side e f fixed o → Reaches side e f fixed q → o ≡ q
   reaches_once side e f fixed o q (waiting a) (waiting b) = refl
   reaches_once side e f fixed o q (waiting a) (false_one b) = let c = sym a ∙ b in cc
@@ -110,23 +110,23 @@ module _ (p : Place) (goal : Tree) where
 
   -- ---- replies
 
-  -- what a reply comes to; a call comes to some children
-  abbrev Result : Reply → Stepped → Type 0
+  -- what a reply comes to; a call comes to the children of a selection of its clauses
+  abbrev pub Result : Reply → Stepped → Type 0
   Result (Raises e) o = o ≡ ball_of goal e
   Result (Throws t) o = o ≡ Ball (plain_copy (read p.state t))
   Result (WithCopy t f) o = o ≡ children p (f (plain_copy (read p.state t)) ∷ [])
   Result (reply.Overflows pair) o = ⊥
   Result (Makes m) o = o ≡ Children m
-  Result (Calls cs) o = (bs : List Branch) × (o ≡ children p bs)
+  Result (Calls cs) o = (ds : List Clause) × IsSelection p goal cs ds × (o ≡ children p (map (clause_child p goal) ds))
   Result (IfEntailed ms b) o = (fixed : ℕ → Option ℚ) × Fixes p.state.linear fixed × Asks ms b fixed o
   Result (WithExtent side e f) o = (fixed : ℕ → Option ℚ) × Fixes p.state.linear fixed × Reaches side e f fixed o
 
-  result : (o : Stepped) → Steps p goal o → Result (reply_of p goal) o
+  pub result : (o : Stepped) → Steps p goal o → Result (reply_of p goal) o
   result o (raises {e = e} h) = subst (λ r. Result r (ball_of goal e)) (sym h) refl
   result o (throws {t = t} {c = c} h k) = subst (λ r. Result r (Ball c)) (sym h) (ap (λ x. Ball x) k)
   result o (copies {t = t} {f = f} {c = c} h k) = subst (λ r. Result r (children p (f c ∷ []))) (sym h) (ap (λ x. children p (f x ∷ [])) k)
   result o (makes {m = m} h) = subst (λ r. Result r (Children m)) (sym h) refl
-  result o (calls {all = cs} {some = ds} h k) = subst (λ r. Result r (children p (map (clause_child p goal) ds))) (sym h) (map (clause_child p goal) ds, refl)
+  result o (calls {all = cs} {some = ds} h k) = subst (λ r. Result r (children p (map (clause_child p goal) ds))) (sym h) (ds, k, refl)
   result o (not_linear {m = m} fixed h k e) = subst (λ r. Result r (ball_of goal (type_error "linear" m))) (sym h) (fixed, k, refused e)
   result o (entailed {b = b} fixed h k e a) = subst (λ r. Result r (children p (b ∷ []))) (sym h) (fixed, k, all e a)
   result o (not_entailed m fixed h k e i x) = subst (λ r. Result r (children p [])) (sym h) (fixed, k, broken m e i x)
@@ -164,7 +164,7 @@ module _ (p : Place) (goal : Tree) where
   result_alike (WithCopy t f) o q a b = one_step (a ∙ sym b)
   result_alike (reply.Overflows pair) o q a b = absurd a
   result_alike (Makes m) o q a b = one_step (a ∙ sym b)
-  result_alike (Calls cs) o q a b = both_call a.0 b.0 a.1 b.1
+  result_alike (Calls cs) o q a b = both_call (map (clause_child p goal) a.0) (map (clause_child p goal) b.0) a.2 b.2
   result_alike (IfEntailed ms br) o q a b = one_step (asks_once ms br b.0 o q (subst (λ f. Asks ms br f o) (one_fixed a.0 b.0 a.1 b.1) a.2) b.2)
   result_alike (WithExtent side e f) o q a b = one_step (reaches_once side e f b.0 o q (subst (λ g. Reaches side e f g o) (one_fixed a.0 b.0 a.1 b.1) a.2) b.2)
 

@@ -1,0 +1,16 @@
+//! Runs of a search: whatever clauses their calls leave out, and whatever form their linear constraints have, they show
+//! the same. No code: the function has an empty body, and its contract is a law of the definitions.
+#![tactic(auto)]
+
+ghost use Rattle.std.specs.Prelude.{ℕ, List};
+ghost use Rattle.spec_syntax.specs.Trees.{Tree};
+ghost use Rattle.spec_search.specs.Database.{Database};
+ghost use Rattle.spec_search.specs.Search.{Search, start};
+ghost use Rattle.spec_runs.specs.Runs.{Mark, Run, SameMarks};
+
+/// From each search that a query reaches, all runs leave the same marks as far as they go: the same goals are selected,
+/// between the same output, answers, balls and end, whatever clauses the calls of user predicates leave out.
+pub fn runs_show_the_same()
+    ensures { (db : Database) (query : Tree) (n : ℕ) (ls ms ns : List Mark) (s t u : Search) → Run (start db query n) ls s
+        → Run s ms t → Run s ns u → SameMarks ms ns }
+{}
