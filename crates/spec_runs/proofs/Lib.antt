@@ -3,3 +3,7 @@ pub mod Heights
 pub mod Landing
 pub mod Replies
 pub mod Rows
+pub mod Settlings
+pub mod Stepping
+pub mod Turning
+pub mod SameTurns
