@@ -1,11 +1,11 @@
 -- Cuts to an end of the common shape, and copies added in a findall's own saved branch, keep both searches the same.
-use Rattle.std.proofs.Common.{◌≡◌, ℕ, suc, ◌-◌, ◌≤◌, List, [], ◌∷◌, ◌++◌, length, drop, true, false, cond, eqb, inl, inr, refl, sym, ap, subst, ◌∙◌, arith}
+use Rattle.std.proofs.Common.{◌≡◌, ℕ, suc, ◌-◌, ◌≤◌, List, [], ◌∷◌, ◌++◌, length, drop, false, eqb, refl, sym, ap, subst, arith}
 use Rattle.std.proofs.lemmas.Bool.{eq-eqb}
 use Rattle.std.proofs.lemmas.Bool.Decides.{eqb_tells}
-use Rattle.spec_branch.specs.Branch.{State, Copied, Item, Branch, Gathered, Phase}
+use Rattle.spec_branch.specs.Branch.{Copied, Item, Branch}
 use Rattle.spec_search.specs.Balls.{last}
 use Rattle.spec_search.specs.Search.{gather, gathered_items}
-use Rattle.spec_runs.proofs.Shapes.{Rung, OnFirst, OnSecond, OnBoth, first, second, IsEnd, whole, behind, SameItems, no_item, goal, call, cut, cut_fails, caught, collects, gathered, SameBranch, IsDoomed, SameOver, SameBranches}
+use Rattle.spec_runs.proofs.Shapes.{Rung, OnFirst, OnSecond, OnBoth, first, second, IsEnd, whole, behind, SameItems, no_item, goal, call, cut, cut_fails, caught, collects, gathered, SameBranch, SameOver, SameBranches}
 
 -- branches put in front
 pub in_front : (s t : List Rung) (xs ys bs cs : List Branch) → SameOver s t xs ys → SameBranches s bs cs

@@ -1,9 +1,8 @@
 -- Copies land in states that are the same but for their linear constraints, and these stay as they are.
-use Rattle.std.proofs.Common.{◌≡◌, ℕ, List, [], ◌∷◌, map, refl, sym, ap, subst, ◌∙◌}
+use Rattle.std.proofs.Common.{◌≡◌, List, [], ◌∷◌, map, refl, sym, ap, subst, ◌∙◌}
 use Rattle.std.specs.Prelude.{◌+◌, ◌||◌, ◌==◌, length}
 use Rattle.std.specs.List.{list_any}
 use Rattle.spec_linear.specs.Solution.{Constraint, Equivalent}
-use Rattle.spec_syntax.specs.Trees.{Tree}
 use Rattle.spec_branch.specs.Branch.{State, Copied, Asleep}
 use Rattle.spec_branch.specs.Alike.{with_linear}
 use Rattle.spec_search.specs.Replies.{Landed, suspended, all_suspended, place_from, placed_asleep, state_with, landed_onto, landed}

@@ -7,3 +7,4 @@ pub mod Settlings
 pub mod Stepping
 pub mod Turning
 pub mod SameTurns
+pub mod SameRuns

@@ -1,18 +1,16 @@
 -- Goals of two searches that come to the same.
-use Rattle.std.proofs.Common.{◌≡◌, ℕ, List, [], ◌∷◌, ◌++◌, Option, Bool, true, false, cond, refl, sym, ap}
+use Rattle.std.proofs.Common.{◌≡◌, List, ◌++◌}
 use Rattle.spec_rational.specs.Rational.{ℚ}
 use Rattle.cq_frac.specs.declared.Pair.{Pair}
-use Rattle.spec_lists.specs.Texts.{Text}
 use Rattle.spec_syntax.specs.Trees.{Tree}
-use Rattle.spec_branch.specs.Branch.{State, Copied, Item, Branch, Pending, no_work}
-use Rattle.spec_search.specs.Database.{Database, Clause}
+use Rattle.spec_branch.specs.Branch.{Copied, Branch}
+use Rattle.spec_search.specs.Database.{Clause}
 use Rattle.spec_search.specs.Builtins.{Side}
 use Rattle.spec_search.specs.Replies as reply
 use Rattle.spec_search.specs.Replies.{Place, Made, Reply, Raises, Throws, WithCopy, Makes, Calls, IfEntailed, WithExtent, child, made, makes}
 use Rattle.spec_search.specs.Steps.{Stepped, Ball, Children}
 use Rattle.spec_search.specs.Turns.{older}
-use Rattle.spec_runs.specs.Runs.{SameState}
-use Rattle.spec_runs.proofs.Shapes.{Rung, OnFirst, OnSecond, OnBoth, first, second, IsEnd, SameItems, SameBranch, SameOver, SameBranches}
+use Rattle.spec_runs.proofs.Shapes.{Rung, SameBranch, SameBranches}
 
 -- some shape in which the branches of two searches are the same
 pub record Same (bs cs : List Branch) : Type 0 where

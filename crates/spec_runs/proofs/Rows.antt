@@ -14,27 +14,26 @@ use Rattle.spec_built.specs.Built.{compound1, compound2, atom, Indicator, indica
 use Rattle.spec_built.specs.Kinds.{is_list, is_partial}
 use Rattle.spec_built.specs.Bodies.{is_body, as_goal}
 use Rattle.spec_built.specs.Errors.{instantiation, type_error, existence_error, arithmetic_error}
-use Rattle.spec_builtins.specs.Alternatives.{◌≐◌, Solutions, Faults, Offers, Alternative, Comparison, allows}
+use Rattle.spec_builtins.specs.Alternatives.{◌≐◌, Solutions, Faults, Offers, Comparison, allows}
 use Rattle.spec_builtins.specs.Clauses.{HeadBody, head_body, first_error, error_if, clause_goal_error, not_readable, declaration_error, declarations, use_module_error}
 use Rattle.spec_builtins.specs.Operators.{operator_error, operator_names, operators_after}
 use Rattle.spec_writing.specs.Written.{text_within}
 use Rattle.spec_builtins.specs.Terms.{passes, order_row, functor_row, arg_row, univ_row, arguments}
 use Rattle.spec_builtins.specs.Texts.{atom_length_row, atom_list_row, char_code_row, number_codes_row, atom_concat_row, sub_atom_row}
 use Rattle.spec_told.specs.Checks.{constraint_error, question_error, expression_error, members, halves, Halves}
-use Rattle.spec_branch.specs.Branch.{State, Copied, Item, Goal, Branch, Pending, Unsettled, no_work}
+use Rattle.spec_branch.specs.Branch.{State, Item, Goal, Branch, Pending, Unsettled, no_work}
 use Rattle.spec_branch.specs.Alike.{with_linear}
 use Rattle.spec_search.specs.Database.{Database, Clause, Procedure, Dynamic, procedure_of, clause_added, all_declared}
 use Rattle.spec_search.specs.Builtins as builtin
 use Rattle.spec_search.specs.Builtins.{Builtin, Side, builtin_of, is_built_in}
-use Rattle.spec_search.specs.Replies as reply
-use Rattle.spec_search.specs.Replies.{Place, Made, Reply, Raises, Landed, landed, landed_term, landed_child, child, made, makes, onward, goes_on, changes, outputs, unifies, offers, succeeds_if, unless_error, with_new, with_equations, alternative_child, suspended}
-use Rattle.spec_search.specs.Control.{put, and_row, or_row, if_then_row, if_then_items, first_items, cut_row, not_row, with_more, called, call_row, once_row, catch_row, throw_row, findall_row, not_unify_row, copied_child, copy_row, user_row, calls, call_of}
-use Rattle.spec_search.specs.Changes.{is_row, is_value, compare_row, compare_right, compare_values, change_error, is_private, clause_match, clauses_for, retract_row, clause_row}
-use Rattle.spec_search.specs.Constraints.{curly_row, tell_or_split, half_child, told_child, entailed_row, extent_row, optimum_row, freeze_row}
+use Rattle.spec_search.specs.Replies.{Place, Reply, Landed, landed_term, landed_child, child, makes, onward, goes_on, changes, outputs, offers, succeeds_if, unless_error, with_new, with_equations, alternative_child}
+use Rattle.spec_search.specs.Control.{put, if_then_items, first_items, cut_row, not_row, with_more, called, call_row, catch_row, throw_row, findall_row, copy_row, calls}
+use Rattle.spec_search.specs.Changes.{is_value, compare_right, compare_values, change_error, is_private, clause_match, clauses_for}
+use Rattle.spec_search.specs.Constraints.{tell_or_split, freeze_row}
 use Rattle.spec_search.specs.Balls.{last}
 use Rattle.spec_search.specs.Rows.{nth, builtin_reply, reply_by, reply_of}
 use Rattle.spec_runs.specs.Runs.{SameState}
-use Rattle.spec_runs.proofs.Shapes.{Rung, OnFirst, OnSecond, OnBoth, first, second, IsEnd, whole, behind, SameItems, no_item, goal, call, cut, cut_fails, caught, collects, gathered, higher, SameBranch, SameOver, SameBranches}
+use Rattle.spec_runs.proofs.Shapes.{Rung, OnBoth, first, second, IsEnd, whole, behind, SameItems, goal, call, cut, cut_fails, caught, collects, gathered, higher, SameBranch, SameOver, SameBranches}
 use Rattle.spec_runs.proofs.Heights.{in_front, kept_last}
 use Rattle.spec_runs.proofs.Landing.{SameLanded, same_landed}
 use Rattle.spec_runs.proofs.Replies.{Same, SameMade, SameReply, both_raise, both_throw, both_copy, both_overflow, both_make, both_call, both_ask, both_reach}

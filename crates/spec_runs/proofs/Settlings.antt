@@ -1,13 +1,12 @@
 -- Branches that are the same settle alike, and a ball goes to the same catch.
-use Rattle.std.proofs.Common.{◌≡◌, ℕ, List, [], ◌∷◌, ◌++◌, Option, Some, None, refl, sym, ap, subst, ◌∙◌}
+use Rattle.std.proofs.Common.{◌≡◌, List, [], ◌∷◌, ◌++◌, Option, Some, None, refl, sym, ap, subst, ◌∙◌}
 use Rattle.std.specs.List.{cons_option}
-use Rattle.spec_rational.specs.Rational.{ℚ}
-use Rattle.spec_linear.specs.Solution.{Constraint, Equivalent}
+use Rattle.spec_linear.specs.Solution.{Constraint}
 use Rattle.spec_lists.specs.Texts.{Text}
 use Rattle.spec_terms.specs.Term.{Subst}
 use Rattle.spec_terms.specs.Unifier.{IsUnifier, read_under}
 use Rattle.spec_syntax.specs.Trees.{Tree}
-use Rattle.spec_branch.specs.Branch.{State, Sleeper, Copied, Item, Branch, Pending, Phase, Unsettled, no_work}
+use Rattle.spec_branch.specs.Branch.{State, Sleeper, Copied, Item, Branch, Pending, Unsettled, no_work}
 use Rattle.spec_branch.specs.Settling.{SleeperState, Sleeps, Wakes, state_of, woken_item, woken, Settles, no_unifier, unified, SettlesUnified, clash, no_solution, kept, Outcome, Kept, Pruned, Why, bindings_after, kept_branch}
 use Rattle.spec_branch.specs.Alike.{with_linear}
 use Rattle.spec_branch.specs.Alike as alike
@@ -15,12 +14,11 @@ use Rattle.spec_branch.proofs.Waiting.{alike_back}
 use Rattle.spec_branch.proofs.Determined.{kept_alike, kept_and_pruned}
 use Rattle.spec_builtins.specs.Alternatives.{◌≐◌}
 use Rattle.spec_search.specs.Replies.{landed, landed_term}
-use Rattle.spec_search.specs.Control.{call_of}
 use Rattle.spec_search.specs.Balls.{handed, caught_branch, last}
 use Rattle.spec_runs.specs.Runs.{SameState}
-use Rattle.spec_runs.proofs.Shapes.{Rung, OnBoth, first, second, IsEnd, whole, behind, ends_in, SameItems, no_item, goal, call, cut, cut_fails, caught, collects, gathered, SameBranch, SameBranches}
+use Rattle.spec_runs.proofs.Shapes.{Rung, OnBoth, first, IsEnd, whole, behind, ends_in, SameItems, no_item, goal, call, cut, cut_fails, caught, collects, gathered, SameBranch, SameBranches}
 use Rattle.spec_runs.proofs.Heights.{kept_last}
-use Rattle.spec_runs.proofs.Landing.{SameLanded, same_landed}
+use Rattle.spec_runs.proofs.Landing.{same_landed}
 use Rattle.spec_runs.proofs.Replies.{Same}
 
 -- ---- woken goals

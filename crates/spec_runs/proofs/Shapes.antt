@@ -1,11 +1,9 @@
 -- Branches of two searches side by side: which are the same, and which stand in one alone and are pruned without a trace.
 -- An item's height counts the branches of its own search, so it is read as a lower end of the common shape.
-use Rattle.std.proofs.Common.{◌≡◌, ℕ, suc, ◌+◌, List, [], ◌∷◌, ◌++◌, None, refl, sym, ap, subst}
-use Rattle.spec_lists.specs.Texts.{Text}
+use Rattle.std.proofs.Common.{◌≡◌, ℕ, suc, List, [], ◌∷◌, ◌++◌, None}
 use Rattle.spec_syntax.specs.Trees.{Tree}
-use Rattle.spec_branch.specs.Branch.{State, Copied, Item, Goal, CutTo, CutFail, CatchEnd, Collect, Gathered, Branch, Pending, Phase, Unsettled}
+use Rattle.spec_branch.specs.Branch.{State, Copied, Item, Goal, CutTo, CutFail, CatchEnd, Collect, Gathered, Branch, Pending, Unsettled}
 use Rattle.spec_branch.specs.Settling.{Settles, Pruned, Clash}
-use Rattle.spec_search.specs.Replies.{child}
 use Rattle.spec_search.specs.Control.{call_of}
 use Rattle.spec_runs.specs.Runs.{SameState}
 

@@ -1,10 +1,10 @@
 -- Steps of goals that come to the same: the same ball, or children that are the same but for those of left-out clauses.
-use Rattle.std.proofs.Common.{◌≡◌, ℕ, List, [], ◌∷◌, ◌++◌, Option, Some, None, Bool, true, false, map, refl, sym, ap, subst, ◌∙◌}
-use Rattle.std.specs.Prelude.{find, if◌then◌else◌}
+use Rattle.std.proofs.Common.{◌≡◌, ℕ, List, [], ◌∷◌, Option, Bool, true, false, map, refl, sym, subst}
+use Rattle.std.specs.Prelude.{if◌then◌else◌}
 use Rattle.spec_rational.specs.Rational.{ℚ}
 use Rattle.spec_linear.specs.Form.{Linear}
-use Rattle.spec_linear.specs.Solution.{Constraint, Equivalent, Fixes, Point, Solves}
-use Rattle.spec_extremes.specs.Extremes.{Exceeds, IsSupremum, IsUnbounded, Leaves}
+use Rattle.spec_linear.specs.Solution.{Constraint, Equivalent}
+use Rattle.spec_extremes.specs.Extremes.{Exceeds, IsSupremum, IsUnbounded}
 use Rattle.spec_syntax.specs.Trees.{Tree}
 use Rattle.spec_built.specs.Built.{is_atom}
 use Rattle.spec_built.specs.Errors.{type_error}
@@ -15,14 +15,13 @@ use Rattle.spec_branch.specs.Alike.{with_linear}
 use Rattle.spec_branch.proofs.Waiting.{one_map}
 use Rattle.spec_search.specs.Database.{Database, Clause}
 use Rattle.spec_search.specs.Builtins.{Side, Least, Greatest}
-use Rattle.spec_search.specs.Replies.{Place, Made, Reply, child, made}
-use Rattle.spec_search.specs.Control.{put, instance, body_items, clause_child, clause_work}
-use Rattle.spec_search.specs.Steps.{IsSelection, end, takes, leaves_out, Steps, Stepped, Ball, Children, ball_of, children, IsEntailed, IsBroken, AllEntailed, IsExtent, HasNoExtent}
+use Rattle.spec_search.specs.Replies.{Place, Reply}
+use Rattle.spec_search.specs.Control.{put, instance, clause_child, clause_work}
+use Rattle.spec_search.specs.Steps.{IsSelection, end, takes, leaves_out, Stepped, Ball, Children, ball_of, children, IsEntailed, IsBroken, AllEntailed, IsExtent, HasNoExtent}
 use Rattle.spec_search.proofs.LeftOut.{left_out}
 use Rattle.spec_search.proofs.OneStep.{Asks, refused, all, broken, asks_once, Reaches, waiting, false_one, value, no_value, reaches_once, Result}
-use Rattle.spec_runs.specs.Runs.{SameState}
-use Rattle.spec_runs.proofs.Shapes.{Rung, OnFirst, OnSecond, OnBoth, first, second, IsEnd, whole, SameItems, goal, SameBranch, IsDoomed, SameOver}
-use Rattle.spec_runs.proofs.Replies.{SameMade, SameReply, both_raise, both_throw, both_copy, both_overflow, both_make, both_call, both_ask, both_reach, SameStep, same_ball, same_children}
+use Rattle.spec_runs.proofs.Shapes.{Rung, OnFirst, OnSecond, OnBoth, first, second, whole, SameItems, goal, SameBranch, SameOver}
+use Rattle.spec_runs.proofs.Replies.{SameReply, both_raise, both_throw, both_copy, both_overflow, both_make, both_call, both_ask, both_reach, SameStep, same_ball, same_children}
 use Rattle.spec_runs.proofs.Rows.{made_over, more_behind}
 
 -- ---- questions to constraints with the same solutions

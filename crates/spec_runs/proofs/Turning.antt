@@ -1,22 +1,13 @@
 -- What a turn comes to, by what the first branch is for; and the turns of searches that are the same.
-use Rattle.std.proofs.Common.{◌≡◌, ℕ, suc, List, [], ◌∷◌, ◌++◌, Option, Some, None, refl, sym, ap, subst, ◌∙◌}
-use Rattle.spec_lists.specs.Texts.{Text}
-use Rattle.spec_built.specs.Built.{compound1}
-use Rattle.spec_linear.specs.Solution.{Constraint, Equivalent}
-use Rattle.spec_syntax.specs.Trees.{Tree, list_tree}
-use Rattle.spec_operators.specs.Operators.{Ops}
-use Rattle.spec_branch.specs.Branch.{State, Item, Branch, Copied, Pending, Phase, Settled, Unsettled, read, plain_copy}
-use Rattle.spec_branch.specs.Alike.{with_linear}
-use Rattle.spec_branch.specs.Settling.{Settles, Kept, Pruned, Why, Clash}
-use Rattle.spec_branch.proofs.Determined.{never_both}
-use Rattle.spec_search.specs.Database.{Database}
-use Rattle.spec_search.specs.Replies.{Place, Made, landed}
-use Rattle.spec_search.specs.Rows.{reply_of}
-use Rattle.spec_search.specs.Steps.{Steps, Stepped, Ball, Children}
-use Rattle.spec_search.specs.Balls.{handed, last}
-use Rattle.spec_search.specs.Search.{Search, Look, Over, Settling, Moving, Collecting, Selecting, Answering, look_at, look_at_branch, gather, settled}
+use Rattle.std.proofs.Common.{◌≡◌, ℕ, List, [], ◌∷◌, Option, Some, None, refl, sym, ap, subst}
+use Rattle.spec_syntax.specs.Trees.{Tree}
+use Rattle.spec_branch.specs.Branch.{State, Item, Branch, Copied, Pending, read, plain_copy}
+use Rattle.spec_branch.specs.Settling.{Settles, Kept, Pruned, Why}
+use Rattle.spec_search.specs.Replies.{Made}
+use Rattle.spec_search.specs.Steps.{Steps, Ball, Children}
+use Rattle.spec_search.specs.Balls.{handed}
+use Rattle.spec_search.specs.Search.{Search, Look, Over, Settling, Moving, Collecting, Selecting, Answering, look_at, gather}
 use Rattle.spec_search.specs.Turns.{Turn, Event, Wrote, Answered, Threw, Ended, keeps, prunes, hands_on, escapes, moves, collects, steps, catches, throws, answers, ends, place_of, with_branches, after_removal, after_step, after_ball}
-use Rattle.spec_runs.specs.Runs.{SameState, SameEvent, same, same_answer}
 
 -- ---- what a turn comes to
 
