@@ -14,13 +14,14 @@ use Rattle.cq_frac.specs.declared.Refusal.TheVariants.{Overflow}
 use Rattle.cq_row.specs.Row.{Row}
 use Rattle.cq_row.specs.Rows.{sum_at, Has}
 use Rattle.cq_row.specs.Numbers.{IsJoined, Site, IsNumber, constant_number, live_number, dropped_number, JoinPair, product_pair, joined_pair}
-use Rattle.cq_row.proofs.Inverse.{one_not_zero}
 use Rattle.cq_dict.specs.declared.table.Role.{Role}
 use Rattle.cq_dict.specs.declared.table.Role.TheVariants.{Live, Dropped, Basic}
 use Rattle.cq_dict.specs.Roles.{IsAt, is_live, is_dropped, AreOverColumns, Expresses, SameNumbers, Adding, FormPair, form_product, form_sum}
 use Rattle.cq_dict.specs.Forms.{AddsProduct, RefusesProduct}
 use Rattle.cq_dict.proofs.Roles.{live_at, dropped_at}
 use Rattle.cq_dict.proofs.Free.{tri, same_numbers}
+use Rattle.spec_rational.proofs.Sign.{one_not_zero}
+use Rattle.spec_lists.proofs.Places.{take-next}
 
 -- ---- the row of a quantity
 module _ (roles : List Role) (q : ℕ) where
@@ -58,9 +59,6 @@ nothing_yet roles constant = record {
   value_is = λ x m. ring (constant ∷ []) (var 0 ⊕ (int (pos 0) ⊕ int (pos 0))) (var 0 ⊕ int (pos 0)) refl;
 }
 
-more : (xs : List Entry) (i : ℕ) (m : Entry) → i < length xs → m ≡ get_or xs i m → take (i + 1) xs ≡ take i xs ++ m ∷ []
-more xs i m l e = take_more xs i m l ∙ ap (λ x. take i xs ++ x ∷ []) (sym e)
-
 module _ (roles : List Role) (form : List Entry) (constant : ℚ) (i : ℕ) (m : Entry) (before : Row) (l : i < length form) (at : m ≡ get_or form i m)
     (gave : Expresses roles (λ x. constant +ℚ sum_at x (take i form)) before) where
   pub zero_more : m.factor ≡ 0ℚ → Expresses roles (λ x. constant +ℚ sum_at x (take (i + 1) form)) before
@@ -69,7 +67,7 @@ module _ (roles : List Role) (form : List Entry) (constant : ℚ) (i : ℕ) (m :
     value_is = λ x h.
         gave.value_is x h ∙ ap (λ w. constant +ℚ w)
         (ring (sum_at x (take i form) ∷ x m.quantity ∷ []) (var 0) (var 0 ⊕ int (pos 0) ⊗ var 1) refl
-        ∙ ap (λ f. sum_at x (take i form) +ℚ f *ℚ x m.quantity) (sym z) ∙ sym (sum_at-end x (take i form) m) ∙ ap (sum_at x) (sym (more form i m l at)));
+        ∙ ap (λ f. sum_at x (take i form) +ℚ f *ℚ x m.quantity) (sym z) ∙ sym (sum_at-end x (take i form) m) ∙ ap (sum_at x) (sym (take-next form i m l at)));
   }
 
   pub one_more : (row next : Row) → Expresses roles (λ x. x m.quantity) row → IsJoined before Plus m.factor row next → Expresses roles (λ x. constant +ℚ sum_at x (take (i + 1) form)) next
@@ -81,7 +79,7 @@ module _ (roles : List Role) (form : List Entry) (constant : ℚ) (i : ℕ) (m :
         ((var 0 ⊕ var 3 ⊗ var 4) ⊕ ((var 1 ⊕ var 3 ⊗ var 5) ⊕ (var 2 ⊕ var 3 ⊗ var 6))) ((var 0 ⊕ (var 1 ⊕ var 2)) ⊕ var 3 ⊗ (var 4 ⊕ (var 5 ⊕ var 6))) refl
         ∙ ap₂ (λ u v. u +ℚ m.factor *ℚ v) (gave.value_is x h) (e.value_is x h)
         ∙ ring (constant ∷ sum_at x (take i form) ∷ (m.factor *ℚ x m.quantity) ∷ []) ((var 0 ⊕ var 1) ⊕ var 2) (var 0 ⊕ (var 1 ⊕ var 2)) refl
-        ∙ ap (λ w. constant +ℚ w) (sym (sum_at-end x (take i form) m) ∙ ap (sum_at x) (sym (more form i m l at)));
+        ∙ ap (λ w. constant +ℚ w) (sym (sum_at-end x (take i form) m) ∙ ap (sum_at x) (sym (take-next form i m l at)));
   }
 
   split : form ≡ take i form ++ m ∷ drop (suc i) form

@@ -4,10 +4,11 @@ use Rattle.std.specs.Prelude.{slice_get}
 use Rattle.std.proofs.lemmas.Option.{none-some, same_Some}
 use Rattle.cq_row.specs.Row.{Row}
 use Rattle.cq_row.specs.Rows.{sum_at, unit}
-use Rattle.cq_row.proofs.Units.{nat_eq_self, same_number}
+use Rattle.cq_row.proofs.Units.{same_number}
 use Rattle.cq_dict.specs.declared.table.Role.{Role}
 use Rattle.cq_dict.specs.declared.table.Role.TheVariants.{Live, Dropped, Basic}
 use Rattle.cq_dict.specs.Roles.{IsAt, IsRow, IsOfOneKind, is_live, is_dropped, is_row, is_restricted, live_role, dropped_role, row_role, role_at, constant_in, constant_at, factor_in, factor_at}
+use Rattle.spec_lists.proofs.Tests.{nat_eq-self}
 
 pub at_one : (l : List Role) (i : ℕ) (s t : Role) → IsAt l i s → IsAt l i t → s ≡ t
 at_one [] i s t h k = absurd h
@@ -87,7 +88,7 @@ dropped_left l t c h = dropped_at (l ++ t ∷ []) c Dropped (at_left l c Dropped
 
 -- ---- numbers
 pub differs : (a b : ℕ) → nat_eq a b ≡ false → a ≡ b → ⊥
-differs a b e h = let f : nat_eq a b ≡ true = subst (λ z. nat_eq z b ≡ true) (sym h) (nat_eq_self b) in cc
+differs a b e h = let f : nat_eq a b ≡ true = subst (λ z. nat_eq z b ≡ true) (sym h) (nat_eq-self b) in cc
 
 pub equal_or_not : (a b : ℕ) → (a ≡ b) ⊎ (a ≡ b → ⊥)
 equal_or_not a b = go (nat_eq a b) refl

@@ -145,9 +145,6 @@ escaped_there r e c len w is stands small within over under size =
       },
     )
 
-top_small : (n g : ℕ) → nat_abs (divided (pos n) g) ≤ n
-top_small n g = div-le_self n g
-
 at_least_one : (x m : ℕ) → x ≤ m → 1 ≤ m → suc (pred x) ≤ m
 at_least_one zero m h k = k
 at_least_one (suc x) m h k = h
@@ -218,13 +215,6 @@ pub ends_go : (q s s' skip at b : ℕ) (c : Option ℕ) (rest tail : List ℕ) (
 ends_go q s s' skip at b c rest tail goal split none next follows before =
     ap (λ n. ends (quoted q n tail (at + 1))) next ∙ sym (ends_in_front c (quoted q skip tail (at + 1))) ∙ sym (ap ends (quoted_go q skip at b c rest tail split follows))
     ∙ ap (λ n. ends (quoted q n rest at)) (sym none) ∙ before
-
-pub ends_stop : (q s at : ℕ) (rest : List ℕ) (end goal : Result ℕ LexFault) → s ≡ 0 → Follows (Stop end) q rest at → ends (quoted q s rest at) ≡ goal → end ≡ goal
-ends_stop q s at rest end goal none follows before = sym (ends_closed end) ∙ ap ends (sym follows) ∙ ap (λ n. ends (quoted q n rest at)) (sym none) ∙ before
-
-pub text_stop : (out : List ℕ) (q s at : ℕ) (rest : List ℕ) (end : Result ℕ LexFault) (goal : Result Quoted LexFault) (held : Quoted) → s ≡ 0 → Follows (Stop end) q rest at → behind out (quoted q s rest at) ≡ goal → goal ≡ Ok held → out ≡ held.text
-text_stop out q s at rest end goal held none follows before is =
-    stops_with out end held (ap (behind out) (sym follows) ∙ ap (λ n. behind out (quoted q n rest at)) (sym none) ∙ before ∙ is)
 
 take_all : (n : ℕ) (xs : List ℕ) → length xs ≤ n → take n xs ≡ xs
 take_all zero [] h = refl

@@ -114,11 +114,6 @@ entry_fits priority kind most op e = by (nat_eq priority 0) refl e
 fit-change : (position : Position) (operators : FinMap nat_cmp OpDef) (name : ℕ) (new : Option OpDef) → AllFit position operators → ((op : OpDef) → new ≡ Some op → Fits position op) → AllFit position (change operators name new)
 fit-change position operators name new fit fresh = record { each = each-change (λ q op. Fits position op) operators name new fit.each fresh }
 
-pub fit-put_number : (position : Position) (tables : Tables) (name : ℕ) (new : Option OpDef) → AreFit tables → ((op : OpDef) → new ≡ Some op → Fits position op) → AreFit (put_number_at position tables name new)
-fit-put_number Prefix tables name new fit fresh = record { prefix = fit-change Prefix tables.prefix name new fit.prefix fresh; infixed = fit.infixed; postfix = fit.postfix }
-fit-put_number Infix tables name new fit fresh = record { prefix = fit.prefix; infixed = fit-change Infix tables.infixed name new fit.infixed fresh; postfix = fit.postfix }
-fit-put_number Postfix tables name new fit fresh = record { prefix = fit.prefix; infixed = fit.infixed; postfix = fit-change Postfix tables.postfix name new fit.postfix fresh }
-
 below-change : (count : ℕ) (operators : FinMap nat_cmp OpDef) (name : ℕ) (new : Option OpDef) → name < count → AllBelow count operators → AllBelow count (change operators name new)
 below-change count operators name new lt below = record { each = each-change (λ q op. q < count) operators name new below.each (λ op e. lt) }
 

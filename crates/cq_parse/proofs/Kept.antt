@@ -14,14 +14,12 @@ use Rattle.cq_parse.specs.declared.frames.Frame.{Frame}
 use Rattle.cq_parse.specs.declared.frames.Frame.TheVariants as frame
 use Rattle.spec_lists.specs.Prefixes.{IsPrefix}
 use Rattle.cq_parse.specs.Views.{OnlyGrows, tree, trees, frame_of, frames_of, IsLiveFrame, AreLive}
+use Rattle.spec_lists.proofs.Tests.{le_true}
 
 -- ---- the heap
 
 pub prefix_both : (ts us vs : List HeapTerm) → IsPrefix ts us → IsPrefix us vs → IsPrefix ts vs
 prefix_both ts us vs p q = (p.0 ++ q.0, q.1 ∙ ap (λ xs. xs ++ q.0) p.1 ∙ append_assoc ts p.0 q.0)
-
-pub grows_not : (h : HeapValue) → OnlyGrows h h
-grows_not h = record { terms = ([], sym (append-nil h.now.terms)); images = refl; saved = refl; room = omega arith }
 
 pub grows_both : (g h k : HeapValue) → OnlyGrows g h → OnlyGrows h k → OnlyGrows g k
 grows_both g h k p q = record {
@@ -99,6 +97,3 @@ frames_push texts ts fs f = ap reverse (map-append (frame_of texts ts) fs (f ∷
 
 pub trees_push : (texts : List Text) (ts : List HeapTerm) (ids : List ℕ) (id : ℕ) → trees texts ts (ids ++ id ∷ []) ≡ tree texts ts id ∷ trees texts ts ids
 trees_push texts ts ids id = ap reverse (map-append (tree texts ts) ids (id ∷ [])) ∙ reverse-append (map (tree texts ts) ids) (tree texts ts id ∷ [])
-
-pub is_low : (x m : ℕ) → x ≤ m → nat_le x m ≡ true
-is_low x m e = grind (arith, nat_tests)

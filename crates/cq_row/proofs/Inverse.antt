@@ -4,7 +4,7 @@ use Rattle.spec_rational.specs.Rational.{ℚ, 0ℚ, 1ℚ, denominator, ratio, in
 use Rattle.spec_rational.proofs.Ring.{var, int, ◌⊗◌, minus}
 use Rattle.spec_rational.proofs.IntRing.{ring_ℤ}
 use Rattle.spec_rational.proofs.Rational.{ring, ratio-mul, ratio_same, ratio_back}
-use Rattle.spec_rational.proofs.Sign.{not_pos_zero, pos_one}
+use Rattle.spec_rational.proofs.Sign.{not_pos_zero, pos_one, one_not_zero, inverse_not_zero}
 
 own_inverse : (n : ℤ) (d : ℕ) → 0 < d → (n ≡ pos 0 → ⊥) → ratio n d *ℚ inverted n d ≡ 1ℚ
 unfolding int_ℚ
@@ -35,9 +35,3 @@ num_not_zero p n e =
 pub times_inverse : (p : ℚ) → (p ≡ 0ℚ → ⊥) → p *ℚ inv_ℚ p ≡ 1ℚ
 unfolding inv_ℚ
 times_inverse p n = ap (λ q. q *ℚ inverted p.numerator (denominator p)) (sym (ratio_back p)) ∙ own_inverse p.numerator (denominator p) (omega arith) (num_not_zero p n)
-
-pub one_not_zero : 1ℚ ≡ 0ℚ → ⊥
-one_not_zero e = not_pos_zero (subst IsPositive e pos_one)
-
-pub inverse_not_zero : (p : ℚ) → (p ≡ 0ℚ → ⊥) → inv_ℚ p ≡ 0ℚ → ⊥
-inverse_not_zero p n e = one_not_zero (sym (times_inverse p n) ∙ ap (λ q. p *ℚ q) e ∙ ring (p ∷ []) (var 0 ⊗ int (pos 0)) (int (pos 0)) refl)

@@ -9,10 +9,11 @@ use Rattle.cq_row.specs.declared.Joining.TheVariants.{Less}
 use Rattle.cq_row.specs.Row.{Row}
 use Rattle.cq_row.specs.Rows.{sum_at, IsRowFrom, everywhere, Has, Lacks, choose, unit, except, negated, others}
 use Rattle.cq_row.specs.Numbers.{IsOver, IsJoined, also, IsEntered, IsShifted, IsDropped, IsRestored}
-use Rattle.cq_row.proofs.Units.{row_weaker, row_negated, row_others, sum_at-negated, sum_at-others, nat_eq_self, except_true, except_below, negated_has, others_has, at_unit}
+use Rattle.cq_row.proofs.Units.{row_weaker, row_negated, row_others, sum_at-negated, sum_at-others, except_true, except_below, negated_has, others_has, at_unit}
+use Rattle.spec_lists.proofs.Tests.{nat_eq-self}
 
 pub also_self : (c : ℕ) (p : ℕ → Bool) → also c p c ≡ true
-also_self c p = ap (λ b. choose b true (p c)) (nat_eq_self c)
+also_self c p = ap (λ b. choose b true (p c)) (nat_eq-self c)
 
 pub also_more : (c : ℕ) (p : ℕ → Bool) (y : ℕ) → p y ≡ true → also c p y ≡ true
 also_more c p y h = go (nat_eq y c)

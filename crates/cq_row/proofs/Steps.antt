@@ -6,7 +6,8 @@ use Rattle.cq_frac.specs.Refused.{Refuses}
 use Rattle.cq_frac.specs.declared.Operation.TheVariants.{Product, Quotient}
 use Rattle.cq_row.specs.declared.Entry.{Entry}
 use Rattle.cq_row.specs.Rows.{Has, Lacks, times, over, negated, others, choose, NoProductPair, NoQuotientPair}
-use Rattle.cq_row.proofs.Units.{nat_eq_self, nat_eq_other}
+use Rattle.spec_lists.proofs.Tests.{nat_eq-self, nat_eq-apart}
+use Rattle.spec_lists.proofs.Places.{take-next}
 
 over-end : (p : ℚ) (xs : List Entry) (m : Entry) → over p (xs ++ m ∷ []) ≡ over p xs ++ record { quantity = m.quantity; factor = m.factor /ℚ p } ∷ []
 over-end p [] m = refl
@@ -36,33 +37,30 @@ has_at [] i m l e = absurd (omega arith)
 has_at (x ∷ xs) zero m l e = inl e
 has_at (x ∷ xs) (suc i) m l e = inr (has_at xs i m (omega arith) e)
 
-more : (xs : List Entry) (i : ℕ) (m : Entry) → i < length xs → m ≡ get_or xs i m → take (i + 1) xs ≡ take i xs ++ m ∷ []
-more xs i m l e = take_more xs i m l ∙ ap (λ x. take i xs ++ x ∷ []) (sym e)
-
 module _ (xs done next : List Entry) (i : ℕ) (m : Entry) (q : ℚ) (l : i < length xs) (e : m ≡ get_or xs i m) (f : next ≡ done ++ record { quantity = m.quantity; factor = q } ∷ []) where
   pub over_more : (p : ℚ) → done ≡ over p (take i xs) → q ≡ m.factor /ℚ p → next ≡ over p (take (i + 1) xs)
   over_more p h g =
-      f ∙ ap₂ (λ s r. s ++ record { quantity = m.quantity; factor = r } ∷ []) h g ∙ sym (over-end p (take i xs) m) ∙ ap (over p) (sym (more xs i m l e))
+      f ∙ ap₂ (λ s r. s ++ record { quantity = m.quantity; factor = r } ∷ []) h g ∙ sym (over-end p (take i xs) m) ∙ ap (over p) (sym (take-next xs i m l e))
 
   pub negated_more : done ≡ negated (take i xs) → q ≡ neg_ℚ m.factor → next ≡ negated (take (i + 1) xs)
   negated_more h g =
-      f ∙ ap₂ (λ s r. s ++ record { quantity = m.quantity; factor = r } ∷ []) h g ∙ sym (negated-end (take i xs) m) ∙ ap negated (sym (more xs i m l e))
+      f ∙ ap₂ (λ s r. s ++ record { quantity = m.quantity; factor = r } ∷ []) h g ∙ sym (negated-end (take i xs) m) ∙ ap negated (sym (take-next xs i m l e))
 
 module _ (c : ℕ) (xs done : List Entry) (i : ℕ) (m : Entry) (l : i < length xs) (e : m ≡ get_or xs i m) (h : done ≡ others c (take i xs)) where
   pub others_skip : m.quantity ≡ c → done ≡ others c (take (i + 1) xs)
   others_skip z =
-      let f : nat_eq m.quantity c ≡ true = subst (λ t. nat_eq t c ≡ true) (sym z) (nat_eq_self c) in
+      let f : nat_eq m.quantity c ≡ true = subst (λ t. nat_eq t c ≡ true) (sym z) (nat_eq-self c) in
       let g : others c (m ∷ []) ≡ [] = ap (λ b. choose b [] (m ∷ [])) f in
-      h ∙ sym (append-nil (others c (take i xs))) ∙ ap (λ s. others c (take i xs) ++ s) (sym g) ∙ sym (others-end c (take i xs) m) ∙ ap (others c) (sym (more xs i m l e))
+      h ∙ sym (append-nil (others c (take i xs))) ∙ ap (λ s. others c (take i xs) ++ s) (sym g) ∙ sym (others-end c (take i xs) m) ∙ ap (others c) (sym (take-next xs i m l e))
 
   pub others_more : (next : List Entry) → (m.quantity ≡ c → ⊥) → next ≡ done ++ m ∷ [] → next ≡ others c (take (i + 1) xs)
   others_more next z f =
-      let g : others c (m ∷ []) ≡ m ∷ [] = ap (λ b. choose b [] (m ∷ [])) (nat_eq_other m.quantity c z) in
-      f ∙ ap (λ s. s ++ m ∷ []) h ∙ ap (λ s. others c (take i xs) ++ s) (sym g) ∙ sym (others-end c (take i xs) m) ∙ ap (others c) (sym (more xs i m l e))
+      let g : others c (m ∷ []) ≡ m ∷ [] = ap (λ b. choose b [] (m ∷ [])) (nat_eq-apart m.quantity c z) in
+      f ∙ ap (λ s. s ++ m ∷ []) h ∙ ap (λ s. others c (take i xs) ++ s) (sym g) ∙ sym (others-end c (take i xs) m) ∙ ap (others c) (sym (take-next xs i m l e))
 
 pub no_quotient_more : (xs : List Entry) (i : ℕ) (m : Entry) (k : ℚ) → i < length xs → m ≡ get_or xs i m → NoQuotientPair (take i xs) k → (Refuses Quotient m.factor k → ⊥) → NoQuotientPair (take (i + 1) xs) k
 no_quotient_more xs i m k l e h n = λ y w r.
-    elim (has_end (take i xs) y m (subst (Has y) (more xs i m l e) w)) [
+    elim (has_end (take i xs) y m (subst (Has y) (take-next xs i m l e) w)) [
       | inl z ↦ h y z r
       | inr z ↦ n (subst (λ (t : Entry). Refuses Quotient t.factor k) z r)
     ]
@@ -99,10 +97,3 @@ drop-times k (x ∷ s) zero = refl
 drop-times k (x ∷ s) (suc j) = drop-times k s j
 
 -- ---- a search
-
-pub lacks_more : (c : ℕ) (xs : List Entry) (i : ℕ) (m : Entry) → i < length xs → m ≡ get_or xs i m → Lacks c (take i xs) → (m.quantity ≡ c → ⊥) → Lacks c (take (i + 1) xs)
-lacks_more c xs i m l e h z n k =
-    elim (has_end (take i xs) n m (subst (Has n) (more xs i m l e) k)) [
-      | inl w ↦ h n w
-      | inr w ↦ (λ y. z (ap (λ (t : Entry). t.quantity) (sym w) ∙ y))
-    ]

@@ -3,10 +3,10 @@ use Rattle.std.proofs.Common.{◌≡◌, ℕ, ◌+◌, ◌<◌, ◌≤◌, List,
 use Rattle.spec_rational.specs.Rational.{ℚ, 0ℚ, 1ℚ, inv_ℚ, neg_ℚ, ◌+ℚ◌, ◌-ℚ◌, ◌*ℚ◌}
 use Rattle.spec_rational.proofs.Ring.{var, int, ◌⊕◌, ◌⊗◌, minus}
 use Rattle.spec_rational.proofs.Rational.{ring}
-use Rattle.spec_rational.proofs.Sign.{product_zero}
+use Rattle.spec_rational.proofs.Sign.{product_zero, inverse_not_zero}
 use Rattle.cq_row.specs.declared.Entry.{Entry}
 use Rattle.cq_row.specs.Rows.{sum_at, IsRowFrom, Has, Lacks, times, over, negated, others, unit, except, choose}
-use Rattle.cq_row.proofs.Inverse.{inverse_not_zero}
+use Rattle.spec_lists.proofs.Tests.{nat_eq-self, nat_eq-apart}
 
 -- ---- rows of multiples
 
@@ -44,29 +44,23 @@ row_weaker p q lo (m ∷ s) w r = (r.0, w m.quantity r.1, r.2, row_weaker p q (m
 pub same_number : (x y : ℕ) → nat_eq x y ≡ true → x ≡ y
 same_number x y e = eqb→eq x y (subst T (sym e) tt)
 
-pub nat_eq_self : (x : ℕ) → nat_eq x x ≡ true
-nat_eq_self x = grind arith
-
-pub nat_eq_other : (x y : ℕ) → (x ≡ y → ⊥) → nat_eq x y ≡ false
-nat_eq_other x y n = grind arith
-
 pub except_true : (c y : ℕ) (p : ℕ → Bool) → (y ≡ c → ⊥) → p y ≡ true → except c p y ≡ true
-except_true c y p n h = ap (λ b. choose b false (p y)) (nat_eq_other y c n) ∙ h
+except_true c y p n h = ap (λ b. choose b false (p y)) (nat_eq-apart y c n) ∙ h
 
 pub except_below : (c y : ℕ) (p : ℕ → Bool) → except c p y ≡ true → (p y ≡ true) × (y ≡ c → ⊥)
 except_below c y p h = go (nat_eq y c) refl h
   where
     go : (b : Bool) → nat_eq y c ≡ b → choose b false (p y) ≡ true → (p y ≡ true) × (y ≡ c → ⊥)
     go true e k = cc
-    go false e k = (k, (λ z. let f : nat_eq y c ≡ true = subst (λ t. nat_eq t c ≡ true) (sym z) (nat_eq_self c) in cc))
+    go false e k = (k, (λ z. let f : nat_eq y c ≡ true = subst (λ t. nat_eq t c ≡ true) (sym z) (nat_eq-self c) in cc))
 
 -- ---- what a row has at a column
 
 pub unit_self : (c : ℕ) → unit c c ≡ 1ℚ
-unit_self c = ap (λ b. choose b 1ℚ 0ℚ) (nat_eq_self c)
+unit_self c = ap (λ b. choose b 1ℚ 0ℚ) (nat_eq-self c)
 
 pub unit_other : (c y : ℕ) → (y ≡ c → ⊥) → unit c y ≡ 0ℚ
-unit_other c y n = ap (λ b. choose b 1ℚ 0ℚ) (nat_eq_other y c n)
+unit_other c y n = ap (λ b. choose b 1ℚ 0ℚ) (nat_eq-apart y c n)
 
 pub no_entry : (c : ℕ) (s : List Entry) → Lacks c s → sum_at (unit c) s ≡ 0ℚ
 no_entry c [] h = refl
@@ -156,4 +150,4 @@ row_others p lo c (m ∷ s) r = go (nat_eq m.quantity c) refl (row_others p (m.q
   where
     go : (b : Bool) → nat_eq m.quantity c ≡ b → IsRowFrom (except c p) (m.quantity + 1) (others c s) → IsRowFrom (except c p) lo (choose b (others c s) (m ∷ others c s))
     go true e k = row_lower (except c p) (m.quantity + 1) lo (others c s) (omega (arith, r.0)) k
-    go false e k = (r.0, except_true c m.quantity p (λ z. let f : nat_eq m.quantity c ≡ true = subst (λ t. nat_eq t c ≡ true) (sym z) (nat_eq_self c) in cc) r.1, r.2, k)
+    go false e k = (r.0, except_true c m.quantity p (λ z. let f : nat_eq m.quantity c ≡ true = subst (λ t. nat_eq t c ≡ true) (sym z) (nat_eq-self c) in cc) r.1, r.2, k)

@@ -23,7 +23,9 @@ use Rattle.cq_store.specs.Describes.{placed}
 use Rattle.cq_store.specs.Contents.{Named, AreNamed, variables_of, place_of}
 use Rattle.cq_store.specs.Told.{new_variables}
 use Rattle.cq_store.specs.Entering.{AddsVariables, none_added, one_added, AddsMember}
-use Rattle.cq_store.proofs.Telling.{fresh, is_among, among_is, has_fresh, fresh_or_old, mentions-variables, variables-mention, added_order}
+use Rattle.cq_store.proofs.Telling.{fresh, is_among, among_is, has_fresh, fresh_or_old, variables-mention, added_order}
+use Rattle.spec_lists.proofs.Places.{take-next}
+use Rattle.spec_echelon.proofs.Orders.{mentions-has}
 
 -- ---- tests of options
 
@@ -45,12 +47,9 @@ placed-end : (place : Quantity → ℕ) (s : List Monomial) (m : Monomial) → p
 placed-end place [] m = refl
 placed-end place (n ∷ s) m = ap (λ t. record { quantity = place (variable n.variable); factor = n.factor } ∷ t) (placed-end place s m)
 
-more : (s : List Entry) (i : ℕ) (p : Entry) → i < length s → p ≡ get_or s i p → take (i + 1) s ≡ take i s ++ p ∷ []
-more s i p l e = take_more s i p l ∙ ap (λ x. take i s ++ x ∷ []) (sym e)
-
 pub placed_more : (place : Quantity → ℕ) (s : List Entry) (i : ℕ) (p : Entry) → i < length s → p ≡ get_or s i p →
     placed place (products_of (take (i + 1) s)) ≡ placed place (products_of (take i s)) ++ record { quantity = place (variable p.quantity); factor = p.factor } ∷ []
-placed_more place s i p l e = ap (λ t. placed place (products_of t)) (more s i p l e) ∙ ap (placed place) (products-end (take i s) p) ∙ placed-end place (products_of (take i s)) (record { variable = p.quantity; factor = p.factor })
+placed_more place s i p l e = ap (λ t. placed place (products_of t)) (take-next s i p l e) ∙ ap (placed place) (products-end (take i s) p) ∙ placed-end place (products_of (take i s)) (record { variable = p.quantity; factor = p.factor })
 
 pub mention_at : (s : List Entry) (i : ℕ) (p : Entry) → i < length s → p ≡ get_or s i p → Mentions p.quantity (products_of s)
 mention_at [] i p l e = absurd (omega arith)
@@ -74,7 +73,7 @@ variables-end [] m = refl
 variables-end (n ∷ s) m = ap (λ t. n.variable ∷ t) (variables-end s m)
 
 variables_more : (s : List Entry) (i : ℕ) (p : Entry) → i < length s → p ≡ get_or s i p → variables (products_of (take (i + 1) s)) ≡ variables (products_of (take i s)) ++ p.quantity ∷ []
-variables_more s i p l e = ap (λ t. variables (products_of t)) (more s i p l e) ∙ ap variables (products-end (take i s) p) ∙ variables-end (products_of (take i s)) (record { variable = p.quantity; factor = p.factor })
+variables_more s i p l e = ap (λ t. variables (products_of t)) (take-next s i p l e) ∙ ap variables (products-end (take i s) p) ∙ variables-end (products_of (take i s)) (record { variable = p.quantity; factor = p.factor })
 
 fresh-new : (order xs : List ℕ) (x : ℕ) → (Has x order → ⊥) → fresh order (xs ++ x ∷ []) ≡ fresh order xs ++ x ∷ []
 fresh-new order [] x n = last (list_any (nat_eq x) order) (λ e. n (among_is x order e))
@@ -128,7 +127,7 @@ adds_none old = none_added
 pub known_after : (old known : Named) (f : Linear) → AddsVariables old (new_variables (variables_of old.names) f) known → (x : ℕ) → Mentions x f.products → Has x (variables_of known.names)
 known_after old known f a x m =
     subst (Has x) (sym (added_order old known _ a))
-    (elim (fresh_or_old (variables_of old.names) (variables f.products) x (mentions-variables x f.products m)) [
+    (elim (fresh_or_old (variables_of old.names) (variables f.products) x (mentions-has x f.products m)) [
       | inl k ↦ has_left x (variables_of old.names) (new_variables (variables_of old.names) f) k
       | inr k ↦ has_right x (variables_of old.names) (new_variables (variables_of old.names) f) k
     ])

@@ -11,7 +11,7 @@ use Rattle.spec_limits.specs.Dictionary.{Quantity, variable, member, member_at, 
 use Rattle.cq_row.specs.Row.{Row}
 use Rattle.cq_row.specs.Rows as row
 use Rattle.cq_row.specs.Numbers.{IsOver}
-use Rattle.cq_row.proofs.Units.{nat_eq_self, same_number, row_weaker}
+use Rattle.cq_row.proofs.Units.{same_number, row_weaker}
 use Rattle.cq_dict.specs.declared.table.Role.{Role}
 use Rattle.cq_dict.specs.declared.table.Role.TheVariants.{Live, Dropped, Basic}
 use Rattle.cq_dict.specs.Roles.{IsAt, is_live, is_dropped, AreOverColumns, IsMet, Expresses, IsEliminated}
@@ -21,6 +21,7 @@ use Rattle.cq_store.proofs.Roles.{at_append, append_back}
 use Rattle.cq_dict.proofs.Free.{free, sum_agrees, same_numbers}
 use Rattle.cq_store.proofs.Dictionary.{has_either}
 use Rattle.cq_store.proofs.Causes.{placed_sum}
+use Rattle.spec_lists.proofs.Tests.{nat_eq-self}
 
 -- the kinds after a row and a column are exchanged, and the row's quantity, now a column, is dropped
 pub record IsTurned (roles : List Role) (row column : ℕ) (new : List Role) : Type 0 where
@@ -38,7 +39,7 @@ same_or_not i j = go (nat_eq i j) refl
   where
     go : (b : Bool) → nat_eq i j ≡ b → (i ≡ j) ⊎ (i ≡ j → ⊥)
     go true e = inl (same_number i j e)
-    go false e = inr (λ z. let t : nat_eq i j ≡ true = subst (λ k. nat_eq k j ≡ true) (sym z) (nat_eq_self j) in cc)
+    go false e = inr (λ z. let t : nat_eq i j ≡ true = subst (λ k. nat_eq k j ≡ true) (sym z) (nat_eq-self j) in cc)
 
 pub turned_is : (roles new : List Role) (n c : ℕ) (own : Row) → IsAt roles n (Basic own) → IsAt roles c Live → IsEliminated roles n c new → IsTurned roles n c new
 turned_is roles new n c own at_row at_column e = record {
@@ -115,7 +116,7 @@ which l f asked (member i) h = go (nat_eq i (length l)) refl
     go : (b : Bool) → nat_eq i (length l) ≡ b → Which l f asked (member i)
     go true e = new (ap member (same_number i (length l) e))
     go false e =
-        let n : i ≡ length l → ⊥ = λ z. let t : nat_eq i (length l) ≡ true = subst (λ k. nat_eq k (length l) ≡ true) (sym z) (nat_eq_self (length l)) in cc in
+        let n : i ≡ length l → ⊥ = λ z. let t : nat_eq i (length l) ≡ true = subst (λ k. nat_eq k (length l) ≡ true) (sym z) (nat_eq-self (length l)) in cc in
         old (λ z. let w : i ≡ length l = cc in n w) (omega (arith, h, n, length-append l (record { relation = Eq; form = f } ∷ [])))
 
 pub kept : (l : List Constraint) (f : Linear) (asked : List Linear) (q : Quantity) → IsQuantity l (f ∷ asked) q → IsQuantity (with_equation l f) asked q

@@ -9,7 +9,6 @@ use Rattle.cq_frac.specs.declared.VarId.{VarId}
 use Rattle.cq_row.specs.declared.Entry.{Entry}
 use Rattle.cq_row.specs.Row.{Row}
 use Rattle.cq_row.specs.Rows.{IsRowFrom, sum_at}
-use Rattle.cq_row.proofs.Units.{nat_eq_other}
 use Rattle.cq_dict.specs.declared.table.Role.{Role}
 use Rattle.cq_dict.specs.declared.table.Role.TheVariants.{Live, Dropped, Basic}
 use Rattle.cq_dict.specs.Roles.{Quantities, IsAt, AreOverColumns, is_live, HasEntry, IsEliminated, Expresses}
@@ -31,6 +30,7 @@ use Rattle.cq_store.proofs.Joining.{turned_is, same_or_not}
 use Rattle.cq_store.proofs.Variables.{named_joins, has_end}
 use Rattle.cq_store.proofs.Numbers.{numbers_from-append}
 use Rattle.cq_store.proofs.Places.{named_below, unknown_unsolved, live_unsolved}
+use Rattle.spec_lists.proofs.Tests.{nat_eq-apart}
 
 pub eliminated_named : (t : Named) → AreNamed t → (r c : ℕ) → HasEntry t.roles r c → (new : List Role) → IsEliminated t.roles r c new → AreOverColumns new → AreNamed (record { names = t.names; roles = new })
 eliminated_named t a r c h new k table =
@@ -61,7 +61,7 @@ insert_absent : (eq : VarId → VarId → Bool) (x : VarId) (k : ℕ) → ((y : 
 insert_absent eq x k says n [] h = refl
 insert_absent eq x k says n (Member ∷ names) h = insert_absent eq x k says (n + 1) names h
 insert_absent eq x k says n (Variable y ∷ names) h =
-    ap (λ b. cond b ((y, k) ∷ numbers_from (n + 1) names) ((y, n) ∷ insert_entry eq (numbers_from (n + 1) names) x k)) (says y ∙ nat_eq_other x.0 y.0 (λ e. h (inl e)))
+    ap (λ b. cond b ((y, k) ∷ numbers_from (n + 1) names) ((y, n) ∷ insert_entry eq (numbers_from (n + 1) names) x k)) (says y ∙ nat_eq-apart x.0 y.0 (λ e. h (inl e)))
     ∙ ap (λ s. (y, n) ∷ s) (insert_absent eq x k says (n + 1) names (λ m. h (inr m)))
 
 pub numbered_joins : (t : Named) → AreNamed t → (v : VarId) → (Has v.0 (variables_of t.names) → ⊥) → (eq : VarId → VarId → Bool) → ((y : VarId) → eq v y ≡ nat_eq v.0 y.0) → (n : ℕ) → n ≡ length t.roles → (entries : List (VarId × ℕ)) → entries ≡ numbers_from 0 t.names →

@@ -6,12 +6,13 @@ use Rattle.cq_frac.specs.declared.VarId.{VarId}
 use Rattle.cq_row.specs.declared.Entry.{Entry}
 use Rattle.cq_row.specs.Rows.{choose, IsRowFrom, everywhere}
 use Rattle.cq_row.specs.Rows as row
-use Rattle.cq_row.proofs.Units.{nat_eq_self, nat_eq_other, same_number}
+use Rattle.cq_row.proofs.Units.{same_number}
 use Rattle.cq_dict.specs.declared.table.Role.{Role}
 use Rattle.cq_dict.specs.Roles.{IsAt}
 use Rattle.cq_store.specs.declared.table.Name.{Name}
 use Rattle.cq_store.specs.declared.table.Name.TheVariants.{Variable, Member}
 use Rattle.cq_store.specs.Contents.{IsNamed, variables_of, place_of_variable, place_of_member, members_in}
+use Rattle.spec_lists.proofs.Tests.{nat_eq-self, nat_eq-apart}
 
 -- ---- roles as reads of the list
 
@@ -40,7 +41,7 @@ place_named (Variable v ∷ names) x h = go (λ k. place_named names x k) (nat_e
     go : (Has x (variables_of names) → (w : VarId) × IsNamed names (place_of_variable names x) w × (w.0 ≡ x)) → (b : Bool) → nat_eq v.0 x ≡ b → (x ≡ v.0) ⊎ Has x (variables_of names) →
         (w : VarId) × IsNamed (Variable v ∷ names) (choose b 0 (suc (place_of_variable names x))) w × (w.0 ≡ x)
     go rest true e k = (v, record { get = refl }, same_number v.0 x e)
-    go rest false e (inl w) = let f : nat_eq v.0 x ≡ true = subst (λ k. nat_eq v.0 k ≡ true) (sym w) (nat_eq_self v.0) in cc
+    go rest false e (inl w) = let f : nat_eq v.0 x ≡ true = subst (λ k. nat_eq v.0 k ≡ true) (sym w) (nat_eq-self v.0) in cc
     go rest false e (inr k) = let r = rest k in (r.0, record { get = r.1.get }, r.2)
 
 pub place_below : (names : List Name) (x : ℕ) → Has x (variables_of names) → place_of_variable names x < length names
@@ -50,14 +51,14 @@ place_below (Variable v ∷ names) x h = go (λ k. place_below names x k) (nat_e
   where
     go : (Has x (variables_of names) → place_of_variable names x < length names) → (b : Bool) → nat_eq v.0 x ≡ b → (x ≡ v.0) ⊎ Has x (variables_of names) → choose b 0 (suc (place_of_variable names x)) < suc (length names)
     go rest true e k = omega arith
-    go rest false e (inl w) = let f : nat_eq v.0 x ≡ true = subst (λ k. nat_eq v.0 k ≡ true) (sym w) (nat_eq_self v.0) in cc
+    go rest false e (inl w) = let f : nat_eq v.0 x ≡ true = subst (λ k. nat_eq v.0 k ≡ true) (sym w) (nat_eq-self v.0) in cc
     go rest false e (inr k) = omega (arith, rest k)
 
 pub place_absent : (names : List Name) (x : ℕ) → (Has x (variables_of names) → ⊥) → place_of_variable names x ≡ length names
 place_absent [] x h = refl
 place_absent (Member ∷ names) x h = omega (arith, place_absent names x h)
 place_absent (Variable v ∷ names) x h =
-    ap (λ b. choose b 0 (suc (place_of_variable names x))) (nat_eq_other v.0 x (λ e. h (inl (sym e))))
+    ap (λ b. choose b 0 (suc (place_of_variable names x))) (nat_eq-apart v.0 x (λ e. h (inl (sym e))))
     ∙ ap suc (place_absent names x (λ k. h (inr k)))
 
 pub has_or_not : (x : ℕ) (s : List ℕ) → Has x s ⊎ (Has x s → ⊥)
@@ -67,7 +68,7 @@ has_or_not x (y ∷ s) = go (nat_eq x y) refl (has_or_not x s)
     go : (b : Bool) → nat_eq x y ≡ b → Has x s ⊎ (Has x s → ⊥) → Has x (y ∷ s) ⊎ (Has x (y ∷ s) → ⊥)
     go true e r = inl (inl (same_number x y e))
     go false e (inl h) = inl (inr h)
-    go false e (inr n) = inr (λ h. elim h [ inl w ↦ let f : nat_eq x y ≡ true = subst (λ k. nat_eq x k ≡ true) w (nat_eq_self x) in cc | inr k ↦ n k ])
+    go false e (inr n) = inr (λ h. elim h [ inl w ↦ let f : nat_eq x y ≡ true = subst (λ k. nat_eq x k ≡ true) w (nat_eq-self x) in cc | inr k ↦ n k ])
 
 pub named_has : (names : List Name) (n : ℕ) (v : VarId) → IsNamed names n v → Has v.0 (variables_of names)
 named_has [] n v h = let e = h.get in cc
@@ -81,10 +82,10 @@ pub named_place : (names : List Name) (n : ℕ) (v : VarId) → AreDistinct (var
 named_place [] n v d h = let e = h.get in cc
 named_place (Member ∷ names) zero v d h = let e = h.get in cc
 named_place (Member ∷ names) (suc n) v d h = ap suc (named_place names n v d (record { get = h.get }))
-named_place (Variable w ∷ names) zero v d h = let e = h.get in let f : w ≡ v = cc in ap (λ b. choose b 0 (suc (place_of_variable names v.0))) (subst (λ (y : VarId). nat_eq w.0 y.0 ≡ true) f (nat_eq_self w.0))
+named_place (Variable w ∷ names) zero v d h = let e = h.get in let f : w ≡ v = cc in ap (λ b. choose b 0 (suc (place_of_variable names v.0))) (subst (λ (y : VarId). nat_eq w.0 y.0 ≡ true) f (nat_eq-self w.0))
 named_place (Variable w ∷ names) (suc n) v d h =
     let k = named_has names n v (record { get = h.get }) in
-    ap (λ b. choose b 0 (suc (place_of_variable names v.0))) (nat_eq_other w.0 v.0 (λ e. d.0 (subst (λ y. Has y (variables_of names)) (sym e) k)))
+    ap (λ b. choose b 0 (suc (place_of_variable names v.0))) (nat_eq-apart w.0 v.0 (λ e. d.0 (subst (λ y. Has y (variables_of names)) (sym e) k)))
     ∙ ap suc (named_place names n v d.1 (record { get = h.get }))
 
 -- ---- more names
@@ -110,14 +111,14 @@ place_more (Variable v ∷ l) m x h = go (λ k. place_more l m x k) (nat_eq v.0 
   where
     go : (Has x (variables_of l) → place_of_variable (l ++ m) x ≡ place_of_variable l x) → (b : Bool) → nat_eq v.0 x ≡ b → (x ≡ v.0) ⊎ Has x (variables_of l) → choose b 0 (suc (place_of_variable (l ++ m) x)) ≡ choose b 0 (suc (place_of_variable l x))
     go rest true e k = refl
-    go rest false e (inl w) = let f : nat_eq v.0 x ≡ true = subst (λ k. nat_eq v.0 k ≡ true) (sym w) (nat_eq_self v.0) in cc
+    go rest false e (inl w) = let f : nat_eq v.0 x ≡ true = subst (λ k. nat_eq v.0 k ≡ true) (sym w) (nat_eq-self v.0) in cc
     go rest false e (inr k) = ap suc (rest k)
 
 pub place_last : (l : List Name) (v : VarId) → (Has v.0 (variables_of l) → ⊥) → place_of_variable (l ++ Variable v ∷ []) v.0 ≡ length l
-place_last [] v h = ap (λ b. choose b 0 1) (nat_eq_self v.0)
+place_last [] v h = ap (λ b. choose b 0 1) (nat_eq-self v.0)
 place_last (Member ∷ l) v h = ap suc (place_last l v h)
 place_last (Variable w ∷ l) v h =
-    ap (λ b. choose b 0 (suc (place_of_variable (l ++ Variable v ∷ []) v.0))) (nat_eq_other w.0 v.0 (λ e. h (inl (sym e))))
+    ap (λ b. choose b 0 (suc (place_of_variable (l ++ Variable v ∷ []) v.0))) (nat_eq-apart w.0 v.0 (λ e. h (inl (sym e))))
     ∙ ap suc (place_last l v (λ k. h (inr k)))
 
 pub member_more : (l m : List Name) (i : ℕ) → i < members_in l → place_of_member (l ++ m) i ≡ place_of_member l i

@@ -5,13 +5,14 @@ use Rattle.indexmap.proofs.RemoveLemmas.{popped_last}
 use Rattle.std.specs.Map.{keys_of, lookup}
 use Rattle.spec_linear.specs.Solution.{Has}
 use Rattle.cq_row.specs.Rows.{choose}
-use Rattle.cq_row.proofs.Units.{nat_eq_self, nat_eq_other, same_number}
+use Rattle.cq_row.proofs.Units.{same_number}
 use Rattle.cq_frac.specs.declared.VarId.{VarId}
 use Rattle.cq_store.specs.declared.table.Name.{Name}
 use Rattle.cq_store.specs.declared.table.Name.TheVariants.{Variable, Member}
 use Rattle.cq_store.specs.Contents.{variables_of, place_of_variable}
 use Rattle.cq_store.specs.Numbered.{numbers_from}
 use Rattle.cq_store.specs.Told.{numbers_of}
+use Rattle.spec_lists.proofs.Tests.{nat_eq-self, nat_eq-apart}
 
 pub numbers-order : (n : ℕ) (names : List Name) → numbers_of (keys_of (numbers_from n names)) ≡ variables_of names
 numbers-order n [] = refl
@@ -47,16 +48,16 @@ lookup-numbers test x e n (Member ∷ names) = later (lookup test (numbers_from 
 lookup-numbers test x e n (Variable y ∷ names) = go (test y) (e y) (lookup test (numbers_from (n + 1) names)) (lookup-numbers test x e (n + 1) names)
   where
     other : nat_eq x y.0 ≡ false → (x ≡ y.0 → ⊥)
-    other f w = let g : nat_eq x y.0 ≡ true = subst (λ k. nat_eq x k ≡ true) w (nat_eq_self x) in cc
+    other f w = let g : nat_eq x y.0 ≡ true = subst (λ k. nat_eq x k ≡ true) w (nat_eq-self x) in cc
 
     swapped : nat_eq x y.0 ≡ false → choose (nat_eq y.0 x) 0 (suc (place_of_variable names x)) ≡ suc (place_of_variable names x)
-    swapped f = ap (λ b. choose b 0 (suc (place_of_variable names x))) (nat_eq_other y.0 x (λ w. other f (sym w)))
+    swapped f = ap (λ b. choose b 0 (suc (place_of_variable names x))) (nat_eq-apart y.0 x (λ w. other f (sym w)))
 
     go : (b : Bool) → b ≡ nat_eq x y.0 → (o : Option ℕ) → MatchOption o (Has x (variables_of names) → ⊥) (λ k. Has x (variables_of names) × (k ≡ (n + 1) + place_of_variable names x)) →
         MatchOption (cond b (Some n) o) ((x ≡ y.0) ⊎ Has x (variables_of names) → ⊥) (λ k. ((x ≡ y.0) ⊎ Has x (variables_of names)) × (k ≡ n + choose (nat_eq y.0 x) 0 (suc (place_of_variable names x))))
     go true f o h =
         let w : x ≡ y.0 = same_number x y.0 (sym f) in
-        (inl w, omega (arith, ap (λ b. choose b 0 (suc (place_of_variable names x))) (subst (λ k. nat_eq k x ≡ true) w (nat_eq_self x))))
+        (inl w, omega (arith, ap (λ b. choose b 0 (suc (place_of_variable names x))) (subst (λ k. nat_eq k x ≡ true) w (nat_eq-self x))))
     go false f None h = λ k. elim k [ inl w ↦ other (sym f) w | inr m ↦ h m ]
     go false f (Some k) h = (inr h.0, omega (arith, h.1, swapped (sym f)))
 

@@ -20,7 +20,7 @@ use Rattle.cq_row.specs.Row.{Row}
 use Rattle.cq_row.specs.Rows as row
 use Rattle.cq_row.specs.Rows.{IsRowFrom}
 use Rattle.cq_row.specs.Numbers.{right_side}
-use Rattle.cq_row.proofs.Units.{nat_eq_self, row_weaker, same_number}
+use Rattle.cq_row.proofs.Units.{row_weaker, same_number}
 use Rattle.cq_dict.specs.declared.table.Role.{Role}
 use Rattle.cq_dict.specs.declared.table.Role.TheVariants.{Live, Basic}
 use Rattle.cq_dict.specs.Roles.{is_live, AreOverColumns, IsMet, Expresses, FormPair, PivotPair, IsEliminated}
@@ -40,6 +40,8 @@ use Rattle.cq_store.proofs.Keeping.{keeps, keeps_solved, keeps_rows}
 use Rattle.cq_store.proofs.Behind.{reaches_still}
 use Rattle.cq_store.proofs.Solved.{forms_mention, mentioned_form, row_says}
 use Rattle.cq_store.proofs.Variables.{variable_joins, live_more}
+use Rattle.spec_lists.proofs.Tests.{nat_eq-self}
+use Rattle.spec_echelon.proofs.Orders.{mentions-has}
 
 -- ---- asked forms that make the same quantities
 
@@ -68,7 +70,7 @@ module _ (l : List Constraint) (asked asked' : List Linear) (roles : List Role) 
 
 pub is_among : (x : ℕ) (order : List ℕ) → Has x order → list_any (nat_eq x) order ≡ true
 is_among x [] h = absurd h
-is_among x (y ∷ order) (inl e) = first (nat_eq x y) (subst (λ k. nat_eq x k ≡ true) e (nat_eq_self x))
+is_among x (y ∷ order) (inl e) = first (nat_eq x y) (subst (λ k. nat_eq x k ≡ true) e (nat_eq-self x))
   where
     first : (b : Bool) → b ≡ true → (b || list_any (nat_eq x) order) ≡ true
     first true e = refl
@@ -109,11 +111,6 @@ fresh_or_old order (y ∷ xs) x h = go (list_any (nat_eq y) order) refl (λ k. f
     go true e rest (inr k) = rest k
     go false e rest (inl w) = inr (inl w)
     go false e rest (inr k) = elim (rest k) [ inl m ↦ inl m | inr m ↦ inr (inr m) ]
-
-pub mentions-variables : (x : ℕ) (s : List Monomial) → Mentions x s → Has x (variables s)
-mentions-variables x [] h = h
-mentions-variables x (m ∷ s) (inl e) = inl e
-mentions-variables x (m ∷ s) (inr h) = inr (mentions-variables x s h)
 
 pub variables-mention : (x : ℕ) (s : List Monomial) → Has x (variables s) → Mentions x s
 variables-mention x [] h = h

@@ -12,7 +12,7 @@ use Rattle.cq_frac.specs.declared.VarId.{VarId}
 use Rattle.cq_row.specs.Row.{Row}
 use Rattle.cq_row.specs.Rows.{choose}
 use Rattle.cq_row.specs.Numbers.{IsOver}
-use Rattle.cq_row.proofs.Units.{nat_eq_self, nat_eq_other, row_weaker}
+use Rattle.cq_row.proofs.Units.{row_weaker}
 use Rattle.cq_dict.specs.declared.table.Role.{Role}
 use Rattle.cq_dict.specs.declared.table.Role.TheVariants.{Live, Dropped, Basic}
 use Rattle.cq_dict.specs.Roles.{IsAt, is_live, is_dropped, IsMet}
@@ -25,16 +25,17 @@ use Rattle.cq_dict.proofs.Free.{sum_agrees}
 use Rattle.cq_store.proofs.Dictionary.{has_either}
 use Rattle.cq_store.proofs.Names.{named_more, named_last, place_more, place_last, member_more, variables_of-append, members_in-append}
 use Rattle.cq_store.proofs.Solved.{forms_mention, mentioned_form}
+use Rattle.spec_lists.proofs.Tests.{nat_eq-self, nat_eq-apart}
 
 -- the values of a, but q at x
 abbrev put : ℕ → ℚ → (ℕ → ℚ) → ℕ → ℚ
 put x q a y = choose (nat_eq y x) q (a y)
 
 put_self : (x : ℕ) (q : ℚ) (a : ℕ → ℚ) → put x q a x ≡ q
-put_self x q a = ap (λ b. choose b q (a x)) (nat_eq_self x)
+put_self x q a = ap (λ b. choose b q (a x)) (nat_eq-self x)
 
 put_other : (x : ℕ) (q : ℚ) (a : ℕ → ℚ) (y : ℕ) → (y ≡ x → ⊥) → put x q a y ≡ a y
-put_other x q a y n = ap (λ b. choose b q (a y)) (nat_eq_other y x n)
+put_other x q a y n = ap (λ b. choose b q (a y)) (nat_eq-apart y x n)
 
 pub has_end : (y : ℕ) (s : List ℕ) (x : ℕ) → Has y (s ++ x ∷ []) → Has y s ⊎ (y ≡ x)
 has_end y [] x (inl e) = inr e

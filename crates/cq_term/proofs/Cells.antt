@@ -6,7 +6,6 @@ use Rattle.std.proofs.lemmas.Option.{slice_get_within, none-some}
 use Rattle.spec_rational.specs.Rational.{ℚ, 0ℚ}
 use Rattle.spec_terms.specs.Term.{Var, Occurs, apply, single}
 use Rattle.spec_terms.proofs.Substitution.{occurs_from}
-use Rattle.cq_trail.proofs.Restore.{map_same}
 use Rattle.cq_term.specs.Built.{Built}
 use Rattle.cq_term.specs.Built as built
 use Rattle.cq_term.specs.Meaning.{HeapTerm, at, blank, raw_cell, meanings}
@@ -15,7 +14,8 @@ use Rattle.cq_term.specs.Layout.{Contents, read, all_built, meant, IsKept, IsClo
 use Rattle.cq_term.specs.declared.lists.Cell.{Cell}
 use Rattle.cq_term.specs.declared.lists.Cell.TheVariants as cell
 use Rattle.cq_term.proofs.Meanings.{at-append, length-meanings}
-use Rattle.cq_term.proofs.Kept.{get_push, meanings_cell, is_heap_cell, images_cell, is_heap_var, meanings_var, images_var, bind_heap, bind_terms, at-map-subst, empty_heap}
+use Rattle.cq_term.proofs.Kept.{meanings_cell, is_heap_cell, images_cell, is_heap_var, meanings_var, images_var, bind_heap, bind_terms, at-map-subst, empty_heap}
+use Rattle.spec_lists.proofs.Places.{map_same, get_push}
 
 -- longer lists beside the cells, by which each cell reads as before
 pub record Longer (x : Contents) (wide : List ℚ) (args : List ℕ) : Type 0 where

@@ -19,17 +19,7 @@ use Rattle.cq_term.specs.Built.{Built}
 use Rattle.cq_term.specs.Built as built
 use Rattle.cq_term.specs.declared.lists.Binding.{Binding}
 use Rattle.cq_term.proofs.Meanings.{raws_push, length-raws, after_push, length-meanings, at-append, map_at-append, map_at-map, after_more, subst-new, steps_left, left_at}
-
-pub get_push : {X : Type 0} (xs : List X) (y : X) (i : ℕ) (c : X) → slice_get (xs ++ y ∷ []) i ≡ Some c → (slice_get xs i ≡ Some c) ⊎ ((i ≡ length xs) × (y ≡ c))
-get_push [] y zero c h = inr (refl, same_Some y c h)
-get_push [] y (suc i) c h = absurd (none-some c h)
-get_push (x ∷ xs) y zero c h = inl h
-get_push (x ∷ xs) y (suc i) c h = elim (get_push xs y i c h) [ inl p ↦ inl p | inr q ↦ inr (ap suc q.0, q.1) ]
-
-pub get_kept : {X : Type 0} (xs ys : List X) (i : ℕ) (c : X) → slice_get xs i ≡ Some c → slice_get (xs ++ ys) i ≡ Some c
-get_kept [] ys i c h = absurd (none-some c h)
-get_kept (x ∷ xs) ys zero c h = h
-get_kept (x ∷ xs) ys (suc i) c h = get_kept xs ys i c h
+use Rattle.spec_lists.proofs.Places.{get_push, get_kept}
 
 pub get_last : {X : Type 0} (xs : List X) (y : X) → slice_get (xs ++ y ∷ []) (length xs) ≡ Some y
 get_last [] y = refl

@@ -7,7 +7,7 @@ use Rattle.std.proofs.lemmas.Option.{slice_get_within, none-some, same_Some}
 use Rattle.spec_rational.specs.Rational.{ℚ, int_ℚ, 0ℚ}
 use Rattle.spec_terms.specs.Term.{Var, Number, Name, Occurs, with_arguments}
 use Rattle.cq_trail.specs.Log.{restore}
-use Rattle.cq_trail.proofs.Restore.{map_same, get-drop, get_push, get_take, Within, length-restore, restore-append_right, restore-take-restore, restore_last}
+use Rattle.cq_trail.proofs.Restore.{Within, length-restore, restore-append_right, restore-take-restore, restore_last}
 use Rattle.cq_term.specs.Built.{Built}
 use Rattle.cq_term.specs.Built as built
 use Rattle.cq_term.specs.Meaning.{HeapTerm, at, raw_cell}
@@ -21,6 +21,7 @@ use Rattle.cq_term.proofs.Meanings.{length-meanings}
 use Rattle.cq_term.proofs.Arguments.{absent_with_arguments}
 use Rattle.cq_term.proofs.Kept.{all_to_below, var_unbound}
 use Rattle.cq_term.proofs.Cells.{Longer, longer_same, longer_wide, longer_args, read_new, with_cell, with_var, with_binding, whole_cell, meant_cell, images_more, whole_var, whole_binding, whole_new}
+use Rattle.spec_lists.proofs.Places.{get-drop, get_push, get_take, map_same}
 
 -- each binding is of a variable that is there
 abbrev pub AllThere : ℕ → List Binding → Type 0

@@ -5,32 +5,7 @@ use Rattle.std.proofs.lemmas.List.{set-append_left, set-set, set_comm, set-get_o
 use Rattle.std.proofs.lemmas.Option.{none-some, same_Some}
 use Rattle.std.proofs.lemmas.Bool.{cases_eq}
 use Rattle.cq_trail.specs.Log.{restore}
-
-pub get-drop : {X : Type 0} (n : ℕ) (xs : List X) (j : ℕ) → slice_get (drop n xs) j ≡ slice_get xs (n + j)
-get-drop zero xs j = ap (slice_get xs) (omega arith)
-get-drop (suc n) [] j = refl
-get-drop (suc n) (x ∷ xs) j = get-drop n xs j ∙ (let e : suc n + j ≡ suc (n + j) = omega arith in sym (ap (slice_get (x ∷ xs)) e))
-
-pub map_same : {X Y : Type 0} (f g : X → Y) (xs : List X) → ((k : ℕ) (x : X) → slice_get xs k ≡ Some x → f x ≡ g x) → map f xs ≡ map g xs
-map_same f g [] h = refl
-map_same f g (x ∷ xs) h = λ i. h 0 x refl i ∷ map_same f g xs (λ k y q. h (suc k) y q) i
-
-pub get_push : {X : Type 0} (xs : List X) (y : X) (i : ℕ) (c : X) → slice_get (xs ++ y ∷ []) i ≡ Some c → (slice_get xs i ≡ Some c) ⊎ ((i ≡ length xs) × (y ≡ c))
-get_push [] y zero c h = inr (refl, same_Some y c h)
-get_push [] y (suc i) c h = absurd (none-some c h)
-get_push (x ∷ xs) y zero c h = inl h
-get_push (x ∷ xs) y (suc i) c h = elim (get_push xs y i c h) [ inl p ↦ inl p | inr q ↦ inr (ap suc q.0, q.1) ]
-
-pub get_kept : {X : Type 0} (xs ys : List X) (i : ℕ) (c : X) → slice_get xs i ≡ Some c → slice_get (xs ++ ys) i ≡ Some c
-get_kept [] ys i c h = absurd (none-some c h)
-get_kept (x ∷ xs) ys zero c h = h
-get_kept (x ∷ xs) ys (suc i) c h = get_kept xs ys i c h
-
-pub get_take : {X : Type 0} (n k : ℕ) (ys : List X) (y : X) → slice_get (take n ys) k ≡ Some y → (slice_get ys k ≡ Some y) × (k < n)
-get_take zero k ys y e = absurd (none-some y e)
-get_take (suc n) k [] y e = absurd (none-some y e)
-get_take (suc n) zero (z ∷ ys) y e = (e, omega arith)
-get_take (suc n) (suc k) (z ∷ ys) y e = let r = get_take n k ys y e in (r.0, omega (arith, r.1))
+use Rattle.spec_lists.proofs.Places.{get-drop, get_push, get_kept, get_take, map_same}
 
 -- what lies from p on, before q and from q on
 pub drop-take-drop : {X : Type 0} (p q : ℕ) (xs : List X) → p ≤ q → drop p (take q xs) ++ drop q xs ≡ drop p xs

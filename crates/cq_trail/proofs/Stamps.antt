@@ -6,8 +6,9 @@ use Rattle.std.proofs.lemmas.Option.{none-some, same_Some, slice_get-get_or}
 use Rattle.std.proofs.lemmas.Bool.{cases_eq}
 use Rattle.cq_trail.specs.declared.trail.Entry.{Entry}
 use Rattle.cq_trail.specs.Log.{restore, old_values, old_stamps, places}
-use Rattle.cq_trail.proofs.Restore.{get-drop, get_kept, Within, Has, has_or_not, get_or-restore_apart, restore_last, drop-take-drop}
+use Rattle.cq_trail.proofs.Restore.{Within, Has, has_or_not, get_or-restore_apart, restore_last, drop-take-drop}
 use Rattle.std.proofs.Math.Seq.{drop-cons}
+use Rattle.spec_lists.proofs.Places.{get-drop, get_kept}
 
 module _ {T : Type 0} where
   abbrev pub EntriesWithin : ℕ → List (Entry T) → Type 0

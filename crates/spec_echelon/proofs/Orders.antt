@@ -31,10 +31,6 @@ mentions-has x [] h = h
 mentions-has x (m ∷ s) (inl e) = inl e
 mentions-has x (m ∷ s) (inr h) = inr (mentions-has x s h)
 
-pub distinct_behind : (front targets : List ℕ) → AreDistinct (front ++ targets) → AreDistinct targets
-distinct_behind [] targets d = d
-distinct_behind (v ∷ front) targets d = distinct_behind front targets d.1
-
 -- what stands in an order of distinct variables stands in it once
 pub in_order-once : (order : List ℕ) (y : ℕ) (ys : List ℕ) → AreDistinct order → InOrder order (y ∷ ys) → Has y ys → ⊥
 in_order-once [] y ys d h k = h

@@ -26,11 +26,3 @@ module _ {X : Type 0} where
 
   pub prefix_get_or : (xs ys : List X) (i : ℕ) (d : X) → IsPrefix xs ys → i < length xs → get_or ys i d ≡ get_or xs i d
   prefix_get_or xs ys i d p lt = ap (λ l. get_or l i d) p.1 ∙ get_or_append_left xs p.0 d i lt
-
-get_append : {X : Type 0} (xs more : List X) (i : ℕ) → i < length xs → slice_get (xs ++ more) i ≡ slice_get xs i
-get_append [] more i lt = absurd (omega arith)
-get_append (x ∷ xs) more zero lt = refl
-get_append (x ∷ xs) more (suc i) lt = get_append xs more i (omega arith)
-
-pub prefix_get : {X : Type 0} (xs ys : List X) (i : ℕ) → IsPrefix xs ys → i < length xs → slice_get ys i ≡ slice_get xs i
-prefix_get xs ys i p lt = ap (λ l. slice_get l i) p.1 ∙ get_append xs p.0 i lt

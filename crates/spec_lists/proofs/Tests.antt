@@ -11,9 +11,6 @@ le_false m n h = grind (arith, nat_tests)
 pub true_le : (m n : ℕ) → nat_le m n ≡ true → m ≤ n
 true_le m n e = grind (arith, nat_tests)
 
-pub false_lt : (m n : ℕ) → nat_le m n ≡ false → n < m
-false_lt m n e = grind (arith, nat_tests)
-
 pub nat_eq-same : (a b : ℕ) → nat_eq a b ≡ true → a ≡ b
 nat_eq-same a b e = grind arith
 

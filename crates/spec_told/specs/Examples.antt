@@ -18,14 +18,6 @@ Z = Var 2
 abbrev pub half : Tree
 half = Number (ratio (pos 1) 2)
 
--- a name with two arguments
-abbrev pub between : String → Tree → Tree → Tree
-between s t u = binary (codes s) t u
-
--- a name with one argument
-abbrev pub of : String → Tree → Tree
-of s t = unary (codes s) t
-
 -- no variable has a fixed value
 abbrev pub none_fixed : ℕ → Option ℚ
 none_fixed x = None

@@ -5,8 +5,9 @@ use Rattle.cq_ops.specs.Tables.{named}
 use Rattle.spec_syntax.specs.Grammar.{use_of, applied_as}
 use Rattle.spec_syntax.specs.Machine.{OperandOf, before_term, after_name, after_operand}
 use Rattle.cq_parse.specs.Views.{tree, token_of, frames_of, state_or_none}
-use Rattle.cq_parse.proofs.Kept.{frames_kept, frames_push, is_low}
+use Rattle.cq_parse.proofs.Kept.{frames_kept, frames_push}
 use Rattle.cq_parse.proofs.steps.after_name.Goals as goal
+use Rattle.spec_lists.proofs.Tests.{le_true}
 
 pub returns-in_ok-push-in-Some-clause-step : goal.returns-in_ok-push-in-Some-clause-step
 returns-in_ok-push-in-Some-clause-step c texts known is =
@@ -15,7 +16,7 @@ returns-in_ok-push-in-Some-clause-step c texts known is =
     let ts = c.args.heap.now.now.terms in
     let k = frames_of texts ts c.args.frames.now.items in
     let tok = token_of texts c.args.token.now in
-    let low = is_low c.in-Some.op.priority c.args.most c.if-op-most.true in
+    let low = le_true c.in-Some.op.priority c.args.most c.if-op-most.true in
     let pushed : frames_of texts ts c.push.new.self.items ≡ OperandOf f c.in-Some.op c.args.most ∷ k = ap (frames_of texts ts) c.in_ok-push-in-Some.ensures.items ∙ frames_push texts ts c.args.frames.now.items _ in
     let there : before_term ops c.right_most.result (frames_of texts ts c.push.new.self.items) tok ≡ after_name ops f c.args.most k tok (applied_as ops f (tok ∷ [])) =
     rw (sym (c.in-Some.ensures texts known is), low, c.right_most.ensures, pushed) refl in
