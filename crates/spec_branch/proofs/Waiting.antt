@@ -17,7 +17,7 @@ use Rattle.spec_branch.proofs.Absorbed.{moves_below, became, can_move, Row, clos
 pub alike_back : (l m : List Constraint) → Equivalent l m → Equivalent m l
 alike_back l m e p = ((e p).1, (e p).0)
 
-alike_fixes : (l m : List Constraint) → Equivalent l m → (fixed : ℕ → Option ℚ) → Fixes l fixed → Fixes m fixed
+pub alike_fixes : (l m : List Constraint) → Equivalent l m → (fixed : ℕ → Option ℚ) → Fixes l fixed → Fixes m fixed
 alike_fixes l m e fixed f = record {
   sound = λ x q h. alike_fixed l m x q e (f.sound x q h);
   complete = λ x q g. f.complete x q (alike_fixed m l x q (alike_back l m e) g);
