@@ -1,6 +1,7 @@
 -- Where a branch settles, it settles whatever the form of its linear constraints.
 use Rattle.std.proofs.Common.{List, [], ◌∷◌, ◌++◌, refl, sym, subst}
-use Rattle.spec_linear.specs.Solution.{Constraint, Solvable, Equivalent}
+use Rattle.spec_linear.specs.Solution.{Constraint, Equivalent}
+use Rattle.spec_linear.proofs.Lists.{alike_solvable}
 use Rattle.spec_lists.specs.Texts.{Text}
 use Rattle.spec_terms.specs.Term.{Subst, followed_by}
 use Rattle.spec_terms.specs.Unifier.{IsUnifier, read_under}
@@ -11,9 +12,6 @@ use Rattle.spec_branch.specs.Settling.{Settles, no_unifier, unified, SettlesUnif
 use Rattle.spec_branch.specs.Alike.{with_linear}
 use Rattle.spec_branch.proofs.Waiting.{alike_back, alike_fixes}
 use Rattle.spec_branch.proofs.OneSettling.{before_same}
-
-solvable_too : (l k : List Constraint) → Equivalent l k → Solvable l → Solvable k
-solvable_too l k e h = (h.0, (e h.0).0 h.1)
 
 module _ (s : Subst Text) where
   -- ---- moves from lists with the same solutions
@@ -26,7 +24,7 @@ module _ (s : Subst Text) where
         term = i.term;
         after = i.after;
         among = i.among;
-        solvable = solvable_too l k e i.solvable;
+        solvable = alike_solvable l k e i.solvable;
         result = i.result;
         is_lin = record { fixed = i.is_lin.fixed; fixes = alike_fixes l k e i.is_lin.fixed i.is_lin.fixes; is = i.is_lin.is };
         row = i.row;
@@ -111,7 +109,7 @@ module _ (items : List Item) (st : State) (l : List Constraint) (same : Equivale
   unified_too u h (kept n j s f hf) =
       let k = settling_too u j in (
         kept_branch items there p u k.settling.linear k.settling.waiting f,
-        unified u h (kept n k.settling (solvable_too j.linear k.settling.linear k.alike s) f (alike_fixes j.linear k.settling.linear k.alike f hf)),
+        unified u h (kept n k.settling (alike_solvable j.linear k.settling.linear k.alike s) f (alike_fixes j.linear k.settling.linear k.alike f hf)),
       )
 
   pub settles_too : {o : Outcome} → Settles items st p o → KeptToo o

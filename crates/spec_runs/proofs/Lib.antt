@@ -7,4 +7,5 @@ pub mod Settlings
 pub mod Stepping
 pub mod Turning
 pub mod SameTurns
+pub mod Following
 pub mod SameRuns

@@ -2,15 +2,18 @@
 //! the same. No code: the function has an empty body, and its contract is a law of the definitions.
 #![tactic(auto)]
 
-ghost use Rattle.std.specs.Prelude.{ℕ, List};
+ghost use Rattle.std.specs.Prelude.{ℕ, ◌≤◌, List, length};
 ghost use Rattle.spec_syntax.specs.Trees.{Tree};
 ghost use Rattle.spec_search.specs.Database.{Database};
 ghost use Rattle.spec_search.specs.Search.{Search, start};
-ghost use Rattle.spec_runs.specs.Runs.{Mark, Run, SameMarks};
+ghost use Rattle.spec_runs.specs.Runs.{Mark, Run, SameAsFar, CatchesUp};
 
 /// From each search that a query reaches, all runs leave the same marks as far as they go: the same goals are selected,
-/// between the same output, answers, balls and end, whatever clauses the calls of user predicates leave out.
+/// between the same output, answers, balls and end, whatever clauses the calls of user predicates leave out. No run gets
+/// stuck where another goes on.
 pub fn runs_show_the_same()
-    ensures { (db : Database) (query : Tree) (n : ℕ) (ls ms ns : List Mark) (s t u : Search) → Run (start db query n) ls s
-        → Run s ms t → Run s ns u → SameMarks ms ns }
+    ensures same { (db : Database) (query : Tree) (n : ℕ) (ls ms ns : List Mark) (s t u : Search) → Run (start db query n) ls s
+        → Run s ms t → Run s ns u → SameAsFar ms ns }
+    ensures goes_on { (db : Database) (query : Tree) (n : ℕ) (ls ms ns : List Mark) (s t u : Search) → Run (start db query n) ls s
+        → Run s ms t → Run s ns u → length ms ≤ length ns → CatchesUp ms t ns }
 {}
