@@ -37,6 +37,7 @@ pub data SameEvent : Event → Event → Type 0 where
   same : (e : Event) → SameEvent e e
   same_answer : {st su : State} {ops : Ops} → SameState st su → SameEvent (Answered st ops) (Answered su ops)
 
+-- one mark, but for the form of an answer's linear constraints
 pub record SameMark (a b : Mark) : Type 0 where
   pub event : SameEvent a.event b.event
   pub selected : a.selected ≡ b.selected

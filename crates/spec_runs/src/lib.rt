@@ -8,8 +8,8 @@ ghost use Rattle.spec_search.specs.Database.{Database};
 ghost use Rattle.spec_search.specs.Search.{Search, start};
 ghost use Rattle.spec_runs.specs.Runs.{Mark, Run, SameAsFar, CatchesUp};
 
-/// From each search that a query reaches, all runs leave the same marks as far as they go: the same goals are selected,
-/// between the same output, answers, balls and end, whatever clauses the calls of user predicates leave out. No run gets
+/// From each search that a query reaches, all runs leave the same marks as far as they go: the same output, answers, balls
+/// and end, each after as many selected goals, whatever clauses the calls of user predicates leave out. And no run gets
 /// stuck where another goes on.
 pub fn runs_show_the_same()
     ensures same { (db : Database) (query : Tree) (n : ℕ) (ls ms ns : List Mark) (s t u : Search) → Run (start db query n) ls s
