@@ -9,3 +9,4 @@ pub mod Turning
 pub mod SameTurns
 pub mod Following
 pub mod SameRuns
+pub mod Lighter

@@ -6,7 +6,7 @@ use Rattle.spec_lists.specs.Texts.{Text}
 use Rattle.spec_terms.specs.Term.{Subst}
 use Rattle.spec_terms.specs.Unifier.{IsUnifier, read_under}
 use Rattle.spec_syntax.specs.Trees.{Tree}
-use Rattle.spec_branch.specs.Branch.{State, Sleeper, Copied, Item, Branch, Pending, Unsettled, no_work}
+use Rattle.spec_branch.specs.Branch.{State, Sleeper, Copied, Item, Branch, Pending, Settled, Unsettled, no_work}
 use Rattle.spec_branch.specs.Settling.{SleeperState, Sleeps, Wakes, state_of, woken_item, woken, Settles, no_unifier, unified, SettlesUnified, clash, no_solution, kept, Outcome, Kept, Pruned, Why, bindings_after, kept_branch}
 use Rattle.spec_branch.specs.Alike.{with_linear}
 use Rattle.spec_branch.specs.Alike as alike
@@ -41,6 +41,7 @@ pub record Keeps (is js : List Item) (st : State) (p : Pending) (b : Branch) : T
   pub bindings : Subst Text
   pub sleepers : List Sleeper
   pub items : b.items ≡ woken bindings sleepers ++ is
+  pub phase : b.phase ≡ Settled
   pub settles : Settles js st p (Kept (record b { items = woken bindings sleepers ++ js }))
 
 module _ (is js : List Item) (st : State) (p : Pending) where
@@ -51,7 +52,7 @@ module _ (is js : List Item) (st : State) (p : Pending) where
   keeps_with u h (kept n j s f hf) b e =
       let d : kept_branch is st p u j.linear j.waiting f ≡ b = cc in
       subst (λ (x : Branch). Keeps is js st p x) d
-      (record { bindings = bindings_after st p u f; sleepers = st.sleepers; items = refl; settles = unified u h (kept n j s f hf) })
+      (record { bindings = bindings_after st p u f; sleepers = st.sleepers; items = refl; phase = refl; settles = unified u h (kept n j s f hf) })
 
   keeps_from : {o : Outcome} → Settles is st p o → (b : Branch) → o ≡ Kept b → Keeps is js st p b
   keeps_from (no_unifier h) b e = cc
