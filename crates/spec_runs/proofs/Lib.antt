@@ -10,3 +10,4 @@ pub mod SameTurns
 pub mod Following
 pub mod SameRuns
 pub mod Lighter
+pub mod TwoRuns
