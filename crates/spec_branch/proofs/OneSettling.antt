@@ -14,7 +14,7 @@ use Rattle.spec_branch.proofs.Permuted.{permuted_alike}
 use Rattle.spec_branch.proofs.Waiting.{same_closures, one_map}
 
 -- lists with the same solutions before the same list
-before_same : (k l m : List Constraint) → Equivalent k l → Equivalent (k ++ m) (l ++ m)
+pub before_same : (k l m : List Constraint) → Equivalent k l → Equivalent (k ++ m) (l ++ m)
 before_same k l m e p = (
   λ h. let s = (solves_append p k m).0 h in (solves_append p l m).1 ((e p).0 s.0, s.1),
   λ h. let s = (solves_append p l m).0 h in (solves_append p k m).1 ((e p).1 s.0, s.1),

@@ -14,7 +14,7 @@ use Rattle.spec_branch.proofs.Absorbed.{moves_below, became, can_move, Row, clos
 
 -- ---- fixed values
 
-alike_fixes : (l m : List Constraint) → Equivalent l m → (fixed : ℕ → Option ℚ) → Fixes l fixed → Fixes m fixed
+pub alike_fixes : (l m : List Constraint) → Equivalent l m → (fixed : ℕ → Option ℚ) → Fixes l fixed → Fixes m fixed
 alike_fixes l m e fixed f = record {
   sound = λ x q h. alike_fixed l m x q e (f.sound x q h);
   complete = λ x q g. f.complete x q (alike_fixed m l x q (alike_sym l m e) g);

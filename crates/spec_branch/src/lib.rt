@@ -40,6 +40,14 @@ pub fn settling_is_determined()
         → Settles items (with_linear l st) p (Pruned why) → ⊥ }
 {}
 
+/// Where a branch settles, it settles in the same way from each list of linear constraints with the same solutions.
+pub fn settling_in_each_form()
+    ensures kept { (items : List Item) (st : State) (l : List Constraint) (p : Pending) (b : Branch) → Equivalent st.linear l
+        → Settles items st p (Kept b) → (c : Branch) × Settles items (with_linear l st) p (Kept c) }
+    ensures pruned { (items : List Item) (st : State) (l : List Constraint) (p : Pending) (why : Why) → Equivalent st.linear l
+        → Settles items st p (Pruned why) → (other : Why) × Settles items (with_linear l st) p (Pruned other) }
+{}
+
 /// Where no variable is numeric, and nothing waits or sleeps, settling unifies the pairs and that is all.
 pub fn settling_without_constraints()
     ensures { (items : List Item) (b : Subst Text) (numeric : ℕ → Bool) (next fresh : ℕ)

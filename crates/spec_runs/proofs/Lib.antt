@@ -7,4 +7,7 @@ pub mod Settlings
 pub mod Stepping
 pub mod Turning
 pub mod SameTurns
+pub mod Following
 pub mod SameRuns
+pub mod Lighter
+pub mod TwoRuns

@@ -13,7 +13,7 @@ use Rattle.spec_search.specs.Steps.{Steps, Stepped, Ball, Children}
 use Rattle.spec_search.proofs.OneStep.{result}
 use Rattle.spec_search.specs.Balls.{handed, last}
 use Rattle.spec_search.specs.Search.{Search, Look, Over, Settling, Moving, Collecting, Selecting, Answering, look_at_branch, look_at_items, gather}
-use Rattle.spec_search.specs.Turns.{Turn, Event, Wrote, Threw, Ended, place_of, with_branches, after_removal}
+use Rattle.spec_search.specs.Turns.{Turn, prunes, Event, Wrote, Threw, Ended, place_of, with_branches, after_removal}
 use Rattle.spec_runs.specs.Runs.{SameState, SameEvent, same, same_answer}
 use Rattle.spec_runs.proofs.Shapes.{Rung, OnFirst, OnSecond, OnBoth, first, second, IsEnd, whole, SameItems, no_item, goal, call, cut, cut_fails, caught, collects, gathered, higher, IsDoomed, SameBranches}
 use Rattle.spec_runs.proofs.Heights.{counted, kept_last, same_gather}
@@ -230,9 +230,9 @@ module _ (db : Database) (n : ℕ) where
 -- ---- branches that are pruned
 
 -- a doomed branch in front is dropped, and nothing is shown
-record Dropped (db : Database) (n : ℕ) (bs : List Branch) (e : Event) (t : Search) : Type 0 where
-  event : e ≡ Wrote []
-  search : t ≡ search_of db n bs
+pub record Dropped (db : Database) (n : ℕ) (bs : List Branch) (e : Event) (t : Search) : Type 0 where
+  pub event : e ≡ Wrote []
+  pub search : t ≡ search_of db n bs
 
 module _ (db : Database) (n : ℕ) (b : Branch) (bs : List Branch) (doomed : IsDoomed b) where
   drops : (w : Pending) → Settles b.items b.state w (Pruned Clash) → w.ball ≡ None → {e : Event} {t : Search}
@@ -244,10 +244,14 @@ module _ (db : Database) (n : ℕ) (b : Branch) (bs : List Branch) (doomed : IsD
         search = ap (λ (y : Option Copied). search_of db n (pruned_branches b.items bs y)) k;
       }
 
-  dropped : {e : Event} {t : Search} → Turn (search_of db n (b ∷ bs)) e t → Dropped db n bs e t
+  pub dropped : {e : Event} {t : Search} → Turn (search_of db n (b ∷ bs)) e t → Dropped db n bs e t
   dropped {e} {t} x =
       drops doomed.work doomed.pruned doomed.no_ball
       (subst (λ y. After (search_of db n (b ∷ bs)) (look_at_branch y b.items b.state bs) e t) doomed.unsettled (after (search_of db n (b ∷ bs)) x))
+
+  -- it has that turn
+  pub drop_doomed : Turn (search_of db n (b ∷ bs)) (Wrote []) (search_of db n bs)
+  drop_doomed = prunes (ap (λ (y : Phase). look_at_branch y b.items b.state bs) doomed.unsettled) doomed.pruned doomed.no_ball
 
 -- ---- one turn of each
 

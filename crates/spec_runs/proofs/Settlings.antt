@@ -1,16 +1,17 @@
 -- Branches that are the same settle alike, and a ball goes to the same catch.
 use Rattle.std.proofs.Common.{◌≡◌, List, [], ◌∷◌, ◌++◌, Option, Some, None, refl, sym, ap, subst, ◌∙◌}
 use Rattle.std.specs.List.{cons_option}
-use Rattle.spec_linear.specs.Solution.{Constraint}
+use Rattle.spec_linear.specs.Solution.{Constraint, Equivalent}
 use Rattle.spec_lists.specs.Texts.{Text}
 use Rattle.spec_terms.specs.Term.{Subst}
 use Rattle.spec_terms.specs.Unifier.{IsUnifier, read_under}
 use Rattle.spec_syntax.specs.Trees.{Tree}
-use Rattle.spec_branch.specs.Branch.{State, Sleeper, Copied, Item, Branch, Pending, Unsettled, no_work}
+use Rattle.spec_branch.specs.Branch.{State, Sleeper, Copied, Item, Branch, Pending, Settled, Unsettled, no_work}
 use Rattle.spec_branch.specs.Settling.{SleeperState, Sleeps, Wakes, state_of, woken_item, woken, Settles, no_unifier, unified, SettlesUnified, clash, no_solution, kept, Outcome, Kept, Pruned, Why, bindings_after, kept_branch}
 use Rattle.spec_branch.specs.Alike.{with_linear}
 use Rattle.spec_branch.specs.Alike as alike
 use Rattle.spec_branch.proofs.Waiting.{alike_back}
+use Rattle.spec_branch.proofs.EachForm.{kept_too, pruned_too}
 use Rattle.spec_branch.proofs.Determined.{kept_alike, kept_and_pruned}
 use Rattle.spec_builtins.specs.Alternatives.{◌≐◌}
 use Rattle.spec_search.specs.Replies.{landed, landed_term}
@@ -36,11 +37,12 @@ woken_in_front {is = is} {js = js} s (k ∷ ks) h = one_in_front (woken s ks) is
 -- ---- a branch that is kept
 
 -- the branch with other items is kept as well, and the same goals wake
-record Keeps (is js : List Item) (st : State) (p : Pending) (b : Branch) : Type 0 where
-  bindings : Subst Text
-  sleepers : List Sleeper
-  items : b.items ≡ woken bindings sleepers ++ is
-  settles : Settles js st p (Kept (record b { items = woken bindings sleepers ++ js }))
+pub record Keeps (is js : List Item) (st : State) (p : Pending) (b : Branch) : Type 0 where
+  pub bindings : Subst Text
+  pub sleepers : List Sleeper
+  pub items : b.items ≡ woken bindings sleepers ++ is
+  pub phase : b.phase ≡ Settled
+  pub settles : Settles js st p (Kept (record b { items = woken bindings sleepers ++ js }))
 
 module _ (is js : List Item) (st : State) (p : Pending) where
   keeps_with : (u : Subst Text) → IsUnifier (read_under st.bindings p.equations) u → {o : Outcome}
@@ -50,14 +52,28 @@ module _ (is js : List Item) (st : State) (p : Pending) where
   keeps_with u h (kept n j s f hf) b e =
       let d : kept_branch is st p u j.linear j.waiting f ≡ b = cc in
       subst (λ (x : Branch). Keeps is js st p x) d
-      (record { bindings = bindings_after st p u f; sleepers = st.sleepers; items = refl; settles = unified u h (kept n j s f hf) })
+      (record { bindings = bindings_after st p u f; sleepers = st.sleepers; items = refl; phase = refl; settles = unified u h (kept n j s f hf) })
 
   keeps_from : {o : Outcome} → Settles is st p o → (b : Branch) → o ≡ Kept b → Keeps is js st p b
   keeps_from (no_unifier h) b e = cc
   keeps_from (unified u h k) b e = keeps_with u h k b e
 
-  keeps : (b : Branch) → Settles is st p (Kept b) → Keeps is js st p b
+  pub keeps : (b : Branch) → Settles is st p (Kept b) → Keeps is js st p b
   keeps b h = keeps_from h b refl
+
+  pruned_with : (u : Subst Text) → IsUnifier (read_under st.bindings p.equations) u → {o : Outcome}
+      → SettlesUnified is st p u o → (why : Why) → o ≡ Pruned why → Settles js st p (Pruned why)
+  pruned_with u h (clash c) why e = subst (λ x. Settles js st p x) e (unified u h (clash c))
+  pruned_with u h (no_solution n j x) why e = subst (λ y. Settles js st p y) e (unified u h (no_solution n j x))
+  pruned_with u h (kept n j s f hf) why e = cc
+
+  pruned_from : {o : Outcome} → Settles is st p o → (why : Why) → o ≡ Pruned why → Settles js st p (Pruned why)
+  pruned_from (no_unifier h) why e = subst (λ x. Settles js st p x) e (no_unifier h)
+  pruned_from (unified u h k) why e = pruned_with u h k why e
+
+  -- the branch with other items is pruned as well
+  prunes : (why : Why) → Settles is st p (Pruned why) → Settles js st p (Pruned why)
+  prunes why h = pruned_from h why refl
 
 same_states : (x y : State) → x.bindings ≡ y.bindings → x.delayed ≡ y.delayed → x.numeric ≡ y.numeric
     → x.sleepers ≡ y.sleepers → x.next_sleeper ≡ y.next_sleeper → x.fresh ≡ y.fresh → with_linear y.linear x ≡ y
@@ -100,6 +116,27 @@ module _ (t : List Rung) (is js : List Item) (items : SameItems t is js) (st su 
       let there : st ≡ with_linear st.linear su = ap (λ (x : State). with_linear st.linear x) (sym back) in
       kept_and_pruned is su st.linear (alike_back st.linear su.linear state.linear) p (record c { items = woken m.bindings m.sleepers ++ is }) why m.settles
       (subst (λ (x : State). Settles is x p (Pruned why)) there h)
+
+-- ---- settling in the other search as well
+
+module _ (is js : List Item) (st su : State) (state : SameState st su) (p : Pending) where
+  -- the first state, from the second
+  back : st ≡ with_linear st.linear su
+  back = ap (λ (x : State). with_linear st.linear x) (sym state.state)
+
+  alike_there : Equivalent su.linear st.linear
+  alike_there = alike_back st.linear su.linear state.linear
+
+  pub keeps_too : (c : Branch) → Settles js su p (Kept c) → (b : Branch) × Settles is st p (Kept b)
+  keeps_too c h =
+      let m = keeps js is su p c h in
+      let n = kept_too is su st.linear alike_there p (record c { items = woken m.bindings m.sleepers ++ is }) m.settles in
+      (n.0, subst (λ (x : State). Settles is x p (Kept n.0)) (sym back) n.1)
+
+  pub prunes_too : (why : Why) → Settles js su p (Pruned why) → (other : Why) × Settles is st p (Pruned other)
+  prunes_too why h =
+      let n = pruned_too is su st.linear alike_there p why (prunes js is su p why h) in
+      (n.0, subst (λ (x : State). Settles is x p (Pruned n.0)) (sym back) n.1)
 
 -- ---- balls
 

@@ -32,12 +32,12 @@ module _ (l m : List Constraint) (same : Equivalent l m) where
   entailed_back Waits h = absurd h
   entailed_back False h = absurd h
 
-  broken_back : (r : Lin Constraint) → IsBroken m r → IsBroken l r
+  pub broken_back : (r : Lin Constraint) → IsBroken m r → IsBroken l r
   broken_back (Is c) h = record { point = h.point; solves = (same h.point).1 h.solves; breaks = h.breaks }
   broken_back Waits h = absurd h
   broken_back False h = h
 
-  all_back : (fixed : ℕ → Option ℚ) (ts : List Tree) → AllEntailed m fixed ts → AllEntailed l fixed ts
+  pub all_back : (fixed : ℕ → Option ℚ) (ts : List Tree) → AllEntailed m fixed ts → AllEntailed l fixed ts
   all_back fixed [] h = h
   all_back fixed (t ∷ ts) h = (entailed_back (lin fixed t) h.0, all_back fixed ts h.1)
 
@@ -59,11 +59,11 @@ module _ (l m : List Constraint) (same : Equivalent l m) where
         more = λ r. exceeds_back f r (h.more r);
       }
 
-  extent_back : (side : Side) (f : Linear) (q : ℚ) → IsExtent side m f q → IsExtent side l f q
+  pub extent_back : (side : Side) (f : Linear) (q : ℚ) → IsExtent side m f q → IsExtent side l f q
   extent_back Greatest f q h = supremum_back f q h
   extent_back Least f q h = supremum_back _ _ h
 
-  none_back : (side : Side) (f : Linear) → HasNoExtent side m f → HasNoExtent side l f
+  pub none_back : (side : Side) (f : Linear) → HasNoExtent side m f → HasNoExtent side l f
   none_back Greatest f h = unbounded_back f h
   none_back Least f h = unbounded_back _ h
 

@@ -37,12 +37,25 @@ pub data SameEvent : Event → Event → Type 0 where
   same : (e : Event) → SameEvent e e
   same_answer : {st su : State} {ops : Ops} → SameState st su → SameEvent (Answered st ops) (Answered su ops)
 
+-- one mark, but for the form of an answer's linear constraints
 pub record SameMark (a b : Mark) : Type 0 where
   pub event : SameEvent a.event b.event
   pub selected : a.selected ≡ b.selected
 
--- the same marks in the same order, as far as both go
+-- the same marks in the same order
 pub data SameMarks : List Mark → List Mark → Type 0 where
-  first_ends : {ns : List Mark} → SameMarks [] ns
-  second_ends : {ms : List Mark} → SameMarks ms []
-  both : {a b : Mark} {ms ns : List Mark} → SameMark a b → SameMarks ms ns → SameMarks (a ∷ ms) (b ∷ ns)
+  no_mark : SameMarks [] []
+  one_more : {a b : Mark} {ms ns : List Mark} → SameMark a b → SameMarks ms ns → SameMarks (a ∷ ms) (b ∷ ns)
+
+-- the same marks in the same order, as far as both go
+pub data SameAsFar : List Mark → List Mark → Type 0 where
+  first_ends : {ns : List Mark} → SameAsFar [] ns
+  second_ends : {ms : List Mark} → SameAsFar ms []
+  both_go : {a b : Mark} {ms ns : List Mark} → SameMark a b → SameAsFar ms ns → SameAsFar (a ∷ ms) (b ∷ ns)
+
+-- a run that left the marks ms and reached t can go on, until its marks are the same as ns
+pub record CatchesUp (ms : List Mark) (t : Search) (ns : List Mark) : Type 0 where
+  pub more : List Mark
+  pub reached : Search
+  pub run : Run t more reached
+  pub same : SameMarks (ms ++ more) ns

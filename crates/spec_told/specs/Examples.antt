@@ -1,9 +1,8 @@
 -- Small constraints and fixed values to try the definitions on.
-use Prim.Native.String.{String}
-use Rattle.std.specs.Prelude.{ℕ, pos, if◌then◌else◌, ◌==◌, codes, Option, Some, None}
+use Rattle.std.specs.Prelude.{ℕ, pos, if◌then◌else◌, ◌==◌, Option, Some, None}
 use Rattle.spec_rational.specs.Rational.{ℚ, int_ℚ, ratio}
 use Rattle.spec_terms.specs.Term.{Var, Number}
-use Rattle.spec_syntax.specs.Trees.{Tree, unary, binary}
+use Rattle.spec_syntax.specs.Trees.{Tree}
 
 abbrev pub X : Tree
 X = Var 0

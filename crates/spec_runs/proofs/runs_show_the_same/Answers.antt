@@ -1,5 +1,5 @@
-use Rattle.spec_runs.proofs.SameRuns.{runs_agree}
+use Rattle.spec_runs.proofs.SameRuns.{runs_agree, catches_up}
 use Rattle.spec_runs.proofs.runs_show_the_same.Goals as goal
 
 pub returns : goal.returns
-returns c = runs_agree
+returns c = record { same = runs_agree; goes_on = catches_up }
