@@ -1,7 +1,7 @@
 -- Where a branch settles, it settles whatever the form of its linear constraints.
 use Rattle.std.proofs.Common.{List, [], ◌∷◌, ◌++◌, refl, sym, subst}
 use Rattle.spec_linear.specs.Solution.{Constraint, Equivalent}
-use Rattle.spec_linear.proofs.Lists.{alike_solvable}
+use Rattle.spec_linear.proofs.Lists.{alike_solvable, alike_sym}
 use Rattle.spec_lists.specs.Texts.{Text}
 use Rattle.spec_terms.specs.Term.{Subst, followed_by}
 use Rattle.spec_terms.specs.Unifier.{IsUnifier, read_under}
@@ -10,7 +10,7 @@ use Rattle.spec_branch.specs.Branch.{State, Item, Pending, Branch}
 use Rattle.spec_branch.specs.Closure.{IsMove, Moves, no_move, move, IsClosure}
 use Rattle.spec_branch.specs.Settling.{Settles, no_unifier, unified, SettlesUnified, clash, no_solution, kept, Outcome, Kept, Pruned, Why, Clash, NoSolution, Settling, kept_branch}
 use Rattle.spec_branch.specs.Alike.{with_linear}
-use Rattle.spec_branch.proofs.Waiting.{alike_back, alike_fixes}
+use Rattle.spec_branch.proofs.Waiting.{alike_fixes}
 use Rattle.spec_branch.proofs.OneSettling.{before_same}
 
 module _ (s : Subst Text) where
@@ -64,7 +64,7 @@ module _ (s : Subst Text) where
         linear = n.linear;
         closure = record {
           moves = n.moves;
-          closed = λ o y i. c.closed (m ++ i.row ∷ []) y (move_too n.linear m o x y (alike_back m n.linear n.alike) i);
+          closed = λ o y i. c.closed (m ++ i.row ∷ []) y (move_too n.linear m o x y (alike_sym m n.linear n.alike) i);
         };
         alike = n.alike;
       }

@@ -8,7 +8,8 @@ use Rattle.spec_told.specs.Relations.{lin}
 use Rattle.spec_branch.specs.Branch.{State, Item, Branch, Copied, Pending, read}
 use Rattle.spec_branch.specs.Alike.{with_linear}
 use Rattle.spec_branch.specs.Settling.{Settles, Pruned, Why}
-use Rattle.spec_branch.proofs.Waiting.{alike_back, alike_fixes}
+use Rattle.spec_branch.proofs.Waiting.{alike_fixes}
+use Rattle.spec_linear.proofs.Lists.{alike_sym}
 use Rattle.spec_search.specs.Database.{Database, Clause}
 use Rattle.spec_search.specs.Builtins.{Side}
 use Rattle.spec_search.specs.Replies as reply
@@ -44,7 +45,7 @@ all_taken p t (c ∷ cs) = takes (all_taken p t cs)
 
 module _ (p q : Place) (t : Tree) (same : Equivalent p.state.linear q.state.linear) where
   fixed_back : (fixed : ℕ → Option ℚ) → Fixes q.state.linear fixed → Fixes p.state.linear fixed
-  fixed_back fixed h = alike_fixes q.state.linear p.state.linear (alike_back p.state.linear q.state.linear same) fixed h
+  fixed_back fixed h = alike_fixes q.state.linear p.state.linear (alike_sym p.state.linear q.state.linear same) fixed h
 
   asks_too : {ms : List Tree} {b c : Branch} (fixed : ℕ → Option ℚ) {x : Stepped} → reply_of p t ≡ reply.IfEntailed ms b
       → Fixes q.state.linear fixed → Asks q t ms c fixed x → HasStep p t

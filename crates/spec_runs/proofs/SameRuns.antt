@@ -6,7 +6,7 @@ use Rattle.spec_built.specs.Bodies.{as_goal}
 use Rattle.spec_syntax.specs.Trees.{Tree}
 use Rattle.spec_branch.specs.Branch.{State, Branch}
 use Rattle.spec_branch.specs.Alike.{with_linear}
-use Rattle.spec_branch.proofs.Waiting.{alike_back}
+use Rattle.spec_linear.proofs.Lists.{alike_sym}
 use Rattle.spec_search.specs.Database.{Database}
 use Rattle.spec_search.specs.Search.{Search, start, empty_state, look_at}
 use Rattle.spec_search.specs.Turns.{Turn, Event, Wrote}
@@ -212,7 +212,7 @@ state_back : (st su : State) → SameState st su → SameState su st
 state_back st su h =
     record {
       state = ap (λ (x : State). with_linear st.linear x) (sym h.state);
-      linear = alike_back st.linear su.linear h.linear;
+      linear = alike_sym st.linear su.linear h.linear;
     }
 
 event_back : {e f : Event} → SameEvent e f → SameEvent f e

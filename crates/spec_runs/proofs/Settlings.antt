@@ -10,7 +10,7 @@ use Rattle.spec_branch.specs.Branch.{State, Sleeper, Copied, Item, Branch, Pendi
 use Rattle.spec_branch.specs.Settling.{SleeperState, Sleeps, Wakes, state_of, woken_item, woken, Settles, no_unifier, unified, SettlesUnified, clash, no_solution, kept, Outcome, Kept, Pruned, Why, bindings_after, kept_branch}
 use Rattle.spec_branch.specs.Alike.{with_linear}
 use Rattle.spec_branch.specs.Alike as alike
-use Rattle.spec_branch.proofs.Waiting.{alike_back}
+use Rattle.spec_linear.proofs.Lists.{alike_sym}
 use Rattle.spec_branch.proofs.EachForm.{kept_too, pruned_too}
 use Rattle.spec_branch.proofs.Determined.{kept_alike, kept_and_pruned}
 use Rattle.spec_builtins.specs.Alternatives.{◌≐◌}
@@ -114,7 +114,7 @@ module _ (t : List Rung) (is js : List Item) (items : SameItems t is js) (st su 
       let m = keeps js is su p c k in
       let back : su ≡ with_linear su.linear st = state.state in
       let there : st ≡ with_linear st.linear su = ap (λ (x : State). with_linear st.linear x) (sym back) in
-      kept_and_pruned is su st.linear (alike_back st.linear su.linear state.linear) p (record c { items = woken m.bindings m.sleepers ++ is }) why m.settles
+      kept_and_pruned is su st.linear (alike_sym st.linear su.linear state.linear) p (record c { items = woken m.bindings m.sleepers ++ is }) why m.settles
       (subst (λ (x : State). Settles is x p (Pruned why)) there h)
 
 -- ---- settling in the other search as well
@@ -125,7 +125,7 @@ module _ (is js : List Item) (st su : State) (state : SameState st su) (p : Pend
   back = ap (λ (x : State). with_linear st.linear x) (sym state.state)
 
   alike_there : Equivalent su.linear st.linear
-  alike_there = alike_back st.linear su.linear state.linear
+  alike_there = alike_sym st.linear su.linear state.linear
 
   pub keeps_too : (c : Branch) → Settles js su p (Kept c) → (b : Branch) × Settles is st p (Kept b)
   keeps_too c h =
