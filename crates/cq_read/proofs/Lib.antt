@@ -1,0 +1,7 @@
+mod Growth
+mod Lookups
+mod Seen
+mod Steps
+mod Running
+mod Passing
+mod Marked

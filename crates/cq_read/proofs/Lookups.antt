@@ -1,0 +1,104 @@
+-- A map from names to numbers looks a name up as the list of names does, and a new name goes last.
+use Rattle.std.proofs.Common.{◌≡◌, ◌∷◌, ◌++◌, ℕ, suc, List, [], Bool, true, false, cond, length, Option, Some, None, String, refl, ap, sym, subst, ◌∙◌, ◌+◌, not, codes, bytes_eq, arith}
+use Rattle.std.specs.Prelude.{if◌then◌else◌}
+use Rattle.std.specs.String.{string_bytes, string_eq}
+use Rattle.std.specs.Map.{lookup}
+use Rattle.indexmap.specs.IndexMap.{insert_entry}
+use Rattle.spec_syntax.specs.TextTokens.{VariableName, Variables, number_of, known, next_number, with_name, with_variable}
+use Rattle.cq_term.specs.Meaning.{HeapTerm}
+use Rattle.cq_term.specs.Shown.{IsUnbound}
+use Rattle.cq_read.specs.Names.{names_of, variables, AreUnbound}
+
+pub looks_up : {A : Type 0} (es : List (String A × ℕ)) (name : List ℕ) → lookup (λ k. bytes_eq name (string_bytes k)) es ≡ number_of (names_of es) name
+looks_up [] name = refl
+looks_up (e ∷ es) name = ap (cond (bytes_eq name (string_bytes e.0)) (Some e.1)) (looks_up es name)
+
+pub inserts : {A : Type 0} (es : List (String A × ℕ)) (k : String A) (v : ℕ) → number_of (names_of es) (string_bytes k) ≡ None →
+    names_of (insert_entry string_eq es k v) ≡ names_of es ++ record { name = string_bytes k; number = v } ∷ []
+inserts [] k v new = refl
+inserts {A} (e ∷ es) k v new = go (bytes_eq (string_bytes k) (string_bytes e.0)) (inserts es k v) new
+  where
+    first : VariableName
+    first = record { name = string_bytes e.0; number = e.1 }
+
+    added : VariableName
+    added = record { name = string_bytes k; number = v }
+
+    go : (b : Bool) → (number_of (names_of es) (string_bytes k) ≡ None → names_of (insert_entry string_eq es k v) ≡ names_of es ++ added ∷ []) →
+        cond b (Some e.1) (number_of (names_of es) (string_bytes k)) ≡ None → names_of (cond b ((e.0, v) ∷ es) (e ∷ insert_entry string_eq es k v)) ≡ first ∷ names_of es ++ added ∷ []
+    go true rest new = let absent : Some e.1 ≡ None = new in cc
+    go false rest new = ap (λ names. first ∷ names) (rest new)
+
+pub is_not : (b : Bool) → true ≡ not b → false ≡ b
+is_not true e = sym e
+is_not false e = refl
+
+pub is_so : (b : Bool) → false ≡ not b → true ≡ b
+is_so true e = refl
+is_so false e = sym e
+
+-- a name that is not bare is known by the names
+pub known_named : (vs : Variables) (name : List ℕ) → false ≡ bytes_eq name (codes "_") → known vs name ≡ number_of vs.names name
+known_named vs name e = ap (λ b. if b then None else number_of vs.names name) (sym e)
+
+pub known_bare : (vs : Variables) (name : List ℕ) → true ≡ bytes_eq name (codes "_") → known vs name ≡ None
+known_bare vs name e = ap (λ b. if b then None else number_of vs.names name) (sym e)
+
+abbrev pub with_names : ℕ → List VariableName → Variables
+with_names count names = record { names = names; count = count }
+
+-- what the variables are with a new one
+new_variable : (vs : Variables) (name : List ℕ) → known vs name ≡ None → with_variable vs name ≡ record { names = with_name vs name; count = suc vs.count }
+new_variable vs name e = rw (e, with_variable) refl
+
+pub next_new : (vs : Variables) (name : List ℕ) → known vs name ≡ None → next_number vs name ≡ vs.count
+next_new vs name e = rw e refl
+
+pub next_known : (vs : Variables) (name : List ℕ) (n : ℕ) → known vs name ≡ Some n → (next_number vs name ≡ n) × (with_variable vs name ≡ vs)
+next_known vs name n e = (rw e refl, rw (e, with_variable) refl)
+
+-- with a new name the names gain it
+pub adds_named : {A : Type 0} (es fs : List (String A × ℕ)) (count : ℕ) (k : String A) (name : List ℕ) → true ≡ not (bytes_eq name (codes "_")) → string_bytes k ≡ name →
+    known (with_names count (names_of es)) name ≡ None → fs ≡ insert_entry string_eq es k count → with_names (count + 1) (names_of fs) ≡ with_variable (with_names count (names_of es)) name
+adds_named es fs count k name named is_name new inserted =
+    let before = with_names count (names_of es) in
+    let is_named = is_not (bytes_eq name (codes "_")) named in
+    let absent = ap (number_of (names_of es)) is_name ∙ sym (known_named before name is_named) ∙ new in
+    let one : count + 1 ≡ suc count = omega arith in
+    ap (λ n. with_names n (names_of fs)) one
+    ∙ ap (with_names (suc count))
+    (ap names_of inserted ∙ inserts es k count absent ∙ ap (λ (text : List ℕ). names_of es ++ record { name = text; number = count } ∷ []) is_name
+    ∙ ap (λ b. if b then names_of es else names_of es ++ record { name = name; number = count } ∷ []) is_named)
+    ∙ sym (new_variable before name new)
+
+-- a bare `_` leaves the names
+pub adds_bare : (before : Variables) (name : List ℕ) → false ≡ not (bytes_eq name (codes "_")) → with_names (before.count + 1) before.names ≡ with_variable before name
+adds_bare before name bare =
+    let is_bare = is_so (bytes_eq name (codes "_")) bare in
+    let one : before.count + 1 ≡ suc before.count = omega arith in
+    ap (λ n. with_names n before.names) one
+    ∙ ap (with_names (suc before.count)) (ap (λ b. if b then before.names else before.names ++ record { name = name; number = before.count } ∷ []) is_bare)
+    ∙ sym (new_variable before name (known_bare before name is_bare))
+
+-- the number of a name is that of an unbound variable
+number_unbound : (images : List HeapTerm) (names : List VariableName) (name : List ℕ) (n : ℕ) → AreUnbound images names → number_of names name ≡ Some n → IsUnbound images n
+number_unbound images [] name n all e = cc
+number_unbound images (v ∷ names) name n all e = by (bytes_eq name v.name) e (λ g. number_unbound images names name n all.1 g)
+  where
+    by : (b : Bool) → (if b then Some v.number else number_of names name) ≡ Some n → (number_of names name ≡ Some n → IsUnbound images n) → IsUnbound images n
+    by true e later = let same : v.number ≡ n = cc in subst (IsUnbound images) same all.0
+    by false e later = later e
+
+pub known_unbound : (images : List HeapTerm) (names : List VariableName) (name : List ℕ) (n : ℕ) → AreUnbound images names → known (variables names images) name ≡ Some n → IsUnbound images n
+known_unbound images names name n all e = by (bytes_eq name (codes "_")) e
+  where
+    by : (b : Bool) → (if b then None else number_of names name) ≡ Some n → IsUnbound images n
+    by true e = cc
+    by false e = number_unbound images names name n all e
+
+-- the names with a new one behind them
+pub added_names : {A : Type 0} (es fs : List (String A × ℕ)) (count : ℕ) (k : String A) (name : List ℕ) → true ≡ not (bytes_eq name (codes "_")) → string_bytes k ≡ name →
+    known (with_names count (names_of es)) name ≡ None → fs ≡ insert_entry string_eq es k count → names_of fs ≡ names_of es ++ record { name = string_bytes k; number = count } ∷ []
+added_names es fs count k name named is_name new inserted =
+    let absent = ap (number_of (names_of es)) is_name ∙ sym (known_named (with_names count (names_of es)) name (is_not (bytes_eq name (codes "_")) named)) ∙ new in
+    ap names_of inserted ∙ inserts es k count absent

@@ -1,0 +1,11 @@
+use Rattle.std.proofs.Common.{subst, length}
+use Rattle.cq_read.specs.Running.{IsStopped}
+use Rattle.cq_read.proofs.Running.{clause_read_if}
+use Rattle.cq_read.proofs.reading.read_on.Goals as goal
+
+pub returns-in-Goes-clause-reads : goal.returns-in-Goes-clause-reads
+returns-in-Goes-clause-reads c =
+    let n = length c.args.heap.now.now.images in
+    let whole = subst (IsStopped c.args.grammar.now.ops.now c.args.text.now c.args.from n c.read_tokens.new.atoms c.read_tokens.new.heap.now c.read_tokens.new.clause) c.in-Goes.is c.in_ok-next.ensures.read in
+    clause_read_if c.args.grammar.now.ops.now c.args.text.now c.args.from n c.read_tokens.new.atoms c.read_tokens.ensures.different c.read_tokens.new.heap.now c.read_tokens.new.clause c.in-Goes.next c.read.result
+    whole.1 c.read.ensures

@@ -1,0 +1,18 @@
+-- The names of a clause's variables.
+use Rattle.std.specs.Prelude.{ℕ, List, [], ◌∷◌, map, length, ⊤, String, string_bytes}
+use Rattle.spec_syntax.specs.TextTokens.{VariableName, Variables}
+use Rattle.cq_term.specs.Meaning.{HeapTerm}
+use Rattle.cq_term.specs.Shown.{IsUnbound}
+
+-- the entries of a map from names to numbers of variables
+abbrev pub names_of : {A : Type 0} → List (String A × ℕ) → List VariableName
+names_of entries = map (λ e. record { name = string_bytes e.0; number = e.1 }) entries
+
+-- the variables so far: those with names, and how many the heap has
+abbrev pub variables : List VariableName → List HeapTerm → Variables
+variables names images = record { names = names; count = length images }
+
+-- each variable is unbound
+abbrev pub AreUnbound : List HeapTerm → List VariableName → Type 0
+AreUnbound images [] = ⊤
+AreUnbound images (v ∷ names) = IsUnbound images v.number × AreUnbound images names
