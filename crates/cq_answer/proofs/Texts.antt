@@ -8,7 +8,8 @@ use Rattle.spec_queries.specs.Tree.{VariableName}
 use Rattle.spec_lists.specs.Texts.{Text}
 use Rattle.spec_writing.specs.Numbers.{number_text}
 use Rattle.spec_answers.specs.Lines.{is_hidden, or_true, lines_text}
-use Rattle.spec_equations.specs.Answer.{Branch, query_variables, binding_line, binding_lines, row_line}
+use Rattle.spec_answers.specs.Targets.{query_variables}
+use Rattle.spec_equations.specs.Answer.{Branch, binding_line, binding_lines, row_line}
 use Rattle.cq_project.specs.declared.Equation.{Equation}
 use Rattle.cq_project.specs.Rows.{solved_of, equations_of}
 use Rattle.cq_answer.specs.Values.{AreValues}

@@ -10,7 +10,8 @@ use Rattle.spec_echelon.specs.Echelon.{IsEchelon}
 use Rattle.spec_echelon.proofs.Uniqueness.{unique_echelon}
 use Rattle.spec_lists.specs.Texts.{Text}
 use Rattle.spec_answers.specs.Lines.{or_true, lines_text}
-use Rattle.spec_equations.specs.Answer.{HasDistinctNames, AnswerForm, query_variables, targets, binding_line, binding_lines, row_line}
+use Rattle.spec_answers.specs.Targets.{query_variables}
+use Rattle.spec_equations.specs.Answer.{HasDistinctNames, AnswerForm, targets, binding_line, binding_lines, row_line}
 use Rattle.spec_equations.proofs.Names.{distinct_targets}
 use Rattle.spec_queries.specs.Tree.{VariableName, Query}
 use Rattle.spec_queries.specs.Meaning.{told}

@@ -9,6 +9,7 @@ use Rattle.spec_lists.specs.Texts.{Text}
 use Rattle.spec_writing.specs.Numbers.{number_text}
 use Rattle.spec_answers.specs.RowText.{equation_text}
 use Rattle.spec_answers.specs.Lines.{is_hidden, or_true, lines_text}
+use Rattle.spec_answers.specs.Targets.{query_variables}
 
 -- what an answer shows of a branch: the values that are bound, and the linear constraints in the order in which they joined
 pub record Branch : Type 0 where
@@ -18,10 +19,6 @@ pub record Branch : Type 0 where
 -- the names of the query have different numbers
 abbrev pub HasDistinctNames : Query → Type 0
 HasDistinctNames q = AreDistinct (map (λ n. n.number) q.names)
-
--- a variable whose name begins with `_` is no query variable
-abbrev pub query_variables : List VariableName → List VariableName
-query_variables names = filter (λ n. not (is_hidden n.name)) names
 
 -- the query variables that are unbound: the targets, in order of first occurrence
 abbrev pub free_queries : List VariableName → Branch → List VariableName
