@@ -146,6 +146,9 @@ leaves_saved old new (Err e) h = (h.saved, h.room)
 -- more bytes are needed where those so far decide nothing
 pub undecided_needs : (ops : Ops) (bytes : List ℕ) (place : ℕ) → place ≤ length bytes → (finished : Bool) → finished ≡ false →
     ((ops : Ops) (r : readings.Read) → Reads ops bytes place r → IsClosed r (length bytes) → ⊥) → (finished ≡ false) × (Decided ops bytes place → ⊥)
-undecided_needs ops bytes place fits finished e none = (e, λ (r, all).
-    let reads = subst (λ x. Reads ops x place r) (append-nil bytes) (all []) in
-    none ops r reads ((decided_when_closed ops bytes place r fits reads).0 (r, all)))
+undecided_needs ops bytes place fits finished e none = (
+  e,
+  λ (r, all).
+      let reads = subst (λ x. Reads ops x place r) (append-nil bytes) (all []) in
+      none ops r reads ((decided_when_closed ops bytes place r fits reads).0 (r, all)),
+)

@@ -145,12 +145,7 @@ impl Feed {
     ///
     /// Bytes are looked at once for each clause, and the bytes of a clause that is not decided again only where a full stop
     /// that may end it has come since.
-    pub fn next(
-        &mut self,
-        heap: &mut Heap,
-        atoms: &mut Atoms,
-        ops: &Ops,
-    ) -> Result<Fed, AllocError>
+    pub fn next(&mut self, heap: &mut Heap, atoms: &mut Atoms, ops: &Ops) -> Result<Fed, AllocError>
         ensures fed { IfOk result (IsFed (named atoms.new ops.now) atoms.new self.old heap.old.now heap.new.now) }
         ensures input { Moves self.old self.new result }
         ensures live { IfOk result (IsLiveFed heap.new.now) }

@@ -28,7 +28,7 @@ returns-then-is_settled-clause-fed c =
     let is = subst (λ v. IsReadOf ops v.bytes v.place n shown) c.self.view_is (subst (λ b. IsReadOf ops b c.self.inside.place n shown) c.deref.ensures.value c.in-Ok.ensures.reads) in (
       is_settled ops c.args.self.now.bytes c.args.self.now.place n fits c.read_clause.new.atoms c.read_clause.new.heap.now c.in-Ok.read is c.args.self.now.finished (sym c.is_settled.ensures ∙ c.if-is_settled.true),
       moved_read ops c.args.self.now.bytes c.args.self.now.place n (length c.args.heap.now.now.images) shown _ (ap (λ t. length t.images) c.mark.ensures.now)
-      (ap (λ t. read_of c.read_clause.new.atoms t c.in-Ok.read) (sym c.forget.ensures.now)) is,
+          (ap (λ t. read_of c.read_clause.new.atoms t c.in-Ok.read) (sym c.forget.ensures.now)) is,
     )
 
 pub returns-clause-fed : goal.returns-clause-fed
