@@ -5,3 +5,4 @@ mod Steps
 mod Running
 mod Passing
 mod Marked
+mod Feeding

@@ -5,3 +5,5 @@ pub mod Shown
 pub mod Clauses
 pub mod Running
 pub mod Ends
+pub mod Inputs
+pub mod Feeds

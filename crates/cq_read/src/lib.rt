@@ -1,7 +1,9 @@
-//! Clauses read from texts: what stands at a place, with a clause's term on the heap.
+//! Clauses read from texts: what stands at a place, with a clause's term on the heap, and the same of input that comes in
+//! pieces.
 #![tactic(auto)]
 
 mod clause;
+mod feed;
 mod reading;
 mod resuming;
 #[cfg(test)]
@@ -10,4 +12,5 @@ mod tokens;
 mod variables;
 
 pub use cq_names::VariableName;
+pub use feed::{Fed, Feed};
 pub use reading::{Read, read_clause};

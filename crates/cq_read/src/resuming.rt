@@ -1,7 +1,9 @@
 // Where reading goes on behind an error.
 
-ghost use Rattle.std.specs.Prelude.{◌≡◌, ◌≤◌, length};
-ghost use Rattle.spec_reading.specs.Readings.{Resumes};
+ghost use Rattle.std.specs.Prelude.{◌≡◌, ◌≤◌, ℕ, false, Some, length, IfSome};
+ghost use Rattle.spec_operators.specs.Operators.{Ops};
+ghost use Rattle.spec_reading.specs.Readings.{Read, Resumes, Reads};
+ghost use Rattle.spec_reading.specs.Decided.{IsClosed, FaultComes};
 ghost use Rattle.spec_grammar.specs.Gaps as gaps;
 
 use cq_lex::{Kind, LexFault, next_token};
@@ -39,5 +41,38 @@ pub fn resume(text: &[u8], from: usize) -> usize
                 at = place + 1;
             }
         }
+    }
+}
+
+/// The place of the first fault from a place on, if no end token stands before it.
+fn first_fault(text: &[u8], from: usize) -> Option<usize>
+    requires { from ≤ length text.now }
+    ensures first { (at : ℕ) → FaultComes text.now from at → result ≡ Some at }
+    ensures within { IfSome result (λ at. at ≤ length text.now) }
+{
+    let mut at = from;
+    loop {
+        match next_token(text, at) {
+            Ok(token) => match token.kind {
+                Kind::End => return None,
+                Kind::Eof => return None,
+                _ => at = token.span.end,
+            },
+            Err(fault) => return Some(place_of(fault)),
+        }
+    }
+}
+
+/// Whether reading from a place on may go on before the text's end, by whatever operators.
+pub fn may_go_on(text: &[u8], from: usize) -> bool
+    requires { from ≤ length text.now }
+    ensures { result ≡ false → (ops : Ops) (r : Read) → Reads ops text.now from r → IsClosed r (length text.now) → ⊥ }
+{
+    if resume(text, from) < text.len() {
+        return true;
+    }
+    match first_fault(text, from) {
+        Some(at) => resume(text, at) < text.len(),
+        None => false,
     }
 }

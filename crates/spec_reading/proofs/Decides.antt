@@ -369,16 +369,20 @@ final_closed (Clause tree variables next) n m h = h
 final_closed Ended n m h = absurd (m refl)
 final_closed (Syntax error resume) n m h = h
 
+-- the full stop before the place where reading goes on
+pub stop_there : (ops : Ops) (text : List ℕ) (at : ℕ) (r : Read) → at ≤ length text → Reads ops text at r → IsClosed r (length text) → (stop : ℕ) × (at ≤ stop) × (final r ≡ suc stop) × IsFullStop text stop
+unfolding Stop
+stop_there ops text at r fits reads closed =
+    let (stop, less, next, stands, ends) = machine_stop ops text at r fits closed reads in
+    (stop, less, next, record { stop = stands; ends = subst (λ n. ends_clause (drop n text) ≡ true) next ends; inside = omega (arith, next, (closed_final r (length text) closed).0) })
+
 -- layout or a comment stands where reading goes on
 pub ends_clause_there : (ops : Ops) (text : List ℕ) (at : ℕ) (r : Read) → at ≤ length text → IsClosed r (length text) → Reads ops text at r → ends_clause (drop (final r) text) ≡ true
 unfolding Stop
 ends_clause_there ops text at r fits closed reads = (machine_stop ops text at r fits closed reads).4
 
 pub full_stop_there : (ops : Ops) (text : List ℕ) (at : ℕ) (r : Read) → at ≤ length text → Reads ops text at r → IsClosed r (length text) → (stop : ℕ) × (at ≤ stop) × IsFullStop text stop
-unfolding Stop
-full_stop_there ops text at r fits reads closed =
-    let (stop, less, next, stands, ends) = machine_stop ops text at r fits closed reads in
-    (stop, less, record { stop = stands; ends = subst (λ n. ends_clause (drop n text) ≡ true) next ends; inside = omega (arith, next, (closed_final r (length text) closed).0) })
+full_stop_there ops text at r fits reads closed = let (stop, less, next, stands) = stop_there ops text at r fits reads closed in (stop, less, stands)
 
 -- ---- what is decided
 

@@ -5,5 +5,5 @@ pub mod Onward
 mod Later
 pub mod Counted
 mod Ends
-mod Decides
-mod Anywhere
+pub mod Decides
+pub mod Anywhere
