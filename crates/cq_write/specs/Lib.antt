@@ -1,0 +1,4 @@
+pub mod Meaning
+pub mod Spelled
+pub mod Work
+pub mod Settings
