@@ -22,7 +22,7 @@ setting w = record {
 }
 
 -- the place of each variable's first name, where it has one
-abbrev pub AreGiven : List VariableName → IndexMap ℕ ℕ → Type 0
+abbrev pub AreGiven : {S : Type 0} → List VariableName → IndexMap ℕ ℕ S → Type 0
 AreGiven names given = (v : ℕ) → MatchOption (get nat_eq given v) (given_name names v ≡ None) (λ k. (k < length names) × ((d : VariableName) → given_name names v ≡ Some (slice_index_or names k d).name))
 
 -- the names are found by their places

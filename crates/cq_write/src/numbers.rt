@@ -1,6 +1,6 @@
 //! The texts of numbers and of variables without a name.
 
-ghost use Rattle.std.specs.Prelude.{◌≡◌, ◌++◌, ◌<◌, ◌^◌, OnOk, string_bytes};
+ghost use Rattle.std.specs.Prelude.{◌≡◌, ◌++◌, ◌+◌, ◌<◌, ◌^◌, OnOk, string_bytes};
 ghost use Rattle.spec_writing.specs.Numbers.{number_text};
 ghost use Rattle.spec_writing.specs.Written.{counted_name};
 

@@ -1,7 +1,7 @@
 //! How a term is built, by its kind and its first arguments.
 
 ghost use Rattle.std.specs.Prelude.{◌≡◌, ◌<◌, length, slice_get, Some};
-ghost use Rattle.cq_term.specs.Shown.{arguments};
+ghost use Rattle.cq_term.specs.Shown.{arguments, view_of};
 ghost use Rattle.cq_write.specs.Work.{HasShape, IsTail, IsKnown, at_id};
 ghost use Rattle.cq_write.specs.Settings.{setting};
 
@@ -40,11 +40,21 @@ impl Writer<'_> {
             View::Var(variable) => Shape::Variable(variable),
             View::Number(number) => Shape::Number(number),
             View::Name(name) => Shape::Name(name),
-            View::Compound(name, 1) => Shape::Unary(name, self.argument(term, 0)),
-            View::Compound(name, 2) => {
-                Shape::Binary(name, self.argument(term, 0), self.argument(term, 1))
-            }
-            View::Compound(name, _) => Shape::Many(name),
+            View::Compound(name, arity) => self.compound_shape(term, name, arity),
+        }
+    }
+
+    fn compound_shape(&self, term: TermId, name: Atom, arity: usize) -> Shape
+        requires known { IsKnown (setting self.now) term }
+        requires shown { view_of (at_id (setting self.now) term) ≡ View.Compound name arity }
+        ensures { HasShape (setting self.now) (at_id (setting self.now) term) result }
+    {
+        if arity == 1 {
+            Shape::Unary(name, self.argument(term, 0))
+        } else if arity == 2 {
+            Shape::Binary(name, self.argument(term, 0), self.argument(term, 1))
+        } else {
+            Shape::Many(name)
         }
     }
 
@@ -53,11 +63,23 @@ impl Writer<'_> {
         ensures { IsTail (setting self.now) (at_id (setting self.now) term) result }
     {
         match self.shape(term) {
-            Shape::Name(name) if self.atoms.text(name) == "[]" => Tail::End,
-            Shape::Binary(name, element, rest) if self.atoms.text(name) == "." => {
-                Tail::Cell(element, rest)
+            Shape::Name(name) => {
+                if self.atoms.text(name) == "[]" {
+                    Tail::End
+                } else {
+                    Tail::Other
+                }
             }
-            _ => Tail::Other,
+            Shape::Binary(name, element, rest) => {
+                if self.atoms.text(name) == "." {
+                    Tail::Cell(element, rest)
+                } else {
+                    Tail::Other
+                }
+            }
+            Shape::Variable(_) | Shape::Number(_) | Shape::Unary(_, _) | Shape::Many(_) => {
+                Tail::Other
+            }
         }
     }
 

@@ -66,7 +66,8 @@ impl<'a> Names<'a> {
         ensures { OnOk result (string_bytes out.new ≡ string_bytes out.old ++ shown_by self.now variable.0) }
     {
         if let Some(&place) = self.given.get(&variable.0) {
-            return out.push_str(self.names[place].name.as_str());
+            let named = &self.names[place];
+            return out.push_str(named.name.as_str());
         }
         match self.unnamed.get_index_of(&variable.0) {
             Some(place) => push_counted(out, place),

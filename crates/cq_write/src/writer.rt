@@ -121,8 +121,9 @@ impl Writer<'_> {
         requires names { IsIndexed self.now.names }
         ensures { OnOk result (written line.new ≡ put (written line.old) (spelled_word (setting self.now) word)) }
     {
+        let manner = self.manner(word);
         text.clear();
         self.push_word(word, text)?;
-        line.push(text.as_str(), self.manner(word))
+        line.push(text.as_str(), manner)
     }
 }

@@ -1,0 +1,4 @@
+pub mod Decimals
+pub mod Heads
+pub mod Texts
+pub mod Expansions
