@@ -2,3 +2,4 @@ pub mod Decimals
 pub mod Heads
 pub mod Texts
 pub mod Expansions
+pub mod Steps

@@ -22,21 +22,23 @@ module _ (style : Style) (name : ℕ → Text) where
   joined_more : (text blank own behind rest : Text) → (text ++ (blank ++ own)) ++ (behind ++ rest) ≡ text ++ (blank ++ (own ++ (behind ++ rest)))
   joined_more text blank own behind rest = append_assoc text (blank ++ own) (behind ++ rest) ∙ ap (λ t. text ++ t) (append_assoc blank own (behind ++ rest))
 
+  put_by : (line : Written) (p : Piece) (ps : List Piece) (b : Bool) → 
+      (let more : Written = record { text = line.text ++ (blank_before line.last (spelled style name p) ++ text_of style name p); last = Some (last_piece (spelled style name p)) } in
+      (put_all line (map (spelled style name) ps)).text ≡ line.text ++ (front line.last (seen style name ps) ++ joined style name (seen style name ps)) →
+      (put_all more (map (spelled style name) ps)).text ≡ more.text ++ (front more.last (seen style name ps) ++ joined style name (seen style name ps)) →
+      (put_all (if b then line else more) (map (spelled style name) ps)).text ≡ line.text ++ (front line.last (if b then seen style name ps else p ∷ seen style name ps) ++ joined style name (if b then seen style name ps else p ∷ seen style name ps)))
+  put_by line p ps true skipped kept = skipped
+  put_by line p ps false skipped kept =
+      kept
+      ∙ ap (λ t. (line.text ++ (blank_before line.last (spelled style name p) ++ text_of style name p)) ++ (t ++ joined style name (seen style name ps))) (front_is p (seen style name ps))
+      ∙ joined_more line.text (blank_before line.last (spelled style name p)) (text_of style name p) (blank_behind style name p (seen style name ps)) (joined style name (seen style name ps))
+
   pub put_joined : (line : Written) (ps : List Piece) →
       (put_all line (map (spelled style name) ps)).text ≡ line.text ++ (front line.last (seen style name ps) ++ joined style name (seen style name ps))
   put_joined line [] = sym (append-nil line.text)
-  put_joined line (p ∷ ps) = by ((length (text_of style name p) == 0) && not p.has_blanks)
-    where
-      shown : Bool → List Piece
-      shown b = if b then seen style name ps else p ∷ seen style name ps
-
-      by : (b : Bool) → (put_all (if b then line else record { text = line.text ++ (blank_before line.last (spelled style name p) ++ text_of style name p); last = Some (last_piece (spelled style name p)) }) (map (spelled style name) ps)).text
-          ≡ line.text ++ (front line.last (shown b) ++ joined style name (shown b))
-      by true = put_joined line ps
-      by false =
-          put_joined (record { text = line.text ++ (blank_before line.last (spelled style name p) ++ text_of style name p); last = Some (last_piece (spelled style name p)) }) ps
-          ∙ ap (λ t. (line.text ++ (blank_before line.last (spelled style name p) ++ text_of style name p)) ++ (t ++ joined style name (seen style name ps))) (front_is p (seen style name ps))
-          ∙ joined_more line.text (blank_before line.last (spelled style name p)) (text_of style name p) (blank_behind style name p (seen style name ps)) (joined style name (seen style name ps))
+  put_joined line (p ∷ ps) =
+      put_by line p ps ((length (text_of style name p) == 0) && not p.has_blanks) (put_joined line ps)
+      (put_joined (record { text = line.text ++ (blank_before line.last (spelled style name p) ++ text_of style name p); last = Some (last_piece (spelled style name p)) }) ps)
 
   front_none : (ps : List Piece) → front None ps ≡ []
   front_none [] = refl

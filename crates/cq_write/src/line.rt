@@ -73,7 +73,11 @@ fn is_apart(last: Last, text: &str, manner: Manner) -> bool
 fn last_char(text: &str) -> Option<char>
     ensures { result ≡ last_of (chars text.now) }
 {
-    text.chars().next_back()
+    let mut last = None;
+    for c in text.chars() {
+        last = Some(c);
+    }
+    last
 }
 
 impl Line {

@@ -50,7 +50,8 @@ fn push_numbered(out: &mut String, c: char) -> Result<(), AllocError>
     ensures { OnOk result (string_bytes out.new ≡ string_bytes out.old ++ (codes "\\x" ++ digits_onto (suc c) 16 false c [] ++ codes "\\")) }
 {
     let number = u32::from(c);
-    write!(out, "\\x{number:x}\\")
+    write!(out, "\\x{number:x}\\")?;
+    Ok(())
 }
 
 /// A character inside single quotes.
@@ -80,7 +81,8 @@ fn push_quoted(out: &mut String, name: &str) -> Result<(), AllocError>
     for c in name.chars() {
         push_escaped(out, c)?;
     }
-    out.push('\'')
+    out.push('\'')?;
+    Ok(())
 }
 
 /// A name as the style has it.

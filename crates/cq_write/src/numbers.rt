@@ -29,5 +29,6 @@ pub(crate) fn push_counted(out: &mut String, number: usize) -> Result<(), AllocE
 {
     let mut buffer = Buffer::new();
     out.push_str("_")?;
-    out.push_str(buffer.format(number + 1))
+    out.push_str(buffer.format(number + 1))?;
+    Ok(())
 }

@@ -7,6 +7,7 @@ ghost use Rattle.cq_write.specs.Work.{HasShape, IsKnown, Setting, Expands, IsRea
 ghost use Rattle.cq_write.specs.Settings.{setting};
 
 use crate::jobs::{Job, Mark, Part, Word, push_all};
+use crate::operands::is_negative;
 use crate::shapes::{Shape, Tail};
 use crate::writer::Writer;
 use cq_atoms::Atom;
@@ -14,12 +15,6 @@ use cq_frac::Frac;
 use cq_term::TermId;
 use spec_operators::OpDef;
 use std::alloc::AllocError;
-
-fn mark(mark: Mark) -> Job
-    ensures { result ≡ Job.Word (Word.Mark mark) }
-{
-    Job::Word(Word::Mark(mark))
-}
 
 /// A term, in parentheses where it does not stand bare.
 pub(crate) fn operand_job(bare: bool, term: TermId) -> Job
@@ -41,9 +36,9 @@ fn functional(term: TermId, name: Atom, jobs: &mut Vec<Job>) -> Result<(), Alloc
         jobs,
         &[
             Job::Word(Word::Name(name)),
-            mark(Mark::Open),
+            Job::Word(Word::Mark(Mark::Open)),
             arguments,
-            mark(Mark::Close),
+            Job::Word(Word::Mark(Mark::Close)),
         ],
     )
 }
@@ -53,10 +48,10 @@ impl Writer<'_> {
         requires { HasShape (setting self.now) (at_id (setting self.now) term) (Shape.Number number) }
         ensures { OnOk result (Expands (setting self.now) (Part.Term term) jobs.old.items jobs.new.items) }
     {
-        if number.is_negative() {
+        if is_negative(number) {
             push_all(
                 jobs,
-                &[mark(Mark::Minus), Job::Word(Word::Numeral(number.neg()))],
+                &[Job::Word(Word::Mark(Mark::Minus)), Job::Word(Word::Numeral(number.neg()))],
             )
         } else {
             push_all(jobs, &[Job::Word(Word::Numeral(number))])
@@ -69,9 +64,9 @@ impl Writer<'_> {
     {
         let text = self.text(name);
         if text == "[]" {
-            push_all(jobs, &[mark(Mark::OpenList), mark(Mark::CloseList)])
+            push_all(jobs, &[Job::Word(Word::Mark(Mark::OpenList)), Job::Word(Word::Mark(Mark::CloseList))])
         } else if text == "{}" {
-            push_all(jobs, &[mark(Mark::OpenCurly), mark(Mark::CloseCurly)])
+            push_all(jobs, &[Job::Word(Word::Mark(Mark::OpenCurly)), Job::Word(Word::Mark(Mark::CloseCurly))])
         } else {
             push_all(jobs, &[Job::Word(Word::Name(name))])
         }
@@ -118,7 +113,7 @@ impl Writer<'_> {
             let inside = Job::Part(Part::Term(argument));
             return push_all(
                 jobs,
-                &[mark(Mark::OpenCurly), inside, mark(Mark::CloseCurly)],
+                &[Job::Word(Word::Mark(Mark::OpenCurly)), inside, Job::Word(Word::Mark(Mark::CloseCurly))],
             );
         }
         if let Some(op) = self.prefix(name) {
@@ -172,7 +167,7 @@ impl Writer<'_> {
         ensures { OnOk result ((j : Job) × IsOperand (setting self.now) (is_bare_argument_of (setting self.now).ops (tree (setting self.now) element)) element j × (jobs.new.items ≡ jobs.old.items ++ reverse (cell_jobs opens j rest))) }
     {
         let element = operand_job(self.is_bare_argument(element), element);
-        push_all(jobs, &[mark(opens), element, Job::Part(Part::Rest(rest))])
+        push_all(jobs, &[Job::Word(Word::Mark(opens)), element, Job::Part(Part::Rest(rest))])
     }
 
     /// A term by itself.
@@ -202,11 +197,11 @@ impl Writer<'_> {
         ensures { OnOk result (Expands (setting self.now) (Part.Rest term) jobs.old.items jobs.new.items) }
     {
         match self.tail(term) {
-            Tail::End => push_all(jobs, &[mark(Mark::CloseList)]),
+            Tail::End => push_all(jobs, &[Job::Word(Word::Mark(Mark::CloseList))]),
             Tail::Cell(element, rest) => self.cell(Mark::Comma, element, rest, jobs),
             Tail::Other => {
                 let last = operand_job(self.is_bare_argument(term), term);
-                push_all(jobs, &[mark(Mark::Bar), last, mark(Mark::CloseList)])
+                push_all(jobs, &[Job::Word(Word::Mark(Mark::Bar)), last, Job::Word(Word::Mark(Mark::CloseList))])
             }
         }
     }
@@ -216,11 +211,12 @@ impl Writer<'_> {
         requires { IsReadyPart (setting self.now) (Part.Arguments term at) }
         ensures { OnOk result (Expands (setting self.now) (Part.Arguments term at) jobs.old.items jobs.new.items) }
     {
+        let arity = self.arity(term);
         let argument = self.argument(term, at);
         let first = operand_job(self.is_bare_argument(argument), argument);
-        if at + 1 < self.arity(term) {
+        if at + 1 < arity {
             let others = Job::Part(Part::Arguments(term, at + 1));
-            push_all(jobs, &[first, mark(Mark::Comma), others])
+            push_all(jobs, &[first, Job::Word(Word::Mark(Mark::Comma)), others])
         } else {
             push_all(jobs, &[first])
         }
@@ -235,7 +231,7 @@ impl Writer<'_> {
             Part::Term(term) => self.term(term, jobs),
             Part::Enclosed(term) => {
                 let inside = Job::Part(Part::Term(term));
-                push_all(jobs, &[mark(Mark::Open), inside, mark(Mark::Close)])
+                push_all(jobs, &[Job::Word(Word::Mark(Mark::Open)), inside, Job::Word(Word::Mark(Mark::Close))])
             }
             Part::Rest(term) => self.rest(term, jobs),
             Part::Arguments(term, at) => self.arguments(term, at, jobs),

@@ -61,11 +61,11 @@ fn is_spaced(name: &str) -> bool
 
 impl Writer<'_> {
     /// What round a word decides about blanks.
-    fn manner(&self, word: Word) -> Manner
-        requires { IsReadyWord (setting self.now) word }
-        ensures { result ≡ (spelled_word (setting self.now) word).manner }
+    fn manner(&self, word: &Word) -> Manner
+        requires { IsReadyWord (setting self.now) word.now }
+        ensures { result ≡ (spelled_word (setting self.now) word.now).manner }
     {
-        match word {
+        match *word {
             Word::Prefix(_) => Manner {
                 has_blanks: false,
                 is_prefix: true,
@@ -121,7 +121,7 @@ impl Writer<'_> {
         requires names { IsIndexed self.now.names }
         ensures { OnOk result (written line.new ≡ put (written line.old) (spelled_word (setting self.now) word)) }
     {
-        let manner = self.manner(word);
+        let manner = self.manner(&word);
         text.clear();
         self.push_word(word, text)?;
         line.push(text.as_str(), manner)

@@ -1,13 +1,15 @@
-use Rattle.std.proofs.Common.{rules, ◌≡◌, ◌||◌, OnOk, chars, ℕ, ◌+◌, ◌-◌, ◌*◌, ◌<◌, ◌≤◌, length, ◌/◌, ◌%◌, Bool, true, false, nat_eq, nat_lt, List, [], ◌∷◌, ◌++◌, slice_index_or, slice_set, bit_and, bit_or, Fits, w8, w32, w64, Bor, MutBor}
-use Rattle.spec_grammar.specs.Characters.{first_char as first_char_of}
+use Rattle.std.proofs.Common.{◌≡◌, sym, ap, ◌∙◌, map, List, ℕ}
+use Rattle.std.proofs.lemmas.Iterator.{YieldsList-from_chars}
+use Rattle.std.proofs.lemmas.Iterator.Consumers.{YieldsList-end}
+use Rattle.std.proofs.lemmas.List.{map-id}
 use Rattle.spec_writing.specs.Texts.{last_of}
-use Rattle.cq_write.specs.Spelled.{Spelled, written, blank_line}
-use Rattle.cq_write.specs.Spelled.{run_together as run_together_of}
-use Rattle.cq_write.specs.Spelled.{would_bind as would_bind_of}
-use Rattle.cq_write.specs.Spelled.{is_apart as is_apart_of}
-use Rattle.cq_write.specs.Spelled.{put}
+use Rattle.cq_write.proofs.Steps.{last_of-snoc}
 use Rattle.cq_write.proofs.line.last_char.Goals as goal
 
--- src/line.rt:73:1
+pub loop-c-preserved : goal.loop-c-preserved
+loop-c-preserved c = sym (last_of-snoc c.loop-c.yielded c.in-Some.c)
+
 pub returns : goal.returns
-returns c = ?
+returns c =
+    let all = YieldsList-end (YieldsList-from_chars c.args.text.now c.utf8.text cc) c.loop-c.yielded _ c.loop-c.yielded_by _ _ c.in-None.is c.next.ensures.steps in
+    c.loop-c.invariant ∙ ap last_of (sym (map-id c.loop-c.yielded) ∙ all.0)

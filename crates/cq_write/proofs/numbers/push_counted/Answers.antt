@@ -1,8 +1,9 @@
-use Rattle.std.proofs.Common.{rules, ◌≡◌, ◌++◌, ◌+◌, ◌<◌, ◌^◌, OnOk, string_bytes, ℕ, ◌-◌, ◌*◌, ◌≤◌, length, ◌/◌, ◌%◌, Bool, true, false, nat_eq, nat_lt, List, [], ◌∷◌, slice_index_or, slice_set, bit_and, bit_or, Fits, w8, w32, w64, Bor, MutBor}
-use Rattle.spec_writing.specs.Numbers.{number_text}
-use Rattle.spec_writing.specs.Written.{counted_name}
+use Rattle.std.proofs.Common.{◌≡◌, ◌<◌, ◌+◌, ◌^◌, ◌∙◌, ap, ◌++◌, rules, string_bytes, arith}
+use Rattle.cq_write.proofs.Decimals.{writes_counted}
 use Rattle.cq_write.proofs.numbers.push_counted.Goals as goal
 
--- src/numbers.rt:26:1
 pub returns : goal.returns
-returns c = ?
+returns c =
+    let small : c.args.number + 1 < 10 ^ 64 = omega arith in
+    c.in_ok-push_str-2.ensures.bytes ∙ ap (λ t. string_bytes c.push_str.new.self ++ t) c.format.ensures.text
+    ∙ writes_counted c.args.number (string_bytes c.args.out.now) (string_bytes c.push_str.new.self) small c.in_ok-push_str.ensures.bytes

@@ -1,9 +1,12 @@
-use Rattle.std.proofs.Common.{rules, ◌≡◌, ◌<◌, length, slice_get, Some, ℕ, ◌+◌, ◌-◌, ◌*◌, ◌≤◌, ◌/◌, ◌%◌, Bool, true, false, nat_eq, nat_lt, List, [], ◌∷◌, ◌++◌, slice_index_or, slice_set, bit_and, bit_or, Fits, w8, w32, w64, Bor, MutBor}
-use Rattle.cq_term.specs.Shown.{arguments, view_of}
-use Rattle.cq_write.specs.Work.{HasShape, IsTail, IsKnown, at_id}
-use Rattle.cq_write.specs.Settings.{setting}
+use Rattle.std.proofs.Common.{length}
+use Rattle.cq_write.proofs.Heads.{names_of_argument}
+use Rattle.cq_term.specs.Meaning.{at}
 use Rattle.cq_write.proofs.writer.Writer.argument.Goals as goal
 
--- src/shapes.rt:98:5
 pub returns-clause-known : goal.returns-clause-known
-returns-clause-known c = ?
+returns-clause-known c =
+    let ts = c.args.self.now.heap.now.now.terms in
+    record {
+      live = c.arg.ensures.live;
+      names = names_of_argument (length c.args.self.now.atoms.now) (at ts c.args.term) c.args.at (at ts c.arg.result) c.requires.known.names c.arg.ensures.arg;
+    }

@@ -1,9 +1,7 @@
-use Rattle.std.proofs.Common.{rules, ◌≡◌, ◌<◌, length, slice_get, Some, ℕ, ◌+◌, ◌-◌, ◌*◌, ◌≤◌, ◌/◌, ◌%◌, Bool, true, false, nat_eq, nat_lt, List, [], ◌∷◌, ◌++◌, slice_index_or, slice_set, bit_and, bit_or, Fits, w8, w32, w64, Bor, MutBor}
-use Rattle.cq_term.specs.Shown.{arguments, view_of}
-use Rattle.cq_write.specs.Work.{HasShape, IsTail, IsKnown, at_id}
-use Rattle.cq_write.specs.Settings.{setting}
+use Rattle.std.proofs.Common.{sym}
+use Rattle.cq_term.specs.Meaning.{at}
+use Rattle.cq_term.proofs.Arguments.{length-arguments}
 use Rattle.cq_write.proofs.writer.Writer.arity.Goals as goal
 
--- src/shapes.rt:87:5
 pub returns-in-Compound : goal.returns-in-Compound
-returns-in-Compound c = ?
+returns-in-Compound c = sym (length-arguments (at c.args.self.now.heap.now.now.terms c.args.term) c.in-Compound.field-0 c.in-Compound.arity (sym c.in-Compound.ensures.view))

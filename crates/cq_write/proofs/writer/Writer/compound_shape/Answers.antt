@@ -1,31 +1,45 @@
-use Rattle.std.proofs.Common.{rules, ◌≡◌, ◌<◌, length, slice_get, Some, ℕ, ◌+◌, ◌-◌, ◌*◌, ◌≤◌, ◌/◌, ◌%◌, Bool, true, false, nat_eq, nat_lt, List, [], ◌∷◌, ◌++◌, slice_index_or, slice_set, bit_and, bit_or, Fits, w8, w32, w64, Bor, MutBor}
-use Rattle.cq_term.specs.Shown.{arguments, view_of}
-use Rattle.cq_write.specs.Work.{HasShape, IsTail, IsKnown, at_id}
-use Rattle.cq_write.specs.Settings.{setting}
+use Rattle.std.proofs.Common.{◌≡◌, ◌<◌, length, arith}
+use Rattle.cq_term.specs.Meaning.{at}
+use Rattle.cq_term.specs.Shown.{arguments}
+use Rattle.cq_term.proofs.Arguments.{length-arguments}
+use Rattle.cq_write.proofs.Heads.{one_argument, two_arguments, many_arguments, name_below}
 use Rattle.cq_write.proofs.writer.Writer.compound_shape.Goals as goal
 
--- src/shapes.rt:53:32
 pub argument-requires-clause-within : goal.argument-requires-clause-within
-argument-requires-clause-within c = ?
+argument-requires-clause-within c =
+    let e = length-arguments (at c.args.self.now.heap.now.now.terms c.args.term) c.args.name c.args.arity c.requires.shown in
+    let t = c.if-arity-eq1.true in
+    omega (arith, e, t)
 
--- src/shapes.rt:55:33
-pub argument-requires-then-arity-eq2-clause-within :
-    goal.argument-requires-then-arity-eq2-clause-within
-argument-requires-then-arity-eq2-clause-within c = ?
+pub argument-requires-then-arity-eq2-clause-within : goal.argument-requires-then-arity-eq2-clause-within
+argument-requires-then-arity-eq2-clause-within c =
+    let e = length-arguments (at c.args.self.now.heap.now.now.terms c.args.term) c.args.name c.args.arity c.requires.shown in
+    let t = c.if-arity-eq2.true in
+    omega (arith, e, t)
 
--- src/shapes.rt:55:57
-pub argument-requires-then-arity-eq2-2-clause-within :
-    goal.argument-requires-then-arity-eq2-2-clause-within
-argument-requires-then-arity-eq2-2-clause-within c = ?
+pub argument-requires-then-arity-eq2-2-clause-within : goal.argument-requires-then-arity-eq2-2-clause-within
+argument-requires-then-arity-eq2-2-clause-within c =
+    let e = length-arguments (at c.args.self.now.heap.now.now.terms c.args.term) c.args.name c.args.arity c.requires.shown in
+    let t = c.if-arity-eq2.true in
+    omega (arith, e, t)
 
--- src/shapes.rt:47:5
 pub returns-then-arity-eq1 : goal.returns-then-arity-eq1
-returns-then-arity-eq1 c = ?
+returns-then-arity-eq1 c =
+    let ts = c.args.self.now.heap.now.now.terms in
+    (one_argument (at ts c.args.term) (at ts c.argument.result) c.args.name c.args.arity c.requires.shown c.if-arity-eq1.true c.argument.ensures.argument,
+      name_below (length c.args.self.now.atoms.now) (at ts c.args.term) c.args.name c.args.arity c.requires.shown c.requires.known.names,
+      c.argument.ensures.known)
 
--- src/shapes.rt:47:5
 pub returns-then-arity-eq2 : goal.returns-then-arity-eq2
-returns-then-arity-eq2 c = ?
+returns-then-arity-eq2 c =
+    let ts = c.args.self.now.heap.now.now.terms in
+    (two_arguments (at ts c.args.term) (at ts c.argument-then-arity-eq2.result) (at ts c.argument-then-arity-eq2-2.result) c.args.name c.args.arity c.requires.shown c.if-arity-eq2.true c.argument-then-arity-eq2.ensures.argument c.argument-then-arity-eq2-2.ensures.argument,
+      name_below (length c.args.self.now.atoms.now) (at ts c.args.term) c.args.name c.args.arity c.requires.shown c.requires.known.names,
+      c.argument-then-arity-eq2.ensures.known,
+      c.argument-then-arity-eq2-2.ensures.known)
 
--- src/shapes.rt:47:5
 pub returns-else-arity-eq2 : goal.returns-else-arity-eq2
-returns-else-arity-eq2 c = ?
+returns-else-arity-eq2 c =
+    let ts = c.args.self.now.heap.now.now.terms in
+    let many = many_arguments (at ts c.args.term) c.args.name c.args.arity c.requires.shown c.if-arity-eq1.false c.if-arity-eq2.false in
+    (many.0, many.1, many.2, many.3, name_below (length c.args.self.now.atoms.now) (at ts c.args.term) c.args.name c.args.arity c.requires.shown c.requires.known.names)

@@ -1,14 +1,31 @@
-use Rattle.std.proofs.Common.{rules, ◌≡◌, ◌++◌, OnOk, reverse, bytes_eq, codes, false, Some, ℕ, ◌+◌, ◌-◌, ◌*◌, ◌<◌, ◌≤◌, length, ◌/◌, ◌%◌, Bool, true, nat_eq, nat_lt, List, [], ◌∷◌, slice_index_or, slice_set, bit_and, bit_or, Fits, w8, w32, w64, Bor, MutBor}
+use Rattle.std.proofs.Common.{◌≡◌, ◌<◌, ◌≤◌, ◌∷◌, [], codes, true, false, Some, None, sym, ap, ◌∙◌, arith, suc, length, subst}
+use Rattle.std.specs.Prelude.{bytes_eq}
+use Rattle.spec_rational.specs.Rational.{ℚ, neg_ℚ}
 use Rattle.cq_atoms.specs.Texts.{text_of}
-use Rattle.spec_syntax.specs.Writing.{is_bare_argument as is_bare_argument_of}
-use Rattle.cq_write.specs.Work.{HasShape, IsKnown, Setting, Expands, IsReadyPart, IsOperand, functional_jobs, cell_jobs, tree, at_id}
+use Rattle.cq_term.specs.Meaning.{at}
+use Rattle.cq_write.specs.Work.{Setting, functional_jobs, cell_jobs, IsOperand, tree}
 use Rattle.cq_write.specs.Settings.{setting}
+use Rattle.spec_operators.specs.Operators.{right_most}
+use Rattle.spec_syntax.specs.Writing.{is_bare_right, is_bare_left, is_bare_argument}
+use Rattle.cq_write.specs.declared.jobs.Mark.TheVariants as mark
+use Rattle.cq_write.specs.declared.jobs.Word.TheVariants as word
+use Rattle.cq_write.specs.declared.jobs.Part.TheVariants as part
+use Rattle.cq_write.specs.declared.jobs.Job.TheVariants as job
+use Rattle.cq_write.proofs.Steps.{says, expands, on_ok, operand_of}
+use Rattle.cq_write.proofs.Expansions.{negative_made, numeral_made}
 use Rattle.cq_write.proofs.writer.Writer.number.Goals as goal
 
--- src/parts.rt:52:5
 pub returns-then-is_negative : goal.returns-then-is_negative
-returns-then-is_negative c = ?
+returns-then-is_negative c =
+    let s = setting c.args.self.now in
+    expands s (part.Term c.args.term) (job.Word (word.Mark mark.Minus) ∷ job.Word (word.Numeral (neg_ℚ c.args.number)) ∷ []) c.args.jobs.now.items c.push_all.new.jobs.items c.push_all.result
+    (let n : c.neg.result ≡ neg_ℚ c.args.number = c.neg.ensures in negative_made s c.args.term c.args.number c.requires (sym c.is_negative.ensures ∙ c.if-is_negative.true))
+    c.push_all.ensures
 
--- src/parts.rt:52:5
 pub returns-else-is_negative : goal.returns-else-is_negative
-returns-else-is_negative c = ?
+returns-else-is_negative c =
+    let s = setting c.args.self.now in
+    expands s (part.Term c.args.term) (job.Word (word.Numeral c.args.number) ∷ []) c.args.jobs.now.items c.push_all-else-is_negative.new.jobs.items c.push_all-else-is_negative.result
+    (numeral_made s c.args.term c.args.number c.requires (sym c.is_negative.ensures ∙ c.if-is_negative.false))
+    c.push_all-else-is_negative.ensures
+

@@ -1,14 +1,32 @@
-use Rattle.std.proofs.Common.{rules, ◌≡◌, ◌++◌, OnOk, reverse, bytes_eq, codes, false, Some, ℕ, ◌+◌, ◌-◌, ◌*◌, ◌<◌, ◌≤◌, length, ◌/◌, ◌%◌, Bool, true, nat_eq, nat_lt, List, [], ◌∷◌, slice_index_or, slice_set, bit_and, bit_or, Fits, w8, w32, w64, Bor, MutBor}
+use Rattle.std.proofs.Common.{◌≡◌, ◌<◌, ◌≤◌, ◌∷◌, [], codes, true, false, Some, None, sym, ap, ◌∙◌, arith, suc, length, subst}
+use Rattle.std.specs.Prelude.{bytes_eq}
+use Rattle.spec_rational.specs.Rational.{ℚ, neg_ℚ}
 use Rattle.cq_atoms.specs.Texts.{text_of}
-use Rattle.spec_syntax.specs.Writing.{is_bare_argument as is_bare_argument_of}
-use Rattle.cq_write.specs.Work.{HasShape, IsKnown, Setting, Expands, IsReadyPart, IsOperand, functional_jobs, cell_jobs, tree, at_id}
+use Rattle.cq_term.specs.Meaning.{at}
+use Rattle.cq_write.specs.Work.{Setting, functional_jobs, cell_jobs, IsOperand, tree}
 use Rattle.cq_write.specs.Settings.{setting}
+use Rattle.spec_operators.specs.Operators.{right_most}
+use Rattle.spec_syntax.specs.Writing.{is_bare_right, is_bare_left, is_bare_argument}
+use Rattle.cq_write.specs.declared.jobs.Mark.TheVariants as mark
+use Rattle.cq_write.specs.declared.jobs.Word.TheVariants as word
+use Rattle.cq_write.specs.declared.jobs.Part.TheVariants as part
+use Rattle.cq_write.specs.declared.jobs.Job.TheVariants as job
+use Rattle.cq_write.proofs.Steps.{says, expands, on_ok, operand_of}
+use Rattle.cq_write.proofs.Expansions.{signed_made, prefix_made}
 use Rattle.cq_write.proofs.writer.Writer.prefixed.Goals as goal
 
--- src/parts.rt:96:13
 pub returns-then-is_signed : goal.returns-then-is_signed
-returns-then-is_signed c = ?
+returns-then-is_signed c =
+    let s = setting c.args.self.now in
+    expands s (part.Term c.args.term) (functional_jobs c.args.term c.args.name) c.args.jobs.now.items c.functional.new.jobs.items c.functional.result
+    (signed_made s c.args.term c.args.name c.args.operand c.args.op c.requires.shape.0 c.requires.shape.1 c.requires.known c.requires.no_braces c.requires.operator (sym c.is_signed.ensures ∙ c.if-is_signed.true))
+    c.functional.ensures
 
--- src/parts.rt:81:5
 pub returns : goal.returns
-returns c = ?
+returns c =
+    let s = setting c.args.self.now in
+    expands s (part.Term c.args.term) (job.Word (word.Prefix c.args.name) ∷ c.operand_job.result ∷ []) c.args.jobs.now.items c.push_all.new.jobs.items c.push_all.result
+    (prefix_made s c.args.term c.args.name c.args.operand c.args.op c.operand_job.result c.requires.shape.0 c.requires.shape.1 c.requires.no_braces c.requires.operator (sym c.is_signed.ensures ∙ c.if-is_signed.false)
+      (operand_of s (is_bare_right s.ops (right_most c.args.op) (tree s c.args.operand)) c.is_bare_right-bare.result c.args.operand c.operand_job.result c.is_bare_right-bare.ensures (c.operand_job.ensures s c.requires.shape.2)))
+    c.push_all.ensures
+

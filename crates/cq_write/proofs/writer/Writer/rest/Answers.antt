@@ -1,18 +1,41 @@
-use Rattle.std.proofs.Common.{rules, ◌≡◌, ◌++◌, OnOk, reverse, bytes_eq, codes, false, Some, ℕ, ◌+◌, ◌-◌, ◌*◌, ◌<◌, ◌≤◌, length, ◌/◌, ◌%◌, Bool, true, nat_eq, nat_lt, List, [], ◌∷◌, slice_index_or, slice_set, bit_and, bit_or, Fits, w8, w32, w64, Bor, MutBor}
+use Rattle.std.proofs.Common.{◌≡◌, ◌<◌, ◌≤◌, ◌∷◌, [], codes, true, false, Some, None, sym, ap, ◌∙◌, arith, suc, length, subst}
+use Rattle.std.specs.Prelude.{bytes_eq}
+use Rattle.spec_rational.specs.Rational.{ℚ, neg_ℚ}
 use Rattle.cq_atoms.specs.Texts.{text_of}
-use Rattle.spec_syntax.specs.Writing.{is_bare_argument as is_bare_argument_of}
-use Rattle.cq_write.specs.Work.{HasShape, IsKnown, Setting, Expands, IsReadyPart, IsOperand, functional_jobs, cell_jobs, tree, at_id}
+use Rattle.cq_term.specs.Meaning.{at}
+use Rattle.cq_write.specs.Work.{Setting, functional_jobs, cell_jobs, IsOperand, tree}
 use Rattle.cq_write.specs.Settings.{setting}
+use Rattle.spec_operators.specs.Operators.{right_most}
+use Rattle.spec_syntax.specs.Writing.{is_bare_right, is_bare_left, is_bare_argument}
+use Rattle.cq_write.specs.declared.jobs.Mark.TheVariants as mark
+use Rattle.cq_write.specs.declared.jobs.Word.TheVariants as word
+use Rattle.cq_write.specs.declared.jobs.Part.TheVariants as part
+use Rattle.cq_write.specs.declared.jobs.Job.TheVariants as job
+use Rattle.cq_write.proofs.Steps.{says, expands, on_ok, operand_of}
+use Rattle.cq_write.proofs.Expansions.{rest_end_made, rest_cell_made, rest_other_made}
 use Rattle.cq_write.proofs.writer.Writer.rest.Goals as goal
 
--- src/parts.rt:200:5
 pub returns-in-End : goal.returns-in-End
-returns-in-End c = ?
+returns-in-End c =
+    let s = setting c.args.self.now in
+    expands s (part.Rest c.args.term) (job.Word (word.Mark mark.CloseList) ∷ []) c.args.jobs.now.items c.push_all.new.jobs.items c.push_all.result
+    (let tail = c.in-End.ensures in rest_end_made s c.args.term tail.0 tail.1 tail.2)
+    c.push_all.ensures
 
--- src/parts.rt:200:5
 pub returns-in-Cell : goal.returns-in-Cell
-returns-in-Cell c = ?
+returns-in-Cell c =
+    let s = setting c.args.self.now in
+    let tail = c.in-Cell.ensures in
+    on_ok c.cell.result
+    (λ made. (cell_jobs mark.Comma made.0 c.in-Cell.rest, made.2,
+      rest_cell_made s c.args.term tail.0 c.in-Cell.element c.in-Cell.rest made.0 tail.1 tail.4 tail.2 made.1))
+    c.cell.ensures
 
--- src/parts.rt:200:5
 pub returns-in-Other : goal.returns-in-Other
-returns-in-Other c = ?
+returns-in-Other c =
+    let s = setting c.args.self.now in
+    expands s (part.Rest c.args.term) (job.Word (word.Mark mark.Bar) ∷ c.operand_job-last.result ∷ job.Word (word.Mark mark.CloseList) ∷ []) c.args.jobs.now.items c.push_all-in-Other.new.jobs.items c.push_all-in-Other.result
+    (rest_other_made s c.args.term c.operand_job-last.result c.in-Other.ensures
+      (operand_of s (is_bare_argument s.ops (tree s c.args.term)) c.is_bare_argument.result c.args.term c.operand_job-last.result c.is_bare_argument.ensures (c.operand_job-last.ensures s c.requires)))
+    c.push_all-in-Other.ensures
+

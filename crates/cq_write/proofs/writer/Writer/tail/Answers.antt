@@ -1,17 +1,31 @@
-use Rattle.std.proofs.Common.{rules, ◌≡◌, ◌<◌, length, slice_get, Some, ℕ, ◌+◌, ◌-◌, ◌*◌, ◌≤◌, ◌/◌, ◌%◌, Bool, true, false, nat_eq, nat_lt, List, [], ◌∷◌, ◌++◌, slice_index_or, slice_set, bit_and, bit_or, Fits, w8, w32, w64, Bor, MutBor}
-use Rattle.cq_term.specs.Shown.{arguments, view_of}
-use Rattle.cq_write.specs.Work.{HasShape, IsTail, IsKnown, at_id}
+use Rattle.std.proofs.Common.{◌≡◌, ◌<◌, ◌≤◌, ◌∷◌, [], codes, true, false, Some, None, sym, ap, ◌∙◌, arith, suc, length, subst}
+use Rattle.std.specs.Prelude.{bytes_eq}
+use Rattle.spec_rational.specs.Rational.{ℚ, neg_ℚ}
+use Rattle.cq_atoms.specs.Texts.{text_of}
+use Rattle.cq_term.specs.Meaning.{at}
+use Rattle.cq_write.specs.Work.{Setting, functional_jobs, cell_jobs, IsOperand, tree}
 use Rattle.cq_write.specs.Settings.{setting}
+use Rattle.spec_operators.specs.Operators.{right_most}
+use Rattle.spec_syntax.specs.Writing.{is_bare_right, is_bare_left, is_bare_argument}
+use Rattle.cq_write.specs.declared.jobs.Mark.TheVariants as mark
+use Rattle.cq_write.specs.declared.jobs.Word.TheVariants as word
+use Rattle.cq_write.specs.declared.jobs.Part.TheVariants as part
+use Rattle.cq_write.specs.declared.jobs.Job.TheVariants as job
+use Rattle.cq_write.proofs.Steps.{says, expands, on_ok, operand_of}
+use Rattle.cq_write.proofs.Expansions.{other_name, other_binary, other_variable, other_number, other_unary, other_many}
 use Rattle.cq_write.proofs.writer.Writer.tail.Goals as goal
 
--- src/shapes.rt:61:5
 pub returns-else-eq : goal.returns-else-eq
-returns-else-eq c = ?
+returns-else-eq c =
+    let s = setting c.args.self.now in
+    let shape = c.in-Name.ensures in
+    other_name s c.args.term c.in-Name.name shape.0 (says c.text.result.now (text_of s.texts c.in-Name.name) (codes "[]") c.eq.result false c.text.ensures.value c.eq.ensures c.if-eq.false)
 
--- src/shapes.rt:61:5
 pub returns-else-eq-2 : goal.returns-else-eq-2
-returns-else-eq-2 c = ?
+returns-else-eq-2 c =
+    let s = setting c.args.self.now in
+    let shape = c.in-Binary.ensures in
+    other_binary s c.args.term c.in-Binary.name (at s.terms c.in-Binary.element) (at s.terms c.in-Binary.rest) shape.0 (says c.text-in-Binary.result.now (text_of s.texts c.in-Binary.name) (codes ".") c.eq-in-Binary.result false c.text-in-Binary.ensures.value c.eq-in-Binary.ensures c.if-eq-2.false)
 
--- src/shapes.rt:61:5
 pub returns-in-Variable : goal.returns-in-Variable
 returns-in-Variable c = ?

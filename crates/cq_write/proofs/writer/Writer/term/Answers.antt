@@ -1,18 +1,41 @@
-use Rattle.std.proofs.Common.{rules, ◌≡◌, ◌++◌, OnOk, reverse, bytes_eq, codes, false, Some, ℕ, ◌+◌, ◌-◌, ◌*◌, ◌<◌, ◌≤◌, length, ◌/◌, ◌%◌, Bool, true, nat_eq, nat_lt, List, [], ◌∷◌, slice_index_or, slice_set, bit_and, bit_or, Fits, w8, w32, w64, Bor, MutBor}
+use Rattle.std.proofs.Common.{◌≡◌, ◌<◌, ◌≤◌, ◌∷◌, [], codes, true, false, Some, None, sym, ap, ◌∙◌, arith, suc, length, subst}
+use Rattle.std.specs.Prelude.{bytes_eq}
+use Rattle.spec_rational.specs.Rational.{ℚ, neg_ℚ}
 use Rattle.cq_atoms.specs.Texts.{text_of}
-use Rattle.spec_syntax.specs.Writing.{is_bare_argument as is_bare_argument_of}
-use Rattle.cq_write.specs.Work.{HasShape, IsKnown, Setting, Expands, IsReadyPart, IsOperand, functional_jobs, cell_jobs, tree, at_id}
+use Rattle.cq_term.specs.Meaning.{at}
+use Rattle.cq_write.specs.Work.{Setting, functional_jobs, cell_jobs, IsOperand, tree}
 use Rattle.cq_write.specs.Settings.{setting}
+use Rattle.spec_operators.specs.Operators.{right_most}
+use Rattle.spec_syntax.specs.Writing.{is_bare_right, is_bare_left, is_bare_argument}
+use Rattle.cq_write.specs.declared.jobs.Mark.TheVariants as mark
+use Rattle.cq_write.specs.declared.jobs.Word.TheVariants as word
+use Rattle.cq_write.specs.declared.jobs.Part.TheVariants as part
+use Rattle.cq_write.specs.declared.jobs.Job.TheVariants as job
+use Rattle.cq_write.proofs.Steps.{says, expands, on_ok, operand_of}
+use Rattle.cq_write.proofs.Expansions.{variable_made, cell_made, many_made}
 use Rattle.cq_write.proofs.writer.Writer.term.Goals as goal
 
--- src/parts.rt:179:5
 pub returns-in-Variable : goal.returns-in-Variable
-returns-in-Variable c = ?
+returns-in-Variable c =
+    let s = setting c.args.self.now in
+    expands s (part.Term c.args.term) (job.Word (word.Variable c.in-Variable.variable) ∷ []) c.args.jobs.now.items c.push_all.new.jobs.items c.push_all.result
+    (variable_made s c.args.term c.in-Variable.variable c.in-Variable.ensures)
+    c.push_all.ensures
 
--- src/parts.rt:179:5
 pub returns-then-eq : goal.returns-then-eq
-returns-then-eq c = ?
+returns-then-eq c =
+    let s = setting c.args.self.now in
+    let shape = c.in-Binary.ensures in
+    on_ok c.cell.result
+    (λ made. (cell_jobs mark.OpenList made.0 c.in-Binary.right, made.2,
+      cell_made s c.args.term c.in-Binary.name c.in-Binary.left c.in-Binary.right made.0 shape.0 shape.3
+      (says c.text.result.now (text_of s.texts c.in-Binary.name) (codes ".") c.eq.result true c.text.ensures c.eq.ensures c.if-eq.true) made.1))
+    c.cell.ensures
 
--- src/parts.rt:179:5
 pub returns-in-Many : goal.returns-in-Many
-returns-in-Many c = ?
+returns-in-Many c =
+    let s = setting c.args.self.now in
+    expands s (part.Term c.args.term) (functional_jobs c.args.term c.in-Many.name) c.args.jobs.now.items c.functional.new.jobs.items c.functional.result
+    (let shape = c.in-Many.ensures in many_made s c.args.term c.in-Many.name shape.0 shape.1 shape.2 shape.3 shape.4 c.requires)
+    c.functional.ensures
+

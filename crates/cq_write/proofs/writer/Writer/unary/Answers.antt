@@ -1,18 +1,39 @@
-use Rattle.std.proofs.Common.{rules, ◌≡◌, ◌++◌, OnOk, reverse, bytes_eq, codes, false, Some, ℕ, ◌+◌, ◌-◌, ◌*◌, ◌<◌, ◌≤◌, length, ◌/◌, ◌%◌, Bool, true, nat_eq, nat_lt, List, [], ◌∷◌, slice_index_or, slice_set, bit_and, bit_or, Fits, w8, w32, w64, Bor, MutBor}
+use Rattle.std.proofs.Common.{◌≡◌, ◌<◌, ◌≤◌, ◌∷◌, [], codes, true, false, Some, None, sym, ap, ◌∙◌, arith, suc, length, subst}
+use Rattle.std.specs.Prelude.{bytes_eq}
+use Rattle.spec_rational.specs.Rational.{ℚ, neg_ℚ}
 use Rattle.cq_atoms.specs.Texts.{text_of}
-use Rattle.spec_syntax.specs.Writing.{is_bare_argument as is_bare_argument_of}
-use Rattle.cq_write.specs.Work.{HasShape, IsKnown, Setting, Expands, IsReadyPart, IsOperand, functional_jobs, cell_jobs, tree, at_id}
+use Rattle.cq_term.specs.Meaning.{at}
+use Rattle.cq_write.specs.Work.{Setting, functional_jobs, cell_jobs, IsOperand, tree}
 use Rattle.cq_write.specs.Settings.{setting}
+use Rattle.spec_operators.specs.Operators.{right_most}
+use Rattle.spec_syntax.specs.Writing.{is_bare_right, is_bare_left, is_bare_argument}
+use Rattle.cq_write.specs.declared.jobs.Mark.TheVariants as mark
+use Rattle.cq_write.specs.declared.jobs.Word.TheVariants as word
+use Rattle.cq_write.specs.declared.jobs.Part.TheVariants as part
+use Rattle.cq_write.specs.declared.jobs.Job.TheVariants as job
+use Rattle.cq_write.proofs.Steps.{says, expands, on_ok, operand_of}
+use Rattle.cq_write.proofs.Expansions.{braces_made, postfix_made, unary_made}
 use Rattle.cq_write.proofs.writer.Writer.unary.Goals as goal
 
--- src/parts.rt:119:13
 pub returns-then-eq : goal.returns-then-eq
-returns-then-eq c = ?
+returns-then-eq c =
+    let s = setting c.args.self.now in
+    expands s (part.Term c.args.term) (job.Word (word.Mark mark.OpenCurly) ∷ job.Part (part.Term c.args.argument) ∷ job.Word (word.Mark mark.CloseCurly) ∷ []) c.args.jobs.now.items c.push_all.new.jobs.items c.push_all.result
+    (braces_made s c.args.term c.args.name c.args.argument c.requires.shape.0 c.requires.shape.2 (says c.text.result.now (text_of s.texts c.args.name) (codes "{}") c.eq.result true c.text.ensures c.eq.ensures c.if-eq.true))
+    c.push_all.ensures
 
--- src/parts.rt:106:5
 pub returns-in-Some-postfix : goal.returns-in-Some-postfix
-returns-in-Some-postfix c = ?
+returns-in-Some-postfix c =
+    let s = setting c.args.self.now in
+    expands s (part.Term c.args.term) (c.operand_job.result ∷ job.Word (word.Name c.args.name) ∷ []) c.args.jobs.now.items c.push_all-in-Some-postfix.new.jobs.items c.push_all-in-Some-postfix.result
+    (postfix_made s c.args.term c.args.name c.args.argument c.in-Some-postfix.op c.operand_job.result c.requires.shape.0 c.requires.shape.1 (says c.text.result.now (text_of s.texts c.args.name) (codes "{}") c.eq.result false c.text.ensures c.eq.ensures c.if-eq.false) (sym c.in_default.ensures) (sym c.in-Some-postfix.ensures)
+      (operand_of s (is_bare_left s.ops c.in-Some-postfix.op (tree s c.args.argument)) c.is_bare_left-bare.result c.args.argument c.operand_job.result c.is_bare_left-bare.ensures (c.operand_job.ensures s c.requires.shape.2)))
+    c.push_all-in-Some-postfix.ensures
 
--- src/parts.rt:106:5
 pub returns-in-None : goal.returns-in-None
-returns-in-None c = ?
+returns-in-None c =
+    let s = setting c.args.self.now in
+    expands s (part.Term c.args.term) (functional_jobs c.args.term c.args.name) c.args.jobs.now.items c.functional.new.jobs.items c.functional.result
+    (unary_made s c.args.term c.args.name c.args.argument c.requires.shape.0 c.requires.shape.1 c.requires.known (says c.text.result.now (text_of s.texts c.args.name) (codes "{}") c.eq.result false c.text.ensures c.eq.ensures c.if-eq.false) (sym c.in_default.ensures) (sym c.in-None.ensures))
+    c.functional.ensures
+
