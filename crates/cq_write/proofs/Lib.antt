@@ -3,3 +3,5 @@ pub mod Heads
 pub mod Texts
 pub mod Expansions
 pub mod Steps
+pub mod Loop
+pub mod Naming

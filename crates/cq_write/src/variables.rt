@@ -1,10 +1,12 @@
 //! Which name each variable of a term has.
 
-ghost use Rattle.std.specs.Prelude.{◌≡◌, ◌++◌, ◌<◌, OnOk, IfOk, length, filter, string_bytes, take};
+ghost use Rattle.std.specs.Prelude.{◌≡◌, ◌++◌, ◌<◌, OnOk, IfOk, length, filter, string_bytes, ℕ, nat_eq};
+ghost use Rattle.indexmap.specs.IndexMap.{get};
 ghost use Rattle.spec_terms.specs.Variables.{variables};
 ghost use Rattle.spec_writing.specs.Written.{is_unnamed};
 ghost use Rattle.cq_term.specs.Meaning.{at};
-ghost use Rattle.cq_write.specs.Settings.{IsIndexed, AreGiven, shown_by};
+ghost use Rattle.cq_write.specs.Naming.{AreFound, kept_or, with_unnamed};
+ghost use Rattle.cq_write.specs.Settings.{IsIndexed, shown_by};
 
 use crate::numbers::push_counted;
 use cq_frac::VarId;
@@ -23,16 +25,45 @@ pub(crate) struct Names<'a> {
     unnamed: IndexSet<usize>,
 }
 
+/// Notes the place of a variable, unless it has one.
+fn note(
+    given: &mut IndexMap<usize, usize>,
+    variable: usize,
+    place: usize,
+) -> Result<(), AllocError>
+    ensures { OnOk result ((v : ℕ) → get nat_eq given.new v ≡ kept_or (get nat_eq given.old v) (nat_eq variable v) place) }
+{
+    if given.contains_key(&variable) {
+        return Ok(());
+    }
+    given.insert(variable, place)?;
+    Ok(())
+}
+
+/// The place of each variable's first name.
 fn places(alloc: Global, names: &[VariableName]) -> Result<IndexMap<usize, usize>, AllocError>
-    ensures { IfOk result (AreGiven names.now) }
+    ensures { IfOk result (λ given. AreFound names.now (get nat_eq given)) }
 {
     let mut given = IndexMap::new(alloc);
     for (place, named) in names.iter().enumerate() {
-        if !given.contains_key(&named.variable.0) {
-            given.insert(named.variable.0, place)?;
-        }
+        note(&mut given, named.variable.0, place)?;
     }
     Ok(given)
+}
+
+/// Adds a variable to those without a name, unless it has one.
+fn add(
+    unnamed: &mut IndexSet<usize>,
+    given: &IndexMap<usize, usize>,
+    variable: usize,
+) -> Result<(), AllocError>
+    ensures { OnOk result (unnamed.new.keys ≡ with_unnamed (get nat_eq given.now variable) unnamed.old.keys variable) }
+{
+    if given.contains_key(&variable) {
+        return Ok(());
+    }
+    unnamed.insert(variable)?;
+    Ok(())
 }
 
 impl<'a> Names<'a> {
@@ -48,10 +79,9 @@ impl<'a> Names<'a> {
     {
         let given = places(heap.alloc(), names)?;
         let mut unnamed = IndexSet::new(heap.alloc());
-        for variable in vars_of(heap, term)?.iter() {
-            if !given.contains_key(&variable.0) {
-                unnamed.insert(variable.0)?;
-            }
+        let variables = vars_of(heap, term)?;
+        for variable in variables.iter() {
+            add(&mut unnamed, &given, variable.0)?;
         }
         Ok(Names {
             names,
@@ -69,9 +99,10 @@ impl<'a> Names<'a> {
             let named = &self.names[place];
             return out.push_str(named.name.as_str());
         }
+        let count = self.unnamed.len();
         match self.unnamed.get_index_of(&variable.0) {
             Some(place) => push_counted(out, place),
-            None => push_counted(out, self.unnamed.len()),
+            None => push_counted(out, count),
         }
     }
 }

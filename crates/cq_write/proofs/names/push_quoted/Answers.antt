@@ -1,4 +1,4 @@
-use Rattle.std.proofs.Common.{◌≡◌, ◌++◌, ◌∷◌, [], sym, ap, ◌∙◌, string_bytes, append_assoc}
+use Rattle.std.proofs.Common.{◌≡◌, ◌++◌, ◌∷◌, [], sym, ap, ◌∙◌, string_bytes, append_assoc, arith}
 use Rattle.std.proofs.lemmas.Iterator.{YieldsList-from_chars}
 use Rattle.std.proofs.lemmas.Iterator.Consumers.{YieldsList-end}
 use Rattle.std.proofs.lemmas.List.{map-id}
@@ -17,5 +17,5 @@ pub returns : goal.returns
 returns c =
     let old = string_bytes c.args.out.now in
     let all = YieldsList-end (YieldsList-from_chars c.args.name.now c.utf8.name cc) c.loop-c.yielded _ c.loop-c.yielded_by _ _ c.in-None.is c.next.ensures.steps in
-    c.in_ok-push-2.ensures.bytes ∙ ap (λ t. t ++ 39 ∷ []) c.loop-c.invariant ∙ append_assoc old (39 ∷ all_escaped 39 c.loop-c.yielded) (39 ∷ [])
+    c.in_ok-push-2.ensures.bytes ∙ ap (λ t. string_bytes c.loop-c.out ++ t) (c.in_ok-push-2.ensures.ascii (omega arith)) ∙ ap (λ t. t ++ 39 ∷ []) c.loop-c.invariant ∙ append_assoc old (39 ∷ all_escaped 39 c.loop-c.yielded) (39 ∷ [])
     ∙ ap (λ cs. old ++ 39 ∷ (all_escaped 39 cs ++ 39 ∷ [])) (sym (map-id c.loop-c.yielded) ∙ all.0)
