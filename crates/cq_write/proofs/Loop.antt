@@ -79,9 +79,5 @@ module _ (s : Setting) where
         ap (λ ks. (put_all blank_line (all_pieces s (reverse ks))).text) e ∙ ap (λ ps. (put_all blank_line ps).text) (append-nil (job_pieces s j) ∙ h.pieces ∙ ap (λ d. spelled_all s (unless d (pieces s.ops (tree s id)))) b)
         ∙ whole_text s.style s.name (pieces_within s.ops m (tree s id)))
 
-pub no_jobs : (js : List Job) → length js ≡ 0 → js ≡ []
-no_jobs [] e = refl
-no_jobs (j ∷ js) e = absurd (omega arith)
-
-pub nothing_left : (s : Setting) (line : Written) (js : List Job) → length js ≡ 0 → (put_all line (all_pieces s (reverse js))).text ≡ line.text
-nothing_left s line js e = ap (λ ks. (put_all line (all_pieces s (reverse ks))).text) (no_jobs js e)
+pub nothing_left : (s : Setting) (line : Written) (js : List Job) → js ≡ [] → (put_all line (all_pieces s (reverse js))).text ≡ line.text
+nothing_left s line js e = ap (λ ks. (put_all line (all_pieces s (reverse ks))).text) e
