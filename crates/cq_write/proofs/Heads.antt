@@ -1,11 +1,10 @@
 -- Terms by their heads and arguments.
-use Rattle.std.proofs.Common.{◌≡◌, ℕ, zero, suc, ◌+◌, ◌<◌, List, [], ◌∷◌, length, slice_get, Some, refl, ap, sym, ◌∙◌, subst, arith}
+use Rattle.std.proofs.Common.{◌≡◌, ℕ, zero, suc, ◌<◌, length, slice_get, Some, refl, ap, sym, subst, arith}
 use Rattle.spec_terms.specs.Term.{Terms, Var, Number, Name, Compound, one, more, count, list_of}
 use Rattle.cq_term.specs.Meaning.{HeapTerm}
 use Rattle.cq_term.specs.Names.{HasNamesBelow, HaveNamesBelow}
 use Rattle.cq_term.specs.Shown.{view_of, arguments}
 use Rattle.cq_term.specs.declared.view.View.TheVariants as view
-use Rattle.cq_atoms.specs.Texts.{text_of}
 
 pub names_in : (n : ℕ) (ts : Terms ℕ) (i : ℕ) (a : HeapTerm) → HaveNamesBelow n ts → slice_get (list_of ts) i ≡ Some a → HasNamesBelow n a
 names_in n (one t) zero a h e = (let d : t ≡ a = cc in subst (HasNamesBelow n) d h)

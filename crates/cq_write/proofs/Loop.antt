@@ -1,21 +1,12 @@
 -- The stack of jobs while it is worked off.
-use Rattle.std.proofs.Common.{◌≡◌, ℕ, zero, suc, ◌+◌, ◌<◌, List, [], ◌∷◌, ◌++◌, length, reverse, map, refl, ap, sym, ◌∙◌, subst, arith, append_assoc, append-nil, Bool}
-use Rattle.std.specs.Prelude.{nat_le, filter}
+use Rattle.std.proofs.Common.{◌≡◌, ℕ, ◌+◌, ◌<◌, List, [], ◌∷◌, ◌++◌, reverse, refl, ap, sym, ◌∙◌, subst, arith, append_assoc, append-nil, Bool}
+use Rattle.std.specs.Prelude.{nat_le}
 use Rattle.std.proofs.lemmas.List.{reverse-append, reverse-reverse}
-use Rattle.spec_lists.specs.Texts.{Text}
-use Rattle.spec_terms.specs.Term.{named}
-use Rattle.spec_terms.specs.Variables.{variables}
-use Rattle.spec_terms.specs.VariableName.{VariableName}
-use Rattle.spec_operators.specs.Operators.{Ops}
 use Rattle.spec_syntax.specs.Writing.{priority}
-use Rattle.spec_writing.specs.Pieces.{Piece, pieces, unless}
-use Rattle.spec_writing.specs.Texts.{joined, seen}
-use Rattle.spec_writing.specs.Written.{text_within, text_by, shown, is_unnamed, pieces_within}
-use Rattle.spec_writing.specs.declared.Style.{Style}
-use Rattle.cq_atoms.specs.Texts.{text_of}
-use Rattle.cq_term.specs.Meaning.{at}
-use Rattle.cq_write.specs.Spelled.{Spelled, Written, put, put_all, blank_line}
-use Rattle.cq_write.specs.Work.{Setting, tree, spelled_all, spelled_word, part_pieces, job_pieces, all_pieces, IsReady, IsReadyWord, IsReadyPart, AreReady, jobs_weight, job_weight, part_weight, IsExpansion, Expands, IsOperand}
+use Rattle.spec_writing.specs.Pieces.{pieces, unless}
+use Rattle.spec_writing.specs.Written.{text_by, pieces_within}
+use Rattle.cq_write.specs.Spelled.{Written, put, put_all, blank_line}
+use Rattle.cq_write.specs.Work.{Setting, tree, spelled_all, spelled_word, job_pieces, all_pieces, IsReady, AreReady, jobs_weight, part_weight, Expands, IsOperand}
 use Rattle.cq_write.specs.declared.jobs.Word.{Word}
 use Rattle.cq_write.specs.declared.jobs.Part.{Part}
 use Rattle.cq_write.specs.declared.jobs.Job.{Job}

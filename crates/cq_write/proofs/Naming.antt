@@ -1,6 +1,6 @@
 -- The names of variables by their places.
-use Rattle.std.proofs.Common.{◌≡◌, ℕ, zero, suc, ◌+◌, ◌<◌, ◌≤◌, Bool, true, false, cond, not, List, [], ◌∷◌, ◌++◌, length, take, get_or, Option, Some, None, nat_eq, nat_lt, refl, ap, sym, ◌∙◌, subst, arith, append-nil, length-append, inl, inr, if◌then◌else◌}
-use Rattle.std.specs.Prelude.{MatchOption, filter, is_some, slice_index_or, ◌≢◌, ◌||◌}
+use Rattle.std.proofs.Common.{◌≡◌, ℕ, zero, suc, ◌+◌, ◌<◌, ◌≤◌, Bool, true, false, cond, not, List, [], ◌∷◌, ◌++◌, length, take, get_or, Option, Some, None, nat_eq, refl, ap, sym, ◌∙◌, subst, arith, append-nil, length-append, inl, inr, if◌then◌else◌}
+use Rattle.std.specs.Prelude.{MatchOption, filter, slice_index_or, ◌≢◌, ◌||◌}
 use Rattle.std.specs.List.{AllPairs, list_any, position, position_or_len}
 use Rattle.std.proofs.lemmas.Bool.{cases_lt, ne_eqb, cond_below}
 use Rattle.std.proofs.lemmas.List.{get_or_append_left, get_or_push, get_or_default, get_or-take, take_more, length-take-le}
@@ -12,7 +12,6 @@ use Rattle.spec_lists.specs.Texts.{Text}
 use Rattle.spec_terms.specs.VariableName.{VariableName}
 use Rattle.spec_writing.specs.Written.{given_name, is_unnamed, shown, counted_name}
 use Rattle.cq_write.specs.Naming.{kept_or, AreFound, with_unnamed}
-use Rattle.indexmap.specs.IndexSet.{insert_key}
 
 -- ---- one more name
 given_more : (names : List VariableName) (n : VariableName) (v : ℕ) (f : Text) → given_name names v ≡ Some f → given_name (names ++ n ∷ []) v ≡ Some f

@@ -1,6 +1,6 @@
 -- Steps that several functions take.
-use Rattle.std.proofs.Common.{◌≡◌, ℕ, zero, suc, ◌+◌, ◌<◌, ◌≤◌, Bool, true, false, List, [], ◌∷◌, ◌++◌, length, reverse, slice_get, get_or, Some, Ok, Err, refl, ap, sym, ◌∙◌, arith, append_assoc, append-nil, subst}
-use Rattle.std.specs.Prelude.{OnOk, bytes_eq, Result, Option}
+use Rattle.std.proofs.Common.{◌≡◌, ℕ, zero, suc, ◌<◌, Bool, List, [], ◌∷◌, ◌++◌, length, reverse, slice_get, Some, Ok, Err, refl, ap, sym, ◌∙◌, arith, append_assoc, append-nil, subst}
+use Rattle.std.specs.Prelude.{OnOk, bytes_eq, Result}
 use Rattle.spec_lists.specs.Texts.{Text}
 use Rattle.spec_writing.specs.Texts.{last_of, all_escaped, escaped}
 use Rattle.cq_atoms.specs.Texts.{text_of}

@@ -1,11 +1,11 @@
 -- What is put into a line one behind another is the joined text.
-use Rattle.std.proofs.Common.{◌≡◌, ℕ, Bool, true, false, List, [], ◌∷◌, ◌++◌, length, codes, refl, ap, sym, ◌∙◌, append_assoc, append-nil}
+use Rattle.std.proofs.Common.{◌≡◌, ℕ, Bool, true, false, List, [], ◌∷◌, ◌++◌, length, refl, ap, sym, ◌∙◌, append_assoc, append-nil}
 use Rattle.std.specs.Prelude.{not, ◌&&◌, ◌==◌, if◌then◌else◌, map, Option, Some, None}
 use Rattle.spec_lists.specs.Texts.{Text}
 use Rattle.spec_writing.specs.Pieces.{Piece}
 use Rattle.spec_writing.specs.Texts.{text_of, joined, seen, is_apart as is_apart_of, blank_behind}
 use Rattle.spec_writing.specs.declared.Style.{Style}
-use Rattle.cq_write.specs.Spelled.{Spelled, Written, spelled, put, put_all, is_unseen, is_apart, blank_before, last_piece, blank_line}
+use Rattle.cq_write.specs.Spelled.{Spelled, Written, spelled, put, put_all, blank_before, last_piece, blank_line}
 use Rattle.cq_write.specs.declared.line.Last.{Last}
 
 module _ (style : Style) (name : ℕ → Text) where

@@ -1,5 +1,5 @@
 -- Pieces by their texts, and the text that they make one behind another.
-use Rattle.std.specs.Prelude.{ℕ, Bool, not, ◌&&◌, ◌||◌, ◌==◌, if◌then◌else◌, List, [], ◌∷◌, ◌++◌, map, length, codes, chars, bytes_eq, Option, Some, None}
+use Rattle.std.specs.Prelude.{ℕ, Bool, not, ◌&&◌, ◌||◌, ◌==◌, if◌then◌else◌, List, [], ◌∷◌, ◌++◌, length, codes, chars, bytes_eq, Option, Some, None}
 use Rattle.std.specs.Char.{is_ascii_digit}
 use Rattle.spec_lists.specs.Texts.{Text}
 use Rattle.spec_grammar.specs.Characters.{is_symbol, continues_name, begins, begins_with, first_char, passes}

@@ -1,10 +1,9 @@
 -- What is still to be written: jobs, and the pieces that they stand for.
-use Rattle.std.specs.Prelude.{ℕ, zero, suc, ◌≡◌, ◌<◌, ◌≤◌, ◌+◌, ◌==◌, Bool, true, false, not, ◌&&◌, if◌then◌else◌, List, [], ◌∷◌, ◌++◌, map, reverse, length, codes, bytes_eq, All, ⊤}
-use Rattle.spec_rational.specs.Rational.{ℚ}
+use Rattle.std.specs.Prelude.{ℕ, zero, suc, ◌≡◌, ◌<◌, ◌≤◌, ◌+◌, Bool, true, false, List, [], ◌∷◌, ◌++◌, map, reverse, length, codes, bytes_eq, ⊤}
 use Rattle.spec_lists.specs.Texts.{Text}
 use Rattle.spec_operators.specs.Operators.{Ops}
-use Rattle.spec_terms.specs.Term.{Term, Terms, Var, Number, Name, Compound, one, more, named, named_all}
-use Rattle.spec_syntax.specs.Writing.{Alone, InList, is_spaced}
+use Rattle.spec_terms.specs.Term.{Terms, Var, Number, Name, Compound, one, more, named}
+use Rattle.spec_syntax.specs.Writing.{InList, is_spaced}
 use Rattle.spec_syntax.specs.Trees.{Tree}
 use Rattle.spec_writing.specs.Numbers.{number_text}
 use Rattle.spec_writing.specs.Pieces.{Piece, pieces, pieces_at, unless, placed, argument_pieces}
@@ -23,7 +22,6 @@ use Rattle.cq_write.specs.declared.jobs.Part.{Part}
 use Rattle.cq_write.specs.declared.jobs.Part.TheVariants as part
 use Rattle.cq_write.specs.declared.jobs.Job.{Job}
 use Rattle.cq_write.specs.declared.jobs.Job.TheVariants as job
-use Rattle.cq_write.specs.declared.line.Manner.{Manner}
 use Rattle.cq_write.specs.declared.shapes.Tail.{Tail}
 use Rattle.cq_write.specs.declared.shapes.Tail.TheVariants as tail
 use Rattle.cq_write.specs.declared.shapes.Shape.{Shape}

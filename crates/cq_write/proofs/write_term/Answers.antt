@@ -1,17 +1,14 @@
-use Rattle.std.proofs.Common.{◌≡◌, ◌<◌, ◌++◌, ◌∷◌, [], List, ℕ, ◌∙◌, ap, sym, length, reverse, take, ◌-◌, append-nil}
+use Rattle.std.proofs.Common.{◌≡◌, ◌++◌, ◌∷◌, [], ◌∙◌, ap, sym, reverse, take, ◌-◌, append-nil}
 use Rattle.std.specs.Prelude.{nat_le, filter}
-use Rattle.spec_lists.specs.Texts.{Text}
-use Rattle.spec_terms.specs.Variables.{variables}
 use Rattle.spec_terms.proofs.RenamedVariables.{variables_named}
 use Rattle.spec_writing.specs.Written.{shown, is_unnamed, text_by}
 use Rattle.cq_term.specs.Meaning.{at}
 use Rattle.cq_atoms.specs.Texts.{text_of}
-use Rattle.cq_write.specs.Meaning.{operators, tree}
+use Rattle.cq_write.specs.Meaning.{tree}
 use Rattle.cq_write.specs.Spelled.{written, put_all}
-use Rattle.cq_write.specs.Work.{Setting, Expands, all_pieces}
-use Rattle.cq_write.specs.Settings.{setting, shown_by}
+use Rattle.cq_write.specs.Work.{all_pieces}
+use Rattle.cq_write.specs.Settings.{setting}
 use Rattle.cq_write.specs.declared.writer.Writer.{Writer}
-use Rattle.cq_write.specs.declared.jobs.Job.{Job}
 use Rattle.cq_write.specs.declared.jobs.Job.TheVariants as job
 use Rattle.cq_write.proofs.Loop.{begins, ready_pop, part_text, part_ready, part_lighter, nothing_left}
 use Rattle.cq_write.proofs.write_term.Goals as goal

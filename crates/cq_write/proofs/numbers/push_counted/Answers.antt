@@ -1,4 +1,4 @@
-use Rattle.std.proofs.Common.{◌≡◌, ◌<◌, ◌+◌, ◌^◌, ◌∙◌, ap, ◌++◌, rules, string_bytes, arith}
+use Rattle.std.proofs.Common.{◌<◌, ◌+◌, ◌^◌, ◌∙◌, ap, ◌++◌, string_bytes, arith}
 use Rattle.cq_write.proofs.Decimals.{writes_counted}
 use Rattle.cq_write.proofs.numbers.push_counted.Goals as goal
 

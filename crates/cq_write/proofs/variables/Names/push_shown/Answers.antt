@@ -1,4 +1,4 @@
-use Rattle.std.proofs.Common.{◌≡◌, ◌++◌, ◌∙◌, ap, nat_eq, string_bytes}
+use Rattle.std.proofs.Common.{◌++◌, ◌∙◌, ap, nat_eq, string_bytes}
 use Rattle.indexmap.specs.IndexMap.{get}
 use Rattle.cq_write.proofs.Naming.{none_given, shown_counted}
 use Rattle.cq_write.proofs.Steps.{on_ok}

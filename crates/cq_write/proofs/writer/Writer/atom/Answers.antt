@@ -1,14 +1,11 @@
-use Rattle.std.proofs.Common.{◌≡◌, ◌<◌, ◌∷◌, [], codes, true, false, Some, None, sym, ap, ◌∙◌, arith, suc, length}
-use Rattle.std.specs.Prelude.{bytes_eq}
+use Rattle.std.proofs.Common.{◌∷◌, [], codes, true, false}
 use Rattle.cq_atoms.specs.Texts.{text_of}
-use Rattle.cq_term.specs.Meaning.{at}
-use Rattle.cq_write.specs.Work.{Setting, functional_jobs, cell_jobs}
 use Rattle.cq_write.specs.Settings.{setting}
 use Rattle.cq_write.specs.declared.jobs.Mark.TheVariants as mark
 use Rattle.cq_write.specs.declared.jobs.Word.TheVariants as word
 use Rattle.cq_write.specs.declared.jobs.Part.TheVariants as part
 use Rattle.cq_write.specs.declared.jobs.Job.TheVariants as job
-use Rattle.cq_write.proofs.Steps.{says, expands, on_ok}
+use Rattle.cq_write.proofs.Steps.{says, expands}
 use Rattle.cq_write.proofs.Expansions.{nil_made, curly_made, atom_made}
 use Rattle.cq_write.proofs.writer.Writer.atom.Goals as goal
 

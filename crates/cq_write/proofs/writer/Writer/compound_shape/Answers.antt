@@ -1,6 +1,5 @@
-use Rattle.std.proofs.Common.{◌≡◌, ◌<◌, length, arith}
+use Rattle.std.proofs.Common.{length, arith}
 use Rattle.cq_term.specs.Meaning.{at}
-use Rattle.cq_term.specs.Shown.{arguments}
 use Rattle.cq_term.proofs.Arguments.{length-arguments}
 use Rattle.cq_write.proofs.Heads.{one_argument, two_arguments, many_arguments, name_below}
 use Rattle.cq_write.proofs.writer.Writer.compound_shape.Goals as goal

@@ -1,20 +1,12 @@
-use Rattle.std.proofs.Common.{◌≡◌, ◌<◌, ◌≤◌, ◌∷◌, [], codes, true, false, Some, None, sym, ap, ◌∙◌, arith, suc, length, subst, inl, inr}
-use Rattle.std.specs.Prelude.{bytes_eq, OnOk}
-use Rattle.spec_rational.specs.Rational.{ℚ, neg_ℚ}
+use Rattle.std.proofs.Common.{◌∷◌, [], codes, true}
 use Rattle.cq_atoms.specs.Texts.{text_of}
-use Rattle.cq_term.specs.Meaning.{at}
-use Rattle.cq_write.specs.Work.{Setting, functional_jobs, cell_jobs, IsOperand, IsExpansion, Expands, IsReadyPart, tree}
+use Rattle.cq_write.specs.Work.{functional_jobs, cell_jobs}
 use Rattle.cq_write.specs.Settings.{setting}
-use Rattle.spec_operators.specs.Operators.{right_most}
-use Rattle.spec_syntax.specs.Writing.{is_bare_right, is_bare_left, is_bare_argument}
 use Rattle.cq_write.specs.declared.jobs.Mark.TheVariants as mark
 use Rattle.cq_write.specs.declared.jobs.Word.TheVariants as word
 use Rattle.cq_write.specs.declared.jobs.Part.TheVariants as part
 use Rattle.cq_write.specs.declared.jobs.Job.TheVariants as job
-use Rattle.cq_write.specs.Work.{HasShape}
-use Rattle.cq_write.specs.declared.shapes.Shape.{Shape}
-use Rattle.cq_write.specs.declared.shapes.Shape.TheVariants as shape
-use Rattle.cq_write.proofs.Steps.{says, expands, on_ok, operand_of}
+use Rattle.cq_write.proofs.Steps.{says, expands, on_ok}
 use Rattle.cq_write.proofs.Expansions.{variable_made, cell_made, many_made}
 use Rattle.cq_write.proofs.writer.Writer.term.Goals as goal
 
