@@ -65,10 +65,11 @@ module _ (s : Setting) where
   -- the first job
   pub begins : (id m : ℕ) (bare : Bool) (j : Job) (js : List Job) → js ≡ j ∷ [] → bare ≡ nat_le (priority s.ops (tree s id)) m → IsOperand s bare id j →
       AreReady s (reverse js) × ((put_all blank_line (all_pieces s (reverse js))).text ≡ text_by s.style s.ops s.name m (tree s id))
-  begins id m bare j js e b h =
-      (subst (λ ks. AreReady s (reverse ks)) (sym e) (h.ready, tt),
-        ap (λ ks. (put_all blank_line (all_pieces s (reverse ks))).text) e ∙ ap (λ ps. (put_all blank_line ps).text) (append-nil (job_pieces s j) ∙ h.pieces ∙ ap (λ d. spelled_all s (unless d (pieces s.ops (tree s id)))) b)
-        ∙ whole_text s.style s.name (pieces_within s.ops m (tree s id)))
+  begins id m bare j js e b h = (
+    subst (λ ks. AreReady s (reverse ks)) (sym e) (h.ready, tt),
+    ap (λ ks. (put_all blank_line (all_pieces s (reverse ks))).text) e ∙ ap (λ ps. (put_all blank_line ps).text) (append-nil (job_pieces s j) ∙ h.pieces ∙ ap (λ d. spelled_all s (unless d (pieces s.ops (tree s id)))) b)
+        ∙ whole_text s.style s.name (pieces_within s.ops m (tree s id)),
+  )
 
 pub nothing_left : (s : Setting) (line : Written) (js : List Job) → js ≡ [] → (put_all line (all_pieces s (reverse js))).text ≡ line.text
 nothing_left s line js e = ap (λ ks. (put_all line (all_pieces s (reverse ks))).text) e

@@ -82,8 +82,8 @@ pub unnamed_more : (names : List VariableName) (g : ℕ → Option ℕ) (vs keys
 unnamed_more names g vs keys i x once are h e k =
     with_by names (take i vs) keys x (g x)
     (none_before (is_unnamed names) x (take i vs) (λ j d l q.
-      let short : j < i = omega (arith, length-take-le i vs (omega arith)) in
-      once j i d short h (sym (get_or-take i vs j d short) ∙ q ∙ e ∙ get_or_default vs i x d h)))
+    let short : j < i = omega (arith, length-take-le i vs (omega arith)) in
+    once j i d short h (sym (get_or-take i vs j d short) ∙ q ∙ e ∙ get_or_default vs i x d h)))
     k (are x)
     ∙ ap (filter (is_unnamed names)) (sym (take_more vs i x h ∙ ap (λ y. take i vs ++ y ∷ []) (sym e)))
 

@@ -22,7 +22,7 @@ module _ (style : Style) (name : ℕ → Text) where
   joined_more : (text blank own behind rest : Text) → (text ++ (blank ++ own)) ++ (behind ++ rest) ≡ text ++ (blank ++ (own ++ (behind ++ rest)))
   joined_more text blank own behind rest = append_assoc text (blank ++ own) (behind ++ rest) ∙ ap (λ t. text ++ t) (append_assoc blank own (behind ++ rest))
 
-  put_by : (line : Written) (p : Piece) (ps : List Piece) (b : Bool) → 
+  put_by : (line : Written) (p : Piece) (ps : List Piece) (b : Bool) →
       (let more : Written = record { text = line.text ++ (blank_before line.last (spelled style name p) ++ text_of style name p); last = Some (last_piece (spelled style name p)) } in
       (put_all line (map (spelled style name) ps)).text ≡ line.text ++ (front line.last (seen style name ps) ++ joined style name (seen style name ps)) →
       (put_all more (map (spelled style name) ps)).text ≡ more.text ++ (front more.last (seen style name ps) ++ joined style name (seen style name ps)) →

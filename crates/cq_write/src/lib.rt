@@ -9,10 +9,10 @@ mod numbers;
 mod operands;
 mod parts;
 mod shapes;
-mod variables;
-mod writer;
 #[cfg(test)]
 mod tests;
+mod variables;
+mod writer;
 
 ghost use Rattle.std.specs.Prelude.{◌≡◌, ◌<◌, length, IfOk};
 ghost use Rattle.cq_term.specs.Meaning.{at};

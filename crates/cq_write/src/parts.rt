@@ -51,7 +51,10 @@ impl Writer<'_> {
         if is_negative(number) {
             push_all(
                 jobs,
-                &[Job::Word(Word::Mark(Mark::Minus)), Job::Word(Word::Numeral(number.neg()))],
+                &[
+                    Job::Word(Word::Mark(Mark::Minus)),
+                    Job::Word(Word::Numeral(number.neg())),
+                ],
             )
         } else {
             push_all(jobs, &[Job::Word(Word::Numeral(number))])
@@ -64,9 +67,21 @@ impl Writer<'_> {
     {
         let text = self.text(name);
         if text == "[]" {
-            push_all(jobs, &[Job::Word(Word::Mark(Mark::OpenList)), Job::Word(Word::Mark(Mark::CloseList))])
+            push_all(
+                jobs,
+                &[
+                    Job::Word(Word::Mark(Mark::OpenList)),
+                    Job::Word(Word::Mark(Mark::CloseList)),
+                ],
+            )
         } else if text == "{}" {
-            push_all(jobs, &[Job::Word(Word::Mark(Mark::OpenCurly)), Job::Word(Word::Mark(Mark::CloseCurly))])
+            push_all(
+                jobs,
+                &[
+                    Job::Word(Word::Mark(Mark::OpenCurly)),
+                    Job::Word(Word::Mark(Mark::CloseCurly)),
+                ],
+            )
         } else {
             push_all(jobs, &[Job::Word(Word::Name(name))])
         }
@@ -113,7 +128,11 @@ impl Writer<'_> {
             let inside = Job::Part(Part::Term(argument));
             return push_all(
                 jobs,
-                &[Job::Word(Word::Mark(Mark::OpenCurly)), inside, Job::Word(Word::Mark(Mark::CloseCurly))],
+                &[
+                    Job::Word(Word::Mark(Mark::OpenCurly)),
+                    inside,
+                    Job::Word(Word::Mark(Mark::CloseCurly)),
+                ],
             );
         }
         if let Some(op) = self.prefix(name) {
@@ -167,7 +186,14 @@ impl Writer<'_> {
         ensures { OnOk result ((j : Job) × IsOperand (setting self.now) (is_bare_argument_of (setting self.now).ops (tree (setting self.now) element)) element j × (jobs.new.items ≡ jobs.old.items ++ reverse (cell_jobs opens j rest))) }
     {
         let element = operand_job(self.is_bare_argument(element), element);
-        push_all(jobs, &[Job::Word(Word::Mark(opens)), element, Job::Part(Part::Rest(rest))])
+        push_all(
+            jobs,
+            &[
+                Job::Word(Word::Mark(opens)),
+                element,
+                Job::Part(Part::Rest(rest)),
+            ],
+        )
     }
 
     /// A term by itself.
@@ -201,7 +227,14 @@ impl Writer<'_> {
             Tail::Cell(element, rest) => self.cell(Mark::Comma, element, rest, jobs),
             Tail::Other => {
                 let last = operand_job(self.is_bare_argument(term), term);
-                push_all(jobs, &[Job::Word(Word::Mark(Mark::Bar)), last, Job::Word(Word::Mark(Mark::CloseList))])
+                push_all(
+                    jobs,
+                    &[
+                        Job::Word(Word::Mark(Mark::Bar)),
+                        last,
+                        Job::Word(Word::Mark(Mark::CloseList)),
+                    ],
+                )
             }
         }
     }
@@ -231,7 +264,14 @@ impl Writer<'_> {
             Part::Term(term) => self.term(term, jobs),
             Part::Enclosed(term) => {
                 let inside = Job::Part(Part::Term(term));
-                push_all(jobs, &[Job::Word(Word::Mark(Mark::Open)), inside, Job::Word(Word::Mark(Mark::Close))])
+                push_all(
+                    jobs,
+                    &[
+                        Job::Word(Word::Mark(Mark::Open)),
+                        inside,
+                        Job::Word(Word::Mark(Mark::Close)),
+                    ],
+                )
             }
             Part::Rest(term) => self.rest(term, jobs),
             Part::Arguments(term, at) => self.arguments(term, at, jobs),

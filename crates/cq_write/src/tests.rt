@@ -185,12 +185,7 @@ fn unary_text(
     text(&heap, &atoms, &ops, style, term)
 }
 
-fn binary_text(
-    alloc: Global,
-    name: &str,
-    left: Leaf,
-    right: Leaf,
-) -> Result<Vec<u8>, AllocError> {
+fn binary_text(alloc: Global, name: &str, left: Leaf, right: Leaf) -> Result<Vec<u8>, AllocError> {
     let mut heap = Heap::new(alloc);
     let World { mut atoms, ops } = new_world(alloc)?;
     let left = make_leaf(&mut heap, &mut atoms, left)?;

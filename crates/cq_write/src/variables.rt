@@ -26,11 +26,7 @@ pub(crate) struct Names<'a> {
 }
 
 /// Notes the place of a variable, unless it has one.
-fn note(
-    given: &mut IndexMap<usize, usize>,
-    variable: usize,
-    place: usize,
-) -> Result<(), AllocError>
+fn note(given: &mut IndexMap<usize, usize>, variable: usize, place: usize) -> Result<(), AllocError>
     ensures { OnOk result ((v : ℕ) → get nat_eq given.new v ≡ kept_or (get nat_eq given.old v) (nat_eq variable v) place) }
 {
     if given.contains_key(&variable) {

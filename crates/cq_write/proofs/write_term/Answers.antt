@@ -18,7 +18,7 @@ loop-job-init c =
     let w : Writer = record { heap = c.args.heap; atoms = c.args.atoms; ops = c.args.ops; style = c.args.style; names = c.in_ok-new.field-0 } in
     let s = setting w in
     let b = begins s c.args.term c.args.priority (nat_le c.priority.result c.args.priority) c.operand_job.result c.in_ok-jobs.jobs.items c.in_ok-jobs.ensures.items (ap (λ p. nat_le p c.args.priority) c.priority.ensures)
-      (c.operand_job.ensures s (record { live = c.requires.live; names = c.requires.names })) in
+    (c.operand_job.ensures s (record { live = c.requires.live; names = c.requires.names })) in
     record { ready = b.0; text = ap (λ l. (put_all l (all_pieces s (reverse c.in_ok-jobs.jobs.items))).text) c.new-line.ensures ∙ b.1 }
 
 pub loop-job-smaller : goal.loop-job-smaller

@@ -10,5 +10,5 @@ returns-in-None c =
     let v = c.args.variable.0 in
     on_ok c.push_counted-in-None.result
     (λ e. e ∙ ap (λ t. string_bytes c.args.out.now ++ t)
-      (shown_counted n.names.now n.unnamed.keys v c.len-count.result (none_given n.names.now (get nat_eq n.given) v c.requires.given c.in_default.ensures.value) c.in-None.ensures.index c.len-count.ensures.len))
+    (shown_counted n.names.now n.unnamed.keys v c.len-count.result (none_given n.names.now (get nat_eq n.given) v c.requires.given c.in_default.ensures.value) c.in-None.ensures.index c.len-count.ensures.len))
     c.push_counted-in-None.ensures

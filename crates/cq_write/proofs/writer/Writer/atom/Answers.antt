@@ -23,8 +23,8 @@ returns-then-eq-2 c =
     let text = text_of s.texts c.args.name in
     expands s (part.Term c.args.term) (job.Word (word.Mark mark.OpenCurly) ∷ job.Word (word.Mark mark.CloseCurly) ∷ []) c.args.jobs.now.items c.push_all-then-eq-2.new.jobs.items c.push_all-then-eq-2.result
     (curly_made s c.args.term c.args.name c.requires.0
-      (says c.text-text.result.now text (codes "[]") c.eq.result false c.text-text.ensures c.eq.ensures c.if-eq.false)
-      (says c.text-text.result.now text (codes "{}") c.eq-else-eq.result true c.text-text.ensures c.eq-else-eq.ensures c.if-eq-2.true))
+    (says c.text-text.result.now text (codes "[]") c.eq.result false c.text-text.ensures c.eq.ensures c.if-eq.false)
+    (says c.text-text.result.now text (codes "{}") c.eq-else-eq.result true c.text-text.ensures c.eq-else-eq.ensures c.if-eq-2.true))
     c.push_all-then-eq-2.ensures
 
 pub returns-else-eq-2 : goal.returns-else-eq-2
@@ -33,6 +33,6 @@ returns-else-eq-2 c =
     let text = text_of s.texts c.args.name in
     expands s (part.Term c.args.term) (job.Word (word.Name c.args.name) ∷ []) c.args.jobs.now.items c.push_all-else-eq-2.new.jobs.items c.push_all-else-eq-2.result
     (atom_made s c.args.term c.args.name c.requires.0 c.requires.1
-      (says c.text-text.result.now text (codes "[]") c.eq.result false c.text-text.ensures c.eq.ensures c.if-eq.false)
-      (says c.text-text.result.now text (codes "{}") c.eq-else-eq.result false c.text-text.ensures c.eq-else-eq.ensures c.if-eq-2.false))
+    (says c.text-text.result.now text (codes "[]") c.eq.result false c.text-text.ensures c.eq.ensures c.if-eq.false)
+    (says c.text-text.result.now text (codes "{}") c.eq-else-eq.result false c.text-text.ensures c.eq-else-eq.ensures c.if-eq-2.false))
     c.push_all-else-eq-2.ensures

@@ -24,18 +24,20 @@ argument-requires-then-arity-eq2-2-clause-within c =
 
 pub returns-then-arity-eq1 : goal.returns-then-arity-eq1
 returns-then-arity-eq1 c =
-    let ts = c.args.self.now.heap.now.now.terms in
-    (one_argument (at ts c.args.term) (at ts c.argument.result) c.args.name c.args.arity c.requires.shown c.if-arity-eq1.true c.argument.ensures.argument,
+    let ts = c.args.self.now.heap.now.now.terms in (
+      one_argument (at ts c.args.term) (at ts c.argument.result) c.args.name c.args.arity c.requires.shown c.if-arity-eq1.true c.argument.ensures.argument,
       name_below (length c.args.self.now.atoms.now) (at ts c.args.term) c.args.name c.args.arity c.requires.shown c.requires.known.names,
-      c.argument.ensures.known)
+      c.argument.ensures.known,
+    )
 
 pub returns-then-arity-eq2 : goal.returns-then-arity-eq2
 returns-then-arity-eq2 c =
-    let ts = c.args.self.now.heap.now.now.terms in
-    (two_arguments (at ts c.args.term) (at ts c.argument-then-arity-eq2.result) (at ts c.argument-then-arity-eq2-2.result) c.args.name c.args.arity c.requires.shown c.if-arity-eq2.true c.argument-then-arity-eq2.ensures.argument c.argument-then-arity-eq2-2.ensures.argument,
+    let ts = c.args.self.now.heap.now.now.terms in (
+      two_arguments (at ts c.args.term) (at ts c.argument-then-arity-eq2.result) (at ts c.argument-then-arity-eq2-2.result) c.args.name c.args.arity c.requires.shown c.if-arity-eq2.true c.argument-then-arity-eq2.ensures.argument c.argument-then-arity-eq2-2.ensures.argument,
       name_below (length c.args.self.now.atoms.now) (at ts c.args.term) c.args.name c.args.arity c.requires.shown c.requires.known.names,
       c.argument-then-arity-eq2.ensures.known,
-      c.argument-then-arity-eq2-2.ensures.known)
+      c.argument-then-arity-eq2-2.ensures.known,
+    )
 
 pub returns-else-arity-eq2 : goal.returns-else-arity-eq2
 returns-else-arity-eq2 c =

@@ -15,5 +15,5 @@ returns-in-Enclosed c =
     let s = setting c.args.self.now in
     subst (λ p. OnOk c.push_all.result (Expands s p c.args.jobs.now.items c.push_all.new.jobs.items)) (sym c.in-Enclosed.is)
     (expands s (part.Enclosed c.in-Enclosed.term) (job.Word (word.Mark mark.Open) ∷ job.Part (part.Term c.in-Enclosed.term) ∷ job.Word (word.Mark mark.Close) ∷ []) c.args.jobs.now.items c.push_all.new.jobs.items c.push_all.result
-      (enclosed_made s c.in-Enclosed.term (subst (IsReadyPart s) c.in-Enclosed.is c.requires))
-      c.push_all.ensures)
+    (enclosed_made s c.in-Enclosed.term (subst (IsReadyPart s) c.in-Enclosed.is c.requires))
+    c.push_all.ensures)

@@ -14,7 +14,7 @@ returns-then-is_negative c =
     let s = setting c.args.self.now in
     expands s (part.Term c.args.term) (job.Word (word.Mark mark.Minus) ∷ job.Word (word.Numeral c.neg.result) ∷ []) c.args.jobs.now.items c.push_all.new.jobs.items c.push_all.result
     (subst (λ n. IsExpansion s (part.Term c.args.term) (job.Word (word.Mark mark.Minus) ∷ job.Word (word.Numeral n) ∷ [])) (sym c.neg.ensures)
-      (negative_made s c.args.term c.args.number c.requires (sym c.is_negative.ensures ∙ c.if-is_negative.true)))
+    (negative_made s c.args.term c.args.number c.requires (sym c.is_negative.ensures ∙ c.if-is_negative.true)))
     c.push_all.ensures
 
 pub returns-else-is_negative : goal.returns-else-is_negative
@@ -23,4 +23,3 @@ returns-else-is_negative c =
     expands s (part.Term c.args.term) (job.Word (word.Numeral c.args.number) ∷ []) c.args.jobs.now.items c.push_all-else-is_negative.new.jobs.items c.push_all-else-is_negative.result
     (numeral_made s c.args.term c.args.number c.requires (sym c.is_negative.ensures ∙ c.if-is_negative.false))
     c.push_all-else-is_negative.ensures
-

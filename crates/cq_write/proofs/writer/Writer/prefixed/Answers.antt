@@ -22,6 +22,5 @@ returns c =
     let s = setting c.args.self.now in
     expands s (part.Term c.args.term) (job.Word (word.Prefix c.args.name) ∷ c.operand_job.result ∷ []) c.args.jobs.now.items c.push_all.new.jobs.items c.push_all.result
     (prefix_made s c.args.term c.args.name c.args.operand c.args.op c.operand_job.result c.requires.shape.0 c.requires.shape.1 c.requires.no_braces c.requires.operator (sym c.is_signed.ensures ∙ c.if-is_signed.false)
-      (operand_of s (is_bare_right s.ops (right_most c.args.op) (tree s c.args.operand)) c.is_bare_right-bare.result c.args.operand c.operand_job.result c.is_bare_right-bare.ensures (c.operand_job.ensures s c.requires.shape.2)))
+    (operand_of s (is_bare_right s.ops (right_most c.args.op) (tree s c.args.operand)) c.is_bare_right-bare.result c.args.operand c.operand_job.result c.is_bare_right-bare.ensures (c.operand_job.ensures s c.requires.shape.2)))
     c.push_all.ensures
-

@@ -22,8 +22,11 @@ returns-in-Cell c =
     let s = setting c.args.self.now in
     let tail = c.in-Cell.ensures in
     on_ok c.cell.result
-    (λ made. (cell_jobs mark.Comma made.0 c.in-Cell.rest, made.2,
-      rest_cell_made s c.args.term tail.0 c.in-Cell.element c.in-Cell.rest made.0 tail.1 tail.4 tail.2 made.1))
+    (λ made. (
+      cell_jobs mark.Comma made.0 c.in-Cell.rest,
+      made.2,
+      rest_cell_made s c.args.term tail.0 c.in-Cell.element c.in-Cell.rest made.0 tail.1 tail.4 tail.2 made.1,
+    ))
     c.cell.ensures
 
 pub returns-in-Other : goal.returns-in-Other
@@ -31,6 +34,5 @@ returns-in-Other c =
     let s = setting c.args.self.now in
     expands s (part.Rest c.args.term) (job.Word (word.Mark mark.Bar) ∷ c.operand_job-last.result ∷ job.Word (word.Mark mark.CloseList) ∷ []) c.args.jobs.now.items c.push_all-in-Other.new.jobs.items c.push_all-in-Other.result
     (rest_other_made s c.args.term c.operand_job-last.result c.in-Other.ensures
-      (operand_of s (is_bare_argument s.ops (tree s c.args.term)) c.is_bare_argument.result c.args.term c.operand_job-last.result c.is_bare_argument.ensures (c.operand_job-last.ensures s c.requires)))
+    (operand_of s (is_bare_argument s.ops (tree s c.args.term)) c.is_bare_argument.result c.args.term c.operand_job-last.result c.is_bare_argument.ensures (c.operand_job-last.ensures s c.requires)))
     c.push_all-in-Other.ensures
-

@@ -22,9 +22,12 @@ returns-then-eq c =
     let s = setting c.args.self.now in
     let shape = c.in-Binary.ensures in
     on_ok c.cell.result
-    (λ made. (cell_jobs mark.OpenList made.0 c.in-Binary.right, made.2,
+    (λ made. (
+      cell_jobs mark.OpenList made.0 c.in-Binary.right,
+      made.2,
       cell_made s c.args.term c.in-Binary.name c.in-Binary.left c.in-Binary.right made.0 shape.0 shape.3
-      (says c.text.result.now (text_of s.texts c.in-Binary.name) (codes ".") c.eq.result true c.text.ensures c.eq.ensures c.if-eq.true) made.1))
+          (says c.text.result.now (text_of s.texts c.in-Binary.name) (codes ".") c.eq.result true c.text.ensures c.eq.ensures c.if-eq.true) made.1,
+    ))
     c.cell.ensures
 
 pub returns-in-Many : goal.returns-in-Many
@@ -33,4 +36,3 @@ returns-in-Many c =
     expands s (part.Term c.args.term) (functional_jobs c.args.term c.in-Many.name) c.args.jobs.now.items c.functional.new.jobs.items c.functional.result
     (let shape = c.in-Many.ensures in many_made s c.args.term c.in-Many.name shape.0 shape.1 shape.2 shape.3 shape.4 c.requires)
     c.functional.ensures
-

@@ -23,7 +23,7 @@ returns-in-Some-postfix c =
     let s = setting c.args.self.now in
     expands s (part.Term c.args.term) (c.operand_job.result ∷ job.Word (word.Name c.args.name) ∷ []) c.args.jobs.now.items c.push_all-in-Some-postfix.new.jobs.items c.push_all-in-Some-postfix.result
     (postfix_made s c.args.term c.args.name c.args.argument c.in-Some-postfix.op c.operand_job.result c.requires.shape.0 c.requires.shape.1 (says c.text.result.now (text_of s.texts c.args.name) (codes "{}") c.eq.result false c.text.ensures c.eq.ensures c.if-eq.false) (sym c.in_default.ensures) (sym c.in-Some-postfix.ensures)
-      (operand_of s (is_bare_left s.ops c.in-Some-postfix.op (tree s c.args.argument)) c.is_bare_left-bare.result c.args.argument c.operand_job.result c.is_bare_left-bare.ensures (c.operand_job.ensures s c.requires.shape.2)))
+    (operand_of s (is_bare_left s.ops c.in-Some-postfix.op (tree s c.args.argument)) c.is_bare_left-bare.result c.args.argument c.operand_job.result c.is_bare_left-bare.ensures (c.operand_job.ensures s c.requires.shape.2)))
     c.push_all-in-Some-postfix.ensures
 
 pub returns-in-None : goal.returns-in-None
@@ -32,4 +32,3 @@ returns-in-None c =
     expands s (part.Term c.args.term) (functional_jobs c.args.term c.args.name) c.args.jobs.now.items c.functional.new.jobs.items c.functional.result
     (unary_made s c.args.term c.args.name c.args.argument c.requires.shape.0 c.requires.shape.1 c.requires.known (says c.text.result.now (text_of s.texts c.args.name) (codes "{}") c.eq.result false c.text.ensures c.eq.ensures c.if-eq.false) (sym c.in_default.ensures) (sym c.in-None.ensures))
     c.functional.ensures
-
