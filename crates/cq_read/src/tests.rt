@@ -1,8 +1,8 @@
-// Texts with what stands in them, whole and in pieces.
+// Texts with what stands in them.
 
 ghost use Rattle.std.specs.Prelude.{◌<◌, length};
 
-use crate::{Fed, Feed, Read, read_clause};
+use crate::{Read, read_clause};
 use cq_atoms::Atoms;
 use cq_ops::Ops;
 use cq_term::{Heap, TermId, View};
@@ -131,64 +131,6 @@ fn places_have_what_stands_there(rt: HostRuntime) -> Result<(), Fail> {
             stands(&mut heap, &mut atoms, &ops, text, *at, want)?,
             "{text} at {at}"
         );
-    }
-    Ok(())
-}
-
-/// The places behind what a feed reads, of which none is past a place where the bytes that came decide nothing.
-fn places_read(
-    heap: &mut Heap,
-    atoms: &mut Atoms,
-    ops: &Ops,
-    feed: &mut Feed,
-    places: &mut Vec<usize>,
-) -> Result<(), AllocError> {
-    for _ in 0..u64::MAX {
-        match feed.next(heap, atoms, ops)? {
-            Fed::Needs | Fed::Read(Read::End) => return Ok(()),
-            Fed::Read(Read::Clause { next, .. }) => places.push(next)?,
-            Fed::Read(Read::Syntax { at, resume }) => {
-                places.push(at)?;
-                places.push(resume)?;
-            }
-        }
-    }
-    Ok(())
-}
-
-/// The places that are read of a text in pieces of this size, each as soon as it is decided.
-fn in_pieces(
-    heap: &mut Heap,
-    atoms: &mut Atoms,
-    ops: &Ops,
-    text: &[u8],
-    size: usize,
-) -> Result<Vec<usize>, AllocError>
-    requires { 0 < size }
-{
-    let mut feed = Feed::new(heap.alloc());
-    let mut places = Vec::new(heap.alloc());
-    for piece in text.chunks(size) {
-        feed.push(piece)?;
-        places_read(heap, atoms, ops, &mut feed, &mut places)?;
-    }
-    feed.finish();
-    places_read(heap, atoms, ops, &mut feed, &mut places)?;
-    Ok(places)
-}
-
-const TEXT: &str = "a. b:-c,d. % e. f\n'g. h'. i j. k('l\nm). n. \"o. p\". /* q. */ r(1.5). s. t";
-
-const PLACES: [usize; 14] = [2, 10, 25, 28, 30, 35, 39, 42, 50, 63, 67, 70, 72, 72];
-
-#[test]
-fn pieces_read_as_the_whole(rt: HostRuntime) -> Result<(), Fail> {
-    let mut atoms = Atoms::new(rt.alloc());
-    let ops = Ops::standard(rt.alloc(), &mut atoms)?;
-    let mut heap = Heap::new(rt.alloc());
-    for size in [1, 2, 7, 100] {
-        let places = in_pieces(&mut heap, &mut atoms, &ops, TEXT.as_bytes(), size)?;
-        assert_eq!(rt; places.as_slice(), PLACES.as_slice(), "in pieces of {size}");
     }
     Ok(())
 }

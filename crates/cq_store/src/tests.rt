@@ -127,7 +127,7 @@ fn number(n: i128) -> Frac {
 }
 
 /// The form and the product of a number and a variable.
-fn with_product(alloc: Global, form: &Form, factor: i128, x: usize) -> Result<Form, Fail> {
+fn with_product(alloc: Global, form: Form, factor: i128, x: usize) -> Result<Form, Fail> {
     let variable = Form::new(alloc, Frac::zero(), &[(VarId(x), Frac::one())])?;
     let product = variable.scale(number(factor))?;
     Ok(form.add(&product)?)
@@ -138,7 +138,7 @@ fn equation(alloc: Global, products: &[(i128, usize)], constant: i128) -> Result
 {
     let mut form = Form::new(alloc, number(constant), &[])?;
     for (factor, x) in products {
-        form = with_product(alloc, &form, *factor, *x)?;
+        form = with_product(alloc, form, *factor, *x)?;
     }
     Ok(Constraint {
         relation: Relation::Eq,

@@ -1,5 +1,0 @@
-pub mod Meaning
-pub mod Spelled
-pub mod Work
-pub mod Naming
-pub mod Settings
