@@ -60,6 +60,7 @@ impl Model for Dict {
 impl Dict {
     ghost use Rattle.cq_dict.specs.DictValue.{quantities_of};
 
+    /// A dictionary without quantities. It takes no memory.
     pub fn new(alloc: Global) -> Dict
         ensures roles { result.roles ≡ [] }
         ensures flags { result.restricted ≡ [] }
@@ -106,6 +107,7 @@ impl Dict {
         self.roles.len()
     }
 
+    /// Whether the quantity is basic, so that a row gives its value.
     pub fn is_row(&self, q: usize) -> bool
         requires { q < length self.now.roles }
         ensures { MatchBool result (IsRow self.now.roles q) (IsAt self.now.roles q Live ⊎ IsAt self.now.roles q Dropped) }
@@ -121,6 +123,7 @@ impl Dict {
         matches!(self.role(q), Role::Dropped)
     }
 
+    /// Whether the quantity may not be negative.
     pub fn is_restricted(&self, q: usize) -> bool
         requires { q < length self.now.roles }
         ensures { result ≡ flag_of self.now.restricted q }

@@ -54,6 +54,7 @@ impl Form {
         })
     }
 
+    /// The value of the form where every variable is zero.
     pub fn constant(&self) -> Frac
         ensures { result ≡ self.now.constant }
     {
@@ -215,6 +216,7 @@ impl Cert {
         }
     }
 
+    /// The members' numbers with their multipliers.
     pub fn entries(&self) -> &[(usize, Frac)]
         ensures { result.now ≡ self.now }
     {

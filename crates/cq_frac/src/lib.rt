@@ -158,12 +158,14 @@ impl Frac {
         Ok(made((n < 0) != (d < 0), top, bottom))
     }
 
+    /// The fraction 0 over 1.
     pub fn zero() -> Frac
         ensures { result ≡ 0ℚ }
     {
         Frac { numer: 0, denom: 1 }
     }
 
+    /// The fraction 1 over 1.
     pub fn one() -> Frac
         ensures { result ≡ 1ℚ }
     {
@@ -179,12 +181,14 @@ impl Frac {
         (self.numer, self.denom)
     }
 
+    /// Whether the number is 0.
     pub fn is_zero(self) -> bool
         ensures { IsTrue result ↔ (self ≡ 0ℚ) }
     {
         self.numer == 0
     }
 
+    /// Whether the number is below 0.
     pub fn is_negative(self) -> bool
         ensures negative { IsTrue result ↔ (self <ℚ 0ℚ) }
         ensures otherwise { OnFalse result (IsNotNegative self) }
@@ -192,6 +196,7 @@ impl Frac {
         self.numer < 0
     }
 
+    /// Whether the number is above 0.
     pub fn is_positive(self) -> bool
         ensures positive { IsTrue result ↔ IsPositive self }
         ensures otherwise { OnFalse result (IsNotNegative (neg_ℚ self)) }

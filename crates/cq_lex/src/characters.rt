@@ -53,7 +53,7 @@ fn decoded(bytes: &[u8]) -> Option<char>
 
 /// The character that the text begins with.
 #[tactic(auto, unfolding(spec_grammar::specs::Characters::first_char))]
-pub(crate) fn first_char(text: &[u8]) -> Option<char>
+pub fn first_char(text: &[u8]) -> Option<char>
     ensures value { result ≡ first_char text.now }
 {
     match text.first() {

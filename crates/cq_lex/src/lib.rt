@@ -17,6 +17,7 @@ ghost use Rattle.std.specs.List.{prefix_len};
 ghost use Rattle.std.specs.String.{string_bytes};
 ghost use Rattle.cq_lex.specs.Shown.{shown, told};
 
+pub use characters::first_char;
 use characters::{
     is_punctuation, is_sign, is_symbol, name_end, starts_name, starts_variable, symbols_len, width,
 };

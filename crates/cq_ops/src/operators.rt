@@ -29,6 +29,7 @@ impl Model for Operators {
 }
 
 impl Operators {
+    /// A table without operators. It takes no memory.
     pub fn new(alloc: Global) -> Operators
         ensures { result ≡ map.empty }
     {
@@ -37,6 +38,7 @@ impl Operators {
         }
     }
 
+    /// What the name is as an operator of this class; none where it is none.
     pub fn get(&self, name: Atom) -> Option<OpDef>
         ensures { result ≡ map.get self.now name }
     {

@@ -4,7 +4,7 @@ ghost use Rattle.cq_outside.specs.Counts.{Rose};
 
 use std::alloc::{AllocError, Global};
 
-// The calls with these numbers, from 1, fail.
+/// The calls made of an object in memory; those with these numbers, from 1, fail.
 #[derive(Drop)]
 pub struct Calls {
     fails: Vec<u64>,
@@ -15,6 +15,7 @@ pub struct Calls {
 impl Calls {
     ghost use Rattle.cq_outside.specs.Calls.{AreToFail, IsNext, NextFails};
 
+    /// The calls of an object in memory, of which those with the given numbers, counted from 1, fail. Fails for want of memory.
     pub fn new(alloc: Global, fails: &[u64]) -> Result<Self, AllocError>
         ensures { IfOk result (AreToFail fails.now) }
     {
@@ -25,7 +26,7 @@ impl Calls {
         })
     }
 
-    // Counts one more call, and its fault if it is to fail.
+    /// Counts one more call, and its fault if it is to fail; whether it is.
     pub fn next_fails(&mut self) -> bool
         ensures next { IsNext self.old self.new }
         ensures fails { IsTrue result ↔ NextFails self.old }
@@ -39,6 +40,7 @@ impl Calls {
         fails
     }
 
+    /// Counts one fault more.
     pub fn count_fault(&mut self)
         ensures faults { Rose self.old.faults self.new.faults }
         ensures others { self.new ≡ record self.old { faults = self.new.faults } }

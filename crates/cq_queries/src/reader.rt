@@ -34,6 +34,7 @@ fn summand_due(left: Option<Sum>, sum: Sum, sign: Sign) -> Place
 }
 
 impl Reader {
+    /// A reader at the beginning of a text. It takes no memory.
     pub fn new(alloc: Global) -> Reader
         ensures { reading_of result grammar.before_query ≡ fresh [] }
     {

@@ -26,6 +26,7 @@ impl Model for Variables {
 }
 
 impl Variables {
+    /// No variable read yet. It takes no memory.
     pub fn new(alloc: Global) -> Variables
         ensures { result ≡ no_variables }
     {
@@ -73,6 +74,7 @@ impl Variables {
         Ok(number)
     }
 
+    /// How many variables have been read.
     pub fn count(&self) -> usize
         ensures { result ≡ self.now.count }
     {

@@ -66,18 +66,21 @@ impl Row {
         Ok(row)
     }
 
+    /// The entries of live columns, in ascending order of the columns, none zero.
     pub fn live(&self) -> &[Entry]
         ensures { result.now ≡ self.now.live }
     {
         &self.live
     }
 
+    /// The entries of dropped columns, whose values are zero; in ascending order, none zero.
     pub fn dropped(&self) -> &[Entry]
         ensures { result.now ≡ self.now.dropped }
     {
         &self.dropped
     }
 
+    /// The value of the row where every column is zero.
     pub fn constant(&self) -> Frac
         ensures { result ≡ self.now.constant }
     {

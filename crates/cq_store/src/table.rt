@@ -67,6 +67,7 @@ impl SolvedRow<'_> {
         self.entries.len()
     }
 
+    /// Whether the form is a constant.
     pub fn is_empty(&self) -> bool
         ensures { IsTrue result ↔ (self.now.products ≡ []) }
     {
@@ -119,6 +120,7 @@ impl Table {
     ghost use Rattle.cq_store.specs.Entering.{AddsMember, RefusesMember};
     ghost use Rattle.cq_store.specs.Told.{numbers_of};
 
+    /// A table without quantities. It takes no memory.
     pub fn new(alloc: Global) -> Table
         ensures now { result.now ≡ record { names = []; roles = [] } }
         ensures saved { result.saved ≡ [] }

@@ -57,6 +57,7 @@ impl Model for Heap {
 }
 
 impl Heap {
+    /// An empty heap. It takes no memory.
     pub fn new(alloc: Global) -> Self
         ensures terms { result.now.terms ≡ [] }
         ensures images { result.now.images ≡ [] }
@@ -76,6 +77,7 @@ impl Heap {
         }
     }
 
+    /// A number as a term. Fails for want of memory, with every term as it was.
     pub fn number(&mut self, number: Frac) -> Result<TermId, AllocError>
         ensures id { IfOk result (λ id. id ≡ length self.old.now.terms) }
         ensures terms { OnOk result (self.new.now.terms ≡ self.old.now.terms ++ Number number ∷ []) }
@@ -121,6 +123,7 @@ impl Heap {
         Ok(TermId::new(id))
     }
 
+    /// An atom as a term. Fails for want of memory, with every term as it was.
     pub fn atom(&mut self, name: Atom) -> Result<TermId, AllocError>
         ensures id { IfOk result (λ id. id ≡ length self.old.now.terms) }
         ensures terms { OnOk result (self.new.now.terms ≡ self.old.now.terms ++ Name name ∷ []) }
@@ -134,6 +137,7 @@ impl Heap {
         Ok(TermId::new(id))
     }
 
+    /// A compound with the given name and arguments, at least one. Fails for want of memory, with every term as it was.
     pub fn compound(&mut self, name: Atom, args: &[TermId]) -> Result<TermId, AllocError>
         requires some { 0 < length args.now }
         requires live { All (λ i. i < length self.old.now.terms) args.now }

@@ -60,6 +60,7 @@ impl Model for Newly {
 }
 
 impl Newly {
+    /// An empty list. It takes no memory.
     pub fn new(alloc: Global) -> Self
         ensures { result ≡ [] }
     {
@@ -68,6 +69,7 @@ impl Newly {
         }
     }
 
+    /// Puts a variable at the end. Fails for want of memory, with the list as it was.
     pub fn push(&mut self, variable: VarId) -> Result<(), AllocError>
         ensures ok { OnOk result (self.new ≡ self.old ++ variable ∷ []) }
         ensures err { OnErr result (self.new ≡ self.old) }
@@ -83,6 +85,7 @@ impl Newly {
         self.variables.truncate(n);
     }
 
+    /// The variables in the order in which they were put in.
     pub fn as_slice(&self) -> &[VarId]
         ensures { result.now ≡ self.now }
     {

@@ -54,6 +54,7 @@ impl<T> Model for Trail<T> {
 }
 
 impl<T: Drop> Trail<T> {
+    /// An empty list without marks. It takes no memory.
     pub fn new(alloc: Global) -> Self
         ensures now { result.now ≡ [] }
         ensures saved { result.saved ≡ [] }
@@ -67,18 +68,21 @@ impl<T: Drop> Trail<T> {
         }
     }
 
+    /// How many entries the list has.
     pub fn len(&self) -> usize
         ensures { result ≡ length self.now.now }
     {
         self.items.len()
     }
 
+    /// Whether the list has no entry.
     pub fn is_empty(&self) -> bool
         ensures { IsTrue result ↔ (length self.now.now ≡ 0) }
     {
         self.items.is_empty()
     }
 
+    /// The entry at a place, counted from 0.
     pub fn get(&self, at: usize) -> &T
         requires { at < length self.now.now }
         ensures { slice_get self.now.now at ≡ Some result.now }
