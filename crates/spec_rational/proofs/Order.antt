@@ -72,9 +72,6 @@ le_trans {p} {q} {r} h k = record { gap = subst IsNotNegative (gaps_add p q r) (
 pub lt_le_trans : {p q r : ℚ} → p <ℚ q → q ≤ℚ r → p <ℚ r
 lt_le_trans {p} {q} {r} h k = record { gap = subst IsPositive (gaps_add_back p q r) (pos_add h.gap k.gap) }
 
-pub le_lt_trans : {p q r : ℚ} → p ≤ℚ q → q <ℚ r → p <ℚ r
-le_lt_trans {p} {q} {r} h k = record { gap = subst IsPositive (gaps_add p q r) (pos_add k.gap h.gap) }
-
 pub lt_trans : {p q r : ℚ} → p <ℚ q → q <ℚ r → p <ℚ r
 lt_trans {p} {q} {r} h k = lt_le_trans h (lt_to_le k)
 
@@ -98,14 +95,6 @@ lt_or_le p q = go (cmp_ℚ p q) (cmp_ℚ-matches p q)
     go Equal m = inr (subst (λ x. x ≤ℚ p) m (le_refl p))
     go Greater m = inr (lt_to_le m)
 
-pub add_le : {p q r s : ℚ} → p ≤ℚ q → r ≤ℚ s → (p +ℚ r) ≤ℚ (q +ℚ s)
-add_le {p} {q} {r} {s} h k = record {
-  gap =
-      subst IsNotNegative
-      (ring (p ∷ q ∷ r ∷ s ∷ []) ((var 1 ⊕ minus (var 0)) ⊕ (var 3 ⊕ minus (var 2))) ((var 1 ⊕ var 3) ⊕ minus (var 0 ⊕ var 2)) refl)
-      (nonneg_add h.gap k.gap);
-}
-
 pub add_lt_le : {p q r s : ℚ} → p <ℚ q → r ≤ℚ s → (p +ℚ r) <ℚ (q +ℚ s)
 add_lt_le {p} {q} {r} {s} h k = record {
   gap =
@@ -116,9 +105,6 @@ add_lt_le {p} {q} {r} {s} h k = record {
 
 product_gap : (p q t : ℚ) → t *ℚ (q -ℚ p) ≡ t *ℚ q -ℚ t *ℚ p
 product_gap p q t = ring (p ∷ q ∷ t ∷ []) (var 2 ⊗ (var 1 ⊕ minus (var 0))) (var 2 ⊗ var 1 ⊕ minus (var 2 ⊗ var 0)) refl
-
-pub mul_le : {p q : ℚ} (t : ℚ) → IsNotNegative t → p ≤ℚ q → (t *ℚ p) ≤ℚ (t *ℚ q)
-mul_le {p} {q} t n h = record { gap = subst IsNotNegative (product_gap p q t) (nonneg_mul n h.gap) }
 
 pub mul_lt : {p q : ℚ} (t : ℚ) → IsPositive t → p <ℚ q → (t *ℚ p) <ℚ (t *ℚ q)
 mul_lt {p} {q} t n h = record { gap = subst IsPositive (product_gap p q t) (pos_mul n h.gap) }

@@ -40,9 +40,6 @@ pos_ratio n d h k = let s = ratio_scaled n d h in subst (λ x. pos 0 <ℤ x) (sy
 pub ratio_nonneg : (n : ℤ) (d : ℕ) → 0 < d → pos 0 ≤ℤ n → IsNotNegative (ratio n d)
 ratio_nonneg n d h k = let s = ratio_scaled n d h in record { not_negative = z_nonneg_back (ratio n d).numerator s.by s.by_pos (subst (λ x. pos 0 ≤ℤ x) s.num_is k) }
 
-pub nonneg_ratio : (n : ℤ) (d : ℕ) → 0 < d → IsNotNegative (ratio n d) → pos 0 ≤ℤ n
-nonneg_ratio n d h k = let s = ratio_scaled n d h in subst (λ x. pos 0 ≤ℤ x) (sym s.num_is) (z_mul_nonneg (ratio n d).numerator (pos s.by) k.not_negative (omega (arith, ints)))
-
 z_sum_pos : (a b : ℤ) → pos 0 <ℤ a → pos 0 ≤ℤ b → pos 0 <ℤ (a +ℤ b)
 z_sum_pos a b h k = omega (arith, ints)
 

@@ -1,6 +1,5 @@
 -- Sums of products: linear in the assignment and in the factors; a coefficient is the value at a unit.
-use Rattle.std.proofs.Common.{◌≡◌, ℕ, ◌+◌, ◌<◌, List, [], ◌∷◌, ◌++◌, length, take, get_or, Bool, true, false, nat_eq, pos, arith, refl, ap, ap₂, sym, ◌∙◌, inl, inr}
-use Rattle.std.proofs.lemmas.List.{take_more}
+use Rattle.std.proofs.Common.{◌≡◌, ℕ, List, [], ◌∷◌, ◌++◌, Bool, true, false, nat_eq, pos, arith, refl, ap, ap₂, sym, ◌∙◌, inl, inr}
 use Rattle.spec_rational.specs.Rational.{ℚ, 0ℚ, 1ℚ, ◌+ℚ◌, ◌*ℚ◌, neg_ℚ}
 use Rattle.spec_rational.specs.Sums.{Monomial, sum_at, when, unit, factor_of, scaled_products, negated_products, Mentions}
 use Rattle.spec_rational.proofs.Ring.{var, int, ◌⊕◌, ◌⊗◌, minus}
@@ -41,9 +40,6 @@ pub sum_at-push : (v : ℕ → ℚ) (s t : List Monomial) (m : Monomial) → t �
 sum_at-push v s t m e =
     ap (sum_at v) e ∙ sum_at-append v s (m ∷ [])
     ∙ ring (sum_at v s ∷ m.factor ∷ v m.variable ∷ []) (var 0 ⊕ (var 1 ⊗ var 2 ⊕ int (pos 0))) (var 0 ⊕ var 1 ⊗ var 2) refl
-
-pub sum_at-take : (v : ℕ → ℚ) (s : List Monomial) (i : ℕ) (m : Monomial) → i < length s → m ≡ get_or s i m → sum_at v (take (i + 1) s) ≡ sum_at v (take i s) +ℚ m.factor *ℚ v m.variable
-sum_at-take v s i m h e = sum_at-push v (take i s) (take (i + 1) s) m (take_more s i m h ∙ ap (λ x. take i s ++ x ∷ []) (sym e))
 
 pub sum_at-scaled_products : (v : ℕ → ℚ) (k : ℚ) (s : List Monomial) → sum_at v (scaled_products k s) ≡ k *ℚ sum_at v s
 sum_at-scaled_products v k [] = ring (k ∷ []) (int (pos 0)) (var 0 ⊗ int (pos 0)) refl

@@ -70,11 +70,6 @@ module _ (ops : Ops) where
   IsUnapplied (Number q) rest = Unit {0}
   IsUnapplied (Compound f ts) rest = Unit {0}
 
-  -- a token that is no operator and begins no term
-  pub record IsCloser (tok : Token) : Type 0 where
-    pub no_operator : operator_name tok ≡ None
-    pub no_beginning : begins_term ops tok ≡ false
-
   pub unapplied_name : (f : Text) (tok : Token) (rest : List Token) → begins_term ops tok ≡ false → applied_as ops f (tok ∷ rest) ≡ None
   unapplied_name f tok rest e = rw e refl
 
