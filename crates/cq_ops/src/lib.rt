@@ -42,6 +42,20 @@ impl Model for Ops {
     ghost invariant = { λ ops. AreFit (record { prefix = ops.prefix; infixed = ops.infixed; postfix = ops.postfix }) };
 }
 
+/// A table on which changes can be tried: several that must all be made, or none, are made on a copy that then takes the
+/// place of the table.
+impl Clone for Ops {
+    ghost is_clone = { λ ops copy. copy ≡ ops };
+
+    fn clone(&self) -> Result<Ops, AllocError> {
+        Ok(Ops {
+            prefix: self.prefix.clone()?,
+            infixed: self.infixed.clone()?,
+            postfix: self.postfix.clone()?,
+        })
+    }
+}
+
 /// Why an operator is not set, in the order in which it is looked for.
 #[derive(Clone, Copy, PartialEq, Eq, Debug, Error)]
 pub enum OpFault {
@@ -300,6 +314,27 @@ mod tests {
         assert_eq!(rt; arrow_behind, Err(OpFault::Clash));
         assert_eq!(rt; arrow_taken, Ok(()));
         assert_eq!(rt; arrow_gone, None);
+        Ok(())
+    }
+
+    #[test]
+    fn a_copy_changes_alone(rt: HostRuntime) -> Result<(), AllocError> {
+        let mut atoms = Atoms::new(rt.alloc());
+        let ops = Ops::standard(rt.alloc(), &mut atoms)?;
+        let arrow = atoms.intern("===>")?;
+        let mut copy = ops.clone()?;
+        let arrow_set = copy.set(&atoms, 750, "xfx", arrow);
+        let arrow_between = copy.infix(arrow);
+        let arrow_here = ops.infix(arrow);
+        assert_eq!(rt; arrow_set, Ok(()));
+        assert_eq!(rt;
+            arrow_between,
+            Some(OpDef {
+                priority: 750,
+                kind: OpKind::Xfx
+            })
+        );
+        assert_eq!(rt; arrow_here, None);
         Ok(())
     }
 }

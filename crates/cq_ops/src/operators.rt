@@ -28,6 +28,16 @@ impl Model for Operators {
     ghost view = { λ operators. map.from_entries operators.entries.entries };
 }
 
+impl Clone for Operators {
+    ghost is_clone = { λ operators copy. copy ≡ operators };
+
+    fn clone(&self) -> Result<Operators, AllocError> {
+        Ok(Operators {
+            entries: self.entries.clone()?,
+        })
+    }
+}
+
 impl Operators {
     /// A table without operators. It takes no memory.
     pub fn new(alloc: Global) -> Operators
