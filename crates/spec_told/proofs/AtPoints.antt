@@ -12,7 +12,8 @@ use Rattle.spec_syntax.specs.Trees.{Tree}
 use Rattle.spec_told.specs.Expressions.{number_of, form_of, has_zero_divisor, is_zero_form}
 use Rattle.spec_told.specs.Relations.{Lin, Is, False, lin, related_forms, relation_name, RelationName}
 use Rattle.spec_told.proofs.Kept.{Good, GoodOption, form_good}
-use Rattle.spec_told.proofs.Refined.{Refines, Grows, Agrees, form_grows, stays_number}
+use Rattle.spec_told.specs.Values.{Agrees}
+use Rattle.spec_told.proofs.Refined.{Refines, Grows, form_grows, stays_number}
 use Rattle.spec_told.proofs.Stable.{StaysLinear, stays_linear}
 use Rattle.spec_lists.proofs.Tests.{both_are}
 
@@ -118,7 +119,7 @@ module _ (earlier later : ℕ → Option ℚ) (kept : (x : ℕ) (q : ℚ) → ea
 meets : (r s : Relation) (a b : ℚ) → r ≡ s → a ≡ b → Meets r a → Meets s b
 meets r s a b e f h = subst (λ (q : ℚ). Meets s q) f (subst (λ (t : Relation). Meets t a) e h)
 
-agrees : (l : List Constraint) (fixed : ℕ → Option ℚ) → Fixes l fixed → (p : Point) → Solves p l
+pub agrees : (l : List Constraint) (fixed : ℕ → Option ℚ) → Fixes l fixed → (p : Point) → Solves p l
     → Agrees fixed (number p)
 agrees l fixed h p s x q e = (h.sound x q e).always p s
 

@@ -4,7 +4,7 @@ use Rattle.std.specs.Prelude.{◌==◌, ⊤}
 use Rattle.spec_rational.specs.Rational.{ℚ, 1ℚ, ◌+ℚ◌, ◌*ℚ◌, neg_ℚ, inv_ℚ}
 use Rattle.spec_rational.specs.Sums.{Monomial}
 use Rattle.spec_linear.specs.Form.{is_empty, Linear, value_at, IsForm, is_zero, constant_form, sum_form, scaled_form, negated_form}
-use Rattle.spec_linear.proofs.Values.{value_at-variable_form, value_at-sum_form, value_at-scaled_form, value_at-negated_form}
+use Rattle.spec_linear.proofs.Values.{value_at-constant_form, value_at-variable_form, value_at-sum_form, value_at-scaled_form, value_at-negated_form}
 use Rattle.spec_linear.proofs.Ordered.{form_same, IsForm-variable_form, IsForm-sum_form, IsForm-scaled_form, IsForm-negated_form}
 use Rattle.spec_terms.specs.Term.{Var, Number, Name, Compound, one, more}
 use Rattle.spec_syntax.specs.Trees.{Tree}
@@ -22,6 +22,9 @@ is_constant_form f k e = go f.products refl e
         let c : f.constant ≡ k = cc in
         form_same f (constant_form k) p c
     go (m ∷ s) p h = cc
+
+pub value_of_number : (a : ℕ → ℚ) (f : Linear) (k : ℚ) → number_of f ≡ Some k → value_at a f ≡ k
+value_of_number a f k e = ap (value_at a) (is_constant_form f k e) ∙ value_at-constant_form a k
 
 module _ (fixed : ℕ → Option ℚ) where
   -- a form whose value depends on the variables without a fixed value alone

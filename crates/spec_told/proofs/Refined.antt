@@ -13,17 +13,14 @@ use Rattle.spec_syntax.specs.Trees.{Tree}
 use Rattle.spec_arithmetic.specs.Operations.{unary_value, least, greatest}
 use Rattle.spec_arithmetic.specs.declared.UnaryOperation.TheVariants as unary
 use Rattle.spec_told.specs.Expressions.{UnaryName, Same, Opposite, Absolute, BinaryName, Plus, Minus, Times, Over, Power, Least, Greatest, unary_name, binary_name, number_of, on_number, on_numbers, unary_form, product_form, quotient_form, exponent_of, power, power_of_form, power_form, binary_form, variable_under, unary_of, binary_of, form_of}
-use Rattle.spec_told.proofs.Kept.{is_constant_form, Good, GoodOption, form_good}
+use Rattle.spec_told.specs.Values.{Agrees}
+use Rattle.spec_told.proofs.Kept.{is_constant_form, value_of_number, Good, GoodOption, form_good}
 
 -- the later values
 module _ (later : ℕ → Option ℚ) where
-  -- an assignment that gives the fixed values
-  abbrev pub Agrees : (ℕ → ℚ) → Type 0
-  Agrees a = (x : ℕ) (q : ℚ) → later x ≡ Some q → a x ≡ q
-
   -- the same value wherever the fixed values are given
   pub record Refines (f g : Linear) : Type 0 where
-    pub same : (a : ℕ → ℚ) → Agrees a → value_at a f ≡ value_at a g
+    pub same : (a : ℕ → ℚ) → Agrees later a → value_at a f ≡ value_at a g
 
   abbrev or_own : Option ℚ → ℚ → ℚ
   or_own None q = q
@@ -33,7 +30,7 @@ module _ (later : ℕ → Option ℚ) where
   abbrev given : (ℕ → ℚ) → ℕ → ℚ
   given a x = or_own (later x) (a x)
 
-  given_agrees : (a : ℕ → ℚ) → Agrees (given a)
+  given_agrees : (a : ℕ → ℚ) → Agrees later (given a)
   given_agrees a x q e = ap (λ o. or_own o (a x)) e
 
   given_same : (a : ℕ → ℚ) (x : ℕ) → later x ≡ None → a x ≡ given a x
@@ -55,7 +52,7 @@ module _ (later : ℕ → Option ℚ) where
   Grows None p = ⊤
   Grows (Some f) p = (g : Linear) × (p ≡ Some g) × Refines f g
 
-  grown : (f g : Linear) → ((a : ℕ → ℚ) → Agrees a → value_at a f ≡ value_at a g) → Grows (Some f) (Some g)
+  grown : (f g : Linear) → ((a : ℕ → ℚ) → Agrees later a → value_at a f ≡ value_at a g) → Grows (Some f) (Some g)
   grown f g h = (g, refl, record { same = h })
 
   itself : (f : Linear) → Grows (Some f) (Some f)
@@ -72,9 +69,6 @@ module _ (later : ℕ → Option ℚ) where
   grow_numbers h (Some x) (Some y) p' q' k l =
       subst (λ (w : Option ℚ). Grows (Some (constant_form (h x y))) (on_numbers h w q')) (sym (k x refl)) (
       subst (λ (w : Option ℚ). Grows (Some (constant_form (h x y))) (on_numbers h (Some x) w)) (sym (l y refl)) (itself (constant_form (h x y))))
-
-  value_of_number : (a : ℕ → ℚ) (f : Linear) (k : ℚ) → number_of f ≡ Some k → value_at a f ≡ k
-  value_of_number a f k e = ap (value_at a) (is_constant_form f k e) ∙ value_at-constant_form a k
 
   grow_scaled : (k : ℚ) (f g : Linear) → Refines f g → Grows (Some (scaled_form k f)) (Some (scaled_form k g))
   grow_scaled k f g r = grown (scaled_form k f) (scaled_form k g) (λ a h. value_at-scaled_form a k f ∙ ap (λ s. k *ℚ s) (r.same a h) ∙ sym (value_at-scaled_form a k g))

@@ -13,7 +13,7 @@ use Rattle.spec_told.specs.Relations.{Lin, Is, False, lin, related, related_form
 use Rattle.spec_told.proofs.Refined.{Refines, Grows, form_grows, refines_negated, refines_sum}
 
 -- the name is that of quotients
-is_over : (f : Text) → bytes_eq f (codes "/") ≡ true → binary_name f ≡ Some Over
+pub is_over : (f : Text) → bytes_eq f (codes "/") ≡ true → binary_name f ≡ Some Over
 is_over f e = subst (λ (g : Text). binary_name g ≡ Some Over) (sym ((bytes_decides f (codes "/")).0 e)) refl
 
 -- a divisor of a quotient that has a form isn't zero
