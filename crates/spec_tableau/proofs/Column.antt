@@ -11,7 +11,7 @@ use Rattle.spec_linear.specs.Solution.{Constraint}
 use Rattle.spec_inequalities.proofs.Eventually.{Eventually, both, from_zero, rises}
 use Rattle.spec_tableau.specs.Reach.{Rises}
 use Rattle.spec_tableau.specs.Tableau.{Tableau, numbers, Sound, HasRoom}
-use Rattle.spec_tableau.proofs.Standing.{x0, x1, x2}
+use Rattle.spec_tableau.proofs.Standing.{x0, x1, x2, clash}
 use Rattle.spec_tableau.proofs.Linked.{last_one}
 use Rattle.spec_tableau.proofs.Written.{ray, ray_is, solves_weak}
 
@@ -34,9 +34,6 @@ module _ (d : Tableau) (l : List Constraint) (i : Sound d l) (c : ℕ) (room : H
           (q < n) ⊎ (q ≡ n) → Long t q
       by t f g q r (inl m) = f q m r
       by t f g q r (inr m) = subst (Long t) (sym m) (g (sym (ap d.is_restricted m) ∙ r))
-
-      clash : (b : Bool) → b ≡ false → b ≡ true → ⊥
-      clash b e f = cc
 
       go : Eventually (λ t. (q : ℕ) → q < n → d.is_restricted q ≡ true → Long t q) → (b : Bool) → d.is_restricted n ≡ b →
           Eventually (λ t. (q : ℕ) → q < suc n → d.is_restricted q ≡ true → Long t q)

@@ -9,7 +9,7 @@ use Rattle.spec_linear.specs.Solution.{Constraint, Satisfies, Has}
 use Rattle.spec_inequalities.specs.Weak.{at_least_zero, weak}
 use Rattle.spec_tableau.specs.Reach.{Again}
 use Rattle.spec_tableau.specs.Tableau.{right_side, Chosen, Row, Tableau, numbers, Within, AllIn, unit_of, IsWritten, IsFeasible, Changed, Sound, Invariant}
-use Rattle.spec_tableau.proofs.Standing.{x0}
+use Rattle.spec_tableau.proofs.Standing.{x0, clash}
 use Rattle.spec_tableau.proofs.Written.{row_face, nothing_is}
 use Rattle.spec_tableau.proofs.Steps.{one_of, joined_weak, sound_weak, sound_dropped, joined_again}
 
@@ -60,9 +60,6 @@ before = at_least_zero (form 1) ∷ []
 
 abbrev after : List Constraint
 after = at_least_zero (form 2) ∷ before
-
-clash : (b : Bool) → b ≡ false → b ≡ true → ⊥
-clash b e f = cc
 
 module _ (i : Invariant asked before) (w : IsWritten joined) (x : IsWritten fallen) where
   feasible_joined : IsFeasible joined

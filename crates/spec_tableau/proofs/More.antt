@@ -16,12 +16,9 @@ use Rattle.spec_inequalities.specs.Weak.{at_least_zero, weak}
 use Rattle.spec_extremes.specs.Extremes.{IsUnbounded}
 use Rattle.spec_tableau.specs.Reach.{equals_zero, Rises, IsFlat, Stands, Again, IsGreatest}
 use Rattle.spec_tableau.specs.Tableau.{WithinEquations, AreDropped, Restored, Place, Sound, Owned, Held, IsUnlimited, Tableau, Linked, empty, numbers, Within, AllIn, IsWritten, IsFeasible, IsNothing, Changed, Invariant}
-use Rattle.spec_tableau.proofs.Standing.{x0, x1}
+use Rattle.spec_tableau.proofs.Standing.{x0, x1, clash}
 use Rattle.spec_tableau.proofs.Written.{same_sum, not_in, basic, basic_is, ray, ray_is, nothing_is, open_unbounded}
 use Rattle.spec_tableau.proofs.Steps.{within_back, within_there, sound_more, sound_weak, joined_again}
-
-clash : (b : Bool) → b ≡ false → b ≡ true → ⊥
-clash b e f = cc
 
 -- ---- the empty store
 pub empty_kept : Invariant empty []

@@ -8,7 +8,7 @@ use Rattle.spec_rational.proofs.Sign.{pos_one, nonneg_zero}
 use Rattle.spec_linear.specs.Form.{Linear, value_at, variable_form}
 use Rattle.spec_inequalities.specs.Weak.{at_least_zero, not_zero}
 use Rattle.spec_tableau.specs.Tableau.{Row, Tableau, empty, numbers, right_side, AllIn, unit_of, IsShaped, MeetsRows, Linked, IsFeasible, Changed, Invariant, by_entry}
-use Rattle.spec_tableau.proofs.Standing.{x0, pos_not_zero}
+use Rattle.spec_tableau.proofs.Standing.{x0, pos_not_zero, clash}
 use Rattle.spec_tableau.proofs.Written.{free_rises}
 use Rattle.spec_tableau.proofs.Linked.{linked_written, linked_changed, linked_row, linked_column}
 use Rattle.spec_tableau.proofs.Steps.{one_of, exchanged, joined_weak, joined_apart}
@@ -48,9 +48,6 @@ begun n = record { count = n; form = form; is_restricted = none; is_live = first
 
 abbrev turned : Tableau
 turned = record { count = 2; form = form; is_restricted = second; is_live = second; is_dropped = none; row = after }
-
-clash : (b : Bool) → b ≡ false → b ≡ true → ⊥
-clash b e f = cc
 
 begun_shaped : (n : ℕ) → 0 < n → IsShaped (begun n)
 begun_shaped n h =

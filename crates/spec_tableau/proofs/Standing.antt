@@ -1,5 +1,5 @@
 -- A list of which each member stands has a solution.
-use Rattle.std.proofs.Common.{◌≡◌, ℕ, List, [], ◌∷◌, ◌⊎◌, inl, inr, pos, refl, ap, sym, subst, ◌∙◌}
+use Rattle.std.proofs.Common.{◌≡◌, ℕ, Bool, true, false, List, [], ◌∷◌, ◌⊎◌, inl, inr, pos, refl, ap, sym, subst, ◌∙◌}
 use Rattle.std.specs.Prelude.{⊤}
 use Rattle.spec_rational.specs.Rational.{ℚ, 0ℚ, 1ℚ, ◌+ℚ◌, ◌*ℚ◌, IsPositive, IsNotNegative}
 use Rattle.spec_rational.proofs.Ring.{Poly, var, int, ◌⊕◌, ◌⊗◌}
@@ -28,6 +28,9 @@ x2 = var 2
 
 pub pos_not_zero : {q : ℚ} → IsPositive q → q ≡ 0ℚ → ⊥
 pos_not_zero h e = not_pos_zero (subst IsPositive e h)
+
+pub clash : (b : Bool) → b ≡ false → b ≡ true → ⊥
+clash b e f = cc
 
 pub weakly_one : (v : ℕ → ℚ) (r : Relation) (f : Linear) (m : List Constraint) → Weakly r (value_at v f) → Satisfies v m → Satisfies v (with_weak r f m)
 weakly_one v Eq f m h s = (h, s)

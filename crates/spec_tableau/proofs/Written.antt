@@ -19,7 +19,7 @@ use Rattle.spec_inequalities.specs.Weak.{above_zero, at_least_zero, not_zero, wi
 use Rattle.spec_inequalities.proofs.Far.{weak_satisfied, weak_member}
 use Rattle.spec_tableau.specs.Reach.{equals_zero, Rises, IsFlat, Moves, Stands, Kept, IsGreatest}
 use Rattle.spec_tableau.specs.Tableau.{Tableau, numbers, Within, AllIn, Chosen, IsWritten, Place, IsNothing, IsSomething, by_constant, by_entry, Placed, Shown, Held, Owned, Sound, Invariant, EachTermZero, IsOptimal, IsUnlimited}
-use Rattle.spec_tableau.proofs.Standing.{x0, x1, x2, solvable, satisfiable, pos_not_zero}
+use Rattle.spec_tableau.proofs.Standing.{x0, x1, x2, solvable, satisfiable, pos_not_zero, clash}
 use Rattle.spec_tableau.proofs.Extent.{Grows, less_value}
 use Rattle.spec_tableau.proofs.Join.{keep_apart}
 
@@ -35,11 +35,8 @@ pub not_in : (p : ℕ → Bool) (c : ℕ) (s : List Monomial) → AllIn p s → 
 not_in p c [] a h = refl
 not_in p c (m ∷ s) a h = go (nat_eq c m.variable) refl (not_in p c s a.1 h)
   where
-    clash : (b : Bool) → b ≡ true → b ≡ false → ⊥
-    clash b e f = cc
-
     go : (b : Bool) → nat_eq c m.variable ≡ b → factor_of c s ≡ 0ℚ → when b m.factor +ℚ factor_of c s ≡ 0ℚ
-    go true e r = absurd (clash (p m.variable) a.0 (subst (λ z. p z ≡ false) (nat_eq-same c m.variable e) h))
+    go true e r = absurd (clash (p m.variable) (subst (λ z. p z ≡ false) (nat_eq-same c m.variable e) h) a.0)
     go false e r = ap (λ w. 0ℚ +ℚ w) r ∙ ring [] (int (pos 0) ⊕ int (pos 0)) (int (pos 0)) refl
 
 module _ (d : Tableau) (w : IsWritten d) where

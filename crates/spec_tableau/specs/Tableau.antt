@@ -171,6 +171,20 @@ pub record Changed (d e : Tableau) (drops restricts : List ℕ) : Type 0 where
   pub restricted_still : (z : ℕ) → d.is_restricted z ≡ true → e.is_restricted z ≡ true
   pub restricted_only : (z : ℕ) → e.is_restricted z ≡ true → Has z restricts ⊎ (d.is_restricted z ≡ true)
 
+-- e is d after an exchange of the row q and the live column c, with those in restricts restricted
+pub record Exchanged (d e : Tableau) (q c : ℕ) (restricts : List ℕ) : Type 0 where
+  pub changed : Changed d e [] restricts
+  pub made : q < d.count
+  pub column : d.is_live c ≡ true
+  pub leaves : e.is_live q ≡ true
+  pub others : (z : ℕ) → d.is_live z ≡ true → (z ≡ c → ⊥) → e.is_live z ≡ true
+
+-- what makes a tableau without zeros in its rows feasible: a restricted quantity has no constant below zero, and no entry in
+-- an unrestricted column
+pub record HasFeasibleNumbers (d : Tableau) : Type 0 where
+  pub constants : (q : ℕ) → q < d.count → d.is_restricted q ≡ true → IsNotNegative (d.row q).constant
+  pub no_free_column : (q : ℕ) → q < d.count → d.is_restricted q ≡ true → (c : ℕ) → d.is_restricted c ≡ false → factor_of c (d.row q).live ≡ 0ℚ
+
 -- the dropped columns that are equations' quantities are zero
 abbrev pub WithinEquations : Tableau → List Constraint → (ℕ → ℚ) → Type 0
 WithinEquations d l v = (c : ℕ) → d.is_dropped c ≡ true → Has (equals_zero (d.form c)) l → numbers d v c ≡ 0ℚ

@@ -12,7 +12,7 @@ ghost use Rattle.spec_extremes.specs.Extremes.{IsSupremum, IsUnbounded};
 ghost use Rattle.spec_inequalities.specs.Weak.{above_zero, at_least_zero, not_zero, weak};
 ghost use Rattle.spec_inequalities.specs.Certificate.{member, SomeStrict, Refutes};
 ghost use Rattle.spec_tableau.specs.Reach.{equals_zero, Rises, NeverNegative, IsFlat, Moves, Stands, Again, IsGreatest, opposite, SameMembers};
-ghost use Rattle.spec_tableau.specs.Tableau.{Tableau, unit_of, empty, numbers, Within, AllIn, IsWritten, MeetsRows, IsShaped, Linked, AllBelow, IsFeasible, Place, IsNothing, IsSomething, Held, Owned, Sound, Invariant, Shown, Changed, WithinEquations, AreDropped, Restored, IsOptimal, IsUnlimited, HasRoom, EachTermZero};
+ghost use Rattle.spec_tableau.specs.Tableau.{Tableau, unit_of, empty, numbers, Within, AllIn, IsWritten, MeetsRows, IsShaped, Linked, AllBelow, IsFeasible, Place, IsNothing, IsSomething, Held, Owned, Sound, Invariant, Shown, Changed, Exchanged, HasFeasibleNumbers, WithinEquations, AreDropped, Restored, IsOptimal, IsUnlimited, HasRoom, EachTermZero};
 ghost use Rattle.spec_tableau.specs.Fixing.{NewlyFixed, BecomesFixed, StaysAsItIs};
 ghost use Rattle.spec_tableau.specs.Entries.{entries, row_entries, IsNumbered};
 
@@ -36,6 +36,19 @@ pub fn empty_tableau()
 pub fn exchanges_keep_the_invariant()
     ensures { (d e : Tableau) (l : List Constraint) → Invariant d l → Changed d e [] [] → IsWritten e
         → IsFeasible e → Invariant e l }
+{}
+
+/// Restricted rows stay feasible where the leaving row is restricted and an unrestricted column enters, or one that no
+/// restricted row limits; and a row over restricted columns stays over such.
+pub fn exchanges_stay_feasible()
+    ensures free { (d e : Tableau) → IsWritten d → IsWritten e → (q c : ℕ) → Exchanged d e q c (q ∷ []) → IsFeasible d
+        → d.is_restricted c ≡ false → HasFeasibleNumbers e }
+    ensures unlimited { (d e : Tableau) → IsWritten d → IsWritten e → (q c : ℕ) → Exchanged d e q c (q ∷ []) → IsFeasible d
+        → IsUnlimited d c → IsPositive (factor_of c (d.row q).live) → IsNotNegative (neg_ℚ (d.row q).constant)
+        → AllIn d.is_restricted (d.row q).live → HasFeasibleNumbers e }
+    ensures row { (d e : Tableau) → Changed d e [] [] → IsWritten d → IsWritten e → HasFeasibleNumbers e → (q : ℕ)
+        → q < d.count → AllIn d.is_restricted (d.row q).live → (z : ℕ) → e.is_restricted z ≡ false
+        → factor_of z (e.row q).live ≡ 0ℚ }
 {}
 
 /// The order of the list's members does not matter: the constraint told last may stand first.
