@@ -1,1 +1,6 @@
 mod Arities
+pub mod Ranges
+pub mod Splitting
+pub mod Rebuilt
+pub mod Compared
+pub mod Elements
