@@ -33,14 +33,14 @@ read_wide wide more args n (cell.Var v) k = refl
 read_wide wide more args n (cell.Whole m) k = refl
 read_wide wide more args n (cell.Wide p) k = ap built.Number (get_or_append_left wide more 0ℚ p k)
 read_wide wide more args n (cell.Name a) k = refl
-read_wide wide more args n (cell.Compound g f s m) k = refl
+read_wide wide more args n (cell.Compound g m f s) k = refl
 
 read_args : (wide : List ℚ) (args more : List ℕ) (n : ℕ) (c : Cell) → IsKept n (length args) c → read wide (args ++ more) c ≡ read wide args c
 read_args wide args more n (cell.Var v) k = refl
 read_args wide args more n (cell.Whole m) k = refl
 read_args wide args more n (cell.Wide p) k = refl
 read_args wide args more n (cell.Name a) k = refl
-read_args wide args more n (cell.Compound g f s m) k =
+read_args wide args more n (cell.Compound g m f s) k =
     let rest : m ≤ length (drop s args) = rw length-drop (omega arith) in
     ap (built.Compound f) (ap (take m) (drop-append-le s args more (omega arith)) ∙ take-append-le m (drop s args) more rest)
 
@@ -67,7 +67,7 @@ kept_more w a w' a' (cell.Var v) le le' k = tt
 kept_more w a w' a' (cell.Whole m) le le' k = tt
 kept_more w a w' a' (cell.Wide p) le le' k = omega arith
 kept_more w a w' a' (cell.Name n) le le' k = tt
-kept_more w a w' a' (cell.Compound g f s m) le le' k = omega arith
+kept_more w a w' a' (cell.Compound g m f s) le le' k = omega arith
 
 pub length-built : (x : Contents) → length (all_built x) ≡ length x.cells
 length-built x = length-map x.cells (read x.wide x.args)

@@ -250,10 +250,10 @@ module _ (x : Contents) (marks : List Place) (is : IsMarked x marks) where
   adds_name a = adds_cell x.wide x.args (longer_same x) (cell.Name a) (built.Name a) refl tt (λ m e. cc) tt (λ g v o. o)
 
   pub adds_compound : (g : Bool) (f : ℕ) (ids : List ℕ) → 0 < length ids → All (λ i. i < length (meant x)) ids → (IsTrue g → All (λ i. HasNoVariable (at (meant x) i)) ids) →
-      Adds x (with_cell x x.wide (x.args ++ ids) (cell.Compound g f (length x.args) (length ids))) marks (with_arguments f (map (at (meant x)) ids))
+      Adds x (with_cell x x.wide (x.args ++ ids) (cell.Compound g (length ids) f (length x.args))) marks (with_arguments f (map (at (meant x)) ids))
   adds_compound g f ids some live ground =
       let below : AllBelow (length (all_built x)) ids = subst (λ (n : ℕ). AllBelow n ids) (length-meanings (all_built x) x.order) (all_to_below (length (meant x)) ids live) in
-      adds_cell x.wide (x.args ++ ids) (longer_args x ids) (cell.Compound g f (length x.args) (length ids)) (built.Compound f ids)
+      adds_cell x.wide (x.args ++ ids) (longer_args x ids) (cell.Compound g (length ids) f (length x.args)) (built.Compound f ids)
       (ap (built.Compound f) (read_new x.args ids)) (some, below) (λ m e. cc) (omega (arith, length-append x.args ids))
       (λ t v. absent_with_arguments (meant x) f ids v (λ k d lt. ground t k d lt v))
 

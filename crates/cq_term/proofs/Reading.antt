@@ -1,6 +1,6 @@
 -- What the cell at the end of the bindings tells of a term.
-use Rattle.std.proofs.Common.{◌≡◌, ℕ, ◌+◌, ◌<◌, ◌≤◌, List, [], length, Some, refl, sym, ap, ◌∙◌, subst, inl, inr, get_or, take, drop, arith, length-take, length-drop, map}
-use Rattle.std.specs.Prelude.{slice_get, Bool, ℤ, ◌⊎◌}
+use Rattle.std.proofs.Common.{◌≡◌, ℕ, zero, suc, ◌+◌, ◌<◌, ◌≤◌, List, [], ◌∷◌, length, Some, refl, sym, ap, ◌∙◌, subst, inl, inr, get_or, take, drop, arith, length-take, length-drop, map}
+use Rattle.std.specs.Prelude.{slice_get, All, Bool, ℤ, ◌⊎◌}
 use Rattle.std.specs.Option.{option_map}
 use Rattle.std.proofs.lemmas.List.{get_or-take, get_or-drop}
 use Rattle.std.proofs.lemmas.Option.{slice_get-map, slice_get_read, same_Some}
@@ -8,6 +8,7 @@ use Rattle.spec_rational.specs.Rational.{ℚ}
 use Rattle.cq_term.specs.Built.{Built}
 use Rattle.cq_term.specs.Built as built
 use Rattle.cq_term.specs.Meaning.{at}
+use Rattle.cq_term.specs.Rep.{AllBelow}
 use Rattle.cq_term.specs.Shown.{view_of, arguments}
 use Rattle.cq_term.specs.Layout.{Contents, read, all_built, meant, IsWhole, IsClosed, HasNoVariable, Leads}
 use Rattle.cq_term.specs.declared.lists.Cell.{Cell}
@@ -28,7 +29,7 @@ reads_var wide args (cell.Var w) v e = (let h : w ≡ v = cc in ap cell.Var h)
 reads_var wide args (cell.Whole n) v e = cc
 reads_var wide args (cell.Wide k) v e = cc
 reads_var wide args (cell.Name a) v e = cc
-reads_var wide args (cell.Compound g f s n) v e = cc
+reads_var wide args (cell.Compound g n f s) v e = cc
 
 pub last_var : (x : Contents) (i : ℕ) (c : Cell) → slice_get x.cells i ≡ Some c → (v : ℕ) → slice_get (all_built x) i ≡ Some (built.Var v) → c ≡ cell.Var v
 last_var x i c here v e = reads_var x.wide x.args c v (same_Some (read x.wide x.args c) (built.Var v) (sym (built_at x i c here) ∙ e))
@@ -53,31 +54,42 @@ module _ (x : Contents) (whole : IsWhole x) (id end : ℕ) (leads : Leads x id e
   pub ground_at : IsClosed c → HasNoVariable (at (meant x) id)
   ground_at closed v o = whole.closed end c here closed v (rw leads.same o)
 
-  pub not_compound : ((g : Bool) (f s n : ℕ) → c ≡ cell.Compound g f s n → ⊥) → arguments (at (meant x) id) ≡ []
+  pub not_compound : ((g : Bool) (n f s : ℕ) → c ≡ cell.Compound g n f s → ⊥) → arguments (at (meant x) id) ≡ []
   not_compound other = no_arguments (all_built x) x.vars x.bound x.order whole.heap id end leads (read x.wide x.args c) (built_at x end c here) (λ f args e. go c other f args e)
     where
-      go : (d : Cell) → ((g : Bool) (f s n : ℕ) → d ≡ cell.Compound g f s n → ⊥) → (f : ℕ) (args : List ℕ) → read x.wide x.args d ≡ built.Compound f args → ⊥
+      go : (d : Cell) → ((g : Bool) (n f s : ℕ) → d ≡ cell.Compound g n f s → ⊥) → (f : ℕ) (args : List ℕ) → read x.wide x.args d ≡ built.Compound f args → ⊥
       go (cell.Var v) h f args e = cc
       go (cell.Whole n) h f args e = cc
       go (cell.Wide k) h f args e = cc
       go (cell.Name a) h f args e = cc
-      go (cell.Compound g f' s n) h f args e = h g f' s n refl
+      go (cell.Compound g n f' s) h f args e = h g n f' s refl
+
+below_all : (n e : ℕ) (is : List ℕ) → AllBelow e is → e < n → All (λ i. i < n) is
+below_all n e [] below lt k d within = absurd (omega arith)
+below_all n e (i ∷ is) below lt zero d within = omega (arith, below.0)
+below_all n e (i ∷ is) below lt (suc k) d within = below_all n e is below.1 lt k d (omega arith)
 
 -- a compound
-module _ (x : Contents) (whole : IsWhole x) (id end : ℕ) (leads : Leads x id end) (g : Bool) (f s n : ℕ) (here : slice_get x.cells end ≡ Some (cell.Compound g f s n)) where
+module _ (x : Contents) (whole : IsWhole x) (id end : ℕ) (leads : Leads x id end) (g : Bool) (n f s : ℕ) (here : slice_get x.cells end ≡ Some (cell.Compound g n f s)) where
   ids : List ℕ
   ids = take n (drop s x.args)
 
   built_here : slice_get (all_built x) end ≡ Some (built.Compound f (take n (drop s x.args)))
-  built_here = built_at x end (cell.Compound g f s n) here
+  built_here = built_at x end (cell.Compound g n f s) here
 
   size : length (take n (drop s x.args)) ≡ n
-  size = length-part x.args s n (whole.kept end (cell.Compound g f s n) here)
+  size = length-part x.args s n (whole.kept end (cell.Compound g n f s) here)
 
   pub shown_compound : view_of (at (meant x) id) ≡ view.Compound f n
-  shown_compound = shown x whole id end leads (cell.Compound g f s n) here ∙ ap (view.Compound f) size
+  shown_compound = shown x whole id end leads (cell.Compound g n f s) here ∙ ap (view.Compound f) size
 
-  its_arguments : arguments (at (meant x) id) ≡ map (at (meant x)) (take n (drop s x.args))
+  pub within_all : s + n ≤ length x.args
+  within_all = whole.kept end (cell.Compound g n f s) here
+
+  pub arguments_live : All (λ i. i < length (all_built x)) (take n (drop s x.args))
+  arguments_live = below_all (length (all_built x)) end (take n (drop s x.args)) (whole.heap.fits end (built.Compound f (take n (drop s x.args))) built_here).1 leads.live
+
+  pub its_arguments : arguments (at (meant x) id) ≡ map (at (meant x)) (take n (drop s x.args))
   its_arguments = arguments_at (all_built x) x.vars x.bound x.order whole.heap id end leads f (take n (drop s x.args)) built_here
 
   module _ (i : ℕ) (within : i < length (arguments (at (meant x) id))) where
@@ -85,7 +97,7 @@ module _ (x : Contents) (whole : IsWhole x) (id end : ℕ) (leads : Leads x id e
     within_count = let w = arg_within (meant x) (arguments (at (meant x) id)) (take n (drop s x.args)) i its_arguments within in omega (arith, w, size)
 
     pub within_args : s + i < length x.args
-    within_args = omega (arith, within_count, whole.kept end (cell.Compound g f s n) here)
+    within_args = omega (arith, within_count, whole.kept end (cell.Compound g n f s) here)
 
     module _ (a : ℕ) (is : a ≡ get_or x.args (s + i) a) where
       at_i : a ≡ get_or (take n (drop s x.args)) i a

@@ -33,7 +33,7 @@ read wide args (cell.Var v) = built.Var v
 read wide args (cell.Whole n) = built.Number (int_ℚ n)
 read wide args (cell.Wide k) = built.Number (slice_index_or wide k 0ℚ)
 read wide args (cell.Name a) = built.Name a
-read wide args (cell.Compound g f s n) = built.Compound f (take n (drop s args))
+read wide args (cell.Compound g n f s) = built.Compound f (take n (drop s args))
 
 abbrev pub all_built : Contents → List Built
 all_built x = map (read x.wide x.args) x.cells
@@ -51,7 +51,7 @@ IsKept wides args (cell.Var v) = ⊤
 IsKept wides args (cell.Whole n) = ⊤
 IsKept wides args (cell.Wide k) = k < wides
 IsKept wides args (cell.Name a) = ⊤
-IsKept wides args (cell.Compound g f s n) = s + n ≤ args
+IsKept wides args (cell.Compound g n f s) = s + n ≤ args
 
 -- the cell says that it was built of numbers and names alone
 abbrev pub IsClosed : Cell → Type 0
@@ -59,7 +59,7 @@ IsClosed (cell.Var v) = ⊥
 IsClosed (cell.Whole n) = ⊤
 IsClosed (cell.Wide k) = ⊤
 IsClosed (cell.Name a) = ⊤
-IsClosed (cell.Compound g f s n) = IsTrue g
+IsClosed (cell.Compound g n f s) = IsTrue g
 
 abbrev pub HasNoVariable : HeapTerm → Type 0
 HasNoVariable t = (v : ℕ) → Occurs v t → ⊥

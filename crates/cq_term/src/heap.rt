@@ -27,7 +27,7 @@ struct Place {
 }
 
 /// Finite terms by number, over variables that can be bound. Each id means one term, read through the bindings.
-/// A term takes a cell of 32 bytes, and a compound 8 more for each argument. `mark` takes constant time, `undo` the
+/// A term takes a cell of 24 bytes, and a compound 8 more for each argument. `mark` takes constant time, `undo` the
 /// time of the bindings made since, and `forget` leaves nothing of the mark behind.
 #[derive(Drop)]
 pub struct Heap {
@@ -137,7 +137,8 @@ impl Heap {
         Ok(TermId::new(id))
     }
 
-    /// A compound with the given name and arguments, at least one. Fails for want of memory, with every term as it was.
+    /// A compound with the given name and arguments, at least one. Fails for want of memory, with every term as it was;
+    /// memory for more than `u32::MAX` arguments is never had.
     pub fn compound(&mut self, name: Atom, args: &[TermId]) -> Result<TermId, AllocError>
         requires some { 0 < length args.now }
         requires live { All (λ i. i < length self.old.now.terms) args.now }
@@ -148,6 +149,9 @@ impl Heap {
         ensures room { self.old.room ≤ self.new.room }
         ensures err { OnErr result (self.new.now ≡ self.old.now) }
     {
+        let Ok(count) = u32::try_from(args.len()) else {
+            return Err(AllocError);
+        };
         let id = self.lists.cells.len();
         let ground = self.are_ground(args);
         let start = self.lists.args.len();
@@ -155,9 +159,9 @@ impl Heap {
         self.lists.args.extend_from_slice(args)?;
         let cell = Cell::Compound {
             ground,
+            count,
             name,
             start,
-            count: args.len(),
         };
         self.lists.cells.push(cell).unwrap();
         Ok(TermId::new(id))
@@ -219,7 +223,7 @@ impl Heap {
             Cell::Whole(number) => View::Number(Frac::from(number)),
             Cell::Wide(place) => View::Number(self.lists.wide[place]),
             Cell::Name(name) => View::Name(name),
-            Cell::Compound { name, count, .. } => View::Compound(name, count),
+            Cell::Compound { name, count, .. } => View::Compound(name, count as usize),
         }
     }
 
@@ -260,6 +264,22 @@ impl Heap {
         match self.lists.cells[end.index()] {
             Cell::Compound { start, .. } => self.lists.args[start + i],
             _ => unreachable!(),
+        }
+    }
+
+    /// The arguments of a compound, in order, and none of another term.
+    pub fn args(&self, id: TermId) -> &[TermId]
+        requires { id < length self.now.now.terms }
+        ensures live { All (λ i. i < length self.now.now.terms) result.now }
+        ensures args { map (at self.now.now.terms) result.now ≡ arguments (at self.now.now.terms id) }
+    {
+        let end = self.lists.resolve(id);
+        match self.lists.cells[end.index()] {
+            Cell::Compound { count, start, .. } => {
+                let stop = start + count as usize;
+                &self.lists.args[start..stop]
+            }
+            _ => &[],
         }
     }
 

@@ -17,13 +17,13 @@ pub(crate) enum Cell {
     /// Another number, by its place among those.
     Wide(usize),
     Name(Atom),
-    /// Its arguments are so many from `start` on among the arguments of all compounds. The flag stands first, where
-    /// it takes no room of its own.
+    /// Its arguments are so many from `start` on among the arguments of all compounds. The flag and the count stand
+    /// first, where they share a word with the kind of cell.
     Compound {
         ground: bool,
+        count: u32,
         name: Atom,
         start: usize,
-        count: usize,
     },
 }
 

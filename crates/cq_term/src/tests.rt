@@ -90,7 +90,8 @@ fn shows_variable(heap: &mut Heap) -> Result<bool, AllocError> {
 fn shows_ground_compound(heap: &mut Heap, name: Atom) -> Result<bool, AllocError> {
     let number = heap.number(Frac::one())?;
     let whole = heap.compound(name, &[number])?;
-    Ok(heap.view(whole) == View::Compound(name, 1) && heap.is_ground(whole))
+    let args = heap.args(whole) == [number].as_slice() && heap.args(number).is_empty();
+    Ok(args && heap.view(whole) == View::Compound(name, 1) && heap.is_ground(whole))
 }
 
 fn is_open_over_a_variable(heap: &mut Heap, name: Atom) -> Result<bool, AllocError> {

@@ -13,8 +13,8 @@ pub overflow_add-start : goal.overflow_add-start
 overflow_add-start c =
     let lt : c.resolve-end.result < length c.self.inside.lists.cells.items = rw (← length-built (contents c.self.inside.lists)) c.resolve-end.ensures.live in
     let e = rw c.index.ensures at c.index-2.ensures in
-    let here = cell_at (contents c.self.inside.lists) c.resolve-end.result c.index-2.result.now (cell.Compound c.in-Compound.ground c.in-Compound.name c.in-Compound.start c.in-Compound.count) lt e c.in-Compound.is in
-    let fits = within_args (contents c.self.inside.lists) c.self.invariant.now c.args.id c.resolve-end.result c.resolve-end.ensures c.in-Compound.ground c.in-Compound.name c.in-Compound.start c.in-Compound.count here c.args.i (rw (← c.self.view_is) at c.requires.within) in
+    let here = cell_at (contents c.self.inside.lists) c.resolve-end.result c.index-2.result.now (cell.Compound c.in-Compound.ground c.in-Compound.count c.in-Compound.name c.in-Compound.start) lt e c.in-Compound.is in
+    let fits = within_args (contents c.self.inside.lists) c.self.invariant.now c.args.id c.resolve-end.result c.resolve-end.ensures c.in-Compound.ground c.in-Compound.count c.in-Compound.name c.in-Compound.start here c.args.i (rw (← c.self.view_is) at c.requires.within) in
     let ok = c.self.inside.lists.args.ok in
     omega arith
 
@@ -22,8 +22,8 @@ pub index-requires-in-Compound : goal.index-requires-in-Compound
 index-requires-in-Compound c =
     let lt : c.resolve-end.result < length c.self.inside.lists.cells.items = rw (← length-built (contents c.self.inside.lists)) c.resolve-end.ensures.live in
     let e = rw c.index.ensures at c.index-2.ensures in
-    let here = cell_at (contents c.self.inside.lists) c.resolve-end.result c.index-2.result.now (cell.Compound c.in-Compound.ground c.in-Compound.name c.in-Compound.start c.in-Compound.count) lt e c.in-Compound.is in
-    rw c.self.inside.lists.args.ok.0 (within_args (contents c.self.inside.lists) c.self.invariant.now c.args.id c.resolve-end.result c.resolve-end.ensures c.in-Compound.ground c.in-Compound.name c.in-Compound.start c.in-Compound.count here c.args.i (rw (← c.self.view_is) at c.requires.within))
+    let here = cell_at (contents c.self.inside.lists) c.resolve-end.result c.index-2.result.now (cell.Compound c.in-Compound.ground c.in-Compound.count c.in-Compound.name c.in-Compound.start) lt e c.in-Compound.is in
+    rw c.self.inside.lists.args.ok.0 (within_args (contents c.self.inside.lists) c.self.invariant.now c.args.id c.resolve-end.result c.resolve-end.ensures c.in-Compound.ground c.in-Compound.count c.in-Compound.name c.in-Compound.start here c.args.i (rw (← c.self.view_is) at c.requires.within))
 
 pub unreachable-requires : goal.unreachable-requires
 unreachable-requires c =
@@ -38,13 +38,13 @@ pub returns-clause-live : goal.returns-clause-live
 returns-clause-live c =
     let lt : c.resolve-end.result < length c.self.inside.lists.cells.items = rw (← length-built (contents c.self.inside.lists)) c.resolve-end.ensures.live in
     let e = rw c.index.ensures at c.index-2.ensures in
-    let here = cell_at (contents c.self.inside.lists) c.resolve-end.result c.index-2.result.now (cell.Compound c.in-Compound.ground c.in-Compound.name c.in-Compound.start c.in-Compound.count) lt e c.in-Compound.is in
+    let here = cell_at (contents c.self.inside.lists) c.resolve-end.result c.index-2.result.now (cell.Compound c.in-Compound.ground c.in-Compound.count c.in-Compound.name c.in-Compound.start) lt e c.in-Compound.is in
     rw (← c.self.view_is, length-meanings (all_built (contents c.self.inside.lists)) c.self.inside.lists.order.items)
-    (argument_live (contents c.self.inside.lists) c.self.invariant.now c.args.id c.resolve-end.result c.resolve-end.ensures c.in-Compound.ground c.in-Compound.name c.in-Compound.start c.in-Compound.count here c.args.i (rw (← c.self.view_is) at c.requires.within) c.index-in-Compound.result.now c.index-in-Compound.ensures)
+    (argument_live (contents c.self.inside.lists) c.self.invariant.now c.args.id c.resolve-end.result c.resolve-end.ensures c.in-Compound.ground c.in-Compound.count c.in-Compound.name c.in-Compound.start here c.args.i (rw (← c.self.view_is) at c.requires.within) c.index-in-Compound.result.now c.index-in-Compound.ensures)
 
 pub returns-clause-arg : goal.returns-clause-arg
 returns-clause-arg c =
     let lt : c.resolve-end.result < length c.self.inside.lists.cells.items = rw (← length-built (contents c.self.inside.lists)) c.resolve-end.ensures.live in
     let e = rw c.index.ensures at c.index-2.ensures in
-    let here = cell_at (contents c.self.inside.lists) c.resolve-end.result c.index-2.result.now (cell.Compound c.in-Compound.ground c.in-Compound.name c.in-Compound.start c.in-Compound.count) lt e c.in-Compound.is in
-    rw (← c.self.view_is) (argument_is (contents c.self.inside.lists) c.self.invariant.now c.args.id c.resolve-end.result c.resolve-end.ensures c.in-Compound.ground c.in-Compound.name c.in-Compound.start c.in-Compound.count here c.args.i (rw (← c.self.view_is) at c.requires.within) c.index-in-Compound.result.now c.index-in-Compound.ensures)
+    let here = cell_at (contents c.self.inside.lists) c.resolve-end.result c.index-2.result.now (cell.Compound c.in-Compound.ground c.in-Compound.count c.in-Compound.name c.in-Compound.start) lt e c.in-Compound.is in
+    rw (← c.self.view_is) (argument_is (contents c.self.inside.lists) c.self.invariant.now c.args.id c.resolve-end.result c.resolve-end.ensures c.in-Compound.ground c.in-Compound.count c.in-Compound.name c.in-Compound.start here c.args.i (rw (← c.self.view_is) at c.requires.within) c.index-in-Compound.result.now c.index-in-Compound.ensures)

@@ -19,5 +19,5 @@ pub returns-in-Compound : goal.returns-in-Compound
 returns-in-Compound c =
     let lt : c.resolve-end.result < length c.self.inside.lists.cells.items = rw (← length-built (contents c.self.inside.lists)) c.resolve-end.ensures.live in
     let e = rw c.index.ensures at c.index-2.ensures in
-    let here = cell_at (contents c.self.inside.lists) c.resolve-end.result c.index-2.result.now (cell.Compound c.in-Compound.ground c.in-Compound.name c.in-Compound.start c.in-Compound.count) lt e c.in-Compound.is in
-    rw (← c.self.view_is) (ground_at (contents c.self.inside.lists) c.self.invariant.now c.args.id c.resolve-end.result c.resolve-end.ensures (cell.Compound c.in-Compound.ground c.in-Compound.name c.in-Compound.start c.in-Compound.count) here)
+    let here = cell_at (contents c.self.inside.lists) c.resolve-end.result c.index-2.result.now (cell.Compound c.in-Compound.ground c.in-Compound.count c.in-Compound.name c.in-Compound.start) lt e c.in-Compound.is in
+    rw (← c.self.view_is) (ground_at (contents c.self.inside.lists) c.self.invariant.now c.args.id c.resolve-end.result c.resolve-end.ensures (cell.Compound c.in-Compound.ground c.in-Compound.count c.in-Compound.name c.in-Compound.start) here)

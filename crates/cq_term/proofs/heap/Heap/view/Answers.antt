@@ -79,8 +79,8 @@ pub returns-in-Compound-clause-view : goal.returns-in-Compound-clause-view
 returns-in-Compound-clause-view c =
     let lt : c.resolve-end.result < length c.self.inside.lists.cells.items = rw (← length-built (contents c.self.inside.lists)) c.resolve-end.ensures.live in
     let e = rw c.index.ensures at c.index-2.ensures in
-    let here = cell_at (contents c.self.inside.lists) c.resolve-end.result c.index-2.result.now (cell.Compound c.in-Compound.ground c.in-Compound.name c.in-Compound.start c.in-Compound.count) lt e c.in-Compound.is in
-    rw (← c.self.view_is) (sym (shown_compound (contents c.self.inside.lists) c.self.invariant.now c.args.id c.resolve-end.result c.resolve-end.ensures c.in-Compound.ground c.in-Compound.name c.in-Compound.start c.in-Compound.count here))
+    let here = cell_at (contents c.self.inside.lists) c.resolve-end.result c.index-2.result.now (cell.Compound c.in-Compound.ground c.in-Compound.count c.in-Compound.name c.in-Compound.start) lt e c.in-Compound.is in
+    rw (← c.self.view_is) (sym (shown_compound (contents c.self.inside.lists) c.self.invariant.now c.args.id c.resolve-end.result c.resolve-end.ensures c.in-Compound.ground c.in-Compound.count c.in-Compound.name c.in-Compound.start here))
 
 pub returns-in-Compound-clause-unbound : goal.returns-in-Compound-clause-unbound
 returns-in-Compound-clause-unbound c = rw (← c.self.view_is) (var_free (all_built (contents c.self.inside.lists)) c.self.inside.lists.vars.items c.self.inside.lists.bound.items c.self.inside.lists.order.items c.self.invariant.now.heap c.args.id)
