@@ -34,7 +34,7 @@ has_parts t (u ∷ us) (inr h) =
     let r = has_parts t us h in
     (u ∷ r.0, r.1, ap (λ xs. u ∷ xs) r.2)
 
-false_fails : (p : Point) → Holds p false_constraint → ⊥
+pub false_fails : (p : Point) → Holds p false_constraint → ⊥
 false_fails p h = false_unsolvable (false_constraint ∷ []) (inl refl) p (h, tt)
 
 -- moves only add

@@ -2,17 +2,37 @@
 //! body, and its contract is a law of the definitions.
 #![tactic(auto)]
 
-ghost use Rattle.std.specs.Prelude.{◌≡◌, ℕ, List, [], Bool, false, Option};
+ghost use Rattle.std.specs.Prelude.{◌≡◌, ◌↔◌, ℕ, List, [], Bool, false, Option};
 ghost use Rattle.spec_rational.specs.Rational.{ℚ};
-ghost use Rattle.spec_linear.specs.Solution.{Constraint, Solvable, Fixes, Equivalent};
+ghost use Rattle.spec_linear.specs.Solution.{Constraint, Point, Solvable, Fixes, Equivalent};
 ghost use Rattle.spec_lists.specs.Texts.{Text};
 ghost use Rattle.spec_terms.specs.Term.{Subst};
 ghost use Rattle.spec_terms.specs.Unifier.{Equation, IsUnifier, read_under};
 ghost use Rattle.spec_syntax.specs.Trees.{Tree};
 ghost use Rattle.spec_branch.specs.Branch.{Item, State, Pending, Branch, no_work};
 ghost use Rattle.spec_branch.specs.Closure.{IsClosure};
-ghost use Rattle.spec_branch.specs.Settling.{Settles, Kept, Pruned, Why, kept_branch};
+ghost use Rattle.spec_branch.specs.Settling.{Settles, Kept, Pruned, Why, NoSolution, kept_branch};
+ghost use Rattle.spec_branch.specs.Meaning.{IsSolution, SolvesState, SolvesPending};
 ghost use Rattle.spec_branch.specs.Alike.{SameClosure, SameBranch, with_linear, idle, no_values};
+
+/// A closure has the solutions that there were before: points that solve the linear constraints and at which the waiting
+/// terms are true.
+pub fn closures_keep_the_solutions()
+    ensures { (s : Subst Text) (l m : List Constraint) (w x : List Tree) → IsClosure s l w m x
+        → (p : Point) → IsSolution s m x p ↔ IsSolution s l w p }
+{}
+
+/// A branch that is kept has the solutions that it had with its work to do, and one that is pruned for want of a solution
+/// had none.
+pub fn settling_keeps_the_solutions()
+    ensures kept { (items : List Item) (st : State) (w : Pending) (b : Branch) → Settles items st w (Kept b)
+        → (u : Subst Text) × IsUnifier (read_under st.bindings w.equations) u
+        × ((p : Point) → SolvesState b.state p ↔ SolvesPending st w u p) }
+    ensures pruned { (items : List Item) (st : State) (w : Pending) (l : List Constraint)
+        → Settles items st w (Pruned (NoSolution l))
+        → (u : Subst Text) × IsUnifier (read_under st.bindings w.equations) u
+        × ((p : Point) → SolvesPending st w u p → ⊥) }
+{}
 
 /// From lists with the same solutions, in whatever order waiting constraints become linear, solvable ends have
 /// the same solutions, the same waiting terms in the same order, and the same fixed values.

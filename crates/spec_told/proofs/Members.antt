@@ -14,7 +14,7 @@ use Rattle.spec_told.specs.Values.{value_of, SidesStand, Joined, IsMetAt}
 -- ---- members
 
 module _ {A : Type 0} (P : A → Type 0) where
-  both_parts : (xs ys : List A) → AllByRecursion P (xs ++ ys) ↔ (AllByRecursion P xs × AllByRecursion P ys)
+  pub both_parts : (xs ys : List A) → AllByRecursion P (xs ++ ys) ↔ (AllByRecursion P xs × AllByRecursion P ys)
   both_parts [] ys = (λ h. (tt, h), λ h. h.1)
   both_parts (x ∷ xs) ys =
       let r : AllByRecursion P (xs ++ ys) ↔ (AllByRecursion P xs × AllByRecursion P ys) = both_parts xs ys in (
