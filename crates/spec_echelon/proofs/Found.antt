@@ -1,5 +1,5 @@
 -- The form that a list of equations has for a variable; in a distinct order that makes an echelon form a solved form.
-use Rattle.std.proofs.Common.{◌≡◌, ◌≢◌, ◌↔◌, ℕ, List, [], ◌∷◌, map, Bool, true, false, cond, arith, Option, Some, None, refl, ap, ap₂, sym, subst, ◌∙◌, inl, inr}
+use Rattle.std.proofs.Common.{◌≡◌, ◌≢◌, ◌↔◌, ℕ, List, [], ◌∷◌, Bool, true, false, cond, arith, Option, Some, None, refl, ap, ap₂, sym, subst, ◌∙◌, inl, inr}
 use Rattle.std.specs.Prelude.{◌==◌}
 use Rattle.std.specs.List.{AllByRecursion, cons_option}
 use Rattle.spec_rational.specs.Rational.{ℚ}
@@ -7,14 +7,10 @@ use Rattle.spec_rational.specs.Sums.{Mentions}
 use Rattle.spec_linear.specs.Form.{Linear, value_at}
 use Rattle.spec_linear.specs.Solution.{Constraint, MentionsOnly, Has, Satisfies}
 use Rattle.spec_lists.proofs.Tests.{nat_eq-same}
-use Rattle.spec_echelon.specs.Echelon.{Solved, equations, AreDistinct, InOrder, IsEchelon}
+use Rattle.spec_echelon.specs.Echelon.{Solved, equations, solved_variables, AreDistinct, InOrder, IsEchelon}
 use Rattle.spec_echelon.specs.SolvedForm.{Agrees, IsSolvedForm, row_at, rows_of}
 use Rattle.spec_echelon.proofs.Orders.{in_order-has, in_order-once, in_order-rest}
 use Rattle.spec_echelon.proofs.Filled.{equation-says, equation-said}
-
--- the variables that are solved for
-abbrev pub solved_for : List Solved → List ℕ
-solved_for es = map (λ e. e.variable) es
 
 -- the form of the first equation that is solved for x
 abbrev pub found : List Solved → ℕ → Option Linear
@@ -41,7 +37,7 @@ found-first e es = let w : (e.variable == e.variable) ≡ true = grind arith in 
 found-other : (e : Solved) (es : List Solved) (x : ℕ) → x ≢ e.variable → found (e ∷ es) x ≡ found es x
 found-other e es x n = let w : (x == e.variable) ≡ false = grind arith in ap (λ (b : Bool). cond b (Some e.form) (found es x)) w
 
-pub found-none : (es : List Solved) (x : ℕ) → (Has x (solved_for es) → ⊥) → found es x ≡ None
+pub found-none : (es : List Solved) (x : ℕ) → (Has x (solved_variables es) → ⊥) → found es x ≡ None
 found-none [] x n = refl
 found-none (e ∷ es) x n = found-other e es x (λ w. n (inl w)) ∙ found-none es x (λ k. n (inr k))
 
@@ -49,15 +45,15 @@ found-none (e ∷ es) x n = found-other e es x (λ w. n (inl w)) ∙ found-none 
 abbrev pub AreFound : (ℕ → Option Linear) → List Solved → Type 0
 AreFound solved es = AllByRecursion (λ e. solved e.variable ≡ Some e.form) es
 
-found-behind : (e : Solved) (es ds : List Solved) → (Has e.variable (solved_for ds) → ⊥) → AreFound (found es) ds → AreFound (found (e ∷ es)) ds
+found-behind : (e : Solved) (es ds : List Solved) → (Has e.variable (solved_variables ds) → ⊥) → AreFound (found es) ds → AreFound (found (e ∷ es)) ds
 found-behind e es [] n h = tt
 found-behind e es (d ∷ ds) n h = (found-other e es d.variable (λ w. n (inl (sym w))) ∙ h.0, found-behind e es ds (λ k. n (inr k)) h.1)
 
-pub found-each : (order : List ℕ) (es : List Solved) → AreDistinct order → InOrder order (solved_for es) → AreFound (found es) es
+pub found-each : (order : List ℕ) (es : List Solved) → AreDistinct order → InOrder order (solved_variables es) → AreFound (found es) es
 found-each order [] d i = tt
 found-each order (e ∷ es) d i = (
   found-first e es,
-  found-behind e es es (in_order-once order e.variable (solved_for es) d i) (found-each order es d (in_order-rest order e.variable (solved_for es) i)),
+  found-behind e es es (in_order-once order e.variable (solved_variables es) d i) (found-each order es d (in_order-rest order e.variable (solved_variables es) i)),
 )
 
 -- ---- an echelon form is a solved form
@@ -98,8 +94,8 @@ rows-free solved v order e = ap (λ o. cons_option (row_at v o) (rows_of solved 
 rows-first : (solved : ℕ → Option Linear) (v : ℕ) (order : List ℕ) (e : Solved) → e.variable ≡ v → solved e.variable ≡ Some e.form → rows_of solved (v ∷ order) ≡ e ∷ rows_of solved order
 rows-first solved v order e w k = ap (λ y. rows_of solved (y ∷ order)) (sym w) ∙ ap (λ o. cons_option (row_at e.variable o) (rows_of solved order)) k
 
-pub rows-are : (solved : ℕ → Option Linear) (order : List ℕ) (es : List Solved) → AreDistinct order → InOrder order (solved_for es) → AreFound solved es
-    → ((x : ℕ) → Has x order → (Has x (solved_for es) → ⊥) → solved x ≡ None) → rows_of solved order ≡ es
+pub rows-are : (solved : ℕ → Option Linear) (order : List ℕ) (es : List Solved) → AreDistinct order → InOrder order (solved_variables es) → AreFound solved es
+    → ((x : ℕ) → Has x order → (Has x (solved_variables es) → ⊥) → solved x ≡ None) → rows_of solved order ≡ es
 rows-are solved [] [] d i h n = refl
 rows-are solved [] (e ∷ es) d i h n = absurd i
 rows-are solved (v ∷ order) [] d i h n =
@@ -108,9 +104,9 @@ rows-are solved (v ∷ order) (e ∷ es) d (inl i) h n =
     rows-first solved v order e i.0 h.0
     ∙ ap (λ r. e ∷ r) (rows-are solved order es d.1 i.1 h.1 (λ x k w. n x (inr k) (behind x k w)))
   where
-    behind : (x : ℕ) → Has x order → (Has x (solved_for es) → ⊥) → Has x (solved_for (e ∷ es)) → ⊥
+    behind : (x : ℕ) → Has x order → (Has x (solved_variables es) → ⊥) → Has x (solved_variables (e ∷ es)) → ⊥
     behind x k w (inl q) = let same : x ≡ e.variable = q in d.0 (subst (λ z. Has z order) (same ∙ i.0) k)
     behind x k w (inr q) = w q
 rows-are solved (v ∷ order) (e ∷ es) d (inr i) h n =
-    rows-free solved v order (n v (inl refl) (λ w. d.0 (in_order-has order (solved_for (e ∷ es)) i v w)))
+    rows-free solved v order (n v (inl refl) (λ w. d.0 (in_order-has order (solved_variables (e ∷ es)) i v w)))
     ∙ rows-are solved order (e ∷ es) d.1 i h (λ x k w. n x (inr k) w)

@@ -1,6 +1,7 @@
 pub mod Orders
 pub mod Filled
 pub mod Solving
+pub mod Values
 pub mod SameProducts
 pub mod UniqueForms
 pub mod Found

@@ -5,6 +5,7 @@ use Rattle.spec_rational.specs.Rational.{0ℚ, 1ℚ, neg_ℚ}
 use Rattle.spec_rational.specs.Sums.{Monomial, Mentions, negated_products}
 use Rattle.spec_linear.specs.declared.Relation.TheVariants.{Eq}
 use Rattle.spec_linear.specs.Form.{Linear}
+pub use Rattle.spec_linear.specs.Form.{variables}
 use Rattle.spec_linear.specs.Solution.{Constraint, Entails, Has}
 
 -- an equation solved for a variable: the variable is the form
@@ -27,6 +28,10 @@ equation e = equal_zero (difference e)
 abbrev pub equations : List Solved → List Constraint
 equations es = map equation es
 
+-- the variables that are solved for
+abbrev pub solved_variables : List Solved → List ℕ
+solved_variables es = map (λ e. e.variable) es
+
 -- ---- order
 
 -- each number at most once
@@ -39,10 +44,6 @@ abbrev pub InOrder : List ℕ → List ℕ → Type 0
 InOrder order [] = ⊤
 InOrder [] (x ∷ xs) = ⊥
 InOrder (v ∷ order) (x ∷ xs) = ((x ≡ v) × InOrder order xs) ⊎ InOrder order (x ∷ xs)
-
--- the variables of products
-abbrev pub variables : List Monomial → List ℕ
-variables s = map (λ m. m.variable) s
 
 -- a variable and products behind it in the order, no factor zero
 pub record IsBefore (order : List ℕ) (x : ℕ) (s : List Monomial) : Type 0 where

@@ -1,8 +1,8 @@
 -- A list of equations in solved form: some variables as forms of the others, which are free.
-use Rattle.std.specs.Prelude.{◌≡◌, ◌↔◌, ℕ, List, Option, Some, None}
+use Rattle.std.specs.Prelude.{◌≡◌, ◌↔◌, ℕ, List, [], ◌∷◌, Option, Some, None}
 use Rattle.std.specs.List.{filter_map}
 use Rattle.spec_rational.specs.Rational.{ℚ}
-use Rattle.spec_rational.specs.Sums.{Mentions}
+use Rattle.spec_rational.specs.Sums.{Monomial, Mentions}
 use Rattle.spec_linear.specs.Form.{Linear, value_at}
 use Rattle.spec_linear.specs.Solution.{Constraint, Fixed, MentionsOnly, Satisfies}
 use Rattle.spec_echelon.specs.Echelon.{Solved, AreDistinct, IsBefore}
@@ -28,6 +28,16 @@ row_at x (Some f) = Some (record { variable = x; form = f })
 -- the equations of some variables, in their order
 abbrev pub rows_of : (ℕ → Option Linear) → List ℕ → List Solved
 rows_of solved targets = filter_map (λ x. row_at x (solved x)) targets
+
+-- the number that a form without products is
+abbrev pub constant_of : List Monomial → ℚ → Option ℚ
+constant_of [] q = Some q
+constant_of (m ∷ ms) q = None
+
+-- the number that a variable is solved for
+abbrev pub number_in : Option Linear → Option ℚ
+number_in None = None
+number_in (Some f) = constant_of f.products f.constant
 
 -- the list gives x no single value
 abbrev pub NotFixed : List Constraint → ℕ → Type 0

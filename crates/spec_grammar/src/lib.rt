@@ -90,7 +90,8 @@ pub fn quotes_hold_a_text()
 
 /// The bytes of a name that is not in quotes, and of a variable, are UTF-8.
 pub fn names_are_texts()
-    ensures { (text : List ℕ) (at : ℕ) (t : Token) → next_token text at ≡ Ok t → (t.kind ≡ Kind.Name) ⊎ (t.kind ≡ Kind.Variable) → IsUtf8 (bytes_of text t.span) }
+    ensures { (text : List ℕ) (at : ℕ) (t : Token) → next_token text at ≡ Ok t
+        → (t.kind ≡ Kind.Name) ⊎ (t.kind ≡ Kind.Variable) → IsUtf8 (bytes_of text t.span) }
 {}
 
 /// A token does not depend on what comes after the bytes behind it at which it looks: one byte, or two behind a numeral. That

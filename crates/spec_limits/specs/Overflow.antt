@@ -20,6 +20,10 @@ pub record Operands : Type 0 where
   pub left : Linear
   pub right : Linear
 
+-- an operation with the forms of its operands
+abbrev pub on : Operation → Linear → Linear → Operands
+on o f g = record { operation = o; left = f; right = g }
+
 -- while constraints are told or asked, or while an answer is made
 pub data Stage : Type 0 where
   settling answering : Stage

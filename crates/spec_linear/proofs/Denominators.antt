@@ -1,12 +1,13 @@
 -- Rationals for finitely many variables have one denominator, so rationals that satisfy a list extend to a solution.
 use Rattle.std.proofs.Common.{◌≡◌, ◌↔◌, ◌⊎◌, inl, inr, ℕ, ◌*◌, List, [], ◌∷◌, ◌++◌, Bool, true, false, cond, ℤ, pos, ◌*ℤ◌, arith, refl, ap, sym, subst, ◌∙◌, mul-pos, zero-lt-suc}
-use Rattle.std.specs.Prelude.{◌==◌, map}
+use Rattle.std.specs.Prelude.{◌==◌}
 use Rattle.spec_rational.specs.Rational.{ℚ, denominator, ratio, ◌+ℚ◌}
 use Rattle.spec_rational.specs.Sums.{Monomial, Mentions}
 use Rattle.spec_rational.proofs.Ring.{var, ◌⊗◌}
 use Rattle.spec_rational.proofs.IntRing.{ring_ℤ}
 use Rattle.spec_rational.proofs.Rational.{ratio_same, ratio_back}
 use Rattle.spec_rational.proofs.Sums.{sum_at-agrees}
+use Rattle.spec_linear.specs.Form.{variables}
 use Rattle.spec_linear.specs.Solution.{Constraint, Meets, Point, number, Solvable, HoldsAt, Satisfies, AgreesOn, Extends, Has, SomeMentions}
 use Rattle.spec_lists.proofs.Tests.{nat_eq-same}
 use Rattle.spec_linear.proofs.Points.{solves_same}
@@ -23,22 +24,19 @@ has_right x [] t h = h
 has_right x (y ∷ s) t h = inr (has_right x s t h)
 
 -- the variables of a list of constraints, as often as they stand there
-abbrev pub variables_of : List Monomial → List ℕ
-variables_of s = map (λ m. m.variable) s
+abbrev all_variables : List Constraint → List ℕ
+all_variables [] = []
+all_variables (c ∷ l) = variables c.form.products ++ all_variables l
 
-abbrev variables : List Constraint → List ℕ
-variables [] = []
-variables (c ∷ l) = variables_of c.form.products ++ variables l
-
-pub has_mentioned : (x : ℕ) (s : List Monomial) → Mentions x s → Has x (variables_of s)
+pub has_mentioned : (x : ℕ) (s : List Monomial) → Mentions x s → Has x (variables s)
 has_mentioned x [] h = absurd h
 has_mentioned x (m ∷ s) (inl e) = inl e
 has_mentioned x (m ∷ s) (inr h) = inr (has_mentioned x s h)
 
-has_variable : (x : ℕ) (l : List Constraint) → SomeMentions x l → Has x (variables l)
+has_variable : (x : ℕ) (l : List Constraint) → SomeMentions x l → Has x (all_variables l)
 has_variable x [] h = absurd h
-has_variable x (c ∷ l) (inl h) = has_left x (variables_of c.form.products) (variables l) (has_mentioned x c.form.products h)
-has_variable x (c ∷ l) (inr h) = has_right x (variables_of c.form.products) (variables l) (has_variable x l h)
+has_variable x (c ∷ l) (inl h) = has_left x (variables c.form.products) (all_variables l) (has_mentioned x c.form.products h)
+has_variable x (c ∷ l) (inr h) = has_right x (variables c.form.products) (all_variables l) (has_variable x l h)
 
 -- ---- a list looks at the variables that it mentions alone
 
@@ -103,12 +101,12 @@ agrees_at (y ∷ targets) a p h x (inr k) = agrees_at targets a p h.1 x k
 -- rationals that satisfy a list extend to a solution, whatever the targets are
 pub extends : (targets : List ℕ) (a : ℕ → ℚ) (l : List Constraint) → Satisfies a l → Extends targets a l
 extends targets a l h =
-    let xs : List ℕ = targets ++ variables l in
+    let xs : List ℕ = targets ++ all_variables l in
     let p : Point = point_of a xs in
     let at : (x : ℕ) → Has x xs → number p x ≡ a x = point_of-is a xs in (
       p,
-      agrees_on targets a p (λ x k. at x (has_left x targets (variables l) k)),
-      (solves_same p l).1 (satisfies_agrees a (number p) l (λ x k. sym (at x (has_right x targets (variables l) (has_variable x l k)))) h),
+      agrees_on targets a p (λ x k. at x (has_left x targets (all_variables l) k)),
+      (solves_same p l).1 (satisfies_agrees a (number p) l (λ x k. sym (at x (has_right x targets (all_variables l) (has_variable x l k)))) h),
     )
 
 pub solvable_same : (l : List Constraint) → Solvable l ↔ ((a : ℕ → ℚ) × Satisfies a l)

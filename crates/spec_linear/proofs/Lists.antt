@@ -4,11 +4,11 @@ use Rattle.spec_rational.specs.Rational.{ℚ, 0ℚ, 1ℚ, ◌+ℚ◌, ◌-ℚ◌
 use Rattle.spec_rational.proofs.Ring.{var, int, ◌⊕◌, minus}
 use Rattle.spec_rational.proofs.Rational.{ring}
 use Rattle.spec_rational.proofs.Sign.{one_not_zero}
-use Rattle.spec_linear.specs.Form.{value_at, constant_form, variable_form, difference_form}
+use Rattle.spec_linear.specs.Form.{variables, value_at, constant_form, variable_form, difference_form}
 use Rattle.spec_linear.specs.Solution.{Constraint, false_constraint, equal_to, Point, number, Holds, Solves, Solvable, Unsolvable, Fixed, Fixes, Entails, Equivalent, HoldsAt, Satisfies, Has}
 use Rattle.spec_linear.proofs.Values.{value_at-constant_form, value_at-variable_form, value_at-difference_form}
 use Rattle.spec_linear.proofs.Points.{holds_same, solves_same}
-use Rattle.spec_linear.proofs.Denominators.{extends, agrees_at, variables_of, has_mentioned, holds_agrees}
+use Rattle.spec_linear.proofs.Denominators.{extends, agrees_at, has_mentioned, holds_agrees}
 
 -- ---- lists together
 
@@ -84,8 +84,8 @@ fixed_is_entailed l x q s = (
 pub entails_same : (l : List Constraint) (c : Constraint) → Entails l c ↔ ((a : ℕ → ℚ) → Satisfies a l → HoldsAt a c)
 entails_same l c = (
   (λ e a h.
-      let w = extends (variables_of c.form.products) a l h in
-      holds_agrees (number w.0) a c (λ x k. agrees_at (variables_of c.form.products) a w.0 w.1 x (has_mentioned x c.form.products k)) ((holds_same w.0 c).0 (e w.0 w.2))),
+      let w = extends (variables c.form.products) a l h in
+      holds_agrees (number w.0) a c (λ x k. agrees_at (variables c.form.products) a w.0 w.1 x (has_mentioned x c.form.products k)) ((holds_same w.0 c).0 (e w.0 w.2))),
   (λ e p h. (holds_same p c).1 (e (number p) ((solves_same p l).0 h))),
 )
 

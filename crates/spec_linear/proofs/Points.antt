@@ -1,5 +1,5 @@
 -- A form multiplied through is the denominator times its value at the rationals, so a point and its rationals solve the same lists.
-use Rattle.std.proofs.Common.{◌≡◌, ◌≢◌, ◌↔◌, ℕ, List, [], ◌∷◌, pos, arith, refl, ap, ap₂, sym, subst, ◌∙◌}
+use Rattle.std.proofs.Common.{◌≡◌, ◌≢◌, ◌↔◌, ℕ, List, [], ◌∷◌, ℤ, pos, arith, refl, ap, ap₂, sym, subst, ◌∙◌}
 use Rattle.spec_rational.specs.Rational.{ℚ, 0ℚ, int_ℚ, ◌+ℚ◌, ◌*ℚ◌, inv_ℚ, IsPositive}
 use Rattle.spec_rational.specs.Sums.{Monomial, sum_at}
 use Rattle.spec_rational.proofs.Ring.{var, int, ◌⊕◌, ◌⊗◌}
@@ -11,6 +11,10 @@ use Rattle.spec_linear.specs.declared.Relation.TheVariants.{Eq, Gt, Ge, Ne}
 use Rattle.spec_linear.specs.Form.{Linear, value_at, scaled_form}
 use Rattle.spec_linear.specs.Solution.{Constraint, Meets, Point, number, through, Holds, Solves, HoldsAt, Satisfies}
 use Rattle.spec_linear.proofs.Values.{value_at-scaled_form}
+
+-- the point that gives each variable the same number
+unfoldable pub all_at : ℤ → Point
+all_at n = record { denominator = 1; positive = omega arith; numerator = λ x. n }
 
 -- the denominator as a rational
 abbrev size : Point → ℚ

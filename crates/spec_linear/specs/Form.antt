@@ -1,6 +1,6 @@
 -- Linear forms: a sum of products of a factor and a variable, and a constant.
 -- A form lists its products by ascending variable, each variable once and no factor zero.
-use Rattle.std.specs.Prelude.{◌≢◌, ℕ, suc, ◌≤◌, List, [], ◌∷◌, ⊤, Bool, true, false, cond, not, ◌==◌, nat_eq, nat_lt, nat_abs, filter}
+use Rattle.std.specs.Prelude.{◌≢◌, ℕ, suc, ◌≤◌, List, [], ◌∷◌, ⊤, Bool, true, false, cond, not, ◌==◌, nat_eq, nat_lt, nat_abs, filter, map}
 use Rattle.spec_rational.specs.Rational.{ℚ, 0ℚ, 1ℚ, ◌+ℚ◌, ◌*ℚ◌, neg_ℚ}
 use Rattle.spec_rational.specs.Sums.{Monomial, sum_at, factor_of, scaled_products, negated_products}
 
@@ -12,6 +12,10 @@ pub record Linear : Type 0 where
 -- what the form is where a gives the variables their values
 abbrev pub value_at : (ℕ → ℚ) → Linear → ℚ
 value_at a f = f.constant +ℚ sum_at a f.products
+
+-- the variables of products
+abbrev pub variables : List Monomial → List ℕ
+variables s = map (λ m. m.variable) s
 
 -- each variable is at least low and above the one before it, and no factor is zero
 abbrev pub IsSumFrom : ℕ → List Monomial → Type 0

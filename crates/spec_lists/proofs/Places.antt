@@ -44,3 +44,8 @@ map_same f g (x ∷ xs) h = ap₂ (λ y ys. y ∷ ys) (h 0 x refl) (map_same f g
 pub none_is : {X : Type 0} (o : Option X) → is_some o ≡ false → o ≡ None
 none_is None e = refl
 none_is (Some x) e = cc
+
+-- nothing stands in an empty list
+pub nothing_within : {X : Type 0} (front behind : List X) (x : X) → [] ≡ front ++ x ∷ behind → ⊥
+nothing_within [] behind x e = cc
+nothing_within (y ∷ front) behind x e = cc

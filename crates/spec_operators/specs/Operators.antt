@@ -4,10 +4,6 @@ use Rattle.spec_operators.specs.declared.OpKind.{OpKind}
 use Rattle.spec_operators.specs.declared.OpKind.TheVariants.{Xfx, Xfy, Yfx, Fy, Fx, Xf, Yf}
 use Rattle.spec_operators.specs.declared.OpDef.{OpDef}
 use Rattle.spec_lists.specs.Texts.{Text}
-use Rattle.spec_lists.specs.Texts.{Text}
-use Rattle.spec_lists.specs.Texts.{Text}
-use Rattle.spec_lists.specs.Texts.{Text}
-use Rattle.spec_lists.specs.Texts.{Text}
 
 -- where an operator stands: before its operand, between two, or behind one
 pub data Position : Type 0 where

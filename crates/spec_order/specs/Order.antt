@@ -7,10 +7,6 @@ use Rattle.std.specs.Cmp.Lexicographic.{slice_cmp}
 use Rattle.spec_rational.specs.Order.{cmp_ℚ}
 use Rattle.spec_terms.specs.Term.{Term, Terms, Var, Number, Name, Compound, one, more, count}
 use Rattle.spec_lists.specs.Texts.{Text}
-use Rattle.spec_lists.specs.Texts.{Text}
-use Rattle.spec_lists.specs.Texts.{Text}
-use Rattle.spec_lists.specs.Texts.{Text}
-use Rattle.spec_lists.specs.Texts.{Text}
 
 -- the first byte that differs decides; a text stands before those that go on after it
 abbrev pub compare_texts : Text → Text → Ordering

@@ -17,7 +17,9 @@ ghost use Rattle.spec_order.specs.Variants.{AreVariants};
 pub fn standard_order()
     ensures total { IsTotalOrder compare_terms }
     ensures same { (t u : Term Text) → compare_terms t u ≡ Equal ↔ (t ≡ u) }
-    ensures kinds { (v : ℕ) (q : ℚ) (a f : Text) (ts : Terms Text) → (compare_terms (Var v) (Number q) ≡ Less) × (compare_terms (Number q) (Name a) ≡ Less) × (compare_terms (Name a) (Compound f ts) ≡ Less) }
+    ensures variable_first { (v : ℕ) (q : ℚ) → compare_terms (Var v) (Number q) ≡ Less }
+    ensures number_second { (q : ℚ) (a : Text) → compare_terms (Number q) (Name a) ≡ Less }
+    ensures compound_last { (a f : Text) (ts : Terms Text) → compare_terms (Name a) (Compound f ts) ≡ Less }
 {}
 
 /// Terms are variants exactly where they are the same once their variables are numbered by first occurrence.

@@ -36,11 +36,6 @@ sum_at-append v (m ∷ s) t =
     ap (λ w. m.factor *ℚ v m.variable +ℚ w) (sum_at-append v s t)
     ∙ ring (m.factor ∷ v m.variable ∷ sum_at v s ∷ sum_at v t ∷ []) (var 0 ⊗ var 1 ⊕ (var 2 ⊕ var 3)) (var 0 ⊗ var 1 ⊕ var 2 ⊕ var 3) refl
 
-pub sum_at-push : (v : ℕ → ℚ) (s t : List Monomial) (m : Monomial) → t ≡ s ++ m ∷ [] → sum_at v t ≡ sum_at v s +ℚ m.factor *ℚ v m.variable
-sum_at-push v s t m e =
-    ap (sum_at v) e ∙ sum_at-append v s (m ∷ [])
-    ∙ ring (sum_at v s ∷ m.factor ∷ v m.variable ∷ []) (var 0 ⊕ (var 1 ⊗ var 2 ⊕ int (pos 0))) (var 0 ⊕ var 1 ⊗ var 2) refl
-
 pub sum_at-scaled_products : (v : ℕ → ℚ) (k : ℚ) (s : List Monomial) → sum_at v (scaled_products k s) ≡ k *ℚ sum_at v s
 sum_at-scaled_products v k [] = ring (k ∷ []) (int (pos 0)) (var 0 ⊗ int (pos 0)) refl
 sum_at-scaled_products v k (m ∷ s) =

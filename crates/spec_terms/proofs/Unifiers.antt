@@ -1,7 +1,8 @@
 -- A unifier is idempotent, and there is one at most.
-use Rattle.std.proofs.Common.{◌≡◌, ℕ, ◌≤◌, List, arith, ap}
-use Rattle.spec_terms.specs.Term.{Term, Terms, Subst, Var, Number, Name, Compound, one, more, apply, apply_all}
-use Rattle.spec_terms.specs.Unifier.{Equation, IsUnifier}
+use Rattle.std.proofs.Common.{◌≡◌, ℕ, ◌≤◌, List, [], ◌∷◌, arith, ap, sym, ◌∙◌}
+use Rattle.spec_terms.specs.Term.{Term, Terms, Subst, Var, Number, Name, Compound, one, more, apply, apply_all, followed_by}
+use Rattle.spec_terms.specs.Unifier.{Equation, Equates, IsUnifier, read_under}
+use Rattle.spec_terms.proofs.Substitution.{apply-followed_by}
 
 module _ {A : Type 0} where
   pub unifier_idempotent : (es : List (Equation A)) (s : Subst A) → IsUnifier es s → (v : ℕ) → apply s (s v) ≡ s v
@@ -51,3 +52,8 @@ module _ {A : Type 0} where
 
   pub unifier_unique : (es : List (Equation A)) (s r : Subst A) → IsUnifier es s → IsUnifier es r → (v : ℕ) → s v ≡ r v
   unifier_unique es s r hs hr v = same r s hr.oldest hs.oldest (s v) (r v) (hs.general r hr.unifies v) (hr.general s hs.unifies v)
+
+  -- what makes the pairs read under a substitution equal makes them equal behind it
+  pub equates_under : (s u : Subst A) (es : List (Equation A)) → Equates u (read_under s es) → Equates (followed_by s u) es
+  equates_under s u [] h = tt
+  equates_under s u (e ∷ es) h = (apply-followed_by s u e.left ∙ h.0 ∙ sym (apply-followed_by s u e.right), equates_under s u es h.1)

@@ -3,4 +3,10 @@ use Rattle.spec_order.proofs.Orders.{compare_terms-total, compare_terms-equal, c
 use Rattle.spec_order.proofs.standard_order.Goals as goal
 
 pub returns : goal.returns
-returns c = record { total = compare_terms-total; same = λ t u. (compare_terms-equal t u, compare_terms-itself t u); kinds = λ v q a f ts. (refl, refl, refl) }
+returns c = record {
+  total = compare_terms-total;
+  same = λ t u. (compare_terms-equal t u, compare_terms-itself t u);
+  variable_first = λ v q. refl;
+  number_second = λ q a. refl;
+  compound_last = λ a f ts. refl;
+}
