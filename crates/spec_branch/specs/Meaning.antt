@@ -1,12 +1,14 @@
 -- What linear constraints and waiting terms say together of the values of variables. It helps to state laws.
-use Rattle.std.specs.Prelude.{List, ◌++◌, map}
+use Rattle.std.specs.Prelude.{◌≡◌, ℕ, List, ◌++◌, map, true}
 use Rattle.std.specs.List.{AllByRecursion}
-use Rattle.spec_linear.specs.Solution.{Constraint, Point, number, Solves}
+use Rattle.spec_rational.specs.Rational.{ℚ}
+use Rattle.spec_linear.specs.Solution.{Constraint, Point, number, Solves, Solvable, Fixed, Has}
 use Rattle.spec_lists.specs.Texts.{Text}
-use Rattle.spec_terms.specs.Term.{Subst, apply, followed_by}
+use Rattle.spec_terms.specs.Term.{Subst, Var, apply, followed_by}
 use Rattle.spec_syntax.specs.Trees.{Tree}
+use Rattle.spec_told.specs.Relations.{Lin, Waits, IsLin}
 use Rattle.spec_told.specs.Values.{IsTrueAt}
-use Rattle.spec_branch.specs.Branch.{State, Pending}
+use Rattle.spec_branch.specs.Branch.{State, Pending, read}
 use Rattle.spec_branch.specs.Settling.{newly_bound, binding_equation}
 
 -- the point solves the linear constraints, and each waiting term is true there, as it reads
@@ -24,3 +26,10 @@ abbrev pub SolvesPending : State → Pending → Subst Text → Point → Type 0
 SolvesPending st w u p =
     let s = followed_by st.bindings u in
     IsSolution s (st.linear ++ map (binding_equation s) (newly_bound st u) ++ w.rows) (st.delayed ++ w.told) p
+
+-- the linear constraints have a solution, no waiting term is linear or false over them, and they fix no numeric variable
+-- that is unbound
+pub record IsSettled (st : State) : Type 0 where
+  pub solvable : Solvable st.linear
+  pub waiting : (t : Tree) (r : Lin Constraint) → Has t st.delayed → IsLin st.linear (read st t) r → r ≡ Waits
+  pub unbound : (v : ℕ) (q : ℚ) → st.numeric v ≡ true → st.bindings v ≡ Var v → Fixed st.linear v q → ⊥

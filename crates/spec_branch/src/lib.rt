@@ -12,7 +12,7 @@ ghost use Rattle.spec_syntax.specs.Trees.{Tree};
 ghost use Rattle.spec_branch.specs.Branch.{Item, State, Pending, Branch, no_work};
 ghost use Rattle.spec_branch.specs.Closure.{IsClosure};
 ghost use Rattle.spec_branch.specs.Settling.{Settles, Kept, Pruned, Why, NoSolution, kept_branch};
-ghost use Rattle.spec_branch.specs.Meaning.{IsSolution, SolvesState, SolvesPending};
+ghost use Rattle.spec_branch.specs.Meaning.{IsSolution, SolvesState, SolvesPending, IsSettled};
 ghost use Rattle.spec_branch.specs.Alike.{SameClosure, SameBranch, with_linear, idle, no_values};
 
 /// A closure has the solutions that there were before: points that solve the linear constraints and at which the waiting
@@ -32,6 +32,12 @@ pub fn settling_keeps_the_solutions()
         → Settles items st w (Pruned (NoSolution l))
         → (u : Subst Text) × IsUnifier (read_under st.bindings w.equations) u
         × ((p : Point) → SolvesPending st w u p → ⊥) }
+{}
+
+/// A branch that is kept is settled: its linear constraints have a solution, no waiting term is linear or false over them,
+/// and they fix no numeric variable that is unbound.
+pub fn kept_branches_are_settled()
+    ensures { (items : List Item) (st : State) (w : Pending) (b : Branch) → Settles items st w (Kept b) → IsSettled b.state }
 {}
 
 /// From lists with the same solutions, in whatever order waiting constraints become linear, solvable ends have
