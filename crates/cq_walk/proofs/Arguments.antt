@@ -1,8 +1,8 @@
 -- The arguments of a compound that come to the end of a list of work, in place of the compound.
-use Rattle.std.proofs.Common.{◌≡◌, ℕ, zero, suc, ◌+◌, ◌<◌, List, [], ◌∷◌, ◌++◌, length, map, reverse, drop, Some, refl, ap, sym, ◌∙◌, arith, append_assoc}
+use Rattle.std.proofs.Common.{◌≡◌, ℕ, zero, suc, ◌+◌, ◌<◌, List, [], ◌∷◌, ◌++◌, length, map, reverse, drop, get_or, Some, refl, ap, sym, ◌∙◌, arith, append_assoc}
 use Rattle.std.specs.Prelude.{All, slice_get}
 use Rattle.std.specs.List.{sum_by}
-use Rattle.std.proofs.lemmas.List.{map-append, reverse-append}
+use Rattle.std.proofs.lemmas.List.{length-map, map-append, reverse-append}
 use Rattle.std.proofs.lemmas.Option.{none-some, same_Some}
 use Rattle.std.proofs.lemmas.List.Elements.{All-push, All-append, All-same}
 use Rattle.std.proofs.lemmas.List.Sums.{sum_by-append}
@@ -11,6 +11,7 @@ use Rattle.spec_terms.proofs.Substitution.{size_positive}
 use Rattle.cq_term.specs.Meaning.{HeapTerm, at}
 use Rattle.cq_term.specs.Shown.{view_of, arguments}
 use Rattle.cq_term.specs.declared.view.View.TheVariants as view
+use Rattle.cq_term.proofs.Kept.{arg_is}
 use Rattle.cq_walk.specs.Arguments.{PushesArguments}
 
 -- ---- how much there is to visit
@@ -48,6 +49,17 @@ sizes_push ts old work new id f n e shown p =
     ap (sum_by size) (terms_pop ts old work id e)
     ∙ sum_by-append size (map (at ts) work) (at ts id ∷ []) in
     omega (arith, more, less, sizes_arguments (at ts id) f n shown)
+
+-- ---- an id that is read from those of all arguments
+module _ (ts us : List HeapTerm) (ids : List ℕ) (n j id : ℕ) (all : map (at ts) ids ≡ us) (count : length us ≡ n) (lt : j < n) (is : id ≡ get_or ids j id) where
+  within : j < length ids
+  within = omega (arith, lt, count, ap length all, length-map ids (at ts))
+
+  pub argument_at : slice_get us j ≡ Some (at ts id)
+  argument_at = arg_is ts us ids j id (sym all) within is
+
+  pub live_at : All (λ k. k < length ts) ids → id < length ts
+  live_at live = omega (arith, live j id within, is)
 
 -- ---- one more argument on the list
 drop_get : {A : Type 0} (xs : List A) (j : ℕ) (x : A) → slice_get xs j ≡ Some x → drop j xs ≡ x ∷ drop (suc j) xs

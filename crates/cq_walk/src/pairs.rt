@@ -29,10 +29,12 @@ pub fn push_pairs(
     requires right_arity { length (arguments (at heap.now.now.terms right)) ≡ arity }
     ensures { OnOk result (PushesPairs heap.now.now.terms left right 0 work.old.items work.new.items) }
 {
+    let lefts = heap.args(left);
+    let rights = heap.args(right);
     for i in (0..arity).rev() {
         let pair = Pair {
-            left: heap.arg(left, i),
-            right: heap.arg(right, i),
+            left: lefts[i],
+            right: rights[i],
         };
         work.push(pair)?;
     }

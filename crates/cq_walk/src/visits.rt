@@ -78,8 +78,9 @@ pub fn push_arguments(
     requires arity { length (arguments (at heap.now.now.terms id)) ≡ arity }
     ensures { OnOk result (PushesArguments heap.now.now.terms (at heap.now.now.terms id) 0 work.old.items work.new.items) }
 {
+    let ids = heap.args(id);
     for i in (0..arity).rev() {
-        work.push(heap.arg(id, i))?;
+        work.push(ids[i])?;
     }
     Ok(())
 }

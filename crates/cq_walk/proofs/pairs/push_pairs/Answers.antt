@@ -1,4 +1,7 @@
-use Rattle.std.proofs.Common.{◌-◌, arith}
+use Rattle.std.proofs.Common.{◌<◌, ◌-◌, arith}
+use Rattle.cq_term.specs.Meaning.{at}
+use Rattle.cq_term.specs.Shown.{arguments}
+use Rattle.cq_walk.proofs.Arguments.{argument_at, live_at}
 use Rattle.cq_walk.proofs.SideBySide.{pushes_none, pushes_more}
 use Rattle.cq_walk.proofs.pairs.push_pairs.Goals as goal
 
@@ -7,5 +10,11 @@ loop-i-init c = pushes_none c.args.heap.now.now.terms c.args.left c.args.right c
 
 pub loop-i-preserved : goal.loop-i-preserved
 loop-i-preserved c =
-    pushes_more c.args.heap.now.now.terms c.args.left c.args.right c.loop-i.i (c.loop-i.i - 1) c.args.work.now.items c.loop-i.work.items c.push.new.self.items (record { left = c.arg.result; right = c.arg-in-loop-i.result })
-    (omega arith) c.loop-i.invariant (c.arg.ensures.live, c.arg-in-loop-i.ensures.live) c.arg.ensures.arg c.arg-in-loop-i.ensures.arg c.in_ok-push.ensures.items
+    let ts = c.args.heap.now.now.terms in
+    let lt : c.loop-i.i - 1 < c.args.arity = omega arith in
+    pushes_more ts c.args.left c.args.right c.loop-i.i (c.loop-i.i - 1) c.args.work.now.items c.loop-i.work.items c.push.new.self.items (record { left = c.index-lefts-i.result; right = c.index-rights-i.result })
+    (omega arith) c.loop-i.invariant
+    (live_at ts (arguments (at c.args.heap.now.now.terms c.args.left)) c.args-lefts.result.now c.args.arity (c.loop-i.i - 1) c.index-lefts-i.result c.args-lefts.ensures.args c.requires.left_arity lt c.index-lefts-i.is c.args-lefts.ensures.live, live_at ts (arguments (at c.args.heap.now.now.terms c.args.right)) c.args-rights.result.now c.args.arity (c.loop-i.i - 1) c.index-rights-i.result c.args-rights.ensures.args c.requires.right_arity lt c.index-rights-i.is c.args-rights.ensures.live)
+    (argument_at ts (arguments (at c.args.heap.now.now.terms c.args.left)) c.args-lefts.result.now c.args.arity (c.loop-i.i - 1) c.index-lefts-i.result c.args-lefts.ensures.args c.requires.left_arity lt c.index-lefts-i.is)
+    (argument_at ts (arguments (at c.args.heap.now.now.terms c.args.right)) c.args-rights.result.now c.args.arity (c.loop-i.i - 1) c.index-rights-i.result c.args-rights.ensures.args c.requires.right_arity lt c.index-rights-i.is)
+    c.in_ok-push.ensures.items
