@@ -1,5 +1,5 @@
 -- A constraint is met where its members are, and where one of its halves is.
-use Rattle.std.proofs.Common.{◌≡◌, ◌↔◌, ◌⊎◌, ℕ, List, [], ◌∷◌, ◌++◌, Bool, true, false, cond, Option, None, Some, refl, sym, ◌∙◌, subst, inl, inr}
+use Rattle.std.proofs.Common.{◌||◌, is_some, ◌≡◌, ◌↔◌, ◌⊎◌, ℕ, List, [], ◌∷◌, ◌++◌, Bool, true, false, cond, Option, None, Some, refl, sym, ◌∙◌, subst, inl, inr}
 use Rattle.std.specs.Prelude.{codes, ⊤}
 use Rattle.std.specs.Cmp.Lexicographic.{bytes_decides}
 use Rattle.std.specs.List.{AllByRecursion}
@@ -7,9 +7,10 @@ use Rattle.spec_rational.specs.Rational.{ℚ}
 use Rattle.spec_lists.specs.Texts.{Text}
 use Rattle.spec_terms.specs.Term.{Var, Number, Name, Compound, one, more}
 use Rattle.spec_syntax.specs.Trees.{Tree, binary}
-use Rattle.spec_told.specs.Checks.{is_conjunction, is_disjunction, members, Halves, in_conjunction, halves}
+use Rattle.spec_built.specs.Errors.{type_error, or_error}
+use Rattle.spec_told.specs.Checks.{is_conjunction, is_disjunction, expression_error, constraint_error, members, Halves, in_conjunction, halves}
 use Rattle.spec_told.specs.Relations.{relation_name}
-use Rattle.spec_told.specs.Values.{value_of, SidesStand, Joined, IsMetAt}
+use Rattle.spec_told.specs.Values.{value_of, SidesStand, IsTrueAt, Joined, IsMetAt}
 
 -- ---- members
 
@@ -89,3 +90,45 @@ module _ (a : ℕ → ℚ) where
 
   pub halves_met : (t : Tree) (h : Halves) → halves t ≡ Some h → IsMetAt a t ↔ (IsMetAt a h.left ⊎ IsMetAt a h.right)
   halves_met t h e = subst (AreHalves (IsMetAt a t)) e (halves_are t)
+
+  -- ---- what is told
+
+  -- what a lawful constraint without halves says is what its members say
+  abbrev AllTrue : Tree → Type 0
+  AllTrue t = IsMetAt a t ↔ AllByRecursion (IsTrueAt a) (members t)
+
+  no_errors : (o p : Option Tree) → or_error o p ≡ None → (o ≡ None) × (p ≡ None)
+  no_errors None p e = (refl, e)
+  no_errors (Some x) p e = cc
+
+  no_halves : (t u : Tree) (o p : Option Halves) → in_conjunction t u o p ≡ None → (o ≡ None) × (p ≡ None)
+  no_halves t u None None e = (refl, refl)
+  no_halves t u None (Some y) e = cc
+  no_halves t u (Some x) p e = cc
+
+  told_by : (f : Text) (t u : Tree) (c d : Bool) → is_conjunction f ≡ c → is_disjunction f ≡ d
+      → (constraint_error t ≡ None → halves t ≡ None → AllTrue t)
+      → (constraint_error u ≡ None → halves u ≡ None → AllTrue u)
+      → cond (c || d) (or_error (constraint_error t) (constraint_error u)) (cond (is_some (relation_name f)) (or_error (expression_error t) (expression_error u)) (Some (type_error "constraint" (binary f t u)))) ≡ None
+      → cond d (Some (record { left = t; right = u })) (cond c (in_conjunction t u (halves t) (halves u)) None) ≡ None
+      → Joined c d (IsMetAt a t) (IsMetAt a u) (SidesStand (relation_name f) (value_of a t) (value_of a u)) ↔ AllByRecursion (IsTrueAt a) (cond c (members t ++ members u) (binary f t u ∷ []))
+  told_by f t u c true i j h k e n = cc
+  told_by f t u true false i j h k e n =
+      let errors = no_errors (constraint_error t) (constraint_error u) e in
+      let whole = no_halves t u (halves t) (halves u) n in
+      let left = h errors.0 whole.0 in
+      let right = k errors.1 whole.1 in
+      let parts = both_parts (IsTrueAt a) (members t) (members u) in (
+        λ m. parts.1 (left.0 m.0, right.0 m.1),
+        λ m. (let p = parts.0 m in (left.1 p.0, right.1 p.1)),
+      )
+  told_by f t u false false i j h k e n = (λ m. (m, tt), λ m. m.0)
+
+  pub members_true : (t : Tree) → constraint_error t ≡ None → halves t ≡ None → AllTrue t
+  members_true (Var x) e n = cc
+  members_true (Number q) e n = cc
+  members_true (Name x) e n = cc
+  members_true (Compound f (one t)) e n = cc
+  members_true (Compound f (more t (one u))) e n =
+      told_by f t u (is_conjunction f) (is_disjunction f) refl refl (members_true t) (members_true u) e n
+  members_true (Compound f (more t (more u us))) e n = cc
