@@ -14,7 +14,7 @@ use Rattle.spec_arithmetic.specs.declared.BinaryOperation.{BinaryOperation}
 use Rattle.spec_arithmetic.specs.declared.BinaryOperation.TheVariants.{Exact, Whole, Least, Greatest}
 use Rattle.spec_arithmetic.specs.declared.WholeOperation.{WholeOperation}
 use Rattle.spec_lists.specs.Texts.{Text}
-use Rattle.spec_arithmetic.specs.Operations.{Evaluated, Value, Fails, Overflows, NotInteger, ZeroDivisor, is_zero, is_whole, refuses, unless_refused, exact_result, exact_value, whole_result, whole_value, binary_result, unary_named, binary_named}
+use Rattle.spec_arithmetic.specs.Operations.{Evaluated, Value, Fails, Overflows, NotInteger, ZeroDivisor, pair_of, is_zero, is_whole, refuses, unless_refused, exact_result, exact_value, whole_result, whole_value, binary_result, unary_named, binary_named}
 use Rattle.spec_arithmetic.specs.Arithmetic.{evaluate, after_one, after_right, after_both, unary_applied, binary_applied}
 use Rattle.spec_arithmetic.proofs.Refusals.{refuses_true, refuses_false, true_refuses}
 
@@ -24,10 +24,10 @@ not_zero (pos (suc n)) h = refl
 not_zero (negsuc n) h = refl
 
 pub taken : (o : Operation) (p q : ℚ) → Accepts o p q → unless_refused o p q ≡ Value (exact_value o p q)
-taken o p q h = ap (λ b. if b then Overflows (record { operation = o; left = p; right = q }) else Value (exact_value o p q)) (refuses_false o p q h)
+taken o p q h = ap (λ b. if b then Overflows (pair_of o p q) else Value (exact_value o p q)) (refuses_false o p q h)
 
-pub refused : (o : Operation) (p q : ℚ) → Refuses o p q → unless_refused o p q ≡ Overflows (record { operation = o; left = p; right = q })
-refused o p q h = ap (λ b. if b then Overflows (record { operation = o; left = p; right = q }) else Value (exact_value o p q)) (refuses_true o p q h)
+pub refused : (o : Operation) (p q : ℚ) → Refuses o p q → unless_refused o p q ≡ Overflows (pair_of o p q)
+refused o p q h = ap (λ b. if b then Overflows (pair_of o p q) else Value (exact_value o p q)) (refuses_true o p q h)
 
 -- where the divisor of a quotient is not zero
 pub unless_zero : (o : Operation) (p q : ℚ) → (o ≡ Quotient → q ≢ 0ℚ) → exact_result o p q ≡ unless_refused o p q
@@ -44,8 +44,8 @@ no_divisor p = refl
 unless_stops : (o : Operation) (p q : ℚ) (r : Pair) → unless_refused o p q ≡ Overflows r → IsRefused r
 unless_stops o p q r e = go (refuses o p q) refl e
   where
-    go : (b : Bool) → refuses o p q ≡ b → (if b then Overflows (record { operation = o; left = p; right = q }) else Value (exact_value o p q)) ≡ Overflows r → IsRefused r
-    go true h e = let d : record { operation = o; left = p; right = q } ≡ r = cc in subst IsRefused d (true_refuses o p q h)
+    go : (b : Bool) → refuses o p q ≡ b → (if b then Overflows (pair_of o p q) else Value (exact_value o p q)) ≡ Overflows r → IsRefused r
+    go true h e = let d : pair_of o p q ≡ r = cc in subst IsRefused d (true_refuses o p q h)
     go false h e = cc
 
 exact_stops : (o : Operation) (p q : ℚ) (r : Pair) → exact_result o p q ≡ Overflows r → IsRefused r

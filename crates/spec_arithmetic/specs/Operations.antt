@@ -16,10 +16,6 @@ use Rattle.spec_arithmetic.specs.declared.BinaryOperation.{BinaryOperation}
 use Rattle.spec_arithmetic.specs.declared.BinaryOperation.TheVariants.{Exact, Whole, Least, Greatest}
 use Rattle.spec_arithmetic.specs.Rounding.{floor, ceiling, truncate, whole_quotient, remainder, modulo}
 use Rattle.spec_lists.specs.Texts.{Text}
-use Rattle.spec_lists.specs.Texts.{Text}
-use Rattle.spec_lists.specs.Texts.{Text}
-use Rattle.spec_lists.specs.Texts.{Text}
-use Rattle.spec_lists.specs.Texts.{Text}
 
 -- ---- names
 
@@ -117,9 +113,13 @@ exact_value Difference p q = p -ℚ q
 exact_value Product p q = p *ℚ q
 exact_value Quotient p q = p /ℚ q
 
+-- an operation with its two numbers
+abbrev pub pair_of : Operation → ℚ → ℚ → Pair
+pair_of o p q = record { operation = o; left = p; right = q }
+
 -- the exact value, unless the operation refuses the two numbers
 abbrev pub unless_refused : Operation → ℚ → ℚ → Evaluated
-unless_refused o p q = if refuses o p q then Overflows (record { operation = o; left = p; right = q }) else Value (exact_value o p q)
+unless_refused o p q = if refuses o p q then Overflows (pair_of o p q) else Value (exact_value o p q)
 
 -- only a quotient asks for a divisor that is not zero
 abbrev pub exact_result : Operation → ℚ → ℚ → Evaluated

@@ -9,7 +9,7 @@ ghost use Rattle.cq_frac.specs.declared.Pair.{Pair};
 ghost use Rattle.spec_terms.specs.Term.{Term, Var, Number, Name, Compound, one};
 ghost use Rattle.spec_arithmetic.specs.Rounding.{floor, ceiling, truncate, floor_division, whole_quotient, remainder, modulo};
 ghost use Rattle.spec_lists.specs.Texts.{Text};
-ghost use Rattle.spec_arithmetic.specs.Operations.{ArithmeticError, Evaluated, Value, Fails, Overflows, Instantiation, NotEvaluable, NotInteger, ZeroDivisor, exact_result, exact_value};
+ghost use Rattle.spec_arithmetic.specs.Operations.{ArithmeticError, Evaluated, Value, Fails, Overflows, Instantiation, NotEvaluable, NotInteger, ZeroDivisor, exact_result, exact_value, pair_of};
 ghost use Rattle.spec_arithmetic.specs.Arithmetic.{evaluate, after_both};
 ghost use Rattle.spec_arithmetic.specs.Examples.{binary, whole};
 
@@ -48,7 +48,7 @@ pub enum BinaryOperation {
 /// them; a quotient by zero is an error before that.
 pub fn exact_operations()
     ensures taken { (o : Operation) (p q : ℚ) → (o ≡ Quotient → q ≢ 0ℚ) → Accepts o p q → exact_result o p q ≡ Value (exact_value o p q) }
-    ensures refused { (o : Operation) (p q : ℚ) → (o ≡ Quotient → q ≢ 0ℚ) → Refuses o p q → exact_result o p q ≡ Overflows (record { operation = o; left = p; right = q }) }
+    ensures refused { (o : Operation) (p q : ℚ) → (o ≡ Quotient → q ≢ 0ℚ) → Refuses o p q → exact_result o p q ≡ Overflows (pair_of o p q) }
     ensures no_divisor { (p : ℚ) → exact_result Quotient p 0ℚ ≡ Fails ZeroDivisor }
 {}
 

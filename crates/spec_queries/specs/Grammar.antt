@@ -5,13 +5,14 @@
 --     sum: one or more terms with `+` or `-` between them
 --     term: a number, a variable, or a number, `*` and a variable
 --     number: a numeral, or a `-` directly before one
-use Rattle.std.specs.Prelude.{ℕ, ◌+◌, true, List, [], ◌∷◌, ◌++◌, Option, Some, None, is_some, unwrap_or, option_and_then, codes, bytes_eq, if◌then◌else◌}
+use Rattle.std.specs.Prelude.{ℕ, ◌+◌, true, List, [], ◌∷◌, ◌++◌, Option, Some, None, is_some, option_and_then, if◌then◌else◌}
 use Rattle.spec_rational.specs.Rational.{ℚ, neg_ℚ}
 use Rattle.spec_queries.specs.declared.Sign.{Sign}
 use Rattle.spec_queries.specs.declared.Sign.TheVariants.{Plus, Minus}
 use Rattle.spec_queries.specs.declared.Term.{Term}
 use Rattle.spec_queries.specs.declared.Term.TheVariants.{Number, Variable, Multiple}
-use Rattle.spec_queries.specs.Tree.{Sum, Relation, VariableName, Query}
+use Rattle.spec_queries.specs.Tree.{Sum, Relation, Query}
+pub use Rattle.spec_terms.specs.VariableName.{Variables, no_variables, number_of, known, next_number, with_name}
 use Rattle.spec_queries.specs.Tokens.{Token, layout, query_mark, open_brace, close_brace, comma, equals, plus, minus, times, numeral, variable, end, tokens}
 
 -- ---- what was read of a query
@@ -40,11 +41,6 @@ pub data Place : Type 0 where
   after_term : Option Sum → Sum → Place
   before_end : Place
 
--- the variables of a query so far
-pub record Variables : Type 0 where
-  pub names : List VariableName
-  pub count : ℕ
-
 -- the queries that are whole, and the one under way
 pub record Reading : Type 0 where
   pub queries : List Query
@@ -54,24 +50,6 @@ pub record Reading : Type 0 where
 
 -- ---- variables
 
-abbrev pub number_of : List VariableName → List ℕ → Option ℕ
-number_of [] name = None
-number_of (v ∷ names) name = if bytes_eq name v.name then Some v.number else number_of names name
-
--- what has the name: nothing has a bare `_`
-abbrev pub known : Variables → List ℕ → Option ℕ
-known variables name = if bytes_eq name (codes "_") then None else number_of variables.names name
-
--- the number of the variable that is written next: the name's, or a new one
-abbrev pub next_number : Variables → List ℕ → ℕ
-next_number variables name = unwrap_or (known variables name) variables.count
-
--- the names with a new variable's
-abbrev pub with_name : Variables → List ℕ → List VariableName
-with_name variables name =
-    if bytes_eq name (codes "_") then variables.names else
-    variables.names ++ record { name = name; number = variables.count } ∷ []
-
 -- the variables with a new one
 abbrev pub with_new : Variables → List ℕ → Variables
 with_new variables name = record { names = with_name variables name; count = variables.count + 1 }
@@ -79,9 +57,6 @@ with_new variables name = record { names = with_name variables name; count = var
 -- the variables with the one that is written next
 abbrev pub with_variable : Variables → List ℕ → Variables
 with_variable variables name = if is_some (known variables name) then variables else with_new variables name
-
-abbrev pub no_variables : Variables
-no_variables = record { names = []; count = 0 }
 
 -- ---- sums and relations
 

@@ -3,7 +3,7 @@ use Rattle.std.specs.Prelude.{List, [], ◌∷◌, ◌++◌, map, fold, flat_map
 use Rattle.spec_linear.specs.Form.{Linear, constant_form, variable_form, sum_form, scaled_form, difference_form}
 use Rattle.spec_linear.specs.declared.Relation.TheVariants.{Eq}
 use Rattle.spec_linear.specs.Solution.{Constraint}
-use Rattle.spec_limits.specs.Overflow.{Operands}
+use Rattle.spec_limits.specs.Overflow.{Operands, on}
 use Rattle.cq_frac.specs.declared.Operation.{Operation}
 use Rattle.cq_frac.specs.declared.Operation.TheVariants.{Sum as Addition, Difference, Product}
 use Rattle.spec_queries.specs.declared.Sign.{Sign}
@@ -46,13 +46,13 @@ operation_of Minus = Difference
 abbrev pub term_operations : Term → List Operands
 term_operations (Number q) = []
 term_operations (Variable x) = []
-term_operations (Multiple q x) = record { operation = Product; left = constant_form q; right = variable_form x } ∷ []
+term_operations (Multiple q x) = on Product (constant_form q) (variable_form x) ∷ []
 
 -- each term joined to the sum of those before it, whose form is f
 abbrev pub joining_operations : Linear → List SignedTerm → List Operands
 joining_operations f [] = []
 joining_operations f (t ∷ ts) =
-    term_operations t.term ++ record { operation = operation_of t.sign; left = f; right = term_form t.term } ∷ joining_operations (with_term f t) ts
+    term_operations t.term ++ on (operation_of t.sign) f (term_form t.term) ∷ joining_operations (with_term f t) ts
 
 abbrev pub sum_operations : Sum → List Operands
 sum_operations s = term_operations s.first ++ joining_operations (term_form s.first) s.rest
@@ -60,7 +60,7 @@ sum_operations s = term_operations s.first ++ joining_operations (term_form s.fi
 -- those of both sides, and the difference of the sides
 abbrev pub relation_operations : Relation → List Operands
 relation_operations r =
-    sum_operations r.left ++ sum_operations r.right ++ record { operation = Difference; left = sum_of_terms r.left; right = sum_of_terms r.right } ∷ []
+    sum_operations r.left ++ sum_operations r.right ++ on Difference (sum_of_terms r.left) (sum_of_terms r.right) ∷ []
 
 abbrev pub operations : Query → List Operands
 operations q = flat_map relation_operations q.relations

@@ -60,7 +60,8 @@ pub fn clauses()
     ensures end { Reads standard (codes "a. b.") 5 Ended }
     ensures nothing { Reads standard (codes "") 0 Ended }
     ensures comment { Reads standard (codes " % a.") 0 Ended }
-    ensures names { Reads standard (codes "f(_,Xy).") 0 (Clause (binary (codes "f") (Var 0) (Var 1)) (record { names = record { name = codes "Xy"; number = 1 } ∷ []; count = 2 }) 8) }
+    ensures names { Reads standard (codes "f(_,Xy).") 0
+        (Clause (binary (codes "f") (Var 0) (Var 1)) (record { names = record { name = codes "Xy"; number = 1 } ∷ []; count = 2 }) 8) }
 {}
 
 /// Errors, each with its place and the place where reading goes on.

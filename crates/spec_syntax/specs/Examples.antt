@@ -1,6 +1,6 @@
 -- Trees in short, for examples, and what the examples say.
 use Rattle.std.specs.Prelude.{◌≡◌, ◌∷◌, ◌++◌, ℕ, take, slice_index_or, List, [], pos, codes, unwrap_or}
-use Rattle.spec_rational.specs.Rational.{ratio, int_ℚ, neg_ℚ}
+use Rattle.spec_rational.specs.Rational.{ratio, neg_ℚ}
 use Rattle.spec_operators.specs.Operators.{Ops, put}
 use Rattle.spec_operators.specs.Standard.{standard}
 use Rattle.spec_operators.specs.declared.OpKind.TheVariants.{Xf}
@@ -10,10 +10,6 @@ use Rattle.spec_syntax.specs.Trees.{Tree}
 use Rattle.spec_syntax.specs.Grammar.{Parses, IsRefused}
 use Rattle.spec_syntax.specs.TextTokens.{clause_tokens}
 use Rattle.spec_syntax.specs.Writing.{written}
-
--- a character's code
-abbrev pub code : ℕ → Tree
-code c = Number (int_ℚ (pos c))
 
 -- the number n
 abbrev pub number : ℕ → Tree

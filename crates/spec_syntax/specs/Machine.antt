@@ -1,5 +1,5 @@
 -- A machine that reads clauses a token at a time. The laws say that it accepts just what the grammar does.
-use Rattle.std.specs.Prelude.{ℕ, Bool, true, false, nat_le, List, [], ◌∷◌, codes, ⊤, Option, Some, None}
+use Rattle.std.specs.Prelude.{◌≡◌, ℕ, Bool, true, false, nat_le, List, [], ◌∷◌, codes, ⊤, Option, Some, None}
 use Rattle.spec_rational.specs.Rational.{neg_ℚ}
 use Rattle.spec_operators.specs.declared.OpDef.{OpDef}
 use Rattle.spec_lists.specs.Texts.{Text}
@@ -176,3 +176,7 @@ module _ (ops : Ops) where
   -- the state behind the first tokens of a clause
   abbrev pub run : List Token → Option State
   run ts = run_from (Some start) ts
+
+  -- these tokens begin a clause, and the machine refuses the next one
+  abbrev pub StopsAt : List Token → Token → Type 0
+  StopsAt ts tok = (s : State) × (run ts ≡ Some s) × IsOpen s × (step s tok ≡ None)

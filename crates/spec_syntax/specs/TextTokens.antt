@@ -1,41 +1,13 @@
 -- The tokens of a text, as the grammar sees them.
-use Rattle.std.specs.Prelude.{ℕ, zero, suc, ◌&&◌, ◌==◌, drop, length, Bool, true, false, if◌then◌else◌, List, [], ◌∷◌, ◌++◌, Option, Some, None, option_map, unwrap_or, Ok, Err, codes, bytes_eq}
+use Rattle.std.specs.Prelude.{ℕ, zero, suc, ◌&&◌, ◌==◌, drop, length, Bool, true, false, if◌then◌else◌, List, [], ◌∷◌, Option, Some, None, option_map, Ok, Err, codes, bytes_eq}
 use Rattle.spec_lists.specs.Texts.{Text}
 use Rattle.spec_grammar.specs.declared.Kind.TheVariants as kind
 use Rattle.spec_grammar.specs.Tokens as lexical
 use Rattle.spec_grammar.specs.Tokens.{next_token, opens_directly, digit_directly, bytes_of, quotes_at, meant}
 use Rattle.spec_syntax.specs.Tokens.{Token, Variable, Numeral, Codes, Named, Functor, Minus, Open, Close, OpenList, CloseList, OpenCurly, CloseCurly, Comma, Bar, End}
-pub use Rattle.spec_terms.specs.VariableName.{VariableName}
+pub use Rattle.spec_terms.specs.VariableName.{VariableName, Variables, no_variables, number_of, known, next_number, with_name}
 
 -- ---- variables
-
--- the variables of a clause so far: those that have names, by first occurrence, and how many there are with the bare `_`
-pub record Variables : Type 0 where
-  pub names : List VariableName
-  pub count : ℕ
-
--- the variables before the first token
-abbrev pub no_variables : Variables
-no_variables = record { names = []; count = 0 }
-
--- the number that belongs to a name
-abbrev pub number_of : List VariableName → Text → Option ℕ
-number_of [] name = None
-number_of (v ∷ names) name = if bytes_eq name v.name then Some v.number else number_of names name
-
--- the number of the variable that is written so, if it occurred: a bare `_` never did
-abbrev pub known : Variables → Text → Option ℕ
-known variables name = if bytes_eq name (codes "_") then None else number_of variables.names name
-
--- the number of the variable that is written next: the name's, or a new one
-abbrev pub next_number : Variables → Text → ℕ
-next_number variables name = unwrap_or (known variables name) variables.count
-
--- the names with a new variable's
-abbrev pub with_name : Variables → Text → List VariableName
-with_name variables name =
-    if bytes_eq name (codes "_") then variables.names else
-    variables.names ++ record { name = name; number = variables.count } ∷ []
 
 -- the variables with the one that is written next
 abbrev pub with_variable : Variables → Text → Variables

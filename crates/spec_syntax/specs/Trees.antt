@@ -1,5 +1,5 @@
 -- What the grammar makes of tokens.
-use Rattle.std.specs.Prelude.{List, [], ◌∷◌, codes, chars, map, pos}
+use Rattle.std.specs.Prelude.{ℕ, List, [], ◌∷◌, codes, chars, map, pos}
 use Rattle.spec_rational.specs.Rational.{int_ℚ}
 use Rattle.spec_lists.specs.Texts.{Text}
 use Rattle.spec_terms.specs.Term.{Term, Number, Name, Compound, one, more}
@@ -7,6 +7,10 @@ use Rattle.spec_terms.specs.Term.{Term, Number, Name, Compound, one, more}
 -- a term whose names are texts
 abbrev pub Tree : Type 0
 Tree = Term Text
+
+-- a natural number as a term
+abbrev pub natural : ℕ → Tree
+natural n = Number (int_ℚ (pos n))
 
 -- a name with one argument
 abbrev pub unary : Text → Tree → Tree
@@ -31,4 +35,4 @@ list_tree (t ∷ ts) = cell t (list_tree ts)
 
 -- the list of the codes of a text's characters
 abbrev pub code_list : Text → Tree
-code_list text = list_tree (map (λ c. Number (int_ℚ (pos c))) (chars text))
+code_list text = list_tree (map natural (chars text))

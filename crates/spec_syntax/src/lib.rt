@@ -6,14 +6,14 @@ ghost use Rattle.std.specs.Prelude.{◌≡◌, ◌↔◌, List, [], ◌∷◌, �
 ghost use Rattle.spec_lists.specs.Texts.{Text};
 ghost use Rattle.spec_operators.specs.Operators.{Ops, set};
 ghost use Rattle.spec_operators.specs.Standard.{standard};
-ghost use Rattle.spec_terms.specs.Term.{Compound, Name, Var, more, one};
+ghost use Rattle.spec_terms.specs.Term.{Compound, Name, Var, more, one, with_arguments};
 ghost use Rattle.spec_syntax.specs.Tokens.{Token, End};
-ghost use Rattle.spec_syntax.specs.Trees.{Tree, unary, binary, nil, cell};
+ghost use Rattle.spec_syntax.specs.Trees.{Tree, natural, unary, binary, nil, cell};
 ghost use Rattle.spec_syntax.specs.Grammar.{Parses, BeginsClause, IsNeither, IsRefused};
-ghost use Rattle.spec_syntax.specs.Machine.{State, Whole, IsOpen, step, run};
+ghost use Rattle.spec_syntax.specs.Machine.{State, Whole, IsOpen, StopsAt, step, run};
 ghost use Rattle.spec_syntax.specs.Yields.{Yields, YieldsFrom};
 ghost use Rattle.spec_syntax.specs.Writing.{IsTable, written};
-ghost use Rattle.spec_syntax.specs.Examples.{code, number, negative, with_factorial, Reads, Refuses, IsWrittenAgain};
+ghost use Rattle.spec_syntax.specs.Examples.{number, negative, with_factorial, Reads, Refuses, IsWrittenAgain};
 
 /// From a state tokens make a clause exactly where, from the state behind the first of them, the others make it.
 pub fn steps_keep_what_is_allowed()
@@ -31,7 +31,7 @@ pub fn the_machine_reads_clauses()
     ensures clause { (ops : Ops) (ts : List Token) (t : Tree) → Parses ops ts t ↔ (run ops ts ≡ Some (Whole t)) }
     ensures beginning { (ops : Ops) (ts : List Token) → BeginsClause ops ts ↔ ((s : State) × (run ops ts ≡ Some s) × IsOpen s) }
     ensures neither { (ops : Ops) (ts : List Token) → IsNeither ops ts ↔ (run ops ts ≡ None) }
-    ensures refused { (ops : Ops) (ts : List Token) (tok : Token) → IsRefused ops ts tok ↔ ((s : State) × (run ops ts ≡ Some s) × IsOpen s × (step ops s tok ≡ None)) }
+    ensures refused { (ops : Ops) (ts : List Token) (tok : Token) → IsRefused ops ts tok ↔ StopsAt ops ts tok }
 {}
 
 /// No list of tokens is two clauses, and a clause begins no longer one.
@@ -54,10 +54,12 @@ pub fn what_is_written_is_read_again()
 /// Clauses and their trees.
 pub fn clauses()
     ensures rule { Reads standard (codes "a:-b,c.") (binary (codes ":-") (Name (codes "a")) (binary (codes ",") (Name (codes "b")) (Name (codes "c")))) }
-    ensures directive { Reads standard (codes ":- dynamic foo/1.") (unary (codes ":-") (unary (codes "dynamic") (binary (codes "/") (Name (codes "foo")) (number 1)))) }
+    ensures directive { Reads standard (codes ":- dynamic foo/1.")
+        (unary (codes ":-") (unary (codes "dynamic") (binary (codes "/") (Name (codes "foo")) (number 1)))) }
     ensures from_the_left { Reads standard (codes "1-2-3.") (binary (codes "-") (binary (codes "-") (number 1) (number 2)) (number 3)) }
     ensures from_the_right { Reads standard (codes "2^3^4.") (binary (codes "^") (number 2) (binary (codes "^") (number 3) (number 4))) }
-    ensures by_priority { Reads standard (codes "1+2*3=X.") (binary (codes "=") (binary (codes "+") (number 1) (binary (codes "*") (number 2) (number 3))) (Var 0)) }
+    ensures by_priority { Reads standard (codes "1+2*3=X.")
+        (binary (codes "=") (binary (codes "+") (number 1) (binary (codes "*") (number 2) (number 3))) (Var 0)) }
     ensures in_parentheses { Reads standard (codes "(1+2)*3.") (binary (codes "*") (binary (codes "+") (number 1) (number 2)) (number 3)) }
     ensures prefix { Reads standard (codes "\\+ a,b.") (binary (codes ",") (unary (codes "\\+") (Name (codes "a"))) (Name (codes "b"))) }
     ensures nested_prefix { Reads standard (codes "- - a.") (unary (codes "-") (unary (codes "-") (Name (codes "a")))) }
@@ -67,8 +69,8 @@ pub fn clauses()
     ensures curly { Reads standard (codes "{a}.") (unary (codes "{}") (Name (codes "a"))) }
     ensures functional_curly { Reads standard (codes "'{}'(a).") (unary (codes "{}") (Name (codes "a"))) }
     ensures empty_curly { Reads standard (codes "{ }.") (Name (codes "{}")) }
-    ensures text { Reads standard (codes "\"ab\".") (cell (code 97) (cell (code 98) nil)) }
-    ensures variables { Reads standard (codes "f(X,_,_A,X,_).") (Compound (codes "f") (more (Var 0) (more (Var 1) (more (Var 2) (more (Var 0) (one (Var 3))))))) }
+    ensures text { Reads standard (codes "\"ab\".") (cell (natural 97) (cell (natural 98) nil)) }
+    ensures variables { Reads standard (codes "f(X,_,_A,X,_).") (with_arguments (codes "f") (Var 0 ∷ Var 1 ∷ Var 2 ∷ Var 0 ∷ Var 3 ∷ [])) }
 {}
 
 /// A `-` directly before a digit is the sign of a number where an operand may stand. Else it is a name, and an operator.
