@@ -7,6 +7,7 @@ use Rattle.spec_rational.proofs.Ring.{var, int, ◌⊕◌, ◌⊗◌, minus}
 use Rattle.spec_rational.proofs.Rational.{ring}
 use Rattle.spec_rational.proofs.Sums.{sum_at-agrees, sum_at-times}
 use Rattle.spec_rational.proofs.Sign.{pos_one, pos_add, pos_nonneg, not_pos_zero, one_not_zero}
+use Rattle.spec_lists.proofs.Places.{nothing_within}
 use Rattle.spec_linear.specs.declared.Relation.TheVariants.{Gt, Ge}
 use Rattle.spec_linear.specs.Form.{Linear, value_at, constant_form, variable_form, difference_form}
 use Rattle.spec_linear.specs.Solution.{Constraint, Entails, Satisfies, Extends, Same, Has, SomeMentions, MentionsOnly, number}
@@ -113,14 +114,10 @@ needed [] m c e follows =
     let h : IsPositive (value_at (λ y. 0ℚ) (inequality printed).form) =
     (entails_same [] (inequality printed)).0 (subst (λ l. Entails l (inequality printed)) (sym none) (subst (Entails m) (sym one) follows)) (λ y. 0ℚ) tt in
     not_pos_zero (subst IsPositive (printed_value (λ y. 0ℚ)) h)
-needed (d ∷ k) m c e follows = none_there k (tail_is e)
+needed (d ∷ k) m c e follows = nothing_within k m c (tail_is e)
   where
     tail_is : inequality printed ∷ [] ≡ d ∷ (k ++ c ∷ m) → [] ≡ k ++ c ∷ m
     tail_is e = cc
-
-    none_there : (k : List Constraint) → [] ≡ k ++ c ∷ m → ⊥
-    none_there [] e = cc
-    none_there (d ∷ k) e = cc
 
 same : Same (0 ∷ []) (inequality printed ∷ []) list
 same = record { mentions = mentions; same = λ a. (forth a, back a) }

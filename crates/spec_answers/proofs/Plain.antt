@@ -1,6 +1,6 @@
 -- Answers of branches without linear constraints, and of lists without disequations, for which no variable is kept.
 use Rattle.std.proofs.Common.{◌≡◌, ℕ, List, [], ◌∷◌, ◌++◌, map, refl, sym, subst}
-use Rattle.spec_linear.specs.declared.Relation.TheVariants.{Ge}
+use Rattle.spec_lists.proofs.Places.{nothing_within}
 use Rattle.spec_linear.specs.Form.{Linear}
 use Rattle.spec_linear.specs.Solution.{Constraint, Has, MentionsOnly, Same}
 use Rattle.spec_linear.proofs.Denominators.{extends}
@@ -11,7 +11,7 @@ use Rattle.spec_projection.specs.Others.{AreOthers}
 use Rattle.spec_projection.specs.Substitution.{put_into, solved_variables}
 use Rattle.spec_projection.specs.Strict.{HasForm, Strengthened, no_more, left_alone}
 use Rattle.spec_projection.specs.Irredundant.{Sifts, done}
-use Rattle.spec_projection.specs.Projection.{Keeps, AreProjectedRows, inequalities_of, disequations_of}
+use Rattle.spec_projection.specs.Projection.{Keeps, inequalities_of, disequations_of}
 use Rattle.spec_branch.specs.Branch.{State}
 use Rattle.spec_answers.specs.Lines.{or_true, lines_text}
 use Rattle.spec_answers.specs.Rows.{no_rows}
@@ -47,10 +47,6 @@ keeps_nothing front targets l others es none echelon in_front of_targets = recor
 
 -- ---- lists without a constraint
 
-no_member : (k m : List Constraint) (c : Constraint) → [] ≡ k ++ c ∷ m → ⊥
-no_member [] m c e = cc
-no_member (d ∷ k) m c e = cc
-
 no_others : (targets : List ℕ) → AreOthers targets [] []
 no_others targets = record { youngest_first = tt; others = λ x. (λ h. absurd h, λ h. h.0) }
 
@@ -65,7 +61,7 @@ no_answer_rows order = record {
   projected = record {
     echelon = no_equations order;
     unsolved = λ c h. absurd h;
-    irredundant = λ k m c e follows. no_member k m c e;
+    irredundant = λ k m c e follows. nothing_within k m c e;
     strict = λ c h. absurd h;
     same = same order;
   };

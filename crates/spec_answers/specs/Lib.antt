@@ -5,3 +5,4 @@ pub mod Forms
 pub mod Targets
 pub mod Answer
 pub mod Samples
+pub mod Marks

@@ -1,21 +1,19 @@
 -- Settling where no variable is numeric, and nothing waits or sleeps: the pairs are unified, and that is all.
-use Rattle.std.proofs.Common.{◌≡◌, ℕ, List, [], ◌∷◌, ◌++◌, Bool, true, false, ◌&&◌, not, ℤ, pos, map, arith, refl, sym, ap, ◌∙◌}
+use Rattle.std.proofs.Common.{◌≡◌, ℕ, List, [], ◌∷◌, Bool, true, false, ◌&&◌, not, pos, map, refl, sym, ap, ◌∙◌}
 use Rattle.std.specs.Prelude.{filter, IsPermutation}
 use Rattle.spec_rational.specs.Rational.{ℚ, int_ℚ}
 use Rattle.spec_rational.proofs.Sign.{one_not_zero}
-use Rattle.spec_linear.specs.Solution.{Point, Fixed, Fixes}
+use Rattle.spec_linear.specs.Solution.{Fixed, Fixes}
+use Rattle.spec_linear.proofs.Points.{all_at}
 use Rattle.spec_lists.specs.Texts.{Text}
+use Rattle.spec_lists.proofs.Places.{nothing_within}
 use Rattle.spec_terms.specs.Term.{Subst, followed_by}
 use Rattle.spec_terms.specs.Unifier.{Equation, IsUnifier, read_under}
 use Rattle.spec_terms.specs.Variables.{counted_from}
-use Rattle.spec_syntax.specs.Trees.{Tree}
 use Rattle.spec_branch.specs.Branch.{Item, no_work}
 use Rattle.spec_branch.specs.Closure.{IsClosure, no_move}
 use Rattle.spec_branch.specs.Settling.{Settles, unified, kept, Kept, kept_branch, newly_bound, is_bound, binding_equation}
 use Rattle.spec_branch.specs.Alike.{idle, no_values}
-
-all_at : ℤ → Point
-all_at n = record { denominator = 1; positive = omega arith; numerator = λ x. n }
 
 not_fixed : (x : ℕ) (q : ℚ) → Fixed [] x q → ⊥
 unfolding all_at int_ℚ
@@ -24,12 +22,8 @@ not_fixed x q f = one_not_zero (f.always (all_at (pos 1)) tt ∙ sym (f.always (
 pub fixes_nothing : Fixes [] no_values
 fixes_nothing = record { sound = λ x q e. cc; complete = λ x q f. absurd (not_fixed x q f) }
 
-none_after : (before after : List Tree) (t : Tree) → [] ≡ before ++ t ∷ after → ⊥
-none_after [] after t e = cc
-none_after (u ∷ us) after t e = cc
-
 nothing_waits : (s : Subst Text) → IsClosure s [] [] [] []
-nothing_waits s = record { moves = no_move; closed = λ m x h. none_after h.before h.after h.term h.among }
+nothing_waits s = record { moves = no_move; closed = λ m x h. nothing_within h.before h.after h.term h.among }
 
 none_among : (b u : Subst Text) (numeric : ℕ → Bool) → ((v : ℕ) → numeric v ≡ false) → (vs : List ℕ)
     → filter (λ v. numeric v && not (is_bound b v) && is_bound u v) vs ≡ []

@@ -8,8 +8,9 @@ use Rattle.spec_rational.proofs.Rational.{ring}
 use Rattle.spec_linear.specs.Form.{Linear, value_at}
 use Rattle.spec_linear.specs.Solution.{Satisfies, Has, MentionsOnly}
 use Rattle.spec_echelon.specs.Echelon.{IsBefore}
-use Rattle.spec_echelon.specs.SolvedForm.{IsSolvedForm, Agrees, rows_of}
+use Rattle.spec_echelon.specs.SolvedForm.{IsSolvedForm, Agrees, rows_of, number_in}
 use Rattle.spec_echelon.proofs.Solving.{solvable, echelon, same-rows}
+use Rattle.spec_echelon.proofs.Values.{solved_form_fixes}
 use Rattle.spec_equations.specs.Answer.{AnswerForm}
 use Rattle.spec_queries.specs.declared.Sign.TheVariants.{Plus}
 use Rattle.spec_queries.specs.declared.Term.TheVariants.{Variable}
@@ -19,7 +20,6 @@ use Rattle.spec_queries.specs.Examples.{number as numeral, alone, joined, equati
 use Rattle.spec_equations.specs.Session.{reading, no_step, one_more, asks, selects, settles, answers, fails, ends, branch_of}
 use Rattle.spec_equations.specs.Samples.{Writes}
 use Rattle.spec_equations.proofs.Values.{told_relations}
-use Rattle.spec_equations.proofs.Solved.{number_in, solved_form_fixes}
 
 -- X=_A+1
 abbrev first : Relation

@@ -1,6 +1,5 @@
 pub mod Names
 pub mod Values
-pub mod Solved
 pub mod Rows
 pub mod HiddenVariable
 pub mod AnswerTexts

@@ -1,5 +1,5 @@
 -- What a few inputs write.
-use Rattle.std.proofs.Common.{◌≡◌, ◌≢◌, ◌↔◌, ℕ, zero, suc, List, [], ◌∷◌, ◌++◌, map, pos, negsuc, Option, Some, None, inl, inr, codes, refl, sym, ap, ◌∙◌, subst, lit≤}
+use Rattle.std.proofs.Common.{◌≡◌, ◌≢◌, ◌↔◌, ℕ, zero, suc, List, [], ◌∷◌, ◌++◌, map, pos, negsuc, Option, Some, None, inl, inr, codes, refl, sym, ap, ◌∙◌, subst}
 use Rattle.spec_rational.specs.Gcd.{gcd}
 use Rattle.spec_rational.specs.Rational.{ℚ, 0ℚ, 1ℚ, ratio, int_ℚ, neg_ℚ, ◌+ℚ◌, ◌*ℚ◌}
 use Rattle.spec_rational.specs.Sums.{Mentions}
@@ -10,11 +10,11 @@ use Rattle.spec_linear.specs.Solution.{HoldsAt, Satisfies, Unsolvable, Has, Ment
 use Rattle.spec_linear.proofs.Points.{solves_same}
 use Rattle.spec_linear.proofs.Values.{value_at-constant_form}
 use Rattle.spec_echelon.specs.Echelon.{IsBefore}
-use Rattle.spec_echelon.specs.SolvedForm.{IsSolvedForm, Agrees, rows_of}
+use Rattle.spec_echelon.specs.SolvedForm.{IsSolvedForm, Agrees, rows_of, number_in}
 use Rattle.spec_echelon.proofs.Solving.{solvable, echelon, same-rows}
-use Rattle.cq_frac.specs.declared.Operation.TheVariants.{Sum}
-use Rattle.cq_frac.specs.declared.Pair.{Pair}
-use Rattle.spec_limits.specs.Overflow.{settling, Operands, Moment, constants}
+use Rattle.spec_echelon.proofs.Values.{solved_form_fixes}
+use Rattle.spec_limits.specs.Overflow.{settling, Moment}
+use Rattle.spec_limits.proofs.PastGreatest.{greatest, past_greatest, past_greatest_due}
 use Rattle.spec_equations.specs.Answer.{AnswerForm}
 use Rattle.spec_queries.specs.declared.Sign.TheVariants.{Plus}
 use Rattle.spec_queries.specs.declared.Term.TheVariants.{Variable}
@@ -25,7 +25,6 @@ use Rattle.spec_equations.specs.Moments.{IsStopDue, turned}
 use Rattle.spec_equations.specs.Session.{reading, no_step, one_more, asks, selects, prunes, settles, answers, fails, ends, stops_settling, branch_of}
 use Rattle.spec_equations.specs.Samples.{Writes, WritesStop}
 use Rattle.spec_equations.proofs.Values.{told_relations}
-use Rattle.spec_equations.proofs.Solved.{number_in, solved_form_fixes}
 
 -- ---- {2*X+3=7}
 
@@ -213,28 +212,18 @@ contradiction_row = one_more (one_more (one_more (one_more (one_more (no_step {a
 
 -- ---- M+1, where M is the greatest number
 
-abbrev greatest : ℕ
-greatest = 170141183460469231731687303715884105727
-
 abbrev past : Query
 past = query (equation (alone (Variable 0)) (joined (numeral greatest) Plus (numeral 1)) ∷ []) (named (codes "X") 0 ∷ []) 1
-
-abbrev the_pair : Pair
-the_pair = record { operation = Sum; left = int_ℚ (pos greatest); right = int_ℚ (pos 1) }
-
-abbrev the_operation : Operands
-the_operation = record { operation = Sum; left = constant_form (int_ℚ (pos greatest)); right = constant_form (int_ℚ (pos 1)) }
 
 abbrev the_moment : Moment
 the_moment = record { stage = settling; list = []; asked = []; operations = operations past ++ map turned past.relations; rows = [] }
 
-is_due : IsStopDue past settling the_pair
-unfolding ratio int_ℚ gcd
+is_due : IsStopDue past settling past_greatest
 is_due = record {
   moment = the_moment;
   is_moment = record { stage_is = refl; later = told past; joined = refl; asked = tt; terms = refl; rows = refl };
-  due = record { made = constants the_operation (inl refl) (inl refl); refused = inr (inr (inl (lit≤ tt))) };
+  due = past_greatest_due the_moment (inl refl);
 }
 
 pub overflow_row : WritesStop (codes "?- {X=170141183460469231731687303715884105727+1}.") (codes "stop: overflow\n")
-overflow_row = one_more (one_more (one_more (one_more (no_step {a = reading (past ∷ [])}) asks) selects) (stops_settling the_pair is_due)) ends
+overflow_row = one_more (one_more (one_more (one_more (no_step {a = reading (past ∷ [])}) asks) selects) (stops_settling past_greatest is_due)) ends

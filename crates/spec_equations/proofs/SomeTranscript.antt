@@ -5,8 +5,9 @@ use Rattle.std.proofs.lemmas.List.Elements.{recursion_from_All}
 use Rattle.spec_rational.specs.Rational.{ℚ}
 use Rattle.spec_linear.specs.Form.{Linear}
 use Rattle.spec_linear.specs.Solution.{Solvable, Unsolvable, Fixes, SomeMentions}
-use Rattle.spec_echelon.specs.SolvedForm.{IsSolvedForm, rows_of}
+use Rattle.spec_echelon.specs.SolvedForm.{IsSolvedForm, rows_of, number_in}
 use Rattle.spec_echelon.proofs.Solving.{solvable, echelon, same-rows}
+use Rattle.spec_echelon.proofs.Values.{solved_form_fixes}
 use Rattle.spec_echelon.proofs.Existence.{solved_form_or_none}
 use Rattle.spec_lists.specs.Texts.{Text}
 use Rattle.spec_answers.specs.Lines.{or_true, lines_text}
@@ -17,7 +18,6 @@ use Rattle.spec_queries.specs.Grammar.{queries_of}
 use Rattle.spec_queries.specs.Meaning.{told}
 use Rattle.spec_equations.specs.Session.{Session, reading, over, Marks, Runs, no_step, one_more, refuses, ends, asks, selects, prunes, settles, answers, fails, branch_of, begun, Transcript}
 use Rattle.spec_equations.proofs.Values.{told_are_equations}
-use Rattle.spec_equations.proofs.Solved.{number_in, solved_form_fixes}
 use Rattle.spec_equations.proofs.VariableOrders.{Extended, with_variables}
 
 -- ---- one query

@@ -5,7 +5,7 @@ use Rattle.std.specs.List.{AllByRecursion}
 use Rattle.spec_linear.specs.Form.{Linear, variable_form, negated_form}
 use Rattle.spec_linear.specs.Solution.{Constraint, Has}
 use Rattle.cq_frac.specs.declared.Pair.{Pair}
-use Rattle.spec_limits.specs.Overflow.{Operands, Stage, Moment, OverflowDue}
+use Rattle.spec_limits.specs.Overflow.{Operands, on, Stage, Moment, OverflowDue}
 use Rattle.cq_frac.specs.declared.Operation.TheVariants.{Difference}
 use Rattle.spec_queries.specs.Tree.{Relation, Query}
 use Rattle.spec_queries.specs.Meaning.{told, operations, sum_of_terms}
@@ -18,7 +18,7 @@ pub data IsAsked (q : Query) : Linear → Type 0 where
 
 -- the sides of a relation are the operands of a difference in the other order too
 abbrev pub turned : Relation → Operands
-turned r = record { operation = Difference; left = sum_of_terms r.right; right = sum_of_terms r.left }
+turned r = on Difference (sum_of_terms r.right) (sum_of_terms r.left)
 
 -- a moment while the query's equations join, or while its answer is made
 pub record IsMoment (q : Query) (stage : Stage) (m : Moment) : Type 0 where

@@ -1,10 +1,11 @@
 -- The transcript of an input: what its queries write, step by step.
-use Rattle.std.specs.Prelude.{◌≡◌, ℕ, List, [], ◌∷◌, ◌++◌, codes, Bool, true, false, Option, Some, None}
+use Rattle.std.specs.Prelude.{◌≡◌, ℕ, List, [], ◌∷◌, ◌++◌, codes, Option, Some, None}
 use Rattle.spec_rational.specs.Rational.{ℚ}
 use Rattle.spec_linear.specs.Solution.{Solvable, Unsolvable, Fixes}
 use Rattle.cq_frac.specs.declared.Pair.{Pair}
 use Rattle.spec_limits.specs.Overflow.{settling, answering}
 use Rattle.spec_lists.specs.Texts.{Text}
+pub use Rattle.spec_answers.specs.Marks.{Mark, plain_line, error_line, stop_line, Marks, unmarked, marked}
 use Rattle.spec_equations.specs.Answer.{Branch, AnswerForm}
 use Rattle.spec_queries.specs.Tree.{Query}
 use Rattle.spec_queries.specs.Grammar.{queries_of}
@@ -27,24 +28,6 @@ syntax_line = codes "error: syntax 0\n"
 
 abbrev pub overflow_line : Text
 overflow_line = codes "stop: overflow\n"
-
--- what kind of line was written: one of an answer or of the end of a search, an error line, or a stop
-pub data Mark : Type 0 where
-  plain_line error_line stop_line : Mark
-
--- whether some error line and some stop was written
-pub record Marks : Type 0 where
-  pub faulty : Bool
-  pub stopped : Bool
-
-abbrev pub unmarked : Marks
-unmarked = record { faulty = false; stopped = false }
-
--- with the mark of one more line
-abbrev pub marked : Marks → Mark → Marks
-marked m plain_line = m
-marked m error_line = record m { faulty = true }
-marked m stop_line = record m { stopped = true }
 
 -- ---- sessions
 

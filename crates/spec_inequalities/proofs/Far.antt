@@ -29,7 +29,7 @@ weakly Gt q h = pos_nonneg h
 weakly Ge q h = h
 weakly Ne q h = tt
 
-with_weak-made : (a : ℕ → ℚ) (r : Relation) (f : Linear) (m : List Constraint) → Weakly r (value_at a f) → Satisfies a m → Satisfies a (with_weak r f m)
+pub with_weak-made : (a : ℕ → ℚ) (r : Relation) (f : Linear) (m : List Constraint) → Weakly r (value_at a f) → Satisfies a m → Satisfies a (with_weak r f m)
 with_weak-made a Eq f m h s = (h, s)
 with_weak-made a Gt f m h s = (h, s)
 with_weak-made a Ge f m h s = (h, s)

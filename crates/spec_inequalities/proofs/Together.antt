@@ -69,7 +69,7 @@ reached l f s h =
     let a = (solvable_same (above_zero f ∷ weak l)).0 h in
     (solvable_same (above_zero f ∷ l)).1 (reached_at l f w.0 w.1 a.0 a.1)
 
-less_is : (a : ℕ → ℚ) (f : Linear) (r : ℚ) → value_at a (difference_form f (constant_form r)) ≡ value_at a f -ℚ r
+pub less_is : (a : ℕ → ℚ) (f : Linear) (r : ℚ) → value_at a (difference_form f (constant_form r)) ≡ value_at a f -ℚ r
 less_is a f r = value_at-difference_form a f (constant_form r) ∙ ap (λ q. value_at a f -ℚ q) (value_at-constant_form a r)
 
 pub reached_above : (l : List Constraint) (f : Linear) (r : ℚ) → Solvable l → (a : ℕ → ℚ) → Satisfies a (weak l) → r <ℚ value_at a f

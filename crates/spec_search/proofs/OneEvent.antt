@@ -14,15 +14,15 @@ use Rattle.spec_search.proofs.OneStep.{Alike, one_step, both_call, steps_alike}
 
 -- ---- balls
 
--- a ball shows where nothing catches it
-abbrev of_ball : Copied → Option (List Branch) → Event
-of_ball ball None = Threw ball
-of_ball ball (Some bs) = Wrote []
+-- a ball shows, and ends the search, where nothing catches it
+abbrev pub ball_event : Copied → Option (List Branch) → Event
+ball_event ball None = Threw ball
+ball_event ball (Some bs) = Wrote []
 
 -- a pruned branch shows its ball, if it has one
-abbrev of_pruned : List Item → List Branch → Option Copied → Event
-of_pruned items bs None = Wrote []
-of_pruned items bs (Some ball) = of_ball ball (handed ball items bs)
+abbrev pub pruned_event : List Item → List Branch → Option Copied → Event
+pruned_event items bs None = Wrote []
+pruned_event items bs (Some ball) = ball_event ball (handed ball items bs)
 
 module _ (s : Search) where
   -- ---- what is shown where a goal is selected
@@ -31,7 +31,7 @@ module _ (s : Search) where
     made : (m : Made) → Steps (place_of s st items cut bs) (read st goal) (Children m)
         → Chooses goal cut items st bs (Wrote m.output)
     fell : (ball : Copied) → Steps (place_of s st items cut bs) (read st goal) (Ball ball)
-        → Chooses goal cut items st bs (of_ball ball (handed ball items bs))
+        → Chooses goal cut items st bs (ball_event ball (handed ball items bs))
 
   no_ball : (p : Place) (goal : Tree) (m : Made) (ball : Copied) → Alike p goal (Children m) (Ball ball) → ⊥
   no_ball p goal m ball (one_step e) = cc
@@ -62,13 +62,13 @@ module _ (s : Search) where
       absurd (no_ball p (read st goal) m ball (steps_alike p (read st goal) (Children m) (Ball ball) k h))
   one_choice goal cut items st bs e f (fell a h) (fell b k) =
       let p : Place = place_of s st items cut bs in
-      ap (λ x. of_ball x (handed x items bs)) (same_ball p (read st goal) a b (steps_alike p (read st goal) (Ball a) (Ball b) h k))
+      ap (λ x. ball_event x (handed x items bs)) (same_ball p (read st goal) a b (steps_alike p (read st goal) (Ball a) (Ball b) h k))
 
   -- ---- what is shown where a branch is settled
 
   data Decides (items : List Item) (st : State) (p : Pending) (bs : List Branch) : Event → Type 0 where
     kept : (b : Branch) → Settles items st p (Kept b) → Decides items st p bs (Wrote [])
-    pruned : (why : Why) → Settles items st p (Pruned why) → Decides items st p bs (of_pruned items bs p.ball)
+    pruned : (why : Why) → Settles items st p (Pruned why) → Decides items st p bs (pruned_event items bs p.ball)
 
   one_decision : (items : List Item) (st : State) (p : Pending) (bs : List Branch) (e f : Event)
       → Decides items st p bs e → Decides items st p bs f → e ≡ f
@@ -90,25 +90,25 @@ module _ (s : Search) where
   -- a pruned branch, given what its ball comes to
   falls : (items : List Item) (st : State) (p : Pending) (bs : List Branch) (why : Why)
       → Settles items st p (Pruned why) → (ball : Option Copied) → p.ball ≡ ball → (e : Event)
-      → of_pruned items bs ball ≡ e → Decides items st p bs e
+      → pruned_event items bs ball ≡ e → Decides items st p bs e
   falls items st p bs why h ball g e k =
-      subst (λ x. Decides items st p bs x) (ap (of_pruned items bs) g ∙ k) (pruned why h)
+      subst (λ x. Decides items st p bs x) (ap (pruned_event items bs) g ∙ k) (pruned why h)
 
   shows : {e : Event} {t : Search} → Turn s e t → Shows (look_at s.branches) e
   shows (keeps {b = b} h k) = subst (λ l. Shows l (Wrote [])) (sym h) (kept b k)
   shows (prunes {items} {st} {p} {bs} {why} h k g) =
       subst (λ l. Shows l (Wrote [])) (sym h) (falls items st p bs why k None g (Wrote []) refl)
   shows (hands_on {items} {st} {p} {bs} {next} {why} {ball} h k g i) =
-      subst (λ l. Shows l (Wrote [])) (sym h) (falls items st p bs why k (Some ball) g (Wrote []) (ap (of_ball ball) i))
+      subst (λ l. Shows l (Wrote [])) (sym h) (falls items st p bs why k (Some ball) g (Wrote []) (ap (ball_event ball) i))
   shows (escapes {items} {st} {p} {bs} {why} {ball} h k g i) =
-      subst (λ l. Shows l (Threw ball)) (sym h) (falls items st p bs why k (Some ball) g (Threw ball) (ap (of_ball ball) i))
+      subst (λ l. Shows l (Threw ball)) (sym h) (falls items st p bs why k (Some ball) g (Threw ball) (ap (ball_event ball) i))
   shows (moves h) = subst (λ l. Shows l (Wrote [])) (sym h) refl
   shows (collects h k) = subst (λ l. Shows l (Wrote [])) (sym h) refl
   shows (steps {m = m} h k) = subst (λ l. Shows l (Wrote m.output)) (sym h) (made m k)
   shows (catches {goal} {cut} {items} {st} {bs} {next} {ball} h k i) =
-      subst (λ l. Shows l (Wrote [])) (sym h) (subst (λ e. Chooses goal cut items st bs e) (ap (of_ball ball) i) (fell ball k))
+      subst (λ l. Shows l (Wrote [])) (sym h) (subst (λ e. Chooses goal cut items st bs e) (ap (ball_event ball) i) (fell ball k))
   shows (throws {goal} {cut} {items} {st} {bs} {ball} h k i) =
-      subst (λ l. Shows l (Threw ball)) (sym h) (subst (λ e. Chooses goal cut items st bs e) (ap (of_ball ball) i) (fell ball k))
+      subst (λ l. Shows l (Threw ball)) (sym h) (subst (λ e. Chooses goal cut items st bs e) (ap (ball_event ball) i) (fell ball k))
   shows (answers {st = st} h) = subst (λ l. Shows l (Answered st s.database.operators)) (sym h) refl
   shows (ends h) = subst (λ l. Shows l Ended) (sym h) refl
 

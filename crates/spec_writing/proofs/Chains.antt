@@ -2,7 +2,7 @@
 use Rattle.std.proofs.Common.{◌≡◌, ℕ, Bool, true, false, not, ◌&&◌, ◌||◌, inl, inr, ◌⊎◌, List, [], ◌∷◌, ◌++◌, codes, Option, Some, None, is_some, refl, sym, ap, subst, ◌∙◌, append_assoc, append-nil}
 use Rattle.std.specs.Prelude.{⊤, if◌then◌else◌, bytes_eq}
 use Rattle.std.specs.Cmp.Lexicographic.{bytes_decides}
-use Rattle.std.proofs.lemmas.Bool.{false≢true}
+use Rattle.std.proofs.lemmas.Bool.{false≢true, false_from_ne_true}
 use Rattle.std.proofs.lemmas.Option.{none-some}
 use Rattle.spec_lists.specs.Texts.{Text}
 use Rattle.spec_lists.proofs.Tests.{or_left, or_right}
@@ -263,18 +263,14 @@ module _ (ops : Ops) (are : IsTable ops) (bare : NamesAreBare ops) where
               (let p : Piece = record { token = Named f (needs_quotes f); has_blanks = false; is_prefix = false } in ComesBehind p.token × HasBlanksByName p × Precedes p.token p (record { token = t; has_blanks = b; is_prefix = x }))
           simply t b x free = (simple, (λ x. tt), record { apart = inl simple; free = inr (inr free) })
 
-          touching : (b : Bool) → (b ≡ true → ⊥) → b ≡ false
-          touching true k = absurd (k refl)
-          touching false k = refl
-
           signed : (n : ℚ) (b x : Bool) → (b ≡ true → ⊥) → (y : Bool) → bytes_eq f (codes "-") ≡ y →
               (let p : Piece = record { token = (if y then Minus else Named f (needs_quotes f)); has_blanks = false; is_prefix = false } in ComesBehind p.token × HasBlanksByName p × Precedes p.token p (record { token = Numeral n; has_blanks = b; is_prefix = x }))
-          signed n b x k true i = (tt, (λ z. cc), (tt, record { no_blanks = refl; no_blanks_behind = touching b k; no_prefix = refl }))
+          signed n b x k true i = (tt, (λ z. cc), (tt, record { no_blanks = refl; no_blanks_behind = false_from_ne_true b k; no_prefix = refl }))
           signed n b x k false i = simply (Numeral n) b x (λ same. false≢true (sym i ∙ (bytes_decides f (codes "-")).1 same))
 
           on : (t : Token) (b x : Bool) → (b ≡ true → IsNamed t) →
               (let p : Piece = record { token = name_before f (t ∷ tokens ps); has_blanks = false; is_prefix = false } in ComesBehind p.token × HasBlanksByName p × Precedes p.token p (record { token = t; has_blanks = b; is_prefix = x }))
-          on Open b x k = (simple, (λ z. cc), (tt, record { no_blanks = refl; no_blanks_behind = touching b k; no_prefix = refl }))
+          on Open b x k = (simple, (λ z. cc), (tt, record { no_blanks = refl; no_blanks_behind = false_from_ne_true b k; no_prefix = refl }))
           on (Numeral n) b x k = signed n b x k (bytes_eq f (codes "-")) refl
           on (Variable v) b x k = simply (Variable v) b x tt
           on (Codes bytes) b x k = simply (Codes bytes) b x tt

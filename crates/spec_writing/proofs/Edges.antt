@@ -4,7 +4,7 @@ use Rattle.std.specs.Prelude.{◌==◌, encode_utf8}
 use Rattle.std.specs.Char.{is_digit, is_ascii_digit}
 use Rattle.std.specs.Str.{is_utf8, chars, IsAscii, continuation_len, all_scalars, encode_utf8_all}
 use Rattle.std.proofs.lemmas.Bool.Decides.{nat_tests}
-use Rattle.std.proofs.lemmas.Bool.{and_parts, false≢true}
+use Rattle.std.proofs.lemmas.Bool.{and_parts, false≢true, false_from_ne_true}
 use Rattle.std.proofs.lemmas.Str.{chars-IsAscii, encodes-chars, scalars-chars, IsUtf8-from_is_utf8}
 use lib.Utf8.{scalar}
 use Rattle.spec_rational.specs.Rational.{ℚ}
@@ -20,7 +20,7 @@ use Rattle.spec_writing.specs.declared.Style.TheVariants.{Quoted}
 use Rattle.spec_writing.specs.Numbers.{whole_text, under_text, number_text}
 use Rattle.spec_writing.specs.Texts.{last_of, ends_name, name_text, in_quotes, token_text}
 use Rattle.spec_writing.specs.Written.{counted_name}
-use Rattle.spec_writing.proofs.Wholes.{IsSome, whole_some, whole_digits}
+use Rattle.spec_writing.proofs.Wholes.{IsSome, some-append, whole_some, whole_digits}
 use Rattle.spec_writing.proofs.Quotes.{is_char}
 use Rattle.spec_writing.proofs.Numerals.{number_begins}
 use Rattle.spec_writing.proofs.Names.{BareKind, Letters, Symbols, Sign, bare_kind, some_bare}
@@ -30,24 +30,20 @@ use Rattle.spec_writing.proofs.Stops.{IsWritableName, IsWritable}
 
 -- ---- tests of bytes
 
-pub not_true : (a : Bool) → (a ≡ true → ⊥) → a ≡ false
-not_true true h = absurd (h refl)
-not_true false h = refl
-
 -- a byte below 128 that begins a name of letters is a small letter
 letter_byte : (b n : ℕ) (bs : List ℕ) → passes starts_name (first_char (b ∷ bs)) ≡ true → n < 128 → starts_name n ≡ false → (b == n) ≡ false
-letter_byte b n bs starts low no_start = not_true (b == n) (λ e.
+letter_byte b n bs starts low no_start = false_from_ne_true (b == n) (λ e.
     let same : b ≡ n = grind (arith, nat_tests) in
     false≢true (sym no_start ∙ ap (passes starts_name) (sym (first_char-ascii b bs (omega (arith, same, low)) ∙ ap Some same)) ∙ starts))
 
 starts_no_digit : (b : ℕ) (bs : List ℕ) → passes starts_name (first_char (b ∷ bs)) ≡ true → is_ascii_digit b ≡ false
-starts_no_digit b bs starts = not_true (is_ascii_digit b) (λ e.
+starts_no_digit b bs starts = false_from_ne_true (is_ascii_digit b) (λ e.
     let low : b < 128 = grind (arith, nat_tests) in
     let none : starts_name b ≡ false = grind (arith, nat_tests) in
     false≢true (sym none ∙ ap (passes starts_name) (sym (first_char-ascii b bs low)) ∙ starts))
 
 symbol_not : (b n : ℕ) → is_symbol b ≡ true → is_symbol n ≡ false → (b == n) ≡ false
-symbol_not b n symbol other = not_true (b == n) (λ e. let same : b ≡ n = grind (arith, nat_tests) in false≢true (sym other ∙ ap is_symbol (sym same) ∙ symbol))
+symbol_not b n symbol other = false_from_ne_true (b == n) (λ e. let same : b ≡ n = grind (arith, nat_tests) in false≢true (sym other ∙ ap is_symbol (sym same) ∙ symbol))
 
 symbol_no_digit : (b : ℕ) → is_symbol b ≡ true → is_ascii_digit b ≡ false
 symbol_no_digit b e = grind (arith, nat_tests)
@@ -211,10 +207,6 @@ last_word w some all = passes_weaker (last_of (chars w)) (last_ascii is_word wor
 pub variable_ends : (v : ℕ) → passes ends_name (last_of (chars (counted_name v))) ≡ true
 variable_ends v = last_word (counted_name v) tt (refl, words_of_digits (whole_text (1 + v)) (whole_digits (1 + v)))
 
-some-append : (w x : Text) → IsSome w → IsSome (w ++ x)
-some-append [] x h = elim h [ ]
-some-append (b ∷ w) x h = tt
-
 pub numeral_ends : (q : ℚ) → is_negative q ≡ false → passes ends_name (last_of (chars (number_text q))) ≡ true
 numeral_ends q sign = by q.numerator q.below sign
   where
@@ -289,4 +281,4 @@ symbols_last (b ∷ bs) bare symbol = by (bare_kind b bs bare)
 -- a text that begins with a symbol character has it as its first character
 pub no_symbol_first : (w : Text) → passes is_symbol (first_char w) ≡ false → begins is_symbol w ≡ false
 no_symbol_first [] e = refl
-no_symbol_first (b ∷ bs) e = not_true (is_symbol b) (λ symbol. false≢true (sym e ∙ ap (passes is_symbol) (first_char-ascii b bs (symbol_small b symbol)) ∙ symbol))
+no_symbol_first (b ∷ bs) e = false_from_ne_true (is_symbol b) (λ symbol. false≢true (sym e ∙ ap (passes is_symbol) (first_char-ascii b bs (symbol_small b symbol)) ∙ symbol))

@@ -1,5 +1,5 @@
 -- A number that is not below zero is cut as it is written, and read as the number.
-use Rattle.std.proofs.Common.{◌≡◌, ℕ, zero, suc, ◌+◌, ◌<◌, ◌≤◌, ℤ, pos, negsuc, Bool, true, false, List, [], ◌∷◌, ◌++◌, codes, length, length-append, append_assoc, append-nil, drop, nat_lt, Some, None, Ok, refl, sym, ap, subst, ◌∙◌, arith}
+use Rattle.std.proofs.Common.{◌≡◌, ℕ, zero, suc, ◌+◌, ◌<◌, ◌≤◌, ℤ, pos, negsuc, Bool, true, false, List, [], ◌∷◌, ◌++◌, length, length-append, append_assoc, append-nil, drop, nat_lt, Some, None, Ok, refl, sym, ap, subst, ◌∙◌, arith}
 use Rattle.std.specs.Prelude.{◌%◌, ◌==◌, nat_abs}
 use Rattle.std.specs.Char.{is_digit, is_ascii_digit}
 use Rattle.std.proofs.lemmas.Bool.Decides.{nat_tests}
@@ -17,7 +17,7 @@ use Rattle.spec_grammar.specs.Tokens.{Token, token_at, numeral}
 use Rattle.spec_grammar.specs.Laws.{AllPass}
 use Rattle.spec_grammar.proofs.Again.{first_char-ascii, numeral_again, whole_again, fraction_again}
 use Rattle.spec_syntax.specs.Writing.{is_negative}
-use Rattle.spec_writing.specs.Numbers.{whole_text, under_text, number_text}
+use Rattle.spec_writing.specs.Numbers.{parts_text, whole_text, under_text, number_text}
 use Rattle.spec_writing.specs.ReadingBack.{FitsNumber}
 use Rattle.spec_writing.proofs.Blanks.{drop-before}
 use Rattle.spec_writing.proofs.Wholes.{IsSome, whole_some, whole_digits, whole_value, whole_zero}
@@ -152,12 +152,8 @@ not_nothing zero m e = absurd (go (0 % suc (suc m)) (omega arith) e)
     go zero z h = omega (arith, h)
     go (suc r) z h = absurd (omega (arith, z))
 
--- the text of a number with this numerator and this denominator less one
-abbrev text_at : ℤ → ℕ → Text
-text_at z below = elim z [ pos n ↦ whole_text n ++ under_text below | negsuc n ↦ codes "-" ++ whole_text (suc n) ++ under_text below ]
-
 at_parts : (z : ℤ) (below : ℕ) (more : List ℕ) (at : ℕ) → nat_abs z ≤ greatest → suc below ≤ greatest → gcd (nat_abs z) (suc below) ≡ 1 →
-    (elim z [ pos n ↦ false | negsuc n ↦ true ]) ≡ false → StopsNumeral more → token_at (text_at z below ++ more) at ≡ Ok (numeral_token at (length (text_at z below)) (ratio z (suc below)))
+    (elim z [ pos n ↦ false | negsuc n ↦ true ]) ≡ false → StopsNumeral more → token_at (parts_text z below ++ more) at ≡ Ok (numeral_token at (length (parts_text z below)) (ratio z (suc below)))
 at_parts (negsuc n) below more at over under lowest sign stops = cc
 at_parts (pos n) zero more at over under lowest sign stops =
     rw append-nil (whole_cut n more at over stops)
@@ -179,7 +175,7 @@ number_cut q more at fits sign stops =
 pub number_begins : (q : ℚ) → is_negative q ≡ false → begins is_ascii_digit (number_text q) ≡ true
 number_begins q sign = by q.numerator sign
   where
-    by : (z : ℤ) → (elim z [ pos n ↦ false | negsuc n ↦ true ]) ≡ false → begins is_ascii_digit (text_at z q.below) ≡ true
+    by : (z : ℤ) → (elim z [ pos n ↦ false | negsuc n ↦ true ]) ≡ false → begins is_ascii_digit (parts_text z q.below) ≡ true
     by (pos n) e = begins_digit (whole_text n) (under_text q.below) (whole_some n) (whole_digits n)
     by (negsuc n) e = cc
 

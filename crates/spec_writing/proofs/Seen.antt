@@ -11,17 +11,13 @@ use Rattle.spec_writing.specs.declared.Style.TheVariants.{Quoted}
 use Rattle.spec_writing.specs.Numbers.{whole_text, under_text, number_text}
 use Rattle.spec_writing.specs.Texts.{is_quoted, in_quotes, name_text, token_text, text_of, seen}
 use Rattle.spec_writing.specs.Written.{counted_name}
-use Rattle.spec_writing.proofs.Wholes.{IsSome, whole_some}
-
-some_more : (a b : Text) → IsSome a → IsSome (a ++ b)
-some_more [] b h = elim h [ ]
-some_more (x ∷ a) b h = tt
+use Rattle.spec_writing.proofs.Wholes.{IsSome, some-append, whole_some}
 
 number_some : (q : ℚ) → IsSome (number_text q)
 number_some q = by q.numerator
   where
     by : (z : ℤ) → IsSome (elim z [ pos n ↦ whole_text n ++ under_text q.below | negsuc n ↦ codes "-" ++ whole_text (suc n) ++ under_text q.below ])
-    by (pos n) = some_more (whole_text n) _ (whole_some n)
+    by (pos n) = some-append (whole_text n) _ (whole_some n)
     by (negsuc n) = tt
 
 name_by : (f : Text) (b : Bool) → is_quoted f ≡ b → IsSome (if b then in_quotes 39 f else f)

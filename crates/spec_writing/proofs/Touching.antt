@@ -4,6 +4,7 @@ use Rattle.std.specs.Prelude.{⊤, ◌==◌, if◌then◌else◌, ◌≢◌, byt
 use Rattle.std.specs.Cmp.Lexicographic.{bytes_decides}
 use Rattle.std.specs.Char.{is_ascii_digit}
 use Rattle.std.specs.Str.{chars}
+use Rattle.std.proofs.Math.Bool.{and-false}
 use Rattle.std.proofs.lemmas.Bool.{false≢true}
 use Rattle.std.proofs.lemmas.Bool.Decides.{nat_tests}
 use Rattle.spec_rational.specs.Rational.{ℚ}
@@ -78,10 +79,6 @@ Precedes tok p q = ⊤
 right_false : (a b : Bool) → a ≡ true → (a && b) ≡ false → b ≡ false
 right_false true b e h = h
 right_false false b e h = cc
-
-and_false : (a : Bool) → (a && false) ≡ false
-and_false true = refl
-and_false false = refl
 
 -- a text that comes behind a numeral: no quote, and no float
 pub record Behind (w : Text) : Type 0 where
@@ -339,7 +336,7 @@ apart_false p q t e = rw (t.no_blanks, t.no_blanks_behind, e, t.no_prefix) refl
 
 open_alone : (left : Text) → run_together Quoted counted_name left (codes "(") ≡ false
 unfolding first_char
-open_alone left = rw (and_false (passes is_symbol (last_of (chars left))), and_false (passes ends_name (last_of (chars left)))) refl
+open_alone left = rw (and-false (passes is_symbol (last_of (chars left))), and-false (passes ends_name (last_of (chars left)))) refl
 
 open_touches : (p q : Piece) → IsOpen q.token × Touch p q → is_apart Quoted counted_name p q ≡ false
 open_touches p q h = apart_false p q h.1 (ap (λ t. run_together Quoted counted_name (text_of Quoted counted_name p) (token_text Quoted counted_name t)) (only_open q.token h.0) ∙ open_alone (text_of Quoted counted_name p))

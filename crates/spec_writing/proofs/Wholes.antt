@@ -1,5 +1,5 @@
 -- The digits of a number in a base are digits of it, and their value is the number.
-use Rattle.std.proofs.Common.{◌≡◌, ℕ, zero, suc, ◌+◌, ◌*◌, ◌<◌, Bool, true, false, List, [], ◌∷◌, refl, ap, ◌∙◌, arith}
+use Rattle.std.proofs.Common.{◌≡◌, ℕ, zero, suc, ◌+◌, ◌*◌, ◌<◌, Bool, true, false, List, [], ◌∷◌, ◌++◌, refl, ap, ◌∙◌, arith}
 use Rattle.std.specs.Prelude.{◌/◌, ◌%◌, ◌==◌, if◌then◌else◌}
 use Rattle.std.specs.Char.{is_digit, digit_value}
 use Rattle.std.specs.Fmt.{digits_onto, digit_glyph}
@@ -96,6 +96,10 @@ hexadecimal_value n = same_value 16 sixteen (suc n) n [] (omega arith)
 abbrev pub IsSome : Text → Type 0
 IsSome [] = ⊥
 IsSome (b ∷ bs) = Unit {0}
+
+pub some-append : (w x : Text) → IsSome w → IsSome (w ++ x)
+some-append [] x h = elim h [ ]
+some-append (b ∷ w) x h = tt
 
 pub digits_some : (fuel base : ℕ) (n : ℕ) (acc : Text) → IsSome acc → IsSome (digits_onto fuel base false n acc)
 digits_some zero base n acc h = h

@@ -58,7 +58,8 @@ pub fn operators_as_written()
     ensures grouped_left { writeq standard (binary (codes "-") (binary (codes "-") (number 1) (number 2)) (number 3)) ≡ codes "1-2-3" }
     ensures letters { writeq standard (binary (codes "is") (Var 7) (binary (codes "mod") (number 7) (negative 2))) ≡ codes "_1 is 7 mod (-2)" }
     ensures prefix_letters { writeq standard (unary (codes "dynamic") (binary (codes "/") (Name (codes "a")) (number 1))) ≡ codes "dynamic a/1" }
-    ensures alternatives { writeq standard (binary (codes ";") (binary (codes "->") (Name (codes "a")) (Name (codes "b"))) (Name (codes "c"))) ≡ codes "a->b;c" }
+    ensures alternatives { writeq standard (binary (codes ";") (binary (codes "->") (Name (codes "a")) (Name (codes "b"))) (Name (codes "c")))
+        ≡ codes "a->b;c" }
     ensures indicator { writeq standard (binary (codes "/") (Name (codes ",")) (number 2)) ≡ codes "(',')/2" }
 {}
 
