@@ -2,14 +2,16 @@
 //! body, and its contract is a law of the definitions.
 #![tactic(auto)]
 
-ghost use Rattle.std.specs.Prelude.{◌≡◌, ◌↔◌, ℕ, List, [], Bool, false, Option};
+ghost use Rattle.std.specs.Prelude.{◌≡◌, ◌↔◌, ℕ, List, [], Bool, false, Option, None};
 ghost use Rattle.spec_rational.specs.Rational.{ℚ};
-ghost use Rattle.spec_linear.specs.Solution.{Constraint, Point, Solvable, Fixes, Equivalent};
+ghost use Rattle.spec_linear.specs.Solution.{Constraint, Point, number, Solvable, Fixes, Equivalent};
 ghost use Rattle.spec_lists.specs.Texts.{Text};
 ghost use Rattle.spec_terms.specs.Term.{Subst};
 ghost use Rattle.spec_terms.specs.Unifier.{Equation, IsUnifier, read_under};
 ghost use Rattle.spec_syntax.specs.Trees.{Tree};
-ghost use Rattle.spec_branch.specs.Branch.{Item, State, Pending, Branch, no_work};
+ghost use Rattle.spec_told.specs.Checks.{constraint_error, members, halves};
+ghost use Rattle.spec_told.specs.Values.{IsMetAt};
+ghost use Rattle.spec_branch.specs.Branch.{Item, State, Pending, Branch, no_work, read};
 ghost use Rattle.spec_branch.specs.Closure.{IsClosure};
 ghost use Rattle.spec_branch.specs.Settling.{Settles, Kept, Pruned, Why, NoSolution, kept_branch};
 ghost use Rattle.spec_branch.specs.Meaning.{IsSolution, SolvesState, SolvesPending, IsSettled};
@@ -32,6 +34,17 @@ pub fn settling_keeps_the_solutions()
         → Settles items st w (Pruned (NoSolution l))
         → (u : Subst Text) × IsUnifier (read_under st.bindings w.equations) u
         × ((p : Point) → SolvesPending st w u p → ⊥) }
+{}
+
+/// Telling a constraint that is not refused and has no halves adds just that it is met: a branch that is kept has the
+/// solutions at which it is, and one that is pruned for want of a solution had none such.
+pub fn telling_adds_the_constraint()
+    ensures kept { (st : State) (c : Tree) → constraint_error c ≡ None → halves c ≡ None → read st c ≡ c
+        → (items : List Item) (b : Branch) → Settles items st (record no_work { told = members c }) (Kept b)
+        → (p : Point) → SolvesState b.state p ↔ (SolvesState st p × IsMetAt (number p) c) }
+    ensures pruned { (st : State) (c : Tree) → constraint_error c ≡ None → halves c ≡ None → read st c ≡ c
+        → (items : List Item) (l : List Constraint) → Settles items st (record no_work { told = members c }) (Pruned (NoSolution l))
+        → (p : Point) → SolvesState st p → IsMetAt (number p) c → ⊥ }
 {}
 
 /// A branch that is kept is settled: its linear constraints have a solution, no waiting term is linear or false over them,
