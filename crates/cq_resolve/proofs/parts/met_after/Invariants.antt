@@ -1,0 +1,9 @@
+use Rattle.std.proofs.Common.{◌≤◌, drop}
+use Rattle.cq_stored.specs.Pattern.{HaveBelow}
+use Rattle.cq_resolve.proofs.parts.met_after.Given as goal
+
+abbrev pub invariant-loop-i : goal.invariant-loop-i
+invariant-loop-i l = record {
+  more : l.met ≤ l.after;
+  below : HaveBelow l.after (drop l.i l.pattern);
+}

@@ -1,0 +1,4 @@
+pub mod Resolved
+pub mod Parts
+pub mod Joined
+pub mod Matching

@@ -1,0 +1,39 @@
+-- What it means that a goal was resolved with a clause.
+use Rattle.std.specs.Prelude.{◌≡◌, ◌≢◌, ◌↔◌, ℕ, ◌<◌, List, [], ◌∷◌, ◌++◌, map, length, Contains, nat_lt}
+use Rattle.std.specs.List.{AllPairs, filter}
+use Rattle.spec_terms.specs.Term.{apply}
+use Rattle.spec_terms.specs.Unifier.{Equation, IsUnifier}
+use Rattle.cq_frac.specs.declared.VarId.{VarId}
+use Rattle.cq_term.specs.Meaning.{at}
+use Rattle.cq_term.specs.HeapValue.{Terms}
+use Rattle.cq_unify.specs.Unified.{Binding, in_turn, variables_of, IsNewlyBound}
+use Rattle.spec_lists.specs.Prefixes.{IsPrefix}
+use Rattle.cq_unify.specs.Copied.{unbound_from}
+use Rattle.cq_stored.specs.Building.{moved_by}
+use Rattle.cq_stored.specs.StoredValue.{ClauseValue}
+
+-- the goal and the head under the heap's next variables are to be equal
+abbrev pub call : Terms → ClauseValue → ℕ → List (Equation ℕ)
+call heap c goal = record { left = at heap.terms goal; right = apply (moved_by (length heap.images)) c.head } ∷ []
+
+-- those of the variables that are older than the n-th
+abbrev pub older : ℕ → List VarId → List VarId
+older n vs = filter (λ (v : VarId). nat_lt v.0 n) vs
+
+-- all terms are read under the unifier of the two, which bindings make in turn; the clause's variables are there, and
+-- the term of its body
+pub record Resolved (old new : Terms) (c : ClauseValue) (goal id : ℕ) (told : List VarId) : Type 0 where
+  pub bindings : List Binding
+  pub unifier : IsUnifier (call old c goal) (in_turn bindings)
+  pub terms : IsPrefix (map (apply (in_turn bindings)) old.terms) new.terms
+  pub images : new.images ≡ map (apply (in_turn bindings)) (old.images ++ unbound_from (length old.images) c.variables)
+  pub live : id < length new.terms
+  pub body : at new.terms id ≡ apply (in_turn bindings) (apply (moved_by (length old.images)) c.body)
+  -- the older variables that were bound are told in order, each once; of the clause's own some are
+  pub in_order : older (length old.images) told ≡ older (length old.images) (variables_of bindings)
+  pub newly : (v : VarId) → v.0 < length old.images → Contains told v ↔ IsNewlyBound old new v
+  pub once : AllPairs ◌≢◌ told
+
+-- what was told before, and then what the resolution told
+abbrev pub Resolves : Terms → Terms → ClauseValue → ℕ → ℕ → List VarId → List VarId → Type 0
+Resolves old new c goal id before after = (more : List VarId) × (after ≡ before ++ more) × Resolved old new c goal id more

@@ -1,0 +1,133 @@
+// A term of the goal and a part of the head are made equal.
+
+ghost use Rattle.std.specs.Prelude.{◌≡◌, ◌<◌, ◌≤◌, ◌++◌, ℕ, List, length, All, OnOk, Ok, true, false};
+ghost use Rattle.spec_terms.specs.Term.{Number, Name, apply};
+ghost use Rattle.cq_frac.specs.declared.VarId.{VarId};
+ghost use Rattle.cq_term.specs.Meaning.{at};
+ghost use Rattle.cq_stored.specs.Pattern.{IsPattern, IsNamedBelow, term_of};
+ghost use Rattle.cq_stored.specs.Building.{AreThere, image_from, KeepsNames};
+ghost use Rattle.cq_resolve.specs.Joined.{Joins, Clash, CanMeet};
+
+use cq_frac::{Frac, VarId};
+use cq_stored::build;
+use cq_term::{Atom, Heap, Newly, TermId, View};
+use cq_unify::unify;
+use std::alloc::AllocError;
+
+/// Makes a variable of the clause equal to a term of the goal. A variable that was never met needs no occurs check.
+pub(crate) fn join_variable(
+    heap: &mut Heap,
+    newly: &mut Newly,
+    variable: VarId,
+    is_new: bool,
+    goal: TermId,
+) -> Result<bool, AllocError>
+    requires there { variable.0 < length heap.old.now.images }
+    requires live { goal < length heap.old.now.terms }
+    requires new { is_new ≡ true → CanMeet heap.old.now variable goal }
+    ensures joined { result ≡ Ok true → (base : ℕ) → (is_new ≡ true → base ≤ variable.0)
+        → Joins base heap.old.now heap.new.now goal (at heap.old.now.images variable.0) newly.old newly.new }
+    ensures clash { result ≡ Ok false → Clash (at heap.old.now.terms goal) (at heap.old.now.images variable.0) }
+    ensures told { (more : List VarId) × (newly.new ≡ newly.old ++ more) }
+    ensures names { (n : ℕ) → KeepsNames n heap.old.now heap.new.now }
+    ensures saved { heap.new.saved ≡ heap.old.saved }
+    ensures room { heap.old.room ≤ heap.new.room }
+{
+    if is_new {
+        heap.bind(variable, goal)?;
+        Ok(true)
+    } else {
+        let met = heap.var_term(variable);
+        join_terms(heap, newly, goal, met)
+    }
+}
+
+/// Makes two terms equal.
+fn join_terms(heap: &mut Heap, newly: &mut Newly, a: TermId, b: TermId) -> Result<bool, AllocError>
+    requires a { a < length heap.old.now.terms }
+    requires b { b < length heap.old.now.terms }
+    ensures joined { result ≡ Ok true → (base : ℕ) → Joins base heap.old.now heap.new.now a (at heap.old.now.terms b) newly.old newly.new }
+    ensures clash { result ≡ Ok false → Clash (at heap.old.now.terms a) (at heap.old.now.terms b) }
+    ensures told { (more : List VarId) × (newly.new ≡ newly.old ++ more) }
+    ensures names { (n : ℕ) → KeepsNames n heap.old.now heap.new.now }
+    ensures saved { heap.new.saved ≡ heap.old.saved }
+    ensures room { heap.old.room ≤ heap.new.room }
+{
+    unify(heap, newly, a, b)
+}
+
+/// Makes a number of the head equal to a term of the goal.
+pub(crate) fn join_number(
+    heap: &mut Heap,
+    newly: &mut Newly,
+    number: Frac,
+    goal: TermId,
+) -> Result<bool, AllocError>
+    requires { goal < length heap.old.now.terms }
+    ensures joined { result ≡ Ok true → (base : ℕ) → Joins base heap.old.now heap.new.now goal (Number number) newly.old newly.new }
+    ensures clash { result ≡ Ok false → Clash (at heap.old.now.terms goal) (Number number) }
+    ensures told { (more : List VarId) × (newly.new ≡ newly.old ++ more) }
+    ensures names { (n : ℕ) → KeepsNames n heap.old.now heap.new.now }
+    ensures saved { heap.new.saved ≡ heap.old.saved }
+    ensures room { heap.old.room ≤ heap.new.room }
+{
+    match heap.view(goal) {
+        View::Var(variable) => {
+            let id = heap.number(number)?;
+            heap.bind(variable, id)?;
+            newly.push(variable)?;
+            Ok(true)
+        }
+        View::Number(shown) => Ok(shown == number),
+        View::Name(_) | View::Compound(_, _) => Ok(false),
+    }
+}
+
+/// Makes a name of the head equal to a term of the goal.
+pub(crate) fn join_name(
+    heap: &mut Heap,
+    newly: &mut Newly,
+    name: Atom,
+    goal: TermId,
+) -> Result<bool, AllocError>
+    requires { goal < length heap.old.now.terms }
+    ensures joined { result ≡ Ok true → (base : ℕ) → Joins base heap.old.now heap.new.now goal (Name name) newly.old newly.new }
+    ensures clash { result ≡ Ok false → Clash (at heap.old.now.terms goal) (Name name) }
+    ensures told { (more : List VarId) × (newly.new ≡ newly.old ++ more) }
+    ensures names { (n : ℕ) → name < n → KeepsNames n heap.old.now heap.new.now }
+    ensures saved { heap.new.saved ≡ heap.old.saved }
+    ensures room { heap.old.room ≤ heap.new.room }
+{
+    match heap.view(goal) {
+        View::Var(variable) => {
+            let id = heap.atom(name)?;
+            heap.bind(variable, id)?;
+            newly.push(variable)?;
+            Ok(true)
+        }
+        View::Name(shown) => Ok(shown == name),
+        View::Number(_) | View::Compound(_, _) => Ok(false),
+    }
+}
+
+/// Builds the part of the head, and makes it equal to a term of the goal.
+pub(crate) fn join_built(
+    heap: &mut Heap,
+    newly: &mut Newly,
+    part: &[View],
+    first: usize,
+    goal: TermId,
+) -> Result<bool, AllocError>
+    requires live { goal < length heap.old.now.terms }
+    requires part { (count : ℕ) × IsPattern count part.now × AreThere heap.old.now.images first count }
+    ensures joined { result ≡ Ok true → (base : ℕ)
+        → Joins base heap.old.now heap.new.now goal (apply (image_from heap.old.now.images first) (term_of part.now)) newly.old newly.new }
+    ensures clash { result ≡ Ok false → Clash (at heap.old.now.terms goal) (apply (image_from heap.old.now.images first) (term_of part.now)) }
+    ensures told { (more : List VarId) × (newly.new ≡ newly.old ++ more) }
+    ensures names { OnOk result ((n : ℕ) → All (IsNamedBelow n) part.now → KeepsNames n heap.old.now heap.new.now) }
+    ensures saved { heap.new.saved ≡ heap.old.saved }
+    ensures room { heap.old.room ≤ heap.new.room }
+{
+    let built = build(heap, part, first)?;
+    join_terms(heap, newly, goal, built)
+}

@@ -1,0 +1,11 @@
+//! Resolution of a goal with a stored clause.
+#![tactic(auto)]
+
+mod joining;
+mod matching;
+mod parts;
+mod resolution;
+#[cfg(test)]
+mod tests;
+
+pub use resolution::resolve;

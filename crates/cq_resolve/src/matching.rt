@@ -1,0 +1,134 @@
+// The head of a clause along a goal, from left to right.
+
+ghost use Rattle.std.specs.Prelude.{◌≡◌, ◌<◌, ◌≤◌, ◌++◌, ◌∷◌, [], ℕ, List, length, All, OnOk, Ok, true, false};
+ghost use Rattle.spec_terms.specs.Unifier.{HasNoUnifier};
+ghost use Rattle.cq_frac.specs.declared.VarId.{VarId};
+ghost use Rattle.cq_stored.specs.Building.{KeepsNames};
+ghost use Rattle.cq_stored.specs.Pattern.{IsNamedBelow};
+ghost use Rattle.cq_resolve.specs.Matching.{Call, Matching, IsAt, IsNext};
+
+use crate::joining::{join_built, join_name, join_number, join_variable};
+use crate::parts::{end_of, met_after};
+use cq_frac::VarId;
+use cq_term::{Heap, Newly, TermId, View};
+use cq_walk::push_arguments;
+use std::alloc::AllocError;
+
+/// How far the match is: a place of the head, how many of its variables were met, and the terms of the goal that belong
+/// to the parts from the place on, the last one first.
+#[derive(Drop)]
+pub(crate) struct Walk {
+    place: usize,
+    met: usize,
+    goals: Vec<TermId>,
+}
+
+/// Makes the goal and the head equal, or says that nothing does.
+pub(crate) fn match_head(
+    heap: &mut Heap,
+    newly: &mut Newly,
+    head: &[View],
+    first: usize,
+    goal: TermId,
+) -> Result<bool, AllocError>
+    requires { (c : Call) × Matching c head.now first heap.old.now newly.old 0 0 (goal ∷ []) }
+    ensures matched { result ≡ Ok true → (c : Call) → Matching c head.now first heap.old.now newly.old 0 0 (goal ∷ [])
+        → (place : ℕ) × (met : ℕ) × Matching c head.now first heap.new.now newly.new place met [] }
+    ensures none { result ≡ Ok false → (c : Call) → Matching c head.now first heap.old.now newly.old 0 0 (goal ∷ []) → HasNoUnifier c.goal }
+    ensures told { (more : List VarId) × (newly.new ≡ newly.old ++ more) }
+    ensures names { OnOk result ((n : ℕ) → All (IsNamedBelow n) head.now → KeepsNames n heap.old.now heap.new.now) }
+    ensures saved { heap.new.saved ≡ heap.old.saved }
+    ensures room { heap.old.room ≤ heap.new.room }
+{
+    let goals = vec![in heap.alloc(); goal]?;
+    let mut walk = Walk {
+        place: 0,
+        met: 0,
+        goals,
+    };
+    while let Some(next) = walk.goals.pop() {
+        if !step(heap, newly, head, first, next, &mut walk)? {
+            return Ok(false);
+        }
+    }
+    Ok(true)
+}
+
+/// Goes on behind the next part of the head, or behind its name where a compound meets a compound.
+fn step(
+    heap: &mut Heap,
+    newly: &mut Newly,
+    head: &[View],
+    first: usize,
+    goal: TermId,
+    walk: &mut Walk,
+) -> Result<bool, AllocError>
+    requires { (c : Call) × IsNext c head.now first heap.old.now newly.old walk.old goal }
+    ensures matched { result ≡ Ok true → (c : Call) → IsNext c head.now first heap.old.now newly.old walk.old goal
+        → IsAt c head.now first heap.new.now newly.new walk.new }
+    ensures none { result ≡ Ok false → (c : Call) → IsNext c head.now first heap.old.now newly.old walk.old goal → HasNoUnifier c.goal }
+    ensures further { result ≡ Ok true → walk.old.place < walk.new.place }
+    ensures within { result ≡ Ok true → walk.new.place ≤ length head.now }
+    ensures told { (more : List VarId) × (newly.new ≡ newly.old ++ more) }
+    ensures names { OnOk result ((n : ℕ) → All (IsNamedBelow n) head.now → KeepsNames n heap.old.now heap.new.now) }
+    ensures saved { heap.new.saved ≡ heap.old.saved }
+    ensures room { heap.old.room ≤ heap.new.room }
+{
+    let part = head[walk.place];
+    match part {
+        View::Var(variable) => {
+            let is_new = walk.met <= variable.0;
+            walk.place += 1;
+            walk.met = walk.met.max(variable.0 + 1);
+            join_variable(heap, newly, VarId(first + variable.0), is_new, goal)
+        }
+        View::Number(number) => {
+            walk.place += 1;
+            join_number(heap, newly, number, goal)
+        }
+        View::Name(name) => {
+            walk.place += 1;
+            join_name(heap, newly, name, goal)
+        }
+        View::Compound(name, arity) => match heap.view(goal) {
+            View::Var(_) => step_built(heap, newly, head, first, goal, walk),
+            View::Compound(shown, count) => {
+                if shown == name && count == arity {
+                    walk.place += 1;
+                    push_arguments(heap, goal, arity, &mut walk.goals)?;
+                    Ok(true)
+                } else {
+                    Ok(false)
+                }
+            }
+            View::Number(_) | View::Name(_) => Ok(false),
+        },
+    }
+}
+
+/// The same where the next part of the head is built as a whole.
+fn step_built(
+    heap: &mut Heap,
+    newly: &mut Newly,
+    head: &[View],
+    first: usize,
+    goal: TermId,
+    walk: &mut Walk,
+) -> Result<bool, AllocError>
+    requires { (c : Call) × IsNext c head.now first heap.old.now newly.old walk.old goal }
+    ensures matched { result ≡ Ok true → (c : Call) → IsNext c head.now first heap.old.now newly.old walk.old goal
+        → IsAt c head.now first heap.new.now newly.new walk.new }
+    ensures none { result ≡ Ok false → (c : Call) → IsNext c head.now first heap.old.now newly.old walk.old goal → HasNoUnifier c.goal }
+    ensures further { result ≡ Ok true → walk.old.place < walk.new.place }
+    ensures within { result ≡ Ok true → walk.new.place ≤ length head.now }
+    ensures told { (more : List VarId) × (newly.new ≡ newly.old ++ more) }
+    ensures names { OnOk result ((n : ℕ) → All (IsNamedBelow n) head.now → KeepsNames n heap.old.now heap.new.now) }
+    ensures saved { heap.new.saved ≡ heap.old.saved }
+    ensures room { heap.old.room ≤ heap.new.room }
+{
+    let end = end_of(head, walk.place);
+    let part = &head[walk.place..end];
+    walk.met = met_after(part, walk.met);
+    walk.place = end;
+    join_built(heap, newly, part, first, goal)
+}

@@ -1,0 +1,80 @@
+// A goal resolved with a clause.
+
+ghost use Rattle.std.specs.Prelude.{◌≡◌, ◌≢◌, ◌<◌, ◌≤◌, ◌++◌, ℕ, List, length, All, Ok, Some, None};
+ghost use Rattle.spec_terms.specs.Term.{Occurs};
+ghost use Rattle.spec_terms.specs.Unifier.{HasNoUnifier};
+ghost use Rattle.cq_frac.specs.declared.VarId.{VarId};
+ghost use Rattle.cq_term.specs.Meaning.{at};
+ghost use Rattle.cq_term.specs.Shown.{IsUnbound};
+ghost use Rattle.cq_stored.specs.Building.{KeepsNames};
+ghost use Rattle.cq_stored.specs.StoredValue.{HaveNamesBelow};
+ghost use Rattle.cq_resolve.specs.Resolved.{Resolves, call};
+
+use crate::matching::match_head;
+use cq_stored::{Clause, build, new_variables};
+use cq_term::{Heap, Newly, TermId};
+use cq_trail::Undo;
+use std::alloc::AllocError;
+
+/// Makes a goal and the head of a clause equal, whose variables are new ones of the heap, and gives the body; or says
+/// that nothing makes them equal. The head is walked along the goal: it is built only where the goal has an unbound
+/// variable, and the body once the head was matched. A variable of the clause needs no occurs check where it is first
+/// met. Of the variables that get bound those that are older than the clause's are told to `newly` in the order of
+/// their bindings.
+pub fn resolve(
+    clause: &Clause,
+    heap: &mut Heap,
+    newly: &mut Newly,
+    goal: TermId,
+) -> Result<Option<TermId>, AllocError>
+    requires { goal < length heap.old.now.terms }
+    ensures resolved { (body : ℕ) → result ≡ Ok (Some body) → Resolves heap.old.now heap.new.now clause.now goal body newly.old newly.new }
+    ensures none { result ≡ Ok None → HasNoUnifier (call heap.old.now clause.now goal) }
+
+    // Where they are not made equal, by want of memory too, nothing has changed.
+    ensures heap { ((body : ℕ) → result ≢ Ok (Some body)) → heap.new.now ≡ heap.old.now }
+    ensures newly { ((body : ℕ) → result ≢ Ok (Some body)) → newly.new ≡ newly.old }
+
+    ensures names { (n : ℕ) → HaveNamesBelow n clause.now → KeepsNames n heap.old.now heap.new.now }
+    ensures saved { heap.new.saved ≡ heap.old.saved }
+    ensures room { heap.old.room ≤ heap.new.room }
+{
+    heap.reserve(1)?;
+    let start = heap.mark().unwrap();
+    let told = newly.as_slice().len();
+    let outcome = solve(clause, heap, newly, goal);
+    if let Ok(Some(_)) = outcome {
+        heap.forget(start);
+    } else {
+        heap.undo(start);
+        newly.truncate(told);
+    }
+    outcome
+}
+
+/// The same, but for what was made, bound and told before a clash, or before memory ran out.
+fn solve(
+    clause: &Clause,
+    heap: &mut Heap,
+    newly: &mut Newly,
+    goal: TermId,
+) -> Result<Option<TermId>, AllocError>
+    requires { goal < length heap.old.now.terms }
+    ensures resolved { (body : ℕ) → result ≡ Ok (Some body) → Resolves heap.old.now heap.new.now clause.now goal body newly.old newly.new }
+    ensures none { result ≡ Ok None → HasNoUnifier (call heap.old.now clause.now goal) }
+    ensures names { (body : ℕ) → result ≡ Ok (Some body)
+        → (n : ℕ) → HaveNamesBelow n clause.now → KeepsNames n heap.old.now heap.new.now }
+    ensures told { (more : List VarId) × (newly.new ≡ newly.old ++ more) }
+    ensures saved { heap.new.saved ≡ heap.old.saved }
+    ensures room { heap.old.room ≤ heap.new.room }
+{
+    // The view shows that the goal's variables are unbound.
+    let _shown = heap.view(goal);
+    let first = new_variables(heap, clause.variables())?;
+    if match_head(heap, newly, clause.head(), first, goal)? {
+        let body = build(heap, clause.body(), first)?;
+        Ok(Some(body))
+    } else {
+        Ok(None)
+    }
+}

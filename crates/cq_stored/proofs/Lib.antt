@@ -1,0 +1,5 @@
+pub mod Built
+pub mod Named
+pub mod Numbering
+pub mod Reading
+pub mod Renamed

@@ -1,0 +1,13 @@
+//! Terms and clauses that are kept apart from any heap, and put on a heap under new variables.
+#![tactic(auto)]
+
+mod building;
+mod clause;
+mod pattern;
+mod term;
+#[cfg(test)]
+mod tests;
+
+pub use building::{build, new_variables};
+pub use clause::Clause;
+pub use term::StoredTerm;
