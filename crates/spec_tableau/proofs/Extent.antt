@@ -1,34 +1,31 @@
 -- The least upper bound over a solvable list is that over its weak list; what a list entails.
 use Rattle.std.proofs.Common.{◌≡◌, ℕ, List, [], ◌∷◌, pos, refl, ap, sym, subst, ◌∙◌}
-use Rattle.spec_rational.specs.Rational.{ℚ, 0ℚ, ◌-ℚ◌, neg_ℚ, IsPositive, IsNotNegative, ◌<ℚ◌}
+use Rattle.spec_rational.specs.Rational.{ℚ, 0ℚ, neg_ℚ, IsPositive, IsNotNegative, ◌<ℚ◌}
 use Rattle.spec_rational.proofs.Ring.{int, minus}
 use Rattle.spec_rational.proofs.Rational.{ring}
-use Rattle.spec_rational.proofs.Sign.{pos_add, nonneg_add, pos_mul, nonneg_mul, pos_nonneg, pos_one, nonneg_zero, not_pos_zero, Sign, is_pos, is_neg, sign, not_both, nonneg_cases, inv_mul, inv_pos, zero_or_not}
+use Rattle.spec_rational.proofs.Sign.{pos_nonneg, nonneg_zero, Sign, is_pos, is_neg, sign, not_both}
 use Rattle.spec_rational.proofs.Sign as sign_of
 use Rattle.spec_linear.specs.declared.Relation.{Relation}
 use Rattle.spec_linear.specs.declared.Relation.TheVariants.{Eq, Gt, Ge, Ne}
 use Rattle.spec_linear.specs.Form.{Linear, value_at, constant_form, difference_form}
 use Rattle.spec_linear.specs.Solution.{Constraint, number, Meets, Satisfies, Solvable, Unsolvable, Entails}
-use Rattle.spec_linear.proofs.Values.{value_at-negated_form, value_at-difference_form, value_at-constant_form}
+use Rattle.spec_linear.proofs.Values.{value_at-negated_form}
 use Rattle.spec_linear.proofs.Points.{solves_same}
 use Rattle.spec_linear.proofs.Denominators.{solvable_same}
 use Rattle.spec_linear.proofs.Lists.{entails_same}
 use Rattle.spec_inequalities.specs.Weak.{above_zero, weak}
 use Rattle.spec_inequalities.proofs.Far.{weak_satisfied}
-use Rattle.spec_inequalities.proofs.Together.{reached_above}
+use Rattle.spec_inequalities.proofs.Together.{less_is, reached_above}
 use Rattle.spec_extremes.specs.Extremes.{Exceeds, IsSupremum, IsUnbounded}
 use Rattle.spec_tableau.specs.Reach.{Satisfiable, IsGreatest, opposite_of, opposite}
 use Rattle.spec_tableau.proofs.Standing.{x0, pos_not_zero}
-
-pub less_value : (v : ℕ → ℚ) (f : Linear) (r : ℚ) → value_at v (difference_form f (constant_form r)) ≡ value_at v f -ℚ r
-less_value v f r = value_at-difference_form v f (constant_form r) ∙ ap (λ q. value_at v f -ℚ q) (value_at-constant_form v r)
 
 -- what an assignment exceeds, a point exceeds
 exceeds_at : (l : List Constraint) (f : Linear) (r : ℚ) (v : ℕ → ℚ) → Satisfies v l → r <ℚ value_at v f → Exceeds l f r
 exceeds_at l f r v s lt =
     let more : Constraint = above_zero (difference_form f (constant_form r)) in
-    let p = (solvable_same (more ∷ l)).1 (v, (subst IsPositive (sym (less_value v f r)) lt.gap, s)) in
-    (p.0, p.1.1, record { gap = subst IsPositive (less_value (number p.0) f r) ((solves_same p.0 (more ∷ l)).0 p.1).0 })
+    let p = (solvable_same (more ∷ l)).1 (v, (subst IsPositive (sym (less_is v f r)) lt.gap, s)) in
+    (p.0, p.1.1, record { gap = subst IsPositive (less_is (number p.0) f r) ((solves_same p.0 (more ∷ l)).0 p.1).0 })
 
 -- what the weak list exceeds, the list exceeds
 exceeds_over : (l : List Constraint) (f : Linear) (r : ℚ) → Solvable l → (v : ℕ → ℚ) → Satisfies v (weak l) → r <ℚ value_at v f → Exceeds l f r

@@ -11,6 +11,7 @@ use Rattle.spec_tableau.specs.Reach.{Again}
 use Rattle.spec_tableau.specs.Tableau.{right_side, Chosen, Row, Tableau, numbers, Within, AllIn, unit_of, IsWritten, IsFeasible, Changed, Sound, Invariant}
 use Rattle.spec_tableau.proofs.Standing.{x0, clash}
 use Rattle.spec_tableau.proofs.Written.{row_face, nothing_is}
+use Rattle.spec_tableau.proofs.Sample.{none, second}
 use Rattle.spec_tableau.proofs.Steps.{one_of, joined_weak, sound_weak, sound_dropped, joined_again}
 
 -- x, x again as a member's form, and -x
@@ -18,15 +19,6 @@ abbrev pub form : ℕ → Linear
 form zero = variable_form 0
 form (suc zero) = variable_form 0
 form (suc (suc q)) = negated_form (variable_form 0)
-
-abbrev none : ℕ → Bool
-none q = false
-
--- the quantity 1
-abbrev one : ℕ → Bool
-one zero = false
-one (suc zero) = true
-one (suc (suc q)) = false
 
 -- the quantities 1 and 2
 abbrev both : ℕ → Bool
@@ -47,13 +39,13 @@ down (suc (suc q)) = record { constant = 0ℚ; live = []; dropped = record { var
 
 -- x >= 0 told; -x asked; then -x restricted; then the column dropped
 abbrev asked : Tableau
-asked = record { count = 3; form = form; is_restricted = one; is_live = one; is_dropped = none; row = up }
+asked = record { count = 3; form = form; is_restricted = second; is_live = second; is_dropped = none; row = up }
 
 abbrev joined : Tableau
-joined = record { count = 3; form = form; is_restricted = both; is_live = one; is_dropped = none; row = up }
+joined = record { count = 3; form = form; is_restricted = both; is_live = second; is_dropped = none; row = up }
 
 abbrev fallen : Tableau
-fallen = record { count = 3; form = form; is_restricted = both; is_live = none; is_dropped = one; row = down }
+fallen = record { count = 3; form = form; is_restricted = both; is_live = none; is_dropped = second; row = down }
 
 abbrev before : List Constraint
 before = at_least_zero (form 1) ∷ []
@@ -103,12 +95,12 @@ module _ (i : Invariant asked before) (w : IsWritten joined) (x : IsWritten fall
         restricted_only = only;
       }
     where
-      still : (z : ℕ) → one z ≡ true → both z ≡ true
+      still : (z : ℕ) → second z ≡ true → both z ≡ true
       still zero e = e
       still (suc zero) e = refl
       still (suc (suc z)) e = absurd (clash false refl e)
 
-      only : (z : ℕ) → both z ≡ true → Has z (2 ∷ []) ⊎ (one z ≡ true)
+      only : (z : ℕ) → both z ≡ true → Has z (2 ∷ []) ⊎ (second z ≡ true)
       only zero e = absurd (clash false refl e)
       only (suc zero) e = inr refl
       only (suc (suc zero)) e = inl (inl refl)
@@ -120,7 +112,7 @@ module _ (i : Invariant asked before) (w : IsWritten joined) (x : IsWritten fall
         count = omega arith;
         form = λ z h. refl;
         drops_made = λ z k. subst (λ y. y < 3) (sym (one_of _ z k)) (omega arith);
-        drops_each = λ z k. ap one (one_of _ z k);
+        drops_each = λ z k. ap second (one_of _ z k);
         dropped_still = λ z k. absurd (clash false refl k);
         dropped_only = only;
         restricts_made = λ z k. absurd k;
@@ -129,7 +121,7 @@ module _ (i : Invariant asked before) (w : IsWritten joined) (x : IsWritten fall
         restricted_only = λ z k. inr k;
       }
     where
-      only : (z : ℕ) → one z ≡ true → Has z (1 ∷ []) ⊎ (none z ≡ true)
+      only : (z : ℕ) → second z ≡ true → Has z (1 ∷ []) ⊎ (none z ≡ true)
       only zero e = absurd (clash false refl e)
       only (suc zero) e = inl (inl refl)
       only (suc (suc z)) e = absurd (clash false refl e)
@@ -158,7 +150,7 @@ module _ (i : Invariant asked before) (w : IsWritten joined) (x : IsWritten fall
       again k (inl e) = subst (λ c. Again (Within fallen) after c.relation c.form) (sym e) (inl (flat 1 (omega arith) refl refl))
       again k (inr m) = absurd m
 
-made_first : (c : ℕ) → one c ≡ true → c < 3
+made_first : (c : ℕ) → second c ≡ true → c < 3
 made_first zero e = omega arith
 made_first (suc zero) e = omega arith
 made_first (suc (suc c)) e = absurd (clash false refl e)
@@ -172,7 +164,7 @@ made_second (suc (suc (suc c))) e = absurd (clash false refl e)
 -- ---- the premises are met
 module _ (p : ℕ → Bool) (made : (c : ℕ) → p c ≡ true → c < 3) where
   abbrev with_flags : Tableau
-  with_flags = record { count = 3; form = form; is_restricted = p; is_live = one; is_dropped = none; row = up }
+  with_flags = record { count = 3; form = form; is_restricted = p; is_live = second; is_dropped = none; row = up }
 
   own : (v : ℕ → ℚ) → value_at v (variable_form 0) ≡ 0ℚ +ℚ ((1ℚ *ℚ value_at v (form 1) +ℚ 0ℚ) +ℚ 0ℚ)
   own v = ring (value_at v (form 1) ∷ []) x0 (int (pos 0) ⊕ ((int (pos 1) ⊗ x0 ⊕ int (pos 0)) ⊕ int (pos 0))) refl
@@ -196,7 +188,7 @@ module _ (p : ℕ → Bool) (made : (c : ℕ) → p c ≡ true → c < 3) where
           ring (v 0 ∷ []) (minus (int (pos 0)) ⊕ (minus (int (pos 1)) ⊗ x0 ⊕ int (pos 0)))
           (int (pos 0) ⊕ ((minus (int (pos 1)) ⊗ (int (pos 0) ⊕ (int (pos 1) ⊗ x0 ⊕ int (pos 0))) ⊕ int (pos 0)) ⊕ int (pos 0))) refl
 
-      over_live : (q : ℕ) → q < 3 → AllIn one (up q).live
+      over_live : (q : ℕ) → q < 3 → AllIn second (up q).live
       over_live zero h = (refl, tt)
       over_live (suc zero) h = (refl, tt)
       over_live (suc (suc q)) h = (refl, tt)
@@ -209,7 +201,7 @@ module _ (p : ℕ → Bool) (made : (c : ℕ) → p c ≡ true → c < 3) where
       choose : (y : ℕ → ℚ) → Chosen with_flags y
       choose y = record { at = λ x. y 1; live = live; dropped = λ c e. absurd (clash false refl e) }
         where
-          live : (c : ℕ) → one c ≡ true → numbers with_flags (λ x. y 1) c ≡ y c
+          live : (c : ℕ) → second c ≡ true → numbers with_flags (λ x. y 1) c ≡ y c
           live zero e = absurd (clash false refl e)
           live (suc zero) e = ring (y 1 ∷ []) (int (pos 0) ⊕ (int (pos 1) ⊗ x0 ⊕ int (pos 0))) x0 refl
           live (suc (suc c)) e = absurd (clash false refl e)
@@ -241,7 +233,7 @@ written_fallen =
     over_live (suc zero) h = tt
     over_live (suc (suc q)) h = tt
 
-    over_dropped : (q : ℕ) → q < 3 → AllIn one (down q).dropped
+    over_dropped : (q : ℕ) → q < 3 → AllIn second (down q).dropped
     over_dropped zero h = (refl, tt)
     over_dropped (suc zero) h = (refl, tt)
     over_dropped (suc (suc q)) h = (refl, tt)
@@ -249,7 +241,7 @@ written_fallen =
     choose : (y : ℕ → ℚ) → Chosen fallen y
     choose y = record { at = λ x. 0ℚ; live = λ c e. absurd (clash false refl e); dropped = gone }
       where
-        gone : (c : ℕ) → one c ≡ true → numbers fallen (λ x. 0ℚ) c ≡ 0ℚ
+        gone : (c : ℕ) → second c ≡ true → numbers fallen (λ x. 0ℚ) c ≡ 0ℚ
         gone zero e = absurd (clash false refl e)
         gone (suc zero) e = ring [] (int (pos 0) ⊕ (int (pos 1) ⊗ int (pos 0) ⊕ int (pos 0))) (int (pos 0)) refl
         gone (suc (suc c)) e = absurd (clash false refl e)
@@ -267,10 +259,10 @@ begun = record {
 }
 
 asked_kept : Invariant asked before
-asked_kept = joined_weak (with_flags none (λ c e. absurd (clash false refl e))) asked [] begun 1 (omega arith) changed (written one made_first) feasible
+asked_kept = joined_weak (with_flags none (λ c e. absurd (clash false refl e))) asked [] begun 1 (omega arith) changed (written second made_first) feasible
     ((λ x. 1ℚ), (subst IsPositive (ring [] (int (pos 1)) (int (pos 0) ⊕ (int (pos 1) ⊗ int (pos 1) ⊕ int (pos 0))) refl) pos_one, tt))
   where
-    only : (z : ℕ) → one z ≡ true → z ≡ 1
+    only : (z : ℕ) → second z ≡ true → z ≡ 1
     only zero e = absurd (clash false refl e)
     only (suc zero) e = refl
     only (suc (suc z)) e = absurd (clash false refl e)
@@ -285,7 +277,7 @@ asked_kept = joined_weak (with_flags none (λ c e. absurd (clash false refl e)))
           dropped_still = λ z k. k;
           dropped_only = λ z k. inr k;
           restricts_made = λ z k. subst (λ y. y < 3) (sym (one_of _ z k)) (omega arith);
-          restricts_each = λ z k. ap one (one_of _ z k);
+          restricts_each = λ z k. ap second (one_of _ z k);
           restricted_still = λ z k. absurd (clash false refl k);
           restricted_only = λ z k. inl (inl (only z k));
         }
@@ -293,12 +285,12 @@ asked_kept = joined_weak (with_flags none (λ c e. absurd (clash false refl e)))
     feasible : IsFeasible asked
     feasible = record { constants = constants; columns = columns }
       where
-        constants : (q : ℕ) → q < 3 → one q ≡ true → IsNotNegative (up q).constant
+        constants : (q : ℕ) → q < 3 → second q ≡ true → IsNotNegative (up q).constant
         constants zero h r = nonneg_zero
         constants (suc zero) h r = nonneg_zero
         constants (suc (suc q)) h r = nonneg_zero
 
-        columns : (q : ℕ) → q < 3 → one q ≡ true → AllIn one (up q).live
+        columns : (q : ℕ) → q < 3 → second q ≡ true → AllIn second (up q).live
         columns zero h r = (refl, tt)
         columns (suc zero) h r = (refl, tt)
         columns (suc (suc q)) h r = (refl, tt)

@@ -19,14 +19,13 @@ use Rattle.spec_linear.specs.declared.Relation.TheVariants.{Eq, Gt, Ge, Ne}
 use Rattle.spec_linear.specs.Form.{Linear, value_at}
 use Rattle.spec_linear.specs.Solution.{Constraint, Satisfies, Has}
 use Rattle.spec_inequalities.specs.Weak.{weak}
-use Rattle.spec_inequalities.proofs.Far.{Weakly, weak_member}
-use Rattle.spec_tableau.proofs.Standing.{weakly_one}
+use Rattle.spec_inequalities.proofs.Far.{Weakly, with_weak-made, weak_member}
 use Rattle.spec_tableau.specs.Reach.{Rises, Stands, SameMembers}
 use Rattle.spec_tableau.specs.Tableau.{Tableau, Within, Owned, Sound, Invariant}
 
 weakly_each : (v : ℕ → ℚ) (m : List Constraint) → ((c : Constraint) → Has c m → Weakly c.relation (value_at v c.form)) → Satisfies v (weak m)
 weakly_each v [] h = tt
-weakly_each v (c ∷ m) h = weakly_one v c.relation c.form (weak m) (h c (inl refl)) (weakly_each v m (λ k i. h k (inr i)))
+weakly_each v (c ∷ m) h = with_weak-made v c.relation c.form (weak m) (h c (inl refl)) (weakly_each v m (λ k i. h k (inr i)))
 
 pub weak_there : (l m : List Constraint) → SameMembers l m → (v : ℕ → ℚ) → Satisfies v (weak l) → Satisfies v (weak m)
 weak_there l m s v h = weakly_each v m (λ c i. weak_member v l c (s.back c i) h)

@@ -19,14 +19,15 @@ form zero = variable_form 0
 form (suc zero) = record { products = unit_of 0; constant = neg_ℚ 1ℚ }
 form (suc (suc q)) = record { products = []; constant = 0ℚ }
 
-abbrev none : ℕ → Bool
+abbrev pub none : ℕ → Bool
 none q = false
 
 abbrev first : ℕ → Bool
 first zero = true
 first (suc q) = false
 
-abbrev second : ℕ → Bool
+-- the quantity 1
+abbrev pub second : ℕ → Bool
 second zero = false
 second (suc zero) = true
 second (suc (suc q)) = false

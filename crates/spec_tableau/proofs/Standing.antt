@@ -11,9 +11,9 @@ use Rattle.spec_linear.specs.declared.Relation.TheVariants.{Eq, Gt, Ge, Ne}
 use Rattle.spec_linear.specs.Form.{Linear, value_at}
 use Rattle.spec_linear.specs.Solution.{Constraint, Satisfies, Has, Solvable}
 use Rattle.spec_linear.proofs.Denominators.{solvable_same}
-use Rattle.spec_inequalities.specs.Weak.{above_zero, not_zero, with_weak, weak}
+use Rattle.spec_inequalities.specs.Weak.{above_zero, not_zero, weak}
 use Rattle.spec_inequalities.proofs.Eventually.{Eventually, both, from_zero, rises}
-use Rattle.spec_inequalities.proofs.Far.{Weakly, weak_member, far, meets_far, weak_far}
+use Rattle.spec_inequalities.proofs.Far.{Weakly, with_weak-made, weak_member, far, meets_far, weak_far}
 use Rattle.spec_inequalities.proofs.Together.{met_together}
 use Rattle.spec_tableau.specs.Reach.{Satisfiable, IsFlat, Moves, Stands, Kept}
 
@@ -31,12 +31,6 @@ pos_not_zero h e = not_pos_zero (subst IsPositive e h)
 
 pub clash : (b : Bool) → b ≡ false → b ≡ true → ⊥
 clash b e f = cc
-
-pub weakly_one : (v : ℕ → ℚ) (r : Relation) (f : Linear) (m : List Constraint) → Weakly r (value_at v f) → Satisfies v m → Satisfies v (with_weak r f m)
-weakly_one v Eq f m h s = (h, s)
-weakly_one v Gt f m h s = (h, s)
-weakly_one v Ge f m h s = (h, s)
-weakly_one v Ne f m h s = s
 
 -- ---- points between two solutions of the weak list
 pub positive_far : (t : ℚ) (b w : ℕ → ℚ) (f : Linear) → IsNotNegative t → IsNotNegative (value_at b f) → IsPositive (value_at w f) →
@@ -128,7 +122,7 @@ module _ (A : (ℕ → ℚ) → Type 0) (l : List Constraint) (k : Kept A l) whe
         record {
           from = e.from;
           holds =
-              λ t le. let o = e.holds t le in (o.1.0, weakly_one (far t b w) c.relation c.form (weak m) (weakly_far t b w c.relation c.form o.1.0 o.0) o.1.1);
+              λ t le. let o = e.holds t le in (o.1.0, with_weak-made (far t b w) c.relation c.form (weak m) (weakly_far t b w c.relation c.form o.1.0 o.0) o.1.1);
         }
 
   -- what moves in A is not zero at some solution of the weak list

@@ -4,7 +4,7 @@ use Rattle.spec_rational.specs.Rational.{ℚ, 0ℚ, 1ℚ, ◌+ℚ◌, ◌-ℚ◌
 use Rattle.spec_rational.specs.Sums.{Monomial, sum_at, when, unit, factor_of}
 use Rattle.spec_rational.proofs.Ring.{var, int, ◌⊕◌, ◌⊗◌, minus}
 use Rattle.spec_rational.proofs.Rational.{ring}
-use Rattle.spec_rational.proofs.Sign.{pos_add, nonneg_add, pos_mul, nonneg_mul, pos_nonneg, pos_one, nonneg_zero, not_pos_zero, Sign, is_pos, is_neg, sign, not_both, nonneg_cases, inv_mul, inv_pos, zero_or_not}
+use Rattle.spec_rational.proofs.Sign.{pos_add, nonneg_add, nonneg_mul, pos_nonneg, pos_one, nonneg_zero, Sign, is_pos, is_neg, sign, nonneg_cases, inv_mul, inv_pos}
 use Rattle.spec_rational.proofs.Sign as sign_of
 use Rattle.spec_rational.proofs.Sums.{sum_at-times, sum_at-nowhere, factor_of-is}
 use Rattle.spec_linear.specs.declared.Relation.{Relation}
@@ -17,10 +17,11 @@ use Rattle.spec_linear.proofs.Denominators.{solvable_same}
 use Rattle.spec_linear.proofs.Lists.{fixed_same}
 use Rattle.spec_inequalities.specs.Weak.{above_zero, at_least_zero, not_zero, with_weak, weak}
 use Rattle.spec_inequalities.proofs.Far.{weak_satisfied, weak_member}
+use Rattle.spec_inequalities.proofs.Together.{less_is}
 use Rattle.spec_tableau.specs.Reach.{equals_zero, Rises, IsFlat, Moves, Stands, Kept, IsGreatest}
 use Rattle.spec_tableau.specs.Tableau.{Tableau, numbers, Within, AllIn, Chosen, IsWritten, Place, IsNothing, IsSomething, by_constant, by_entry, Placed, Shown, Held, Owned, Sound, Invariant, EachTermZero, IsOptimal, IsUnlimited}
 use Rattle.spec_tableau.proofs.Standing.{x0, x1, x2, solvable, satisfiable, pos_not_zero, clash}
-use Rattle.spec_tableau.proofs.Extent.{Grows, less_value}
+use Rattle.spec_tableau.proofs.Extent.{Grows}
 use Rattle.spec_tableau.proofs.Join.{keep_apart}
 
 -- ---- sums over columns
@@ -370,13 +371,13 @@ module _ (d : Tableau) (l : List Constraint) (j : Invariant d l) where
           let m : Moves (Within d) (difference_form (variable_form x) (constant_form r)) = record {
             at = v;
             inside = w;
-            apart = λ e. a (ap (value_at v) p.form_is ∙ back (value_at v (variable_form x)) (sym (less_value v (variable_form x) r) ∙ e));
+            apart = λ e. a (ap (value_at v) p.form_is ∙ back (value_at v (variable_form x)) (sym (less_is v (variable_form x) r) ∙ e));
           } in
           let s = satisfiable (Within d) (not_zero (difference_form (variable_form x) (constant_form r)) ∷ l)
           (keep_apart (Within d) l (difference_form (variable_form x) (constant_form r)) kept_of m) in (
             s.0,
             s.1.1,
-            λ e. s.1.0 (less_value s.0 (variable_form x) r ∙ ap (λ b. b -ℚ r) (variable_is x s.0 ∙ e)
+            λ e. s.1.0 (less_is s.0 (variable_form x) r ∙ ap (λ b. b -ℚ r) (variable_is x s.0 ∙ e)
                 ∙ ring (r ∷ []) (x0 ⊕ minus x0) (int (pos 0)) refl),
           )
         where
