@@ -1,5 +1,5 @@
 -- What ?- {X>0}, X=a. writes: a numeric variable becomes no atom.
-use Rattle.std.proofs.Common.{◌≡◌, ℕ, List, [], ◌∷◌, ◌++◌, ℤ, pos, None, inl, codes, arith, refl, sym, ap, ◌∙◌}
+use Rattle.std.proofs.Common.{◌≡◌, ℕ, List, [], ◌∷◌, pos, inl, codes, refl, sym, ap, ◌∙◌}
 use Rattle.std.specs.Char.{encode_utf8}
 use Rattle.std.specs.Str.{chars, is_utf8}
 use Rattle.spec_rational.specs.Gcd.{gcd}
@@ -7,30 +7,29 @@ use Rattle.spec_rational.specs.Rational.{ℚ, ratio, int_ℚ, neg_ℚ, inv_ℚ, 
 use Rattle.spec_rational.proofs.Sign.{pos_one, pos_add, pos_nonneg}
 use Rattle.spec_linear.specs.declared.Relation.TheVariants.{Gt}
 use Rattle.spec_linear.specs.Form.{variable_form, constant_form, difference_form}
-use Rattle.spec_linear.specs.Solution.{Constraint, Point, Solves, Fixed, Fixes}
-use Rattle.spec_echelon.proofs.Solving.{solvable}
+use Rattle.spec_linear.specs.Solution.{Constraint, Solves, Fixed, Fixes}
+use Rattle.spec_linear.proofs.Points.{all_at}
 use Rattle.spec_grammar.specs.Characters.{first_char}
 use Rattle.spec_syntax.specs.Grammar.{use_of, begins_term}
 use Rattle.spec_syntax.specs.Trees.{Tree}
-use Rattle.spec_syntax.specs.TextTokens.{VariableName}
 use Rattle.spec_terms.specs.Term.{Subst, Var, identity, single, followed_by}
 use Rattle.spec_terms.specs.Unifier.{IsUnifier}
 use Rattle.spec_built.specs.Built.{natural, atom, compound2}
 use Rattle.spec_builtins.specs.Alternatives.{◌≐◌}
 use Rattle.spec_told.specs.Relations.{Is, lin}
 use Rattle.spec_branch.specs.Branch.{Item, Goal, Pending, Branch, Unsettled, no_work}
-use Rattle.spec_branch.specs.Closure.{IsMove, no_move, move}
-use Rattle.spec_branch.specs.Settling.{Settling, Settles, unified, clash, kept, Kept, Pruned, Clash, kept_branch}
+use Rattle.spec_branch.specs.Settling.{Settles, unified, clash, kept, Kept, Pruned, Clash, kept_branch}
+use Rattle.spec_branch.specs.Alike.{no_values}
 use Rattle.spec_search.specs.Database.{initial}
 use Rattle.spec_search.specs.Search.{Search, empty_state}
 use Rattle.spec_search.specs.Turns as turn
 use Rattle.spec_transcript.specs.Purposes.{Input}
 use Rattle.spec_transcript.specs.Session as session
-use Rattle.spec_transcript.specs.Session.{Reader, AQuery, Opening, Searching, PlainLine}
+use Rattle.spec_transcript.specs.Session.{Reader, AQuery, Opening, Searching, plain_line}
 use Rattle.spec_lists.specs.Texts.{Text}
 use Rattle.spec_examples.specs.Rows.{some_goals, no_files, Writes}
 use Rattle.spec_examples.proofs.Unify.{no_pairs, bound}
-use Rattle.spec_examples.proofs.Equation.{no_value, empty_solved, fixes_nothing}
+use Rattle.spec_examples.proofs.Told.{x_alone, telling, unsettled, search_of, settling}
 use Rattle.spec_examples.proofs.Walk.{walk, further, onward, finished}
 
 abbrev inequality : Tree
@@ -39,13 +38,10 @@ inequality = compound2 ">" (Var 0) (natural 0)
 abbrev row : Constraint
 row = record { relation = Gt; form = difference_form (variable_form 0) (constant_form (int_ℚ (pos 0))) }
 
-row_is : lin no_value inequality ≡ Is row
+row_is : lin no_values inequality ≡ Is row
 row_is = refl
 
 -- ---- X may be 1 and 2
-
-all_at : ℤ → Point
-all_at n = record { denominator = 1; positive = omega arith; numerator = λ x. n }
 
 holds_at_one : Solves (all_at (pos 1)) (row ∷ [])
 unfolding all_at ratio int_ℚ neg_ℚ gcd ◌+ℚ◌ ◌*ℚ◌
@@ -63,51 +59,20 @@ not_fixed : (x : ℕ) (q : ℚ) → Fixed (row ∷ []) x q → ⊥
 unfolding all_at
 not_fixed x q f = one_is_not_two (f.always (all_at (pos 1)) holds_at_one ∙ sym (f.always (all_at (pos 2)) holds_at_two))
 
-fixes : Fixes (row ∷ []) no_value
+fixes : Fixes (row ∷ []) no_values
 fixes = record { sound = λ x q e. cc; complete = λ x q f. absurd (not_fixed x q f) }
 
 -- ---- the inequality joins
 
-abbrev work : Pending
-work = record no_work { told = inequality ∷ [] }
-
 abbrev behind : List Item
 behind = Goal (compound2 "=" (Var 0) (atom "a")) 0 ∷ []
 
-none_after : (earlier later : List Tree) (t : Tree) → [] ≡ earlier ++ t ∷ later → ⊥
-none_after [] later t e = cc
-none_after (u ∷ us) later t e = cc
-
-moved : IsMove identity [] (inequality ∷ []) (row ∷ []) []
-moved = record {
-  before = [];
-  term = inequality;
-  after = [];
-  among = refl;
-  solvable = solvable [] [] (λ x. None) empty_solved;
-  result = Is row;
-  is_lin = record { fixed = no_value; fixes = fixes_nothing; is = row_is };
-  row = row;
-  row_is = refl;
-  joins = refl;
-  leaves = refl;
-}
-
-settling : Settling (empty_state 1) work identity
-settling = record {
-  equations = [];
-  each_newly_bound = record { moves = []; below = tt; is = refl };
-  linear = row ∷ [];
-  waiting = [];
-  closure = record { moves = move moved no_move; closed = λ m x h. none_after h.before h.after h.term h.among };
-}
-
 abbrev branch : Branch
-branch = kept_branch behind (empty_state 1) work identity (row ∷ []) [] no_value
+branch = kept_branch behind (empty_state 1) (telling inequality) identity (row ∷ []) [] no_values
 
-settles : Settles behind (empty_state 1) work (Kept branch)
+settles : Settles behind (empty_state 1) (telling inequality) (Kept branch)
 unfolding settling
-settles = unified identity no_pairs (kept (λ v e. cc) settling (all_at (pos 1), holds_at_one) no_value fixes)
+settles = unified identity no_pairs (kept (λ v e. cc) (settling inequality row row_is) (all_at (pos 1), holds_at_one) no_values fixes)
 
 -- ---- the atom clashes
 
@@ -128,17 +93,14 @@ clashes = unified unifier_of binds (clash (record { variable = 0; numeric = refl
 abbrev text : Text
 text = codes "?- {X>0}, X=a."
 
-abbrev names : List VariableName
-names = record { name = codes "X"; number = 0 } ∷ []
-
 abbrev told : Search
-told = record { database = initial; branches = record { items = behind; state = empty_state 1; phase = Unsettled work } ∷ []; selected = 2 }
+told = search_of (unsettled behind (telling inequality) 1) 2
 
 abbrev holds : Search
-holds = record told { branches = branch ∷ [] }
+holds = search_of branch 2
 
 abbrev bound_too : Search
-bound_too = record told { branches = record { items = []; state = branch.state; phase = Unsettled binding } ∷ []; selected = 3 }
+bound_too = search_of (record { items = []; state = branch.state; phase = Unsettled binding }) 3
 
 abbrev pruned : Search
 pruned = record bound_too { branches = [] }
@@ -153,7 +115,7 @@ clash_row =
     (onward some_goals no_files text (Opening initial [])
     (further some_goals no_files text (Opening initial [])
     (onward some_goals no_files text (Opening initial [])
-    (further some_goals no_files text (Opening initial []) (walk some_goals no_files text []) [] PlainLine (Searching holds (AQuery names 10) here)
+    (further some_goals no_files text (Opening initial []) (walk some_goals no_files text []) [] plain_line (Searching holds (AQuery x_alone 10) here)
     (session.turns {s = told} {t = holds} (inl refl) (turn.keeps refl settles))))
-    [] PlainLine (Searching pruned (AQuery names 10) here) (session.turns {s = bound_too} {t = pruned} (inl refl) (turn.prunes refl clashes refl))))
+    [] plain_line (Searching pruned (AQuery x_alone 10) here) (session.turns {s = bound_too} {t = pruned} (inl refl) (turn.prunes refl clashes refl))))
     refl refl

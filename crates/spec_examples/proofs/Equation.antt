@@ -9,12 +9,13 @@ use Rattle.spec_linear.specs.Form.{Linear, constant_form, variable_form, sum_for
 use Rattle.spec_linear.specs.Solution.{Constraint, HoldsAt, Satisfies, MentionsOnly, Fixes}
 use Rattle.spec_linear.proofs.Values.{value_at-constant_form, value_at-variable_form, value_at-sum_form, value_at-scaled_form, value_at-difference_form}
 use Rattle.spec_echelon.specs.Echelon.{IsBefore}
-use Rattle.spec_echelon.specs.SolvedForm.{IsSolvedForm, Agrees}
+use Rattle.spec_echelon.specs.SolvedForm.{IsSolvedForm, Agrees, number_in}
+use Rattle.spec_echelon.proofs.Values.{solved_form_fixes}
 use Rattle.spec_terms.specs.Term.{Var}
 use Rattle.spec_syntax.specs.Trees.{Tree}
 use Rattle.spec_built.specs.Built.{natural, compound2}
 use Rattle.spec_told.specs.Relations.{Is, lin, related, Equals}
-use Rattle.spec_examples.proofs.Values.{number_in, solved_form_fixes}
+use Rattle.spec_branch.specs.Alike.{no_values}
 
 abbrev pub equation : Tree
 equation = compound2 "=" (compound2 "+" (compound2 "*" (natural 2) (Var 0)) (natural 3)) (natural 7)
@@ -34,10 +35,7 @@ left = sum_form (scaled_form two (variable_form 0)) (constant_form three)
 abbrev pub row : Constraint
 row = related Equals left (constant_form seven)
 
-abbrev pub no_value : ℕ → Option ℚ
-no_value x = None
-
-pub row_is : lin no_value equation ≡ Is row
+pub row_is : lin no_values equation ≡ Is row
 row_is = refl
 
 row_value : (a : ℕ → ℚ) → value_at a row.form ≡ (two *ℚ a 0 +ℚ three) -ℚ seven
@@ -105,16 +103,3 @@ fixed x = number_in (two_at x)
 
 pub fixes : Fixes (row ∷ []) fixed
 fixes = solved_form_fixes (0 ∷ []) (row ∷ []) two_at solved
-
--- nothing is fixed before
-pub empty_solved : IsSolvedForm [] [] (λ x. None)
-empty_solved = record {
-  distinct = tt;
-  known = λ x h. h;
-  before = λ x f e. cc;
-  free = λ x y f e h. refl;
-  same = λ a. (λ h x f e. cc, λ h. tt);
-}
-
-pub fixes_nothing : Fixes [] (λ x. None)
-fixes_nothing = solved_form_fixes [] [] (λ x. None) empty_solved

@@ -2,7 +2,7 @@ pub mod Unify
 pub mod Read
 pub mod Settled
 pub mod Walk
-pub mod Values
+pub mod Told
 pub mod Equation
 pub mod Value
 pub mod Delayed

@@ -10,6 +10,7 @@ use Rattle.spec_rational.proofs.Rational.{ℚ_same}
 use Rattle.spec_lists.specs.Texts.{Text}
 use Rattle.spec_terms.specs.Term.{Terms, Subst, Var, Number, Name, Compound, one, more, apply, apply_all, identity, single, followed_by, Occurs, OccursIn}
 use Rattle.spec_terms.specs.Unifier.{Equation, Equates, IsUnifier, HasNoUnifier, read_under}
+use Rattle.spec_terms.proofs.Unifiers.{equates_under}
 use Rattle.spec_terms.proofs.Substitution.{apply-followed_by, apply-single_absent, apply-single_instance, single_same, single_other, occurs_clash}
 use Rattle.spec_syntax.specs.Trees.{Tree}
 use Rattle.spec_builtins.specs.Alternatives.{◌≐◌}
@@ -42,10 +43,6 @@ pub turned : (l r : Tree) (es : List (Equation Text)) (s : Subst Text) → Equat
 turned l r es s = (λ h. (sym h.0, h.1), λ h. (sym h.0, h.1))
 
 -- ---- a variable bound to a term in which it does not stand
-
-pub equates_under : (s u : Subst Text) (es : List (Equation Text)) → Equates u (read_under s es) → Equates (followed_by s u) es
-equates_under s u [] h = tt
-equates_under s u (e ∷ es) h = (apply-followed_by s u e.left ∙ h.0 ∙ sym (apply-followed_by s u e.right), equates_under s u es h.1)
 
 pub under_equates : (v : ℕ) (t : Tree) (s : Subst Text) (es : List (Equation Text)) → s v ≡ apply s t → Equates s es → Equates s (read_under (single v t) es)
 under_equates v t s [] e h = tt

@@ -1,10 +1,10 @@
 -- What ?- {2*X+3=7}. writes.
-use Rattle.std.proofs.Common.{◌≡◌, ℕ, List, [], ◌∷◌, ◌++◌, None, inl, inr, codes, refl}
+use Rattle.std.proofs.Common.{ℕ, [], ◌∷◌, ◌++◌, inl, inr, codes, refl}
 use Rattle.std.specs.Char.{encode_utf8}
 use Rattle.std.specs.Str.{chars, is_utf8}
 use Rattle.spec_rational.specs.Gcd.{gcd}
 use Rattle.spec_rational.specs.Rational.{ratio, int_ℚ, neg_ℚ, inv_ℚ, ◌+ℚ◌, ◌*ℚ◌}
-use Rattle.spec_linear.specs.Solution.{Constraint, Has, SomeMentions}
+use Rattle.spec_linear.specs.Solution.{Has, SomeMentions}
 use Rattle.spec_echelon.specs.SolvedForm.{rows_of}
 use Rattle.spec_echelon.proofs.Solving.{solvable, echelon, same-rows}
 use Rattle.spec_operators.specs.Standard.{standard}
@@ -13,71 +13,37 @@ use Rattle.spec_syntax.specs.Grammar.{use_of, begins_term}
 use Rattle.spec_syntax.specs.Writing.{is_bare_right, is_bare_left, is_bare_argument, needs_quotes, is_spaced, infix_token}
 use Rattle.spec_writing.specs.Pieces.{pieces_at, argument_pieces}
 use Rattle.spec_writing.specs.Texts.{name_text, is_apart}
-use Rattle.spec_syntax.specs.Trees.{Tree}
-use Rattle.spec_syntax.specs.TextTokens.{VariableName}
 use Rattle.spec_terms.specs.Term.{identity}
-use Rattle.spec_told.specs.Relations.{Is}
 use Rattle.spec_projection.specs.Others.{AreOthers}
-use Rattle.spec_branch.specs.Branch.{Pending, Branch, Unsettled, no_work}
-use Rattle.spec_branch.specs.Closure.{IsMove, no_move, move, IsClosure}
-use Rattle.spec_branch.specs.Settling.{Settling, Settles, unified, kept, Kept, kept_branch}
+use Rattle.spec_branch.specs.Branch.{Branch}
+use Rattle.spec_branch.specs.Settling.{Settles, unified, kept, Kept, kept_branch}
 use Rattle.spec_answers.specs.Rows.{no_rows}
 use Rattle.spec_answers.specs.Answer.{AnswerForm}
 use Rattle.spec_answers.proofs.Plain.{keeps_nothing}
 use Rattle.spec_search.specs.Database.{initial}
 use Rattle.spec_search.specs.Search.{Search, empty_state}
 use Rattle.spec_search.specs.Turns as turn
-use Rattle.spec_search.specs.Turns.{Turn, Wrote, Answered}
 use Rattle.spec_transcript.specs.Purposes.{Input, answer_end}
 use Rattle.spec_transcript.specs.Session as session
-use Rattle.spec_transcript.specs.Session.{Reader, AQuery, Opening, Searching, PlainLine}
+use Rattle.spec_transcript.specs.Session.{Reader, AQuery, Opening, Searching, plain_line}
 use Rattle.spec_lists.specs.Texts.{Text}
+use Rattle.spec_lists.proofs.Places.{nothing_within}
 use Rattle.spec_examples.specs.Rows.{some_goals, no_files, Writes}
 use Rattle.spec_examples.proofs.Unify.{no_pairs}
-use Rattle.spec_examples.proofs.Equation.{equation, row, row_is, no_value, two_at, solved, fixed, fixes, empty_solved, fixes_nothing}
+use Rattle.spec_examples.proofs.Equation.{equation, row, row_is, two_at, solved, fixed, fixes}
+use Rattle.spec_examples.proofs.Told.{x_alone, telling, unsettled, search_of, settling}
 use Rattle.spec_examples.proofs.Walk.{walk, further, onward, finished}
 
 -- ---- settling
 
-abbrev work : Pending
-work = record no_work { told = equation ∷ [] }
-
-none_after : (earlier later : List Tree) (t : Tree) → [] ≡ earlier ++ t ∷ later → ⊥
-none_after [] later t e = cc
-none_after (u ∷ us) later t e = cc
-
-moved : IsMove identity [] (equation ∷ []) (row ∷ []) []
-moved = record {
-  before = [];
-  term = equation;
-  after = [];
-  among = refl;
-  solvable = solvable [] [] (λ x. None) empty_solved;
-  result = Is row;
-  is_lin = record { fixed = no_value; fixes = fixes_nothing; is = row_is };
-  row = row;
-  row_is = refl;
-  joins = refl;
-  leaves = refl;
-}
-
-closure : IsClosure identity [] (equation ∷ []) (row ∷ []) []
-closure = record { moves = move moved no_move; closed = λ m x h. none_after h.before h.after h.term h.among }
-
-settling : Settling (empty_state 1) work identity
-settling = record { equations = []; each_newly_bound = record { moves = []; below = tt; is = refl }; linear = row ∷ []; waiting = []; closure = closure }
-
 abbrev branch : Branch
-branch = kept_branch [] (empty_state 1) work identity (row ∷ []) [] fixed
+branch = kept_branch [] (empty_state 1) (telling equation) identity (row ∷ []) [] fixed
 
-settles : Settles [] (empty_state 1) work (Kept branch)
+settles : Settles [] (empty_state 1) (telling equation) (Kept branch)
 unfolding settling
-settles = unified identity no_pairs (kept (λ v e. cc) settling (solvable (0 ∷ []) (row ∷ []) two_at solved) fixed fixes)
+settles = unified identity no_pairs (kept (λ v e. cc) (settling equation row row_is) (solvable (0 ∷ []) (row ∷ []) two_at solved) fixed fixes)
 
 -- ---- the answer
-
-abbrev names : List VariableName
-names = record { name = codes "X"; number = 0 } ∷ []
 
 -- X is solved for before the targets, of which there are none
 others : AreOthers [] (row ∷ []) (0 ∷ [])
@@ -93,7 +59,7 @@ others = record { youngest_first = tt; others = λ x. (λ h. (stands x h, λ nev
     has x (inl (inr never)) = absurd never
     has x (inr never) = absurd never
 
-answer : AnswerForm standard names branch.state (codes "X = 2\n")
+answer : AnswerForm standard x_alone branch.state (codes "X = 2\n")
 unfolding encode_utf8 chars is_utf8 first_char ratio int_ℚ gcd neg_ℚ ◌*ℚ◌ ◌+ℚ◌ is_bare_right is_bare_left is_bare_argument needs_quotes is_spaced infix_token pieces_at argument_pieces name_text is_apart
 answer = record {
   front = 0 ∷ [];
@@ -106,7 +72,7 @@ answer = record {
     projected = record {
       echelon = echelon (0 ∷ []) (row ∷ []) two_at solved (0 ∷ []) [] refl;
       unsolved = λ c h. absurd h;
-      irredundant = λ k m c e follows. none_left k m c e;
+      irredundant = λ k m c e follows. nothing_within k m c e;
       strict = λ c h. absurd h;
       same = same-rows (0 ∷ []) (row ∷ []) two_at solved (0 ∷ []) [] refl;
     };
@@ -117,10 +83,6 @@ answer = record {
   };
   lines = refl;
 }
-  where
-    none_left : (k m : List Constraint) (c : Constraint) → [] ≡ k ++ c ∷ m → ⊥
-    none_left [] m c e = cc
-    none_left (d ∷ k) m c e = cc
 
 -- ---- the transcript
 
@@ -128,10 +90,10 @@ abbrev text : Text
 text = codes "?- {2*X+3=7}."
 
 abbrev told : Search
-told = record { database = initial; branches = record { items = []; state = empty_state 1; phase = Unsettled work } ∷ []; selected = 1 }
+told = search_of (unsettled [] (telling equation) 1) 1
 
 abbrev holds : Search
-holds = record told { branches = branch ∷ [] }
+holds = search_of branch 1
 
 abbrev shown : Search
 shown = record told { branches = [] }
@@ -145,7 +107,7 @@ value_row =
     finished some_goals no_files text []
     (onward some_goals no_files text (Opening initial [])
     (further some_goals no_files text (Opening initial [])
-    (further some_goals no_files text (Opening initial []) (walk some_goals no_files text []) [] PlainLine (Searching holds (AQuery names 10) here)
+    (further some_goals no_files text (Opening initial []) (walk some_goals no_files text []) [] plain_line (Searching holds (AQuery x_alone 10) here)
     (session.turns {s = told} {t = holds} (inl refl) (turn.keeps refl settles)))
-    (codes "X = 2\n" ++ answer_end) PlainLine (Searching shown (AQuery names 9) here) (session.answers {s = holds} {t = shown} {n = 8} (turn.answers refl) answer)))
+    (codes "X = 2\n" ++ answer_end) plain_line (Searching shown (AQuery x_alone 9) here) (session.answers {s = holds} {t = shown} {n = 8} (turn.answers refl) answer)))
     refl refl

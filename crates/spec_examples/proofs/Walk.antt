@@ -29,10 +29,10 @@ use Rattle.spec_search.specs.Search as looks
 use Rattle.spec_search.specs.Search.{Search, Look, look_at, is_selecting, gather}
 use Rattle.spec_search.specs.Turns as turn
 use Rattle.spec_search.specs.Turns.{Turn, place_of, after_removal, after_step, after_ball, with_branches}
-use Rattle.spec_stops.specs.Causes.{Budgets, Resolutions, Overflow, stop_line}
+use Rattle.spec_stops.specs.Causes.{Budgets, Resolutions, Overflow, stop_text}
 use Rattle.spec_transcript.specs.Purposes.{Source, File, Input, Purpose, Directive, Initialization, Query, Fact, purpose, once, answer_end, no_line, more_line, ball_line, syntax_line}
 use Rattle.spec_transcript.specs.Session as session
-use Rattle.spec_transcript.specs.Session.{Asked, Reader, beginning, Asker, ADirective, AQuery, Session, Opening, Reading, Searching, Over, Mark, PlainLine, ErrorLine, StopLine, Marks, no_marks, marked, begun, names_from, MayGo, refusal_ball, Step, Runs, none, then, Transcript}
+use Rattle.spec_transcript.specs.Session.{Asked, Reader, beginning, Asker, ADirective, AQuery, Session, Opening, Reading, Searching, Over, Mark, plain_line, error_line, stop_line, Marks, unmarked, marked, begun, names_from, MayGo, refusal_ball, Step, Runs, none, then, Transcript}
 use Rattle.spec_examples.proofs.Read.{At, found, not_found, read_at}
 use Rattle.spec_examples.proofs.Settled.{SettledAs, keeps_as, prunes_as, unsettled, settle}
 
@@ -74,10 +74,10 @@ module _ (budgets : Budgets) (shelf : Text → Option (List ℕ)) (input : List 
     here = Searching s who r
 
     abbrev pub goes : (text : Text) (t : Search) → MayGo budgets s → Turn s (turn.Wrote text) t → Next here
-    goes text t m h = sure here text PlainLine (Searching t who r) (session.turns m h)
+    goes text t m h = sure here text plain_line (Searching t who r) (session.turns m h)
 
     abbrev pub fell : (t : Search) (ball : Copied) → MayGo budgets s → Turn s (turn.Threw ball) t → Next here
-    fell t ball m h = sure here (ball_line t.database.operators ball.term) ErrorLine (Reading t.database r) (session.raises m h)
+    fell t ball m h = sure here (ball_line t.database.operators ball.term) error_line (Reading t.database r) (session.raises m h)
 
     -- a saved branch is pruned
     abbrev pub handed_on : (items : List Item) (st : State) (p : Pending) (bs : List Branch) → look_at s.branches ≡ looks.Settling items st p bs → Settles items st p (Pruned Clash)
@@ -93,7 +93,7 @@ module _ (budgets : Budgets) (shelf : Text → Option (List ℕ)) (input : List 
     abbrev pub settled : (items : List Item) (st : State) (p : Pending) (bs : List Branch) → look_at s.branches ≡ looks.Settling items st p bs → SettledAs items st p → Next here
     settled items st p bs h (keeps_as b k) =
         let t : Search = record s { database = after_removal p.removes s.database; branches = b ∷ bs } in
-        next (st.numeric ∷ []) [] PlainLine (Searching t who r) (λ n. session.turns (inl (ap is_selecting h)) (turn.keeps h (k n.0)))
+        next (st.numeric ∷ []) [] plain_line (Searching t who r) (λ n. session.turns (inl (ap is_selecting h)) (turn.keeps h (k n.0)))
     settled items st p bs h (prunes_as k) = pruned items st p bs h k p.ball refl
     settled items st p bs h unsettled = stays
 
@@ -117,7 +117,7 @@ module _ (budgets : Budgets) (shelf : Text → Option (List ℕ)) (input : List 
       by_reply (reply.Throws t) k = balled (plain_copy (read st t)) (step.throws k refl) (handed (plain_copy (read st t)) items bs) refl
       by_reply (reply.WithCopy t f) k = stepped (made at (f (plain_copy (read st t)) ∷ [])) (step.copies k refl)
       by_reply (reply.Overflows pair) k =
-          sure here (stop_line (Overflow pair)) StopLine (Reading s.database r)
+          sure here (stop_text (Overflow pair)) stop_line (Reading s.database r)
           (session.overflows pair m (record { goal = goal; cut = cut; items = items; state = st; behind = bs; selects = h; refused = k }))
       by_reply (reply.Makes n) k = stepped n (step.makes k)
       by_reply (reply.Calls cs) k = stepped (made at (map (clause_child at (read st goal)) cs)) (step.calls k (takes_all at (read st goal) cs))
@@ -125,7 +125,7 @@ module _ (budgets : Budgets) (shelf : Text → Option (List ℕ)) (input : List 
 
     abbrev pub spent : (goal : Tree) (cut : ℕ) (items : List Item) (st : State) (bs : List Branch) → look_at s.branches ≡ looks.Selecting goal cut items st bs
         → (b : Bool) → (s.selected == budgets.steps) ≡ b → Next here
-    spent goal cut items st bs h true e = sure here (stop_line (Resolutions budgets.steps)) StopLine (Reading s.database r) (session.runs_out (ap is_selecting h) ((Decides-eqb s.selected budgets.steps).0 e))
+    spent goal cut items st bs h true e = sure here (stop_text (Resolutions budgets.steps)) stop_line (Reading s.database r) (session.runs_out (ap is_selecting h) ((Decides-eqb s.selected budgets.steps).0 e))
     spent goal cut items st bs h false e = stays
 
     abbrev pub selected : (goal : Tree) (cut : ℕ) (items : List Item) (st : State) (bs : List Branch) → look_at s.branches ≡ looks.Selecting goal cut items st bs
@@ -139,7 +139,7 @@ module _ (budgets : Budgets) (shelf : Text → Option (List ℕ)) (input : List 
     plain_text names st = lines_text (or_true (answer_lines s.database.operators names st (wanted names st ++ []) no_rows))
 
     abbrev pub by_look : (l : Look) → look_at s.branches ≡ l → Next here
-    by_look looks.Over h = sure here no_line PlainLine (Reading s.database r) (session.fails (turn.ends h))
+    by_look looks.Over h = sure here no_line plain_line (Reading s.database r) (session.fails (turn.ends h))
     by_look (looks.Settling items st p bs) h = settled items st p bs h (settle 100 items st p)
     by_look (looks.Moving bs) h = goes [] (with_branches bs s) (inl (ap is_selecting h)) (turn.moves h)
     by_look (looks.Collecting k t st bs) h = goes [] (with_branches (gather k (plain_copy (read st t)) bs) s) (inl (ap is_selecting h)) (turn.collects h refl)
@@ -151,10 +151,10 @@ module _ (budgets : Budgets) (shelf : Text → Option (List ℕ)) (input : List 
       → st.linear ≡ [] → Next (Searching s (AQuery names n) r)
   answered s names zero r st bs h e = stays
   answered s names (suc zero) r st bs h e =
-      sure (Searching s (AQuery names 1) r) (lines_text (or_true (answer_lines s.database.operators names st (wanted names st ++ []) no_rows)) ++ answer_end ++ more_line) PlainLine
+      sure (Searching s (AQuery names 1) r) (lines_text (or_true (answer_lines s.database.operators names st (wanted names st ++ []) no_rows)) ++ answer_end ++ more_line) plain_line
       (Reading s.database r) (session.answers_last (turn.answers h) (plain_answer s.database.operators names st e))
   answered s names (suc (suc n)) r st bs h e =
-      sure (Searching s (AQuery names (suc (suc n))) r) (lines_text (or_true (answer_lines s.database.operators names st (wanted names st ++ []) no_rows)) ++ answer_end) PlainLine
+      sure (Searching s (AQuery names (suc (suc n))) r) (lines_text (or_true (answer_lines s.database.operators names st (wanted names st ++ []) no_rows)) ++ answer_end) plain_line
       (Searching (with_branches bs s) (AQuery names (suc n)) r) (session.answers (turn.answers h) (plain_answer s.database.operators names st e))
 
   abbrev pub by_linear : (s : Search) (names : List VariableName) (n : ℕ) (r : Reader) (st : State) (bs : List Branch) → look_at s.branches ≡ looks.Answering st bs
@@ -163,7 +163,7 @@ module _ (budgets : Budgets) (shelf : Text → Option (List ℕ)) (input : List 
   by_linear s names n r st bs h (c ∷ l) e = stays
 
   abbrev pub by_asker : (s : Search) (who : Asker) (r : Reader) (l : Look) → look_at s.branches ≡ l → Next (Searching s who r)
-  by_asker s ADirective r (looks.Answering st bs) h = sure (Searching s ADirective r) [] PlainLine (Reading s.database r) (session.succeeds (turn.answers h))
+  by_asker s ADirective r (looks.Answering st bs) h = sure (Searching s ADirective r) [] plain_line (Reading s.database r) (session.succeeds (turn.answers h))
   by_asker s (AQuery names n) r (looks.Answering st bs) h = by_linear s names n r st bs h st.linear refl
   by_asker s who r l h = by_look s who r l h
 
@@ -172,42 +172,42 @@ module _ (budgets : Budgets) (shelf : Text → Option (List ℕ)) (input : List 
   module _ (db : Database) (r : Reader) where
     abbrev pub by_error : (t term : Tree) (vs : Variables) (to : ℕ) → Reads db.operators r.bytes r.at (Clause term vs to) → purpose r.source term ≡ Fact t
         → (o : Option Tree) → consult_error t ≡ o → Next (Reading db r)
-    by_error t term vs to h e None g = sure (Reading db r) [] PlainLine (Reading (consulted t db) (record r { at = to })) (session.adds (record { term = term; reads = h; purpose_is = e }) g)
+    by_error t term vs to h e None g = sure (Reading db r) [] plain_line (Reading (consulted t db) (record r { at = to })) (session.adds (record { term = term; reads = h; purpose_is = e }) g)
     by_error t term vs to h e (Some b) g =
-        sure (Reading db r) (ball_line db.operators (refusal_ball b)) ErrorLine (Reading db (record r { at = to })) (session.refuses (record { term = term; reads = h; purpose_is = e }) g)
+        sure (Reading db r) (ball_line db.operators (refusal_ball b)) error_line (Reading db (record r { at = to })) (session.refuses (record { term = term; reads = h; purpose_is = e }) g)
 
     abbrev pub by_purpose : (term : Tree) (vs : Variables) (to : ℕ) → Reads db.operators r.bytes r.at (Clause term vs to) → (w : Purpose) → purpose r.source term ≡ w → Next (Reading db r)
     by_purpose term vs to h (Directive g) e =
-        sure (Reading db r) [] PlainLine (Searching (begun db (once g) 0 vs) ADirective (record r { at = to })) (session.directs 0 (record { term = term; reads = h; purpose_is = e }))
+        sure (Reading db r) [] plain_line (Searching (begun db (once g) 0 vs) ADirective (record r { at = to })) (session.directs 0 (record { term = term; reads = h; purpose_is = e }))
     by_purpose term vs to h (Initialization g) e =
-        sure (Reading db r) [] PlainLine (Reading db (record r { at = to; later = r.later ++ record { goal = g; variables = vs } ∷ [] }))
+        sure (Reading db r) [] plain_line (Reading db (record r { at = to; later = r.later ++ record { goal = g; variables = vs } ∷ [] }))
         (session.waits (record { term = term; reads = h; purpose_is = e }))
     by_purpose term vs to h (Query g) e =
-        sure (Reading db r) [] PlainLine (Searching (begun db g 0 vs) (AQuery (names_from 0 vs) budgets.answers) (record r { at = to }))
+        sure (Reading db r) [] plain_line (Searching (begun db g 0 vs) (AQuery (names_from 0 vs) budgets.answers) (record r { at = to }))
         (session.asks 0 (record { term = term; reads = h; purpose_is = e }))
     by_purpose term vs to h (Fact t) e = by_error t term vs to h e (consult_error t) refl
 
     abbrev pub by_source : Reads db.operators r.bytes r.at TextEnds → r.later ≡ [] → (x : Source) → r.source ≡ x → Next (Reading db r)
-    by_source h e File g = sure (Reading db r) [] PlainLine (Opening db r.files) (session.file_ends h g e)
-    by_source h e Input g = sure (Reading db r) [] PlainLine (Over db) (session.input_ends h g e)
+    by_source h e File g = sure (Reading db r) [] plain_line (Opening db r.files) (session.file_ends h g e)
+    by_source h e Input g = sure (Reading db r) [] plain_line (Over db) (session.input_ends h g e)
 
     abbrev pub by_later : Reads db.operators r.bytes r.at TextEnds → (l : List Asked) → r.later ≡ l → Next (Reading db r)
     by_later h [] e = by_source h e r.source refl
     by_later h (a ∷ more) e =
-        sure (Reading db r) [] PlainLine (Searching (begun db (once a.goal) 0 a.variables) ADirective (record r { later = more })) (session.initializes 0 h e)
+        sure (Reading db r) [] plain_line (Searching (begun db (once a.goal) 0 a.variables) ADirective (record r { later = more })) (session.initializes 0 h e)
 
     abbrev pub by_reading : At r.bytes db.operators r.at → Next (Reading db r)
     by_reading (found (Clause term vs to) h) = by_purpose term vs to h (purpose r.source term) refl
     by_reading (found TextEnds h) = by_later h r.later refl
-    by_reading (found (Syntax at to) h) = sure (Reading db r) (syntax_line at) ErrorLine (Reading db (record r { at = to })) (session.syntax h)
+    by_reading (found (Syntax at to) h) = sure (Reading db r) (syntax_line at) error_line (Reading db (record r { at = to })) (session.syntax h)
     by_reading not_found = stays
 
   abbrev pub by_shelf : (db : Database) (name : Text) (names : List Text) (o : Option (List ℕ)) → shelf name ≡ o → Next (Opening db (name ∷ names))
-  by_shelf db name names (Some bytes) e = sure (Opening db (name ∷ names)) [] PlainLine (Reading db (beginning File bytes names)) (session.opens_file e)
+  by_shelf db name names (Some bytes) e = sure (Opening db (name ∷ names)) [] plain_line (Reading db (beginning File bytes names)) (session.opens_file e)
   by_shelf db name names None e = stays
 
   abbrev pub advance : (a : Session) → Next a
-  advance (Opening db []) = sure (Opening db []) [] PlainLine (Reading db (beginning Input input [])) session.opens_input
+  advance (Opening db []) = sure (Opening db []) [] plain_line (Reading db (beginning Input input [])) session.opens_input
   advance (Opening db (name ∷ names)) = by_shelf db name names (shelf name) refl
   advance (Reading db r) = by_reading db r (read_at r.bytes db.operators 200 r.at)
   advance (Searching s who r) = by_asker s who r (look_at s.branches) refl
@@ -224,7 +224,7 @@ module _ (budgets : Budgets) (shelf : Text → Option (List ℕ)) (input : List 
     pub runs : AllNone numerics → Runs budgets shelf input start text marks now
 
   abbrev pub begin : (start : Session) → Run start
-  begin start = record { numerics = []; text = []; marks = no_marks; now = start; runs = λ n. none }
+  begin start = record { numerics = []; text = []; marks = unmarked; now = start; runs = λ n. none }
 
   abbrev pub after : (start : Session) (run : Run start) → (Run start → Run start) → Next run.now → Run start
   after start run go (next numerics out mark there step) = go (record {

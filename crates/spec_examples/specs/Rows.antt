@@ -2,7 +2,7 @@
 use Rattle.std.specs.Prelude.{ℕ, List, [], ◌∷◌, codes, true, false, Option, Some, None}
 use Rattle.spec_lists.specs.Texts.{Text}
 use Rattle.spec_stops.specs.Causes.{Budgets}
-use Rattle.spec_transcript.specs.Session.{Marks, Transcript}
+use Rattle.spec_transcript.specs.Session.{Marks, unmarked, Transcript}
 
 abbrev pub some_goals : Budgets
 some_goals = record { steps = 100; pivots = 10; answers = 10; rows = 10 }
@@ -12,10 +12,6 @@ goals n = record some_goals { steps = n }
 
 abbrev pub answers : ℕ → Budgets
 answers n = record some_goals { answers = n }
-
--- no error line, and no stop
-abbrev pub lawful : Marks
-lawful = record { faulty = false; stopped = false }
 
 abbrev pub with_error : Marks
 with_error = record { faulty = true; stopped = false }
@@ -36,7 +32,7 @@ one_name = codes "p.pl" ∷ []
 
 -- the input writes this text, without an error line or a stop
 abbrev pub Writes : Text → Text → Type 0
-Writes input text = Transcript some_goals no_files input [] text lawful
+Writes input text = Transcript some_goals no_files input [] text unmarked
 
 -- the same with an error line
 abbrev pub WritesError : Text → Text → Type 0
@@ -48,14 +44,14 @@ WritesStop input text = Transcript some_goals no_files input [] text with_stop
 
 -- with these budgets
 abbrev pub WritesWithin : Budgets → Text → Text → Type 0
-WritesWithin budgets input text = Transcript budgets no_files input [] text lawful
+WritesWithin budgets input text = Transcript budgets no_files input [] text unmarked
 
 abbrev pub StopsWithin : Budgets → Text → Text → Type 0
 StopsWithin budgets input text = Transcript budgets no_files input [] text with_stop
 
 -- behind a file
 abbrev pub WritesAfter : Text → Text → Text → Type 0
-WritesAfter bytes input text = Transcript some_goals (file bytes) input one_name text lawful
+WritesAfter bytes input text = Transcript some_goals (file bytes) input one_name text unmarked
 
 abbrev pub StopsAfter : Text → Text → Text → Type 0
 StopsAfter bytes input text = Transcript some_goals (file bytes) input one_name text with_stop

@@ -16,7 +16,8 @@ pub fn failures()
 pub fn bindings()
     ensures variables { Writes (codes "?- X=Y.") (codes "Y = X\n;\nno\n") }
     ensures alternatives { Writes (codes "?- ( X=1 ; X=2 ), ( X=1 -> Y=a ; Y=b ).") (codes "X = 1\nY = a\n;\nX = 2\nY = b\n;\nno\n") }
-    ensures terms { Writes (codes "?- X = 'hello world', Y = [a|T], Z = -(1), W = (a:-b).") (codes "X = 'hello world'\nY = [a|T]\nZ = -(1)\nW = (a:-b)\n;\nno\n") }
+    ensures terms { Writes (codes "?- X = 'hello world', Y = [a|T], Z = -(1), W = (a:-b).")
+        (codes "X = 'hello world'\nY = [a|T]\nZ = -(1)\nW = (a:-b)\n;\nno\n") }
     ensures order { Writes (codes "?- f(b) @> 3, a @< f(b), 1r2 @< 1.") (codes "true\n;\nno\n") }
     ensures concatenations { Writes (codes "?- atom_concat(X,Y,ab).") (codes "X = ''\nY = ab\n;\nX = a\nY = b\n;\nX = ab\nY = ''\n;\nno\n") }
     ensures collected { Writes (codes "?- findall(X,(X=1;X=2),L).") (codes "L = [1,2]\n;\nno\n") }
@@ -64,8 +65,10 @@ pub fn budgets()
 pub fn clauses()
     ensures cut { WritesAfter (codes "q(1). q(2). r(X) :- q(X), !.") (codes "?- r(X).") (codes "X = 1\n;\nno\n") }
     ensures opaque { WritesAfter (codes "p(1). p(2).") (codes "?- call((p(X),!)), p(Y).") (codes "X = 1\nY = 1\n;\nX = 1\nY = 2\n;\nno\n") }
-    ensures snapshot { WritesAfter (codes ":- dynamic p/1. p(1).") (codes "?- p(X), Y is X+1, assertz(p(Y)). ?- p(X).") (codes "X = 1\nY = 2\n;\nno\nX = 1\n;\nX = 2\n;\nno\n") }
-    ensures changed { WritesAfter (codes ":- dynamic q/1. q(1). q(2).") (codes "?- retract(q(X)), assertz(q(9)), fail. ?- findall(X,q(X),L).") (codes "no\nL = [9,9]\n;\nno\n") }
+    ensures snapshot { WritesAfter (codes ":- dynamic p/1. p(1).") (codes "?- p(X), Y is X+1, assertz(p(Y)). ?- p(X).")
+        (codes "X = 1\nY = 2\n;\nno\nX = 1\n;\nX = 2\n;\nno\n") }
+    ensures changed { WritesAfter (codes ":- dynamic q/1. q(1). q(2).") (codes "?- retract(q(X)), assertz(q(9)), fail. ?- findall(X,q(X),L).")
+        (codes "no\nL = [9,9]\n;\nno\n") }
 {}
 
 /// Told constraints: one that fixes a variable, one that waits, one that a binding breaks, and one whose numbers overflow.

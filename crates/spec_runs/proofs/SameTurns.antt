@@ -22,7 +22,8 @@ use Rattle.spec_runs.proofs.Replies.{Same, SameMade, SameStep, same_ball, same_c
 use Rattle.spec_runs.proofs.Rows.{list_child_same, call_same, reply_same}
 use Rattle.spec_runs.proofs.Settlings.{kept_same, kept_first, kept_second, SameHanded, neither, handed_on, handed_same}
 use Rattle.spec_runs.proofs.Stepping.{step_same}
-use Rattle.spec_runs.proofs.Turning.{ball_event, ball_branches, pruned_event, pruned_branches, Chooses, made, fell, Decides, kept, pruned, After, after}
+use Rattle.spec_search.proofs.OneEvent.{ball_event, pruned_event}
+use Rattle.spec_runs.proofs.Turning.{ball_branches, pruned_branches, Chooses, made, fell, Decides, kept, pruned, After, after}
 
 -- ---- what first branches are for
 

@@ -6,23 +6,15 @@ use Rattle.spec_branch.specs.Settling.{Settles, Kept, Pruned, Why}
 use Rattle.spec_search.specs.Replies.{Made}
 use Rattle.spec_search.specs.Steps.{Steps, Ball, Children}
 use Rattle.spec_search.specs.Balls.{handed}
+use Rattle.spec_search.proofs.OneEvent.{ball_event, pruned_event}
 use Rattle.spec_search.specs.Search.{Search, Look, Over, Settling, Moving, Collecting, Selecting, Answering, look_at, gather}
 use Rattle.spec_search.specs.Turns.{Turn, Event, Wrote, Answered, Threw, Ended, keeps, prunes, hands_on, escapes, moves, collects, steps, catches, throws, answers, ends, place_of, with_branches, after_removal, after_step, after_ball}
 
 -- ---- what a turn comes to
 
--- a ball shows, and ends the search, where nothing catches it
-abbrev pub ball_event : Copied → Option (List Branch) → Event
-ball_event ball None = Threw ball
-ball_event ball (Some bs) = Wrote []
-
 abbrev pub ball_branches : Option (List Branch) → List Branch
 ball_branches None = []
 ball_branches (Some bs) = bs
-
-abbrev pub pruned_event : List Item → List Branch → Option Copied → Event
-pruned_event is bs None = Wrote []
-pruned_event is bs (Some ball) = ball_event ball (handed ball is bs)
 
 abbrev pub pruned_branches : List Item → List Branch → Option Copied → List Branch
 pruned_branches is bs None = bs

@@ -18,8 +18,8 @@ pub data Cause : Type 0 where
   Overflow : Pair → Cause
   Projection : ℕ → ℕ → ℕ → List Constraint → Cause
 
-abbrev pub stop_line : Cause → Text
-stop_line (Resolutions n) = codes "stop: resolutions\n"
-stop_line (Pivots n) = codes "stop: pivots\n"
-stop_line (Overflow pair) = codes "stop: overflow\n"
-stop_line (Projection p n rest rows) = codes "stop: projection\n"
+abbrev pub stop_text : Cause → Text
+stop_text (Resolutions n) = codes "stop: resolutions\n"
+stop_text (Pivots n) = codes "stop: pivots\n"
+stop_text (Overflow pair) = codes "stop: overflow\n"
+stop_text (Projection p n rest rows) = codes "stop: projection\n"

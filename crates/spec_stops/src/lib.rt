@@ -3,14 +3,16 @@
 #![tactic(auto)]
 
 ghost use Rattle.std.specs.Prelude.{◌≡◌, [], ◌∷◌};
-ghost use Rattle.spec_linear.specs.Form.{constant_form, variable_form};
+ghost use Rattle.spec_linear.specs.Form.{variable_form};
 ghost use Rattle.spec_told.specs.Expressions.{power};
 ghost use Rattle.cq_frac.specs.declared.Operation.TheVariants.{Product};
+ghost use Rattle.spec_limits.specs.Overflow.{on};
+ghost use Rattle.spec_branch.specs.Alike.{no_values};
 ghost use Rattle.spec_stops.specs.Operands.{expression_operands};
-ghost use Rattle.spec_stops.specs.Samples.{no_value, two, product, cube};
+ghost use Rattle.spec_stops.specs.Samples.{two, times_two, product, cube};
 
 /// The operations of a product that waits, and of a power, which counts as products of its base.
 pub fn operations_of_terms()
-    ensures waiting { expression_operands no_value product ≡ record { operation = Product; left = variable_form 0; right = variable_form 1 } ∷ [] }
-    ensures power { expression_operands no_value cube ≡ record { operation = Product; left = constant_form (power two 1); right = constant_form two } ∷ record { operation = Product; left = constant_form (power two 2); right = constant_form two } ∷ [] }
+    ensures waiting { expression_operands no_values product ≡ on Product (variable_form 0) (variable_form 1) ∷ [] }
+    ensures power { expression_operands no_values cube ≡ times_two (power two 1) ∷ times_two (power two 2) ∷ [] }
 {}

@@ -13,9 +13,9 @@ use Rattle.spec_search.specs.Search as looks
 use Rattle.spec_search.specs.Search.{Search, Look, Selecting, look_at, is_selecting}
 use Rattle.spec_search.specs.Turns as turn
 use Rattle.spec_search.specs.Turns.{Event, Wrote, Answered, Threw, Ended, Turn, Refuses, place_of}
-use Rattle.spec_stops.specs.Causes.{Budgets, Resolutions, stop_line}
+use Rattle.spec_stops.specs.Causes.{Budgets, Resolutions, stop_text}
 use Rattle.spec_transcript.specs.Session as session
-use Rattle.spec_transcript.specs.Session.{Asker, Reader, Session, Opening, Reading, Searching, Over, Mark, StopLine, MayGo, Step}
+use Rattle.spec_transcript.specs.Session.{Asker, Reader, Session, Opening, Reading, Searching, Over, Mark, stop_line, MayGo, Step}
 
 -- ---- answers and ends select nothing
 
@@ -50,7 +50,7 @@ module _ (budgets : Budgets) (shelf : Text → Option (List ℕ)) (input : List 
   spent e (inr below) = omega arith
 
   abbrev Stops : Text → Mark → Type 0
-  Stops out mark = (out ≡ stop_line (Resolutions budgets.steps)) × (mark ≡ StopLine)
+  Stops out mark = (out ≡ stop_text (Resolutions budgets.steps)) × (mark ≡ stop_line)
 
   same_search : (t : Search) (who you : Asker) (r q : Reader) → Searching t you q ≡ Searching s who r → t ≡ s
   same_search t who you r q e = cc
@@ -83,7 +83,7 @@ module _ (budgets : Budgets) (shelf : Text → Option (List ℕ)) (input : List 
 
 pub spent_goals : (budgets : Budgets) (shelf : Text → Option (List ℕ)) (input : List ℕ) (s : Search) (who : Asker) (r : Reader) (out : Text) (mark : Mark) (next : Session)
     → is_selecting (look_at s.branches) ≡ true → s.selected ≡ budgets.steps → Step budgets shelf input (Searching s who r) out mark next
-    → (out ≡ stop_line (Resolutions budgets.steps)) × (mark ≡ StopLine)
+    → (out ≡ stop_text (Resolutions budgets.steps)) × (mark ≡ stop_line)
 spent_goals budgets shelf input s who r out mark next selects e h = stops budgets shelf input s selects (Searching s who r) next out mark who r e refl h
 
 -- ---- arithmetic that refuses two numbers
@@ -132,7 +132,7 @@ module _ (s : Search) (pair : Pair) (refused : Refuses s pair) where
     same : (t : Search) (who you : Asker) (r q : Reader) → Searching t you q ≡ Searching s who r → t ≡ s
     same t who you r q e = cc
 
-    stop : (a next : Session) (out : Text) (mark : Mark) (who : Asker) (r : Reader) → a ≡ Searching s who r → Step budgets shelf input a out mark next → mark ≡ StopLine
+    stop : (a next : Session) (out : Text) (mark : Mark) (who : Asker) (r : Reader) → a ≡ Searching s who r → Step budgets shelf input a out mark next → mark ≡ stop_line
     stop a next out mark who r is (session.opens_file h) = cc
     stop a next out mark who r is session.opens_input = cc
     stop a next out mark who r is (session.initializes base h k) = cc
@@ -156,5 +156,5 @@ module _ (s : Search) (pair : Pair) (refused : Refuses s pair) where
     stop a next out mark who r is (session.stops cause m h) = refl
 
 pub refused_stops : (budgets : Budgets) (shelf : Text → Option (List ℕ)) (input : List ℕ) (s : Search) (who : Asker) (r : Reader) (out : Text) (mark : Mark) (next : Session) (pair : Pair)
-    → Refuses s pair → Step budgets shelf input (Searching s who r) out mark next → mark ≡ StopLine
+    → Refuses s pair → Step budgets shelf input (Searching s who r) out mark next → mark ≡ stop_line
 refused_stops budgets shelf input s who r out mark next pair h k = stop s pair h budgets shelf input (Searching s who r) next out mark who r refl k
