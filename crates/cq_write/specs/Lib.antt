@@ -1,0 +1,5 @@
+pub mod Meaning
+pub mod Spelled
+pub mod Work
+pub mod Naming
+pub mod Settings

@@ -1,0 +1,18 @@
+-- The names of variables, found by their places.
+use Rattle.std.specs.Prelude.{◌≡◌, ◌<◌, ℕ, Bool, List, length, slice_index_or, nat_eq, Option, Some, None, is_some, MatchOption, if◌then◌else◌}
+use Rattle.indexmap.specs.IndexSet.{insert_key}
+use Rattle.spec_terms.specs.VariableName.{VariableName}
+use Rattle.spec_writing.specs.Written.{given_name}
+
+-- the place that was noted for a variable, or this one where it is that variable's
+abbrev pub kept_or : Option ℕ → Bool → ℕ → Option ℕ
+kept_or (Some k) same place = Some k
+kept_or None same place = if same then Some place else None
+
+-- the place of each variable's first name, where it has one
+abbrev pub AreFound : List VariableName → (ℕ → Option ℕ) → Type 0
+AreFound names place = (v : ℕ) → MatchOption (place v) (given_name names v ≡ None) (λ k. (k < length names) × ((d : VariableName) → given_name names v ≡ Some (slice_index_or names k d).name))
+
+-- the variables without a name, and this one where it has none
+abbrev pub with_unnamed : Option ℕ → List ℕ → ℕ → List ℕ
+with_unnamed place vs v = if is_some place then vs else insert_key nat_eq vs v
