@@ -4,3 +4,4 @@ pub mod Splitting
 pub mod Rebuilt
 pub mod Compared
 pub mod Elements
+pub mod SetWhole

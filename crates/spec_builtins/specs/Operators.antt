@@ -2,7 +2,7 @@
 use Rattle.std.specs.Prelude.{ℕ, List, [], ◌∷◌, Bool, true, false, if◌then◌else◌, not, ◌&&◌, ◌||◌, ℤ, pos, Option, is_none, Result, Ok, Err}
 use Rattle.std.specs.List.{list_any, list_all}
 use Rattle.spec_operators.specs.declared.OpKind.{OpKind}
-use Rattle.spec_operators.specs.Operators.{Ops, Refusal, Comma, Clash, kind_named, in_range, set_checked}
+use Rattle.spec_operators.specs.Operators.{Ops, Refusal, Comma, Clash, kind_named, in_range, set_checked, put}
 use Rattle.spec_terms.specs.Term.{Number}
 use Rattle.spec_syntax.specs.Trees.{Tree}
 use Rattle.spec_built.specs.Kinds.{is_variable, is_name, is_integer, name_text, parts, is_list, is_partial}
@@ -63,3 +63,8 @@ table_or ops (Err r) = ops
 abbrev pub operators_after : Ops → Tree → Tree → List Tree → Ops
 operators_after ops p k [] = ops
 operators_after ops p k (n ∷ ns) = operators_after (table_or ops (named_set ops p k n)) p k ns
+
+-- the table with each name set to this priority and kind
+abbrev pub put_all : Ops → ℕ → OpKind → List Tree → Ops
+put_all ops priority kind [] = ops
+put_all ops priority kind (n ∷ ns) = put_all (put ops priority kind (name_text n)) priority kind ns
