@@ -29,13 +29,13 @@ one_character c h = chars-encodes (c ∷ []) (ap (λ (b : Bool). b && true) h)
 is_one_character : (c : ℕ) → scalar c ≡ true → is_character (name_of (c ∷ [])) ≡ true
 is_one_character c h = ap (λ (cs : List ℕ). length cs == 1) (one_character c h)
 
-is_one_code : (c : ℕ) → scalar c ≡ true → is_code (natural c) ≡ true
+pub is_one_code : (c : ℕ) → scalar c ≡ true → is_code (natural c) ≡ true
 is_one_code c h = by_whole (λ (t : Tree). is_code t ≡ true) c (sym (scalar_same c) ∙ h)
 
 whole_natural : (n : ℕ) → is_integer (natural n) ≡ true
 whole_natural n = by_whole (λ (t : Tree). is_integer t ≡ true) n refl
 
-natural_back : (n : ℕ) → natural_of (natural n) ≡ n
+pub natural_back : (n : ℕ) → natural_of (natural n) ≡ n
 natural_back n = by_whole (λ (t : Tree). natural_of t ≡ n) n refl
 
 -- ---- elements

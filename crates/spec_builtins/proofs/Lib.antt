@@ -5,3 +5,4 @@ pub mod Rebuilt
 pub mod Compared
 pub mod Elements
 pub mod SetWhole
+pub mod NumberTexts
