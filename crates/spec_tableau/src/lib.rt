@@ -271,12 +271,15 @@ pub fn rows_are_unique()
         → (c : ℕ) → factor_of c s ≡ factor_of c (d.row q).live }
 {}
 
-/// The rows before and after a told constraint tell which variables it fixes.
+/// The rows before and after a told constraint tell which variables it fixes: none, where no column is dropped.
 pub fn newly_fixed_variables()
     ensures fixes { (d e : Tableau) (l : List Constraint) (c : Constraint) → Invariant d l → Invariant e (c ∷ l)
         → (x : ℕ) → BecomesFixed d e x → NewlyFixed l (l ++ c ∷ []) x }
     ensures stays { (d e : Tableau) (l : List Constraint) (c : Constraint) → Invariant d l → Invariant e (c ∷ l)
         → (x : ℕ) → StaysAsItIs d e l c x → NewlyFixed l (l ++ c ∷ []) x → ⊥ }
+    ensures none { (d e : Tableau) (l : List Constraint) (c : Constraint) → Invariant d l → Invariant e (c ∷ l)
+        → (x : ℕ) → ((v : ℕ → ℚ) → Within d v → Within e v) → Place e (variable_form x)
+        → NewlyFixed l (l ++ c ∷ []) x → ⊥ }
 {}
 
 /// Two lists with a tableau that keeps the invariant, made from the empty one by these laws.
