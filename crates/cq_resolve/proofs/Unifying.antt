@@ -5,6 +5,7 @@ use Rattle.std.proofs.lemmas.Bool.{cases_eq, eq-eqb, ne_eqb}
 use Rattle.std.proofs.lemmas.List.Elements.{All-head, All-tail, All-map, All-weaker}
 use Rattle.spec_terms.specs.Term.{Terms, Subst, Var, Number, Name, Compound, one, more, count, list_of, apply, apply_all, followed_by, identity, Occurs}
 use Rattle.spec_terms.specs.Unifier.{Equation, Equates, IsUnifier, read_under}
+use Rattle.spec_terms.proofs.Unifiers.{equates_under}
 use Rattle.spec_terms.proofs.Substitution.{apply-identity, apply-followed_by, apply_agree, agree_apply, occurs_from}
 use Rattle.cq_term.specs.Meaning.{HeapTerm}
 use Rattle.cq_walk.specs.Pairs.{pairwise}
@@ -79,10 +80,6 @@ equates_absorbed : (r u : Subst ℕ) → ((v : ℕ) → apply r (u v) ≡ r v) �
 equates_absorbed r u h [] k = tt
 equates_absorbed r u h (e ∷ es) k = (absorbed r u h e.left ∙ k.0 ∙ sym (absorbed r u h e.right), equates_absorbed r u h es k.1)
 
-equates_after : (r u : Subst ℕ) (es : List (Equation ℕ)) → Equates r (read_under u es) → Equates (followed_by u r) es
-equates_after r u [] k = tt
-equates_after r u (e ∷ es) k = (apply-followed_by u r e.left ∙ k.0 ∙ sym (apply-followed_by u r e.right), equates_after r u es k.1)
-
 equates_agree : (r s : Subst ℕ) (es : List (Equation ℕ)) → ((v : ℕ) → r v ≡ s v) → Equates r es → Equates s es
 equates_agree r s [] same h = tt
 equates_agree r s (e ∷ es) same h = (
@@ -105,7 +102,7 @@ solving_join goal s u t a b rest p h e = record {
   solved = λ r k.
       let q : Subst ℕ = followed_by u r in
       let two : apply q a ≡ apply q b = apply-followed_by u r a ∙ ap (apply r) h.unifies.0 ∙ sym (apply-followed_by u r b) in
-      equates_agree (followed_by s q) (followed_by t r) goal (λ x. apply-followed_by u r (s x) ∙ ap (apply r) (sym (e x))) (p.solved q (two, equates_after r u rest k));
+      equates_agree (followed_by s q) (followed_by t r) goal (λ x. apply-followed_by u r (s x) ∙ ap (apply r) (sym (e x))) (p.solved q (two, equates_under u r rest k));
   oldest = λ v w k.
       let from = variable_by u (s v) w (sym (e v) ∙ k) in
       omega (arith, p.oldest v from.0 from.1, h.oldest from.0 w from.2);

@@ -1,5 +1,5 @@
 -- A pattern's variables as the new variables of a heap.
-use Rattle.std.proofs.Common.{◌≡◌, ℕ, zero, suc, ◌+◌, ◌<◌, ◌≤◌, List, [], ◌∷◌, ◌++◌, length, refl, ap, sym, ◌∙◌, arith}
+use Rattle.std.proofs.Common.{◌≡◌, ℕ, zero, suc, ◌+◌, ◌<◌, List, [], ◌∷◌, ◌++◌, length, refl, ap, sym, ◌∙◌, arith}
 use Rattle.spec_terms.specs.Term.{Var, apply}
 use Rattle.spec_terms.proofs.Substitution.{apply_agree}
 use Rattle.cq_term.specs.Meaning.{HeapTerm, at}

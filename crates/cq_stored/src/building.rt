@@ -1,6 +1,6 @@
 // Terms of a heap that are built from patterns over new variables.
 
-ghost use Rattle.std.specs.Prelude.{◌≡◌, ◌<◌, ◌≤◌, ◌++◌, ℕ, List, length, map, reverse, All, IfOk, OnOk};
+ghost use Rattle.std.specs.Prelude.{◌≡◌, ◌<◌, ◌≤◌, ◌++◌, ℕ, List, length, map, take, drop, reverse, All, IfOk, OnOk};
 ghost use Rattle.spec_lists.specs.Prefixes.{IsPrefix};
 ghost use Rattle.spec_terms.specs.Term.{Var, apply};
 ghost use Rattle.cq_term.specs.Meaning.{HeapTerm, at};
@@ -13,7 +13,8 @@ use cq_frac::VarId;
 use cq_term::{Atom, Heap, TermId, View};
 use std::alloc::AllocError;
 
-/// Makes so many variables, the oldest first, and says which number the first has, if there is one.
+/// Makes so many variables, the oldest first, and says which number the first has, if there is one. An error is want of
+/// memory; some of them may then stay on the heap, until a mark is undone.
 pub fn new_variables(heap: &mut Heap, count: usize) -> Result<usize, AllocError>
     ensures first { IfOk result (λ first. 0 < count → first ≡ length heap.old.now.images) }
     ensures there { IfOk result (λ first. AreThere heap.new.now.images first count) }
@@ -46,7 +47,8 @@ fn number_of(heap: &Heap, id: TermId) -> usize
     }
 }
 
-/// Builds the term of a pattern, where the heap's variables from the first one on take the places of the pattern's.
+/// Builds the term of a pattern, where the heap's variables from the first one on take the places of the pattern's. An
+/// error is want of memory; parts of the term may then stay on the heap, until a mark is undone.
 pub fn build(heap: &mut Heap, pattern: &[View], first: usize) -> Result<TermId, AllocError>
     requires { (count : ℕ) × IsPattern count pattern.now × AreThere heap.old.now.images first count }
     ensures live { IfOk result (λ id. id < length heap.new.now.terms) }
@@ -104,9 +106,18 @@ fn add_compound(
     ensures saved { heap.new.saved ≡ heap.old.saved }
     ensures room { heap.old.room ≤ heap.new.room }
 {
-    let mut args = built.split_off(built.len() - arity)?;
-    args.reverse();
-    let whole = heap.compound(name, &args)?;
+    let first = built.len() - arity;
+    reverse_from(built, first);
+    let whole = heap.compound(name, &built[first..])?;
+    built.truncate(first);
     built.push(whole)?;
     Ok(())
+}
+
+/// Reverses the ids from a place on.
+fn reverse_from(ids: &mut Vec<TermId>, first: usize)
+    requires { first ≤ length ids.old.items }
+    ensures { ids.new.items ≡ take first ids.old.items ++ reverse (drop first ids.old.items) }
+{
+    ids[first..].reverse();
 }
