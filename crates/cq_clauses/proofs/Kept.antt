@@ -1,5 +1,5 @@
 -- What each change of the procedures keeps.
-use Rattle.std.proofs.Common.{◌≡◌, ℕ, zero, suc, ◌+◌, ◌-◌, ◌<◌, ◌≤◌, Bool, false, List, [], ◌∷◌, ◌++◌, length, map, set, get_or, position, Option, Some, None, refl, sym, ap, ap₂, subst, ◌∙◌, inl, inr, arith, if◌then◌else◌}
+use Rattle.std.proofs.Common.{◌≡◌, ℕ, zero, suc, ◌+◌, ◌-◌, ◌<◌, Bool, false, List, [], ◌∷◌, ◌++◌, length, map, set, get_or, position, Option, Some, None, refl, sym, ap, ap₂, subst, ◌∙◌, inl, inr, arith, if◌then◌else◌}
 use Rattle.std.specs.Prelude.{slice_get}
 use Rattle.std.specs.List.{list_any}
 use Rattle.std.specs.Option.{option_map, option_map_or}
@@ -211,9 +211,6 @@ module _ (items ps : List Procedure) (x : Place) (read : Procedure) (view : item
 
   same_read : is.0 ≡ read
   same_read = same_Some is.0 read (sym is.1.1.procedure ∙ place_read)
-
-  pub fronts_read : x.fronts ≤ read.clauses.fronts
-  fronts_read = subst (λ (p : Procedure). x.fronts ≤ p.clauses.fronts) same_read is.1.1.fronts
 
   pub entry_in : x.index + (read.clauses.fronts - x.fronts) < length read.clauses.entries
   entry_in = subst (λ (p : Procedure). x.index + (p.clauses.fronts - x.fronts) < length p.clauses.entries) same_read (slice_get_within is.0.clauses.entries _ is.1.0 is.1.1.entry)

@@ -5,4 +5,9 @@ pub mod Found
 pub mod Kept
 pub mod Removed
 pub mod Places
-pub mod Callers
+pub mod Numbers
+pub mod Indexed
+pub mod Grown
+pub mod Skipping
+pub mod Indexing
+pub mod Walking

@@ -11,7 +11,7 @@ use Rattle.cq_clauses.proofs.Writes.{got_either}
 use Rattle.cq_clauses.specs.declared.list.Window.{Window}
 use Rattle.cq_clauses.specs.Lists.{Entry, ListValue, clause_of, is_there, present}
 use Rattle.cq_clauses.specs.Changes.{there, went}
-use Rattle.cq_clauses.specs.Windows.{was_there_at, was_there, in_window, seen_in, IsWindow}
+use Rattle.cq_clauses.specs.Windows.{was_there_at, was_there, in_window, seen_in, skipped, IsWindow}
 use Rattle.cq_clauses.specs.declared.list.Slot.{Slot}
 use Rattle.cq_clauses.specs.Slots.{entry_of, IsList}
 
@@ -54,7 +54,7 @@ is_list_remove es fronts removals place clause got is = record {
 
 -- ---- windows
 
-abbrev look : ℕ → ℕ → ℕ → List Entry → List ℕ
+abbrev pub look : ℕ → ℕ → ℕ → List Entry → List ℕ
 look time n k es = map clause_of (filter (was_there time) (take n (drop k es)))
 
 -- what was there at the time of a window is there in it after a later removal
@@ -136,9 +136,6 @@ first_of_rest (x ∷ es) zero n e got = ap (λ y. y ∷ take n es) (same_Some x 
 first_of_rest (x ∷ es) (suc k) n e got = first_of_rest es k n e got
 
 module _ (w : Window) (l : ListValue) (e : Entry) where
-  pub window_step : 0 < w.count → IsWindow w l → IsWindow (stepped w) l
-  window_step more is = record { fronts = is.fronts; removals = is.removals; within = omega (arith, is.within, more) }
-
   seen_step : 0 < w.count → slice_get l.entries (w.start + (l.fronts - w.fronts)) ≡ Some e → seen_in w l ≡ map clause_of (filter (was_there w.removals) (e ∷ in_window (stepped w) l))
   seen_step more got =
       let count : w.count ≡ suc (w.count - 1) = omega (arith, more) in
@@ -159,9 +156,6 @@ pub record IsAbsent (es : List Entry) (time place : ℕ) : Type 0 where
   pub entry : Entry
   pub got : slice_get es place ≡ Some entry
   pub gone : was_there_at time entry.gone ≡ false
-
-abbrev pub skipped : ℕ → Window → Window
-skipped g w = record { fronts = w.fronts; removals = w.removals; start = w.start + g; count = w.count - g }
 
 pub seen_skipped : (g : ℕ) (w : Window) (l : ListValue) → g ≤ w.count → ((j : ℕ) → j < g → IsAbsent l.entries w.removals (w.start + (l.fronts - w.fronts) + j)) → seen_in w l ≡ seen_in (skipped g w) l
 seen_skipped zero w l within absent =

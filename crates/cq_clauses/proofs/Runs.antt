@@ -11,9 +11,9 @@ use Rattle.cq_clauses.specs.declared.list.Window.{Window}
 use Rattle.cq_clauses.specs.declared.list.Slot.{Slot}
 use Rattle.cq_clauses.specs.Lists.{Entry, ListValue}
 use Rattle.cq_clauses.specs.Changes.{there, went, list_without}
-use Rattle.cq_clauses.specs.Windows.{was_there_at, seen_in}
+use Rattle.cq_clauses.specs.Windows.{was_there_at, seen_in, skipped}
 use Rattle.cq_clauses.specs.Slots.{fresh, entry_of, IsList, IsGoneBy, IsAhead, IsBehind, AreRuns, IsKept}
-use Rattle.cq_clauses.proofs.Listed.{is_list_push, is_list_remove, IsAbsent, skipped, seen_skipped}
+use Rattle.cq_clauses.proofs.Listed.{is_list_push, is_list_remove, IsAbsent, seen_skipped}
 
 -- ---- one more
 

@@ -1,13 +1,20 @@
 // The clauses of a program, with what each holds.
 
-ghost use Rattle.std.specs.Prelude.{◌≡◌, ◌<◌, ◌++◌, [], ◌∷◌, All, Bool, length, slice_get, Some, IfSome, IfNone, IfOk, OnOk, OnErr};
+ghost use Rattle.std.specs.Prelude.{◌≡◌, ◌<◌, ◌≤◌, ◌++◌, [], ◌∷◌, All, length, slice_get, Some, IfSome, IfNone, IfOk, OnOk, OnErr};
 ghost use Rattle.cq_clauses.specs.Database.{database, clause_added, clause_removed, declared_dynamic, kind_of, clauses_of};
-ghost use Rattle.cq_clauses.specs.Selected.{selected};
+ghost use Rattle.cq_clauses.specs.Keys.{may_match as matches};
+ghost use Rattle.cq_clauses.specs.Selected.{key_at, matching};
 ghost use Rattle.cq_clauses.specs.Snapshots.{IsSnapshot, KeepsSnapshots, seen};
+ghost use Rattle.cq_clauses.specs.Stored.{IsIndexOf};
+ghost use Rattle.cq_clauses.specs.Walks.{IsWalk, KeepsWalks, left, seen_matching};
 ghost use Rattle.cq_clauses.specs.declared.list.End.TheVariants.{First, Last};
 
+use crate::index::Index;
+use crate::indexes::Indexes;
+use crate::key::{Key, Keyed};
 use crate::list::End;
 use crate::procedures::{Kind, Place, Procedures, Snapshot};
+use crate::walk::Walk;
 use cq_term::Pred;
 use std::alloc::{AllocError, Global};
 use std::marker::Model;
@@ -28,15 +35,6 @@ impl Model for ClauseNo {
     ghost inverse = { λ n. record { number = n } };
 }
 
-/// Tells by what a clause holds whether a call may use it, as by the kind of its first argument.
-pub trait Selects<C> {
-    ghost selects: { Self → C → Bool };
-
-    /// Whether a call may use a clause that holds this.
-    fn selects(&self, content: &C) -> bool
-        ensures { result ≡ selects self.now content.now };
-}
-
 /// What a clause holds, and where it was added.
 #[derive(Drop)]
 struct Stored<C> {
@@ -47,24 +45,27 @@ struct Stored<C> {
 /// The clauses of a program by predicate. A call reads them through a snapshot, which no later change alters. The
 /// memory of a clause that is removed is kept, since a snapshot may still show it.
 #[derive(Drop)]
-pub struct Clauses<C> {
+pub struct Clauses<C: Keyed> {
     stored: Vec<Stored<C>>,
     procedures: Procedures,
+    indexes: Indexes,
+    alloc: Global,
 }
 
-impl<C> Model for Clauses<C> {
+impl<C: Keyed> Model for Clauses<C> {
     ghost use Rattle.std.specs.Prelude.{map};
     ghost use Rattle.cq_clauses.specs.ClausesValue.{ClausesValue};
-    ghost use Rattle.cq_clauses.specs.Stored.{IsStore};
+    ghost use Rattle.cq_clauses.specs.Selected.{key_at};
+    ghost use Rattle.cq_clauses.specs.Stored.{IsHeld};
 
     ghost Value = { ClausesValue C };
 
     ghost view = { λ s. record { contents = map (λ x. x.content) s.stored.items; procedures = s.procedures } };
 
-    ghost invariant = { λ s. IsStore (map (λ x. x.place) s.stored.items) s.procedures };
+    ghost invariant = { λ s. IsHeld (map (λ x. x.place) s.stored.items) (key_at C.key_of (map (λ x. x.content) s.stored.items)) s.indexes.list.items s.procedures };
 }
 
-impl<C: Drop> Clauses<C> {
+impl<C: Keyed + Drop> Clauses<C> {
     /// No clauses; it takes no memory until the first is added.
     pub fn new(alloc: Global) -> Self
         ensures contents { result.contents ≡ [] }
@@ -73,6 +74,8 @@ impl<C: Drop> Clauses<C> {
         Clauses {
             stored: Vec::new(alloc),
             procedures: Procedures::new(alloc),
+            indexes: Indexes::new(alloc),
+            alloc,
         }
     }
 
@@ -82,6 +85,7 @@ impl<C: Drop> Clauses<C> {
         ensures contents { OnOk result (self.new.contents ≡ self.old.contents ++ content ∷ []) }
         ensures database { OnOk result (database self.new.procedures ≡ clause_added First kind pred (length self.old.contents) (database self.old.procedures)) }
         ensures snapshots { KeepsSnapshots self.old.procedures self.new.procedures }
+        ensures walks { KeepsWalks C.key_of self.old self.new }
         ensures err { OnErr result (self.new ≡ self.old) }
     {
         self.add(pred, content, kind, End::First)
@@ -93,6 +97,7 @@ impl<C: Drop> Clauses<C> {
         ensures contents { OnOk result (self.new.contents ≡ self.old.contents ++ content ∷ []) }
         ensures database { OnOk result (database self.new.procedures ≡ clause_added Last kind pred (length self.old.contents) (database self.old.procedures)) }
         ensures snapshots { KeepsSnapshots self.old.procedures self.new.procedures }
+        ensures walks { KeepsWalks C.key_of self.old self.new }
         ensures err { OnErr result (self.new ≡ self.old) }
     {
         self.add(pred, content, kind, End::Last)
@@ -103,11 +108,14 @@ impl<C: Drop> Clauses<C> {
         ensures contents { OnOk result (self.new.contents ≡ self.old.contents ++ content ∷ []) }
         ensures database { OnOk result (database self.new.procedures ≡ clause_added end kind pred (length self.old.contents) (database self.old.procedures)) }
         ensures snapshots { KeepsSnapshots self.old.procedures self.new.procedures }
+        ensures walks { KeepsWalks C.key_of self.old self.new }
         ensures err { OnErr result (self.new ≡ self.old) }
     {
         let number = self.stored.len();
         self.stored.reserve(1)?;
+        let key = content.key();
         let place = self.procedures.add(pred, kind, number, end)?;
+        self.indexes.note(place.procedure, key, end);
         self.stored.push(Stored { content, place }).unwrap();
         Ok(ClauseNo { number })
     }
@@ -118,6 +126,7 @@ impl<C: Drop> Clauses<C> {
         ensures contents { self.new.contents ≡ self.old.contents }
         ensures database { database self.new.procedures ≡ clause_removed clause (database self.old.procedures) }
         ensures snapshots { KeepsSnapshots self.old.procedures self.new.procedures }
+        ensures walks { KeepsWalks C.key_of self.old self.new }
     {
         let place = self.stored[clause.number].place;
         self.procedures.remove(place);
@@ -128,6 +137,7 @@ impl<C: Drop> Clauses<C> {
         ensures contents { self.new.contents ≡ self.old.contents }
         ensures database { OnOk result (database self.new.procedures ≡ declared_dynamic pred (database self.old.procedures)) }
         ensures snapshots { KeepsSnapshots self.old.procedures self.new.procedures }
+        ensures walks { KeepsWalks C.key_of self.old self.new }
         ensures err { OnErr result (self.new ≡ self.old) }
     {
         self.procedures.declare_dynamic(pred)?;
@@ -172,26 +182,131 @@ impl<C: Drop> Clauses<C> {
         }
     }
 
-    /// The first clause of a snapshot that is selected, and the snapshot of those behind it; None where no clause that
-    /// is left is selected.
-    pub fn next_selected<S: Selects<C>>(
+    /// The first clause of a snapshot that may match a call with this key, and the snapshot of those behind it; None where
+    /// no clause that is left may match. A call has no key where its goal has no argument, or a variable as its first.
+    pub fn next_matching(
         &self,
         snapshot: Snapshot,
-        selector: &S,
+        key: Option<Key>,
     ) -> Option<(ClauseNo, Snapshot)>
         requires { IsSnapshot snapshot self.now.procedures }
-        ensures none { IfNone result (selected (S.selects selector.now) self.now.contents (seen snapshot self.now.procedures) ≡ []) }
-        ensures some { IfSome result (λ r. selected (S.selects selector.now) self.now.contents (seen snapshot self.now.procedures) ≡ r.0 ∷ selected (S.selects selector.now) self.now.contents (seen r.1 self.now.procedures)) }
+        ensures none { IfNone result (seen_matching C.key_of key snapshot self.now ≡ []) }
+        ensures some { IfSome result (λ r. seen_matching C.key_of key snapshot self.now ≡ r.0 ∷ seen_matching C.key_of key r.1 self.now) }
+        ensures taken { IfSome result (λ r. IsSnapshot r.1 self.now.procedures) }
+        ensures known { IfSome result (λ r. r.0 < length self.now.contents) }
+    {
+        match key {
+            Some(key) => self.next_with(snapshot, &key),
+            None => self.next(snapshot),
+        }
+    }
+
+    /// The clauses of the predicate as they are now that may match a call with this key.
+    pub fn walk(&mut self, pred: Pred, key: Option<Key>) -> Walk
+        ensures same { self.new ≡ self.old }
+        ensures opened { IsWalk result self.old }
+        ensures left { left C.key_of result self.old ≡ matching (key_at C.key_of self.old.contents) key (clauses_of pred (database self.old.procedures)) }
+    {
+        if key.is_some() {
+            self.index(&pred);
+        }
+        let snapshot = self.snapshot(pred);
+        let ahead = self.next_matching(snapshot, key);
+        Walk { key, ahead }
+    }
+
+    /// The next clause of a walk, which is then left without it; None where it has none left, and stays as it is.
+    pub fn step(&self, walk: &mut Walk) -> Option<ClauseNo>
+        requires { IsWalk walk.old self.now }
+        ensures none { IfNone result (left C.key_of walk.old self.now ≡ []) }
+        ensures some { IfSome result (λ n. left C.key_of walk.old self.now ≡ n ∷ left C.key_of walk.new self.now) }
+        ensures opened { IsWalk walk.new self.now }
+        ensures known { IfSome result (λ n. n < length self.now.contents) }
+        ensures stays { IfNone result (walk.new ≡ walk.old) }
+    {
+        let (clause, rest) = walk.ahead?;
+        walk.ahead = self.next_matching(rest, walk.key);
+        Some(clause)
+    }
+
+    fn next_with(&self, snapshot: Snapshot, key: &Key) -> Option<(ClauseNo, Snapshot)>
+        requires { IsSnapshot snapshot self.now.procedures }
+        ensures none { IfNone result (seen_matching C.key_of (Some key.now) snapshot self.now ≡ []) }
+        ensures some { IfSome result (λ r. seen_matching C.key_of (Some key.now) snapshot self.now ≡ r.0 ∷ seen_matching C.key_of (Some key.now) r.1 self.now) }
         ensures taken { IfSome result (λ r. IsSnapshot r.1 self.now.procedures) }
         ensures known { IfSome result (λ r. r.0 < length self.now.contents) }
     {
         let mut rest = snapshot;
-        while let Some((clause, behind)) = self.next(rest) {
+        while let Some((clause, behind)) = self.next(self.skipped(rest, key)) {
             rest = behind;
-            if selector.selects(self.content(clause)) {
+            if may_match(key, self.content(clause).key()) {
                 return Some((clause, rest));
             }
         }
         None
+    }
+
+    /// The snapshot behind clauses that an index tells not to match.
+    fn skipped(&self, snapshot: Snapshot, key: &Key) -> Snapshot
+        requires { IsSnapshot snapshot self.now.procedures }
+        ensures taken { IsSnapshot result self.now.procedures }
+        ensures fewer { length (seen result self.now.procedures) ≤ length (seen snapshot self.now.procedures) }
+        ensures same { seen_matching C.key_of (Some key.now) result self.now ≡ seen_matching C.key_of (Some key.now) snapshot self.now }
+    {
+        let Some((procedure, place)) = self.procedures.start(&snapshot) else {
+            return snapshot;
+        };
+        match self.indexes.get(procedure) {
+            Some(index) => {
+                let next = index.next(key, place);
+                self.procedures.skipped(snapshot, next - place)
+            }
+            None => snapshot,
+        }
+    }
+
+    /// Makes an index of the predicate's clauses by their keys, where there are more than a few and none was made. If memory
+    /// is out there is none, and calls go through all clauses.
+    fn index(&mut self, pred: &Pred)
+        ensures { self.new ≡ self.old }
+    {
+        let Some(procedure) = self.procedures.find(pred) else {
+            return;
+        };
+        if self.procedures.clauses(procedure).len() <= FEW
+            || self.indexes.get(procedure).is_some()
+        {
+            return;
+        }
+        if let Ok(index) = self.made(procedure) {
+            let _ = self.indexes.put(procedure, index);
+        }
+    }
+
+    /// An index of a procedure's clauses.
+    fn made(&self, procedure: usize) -> Result<Index, AllocError>
+        requires { procedure < length self.now.procedures }
+        ensures { IfOk result (λ index. IsIndexOf index (key_at C.key_of self.now.contents) procedure self.now.procedures) }
+    {
+        let clauses = self.procedures.clauses(procedure);
+        let mut index = Index::new(self.alloc);
+        for place in 0..clauses.len() {
+            let clause = clauses.clause(place);
+            index.add(self.stored[clause].content.key(), End::Last)?;
+        }
+        Ok(index)
+    }
+}
+
+/// The greatest number of clauses that are gone through without an index.
+const FEW: usize = 8;
+
+/// Whether a clause of this key may match a call with a key.
+fn may_match(key: &Key, of_clause: Option<Key>) -> bool
+    ensures { result ≡ matches key.now of_clause }
+{
+    match of_clause {
+        Some(other) => *key == other,
+        None => true,
     }
 }

@@ -1,13 +1,27 @@
 // Clauses that change between the readings of snapshots, against whole lists that are copied.
 
-ghost use Rattle.std.specs.Prelude.{nat_le};
 ghost use Rattle.cq_clauses.specs.Snapshots.{IsSnapshot, KeepsSnapshots};
 
-use crate::{Clauses, Kind, Selects, Snapshot};
+use crate::{Clauses, Key, Keyed, Kind, Snapshot};
 use cq_atoms::{Atom, Atoms};
+use cq_frac::Frac;
 use cq_term::Pred;
 use std::alloc::{AllocError, Global};
 use std::test::Fail;
+
+#[derive(Drop)]
+struct Fact {
+    key: Option<Key>,
+    number: u32,
+}
+
+impl Keyed for Fact {
+    ghost key_of = { λ fact. fact.key };
+
+    fn key(&self) -> Option<Key> {
+        self.key
+    }
+}
 
 /// A change of the clauses of `p/1`.
 #[derive(Clone, Copy)]
@@ -45,20 +59,20 @@ const LATE: [Step; 12] = [
 ];
 
 /// What the clauses of a snapshot hold, in order.
-fn read(clauses: &Clauses<u32>, snapshot: Snapshot, alloc: Global) -> Result<Vec<u32>, AllocError>
+fn read(clauses: &Clauses<Fact>, snapshot: Snapshot, alloc: Global) -> Result<Vec<u32>, AllocError>
     requires { IsSnapshot snapshot clauses.now.procedures }
 {
     let mut contents = Vec::new(alloc);
     let mut rest = snapshot;
     while let Some((clause, behind)) = clauses.next(rest) {
-        contents.push(*clauses.content(clause))?;
+        contents.push(clauses.content(clause).number)?;
         rest = behind;
     }
     Ok(contents)
 }
 
 /// Removes the clause that so many of `name/1` stand before.
-fn remove(clauses: &mut Clauses<u32>, name: Atom, place: usize)
+fn remove(clauses: &mut Clauses<Fact>, name: Atom, place: usize)
     ensures { KeepsSnapshots clauses.old.procedures clauses.new.procedures }
 {
     let mut rest = clauses.snapshot(Pred { name, arity: 1 });
@@ -75,7 +89,7 @@ fn remove(clauses: &mut Clauses<u32>, name: Atom, place: usize)
 
 /// Makes the same change to the clauses of `name/1` and to a list.
 fn change(
-    clauses: &mut Clauses<u32>,
+    clauses: &mut Clauses<Fact>,
     list: &mut Vec<u32>,
     name: Atom,
     step: Step,
@@ -84,11 +98,25 @@ fn change(
 {
     match step {
         Step::First(content) => {
-            clauses.add_first(Pred { name, arity: 1 }, content, Kind::Dynamic)?;
+            clauses.add_first(
+                Pred { name, arity: 1 },
+                Fact {
+                    key: None,
+                    number: content,
+                },
+                Kind::Dynamic,
+            )?;
             list.insert(0, content)?;
         }
         Step::Last(content) => {
-            clauses.add_last(Pred { name, arity: 1 }, content, Kind::Dynamic)?;
+            clauses.add_last(
+                Pred { name, arity: 1 },
+                Fact {
+                    key: None,
+                    number: content,
+                },
+                Kind::Dynamic,
+            )?;
             list.push(content)?;
         }
         Step::Remove(place) => {
@@ -102,7 +130,7 @@ fn change(
 }
 
 fn change_all(
-    clauses: &mut Clauses<u32>,
+    clauses: &mut Clauses<Fact>,
     list: &mut Vec<u32>,
     name: Atom,
     steps: &[Step],
@@ -133,13 +161,20 @@ fn a_snapshot_shows_the_clauses_as_they_were(rt: HostRuntime) -> Result<(), Fail
 }
 
 /// Runs `retract(name(_)), assertz(name(content)), fail`.
-fn replace_all(clauses: &mut Clauses<u32>, name: Atom, content: u32) -> Result<(), AllocError>
+fn replace_all(clauses: &mut Clauses<Fact>, name: Atom, content: u32) -> Result<(), AllocError>
     ensures { KeepsSnapshots clauses.old.procedures clauses.new.procedures }
 {
     let mut rest = clauses.snapshot(Pred { name, arity: 1 });
     while let Some((clause, behind)) = clauses.next(rest) {
         clauses.remove(clause);
-        clauses.add_last(Pred { name, arity: 1 }, content, Kind::Dynamic)?;
+        clauses.add_last(
+            Pred { name, arity: 1 },
+            Fact {
+                key: None,
+                number: content,
+            },
+            Kind::Dynamic,
+        )?;
         rest = behind;
     }
     Ok(())
@@ -149,8 +184,8 @@ fn replace_all(clauses: &mut Clauses<u32>, name: Atom, content: u32) -> Result<(
 fn a_call_takes_no_clause_that_is_added_while_it_runs(rt: HostRuntime) -> Result<(), Fail> {
     let name = Atoms::new(rt.alloc()).intern("q")?;
     let mut clauses = Clauses::new(rt.alloc());
-    clauses.add_last(Pred { name, arity: 1 }, 1, Kind::Dynamic)?;
-    clauses.add_last(Pred { name, arity: 1 }, 2, Kind::Dynamic)?;
+    add(&mut clauses, name, None, 1)?;
+    add(&mut clauses, name, None, 2)?;
     let before = clauses.snapshot(Pred { name, arity: 1 });
     replace_all(&mut clauses, name, 9)?;
     let running = read(&clauses, before, rt.alloc())?;
@@ -165,8 +200,16 @@ fn a_call_takes_no_clause_that_is_added_while_it_runs(rt: HostRuntime) -> Result
 fn procedures_are_found_by_name_and_arity(rt: HostRuntime) -> Result<(), Fail> {
     let name = Atoms::new(rt.alloc()).intern("p")?;
     let mut clauses = Clauses::new(rt.alloc());
-    clauses.add_last(Pred { name, arity: 1 }, 10, Kind::Static)?;
-    clauses.add_last(Pred { name, arity: 2 }, 20, Kind::Static)?;
+    let fact = Fact {
+        key: None,
+        number: 10,
+    };
+    let other = Fact {
+        key: None,
+        number: 20,
+    };
+    clauses.add_last(Pred { name, arity: 1 }, fact, Kind::Static)?;
+    clauses.add_last(Pred { name, arity: 2 }, other, Kind::Static)?;
     clauses.declare_dynamic(Pred { name, arity: 2 })?;
     let two = clauses.snapshot(Pred { name, arity: 2 });
     let held = read(&clauses, two, rt.alloc())?;
@@ -183,25 +226,100 @@ fn procedures_are_found_by_name_and_arity(rt: HostRuntime) -> Result<(), Fail> {
     Ok(())
 }
 
-struct AtLeast(u32);
+/// Adds a clause of `name/1` behind the others.
+fn add(
+    clauses: &mut Clauses<Fact>,
+    name: Atom,
+    key: Option<Key>,
+    number: u32,
+) -> Result<(), AllocError> {
+    clauses.add_last(Pred { name, arity: 1 }, Fact { key, number }, Kind::Dynamic)?;
+    Ok(())
+}
 
-impl Selects<u32> for AtLeast {
-    ghost selects = { λ least content. nat_le least.0 content };
-
-    fn selects(&self, content: &u32) -> bool {
-        self.0 <= *content
+/// The numbers of the clauses of `name/1` that may match a call with this key.
+fn ask(
+    clauses: &mut Clauses<Fact>,
+    name: Atom,
+    key: Option<Key>,
+    alloc: Global,
+) -> Result<Vec<u32>, AllocError> {
+    let mut numbers = Vec::new(alloc);
+    let mut walk = clauses.walk(Pred { name, arity: 1 }, key);
+    while let Some(clause) = clauses.step(&mut walk) {
+        numbers.push(clauses.content(clause).number)?;
     }
+    Ok(numbers)
 }
 
 #[test]
-fn clauses_that_are_not_selected_are_left_out(rt: HostRuntime) -> Result<(), Fail> {
+fn clauses_of_another_key_are_passed_over(rt: HostRuntime) -> Result<(), Fail> {
+    let mut atoms = Atoms::new(rt.alloc());
+    let a = atoms.intern("a")?;
+    let b = atoms.intern("b")?;
+    let mut clauses = Clauses::new(rt.alloc());
+    add(&mut clauses, a, Some(Key::Name(a)), 1)?;
+    add(&mut clauses, a, None, 2)?;
+    add(&mut clauses, a, Some(Key::Name(b)), 3)?;
+    add(&mut clauses, a, Some(Key::Number(Frac::one())), 4)?;
+    add(&mut clauses, a, Some(Key::Compound(b, 1)), 5)?;
+    let name = ask(&mut clauses, a, Some(Key::Name(b)), rt.alloc())?;
+    let number = ask(&mut clauses, a, Some(Key::Number(Frac::one())), rt.alloc())?;
+    let variable = ask(&mut clauses, a, None, rt.alloc())?;
+    assert_eq!(rt; name.as_slice(), [2, 3].as_slice());
+    assert_eq!(rt; number.as_slice(), [2, 4].as_slice());
+    assert_eq!(rt; variable.as_slice(), [1, 2, 3, 4, 5].as_slice());
+    Ok(())
+}
+
+fn add_many(clauses: &mut Clauses<Fact>, name: Atom) -> Result<(), AllocError> {
+    for number in 0..20 {
+        add(
+            clauses,
+            name,
+            Some(Key::Compound(name, number as usize)),
+            number,
+        )?;
+    }
+    Ok(())
+}
+
+/// The key of `name(_, _, _, _, _, _, _)`.
+fn seven(name: Atom) -> Option<Key> {
+    Some(Key::Compound(name, 7))
+}
+
+fn add_about(clauses: &mut Clauses<Fact>, name: Atom) -> Result<(), AllocError> {
+    let fact = Fact {
+        key: seven(name),
+        number: 100,
+    };
+    clauses.add_first(Pred { name, arity: 1 }, fact, Kind::Dynamic)?;
+    add(clauses, name, None, 200)
+}
+
+#[test]
+fn an_index_is_kept_under_changes(rt: HostRuntime) -> Result<(), Fail> {
     let name = Atoms::new(rt.alloc()).intern("p")?;
     let mut clauses = Clauses::new(rt.alloc());
-    clauses.add_last(Pred { name, arity: 1 }, 3, Kind::Static)?;
-    let seven = clauses.add_last(Pred { name, arity: 1 }, 7, Kind::Static)?;
-    clauses.add_last(Pred { name, arity: 1 }, 4, Kind::Static)?;
-    let all = clauses.snapshot(Pred { name, arity: 1 });
-    let found = clauses.next_selected(all, &AtLeast(5));
-    assert_eq!(rt; found.map(|(clause, _)| clause), Some(seven));
+    add_many(&mut clauses, name)?;
+    let before = ask(&mut clauses, name, seven(name), rt.alloc())?;
+    add_about(&mut clauses, name)?;
+    let after = ask(&mut clauses, name, seven(name), rt.alloc())?;
+    assert_eq!(rt; before.as_slice(), [7].as_slice());
+    assert_eq!(rt; after.as_slice(), [100, 7, 200].as_slice());
+    Ok(())
+}
+
+#[test]
+fn the_last_clause_is_known_before_it_is_entered(rt: HostRuntime) -> Result<(), Fail> {
+    let name = Atoms::new(rt.alloc()).intern("p")?;
+    let mut clauses = Clauses::new(rt.alloc());
+    add_about(&mut clauses, name)?;
+    let mut walk = clauses.walk(Pred { name, arity: 1 }, seven(name));
+    assert!(rt; clauses.step(&mut walk).is_some());
+    assert!(rt; !walk.is_empty());
+    assert!(rt; clauses.step(&mut walk).is_some());
+    assert!(rt; walk.is_empty());
     Ok(())
 }

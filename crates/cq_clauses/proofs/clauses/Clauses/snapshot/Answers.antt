@@ -14,4 +14,4 @@ returns-clause-known g c =
     let same : length (map place_of items) ≡ length (map content_of items) = length-map items place_of ∙ sym (length-map items content_of) in
     rw (← c.self.view_is)
     (subst (λ count. All (λ n. n < count) (seen c.snapshot.result c.self.inside.procedures)) same
-    (all_known (map place_of items) c.self.inside.procedures c.snapshot.result c.self.invariant c.snapshot.ensures.taken))
+    (all_known (map place_of items) c.self.inside.procedures c.snapshot.result c.self.invariant.store c.snapshot.ensures.taken))

@@ -1,0 +1,24 @@
+// The clauses of a call, of which the next is known.
+
+ghost use Rattle.cq_clauses.specs.Walks.{HasNoneLeft};
+
+use crate::clauses::ClauseNo;
+use crate::key::Key;
+use crate::procedures::Snapshot;
+
+/// The clauses that a call has still to try, in order. The next is known before the one in front of it is entered, so that a
+/// call leaves no choice behind at its last.
+#[derive(Clone, Copy, Debug)]
+pub struct Walk {
+    pub(crate) key: Option<Key>,
+    pub(crate) ahead: Option<(ClauseNo, Snapshot)>,
+}
+
+impl Walk {
+    /// Whether no clause is left.
+    pub fn is_empty(&self) -> bool
+        ensures { HasNoneLeft result self.now }
+    {
+        self.ahead.is_none()
+    }
+}
