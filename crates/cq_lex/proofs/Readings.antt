@@ -1,5 +1,5 @@
 -- Digits, quotes and fractions as the loops read them.
-use Rattle.std.proofs.Common.{◌≡◌, ℕ, zero, suc, ◌+◌, ◌-◌, ◌*◌, ◌/◌, ◌<◌, ◌≤◌, ◌^◌, Bool, true, false, cond, List, [], ◌∷◌, ◌++◌, length, take, nat_lt, Option, Some, None, Result, Ok, Err, refl, sym, ap, subst, ◌∙◌, arith, append_assoc, append-nil, drop, length-drop, pred, lit<, inl, inr}
+use Rattle.std.proofs.Common.{◌≡◌, ℕ, zero, suc, ◌+◌, ◌-◌, ◌*◌, ◌/◌, ◌<◌, ◌≤◌, ◌^◌, Bool, true, false, cond, List, [], ◌∷◌, ◌++◌, length, take, nat_lt, Option, Some, None, Result, Ok, Err, refl, sym, ap, subst, ◌∙◌, arith, append_assoc, drop, length-drop, pred, lit<, inl, inr}
 use Rattle.std.specs.Prelude.{min, ◌==◌, if◌then◌else◌, pos, nat_abs}
 use Rattle.std.specs.Char.{is_digit, digit_value}
 use Rattle.std.specs.Str.{continuation_len}
@@ -21,7 +21,7 @@ use Rattle.cq_lex.specs.declared.numerals.Written.{Written}
 use Rattle.cq_lex.specs.declared.numerals.Part.TheVariants.{There}
 use Rattle.cq_lex.specs.Written.{Finds, spelt}
 use Rattle.cq_lex.specs.declared.quotes.Turn.TheVariants.{Go, Stop}
-use Rattle.cq_lex.specs.Turns.{behind, closed, Follows}
+use Rattle.cq_lex.specs.Turns.{behind, Follows}
 
 either : (t : Bool) (m x y : ℕ) → m ≤ x → m ≤ y → m ≤ cond t x y
 either true m x y p q = p
@@ -176,20 +176,8 @@ quoted_go q skip at b c rest tail split follows =
     let here : Follows (Go skip c) q (b ∷ tail) at = subst (λ r. Follows (Go skip c) q r at) split follows in
     ap (λ r. quoted q 0 r at) split ∙ here
 
-pub ends_closed : (end : Result ℕ LexFault) → ends (closed end) ≡ end
-ends_closed (Ok stop) = refl
-ends_closed (Err f) = refl
-
-same_quoted : (a b : Quoted) → (let r : Result Quoted LexFault = Ok a in r ≡ Ok b) → a ≡ b
-same_quoted a b e = cc
-
 no_quoted : (f : LexFault) (a : Quoted) → (let r : Result Quoted LexFault = Err f in r ≡ Ok a) → ⊥
 no_quoted f a e = cc
-
--- where the reader stops, all of the text was read
-pub stops_with : (out : List ℕ) (end : Result ℕ LexFault) (held : Quoted) → behind out (closed end) ≡ Ok held → out ≡ held.text
-stops_with out (Ok stop) held e = sym (append-nil out) ∙ ap (λ (q : Quoted). q.text) (same_quoted _ held e)
-stops_with out (Err f) held e = absurd (no_quoted f held e)
 
 -- the text's end is a fault
 pub no_end : (out : List ℕ) (f : LexFault) (held : Quoted) → behind out (Err f) ≡ Ok held → ⊥

@@ -1,4 +1,5 @@
 pub mod Kept
+pub mod Naming
 pub mod Trees
 pub mod Interned
 pub mod Defaults

@@ -1,13 +1,19 @@
 -- Which names a table of texts knows.
-use Rattle.std.specs.Prelude.{◌≡◌, ℕ, List, Option, Some, None, codes, slice_get, ⊤}
+use Rattle.std.specs.Prelude.{◌≡◌, ℕ, List, All, Option, Some, None, codes, length, slice_get, ⊤}
 use Rattle.spec_lists.specs.Texts.{Text}
 use Rattle.cq_atoms.specs.Texts.{AreDifferent, text_of}
+use Rattle.cq_term.specs.Meaning.{HeapTerm}
+use Rattle.cq_term.specs.Names.{HasNamesBelow}
 use Rattle.cq_parse.specs.declared.tokens.Token.{Token}
 use Rattle.cq_parse.specs.declared.tokens.Token.TheVariants as token
+use Rattle.cq_parse.specs.declared.frames.Frame.{Frame}
+use Rattle.cq_parse.specs.declared.frames.Frame.TheVariants as frame
 use Rattle.cq_parse.specs.declared.frames.State.{State}
 use Rattle.cq_parse.specs.declared.frames.State.TheVariants as state
 use Rattle.cq_parse.specs.declared.folding.Folded.{Folded}
 use Rattle.cq_parse.specs.declared.folding.Folded.TheVariants as folded
+use Rattle.cq_parse.specs.declared.operators.UseThere.{UseThere}
+use Rattle.cq_parse.specs.declared.operators.UseThere.TheVariants as use_there
 use Rattle.cq_parse.specs.declared.names.GrammarNames.{GrammarNames}
 
 -- the number has a text
@@ -30,6 +36,7 @@ KnowsToken texts tok = ⊤
 
 abbrev pub KnowsState : List Text → State → Type 0
 KnowsState texts (state.AfterName f most) = IsKnown texts f
+KnowsState texts (state.AfterFunctor f most) = IsKnown texts f
 KnowsState texts s = ⊤
 
 abbrev pub KnowsOrNone : List Text → Option State → Type 0
@@ -39,6 +46,27 @@ KnowsOrNone texts (Some s) = KnowsState texts s
 abbrev pub KnowsFolded : List Text → Folded → Type 0
 KnowsFolded texts (folded.Operand most priority operand) = ⊤
 KnowsFolded texts (folded.Done next) = KnowsOrNone texts next
+
+abbrev pub KnowsUse : List Text → UseThere → Type 0
+KnowsUse texts (use_there.Infix f op) = IsKnown texts f
+KnowsUse texts (use_there.Postfix f op) = IsKnown texts f
+KnowsUse texts use_there.Outside = ⊤
+
+-- the names that stand in terms are known
+abbrev pub KnowsTerms : List Text → List HeapTerm → Type 0
+KnowsTerms texts ts = All (HasNamesBelow (length texts)) ts
+
+-- the name of a frame, if it has one, is known
+abbrev pub KnowsFrame : List Text → Frame → Type 0
+KnowsFrame texts (frame.RightOf f left op most) = IsKnown texts f
+KnowsFrame texts (frame.OperandOf f op most) = IsKnown texts f
+KnowsFrame texts (frame.InArguments f before most) = IsKnown texts f
+KnowsFrame texts k = ⊤
+
+-- the names of terms and of frames are known
+pub record KnowsNames (texts : List Text) (ts : List HeapTerm) (stack : List Frame) : Type 0 where
+  pub terms : KnowsTerms texts ts
+  pub frames : All (KnowsFrame texts) stack
 
 -- the texts differ, and have the names that a step looks at
 pub record Knows (texts : List Text) (names : GrammarNames) (tok : Token) : Type 0 where

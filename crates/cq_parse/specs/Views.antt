@@ -1,5 +1,6 @@
 -- What the machine's tokens, frames and state mean, by the texts of the names and the terms of the heap.
-use Rattle.std.specs.Prelude.{◌≡◌, ℕ, ◌<◌, ◌≤◌, List, ◌++◌, Option, Some, None, map, reverse, All, ⊤}
+use Rattle.std.specs.Prelude.{◌≡◌, ℕ, ◌<◌, ◌≤◌, List, ◌++◌, Option, Some, None, Result, IfOk, map, reverse, All, ⊤}
+use Rattle.std.specs.declared.alloc.AllocError.{AllocError}
 use Rattle.std.specs.String.{string_bytes}
 use Rattle.spec_lists.specs.Texts.{Text}
 use Rattle.spec_lists.specs.Prefixes.{IsPrefix}
@@ -82,6 +83,10 @@ state_of texts ts k (state.Whole term) = machine.Whole (tree texts ts term)
 abbrev pub state_or_none : List Text → List HeapTerm → List Frame → Option State → Option machine.State
 state_or_none texts ts frames None = None
 state_or_none texts ts frames (Some s) = Some (state_of texts ts (frames_of texts ts frames) s)
+
+-- a step leads to this state of the definition's machine, or its token is refused as there
+abbrev pub LeadsTo : List Text → List HeapTerm → List Frame → Result (Option State) AllocError → Option machine.State → Type 0
+LeadsTo texts ts frames r s = IfOk r (λ next. state_or_none texts ts frames next ≡ s)
 
 abbrev pub use_by_text : List Text → UseThere → Use
 use_by_text texts (use_there.Infix f op) = AsInfix (text_of texts f) op

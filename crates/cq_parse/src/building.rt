@@ -9,7 +9,7 @@ ghost use Rattle.spec_syntax.specs.Trees.{code_list};
 ghost use Rattle.spec_rational.specs.Rational.{int_ℚ};
 ghost use Rattle.cq_term.specs.Meaning.{at};
 ghost use Rattle.cq_parse.specs.Views.{OnlyGrows, tree, trees};
-ghost use Rattle.cq_parse.specs.Known.{AreGrammarNames};
+ghost use Rattle.cq_parse.specs.Known.{AreGrammarNames, IsKnown, KnowsTerms};
 
 use crate::names::GrammarNames;
 use cq_atoms::Atom;
@@ -23,6 +23,7 @@ pub fn compound(heap: &mut Heap, name: Atom, args: &[TermId]) -> Result<TermId, 
     requires live { All (λ i. i < length heap.old.now.terms) args.now }
     ensures live { IfOk result (λ id. id < length heap.new.now.terms) }
     ensures built { IfOk result (λ id. at heap.new.now.terms id ≡ with_arguments name (map (at heap.old.now.terms) args.now)) }
+    ensures names { (texts : List Text) → IsKnown texts name → KnowsTerms texts heap.old.now.terms → OnOk result (KnowsTerms texts heap.new.now.terms) }
     ensures heap { OnlyGrows heap.old heap.new }
 {
     heap.compound(name, args)
@@ -32,6 +33,7 @@ pub fn compound(heap: &mut Heap, name: Atom, args: &[TermId]) -> Result<TermId, 
 pub fn atom(heap: &mut Heap, name: Atom) -> Result<TermId, AllocError>
     ensures live { IfOk result (λ id. id < length heap.new.now.terms) }
     ensures built { IfOk result (λ id. at heap.new.now.terms id ≡ with_arguments name []) }
+    ensures names { (texts : List Text) → IsKnown texts name → KnowsTerms texts heap.old.now.terms → OnOk result (KnowsTerms texts heap.new.now.terms) }
     ensures heap { OnlyGrows heap.old heap.new }
 {
     heap.atom(name)
@@ -47,8 +49,10 @@ pub fn list(
     requires elements { All (λ i. i < length heap.old.now.terms) elements.items }
     requires tail { tail < length heap.old.now.terms }
     ensures live { IfOk result (λ id. id < length heap.new.now.terms) }
-    ensures list { (texts : List Text) → AreGrammarNames texts names.now
-        → IfOk result (λ id. tree texts heap.new.now.terms id ≡ with_elements_before (trees texts heap.old.now.terms elements.items) (tree texts heap.old.now.terms tail)) }
+    ensures list { (texts : List Text) → AreGrammarNames texts names.now → let ts = heap.old.now.terms in
+        IfOk result (λ id. tree texts heap.new.now.terms id ≡ with_elements_before (trees texts ts elements.items) (tree texts ts tail)) }
+    ensures names { (texts : List Text) → AreGrammarNames texts names.now → KnowsTerms texts heap.old.now.terms
+        → OnOk result (KnowsTerms texts heap.new.now.terms) }
     ensures heap { OnlyGrows heap.old heap.new }
 {
     let mut left = elements;
@@ -63,6 +67,7 @@ pub fn list(
 pub fn number(heap: &mut Heap, number: Frac) -> Result<TermId, AllocError>
     ensures live { IfOk result (λ id. id < length heap.new.now.terms) }
     ensures built { IfOk result (λ id. at heap.new.now.terms id ≡ Number number) }
+    ensures names { (texts : List Text) → KnowsTerms texts heap.old.now.terms → OnOk result (KnowsTerms texts heap.new.now.terms) }
     ensures heap { OnlyGrows heap.old heap.new }
 {
     heap.number(number)
@@ -86,6 +91,8 @@ fn characters(alloc: Global, text: &str) -> Result<Vec<char>, AllocError>
 pub fn code_list(heap: &mut Heap, names: &GrammarNames, text: &str) -> Result<TermId, AllocError>
     ensures live { IfOk result (λ id. id < length heap.new.now.terms) }
     ensures list { (texts : List Text) → AreGrammarNames texts names.now → IfOk result (λ id. tree texts heap.new.now.terms id ≡ code_list text.now) }
+    ensures names { (texts : List Text) → AreGrammarNames texts names.now → KnowsTerms texts heap.old.now.terms
+        → OnOk result (KnowsTerms texts heap.new.now.terms) }
     ensures heap { OnlyGrows heap.old heap.new }
 {
     let mut left = characters(heap.alloc(), text)?;

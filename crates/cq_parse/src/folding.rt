@@ -6,8 +6,9 @@ ghost use Rattle.cq_atoms.specs.Texts.{text_of};
 ghost use Rattle.spec_operators.specs.Operators.{Ops as OpsOfTexts};
 ghost use Rattle.spec_syntax.specs.Grammar.{Outside};
 ghost use Rattle.spec_syntax.specs.Machine.{after_operand, end_group, end_curly, end_argument, end_element, end_tail};
-ghost use Rattle.cq_parse.specs.Views.{OnlyGrows, tree, trees, token_of, frame_of, frames_of, state_or_none, IsLiveFrame, AreLive, IsLiveOrNone, Folds, IsLiveFolded, NoMoreFrames};
-ghost use Rattle.cq_parse.specs.Known.{AreGrammarNames, KnowsOrNone, KnowsFolded};
+ghost use Rattle.cq_parse.specs.Views.{OnlyGrows, tree, trees, token_of, frame_of, frames_of, state_or_none, LeadsTo};
+ghost use Rattle.cq_parse.specs.Views.{IsLiveFrame, AreLive, IsLiveOrNone, Folds, IsLiveFolded, NoMoreFrames};
+ghost use Rattle.cq_parse.specs.Known.{AreGrammarNames, IsKnown, KnowsOrNone, KnowsFolded, KnowsFrame, KnowsTerms, KnowsNames};
 ghost use Rattle.cq_term.specs.Meaning.{HeapTerm};
 
 use crate::building::{atom, compound, list};
@@ -44,10 +45,13 @@ fn end_argument(
     requires frames { AreLive (length heap.old.now.terms) frames.old.items }
     requires before { All (λ id. id < length heap.old.now.terms) before.items }
     requires operand { operand < length heap.old.now.terms }
-    ensures step { (ops : OpsOfTexts) (texts : List Text) → IfOk result (λ next. state_or_none texts heap.new.now.terms frames.new.items next
-        ≡ end_argument ops (text_of texts name) (trees texts heap.old.now.terms before.items) most (tree texts heap.old.now.terms operand) (frames_of texts heap.old.now.terms frames.old.items) (token_of texts token.now)) }
+    ensures step { (ops : OpsOfTexts) (texts : List Text) → let ts = heap.old.now.terms in LeadsTo texts heap.new.now.terms frames.new.items result
+        (end_argument ops (text_of texts name) (trees texts ts before.items) most (tree texts ts operand) (frames_of texts ts frames.old.items)
+        (token_of texts token.now)) }
     ensures frames { OnOk result (AreLive (length heap.new.now.terms) frames.new.items) }
     ensures known { (texts : List Text) → IfOk result (KnowsOrNone texts) }
+    ensures names { (texts : List Text) → IsKnown texts name → KnowsNames texts heap.old.now.terms frames.old.items
+        → OnOk result (KnowsNames texts heap.new.now.terms frames.new.items) }
     ensures state { IfOk result (IsLiveOrNone (length heap.new.now.terms)) }
     ensures heap { OnlyGrows heap.old heap.new }
 {
@@ -88,10 +92,13 @@ fn end_element(
     requires frames { AreLive (length heap.old.now.terms) frames.old.items }
     requires before { All (λ id. id < length heap.old.now.terms) before.items }
     requires operand { operand < length heap.old.now.terms }
-    ensures step { (ops : OpsOfTexts) (texts : List Text) → AreGrammarNames texts names.now → IfOk result (λ next. state_or_none texts heap.new.now.terms frames.new.items next
-        ≡ end_element ops (trees texts heap.old.now.terms before.items) most (tree texts heap.old.now.terms operand) (frames_of texts heap.old.now.terms frames.old.items) (token_of texts token.now)) }
+    ensures step { (ops : OpsOfTexts) (texts : List Text) → AreGrammarNames texts names.now → let ts = heap.old.now.terms in
+        LeadsTo texts heap.new.now.terms frames.new.items result
+        (end_element ops (trees texts ts before.items) most (tree texts ts operand) (frames_of texts ts frames.old.items) (token_of texts token.now)) }
     ensures frames { OnOk result (AreLive (length heap.new.now.terms) frames.new.items) }
     ensures known { (texts : List Text) → IfOk result (KnowsOrNone texts) }
+    ensures names { (texts : List Text) → AreGrammarNames texts names.now → KnowsNames texts heap.old.now.terms frames.old.items
+        → OnOk result (KnowsNames texts heap.new.now.terms frames.new.items) }
     ensures state { IfOk result (IsLiveOrNone (length heap.new.now.terms)) }
     ensures heap { OnlyGrows heap.old heap.new }
 {
@@ -139,9 +146,11 @@ fn end_tail(
     requires before { All (λ id. id < length heap.old.now.terms) before.items }
     requires operand { operand < length heap.old.now.terms }
     ensures step { (ops : OpsOfTexts) (texts : List Text) (frames : List Frame) → AreGrammarNames texts names.now → AreLive (length heap.old.now.terms) frames
-        → IfOk result (λ next. state_or_none texts heap.new.now.terms frames next
-        ≡ end_tail ops (trees texts heap.old.now.terms before.items) most (tree texts heap.old.now.terms operand) (frames_of texts heap.old.now.terms frames) (token_of texts token.now)) }
+        → let ts = heap.old.now.terms in LeadsTo texts heap.new.now.terms frames result
+        (end_tail ops (trees texts ts before.items) most (tree texts ts operand) (frames_of texts ts frames) (token_of texts token.now)) }
     ensures known { (texts : List Text) → IfOk result (KnowsOrNone texts) }
+    ensures names { (texts : List Text) → AreGrammarNames texts names.now → KnowsTerms texts heap.old.now.terms
+        → OnOk result (KnowsTerms texts heap.new.now.terms) }
     ensures state { IfOk result (IsLiveOrNone (length heap.new.now.terms)) }
     ensures heap { OnlyGrows heap.old heap.new }
 {
@@ -168,9 +177,11 @@ fn end_curly(
 ) -> Result<Option<State>, AllocError>
     requires operand { operand < length heap.old.now.terms }
     ensures step { (ops : OpsOfTexts) (texts : List Text) (frames : List Frame) → AreGrammarNames texts names.now → AreLive (length heap.old.now.terms) frames
-        → IfOk result (λ next. state_or_none texts heap.new.now.terms frames next
-        ≡ end_curly ops most (tree texts heap.old.now.terms operand) (frames_of texts heap.old.now.terms frames) (token_of texts token.now)) }
+        → LeadsTo texts heap.new.now.terms frames result
+        (end_curly ops most (tree texts heap.old.now.terms operand) (frames_of texts heap.old.now.terms frames) (token_of texts token.now)) }
     ensures known { (texts : List Text) → IfOk result (KnowsOrNone texts) }
+    ensures names { (texts : List Text) → AreGrammarNames texts names.now → KnowsTerms texts heap.old.now.terms
+        → OnOk result (KnowsTerms texts heap.new.now.terms) }
     ensures state { IfOk result (IsLiveOrNone (length heap.new.now.terms)) }
     ensures heap { OnlyGrows heap.old heap.new }
 {
@@ -189,7 +200,8 @@ fn end_curly(
 
 /// `)` behind the term in parentheses.
 fn end_group(most: u16, operand: TermId, token: &Token) -> Option<State>
-    ensures step { (ops : OpsOfTexts) (texts : List Text) (ts : List HeapTerm) (frames : List Frame) → state_or_none texts ts frames result ≡ end_group ops most (tree texts ts operand) (frames_of texts ts frames) (token_of texts token.now) }
+    ensures step { (ops : OpsOfTexts) (texts : List Text) (ts : List HeapTerm) (frames : List Frame) → state_or_none texts ts frames result
+        ≡ end_group ops most (tree texts ts operand) (frames_of texts ts frames) (token_of texts token.now) }
     ensures known { (texts : List Text) → KnowsOrNone texts result }
     ensures state { (n : ℕ) → operand < n → IsLiveOrNone n result }
 {
@@ -215,10 +227,13 @@ pub fn fold(
     requires frames { AreLive (length heap.old.now.terms) frames.old.items }
     requires frame { IsLiveFrame (length heap.old.now.terms) frame }
     requires operand { operand < length heap.old.now.terms }
-    ensures folds { (ops : OpsOfTexts) (texts : List Text) (m : ℕ) → AreGrammarNames texts names.now → IfOk result (Folds ops texts heap.new.now.terms frames.new.items (token_of texts token.now)
-        (after_operand ops (frame_of texts heap.old.now.terms frame ∷ frames_of texts heap.old.now.terms frames.old.items) m (tree texts heap.old.now.terms operand) (token_of texts token.now) Outside)) }
+    ensures folds { (ops : OpsOfTexts) (texts : List Text) (m : ℕ) → AreGrammarNames texts names.now → let ts = heap.old.now.terms in
+        let next = token_of texts token.now in IfOk result (Folds ops texts heap.new.now.terms frames.new.items next
+        (after_operand ops (frame_of texts ts frame ∷ frames_of texts ts frames.old.items) m (tree texts ts operand) next Outside)) }
     ensures frames { OnOk result (AreLive (length heap.new.now.terms) frames.new.items) }
     ensures known { (texts : List Text) → IfOk result (KnowsFolded texts) }
+    ensures names { (texts : List Text) → AreGrammarNames texts names.now → KnowsFrame texts frame → KnowsNames texts heap.old.now.terms frames.old.items
+        → OnOk result (KnowsNames texts heap.new.now.terms frames.new.items) }
     ensures folded { IfOk result (IsLiveFolded (length heap.new.now.terms)) }
     ensures fewer { IfOk result (NoMoreFrames (vec_len frames.old) (vec_len frames.new)) }
     ensures heap { OnlyGrows heap.old heap.new }

@@ -7,7 +7,7 @@ ghost use Rattle.cq_ops.specs.Tables.{named};
 ghost use Rattle.spec_operators.specs.Operators.{right_most, left_most};
 ghost use Rattle.spec_syntax.specs.Grammar.{operator_name, allowed, use_of, may_begin, begins_term, applied_as};
 ghost use Rattle.cq_parse.specs.Views.{token_of, use_by_text};
-ghost use Rattle.cq_parse.specs.Known.{AreGrammarNames, IsKnown, KnowsToken, Knows};
+ghost use Rattle.cq_parse.specs.Known.{AreGrammarNames, IsKnown, KnowsToken, KnowsUse, Knows};
 
 use crate::names::{Grammar, GrammarNames};
 use crate::tokens::Token;
@@ -73,8 +73,9 @@ fn allowed(most: u16, priority: u16, op: Option<OpDef>) -> Option<OpDef>
 /// What a term of priority at most `most` does at a token behind an operand of this priority.
 #[tactic(auto, unfolding(spec_syntax::specs::Grammar::use_of))]
 pub fn use_there(grammar: &Grammar<'_>, most: u16, priority: u16, token: &Token) -> UseThere
-    ensures { (texts : List Text) → Knows texts grammar.now.names.now token.now
+    ensures by_text { (texts : List Text) → Knows texts grammar.now.names.now token.now
         → use_by_text texts result ≡ use_of (named texts grammar.now.ops.now) most priority (token_of texts token.now) }
+    ensures known { (texts : List Text) → Knows texts grammar.now.names.now token.now → KnowsUse texts result }
 {
     let Some(name) = operator_name(grammar.names, token) else {
         return UseThere::Outside;
@@ -98,7 +99,8 @@ fn may_begin(ops: &Ops, name: Atom) -> bool
 /// Whether a prefix operator in front of this token is applied.
 #[tactic(auto, unfolding(spec_syntax::specs::Grammar::begins_term))]
 fn begins_term(grammar: &Grammar<'_>, token: &Token) -> bool
-    ensures { (texts : List Text) → Knows texts grammar.now.names.now token.now → result ≡ begins_term (named texts grammar.now.ops.now) (token_of texts token.now) }
+    ensures { (texts : List Text) → Knows texts grammar.now.names.now token.now
+        → result ≡ begins_term (named texts grammar.now.ops.now) (token_of texts token.now) }
 {
     match token {
         Token::Variable(_) | Token::Numeral(_) | Token::Codes(_) | Token::Functor(_) => true,

@@ -7,9 +7,11 @@ ghost use Rattle.spec_operators.specs.Operators.{Ops as OpsOfTexts};
 ghost use Rattle.cq_term.specs.Meaning.{HeapTerm};
 ghost use Rattle.cq_ops.specs.Tables.{named};
 ghost use Rattle.spec_syntax.specs.Grammar.{use_of, applied_as};
-ghost use Rattle.spec_syntax.specs.Machine.{InElements, InCurly, after_operand, end_clause, before_term, after_name, after_functor, after_minus, after_open_list, after_open_curly, step};
-ghost use Rattle.cq_parse.specs.Views.{OnlyGrows, tree, token_of, frames_of, state_of, state_or_none, AreLive, IsLiveState, IsLiveOrNone, IsLiveToken};
-ghost use Rattle.cq_parse.specs.Known.{AreGrammarNames, IsKnown, KnowsToken, KnowsState, KnowsOrNone, Knows};
+ghost use Rattle.spec_syntax.specs.Machine.{InElements, InCurly, after_operand, end_clause, before_term, after_name, after_functor, after_minus};
+ghost use Rattle.spec_syntax.specs.Machine.{after_open_list, after_open_curly, step};
+ghost use Rattle.cq_parse.specs.Views.{OnlyGrows, tree, token_of, frames_of, state_of, state_or_none, LeadsTo};
+ghost use Rattle.cq_parse.specs.Views.{AreLive, IsLiveState, IsLiveOrNone, IsLiveToken};
+ghost use Rattle.cq_parse.specs.Known.{AreGrammarNames, IsKnown, KnowsToken, KnowsState, KnowsOrNone, Knows, KnowsNames};
 
 use crate::building::{atom, code_list, compound, number};
 use crate::folding::{Folded, fold};
@@ -33,9 +35,11 @@ fn behind(
 ) -> Result<Option<State>, AllocError>
     requires frames { AreLive (length heap.old.now.terms) frames.old.items }
     requires operand { operand < length heap.old.now.terms }
-    ensures step { (texts : List Text) → Knows texts grammar.now.names.now token.now → IfOk result (λ next. state_or_none texts heap.new.now.terms frames.new.items next
-        ≡ after_operand (named texts grammar.now.ops.now) (frames_of texts heap.old.now.terms frames.old.items) most (tree texts heap.old.now.terms operand) (token_of texts token.now)
-        (use_of (named texts grammar.now.ops.now) most priority (token_of texts token.now))) }
+    ensures step { (texts : List Text) → Knows texts grammar.now.names.now token.now → let ops = named texts grammar.now.ops.now in
+        let ts = heap.old.now.terms in let next = token_of texts token.now in LeadsTo texts heap.new.now.terms frames.new.items result
+        (after_operand ops (frames_of texts ts frames.old.items) most (tree texts ts operand) next (use_of ops most priority next)) }
+    ensures names { (texts : List Text) → Knows texts grammar.now.names.now token.now → KnowsNames texts heap.old.now.terms frames.old.items
+        → OnOk result (KnowsNames texts heap.new.now.terms frames.new.items) }
     ensures known { (texts : List Text) → IfOk result (KnowsOrNone texts) }
     ensures frames { OnOk result (AreLive (length heap.new.now.terms) frames.new.items) }
     ensures state { IfOk result (IsLiveOrNone (length heap.new.now.terms)) }
@@ -86,7 +90,8 @@ fn behind(
 
 /// The end token behind the term of a clause.
 fn whole(term: TermId, token: &Token) -> Option<State>
-    ensures step { (ops : OpsOfTexts) (texts : List Text) (ts : List HeapTerm) → state_or_none texts ts [] result ≡ end_clause ops (tree texts ts term) (token_of texts token.now) }
+    ensures step { (ops : OpsOfTexts) (texts : List Text) (ts : List HeapTerm) → state_or_none texts ts [] result
+        ≡ end_clause ops (tree texts ts term) (token_of texts token.now) }
     ensures known { (texts : List Text) → KnowsOrNone texts result }
     ensures state { (n : ℕ) → term < n → IsLiveOrNone n result }
 {
@@ -106,8 +111,11 @@ fn before_term(
 ) -> Result<Option<State>, AllocError>
     requires frames { AreLive (length heap.old.now.terms) frames.old.items }
     requires variable { IsLiveToken heap.old.now.images token.now }
-    ensures step { (ops : OpsOfTexts) (texts : List Text) → AreGrammarNames texts grammar.now.names.now → IfOk result (λ next. state_or_none texts heap.new.now.terms frames.new.items next
-        ≡ before_term ops most (frames_of texts heap.old.now.terms frames.old.items) (token_of texts token.now)) }
+    ensures step { (ops : OpsOfTexts) (texts : List Text) → AreGrammarNames texts grammar.now.names.now
+        → LeadsTo texts heap.new.now.terms frames.new.items result
+        (before_term ops most (frames_of texts heap.old.now.terms frames.old.items) (token_of texts token.now)) }
+    ensures names { (texts : List Text) → AreGrammarNames texts grammar.now.names.now → KnowsNames texts heap.old.now.terms frames.old.items
+        → OnOk result (KnowsNames texts heap.new.now.terms frames.new.items) }
     ensures known { (texts : List Text) → KnowsToken texts token.now → IfOk result (KnowsOrNone texts) }
     ensures frames { OnOk result (AreLive (length heap.new.now.terms) frames.new.items) }
     ensures state { IfOk result (IsLiveOrNone (length heap.new.now.terms)) }
@@ -152,9 +160,11 @@ fn after_name(
 ) -> Result<Option<State>, AllocError>
     requires frames { AreLive (length heap.old.now.terms) frames.old.items }
     requires variable { IsLiveToken heap.old.now.images token.now }
-    ensures step { (texts : List Text) → Knows texts grammar.now.names.now token.now → IsKnown texts name → IfOk result (λ next. state_or_none texts heap.new.now.terms frames.new.items next
-        ≡ after_name (named texts grammar.now.ops.now) (text_of texts name) most (frames_of texts heap.old.now.terms frames.old.items) (token_of texts token.now)
-        (applied_as (named texts grammar.now.ops.now) (text_of texts name) (token_of texts token.now ∷ []))) }
+    ensures step { (texts : List Text) → Knows texts grammar.now.names.now token.now → IsKnown texts name → let ops = named texts grammar.now.ops.now in
+        let f = text_of texts name in let next = token_of texts token.now in LeadsTo texts heap.new.now.terms frames.new.items result
+        (after_name ops f most (frames_of texts heap.old.now.terms frames.old.items) next (applied_as ops f (next ∷ []))) }
+    ensures names { (texts : List Text) → Knows texts grammar.now.names.now token.now → IsKnown texts name
+        → KnowsNames texts heap.old.now.terms frames.old.items → OnOk result (KnowsNames texts heap.new.now.terms frames.new.items) }
     ensures known { (texts : List Text) → KnowsToken texts token.now → IfOk result (KnowsOrNone texts) }
     ensures frames { OnOk result (AreLive (length heap.new.now.terms) frames.new.items) }
     ensures state { IfOk result (IsLiveOrNone (length heap.new.now.terms)) }
@@ -183,8 +193,11 @@ fn first_element(
 ) -> Result<Option<State>, AllocError>
     requires frames { AreLive (length heap.old.now.terms) frames.old.items }
     requires variable { IsLiveToken heap.old.now.images token.now }
-    ensures step { (ops : OpsOfTexts) (texts : List Text) → AreGrammarNames texts grammar.now.names.now → IfOk result (λ next. state_or_none texts heap.new.now.terms frames.new.items next
-        ≡ before_term ops 999 (InElements [] most ∷ frames_of texts heap.old.now.terms frames.old.items) (token_of texts token.now)) }
+    ensures step { (ops : OpsOfTexts) (texts : List Text) → AreGrammarNames texts grammar.now.names.now
+        → LeadsTo texts heap.new.now.terms frames.new.items result
+        (before_term ops 999 (InElements [] most ∷ frames_of texts heap.old.now.terms frames.old.items) (token_of texts token.now)) }
+    ensures names { (texts : List Text) → AreGrammarNames texts grammar.now.names.now → KnowsNames texts heap.old.now.terms frames.old.items
+        → OnOk result (KnowsNames texts heap.new.now.terms frames.new.items) }
     ensures known { (texts : List Text) → KnowsToken texts token.now → IfOk result (KnowsOrNone texts) }
     ensures frames { OnOk result (AreLive (length heap.new.now.terms) frames.new.items) }
     ensures state { IfOk result (IsLiveOrNone (length heap.new.now.terms)) }
@@ -205,8 +218,11 @@ fn first_in_braces(
 ) -> Result<Option<State>, AllocError>
     requires frames { AreLive (length heap.old.now.terms) frames.old.items }
     requires variable { IsLiveToken heap.old.now.images token.now }
-    ensures step { (ops : OpsOfTexts) (texts : List Text) → AreGrammarNames texts grammar.now.names.now → IfOk result (λ next. state_or_none texts heap.new.now.terms frames.new.items next
-        ≡ before_term ops 1200 (InCurly most ∷ frames_of texts heap.old.now.terms frames.old.items) (token_of texts token.now)) }
+    ensures step { (ops : OpsOfTexts) (texts : List Text) → AreGrammarNames texts grammar.now.names.now
+        → LeadsTo texts heap.new.now.terms frames.new.items result
+        (before_term ops 1200 (InCurly most ∷ frames_of texts heap.old.now.terms frames.old.items) (token_of texts token.now)) }
+    ensures names { (texts : List Text) → AreGrammarNames texts grammar.now.names.now → KnowsNames texts heap.old.now.terms frames.old.items
+        → OnOk result (KnowsNames texts heap.new.now.terms frames.new.items) }
     ensures known { (texts : List Text) → KnowsToken texts token.now → IfOk result (KnowsOrNone texts) }
     ensures frames { OnOk result (AreLive (length heap.new.now.terms) frames.new.items) }
     ensures state { IfOk result (IsLiveOrNone (length heap.new.now.terms)) }
@@ -226,8 +242,10 @@ fn after_functor(
 ) -> Result<Option<State>, AllocError>
     requires frames { AreLive (length heap.old.now.terms) frames.old.items }
     requires variable { IsLiveToken heap.old.now.images token.now }
-    ensures step { (ops : OpsOfTexts) (texts : List Text) → IfOk result (λ next. state_or_none texts heap.new.now.terms frames.new.items next
-        ≡ after_functor ops (text_of texts name) most (frames_of texts heap.old.now.terms frames.old.items) (token_of texts token.now)) }
+    ensures step { (ops : OpsOfTexts) (texts : List Text) → LeadsTo texts heap.new.now.terms frames.new.items result
+        (after_functor ops (text_of texts name) most (frames_of texts heap.old.now.terms frames.old.items) (token_of texts token.now)) }
+    ensures names { (texts : List Text) → IsKnown texts name → KnowsNames texts heap.old.now.terms frames.old.items
+        → OnOk result (KnowsNames texts heap.new.now.terms frames.new.items) }
     ensures known { (texts : List Text) → KnowsToken texts token.now → IfOk result (KnowsOrNone texts) }
     ensures frames { OnOk result (AreLive (length heap.new.now.terms) frames.new.items) }
     ensures state { IfOk result (IsLiveOrNone (length heap.new.now.terms)) }
@@ -252,8 +270,10 @@ fn after_minus(
 ) -> Result<Option<State>, AllocError>
     requires frames { AreLive (length heap.old.now.terms) frames.old.items }
     requires variable { IsLiveToken heap.old.now.images token.now }
-    ensures step { (ops : OpsOfTexts) (texts : List Text) → IfOk result (λ next. state_or_none texts heap.new.now.terms frames.new.items next
-        ≡ after_minus ops most (frames_of texts heap.old.now.terms frames.old.items) (token_of texts token.now)) }
+    ensures step { (ops : OpsOfTexts) (texts : List Text) → LeadsTo texts heap.new.now.terms frames.new.items result
+        (after_minus ops most (frames_of texts heap.old.now.terms frames.old.items) (token_of texts token.now)) }
+    ensures names { (texts : List Text) → KnowsNames texts heap.old.now.terms frames.old.items
+        → OnOk result (KnowsNames texts heap.new.now.terms frames.new.items) }
     ensures known { (texts : List Text) → KnowsToken texts token.now → IfOk result (KnowsOrNone texts) }
     ensures frames { OnOk result (AreLive (length heap.new.now.terms) frames.new.items) }
     ensures state { IfOk result (IsLiveOrNone (length heap.new.now.terms)) }
@@ -275,8 +295,11 @@ fn after_open_list(
 ) -> Result<Option<State>, AllocError>
     requires frames { AreLive (length heap.old.now.terms) frames.old.items }
     requires variable { IsLiveToken heap.old.now.images token.now }
-    ensures step { (ops : OpsOfTexts) (texts : List Text) → AreGrammarNames texts grammar.now.names.now → IfOk result (λ next. state_or_none texts heap.new.now.terms frames.new.items next
-        ≡ after_open_list ops most (frames_of texts heap.old.now.terms frames.old.items) (token_of texts token.now)) }
+    ensures step { (ops : OpsOfTexts) (texts : List Text) → AreGrammarNames texts grammar.now.names.now
+        → LeadsTo texts heap.new.now.terms frames.new.items result
+        (after_open_list ops most (frames_of texts heap.old.now.terms frames.old.items) (token_of texts token.now)) }
+    ensures names { (texts : List Text) → AreGrammarNames texts grammar.now.names.now → KnowsNames texts heap.old.now.terms frames.old.items
+        → OnOk result (KnowsNames texts heap.new.now.terms frames.new.items) }
     ensures known { (texts : List Text) → KnowsToken texts token.now → IfOk result (KnowsOrNone texts) }
     ensures frames { OnOk result (AreLive (length heap.new.now.terms) frames.new.items) }
     ensures state { IfOk result (IsLiveOrNone (length heap.new.now.terms)) }
@@ -298,8 +321,11 @@ fn after_open_curly(
 ) -> Result<Option<State>, AllocError>
     requires frames { AreLive (length heap.old.now.terms) frames.old.items }
     requires variable { IsLiveToken heap.old.now.images token.now }
-    ensures step { (ops : OpsOfTexts) (texts : List Text) → AreGrammarNames texts grammar.now.names.now → IfOk result (λ next. state_or_none texts heap.new.now.terms frames.new.items next
-        ≡ after_open_curly ops most (frames_of texts heap.old.now.terms frames.old.items) (token_of texts token.now)) }
+    ensures step { (ops : OpsOfTexts) (texts : List Text) → AreGrammarNames texts grammar.now.names.now
+        → LeadsTo texts heap.new.now.terms frames.new.items result
+        (after_open_curly ops most (frames_of texts heap.old.now.terms frames.old.items) (token_of texts token.now)) }
+    ensures names { (texts : List Text) → AreGrammarNames texts grammar.now.names.now → KnowsNames texts heap.old.now.terms frames.old.items
+        → OnOk result (KnowsNames texts heap.new.now.terms frames.new.items) }
     ensures known { (texts : List Text) → KnowsToken texts token.now → IfOk result (KnowsOrNone texts) }
     ensures frames { OnOk result (AreLive (length heap.new.now.terms) frames.new.items) }
     ensures state { IfOk result (IsLiveOrNone (length heap.new.now.terms)) }
@@ -316,7 +342,8 @@ fn after_open_curly(
 /// may only hold live terms. Behind a whole clause every token is refused.
 ///
 /// The heap only gets new terms, also where the token is refused or memory is wanting: older terms and the variables stay
-/// as they are, and so do its marks. What the frames are then is of no use. It fails where memory is wanting, alone.
+/// as they are, and so do its marks. What the frames are then is of no use. It fails where memory is wanting, alone. If the
+/// names of its terms, of the frames and of the token have texts, those of the new terms and frames have too.
 pub fn step(
     grammar: &Grammar<'_>,
     heap: &mut Heap,
@@ -327,8 +354,11 @@ pub fn step(
     requires frames { AreLive (length heap.old.now.terms) frames.old.items }
     requires state { IsLiveState (length heap.old.now.terms) state }
     requires variable { IsLiveToken heap.old.now.images token.now }
-    ensures step { (texts : List Text) → Knows texts grammar.now.names.now token.now → KnowsState texts state → IfOk result (λ next. state_or_none texts heap.new.now.terms frames.new.items next
-        ≡ step (named texts grammar.now.ops.now) (state_of texts heap.old.now.terms (frames_of texts heap.old.now.terms frames.old.items) state) (token_of texts token.now)) }
+    ensures step { (texts : List Text) → Knows texts grammar.now.names.now token.now → KnowsState texts state → let ts = heap.old.now.terms in
+        LeadsTo texts heap.new.now.terms frames.new.items result
+        (step (named texts grammar.now.ops.now) (state_of texts ts (frames_of texts ts frames.old.items) state) (token_of texts token.now)) }
+    ensures names { (texts : List Text) → Knows texts grammar.now.names.now token.now → KnowsState texts state
+        → KnowsNames texts heap.old.now.terms frames.old.items → OnOk result (KnowsNames texts heap.new.now.terms frames.new.items) }
     ensures known { (texts : List Text) → KnowsToken texts token.now → IfOk result (KnowsOrNone texts) }
     ensures frames { OnOk result (AreLive (length heap.new.now.terms) frames.new.items) }
     ensures state { IfOk result (IsLiveOrNone (length heap.new.now.terms)) }

@@ -1,80 +1,188 @@
-// The shortest clause, and a token that is refused.
+// Clauses of each kind of token, a letter or a mark for each.
 
-ghost use Rattle.std.specs.Prelude.{length, IfOk, OnOk};
-ghost use Rattle.cq_parse.specs.Views.{AreLive, IsLiveOrNone};
+ghost use Rattle.std.specs.Prelude.{◌≡◌, ◌<◌, ℕ, List, length, IfOk, IfSome};
+ghost use Rattle.cq_term.specs.Meaning.{HeapTerm};
+ghost use Rattle.cq_term.specs.Shown.{IsUnbound};
+ghost use Rattle.cq_parse.specs.Views.{IsLiveState, IsLiveToken};
 
-use crate::{Frame, Grammar, GrammarNames, State, Token, step};
+use crate::{Grammar, GrammarNames, State, Token, step};
 use cq_atoms::{Atom, Atoms};
+use cq_frac::{Frac, VarId};
 use cq_ops::Ops;
-use cq_term::Heap;
-use std::alloc::AllocError;
+use cq_term::{Heap, TermId, View};
+use std::alloc::{AllocError, Global};
 use std::test::Fail;
 
-/// Behind a name, where the machine stood before it unless something was refused.
-fn behind_name(
-    grammar: &Grammar<'_>,
-    heap: &mut Heap,
-    frames: &mut Vec<Frame>,
-    before: Option<State>,
-    name: Atom,
-) -> Result<Option<State>, AllocError>
-    requires frames { AreLive (length heap.old.now.terms) frames.old.items }
-    requires state { IsLiveOrNone (length heap.old.now.terms) before }
-    ensures frames { OnOk result (AreLive (length heap.new.now.terms) frames.new.items) }
-    ensures state { IfOk result (IsLiveOrNone (length heap.new.now.terms)) }
-{
-    match before {
-        None => Ok(None),
-        Some(stand) => step(grammar, heap, frames, stand, &Token::Named(name, false)),
-    }
+/// The names of the rows, and their one variable.
+#[derive(Clone, Copy)]
+struct Words {
+    a: Atom,
+    f: Atom,
+    plus: Atom,
+    not: Atom,
+    variable: VarId,
 }
 
-/// Whether the end token behind this makes the clause whole.
-fn ends_clause(
-    grammar: &Grammar<'_>,
-    heap: &mut Heap,
-    frames: &mut Vec<Frame>,
-    before: Option<State>,
-) -> Result<bool, AllocError>
-    requires frames { AreLive (length heap.old.now.terms) frames.old.items }
-    requires state { IsLiveOrNone (length heap.old.now.terms) before }
-{
-    match before {
-        None => Ok(false),
-        Some(stand) => {
-            let behind = step(grammar, heap, frames, stand, &Token::End)?;
-            Ok(matches!(behind, Some(State::Whole { .. })))
+impl Words {
+    fn new(atoms: &mut Atoms, heap: &mut Heap) -> Result<Words, AllocError>
+        ensures { IfOk result (λ words. IsUnbound heap.new.now.images words.variable.0) }
+    {
+        Ok(Words {
+            a: atoms.intern("a")?,
+            f: atoms.intern("f")?,
+            plus: atoms.intern("+")?,
+            not: atoms.intern("\\+")?,
+            variable: new_variable(heap)?,
+        })
+    }
+
+    fn token(&self, alloc: Global, letter: u8) -> Result<Token, AllocError>
+        ensures { (images : List HeapTerm) → IsUnbound images self.now.variable.0 → IfOk result (IsLiveToken images) }
+    {
+        match letter {
+            b'"' => Ok(Token::Codes(String::from_str(alloc, "ab")?)),
+            _ => Ok(self.plain(letter)),
+        }
+    }
+
+    fn plain(&self, letter: u8) -> Token
+        ensures { (images : List HeapTerm) → IsUnbound images self.now.variable.0 → IsLiveToken images result }
+    {
+        match letter {
+            b'a' => Token::Named(self.a, false),
+            b'f' => Token::Functor(self.f),
+            b'+' => Token::Named(self.plus, false),
+            b'\\' => Token::Named(self.not, false),
+            b'-' => Token::Minus,
+            b'X' => Token::Variable(self.variable),
+            b'1' => Token::Numeral(Frac::from(1)),
+            _ => punctuation(letter),
         }
     }
 }
 
-const START: Option<State> = Some(State::BeforeTerm { most: 1200 });
-
-/// `a.`, by `a` and the end token.
-fn one_name_is_a_clause(
-    grammar: &Grammar<'_>,
-    heap: &mut Heap,
-    a: Atom,
-) -> Result<bool, AllocError> {
-    let mut frames = Vec::new(heap.alloc());
-    let behind = behind_name(grammar, heap, &mut frames, START, a)?;
-    ends_clause(grammar, heap, &mut frames, behind)
+fn punctuation(letter: u8) -> Token
+    ensures { (images : List HeapTerm) → IsLiveToken images result }
+{
+    match letter {
+        b'(' => Token::Open,
+        b')' => Token::Close,
+        b'[' => Token::OpenList,
+        b']' => Token::CloseList,
+        b'{' => Token::OpenCurly,
+        b'}' => Token::CloseCurly,
+        b',' => Token::Comma,
+        b'|' => Token::Bar,
+        _ => Token::End,
+    }
 }
 
-/// `a a`.
-fn two_names_are_refused(
+fn new_variable(heap: &mut Heap) -> Result<VarId, AllocError>
+    ensures { IfOk result (λ v. IsUnbound heap.new.now.images v.0) }
+{
+    let id = heap.new_var()?;
+    match heap.view(id) {
+        View::Var(variable) => Ok(variable),
+        _ => unreachable!(),
+    }
+}
+
+fn whole(state: State) -> Option<TermId>
+    ensures { (n : ℕ) → IsLiveState n state → IfSome result (λ id. id < n) }
+{
+    match state {
+        State::Whole { term } => Some(term),
+        _ => None,
+    }
+}
+
+/// The term of the clause that a row writes, if it is one.
+fn read(
     grammar: &Grammar<'_>,
     heap: &mut Heap,
-    a: Atom,
-) -> Result<bool, AllocError> {
+    words: &Words,
+    row: &str,
+) -> Result<Option<TermId>, AllocError>
+    requires { IsUnbound heap.old.now.images words.now.variable.0 }
+    ensures live { IfOk result (λ term. IfSome term (λ id. id < length heap.new.now.terms)) }
+    ensures images { heap.new.now.images ≡ heap.old.now.images }
+{
     let mut frames = Vec::new(heap.alloc());
-    let behind = behind_name(grammar, heap, &mut frames, START, a)?;
-    let refused = behind_name(grammar, heap, &mut frames, behind, a)?;
-    Ok(behind.is_some() && refused.is_none())
+    let mut state = State::BeforeTerm { most: 1200 };
+    for letter in row.as_bytes() {
+        let token = words.token(heap.alloc(), *letter)?;
+        match step(grammar, heap, &mut frames, state, &token)? {
+            Some(next) => state = next,
+            None => return Ok(None),
+        }
+    }
+    Ok(whole(state))
+}
+
+/// Whether a row writes a clause with this head, or none.
+fn reads_as(
+    grammar: &Grammar<'_>,
+    heap: &mut Heap,
+    words: &Words,
+    row: &str,
+    want: Option<View>,
+) -> Result<bool, AllocError>
+    requires { IsUnbound heap.old.now.images words.now.variable.0 }
+    ensures { heap.new.now.images ≡ heap.old.now.images }
+{
+    match read(grammar, heap, words, row)? {
+        Some(term) => Ok(want == Some(heap.view(term))),
+        None => Ok(want.is_none()),
+    }
+}
+
+fn name(name: Atom) -> Option<View> {
+    Some(View::Name(name))
+}
+
+fn over(name: Atom, count: usize) -> Option<View> {
+    Some(View::Compound(name, count))
+}
+
+fn number(value: i64) -> Option<View> {
+    Some(View::Number(Frac::from(value)))
+}
+
+fn variable(words: &Words) -> Option<View> {
+    Some(View::Var(words.variable))
+}
+
+fn rows(names: &GrammarNames, words: &Words) -> [(&'static str, Option<View>); 24] {
+    [
+        ("a.", name(words.a)),
+        ("1.", number(1)),
+        ("-1.", number(-1)),
+        ("X.", variable(words)),
+        ("(X).", variable(words)),
+        ("\".", over(names.dot, 2)),
+        ("[].", name(names.nil)),
+        ("[a,X].", over(names.dot, 2)),
+        ("[a|X].", over(names.dot, 2)),
+        ("{}.", name(names.curly)),
+        ("{a,X}.", over(names.curly, 1)),
+        ("f(a).", over(words.f, 1)),
+        ("f(-1,[a]).", over(words.f, 2)),
+        ("a+1.", over(words.plus, 2)),
+        ("a+a-1.", over(names.minus, 2)),
+        ("\\a+1.", over(words.not, 1)),
+        ("(a,a)+1.", over(words.plus, 2)),
+        ("a,a+1.", over(names.comma, 2)),
+        ("+.", name(words.plus)),
+        ("aa.", None),
+        ("[a,].", None),
+        ("{a).", None),
+        ("a", None),
+        (".", None),
+    ]
 }
 
 #[test]
-fn a_name_and_the_end_are_a_clause_and_two_names_are_none(rt: HostRuntime) -> Result<(), Fail> {
+fn rows_of_tokens_write_clauses_or_none(rt: HostRuntime) -> Result<(), Fail> {
     let mut atoms = Atoms::new(rt.alloc());
     let names = GrammarNames::new(&mut atoms)?;
     let ops = Ops::standard(rt.alloc(), &mut atoms)?;
@@ -82,9 +190,10 @@ fn a_name_and_the_end_are_a_clause_and_two_names_are_none(rt: HostRuntime) -> Re
         ops: &ops,
         names: &names,
     };
-    let a = atoms.intern("a")?;
     let mut heap = Heap::new(rt.alloc());
-    assert!(rt; one_name_is_a_clause(&grammar, &mut heap, a)?);
-    assert!(rt; two_names_are_refused(&grammar, &mut heap, a)?);
+    let words = Words::new(&mut atoms, &mut heap)?;
+    for (row, want) in rows(&names, &words) {
+        assert!(rt; reads_as(&grammar, &mut heap, &words, row, want)?, "{row}");
+    }
     Ok(())
 }

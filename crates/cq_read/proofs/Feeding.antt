@@ -21,7 +21,7 @@ use Rattle.cq_term.specs.HeapValue.{HeapValue, Terms}
 use Rattle.cq_read.specs.declared.reading.Read.{Read}
 use Rattle.cq_read.specs.declared.reading.Read.TheVariants as read
 use Rattle.cq_read.specs.Inputs.{IsTried}
-use Rattle.cq_read.specs.Shown.{read_of, IsReadOf, Leaves}
+use Rattle.cq_read.specs.Shown.{read_of, IsReadOf, IsForward, Leaves}
 use Rattle.cq_read.specs.Feeds.{place_after, goes_on_before}
 
 -- ---- full stops
@@ -110,6 +110,18 @@ module _ (texts : List Text) (heap : Terms) (n : ℕ) where
       apart : {t : _} {v : _} → Syntax at resume ≡ Clause t v place → ⊥
       apart e = cc
 
+  pub goes_forward : (r : Read) (q : readings.Read) (text : List ℕ) (at : ℕ) → read_of texts heap r ≡ read_later n q → MovesOn text at q → IsForward (length text) at r
+  goes_forward (read.Clause term names next) (Clause tree variables place) text at e moved = let same : next ≡ place = cc in (omega (arith, same, moved.0), omega (arith, same, moved.1))
+  goes_forward (read.Syntax error resume) (Syntax other on) text at e moved =
+      let same : error ≡ other = cc in
+      let goes : resume ≡ on = cc in
+      (omega (arith, same, moved.0), omega (arith, same, goes, moved.1), omega (arith, goes, moved.2), omega (arith, goes, moved.3))
+  goes_forward read.End q text at e moved = tt
+  goes_forward (read.Clause term names next) Ended text at e moved = cc
+  goes_forward (read.Clause term names next) (Syntax error on) text at e moved = cc
+  goes_forward (read.Syntax error resume) Ended text at e moved = cc
+  goes_forward (read.Syntax error resume) (Clause tree variables place) text at e moved = cc
+
   -- reading goes on within the text
   pub place_within : (r : Read) (q : readings.Read) (text : List ℕ) (at : ℕ) → at ≤ length text → read_of texts heap r ≡ read_later n q → MovesOn text at q → place_after at r ≤ length text
   place_within (read.Clause term names next) (Clause tree variables place) text at fits e moved = let same : next ≡ place = cc in omega (arith, same, moved.1)
@@ -123,6 +135,9 @@ module _ (texts : List Text) (heap : Terms) (n : ℕ) where
 module _ (ops : Ops) (bytes : List ℕ) (place n : ℕ) (fits : place ≤ length bytes) (texts : List Text) (heap : Terms) (r : Read) (is : IsReadOf ops bytes place n (read_of texts heap r)) where
   pub fits_behind : place_after place r ≤ length bytes
   fits_behind = place_within texts heap n r is.0 bytes place fits is.2 (moves_on ops bytes place is.0 fits is.1)
+
+  pub forward : IsForward (length bytes) place r
+  forward = goes_forward texts heap n r is.0 bytes place is.2 (moves_on ops bytes place is.0 fits is.1)
 
   pub is_settled : (finished : Bool) → (finished || goes_on_before r (length bytes)) ≡ true → (finished ≡ true) ⊎ Decided ops bytes place
   is_settled true e = inl refl

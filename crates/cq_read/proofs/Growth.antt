@@ -26,12 +26,6 @@ use Rattle.cq_read.specs.Clauses as clauses
 
 -- ---- the heap
 
-prefix_same : (ts : List HeapTerm) → IsPrefix ts ts
-prefix_same ts = ([], sym (append-nil ts))
-
-pub grows_same : (h : HeapValue) → Grows h h
-grows_same h = record { terms = prefix_same h.now.terms; images = prefix_same h.now.images; fresh = λ v le lt. absurd (omega arith); saved = refl; room = omega arith }
-
 pub grows_both : (g h k : HeapValue) → Grows g h → Grows h k → Grows g k
 grows_both g h k p q = record {
   terms = prefix_both g.now.terms h.now.terms k.now.terms p.terms q.terms;
@@ -44,15 +38,6 @@ grows_both g h k p q = record {
     by : (v : ℕ) → length g.now.images ≤ v → v < length k.now.images → (older : Bool) → nat_lt v (length h.now.images) ≡ older → at k.now.images v ≡ Var v
     by v le lt true e = let before : v < length h.now.images = grind (arith, nat_tests) in prefix_at h.now.images k.now.images v q.images before ∙ p.fresh v le before
     by v le lt false e = q.fresh v (grind (arith, nat_tests)) lt
-
-pub grows_terms : (old new : HeapValue) → OnlyGrows old new → Grows old new
-grows_terms old new p = record {
-  terms = p.terms;
-  images = ([], p.images ∙ sym (append-nil old.now.images));
-  fresh = λ v le lt. absurd (omega (arith, ap length p.images));
-  saved = p.saved;
-  room = p.room;
-}
 
 -- by a variable at most
 pub grows_by : (old new : HeapValue) (r : Result ℕ AllocError) → OnOk r (new.now.terms ≡ old.now.terms ++ Var (length old.now.images) ∷ []) →
@@ -103,13 +88,3 @@ module _ (texts : List Text) (ts us : List HeapTerm) (p : IsPrefix ts us) where
   -- the machine stands where it did
   pub machine_kept : (fs : List Frame) (s : State) → AreLive (length ts) fs → IsLiveState (length ts) s → state_of texts us (frames_of texts us fs) s ≡ state_of texts ts (frames_of texts ts fs) s
   machine_kept fs s live there = ap (λ k. state_of texts us k s) (frames_kept texts ts us p fs live) ∙ state_kept (frames_of texts ts fs) s there
-
-pub state_live : (ts us : List HeapTerm) (s : State) → IsPrefix ts us → IsLiveState (length ts) s → IsLiveState (length us) s
-state_live ts us (state.AfterOperand most priority operand) p live = omega (arith, live, prefix_length ts us p)
-state_live ts us (state.Whole term) p live = omega (arith, live, prefix_length ts us p)
-state_live ts us (state.BeforeTerm most) p live = tt
-state_live ts us (state.AfterName f most) p live = tt
-state_live ts us (state.AfterFunctor f most) p live = tt
-state_live ts us (state.AfterMinus most) p live = tt
-state_live ts us (state.AfterOpenList most) p live = tt
-state_live ts us (state.AfterOpenCurly most) p live = tt

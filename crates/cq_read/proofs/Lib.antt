@@ -1,8 +1,10 @@
 mod Growth
+mod Naming
 mod Lookups
 mod Seen
 mod Steps
 mod Running
 mod Passing
+mod Zeros
 mod Marked
 mod Feeding

@@ -51,9 +51,6 @@ with_names count names = record { names = names; count = count }
 new_variable : (vs : Variables) (name : List ℕ) → known vs name ≡ None → with_variable vs name ≡ record { names = with_name vs name; count = suc vs.count }
 new_variable vs name e = rw (e, with_variable) refl
 
-pub next_new : (vs : Variables) (name : List ℕ) → known vs name ≡ None → next_number vs name ≡ vs.count
-next_new vs name e = rw e refl
-
 pub next_known : (vs : Variables) (name : List ℕ) (n : ℕ) → known vs name ≡ Some n → (next_number vs name ≡ n) × (with_variable vs name ≡ vs)
 next_known vs name n e = (rw e refl, rw (e, with_variable) refl)
 

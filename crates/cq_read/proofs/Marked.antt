@@ -6,7 +6,11 @@ use Rattle.spec_lists.specs.Prefixes.{IsPrefix}
 use Rattle.spec_terms.specs.Term.{Var}
 use Rattle.cq_term.specs.Meaning.{HeapTerm, at}
 use Rattle.cq_term.specs.HeapValue.{HeapValue, Terms}
+use Rattle.std.specs.Prelude.{Ok}
+use Rattle.cq_read.specs.declared.reading.Read.{Read}
+use Rattle.cq_read.specs.declared.reading.Read.TheVariants as read
 use Rattle.cq_read.specs.Growth.{Grows, IsAsBefore}
+use Rattle.cq_read.specs.Shown.{Leaves}
 
 -- a heap that was marked, and what it became
 pub record IsMarked (old marked : HeapValue) (m : ℕ) : Type 0 where
@@ -24,7 +28,7 @@ module _ (old marked after new : HeapValue) (m : ℕ) (is : IsMarked old marked 
   room_again = omega (arith, is.room, is.mark, room, spare, ap length (saved ∙ is.saved), length-append old.saved (old.now ∷ []))
 
   -- the mark is ended and the value kept
-  pub grows_marked : Grows marked after → new.now ≡ after.now → Grows old new
+  grows_marked : Grows marked after → new.now ≡ after.now → Grows old new
   grows_marked g e = record {
     terms = subst (λ x. IsPrefix x new.now.terms) (ap (λ n. n.terms) is.now) (subst (λ x. IsPrefix marked.now.terms x) (sym (ap (λ n. n.terms) e)) g.terms);
     images = subst (λ x. IsPrefix x new.now.images) (ap (λ n. n.images) is.now) (subst (λ x. IsPrefix marked.now.images x) (sym (ap (λ n. n.images) e)) g.images);
@@ -32,6 +36,12 @@ module _ (old marked after new : HeapValue) (m : ℕ) (is : IsMarked old marked 
     saved = saved_again;
     room = room_again;
   }
+
+  -- what a reading leaves of the marked heap it leaves of the old one
+  pub leaves_marked : (r : Read) → Leaves marked after (Ok r) → new.now ≡ after.now → Leaves old new (Ok r)
+  leaves_marked (read.Clause term names next) g e = grows_marked g e
+  leaves_marked read.End h e = record { now = e ∙ h.now ∙ is.now; saved = saved_again; room = room_again }
+  leaves_marked (read.Syntax error resume) h e = record { now = e ∙ h.now ∙ is.now; saved = saved_again; room = room_again }
 
   -- the value of the mark is given back
   pub as_before : slice_get after.saved m ≡ Some new.now → IsAsBefore old new

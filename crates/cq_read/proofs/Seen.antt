@@ -43,9 +43,6 @@ module _ (text : List ℕ) (variables : Variables) (t : lexical.Token) where
   pub sees_codes : t.kind ≡ kind.Codes → seen text variables t ≡ Some (grammar.Codes (quoted_text text t))
   sees_codes k = rw k refl
 
-  pub sees_variable : t.kind ≡ kind.Variable → seen text variables t ≡ Some (grammar.Variable (next_number variables (bytes_of text t.span)))
-  sees_variable k = rw k refl
-
   pub sees_number : t.kind ≡ kind.Numeral → seen text variables t ≡ option_map grammar.Numeral t.number
   sees_number k = rw k refl
 

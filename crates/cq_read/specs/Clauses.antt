@@ -5,10 +5,13 @@ use Rattle.spec_grammar.specs.Tokens as lexical
 use Rattle.spec_syntax.specs.Tokens as grammar
 use Rattle.spec_syntax.specs.TextTokens.{Variables, seen, variables_after}
 use Rattle.spec_syntax.specs.Machine as machine
+use Rattle.cq_atoms.specs.Texts.{KeepsTexts, AreDifferent}
 use Rattle.cq_ops.specs.Tables.{Tables, named}
 use Rattle.cq_term.specs.HeapValue.{Terms}
 use Rattle.cq_parse.specs.declared.frames.State.{State}
 use Rattle.cq_parse.specs.declared.frames.State.TheVariants as stand
+use Rattle.cq_parse.specs.declared.names.GrammarNames.{GrammarNames}
+use Rattle.cq_parse.specs.Known.{AreGrammarNames, KnowsState, KnowsNames}
 use Rattle.cq_parse.specs.Views.{state_of, frames_of, AreLive, IsLiveState}
 use Rattle.cq_read.specs.declared.clause.Clause.{Clause}
 use Rattle.cq_read.specs.Names.{variables, AreUnbound}
@@ -36,6 +39,17 @@ pub record IsLive (heap : Terms) (clause : Clause) : Type 0 where
 abbrev pub state_if : Bool → machine.State → Option machine.State
 state_if true s = Some s
 state_if false s = None
+
+-- The texts keep those of the names so far, differ, and have the names that a step of the clause looks at.
+pub record AreTextsFor (atoms : List Text) (names : GrammarNames) (clause : Clause) (texts : List Text) : Type 0 where
+  pub kept : KeepsTexts atoms texts
+  pub different : AreDifferent texts
+  pub grammar : AreGrammarNames texts names
+  pub state : KnowsState texts clause.state
+
+-- the names of terms and frames are known afterwards if they were before
+abbrev pub KeepsNames : List Text → Terms → Clause → Terms → Clause → Type 0
+KeepsNames texts old_heap old new_heap new = KnowsNames texts old_heap.terms old.frames.items → KnowsNames texts new_heap.terms new.frames.items
 
 -- The machine's step at a token of the text, from a clause on a heap to another on another; it goes on or is refused.
 pub record Advances (texts : List Text) (ops : Tables) (text : List ℕ) (t : lexical.Token) (old_heap : Terms) (old : Clause) (new_heap : Terms) (new : Clause) (goes_on : Bool) : Type 0 where

@@ -11,7 +11,7 @@ use Rattle.cq_read.specs.declared.feed.Fed.{Fed}
 use Rattle.cq_read.specs.declared.feed.Fed.TheVariants as fed
 use Rattle.cq_read.specs.Growth.{IsAsBefore}
 use Rattle.cq_read.specs.Inputs.{Input}
-use Rattle.cq_read.specs.Shown.{read_of, IsReadOf, IsLiveRead, Leaves}
+use Rattle.cq_read.specs.Shown.{read_of, IsReadOf, IsForward, IsLiveRead, Leaves}
 
 -- where reading goes on behind what was read at a place
 abbrev pub place_after : ℕ → Read → ℕ
@@ -31,10 +31,15 @@ IsFed ops texts input old new (fed.Read r) =
     ((input.finished ≡ true) ⊎ Decided ops input.bytes input.place) × IsReadOf ops input.bytes input.place (length old.images) (read_of texts new r)
 IsFed ops texts input old new fed.Needs = (input.finished ≡ false) × (Decided ops input.bytes input.place → ⊥)
 
--- the input goes on to the place behind what was read, and stays where nothing was
-abbrev pub Moves : Input → Input → Result Fed AllocError → Type 0
-Moves old new (Ok (fed.Read r)) = new ≡ record old { place = place_after old.place r }
-Moves old new r = new ≡ old
+-- the place behind what was read at a place, which is the same one where nothing was
+abbrev pub place_behind : ℕ → Result Fed AllocError → ℕ
+place_behind at (Ok (fed.Read r)) = place_after at r
+place_behind at r = at
+
+-- reading goes on past a clause or an error, within so many bytes
+abbrev pub GoesOn : ℕ → ℕ → Fed → Type 0
+GoesOn len at (fed.Read r) = IsForward len at r
+GoesOn len at fed.Needs = ⊤
 
 -- a clause that was read lives on the heap
 abbrev pub IsLiveFed : Terms → Fed → Type 0

@@ -10,7 +10,11 @@ pub record Input : Type 0 where
   pub place : ℕ
   pub finished : Bool
 
--- the first so many bytes decide nothing at the place, whatever the operators are
+-- the bytes decide nothing at the place, whatever the operators are
+abbrev pub DecideNothing : List ℕ → ℕ → Type 0
+DecideNothing bytes place = (ops : Ops) (r : Read) → Reads ops bytes place r → IsClosed r (length bytes) → ⊥
+
+-- of the first so many bytes it is known that they decide nothing at the place, whatever the operators are
 pub record IsTried (bytes : List ℕ) (place tried : ℕ) : Type 0 where
   pub fits : place ≤ length bytes
   pub within : tried ≤ length bytes

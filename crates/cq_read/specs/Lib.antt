@@ -7,3 +7,4 @@ pub mod Running
 pub mod Ends
 pub mod Inputs
 pub mod Feeds
+pub mod Zeros

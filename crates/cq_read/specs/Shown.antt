@@ -1,5 +1,5 @@
 -- What a reading is by the terms of a heap and the texts of the names.
-use Rattle.std.specs.Prelude.{◌≡◌, ℕ, ◌<◌, List, length, Bool, true, false, Result, Ok, Err, ◌⊎◌, ⊤}
+use Rattle.std.specs.Prelude.{◌≡◌, ℕ, ◌<◌, ◌≤◌, List, length, Bool, true, false, Result, Ok, Err, ◌⊎◌, ⊤}
 use Rattle.std.specs.declared.alloc.AllocError.{AllocError}
 use Rattle.spec_lists.specs.Texts.{Text}
 use Rattle.spec_operators.specs.Operators.{Ops}
@@ -38,6 +38,12 @@ abbrev pub MachineRead : Ops → List ℕ → ℕ → ℕ → readings.Read → 
 MachineRead ops text at n r =
     ((t : lexical.Token) × (next_token text at ≡ Ok t) × (t.kind ≡ kind.Eof) × (r ≡ readings.Ended))
     ⊎ (IsBefore text at × ReadsOn ops text start at (variables_from n) r)
+
+-- reading goes on past a clause or an error at a place, within so many bytes
+abbrev pub IsForward : ℕ → ℕ → Read → Type 0
+IsForward len at (read.Clause term names next) = (at < next) × (next ≤ len)
+IsForward len at read.End = ⊤
+IsForward len at (read.Syntax error resume) = (at ≤ error) × (error ≤ resume) × (at < resume) × (resume ≤ len)
 
 -- a clause's term is one of the heap, and its named variables are unbound
 abbrev pub IsLiveRead : Terms → Read → Type 0

@@ -1,12 +1,12 @@
 // A clause that is being read.
 
-ghost use Rattle.std.specs.Prelude.{◌≡◌, [], List, length, IfOk, IsTrue, IsSome};
+ghost use Rattle.std.specs.Prelude.{◌≡◌, [], List, length, IfOk, OnOk, IsTrue, IsSome};
 ghost use Rattle.spec_lists.specs.Texts.{Text};
 ghost use Rattle.cq_atoms.specs.Texts.{KeepsTexts, AreDifferent};
 ghost use Rattle.cq_lex.specs.Shown.{shown};
-ghost use Rattle.cq_parse.specs.Known.{AreGrammarNames, KnowsState};
+ghost use Rattle.cq_parse.specs.Known.{KnowsState};
 ghost use Rattle.cq_read.specs.Growth.{Grows};
-ghost use Rattle.cq_read.specs.Clauses.{IsLive, Advances, whole_term};
+ghost use Rattle.cq_read.specs.Clauses.{IsLive, AreTextsFor, Advances, KeepsNames, whole_term};
 ghost use Rattle.cq_read.specs.Ends.{IsClauseRead};
 ghost use Rattle.cq_read.specs.Tokens.{IsToken};
 
@@ -80,9 +80,11 @@ impl Clause {
     ) -> Result<bool, AllocError>
         requires live { IsLive heap.old.now self.old }
         requires token { IsToken text.now (shown token.now) }
-        ensures step { (texts : List Text) → KeepsTexts atoms.new texts → AreDifferent texts → AreGrammarNames texts grammar.now.names.now → KnowsState texts self.old.state
+        ensures step { (texts : List Text) → AreTextsFor atoms.new grammar.now.names.now self.old texts
             → IfOk result (Advances texts grammar.now.ops.now text.now (shown token.now) heap.old.now self.old heap.new.now self.new) }
         ensures known { (texts : List Text) → KeepsTexts atoms.new texts → IfOk result (λ goes_on. IsTrue goes_on → KnowsState texts self.new.state) }
+        ensures names { (texts : List Text) → AreTextsFor atoms.new grammar.now.names.now self.old texts
+            → OnOk result (KeepsNames texts heap.old.now self.old heap.new.now self.new) }
         ensures live { IfOk result (λ goes_on. IsTrue goes_on → IsLive heap.new.now self.new) }
         ensures heap { Grows heap.old heap.new }
         ensures kept { KeepsTexts atoms.old atoms.new }

@@ -1,13 +1,13 @@
 // Input that comes in pieces.
 
-ghost use Rattle.std.specs.Prelude.{◌≡◌, ◌+◌, ◌<◌, ◌≤◌, ◌||◌, ◌==◌, ◌⊎◌, ℕ, false, true, [], ◌++◌, length, IfOk, OnOk, OnErr};
-ghost use Rattle.spec_operators.specs.Operators.{Ops as Operators};
-ghost use Rattle.spec_reading.specs.Readings.{Read as Reading, Reads};
-ghost use Rattle.spec_reading.specs.Decided.{IsClosed, IsFullStop};
+ghost use Rattle.std.specs.Prelude.{◌≡◌, ◌+◌, ◌<◌, ◌≤◌, ◌||◌, ◌==◌, ◌⊎◌, ℕ, false, true, All, [], ◌++◌, length, IfOk, OnOk, OnErr};
+ghost use Rattle.spec_reading.specs.Decided.{IsFullStop};
 ghost use Rattle.spec_grammar.specs.Characters.{is_layout};
 ghost use Rattle.cq_atoms.specs.Texts.{KeepsTexts};
 ghost use Rattle.cq_ops.specs.Tables.{named};
-ghost use Rattle.cq_read.specs.Feeds.{IsFed, goes_on_before, place_after, Moves, LeavesFed, IsLiveFed};
+ghost use Rattle.cq_term.specs.Names.{HasNamesBelow};
+ghost use Rattle.cq_read.specs.Inputs.{DecideNothing};
+ghost use Rattle.cq_read.specs.Feeds.{IsFed, goes_on_before, place_after, place_behind, GoesOn, LeavesFed, IsLiveFed};
 
 use crate::reading::{Read, read_clause};
 use crate::resuming::may_go_on;
@@ -140,17 +140,21 @@ impl Feed {
     }
 
     /// What stands at the feed's place, if the bytes so far decide it or no more of them come, and then the feed goes on to
-    /// the place behind. It needs more bytes exactly where they don't, and then nothing changes, nor where memory is wanting,
-    /// but that names may have got numbers.
+    /// the place behind, past a clause or an error. It needs more bytes exactly where they don't, and then nothing changes, nor
+    /// where memory is wanting, but that names may have got numbers. Once the feed is finished each call moves on until the end.
     ///
     /// Bytes are looked at once for each clause, and the bytes of a clause that is not decided again only where a full stop
     /// that may end it has come since.
     pub fn next(&mut self, heap: &mut Heap, atoms: &mut Atoms, ops: &Ops) -> Result<Fed, AllocError>
         ensures fed { IfOk result (IsFed (named atoms.new ops.now) atoms.new self.old heap.old.now heap.new.now) }
-        ensures input { Moves self.old self.new result }
+        ensures bytes { self.new.bytes ≡ self.old.bytes }
+        ensures place { self.new.place ≡ place_behind self.old.place result }
+        ensures finished { self.new.finished ≡ self.old.finished }
+        ensures forward { IfOk result (GoesOn (length self.old.bytes) self.old.place) }
         ensures live { IfOk result (IsLiveFed heap.new.now) }
         ensures heap { LeavesFed heap.old heap.new result }
         ensures names { KeepsTexts atoms.old atoms.new }
+        ensures known { All (HasNamesBelow (length atoms.old)) heap.old.now.terms → All (HasNamesBelow (length atoms.new)) heap.new.now.terms }
     {
         if !self.finished && !self.may_be_decided() {
             return Ok(Fed::Needs);
@@ -161,7 +165,7 @@ impl Feed {
     /// Whether what stands at the place may be decided by bytes that were not tried.
     fn may_be_decided(&mut self) -> bool
         ensures same { self.new ≡ self.old }
-        ensures undecided { result ≡ false → (ops : Operators) (r : Reading) → Reads ops self.old.bytes self.old.place r → IsClosed r (length self.old.bytes) → ⊥ }
+        ensures undecided { result ≡ false → DecideNothing self.old.bytes self.old.place }
     {
         let from = untried(self.place, self.tried);
         if has_full_stop(&self.bytes, from) {
@@ -199,10 +203,14 @@ impl Feed {
     /// Reads at the place, all bytes again that stand there.
     fn read(&mut self, heap: &mut Heap, atoms: &mut Atoms, ops: &Ops) -> Result<Fed, AllocError>
         ensures fed { IfOk result (IsFed (named atoms.new ops.now) atoms.new self.old heap.old.now heap.new.now) }
-        ensures input { Moves self.old self.new result }
+        ensures bytes { self.new.bytes ≡ self.old.bytes }
+        ensures place { self.new.place ≡ place_behind self.old.place result }
+        ensures finished { self.new.finished ≡ self.old.finished }
+        ensures forward { IfOk result (GoesOn (length self.old.bytes) self.old.place) }
         ensures live { IfOk result (IsLiveFed heap.new.now) }
         ensures heap { LeavesFed heap.old heap.new result }
         ensures names { KeepsTexts atoms.old atoms.new }
+        ensures known { All (HasNamesBelow (length atoms.old)) heap.old.now.terms → All (HasNamesBelow (length atoms.new)) heap.new.now.terms }
     {
         let mark = heap.mark()?;
         let read = match read_clause(heap, atoms, ops, &self.bytes, self.place) {

@@ -1,13 +1,15 @@
 // What stands at a place of a text.
 
-ghost use Rattle.std.specs.Prelude.{◌≡◌, ◌≤◌, ℕ, None, length, IfOk, if◌then◌else◌};
+ghost use Rattle.std.specs.Prelude.{◌≡◌, ◌≤◌, ℕ, List, All, None, length, IfOk, OnOk, if◌then◌else◌};
 ghost use Rattle.cq_atoms.specs.Texts.{KeepsTexts, AreDifferent};
 ghost use Rattle.cq_ops.specs.Tables.{named};
-ghost use Rattle.cq_parse.specs.Known.{AreGrammarNames};
+ghost use Rattle.spec_lists.specs.Texts.{Text};
+ghost use Rattle.cq_term.specs.Names.{HasNamesBelow};
+ghost use Rattle.cq_parse.specs.Known.{AreGrammarNames, KnowsTerms};
 ghost use Rattle.spec_reading.specs.Readings.{Resumes};
 ghost use Rattle.cq_read.specs.Growth.{Grows};
-ghost use Rattle.cq_read.specs.Shown.{read_of, IsReadOf, is_clause, MachineRead, IsLiveRead, Leaves};
-ghost use Rattle.cq_read.specs.Clauses.{IsLive, whole_term};
+ghost use Rattle.cq_read.specs.Shown.{read_of, IsReadOf, IsForward, is_clause, MachineRead, IsLiveRead, Leaves};
+ghost use Rattle.cq_read.specs.Clauses.{IsLive, AreTextsFor, KeepsNames, whole_term};
 ghost use Rattle.cq_read.specs.Running.{IsRunning, Turned, IsStopped};
 
 use crate::clause::Clause;
@@ -98,6 +100,8 @@ fn read_token(
     requires different { AreDifferent atoms.old }
     ensures turned { (n : ℕ) → IsRunning grammar.now.ops.now text.now from n atoms.old heap.old.now clause.old place
         → IfOk result (Turned grammar.now.ops.now text.now from n atoms.new heap.new.now clause.new place) }
+    ensures known { (texts : List Text) → AreTextsFor atoms.new grammar.now.names.now clause.old texts
+        → OnOk result (KeepsNames texts heap.old.now clause.old heap.new.now clause.new) }
     ensures heap { Grows heap.old heap.new }
     ensures kept { KeepsTexts atoms.old atoms.new }
     ensures different { AreDifferent atoms.new }
@@ -130,6 +134,8 @@ fn read_tokens(
     requires different { AreDifferent atoms.old }
     requires running { IsRunning grammar.now.ops.now text.now from (length heap.old.now.images) atoms.old heap.old.now clause.old from }
     ensures read { IfOk result (IsStopped grammar.now.ops.now text.now from (length heap.old.now.images) atoms.new heap.new.now clause.new) }
+    ensures known { (texts : List Text) → KeepsTexts atoms.new texts → AreDifferent texts
+        → OnOk result (KeepsNames texts heap.old.now clause.old heap.new.now clause.new) }
     ensures heap { Grows heap.old heap.new }
     ensures kept { KeepsTexts atoms.old atoms.new }
     ensures different { AreDifferent atoms.new }
@@ -157,8 +163,10 @@ fn read_on(
     requires place { from ≤ length text.now }
     requires names { AreGrammarNames atoms.old grammar.now.names.now }
     requires different { AreDifferent atoms.old }
-    ensures reads { IfOk result (λ read. MachineRead (named atoms.new grammar.now.ops.now) text.now from (length heap.old.now.images) (read_of atoms.new heap.new.now read)) }
+    ensures reads { let ops = named atoms.new grammar.now.ops.now in
+        IfOk result (λ read. MachineRead ops text.now from (length heap.old.now.images) (read_of atoms.new heap.new.now read)) }
     ensures live { IfOk result (IsLiveRead heap.new.now) }
+    ensures known { KnowsTerms atoms.old heap.old.now.terms → OnOk result (KnowsTerms atoms.new heap.new.now.terms) }
     ensures heap { Grows heap.old heap.new }
     ensures kept { KeepsTexts atoms.old atoms.new }
     ensures different { AreDifferent atoms.new }
@@ -174,7 +182,7 @@ fn read_on(
 /// their first occurrence, or only layout and comments, or an error of syntax with the place where reading goes on.
 ///
 /// It fails where memory is wanting, alone. Then, at the end and at an error, the heap is as it was; names may have got
-/// numbers in each case.
+/// numbers in each case. If all terms of the heap have names that `atoms` knows, they still have.
 pub fn read_clause(
     heap: &mut Heap,
     atoms: &mut Atoms,
@@ -184,9 +192,11 @@ pub fn read_clause(
 ) -> Result<Read, AllocError>
     requires { at ≤ length text.now }
     ensures reads { IfOk result (λ read. IsReadOf (named atoms.new ops.now) text.now at (length heap.old.now.images) (read_of atoms.new heap.new.now read)) }
+    ensures forward { IfOk result (IsForward (length text.now) at) }
     ensures live { IfOk result (IsLiveRead heap.new.now) }
     ensures heap { Leaves heap.old heap.new result }
     ensures names { KeepsTexts atoms.old atoms.new }
+    ensures known { All (HasNamesBelow (length atoms.old)) heap.old.now.terms → All (HasNamesBelow (length atoms.new)) heap.new.now.terms }
 {
     let names = GrammarNames::new(atoms)?;
     let grammar = Grammar { ops, names: &names };

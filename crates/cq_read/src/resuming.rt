@@ -1,11 +1,14 @@
 // Where reading goes on behind an error.
 
-ghost use Rattle.std.specs.Prelude.{◌≡◌, ◌≤◌, ℕ, false, Some, length, IfSome};
-ghost use Rattle.spec_operators.specs.Operators.{Ops};
-ghost use Rattle.spec_reading.specs.Readings.{Read, Resumes, Reads};
-ghost use Rattle.spec_reading.specs.Decided.{IsClosed, FaultComes};
+ghost use Rattle.std.specs.Prelude.{◌≡◌, ◌+◌, ◌≤◌, ℕ, false, Some, drop, length, IfSome};
+ghost use Rattle.spec_reading.specs.Readings.{Resumes};
+ghost use Rattle.spec_reading.specs.Decided.{FaultComes};
+ghost use Rattle.cq_read.specs.Inputs.{DecideNothing};
+ghost use Rattle.spec_grammar.specs.Characters.{begins_with};
 ghost use Rattle.spec_grammar.specs.Gaps as gaps;
+ghost use Rattle.cq_read.specs.Zeros.{leads_with_zeros};
 
+use crate::tokens::digit_at;
 use cq_lex::{Kind, LexFault, next_token};
 
 /// The place of a fault.
@@ -18,6 +21,44 @@ pub fn place_of(fault: LexFault) -> usize
         LexFault::OpenComment(at) => at,
         LexFault::WideNumber(at) => at,
     }
+}
+
+/// Whether a zero stands at a place.
+fn zero_at(text: &[u8], at: usize) -> bool
+    requires { at ≤ length text.now }
+    ensures { result ≡ begins_with 48 (drop at text.now) }
+{
+    match text[at..].first() {
+        Some(&b) => b == b'0',
+        None => false,
+    }
+}
+
+/// Whether two zeros and a digit stand at a place.
+fn leads_with_zeros(text: &[u8], at: usize) -> bool
+    requires { at + 2 ≤ length text.now }
+    ensures { result ≡ leads_with_zeros text.now at }
+{
+    zero_at(text, at) && zero_at(text, at + 1) && digit_at(text, at + 2)
+}
+
+/// A place behind leading zeros of a numeral, from which reading goes on where it does from here. A numeral that is too large
+/// is so from each of its leading zeros on, so without this all its zeros would be looked at anew at each of them.
+fn past_zeros(text: &[u8], from: usize) -> usize
+    requires { from ≤ length text.now }
+    ensures forward { from ≤ result }
+    ensures within { result ≤ length text.now }
+    ensures same { (to : ℕ) → Resumes text.now result to → Resumes text.now from to }
+{
+    let mut at = from;
+    while at + 2 < text.len() {
+        if leads_with_zeros(text, at) {
+            at += 1;
+        } else {
+            return at;
+        }
+    }
+    at
 }
 
 /// Where reading goes on if it begins anew at a place.
@@ -38,7 +79,7 @@ pub fn resume(text: &[u8], from: usize) -> usize
                 if place >= text.len() {
                     return place;
                 }
-                at = place + 1;
+                at = past_zeros(text, place + 1);
             }
         }
     }
@@ -66,7 +107,7 @@ fn first_fault(text: &[u8], from: usize) -> Option<usize>
 /// Whether reading from a place on may go on before the text's end, by whatever operators.
 pub fn may_go_on(text: &[u8], from: usize) -> bool
     requires { from ≤ length text.now }
-    ensures { result ≡ false → (ops : Ops) (r : Read) → Reads ops text.now from r → IsClosed r (length text.now) → ⊥ }
+    ensures { result ≡ false → DecideNothing text.now from }
 {
     if resume(text, from) < text.len() {
         return true;

@@ -11,7 +11,7 @@ ghost use Rattle.spec_syntax.specs.TextTokens.{Variables as Known, bare_name, qu
 ghost use Rattle.cq_atoms.specs.Texts.{AreDifferent, KeepsTexts};
 ghost use Rattle.cq_lex.specs.Shown.{shown};
 ghost use Rattle.cq_parse.specs.Views.{token_of, IsLiveToken};
-ghost use Rattle.cq_parse.specs.Known.{KnowsToken};
+ghost use Rattle.cq_parse.specs.Known.{KnowsToken, KnowsTerms};
 ghost use Rattle.cq_term.specs.Meaning.{HeapTerm};
 ghost use Rattle.cq_read.specs.Growth.{Grows};
 ghost use Rattle.cq_read.specs.Names.{AreUnbound};
@@ -45,7 +45,7 @@ fn opens_at(text: &[u8], at: usize) -> bool
 }
 
 /// Whether a digit stands at a place.
-fn digit_at(text: &[u8], at: usize) -> bool
+pub fn digit_at(text: &[u8], at: usize) -> bool
     requires { at ≤ length text.now }
     ensures { result ≡ begins is_ascii_digit (drop at text.now) }
 {
@@ -208,6 +208,7 @@ pub fn token_of(
         ≡ variables_after text.now (names.variables variables.old heap.old.now.images) (shown token.now)) }
     ensures live { IfOk result (IsLiveToken heap.new.now.images) }
     ensures unbound { OnOk result (AreUnbound heap.new.now.images variables.new) }
+    ensures terms { (texts : List Text) → KnowsTerms texts heap.old.now.terms → OnOk result (KnowsTerms texts heap.new.now.terms) }
     ensures heap { Grows heap.old heap.new }
     ensures kept { KeepsTexts atoms.old atoms.new }
     ensures different { AreDifferent atoms.old → AreDifferent atoms.new }

@@ -1,8 +1,10 @@
 // The variables of one clause, as they are written.
 
-ghost use Rattle.std.specs.Prelude.{◌≡◌, ◌+◌, ℕ, [], None, length, IfOk, OnOk};
+ghost use Rattle.std.specs.Prelude.{◌≡◌, ◌+◌, ℕ, List, [], None, length, IfOk, OnOk};
 ghost use Rattle.spec_syntax.specs.TextTokens.{known, next_number, with_variable};
 ghost use Rattle.cq_term.specs.Shown.{IsUnbound};
+ghost use Rattle.spec_lists.specs.Texts.{Text};
+ghost use Rattle.cq_parse.specs.Known.{KnowsTerms};
 ghost use Rattle.cq_read.specs.Growth.{Grows};
 ghost use Rattle.cq_read.specs.Names.{AreUnbound};
 ghost use Rattle.cq_read.specs.Names as names;
@@ -32,6 +34,7 @@ impl Model for Variables {
 }
 
 impl Variables {
+    /// No names yet.
     pub fn new(alloc: Global) -> Variables
         ensures { result ≡ [] }
     {
@@ -48,6 +51,7 @@ impl Variables {
         ensures variables { OnOk result (names.variables self.new heap.new.now.images ≡ with_variable (names.variables self.old heap.old.now.images) name.now) }
         ensures unbound { IfOk result (λ v. IsUnbound heap.new.now.images v.0) }
         ensures names { OnOk result (AreUnbound heap.new.now.images self.new) }
+        ensures known { (texts : List Text) → KnowsTerms texts heap.old.now.terms → OnOk result (KnowsTerms texts heap.new.now.terms) }
         ensures heap { Grows heap.old heap.new }
     {
         match self.known(name) {
@@ -73,6 +77,7 @@ impl Variables {
         ensures variables { OnOk result (names.variables self.new heap.new.now.images ≡ with_variable (names.variables self.old heap.old.now.images) name.now) }
         ensures unbound { IfOk result (λ v. IsUnbound heap.new.now.images v.0) }
         ensures names { OnOk result (AreUnbound heap.new.now.images self.new) }
+        ensures known { (texts : List Text) → KnowsTerms texts heap.old.now.terms → OnOk result (KnowsTerms texts heap.new.now.terms) }
         ensures heap { Grows heap.old heap.new }
     {
         let variable = new_variable(heap)?;
@@ -102,6 +107,7 @@ fn new_variable(heap: &mut Heap) -> Result<VarId, AllocError>
     ensures number { IfOk result (λ v. v.0 ≡ length heap.old.now.images) }
     ensures one { OnOk result (length heap.new.now.images ≡ length heap.old.now.images + 1) }
     ensures unbound { IfOk result (λ v. IsUnbound heap.new.now.images v.0) }
+    ensures known { (texts : List Text) → KnowsTerms texts heap.old.now.terms → OnOk result (KnowsTerms texts heap.new.now.terms) }
     ensures heap { Grows heap.old heap.new }
 {
     let id = heap.new_var()?;

@@ -1,4 +1,4 @@
-use Rattle.std.proofs.Common.{◌≡◌, ◌<◌, ◌≤◌, List, length, vec_len, map}
+use Rattle.std.proofs.Common.{◌≡◌, ◌<◌, List, length, vec_len, map}
 use Rattle.std.specs.Prelude.{reverse, pos}
 use Rattle.spec_rational.specs.Rational.{int_ℚ}
 use Rattle.spec_terms.specs.Term.{Number}
@@ -6,7 +6,7 @@ use Rattle.spec_syntax.specs.Trees.{code_list}
 use Rattle.spec_syntax.specs.Machine.{with_elements_before}
 use Rattle.spec_lists.specs.Texts.{Text}
 use Rattle.cq_parse.specs.Views.{OnlyGrows, tree}
-use Rattle.cq_parse.specs.Known.{AreGrammarNames}
+use Rattle.cq_parse.specs.Known.{AreGrammarNames, KnowsTerms}
 use Rattle.cq_parse.proofs.building.code_list.Given as goal
 
 abbrev pub invariant-loop-c : goal.invariant-loop-c
@@ -14,6 +14,7 @@ invariant-loop-c l = record {
   whole : l.whole < length l.heap.now.terms;
   list : (texts : List Text) → AreGrammarNames texts l.names →
       with_elements_before (reverse (map (λ c. Number (int_ℚ (pos c))) l.left.items)) (tree texts l.heap.now.terms l.whole) ≡ code_list l.text;
+  names : (texts : List Text) → AreGrammarNames texts l.names → KnowsTerms texts l.fn.heap.now.terms → KnowsTerms texts l.heap.now.terms;
   heap : OnlyGrows l.fn.heap l.heap;
 }
 

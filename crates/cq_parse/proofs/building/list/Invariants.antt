@@ -1,8 +1,8 @@
-use Rattle.std.proofs.Common.{◌≡◌, ◌<◌, ◌≤◌, List, length, All, vec_len}
+use Rattle.std.proofs.Common.{◌≡◌, ◌<◌, List, length, All, vec_len}
 use Rattle.spec_lists.specs.Texts.{Text}
 use Rattle.spec_syntax.specs.Machine.{with_elements_before}
 use Rattle.cq_parse.specs.Views.{OnlyGrows, tree, trees}
-use Rattle.cq_parse.specs.Known.{AreGrammarNames}
+use Rattle.cq_parse.specs.Known.{AreGrammarNames, KnowsTerms}
 use Rattle.cq_parse.proofs.building.list.Given as goal
 
 abbrev pub invariant-loop-element : goal.invariant-loop-element
@@ -11,6 +11,7 @@ invariant-loop-element l = record {
   whole : l.whole < length l.heap.now.terms;
   list : (texts : List Text) → AreGrammarNames texts l.names →
       with_elements_before (trees texts l.heap.now.terms l.left.items) (tree texts l.heap.now.terms l.whole) ≡ with_elements_before (trees texts l.fn.heap.now.terms l.fn.elements.items) (tree texts l.fn.heap.now.terms l.fn.tail);
+  names : (texts : List Text) → AreGrammarNames texts l.names → KnowsTerms texts l.fn.heap.now.terms → KnowsTerms texts l.heap.now.terms;
   heap : OnlyGrows l.fn.heap l.heap;
 }
 

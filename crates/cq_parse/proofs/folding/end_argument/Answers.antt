@@ -14,3 +14,6 @@ returns-in_ok-whole-in-Close-clause-step c ops texts =
     let whole = argument_closed texts ts us c.args.name c.args.before.items c.push.new.self.items c.args.operand c.in_ok-whole-in-Close.whole c.in_ok-push-in-Close.ensures.items
     (c.in_ok-whole-in-Close.ensures.built ∙ ap (λ xs. with_arguments c.args.name (map (at ts) xs)) c.deref.ensures.value) in
     rw (c.in-Close.is, frames_kept texts ts us grown c.args.frames.now.items c.requires.frames, whole) refl
+
+pub returns-in_ok-whole-in-Close-clause-names : goal.returns-in_ok-whole-in-Close-clause-names
+returns-in_ok-whole-in-Close-clause-names c texts known names = record { terms = c.in_ok-whole-in-Close.ensures.names texts known names.terms; frames = names.frames }

@@ -1,6 +1,6 @@
 use Rattle.std.proofs.Common.{refl, codes}
 use Rattle.cq_parse.proofs.Kept.{frames_kept, frames_live, prefix_both}
-use Rattle.cq_parse.proofs.Trees.{elements_closed, name_tree}
+use Rattle.cq_parse.proofs.Trees.{elements_closed, is_known, name_tree}
 use Rattle.cq_parse.proofs.folding.end_element.Goals as goal
 
 pub returns-in_ok-whole-in-CloseList-clause-step : goal.returns-in_ok-whole-in-CloseList-clause-step
@@ -21,3 +21,9 @@ returns-in_ok-whole-in-CloseList-clause-frames c =
     let us = c.atom.new.heap.now.terms in
     let vs = c.list.new.heap.now.terms in
     frames_live ts vs c.args.frames.now.items (prefix_both ts us vs c.in_ok-nil-in-CloseList.ensures.heap.terms c.in_ok-whole-in-CloseList.ensures.heap.terms) c.requires.frames
+
+pub returns-in_ok-whole-in-CloseList-clause-names : goal.returns-in_ok-whole-in-CloseList-clause-names
+returns-in_ok-whole-in-CloseList-clause-names c texts known names = record {
+  terms = c.in_ok-whole-in-CloseList.ensures.names texts known (c.in_ok-nil-in-CloseList.ensures.names texts (is_known texts c.args.names.now.nil (codes "[]") known.nil) names.terms);
+  frames = names.frames;
+}

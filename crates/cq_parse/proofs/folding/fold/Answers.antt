@@ -41,3 +41,25 @@ returns-in_ok-end_element-in-InElements-clause-folds c ops texts m known = rw c.
 
 pub returns-in_ok-end_tail-in-InTail-clause-folds : goal.returns-in_ok-end_tail-in-InTail-clause-folds
 returns-in_ok-end_tail-in-InTail-clause-folds c ops texts m known = rw c.in-InTail.is (c.in_ok-end_tail-in-InTail.ensures.step ops texts c.args.frames.now.items known c.requires.frames)
+
+pub returns-in_ok-operand-in-RightOf-clause-names : goal.returns-in_ok-operand-in-RightOf-clause-names
+returns-in_ok-operand-in-RightOf-clause-names c texts known frame names =
+    record { terms = c.in_ok-operand-in-RightOf.ensures.names texts (rw c.in-RightOf.is at frame) names.terms; frames = names.frames }
+
+pub returns-in_ok-operand-in-OperandOf-clause-names : goal.returns-in_ok-operand-in-OperandOf-clause-names
+returns-in_ok-operand-in-OperandOf-clause-names c texts known frame names =
+    record { terms = c.in_ok-operand-in-OperandOf.ensures.names texts (rw c.in-OperandOf.is at frame) names.terms; frames = names.frames }
+
+pub returns-in_ok-end_curly-in-InCurly-clause-names : goal.returns-in_ok-end_curly-in-InCurly-clause-names
+returns-in_ok-end_curly-in-InCurly-clause-names c texts known frame names =
+    record { terms = c.in_ok-end_curly-in-InCurly.ensures.names texts known names.terms; frames = names.frames }
+
+pub returns-in_ok-end_argument-in-InArguments-clause-names : goal.returns-in_ok-end_argument-in-InArguments-clause-names
+returns-in_ok-end_argument-in-InArguments-clause-names c texts known frame names = c.in_ok-end_argument-in-InArguments.ensures.names texts (rw c.in-InArguments.is at frame) names
+
+pub returns-in_ok-end_element-in-InElements-clause-names : goal.returns-in_ok-end_element-in-InElements-clause-names
+returns-in_ok-end_element-in-InElements-clause-names c texts known frame names = c.in_ok-end_element-in-InElements.ensures.names texts known names
+
+pub returns-in_ok-end_tail-in-InTail-clause-names : goal.returns-in_ok-end_tail-in-InTail-clause-names
+returns-in_ok-end_tail-in-InTail-clause-names c texts known frame names =
+    record { terms = c.in_ok-end_tail-in-InTail.ensures.names texts known names.terms; frames = names.frames }

@@ -12,3 +12,6 @@ returns-in_ok-number-in-Numeral-clause-step c ops texts =
       c.in_ok-number-in-Numeral.ensures.built,
       c.neg.ensures,
     ) refl
+
+pub returns-in_ok-number-in-Numeral-clause-names : goal.returns-in_ok-number-in-Numeral-clause-names
+returns-in_ok-number-in-Numeral-clause-names c texts names = record { terms = c.in_ok-number-in-Numeral.ensures.names texts names.terms; frames = names.frames }

@@ -7,6 +7,7 @@ use Rattle.spec_syntax.specs.Machine.{OperandOf, before_term, after_name, after_
 use Rattle.cq_parse.specs.Views.{tree, token_of, frames_of, state_or_none}
 use Rattle.cq_parse.proofs.Kept.{frames_kept, frames_push}
 use Rattle.cq_parse.proofs.steps.after_name.Goals as goal
+use Rattle.cq_parse.proofs.Naming.{names_push}
 use Rattle.spec_lists.proofs.Tests.{le_true}
 
 pub returns-in_ok-push-in-Some-clause-step : goal.returns-in_ok-push-in-Some-clause-step
@@ -36,3 +37,11 @@ returns-in_ok-operand-in-None-clause-step c texts known is =
 
 pub returns-in_ok-operand-in-None-clause-known : goal.returns-in_ok-operand-in-None-clause-known
 returns-in_ok-operand-in-None-clause-known c texts known = c.behind.ensures.known texts
+
+pub returns-in_ok-push-in-Some-clause-names : goal.returns-in_ok-push-in-Some-clause-names
+returns-in_ok-push-in-Some-clause-names c texts known is names =
+    c.before_term.ensures.names texts known.grammar (names_push texts c.args.heap.now.now.terms c.args.frames.now.items c.push.new.self.items _ c.in_ok-push-in-Some.ensures.items is names)
+
+pub returns-in_ok-operand-in-None-clause-names : goal.returns-in_ok-operand-in-None-clause-names
+returns-in_ok-operand-in-None-clause-names c texts known is names =
+    c.behind.ensures.names texts known (record { terms = c.in_ok-operand-in-None.ensures.names texts is names.terms; frames = names.frames })

@@ -4,6 +4,7 @@ use Rattle.cq_parse.specs.Views.{frames_of, state_or_none}
 use Rattle.cq_parse.proofs.Kept.{frames_kept}
 use Rattle.cq_parse.proofs.Trees.{name_tree}
 use Rattle.cq_parse.proofs.Defaults.{curly_begins}
+use Rattle.cq_parse.proofs.Trees.{is_known}
 use Rattle.cq_parse.proofs.steps.after_open_curly.Goals as goal
 
 pub returns-in_ok-atom-in-CloseCurly-clause-step : goal.returns-in_ok-atom-in-CloseCurly-clause-step
@@ -25,5 +26,10 @@ returns-in_default c = record {
   known = c.first_in_braces.ensures.known;
   frames = c.first_in_braces.ensures.frames;
   state = c.first_in_braces.ensures.state;
+  names = c.first_in_braces.ensures.names;
   heap = c.first_in_braces.ensures.heap;
 }
+
+pub returns-in_ok-atom-in-CloseCurly-clause-names : goal.returns-in_ok-atom-in-CloseCurly-clause-names
+returns-in_ok-atom-in-CloseCurly-clause-names c texts known names =
+    record { terms = c.in_ok-atom-in-CloseCurly.ensures.names texts (is_known texts c.args.grammar.now.names.now.curly (codes "{}") known.curly) names.terms; frames = names.frames }

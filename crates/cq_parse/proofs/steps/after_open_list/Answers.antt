@@ -4,6 +4,7 @@ use Rattle.cq_parse.specs.Views.{frames_of, state_or_none}
 use Rattle.cq_parse.proofs.Kept.{frames_kept}
 use Rattle.cq_parse.proofs.Trees.{name_tree}
 use Rattle.cq_parse.proofs.Defaults.{list_begins}
+use Rattle.cq_parse.proofs.Trees.{is_known}
 use Rattle.cq_parse.proofs.steps.after_open_list.Goals as goal
 
 pub returns-in_ok-atom-in-CloseList-clause-step : goal.returns-in_ok-atom-in-CloseList-clause-step
@@ -25,5 +26,10 @@ returns-in_default c = record {
   known = c.first_element.ensures.known;
   frames = c.first_element.ensures.frames;
   state = c.first_element.ensures.state;
+  names = c.first_element.ensures.names;
   heap = c.first_element.ensures.heap;
 }
+
+pub returns-in_ok-atom-in-CloseList-clause-names : goal.returns-in_ok-atom-in-CloseList-clause-names
+returns-in_ok-atom-in-CloseList-clause-names c texts known names =
+    record { terms = c.in_ok-atom-in-CloseList.ensures.names texts (is_known texts c.args.grammar.now.names.now.nil (codes "[]") known.nil) names.terms; frames = names.frames }

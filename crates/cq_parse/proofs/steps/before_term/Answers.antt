@@ -27,3 +27,9 @@ returns-in_ok-code_list-in-Codes-clause-step c ops texts known =
       c.in_ok-code_list-in-Codes.ensures.list texts known,
       c.deref.ensures,
     ) refl
+
+pub returns-in_ok-number-in-Numeral-clause-names : goal.returns-in_ok-number-in-Numeral-clause-names
+returns-in_ok-number-in-Numeral-clause-names c texts known names = record { terms = c.in_ok-number-in-Numeral.ensures.names texts names.terms; frames = names.frames }
+
+pub returns-in_ok-code_list-in-Codes-clause-names : goal.returns-in_ok-code_list-in-Codes-clause-names
+returns-in_ok-code_list-in-Codes-clause-names c texts known names = record { terms = c.in_ok-code_list-in-Codes.ensures.names texts known names.terms; frames = names.frames }

@@ -18,3 +18,9 @@ returns-in-AfterOpenList-clause-step c texts known is = rw c.in-AfterOpenList.is
 
 pub returns-in-AfterOpenCurly-clause-step : goal.returns-in-AfterOpenCurly-clause-step
 returns-in-AfterOpenCurly-clause-step c texts known is = rw c.in-AfterOpenCurly.is (c.after_open_curly.ensures.step (named texts c.args.grammar.now.ops.now) texts known.grammar)
+
+pub returns-in-AfterName-clause-names : goal.returns-in-AfterName-clause-names
+returns-in-AfterName-clause-names c texts known is names = c.after_name.ensures.names texts known (rw c.in-AfterName.is at is) names
+
+pub returns-in-AfterFunctor-clause-names : goal.returns-in-AfterFunctor-clause-names
+returns-in-AfterFunctor-clause-names c texts known is names = c.after_functor.ensures.names texts (rw c.in-AfterFunctor.is at is) names

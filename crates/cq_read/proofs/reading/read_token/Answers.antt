@@ -42,8 +42,12 @@ returns-then-branch-clause-turned c n running =
     running c.requires.begun (shown c.in-Ok.token) c.in-Ok.ensures.value (c.if-is_last.ensures.other refl)
     (c.in_ok-advance.ensures.live c.if-branch.true) (λ texts keeps. c.in_ok-advance.ensures.known texts keeps c.if-branch.true)
     (λ texts keeps different. subst (Advances texts c.args.grammar.now.ops.now c.args.text.now (shown c.in-Ok.token) c.args.heap.now.now c.args.clause.now c.advance.new.heap.now c.advance.new.self) c.if-branch.true
-    (c.in_ok-advance.ensures.step texts keeps different (grammar_kept c.args.atoms.now texts c.args.grammar.now.names.now (λ i x e. keeps i x (c.advance.ensures.kept i x e)) c.requires.names)
-    (running.known texts (λ i x e. keeps i x (c.advance.ensures.kept i x e)))))
+    (c.in_ok-advance.ensures.step texts (record {
+      kept = keeps;
+      different = different;
+      grammar = grammar_kept c.args.atoms.now texts c.args.grammar.now.names.now (λ i x e. keeps i x (c.advance.ensures.kept i x e)) c.requires.names;
+      state = running.known texts (λ i x e. keeps i x (c.advance.ensures.kept i x e));
+    })))
 
 pub returns-then-branch-clause-different : goal.returns-then-branch-clause-different
 returns-then-branch-clause-different c = c.advance.ensures.different c.requires.different
@@ -53,8 +57,12 @@ returns-else-branch-clause-turned c n running =
     let (resume, is, on) = c.error_at-else-branch.ensures in
     let different = c.advance.ensures.different c.requires.different in
     let step = subst (Advances c.advance.new.atoms c.args.grammar.now.ops.now c.args.text.now (shown c.in-Ok.token) c.args.heap.now.now c.args.clause.now c.advance.new.heap.now c.advance.new.self) c.if-branch.false
-    (c.in_ok-advance.ensures.step c.advance.new.atoms (λ i x e. e) different (grammar_kept c.args.atoms.now c.advance.new.atoms c.args.grammar.now.names.now c.advance.ensures.kept c.requires.names)
-    (running.known c.advance.new.atoms c.advance.ensures.kept)) in (
+    (c.in_ok-advance.ensures.step c.advance.new.atoms (record {
+      kept = λ i x e. e;
+      different = different;
+      grammar = grammar_kept c.args.atoms.now c.advance.new.atoms c.args.grammar.now.names.now c.advance.ensures.kept c.requires.names;
+      state = running.known c.advance.new.atoms c.advance.ensures.kept;
+    })) in (
       stops_at_token c.args.grammar.now.ops.now c.args.text.now c.args.from n c.args.place c.args.atoms.now c.advance.new.atoms c.advance.ensures.kept c.args.heap.now.now c.advance.new.heap.now c.args.clause.now c.advance.new.self
           running c.requires.begun (shown c.in-Ok.token) c.in-Ok.ensures.value (c.if-is_last.ensures.other refl) different step resume _ is on,
       live_error c.advance.new.heap.now _ _ resume is,

@@ -30,10 +30,10 @@ pub loop-token-smaller : goal.loop-token-smaller
 loop-token-smaller c =
     let there = c.place_of-place.ensures in
     let on = past_fault c.args.text.now c.args.from c.loop-token.at c.in-Err.fault c.in-Err.ensures.value c.loop-token.invariant.same c.loop-token.invariant.fits (omega (arith, there, c.if-place-text.false)) in
-    omega (arith, on.0, on.1, there)
+    omega (arith, on.0, on.1, there, c.past_zeros-at.ensures.forward, c.past_zeros-at.ensures.within)
 
 pub loop-token-preserved : goal.loop-token-preserved
 loop-token-preserved c =
     let there = c.place_of-place.ensures in
     let on = past_fault c.args.text.now c.args.from c.loop-token.at c.in-Err.fault c.in-Err.ensures.value c.loop-token.invariant.same c.loop-token.invariant.fits (omega (arith, there, c.if-place-text.false)) in
-    record { fits = omega (arith, on.1, there); same = λ to r. on.2 to (subst (λ x. Resumes c.args.text.now x to) (ap (λ x. x + 1) there) r) }
+    record { fits = c.past_zeros-at.ensures.within; same = λ to r. on.2 to (subst (λ x. Resumes c.args.text.now x to) (ap (λ x. x + 1) there) (c.past_zeros-at.ensures.same to r)) }

@@ -1,5 +1,5 @@
 use Rattle.std.proofs.lemmas.Grind.{common_steps}
-use Rattle.std.proofs.Common.{rules, arith, ◌≡◌, ℕ, ◌≤◌, sym, subst, ap, length, ◌∙◌, refl}
+use Rattle.std.proofs.Common.{rules, arith, ◌≡◌, ℕ, ◌≤◌, sym, subst, length}
 use Rattle.spec_reading.specs.Readings.{Reads}
 use Rattle.spec_reading.specs.Decided.{IsClosed, IsFullStop}
 use Rattle.cq_read.specs.Inputs.{IsTried}

@@ -1,4 +1,4 @@
-use Rattle.std.proofs.Common.{◌≡◌, None, [], ◌∷◌, ◌++◌, subst, sym, ap, ◌∙◌, length, ℕ, List}
+use Rattle.std.proofs.Common.{◌≡◌, None, [], ◌∷◌, ◌++◌, subst, sym, ap, ◌∙◌, length}
 use Rattle.std.specs.String.{string_bytes, string_eq}
 use Rattle.indexmap.specs.IndexMap.{insert_entry}
 use Rattle.spec_terms.specs.VariableName.{VariableName}
