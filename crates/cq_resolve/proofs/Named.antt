@@ -1,9 +1,8 @@
 -- A unifier has no other names than the terms that it makes equal, and bindings keep names below a count.
 use Rattle.std.proofs.Common.{◌≡◌, ℕ, suc, ◌<◌, List, [], ◌++◌, length, ◌∷◌, map, Bool, true, false, cond, refl, ap, sym, ◌∙◌, arith, inl, inr, length-append}
 use Rattle.std.specs.Prelude.{All, nat_lt, ◌==◌}
-use Rattle.std.proofs.lemmas.Bool.{cases_lt}
 use Rattle.std.proofs.lemmas.List.Elements.{All-map, All-same, All-weaker, All-get_or}
-use Rattle.spec_terms.specs.Term.{Term, Terms, Subst, Var, Number, Name, Compound, one, more, apply, apply_all, single, named, named_all}
+use Rattle.spec_terms.specs.Term.{Terms, Subst, Var, Number, Name, Compound, one, more, apply, apply_all, single, named, named_all}
 use Rattle.spec_terms.specs.Unifier.{IsUnifier}
 use Rattle.spec_terms.proofs.Substitution.{named-apply}
 use Rattle.std.specs.Prelude.{Ok, Err, ◌⊎◌}

@@ -1,4 +1,5 @@
 pub mod Built
+pub mod FirstArguments
 pub mod Named
 pub mod Numbering
 pub mod Reading

@@ -1,3 +1,4 @@
 pub mod Pattern
+pub mod FirstArgument
 pub mod StoredValue
 pub mod Building

@@ -8,6 +8,7 @@ ghost use Rattle.cq_term.specs.Meaning.{at};
 ghost use Rattle.cq_term.specs.Names.{HasNamesBelow};
 ghost use Rattle.cq_unify.specs.Copied.{unbound_from};
 ghost use Rattle.cq_stored.specs.Building.{moved_by, KeepsNames};
+ghost use Rattle.cq_stored.specs.FirstArgument.{first_shown};
 ghost use Rattle.cq_stored.specs.Pattern.{IsPattern, term_of};
 ghost use Rattle.cq_stored.specs.StoredValue.{both, HaveNamesBelow};
 
@@ -59,6 +60,16 @@ impl Clause {
             body,
             variables: originals.len(),
         })
+    }
+
+    /// The head of the head's first argument, if it has one.
+    pub fn first_argument(&self) -> Option<View>
+        ensures { result ≡ first_shown self.now.head }
+    {
+        match self.head[0] {
+            View::Compound(_, _) => Some(self.head[1]),
+            View::Var(_) | View::Number(_) | View::Name(_) => None,
+        }
     }
 
     /// The head as the heads of its parts.

@@ -3,6 +3,7 @@
 
 mod building;
 mod clause;
+mod first;
 mod pattern;
 mod term;
 #[cfg(test)]
@@ -10,4 +11,5 @@ mod tests;
 
 pub use building::{build, new_variables};
 pub use clause::Clause;
+pub use first::{first_argument, first_arguments_tell_apart};
 pub use term::StoredTerm;

@@ -2,7 +2,7 @@
 
 ghost use Rattle.std.specs.Prelude.{◌<◌, ◌≤◌, length, All, IfOk};
 
-use crate::{Clause, StoredTerm};
+use crate::{Clause, StoredTerm, first_argument};
 use cq_atoms::Atoms;
 use cq_frac::VarId;
 use cq_term::{Atom, Heap, TermId, View};
@@ -91,5 +91,23 @@ fn the_body_shares_the_variables_of_the_head(rt: HostRuntime) -> Result<(), Fail
         View::Var(VarId(2)),
     ];
     assert_eq!(rt; found.as_slice(), expected.as_slice());
+    Ok(())
+}
+
+/// What the first argument of f(Y, X, Y) shows on the heap and in a clause.
+fn first_arguments(heap: &mut Heap, f: Atom) -> Result<[Option<View>; 2], AllocError> {
+    let x = variable(heap)?;
+    let y = variable(heap)?;
+    let head = over(heap, f, [y, x, y])?;
+    let clause = Clause::of(heap, head, head)?;
+    Ok([first_argument(heap, head), clause.first_argument()])
+}
+
+#[test]
+fn a_first_argument_is_shown_on_the_heap_and_in_a_clause(rt: HostRuntime) -> Result<(), Fail> {
+    let f = Atoms::new(rt.alloc()).intern("f")?;
+    let mut heap = Heap::new(rt.alloc());
+    let found = first_arguments(&mut heap, f)?;
+    assert!(rt; found == [Some(View::Var(VarId(1))), Some(View::Var(VarId(0)))]);
     Ok(())
 }

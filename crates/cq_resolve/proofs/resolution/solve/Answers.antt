@@ -1,4 +1,4 @@
-use Rattle.std.proofs.Common.{◌≡◌, ◌∙◌, ◌∷◌, [], ℕ, sym, subst, ap, arith, true, false}
+use Rattle.std.proofs.Common.{◌≡◌, ◌∷◌, [], ℕ, sym, subst, arith, true, false}
 use Rattle.spec_terms.specs.Unifier.{HasNoUnifier}
 use Rattle.cq_term.specs.Names.{HasNamesBelow}
 use Rattle.cq_stored.specs.StoredValue.{ClauseValue}
