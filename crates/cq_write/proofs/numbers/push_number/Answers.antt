@@ -1,6 +1,6 @@
 use Rattle.std.proofs.Common.{◌≡◌, ◌∙◌, ap, ◌++◌, rules, string_bytes}
 use Rattle.std.specs.Fmt.{signed_decimal}
-use Rattle.cq_write.proofs.Decimals.{writes_integer, writes_quotient}
+use Rattle.spec_writing.proofs.Decimals.{writes_integer, writes_quotient}
 use Rattle.cq_write.proofs.numbers.push_number.Goals as goal
 
 pub returns-in_ok-push_str-3 : goal.returns-in_ok-push_str-3
@@ -10,7 +10,7 @@ returns-in_ok-push_str-3 c =
     let top : c.format.result.now ≡ signed_decimal c.parts-numerator.result.0 = search rules in
     let bottom : c.format-then-denominator-ne1.result.now ≡ signed_decimal c.parts-numerator.result.1 = search rules in
     writes_quotient c.args.number c.parts-numerator.result.0 c.parts-numerator.result.1 old (string_bytes c.push_str.new.self) (string_bytes c.push_str-then-denominator-ne1.new.self) (string_bytes c.push_str-then-denominator-ne1-2.new.self)
-    parts.fits parts.numerator parts.denominator c.if-denominator-ne1.true
+    parts.fits.num_fits parts.fits.den_fits parts.numerator parts.denominator c.if-denominator-ne1.true
     (c.in_ok-push_str.ensures.bytes ∙ ap (λ t. old ++ t) top)
     c.in_ok-push_str-2.ensures.bytes
     (c.in_ok-push_str-3.ensures.bytes ∙ ap (λ t. string_bytes c.push_str-then-denominator-ne1.new.self ++ t) bottom)
@@ -21,5 +21,5 @@ returns-else-denominator-ne1 c =
     let parts = c.parts-numerator.ensures in
     let top : c.format.result.now ≡ signed_decimal c.parts-numerator.result.0 = search rules in
     writes_integer c.args.number c.parts-numerator.result.0 c.parts-numerator.result.1 old (string_bytes c.push_str.new.self)
-    parts.fits parts.numerator parts.denominator c.if-denominator-ne1.false
+    parts.fits.num_fits parts.numerator parts.denominator c.if-denominator-ne1.false
     (c.in_ok-push_str.ensures.bytes ∙ ap (λ t. old ++ t) top)
