@@ -216,6 +216,13 @@ impl Cert {
         }
     }
 
+    /// The certificate of these members' numbers and multipliers.
+    pub fn new(entries: Vec<(usize, Frac)>) -> Cert
+        ensures { result ≡ entries.items }
+    {
+        Cert { entries }
+    }
+
     /// The members' numbers with their multipliers.
     pub fn entries(&self) -> &[(usize, Frac)]
         ensures { result.now ≡ self.now }

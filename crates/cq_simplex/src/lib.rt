@@ -3,7 +3,7 @@
 #![tactic(auto)]
 
 mod leaving;
-mod rising;
+pub mod rising;
 mod turn;
 
 ghost use Rattle.std.specs.Prelude.{◌≡◌, ℕ, ◌≤◌, ◌^◌, length, IfOk};

@@ -86,17 +86,20 @@ at_work l asked = record { stage = settling; list = l; asked = asked; operations
 makes_same : (m : Moment) (o : Operation) (a b c d : ℚ) → a ≡ c → b ≡ d → Makes m o a b → Makes m o c d
 makes_same m o a b c d e f h = subst (λ y. Makes m o c y) f (subst (λ x. Makes m o x b) e h)
 
-module _ (l : List Constraint) (asked : List Linear) (roles : List Role) (place : Quantity → ℕ) (live gone : List Quantity) (is_table : AreOverColumns roles) (d : Describes l asked roles place live gone) (solved : IsSolved l roles place gone) where
-  pub in_use : IsInUse (at_work l asked) [] (live ++ gone)
-  in_use = beside_feasible (record {
-    own = dictionary l asked roles place live gone is_table d;
-    all_zeros = members_from 0 l;
-    live = live;
-    feasible = feasible l asked roles place live gone is_table d solved;
-    part = λ q h. absurd h;
-    rest = rest l asked roles place live gone is_table d solved;
-  })
+-- a table of solved equations is in use
+pub solved_in_use : (l : List Constraint) (asked : List Linear) (roles : List Role) (place : Quantity → ℕ) (live gone : List Quantity) → AreOverColumns roles
+    → Describes l asked roles place live gone → IsSolved l roles place gone → IsInUse (at_work l asked) [] (live ++ gone)
+solved_in_use l asked roles place live gone is_table d solved = beside_feasible (record {
+  own = dictionary l asked roles place live gone is_table d;
+  all_zeros = members_from 0 l;
+  live = live;
+  feasible = feasible l asked roles place live gone is_table d solved;
+  part = λ q h. absurd h;
+  rest = rest l asked roles place live gone is_table d solved;
+})
 
+module _ (l : List Constraint) (asked : List Linear) (roles : List Role) (place : Quantity → ℕ) (live gone : List Quantity) (is_table : AreOverColumns roles)
+    (d : Describes l asked roles place live gone) (in_use : IsInUse (at_work l asked) [] (live ++ gone)) where
   -- ---- where the numbers of a row stand
 
   abbrev Stands : own.Site → RowIndex → Type 0

@@ -22,7 +22,7 @@ use Rattle.cq_dict.proofs.Roles.{role_live, role_dropped, at_one, live_at}
 use Rattle.cq_dict.proofs.Free.{free, sum_agrees}
 use Rattle.cq_store.proofs.Dictionary.{sum_same, sum_zero, pick_one, has_either, dictionary}
 
-sum_append : (f : Quantity → ℚ) (s t : List Quantity) → sum_over f (s ++ t) ≡ sum_over f s +ℚ sum_over f t
+pub sum_append : (f : Quantity → ℚ) (s t : List Quantity) → sum_over f (s ++ t) ≡ sum_over f s +ℚ sum_over f t
 sum_append f [] t = ring (sum_over f t ∷ []) (var 0) (int (pos 0) ⊕ var 0) refl
 sum_append f (q ∷ s) t = ap (λ w. f q +ℚ w) (sum_append f s t) ∙ ring (f q ∷ sum_over f s ∷ sum_over f t ∷ []) (var 0 ⊕ (var 1 ⊕ var 2)) (var 0 ⊕ var 1 ⊕ var 2) refl
 
@@ -48,11 +48,11 @@ zero_of l v [] q z h = absurd h
 zero_of l v (r ∷ s) q z (inl e) = ap (amount l v) e ∙ z.0
 zero_of l v (r ∷ s) q z (inr h) = zero_of l v s q z.1 h
 
-set_left : (s t : List Quantity) → IsSet (s ++ t) → IsSet s
+pub set_left : (s t : List Quantity) → IsSet (s ++ t) → IsSet s
 set_left [] t h = tt
 set_left (q ∷ s) t h = ((λ k. h.0 (has_left q s t k)), set_left s t h.1)
 
-set_apart : (s t : List Quantity) (q : Quantity) → IsSet (s ++ t) → Has q s → Has q t → ⊥
+pub set_apart : (s t : List Quantity) (q : Quantity) → IsSet (s ++ t) → Has q s → Has q t → ⊥
 set_apart [] t q h k m = k
 set_apart (r ∷ s) t q h (inl e) m = h.0 (subst (λ y. Has y (s ++ t)) e (has_right q s t m))
 set_apart (r ∷ s) t q h (inr k) m = set_apart s t q h.1 k m
@@ -67,7 +67,7 @@ holds_at v [] i h k = absurd (omega arith)
 holds_at v (c ∷ l) zero h k = h.0
 holds_at v (c ∷ l) (suc i) h k = holds_at v l i h.1 (omega arith)
 
-turned : (a b : ℕ) → unit a b ≡ unit b a
+pub turned : (a b : ℕ) → unit a b ≡ unit b a
 turned a b = ap (λ t. choose t 1ℚ 0ℚ) (eq_turned a b)
   where
     eq_turned : (a b : ℕ) → nat_eq b a ≡ nat_eq a b

@@ -32,7 +32,7 @@ use Rattle.cq_dict.proofs.Roles.{role_live, live_at, at_last}
 use Rattle.cq_store.proofs.Roles.{at_append, append_back}
 use Rattle.cq_store.proofs.Names.{place_more, member_more, member_last, variables_of-append, members_in-append, named_more}
 use Rattle.cq_row.proofs.Shifts.{passes}
-use Rattle.cq_store.proofs.Causes.{at_work, form_pairs, pivot_pairs, placed_sum}
+use Rattle.cq_store.proofs.Causes.{at_work, solved_in_use, form_pairs, pivot_pairs, placed_sum}
 use Rattle.cq_store.proofs.Joining.{IsTurned, turned_is, same_or_not, append_table}
 use Rattle.cq_store.proofs.Joining as joining
 use Rattle.cq_store.proofs.Asking as asking
@@ -155,14 +155,17 @@ module _ (l : List Constraint) (t : Named) (s : IsStored l t) (f : Linear) (know
     -- the pairs of adding the form
     pub adding_makes : IsForm f → (o : Operation) (a b : ℚ) → FormPair t.roles (placed (place_of t.names) f.products) f.constant o a b → Makes (at_work l (f ∷ variable_forms order)) o a b
     adding_makes ordered o a b p =
-        form_pairs l (f ∷ variable_forms order) t.roles (place_of t.names) s.live s.gone s.named.table asked_describes s.solved f (inl refl) ordered p
+        form_pairs l (f ∷ variable_forms order) t.roles (place_of t.names) s.live s.gone s.named.table asked_describes
+        (solved_in_use l (f ∷ variable_forms order) t.roles (place_of t.names) s.live s.gone s.named.table asked_describes s.solved) f (inl refl) ordered p
 
     -- the pairs of the exchange
     pub exchanging_makes : (asked : Named) (m : AddsMember t f asked) (c : ℕ) (o : Operation) (a b : ℚ) → PivotPair asked.roles (length t.roles) c o a b → Makes (at_work l (f ∷ variable_forms order)) o a b
     exchanging_makes asked m c o a b p =
         pivot_pairs l (f ∷ variable_forms order) (t.roles ++ Basic m.row ∷ []) (place_of t.names) s.live s.gone (append_table t.roles m.row s.named.table m.expresses.over)
         (asking.describes l f (variable_forms order) t.roles (place_of t.names) s.live s.gone s.named.table asked_describes s.solved m.row m.expresses)
-        (asking.still l f (variable_forms order) t.roles (place_of t.names) s.live s.gone s.named.table asked_describes s.solved m.row m.expresses)
+        (solved_in_use l (f ∷ variable_forms order) (t.roles ++ Basic m.row ∷ []) (place_of t.names) s.live s.gone (append_table t.roles m.row s.named.table m.expresses.over)
+        (asking.describes l f (variable_forms order) t.roles (place_of t.names) s.live s.gone s.named.table asked_describes s.solved m.row m.expresses)
+        (asking.still l f (variable_forms order) t.roles (place_of t.names) s.live s.gone s.named.table asked_describes s.solved m.row m.expresses))
         (asking.known l f (variable_forms order) t.roles (place_of t.names) s.live s.gone s.named.table asked_describes s.solved m.row m.expresses asked_rows)
         (length t.roles) c (subst (λ z. PivotPair z (length t.roles) c o a b) m.roles p)
 
