@@ -233,25 +233,28 @@ module _ (d e : Tableau) (l : List Constraint) (i : Sound d l) (r : Restored d e
   }
 
 -- ---- equations stay dropped
-module _ (d e : Tableau) (b : IsWritten d) (drops restricts : List ℕ) (r : Changed d e drops restricts) (l : List Constraint) (k : AreDropped d l) where
-  narrower : (m : List Constraint) → ((c : Constraint) → Has c l → Has c m) → (v : ℕ → ℚ) → WithinEquations e m v → WithinEquations d l v
-  narrower m more v g c n o =
-      let f = r.form c (b.made_dropped c n) in
-      ap (value_at v) (sym f) ∙ g c (r.dropped_still c n) (more _ (subst (λ z. Has (equals_zero z) l) (sym f) o))
+module _ (d e : Tableau) (b : IsWritten d) (drops restricts : List ℕ) (r : Changed d e drops restricts)
+    (apart : (z : ℕ) → Has z restricts → d.is_dropped z ≡ false) (l : List Constraint) (k : AreDropped d l) where
+  unrestricted : (c : ℕ) → d.is_dropped c ≡ true → d.is_restricted c ≡ false → (x : Bool) → e.is_restricted c ≡ x → e.is_restricted c ≡ false
+  unrestricted c m n false h = h
+  unrestricted c m n true h = absurd (elim (r.restricted_only c h) [ inl s ↦ clash (d.is_dropped c) (apart c s) m | inr s ↦ clash (d.is_restricted c) n s ])
+
+  narrower : (v : ℕ → ℚ) → WithinEquations e v → WithinEquations d v
+  narrower v g c m n = ap (value_at v) (sym (r.form c (b.made_dropped c m))) ∙ g c (r.dropped_still c m) (unrestricted c m n (e.is_restricted c) refl)
 
   pub still_dropped : AreDropped e l
-  still_dropped c m q v g = k c m q v (narrower l (λ c m. m) v g)
+  still_dropped c m q v g = k c m q v (narrower v g)
 
-  pub dropped_more : (c : Constraint) → (c.relation ≡ Eq → IsFlat (WithinEquations e (c ∷ l)) c.form) → AreDropped e (c ∷ l)
-  dropped_more c own x (inl s) q = subst (λ y. IsFlat (WithinEquations e (c ∷ l)) y.form) (sym s) (own (ap (λ y. y.relation) (sym s) ∙ q))
-  dropped_more c own x (inr m) q = λ v g. k x m q v (narrower (c ∷ l) (λ c m. inr m) v g)
+  pub dropped_more : (c : Constraint) → (c.relation ≡ Eq → IsFlat (WithinEquations e) c.form) → AreDropped e (c ∷ l)
+  dropped_more c own x (inl s) q = subst (λ y. IsFlat (WithinEquations e) y.form) (sym s) (own (ap (λ y. y.relation) (sym s) ∙ q))
+  dropped_more c own x (inr m) q = λ v g. k x m q v (narrower v g)
 
 -- an equation whose own quantity is dropped
-pub own_dropped : (e : Tableau) (l : List Constraint) (q : ℕ) → e.is_dropped q ≡ true → IsFlat (WithinEquations e (equals_zero (e.form q) ∷ l)) (e.form q)
-own_dropped e l q h v g = g q h (inl refl)
+pub own_dropped : (e : Tableau) (q : ℕ) → e.is_dropped q ≡ true → e.is_restricted q ≡ false → IsFlat (WithinEquations e) (e.form q)
+own_dropped e q h n v g = g q h n
 
 -- restored but for the equations' columns
 pub restored_equations : (d e : Tableau) (l : List Constraint) → Sound d l → AreDropped d l → Restored d e → IsWritten e → IsFeasible e →
-    ((z : ℕ) → d.is_dropped z ≡ true → Has (equals_zero (d.form z)) l → e.is_dropped z ≡ true) → Sound e l
+    ((z : ℕ) → d.is_dropped z ≡ true → d.is_restricted z ≡ false → e.is_dropped z ≡ true) → Sound e l
 restored_equations d e l i k r w f stay =
     sound_restored d e l i r w f (λ c m q v g. k c m q v (λ z n o. ap (value_at v) (sym (r.form z (i.written.made_dropped z n))) ∙ g z (stay z n o)))

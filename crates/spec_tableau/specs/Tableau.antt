@@ -179,19 +179,25 @@ pub record Exchanged (d e : Tableau) (q c : ℕ) (restricts : List ℕ) : Type 0
   pub leaves : e.is_live q ≡ true
   pub others : (z : ℕ) → d.is_live z ≡ true → (z ≡ c → ⊥) → e.is_live z ≡ true
 
+-- e is d after an exchange of the row q and the live column c, where q is dropped then
+pub record Eliminated (d e : Tableau) (q c : ℕ) : Type 0 where
+  pub changed : Changed d e (q ∷ []) []
+  pub made : q < d.count
+  pub others : (z : ℕ) → d.is_live z ≡ true → (z ≡ c → ⊥) → e.is_live z ≡ true
+
 -- what makes a tableau without zeros in its rows feasible: a restricted quantity has no constant below zero, and no entry in
 -- an unrestricted column
 pub record HasFeasibleNumbers (d : Tableau) : Type 0 where
   pub constants : (q : ℕ) → q < d.count → d.is_restricted q ≡ true → IsNotNegative (d.row q).constant
   pub no_free_column : (q : ℕ) → q < d.count → d.is_restricted q ≡ true → (c : ℕ) → d.is_restricted c ≡ false → factor_of c (d.row q).live ≡ 0ℚ
 
--- the dropped columns that are equations' quantities are zero
-abbrev pub WithinEquations : Tableau → List Constraint → (ℕ → ℚ) → Type 0
-WithinEquations d l v = (c : ℕ) → d.is_dropped c ≡ true → Has (equals_zero (d.form c)) l → numbers d v c ≡ 0ℚ
+-- the dropped columns that are not restricted, which are equations' own quantities, are zero
+abbrev pub WithinEquations : Tableau → (ℕ → ℚ) → Type 0
+WithinEquations d v = (c : ℕ) → d.is_dropped c ≡ true → d.is_restricted c ≡ false → numbers d v c ≡ 0ℚ
 
 -- equations are zero by the dropped columns of equations alone; what a certificate needs beside the invariant
 abbrev pub AreDropped : Tableau → List Constraint → Type 0
-AreDropped d l = (c : Constraint) → Has c l → c.relation ≡ Eq → IsFlat (WithinEquations d l) c.form
+AreDropped d l = (c : Constraint) → Has c l → c.relation ≡ Eq → IsFlat (WithinEquations d) c.form
 
 -- e is d, on any basis, with some dropped columns restored
 pub record Restored (d e : Tableau) : Type 0 where

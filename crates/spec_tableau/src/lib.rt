@@ -12,7 +12,7 @@ ghost use Rattle.spec_extremes.specs.Extremes.{IsSupremum, IsUnbounded};
 ghost use Rattle.spec_inequalities.specs.Weak.{above_zero, at_least_zero, not_zero, weak};
 ghost use Rattle.spec_inequalities.specs.Certificate.{member, SomeStrict, Refutes};
 ghost use Rattle.spec_tableau.specs.Reach.{equals_zero, Rises, NeverNegative, IsFlat, Moves, Stands, Again, IsGreatest, opposite, SameMembers};
-ghost use Rattle.spec_tableau.specs.Tableau.{Tableau, unit_of, empty, numbers, Within, AllIn, IsWritten, MeetsRows, IsShaped, Linked, AllBelow, IsFeasible, Place, IsNothing, IsSomething, Held, Owned, Sound, Invariant, Shown, Changed, Exchanged, HasFeasibleNumbers, WithinEquations, AreDropped, Restored, IsOptimal, IsUnlimited, HasRoom, EachTermZero};
+ghost use Rattle.spec_tableau.specs.Tableau.{Tableau, unit_of, empty, numbers, Within, AllIn, IsWritten, MeetsRows, IsShaped, Linked, AllBelow, IsFeasible, Place, IsNothing, IsSomething, Held, Owned, Sound, Invariant, Shown, Changed, Exchanged, Eliminated, HasFeasibleNumbers, WithinEquations, AreDropped, Restored, IsOptimal, IsUnlimited, HasRoom, EachTermZero};
 ghost use Rattle.spec_tableau.specs.Fixing.{NewlyFixed, BecomesFixed, StaysAsItIs};
 ghost use Rattle.spec_tableau.specs.Entries.{entries, row_entries, IsNumbered};
 
@@ -38,14 +38,30 @@ pub fn exchanges_keep_the_invariant()
         → IsFeasible e → Invariant e l }
 {}
 
-/// Restricted rows stay feasible where the leaving row is restricted and an unrestricted column enters, or one that no
-/// restricted row limits; and a row over restricted columns stays over such.
+/// Restricted rows stay feasible where the leaving row is restricted or dropped and an unrestricted column enters, or one
+/// that no restricted row limits, or where the leaving row has the constant zero and no unrestricted column; where
+/// columns are dropped, or restricted ones restored; and a row over restricted columns stays over such.
 pub fn exchanges_stay_feasible()
     ensures free { (d e : Tableau) → IsWritten d → IsWritten e → (q c : ℕ) → Exchanged d e q c (q ∷ []) → IsFeasible d
         → d.is_restricted c ≡ false → HasFeasibleNumbers e }
     ensures unlimited { (d e : Tableau) → IsWritten d → IsWritten e → (q c : ℕ) → Exchanged d e q c (q ∷ []) → IsFeasible d
         → IsUnlimited d c → IsPositive (factor_of c (d.row q).live) → IsNotNegative (neg_ℚ (d.row q).constant)
         → AllIn d.is_restricted (d.row q).live → HasFeasibleNumbers e }
+    ensures level { (d e : Tableau) → IsWritten d → IsWritten e → (q c : ℕ) → Exchanged d e q c (q ∷ []) → IsFeasible d
+        → AllIn d.is_restricted (d.row q).live → (d.row q).constant ≡ 0ℚ → factor_of c (d.row q).live ≢ 0ℚ
+        → HasFeasibleNumbers e }
+    ensures free_elimination { (d e : Tableau) → IsWritten d → IsWritten e → (q c : ℕ) → Eliminated d e q c → IsFeasible d
+        → d.is_restricted c ≡ false → HasFeasibleNumbers e }
+    ensures level_elimination { (d e : Tableau) → IsWritten d → IsWritten e → (q c : ℕ) → Eliminated d e q c → IsFeasible d
+        → AllIn d.is_restricted (d.row q).live → (d.row q).constant ≡ 0ℚ → factor_of c (d.row q).live ≢ 0ℚ
+        → HasFeasibleNumbers e }
+    ensures dropping { (d e : Tableau) → IsWritten d → IsWritten e → (drops : List ℕ) → Changed d e drops []
+        → ((z : ℕ) → d.is_live z ≡ true → (e.is_live z ≡ true) ⊎ (e.is_dropped z ≡ true)) → IsFeasible d
+        → HasFeasibleNumbers e }
+    ensures restoring { (d e : Tableau) → IsWritten d → IsWritten e → Restored d e
+        → ((z : ℕ) → d.is_live z ≡ true → e.is_live z ≡ true)
+        → ((z : ℕ) → d.is_dropped z ≡ true → (e.is_dropped z ≡ true) ⊎ ((e.is_live z ≡ true) × (d.is_restricted z ≡ true)))
+        → IsFeasible d → HasFeasibleNumbers e }
     ensures row { (d e : Tableau) → Changed d e [] [] → IsWritten d → IsWritten e → HasFeasibleNumbers e → (q : ℕ)
         → q < d.count → AllIn d.is_restricted (d.row q).live → (z : ℕ) → e.is_restricted z ≡ false
         → factor_of z (e.row q).live ≡ 0ℚ }
@@ -140,8 +156,7 @@ pub fn dropped_columns()
         → ((z : ℕ) → Has z restricts → Owned (c ∷ l) (d.form z)) → Sound e (c ∷ l) }
     ensures restore { (d e : Tableau) (l : List Constraint) → Sound d l → AreDropped d l → Restored d e
         → IsWritten e → IsFeasible e
-        → ((z : ℕ) → d.is_dropped z ≡ true → Has (equals_zero (d.form z)) l → e.is_dropped z ≡ true)
-        → Sound e l }
+        → ((z : ℕ) → d.is_dropped z ≡ true → d.is_restricted z ≡ false → e.is_dropped z ≡ true) → Sound e l }
 {}
 
 /// A constraint joins whose face makes the other members be looked at again.
@@ -231,15 +246,16 @@ pub fn entailed_constraints()
         → IsSomething (d.row q) → Entails l (equals_zero (d.form q)) → ⊥ }
 {}
 
-/// Equations stay zero by dropped columns of equations alone.
+/// Equations stay zero by dropped columns of equations alone, which are not restricted.
 pub fn equations_stay_dropped()
     ensures stay { (d e : Tableau) (drops restricts : List ℕ) (l : List Constraint) → IsWritten d
-        → Changed d e drops restricts → AreDropped d l → AreDropped e l }
+        → Changed d e drops restricts → ((z : ℕ) → Has z restricts → d.is_dropped z ≡ false)
+        → AreDropped d l → AreDropped e l }
     ensures grow { (d e : Tableau) (drops restricts : List ℕ) (l : List Constraint) (c : Constraint) → IsWritten d
-        → Changed d e drops restricts → AreDropped d l
-        → (c.relation ≡ Eq → IsFlat (WithinEquations e (c ∷ l)) c.form) → AreDropped e (c ∷ l) }
-    ensures own { (e : Tableau) (l : List Constraint) (q : ℕ) → e.is_dropped q ≡ true
-        → IsFlat (WithinEquations e (equals_zero (e.form q) ∷ l)) (e.form q) }
+        → Changed d e drops restricts → ((z : ℕ) → Has z restricts → d.is_dropped z ≡ false) → AreDropped d l
+        → (c.relation ≡ Eq → IsFlat (WithinEquations e) c.form) → AreDropped e (c ∷ l) }
+    ensures own { (e : Tableau) (q : ℕ) → e.is_dropped q ≡ true → e.is_restricted q ≡ false
+        → IsFlat (WithinEquations e) (e.form q) }
 {}
 
 /// Rows that numbers meet just where the forms give them write each quantity; changes of a table keep them so.
