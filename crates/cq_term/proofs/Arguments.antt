@@ -40,11 +40,19 @@ list_of-terms_of : (t : HeapTerm) (us : List HeapTerm) → list_of (terms_of t u
 list_of-terms_of t [] = refl
 list_of-terms_of t (u ∷ us) = ap (λ l. t ∷ l) (list_of-terms_of u us)
 
+terms_of-list_of : (t : HeapTerm) (us : Terms ℕ) → terms_of t (list_of us) ≡ more t us
+terms_of-list_of t (one u) = refl
+terms_of-list_of t (more u us) = ap (more t) (terms_of-list_of u us)
+
+pub with_arguments-list_of : (f : ℕ) (us : Terms ℕ) → with_arguments f (list_of us) ≡ Compound f us
+with_arguments-list_of f (one t) = refl
+with_arguments-list_of f (more t us) = ap (Compound f) (terms_of-list_of t us)
+
 pub arguments-with_arguments : (f : ℕ) (us : List HeapTerm) → arguments (with_arguments f us) ≡ us
 arguments-with_arguments f [] = refl
 arguments-with_arguments f (t ∷ us) = list_of-terms_of t us
 
-count-terms_of : (t : HeapTerm) (us : List HeapTerm) → count (terms_of t us) ≡ suc (length us)
+pub count-terms_of : (t : HeapTerm) (us : List HeapTerm) → count (terms_of t us) ≡ suc (length us)
 count-terms_of t [] = refl
 count-terms_of t (u ∷ us) = ap suc (count-terms_of u us)
 
@@ -52,7 +60,7 @@ pub view_of-with_arguments : (f : ℕ) (us : List HeapTerm) → 0 < length us �
 view_of-with_arguments f [] lt = absurd (omega arith)
 view_of-with_arguments f (t ∷ us) lt = ap (view.Compound f) (count-terms_of t us)
 
-length-list_of : (ts : Terms ℕ) → length (list_of ts) ≡ count ts
+pub length-list_of : (ts : Terms ℕ) → length (list_of ts) ≡ count ts
 length-list_of (one t) = refl
 length-list_of (more t ts) = ap suc (length-list_of ts)
 
@@ -62,6 +70,14 @@ length-arguments (Var v) f n e = cc
 length-arguments (Number q) f n e = cc
 length-arguments (Name a) f n e = cc
 length-arguments (Compound g ts) f n e = (let h : count ts ≡ n = cc in length-list_of ts ∙ h)
+
+-- a compound has an argument
+pub some_arguments : (t : HeapTerm) (f n : ℕ) → view_of t ≡ view.Compound f n → 0 < length (arguments t)
+some_arguments (Var v) f n e = cc
+some_arguments (Number q) f n e = cc
+some_arguments (Name a) f n e = cc
+some_arguments (Compound g (one t)) f n e = omega arith
+some_arguments (Compound g (more t us)) f n e = omega arith
 
 -- a term that shows a variable is that variable
 pub shown_variable : (t : HeapTerm) (v : VarId) → view_of t ≡ view.Var v → t ≡ Var v.0

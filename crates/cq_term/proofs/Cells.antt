@@ -10,7 +10,8 @@ use Rattle.cq_term.specs.Built.{Built}
 use Rattle.cq_term.specs.Built as built
 use Rattle.cq_term.specs.Meaning.{HeapTerm, at, blank, raw_cell, meanings}
 use Rattle.cq_term.specs.Rep.{Fits, IsHeap}
-use Rattle.cq_term.specs.Layout.{Contents, read, all_built, meant, IsKept, IsClosed, HasNoVariable, IsWhole, Leads}
+use Rattle.cq_term.specs.Layout.{Contents, read, all_built, meant, IsKept, IsClosed, IsWhole, Leads}
+use Rattle.cq_term.specs.Ground.{IsGround}
 use Rattle.cq_term.specs.declared.lists.Cell.{Cell}
 use Rattle.cq_term.specs.declared.lists.Cell.TheVariants as cell
 use Rattle.cq_term.proofs.Meanings.{at-append, length-meanings}
@@ -101,10 +102,10 @@ module _ (x : Contents) (whole : IsWhole x) (wide : List ℚ) (args : List ℕ) 
     | inr q ↦ subst (λ (y : Cell). IsKept (length wide) (length args) y) q.1 kept
   ]
 
-  closed_cells : (t : HeapTerm) → (IsClosed c → HasNoVariable t) → (i : ℕ) (d : Cell) → slice_get (x.cells ++ c ∷ []) i ≡ Some d → IsClosed d → HasNoVariable (at (meant x ++ t ∷ []) i)
+  closed_cells : (t : HeapTerm) → (IsClosed c → IsGround t) → (i : ℕ) (d : Cell) → slice_get (x.cells ++ c ∷ []) i ≡ Some d → IsClosed d → IsGround (at (meant x ++ t ∷ []) i)
   closed_cells t closed i d h g = elim (get_push x.cells c i d h) [
-    | inl p ↦ subst HasNoVariable (sym (at_old x t i (slice_get_within x.cells i d p))) (whole.closed i d p g)
-    | inr q ↦ subst HasNoVariable (sym (at_new x t i q.0)) (closed (subst IsClosed (sym q.1) g))
+    | inl p ↦ subst IsGround (sym (at_old x t i (slice_get_within x.cells i d p))) (whole.closed i d p g)
+    | inr q ↦ subst IsGround (sym (at_new x t i q.0)) (closed (subst IsClosed (sym q.1) g))
   ]
 
   -- a cell that is no variable
@@ -120,11 +121,11 @@ module _ (x : Contents) (whole : IsWhole x) (wide : List ℚ) (args : List ℕ) 
         ap (λ (l : List Built). map (at (meanings l x.order)) x.vars) built_cell
         ∙ images_cell (all_built x) x.vars x.bound x.order whole.heap b fits plain
 
-    pub whole_cell : IsKept (length wide) (length args) c → (IsClosed c → HasNoVariable (raw_cell (meant x) b)) → IsWhole (with_cell x wide args c)
+    pub whole_cell : IsKept (length wide) (length args) c → (IsClosed c → IsGround (raw_cell (meant x) b)) → IsWhole (with_cell x wide args c)
     whole_cell kept closed = record {
       kept = kept_cells kept;
       heap = subst (λ (l : List Built). IsHeap l x.vars x.bound x.order) (sym built_cell) (is_heap_cell (all_built x) x.vars x.bound x.order b whole.heap fits plain);
-      closed = λ i d h g. subst (λ (l : List HeapTerm). HasNoVariable (at l i)) (sym meant_cell) (closed_cells (raw_cell (meant x) b) closed i d h g);
+      closed = λ i d h g. subst (λ (l : List HeapTerm). IsGround (at l i)) (sym meant_cell) (closed_cells (raw_cell (meant x) b) closed i d h g);
     }
 
 abbrev pub with_var : Contents → Contents
@@ -153,7 +154,7 @@ module _ (x : Contents) (whole : IsWhole x) where
         subst (λ (l : List Built). IsHeap l (x.vars ++ length x.cells ∷ []) (x.bound ++ None ∷ []) x.order) (sym built_var)
         (subst (λ (n : ℕ). IsHeap (all_built x ++ built.Var (length x.bound) ∷ []) (x.vars ++ n ∷ []) (x.bound ++ None ∷ []) x.order) home
         (is_heap_var (all_built x) x.vars x.bound x.order whole.heap));
-    closed = λ i d h g. subst (λ (l : List HeapTerm). HasNoVariable (at l i)) (sym meant_var)
+    closed = λ i d h g. subst (λ (l : List HeapTerm). IsGround (at l i)) (sym meant_var)
         (closed_cells x whole x.wide x.args (longer_same x) (cell.Var (length x.bound)) (Var (length x.bound)) (λ no. absurd no) i d h g);
   }
 

@@ -2,9 +2,9 @@
 use Rattle.std.proofs.Common.{ℕ, ◌<◌, ◌≤◌, List, [], ◌∷◌, refl, arith, inl, inr}
 use Rattle.std.specs.Prelude.{All}
 use Rattle.std.proofs.lemmas.List.Elements.{All-head, All-tail}
-use Rattle.spec_terms.specs.Term.{Terms, Subst, Var, Number, Name, Compound, one, more, Occurs, OccursIn, apply, apply_all, terms_of, with_arguments}
+use Rattle.spec_terms.specs.Term.{Terms, Subst, Var, Number, Name, Compound, one, more, OccursIn, apply, apply_all, terms_of, with_arguments}
 use Rattle.cq_term.specs.Meaning.{HeapTerm}
-use Rattle.cq_term.specs.Names.{HasNamesBelow, HaveNamesBelow}
+use Rattle.cq_term.specs.Names.{HasNamesBelow, HaveNamesBelow, PutsNamesBelow}
 
 module _ (m n : ℕ) (le : m ≤ n) where
   mutual
@@ -20,7 +20,7 @@ module _ (m n : ℕ) (le : m ≤ n) where
 
 module _ (n : ℕ) (s : Subst ℕ) where
   mutual
-    pub names_substituted : (t : HeapTerm) → HasNamesBelow n t → ((v : ℕ) → Occurs v t → HasNamesBelow n (s v)) → HasNamesBelow n (apply s t)
+    pub names_substituted : (t : HeapTerm) → HasNamesBelow n t → PutsNamesBelow n s t → HasNamesBelow n (apply s t)
     names_substituted (Var v) h k = k v refl
     names_substituted (Number q) h k = tt
     names_substituted (Name a) h k = h

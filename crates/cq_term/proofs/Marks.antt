@@ -12,7 +12,8 @@ use Rattle.cq_term.specs.Built.{Built}
 use Rattle.cq_term.specs.Built as built
 use Rattle.cq_term.specs.Meaning.{HeapTerm, at, raw_cell}
 use Rattle.cq_term.specs.Rep.{Fits, AllBelow, target}
-use Rattle.cq_term.specs.Layout.{Contents, IsWhole, IsMarked, IsWithin, IsEarlier, contents_at, terms_at, terms_of, unbinding, restored, read, all_built, meant, IsKept, IsClosed, HasNoVariable, Leads}
+use Rattle.cq_term.specs.Layout.{Contents, IsWhole, IsMarked, IsWithin, IsEarlier, contents_at, terms_at, terms_of, unbinding, restored, read, all_built, meant, IsKept, IsClosed, Leads}
+use Rattle.cq_term.specs.Ground.{IsGround}
 use Rattle.cq_term.specs.declared.lists.Cell.{Cell}
 use Rattle.cq_term.specs.declared.lists.Binding.{Binding}
 use Rattle.cq_term.specs.declared.heap.Place.{Place}
@@ -228,7 +229,7 @@ pub record Adds (x y : Contents) (marks : List Place) (t : HeapTerm) : Type 0 wh
   pub images : map (at (meant y)) y.vars ≡ map (at (meant x)) x.vars
 
 module _ (x : Contents) (marks : List Place) (is : IsMarked x marks) where
-  adds_cell : (wide : List ℚ) (args : List ℕ) → Longer x wide args → (c : Cell) (b : Built) → read wide args c ≡ b → Fits (length (all_built x)) (length x.bound) b → ((n : ℕ) → b ≡ built.Var n → ⊥) → IsKept (length wide) (length args) c → (IsClosed c → HasNoVariable (raw_cell (meant x) b)) →
+  adds_cell : (wide : List ℚ) (args : List ℕ) → Longer x wide args → (c : Cell) (b : Built) → read wide args c ≡ b → Fits (length (all_built x)) (length x.bound) b → ((n : ℕ) → b ≡ built.Var n → ⊥) → IsKept (length wide) (length args) c → (IsClosed c → IsGround (raw_cell (meant x) b)) →
       Adds x (with_cell x wide args c) marks (raw_cell (meant x) b)
   adds_cell wide args longer c b reads fits plain kept closed =
       let keeps = keeps_cell x wide args longer c in
@@ -249,7 +250,7 @@ module _ (x : Contents) (marks : List Place) (is : IsMarked x marks) where
   pub adds_name : (a : ℕ) → Adds x (with_cell x x.wide x.args (cell.Name a)) marks (Name a)
   adds_name a = adds_cell x.wide x.args (longer_same x) (cell.Name a) (built.Name a) refl tt (λ m e. cc) tt (λ g v o. o)
 
-  pub adds_compound : (g : Bool) (f : ℕ) (ids : List ℕ) → 0 < length ids → All (λ i. i < length (meant x)) ids → (IsTrue g → All (λ i. HasNoVariable (at (meant x) i)) ids) →
+  pub adds_compound : (g : Bool) (f : ℕ) (ids : List ℕ) → 0 < length ids → All (λ i. i < length (meant x)) ids → (IsTrue g → All (λ i. IsGround (at (meant x) i)) ids) →
       Adds x (with_cell x x.wide (x.args ++ ids) (cell.Compound g (length ids) f (length x.args))) marks (with_arguments f (map (at (meant x)) ids))
   adds_compound g f ids some live ground =
       let below : AllBelow (length (all_built x)) ids = subst (λ (n : ℕ). AllBelow n ids) (length-meanings (all_built x) x.order) (all_to_below (length (meant x)) ids live) in

@@ -10,7 +10,8 @@ use Rattle.cq_term.specs.Built as built
 use Rattle.cq_term.specs.Meaning.{at}
 use Rattle.cq_term.specs.Rep.{AllBelow}
 use Rattle.cq_term.specs.Shown.{view_of, arguments}
-use Rattle.cq_term.specs.Layout.{Contents, read, all_built, meant, IsWhole, IsClosed, HasNoVariable, Leads}
+use Rattle.cq_term.specs.Layout.{Contents, read, all_built, meant, IsWhole, IsClosed, Leads}
+use Rattle.cq_term.specs.Ground.{IsGround}
 use Rattle.cq_term.specs.declared.lists.Cell.{Cell}
 use Rattle.cq_term.specs.declared.lists.Cell.TheVariants as cell
 use Rattle.cq_term.specs.declared.view.View.TheVariants as view
@@ -51,7 +52,7 @@ module _ (x : Contents) (whole : IsWhole x) (id end : ℕ) (leads : Leads x id e
   pub shown : view_of (at (meant x) id) ≡ cell_view (read x.wide x.args c)
   shown = shows (all_built x) x.vars x.bound x.order whole.heap id end leads (read x.wide x.args c) (read x.wide x.args c) (built_at x end c here) refl
 
-  pub ground_at : IsClosed c → HasNoVariable (at (meant x) id)
+  pub ground_at : IsClosed c → IsGround (at (meant x) id)
   ground_at closed v o = whole.closed end c here closed v (rw leads.same o)
 
   pub not_compound : ((g : Bool) (n f s : ℕ) → c ≡ cell.Compound g n f s → ⊥) → arguments (at (meant x) id) ≡ []

@@ -2,11 +2,11 @@
 use Rattle.std.specs.Prelude.{◌≡◌, ℕ, ◌+◌, ◌<◌, ◌≤◌, List, map, take, drop, slice_index_or, slice_get, length, None, Some, IsTrue, ⊤}
 use Rattle.std.specs.declared.option.Option.{Option}
 use Rattle.spec_rational.specs.Rational.{ℚ, int_ℚ, 0ℚ}
-use Rattle.spec_terms.specs.Term.{Occurs}
 use Rattle.cq_trail.specs.Log.{restore}
 use Rattle.cq_term.specs.Built.{Built}
 use Rattle.cq_term.specs.Built as built
 use Rattle.cq_term.specs.Meaning.{HeapTerm, at, meanings}
+use Rattle.cq_term.specs.Ground.{IsGround}
 use Rattle.cq_term.specs.HeapValue.{Terms}
 use Rattle.cq_term.specs.Rep.{IsHeap, Resolved, terms_of_parts}
 use Rattle.cq_term.specs.declared.lists.Cell.{Cell}
@@ -61,13 +61,10 @@ IsClosed (cell.Wide k) = ⊤
 IsClosed (cell.Name a) = ⊤
 IsClosed (cell.Compound g n f s) = IsTrue g
 
-abbrev pub HasNoVariable : HeapTerm → Type 0
-HasNoVariable t = (v : ℕ) → Occurs v t → ⊥
-
 pub record IsWhole (x : Contents) : Type 0 where
   pub kept : (i : ℕ) (c : Cell) → slice_get x.cells i ≡ Some c → IsKept (length x.wide) (length x.args) c
   pub heap : IsHeap (all_built x) x.vars x.bound x.order
-  pub closed : (i : ℕ) (c : Cell) → slice_get x.cells i ≡ Some c → IsClosed c → HasNoVariable (at (meant x) i)
+  pub closed : (i : ℕ) (c : Cell) → slice_get x.cells i ≡ Some c → IsClosed c → IsGround (at (meant x) i)
 
 -- the end of the bindings from an id
 abbrev pub Leads : Contents → ℕ → ℕ → Type 0

@@ -1,5 +1,6 @@
 pub mod Built
 pub mod Meaning
+pub mod Ground
 pub mod Shown
 pub mod HeapValue
 pub mod Rep

@@ -1,6 +1,7 @@
--- The names of a term, of which each has a text.
-use Rattle.std.specs.Prelude.{ℕ, ◌<◌, ⊤}
-use Rattle.spec_terms.specs.Term.{Term, Terms, Var, Number, Name, Compound, one, more}
+-- The names of terms, of which each has a text.
+use Rattle.std.specs.Prelude.{ℕ, ◌<◌, All, ⊤}
+use Rattle.spec_terms.specs.Term.{Term, Terms, Subst, Occurs, Var, Number, Name, Compound, one, more}
+use Rattle.cq_term.specs.HeapValue.{Terms as HeapTerms}
 
 -- each name that stands in the term is among the first so many
 abbrev mutual
@@ -13,3 +14,11 @@ abbrev mutual
   pub HaveNamesBelow : ℕ → Terms ℕ → Type 0
   HaveNamesBelow n (one t) = HasNamesBelow n t
   HaveNamesBelow n (more t ts) = HasNamesBelow n t × HaveNamesBelow n ts
+
+-- what takes the place of each variable of the term has such names
+abbrev pub PutsNamesBelow : ℕ → Subst ℕ → Term ℕ → Type 0
+PutsNamesBelow n s t = (v : ℕ) → Occurs v t → HasNamesBelow n (s v)
+
+-- where each name of the heap's terms is among the first so many, it stays so
+abbrev pub KeepsNames : ℕ → HeapTerms → HeapTerms → Type 0
+KeepsNames n old new = All (HasNamesBelow n) old.terms → All (HasNamesBelow n) new.terms

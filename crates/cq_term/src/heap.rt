@@ -4,7 +4,7 @@ ghost use Rattle.std.specs.Prelude.{List, ℕ, ◌≡◌, ◌<◌, ◌≤◌, �
 ghost use Rattle.spec_terms.specs.Term.{Var, Number, Name, Occurs, with_arguments, apply, single};
 ghost use Rattle.spec_rational.specs.Rational.{int_ℚ};
 ghost use Rattle.cq_term.specs.Meaning.{at};
-ghost use Rattle.cq_term.specs.Layout.{HasNoVariable};
+ghost use Rattle.cq_term.specs.Ground.{IsGround};
 ghost use Rattle.cq_term.specs.Shown.{view_of, arguments, IsUnbound};
 
 use crate::lists::{Binding, Cell, Lists, unbind, word};
@@ -231,7 +231,7 @@ impl Heap {
     /// were all bound to such terms may still answer false.
     pub fn is_ground(&self, id: TermId) -> bool
         requires { id < length self.now.now.terms }
-        ensures { IsTrue result → (v : ℕ) → Occurs v (at self.now.now.terms id) → ⊥ }
+        ensures { IsTrue result → IsGround (at self.now.now.terms id) }
     {
         let end = self.lists.resolve(id);
         match self.lists.cells[end.index()] {
@@ -243,7 +243,7 @@ impl Heap {
 
     fn are_ground(&self, ids: &[TermId]) -> bool
         requires { All (λ i. i < length self.now.now.terms) ids.now }
-        ensures { IsTrue result → All (λ i. HasNoVariable (at self.now.now.terms i)) ids.now }
+        ensures { IsTrue result → All (λ i. IsGround (at self.now.now.terms i)) ids.now }
     {
         for id in ids {
             if !self.is_ground(*id) {
