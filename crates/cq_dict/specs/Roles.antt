@@ -114,6 +114,10 @@ pub record SameNumbers (r s : Row) : Type 0 where
   pub dropped : r.dropped ≡ s.dropped
   pub constant : r.constant ≡ s.constant
 
+-- over one table a value is expressed by one row alone
+abbrev pub ExpressesUniquely : List Role → Type 0
+ExpressesUniquely roles = (value : (ℕ → ℚ) → ℚ) (r s : Row) → Expresses roles value r → Expresses roles value s → SameNumbers r s
+
 -- quantity i is a live column, a dropped column or a row as before
 pub record IsOfOneKind (old new : List Role) (i : ℕ) : Type 0 where
   pub live : is_live new i ≡ is_live old i

@@ -17,24 +17,24 @@ use cq_row::{Entry, Joining};
 use std::alloc::Global;
 
 /// The row and one product more: its factor times the row of its quantity, which for a column is the column itself.
-fn added(alloc: Global, roles: &[Role], sum: &Row, m: Entry) -> Result<Row, Refusal>
+fn added(alloc: Global, roles: &[Role], sum: Row, m: Entry) -> Result<Row, Refusal>
     requires table { AreOverColumns roles.now }
-    requires sum_row { IsOver everywhere everywhere sum.now }
+    requires sum_row { IsOver everywhere everywhere sum }
     requires there { m.quantity < length roles.now }
     requires nonzero { m.factor ≢ 0ℚ }
-    ensures value { IfOk result (λ r. AddsProduct roles.now sum.now m r) }
-    ensures overflow { (pair : Pair) → result ≡ Err (Refusal.Overflow pair) → RefusesProduct roles.now sum.now m pair }
+    ensures value { IfOk result (λ r. AddsProduct roles.now sum m r) }
+    ensures overflow { (pair : Pair) → result ≡ Err (Refusal.Overflow pair) → RefusesProduct roles.now sum m pair }
 {
     match &roles[m.quantity] {
         Role::Live => {
             let own = Row::of_live(alloc, m.quantity)?;
-            sum.joined(alloc, Joining::Plus, m.factor, &own)
+            sum.joined(Joining::Plus, m.factor, &own)
         }
         Role::Dropped => {
             let own = Row::of_dropped(alloc, m.quantity)?;
-            sum.joined(alloc, Joining::Plus, m.factor, &own)
+            sum.joined(Joining::Plus, m.factor, &own)
         }
-        Role::Basic(row) => sum.joined(alloc, Joining::Plus, m.factor, row),
+        Role::Basic(row) => sum.joined(Joining::Plus, m.factor, row),
     }
 }
 
@@ -56,7 +56,7 @@ pub fn expressed(
         if m.factor.is_zero() {
             continue;
         }
-        sum = added(alloc, roles, &sum, *m)?;
+        sum = added(alloc, roles, sum, *m)?;
     }
     Ok(sum)
 }

@@ -10,11 +10,9 @@ mod exchange;
 mod form;
 pub mod table;
 
-ghost use Rattle.std.specs.Prelude.{ℕ, List};
-ghost use Rattle.spec_rational.specs.Rational.{ℚ};
-ghost use Rattle.cq_row.specs.Row.{Row};
+ghost use Rattle.std.specs.Prelude.{List};
 ghost use Rattle.cq_dict.specs.declared.table.Role.{Role};
-ghost use Rattle.cq_dict.specs.Roles.{AreOverColumns, AreFree, Expresses, SameNumbers};
+ghost use Rattle.cq_dict.specs.Roles.{AreOverColumns, AreFree, ExpressesUniquely};
 
 /// Law: the columns are free, so every choice of their values is that of an assignment that meets the rows.
 pub fn columns_are_free()
@@ -23,7 +21,7 @@ pub fn columns_are_free()
 
 /// Over one table a value is expressed by one row alone.
 pub fn expressions_are_unique()
-    ensures { (roles : List Role) (value : (ℕ → ℚ) → ℚ) (r s : Row) → AreOverColumns roles → Expresses roles value r → Expresses roles value s → SameNumbers r s }
+    ensures { (roles : List Role) → AreOverColumns roles → ExpressesUniquely roles }
 {}
 
 #[cfg(test)]

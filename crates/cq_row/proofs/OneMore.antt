@@ -1,15 +1,18 @@
--- A row with one entry joined to it, and what a merge without a multiplier says.
-use Rattle.std.proofs.Common.{◌≡◌, ℕ, zero, suc, ◌+◌, ◌<◌, List, [], ◌∷◌, ◌++◌, length, take, drop, get_or, Bool, Result, Ok, Err, inl, inr, pos, arith, refl, ap, ap₂, sym, subst, ◌∙◌}
+-- A row with at most one entry joined to it, and what a merge without a multiplier says.
+use Rattle.std.proofs.Common.{◌≡◌, ℕ, zero, suc, ◌+◌, ◌<◌, List, [], ◌∷◌, ◌++◌, length, take, drop, get_or, Bool, Result, Ok, Err, inl, inr, Option, Some, None, pos, arith, refl, ap, ap₂, sym, subst, ◌∙◌}
 use Rattle.std.specs.Prelude.{slice_set, IfOk, OnOk}
 use Rattle.spec_rational.specs.Rational.{ℚ, 0ℚ, 1ℚ, ◌+ℚ◌, ◌-ℚ◌, ◌*ℚ◌}
 use Rattle.spec_rational.proofs.Ring.{var, int, ◌⊕◌, ◌⊗◌, minus}
 use Rattle.spec_rational.proofs.Rational.{ring}
 use Rattle.cq_frac.specs.Refused.{Refuses}
+use Rattle.cq_frac.specs.declared.Operation.TheVariants.{Product}
+use Rattle.cq_frac.specs.declared.Pair.{Pair}
+use Rattle.cq_frac.proofs.Refusals.{never_both}
 use Rattle.cq_row.specs.declared.Entry.{Entry}
 use Rattle.cq_row.specs.declared.Joining.{Joining}
 use Rattle.cq_row.specs.declared.Joining.TheVariants.{Plus, Less}
-use Rattle.cq_row.specs.Rows.{sum_at, IsRowFrom, everywhere, Has, Lacks, joined, operation_of, times, unit, NoJoinedPair}
-use Rattle.cq_row.proofs.Units.{at_unit, row_lower}
+use Rattle.cq_row.specs.Rows.{sum_at, IsRowFrom, everywhere, Has, Lacks, joined, operation_of, times, unit, multiplier, AcceptsScaled, TellsScaled, IsScaledPair, NoScaledPair, IsJoinedPair, NoJoinedPair}
+use Rattle.cq_row.proofs.Units.{at_unit, row_lower, sum_at-times}
 
 -- ---- what follows from a fact of an `Ok`
 
@@ -130,9 +133,46 @@ pub is_one : (s : List Entry) (m : Entry) → length s ≡ 1 → m ≡ get_or s 
 is_one [] m l e = absurd (omega arith)
 is_one (x ∷ s) m l e = ap₂ (λ (y : Entry) (t : List Entry). y ∷ t) e (sym (is_empty_list s (omega arith)))
 
-pub nothing_joined : (how : Joining) (q : ℚ) → q ≡ joined how q 0ℚ
-nothing_joined Plus q = ring (q ∷ []) (var 0) (var 0 ⊕ int (pos 0)) refl
-nothing_joined Less q = ring (q ∷ []) (var 0) (var 0 ⊕ minus (int (pos 0))) refl
+-- a list with a multiplier, without entries
+module _ (how : Joining) (scale : Option ℚ) (a b : List Entry) (e : b ≡ []) where
+  pub nothing_value : (x : ℕ → ℚ) → sum_at x a ≡ joined how (sum_at x a) (multiplier scale *ℚ sum_at x b)
+  nothing_value x = go how ∙ ap (λ t. joined how (sum_at x a) (multiplier scale *ℚ sum_at x t)) (sym e)
+    where
+      go : (how : Joining) → sum_at x a ≡ joined how (sum_at x a) (multiplier scale *ℚ 0ℚ)
+      go Plus = ring (sum_at x a ∷ multiplier scale ∷ []) (var 0) (var 0 ⊕ var 1 ⊗ int (pos 0)) refl
+      go Less = ring (sum_at x a ∷ multiplier scale ∷ []) (var 0) (var 0 ⊕ minus (var 1 ⊗ int (pos 0))) refl
 
-pub one_sum : (x : ℕ → ℚ) (m : Entry) → sum_at x (m ∷ []) ≡ m.factor *ℚ x m.quantity
-one_sum x m = ring ((m.factor *ℚ x m.quantity) ∷ []) (var 0 ⊕ int (pos 0)) (var 0) refl
+  pub nothing_accepted : NoScaledPair scale b × NoJoinedPair a how (times (multiplier scale) b)
+  nothing_accepted = subst (λ t. NoScaledPair scale t × NoJoinedPair a how (times (multiplier scale) t)) (sym e) (go scale, λ m n h k. absurd k)
+    where
+      go : (scale : Option ℚ) → NoScaledPair scale []
+      go None = tt
+      go (Some k) = λ m h. absurd h
+
+-- with the entry m, which the multiplier makes z
+module _ (how : Joining) (scale : Option ℚ) (a b : List Entry) (m : Entry) (z : ℚ) (e : m ∷ [] ≡ b) where
+  pub one_shown : (pair : Pair) → TellsScaled scale m.factor pair → IsScaledPair scale b pair
+  one_shown pair t = subst (λ s. IsScaledPair scale s pair) e (go scale t)
+    where
+      go : (scale : Option ℚ) → TellsScaled scale m.factor pair → IsScaledPair scale (m ∷ []) pair
+      go None t = t
+      go (Some k) t = record { entry = m; in_row = inl refl; tells = t }
+
+  module _ (f : z ≡ multiplier scale *ℚ m.factor) where
+    one_times : record { quantity = m.quantity; factor = z } ∷ [] ≡ times (multiplier scale) b
+    one_times = ap (λ q. record { quantity = m.quantity; factor = q } ∷ []) f ∙ ap (times (multiplier scale)) e
+
+    pub one_value : (x : ℕ → ℚ) → joined how (sum_at x a) (z *ℚ x m.quantity) ≡ joined how (sum_at x a) (multiplier scale *ℚ sum_at x b)
+    one_value x =
+        ap (joined how (sum_at x a))
+        (ring ((z *ℚ x m.quantity) ∷ []) (var 0) (var 0 ⊕ int (pos 0)) refl ∙ ap (sum_at x) one_times ∙ sum_at-times x (multiplier scale) b)
+
+    pub one_pair : (pair : Pair) → IsJoinedPair a how (record { quantity = m.quantity; factor = z } ∷ []) pair → IsJoinedPair a how (times (multiplier scale) b) pair
+    one_pair pair h = subst (λ s. IsJoinedPair a how s pair) one_times h
+
+    pub one_taken : AcceptsScaled scale m.factor → NoJoinedPair a how (record { quantity = m.quantity; factor = z } ∷ []) → NoScaledPair scale b × NoJoinedPair a how (times (multiplier scale) b)
+    one_taken t n = (subst (NoScaledPair scale) e (go scale t), subst (NoJoinedPair a how) one_times n)
+      where
+        go : (scale : Option ℚ) → AcceptsScaled scale m.factor → NoScaledPair scale (m ∷ [])
+        go None t = tt
+        go (Some k) t = λ y h r. elim h [ inl i ↦ never_both Product k m.factor t (subst (λ (u : Entry). Refuses Product k u.factor) i r) | inr i ↦ i ]

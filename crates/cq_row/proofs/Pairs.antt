@@ -51,6 +51,10 @@ list_pair a how k b place s t pair left right (inr h) =
     shown (JoinPair a how k b) (operation_of how) h.left.factor (k *ℚ r.0.factor) pair (subst (λ q. Tells (operation_of how) h.left.factor q pair) f h.tells)
     (joined_pair (place r.0.quantity) h.left.factor r.0.factor (subst (λ c. IsNumber a (place c) h.left.factor) g (left h.left h.in_left)) (right r.0 r.1))
 
+-- nothing refused, of lists that are equal
+pub both_accepted : (how : Joining) (k : ℚ) (s t u v : List Entry) → s ≡ u → t ≡ v → NoProductPair k t × NoJoinedPair s how (times k t) → NoProductPair k v × NoJoinedPair u how (times k v)
+both_accepted how k s t u v e f h = (subst (NoProductPair k) f h.0, subst (λ x. NoJoinedPair x how (times k v)) e (subst (λ y. NoJoinedPair s how (times k y)) f h.1))
+
 module _ (a : Row) (how : Joining) (k : ℚ) (b : Row) where
   pub live_pair : (s t : List Entry) (pair : Pair) → s ≡ a.live → t ≡ b.live → IsProductPair k t pair ⊎ IsJoinedPair s how (times k t) pair → JoinPair a how k b pair.operation pair.left pair.right × IsRefused pair
   live_pair s t pair es et h = list_pair a how k b at_live s t pair (λ m w. live_number m (subst (Has m) es w)) (λ m w. live_number m (subst (Has m) et w)) h

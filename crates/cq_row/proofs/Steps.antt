@@ -1,11 +1,10 @@
 -- One more entry of a list that is divided, negated, cut or searched.
 use Rattle.std.proofs.Common.{◌≡◌, ℕ, zero, suc, ◌+◌, ◌<◌, List, [], ◌∷◌, ◌++◌, length, take, drop, get_or, Bool, true, false, nat_eq, ◌⊎◌, inl, inr, arith, refl, ap, ap₂, sym, subst, ◌∙◌, append-nil}
-use Rattle.std.proofs.lemmas.List.{take_more}
 use Rattle.spec_rational.specs.Rational.{ℚ, neg_ℚ, ◌/ℚ◌}
 use Rattle.cq_frac.specs.Refused.{Refuses}
 use Rattle.cq_frac.specs.declared.Operation.TheVariants.{Product, Quotient}
 use Rattle.cq_row.specs.declared.Entry.{Entry}
-use Rattle.cq_row.specs.Rows.{Has, Lacks, times, over, negated, others, choose, NoProductPair, NoQuotientPair}
+use Rattle.cq_row.specs.Rows.{Has, times, over, negated, others, choose, NoProductPair, NoQuotientPair}
 use Rattle.spec_lists.proofs.Tests.{nat_eq-self, nat_eq-apart}
 use Rattle.spec_lists.proofs.Places.{take-next}
 

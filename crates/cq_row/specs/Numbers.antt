@@ -3,6 +3,8 @@ use Rattle.std.specs.Prelude.{◌≡◌, ℕ, Bool, true, nat_eq}
 use Rattle.spec_rational.specs.Rational.{ℚ, ◌+ℚ◌, ◌-ℚ◌, ◌*ℚ◌, ◌/ℚ◌}
 use Rattle.cq_frac.specs.declared.Operation.{Operation}
 use Rattle.cq_frac.specs.declared.Operation.TheVariants.{Product, Quotient}
+use Rattle.cq_frac.specs.declared.Pair.{Pair}
+use Rattle.cq_frac.specs.Refused.{IsRefused}
 use Rattle.cq_row.specs.declared.Entry.{Entry}
 use Rattle.cq_row.specs.declared.Joining.{Joining}
 use Rattle.cq_row.specs.declared.Joining.TheVariants.{Less}
@@ -42,6 +44,10 @@ pub data JoinPair (a : Row) (how : Joining) (k : ℚ) (b : Row) : Operation → 
   product_pair : (at : Site) (n : ℚ) → IsNumber b at n → JoinPair a how k b Product k n
   joined_pair : (at : Site) (m n : ℚ) → IsNumber a at m → IsNumber b at n → JoinPair a how k b (operation_of how) m (k *ℚ n)
 
+-- one of these operations refuses the pair
+abbrev pub RefusesJoin : Row → Joining → ℚ → Row → Pair → Type 0
+RefusesJoin a how k b pair = JoinPair a how k b pair.operation pair.left pair.right × IsRefused pair
+
 -- each number of the row by p
 pub record IsDivided (row : Row) (p : ℚ) (q : Row) : Type 0 where
   pub live : q.live ≡ over p row.live
@@ -51,6 +57,9 @@ pub record IsDivided (row : Row) (p : ℚ) (q : Row) : Type 0 where
 -- the operations of that
 pub data QuotientPair (row : Row) (p : ℚ) : Operation → ℚ → ℚ → Type 0 where
   quotient_pair : (at : Site) (n : ℚ) → IsNumber row at n → QuotientPair row p Quotient n p
+
+abbrev pub RefusesQuotient : Row → ℚ → Pair → Type 0
+RefusesQuotient row p pair = QuotientPair row p pair.operation pair.left pair.right × IsRefused pair
 
 -- the test, and one more column
 abbrev pub also : ℕ → (ℕ → Bool) → ℕ → Bool
@@ -71,6 +80,9 @@ pub record IsShifted (other : Row) (e : ℚ) (q : Row) (leaving : ℕ) (rate : �
 pub data ShiftPair (other : Row) (e : ℚ) (q : Row) (rate : ℚ) : Operation → ℚ → ℚ → Type 0 where
   of_rows : {o : Operation} {a b : ℚ} → JoinPair other Less e q o a b → ShiftPair other e q rate o a b
   of_rate : ShiftPair other e q rate Product e rate
+
+abbrev pub RefusesShift : Row → ℚ → Row → ℚ → Pair → Type 0
+RefusesShift other e q rate pair = ShiftPair other e q rate pair.operation pair.left pair.right × IsRefused pair
 
 -- the entry of the column stands among the dropped ones
 pub record IsDropped (row : Row) (column : ℕ) (r : Row) : Type 0 where

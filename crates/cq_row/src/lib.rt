@@ -155,16 +155,39 @@ pub fn combined(
     merged(alloc, a, how, Some(k), b)
 }
 
-/// The second row joined to the first.
-fn added(alloc: Global, a: &[Entry], how: Joining, b: &[Entry]) -> Result<Vec<Entry>, Refusal>
-    requires a_row { IsRowFrom everywhere 0 a.now }
+/// The first row, and the second joined to it, with the multiplier where there is one: in place where the second
+/// has at most one entry.
+pub(crate) fn merged_into(
+    row: Vec<Entry>,
+    how: Joining,
+    scale: Option<Frac>,
+    b: &[Entry],
+) -> Result<Vec<Entry>, Refusal>
+    requires row { IsRowFrom everywhere 0 row.items }
     requires b_row { IsRowFrom everywhere 0 b.now }
-    ensures row { IfOk result (λ r. IsRowFrom everywhere 0 r.items) }
-    ensures value { IfOk result (λ r. (x : ℕ → ℚ) → sum_at x r.items ≡ joined how (sum_at x a.now) (sum_at x b.now)) }
-    ensures overflow { (pair : Pair) → result ≡ Err (Refusal.Overflow pair) → IsJoinedPair a.now how b.now pair }
-    ensures accepted { OnOk result (NoJoinedPair a.now how b.now) }
+    requires nonzero { multiplier scale ≢ 0ℚ }
+    ensures row { (p : ℕ → Bool) → IsRowFrom p 0 row.items → IsRowFrom p 0 b.now → IfOk result (λ r. IsRowFrom p 0 r.items) }
+    ensures value { IfOk result (λ r. (x : ℕ → ℚ) → sum_at x r.items ≡ joined how (sum_at x row.items) (multiplier scale *ℚ sum_at x b.now)) }
+    ensures overflow { (pair : Pair) → result ≡ Err (Refusal.Overflow pair)
+        → IsScaledPair scale b.now pair ⊎ IsJoinedPair row.items how (times (multiplier scale) b.now) pair }
+    ensures accepted { OnOk result (NoScaledPair scale b.now × NoJoinedPair row.items how (times (multiplier scale) b.now)) }
 {
-    merged(alloc, a, how, None, b)
+    if b.is_empty() {
+        return Ok(row);
+    }
+    if b.len() == 1 {
+        let only = b[0];
+        let factor = scaled(scale, only.factor)?;
+        return join(
+            row,
+            how,
+            Entry {
+                quantity: only.quantity,
+                factor,
+            },
+        );
+    }
+    merged(*row.allocator(), &row, how, scale, b)
 }
 
 /// The second row joined to the first: in place where it has at most one entry.
@@ -176,13 +199,7 @@ pub fn joined(row: Vec<Entry>, how: Joining, b: &[Entry]) -> Result<Vec<Entry>, 
     ensures overflow { (pair : Pair) → result ≡ Err (Refusal.Overflow pair) → IsJoinedPair row.items how b.now pair }
     ensures accepted { OnOk result (NoJoinedPair row.items how b.now) }
 {
-    if b.is_empty() {
-        return Ok(row);
-    }
-    if b.len() == 1 {
-        return join(row, how, b[0]);
-    }
-    added(*row.allocator(), &row, how, b)
+    merged_into(row, how, None, b)
 }
 
 /// Each entry by the divisor.
@@ -282,7 +299,7 @@ pub fn put(row: &mut Vec<Entry>, entry: Entry) -> Result<(), AllocError>
 fn join(row: Vec<Entry>, how: Joining, entry: Entry) -> Result<Vec<Entry>, Refusal>
     requires row { IsRowFrom everywhere 0 row.items }
     requires nonzero { entry.factor ≢ 0ℚ }
-    ensures row { IfOk result (λ r. IsRowFrom everywhere 0 r.items) }
+    ensures row { (p : ℕ → Bool) → p entry.quantity ≡ true → IsRowFrom p 0 row.items → IfOk result (λ r. IsRowFrom p 0 r.items) }
     ensures value { IfOk result (λ r. (x : ℕ → ℚ) → sum_at x r.items ≡ joined how (sum_at x row.items) (entry.factor *ℚ x entry.quantity)) }
     ensures overflow { (pair : Pair) → result ≡ Err (Refusal.Overflow pair) → IsJoinedPair row.items how (entry ∷ []) pair }
     ensures accepted { OnOk result (NoJoinedPair row.items how (entry ∷ [])) }

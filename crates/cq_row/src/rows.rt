@@ -4,12 +4,12 @@ ghost use Rattle.std.specs.Prelude.{◌≡◌, ◌≢◌, ℕ, [], ◌∷◌, Bo
 ghost use Rattle.spec_rational.specs.Rational.{ℚ, 0ℚ, 1ℚ};
 ghost use Rattle.cq_frac.specs.declared.Operation.{Operation};
 ghost use Rattle.cq_frac.specs.declared.Pair.{Pair};
-ghost use Rattle.cq_frac.specs.Refused.{Refuses, IsRefused};
+ghost use Rattle.cq_frac.specs.Refused.{Refuses};
 ghost use Rattle.cq_row.specs.declared.Entry.{Entry};
 ghost use Rattle.cq_row.specs.Rows.{everywhere, Has, Lacks};
-ghost use Rattle.cq_row.specs.Numbers.{IsOver, IsJoined, JoinPair, IsDivided, QuotientPair, IsEntered, IsShifted, ShiftPair, IsDropped, IsRestored};
+ghost use Rattle.cq_row.specs.Numbers.{IsOver, IsJoined, JoinPair, RefusesJoin, IsDivided, QuotientPair, RefusesQuotient, IsEntered, IsShifted, ShiftPair, RefusesShift, IsDropped, IsRestored};
 
-use crate::{Entry, Joining, combined, divided, opposed, put, without};
+use crate::{Entry, Joining, combined, divided, merged_into, opposed, put, without};
 use cq_frac::{Frac, Refusal, product, quotient};
 use std::alloc::{AllocError, Global};
 use std::marker::Model;
@@ -87,13 +87,13 @@ impl Row {
         self.constant
     }
 
-    /// This row, with `k` times the row `b` joined to it, place by place.
-    pub fn joined(&self, alloc: Global, how: Joining, k: Frac, b: &Row) -> Result<Row, Refusal>
+    /// A row, with `k` times the row `b` joined to it, place by place.
+    fn combined(&self, alloc: Global, how: Joining, k: Frac, b: &Row) -> Result<Row, Refusal>
         requires own { IsOver everywhere everywhere self.now }
         requires b_row { IsOver everywhere everywhere b.now }
         requires nonzero { k ≢ 0ℚ }
         ensures value { IfOk result (λ r. IsJoined self.now how k b.now r) }
-        ensures overflow { (pair : Pair) → result ≡ Err (Refusal.Overflow pair) → JoinPair self.now how k b.now pair.operation pair.left pair.right × IsRefused pair }
+        ensures overflow { (pair : Pair) → result ≡ Err (Refusal.Overflow pair) → RefusesJoin self.now how k b.now pair }
         ensures accepted { OnOk result ((o : Operation) (p q : ℚ) → JoinPair self.now how k b.now o p q → Refuses o p q → ⊥) }
     {
         Ok(Row {
@@ -103,11 +103,27 @@ impl Row {
         })
     }
 
+    /// This row, with `k` times the row `b` joined to it, place by place: in place where `b` has at most one entry.
+    pub fn joined(self, how: Joining, k: Frac, b: &Row) -> Result<Row, Refusal>
+        requires own { IsOver everywhere everywhere self }
+        requires b_row { IsOver everywhere everywhere b.now }
+        requires nonzero { k ≢ 0ℚ }
+        ensures value { IfOk result (λ r. IsJoined self how k b.now r) }
+        ensures overflow { (pair : Pair) → result ≡ Err (Refusal.Overflow pair) → RefusesJoin self how k b.now pair }
+        ensures accepted { OnOk result ((o : Operation) (p q : ℚ) → JoinPair self how k b.now o p q → Refuses o p q → ⊥) }
+    {
+        Ok(Row {
+            live: merged_into(self.live, how, Some(k), &b.live)?,
+            dropped: merged_into(self.dropped, how, Some(k), &b.dropped)?,
+            constant: how.of(self.constant, product(k, b.constant)?)?,
+        })
+    }
+
     /// Each number of the row by the divisor.
     pub fn divided(&self, alloc: Global, divisor: Frac) -> Result<Row, Refusal>
         requires nonzero { divisor ≢ 0ℚ }
         ensures value { IfOk result (λ q. IsDivided self.now divisor q) }
-        ensures overflow { (pair : Pair) → result ≡ Err (Refusal.Overflow pair) → QuotientPair self.now divisor pair.operation pair.left pair.right × IsRefused pair }
+        ensures overflow { (pair : Pair) → result ≡ Err (Refusal.Overflow pair) → RefusesQuotient self.now divisor pair }
         ensures accepted { OnOk result ((o : Operation) (p q : ℚ) → QuotientPair self.now divisor o p q → Refuses o p q → ⊥) }
     {
         Ok(Row {
@@ -163,11 +179,11 @@ impl Row {
         requires entry { e ≢ 0ℚ }
         requires nonzero { rate ≢ 0ℚ }
         ensures value { IfOk result (λ r. IsShifted self.now e q.now leaving rate r) }
-        ensures overflow { (pair : Pair) → result ≡ Err (Refusal.Overflow pair) → ShiftPair self.now e q.now rate pair.operation pair.left pair.right × IsRefused pair }
+        ensures overflow { (pair : Pair) → result ≡ Err (Refusal.Overflow pair) → RefusesShift self.now e q.now rate pair }
         ensures accepted { OnOk result ((o : Operation) (a b : ℚ) → ShiftPair self.now e q.now rate o a b → Refuses o a b → ⊥) }
     {
         let factor = product(e, rate)?;
-        let mut row = self.joined(alloc, Joining::Less, e, q)?;
+        let mut row = self.combined(alloc, Joining::Less, e, q)?;
         put(
             &mut row.live,
             Entry {

@@ -3,7 +3,7 @@ use Rattle.cq_frac.specs.Refused.{Tells}
 use Rattle.cq_frac.proofs.Exits.{pair_told}
 use Rattle.cq_frac.proofs.Refusals.{never_both}
 use Rattle.cq_row.specs.declared.Entry.{Entry}
-use Rattle.cq_row.specs.Rows.{everywhere, IsRowFrom, IsFoundAt, IsGapAt, operation_of, sum_at}
+use Rattle.cq_row.specs.Rows.{IsRowFrom, IsFoundAt, IsGapAt, operation_of, sum_at}
 use Rattle.cq_row.proofs.OneMore.{row_removed, row_set, removed_value, set_value, alone_value, one_accepted, none_accepted}
 use Rattle.cq_row.proofs.Merge.{alone_not_zero}
 use Rattle.cq_row.proofs.Placed.{gap_lacks, row_insert, sum_at-insert}
@@ -33,7 +33,7 @@ returns-in_err-factor-in-Ok-clause-overflow c = λ pair e.
     }
 
 pub returns-then-is_zero-clause-row : goal.returns-then-is_zero-clause-row
-returns-then-is_zero-clause-row c = subst (IsRowFrom everywhere 0) (sym c.remove.ensures.items) (row_removed everywhere 0 c.args.row.items c.in-Ok.at c.requires.row)
+returns-then-is_zero-clause-row c = λ p t r. subst (IsRowFrom p 0) (sym c.remove.ensures.items) (row_removed p 0 c.args.row.items c.in-Ok.at r)
 
 pub returns-then-is_zero-clause-value : goal.returns-then-is_zero-clause-value
 returns-then-is_zero-clause-value c = λ x.
@@ -48,9 +48,9 @@ returns-then-is_zero-clause-accepted c =
     (never_both (operation_of c.args.how) _ _ c.in_ok-factor-in-Ok.ensures.1)
 
 pub returns-else-is_zero-clause-row : goal.returns-else-is_zero-clause-row
-returns-else-is_zero-clause-row c =
+returns-else-is_zero-clause-row c = λ p t r.
     let w = (goal.at.returns-else-is_zero-clause-row c).After-index in
-    row_set everywhere 0 c.args.row.items c.in-Ok.at (record { quantity = c.args.entry.quantity; factor = c.in_ok-factor-in-Ok.factor }) c.requires.row (found w).within ((found w).own _)
+    row_set p 0 c.args.row.items c.in-Ok.at (record { quantity = c.args.entry.quantity; factor = c.in_ok-factor-in-Ok.factor }) r (found w).within ((found w).own _)
     (λ z. let e = c.is_zero.ensures.1 z in let f = c.if-is_zero.false in cc)
 
 pub returns-else-is_zero-clause-value : goal.returns-else-is_zero-clause-value
@@ -65,10 +65,10 @@ returns-else-is_zero-clause-accepted c =
     (never_both (operation_of c.args.how) _ _ c.in_ok-factor-in-Ok.ensures.1)
 
 pub returns-in_ok-insert-in-Err-clause-row : goal.returns-in_ok-insert-in-Err-clause-row
-returns-in_ok-insert-in-Err-clause-row c =
+returns-in_ok-insert-in-Err-clause-row c = λ p t r.
     let g = gap (goal.at.returns-in_ok-insert-in-Err-clause-row c).In-Err in
-    subst (IsRowFrom everywhere 0) (sym c.in_ok-insert-in-Err.ensures.items)
-    (row_insert everywhere 0 c.args.row.items c.in-Err.at _ (omega arith) refl (alone_not_zero c.args.how c.args.entry.factor c.alone.result c.alone.ensures c.requires.nonzero) c.requires.row g.below g.above)
+    subst (IsRowFrom p 0) (sym c.in_ok-insert-in-Err.ensures.items)
+    (row_insert p 0 c.args.row.items c.in-Err.at _ (omega arith) t (alone_not_zero c.args.how c.args.entry.factor c.alone.result c.alone.ensures c.requires.nonzero) r g.below g.above)
 
 pub returns-in_ok-insert-in-Err-clause-value : goal.returns-in_ok-insert-in-Err-clause-value
 returns-in_ok-insert-in-Err-clause-value c = λ x.

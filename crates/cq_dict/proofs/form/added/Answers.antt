@@ -31,19 +31,19 @@ pub joined-requires-in-Basic-clause-b_row : goal.joined-requires-in-Basic-clause
 joined-requires-in-Basic-clause-b_row c = over_anywhere (is_live c.args.roles.now) (is_dropped c.args.roles.now) c.in-Basic.row (row_own c).over
 
 pub returns-in_ok-own-in-Live-clause-value : goal.returns-in_ok-own-in-Live-clause-value
-returns-in_ok-own-in-Live-clause-value c = adds_product c.args.roles.now c.args.sum.now c.args.m c.in_ok-own-in-Live.own (live_own (goal.at.returns-in_ok-own-in-Live-clause-value c).In_ok-own-in-Live) c.joined.result c.joined.ensures.value c.joined.ensures.accepted
+returns-in_ok-own-in-Live-clause-value c = adds_product c.args.roles.now c.args.sum c.args.m c.in_ok-own-in-Live.own (live_own (goal.at.returns-in_ok-own-in-Live-clause-value c).In_ok-own-in-Live) c.joined.result c.joined.ensures.value c.joined.ensures.accepted
 
 pub returns-in_ok-own-in-Live-clause-overflow : goal.returns-in_ok-own-in-Live-clause-overflow
-returns-in_ok-own-in-Live-clause-overflow c = refuses_product c.args.roles.now c.args.sum.now c.args.m c.in_ok-own-in-Live.own (live_own (goal.at.returns-in_ok-own-in-Live-clause-overflow c).In_ok-own-in-Live) c.joined.result c.joined.ensures.overflow
+returns-in_ok-own-in-Live-clause-overflow c = refuses_product c.args.roles.now c.args.sum c.args.m c.in_ok-own-in-Live.own (live_own (goal.at.returns-in_ok-own-in-Live-clause-overflow c).In_ok-own-in-Live) c.joined.result c.joined.ensures.overflow
 
 pub returns-in_ok-own-in-Dropped-clause-value : goal.returns-in_ok-own-in-Dropped-clause-value
-returns-in_ok-own-in-Dropped-clause-value c = adds_product c.args.roles.now c.args.sum.now c.args.m c.in_ok-own-in-Dropped.own (dropped_own (goal.at.returns-in_ok-own-in-Dropped-clause-value c).In_ok-own-in-Dropped) c.joined-in-Dropped.result c.joined-in-Dropped.ensures.value c.joined-in-Dropped.ensures.accepted
+returns-in_ok-own-in-Dropped-clause-value c = adds_product c.args.roles.now c.args.sum c.args.m c.in_ok-own-in-Dropped.own (dropped_own (goal.at.returns-in_ok-own-in-Dropped-clause-value c).In_ok-own-in-Dropped) c.joined-in-Dropped.result c.joined-in-Dropped.ensures.value c.joined-in-Dropped.ensures.accepted
 
 pub returns-in_ok-own-in-Dropped-clause-overflow : goal.returns-in_ok-own-in-Dropped-clause-overflow
-returns-in_ok-own-in-Dropped-clause-overflow c = refuses_product c.args.roles.now c.args.sum.now c.args.m c.in_ok-own-in-Dropped.own (dropped_own (goal.at.returns-in_ok-own-in-Dropped-clause-overflow c).In_ok-own-in-Dropped) c.joined-in-Dropped.result c.joined-in-Dropped.ensures.overflow
+returns-in_ok-own-in-Dropped-clause-overflow c = refuses_product c.args.roles.now c.args.sum c.args.m c.in_ok-own-in-Dropped.own (dropped_own (goal.at.returns-in_ok-own-in-Dropped-clause-overflow c).In_ok-own-in-Dropped) c.joined-in-Dropped.result c.joined-in-Dropped.ensures.overflow
 
 pub returns-in-Basic-clause-value : goal.returns-in-Basic-clause-value
-returns-in-Basic-clause-value c = adds_product c.args.roles.now c.args.sum.now c.args.m c.in-Basic.row (row_own (goal.at.returns-in-Basic-clause-value c).In-Basic) c.joined-in-Basic.result c.joined-in-Basic.ensures.value c.joined-in-Basic.ensures.accepted
+returns-in-Basic-clause-value c = adds_product c.args.roles.now c.args.sum c.args.m c.in-Basic.row (row_own (goal.at.returns-in-Basic-clause-value c).In-Basic) c.joined-in-Basic.result c.joined-in-Basic.ensures.value c.joined-in-Basic.ensures.accepted
 
 pub returns-in-Basic-clause-overflow : goal.returns-in-Basic-clause-overflow
-returns-in-Basic-clause-overflow c = refuses_product c.args.roles.now c.args.sum.now c.args.m c.in-Basic.row (row_own (goal.at.returns-in-Basic-clause-overflow c).In-Basic) c.joined-in-Basic.result c.joined-in-Basic.ensures.overflow
+returns-in-Basic-clause-overflow c = refuses_product c.args.roles.now c.args.sum c.args.m c.in-Basic.row (row_own (goal.at.returns-in-Basic-clause-overflow c).In-Basic) c.joined-in-Basic.result c.joined-in-Basic.ensures.overflow
