@@ -1,0 +1,9 @@
+// What a built-in predicate offers.
+
+use cq_walk::Pair;
+
+/// One way in which a predicate holds: pairs of terms that are to be unified, in this order.
+#[derive(Drop)]
+pub struct Alternative {
+    pub pairs: Vec<Pair>,
+}
