@@ -1,7 +1,7 @@
 // A stack of choices over a world that is undone to a choice's mark when the search comes back to it.
 
 ghost use Rattle.std.specs.Prelude.{◌≡◌, ◌+◌, ◌≤◌, ◌++◌, [], ◌∷◌, ℕ, List, length, take, Some, IfSome, IfNone, OnOk, OnErr};
-ghost use Rattle.cq_control.specs.Open.{AreLive, open_choices};
+ghost use Rattle.cq_control.specs.Open.{AreLive, open_choices, IsOnTop};
 
 use cq_trail::{Mark, Undo};
 use std::alloc::{AllocError, Global};
@@ -46,7 +46,7 @@ impl<C: Drop> Choices<C> {
     /// Marks the world, and puts a choice on top.
     pub fn push<W: Undo>(&mut self, world: &mut W, content: C) -> Result<(), AllocError>
         requires live { AreLive (length (W.saved world.old)) self.old }
-        ensures open { OnOk result (open_choices (W.saved world.new) self.new ≡ open_choices (W.saved world.old) self.old ++ (Some (W.now world.old), content) ∷ []) }
+        ensures open { OnOk result (IsOnTop (open_choices (W.saved world.new) self.new) (open_choices (W.saved world.old) self.old) (W.now world.old) content) }
         ensures saved { OnOk result (W.saved world.new ≡ W.saved world.old ++ W.now world.old ∷ []) }
         ensures err { OnErr result (self.new ≡ self.old) }
         ensures err_saved { OnErr result (W.saved world.new ≡ W.saved world.old) }
@@ -93,7 +93,7 @@ impl<C: Drop> Choices<C> {
         ensures none { IfNone result ((self.old ≡ []) × (self.new ≡ [])) }
         ensures none_now { IfNone result (W.now world.new ≡ W.now world.old) }
         ensures none_saved { IfNone result (W.saved world.new ≡ W.saved world.old) }
-        ensures open { IfSome result (λ content. open_choices (W.saved world.old) self.old ≡ open_choices (W.saved world.new) self.new ++ (Some (W.now world.new), content) ∷ []) }
+        ensures open { IfSome result (IsOnTop (open_choices (W.saved world.old) self.old) (open_choices (W.saved world.new) self.new) (W.now world.new)) }
         ensures room { W.room world.old ≤ W.room world.new }
         ensures live { AreLive (length (W.saved world.new)) self.new }
     {

@@ -1,11 +1,12 @@
 -- The operator table as the program holds it, by numbers of names, and what it means by their texts.
-use Rattle.std.specs.Prelude.{◌≡◌, ℕ, ◌<◌, List, length, Option, Some, None, is_some, Bool, false, position, bytes_eq}
+use Rattle.std.specs.Prelude.{◌≡◌, ℕ, ◌<◌, List, length, Option, Some, None, is_some, Bool, false, position, slice_get, bytes_eq}
 use Rattle.std.specs.Ordering.{nat_cmp}
 use Rattle.std.specs.Option.{option_and_then}
 use Rattle.std.specs.FinMap.{FinMap, get, insert, remove}
 use Rattle.spec_operators.specs.declared.OpDef.{OpDef}
 use Rattle.spec_operators.specs.declared.OpKind.{OpKind}
 use Rattle.spec_lists.specs.Texts.{Text}
+use Rattle.cq_atoms.specs.Texts.{AreDifferent, KeepsTexts}
 use Rattle.spec_operators.specs.Operators.{Ops, Position, Prefix, Infix, Postfix, Fits, position_of, entry}
 
 -- the operators of each position, by the numbers of their names
@@ -32,6 +33,16 @@ entry_of texts operators text = option_and_then (get operators) (position (bytes
 abbrev pub named : List Text → Tables → Ops
 named texts tables = record { prefix = entry_of texts tables.prefix; infixed = entry_of texts tables.infixed; postfix = entry_of texts tables.postfix }
 
+-- the operator that a text is in this position
+abbrev pub operator_at : Position → Ops → Text → Option OpDef
+operator_at Prefix ops text = ops.prefix text
+operator_at Infix ops text = ops.infixed text
+operator_at Postfix ops text = ops.postfix text
+
+-- whatever texts the names have, all of them different, this is what the name's text is in this position
+abbrev pub IsByText : Position → Tables → ℕ → Option OpDef → Type 0
+IsByText position tables name op = (texts : List Text) (text : Text) → AreDifferent texts → slice_get texts name ≡ Some text → op ≡ operator_at position (named texts tables) text
+
 -- each operator's name is one of so many
 pub record AllBelow (count : ℕ) (operators : FinMap nat_cmp OpDef) : Type 0 where
   pub each : (name : ℕ) (op : OpDef) → get operators name ≡ Some op → name < count
@@ -41,6 +52,12 @@ pub record AreNamed (texts : List Text) (tables : Tables) : Type 0 where
   pub prefix : AllBelow (length texts) tables.prefix
   pub infixed : AllBelow (length texts) tables.infixed
   pub postfix : AllBelow (length texts) tables.postfix
+
+-- there are more names: each old one keeps its text, and no two have the same
+pub record GainsNames (old new : List Text) : Type 0 where
+  pub before : AreDifferent old
+  pub after : AreDifferent new
+  pub kept : KeepsTexts old new
 
 -- the operators with another entry for one name
 abbrev pub change : FinMap nat_cmp OpDef → ℕ → Option OpDef → FinMap nat_cmp OpDef

@@ -4,13 +4,13 @@
 mod operators;
 mod standard;
 
-ghost use Rattle.std.specs.Prelude.{◌≡◌, ℕ, ◌<◌, ◌≤◌, ◌&&◌, ◌||◌, ◌==◌, not, nat_le, pos, is_some, List, Some, None, Ok, length, slice_get, bytes_eq, codes, IfSome, IfOk, IfErr, IsOk, Err, OnOk, OnErr, ◌≢◌, MatchOption};
+ghost use Rattle.std.specs.Prelude.{◌≡◌, ℕ, ◌<◌, ◌≤◌, ◌&&◌, ◌||◌, ◌==◌, not, nat_le, pos, is_some, List, Some, None, Ok, length, bytes_eq, codes, IfSome, IfOk, IfErr, IsOk, Err, OnOk, OnErr, ◌≢◌, MatchOption};
 ghost use Rattle.spec_syntax.specs.Writing.{IsTable};
 ghost use Rattle.std.specs.FinMap as map;
 ghost use Rattle.spec_lists.specs.Texts.{Text};
-ghost use Rattle.cq_atoms.specs.Texts.{AreDifferent, KeepsTexts, text_of};
+ghost use Rattle.cq_atoms.specs.Texts.{KeepsTexts, text_of};
 ghost use Rattle.spec_operators.specs.Operators.{Fits, Prefix, Infix, Postfix, entry, in_range, position_of, kind_named, is_bracket, set};
-ghost use Rattle.cq_ops.specs.Tables.{Tables, AreNamed, named, put_number, is_number_at_odds};
+ghost use Rattle.cq_ops.specs.Tables.{Tables, AreNamed, GainsNames, IsByText, named, put_number, is_number_at_odds};
 ghost use Rattle.cq_ops.specs.Faults.{Explains, IsAdmitted};
 
 use cq_atoms::{Atom, Atoms};
@@ -76,7 +76,7 @@ impl Ops {
     pub fn prefix(&self, name: Atom) -> Option<OpDef>
         ensures value { result ≡ map.get self.now.prefix name }
         ensures fits { IfSome result (Fits Prefix) }
-        ensures by_text { (texts : List Text) (text : Text) → AreDifferent texts → slice_get texts name ≡ Some text → result ≡ (named texts self.now).prefix text }
+        ensures by_text { IsByText Prefix self.now name result }
     {
         self.prefix.get(name)
     }
@@ -85,7 +85,7 @@ impl Ops {
     pub fn infix(&self, name: Atom) -> Option<OpDef>
         ensures value { result ≡ map.get self.now.infixed name }
         ensures fits { IfSome result (Fits Infix) }
-        ensures by_text { (texts : List Text) (text : Text) → AreDifferent texts → slice_get texts name ≡ Some text → result ≡ (named texts self.now).infixed text }
+        ensures by_text { IsByText Infix self.now name result }
     {
         self.infixed.get(name)
     }
@@ -94,7 +94,7 @@ impl Ops {
     pub fn postfix(&self, name: Atom) -> Option<OpDef>
         ensures value { result ≡ map.get self.now.postfix name }
         ensures fits { IfSome result (Fits Postfix) }
-        ensures by_text { (texts : List Text) (text : Text) → AreDifferent texts → slice_get texts name ≡ Some text → result ≡ (named texts self.now).postfix text }
+        ensures by_text { IsByText Postfix self.now name result }
     {
         self.postfix.get(name)
     }
@@ -268,7 +268,7 @@ fn is_bracket(name: &str) -> bool
 
 /// More names change no operator.
 pub fn more_names_keep_the_table()
-    ensures table { (old new : List Text) (tables : Tables) → AreDifferent old → AreDifferent new → KeepsTexts old new → AreNamed old tables → named new tables ≡ named old tables }
+    ensures table { (old new : List Text) (tables : Tables) → GainsNames old new → AreNamed old tables → named new tables ≡ named old tables }
     ensures known { (old new : List Text) (tables : Tables) → KeepsTexts old new → AreNamed old tables → AreNamed new tables }
 {}
 

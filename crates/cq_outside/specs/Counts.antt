@@ -19,6 +19,10 @@ RoseBeyond n before now = risen before (n + 1) ≤ now
 abbrev pub Counts : ℕ → ℕ → ℕ → Type 0
 Counts n before now = (risen before n ≤ now) × (now ≤ before + n)
 
+-- a call counts the bytes that it took, and none where it failed
+abbrev pub CountsBytes : {E : Type 0} → ℕ → ℕ → Result ℕ E → Type 0
+CountsBytes before now result = MatchResult result (λ n. Counts n before now) (λ _. now ≡ before)
+
 -- a call failed only where the count of faults rose, which else stays
 abbrev pub HasCause : {T E : Type 0} → ℕ → ℕ → Result T E → Type 0
 HasCause before now result = MatchResult result (λ _. now ≡ before) (λ _. Rose before now)

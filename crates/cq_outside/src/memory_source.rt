@@ -1,5 +1,5 @@
 // Sources over bytes in memory: one that never fails, and one whose reads are short and fail where told.
-ghost use Rattle.std.specs.Prelude.{◌≡◌, ◌↔◌, ◌≤◌, ◌<◌, None, Some, IfOk, IsOk, IsErr, MatchResult, length, min, drop};
+ghost use Rattle.std.specs.Prelude.{◌≡◌, ◌↔◌, ◌≤◌, ◌<◌, None, Some, IfOk, IsOk, IsErr, length, min, drop};
 
 use crate::calls::Calls;
 use crate::{Source, SourceFailed};
@@ -37,14 +37,14 @@ impl Source for SteadySource {
 
     ghost use Rattle.std.specs.Io.{ReadsAtMost};
     ghost use Rattle.std.specs.Io.KnownBytes.{ReadConsumes};
-    ghost use Rattle.cq_outside.specs.Counts.{HasCause, Counts};
+    ghost use Rattle.cq_outside.specs.Counts.{HasCause, CountsBytes};
     ghost use Rattle.cq_outside.specs.Memory.{steady_source_bytes, steady_source_taken};
 
     /// Takes as many bytes as there are and as the buffer has room for.
     fn read(&mut self, buf: &mut [u8]) -> Result<usize, SourceFailed>
         ensures bound { ReadsAtMost result buf.new }
         ensures bytes { ReadConsumes (Some (steady_source_bytes self.old)) (Some (steady_source_bytes self.new)) result buf.new }
-        ensures counts { MatchResult result (λ n. Counts n (steady_source_taken self.old) (steady_source_taken self.new)) (λ _. steady_source_taken self.new ≡ steady_source_taken self.old) }
+        ensures counts { CountsBytes (steady_source_taken self.old) (steady_source_taken self.new) result }
         ensures cause { HasCause 0 0 result }
         ensures never { IsOk result }
         ensures all { IfOk result (λ n. n ≡ min (length buf.old) (length (steady_source_bytes self.old))) }
@@ -96,7 +96,7 @@ impl Source for MemSource {
 
     ghost use Rattle.std.specs.Io.{ReadsAtMost};
     ghost use Rattle.std.specs.Io.KnownBytes.{ReadConsumes};
-    ghost use Rattle.cq_outside.specs.Counts.{HasCause, Counts};
+    ghost use Rattle.cq_outside.specs.Counts.{HasCause, CountsBytes};
     ghost use Rattle.cq_outside.specs.Calls.{IsNext, NextFails};
     ghost use Rattle.cq_outside.specs.Memory.{source_bytes, source_calls, source_piece, source_taken};
 
@@ -104,7 +104,7 @@ impl Source for MemSource {
     fn read(&mut self, buf: &mut [u8]) -> Result<usize, SourceFailed>
         ensures bound { ReadsAtMost result buf.new }
         ensures bytes { ReadConsumes (Some (source_bytes self.old)) (Some (source_bytes self.new)) result buf.new }
-        ensures counts { MatchResult result (λ n. Counts n (source_taken self.old) (source_taken self.new)) (λ _. source_taken self.new ≡ source_taken self.old) }
+        ensures counts { CountsBytes (source_taken self.old) (source_taken self.new) result }
         ensures cause { HasCause (source_calls self.old).faults (source_calls self.new).faults result }
         ensures fails { IsErr result ↔ NextFails (source_calls self.old) }
         ensures next { IsNext (source_calls self.old) (source_calls self.new) }

@@ -1,8 +1,8 @@
 // What a source of bytes is to its readers.
-ghost use Rattle.std.specs.Prelude.{◌≡◌, ◌<◌, ℕ, List, length, MatchResult, Option};
+ghost use Rattle.std.specs.Prelude.{ℕ, List, Option};
 ghost use Rattle.std.specs.Io.{ReadsAtMost};
 ghost use Rattle.std.specs.Io.KnownBytes.{ReadConsumes};
-ghost use Rattle.cq_outside.specs.Counts.{HasCause, Counts};
+ghost use Rattle.cq_outside.specs.Counts.{HasCause, CountsBytes};
 
 /// A read that failed, for a cause that lies outside the program.
 #[derive(Clone, Copy, Debug, PartialEq, Eq)]
@@ -24,6 +24,6 @@ pub trait Source {
     fn read(&mut self, buf: &mut [u8]) -> Result<usize, SourceFailed>
         ensures bound { ReadsAtMost result buf.new }
         ensures bytes { ReadConsumes (left self.old) (left self.new) result buf.new }
-        ensures counts { MatchResult result (λ n. Counts n (taken self.old) (taken self.new)) (λ _. taken self.new ≡ taken self.old) }
+        ensures counts { CountsBytes (taken self.old) (taken self.new) result }
         ensures cause { HasCause (faults self.old) (faults self.new) result };
 }
