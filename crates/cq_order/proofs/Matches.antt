@@ -13,7 +13,7 @@ use Rattle.cq_walk.specs.Pairs.{IsLive, equation_of, pairwise, HaveSameFunctor, 
 use Rattle.cq_order.specs.Work.{IsConstant, AreUnlike}
 use Rattle.cq_walk.specs.declared.pairs.Pair.{Pair}
 use Rattle.cq_walk.proofs.SideBySide.{live_pop, live_push}
-use Rattle.cq_walk.specs.Visits.{IsGround}
+use Rattle.cq_term.specs.Ground.{IsGround}
 use Rattle.cq_walk.proofs.Ground.{after_ground}
 use Rattle.cq_order.proofs.Ahead.{ahead, ahead_pop, ahead_push, Remains}
 

@@ -2,7 +2,7 @@
 
 ghost use Rattle.std.specs.Prelude.{◌≡◌, ◌<◌, length, IsTrue, if◌then◌else◌};
 ghost use Rattle.cq_term.specs.Meaning.{at};
-ghost use Rattle.cq_walk.specs.Visits.{IsGround};
+ghost use Rattle.cq_term.specs.Ground.{IsGround};
 ghost use Rattle.cq_order.specs.Work.{Compared};
 
 use cq_frac::VarId;

@@ -1,7 +1,7 @@
 // The three calls on small terms, the standard order of one term of each kind, and terms deeper than any stack.
 
 ghost use Rattle.std.specs.Prelude.{◌≡◌, ◌<◌, ◌≤◌, ℕ, length, All, IfOk, OnOk};
-ghost use Rattle.cq_term.specs.Names.{HasNamesBelow};
+ghost use Rattle.cq_term.specs.Names.{HasNamesBelow, KeepsNames};
 
 use crate::{compare, same, variant};
 use cq_atoms::Atoms;
@@ -18,7 +18,7 @@ const DEPTH: usize = 200_000;
 fn variable(heap: &mut Heap) -> Result<TermId, AllocError>
     ensures live { IfOk result (λ id. id < length heap.new.now.terms) }
     ensures more { length heap.old.now.terms ≤ length heap.new.now.terms }
-    ensures names { (n : ℕ) → All (HasNamesBelow n) heap.old.now.terms → All (HasNamesBelow n) heap.new.now.terms }
+    ensures names { (n : ℕ) → KeepsNames n heap.old.now heap.new.now }
 {
     let id = heap.new_var()?;
     Ok(id)
@@ -27,7 +27,7 @@ fn variable(heap: &mut Heap) -> Result<TermId, AllocError>
 fn number(heap: &mut Heap, value: i64) -> Result<TermId, AllocError>
     ensures live { IfOk result (λ id. id < length heap.new.now.terms) }
     ensures more { length heap.old.now.terms ≤ length heap.new.now.terms }
-    ensures names { (n : ℕ) → All (HasNamesBelow n) heap.old.now.terms → All (HasNamesBelow n) heap.new.now.terms }
+    ensures names { (n : ℕ) → KeepsNames n heap.old.now heap.new.now }
 {
     let id = heap.number(Frac::from(value))?;
     Ok(id)
@@ -36,7 +36,7 @@ fn number(heap: &mut Heap, value: i64) -> Result<TermId, AllocError>
 fn constant(heap: &mut Heap, name: Atom) -> Result<TermId, AllocError>
     ensures live { IfOk result (λ id. id < length heap.new.now.terms) }
     ensures more { length heap.old.now.terms ≤ length heap.new.now.terms }
-    ensures names { (n : ℕ) → name < n → All (HasNamesBelow n) heap.old.now.terms → All (HasNamesBelow n) heap.new.now.terms }
+    ensures names { (n : ℕ) → name < n → KeepsNames n heap.old.now heap.new.now }
 {
     let id = heap.atom(name)?;
     Ok(id)
@@ -48,7 +48,7 @@ fn pair(heap: &mut Heap, name: Atom, first: TermId, second: TermId) -> Result<Te
     requires second { second < length heap.old.now.terms }
     ensures live { IfOk result (λ id. id < length heap.new.now.terms) }
     ensures more { length heap.old.now.terms ≤ length heap.new.now.terms }
-    ensures names { (n : ℕ) → name < n → All (HasNamesBelow n) heap.old.now.terms → All (HasNamesBelow n) heap.new.now.terms }
+    ensures names { (n : ℕ) → name < n → KeepsNames n heap.old.now heap.new.now }
 {
     let id = heap.compound(name, &[first, second])?;
     Ok(id)
@@ -87,7 +87,7 @@ fn one_of_each(heap: &mut Heap, name: Atom) -> Result<Kinds, AllocError>
     ensures two { IfOk result (λ made. made.two < length heap.new.now.terms) }
     ensures atom { IfOk result (λ made. made.atom < length heap.new.now.terms) }
     ensures compound { IfOk result (λ made. made.compound < length heap.new.now.terms) }
-    ensures names { OnOk result ((n : ℕ) → name < n → All (HasNamesBelow n) heap.old.now.terms → All (HasNamesBelow n) heap.new.now.terms) }
+    ensures names { OnOk result ((n : ℕ) → name < n → KeepsNames n heap.old.now heap.new.now) }
 {
     let atom = constant(heap, name)?;
     let compound = pair(heap, name, atom, atom)?;
@@ -130,16 +130,6 @@ fn kinds_in_order(heap: &Heap, atoms: &Atoms, made: Kinds) -> Result<bool, Alloc
     )
 }
 
-#[test]
-fn variables_numbers_atoms_and_compounds_stand_in_this_order(rt: HostRuntime) -> Result<(), Fail> {
-    let mut atoms = Atoms::new(rt.alloc());
-    let names = two_names(&mut atoms)?;
-    let mut heap = Heap::new(rt.alloc());
-    let made = one_of_each(&mut heap, names.a)?;
-    assert!(rt; kinds_in_order(&heap, &atoms, made)?);
-    Ok(())
-}
-
 /// a(b, a) and a(b, b).
 fn arguments_decide(heap: &mut Heap, atoms: &Atoms, names: Names) -> Result<bool, AllocError>
     requires a { names.a < length atoms.now }
@@ -154,10 +144,12 @@ fn arguments_decide(heap: &mut Heap, atoms: &Atoms, names: Names) -> Result<bool
 }
 
 #[test]
-fn names_stand_by_their_texts(rt: HostRuntime) -> Result<(), Fail> {
+fn terms_stand_by_their_kinds_and_names_by_their_texts(rt: HostRuntime) -> Result<(), Fail> {
     let mut atoms = Atoms::new(rt.alloc());
     let names = two_names(&mut atoms)?;
     let mut heap = Heap::new(rt.alloc());
+    let made = one_of_each(&mut heap, names.a)?;
+    assert!(rt; kinds_in_order(&heap, &atoms, made)?);
     assert!(rt; arguments_decide(&mut heap, &atoms, names)?);
     Ok(())
 }
@@ -181,15 +173,6 @@ fn are_variants(heap: &mut Heap, f: Atom) -> Result<bool, AllocError> {
     variant(heap, first, second)
 }
 
-#[test]
-fn variants_have_other_variables_but_as_many(rt: HostRuntime) -> Result<(), Fail> {
-    let f = Atoms::new(rt.alloc()).intern("f")?;
-    let mut heap = Heap::new(rt.alloc());
-    assert!(rt; sameness(&mut heap, f)?);
-    assert!(rt; !are_variants(&mut heap, f)?);
-    Ok(())
-}
-
 /// A variable under so many names.
 fn nested(heap: &mut Heap, name: Atom) -> Result<TermId, AllocError>
     ensures live { IfOk result (λ id. id < length heap.new.now.terms) }
@@ -211,9 +194,11 @@ fn deep_variants(heap: &mut Heap, f: Atom) -> Result<bool, AllocError> {
 }
 
 #[test]
-fn terms_deeper_than_any_stack_are_variants(rt: HostRuntime) -> Result<(), Fail> {
+fn variants_have_other_variables_but_as_many(rt: HostRuntime) -> Result<(), Fail> {
     let f = Atoms::new(rt.alloc()).intern("f")?;
     let mut heap = Heap::new(rt.alloc());
+    assert!(rt; sameness(&mut heap, f)?);
+    assert!(rt; !are_variants(&mut heap, f)?);
     assert!(rt; deep_variants(&mut heap, f)?);
     Ok(())
 }

@@ -12,7 +12,7 @@ use Rattle.cq_frac.specs.declared.VarId.{VarId}
 use Rattle.cq_term.specs.Meaning.{HeapTerm, at}
 use Rattle.cq_term.specs.HeapValue.{Terms as HeapTerms}
 use Rattle.cq_term.specs.Shown.{view_of, arguments, IsUnbound}
-use Rattle.cq_term.proofs.Arguments.{arguments-with_arguments, view_of-with_arguments, length-arguments, apply-with_arguments}
+use Rattle.cq_term.proofs.Arguments.{arguments-with_arguments, view_of-with_arguments, length-arguments, apply-with_arguments, count-terms_of}
 use Rattle.cq_term.specs.declared.view.View.{View}
 use Rattle.cq_term.specs.declared.view.View.TheVariants as view
 use Rattle.cq_unify.specs.Unified.{in_turn}
@@ -27,7 +27,7 @@ use Rattle.cq_stored.specs.Building.{AreThere, image_from}
 use Rattle.cq_resolve.specs.Joined.{Joined, Clash, CanMeet}
 use Rattle.cq_resolve.specs.Matching.{Call, Begun, Matching, Solving, IsFresh, image_of, lefts}
 use Rattle.cq_stored.proofs.Built.{all_reverse}
-use Rattle.cq_stored.proofs.Reading.{head_fits, count-terms_of}
+use Rattle.cq_stored.proofs.Reading.{head_fits}
 use Rattle.cq_resolve.proofs.Telling.{in_turn-append, bound_join, unbound_or_not}
 use Rattle.cq_resolve.proofs.Unifying.{variable_by, fresh_join, solving_join, solving_same, solving_clash, read_under-pairwise, equates_compounds}
 

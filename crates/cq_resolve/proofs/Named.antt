@@ -1,98 +1,12 @@
--- A unifier has no other names than the terms that it makes equal, and bindings keep names below a count.
-use Rattle.std.proofs.Common.{◌≡◌, ℕ, suc, ◌<◌, List, [], ◌++◌, length, ◌∷◌, map, Bool, true, false, cond, refl, ap, sym, ◌∙◌, arith, inl, inr, length-append}
-use Rattle.std.specs.Prelude.{All, nat_lt, ◌==◌}
-use Rattle.std.proofs.lemmas.List.Elements.{All-map, All-same, All-weaker, All-get_or}
-use Rattle.spec_terms.specs.Term.{Terms, Subst, Var, Number, Name, Compound, one, more, apply, apply_all, single, named, named_all}
-use Rattle.spec_terms.specs.Unifier.{IsUnifier}
-use Rattle.spec_terms.proofs.Substitution.{named-apply}
-use Rattle.std.specs.Prelude.{Ok, Err, ◌⊎◌}
-use Rattle.std.specs.declared.result.Result.{Result}
-use Rattle.std.specs.declared.alloc.AllocError.{AllocError}
-use Rattle.cq_frac.specs.declared.VarId.{VarId}
-use Rattle.cq_term.specs.Meaning.{HeapTerm, at, blank}
-use Rattle.cq_term.specs.HeapValue.{Terms as HeapTerms}
-use Rattle.cq_unify.specs.Unified.{Unified, in_turn}
+-- Names stay below a count where a variable is bound to a term that was made for it.
+use Rattle.std.proofs.Common.{◌≡◌, ℕ, List, [], ◌++◌, length, ◌∷◌, map, ap, arith, length-append}
+use Rattle.std.specs.Prelude.{All}
+use Rattle.spec_terms.specs.Term.{apply, single}
+use Rattle.cq_term.specs.Meaning.{HeapTerm, at}
+use Rattle.cq_term.specs.Names.{HasNamesBelow}
+use Rattle.cq_unify.proofs.Named.{names_bind}
 use Rattle.cq_stored.proofs.Named.{named_push}
-use Rattle.cq_term.specs.Names.{HasNamesBelow, HaveNamesBelow}
-use Rattle.cq_term.proofs.Known.{names_substituted}
-use Rattle.cq_resolve.specs.Joined.{equal}
 
-module _ (n : ℕ) where
-  -- another name for each name that is not among the first n
-  abbrev other_by : Bool → ℕ → ℕ
-  other_by b a = cond b a (suc a)
-
-  abbrev other : ℕ → ℕ
-  other a = other_by (nat_lt a n) a
-
-  below_kept : (a : ℕ) → a < n → other a ≡ a
-  below_kept a lt = grind arith
-
-  kept_below : (a : ℕ) → a ≡ other a → a < n
-  kept_below a e = grind arith
-
-  mutual
-    names_kept : (t : HeapTerm) → HasNamesBelow n t → named other t ≡ t
-    names_kept (Var v) h = refl
-    names_kept (Number q) h = refl
-    names_kept (Name a) h = ap (λ b. Name b) (below_kept a h)
-    names_kept (Compound f ts) h = λ i. Compound (below_kept f h.0 i) (all_names_kept ts h.1 i)
-
-    all_names_kept : (ts : Terms ℕ) → HaveNamesBelow n ts → named_all other ts ≡ ts
-    all_names_kept (one t) h = ap (λ u. one u) (names_kept t h)
-    all_names_kept (more t ts) h = λ i. more (names_kept t h.0 i) (all_names_kept ts h.1 i)
-
-  module _ (r : Subst ℕ) where
-    mutual
-      named_below : (t : HeapTerm) → apply r t ≡ named other t → HasNamesBelow n t
-      named_below (Var v) e = tt
-      named_below (Number q) e = tt
-      named_below (Name a) e = (let k : a ≡ other a = cc in kept_below a k)
-      named_below (Compound f ts) e = (
-        let k : f ≡ other f = cc in kept_below f k,
-        let l : apply_all r ts ≡ named_all other ts = cc in all_named_below ts l,
-      )
-
-      all_named_below : (ts : Terms ℕ) → apply_all r ts ≡ named_all other ts → HaveNamesBelow n ts
-      all_named_below (one t) e = (let k : apply r t ≡ named other t = cc in named_below t k)
-      all_named_below (more t ts) e = (
-        let k : apply r t ≡ named other t = cc in named_below t k,
-        let l : apply_all r ts ≡ named_all other ts = cc in all_named_below ts l,
-      )
-
-  unifier_names : (a b : HeapTerm) (s : Subst ℕ) → IsUnifier (equal a b) s → HasNamesBelow n a → HasNamesBelow n b → (v : ℕ) → HasNamesBelow n (s v)
-  unifier_names a b s h in_a in_b v =
-      let r : Subst ℕ = λ w. named other (s w) in
-      let at_a : apply r a ≡ named other (apply s a) = ap (apply r) (sym (names_kept a in_a)) ∙ sym (named-apply other s a) in
-      let at_b : apply r b ≡ named other (apply s b) = ap (apply r) (sym (names_kept b in_b)) ∙ sym (named-apply other s b) in
-      named_below r (s v) (h.general r (at_a ∙ ap (named other) h.unifies.0 ∙ sym at_b, tt) v)
-
-  names_under : (s : Subst ℕ) (ts us : List HeapTerm) → us ≡ map (apply s) ts → ((v : ℕ) → HasNamesBelow n (s v)) → All (HasNamesBelow n) ts → All (HasNamesBelow n) us
-  names_under s ts us e h all =
-      All-same (HasNamesBelow n) us (map (apply s) ts) e
-      (All-map (HasNamesBelow n) (apply s) ts (All-weaker (HasNamesBelow n) (λ t. HasNamesBelow n (apply s t)) (λ t k. names_substituted n s t k (λ v o. h v)) ts all))
-
-  names_single : (v : ℕ) (u : HeapTerm) → HasNamesBelow n u → (w : ℕ) → HasNamesBelow n (single v u w)
-  names_single v u h w = go (v == w)
-    where
-      go : (b : Bool) → HasNamesBelow n (cond b u (Var w))
-      go true = h
-      go false = tt
-
-  pub names_bind : (v : ℕ) (ts us : List HeapTerm) (id : ℕ) → us ≡ map (apply (single v (at ts id))) ts → id < length ts → All (HasNamesBelow n) ts → All (HasNamesBelow n) us
-  names_bind v ts us id e live all = names_under (single v (at ts id)) ts us e (names_single v (at ts id) (All-get_or (HasNamesBelow n) ts id blank live all)) all
-
-  -- a variable is bound to a term that was made for it
-  pub names_bind_new : (v : ℕ) (ts us ws : List HeapTerm) (t : HeapTerm) (id : ℕ) → us ≡ ts ++ t ∷ [] → id ≡ length ts → ws ≡ map (apply (single v (at us id))) us → HasNamesBelow n t → All (HasNamesBelow n) ts → All (HasNamesBelow n) ws
-  names_bind_new v ts us ws t id longer last e h all =
-      names_bind v us ws id e (omega (arith, last, ap length longer, length-append ts (t ∷ []))) (named_push n ts us t longer h all)
-
-  pub names_unified : (old new : HeapTerms) (a b : ℕ) (bound : List VarId) → Unified old new a b bound → a < length old.terms → b < length old.terms → All (HasNamesBelow n) old.terms → All (HasNamesBelow n) new.terms
-  names_unified old new a b bound u live_a live_b all =
-      names_under (in_turn u.bindings) old.terms new.terms u.terms
-      (unifier_names (at old.terms a) (at old.terms b) (in_turn u.bindings) u.unifier (All-get_or (HasNamesBelow n) old.terms a blank live_a all) (All-get_or (HasNamesBelow n) old.terms b blank live_b all)) all
-
-pub is_true_or_not : (r : Result Bool AllocError) → (r ≡ Ok true) ⊎ (r ≡ Ok true → ⊥)
-is_true_or_not (Ok true) = inl refl
-is_true_or_not (Ok false) = inr (λ e. cc)
-is_true_or_not (Err x) = inr (λ e. cc)
+pub names_bind_new : (n v : ℕ) (ts us ws : List HeapTerm) (t : HeapTerm) (id : ℕ) → us ≡ ts ++ t ∷ [] → id ≡ length ts → ws ≡ map (apply (single v (at us id))) us → HasNamesBelow n t → All (HasNamesBelow n) ts → All (HasNamesBelow n) ws
+names_bind_new n v ts us ws t id longer last e h all =
+    names_bind n v us ws id e (omega (arith, last, ap length longer, length-append ts (t ∷ []))) (named_push n ts us t longer h all)

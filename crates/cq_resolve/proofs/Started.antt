@@ -28,7 +28,7 @@ use Rattle.cq_resolve.specs.Matching.{Call, Begun, Matching, IsFresh, image_of}
 use Rattle.cq_resolve.proofs.Matched.{term_now}
 use Rattle.cq_stored.proofs.Reading.{read_pattern, pattern_below}
 use Rattle.cq_stored.proofs.Renamed.{new_image}
-use Rattle.cq_resolve.proofs.Telling.{map-identity}
+use Rattle.cq_unify.proofs.Progress.{map-identity}
 use Rattle.cq_resolve.proofs.Unifying.{solving_start, solving_end}
 
 pub nil_of : {A : Type 0} (xs : List A) → length xs ≡ 0 → xs ≡ []

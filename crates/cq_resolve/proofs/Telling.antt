@@ -20,6 +20,7 @@ use Rattle.std.specs.declared.result.Result.{Result}
 use Rattle.std.specs.declared.alloc.AllocError.{AllocError}
 use Rattle.cq_unify.specs.Unified.{Binding, in_turn, variables_of, IsNewlyBound, Unified}
 use Rattle.spec_lists.specs.Prefixes.{IsPrefix}
+use Rattle.cq_unify.proofs.Progress.{map-identity, same_variable}
 use Rattle.cq_unify.proofs.Unbound.{at-map, variable_from}
 use Rattle.cq_resolve.specs.Resolved.{older}
 use Rattle.cq_resolve.specs.Joined.{Joined, equal, CanMeet}
@@ -41,13 +42,6 @@ apply-append bs cs t =
 map-append_turns : (bs cs : List Binding) (ts : List HeapTerm) → map (apply (in_turn cs)) (map (apply (in_turn bs)) ts) ≡ map (apply (in_turn (bs ++ cs))) ts
 map-append_turns bs cs [] = refl
 map-append_turns bs cs (t ∷ ts) = λ i. apply-append bs cs t i ∷ map-append_turns bs cs ts i
-
-pub map-identity : (ts : List HeapTerm) → map (apply identity) ts ≡ ts
-map-identity [] = refl
-map-identity (t ∷ ts) = λ i. apply-identity t i ∷ map-identity ts i
-
-pub same_variable : (v x : VarId) → v.0 ≡ x.0 → v ≡ x
-same_variable v x e = ap (λ (n : ℕ). let r : VarId = record { 0 = n } in r) e
 
 pairs_append : (xs ys : List VarId) → AllPairs ◌≢◌ xs → AllPairs ◌≢◌ ys → ((x y : VarId) → Contains xs x → Contains ys y → x ≢ y) → AllPairs ◌≢◌ (xs ++ ys)
 pairs_append [] ys f g n i j d lt within = g i j d lt within

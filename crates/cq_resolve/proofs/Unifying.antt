@@ -8,6 +8,7 @@ use Rattle.spec_terms.specs.Unifier.{Equation, Equates, IsUnifier, read_under}
 use Rattle.spec_terms.proofs.Unifiers.{equates_under}
 use Rattle.spec_terms.proofs.Substitution.{apply-identity, apply-followed_by, apply_agree, agree_apply, occurs_from}
 use Rattle.cq_term.specs.Meaning.{HeapTerm}
+use Rattle.cq_unify.proofs.Progress.{equates_agree}
 use Rattle.cq_walk.specs.Pairs.{pairwise}
 use Rattle.cq_resolve.specs.Joined.{equal}
 use Rattle.cq_resolve.specs.Matching.{Solving, IsFresh}
@@ -79,13 +80,6 @@ absorbed r u h t = sym (apply-followed_by u r t) ∙ apply_agree (followed_by u 
 equates_absorbed : (r u : Subst ℕ) → ((v : ℕ) → apply r (u v) ≡ r v) → (es : List (Equation ℕ)) → Equates r es → Equates r (read_under u es)
 equates_absorbed r u h [] k = tt
 equates_absorbed r u h (e ∷ es) k = (absorbed r u h e.left ∙ k.0 ∙ sym (absorbed r u h e.right), equates_absorbed r u h es k.1)
-
-equates_agree : (r s : Subst ℕ) (es : List (Equation ℕ)) → ((v : ℕ) → r v ≡ s v) → Equates r es → Equates s es
-equates_agree r s [] same h = tt
-equates_agree r s (e ∷ es) same h = (
-  sym (apply_agree r s e.left (λ v o. same v)) ∙ h.0 ∙ apply_agree r s e.right (λ v o. same v),
-  equates_agree r s es same h.1,
-)
 
 pub variable_by : (u : Subst ℕ) (t : HeapTerm) (w : ℕ) → apply u t ≡ Var w → (y : ℕ) × (t ≡ Var y) × (u y ≡ Var w)
 variable_by u (Var y) w e = (y, refl, e)

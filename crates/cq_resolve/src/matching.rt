@@ -3,7 +3,7 @@
 ghost use Rattle.std.specs.Prelude.{◌≡◌, ◌<◌, ◌≤◌, ◌++◌, ◌∷◌, [], ℕ, List, length, All, OnOk, Ok, true, false};
 ghost use Rattle.spec_terms.specs.Unifier.{HasNoUnifier};
 ghost use Rattle.cq_frac.specs.declared.VarId.{VarId};
-ghost use Rattle.cq_stored.specs.Building.{KeepsNames};
+ghost use Rattle.cq_term.specs.Names.{KeepsNames};
 ghost use Rattle.cq_stored.specs.Pattern.{IsNamedBelow};
 ghost use Rattle.cq_resolve.specs.Matching.{Call, Matching, IsAt, IsNext};
 

@@ -4,7 +4,7 @@ use Rattle.std.proofs.lemmas.Option.{same_Some}
 use Rattle.spec_terms.specs.Term.{Terms, Subst, Var, Number, Name, Compound, one, more, count, apply}
 use Rattle.spec_terms.specs.Unifier.{HasNoUnifier}
 use Rattle.cq_term.specs.Meaning.{HeapTerm}
-use Rattle.cq_term.specs.Shown.{view_of, arguments}
+use Rattle.cq_term.specs.Shown.{view_of}
 use Rattle.cq_term.specs.declared.view.View.{View}
 use Rattle.cq_term.specs.declared.view.View.TheVariants as view
 use Rattle.cq_unify.proofs.Heads.{count-apply_all}
@@ -35,13 +35,6 @@ second_shown count hs f n p e = go (term_of hs) (pattern_heads count hs p) e
     go (Number q) d k = cc
     go (Name a) d k = cc
     go (Compound g ts) d k = (let b = begins_in ts in (b.0, view_of (first_of ts), sym d ∙ (λ i. k i ∷ b.1 i), refl))
-
-pub first_at : (t : HeapTerm) (f n : ℕ) → view_of t ≡ view.Compound f n → 0 < length (arguments t)
-first_at (Var v) f n e = cc
-first_at (Number q) f n e = cc
-first_at (Name a) f n e = cc
-first_at (Compound g (one t)) f n e = omega arith
-first_at (Compound g (more t ts)) f n e = omega arith
 
 -- ---- under a substitution
 rigid_kept : (s : Subst ℕ) (t : HeapTerm) → IsRigid (view_of t) → view_of (apply s t) ≡ view_of t

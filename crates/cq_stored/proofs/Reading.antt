@@ -4,27 +4,10 @@ use Rattle.std.proofs.lemmas.List.{take_at, drop_at, take-append-drop, length-ta
 use Rattle.std.proofs.Math.Seq.{drop-cons}
 use Rattle.spec_terms.specs.Term.{Terms, Subst, Var, Number, Name, Compound, one, more, count, list_of, terms_of, apply, Occurs, OccursIn, with_arguments}
 use Rattle.cq_term.specs.Meaning.{HeapTerm, at}
-use Rattle.cq_term.proofs.Arguments.{apply-with_arguments}
+use Rattle.cq_term.proofs.Arguments.{apply-with_arguments, with_arguments-list_of, length-list_of, count-terms_of}
 use Rattle.cq_term.specs.declared.view.View.{View}
 use Rattle.cq_term.specs.declared.view.View.TheVariants as view
 use Rattle.cq_stored.specs.Pattern.{heads, heads_in, put, read, term_of, IsHead, AreHeads, IsBelow, HaveBelow, IsPattern}
-
--- ---- arguments
-terms_of-list_of : (t : HeapTerm) (us : Terms ℕ) → terms_of t (list_of us) ≡ more t us
-terms_of-list_of t (one u) = refl
-terms_of-list_of t (more u us) = ap (more t) (terms_of-list_of u us)
-
-with_arguments-list_of : (f : ℕ) (us : Terms ℕ) → with_arguments f (list_of us) ≡ Compound f us
-with_arguments-list_of f (one t) = refl
-with_arguments-list_of f (more t us) = ap (Compound f) (terms_of-list_of t us)
-
-length-list_of : (ts : Terms ℕ) → length (list_of ts) ≡ count ts
-length-list_of (one t) = refl
-length-list_of (more t ts) = ap suc (length-list_of ts)
-
-pub count-terms_of : (t : HeapTerm) (us : List HeapTerm) → count (terms_of t us) ≡ suc (length us)
-count-terms_of t [] = refl
-count-terms_of t (u ∷ us) = ap suc (count-terms_of u us)
 
 count_positive : (ts : Terms ℕ) → 0 < count ts
 count_positive (one t) = omega arith

@@ -1,9 +1,8 @@
 -- The variables of a pattern as variables of a heap.
-use Rattle.std.specs.Prelude.{◌≡◌, ℕ, ◌+◌, ◌^◌, ◌≤◌, List, length, map, reverse, All}
+use Rattle.std.specs.Prelude.{◌≡◌, ℕ, ◌+◌, ◌^◌, ◌≤◌, List, length, map, reverse}
 use Rattle.spec_terms.specs.Term.{Subst, Var, apply}
 use Rattle.cq_term.specs.HeapValue.{Terms as HeapTerms}
 use Rattle.cq_term.specs.Meaning.{HeapTerm, at}
-use Rattle.cq_term.specs.Names.{HasNamesBelow}
 use Rattle.cq_term.specs.declared.view.View.{View}
 use Rattle.cq_stored.specs.Pattern.{put}
 
@@ -25,7 +24,3 @@ pub record AreThere (images : List HeapTerm) (first count : ℕ) : Type 0 where
 abbrev pub BuildsOn : HeapTerms → HeapTerms → ℕ → View → List ℕ → List ℕ → Type 0
 BuildsOn old new first h before after = (ts : List HeapTerm) → map (at old.terms) (reverse before) ≡ map (apply (image_from old.images first)) ts
     → map (at new.terms) (reverse after) ≡ map (apply (image_from old.images first)) (put h ts)
-
--- where each name of the heap's terms is among the first so many, it stays so
-abbrev pub KeepsNames : ℕ → HeapTerms → HeapTerms → Type 0
-KeepsNames n old new = All (HasNamesBelow n) old.terms → All (HasNamesBelow n) new.terms

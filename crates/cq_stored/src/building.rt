@@ -4,10 +4,11 @@ ghost use Rattle.std.specs.Prelude.{◌≡◌, ◌<◌, ◌≤◌, ◌++◌, ℕ
 ghost use Rattle.spec_lists.specs.Prefixes.{IsPrefix};
 ghost use Rattle.spec_terms.specs.Term.{Var, apply};
 ghost use Rattle.cq_term.specs.Meaning.{HeapTerm, at};
+ghost use Rattle.cq_term.specs.Names.{KeepsNames};
 ghost use Rattle.cq_term.specs.declared.view.View.TheVariants.{Compound};
 ghost use Rattle.cq_unify.specs.Copied.{unbound_from};
 ghost use Rattle.cq_stored.specs.Pattern.{IsPattern, IsHead, IsNamedBelow, term_of, put};
-ghost use Rattle.cq_stored.specs.Building.{AreThere, image_from, BuildsOn, KeepsNames};
+ghost use Rattle.cq_stored.specs.Building.{AreThere, image_from, BuildsOn};
 
 use cq_frac::VarId;
 use cq_term::{Atom, Heap, TermId, View};

@@ -5,9 +5,9 @@ ghost use Rattle.spec_lists.specs.Prefixes.{IsPrefix};
 ghost use Rattle.spec_terms.specs.Variables.{variables, renamed_from};
 ghost use Rattle.spec_terms.specs.Term.{apply};
 ghost use Rattle.cq_term.specs.Meaning.{at};
-ghost use Rattle.cq_term.specs.Names.{HasNamesBelow};
+ghost use Rattle.cq_term.specs.Names.{HasNamesBelow, KeepsNames};
 ghost use Rattle.cq_unify.specs.Copied.{unbound_from};
-ghost use Rattle.cq_stored.specs.Building.{moved_by, KeepsNames};
+ghost use Rattle.cq_stored.specs.Building.{moved_by};
 
 use crate::building::{build, new_variables};
 use crate::pattern::pattern_of;

@@ -1,6 +1,7 @@
 pub mod Equations
 pub mod Heads
 pub mod Listing
+pub mod Named
 pub mod Occurrences
 pub mod Places
 pub mod Progress

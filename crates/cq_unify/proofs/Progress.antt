@@ -38,11 +38,11 @@ map-push : (bs : List Binding) (b : Binding) (ts : List HeapTerm) → map (apply
 map-push bs b [] = refl
 map-push bs b (t ∷ ts) = λ i. apply-push bs b t i ∷ map-push bs b ts i
 
-map-identity : (ts : List HeapTerm) → map (apply identity) ts ≡ ts
+pub map-identity : (ts : List HeapTerm) → map (apply identity) ts ≡ ts
 map-identity [] = refl
 map-identity (t ∷ ts) = λ i. apply-identity t i ∷ map-identity ts i
 
-equates_agree : (r s : Subst ℕ) (es : List (Equation ℕ)) → ((v : ℕ) → r v ≡ s v) → Equates r es → Equates s es
+pub equates_agree : (r s : Subst ℕ) (es : List (Equation ℕ)) → ((v : ℕ) → r v ≡ s v) → Equates r es → Equates s es
 equates_agree r s [] same h = tt
 equates_agree r s (e ∷ es) same h = (
   sym (apply_agree r s e.left (λ v o. same v)) ∙ h.0 ∙ apply_agree r s e.right (λ v o. same v),
@@ -91,7 +91,7 @@ progress_start heap a b work e live_a live_b = record {
   once = λ i j d lt within. absurd (omega arith);
 }
 
-same_variable : (v x : VarId) → v.0 ≡ x.0 → v ≡ x
+pub same_variable : (v x : VarId) → v.0 ≡ x.0 → v ≡ x
 same_variable v x e = ap (λ (n : ℕ). let r : VarId = record { 0 = n } in r) e
 
 contains_at : {X : Type 0} (xs : List X) (k : ℕ) (d x : X) → k < length xs → get_or xs k d ≡ x → Contains xs x

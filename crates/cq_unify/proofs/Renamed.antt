@@ -15,7 +15,7 @@ use Rattle.cq_unify.specs.declared.copies.Renaming.{Renaming}
 use Rattle.cq_walk.specs.Places.{numbers_of, place_of}
 use Rattle.cq_unify.specs.Copied.{ShareNoVariable, unbound_from}
 use Rattle.cq_unify.specs.Copying.{IsRenaming, image_of}
-use Rattle.cq_walk.specs.Visits.{IsGround}
+use Rattle.cq_term.specs.Ground.{IsGround}
 use Rattle.cq_walk.proofs.Ground.{after_ground}
 use Rattle.cq_unify.proofs.Places.{place_within, length-unbound_from, at-unbound_from}
 

@@ -6,10 +6,10 @@ use Rattle.std.proofs.lemmas.List.{map-append, length-map, reverse-append, rever
 use Rattle.std.proofs.lemmas.List.Elements.{All-head, All-tail, All-push, All-same, All-get_or}
 use Rattle.std.proofs.lemmas.List.Sums.{sum_by-append}
 use Rattle.spec_rational.specs.Rational.{ℚ}
-use Rattle.spec_terms.specs.Term.{Terms, Subst, Var, Number, Name, Compound, one, more, size, list_of, terms_of, apply, apply_all, OccursIn, with_arguments}
+use Rattle.spec_terms.specs.Term.{Terms, Subst, Var, Number, Name, Compound, one, more, size, list_of, apply, apply_all, OccursIn, with_arguments}
 use Rattle.cq_term.specs.Meaning.{HeapTerm, at, blank}
 use Rattle.cq_term.specs.Shown.{view_of, arguments}
-use Rattle.cq_term.proofs.Arguments.{apply-with_arguments}
+use Rattle.cq_term.proofs.Arguments.{apply-with_arguments, with_arguments-list_of, some_arguments}
 use Rattle.cq_term.specs.declared.view.View.{View}
 use Rattle.cq_term.specs.declared.view.View.TheVariants as view
 use Rattle.cq_unify.specs.declared.copies.Renaming.{Renaming}
@@ -65,14 +65,6 @@ module _ (s : Subst ℕ) (vs : List ℕ) (ts us : List HeapTerm) (p : IsPrefix t
   work_left_longer built (Build f first ∷ xs) h = ap (λ n. 1 + n) (work_left_longer built xs h.1)
 
 -- ---- the arguments of a compound
-terms_of-list_of : (t : HeapTerm) (us : Terms ℕ) → terms_of t (list_of us) ≡ more t us
-terms_of-list_of t (one u) = refl
-terms_of-list_of t (more u us) = ap (more t) (terms_of-list_of u us)
-
-with_arguments-list_of : (f : ℕ) (us : Terms ℕ) → with_arguments f (list_of us) ≡ Compound f us
-with_arguments-list_of f (one t) = refl
-with_arguments-list_of f (more t us) = ap (Compound f) (terms_of-list_of t us)
-
 abbrev CoversAll : List ℕ → List HeapTerm → Type 0
 CoversAll vs [] = ⊤
 CoversAll vs (t ∷ ts) = Covers vs t × CoversAll vs ts
@@ -92,13 +84,6 @@ arguments_covered vs (Var v) f n e h = cc
 arguments_covered vs (Number q) f n e h = cc
 arguments_covered vs (Name a) f n e h = cc
 arguments_covered vs (Compound g us) f n e h = covers_reverse vs us h
-
-some_arguments : (t : HeapTerm) (f n : ℕ) → view_of t ≡ view.Compound f n → 0 < length (arguments t)
-some_arguments (Var v) f n e = cc
-some_arguments (Number q) f n e = cc
-some_arguments (Name a) f n e = cc
-some_arguments (Compound g (one t)) f n e = omega arith
-some_arguments (Compound g (more t us)) f n e = omega arith
 
 compound_of_images : (s : Subst ℕ) (t : HeapTerm) (f n : ℕ) → view_of t ≡ view.Compound f n → with_arguments f (map (apply s) (arguments t)) ≡ apply s t
 compound_of_images s (Var v) f n e = cc
@@ -245,7 +230,7 @@ module _ (s : Subst ℕ) (t : HeapTerm) (ts : List HeapTerm) (r : Renaming) (wor
       less_compounded = omega (arith, work_left-append ts work (Build f first ∷ []), work_left_longer s originals ts us p (with_compound f first now) work rest_built)
 
 -- the visits of arguments are less to do than the visit of their compound
-pub less_visits : (ts : List HeapTerm) (work new : List Step) (id f n first : ℕ) → view_of (at ts id) ≡ view.Compound f n → PushesVisits ts (at ts id) 0 (work ++ Build f first ∷ []) new → work_left ts new < work_left ts work + 2 * size (at ts id)
+pub less_visits : (ts : List HeapTerm) (work new : List Step) (id f n first : ℕ) → view_of (at ts id) ≡ view.Compound f n → PushesVisits ts (at ts id) 0 (work ++ Build f first ∷ []) new → work_left ts new < work_left ts (Visit id ∷ work)
 less_visits ts work new id f n first shown p =
     let added : work_left ts new ≡ (work_left ts work + (1 + 0)) + 2 * sum_by size (reverse (arguments (at ts id))) =
     ap (work_left ts) p.1

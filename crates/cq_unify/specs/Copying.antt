@@ -54,6 +54,10 @@ pub record Leads (s : Subst ℕ) (t : HeapTerm) (ts : List HeapTerm) (r : Renami
   pub can : CanFinish s (numbers_of r.originals.keys) ts (map (at ts) built) steps
   pub leads : finish s ts (map (at ts) built) steps ≡ apply s t ∷ []
 
+-- to whatever term the old steps lead, the new ones do
+abbrev pub LeadOn : List HeapTerm → Renaming → List Step → List ℕ → List Step → List ℕ → Type 0
+LeadOn ts r old old_built new new_built = (s : Subst ℕ) (t : HeapTerm) → Leads s t ts r old old_built → Leads s t ts r new new_built
+
 -- a list of steps has got the visits of the arguments of a term from the i-th on at its end, the last one first
 abbrev pub PushesVisits : List HeapTerm → HeapTerm → ℕ → List Step → List Step → Type 0
 PushesVisits ts t i old new = (ids : List ℕ) × (new ≡ old ++ map (λ id. Visit id) ids) × AreArguments ts t i ids

@@ -1,14 +1,14 @@
 // Copies of terms of a heap, with new variables in the places of theirs.
 
-ghost use Rattle.std.specs.Prelude.{◌≡◌, ◌<◌, ◌≤◌, ◌+◌, ◌*◌, ◌++◌, [], ◌∷◌, ℕ, length, map, All, Contains, slice_index, IfOk, OnOk, OnErr};
-ghost use Rattle.spec_terms.specs.Term.{Subst, apply, size};
+ghost use Rattle.std.specs.Prelude.{◌≡◌, ◌<◌, ◌≤◌, ◌++◌, [], ◌∷◌, ℕ, length, map, All, Contains, slice_index, IfOk, OnOk, OnErr};
+ghost use Rattle.spec_terms.specs.Term.{Subst, apply};
 ghost use Rattle.spec_terms.specs.Variables.{variables as variables_of_term, renamed_from};
 ghost use Rattle.cq_term.specs.Meaning.{HeapTerm, at};
 ghost use Rattle.cq_term.specs.Shown.{arguments};
 ghost use Rattle.cq_walk.specs.Places.{numbers_of, place_of};
 ghost use Rattle.spec_lists.specs.Prefixes.{IsPrefix};
-ghost use Rattle.cq_unify.specs.Copied.{ShareNoVariable, unbound_from};
-ghost use Rattle.cq_unify.specs.Copying.{IsRenaming, image_of, Leads, PushesVisits, with_compound, work_left};
+ghost use Rattle.cq_unify.specs.Copied.{GainsVariables, ShareNoVariable, unbound_from};
+ghost use Rattle.cq_unify.specs.Copying.{IsRenaming, image_of, LeadOn, Leads, PushesVisits, with_compound, work_left};
 ghost use Rattle.cq_unify.specs.declared.copies.Step.TheVariants.{Visit};
 
 use crate::variables::variables;
@@ -45,7 +45,7 @@ pub fn copy(heap: &mut Heap, term: TermId) -> Result<TermId, AllocError>
 
     // Older terms and variables stay, and only as many variables are new as the term has.
     ensures terms { OnOk result (IsPrefix heap.old.now.terms heap.new.now.terms) }
-    ensures images { OnOk result (heap.new.now.images ≡ heap.old.now.images ++ unbound_from (length heap.old.now.images) (length (variables_of_term (at heap.old.now.terms term)))) }
+    ensures images { OnOk result (GainsVariables heap.old.now.images heap.new.now.images (length (variables_of_term (at heap.old.now.terms term)))) }
     ensures err { OnErr result (heap.new.now ≡ heap.old.now) }
 
     ensures saved { heap.new.saved ≡ heap.old.saved }
@@ -74,7 +74,7 @@ fn renamed(heap: &mut Heap, term: TermId) -> Result<TermId, AllocError>
     ensures renamed { IfOk result (λ id. at heap.new.now.terms id ≡ renamed_from (length heap.old.now.images) (at heap.old.now.terms term)) }
     ensures apart { IfOk result (λ id. ShareNoVariable (at heap.old.now.terms term) (at heap.new.now.terms id)) }
     ensures terms { OnOk result (IsPrefix heap.old.now.terms heap.new.now.terms) }
-    ensures images { OnOk result (heap.new.now.images ≡ heap.old.now.images ++ unbound_from (length heap.old.now.images) (length (variables_of_term (at heap.old.now.terms term)))) }
+    ensures images { OnOk result (GainsVariables heap.old.now.images heap.new.now.images (length (variables_of_term (at heap.old.now.terms term)))) }
     ensures saved { heap.new.saved ≡ heap.old.saved }
     ensures room { heap.old.room ≤ heap.new.room }
 {
@@ -87,7 +87,7 @@ fn new_variables(heap: &mut Heap, count: usize) -> Result<Vec<TermId>, AllocErro
     ensures live { IfOk result (λ ids. All (λ id. id < length heap.new.now.terms) ids.items) }
     ensures variables { IfOk result (λ ids. map (at heap.new.now.terms) ids.items ≡ unbound_from (length heap.old.now.images) count) }
     ensures terms { OnOk result (IsPrefix heap.old.now.terms heap.new.now.terms) }
-    ensures images { OnOk result (heap.new.now.images ≡ heap.old.now.images ++ unbound_from (length heap.old.now.images) count) }
+    ensures images { OnOk result (GainsVariables heap.old.now.images heap.new.now.images count) }
     ensures saved { heap.new.saved ≡ heap.old.saved }
     ensures room { heap.old.room ≤ heap.new.room }
 {
@@ -143,8 +143,8 @@ fn visit(
     built: &mut Vec<TermId>,
 ) -> Result<(), AllocError>
     requires { (s : Subst ℕ) × (t : HeapTerm) × Leads s t heap.now.now.terms renaming.now (work.old.items ++ Visit id ∷ []) built.old.items }
-    ensures leads { OnOk result ((s : Subst ℕ) (t : HeapTerm) → Leads s t heap.now.now.terms renaming.now (work.old.items ++ Visit id ∷ []) built.old.items → Leads s t heap.now.now.terms renaming.now work.new.items built.new.items) }
-    ensures less { OnOk result (work_left heap.now.now.terms work.new.items < work_left heap.now.now.terms work.old.items + 2 * size (at heap.now.now.terms id)) }
+    ensures leads { OnOk result (LeadOn heap.now.now.terms renaming.now (work.old.items ++ Visit id ∷ []) built.old.items work.new.items built.new.items) }
+    ensures less { OnOk result (work_left heap.now.now.terms work.new.items < work_left heap.now.now.terms (Visit id ∷ work.old.items)) }
 {
     if heap.is_ground(id) {
         built.push(id)?;

@@ -58,15 +58,6 @@ fn become_a_name(heap: &mut Heap, newly: &mut Newly, f: Atom) -> Result<bool, Al
     Ok(same && heap.view(x) == View::Name(f) && newly.as_slice().len() == 2)
 }
 
-#[test]
-fn two_variables_become_a_name(rt: HostRuntime) -> Result<(), Fail> {
-    let f = Atoms::new(rt.alloc()).intern("f")?;
-    let mut heap = Heap::new(rt.alloc());
-    let mut newly = Newly::new(rt.alloc());
-    assert!(rt; become_a_name(&mut heap, &mut newly, f)?);
-    Ok(())
-}
-
 /// f(X, f) and f(f, f(X, f)).
 fn clash_at_the_end(heap: &mut Heap, newly: &mut Newly, f: Atom) -> Result<bool, AllocError> {
     let x = variable(heap)?;
@@ -74,17 +65,7 @@ fn clash_at_the_end(heap: &mut Heap, newly: &mut Newly, f: Atom) -> Result<bool,
     let left = pair(heap, f, x, name)?;
     let right = pair(heap, f, name, left)?;
     let same = unified(heap, newly, left, right)?;
-    Ok(!same && heap.view(x) != View::Name(f))
-}
-
-#[test]
-fn a_clash_in_the_last_argument_binds_nothing(rt: HostRuntime) -> Result<(), Fail> {
-    let f = Atoms::new(rt.alloc()).intern("f")?;
-    let mut heap = Heap::new(rt.alloc());
-    let mut newly = Newly::new(rt.alloc());
-    assert!(rt; clash_at_the_end(&mut heap, &mut newly, f)?);
-    assert_eq!(rt; newly.as_slice().len(), 0);
-    Ok(())
+    Ok(!same && heap.view(x) != View::Name(f) && newly.as_slice().len() == 0)
 }
 
 /// X and f.
@@ -92,7 +73,7 @@ fn becomes_a_name(heap: &mut Heap, newly: &mut Newly, f: Atom) -> Result<bool, A
     let x = variable(heap)?;
     let name = constant(heap, f)?;
     let same = unified(heap, newly, x, name)?;
-    Ok(same && heap.view(x) == View::Name(f))
+    Ok(same && heap.view(x) == View::Name(f) && newly.as_slice().len() == 1)
 }
 
 /// f and f, which are two terms of the heap, and f beside 1.
@@ -103,31 +84,13 @@ fn are_told_apart(heap: &mut Heap, newly: &mut Newly, f: Atom) -> Result<bool, A
     Ok(unified(heap, newly, name, again)? && !unified(heap, newly, name, one)?)
 }
 
-#[test]
-fn constants_meet_variables_and_constants(rt: HostRuntime) -> Result<(), Fail> {
-    let f = Atoms::new(rt.alloc()).intern("f")?;
-    let mut heap = Heap::new(rt.alloc());
-    let mut newly = Newly::new(rt.alloc());
-    assert!(rt; becomes_a_name(&mut heap, &mut newly, f)?);
-    assert!(rt; are_told_apart(&mut heap, &mut newly, f)?);
-    assert_eq!(rt; newly.as_slice(), [VarId(0)].as_slice());
-    Ok(())
-}
-
 /// Two variables.
 fn become_equal(heap: &mut Heap, newly: &mut Newly) -> Result<bool, AllocError> {
     let older = variable(heap)?;
     let younger = variable(heap)?;
-    unified(heap, newly, older, younger)
-}
-
-#[test]
-fn of_two_variables_the_younger_is_bound(rt: HostRuntime) -> Result<(), Fail> {
-    let mut heap = Heap::new(rt.alloc());
-    let mut newly = Newly::new(rt.alloc());
-    assert!(rt; become_equal(&mut heap, &mut newly)?);
-    assert_eq!(rt; newly.as_slice(), [VarId(1)].as_slice());
-    Ok(())
+    let shown = heap.view(older);
+    let same = unified(heap, newly, older, younger)?;
+    Ok(same && heap.view(younger) == shown && newly.as_slice().len() == 1)
 }
 
 /// A name over one term.
@@ -146,11 +109,25 @@ fn become_one(heap: &mut Heap, newly: &mut Newly, f: Atom) -> Result<bool, Alloc
     unified(heap, newly, x, around)
 }
 
+/// The pairs that become equal, each told to an empty list.
+fn become_equal_each(heap: &mut Heap, newly: &mut Newly, f: Atom) -> Result<bool, AllocError> {
+    let names = become_a_name(heap, newly, f)?;
+    newly.truncate(0);
+    let name = becomes_a_name(heap, newly, f)?;
+    newly.truncate(0);
+    let variables = become_equal(heap, newly)?;
+    newly.truncate(0);
+    Ok(names && name && variables)
+}
+
 #[test]
-fn a_variable_does_not_become_a_term_around_it(rt: HostRuntime) -> Result<(), Fail> {
+fn terms_become_equal_or_stay_as_they_are(rt: HostRuntime) -> Result<(), Fail> {
     let f = Atoms::new(rt.alloc()).intern("f")?;
     let mut heap = Heap::new(rt.alloc());
     let mut newly = Newly::new(rt.alloc());
+    assert!(rt; become_equal_each(&mut heap, &mut newly, f)?);
+    assert!(rt; clash_at_the_end(&mut heap, &mut newly, f)?);
+    assert!(rt; are_told_apart(&mut heap, &mut newly, f)?);
     assert!(rt; !become_one(&mut heap, &mut newly, f)?);
     Ok(())
 }
@@ -242,21 +219,13 @@ fn has_variables(heap: &Heap, term: TermId, expected: &[VarId]) -> Result<bool, 
     Ok(listed.as_slice() == expected)
 }
 
-/// The variables of the term and of its copy, numbered by age.
+/// The variables of the term and of its copy, numbered by age, on a heap that had none.
 fn has_new_variables(heap: &mut Heap, f: Atom) -> Result<bool, AllocError> {
     let term = sample(heap, f)?;
     let second = copied(heap, term)?;
     let old = has_variables(heap, term, &[VarId(1), VarId(0)])?;
     let new = has_variables(heap, second, &[VarId(2), VarId(3)])?;
     Ok(old && new)
-}
-
-#[test]
-fn a_copy_has_new_variables_in_the_order_of_the_term(rt: HostRuntime) -> Result<(), Fail> {
-    let f = Atoms::new(rt.alloc()).intern("f")?;
-    let mut heap = Heap::new(rt.alloc());
-    assert!(rt; has_new_variables(&mut heap, f)?);
-    Ok(())
 }
 
 /// f and f(f).
@@ -268,25 +237,19 @@ fn is_copied_as_it_is(heap: &mut Heap, f: Atom) -> Result<bool, AllocError> {
     Ok(heap.view(second) == View::Compound(f, 1) && heap.view(third) == View::Name(f))
 }
 
-#[test]
-fn terms_without_variables_are_copied(rt: HostRuntime) -> Result<(), Fail> {
-    let f = Atoms::new(rt.alloc()).intern("f")?;
-    let mut heap = Heap::new(rt.alloc());
-    assert!(rt; is_copied_as_it_is(&mut heap, f)?);
-    Ok(())
-}
-
-/// The same of a term deeper than any stack.
+/// The same of a term deeper than any stack, behind those four.
 fn has_a_new_variable(heap: &mut Heap, f: Atom) -> Result<bool, AllocError> {
     let term = nested(heap, f)?;
     let second = copied(heap, term)?;
-    has_variables(heap, second, &[VarId(1)])
+    has_variables(heap, second, &[VarId(5)])
 }
 
 #[test]
-fn a_deep_term_is_copied_and_its_variables_listed(rt: HostRuntime) -> Result<(), Fail> {
+fn copies_have_new_variables_in_the_order_of_the_term(rt: HostRuntime) -> Result<(), Fail> {
     let f = Atoms::new(rt.alloc()).intern("f")?;
     let mut heap = Heap::new(rt.alloc());
+    assert!(rt; has_new_variables(&mut heap, f)?);
     assert!(rt; has_a_new_variable(&mut heap, f)?);
+    assert!(rt; is_copied_as_it_is(&mut heap, f)?);
     Ok(())
 }

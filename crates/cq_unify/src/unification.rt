@@ -1,10 +1,11 @@
 // Unification of two terms by binding variables, one at a time.
 
-ghost use Rattle.std.specs.Prelude.{◌≡◌, ◌≢◌, ◌<◌, ◌≤◌, ◌++◌, [], ◌∷◌, List, length, map, true, false};
+ghost use Rattle.std.specs.Prelude.{◌≡◌, ◌≢◌, ◌<◌, ◌≤◌, ◌++◌, [], ◌∷◌, ℕ, List, length, map, true, false};
 ghost use Rattle.spec_terms.specs.Term.{Occurs, apply, single};
 ghost use Rattle.spec_terms.specs.Unifier.{HasNoUnifier};
 ghost use Rattle.cq_frac.specs.declared.VarId.{VarId};
 ghost use Rattle.cq_term.specs.Meaning.{at};
+ghost use Rattle.cq_term.specs.Names.{KeepsNames};
 ghost use Rattle.cq_unify.specs.Unified.{Unified, equation};
 ghost use Rattle.cq_unify.specs.Work.{CanBind, IsBound};
 
@@ -31,6 +32,7 @@ pub fn unify(heap: &mut Heap, newly: &mut Newly, a: TermId, b: TermId) -> Result
     ensures newly { result ≢ Ok true → newly.new ≡ newly.old }
 
     ensures live { length heap.new.now.terms ≡ length heap.old.now.terms }
+    ensures names { (n : ℕ) → KeepsNames n heap.old.now heap.new.now }
     ensures saved { heap.new.saved ≡ heap.old.saved }
     ensures room { heap.old.room ≤ heap.new.room }
 {
@@ -56,6 +58,7 @@ fn unify_or_undo(
     ensures heap { result ≢ Ok true → heap.new.now ≡ heap.old.now }
     ensures newly { result ≢ Ok true → newly.new ≡ newly.old }
     ensures live { length heap.new.now.terms ≡ length heap.old.now.terms }
+    ensures names { (n : ℕ) → KeepsNames n heap.old.now heap.new.now }
     ensures saved { heap.new.saved ≡ heap.old.saved }
     ensures room { heap.old.room ≤ heap.new.room }
 {
@@ -111,6 +114,7 @@ fn bind_apart(
     ensures heap { result ≢ Ok true → heap.new.now ≡ heap.old.now }
     ensures newly { result ≢ Ok true → newly.new ≡ newly.old }
     ensures live { length heap.new.now.terms ≡ length heap.old.now.terms }
+    ensures names { (n : ℕ) → KeepsNames n heap.old.now heap.new.now }
     ensures saved { heap.new.saved ≡ heap.old.saved }
     ensures room { heap.old.room ≤ heap.new.room }
 {

@@ -3,7 +3,7 @@ use Rattle.std.proofs.Common.{◌≡◌, ℕ, List, refl, ap, ◌∙◌, inl, in
 use Rattle.spec_terms.specs.Term.{Terms, Var, Number, Name, Compound, one, more, OccursIn}
 use Rattle.spec_terms.specs.Variables.{variables_after, variables_in}
 use Rattle.cq_term.specs.Meaning.{HeapTerm}
-use Rattle.cq_walk.specs.Visits.{IsGround}
+use Rattle.cq_term.specs.Ground.{IsGround}
 
 -- it adds none to a list of variables
 mutual

@@ -1,6 +1,6 @@
 -- The compounds that a walk went into.
 use Rattle.std.specs.Prelude.{◌≡◌, ℕ, ◌+◌, List, [], ◌∷◌, ◌++◌, ◌⊎◌, Contains}
-use Rattle.spec_terms.specs.Term.{Occurs}
+use Rattle.cq_term.specs.Ground.{IsGround}
 use Rattle.cq_term.specs.Meaning.{HeapTerm, at}
 use Rattle.cq_walk.specs.Arguments.{PushesArguments}
 
@@ -11,10 +11,6 @@ pub record Visits : Type 0 where
 
 abbrev pub nothing_visited : Visits
 nothing_visited = record { free = 64; known = [] }
-
--- no variable stands in the term
-abbrev pub IsGround : HeapTerm → Type 0
-IsGround t = (v : ℕ) → Occurs v t → ⊥
 
 -- one of the first compounds is counted, and a later one, which is new, is recorded
 abbrev pub Enters : ℕ → Visits → Visits → Type 0

@@ -2,7 +2,7 @@ use Rattle.std.proofs.Common.{[], refl, sym, subst, append-nil}
 use Rattle.spec_terms.specs.Term.{Var}
 use Rattle.cq_term.specs.Meaning.{HeapTerm, at}
 use Rattle.cq_resolve.specs.Joined.{Joined}
-use Rattle.cq_resolve.proofs.Named.{names_bind}
+use Rattle.cq_unify.proofs.Named.{names_bind}
 use Rattle.cq_resolve.proofs.Telling.{joined_quietly, joined_as, joined_other_way, not_less}
 use Rattle.cq_resolve.proofs.joining.join_variable.Goals as goal
 

@@ -2,7 +2,7 @@ use Rattle.std.proofs.Common.{◌≡◌, ◌≤◌, ◌-◌, ◌++◌, ◌∷◌
 use Rattle.std.specs.Prelude.{All}
 use Rattle.cq_frac.specs.declared.VarId.{VarId}
 use Rattle.cq_stored.specs.Pattern.{IsNamedBelow}
-use Rattle.cq_stored.specs.Building.{KeepsNames}
+use Rattle.cq_term.specs.Names.{KeepsNames}
 use Rattle.cq_resolve.specs.Matching.{Call, Matching}
 use Rattle.cq_resolve.proofs.matching.match_head.Given as goal
 
