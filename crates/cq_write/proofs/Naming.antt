@@ -1,17 +1,24 @@
 -- The names of variables by their places.
-use Rattle.std.proofs.Common.{◌≡◌, ℕ, zero, suc, ◌+◌, ◌<◌, ◌≤◌, Bool, true, false, cond, not, List, [], ◌∷◌, ◌++◌, length, take, get_or, Option, Some, None, nat_eq, refl, ap, sym, ◌∙◌, subst, arith, append-nil, length-append, inl, inr, if◌then◌else◌}
-use Rattle.std.specs.Prelude.{MatchOption, filter, slice_index_or, ◌≢◌, ◌||◌}
-use Rattle.std.specs.List.{AllPairs, list_any, position, position_or_len}
-use Rattle.std.proofs.lemmas.Bool.{cases_lt, ne_eqb, cond_below}
-use Rattle.std.proofs.lemmas.List.{get_or_append_left, get_or_push, get_or_default, get_or-take, take_more, length-take-le}
-use Rattle.std.proofs.lemmas.List.Elements.{filter-append}
-use Rattle.cq_frac.specs.declared.VarId.{VarId}
-use Rattle.cq_walk.specs.Places.{numbers_of}
+use Rattle.std.proofs.Common.{◌≡◌, ℕ, suc, ◌+◌, ◌<◌, ◌≤◌, Bool, true, false, cond, not, List, [], ◌∷◌, ◌++◌, length, Option, Some, None, nat_eq, refl, ap, sym, ◌∙◌, subst, arith, append-nil, length-append, inl, inr, if◌then◌else◌}
+use Rattle.std.specs.Prelude.{All, map, MatchOption, filter, slice_index_or, ◌||◌}
+use Rattle.std.specs.List.{list_any, position, position_or_len, sum_by}
+use Rattle.std.proofs.lemmas.Bool.{cases_lt, eqb-true, cond_below}
+use Rattle.std.proofs.lemmas.List.{get_or_append_left, get_or_push}
+use Rattle.std.proofs.lemmas.List.Elements.{All-same, filter-append}
+use Rattle.cq_term.specs.Meaning.{HeapTerm, at}
+use Rattle.cq_term.specs.Shown.{view_of}
+use Rattle.cq_term.specs.declared.view.View.TheVariants as view
+use Rattle.cq_unify.specs.Listing.{variables_through}
+use Rattle.cq_unify.proofs.Listing.{through_visit, through_push}
+use Rattle.cq_walk.proofs.Arguments.{live_push, sizes_pop, sizes_push}
+use Rattle.cq_walk.proofs.Ground.{after_ground}
 use Rattle.spec_lists.proofs.Tests.{nat_eq-sym}
 use Rattle.spec_lists.specs.Texts.{Text}
 use Rattle.spec_terms.specs.VariableName.{VariableName}
+use Rattle.spec_terms.specs.Term.{size}
+use Rattle.spec_terms.specs.Variables.{with_variable}
 use Rattle.spec_writing.specs.Written.{given_name, is_unnamed, shown, counted_name}
-use Rattle.cq_write.specs.Naming.{kept_or, AreFound, with_unnamed}
+use Rattle.cq_write.specs.Naming.{kept_or, AreFound, Opens, with_unnamed}
 
 -- ---- one more name
 given_more : (names : List VariableName) (n : VariableName) (v : ℕ) (f : Text) → given_name names v ≡ Some f → given_name (names ++ n ∷ []) v ≡ Some f
@@ -50,15 +57,16 @@ pub none_given : (names : List VariableName) (g : ℕ → Option ℕ) (v : ℕ) 
 none_given names g v are e = subst (Finds names v) (sym e) (are v)
 
 -- ---- variables without a name
-none_before : (p : ℕ → Bool) (x : ℕ) (ys : List ℕ) → ((k : ℕ) (d : ℕ) → k < length ys → get_or ys k d ≡ x → ⊥) → list_any (nat_eq x) (filter p ys) ≡ false
-none_before p x [] h = refl
-none_before p x (y ∷ ys) h =
-    let other : nat_eq x y ≡ false = ne_eqb x y (λ e. h 0 y (omega arith) (sym e)) in
-    by (p y) other (none_before p x ys (λ k d l e. h (suc k) d (omega arith) e))
+-- such a variable is among those without a name where it is among all
+any_unnamed : (p : ℕ → Bool) (x : ℕ) (ys : List ℕ) → p x ≡ true → list_any (nat_eq x) (filter p ys) ≡ list_any (λ w. nat_eq w x) ys
+any_unnamed p x [] h = refl
+any_unnamed p x (y ∷ ys) h = by (p y) (nat_eq y x) refl refl (nat_eq-sym x y) (any_unnamed p x ys h)
   where
-    by : (b : Bool) → nat_eq x y ≡ false → list_any (nat_eq x) (filter p ys) ≡ false → list_any (nat_eq x) (if b then y ∷ filter p ys else filter p ys) ≡ false
-    by true e f = ap (λ b. b || list_any (nat_eq x) (filter p ys)) e ∙ f
-    by false e f = f
+    by : (b e : Bool) → p y ≡ b → nat_eq y x ≡ e → nat_eq x y ≡ nat_eq y x → list_any (nat_eq x) (filter p ys) ≡ list_any (λ w. nat_eq w x) ys →
+        list_any (nat_eq x) (if b then y ∷ filter p ys else filter p ys) ≡ (e || list_any (λ w. nat_eq w x) ys)
+    by true e q same flip rest = ap (λ b. b || list_any (nat_eq x) (filter p ys)) (flip ∙ same) ∙ ap (λ b. e || b) rest
+    by false true q same flip rest = (let d : false ≡ true = sym q ∙ ap p (eqb-true y x same) ∙ h in cc)
+    by false false q same flip rest = rest
 
 named_is : (names : List VariableName) (x : ℕ) (f : Text) → given_name names x ≡ Some f → is_unnamed names x ≡ false
 named_is names x f e = ap (λ o. elim o [ Some g ↦ false | None ↦ true ]) e
@@ -69,23 +77,45 @@ unnamed_is names x e = ap (λ o. elim o [ Some g ↦ false | None ↦ true ]) e
 filter_last : (p : ℕ → Bool) (xs : List ℕ) (x : ℕ) (b : Bool) → p x ≡ b → filter p (xs ++ x ∷ []) ≡ filter p xs ++ (if b then x ∷ [] else [])
 filter_last p xs x b e = filter-append p xs (x ∷ []) ∙ ap (λ c. filter p xs ++ (if c then x ∷ [] else [])) e
 
-with_by : (names : List VariableName) (xs keys : List ℕ) (x : ℕ) (o : Option ℕ) → list_any (nat_eq x) (filter (is_unnamed names) xs) ≡ false → keys ≡ filter (is_unnamed names) xs → Finds names x o → with_unnamed o keys x ≡ filter (is_unnamed names) (xs ++ x ∷ [])
-with_by names xs keys x (Some i) n e m =
-    e ∙ sym (filter_last (is_unnamed names) xs x false (named_is names x (slice_index_or names i (record { name = []; number = 0 })).name (m.1 (record { name = []; number = 0 }))) ∙ append-nil (filter (is_unnamed names) xs))
-with_by names xs keys x None n e m =
-    ap (λ ks. if list_any (nat_eq x) ks then ks else ks ++ x ∷ []) e ∙ ap (λ b. if b then filter (is_unnamed names) xs else filter (is_unnamed names) xs ++ x ∷ []) n
-    ∙ sym (filter_last (is_unnamed names) xs x true (unnamed_is names x m))
+with_by : (names : List VariableName) (vs keys : List ℕ) (x : ℕ) (o : Option ℕ) → keys ≡ filter (is_unnamed names) vs → Finds names x o → with_unnamed o keys x ≡ filter (is_unnamed names) (with_variable vs x)
+with_by names vs keys x (Some i) e m = e ∙ sym (by (list_any (λ w. nat_eq w x) vs))
+  where
+    none : VariableName
+    none = record { name = []; number = 0 }
 
--- the next variable of a list in which each is there once
-pub unnamed_more : (names : List VariableName) (g : ℕ → Option ℕ) (vs keys : List ℕ) (i x : ℕ) → AllPairs ◌≢◌ vs → AreFound names g → i < length vs → x ≡ get_or vs i x → keys ≡ filter (is_unnamed names) (take i vs) →
-    with_unnamed (g x) keys x ≡ filter (is_unnamed names) (take (i + 1) vs)
-unnamed_more names g vs keys i x once are h e k =
-    with_by names (take i vs) keys x (g x)
-    (none_before (is_unnamed names) x (take i vs) (λ j d l q.
-    let short : j < i = omega (arith, length-take-le i vs (omega arith)) in
-    once j i d short h (sym (get_or-take i vs j d short) ∙ q ∙ e ∙ get_or_default vs i x d h)))
-    k (are x)
-    ∙ ap (filter (is_unnamed names)) (sym (take_more vs i x h ∙ ap (λ y. take i vs ++ y ∷ []) (sym e)))
+    by : (b : Bool) → filter (is_unnamed names) (cond b vs (vs ++ x ∷ [])) ≡ filter (is_unnamed names) vs
+    by true = refl
+    by false = filter_last (is_unnamed names) vs x false (named_is names x (slice_index_or names i none).name (m.1 none)) ∙ append-nil (filter (is_unnamed names) vs)
+with_by names vs keys x None e m =
+    ap (λ ks. if list_any (nat_eq x) ks then ks else ks ++ x ∷ []) e
+    ∙ ap (λ b. if b then filter (is_unnamed names) vs else filter (is_unnamed names) vs ++ x ∷ []) (any_unnamed (is_unnamed names) x vs (unnamed_is names x m))
+    ∙ by (list_any (λ w. nat_eq w x) vs)
+  where
+    by : (b : Bool) → (if b then filter (is_unnamed names) vs else filter (is_unnamed names) vs ++ x ∷ []) ≡ filter (is_unnamed names) (cond b vs (vs ++ x ∷ []))
+    by true = refl
+    by false = sym (filter_last (is_unnamed names) vs x true (unnamed_is names x m))
+
+-- the next variable that is met
+pub unnamed_with : (names : List VariableName) (g : ℕ → Option ℕ) (vs keys : List ℕ) (x : ℕ) → AreFound names g → keys ≡ filter (is_unnamed names) vs → with_unnamed (g x) keys x ≡ filter (is_unnamed names) (with_variable vs x)
+unnamed_with names g vs keys x are e = with_by names vs keys x (g x) e (are x)
+
+-- ---- a compound that is met
+module _ (ts : List HeapTerm) (work new : List ℕ) (id : ℕ) (opens : Opens ts id work new) where
+  pub live_open : All (λ (i : ℕ). i < length ts) work → All (λ (i : ℕ). i < length ts) new
+  live_open live = elim opens [ inl k ↦ All-same (λ (i : ℕ). i < length ts) new work k.1 live | inr p ↦ live_push ts (at ts id) work new live p ]
+
+module _ (ts : List HeapTerm) (old work new : List ℕ) (id f n : ℕ) (is : old ≡ work ++ id ∷ []) (shown : view_of (at ts id) ≡ view.Compound f n) (opens : Opens ts id work new) where
+  pub sizes_open : sum_by size (map (at ts) new) < sum_by size (map (at ts) old)
+  sizes_open = elim opens [
+    | inl k ↦ subst (λ (ids : List ℕ). sum_by size (map (at ts) ids) < sum_by size (map (at ts) old)) (sym k.1) (sizes_pop ts old work id is)
+    | inr p ↦ sizes_push ts old work new id f n is shown p
+  ]
+
+  pub through_open : (vs : List ℕ) → variables_through vs (map (at ts) new) ≡ variables_through vs (map (at ts) old)
+  through_open vs = elim opens [
+    | inl k ↦ ap (λ (ids : List ℕ). variables_through vs (map (at ts) ids)) k.1 ∙ through_visit ts vs vs old work id is (sym (after_ground vs (at ts id) k.0))
+    | inr p ↦ through_push ts vs old work new id f n is shown p
+  ]
 
 -- ---- places
 place_flip : (v : ℕ) (ks : List ℕ) → position_or_len (λ w. nat_eq w v) ks ≡ position_or_len (nat_eq v) ks
@@ -110,8 +140,3 @@ pub shown_counted : (names : List VariableName) (keys : List ℕ) (v count : ℕ
 shown_counted names keys v count e f n =
     ap counted_name (n ∙ sym (place_flip v keys ∙ place_past (nat_eq v) keys f))
     ∙ sym (ap (λ o. elim o [ Some g ↦ g | None ↦ counted_name (position_or_len (λ w. nat_eq w v) keys) ]) e)
-
-pub get_or-numbers : (vs : List VarId) (i : ℕ) → i < length vs → (get_or vs i (record { 0 = 0 })).0 ≡ get_or (numbers_of vs) i (get_or vs i (record { 0 = 0 })).0
-get_or-numbers [] i h = absurd (omega arith)
-get_or-numbers (v ∷ vs) zero h = refl
-get_or-numbers (v ∷ vs) (suc i) h = get_or-numbers vs i (omega arith)

@@ -1,8 +1,11 @@
 -- The names of variables, found by their places.
-use Rattle.std.specs.Prelude.{◌≡◌, ◌<◌, ℕ, Bool, List, length, slice_index_or, nat_eq, Option, Some, None, is_some, MatchOption, if◌then◌else◌}
+use Rattle.std.specs.Prelude.{◌≡◌, ◌<◌, ◌⊎◌, ℕ, Bool, List, length, slice_index_or, nat_eq, Option, Some, None, is_some, MatchOption, if◌then◌else◌}
 use Rattle.indexmap.specs.IndexSet.{insert_key}
 use Rattle.spec_terms.specs.VariableName.{VariableName}
 use Rattle.spec_writing.specs.Written.{given_name}
+use Rattle.cq_term.specs.Meaning.{HeapTerm, at}
+use Rattle.cq_walk.specs.Arguments.{PushesArguments}
+use Rattle.cq_walk.specs.Visits.{IsGround}
 
 -- the place that was noted for a variable, or this one where it is that variable's
 abbrev pub kept_or : Option ℕ → Bool → ℕ → Option ℕ
@@ -16,3 +19,7 @@ AreFound names place = (v : ℕ) → MatchOption (place v) (given_name names v �
 -- the variables without a name, and this one where it has none
 abbrev pub with_unnamed : Option ℕ → List ℕ → ℕ → List ℕ
 with_unnamed place vs v = if is_some place then vs else insert_key nat_eq vs v
+
+-- a compound without variables is left alone; of another one the arguments are at the end of the list
+abbrev pub Opens : List HeapTerm → ℕ → List ℕ → List ℕ → Type 0
+Opens ts id old new = (IsGround (at ts id) × (new ≡ old)) ⊎ PushesArguments ts (at ts id) 0 old new

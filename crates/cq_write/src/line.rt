@@ -70,9 +70,23 @@ fn is_apart(last: Last, text: &str, manner: Manner) -> bool
         || (last.manner.is_prefix && would_bind(last.is_minus, text))
 }
 
+/// The last of these bytes, as a character.
+fn last_byte(bytes: &[u8]) -> Option<char>
+    ensures { result ≡ last_of bytes.now }
+{
+    match bytes.split_last() {
+        None => None,
+        Some((&last, _)) => Some(char::from(last)),
+    }
+}
+
+/// The last character. Most texts are ASCII, where it is the last byte.
 fn last_char(text: &str) -> Option<char>
     ensures { result ≡ last_of (chars text.now) }
 {
+    if text.is_ascii() {
+        return last_byte(text.as_bytes());
+    }
     let mut last = None;
     for c in text.chars() {
         last = Some(c);

@@ -1,18 +1,20 @@
 //! Which name each variable of a term has.
 
-ghost use Rattle.std.specs.Prelude.{◌≡◌, ◌++◌, ◌<◌, OnOk, IfOk, length, filter, string_bytes, ℕ, nat_eq};
+ghost use Rattle.std.specs.Prelude.{◌≡◌, ◌++◌, ◌<◌, OnOk, IfOk, length, filter, string_bytes, ℕ, List, nat_eq};
 ghost use Rattle.indexmap.specs.IndexMap.{get};
 ghost use Rattle.spec_terms.specs.Variables.{variables};
+ghost use Rattle.spec_terms.specs.VariableName.{VariableName};
 ghost use Rattle.spec_writing.specs.Written.{is_unnamed};
 ghost use Rattle.cq_term.specs.Meaning.{at};
-ghost use Rattle.cq_write.specs.Naming.{AreFound, kept_or, with_unnamed};
+ghost use Rattle.cq_term.specs.Shown.{arguments};
+ghost use Rattle.cq_write.specs.Naming.{AreFound, Opens, kept_or, with_unnamed};
 ghost use Rattle.cq_write.specs.Settings.{IsIndexed, shown_by};
 
 use crate::numbers::push_counted;
 use cq_frac::VarId;
 use cq_names::VariableName;
-use cq_term::{Heap, TermId};
-use cq_unify::vars_of;
+use cq_term::{Heap, TermId, View};
+use cq_walk::push_arguments;
 use indexmap::{IndexMap, IndexSet};
 use std::alloc::{AllocError, Global};
 
@@ -61,6 +63,42 @@ fn add(
     Ok(())
 }
 
+/// Adds the arguments of a compound to the work, unless it is known to have no variable.
+fn open(heap: &Heap, id: TermId, arity: usize, work: &mut Vec<TermId>) -> Result<(), AllocError>
+    requires live { id < length heap.now.now.terms }
+    requires arity { length (arguments (at heap.now.now.terms id)) ≡ arity }
+    ensures { OnOk result (Opens heap.now.now.terms id work.old.items work.new.items) }
+{
+    if heap.is_ground(id) {
+        return Ok(());
+    }
+    push_arguments(heap, id, arity, work)
+}
+
+/// The variables of a term without a name, each once, in the order of first occurrence. A part that stands at many places
+/// is walked through at each of them, since it is written at each: so nothing is kept of the parts that were met.
+fn unnamed_of(
+    heap: &Heap,
+    term: TermId,
+    given: &IndexMap<usize, usize>,
+) -> Result<IndexSet<usize>, AllocError>
+    requires { term < length heap.now.now.terms }
+    ensures { IfOk result (λ unnamed. (names : List VariableName) → AreFound names (get nat_eq given.now) → unnamed.keys ≡ filter (is_unnamed names) (variables (at heap.now.now.terms term))) }
+{
+    let mut unnamed = IndexSet::new(heap.alloc());
+    let mut work = vec![in heap.alloc(); term]?;
+    while let Some(id) = work.pop() {
+        match heap.view(id) {
+            View::Var(variable) => {
+                add(&mut unnamed, given, variable.0)?;
+            }
+            View::Number(_) | View::Name(_) => {}
+            View::Compound(_, arity) => open(heap, id, arity, &mut work)?,
+        }
+    }
+    Ok(unnamed)
+}
+
 impl<'a> Names<'a> {
     pub(crate) fn new(
         heap: &Heap,
@@ -73,11 +111,7 @@ impl<'a> Names<'a> {
         ensures unnamed { IfOk result (λ made. made.unnamed.keys ≡ filter (is_unnamed names.now) (variables (at heap.now.now.terms term))) }
     {
         let given = places(heap.alloc(), names)?;
-        let mut unnamed = IndexSet::new(heap.alloc());
-        let variables = vars_of(heap, term)?;
-        for variable in variables.iter() {
-            add(&mut unnamed, &given, variable.0)?;
-        }
+        let unnamed = unnamed_of(heap, term, &given)?;
         Ok(Names {
             names,
             given,
