@@ -3,8 +3,8 @@
 ghost use Rattle.std.specs.Prelude.{◌≡◌, ◌<◌, ◌≤◌, ◌++◌, ℕ, List, length, All, OnOk, Ok, true, false};
 ghost use Rattle.spec_terms.specs.Term.{Number, Name, apply};
 ghost use Rattle.cq_frac.specs.declared.VarId.{VarId};
-ghost use Rattle.cq_term.specs.Meaning.{at};
 ghost use Rattle.cq_term.specs.Names.{KeepsNames};
+ghost use Rattle.cq_term.specs.Meaning.{at};
 ghost use Rattle.cq_stored.specs.Pattern.{IsPattern, IsNamedBelow, term_of};
 ghost use Rattle.cq_stored.specs.Building.{AreThere, image_from};
 ghost use Rattle.cq_resolve.specs.Joined.{Joins, Clash, CanMeet};

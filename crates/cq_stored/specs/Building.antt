@@ -1,9 +1,10 @@
 -- The variables of a pattern as variables of a heap.
-use Rattle.std.specs.Prelude.{◌≡◌, ℕ, ◌+◌, ◌^◌, ◌≤◌, List, length, map, reverse}
+use Rattle.std.specs.Prelude.{◌≡◌, ℕ, ◌+◌, ◌^◌, ◌<◌, ◌≤◌, ◌++◌, List, length, map, reverse}
 use Rattle.spec_terms.specs.Term.{Subst, Var, apply}
 use Rattle.cq_term.specs.HeapValue.{Terms as HeapTerms}
 use Rattle.cq_term.specs.Meaning.{HeapTerm, at}
 use Rattle.cq_term.specs.declared.view.View.{View}
+use Rattle.cq_unify.specs.Copied.{unbound_from}
 use Rattle.cq_stored.specs.Pattern.{put}
 
 -- each number moved by so much
@@ -18,6 +19,12 @@ image_from images first v = at images (first + v)
 pub record AreThere (images : List HeapTerm) (first count : ℕ) : Type 0 where
   pub there : first + count ≤ length images
   pub fits : first + count ≤ 2 ^ 64
+
+-- the images, and some variables behind them, fewer than there were to be
+pub record HasSomeNew (count : ℕ) (old new : List HeapTerm) : Type 0 where
+  pub made : ℕ
+  pub fewer : made < count
+  pub images : new ≡ old ++ unbound_from (length old) made
 
 -- the terms that were built are, the last one first, those of the head over those before, where the heap's variables
 -- from the first one on take the places of the variables

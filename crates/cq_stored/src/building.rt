@@ -1,26 +1,27 @@
 // Terms of a heap that are built from patterns over new variables.
 
-ghost use Rattle.std.specs.Prelude.{◌≡◌, ◌<◌, ◌≤◌, ◌++◌, ℕ, List, length, map, take, drop, reverse, All, IfOk, OnOk};
+ghost use Rattle.std.specs.Prelude.{◌≡◌, ◌<◌, ◌≤◌, ◌++◌, ℕ, List, length, map, take, drop, reverse, All, IfOk, OnOk, OnErr};
 ghost use Rattle.spec_lists.specs.Prefixes.{IsPrefix};
 ghost use Rattle.spec_terms.specs.Term.{Var, apply};
-ghost use Rattle.cq_term.specs.Meaning.{HeapTerm, at};
 ghost use Rattle.cq_term.specs.Names.{KeepsNames};
+ghost use Rattle.cq_term.specs.Meaning.{HeapTerm, at};
 ghost use Rattle.cq_term.specs.declared.view.View.TheVariants.{Compound};
 ghost use Rattle.cq_unify.specs.Copied.{unbound_from};
 ghost use Rattle.cq_stored.specs.Pattern.{IsPattern, IsHead, IsNamedBelow, term_of, put};
-ghost use Rattle.cq_stored.specs.Building.{AreThere, image_from, BuildsOn};
+ghost use Rattle.cq_stored.specs.Building.{AreThere, HasSomeNew, image_from, BuildsOn};
 
 use cq_frac::VarId;
 use cq_term::{Atom, Heap, TermId, View};
 use std::alloc::AllocError;
 
 /// Makes so many variables, the oldest first, and says which number the first has, if there is one. An error is want of
-/// memory; some of them may then stay on the heap, until a mark is undone.
+/// memory; those that were made by then stay on the heap, until a mark is undone.
 pub fn new_variables(heap: &mut Heap, count: usize) -> Result<usize, AllocError>
     ensures first { IfOk result (λ first. 0 < count → first ≡ length heap.old.now.images) }
     ensures there { IfOk result (λ first. AreThere heap.new.now.images first count) }
-    ensures terms { OnOk result (IsPrefix heap.old.now.terms heap.new.now.terms) }
+    ensures terms { IsPrefix heap.old.now.terms heap.new.now.terms }
     ensures images { OnOk result (heap.new.now.images ≡ heap.old.now.images ++ unbound_from (length heap.old.now.images) count) }
+    ensures err { OnErr result (HasSomeNew count heap.old.now.images heap.new.now.images) }
     ensures names { (n : ℕ) → KeepsNames n heap.old.now heap.new.now }
     ensures saved { heap.new.saved ≡ heap.old.saved }
     ensures room { heap.old.room ≤ heap.new.room }
@@ -49,14 +50,14 @@ fn number_of(heap: &Heap, id: TermId) -> usize
 }
 
 /// Builds the term of a pattern, where the heap's variables from the first one on take the places of the pattern's. An
-/// error is want of memory; parts of the term may then stay on the heap, until a mark is undone.
+/// error is want of memory; the parts that were built by then stay on the heap, until a mark is undone.
 pub fn build(heap: &mut Heap, pattern: &[View], first: usize) -> Result<TermId, AllocError>
     requires { (count : ℕ) × IsPattern count pattern.now × AreThere heap.old.now.images first count }
     ensures live { IfOk result (λ id. id < length heap.new.now.terms) }
     ensures built { IfOk result (λ id. at heap.new.now.terms id ≡ apply (image_from heap.old.now.images first) (term_of pattern.now)) }
-    ensures terms { OnOk result (IsPrefix heap.old.now.terms heap.new.now.terms) }
-    ensures images { OnOk result (heap.new.now.images ≡ heap.old.now.images) }
-    ensures names { OnOk result ((n : ℕ) → All (IsNamedBelow n) pattern.now → KeepsNames n heap.old.now heap.new.now) }
+    ensures terms { IsPrefix heap.old.now.terms heap.new.now.terms }
+    ensures images { heap.new.now.images ≡ heap.old.now.images }
+    ensures names { (n : ℕ) → All (IsNamedBelow n) pattern.now → KeepsNames n heap.old.now heap.new.now }
     ensures saved { heap.new.saved ≡ heap.old.saved }
     ensures room { heap.old.room ≤ heap.new.room }
 {
@@ -73,9 +74,9 @@ fn add(heap: &mut Heap, head: View, first: usize, built: &mut Vec<TermId>) -> Re
     requires live { All (λ id. id < length heap.old.now.terms) built.old.items }
     ensures live { OnOk result (All (λ id. id < length heap.new.now.terms) built.new.items) }
     ensures built { OnOk result (BuildsOn heap.old.now heap.new.now first head built.old.items built.new.items) }
-    ensures terms { OnOk result (IsPrefix heap.old.now.terms heap.new.now.terms) }
-    ensures images { OnOk result (heap.new.now.images ≡ heap.old.now.images) }
-    ensures names { OnOk result ((n : ℕ) → IsNamedBelow n head → KeepsNames n heap.old.now heap.new.now) }
+    ensures terms { IsPrefix heap.old.now.terms heap.new.now.terms }
+    ensures images { heap.new.now.images ≡ heap.old.now.images }
+    ensures names { (n : ℕ) → IsNamedBelow n head → KeepsNames n heap.old.now heap.new.now }
     ensures saved { heap.new.saved ≡ heap.old.saved }
     ensures room { heap.old.room ≤ heap.new.room }
 {
@@ -101,9 +102,9 @@ fn add_compound(
     ensures live { OnOk result (All (λ id. id < length heap.new.now.terms) built.new.items) }
     ensures built { OnOk result (map (at heap.new.now.terms) (reverse built.new.items)
         ≡ put (Compound name arity) (map (at heap.old.now.terms) (reverse built.old.items))) }
-    ensures terms { OnOk result (IsPrefix heap.old.now.terms heap.new.now.terms) }
-    ensures images { OnOk result (heap.new.now.images ≡ heap.old.now.images) }
-    ensures names { OnOk result ((n : ℕ) → name < n → KeepsNames n heap.old.now heap.new.now) }
+    ensures terms { IsPrefix heap.old.now.terms heap.new.now.terms }
+    ensures images { heap.new.now.images ≡ heap.old.now.images }
+    ensures names { (n : ℕ) → name < n → KeepsNames n heap.old.now heap.new.now }
     ensures saved { heap.new.saved ≡ heap.old.saved }
     ensures room { heap.old.room ≤ heap.new.room }
 {
