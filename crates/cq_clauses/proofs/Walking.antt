@@ -10,7 +10,7 @@ use Rattle.cq_clauses.specs.Keys.{may_match}
 use Rattle.cq_clauses.specs.Selected.{key_at, matching}
 use Rattle.cq_clauses.specs.Snapshots.{IsSnapshot, KeepsSnapshots, seen}
 use Rattle.cq_clauses.specs.Stored.{IsStore}
-use Rattle.cq_clauses.specs.Walks.{left_ahead, KeepsWalks}
+use Rattle.cq_clauses.specs.Walks.{left_ahead, KeepsReading}
 use Rattle.cq_clauses.proofs.Indexing.{key_before}
 use Rattle.cq_clauses.proofs.Removed.{all_known}
 
@@ -24,10 +24,13 @@ module _ {C : Type 0} (key_of : C → Option Key) (old new : ClausesValue C) (ke
       let is = taken r refl in
       ap (λ ns. r.0 ∷ ns) (ap (matching (key_at key_of new.contents) key) (kept.seen r.1 is) ∙ alike r.1 is key)
 
-  pub keeps_walks : KeepsWalks key_of old new
-  keeps_walks = record {
-    begun = λ w is. record { taken = λ r at. kept.taken r.1 (is.taken r at); known = λ r at. omega (arith, is.known r at, more) };
-    same = λ w is. same_left w.key w.ahead is.taken;
+  pub keeps_reading : KeepsReading key_of old new
+  keeps_reading = record {
+    snapshots = kept;
+    walks = record {
+      begun = λ w is. record { taken = λ r at. kept.taken r.1 (is.taken r at); known = λ r at. omega (arith, is.known r at, more) };
+      same = λ w is. same_left w.key w.ahead is.taken;
+    };
   }
 
 filter_alike : (p q : ℕ → Bool) (count : ℕ) (ns : List ℕ) → All (λ n. n < count) ns → ((n : ℕ) → n < count → p n ≡ q n) → filter p ns ≡ filter q ns

@@ -6,7 +6,7 @@ use Rattle.cq_clauses.specs.declared.procedures.Snapshot.{Snapshot}
 use Rattle.cq_clauses.specs.declared.walk.Walk.{Walk}
 use Rattle.cq_clauses.specs.ClausesValue.{ClausesValue}
 use Rattle.cq_clauses.specs.Selected.{key_at, matching}
-use Rattle.cq_clauses.specs.Snapshots.{IsSnapshot, seen}
+use Rattle.cq_clauses.specs.Snapshots.{IsSnapshot, KeepsSnapshots, seen}
 
 -- the clauses that a snapshot has left to read and that may match a call with this key, by number, in order
 abbrev pub seen_matching : {C : Type 0} → (C → Option Key) → Option Key → Snapshot → ClausesValue C → List ℕ
@@ -29,6 +29,11 @@ pub record IsWalk {C : Type 0} (w : Walk) (v : ClausesValue C) : Type 0 where
 pub record KeepsWalks {C : Type 0} (key_of : C → Option Key) (old new : ClausesValue C) : Type 0 where
   pub begun : (w : Walk) → IsWalk w old → IsWalk w new
   pub same : (w : Walk) → IsWalk w old → left key_of w new ≡ left key_of w old
+
+-- a change of the clauses leaves each snapshot and each walk as it was
+pub record KeepsReading {C : Type 0} (key_of : C → Option Key) (old new : ClausesValue C) : Type 0 where
+  pub snapshots : KeepsSnapshots old.procedures new.procedures
+  pub walks : KeepsWalks key_of old new
 
 -- this tells whether a walk has no clause left, whatever the clauses are
 pub record HasNoneLeft (tells : Bool) (w : Walk) : Type 0 where

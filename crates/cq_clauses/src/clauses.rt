@@ -1,12 +1,13 @@
 // The clauses of a program, with what each holds.
 
-ghost use Rattle.std.specs.Prelude.{◌≡◌, ◌<◌, ◌≤◌, ◌++◌, [], ◌∷◌, All, length, slice_get, Some, IfSome, IfNone, IfOk, OnOk, OnErr};
-ghost use Rattle.cq_clauses.specs.Database.{database, clause_added, clause_removed, declared_dynamic, kind_of, clauses_of};
+ghost use Rattle.std.specs.Prelude.{◌≡◌, ◌<◌, ◌≤◌, [], ◌∷◌, All, length, slice_get, Some, IfSome, IfNone, IfOk, OnOk, OnErr};
+ghost use Rattle.cq_clauses.specs.ClausesValue.{Adds, Declares, Removes};
+ghost use Rattle.cq_clauses.specs.Database.{database, kind_of, clauses_of};
 ghost use Rattle.cq_clauses.specs.Keys.{may_match as matches};
 ghost use Rattle.cq_clauses.specs.Selected.{key_at, matching};
-ghost use Rattle.cq_clauses.specs.Snapshots.{IsSnapshot, KeepsSnapshots, seen};
+ghost use Rattle.cq_clauses.specs.Snapshots.{IsSnapshot, seen};
 ghost use Rattle.cq_clauses.specs.Stored.{IsIndexOf};
-ghost use Rattle.cq_clauses.specs.Walks.{IsWalk, KeepsWalks, left, seen_matching};
+ghost use Rattle.cq_clauses.specs.Walks.{IsWalk, KeepsReading, left, seen_matching};
 ghost use Rattle.cq_clauses.specs.declared.list.End.TheVariants.{First, Last};
 
 use crate::index::Index;
@@ -62,7 +63,8 @@ impl<C: Keyed> Model for Clauses<C> {
 
     ghost view = { λ s. record { contents = map (λ x. x.content) s.stored.items; procedures = s.procedures } };
 
-    ghost invariant = { λ s. IsHeld (map (λ x. x.place) s.stored.items) (key_at C.key_of (map (λ x. x.content) s.stored.items)) s.indexes.list.items s.procedures };
+    ghost invariant = { λ s. IsHeld (map (λ x. x.place) s.stored.items) (key_at C.key_of (map (λ x. x.content) s.stored.items))
+        s.indexes.list.items s.procedures };
 }
 
 impl<C: Keyed + Drop> Clauses<C> {
@@ -82,10 +84,8 @@ impl<C: Keyed + Drop> Clauses<C> {
     /// Adds a clause before the others of its predicate, whose procedure is made with this kind where there is none.
     pub fn add_first(&mut self, pred: Pred, content: C, kind: Kind) -> Result<ClauseNo, AllocError>
         ensures number { IfOk result (λ n. n ≡ length self.old.contents) }
-        ensures contents { OnOk result (self.new.contents ≡ self.old.contents ++ content ∷ []) }
-        ensures database { OnOk result (database self.new.procedures ≡ clause_added First kind pred (length self.old.contents) (database self.old.procedures)) }
-        ensures snapshots { KeepsSnapshots self.old.procedures self.new.procedures }
-        ensures walks { KeepsWalks C.key_of self.old self.new }
+        ensures added { OnOk result (Adds First kind pred content self.old self.new) }
+        ensures reading { KeepsReading C.key_of self.old self.new }
         ensures err { OnErr result (self.new ≡ self.old) }
     {
         self.add(pred, content, kind, End::First)
@@ -94,10 +94,8 @@ impl<C: Keyed + Drop> Clauses<C> {
     /// Adds a clause behind the others of its predicate, whose procedure is made with this kind where there is none.
     pub fn add_last(&mut self, pred: Pred, content: C, kind: Kind) -> Result<ClauseNo, AllocError>
         ensures number { IfOk result (λ n. n ≡ length self.old.contents) }
-        ensures contents { OnOk result (self.new.contents ≡ self.old.contents ++ content ∷ []) }
-        ensures database { OnOk result (database self.new.procedures ≡ clause_added Last kind pred (length self.old.contents) (database self.old.procedures)) }
-        ensures snapshots { KeepsSnapshots self.old.procedures self.new.procedures }
-        ensures walks { KeepsWalks C.key_of self.old self.new }
+        ensures added { OnOk result (Adds Last kind pred content self.old self.new) }
+        ensures reading { KeepsReading C.key_of self.old self.new }
         ensures err { OnErr result (self.new ≡ self.old) }
     {
         self.add(pred, content, kind, End::Last)
@@ -105,10 +103,8 @@ impl<C: Keyed + Drop> Clauses<C> {
 
     fn add(&mut self, pred: Pred, content: C, kind: Kind, end: End) -> Result<ClauseNo, AllocError>
         ensures number { IfOk result (λ n. n ≡ length self.old.contents) }
-        ensures contents { OnOk result (self.new.contents ≡ self.old.contents ++ content ∷ []) }
-        ensures database { OnOk result (database self.new.procedures ≡ clause_added end kind pred (length self.old.contents) (database self.old.procedures)) }
-        ensures snapshots { KeepsSnapshots self.old.procedures self.new.procedures }
-        ensures walks { KeepsWalks C.key_of self.old self.new }
+        ensures added { OnOk result (Adds end kind pred content self.old self.new) }
+        ensures reading { KeepsReading C.key_of self.old self.new }
         ensures err { OnErr result (self.new ≡ self.old) }
     {
         let number = self.stored.len();
@@ -123,10 +119,8 @@ impl<C: Keyed + Drop> Clauses<C> {
     /// Takes a clause away; one that is gone stays gone.
     pub fn remove(&mut self, clause: ClauseNo)
         requires { clause < length self.old.contents }
-        ensures contents { self.new.contents ≡ self.old.contents }
-        ensures database { database self.new.procedures ≡ clause_removed clause (database self.old.procedures) }
-        ensures snapshots { KeepsSnapshots self.old.procedures self.new.procedures }
-        ensures walks { KeepsWalks C.key_of self.old self.new }
+        ensures removed { Removes clause self.old self.new }
+        ensures reading { KeepsReading C.key_of self.old self.new }
     {
         let place = self.stored[clause.number].place;
         self.procedures.remove(place);
@@ -134,10 +128,8 @@ impl<C: Keyed + Drop> Clauses<C> {
 
     /// Lets the program change the predicate's procedure, which is made where there is none.
     pub fn declare_dynamic(&mut self, pred: Pred) -> Result<(), AllocError>
-        ensures contents { self.new.contents ≡ self.old.contents }
-        ensures database { OnOk result (database self.new.procedures ≡ declared_dynamic pred (database self.old.procedures)) }
-        ensures snapshots { KeepsSnapshots self.old.procedures self.new.procedures }
-        ensures walks { KeepsWalks C.key_of self.old self.new }
+        ensures declared { OnOk result (Declares pred self.old self.new) }
+        ensures reading { KeepsReading C.key_of self.old self.new }
         ensures err { OnErr result (self.new ≡ self.old) }
     {
         self.procedures.declare_dynamic(pred)?;

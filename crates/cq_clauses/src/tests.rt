@@ -23,6 +23,15 @@ impl Keyed for Fact {
     }
 }
 
+fn fact_of(key: Option<Key>, number: u32) -> Fact {
+    Fact { key, number }
+}
+
+/// The predicate `name/1`.
+fn of_one(name: Atom) -> Pred {
+    Pred { name, arity: 1 }
+}
+
 /// A change of the clauses of `p/1`.
 #[derive(Clone, Copy)]
 enum Step {
@@ -32,7 +41,8 @@ enum Step {
     Remove(usize),
 }
 
-const EARLY: [Step; 8] = [
+/// Some changes of one predicate, between which snapshots are taken.
+const STEPS: [Step; 20] = [
     Step::Last(1),
     Step::First(2),
     Step::Last(3),
@@ -41,9 +51,6 @@ const EARLY: [Step; 8] = [
     Step::Last(5),
     Step::Remove(0),
     Step::Remove(7),
-];
-
-const LATE: [Step; 12] = [
     Step::First(6),
     Step::Last(7),
     Step::Remove(2),
@@ -75,7 +82,7 @@ fn read(clauses: &Clauses<Fact>, snapshot: Snapshot, alloc: Global) -> Result<Ve
 fn remove(clauses: &mut Clauses<Fact>, name: Atom, place: usize)
     ensures { KeepsSnapshots clauses.old.procedures clauses.new.procedures }
 {
-    let mut rest = clauses.snapshot(Pred { name, arity: 1 });
+    let mut rest = clauses.snapshot(of_one(name));
     let mut left = place;
     while let Some((clause, behind)) = clauses.next(rest) {
         if left == 0 {
@@ -98,25 +105,11 @@ fn change(
 {
     match step {
         Step::First(content) => {
-            clauses.add_first(
-                Pred { name, arity: 1 },
-                Fact {
-                    key: None,
-                    number: content,
-                },
-                Kind::Dynamic,
-            )?;
+            clauses.add_first(of_one(name), fact_of(None, content), Kind::Dynamic)?;
             list.insert(0, content)?;
         }
         Step::Last(content) => {
-            clauses.add_last(
-                Pred { name, arity: 1 },
-                Fact {
-                    key: None,
-                    number: content,
-                },
-                Kind::Dynamic,
-            )?;
+            clauses.add_last(of_one(name), fact_of(None, content), Kind::Dynamic)?;
             list.push(content)?;
         }
         Step::Remove(place) => {
@@ -148,15 +141,13 @@ fn a_snapshot_shows_the_clauses_as_they_were(rt: HostRuntime) -> Result<(), Fail
     let name = Atoms::new(rt.alloc()).intern("p")?;
     let mut clauses = Clauses::new(rt.alloc());
     let mut list = Vec::new(rt.alloc());
-    change_all(&mut clauses, &mut list, name, &EARLY)?;
-    let early = clauses.snapshot(Pred { name, arity: 1 });
+    change_all(&mut clauses, &mut list, name, &STEPS[..8])?;
+    let early = clauses.snapshot(of_one(name));
     let copy = list.clone()?;
-    change_all(&mut clauses, &mut list, name, &LATE)?;
-    let late = clauses.snapshot(Pred { name, arity: 1 });
-    let then = read(&clauses, early, rt.alloc())?;
-    let now = read(&clauses, late, rt.alloc())?;
-    assert_eq!(rt; then, copy);
-    assert_eq!(rt; now, list);
+    change_all(&mut clauses, &mut list, name, &STEPS[8..])?;
+    let late = clauses.snapshot(of_one(name));
+    assert_eq!(rt; read(&clauses, early, rt.alloc())?, copy);
+    assert_eq!(rt; read(&clauses, late, rt.alloc())?, list);
     Ok(())
 }
 
@@ -164,17 +155,10 @@ fn a_snapshot_shows_the_clauses_as_they_were(rt: HostRuntime) -> Result<(), Fail
 fn replace_all(clauses: &mut Clauses<Fact>, name: Atom, content: u32) -> Result<(), AllocError>
     ensures { KeepsSnapshots clauses.old.procedures clauses.new.procedures }
 {
-    let mut rest = clauses.snapshot(Pred { name, arity: 1 });
+    let mut rest = clauses.snapshot(of_one(name));
     while let Some((clause, behind)) = clauses.next(rest) {
         clauses.remove(clause);
-        clauses.add_last(
-            Pred { name, arity: 1 },
-            Fact {
-                key: None,
-                number: content,
-            },
-            Kind::Dynamic,
-        )?;
+        clauses.add_last(of_one(name), fact_of(None, content), Kind::Dynamic)?;
         rest = behind;
     }
     Ok(())
@@ -184,12 +168,12 @@ fn replace_all(clauses: &mut Clauses<Fact>, name: Atom, content: u32) -> Result<
 fn a_call_takes_no_clause_that_is_added_while_it_runs(rt: HostRuntime) -> Result<(), Fail> {
     let name = Atoms::new(rt.alloc()).intern("q")?;
     let mut clauses = Clauses::new(rt.alloc());
-    add(&mut clauses, name, None, 1)?;
-    add(&mut clauses, name, None, 2)?;
-    let before = clauses.snapshot(Pred { name, arity: 1 });
+    add(&mut clauses, name, fact_of(None, 1))?;
+    add(&mut clauses, name, fact_of(None, 2))?;
+    let before = clauses.snapshot(of_one(name));
     replace_all(&mut clauses, name, 9)?;
     let running = read(&clauses, before, rt.alloc())?;
-    let after = clauses.snapshot(Pred { name, arity: 1 });
+    let after = clauses.snapshot(of_one(name));
     let now = read(&clauses, after, rt.alloc())?;
     assert_eq!(rt; running.as_slice(), [1, 2].as_slice());
     assert_eq!(rt; now.as_slice(), [9, 9].as_slice());
@@ -200,23 +184,12 @@ fn a_call_takes_no_clause_that_is_added_while_it_runs(rt: HostRuntime) -> Result
 fn procedures_are_found_by_name_and_arity(rt: HostRuntime) -> Result<(), Fail> {
     let name = Atoms::new(rt.alloc()).intern("p")?;
     let mut clauses = Clauses::new(rt.alloc());
-    let fact = Fact {
-        key: None,
-        number: 10,
-    };
-    let other = Fact {
-        key: None,
-        number: 20,
-    };
-    clauses.add_last(Pred { name, arity: 1 }, fact, Kind::Static)?;
-    clauses.add_last(Pred { name, arity: 2 }, other, Kind::Static)?;
+    clauses.add_last(of_one(name), fact_of(None, 10), Kind::Static)?;
+    clauses.add_last(Pred { name, arity: 2 }, fact_of(None, 20), Kind::Static)?;
     clauses.declare_dynamic(Pred { name, arity: 2 })?;
     let two = clauses.snapshot(Pred { name, arity: 2 });
     let held = read(&clauses, two, rt.alloc())?;
-    assert_eq!(rt;
-        clauses.status_of(Pred { name, arity: 1 }),
-        Some(Kind::Static)
-    );
+    assert_eq!(rt; clauses.status_of(of_one(name)), Some(Kind::Static));
     assert_eq!(rt;
         clauses.status_of(Pred { name, arity: 2 }),
         Some(Kind::Dynamic)
@@ -227,13 +200,8 @@ fn procedures_are_found_by_name_and_arity(rt: HostRuntime) -> Result<(), Fail> {
 }
 
 /// Adds a clause of `name/1` behind the others.
-fn add(
-    clauses: &mut Clauses<Fact>,
-    name: Atom,
-    key: Option<Key>,
-    number: u32,
-) -> Result<(), AllocError> {
-    clauses.add_last(Pred { name, arity: 1 }, Fact { key, number }, Kind::Dynamic)?;
+fn add(clauses: &mut Clauses<Fact>, name: Atom, fact: Fact) -> Result<(), AllocError> {
+    clauses.add_last(of_one(name), fact, Kind::Dynamic)?;
     Ok(())
 }
 
@@ -245,7 +213,7 @@ fn ask(
     alloc: Global,
 ) -> Result<Vec<u32>, AllocError> {
     let mut numbers = Vec::new(alloc);
-    let mut walk = clauses.walk(Pred { name, arity: 1 }, key);
+    let mut walk = clauses.walk(of_one(name), key);
     while let Some(clause) = clauses.step(&mut walk) {
         numbers.push(clauses.content(clause).number)?;
     }
@@ -258,11 +226,11 @@ fn clauses_of_another_key_are_passed_over(rt: HostRuntime) -> Result<(), Fail> {
     let a = atoms.intern("a")?;
     let b = atoms.intern("b")?;
     let mut clauses = Clauses::new(rt.alloc());
-    add(&mut clauses, a, Some(Key::Name(a)), 1)?;
-    add(&mut clauses, a, None, 2)?;
-    add(&mut clauses, a, Some(Key::Name(b)), 3)?;
-    add(&mut clauses, a, Some(Key::Number(Frac::one())), 4)?;
-    add(&mut clauses, a, Some(Key::Compound(b, 1)), 5)?;
+    add(&mut clauses, a, fact_of(Some(Key::Name(a)), 1))?;
+    add(&mut clauses, a, fact_of(None, 2))?;
+    add(&mut clauses, a, fact_of(Some(Key::Name(b)), 3))?;
+    add(&mut clauses, a, fact_of(Some(Key::Number(Frac::one())), 4))?;
+    add(&mut clauses, a, fact_of(Some(Key::Compound(b, 1)), 5))?;
     let name = ask(&mut clauses, a, Some(Key::Name(b)), rt.alloc())?;
     let number = ask(&mut clauses, a, Some(Key::Number(Frac::one())), rt.alloc())?;
     let variable = ask(&mut clauses, a, None, rt.alloc())?;
@@ -274,12 +242,8 @@ fn clauses_of_another_key_are_passed_over(rt: HostRuntime) -> Result<(), Fail> {
 
 fn add_many(clauses: &mut Clauses<Fact>, name: Atom) -> Result<(), AllocError> {
     for number in 0..20 {
-        add(
-            clauses,
-            name,
-            Some(Key::Compound(name, number as usize)),
-            number,
-        )?;
+        let key = Some(Key::Compound(name, number as usize));
+        add(clauses, name, fact_of(key, number))?;
     }
     Ok(())
 }
@@ -290,12 +254,8 @@ fn seven(name: Atom) -> Option<Key> {
 }
 
 fn add_about(clauses: &mut Clauses<Fact>, name: Atom) -> Result<(), AllocError> {
-    let fact = Fact {
-        key: seven(name),
-        number: 100,
-    };
-    clauses.add_first(Pred { name, arity: 1 }, fact, Kind::Dynamic)?;
-    add(clauses, name, None, 200)
+    clauses.add_first(of_one(name), fact_of(seven(name), 100), Kind::Dynamic)?;
+    add(clauses, name, fact_of(None, 200))
 }
 
 #[test]
@@ -316,7 +276,7 @@ fn the_last_clause_is_known_before_it_is_entered(rt: HostRuntime) -> Result<(), 
     let name = Atoms::new(rt.alloc()).intern("p")?;
     let mut clauses = Clauses::new(rt.alloc());
     add_about(&mut clauses, name)?;
-    let mut walk = clauses.walk(Pred { name, arity: 1 }, seven(name));
+    let mut walk = clauses.walk(of_one(name), seven(name));
     assert!(rt; clauses.step(&mut walk).is_some());
     assert!(rt; !walk.is_empty());
     assert!(rt; clauses.step(&mut walk).is_some());
