@@ -1,1 +1,6 @@
 mod Excluded
+mod Predicates
+mod Changes
+mod Instances
+mod Selection
+mod Whole

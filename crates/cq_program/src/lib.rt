@@ -1,6 +1,7 @@
 //! Clauses of a program as calls look for them: by the first argument of the head.
 #![tactic(auto)]
 
+mod laws;
 #[cfg(test)]
 mod tests;
 
@@ -16,6 +17,10 @@ ghost use Rattle.cq_program.specs.Keys.{key_shown, key_of};
 use cq_clauses::{Key, Keyed};
 use cq_stored::{Clause, first_argument};
 use cq_term::{Heap, TermId, View};
+pub use laws::{
+    calls_read_the_database, changes_are_those_of_the_database, clauses_are_counted,
+    programs_stay_programs, walks_select_clauses,
+};
 use std::marker::Model;
 
 /// A clause of a program, which calls find by the first argument of its head.
