@@ -5,11 +5,11 @@ mod numbers;
 mod rows;
 
 ghost use Rattle.std.specs.Prelude.{◌≡◌, ◌++◌, length, IfOk, OnOk};
-ghost use Rattle.spec_answers.specs.Lines.{or_true, lines_text};
-ghost use Rattle.spec_equations.specs.Answer.{Branch, answer_lines as lines_of, binding_lines};
+ghost use Rattle.spec_answers.specs.Lines.{lines_text};
+ghost use Rattle.spec_equations.specs.Answer.{Branch, binding_lines};
 ghost use Rattle.cq_project.specs.Rows.{equations_of};
 ghost use Rattle.cq_answer.specs.Values.{AreValues};
-ghost use Rattle.cq_answer.specs.Lines.{value_text};
+ghost use Rattle.cq_answer.specs.Lines.{value_text, answer_text};
 
 use crate::numbers::push_number;
 use crate::rows::push_row;
@@ -66,7 +66,7 @@ pub fn answer_lines(
     rows: &[Equation],
 ) -> Result<Vec<u8>, AllocError>
     requires { length values.now ≡ length names.now }
-    ensures { IfOk result (λ text. (b : Branch) → AreValues names.now b values.now → text.items ≡ lines_text (or_true (lines_of names.now b (equations_of rows.now)))) }
+    ensures { IfOk result (λ text. (b : Branch) → AreValues names.now b values.now → text.items ≡ answer_text names.now b (equations_of rows.now)) }
 {
     let mut text = value_lines(alloc, names, values)?;
     'rows: for row in rows {

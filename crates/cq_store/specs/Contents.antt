@@ -3,7 +3,7 @@ use Rattle.std.specs.Prelude.{◌≡◌, ℕ, zero, suc, List, [], ◌∷◌, le
 use Rattle.spec_rational.specs.Rational.{ℚ}
 use Rattle.spec_rational.specs.Sums.{Monomial}
 use Rattle.spec_linear.specs.Form.{Linear, variable_form}
-use Rattle.spec_linear.specs.Solution.{Constraint, MentionsOnly}
+use Rattle.spec_linear.specs.Solution.{Constraint, Has, MentionsOnly}
 use Rattle.spec_limits.specs.Dictionary.{Quantity, variable, member}
 use Rattle.spec_echelon.specs.Echelon.{AreDistinct}
 use Rattle.cq_frac.specs.declared.VarId.{VarId}
@@ -46,6 +46,10 @@ abbrev pub place_of_variable : List Name → ℕ → ℕ
 place_of_variable [] x = 0
 place_of_variable (Variable y ∷ names) x = choose (nat_eq y.0 x) 0 (suc (place_of_variable names x))
 place_of_variable (Member ∷ names) x = suc (place_of_variable names x)
+
+-- x is one of the variables, and n is its number
+abbrev pub IsNumberOf : List Name → ℕ → ℕ → Type 0
+IsNumberOf names x n = Has x (variables_of names) × (n ≡ place_of_variable names x)
 
 -- the number of the form of the member at a place, or that of a new quantity
 abbrev pub place_of_member : List Name → ℕ → ℕ

@@ -11,6 +11,7 @@ use Rattle.cq_dict.specs.declared.table.Role.TheVariants.{Live, Basic}
 use Rattle.cq_dict.specs.Roles.{AreOverColumns, Expresses, IsEliminated, FormPair, PivotPair}
 use Rattle.cq_frac.specs.declared.Operation.{Operation}
 use Rattle.cq_frac.specs.declared.Pair.{Pair}
+use Rattle.cq_frac.specs.Refused.{IsRefused as Refuses}
 use Rattle.spec_echelon.specs.Echelon.{AreDistinct}
 use Rattle.cq_store.specs.Told.{new_variables}
 use Rattle.cq_dict.specs.Dict.{SameMeaning, RefusesForm}
@@ -85,3 +86,7 @@ pub data EnteringPair (old : Named) (f : Linear) : Operation → ℚ → ℚ →
       FormPair known.roles (placed (place_of known.names) f.products) f.constant o a b → EnteringPair old f o a b
   in_exchange : (known asked : Named) → AddsVariables old (new_variables (variables_of old.names) f) known → AddsMember known f asked → (column : ℕ) → {o : Operation} {a b : ℚ} →
       PivotPair asked.roles (length known.roles) column o a b → EnteringPair old f o a b
+
+-- one of these operations refuses the pair
+abbrev pub RefusesEntering : Named → Linear → Pair → Type 0
+RefusesEntering old f pair = EnteringPair old f pair.operation pair.left pair.right × Refuses pair

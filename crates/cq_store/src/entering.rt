@@ -3,11 +3,10 @@
 ghost use Rattle.std.specs.Prelude.{◌≡◌, ◌≤◌, ◌+◌, ℕ, [], length, filter, is_none, is_some, vec_len, vec_capacity, IfOk, OnOk};
 ghost use Rattle.spec_linear.specs.Form.{IsForm};
 ghost use Rattle.cq_frac.specs.declared.Pair.{Pair};
-ghost use Rattle.cq_frac.specs.Refused.{IsRefused as Refuses};
 ghost use Rattle.cq_store.specs.Contents.{variables_of, solved_in, number_in};
 ghost use Rattle.cq_store.specs.Told.{numbers_of, new_variables};
 ghost use Rattle.cq_store.specs.Entered.{IfJoined, IfContradiction};
-ghost use Rattle.cq_store.specs.Entering.{AddsVariables, TakesEquation, IsRefused, EnteringPair};
+ghost use Rattle.cq_store.specs.Entering.{AddsVariables, TakesEquation, IsRefused, RefusesEntering};
 
 use crate::store::StoreFault;
 use crate::table::Table;
@@ -69,7 +68,7 @@ fn gather(table: &Table, rest: &[VarId], fixed: &mut Vec<VarId>)
 pub fn enter(alloc: Global, table: &mut Table, form: &Form) -> Result<Entered, StoreFault>
     ensures joined { IfOk result (λ e. IfJoined e (λ fixed. TakesEquation table.old.now form.now (numbers_of fixed) table.new.now)) }
     ensures contradiction { IfOk result (λ e. IfContradiction e (IsRefused table.old.now form.now)) }
-    ensures overflow { (pair : Pair) → result ≡ Err (StoreFault.Overflow pair) → EnteringPair table.old.now form.now pair.operation pair.left pair.right × Refuses pair }
+    ensures overflow { (pair : Pair) → result ≡ Err (StoreFault.Overflow pair) → RefusesEntering table.old.now form.now pair }
     ensures pivots { (n : ℕ) → result ≡ Err (StoreFault.Pivots n) → ⊥ }
     ensures saved { table.new.saved ≡ table.old.saved }
     ensures in_order { IsForm form.now }

@@ -115,7 +115,7 @@ impl Model for Table {
 }
 
 impl Table {
-    ghost use Rattle.cq_store.specs.Contents.{Named, AreNamed, variables_of, place_of, place_of_variable, solved_in, number_in};
+    ghost use Rattle.cq_store.specs.Contents.{Named, AreNamed, variables_of, place_of, IsNumberOf, solved_in, number_in};
     ghost use Rattle.cq_store.specs.Describes.{placed};
     ghost use Rattle.cq_store.specs.Entering.{AddsMember, RefusesMember};
     ghost use Rattle.cq_store.specs.Told.{numbers_of};
@@ -149,7 +149,7 @@ impl Table {
 
     /// The number of a variable.
     pub fn number(&self, x: VarId) -> Option<usize>
-        ensures { MatchOption result (Has x.0 (variables_of self.now.now.names) → ⊥) (λ n. Has x.0 (variables_of self.now.now.names) × (n ≡ place_of_variable self.now.now.names x.0)) }
+        ensures { MatchOption result (Has x.0 (variables_of self.now.now.names) → ⊥) (IsNumberOf self.now.now.names x.0) }
     {
         self.numbers.get(&x).copied()
     }
