@@ -1,0 +1,16 @@
+//! The built-in predicates of one or two terms as they stand: the tests of a type (`var`, `nonvar`, `atom`, `number`,
+//! `rational`, `integer`, `atomic`, `compound`, `callable`, `is_list`), the comparisons in the standard order (`==`,
+//! `\==`, `@<`, `@=<`, `@>`, `@>=`), `arg` and `=..`.
+#![tactic(auto)]
+
+mod arguments;
+mod comparisons;
+mod lists;
+#[cfg(test)]
+mod tests;
+mod types;
+
+pub use arguments::arg;
+pub use comparisons::{Comparison, is_allowed, order};
+pub use lists::univ;
+pub use types::{TypeTest, test};
