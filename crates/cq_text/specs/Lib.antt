@@ -1,0 +1,4 @@
+pub mod Places
+pub mod Ways
+pub mod Arguments
+pub mod Rows
