@@ -168,8 +168,8 @@ fn replace_all(clauses: &mut Clauses<Fact>, name: Atom, content: u32) -> Result<
 fn a_call_takes_no_clause_that_is_added_while_it_runs(rt: HostRuntime) -> Result<(), Fail> {
     let name = Atoms::new(rt.alloc()).intern("q")?;
     let mut clauses = Clauses::new(rt.alloc());
-    add(&mut clauses, name, fact_of(None, 1))?;
-    add(&mut clauses, name, fact_of(None, 2))?;
+    add(&mut clauses, name, None, 1)?;
+    add(&mut clauses, name, None, 2)?;
     let before = clauses.snapshot(of_one(name));
     replace_all(&mut clauses, name, 9)?;
     let running = read(&clauses, before, rt.alloc())?;
@@ -200,8 +200,13 @@ fn procedures_are_found_by_name_and_arity(rt: HostRuntime) -> Result<(), Fail> {
 }
 
 /// Adds a clause of `name/1` behind the others.
-fn add(clauses: &mut Clauses<Fact>, name: Atom, fact: Fact) -> Result<(), AllocError> {
-    clauses.add_last(of_one(name), fact, Kind::Dynamic)?;
+fn add(
+    clauses: &mut Clauses<Fact>,
+    name: Atom,
+    key: Option<Key>,
+    number: u32,
+) -> Result<(), AllocError> {
+    clauses.add_last(of_one(name), Fact { key, number }, Kind::Dynamic)?;
     Ok(())
 }
 
@@ -226,11 +231,11 @@ fn clauses_of_another_key_are_passed_over(rt: HostRuntime) -> Result<(), Fail> {
     let a = atoms.intern("a")?;
     let b = atoms.intern("b")?;
     let mut clauses = Clauses::new(rt.alloc());
-    add(&mut clauses, a, fact_of(Some(Key::Name(a)), 1))?;
-    add(&mut clauses, a, fact_of(None, 2))?;
-    add(&mut clauses, a, fact_of(Some(Key::Name(b)), 3))?;
-    add(&mut clauses, a, fact_of(Some(Key::Number(Frac::one())), 4))?;
-    add(&mut clauses, a, fact_of(Some(Key::Compound(b, 1)), 5))?;
+    add(&mut clauses, a, Some(Key::Name(a)), 1)?;
+    add(&mut clauses, a, None, 2)?;
+    add(&mut clauses, a, Some(Key::Name(b)), 3)?;
+    add(&mut clauses, a, Some(Key::Number(Frac::one())), 4)?;
+    add(&mut clauses, a, Some(Key::Compound(b, 1)), 5)?;
     let name = ask(&mut clauses, a, Some(Key::Name(b)), rt.alloc())?;
     let number = ask(&mut clauses, a, Some(Key::Number(Frac::one())), rt.alloc())?;
     let variable = ask(&mut clauses, a, None, rt.alloc())?;
@@ -243,7 +248,7 @@ fn clauses_of_another_key_are_passed_over(rt: HostRuntime) -> Result<(), Fail> {
 fn add_many(clauses: &mut Clauses<Fact>, name: Atom) -> Result<(), AllocError> {
     for number in 0..20 {
         let key = Some(Key::Compound(name, number as usize));
-        add(clauses, name, fact_of(key, number))?;
+        add(clauses, name, key, number)?;
     }
     Ok(())
 }
@@ -255,7 +260,7 @@ fn seven(name: Atom) -> Option<Key> {
 
 fn add_about(clauses: &mut Clauses<Fact>, name: Atom) -> Result<(), AllocError> {
     clauses.add_first(of_one(name), fact_of(seven(name), 100), Kind::Dynamic)?;
-    add(clauses, name, fact_of(None, 200))
+    add(clauses, name, None, 200)
 }
 
 #[test]

@@ -5,7 +5,7 @@ use Rattle.spec_terms.specs.VariableName.{VariableName}
 use Rattle.spec_writing.specs.Written.{given_name}
 use Rattle.cq_term.specs.Meaning.{HeapTerm, at}
 use Rattle.cq_walk.specs.Arguments.{PushesArguments}
-use Rattle.cq_walk.specs.Visits.{IsGround}
+use Rattle.cq_term.specs.Ground.{IsGround}
 
 -- the place that was noted for a variable, or this one where it is that variable's
 abbrev pub kept_or : Option ℕ → Bool → ℕ → Option ℕ
