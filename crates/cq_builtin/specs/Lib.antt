@@ -1,2 +1,4 @@
 pub mod Rows
 pub mod Offered
+pub mod Over
+pub mod Functors

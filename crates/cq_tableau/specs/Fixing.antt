@@ -1,0 +1,44 @@
+-- The variables whose value is open, and those of them that have a value afterwards.
+use Rattle.std.specs.Prelude.{◌≡◌, ◌⊎◌, ℕ, ◌<◌, List, Some, slice_get}
+use Rattle.spec_rational.specs.Rational.{ℚ}
+use Rattle.spec_linear.specs.Solution.{Constraint, Has, Fixed}
+use Rattle.spec_echelon.specs.Echelon.{AreDistinct}
+use Rattle.cq_frac.specs.declared.VarId.{VarId}
+use Rattle.cq_dict.specs.declared.table.Role.{Role}
+use Rattle.cq_dict.specs.Roles.{Quantities}
+use Rattle.cq_tableau.specs.declared.names.Name.{Name}
+use Rattle.cq_tableau.specs.declared.names.Name.TheVariants.{Variable}
+use Rattle.cq_tableau.specs.Newly.{numbers_of}
+use Rattle.cq_tableau.specs.Stored.{IsStored}
+use Rattle.cq_tableau.specs.Values.{IsOpen, IsNumber}
+
+-- no name stands twice
+abbrev pub AreOnce : List Name → Type 0
+AreOnce names = (m n : ℕ) (t : Name) → slice_get names m ≡ Some t → slice_get names n ≡ Some t → m ≡ n
+
+-- the quantity is no variable's, or has a value
+abbrev pub HasNumber : List Name → List Role → ℕ → Type 0
+HasNumber names roles n = (x : VarId) → slice_get names n ≡ Some (Variable x) → (v : ℚ) × IsNumber roles n v
+
+-- it is the variable's, and open
+abbrev pub IsOpenHere : List Name → List Role → ℕ → VarId → Type 0
+IsOpenHere names roles n x = (slice_get names n ≡ Some (Variable x)) × IsOpen roles n
+
+-- the open variables of the quantities below a number
+pub record AreOpen (names : List Name) (roles : List Role) (count : ℕ) (xs : List VarId) : Type 0 where
+  pub once : AreDistinct (numbers_of xs)
+  pub each : (x : ℕ) → Has x (numbers_of xs) → (n : ℕ) × (n < count) × IsOpenHere names roles n (record { 0 = x })
+  pub all : (n : ℕ) (x : VarId) → n < count → slice_get names n ≡ Some (Variable x) → Has x.0 (numbers_of xs) ⊎ ((v : ℚ) × IsNumber roles n v)
+
+-- the told list gives the variable a value, whatever list is stored
+abbrev pub HasValue : List Name → Quantities → ℕ → Type 0
+HasValue names q x = (told : List Constraint) → IsStored told names q → (v : ℚ) × Fixed told x v
+
+abbrev pub HasNoValue : List Name → Quantities → ℕ → Type 0
+HasNoValue names q x = (told : List Constraint) → IsStored told names q → (v : ℚ) → Fixed told x v → ⊥
+
+-- those of the variables that have a value
+pub record AreFixedNow (names : List Name) (q : Quantities) (before : List VarId) (xs : List VarId) : Type 0 where
+  pub once : AreDistinct (numbers_of before) → AreDistinct (numbers_of xs)
+  pub each : (x : ℕ) → Has x (numbers_of xs) → Has x (numbers_of before) × HasValue names q x
+  pub all : (x : ℕ) → Has x (numbers_of before) → Has x (numbers_of xs) ⊎ HasNoValue names q x

@@ -1,0 +1,14 @@
+pub mod Forms
+pub mod Keeps
+pub mod Raised
+pub mod Stored
+pub mod Numbered
+pub mod Values
+pub mod Newly
+pub mod Refuted
+pub mod Quantities
+pub mod Asking
+pub mod Dropped
+pub mod Looked
+pub mod Fixing
+pub mod Restored
