@@ -1,0 +1,6 @@
+pub mod Operands
+pub mod Names
+pub mod Overflows
+pub mod Found
+pub mod Work
+pub mod Entries
