@@ -12,6 +12,7 @@ use Rattle.spec_arithmetic.specs.Arithmetic.{evaluate, unary_applied, binary_app
 use Rattle.spec_rational.specs.Rational.{ℚ}
 use Rattle.cq_atoms.specs.Texts.{text_of}
 use Rattle.cq_term.specs.Names.{HasNamesBelow}
+use Rattle.cq_term.proofs.Arguments.{both_arguments}
 use Rattle.cq_frac.specs.declared.Pair.{Pair}
 use Rattle.cq_term.specs.Meaning.{HeapTerm, at}
 use Rattle.cq_term.specs.Shown.{view_of, arguments}
@@ -112,15 +113,6 @@ only_argument (Name b) f e = cc
 only_argument (Compound g (one t)) f e = let h : f ≡ g = cc in (t, ap (λ k. Compound k (one t)) (sym h))
 only_argument (Compound g (more t (one u))) f e = let h : ◌≡◌ {A = ℕ} 2 1 = cc in absurd (omega (arith, h))
 only_argument (Compound g (more t (more u us))) f e = let h : suc (suc (count us)) ≡ 1 = cc in absurd (omega (arith, h))
-
-pub both_arguments : (t : HeapTerm) (f : ℕ) → view_of t ≡ view.Compound f 2 → (a : HeapTerm) × (b : HeapTerm) × (t ≡ Compound f (more a (one b)))
-both_arguments (Var v) f e = cc
-both_arguments (Number q) f e = cc
-both_arguments (Name b) f e = cc
-both_arguments (Compound g (one t)) f e = let h : ◌≡◌ {A = ℕ} 1 2 = cc in absurd (omega (arith, h))
-both_arguments (Compound g (more t (one u))) f e = let h : f ≡ g = cc in (t, u, ap (λ k. Compound k (more t (one u))) (sym h))
-both_arguments (Compound g (more t (more u (one w)))) f e = let h : ◌≡◌ {A = ℕ} 3 2 = cc in absurd (omega (arith, h))
-both_arguments (Compound g (more t (more u (more w us)))) f e = let h : suc (suc (suc (count us))) ≡ 2 = cc in absurd (omega (arith, h))
 
 pub has_one : (t : HeapTerm) (f : ℕ) → view_of t ≡ view.Compound f 1 → 0 < length (arguments t)
 has_one t f e = subst (λ u. 0 < length (arguments u)) (sym (only_argument t f e).1) (omega arith)

@@ -1,5 +1,6 @@
 -- An evaluation under way: the operations that wait for a value, the innermost last, and the step that is next.
 use Rattle.std.specs.Prelude.{◌≡◌, ℕ, ◌+◌, ◌*◌, ◌<◌, List, [], ◌∷◌, length, All, ⊤}
+use Rattle.spec_rational.specs.Rational.{ℚ}
 use Rattle.spec_terms.specs.Term.{named, size}
 use Rattle.spec_lists.specs.Texts.{Text}
 use Rattle.spec_arithmetic.specs.Operations.{Evaluated, Value}
@@ -71,3 +72,11 @@ pub record GoesOn (texts : List Text) (ts : List HeapTerm) (old : List Waiting) 
   pub waiting : All (CanResume texts ts) old → All (CanResume texts ts) new
   pub ready : CanTake texts ts next
   pub less : all_work ts new + step_work ts next < all_work ts old + work
+
+-- where a step goes from an id, with the term's work to do
+abbrev pub AfterVisit : List Text → List HeapTerm → ℕ → List Waiting → List Waiting → Step → Type 0
+AfterVisit texts ts id old new next = GoesOn texts ts old (evaluated_at texts ts id) (3 * size (at ts id)) new next
+
+-- where a step goes from a value for an operation that waited, whatever the terms
+abbrev pub TakesValue : Waiting → ℚ → List Waiting → List Waiting → Step → Type 0
+TakesValue w q old new next = (texts : List Text) (ts : List HeapTerm) → CanResume texts ts w → GoesOn texts ts old (resumed texts ts w (Value q)) (waiting_work ts w) new next

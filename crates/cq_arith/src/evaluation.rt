@@ -1,8 +1,8 @@
 // The values of expressions, with the operations under way on a list of their own, so that memory alone bounds the
 // depth of an expression.
 
-ghost use Rattle.std.specs.Prelude.{◌≡◌, ℕ, ◌<◌, ◌*◌, ◌++◌, ◌∷◌, [], List, length, IfOk, IfErr, OnOk};
-ghost use Rattle.spec_terms.specs.Term.{named, size};
+ghost use Rattle.std.specs.Prelude.{◌≡◌, ◌<◌, ◌++◌, ◌∷◌, [], List, length, IfOk, IfErr, OnOk};
+ghost use Rattle.spec_terms.specs.Term.{named};
 ghost use Rattle.spec_lists.specs.Texts.{Text};
 ghost use Rattle.spec_arithmetic.specs.Operations.{Value};
 ghost use Rattle.spec_arithmetic.specs.Arithmetic.{evaluate};
@@ -12,7 +12,7 @@ ghost use Rattle.cq_term.specs.Names.{HasNamesBelow};
 ghost use Rattle.cq_term.specs.Shown.{view_of};
 ghost use Rattle.cq_term.specs.declared.view.View.TheVariants.{Compound};
 ghost use Rattle.cq_arith.specs.Faults.{ComesTo};
-ghost use Rattle.cq_arith.specs.Work.{evaluated_at, resumed, CanResume, GoesOn, waiting_work};
+ghost use Rattle.cq_arith.specs.Work.{evaluated_at, resumed, AfterVisit, TakesValue};
 
 use crate::faults::{EvalError, EvalFault};
 use crate::operations::{binary, binary_operation, unary, unary_operation};
@@ -79,7 +79,7 @@ fn visit(
 ) -> Result<Step, EvalFault>
     requires live { id < length heap.now.now.terms }
     requires names { HasNamesBelow (length atoms.now) (at heap.now.now.terms id) }
-    ensures goes_on { IfOk result (λ next. GoesOn atoms.now heap.now.now.terms under_way.old.items (evaluated_at atoms.now heap.now.now.terms id) (3 * size (at heap.now.now.terms id)) under_way.new.items next) }
+    ensures goes_on { IfOk result (λ next. AfterVisit atoms.now heap.now.now.terms id under_way.old.items under_way.new.items next) }
     ensures fault { IfErr result (λ fault. ComesTo atoms.now (evaluated_at atoms.now heap.now.now.terms id) fault) }
 {
     match heap.view(id) {
@@ -115,7 +115,7 @@ fn visit_one(
     requires live { id < length heap.now.now.terms }
     requires names { HasNamesBelow (length atoms.now) (at heap.now.now.terms id) }
     requires shown { view_of (at heap.now.now.terms id) ≡ Compound name 1 }
-    ensures goes_on { IfOk result (λ next. GoesOn atoms.now heap.now.now.terms under_way.old.items (evaluated_at atoms.now heap.now.now.terms id) (3 * size (at heap.now.now.terms id)) under_way.new.items next) }
+    ensures goes_on { IfOk result (λ next. AfterVisit atoms.now heap.now.now.terms id under_way.old.items under_way.new.items next) }
     ensures fault { IfErr result (λ fault. ComesTo atoms.now (evaluated_at atoms.now heap.now.now.terms id) fault) }
 {
     let Some(operation) = unary_operation(atoms.text(name)) else {
@@ -137,7 +137,7 @@ fn visit_two(
     requires live { id < length heap.now.now.terms }
     requires names { HasNamesBelow (length atoms.now) (at heap.now.now.terms id) }
     requires shown { view_of (at heap.now.now.terms id) ≡ Compound name 2 }
-    ensures goes_on { IfOk result (λ next. GoesOn atoms.now heap.now.now.terms under_way.old.items (evaluated_at atoms.now heap.now.now.terms id) (3 * size (at heap.now.now.terms id)) under_way.new.items next) }
+    ensures goes_on { IfOk result (λ next. AfterVisit atoms.now heap.now.now.terms id under_way.old.items under_way.new.items next) }
     ensures fault { IfErr result (λ fault. ComesTo atoms.now (evaluated_at atoms.now heap.now.now.terms id) fault) }
 {
     let Some(operation) = binary_operation(atoms.text(name)) else {
@@ -159,7 +159,7 @@ fn wait(under_way: &mut Vec<Waiting>, waiting: Waiting) -> Result<(), AllocError
 
 /// Gives the value to an operation.
 fn resume(waiting: Waiting, value: Frac, under_way: &mut Vec<Waiting>) -> Result<Step, EvalFault>
-    ensures goes_on { IfOk result (λ next. (texts : List Text) (ts : List HeapTerm) → CanResume texts ts waiting → GoesOn texts ts under_way.old.items (resumed texts ts waiting (Value value)) (waiting_work ts waiting) under_way.new.items next) }
+    ensures goes_on { IfOk result (λ next. TakesValue waiting value under_way.old.items under_way.new.items next) }
     ensures fault { IfErr result (λ fault. (texts : List Text) (ts : List HeapTerm) → ComesTo texts (resumed texts ts waiting (Value value)) fault) }
 {
     match waiting {

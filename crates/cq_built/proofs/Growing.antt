@@ -14,7 +14,7 @@ use Rattle.cq_term.specs.Names.{HasNamesBelow}
 use Rattle.cq_term.specs.HeapValue.{HeapValue}
 use Rattle.cq_term.proofs.Known.{names_more}
 use Rattle.cq_term.proofs.Kept.{get_last}
-use Rattle.cq_kinds.specs.Trees.{KnowsTerms}
+use Rattle.cq_term.specs.Trees.{KnowsTerms}
 use Rattle.cq_built.specs.Growing.{Grows}
 
 pub longer_by_text : (texts more : List Text) (text : Text) → more ≡ with_text texts text → IsPrefix texts more

@@ -1,7 +1,7 @@
 -- Trees of terms that were there before, and of terms that were built over them.
 use Rattle.std.proofs.Common.{◌≡◌, ℕ, ◌<◌, List, [], ◌∷◌, ◌++◌, map, length, Some, refl, ap, sym, ◌∙◌}
 use Rattle.std.specs.Prelude.{All, slice_get}
-use Rattle.std.proofs.lemmas.Option.{slice_get_within, get_or_from_slice_get}
+use Rattle.std.proofs.lemmas.Option.{slice_get_within}
 use Rattle.std.proofs.lemmas.List.{get_or_push}
 use Rattle.std.proofs.lemmas.List.Elements.{All-head, All-tail, All-map, All-weaker, All-get_or}
 use Rattle.spec_lists.specs.Texts.{Text}
@@ -13,7 +13,8 @@ use Rattle.cq_term.specs.Meaning.{HeapTerm, at, blank}
 use Rattle.cq_term.specs.Names.{HasNamesBelow, HaveNamesBelow}
 use Rattle.cq_term.specs.HeapValue.{HeapValue}
 use Rattle.cq_term.proofs.Known.{names_over}
-use Rattle.cq_kinds.specs.Trees.{tree, trees, KnowsTerms}
+use Rattle.cq_term.proofs.Named.{text_is}
+use Rattle.cq_term.specs.Trees.{tree, trees, KnowsTerms}
 use Rattle.cq_term.specs.declared.names.Pred.{Pred}
 use Rattle.spec_built.specs.Built.{indicator}
 use Rattle.cq_built.specs.Growing.{Grows}
@@ -56,9 +57,6 @@ module _ (texts more : List Text) (old new : HeapValue) (grows : Grows texts old
 -- the term that came last
 pub tree_last : (texts : List Text) (ts us : List HeapTerm) (t : HeapTerm) (id : ℕ) → us ≡ ts ++ t ∷ [] → id ≡ length ts → tree texts us id ≡ named (text_of texts) t
 tree_last texts ts us t id longer last = ap (named (text_of texts)) (ap (λ xs. at xs id) longer ∙ get_or_push ts t blank id (sym last))
-
-pub text_is : (texts : List Text) (name : ℕ) (text : Text) → slice_get texts name ≡ Some text → text_of texts name ≡ text
-text_is texts name text e = get_or_from_slice_get texts name text [] e
 
 pub name_known : (texts : List Text) (name : ℕ) (text : Text) → slice_get texts name ≡ Some text → name < length texts
 name_known texts name text e = slice_get_within texts name text e

@@ -2,14 +2,14 @@
 use Rattle.std.specs.Prelude.{◌≡◌, ◌<◌, List, codes, length, ⊤}
 use Rattle.spec_lists.specs.Texts.{Text}
 use Rattle.spec_terms.specs.Term as term
-use Rattle.spec_syntax.specs.Trees.{Tree}
+use Rattle.spec_syntax.specs.Trees.{Tree, binary}
 use Rattle.spec_built.specs.Built.{Indicator, indicator, indicator_term, atom, compound1, compound2, compound3}
-use Rattle.spec_built.specs.Errors.{instantiation, existence_error}
+use Rattle.spec_built.specs.Errors.{instantiation, existence_error, error_ball}
 use Rattle.spec_builtins.specs.Alternatives.{Solutions, Faults}
 use Rattle.cq_atoms.specs.Texts.{text_of}
 use Rattle.cq_term.specs.Meaning.{HeapTerm}
 use Rattle.cq_term.specs.declared.names.Pred.{Pred}
-use Rattle.cq_kinds.specs.Trees.{tree}
+use Rattle.cq_term.specs.Trees.{tree}
 use Rattle.cq_built.specs.declared.errors.ValidType.{ValidType}
 use Rattle.cq_built.specs.declared.errors.ValidType.TheVariants as type
 use Rattle.cq_built.specs.declared.errors.ValidDomain.{ValidDomain}
@@ -73,6 +73,10 @@ culprit_tree texts ts (culprit.Term id) = tree texts ts id
 culprit_tree texts ts (culprit.Number q) = term.Number q
 culprit_tree texts ts (culprit.Predicate p) = indicator_term (indicator_of texts p)
 
+-- a name over what was wanted and the culprit
+abbrev pub blaming_tree : List Text → List HeapTerm → Text → Text → Culprit → Tree
+blaming_tree texts ts name wanted c = binary name (term.Name wanted) (culprit_tree texts ts c)
+
 -- it is there, and its name, if it has one of its own, has a text
 abbrev pub IsThere : List Text → List HeapTerm → Culprit → Type 0
 IsThere texts ts (culprit.Term id) = id < length ts
@@ -91,6 +95,10 @@ error_tree texts ts (error.Permission k c) = compound3 "permission_error" (term.
 error_tree texts ts (error.UnknownProcedure p) = existence_error (indicator_of texts p)
 error_tree texts ts error.ZeroDivisor = compound1 "evaluation_error" (atom "zero_divisor")
 error_tree texts ts error.IllegalNumber = compound1 "syntax_error" (atom "illegal_number")
+
+-- the error at a goal, as it is raised
+abbrev pub ball_tree : List Text → List HeapTerm → BuiltinError → Pred → Tree
+ball_tree texts ts e goal = error_ball (error_tree texts ts e) (indicator_of texts goal)
 
 -- its culprit is there
 abbrev pub HasCulprit : List Text → List HeapTerm → BuiltinError → Type 0

@@ -3,7 +3,7 @@ use Rattle.std.specs.Prelude.{◌≡◌, ◌≤◌, List}
 use Rattle.spec_lists.specs.Texts.{Text}
 use Rattle.spec_lists.specs.Prefixes.{IsPrefix}
 use Rattle.cq_term.specs.HeapValue.{HeapValue}
-use Rattle.cq_kinds.specs.Trees.{KnowsTerms}
+use Rattle.cq_term.specs.Trees.{KnowsTerms}
 
 -- names and terms were added, and no more: older ones and the variables stand as they did, the heap's marks with their room
 -- too, and the names in its terms stay known

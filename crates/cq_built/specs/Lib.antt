@@ -1,3 +1,4 @@
 pub mod Growing
 pub mod Errors
 pub mod Offered
+pub mod Trees

@@ -5,7 +5,7 @@ use Rattle.spec_terms.specs.Unifier.{Equation}
 use Rattle.spec_builtins.specs.Alternatives.{◌≐◌}
 use Rattle.spec_builtins.specs.Alternatives as definition
 use Rattle.cq_term.specs.Meaning.{HeapTerm}
-use Rattle.cq_kinds.specs.Trees.{tree}
+use Rattle.cq_term.specs.Trees.{tree}
 use Rattle.cq_walk.specs.declared.pairs.Pair.{Pair}
 use Rattle.cq_built.specs.declared.alternatives.Alternative.{Alternative}
 

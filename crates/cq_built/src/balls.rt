@@ -1,14 +1,13 @@
 // The terms of errors.
 
-ghost use Rattle.std.specs.Prelude.{◌≡◌, ◌<◌, ◌≤◌, length, IfOk, OnErr};
-ghost use Rattle.spec_terms.specs.Term.{Name, Compound, one, more};
-ghost use Rattle.spec_syntax.specs.Trees.{unary, binary};
+ghost use Rattle.std.specs.Prelude.{◌≡◌, ◌<◌, length, IfOk, OnErr};
+ghost use Rattle.spec_terms.specs.Term.{Name};
+ghost use Rattle.spec_syntax.specs.Trees.{unary};
 ghost use Rattle.spec_built.specs.Built.{indicator_term};
-ghost use Rattle.spec_built.specs.Errors.{error_ball};
 ghost use Rattle.cq_atoms.specs.Texts.{text_of};
-ghost use Rattle.cq_kinds.specs.Trees.{tree, KnowsTerms};
+ghost use Rattle.cq_term.specs.Trees.{tree, KnowsTerms};
 ghost use Rattle.cq_built.specs.Growing.{Grows};
-ghost use Rattle.cq_built.specs.Errors.{error_tree, culprit_tree, indicator_of, HasCulprit, IsThere};
+ghost use Rattle.cq_built.specs.Errors.{ball_tree, blaming_tree, error_tree, culprit_tree, indicator_of, HasCulprit, IsThere};
 
 use crate::building::{atom, compound, over_two, whole};
 use crate::errors::{BuiltinError, Culprit, Permission};
@@ -28,7 +27,7 @@ pub fn ball(
     requires culprit { HasCulprit atoms.old heap.old.now.terms error }
     requires goal { goal.name < length atoms.old }
     ensures live { IfOk result (λ id. id < length heap.new.now.terms) }
-    ensures built { IfOk result (λ id. tree atoms.new heap.new.now.terms id ≡ error_ball (error_tree atoms.old heap.old.now.terms error) (indicator_of atoms.old goal)) }
+    ensures built { IfOk result (λ id. tree atoms.new heap.new.now.terms id ≡ ball_tree atoms.old heap.old.now.terms error goal) }
     ensures grows { Grows atoms.old heap.old atoms.new heap.new }
     ensures err { OnErr result (heap.new.now ≡ heap.old.now) }
 {
@@ -56,7 +55,7 @@ fn raised(
     requires culprit { HasCulprit atoms.old heap.old.now.terms error }
     requires goal { goal.name < length atoms.old }
     ensures live { IfOk result (λ id. id < length heap.new.now.terms) }
-    ensures built { IfOk result (λ id. tree atoms.new heap.new.now.terms id ≡ error_ball (error_tree atoms.old heap.old.now.terms error) (indicator_of atoms.old goal)) }
+    ensures built { IfOk result (λ id. tree atoms.new heap.new.now.terms id ≡ ball_tree atoms.old heap.old.now.terms error goal) }
     ensures grows { Grows atoms.old heap.old atoms.new heap.new }
 {
     let term = error_term(heap, atoms, error)?;
@@ -148,7 +147,7 @@ fn blaming(
     requires names { KnowsTerms atoms.old heap.old.now.terms }
     requires culprit { IsThere atoms.old heap.old.now.terms blamed }
     ensures live { IfOk result (λ id. id < length heap.new.now.terms) }
-    ensures built { IfOk result (λ id. tree atoms.new heap.new.now.terms id ≡ binary text.now (Name kind.now) (culprit_tree atoms.old heap.old.now.terms blamed)) }
+    ensures built { IfOk result (λ id. tree atoms.new heap.new.now.terms id ≡ blaming_tree atoms.old heap.old.now.terms text.now kind.now blamed) }
     ensures grows { Grows atoms.old heap.old atoms.new heap.new }
 {
     let culprit = culprit_term(heap, atoms, blamed)?;

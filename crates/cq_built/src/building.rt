@@ -1,10 +1,11 @@
 // Terms of a heap that are built by the texts of their names.
 
-ghost use Rattle.std.specs.Prelude.{◌≡◌, ◌<◌, ◌≤◌, List, All, length, IfOk};
+ghost use Rattle.std.specs.Prelude.{◌≡◌, ◌<◌, All, length, IfOk};
 ghost use Rattle.spec_terms.specs.Term.{Name, with_arguments};
-ghost use Rattle.spec_syntax.specs.Trees.{natural, binary, list_tree};
-ghost use Rattle.cq_kinds.specs.Trees.{tree, trees, KnowsTerms};
+ghost use Rattle.spec_syntax.specs.Trees.{natural, list_tree};
+ghost use Rattle.cq_term.specs.Trees.{tree, trees, KnowsTerms};
 ghost use Rattle.cq_built.specs.Growing.{Grows};
+ghost use Rattle.cq_built.specs.Trees.{binary_tree};
 
 use cq_atoms::Atoms;
 use cq_frac::Frac;
@@ -65,7 +66,7 @@ pub(crate) fn over_two(
     requires second { second < length heap.old.now.terms }
     requires names { KnowsTerms atoms.old heap.old.now.terms }
     ensures live { IfOk result (λ id. id < length heap.new.now.terms) }
-    ensures built { IfOk result (λ id. tree atoms.new heap.new.now.terms id ≡ binary text.now (tree atoms.old heap.old.now.terms first) (tree atoms.old heap.old.now.terms second)) }
+    ensures built { IfOk result (λ id. tree atoms.new heap.new.now.terms id ≡ binary_tree atoms.old heap.old.now.terms text.now first second) }
     ensures grows { Grows atoms.old heap.old atoms.new heap.new }
 {
     compound(heap, atoms, text, &[first, second])

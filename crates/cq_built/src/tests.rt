@@ -1,9 +1,9 @@
 // The term of each error, and a list: what the contracts leave out is that they are made where there is memory.
 
-ghost use Rattle.std.specs.Prelude.{◌≡◌, ◌<◌, List, length};
+ghost use Rattle.std.specs.Prelude.{◌<◌, List, length};
 ghost use Rattle.spec_lists.specs.Texts.{Text};
 ghost use Rattle.cq_term.specs.Meaning.{HeapTerm};
-ghost use Rattle.cq_kinds.specs.Trees.{KnowsTerms};
+ghost use Rattle.cq_term.specs.Trees.{KnowsTerms};
 ghost use Rattle.cq_built.specs.Errors.{HasCulprit};
 
 use crate::{

@@ -1,5 +1,5 @@
 -- What terms show of themselves, as trees.
-use Rattle.std.proofs.Common.{◌≡◌, ℕ, zero, suc, ◌-◌, ◌<◌, List, [], ◌∷◌, map, length, Some, None, refl, ap, sym, ◌∙◌, subst, arith}
+use Rattle.std.proofs.Common.{◌≡◌, ℕ, zero, suc, ◌-◌, ◌<◌, List, [], ◌∷◌, map, length, Some, None, refl, ap, sym, ◌∙◌, arith}
 use Rattle.std.specs.Prelude.{slice_get}
 use Rattle.std.specs.Option.{option_map}
 use Rattle.std.proofs.lemmas.Option.{slice_get-map}
@@ -11,11 +11,10 @@ use Rattle.spec_builtins.specs.Alternatives.{Offers, ◌≐◌, one_way}
 use Rattle.spec_builtins.specs.Terms.{univ_row, arguments, argument_at, is_argument}
 use Rattle.cq_atoms.specs.Texts.{text_of}
 use Rattle.cq_term.specs.Meaning.{HeapTerm, at}
-use Rattle.cq_term.specs.Names.{HasNamesBelow}
 use Rattle.cq_term.specs.Shown.{view_of}
 use Rattle.cq_term.specs.Shown as shown
 use Rattle.cq_term.specs.declared.view.View.TheVariants as view
-use Rattle.cq_kinds.specs.Trees.{tree, trees}
+use Rattle.cq_term.specs.Trees.{tree, trees}
 use Rattle.cq_built.proofs.Trees.{trees_map}
 
 module _ (g : ℕ → Text) where
@@ -40,18 +39,6 @@ module _ (g : ℕ → Text) where
   univ-compound (Number q) f n l e = cc
   univ-compound (Name a) f n l e = cc
   univ-compound (Compound k ts) f n l e = (let h : k ≡ f = cc in λ i. one_way ((l ≐ list_tree (Name (g (h i)) ∷ list_of-named ts i)) ∷ []))
-
-pub name_below : (n : ℕ) (t : HeapTerm) (a : ℕ) → view_of t ≡ view.Name a → HasNamesBelow n t → a < n
-name_below n (Var v) a e h = cc
-name_below n (Number q) a e h = cc
-name_below n (Name b) a e h = (let s : b ≡ a = cc in subst (λ x. x < n) s h)
-name_below n (Compound f ts) a e h = cc
-
-pub functor_below : (n : ℕ) (t : HeapTerm) (f k : ℕ) → view_of t ≡ view.Compound f k → HasNamesBelow n t → f < n
-functor_below n (Var v) f k e h = cc
-functor_below n (Number q) f k e h = cc
-functor_below n (Name b) f k e h = cc
-functor_below n (Compound g ts) f k e h = (let s : g ≡ f = cc in subst (λ x. x < n) s h.0)
 
 -- ---- arguments by their places
 module _ (texts : List Text) (ts : List HeapTerm) (term argument : ℕ) (ids : List ℕ) (same : map (at ts) ids ≡ shown.arguments (at ts term)) where

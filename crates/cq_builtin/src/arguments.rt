@@ -2,11 +2,9 @@
 
 ghost use Rattle.std.specs.Prelude.{◌≡◌, ◌<◌, List, length, IfOk, IfErr};
 ghost use Rattle.spec_lists.specs.Texts.{Text};
-ghost use Rattle.spec_builtins.specs.Alternatives.{Faults};
-ghost use Rattle.spec_builtins.specs.Terms.{arg_row, is_argument, argument_at, arguments};
-ghost use Rattle.cq_kinds.specs.Trees.{tree};
-ghost use Rattle.cq_built.specs.Errors.{error_tree, HasCulprit};
+ghost use Rattle.cq_built.specs.Errors.{HasCulprit};
 ghost use Rattle.cq_builtin.specs.Offered.{offered_pair, IsLiveOrNone};
+ghost use Rattle.cq_builtin.specs.Terms.{GivesError, arg_of, argument_of};
 
 use cq_built::{BuiltinError, Culprit, ValidDomain, ValidType};
 use cq_kinds::{is_below_zero, is_compound, is_integer, is_variable, natural_of};
@@ -24,8 +22,8 @@ pub fn arg(
     requires number { number < length heap.now.now.terms }
     requires term { term < length heap.now.now.terms }
     requires argument { argument < length heap.now.now.terms }
-    ensures offered { IfOk result (λ o. (texts : List Text) → let t = tree texts heap.now.now.terms in arg_row (t number) (t term) (t argument) ≡ offered_pair texts heap.now.now.terms o) }
-    ensures error { IfErr result (λ e. (texts : List Text) → let t = tree texts heap.now.now.terms in arg_row (t number) (t term) (t argument) ≡ Faults (error_tree texts heap.now.now.terms e)) }
+    ensures offered { IfOk result (λ o. (texts : List Text) → arg_of texts heap.now.now.terms number term argument ≡ offered_pair texts heap.now.now.terms o) }
+    ensures error { IfErr result (λ e. (texts : List Text) → GivesError texts heap.now.now.terms (arg_of texts heap.now.now.terms number term argument) e) }
     ensures live { IfOk result (IsLiveOrNone heap.now.now.terms) }
     ensures culprit { IfErr result (λ e. (texts : List Text) → HasCulprit texts heap.now.now.terms e) }
 {
@@ -51,7 +49,7 @@ pub fn arg(
 fn argument_there(heap: &Heap, number: u128, term: TermId, argument: TermId) -> Option<Pair>
     requires term { term < length heap.now.now.terms }
     requires argument { argument < length heap.now.now.terms }
-    ensures offered { (texts : List Text) → is_argument (argument_at number (arguments (tree texts heap.now.now.terms term))) (tree texts heap.now.now.terms argument) ≡ offered_pair texts heap.now.now.terms result }
+    ensures offered { (texts : List Text) → argument_of texts heap.now.now.terms number term argument ≡ offered_pair texts heap.now.now.terms result }
     ensures live { IsLiveOrNone heap.now.now.terms result }
 {
     let arguments = heap.args(term);

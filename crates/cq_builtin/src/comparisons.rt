@@ -2,9 +2,9 @@
 
 ghost use Rattle.std.specs.Prelude.{◌≡◌, ◌<◌, length, IfOk};
 ghost use Rattle.spec_builtins.specs.Alternatives.{allows, holds_if};
-ghost use Rattle.spec_builtins.specs.Terms.{order_row};
-ghost use Rattle.cq_kinds.specs.Trees.{tree, KnowsTerms};
+ghost use Rattle.cq_term.specs.Trees.{KnowsTerms};
 ghost use Rattle.cq_builtin.specs.Rows.{comparison_of};
+ghost use Rattle.cq_builtin.specs.Terms.{order_of};
 
 use cq_atoms::Atoms;
 use cq_order::compare;
@@ -34,7 +34,7 @@ pub fn order(
     requires left { left < length heap.now.now.terms }
     requires right { right < length heap.now.now.terms }
     requires names { KnowsTerms atoms.now heap.now.now.terms }
-    ensures { IfOk result (λ holds. holds_if holds ≡ order_row (comparison_of comparison) (tree atoms.now heap.now.now.terms left) (tree atoms.now heap.now.now.terms right)) }
+    ensures { IfOk result (λ holds. holds_if holds ≡ order_of atoms.now heap.now.now.terms comparison left right) }
 {
     let order = compare(heap, atoms, left, right)?;
     Ok(is_allowed(comparison, order))

@@ -1,19 +1,17 @@
 // =..: a term and the list of its name and its arguments.
 
-ghost use Rattle.std.specs.Prelude.{◌≡◌, ℕ, ◌<◌, [], ◌∷◌, map, length, All, IfOk, IfErr, OnErr};
+ghost use Rattle.std.specs.Prelude.{◌≡◌, ℕ, ◌<◌, ◌∷◌, map, length, All, IfOk, IfErr, OnErr};
 ghost use Rattle.spec_terms.specs.Term.{Var};
-ghost use Rattle.spec_syntax.specs.Trees.{list_tree};
 ghost use Rattle.spec_built.specs.Built.{atom};
-ghost use Rattle.spec_builtins.specs.Alternatives.{◌≐◌, one_way};
-ghost use Rattle.spec_builtins.specs.Terms.{univ_row, univ_built};
 ghost use Rattle.cq_term.specs.Meaning.{at};
 ghost use Rattle.cq_term.specs.Shown.{view_of, arguments};
 ghost use Rattle.cq_term.specs.declared.view.View.TheVariants.{Compound};
 ghost use Rattle.cq_walk.specs.Pairs.{IsLive};
-ghost use Rattle.cq_kinds.specs.Trees.{tree, trees, KnowsTerms};
+ghost use Rattle.cq_term.specs.Trees.{tree, KnowsTerms};
 ghost use Rattle.cq_built.specs.Growing.{Grows};
 ghost use Rattle.cq_built.specs.Errors.{Explains, CanBeRaised};
 ghost use Rattle.cq_built.specs.Offered.{equation_of};
+ghost use Rattle.cq_builtin.specs.Terms.{OffersPair, univ_of, univ_built_of, list_of_one};
 
 use cq_atoms::Atoms;
 use cq_built::{BuiltinError, BuiltinFault, Culprit, ValidDomain, ValidType, list as list_of};
@@ -33,9 +31,9 @@ pub fn univ(
     requires term { term < length heap.old.now.terms }
     requires list { list < length heap.old.now.terms }
     requires names { KnowsTerms atoms.old heap.old.now.terms }
-    ensures offered { IfOk result (λ p. let t = tree atoms.old heap.old.now.terms in univ_row (t term) (t list) ≡ one_way (equation_of atoms.new heap.new.now.terms p ∷ [])) }
+    ensures offered { IfOk result (OffersPair atoms.new heap.new.now.terms (univ_of atoms.old heap.old.now.terms term list)) }
     ensures live { IfOk result (IsLive heap.new.now.terms) }
-    ensures fault { IfErr result (let t = tree atoms.old heap.old.now.terms in Explains atoms.old heap.old.now.terms (univ_row (t term) (t list))) }
+    ensures fault { IfErr result (Explains atoms.old heap.old.now.terms (univ_of atoms.old heap.old.now.terms term list)) }
     ensures culprit { IfErr result (CanBeRaised atoms.old heap.old.now.terms) }
     ensures grows { Grows atoms.old heap.old atoms.new heap.new }
     ensures err { OnErr result (heap.new.now ≡ heap.old.now) }
@@ -63,9 +61,9 @@ fn related(
     requires term { term < length heap.old.now.terms }
     requires list { list < length heap.old.now.terms }
     requires names { KnowsTerms atoms.old heap.old.now.terms }
-    ensures offered { IfOk result (λ p. let t = tree atoms.old heap.old.now.terms in univ_row (t term) (t list) ≡ one_way (equation_of atoms.new heap.new.now.terms p ∷ [])) }
+    ensures offered { IfOk result (OffersPair atoms.new heap.new.now.terms (univ_of atoms.old heap.old.now.terms term list)) }
     ensures live { IfOk result (IsLive heap.new.now.terms) }
-    ensures fault { IfErr result (let t = tree atoms.old heap.old.now.terms in Explains atoms.old heap.old.now.terms (univ_row (t term) (t list))) }
+    ensures fault { IfErr result (Explains atoms.old heap.old.now.terms (univ_of atoms.old heap.old.now.terms term list)) }
     ensures culprit { IfErr result (CanBeRaised atoms.old heap.old.now.terms) }
     ensures grows { Grows atoms.old heap.old atoms.new heap.new }
 {
@@ -87,7 +85,7 @@ fn alone(
     requires term { term < length heap.old.now.terms }
     requires list { list < length heap.old.now.terms }
     requires names { KnowsTerms atoms.old heap.old.now.terms }
-    ensures offered { IfOk result (λ p. let t = tree atoms.old heap.old.now.terms in (t list ≐ list_tree (t term ∷ [])) ≡ equation_of atoms.new heap.new.now.terms p) }
+    ensures offered { IfOk result (λ p. list_of_one atoms.old heap.old.now.terms list term ≡ equation_of atoms.new heap.new.now.terms p) }
     ensures live { IfOk result (IsLive heap.new.now.terms) }
     ensures fault { IfErr result (λ f. f ≡ BuiltinFault.NoMemory) }
     ensures grows { Grows atoms.old heap.old atoms.new heap.new }
@@ -108,7 +106,7 @@ fn taken_apart(
     requires list { list < length heap.old.now.terms }
     requires names { KnowsTerms atoms.old heap.old.now.terms }
     requires shown { (count : ℕ) × (view_of (at heap.old.now.terms term) ≡ Compound name count) }
-    ensures offered { IfOk result (λ p. let t = tree atoms.old heap.old.now.terms in univ_row (t term) (t list) ≡ one_way (equation_of atoms.new heap.new.now.terms p ∷ [])) }
+    ensures offered { IfOk result (OffersPair atoms.new heap.new.now.terms (univ_of atoms.old heap.old.now.terms term list)) }
     ensures live { IfOk result (IsLive heap.new.now.terms) }
     ensures fault { IfErr result (λ f. f ≡ BuiltinFault.NoMemory) }
     ensures grows { Grows atoms.old heap.old atoms.new heap.new }
@@ -142,9 +140,9 @@ fn from_list(
     requires list { list < length heap.old.now.terms }
     requires names { KnowsTerms atoms.now heap.old.now.terms }
     requires unbound { (v : ℕ) × (at heap.old.now.terms term ≡ Var v) }
-    ensures offered { IfOk result (λ p. let t = tree atoms.now heap.old.now.terms in univ_row (t term) (t list) ≡ one_way (equation_of atoms.now heap.new.now.terms p ∷ [])) }
+    ensures offered { IfOk result (OffersPair atoms.now heap.new.now.terms (univ_of atoms.now heap.old.now.terms term list)) }
     ensures live { IfOk result (IsLive heap.new.now.terms) }
-    ensures fault { IfErr result (let t = tree atoms.now heap.old.now.terms in Explains atoms.now heap.old.now.terms (univ_row (t term) (t list))) }
+    ensures fault { IfErr result (Explains atoms.now heap.old.now.terms (univ_of atoms.now heap.old.now.terms term list)) }
     ensures culprit { IfErr result (CanBeRaised atoms.now heap.old.now.terms) }
     ensures grows { Grows atoms.now heap.old atoms.now heap.new }
 {
@@ -179,9 +177,9 @@ fn from_elements(
     requires nil { nil < length heap.old.now.terms }
     requires empty { tree atoms.now heap.old.now.terms nil ≡ atom "[]" }
     requires names { KnowsTerms atoms.now heap.old.now.terms }
-    ensures offered { IfOk result (λ p. univ_built (tree atoms.now heap.old.now.terms term) (trees atoms.now heap.old.now.terms elements.now) ≡ one_way (equation_of atoms.now heap.new.now.terms p ∷ [])) }
+    ensures offered { IfOk result (OffersPair atoms.now heap.new.now.terms (univ_built_of atoms.now heap.old.now.terms term elements.now)) }
     ensures live { IfOk result (IsLive heap.new.now.terms) }
-    ensures fault { IfErr result (Explains atoms.now heap.old.now.terms (univ_built (tree atoms.now heap.old.now.terms term) (trees atoms.now heap.old.now.terms elements.now))) }
+    ensures fault { IfErr result (Explains atoms.now heap.old.now.terms (univ_built_of atoms.now heap.old.now.terms term elements.now)) }
     ensures culprit { IfErr result (CanBeRaised atoms.now heap.old.now.terms) }
     ensures grows { Grows atoms.now heap.old atoms.now heap.new }
 {
@@ -206,9 +204,9 @@ fn from_first(
     requires first { first < length heap.old.now.terms }
     requires rest { All (λ id. id < length heap.old.now.terms) rest.now }
     requires names { KnowsTerms atoms.now heap.old.now.terms }
-    ensures offered { IfOk result (λ p. let t = tree atoms.now heap.old.now.terms in univ_built (t term) (t first ∷ trees atoms.now heap.old.now.terms rest.now) ≡ one_way (equation_of atoms.now heap.new.now.terms p ∷ [])) }
+    ensures offered { IfOk result (OffersPair atoms.now heap.new.now.terms (univ_built_of atoms.now heap.old.now.terms term (first ∷ rest.now))) }
     ensures live { IfOk result (IsLive heap.new.now.terms) }
-    ensures fault { IfErr result (let t = tree atoms.now heap.old.now.terms in Explains atoms.now heap.old.now.terms (univ_built (t term) (t first ∷ trees atoms.now heap.old.now.terms rest.now))) }
+    ensures fault { IfErr result (Explains atoms.now heap.old.now.terms (univ_built_of atoms.now heap.old.now.terms term (first ∷ rest.now))) }
     ensures culprit { IfErr result (CanBeRaised atoms.now heap.old.now.terms) }
     ensures grows { Grows atoms.now heap.old atoms.now heap.new }
 {

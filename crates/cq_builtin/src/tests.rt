@@ -1,7 +1,7 @@
 // The happy paths of the predicates: what their contracts leave out is that they answer where there is memory.
 
 ghost use Rattle.std.specs.Prelude.{◌<◌, length, IfOk};
-ghost use Rattle.cq_kinds.specs.Trees.{KnowsTerms};
+ghost use Rattle.cq_term.specs.Trees.{KnowsTerms};
 
 use crate::{Comparison, TypeTest, order, test, univ};
 use cq_atoms::Atoms;

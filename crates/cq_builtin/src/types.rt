@@ -3,7 +3,7 @@
 ghost use Rattle.std.specs.Prelude.{◌≡◌, ◌<◌, length, IfOk};
 ghost use Rattle.spec_built.specs.Kinds.{is_list};
 ghost use Rattle.spec_builtins.specs.Terms.{passes};
-ghost use Rattle.cq_kinds.specs.Trees.{tree, KnowsTerms};
+ghost use Rattle.cq_term.specs.Trees.{tree, KnowsTerms};
 ghost use Rattle.cq_builtin.specs.Rows.{test_of};
 
 use cq_atoms::Atoms;

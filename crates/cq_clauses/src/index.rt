@@ -10,8 +10,7 @@ use crate::place_list::PlaceList;
 use indexmap::IndexMap;
 use std::alloc::{AllocError, Global};
 
-/// The places of a list's clauses by key. So that a clause keeps its number when others are added in front of it, the
-/// places are numbered from some number on that falls.
+/// The places of a list's clauses by key, numbered from a number on that falls as clauses are added in front.
 #[derive(Drop)]
 pub struct Index {
     /// The number of the first place.

@@ -1,4 +1,4 @@
-// PlaceList of clauses in the order of a list, by numbers that rise.
+// Places of clauses in the order of a list, by numbers that rise.
 
 ghost use Rattle.std.specs.Prelude.{◌≡◌, ◌≤◌, [], OnOk};
 ghost use Rattle.cq_clauses.specs.Numbered.{IsRising, NoneWithin};

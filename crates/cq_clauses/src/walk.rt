@@ -6,8 +6,7 @@ use crate::clauses::ClauseNo;
 use crate::key::Key;
 use crate::procedures::Snapshot;
 
-/// The clauses that a call has still to try, in order. The next is known before the one in front of it is entered, so that a
-/// call leaves no choice behind at its last.
+/// The clauses that a call has still to try. The next is known ahead, so that a call leaves no choice behind at its last.
 #[derive(Clone, Copy, Debug)]
 pub struct Walk {
     pub(crate) key: Option<Key>,

@@ -1,37 +1,30 @@
 -- The pairs that operations on forms refuse, as pairs that a list of operations meets.
-use Rattle.std.proofs.Common.{◌≡◌, inl, inr, ℕ, zero, suc, ◌<◌, ◌≤◌, List, [], ◌∷◌, ◌++◌, length, take, get_or, arith, refl, ap, sym, subst, ◌∙◌}
-use Rattle.std.specs.Prelude.{fold, flat_map, map}
+use Rattle.std.proofs.Common.{◌≡◌, inl, inr, ℕ, zero, suc, ◌<◌, List, [], ◌∷◌, ◌++◌, length, take, get_or, arith, refl, sym, subst}
+use Rattle.std.specs.Prelude.{fold, flat_map}
 use Rattle.std.proofs.lemmas.List.Concat.{flat_map-cons}
-use Rattle.spec_rational.specs.Rational.{ℚ, neg_ℚ}
-use Rattle.spec_rational.specs.Sums.{Monomial, unit, factor_of, negated_products}
-use Rattle.spec_rational.proofs.Ring.{var, minus}
-use Rattle.spec_rational.proofs.Rational.{ring}
-use Rattle.spec_rational.proofs.Sums.{factor_of-is, sum_at-negated_products}
-use Rattle.spec_linear.specs.Form.{Linear, IsSumFrom, IsForm, constant_form, variable_form, negated_form}
+use Rattle.spec_rational.specs.Rational.{ℚ}
+use Rattle.spec_rational.specs.Sums.{factor_of}
+use Rattle.spec_linear.specs.Form.{Linear, IsForm, constant_form, variable_form}
 use Rattle.spec_linear.specs.Solution.{Has}
-use Rattle.spec_linear.proofs.Ordered.{factor_of-first, factor_of-rest, form_same, IsForm-variable_form, IsForm-negated_form}
-use Rattle.spec_limits.specs.Overflow.{Operands, IsSumOrDifference, of_variable as number_of_variable, of_constant}
+use Rattle.spec_linear.proofs.Denominators.{has_left, has_right}
+use Rattle.spec_linear.proofs.Ordered.{IsForm-variable_form}
+use Rattle.spec_limits.specs.Overflow.{Operands, on, IsSumOrDifference, of_variable as number_of_variable, of_constant}
 use Rattle.spec_queries.specs.Tree.{Sum, Relation}
 use Rattle.spec_queries.specs.declared.Term.{Term}
 use Rattle.spec_queries.specs.declared.SignedTerm.{SignedTerm}
 use Rattle.spec_queries.specs.Meaning.{term_form, with_term, sum_of_terms, operation_of, term_operations, joining_operations, sum_operations, relation_operations}
 use Rattle.cq_frac.specs.declared.Operation.{Operation}
-use Rattle.cq_frac.specs.declared.Operation.TheVariants.{Sum as Addition, Difference, Product as Times}
+use Rattle.cq_frac.specs.declared.Operation.TheVariants.{Difference, Product as Times}
 use Rattle.cq_frac.specs.declared.Pair.{Pair}
-use Rattle.cq_frac.specs.declared.VarId.{VarId}
-use Rattle.cq_frac.specs.Fits.{SumRefused}
-use Rattle.cq_frac.specs.Refused.{IsRefused, Refuses as RefusesNumbers}
+use Rattle.cq_frac.specs.Refused.{IsRefused}
 use Rattle.cq_row.specs.declared.Joining.{Joining}
 use Rattle.cq_row.specs.declared.Joining.TheVariants.{Plus, Less}
 use Rattle.cq_row.specs.Rows as row
 use Rattle.cq_form.proofs.Forms.{coefficient_is}
-use Rattle.cq_form.specs.Steps.{HasCoefficient, of_variable as common, of_variable as multiple, JoinedPair, coefficients as common_pair, constants as constants_pair, ScalePair, coefficient as multiple_pair, constant as constant_pair}
+use Rattle.cq_form.specs.Steps.{of_variable as common, of_variable as multiple, JoinedPair, coefficients as common_pair, constants as constants_pair, ScalePair, coefficient as multiple_pair, constant as constant_pair}
 use Rattle.cq_equations.specs.Pairs.{OperandPair, coefficients, constants, operands, Refuses}
 
 -- ---- one operation
-
-abbrev pub on : Operation → Linear → Linear → Operands
-on o f g = record { operation = o; left = f; right = g }
 
 is_joining : (how : Joining) → IsSumOrDifference (row.operation_of how)
 is_joining Plus = inl refl
@@ -71,20 +64,11 @@ meets_in h o p q (operands d has is a b) = operands d (h d has) is a b
 pub refuses_in : {s t : List Operands} → ((o : Operands) → Has o s → Has o t) → (pair : Pair) → Refuses s pair → Refuses t pair
 refuses_in h pair r = record { meets = meets_in h pair.operation pair.left pair.right r.meets; refused = r.refused }
 
-has_front : (s t : List Operands) (o : Operands) → Has o s → Has o (s ++ t)
-has_front [] t o h = absurd h
-has_front (x ∷ s) t o (inl e) = inl e
-has_front (x ∷ s) t o (inr h) = inr (has_front s t o h)
-
-has_back : (s t : List Operands) (o : Operands) → Has o t → Has o (s ++ t)
-has_back [] t o h = h
-has_back (x ∷ s) t o h = inr (has_back s t o h)
-
 pub refuses_front : (s t : List Operands) (pair : Pair) → Refuses s pair → Refuses (s ++ t) pair
-refuses_front s t pair r = refuses_in (has_front s t) pair r
+refuses_front s t pair r = refuses_in (λ o. has_left o s t) pair r
 
 pub refuses_back : (s t : List Operands) (pair : Pair) → Refuses t pair → Refuses (s ++ t) pair
-refuses_back s t pair r = refuses_in (has_back s t) pair r
+refuses_back s t pair r = refuses_in (λ o. has_right o s t) pair r
 
 -- what stands before one operation and at it, with more behind
 has_more : (a b : List Operands) (d o : Operands) → Has o (a ++ d ∷ []) → Has o (a ++ d ∷ b)
@@ -101,7 +85,7 @@ has_joining f (u ∷ s) zero t l e o h =
     has_more (term_operations u.term) (joining_operations (with_term f u) s) (on (operation_of u.sign) f (term_form u.term)) o
     (subst (λ w. Has o (joining_operations f (w ∷ []))) e h)
 has_joining f (u ∷ s) (suc i) t l e o h =
-    has_back (term_operations u.term) _ o (inr (has_joining (with_term f u) s i t (omega arith) e o h))
+    has_right o (term_operations u.term) _ (inr (has_joining (with_term f u) s i t (omega arith) e o h))
 
 -- a term and its joining to the form of what stands before it
 pub joined_refused : (f g : Linear) (t : SignedTerm) → g ≡ term_form t.term → (o : Operation) → operation_of t.sign ≡ o → (pair : Pair)
@@ -147,9 +131,9 @@ has_operations : (s : List Relation) (i : ℕ) (r : Relation) → i < length s �
     → Has o (relation_operations r) → Has o (flat_map relation_operations s)
 has_operations [] i r l e o h = absurd (omega arith)
 has_operations (a ∷ s) zero r l e o h =
-    subst (Has o) (sym (flat_map-cons relation_operations a s)) (has_front (relation_operations a) _ o (subst (λ w. Has o (relation_operations w)) e h))
+    subst (Has o) (sym (flat_map-cons relation_operations a s)) (has_left o (relation_operations a) _ (subst (λ w. Has o (relation_operations w)) e h))
 has_operations (a ∷ s) (suc i) r l e o h =
-    subst (Has o) (sym (flat_map-cons relation_operations a s)) (has_back (relation_operations a) _ o (has_operations s i r (omega arith) e o h))
+    subst (Has o) (sym (flat_map-cons relation_operations a s)) (has_right o (relation_operations a) _ (has_operations s i r (omega arith) e o h))
 
 -- the operations of a relation at a place are among those of all
 pub relation_refused : (s rest : List Relation) → rest ≡ s → (i : ℕ) (r : Relation) → i < length rest → r ≡ get_or rest i r → (pair : Pair)

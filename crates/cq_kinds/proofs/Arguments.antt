@@ -1,23 +1,15 @@
 -- Compounds of two arguments, and those that are no cells.
-use Rattle.std.proofs.Common.{◌≡◌, ◌≢◌, ℕ, suc, ◌<◌, Some, true, false, codes, length, sym, ap, ◌∙◌, subst, arith}
+use Rattle.std.proofs.Common.{◌≡◌, ◌≢◌, ℕ, ◌<◌, Some, true, false, codes, length, sym, ap, ◌∙◌, subst, arith}
 use Rattle.std.specs.Prelude.{slice_get, bytes_eq, if◌then◌else◌}
 use Rattle.std.proofs.lemmas.Option.{same_Some}
 use Rattle.spec_lists.specs.Texts.{Text}
-use Rattle.spec_terms.specs.Term.{Var, Number, Name, Compound, one, more, count, named}
+use Rattle.spec_terms.specs.Term.{Var, Number, Name, Compound, one, more, named}
 use Rattle.spec_built.specs.Kinds.{parts, no_cell}
 use Rattle.cq_term.specs.Meaning.{HeapTerm}
 use Rattle.cq_term.specs.Shown.{view_of, arguments}
 use Rattle.cq_term.specs.declared.view.View.TheVariants as view
+use Rattle.cq_term.proofs.Arguments.{both_arguments}
 use Rattle.cq_kinds.specs.Cells.{with_first}
-
-pub both_arguments : (t : HeapTerm) (f : ℕ) → view_of t ≡ view.Compound f 2 → (a : HeapTerm) × (b : HeapTerm) × (t ≡ Compound f (more a (one b)))
-both_arguments (Var v) f e = cc
-both_arguments (Number q) f e = cc
-both_arguments (Name b) f e = cc
-both_arguments (Compound g (one t)) f e = let h : ◌≡◌ {A = ℕ} 1 2 = cc in absurd (omega (arith, h))
-both_arguments (Compound g (more t (one u))) f e = let h : f ≡ g = cc in (t, u, ap (λ k. Compound k (more t (one u))) (sym h))
-both_arguments (Compound g (more t (more u (one w)))) f e = let h : ◌≡◌ {A = ℕ} 3 2 = cc in absurd (omega (arith, h))
-both_arguments (Compound g (more t (more u (more w us)))) f e = let h : suc (suc (suc (count us))) ≡ 2 = cc in absurd (omega (arith, h))
 
 pub has_two : (t : HeapTerm) (f n : ℕ) → view_of t ≡ view.Compound f n → n ≡ 2 → 1 < length (arguments t)
 has_two t f n e two = subst (λ u. 1 < length (arguments u)) (sym (both_arguments t f (e ∙ ap (view.Compound f) two)).2) (omega arith)

@@ -5,7 +5,7 @@ use Rattle.spec_lists.specs.Texts.{Text}
 use Rattle.spec_syntax.specs.Trees.{Tree}
 use Rattle.spec_built.specs.Kinds.{Parts, no_cell}
 use Rattle.cq_term.specs.Meaning.{HeapTerm}
-use Rattle.cq_kinds.specs.Trees.{tree, trees}
+use Rattle.cq_term.specs.Trees.{tree, trees}
 use Rattle.cq_kinds.specs.Cells.{with_first}
 
 -- the elements before the parts

@@ -5,7 +5,7 @@ use Rattle.spec_terms.specs.Term.{size}
 use Rattle.spec_syntax.specs.Trees.{Tree}
 use Rattle.spec_built.specs.Kinds.{Parts, parts}
 use Rattle.cq_term.specs.Meaning.{HeapTerm, at}
-use Rattle.cq_kinds.specs.Trees.{tree, trees}
+use Rattle.cq_term.specs.Trees.{tree, trees}
 use Rattle.cq_kinds.specs.declared.lists.Cell.{Cell}
 use Rattle.cq_kinds.specs.declared.lists.Parts as listed
 

@@ -3,7 +3,7 @@
 ghost use Rattle.std.specs.Prelude.{◌≡◌, ◌<◌, List, length};
 ghost use Rattle.spec_lists.specs.Texts.{Text};
 ghost use Rattle.spec_built.specs.Kinds.{is_variable, is_name, is_number, is_integer, is_compound, is_callable, is_below_zero, natural_of, natural_or_zero};
-ghost use Rattle.cq_kinds.specs.Trees.{tree};
+ghost use Rattle.cq_term.specs.Trees.{tree};
 
 use cq_term::{Heap, TermId, View};
 

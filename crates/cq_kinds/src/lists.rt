@@ -1,11 +1,9 @@
 // The elements of lists on a heap.
 
-ghost use Rattle.std.specs.Prelude.{◌≡◌, ◌<◌, List, All, length, IfOk, IfSome, IsNone};
+ghost use Rattle.std.specs.Prelude.{◌≡◌, ◌<◌, All, length, IfOk, IfSome, IsNone};
 ghost use Rattle.spec_built.specs.Built.{is_atom};
 ghost use Rattle.spec_built.specs.Kinds.{parts, no_cell};
-ghost use Rattle.cq_term.specs.Meaning.{at};
-ghost use Rattle.cq_term.specs.Names.{HasNamesBelow};
-ghost use Rattle.cq_kinds.specs.Trees.{tree, KnowsTerms};
+ghost use Rattle.cq_term.specs.Trees.{tree, KnowsTerms};
 ghost use Rattle.cq_kinds.specs.Cells.{IsCell, parts_of};
 
 use cq_atoms::Atoms;

@@ -1,7 +1,7 @@
 // The kinds of terms of each form, and the parts of lists.
 
-ghost use Rattle.std.specs.Prelude.{◌≡◌, ◌<◌, ◌≤◌, length, IfOk};
-ghost use Rattle.cq_kinds.specs.Trees.{KnowsTerms};
+ghost use Rattle.std.specs.Prelude.{◌<◌, length};
+ghost use Rattle.cq_term.specs.Trees.{KnowsTerms};
 
 use crate::{
     is_below_zero, is_callable, is_compound, is_integer, is_name, is_nil, is_number, is_variable,

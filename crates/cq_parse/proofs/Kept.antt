@@ -1,6 +1,5 @@
 -- A heap that grows keeps what the frames mean.
-use Rattle.std.proofs.lemmas.Bool.Decides.{nat_tests}
-use Rattle.std.proofs.Common.{◌≡◌, nat_le, true, ℕ, ◌<◌, ◌≤◌, List, [], ◌∷◌, ◌++◌, map, length, refl, sym, ap, subst, ◌∙◌, arith, append_assoc, length-append}
+use Rattle.std.proofs.Common.{◌≡◌, ℕ, ◌<◌, ◌≤◌, List, [], ◌∷◌, ◌++◌, map, length, refl, sym, ap, subst, ◌∙◌, arith, append_assoc, length-append}
 use Rattle.std.specs.Prelude.{All, reverse, Result, Ok, Err, OnOk, OnErr}
 use Rattle.std.specs.declared.alloc.AllocError.{AllocError}
 use Rattle.std.proofs.lemmas.List.{append-nil, reverse-append, map-append, get_or_append_left}
@@ -13,8 +12,8 @@ use Rattle.cq_term.specs.Meaning.{HeapTerm, at, blank}
 use Rattle.cq_parse.specs.declared.frames.Frame.{Frame}
 use Rattle.cq_parse.specs.declared.frames.Frame.TheVariants as frame
 use Rattle.spec_lists.specs.Prefixes.{IsPrefix}
-use Rattle.cq_parse.specs.Views.{OnlyGrows, tree, trees, frame_of, frames_of, IsLiveFrame, AreLive}
-use Rattle.spec_lists.proofs.Tests.{le_true}
+use Rattle.cq_term.specs.Trees.{tree}
+use Rattle.cq_parse.specs.Views.{OnlyGrows, trees, frame_of, frames_of, IsLiveFrame, AreLive}
 
 -- ---- the heap
 

@@ -11,7 +11,8 @@ use Rattle.cq_term.specs.Meaning.{HeapTerm, at, blank}
 use Rattle.cq_term.specs.Names.{HasNamesBelow}
 use Rattle.cq_term.proofs.Known.{names_over}
 use Rattle.cq_parse.specs.declared.frames.Frame.{Frame}
-use Rattle.cq_parse.specs.Known.{IsKnown, KnowsTerms, KnowsFrame, KnowsNames}
+use Rattle.cq_term.specs.Trees.{KnowsTerms}
+use Rattle.cq_parse.specs.Known.{IsKnown, KnowsFrame, KnowsNames}
 
 module _ (texts : List Text) where
   pub known_below : (f : ℕ) → IsKnown texts f → f < length texts

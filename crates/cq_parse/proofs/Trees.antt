@@ -2,16 +2,17 @@
 use Rattle.std.proofs.Common.{◌≡◌, ℕ, ◌<◌, List, [], ◌∷◌, ◌++◌, map, length, codes, refl, sym, ap, subst, ◌∙◌}
 use Rattle.std.specs.Prelude.{All, reverse, Some, slice_get, pos}
 use Rattle.std.proofs.lemmas.List.{reverse-append, map-append}
-use Rattle.std.proofs.lemmas.Option.{get_or_from_slice_get}
 use Rattle.spec_rational.specs.Rational.{int_ℚ}
 use Rattle.spec_terms.specs.Term.{Name, Number, Terms, Compound, one, more, terms_of, with_arguments, named, named_all}
-use Rattle.spec_syntax.specs.Trees.{Tree, unary, binary, nil, cell, list_tree}
+use Rattle.spec_syntax.specs.Trees.{Tree, natural, unary, binary, nil, cell, list_tree}
 use Rattle.spec_syntax.specs.Machine.{with_arguments_before, with_elements_before}
 use Rattle.spec_lists.specs.Texts.{Text}
 use Rattle.cq_atoms.specs.Texts.{text_of}
 use Rattle.cq_term.specs.Meaning.{HeapTerm, at}
 use Rattle.spec_lists.specs.Prefixes.{IsPrefix}
-use Rattle.cq_parse.specs.Views.{tree, trees}
+use Rattle.cq_term.specs.Trees.{tree}
+use Rattle.cq_term.proofs.Named.{text_is}
+use Rattle.cq_parse.specs.Views.{trees}
 use Rattle.cq_parse.proofs.Kept.{all_front, tree_kept, trees_kept, trees_push}
 
 module _ (texts : List Text) (ts : List HeapTerm) where
@@ -48,10 +49,6 @@ module _ (texts : List Text) (ts : List HeapTerm) where
       named (text_of texts) (with_arguments f (map (at ts) (ids ++ id ∷ []))) ≡ Compound (text_of texts f) (with_arguments_before (trees texts ts ids) (one (tree texts ts id)))
   compound_tree f ids id = ordered f ids id ∙ ap (Compound (text_of texts f)) (sym (reversed (map (tree texts ts) ids) (tree texts ts id)))
 
--- the text of a number that has one
-pub text_known : (texts : List Text) (name : ℕ) (text : Text) → slice_get texts name ≡ Some text → text_of texts name ≡ text
-text_known texts name text e = get_or_from_slice_get texts name text [] e
-
 -- ---- what the machine builds
 
 module _ (texts : List Text) (ts us : List HeapTerm) where
@@ -61,10 +58,10 @@ module _ (texts : List Text) (ts us : List HeapTerm) where
       ap (named (text_of texts)) (built ∙ ap (λ xs. with_arguments f (map (at ts) xs)) longer) ∙ compound_tree texts ts f before id
 
   pub name_tree : (f id : ℕ) (text : Text) → at us id ≡ with_arguments f [] → slice_get texts f ≡ Some text → tree texts us id ≡ Name text
-  name_tree f id text built e = ap (named (text_of texts)) built ∙ ap Name (text_known texts f text e)
+  name_tree f id text built e = ap (named (text_of texts)) built ∙ ap Name (text_is texts f text e)
 
   pub cell_tree : (dot a b whole : ℕ) → at us whole ≡ with_arguments dot (at ts a ∷ at ts b ∷ []) → slice_get texts dot ≡ Some (codes ".") → tree texts us whole ≡ cell (tree texts ts a) (tree texts ts b)
-  cell_tree dot a b whole built e = ap (named (text_of texts)) built ∙ ap (λ f. binary f (tree texts ts a) (tree texts ts b)) (text_known texts dot (codes ".") e)
+  cell_tree dot a b whole built e = ap (named (text_of texts)) built ∙ ap (λ f. binary f (tree texts ts a) (tree texts ts b)) (text_is texts dot (codes ".") e)
 
   module _ (p : IsPrefix ts us) where
     -- one more cell of a list
@@ -85,7 +82,7 @@ module _ (texts : List Text) (ts us : List HeapTerm) where
         ∙ (λ i. tree_kept texts ts us p id last i ∷ trees_kept texts ts us p before live i))
 
 pub is_known : (texts : List Text) (name : ℕ) (text : Text) → slice_get texts name ≡ Some text → slice_get texts name ≡ Some (text_of texts name)
-is_known texts name text e = e ∙ ap Some (sym (text_known texts name text e))
+is_known texts name text e = e ∙ ap Some (sym (text_is texts name text e))
 
 module _ (texts : List Text) (ts us : List HeapTerm) where
   pub binary_tree : (f a b whole : ℕ) → at us whole ≡ with_arguments f (at ts a ∷ at ts b ∷ []) → tree texts us whole ≡ binary (text_of texts f) (tree texts ts a) (tree texts ts b)
@@ -95,12 +92,9 @@ module _ (texts : List Text) (ts us : List HeapTerm) where
   unary_tree f a whole built = ap (named (text_of texts)) built
 
   pub curly_tree : (f a whole : ℕ) (text : Text) → at us whole ≡ with_arguments f (at ts a ∷ []) → slice_get texts f ≡ Some text → tree texts us whole ≡ unary text (tree texts ts a)
-  curly_tree f a whole text built e = unary_tree f a whole built ∙ ap (λ g. unary g (tree texts ts a)) (text_known texts f text e)
+  curly_tree f a whole text built e = unary_tree f a whole built ∙ ap (λ g. unary g (tree texts ts a)) (text_is texts f text e)
 
 -- ---- lists of codes
-
-abbrev pub code_of : ℕ → Tree
-code_of c = Number (int_ℚ (pos c))
 
 elements_push : (xs : List Tree) (x t : Tree) → with_elements_before (xs ++ x ∷ []) t ≡ cell x (with_elements_before xs t)
 elements_push [] x t = refl
@@ -112,9 +106,9 @@ listed (x ∷ xs) = ap (λ ys. with_elements_before ys nil) (reverse-append (x �
 
 pub code_more : (texts : List Text) (ts ns us : List HeapTerm) (p : IsPrefix ts ns) (dot element whole new c : ℕ) (left rest : List ℕ) (goal : Tree) → left ≡ rest ++ c ∷ [] → whole < length ts →
     at us new ≡ with_arguments dot (at ns element ∷ at ns whole ∷ []) → slice_get texts dot ≡ Some (codes ".") → at ns element ≡ Number (int_ℚ (pos c)) →
-    with_elements_before (reverse (map code_of left)) (tree texts ts whole) ≡ goal → with_elements_before (reverse (map code_of rest)) (tree texts us new) ≡ goal
+    with_elements_before (reverse (map natural left)) (tree texts ts whole) ≡ goal → with_elements_before (reverse (map natural rest)) (tree texts us new) ≡ goal
 code_more texts ts ns us p dot element whole new c left rest goal split live built known number same =
-    ap (with_elements_before (reverse (map code_of rest)))
+    ap (with_elements_before (reverse (map natural rest)))
     (cell_tree texts ns us dot element whole new built known ∙ (λ i. cell (ap (named (text_of texts)) number i) (tree_kept texts ts ns p whole live i)))
-    ∙ ap (λ xs. with_elements_before xs (tree texts ts whole)) (sym (ap (λ l. reverse (map code_of l)) split ∙ ap reverse (map-append code_of rest (c ∷ [])) ∙ reverse-append (map code_of rest) (code_of c ∷ [])))
+    ∙ ap (λ xs. with_elements_before xs (tree texts ts whole)) (sym (ap (λ l. reverse (map natural l)) split ∙ ap reverse (map-append natural rest (c ∷ [])) ∙ reverse-append (map natural rest) (natural c ∷ [])))
     ∙ same

@@ -1,9 +1,9 @@
 -- Which names a table of texts knows.
-use Rattle.std.specs.Prelude.{◌≡◌, ℕ, List, All, Option, Some, None, codes, length, slice_get, ⊤}
+use Rattle.std.specs.Prelude.{◌≡◌, ℕ, List, All, Option, Some, None, codes, slice_get, ⊤}
 use Rattle.spec_lists.specs.Texts.{Text}
 use Rattle.cq_atoms.specs.Texts.{AreDifferent, text_of}
 use Rattle.cq_term.specs.Meaning.{HeapTerm}
-use Rattle.cq_term.specs.Names.{HasNamesBelow}
+use Rattle.cq_term.specs.Trees.{KnowsTerms}
 use Rattle.cq_parse.specs.declared.tokens.Token.{Token}
 use Rattle.cq_parse.specs.declared.tokens.Token.TheVariants as token
 use Rattle.cq_parse.specs.declared.frames.Frame.{Frame}
@@ -51,10 +51,6 @@ abbrev pub KnowsUse : List Text → UseThere → Type 0
 KnowsUse texts (use_there.Infix f op) = IsKnown texts f
 KnowsUse texts (use_there.Postfix f op) = IsKnown texts f
 KnowsUse texts use_there.Outside = ⊤
-
--- the names that stand in terms are known
-abbrev pub KnowsTerms : List Text → List HeapTerm → Type 0
-KnowsTerms texts ts = All (HasNamesBelow (length texts)) ts
 
 -- the name of a frame, if it has one, is known
 abbrev pub KnowsFrame : List Text → Frame → Type 0

@@ -1,15 +1,15 @@
 -- What the machine's tokens, frames and state mean, by the texts of the names and the terms of the heap.
-use Rattle.std.specs.Prelude.{◌≡◌, ℕ, ◌<◌, ◌≤◌, List, ◌++◌, Option, Some, None, Result, IfOk, map, reverse, All, ⊤}
+use Rattle.std.specs.Prelude.{◌≡◌, ℕ, ◌<◌, ◌≤◌, List, Option, Some, None, Result, IfOk, map, reverse, All, ⊤}
 use Rattle.std.specs.declared.alloc.AllocError.{AllocError}
 use Rattle.std.specs.String.{string_bytes}
 use Rattle.spec_lists.specs.Texts.{Text}
 use Rattle.spec_lists.specs.Prefixes.{IsPrefix}
 use Rattle.cq_atoms.specs.Texts.{text_of}
-use Rattle.cq_term.specs.Meaning.{HeapTerm, at}
+use Rattle.cq_term.specs.Meaning.{HeapTerm}
+use Rattle.cq_term.specs.Trees.{tree}
 use Rattle.cq_term.specs.HeapValue.{HeapValue}
 use Rattle.cq_term.specs.Shown.{IsUnbound}
 use Rattle.spec_operators.specs.Operators.{Ops}
-use Rattle.spec_terms.specs.Term as terms
 use Rattle.spec_syntax.specs.Trees.{Tree}
 use Rattle.spec_syntax.specs.Tokens as grammar
 use Rattle.spec_syntax.specs.Grammar.{Use, AsInfix, AsPostfix, Outside, use_of}
@@ -31,10 +31,6 @@ pub record OnlyGrows (old new : HeapValue) : Type 0 where
   pub images : new.now.images ≡ old.now.images
   pub saved : new.saved ≡ old.saved
   pub room : old.room ≤ new.room
-
--- the tree of a term
-abbrev pub tree : List Text → List HeapTerm → ℕ → Tree
-tree texts ts id = terms.named (text_of texts) (at ts id)
 
 -- the trees of terms that were read one after another, last first
 abbrev pub trees : List Text → List HeapTerm → List ℕ → List Tree

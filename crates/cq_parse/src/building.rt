@@ -1,15 +1,15 @@
 // Terms that are built on the heap.
 
-ghost use Rattle.std.specs.Prelude.{◌≡◌, ◌<◌, ◌≤◌, [], ◌∷◌, List, map, pos, chars, length, All, IfOk, OnOk};
+ghost use Rattle.std.specs.Prelude.{◌≡◌, ◌<◌, [], List, map, pos, chars, length, All, IfOk, OnOk};
 ghost use Rattle.spec_lists.specs.Texts.{Text};
-ghost use Rattle.cq_atoms.specs.Texts.{text_of};
 ghost use Rattle.spec_terms.specs.Term.{Number, with_arguments};
 ghost use Rattle.spec_syntax.specs.Machine.{with_elements_before};
 ghost use Rattle.spec_syntax.specs.Trees.{code_list};
 ghost use Rattle.spec_rational.specs.Rational.{int_ℚ};
 ghost use Rattle.cq_term.specs.Meaning.{at};
-ghost use Rattle.cq_parse.specs.Views.{OnlyGrows, tree, trees};
-ghost use Rattle.cq_parse.specs.Known.{AreGrammarNames, IsKnown, KnowsTerms};
+ghost use Rattle.cq_term.specs.Trees.{tree, KnowsTerms};
+ghost use Rattle.cq_parse.specs.Views.{OnlyGrows, trees};
+ghost use Rattle.cq_parse.specs.Known.{AreGrammarNames, IsKnown};
 
 use crate::names::GrammarNames;
 use cq_atoms::Atom;

@@ -1,14 +1,15 @@
 // An operand that is put into the frame that waits for it.
 
-ghost use Rattle.std.specs.Prelude.{◌≡◌, ◌<◌, ◌≤◌, ◌∷◌, ℕ, List, All, length, vec_len, IfOk, OnOk};
+ghost use Rattle.std.specs.Prelude.{◌≡◌, ◌<◌, ◌∷◌, ℕ, List, All, length, vec_len, IfOk, OnOk};
 ghost use Rattle.spec_lists.specs.Texts.{Text};
 ghost use Rattle.cq_atoms.specs.Texts.{text_of};
 ghost use Rattle.spec_operators.specs.Operators.{Ops as OpsOfTexts};
 ghost use Rattle.spec_syntax.specs.Grammar.{Outside};
 ghost use Rattle.spec_syntax.specs.Machine.{after_operand, end_group, end_curly, end_argument, end_element, end_tail};
-ghost use Rattle.cq_parse.specs.Views.{OnlyGrows, tree, trees, token_of, frame_of, frames_of, state_or_none, LeadsTo};
+ghost use Rattle.cq_term.specs.Trees.{tree, KnowsTerms};
+ghost use Rattle.cq_parse.specs.Views.{OnlyGrows, trees, token_of, frame_of, frames_of, state_or_none, LeadsTo};
 ghost use Rattle.cq_parse.specs.Views.{IsLiveFrame, AreLive, IsLiveOrNone, Folds, IsLiveFolded, NoMoreFrames};
-ghost use Rattle.cq_parse.specs.Known.{AreGrammarNames, IsKnown, KnowsOrNone, KnowsFolded, KnowsFrame, KnowsTerms, KnowsNames};
+ghost use Rattle.cq_parse.specs.Known.{AreGrammarNames, IsKnown, KnowsOrNone, KnowsFolded, KnowsFrame, KnowsNames};
 ghost use Rattle.cq_term.specs.Meaning.{HeapTerm};
 
 use crate::building::{atom, compound, list};

@@ -1,6 +1,6 @@
 // The steps of the machine, a token each.
 
-ghost use Rattle.std.specs.Prelude.{◌≡◌, ◌<◌, ◌≤◌, ℕ, List, [], ◌∷◌, Some, length, IfOk, OnOk};
+ghost use Rattle.std.specs.Prelude.{◌≡◌, ◌<◌, ℕ, List, [], ◌∷◌, Some, length, IfOk, OnOk};
 ghost use Rattle.spec_lists.specs.Texts.{Text};
 ghost use Rattle.cq_atoms.specs.Texts.{text_of};
 ghost use Rattle.spec_operators.specs.Operators.{Ops as OpsOfTexts};
@@ -9,7 +9,8 @@ ghost use Rattle.cq_ops.specs.Tables.{named};
 ghost use Rattle.spec_syntax.specs.Grammar.{use_of, applied_as};
 ghost use Rattle.spec_syntax.specs.Machine.{InElements, InCurly, after_operand, end_clause, before_term, after_name, after_functor, after_minus};
 ghost use Rattle.spec_syntax.specs.Machine.{after_open_list, after_open_curly, step};
-ghost use Rattle.cq_parse.specs.Views.{OnlyGrows, tree, token_of, frames_of, state_of, state_or_none, LeadsTo};
+ghost use Rattle.cq_term.specs.Trees.{tree};
+ghost use Rattle.cq_parse.specs.Views.{OnlyGrows, token_of, frames_of, state_of, state_or_none, LeadsTo};
 ghost use Rattle.cq_parse.specs.Views.{AreLive, IsLiveState, IsLiveOrNone, IsLiveToken};
 ghost use Rattle.cq_parse.specs.Known.{AreGrammarNames, IsKnown, KnowsToken, KnowsState, KnowsOrNone, Knows, KnowsNames};
 

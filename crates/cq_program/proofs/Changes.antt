@@ -20,7 +20,8 @@ use Rattle.cq_clauses.specs.declared.list.End.TheVariants as ends
 use Rattle.cq_clauses.specs.declared.procedures.Kind.{Kind}
 use Rattle.cq_clauses.specs.declared.procedures.Kind.TheVariants as kind
 use Rattle.cq_program.specs.Database.{Program, IsKnown, IsProgram, as_kind, as_end, as_indicator, as_parts, as_clause, as_procedure, as_database}
-use Rattle.cq_program.proofs.Predicates.{same_itself, same_test, has_indicator, found_or_indicator}
+use Rattle.spec_search.proofs.Changed.{same_itself}
+use Rattle.cq_program.proofs.Predicates.{same_test, has_indicator, found_or_indicator}
 
 -- ---- clauses by number
 

@@ -7,8 +7,8 @@ use Rattle.std.proofs.lemmas.Bool.{cases_eq, eq-eqb, ne_eqb}
 use Rattle.std.proofs.lemmas.List.Elements.{All-nil, All-head, All-tail}
 use Rattle.std.proofs.lemmas.Option.{slice_get-get_or}
 use Rattle.spec_lists.specs.Texts.{Text}
-use Rattle.spec_lists.proofs.Tests.{nat_eq-same, nat_eq-self, nat_eq-sym, both_are}
-use Rattle.spec_built.specs.Built.{Indicator, same_indicator}
+use Rattle.spec_lists.proofs.Tests.{nat_eq-same, nat_eq-sym, both_are}
+use Rattle.spec_built.specs.Built.{same_indicator}
 use Rattle.spec_search.specs.Database as search
 use Rattle.cq_atoms.specs.Texts.{AreDifferent, text_of}
 use Rattle.cq_term.specs.declared.names.Pred.{Pred}
@@ -40,9 +40,6 @@ same_pred-is p q e =
     let name : p.name ≡ q.name = nat_eq-same p.name q.name both.0 in
     let arity : p.arity ≡ q.arity = nat_eq-same p.arity q.arity both.1 in
     λ k. record { name = name k; arity = arity k }
-
-pub same_itself : (i : Indicator) → same_indicator i i ≡ true
-same_itself i = ap₂ (λ (a b : Bool). a && b) ((bytes_decides i.name i.name).1 refl) (nat_eq-self i.arity)
 
 module _ (texts : List Text) (different : AreDifferent texts) (pred : Pred) (known : pred.name < length texts) where
   pub same_test : (q : Pred) → q.name < length texts → same_indicator (as_indicator texts q) (as_indicator texts pred) ≡ same_pred pred q

@@ -1,6 +1,7 @@
 -- The code's tokens, places and names as those of the definition.
-use Rattle.std.specs.Prelude.{Option, option_map}
+use Rattle.std.specs.Prelude.{◌≡◌, [], ◌∷◌, ◌++◌, Option, option_map}
 use Rattle.spec_queries.specs.Tokens as spec
+use Rattle.spec_queries.specs.Tree.{Sum}
 use Rattle.spec_queries.specs.Grammar as grammar
 use Rattle.cq_queries.specs.declared.places.Place.{Place}
 use Rattle.cq_queries.specs.declared.places.Place.TheVariants.{BeforeQuery, BeforeBlock, BeforeTerm, BeforeNumeral, AfterNumber, BeforeFactor, AfterTerm, BeforeEnd}
@@ -40,3 +41,19 @@ reading_of reader place = record { queries = reader.queries.items; relations = r
 -- and at the next place, if there is one
 abbrev pub readings_of : Reader → Option Place → Option grammar.Reading
 readings_of reader next = option_map (λ place. reading_of reader (place_of place)) next
+
+-- from a place a token leads to the next one, if it may stand there
+abbrev pub LeadsOn : Reader → grammar.Place → spec.Token → Reader → Option Place → Type 0
+LeadsOn old place token new next = readings_of new next ≡ grammar.read_at place token (reading_of old place)
+
+-- the same of a token behind a sum
+abbrev pub EndsSum : Option Sum → Sum → spec.Token → grammar.Reading → Reader → Option Place → Type 0
+EndsSum left sum token reading new next = readings_of new next ≡ grammar.read_after_sum left sum token reading
+
+-- the same of a token behind a relation, which the sum ends if a left side was read
+abbrev pub EndsRelation : Option Sum → Sum → grammar.Place → grammar.Reading → Reader → Option Place → Type 0
+EndsRelation left right behind reading new next = readings_of new next ≡ option_map (λ l. grammar.at behind (grammar.with_relation l right reading)) left
+
+-- the query under way is whole
+abbrev pub with_query : grammar.Reading → grammar.Reading
+with_query reading = grammar.fresh (reading.queries ++ grammar.whole reading ∷ [])

@@ -1,10 +1,10 @@
 //! The grammar, one token at a time.
 
-ghost use Rattle.std.specs.Prelude.{◌≡◌, ◌<◌, ◌≤◌, ◌+◌, ◌++◌, [], ◌∷◌, IfOk, OnOk, option_map};
+ghost use Rattle.std.specs.Prelude.{◌≡◌, ◌<◌, ◌≤◌, ◌+◌, [], IfOk, OnOk, option_map};
 ghost use Rattle.spec_queries.specs.Grammar as grammar;
-ghost use Rattle.spec_queries.specs.Grammar.{at, fresh, whole, with_relation, read_after_sum, read_at, read_token, finished};
+ghost use Rattle.spec_queries.specs.Grammar.{fresh, read_after_sum, read_at, read_token, finished};
 ghost use Rattle.spec_queries.specs.Tokens.{variable};
-ghost use Rattle.cq_queries.specs.Views.{token_of, place_of, reading_of, readings_of};
+ghost use Rattle.cq_queries.specs.Views.{token_of, place_of, reading_of, readings_of, LeadsOn, EndsSum, EndsRelation, with_query};
 
 use crate::places::{Due, Joining, Place, with_term};
 use crate::tokens::Token;
@@ -60,7 +60,7 @@ impl Reader {
 
     fn read_at(&mut self, place: Place, token: &Token<'_>) -> Result<Option<Place>, AllocError>
         requires { self.old.variables.count < usize.MAX }
-        ensures next { IfOk result (λ next. readings_of self.new next ≡ read_at (place_of place) (token_of token.now) (reading_of self.old (place_of place))) }
+        ensures next { IfOk result (λ next. LeadsOn self.old (place_of place) (token_of token.now) self.new next) }
         ensures count { OnOk result (self.new.variables.count ≤ self.old.variables.count + 1) }
     {
         match place {
@@ -96,7 +96,7 @@ impl Reader {
 
     fn read_term(&mut self, due: Due, token: &Token<'_>) -> Result<Option<Place>, AllocError>
         requires { self.old.variables.count < usize.MAX }
-        ensures next { IfOk result (λ next. readings_of self.new next ≡ read_at (grammar.before_term due) (token_of token.now) (reading_of self.old (grammar.before_term due))) }
+        ensures next { IfOk result (λ next. LeadsOn self.old (grammar.before_term due) (token_of token.now) self.new next) }
         ensures count { OnOk result (self.new.variables.count ≤ self.old.variables.count + 1) }
     {
         match token {
@@ -121,7 +121,7 @@ impl Reader {
         name: &str,
     ) -> Result<Option<Place>, AllocError>
         requires { self.old.variables.count < usize.MAX }
-        ensures next { IfOk result (λ next. readings_of self.new next ≡ read_at (grammar.before_factor due number) (variable name.now) (reading_of self.old (grammar.before_factor due number))) }
+        ensures next { IfOk result (λ next. LeadsOn self.old (grammar.before_factor due number) (variable name.now) self.new next) }
         ensures count { OnOk result (self.new.variables.count ≤ self.old.variables.count + 1) }
     {
         let variable = self.variables.number(name)?;
@@ -136,7 +136,7 @@ impl Reader {
         number: Frac,
         token: &Token<'_>,
     ) -> Result<Option<Place>, AllocError>
-        ensures next { IfOk result (λ next. readings_of self.new next ≡ read_at (grammar.after_number due number) (token_of token.now) (reading_of self.old (grammar.after_number due number))) }
+        ensures next { IfOk result (λ next. LeadsOn self.old (grammar.after_number due number) (token_of token.now) self.new next) }
         ensures variables { OnOk result (self.new.variables ≡ self.old.variables) }
     {
         match token {
@@ -154,7 +154,7 @@ impl Reader {
         sum: Sum,
         token: &Token<'_>,
     ) -> Result<Option<Place>, AllocError>
-        ensures next { (place : grammar.Place) → IfOk result (λ next. readings_of self.new next ≡ read_after_sum left sum (token_of token.now) (reading_of self.old place)) }
+        ensures next { (place : grammar.Place) → IfOk result (λ next. EndsSum left sum (token_of token.now) (reading_of self.old place) self.new next) }
         ensures variables { OnOk result (self.new.variables ≡ self.old.variables) }
     {
         match token {
@@ -180,7 +180,7 @@ impl Reader {
         right: Sum,
         behind: Place,
     ) -> Result<Option<Place>, AllocError>
-        ensures left { (place : grammar.Place) → IfOk result (λ next. readings_of self.new next ≡ option_map (λ l. at (place_of behind) (with_relation l right (reading_of self.old place))) left) }
+        ensures left { (place : grammar.Place) → IfOk result (λ next. EndsRelation left right (place_of behind) (reading_of self.old place) self.new next) }
         ensures variables { OnOk result (self.new.variables ≡ self.old.variables) }
     {
         let Some(left) = left else {
@@ -192,7 +192,7 @@ impl Reader {
 
     /// Adds the query under way to those that are whole.
     fn finish_query(&mut self) -> Result<(), AllocError>
-        ensures { (place : grammar.Place) → OnOk result (reading_of self.new grammar.before_query ≡ fresh (self.old.queries.items ++ whole (reading_of self.old place) ∷ [])) }
+        ensures { (place : grammar.Place) → OnOk result (reading_of self.new grammar.before_query ≡ with_query (reading_of self.old place)) }
     {
         let relations = mem::replace(&mut self.relations, Vec::new(self.alloc));
         let variables = mem::replace(&mut self.variables, Variables::new(self.alloc));

@@ -18,7 +18,7 @@ pub struct Variables {
 
 impl Model for Variables {
     ghost use Rattle.spec_queries.specs.Grammar as grammar;
-    ghost use Rattle.cq_queries.specs.Names.{names_of};
+    ghost use Rattle.cq_names.specs.Names.{names_of};
 
     ghost Value = { grammar.Variables };
 

@@ -1,6 +1,6 @@
 -- A heap that gets terms and variables keeps what it had.
-use Rattle.std.proofs.Common.{◌≡◌, nat_lt, ℕ, ◌<◌, ◌≤◌, Bool, true, false, List, [], ◌∷◌, ◌++◌, length, Option, Some, None, Result, Ok, Err, refl, sym, ap, subst, ◌∙◌, arith, length-append}
-use Rattle.std.specs.Prelude.{OnOk, OnErr, IfOk}
+use Rattle.std.proofs.Common.{◌≡◌, nat_lt, ℕ, ◌<◌, ◌≤◌, Bool, true, false, List, [], ◌∷◌, ◌++◌, length, Result, Ok, Err, refl, sym, ap, ◌∙◌, arith, length-append}
+use Rattle.std.specs.Prelude.{OnOk, OnErr}
 use Rattle.std.specs.declared.alloc.AllocError.{AllocError}
 use Rattle.std.proofs.Math.Seq.{get_or-append_seam}
 use Rattle.std.proofs.lemmas.Bool.Decides.{nat_tests}
@@ -10,18 +10,16 @@ use Rattle.spec_lists.specs.Prefixes.{IsPrefix}
 use Rattle.spec_terms.specs.Term.{Var}
 use Rattle.spec_syntax.specs.TextTokens.{VariableName}
 use Rattle.cq_term.specs.Meaning.{HeapTerm, at, blank}
-use Rattle.cq_term.specs.HeapValue.{HeapValue, Terms}
+use Rattle.cq_term.specs.HeapValue.{HeapValue}
 use Rattle.cq_term.specs.Shown.{IsUnbound}
 use Rattle.cq_parse.specs.declared.frames.Frame.{Frame}
 use Rattle.cq_parse.specs.declared.frames.State.{State}
 use Rattle.cq_parse.specs.declared.frames.State.TheVariants as state
-use Rattle.cq_parse.specs.Views.{OnlyGrows, tree, frames_of, state_of, AreLive, IsLiveState}
+use Rattle.cq_parse.specs.Views.{frames_of, state_of, AreLive, IsLiveState}
 use Rattle.spec_syntax.specs.Machine as machine
-use Rattle.cq_parse.proofs.Kept.{prefix_both, prefix_at, prefix_length, tree_kept, frames_kept, frames_live}
-use Rattle.cq_read.specs.declared.clause.Clause.{Clause}
+use Rattle.cq_parse.proofs.Kept.{prefix_both, prefix_at, prefix_length, tree_kept, frames_kept}
 use Rattle.cq_read.specs.Growth.{Grows}
 use Rattle.cq_read.specs.Names.{AreUnbound}
-use Rattle.cq_read.specs.Clauses.{IsLive}
 use Rattle.cq_read.specs.Clauses as clauses
 
 -- ---- the heap

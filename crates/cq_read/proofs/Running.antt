@@ -1,5 +1,5 @@
 -- What is read from a clause on that is being read.
-use Rattle.std.proofs.Common.{◌≡◌, ◌≢◌, ℕ, suc, ◌<◌, ◌≤◌, nat_lt, List, [], ◌∷◌, length, Bool, true, false, Option, Some, None, Result, Ok, Err, ◌⊎◌, inl, inr, refl, sym, ap, ◌∙◌, subst, arith}
+use Rattle.std.proofs.Common.{◌≡◌, ◌≢◌, ℕ, ◌<◌, ◌≤◌, nat_lt, List, length, Bool, true, false, Some, None, Result, Ok, Err, inl, inr, refl, sym, ap, ◌∙◌, subst, arith}
 use Rattle.std.specs.Prelude.{if◌then◌else◌, IfOk}
 use Rattle.std.specs.declared.alloc.AllocError.{AllocError}
 use Rattle.std.proofs.lemmas.Bool.Decides.{nat_tests}
@@ -11,7 +11,6 @@ use Rattle.spec_grammar.specs.declared.LexFault.{LexFault}
 use Rattle.spec_grammar.specs.Gaps as gaps
 use Rattle.spec_grammar.specs.Tokens as lexical
 use Rattle.spec_grammar.specs.Tokens.{next_token}
-use Rattle.spec_syntax.specs.TextTokens.{Variables}
 use Rattle.spec_syntax.specs.Machine as machine
 use Rattle.spec_syntax.specs.Machine.{IsOpen, start}
 use Rattle.spec_reading.specs.Readings.{Read, Clause, Ended, Syntax, Resumes, ended}
@@ -26,13 +25,14 @@ use Rattle.cq_parse.specs.declared.frames.State.{State}
 use Rattle.cq_parse.specs.declared.frames.State.TheVariants as stand
 use Rattle.cq_parse.specs.declared.names.GrammarNames.{GrammarNames}
 use Rattle.cq_parse.specs.Known.{KnowsState, AreGrammarNames}
-use Rattle.cq_parse.specs.Views.{state_of, frames_of, tree}
+use Rattle.cq_term.specs.Trees.{tree}
+use Rattle.cq_parse.specs.Views.{state_of, frames_of}
 use Rattle.cq_read.specs.declared.clause.Clause as declared
 use Rattle.cq_read.specs.declared.reading.Read as result
 use Rattle.cq_read.specs.declared.reading.Read.TheVariants as read
 use Rattle.cq_read.specs.declared.reading.Turn as declared_turn
 use Rattle.cq_read.specs.declared.reading.Turn.TheVariants as turn
-use Rattle.cq_read.specs.Clauses.{IsLive, Advances, state, state_if, variables_so_far, whole_term}
+use Rattle.cq_read.specs.Clauses.{IsLive, Advances, state, variables_so_far, whole_term}
 use Rattle.cq_read.specs.Names.{variables}
 use Rattle.cq_read.specs.Ends.{IsClauseRead}
 use Rattle.cq_read.specs.Running.{Begun, ReadFromHere, IsRunning, Turned, IsStopped}

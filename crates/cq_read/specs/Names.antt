@@ -1,12 +1,8 @@
 -- The names of a clause's variables.
-use Rattle.std.specs.Prelude.{ℕ, List, [], ◌∷◌, map, length, ⊤, String, string_bytes}
+use Rattle.std.specs.Prelude.{List, [], ◌∷◌, length, ⊤}
 use Rattle.spec_syntax.specs.TextTokens.{VariableName, Variables}
 use Rattle.cq_term.specs.Meaning.{HeapTerm}
 use Rattle.cq_term.specs.Shown.{IsUnbound}
-
--- the entries of a map from names to numbers of variables
-abbrev pub names_of : {A : Type 0} → List (String A × ℕ) → List VariableName
-names_of entries = map (λ e. record { name = string_bytes e.0; number = e.1 }) entries
 
 -- the variables so far: those with names, and how many the heap has
 abbrev pub variables : List VariableName → List HeapTerm → Variables

@@ -1,5 +1,5 @@
 -- What a reading is by the terms of a heap and the texts of the names.
-use Rattle.std.specs.Prelude.{◌≡◌, ℕ, ◌<◌, ◌≤◌, List, length, Bool, true, false, Result, Ok, Err, ◌⊎◌, ⊤}
+use Rattle.std.specs.Prelude.{◌≡◌, ℕ, ◌<◌, ◌≤◌, List, length, Bool, true, false, Result, Ok, ◌⊎◌, ⊤}
 use Rattle.std.specs.declared.alloc.AllocError.{AllocError}
 use Rattle.spec_lists.specs.Texts.{Text}
 use Rattle.spec_operators.specs.Operators.{Ops}
@@ -12,7 +12,7 @@ use Rattle.spec_reading.specs.Readings.{Reads}
 use Rattle.spec_reading.specs.Runs.{ReadsOn, IsBefore}
 use Rattle.spec_reading.specs.Later.{read_later, variables_from}
 use Rattle.cq_term.specs.HeapValue.{HeapValue, Terms}
-use Rattle.cq_parse.specs.Views.{tree}
+use Rattle.cq_term.specs.Trees.{tree}
 use Rattle.cq_read.specs.declared.reading.Read.{Read}
 use Rattle.cq_read.specs.declared.reading.Read.TheVariants as read
 use Rattle.cq_read.specs.Growth.{Grows, IsAsBefore}

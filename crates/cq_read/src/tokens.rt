@@ -1,6 +1,6 @@
 // Tokens of a text as those of the grammar.
 
-ghost use Rattle.std.specs.Prelude.{◌≡◌, ◌≢◌, ◌≤◌, ◌⊎◌, ℕ, List, ◌∷◌, Some, slice_get, drop, length, option_map, IfOk, IfSome, OnOk, IsTrue, IsFalse};
+ghost use Rattle.std.specs.Prelude.{◌≡◌, ◌≢◌, ◌≤◌, ℕ, List, ◌∷◌, Some, slice_get, drop, length, option_map, IfOk, IfSome, OnOk, IsTrue, IsFalse};
 ghost use Rattle.std.specs.Char.{is_ascii_digit};
 ghost use Rattle.std.specs.Str.{IsUtf8};
 ghost use Rattle.spec_lists.specs.Texts.{Text};
@@ -11,7 +11,8 @@ ghost use Rattle.spec_syntax.specs.TextTokens.{Variables as Known, bare_name, qu
 ghost use Rattle.cq_atoms.specs.Texts.{AreDifferent, KeepsTexts};
 ghost use Rattle.cq_lex.specs.Shown.{shown};
 ghost use Rattle.cq_parse.specs.Views.{token_of, IsLiveToken};
-ghost use Rattle.cq_parse.specs.Known.{KnowsToken, KnowsTerms};
+ghost use Rattle.cq_term.specs.Trees.{KnowsTerms};
+ghost use Rattle.cq_parse.specs.Known.{KnowsToken};
 ghost use Rattle.cq_term.specs.Meaning.{HeapTerm};
 ghost use Rattle.cq_read.specs.Growth.{Grows};
 ghost use Rattle.cq_read.specs.Names.{AreUnbound};

@@ -4,7 +4,7 @@ ghost use Rattle.std.specs.Prelude.{◌≡◌, ◌+◌, ℕ, List, [], None, len
 ghost use Rattle.spec_syntax.specs.TextTokens.{known, next_number, with_variable};
 ghost use Rattle.cq_term.specs.Shown.{IsUnbound};
 ghost use Rattle.spec_lists.specs.Texts.{Text};
-ghost use Rattle.cq_parse.specs.Known.{KnowsTerms};
+ghost use Rattle.cq_term.specs.Trees.{KnowsTerms};
 ghost use Rattle.cq_read.specs.Growth.{Grows};
 ghost use Rattle.cq_read.specs.Names.{AreUnbound};
 ghost use Rattle.cq_read.specs.Names as names;
@@ -26,7 +26,7 @@ pub struct Variables {
 impl Model for Variables {
     ghost use Rattle.std.specs.Prelude.{List};
     ghost use Rattle.spec_terms.specs.VariableName as naming;
-    ghost use Rattle.cq_read.specs.Names.{names_of};
+    ghost use Rattle.cq_names.specs.Names.{names_of};
 
     ghost Value = { List naming.VariableName };
 

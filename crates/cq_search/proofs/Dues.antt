@@ -4,6 +4,7 @@ use Rattle.std.specs.List.{AllByRecursion}
 use Rattle.spec_rational.specs.Rational.{ℚ}
 use Rattle.spec_linear.specs.Form.{Linear}
 use Rattle.spec_linear.specs.Solution.{Constraint, Has}
+use Rattle.spec_linear.proofs.Denominators.{has_left}
 use Rattle.cq_frac.specs.declared.Operation.{Operation}
 use Rattle.cq_frac.specs.declared.Pair.{Pair}
 use Rattle.spec_limits.specs.Dictionary.{Quantity}
@@ -59,11 +60,6 @@ module _ (stage : Stage) (list : List Constraint) (asked : List Linear) (more : 
 
 -- ---- the dues
 
-has_front : (ps qs : List Operands) (o : Operands) → Has o ps → Has o (ps ++ qs)
-has_front [] qs o h = absurd h
-has_front (p ∷ ps) qs o (inl e) = inl e
-has_front (p ∷ ps) qs o (inr h) = inr (has_front ps qs o h)
-
 has_middle : (before after : List Constraint) (c : Constraint) → Has c (before ++ c ∷ after)
 has_middle [] after c = inl refl
 has_middle (d ∷ before) after c = inr (has_middle before after c)
@@ -74,9 +70,9 @@ module _ (q : Query) where
 
   met : (l : List Constraint) (asked : List Linear) {o : Operation} {a b : ℚ} → equation.OperandPair (operations q) o a b
       → Makes (record { stage = settling; list = l; asked = asked; operations = terms; rows = [] }) o a b
-  met l asked (equation.coefficients o h s x) = coefficients o (has_front (operations q) (map turned q.relations) o h) s x
-  met l asked (equation.constants o h s) = constants o (has_front (operations q) (map turned q.relations) o h) s
-  met l asked (equation.operands o h s l' r) = operands o (has_front (operations q) (map turned q.relations) o h) s l' r
+  met l asked (equation.coefficients o h s x) = coefficients o (has_left o (operations q) (map turned q.relations) h) s x
+  met l asked (equation.constants o h s) = constants o (has_left o (operations q) (map turned q.relations) h) s
+  met l asked (equation.operands o h s l' r) = operands o (has_left o (operations q) (map turned q.relations) h) s l' r
 
   pub due_in_terms : (p : Pair) → equation.Refuses (operations q) p → IsStopDue q settling p
   due_in_terms p r = record {

@@ -89,3 +89,12 @@ shown_variable (Compound g ts) v e = cc
 pub all_one : (i n : ℕ) → i < n → All (λ j. j < n) (i ∷ [])
 all_one i n lt zero d h = lt
 all_one i n lt (suc k) d h = absurd (omega arith)
+
+pub both_arguments : (t : HeapTerm) (f : ℕ) → view_of t ≡ view.Compound f 2 → (a : HeapTerm) × (b : HeapTerm) × (t ≡ Compound f (more a (one b)))
+both_arguments (Var v) f e = cc
+both_arguments (Number q) f e = cc
+both_arguments (Name b) f e = cc
+both_arguments (Compound g (one t)) f e = let h : ◌≡◌ {A = ℕ} 1 2 = cc in absurd (omega (arith, h))
+both_arguments (Compound g (more t (one u))) f e = let h : f ≡ g = cc in (t, u, ap (λ k. Compound k (more t (one u))) (sym h))
+both_arguments (Compound g (more t (more u (one w)))) f e = let h : ◌≡◌ {A = ℕ} 3 2 = cc in absurd (omega (arith, h))
+both_arguments (Compound g (more t (more u (more w us)))) f e = let h : suc (suc (suc (count us))) ≡ 2 = cc in absurd (omega (arith, h))

@@ -5,3 +5,4 @@ pub mod Cells
 pub mod Reading
 pub mod Marks
 pub mod Known
+pub mod Named

@@ -6,3 +6,4 @@ pub mod HeapValue
 pub mod Rep
 pub mod Layout
 pub mod Names
+pub mod Trees

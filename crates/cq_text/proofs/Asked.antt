@@ -22,7 +22,7 @@ use Rattle.spec_order.proofs.Orders.{compare_terms-equal, compare_terms-itself}
 use Rattle.spec_terms.specs.Term.{Number, Name, named}
 use Rattle.cq_atoms.specs.Texts.{text_of}
 use Rattle.cq_term.specs.Meaning.{HeapTerm, at}
-use Rattle.cq_kinds.specs.Trees.{tree}
+use Rattle.cq_term.specs.Trees.{tree}
 use Rattle.spec_syntax.specs.Trees.{Tree, natural}
 use Rattle.spec_builtins.specs.Alternatives.{Solutions, faults_if, same_term, allows, Same}
 use Rattle.spec_built.specs.Kinds.{is_variable, is_name}

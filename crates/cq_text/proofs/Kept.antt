@@ -5,7 +5,7 @@ use Rattle.spec_builtins.specs.Alternatives.{◌≐◌, without_new}
 use Rattle.spec_builtins.specs.Texts.{name_of, split_at, part_at}
 use Rattle.spec_syntax.specs.Trees.{natural}
 use Rattle.cq_term.specs.HeapValue.{HeapValue}
-use Rattle.cq_kinds.specs.Trees.{tree, KnowsTerms}
+use Rattle.cq_term.specs.Trees.{tree, KnowsTerms}
 use Rattle.cq_built.specs.Growing.{Grows}
 use Rattle.cq_built.specs.Offered.{equation_of, alternative_of}
 use Rattle.cq_built.specs.declared.alternatives.Alternative.{Alternative}

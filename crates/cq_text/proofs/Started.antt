@@ -13,7 +13,7 @@ use Rattle.spec_builtins.specs.Alternatives.{Solutions, Offers, ◌≐◌, witho
 use Rattle.spec_builtins.specs.Texts.{characters, matching, may_match, name_of, parts_at, split_at}
 use Rattle.cq_atoms.specs.Texts.{text_of}
 use Rattle.cq_term.specs.Meaning.{HeapTerm, at}
-use Rattle.cq_kinds.specs.Trees.{tree}
+use Rattle.cq_term.specs.Trees.{tree}
 use Rattle.cq_text.specs.declared.ways.PartArgs.{PartArgs}
 use Rattle.cq_text.specs.declared.ways.PartWays.{PartWays}
 use Rattle.cq_text.specs.declared.ways.SplitArgs.{SplitArgs}

@@ -9,7 +9,7 @@ use Rattle.spec_built.specs.Errors.{instantiation, type_error, domain_error}
 use Rattle.spec_builtins.specs.Alternatives.{Solutions, Faults, ◌≐◌, faults_if}
 use Rattle.spec_builtins.specs.Texts.{may_match, name_of}
 use Rattle.cq_term.specs.Meaning.{HeapTerm, at}
-use Rattle.cq_kinds.specs.Trees.{tree}
+use Rattle.cq_term.specs.Trees.{tree}
 use Rattle.cq_built.specs.Errors.{error_tree, HasCulprit}
 use Rattle.cq_built.specs.declared.errors.BuiltinError.{BuiltinError}
 use Rattle.cq_text.specs.declared.sought.Wanted.{Wanted}

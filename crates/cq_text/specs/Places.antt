@@ -53,6 +53,10 @@ IsFirst s cs before low first = (len : ℕ) → low ≤ len → before + len ≤
 abbrev pub row : List ℕ → ℕ → ℕ → List Place
 row cs before low = map (place before) (counted_from low (length cs + 1 - before - low))
 
+-- those of them where the part is as asked
+abbrev pub fitting : Sought → List ℕ → ℕ → ℕ → List Place
+fitting s cs before low = filter (fits s cs) (row cs before low)
+
 -- those from this place on
 abbrev pub places_from : List ℕ → ℕ → ℕ → List Place
 places_from cs before low = row cs before low ++ flat_map (λ b. row cs b 0) (counted_from (suc before) (length cs - before))

@@ -5,7 +5,7 @@ use Rattle.spec_builtins.specs.Alternatives.{Solutions}
 use Rattle.spec_builtins.specs.Texts.{atom_length_row, atom_concat_row, sub_atom_row}
 use Rattle.cq_atoms.specs.Texts.{text_of}
 use Rattle.cq_term.specs.Meaning.{HeapTerm}
-use Rattle.cq_kinds.specs.Trees.{tree}
+use Rattle.cq_term.specs.Trees.{tree}
 use Rattle.cq_text.specs.declared.ways.PartArgs.{PartArgs}
 use Rattle.cq_text.specs.declared.ways.PartWays.{PartWays}
 use Rattle.cq_text.specs.declared.ways.SplitArgs.{SplitArgs}

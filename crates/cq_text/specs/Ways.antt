@@ -1,12 +1,13 @@
 -- What predicates on texts offer, as alternatives that are made one at a time.
-use Rattle.std.specs.Prelude.{ℕ, ◌<◌, List, [], ◌∷◌, map, length, All, Option, Some, None, ⊤}
+use Rattle.std.specs.Prelude.{◌≡◌, ℕ, ◌<◌, List, [], ◌∷◌, ◌++◌, map, length, chars, All, Option, Some, None, ⊤}
 use Rattle.spec_lists.specs.Texts.{Text}
-use Rattle.spec_syntax.specs.Trees.{Tree}
+use Rattle.spec_syntax.specs.Trees.{Tree, natural}
 use Rattle.spec_builtins.specs.Alternatives.{◌≐◌, without_new}
 use Rattle.spec_builtins.specs.Alternatives as definition
-use Rattle.spec_builtins.specs.Texts.{split_at, part_at}
+use Rattle.spec_builtins.specs.Texts.{split_at, part_at, name_of}
+use Rattle.cq_atoms.specs.Texts.{text_of}
 use Rattle.cq_term.specs.Meaning.{HeapTerm}
-use Rattle.cq_kinds.specs.Trees.{tree}
+use Rattle.cq_term.specs.Trees.{tree}
 use Rattle.cq_walk.specs.Pairs.{IsLive}
 use Rattle.cq_built.specs.Offered.{alternative_of}
 use Rattle.cq_built.specs.declared.alternatives.Alternative.{Alternative}
@@ -27,6 +28,14 @@ AreThere ts a = All (IsLive ts) a.pairs.items
 -- one alternative, of one pair
 abbrev pub one_pair : Tree → Tree → List definition.Alternative
 one_pair t u = without_new ((t ≐ u) ∷ []) ∷ []
+
+-- the argument is how many characters the name has
+abbrev pub length_way : List Text → List HeapTerm → ℕ → ℕ → List definition.Alternative
+length_way texts ts len name = one_pair (tree texts ts len) (natural (length (chars (text_of texts name))))
+
+-- the argument is the name of two names' characters together
+abbrev pub joined_way : List Text → List HeapTerm → ℕ → ℕ → ℕ → List definition.Alternative
+joined_way texts ts whole first last = one_pair (tree texts ts whole) (name_of (chars (text_of texts first) ++ chars (text_of texts last)))
 
 -- ---- splits
 
@@ -83,6 +92,14 @@ CanGoOn ts w = HasWays ts w.ways
 abbrev pub then_these : List Text → List HeapTerm → Option Alternative → List definition.Alternative → List definition.Alternative
 then_these texts ts None ws = []
 then_these texts ts (Some a) ws = alternative_of texts ts 0 a ∷ ws
+
+-- the ways that were still to come are the next one and those that are still to come
+abbrev pub TakesNext : {W : Type 0} → (List Text → List HeapTerm → W → List definition.Alternative) → List Text → List HeapTerm → W → List Text → List HeapTerm → W → Option Alternative → Type 0
+TakesNext ways texts ts old more us new next = ways texts ts old ≡ then_these more us next (ways more us new)
+
+-- whatever the names are, the one way is this pair
+abbrev pub IsOnlyPair : List HeapTerm → ℕ → ℕ → TextAlternatives → Type 0
+IsOnlyPair ts left right ways = (texts : List Text) → offered texts ts ways ≡ one_pair (tree texts ts left) (tree texts ts right)
 
 -- the alternative, if there is one, can be tried
 abbrev pub CanBeTried : List HeapTerm → Option Alternative → Type 0

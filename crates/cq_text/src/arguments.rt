@@ -1,10 +1,10 @@
 // The arguments of predicates on texts: what they may be, and what they ask for.
 
-ghost use Rattle.std.specs.Prelude.{◌≡◌, ◌<◌, ℕ, List, length, IfOk, IfErr, IfSome, IsNone};
+ghost use Rattle.std.specs.Prelude.{◌≡◌, ◌<◌, List, length, IfOk, IfErr, IfSome, IsNone};
 ghost use Rattle.spec_lists.specs.Texts.{Text};
 ghost use Rattle.spec_terms.specs.Term.{Name, Number};
 ghost use Rattle.cq_term.specs.Meaning.{at};
-ghost use Rattle.cq_kinds.specs.Trees.{tree, KnowsTerms};
+ghost use Rattle.cq_term.specs.Trees.{tree, KnowsTerms};
 ghost use Rattle.cq_text.specs.Arguments.{IsRefused, AreLetPass, IsAtomOr, IsAsked, IsAskedText, atom_tests, other_atom_tests, other_integer_tests, counts_tests};
 ghost use Rattle.cq_text.specs.Ways.{HasPartArgs};
 

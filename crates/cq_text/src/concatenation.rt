@@ -2,14 +2,12 @@
 
 ghost use Rattle.std.specs.Prelude.{◌≡◌, ◌<◌, ◌++◌, length, chars, encode_utf8_all, string_bytes, IfOk, IfErr};
 ghost use Rattle.spec_builtins.specs.Alternatives.{Offers};
-ghost use Rattle.spec_builtins.specs.Texts.{name_of};
-ghost use Rattle.cq_atoms.specs.Texts.{text_of};
-ghost use Rattle.cq_kinds.specs.Trees.{tree, KnowsTerms};
+ghost use Rattle.cq_term.specs.Trees.{KnowsTerms};
 ghost use Rattle.cq_built.specs.Errors.{Explains, CanBeRaised};
 ghost use Rattle.cq_built.specs.Growing.{Grows};
 ghost use Rattle.cq_text.specs.Arguments.{IsAtomOr, IsRefused, AreLetPass, three_atom_tests};
 ghost use Rattle.cq_text.specs.Rows.{concat_row, StartsSplits};
-ghost use Rattle.cq_text.specs.Ways.{HasSplitArgs, CanGoOn, offered, one_pair};
+ghost use Rattle.cq_text.specs.Ways.{HasSplitArgs, CanGoOn, offered, joined_way};
 
 use crate::arguments::{optional_atom, wanted_text};
 use crate::characters::characters;
@@ -130,7 +128,7 @@ fn joined_names(
     requires last { last < length atoms.old }
     requires whole { whole < length heap.old.now.terms }
     requires names { KnowsTerms atoms.old heap.old.now.terms }
-    ensures ok { IfOk result (λ ways. offered atoms.new heap.new.now.terms ways ≡ one_pair (tree atoms.old heap.old.now.terms whole) (name_of (chars (text_of atoms.old first) ++ chars (text_of atoms.old last)))) }
+    ensures ok { IfOk result (λ ways. offered atoms.new heap.new.now.terms ways ≡ joined_way atoms.old heap.old.now.terms whole first last) }
     ensures live { IfOk result (CanGoOn heap.new.now.terms) }
     ensures grows { Grows atoms.old heap.old atoms.new heap.new }
 {

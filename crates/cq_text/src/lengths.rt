@@ -1,17 +1,15 @@
 // The predicate that tells how long a text is.
 
-ghost use Rattle.std.specs.Prelude.{◌≡◌, ◌<◌, length, chars, IfOk, IfErr};
+ghost use Rattle.std.specs.Prelude.{◌≡◌, ◌<◌, length, IfOk, IfErr};
 ghost use Rattle.spec_terms.specs.Term.{Name};
-ghost use Rattle.spec_syntax.specs.Trees.{natural};
 ghost use Rattle.spec_builtins.specs.Alternatives.{Offers};
-ghost use Rattle.cq_atoms.specs.Texts.{text_of};
 ghost use Rattle.cq_term.specs.Meaning.{at};
-ghost use Rattle.cq_kinds.specs.Trees.{tree, KnowsTerms};
+ghost use Rattle.cq_term.specs.Trees.{KnowsTerms};
 ghost use Rattle.cq_built.specs.Errors.{Explains, CanBeRaised};
 ghost use Rattle.cq_built.specs.Growing.{Grows};
 ghost use Rattle.cq_text.specs.Arguments.{IsRefused, AreLetPass, length_tests};
 ghost use Rattle.cq_text.specs.Rows.{length_row};
-ghost use Rattle.cq_text.specs.Ways.{CanGoOn, offered, one_pair};
+ghost use Rattle.cq_text.specs.Ways.{CanGoOn, offered, length_way};
 
 use crate::arguments::{atom_argument, other_integer_error};
 use crate::characters::count;
@@ -79,7 +77,7 @@ fn told_length(
     requires name { name < length atoms.now }
     requires len { len < length heap.old.now.terms }
     requires names { KnowsTerms atoms.now heap.old.now.terms }
-    ensures ok { IfOk result (λ ways. offered atoms.now heap.new.now.terms ways ≡ one_pair (tree atoms.now heap.old.now.terms len) (natural (length (chars (text_of atoms.now name))))) }
+    ensures ok { IfOk result (λ ways. offered atoms.now heap.new.now.terms ways ≡ length_way atoms.now heap.old.now.terms len name) }
     ensures live { IfOk result (CanGoOn heap.new.now.terms) }
     ensures grows { Grows atoms.now heap.old atoms.now heap.new }
 {

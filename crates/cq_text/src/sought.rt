@@ -1,7 +1,7 @@
 // What arguments ask of a part of a text.
 
-ghost use Rattle.std.specs.Prelude.{◌≡◌, ◌+◌, ◌≤◌, ◌∷◌, [], None, filter, length, IfSome, IfNone};
-ghost use Rattle.cq_text.specs.Places.{admits, admits_text, fits, place, row, IsFree, IsOnly, IsOnlyBefore, IsFirst};
+ghost use Rattle.std.specs.Prelude.{◌≡◌, ◌+◌, ◌≤◌, ◌∷◌, [], None, length, IfSome, IfNone};
+ghost use Rattle.cq_text.specs.Places.{admits, admits_text, fits, fitting, place, IsFree, IsOnly, IsOnlyBefore, IsFirst};
 
 use crate::characters::are_same;
 
@@ -112,8 +112,8 @@ impl Sought {
     ) -> Option<usize>
         requires { before ≤ length characters.now }
         ensures within { IfSome result (λ len. before + len ≤ length characters.now) }
-        ensures some { IfSome result (λ len. filter (fits self.now characters.now) (row characters.now before low) ≡ place before len ∷ filter (fits self.now characters.now) (row characters.now before (len + 1))) }
-        ensures none { IfNone result (filter (fits self.now characters.now) (row characters.now before low) ≡ []) }
+        ensures some { IfSome result (λ len. fitting self.now characters.now before low ≡ place before len ∷ fitting self.now characters.now before (len + 1)) }
+        ensures none { IfNone result (fitting self.now characters.now before low ≡ []) }
     {
         let most = characters.len() - before;
         let len = self.first_try(characters, before, low);

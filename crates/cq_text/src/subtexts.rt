@@ -4,7 +4,7 @@ ghost use Rattle.std.specs.Prelude.{◌≡◌, ◌<◌, length, IfOk, IfErr};
 ghost use Rattle.spec_builtins.specs.Alternatives.{Offers};
 ghost use Rattle.spec_terms.specs.Term.{Name};
 ghost use Rattle.cq_term.specs.Meaning.{at};
-ghost use Rattle.cq_kinds.specs.Trees.{tree, KnowsTerms};
+ghost use Rattle.cq_term.specs.Trees.{KnowsTerms};
 ghost use Rattle.cq_built.specs.Errors.{Explains, CanBeRaised};
 ghost use Rattle.cq_text.specs.Arguments.{IsAtomOr, IsRefused, AreLetPass, part_tests};
 ghost use Rattle.cq_text.specs.Ways.{HasPartArgs, CanGoOn, offered};

@@ -1,7 +1,7 @@
 // Parts, splits and lengths of a text past ASCII.
 
-ghost use Rattle.std.specs.Prelude.{◌≡◌, ◌<◌, ◌≤◌, length, IfOk};
-ghost use Rattle.cq_kinds.specs.Trees.{KnowsTerms};
+ghost use Rattle.std.specs.Prelude.{◌<◌, ◌≤◌, length, IfOk};
+ghost use Rattle.cq_term.specs.Trees.{KnowsTerms};
 ghost use Rattle.cq_text.specs.Ways.{AreThere, CanGoOn};
 
 use crate::{PartArgs, SplitArgs, TextAlternatives, atom_concat, atom_length, sub_atom};

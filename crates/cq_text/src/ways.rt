@@ -1,13 +1,12 @@
 // The ways in which predicates on texts hold, made one at a time.
 
-ghost use Rattle.std.specs.Prelude.{◌≡◌, ◌+◌, ◌-◌, ◌≤◌, ◌<◌, List, length, take, drop, IfOk, OnErr};
-ghost use Rattle.spec_lists.specs.Texts.{Text};
+ghost use Rattle.std.specs.Prelude.{◌≡◌, ◌+◌, ◌-◌, ◌≤◌, ◌<◌, length, take, IfOk, OnErr};
 ghost use Rattle.spec_syntax.specs.Trees.{natural};
 ghost use Rattle.spec_builtins.specs.Texts.{name_of};
-ghost use Rattle.cq_kinds.specs.Trees.{tree, KnowsTerms};
+ghost use Rattle.cq_term.specs.Trees.{tree, KnowsTerms};
 ghost use Rattle.cq_built.specs.Growing.{Grows};
 ghost use Rattle.cq_built.specs.Offered.{alternative_of};
-ghost use Rattle.cq_text.specs.Ways.{AreThere, HasSplitArgs, HasPartArgs, CanGoOn, CanBeTried, split_way, part_way, split_ways, part_ways, offered, one_pair, then_these};
+ghost use Rattle.cq_text.specs.Ways.{AreThere, HasSplitArgs, HasPartArgs, CanGoOn, CanBeTried, split_way, part_way, split_ways, part_ways, offered, TakesNext, IsOnlyPair};
 
 use crate::characters::joined;
 use crate::parts::Parts;
@@ -76,7 +75,7 @@ impl TextAlternatives {
     ) -> Result<Option<Alternative>, AllocError>
         requires live { CanGoOn heap.old.now.terms self.old }
         requires names { KnowsTerms atoms.old heap.old.now.terms }
-        ensures next { IfOk result (λ next. offered atoms.old heap.old.now.terms self.old ≡ then_these atoms.new heap.new.now.terms next (offered atoms.new heap.new.now.terms self.new)) }
+        ensures next { IfOk result (λ next. TakesNext offered atoms.old heap.old.now.terms self.old atoms.new heap.new.now.terms self.new next) }
         ensures there { IfOk result (CanBeTried heap.new.now.terms) }
         ensures live { CanGoOn heap.new.now.terms self.new }
         ensures grows { Grows atoms.old heap.old atoms.new heap.new }
@@ -98,7 +97,7 @@ impl SplitWays {
     ) -> Result<Option<Alternative>, AllocError>
         requires live { HasSplitArgs heap.old.now.terms self.old.args }
         requires names { KnowsTerms atoms.old heap.old.now.terms }
-        ensures next { IfOk result (λ next. split_ways atoms.old heap.old.now.terms self.old ≡ then_these atoms.new heap.new.now.terms next (split_ways atoms.new heap.new.now.terms self.new)) }
+        ensures next { IfOk result (λ next. TakesNext split_ways atoms.old heap.old.now.terms self.old atoms.new heap.new.now.terms self.new next) }
         ensures there { IfOk result (CanBeTried heap.new.now.terms) }
         ensures live { HasSplitArgs heap.new.now.terms self.new.args }
         ensures grows { Grows atoms.old heap.old atoms.new heap.new }
@@ -121,7 +120,7 @@ impl PartWays {
     ) -> Result<Option<Alternative>, AllocError>
         requires live { HasPartArgs heap.old.now.terms self.old.args }
         requires names { KnowsTerms atoms.old heap.old.now.terms }
-        ensures next { IfOk result (λ next. part_ways atoms.old heap.old.now.terms self.old ≡ then_these atoms.new heap.new.now.terms next (part_ways atoms.new heap.new.now.terms self.new)) }
+        ensures next { IfOk result (λ next. TakesNext part_ways atoms.old heap.old.now.terms self.old atoms.new heap.new.now.terms self.new next) }
         ensures there { IfOk result (CanBeTried heap.new.now.terms) }
         ensures live { HasPartArgs heap.new.now.terms self.new.args }
         ensures grows { Grows atoms.old heap.old atoms.new heap.new }
@@ -182,7 +181,7 @@ pub(crate) fn one_way(
 ) -> Result<TextAlternatives, AllocError>
     requires left { left < length heap.now.now.terms }
     requires right { right < length heap.now.now.terms }
-    ensures offered { IfOk result (λ ways. (texts : List Text) → offered texts heap.now.now.terms ways ≡ one_pair (tree texts heap.now.now.terms left) (tree texts heap.now.now.terms right)) }
+    ensures offered { IfOk result (IsOnlyPair heap.now.now.terms left right) }
     ensures live { IfOk result (CanGoOn heap.now.now.terms) }
 {
     let pairs = vec![in heap.alloc(); pair(left, right)]?;

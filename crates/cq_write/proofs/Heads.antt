@@ -1,5 +1,5 @@
 -- Terms by their heads and arguments.
-use Rattle.std.proofs.Common.{◌≡◌, ℕ, zero, suc, ◌<◌, slice_get, Some, ap, sym, subst, arith}
+use Rattle.std.proofs.Common.{◌≡◌, ℕ, zero, suc, slice_get, Some, ap, sym, subst, arith}
 use Rattle.spec_terms.specs.Term.{Terms, Var, Number, Name, Compound, one, more, count, list_of}
 use Rattle.cq_term.specs.Meaning.{HeapTerm}
 use Rattle.cq_term.specs.Names.{HasNamesBelow, HaveNamesBelow}
@@ -43,8 +43,3 @@ many_arguments (Compound g (one t)) f n e m k = (let j : 1 ≡ n = cc in absurd 
 many_arguments (Compound g (more t (one u))) f n e m k = (let j : 2 ≡ n = cc in absurd (k (sym j)))
 many_arguments (Compound g (more t (more u us))) f n e m k = (let j : g ≡ f = cc in (t, u, us, ap (λ x. Compound x (more t (more u us))) j))
 
-pub name_below : (n : ℕ) (t : HeapTerm) (f m : ℕ) → view_of t ≡ view.Compound f m → HasNamesBelow n t → f < n
-name_below n (Var v) f m e h = cc
-name_below n (Number q) f m e h = cc
-name_below n (Name b) f m e h = cc
-name_below n (Compound g ts) f m e h = (let j : g ≡ f = cc in subst (λ x. x < n) j h.0)

@@ -18,7 +18,8 @@ ghost use Rattle.std.specs.Prelude.{◌≡◌, ◌<◌, length, IfOk};
 ghost use Rattle.cq_term.specs.Meaning.{at};
 ghost use Rattle.cq_term.specs.Names.{HasNamesBelow};
 ghost use Rattle.spec_writing.specs.Written.{text_within};
-ghost use Rattle.cq_write.specs.Meaning.{operators, tree};
+ghost use Rattle.cq_term.specs.Trees.{tree};
+ghost use Rattle.cq_write.specs.Meaning.{operators};
 
 use crate::jobs::Job;
 use crate::line::Line;

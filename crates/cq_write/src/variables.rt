@@ -1,13 +1,13 @@
 //! Which name each variable of a term has.
 
-ghost use Rattle.std.specs.Prelude.{◌≡◌, ◌++◌, ◌<◌, OnOk, IfOk, length, filter, string_bytes, ℕ, List, nat_eq};
+ghost use Rattle.std.specs.Prelude.{◌≡◌, ◌++◌, ◌<◌, OnOk, IfOk, length, filter, string_bytes, ℕ, nat_eq};
 ghost use Rattle.indexmap.specs.IndexMap.{get};
 ghost use Rattle.spec_terms.specs.Variables.{variables};
 ghost use Rattle.spec_terms.specs.VariableName.{VariableName};
 ghost use Rattle.spec_writing.specs.Written.{is_unnamed};
 ghost use Rattle.cq_term.specs.Meaning.{at};
 ghost use Rattle.cq_term.specs.Shown.{arguments};
-ghost use Rattle.cq_write.specs.Naming.{AreFound, Opens, kept_or, with_unnamed};
+ghost use Rattle.cq_write.specs.Naming.{AreFound, AreUnnamed, Opens, kept_or, with_unnamed};
 ghost use Rattle.cq_write.specs.Settings.{IsIndexed, shown_by};
 
 use crate::numbers::push_counted;
@@ -83,7 +83,7 @@ fn unnamed_of(
     given: &IndexMap<usize, usize>,
 ) -> Result<IndexSet<usize>, AllocError>
     requires { term < length heap.now.now.terms }
-    ensures { IfOk result (λ unnamed. (names : List VariableName) → AreFound names (get nat_eq given.now) → unnamed.keys ≡ filter (is_unnamed names) (variables (at heap.now.now.terms term))) }
+    ensures { IfOk result (λ unnamed. AreUnnamed (get nat_eq given.now) (at heap.now.now.terms term) unnamed.keys) }
 {
     let mut unnamed = IndexSet::new(heap.alloc());
     let mut work = vec![in heap.alloc(); term]?;

@@ -10,12 +10,12 @@ use Rattle.spec_rational.proofs.Sign.{pos_one, pos_add, pos_nonneg, not_pos_zero
 use Rattle.spec_lists.proofs.Places.{nothing_within}
 use Rattle.spec_linear.specs.declared.Relation.TheVariants.{Gt, Ge}
 use Rattle.spec_linear.specs.Form.{Linear, value_at, constant_form, variable_form, difference_form}
-use Rattle.spec_linear.specs.Solution.{Constraint, Entails, Satisfies, Extends, Same, Has, SomeMentions, MentionsOnly, number}
+use Rattle.spec_linear.specs.Solution.{Constraint, Entails, Satisfies, Extends, Same, Has, SomeMentions, MentionsOnly, number, equal_zero}
 use Rattle.spec_linear.proofs.Values.{value_at-constant_form, value_at-variable_form, value_at-difference_form}
 use Rattle.spec_linear.proofs.Points.{holds_same, solves_same}
 use Rattle.spec_linear.proofs.Denominators.{extends}
 use Rattle.spec_linear.proofs.Lists.{entails_same}
-use Rattle.spec_echelon.specs.Echelon.{IsEchelon, IsOver, equal_zero}
+use Rattle.spec_echelon.specs.Echelon.{IsEchelon, IsOver}
 use Rattle.spec_operators.specs.Standard.{standard}
 use Rattle.spec_projection.specs.Others.{AreOthers}
 use Rattle.spec_projection.specs.Printed.{Above}

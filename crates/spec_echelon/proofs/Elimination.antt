@@ -8,11 +8,11 @@ use Rattle.spec_rational.proofs.Rational.{ring}
 use Rattle.spec_rational.proofs.Sign.{zero_or_not, times_inverse}
 use Rattle.spec_rational.proofs.Sums.{sum_at-plus, sum_at-times, sum_at-agrees, factor_of-is}
 use Rattle.spec_linear.specs.Form.{Linear, value_at, variable_form, scaled_form, difference_form, substituted_form, changed_at}
-use Rattle.spec_linear.specs.Solution.{Constraint, Meets, AreEquations, Satisfies, Has, MentionsOnly}
+use Rattle.spec_linear.specs.Solution.{Constraint, Meets, AreEquations, Satisfies, Has, MentionsOnly, equal_zero}
 use Rattle.spec_linear.proofs.Values.{value_at-variable_form, value_at-scaled_form, value_at-difference_form, value_at-substituted_form}
 use Rattle.spec_lists.proofs.Tests.{nat_eq-same}
 use Rattle.spec_linear.proofs.Denominators.{satisfies_agrees}
-use Rattle.spec_echelon.specs.Echelon.{AreDistinct, equal_zero}
+use Rattle.spec_echelon.specs.Echelon.{AreDistinct}
 use Rattle.spec_echelon.proofs.Filled.{value_at-agrees}
 use Rattle.spec_echelon.proofs.Listed.{DependsOn, listed_form, listed-mentions, value_at-listed_form}
 

@@ -8,10 +8,10 @@ use Rattle.spec_rational.proofs.Rational.{ring}
 use Rattle.spec_rational.proofs.Sign.{one_not_zero}
 use Rattle.spec_rational.proofs.Sums.{sum_at-agrees, sum_at-nowhere, unit-self, unit-other}
 use Rattle.spec_linear.specs.Form.{Linear}
-use Rattle.spec_linear.specs.Solution.{Constraint, number, Solvable, Fixed, Entails, Same, Has, MentionsOnly, Satisfies}
+use Rattle.spec_linear.specs.Solution.{Constraint, number, Solvable, Fixed, Entails, Same, Has, MentionsOnly, Satisfies, equal_zero}
 use Rattle.spec_linear.proofs.Denominators.{agrees_at, extends, agrees_on}
 use Rattle.spec_linear.proofs.Points.{holds_same, solves_same}
-use Rattle.spec_echelon.specs.Echelon.{Solved, equation, equations, AreDistinct, InOrder, variables, IsBefore, IsOver, equal_zero, IsEchelon}
+use Rattle.spec_echelon.specs.Echelon.{Solved, equation, equations, AreDistinct, InOrder, variables, IsBefore, IsOver, IsEchelon}
 use Rattle.spec_echelon.specs.SolvedForm.{IsSolvedForm, NotFixed, rows_of}
 use Rattle.spec_echelon.proofs.Orders.{in_order-has, in_order-behind, in_order-once, in_order-rest, mentions-has}
 use Rattle.spec_echelon.proofs.Filled.{value_at-agrees, equation-said, filled, filled-free, filled-solved, filled-satisfies, each_row, rows-sorted, rows-satisfied, filled-target}

@@ -5,9 +5,9 @@ use Rattle.std.specs.List.{AllByRecursion}
 use Rattle.spec_rational.specs.Rational.{ℚ}
 use Rattle.spec_rational.specs.Sums.{Mentions}
 use Rattle.spec_linear.specs.Form.{Linear}
-use Rattle.spec_linear.specs.Solution.{Constraint, Entails, Has, MentionsOnly, Satisfies}
+use Rattle.spec_linear.specs.Solution.{Constraint, Entails, Has, MentionsOnly, Satisfies, equal_zero}
 use Rattle.spec_linear.proofs.Lists.{entails_same}
-use Rattle.spec_echelon.specs.Echelon.{Solved, AreDistinct, IsBefore, IsOver, IsEchelon, difference, equal_zero, equation, equations, variables}
+use Rattle.spec_echelon.specs.Echelon.{Solved, AreDistinct, IsBefore, IsOver, IsEchelon, difference, equation, equations, variables}
 use Rattle.spec_echelon.specs.SolvedForm.{rows_of}
 use Rattle.spec_echelon.proofs.Orders.{in_order-has, mentions-has}
 use Rattle.spec_echelon.proofs.Solving.{negated-mentions}

@@ -3,19 +3,14 @@ use Rattle.std.specs.Prelude.{◌≡◌, ◌≢◌, ◌⊎◌, ℕ, List, [], �
 use Rattle.std.specs.List.{AllByRecursion}
 use Rattle.spec_rational.specs.Rational.{0ℚ, 1ℚ, neg_ℚ}
 use Rattle.spec_rational.specs.Sums.{Monomial, Mentions, negated_products}
-use Rattle.spec_linear.specs.declared.Relation.TheVariants.{Eq}
 use Rattle.spec_linear.specs.Form.{Linear}
 pub use Rattle.spec_linear.specs.Form.{variables}
-use Rattle.spec_linear.specs.Solution.{Constraint, Entails, Has}
+use Rattle.spec_linear.specs.Solution.{Constraint, equal_zero, Entails, Has}
 
 -- an equation solved for a variable: the variable is the form
 pub record Solved : Type 0 where
   pub variable : ℕ
   pub form : Linear
-
--- the constraint that a form is zero
-abbrev pub equal_zero : Linear → Constraint
-equal_zero f = record { relation = Eq; form = f }
 
 -- the variable less the form
 abbrev pub difference : Solved → Linear

@@ -1,2 +1,3 @@
 pub mod Weak
 pub mod Certificate
+pub mod Opposite

@@ -5,7 +5,7 @@ use Rattle.spec_linear.specs.declared.Relation.TheVariants.{Eq, Ne}
 use Rattle.spec_linear.specs.Form.{Linear, variable_form, negated_form}
 use Rattle.spec_linear.specs.Solution.{Constraint, Has}
 use Rattle.spec_inequalities.specs.Weak.{at_least_zero}
-use Rattle.spec_projection.specs.Follows.{opposite}
+use Rattle.spec_inequalities.specs.Opposite.{opposite}
 
 -- the form, or its negative
 abbrev pub IsEither : Linear → Linear → Type 0

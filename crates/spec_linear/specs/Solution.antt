@@ -16,6 +16,10 @@ pub record Constraint : Type 0 where
 abbrev pub false_constraint : Constraint
 false_constraint = record { relation = Eq; form = constant_form 1ℚ }
 
+-- f = 0
+abbrev pub equal_zero : Linear → Constraint
+equal_zero f = record { relation = Eq; form = f }
+
 -- the equation of a variable and a number
 abbrev pub equal_to : ℕ → ℚ → Constraint
 equal_to x q = record { relation = Eq; form = difference_form (variable_form x) (constant_form q) }
@@ -93,6 +97,10 @@ HoldsAt a c = Meets c.relation (value_at a c.form)
 abbrev pub Satisfies : (ℕ → ℚ) → List Constraint → Type 0
 Satisfies a [] = ⊤
 Satisfies a (c ∷ l) = HoldsAt a c × Satisfies a l
+
+-- some assignment satisfies the list
+abbrev pub Satisfiable : List Constraint → Type 0
+Satisfiable l = (v : ℕ → ℚ) × Satisfies v l
 
 -- the point gives each target the value that a gives it
 abbrev pub AgreesOn : List ℕ → (ℕ → ℚ) → Point → Type 0

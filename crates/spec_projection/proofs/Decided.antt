@@ -9,7 +9,7 @@ use Rattle.spec_rational.proofs.Sign.{Sign, is_zero, is_pos, is_neg, sign, nonne
 use Rattle.spec_linear.specs.declared.Relation.{Relation}
 use Rattle.spec_linear.specs.declared.Relation.TheVariants.{Eq, Gt, Ge, Ne}
 use Rattle.spec_linear.specs.Form.{Linear, value_at, negated_form, changed_at}
-use Rattle.spec_linear.specs.Solution.{Constraint, Meets, HoldsAt, Satisfies, Has}
+use Rattle.spec_linear.specs.Solution.{Constraint, Meets, HoldsAt, Satisfies, Satisfiable, Has}
 use Rattle.spec_linear.proofs.Values.{value_at-negated_form}
 use Rattle.spec_lists.proofs.Tests.{nat_eq-same}
 use Rattle.spec_linear.proofs.Denominators.{satisfies_agrees, has_left, has_right}
@@ -25,12 +25,9 @@ use Rattle.spec_projection.proofs.Mentions.{coefficient-eliminated, neither, unm
 use Rattle.spec_projection.proofs.Eliminating.{AreInequalities-eliminated}
 use Rattle.spec_projection.proofs.Follows.{one_holds, not_both_hold}
 
-abbrev pub HasValues : List Constraint → Type 0
-HasValues l = (a : ℕ → ℚ) × Satisfies a l
-
 -- some values satisfy the list, or none do
 abbrev pub IsDecided : List Constraint → Type 0
-IsDecided l = HasValues l ⊎ ((a : ℕ → ℚ) → Satisfies a l → ⊥)
+IsDecided l = Satisfiable l ⊎ ((a : ℕ → ℚ) → Satisfies a l → ⊥)
 
 -- ---- at given values
 

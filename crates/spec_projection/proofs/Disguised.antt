@@ -6,16 +6,14 @@ use Rattle.spec_rational.proofs.Sign.{nonneg_cases, nonneg_zero, pos_nonneg}
 use Rattle.spec_linear.specs.declared.Relation.{Relation}
 use Rattle.spec_linear.specs.declared.Relation.TheVariants.{Eq, Gt, Ge, Ne}
 use Rattle.spec_linear.specs.Form.{Linear, value_at}
-use Rattle.spec_linear.specs.Solution.{Constraint, Meets, HoldsAt, Satisfies, Solvable, Entails, Equivalent, AreEquations, Has, SomeMentions}
+use Rattle.spec_linear.specs.Solution.{Constraint, Meets, HoldsAt, Satisfies, Solvable, Entails, Equivalent, AreEquations, Has, SomeMentions, equal_zero, Satisfiable}
 use Rattle.spec_linear.proofs.Denominators.{solvable_same, has_left, has_right}
 use Rattle.spec_linear.proofs.Lists.{entails_same, alike_solvable, alike_entails, alike_sym}
-use Rattle.spec_echelon.specs.Echelon.{equal_zero}
 use Rattle.spec_inequalities.specs.Weak.{above_zero, at_least_zero, with_weak, weak}
 use Rattle.spec_inequalities.proofs.Far.{Weakly, weak_satisfied, weak_member}
 use Rattle.spec_projection.specs.Interior.{strictly, is_equation, equations_of}
 use Rattle.spec_projection.proofs.Members.{has_either, has_filtered, alike_by_members, member_entailed}
 use Rattle.spec_projection.proofs.Splits.{entails_members}
-use Rattle.spec_projection.proofs.Decided.{HasValues}
 use Rattle.spec_projection.proofs.Decision.{decided_above}
 use Rattle.spec_projection.proofs.Interior.{strict_together}
 use Rattle.spec_projection.proofs.Inside.{equations_follow}
@@ -40,7 +38,7 @@ pub record Sorted (l m : List Constraint) : Type 0 where
   pub holds : (a : ℕ → ℚ) → Satisfies a (weak l) → (c : Constraint) → Has c equal → HoldsAt a c
   pub among : (c : Constraint) → Has c rest → Has c m
   pub unequal : (c : Constraint) → Has c rest → c.relation ≡ Eq → ⊥
-  pub rises : (f : Linear) → Has (at_least_zero f) rest → HasValues (above_zero f ∷ weak l)
+  pub rises : (f : Linear) → Has (at_least_zero f) rest → Satisfiable (above_zero f ∷ weak l)
   pub back : (c : Constraint) → Has c m → Has c rest ⊎ (Has (equal_zero c.form) equal × (Meets c.relation 0ℚ))
 
 module _ (l : List Constraint) where
@@ -62,7 +60,7 @@ module _ (l : List Constraint) where
   }
 
   -- it joins the others
-  as_other : (c : Constraint) (m : List Constraint) → Sorted l m → (c.relation ≡ Eq → ⊥) → ((f : Linear) → at_least_zero f ≡ c → HasValues (above_zero f ∷ weak l)) → Sorted l (c ∷ m)
+  as_other : (c : Constraint) (m : List Constraint) → Sorted l m → (c.relation ≡ Eq → ⊥) → ((f : Linear) → at_least_zero f ≡ c → Satisfiable (above_zero f ∷ weak l)) → Sorted l (c ∷ m)
   as_other c m s n h = record {
     equal = s.equal;
     rest = c ∷ s.rest;
@@ -118,7 +116,7 @@ module _ (l : List Constraint) where
       by Gt e s = other Gt e gt_eq ge_gt s
       by Ne e s = other Ne e ne_eq ge_ne s
       by Ge e s = elim (decided_above l c.form) [
-        | inl v ↦ as_other c m s (λ w. ge_eq (sym e ∙ w)) (λ f w. subst (λ g. HasValues (above_zero g ∷ weak l)) (sym (ap (λ z. z.form) w)) v)
+        | inl v ↦ as_other c m s (λ w. ge_eq (sym e ∙ w)) (λ f w. subst (λ g. Satisfiable (above_zero g ∷ weak l)) (sym (ap (λ z. z.form) w)) v)
         | inr n ↦ as_equation c m s (subst (λ r. Meets r 0ℚ) (sym e) nonneg_zero) (λ a t. flat a (subst (λ r. Weakly r (value_at a c.form)) e (weakly a t)) (λ p. n a (p, t)))
       ]
 

@@ -16,7 +16,7 @@ same_is i j e =
     let arity : i.arity ≡ j.arity = nat_eq-same i.arity j.arity h.1 in
     λ k. record { name = name k; arity = arity k }
 
-same_itself : (i : Indicator) → same_indicator i i ≡ true
+pub same_itself : (i : Indicator) → same_indicator i i ≡ true
 same_itself i = ap₂ (λ (a b : Bool). a && b) ((bytes_decides i.name i.name).1 refl) (nat_eq-self i.arity)
 
 -- ---- procedures

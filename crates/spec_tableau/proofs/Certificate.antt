@@ -11,12 +11,11 @@ use Rattle.spec_rational.proofs.Order.{le_refl, pos_to_lt}
 use Rattle.spec_linear.specs.declared.Relation.{Relation}
 use Rattle.spec_linear.specs.declared.Relation.TheVariants.{Eq, Gt, Ge, Ne}
 use Rattle.spec_linear.specs.Form.{Linear, value_at, negated_form, scaled_form}
-use Rattle.spec_linear.specs.Solution.{Constraint}
+use Rattle.spec_linear.specs.Solution.{Constraint, equal_zero}
 use Rattle.spec_linear.proofs.Values.{value_at-constant_form, value_at-sum_form, value_at-scaled_form, value_at-negated_form}
 use Rattle.spec_inequalities.specs.Weak.{above_zero, not_zero}
 use Rattle.spec_inequalities.specs.Certificate.{member, form_or_zero, weighted_sum, Allows, IsAllowed, SomeStrict, IsFalseRun, IsFalseBehind, Refutes}
 use Rattle.spec_inequalities.proofs.NoVariable.{same_number_everywhere}
-use Rattle.spec_tableau.specs.Reach.{equals_zero}
 use Rattle.spec_tableau.specs.Tableau.{Tableau, numbers, IsWritten, Place}
 use Rattle.spec_tableau.specs.Entries.{entries, row_entries, AllNumbered, IsNumbered}
 use Rattle.spec_tableau.proofs.Standing.{x0, x1, x2}
@@ -155,12 +154,12 @@ module _ (l : List Constraint) where
           ∙ ring (value_at v f ∷ r ∷ []) (minus (int (pos 1)) ⊗ x0 ⊕ x1) (minus x0 ⊕ x1) refl
           ∙ ap (λ b. b +ℚ r) (sym (value_at-negated_form v f)) ∙ row_value w (negated_form f) p a v
 
-      pub equation_refutes : (n : ℕ) → member l n ≡ Some (equals_zero f) →
+      pub equation_refutes : (n : ℕ) → member l n ≡ Some (equal_zero f) →
           ((d.row p.quantity).constant <ℚ 0ℚ) ⊎ (((d.row p.quantity).constant ≡ 0ℚ) × SomeStrict l (entries number (d.row p.quantity).live)) →
           Refutes ((n, neg_ℚ 1ℚ) ∷ row_entries number (d.row p.quantity)) l
       equation_refutes n e x =
           inl (false_run ((n, neg_ℚ 1ℚ) ∷ row_entries number (d.row p.quantity)) (d.row p.quantity).constant
-          (first_allowed n (equals_zero f) e (neg_ℚ 1ℚ) tt, row_allowed w (negated_form f) p a) (against_value n (equals_zero f) e refl) (wrong x))
+          (first_allowed n (equal_zero f) e (neg_ℚ 1ℚ) tt, row_allowed w (negated_form f) p a) (against_value n (equal_zero f) e refl) (wrong x))
         where
           wrong : ((d.row p.quantity).constant <ℚ 0ℚ) ⊎ (((d.row p.quantity).constant ≡ 0ℚ) × SomeStrict l (entries number (d.row p.quantity).live)) →
               ((d.row p.quantity).constant <ℚ 0ℚ) ⊎ (((d.row p.quantity).constant ≡ 0ℚ) × SomeStrict l ((n, neg_ℚ 1ℚ) ∷ row_entries number (d.row p.quantity)))

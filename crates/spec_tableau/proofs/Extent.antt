@@ -8,7 +8,7 @@ use Rattle.spec_rational.proofs.Sign as sign_of
 use Rattle.spec_linear.specs.declared.Relation.{Relation}
 use Rattle.spec_linear.specs.declared.Relation.TheVariants.{Eq, Gt, Ge, Ne}
 use Rattle.spec_linear.specs.Form.{Linear, value_at, constant_form, difference_form}
-use Rattle.spec_linear.specs.Solution.{Constraint, number, Meets, Satisfies, Solvable, Unsolvable, Entails}
+use Rattle.spec_linear.specs.Solution.{Constraint, number, Meets, Satisfies, Solvable, Unsolvable, Entails, Satisfiable}
 use Rattle.spec_linear.proofs.Values.{value_at-negated_form}
 use Rattle.spec_linear.proofs.Points.{solves_same}
 use Rattle.spec_linear.proofs.Denominators.{solvable_same}
@@ -17,7 +17,8 @@ use Rattle.spec_inequalities.specs.Weak.{above_zero, weak}
 use Rattle.spec_inequalities.proofs.Far.{weak_satisfied}
 use Rattle.spec_inequalities.proofs.Together.{less_is, reached_above}
 use Rattle.spec_extremes.specs.Extremes.{Exceeds, IsSupremum, IsUnbounded}
-use Rattle.spec_tableau.specs.Reach.{Satisfiable, IsGreatest, opposite_of, opposite}
+use Rattle.spec_inequalities.specs.Opposite.{opposite_of, opposite}
+use Rattle.spec_tableau.specs.Reach.{IsGreatest}
 use Rattle.spec_tableau.proofs.Standing.{x0, pos_not_zero}
 
 -- what an assignment exceeds, a point exceeds

@@ -3,18 +3,18 @@ use Rattle.std.proofs.Common.{◌≡◌, ℕ, List, [], ◌∷◌, inl, inr, pos
 use Rattle.spec_rational.specs.Rational.{ℚ, 0ℚ, 1ℚ, ◌-ℚ◌, ◌*ℚ◌, neg_ℚ, inv_ℚ, IsPositive, IsNotNegative}
 use Rattle.spec_rational.proofs.Ring.{int, ◌⊕◌, ◌⊗◌, minus}
 use Rattle.spec_rational.proofs.Rational.{ring}
-use Rattle.spec_rational.proofs.Sign.{pos_add, nonneg_add, pos_mul, nonneg_mul, pos_nonneg, pos_one, nonneg_zero, not_pos_zero, Sign, is_pos, is_neg, sign, not_both, nonneg_cases, inv_mul, inv_pos, zero_or_not}
+use Rattle.spec_rational.proofs.Sign.{pos_add, pos_mul, pos_nonneg, Sign, is_pos, is_neg, sign, inv_mul, inv_pos}
 use Rattle.spec_rational.proofs.Sign as sign_of
 use Rattle.spec_rational.proofs.Order.{le_refl}
 use Rattle.spec_linear.specs.declared.Relation.{Relation}
 use Rattle.spec_linear.specs.declared.Relation.TheVariants.{Eq, Gt, Ge, Ne}
 use Rattle.spec_linear.specs.Form.{Linear, value_at, negated_form}
-use Rattle.spec_linear.specs.Solution.{Constraint, Satisfies, Has}
+use Rattle.spec_linear.specs.Solution.{Constraint, Satisfies, Has, equal_zero, Satisfiable}
 use Rattle.spec_linear.proofs.Values.{value_at-negated_form}
 use Rattle.spec_inequalities.specs.Weak.{above_zero, at_least_zero, not_zero, weak}
 use Rattle.spec_inequalities.proofs.Eventually.{Eventually, both, from_zero, rises}
 use Rattle.spec_inequalities.proofs.Far.{Weakly, weak_member, far, meets_far, weak_far}
-use Rattle.spec_tableau.specs.Reach.{equals_zero, Satisfiable, Rises, Moves, NeverNegative, Stands, Kept, Cut, Again}
+use Rattle.spec_tableau.specs.Reach.{Rises, Moves, NeverNegative, Stands, Kept, Cut, Again}
 use Rattle.spec_tableau.proofs.Standing.{x0, x1, x2, positive_far}
 
 -- where the new row rises, whatever rose still rises
@@ -121,10 +121,10 @@ fallen f v h = subst IsPositive (value_at-negated_form v f) h
 
 -- where f rises and falls, whatever rose still rises where f is zero
 pub no_new_zero_between : (l : List Constraint) (f g : Linear) → NeverNegative l g → Rises l f → Rises l (negated_form f) → Rises l g →
-    Rises (equals_zero f ∷ l) g
+    Rises (equal_zero f ∷ l) g
 no_new_zero_between l f g k up down rg = go (sign (value_at rg.0 f))
   where
-    go : Sign (value_at rg.0 f) → Rises (equals_zero f ∷ l) g
+    go : Sign (value_at rg.0 f) → Rises (equal_zero f ∷ l) g
     go (sign_of.is_zero z) = (rg.0, (rg.1.0, (z, rg.1.1)))
     go (is_pos h) =
         let low = fallen f down.0 down.1.0 in (
@@ -142,7 +142,7 @@ no_new_zero_between l f g k up down rg = go (sign (value_at rg.0 f))
       ),
     )
 
-pub start_between : (l : List Constraint) (f : Linear) → Rises l f → Rises l (negated_form f) → Satisfiable (equals_zero f ∷ weak l)
+pub start_between : (l : List Constraint) (f : Linear) → Rises l f → Rises l (negated_form f) → Satisfiable (equal_zero f ∷ weak l)
 start_between l f up down =
     let low = fallen f down.0 down.1.0 in (
       meet l f down.0 up.0 low up.1.0 down.1.1 up.1.1,
@@ -151,7 +151,7 @@ start_between l f up down =
 
 module _ (A : (ℕ → ℚ) → Type 0) (l : List Constraint) (f : Linear) where
   between_one : (r : Relation) (g : Linear) → ((v : ℕ → ℚ) → Satisfies v (weak l) → Weakly r (value_at v g)) → Rises l f → Rises l (negated_form f) →
-      (r ≡ Ne → Moves (Cut A f) g) → Stands A l r g → Stands (Cut A f) (equals_zero f ∷ l) r g
+      (r ≡ Ne → Moves (Cut A f) g) → Stands A l r g → Stands (Cut A f) (equal_zero f ∷ l) r g
   between_one Eq g k up down n s = λ v a. s v a.0
   between_one Gt g k up down n s = no_new_zero_between l f g k up down s
   between_one Ge g k up down n (inl s) = inl (λ v a. s v a.0)
@@ -159,15 +159,15 @@ module _ (A : (ℕ → ℚ) → Type 0) (l : List Constraint) (f : Linear) where
   between_one Ne g k up down n s = n refl
 
   pub keep_zero : Kept A l → Rises l f → Rises l (negated_form f) → ((c : Constraint) → Has c l → c.relation ≡ Ne → Moves (Cut A f) c.form) →
-      Kept (Cut A f) (equals_zero f ∷ l)
+      Kept (Cut A f) (equal_zero f ∷ l)
   keep_zero k up down n = record {
     start = start_between l f up down;
     inside = λ v s. (k.inside v s.1, s.0);
     stands = go;
   }
     where
-      go : (c : Constraint) → Has c (equals_zero f ∷ l) → Stands (Cut A f) (equals_zero f ∷ l) c.relation c.form
-      go c (inl e) = subst (λ d. Stands (Cut A f) (equals_zero f ∷ l) d.relation d.form) (sym e) (λ v a. a.1)
+      go : (c : Constraint) → Has c (equal_zero f ∷ l) → Stands (Cut A f) (equal_zero f ∷ l) c.relation c.form
+      go c (inl e) = subst (λ d. Stands (Cut A f) (equal_zero f ∷ l) d.relation d.form) (sym e) (λ v a. a.1)
       go c (inr m) = between_one c.relation c.form (λ v s. weak_member v l c m s) up down (n c m) (k.stands c m)
 
 -- ---- fewer solutions, and a smaller set that holds them

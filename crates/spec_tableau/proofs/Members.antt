@@ -8,7 +8,7 @@ use Rattle.spec_rational.proofs.Rational.{ring}
 use Rattle.spec_rational.proofs.Sign.{pos_one}
 use Rattle.spec_rational.proofs.Sums.{sum_at-agrees}
 use Rattle.spec_linear.specs.Form.{changed_at}
-use Rattle.spec_linear.specs.Solution.{Meets, Point, Holds, Solves, Equivalent, Fixed, SomeMentions}
+use Rattle.spec_linear.specs.Solution.{Meets, Point, Holds, Solves, Equivalent, Fixed, SomeMentions, Constraint, Satisfies, Has}
 use Rattle.spec_lists.proofs.Tests.{nat_eq-same, nat_eq-self}
 use Rattle.spec_linear.proofs.Denominators.{solvable_same}
 use Rattle.spec_linear.proofs.Lists.{member_holds, fixed_same}
@@ -17,7 +17,6 @@ use Rattle.spec_rational.specs.Rational.{ℚ}
 use Rattle.spec_linear.specs.declared.Relation.{Relation}
 use Rattle.spec_linear.specs.declared.Relation.TheVariants.{Eq, Gt, Ge, Ne}
 use Rattle.spec_linear.specs.Form.{Linear, value_at}
-use Rattle.spec_linear.specs.Solution.{Constraint, Satisfies, Has}
 use Rattle.spec_inequalities.specs.Weak.{weak}
 use Rattle.spec_inequalities.proofs.Far.{Weakly, with_weak-made, weak_member}
 use Rattle.spec_tableau.specs.Reach.{Rises, Stands, SameMembers}

@@ -10,11 +10,11 @@ use Rattle.spec_rational.proofs.Sums.{sum_at-times, sum_at-nowhere, factor_of-is
 use Rattle.spec_linear.specs.declared.Relation.{Relation}
 use Rattle.spec_linear.specs.declared.Relation.TheVariants.{Eq, Gt, Ge, Ne}
 use Rattle.spec_linear.specs.Form.{Linear, value_at}
-use Rattle.spec_linear.specs.Solution.{Constraint, number, Satisfies, Has}
+use Rattle.spec_linear.specs.Solution.{Constraint, number, Satisfies, Has, equal_zero}
 use Rattle.spec_linear.proofs.Points.{solves_same}
 use Rattle.spec_inequalities.specs.Weak.{at_least_zero, weak}
 use Rattle.spec_extremes.specs.Extremes.{IsUnbounded}
-use Rattle.spec_tableau.specs.Reach.{equals_zero, Rises, IsFlat, Stands, Again, IsGreatest}
+use Rattle.spec_tableau.specs.Reach.{Rises, IsFlat, Stands, Again, IsGreatest}
 use Rattle.spec_tableau.specs.Tableau.{WithinEquations, AreDropped, Restored, Place, Sound, Owned, Held, IsUnlimited, Tableau, Linked, empty, numbers, Within, AllIn, IsWritten, IsFeasible, IsNothing, Changed, Invariant}
 use Rattle.spec_tableau.proofs.Standing.{x0, x1, clash}
 use Rattle.spec_tableau.proofs.Written.{same_sum, not_in, basic, basic_is, ray, ray_is, nothing_is, open_unbounded}
@@ -94,17 +94,17 @@ module _ (d e : Tableau) (l : List Constraint) (c : Constraint) (more : (v : ℕ
   again_more b t Ne f s = record { at = s.at; inside = t s.at s.inside; apart = s.apart }
 
 -- a weak row, or an equation, whose row is nothing
-pub nothing_joins : (d : Tableau) (l : List Constraint) → Invariant d l → (q : ℕ) → q < d.count → IsNothing (d.row q) → Invariant d (equals_zero (d.form q) ∷ l)
+pub nothing_joins : (d : Tableau) (l : List Constraint) → Invariant d l → (q : ℕ) → q < d.count → IsNothing (d.row q) → Invariant d (equal_zero (d.form q) ∷ l)
 nothing_joins d l i q h n =
-    joined_again d d l (equals_zero (d.form q)) i
-    (sound_more d d [] [] same l i.sound i.sound.written i.sound.feasible (equals_zero (d.form q)) (λ z k. absurd k) (λ v s. s.1) flat (λ z k. absurd k))
+    joined_again d d l (equal_zero (d.form q)) i
+    (sound_more d d [] [] same l i.sound i.sound.written i.sound.feasible (equal_zero (d.form q)) (λ z k. absurd k) (λ v s. s.1) flat (λ z k. absurd k))
     (λ v w. w) flat
-    (λ k m. again_more d d l (equals_zero (d.form q)) more (λ v w. w) (λ v w. w) k.relation k.form (i.stands k m))
+    (λ k m. again_more d d l (equal_zero (d.form q)) more (λ v w. w) (λ v w. w) k.relation k.form (i.stands k m))
   where
     flat : (v : ℕ → ℚ) → Within d v → value_at v (d.form q) ≡ 0ℚ
     flat v w = nothing_is d i.sound.written q h n v w
 
-    more : (v : ℕ → ℚ) → Satisfies v (weak l) → Satisfies v (weak (equals_zero (d.form q) ∷ l))
+    more : (v : ℕ → ℚ) → Satisfies v (weak l) → Satisfies v (weak (equal_zero (d.form q) ∷ l))
     more v s = (flat v (i.sound.inside v s), s)
 
     same : Changed d d [] []
@@ -155,21 +155,21 @@ top_or_unbounded l f q t u =
 
 -- ---- a weak row that is flat is an equation
 module _ (e : Tableau) (l : List Constraint) (f : Linear) (flat : IsFlat (Within e) f) where
-  zero_there : Sound e (at_least_zero f ∷ l) → (v : ℕ → ℚ) → Satisfies v (weak (at_least_zero f ∷ l)) → Satisfies v (weak (equals_zero f ∷ l))
+  zero_there : Sound e (at_least_zero f ∷ l) → (v : ℕ → ℚ) → Satisfies v (weak (at_least_zero f ∷ l)) → Satisfies v (weak (equal_zero f ∷ l))
   zero_there i v s = (flat v (i.inside v s), s.1)
 
-  zero_back : (v : ℕ → ℚ) → Satisfies v (weak (equals_zero f ∷ l)) → Satisfies v (weak (at_least_zero f ∷ l))
+  zero_back : (v : ℕ → ℚ) → Satisfies v (weak (equal_zero f ∷ l)) → Satisfies v (weak (at_least_zero f ∷ l))
   zero_back v s = (subst IsNotNegative (sym s.0) nonneg_zero, s.1)
 
-  owned_zero : (g : Linear) → Owned (at_least_zero f ∷ l) g → Owned (equals_zero f ∷ l) g
-  owned_zero g (inl (inl k)) = inr (inr (inl (ap (λ c. equals_zero c.form) k)))
+  owned_zero : (g : Linear) → Owned (at_least_zero f ∷ l) g → Owned (equal_zero f ∷ l) g
+  owned_zero g (inl (inl k)) = inr (inr (inl (ap (λ c. equal_zero c.form) k)))
   owned_zero g (inl (inr m)) = inl (inr m)
-  owned_zero g (inr (inl (inl k))) = inr (inr (inl (ap (λ c. equals_zero c.form) k)))
+  owned_zero g (inr (inl (inl k))) = inr (inr (inl (ap (λ c. equal_zero c.form) k)))
   owned_zero g (inr (inl (inr m))) = inr (inl (inr m))
-  owned_zero g (inr (inr (inl k))) = inr (inr (inl (ap (λ c. equals_zero c.form) k)))
+  owned_zero g (inr (inr (inl k))) = inr (inr (inl (ap (λ c. equal_zero c.form) k)))
   owned_zero g (inr (inr (inr m))) = inr (inr (inr m))
 
-  pub sound_swapped : Sound e (at_least_zero f ∷ l) → Sound e (equals_zero f ∷ l)
+  pub sound_swapped : Sound e (at_least_zero f ∷ l) → Sound e (equal_zero f ∷ l)
   sound_swapped i = record {
     written = i.written;
     feasible = i.feasible;
@@ -178,26 +178,26 @@ module _ (e : Tableau) (l : List Constraint) (f : Linear) (flat : IsFlat (Within
     restricted = λ q h r. owned_zero (e.form q) (i.restricted q h r);
   }
     where
-      held : (c : Constraint) → Has c (equals_zero f ∷ l) → Held e c.relation c.form
+      held : (c : Constraint) → Has c (equal_zero f ∷ l) → Held e c.relation c.form
       held c (inl k) = subst (λ x. Held e x.relation x.form) (sym k) flat
       held c (inr m) = i.held c (inr m)
 
-  rises_zero : Sound e (at_least_zero f ∷ l) → (g : Linear) → Rises (at_least_zero f ∷ l) g → Rises (equals_zero f ∷ l) g
+  rises_zero : Sound e (at_least_zero f ∷ l) → (g : Linear) → Rises (at_least_zero f ∷ l) g → Rises (equal_zero f ∷ l) g
   rises_zero i g r = (r.0, (r.1.0, zero_there i r.0 r.1.1))
 
   stands_zero : Sound e (at_least_zero f ∷ l) → (r : Relation) (g : Linear) → Stands (Within e) (at_least_zero f ∷ l) r g →
-      Stands (Within e) (equals_zero f ∷ l) r g
+      Stands (Within e) (equal_zero f ∷ l) r g
   stands_zero i Eq g s = s
   stands_zero i Gt g s = rises_zero i g s
   stands_zero i Ge g (inl s) = inl s
   stands_zero i Ge g (inr s) = inr (rises_zero i g s)
   stands_zero i Ne g s = s
 
-  pub swapped : Invariant e (at_least_zero f ∷ l) → Invariant e (equals_zero f ∷ l)
+  pub swapped : Invariant e (at_least_zero f ∷ l) → Invariant e (equal_zero f ∷ l)
   swapped i = record { sound = sound_swapped i.sound; stands = stands }
     where
-      stands : (c : Constraint) → Has c (equals_zero f ∷ l) → Stands (Within e) (equals_zero f ∷ l) c.relation c.form
-      stands c (inl k) = subst (λ x. Stands (Within e) (equals_zero f ∷ l) x.relation x.form) (sym k) flat
+      stands : (c : Constraint) → Has c (equal_zero f ∷ l) → Stands (Within e) (equal_zero f ∷ l) c.relation c.form
+      stands c (inl k) = subst (λ x. Stands (Within e) (equal_zero f ∷ l) x.relation x.form) (sym k) flat
       stands c (inr m) = stands_zero i.sound c.relation c.form (i.stands c (inr m))
 
 -- ---- what is unbounded rises

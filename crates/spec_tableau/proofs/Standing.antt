@@ -9,13 +9,13 @@ use Rattle.spec_rational.proofs.Order.{le_refl}
 use Rattle.spec_linear.specs.declared.Relation.{Relation}
 use Rattle.spec_linear.specs.declared.Relation.TheVariants.{Eq, Gt, Ge, Ne}
 use Rattle.spec_linear.specs.Form.{Linear, value_at}
-use Rattle.spec_linear.specs.Solution.{Constraint, Satisfies, Has, Solvable}
+use Rattle.spec_linear.specs.Solution.{Constraint, Satisfies, Has, Solvable, Satisfiable}
 use Rattle.spec_linear.proofs.Denominators.{solvable_same}
 use Rattle.spec_inequalities.specs.Weak.{above_zero, not_zero, weak}
 use Rattle.spec_inequalities.proofs.Eventually.{Eventually, both, from_zero, rises}
 use Rattle.spec_inequalities.proofs.Far.{Weakly, with_weak-made, weak_member, far, meets_far, weak_far}
 use Rattle.spec_inequalities.proofs.Together.{met_together}
-use Rattle.spec_tableau.specs.Reach.{Satisfiable, IsFlat, Moves, Stands, Kept}
+use Rattle.spec_tableau.specs.Reach.{IsFlat, Moves, Stands, Kept}
 
 abbrev pub x0 : Poly
 x0 = var 0

@@ -8,12 +8,12 @@ use Rattle.spec_rational.proofs.Sign.{pos_one}
 use Rattle.spec_linear.specs.declared.Relation.{Relation}
 use Rattle.spec_linear.specs.declared.Relation.TheVariants.{Eq, Gt, Ge, Ne}
 use Rattle.spec_linear.specs.Form.{Linear, value_at, negated_form}
-use Rattle.spec_linear.specs.Solution.{Constraint, Satisfies, Has, Entails}
+use Rattle.spec_linear.specs.Solution.{Constraint, Satisfies, Has, Entails, equal_zero}
 use Rattle.spec_linear.proofs.Lists.{entails_same}
 use Rattle.spec_inequalities.specs.Weak.{above_zero, at_least_zero, not_zero, weak}
 use Rattle.spec_inequalities.proofs.Far.{weak_satisfied}
 use Rattle.spec_extremes.specs.Extremes.{IsSupremum, IsUnbounded}
-use Rattle.spec_tableau.specs.Reach.{equals_zero, Rises, Moves, Stands, Cut, Again}
+use Rattle.spec_tableau.specs.Reach.{Rises, Moves, Stands, Cut, Again}
 use Rattle.spec_tableau.specs.Tableau.{Tableau, numbers, Within, IsWritten, IsFeasible, Place, IsNothing, IsSomething, Held, Owned, Changed, Sound, Invariant, IsOptimal, IsUnlimited}
 use Rattle.spec_tableau.proofs.Standing.{x0, satisfiable}
 use Rattle.spec_tableau.proofs.Join.{keep_weak, keep_strict, keep_apart, keep_zero, again_each}
@@ -170,13 +170,13 @@ module _ (d : Tableau) (l : List Constraint) (i : Invariant d l) (q : ℕ) (h : 
       held c (inr m) = i.sound.held c m
 
   -- an equation is entailed where the row is nothing, and not where it is something
-  pub entails_zero : IsNothing (d.row q) → Entails l (equals_zero (d.form q))
-  entails_zero n = (entails_same l (equals_zero (d.form q))).1 (λ v s. nothing_is d i.sound.written q h n v (i.sound.inside v (weak_satisfied v l s)))
+  pub entails_zero : IsNothing (d.row q) → Entails l (equal_zero (d.form q))
+  entails_zero n = (entails_same l (equal_zero (d.form q))).1 (λ v s. nothing_is d i.sound.written q h n v (i.sound.inside v (weak_satisfied v l s)))
 
-  pub not_entails_zero : IsSomething (d.row q) → Entails l (equals_zero (d.form q)) → ⊥
+  pub not_entails_zero : IsSomething (d.row q) → Entails l (equal_zero (d.form q)) → ⊥
   not_entails_zero s e =
       let v = satisfiable (Within d) (not_zero (d.form q) ∷ l) (keep_apart (Within d) l (d.form q) (kept_of d l i) (moves d i.sound.written q h s)) in
-      v.1.0 ((entails_same l (equals_zero (d.form q))).0 e v.0 v.1.1)
+      v.1.0 ((entails_same l (equal_zero (d.form q))).0 e v.0 v.1.1)
 
   -- ---- suprema
   pub sup_of : IsOptimal d (d.row q).live → IsSupremum l (d.form q) (d.row q).constant
@@ -196,12 +196,12 @@ module _ (d : Tableau) (l : List Constraint) (i : Invariant d l) (q : ℕ) (h : 
 -- ---- an equation: its own quantity is dropped
 module _ (d e : Tableau) (l : List Constraint) (q : ℕ) (restricts : List ℕ) (r : Changed d e (q ∷ []) restricts) (own : (z : ℕ) → Has z restricts → z ≡ q)
     (b : IsWritten d) (w : IsWritten e) (f : IsFeasible e) where
-  zero_owned : (z : ℕ) → Has z restricts → Owned (equals_zero (d.form q) ∷ l) (d.form z)
-  zero_owned z s = subst (λ x. Owned (equals_zero (d.form q) ∷ l) (d.form x)) (sym (own z s)) (inr (inr (inl refl)))
+  zero_owned : (z : ℕ) → Has z restricts → Owned (equal_zero (d.form q) ∷ l) (d.form z)
+  zero_owned z s = subst (λ x. Owned (equal_zero (d.form q) ∷ l) (d.form x)) (sym (own z s)) (inr (inr (inl refl)))
 
-  pub sound_zero : Sound d l → Sound e (equals_zero (d.form q) ∷ l)
+  pub sound_zero : Sound d l → Sound e (equal_zero (d.form q) ∷ l)
   sound_zero i =
-      sound_more d e (q ∷ []) restricts r l i w f (equals_zero (d.form q)) (λ z s v k. ap (numbers d v) (one_of q z s) ∙ k.0) (λ v s. s.1)
+      sound_more d e (q ∷ []) restricts r l i w f (equal_zero (d.form q)) (λ z s v k. ap (numbers d v) (one_of q z s) ∙ k.0) (λ v s. s.1)
       (λ v g. within_zero d e b (q ∷ []) restricts r v g q (inl refl)) zero_owned
 
   cut_there : (v : ℕ → ℚ) → Cut (Within d) (d.form q) v → Within e v
@@ -215,10 +215,10 @@ module _ (d e : Tableau) (l : List Constraint) (q : ℕ) (restricts : List ℕ) 
 
   -- where it rises and falls, all stands but the disequations, whose rows are to be seen again
   pub joined_zero : Invariant d l → Rises l (d.form q) → Rises l (negated_form (d.form q)) →
-      ((c : Constraint) → Has c l → c.relation ≡ Ne → Moves (Within e) c.form) → Invariant e (equals_zero (d.form q) ∷ l)
+      ((c : Constraint) → Has c l → c.relation ≡ Ne → Moves (Within e) c.form) → Invariant e (equal_zero (d.form q) ∷ l)
   joined_zero i up down n = record {
     sound = sound_zero i.sound;
-    stands = (kept_same (Cut (Within d) (d.form q)) (Within e) (equals_zero (d.form q) ∷ l) cut_there cut_back
+    stands = (kept_same (Cut (Within d) (d.form q)) (Within e) (equal_zero (d.form q) ∷ l) cut_there cut_back
         (keep_zero (Within d) l (d.form q) (kept_of d l i) up down (λ c m s. moves_back c.form (n c m s)))).stands;
   }
 

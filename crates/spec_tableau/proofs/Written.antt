@@ -10,7 +10,7 @@ use Rattle.spec_rational.proofs.Sums.{sum_at-times, sum_at-nowhere, factor_of-is
 use Rattle.spec_linear.specs.declared.Relation.{Relation}
 use Rattle.spec_linear.specs.declared.Relation.TheVariants.{Eq, Gt, Ge, Ne}
 use Rattle.spec_linear.specs.Form.{Linear, value_at, variable_form, negated_form, difference_form, constant_form}
-use Rattle.spec_linear.specs.Solution.{Constraint, Satisfies, Has, Solvable, Fixed}
+use Rattle.spec_linear.specs.Solution.{Constraint, Satisfies, Has, Solvable, Fixed, equal_zero}
 use Rattle.spec_lists.proofs.Tests.{nat_eq-same}
 use Rattle.spec_linear.proofs.Values.{value_at-negated_form}
 use Rattle.spec_linear.proofs.Denominators.{solvable_same}
@@ -18,7 +18,7 @@ use Rattle.spec_linear.proofs.Lists.{fixed_same}
 use Rattle.spec_inequalities.specs.Weak.{above_zero, at_least_zero, not_zero, with_weak, weak}
 use Rattle.spec_inequalities.proofs.Far.{weak_satisfied, weak_member}
 use Rattle.spec_inequalities.proofs.Together.{less_is}
-use Rattle.spec_tableau.specs.Reach.{equals_zero, Rises, IsFlat, Moves, Stands, Kept, IsGreatest}
+use Rattle.spec_tableau.specs.Reach.{Rises, IsFlat, Moves, Stands, Kept, IsGreatest}
 use Rattle.spec_tableau.specs.Tableau.{Tableau, numbers, Within, AllIn, Chosen, IsWritten, Place, IsNothing, IsSomething, by_constant, by_entry, Placed, Shown, Held, Owned, Sound, Invariant, EachTermZero, IsOptimal, IsUnlimited}
 use Rattle.spec_tableau.proofs.Standing.{x0, x1, x2, solvable, satisfiable, pos_not_zero, clash}
 use Rattle.spec_tableau.proofs.Extent.{Grows}
@@ -179,7 +179,7 @@ module _ (d : Tableau) (l : List Constraint) (i : Sound d l) where
       go : Owned l (d.form q) → IsNotNegative (numbers d v q)
       go (inl m) = weak_member v l (at_least_zero (d.form q)) m s
       go (inr (inl m)) = weak_member v l (above_zero (d.form q)) m s
-      go (inr (inr m)) = subst IsNotNegative (sym (weak_member v l (equals_zero (d.form q)) m s)) nonneg_zero
+      go (inr (inr m)) = subst IsNotNegative (sym (weak_member v l (equal_zero (d.form q)) m s)) nonneg_zero
 
   -- a row whose constant is above zero
   pub rises_by_constant : (q : ℕ) → q < d.count → IsPositive (d.row q).constant → Rises l (d.form q)

@@ -3,17 +3,9 @@ use Rattle.std.specs.Prelude.{◌≡◌, ℕ, List, ◌∷◌, ◌⊎◌, ⊤}
 use Rattle.spec_rational.specs.Rational.{ℚ, 0ℚ, IsNotNegative, ◌≤ℚ◌}
 use Rattle.spec_linear.specs.declared.Relation.{Relation}
 use Rattle.spec_linear.specs.declared.Relation.TheVariants.{Eq, Gt, Ge, Ne}
-use Rattle.spec_linear.specs.Form.{Linear, value_at, negated_form}
-use Rattle.spec_linear.specs.Solution.{Constraint, Satisfies, Has}
-use Rattle.spec_inequalities.specs.Weak.{above_zero, at_least_zero, not_zero, weak}
-
--- f = 0
-abbrev pub equals_zero : Linear → Constraint
-equals_zero f = record { relation = Eq; form = f }
-
--- some assignment satisfies the list
-abbrev pub Satisfiable : List Constraint → Type 0
-Satisfiable l = (v : ℕ → ℚ) × Satisfies v l
+use Rattle.spec_linear.specs.Form.{Linear, value_at}
+use Rattle.spec_linear.specs.Solution.{Constraint, Satisfies, Satisfiable, Has}
+use Rattle.spec_inequalities.specs.Weak.{above_zero, weak}
 
 -- f is positive at some solution of the weak list
 abbrev pub Rises : List Constraint → Linear → Type 0
@@ -63,17 +55,6 @@ pub record IsGreatest (l : List Constraint) (f : Linear) (q : ℚ) : Type 0 wher
   pub at : ℕ → ℚ
   pub solves : Satisfies at (weak l)
   pub value : value_at at f ≡ q
-
--- what holds where a constraint does not
-abbrev pub opposite_of : Relation → Linear → Constraint
-opposite_of Eq f = not_zero f
-opposite_of Gt f = at_least_zero (negated_form f)
-opposite_of Ge f = above_zero (negated_form f)
-opposite_of Ne f = equals_zero f
-
--- the same of a constraint
-abbrev pub opposite : Constraint → Constraint
-opposite c = opposite_of c.relation c.form
 
 -- two lists with the same members
 pub record SameMembers (l m : List Constraint) : Type 0 where

@@ -6,9 +6,9 @@ use Rattle.spec_rational.specs.Sums.{Monomial, sum_at, factor_of}
 use Rattle.spec_linear.specs.declared.Relation.{Relation}
 use Rattle.spec_linear.specs.declared.Relation.TheVariants.{Eq, Gt, Ge, Ne}
 use Rattle.spec_linear.specs.Form.{Linear, value_at}
-use Rattle.spec_linear.specs.Solution.{Constraint, Satisfies, Has}
+use Rattle.spec_linear.specs.Solution.{Constraint, Satisfies, Has, equal_zero}
 use Rattle.spec_inequalities.specs.Weak.{above_zero, at_least_zero, weak}
-use Rattle.spec_tableau.specs.Reach.{equals_zero, Rises, IsFlat, Stands}
+use Rattle.spec_tableau.specs.Reach.{Rises, IsFlat, Stands}
 
 -- a constant, and products of the columns' numbers
 pub record Row : Type 0 where
@@ -128,7 +128,7 @@ Held d Ne f = ⊤
 
 -- a member by which a form is not below zero
 abbrev pub Owned : List Constraint → Linear → Type 0
-Owned l f = Has (at_least_zero f) l ⊎ (Has (above_zero f) l ⊎ Has (equals_zero f) l)
+Owned l f = Has (at_least_zero f) l ⊎ (Has (above_zero f) l ⊎ Has (equal_zero f) l)
 
 -- the tableau speaks of the weak list
 pub record Sound (d : Tableau) (l : List Constraint) : Type 0 where

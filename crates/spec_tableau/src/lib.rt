@@ -7,11 +7,12 @@ ghost use Rattle.spec_rational.specs.Rational.{ℚ, 0ℚ, 1ℚ, ◌+ℚ◌, neg_
 ghost use Rattle.spec_rational.specs.Sums.{Monomial, sum_at, factor_of};
 ghost use Rattle.spec_linear.specs.declared.Relation.TheVariants.{Eq, Ne};
 ghost use Rattle.spec_linear.specs.Form.{Linear, value_at, variable_form, negated_form};
-ghost use Rattle.spec_linear.specs.Solution.{Equivalent, SomeMentions, Constraint, Satisfies, Solvable, Unsolvable, Fixed, Entails, Has};
+ghost use Rattle.spec_linear.specs.Solution.{Equivalent, SomeMentions, Constraint, Satisfies, Solvable, Unsolvable, Fixed, Entails, Has, equal_zero};
 ghost use Rattle.spec_extremes.specs.Extremes.{IsSupremum, IsUnbounded};
 ghost use Rattle.spec_inequalities.specs.Weak.{above_zero, at_least_zero, not_zero, weak};
 ghost use Rattle.spec_inequalities.specs.Certificate.{member, SomeStrict, Refutes};
-ghost use Rattle.spec_tableau.specs.Reach.{equals_zero, Rises, NeverNegative, IsFlat, Moves, Stands, Again, IsGreatest, opposite, SameMembers};
+ghost use Rattle.spec_inequalities.specs.Opposite.{opposite};
+ghost use Rattle.spec_tableau.specs.Reach.{Rises, NeverNegative, IsFlat, Moves, Stands, Again, IsGreatest, SameMembers};
 ghost use Rattle.spec_tableau.specs.Tableau.{Tableau, unit_of, empty, numbers, Within, AllIn, IsWritten, MeetsRows, IsShaped, Linked, AllBelow, IsFeasible, Place, IsNothing, IsSomething, Held, Owned, Sound, Invariant, Shown, Changed, Exchanged, Eliminated, HasFeasibleNumbers, WithinEquations, AreDropped, Restored, IsOptimal, IsUnlimited, HasRoom, EachTermZero};
 ghost use Rattle.spec_tableau.specs.Fixing.{NewlyFixed, BecomesFixed, StaysAsItIs};
 ghost use Rattle.spec_tableau.specs.Entries.{entries, row_entries, IsNumbered};
@@ -169,18 +170,18 @@ pub fn constraints_join_on_a_face()
 /// An equation joins whose form rises and falls, or is flat.
 pub fn equations_join()
     ensures still { (l : List Constraint) (f g : Linear) → NeverNegative l g → Rises l f
-        → Rises l (negated_form f) → Rises l g → Rises (equals_zero f ∷ l) g }
+        → Rises l (negated_form f) → Rises l g → Rises (equal_zero f ∷ l) g }
     ensures sound { (d e : Tableau) (l : List Constraint) (q : ℕ) → Changed d e (q ∷ []) [] → IsWritten e
-        → IsFeasible e → Sound d l → Sound e (equals_zero (d.form q) ∷ l) }
+        → IsFeasible e → Sound d l → Sound e (equal_zero (d.form q) ∷ l) }
     ensures between { (d e : Tableau) (l : List Constraint) (q : ℕ) (restricts : List ℕ)
         → Changed d e (q ∷ []) restricts → ((z : ℕ) → Has z restricts → z ≡ q) → IsWritten e → IsFeasible e
         → Invariant d l → Rises l (d.form q) → Rises l (negated_form (d.form q))
         → ((c : Constraint) → Has c l → c.relation ≡ Ne → Moves (Within e) c.form)
-        → Invariant e (equals_zero (d.form q) ∷ l) }
+        → Invariant e (equal_zero (d.form q) ∷ l) }
     ensures flat { (e : Tableau) (l : List Constraint) (f : Linear) → IsFlat (Within e) f
-        → Invariant e (at_least_zero f ∷ l) → Invariant e (equals_zero f ∷ l) }
+        → Invariant e (at_least_zero f ∷ l) → Invariant e (equal_zero f ∷ l) }
     ensures nothing { (d : Tableau) (l : List Constraint) → Invariant d l → (q : ℕ) → q < d.count
-        → IsNothing (d.row q) → Invariant d (equals_zero (d.form q) ∷ l) }
+        → IsNothing (d.row q) → Invariant d (equal_zero (d.form q) ∷ l) }
 {}
 
 /// A disequation joins whose row is something.
@@ -206,7 +207,7 @@ pub fn rows_refute()
         → (d.row p.quantity).constant ≡ 0ℚ → Refutes ((n, 1ℚ) ∷ row_entries number (d.row p.quantity)) l }
     ensures equation { (d : Tableau) (l : List Constraint) (number : ℕ → ℕ) → IsWritten d → (f : Linear)
         → (p : Place d (negated_form f)) → IsNumbered d l number p.quantity
-        → (n : ℕ) → member l n ≡ Some (equals_zero f)
+        → (n : ℕ) → member l n ≡ Some (equal_zero f)
         → ((d.row p.quantity).constant <ℚ 0ℚ)
         ⊎ (((d.row p.quantity).constant ≡ 0ℚ) × SomeStrict l (entries number (d.row p.quantity).live))
         → Refutes ((n, neg_ℚ 1ℚ) ∷ row_entries number (d.row p.quantity)) l }
@@ -241,9 +242,9 @@ pub fn entailed_constraints()
     ensures by_opposite { (l : List Constraint) (c : Constraint) → Unsolvable (opposite c ∷ l) → Entails l c }
     ensures denied { (l : List Constraint) (c : Constraint) → Solvable (opposite c ∷ l) → Entails l c → ⊥ }
     ensures nothing { (d : Tableau) (l : List Constraint) → Invariant d l → (q : ℕ) → q < d.count
-        → IsNothing (d.row q) → Entails l (equals_zero (d.form q)) }
+        → IsNothing (d.row q) → Entails l (equal_zero (d.form q)) }
     ensures something { (d : Tableau) (l : List Constraint) → Invariant d l → (q : ℕ) → q < d.count
-        → IsSomething (d.row q) → Entails l (equals_zero (d.form q)) → ⊥ }
+        → IsSomething (d.row q) → Entails l (equal_zero (d.form q)) → ⊥ }
 {}
 
 /// Equations stay zero by dropped columns of equations alone, which are not restricted.

@@ -1,7 +1,7 @@
 use Rattle.std.proofs.Common.{sym, subst}
 use Rattle.cq_frac.specs.declared.Operation.TheVariants.{Sum, Difference, Product}
 use Rattle.cq_arith.specs.Faults.{IsComputed}
-use Rattle.cq_arith.proofs.Wholes.{computed, computed_quotient}
+use Rattle.cq_arith.proofs.Computed.{computed, computed_quotient}
 use Rattle.cq_arith.proofs.operations.computed.Goals as goal
 
 pub returns-in-Sum : goal.returns-in-Sum

@@ -3,7 +3,7 @@ use Rattle.std.proofs.lemmas.Int.{to_z-of_z}
 use mir.Syntax.{w128}
 use Rattle.spec_rational.specs.Rational.{int_ℚ}
 use Rattle.cq_frac.specs.Fits.{limit}
-use Rattle.cq_arith.proofs.Wholes.{is_taken, is_whole_number}
+use Rattle.spec_arithmetic.proofs.Wholes.{is_taken, is_whole_number}
 use Rattle.cq_arith.proofs.operations.whole.Goals as goal
 
 pub unwrap-requires : goal.unwrap-requires

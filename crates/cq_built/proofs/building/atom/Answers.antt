@@ -1,7 +1,8 @@
 use Rattle.std.proofs.Common.{◌∙◌, ap}
 use Rattle.spec_terms.specs.Term.{Name}
 use Rattle.cq_built.proofs.Growing.{longer_by_text, grows_names, grows_term}
-use Rattle.cq_built.proofs.Trees.{tree_last, text_is, name_known}
+use Rattle.cq_built.proofs.Trees.{tree_last, name_known}
+use Rattle.cq_term.proofs.Named.{text_is}
 use Rattle.cq_built.proofs.building.atom.Goals as goal
 
 pub returns-in_err-id-clause-grows : goal.returns-in_err-id-clause-grows

@@ -2,7 +2,7 @@ use Rattle.std.proofs.Common.{◌≡◌, ◌<◌, ◌-◌, ◌+◌, ◌∙◌, �
 use Rattle.std.proofs.lemmas.List.{drop_more}
 use Rattle.std.proofs.lemmas.List.Elements.{All-get_or}
 use Rattle.spec_syntax.specs.Trees.{binary, list_tree}
-use Rattle.cq_kinds.specs.Trees.{trees}
+use Rattle.cq_term.specs.Trees.{trees}
 use Rattle.cq_built.proofs.Growing.{grows_both}
 use Rattle.cq_built.proofs.Trees.{tree_kept}
 use Rattle.cq_built.proofs.building.list.Goals as goal

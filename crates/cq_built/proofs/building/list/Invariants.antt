@@ -1,6 +1,6 @@
 use Rattle.std.proofs.Common.{◌≡◌, ◌<◌, length, drop}
 use Rattle.spec_syntax.specs.Trees.{list_tree}
-use Rattle.cq_kinds.specs.Trees.{tree, trees}
+use Rattle.cq_term.specs.Trees.{tree, trees}
 use Rattle.cq_built.specs.Growing.{Grows}
 use Rattle.cq_built.proofs.building.list.Given as goal
 

@@ -8,11 +8,12 @@ use Rattle.cq_atoms.specs.Texts.{text_of}
 use Rattle.cq_term.specs.Meaning.{at}
 use Rattle.cq_term.specs.Shown.{view_of}
 use Rattle.cq_term.specs.declared.view.View.TheVariants as view
-use Rattle.cq_kinds.specs.Trees.{tree, trees}
+use Rattle.cq_term.specs.Trees.{tree, trees}
 use Rattle.cq_built.specs.Growing.{Grows}
 use Rattle.cq_built.proofs.Growing.{grows_term}
 use Rattle.cq_built.proofs.Trees.{kept, tree_over, over_known, known_at}
-use Rattle.cq_builtin.proofs.Shown.{named-name, name_below}
+use Rattle.cq_term.proofs.Named.{name_below}
+use Rattle.cq_builtin.proofs.Shown.{named-name}
 use Rattle.cq_builtin.proofs.lists.from_first.Goals as goal
 use Rattle.cq_builtin.proofs.lists.from_first.Goals.{In_ok-right-in-Name-view}
 

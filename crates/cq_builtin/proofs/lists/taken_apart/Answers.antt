@@ -6,11 +6,12 @@ use Rattle.spec_builtins.specs.Alternatives.{◌≐◌, one_way}
 use Rattle.cq_atoms.specs.Texts.{text_of}
 use Rattle.cq_term.specs.Meaning.{at, blank}
 use Rattle.cq_term.specs.Shown.{arguments}
-use Rattle.cq_kinds.specs.Trees.{trees}
+use Rattle.cq_term.specs.Trees.{trees}
 use Rattle.cq_built.specs.Growing.{Grows}
 use Rattle.cq_built.proofs.Growing.{grows_both, grows_term}
 use Rattle.cq_built.proofs.Trees.{kept, tree_last, known_at, trees_map}
-use Rattle.cq_builtin.proofs.Shown.{functor_below, univ-compound}
+use Rattle.cq_term.proofs.Named.{functor_below}
+use Rattle.cq_builtin.proofs.Shown.{univ-compound}
 use Rattle.cq_builtin.proofs.lists.taken_apart.Goals as goal
 use Rattle.cq_builtin.proofs.lists.taken_apart.Goals.{In_ok-first}
 

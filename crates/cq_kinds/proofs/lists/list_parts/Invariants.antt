@@ -2,7 +2,7 @@ use Rattle.std.proofs.Common.{◌≡◌, ◌<◌, All, length}
 use Rattle.spec_terms.specs.Term.{size}
 use Rattle.spec_built.specs.Kinds.{parts}
 use Rattle.cq_term.specs.Meaning.{at}
-use Rattle.cq_kinds.specs.Trees.{tree, trees}
+use Rattle.cq_term.specs.Trees.{tree, trees}
 use Rattle.cq_kinds.proofs.Listed.{behind}
 use Rattle.cq_kinds.proofs.lists.list_parts.Given as goal
 

@@ -2,8 +2,8 @@ use Rattle.std.proofs.Common.{◌≡◌, ◌∙◌, ap, map, codes}
 use Rattle.std.specs.Prelude.{reverse}
 use Rattle.spec_syntax.specs.Machine.{with_elements_before}
 use Rattle.cq_parse.proofs.Kept.{grows_both}
-use Rattle.cq_parse.proofs.Trees.{code_of, code_more, is_known, listed, name_tree}
-use Rattle.cq_parse.specs.Views.{tree}
+use Rattle.cq_parse.proofs.Trees.{code_more, is_known, listed, name_tree}
+use Rattle.cq_term.specs.Trees.{tree}
 use Rattle.spec_syntax.specs.Trees.{nil}
 use Rattle.spec_terms.specs.Term.{Number}
 use Rattle.cq_parse.proofs.building.code_list.Goals as goal
@@ -14,7 +14,7 @@ loop-c-init c = record {
   list = λ texts known.
       let us = c.atom.new.heap.now.terms in
       let end : tree texts us c.in_ok-whole.whole ≡ nil = name_tree texts us us c.args.names.now.nil c.in_ok-whole.whole (codes "[]") c.in_ok-whole.ensures.built known.nil in
-      (λ i. with_elements_before (reverse (map code_of (c.in_ok-left.ensures i))) (end i)) ∙ listed (map code_of _);
+      (λ i. with_elements_before (reverse (map natural (c.in_ok-left.ensures i))) (end i)) ∙ listed (map natural _);
   names = λ texts known. c.in_ok-whole.ensures.names texts (is_known texts c.args.names.now.nil (codes "[]") known.nil);
   heap = c.atom.ensures.heap;
 }

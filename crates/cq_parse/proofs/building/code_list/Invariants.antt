@@ -5,8 +5,9 @@ use Rattle.spec_terms.specs.Term.{Number}
 use Rattle.spec_syntax.specs.Trees.{code_list}
 use Rattle.spec_syntax.specs.Machine.{with_elements_before}
 use Rattle.spec_lists.specs.Texts.{Text}
-use Rattle.cq_parse.specs.Views.{OnlyGrows, tree}
-use Rattle.cq_parse.specs.Known.{AreGrammarNames, KnowsTerms}
+use Rattle.cq_term.specs.Trees.{tree, KnowsTerms}
+use Rattle.cq_parse.specs.Views.{OnlyGrows}
+use Rattle.cq_parse.specs.Known.{AreGrammarNames}
 use Rattle.cq_parse.proofs.building.code_list.Given as goal
 
 abbrev pub invariant-loop-c : goal.invariant-loop-c

@@ -1,8 +1,9 @@
 use Rattle.std.proofs.Common.{◌≡◌, ◌<◌, List, length, All, vec_len}
 use Rattle.spec_lists.specs.Texts.{Text}
 use Rattle.spec_syntax.specs.Machine.{with_elements_before}
-use Rattle.cq_parse.specs.Views.{OnlyGrows, tree, trees}
-use Rattle.cq_parse.specs.Known.{AreGrammarNames, KnowsTerms}
+use Rattle.cq_term.specs.Trees.{tree, KnowsTerms}
+use Rattle.cq_parse.specs.Views.{OnlyGrows, trees}
+use Rattle.cq_parse.specs.Known.{AreGrammarNames}
 use Rattle.cq_parse.proofs.building.list.Given as goal
 
 abbrev pub invariant-loop-element : goal.invariant-loop-element

@@ -4,7 +4,8 @@ use Rattle.cq_atoms.specs.Texts.{text_of}
 use Rattle.cq_ops.specs.Tables.{named}
 use Rattle.spec_syntax.specs.Grammar.{use_of, applied_as}
 use Rattle.spec_syntax.specs.Machine.{OperandOf, before_term, after_name, after_operand}
-use Rattle.cq_parse.specs.Views.{tree, token_of, frames_of, state_or_none}
+use Rattle.cq_term.specs.Trees.{tree}
+use Rattle.cq_parse.specs.Views.{token_of, frames_of, state_or_none}
 use Rattle.cq_parse.proofs.Kept.{frames_kept, frames_push}
 use Rattle.cq_parse.proofs.steps.after_name.Goals as goal
 use Rattle.cq_parse.proofs.Naming.{names_push}

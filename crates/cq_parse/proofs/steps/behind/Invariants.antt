@@ -3,7 +3,8 @@ use Rattle.spec_lists.specs.Texts.{Text}
 use Rattle.cq_ops.specs.Tables.{named}
 use Rattle.spec_syntax.specs.Grammar.{use_of}
 use Rattle.spec_syntax.specs.Machine.{after_operand}
-use Rattle.cq_parse.specs.Views.{OnlyGrows, tree, token_of, frames_of, AreLive}
+use Rattle.cq_term.specs.Trees.{tree}
+use Rattle.cq_parse.specs.Views.{OnlyGrows, token_of, frames_of, AreLive}
 use Rattle.cq_parse.specs.Known.{Knows, KnowsNames}
 use Rattle.cq_parse.proofs.steps.behind.Given as goal
 

@@ -4,7 +4,7 @@ use Rattle.cq_read.specs.Shown.{read_of}
 use Rattle.cq_read.proofs.Marked.{IsMarked, as_before}
 use Rattle.cq_read.proofs.Running.{stands_on, read_anywhere, leaves_not}
 use Rattle.cq_atoms.specs.Texts.{KeepsTexts}
-use Rattle.cq_parse.specs.Known.{KnowsTerms}
+use Rattle.cq_term.specs.Trees.{KnowsTerms}
 use Rattle.cq_read.proofs.Naming.{terms_known}
 use Rattle.cq_read.proofs.Feeding.{forward}
 use Rattle.cq_read.proofs.reading.read_clause.Goals as goal

@@ -1,7 +1,7 @@
 use Rattle.std.proofs.Common.{subst, length}
 use Rattle.cq_read.specs.Running.{IsStopped}
 use Rattle.cq_read.proofs.Running.{clause_read_if}
-use Rattle.cq_parse.specs.Known.{KnowsTerms}
+use Rattle.cq_term.specs.Trees.{KnowsTerms}
 use Rattle.cq_read.proofs.Naming.{names_at_start, on_ok}
 use Rattle.cq_read.proofs.reading.read_on.Goals as goal
 

@@ -2,7 +2,7 @@ use Rattle.std.proofs.Common.{◌∙◌}
 use Rattle.spec_built.specs.Errors.{domain_error}
 use Rattle.spec_built.specs.Kinds.{is_below_zero}
 use Rattle.spec_builtins.specs.Alternatives.{faults_if}
-use Rattle.cq_kinds.specs.Trees.{tree}
+use Rattle.cq_term.specs.Trees.{tree}
 use Rattle.cq_text.specs.Arguments.{other_integer_tests}
 use Rattle.cq_text.proofs.Asked.{atom_passes}
 use Rattle.cq_text.proofs.lengths.length_name.Goals as goal

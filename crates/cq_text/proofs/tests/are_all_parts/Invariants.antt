@@ -1,4 +1,4 @@
-use Rattle.cq_kinds.specs.Trees.{KnowsTerms}
+use Rattle.cq_term.specs.Trees.{KnowsTerms}
 use Rattle.cq_text.specs.Ways.{CanGoOn}
 use Rattle.cq_text.proofs.tests.are_all_parts.Given as goal
 

@@ -1,6 +1,6 @@
 use Rattle.std.proofs.Common.{◌≡◌, ◌∙◌, ◌+◌, ◌-◌, [], ◌∷◌, ap, rules, take, drop, arith}
 use Rattle.spec_builtins.specs.Texts.{name_of}
-use Rattle.cq_kinds.specs.Trees.{tree}
+use Rattle.cq_term.specs.Trees.{tree}
 use Rattle.cq_built.proofs.Growing.{grows_both}
 use Rattle.cq_built.proofs.Trees.{tree_kept}
 use Rattle.cq_text.proofs.Kept.{part_made}

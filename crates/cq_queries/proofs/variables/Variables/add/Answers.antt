@@ -1,7 +1,8 @@
 use Rattle.std.proofs.Common.{◌≡◌, None, subst, sym}
 use Rattle.spec_queries.specs.Grammar.{known}
-use Rattle.cq_queries.specs.Names.{names_of}
-use Rattle.cq_queries.proofs.Lookups.{adds_named, adds_bare, with_names}
+use Rattle.cq_names.specs.Names.{names_of}
+use Rattle.cq_queries.proofs.Lookups.{adds_named, adds_bare}
+use Rattle.cq_names.proofs.Lookups.{with_names}
 use Rattle.cq_queries.proofs.variables.Variables.add.Goals as goal
 use Rattle.cq_queries.proofs.variables.Variables.add.Goals.{then-ne+in_ok-name+in_ok-insert, else-ne}
 

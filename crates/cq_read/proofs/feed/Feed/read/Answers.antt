@@ -1,9 +1,9 @@
-use Rattle.std.proofs.Common.{◌≡◌, Ok, sym, ap, ◌∙◌, ◌≤◌, length, subst}
+use Rattle.std.proofs.Common.{Ok, sym, ap, ◌∙◌, ◌≤◌, length, subst}
 use Rattle.cq_ops.specs.Tables.{named}
 use Rattle.cq_read.specs.Shown.{read_of, IsReadOf}
 use Rattle.cq_read.proofs.Marked.{IsMarked, as_before, leaves_marked}
 use Rattle.cq_read.proofs.Feeding.{fits_behind, is_settled, is_unsettled, moved_read, leaves_saved}
-use Rattle.cq_parse.specs.Known.{KnowsTerms}
+use Rattle.cq_term.specs.Trees.{KnowsTerms}
 use Rattle.cq_read.proofs.Naming.{terms_known}
 use Rattle.cq_read.specs.Shown.{IsForward}
 use Rattle.cq_read.proofs.feed.Feed.read.Goals as goal

@@ -1,4 +1,4 @@
--- Whole numbers as fractions.
+-- Whole numbers as fractions of a fixed size.
 use Rattle.std.proofs.Common.{◌≡◌, ◌<◌, ℤ, pos, nat_abs, Result, Ok, Err, IsOk, IfOk, refl, ◌∙◌, subst, arith, inl, inr}
 use Rattle.spec_rational.specs.Rational.{ℚ, ratio, int_ℚ}
 use Rattle.cq_frac.specs.Fits.{limit, Exceeds}
