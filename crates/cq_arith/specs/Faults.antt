@@ -1,5 +1,5 @@
 -- What the fault of an evaluation says of the expression.
-use Rattle.std.specs.Prelude.{◌≡◌, List, Result, Ok, Err, ⊤}
+use Rattle.std.specs.Prelude.{◌≡◌, ℕ, ◌<◌, List, Result, Ok, Err, ⊤}
 use Rattle.spec_rational.specs.Rational.{ℚ}
 use Rattle.cq_frac.specs.declared.FracFault.{FracFault}
 use Rattle.cq_frac.specs.declared.FracFault.TheVariants as frac
@@ -25,6 +25,16 @@ abbrev pub ComesTo : List Text → Evaluated → EvalFault → Type 0
 ComesTo texts result (fault.Error e) = result ≡ Fails (told texts e)
 ComesTo texts result (fault.Overflow p) = result ≡ Overflows p
 ComesTo texts result fault.NoMemory = ⊤
+
+-- the name that the error blames is one of so many
+abbrev pub BlamesBelow : ℕ → EvalError → Type 0
+BlamesBelow n (error.NotEvaluable name count) = name < n
+BlamesBelow n e = ⊤
+
+-- so is the name in the fault, if there is one
+abbrev pub IsNamedBelow : ℕ → EvalFault → Type 0
+IsNamedBelow n (fault.Error e) = BlamesBelow n e
+IsNamedBelow n f = ⊤
 
 -- what the fractions answer says what an operation comes to
 abbrev pub IsComputed : Operation → ℚ → ℚ → Result ℚ FracFault → Type 0

@@ -11,7 +11,7 @@ ghost use Rattle.cq_term.specs.Meaning.{HeapTerm, at};
 ghost use Rattle.cq_term.specs.Names.{HasNamesBelow};
 ghost use Rattle.cq_term.specs.Shown.{view_of};
 ghost use Rattle.cq_term.specs.declared.view.View.TheVariants.{Compound};
-ghost use Rattle.cq_arith.specs.Faults.{ComesTo};
+ghost use Rattle.cq_arith.specs.Faults.{ComesTo, IsNamedBelow};
 ghost use Rattle.cq_arith.specs.Work.{evaluated_at, resumed, AfterVisit, TakesValue};
 
 use crate::faults::{EvalError, EvalFault};
@@ -49,6 +49,7 @@ pub fn eval(heap: &Heap, atoms: &Atoms, term: TermId) -> Result<Frac, EvalFault>
     requires names { HasNamesBelow (length atoms.now) (at heap.now.now.terms term) }
     ensures value { IfOk result (λ q. evaluate (named (text_of atoms.now) (at heap.now.now.terms term)) ≡ Value q) }
     ensures fault { IfErr result (λ fault. ComesTo atoms.now (evaluate (named (text_of atoms.now) (at heap.now.now.terms term))) fault) }
+    ensures known { IfErr result (IsNamedBelow (length atoms.now)) }
 {
     let mut under_way = Vec::new(heap.alloc());
     let mut step = Step::Visit(term);
@@ -81,6 +82,7 @@ fn visit(
     requires names { HasNamesBelow (length atoms.now) (at heap.now.now.terms id) }
     ensures goes_on { IfOk result (λ next. AfterVisit atoms.now heap.now.now.terms id under_way.old.items under_way.new.items next) }
     ensures fault { IfErr result (λ fault. ComesTo atoms.now (evaluated_at atoms.now heap.now.now.terms id) fault) }
+    ensures known { IfErr result (IsNamedBelow (length atoms.now)) }
 {
     match heap.view(id) {
         View::Var(_) => Err(EvalFault::Error(EvalError::Instantiation)),
@@ -117,6 +119,7 @@ fn visit_one(
     requires shown { view_of (at heap.now.now.terms id) ≡ Compound name 1 }
     ensures goes_on { IfOk result (λ next. AfterVisit atoms.now heap.now.now.terms id under_way.old.items under_way.new.items next) }
     ensures fault { IfErr result (λ fault. ComesTo atoms.now (evaluated_at atoms.now heap.now.now.terms id) fault) }
+    ensures known { IfErr result (IsNamedBelow (length atoms.now)) }
 {
     let Some(operation) = unary_operation(atoms.text(name)) else {
         return Err(not_evaluable(name, 1));
@@ -139,6 +142,7 @@ fn visit_two(
     requires shown { view_of (at heap.now.now.terms id) ≡ Compound name 2 }
     ensures goes_on { IfOk result (λ next. AfterVisit atoms.now heap.now.now.terms id under_way.old.items under_way.new.items next) }
     ensures fault { IfErr result (λ fault. ComesTo atoms.now (evaluated_at atoms.now heap.now.now.terms id) fault) }
+    ensures known { IfErr result (IsNamedBelow (length atoms.now)) }
 {
     let Some(operation) = binary_operation(atoms.text(name)) else {
         return Err(not_evaluable(name, 2));
@@ -161,6 +165,7 @@ fn wait(under_way: &mut Vec<Waiting>, waiting: Waiting) -> Result<(), AllocError
 fn resume(waiting: Waiting, value: Frac, under_way: &mut Vec<Waiting>) -> Result<Step, EvalFault>
     ensures goes_on { IfOk result (λ next. TakesValue waiting value under_way.old.items under_way.new.items next) }
     ensures fault { IfErr result (λ fault. (texts : List Text) (ts : List HeapTerm) → ComesTo texts (resumed texts ts waiting (Value value)) fault) }
+    ensures known { IfErr result (λ fault. (n : ℕ) → IsNamedBelow n fault) }
 {
     match waiting {
         Waiting::Only(operation) => Ok(Step::Return(unary(operation, value))),

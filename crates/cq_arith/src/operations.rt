@@ -1,12 +1,12 @@
 // The operations of arithmetic on numbers.
 
-ghost use Rattle.std.specs.Prelude.{◌≡◌, ◌≢◌, ◌<◌, List, pos, nat_abs, IfOk, IfErr};
+ghost use Rattle.std.specs.Prelude.{◌≡◌, ◌≢◌, ℕ, ◌<◌, List, pos, nat_abs, IfOk, IfErr};
 ghost use Rattle.cq_frac.specs.Fits.{limit};
 ghost use Rattle.spec_rational.specs.Rational.{int_ℚ};
 ghost use Rattle.spec_lists.specs.Texts.{Text};
 ghost use Rattle.spec_arithmetic.specs.Operations.{Value, unary_named, binary_named, unary_value, whole_value, exact_result, whole_result, binary_result, least, greatest};
 ghost use Rattle.spec_arithmetic.specs.Rounding.{floor as floor_of, ceiling as ceiling_of, truncate as truncate_of, modulo as modulo_of};
-ghost use Rattle.cq_arith.specs.Faults.{ComesTo, IsComputed};
+ghost use Rattle.cq_arith.specs.Faults.{ComesTo, IsComputed, IsNamedBelow};
 
 use crate::faults::{EvalError, EvalFault};
 use cq_frac::{Frac, FracFault, Operation, Pair};
@@ -125,6 +125,7 @@ fn whole(value: i128) -> Frac
 pub(crate) fn binary(operation: BinaryOperation, left: Frac, right: Frac) -> Result<Frac, EvalFault>
     ensures value { IfOk result (λ q. binary_result operation left right ≡ Value q) }
     ensures fault { IfErr result (λ fault. (texts : List Text) → ComesTo texts (binary_result operation left right) fault) }
+    ensures known { IfErr result (λ fault. (n : ℕ) → IsNamedBelow n fault) }
 {
     match operation {
         BinaryOperation::Exact(exact) => exact_operation(exact, left, right),
@@ -137,6 +138,7 @@ pub(crate) fn binary(operation: BinaryOperation, left: Frac, right: Frac) -> Res
 fn exact_operation(operation: Operation, left: Frac, right: Frac) -> Result<Frac, EvalFault>
     ensures value { IfOk result (λ q. exact_result operation left right ≡ Value q) }
     ensures fault { IfErr result (λ fault. (texts : List Text) → ComesTo texts (exact_result operation left right) fault) }
+    ensures known { IfErr result (λ fault. (n : ℕ) → IsNamedBelow n fault) }
 {
     match computed(operation, left, right) {
         Ok(value) => Ok(value),
@@ -164,6 +166,7 @@ fn computed(operation: Operation, left: Frac, right: Frac) -> Result<Frac, FracF
 fn whole_operation(operation: WholeOperation, left: Frac, right: Frac) -> Result<Frac, EvalFault>
     ensures value { IfOk result (λ q. whole_result operation left right ≡ Value q) }
     ensures fault { IfErr result (λ fault. (texts : List Text) → ComesTo texts (whole_result operation left right) fault) }
+    ensures known { IfErr result (λ fault. (n : ℕ) → IsNamedBelow n fault) }
 {
     let (dividend, left_denominator) = left.parts();
     let (divisor, right_denominator) = right.parts();

@@ -2,7 +2,7 @@
 //! Dantzig (1947) with Bland's rule (1977), by which it ends.
 #![tactic(auto)]
 
-mod leaving;
+pub mod leaving;
 pub mod rising;
 mod turn;
 
