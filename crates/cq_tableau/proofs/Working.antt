@@ -12,14 +12,14 @@ use Rattle.spec_rational.proofs.Sign.{one_not_zero, pos_nonneg}
 use Rattle.spec_linear.specs.declared.Relation.{Relation}
 use Rattle.spec_linear.specs.declared.Relation.TheVariants.{Eq, Gt, Ge, Ne}
 use Rattle.spec_linear.specs.Form.{Linear, IsForm, value_at, variable_form}
-use Rattle.spec_linear.specs.Solution.{Constraint, Has, Point, number, Solves, Satisfies, SomeMentions}
+use Rattle.spec_linear.specs.Solution.{Constraint, equal_zero, Has, Point, number, Solves, Satisfies, SomeMentions}
 use Rattle.spec_linear.proofs.Denominators.{has_left, has_right}
 use Rattle.spec_linear.proofs.Points.{solves_same}
 use Rattle.spec_inequalities.specs.Certificate as of_list
 use Rattle.spec_inequalities.specs.Weak.{weak, with_weak}
 use Rattle.spec_inequalities.proofs.Far.{weak_member}
 use Rattle.spec_projection.specs.Elimination.{IsInequality}
-use Rattle.spec_tableau.specs.Reach.{equals_zero, IsFlat}
+use Rattle.spec_tableau.specs.Reach.{IsFlat}
 use Rattle.spec_tableau.specs.Tableau.{AllIn, Within, Chosen, Held, Sound, IsWritten as IsWrittenTableau, numbers}
 use Rattle.spec_tableau.proofs.Written.{within_is, chosen_is, not_in}
 use Rattle.spec_limits.specs.Dictionary.{Quantity, variable, member, member_at, IsQuantity, IsRestricted, SomeFormMentions, Expression, amount, sum_over, expressed, form_of, AllZero, IsWritten, AreOne, IsFeasible, in_front_unless_disequation, without_disequations}
@@ -128,7 +128,7 @@ module _ (v : ℕ → ℚ) where
 
   -- equations hold in it
   equation_zero : (l : List Constraint) (c : Constraint) → Has c l → c.relation ≡ Eq → Satisfies v (weak l) → value_at v c.form ≡ 0ℚ
-  equation_zero l c m e s = weak_member v l (equals_zero c.form) (subst (λ r. Has (record { relation = r; form = c.form }) l) e m) s
+  equation_zero l c m e s = weak_member v l (equal_zero c.form) (subst (λ r. Has (record { relation = r; form = c.form }) l) e m) s
 
 pub name_back : (q : Quantity) → quantity_of (name_of q) ≡ q
 name_back (variable x) = refl
