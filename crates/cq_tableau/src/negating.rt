@@ -3,7 +3,7 @@
 ghost use Rattle.std.specs.Prelude.{◌≡◌, IfOk};
 ghost use Rattle.spec_rational.specs.Rational.{ℚ};
 ghost use Rattle.spec_linear.specs.Form.{IsForm, negated_form};
-ghost use Rattle.spec_projection.specs.Follows as of_constraint;
+ghost use Rattle.spec_inequalities.specs.Opposite as of_constraint;
 ghost use Rattle.cq_form.specs.Entries.{form_of};
 
 use cq_form::{Constraint, Form};
