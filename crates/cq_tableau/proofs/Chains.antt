@@ -1,20 +1,17 @@
 -- Exchanges of the search are exchanges of a feasible dictionary of the list by the rule of the least numbers.
-use Rattle.std.proofs.Common.{◌≡◌, ◌↔◌, ℕ, zero, suc, pred, ◌<◌, List, length, Bool, true, false, ◌||◌, Option, None, Some, ◌⊎◌, inl, inr, arith, refl, ap, sym, subst, ◌∙◌}
+use Rattle.std.proofs.Common.{◌≡◌, ◌↔◌, ℕ, zero, suc, pred, ◌<◌, List, length, Bool, true, false, ◌||◌, Option, None, Some, inl, inr, arith, refl, ap, sym, subst, ◌∙◌}
 use Rattle.std.specs.Prelude.{slice_get}
-use Rattle.std.proofs.lemmas.Option.{none-some, same_Some, slice_get_within}
-use Rattle.spec_rational.specs.Rational.{ℚ}
+use Rattle.std.proofs.lemmas.Option.{none-some, slice_get_within}
 use Rattle.spec_rational.specs.Sums.{factor_of}
-use Rattle.spec_linear.specs.declared.Relation.{Relation}
 use Rattle.spec_linear.specs.Form.{Linear}
 use Rattle.spec_linear.specs.Solution.{Constraint, Has}
 use Rattle.spec_inequalities.specs.Certificate as of_list
 use Rattle.spec_projection.specs.Elimination.{IsInequality}
 use Rattle.spec_simplex.specs.Dictionary.{IsDictionary}
-use Rattle.spec_simplex.specs.Rule.{IsDue, Chain}
-use Rattle.spec_limits.specs.Dictionary.{Quantity, variable, member, member_at, IsQuantity, IsRestricted, form_of, IsWritten}
+use Rattle.spec_simplex.specs.Rule.{IsDue}
+use Rattle.spec_limits.specs.Dictionary.{Quantity, member, member_at, IsQuantity, IsRestricted, form_of, IsWritten}
 use Rattle.spec_limits.specs.Chains.{IsNumbering, IsWrittenWith, Shows, IsBlandChain}
 use Rattle.cq_frac.specs.declared.VarId.{VarId}
-use Rattle.cq_row.specs.Row.{Row}
 use Rattle.cq_dict.specs.declared.table.Role.{Role}
 use Rattle.cq_dict.specs.declared.table.Role.TheVariants.{Live, Dropped, Basic}
 use Rattle.cq_dict.specs.Roles.{IsAt, IsRow, is_live, is_dropped, is_row, is_restricted, role_at, constant_at, factor_at}
@@ -25,11 +22,11 @@ use Rattle.cq_tableau.specs.declared.names.Name.{Name}
 use Rattle.cq_tableau.specs.declared.names.Name.TheVariants.{Variable, Member}
 use Rattle.cq_tableau.specs.Forms as of_forms
 use Rattle.cq_tableau.specs.Forms.{form_at}
-use Rattle.cq_tableau.specs.Quantities.{name_of, quantity_of, place, quantity_here, numbered, is_equation, stands_apart}
-use Rattle.cq_tableau.proofs.Tied.{constant_row, factor_same, flag_below}
+use Rattle.cq_tableau.specs.Quantities.{name_of, quantity_of, place, quantity_here, numbered, stands_apart}
+use Rattle.cq_tableau.proofs.Tied.{constant_row, factor_same}
 use Rattle.cq_tableau.proofs.Numbering.{IsPicked, of_picked, proper}
 use Rattle.cq_tableau.proofs.Shortened.{visible, visible_is, not_hidden, hide, still_due, hidden_chain}
-use Rattle.cq_tableau.proofs.Working.{IsAtWork, Here, unnumbered, clash, either_is, or_first, or_second, inequality_apart, member_is, there, live, zeros, expression, one_place, same_place, here, here_below, restricted_here, restricted_flag, quantity_named, form_named, pick_in, picks_here, pick_place, live_named, outside, feasible, written_at, name_back}
+use Rattle.cq_tableau.proofs.Working.{IsAtWork, Here, unnumbered, clash, either_is, or_first, or_second, inequality_apart, member_is, there, live, zeros, expression, one_place, same_place, here_below, restricted_here, restricted_flag, quantity_named, form_named, pick_in, picks_here, live_named, outside, feasible, written_at, name_back}
 
 module _ (l : List Constraint) (names : List Name) (asked forms : List Linear) (roles : List Role) (flags : List Bool) (w : IsAtWork l names asked forms roles flags)
     (one : (i j : ℕ) → i < length roles → j < length roles → slice_get names i ≡ None → slice_get names j ≡ None → i ≡ j)

@@ -18,8 +18,7 @@ use Rattle.spec_linear.specs.Form.{Linear, value_at}
 use Rattle.spec_linear.specs.Solution.{Constraint, Has, Satisfies}
 use Rattle.spec_inequalities.specs.Weak.{weak}
 use Rattle.spec_simplex.specs.Dictionary as of_simplex
-use Rattle.spec_tableau.specs.Reach.{Rises}
-use Rattle.spec_tableau.specs.Tableau.{numbers, Within, AllIn, IsWritten, IsOptimal, EachTermZero, Changed, Exchanged, HasRoom, Owned}
+use Rattle.spec_tableau.specs.Tableau.{numbers, IsWritten, IsOptimal, EachTermZero, Changed, Exchanged, HasRoom, Owned}
 use Rattle.spec_tableau.proofs.Linked.{linked_written}
 use Rattle.spec_tableau.proofs.Steps.{sound_dropped, one_of}
 use Rattle.spec_tableau.proofs.More.{still_dropped}
@@ -32,7 +31,7 @@ use Rattle.cq_row.specs.Row.{Row}
 use Rattle.cq_row.specs.Rows as rows
 use Rattle.cq_dict.specs.declared.table.Role.{Role}
 use Rattle.cq_dict.specs.declared.table.Role.TheVariants.{Live, Dropped, Basic}
-use Rattle.cq_dict.specs.Roles.{AreOverColumns, IsAt, IsRow, HasEntry, IsExchanged, is_live, is_dropped, is_restricted, role_at, constant_at, factor_at}
+use Rattle.cq_dict.specs.Roles.{AreOverColumns, IsAt, IsRow, IsExchanged, is_live, is_dropped, is_restricted, role_at, constant_at, factor_at}
 use Rattle.cq_dict.specs.Dict.{SameMeaning}
 use Rattle.cq_dict.proofs.Roles.{at_below, at_exists, at_one, role_is, role_live, constant_is, factor_is, dropped_at, live_at}
 use Rattle.cq_simplex.specs.Dictionary.{dictionary, IsReached}
@@ -42,7 +41,7 @@ use Rattle.cq_tableau.specs.declared.names.Name.{Name}
 use Rattle.cq_tableau.specs.Forms.{row_of, form_at, tableau}
 use Rattle.cq_tableau.specs.Keeps.{Speaks}
 use Rattle.cq_tableau.specs.Dropped.{quantities, DropsEach}
-use Rattle.cq_tableau.specs.Looked.{SpeaksOfSome, LooksOn, Blocks, LeavesRoom, RisesStill, IsFlatAt, IsFlatNow, IsSeen, RefusesLook, SpendsLook, StandsAt, IsStrict}
+use Rattle.cq_tableau.specs.Looked.{SpeaksOfSome, LooksOn, Blocks, LeavesRoom, RisesStill, IsFlatAt, IsFlatNow, IsSeen, RefusesLook, SpendsLook, StandsAt}
 use Rattle.cq_tableau.specs.declared.looking.Seen.{Seen}
 use Rattle.cq_tableau.specs.declared.looking.Seen.TheVariants as of_seen
 use Rattle.cq_frac.specs.declared.Pair.{Pair}

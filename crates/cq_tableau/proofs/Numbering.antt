@@ -5,16 +5,15 @@ use Rattle.std.specs.List.{AllByRecursion}
 use Rattle.std.proofs.lemmas.Option.{none-some, same_Some}
 use Rattle.spec_lists.proofs.Tests.{nat_eq-self, nat_eq-same}
 use Rattle.spec_linear.specs.Form.{Linear, variable_form}
-use Rattle.spec_linear.specs.Solution.{Constraint, Has}
+use Rattle.spec_linear.specs.Solution.{Has}
 use Rattle.spec_limits.specs.Dictionary.{Quantity, variable, member, IsSet, SomeFormMentions}
 use Rattle.cq_frac.specs.declared.VarId.{VarId}
 use Rattle.cq_row.specs.Rows.{choose}
-use Rattle.cq_dict.specs.Roles.{Quantities}
 use Rattle.cq_store.proofs.Dictionary.{has_either}
 use Rattle.cq_tableau.specs.declared.names.Name.{Name}
 use Rattle.cq_tableau.specs.declared.names.Name.TheVariants.{Variable, Member}
 use Rattle.cq_tableau.specs.Quantities.{name_of, quantity_of, stands_for, place, picked, variable_forms}
-use Rattle.cq_tableau.specs.Stored.{IsKnown, IsStored}
+use Rattle.cq_tableau.specs.Stored.{IsKnown}
 
 stands_self : (q : Quantity) → stands_for (name_of q) q ≡ true
 stands_self (variable x) = nat_eq-self x

@@ -1,7 +1,6 @@
 -- The open variables, one by one, and those that have got a value.
-use Rattle.std.proofs.Common.{◌≡◌, ◌↔◌, ℕ, ◌+◌, ◌<◌, ◌≤◌, zero, suc, List, [], ◌∷◌, ◌++◌, length, take, get_or, true, false, Option, None, Some, ◌⊎◌, inl, inr, arith, refl, ap, sym, subst, ◌∙◌}
+use Rattle.std.proofs.Common.{◌≡◌, ℕ, ◌+◌, ◌<◌, zero, suc, List, [], ◌∷◌, ◌++◌, length, take, get_or, Option, None, Some, ◌⊎◌, inl, inr, arith, refl, ap, sym, subst, ◌∙◌}
 use Rattle.std.specs.Prelude.{slice_get, MatchOption}
-use Rattle.std.proofs.lemmas.Option.{same_Some}
 use Rattle.spec_lists.proofs.Places.{take-next}
 use Rattle.spec_rational.specs.Rational.{ℚ}
 use Rattle.spec_linear.specs.Solution.{Constraint, Has, Fixed}
@@ -13,7 +12,7 @@ use Rattle.cq_tableau.specs.declared.names.Name.{Name}
 use Rattle.cq_tableau.specs.declared.names.Name.TheVariants.{Variable}
 use Rattle.cq_tableau.specs.Newly.{numbers_of}
 use Rattle.cq_tableau.specs.Stored.{IsStored}
-use Rattle.cq_tableau.specs.Values.{IsOpen, IsNumber}
+use Rattle.cq_tableau.specs.Values.{IsNumber}
 use Rattle.cq_tableau.specs.Fixing.{AreOnce, HasNumber, IsOpenHere, AreOpen, HasValue, HasNoValue, AreFixedNow}
 use Rattle.cq_tableau.proofs.Drops.{has_end, has_left, has_last}
 

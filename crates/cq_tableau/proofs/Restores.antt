@@ -5,7 +5,7 @@ use Rattle.std.proofs.lemmas.Option.{same_Some}
 use Rattle.spec_rational.specs.Rational.{ℚ, ◌+ℚ◌}
 use Rattle.spec_rational.specs.Sums.{Mentions}
 use Rattle.spec_rational.proofs.Order.{lt_le_false}
-use Rattle.spec_linear.specs.Form.{Linear, value_at}
+use Rattle.spec_linear.specs.Form.{Linear}
 use Rattle.spec_linear.specs.Solution.{Constraint}
 use Rattle.spec_simplex.specs.Dictionary as of_simplex
 use Rattle.spec_tableau.specs.Reach.{IsGreatest}
@@ -21,7 +21,7 @@ use Rattle.cq_row.specs.Row.{Row}
 use Rattle.cq_row.specs.Rows as rows
 use Rattle.cq_dict.specs.declared.table.Role.{Role}
 use Rattle.cq_dict.specs.declared.table.Role.TheVariants.{Live, Dropped, Basic}
-use Rattle.cq_dict.specs.Roles.{Quantities, AreOverColumns, ChangesKind, IsAt, IsRow, dropped_role, is_live, is_dropped, is_restricted, is_row}
+use Rattle.cq_dict.specs.Roles.{Quantities, AreOverColumns, ChangesKind, IsAt, IsRow, dropped_role, is_live, is_dropped, is_restricted}
 use Rattle.cq_dict.specs.Dict.{SameMeaning, DefinesLast}
 use Rattle.cq_dict.proofs.Roles.{at_below, at_last, dropped_at, equal_or_not, is_row_of, live_at, role_dropped, row_of}
 use Rattle.cq_simplex.specs.Dictionary.{dictionary}

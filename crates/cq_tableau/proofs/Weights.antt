@@ -1,6 +1,6 @@
 -- What rows at their greatest values refute, with the columns' members as weights.
-use Rattle.std.proofs.Common.{◌≡◌, ℕ, ◌<◌, List, [], ◌∷◌, ◌++◌, length, Bool, true, false, Some, ◌⊎◌, inl, inr, refl, ap, ap₂, sym, subst, ◌∙◌}
-use Rattle.std.specs.Prelude.{slice_get, IsSomeAnd}
+use Rattle.std.proofs.Common.{◌≡◌, ℕ, ◌<◌, List, [], ◌∷◌, ◌++◌, length, Bool, true, false, Some, ◌⊎◌, inl, inr, refl, ap, sym, subst, ◌∙◌}
+use Rattle.std.specs.Prelude.{IsSomeAnd}
 use Rattle.std.proofs.lemmas.Option.{slice_get_within, same_Some}
 use Rattle.spec_rational.specs.Rational.{ℚ, 0ℚ, 1ℚ, neg_ℚ, IsPositive, IsNotNegative, ◌<ℚ◌}
 use Rattle.spec_rational.proofs.Sign.{pos_nonneg, pos_one}
@@ -18,7 +18,6 @@ use Rattle.spec_tableau.proofs.More.{one_top}
 use Rattle.spec_tableau.proofs.Written.{top}
 use Rattle.cq_form.specs.Entries.{products_of}
 use Rattle.cq_row.specs.declared.Entry.{Entry}
-use Rattle.cq_row.specs.Row.{Row}
 use Rattle.cq_row.specs.Rows as rows
 use Rattle.cq_dict.specs.declared.table.Role.{Role}
 use Rattle.cq_dict.specs.declared.table.Role.TheVariants.{Basic}

@@ -1,7 +1,6 @@
 -- What is held while forms are asked is a feasible dictionary of the list, so each stop of a call is due in it.
-use Rattle.std.proofs.Common.{◌≡◌, ◌↔◌, ℕ, zero, suc, pred, ◌+◌, ◌<◌, List, [], ◌∷◌, ◌++◌, length, Bool, true, false, ◌||◌, nat_eq, Option, None, Some, ◌⊎◌, inl, inr, pos, arith, refl, ap, ap₂, sym, subst, ◌∙◌}
+use Rattle.std.proofs.Common.{◌≡◌, ℕ, zero, suc, ◌+◌, ◌<◌, List, [], ◌∷◌, ◌++◌, length, Bool, true, false, ◌||◌, nat_eq, Option, None, Some, ◌⊎◌, inl, inr, pos, arith, refl, ap, ap₂, sym, subst, ◌∙◌}
 use Rattle.std.specs.Prelude.{slice_get}
-use Rattle.std.specs.List.{AllByRecursion}
 use Rattle.std.proofs.lemmas.Option.{none-some, same_Some, slice_get_within}
 use Rattle.spec_lists.proofs.Tests.{nat_eq-sym}
 use Rattle.spec_rational.specs.Rational.{ℚ, 0ℚ, 1ℚ, neg_ℚ, ◌+ℚ◌, ◌*ℚ◌, IsNotNegative}
@@ -12,29 +11,26 @@ use Rattle.spec_rational.proofs.Sign.{one_not_zero, pos_nonneg}
 use Rattle.spec_linear.specs.declared.Relation.{Relation}
 use Rattle.spec_linear.specs.declared.Relation.TheVariants.{Eq, Gt, Ge, Ne}
 use Rattle.spec_linear.specs.Form.{Linear, IsForm, value_at, variable_form}
-use Rattle.spec_linear.specs.Solution.{Constraint, equal_zero, Has, Point, number, Solves, Satisfies, SomeMentions}
+use Rattle.spec_linear.specs.Solution.{Constraint, equal_zero, Has, number, Satisfies, SomeMentions}
 use Rattle.spec_linear.proofs.Denominators.{has_left, has_right}
 use Rattle.spec_linear.proofs.Points.{solves_same}
 use Rattle.spec_inequalities.specs.Certificate as of_list
 use Rattle.spec_inequalities.specs.Weak.{weak, with_weak}
 use Rattle.spec_inequalities.proofs.Far.{weak_member}
 use Rattle.spec_projection.specs.Elimination.{IsInequality}
-use Rattle.spec_tableau.specs.Reach.{IsFlat}
 use Rattle.spec_tableau.specs.Tableau.{AllIn, Within, Chosen, Held, Sound, IsWritten as IsWrittenTableau, numbers}
-use Rattle.spec_tableau.proofs.Written.{within_is, chosen_is, not_in}
+use Rattle.spec_tableau.proofs.Written.{within_is, not_in}
 use Rattle.spec_limits.specs.Dictionary.{Quantity, variable, member, member_at, IsQuantity, IsRestricted, SomeFormMentions, Expression, amount, sum_over, expressed, form_of, AllZero, IsWritten, AreOne, IsFeasible, in_front_unless_disequation, without_disequations}
 use Rattle.spec_limits.specs.Overflow.{Makes, IsInUse, beside_feasible}
 use Rattle.cq_frac.specs.declared.VarId.{VarId}
 use Rattle.cq_frac.specs.declared.Operation.{Operation}
 use Rattle.cq_row.specs.declared.Entry.{Entry}
 use Rattle.cq_row.specs.Row.{Row}
-use Rattle.cq_row.specs.Rows as rows
 use Rattle.cq_row.specs.Rows.{unit, choose}
-use Rattle.cq_row.specs.Numbers as of_row
 use Rattle.cq_dict.specs.declared.table.Role.{Role}
 use Rattle.cq_dict.specs.declared.table.Role.TheVariants.{Live, Dropped, Basic}
-use Rattle.cq_dict.specs.Roles.{IsAt, IsRow, AreOverColumns, IsMet, FormPair, PivotPair, is_live, is_dropped, is_row, is_restricted, role_at, constant_at, factor_at}
-use Rattle.cq_dict.proofs.Roles.{role_live, role_dropped, role_is, at_one, at_below, at_exists, live_at, dropped_at}
+use Rattle.cq_dict.specs.Roles.{IsAt, IsRow, AreOverColumns, IsMet, FormPair, PivotPair, is_live, is_dropped, is_restricted, role_at}
+use Rattle.cq_dict.proofs.Roles.{role_live, role_dropped, at_one, at_below, at_exists, live_at, dropped_at}
 use Rattle.cq_dict.proofs.Free.{sum_agrees}
 use Rattle.cq_store.specs.Describes as of_table
 use Rattle.cq_store.specs.Describes.{placed}
@@ -46,9 +42,9 @@ use Rattle.cq_tableau.specs.declared.names.Name.{Name}
 use Rattle.cq_tableau.specs.declared.names.Name.TheVariants.{Variable, Member}
 use Rattle.cq_tableau.specs.Forms as of_forms
 use Rattle.cq_tableau.specs.Forms.{form_at, tableau, Describes}
-use Rattle.cq_tableau.specs.Quantities.{name_of, quantity_of, place, picked, quantity_here, numbered, is_equation, stands_apart}
+use Rattle.cq_tableau.specs.Quantities.{name_of, quantity_of, place, picked, is_equation, stands_apart}
 use Rattle.cq_tableau.specs.Stored.{IsKnown, IsMemberForm, IsMemberOf, IsPlaced}
-use Rattle.cq_tableau.proofs.Tied.{linked, constant_row, factor_same, flag_below}
+use Rattle.cq_tableau.proofs.Tied.{linked}
 use Rattle.spec_tableau.proofs.Linked.{linked_written}
 use Rattle.cq_tableau.proofs.Numbering.{IsPicked, in_picked, of_picked, set_picked, set_append, proper, apart, placed_at}
 

@@ -6,7 +6,7 @@ use Rattle.cq_row.specs.declared.Entry.{Entry}
 use Rattle.cq_dict.specs.Roles.{Quantities, AreOverColumns}
 use Rattle.cq_dict.specs.Dict.{AddsRow, DefinesLast, RefusesForm}
 use Rattle.cq_tableau.specs.declared.names.Name.{Name}
-use Rattle.cq_tableau.specs.Stored.{IsStored, StaysStored, IsPlaced}
+use Rattle.cq_tableau.specs.Stored.{StaysStored, IsPlaced}
 
 -- new variables have got columns, and then the form is the row of number n
 pub record AsksForm (names : List Name) (q : Quantities) (f : Linear) (new_names : List Name) (new : Quantities) (n : ℕ) : Type 0 where

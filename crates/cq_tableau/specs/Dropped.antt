@@ -1,5 +1,5 @@
 -- Columns dropped together.
-use Rattle.std.specs.Prelude.{◌≡◌, ◌⊎◌, ℕ, List, [], ◌∷◌, length, true, false}
+use Rattle.std.specs.Prelude.{◌≡◌, ◌⊎◌, ℕ, List, [], ◌∷◌, length, true}
 use Rattle.spec_linear.specs.Solution.{Has}
 use Rattle.cq_row.specs.declared.Entry.{Entry}
 use Rattle.cq_dict.specs.declared.table.Role.{Role}

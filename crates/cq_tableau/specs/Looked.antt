@@ -1,6 +1,6 @@
 -- A second look at restricted quantities, where a constraint joins on a face.
 use Rattle.std.specs.Prelude.{◌≡◌, ◌⊎◌, ℕ, List, Bool, true, length, Option, MatchOption}
-use Rattle.spec_rational.specs.Rational.{ℚ, 0ℚ, ◌<ℚ◌, IsPositive, IsNotNegative}
+use Rattle.spec_rational.specs.Rational.{0ℚ, ◌<ℚ◌, IsPositive, IsNotNegative}
 use Rattle.spec_linear.specs.Form.{Linear}
 use Rattle.spec_linear.specs.declared.Relation.{Relation}
 use Rattle.spec_linear.specs.declared.Relation.TheVariants.{Gt, Ne}
@@ -19,7 +19,6 @@ use Rattle.cq_tableau.specs.declared.looking.Seen.TheVariants as of_seen
 use Rattle.cq_tableau.specs.Forms.{form_at, tableau}
 use Rattle.cq_tableau.specs.Keeps.{Speaks, StillSpeaks}
 use Rattle.cq_tableau.specs.Stored.{IsMemberOf}
-use Rattle.cq_tableau.specs.Values.{IsNumber}
 
 -- the quantities speak of some list
 pub record SpeaksOfSome (roles : List Role) (flags : List Bool) : Type 0 where

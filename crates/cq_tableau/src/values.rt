@@ -40,7 +40,8 @@ pub fn value_of(
 ) -> Option<Frac>
     requires numbered { AreNumbered names.now.now numbers.now.entries }
     requires size { length names.now.now ≡ length dict.now.roles }
-    ensures { (told : List Constraint) → IsStored told names.now.now (quantities_of dict.now) → MatchOption result ((q : ℚ) → Fixed told x.0 q → ⊥) (λ q. Fixed told x.0 q) }
+    ensures { (told : List Constraint) → IsStored told names.now.now (quantities_of dict.now)
+        → MatchOption result ((q : ℚ) → Fixed told x.0 q → ⊥) (λ q. Fixed told x.0 q) }
 {
     match number_of(numbers, names, x) {
         Some(n) => fixed_number(dict, n),

@@ -1,8 +1,5 @@
-use Rattle.std.proofs.Common.{◌≡◌, ◌<◌, ◌+◌, length, take, arith, subst, sym, ap, ◌∙◌, inl, inr}
-use Rattle.cq_dict.specs.declared.table.Role.TheVariants.{Live}
+use Rattle.std.proofs.Common.{◌≡◌, ◌<◌, ◌+◌, length, take, arith, subst, sym, ◌∙◌}
 use Rattle.cq_dict.specs.DictValue.{DictValue}
-use Rattle.cq_dict.proofs.Roles.{at_below, role_live, role_dropped}
-use Rattle.cq_dict.specs.declared.table.Role.TheVariants.{Dropped}
 use Rattle.cq_tableau.specs.Dropped.{quantities, DropsEach}
 use Rattle.cq_tableau.proofs.Drops.{has_quantity, live_below, not_dropped_live, skipped, dropped_next}
 use Rattle.cq_tableau.proofs.dropping.drop_all.Goals as goal

@@ -1,4 +1,4 @@
-use Rattle.std.proofs.Common.{◌≡◌, ◌∙◌, ◌+◌, ◌<◌, List, length, take, arith, ap, sym, subst}
+use Rattle.std.proofs.Common.{◌∙◌, ◌+◌, ◌<◌, List, length, take, arith, ap, sym, subst}
 use Rattle.cq_frac.specs.declared.VarId.{VarId}
 use Rattle.cq_dict.specs.DictValue.{quantities_of}
 use Rattle.cq_tableau.specs.Fixing.{AreFixedNow}

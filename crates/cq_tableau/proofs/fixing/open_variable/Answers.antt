@@ -1,6 +1,4 @@
-use Rattle.std.proofs.Common.{◌≡◌, Some, ap, sym, ◌∙◌}
-use Rattle.std.specs.Prelude.{slice_get}
-use Rattle.cq_tableau.specs.declared.names.Name.TheVariants.{Variable}
+use Rattle.std.proofs.Common.{Some, ap, ◌∙◌}
 use Rattle.cq_tableau.proofs.fixing.open_variable.Goals as goal
 
 pub returns-in-None : goal.returns-in-None

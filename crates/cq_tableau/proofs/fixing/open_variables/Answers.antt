@@ -1,4 +1,4 @@
-use Rattle.std.proofs.Common.{◌≡◌, ◌∙◌, ◌+◌, List, Option, ◌++◌, ◌∷◌, [], ap, sym, subst}
+use Rattle.std.proofs.Common.{◌∙◌, ◌+◌, List, Option, ap, sym, subst}
 use Rattle.std.specs.Prelude.{MatchOption}
 use Rattle.cq_frac.specs.declared.VarId.{VarId}
 use Rattle.cq_tableau.specs.Fixing.{HasNumber, IsOpenHere, AreOpen}

@@ -1,6 +1,4 @@
-use Rattle.std.proofs.Common.{ℕ, ◌<◌, ◌≤◌, length, arith, false, subst}
-use Rattle.std.specs.Prelude.{MatchBool}
-use Rattle.cq_tableau.specs.Looked.{Blocks, LeavesRoom}
+use Rattle.std.proofs.Common.{arith}
 use Rattle.cq_tableau.proofs.Looks.{one_leaves, all_leave}
 use Rattle.cq_tableau.proofs.looking.blocking_row.Goals as goal
 

@@ -1,4 +1,4 @@
-use Rattle.std.proofs.Common.{◌≡◌, ℕ, Err, true, false, ap, sym, subst, ◌∙◌}
+use Rattle.std.proofs.Common.{Err, ap, sym, ◌∙◌}
 use Rattle.cq_tableau.proofs.Passed.{searched, search_passed, search_spent, never_searched}
 use Rattle.cq_tableau.proofs.Looks.{looks_same, room_rises, lifted_looks, live_column, then_looks, then_speaks, then_seen, then_refuses, then_spends}
 use Rattle.cq_tableau.proofs.looking.look.Goals as goal

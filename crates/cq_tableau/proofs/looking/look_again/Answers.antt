@@ -1,4 +1,4 @@
-use Rattle.std.proofs.Common.{◌≡◌, ℕ, ◌<◌, ◌+◌, Err, length, true, false, ◌≤◌, arith, ap, sym, subst, ◌∙◌, inl, inr}
+use Rattle.std.proofs.Common.{◌≡◌, ◌+◌, Err, false, arith, ap, sym, subst, ◌∙◌, inl, inr}
 use Rattle.cq_dict.specs.Roles.{is_restricted}
 use Rattle.cq_dict.specs.DictValue.{DictValue}
 use Rattle.cq_tableau.specs.declared.looking.Seen.TheVariants as of_seen

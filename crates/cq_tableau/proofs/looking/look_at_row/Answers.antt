@@ -1,5 +1,4 @@
-use Rattle.std.proofs.Common.{◌≡◌, ℕ, List, Err, true, refl, ap, sym, subst, ◌∙◌}
-use Rattle.spec_rational.specs.Rational.{0ℚ, ◌≤ℚ◌}
+use Rattle.std.proofs.Common.{◌≡◌, ℕ, List, Err, true, refl, ap, sym, subst}
 use Rattle.spec_linear.specs.Solution.{Has}
 use Rattle.cq_row.specs.declared.Entry.{Entry}
 use Rattle.cq_dict.specs.Roles.{is_live}

@@ -1,4 +1,4 @@
-use Rattle.std.proofs.Common.{◌≡◌, ℕ, suc, ◌-◌, ◌<◌, length, arith, sym, subst, ◌∙◌}
+use Rattle.std.proofs.Common.{◌≡◌, suc, ◌-◌, ◌<◌, length, arith, sym, subst, ◌∙◌}
 use Rattle.spec_linear.specs.Solution.{Constraint}
 use Rattle.cq_tableau.specs.Refuted.{number_in}
 use Rattle.cq_tableau.specs.Stored.{IsMemberOf}

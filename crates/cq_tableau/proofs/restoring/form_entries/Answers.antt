@@ -1,4 +1,4 @@
-use Rattle.std.proofs.Common.{◌≡◌, ℕ, sym, subst, ◌∙◌}
+use Rattle.std.proofs.Common.{sym, subst, ◌∙◌}
 use Rattle.std.specs.Prelude.{IfOk}
 use Rattle.cq_dict.specs.Roles.{Quantities}
 use Rattle.cq_tableau.specs.Restored.{AsksGreatest, AreFormEntries, RefusesFormEntries, SpendsFormEntries}

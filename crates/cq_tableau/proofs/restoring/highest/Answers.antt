@@ -1,4 +1,4 @@
-use Rattle.std.proofs.Common.{◌≡◌, ℕ, List, Bool, Err, ap, sym, subst}
+use Rattle.std.proofs.Common.{◌≡◌, List, Bool, Err, ap, sym, subst}
 use Rattle.cq_simplex.specs.declared.Aim.TheVariants as aim_of
 use Rattle.cq_simplex.specs.Answers.{IsAnswer, AreSpent, RisesWithoutEnd}
 use Rattle.cq_tableau.proofs.Passed.{search_passed, search_spent}

@@ -1,5 +1,4 @@
-use Rattle.std.proofs.Common.{◌≡◌, true, sym, ◌∙◌}
-use Rattle.cq_dict.specs.Roles.{is_dropped, is_restricted}
+use Rattle.std.proofs.Common.{sym, ◌∙◌}
 use Rattle.cq_tableau.proofs.Restores.{live_again, restores_one}
 use Rattle.cq_tableau.proofs.restoring.restore_restricted.Goals as goal
 
