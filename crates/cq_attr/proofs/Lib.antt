@@ -1,0 +1,9 @@
+mod Newest
+mod Linked
+mod Elements
+mod Watched
+mod Slots
+pub mod Numbers
+mod Parts
+mod Changes
+mod Awake

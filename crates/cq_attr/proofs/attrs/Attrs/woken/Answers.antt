@@ -1,0 +1,54 @@
+use Rattle.std.proofs.Common.{◌<◌, ◌≤◌, length, arith}
+use Rattle.std.proofs.lemmas.List.{take_all}
+use Rattle.std.proofs.lemmas.List.Filters.{dedup_is}
+use Rattle.std.proofs.lemmas.List.Kept.{AllPairs-from_increasing, Contains-dedup_nat, Contains-from_dedup}
+use Rattle.std.proofs.lemmas.List.Sorted.{Contains-permutation, IsPermutation-sym}
+use Rattle.std.proofs.lemmas.Map.Keys.{IsStrictlyIncreasing-dedup}
+use Rattle.cq_frac.specs.declared.VarId.{VarId}
+use Rattle.cq_attr.proofs.Elements.{on_err}
+use Rattle.cq_attr.proofs.Awake.{Found, found_more, woken_from, found_woken, woken_by}
+use Rattle.cq_attr.proofs.attrs.Attrs.woken.Goals as goal
+
+pub returns-in_err-find_awake-clause-err : goal.returns-in_err-find_awake-clause-err
+returns-in_err-find_awake-clause-err c =
+    let d : VarId = record { 0 = 0 } in
+    let i = c.loop-variable.variable-index in
+    let within : i < length c.args.newly.now = omega (arith, c.loop-variable-test.true) in
+    let a = c.in_err-find_awake.ensures.err in
+    on_err c.from_residual.result (a.0, rw (← c.self.view_is) (woken_by c.self.inside.watchers.now c.self.inside.slots.now c.args.newly.now c.self.inside.numeric.now i d a.0 within a.1))
+
+pub loop-variable-preserved : goal.loop-variable-preserved
+loop-variable-preserved c =
+    let d : VarId = record { 0 = 0 } in
+    let i = c.loop-variable.variable-index in
+    let within : i < length c.args.newly.now = omega (arith, c.loop-variable-test.true) in
+    found_more c.self.inside.watchers.now c.self.inside.slots.now c.args.newly.now i d c.loop-variable.found.items c.find_awake.new.found.items c.loop-variable.invariant within
+    c.in_ok-find_awake.ensures.kept c.in_ok-find_awake.ensures.awake c.in_ok-find_awake.ensures.all
+
+pub returns-clause-woken : goal.returns-clause-woken
+returns-clause-woken c = λ n h.
+    let ws = c.self.inside.watchers.now in
+    let ss = c.self.inside.slots.now in
+    let vs = c.args.newly.now in
+    let all : length vs ≤ c.loop-variable.variable-index = omega (arith, c.loop-variable-test.false) in
+    let found : Found ws ss vs c.loop-variable.found.items = rw (take_all c.loop-variable.variable-index vs all) at c.loop-variable.invariant in
+    let is = dedup_is _ _ _ c.dedup.ensures.filtered in
+    rw (← c.self.view_is)
+    (woken_from ws ss vs c.self.inside.numeric.now c.loop-variable.found.items found n
+    (Contains-permutation _ _ n (IsPermutation-sym _ _ c.sort_unstable.ensures.permutation) (Contains-from_dedup _ _ n (rw is at h))))
+
+pub returns-clause-all : goal.returns-clause-all
+returns-clause-all c = λ n h.
+    let ws = c.self.inside.watchers.now in
+    let ss = c.self.inside.slots.now in
+    let vs = c.args.newly.now in
+    let all : length vs ≤ c.loop-variable.variable-index = omega (arith, c.loop-variable-test.false) in
+    let found : Found ws ss vs c.loop-variable.found.items = rw (take_all c.loop-variable.variable-index vs all) at c.loop-variable.invariant in
+    let is = dedup_is _ _ _ c.dedup.ensures.filtered in
+    rw is (Contains-dedup_nat _ n (Contains-permutation _ _ n c.sort_unstable.ensures.permutation
+    (found_woken ws ss vs c.self.inside.numeric.now c.loop-variable.found.items found n (rw (← c.self.view_is) at h))))
+
+pub returns-clause-ascending : goal.returns-clause-ascending
+returns-clause-ascending c =
+    let is = dedup_is _ _ _ c.dedup.ensures.filtered in
+    rw is (AllPairs-from_increasing _ (IsStrictlyIncreasing-dedup _ c.sort_unstable.ensures.sorted))

@@ -1,0 +1,4 @@
+pub mod NotesValue
+pub mod Chains
+pub mod Attributes
+pub mod Layout
