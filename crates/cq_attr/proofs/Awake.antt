@@ -13,7 +13,7 @@ use Rattle.cq_attr.specs.NotesValue.{behind_newest, IsNoteAt}
 use Rattle.cq_attr.specs.Attributes.{IsWokenBy}
 use Rattle.cq_attr.specs.Layout.{NumericNotes, Watchers, IsAwake, attributes_of}
 use Rattle.cq_attr.proofs.Newest.{newest_le, newest_above, newest_is}
-use Rattle.cq_attr.proofs.Elements.{get_taken, contains_here, contains_later, contains_none}
+use Rattle.cq_attr.proofs.Elements.{get_taken, contains_here, contains_later}
 use Rattle.cq_attr.proofs.Numbers.{awake_waits, waits_awake}
 
 -- the variable's notes from the place on were visited: what they lead to was found beside what there was at the start
@@ -108,9 +108,6 @@ module _ (ws : Watchers) (ss : List Slot) (v : ℕ) where
 pub record Found (ws : Watchers) (ss : List Slot) (vs : List VarId) (found : List ℕ) : Type 0 where
   pub awake : (n : ℕ) → Contains found n → (v : ℕ) × Contains (numbers_of vs) v × IsAwake ws ss v n
   pub all : (v n : ℕ) → Contains (numbers_of vs) v → IsAwake ws ss v n → Contains found n
-
-pub found_none : (ws : Watchers) (ss : List Slot) → Found ws ss [] []
-found_none ws ss = record { awake = λ n h. absurd (contains_none n h); all = λ v n h a. absurd (contains_none v h) }
 
 pub contains_number : (vs : List VarId) (i : ℕ) (d : VarId) → i < length vs → Contains (numbers_of vs) (get_or vs i d).0
 contains_number [] i d l = absurd (omega (arith, l))

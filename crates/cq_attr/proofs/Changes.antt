@@ -28,9 +28,6 @@ have_suspended ws ss vs s have =
     let longer = length-append ss (s ∷ []) in
     have_noted ws (ss ++ s ∷ []) vs (length ss) (All-weaker P Q (λ w h. omega (arith, h, longer)) ws have) (omega (arith, longer))
 
-pub have_taken : (ws : Watchers) (ss : List Slot) (k : ℕ) (s : Slot) → HaveSlots ws ss → HaveSlots ws (set ss k s)
-have_taken ws ss k s have = λ i d l. rw (length-set ss k s) (have i d l)
-
 -- ---- attributes
 
 module _ (ns : NumericNotes) (ws : Watchers) (ss : List Slot) where

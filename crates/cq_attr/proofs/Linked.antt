@@ -1,16 +1,16 @@
 -- Notes that are added, taken back and cut off stay linked.
-use Rattle.std.proofs.Common.{◌≡◌, ℕ, zero, suc, ◌+◌, ◌<◌, ◌≤◌, List, [], ◌∷◌, ◌++◌, length, map, take, set, get_or, replicate, Some, refl, sym, ap, subst, ◌∙◌, inl, inr, arith, length-append}
+use Rattle.std.proofs.Common.{◌≡◌, ℕ, zero, suc, ◌+◌, ◌<◌, ◌≤◌, List, [], ◌∷◌, ◌++◌, length, map, take, set, get_or, replicate, Some, refl, sym, ap, subst, ◌∙◌, inl, inr, arith}
 use Rattle.std.specs.Prelude.{slice_get, slice_index}
 use Rattle.std.specs.List.{take-map}
 use Rattle.std.specs.Option.{option_map}
 use Rattle.std.proofs.lemmas.Bool.{cases_eq, cases_lt, ne_eqb}
-use Rattle.std.proofs.lemmas.List.{map-append, length-map, get_or-set_same, get_or-set_other, get_or_past, append_assoc, take_more, take_all, take_at, take-append-le, take-take, length-take-le}
+use Rattle.std.proofs.lemmas.List.{map-append, length-map, get_or-set_same, get_or-set_other, get_or_past, append_assoc, take_more, take_all, take_at, take-append-le, take-take}
 use Rattle.std.proofs.lemmas.Option.{slice_get_within, slice_get-map}
 use Rattle.std.proofs.lemmas.List.Elements.{All-more, All-weaker}
 use Rattle.spec_lists.proofs.Places.{get_push, get_kept, get_take, map_same}
 use Rattle.cq_frac.specs.declared.VarId.{VarId}
 use Rattle.cq_attr.specs.NotesValue.{behind_newest, IsNoteAt, noted}
-use Rattle.cq_attr.specs.Chains.{pairs_of, first_pairs, AreLinked, AreNotes, HasPlaces}
+use Rattle.cq_attr.specs.Chains.{pairs_of, first_pairs, AreLinked, HasPlaces}
 use Rattle.cq_attr.specs.declared.notes.Note.{Note}
 use Rattle.cq_attr.proofs.Newest.{newest_same, newest_other}
 
@@ -102,26 +102,6 @@ module _ {T : Type 0} where
   firsts_kept ns ms marks more within e =
       map_same (first_pairs ms) (first_pairs ns) marks (λ k n at. ap (take n) e ∙ take-append-le n (pairs_of ns) more (omega (arith, within k n at, length-pairs ns)))
 
-  pub notes_extended : (newest wider : List ℕ) (ns ms : List (Note T)) (marks : List ℕ) (more : List (ℕ × T)) → AreNotes newest ns marks
-      → AreLinked wider ms → pairs_of ms ≡ pairs_of ns ++ more → AreNotes wider ms marks
-  notes_extended newest wider ns ms marks more is linked e = record {
-    linked = linked;
-    within = λ k n at. omega (arith, is.within k n at, sym (length-pairs ms) ∙ ap length e ∙ length-append (pairs_of ns) more, length-pairs ns);
-    sorted = is.sorted;
-  }
-
-  -- back at a mark
-  pub notes_undone : (newest back : List ℕ) (ns : List (Note T)) (marks : List ℕ) (m n : ℕ) → AreNotes newest ns marks → slice_get marks m ≡ Some n
-      → AreLinked back (take n ns) → AreNotes back (take n ns) (take m marks)
-  notes_undone newest back ns marks m n is here linked = record {
-    linked = linked;
-    within = λ k i at.
-        let old = get_take m k marks i at in
-        let le : i ≤ n = is.sorted k m i n old.0 here (omega (arith, old.1)) in
-        rw (length-take-le n ns (is.within m n here)) le;
-    sorted = λ j k i l a b le. is.sorted j k i l (get_take m j marks i a).0 (get_take m k marks l b).0 le;
-  }
-
   pub firsts_undone : (ns : List (Note T)) (marks : List ℕ) (m n : ℕ) → ((j k i l : ℕ) → slice_get marks j ≡ Some i → slice_get marks k ≡ Some l → j ≤ k → i ≤ l)
       → slice_get marks m ≡ Some n → map (first_pairs (take n ns)) (take m marks) ≡ take m (map (first_pairs ns) marks)
   firsts_undone ns marks m n sorted here =
@@ -129,13 +109,6 @@ module _ {T : Type 0} where
       let old = get_take m k marks i at in
       ap (take i) (sym (take-map (λ (e : Note T). (e.variable, e.value)) n ns)) ∙ take-take i n (pairs_of ns) (sorted k m i n old.0 here (omega (arith, old.1))))
       ∙ sym (take-map (first_pairs ns) m marks)
-
-  pub notes_forgotten : (newest : List ℕ) (ns : List (Note T)) (marks : List ℕ) (m : ℕ) → AreNotes newest ns marks → AreNotes newest ns (take m marks)
-  notes_forgotten newest ns marks m is = record {
-    linked = is.linked;
-    within = λ k n at. is.within k n (get_take m k marks n at).0;
-    sorted = λ j k i l a b le. is.sorted j k i l (get_take m j marks i a).0 (get_take m k marks l b).0 le;
-  }
 
   -- what is noted at a place
   pub note_at : (newest : List ℕ) (ns : List (Note T)) (k : ℕ) (n : Note T) → AreLinked newest ns → slice_get ns k ≡ Some n → IsNoteAt (pairs_of ns) k (n.value, n.earlier)

@@ -1,13 +1,12 @@
 -- The numbers that wait, and what they wait for.
-use Rattle.std.proofs.Common.{◌≡◌, ℕ, zero, suc, ◌+◌, ◌<◌, ◌≤◌, ◌==◌, Bool, true, false, not, cond, filter, List, [], ◌∷◌, length, get_or, Some, refl, sym, ap, subst, ◌∙◌, inl, inr, zero-add, arith}
+use Rattle.std.proofs.Common.{◌≡◌, ℕ, zero, suc, ◌+◌, ◌<◌, ◌≤◌, Bool, true, false, cond, List, [], ◌∷◌, length, get_or, Some, refl, sym, ap, subst, ◌∙◌, inl, inr, zero-add, arith}
 use Rattle.std.specs.Prelude.{slice_get, Contains, All}
-use Rattle.std.proofs.lemmas.Bool.{eqb-true}
 use Rattle.std.proofs.lemmas.List.{length-map}
 use Rattle.std.proofs.lemmas.Option.{none-some, same_Some, slice_get_within}
 use Rattle.std.proofs.lemmas.List.Elements.{Contains-get_or}
 use Rattle.std.proofs.lemmas.List.Kept.{AllPairs-cons}
 use Rattle.cq_attr.specs.declared.susp.Slot.{Slot}
-use Rattle.cq_attr.specs.Attributes.{Attributes, Waiting, numbers, without, Ascends, WaitsFor, IsWokenBy}
+use Rattle.cq_attr.specs.Attributes.{Attributes, Waiting, numbers, Ascends, WaitsFor, IsWokenBy}
 use Rattle.cq_attr.specs.Layout.{Watchers, NumericNotes, waiting_at, waiting_from, attributes_of, IsAwake}
 use Rattle.cq_attr.proofs.Elements.{contains_here, contains_later, contains_cond, contains_cases, contains_none}
 use Rattle.cq_attr.proofs.Watched.{contains_watched, watched_contains}
@@ -125,7 +124,7 @@ numbers_alone n (s ∷ ss) ws us = by_first s.waits (numbers_alone (suc n) ss ws
   by_first true e = ap (λ ms. n ∷ ms) e
   by_first false e = e
 
--- ---- what wakes waits, and goes on waiting where another number is taken
+-- ---- what wakes waits
 
 contains_number : (xs : List Waiting) (w : Waiting) → Contains xs w → Contains (numbers xs) w.number
 contains_number xs w h = (h.0, rw (length-map xs (λ (x : Waiting). x.number)) h.1, get_number xs h.0 w h.2) where
@@ -138,24 +137,3 @@ pub woken_waits : (a : Attributes) (vs : List ℕ) (n : ℕ) → IsWokenBy a vs 
 woken_waits a vs n h =
     let P : ℕ → Type 0 = Contains (numbers a.waiting) in
     subst P h.waits_for.number (contains_number a.waiting h.waits_for.waiting h.waits_for.waits)
-
-others_stay : (xs : List Waiting) (n m : ℕ) → (m ≡ n → ⊥) → Contains (numbers xs) m → Contains (numbers (filter (λ w. not (w.number == n)) xs)) m
-others_stay [] n m other h = h
-others_stay (x ∷ xs) n m other h = by_first (x.number == n) refl (others_stay xs n m other) where
-  rest : List Waiting
-  rest = filter (λ w. not (w.number == n)) xs
-
-  by_first : (b : Bool) → (x.number == n) ≡ b → (Contains (numbers xs) m → Contains (numbers rest) m) → Contains (numbers (cond (not b) (x ∷ rest) rest)) m
-  by_first true is go =
-      elim (contains_cases x.number (numbers xs) m h) [
-        | inl e ↦ absurd (other (sym e ∙ eqb-true x.number n is))
-        | inr l ↦ go l
-      ]
-  by_first false is go =
-      elim (contains_cases x.number (numbers xs) m h) [
-        | inl e ↦ contains_here x.number (numbers rest) m e
-        | inr l ↦ contains_later x.number (numbers rest) m (go l)
-      ]
-
-pub contains-without : (a : Attributes) (n m : ℕ) → (m ≡ n → ⊥) → Contains (numbers a.waiting) m → Contains (numbers (without a n).waiting) m
-contains-without a n m other h = others_stay a.waiting n m other h

@@ -1,12 +1,12 @@
 -- The parts of attributes at their marks.
-use Rattle.std.proofs.Common.{◌≡◌, ℕ, ◌<◌, List, [], ◌∷◌, ◌++◌, length, map, Some, sym, ap, ◌∙◌, take, arith, inl, inr, length-append, length-take}
+use Rattle.std.proofs.Common.{◌≡◌, ℕ, List, [], ◌∷◌, ◌++◌, length, map, Some, sym, ap, ◌∙◌, take, arith, length-take}
 use Rattle.std.specs.Prelude.{slice_get}
 use Rattle.std.specs.List.{zip, take-map}
 use Rattle.std.specs.Option.{option_map}
 use Rattle.std.proofs.lemmas.List.{map-append, length-map}
-use Rattle.std.proofs.lemmas.Option.{slice_get_within, slice_get-map}
+use Rattle.std.proofs.lemmas.Option.{slice_get-map}
 use Rattle.std.proofs.lemmas.Slice.Zip.{length-zip}
-use Rattle.spec_lists.proofs.Places.{get_push, get_take}
+use Rattle.spec_lists.proofs.Places.{get_take}
 use Rattle.cq_trail.proofs.Zip.{zip-push, zip-take, zip_at}
 use Rattle.cq_attr.specs.declared.susp.Slot.{Slot}
 use Rattle.cq_attr.specs.Attributes.{Attributes}
@@ -36,22 +36,6 @@ module _ (ws : Watchers) (ss : List Slot) (nm : List NumericNotes) (wm : List Wa
       ap (λ ps. map attributes_by (zip (nm ++ n ∷ []) ps)) (zip-push wm sm ws ss (omega (arith, are.watchers_together, are.slots_together)))
       ∙ ap (map attributes_by) (zip-push nm (zip wm sm) n (ws, ss) inner_together)
       ∙ map-append attributes_by (zip nm (zip wm sm)) ((n, (ws, ss)) ∷ [])
-
-  pub parts_marked : (n : NumericNotes) → AreParts ws ss (nm ++ n ∷ []) (wm ++ ws ∷ []) (sm ++ ss ∷ [])
-  parts_marked n = record {
-    now = are.now;
-    watchers_together = omega (arith, length-append wm (ws ∷ []), length-append nm (n ∷ []), are.watchers_together);
-    slots_together = omega (arith, length-append sm (ss ∷ []), length-append nm (n ∷ []), are.slots_together);
-    marks = λ k w s p q. elim (get_push wm ws k w p) [
-      | inl p' ↦ (
-          let lt : k < length wm = slice_get_within wm k w p' in
-          let q' : slice_get sm k ≡ Some s = elim (get_push sm ss k s q) [ inl h ↦ h | inr h ↦ absurd (omega (arith, h.0, lt, are.watchers_together, are.slots_together)) ] in
-          are.marks k w s p' q')
-      | inr p' ↦ (
-          let q' : ss ≡ s = elim (get_push sm ss k s q) [ inl h ↦ absurd (omega (arith, p'.0, slice_get_within sm k s h, are.watchers_together, are.slots_together)) | inr h ↦ h.1 ] in
-          rw (← p'.1, ← q') are.now)
-    ];
-  }
 
   pub parts_taken : (m : ℕ) (ws' : Watchers) (ss' : List Slot) → HaveSlots ws' ss' → AreParts ws' ss' (take m nm) (take m wm) (take m sm)
   parts_taken m ws' ss' now = record {
