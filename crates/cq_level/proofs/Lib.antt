@@ -1,0 +1,5 @@
+pub mod Turned
+pub mod Crossing
+pub mod Passing
+pub mod Goes
+pub mod Lights

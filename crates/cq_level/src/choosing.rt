@@ -1,0 +1,76 @@
+//! The column by which an equation is solved: one that stands in as few rows as can be, so that few are written again.
+
+ghost use Rattle.std.specs.Prelude.{◌≡◌, ◌<◌, length, MatchBool};
+ghost use Rattle.cq_dict.specs.Roles.{AreOverColumns, IsRow, role_at};
+ghost use Rattle.cq_level.specs.Lightest.{stands, rows_with, IsLighter, IsLightest};
+
+use cq_dict::dict::{Col, Dict};
+use cq_row::entry_at;
+
+/// An unrestricted column, and in how many rows it stands.
+#[derive(Clone, Copy, Debug)]
+struct Candidate {
+    column: Col,
+    rows: usize,
+}
+
+/// Whether the quantity is a row with an entry in the column.
+fn stands_in(dict: &Dict, q: usize, c: Col) -> bool
+    requires table { AreOverColumns dict.now.roles }
+    requires there { q < length dict.now.roles }
+    ensures { MatchBool result (stands c (role_at dict.now.roles q) ≡ 1) (stands c (role_at dict.now.roles q) ≡ 0) }
+{
+    if !dict.is_row(q) {
+        return false;
+    }
+    entry_at(dict.row(q), c).is_some()
+}
+
+/// In how many rows the column stands.
+fn count_rows(dict: &Dict, c: Col) -> usize
+    requires { AreOverColumns dict.now.roles }
+    ensures { result ≡ rows_with c dict.now.roles }
+{
+    let mut rows = 0;
+    for q in 0..dict.count() {
+        if stands_in(dict, q, c) {
+            rows += 1;
+        }
+    }
+    rows
+}
+
+/// The candidate that was found before, unless the next one stands in fewer rows.
+fn lighter(before: Option<Candidate>, next: Candidate) -> Candidate
+    ensures { IsLighter before next result }
+{
+    match before {
+        Some(candidate) => {
+            if next.rows < candidate.rows {
+                return next;
+            }
+            candidate
+        }
+        None => next,
+    }
+}
+
+/// Of the unrestricted columns of the row one that stands in the fewest rows: a new variable's stands in no other row.
+pub fn lightest_column(dict: &Dict, q: usize) -> Option<Col>
+    requires table { AreOverColumns dict.now.roles }
+    requires row { IsRow dict.now.roles q }
+    ensures { IsLightest dict.now.roles dict.now.restricted q result }
+{
+    let mut found: Option<Candidate> = None;
+    for m in dict.row(q) {
+        if !dict.is_restricted(m.quantity) {
+            let column = m.quantity;
+            let rows = count_rows(dict, column);
+            found = Some(lighter(found, Candidate { column, rows }));
+        }
+    }
+    match found {
+        Some(candidate) => Some(candidate.column),
+        None => None,
+    }
+}

@@ -1,0 +1,7 @@
+//! Rows that are to be zero: the column by which an equation is solved, and the search for one.
+#![tactic(auto)]
+
+pub mod choosing;
+pub mod levelling;
+#[cfg(test)]
+mod tests;
