@@ -1,0 +1,63 @@
+-- What the answers of the search for an asked form say of the told list.
+use Rattle.std.proofs.Common.{◌≡◌, ℕ, ◌<◌, List, [], ◌∷◌, ◌++◌, length, ap, sym, subst, ◌∙◌}
+use Rattle.spec_rational.specs.Rational.{ℚ}
+use Rattle.spec_linear.specs.Form.{Linear}
+use Rattle.spec_linear.specs.Solution.{Constraint}
+use Rattle.spec_extremes.specs.Extremes.{IsSupremum, IsUnbounded}
+use Rattle.spec_tableau.proofs.Extent.{greatest_is_supremum, unbounded_over}
+use Rattle.spec_tableau.specs.Reach.{IsGreatest}
+use Rattle.spec_tableau.proofs.Extent.{Grows}
+use Rattle.cq_dict.specs.declared.table.Role.TheVariants.{Basic}
+use Rattle.cq_dict.specs.declared.table.Role.{Role}
+use Rattle.cq_dict.specs.Roles.{Quantities, is_restricted}
+use Rattle.cq_dict.proofs.Roles.{at_below}
+use Rattle.spec_simplex.specs.Dictionary as of_simplex
+use Rattle.cq_simplex.specs.Dictionary.{dictionary}
+use Rattle.cq_simplex.specs.Answers.{IsMaximum, RisesWithoutEnd, IsWithin, IsOverflow}
+use Rattle.spec_limits.specs.Asked.{IsAsked}
+use Rattle.cq_frac.specs.declared.Pair.{Pair}
+use Rattle.cq_tableau.specs.declared.names.Name.{Name}
+use Rattle.cq_tableau.specs.Asking.{AsksForm}
+use Rattle.cq_tableau.specs.Forms.{form_at}
+use Rattle.cq_tableau.specs.Keeps.{Keeps}
+use Rattle.cq_tableau.specs.Stored.{IsStored}
+use Rattle.cq_linear.specs.StoreValue.{MayRefuse}
+use Rattle.cq_tableau.proofs.Steps.{form_last}
+use Rattle.cq_tableau.proofs.Tied.{maximum, unbounded, searchable}
+use Rattle.cq_tableau.proofs.Joined.{reached}
+use Rattle.cq_tableau.proofs.Storing.{stored_solvable, asked_kept, asked_row}
+use Rattle.cq_linear.proofs.Moments.{row_refused}
+
+module _ (told : List Constraint) (names : List Name) (q : Quantities) (s : IsStored told names q) (f : Linear) (new_names : List Name) (mid : Quantities) (n : ℕ)
+    (a : AsksForm names q f new_names mid n) where
+  kept : Keeps ((a.stays told s).forms ++ f ∷ []) told mid.roles mid.restricted
+  kept = asked_kept told names q s f new_names mid n a
+
+  form_is : form_at ((a.stays told s).forms ++ f ∷ []) n ≡ f
+  form_is = ap (form_at ((a.stays told s).forms ++ f ∷ [])) (a.number ∙ sym (a.stays told s).keeps.describes.size) ∙ form_last (a.stays told s).forms f
+
+  made : n < length mid.roles
+  made = let r = asked_row told names q s f new_names mid n a in at_below mid.roles n (Basic r.0) r.1
+
+  pub asked_supremum : (new : List Role) (v : ℚ) → IsMaximum mid.roles mid.restricted n new v → IsSupremum told f v
+  asked_supremum new v m =
+      greatest_is_supremum told f v (stored_solvable told names q s)
+      (subst (λ g. IsGreatest told g v) form_is
+      (maximum mid.roles mid.restricted ((a.stays told s).forms ++ f ∷ []) told kept.describes kept.invariant.sound n made new v m))
+
+  pub asked_unbounded : RisesWithoutEnd mid.roles mid.restricted n → IsUnbounded told f
+  asked_unbounded u =
+      unbounded_over told f (stored_solvable told names q s)
+      (subst (Grows told) form_is (unbounded mid.roles mid.restricted ((a.stays told s).forms ++ f ∷ []) told kept.describes kept.invariant.sound n made u))
+
+  -- the row may be maximised
+  pub asked_feasible : of_simplex.IsFeasible (is_restricted mid.restricted) (dictionary mid.roles n)
+  asked_feasible = searchable mid.roles mid.restricted ((a.stays told s).forms ++ f ∷ []) n kept.size kept.invariant.sound.feasible
+
+  -- a refusal of the search
+  pub search_refused : (Joins Questions : Constraint → Type 0) → IsAsked told Joins Questions f → (budget : ℕ) (new : List Role) (pair : Pair)
+      → IsWithin mid.roles mid.restricted n budget new → IsOverflow mid.restricted n new pair → MayRefuse told Joins Questions pair
+  search_refused Joins Questions is_asked budget new pair w o =
+      row_refused told names q s f Joins Questions is_asked new_names mid n a new
+      (reached ((a.stays told s).forms ++ f ∷ []) told mid.roles mid.restricted kept n (asked_row told names q s f new_names mid n a) w.exchanges new w.reached)
+      w.reached.asked_row o.row o.column pair (o.made, o.refused)

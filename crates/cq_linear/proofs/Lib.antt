@@ -1,0 +1,13 @@
+pub mod Faces
+pub mod Stays
+pub mod Holding
+pub mod Moments
+pub mod Passed
+pub mod Extents
+pub mod Questions
+pub mod Entries
+pub mod Asked
+pub mod Taken
+pub mod Stops
+pub mod Refusals
+pub mod Falls

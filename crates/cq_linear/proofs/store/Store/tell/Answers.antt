@@ -1,0 +1,109 @@
+-- What is entered between a mark and its end; one that is refused leaves what is held at the mark.
+use Rattle.std.proofs.Common.{◌≡◌, List, ◌++◌, [], ◌∷◌, ap, ap₂, sym, subst, ◌∙◌}
+use Rattle.std.specs.List.{zip}
+use Rattle.spec_linear.specs.declared.Relation.TheVariants.{Eq}
+use Rattle.spec_linear.specs.Solution.{Constraint, Solvable}
+use Rattle.spec_inequalities.specs.Certificate.{Refutes}
+use Rattle.cq_dict.specs.DictValue.{quantities_of}
+use Rattle.cq_dict.specs.Roles.{Quantities}
+use Rattle.cq_tableau.specs.declared.names.Name.{Name}
+use Rattle.cq_linear.specs.StoreValue.{StoreValue}
+use Rattle.cq_tableau.specs.Stored.{IsStored, JoinsStored}
+use Rattle.cq_linear.proofs.Holding.{held_joined, held_undone, last_undone}
+use Rattle.cq_tableau.proofs.Storing.{stored_solvable}
+use Rattle.spec_limits.specs.Asked.{NoQuestion}
+use Rattle.cq_store.proofs.Gained.{moved_err}
+use Rattle.cq_linear.specs.declared.store.StoreFault.TheVariants.{Pivots, Unsupported}
+use Rattle.cq_linear.specs.StoreValue.{MayTake, Only}
+use Rattle.cq_linear.proofs.Taken.{other_relation}
+use Rattle.cq_linear.proofs.store.Store.tell.Goals as goal
+use Rattle.cq_linear.proofs.store.Store.tell.Goals.{After-forget, After-undo, After-undo-in-Err}
+
+pub invariant_of-self-in-Ok-Joined : goal.invariant_of-self-in-Ok-Joined
+invariant_of-self-in-Ok-Joined c =
+    let told = ap (λ (z : List Constraint × (List Name × Quantities)). z.0) c.mark.ensures.now in
+    let j : JoinsStored c.mark.new.self.first.now c.args.c c.in-Ok-Joined.fixed.items c.enter.new.held.second.first.now (quantities_of c.enter.new.held.second.second) =
+    rw c.in-Ok-Joined.field-0-is at c.in-Ok-Joined.ensures.joined in
+    let t : c.enter.new.held.first.now ≡ c.mark.new.self.first.now ++ c.args.c ∷ [] = rw c.in-Ok-Joined.field-0-is at c.in-Ok-Joined.ensures.told in
+    held_joined _ _ _ c.self.invariant c.in_ok-start.start.number c.in_ok-start.ensures.mark _ c.mark.ensures.now
+    (c.enter.new.held.first.now, (c.enter.new.held.second.first.now, quantities_of c.enter.new.held.second.second)) c.enter.ensures.grows c.enter.new.numbers.entries
+    c.enter.ensures.numbered
+    (zip c.enter.new.held.first.saved (zip c.enter.new.held.second.first.saved c.enter.new.held.second.second.saved))
+    (ap₂ (λ a b. zip a b) c.enter.ensures.told_saved (ap₂ (λ a b. zip a b) c.enter.ensures.names_saved c.enter.ensures.dict_saved) ∙ c.in_ok-start.ensures.saved)
+    _ _ c.forget.ensures.saved c.forget.ensures.now
+    (subst (λ l. IsStored l c.enter.new.held.second.first.now (quantities_of c.enter.new.held.second.second)) (sym t) j.stored)
+
+pub invariant_of-self-in-Ok-Contradiction : goal.invariant_of-self-in-Ok-Contradiction
+invariant_of-self-in-Ok-Contradiction c =
+    held_undone _ _ _ c.self.invariant c.in_ok-start.start.number c.in_ok-start.ensures.mark _ c.mark.ensures.now
+    (c.enter.new.held.first.now, (c.enter.new.held.second.first.now, quantities_of c.enter.new.held.second.second)) c.enter.ensures.grows c.enter.new.numbers.entries
+    c.enter.ensures.numbered
+    (zip c.enter.new.held.first.saved (zip c.enter.new.held.second.first.saved c.enter.new.held.second.second.saved))
+    (ap₂ (λ a b. zip a b) c.enter.ensures.told_saved (ap₂ (λ a b. zip a b) c.enter.ensures.names_saved c.enter.ensures.dict_saved) ∙ c.in_ok-start.ensures.saved)
+    _ _ c.undo.ensures.saved c.undo.ensures.now
+
+pub invariant_of-self-in-Err : goal.invariant_of-self-in-Err
+invariant_of-self-in-Err c =
+    held_undone _ _ _ c.self.invariant c.in_ok-start.start.number c.in_ok-start.ensures.mark _ c.mark.ensures.now
+    (c.enter.new.held.first.now, (c.enter.new.held.second.first.now, quantities_of c.enter.new.held.second.second)) c.enter.ensures.grows c.enter.new.numbers.entries
+    c.enter.ensures.numbered
+    (zip c.enter.new.held.first.saved (zip c.enter.new.held.second.first.saved c.enter.new.held.second.second.saved))
+    (ap₂ (λ a b. zip a b) c.enter.ensures.told_saved (ap₂ (λ a b. zip a b) c.enter.ensures.names_saved c.enter.ensures.dict_saved) ∙ c.in_ok-start.ensures.saved)
+    _ _ c.undo-in-Err.ensures.saved c.undo-in-Err.ensures.now
+
+undone_told : (c : After-undo) → c.undo.new.self.first.now ≡ c.args.self.now.told
+undone_told c =
+    ap (λ (z : List Constraint × (List Name × Quantities)). z.0)
+    (last_undone _ _ _ c.self.invariant c.in_ok-start.start.number c.in_ok-start.ensures.mark _ c.mark.ensures.now
+    (c.enter.new.held.first.now, (c.enter.new.held.second.first.now, quantities_of c.enter.new.held.second.second)) c.enter.ensures.grows c.enter.new.numbers.entries
+    c.enter.ensures.numbered
+    (zip c.enter.new.held.first.saved (zip c.enter.new.held.second.first.saved c.enter.new.held.second.second.saved))
+    (ap₂ (λ a b. zip a b) c.enter.ensures.told_saved (ap₂ (λ a b. zip a b) c.enter.ensures.names_saved c.enter.ensures.dict_saved) ∙ c.in_ok-start.ensures.saved)
+    _ _ c.undo.ensures.saved c.undo.ensures.now)
+    ∙ ap (λ (z : StoreValue). z.told) c.self.view_is
+
+pub returns-in-Ok-Joined-clause-kept : goal.returns-in-Ok-Joined-clause-kept
+returns-in-Ok-Joined-clause-kept c =
+    let was : c.mark.new.self.first.now ≡ c.args.self.now.told = ap (λ (z : List Constraint × (List Name × Quantities)). z.0) c.mark.ensures.now ∙ ap (λ (z : StoreValue). z.told) c.self.view_is in
+    let j : JoinsStored c.mark.new.self.first.now c.args.c c.in-Ok-Joined.fixed.items c.enter.new.held.second.first.now (quantities_of c.enter.new.held.second.second) =
+    rw c.in-Ok-Joined.field-0-is at c.in-Ok-Joined.ensures.joined in
+    let t : c.enter.new.held.first.now ≡ c.mark.new.self.first.now ++ c.args.c ∷ [] = rw c.in-Ok-Joined.field-0-is at c.in-Ok-Joined.ensures.told in
+    let e : c.forget.new.self.first.now ≡ c.mark.new.self.first.now ++ c.args.c ∷ [] =
+    ap (λ (z : List Constraint × (List Name × Quantities)). z.0) c.forget.ensures.now ∙ t in (
+      subst Solvable (sym e) (stored_solvable (c.mark.new.self.first.now ++ c.args.c ∷ []) c.enter.new.held.second.first.now (quantities_of c.enter.new.held.second.second) j.stored),
+      e ∙ ap (λ l. l ++ c.args.c ∷ []) was,
+    )
+
+pub returns-in-Ok-Contradiction-clause-unsolvable : goal.returns-in-Ok-Contradiction-clause-unsolvable
+returns-in-Ok-Contradiction-clause-unsolvable c =
+    let k = (goal.at.returns-in-Ok-Contradiction-clause-unsolvable c).After-undo in
+    let was : c.mark.new.self.first.now ≡ c.args.self.now.told = ap (λ (z : List Constraint × (List Name × Quantities)). z.0) c.mark.ensures.now ∙ ap (λ (z : StoreValue). z.told) c.self.view_is in
+    let r : Refutes c.in-Ok-Contradiction.cert (c.mark.new.self.first.now ++ c.args.c ∷ []) = rw c.in-Ok-Contradiction.field-0-is at c.in-Ok-Contradiction.ensures.refuted in (
+      subst (λ l. Refutes c.in-Ok-Contradiction.cert (l ++ c.args.c ∷ [])) was r,
+      undone_told k,
+    )
+
+pub returns-in-Err-clause-err : goal.returns-in-Err-clause-err
+returns-in-Err-clause-err c =
+    ap (λ (z : List Constraint × (List Name × Quantities)). z.0)
+    (last_undone _ _ _ c.self.invariant c.in_ok-start.start.number c.in_ok-start.ensures.mark _ c.mark.ensures.now
+    (c.enter.new.held.first.now, (c.enter.new.held.second.first.now, quantities_of c.enter.new.held.second.second)) c.enter.ensures.grows c.enter.new.numbers.entries
+    c.enter.ensures.numbered
+    (zip c.enter.new.held.first.saved (zip c.enter.new.held.second.first.saved c.enter.new.held.second.second.saved))
+    (ap₂ (λ a b. zip a b) c.enter.ensures.told_saved (ap₂ (λ a b. zip a b) c.enter.ensures.names_saved c.enter.ensures.dict_saved) ∙ c.in_ok-start.ensures.saved)
+    _ _ c.undo-in-Err.ensures.saved c.undo-in-Err.ensures.now)
+    ∙ ap (λ (z : StoreValue). z.told) c.self.view_is
+
+pub returns-in-Err-clause-pivots : goal.returns-in-Err-clause-pivots
+returns-in-Err-clause-pivots c = λ n e.
+    let was : c.mark.new.self.first.now ≡ c.args.self.now.told = ap (λ (z : List Constraint × (List Name × Quantities)). z.0) c.mark.ensures.now ∙ ap (λ (z : StoreValue). z.told) c.self.view_is in
+    let o = c.in-Err.ensures.pivots n (moved_err c.in-Err.fault (Pivots n) e) in (
+      o.0 ∙ ap (λ (z : StoreValue). z.pivots) c.self.view_is,
+      subst (λ (l : List Constraint). MayTake l (Only c.args.c) NoQuestion n) was o.1,
+    )
+
+pub returns-in-Err-clause-unsupported : goal.returns-in-Err-clause-unsupported
+returns-in-Err-clause-unsupported c = (
+  λ e. c.in-Err.ensures.unsupported (moved_err c.in-Err.fault Unsupported e),
+  λ h. absurd (other_relation Eq _ _ _ c.c.view_is c.is_equality.ensures c.if-is_equality.false h),
+)

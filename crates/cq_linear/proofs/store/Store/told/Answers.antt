@@ -1,0 +1,8 @@
+use Rattle.cq_dict.specs.DictValue.{quantities_of}
+use Rattle.cq_tableau.proofs.Storing.{stored_solvable}
+use Rattle.cq_linear.proofs.store.Store.told.Goals as goal
+
+pub returns-clause-solvable : goal.returns-clause-solvable
+returns-clause-solvable c =
+    rw (← c.self.view_is)
+    (stored_solvable c.self.inside.held.first.now c.self.inside.held.second.first.now (quantities_of c.self.inside.held.second.second) c.self.invariant.stored)

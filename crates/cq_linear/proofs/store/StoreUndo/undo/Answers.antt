@@ -1,0 +1,26 @@
+use Rattle.std.proofs.Common.{List, map, ap, sym, ◌∙◌}
+use Rattle.std.proofs.lemmas.Option.{slice_get-map}
+use Rattle.std.specs.List.{zip, take-map}
+use Rattle.std.specs.Option.{option_map}
+use Rattle.spec_linear.specs.Solution.{Constraint}
+use Rattle.cq_dict.specs.Roles.{Quantities}
+use Rattle.cq_tableau.specs.declared.names.Name.{Name}
+use Rattle.cq_linear.proofs.Holding.{held_given_back}
+use Rattle.cq_linear.proofs.store.StoreUndo.undo.Goals as goal
+
+pub invariant_of-self : goal.invariant_of-self
+invariant_of-self c = held_given_back _ _ _ c.self.invariant c.args.m.number _ c.undo.ensures.saved _ c.undo.ensures.now
+
+pub returns-clause-now : goal.returns-clause-now
+returns-clause-now c =
+    let all = zip c.self.inside.held.first.saved (zip c.self.inside.held.second.first.saved c.self.inside.held.second.second.saved) in
+    rw (← c.self.view_is)
+    (slice_get-map (λ (h : List Constraint × (List Name × Quantities)). h.0) all c.args.m.number
+    ∙ ap (option_map (λ (h : List Constraint × (List Name × Quantities)). h.0)) c.undo.ensures.now)
+
+pub returns-clause-saved : goal.returns-clause-saved
+returns-clause-saved c =
+    let all = zip c.self.inside.held.first.saved (zip c.self.inside.held.second.first.saved c.self.inside.held.second.second.saved) in
+    rw (← c.self.view_is)
+    (ap (map (λ (h : List Constraint × (List Name × Quantities)). h.0)) c.undo.ensures.saved
+    ∙ sym (take-map (λ (h : List Constraint × (List Name × Quantities)). h.0) c.args.m.number all))

@@ -1,0 +1,274 @@
+//! The steps of telling a constraint. Where one of them is refused, the store is left between marks, to be undone.
+
+ghost use Rattle.std.specs.Prelude.{◌≡◌, ℕ, [], ◌∷◌, ◌++◌, IfOk, MatchBool};
+ghost use Rattle.spec_linear.specs.declared.Relation.TheVariants.{Eq, Ne};
+ghost use Rattle.spec_linear.specs.Solution.{Solvable, Unsolvable};
+ghost use Rattle.spec_limits.specs.Asked.{NoQuestion};
+ghost use Rattle.spec_projection.specs.Elimination.{IsInequality};
+ghost use Rattle.spec_lists.specs.Prefixes.{IsPrefix};
+ghost use Rattle.cq_frac.specs.declared.Pair.{Pair};
+ghost use Rattle.cq_linear.specs.declared.store.StoreFault.TheVariants.{Overflow, Pivots, Unsupported};
+ghost use Rattle.cq_linear.specs.StoreValue.{MayRefuse, MayTake, Only};
+ghost use Rattle.cq_dict.specs.DictValue.{quantities_of};
+ghost use Rattle.cq_linear.specs.Entered.{IfJoined, IsJoined, IsRefuted};
+ghost use Rattle.cq_linear.specs.Faced.{IsOnFace};
+ghost use Rattle.cq_tableau.specs.Stored.{IsStored};
+ghost use Rattle.cq_tableau.specs.Numbered.{AreNumbered};
+
+use crate::asking::{ask, is_zero};
+use crate::facing::face;
+use crate::falling::fallen_certificate;
+use crate::store::StoreFault;
+use cq_dict::dict::Dict;
+use cq_form::{Cert, Constraint};
+use cq_frac::VarId;
+use cq_row::Entry;
+use cq_tableau::fixing::{fixed_now, open_variables};
+use cq_tableau::names::Name;
+use cq_tableau::raising::{Raised, raise};
+use cq_tableau::refuting::{certificate, disequation_certificate, is_refused};
+use cq_tableau::weighing::{apart_certificate, row_certificate};
+use cq_trail::{Both, Stack};
+use indexmap::IndexMap;
+use spec_linear::Relation;
+use std::alloc::Global;
+
+/// The told list, and the quantities and their names.
+pub type Held = Both<Stack<Constraint>, Both<Stack<Name>, Dict>>;
+
+/// What entering a constraint came to.
+#[derive(Debug, Drop)]
+pub enum Entered {
+    /// It joined, and these variables have got a value by it.
+    Joined(Vec<VarId>),
+    /// It contradicts the others, as the certificate shows.
+    Contradiction(Cert),
+}
+
+/// Enters an inequality behind the told list. Where its form rises it fixes no variable.
+pub fn enter_inequality(
+    alloc: Global,
+    pivots: u64,
+    numbers: &mut IndexMap<VarId, usize>,
+    names: &mut Stack<Name>,
+    dict: &mut Dict,
+    told: &[Constraint],
+    c: &Constraint,
+) -> Result<Entered, StoreFault>
+    requires inequality { IsInequality c.now.relation }
+    requires numbered { AreNumbered names.old.now numbers.old.entries }
+    requires stored { IsStored told.now names.old.now (quantities_of dict.old) }
+    ensures joined { IsJoined result told.now c.now names.new.now (quantities_of dict.new) }
+    ensures refuted { IsRefuted result told.now c.now }
+    ensures overflow { (pair : Pair) → result ≡ Err (Overflow pair) → MayRefuse told.now (Only c.now) NoQuestion pair }
+    ensures pivots { (n : ℕ) → result ≡ Err (Pivots n) → (n ≡ pivots) × MayTake told.now (Only c.now) NoQuestion n }
+    ensures supported { result ≡ Err Unsupported → ⊥ }
+    ensures grows { IsPrefix names.old.now names.new.now }
+    ensures numbered { AreNumbered names.new.now numbers.new.entries }
+    ensures names_saved { names.new.saved ≡ names.old.saved }
+    ensures dict_saved { dict.new.saved ≡ dict.old.saved }
+{
+    let q = ask(alloc, numbers, names, dict, &c.form)?;
+    names.reserve_places(1)?;
+    let number = told.len() + 1;
+    match raise(dict, alloc, q, pivots)? {
+        Raised::Rises => {
+            names.push(Name::Member(number)).unwrap();
+            Ok(Entered::Joined(Vec::new(alloc)))
+        }
+        Raised::Best(greatest, columns) => {
+            if is_refused(c.relation, greatest) {
+                match certificate(alloc, told, names, dict, q, number)? {
+                    Some(cert) => Ok(Entered::Contradiction(cert)),
+                    None => {
+                        let restored = row_certificate(alloc, pivots, names, dict, q, number)?;
+                        Ok(Entered::Contradiction(restored))
+                    }
+                }
+            } else {
+                enter_on_face(alloc, pivots, numbers, names, dict, told, c, q, &columns)
+            }
+        }
+    }
+}
+
+/// Enters a weak inequality whose form has zero for its greatest value: its own quantity and those of the columns are zero from
+/// then on.
+fn enter_on_face(
+    alloc: Global,
+    pivots: u64,
+    numbers: &IndexMap<VarId, usize>,
+    names: &mut Stack<Name>,
+    dict: &mut Dict,
+    told: &[Constraint],
+    c: &Constraint,
+    q: usize,
+    columns: &[Entry],
+) -> Result<Entered, StoreFault>
+    requires numbered { AreNumbered names.old.now numbers.now.entries }
+    requires on_face { IsOnFace told.now names.old.now c.now dict.old.roles dict.old.restricted q columns.now }
+    ensures joined { IsJoined result told.now c.now names.new.now (quantities_of dict.new) }
+    ensures refuted { IsRefuted result told.now c.now }
+    ensures overflow { (pair : Pair) → result ≡ Err (Overflow pair) → MayRefuse told.now (Only c.now) NoQuestion pair }
+    ensures pivots { (n : ℕ) → result ≡ Err (Pivots n) → (n ≡ pivots) × MayTake told.now (Only c.now) NoQuestion n }
+    ensures supported { result ≡ Err Unsupported → ⊥ }
+    ensures grows { IsPrefix names.old.now names.new.now }
+    ensures numbered { AreNumbered names.new.now numbers.now.entries }
+    ensures names_saved { names.new.saved ≡ names.old.saved }
+    ensures dict_saved { dict.new.saved ≡ dict.old.saved }
+{
+    let before = open_variables(alloc, names, dict)?;
+    let fallen = face(alloc, pivots, told, names, dict, q, columns)?;
+    names.reserve_places(1)?;
+    names.push(Name::Member(told.len() + 1)).unwrap();
+    if let Some(z) = fallen {
+        let cert = fallen_certificate(alloc, pivots, numbers, names, dict, told, c, z)?;
+        return Ok(Entered::Contradiction(cert));
+    }
+    let fixed = fixed_now(alloc, numbers, names, dict, &before)?;
+    Ok(Entered::Joined(fixed))
+}
+
+/// Enters a disequation behind the told list. It fixes no variable.
+pub fn enter_disequation(
+    alloc: Global,
+    pivots: u64,
+    numbers: &mut IndexMap<VarId, usize>,
+    names: &mut Stack<Name>,
+    dict: &mut Dict,
+    told: &[Constraint],
+    c: &Constraint,
+) -> Result<Entered, StoreFault>
+    requires disequation { c.now.relation ≡ Ne }
+    requires numbered { AreNumbered names.old.now numbers.old.entries }
+    requires stored { IsStored told.now names.old.now (quantities_of dict.old) }
+    ensures joined { IsJoined result told.now c.now names.new.now (quantities_of dict.new) }
+    ensures refuted { IsRefuted result told.now c.now }
+    ensures overflow { (pair : Pair) → result ≡ Err (Overflow pair) → MayRefuse told.now (Only c.now) NoQuestion pair }
+    ensures pivots { (n : ℕ) → result ≡ Err (Pivots n) → (n ≡ pivots) × MayTake told.now (Only c.now) NoQuestion n }
+    ensures supported { result ≡ Err Unsupported → ⊥ }
+    ensures grows { IsPrefix names.old.now names.new.now }
+    ensures numbered { AreNumbered names.new.now numbers.new.entries }
+    ensures names_saved { names.new.saved ≡ names.old.saved }
+    ensures dict_saved { dict.new.saved ≡ dict.old.saved }
+{
+    let q = ask(alloc, numbers, names, dict, &c.form)?;
+    let number = told.len() + 1;
+    if is_zero(dict, q) {
+        return match disequation_certificate(alloc, told, names, dict, q, number)? {
+            Some(cert) => Ok(Entered::Contradiction(cert)),
+            None => {
+                names.reserve_places(1)?;
+                names.push(Name::Member(number)).unwrap();
+                let restored = apart_certificate(
+                    alloc, pivots, numbers, names, dict, &c.form, number,
+                )?;
+                Ok(Entered::Contradiction(restored))
+            }
+        };
+    }
+    names.reserve_places(1)?;
+    names.push(Name::Member(number)).unwrap();
+    Ok(Entered::Joined(Vec::new(alloc)))
+}
+
+/// Enters a constraint of any relation behind the told list.
+fn enter_behind(
+    alloc: Global,
+    pivots: u64,
+    numbers: &mut IndexMap<VarId, usize>,
+    names: &mut Stack<Name>,
+    dict: &mut Dict,
+    told: &[Constraint],
+    c: &Constraint,
+) -> Result<Entered, StoreFault>
+    requires numbered { AreNumbered names.old.now numbers.old.entries }
+    requires stored { IsStored told.now names.old.now (quantities_of dict.old) }
+    ensures joined { IsJoined result told.now c.now names.new.now (quantities_of dict.new) }
+    ensures refuted { IsRefuted result told.now c.now }
+    ensures overflow { (pair : Pair) → result ≡ Err (Overflow pair) → MayRefuse told.now (Only c.now) NoQuestion pair }
+    ensures pivots { (n : ℕ) → result ≡ Err (Pivots n) → (n ≡ pivots) × MayTake told.now (Only c.now) NoQuestion n }
+    ensures unsupported { result ≡ Err Unsupported → c.now.relation ≡ Eq }
+    ensures grows { IsPrefix names.old.now names.new.now }
+    ensures numbered { AreNumbered names.new.now numbers.new.entries }
+    ensures names_saved { names.new.saved ≡ names.old.saved }
+    ensures dict_saved { dict.new.saved ≡ dict.old.saved }
+{
+    match c.relation {
+        Relation::Ge | Relation::Gt => enter_inequality(
+            alloc, pivots, numbers, names, dict, told, c,
+        ),
+        Relation::Ne => enter_disequation(alloc, pivots, numbers, names, dict, told, c),
+        Relation::Eq => Err(StoreFault::Unsupported),
+    }
+}
+
+/// Enters the constraint, and puts it last in the told list.
+pub fn enter(
+    alloc: Global,
+    pivots: u64,
+    numbers: &mut IndexMap<VarId, usize>,
+    held: &mut Held,
+    c: Constraint,
+) -> Result<Entered, StoreFault>
+    requires numbered { AreNumbered held.old.second.first.now numbers.old.entries }
+    requires stored { IsStored held.old.first.now held.old.second.first.now (quantities_of held.old.second.second) }
+    ensures told { IfOk result (λ e. IfJoined e (λ fixed. held.new.first.now ≡ held.old.first.now ++ c ∷ [])) }
+    ensures joined { IsJoined result held.old.first.now c held.new.second.first.now (quantities_of held.new.second.second) }
+    ensures refuted { IsRefuted result held.old.first.now c }
+    ensures overflow { (pair : Pair) → result ≡ Err (Overflow pair) → MayRefuse held.old.first.now (Only c) NoQuestion pair }
+    ensures pivots { (n : ℕ) → result ≡ Err (Pivots n) → (n ≡ pivots) × MayTake held.old.first.now (Only c) NoQuestion n }
+    ensures unsupported { result ≡ Err Unsupported → c.relation ≡ Eq }
+    ensures grows { IsPrefix held.old.second.first.now held.new.second.first.now }
+    ensures numbered { AreNumbered held.new.second.first.now numbers.new.entries }
+    ensures told_saved { held.new.first.saved ≡ held.old.first.saved }
+    ensures names_saved { held.new.second.first.saved ≡ held.old.second.first.saved }
+    ensures dict_saved { held.new.second.second.saved ≡ held.old.second.second.saved }
+{
+    held.first.reserve_places(1)?;
+    let told = held.first.as_slice();
+    let quantities = &mut held.second;
+    let entered = enter_behind(
+        alloc,
+        pivots,
+        numbers,
+        &mut quantities.first,
+        &mut quantities.second,
+        told,
+        &c,
+    )?;
+    match entered {
+        Entered::Joined(fixed) => {
+            held.first.push(c).unwrap();
+            Ok(Entered::Joined(fixed))
+        }
+        Entered::Contradiction(cert) => Ok(Entered::Contradiction(cert)),
+    }
+}
+
+/// Whether the constraint can join. What is held is left changed, to be undone.
+pub fn can_enter(
+    alloc: Global,
+    pivots: u64,
+    numbers: &mut IndexMap<VarId, usize>,
+    held: &mut Held,
+    c: Constraint,
+) -> Result<bool, StoreFault>
+    requires numbered { AreNumbered held.old.second.first.now numbers.old.entries }
+    requires stored { IsStored held.old.first.now held.old.second.first.now (quantities_of held.old.second.second) }
+    ensures solvable { IfOk result (λ yes. MatchBool yes (Solvable (held.old.first.now ++ c ∷ [])) (Unsolvable (held.old.first.now ++ c ∷ []))) }
+    ensures overflow { (pair : Pair) → result ≡ Err (Overflow pair) → MayRefuse held.old.first.now (Only c) NoQuestion pair }
+    ensures pivots { (n : ℕ) → result ≡ Err (Pivots n) → (n ≡ pivots) × MayTake held.old.first.now (Only c) NoQuestion n }
+    ensures unsupported { result ≡ Err Unsupported → c.relation ≡ Eq }
+    ensures grows { IsPrefix held.old.second.first.now held.new.second.first.now }
+    ensures numbered { AreNumbered held.new.second.first.now numbers.new.entries }
+    ensures told_saved { held.new.first.saved ≡ held.old.first.saved }
+    ensures names_saved { held.new.second.first.saved ≡ held.old.second.first.saved }
+    ensures dict_saved { held.new.second.second.saved ≡ held.old.second.second.saved }
+{
+    match enter(alloc, pivots, numbers, held, c) {
+        Ok(Entered::Joined(_)) => Ok(true),
+        Ok(Entered::Contradiction(_)) => Ok(false),
+        Err(fault) => Err(fault),
+    }
+}

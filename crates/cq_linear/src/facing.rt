@@ -1,0 +1,106 @@
+//! The face where the form of a new inequality is zero, which is its greatest value there.
+
+ghost use Rattle.std.specs.Prelude.{◌≡◌, ◌<◌, ℕ, length, IfOk, OnOk, MatchOption, MatchBool};
+ghost use Rattle.spec_linear.specs.declared.Relation.TheVariants.{Ne};
+ghost use Rattle.cq_frac.specs.declared.Pair.{Pair};
+ghost use Rattle.cq_linear.specs.declared.store.StoreFault.TheVariants.{Overflow, Pivots, Unsupported};
+ghost use Rattle.cq_tableau.specs.Looked.{IsApart};
+ghost use Rattle.cq_tableau.specs.Stored.{IsMemberOf};
+ghost use Rattle.cq_linear.specs.Faced.{KeepsSome, IsFace, HoldsAtZero, AllApart, IsFallenApart, IsZeroNow, IsFaced, RefusesFace, SpendsFace};
+
+use crate::store::StoreFault;
+use cq_dict::dict::Dict;
+use cq_form::Constraint;
+use cq_row::Entry;
+use cq_tableau::dropping::drop_all;
+use cq_tableau::looking::look_again;
+use cq_tableau::names::Name;
+use cq_tableau::refuting::relation_of;
+use cq_tableau::values::fixed_number;
+use cq_trail::Stack;
+use spec_linear::Relation;
+use std::alloc::{AllocError, Global};
+
+/// Restricts the quantity of the row, of which zero is the greatest value, and drops the columns that hold it there.
+fn hold_at_zero(dict: &mut Dict, q: usize, columns: &[Entry]) -> Result<(), AllocError>
+    requires keeps { KeepsSome dict.old.roles dict.old.restricted }
+    requires face { IsFace dict.old.roles dict.old.restricted q columns.now }
+    ensures holds { OnOk result (HoldsAtZero q dict.old.roles dict.old.restricted dict.new.roles dict.new.restricted) }
+    ensures saved { dict.new.saved ≡ dict.old.saved }
+{
+    // the count's contract is what tells that the roles are a table
+    prove!(q < dict.count());
+    drop_all(dict, columns)?;
+    dict.restrict(q)?;
+    Ok(())
+}
+
+/// Whether the quantity is zero everywhere.
+fn is_zero_now(dict: &Dict, n: usize) -> bool
+    requires { n < length dict.now.roles }
+    ensures { IsZeroNow dict.now.roles n result }
+{
+    match fixed_number(dict, n) {
+        Some(number) => number.is_zero(),
+        None => false,
+    }
+}
+
+/// Whether the relation is that of a disequation.
+pub fn is_apart(relation: Relation) -> bool
+    ensures { MatchBool result (relation ≡ Ne) (relation ≡ Ne → ⊥) }
+{
+    match relation {
+        Relation::Ne => true,
+        _ => false,
+    }
+}
+
+/// Whether the quantity is that of a disequation.
+fn is_of_disequation(told: &[Constraint], names: &Stack<Name>, q: usize) -> bool
+    ensures { MatchBool result (IsMemberOf IsApart told.now names.now.now q) (IsMemberOf IsApart told.now names.now.now q → ⊥) }
+{
+    match relation_of(told, names, q) {
+        Some(relation) => is_apart(relation),
+        None => false,
+    }
+}
+
+/// A quantity that is zero everywhere, though it is that of a disequation.
+pub fn fallen_disequation(told: &[Constraint], names: &Stack<Name>, dict: &Dict) -> Option<usize>
+    ensures { MatchOption result (AllApart told.now names.now.now dict.now.roles) (IsFallenApart told.now names.now.now dict.now.roles) }
+{
+    for q in 0..dict.count() {
+        if is_of_disequation(told, names, q) && is_zero_now(dict, q) {
+            return Some(q);
+        }
+    }
+    None
+}
+
+/// Holds the quantity of the row to zero, its greatest value, and looks at the other members again. Finds the quantity of one
+/// that can't hold there: a strict inequality or a disequation whose form is zero.
+pub fn face(
+    alloc: Global,
+    pivots: u64,
+    told: &[Constraint],
+    names: &Stack<Name>,
+    dict: &mut Dict,
+    q: usize,
+    columns: &[Entry],
+) -> Result<Option<usize>, StoreFault>
+    requires keeps { KeepsSome dict.old.roles dict.old.restricted }
+    requires face { IsFace dict.old.roles dict.old.restricted q columns.now }
+    ensures holds { OnOk result (HoldsAtZero q dict.old.roles dict.old.restricted dict.new.roles dict.new.restricted) }
+    ensures faced { IfOk result (λ o. IsFaced told.now names.now.now q dict.old.roles dict.old.restricted dict.new.roles dict.new.restricted o) }
+    ensures saved { dict.new.saved ≡ dict.old.saved }
+    ensures overflow { (pair : Pair) → result ≡ Err (Overflow pair) → RefusesFace q dict.old.roles dict.old.restricted pair }
+    ensures pivots { (n : ℕ) → result ≡ Err (Pivots n) → (n ≡ pivots) × SpendsFace q dict.old.roles dict.old.restricted n }
+    ensures supported { result ≡ Err Unsupported → ⊥ }
+{
+    hold_at_zero(dict, q, columns)?;
+    match look_again(alloc, pivots, told, names, dict)? {
+        Some(fallen) => Ok(Some(fallen)),
+        None => Ok(fallen_disequation(told, names, dict)),
+    }
+}

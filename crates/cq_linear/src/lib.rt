@@ -1,0 +1,11 @@
+//! The store of linear constraints of all relations.
+#![tactic(auto)]
+
+pub mod asking;
+pub mod entering;
+pub mod facing;
+pub mod falling;
+pub mod reaching;
+pub mod store;
+#[cfg(test)]
+mod tests;
