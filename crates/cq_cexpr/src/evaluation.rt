@@ -1,0 +1,249 @@
+// The linear forms of expressions, with the operations under way on a list of their own, so that memory alone bounds
+// the depth of an expression.
+
+ghost use Rattle.std.specs.Prelude.{◌≡◌, ◌&&◌, ◌<◌, ◌++◌, ◌∷◌, [], length, IfOk, OnOk};
+ghost use Rattle.spec_told.specs.Expressions.{is_zero_form};
+ghost use Rattle.spec_told.specs.Relations.{form_or_waits, lin_expression};
+ghost use Rattle.spec_branch.specs.Alike.{no_values};
+ghost use Rattle.spec_stops.specs.Operands.{binary_operands, expression_operands};
+ghost use Rattle.cq_frac.specs.declared.Pair.{Pair};
+ghost use Rattle.cq_term.specs.Trees.{tree};
+ghost use Rattle.cq_term.specs.Meaning.{at};
+ghost use Rattle.cq_term.specs.Names.{HasNamesBelow};
+ghost use Rattle.cq_term.specs.Shown.{view_of};
+ghost use Rattle.cq_term.specs.declared.view.View.TheVariants.{Compound};
+ghost use Rattle.cq_cexpr.specs.Found.{expression_of, is_false};
+ghost use Rattle.cq_cexpr.specs.Names.{binary_meant, is_over};
+ghost use Rattle.cq_cexpr.specs.Overflows.{ComesFrom};
+ghost use Rattle.cq_cexpr.specs.Work.{form_in, AfterVisit, AfterResume, ResumeOverflows, IsJoined};
+
+use crate::names::{self, Binary, Unary};
+use crate::operations;
+use cq_atoms::Atoms;
+use cq_form::Form;
+use cq_frac::Refusal;
+use cq_term::{Atom, Heap, TermId, View};
+use std::alloc::{AllocError, Global};
+
+/// What an expression is now.
+#[derive(Debug, Drop)]
+pub enum LinExpression {
+    Linear(Form),
+    /// It is linear only once some of its variables have values.
+    Waits,
+    /// A divisor in it is zero.
+    False,
+}
+
+impl LinExpression {
+    /// Whether a divisor in the expression is zero.
+    pub fn is_false(&self) -> bool
+        ensures { result ≡ is_false (expression_of self.now) }
+    {
+        match self {
+            LinExpression::False => true,
+            _ => false,
+        }
+    }
+
+    /// The form, where there is one.
+    pub fn form(self) -> Option<Form>
+        ensures { result ≡ form_in (expression_of self) }
+    {
+        match self {
+            LinExpression::Linear(form) => Some(form),
+            _ => None,
+        }
+    }
+}
+
+/// An operation under way, and what it waits with for a form.
+#[derive(Debug, Drop)]
+enum Waiting {
+    /// The form is that of the only argument.
+    Only(Option<Unary>),
+    /// The form is that of the left argument, and the term is the right one.
+    Left(Option<Binary>, TermId),
+    /// The form is that of the right argument, and the left one has this form.
+    Right(Option<Binary>, Option<Form>),
+}
+
+/// What is next.
+#[derive(Debug, Drop)]
+enum Step {
+    /// The term is looked at.
+    Visit(TermId),
+    /// The form, or that the expression waits, goes to the last of the operations under way.
+    Return(Option<Form>),
+    /// A divisor is zero.
+    Stop,
+}
+
+/// What an expression is where the variables that are bound to numbers are these numbers: its linear form, waiting, or
+/// false. `atoms` has to know the names in the term. Overflow where an operation of the term refuses two numbers of the
+/// forms of its operands; the term may then be any of these.
+pub fn linearise_expression(
+    heap: &Heap,
+    atoms: &Atoms,
+    term: TermId,
+) -> Result<LinExpression, Refusal>
+    requires live { term < length heap.now.now.terms }
+    requires names { HasNamesBelow (length atoms.now) (at heap.now.now.terms term) }
+    ensures lin { IfOk result (λ r. expression_of r ≡ lin_expression no_values (tree atoms.now heap.now.now.terms term)) }
+    ensures overflow { (pair : Pair) → result ≡ Err (Refusal.Overflow pair)
+        → ComesFrom (expression_operands no_values (tree atoms.now heap.now.now.terms term)) pair }
+{
+    let mut under_way = Vec::new(heap.alloc());
+    let mut step = Step::Visit(term);
+    loop {
+        match step {
+            Step::Visit(id) => step = visit(heap, atoms, id, &mut under_way)?,
+            Step::Stop => return Ok(LinExpression::False),
+            Step::Return(form) => match under_way.pop() {
+                None => return Ok(answer(form)),
+                Some(waiting) => step = resume(heap.alloc(), waiting, form, &mut under_way)?,
+            },
+        }
+    }
+}
+
+/// The answer of an expression that has a form, or waits.
+fn answer(form: Option<Form>) -> LinExpression
+    ensures { expression_of result ≡ form_or_waits form }
+{
+    match form {
+        None => LinExpression::Waits,
+        Some(form) => LinExpression::Linear(form),
+    }
+}
+
+/// Takes a number or a variable as a form, and puts an operation under way, whose first argument is next.
+fn visit(
+    heap: &Heap,
+    atoms: &Atoms,
+    id: TermId,
+    under_way: &mut Vec<Waiting>,
+) -> Result<Step, AllocError>
+    requires live { id < length heap.now.now.terms }
+    requires names { HasNamesBelow (length atoms.now) (at heap.now.now.terms id) }
+    ensures { IfOk result (AfterVisit atoms.now heap.now.now.terms id under_way.old.items under_way.new.items) }
+{
+    match heap.view(id) {
+        View::Var(variable) => Ok(Step::Return(Some(operations::variable(
+            heap.alloc(),
+            variable,
+        )?))),
+        View::Number(number) => Ok(Step::Return(Some(operations::constant(heap.alloc(), number)?))),
+        View::Name(_) => Ok(Step::Return(None)),
+        View::Compound(name, arity) => {
+            if arity == 1 {
+                visit_one(heap, atoms, id, name, under_way)
+            } else if arity == 2 {
+                visit_two(heap, atoms, id, name, under_way)
+            } else {
+                Ok(Step::Return(None))
+            }
+        }
+    }
+}
+
+/// A name with one argument.
+fn visit_one(
+    heap: &Heap,
+    atoms: &Atoms,
+    id: TermId,
+    name: Atom,
+    under_way: &mut Vec<Waiting>,
+) -> Result<Step, AllocError>
+    requires live { id < length heap.now.now.terms }
+    requires names { HasNamesBelow (length atoms.now) (at heap.now.now.terms id) }
+    requires shown { view_of (at heap.now.now.terms id) ≡ Compound name 1 }
+    ensures { IfOk result (AfterVisit atoms.now heap.now.now.terms id under_way.old.items under_way.new.items) }
+{
+    let operation = names::unary_named(atoms.text(name));
+    let argument = heap.arg(id, 0);
+    wait(under_way, Waiting::Only(operation))?;
+    Ok(Step::Visit(argument))
+}
+
+/// A name with two arguments.
+fn visit_two(
+    heap: &Heap,
+    atoms: &Atoms,
+    id: TermId,
+    name: Atom,
+    under_way: &mut Vec<Waiting>,
+) -> Result<Step, AllocError>
+    requires live { id < length heap.now.now.terms }
+    requires names { HasNamesBelow (length atoms.now) (at heap.now.now.terms id) }
+    requires shown { view_of (at heap.now.now.terms id) ≡ Compound name 2 }
+    ensures { IfOk result (AfterVisit atoms.now heap.now.now.terms id under_way.old.items under_way.new.items) }
+{
+    let operation = names::binary_named(atoms.text(name));
+    let left = heap.arg(id, 0);
+    let right = heap.arg(id, 1);
+    wait(under_way, Waiting::Left(operation, right))?;
+    Ok(Step::Visit(left))
+}
+
+/// Puts one operation more under way.
+fn wait(under_way: &mut Vec<Waiting>, waiting: Waiting) -> Result<(), AllocError>
+    ensures { OnOk result (under_way.new.items ≡ under_way.old.items ++ waiting ∷ []) }
+{
+    under_way.push(waiting)?;
+    Ok(())
+}
+
+/// Gives the form, or that the argument waits, to an operation.
+fn resume(
+    alloc: Global,
+    waiting: Waiting,
+    form: Option<Form>,
+    under_way: &mut Vec<Waiting>,
+) -> Result<Step, Refusal>
+    ensures goes_on { IfOk result (AfterResume waiting (form_or_waits form) under_way.old.items under_way.new.items) }
+    ensures overflow { (pair : Pair) → result ≡ Err (Refusal.Overflow pair)
+        → ResumeOverflows waiting (form_or_waits form) pair }
+{
+    match waiting {
+        Waiting::Only(operation) => Ok(Step::Return(operations::unary(alloc, operation, form)?)),
+        Waiting::Left(operation, right) => {
+            wait(under_way, Waiting::Right(operation, form))?;
+            Ok(Step::Visit(right))
+        }
+        Waiting::Right(operation, left) => joined(alloc, operation, left, form),
+    }
+}
+
+/// The operation on two forms; the walk stops where the divisor of a quotient is zero.
+fn joined(
+    alloc: Global,
+    operation: Option<Binary>,
+    left: Option<Form>,
+    right: Option<Form>,
+) -> Result<Step, Refusal>
+    ensures value { IfOk result (λ next. IsJoined (binary_meant operation) left right next) }
+    ensures overflow { (pair : Pair) → result ≡ Err (Refusal.Overflow pair)
+        → ComesFrom (binary_operands (binary_meant operation) left right) pair }
+{
+    if has_zero_divisor(operation, &right) {
+        return Ok(Step::Stop);
+    }
+    Ok(Step::Return(operations::binary(alloc, operation, left, right)?))
+}
+
+/// Whether the operation is a quotient by the number zero.
+fn has_zero_divisor(operation: Option<Binary>, right: &Option<Form>) -> bool
+    ensures { result ≡ (is_over (binary_meant operation) && is_zero_form right.now) }
+{
+    is_quotient(operation) && operations::is_zero(right)
+}
+
+fn is_quotient(operation: Option<Binary>) -> bool
+    ensures { result ≡ is_over (binary_meant operation) }
+{
+    match operation {
+        Some(Binary::Over) => true,
+        _ => false,
+    }
+}

@@ -1,0 +1,13 @@
+//! Expressions and relations of constraints as linear forms and linear constraints, over terms of a heap: the variables
+//! that are bound to numbers are these numbers.
+#![tactic(auto)]
+
+mod evaluation;
+mod names;
+mod operations;
+mod relations;
+#[cfg(test)]
+mod tests;
+
+pub use evaluation::{LinExpression, linearise_expression};
+pub use relations::{Lin, linearise};
