@@ -1,0 +1,5 @@
+pub mod Errors
+pub mod Values
+pub mod Heads
+pub mod Checking
+pub mod Splitting

@@ -1,0 +1,5 @@
+pub mod Faults
+pub mod Sides
+pub mod Checking
+pub mod Splitting
+pub mod Tellings
