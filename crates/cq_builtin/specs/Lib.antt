@@ -1,3 +1,5 @@
 pub mod Rows
 pub mod Offered
 pub mod Terms
+pub mod Over
+pub mod Functors
