@@ -119,10 +119,6 @@ module _ (texts : List Text) (ts : List HeapTerm) (id : ℕ) (s : Sides) (h : Ha
         (ap (error_for p) whole_is ∙ error_of_relation (text_of texts s.name) (tree texts ts s.left) (tree texts ts s.right) p r.as_disjunction r.as_conjunction r.as_relation)
         h.left h.right (size_of_sides ts id s h)
 
-  pub question_refused : IsRole (text_of texts s.name) role.Disjunction → question_error (tree texts ts id) ≡ Some (type_error "linear" (tree texts ts id))
-  question_refused r =
-      ap question_error whole_is ∙ disjunction_refused (text_of texts s.name) (tree texts ts s.left) (tree texts ts s.right) r ∙ ap (λ t. Some (type_error "linear" t)) (sym whole_is)
-
   pub relation_refused : (p : Purpose) → IsRole (text_of texts s.name) role.Other → error_for p (tree texts ts id) ≡ Some (type_error "constraint" (tree texts ts id))
   relation_refused p r =
       ap (error_for p) whole_is

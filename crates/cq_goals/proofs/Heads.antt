@@ -79,12 +79,6 @@ module _ (f : Text) (a b : Tree) where
       by true m w = refl
       by false m w = refl
 
-  pub disjunction_refused : is_disjunction f ≡ true → question_error (binary f a b) ≡ Some (type_error "linear" (binary f a b))
-  disjunction_refused d =
-      let e = or_error (expression_error a) (expression_error b) in
-      let m = or_error (question_error a) (question_error b) in
-      ap (λ x. if x then Some (type_error "linear" (binary f a b)) else binary_error f (binary f a b) m e) d
-
   -- neither a conjunction nor a disjunction
   unjoined : (p : Purpose) → is_disjunction f ≡ false → is_conjunction f ≡ false → error_for p (binary f a b) ≡ (if is_some (relation_name f) then or_error (expression_error a) (expression_error b) else Some (type_error "constraint" (binary f a b)))
   unjoined purpose.Telling d c =
@@ -126,14 +120,6 @@ module _ (g : ℕ → Text) where
   no_constraint purpose.Telling (Compound f (more t (more u us))) e n = refl
   no_constraint purpose.Question (Compound f (more t (more u us))) e n = refl
 
-  pub members_of_other : (t : HeapTerm) → is_binary t ≡ false → members (named g t) ≡ named g t ∷ []
-  members_of_other (Var v) e = refl
-  members_of_other (Number q) e = refl
-  members_of_other (Name a) e = refl
-  members_of_other (Compound f (one t)) e = refl
-  members_of_other (Compound f (more t (one u))) e = cc
-  members_of_other (Compound f (more t (more u us))) e = refl
-
   pub halves_of_other : (t : HeapTerm) → is_binary t ≡ false → halves (named g t) ≡ None
   halves_of_other (Var v) e = refl
   halves_of_other (Number q) e = refl
@@ -144,9 +130,6 @@ module _ (g : ℕ → Text) where
 
 pub members_of_conjunction : (f : Text) (a b : Tree) → is_conjunction f ≡ true → members (binary f a b) ≡ members a ++ members b
 members_of_conjunction f a b c = ap (λ x. if x then members a ++ members b else binary f a b ∷ []) c
-
-pub member_alone : (f : Text) (a b : Tree) → is_conjunction f ≡ false → members (binary f a b) ≡ binary f a b ∷ []
-member_alone f a b c = ap (λ x. if x then members a ++ members b else binary f a b ∷ []) c
 
 pub halves_of_disjunction : (f : Text) (a b : Tree) → is_disjunction f ≡ true → halves (binary f a b) ≡ Some (record { left = a; right = b })
 halves_of_disjunction f a b d =
@@ -177,24 +160,6 @@ count-named g (one t) = refl
 count-named g (more t us) = ap (λ n. suc n) (count-named g us)
 
 module _ (g : ℕ → Text) where
-  pub unbound_expression : (t : HeapTerm) (v : _) → view_of t ≡ view.Var v → expression_error (named g t) ≡ None
-  unbound_expression (Var v) w e = refl
-  unbound_expression (Number q) w e = cc
-  unbound_expression (Name a) w e = cc
-  unbound_expression (Compound f ts) w e = cc
-
-  pub number_expression : (t : HeapTerm) (q : _) → view_of t ≡ view.Number q → expression_error (named g t) ≡ None
-  number_expression (Var v) w e = cc
-  number_expression (Number q) w e = refl
-  number_expression (Name a) w e = cc
-  number_expression (Compound f ts) w e = cc
-
-  pub atom_expression : (t : HeapTerm) (a : ℕ) → view_of t ≡ view.Name a → expression_error (named g t) ≡ Some (not_evaluable (indicator (g a) 0))
-  atom_expression (Var v) w e = cc
-  atom_expression (Number q) w e = cc
-  atom_expression (Name a) w e = (let h : a ≡ w = cc in ap (λ x. Some (not_evaluable (indicator (g x) 0))) h)
-  atom_expression (Compound f ts) w e = cc
-
   pub many_expression : (t : HeapTerm) (f n : ℕ) → view_of t ≡ view.Compound f n → n ≢ 1 → n ≢ 2 → expression_error (named g t) ≡ Some (not_evaluable (indicator (g f) n))
   many_expression (Var v) f n e h k = cc
   many_expression (Number q) f n e h k = cc

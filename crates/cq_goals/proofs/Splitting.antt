@@ -189,13 +189,6 @@ module _ (texts more most : List Text) (a b c : HeapValue) (known : KnowsTerms t
 
 -- ---- the search, a term after another
 module _ (texts : List Text) (ts : List HeapTerm) where
-  pub search_starts : (id : ℕ) (fs : List Frame) → id < length ts → fs ≡ [] → Searches texts ts id fs (halves (tree texts ts id))
-  search_starts id fs live n = record {
-    id_live = live;
-    live = All-same (IsLiveFrame ts) fs [] n (All-nil (IsLiveFrame ts));
-    leads = ap (λ gs. all_resumed texts ts gs (halves (tree texts ts id))) n;
-  }
-
   module _ (whole : Option Halves) (next : Option ℕ) (fs : List Frame) (h : IsNext texts ts whole next fs) where
     pub searched : (id : ℕ) → next ≡ Some id → Searches texts ts id fs whole
     searched id e = subst (λ n. IsNext texts ts whole n fs) e h
