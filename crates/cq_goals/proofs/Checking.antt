@@ -21,7 +21,7 @@ use Rattle.cq_goals.specs.Sides.{HasSides}
 use Rattle.cq_goals.specs.declared.sides.Sides.{Sides}
 use Rattle.cq_goals.specs.Checking.{error_for, part_error, part_id, IsLivePart, waiting_error, waiting_size, GoesOn, IsUnderWay, IsRole}
 use Rattle.cq_goals.proofs.Errors.{or_error-assoc, or_error-none, found_first, found_same}
-use Rattle.cq_goals.proofs.Heads.{tree_of_sides, size_of_sides, error_of_conjunction, error_of_disjunction, error_of_relation, error_of_other, disjunction_refused}
+use Rattle.cq_goals.proofs.Heads.{tree_of_sides, size_of_sides, error_of_conjunction, error_of_disjunction, error_of_relation, error_of_other}
 
 module _ (p : Purpose) (texts : List Text) (ts : List HeapTerm) where
   pub waits_last : (ws : List Part) (w : Part) → waiting_error p texts ts (ws ++ w ∷ []) ≡ or_error (part_error p texts ts w) (waiting_error p texts ts ws)
