@@ -42,4 +42,3 @@ many_arguments (Name c) f n e m k = cc
 many_arguments (Compound g (one t)) f n e m k = (let j : 1 ≡ n = cc in absurd (m (sym j)))
 many_arguments (Compound g (more t (one u))) f n e m k = (let j : 2 ≡ n = cc in absurd (k (sym j)))
 many_arguments (Compound g (more t (more u us))) f n e m k = (let j : g ≡ f = cc in (t, u, us, ap (λ x. Compound x (more t (more u us))) j))
-
