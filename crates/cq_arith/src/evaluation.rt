@@ -1,7 +1,7 @@
 // The values of expressions, with the operations under way on a list of their own, so that memory alone bounds the
 // depth of an expression.
 
-ghost use Rattle.std.specs.Prelude.{◌≡◌, ◌<◌, ◌++◌, ◌∷◌, [], List, length, IfOk, IfErr, OnOk};
+ghost use Rattle.std.specs.Prelude.{◌≡◌, ℕ, ◌<◌, ◌++◌, ◌∷◌, [], List, length, IfOk, IfErr, OnOk};
 ghost use Rattle.spec_terms.specs.Term.{named};
 ghost use Rattle.spec_lists.specs.Texts.{Text};
 ghost use Rattle.spec_arithmetic.specs.Operations.{Value};

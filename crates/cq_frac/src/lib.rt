@@ -214,7 +214,7 @@ impl Frac {
         }
     }
 
-    /// How the numbers stand to each other, by their whole parts and then by what is left, upside down.
+    /// How the numbers stand to each other, by their cross products.
     pub fn cmp(self, other: Frac) -> Ordering
         ensures { result ≡ cmp_ℚ self other }
     {

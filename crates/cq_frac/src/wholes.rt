@@ -190,6 +190,9 @@ fn wide(a: u128, b: u128) -> (u128, u128)
 pub(crate) fn order(a: u128, b: u128, c: u128, d: u128) -> Ordering
     ensures { result ≡ nat_cmp (a * d) (c * b) }
 {
+    if a < BASE && b < BASE && c < BASE && d < BASE {
+        return product_64(a as u64, d as u64).cmp(&product_64(c as u64, b as u64));
+    }
     let left = wide(a, d);
     let right = wide(c, b);
     match left.0.cmp(&right.0) {

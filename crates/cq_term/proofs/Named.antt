@@ -1,6 +1,6 @@
 -- The names of terms as they are shown, and the texts of names.
 use Rattle.std.proofs.Common.{◌≡◌, ℕ, ◌<◌, List, Some, subst}
-use Rattle.std.specs.Prelude.{slice_get}
+use Rattle.std.specs.Prelude.{[], slice_get}
 use Rattle.std.proofs.lemmas.Option.{get_or_from_slice_get}
 use Rattle.spec_lists.specs.Texts.{Text}
 use Rattle.spec_terms.specs.Term.{Var, Number, Name, Compound}

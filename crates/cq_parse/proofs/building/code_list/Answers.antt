@@ -4,7 +4,7 @@ use Rattle.spec_syntax.specs.Machine.{with_elements_before}
 use Rattle.cq_parse.proofs.Kept.{grows_both}
 use Rattle.cq_parse.proofs.Trees.{code_more, is_known, listed, name_tree}
 use Rattle.cq_term.specs.Trees.{tree}
-use Rattle.spec_syntax.specs.Trees.{nil}
+use Rattle.spec_syntax.specs.Trees.{natural, nil}
 use Rattle.spec_terms.specs.Term.{Number}
 use Rattle.cq_parse.proofs.building.code_list.Goals as goal
 

@@ -1,0 +1,229 @@
+-- Errors and members of terms by their heads.
+use Rattle.std.proofs.Common.{◌≡◌, ◌≢◌, ℕ, suc, ◌+◌, ◌<◌, Bool, true, false, ◌&&◌, ◌||◌, List, [], ◌∷◌, ◌++◌, length, Option, Some, None, is_some, nat_eq, refl, ap, sym, ◌∙◌, subst, arith}
+use Rattle.std.specs.Prelude.{if◌then◌else◌, ◌==◌, slice_get}
+use Rattle.std.proofs.lemmas.Bool.Decides.{nat_tests}
+use Rattle.spec_lists.specs.Texts.{Text}
+use Rattle.spec_terms.specs.Term.{Terms, Var, Number, Name, Compound, one, more, count, named, named_all, size}
+use Rattle.spec_syntax.specs.Trees.{Tree, binary}
+use Rattle.spec_built.specs.Built.{indicator}
+use Rattle.spec_built.specs.Errors.{instantiation, type_error, not_evaluable, or_error}
+use Rattle.spec_told.specs.Checks.{is_expression, expression_error, expressions_error, constraint_error, question_error, binary_error, is_conjunction, is_disjunction, members, halves, Halves, in_conjunction}
+use Rattle.spec_told.specs.Expressions.{unary_name, binary_name}
+use Rattle.spec_told.specs.Relations.{relation_name}
+use Rattle.cq_atoms.specs.Texts.{text_of}
+use Rattle.cq_term.specs.Meaning.{HeapTerm, at}
+use Rattle.cq_term.specs.Names.{HasNamesBelow}
+use Rattle.cq_term.specs.Shown.{view_of}
+use Rattle.cq_term.specs.declared.view.View.TheVariants as view
+use Rattle.cq_term.specs.Trees.{tree, KnowsTerms}
+use Rattle.cq_built.proofs.Trees.{known_at}
+use Rattle.cq_goals.specs.Sides.{is_binary, HasSides}
+use Rattle.cq_goals.specs.declared.sides.Sides.{Sides}
+use Rattle.cq_goals.specs.declared.checks.Purpose.{Purpose}
+use Rattle.cq_goals.specs.declared.checks.Purpose.TheVariants as purpose
+use Rattle.cq_goals.specs.Checking.{error_for}
+
+pub size_positive : (t : HeapTerm) → 0 < size t
+size_positive (Var v) = omega arith
+size_positive (Number q) = omega arith
+size_positive (Name a) = omega arith
+size_positive (Compound f ts) = omega arith
+
+pub tree_of_sides : (texts : List Text) (ts : List HeapTerm) (id : ℕ) (s : Sides) → HasSides ts id s → tree texts ts id ≡ binary (text_of texts s.name) (tree texts ts s.left) (tree texts ts s.right)
+tree_of_sides texts ts id s h = ap (named (text_of texts)) h.term
+
+pub size_of_sides : (ts : List HeapTerm) (id : ℕ) (s : Sides) → HasSides ts id s → size (at ts s.left) + size (at ts s.right) < size (at ts id)
+size_of_sides ts id s h = let e = ap size h.term in omega (arith, e)
+
+pub not_two_arguments : (t : HeapTerm) (f n : ℕ) → view_of t ≡ view.Compound f n → n ≢ 2 → is_binary t ≡ false
+not_two_arguments (Var v) f n e h = refl
+not_two_arguments (Number q) f n e h = refl
+not_two_arguments (Name a) f n e h = refl
+not_two_arguments (Compound g (one t)) f n e h = refl
+not_two_arguments (Compound g (more t (one u))) f n e h = let d : ◌≡◌ {A = ℕ} n 2 = cc in absurd (h d)
+not_two_arguments (Compound g (more t (more u us))) f n e h = refl
+
+pub no_compound : (t : HeapTerm) → ((f n : ℕ) → view_of t ≢ view.Compound f n) → is_binary t ≡ false
+no_compound (Var v) h = refl
+no_compound (Number q) h = refl
+no_compound (Name a) h = refl
+no_compound (Compound f ts) h = absurd (h f (count ts) refl)
+
+pub side_name_known : (texts : List Text) (ts : List HeapTerm) (id : ℕ) (s : Sides) → HasSides ts id s → KnowsTerms texts ts → id < length ts → s.name < length texts
+side_name_known texts ts id s h known live = (subst (HasNamesBelow (length texts)) h.term (known_at texts ts id known live)).0
+
+-- ---- constraints
+
+module _ (f : Text) (a b : Tree) where
+  pub error_of_conjunction : (p : Purpose) → is_disjunction f ≡ false → is_conjunction f ≡ true → error_for p (binary f a b) ≡ or_error (error_for p a) (error_for p b)
+  error_of_conjunction purpose.Telling d c =
+      let r = is_some (relation_name f) in
+      let e = or_error (expression_error a) (expression_error b) in
+      ap (λ x. if x || is_disjunction f then or_error (constraint_error a) (constraint_error b) else if r then e else Some (type_error "constraint" (binary f a b))) c
+  error_of_conjunction purpose.Question d c =
+      let r = is_some (relation_name f) in
+      let e = or_error (expression_error a) (expression_error b) in
+      let m = or_error (question_error a) (question_error b) in
+      ap (λ x. if x then Some (type_error "linear" (binary f a b)) else binary_error f (binary f a b) m e) d
+      ∙ ap (λ x. if x || is_disjunction f then m else if r then e else Some (type_error "constraint" (binary f a b))) c
+
+  pub error_of_disjunction : is_disjunction f ≡ true → constraint_error (binary f a b) ≡ or_error (constraint_error a) (constraint_error b)
+  error_of_disjunction d =
+      let r = is_some (relation_name f) in
+      let e = or_error (expression_error a) (expression_error b) in
+      let m = or_error (constraint_error a) (constraint_error b) in
+      ap (λ x. if is_conjunction f || x then m else if r then e else Some (type_error "constraint" (binary f a b))) d
+      ∙ by (is_conjunction f) m (if r then e else Some (type_error "constraint" (binary f a b)))
+    where
+      by : (c : Bool) (m w : Option Tree) → (if c || true then m else w) ≡ m
+      by true m w = refl
+      by false m w = refl
+
+  pub disjunction_refused : is_disjunction f ≡ true → question_error (binary f a b) ≡ Some (type_error "linear" (binary f a b))
+  disjunction_refused d =
+      let e = or_error (expression_error a) (expression_error b) in
+      let m = or_error (question_error a) (question_error b) in
+      ap (λ x. if x then Some (type_error "linear" (binary f a b)) else binary_error f (binary f a b) m e) d
+
+  -- neither a conjunction nor a disjunction
+  unjoined : (p : Purpose) → is_disjunction f ≡ false → is_conjunction f ≡ false → error_for p (binary f a b) ≡ (if is_some (relation_name f) then or_error (expression_error a) (expression_error b) else Some (type_error "constraint" (binary f a b)))
+  unjoined purpose.Telling d c =
+      let r = is_some (relation_name f) in
+      let e = or_error (expression_error a) (expression_error b) in
+      let m = or_error (constraint_error a) (constraint_error b) in
+      λ i. if c i || d i then m else if r then e else Some (type_error "constraint" (binary f a b))
+  unjoined purpose.Question d c =
+      let r = is_some (relation_name f) in
+      let e = or_error (expression_error a) (expression_error b) in
+      let m = or_error (question_error a) (question_error b) in
+      ap (λ x. if x then Some (type_error "linear" (binary f a b)) else binary_error f (binary f a b) m e) d
+      ∙ (λ i. if c i || d i then m else if r then e else Some (type_error "constraint" (binary f a b)))
+
+  pub error_of_relation : (p : Purpose) → is_disjunction f ≡ false → is_conjunction f ≡ false → is_some (relation_name f) ≡ true → error_for p (binary f a b) ≡ or_error (expression_error a) (expression_error b)
+  error_of_relation p d c r = unjoined p d c ∙ ap (λ x. if x then or_error (expression_error a) (expression_error b) else Some (type_error "constraint" (binary f a b))) r
+
+  pub error_of_other : (p : Purpose) → is_disjunction f ≡ false → is_conjunction f ≡ false → is_some (relation_name f) ≡ false → error_for p (binary f a b) ≡ Some (type_error "constraint" (binary f a b))
+  error_of_other p d c r = unjoined p d c ∙ ap (λ x. if x then or_error (expression_error a) (expression_error b) else Some (type_error "constraint" (binary f a b))) r
+
+-- ---- terms without two sides
+module _ (g : ℕ → Text) where
+  pub unbound_constraint : (p : Purpose) (t : HeapTerm) (v : _) → view_of t ≡ view.Var v → error_for p (named g t) ≡ Some instantiation
+  unbound_constraint purpose.Telling (Var v) w e = refl
+  unbound_constraint purpose.Question (Var v) w e = refl
+  unbound_constraint p (Number q) w e = cc
+  unbound_constraint p (Name a) w e = cc
+  unbound_constraint p (Compound f ts) w e = cc
+
+  pub no_constraint : (p : Purpose) (t : HeapTerm) → is_binary t ≡ false → ((v : _) → view_of t ≢ view.Var v) → error_for p (named g t) ≡ Some (type_error "constraint" (named g t))
+  no_constraint p (Var v) e n = absurd (n _ refl)
+  no_constraint purpose.Telling (Number q) e n = refl
+  no_constraint purpose.Question (Number q) e n = refl
+  no_constraint purpose.Telling (Name a) e n = refl
+  no_constraint purpose.Question (Name a) e n = refl
+  no_constraint purpose.Telling (Compound f (one t)) e n = refl
+  no_constraint purpose.Question (Compound f (one t)) e n = refl
+  no_constraint p (Compound f (more t (one u))) e n = cc
+  no_constraint purpose.Telling (Compound f (more t (more u us))) e n = refl
+  no_constraint purpose.Question (Compound f (more t (more u us))) e n = refl
+
+  pub members_of_other : (t : HeapTerm) → is_binary t ≡ false → members (named g t) ≡ named g t ∷ []
+  members_of_other (Var v) e = refl
+  members_of_other (Number q) e = refl
+  members_of_other (Name a) e = refl
+  members_of_other (Compound f (one t)) e = refl
+  members_of_other (Compound f (more t (one u))) e = cc
+  members_of_other (Compound f (more t (more u us))) e = refl
+
+  pub halves_of_other : (t : HeapTerm) → is_binary t ≡ false → halves (named g t) ≡ None
+  halves_of_other (Var v) e = refl
+  halves_of_other (Number q) e = refl
+  halves_of_other (Name a) e = refl
+  halves_of_other (Compound f (one t)) e = refl
+  halves_of_other (Compound f (more t (one u))) e = cc
+  halves_of_other (Compound f (more t (more u us))) e = refl
+
+pub members_of_conjunction : (f : Text) (a b : Tree) → is_conjunction f ≡ true → members (binary f a b) ≡ members a ++ members b
+members_of_conjunction f a b c = ap (λ x. if x then members a ++ members b else binary f a b ∷ []) c
+
+pub member_alone : (f : Text) (a b : Tree) → is_conjunction f ≡ false → members (binary f a b) ≡ binary f a b ∷ []
+member_alone f a b c = ap (λ x. if x then members a ++ members b else binary f a b ∷ []) c
+
+pub halves_of_disjunction : (f : Text) (a b : Tree) → is_disjunction f ≡ true → halves (binary f a b) ≡ Some (record { left = a; right = b })
+halves_of_disjunction f a b d =
+    ap (λ x. if x then Some (record { left = a; right = b }) else if is_conjunction f then in_conjunction a b (halves a) (halves b) else None) d
+
+pub halves_of_conjunction : (f : Text) (a b : Tree) → is_disjunction f ≡ false → is_conjunction f ≡ true → halves (binary f a b) ≡ in_conjunction a b (halves a) (halves b)
+halves_of_conjunction f a b d c =
+    λ i. if d i then Some (record { left = a; right = b }) else if c i then in_conjunction a b (halves a) (halves b) else None
+
+pub no_halves : (f : Text) (a b : Tree) → is_disjunction f ≡ false → is_conjunction f ≡ false → halves (binary f a b) ≡ None
+no_halves f a b d c =
+    λ i. if d i then Some (record { left = a; right = b }) else if c i then in_conjunction a b (halves a) (halves b) else None
+
+-- ---- expressions
+
+apart : (m n : ℕ) → m ≢ n → nat_eq m n ≡ false
+apart m n h = grind (arith, nat_tests)
+
+or_false : (x : Bool) → (x || false) ≡ x
+or_false true = refl
+or_false false = refl
+
+no_expression : (f : Text) (n : ℕ) → n ≢ 1 → n ≢ 2 → is_expression f n ≡ false
+no_expression f n h k = λ i. (apart n 1 h i && is_some (unary_name f)) || (apart n 2 k i && is_some (binary_name f))
+
+count-named : (g : ℕ → Text) (us : Terms ℕ) → count (named_all g us) ≡ count us
+count-named g (one t) = refl
+count-named g (more t us) = ap (λ n. suc n) (count-named g us)
+
+module _ (g : ℕ → Text) where
+  pub unbound_expression : (t : HeapTerm) (v : _) → view_of t ≡ view.Var v → expression_error (named g t) ≡ None
+  unbound_expression (Var v) w e = refl
+  unbound_expression (Number q) w e = cc
+  unbound_expression (Name a) w e = cc
+  unbound_expression (Compound f ts) w e = cc
+
+  pub number_expression : (t : HeapTerm) (q : _) → view_of t ≡ view.Number q → expression_error (named g t) ≡ None
+  number_expression (Var v) w e = cc
+  number_expression (Number q) w e = refl
+  number_expression (Name a) w e = cc
+  number_expression (Compound f ts) w e = cc
+
+  pub atom_expression : (t : HeapTerm) (a : ℕ) → view_of t ≡ view.Name a → expression_error (named g t) ≡ Some (not_evaluable (indicator (g a) 0))
+  atom_expression (Var v) w e = cc
+  atom_expression (Number q) w e = cc
+  atom_expression (Name a) w e = (let h : a ≡ w = cc in ap (λ x. Some (not_evaluable (indicator (g x) 0))) h)
+  atom_expression (Compound f ts) w e = cc
+
+  pub many_expression : (t : HeapTerm) (f n : ℕ) → view_of t ≡ view.Compound f n → n ≢ 1 → n ≢ 2 → expression_error (named g t) ≡ Some (not_evaluable (indicator (g f) n))
+  many_expression (Var v) f n e h k = cc
+  many_expression (Number q) f n e h k = cc
+  many_expression (Name b) f n e h k = cc
+  many_expression (Compound b (one t)) f n e h k = let c : ◌≡◌ {A = ℕ} n 1 = cc in absurd (h c)
+  many_expression (Compound b (more t us)) f n e h k =
+      let d : b ≡ f = cc in
+      let c : count (more t us) ≡ n = cc in
+      let m : count (named_all g (more t us)) ≡ n = count-named g (more t us) ∙ c in
+      let other : is_expression (g b) (count (named_all g (more t us))) ≡ false = ap (is_expression (g b)) m ∙ no_expression (g b) n h k in
+      ap (λ x. if x then expressions_error (named_all g (more t us)) else Some (not_evaluable (indicator (g b) (count (named_all g (more t us)))))) other
+      ∙ (λ i. Some (not_evaluable (indicator (g (d i)) (m i))))
+
+  pub one_expression : (t a : HeapTerm) (f : ℕ) → t ≡ Compound f (one a) → is_some (unary_name (g f)) ≡ true → expression_error (named g t) ≡ expression_error (named g a)
+  one_expression t a f e h =
+      ap (λ u. expression_error (named g u)) e
+      ∙ ap (λ x. if x || false then expression_error (named g a) else Some (not_evaluable (indicator (g f) 1))) h
+
+  pub not_one : (t a : HeapTerm) (f : ℕ) → t ≡ Compound f (one a) → is_some (unary_name (g f)) ≡ false → expression_error (named g t) ≡ Some (not_evaluable (indicator (g f) 1))
+  not_one t a f e h =
+      ap (λ u. expression_error (named g u)) e
+      ∙ ap (λ x. if x || false then expression_error (named g a) else Some (not_evaluable (indicator (g f) 1))) h
+
+  pub two_expression : (t a b : HeapTerm) (f : ℕ) → t ≡ Compound f (more a (one b)) → is_some (binary_name (g f)) ≡ true → expression_error (named g t) ≡ or_error (expression_error (named g a)) (expression_error (named g b))
+  two_expression t a b f e h =
+      ap (λ u. expression_error (named g u)) e
+      ∙ ap (λ x. if x then or_error (expression_error (named g a)) (expression_error (named g b)) else Some (not_evaluable (indicator (g f) 2))) h
+
+  pub not_two : (t a b : HeapTerm) (f : ℕ) → t ≡ Compound f (more a (one b)) → is_some (binary_name (g f)) ≡ false → expression_error (named g t) ≡ Some (not_evaluable (indicator (g f) 2))
+  not_two t a b f e h =
+      ap (λ u. expression_error (named g u)) e
+      ∙ ap (λ x. if x then or_error (expression_error (named g a)) (expression_error (named g b)) else Some (not_evaluable (indicator (g f) 2))) h

@@ -1,0 +1,249 @@
+-- Members and halves while they are looked for.
+use Rattle.std.proofs.Common.{◌≡◌, ◌≢◌, ℕ, ◌+◌, ◌<◌, ◌≤◌, List, [], ◌∷◌, ◌++◌, length, Option, Some, None, refl, ap, sym, ◌∙◌, subst, arith, append_assoc, append-nil}
+use Rattle.std.specs.Prelude.{All}
+use Rattle.std.proofs.lemmas.List.Elements.{All-nil, All-push, All-same, All-pop}
+use Rattle.spec_lists.specs.Texts.{Text}
+use Rattle.spec_lists.proofs.Prefixes.{prefix_length, prefix_same}
+use Rattle.spec_terms.specs.Term.{size}
+use Rattle.spec_syntax.specs.Trees.{Tree}
+use Rattle.spec_built.specs.Built.{compound2}
+use Rattle.spec_told.specs.Checks.{Halves, halves, in_conjunction}
+use Rattle.cq_term.specs.Meaning.{HeapTerm, at}
+use Rattle.cq_term.specs.HeapValue.{HeapValue}
+use Rattle.cq_term.specs.Trees.{tree, trees, KnowsTerms}
+use Rattle.cq_kinds.proofs.Listed.{trees_push}
+use Rattle.cq_built.specs.Growing.{Grows}
+use Rattle.cq_built.proofs.Growing.{grows_both, grows_names}
+use Rattle.cq_built.proofs.Trees.{kept}
+use Rattle.cq_goals.specs.Sides.{HasSides}
+use Rattle.cq_goals.specs.declared.sides.Sides.{Sides}
+use Rattle.cq_goals.specs.declared.halves.Frame.{Frame}
+use Rattle.cq_goals.specs.declared.halves.Frame.TheVariants as frame
+use Rattle.cq_goals.specs.declared.halves.HalfTerms.{HalfTerms}
+use Rattle.cq_goals.specs.declared.halves.Occurrence.{Occurrence}
+use Rattle.cq_goals.specs.Splitting.{AreLive, waiting_parts, waiting_size, TakesApart, IsTakenApart, resumed, all_resumed, IsLiveFrame, frame_sides, frame_work, all_work, Searches, IsNext, next_work, halves_at, AreHalvesLive, IsOccurrence, IsJoining}
+use Rattle.cq_goals.proofs.Heads.{size_of_sides, size_positive}
+
+-- ---- parts
+module _ (parts : Tree → List Tree) (texts : List Text) (ts : List HeapTerm) where
+  waits_last : (ids : List ℕ) (id : ℕ) → waiting_parts parts texts ts (ids ++ id ∷ []) ≡ parts (tree texts ts id) ++ waiting_parts parts texts ts ids
+  waits_last [] id = sym (append-nil (parts (tree texts ts id)))
+  waits_last (w ∷ ids) id =
+      ap (λ us. us ++ parts (tree texts ts w)) (waits_last ids id)
+      ∙ append_assoc (parts (tree texts ts id)) (waiting_parts parts texts ts ids) (parts (tree texts ts w))
+
+  size_last : (ids : List ℕ) (id : ℕ) → waiting_size ts (ids ++ id ∷ []) ≡ waiting_size ts ids + size (at ts id)
+  size_last [] id = omega arith
+  size_last (w ∷ ids) id = let h = size_last ids id in omega (arith, h)
+
+  pub sides_wait : (found waiting found' waiting' : List ℕ) (id : ℕ) (s : Sides) → HasSides ts id s → parts (tree texts ts id) ≡ parts (tree texts ts s.left) ++ parts (tree texts ts s.right)
+      → found' ≡ found → waiting' ≡ (waiting ++ s.right ∷ []) ++ s.left ∷ [] → TakesApart parts texts ts found waiting id found' waiting'
+  sides_wait found waiting found' waiting' id s h m f w =
+      let l = parts (tree texts ts s.left) in
+      let r = parts (tree texts ts s.right) in
+      record {
+        same =
+            (λ i. trees texts ts (f i) ++ waiting_parts parts texts ts (w i))
+            ∙ ap (λ us. trees texts ts found ++ us)
+            (waits_last (waiting ++ s.right ∷ []) s.left ∙ ap (λ us. l ++ us) (waits_last waiting s.right)
+            ∙ sym (append_assoc l r (waiting_parts parts texts ts waiting)) ∙ ap (λ us. us ++ waiting_parts parts texts ts waiting) (sym m));
+        found_live = λ all. All-same (λ x. x < length ts) found' found f all;
+        waiting_live = λ all.
+            All-same (λ x. x < length ts) waiting' ((waiting ++ s.right ∷ []) ++ s.left ∷ []) w
+            (All-push (λ x. x < length ts) (waiting ++ s.right ∷ []) s.left (All-push (λ x. x < length ts) waiting s.right all h.right) h.left);
+        less = (let e = ap (waiting_size ts) w in let a = size_last (waiting ++ s.right ∷ []) s.left in let b = size_last waiting s.right in let z = size_of_sides ts id s h in omega (arith, e, a, b, z));
+      }
+
+  pub part_found : (found waiting found' waiting' : List ℕ) (id : ℕ) → id < length ts → parts (tree texts ts id) ≡ tree texts ts id ∷ [] → found' ≡ found ++ id ∷ [] → waiting' ≡ waiting
+      → TakesApart parts texts ts found waiting id found' waiting'
+  part_found found waiting found' waiting' id live m f w = record {
+    same =
+        (λ i. trees texts ts found' ++ waiting_parts parts texts ts (w i))
+        ∙ ap (λ us. us ++ waiting_parts parts texts ts waiting) (trees_push texts ts found found' id f)
+        ∙ append_assoc (trees texts ts found) (tree texts ts id ∷ []) (waiting_parts parts texts ts waiting)
+        ∙ ap (λ us. trees texts ts found ++ (us ++ waiting_parts parts texts ts waiting)) (sym m);
+    found_live = λ all. All-same (λ x. x < length ts) found' (found ++ id ∷ []) f (All-push (λ x. x < length ts) found id all live);
+    waiting_live = λ all. All-same (λ x. x < length ts) waiting' waiting w all;
+    less = (let e = ap (waiting_size ts) w in let z = size_positive (at ts id) in omega (arith, e, z));
+  }
+
+  module _ (whole : List Tree) (found ws old : List ℕ) (id : ℕ) (h : IsTakenApart parts texts ts whole found ws) (n : ws ≡ old ++ id ∷ []) where
+    popped : AreLive ts old × (id < length ts)
+    popped = All-pop (λ x. x < length ts) ws old (Some id) n h.waiting_live
+
+    pub part_live : id < length ts
+    part_live = popped.1
+
+    module _ (found' new : List ℕ) (t : TakesApart parts texts ts found old id found' new) where
+      pub takes : IsTakenApart parts texts ts whole found' new
+      takes = record {
+        found_live = t.found_live h.found_live;
+        waiting_live = t.waiting_live popped.0;
+        same = t.same ∙ ap (λ us. trees texts ts found ++ us) (sym (waits_last old id) ∙ ap (waiting_parts parts texts ts) (sym n)) ∙ h.same;
+      }
+
+      pub takes_less : waiting_size ts new < waiting_size ts ws
+      takes_less = let e = ap (waiting_size ts) n in let s = size_last old id in let l = t.less in omega (arith, e, s, l)
+
+  pub taken_apart_starts : (found ws : List ℕ) (id : ℕ) → id < length ts → found ≡ [] → ws ≡ id ∷ [] → IsTakenApart parts texts ts (parts (tree texts ts id)) found ws
+  taken_apart_starts found ws id live f w = record {
+    found_live = All-same (λ x. x < length ts) found [] f (All-nil (λ x. x < length ts));
+    waiting_live = All-same (λ x. x < length ts) ws (id ∷ []) w (All-push (λ x. x < length ts) [] id (All-nil (λ x. x < length ts)) live);
+    same = λ i. trees texts ts (f i) ++ waiting_parts parts texts ts (w i);
+  }
+
+  pub all_found : (whole : List Tree) (found ws : List ℕ) → IsTakenApart parts texts ts whole found ws → length ws ≡ 0 → trees texts ts found ≡ whole
+  all_found whole found [] h n = sym (append-nil (trees texts ts found)) ∙ h.same
+  all_found whole found (w ∷ ws) h n = absurd (omega (arith, n))
+
+-- ---- the search for a disjunction
+module _ (texts : List Text) (ts : List HeapTerm) where
+  pub resumed_last : (fs : List Frame) (f : Frame) (h : Option Halves) → all_resumed texts ts (fs ++ f ∷ []) h ≡ all_resumed texts ts fs (resumed texts ts f h)
+  resumed_last [] f h = refl
+  resumed_last (g ∷ fs) f h = ap (resumed texts ts g) (resumed_last fs f h)
+
+  pub work_last : (fs : List Frame) (f : Frame) → all_work ts (fs ++ f ∷ []) ≡ all_work ts fs + frame_work ts f
+  work_last [] f = omega arith
+  work_last (g ∷ fs) f = let h = work_last fs f in omega (arith, h)
+
+  module _ (id : ℕ) (fs new : List Frame) (whole : Option Halves) (s : Sides) (k : Searches texts ts id fs whole) (h : HasSides ts id s) (n : new ≡ fs ++ frame.Left s ∷ []) where
+    pub left_next : halves (tree texts ts id) ≡ in_conjunction (tree texts ts s.left) (tree texts ts s.right) (halves (tree texts ts s.left)) (halves (tree texts ts s.right)) → Searches texts ts s.left new whole
+    left_next e = record {
+      id_live = h.left;
+      live = All-same (IsLiveFrame ts) new (fs ++ frame.Left s ∷ []) n (All-push (IsLiveFrame ts) fs (frame.Left s) k.live (record { left = h.left; right = h.right }));
+      leads = ap (λ gs. all_resumed texts ts gs (halves (tree texts ts s.left))) n ∙ resumed_last fs (frame.Left s) (halves (tree texts ts s.left)) ∙ ap (all_resumed texts ts fs) (sym e) ∙ k.leads;
+    }
+
+    pub left_less : all_work ts new + size (at ts s.left) < all_work ts fs + size (at ts id)
+    left_less = let e = ap (all_work ts) n in let w = work_last fs (frame.Left s) in let z = size_of_sides ts id s h in omega (arith, e, w, z)
+
+  -- the right side of the frame that was taken off
+  module _ (old path : List Frame) (s : Sides) where
+    pub right_next : (new : List Frame) (whole : Option Halves) → path ≡ old ++ frame.Left s ∷ [] → new ≡ old ++ frame.Right s ∷ [] → All (IsLiveFrame ts) path → all_resumed texts ts path None ≡ whole → Searches texts ts s.right new whole
+    right_next new whole n m live leads =
+        let l = All-pop (IsLiveFrame ts) path old (Some (frame.Left s)) n live in
+        record {
+          id_live = l.1.right;
+          live = All-same (IsLiveFrame ts) new (old ++ frame.Right s ∷ []) m (All-push (IsLiveFrame ts) old (frame.Right s) l.0 (record { left = l.1.left; right = l.1.right }));
+          leads =
+              ap (λ gs. all_resumed texts ts gs (halves (tree texts ts s.right))) m ∙ resumed_last old (frame.Right s) (halves (tree texts ts s.right))
+              ∙ sym (resumed_last old (frame.Left s) None) ∙ ap (λ gs. all_resumed texts ts gs None) (sym n) ∙ leads;
+        }
+
+    pub right_work : (new : List Frame) → path ≡ old ++ frame.Left s ∷ [] → new ≡ old ++ frame.Right s ∷ [] → all_work ts new + size (at ts s.right) ≤ all_work ts path
+    right_work new n m = let e = ap (all_work ts) n in let f = ap (all_work ts) m in let a = work_last old (frame.Left s) in let b = work_last old (frame.Right s) in omega (arith, e, f, a, b)
+
+    pub right_over : (whole : Option Halves) → path ≡ old ++ frame.Right s ∷ [] → all_resumed texts ts path None ≡ whole → all_resumed texts ts old None ≡ whole
+    right_over whole n leads = sym (resumed_last old (frame.Right s) None) ∙ ap (λ gs. all_resumed texts ts gs None) (sym n) ∙ leads
+
+    pub right_over_work : path ≡ old ++ frame.Right s ∷ [] → all_work ts old ≤ all_work ts path
+    right_over_work n = let e = ap (all_work ts) n in let a = work_last old (frame.Right s) in omega (arith, e, a)
+
+-- ---- halves that are built
+module _ (texts more : List Text) (old new : HeapValue) (grows : Grows texts old more new) (known : KnowsTerms texts old.now.terms) where
+  pub longer_live : (id : ℕ) → id < length old.now.terms → id < length new.now.terms
+  longer_live id lt = let p = prefix_length old.now.terms new.now.terms grows.terms in omega (arith, p, lt)
+
+  pub frame_longer : (f : Frame) → IsLiveFrame old.now.terms f → IsLiveFrame new.now.terms f
+  frame_longer f l = record { left = longer_live (frame_sides f).left l.left; right = longer_live (frame_sides f).right l.right }
+
+  pub resumed_kept : (f : Frame) (h : Option Halves) → IsLiveFrame old.now.terms f → resumed more new.now.terms f h ≡ resumed texts old.now.terms f h
+  resumed_kept (frame.Left s) h l =
+      λ i. in_conjunction (kept texts more old new grows known s.left l.left i) (kept texts more old new grows known s.right l.right i) h (halves (kept texts more old new grows known s.right l.right i))
+  resumed_kept (frame.Right s) h l =
+      λ i. in_conjunction (kept texts more old new grows known s.left l.left i) (kept texts more old new grows known s.right l.right i) None h
+
+-- two conjunctions, one built after the other
+pub both_built : (texts more most : List Text) (a b c : HeapValue) → Grows texts a more b → Grows more b most c → KnowsTerms texts a.now.terms → (p q r s left right : ℕ)
+    → r < length a.now.terms → s < length a.now.terms → left < length b.now.terms
+    → tree more b.now.terms left ≡ compound2 "," (tree texts a.now.terms p) (tree texts a.now.terms q)
+    → tree most c.now.terms right ≡ compound2 "," (tree more b.now.terms r) (tree more b.now.terms s)
+    → (h : HalfTerms) → h.left ≡ left → h.right ≡ right
+    → record { left = compound2 "," (tree texts a.now.terms p) (tree texts a.now.terms q); right = compound2 "," (tree texts a.now.terms r) (tree texts a.now.terms s) } ≡ halves_at most c.now.terms h
+both_built texts more most a b c g k known p q r s left right lr ls ll e f h hl hr =
+    let first : compound2 "," (tree texts a.now.terms p) (tree texts a.now.terms q) ≡ tree most c.now.terms h.left =
+    sym e ∙ sym (kept more most b c k (g.names known) left ll) ∙ ap (tree most c.now.terms) (sym hl) in
+    let second : compound2 "," (tree texts a.now.terms r) (tree texts a.now.terms s) ≡ tree most c.now.terms h.right =
+    (λ i. compound2 "," (sym (kept texts more a b g known r lr) i) (sym (kept texts more a b g known s ls) i)) ∙ sym f ∙ ap (tree most c.now.terms) (sym hr) in
+    λ i. record { left = first i; right = second i }
+
+-- ---- the conjunctions round the halves, one after another
+module _ (texts more most : List Text) (a b c : HeapValue) (known : KnowsTerms texts a.now.terms) (whole : Option Halves) (path old : List Frame) (f : Frame) (h k : HalfTerms)
+    (j : IsJoining texts a whole more b path h) (n : path ≡ old ++ f ∷ []) where
+  frame_popped : All (IsLiveFrame a.now.terms) old × IsLiveFrame a.now.terms f
+  frame_popped = All-pop (IsLiveFrame a.now.terms) path old (Some f) n j.live
+
+  pub frame_live : IsLiveFrame b.now.terms f
+  frame_live = frame_longer texts more a b j.grows known f frame_popped.1
+
+  pub joining : Grows more b most c → resumed more b.now.terms f (Some (halves_at more b.now.terms h)) ≡ Some (halves_at most c.now.terms k) → AreHalvesLive c.now.terms k → IsJoining texts a whole most c old k
+  joining g e live = record {
+    grows = grows_both texts more most a b c j.grows g;
+    halves_live = live;
+    live = frame_popped.0;
+    leads =
+        ap (all_resumed texts a.now.terms old) (sym e ∙ resumed_kept texts more a b j.grows known f (Some (halves_at more b.now.terms h)) frame_popped.1)
+        ∙ sym (resumed_last texts a.now.terms old f (Some (halves_at more b.now.terms h)))
+        ∙ ap (λ gs. all_resumed texts a.now.terms gs (Some (halves_at more b.now.terms h))) (sym n) ∙ j.leads;
+  }
+
+-- ---- the search, a term after another
+module _ (texts : List Text) (ts : List HeapTerm) where
+  pub search_starts : (id : ℕ) (fs : List Frame) → id < length ts → fs ≡ [] → Searches texts ts id fs (halves (tree texts ts id))
+  search_starts id fs live n = record {
+    id_live = live;
+    live = All-same (IsLiveFrame ts) fs [] n (All-nil (IsLiveFrame ts));
+    leads = ap (λ gs. all_resumed texts ts gs (halves (tree texts ts id))) n;
+  }
+
+  module _ (whole : Option Halves) (next : Option ℕ) (fs : List Frame) (h : IsNext texts ts whole next fs) where
+    pub searched : (id : ℕ) → next ≡ Some id → Searches texts ts id fs whole
+    searched id e = subst (λ n. IsNext texts ts whole n fs) e h
+
+    pub search_over : next ≡ None → whole ≡ None
+    search_over e = subst (λ n. IsNext texts ts whole n fs) e h
+
+    pub work_now : (id : ℕ) → next ≡ Some id → next_work ts next fs ≡ all_work ts fs + size (at ts id)
+    work_now id e = ap (λ n. next_work ts n fs) e
+
+  module _ (id : ℕ) (fs : List Frame) (whole : Option Halves) (k : Searches texts ts id fs whole) where
+    leads_on : (h : Option Halves) → halves (tree texts ts id) ≡ h → all_resumed texts ts fs h ≡ whole
+    leads_on h e = ap (all_resumed texts ts fs) (sym e) ∙ k.leads
+
+    -- the term has no disjunction
+    pub side_over : halves (tree texts ts id) ≡ None → (next : Option ℕ) (new : List Frame) → IsNext texts ts (all_resumed texts ts fs None) next new → IsNext texts ts whole next new
+    side_over e next new n = subst (λ w. IsNext texts ts w next new) (leads_on None e) n
+
+    pub occurs : (s : Sides) → HasSides ts id s → halves (tree texts ts id) ≡ Some (record { left = tree texts ts s.left; right = tree texts ts s.right })
+        → (p : Occurrence) → p.halves ≡ record { left = s.left; right = s.right } → p.path.items ≡ fs → IsOccurrence texts ts whole p
+    occurs s h e p ph pf = record {
+      halves_live = (subst (λ x. x.left < length ts) (sym ph) h.left, subst (λ x. x.right < length ts) (sym ph) h.right);
+      live = All-same (IsLiveFrame ts) p.path.items fs pf k.live;
+      leads = (λ i. all_resumed texts ts (pf i) (Some (halves_at texts ts (ph i)))) ∙ leads_on (Some (record { left = tree texts ts s.left; right = tree texts ts s.right })) e;
+    }
+
+-- ---- the halves, a conjunction round them after another
+pub joining_starts : (texts : List Text) (a : HeapValue) (path : List Frame) (h : HalfTerms) → AreHalvesLive a.now.terms h → All (IsLiveFrame a.now.terms) path
+    → IsJoining texts a (all_resumed texts a.now.terms path (Some (halves_at texts a.now.terms h))) texts a path h
+joining_starts texts a path h halves_live live = record {
+  grows = grows_names texts texts a a (prefix_same texts texts refl) refl refl (omega arith);
+  halves_live = halves_live;
+  live = live;
+  leads = refl;
+}
+
+pub joined_ends : (texts more : List Text) (a b : HeapValue) (whole : Option Halves) (path : List Frame) (h : HalfTerms) → IsJoining texts a whole more b path h → length path ≡ 0 → whole ≡ Some (halves_at more b.now.terms h)
+joined_ends texts more a b whole [] h j n = sym j.leads
+joined_ends texts more a b whole (f ∷ fs) h j n = absurd (omega (arith, n))
+
+-- ---- a conjunction of which both sides are searched
+module _ (old path : List Frame) where
+  pub frame_over : (f : Frame) → ((s : Sides) → f ≢ frame.Left s) → path ≡ old ++ f ∷ [] → (texts : List Text) (ts : List HeapTerm) → all_resumed texts ts old None ≡ all_resumed texts ts path None
+  frame_over (frame.Left s) other n texts ts = absurd (other s refl)
+  frame_over (frame.Right s) other n texts ts = sym (resumed_last texts ts old (frame.Right s) None) ∙ ap (λ gs. all_resumed texts ts gs None) (sym n)
+
+  pub frame_over_live : (f : Frame) → path ≡ old ++ f ∷ [] → (ts : List HeapTerm) → All (IsLiveFrame ts) path → All (IsLiveFrame ts) old
+  frame_over_live f n ts all = (All-pop (IsLiveFrame ts) path old (Some f) n all).0
+
+  pub frame_over_work : (f : Frame) → path ≡ old ++ f ∷ [] → (ts : List HeapTerm) → all_work ts old ≤ all_work ts path
+  frame_over_work f n ts = let e = ap (all_work ts) n in let a = work_last [] ts old f in omega (arith, e, a)
