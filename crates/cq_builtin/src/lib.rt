@@ -6,8 +6,6 @@
 mod arguments;
 mod comparisons;
 mod lists;
-#[cfg(test)]
-mod tests;
 mod types;
 
 pub use arguments::arg;
