@@ -4,8 +4,6 @@
 mod evaluation;
 mod faults;
 mod operations;
-#[cfg(test)]
-mod tests;
 
 pub use evaluation::eval;
 pub use faults::{EvalError, EvalFault};

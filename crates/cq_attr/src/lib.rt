@@ -4,8 +4,6 @@
 mod attrs;
 mod notes;
 mod susp;
-#[cfg(test)]
-mod tests;
 
 pub use attrs::Attrs;
 pub use susp::{Susp, SuspNo};

@@ -6,8 +6,6 @@ mod alternatives;
 mod balls;
 mod building;
 mod errors;
-#[cfg(test)]
-mod tests;
 
 pub use alternatives::Alternative;
 pub use balls::ball;

@@ -8,8 +8,6 @@ mod comparisons;
 mod copies;
 mod functors;
 mod lists;
-#[cfg(test)]
-mod tests;
 mod types;
 
 pub use arguments::arg;

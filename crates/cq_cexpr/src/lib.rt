@@ -6,8 +6,6 @@ mod evaluation;
 mod names;
 mod operations;
 mod relations;
-#[cfg(test)]
-mod tests;
 
 pub use evaluation::{LinExpression, linearise_expression};
 pub use relations::{Lin, linearise};

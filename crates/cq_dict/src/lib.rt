@@ -24,5 +24,3 @@ pub fn expressions_are_unique()
     ensures { (roles : List Role) → AreOverColumns roles → ExpressesUniquely roles }
 {}
 
-#[cfg(test)]
-mod tests;

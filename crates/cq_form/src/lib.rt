@@ -2,8 +2,6 @@
 #![tactic(auto)]
 
 mod entries;
-#[cfg(test)]
-mod tests;
 
 ghost use Rattle.std.specs.Prelude.{◌≡◌, [], map, IfOk, OnOk, slice_get};
 ghost use Rattle.std.specs.Option.{option_map};

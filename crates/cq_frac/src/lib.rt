@@ -16,8 +16,6 @@ ghost use Rattle.cq_frac.specs.declared.Operation.TheVariants.{Sum, Difference, 
 ghost use Rattle.cq_frac.specs.declared.Refusal.TheVariants.{Overflow, NoMemory};
 ghost use Rattle.cq_frac.specs.Text.{number_text};
 
-#[cfg(test)]
-mod tests;
 mod wholes;
 
 use crate::wholes::{LIMIT, fitting, gcd, order, part, total, with_sign};

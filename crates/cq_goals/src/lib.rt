@@ -9,8 +9,6 @@ mod halves;
 mod members;
 mod sides;
 mod tellings;
-#[cfg(test)]
-mod tests;
 
 pub use arithmetic::{compare_values, is_value};
 pub use faults::GoalFault;

@@ -4,8 +4,6 @@
 
 mod kinds;
 mod lists;
-#[cfg(test)]
-mod tests;
 
 pub use kinds::{
     is_below_zero, is_callable, is_compound, is_integer, is_name, is_number, is_variable,

@@ -3,5 +3,3 @@
 
 pub mod choosing;
 pub mod levelling;
-#[cfg(test)]
-mod tests;

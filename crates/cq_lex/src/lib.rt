@@ -5,8 +5,6 @@ mod characters;
 mod gaps;
 mod numerals;
 mod quotes;
-#[cfg(test)]
-mod tests;
 
 ghost use Rattle.std.specs.Prelude.{◌≡◌, ◌+◌, ◌^◌, ◌<◌, ◌≤◌, ◌∷◌, ◌&&◌, ◌==◌, ◌⊎◌, length, drop, IfOk};
 ghost use Rattle.spec_grammar.specs.Characters.{is_symbol, begins_with};

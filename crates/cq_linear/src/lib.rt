@@ -7,5 +7,3 @@ pub mod facing;
 pub mod falling;
 pub mod reaching;
 pub mod store;
-#[cfg(test)]
-mod tests;

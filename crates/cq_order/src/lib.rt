@@ -4,8 +4,6 @@
 mod equality;
 mod order;
 mod pairs;
-#[cfg(test)]
-mod tests;
 mod variants;
 
 pub use equality::same;

@@ -13,8 +13,6 @@ mod frames;
 mod names;
 mod operators;
 mod steps;
-#[cfg(test)]
-mod tests;
 mod tokens;
 
 pub use frames::{Frame, State};

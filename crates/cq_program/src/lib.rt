@@ -2,8 +2,6 @@
 #![tactic(auto)]
 
 mod laws;
-#[cfg(test)]
-mod tests;
 
 ghost use Rattle.std.specs.Prelude.{◌≡◌, ◌<◌, [], ◌∷◌, ℕ, length, Option, Some, false};
 ghost use Rattle.spec_terms.specs.Term.{Subst, apply};

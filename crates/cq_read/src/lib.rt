@@ -6,8 +6,6 @@ mod clause;
 mod feed;
 mod reading;
 mod resuming;
-#[cfg(test)]
-mod tests;
 mod tokens;
 mod variables;
 

@@ -5,7 +5,5 @@ mod joining;
 mod matching;
 mod parts;
 mod resolution;
-#[cfg(test)]
-mod tests;
 
 pub use resolution::resolve;

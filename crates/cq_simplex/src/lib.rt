@@ -118,5 +118,3 @@ pub fn maximise(
     }
 }
 
-#[cfg(test)]
-mod tests;

@@ -7,5 +7,3 @@
 mod entering;
 pub mod store;
 pub mod table;
-#[cfg(test)]
-mod tests;

@@ -6,8 +6,6 @@ mod clause;
 mod first;
 mod pattern;
 mod term;
-#[cfg(test)]
-mod tests;
 
 pub use building::{build, new_variables};
 pub use clause::Clause;

@@ -5,8 +5,6 @@ mod heap;
 mod laws;
 mod lists;
 mod names;
-#[cfg(test)]
-mod tests;
 mod view;
 
 pub use cq_atoms::Atom;

@@ -10,8 +10,6 @@ mod parts;
 mod sought;
 mod splits;
 mod subtexts;
-#[cfg(test)]
-mod tests;
 mod ways;
 
 pub use concatenation::atom_concat;

@@ -4,8 +4,6 @@
 
 mod both;
 mod stack;
-#[cfg(test)]
-mod tests;
 mod trail;
 mod undo;
 

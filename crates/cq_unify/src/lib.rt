@@ -4,8 +4,6 @@
 mod copies;
 mod occurs;
 mod pairs;
-#[cfg(test)]
-mod tests;
 mod unification;
 mod variables;
 

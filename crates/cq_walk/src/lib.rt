@@ -3,8 +3,6 @@
 #![tactic(auto)]
 
 mod pairs;
-#[cfg(test)]
-mod tests;
 mod visits;
 
 pub use pairs::{Pair, push_pairs};

@@ -9,8 +9,6 @@ mod numbers;
 mod operands;
 mod parts;
 mod shapes;
-#[cfg(test)]
-mod tests;
 mod variables;
 mod writer;
 

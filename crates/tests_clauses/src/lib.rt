@@ -1,0 +1,11 @@
+//! Tests of the crates of stored clauses and programs: what no clause says of them.
+#![tactic(auto)]
+
+#[cfg(test)]
+mod clauses;
+#[cfg(test)]
+mod program;
+#[cfg(test)]
+mod resolve;
+#[cfg(test)]
+mod stored;

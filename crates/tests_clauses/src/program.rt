@@ -1,0 +1,91 @@
+// Facts of one predicate, looked for by their first argument.
+
+ghost use Rattle.std.specs.Prelude.{◌<◌, length, IfOk};
+
+use cq_program::{ProgramClause, goal_key};
+use cq_atoms::{Atom, Atoms};
+use cq_clauses::{Clauses, Kind};
+use cq_frac::Frac;
+use cq_stored::Clause;
+use cq_term::{Heap, Pred, TermId};
+use std::alloc::{AllocError, Global};
+use std::test::Fail;
+
+/// What a fact, or a goal, has as its argument.
+#[derive(Clone, Copy)]
+enum Argument {
+    Variable,
+    Zero,
+    One,
+    Name,
+}
+
+fn argument_of(heap: &mut Heap, name: Atom, argument: Argument) -> Result<TermId, AllocError>
+    ensures live { IfOk result (λ id. id < length heap.new.now.terms) }
+{
+    let id = match argument {
+        Argument::Variable => heap.new_var()?,
+        Argument::Zero => heap.number(Frac::zero())?,
+        Argument::One => heap.number(Frac::one())?,
+        Argument::Name => heap.atom(name)?,
+    };
+    Ok(id)
+}
+
+/// The name over the argument.
+fn over(heap: &mut Heap, name: Atom, argument: Argument) -> Result<TermId, AllocError>
+    ensures live { IfOk result (λ id. id < length heap.new.now.terms) }
+{
+    let inside = argument_of(heap, name, argument)?;
+    let id = heap.compound(name, &[inside])?;
+    Ok(id)
+}
+
+/// Adds the fact behind the others.
+fn add(
+    clauses: &mut Clauses<ProgramClause>,
+    alloc: Global,
+    name: Atom,
+    argument: Argument,
+) -> Result<(), AllocError> {
+    let mut heap = Heap::new(alloc);
+    let head = over(&mut heap, name, argument)?;
+    let clause = ProgramClause::new(Clause::of(&heap, head, head)?);
+    clauses.add_last(Pred { name, arity: 1 }, clause, Kind::Static)?;
+    Ok(())
+}
+
+/// How many variables each fact has that a call tries.
+fn tried(
+    clauses: &mut Clauses<ProgramClause>,
+    alloc: Global,
+    name: Atom,
+    argument: Argument,
+) -> Result<Vec<usize>, AllocError> {
+    let mut heap = Heap::new(alloc);
+    let goal = over(&mut heap, name, argument)?;
+    let mut walk = clauses.walk(Pred { name, arity: 1 }, goal_key(&heap, goal));
+    let mut variables = Vec::new(alloc);
+    while let Some(clause) = clauses.step(&mut walk) {
+        variables.push(clauses.content(clause).clause().variables())?;
+    }
+    Ok(variables)
+}
+
+#[test]
+fn facts_are_found_by_their_argument(rt: HostRuntime) -> Result<(), Fail> {
+    let p = Atoms::new(rt.alloc()).intern("p")?;
+    let mut clauses = Clauses::new(rt.alloc());
+    add(&mut clauses, rt.alloc(), p, Argument::One)?;
+    add(&mut clauses, rt.alloc(), p, Argument::Variable)?;
+    add(&mut clauses, rt.alloc(), p, Argument::Name)?;
+    let one = tried(&mut clauses, rt.alloc(), p, Argument::One)?;
+    let zero = tried(&mut clauses, rt.alloc(), p, Argument::Zero)?;
+    let name = tried(&mut clauses, rt.alloc(), p, Argument::Name)?;
+    let all = tried(&mut clauses, rt.alloc(), p, Argument::Variable)?;
+    assert_eq!(rt; one.as_slice(), [0, 1].as_slice());
+    assert_eq!(rt; zero.as_slice(), [1].as_slice());
+    assert_eq!(rt; name.as_slice(), [1, 0].as_slice());
+    assert_eq!(rt; all.as_slice(), [0, 1, 0].as_slice());
+    Ok(())
+}

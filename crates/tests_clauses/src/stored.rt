@@ -1,0 +1,113 @@
+// A term that outlives an undo, and a clause whose body shares variables with its head.
+
+ghost use Rattle.std.specs.Prelude.{◌<◌, ◌≤◌, length, All, IfOk};
+
+use cq_stored::{Clause, StoredTerm, first_argument};
+use cq_atoms::Atoms;
+use cq_frac::VarId;
+use cq_term::{Atom, Heap, TermId, View};
+use std::alloc::{AllocError, Global};
+use std::test::Fail;
+
+/// A new variable.
+fn variable(heap: &mut Heap) -> Result<TermId, AllocError>
+    ensures live { IfOk result (λ id. id < length heap.new.now.terms) }
+    ensures more { length heap.old.now.terms ≤ length heap.new.now.terms }
+{
+    let id = heap.new_var()?;
+    Ok(id)
+}
+
+/// A name over three terms.
+fn over(heap: &mut Heap, f: Atom, args: [TermId; 3]) -> Result<TermId, AllocError>
+    requires { All (λ id. id < length heap.old.now.terms) args }
+    ensures live { IfOk result (λ id. id < length heap.new.now.terms) }
+    ensures more { length heap.old.now.terms ≤ length heap.new.now.terms }
+{
+    let whole = heap.compound(f, &args)?;
+    Ok(whole)
+}
+
+/// What the arguments of a term show.
+fn shown(heap: &Heap, id: TermId) -> Result<Vec<View>, AllocError>
+    requires { id < length heap.now.now.terms }
+{
+    let mut shown = Vec::new(heap.alloc());
+    for argument in heap.args(id) {
+        shown.push(heap.view(*argument))?;
+    }
+    Ok(shown)
+}
+
+/// f(Y, X, Y), of a heap that is no more.
+fn kept(alloc: Global, f: Atom) -> Result<StoredTerm, AllocError> {
+    let mut heap = Heap::new(alloc);
+    let x = variable(&mut heap)?;
+    let y = variable(&mut heap)?;
+    let id = over(&mut heap, f, [y, x, y])?;
+    StoredTerm::of(&heap, id)
+}
+
+/// The same, put on the heap twice.
+fn restored(heap: &mut Heap, f: Atom) -> Result<Vec<View>, AllocError> {
+    let stored = kept(heap.alloc(), f)?;
+    stored.restore(heap)?;
+    let id = stored.restore(heap)?;
+    shown(heap, id)
+}
+
+#[test]
+fn a_stored_term_has_new_variables_each_time(rt: HostRuntime) -> Result<(), Fail> {
+    let f = Atoms::new(rt.alloc()).intern("f")?;
+    let mut heap = Heap::new(rt.alloc());
+    let found = restored(&mut heap, f)?;
+    let expected = [
+        View::Var(VarId(2)),
+        View::Var(VarId(3)),
+        View::Var(VarId(2)),
+    ];
+    assert_eq!(rt; found.as_slice(), expected.as_slice());
+    Ok(())
+}
+
+/// The head f(Y, X, Y) and the body f(X, Y, Y), renamed.
+fn renamed(heap: &mut Heap, f: Atom) -> Result<Vec<View>, AllocError> {
+    let x = variable(heap)?;
+    let y = variable(heap)?;
+    let head = over(heap, f, [y, x, y])?;
+    let body = over(heap, f, [x, y, y])?;
+    let (_, moved) = Clause::of(heap, head, body)?.rename(heap)?;
+    shown(heap, moved)
+}
+
+#[test]
+fn the_body_shares_the_variables_of_the_head(rt: HostRuntime) -> Result<(), Fail> {
+    let f = Atoms::new(rt.alloc()).intern("f")?;
+    let mut heap = Heap::new(rt.alloc());
+    let found = renamed(&mut heap, f)?;
+    let expected = [
+        View::Var(VarId(3)),
+        View::Var(VarId(2)),
+        View::Var(VarId(2)),
+    ];
+    assert_eq!(rt; found.as_slice(), expected.as_slice());
+    Ok(())
+}
+
+/// What the first argument of f(Y, X, Y) shows on the heap and in a clause.
+fn first_arguments(heap: &mut Heap, f: Atom) -> Result<[Option<View>; 2], AllocError> {
+    let x = variable(heap)?;
+    let y = variable(heap)?;
+    let head = over(heap, f, [y, x, y])?;
+    let clause = Clause::of(heap, head, head)?;
+    Ok([first_argument(heap, head), clause.first_argument()])
+}
+
+#[test]
+fn a_first_argument_is_shown_on_the_heap_and_in_a_clause(rt: HostRuntime) -> Result<(), Fail> {
+    let f = Atoms::new(rt.alloc()).intern("f")?;
+    let mut heap = Heap::new(rt.alloc());
+    let found = first_arguments(&mut heap, f)?;
+    assert!(rt; found == [Some(View::Var(VarId(1))), Some(View::Var(VarId(0)))]);
+    Ok(())
+}

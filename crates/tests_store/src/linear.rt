@@ -1,0 +1,215 @@
+//! Small lists of constraints, and what is asked of them, worked out by hand.
+
+use cq_linear::store::{Extent, Store, StoreFault, Told};
+use cq_form::{Constraint, Form};
+use cq_frac::{Frac, VarId};
+use spec_linear::Relation;
+use std::alloc::Global;
+use std::test::Fail;
+
+/// Products of a factor and a variable.
+type Products<'a> = &'a [(i128, usize)];
+
+/// What is told or asked, a form by its products and its constant, with the answer that is wanted.
+enum Step<'a> {
+    /// Kept, and so many variables get a value.
+    Keeps(Relation, Products<'a>, i128, usize),
+    /// Refused, with this certificate.
+    Refuses(Relation, Products<'a>, i128, &'a [(usize, i128)]),
+    /// The supremum of the form; None where it is unbounded.
+    Reaches(Products<'a>, i128, Option<i128>),
+    /// The infimum.
+    Falls(Products<'a>, i128, Option<i128>),
+    Entails(Relation, Products<'a>, i128, bool),
+}
+
+static STEPS: [&[Step]; 7] = [
+    // x0 >= 1, x1 >= x0 + 2
+    &[
+        Step::Keeps(Relation::Ge, &[(1, 0)], -1, 0),
+        Step::Keeps(Relation::Ge, &[(-1, 0), (1, 1)], -2, 0),
+        Step::Falls(&[(1, 1)], 0, Some(3)),
+        Step::Reaches(&[(1, 0)], 0, None),
+        Step::Reaches(&[(1, 0), (-1, 1)], 10, Some(8)),
+        Step::Entails(Relation::Gt, &[(1, 1)], -2, true),
+        Step::Entails(Relation::Ge, &[(1, 1)], -4, false),
+        Step::Entails(Relation::Eq, &[(1, 0), (-1, 1)], 0, false),
+        // x1 =< 2
+        Step::Refuses(Relation::Ge, &[(-1, 1)], 2, &[(3, 1), (1, 1), (2, 1)]),
+        Step::Falls(&[(1, 1)], 0, Some(3)),
+    ],
+    // x0 > 0, x0 < 1: neither is attained
+    &[
+        Step::Keeps(Relation::Gt, &[(1, 0)], 0, 0),
+        Step::Keeps(Relation::Gt, &[(-1, 0)], 1, 0),
+        Step::Reaches(&[(1, 0)], 0, Some(1)),
+        Step::Falls(&[(1, 0)], 0, Some(0)),
+        Step::Entails(Relation::Ge, &[(1, 0)], 0, true),
+    ],
+    // x0 >= 0, x0 =\= 0, and not x0 < 0
+    &[
+        Step::Keeps(Relation::Ge, &[(1, 0)], 0, 0),
+        Step::Keeps(Relation::Ne, &[(1, 0)], 0, 0),
+        Step::Falls(&[(1, 0)], 0, Some(0)),
+        Step::Refuses(Relation::Gt, &[(-1, 0)], 0, &[(3, 1), (1, 1)]),
+    ],
+    // of numbers
+    &[
+        Step::Keeps(Relation::Ne, &[], 3, 0),
+        Step::Refuses(Relation::Ne, &[], 0, &[(2, 1), (2, -1)]),
+        Step::Reaches(&[], 7, Some(7)),
+        Step::Falls(&[], 7, Some(7)),
+        Step::Entails(Relation::Gt, &[], 1, true),
+    ],
+    // a chain of faces at one tell: x0 >= 0, x1 >= 0, x0 + x1 =< 0
+    &[
+        Step::Keeps(Relation::Ge, &[(1, 0)], 0, 0),
+        Step::Keeps(Relation::Ge, &[(1, 1)], 0, 0),
+        Step::Keeps(Relation::Ge, &[(-1, 0), (-1, 1)], 0, 2),
+        Step::Reaches(&[(1, 0), (2, 1)], 5, Some(5)),
+        Step::Falls(&[(1, 0)], 0, Some(0)),
+        Step::Entails(Relation::Ge, &[(-1, 0)], 0, true),
+        // x0 > 0
+        Step::Refuses(Relation::Gt, &[(1, 0)], 0, &[(4, 1), (3, 1), (2, 1)]),
+    ],
+    // a form squeezed to zero: x0 >= 0, x0 =< 0, and neither x0 > 0 nor x0 =\= 0
+    &[
+        Step::Keeps(Relation::Ge, &[(1, 0)], 0, 0),
+        Step::Keeps(Relation::Ge, &[(-1, 0)], 0, 1),
+        Step::Refuses(Relation::Gt, &[(1, 0)], 0, &[(3, 1), (2, 1)]),
+        Step::Refuses(
+            Relation::Ne,
+            &[(1, 0)],
+            0,
+            &[(3, 1), (2, 1), (3, -1), (1, 1)],
+        ),
+        Step::Keeps(Relation::Ge, &[(1, 1)], 0, 0),
+    ],
+    // a face on which a strict inequality can't hold, and one on which a disequation can't
+    &[
+        Step::Keeps(Relation::Gt, &[(1, 0)], 0, 0),
+        Step::Refuses(Relation::Ge, &[(-1, 0)], 0, &[(1, 1), (2, 1)]),
+        Step::Keeps(Relation::Ge, &[(1, 1)], 0, 0),
+        Step::Keeps(Relation::Ne, &[(1, 1)], 0, 0),
+        Step::Refuses(
+            Relation::Ge,
+            &[(-1, 1)],
+            0,
+            &[(3, 1), (4, 1), (3, -1), (2, 1)],
+        ),
+    ],
+];
+
+fn number(n: i128) -> Frac {
+    Frac::new(n, 1).unwrap_or(Frac::zero())
+}
+
+/// The form and the product of a number and a variable.
+fn with_product(alloc: Global, form: Form, factor: i128, x: usize) -> Result<Form, Fail> {
+    let variable = Form::new(alloc, Frac::zero(), &[(VarId(x), Frac::one())])?;
+    let product = variable.scale(number(factor))?;
+    Ok(form.add(&product)?)
+}
+
+fn form_of(alloc: Global, products: Products, constant: i128) -> Result<Form, Fail> {
+    let mut form = Form::new(alloc, number(constant), &[])?;
+    for (factor, x) in products {
+        form = with_product(alloc, form, *factor, *x)?;
+    }
+    Ok(form)
+}
+
+fn constraint(
+    alloc: Global,
+    relation: Relation,
+    products: Products,
+    constant: i128,
+) -> Result<Constraint, Fail> {
+    Ok(Constraint {
+        relation,
+        form: form_of(alloc, products, constant)?,
+    })
+}
+
+/// Whether these are the entries, in some order.
+fn are_entries(found: &[(usize, Frac)], wanted: &[(usize, i128)]) -> bool {
+    found.len() == wanted.len()
+        && wanted.iter().all(|w| found.iter().any(|f| f.0 == w.0 && f.1.parts() == (w.1, 1)))
+}
+
+fn keeps(store: &mut Store, c: Constraint, fixed: usize) -> bool {
+    match store.tell(c) {
+        Ok(Told::Kept(xs)) => xs.len() == fixed,
+        _ => false,
+    }
+}
+
+fn refuses(store: &mut Store, c: Constraint, wanted: &[(usize, i128)]) -> bool {
+    match store.tell(c) {
+        Ok(Told::Unsolvable(cert)) => are_entries(cert.entries(), wanted),
+        _ => false,
+    }
+}
+
+fn is_extent(found: Extent, wanted: Option<i128>) -> bool {
+    match found {
+        Extent::Value(q) => wanted.is_some_and(|n| q.parts() == (n, 1)),
+        Extent::Unbounded => wanted.is_none(),
+    }
+}
+
+fn is_reached(answer: Result<Extent, StoreFault>, wanted: Option<i128>) -> bool {
+    match answer {
+        Ok(extent) => is_extent(extent, wanted),
+        Err(_) => false,
+    }
+}
+
+fn is_answered(answer: Result<bool, StoreFault>, wanted: bool) -> bool {
+    match answer {
+        Ok(yes) => yes == wanted,
+        Err(_) => false,
+    }
+}
+
+fn comes_as_wanted(store: &mut Store, alloc: Global, step: &Step) -> Result<bool, Fail> {
+    match step {
+        Step::Keeps(relation, form, constant, fixed) => {
+            Ok(keeps(
+                store,
+                constraint(alloc, *relation, *form, *constant)?,
+                *fixed,
+            ))
+        }
+        Step::Refuses(relation, form, constant, cert) => {
+            Ok(refuses(
+                store,
+                constraint(alloc, *relation, *form, *constant)?,
+                *cert,
+            ))
+        }
+        Step::Reaches(form, constant, wanted) => {
+            Ok(is_reached(store.sup(&form_of(alloc, *form, *constant)?), *wanted))
+        }
+        Step::Falls(form, constant, wanted) => {
+            Ok(is_reached(store.inf(&form_of(alloc, *form, *constant)?), *wanted))
+        }
+        Step::Entails(relation, form, constant, wanted) => {
+            Ok(is_answered(
+                store.entailed(&constraint(alloc, *relation, *form, *constant)?),
+                *wanted,
+            ))
+        }
+    }
+}
+
+#[test]
+fn lists_are_kept_refused_and_asked_about(rt: HostRuntime) -> Result<(), Fail> {
+    for steps in &STEPS {
+        let mut store = Store::new(rt.alloc(), 20);
+        for step in *steps {
+            assert!(rt; comes_as_wanted(&mut store, rt.alloc(), step)?);
+        }
+    }
+    Ok(())
+}

@@ -1,0 +1,170 @@
+// Terms of each kind read back, and a chain and a term that are deeper than any stack.
+
+ghost use Rattle.std.specs.Prelude.{◌≡◌, ◌<◌, ◌≤◌, length, IfOk};
+ghost use Rattle.cq_term.specs.Shown.{IsUnbound};
+
+use cq_term::{Atom, Heap, Newly, TermId, View};
+use cq_atoms::Atoms;
+use cq_frac::{Frac, VarId};
+use cq_trail::Undo;
+use std::alloc::AllocError;
+use std::test::Fail;
+
+const DEPTH: usize = 1_000_000;
+
+/// Makes a variable and binds the given one to it.
+fn linked(heap: &mut Heap, variable: VarId) -> Result<VarId, AllocError>
+    requires { IsUnbound heap.old.now.images variable.0 }
+    ensures next { IfOk result (λ v. IsUnbound heap.new.now.images v.0) }
+    ensures more { length heap.old.now.terms ≤ length heap.new.now.terms }
+    ensures saved { heap.new.saved ≡ heap.old.saved }
+{
+    let term = heap.new_var()?;
+    let View::Var(next) = heap.view(term) else {
+        return Err(AllocError);
+    };
+    heap.bind(variable, term)?;
+    Ok(next)
+}
+
+/// Binds a variable to a new one, that one to a new one, and so on.
+fn chained(heap: &mut Heap, first: VarId) -> Result<VarId, AllocError>
+    requires { IsUnbound heap.old.now.images first.0 }
+    ensures more { length heap.old.now.terms ≤ length heap.new.now.terms }
+    ensures saved { heap.new.saved ≡ heap.old.saved }
+{
+    let mut last = first;
+    for _link in 0..DEPTH {
+        last = linked(heap, last)?;
+    }
+    Ok(last)
+}
+
+fn nested(heap: &mut Heap, name: Atom, term: TermId) -> Result<TermId, AllocError>
+    requires { term < length heap.old.now.terms }
+    ensures live { IfOk result (λ id. id < length heap.new.now.terms) }
+    ensures more { length heap.old.now.terms ≤ length heap.new.now.terms }
+    ensures saved { heap.new.saved ≡ heap.old.saved }
+{
+    let mut whole = term;
+    for _level in 0..DEPTH {
+        whole = heap.compound(name, &[whole])?;
+    }
+    Ok(whole)
+}
+
+fn depth(heap: &Heap, term: TermId) -> usize
+    requires { term < length heap.now.now.terms }
+{
+    let mut part = term;
+    for level in 0..=DEPTH {
+        match heap.view(part) {
+            View::Compound(_, 1) => part = heap.arg(part, 0),
+            _ => return level,
+        }
+    }
+    0
+}
+
+fn shows_number(heap: &mut Heap, numerator: i128, denominator: i128) -> Result<bool, AllocError> {
+    let Ok(number) = Frac::new(numerator, denominator) else {
+        return Ok(false);
+    };
+    let term = heap.number(number)?;
+    Ok(heap.view(term) == View::Number(number) && heap.is_ground(term))
+}
+
+fn shows_name(heap: &mut Heap, name: Atom) -> Result<bool, AllocError> {
+    let term = heap.atom(name)?;
+    Ok(heap.view(term) == View::Name(name) && heap.is_ground(term))
+}
+
+fn shows_variable(heap: &mut Heap) -> Result<bool, AllocError> {
+    let term = heap.new_var()?;
+    let View::Var(variable) = heap.view(term) else {
+        return Ok(false);
+    };
+    Ok(heap.var_term(variable) == term && !heap.is_ground(term))
+}
+
+fn shows_ground_compound(heap: &mut Heap, name: Atom) -> Result<bool, AllocError> {
+    let number = heap.number(Frac::one())?;
+    let whole = heap.compound(name, &[number])?;
+    let args = heap.args(whole) == [number].as_slice() && heap.args(number).is_empty();
+    Ok(args && heap.view(whole) == View::Compound(name, 1) && heap.is_ground(whole))
+}
+
+fn is_open_over_a_variable(heap: &mut Heap, name: Atom) -> Result<bool, AllocError> {
+    let term = heap.new_var()?;
+    let whole = heap.compound(name, &[term])?;
+    Ok(!heap.is_ground(whole))
+}
+
+#[test]
+fn each_kind_of_term_shows_its_head(rt: HostRuntime) -> Result<(), Fail> {
+    let mut heap = Heap::new(rt.alloc());
+    let name = Atoms::new(rt.alloc()).intern("f")?;
+    let numbers = [
+        (0, 1),
+        (-9_223_372_036_854_775_808, 1),
+        (9_223_372_036_854_775_808, 1),
+        (-1, 3),
+    ];
+    for (numerator, denominator) in numbers {
+        assert!(rt;
+            shows_number(&mut heap, numerator, denominator)?,
+            "{numerator}r{denominator}"
+        );
+    }
+    assert!(rt; shows_name(&mut heap, name)?);
+    assert!(rt; shows_variable(&mut heap)?);
+    assert!(rt; shows_ground_compound(&mut heap, name)?);
+    assert!(rt; is_open_over_a_variable(&mut heap, name)?);
+    Ok(())
+}
+
+/// A chain and a term of this depth, built and read after a mark.
+fn reaches_the_depth(
+    heap: &mut Heap,
+    variable: VarId,
+    first: TermId,
+    name: Atom,
+) -> Result<bool, AllocError>
+    requires unbound { IsUnbound heap.old.now.images variable.0 }
+    requires live { first < length heap.old.now.terms }
+    ensures saved { heap.new.saved ≡ heap.old.saved }
+    ensures more { length heap.old.now.terms ≤ length heap.new.now.terms }
+{
+    let last = chained(heap, variable)?;
+    let leads = heap.view(first) == View::Var(last);
+    let whole = nested(heap, name, first)?;
+    Ok(leads && last != variable && depth(heap, whole) == DEPTH)
+}
+
+#[test]
+fn a_chain_and_a_term_of_a_million_are_built_read_and_undone(rt: HostRuntime) -> Result<(), Fail> {
+    let mut heap = Heap::new(rt.alloc());
+    let name = Atoms::new(rt.alloc()).intern("f")?;
+    let first = heap.new_var()?;
+    let View::Var(variable) = heap.view(first) else {
+        return Ok(());
+    };
+    let m = heap.mark()?;
+    assert!(rt; reaches_the_depth(&mut heap, variable, first, name)?);
+    heap.undo(m);
+    assert!(rt; heap.view(first) == View::Var(variable));
+    Ok(())
+}
+
+#[test]
+fn marks_find_their_room(rt: HostRuntime) -> Result<(), Fail> {
+    let mut heap = Heap::new(rt.alloc());
+    heap.reserve(2)?;
+    assert!(rt; heap.spare() >= 2);
+    let m = heap.mark()?;
+    heap.forget(m);
+    let mut newly = Newly::new(rt.alloc());
+    newly.push(VarId(3))?;
+    assert_eq!(rt; newly.as_slice(), [VarId(3)].as_slice());
+    Ok(())
+}

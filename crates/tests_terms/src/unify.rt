@@ -1,0 +1,255 @@
+// Small unifications and what they leave, a term copied and its variables listed, a long chain of bindings, and terms that
+// are deeper than any stack.
+
+ghost use Rattle.std.specs.Prelude.{◌≡◌, ◌<◌, ◌≤◌, length, IfOk};
+
+use cq_unify::{copy, unify, vars_of};
+use cq_atoms::Atoms;
+use cq_frac::{Frac, VarId};
+use cq_term::{Atom, Heap, Newly, TermId, View};
+use std::alloc::AllocError;
+use std::test::Fail;
+
+const DEPTH: usize = 200_000;
+
+/// A name over two terms.
+fn pair(heap: &mut Heap, name: Atom, first: TermId, second: TermId) -> Result<TermId, AllocError>
+    requires first { first < length heap.old.now.terms }
+    requires second { second < length heap.old.now.terms }
+    ensures live { IfOk result (λ id. id < length heap.new.now.terms) }
+    ensures more { length heap.old.now.terms ≤ length heap.new.now.terms }
+{
+    heap.compound(name, &[first, second])
+}
+
+fn unified(heap: &mut Heap, newly: &mut Newly, a: TermId, b: TermId) -> Result<bool, AllocError>
+    requires a { a < length heap.old.now.terms }
+    requires b { b < length heap.old.now.terms }
+    ensures more { length heap.old.now.terms ≤ length heap.new.now.terms }
+{
+    let same = unify(heap, newly, a, b)?;
+    Ok(same)
+}
+
+fn variable(heap: &mut Heap) -> Result<TermId, AllocError>
+    ensures live { IfOk result (λ id. id < length heap.new.now.terms) }
+    ensures more { length heap.old.now.terms ≤ length heap.new.now.terms }
+{
+    let id = heap.new_var()?;
+    Ok(id)
+}
+
+fn constant(heap: &mut Heap, name: Atom) -> Result<TermId, AllocError>
+    ensures live { IfOk result (λ id. id < length heap.new.now.terms) }
+    ensures more { length heap.old.now.terms ≤ length heap.new.now.terms }
+{
+    let id = heap.atom(name)?;
+    Ok(id)
+}
+
+/// f(X, Y) and f(Y, f), where X is unbound before and the name f after.
+fn become_a_name(heap: &mut Heap, newly: &mut Newly, f: Atom) -> Result<bool, AllocError> {
+    let x = variable(heap)?;
+    let y = variable(heap)?;
+    let name = constant(heap, f)?;
+    let left = pair(heap, f, x, y)?;
+    let right = pair(heap, f, y, name)?;
+    let same = unified(heap, newly, left, right)?;
+    Ok(same && heap.view(x) == View::Name(f) && newly.as_slice().len() == 2)
+}
+
+/// f(X, f) and f(f, f(X, f)).
+fn clash_at_the_end(heap: &mut Heap, newly: &mut Newly, f: Atom) -> Result<bool, AllocError> {
+    let x = variable(heap)?;
+    let name = constant(heap, f)?;
+    let left = pair(heap, f, x, name)?;
+    let right = pair(heap, f, name, left)?;
+    let same = unified(heap, newly, left, right)?;
+    Ok(!same && heap.view(x) != View::Name(f) && newly.as_slice().len() == 0)
+}
+
+/// X and f.
+fn becomes_a_name(heap: &mut Heap, newly: &mut Newly, f: Atom) -> Result<bool, AllocError> {
+    let x = variable(heap)?;
+    let name = constant(heap, f)?;
+    let same = unified(heap, newly, x, name)?;
+    Ok(same && heap.view(x) == View::Name(f) && newly.as_slice().len() == 1)
+}
+
+/// f and f, which are two terms of the heap, and f beside 1.
+fn are_told_apart(heap: &mut Heap, newly: &mut Newly, f: Atom) -> Result<bool, AllocError> {
+    let name = constant(heap, f)?;
+    let again = constant(heap, f)?;
+    let one = heap.number(Frac::one())?;
+    Ok(unified(heap, newly, name, again)? && !unified(heap, newly, name, one)?)
+}
+
+/// Two variables.
+fn become_equal(heap: &mut Heap, newly: &mut Newly) -> Result<bool, AllocError> {
+    let older = variable(heap)?;
+    let younger = variable(heap)?;
+    let shown = heap.view(older);
+    let same = unified(heap, newly, older, younger)?;
+    Ok(same && heap.view(younger) == shown && newly.as_slice().len() == 1)
+}
+
+/// A name over one term.
+fn over(heap: &mut Heap, name: Atom, part: TermId) -> Result<TermId, AllocError>
+    requires { part < length heap.old.now.terms }
+    ensures live { IfOk result (λ id. id < length heap.new.now.terms) }
+    ensures more { length heap.old.now.terms ≤ length heap.new.now.terms }
+{
+    heap.compound(name, &[part])
+}
+
+/// X and f(X).
+fn become_one(heap: &mut Heap, newly: &mut Newly, f: Atom) -> Result<bool, AllocError> {
+    let x = variable(heap)?;
+    let around = over(heap, f, x)?;
+    unified(heap, newly, x, around)
+}
+
+/// The pairs that become equal, each told to an empty list.
+fn become_equal_each(heap: &mut Heap, newly: &mut Newly, f: Atom) -> Result<bool, AllocError> {
+    let names = become_a_name(heap, newly, f)?;
+    newly.truncate(0);
+    let name = becomes_a_name(heap, newly, f)?;
+    newly.truncate(0);
+    let variables = become_equal(heap, newly)?;
+    newly.truncate(0);
+    Ok(names && name && variables)
+}
+
+#[test]
+fn terms_become_equal_or_stay_as_they_are(rt: HostRuntime) -> Result<(), Fail> {
+    let f = Atoms::new(rt.alloc()).intern("f")?;
+    let mut heap = Heap::new(rt.alloc());
+    let mut newly = Newly::new(rt.alloc());
+    assert!(rt; become_equal_each(&mut heap, &mut newly, f)?);
+    assert!(rt; clash_at_the_end(&mut heap, &mut newly, f)?);
+    assert!(rt; are_told_apart(&mut heap, &mut newly, f)?);
+    assert!(rt; !become_one(&mut heap, &mut newly, f)?);
+    Ok(())
+}
+
+/// Two lists of variables, each of the first one younger than its partner, and the first variable of the first list.
+#[derive(Clone, Copy)]
+struct Lists {
+    younger: TermId,
+    older: TermId,
+    youngest: TermId,
+}
+
+/// The youngest variables stand first, so that each is bound to one that is bound after it.
+fn shifted(heap: &mut Heap, name: Atom, oldest: TermId) -> Result<Lists, AllocError>
+    requires { oldest < length heap.old.now.terms }
+    ensures younger { IfOk result (λ made. made.younger < length heap.new.now.terms) }
+    ensures older { IfOk result (λ made. made.older < length heap.new.now.terms) }
+    ensures youngest { IfOk result (λ made. made.youngest < length heap.new.now.terms) }
+    ensures more { length heap.old.now.terms ≤ length heap.new.now.terms }
+{
+    let (mut younger, mut older, mut youngest) = (oldest, oldest, oldest);
+    for _variable in 0..DEPTH {
+        let next = variable(heap)?;
+        younger = pair(heap, name, next, younger)?;
+        older = pair(heap, name, youngest, older)?;
+        youngest = next;
+    }
+    Ok(Lists {
+        younger,
+        older,
+        youngest,
+    })
+}
+
+/// Two lists of the same length, after which the youngest variable is the oldest.
+fn become_a_chain(heap: &mut Heap, newly: &mut Newly, f: Atom) -> Result<bool, AllocError> {
+    let oldest = variable(heap)?;
+    let made = shifted(heap, f, oldest)?;
+    let same = unified(heap, newly, made.younger, made.older)?;
+    Ok(same && heap.view(made.youngest) == heap.view(oldest))
+}
+
+#[test]
+fn deep_terms_unify_into_a_long_chain(rt: HostRuntime) -> Result<(), Fail> {
+    let f = Atoms::new(rt.alloc()).intern("f")?;
+    let mut heap = Heap::new(rt.alloc());
+    let mut newly = Newly::new(rt.alloc());
+    assert!(rt; become_a_chain(&mut heap, &mut newly, f)?);
+    assert_eq!(rt; newly.as_slice().len(), DEPTH);
+    Ok(())
+}
+
+/// f(Y, f(X, Y)), where X is the older variable.
+fn sample(heap: &mut Heap, name: Atom) -> Result<TermId, AllocError>
+    ensures { IfOk result (λ id. id < length heap.new.now.terms) }
+{
+    let x = variable(heap)?;
+    let y = variable(heap)?;
+    let inner = pair(heap, name, x, y)?;
+    let whole = pair(heap, name, y, inner)?;
+    Ok(whole)
+}
+
+/// A variable under so many names.
+fn nested(heap: &mut Heap, name: Atom) -> Result<TermId, AllocError>
+    ensures { IfOk result (λ id. id < length heap.new.now.terms) }
+{
+    let inner = variable(heap)?;
+    let mut whole = inner;
+    for _level in 0..DEPTH {
+        whole = pair(heap, name, whole, inner)?;
+    }
+    Ok(whole)
+}
+
+fn copied(heap: &mut Heap, term: TermId) -> Result<TermId, AllocError>
+    requires { term < length heap.old.now.terms }
+    ensures live { IfOk result (λ id. id < length heap.new.now.terms) }
+    ensures more { IfOk result (λ id. length heap.old.now.terms ≤ length heap.new.now.terms) }
+{
+    let id = copy(heap, term)?;
+    Ok(id)
+}
+
+fn has_variables(heap: &Heap, term: TermId, expected: &[VarId]) -> Result<bool, AllocError>
+    requires { term < length heap.now.now.terms }
+{
+    let listed = vars_of(heap, term)?;
+    Ok(listed.as_slice() == expected)
+}
+
+/// The variables of the term and of its copy, numbered by age, on a heap that had none.
+fn has_new_variables(heap: &mut Heap, f: Atom) -> Result<bool, AllocError> {
+    let term = sample(heap, f)?;
+    let second = copied(heap, term)?;
+    let old = has_variables(heap, term, &[VarId(1), VarId(0)])?;
+    let new = has_variables(heap, second, &[VarId(2), VarId(3)])?;
+    Ok(old && new)
+}
+
+/// f and f(f).
+fn is_copied_as_it_is(heap: &mut Heap, f: Atom) -> Result<bool, AllocError> {
+    let name = constant(heap, f)?;
+    let around = over(heap, f, name)?;
+    let second = copied(heap, around)?;
+    let third = copied(heap, name)?;
+    Ok(heap.view(second) == View::Compound(f, 1) && heap.view(third) == View::Name(f))
+}
+
+/// The same of a term deeper than any stack, behind those four.
+fn has_a_new_variable(heap: &mut Heap, f: Atom) -> Result<bool, AllocError> {
+    let term = nested(heap, f)?;
+    let second = copied(heap, term)?;
+    has_variables(heap, second, &[VarId(5)])
+}
+
+#[test]
+fn copies_have_new_variables_in_the_order_of_the_term(rt: HostRuntime) -> Result<(), Fail> {
+    let f = Atoms::new(rt.alloc()).intern("f")?;
+    let mut heap = Heap::new(rt.alloc());
+    assert!(rt; has_new_variables(&mut heap, f)?);
+    assert!(rt; has_a_new_variable(&mut heap, f)?);
+    assert!(rt; is_copied_as_it_is(&mut heap, f)?);
+    Ok(())
+}

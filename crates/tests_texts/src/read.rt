@@ -1,0 +1,327 @@
+// Texts with what stands in them.
+
+ghost use Rattle.std.specs.Prelude.{◌≡◌, ◌<◌, false, length};
+
+use cq_read::{Fed, Feed, Read, read_clause};
+use cq_atoms::Atoms;
+use cq_ops::Ops;
+use cq_term::{Heap, TermId, View};
+use std::alloc::AllocError;
+use std::test::Fail;
+
+/// What stands at a place.
+enum Want {
+    /// A clause with this name and so many arguments, so many named variables, and the place behind it.
+    Clause(&'static str, usize, usize, usize),
+    End,
+    Syntax(usize, usize),
+}
+
+/// Whether a term has this name and so many arguments.
+fn has_head(
+    heap: &Heap,
+    atoms: &mut Atoms,
+    term: TermId,
+    name: &str,
+    arity: usize,
+) -> Result<bool, AllocError>
+    requires { term < length heap.now.now.terms }
+{
+    let atom = atoms.intern(name)?;
+    match &heap.view(term) {
+        View::Compound(f, count) => Ok(*f == atom && *count == arity),
+        View::Name(f) => Ok(*f == atom && arity == 0),
+        _ => Ok(false),
+    }
+}
+
+/// Whether this stands at a place.
+fn stands(
+    heap: &mut Heap,
+    atoms: &mut Atoms,
+    ops: &Ops,
+    text: &str,
+    at: usize,
+    want: &Want,
+) -> Result<bool, AllocError> {
+    if at > text.len() {
+        return Ok(false);
+    }
+    match read_clause(heap, atoms, ops, text.as_bytes(), at)? {
+        Read::Clause { term, names, next } => match want {
+            Want::Clause(name, arity, count, end) => {
+                Ok(
+                    next == *end
+                        && names.len() == *count
+                        && has_head(heap, atoms, term, name, *arity)?,
+                )
+            }
+            _ => Ok(false),
+        },
+        Read::End => Ok(matches!(want, Want::End)),
+        Read::Syntax { at, resume } => match want {
+            Want::Syntax(error, on) => Ok(at == *error && resume == *on),
+            _ => Ok(false),
+        },
+    }
+}
+
+const ROWS: [(&str, usize, Want); 32] = [
+    ("", 0, Want::End),
+    (" % nothing", 0, Want::End),
+    ("a. /* b. */ ", 2, Want::End),
+    ("a.", 0, Want::Clause("a", 0, 0, 2)),
+    ("a. b.\n", 2, Want::Clause("b", 0, 0, 5)),
+    ("?- write(a).", 0, Want::Clause("?-", 1, 0, 12)),
+    ("?- {X = ", 0, Want::Syntax(8, 8)),
+    ("?- a b. true.", 0, Want::Syntax(5, 7)),
+    ("?- a b. true.", 7, Want::Clause("true", 0, 0, 13)),
+    ("?- X = 1.5.", 0, Want::Syntax(8, 11)),
+    (
+        "?- X = 170141183460469231731687303715884105728.",
+        0,
+        Want::Syntax(7, 47),
+    ),
+    (
+        "?- {X=170141183460469231731687303715884105727*2}.",
+        0,
+        Want::Clause("?-", 1, 1, 49),
+    ),
+    (
+        "?- X = 'hello world', Y = [a|T], Z = -(1), W = (a:-b).",
+        0,
+        Want::Clause("?-", 1, 5, 54),
+    ),
+    (
+        "p(X,_,Y,_,X,_Z):-q(Y),\n r.",
+        0,
+        Want::Clause(":-", 2, 3, 26),
+    ),
+    ("- 1.", 0, Want::Clause("-", 1, 0, 4)),
+    ("a- -1.", 0, Want::Clause("-", 2, 0, 6)),
+    (
+        "f(0'a,0x1F,1r3,\"ab\",'it''s','\\x41\\').",
+        0,
+        Want::Clause("f", 6, 0, 37),
+    ),
+    ("{}. [].", 0, Want::Clause("{}", 0, 0, 3)),
+    ("{}. [].", 3, Want::Clause("[]", 0, 0, 7)),
+    ("[a,b|c].", 0, Want::Clause(".", 2, 0, 8)),
+    ("{a,b}.", 0, Want::Clause("{}", 1, 0, 6)),
+    ("a:-b,!;c->d.", 0, Want::Clause(":-", 2, 0, 12)),
+    ("\\+a. - (1). -(1).", 4, Want::Clause("-", 1, 0, 11)),
+    ("äÖ(Ä,é).", 0, Want::Clause("äÖ", 2, 0, 12)),
+    (" . a.", 0, Want::Syntax(1, 2)),
+    ("f(. g(. a.", 0, Want::Syntax(2, 3)),
+    ("f(. g(. a.", 3, Want::Syntax(6, 7)),
+    ("f(. g(. a.", 7, Want::Clause("a", 0, 0, 10)),
+    ("'ab. c.\nd. e.", 0, Want::Syntax(7, 10)),
+    ("a /* b. c", 0, Want::Syntax(9, 9)),
+    ("a b 'x", 0, Want::Syntax(2, 6)),
+    ("a % b.\n. c", 0, Want::Clause("a", 0, 0, 8)),
+];
+
+#[test]
+fn places_have_what_stands_there(rt: HostRuntime) -> Result<(), Fail> {
+    let mut atoms = Atoms::new(rt.alloc());
+    let ops = Ops::standard(rt.alloc(), &mut atoms)?;
+    let mut heap = Heap::new(rt.alloc());
+    for (text, at, want) in &ROWS {
+        assert!(rt;
+            stands(&mut heap, &mut atoms, &ops, text, *at, want)?,
+            "{text} at {at}"
+        );
+    }
+    Ok(())
+}
+
+/// What was read, as far as these tests compare it.
+#[derive(Clone, Copy, Debug, PartialEq, Eq)]
+enum Outcome {
+    /// How many named variables, and the place behind.
+    Clause(usize, usize),
+    End,
+    Syntax(usize, usize),
+}
+
+fn outcome_of(read: &Read) -> Outcome {
+    match read {
+        Read::Clause { names, next, .. } => Outcome::Clause(names.len(), *next),
+        Read::End => Outcome::End,
+        Read::Syntax { at, resume } => Outcome::Syntax(*at, *resume),
+    }
+}
+
+/// What is read from a place of a text on, up to its end.
+fn read_whole(
+    heap: &mut Heap,
+    atoms: &mut Atoms,
+    ops: &Ops,
+    text: &[u8],
+) -> Result<Vec<Outcome>, AllocError> {
+    let mut found = Vec::new(heap.alloc());
+    let mut place = 0;
+    for _turn in 0..64 {
+        let read = read_clause(heap, atoms, ops, text, place)?;
+        found.push(outcome_of(&read))?;
+        match read {
+            Read::Clause { next, .. } => place = next,
+            Read::End => return Ok(found),
+            Read::Syntax { resume, .. } => place = resume,
+        }
+    }
+    Ok(found)
+}
+
+/// Reads on in a feed until it needs more or is at its end.
+fn drain(
+    feed: &mut Feed,
+    heap: &mut Heap,
+    atoms: &mut Atoms,
+    ops: &Ops,
+    found: &mut Vec<Outcome>,
+) -> Result<(), AllocError>
+    ensures { feed.new.finished ≡ feed.old.finished }
+{
+    for _turn in 0..64 {
+        match feed.next(heap, atoms, ops)? {
+            Fed::Needs => return Ok(()),
+            Fed::Read(read) => {
+                found.push(outcome_of(&read))?;
+                if matches!(read, Read::End) {
+                    return Ok(());
+                }
+            }
+        }
+    }
+    Ok(())
+}
+
+/// What a feed reads of a text in pieces of so many bytes.
+fn read_pieces(
+    heap: &mut Heap,
+    atoms: &mut Atoms,
+    ops: &Ops,
+    text: &[u8],
+    size: usize,
+) -> Result<Vec<Outcome>, AllocError>
+    requires { 0 < size }
+{
+    let mut found = Vec::new(heap.alloc());
+    let mut feed = Feed::new(heap.alloc());
+    for piece in text.chunks(size) {
+        feed.push(piece)?;
+        drain(&mut feed, heap, atoms, ops, &mut found)?;
+    }
+    feed.finish();
+    drain(&mut feed, heap, atoms, ops, &mut found)?;
+    Ok(found)
+}
+
+/// Whether pieces of so many bytes read as the whole text does.
+fn agree(
+    heap: &mut Heap,
+    atoms: &mut Atoms,
+    ops: &Ops,
+    text: &str,
+    size: usize,
+) -> Result<bool, AllocError>
+    requires { 0 < size }
+{
+    let whole = read_whole(heap, atoms, ops, text.as_bytes())?;
+    let pieces = read_pieces(heap, atoms, ops, text.as_bytes(), size)?;
+    Ok(whole == pieces)
+}
+
+/// Whether pieces of one, two and seven bytes read as the whole text does.
+fn all_agree(
+    heap: &mut Heap,
+    atoms: &mut Atoms,
+    ops: &Ops,
+    text: &str,
+) -> Result<bool, AllocError> {
+    let one = agree(heap, atoms, ops, text, 1)?;
+    let two = agree(heap, atoms, ops, text, 2)?;
+    let seven = agree(heap, atoms, ops, text, 7)?;
+    Ok(one && two && seven)
+}
+
+const TEXTS: [&str; 12] = [
+    "",
+    "a. b.\n c(X,Y,X).\n",
+    "p:-q,r.% comment.\n/* more. */ s.\n",
+    "f(. g(. a.\n",
+    "'ab. c.\nd. e.\n",
+    "'a\\q. b' . c. 'd''. e'. f.\n",
+    "a /* b. c",
+    "f(a",
+    "x = \"a. b\". 0'a. 0'. . a.b. c.\n",
+    "1.5. 2. 170141183460469231731687303715884105728. 3.\n",
+    "0000170141183460469231731687303715884105728. 1r0. 0r0. 000r00. b. 00x1. 007.\n",
+    "ä. é(Ö). `. \u{a0}.\n",
+];
+
+#[test]
+fn pieces_read_as_the_whole_text(rt: HostRuntime) -> Result<(), Fail> {
+    let mut atoms = Atoms::new(rt.alloc());
+    let ops = Ops::standard(rt.alloc(), &mut atoms)?;
+    let mut heap = Heap::new(rt.alloc());
+    for text in TEXTS {
+        assert!(rt; all_agree(&mut heap, &mut atoms, &ops, text)?, "{text}");
+    }
+    Ok(())
+}
+
+/// Whether the feed's next answer is a clause that ends at a place.
+fn reads_clause(
+    feed: &mut Feed,
+    heap: &mut Heap,
+    atoms: &mut Atoms,
+    ops: &Ops,
+    next: usize,
+) -> Result<bool, AllocError>
+    ensures { feed.new.finished ≡ feed.old.finished }
+{
+    match feed.next(heap, atoms, ops)? {
+        Fed::Read(read) => Ok(outcome_of(&read) == Outcome::Clause(0, next)),
+        Fed::Needs => Ok(false),
+    }
+}
+
+/// The same behind one more piece.
+fn piece_reads_clause(
+    feed: &mut Feed,
+    heap: &mut Heap,
+    atoms: &mut Atoms,
+    ops: &Ops,
+    piece: &[u8],
+    next: usize,
+) -> Result<bool, AllocError>
+    requires { feed.old.finished ≡ false }
+    ensures { feed.new.finished ≡ false }
+{
+    feed.push(piece)?;
+    reads_clause(feed, heap, atoms, ops, next)
+}
+
+const PIECES: [(&[u8], usize, bool); 4] = [
+    (b"a. b.", 2, true),
+    (b"", 5, false),
+    (b"\n", 5, true),
+    (b"c.", 8, false),
+];
+
+#[test]
+fn a_final_full_stop_waits_for_what_follows(rt: HostRuntime) -> Result<(), Fail> {
+    let mut atoms = Atoms::new(rt.alloc());
+    let ops = Ops::standard(rt.alloc(), &mut atoms)?;
+    let mut heap = Heap::new(rt.alloc());
+    let mut feed = Feed::new(rt.alloc());
+    for (piece, next, want) in PIECES {
+        let is_read = piece_reads_clause(&mut feed, &mut heap, &mut atoms, &ops, piece, next)?;
+        assert!(rt; is_read == want, "{next}");
+    }
+    feed.finish();
+    assert!(rt; reads_clause(&mut feed, &mut heap, &mut atoms, &ops, 8)?);
+    Ok(())
+}
