@@ -2,6 +2,7 @@
 use Rattle.std.proofs.Common.{◌≡◌, ◌↔◌, ℕ, zero, suc, pred, ◌<◌, List, length, Bool, true, false, ◌||◌, Option, None, Some, inl, inr, arith, refl, ap, sym, subst, ◌∙◌}
 use Rattle.std.specs.Prelude.{slice_get}
 use Rattle.std.proofs.lemmas.Option.{none-some, slice_get_within}
+use Rattle.spec_lists.proofs.Tests.{one_is, or_left, or_right}
 use Rattle.spec_rational.specs.Sums.{factor_of}
 use Rattle.spec_linear.specs.Form.{Linear}
 use Rattle.spec_linear.specs.Solution.{Constraint, Has}
@@ -26,7 +27,7 @@ use Rattle.cq_tableau.specs.Quantities.{name_of, quantity_of, place, quantity_he
 use Rattle.cq_tableau.proofs.Tied.{constant_row, factor_same}
 use Rattle.cq_tableau.proofs.Numbering.{IsPicked, of_picked, proper}
 use Rattle.cq_tableau.proofs.Shortened.{visible, visible_is, not_hidden, hide, still_due, hidden_chain}
-use Rattle.cq_tableau.proofs.Working.{IsAtWork, Here, unnumbered, clash, either_is, or_first, or_second, inequality_apart, member_is, there, live, zeros, expression, one_place, same_place, here_below, restricted_here, restricted_flag, quantity_named, form_named, pick_in, picks_here, live_named, outside, feasible, written_at, name_back}
+use Rattle.cq_tableau.proofs.Working.{IsAtWork, Here, unnumbered, clash, inequality_apart, member_is, there, live, zeros, expression, one_place, same_place, here_below, restricted_here, restricted_flag, quantity_named, form_named, pick_in, picks_here, live_named, outside, feasible, written_at, name_back}
 
 module _ (l : List Constraint) (names : List Name) (asked forms : List Linear) (roles : List Role) (flags : List Bool) (w : IsAtWork l names asked forms roles flags)
     (one : (i j : ℕ) → i < length roles → j < length roles → slice_get names i ≡ None → slice_get names j ≡ None → i ≡ j)
@@ -131,7 +132,7 @@ module _ (l : List Constraint) (names : List Name) (asked forms : List Linear) (
           absurd (outside l names asked forms roles flags w (quantity_of t.0)
           (pick_in l names asked forms roles flags w (is_live roles) n t.0 t.1 e)
           (pick_in l names asked forms roles flags w (λ n. is_dropped roles n || stands_apart l (slice_get names n)) n t.0 t.1
-          (or_second (is_dropped roles n) (hidden n) h)))
+          (or_right (is_dropped roles n) (hidden n) h)))
 
   -- ---- the dictionary
   -- a row's numbers
@@ -168,7 +169,7 @@ module _ (l : List Constraint) (names : List Name) (asked forms : List Linear) (
 
     row_not_zero : (n : ℕ) (t : Name) → slice_get names n ≡ Some t → is_row roles n ≡ true → hidden n ≡ false → Has (quantity_of t) (zeros l names asked forms roles flags w) → ⊥
     row_not_zero n t e r s h =
-        elim (either_is (is_dropped roles n) (hidden n) (same_number (λ n. is_dropped roles n || stands_apart l (slice_get names n)) n t e
+        elim (one_is (is_dropped roles n) (hidden n) (same_number (λ n. is_dropped roles n || stands_apart l (slice_get names n)) n t e
         (of_picked (λ n. is_dropped roles n || stands_apart l (slice_get names n)) 0 names (quantity_of t) h))) [
           | inl d ↦ clash (is_row roles n) r (dropped_is_no_row roles n d)
           | inr k ↦ clash (hidden n) k s
@@ -232,7 +233,7 @@ module _ (l : List Constraint) (names : List Name) (asked forms : List Linear) (
         role_row q h x y Dropped k =
             absurd (y (subst (λ r. Has r (zeros l names asked forms roles flags w)) (name_back q)
             (pick_in l names asked forms roles flags w (λ n. is_dropped roles n || stands_apart l (slice_get names n)) h.number (name_of q) h.named
-            (or_first (is_dropped roles h.number) (hidden h.number) (dropped_at roles h.number Dropped k)))))
+            (or_left (is_dropped roles h.number) (hidden h.number) (dropped_at roles h.number Dropped k)))))
         role_row q h x y (Basic r) k = row_is roles h.number r k
 
     -- ---- a chain of the search

@@ -3,6 +3,7 @@ use Rattle.std.proofs.Common.{◌≡◌, ℕ, zero, suc, ◌+◌, ◌<◌, List,
 use Rattle.std.specs.Prelude.{slice_get}
 use Rattle.std.proofs.lemmas.Option.{none-some, same_Some, slice_get_within}
 use Rattle.spec_lists.proofs.Tests.{nat_eq-sym}
+use Rattle.spec_lists.proofs.Tests.{one_is, or_left, or_right}
 use Rattle.spec_rational.specs.Rational.{ℚ, 0ℚ, 1ℚ, neg_ℚ, ◌+ℚ◌, ◌*ℚ◌, IsNotNegative}
 use Rattle.spec_rational.specs.Sums.{Monomial, factor_of, sum_at, when}
 use Rattle.spec_rational.proofs.Ring.{var, int, ◌⊕◌, ◌⊗◌, minus}
@@ -84,18 +85,6 @@ has_member (c ∷ l) (suc i) h = inr (has_member l i (omega (arith, h)))
 
 pub clash : (b : Bool) → b ≡ true → b ≡ false → ⊥
 clash b h k = cc
-
-pub either_is : (a b : Bool) → (a || b) ≡ true → (a ≡ true) ⊎ (b ≡ true)
-either_is true b e = inl refl
-either_is false b e = inr e
-
-pub or_first : (a b : Bool) → a ≡ true → (a || b) ≡ true
-or_first true b e = refl
-or_first false b e = cc
-
-pub or_second : (a b : Bool) → b ≡ true → (a || b) ≡ true
-or_second true b e = refl
-or_second false b e = e
 
 equation_is : (r : Relation) → is_equation r ≡ true → r ≡ Eq
 equation_is Eq e = refl
@@ -302,7 +291,7 @@ module _ (l : List Constraint) (names : List Name) (asked forms : List Linear) (
   dropped_in_zeros q h =
       let k = of_picked (is_dropped roles) 0 names q h in
       subst (λ r. Has r zeros) (sym k.is)
-      (pick_in is_zero k.place k.name k.there (or_first (is_dropped roles k.place) (stands_apart l (slice_get names k.place)) (picks_here (is_dropped roles) q k)))
+      (pick_in is_zero k.place k.name k.there (or_left (is_dropped roles k.place) (stands_apart l (slice_get names k.place)) (picks_here (is_dropped roles) q k)))
 
   pub within_zeros : (v : ℕ → ℚ) → AllZero l v zeros → Within (tableau roles flags forms) v
   within_zeros v z c h =
@@ -330,7 +319,7 @@ module _ (l : List Constraint) (names : List Name) (asked forms : List Linear) (
   zeros_within v h = all_zero l v zeros (λ q m.
       let k = of_picked is_zero 0 names q m in
       amount_named v is_zero q k
-      ∙ elim (either_is (is_dropped roles k.place) (stands_apart l (slice_get names k.place)) (picks_here is_zero q k)) [
+      ∙ elim (one_is (is_dropped roles k.place) (stands_apart l (slice_get names k.place)) (picks_here is_zero q k)) [
         | inl d ↦ h k.place d
         | inr s ↦ apart_zero v (equations_within v h) k.place k.name k.there (subst (λ o. stands_apart l o ≡ true) k.there s)
       ])
@@ -415,7 +404,7 @@ module _ (l : List Constraint) (names : List Name) (asked forms : List Linear) (
   -- ---- feasible
   -- no live column is in the zero set
   pub outside : (q : Quantity) → Has q live → Has q zeros → ⊥
-  outside q h k = elim (either_is (is_dropped roles y.place) (stands_apart l (slice_get names y.place)) (picks_here is_zero q y)) [
+  outside q h k = elim (one_is (is_dropped roles y.place) (stands_apart l (slice_get names y.place)) (picks_here is_zero q y)) [
     | inl d ↦ not_both roles y.place here_live d
     | inr s ↦ one_not_zero (sym (v.live y.place here_live) ∙ apart_zero v.at (equations_within v.at v.dropped) y.place y.name y.there (subst (λ o. stands_apart l o ≡ true) y.there s))
   ]
@@ -467,7 +456,7 @@ module _ (l : List Constraint) (names : List Name) (asked forms : List Linear) (
     equations = λ i b e.
         let h = here (member i) b in
         pick_in is_zero h.number (Member (suc i)) h.named
-        (or_second (is_dropped roles h.number) (stands_apart l (slice_get names h.number))
+        (or_right (is_dropped roles h.number) (stands_apart l (slice_get names h.number))
         (subst (λ o. stands_apart l o ≡ true) (sym h.named) (ap is_equation e)));
     constants = λ q r a b e u.
         let h = restricted_here q r in
