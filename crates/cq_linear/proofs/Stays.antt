@@ -37,7 +37,7 @@ use Rattle.cq_tableau.specs.Stored.{IsKnown, IsMemberOf, IsStored, IsStoredBy, I
 use Rattle.cq_tableau.specs.Values.{IsOpen, IsNumber, open_row, open_column, number_row, dropped_column}
 use Rattle.spec_tableau.specs.Fixing.{NewlyFixed}
 use Rattle.cq_frac.specs.declared.VarId.{VarId}
-use Rattle.cq_tableau.specs.Newly.{numbers_of, AreNewlyFixed}
+use Rattle.cq_tableau.specs.Newly.{AreNewlyFixed}
 use Rattle.cq_tableau.specs.Fixing.{AreOpen, AreFixedNow}
 use Rattle.cq_tableau.specs.Looked.{StandsAt, IsStrict, IsApart}
 use Rattle.cq_linear.specs.Faced.{HoldsAtZero, AllHold, IsNotZero, IsFace, IsOnFace}
@@ -45,6 +45,7 @@ use Rattle.cq_tableau.specs.Raised.{IsBest}
 use Rattle.cq_tableau.proofs.Certified.{greatest_constant}
 use Rattle.cq_tableau.proofs.Tied.{factor_same, entry_not_zero}
 use Rattle.cq_tableau.proofs.Steps.{flag_more, flag_only, flag_set, flag_still, form_more, form_last, dropped_more}
+use Rattle.cq_store.specs.Told.{numbers_of}
 use Rattle.cq_tableau.proofs.Storing.{keeps_last, member_by, unknown_not_fixed, known_or_not, asked_kept, placed_known}
 
 -- ---- rows that are something

@@ -12,7 +12,8 @@ ghost use Rattle.cq_frac.specs.declared.Pair.{Pair};
 ghost use Rattle.cq_linear.specs.declared.store.StoreFault.TheVariants.{Overflow, Pivots, NoMemory, Unsupported};
 ghost use Rattle.cq_linear.specs.Faults.{IsFaultOf, IsFaultOfSearch};
 ghost use Rattle.cq_linear.specs.Questions.{RefusesQuestion, SpendsQuestion};
-ghost use Rattle.cq_tableau.specs.Newly.{numbers_of, AreNewlyFixed};
+ghost use Rattle.cq_tableau.specs.Newly.{AreNewlyFixed};
+ghost use Rattle.cq_store.specs.Told.{numbers_of};
 ghost use Rattle.cq_linear.specs.StoreValue.{IfKept, IfUnsolvable, IsExtent, IsDepth, MayRefuse, MayTake, Only};
 
 use crate::entering::{Entered, Held, can_enter, enter};

@@ -27,7 +27,8 @@ use Rattle.cq_tableau.specs.Quantities.{name_of, quantity_of, place, quantity_he
 use Rattle.cq_tableau.proofs.Tied.{constant_row, factor_same}
 use Rattle.cq_tableau.proofs.Numbering.{IsPicked, of_picked, proper}
 use Rattle.cq_tableau.proofs.Shortened.{visible, visible_is, not_hidden, hide, still_due, hidden_chain}
-use Rattle.cq_tableau.proofs.Working.{IsAtWork, Here, unnumbered, clash, inequality_apart, member_is, there, live, zeros, expression, one_place, same_place, here_below, restricted_here, restricted_flag, quantity_named, form_named, pick_in, picks_here, live_named, outside, feasible, written_at, name_back}
+use Rattle.spec_simplex.proofs.Solutions.{true_not_false}
+use Rattle.cq_tableau.proofs.Working.{IsAtWork, Here, unnumbered, inequality_apart, member_is, there, live, zeros, expression, one_place, same_place, here_below, restricted_here, restricted_flag, quantity_named, form_named, pick_in, picks_here, live_named, outside, feasible, written_at, name_back}
 
 module _ (l : List Constraint) (names : List Name) (asked forms : List Linear) (roles : List Role) (flags : List Bool) (w : IsAtWork l names asked forms roles flags)
     (one : (i j : ℕ) → i < length roles → j < length roles → slice_get names i ≡ None → slice_get names j ≡ None → i ≡ j)
@@ -119,7 +120,7 @@ module _ (l : List Constraint) (names : List Name) (asked forms : List Linear) (
       go false e = e
       go true e =
           let o = w.owned n e in
-          absurd (clash (hidden n) h (ap (stands_apart l) o.named ∙ of_number o.number o.constraint o.told_at o.relation_is))
+          absurd (true_not_false (hidden n) h (ap (stands_apart l) o.named ∙ of_number o.number o.constraint o.told_at o.relation_is))
 
   -- hidden quantities are no live columns
   no_column : (n : ℕ) → hidden n ≡ true → is_live roles n ≡ false
@@ -165,14 +166,14 @@ module _ (l : List Constraint) (names : List Name) (asked forms : List Linear) (
   module _ (a : ℕ) (a_row : IsRow roles a) where
     row_not_column : (n : ℕ) (t : Name) → slice_get names n ≡ Some t → is_row roles n ≡ true → Has (quantity_of t) (live l names asked forms roles flags w) → ⊥
     row_not_column n t e r h =
-        clash (is_row roles n) r (live_is_no_row roles n (same_number (is_live roles) n t e (of_picked (is_live roles) 0 names (quantity_of t) h)))
+        true_not_false (is_row roles n) r (live_is_no_row roles n (same_number (is_live roles) n t e (of_picked (is_live roles) 0 names (quantity_of t) h)))
 
     row_not_zero : (n : ℕ) (t : Name) → slice_get names n ≡ Some t → is_row roles n ≡ true → hidden n ≡ false → Has (quantity_of t) (zeros l names asked forms roles flags w) → ⊥
     row_not_zero n t e r s h =
         elim (one_is (is_dropped roles n) (hidden n) (same_number (λ n. is_dropped roles n || stands_apart l (slice_get names n)) n t e
         (of_picked (λ n. is_dropped roles n || stands_apart l (slice_get names n)) 0 names (quantity_of t) h))) [
-          | inl d ↦ clash (is_row roles n) r (dropped_is_no_row roles n d)
-          | inr k ↦ clash (hidden n) k s
+          | inl d ↦ true_not_false (is_row roles n) r (dropped_is_no_row roles n d)
+          | inr k ↦ true_not_false (hidden n) k s
         ]
 
     shown_named : (n : ℕ) → hidden n ≡ false → (t : Name) × (slice_get names n ≡ Some t)
@@ -180,7 +181,7 @@ module _ (l : List Constraint) (names : List Name) (asked forms : List Linear) (
       where
         go : (o : Option Name) → slice_get names n ≡ o → (t : Name) × (slice_get names n ≡ Some t)
         go (Some t) e = (t, e)
-        go None e = absurd (clash (hidden n) (ap (stands_apart l) e) h)
+        go None e = absurd (true_not_false (hidden n) (ap (stands_apart l) e) h)
 
     shows : Shows (at_work l asked) (zeros l names asked forms roles flags w) (live l names asked forms roles flags w) (numbered l names) (form_at forms a) (hide hidden (dictionary roles a))
     shows = record {
@@ -223,7 +224,7 @@ module _ (l : List Constraint) (names : List Name) (asked forms : List Linear) (
           where
             go : (n : ℕ) (b : Bool) → hidden n ≡ b → is_restricted flags n ≡ true → hidden n ≡ false
             go n false e f = e
-            go n true e f = absurd (clash (is_restricted flags n) f (unrestricted n e))
+            go n true e f = absurd (true_not_false (is_restricted flags n) f (unrestricted n e))
 
         role_row : (q : Quantity) (h : Here l names asked forms roles flags w q) → (Has q (live l names asked forms roles flags w) → ⊥) → (Has q (zeros l names asked forms roles flags w) → ⊥)
             → (s : Role) → IsAt roles h.number s → is_row roles h.number ≡ true

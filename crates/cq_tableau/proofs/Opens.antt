@@ -10,10 +10,10 @@ use Rattle.cq_dict.specs.declared.table.Role.{Role}
 use Rattle.cq_dict.specs.Roles.{Quantities}
 use Rattle.cq_tableau.specs.declared.names.Name.{Name}
 use Rattle.cq_tableau.specs.declared.names.Name.TheVariants.{Variable}
-use Rattle.cq_tableau.specs.Newly.{numbers_of}
 use Rattle.cq_tableau.specs.Stored.{IsStored}
 use Rattle.cq_tableau.specs.Values.{IsNumber}
 use Rattle.cq_tableau.specs.Fixing.{AreOnce, HasNumber, IsOpenHere, AreOpen, HasValue, HasNoValue, AreFixedNow}
+use Rattle.cq_store.specs.Told.{numbers_of}
 use Rattle.cq_tableau.proofs.Drops.{has_end, has_left, has_last}
 
 numbers-end : (s : List VarId) (x : VarId) → numbers_of (s ++ x ∷ []) ≡ numbers_of s ++ x.0 ∷ []

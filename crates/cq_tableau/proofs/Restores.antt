@@ -35,6 +35,7 @@ use Rattle.cq_tableau.specs.Stored.{IsBetween}
 use Rattle.cq_tableau.proofs.Tied.{linked, still_describes, feasible_of, flag_below, unbounded}
 use Rattle.cq_tableau.proofs.Steps.{changed_more, feasible_more, described_row, form_last, more_length}
 use Rattle.cq_tableau.proofs.Storing.{placed_below, placed_value}
+use Rattle.spec_simplex.proofs.Solutions.{true_not_false}
 use Rattle.cq_tableau.proofs.Looks.{reached_speaks, search_feasible}
 
 -- ---- columns restored
@@ -59,9 +60,6 @@ restores_further flags old mid new a b = record {
   only = λ z h. a.only z (b.only z h);
   turned = λ z h. elim (a.turned z h) [ inl g ↦ b.turned z g | inr g ↦ inr (b.live z g.0, g.1) ];
 }
-
-clash : (b : Bool) → b ≡ true → b ≡ false → ⊥
-clash b e f = cc
 
 -- one column
 module _ (flags : List Bool) (old : List Role) (q : ℕ) (new : List Role) (k : ChangesKind old q Live new) (dropped : is_dropped old q ≡ true) where
@@ -89,7 +87,7 @@ module _ (flags : List Bool) (old : List Role) (q : ℕ) (new : List Role) (k : 
       now z e = subst (λ y. is_live new y ≡ true) (sym e) (live_at new q Live k.own)
 
       no_row : (z : ℕ) → z ≡ q → IsRow old z → ⊥
-      no_row z e r = clash (is_dropped old z) (subst (λ y. is_dropped old y ≡ true) (sym e) dropped) (dropped_at old z (Basic r.0) r.1)
+      no_row z e r = true_not_false (is_dropped old z) (subst (λ y. is_dropped old y ≡ true) (sym e) dropped) (dropped_at old z (Basic r.0) r.1)
 
 -- one number more
 pub none_further : (flags : List Bool) (old mid new : List Role) (q : ℕ) → Restores flags mid new → NoneBelow flags q mid
@@ -120,7 +118,7 @@ restored_speaks flags old new r forms l s =
     }
   where
     stay : (z : ℕ) → is_dropped old z ≡ true → is_restricted flags z ≡ false → is_dropped new z ≡ true
-    stay z h o = elim (r.turned z h) [ inl g ↦ g | inr g ↦ absurd (clash (is_restricted flags z) g.1 o) ]
+    stay z h o = elim (r.turned z h) [ inl g ↦ g | inr g ↦ absurd (true_not_false (is_restricted flags z) g.1 o) ]
 
 -- ---- the row is raised then
 module _ (flags : List Bool) (old mid : List Role) (r : Restores flags old mid) (n : NoneBelow flags (length old) mid) (q budget : ℕ) (new : List Role)

@@ -46,11 +46,12 @@ use Rattle.cq_tableau.specs.Forms as of_forms
 use Rattle.cq_tableau.specs.Forms.{form_at, tableau, Describes}
 use Rattle.cq_tableau.specs.Keeps.{Keeps, KeepsBoth, Joins}
 use Rattle.cq_tableau.specs.Stored.{IsKnown, IsMemberForm, IsMemberOf, IsEquation, IsStoredBy, IsStored, StaysStored, IsPlaced, JoinsStored}
-use Rattle.cq_tableau.specs.Newly.{numbers_of, AreNewlyFixed}
+use Rattle.cq_tableau.specs.Newly.{AreNewlyFixed}
 use Rattle.spec_tableau.specs.Fixing.{NewlyFixed}
 use Rattle.cq_tableau.specs.Numbered.{AreNumbered}
 use Rattle.cq_tableau.proofs.Tied.{linked, flag_below, searchable}
 use Rattle.cq_tableau.proofs.Steps.{unchanged, changed_more, feasible_more, described_column, described_row, flag_only, flag_set, flag_still, dropped_more, form_more, form_last, flag_more, more_length}
+use Rattle.cq_store.specs.Told.{numbers_of}
 use Rattle.cq_tableau.proofs.Joined.{written}
 
 -- ---- nothing yet

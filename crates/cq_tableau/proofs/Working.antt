@@ -2,8 +2,7 @@
 use Rattle.std.proofs.Common.{◌≡◌, ℕ, zero, suc, ◌+◌, ◌<◌, List, [], ◌∷◌, ◌++◌, length, Bool, true, false, ◌||◌, nat_eq, Option, None, Some, ◌⊎◌, inl, inr, pos, arith, refl, ap, ap₂, sym, subst, ◌∙◌}
 use Rattle.std.specs.Prelude.{slice_get}
 use Rattle.std.proofs.lemmas.Option.{none-some, same_Some, slice_get_within}
-use Rattle.spec_lists.proofs.Tests.{nat_eq-sym}
-use Rattle.spec_lists.proofs.Tests.{one_is, or_left, or_right}
+use Rattle.spec_lists.proofs.Tests.{nat_eq-sym, one_is, or_left, or_right}
 use Rattle.spec_rational.specs.Rational.{ℚ, 0ℚ, 1ℚ, neg_ℚ, ◌+ℚ◌, ◌*ℚ◌, IsNotNegative}
 use Rattle.spec_rational.specs.Sums.{Monomial, factor_of, sum_at, when}
 use Rattle.spec_rational.proofs.Ring.{var, int, ◌⊕◌, ◌⊗◌, minus}
@@ -39,11 +38,13 @@ use Rattle.cq_store.proofs.Dictionary as of_quantities
 use Rattle.cq_store.proofs.Dictionary.{sum_same, sum_zero, sum_plus, pick_one, has_either}
 use Rattle.cq_store.proofs.Feasible.{all_zero, zero_of, turned}
 use Rattle.cq_store.proofs.Causes.{at_work, not_both, form_pairs, pivot_pairs}
+use Rattle.spec_simplex.proofs.Solutions.{true_not_false}
+use Rattle.spec_projection.specs.Interior.{is_equation}
 use Rattle.cq_tableau.specs.declared.names.Name.{Name}
 use Rattle.cq_tableau.specs.declared.names.Name.TheVariants.{Variable, Member}
 use Rattle.cq_tableau.specs.Forms as of_forms
 use Rattle.cq_tableau.specs.Forms.{form_at, tableau, Describes}
-use Rattle.cq_tableau.specs.Quantities.{name_of, quantity_of, place, picked, is_equation, stands_apart}
+use Rattle.cq_tableau.specs.Quantities.{name_of, quantity_of, place, picked, stands_apart}
 use Rattle.cq_tableau.specs.Stored.{IsKnown, IsMemberForm, IsMemberOf, IsPlaced}
 use Rattle.cq_tableau.proofs.Tied.{linked}
 use Rattle.spec_tableau.proofs.Linked.{linked_written}
@@ -82,9 +83,6 @@ has_member : (l : List Constraint) (i : ℕ) → i < length l → Has (member_at
 has_member [] i h = absurd (omega (arith, h))
 has_member (c ∷ l) zero h = inl refl
 has_member (c ∷ l) (suc i) h = inr (has_member l i (omega (arith, h)))
-
-pub clash : (b : Bool) → b ≡ true → b ≡ false → ⊥
-clash b h k = cc
 
 equation_is : (r : Relation) → is_equation r ≡ true → r ≡ Eq
 equation_is Eq e = refl

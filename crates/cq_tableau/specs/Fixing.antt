@@ -8,8 +8,8 @@ use Rattle.cq_dict.specs.declared.table.Role.{Role}
 use Rattle.cq_dict.specs.Roles.{Quantities}
 use Rattle.cq_tableau.specs.declared.names.Name.{Name}
 use Rattle.cq_tableau.specs.declared.names.Name.TheVariants.{Variable}
-use Rattle.cq_tableau.specs.Newly.{numbers_of}
 use Rattle.cq_tableau.specs.Stored.{IsStored}
+use Rattle.cq_store.specs.Told.{numbers_of}
 use Rattle.cq_tableau.specs.Values.{IsOpen, IsNumber}
 
 -- no name stands twice

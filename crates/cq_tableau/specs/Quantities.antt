@@ -1,10 +1,9 @@
 -- Names as quantities of the told list, and forms of the named variables.
 use Rattle.std.specs.Prelude.{ℕ, suc, pred, List, [], ◌∷◌, length, Bool, true, false, nat_eq, Option, None, Some, slice_get}
-use Rattle.spec_linear.specs.declared.Relation.{Relation}
-use Rattle.spec_linear.specs.declared.Relation.TheVariants.{Eq, Gt, Ge, Ne}
 use Rattle.spec_linear.specs.Solution.{Constraint}
 use Rattle.spec_linear.specs.Form.{Linear, variable_form}
 use Rattle.spec_limits.specs.Dictionary.{Quantity, variable, member, member_at}
+use Rattle.spec_projection.specs.Interior.{is_equation}
 use Rattle.cq_row.specs.Rows.{choose}
 use Rattle.cq_tableau.specs.declared.names.Name.{Name}
 use Rattle.cq_tableau.specs.declared.names.Name.TheVariants.{Variable, Member}
@@ -49,12 +48,6 @@ abbrev pub numbered : List Constraint → List Name → ℕ → Quantity
 numbered told names i = quantity_here told (slice_get names i)
 
 -- an equation's form, or a form without a name
-abbrev pub is_equation : Relation → Bool
-is_equation Eq = true
-is_equation Gt = false
-is_equation Ge = false
-is_equation Ne = false
-
 abbrev pub stands_apart : List Constraint → Option Name → Bool
 stands_apart told None = true
 stands_apart told (Some (Variable x)) = false

@@ -11,9 +11,10 @@ use Rattle.cq_frac.specs.declared.VarId.{VarId}
 use Rattle.cq_row.specs.declared.Entry.{Entry}
 use Rattle.cq_dict.specs.declared.table.Role.{Role}
 use Rattle.cq_dict.specs.Roles.{Quantities, is_dropped, is_restricted}
+use Rattle.cq_store.specs.Told.{numbers_of}
 use Rattle.cq_tableau.specs.declared.names.Name.{Name}
 use Rattle.cq_tableau.specs.declared.names.Name.TheVariants.{Variable, Member}
-use Rattle.cq_tableau.specs.Newly.{numbers_of, AreNewlyFixed}
+use Rattle.cq_tableau.specs.Newly.{AreNewlyFixed}
 use Rattle.cq_tableau.specs.Forms.{form_at}
 use Rattle.cq_tableau.specs.Keeps.{Keeps, Speaks}
 

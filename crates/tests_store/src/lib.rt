@@ -10,6 +10,8 @@ mod frac;
 #[cfg(test)]
 mod level;
 #[cfg(test)]
+mod linear;
+#[cfg(test)]
 mod simplex;
 #[cfg(test)]
 mod store;
