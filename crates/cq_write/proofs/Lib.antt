@@ -3,5 +3,7 @@ pub mod Heads
 pub mod Texts
 pub mod Expansions
 pub mod Steps
+pub mod Bare
+pub mod Begun
 pub mod Loop
 pub mod Naming

@@ -11,6 +11,7 @@ use Rattle.cq_write.specs.declared.jobs.Part.{Part}
 use Rattle.cq_write.specs.declared.jobs.Job.{Job}
 use Rattle.cq_write.specs.declared.jobs.Job.TheVariants as job
 use Rattle.cq_write.proofs.Texts.{whole_text}
+use Rattle.cq_write.proofs.Begun.{put_all-append, all_pieces-append, ready_append, jobs_weight-append}
 
 pub reverse_pop : (old rest : List Job) (j : Job) → old ≡ rest ++ j ∷ [] → reverse old ≡ j ∷ reverse rest
 reverse_pop old rest j e = ap reverse e ∙ reverse-append rest (j ∷ [])
@@ -19,41 +20,37 @@ reverse_grow : (old js : List Job) → reverse (old ++ reverse js) ≡ js ++ rev
 reverse_grow old js = reverse-append old (reverse js) ∙ ap (λ ks. ks ++ reverse old) (reverse-reverse js)
 
 module _ (s : Setting) where
-  all_pieces-append : (js ks : List Job) → all_pieces s (js ++ ks) ≡ all_pieces s js ++ all_pieces s ks
-  all_pieces-append [] ks = refl
-  all_pieces-append (j ∷ js) ks = ap (λ ps. job_pieces s j ++ ps) (all_pieces-append js ks) ∙ sym (append_assoc (job_pieces s j) (all_pieces s js) (all_pieces s ks))
-
-  ready_append : (js ks : List Job) → AreReady s js → AreReady s ks → AreReady s (js ++ ks)
-  ready_append [] ks h g = g
-  ready_append (j ∷ js) ks h g = (h.0, ready_append js ks h.1 g)
-
-  jobs_weight-append : (js ks : List Job) → jobs_weight s (js ++ ks) ≡ jobs_weight s js + jobs_weight s ks
-  jobs_weight-append [] ks = omega arith
-  jobs_weight-append (j ∷ js) ks = omega (arith, jobs_weight-append js ks)
-
   -- the top of the stack is taken off
   pub ready_pop : (old rest : List Job) (j : Job) → old ≡ rest ++ j ∷ [] → AreReady s (reverse old) → IsReady s j × AreReady s (reverse rest)
   ready_pop old rest j e h = subst (AreReady s) (reverse_pop old rest j e) h
 
-  -- and the jobs of a part come to it
-  module _ (old rest new : List Job) (p : Part) (e : old ≡ rest ++ job.Part p ∷ []) (x : Expands s p rest new) where
-    grown : reverse new ≡ x.0 ++ reverse rest
-    grown = ap reverse x.1 ∙ reverse_grow rest x.0
+  -- and the jobs of a part are begun
+  module _ (before after : Written) (old rest new : List Job) (p : Part) (e : old ≡ rest ++ job.Part p ∷ []) (x : Expands s p before after rest new) where
+    abbrev left : List Job
+    left = x.2.1
 
-    pub part_text : all_pieces s (reverse new) ≡ all_pieces s (reverse old)
-    part_text =
-        ap (all_pieces s) grown ∙ all_pieces-append x.0 (reverse rest) ∙ ap (λ ps. ps ++ all_pieces s (reverse rest)) x.2.pieces
-        ∙ sym (ap (all_pieces s) (reverse_pop old rest (job.Part p) e))
+    grown : reverse new ≡ left ++ reverse rest
+    grown = ap reverse x.2.3 ∙ reverse_grow rest left
+
+    -- the pieces that are written and those that are left are the ones of before
+    whole : x.2.0 ++ all_pieces s (reverse new) ≡ all_pieces s (reverse old)
+    whole =
+        ap (λ ks. x.2.0 ++ all_pieces s ks) grown ∙ ap (λ ps. x.2.0 ++ ps) (all_pieces-append s left (reverse rest)) ∙ sym (append_assoc x.2.0 (all_pieces s left) (all_pieces s (reverse rest)))
+        ∙ ap (λ ps. ps ++ all_pieces s (reverse rest)) (x.2.4.pieces ∙ x.1.pieces) ∙ sym (ap (all_pieces s) (reverse_pop old rest (job.Part p) e))
+
+    pub part_text : put_all after (all_pieces s (reverse new)) ≡ put_all before (all_pieces s (reverse old))
+    part_text = ap (λ l. put_all l (all_pieces s (reverse new))) x.2.2 ∙ sym (put_all-append before x.2.0 (all_pieces s (reverse new))) ∙ ap (put_all before) whole
 
     pub part_ready : AreReady s (reverse rest) → AreReady s (reverse new)
-    part_ready h = subst (AreReady s) (sym grown) (ready_append x.0 (reverse rest) x.2.ready h)
+    part_ready h = subst (AreReady s) (sym grown) (ready_append s left (reverse rest) (x.2.4.ready x.1.ready) h)
 
     pub part_lighter : jobs_weight s (reverse new) < jobs_weight s (reverse old)
     part_lighter =
         let d : jobs_weight s (reverse old) ≡ part_weight s p + jobs_weight s (reverse rest) = ap (jobs_weight s) (reverse_pop old rest (job.Part p) e) in
-        let f : jobs_weight s (reverse new) ≡ jobs_weight s x.0 + jobs_weight s (reverse rest) = ap (jobs_weight s) grown ∙ jobs_weight-append x.0 (reverse rest) in
-        let g = x.2.lighter in
-        omega (arith, d, f, g)
+        let f : jobs_weight s (reverse new) ≡ jobs_weight s left + jobs_weight s (reverse rest) = ap (jobs_weight s) grown ∙ jobs_weight-append s left (reverse rest) in
+        let g = x.1.lighter in
+        let k = x.2.4.light in
+        omega (arith, d, f, g, k)
 
   -- the first job
   pub begins : (id m : ℕ) (bare : Bool) (j : Job) (js : List Job) → js ≡ j ∷ [] → bare ≡ nat_le (priority s.ops (tree s id)) m → IsOperand s bare id j →

@@ -13,7 +13,7 @@ use Rattle.cq_atoms.specs.Texts.{text_of}
 use Rattle.cq_term.specs.Meaning.{HeapTerm, at}
 use Rattle.cq_term.specs.Names.{HasNamesBelow}
 use Rattle.cq_term.specs.Shown.{arguments}
-use Rattle.cq_write.specs.Spelled.{Spelled, spelled}
+use Rattle.cq_write.specs.Spelled.{Spelled, Written, spelled, put_all}
 use Rattle.cq_write.specs.declared.jobs.Mark.{Mark}
 use Rattle.cq_write.specs.declared.jobs.Mark.TheVariants as mark
 use Rattle.cq_write.specs.declared.jobs.Word.{Word}
@@ -179,15 +179,33 @@ pub record IsExpansion (s : Setting) (p : Part) (js : List Job) : Type 0 where
   pub ready : AreReady s js
   pub lighter : jobs_weight s js < part_weight s p
 
--- the jobs of a part came to the stack, the first one on top
-abbrev pub Expands : Setting → Part → List Job → List Job → Type 0
-Expands s p old new = (js : List Job) × (new ≡ old ++ reverse js) × IsExpansion s p js
+-- Jobs that are begun: these pieces were written, and these jobs are left.
+pub record IsBegun (s : Setting) (ks : List Job) (ws : List Spelled) (js : List Job) : Type 0 where
+  pub pieces : ws ++ all_pieces s js ≡ all_pieces s ks
+  pub ready : AreReady s ks → AreReady s js
+  pub light : jobs_weight s js ≤ jobs_weight s ks
+
+-- the jobs are begun: their first pieces are in the line, and what is left of them came to the stack, the first one on top
+abbrev pub Begins : Setting → List Job → Written → Written → List Job → List Job → Type 0
+Begins s ks before after old new = (ws : List Spelled) × (js : List Job) × (after ≡ put_all before ws) × (new ≡ old ++ reverse js) × IsBegun s ks ws js
+
+-- the jobs of a part are begun
+abbrev pub Expands : Setting → Part → Written → Written → List Job → List Job → Type 0
+Expands s p before after old new = (ks : List Job) × IsExpansion s p ks × Begins s ks before after old new
+
+-- the job of one word
+abbrev pub one_word : Word → List Job
+one_word w = job.Word w ∷ []
 
 -- the job of a term as an operand, in parentheses where it does not stand bare
 pub record IsOperand (s : Setting) (bare : Bool) (id : ℕ) (j : Job) : Type 0 where
   pub pieces : job_pieces s j ≡ spelled_all s (unless bare (pieces s.ops (tree s id)))
   pub ready : IsReady s j
   pub light : job_weight s j ≤ weight (at s.terms id) + 3
+
+-- the job of an operand is begun
+abbrev pub BeginsOperand : Setting → Bool → ℕ → Written → Written → List Job → List Job → Type 0
+BeginsOperand s bare id before after old new = (j : Job) × IsOperand s bare id j × Begins s (j ∷ []) before after old new
 
 -- a name and the arguments of a term, in parentheses
 abbrev pub functional_jobs : ℕ → ℕ → List Job
@@ -197,9 +215,10 @@ functional_jobs id f = job.Word (word.Name f) ∷ job.Word (word.Mark mark.Open)
 abbrev pub cell_jobs : Mark → Job → ℕ → List Job
 cell_jobs opens j rest = job.Word (word.Mark opens) ∷ j ∷ job.Part (part.Rest rest) ∷ []
 
--- the jobs of a list's cell came to the stack: this mark, the first element, in parentheses where it does not stand bare, and the rest
-abbrev pub PutsCell : Setting → Mark → ℕ → ℕ → List Job → List Job → Type 0
-PutsCell s opens element rest old new = (j : Job) × IsOperand s (is_bare_argument s.ops (tree s element)) element j × (new ≡ old ++ reverse (cell_jobs opens j rest))
+-- the jobs of a list's cell are begun: this mark, the first element, in parentheses where it does not stand bare, and the rest
+abbrev pub PutsCell : Setting → Mark → ℕ → ℕ → Written → Written → List Job → List Job → Type 0
+PutsCell s opens element rest before after old new =
+    (j : Job) × IsOperand s (is_bare_argument s.ops (tree s element)) element j × Begins s (cell_jobs opens j rest) before after old new
 
 -- what the shape says of a term
 abbrev pub HasShape : Setting → HeapTerm → Shape → Type 0

@@ -1,6 +1,7 @@
 //! What is still to be written, as a stack of jobs with the next on top. So a term's depth costs memory alone.
 
-ghost use Rattle.std.specs.Prelude.{◌≡◌, ◌++◌, OnOk, reverse};
+ghost use Rattle.std.specs.Prelude.{◌≡◌, ◌++◌, OnOk, IsAscii, reverse};
+ghost use Rattle.cq_write.specs.Work.{mark_text};
 
 use cq_atoms::Atom;
 use cq_frac::{Frac, VarId};
@@ -19,6 +20,25 @@ pub(crate) enum Mark {
     Comma,
     Bar,
     Minus,
+}
+
+impl Mark {
+    pub(crate) fn text(self) -> &'static str
+        ensures text { result.now ≡ mark_text self }
+        ensures ascii { IsAscii result.now }
+    {
+        match self {
+            Mark::Open => "(",
+            Mark::Close => ")",
+            Mark::OpenList => "[",
+            Mark::CloseList => "]",
+            Mark::OpenCurly => "{",
+            Mark::CloseCurly => "}",
+            Mark::Comma => ",",
+            Mark::Bar => "|",
+            Mark::Minus => "-",
+        }
+    }
 }
 
 /// A piece of the text.

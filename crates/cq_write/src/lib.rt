@@ -4,6 +4,7 @@
 mod characters;
 mod jobs;
 mod line;
+mod looks;
 mod names;
 mod numbers;
 mod operands;
@@ -62,7 +63,7 @@ pub fn write_term(
     while let Some(job) = jobs.pop() {
         match job {
             Job::Word(word) => writer.write(word, &mut text, &mut line)?,
-            Job::Part(part) => writer.expand(part, &mut jobs)?,
+            Job::Part(part) => writer.expand(part, &mut jobs, &mut line)?,
         }
     }
     Ok(line.into_text())

@@ -1,11 +1,13 @@
 //! The text of the pieces so far, with blanks where their neighbours ask for one.
 
-ghost use Rattle.std.specs.Prelude.{◌≡◌, ◌||◌, OnOk, chars};
+ghost use Rattle.std.specs.Prelude.{◌≡◌, ◌||◌, OnOk, IsAscii, chars};
 ghost use Rattle.spec_grammar.specs.Characters.{first_char as first_char_of};
 ghost use Rattle.spec_writing.specs.Texts.{last_of};
 ghost use Rattle.cq_write.specs.Spelled.{Spelled, written, blank_line, run_together as run_together_of, would_bind as would_bind_of, is_apart as is_apart_of, put};
+ghost use Rattle.cq_write.specs.Work.{plain, mark_text};
 
 use crate::characters::{continues_name, ends_name, is_symbol};
+use crate::jobs::Mark;
 use cq_lex::first_char;
 use std::alloc::{AllocError, Global};
 
@@ -22,6 +24,16 @@ impl Manner {
     pub(crate) const PLAIN: Manner = Manner {
         has_blanks: false,
         is_prefix: false,
+    };
+
+    pub(crate) const SPACED: Manner = Manner {
+        has_blanks: true,
+        is_prefix: false,
+    };
+
+    pub(crate) const PREFIX: Manner = Manner {
+        has_blanks: false,
+        is_prefix: true,
     };
 }
 
@@ -111,8 +123,36 @@ impl Line {
         text
     }
 
+    /// A piece with this text of ASCII.
+    pub(crate) fn push_ascii(&mut self, piece: &str, manner: Manner) -> Result<(), AllocError>
+        requires { IsAscii piece.now }
+        ensures { OnOk result (written self.new ≡ put (written self.old) (record { text = piece.now; manner = manner })) }
+    {
+        self.place(piece, manner, last_byte(piece.as_bytes()))
+    }
+
+    /// A mark.
+    pub(crate) fn push_mark(&mut self, mark: Mark) -> Result<(), AllocError>
+        ensures { OnOk result (written self.new ≡ put (written self.old) (plain (mark_text mark))) }
+    {
+        self.push_ascii(mark.text(), Manner::PLAIN)
+    }
+
     /// A piece with this text.
     pub(crate) fn push(&mut self, piece: &str, manner: Manner) -> Result<(), AllocError>
+        ensures { OnOk result (written self.new ≡ put (written self.old) (record { text = piece.now; manner = manner })) }
+    {
+        self.place(piece, manner, last_char(piece))
+    }
+
+    /// A piece with this text and this last character.
+    fn place(
+        &mut self,
+        piece: &str,
+        manner: Manner,
+        character: Option<char>,
+    ) -> Result<(), AllocError>
+        requires { character ≡ last_of (chars piece.now) }
         ensures { OnOk result (written self.new ≡ put (written self.old) (record { text = piece.now; manner = manner })) }
     {
         if piece.is_empty() && !manner.has_blanks {
@@ -126,7 +166,7 @@ impl Line {
         self.text.extend_from_slice(piece.as_bytes())?;
         self.last = Some(Last {
             manner,
-            character: last_char(piece),
+            character,
             is_minus: piece == "-",
         });
         Ok(())

@@ -1,19 +1,23 @@
 //! The writer: what is written, and the texts of its pieces.
 
-ghost use Rattle.std.specs.Prelude.{◌≡◌, ◌<◌, ◌++◌, OnOk, length, string_bytes, bytes_eq, codes};
+ghost use Rattle.std.specs.Prelude.{◌≡◌, ◌<◌, OnOk, IfSome, false, length};
 ghost use Rattle.cq_atoms.specs.Texts.{text_of};
 ghost use Rattle.spec_syntax.specs.Writing.{is_spaced as is_spaced_of};
 ghost use Rattle.spec_writing.specs.Texts.{name_text};
+ghost use Rattle.spec_writing.specs.Numbers.{number_text};
 ghost use Rattle.cq_write.specs.Spelled.{Spelled, written, put};
-ghost use Rattle.cq_write.specs.Work.{IsReadyWord, spelled_word, mark_text};
+ghost use Rattle.cq_write.specs.Work.{IsReadyWord, plain, infix_word, spelled_word};
+ghost use Rattle.cq_write.specs.Looks.{IsPlainText};
 ghost use Rattle.cq_write.specs.Settings.{setting, IsIndexed};
 
 use crate::jobs::{Mark, Word};
 use crate::line::{Line, Manner};
+use crate::looks::{Looks, looks_of};
 use crate::names::{needs_quotes, push_name};
 use crate::numbers::push_number;
 use crate::variables::Names;
 use cq_atoms::{Atom, Atoms};
+use cq_frac::{Frac, VarId};
 use cq_lex::first_char;
 use cq_ops::Ops;
 use cq_term::Heap;
@@ -30,24 +34,6 @@ pub(crate) struct Writer<'a> {
     pub(crate) names: Names<'a>,
 }
 
-impl Mark {
-    fn text(self) -> &'static str
-        ensures { result.now ≡ mark_text self }
-    {
-        match self {
-            Mark::Open => "(",
-            Mark::Close => ")",
-            Mark::OpenList => "[",
-            Mark::CloseList => "]",
-            Mark::OpenCurly => "{",
-            Mark::CloseCurly => "}",
-            Mark::Comma => ",",
-            Mark::Bar => "|",
-            Mark::Minus => "-",
-        }
-    }
-}
-
 /// Whether an infix name has a blank on each side.
 #[tactic(auto, unfolding(spec_syntax::specs::Writing::is_spaced))]
 fn is_spaced(name: &str) -> bool
@@ -59,55 +45,95 @@ fn is_spaced(name: &str) -> bool
     }
 }
 
-impl Writer<'_> {
-    /// What round a word decides about blanks.
-    fn manner(&self, word: &Word) -> Manner
-        requires { IsReadyWord (setting self.now) word.now }
-        ensures { result ≡ (spelled_word (setting self.now) word.now).manner }
-    {
-        match *word {
-            Word::Prefix(_) => Manner {
-                has_blanks: false,
-                is_prefix: true,
-            },
-            Word::Infix(name) => {
-                let text = self.text(name);
-                Manner {
-                    has_blanks: text != "," && is_spaced(text),
-                    is_prefix: false,
-                }
-            }
-            Word::Mark(_) | Word::Name(_) | Word::Variable(_) | Word::Numeral(_) => Manner::PLAIN,
-        }
-    }
+/// Puts a number that is not below zero into a line; `text` is lent to hold it.
+fn write_number(number: Frac, text: &mut String, line: &mut Line) -> Result<(), AllocError>
+    ensures { OnOk result (written line.new ≡ put (written line.old) (plain (number_text number))) }
+{
+    text.clear();
+    push_number(text, number)?;
+    line.push(text.as_str(), Manner::PLAIN)
+}
 
-    /// The text of an infix operator: the comma is never in quotes.
-    fn push_infix(&self, name: Atom, out: &mut String) -> Result<(), AllocError>
+impl Writer<'_> {
+    /// The text of a name, where its looks say that it stands as it is.
+    pub(crate) fn plain_text(&self, name: Atom) -> Option<&str>
         requires { name < length self.now.atoms.now }
-        ensures { OnOk result (string_bytes out.new ≡ string_bytes out.old ++ (spelled_word (setting self.now) (Word.Infix name)).text) }
+        ensures { IfSome result (λ text. IsPlainText (setting self.now) name text.now) }
     {
         let text = self.text(name);
-        if text == "," {
-            out.push_str(",")
-        } else {
-            push_name(self.style, text, out)
+        match looks_of(text) {
+            Looks::Other => None,
+            Looks::Letters | Looks::Symbols => Some(text),
         }
     }
 
-    /// The text of a word.
-    fn push_word(&self, word: Word, out: &mut String) -> Result<(), AllocError>
-        requires ready { IsReadyWord (setting self.now) word }
-        requires names { IsIndexed self.now.names }
-        ensures { OnOk result (string_bytes out.new ≡ string_bytes out.old ++ (spelled_word (setting self.now) word).text) }
+    /// Puts a name into a line; `text` is lent to hold it.
+    fn write_name(
+        &self,
+        name: Atom,
+        manner: Manner,
+        text: &mut String,
+        line: &mut Line,
+    ) -> Result<(), AllocError>
+        requires { name < length self.now.atoms.now }
+        ensures { OnOk result (written line.new ≡ put (written line.old) (record { text = name_text self.now.style (text_of self.now.atoms.now name); manner = manner })) }
     {
-        match word {
-            Word::Mark(mark) => out.push_str(mark.text()),
-            Word::Name(name) => push_name(self.style, self.text(name), out),
-            Word::Prefix(name) => push_name(self.style, self.text(name), out),
-            Word::Infix(name) => self.push_infix(name, out),
-            Word::Variable(variable) => self.names.push_shown(variable, out),
-            Word::Numeral(number) => push_number(out, number),
+        if let Some(plain) = self.plain_text(name) {
+            return line.push_ascii(plain, manner);
         }
+        text.clear();
+        push_name(self.style, self.text(name), text)?;
+        line.push(text.as_str(), manner)
+    }
+
+    /// Puts an infix operator that is no comma into a line.
+    fn write_operator(
+        &self,
+        name: Atom,
+        text: &mut String,
+        line: &mut Line,
+    ) -> Result<(), AllocError>
+        requires { name < length self.now.atoms.now }
+        ensures { OnOk result (written line.new ≡ put (written line.old) (infix_word self.now.style false (text_of self.now.atoms.now name))) }
+    {
+        let operator = self.text(name);
+        match looks_of(operator) {
+            Looks::Letters => line.push_ascii(operator, Manner::SPACED),
+            Looks::Symbols => line.push_ascii(operator, Manner::PLAIN),
+            Looks::Other => {
+                let manner = Manner {
+                    has_blanks: is_spaced(operator),
+                    is_prefix: false,
+                };
+                self.write_name(name, manner, text, line)
+            }
+        }
+    }
+
+    /// Puts an infix operator into a line: the comma is never in quotes.
+    fn write_infix(&self, name: Atom, text: &mut String, line: &mut Line) -> Result<(), AllocError>
+        requires { name < length self.now.atoms.now }
+        ensures { OnOk result (written line.new ≡ put (written line.old) (spelled_word (setting self.now) (Word.Infix name))) }
+    {
+        if self.text(name) == "," {
+            line.push_mark(Mark::Comma)
+        } else {
+            self.write_operator(name, text, line)
+        }
+    }
+
+    fn write_variable(
+        &self,
+        variable: VarId,
+        text: &mut String,
+        line: &mut Line,
+    ) -> Result<(), AllocError>
+        requires { IsIndexed self.now.names }
+        ensures { OnOk result (written line.new ≡ put (written line.old) (spelled_word (setting self.now) (Word.Variable variable))) }
+    {
+        text.clear();
+        self.names.push_shown(variable, text)?;
+        line.push(text.as_str(), Manner::PLAIN)
     }
 
     /// Puts a word into a line; `text` is lent to hold it.
@@ -121,9 +147,13 @@ impl Writer<'_> {
         requires names { IsIndexed self.now.names }
         ensures { OnOk result (written line.new ≡ put (written line.old) (spelled_word (setting self.now) word)) }
     {
-        let manner = self.manner(&word);
-        text.clear();
-        self.push_word(word, text)?;
-        line.push(text.as_str(), manner)
+        match word {
+            Word::Mark(mark) => line.push_mark(mark),
+            Word::Name(name) => self.write_name(name, Manner::PLAIN, text, line),
+            Word::Prefix(name) => self.write_name(name, Manner::PREFIX, text, line),
+            Word::Infix(name) => self.write_infix(name, text, line),
+            Word::Variable(variable) => self.write_variable(variable, text, line),
+            Word::Numeral(number) => write_number(number, text, line),
+        }
     }
 }

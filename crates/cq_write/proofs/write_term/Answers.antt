@@ -25,19 +25,21 @@ pub loop-job-smaller : goal.loop-job-smaller
 loop-job-smaller c =
     let w : Writer = record { heap = c.args.heap; atoms = c.args.atoms; ops = c.args.ops; style = c.args.style; names = c.in_ok-new.field-0 } in
     let e : c.loop-job.jobs.items ≡ c.pop.new.self.items ++ job.Part c.in-Part.part ∷ [] = c.in-Some.ensures.items ∙ ap (λ j. c.pop.new.self.items ++ j ∷ []) c.in-Part.is in
-    part_lighter (setting w) c.loop-job.jobs.items c.pop.new.self.items c.expand.new.jobs.items c.in-Part.part e c.in_ok-expand-in-Part.ensures
+    part_lighter (setting w) (written c.loop-job.line) (written c.expand.new.line) c.loop-job.jobs.items c.pop.new.self.items c.expand.new.jobs.items c.in-Part.part e c.in_ok-expand-in-Part.ensures
 
 pub loop-job-preserved : goal.loop-job-preserved
 loop-job-preserved c =
     let w : Writer = record { heap = c.args.heap; atoms = c.args.atoms; ops = c.args.ops; style = c.args.style; names = c.in_ok-new.field-0 } in
     let s = setting w in
+    let before = written c.loop-job.line in
+    let after = written c.expand.new.line in
     let old = c.loop-job.jobs.items in
     let rest = c.pop.new.self.items in
     let e : c.loop-job.jobs.items ≡ c.pop.new.self.items ++ job.Part c.in-Part.part ∷ [] = c.in-Some.ensures.items ∙ ap (λ j. c.pop.new.self.items ++ j ∷ []) c.in-Part.is in
     let x = c.in_ok-expand-in-Part.ensures in
     record {
-      ready = part_ready s old rest c.expand.new.jobs.items c.in-Part.part e x (ready_pop s old rest (job.Part c.in-Part.part) e c.loop-job.invariant.ready).1;
-      text = ap (λ ps. (put_all (written c.loop-job.line) ps).text) (part_text s old rest c.expand.new.jobs.items c.in-Part.part e x) ∙ c.loop-job.invariant.text;
+      ready = part_ready s before after old rest c.expand.new.jobs.items c.in-Part.part e x (ready_pop s old rest (job.Part c.in-Part.part) e c.loop-job.invariant.ready).1;
+      text = ap (λ line. line.text) (part_text s before after old rest c.expand.new.jobs.items c.in-Part.part e x) ∙ c.loop-job.invariant.text;
     }
 
 pub returns : goal.returns
