@@ -23,4 +23,3 @@ pub fn columns_are_free()
 pub fn expressions_are_unique()
     ensures { (roles : List Role) → AreOverColumns roles → ExpressesUniquely roles }
 {}
-

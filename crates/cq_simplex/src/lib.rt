@@ -117,4 +117,3 @@ pub fn maximise(
         Turn::Exchange(_, _) => Err(SimplexFault::Pivots(budget)),
     }
 }
-

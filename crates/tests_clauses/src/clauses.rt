@@ -2,8 +2,8 @@
 
 ghost use Rattle.cq_clauses.specs.Snapshots.{IsSnapshot, KeepsSnapshots};
 
-use cq_clauses::{Clauses, Key, Keyed, Kind, Snapshot};
 use cq_atoms::{Atom, Atoms};
+use cq_clauses::{Clauses, Key, Keyed, Kind, Snapshot};
 use cq_frac::Frac;
 use cq_term::Pred;
 use std::alloc::{AllocError, Global};

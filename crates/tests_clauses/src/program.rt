@@ -2,10 +2,10 @@
 
 ghost use Rattle.std.specs.Prelude.{◌<◌, length, IfOk};
 
-use cq_program::{ProgramClause, goal_key};
 use cq_atoms::{Atom, Atoms};
 use cq_clauses::{Clauses, Kind};
 use cq_frac::Frac;
+use cq_program::{ProgramClause, goal_key};
 use cq_stored::Clause;
 use cq_term::{Heap, Pred, TermId};
 use std::alloc::{AllocError, Global};

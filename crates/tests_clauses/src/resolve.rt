@@ -2,9 +2,9 @@
 
 ghost use Rattle.std.specs.Prelude.{◌≡◌, ◌<◌, ◌≤◌, length, All, IfOk, IfSome, OnOk};
 
-use cq_resolve::resolve;
 use cq_atoms::{Atom, Atoms};
 use cq_frac::{Frac, VarId};
+use cq_resolve::resolve;
 use cq_stored::Clause;
 use cq_term::{Heap, Newly, TermId, View};
 use cq_walk::push_arguments;

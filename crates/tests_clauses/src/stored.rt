@@ -2,9 +2,9 @@
 
 ghost use Rattle.std.specs.Prelude.{◌<◌, ◌≤◌, length, All, IfOk};
 
-use cq_stored::{Clause, StoredTerm, first_argument};
 use cq_atoms::Atoms;
 use cq_frac::VarId;
+use cq_stored::{Clause, StoredTerm, first_argument};
 use cq_term::{Atom, Heap, TermId, View};
 use std::alloc::{AllocError, Global};
 use std::test::Fail;

@@ -4,9 +4,9 @@
 ghost use Rattle.std.specs.Prelude.{◌<◌, ◌≤◌, length, All, IfOk};
 ghost use Rattle.cq_term.specs.Trees.{KnowsTerms};
 
-use cq_cexpr::{Lin, linearise};
 use cq_atoms::Atoms;
 use cq_built::{compound, whole};
+use cq_cexpr::{Lin, linearise};
 use cq_form::{Constraint, Form};
 use cq_frac::{Frac, Operation, Refusal, VarId};
 use cq_term::{Heap, Newly, TermId};

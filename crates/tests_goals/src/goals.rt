@@ -3,13 +3,13 @@
 ghost use Rattle.std.specs.Prelude.{◌<◌, ◌≤◌, length, IfOk};
 ghost use Rattle.cq_term.specs.Trees.{KnowsTerms};
 
-use cq_goals::{
-    GoalFault, Telling, check_expression, check_question, check_telling, compare_values, is_value,
-};
 use cq_atoms::Atoms;
 use cq_built::{BuiltinError, BuiltinFault, ValidType, atom, compound};
 use cq_builtin::Comparison;
 use cq_frac::Frac;
+use cq_goals::{
+    GoalFault, Telling, check_expression, check_question, check_telling, compare_values, is_value,
+};
 use cq_term::{Heap, TermId};
 use std::alloc::{AllocError, Global};
 use std::test::Fail;

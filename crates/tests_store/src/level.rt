@@ -8,10 +8,10 @@ ghost use Rattle.cq_dict.specs.Roles.{AreOverColumns, is_restricted};
 ghost use Rattle.cq_simplex.specs.Checked.{IsRowFeasible};
 ghost use Rattle.cq_simplex.specs.Dictionary.{dictionary};
 
-use cq_level::choosing::lightest_column;
-use cq_level::levelling::{Levelled, level};
 use cq_dict::dict::Dict;
 use cq_frac::{Frac, Refusal};
+use cq_level::choosing::lightest_column;
+use cq_level::levelling::{Levelled, level};
 use cq_row::Entry;
 use cq_simplex::SimplexFault;
 use cq_simplex::rising::free_column;

@@ -1,8 +1,8 @@
 //! Small lists of constraints, and what is asked of them, worked out by hand.
 
-use cq_linear::store::{Extent, Store, StoreFault, Told};
 use cq_form::{Constraint, Form};
 use cq_frac::{Frac, VarId};
+use cq_linear::store::{Extent, Store, StoreFault, Told};
 use spec_linear::Relation;
 use std::alloc::Global;
 use std::test::Fail;

@@ -9,11 +9,11 @@ ghost use Rattle.cq_dict.specs.Roles.{AreOverColumns, is_restricted};
 ghost use Rattle.cq_simplex.specs.Checked.{IsRowFeasible};
 ghost use Rattle.cq_simplex.specs.Dictionary.{dictionary};
 
-use cq_simplex::rising::free_column;
-use cq_simplex::{Aim, Max, SimplexFault, maximise};
 use cq_dict::dict::Dict;
 use cq_frac::{Frac, Refusal};
 use cq_row::Entry;
+use cq_simplex::rising::free_column;
+use cq_simplex::{Aim, Max, SimplexFault, maximise};
 use std::alloc::{AllocError, Global};
 use std::test::Fail;
 

@@ -2,9 +2,9 @@
 ghost use Rattle.std.specs.Prelude.{◌≡◌, IfOk};
 ghost use Rattle.spec_linear.specs.declared.Relation.TheVariants.{Eq};
 
-use cq_store::store::{Store, StoreFault, Told};
 use cq_form::{Constraint, Form};
 use cq_frac::{Frac, Operation, Pair, VarId};
+use cq_store::store::{Store, StoreFault, Told};
 use spec_linear::Relation;
 use std::alloc::Global;
 use std::test::Fail;

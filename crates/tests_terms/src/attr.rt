@@ -46,8 +46,10 @@ fn are(numbers: &[SuspNo], expected: &[SuspNo]) -> bool {
 fn wake(attrs: &Attrs, three: Three) -> Result<bool, AllocError> {
     let first = attrs.woken(&[X])?;
     let both = attrs.woken(&[Y, X])?;
-    Ok(are(&first, &[three.first, three.both])
-        && are(&both, &[three.first, three.second, three.both]))
+    Ok(
+        are(&first, &[three.first, three.both])
+            && are(&both, &[three.first, three.second, three.both]),
+    )
 }
 
 /// Takes the oldest that one of the variables wakes, and gives its number.

@@ -6,11 +6,11 @@ ghost use Rattle.cq_term.specs.Meaning.{HeapTerm};
 ghost use Rattle.cq_term.specs.Trees.{KnowsTerms};
 ghost use Rattle.cq_built.specs.Errors.{HasCulprit};
 
+use cq_atoms::Atoms;
 use cq_built::{
     BuiltinError, Culprit, Permission, Representation, ValidDomain, ValidType, atom, ball, list,
     whole,
 };
-use cq_atoms::Atoms;
 use cq_frac::Frac;
 use cq_term::{Atom, Heap, Pred, TermId, View};
 use std::alloc::{AllocError, Global};

@@ -4,9 +4,9 @@ ghost use Rattle.std.specs.Prelude.{◌<◌, ◌≤◌, length, All, IfOk};
 ghost use Rattle.cq_term.specs.Trees.{KnowsTerms};
 ghost use Rattle.cq_walk.specs.Pairs.{IsLive};
 
-use cq_builtin::{Comparison, TypeTest, arg, copy_term, functor, is_allowed, order, test, univ};
 use cq_atoms::Atoms;
 use cq_built::{Alternative, atom, list};
+use cq_builtin::{Comparison, TypeTest, arg, copy_term, functor, is_allowed, order, test, univ};
 use cq_frac::Frac;
 use cq_term::{Heap, TermId, View};
 use std::alloc::{AllocError, Global};

@@ -3,12 +3,12 @@
 ghost use Rattle.std.specs.Prelude.{◌<◌, length};
 ghost use Rattle.cq_term.specs.Trees.{KnowsTerms};
 
+use cq_atoms::{Atom, Atoms};
+use cq_frac::Frac;
 use cq_kinds::{
     is_below_zero, is_callable, is_compound, is_integer, is_name, is_nil, is_number, is_variable,
     list_parts, natural_of,
 };
-use cq_atoms::{Atom, Atoms};
-use cq_frac::Frac;
 use cq_term::{Heap, TermId};
 use std::alloc::AllocError;
 use std::test::Fail;

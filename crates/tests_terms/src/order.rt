@@ -3,9 +3,9 @@
 ghost use Rattle.std.specs.Prelude.{◌≡◌, ◌<◌, ◌≤◌, ℕ, length, All, IfOk, OnOk};
 ghost use Rattle.cq_term.specs.Names.{HasNamesBelow, KeepsNames};
 
-use cq_order::{compare, same, variant};
 use cq_atoms::Atoms;
 use cq_frac::Frac;
+use cq_order::{compare, same, variant};
 use cq_term::{Atom, Heap, TermId};
 use std::alloc::AllocError;
 use std::cmp::Ordering;

@@ -3,9 +3,9 @@
 ghost use Rattle.std.specs.Prelude.{◌≡◌, ◌<◌, ◌≤◌, length, IfOk};
 ghost use Rattle.cq_term.specs.Shown.{IsUnbound};
 
-use cq_term::{Atom, Heap, Newly, TermId, View};
 use cq_atoms::Atoms;
 use cq_frac::{Frac, VarId};
+use cq_term::{Atom, Heap, Newly, TermId, View};
 use cq_trail::Undo;
 use std::alloc::AllocError;
 use std::test::Fail;

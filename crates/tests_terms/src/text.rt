@@ -4,10 +4,10 @@ ghost use Rattle.std.specs.Prelude.{◌<◌, ◌≤◌, length, IfOk};
 ghost use Rattle.cq_term.specs.Trees.{KnowsTerms};
 ghost use Rattle.cq_text.specs.Ways.{AreThere, CanGoOn};
 
-use cq_text::{PartArgs, SplitArgs, TextAlternatives, atom_concat, atom_length, sub_atom};
 use cq_atoms::Atoms;
 use cq_built::{Alternative, atom};
 use cq_term::{Heap, TermId, View};
+use cq_text::{PartArgs, SplitArgs, TextAlternatives, atom_concat, atom_length, sub_atom};
 use std::alloc::{AllocError, Global};
 use std::test::Fail;
 

@@ -3,10 +3,10 @@
 
 ghost use Rattle.std.specs.Prelude.{◌≡◌, ◌<◌, ◌≤◌, length, IfOk};
 
-use cq_unify::{copy, unify, vars_of};
 use cq_atoms::Atoms;
 use cq_frac::{Frac, VarId};
 use cq_term::{Atom, Heap, Newly, TermId, View};
+use cq_unify::{copy, unify, vars_of};
 use std::alloc::AllocError;
 use std::test::Fail;
 

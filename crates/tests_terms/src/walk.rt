@@ -2,9 +2,9 @@
 
 ghost use Rattle.std.specs.Prelude.{◌<◌, ◌≤◌, length, IfOk};
 
-use cq_walk::{Pair, Visited, push_pairs};
 use cq_atoms::Atoms;
 use cq_term::{Atom, Heap, TermId, View};
+use cq_walk::{Pair, Visited, push_pairs};
 use std::alloc::AllocError;
 use std::test::Fail;
 

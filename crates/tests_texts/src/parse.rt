@@ -5,10 +5,10 @@ ghost use Rattle.cq_term.specs.Meaning.{HeapTerm};
 ghost use Rattle.cq_term.specs.Shown.{IsUnbound};
 ghost use Rattle.cq_parse.specs.Views.{IsLiveState, IsLiveToken};
 
-use cq_parse::{Grammar, GrammarNames, State, Token, step};
 use cq_atoms::{Atom, Atoms};
 use cq_frac::{Frac, VarId};
 use cq_ops::Ops;
+use cq_parse::{Grammar, GrammarNames, State, Token, step};
 use cq_term::{Heap, TermId, View};
 use std::alloc::{AllocError, Global};
 use std::test::Fail;

@@ -2,9 +2,9 @@
 
 ghost use Rattle.std.specs.Prelude.{◌≡◌, ◌<◌, false, length};
 
-use cq_read::{Fed, Feed, Read, read_clause};
 use cq_atoms::Atoms;
 use cq_ops::Ops;
+use cq_read::{Fed, Feed, Read, read_clause};
 use cq_term::{Heap, TermId, View};
 use std::alloc::AllocError;
 use std::test::Fail;
