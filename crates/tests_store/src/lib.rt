@@ -1,4 +1,4 @@
-//! Tests of the crates of numbers, rows, dictionaries and stores: what no clause says of them.
+//! Tests of the crates of numbers, undo, rows, dictionaries and the store of equations: what no clause says of them.
 #![tactic(auto)]
 
 #[cfg(test)]
@@ -7,12 +7,6 @@ mod dict;
 mod form;
 #[cfg(test)]
 mod frac;
-#[cfg(test)]
-mod level;
-#[cfg(test)]
-mod linear;
-#[cfg(test)]
-mod simplex;
 #[cfg(test)]
 mod store;
 #[cfg(test)]
