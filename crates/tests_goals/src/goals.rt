@@ -18,7 +18,7 @@ const M: i128 = 170141183460469231731687303715884105727;
 
 /// A term without arguments; a number by its parts.
 #[derive(Clone, Copy)]
-enum Leaf {
+pub(crate) enum Leaf {
     Unbound,
     Number(i128, i128),
     Name(&'static str),
@@ -75,7 +75,7 @@ fn of_goal_fault(fault: GoalFault) -> Outcome {
     }
 }
 
-fn built(heap: &mut Heap, atoms: &mut Atoms, leaf: Leaf) -> Result<TermId, AllocError>
+pub(crate) fn built(heap: &mut Heap, atoms: &mut Atoms, leaf: Leaf) -> Result<TermId, AllocError>
     requires names { KnowsTerms atoms.old heap.old.now.terms }
     ensures live { IfOk result (λ id. id < length heap.new.now.terms) }
     ensures more { length heap.old.now.terms ≤ length heap.new.now.terms }
@@ -92,7 +92,7 @@ fn built(heap: &mut Heap, atoms: &mut Atoms, leaf: Leaf) -> Result<TermId, Alloc
 }
 
 /// A name over two terms.
-fn pair(
+pub(crate) fn pair(
     heap: &mut Heap,
     atoms: &mut Atoms,
     text: &str,
@@ -110,7 +110,7 @@ fn pair(
 }
 
 /// A name over two leaves.
-fn over(
+pub(crate) fn over(
     heap: &mut Heap,
     atoms: &mut Atoms,
     text: &str,
