@@ -11,7 +11,7 @@ use Rattle.spec_built.specs.Errors.{instantiation, type_error}
 use Rattle.spec_builtins.specs.Alternatives.{Solutions, Faults, ◌≐◌, one_way, faults_if}
 use Rattle.spec_builtins.specs.Texts.{ElementKind, Codes, name_of, is_character, code_of, element_error, elements_error, from_elements, atom_list_row, char_code_row}
 use Rattle.cq_codes.specs.Elements.{Make, IsCharacterOf, StandsFor, code_tests}
-use Rattle.cq_codes.proofs.Standing.{code_passes, code_refused, code_known}
+use Rattle.cq_codes.proofs.Standing.{code_passes, code_known}
 
 module _ (k : ElementKind) (v : ℕ) (l : Tree) (p : Parts) (is : p ≡ parts l) where
   -- what is looked at in turn
@@ -28,11 +28,6 @@ module _ (k : ElementKind) (v : ℕ) (l : Tree) (p : Parts) (is : p ≡ parts l)
 
   pub open_list : is_variable p.tail ≡ true → atom_list_row k (Var v) l ≡ Faults instantiation
   open_list o = listed ∙ ap (λ b. looked b (list_any is_variable p.elements) (is_atom "[]" p.tail) (elements_error k p.elements)) o
-
-  pub open_element : list_any is_variable p.elements ≡ true → atom_list_row k (Var v) l ≡ Faults instantiation
-  open_element a =
-      listed
-      ∙ ap (λ b. faults_if b instantiation (faults_if (not (is_atom "[]" p.tail)) (type_error "list" l) (from_elements (Var v) (elements_error k p.elements) p.elements))) (ap (λ b. is_variable p.tail || b) a ∙ or_true (is_variable p.tail))
 
   module _ (o : is_variable p.tail ≡ false) (a : list_any is_variable p.elements ≡ false) where
     pub no_list : is_atom "[]" p.tail ≡ false → atom_list_row k (Var v) l ≡ Faults (type_error "list" l)
@@ -52,23 +47,11 @@ module _ (c n : Tree) where
       faults_if (c_open && n_open) instantiation (faults_if (not (c_open || one)) (type_error "character" c) (
       code_tests n (if c_open then one_way ((c ≐ name_of (natural_of n ∷ [])) ∷ []) else one_way ((n ≐ natural (code_of c)) ∷ []))))
 
-  pub both_open : is_variable c ≡ true → is_variable n ≡ true → char_code_row c n ≡ Faults instantiation
-  both_open o p = λ i. spelled (o i) (p i) (is_character c)
-
   pub code_read : (d : ℕ) → is_variable c ≡ true → is_variable n ≡ false → StandsFor Codes n d → char_code_row c n ≡ one_way ((c ≐ name_of (d ∷ [])) ∷ [])
   code_read d o p s =
       (λ i. spelled (o i) (p i) (is_character c))
       ∙ code_passes n d (one_way ((c ≐ name_of (natural_of n ∷ [])) ∷ [])) p s
       ∙ ap (λ k. one_way ((c ≐ name_of (k ∷ [])) ∷ [])) (code_known n d s)
-
-  pub code_wrong : (e : Tree) → is_variable c ≡ true → is_variable n ≡ false → element_error Codes n ≡ Some e → char_code_row c n ≡ Faults e
-  code_wrong e o p w = (λ i. spelled (o i) (p i) (is_character c)) ∙ code_refused n e (one_way ((c ≐ name_of (natural_of n ∷ [])) ∷ [])) p w
-
-  pub no_character : is_variable c ≡ false → is_character c ≡ false → char_code_row c n ≡ Faults (type_error "character" c)
-  no_character o w = λ i. spelled (o i) (is_variable n) (w i)
-
-  pub told_wrong : (d : ℕ) (e : Tree) → is_variable c ≡ false → IsCharacterOf c d → ((rest : Solutions) → code_tests n rest ≡ Faults e) → char_code_row c n ≡ Faults e
-  told_wrong d e o h w = (λ i. spelled (o i) (is_variable n) (h.character i)) ∙ w (one_way ((n ≐ natural (code_of c)) ∷ []))
 
   pub code_told : (d : ℕ) → is_variable c ≡ false → IsCharacterOf c d → ((rest : Solutions) → code_tests n rest ≡ rest) → char_code_row c n ≡ one_way ((n ≐ natural d) ∷ [])
   code_told d o h w =
