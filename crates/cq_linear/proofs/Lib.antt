@@ -7,7 +7,12 @@ pub mod Extents
 pub mod Questions
 pub mod Entries
 pub mod Asked
-pub mod Taken
 pub mod Stops
 pub mod Refusals
 pub mod Falls
+pub mod Equations
+pub mod Levels
+pub mod Approach
+pub mod Against
+pub mod Instead
+pub mod Concluded

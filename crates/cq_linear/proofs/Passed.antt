@@ -7,7 +7,7 @@ use Rattle.cq_frac.specs.declared.Refusal.TheVariants as of_refusal
 use Rattle.cq_simplex.specs.declared.SimplexFault.{SimplexFault}
 use Rattle.cq_simplex.specs.declared.SimplexFault.TheVariants as of_search
 use Rattle.cq_linear.specs.declared.store.StoreFault.{StoreFault}
-use Rattle.cq_linear.specs.declared.store.StoreFault.TheVariants.{Overflow, Pivots, Unsupported}
+use Rattle.cq_linear.specs.declared.store.StoreFault.TheVariants.{Overflow, Pivots}
 use Rattle.cq_linear.specs.Faults.{IsFaultOf, IsFaultOfSearch}
 
 -- of a refusal, as a fault of the store
@@ -45,18 +45,16 @@ pub store_spent : {T : Type 0} (r : Result T StoreFault) (told : StoreFault) (n 
 store_spent (Ok x) told n h e = absurd h
 store_spent (Err f) told n h e = cc
 
--- ---- what the store does not do, which no step below it tells
-pub supported : {T : Type 0} (r : Result T StoreFault) (told : Refusal) → IsErrAnd r (IsFaultOf told) → r ≡ Err Unsupported → ⊥
-supported (Ok x) told h e = absurd h
-supported (Err f) (of_refusal.Overflow p) h e = cc
-supported (Err f) of_refusal.NoMemory h e = cc
+-- ---- a fault of the search that is told as one of the store
+pub told_pair : (told : SimplexFault) (f : StoreFault) (pair : Pair) → IsFaultOfSearch told f → f ≡ Overflow pair → told ≡ of_search.Overflow pair
+told_pair (of_search.Overflow p) f pair h e = cc
+told_pair (of_search.Pivots n) f pair h e = cc
+told_pair of_search.NoMemory f pair h e = cc
 
-pub search_supported : {T : Type 0} (r : Result T StoreFault) (told : SimplexFault) → IsErrAnd r (IsFaultOfSearch told) → r ≡ Err Unsupported → ⊥
-search_supported (Ok x) told h e = absurd h
-search_supported (Err f) (of_search.Overflow p) h e = cc
-search_supported (Err f) (of_search.Pivots n) h e = cc
-search_supported (Err f) of_search.NoMemory h e = cc
+pub told_number : (told : SimplexFault) (f : StoreFault) (n : ℕ) → IsFaultOfSearch told f → f ≡ Pivots n → told ≡ of_search.Pivots n
+told_number (of_search.Overflow p) f n h e = cc
+told_number (of_search.Pivots m) f n h e = cc
+told_number of_search.NoMemory f n h e = cc
 
-pub unsupported : {T : Type 0} (r : Result T StoreFault) (told : StoreFault) → IsErrAnd r (λ f. f ≡ told) → r ≡ Err Unsupported → told ≡ Unsupported
-unsupported (Ok x) told h e = absurd h
-unsupported (Err f) told h e = cc
+pub one_fault : {T : Type 0} (x y : StoreFault) → ◌≡◌ {A = Result T StoreFault} (Err x) (Err y) → x ≡ y
+one_fault x y e = cc

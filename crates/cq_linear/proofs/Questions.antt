@@ -1,5 +1,5 @@
 -- Where the opposite of a constraint would join, the constraint is asked about.
-use Rattle.std.proofs.Common.{◌≡◌, ℕ, List, [], ◌∷◌, ◌++◌, Bool, true, false, not, refl, ap, sym, subst, ◌∙◌}
+use Rattle.std.proofs.Common.{◌≡◌, ℕ, List, [], ◌∷◌, ◌++◌, Bool, true, false, not, refl, ap, sym, subst}
 use Rattle.std.specs.List.{AllByRecursion}
 use Rattle.spec_linear.specs.declared.Relation.{Relation}
 use Rattle.spec_linear.specs.declared.Relation.TheVariants.{Eq, Gt, Ge, Ne}
@@ -107,12 +107,3 @@ pub answered : (told : List Constraint) (c d : Constraint) → d ≡ opposite c 
     → MatchBool (not b) (Entails told c) (Leaves told c)
 answered told c d e true h = leaves told c (subst (λ z. Solvable (told ++ z ∷ [])) e h)
 answered told c d e false h = entails told c (subst (λ z. Unsolvable (told ++ z ∷ [])) e h)
-
-of_equation : (r : Relation) (f : Linear) → (opposite_of r f).relation ≡ Eq → r ≡ Ne
-of_equation Eq f e = cc
-of_equation Gt f e = cc
-of_equation Ge f e = cc
-of_equation Ne f e = refl
-
-pub unsupported_instead : (c d : Constraint) → d ≡ opposite c → d.relation ≡ Eq → c.relation ≡ Ne
-unsupported_instead c d e h = of_equation c.relation c.form (sym (ap (λ (z : Constraint). z.relation) e) ∙ h)

@@ -5,3 +5,4 @@ pub mod Held
 pub mod Faced
 pub mod Questions
 pub mod Fallen
+pub mod Equated

@@ -8,7 +8,7 @@ ghost use Rattle.spec_tableau.specs.Tableau.{IsNothing, IsSomething};
 ghost use Rattle.cq_dict.specs.DictValue.{quantities_of};
 ghost use Rattle.cq_dict.specs.Roles.{IsRow, role_at};
 ghost use Rattle.cq_tableau.specs.Forms.{row_of};
-ghost use Rattle.cq_linear.specs.declared.store.StoreFault.TheVariants.{Overflow, Pivots, Unsupported};
+ghost use Rattle.cq_linear.specs.declared.store.StoreFault.TheVariants.{Overflow, Pivots};
 ghost use Rattle.cq_tableau.specs.Asking.{AsksForm, RefusesAsking};
 ghost use Rattle.cq_tableau.specs.Numbered.{AreNumbered};
 ghost use Rattle.cq_tableau.specs.Stored.{IsStored};
@@ -36,7 +36,6 @@ pub fn ask(
     ensures asked { IfOk result (λ n. AsksForm names.old.now (quantities_of dict.old) form.now names.new.now (quantities_of dict.new) n) }
     ensures overflow { (pair : Pair) → result ≡ Err (Overflow pair) → RefusesAsking names.old.now (quantities_of dict.old) form.now pair }
     ensures pivots { (n : ℕ) → result ≡ Err (Pivots n) → ⊥ }
-    ensures supported { result ≡ Err Unsupported → ⊥ }
     ensures grows { IsPrefix names.old.now names.new.now }
     ensures numbered { AreNumbered names.new.now numbers.new.entries }
     ensures names_saved { names.new.saved ≡ names.old.saved }

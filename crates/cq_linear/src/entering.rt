@@ -1,13 +1,13 @@
 //! The steps of telling a constraint. Where one of them is refused, the store is left between marks, to be undone.
 
 ghost use Rattle.std.specs.Prelude.{◌≡◌, ℕ, [], ◌∷◌, ◌++◌, IfOk, MatchBool};
-ghost use Rattle.spec_linear.specs.declared.Relation.TheVariants.{Eq, Ne};
+ghost use Rattle.spec_linear.specs.declared.Relation.TheVariants.{Ne};
 ghost use Rattle.spec_linear.specs.Solution.{Solvable, Unsolvable};
 ghost use Rattle.spec_limits.specs.Asked.{NoQuestion};
 ghost use Rattle.spec_projection.specs.Elimination.{IsInequality};
 ghost use Rattle.spec_lists.specs.Prefixes.{IsPrefix};
 ghost use Rattle.cq_frac.specs.declared.Pair.{Pair};
-ghost use Rattle.cq_linear.specs.declared.store.StoreFault.TheVariants.{Overflow, Pivots, Unsupported};
+ghost use Rattle.cq_linear.specs.declared.store.StoreFault.TheVariants.{Overflow, Pivots};
 ghost use Rattle.cq_linear.specs.StoreValue.{MayRefuse, MayTake, Only};
 ghost use Rattle.cq_dict.specs.DictValue.{quantities_of};
 ghost use Rattle.cq_linear.specs.Entered.{IfJoined, IsJoined, IsRefuted};
@@ -16,6 +16,7 @@ ghost use Rattle.cq_tableau.specs.Stored.{IsStored};
 ghost use Rattle.cq_tableau.specs.Numbered.{AreNumbered};
 
 use crate::asking::{ask, is_zero};
+use crate::equating::enter_equation;
 use crate::facing::face;
 use crate::falling::fallen_certificate;
 use crate::store::StoreFault;
@@ -62,7 +63,6 @@ pub fn enter_inequality(
     ensures refuted { IsRefuted result told.now c.now }
     ensures overflow { (pair : Pair) → result ≡ Err (Overflow pair) → MayRefuse told.now (Only c.now) NoQuestion pair }
     ensures pivots { (n : ℕ) → result ≡ Err (Pivots n) → (n ≡ pivots) × MayTake told.now (Only c.now) NoQuestion n }
-    ensures supported { result ≡ Err Unsupported → ⊥ }
     ensures grows { IsPrefix names.old.now names.new.now }
     ensures numbered { AreNumbered names.new.now numbers.new.entries }
     ensures names_saved { names.new.saved ≡ names.old.saved }
@@ -111,7 +111,6 @@ fn enter_on_face(
     ensures refuted { IsRefuted result told.now c.now }
     ensures overflow { (pair : Pair) → result ≡ Err (Overflow pair) → MayRefuse told.now (Only c.now) NoQuestion pair }
     ensures pivots { (n : ℕ) → result ≡ Err (Pivots n) → (n ≡ pivots) × MayTake told.now (Only c.now) NoQuestion n }
-    ensures supported { result ≡ Err Unsupported → ⊥ }
     ensures grows { IsPrefix names.old.now names.new.now }
     ensures numbered { AreNumbered names.new.now numbers.now.entries }
     ensures names_saved { names.new.saved ≡ names.old.saved }
@@ -146,7 +145,6 @@ pub fn enter_disequation(
     ensures refuted { IsRefuted result told.now c.now }
     ensures overflow { (pair : Pair) → result ≡ Err (Overflow pair) → MayRefuse told.now (Only c.now) NoQuestion pair }
     ensures pivots { (n : ℕ) → result ≡ Err (Pivots n) → (n ≡ pivots) × MayTake told.now (Only c.now) NoQuestion n }
-    ensures supported { result ≡ Err Unsupported → ⊥ }
     ensures grows { IsPrefix names.old.now names.new.now }
     ensures numbered { AreNumbered names.new.now numbers.new.entries }
     ensures names_saved { names.new.saved ≡ names.old.saved }
@@ -188,7 +186,6 @@ fn enter_behind(
     ensures refuted { IsRefuted result told.now c.now }
     ensures overflow { (pair : Pair) → result ≡ Err (Overflow pair) → MayRefuse told.now (Only c.now) NoQuestion pair }
     ensures pivots { (n : ℕ) → result ≡ Err (Pivots n) → (n ≡ pivots) × MayTake told.now (Only c.now) NoQuestion n }
-    ensures unsupported { result ≡ Err Unsupported → c.now.relation ≡ Eq }
     ensures grows { IsPrefix names.old.now names.new.now }
     ensures numbered { AreNumbered names.new.now numbers.new.entries }
     ensures names_saved { names.new.saved ≡ names.old.saved }
@@ -199,7 +196,7 @@ fn enter_behind(
             alloc, pivots, numbers, names, dict, told, c,
         ),
         Relation::Ne => enter_disequation(alloc, pivots, numbers, names, dict, told, c),
-        Relation::Eq => Err(StoreFault::Unsupported),
+        Relation::Eq => enter_equation(alloc, pivots, numbers, names, dict, told, c),
     }
 }
 
@@ -218,7 +215,6 @@ pub fn enter(
     ensures refuted { IsRefuted result held.old.first.now c }
     ensures overflow { (pair : Pair) → result ≡ Err (Overflow pair) → MayRefuse held.old.first.now (Only c) NoQuestion pair }
     ensures pivots { (n : ℕ) → result ≡ Err (Pivots n) → (n ≡ pivots) × MayTake held.old.first.now (Only c) NoQuestion n }
-    ensures unsupported { result ≡ Err Unsupported → c.relation ≡ Eq }
     ensures grows { IsPrefix held.old.second.first.now held.new.second.first.now }
     ensures numbered { AreNumbered held.new.second.first.now numbers.new.entries }
     ensures told_saved { held.new.first.saved ≡ held.old.first.saved }
@@ -259,7 +255,6 @@ pub fn can_enter(
     ensures solvable { IfOk result (λ yes. MatchBool yes (Solvable (held.old.first.now ++ c ∷ [])) (Unsolvable (held.old.first.now ++ c ∷ []))) }
     ensures overflow { (pair : Pair) → result ≡ Err (Overflow pair) → MayRefuse held.old.first.now (Only c) NoQuestion pair }
     ensures pivots { (n : ℕ) → result ≡ Err (Pivots n) → (n ≡ pivots) × MayTake held.old.first.now (Only c) NoQuestion n }
-    ensures unsupported { result ≡ Err Unsupported → c.relation ≡ Eq }
     ensures grows { IsPrefix held.old.second.first.now held.new.second.first.now }
     ensures numbered { AreNumbered held.new.second.first.now numbers.new.entries }
     ensures told_saved { held.new.first.saved ≡ held.old.first.saved }

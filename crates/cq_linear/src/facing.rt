@@ -3,7 +3,7 @@
 ghost use Rattle.std.specs.Prelude.{◌≡◌, ◌<◌, ℕ, length, IfOk, OnOk, MatchOption, MatchBool};
 ghost use Rattle.spec_linear.specs.declared.Relation.TheVariants.{Ne};
 ghost use Rattle.cq_frac.specs.declared.Pair.{Pair};
-ghost use Rattle.cq_linear.specs.declared.store.StoreFault.TheVariants.{Overflow, Pivots, Unsupported};
+ghost use Rattle.cq_linear.specs.declared.store.StoreFault.TheVariants.{Overflow, Pivots};
 ghost use Rattle.cq_tableau.specs.Looked.{IsApart};
 ghost use Rattle.cq_tableau.specs.Stored.{IsMemberOf};
 ghost use Rattle.cq_linear.specs.Faced.{KeepsSome, IsFace, HoldsAtZero, AllApart, IsFallenApart, IsZeroNow, IsFaced, RefusesFace, SpendsFace};
@@ -47,7 +47,7 @@ fn is_zero_now(dict: &Dict, n: usize) -> bool
 }
 
 /// Whether the relation is that of a disequation.
-pub fn is_apart(relation: Relation) -> bool
+fn is_apart(relation: Relation) -> bool
     ensures { MatchBool result (relation ≡ Ne) (relation ≡ Ne → ⊥) }
 {
     match relation {
@@ -96,7 +96,6 @@ pub fn face(
     ensures saved { dict.new.saved ≡ dict.old.saved }
     ensures overflow { (pair : Pair) → result ≡ Err (Overflow pair) → RefusesFace q dict.old.roles dict.old.restricted pair }
     ensures pivots { (n : ℕ) → result ≡ Err (Pivots n) → (n ≡ pivots) × SpendsFace q dict.old.roles dict.old.restricted n }
-    ensures supported { result ≡ Err Unsupported → ⊥ }
 {
     hold_at_zero(dict, q, columns)?;
     match look_again(alloc, pivots, told, names, dict)? {

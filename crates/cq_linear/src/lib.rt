@@ -3,6 +3,7 @@
 
 pub mod asking;
 pub mod entering;
+pub mod equating;
 pub mod facing;
 pub mod falling;
 pub mod reaching;

@@ -1,15 +1,14 @@
-//! The store: linear inequalities and disequations, told one by one.
+//! The store: linear constraints of all relations, told one by one.
 
-ghost use Rattle.std.specs.Prelude.{◌≡◌, ◌↔◌, ℕ, [], ◌∷◌, ◌++◌, length, IfOk, IfSome, OnErr, MatchOption, MatchBool};
+ghost use Rattle.std.specs.Prelude.{◌≡◌, ℕ, [], ◌∷◌, ◌++◌, length, IfOk, IfSome, OnErr, MatchOption, MatchBool};
 ghost use Rattle.spec_rational.specs.Rational.{ℚ};
-ghost use Rattle.spec_linear.specs.declared.Relation.TheVariants.{Eq, Ne};
 ghost use Rattle.spec_linear.specs.Solution.{Solvable, Unsolvable, Fixed, Entails};
 ghost use Rattle.spec_extremes.specs.Extremes.{Leaves};
 ghost use Rattle.spec_inequalities.specs.Weak.{at_least_zero};
 ghost use Rattle.spec_inequalities.specs.Certificate.{Refutes};
 ghost use Rattle.spec_limits.specs.Asked.{NoQuestion};
 ghost use Rattle.cq_frac.specs.declared.Pair.{Pair};
-ghost use Rattle.cq_linear.specs.declared.store.StoreFault.TheVariants.{Overflow, Pivots, NoMemory, Unsupported};
+ghost use Rattle.cq_linear.specs.declared.store.StoreFault.TheVariants.{Overflow, Pivots, NoMemory};
 ghost use Rattle.cq_linear.specs.Faults.{IsFaultOf, IsFaultOfSearch};
 ghost use Rattle.cq_linear.specs.Questions.{RefusesQuestion, SpendsQuestion};
 ghost use Rattle.cq_tableau.specs.Newly.{AreNewlyFixed};
@@ -17,7 +16,6 @@ ghost use Rattle.cq_store.specs.Told.{numbers_of};
 ghost use Rattle.cq_linear.specs.StoreValue.{IfKept, IfUnsolvable, IsExtent, IsDepth, MayRefuse, MayTake, Only};
 
 use crate::entering::{Entered, Held, can_enter, enter};
-use crate::facing::is_apart;
 use crate::reaching::reach;
 use cq_dict::dict::Dict;
 use cq_form::{Cert, Constraint, Form};
@@ -27,7 +25,6 @@ use cq_tableau::negating::{negated, opposite};
 use cq_tableau::values::value_of;
 use cq_trail::{Both, Mark, Stack, Undo};
 use indexmap::IndexMap;
-use spec_linear::Relation;
 use std::alloc::{AllocError, Global};
 use std::marker::Model;
 use thiserror::Error;
@@ -58,9 +55,6 @@ pub enum StoreFault {
     Pivots(u64),
     #[error("out of memory")]
     NoMemory,
-    /// An equation was told, or the opposite of one asked about, which this store doesn't take.
-    #[error("not supported by this store")]
-    Unsupported,
 }
 
 impl From<AllocError> for StoreFault {
@@ -94,19 +88,7 @@ impl From<SimplexFault> for StoreFault {
     }
 }
 
-/// Whether the relation is equality.
-fn is_equality(relation: Relation) -> bool
-    ensures { MatchBool result (relation ≡ Eq) (relation ≡ Eq → ⊥) }
-{
-    match relation {
-        Relation::Eq => true,
-        _ => false,
-    }
-}
-
-/// Linear inequalities and disequations that hold together.
-///
-/// It takes no equation, which is `StoreFault::Unsupported`, and so is the question whether a disequation is entailed.
+/// Linear constraints that hold together.
 #[derive(Drop)]
 pub struct Store {
     alloc: Global,
@@ -188,14 +170,10 @@ impl Store {
         ensures unsolvable { IfOk result (λ t. IfUnsolvable t (λ cert. Refutes cert (self.old.told ++ c ∷ []) × (self.new.told ≡ self.old.told))) }
         ensures overflow { (pair : Pair) → result ≡ Err (Overflow pair) → MayRefuse self.old.told (Only c) NoQuestion pair }
         ensures pivots { (n : ℕ) → result ≡ Err (Pivots n) → (n ≡ self.old.pivots) × MayTake self.old.told (Only c) NoQuestion n }
-        ensures unsupported { (result ≡ Err Unsupported) ↔ (c.relation ≡ Eq) }
         ensures err { OnErr result (self.new.told ≡ self.old.told) }
         ensures saved { self.new.saved ≡ self.old.saved }
         ensures budget { self.new.pivots ≡ self.old.pivots }
     {
-        if is_equality(c.relation) {
-            return Err(StoreFault::Unsupported);
-        }
         let start = self.held.mark()?;
         match enter(
             self.alloc,
@@ -224,7 +202,6 @@ impl Store {
         ensures solvable { IfOk result (λ yes. MatchBool yes (Solvable (self.old.told ++ c ∷ [])) (Unsolvable (self.old.told ++ c ∷ []))) }
         ensures overflow { (pair : Pair) → result ≡ Err (Overflow pair) → MayRefuse self.old.told (Only c) NoQuestion pair }
         ensures pivots { (n : ℕ) → result ≡ Err (Pivots n) → (n ≡ self.old.pivots) × MayTake self.old.told (Only c) NoQuestion n }
-        ensures unsupported { result ≡ Err Unsupported → c.relation ≡ Eq }
         ensures told { self.new.told ≡ self.old.told }
         ensures saved { self.new.saved ≡ self.old.saved }
         ensures budget { self.new.pivots ≡ self.old.pivots }
@@ -246,14 +223,10 @@ impl Store {
         ensures entailed { IfOk result (λ yes. MatchBool yes (Entails self.old.told c.now) (Leaves self.old.told c.now)) }
         ensures overflow { (pair : Pair) → result ≡ Err (Overflow pair) → MayRefuse self.old.told NoQuestion (Only c.now) pair }
         ensures pivots { (n : ℕ) → result ≡ Err (Pivots n) → (n ≡ self.old.pivots) × MayTake self.old.told NoQuestion (Only c.now) n }
-        ensures unsupported { (result ≡ Err Unsupported) ↔ (c.now.relation ≡ Ne) }
         ensures told { self.new.told ≡ self.old.told }
         ensures saved { self.new.saved ≡ self.old.saved }
         ensures budget { self.new.pivots ≡ self.old.pivots }
     {
-        if is_apart(c.relation) {
-            return Err(StoreFault::Unsupported);
-        }
         let denial = opposite(self.alloc, c)?;
         match self.can_join(denial) {
             Ok(joins) => Ok(!joins),

@@ -23,7 +23,7 @@ enum Step<'a> {
     Entails(Relation, Products<'a>, i128, bool),
 }
 
-static STEPS: [&[Step]; 7] = [
+static STEPS: [&[Step]; 12] = [
     // x0 >= 1, x1 >= x0 + 2
     &[
         Step::Keeps(Relation::Ge, &[(1, 0)], -1, 0),
@@ -97,6 +97,57 @@ static STEPS: [&[Step]; 7] = [
             0,
             &[(3, 1), (4, 1), (3, -1), (2, 1)],
         ),
+    ],
+    // equations by which variables are fixed one after the other, also since an inequality is zero then
+    &[
+        Step::Keeps(Relation::Ge, &[(1, 0)], 0, 0),
+        Step::Keeps(Relation::Eq, &[(1, 0), (1, 1)], -3, 0),
+        // x1 = 5, and the same with the other sign
+        Step::Refuses(Relation::Eq, &[(1, 1)], -5, &[(3, 1), (1, 1), (2, -1)]),
+        Step::Refuses(Relation::Eq, &[(-1, 1)], 5, &[(3, -1), (1, 1), (2, -1)]),
+        Step::Entails(Relation::Ne, &[(1, 1)], -5, true),
+        Step::Entails(Relation::Ne, &[(1, 1)], -2, false),
+        Step::Keeps(Relation::Eq, &[(1, 1)], -3, 2),
+        Step::Entails(Relation::Eq, &[(1, 0)], 0, true),
+        Step::Keeps(Relation::Eq, &[(2, 0), (2, 1)], -6, 0),
+    ],
+    // 0 =< x0 =< 5, and x0 = 2, which an exchange passes
+    &[
+        Step::Keeps(Relation::Ge, &[(1, 0)], 0, 0),
+        Step::Keeps(Relation::Ge, &[(-1, 0)], 5, 0),
+        Step::Keeps(Relation::Eq, &[(1, 0)], -2, 1),
+        Step::Reaches(&[(-1, 0)], 5, Some(3)),
+    ],
+    // x0 = 0 where x0 >= 0 and x0 =< 0 said so
+    &[
+        Step::Keeps(Relation::Ge, &[(1, 0)], 0, 0),
+        Step::Keeps(Relation::Ge, &[(-1, 0)], 0, 1),
+        Step::Keeps(Relation::Eq, &[(1, 0)], 0, 0),
+        Step::Refuses(Relation::Eq, &[(1, 0)], -1, &[(4, 1), (3, -1)]),
+        Step::Refuses(Relation::Eq, &[(1, 0)], 1, &[(4, -1), (3, 1)]),
+    ],
+    // an equation by which a strict inequality can't hold
+    &[
+        Step::Keeps(Relation::Gt, &[(1, 0)], 0, 0),
+        Step::Keeps(Relation::Ge, &[(1, 1)], 0, 0),
+        Step::Refuses(
+            Relation::Eq,
+            &[(1, 0), (1, 1)],
+            0,
+            &[(1, 1), (2, 1), (3, -1)],
+        ),
+    ],
+    // and one by which a disequation can't
+    &[
+        Step::Keeps(Relation::Ne, &[(1, 0), (-1, 1)], 0, 0),
+        Step::Keeps(Relation::Eq, &[(1, 0)], -2, 1),
+        Step::Refuses(
+            Relation::Eq,
+            &[(1, 1)],
+            -2,
+            &[(1, 1), (2, -1), (3, 1), (1, -1), (2, 1), (3, -1)],
+        ),
+        Step::Keeps(Relation::Eq, &[(1, 1)], -3, 1),
     ],
 ];
 

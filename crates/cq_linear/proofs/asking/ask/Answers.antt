@@ -5,7 +5,7 @@ use Rattle.cq_row.specs.Rows.{Has}
 use Rattle.cq_dict.specs.Dict.{AddsRow, DefinesLast, RefusesForm}
 use Rattle.cq_dict.specs.DictValue.{quantities_of}
 use Rattle.cq_tableau.proofs.Storing.{entries_below}
-use Rattle.cq_linear.proofs.Passed.{refused, never_spent, supported}
+use Rattle.cq_linear.proofs.Passed.{refused, never_spent}
 use Rattle.cq_linear.proofs.asking.ask.Goals as goal
 
 pub add_row-requires : goal.add_row-requires
@@ -49,6 +49,3 @@ returns-in_err-n-clause-overflow c = λ pair e.
 
 pub returns-in_err-n-clause-pivots : goal.returns-in_err-n-clause-pivots
 returns-in_err-n-clause-pivots c = λ n e. never_spent c.from_residual-in_err-n.result c.in_err-n.field-0.0 n c.from_residual-in_err-n.ensures.1 e
-
-pub returns-in_err-n-clause-supported : goal.returns-in_err-n-clause-supported
-returns-in_err-n-clause-supported c = λ e. supported c.from_residual-in_err-n.result c.in_err-n.field-0.0 c.from_residual-in_err-n.ensures.1 e

@@ -1,7 +1,7 @@
 use Rattle.std.proofs.Common.{[], ◌∷◌, ◌++◌}
 use Rattle.cq_dict.specs.DictValue.{quantities_of}
 use Rattle.cq_store.proofs.Gained.{moved_err}
-use Rattle.cq_linear.specs.declared.store.StoreFault.TheVariants.{Pivots, Unsupported}
+use Rattle.cq_linear.specs.declared.store.StoreFault.TheVariants.{Pivots}
 use Rattle.cq_linear.proofs.Entries.{joined_solvable, refuted_unsolvable}
 use Rattle.cq_linear.proofs.entering.can_enter.Goals as goal
 
@@ -16,6 +16,3 @@ returns-in-Ok-Contradiction-clause-solvable c =
 
 pub returns-clause-pivots : goal.returns-clause-pivots
 returns-clause-pivots c = λ n e. c.in-Err.ensures.pivots n (moved_err c.in-Err.fault (Pivots n) e)
-
-pub returns-clause-unsupported : goal.returns-clause-unsupported
-returns-clause-unsupported c = λ e. c.in-Err.ensures.unsupported (moved_err c.in-Err.fault Unsupported e)

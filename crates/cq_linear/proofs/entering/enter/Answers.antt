@@ -2,7 +2,7 @@ use Rattle.std.proofs.Common.{List, Err, ap, subst, ◌∙◌}
 use Rattle.spec_linear.specs.Solution.{Constraint}
 use Rattle.spec_limits.specs.Asked.{NoQuestion}
 use Rattle.cq_linear.specs.StoreValue.{MayTake, Only}
-use Rattle.cq_linear.proofs.Passed.{store_spent, unsupported}
+use Rattle.cq_linear.proofs.Passed.{store_spent}
 use Rattle.cq_linear.proofs.entering.enter.Goals as goal
 
 pub returns-in_err-entered-clause-pivots : goal.returns-in_err-entered-clause-pivots
@@ -12,8 +12,3 @@ returns-in_err-entered-clause-pivots c = λ n e.
       o.0,
       subst (λ (l : List Constraint). MayTake l (Only c.args.c) NoQuestion n) (c.as_slice-told.ensures ∙ c.in_ok-reserve_places.ensures.now) o.1,
     )
-
-pub returns-in_err-entered-clause-unsupported : goal.returns-in_err-entered-clause-unsupported
-returns-in_err-entered-clause-unsupported c = λ e.
-    let f = unsupported c.from_residual-in_err-entered.result c.in_err-entered.field-0.0 c.from_residual-in_err-entered.ensures.1 e in
-    c.in_err-entered.ensures.unsupported (ap Err f)

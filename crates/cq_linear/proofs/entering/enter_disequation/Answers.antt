@@ -17,7 +17,7 @@ use Rattle.cq_linear.specs.StoreValue.{MayRefuse, Only}
 use Rattle.cq_linear.proofs.Asked.{asked_of, something_joins, nothing_refuted}
 use Rattle.cq_linear.proofs.Falls.{apart_joins}
 use Rattle.cq_linear.proofs.Moments.{asking_refused}
-use Rattle.cq_linear.proofs.Passed.{passed, unsupported, search_refused, search_supported, spent, store_spent}
+use Rattle.cq_linear.proofs.Passed.{passed, search_refused, spent, store_spent}
 use Rattle.cq_linear.proofs.Refusals.{member_asks, member_asks_opposite, either_refused, either_spent, apart_certified}
 use Rattle.cq_linear.proofs.entering.enter_disequation.Goals as goal
 
@@ -31,10 +31,6 @@ returns-in_err-q-clause-overflow c = λ pair e.
 pub returns-in_err-q-clause-pivots : goal.returns-in_err-q-clause-pivots
 returns-in_err-q-clause-pivots c = λ n e.
     absurd (c.in_err-q.ensures.pivots n (ap Err (store_spent c.from_residual.result c.in_err-q.field-0.0 n c.from_residual.ensures.1 e)))
-
-pub returns-in_err-q-clause-supported : goal.returns-in_err-q-clause-supported
-returns-in_err-q-clause-supported c = λ e.
-    c.in_err-q.ensures.supported (ap Err (unsupported c.from_residual.result c.in_err-q.field-0.0 c.from_residual.ensures.1 e))
 
 pub is_zero-requires : goal.is_zero-requires
 is_zero-requires c =
@@ -148,10 +144,6 @@ returns-in_err-restored-in-None-clause-pivots c = λ n e2.
       either_spent told c.args.c.now c.push.new.self.now (quantities_of c.ask.new.dict) j.between c.args.c.now (length told + 1) j.at j.flat n
           (subst (λ (z : Constraint). SpendsEither c.push.new.self.now (quantities_of c.ask.new.dict) z.form n) c.c.view_is o.1),
     )
-
-pub returns-in_err-restored-in-None-clause-supported : goal.returns-in_err-restored-in-None-clause-supported
-returns-in_err-restored-in-None-clause-supported c = λ e.
-    search_supported c.from_residual-in_err-restored-in-None.result c.in_err-restored-in-None.field-0.0 c.from_residual-in_err-restored-in-None.ensures.1 e
 
 pub returns-in_ok-restored-in-None-clause-numbered : goal.returns-in_ok-restored-in-None-clause-numbered
 returns-in_ok-restored-in-None-clause-numbered c =

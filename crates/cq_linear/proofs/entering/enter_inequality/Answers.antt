@@ -20,7 +20,7 @@ use Rattle.cq_linear.specs.StoreValue.{MayRefuse, MayTake, Only}
 use Rattle.cq_linear.proofs.Asked.{asked_of, risen_joins}
 use Rattle.cq_linear.proofs.Extents.{asked_feasible}
 use Rattle.cq_linear.proofs.Moments.{asking_refused, raise_refused, raise_spent}
-use Rattle.cq_linear.proofs.Passed.{passed, store_spent, unsupported, search_refused, spent, search_supported}
+use Rattle.cq_linear.proofs.Passed.{passed, store_spent, search_refused, spent}
 use Rattle.cq_linear.proofs.Refusals.{best_greatest, best_refuted, best_certified, best_refused, best_spent}
 use Rattle.cq_linear.proofs.Stays.{on_face}
 use Rattle.cq_linear.proofs.entering.enter_inequality.Goals as goal
@@ -35,10 +35,6 @@ returns-in_err-q-clause-overflow c = λ pair e.
 pub returns-in_err-q-clause-pivots : goal.returns-in_err-q-clause-pivots
 returns-in_err-q-clause-pivots c = λ n e.
     absurd (c.in_err-q.ensures.pivots n (ap Err (store_spent c.from_residual.result c.in_err-q.field-0.0 n c.from_residual.ensures.1 e)))
-
-pub returns-in_err-q-clause-supported : goal.returns-in_err-q-clause-supported
-returns-in_err-q-clause-supported c = λ e.
-    c.in_err-q.ensures.supported (ap Err (unsupported c.from_residual.result c.in_err-q.field-0.0 c.from_residual.ensures.1 e))
 
 pub raise-requires-clause-row : goal.raise-requires-clause-row
 raise-requires-clause-row c =
@@ -96,10 +92,6 @@ returns-in_err-raise-clause-pivots c = λ n e.
       subst (λ (m : ℕ). MayTake told (Only c.args.c.now) NoQuestion m) (sym o.0) (raise_spent told _ _ c.requires.stored c.args.c.now _ _ _ a c.raise.new.dict.roles c.args.pivots o.1),
     )
 
-pub returns-in_err-raise-clause-supported : goal.returns-in_err-raise-clause-supported
-returns-in_err-raise-clause-supported c = λ e.
-    search_supported c.from_residual-in_err-raise.result c.in_err-raise.field-0.0 c.from_residual-in_err-raise.ensures.1 e
-
 pub row_certificate-requires-clause-row : goal.row_certificate-requires-clause-row
 row_certificate-requires-clause-row c =
     let b : IsBest c.in_ok-q.q c.ask.new.dict.roles c.ask.new.dict.restricted c.raise.new.dict.roles c.raise.new.dict.restricted c.in-Best.greatest c.in-Best.columns.items =
@@ -149,10 +141,6 @@ returns-in_err-restored-in-None-clause-pivots c = λ n e.
       o.0,
       best_spent told _ _ c.requires.stored c.args.c.now _ _ _ a c.raise.new.dict.roles c.raise.new.dict.restricted c.in-Best.greatest c.in-Best.columns.items b n o.1,
     )
-
-pub returns-in_err-restored-in-None-clause-supported : goal.returns-in_err-restored-in-None-clause-supported
-returns-in_err-restored-in-None-clause-supported c = λ e.
-    search_supported c.from_residual-in_err-restored-in-None.result c.in_err-restored-in-None.field-0.0 c.from_residual-in_err-restored-in-None.ensures.1 e
 
 pub enter_on_face-requires-clause-on_face : goal.enter_on_face-requires-clause-on_face
 enter_on_face-requires-clause-on_face c =

@@ -9,7 +9,7 @@ use Rattle.cq_linear.specs.Fallen.{FallsAt}
 use Rattle.cq_linear.proofs.Falls.{fallen_falls}
 use Rattle.cq_tableau.specs.Fixing.{AreFixedNow}
 use Rattle.std.proofs.Common.{Err, add-one}
-use Rattle.cq_linear.proofs.Passed.{passed, store_spent, unsupported, search_refused, search_supported, spent}
+use Rattle.cq_linear.proofs.Passed.{passed, store_spent, search_refused, spent}
 use Rattle.cq_linear.proofs.Stops.{face_refused, face_spent}
 use Rattle.cq_tableau.proofs.Storing.{numbered_member}
 use Rattle.cq_linear.proofs.Stays.{face_stored, face_between, newly_fixed, known_before}
@@ -67,11 +67,6 @@ returns-in_err-fallen-clause-pivots c = λ n e.
       face_spent c.args.told.now c.args.names.now.now c.args.c.now c.args.dict.now.roles c.args.dict.now.restricted c.args.q c.args.columns.now c.requires.on_face n o.1,
     )
 
-pub returns-in_err-fallen-clause-supported : goal.returns-in_err-fallen-clause-supported
-returns-in_err-fallen-clause-supported c = λ e.
-    let f = unsupported c.from_residual-in_err-fallen.result c.in_err-fallen.field-0.0 c.from_residual-in_err-fallen.ensures.1 e in
-    c.in_err-fallen.ensures.supported (ap Err f)
-
 pub fallen_certificate-requires-clause-numbered : goal.fallen_certificate-requires-clause-numbered
 fallen_certificate-requires-clause-numbered c =
     let e : c.push.new.self.now ≡ c.reserve_places.new.self.now ++ Member (length c.args.told.now + 1) ∷ [] = rw c.unwrap.ensures at c.push.ensures.ok in
@@ -109,6 +104,3 @@ returns-in_err-cert-clause-overflow c = λ pair e.
 pub returns-in_err-cert-clause-pivots : goal.returns-in_err-cert-clause-pivots
 returns-in_err-cert-clause-pivots c = λ n e.
     c.in_err-cert.ensures.pivots n (ap Err (spent c.from_residual-in_err-cert.result c.in_err-cert.field-0.0 n c.from_residual-in_err-cert.ensures.1 e))
-
-pub returns-in_err-cert-clause-supported : goal.returns-in_err-cert-clause-supported
-returns-in_err-cert-clause-supported c = λ e. search_supported c.from_residual-in_err-cert.result c.in_err-cert.field-0.0 c.from_residual-in_err-cert.ensures.1 e

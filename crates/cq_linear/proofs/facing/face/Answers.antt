@@ -1,6 +1,6 @@
 use Rattle.std.proofs.Common.{Err, ap, subst}
 use Rattle.cq_tableau.specs.Looked.{IsLooked}
-use Rattle.cq_linear.proofs.Passed.{search_supported, spent}
+use Rattle.cq_linear.proofs.Passed.{spent}
 use Rattle.cq_linear.proofs.Faces.{some_speaks, holds_after, strict_falls, disequations_faced}
 use Rattle.cq_linear.proofs.facing.face.Goals as goal
 
@@ -46,6 +46,3 @@ returns-in-None-clause-faced c =
     (subst (IsLooked c.args.told.now c.args.names.now.now c.hold_at_zero.new.dict.roles c.look_again.new.dict.roles c.hold_at_zero.new.dict.restricted) c.in-None.is
     c.in_ok-fallen.ensures.looked)
     c.fallen_disequation.ensures
-
-pub returns-in_err-fallen-clause-supported : goal.returns-in_err-fallen-clause-supported
-returns-in_err-fallen-clause-supported c = λ e. search_supported c.from_residual-in_err-fallen.result c.in_err-fallen.field-0.0 c.from_residual-in_err-fallen.ensures.1 e

@@ -43,6 +43,3 @@ returns-clause-solvable c =
     let was : c.mark.new.self.first.now ≡ c.args.self.now.told = ap (λ (z : List Constraint × (List Name × Quantities)). z.0) c.mark.ensures.now ∙ ap (λ (z : StoreValue). z.told) c.self.view_is in
     subst (λ (l : List Constraint). IfOk c.can_enter-joins.result (λ yes. MatchBool yes (Solvable (l ++ c.args.c ∷ [])) (Unsolvable (l ++ c.args.c ∷ [])))) was
     c.can_enter-joins.ensures.solvable
-
-pub returns-clause-unsupported : goal.returns-clause-unsupported
-returns-clause-unsupported c = λ e. c.can_enter-joins.ensures.unsupported e

@@ -1,8 +1,6 @@
-use Rattle.spec_linear.specs.declared.Relation.TheVariants.{Ne}
 use Rattle.cq_store.proofs.Gained.{moved_err}
-use Rattle.cq_linear.specs.declared.store.StoreFault.TheVariants.{Overflow, Pivots, Unsupported}
-use Rattle.cq_linear.proofs.Questions.{answered, refuses_instead, takes_instead, unsupported_instead}
-use Rattle.cq_linear.proofs.Taken.{other_relation}
+use Rattle.cq_linear.specs.declared.store.StoreFault.TheVariants.{Overflow, Pivots}
+use Rattle.cq_linear.proofs.Questions.{answered, refuses_instead, takes_instead}
 use Rattle.cq_linear.proofs.store.Store.entailed.Goals as goal
 
 pub returns-in-Ok-clause-entailed : goal.returns-in-Ok-clause-entailed
@@ -17,9 +15,3 @@ pub returns-in-Err-clause-pivots : goal.returns-in-Err-clause-pivots
 returns-in-Err-clause-pivots c = λ n e.
     let o = c.in-Err.ensures.pivots n (moved_err c.in-Err.fault (Pivots n) e) in
     (o.0, takes_instead c.args.self.now.told c.args.c.now c.in_ok-denial.denial c.in_ok-denial.ensures n o.1)
-
-pub returns-in-Err-clause-unsupported : goal.returns-in-Err-clause-unsupported
-returns-in-Err-clause-unsupported c = (
-  λ e. unsupported_instead c.args.c.now c.in_ok-denial.denial c.in_ok-denial.ensures (c.in-Err.ensures.unsupported (moved_err c.in-Err.fault Unsupported e)),
-  λ h. absurd (other_relation Ne _ _ _ c.c.view_is c.is_apart.ensures c.if-is_apart.false h),
-)

@@ -1,7 +1,6 @@
 -- What is entered between a mark and its end; one that is refused leaves what is held at the mark.
 use Rattle.std.proofs.Common.{◌≡◌, List, ◌++◌, [], ◌∷◌, ap, ap₂, sym, subst, ◌∙◌}
 use Rattle.std.specs.List.{zip}
-use Rattle.spec_linear.specs.declared.Relation.TheVariants.{Eq}
 use Rattle.spec_linear.specs.Solution.{Constraint, Solvable}
 use Rattle.spec_inequalities.specs.Certificate.{Refutes}
 use Rattle.cq_dict.specs.DictValue.{quantities_of}
@@ -13,9 +12,8 @@ use Rattle.cq_linear.proofs.Holding.{held_joined, held_undone, last_undone}
 use Rattle.cq_tableau.proofs.Storing.{stored_solvable}
 use Rattle.spec_limits.specs.Asked.{NoQuestion}
 use Rattle.cq_store.proofs.Gained.{moved_err}
-use Rattle.cq_linear.specs.declared.store.StoreFault.TheVariants.{Pivots, Unsupported}
+use Rattle.cq_linear.specs.declared.store.StoreFault.TheVariants.{Pivots}
 use Rattle.cq_linear.specs.StoreValue.{MayTake, Only}
-use Rattle.cq_linear.proofs.Taken.{other_relation}
 use Rattle.cq_linear.proofs.store.Store.tell.Goals as goal
 use Rattle.cq_linear.proofs.store.Store.tell.Goals.{After-forget, After-undo, After-undo-in-Err}
 
@@ -101,9 +99,3 @@ returns-in-Err-clause-pivots c = λ n e.
       o.0 ∙ ap (λ (z : StoreValue). z.pivots) c.self.view_is,
       subst (λ (l : List Constraint). MayTake l (Only c.args.c) NoQuestion n) was o.1,
     )
-
-pub returns-in-Err-clause-unsupported : goal.returns-in-Err-clause-unsupported
-returns-in-Err-clause-unsupported c = (
-  λ e. c.in-Err.ensures.unsupported (moved_err c.in-Err.fault Unsupported e),
-  λ h. absurd (other_relation Eq _ _ _ c.c.view_is c.is_equality.ensures c.if-is_equality.false h),
-)

@@ -1,0 +1,152 @@
+use Rattle.std.proofs.Common.{◌≡◌, ℕ, Err, ap, sym, subst, ◌∙◌}
+use Rattle.spec_rational.specs.Rational.{0ℚ}
+use Rattle.spec_rational.specs.Sums.{Mentions}
+use Rattle.spec_linear.specs.Form.{negated_form}
+use Rattle.spec_linear.specs.Solution.{Constraint}
+use Rattle.spec_limits.specs.Asked.{NoQuestion}
+use Rattle.cq_dict.specs.DictValue.{quantities_of}
+use Rattle.cq_dict.specs.Roles.{Quantities, constant_at}
+use Rattle.cq_tableau.specs.Stored.{IsKnown, IsStored}
+use Rattle.cq_tableau.proofs.Restores.{undone}
+use Rattle.cq_tableau.proofs.Storing.{placed_known}
+use Rattle.cq_linear.specs.declared.equating.Approached.{Approached}
+use Rattle.cq_linear.specs.declared.store.StoreFault.TheVariants.{Overflow, Pivots}
+use Rattle.cq_linear.specs.Equated.{IsRowBehind, Crosses, StaysBelow, OfJoining, IsApproached}
+use Rattle.cq_linear.specs.StoreValue.{MayRefuse, MayTake, Only}
+use Rattle.cq_linear.proofs.Approach.{joining}
+use Rattle.cq_linear.proofs.Passed.{told_pair, told_number, one_fault, spent}
+use Rattle.cq_linear.proofs.equating.enter_equation.Goals as goal
+
+pub approach-requires : goal.approach-requires
+approach-requires c =
+    let k : Constraint = record { relation = c.c.inside.relation; form = c.c.inside.form } in
+    let p = c.in_ok-places.ensures in
+    record {
+      told = c.args.told.now;
+      names = c.place.new.names.now;
+      constraint = k;
+      joins = joining c.args.told.now c.place.new.names.now k _ _ c.mark.ensures.now (p.stored c.args.told.now c.requires.stored) _ _ c.deref.ensures.value p.placed p.in_order _
+          c.constant.ensures;
+    }
+
+pub enter_zero-requires-clause-behind : goal.enter_zero-requires-clause-behind
+enter_zero-requires-clause-behind c =
+    let told = c.args.told.now in
+    let names = c.place.new.names.now in
+    let k : Constraint = record { relation = c.c.inside.relation; form = c.c.inside.form } in
+    let p = c.in_ok-places.ensures in
+    let new = c.approach.new.dict in
+    let j = joining told names k _ _ c.mark.ensures.now (p.stored told c.requires.stored) _ _ c.deref.ensures.value p.placed p.in_order _ c.constant.ensures in
+    let a = subst (λ (y : Approached). OfJoining (quantities_of c.mark.new.self) c.deref.result.now c.constant.result (IsApproached new.roles new.restricted y)) c.in-Ok-Zero.field-0-is
+    c.in-Ok-Zero.ensures.approached in
+    subst (λ (z : Quantities). IsRowBehind told names c.args.c.now z.roles z.restricted c.in-Ok-Zero.q) (sym c.forget.ensures.now)
+    (subst (λ (z : Constraint). IsRowBehind told names z new.roles new.restricted c.in-Ok-Zero.q) c.c.view_is (a told names k j).0)
+
+pub enter_zero-requires-clause-zero : goal.enter_zero-requires-clause-zero
+enter_zero-requires-clause-zero c =
+    let told = c.args.told.now in
+    let names = c.place.new.names.now in
+    let k : Constraint = record { relation = c.c.inside.relation; form = c.c.inside.form } in
+    let p = c.in_ok-places.ensures in
+    let new = c.approach.new.dict in
+    let j = joining told names k _ _ c.mark.ensures.now (p.stored told c.requires.stored) _ _ c.deref.ensures.value p.placed p.in_order _ c.constant.ensures in
+    let a = subst (λ (y : Approached). OfJoining (quantities_of c.mark.new.self) c.deref.result.now c.constant.result (IsApproached new.roles new.restricted y)) c.in-Ok-Zero.field-0-is
+    c.in-Ok-Zero.ensures.approached in
+    subst (λ (z : Quantities). constant_at z.roles c.in-Ok-Zero.q ≡ 0ℚ) (sym c.forget.ensures.now) (a told names k j).1
+
+pub enter_by_column-requires-clause-crosses : goal.enter_by_column-requires-clause-crosses
+enter_by_column-requires-clause-crosses c =
+    let told = c.args.told.now in
+    let names = c.place.new.names.now in
+    let k : Constraint = record { relation = c.c.inside.relation; form = c.c.inside.form } in
+    let p = c.in_ok-places.ensures in
+    let new = c.approach.new.dict in
+    let j = joining told names k _ _ c.mark.ensures.now (p.stored told c.requires.stored) _ _ c.deref.ensures.value p.placed p.in_order _ c.constant.ensures in
+    let a = subst (λ (y : Approached). OfJoining (quantities_of c.mark.new.self) c.deref.result.now c.constant.result (IsApproached new.roles new.restricted y)) c.in-Ok-Crossing.field-0-is
+    c.in-Ok-Crossing.ensures.approached in
+    subst (λ (z : Quantities). Crosses told names c.args.c.now z.roles z.restricted c.in-Ok-Crossing.q c.in-Ok-Crossing.column) (sym c.forget-in-Ok-Crossing.ensures.now)
+    (subst (λ (z : Constraint). Crosses told names z new.roles new.restricted c.in-Ok-Crossing.q c.in-Ok-Crossing.column) c.c.view_is (a told names k j))
+
+-- what is there once the row is taken away again
+pub below_certificate-requires-clause-stored : goal.below_certificate-requires-clause-stored
+below_certificate-requires-clause-stored c =
+    let told = c.args.told.now in
+    let names = c.place.new.names.now in
+    subst (λ (z : Quantities). IsStored told names z)
+    (sym (undone c.place.new.dict.saved _ _ c.in_ok-start.start.number c.in_ok-start.ensures.mark c.approach.new.dict.saved
+    (c.in-Ok-Below.ensures.saved ∙ c.in_ok-start.ensures.saved) c.undo.ensures.now)) (c.in_ok-places.ensures.stored told c.requires.stored)
+
+pub below_certificate-requires-clause-knows : goal.below_certificate-requires-clause-knows
+below_certificate-requires-clause-knows c =
+    let names = c.place.new.names.now in
+    subst (λ (z : Constraint). (x : ℕ) → Mentions x z.form.products → IsKnown names x) c.c.view_is
+    (λ x m. placed_known names c.c.inside.form.products c.in_ok-places.places.items c.in_ok-places.ensures.placed x m)
+
+pub below_certificate-requires-clause-below : goal.below_certificate-requires-clause-below
+below_certificate-requires-clause-below c =
+    let told = c.args.told.now in
+    let names = c.place.new.names.now in
+    let k : Constraint = record { relation = c.c.inside.relation; form = c.c.inside.form } in
+    let p = c.in_ok-places.ensures in
+    let new = c.approach.new.dict in
+    let j = joining told names k _ _ c.mark.ensures.now (p.stored told c.requires.stored) _ _ c.deref.ensures.value p.placed p.in_order _ c.constant.ensures in
+    let a = subst (λ (y : Approached). OfJoining (quantities_of c.mark.new.self) c.deref.result.now c.constant.result (IsApproached new.roles new.restricted y)) c.in-Ok-Below.field-0-is
+    c.in-Ok-Below.ensures.approached in
+    subst (λ (z : Constraint). StaysBelow told z.form) c.c.view_is (a told names k j)
+
+pub returns-in_err-cert-in-Ok-Below-clause-pivots : goal.returns-in_err-cert-in-Ok-Below-clause-pivots
+returns-in_err-cert-in-Ok-Below-clause-pivots c = λ n e.
+    c.in_err-cert-in-Ok-Below.ensures.pivots n
+    (ap Err (spent c.from_residual-in_err-cert-in-Ok-Below.result c.in_err-cert-in-Ok-Below.field-0.0 n c.from_residual-in_err-cert-in-Ok-Below.ensures.1 e))
+
+pub returns-in_err-cert-in-Ok-Above-clause-pivots : goal.returns-in_err-cert-in-Ok-Above-clause-pivots
+returns-in_err-cert-in-Ok-Above-clause-pivots c = λ n e.
+    c.in_err-cert-in-Ok-Above.ensures.pivots n
+    (ap Err (spent c.from_residual-in_err-cert-in-Ok-Above.result c.in_err-cert-in-Ok-Above.field-0.0 n c.from_residual-in_err-cert-in-Ok-Above.ensures.1 e))
+
+pub above_certificate-requires-clause-stored : goal.above_certificate-requires-clause-stored
+above_certificate-requires-clause-stored c =
+    let told = c.args.told.now in
+    let names = c.place.new.names.now in
+    subst (λ (z : Quantities). IsStored told names z)
+    (sym (undone c.place.new.dict.saved _ _ c.in_ok-start.start.number c.in_ok-start.ensures.mark c.approach.new.dict.saved
+    (c.in-Ok-Above.ensures.saved ∙ c.in_ok-start.ensures.saved) c.undo-in-Ok-Above.ensures.now)) (c.in_ok-places.ensures.stored told c.requires.stored)
+
+pub above_certificate-requires-clause-knows : goal.above_certificate-requires-clause-knows
+above_certificate-requires-clause-knows c =
+    let names = c.place.new.names.now in
+    subst (λ (z : Constraint). (x : ℕ) → Mentions x z.form.products → IsKnown names x) c.c.view_is
+    (λ x m. placed_known names c.c.inside.form.products c.in_ok-places.places.items c.in_ok-places.ensures.placed x m)
+
+pub above_certificate-requires-clause-above : goal.above_certificate-requires-clause-above
+above_certificate-requires-clause-above c =
+    let told = c.args.told.now in
+    let names = c.place.new.names.now in
+    let k : Constraint = record { relation = c.c.inside.relation; form = c.c.inside.form } in
+    let p = c.in_ok-places.ensures in
+    let new = c.approach.new.dict in
+    let j = joining told names k _ _ c.mark.ensures.now (p.stored told c.requires.stored) _ _ c.deref.ensures.value p.placed p.in_order _ c.constant.ensures in
+    let a = subst (λ (y : Approached). OfJoining (quantities_of c.mark.new.self) c.deref.result.now c.constant.result (IsApproached new.roles new.restricted y)) c.in-Ok-Above.field-0-is
+    c.in-Ok-Above.ensures.approached in
+    subst (λ (z : Constraint). StaysBelow told (negated_form z.form)) c.c.view_is (a told names k j)
+
+pub returns-clause-overflow : goal.returns-clause-overflow
+returns-clause-overflow c = λ pair e.
+    let told = c.args.told.now in
+    let names = c.place.new.names.now in
+    let k : Constraint = record { relation = c.c.inside.relation; form = c.c.inside.form } in
+    let p = c.in_ok-places.ensures in
+    let j = joining told names k _ _ c.mark.ensures.now (p.stored told c.requires.stored) _ _ c.deref.ensures.value p.placed p.in_order _ c.constant.ensures in
+    let f = told_pair c.in-Err.fault c.from.result pair c.from.ensures (one_fault c.from.result (Overflow pair) e) in
+    subst (λ (z : Constraint). MayRefuse told (Only z) NoQuestion pair) c.c.view_is (c.in-Err.ensures.overflow pair (ap Err f) told names k j)
+
+pub returns-clause-pivots : goal.returns-clause-pivots
+returns-clause-pivots c = λ n e.
+    let told = c.args.told.now in
+    let names = c.place.new.names.now in
+    let k : Constraint = record { relation = c.c.inside.relation; form = c.c.inside.form } in
+    let p = c.in_ok-places.ensures in
+    let j = joining told names k _ _ c.mark.ensures.now (p.stored told c.requires.stored) _ _ c.deref.ensures.value p.placed p.in_order _ c.constant.ensures in
+    let f = told_number c.in-Err.fault c.from.result n c.from.ensures (one_fault c.from.result (Pivots n) e) in
+    let o = c.in-Err.ensures.pivots n (ap Err f) in
+    (o.0, subst (λ (z : Constraint). MayTake told (Only z) NoQuestion n) c.c.view_is (o.1 told names k j))
