@@ -16,3 +16,4 @@ pub mod Approach
 pub mod Against
 pub mod Instead
 pub mod Concluded
+pub mod Valued

@@ -23,6 +23,14 @@ pub record StoreValue : Type 0 where
   pub saved : List (List Constraint)
   pub room : ℕ
 
+-- what a mark keeps: how many exchanges a call may make, and the told constraints
+pub record Kept : Type 0 where
+  pub pivots : ℕ
+  pub told : List Constraint
+
+abbrev pub kept : ℕ → List Constraint → Kept
+kept n l = record { pivots = n; told = l }
+
 -- a fact of the newly fixed variables, if the constraint was kept
 abbrev pub IfKept : Told → (List VarId → Type 0) → Type 0
 IfKept (of_told.Kept fixed) P = P fixed.items

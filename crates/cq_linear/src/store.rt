@@ -1,8 +1,8 @@
 //! The store: linear constraints of all relations, told one by one.
 
-ghost use Rattle.std.specs.Prelude.{◌≡◌, ℕ, [], ◌∷◌, ◌++◌, length, IfOk, IfSome, OnErr, MatchOption, MatchBool};
+ghost use Rattle.std.specs.Prelude.{◌≡◌, ℕ, [], ◌∷◌, ◌++◌, length, Option, IfOk, IfSome, OnErr, MatchOption, MatchBool};
 ghost use Rattle.spec_rational.specs.Rational.{ℚ};
-ghost use Rattle.spec_linear.specs.Solution.{Solvable, Unsolvable, Fixed, Entails};
+ghost use Rattle.spec_linear.specs.Solution.{Solvable, Unsolvable, Fixed, Fixes, Entails};
 ghost use Rattle.spec_extremes.specs.Extremes.{Leaves};
 ghost use Rattle.spec_inequalities.specs.Weak.{at_least_zero};
 ghost use Rattle.spec_inequalities.specs.Certificate.{Refutes};
@@ -151,6 +151,7 @@ impl Store {
     pub fn told(&self) -> &[Constraint]
         ensures told { result.now ≡ self.now.told }
         ensures solvable { Solvable self.now.told }
+        ensures fixes { (fixed : ℕ → Option ℚ) × Fixes self.now.told fixed }
     {
         self.held.first.as_slice()
     }
@@ -288,14 +289,14 @@ impl Store {
 }
 
 impl Undo for Store {
-    ghost use Rattle.std.specs.Prelude.{List};
-    ghost use Rattle.spec_linear.specs.Solution.{Constraint};
+    ghost use Rattle.std.specs.Prelude.{map};
+    ghost use Rattle.cq_linear.specs.StoreValue.{Kept, kept};
 
-    ghost Value = { List Constraint };
+    ghost Value = { Kept };
 
-    ghost now = { λ s. s.told };
+    ghost now = { λ s. kept s.pivots s.told };
 
-    ghost saved = { λ s. s.saved };
+    ghost saved = { λ s. map (kept s.pivots) s.saved };
 
     ghost room = { λ s. s.room };
 

@@ -1,8 +1,14 @@
 use Rattle.cq_dict.specs.DictValue.{quantities_of}
 use Rattle.cq_tableau.proofs.Storing.{stored_solvable}
+use Rattle.cq_linear.proofs.Valued.{stored_fixes}
 use Rattle.cq_linear.proofs.store.Store.told.Goals as goal
 
 pub returns-clause-solvable : goal.returns-clause-solvable
 returns-clause-solvable c =
     rw (← c.self.view_is)
     (stored_solvable c.self.inside.held.first.now c.self.inside.held.second.first.now (quantities_of c.self.inside.held.second.second) c.self.invariant.stored)
+
+pub returns-clause-fixes : goal.returns-clause-fixes
+returns-clause-fixes c =
+    rw (← c.self.view_is)
+    (stored_fixes c.self.inside.held.first.now c.self.inside.held.second.first.now (quantities_of c.self.inside.held.second.second) c.self.invariant.stored)

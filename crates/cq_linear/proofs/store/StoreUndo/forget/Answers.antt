@@ -3,6 +3,7 @@ use Rattle.std.specs.List.{zip, take-map}
 use Rattle.spec_linear.specs.Solution.{Constraint}
 use Rattle.cq_dict.specs.Roles.{Quantities}
 use Rattle.cq_tableau.specs.declared.names.Name.{Name}
+use Rattle.cq_linear.specs.StoreValue.{kept}
 use Rattle.cq_linear.proofs.Holding.{held_forgotten}
 use Rattle.cq_linear.proofs.store.StoreUndo.forget.Goals as goal
 
@@ -12,6 +13,8 @@ invariant_of-self c = held_forgotten _ _ _ c.self.invariant c.args.m.number _ c.
 pub returns-clause-saved : goal.returns-clause-saved
 returns-clause-saved c =
     let all = zip c.self.inside.held.first.saved (zip c.self.inside.held.second.first.saved c.self.inside.held.second.second.saved) in
+    let lists = ap (map (λ (h : List Constraint × (List Name × Quantities)). h.0)) c.forget.ensures.saved
+    ∙ sym (take-map (λ (h : List Constraint × (List Name × Quantities)). h.0) c.args.m.number all) in
     rw (← c.self.view_is)
-    (ap (map (λ (h : List Constraint × (List Name × Quantities)). h.0)) c.forget.ensures.saved
-    ∙ sym (take-map (λ (h : List Constraint × (List Name × Quantities)). h.0) c.args.m.number all))
+    (ap (map (kept c.self.inside.pivots)) lists
+    ∙ sym (take-map (kept c.self.inside.pivots) c.args.m.number (map (λ (h : List Constraint × (List Name × Quantities)). h.0) all)))

@@ -5,6 +5,7 @@ use Rattle.std.specs.Option.{option_map}
 use Rattle.spec_linear.specs.Solution.{Constraint}
 use Rattle.cq_dict.specs.Roles.{Quantities}
 use Rattle.cq_tableau.specs.declared.names.Name.{Name}
+use Rattle.cq_linear.specs.StoreValue.{kept}
 use Rattle.cq_linear.proofs.Holding.{held_given_back}
 use Rattle.cq_linear.proofs.store.StoreUndo.undo.Goals as goal
 
@@ -14,13 +15,17 @@ invariant_of-self c = held_given_back _ _ _ c.self.invariant c.args.m.number _ c
 pub returns-clause-now : goal.returns-clause-now
 returns-clause-now c =
     let all = zip c.self.inside.held.first.saved (zip c.self.inside.held.second.first.saved c.self.inside.held.second.second.saved) in
+    let list = slice_get-map (λ (h : List Constraint × (List Name × Quantities)). h.0) all c.args.m.number
+    ∙ ap (option_map (λ (h : List Constraint × (List Name × Quantities)). h.0)) c.undo.ensures.now in
     rw (← c.self.view_is)
-    (slice_get-map (λ (h : List Constraint × (List Name × Quantities)). h.0) all c.args.m.number
-    ∙ ap (option_map (λ (h : List Constraint × (List Name × Quantities)). h.0)) c.undo.ensures.now)
+    (slice_get-map (kept c.self.inside.pivots) (map (λ (h : List Constraint × (List Name × Quantities)). h.0) all) c.args.m.number
+    ∙ ap (option_map (kept c.self.inside.pivots)) list)
 
 pub returns-clause-saved : goal.returns-clause-saved
 returns-clause-saved c =
     let all = zip c.self.inside.held.first.saved (zip c.self.inside.held.second.first.saved c.self.inside.held.second.second.saved) in
+    let lists = ap (map (λ (h : List Constraint × (List Name × Quantities)). h.0)) c.undo.ensures.saved
+    ∙ sym (take-map (λ (h : List Constraint × (List Name × Quantities)). h.0) c.args.m.number all) in
     rw (← c.self.view_is)
-    (ap (map (λ (h : List Constraint × (List Name × Quantities)). h.0)) c.undo.ensures.saved
-    ∙ sym (take-map (λ (h : List Constraint × (List Name × Quantities)). h.0) c.args.m.number all))
+    (ap (map (kept c.self.inside.pivots)) lists
+    ∙ sym (take-map (kept c.self.inside.pivots) c.args.m.number (map (λ (h : List Constraint × (List Name × Quantities)). h.0) all)))
