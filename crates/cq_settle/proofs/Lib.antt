@@ -1,0 +1,14 @@
+mod Bound
+mod Ends
+mod Operands
+mod Moments
+mod Values
+mod Closed
+mod Numeric
+mod Resting
+mod Woken
+mod Kept
+mod Joined
+mod Permuted
+mod Refused
+mod Pruned
