@@ -14,7 +14,6 @@ use Rattle.spec_branch.specs.Settling.{fixed_values, value_or_variable}
 use Rattle.cq_settle.specs.Underway.{valued}
 use Rattle.spec_branch.specs.Alike.{no_values}
 
-
 variable_form_same : (o : Option ℚ) (x : ℕ) → form_of no_values (value_or_variable o x) ≡ Some (variable_under o x)
 variable_form_same None x = refl
 variable_form_same (Some q) x = refl

@@ -21,6 +21,7 @@ contains_or_not (x ∷ xs) v = by_test (nat_eq x v) refl (contains_or_not xs v) 
   neither : (x ≡ v → ⊥) → (Contains xs v → ⊥) → (x ≡ v) ⊎ Contains xs v → ⊥
   neither f g (inl e) = f e
   neither f g (inr h) = g h
+
   by_test : (b : Bool) → nat_eq x v ≡ b → Contains xs v ⊎ (Contains xs v → ⊥) → Contains (x ∷ xs) v ⊎ (Contains (x ∷ xs) v → ⊥)
   by_test true e r = inl (contains_here x xs v (nat_eq-same x v e))
   by_test false e (inl h) = inl (contains_later x xs v h)

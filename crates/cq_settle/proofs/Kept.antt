@@ -75,9 +75,9 @@ module _ (texts : List Text) (older : List HeapTerm) (c : Contents) (st : State)
       ∙ ap (λ (d : Bool). not (waits_for_one all w && is_some (if d then None else Some id))) i
       ∙ never (waits_for_one all w)
       ∙ sym (sleeps_variable (apply after y) g ∙ ap (λ (s : Subst Text). is_variable (apply s y)) (sym same) ∙ ap is_variable (sym r) ∙ named_variable (text_of texts) (at c.heap.images v.0) ∙ i) where
-    never : (d : Bool) → not (d && false) ≡ true
-    never true = refl
-    never false = refl
+        never : (d : Bool) → not (d && false) ≡ true
+        never true = refl
+        never false = refl
   one_by w v id y g false e r i f z =
       let no_variable : is_variable (apply now y) ≡ false = ap is_variable (sym r) ∙ named_variable (text_of texts) (at c.heap.images v.0) ∙ i in
       let x = sleeping_variable (apply st.bindings y) g z in
@@ -136,23 +136,23 @@ module _ (texts : List Text) (older : List HeapTerm) (c : Contents) (st : State)
       → WakesAlike (wakes_now w) (woken_goal (state_of after (Frozen y g)))
   alike_by w v id y g true e l r q i f z =
       let there : woken_goal (state_of after (Frozen y g)) ≡ None = goal_of_sleep (apply after y) g
-          (ap (λ (s : Subst Text). is_variable (apply s y)) (sym same) ∙ ap is_variable (sym r) ∙ named_variable (text_of texts) (at c.heap.images v.0) ∙ i) in
+      (ap (λ (s : Subst Text). is_variable (apply s y)) (sym same) ∙ ap is_variable (sym r) ∙ named_variable (text_of texts) (at c.heap.images v.0) ∙ i) in
       let here : wakes_now w ≡ None =
-          ap (λ (s : Susp). if waits_for_one all w then goal_that_wakes c.heap.images s else None) e
-          ∙ ap (λ (d : Bool). if waits_for_one all w then (if d then None else Some id) else None) i ∙ none (waits_for_one all w) in
+      ap (λ (s : Susp). if waits_for_one all w then goal_that_wakes c.heap.images s else None) e
+      ∙ ap (λ (d : Bool). if waits_for_one all w then (if d then None else Some id) else None) i ∙ none (waits_for_one all w) in
       subst (λ (o : Option ℕ). WakesAlike o (woken_goal (state_of after (Frozen y g)))) (sym here) (subst (λ (o : Option Tree). WakesAlike None o) (sym there) neither) where
-    none : (d : Bool) → (if d then (if true then None else Some id) else None) ≡ None
-    none true = refl
-    none false = refl
+        none : (d : Bool) → (if d then (if true then None else Some id) else None) ≡ None
+        none true = refl
+        none false = refl
   alike_by w v id y g false e l r q i f z =
       let no_variable : is_variable (apply now y) ≡ false = ap is_variable (sym r) ∙ named_variable (text_of texts) (at c.heap.images v.0) ∙ i in
       let x = sleeping_variable (apply st.bindings y) g z in
       let waits : waits_for_one all w ≡ true = waits_for_it all w x.0 (was_bound x.0 y x.1 no_variable (f x.0 x.1).1) (f x.0 x.1).0 in
       let there : woken_goal (state_of after (Frozen y g)) ≡ Some g = goal_of_wake (apply after y) g (ap (λ (s : Subst Text). is_variable (apply s y)) (sym same) ∙ no_variable) in
       let here : wakes_now w ≡ Some id =
-          ap (λ (s : Susp). if waits_for_one all w then goal_that_wakes c.heap.images s else None) e
-          ∙ ap (λ (d : Bool). if waits_for_one all w then (if d then None else Some id) else None) i
-          ∙ ap (λ (d : Bool). if d then Some id else None) waits in
+      ap (λ (s : Susp). if waits_for_one all w then goal_that_wakes c.heap.images s else None) e
+      ∙ ap (λ (d : Bool). if waits_for_one all w then (if d then None else Some id) else None) i
+      ∙ ap (λ (d : Bool). if d then Some id else None) waits in
       subst (λ (o : Option ℕ). WakesAlike o (woken_goal (state_of after (Frozen y g)))) (sym here)
       (subst (λ (o : Option Tree). WakesAlike (Some id) o) (sym there) (both id g l (q ∙ ap (λ (s : Subst Text). apply s g) same)))
 

@@ -27,8 +27,8 @@ pub found_any : {A : Type 0} (test : A → Bool) (xs : List A) → list_any test
 found_any test [] e = cc
 found_any test (x ∷ xs) e =
     elim (one_is (test x) (list_any test xs) e) [
-      inl h ↦ record { item = x; among = inl refl; passes = h }
-    | inr h ↦ (let r = found_any test xs h in record { item = r.item; among = inr r.among; passes = r.passes })
+      | inl h ↦ record { item = x; among = inl refl; passes = h }
+      | inr h ↦ (let r = found_any test xs h in record { item = r.item; among = inr r.among; passes = r.passes })
     ]
 
 pub contains_of_has : {A : Type 0} (xs : List A) (x : A) → Has x xs → Contains xs x
@@ -88,11 +88,11 @@ module _ (st : State) (p : Pending) (u : Subst Text) (k : IsTask st p u) where
   pub numeric_cases : (v : ℕ) → numeric_then st p u v ≡ true → (st.numeric v ≡ true) ⊎ IsFree v
   numeric_cases v e =
       elim (one_is (st.numeric v || list_any (λ w. is_the_variable v (unified st u w)) (newly_bound st u)) (stands_in (unified st u) p.told v) e) [
-        inl h ↦ (elim (one_is (st.numeric v) (list_any (λ w. is_the_variable v (unified st u w)) (newly_bound st u)) h) [
-            inl n ↦ inl n
+        | inl h ↦ (elim (one_is (st.numeric v) (list_any (λ w. is_the_variable v (unified st u w)) (newly_bound st u)) h) [
+          | inl n ↦ inl n
           | inr i ↦ (let w = found_any (λ w. is_the_variable v (unified st u w)) (newly_bound st u) i in inr (of_image v w.item w.among w.passes))
-          ])
-      | inr s ↦ inr (of_told v s)
+        ])
+        | inr s ↦ inr (of_told v s)
       ]
 
   pub numeric_below : (v : ℕ) → numeric_then st p u v ≡ true → v < st.fresh
@@ -150,9 +150,9 @@ module _ (st : State) (p : Pending) (u : Subst Text) (k : IsTask st p u) where
       let newly : Has y (newly_bound st u) = has_filtered test (counted_from 0 st.fresh) y (in_counted 0 st.fresh y (omega arith) (omega (arith, k.read_through.numeric y n))) passes in
       let here : is_the_variable x (unified st u y) ≡ true = ap (is_the_variable x) i ∙ nat_eq-self x in
       or_left _ (stands_in (unified st u) p.told x) (or_right (st.numeric x) _ (any_found (λ w. is_the_variable x (unified st u w)) (newly_bound st u) y newly here)) where
-    and_true : (a b : Bool) → a ≡ true → b ≡ true → (a && b) ≡ true
-    and_true true b e f = f
-    and_true false b e f = cc
+        and_true : (a b : Bool) → a ≡ true → b ≡ true → (a && b) ≡ true
+        and_true true b e f = f
+        and_true false b e f = cc
 
   by_image : (v x : ℕ) → st.numeric v ≡ true → unified st u v ≡ Var x → (t : Tree) → st.bindings v ≡ t → numeric_then st p u x ≡ true
   by_image v x n i (Var y) e =

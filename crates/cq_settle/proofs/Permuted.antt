@@ -15,8 +15,8 @@ pub standing : (ys : List ℕ) (x : ℕ) → Contains ys x → Standing ys x
 standing [] x h = absurd (contains_none x h)
 standing (y ∷ ys) x h =
     elim (contains_cases y ys x h) [
-      inl e ↦ record { before = []; after = ys; is = ap (λ (z : ℕ). z ∷ ys) e }
-    | inr m ↦ (let r = standing ys x m in record { before = y ∷ r.before; after = r.after; is = ap (λ (zs : List ℕ). y ∷ zs) r.is })
+      | inl e ↦ record { before = []; after = ys; is = ap (λ (z : ℕ). z ∷ ys) e }
+      | inr m ↦ (let r = standing ys x m in record { before = y ∷ r.before; after = r.after; is = ap (λ (zs : List ℕ). y ∷ zs) r.is })
     ]
 
 -- a member of the rest is one of the whole, and the other way but for the element
@@ -63,12 +63,13 @@ once_cons y ys o n (suc i) (suc j) d l m = o i j d (omega (arith, l)) (omega (ar
 once_without : (b a : List ℕ) (x : ℕ) → IsOnce (b ++ x ∷ a) → IsOnce (b ++ a) × (Contains (b ++ a) x → ⊥)
 once_without [] a x h = (once_rest x a h, once_head x a h)
 once_without (z ∷ b) a x h =
-    let r = once_without b a x (once_rest z (b ++ x ∷ a) h) in
-    (once_cons z (b ++ a) r.0 (λ m. once_head z (b ++ x ∷ a) h (in_whole b a x z m)),
-    λ m. elim (contains_cases z (b ++ a) x m) [
-      inl e ↦ once_head z (b ++ x ∷ a) h (subst (λ (y : ℕ). Contains (b ++ x ∷ a) y) (sym e) (in_middle b a x))
-    | inr n ↦ r.1 n
-    ])
+    let r = once_without b a x (once_rest z (b ++ x ∷ a) h) in (
+      once_cons z (b ++ a) r.0 (λ m. once_head z (b ++ x ∷ a) h (in_whole b a x z m)),
+      λ m. elim (contains_cases z (b ++ a) x m) [
+        | inl e ↦ once_head z (b ++ x ∷ a) h (subst (λ (y : ℕ). Contains (b ++ x ∷ a) y) (sym e) (in_middle b a x))
+        | inr n ↦ r.1 n
+      ],
+    )
 
 not_other : {A : Type 0} (x : ℕ) (xs : List ℕ) (v : ℕ) → IsOnce (x ∷ xs) → Contains xs v → (x ≡ v) ⊎ A → A
 not_other x xs v o m (inl e) = absurd (once_head x xs o (subst (λ (z : ℕ). Contains xs z) (sym e) m))
@@ -86,8 +87,8 @@ permuted (x ∷ xs) ys o q f g =
     let s = standing ys x (f x (contains_here x xs x refl)) in
     let w = once_without s.before s.after x (subst IsOnce s.is q) in
     let rest : IsPermutation xs (s.before ++ s.after) = permuted xs (s.before ++ s.after) (once_rest x xs o) w.0
-        (λ v m. not_other x xs v o m (in_rest s.before s.after x v (subst (λ (zs : List ℕ). Contains zs v) s.is (f v (contains_later x xs v m)))))
-        (λ v m. not_first x xs v (λ e. w.1 (subst (λ (z : ℕ). Contains (s.before ++ s.after) z) (sym e) m))
-            (contains_cases x xs v (g v (subst (λ (zs : List ℕ). Contains zs v) (sym s.is) (in_whole s.before s.after x v m))))) in
+    (λ v m. not_other x xs v o m (in_rest s.before s.after x v (subst (λ (zs : List ℕ). Contains zs v) s.is (f v (contains_later x xs v m)))))
+    (λ v m. not_first x xs v (λ e. w.1 (subst (λ (z : ℕ). Contains (s.before ++ s.after) z) (sym e) m))
+    (contains_cases x xs v (g v (subst (λ (zs : List ℕ). Contains zs v) (sym s.is) (in_whole s.before s.after x v m))))) in
     subst (λ (zs : List ℕ). IsPermutation (x ∷ xs) zs) (sym s.is)
     (IsPermutation-trans _ _ _ (IsPermutation-cons x xs (s.before ++ s.after) rest) (IsPermutation-sym _ _ (IsPermutation-middle s.before x s.after)))

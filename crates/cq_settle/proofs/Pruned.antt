@@ -30,11 +30,14 @@ named_neither f (Compound a ts) = refl
 
 pub clash_prunes : (texts : List Text) (c : Contents) (newly : List VarId) (told : List ℕ) (rows : List Constraint) (st : State) (p : Pending) (u : Subst Text)
     → IsCalled texts c newly told rows st p u → (v : ℕ) → v < length c.heap.images → ClashesAt c v → IsPruned st p u
-clash_prunes texts c newly told rows st p u k v l h = (Clash, λ items. clash (record {
-  variable = v;
-  numeric = sym (k.stands.numeric v) ∙ h.0;
-  image = ap is_no_number (k.stands.bindings.inside v l) ∙ named_neither (text_of texts) (at c.heap.images v) ∙ h.1;
-}))
+clash_prunes texts c newly told rows st p u k v l h = (
+  Clash,
+  λ items. clash (record {
+    variable = v;
+    numeric = sym (k.stands.numeric v) ∙ h.0;
+    image = ap is_no_number (k.stands.bindings.inside v l) ∙ named_neither (text_of texts) (at c.heap.images v) ∙ h.1;
+  }),
+)
 
 -- ---- lists without a solution
 
@@ -42,7 +45,7 @@ clash_prunes texts c newly told rows st p u k v l h = (Clash, λ items. clash (r
 pub stopped : (l all done left : List Constraint) (next : Constraint) → all ≡ done ++ next ∷ left → Unsolvable ((l ++ done) ++ next ∷ []) → Unsolvable (l ++ all)
 stopped l all done left next e h =
     let s : ((l ++ done) ++ next ∷ []) ++ left ≡ l ++ all =
-        append_assoc (l ++ done) (next ∷ []) left ∙ append_assoc l done (next ∷ left) ∙ ap (λ (xs : List Constraint). l ++ xs) (sym e) in
+    append_assoc (l ++ done) (next ∷ []) left ∙ append_assoc l done (next ∷ left) ∙ ap (λ (xs : List Constraint). l ++ xs) (sym e) in
     subst Unsolvable s (unsolvable_longer ((l ++ done) ++ next ∷ []) left h)
 
 module _ (st : State) (p : Pending) (u : Subst Text) (no_clash : NoClash st (unified st u)) where

@@ -83,6 +83,7 @@ module _ (texts : List Text) (older : List HeapTerm) (c : Contents) (st : State)
     is_value : (x w : ℕ) (t : Tree) → Becomes n fixed x t → t ≡ Var w → x ≡ w
     is_value x w t (itself i f) e = let g : Var x ≡ Var w = sym i ∙ e in cc
     is_value x w t (number q i g) e = let h : Number q ≡ Var w = sym i ∙ e in cc
+
     older : (v w : ℕ) → after v ≡ Var w → (t : Tree) → unified st u v ≡ t → w ≤ v
     older v w e (Var x) i =
         let g : x ≡ w = is_value x w (fixed_values n fixed x) (becomes n fixed x) (ap (apply (fixed_values n fixed)) (sym i) ∙ e) in
@@ -90,6 +91,7 @@ module _ (texts : List Text) (older : List HeapTerm) (c : Contents) (st : State)
     older v w e (Number q) i = let h : Number q ≡ Var w = ap (apply (fixed_values n fixed)) (sym i) ∙ e in cc
     older v w e (Name a) i = let h : Name a ≡ Var w = ap (apply (fixed_values n fixed)) (sym i) ∙ e in cc
     older v w e (Compound f ts) i = let h : apply (fixed_values n fixed) (Compound f ts) ≡ Var w = ap (apply (fixed_values n fixed)) (sym i) ∙ e in cc
+
     beyond : (v : ℕ) → st.fresh ≤ v → Becomes n fixed v (fixed_values n fixed v) → fixed_values n fixed v ≡ Var v
     beyond v l (itself e f) = e
     beyond v l (number q e m) = absurd (omega (arith, l, numeric_below st p u k.task v m))
@@ -110,9 +112,9 @@ module _ (texts : List Text) (older : List HeapTerm) (c : Contents) (st : State)
 
   pub no_clash : NoClash (kept_branch [] st p u c.told waiting fixed).state after
   no_clash v e = elim (numeric_cases st p u k.task v e) [
-      inl m ↦ no_clash_of (unified st u v) (k.task.no_clash v m)
+    | inl m ↦ no_clash_of (unified st u v) (k.task.no_clash v m)
     | inr f ↦ (ap is_no_number (at_free v f.0) ∙ value_is_no_clash v)
-    ]
+  ]
 
   -- ---- what waits
 
@@ -173,9 +175,9 @@ module _ (texts : List Text) (older : List HeapTerm) (c : Contents) (st : State)
 
   pub images : (v w : ℕ) → n v ≡ true → after v ≡ Var w → n w ≡ true
   images v w m e = elim (numeric_cases st p u k.task v m) [
-      inl b ↦ image_term v w b e (unified st u v) refl
+    | inl b ↦ image_term v w b e (unified st u v) refl
     | inr f ↦ value_numeric v w m (fixed_values n fixed v) (becomes n fixed v) (sym (at_free v f.0) ∙ e)
-    ]
+  ]
 
   -- ---- sleepers
 

@@ -105,9 +105,9 @@ zip_so R S f (x ∷ xs) (y ∷ ys) z = (f x y z.0, zip_so R S f xs ys z.1)
 any_of : (test : ℕ → Bool) (xs : List ℕ) (v : ℕ) → Contains xs v → test v ≡ true → list_any test xs ≡ true
 any_of test [] v h e = absurd (Rattle.cq_attr.proofs.Elements.contains_none v h)
 any_of test (x ∷ xs) v h e = elim (contains_cases x xs v h) [
-    inl i ↦ or_left (test x) (list_any test xs) (ap test i ∙ e)
+  | inl i ↦ or_left (test x) (list_any test xs) (ap test i ∙ e)
   | inr m ↦ or_right (test x) (list_any test xs) (any_of test xs v m e)
-  ]
+]
 
 pub waits_for_it : (bound : List ℕ) (k : Waiting) (v : ℕ) → Contains bound v → Contains k.watched v → waits_for_one bound k ≡ true
 waits_for_it bound k v b w = any_of (λ x. list_any (λ y. y == x) k.watched) bound v b (any_of (λ y. y == v) k.watched v w (nat_eq-self v))

@@ -47,7 +47,12 @@ fn tell(world: &mut World, constraint: Constraint, newly: &mut Newly) -> Result<
 }
 
 /// Each told term joins, or waits behind those that wait. False where one is false, or the list has no solution.
-pub(crate) fn join_told(world: &mut World, atoms: &Atoms, told: &[TermId], newly: &mut Newly) -> Result<bool, StoreFault>
+pub(crate) fn join_told(
+    world: &mut World,
+    atoms: &Atoms,
+    told: &[TermId],
+    newly: &mut Newly,
+) -> Result<bool, StoreFault>
     requires whole { IsWhole atoms.now (now_of world.old) }
     requires live { All (λ id. id < length world.old.heap.now.terms) told.now }
     ensures joined { IfOk result (λ yes. MatchBool yes
@@ -69,7 +74,12 @@ pub(crate) fn join_told(world: &mut World, atoms: &Atoms, told: &[TermId], newly
 }
 
 /// A told term joins, or waits behind those that wait.
-fn join_term(world: &mut World, atoms: &Atoms, term: TermId, newly: &mut Newly) -> Result<bool, StoreFault>
+fn join_term(
+    world: &mut World,
+    atoms: &Atoms,
+    term: TermId,
+    newly: &mut Newly,
+) -> Result<bool, StoreFault>
     requires whole { IsWhole atoms.now (now_of world.old) }
     requires live { term < length world.old.heap.now.terms }
     ensures joined { IfOk result (λ yes. MatchBool yes
@@ -120,7 +130,12 @@ pub(crate) fn close(world: &mut World, atoms: &Atoms, newly: &mut Newly) -> Resu
 }
 
 /// Those of the numbers that are of terms are looked at again. Where none joins, nothing was bound.
-fn look_again(world: &mut World, atoms: &Atoms, numbers: &[SuspNo], newly: &mut Newly) -> Result<bool, StoreFault>
+fn look_again(
+    world: &mut World,
+    atoms: &Atoms,
+    numbers: &[SuspNo],
+    newly: &mut Newly,
+) -> Result<bool, StoreFault>
     requires whole { IsWhole atoms.now (now_of world.old) }
     requires waits { All (λ n. Contains (numbers world.old.attrs.now.waiting) n) numbers.now }
     ensures looked { IfOk result (λ yes. MatchBool yes
@@ -147,7 +162,13 @@ fn look_again(world: &mut World, atoms: &Atoms, numbers: &[SuspNo], newly: &mut 
 }
 
 /// A term that waits under the number joins, or goes on waiting.
-fn rejoin(world: &mut World, atoms: &Atoms, number: SuspNo, term: TermId, newly: &mut Newly) -> Result<bool, StoreFault>
+fn rejoin(
+    world: &mut World,
+    atoms: &Atoms,
+    number: SuspNo,
+    term: TermId,
+    newly: &mut Newly,
+) -> Result<bool, StoreFault>
     requires whole { IsWhole atoms.now (now_of world.old) }
     requires waits { Contains (numbers world.old.attrs.now.waiting) number }
     requires susp { find world.old.attrs.now.waiting number ≡ Some (susp.Delayed term) }

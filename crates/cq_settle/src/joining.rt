@@ -70,7 +70,11 @@ fn watch_all(attrs: &mut Attrs, numbers: &[SuspNo], image: VarId) -> Result<(), 
 
 /// The equation of each numeric variable that was bound joins, and its image becomes numeric where that is a variable. These
 /// images and the variables that get fixed are told. False where the list has no solution.
-pub(crate) fn join_equations(world: &mut World, newly: &[VarId], fixed: &mut Vec<VarId>) -> Result<bool, StoreFault>
+pub(crate) fn join_equations(
+    world: &mut World,
+    newly: &[VarId],
+    fixed: &mut Vec<VarId>,
+) -> Result<bool, StoreFault>
     requires bound { AreBoundThere world.old.heap.now.images newly.now }
     requires values { All (λ v. ClashesAt (now_of world.old) v.0 → ⊥) newly.now }
     ensures joined { IfOk result (λ yes. MatchBool yes
@@ -100,7 +104,11 @@ pub(crate) fn join_equations(world: &mut World, newly: &[VarId], fixed: &mut Vec
 }
 
 /// The rows join. The variables that get fixed are told. False where the list has no solution.
-pub(crate) fn join_rows(store: &mut Store, rows: Vec<Constraint>, fixed: &mut Vec<VarId>) -> Result<bool, StoreFault>
+pub(crate) fn join_rows(
+    store: &mut Store,
+    rows: Vec<Constraint>,
+    fixed: &mut Vec<VarId>,
+) -> Result<bool, StoreFault>
     ensures joined { IfOk result (λ yes. MatchBool yes
         (HaveJoined store.old.told rows.items store.new.told fixed.old.items fixed.new.items)
         (StopsAt CannotJoin store.old.told rows.items)) }
@@ -118,7 +126,11 @@ pub(crate) fn join_rows(store: &mut Store, rows: Vec<Constraint>, fixed: &mut Ve
 }
 
 /// A constraint joins, and the variables that it fixes are told. False where the list has no solution.
-fn join(store: &mut Store, constraint: Constraint, fixed: &mut Vec<VarId>) -> Result<bool, StoreFault>
+fn join(
+    store: &mut Store,
+    constraint: Constraint,
+    fixed: &mut Vec<VarId>,
+) -> Result<bool, StoreFault>
     ensures joined { IfOk result (λ yes. MatchBool yes
         (HaveJoined store.old.told (constraint ∷ []) store.new.told fixed.old.items fixed.new.items)
         (CannotJoin store.old.told constraint)) }
@@ -137,7 +149,11 @@ fn join(store: &mut Store, constraint: Constraint, fixed: &mut Vec<VarId>) -> Re
 }
 
 /// That a variable less its image is zero. An image that is a variable, which is an older one, becomes numeric and is told.
-fn equation_of(world: &mut World, variable: VarId, fixed: &mut Vec<VarId>) -> Result<Constraint, AllocError>
+fn equation_of(
+    world: &mut World,
+    variable: VarId,
+    fixed: &mut Vec<VarId>,
+) -> Result<Constraint, AllocError>
     requires there { variable.0 < length world.old.heap.now.images }
     requires value { IsTrue (is_neither (at world.old.heap.now.images variable.0)) → ⊥ }
     requires older { (w : ℕ) → at world.old.heap.now.images variable.0 ≡ Var w → w < variable.0 }
@@ -177,7 +193,11 @@ fn less_variable(alloc: Global, variable: VarId, older: VarId) -> Result<Form, A
 }
 
 /// The variables of the terms become numeric, and are told.
-pub(crate) fn make_numeric(world: &mut World, told: &[TermId], fixed: &mut Vec<VarId>) -> Result<(), AllocError>
+pub(crate) fn make_numeric(
+    world: &mut World,
+    told: &[TermId],
+    fixed: &mut Vec<VarId>,
+) -> Result<(), AllocError>
     requires { All (λ id. id < length world.old.heap.now.terms) told.now }
     ensures numeric { OnOk result ((v : ℕ) → is_numeric world.new.attrs.now v ≡ (is_numeric world.old.attrs.now v
         || list_any (λ id. list_any (λ w. w == v) (variables (at world.old.heap.now.terms id))) told.now)) }
@@ -199,7 +219,11 @@ pub(crate) fn make_numeric(world: &mut World, told: &[TermId], fixed: &mut Vec<V
 }
 
 /// Those of the variables that are numeric and unbound are bound to the values that the list gives them.
-pub(crate) fn bind_fixed(world: &mut World, fixed: &[VarId], newly: &mut Newly) -> Result<(), AllocError>
+pub(crate) fn bind_fixed(
+    world: &mut World,
+    fixed: &[VarId],
+    newly: &mut Newly,
+) -> Result<(), AllocError>
     requires { All (λ v. v < length world.old.heap.now.images) world.old.attrs.now.numeric }
     ensures bound { OnOk result ((values : ℕ → Option ℚ)
         × BindsValues world.old.attrs.now world.old.store.told world.old.heap.now world.new.heap.now newly.old newly.new values

@@ -151,10 +151,7 @@ static SCENES: [Scene; 24] = [
     (
         &[
             (
-                Tell(&[
-                    &[X, Y, Two("*"), Z, Two("=")],
-                    &[Y, N(2, 1), Two("=")],
-                ]),
+                Tell(&[&[X, Y, Two("*"), Z, Two("=")], &[Y, N(2, 1), Two("=")]]),
                 NONE,
             ),
             (Freeze(2, "g"), NONE),
@@ -213,11 +210,7 @@ static SCENES: [Scene; 24] = [
         0,
     ),
     // {X=Y}: entailed equal, and two variables
-    (
-        &[(Tell(&[&[X, Y, Two("=")]]), NONE)],
-        &[Free, Free],
-        0,
-    ),
+    (&[(Tell(&[&[X, Y, Two("=")]]), NONE)], &[Free, Free], 0),
     // {X>0}, X=Y, {Y<0}
     (
         &[
@@ -289,11 +282,7 @@ static SCENES: [Scene; 24] = [
         1,
     ),
     // nothing numeric
-    (
-        &[(Equate(0, &[Y, One("f")]), NONE)],
-        &[Other, Free],
-        0,
-    ),
+    (&[(Equate(0, &[Y, One("f")]), NONE)], &[Other, Free], 0),
     // a frozen goal wakes by a compound
     (
         &[
@@ -495,12 +484,20 @@ fn tell_chain(world: &mut World, atoms: &mut Atoms, n: usize) -> Result<bool, Fa
         last = next;
     }
     let newly = Newly::new(alloc);
-    let work = Work { newly, told, rows: Vec::new(alloc) };
+    let work = Work {
+        newly,
+        told,
+        rows: Vec::new(alloc),
+    };
     let _told = settle(world, atoms, work)?;
     let before = world.attrs.waiting()?.len();
     let mut newly = Newly::new(alloc);
     let _one = unify(&mut world.heap, &mut newly, first, one)?;
-    let work = Work { newly, told: Vec::new(alloc), rows: Vec::new(alloc) };
+    let work = Work {
+        newly,
+        told: Vec::new(alloc),
+        rows: Vec::new(alloc),
+    };
     let _bound = settle(world, atoms, work)?;
     let after = world.attrs.waiting()?.len();
     Ok(before == n && after == 0 && world.heap.view(last) == View::Number(Frac::one()))
