@@ -4,7 +4,7 @@ use Rattle.std.specs.List.{AllByRecursion}
 use Rattle.spec_rational.specs.Rational.{ℚ}
 use Rattle.spec_linear.specs.Solution.{Solvable, Fixed}
 use Rattle.spec_lists.specs.Texts.{Text}
-use Rattle.spec_terms.specs.Term.{Var, Occurs, apply}
+use Rattle.spec_terms.specs.Term.{Var, Occurs}
 use Rattle.spec_told.specs.Relations.{Waits, lin}
 use Rattle.spec_branch.specs.Branch.{State, read}
 use Rattle.spec_branch.specs.Alike.{no_values}
