@@ -9,6 +9,7 @@ mod Resting
 mod Woken
 mod Kept
 mod Joined
+mod Composed
 mod Permuted
 mod Refused
 mod Pruned
