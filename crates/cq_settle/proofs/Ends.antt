@@ -1,8 +1,7 @@
 -- Where moves end: where each term waits, and where the list has no solution.
 use Rattle.std.proofs.Common.{◌≡◌, ℕ, List, [], ◌∷◌, ◌++◌, Option, None, Some, refl, sym, ap, ◌∙◌, subst, inl, inr}
 use Rattle.spec_rational.specs.Rational.{ℚ}
-use Rattle.spec_linear.specs.Solution.{Constraint, Point, Solves, Solvable, Unsolvable, Fixes, Has, Equivalent}
-use Rattle.spec_linear.proofs.Lists.{solves_append}
+use Rattle.spec_linear.specs.Solution.{Constraint, Unsolvable, Fixes, Has, Equivalent}
 use Rattle.spec_lists.specs.Texts.{Text}
 use Rattle.spec_terms.specs.Term.{Subst, apply}
 use Rattle.spec_syntax.specs.Trees.{Tree}
@@ -35,10 +34,6 @@ waiting_closed s l w fixed fixes h m x k =
 pub unsolvable_closed : (s : Subst Text) (l : List Constraint) (w : List Tree) → Unsolvable l
     → (m : List Constraint) (x : List Tree) → IsMove s l w m x → ⊥
 unsolvable_closed s l w h m x k = h k.solvable.0 k.solvable.1
-
--- a list with an unsolvable beginning has no solution
-pub unsolvable_longer : (l m : List Constraint) → Unsolvable l → Unsolvable (l ++ m)
-unsolvable_longer l m h p k = h p ((solves_append p l m).0 k).0
 
 -- moves one after another, the last one apart
 pub then_moves : {s : Subst Text} {l l' m : List Constraint} {w w' x : List Tree} → Moves s l w l' w' → Moves s l' w' m x → Moves s l w m x

@@ -10,6 +10,7 @@ mod Woken
 mod Kept
 mod Joined
 mod Composed
+mod Further
 mod Permuted
 mod Refused
 mod Pruned

@@ -3,6 +3,7 @@ use Rattle.std.proofs.Common.{◌≡◌, ◌<◌, ℕ, List, [], ◌∷◌, ◌+
 use Rattle.std.specs.Prelude.{IsPermutation}
 use Rattle.spec_rational.specs.Rational.{ℚ}
 use Rattle.spec_linear.specs.Solution.{Constraint, Has, Solvable, Unsolvable, Fixes}
+use Rattle.spec_linear.proofs.Lists.{unsolvable_more}
 use Rattle.spec_lists.specs.Texts.{Text}
 use Rattle.spec_terms.specs.Term.{Subst, Var, Number, Name, Compound, apply, followed_by, named}
 use Rattle.spec_syntax.specs.Trees.{Tree}
@@ -18,7 +19,7 @@ use Rattle.cq_settle.specs.Called.{IsCalled}
 use Rattle.cq_settle.specs.Settled.{IsPruned}
 use Rattle.cq_settle.specs.Steps.{ClashesAt, is_neither, StopsAt, CannotJoin}
 use Rattle.cq_settle.specs.Underway.{IsReached, unified}
-use Rattle.cq_settle.proofs.Ends.{then_moves, unsolvable_closed, unsolvable_longer}
+use Rattle.cq_settle.proofs.Ends.{then_moves, unsolvable_closed}
 
 -- ---- a clash
 
@@ -46,7 +47,7 @@ pub stopped : (l all done left : List Constraint) (next : Constraint) → all �
 stopped l all done left next e h =
     let s : ((l ++ done) ++ next ∷ []) ++ left ≡ l ++ all =
     append_assoc (l ++ done) (next ∷ []) left ∙ append_assoc l done (next ∷ left) ∙ ap (λ (xs : List Constraint). l ++ xs) (sym e) in
-    subst Unsolvable s (unsolvable_longer ((l ++ done) ++ next ∷ []) left h)
+    subst Unsolvable s (unsolvable_more ((l ++ done) ++ next ∷ []) left h)
 
 module _ (st : State) (p : Pending) (u : Subst Text) (no_clash : NoClash st (unified st u)) where
   pub pruned_at : (l : List Constraint) (w : List Tree) → IsReached st p u l w → Unsolvable l → IsPruned st p u
