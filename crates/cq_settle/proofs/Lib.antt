@@ -11,6 +11,7 @@ mod Kept
 mod Joined
 mod Composed
 mod Further
+mod Stood
 mod Permuted
 mod Refused
 mod Pruned
