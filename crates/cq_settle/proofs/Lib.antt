@@ -12,6 +12,7 @@ mod Joined
 mod Composed
 mod Further
 mod Stood
+mod Looked
 mod Permuted
 mod Refused
 mod Pruned
