@@ -1,1 +1,3 @@
-mod Opened
+pub mod Opened
+pub mod Below
+pub mod Lists

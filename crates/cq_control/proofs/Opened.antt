@@ -1,77 +1,135 @@
--- What is open stays so while marks are added or ended behind it.
-use Rattle.std.proofs.Common.{◌≡◌, ℕ, zero, suc, ◌<◌, List, [], ◌∷◌, ◌++◌, length, take, Some, arith, refl, ap, ap₂, sym, subst, ◌∙◌, get_or}
-use Rattle.std.specs.Prelude.{slice_get}
-use Rattle.std.proofs.lemmas.List.{map-append, get_or_append_left}
-use Rattle.std.proofs.lemmas.List.Elements.{All-tail}
-use Rattle.std.proofs.lemmas.Option.{slice_get_within}
-use Rattle.cq_control.specs.declared.choices.Choice.{Choice}
-use Rattle.cq_control.specs.Open.{AreAscending, AreLive, open_choices}
+-- How the open choices change with their contents, which a vector has with the oldest first, and with the marks.
+use Rattle.std.proofs.Common.{◌≡◌, ℕ, zero, suc, ◌+◌, ◌-◌, ◌≤◌, List, [], ◌∷◌, ◌++◌, length, take, drop, reverse, Some, arith, refl, ap, ap₂, sym, ◌∙◌, length-drop, append_assoc}
+use Rattle.std.specs.Prelude.{slice_get, slice_set}
+use Rattle.std.specs.List.{zip}
+use Rattle.std.proofs.lemmas.List.{reverse-append, length-reverse, drop_at, take-append-drop}
+use Rattle.std.proofs.lemmas.Option.{same_Some, none-some}
+use Rattle.cq_control.specs.Open.{last, open_choices}
 
 -- ---- lists
 
-get-longer : {V : Type 0} (xs more : List V) (k : ℕ) → k < length xs → slice_get (xs ++ more) k ≡ slice_get xs k
-get-longer [] more k l = absurd (omega (arith, l))
-get-longer (x ∷ xs) more zero l = refl
-get-longer (x ∷ xs) more (suc k) l = get-longer xs more k (omega (arith, l))
+pub reverse-push : {X : Type 0} (xs : List X) (y : X) → reverse (xs ++ y ∷ []) ≡ y ∷ reverse xs
+reverse-push xs y = reverse-append xs (y ∷ [])
 
-get-last : {V : Type 0} (xs : List V) (x : V) → slice_get (xs ++ x ∷ []) (length xs) ≡ Some x
-get-last [] x = refl
-get-last (y ∷ xs) x = get-last xs x
+-- the oldest ones, so many of them
+pub last-reverse : {X : Type 0} (n : ℕ) (xs : List X) → last n (reverse xs) ≡ reverse (take n xs)
+last-reverse n xs =
+    ap (λ m. drop (m - n) (reverse xs)) (length-reverse xs)
+    ∙ ap (drop (length xs - n)) (ap reverse (sym (take-append-drop n xs)) ∙ reverse-append (take n xs) (drop n xs))
+    ∙ drop_at (reverse (drop n xs)) (reverse (take n xs)) (length xs - n) (length-reverse (drop n xs) ∙ length-drop n xs)
 
-get-taken : {V : Type 0} (n : ℕ) (xs : List V) (k : ℕ) → k < n → slice_get (take n xs) k ≡ slice_get xs k
-get-taken zero xs k l = absurd (omega (arith, l))
-get-taken (suc n) [] k l = refl
-get-taken (suc n) (x ∷ xs) zero l = refl
-get-taken (suc n) (x ∷ xs) (suc k) l = get-taken n xs k (omega (arith, l))
+pub last-all : {X : Type 0} (n : ℕ) (xs : List X) → length xs ≤ n → last n xs ≡ xs
+last-all n xs le = let e : length xs - n ≡ 0 = omega arith in ap (λ m. drop m xs) e
 
-length-taken : {V : Type 0} (n : ℕ) (xs : List V) → n < length xs → length (take n xs) ≡ n
-length-taken n [] l = absurd (omega (arith, l))
-length-taken zero (x ∷ xs) l = refl
-length-taken (suc n) (x ∷ xs) l = ap suc (length-taken n xs (omega (arith, l)))
+pub take-one-more : {X : Type 0} (xs : List X) (n : ℕ) (x : X) → slice_get xs n ≡ Some x → take (suc n) xs ≡ take n xs ++ x ∷ []
+take-one-more [] n x e = absurd (none-some x e)
+take-one-more (y ∷ ys) zero x e = ap (λ z. z ∷ []) (same_Some y x e)
+take-one-more (y ∷ ys) (suc n) x e = ap (λ zs. y ∷ zs) (take-one-more ys n x e)
 
--- ---- choices
+pub take-length : {X : Type 0} (xs : List X) (n : ℕ) → length xs ≤ n → take n xs ≡ xs
+take-length [] zero le = refl
+take-length [] (suc n) le = refl
+take-length (x ∷ xs) zero le = absurd (omega arith)
+take-length (x ∷ xs) (suc n) le = ap (λ ys. x ∷ ys) (take-length xs n (omega arith))
 
--- over values that agree at the live marks the same is open
-same_open : {V C : Type 0} (xs ys : List V) (n : ℕ) (cs : List (Choice C)) → ((k : ℕ) → k < n → slice_get xs k ≡ slice_get ys k) → AreLive n cs → open_choices xs cs ≡ open_choices ys cs
-same_open xs ys n [] same live = refl
-same_open xs ys n (c ∷ cs) same live =
-    ap₂ (λ v rest. (v, c.content) ∷ rest) (same c.mark.number (live 0 c (omega arith)))
-    (same_open xs ys n cs same (All-tail (λ c. c.mark.number < n) c cs live))
+pub take-last : {X : Type 0} (xs : List X) (n : ℕ) (x : X) → length xs ≡ suc n → slice_get xs n ≡ Some x → xs ≡ take n xs ++ x ∷ []
+take-last xs n x l e = sym (take-length xs (suc n) (omega (arith, l))) ∙ take-one-more xs n x e
 
-module _ {V C : Type 0} (saved : List V) (now : V) (cs : List (Choice C)) (c : Choice C) where
-  -- a choice at a new mark
-  pub opened : AreLive (length saved) cs → c.mark.number ≡ length saved → open_choices (saved ++ now ∷ []) (cs ++ c ∷ []) ≡ open_choices saved cs ++ (Some now, c.content) ∷ []
-  opened live new =
-      map-append (λ (d : Choice C). (slice_get (saved ++ now ∷ []) d.mark.number, d.content)) cs (c ∷ [])
-      ∙ ap₂ (λ front v. front ++ (v, c.content) ∷ [])
-      (same_open (saved ++ now ∷ []) saved (length saved) cs (λ k l. get-longer saved (now ∷ []) k l) live)
-      (ap (slice_get (saved ++ now ∷ [])) new ∙ get-last saved now)
+-- the one that has n older ones
+pub last-at : {X : Type 0} (xs : List X) (n : ℕ) (x : X) → slice_get xs n ≡ Some x → last (n + 1) (reverse xs) ≡ x ∷ last n (reverse xs)
+last-at xs n x e =
+    let one : n + 1 ≡ suc n = omega arith in
+    ap (λ m. last m (reverse xs)) one ∙ last-reverse (suc n) xs ∙ ap reverse (take-one-more xs n x e) ∙ reverse-push (take n xs) x
+    ∙ ap (λ ys. x ∷ ys) (sym (last-reverse n xs))
 
-  -- the marks of older choices are below that of a newer one
-  older_live : AreAscending (cs ++ c ∷ []) → AreLive c.mark.number cs
-  older_live ascending k d l =
-      let first : get_or (cs ++ c ∷ []) k d ≡ get_or cs k d = get_or_append_left cs (c ∷ []) d k l in
-      let last : get_or (cs ++ c ∷ []) (length cs) d ≡ c = end cs d in
-      subst (λ (e : Choice C). (get_or cs k d).mark.number < e.mark.number) last
-      (subst (λ (e : Choice C). e.mark.number < (get_or (cs ++ c ∷ []) (length cs) d).mark.number) first (ascending k (length cs) d l (long cs)))
-    where
-      end : (cs : List (Choice C)) (d : Choice C) → get_or (cs ++ c ∷ []) (length cs) d ≡ c
-      end [] d = refl
-      end (x ∷ cs) d = end cs d
+split_at : {X : Type 0} (xs : List X) (i : ℕ) (x y : X) → slice_get xs i ≡ Some x → (xs ≡ take i xs ++ x ∷ drop (suc i) xs) × (slice_set xs i y ≡ take i xs ++ y ∷ drop (suc i) xs)
+split_at [] i x y e = absurd (none-some x e)
+split_at (z ∷ zs) zero x y e = (ap (λ w. w ∷ zs) (same_Some z x e), refl)
+split_at (z ∷ zs) (suc i) x y e = let s = split_at zs i x y e in (ap (λ l. z ∷ l) s.0, ap (λ l. z ∷ l) s.1)
 
-      long : (cs : List (Choice C)) → length cs < length (cs ++ c ∷ [])
-      long [] = omega arith
-      long (x ∷ cs) = let l = long cs in omega (arith, l)
+reverse-round : {X : Type 0} (us bs : List X) (x : X) → reverse (us ++ x ∷ bs) ≡ reverse bs ++ x ∷ reverse us
+reverse-round us bs x = reverse-append us (x ∷ bs) ∙ ap (λ l. l ++ reverse us) (reverse-append (x ∷ []) bs) ∙ append_assoc (reverse bs) (x ∷ []) (reverse us)
 
-  -- the newest choice taken off, and the marks ended from its own on
-  pub reopened : AreAscending (cs ++ c ∷ []) → slice_get saved c.mark.number ≡ Some now
-      → open_choices saved (cs ++ c ∷ []) ≡ open_choices (take c.mark.number saved) cs ++ (Some now, c.content) ∷ []
-  reopened ascending is =
-      map-append (λ (d : Choice C). (slice_get saved d.mark.number, d.content)) cs (c ∷ [])
-      ∙ ap₂ (λ front v. front ++ (v, c.content) ∷ [])
-      (same_open saved (take c.mark.number saved) c.mark.number cs (λ k l. sym (get-taken c.mark.number saved k l)) (older_live ascending))
-      is
+-- another one in its place
+pub replaced-at : {X : Type 0} (xs : List X) (n : ℕ) (x y : X) → slice_get xs n ≡ Some x
+    → (newer : List X) × (reverse xs ≡ newer ++ x ∷ last n (reverse xs)) × (reverse (slice_set xs n y) ≡ newer ++ y ∷ last n (reverse xs))
+replaced-at xs n x y e =
+    let s = split_at xs n x y e in
+    let older = sym (last-reverse n xs) in
+    let behind = reverse (drop (suc n) xs) in (
+      behind,
+      ap reverse s.0 ∙ reverse-round (take n xs) (drop (suc n) xs) x ∙ ap (λ l. behind ++ x ∷ l) older,
+      ap reverse s.1 ∙ reverse-round (take n xs) (drop (suc n) xs) y ∙ ap (λ l. behind ++ y ∷ l) older,
+    )
 
-  pub still_live : AreAscending (cs ++ c ∷ []) → slice_get saved c.mark.number ≡ Some now → AreLive (length (take c.mark.number saved)) cs
-  still_live ascending is =
-      subst (λ n. AreLive n cs) (sym (length-taken c.mark.number saved (slice_get_within saved c.mark.number now is))) (older_live ascending)
+set-last : {X : Type 0} (xs : List X) (n : ℕ) (y : X) → length xs ≡ suc n → slice_set xs n y ≡ take n xs ++ y ∷ []
+set-last [] n y l = absurd (omega arith)
+set-last (x ∷ []) zero y l = refl
+set-last (x ∷ z ∷ xs) zero y l = absurd (omega arith)
+set-last (x ∷ xs) (suc n) y l = ap (λ ys. x ∷ ys) (set-last xs n y (omega (arith, l)))
+
+-- another newest one
+pub replaced-top : {X : Type 0} (xs : List X) (n : ℕ) (x y : X) → length xs ≡ suc n → slice_get xs n ≡ Some x
+    → (reverse xs ≡ x ∷ reverse (take n xs)) × (reverse (slice_set xs n y) ≡ y ∷ reverse (take n xs))
+replaced-top xs n x y l e =
+    (ap reverse (take-last xs n x l e) ∙ reverse-push (take n xs) x, ap reverse (set-last xs n y l) ∙ reverse-push (take n xs) y)
+
+-- ---- pairs
+
+zip-none : {X Y : Type 0} (xs : List X) → zip xs (let none : List Y = [] in none) ≡ []
+zip-none [] = refl
+zip-none (x ∷ xs) = refl
+
+drop-zip : {X Y : Type 0} (n : ℕ) (xs : List X) (ys : List Y) → drop n (zip xs ys) ≡ zip (drop n xs) (drop n ys)
+drop-zip zero xs ys = refl
+drop-zip (suc n) [] ys = refl
+drop-zip (suc n) (x ∷ xs) [] = sym (zip-none (drop n xs))
+drop-zip (suc n) (x ∷ xs) (y ∷ ys) = drop-zip n xs ys
+
+length-zip : {X Y : Type 0} (xs : List X) (ys : List Y) → length xs ≡ length ys → length (zip xs ys) ≡ length ys
+length-zip [] [] e = refl
+length-zip [] (y ∷ ys) e = absurd (omega arith)
+length-zip (x ∷ xs) [] e = absurd (omega arith)
+length-zip (x ∷ xs) (y ∷ ys) e = ap suc (length-zip xs ys (omega arith))
+
+-- ---- choices, whose contents come with the newest first
+
+-- there are as many of them
+pub length-open : {V C : Type 0} (saved : List V) (cs : List C) → length saved ≡ length cs → length (open_choices saved cs) ≡ length cs
+length-open saved cs e = length-zip (reverse saved) cs (length-reverse saved ∙ e)
+
+-- one more at a new mark
+pub open-push : {V C : Type 0} (saved : List V) (cs : List C) (v : V) (c : C) → open_choices (saved ++ v ∷ []) (c ∷ cs) ≡ (v, c) ∷ open_choices saved cs
+open-push saved cs v c = ap (λ xs. zip xs (c ∷ cs)) (reverse-push saved v)
+
+-- those below a height, at the oldest marks
+pub open-last : {V C : Type 0} (saved : List V) (cs : List C) (h : ℕ) → length saved ≡ length cs → open_choices (take h saved) (last h cs) ≡ last h (open_choices saved cs)
+open-last saved cs h e =
+    ap (λ xs. zip xs (last h cs)) (sym (last-reverse h saved) ∙ ap (λ n. drop (n - h) (reverse saved)) (length-reverse saved ∙ e))
+    ∙ sym (drop-zip (length cs - h) (reverse saved) cs)
+    ∙ ap (λ n. drop (n - h) (open_choices saved cs)) (sym (length-open saved cs e))
+
+-- the one that has h older ones
+pub open-at : {V C : Type 0} (saved : List V) (cs : List C) (h : ℕ) (v : V) (c : C) → length saved ≡ length cs → slice_get saved h ≡ Some v
+    → last (h + 1) cs ≡ c ∷ last h cs → last (h + 1) (open_choices saved cs) ≡ (v, c) ∷ open_choices (take h saved) (last h cs)
+open-at saved cs h v c e at is =
+    let one : h + 1 ≡ suc h = omega arith in
+    sym (open-last saved cs (h + 1) e) ∙ ap₂ open_choices (ap (λ n. take n saved) one ∙ take-one-more saved h v at) is ∙ open-push (take h saved) (last h cs) v c
+
+-- the newest one, whose mark is the newest
+pub open-top : {V C : Type 0} (saved : List V) (older : List C) (n : ℕ) (v : V) (c : C) → length saved ≡ suc n → slice_get saved n ≡ Some v
+    → open_choices saved (c ∷ older) ≡ (v, c) ∷ open_choices (take n saved) older
+open-top saved older n v c l at = ap (λ s. open_choices s (c ∷ older)) (take-last saved n v l at) ∙ open-push (take n saved) older v c
+
+-- other contents of one that has others on both sides
+pub open-around : {V C : Type 0} (saved : List V) (newer older : List C) (c : C) → length saved ≡ length (newer ++ c ∷ older)
+    → (front below : List (V × C)) × (v : V) × (length below ≡ length older) × ((d : C) → open_choices saved (newer ++ d ∷ older) ≡ front ++ (v, d) ∷ below)
+open-around {V} {C} saved newer older c e =
+    go (reverse saved) newer (length-reverse saved ∙ e)
+  where
+    go : (xs : List V) (ns : List C) → length xs ≡ length (ns ++ c ∷ older)
+        → (front below : List (V × C)) × (v : V) × (length below ≡ length older) × ((d : C) → zip xs (ns ++ d ∷ older) ≡ front ++ (v, d) ∷ below)
+    go [] [] l = absurd (omega arith)
+    go [] (n ∷ ns) l = absurd (omega arith)
+    go (x ∷ xs) [] l = ([], zip xs older, x, length-zip xs older (omega arith), λ d. refl)
+    go (x ∷ xs) (n ∷ ns) l = let r = go xs ns (omega arith) in ((x, n) ∷ r.0, r.1, r.2, r.3, λ d. ap (λ ys. (x, n) ∷ ys) (r.4 d))

@@ -1,36 +1,30 @@
-// A stack of choices over a world that is undone to a choice's mark when the search comes back to it.
+// A stack of choices over a world that is undone to a choice's mark when the search comes back to it. Each mark of the
+// world belongs to a choice.
 
-ghost use Rattle.std.specs.Prelude.{◌≡◌, ◌+◌, ◌≤◌, ◌++◌, [], ◌∷◌, ℕ, List, length, take, Some, IfSome, IfNone, OnOk, OnErr};
-ghost use Rattle.cq_control.specs.Open.{AreLive, open_choices, IsOnTop};
+ghost use Rattle.std.specs.Prelude.{◌≡◌, ◌<◌, ◌≤◌, ◌+◌, ◌++◌, [], ◌∷◌, List, length, IfSome, IfNone, OnOk, OnErr};
+ghost use Rattle.cq_control.specs.Open.{AreMarked, last, open_choices};
 
 use cq_trail::{Mark, Undo};
 use std::alloc::{AllocError, Global};
 use std::marker::Model;
+use std::mem;
 
-/// A choice that is open: what is left to try, and the mark of the world in which it is tried.
-#[derive(Debug, Drop)]
-pub struct Choice<C> {
-    mark: Mark,
-    content: C,
-}
-
-/// The open choices of a search, the newest on top. Contracts see them as a list, the oldest first, and through
-/// `open_choices` as what each leaves to try and the world's value that it goes back to.
+/// The open choices of a search. A choice has the alternatives that are left of one call, and goes back to the world of
+/// the call. It is there while an alternative is left that was not begun.
+///
+/// Contracts see what the choices leave to try, the newest first. Over a world with a mark for each they are
+/// `open_choices`. A height is a number of choices: those are below it that have fewer older ones.
 #[derive(Drop)]
 pub struct Choices<C> {
-    choices: Vec<Choice<C>>,
+    contents: Vec<C>,
 }
 
 impl<C> Model for Choices<C> {
-    ghost use Rattle.std.specs.Prelude.{List};
-    ghost use Rattle.cq_control.specs.declared.choices.Choice.{Choice};
-    ghost use Rattle.cq_control.specs.Open.{AreAscending};
+    ghost use Rattle.std.specs.Prelude.{List, reverse};
 
-    ghost Value = { List (Choice C) };
+    ghost Value = { List C };
 
-    ghost view = { λ s. s.choices.items };
-
-    ghost invariant = { λ s. AreAscending s.choices.items };
+    ghost view = { λ s. reverse s.contents.items };
 }
 
 impl<C: Drop> Choices<C> {
@@ -39,35 +33,7 @@ impl<C: Drop> Choices<C> {
         ensures { result ≡ [] }
     {
         Choices {
-            choices: Vec::new(alloc),
-        }
-    }
-
-    /// Marks the world, and puts a choice on top.
-    pub fn push<W: Undo>(&mut self, world: &mut W, content: C) -> Result<(), AllocError>
-        requires live { AreLive (length (W.saved world.old)) self.old }
-        ensures open { OnOk result (IsOnTop (open_choices (W.saved world.new) self.new) (open_choices (W.saved world.old) self.old) (W.now world.old) content) }
-        ensures saved { OnOk result (W.saved world.new ≡ W.saved world.old ++ W.now world.old ∷ []) }
-        ensures err { OnErr result (self.new ≡ self.old) }
-        ensures err_saved { OnErr result (W.saved world.new ≡ W.saved world.old) }
-        ensures now { W.now world.new ≡ W.now world.old }
-        ensures room { W.room world.old ≤ W.room world.new + 1 }
-        ensures live { AreLive (length (W.saved world.new)) self.new }
-    {
-        self.choices.reserve(1)?;
-        let mark = world.mark()?;
-        self.choices.push(Choice { mark, content }).unwrap();
-        Ok(())
-    }
-
-    /// What the newest choice leaves to try; None where no choice is open.
-    pub fn top(&self) -> Option<&C>
-        ensures none { IfNone result (self.now ≡ []) }
-        ensures some { IfSome result (λ c. (older : List (Choice C)) × (m : Mark) × (self.now ≡ older ++ record { mark = m; content = c.now } ∷ [])) }
-    {
-        match self.choices.last() {
-            Some(choice) => Some(&choice.content),
-            None => None,
+            contents: Vec::new(alloc),
         }
     }
 
@@ -75,32 +41,113 @@ impl<C: Drop> Choices<C> {
     pub fn height(&self) -> usize
         ensures { result ≡ length self.now }
     {
-        self.choices.len()
+        self.contents.len()
     }
 
-    /// Keeps the oldest choices, so many of them or all. The marks of the others stay in the world until it is undone
-    /// to an older one.
-    pub fn cut(&mut self, height: usize)
-        ensures kept { self.new ≡ take height self.old }
-        ensures live { (marks : ℕ) → AreLive marks self.old → AreLive marks self.new }
+    /// Marks the world, and puts a choice on top.
+    pub fn push<W: Undo>(&mut self, world: &mut W, content: C) -> Result<(), AllocError>
+        requires marked { AreMarked (W.saved world.old) self.old }
+        ensures contents { OnOk result (self.new ≡ content ∷ self.old) }
+        ensures open { OnOk result (open_choices (W.saved world.new) self.new ≡ (W.now world.old, content) ∷ open_choices (W.saved world.old) self.old) }
+        ensures err { OnErr result (self.new ≡ self.old) }
+        ensures err_saved { OnErr result (W.saved world.new ≡ W.saved world.old) }
+        ensures now { W.now world.new ≡ W.now world.old }
+        ensures room { W.room world.old ≤ W.room world.new + 1 }
+        ensures marked { AreMarked (W.saved world.new) self.new }
     {
-        self.choices.truncate(height);
+        self.contents.reserve(1)?;
+        world.mark()?;
+        self.contents.push(content).unwrap();
+        Ok(())
+    }
+
+    /// What the newest choice leaves to try; None where no choice is open.
+    pub fn top(&self) -> Option<&C>
+        ensures none { IfNone result (self.now ≡ []) }
+        ensures some { IfSome result (λ c. (older : List C) × (self.now ≡ c.now ∷ older)) }
+    {
+        self.contents.last()
+    }
+
+    /// Undoes the world to the newest choice, which stays open for what is then left to try, and gives what it left before.
+    pub fn retry<W: Undo>(&mut self, world: &mut W, content: C) -> C
+        requires marked { AreMarked (W.saved world.old) self.old }
+        requires some { 0 < length self.old }
+        ensures contents { (older : List C) × (self.old ≡ result ∷ older) × (self.new ≡ content ∷ older) }
+        ensures open { (older : List (W.Value × C)) × (open_choices (W.saved world.old) self.old ≡ (W.now world.new, result) ∷ older)
+            × (open_choices (W.saved world.new) self.new ≡ (W.now world.new, content) ∷ older) }
+        ensures room { W.room world.old ≤ W.room world.new }
+        ensures marked { AreMarked (W.saved world.new) self.new }
+    {
+        let number = self.contents.len() - 1;
+        world.undo(Mark { number });
+        world.mark().unwrap();
+        mem::replace(&mut self.contents[number], content)
     }
 
     /// Takes the newest choice off, and undoes the world to it; None where no choice is open.
     pub fn back<W: Undo>(&mut self, world: &mut W) -> Option<C>
-        requires live { AreLive (length (W.saved world.old)) self.old }
+        requires marked { AreMarked (W.saved world.old) self.old }
         ensures none { IfNone result ((self.old ≡ []) × (self.new ≡ [])) }
         ensures none_now { IfNone result (W.now world.new ≡ W.now world.old) }
         ensures none_saved { IfNone result (W.saved world.new ≡ W.saved world.old) }
-        ensures open { IfSome result (IsOnTop (open_choices (W.saved world.old) self.old) (open_choices (W.saved world.new) self.new) (W.now world.new)) }
+        ensures contents { IfSome result (λ content. self.old ≡ content ∷ self.new) }
+        ensures open { IfSome result (λ content. open_choices (W.saved world.old) self.old
+            ≡ (W.now world.new, content) ∷ open_choices (W.saved world.new) self.new) }
         ensures room { W.room world.old ≤ W.room world.new }
-        ensures live { AreLive (length (W.saved world.new)) self.new }
+        ensures marked { AreMarked (W.saved world.new) self.new }
     {
-        let Some(Choice { mark, content }) = self.choices.pop() else {
-            return None;
-        };
-        world.undo(mark);
+        let content = self.contents.pop()?;
+        world.undo(Mark {
+            number: self.contents.len(),
+        });
         Some(content)
+    }
+
+    /// Takes the choices from a height on off, undoes the world to the oldest of them, and gives what that one left to try.
+    pub fn back_to<W: Undo>(&mut self, world: &mut W, height: usize) -> C
+        requires marked { AreMarked (W.saved world.old) self.old }
+        requires within { height < length self.old }
+        ensures contents { last (height + 1) self.old ≡ result ∷ self.new }
+        ensures open { last (height + 1) (open_choices (W.saved world.old) self.old)
+            ≡ (W.now world.new, result) ∷ open_choices (W.saved world.new) self.new }
+        ensures room { W.room world.old ≤ W.room world.new }
+        ensures marked { AreMarked (W.saved world.new) self.new }
+    {
+        self.contents.truncate(height + 1);
+        world.undo(Mark { number: height });
+        self.contents.pop().unwrap()
+    }
+
+    /// Keeps the choices below a height and the world's value. The marks of the others end: it takes constant time for each
+    /// choice that is taken away.
+    pub fn cut<W: Undo>(&mut self, world: &mut W, height: usize)
+        requires marked { AreMarked (W.saved world.old) self.old }
+        ensures contents { self.new ≡ last height self.old }
+        ensures open { open_choices (W.saved world.new) self.new ≡ last height (open_choices (W.saved world.old) self.old) }
+        ensures now { W.now world.new ≡ W.now world.old }
+        ensures room { W.room world.old ≤ W.room world.new }
+        ensures marked { AreMarked (W.saved world.new) self.new }
+    {
+        if height < self.contents.len() {
+            world.forget(Mark { number: height });
+            self.contents.truncate(height);
+        }
+    }
+
+    /// What the choice with so many older ones leaves to try.
+    pub fn at(&self, height: usize) -> &C
+        requires { height < length self.now }
+        ensures { last (height + 1) self.now ≡ result.now ∷ last height self.now }
+    {
+        &self.contents[height]
+    }
+
+    /// Puts other contents in place of what the choice with so many older ones leaves to try, and gives those.
+    pub fn replace_at(&mut self, height: usize, content: C) -> C
+        requires { height < length self.old }
+        ensures { (newer : List C) × (self.old ≡ newer ++ result ∷ last height self.old) × (self.new ≡ newer ++ content ∷ last height self.old) }
+    {
+        mem::replace(&mut self.contents[height], content)
     }
 }

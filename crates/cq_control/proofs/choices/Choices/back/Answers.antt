@@ -1,17 +1,16 @@
-use Rattle.std.proofs.Common.{rules, ◌≡◌, ◌++◌, [], ◌∷◌, length, Some, sym, subst, ap, ◌∙◌}
-use Rattle.cq_control.specs.Open.{AreAscending, AreLive, open_choices}
-use Rattle.cq_control.proofs.Opened.{reopened, still_live}
+use Rattle.std.proofs.Common.{◌≡◌, ◌∷◌, suc, length, reverse, sym, ap, ◌∙◌, arith}
+use Rattle.std.proofs.lemmas.List.{length-reverse}
+use Rattle.cq_control.specs.Open.{open_choices}
+use Rattle.cq_control.proofs.Opened.{reverse-push, open-top}
 use Rattle.cq_control.proofs.choices.Choices.back.Goals as goal
 
 pub returns-clause-open : goal.returns-clause-open
 returns-clause-open g c =
-    let taken : c.args.self.now ≡ c.pop.new.self.items ++ c.in-Some.field-0 ∷ [] = search rules in
-    ap (open_choices (g.W.Undo.saved c.args.world.now)) taken
-    ∙ reopened (g.W.Undo.saved c.args.world.now) (g.W.Undo.now c.undo.new.self) c.pop.new.self.items c.in-Some.field-0 (subst AreAscending (c.self.view_is ∙ taken) c.self.invariant) c.undo.ensures.now
-    ∙ ap (λ s. open_choices s c.pop.new.self.items ++ (Some (g.W.Undo.now c.undo.new.self), c.in-Some.field-0.content) ∷ []) (sym c.undo.ensures.saved)
-
-pub returns-clause-live : goal.returns-clause-live
-returns-clause-live g c =
-    let taken : c.args.self.now ≡ c.pop.new.self.items ++ c.in-Some.field-0 ∷ [] = search rules in
-    subst (λ s. AreLive (length s) c.pop.new.self.items) (sym c.undo.ensures.saved)
-    (still_live (g.W.Undo.saved c.args.world.now) (g.W.Undo.now c.undo.new.self) c.pop.new.self.items c.in-Some.field-0 (subst AreAscending (c.self.view_is ∙ taken) c.self.invariant) c.undo.ensures.now)
+    let saved = g.W.Undo.saved c.args.world.now in
+    let now = g.W.Undo.now c.undo.new.self in
+    let content = c.in_ok-content.content in
+    let older = reverse c.pop.new.self.items in
+    let is : c.args.self.now ≡ content ∷ older = sym c.self.view_is ∙ ap reverse c.in_ok-content.ensures.items ∙ reverse-push c.pop.new.self.items content in
+    let long : length saved ≡ suc c.len.result = omega (arith, c.requires.marked, ap length is, c.len.ensures, length-reverse c.pop.new.self.items) in
+    ap (open_choices saved) is ∙ open-top saved older c.len.result now content long c.undo.ensures.now
+    ∙ ap (λ s. (now, content) ∷ open_choices s older) (sym c.undo.ensures.saved)
