@@ -109,13 +109,6 @@ open-last saved cs h e =
     ∙ sym (drop-zip (length cs - h) (reverse saved) cs)
     ∙ ap (λ n. drop (n - h) (open_choices saved cs)) (sym (length-open saved cs e))
 
--- the one that has h older ones
-pub open-at : {V C : Type 0} (saved : List V) (cs : List C) (h : ℕ) (v : V) (c : C) → length saved ≡ length cs → slice_get saved h ≡ Some v
-    → last (h + 1) cs ≡ c ∷ last h cs → last (h + 1) (open_choices saved cs) ≡ (v, c) ∷ open_choices (take h saved) (last h cs)
-open-at saved cs h v c e at is =
-    let one : h + 1 ≡ suc h = omega arith in
-    sym (open-last saved cs (h + 1) e) ∙ ap₂ open_choices (ap (λ n. take n saved) one ∙ take-one-more saved h v at) is ∙ open-push (take h saved) (last h cs) v c
-
 -- the newest one, whose mark is the newest
 pub open-top : {V C : Type 0} (saved : List V) (older : List C) (n : ℕ) (v : V) (c : C) → length saved ≡ suc n → slice_get saved n ≡ Some v
     → open_choices saved (c ∷ older) ≡ (v, c) ∷ open_choices (take n saved) older
