@@ -1,12 +1,12 @@
 -- Marks that are passed, choices that are come back to, and goals that are selected.
-use Rattle.std.proofs.Common.{◌≡◌, ℕ, ◌<◌, List, [], ◌∷◌, ◌++◌, length, Option, None, Some, refl, sym, ap, ◌∙◌, subst, map, arith}
+use Rattle.std.proofs.Common.{inl, ◌≡◌, ℕ, ◌<◌, List, [], ◌∷◌, ◌++◌, length, Option, None, Some, refl, sym, ap, ◌∙◌, subst, map, arith}
 use Rattle.spec_syntax.specs.Trees.{Tree}
 use Rattle.spec_branch.specs.Branch.{State, Item, Branch, no_work, read}
 use Rattle.spec_search.specs.Database.{Database, Clause}
 use Rattle.spec_search.specs.Replies.{Place, child}
 use Rattle.spec_search.specs.Control.{clause_child, clause_items, clause_state, clause_work}
 use Rattle.spec_search.specs.Balls as balls
-use Rattle.spec_search.specs.Search.{Search, settled, Settling, Selecting, look_at}
+use Rattle.spec_search.specs.Search.{Search, is_selecting, settled, Settling, Selecting, look_at}
 use Rattle.spec_search.specs.Turns as turn
 use Rattle.spec_search.specs.Turns.{Turn, with_branches, place_of, after_step}
 use Rattle.cq_control.specs.Items.{items_at}
@@ -22,7 +22,7 @@ module _ {W : Type 0} (IsState : W → State → Type 0) (term : W → ℕ → O
       → s.branches ≡ settled items' st ∷ behind
   first_is s first behind items items' st e f i = e ∙ ap (λ l. l ++ behind) f ∙ ap (λ is. settled is st ∷ behind) i
 
-  module _ (db : Database) (n : ℕ) (rs : Stack W) (now : Value W) (k next : ℕ) (s : Search) (j : IsStanding IsState term (engine db n rs now (Some k)) s) (earlier : next < k) where
+  module _ (steps : ℕ) (db : Database) (n : ℕ) (rs : Stack W) (now : Value W) (k next : ℕ) (s : Search) (j : IsStanding IsState term (engine db n rs now (Some k)) s) (earlier : next < k) where
     -- the cells in front
     front : (cs : List Cell) → items_at now.1 k ≡ cs → AreItems IsState term rs now.0 j.current.1 cs j.current.0 × Fits (length rs) cs
     front cs e = (subst (λ l. AreItems IsState term rs now.0 j.current.1 l j.current.0) e j.current.3.cells, subst (Fits (length rs)) e j.current.3.fits)
@@ -30,7 +30,7 @@ module _ {W : Type 0} (IsState : W → State → Type 0) (term : W → ℕ → O
     behind_there : next < length now.1
     behind_there = omega (arith, j.current.3.there)
 
-    pub cut_passed : (h : ℕ) → items_at now.1 k ≡ CutTo h ∷ items_at now.1 next → Comes IsState term (engine db n (last h rs) now (Some next)) s
+    pub cut_passed : (h : ℕ) → items_at now.1 k ≡ CutTo h ∷ items_at now.1 next → Comes IsState term steps (engine db n (last h rs) now (Some next)) s
     cut_passed h e =
         let f = front (CutTo h ∷ items_at now.1 next) e in
         let st = j.current.1 in
@@ -38,7 +38,7 @@ module _ {W : Type 0} (IsState : W → State → Type 0) (term : W → ℕ → O
         let long : length (last h rs) ≡ h = length-last rs h f.1.0 in
         record {
           reached = with_branches bs s;
-          quiet = after (turn.moves (ap look_at (first_is s j.first j.behind j.current.0 _ st j.branches j.current.2 f.0.1))) at_once;
+          quiet = after (inl (ap is_selecting (ap look_at (first_is s j.first j.behind j.current.0 _ st j.branches j.current.2 f.0.1)))) (turn.moves (ap look_at (first_is s j.first j.behind j.current.0 _ st j.branches j.current.2 f.0.1))) at_once;
           stands = record {
             database = j.database;
             selected = j.selected;
@@ -60,13 +60,13 @@ module _ {W : Type 0} (IsState : W → State → Type 0) (term : W → ℕ → O
           };
         }
 
-    pub fail_passed : (h : ℕ) → items_at now.1 k ≡ CutFail h ∷ items_at now.1 next → Comes IsState term (engine db n (last h rs) now None) s
+    pub fail_passed : (h : ℕ) → items_at now.1 k ≡ CutFail h ∷ items_at now.1 next → Comes IsState term steps (engine db n (last h rs) now None) s
     fail_passed h e =
         let f = front (CutFail h ∷ items_at now.1 next) e in
         let st = j.current.1 in
         record {
           reached = with_branches (balls.last (below rs h) j.behind) s;
-          quiet = after (turn.moves (ap look_at (first_is s j.first j.behind j.current.0 _ st j.branches j.current.2 f.0.1))) at_once;
+          quiet = after (inl (ap is_selecting (ap look_at (first_is s j.first j.behind j.current.0 _ st j.branches j.current.2 f.0.1)))) (turn.moves (ap look_at (first_is s j.first j.behind j.current.0 _ st j.branches j.current.2 f.0.1))) at_once;
           stands = record {
             database = j.database;
             selected = j.selected;
@@ -78,14 +78,14 @@ module _ {W : Type 0} (IsState : W → State → Type 0) (term : W → ℕ → O
           };
         }
 
-    pub end_passed : (h c r : ℕ) → items_at now.1 k ≡ CatchEnd h c r ∷ items_at now.1 next → Comes IsState term (engine db n rs now (Some next)) s
+    pub end_passed : (h c r : ℕ) → items_at now.1 k ≡ CatchEnd h c r ∷ items_at now.1 next → Comes IsState term steps (engine db n rs now (Some next)) s
     end_passed h c r e =
         let f = front (CatchEnd h c r ∷ items_at now.1 next) e in
         let st = j.current.1 in
         let more = f.0.4 in
         record {
           reached = with_branches (settled more st ∷ j.behind) s;
-          quiet = after (turn.moves (ap look_at (first_is s j.first j.behind j.current.0 _ st j.branches j.current.2 f.0.5))) at_once;
+          quiet = after (inl (ap is_selecting (ap look_at (first_is s j.first j.behind j.current.0 _ st j.branches j.current.2 f.0.5)))) (turn.moves (ap look_at (first_is s j.first j.behind j.current.0 _ st j.branches j.current.2 f.0.5))) at_once;
           stands = record {
             database = j.database;
             selected = j.selected;
@@ -127,15 +127,15 @@ module _ {W : Type 0} (IsState : W → State → Type 0) (term : W → ℕ → O
 
   -- ---- the engine comes back to its newest choice
 
-  module _ (db : Database) (n : ℕ) (older : Stack W) (v now : Value W) (s : Search) where
-    pub one_begun : Rest IsState → (k : ℕ) → IsStanding IsState term (engine db n ((v, One k) ∷ older) now None) s → Comes IsState term (engine db n older v (Some k)) s
+  module _ (steps : ℕ) (db : Database) (n : ℕ) (older : Stack W) (v now : Value W) (s : Search) where
+    pub one_begun : Rest IsState → (k : ℕ) → IsStanding IsState term (engine db n ((v, One k) ∷ older) now None) s → Comes IsState term steps (engine db n older v (Some k)) s
     one_begun rest k j =
         let own = j.waiting.3 in
         let is : s.branches ≡ child own.0 own.1 no_work ∷ j.waiting.1 =
         j.branches ∙ ap (λ l. l ++ j.behind) j.current ∙ j.waiting.2 ∙ ap (λ l. l ++ j.waiting.1) own.2 in
         record {
           reached = record s { database = s.database; branches = settled own.0 own.1 ∷ j.waiting.1 };
-          quiet = after (turn.keeps (ap look_at is) (rest v.0 own.1 own.0 own.3.state)) at_once;
+          quiet = after (inl (ap is_selecting (ap look_at is))) (turn.keeps (ap look_at is) (rest v.0 own.1 own.0 own.3.state)) at_once;
           stands = record {
             database = j.database;
             selected = j.selected;

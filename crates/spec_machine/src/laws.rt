@@ -61,18 +61,18 @@ pub fn standing_stays<R: StateWorlds>()
 
 /// A mark in front is passed: a cut to a height keeps the choices below it, and the end of a catch keeps all.
 pub fn marks_are_passed<R: StateWorlds>()
-    ensures cut { (texts : List Text) (db : Database) (n : ℕ) (choices : Stack R.World) (now : Value R.World) (k rest : ℕ) (s : Search)
+    ensures cut { (texts : List Text) (steps : ℕ) (db : Database) (n : ℕ) (choices : Stack R.World) (now : Value R.World) (k rest : ℕ) (s : Search)
         → IsStanding (R.is_state texts) (R.term texts) (engine db n choices now (Some k)) s → rest < k
         → (height : ℕ) → items_at now.1 k ≡ CutTo height ∷ items_at now.1 rest
-        → Comes (R.is_state texts) (R.term texts) (engine db n (last height choices) now (Some rest)) s }
-    ensures cut_fails { (texts : List Text) (db : Database) (n : ℕ) (choices : Stack R.World) (now : Value R.World) (k rest : ℕ) (s : Search)
+        → Comes (R.is_state texts) (R.term texts) steps (engine db n (last height choices) now (Some rest)) s }
+    ensures cut_fails { (texts : List Text) (steps : ℕ) (db : Database) (n : ℕ) (choices : Stack R.World) (now : Value R.World) (k rest : ℕ) (s : Search)
         → IsStanding (R.is_state texts) (R.term texts) (engine db n choices now (Some k)) s → rest < k
         → (height : ℕ) → items_at now.1 k ≡ CutFail height ∷ items_at now.1 rest
-        → Comes (R.is_state texts) (R.term texts) (engine db n (last height choices) now None) s }
-    ensures end { (texts : List Text) (db : Database) (n : ℕ) (choices : Stack R.World) (now : Value R.World) (k rest : ℕ) (s : Search)
+        → Comes (R.is_state texts) (R.term texts) steps (engine db n (last height choices) now None) s }
+    ensures end { (texts : List Text) (steps : ℕ) (db : Database) (n : ℕ) (choices : Stack R.World) (now : Value R.World) (k rest : ℕ) (s : Search)
         → IsStanding (R.is_state texts) (R.term texts) (engine db n choices now (Some k)) s → rest < k
         → (height catcher recovery : ℕ) → items_at now.1 k ≡ CatchEnd height catcher recovery ∷ items_at now.1 rest
-        → Comes (R.is_state texts) (R.term texts) (engine db n choices now (Some rest)) s }
+        → Comes (R.is_state texts) (R.term texts) steps (engine db n choices now (Some rest)) s }
 {}
 
 /// A goal in front is the one that the search selects, as it reads, with the continuation behind it for the items behind it.
@@ -91,16 +91,16 @@ pub fn goals_are_selected<R: StateWorlds>()
 /// The first branch is settled: where it is kept, the engine goes on with a continuation that stands for it, and where it is
 /// pruned, the engine comes back. A branch that waits with no work to do is a choice of its continuation.
 pub fn children_are_settled<R: StateWorlds>()
-    ensures kept { (texts : List Text) (db : Database) (n : ℕ) (choices : Stack R.World) (now : Value R.World) (k : ℕ) (s : Search)
+    ensures kept { (texts : List Text) (steps : ℕ) (db : Database) (n : ℕ) (choices : Stack R.World) (now : Value R.World) (k : ℕ) (s : Search)
         (items : List Item) (st : State) (p : Pending) (behind : List Branch) → s.database ≡ db → s.selected ≡ n
         → look_at s.branches ≡ Settling items st p behind → p.removes ≡ None
         → (left : List Item) (su : State) → Settles items st p (Kept (settled left su))
         → IsContinuation (R.is_state texts) (R.term texts) choices now k left su → AreWaiting (R.is_state texts) (R.term texts) choices behind
-        → Comes (R.is_state texts) (R.term texts) (engine db n choices now (Some k)) s }
-    ensures pruned { (texts : List Text) (db : Database) (n : ℕ) (choices : Stack R.World) (now : Value R.World) (s : Search)
+        → Comes (R.is_state texts) (R.term texts) steps (engine db n choices now (Some k)) s }
+    ensures pruned { (texts : List Text) (steps : ℕ) (db : Database) (n : ℕ) (choices : Stack R.World) (now : Value R.World) (s : Search)
         (items : List Item) (st : State) (p : Pending) (behind : List Branch) → s.database ≡ db → s.selected ≡ n
         → look_at s.branches ≡ Settling items st p behind → p.ball ≡ None → (why : Why) → Settles items st p (Pruned why)
-        → AreWaiting (R.is_state texts) (R.term texts) choices behind → Comes (R.is_state texts) (R.term texts) (engine db n choices now None) s }
+        → AreWaiting (R.is_state texts) (R.term texts) choices behind → Comes (R.is_state texts) (R.term texts) steps (engine db n choices now None) s }
     ensures waits { (texts : List Text) (choices : Stack R.World) (now : Value R.World) (k : ℕ) (items : List Item) (st : State) (behind : List Branch)
         → IsContinuation (R.is_state texts) (R.term texts) choices now k items st → AreWaiting (R.is_state texts) (R.term texts) choices behind
         → AreWaiting (R.is_state texts) (R.term texts) ((now, One k) ∷ choices) (child items st no_work ∷ behind) }
@@ -112,10 +112,10 @@ pub fn choices_are_come_back_to<R: StateWorlds>()
     ensures barrier { (texts : List Text) (db : Database) (n : ℕ) (older : Stack R.World) (v now : Value R.World) (s : Search)
         → IsStanding (R.is_state texts) (R.term texts) (engine db n ((v, Barrier) ∷ older) now None) s
         → IsStanding (R.is_state texts) (R.term texts) (engine db n older v None) s }
-    ensures one { (texts : List Text) (db : Database) (n : ℕ) (older : Stack R.World) (v now : Value R.World) (s : Search) (k : ℕ)
+    ensures one { (texts : List Text) (steps : ℕ) (db : Database) (n : ℕ) (older : Stack R.World) (v now : Value R.World) (s : Search) (k : ℕ)
         → ((w : R.World) (st : State) (items : List Item) → R.is_state texts w st → Settles items st no_work (Kept (settled items st)))
         → IsStanding (R.is_state texts) (R.term texts) (engine db n ((v, One k) ∷ older) now None) s
-        → Comes (R.is_state texts) (R.term texts) (engine db n older v (Some k)) s }
+        → Comes (R.is_state texts) (R.term texts) steps (engine db n older v (Some k)) s }
     ensures clause { (texts : List Text) (db : Database) (n : ℕ) (older : Stack R.World) (v now : Value R.World) (s : Search) (t k : ℕ) (c : Clause)
         (cs : List Clause)
         → IsStanding (R.is_state texts) (R.term texts) (engine db n ((v, Clauses t (c ∷ cs) k) ∷ older) now None) s
