@@ -1,0 +1,99 @@
+-- What the definitions give of lists that were looked at.
+use Rattle.std.proofs.Common.{◌≡◌, ℕ, List, [], ◌∷◌, map, Bool, true, false, not, ◌||◌, ◌&&◌, Option, Some, None, encode_utf8_all, String, string_bytes, refl, sym, ap, ◌∙◌}
+use Rattle.std.specs.Prelude.{if◌then◌else◌}
+use Rattle.std.specs.List.{list_any, list_all}
+use Rattle.spec_lists.specs.Texts.{Text}
+use Rattle.spec_terms.specs.Term.{Var, Name}
+use Rattle.spec_syntax.specs.Trees.{Tree}
+use Rattle.spec_built.specs.Built.{is_atom, natural}
+use Rattle.spec_built.specs.Kinds.{Parts, parts, is_variable, natural_of}
+use Rattle.spec_built.specs.Errors.{instantiation, type_error}
+use Rattle.spec_builtins.specs.Alternatives.{Solutions, Faults, ◌≐◌, one_way, faults_if}
+use Rattle.spec_builtins.specs.Texts.{ElementKind, Codes, name_of, is_character, is_code, code_of, element_error, elements_error, from_elements, number_in, number_read, codes_of_number, atom_list_row, char_code_row, number_codes_row}
+use Rattle.std.specs.declared.alloc.Global.{Global}
+use Rattle.cq_codes.specs.Elements.{Make, IsMadeOf, IsCharacterOf, StandsFor, code_tests}
+use Rattle.cq_codes.specs.Rows.{is_code_list, Reads}
+use Rattle.cq_codes.proofs.Standing.{code_passes, code_refused, code_known}
+
+module _ (k : ElementKind) (v : ℕ) (l : Tree) (p : Parts) (is : p ≡ parts l) where
+  -- what is looked at in turn
+  abbrev looked : Bool → Bool → Bool → Option Tree → Solutions
+  looked unbound any nil error =
+      faults_if (unbound || any) instantiation (faults_if (not nil) (type_error "list" l) (from_elements (Var v) error p.elements))
+
+  listed : atom_list_row k (Var v) l ≡ looked (is_variable p.tail) (list_any is_variable p.elements) (is_atom "[]" p.tail) (elements_error k p.elements)
+  listed = ap (λ (q : Parts). faults_if (is_variable q.tail || list_any is_variable q.elements) instantiation (faults_if (not (is_atom "[]" q.tail)) (type_error "list" l) (from_elements (Var v) (elements_error k q.elements) q.elements))) (sym is)
+
+  or_true : (a : Bool) → (a || true) ≡ true
+  or_true true = refl
+  or_true false = refl
+
+  pub open_list : is_variable p.tail ≡ true → atom_list_row k (Var v) l ≡ Faults instantiation
+  open_list o = listed ∙ ap (λ b. looked b (list_any is_variable p.elements) (is_atom "[]" p.tail) (elements_error k p.elements)) o
+
+  pub open_element : list_any is_variable p.elements ≡ true → atom_list_row k (Var v) l ≡ Faults instantiation
+  open_element a =
+      listed
+      ∙ ap (λ b. faults_if b instantiation (faults_if (not (is_atom "[]" p.tail)) (type_error "list" l) (from_elements (Var v) (elements_error k p.elements) p.elements))) (ap (λ b. is_variable p.tail || b) a ∙ or_true (is_variable p.tail))
+
+  module _ (o : is_variable p.tail ≡ false) (a : list_any is_variable p.elements ≡ false) where
+    pub no_list : is_atom "[]" p.tail ≡ false → atom_list_row k (Var v) l ≡ Faults (type_error "list" l)
+    no_list n = listed ∙ (λ i. looked (o i) (a i) (n i) (elements_error k p.elements))
+
+    pub wrong_element : (e : Tree) → is_atom "[]" p.tail ≡ true → elements_error k p.elements ≡ Some e → atom_list_row k (Var v) l ≡ Faults e
+    wrong_element e n w = listed ∙ (λ i. looked (o i) (a i) (n i) (w i))
+
+    pub made : (text : Text) → is_atom "[]" p.tail ≡ true → Make k p.elements text → atom_list_row k (Var v) l ≡ one_way ((Var v ≐ Name text) ∷ [])
+    made text n m = listed ∙ (λ i. looked (o i) (a i) (n i) (m.right i)) ∙ ap (λ (t : Text). one_way ((Var v ≐ Name t) ∷ [])) (sym m.made)
+
+-- ---- lists of codes
+
+pub reads_by : (l : Tree) (p : Parts) (o : Option (String Global)) → p ≡ parts l → is_atom "[]" p.tail ≡ true → IsMadeOf p.elements o → Reads l o
+reads_by l p None e n h = ap (λ (q : Parts). is_atom "[]" q.tail && list_all is_code q.elements) (sym e) ∙ ap (λ b. b && list_all is_code p.elements) n ∙ h
+reads_by l p (Some s) e n h = (
+  ap (λ (q : Parts). is_atom "[]" q.tail && list_all is_code q.elements) (sym e) ∙ ap (λ b. b && list_all is_code p.elements) n ∙ h.0,
+  h.1 ∙ ap (λ (q : Parts). encode_utf8_all (map natural_of q.elements)) e,
+)
+
+pub reads_none : (l : Tree) (p : Parts) → p ≡ parts l → is_atom "[]" p.tail ≡ false → is_code_list l ≡ false
+reads_none l p e n = ap (λ (q : Parts). is_atom "[]" q.tail && list_all is_code q.elements) (sym e) ∙ ap (λ b. b && list_all is_code p.elements) n
+
+module _ (n l : Tree) where
+  abbrev by_list : Bool → Text → Solutions
+  by_list listed text = if listed then number_read n (number_in text) else faults_if (is_variable n) instantiation (codes_of_number n l)
+
+  pub codes_read : (s : String Global) → Reads l (Some s) → number_codes_row n l ≡ number_read n (number_in (string_bytes s))
+  codes_read s h = λ i. by_list (h.0 i) (sym h.1 i)
+
+  pub codes_told : Reads l None → number_codes_row n l ≡ faults_if (is_variable n) instantiation (codes_of_number n l)
+  codes_told h = λ i. by_list (h i) (encode_utf8_all (map natural_of (parts l).elements))
+
+-- ---- a character and its code
+module _ (c n : Tree) where
+  -- what is looked at in turn
+  abbrev spelled : Bool → Bool → Bool → Solutions
+  spelled c_open n_open one =
+      faults_if (c_open && n_open) instantiation (faults_if (not (c_open || one)) (type_error "character" c) (
+      code_tests n (if c_open then one_way ((c ≐ name_of (natural_of n ∷ [])) ∷ []) else one_way ((n ≐ natural (code_of c)) ∷ []))))
+
+  pub both_open : is_variable c ≡ true → is_variable n ≡ true → char_code_row c n ≡ Faults instantiation
+  both_open o p = λ i. spelled (o i) (p i) (is_character c)
+
+  pub code_read : (d : ℕ) → is_variable c ≡ true → is_variable n ≡ false → StandsFor Codes n d → char_code_row c n ≡ one_way ((c ≐ name_of (d ∷ [])) ∷ [])
+  code_read d o p s =
+      (λ i. spelled (o i) (p i) (is_character c))
+      ∙ code_passes n d (one_way ((c ≐ name_of (natural_of n ∷ [])) ∷ [])) p s
+      ∙ ap (λ k. one_way ((c ≐ name_of (k ∷ [])) ∷ [])) (code_known n d s)
+
+  pub code_wrong : (e : Tree) → is_variable c ≡ true → is_variable n ≡ false → element_error Codes n ≡ Some e → char_code_row c n ≡ Faults e
+  code_wrong e o p w = (λ i. spelled (o i) (p i) (is_character c)) ∙ code_refused n e (one_way ((c ≐ name_of (natural_of n ∷ [])) ∷ [])) p w
+
+  pub no_character : is_variable c ≡ false → is_character c ≡ false → char_code_row c n ≡ Faults (type_error "character" c)
+  no_character o w = λ i. spelled (o i) (is_variable n) (w i)
+
+  pub told_wrong : (d : ℕ) (e : Tree) → is_variable c ≡ false → IsCharacterOf c d → ((rest : Solutions) → code_tests n rest ≡ Faults e) → char_code_row c n ≡ Faults e
+  told_wrong d e o h w = (λ i. spelled (o i) (is_variable n) (h.character i)) ∙ w (one_way ((n ≐ natural (code_of c)) ∷ []))
+
+  pub code_told : (d : ℕ) → is_variable c ≡ false → IsCharacterOf c d → ((rest : Solutions) → code_tests n rest ≡ rest) → char_code_row c n ≡ one_way ((n ≐ natural d) ∷ [])
+  code_told d o h w =
+      (λ i. spelled (o i) (is_variable n) (h.character i)) ∙ w (one_way ((n ≐ natural (code_of c)) ∷ [])) ∙ ap (λ k. one_way ((n ≐ natural k) ∷ [])) h.code
