@@ -10,7 +10,5 @@ mod joined;
 mod lists;
 mod number_lists;
 mod numerals;
-#[cfg(test)]
-mod tests;
 
 pub use conversions::{Conversion, convert};

@@ -10,6 +10,8 @@ mod built;
 #[cfg(test)]
 mod builtin;
 #[cfg(test)]
+mod codes;
+#[cfg(test)]
 mod kinds;
 #[cfg(test)]
 mod order;
