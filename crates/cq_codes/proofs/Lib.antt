@@ -1,4 +1,2 @@
 pub mod Standing
-pub mod WholeNumbers
 pub mod Rows
-pub mod Spelled

@@ -2,7 +2,7 @@
 use Rattle.std.proofs.Common.{◌≡◌, ℕ, ◌+◌, ◌<◌, ◌≤◌, List, [], ◌∷◌, ◌++◌, map, length, get_or, drop, take, Bool, true, false, cond, not, ◌&&◌, ◌||◌, ◌==◌, Option, Some, None, chars, encode_utf8_all, refl, sym, ap, ◌∙◌, append_assoc, append-nil, arith}
 use Rattle.std.specs.Prelude.{slice_get, encode_utf8}
 use Rattle.std.specs.List.{list_all, list_any}
-use Rattle.std.proofs.lemmas.List.{drop_more}
+use Rattle.std.proofs.lemmas.Bool.{ne_eqb}
 use Rattle.spec_lists.specs.Texts.{Text}
 use Rattle.spec_terms.specs.Term.{Var, Number, Name, Compound}
 use Rattle.spec_syntax.specs.Trees.{Tree}
@@ -25,7 +25,7 @@ only_none (c ∷ []) n e other = absurd (other (omega arith))
 only_none (c ∷ d ∷ cs) n e other = refl
 
 pub character_some : (a : Text) (c : ℕ) → only_of (chars a) ≡ Some c → IsCharacterOf (Name a) c
-character_some a c e = go (chars a) e
+character_some a c e = (let h = go (chars a) e in record { character = h.0; code = h.1 })
   where
     go : (cs : List ℕ) → only_of cs ≡ Some c → ((length cs == 1) ≡ true) × (first_or_zero cs ≡ c)
     go [] e = cc
@@ -38,7 +38,7 @@ character_none a e = go (chars a) e
     go : (cs : List ℕ) → only_of cs ≡ None → (length cs == 1) ≡ false
     go [] e = refl
     go (d ∷ []) e = cc
-    go (d ∷ f ∷ cs) e = refl
+    go (d ∷ f ∷ cs) e = ne_eqb (length (d ∷ f ∷ cs)) 1 (λ same. (let none : ⊥ = omega arith in none))
 
 -- ---- codes
 
@@ -122,32 +122,6 @@ module _ (k : ElementKind) where
     made = sym (append-nil text) ∙ sym (ap (λ ts. text ++ encode_utf8_all (map code_of ts)) e) ∙ h.made;
   }
 
--- what is left of codes
-pub record LeftCodes (all rest : List Tree) (text : Text) : Type 0 where
-  pub codes : list_all is_code rest ≡ list_all is_code all
-  pub made : text ++ encode_utf8_all (map natural_of rest) ≡ encode_utf8_all (map natural_of all)
-
-pub codes_start : (ts : List Tree) (text : Text) → text ≡ [] → LeftCodes ts ts text
-codes_start ts text e = record { codes = refl; made = ap (λ (w : Text). w ++ encode_utf8_all (map natural_of ts)) e }
-
-pub codes_more : (all rest more : List Tree) (t : Tree) (c : ℕ) (text longer : Text) → rest ≡ t ∷ more → IsCodeOf t c → longer ≡ text ++ encode_utf8 c → LeftCodes all rest text → LeftCodes all more longer
-codes_more all rest more t c text longer e s l h = record {
-  codes = sym (ap (list_all is_code) e ∙ ap (λ b. b && list_all is_code more) s.code) ∙ h.codes;
-  made = ap (λ (w : Text). w ++ encode_utf8_all (map natural_of more)) l
-      ∙ append_assoc text (encode_utf8 c) (encode_utf8_all (map natural_of more))
-      ∙ sym (ap (λ ts. text ++ encode_utf8_all (map natural_of ts)) e ∙ ap (λ n. text ++ (encode_utf8 n ++ encode_utf8_all (map natural_of more))) s.natural)
-      ∙ h.made;
-}
-
-pub codes_none : (all rest : List Tree) (text : Text) → rest ≡ [] → LeftCodes all rest text → (list_all is_code all ≡ true) × (text ≡ encode_utf8_all (map natural_of all))
-codes_none all rest text e h = (
-  sym h.codes ∙ ap (list_all is_code) e,
-  sym (append-nil text) ∙ sym (ap (λ ts. text ++ encode_utf8_all (map natural_of ts)) e) ∙ h.made,
-)
-
-pub no_codes : (all rest more : List Tree) (t : Tree) (text : Text) → rest ≡ t ∷ more → is_code t ≡ false → LeftCodes all rest text → list_all is_code all ≡ false
-no_codes all rest more t text e c h = sym h.codes ∙ ap (list_all is_code) e ∙ ap (λ b. b && list_all is_code more) c
-
 -- ---- a term that has to be a code
 
 abbrev coded : Tree → Solutions → Bool → Bool → Bool → Solutions
@@ -170,7 +144,7 @@ code_refused t e rest v h = go (is_integer t) (is_code t) refl refl h
     go : (i d : Bool) → is_integer t ≡ i → is_code t ≡ d → tested t i d ≡ Some e → code_tests t rest ≡ Faults e
     go true true f g k = cc
     go true false f g k = (let same : representation_error "character_code" ≡ e = cc in (λ j. coded t rest (v j) (f j) (g j)) ∙ ap Faults same)
-    go false d f g k = (let same : type_error "integer" t ≡ e = cc in (λ j. coded t rest (v j) (f j) d) ∙ ap Faults same)
+    go false d f g k = (let same : type_error "integer" t ≡ e = cc in (λ j. coded t rest (v j) (f j) (is_code t)) ∙ ap Faults same)
 
 pub code_known : (t : Tree) (c : ℕ) → StandsFor Codes t c → natural_of t ≡ c
 code_known t c h = sym (code_natural t (go (is_integer t) (is_code t) refl h.right)) ∙ h.character

@@ -1,5 +1,4 @@
-//! The built-in predicates that turn atoms and numbers into characters and codes, and back: `atom_chars`, `atom_codes`,
-//! `char_code` and `number_codes`.
+//! The built-in predicates that turn atoms into characters and codes, and back: `atom_chars`, `atom_codes` and `char_code`.
 #![tactic(auto)]
 
 mod character_codes;
@@ -8,7 +7,5 @@ mod conversions;
 mod elements;
 mod joined;
 mod lists;
-mod number_lists;
-mod numerals;
 
 pub use conversions::{Conversion, convert};

@@ -1,4 +1,4 @@
-use Rattle.std.proofs.Common.{◌≡◌, ◌<◌, ◌++◌, ◌∷◌, ◌∙◌, [], All, map, length, take, get_or, ap, sym, arith}
+use Rattle.std.proofs.Common.{◌≡◌, ◌<◌, ◌++◌, ◌∷◌, ◌∙◌, [], All, map, length, take, ap, sym, arith}
 use Rattle.std.proofs.lemmas.List.{map-append, take_more}
 use Rattle.std.proofs.lemmas.List.Elements.{All-push, All-same}
 use Rattle.spec_lists.proofs.Prefixes.{prefix_all_within}
@@ -28,6 +28,7 @@ loop-character-preserved c =
     let us = c.element.new.heap.now.terms in
     let g = c.element.ensures.grows in
     let f = element_of (kind_of c.args.kind) in
+    let item = c.character-item.result in
     let pushed = c.in_ok-push.ensures.items in
     let lt : i < length cs = omega arith in
     let old = trees_kept c.loop-character.atoms more c.loop-character.heap.now.terms us g.longer g.terms (inv.grows.names c.requires.names) ids inv.live in
@@ -35,6 +36,6 @@ loop-character-preserved c =
       live = All-same (λ k. k < length us) c.push.new.self.items (ids ++ id ∷ []) pushed
           (All-push (λ k. k < length us) ids id (prefix_all_within c.loop-character.heap.now.terms us ids g.terms inv.live) c.in_ok-id.ensures.live);
       built = ap (trees more us) pushed ∙ map-append (tree more us) ids (id ∷ []) ∙ (λ j. (old ∙ inv.built) j ++ c.in_ok-id.ensures.built j ∷ [])
-          ∙ sym (map-append f (take i cs) (get_or cs i 0 ∷ [])) ∙ ap (map f) (sym (take_more cs i 0 lt));
+          ∙ sym (map-append f (take i cs) (item ∷ [])) ∙ ap (λ x. map f (take i cs ++ x ∷ [])) c.character-item.is ∙ ap (map f) (sym (take_more cs i item lt));
       grows = grows_both c.args.atoms.now c.loop-character.atoms more c.args.heap.now c.loop-character.heap c.element.new.heap inv.grows g;
     }
