@@ -1,5 +1,5 @@
 -- What the definitions give of lists that were looked at.
-use Rattle.std.proofs.Common.{◌≡◌, ℕ, List, [], ◌∷◌, map, Bool, true, false, not, ◌||◌, ◌&&◌, Option, Some, None, refl, sym, ap, ◌∙◌}
+use Rattle.std.proofs.Common.{◌≡◌, ℕ, [], ◌∷◌, Bool, true, false, not, ◌||◌, ◌&&◌, Option, Some, refl, sym, ap, ◌∙◌}
 use Rattle.std.specs.Prelude.{if◌then◌else◌}
 use Rattle.std.specs.List.{list_any}
 use Rattle.spec_lists.specs.Texts.{Text}
@@ -9,7 +9,7 @@ use Rattle.spec_built.specs.Built.{is_atom, natural}
 use Rattle.spec_built.specs.Kinds.{Parts, parts, is_variable, natural_of}
 use Rattle.spec_built.specs.Errors.{instantiation, type_error}
 use Rattle.spec_builtins.specs.Alternatives.{Solutions, Faults, ◌≐◌, one_way, faults_if}
-use Rattle.spec_builtins.specs.Texts.{ElementKind, Codes, name_of, is_character, is_code, code_of, element_error, elements_error, from_elements, atom_list_row, char_code_row}
+use Rattle.spec_builtins.specs.Texts.{ElementKind, Codes, name_of, is_character, code_of, element_error, elements_error, from_elements, atom_list_row, char_code_row}
 use Rattle.cq_codes.specs.Elements.{Make, IsCharacterOf, StandsFor, code_tests}
 use Rattle.cq_codes.proofs.Standing.{code_passes, code_refused, code_known}
 
