@@ -206,7 +206,7 @@ fn values_and_spellings_are_made_of_each_other(rt: HostRuntime) -> Result<(), Fa
 }
 
 /// What an error says of the term that it blames.
-fn kind_of(error: BuiltinError) -> &'static str {
+fn kind_of(error: &BuiltinError) -> &'static str {
     match error {
         BuiltinError::Instantiation => "instantiation",
         BuiltinError::Type(ValidType::Atom, _) => "atom",
@@ -227,12 +227,16 @@ enum Blamed {
     Element,
 }
 
-fn blamed(error: BuiltinError, value: TermId, spelled: TermId) -> Blamed {
+fn is_same(left: &TermId, right: &TermId) -> bool {
+    left == right
+}
+
+fn blame_of(error: &BuiltinError, value: &TermId, spelled: &TermId) -> Blamed {
     match error {
         BuiltinError::Type(_, Culprit::Term(id)) => {
-            if id == value {
+            if is_same(id, value) {
                 Blamed::Value
-            } else if id == spelled {
+            } else if is_same(id, spelled) {
                 Blamed::Spelled
             } else {
                 Blamed::Element
@@ -257,7 +261,7 @@ fn refuses(
     let spelled = built(&mut heap, &mut atoms, spelled)?;
     match convert(&mut heap, &mut atoms, conversion, value, spelled) {
         Err(BuiltinFault::Error(error)) => {
-            Ok(kind_of(error) == kind && blamed(error, value, spelled) == wanted)
+            Ok(kind_of(&error) == kind && blame_of(&error, &value, &spelled) == wanted)
         }
         _ => Ok(false),
     }
@@ -271,14 +275,62 @@ fn atoms_are_refused(rt: HostRuntime) -> Result<(), Fail> {
     let name = Plain::Name("ab");
     let a = Plain::Name("a");
     for (conversion, value, spelled, kind, wanted) in [
-        (Conversion::AtomChars, Sample::Alone(one), OPEN, "atom", Blamed::Value),
-        (Conversion::AtomCodes, OPEN, OPEN, "instantiation", Blamed::Nothing),
-        (Conversion::AtomChars, OPEN, Sample::Begun(name), "instantiation", Blamed::Nothing),
-        (Conversion::AtomChars, OPEN, Sample::Listed(one, Plain::Unbound), "instantiation", Blamed::Nothing),
-        (Conversion::AtomCodes, OPEN, Sample::Alone(name), "list", Blamed::Spelled),
-        (Conversion::AtomChars, OPEN, Sample::Listed(a, name), "character", Blamed::Element),
-        (Conversion::AtomCodes, OPEN, Sample::Listed(one, name), "integer", Blamed::Element),
-        (Conversion::AtomCodes, OPEN, Sample::Listed(Plain::Whole(-1), name), "character_code", Blamed::Nothing),
+        (
+            Conversion::AtomChars,
+            Sample::Alone(one),
+            OPEN,
+            "atom",
+            Blamed::Value,
+        ),
+        (
+            Conversion::AtomCodes,
+            OPEN,
+            OPEN,
+            "instantiation",
+            Blamed::Nothing,
+        ),
+        (
+            Conversion::AtomChars,
+            OPEN,
+            Sample::Begun(name),
+            "instantiation",
+            Blamed::Nothing,
+        ),
+        (
+            Conversion::AtomChars,
+            OPEN,
+            Sample::Listed(one, Plain::Unbound),
+            "instantiation",
+            Blamed::Nothing,
+        ),
+        (
+            Conversion::AtomCodes,
+            OPEN,
+            Sample::Alone(name),
+            "list",
+            Blamed::Spelled,
+        ),
+        (
+            Conversion::AtomChars,
+            OPEN,
+            Sample::Listed(a, name),
+            "character",
+            Blamed::Element,
+        ),
+        (
+            Conversion::AtomCodes,
+            OPEN,
+            Sample::Listed(one, name),
+            "integer",
+            Blamed::Element,
+        ),
+        (
+            Conversion::AtomCodes,
+            OPEN,
+            Sample::Listed(Plain::Whole(-1), name),
+            "character_code",
+            Blamed::Nothing,
+        ),
     ] {
         let holds = refuses(rt.alloc(), conversion, value, spelled, kind, wanted)?;
         assert!(rt; holds, "{conversion:?} {spelled:?}");
