@@ -42,9 +42,12 @@ pub record IsSettlingMoment (st : State) (p : Pending) (m : Moment) : Type 0 whe
   pub is_list : IsListOf st p unifier list
   pub in_force : IsInForce list (JoinsIn st p unifier) NoQuestion m.list
   pub asked : AllByRecursion (IsAsked m.list (JoinsIn st p unifier) NoQuestion) m.asked
-  -- the operations of all terms that wait or are told
+  -- the operations of all terms that wait or are told, with the values that some list of the settling fixes: a list that
+  -- a constraint joins just now may turn out to have no solution
+  pub valued : List Constraint
+  pub is_valued : IsListOf st p unifier valued
   pub fixed : ℕ → Option ℚ
-  pub fixes : Fixes list fixed
+  pub fixes : Fixes valued fixed
   pub operations : m.operations
       ≡ flat_map (λ t. relation_operands fixed (apply (followed_by st.bindings unifier) t)) (st.delayed ++ p.told)
   -- no row of an answer is divided
