@@ -2,11 +2,11 @@
 //! functions here have empty bodies: each contract is a law, for names of any type.
 #![tactic(auto)]
 
-ghost use Rattle.std.specs.Prelude.{◌≡◌, ◌≢◌, ◌↔◌, ℕ, ◌<◌, ◌≤◌, List, length, Contains};
+ghost use Rattle.std.specs.Prelude.{◌≡◌, ◌≢◌, ◌↔◌, ℕ, ◌<◌, ◌≤◌, List, ◌++◌, length, Contains};
 ghost use Rattle.std.specs.List.{AllPairs};
 ghost use Rattle.spec_lists.specs.Texts.{Text};
 ghost use Rattle.spec_terms.specs.Term.{Term, Subst, Var, apply, identity, single, followed_by, Occurs, size, named};
-ghost use Rattle.spec_terms.specs.Unifier.{Equation, IsUnifier, HasNoUnifier};
+ghost use Rattle.spec_terms.specs.Unifier.{Equation, IsUnifier, HasNoUnifier, read_under};
 ghost use Rattle.spec_terms.specs.Variables.{variables, renamed_from, original_from, counted_from};
 ghost use Rattle.spec_terms.specs.Names.{EachName, EachNameInPairs, AreDifferentBelow, named_pairs, named_images};
 
@@ -37,6 +37,16 @@ pub fn one_unifier<N>()
     ensures one { (es : List (Equation N)) (s r : Subst N) → IsUnifier es s → IsUnifier es r → (v : ℕ) → s v ≡ r v }
     ensures idempotent { (es : List (Equation N)) (s : Subst N) → IsUnifier es s → (v : ℕ) → apply s (s v) ≡ s v }
     ensures never_both { (es : List (Equation N)) (s : Subst N) → IsUnifier es s → HasNoUnifier es → ⊥ }
+{}
+
+/// Pairs are unified in turn: the later ones are read under the unifier of the first, and the whole fails just where one
+/// of the two does.
+pub fn unified_in_turn<N>()
+    ensures both { (ds es : List (Equation N)) (r s : Subst N) → IsUnifier ds r → IsUnifier (read_under r es) s
+        → IsUnifier (ds ++ es) (followed_by r s) }
+    ensures not_first { (ds es : List (Equation N)) → HasNoUnifier ds → HasNoUnifier (ds ++ es) }
+    ensures not_later { (ds es : List (Equation N)) (r : Subst N) → IsUnifier ds r → HasNoUnifier (read_under r es)
+        → HasNoUnifier (ds ++ es) }
 {}
 
 /// The variables of a term are those that stand in it, each once.
