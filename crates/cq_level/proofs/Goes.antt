@@ -1,5 +1,5 @@
 -- The steps of a row towards zero.
-use Rattle.std.proofs.Common.{◌≡◌, ℕ, zero, suc, ◌+◌, ◌<◌, List, [], ◌∷◌, length, get_or, take, Bool, true, false, inl, inr, Some, Result, Err, pos, arith, refl, ap, sym, subst, ◌∙◌}
+use Rattle.std.proofs.Common.{◌≡◌, ℕ, zero, suc, ◌+◌, ◌<◌, ◌≤◌, List, [], ◌∷◌, length, get_or, take, Bool, true, false, inl, inr, Some, Result, Err, pos, arith, refl, ap, sym, subst, ◌∙◌}
 use Rattle.std.specs.Prelude.{◌↔◌}
 use Rattle.spec_rational.specs.Rational.{ℚ, 0ℚ, neg_ℚ, IsPositive, IsNotNegative, ◌<ℚ◌, ◌≤ℚ◌}
 use Rattle.spec_rational.proofs.Ring.{var, int, ◌⊕◌, minus}
@@ -374,6 +374,7 @@ same_fault x y e = cc
 pub record Approaches (q : ℕ) (up : Bool) (n : ℕ) (old now : DictValue) : Type 0 where
   pub flags : now.restricted ≡ old.restricted
   pub saved : now.saved ≡ old.saved
+  pub room : old.room ≤ now.room
   pub table : AreOverColumns now.roles
   pub stays : StaysRow q old.roles old.restricted now.roles
   pub off : IsOff up now.roles q
@@ -384,6 +385,7 @@ pub begins_here : (q : ℕ) (up : Bool) (d : DictValue) → IsRow d.roles q → 
 begins_here q up d row free off f table = record {
   flags = refl;
   saved = refl;
+  room = omega arith;
   table = table;
   stays = stays_here q d.roles d.restricted row;
   off = off;

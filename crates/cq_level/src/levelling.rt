@@ -1,7 +1,7 @@
 //! The simplex method towards zero: exchanges by the rule of the least numbers raise a row that is below zero, and lower one
 //! that is above, until it is zero, or a column is found by which it passes zero.
 
-ghost use Rattle.std.specs.Prelude.{◌≡◌, ℕ, false, IfOk};
+ghost use Rattle.std.specs.Prelude.{◌≡◌, ◌≤◌, ℕ, false, IfOk};
 ghost use Rattle.spec_simplex.specs.Dictionary.{IsFeasible};
 ghost use Rattle.cq_frac.specs.declared.Pair.{Pair};
 ghost use Rattle.cq_dict.specs.Roles.{IsRow, AreOverColumns, is_restricted};
@@ -112,6 +112,7 @@ fn exchange(
     ensures gone { IfOk result (λ o. IsGone q up dict.old.roles dict.old.restricted dict.new.roles o) }
     ensures flags { dict.new.restricted ≡ dict.old.restricted }
     ensures saved { dict.new.saved ≡ dict.old.saved }
+    ensures room { dict.old.room ≤ dict.new.room }
     ensures overflow { (pair : Pair) → result ≡ Err (Overflow pair) → RefusesSome dict.old.roles pair }
     ensures pivots { (n : ℕ) → result ≡ Err (Pivots n) → ⊥ }
 {
@@ -144,6 +145,7 @@ fn approach(dict: &mut Dict, q: usize, up: bool, pivots: u64) -> Result<Levelled
     ensures levelled { IfOk result (λ l. IsLevelled q dict.old.roles dict.old.restricted dict.new.roles l) }
     ensures flags { dict.new.restricted ≡ dict.old.restricted }
     ensures saved { dict.new.saved ≡ dict.old.saved }
+    ensures room { dict.old.room ≤ dict.new.room }
     ensures overflow { (pair : Pair) → result ≡ Err (Overflow pair) → RefusesLevel q dict.old.roles dict.old.restricted pair }
     ensures pivots { (n : ℕ) → result ≡ Err (Pivots n) → (n ≡ pivots) × SpendsLevel q dict.old.roles dict.old.restricted n }
 {
@@ -173,6 +175,7 @@ pub fn level(dict: &mut Dict, q: usize, pivots: u64) -> Result<Levelled, Simplex
     ensures levelled { IfOk result (λ l. IsLevelled q dict.old.roles dict.old.restricted dict.new.roles l) }
     ensures flags { dict.new.restricted ≡ dict.old.restricted }
     ensures saved { dict.new.saved ≡ dict.old.saved }
+    ensures room { dict.old.room ≤ dict.new.room }
     ensures overflow { (pair : Pair) → result ≡ Err (Overflow pair) → RefusesLevel q dict.old.roles dict.old.restricted pair }
     ensures pivots { (n : ℕ) → result ≡ Err (Pivots n) → (n ≡ pivots) × SpendsLevel q dict.old.roles dict.old.restricted n }
 {

@@ -1,6 +1,6 @@
 //! Columns dropped together.
 
-ghost use Rattle.std.specs.Prelude.{◌≡◌, ℕ, true, OnOk};
+ghost use Rattle.std.specs.Prelude.{◌≡◌, ◌≤◌, ℕ, true, OnOk};
 ghost use Rattle.spec_linear.specs.Solution.{Has};
 ghost use Rattle.cq_dict.specs.Roles.{AreOverColumns, is_live};
 ghost use Rattle.cq_tableau.specs.Dropped.{quantities, DropsEach};
@@ -16,6 +16,7 @@ pub fn drop_all(dict: &mut Dict, columns: &[Entry]) -> Result<(), AllocError>
     ensures dropped { OnOk result (DropsEach dict.old.roles (quantities columns.now) dict.new.roles) }
     ensures flags { dict.new.restricted ≡ dict.old.restricted }
     ensures saved { dict.new.saved ≡ dict.old.saved }
+    ensures room { dict.old.room ≤ dict.new.room }
 {
     for m in columns {
         if !dict.is_dropped(m.quantity) {

@@ -1,6 +1,6 @@
 //! A second look at restricted quantities, where columns were dropped: each is above zero somewhere, or zero everywhere.
 
-ghost use Rattle.std.specs.Prelude.{◌≡◌, ℕ, ◌<◌, length, true, IsTrue, IfOk, OnOk, MatchBool, MatchOption};
+ghost use Rattle.std.specs.Prelude.{◌≡◌, ◌≤◌, ℕ, ◌<◌, length, true, IsTrue, IfOk, OnOk, MatchBool, MatchOption};
 ghost use Rattle.cq_frac.specs.declared.Pair.{Pair};
 ghost use Rattle.cq_dict.specs.Roles.{AreOverColumns, IsRow, is_live, is_restricted};
 ghost use Rattle.cq_simplex.specs.declared.SimplexFault.TheVariants.{Overflow, Pivots};
@@ -71,6 +71,7 @@ fn look_at_row(dict: &mut Dict, alloc: Global, q: usize, pivots: u64) -> Result<
     ensures seen { IfOk result (λ s. IsSeen dict.old.roles dict.new.roles dict.old.restricted q s) }
     ensures flags { dict.new.restricted ≡ dict.old.restricted }
     ensures saved { dict.new.saved ≡ dict.old.saved }
+    ensures room { dict.old.room ≤ dict.new.room }
     ensures overflow { (pair : Pair) → result ≡ Err (Overflow pair) → RefusesLook dict.old.roles dict.old.restricted pair }
     ensures pivots { (n : ℕ) → result ≡ Err (Pivots n) → (n ≡ pivots) × SpendsLook dict.old.roles dict.old.restricted n }
 {
@@ -93,6 +94,7 @@ fn look(dict: &mut Dict, alloc: Global, q: usize, pivots: u64) -> Result<Seen, S
     ensures seen { IfOk result (λ s. IsSeen dict.old.roles dict.new.roles dict.old.restricted q s) }
     ensures flags { dict.new.restricted ≡ dict.old.restricted }
     ensures saved { dict.new.saved ≡ dict.old.saved }
+    ensures room { dict.old.room ≤ dict.new.room }
     ensures overflow { (pair : Pair) → result ≡ Err (Overflow pair) → RefusesLook dict.old.roles dict.old.restricted pair }
     ensures pivots { (n : ℕ) → result ≡ Err (Pivots n) → (n ≡ pivots) × SpendsLook dict.old.roles dict.old.restricted n }
 {
@@ -144,6 +146,7 @@ pub fn look_again(
     ensures looked { IfOk result (λ o. IsLooked told.now names.now.now dict.old.roles dict.new.roles dict.old.restricted o) }
     ensures flags { dict.new.restricted ≡ dict.old.restricted }
     ensures saved { dict.new.saved ≡ dict.old.saved }
+    ensures room { dict.old.room ≤ dict.new.room }
     ensures overflow { (pair : Pair) → result ≡ Err (Overflow pair) → RefusesLook dict.old.roles dict.old.restricted pair }
     ensures pivots { (n : ℕ) → result ≡ Err (Pivots n) → (n ≡ pivots) × SpendsLook dict.old.roles dict.old.restricted n }
 {

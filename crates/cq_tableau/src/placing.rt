@@ -1,6 +1,6 @@
 //! Variables as quantities, and new ones made for them.
 
-ghost use Rattle.std.specs.Prelude.{◌≡◌, ℕ, Some, slice_get, IfOk, OnOk};
+ghost use Rattle.std.specs.Prelude.{◌≡◌, ◌≤◌, ℕ, Some, slice_get, IfOk, OnOk};
 ghost use Rattle.spec_rational.specs.Sums.{Mentions};
 ghost use Rattle.spec_linear.specs.Form.{IsForm};
 ghost use Rattle.spec_lists.specs.Prefixes.{IsPrefix};
@@ -32,7 +32,9 @@ fn add_variable(
     ensures grows { IsPrefix names.old.now names.new.now }
     ensures numbered { AreNumbered names.new.now numbers.new.entries }
     ensures names_saved { names.new.saved ≡ names.old.saved }
+    ensures names_room { names.old.room ≤ names.new.room }
     ensures dict_saved { dict.new.saved ≡ dict.old.saved }
+    ensures dict_room { dict.old.room ≤ dict.new.room }
 {
     names.reserve_places(1)?;
     numbers.reserve(1)?;
@@ -57,7 +59,9 @@ pub fn find_or_add(
     ensures grows { IsPrefix names.old.now names.new.now }
     ensures numbered { AreNumbered names.new.now numbers.new.entries }
     ensures names_saved { names.new.saved ≡ names.old.saved }
+    ensures names_room { names.old.room ≤ names.new.room }
     ensures dict_saved { dict.new.saved ≡ dict.old.saved }
+    ensures dict_room { dict.old.room ≤ dict.new.room }
 {
     match number_of(numbers, names, x) {
         Some(n) => Ok(n),
@@ -79,8 +83,10 @@ pub fn place(
     ensures grows { IsPrefix names.old.now names.new.now }
     ensures numbered { AreNumbered names.new.now numbers.new.entries }
     ensures names_saved { names.new.saved ≡ names.old.saved }
+    ensures names_room { names.old.room ≤ names.new.room }
     ensures in_order { IsForm form.now }
     ensures dict_saved { dict.new.saved ≡ dict.old.saved }
+    ensures dict_room { dict.old.room ≤ dict.new.room }
 {
     let mut entries = Vec::new(alloc);
     for entry in form.entries() {

@@ -1,6 +1,6 @@
 //! A quantity that is to be at least zero: it is raised above zero, or its greatest value is found.
 
-ghost use Rattle.std.specs.Prelude.{◌≡◌, ℕ, slice_set, true, IfOk, OnOk};
+ghost use Rattle.std.specs.Prelude.{◌≡◌, ◌≤◌, ℕ, slice_set, true, IfOk, OnOk};
 ghost use Rattle.spec_simplex.specs.Dictionary.{IsFeasible};
 ghost use Rattle.cq_frac.specs.declared.Pair.{Pair};
 ghost use Rattle.cq_simplex.specs.declared.SimplexFault.TheVariants.{Overflow, Pivots};
@@ -35,6 +35,7 @@ fn swap(dict: &mut Dict, q: usize, c: Col) -> Result<(), SimplexFault>
     ensures table { OnOk result (AreOverColumns dict.new.roles) }
     ensures flags { OnOk result (dict.new.restricted ≡ slice_set dict.old.restricted q true) }
     ensures saved { dict.new.saved ≡ dict.old.saved }
+    ensures room { dict.old.room ≤ dict.new.room }
     ensures overflow { (pair : Pair) → result ≡ Err (Overflow pair) → RefusesPivot dict.old.roles q c pair }
     ensures pivots { (n : ℕ) → result ≡ Err (Pivots n) → ⊥ }
 {
@@ -52,6 +53,7 @@ pub fn raise(dict: &mut Dict, alloc: Global, q: usize, pivots: u64) -> Result<Ra
     requires feasible { IsFeasible (is_restricted dict.old.restricted) (dictionary dict.old.roles q) }
     ensures raised { IfOk result (λ a. IsRaised q dict.old.roles dict.old.restricted dict.new.roles dict.new.restricted a) }
     ensures saved { dict.new.saved ≡ dict.old.saved }
+    ensures room { dict.old.room ≤ dict.new.room }
     ensures overflow { (pair : Pair) → result ≡ Err (Overflow pair) → RefusesRaise q dict.old.roles dict.old.restricted pair }
     ensures pivots { (n : ℕ) → result ≡ Err (Pivots n) → (n ≡ pivots) × AreSpent dict.old.roles dict.old.restricted q Positive pivots dict.new.roles }
 {
@@ -78,6 +80,7 @@ fn raise_restricted(
     requires feasible { IsFeasible (is_restricted dict.old.restricted) (dictionary dict.old.roles q) }
     ensures raised { IfOk result (λ a. IsRaised q dict.old.roles dict.old.restricted dict.new.roles dict.new.restricted a) }
     ensures saved { dict.new.saved ≡ dict.old.saved }
+    ensures room { dict.old.room ≤ dict.new.room }
     ensures overflow { (pair : Pair) → result ≡ Err (Overflow pair) → RefusesRaise q dict.old.roles dict.old.restricted pair }
     ensures pivots { (n : ℕ) → result ≡ Err (Pivots n) → (n ≡ pivots) × AreSpent dict.old.roles dict.old.restricted q Positive pivots dict.new.roles }
 {

@@ -1,7 +1,7 @@
 //! Entries of certificates where columns of inequalities were dropped: the columns are restored, and the row is raised to its
 //! greatest value again. The dictionary stays as it is.
 
-ghost use Rattle.std.specs.Prelude.{◌≡◌, ◌<◌, ℕ, true, false, length, IfOk, OnOk};
+ghost use Rattle.std.specs.Prelude.{◌≡◌, ◌≤◌, ◌<◌, ℕ, true, false, length, IfOk, OnOk};
 ghost use Rattle.spec_rational.specs.Sums.{Mentions};
 ghost use Rattle.cq_frac.specs.declared.Pair.{Pair};
 ghost use Rattle.cq_row.specs.Row.{Row};
@@ -31,6 +31,7 @@ fn restore_restricted(dict: &mut Dict, q: usize) -> Result<(), AllocError>
     ensures own { OnOk result (is_dropped dict.new.roles q ≡ true → is_restricted dict.old.restricted q ≡ false) }
     ensures flags { dict.new.restricted ≡ dict.old.restricted }
     ensures saved { dict.new.saved ≡ dict.old.saved }
+    ensures room { dict.old.room ≤ dict.new.room }
 {
     if !dict.is_dropped(q) {
         return Ok(());
@@ -48,6 +49,7 @@ fn restore_all(dict: &mut Dict) -> Result<(), AllocError>
     ensures none { OnOk result (NoneBelow dict.old.restricted (length dict.old.roles) dict.new.roles) }
     ensures flags { dict.new.restricted ≡ dict.old.restricted }
     ensures saved { dict.new.saved ≡ dict.old.saved }
+    ensures room { dict.old.room ≤ dict.new.room }
 {
     for q in 0..dict.count() {
         restore_restricted(dict, q)?;
@@ -83,6 +85,7 @@ fn highest(
     requires greatest { HasGreatest dict.old.roles dict.old.restricted q }
     ensures entries { IfOk result (λ s. AreHighest names.now.now q dict.old.roles dict.old.restricted s.items) }
     ensures saved { dict.new.saved ≡ dict.old.saved }
+    ensures room { dict.old.room ≤ dict.new.room }
     ensures overflow { (pair : Pair) → result ≡ Err (Overflow pair) → RefusesRaised q dict.old.roles dict.old.restricted pair }
     ensures pivots { (n : ℕ) → result ≡ Err (Pivots n) → (n ≡ pivots) × SpendsRaised q dict.old.roles dict.old.restricted n }
 {
@@ -112,6 +115,7 @@ pub fn row_entries(
     ensures entries { IfOk result (λ s. AreHighest names.now.now q dict.old.roles dict.old.restricted s.items) }
     ensures stays { quantities_of dict.new ≡ quantities_of dict.old }
     ensures saved { dict.new.saved ≡ dict.old.saved }
+    ensures room { dict.old.room ≤ dict.new.room }
     ensures overflow { (pair : Pair) → result ≡ Err (Overflow pair) → RefusesRaised q dict.old.roles dict.old.restricted pair }
     ensures pivots { (n : ℕ) → result ≡ Err (Pivots n) → (n ≡ pivots) × SpendsRaised q dict.old.roles dict.old.restricted n }
 {
@@ -134,6 +138,7 @@ fn asked_highest(
     requires greatest { AsksGreatest names.now.now (quantities_of dict.old) form.now }
     ensures entries { IfOk result (λ s. AreFormEntries names.now.now (quantities_of dict.old) form.now s.items) }
     ensures saved { dict.new.saved ≡ dict.old.saved }
+    ensures room { dict.old.room ≤ dict.new.room }
     ensures overflow { (pair : Pair) → result ≡ Err (Overflow pair) → RefusesFormEntries names.now.now (quantities_of dict.old) form.now pair }
     ensures pivots { (n : ℕ) → result ≡ Err (Pivots n) → (n ≡ pivots) × SpendsFormEntries names.now.now (quantities_of dict.old) form.now n }
 {
@@ -157,6 +162,7 @@ pub fn form_entries(
     ensures entries { IfOk result (λ s. AreFormEntries names.now.now (quantities_of dict.old) form.now s.items) }
     ensures stays { quantities_of dict.new ≡ quantities_of dict.old }
     ensures saved { dict.new.saved ≡ dict.old.saved }
+    ensures room { dict.old.room ≤ dict.new.room }
     ensures overflow { (pair : Pair) → result ≡ Err (Overflow pair) → RefusesFormEntries names.now.now (quantities_of dict.old) form.now pair }
     ensures pivots { (n : ℕ) → result ≡ Err (Pivots n) → (n ≡ pivots) × SpendsFormEntries names.now.now (quantities_of dict.old) form.now n }
 {

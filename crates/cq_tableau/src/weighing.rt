@@ -1,6 +1,6 @@
 //! Certificates with entries that are found over restored columns.
 
-ghost use Rattle.std.specs.Prelude.{◌≡◌, ◌∷◌, ◌++◌, ℕ, IfOk};
+ghost use Rattle.std.specs.Prelude.{◌≡◌, ◌≤◌, ◌∷◌, ◌++◌, ℕ, IfOk};
 ghost use Rattle.spec_rational.specs.Rational.{1ℚ, neg_ℚ};
 ghost use Rattle.spec_linear.specs.Form.{negated_form};
 ghost use Rattle.cq_frac.specs.declared.Pair.{Pair};
@@ -63,6 +63,7 @@ pub fn row_certificate(
     requires greatest { HasGreatest dict.old.roles dict.old.restricted q }
     ensures certificate { IfOk result (λ cert. IsRestoredCertificate names.now.now q dict.old.roles dict.old.restricted number cert) }
     ensures saved { dict.new.saved ≡ dict.old.saved }
+    ensures room { dict.old.room ≤ dict.new.room }
     ensures overflow { (pair : Pair) → result ≡ Err (Overflow pair) → RefusesRaised q dict.old.roles dict.old.restricted pair }
     ensures pivots { (n : ℕ) → result ≡ Err (Pivots n) → (n ≡ pivots) × SpendsRaised q dict.old.roles dict.old.restricted n }
 {
@@ -85,6 +86,7 @@ pub fn form_certificate(
     requires greatest { AsksGreatest names.now.now (quantities_of dict.old) form.now }
     ensures certificate { IfOk result (λ cert. IsFormCertificate names.now.now (quantities_of dict.old) form.now number cert) }
     ensures saved { dict.new.saved ≡ dict.old.saved }
+    ensures room { dict.old.room ≤ dict.new.room }
     ensures overflow { (pair : Pair) → result ≡ Err (Overflow pair) → RefusesFormEntries names.now.now (quantities_of dict.old) form.now pair }
     ensures pivots { (n : ℕ) → result ≡ Err (Pivots n) → (n ≡ pivots) × SpendsFormEntries names.now.now (quantities_of dict.old) form.now n }
 {
@@ -108,6 +110,7 @@ pub fn apart_certificate(
     requires least { AsksGreatest names.now.now (quantities_of dict.old) (negated_form form.now) }
     ensures certificate { IfOk result (λ cert. IsApartCertificate names.now.now (quantities_of dict.old) form.now number cert) }
     ensures saved { dict.new.saved ≡ dict.old.saved }
+    ensures room { dict.old.room ≤ dict.new.room }
     ensures overflow { (pair : Pair) → result ≡ Err (Overflow pair) → RefusesEither names.now.now (quantities_of dict.old) form.now pair }
     ensures pivots { (n : ℕ) → result ≡ Err (Pivots n) → (n ≡ pivots) × SpendsEither names.now.now (quantities_of dict.old) form.now n }
 {

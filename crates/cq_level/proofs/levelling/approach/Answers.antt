@@ -36,6 +36,7 @@ loop-preserved c =
     record {
       flags = x.flags ∙ i.flags;
       saved = x.saved ∙ i.saved;
+      room = omega (arith, x.room, i.room);
       table = g.own_table;
       stays = stays_further c.args.q c.args.dict.now.roles c.loop.dict.roles c.exchange.new.dict.roles c.args.dict.now.restricted i.stays g.stays;
       off = g.off;

@@ -1,4 +1,4 @@
-use Rattle.std.proofs.Common.{◌≡◌, ◌<◌, ◌+◌, length, take, arith, subst, sym, ◌∙◌}
+use Rattle.std.proofs.Common.{◌≡◌, ◌<◌, ◌≤◌, ◌+◌, length, take, arith, subst, sym, ◌∙◌}
 use Rattle.cq_dict.specs.DictValue.{DictValue}
 use Rattle.cq_tableau.specs.Dropped.{quantities, DropsEach}
 use Rattle.cq_tableau.proofs.Drops.{has_quantity, live_below, not_dropped_live, skipped, dropped_next}
@@ -25,19 +25,21 @@ loop-m-preserved c =
     elim c.if-not-is_dropped.branch [
       | then-not-is_dropped+in_ok-drop_column w ↦
           let e = w.in_ok-drop_column.ensures in
-          subst (λ (d : DictValue). DropsEach old.roles (quantities (take (c.loop-m.m-index + 1) c.args.columns.now)) d.roles × (d.restricted ≡ old.restricted) × (d.saved ≡ old.saved))
+          subst (λ (d : DictValue). DropsEach old.roles (quantities (take (c.loop-m.m-index + 1) c.args.columns.now)) d.roles × (d.restricted ≡ old.restricted) × (d.saved ≡ old.saved) × (old.room ≤ d.room))
           (sym w.dict-is) (
             dropped_next old.roles c.loop-m.dict.roles c.args.columns.now c.loop-m.m-index c.m-item.result l c.m-item.is c.loop-m.invariant.0
                 w.drop_column.new.self.roles e.kinds e.table e.same,
             e.flags ∙ c.loop-m.invariant.1,
             e.saved ∙ c.loop-m.invariant.2,
+            omega (arith, e.room, c.loop-m.invariant.3),
           )
       | else-not-is_dropped w ↦
-          subst (λ (d : DictValue). DropsEach old.roles (quantities (take (c.loop-m.m-index + 1) c.args.columns.now)) d.roles × (d.restricted ≡ old.restricted) × (d.saved ≡ old.saved))
+          subst (λ (d : DictValue). DropsEach old.roles (quantities (take (c.loop-m.m-index + 1) c.args.columns.now)) d.roles × (d.restricted ≡ old.restricted) × (d.saved ≡ old.saved) × (old.room ≤ d.room))
           (sym w.dict-is) (
             skipped old.roles c.loop-m.dict.roles c.args.columns.now c.loop-m.m-index c.m-item.result l c.m-item.is c.loop-m.invariant.0
                 (sym c.is_dropped.ensures ∙ w.if-not-is_dropped.false),
             c.loop-m.invariant.1,
             c.loop-m.invariant.2,
+            c.loop-m.invariant.3,
           )
     ]

@@ -1,4 +1,4 @@
-use Rattle.std.proofs.Common.{◌≡◌, ◌+◌, Err, false, arith, ap, sym, subst, ◌∙◌, inl, inr}
+use Rattle.std.proofs.Common.{◌≡◌, ◌≤◌, ◌+◌, Err, false, arith, ap, sym, subst, ◌∙◌, inl, inr}
 use Rattle.cq_dict.specs.Roles.{is_restricted}
 use Rattle.cq_dict.specs.DictValue.{DictValue}
 use Rattle.cq_tableau.specs.declared.looking.Seen.TheVariants as of_seen
@@ -52,18 +52,19 @@ loop-q-preserved c =
           let e = w.in_ok-look.ensures in
           let new = w.look.new.dict in
           let y = subst (LooksOn mid.roles new.roles) i.2 e.looks in
-          subst (λ (d : DictValue). LooksOn old.roles d.roles old.restricted × StandBelow told names old.roles d.roles old.restricted (c.loop-q.q + 1) × (d.restricted ≡ old.restricted) × (d.saved ≡ old.saved)) (sym w.dict-is) (
+          subst (λ (d : DictValue). LooksOn old.roles d.roles old.restricted × StandBelow told names old.roles d.roles old.restricted (c.loop-q.q + 1) × (d.restricted ≡ old.restricted) × (d.saved ≡ old.saved) × (old.room ≤ d.room)) (sym w.dict-is) (
             then_looks old.roles mid.roles old.restricted mid.restricted i.2 i.0 new.roles e.looks,
             one_more told names old.roles mid.roles new.roles old.restricted i.0 y c.loop-q.q i.1
                 (λ forms l s r. inl (then_seen old.roles mid.roles old.restricted mid.restricted i.2 i.0 new.roles c.loop-q.q of_seen.Rises (subst (IsSeen mid.roles new.roles mid.restricted c.loop-q.q) w.in-Rises.is e.seen) forms l s)),
             e.flags ∙ i.2,
             e.saved ∙ i.3,
+            omega (arith, e.room, i.4),
           )
       | then-is_restricted+in_ok-look+in-Flat+else-is_strict w ↦
           let e = w.in_ok-look.ensures in
           let new = w.look.new.dict in
           let y = subst (LooksOn mid.roles new.roles) i.2 e.looks in
-          subst (λ (d : DictValue). LooksOn old.roles d.roles old.restricted × StandBelow told names old.roles d.roles old.restricted (c.loop-q.q + 1) × (d.restricted ≡ old.restricted) × (d.saved ≡ old.saved)) (sym w.dict-is) (
+          subst (λ (d : DictValue). LooksOn old.roles d.roles old.restricted × StandBelow told names old.roles d.roles old.restricted (c.loop-q.q + 1) × (d.restricted ≡ old.restricted) × (d.saved ≡ old.saved) × (old.room ≤ d.room)) (sym w.dict-is) (
             then_looks old.roles mid.roles old.restricted mid.restricted i.2 i.0 new.roles e.looks,
             one_more told names old.roles mid.roles new.roles old.restricted i.0 y c.loop-q.q i.1
                 (λ forms l s r. inr (
@@ -72,14 +73,16 @@ loop-q-preserved c =
                 )),
             e.flags ∙ i.2,
             e.saved ∙ i.3,
+            omega (arith, e.room, i.4),
           )
       | else-is_restricted w ↦
           let n : is_restricted old.restricted c.loop-q.q ≡ false = ap (λ f. is_restricted f c.loop-q.q) (sym i.2) ∙ sym c.is_restricted.ensures ∙ w.if-is_restricted.false in
-          subst (λ (d : DictValue). LooksOn old.roles d.roles old.restricted × StandBelow told names old.roles d.roles old.restricted (c.loop-q.q + 1) × (d.restricted ≡ old.restricted) × (d.saved ≡ old.saved)) (sym w.dict-is) (
+          subst (λ (d : DictValue). LooksOn old.roles d.roles old.restricted × StandBelow told names old.roles d.roles old.restricted (c.loop-q.q + 1) × (d.restricted ≡ old.restricted) × (d.saved ≡ old.saved) × (old.room ≤ d.room)) (sym w.dict-is) (
             i.0,
             one_more told names old.roles mid.roles mid.roles old.restricted i.0 (looks_same mid.roles old.restricted) c.loop-q.q i.1 (λ forms l s r. apart (is_restricted old.restricted c.loop-q.q) n r),
             i.2,
             i.3,
+            i.4,
           )
     ]
 

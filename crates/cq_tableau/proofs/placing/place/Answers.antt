@@ -1,4 +1,4 @@
-use Rattle.std.proofs.Common.{◌+◌, take, sym, subst, ◌∙◌}
+use Rattle.std.proofs.Common.{◌+◌, take, arith, sym, subst, ◌∙◌}
 use Rattle.spec_lists.proofs.Prefixes.{prefix_both}
 use Rattle.cq_form.specs.Entries.{products_of}
 use Rattle.cq_tableau.specs.Stored.{IsPlaced}
@@ -18,5 +18,7 @@ loop-entry-preserved c =
       grows = prefix_both c.args.names.now.now c.loop-entry.names.now c.find_or_add.new.names.now v.grows f.grows;
       numbered = f.numbered;
       names_saved = f.names_saved ∙ v.names_saved;
+      names_room = omega (arith, f.names_room, v.names_room);
       dict_saved = f.dict_saved ∙ v.dict_saved;
+      dict_room = omega (arith, f.dict_room, v.dict_room);
     }

@@ -1,5 +1,5 @@
 -- The products so far, over the quantities.
-use Rattle.std.proofs.Common.{◌≡◌, take}
+use Rattle.std.proofs.Common.{◌≡◌, ◌≤◌, take}
 use Rattle.spec_lists.specs.Prefixes.{IsPrefix}
 use Rattle.cq_form.specs.Entries.{products_of}
 use Rattle.cq_dict.specs.DictValue.{quantities_of}
@@ -14,5 +14,7 @@ invariant-loop-entry l = record {
   grows : IsPrefix l.fn.names.now l.names.now;
   numbered : AreNumbered l.names.now l.numbers.entries;
   names_saved : l.names.saved ≡ l.fn.names.saved;
+  names_room : l.fn.names.room ≤ l.names.room;
   dict_saved : l.dict.saved ≡ l.fn.dict.saved;
+  dict_room : l.fn.dict.room ≤ l.dict.room;
 }

@@ -1,4 +1,4 @@
-use Rattle.std.proofs.Common.{◌≡◌, true, false, subst, ◌∙◌}
+use Rattle.std.proofs.Common.{◌≡◌, true, false, arith, subst, ◌∙◌}
 use Rattle.cq_dict.specs.Roles.{is_dropped, is_restricted}
 use Rattle.cq_tableau.specs.Restored.{Restores}
 use Rattle.cq_tableau.proofs.Restores.{restores_further, none_further}
@@ -18,4 +18,5 @@ loop-q-preserved c =
           (subst (λ f. is_dropped new c.loop-q.q ≡ true → is_restricted f c.loop-q.q ≡ false) i.flags e.own);
       flags = e.flags ∙ i.flags;
       saved = e.saved ∙ i.saved;
+      room = omega (arith, e.room, i.room);
     }

@@ -1,5 +1,5 @@
 -- The restricted ones of the quantities so far are live.
-use Rattle.std.proofs.Common.{◌≡◌}
+use Rattle.std.proofs.Common.{◌≡◌, ◌≤◌}
 use Rattle.cq_tableau.specs.Restored.{Restores, NoneBelow}
 use Rattle.cq_tableau.proofs.restoring.restore_all.Given as goal
 
@@ -9,4 +9,5 @@ invariant-loop-q l = record {
   none : NoneBelow l.fn.dict.restricted l.q l.dict.roles;
   flags : l.dict.restricted ≡ l.fn.dict.restricted;
   saved : l.dict.saved ≡ l.fn.dict.saved;
+  room : l.fn.dict.room ≤ l.dict.room;
 }
