@@ -74,7 +74,8 @@ fn conclude(
     requires numbered { AreNumbered names.old.now numbers.now.entries }
     requires between { IsBetween (told.now ++ c.now ∷ []) (names.old.now ++ Member (length told.now + 1) ∷ []) (quantities_of dict.old) }
     requires falls { IfSome fallen (FallsAt told.now (told.now ++ c.now ∷ []) (names.old.now ++ Member (length told.now + 1) ∷ [])) }
-    ensures joined { IfOk result (λ e. IfJoined e (IsConcluded told.now names.old.now (quantities_of dict.old) before.now fallen names.new.now (quantities_of dict.new))) }
+    ensures joined { IfOk result
+        (λ e. IfJoined e (IsConcluded told.now names.old.now (quantities_of dict.old) before.now fallen names.new.now (quantities_of dict.new))) }
     ensures refuted { IsRefuted result told.now c.now }
     ensures overflow { (pair : Pair) → result ≡ Err (Overflow pair) → MayRefuse told.now (Only c.now) NoQuestion pair }
     ensures pivots { (n : ℕ) → result ≡ Err (Pivots n) → (n ≡ pivots) × MayTake told.now (Only c.now) NoQuestion n }
@@ -354,8 +355,10 @@ fn opposite_certificate(
     requires least { AsksGreatest names.now.now (quantities_of dict.old) (negated_form form.now) }
     ensures certificate { IfOk result (λ cert. IsOppositeCertificate names.now.now (quantities_of dict.old) form.now number cert) }
     ensures saved { dict.new.saved ≡ dict.old.saved }
-    ensures overflow { (pair : Pair) → result ≡ Err (of_search.Overflow pair) → RefusesFormEntries names.now.now (quantities_of dict.old) (negated_form form.now) pair }
-    ensures pivots { (n : ℕ) → result ≡ Err (of_search.Pivots n) → (n ≡ pivots) × SpendsFormEntries names.now.now (quantities_of dict.old) (negated_form form.now) n }
+    ensures overflow { (pair : Pair) → result ≡ Err (of_search.Overflow pair)
+        → RefusesFormEntries names.now.now (quantities_of dict.old) (negated_form form.now) pair }
+    ensures pivots { (n : ℕ) → result ≡ Err (of_search.Pivots n)
+        → (n ≡ pivots) × SpendsFormEntries names.now.now (quantities_of dict.old) (negated_form form.now) n }
 {
     let opposite = negated(alloc, form)?;
     let found = form_entries(alloc, pivots, numbers, names, dict, &opposite)?;
@@ -396,8 +399,10 @@ fn approach(
     requires { IsToJoinSome (quantities_of dict.old) places.now constant }
     ensures approached { IfOk result (λ a. OfJoining (quantities_of dict.old) places.now constant (IsApproached dict.new.roles dict.new.restricted a)) }
     ensures saved { dict.new.saved ≡ dict.old.saved }
-    ensures overflow { (pair : Pair) → result ≡ Err (of_search.Overflow pair) → OfJoining (quantities_of dict.old) places.now constant (λ told names c. MayRefuse told (Only c) NoQuestion pair) }
-    ensures pivots { (n : ℕ) → result ≡ Err (of_search.Pivots n) → (n ≡ pivots) × OfJoining (quantities_of dict.old) places.now constant (λ told names c. MayTake told (Only c) NoQuestion n) }
+    ensures overflow { (pair : Pair) → result ≡ Err (of_search.Overflow pair)
+        → OfJoining (quantities_of dict.old) places.now constant (λ told names c. MayRefuse told (Only c) NoQuestion pair) }
+    ensures pivots { (n : ℕ) → result ≡ Err (of_search.Pivots n)
+        → (n ≡ pivots) × OfJoining (quantities_of dict.old) places.now constant (λ told names c. MayTake told (Only c) NoQuestion n) }
 {
     let q = dict.add_row(places, constant, false)?;
     match level(dict, q, pivots)? {

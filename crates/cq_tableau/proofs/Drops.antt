@@ -32,17 +32,6 @@ pub has_last : (s : List ℕ) (c : ℕ) → Has c (s ++ c ∷ [])
 has_last [] c = inl refl
 has_last (d ∷ s) c = inr (has_last s c)
 
-pub none_dropped : (roles : List Role) → AreOverColumns roles → DropsEach roles [] roles
-none_dropped roles table = record {
-  table = table;
-  size = refl;
-  same = λ x. (λ m. m, λ m. m);
-  each = λ c h. absurd h;
-  still = λ c h. h;
-  only = λ c h. inr h;
-  live = λ c h. inl h;
-}
-
 module _ (old : List Role) (s : List ℕ) (mid : List Role) (d : DropsEach old s mid) (c : ℕ) where
   -- the column is dropped already
   already : is_dropped mid c ≡ true → DropsEach old (s ++ c ∷ []) mid

@@ -372,10 +372,6 @@ module _ (roles : List Role) (flags : List Bool) (c q : ℕ) where
         inr (subst IsNotNegative
         (sym (factor_is roles q own at c ∙ at_unit (is_live roles) 0 own.live (record { quantity = c; factor = e }) (table.rows q own at).live_row h)) o)
 
--- a dropped column
-pub dropped_flat : (roles : List Role) (flags : List Bool) (q : ℕ) → is_dropped roles q ≡ true → IsFlatNow roles roles flags q
-dropped_flat roles flags q h forms l s v w = w q h
-
 -- ---- what was seen before a step, and after it
 pub rises_before : (old mid : List Role) (flags : List Bool) → LooksOn old mid flags → (q : ℕ) → RisesStill mid flags q → RisesStill old flags q
 rises_before old mid flags x q r forms l s = r forms l (x.speaks forms l s)

@@ -25,9 +25,6 @@ distinct-end [] x d n = ((λ h. h), tt)
 distinct-end (y ∷ s) x d n = ((λ h. elim (has_end s x y h) [ inl k ↦ d.0 k | inr e ↦ n (inl (sym e)) ]), distinct-end s x d.1 (λ h. n (inr h)))
 
 -- ---- open variables
-pub none_open : (names : List Name) (roles : List Role) → AreOpen names roles 0 []
-none_open names roles = record { once = tt; each = λ x h. absurd h; all = λ n x h e. absurd (omega (arith, h)) }
-
 module _ (names : List Name) (roles : List Role) (n : ℕ) (xs : List VarId) (a : AreOpen names roles n xs) where
   last : (z : ℕ) → z < n + 1 → (z < n) ⊎ (z ≡ n)
   last z l = grind arith
@@ -74,9 +71,6 @@ module _ (names : List Name) (roles : List Role) (n : ℕ) (xs : List VarId) (a 
     }
 
 -- ---- those that have a value
-pub none_fixed_now : (names : List Name) (q : Quantities) → AreFixedNow names q [] []
-none_fixed_now names q = record { once = λ d. d; each = λ x h. absurd h; all = λ x h. absurd h }
-
 module _ (names : List Name) (q : Quantities) (before xs : List VarId) (a : AreFixedNow names q before xs) (x : VarId) where
   fewer : (s : List ℕ) (y : ℕ) → AreDistinct (s ++ y ∷ []) → AreDistinct s
   fewer [] y d = tt

@@ -39,17 +39,6 @@ use Rattle.spec_simplex.proofs.Solutions.{true_not_false}
 use Rattle.cq_tableau.proofs.Looks.{reached_speaks, search_feasible}
 
 -- ---- columns restored
-pub restores_none : (flags : List Bool) (roles : List Role) → AreOverColumns roles → Restores flags roles roles
-restores_none flags roles table = record {
-  table = table;
-  size = refl;
-  same = λ x. (λ m. m, λ m. m);
-  rows = λ z r. r;
-  live = λ z h. h;
-  only = λ z h. h;
-  turned = λ z h. inl h;
-}
-
 pub restores_further : (flags : List Bool) (old mid new : List Role) → Restores flags old mid → Restores flags mid new → Restores flags old new
 restores_further flags old mid new a b = record {
   table = b.table;

@@ -165,11 +165,6 @@ optimal roles flags forms asked new v multipliers own a m =
     let e = m.entries own a in
     optimal_of new flags forms own.live (λ n i. m.positive n (subst (rows.Has n) (sym e) i)) (λ n i. m.restricted n (subst (rows.Has n) (sym e) i))
 
--- the multipliers are the certificate's entries of the row's live part
-pub same_entries : (number : ℕ → ℕ) (s : List Entry) → certified number (rows.negated s) ≡ entries number (products_of s)
-same_entries number [] = refl
-same_entries number (m ∷ s) = ap (λ r. (number m.quantity, neg_ℚ m.factor) ∷ r) (same_entries number s)
-
 -- ---- exchanges of the search
 pub changed : (old new : List Role) (flags : List Bool) (forms : List Linear) (asked n : ℕ) → IsReached flags asked old n new → Changed (tableau old flags forms) (tableau new flags forms) [] []
 changed old new flags forms asked n r = record {

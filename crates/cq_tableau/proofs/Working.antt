@@ -109,10 +109,6 @@ module _ (v : ℕ → ℚ) where
   weakly [] h = tt
   weakly (c ∷ l) h = weaker c.relation c.form (without_disequations l) (weak l) h (weakly l)
 
-  -- equations hold in it
-  equation_zero : (l : List Constraint) (c : Constraint) → Has c l → c.relation ≡ Eq → Satisfies v (weak l) → value_at v c.form ≡ 0ℚ
-  equation_zero l c m e s = weak_member v l (equal_zero c.form) (subst (λ r. Has (record { relation = r; form = c.form }) l) e m) s
-
 pub name_back : (q : Quantity) → quantity_of (name_of q) ≡ q
 name_back (variable x) = refl
 name_back (member i) = refl

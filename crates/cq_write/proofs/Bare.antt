@@ -4,10 +4,11 @@ use Rattle.std.specs.Prelude.{not, ◌&&◌, ◌||◌, ◌==◌}
 use Rattle.std.specs.Char.{is_ascii_lowercase}
 use Rattle.std.specs.List.{prefix_len}
 use Rattle.std.specs.Str.{IsAscii, continuation_len, chars}
+use Rattle.std.proofs.Math.Bool.{and-false}
 use Rattle.std.proofs.lemmas.Bool.Decides.{nat_tests}
 use Rattle.std.proofs.lemmas.Str.{chars-IsAscii}
 use Rattle.std.proofs.lemmas.Str.Ascii.{IsAscii-nil}
-use Rattle.spec_lists.proofs.Tests.{nat_eq-apart}
+use Rattle.spec_lists.proofs.Tests.{nat_eq-apart, neither_is}
 use Rattle.spec_lists.specs.Texts.{Text}
 use Rattle.spec_grammar.specs.declared.Kind.TheVariants.{Name}
 use Rattle.spec_grammar.specs.declared.Gap.TheVariants.{Between}
@@ -18,6 +19,7 @@ use Rattle.spec_grammar.specs.Laws.{AllPass}
 use Rattle.spec_grammar.proofs.Again.{first_char-ascii, symbol_small, symbol_starts_none}
 use Rattle.spec_syntax.specs.Writing.{is_name_to, is_spaced, needs_quotes}
 use Rattle.spec_writing.specs.Texts.{name_text}
+use Rattle.spec_writing.proofs.Names.{all_by}
 use Rattle.spec_writing.specs.declared.Style.{Style}
 use Rattle.spec_writing.specs.declared.Style.TheVariants.{Plain, Quoted}
 use Rattle.cq_atoms.specs.Texts.{text_of}
@@ -26,14 +28,6 @@ use Rattle.cq_write.specs.Work.{Setting, infix_word}
 use Rattle.cq_write.specs.Looks.{HasLooks, IsBare, IsPlainText, continues_word, is_alone}
 use Rattle.cq_write.specs.declared.looks.Looks.{Looks}
 use Rattle.cq_write.specs.declared.looks.Looks.TheVariants as looks
-
-all_by : (test : ℕ → Bool) (bs : List ℕ) → prefix_len test bs ≡ length bs → AllPass test bs
-all_by test [] e = tt
-all_by test (b ∷ bs) e = by (test b) refl (λ g. all_by test bs g)
-  where
-    by : (x : Bool) → test b ≡ x → (prefix_len test bs ≡ length bs → AllPass test bs) → AllPass test (b ∷ bs)
-    by false x rest = absurd (let z : prefix_len test (b ∷ bs) ≡ 0 = rw x refl in omega (arith, z, e))
-    by true x rest = let z : prefix_len test (b ∷ bs) ≡ 1 + prefix_len test bs = rw x refl in (x, rest (omega (arith, z, e)))
 
 more_ascii : (b : ℕ) (bs : List ℕ) → b < 128 → IsAscii bs → IsAscii (b ∷ bs)
 more_ascii b bs low h zero = low
@@ -117,17 +111,9 @@ no_layout b e =
     let h = symbol_not b 13 e refl in
     rw (a, c, d, f, g, h) refl
 
-neither : (x y : Bool) → (x || y) ≡ false → (x ≡ false) × (y ≡ false)
-neither true y e = cc
-neither false y e = (refl, e)
-
-and_false : (x : Bool) → (x && false) ≡ false
-and_false true = refl
-and_false false = refl
-
 no_stop : (b : ℕ) (bs : List ℕ) → ((b == 46) && (length bs == 0)) ≡ false → ((b == 46) && ((1 + length bs) == 1)) ≡ false
 no_stop b [] h = h
-no_stop b (c ∷ cs) h = let z : ((1 + length (c ∷ cs)) == 1) ≡ false = nat_eq-apart _ _ (λ e. omega (arith, e)) in rw z (and_false (b == 46))
+no_stop b (c ∷ cs) h = let z : ((1 + length (c ∷ cs)) == 1) ≡ false = nat_eq-apart _ _ (λ e. omega (arith, e)) in rw z (and-false (b == 46))
 
 pub bare_symbols : (b : ℕ) (bs : List ℕ) → is_symbol b ≡ true → prefix_len is_symbol bs ≡ length bs → is_alone b bs ≡ false → IsBare (b ∷ bs) false
 bare_symbols b bs e all apart =
@@ -135,7 +121,7 @@ bare_symbols b bs e all apart =
     let low = symbol_small b e in
     let s = below b low in
     let first = first_char-ascii b bs low in
-    let parts = neither ((b == 46) && (length bs == 0)) ((b == 47) && begins_with 42 bs) apart in
+    let parts = neither_is ((b == 46) && (length bs == 0)) ((b == 47) && begins_with 42 bs) apart in
     let layout = no_layout b e in
     let percent = symbol_not b 37 e refl in
     let comment = parts.1 in
@@ -150,12 +136,6 @@ bare_symbols b bs e all apart =
       ascii = all_ascii is_symbol symbol_small (b ∷ bs) (e, h);
       begins = ap (passes continues_name) first ∙ word;
     }
-
--- ---- texts of one character
-
-pub ascii_one : (b : ℕ) → b < 128 → IsAscii (b ∷ [])
-ascii_one b h zero = h
-ascii_one b h (suc i) = omega arith
 
 -- ---- how such names are written
 

@@ -14,6 +14,7 @@ use Rattle.cq_term.specs.Meaning.{HeapTerm, at}
 use Rattle.cq_term.specs.Names.{HasNamesBelow}
 use Rattle.cq_term.specs.Shown.{arguments}
 use Rattle.cq_write.specs.Spelled.{Spelled, Written, spelled, put_all}
+use Rattle.cq_write.specs.declared.line.Manner.{Manner}
 use Rattle.cq_write.specs.declared.jobs.Mark.{Mark}
 use Rattle.cq_write.specs.declared.jobs.Mark.TheVariants as mark
 use Rattle.cq_write.specs.declared.jobs.Word.{Word}
@@ -62,6 +63,10 @@ mark_text mark.CloseCurly = codes "}"
 mark_text mark.Comma = codes ","
 mark_text mark.Bar = codes "|"
 mark_text mark.Minus = codes "-"
+
+-- a name as it is written
+abbrev pub spelled_name : Style → Text → Manner → Spelled
+spelled_name style f manner = record { text = name_text style f; manner = manner }
 
 -- an infix operator: the comma is never quoted and has no blanks
 abbrev pub infix_word : Style → Bool → Text → Spelled

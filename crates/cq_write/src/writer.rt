@@ -3,10 +3,9 @@
 ghost use Rattle.std.specs.Prelude.{◌≡◌, ◌<◌, OnOk, IfSome, false, length};
 ghost use Rattle.cq_atoms.specs.Texts.{text_of};
 ghost use Rattle.spec_syntax.specs.Writing.{is_spaced as is_spaced_of};
-ghost use Rattle.spec_writing.specs.Texts.{name_text};
 ghost use Rattle.spec_writing.specs.Numbers.{number_text};
 ghost use Rattle.cq_write.specs.Spelled.{Spelled, written, put};
-ghost use Rattle.cq_write.specs.Work.{IsReadyWord, plain, infix_word, spelled_word};
+ghost use Rattle.cq_write.specs.Work.{IsReadyWord, plain, spelled_name, infix_word, spelled_word};
 ghost use Rattle.cq_write.specs.Looks.{IsPlainText};
 ghost use Rattle.cq_write.specs.Settings.{setting, IsIndexed};
 
@@ -76,7 +75,7 @@ impl Writer<'_> {
         line: &mut Line,
     ) -> Result<(), AllocError>
         requires { name < length self.now.atoms.now }
-        ensures { OnOk result (written line.new ≡ put (written line.old) (record { text = name_text self.now.style (text_of self.now.atoms.now name); manner = manner })) }
+        ensures { OnOk result (written line.new ≡ put (written line.old) (spelled_name self.now.style (text_of self.now.atoms.now name) manner)) }
     {
         if let Some(plain) = self.plain_text(name) {
             return line.push_ascii(plain, manner);
