@@ -1,5 +1,5 @@
 -- What the definitions give of lists that were looked at.
-use Rattle.std.proofs.Common.{◌≡◌, ℕ, [], ◌∷◌, Bool, true, false, not, ◌||◌, ◌&&◌, Option, Some, refl, sym, ap, ◌∙◌}
+use Rattle.std.proofs.Common.{◌≡◌, ℕ, [], ◌∷◌, Bool, true, false, not, ◌||◌, ◌&&◌, Option, Some, sym, ap, ◌∙◌}
 use Rattle.std.specs.Prelude.{if◌then◌else◌}
 use Rattle.std.specs.List.{list_any}
 use Rattle.spec_lists.specs.Texts.{Text}
@@ -9,7 +9,7 @@ use Rattle.spec_built.specs.Built.{is_atom, natural}
 use Rattle.spec_built.specs.Kinds.{Parts, parts, is_variable, natural_of}
 use Rattle.spec_built.specs.Errors.{instantiation, type_error}
 use Rattle.spec_builtins.specs.Alternatives.{Solutions, Faults, ◌≐◌, one_way, faults_if}
-use Rattle.spec_builtins.specs.Texts.{ElementKind, Codes, name_of, is_character, code_of, element_error, elements_error, from_elements, atom_list_row, char_code_row}
+use Rattle.spec_builtins.specs.Texts.{ElementKind, Codes, name_of, is_character, code_of, elements_error, from_elements, atom_list_row, char_code_row}
 use Rattle.cq_codes.specs.Elements.{Make, IsCharacterOf, StandsFor, code_tests}
 use Rattle.cq_codes.proofs.Standing.{code_passes, code_known}
 
@@ -21,10 +21,6 @@ module _ (k : ElementKind) (v : ℕ) (l : Tree) (p : Parts) (is : p ≡ parts l)
 
   listed : atom_list_row k (Var v) l ≡ looked (is_variable p.tail) (list_any is_variable p.elements) (is_atom "[]" p.tail) (elements_error k p.elements)
   listed = ap (λ (q : Parts). faults_if (is_variable q.tail || list_any is_variable q.elements) instantiation (faults_if (not (is_atom "[]" q.tail)) (type_error "list" l) (from_elements (Var v) (elements_error k q.elements) q.elements))) (sym is)
-
-  or_true : (a : Bool) → (a || true) ≡ true
-  or_true true = refl
-  or_true false = refl
 
   pub open_list : is_variable p.tail ≡ true → atom_list_row k (Var v) l ≡ Faults instantiation
   open_list o = listed ∙ ap (λ b. looked b (list_any is_variable p.elements) (is_atom "[]" p.tail) (elements_error k p.elements)) o

@@ -1,15 +1,14 @@
 -- Codes and characters as elements of lists.
-use Rattle.std.proofs.Common.{◌≡◌, ℕ, List, [], ◌∷◌, ◌++◌, map, length, Bool, true, false, cond, not, ◌&&◌, ◌||◌, ◌==◌, Option, Some, None, chars, encode_utf8_all, refl, sym, ap, ◌∙◌, append_assoc, append-nil, arith}
+use Rattle.std.proofs.Common.{◌≡◌, ℕ, List, [], ◌∷◌, ◌++◌, map, length, Bool, true, false, cond, not, ◌&&◌, ◌||◌, Option, Some, None, encode_utf8_all, refl, sym, ap, ◌∙◌, append_assoc, append-nil, arith}
 use Rattle.std.specs.Prelude.{slice_get, encode_utf8}
-use Rattle.std.proofs.lemmas.Bool.{ne_eqb}
 use Rattle.spec_lists.specs.Texts.{Text}
 use Rattle.spec_terms.specs.Term.{Var, Number, Name, Compound}
 use Rattle.spec_syntax.specs.Trees.{Tree}
 use Rattle.spec_built.specs.Kinds.{is_variable, is_integer, is_below_zero, natural_of}
 use Rattle.spec_built.specs.Errors.{type_error, representation_error, or_error}
-use Rattle.spec_builtins.specs.Alternatives.{Solutions, Faults, faults_if}
-use Rattle.spec_builtins.specs.Texts.{is_character, is_scalar, is_code, code_of, Codes, Characters, ElementKind, element_error, elements_error, first_or_zero}
-use Rattle.cq_codes.specs.Elements.{only_of, IsCodeOf, IsCharacterOf, StandsFor, Make, code_tests}
+use Rattle.spec_builtins.specs.Alternatives.{Solutions, faults_if}
+use Rattle.spec_builtins.specs.Texts.{is_scalar, is_code, code_of, Codes, ElementKind, elements_error}
+use Rattle.cq_codes.specs.Elements.{only_of, StandsFor, Make, code_tests}
 
 -- ---- the only character
 
@@ -25,10 +24,6 @@ code_by (Var v) b i n s = cc
 code_by (Number q) b i n s = λ j. (i j && not (n j)) && s j
 code_by (Name a) b i n s = cc
 code_by (Compound f ts) b i n s = cc
-
-and_false : (a : Bool) → (a && false) ≡ false
-and_false true = refl
-and_false false = refl
 
 pub code_natural : (t : Tree) → is_code t ≡ true → code_of t ≡ natural_of t
 code_natural (Var v) e = refl

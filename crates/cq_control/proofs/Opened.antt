@@ -1,5 +1,5 @@
 -- How the open choices change with their contents, which a vector has with the oldest first, and with the marks.
-use Rattle.std.proofs.Common.{◌≡◌, ℕ, zero, suc, ◌+◌, ◌-◌, ◌≤◌, List, [], ◌∷◌, ◌++◌, length, take, drop, reverse, Some, arith, refl, ap, ap₂, sym, ◌∙◌, length-drop, append_assoc}
+use Rattle.std.proofs.Common.{◌≡◌, ℕ, zero, suc, ◌+◌, ◌-◌, ◌≤◌, List, [], ◌∷◌, ◌++◌, length, take, drop, reverse, Some, arith, refl, ap, sym, ◌∙◌, length-drop, append_assoc}
 use Rattle.std.specs.Prelude.{slice_get, slice_set}
 use Rattle.std.specs.List.{zip}
 use Rattle.std.proofs.lemmas.List.{reverse-append, length-reverse, drop_at, take-append-drop}
@@ -108,13 +108,6 @@ open-last saved cs h e =
     ap (λ xs. zip xs (last h cs)) (sym (last-reverse h saved) ∙ ap (λ n. drop (n - h) (reverse saved)) (length-reverse saved ∙ e))
     ∙ sym (drop-zip (length cs - h) (reverse saved) cs)
     ∙ ap (λ n. drop (n - h) (open_choices saved cs)) (sym (length-open saved cs e))
-
--- the one that has h older ones
-pub open-at : {V C : Type 0} (saved : List V) (cs : List C) (h : ℕ) (v : V) (c : C) → length saved ≡ length cs → slice_get saved h ≡ Some v
-    → last (h + 1) cs ≡ c ∷ last h cs → last (h + 1) (open_choices saved cs) ≡ (v, c) ∷ open_choices (take h saved) (last h cs)
-open-at saved cs h v c e at is =
-    let one : h + 1 ≡ suc h = omega arith in
-    sym (open-last saved cs (h + 1) e) ∙ ap₂ open_choices (ap (λ n. take n saved) one ∙ take-one-more saved h v at) is ∙ open-push (take h saved) (last h cs) v c
 
 -- the newest one, whose mark is the newest
 pub open-top : {V C : Type 0} (saved : List V) (older : List C) (n : ℕ) (v : V) (c : C) → length saved ≡ suc n → slice_get saved n ≡ Some v

@@ -3,7 +3,7 @@ use Rattle.std.proofs.Common.{◌≡◌, ℕ, ◌+◌, ◌<◌, Bool, true, fals
 use Rattle.std.specs.Prelude.{All, not, if◌then◌else◌, codes, bytes_eq}
 use Rattle.std.proofs.lemmas.List.Elements.{All-nil, All-push, All-same, All-pop}
 use Rattle.spec_lists.specs.Texts.{Text}
-use Rattle.spec_terms.specs.Term.{Var, Number, Name, Compound, one, more, named, size}
+use Rattle.spec_terms.specs.Term.{Var, Number, Name, Compound, one, more, named}
 use Rattle.spec_syntax.specs.Trees.{Tree, binary}
 use Rattle.spec_built.specs.Kinds.{is_variable, is_callable, is_number}
 use Rattle.spec_built.specs.Errors.{instantiation, type_error, or_error}
@@ -14,12 +14,14 @@ use Rattle.cq_term.specs.Meaning.{HeapTerm, at}
 use Rattle.cq_term.specs.Shown.{view_of}
 use Rattle.cq_term.specs.declared.view.View.TheVariants as view
 use Rattle.cq_term.specs.Trees.{tree}
-use Rattle.cq_declarations.specs.Sides.{is_binary}
-use Rattle.cq_declarations.specs.declared.sides.Sides.{Sides}
-use Rattle.cq_declarations.specs.Clauses.{AreParts, head_error, body_error, body_tree, are_bodies, bodies_size, BodyWaits, IsBodyUnderWay, IsControl}
+use Rattle.cq_sides.specs.Sides.{is_binary}
+use Rattle.cq_sides.specs.declared.sides.Sides.{Sides}
+use Rattle.cq_sides.specs.Splitting.{waiting_size}
+use Rattle.cq_sides.proofs.Heads.{tree_of_sides, size_of_sides, size_positive}
+use Rattle.cq_sides.proofs.Splitting.{size_last}
+use Rattle.cq_declarations.specs.Clauses.{AreParts, head_error, body_error, body_tree, are_bodies, BodyWaits, IsBodyUnderWay, IsControl}
 use Rattle.cq_declarations.specs.declared.clauses.ClauseParts.{ClauseParts}
 use Rattle.cq_declarations.proofs.Errors.{three_errors}
-use Rattle.cq_declarations.proofs.Heads.{tree_of_sides, size_of_sides, size_positive}
 
 -- a clause has the error of its head, or else that of its body
 pub clause_in_turn : (texts : List Text) (ts : List HeapTerm) (id : ℕ) (p : ClauseParts) → AreParts texts ts id p → clause_error (tree texts ts id) ≡ or_error (head_error (tree texts ts p.head)) (body_error (body_tree texts ts p.body))
@@ -83,10 +85,6 @@ module _ (texts : List Text) (ts : List HeapTerm) where
   bodies_last [] id = and_true (is_body (tree texts ts id))
   bodies_last (w ∷ ids) id = ap (λ b. is_body (tree texts ts w) && b) (bodies_last ids id) ∙ sym (and_assoc (is_body (tree texts ts w)) (are_bodies texts ts ids) (is_body (tree texts ts id)))
 
-  size_last : (ids : List ℕ) (id : ℕ) → bodies_size ts (ids ++ id ∷ []) ≡ bodies_size ts ids + size (at ts id)
-  size_last [] id = omega arith
-  size_last (w ∷ ids) id = let h = size_last ids id in omega (arith, h)
-
   module _ (old new : List ℕ) (id : ℕ) where
     pub control_waits : (s : Sides) → IsControl texts ts id s → new ≡ (old ++ s.right ∷ []) ++ s.left ∷ [] → BodyWaits texts ts old id new
     control_waits s h n =
@@ -100,14 +98,14 @@ module _ (texts : List Text) (ts : List HeapTerm) where
           live = λ all.
               All-same (λ x. x < length ts) new ((old ++ s.right ∷ []) ++ s.left ∷ []) n
               (All-push (λ x. x < length ts) (old ++ s.right ∷ []) s.left (All-push (λ x. x < length ts) old s.right all h.sides.right) h.sides.left);
-          less = (let e = ap (bodies_size ts) n in let a = size_last (old ++ s.right ∷ []) s.left in let c = size_last old s.right in let z = size_of_sides ts id s h.sides in omega (arith, e, a, c, z));
+          less = (let e = ap (waiting_size ts) n in let a = size_last ts (old ++ s.right ∷ []) s.left in let c = size_last ts old s.right in let z = size_of_sides ts id s h.sides in omega (arith, e, a, c, z));
         }
 
     pub goal_passes : is_body (tree texts ts id) ≡ true → new ≡ old → BodyWaits texts ts old id new
     goal_passes b n = record {
       same = ap (are_bodies texts ts) n ∙ sym (and_true (are_bodies texts ts old)) ∙ ap (λ x. are_bodies texts ts old && x) (sym b);
       live = λ all. All-same (λ x. x < length ts) new old n all;
-      less = (let e = ap (bodies_size ts) n in let z = size_positive (at ts id) in omega (arith, e, z));
+      less = (let e = ap (waiting_size ts) n in let z = size_positive (at ts id) in omega (arith, e, z));
     }
 
   module _ (whole : Bool) (ws old : List ℕ) (id : ℕ) (h : IsBodyUnderWay texts ts whole ws) (n : ws ≡ old ++ id ∷ []) where
@@ -127,8 +125,8 @@ module _ (texts : List Text) (ts : List HeapTerm) where
       pub body_goes : IsBodyUnderWay texts ts whole new
       body_goes = record { leads = w.same ∙ body_leads; live = w.live body_popped.0 }
 
-      pub body_less : bodies_size ts new < bodies_size ts ws
-      body_less = let s = ap (bodies_size ts) n in let t = size_last old id in let l = w.less in omega (arith, s, t, l)
+      pub body_less : waiting_size ts new < waiting_size ts ws
+      body_less = let s = ap (waiting_size ts) n in let t = size_last ts old id in let l = w.less in omega (arith, s, t, l)
 
   pub body_ends : (whole : Bool) (ws : List ℕ) → IsBodyUnderWay texts ts whole ws → length ws ≡ 0 → whole ≡ true
   body_ends whole [] h n = sym h.leads

@@ -13,7 +13,7 @@ use Rattle.cq_term.specs.Meaning.{HeapTerm}
 use Rattle.cq_term.specs.Trees.{tree, trees}
 use Rattle.cq_term.specs.declared.names.Pred.{Pred}
 use Rattle.cq_built.specs.Errors.{indicator_of}
-use Rattle.cq_declarations.specs.Sides.{is_binary}
+use Rattle.cq_sides.specs.Sides.{is_binary}
 use Rattle.cq_declarations.specs.Declarations.{own_error, built_in_error, indicators_error, IsDeclared}
 use Rattle.cq_declarations.proofs.Errors.{three_errors}
 use Rattle.cq_declarations.proofs.Declaring.{from_here}

@@ -1,53 +1,13 @@
--- Compounds of two arguments.
-use Rattle.std.proofs.Common.{◌≡◌, ◌≢◌, ℕ, suc, ◌+◌, ◌<◌, false, List, length, refl, ap, sym, ◌∙◌, subst, arith}
+-- The indicators of heads.
+use Rattle.std.proofs.Common.{◌≡◌, ℕ, ap, sym, ◌∙◌}
 use Rattle.spec_lists.specs.Texts.{Text}
-use Rattle.spec_terms.specs.Term.{Terms, Var, Number, Name, Compound, one, more, count, named, named_all, size}
-use Rattle.spec_syntax.specs.Trees.{binary}
+use Rattle.spec_terms.specs.Term.{Var, Number, Name, Compound, count, named}
 use Rattle.spec_built.specs.Built.{indicator, indicator_of}
-use Rattle.cq_atoms.specs.Texts.{text_of}
-use Rattle.cq_term.specs.Meaning.{HeapTerm, at}
-use Rattle.cq_term.specs.Names.{HasNamesBelow}
+use Rattle.cq_term.specs.Meaning.{HeapTerm}
 use Rattle.cq_term.specs.Shown.{view_of}
 use Rattle.cq_term.specs.declared.view.View.TheVariants as view
-use Rattle.cq_term.specs.Trees.{tree, KnowsTerms}
-use Rattle.cq_built.proofs.Trees.{known_at}
-use Rattle.cq_declarations.specs.Sides.{is_binary, HasSides}
-use Rattle.cq_declarations.specs.declared.sides.Sides.{Sides}
+use Rattle.cq_sides.proofs.Heads.{count-named}
 
-pub size_positive : (t : HeapTerm) → 0 < size t
-size_positive (Var v) = omega arith
-size_positive (Number q) = omega arith
-size_positive (Name a) = omega arith
-size_positive (Compound f ts) = omega arith
-
-pub tree_of_sides : (texts : List Text) (ts : List HeapTerm) (id : ℕ) (s : Sides) → HasSides ts id s → tree texts ts id ≡ binary (text_of texts s.name) (tree texts ts s.left) (tree texts ts s.right)
-tree_of_sides texts ts id s h = ap (named (text_of texts)) h.term
-
-pub size_of_sides : (ts : List HeapTerm) (id : ℕ) (s : Sides) → HasSides ts id s → size (at ts s.left) + size (at ts s.right) < size (at ts id)
-size_of_sides ts id s h = let e = ap size h.term in omega (arith, e)
-
-pub not_two_arguments : (t : HeapTerm) (f n : ℕ) → view_of t ≡ view.Compound f n → n ≢ 2 → is_binary t ≡ false
-not_two_arguments (Var v) f n e h = refl
-not_two_arguments (Number q) f n e h = refl
-not_two_arguments (Name a) f n e h = refl
-not_two_arguments (Compound g (one t)) f n e h = refl
-not_two_arguments (Compound g (more t (one u))) f n e h = let d : ◌≡◌ {A = ℕ} n 2 = cc in absurd (h d)
-not_two_arguments (Compound g (more t (more u us))) f n e h = refl
-
-pub no_compound : (t : HeapTerm) → ((f n : ℕ) → view_of t ≢ view.Compound f n) → is_binary t ≡ false
-no_compound (Var v) h = refl
-no_compound (Number q) h = refl
-no_compound (Name a) h = refl
-no_compound (Compound f ts) h = absurd (h f (count ts) refl)
-
-pub side_name_known : (texts : List Text) (ts : List HeapTerm) (id : ℕ) (s : Sides) → HasSides ts id s → KnowsTerms texts ts → id < length ts → s.name < length texts
-side_name_known texts ts id s h known live = (subst (HasNamesBelow (length texts)) h.term (known_at texts ts id known live)).0
-
-count-named : (g : ℕ → Text) (us : Terms ℕ) → count (named_all g us) ≡ count us
-count-named g (one t) = refl
-count-named g (more t us) = ap (λ n. suc n) (count-named g us)
-
--- the indicators of heads
 module _ (g : ℕ → Text) where
   pub atom_indicator : (t : HeapTerm) (a : ℕ) → view_of t ≡ view.Name a → indicator (g a) 0 ≡ indicator_of (named g t)
   atom_indicator (Var v) a e = cc
@@ -63,16 +23,3 @@ module _ (g : ℕ → Text) where
       let d : f ≡ b = cc in
       let c : n ≡ count ts = cc in
       λ i. indicator (g (d i)) ((c ∙ sym (count-named g ts)) i)
-
--- the name that a term shows
-pub atom_known : (n : ℕ) (t : HeapTerm) (a : ℕ) → view_of t ≡ view.Name a → HasNamesBelow n t → a < n
-atom_known n (Var v) a e h = cc
-atom_known n (Number q) a e h = cc
-atom_known n (Name b) a e h = (let d : b ≡ a = cc in subst (λ x. x < n) d h)
-atom_known n (Compound f ts) a e h = cc
-
-pub compound_known : (n : ℕ) (t : HeapTerm) (f k : ℕ) → view_of t ≡ view.Compound f k → HasNamesBelow n t → f < n
-compound_known n (Var v) f k e h = cc
-compound_known n (Number q) f k e h = cc
-compound_known n (Name b) f k e h = cc
-compound_known n (Compound b ts) f k e h = (let d : b ≡ f = cc in subst (λ x. x < n) d h.0)

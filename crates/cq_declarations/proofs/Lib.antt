@@ -1,6 +1,5 @@
 pub mod Errors
 pub mod Heads
-pub mod Splitting
 pub mod Declaring
 pub mod Declared
 pub mod Libraries

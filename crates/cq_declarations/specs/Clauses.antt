@@ -14,8 +14,9 @@ use Rattle.cq_term.specs.Meaning.{HeapTerm, at}
 use Rattle.cq_term.specs.Trees.{tree}
 use Rattle.cq_term.specs.declared.names.Pred.{Pred}
 use Rattle.cq_built.specs.Errors.{indicator_of}
-use Rattle.cq_declarations.specs.Sides.{HasSides}
-use Rattle.cq_declarations.specs.declared.sides.Sides.{Sides}
+use Rattle.cq_sides.specs.Sides.{HasSides}
+use Rattle.cq_sides.specs.declared.sides.Sides.{Sides}
+use Rattle.cq_sides.specs.Splitting.{waiting_size}
 use Rattle.cq_declarations.specs.declared.clauses.ClauseParts.{ClauseParts}
 
 -- the body as the definitions see it: that of a fact is true
@@ -58,15 +59,11 @@ abbrev pub are_bodies : List Text → List HeapTerm → List ℕ → Bool
 are_bodies texts ts [] = true
 are_bodies texts ts (id ∷ ids) = is_body (tree texts ts id) && are_bodies texts ts ids
 
-abbrev pub bodies_size : List HeapTerm → List ℕ → ℕ
-bodies_size ts [] = 0
-bodies_size ts (id ∷ ids) = size (at ts id) + bodies_size ts ids
-
 -- others wait in place of a term
 pub record BodyWaits (texts : List Text) (ts : List HeapTerm) (old : List ℕ) (id : ℕ) (new : List ℕ) : Type 0 where
   pub same : are_bodies texts ts new ≡ (are_bodies texts ts old && is_body (tree texts ts id))
   pub live : All (λ x. x < length ts) old → All (λ x. x < length ts) new
-  pub less : bodies_size ts new < bodies_size ts old + size (at ts id)
+  pub less : waiting_size ts new < waiting_size ts old + size (at ts id)
 
 -- the term is no body, or others wait in its place
 abbrev pub BodyGoesOn : List Text → List HeapTerm → List ℕ → ℕ → Bool → List ℕ → Type 0

@@ -12,8 +12,8 @@ use Rattle.cq_term.specs.Meaning.{HeapTerm}
 use Rattle.cq_term.specs.Trees.{tree}
 use Rattle.cq_term.specs.declared.names.Pred.{Pred}
 use Rattle.cq_built.specs.Errors.{indicator_of}
-use Rattle.cq_declarations.specs.Sides.{HasSides}
-use Rattle.cq_declarations.specs.declared.sides.Sides.{Sides}
+use Rattle.cq_sides.specs.Sides.{HasSides}
+use Rattle.cq_sides.specs.declared.sides.Sides.{Sides}
 
 -- ---- errors in turn
 

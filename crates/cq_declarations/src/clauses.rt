@@ -6,13 +6,13 @@ ghost use Rattle.spec_built.specs.Bodies.{is_body, is_control};
 ghost use Rattle.spec_builtins.specs.Clauses.{clause_error, clause_goal_error, head_body, fact};
 ghost use Rattle.cq_term.specs.Trees.{tree, KnowsTerms};
 ghost use Rattle.cq_built.specs.Errors.{error_tree, HasCulprit, CanBeRaised};
-ghost use Rattle.cq_declarations.specs.Faults.{IsFound};
+ghost use Rattle.cq_sides.specs.Faults.{IsFound};
 ghost use Rattle.cq_declarations.specs.Clauses.{AreParts, IsOf, IsRule, IsControl, BodyGoesOn, head_error, body_error, body_tree};
 
-use crate::sides::{Sides, sides_of};
 use cq_atoms::Atoms;
 use cq_built::{BuiltinError, BuiltinFault, Culprit, ValidType};
 use cq_kinds::{is_callable, is_number, is_variable};
+use cq_sides::{Sides, sides_of};
 use cq_term::{Heap, Pred, TermId, View};
 use std::alloc::AllocError;
 

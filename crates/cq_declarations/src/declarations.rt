@@ -9,14 +9,14 @@ ghost use Rattle.spec_built.specs.Errors.{or_error};
 ghost use Rattle.spec_builtins.specs.Clauses.{declared_terms, declarations, declaration_error, is_joining, is_indicator, is_unbound_indicator, slashed};
 ghost use Rattle.cq_term.specs.Trees.{tree, trees, KnowsTerms};
 ghost use Rattle.cq_built.specs.Errors.{CanBeRaised, indicator_of};
-ghost use Rattle.cq_declarations.specs.Faults.{IsFound};
-ghost use Rattle.cq_declarations.specs.Splitting.{AreLive, TakesApart};
+ghost use Rattle.cq_sides.specs.Faults.{IsFound};
+ghost use Rattle.cq_sides.specs.Splitting.{AreLive, TakesApart};
 ghost use Rattle.cq_declarations.specs.Declarations.{own_error, built_in_error, indicators_error, is_arity, AreJoined, AreSlashed, IsArity, IsDeclared, AreDeclared};
 
-use crate::sides::{Sides, sides_of};
 use cq_atoms::Atoms;
 use cq_built::{BuiltinError, BuiltinFault, Culprit, ValidType};
 use cq_kinds::{is_below_zero, is_integer, is_nil, is_variable, natural_of};
+use cq_sides::{Sides, sides_of};
 use cq_term::{Heap, Pred, TermId, View};
 use std::alloc::AllocError;
 

@@ -6,7 +6,6 @@ mod clauses;
 mod declarations;
 mod modules;
 mod operators;
-mod sides;
 
 pub use clauses::{CheckedClause, ClauseParts, check_clause, check_clause_goal};
 pub use declarations::{check_declaration, declarations_in_turn};

@@ -13,7 +13,7 @@ ghost use Rattle.cq_atoms.specs.Texts.{text_of};
 ghost use Rattle.cq_term.specs.Trees.{tree, trees, KnowsTerms};
 ghost use Rattle.cq_built.specs.Errors.{error_tree, HasCulprit, CanBeRaised};
 ghost use Rattle.cq_ops.specs.Tables.{named, AreNamed};
-ghost use Rattle.cq_declarations.specs.Faults.{IsFound};
+ghost use Rattle.cq_sides.specs.Faults.{IsFound};
 ghost use Rattle.cq_declarations.specs.Operators.{IsLiveGoal, IsAsked, AreOperands, AreListed, goal_error, table_after, is_unbound, are_names, priority_error, kind_error, arguments_error, refusal_error, first_refused, is_cause};
 
 use cq_atoms::{Atom, Atoms};

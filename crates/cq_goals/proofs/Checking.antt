@@ -11,17 +11,19 @@ use Rattle.cq_atoms.specs.Texts.{text_of}
 use Rattle.cq_term.specs.Meaning.{HeapTerm, at}
 use Rattle.cq_term.specs.Trees.{tree}
 use Rattle.cq_built.specs.declared.errors.BuiltinFault.{BuiltinFault}
-use Rattle.cq_goals.specs.Faults.{IsFound}
+use Rattle.cq_sides.specs.Faults.{IsFound}
+use Rattle.cq_sides.specs.Sides.{HasSides}
+use Rattle.cq_sides.specs.declared.sides.Sides.{Sides}
+use Rattle.cq_sides.proofs.Errors.{found_first, found_same}
+use Rattle.cq_sides.proofs.Heads.{tree_of_sides, size_of_sides}
 use Rattle.cq_goals.specs.declared.checks.Purpose.{Purpose}
 use Rattle.cq_goals.specs.declared.checks.Purpose.TheVariants as purpose
 use Rattle.cq_goals.specs.declared.checks.Part.{Part}
 use Rattle.cq_goals.specs.declared.checks.Part.TheVariants as part
 use Rattle.cq_goals.specs.declared.checks.Role.TheVariants as role
-use Rattle.cq_goals.specs.Sides.{HasSides}
-use Rattle.cq_goals.specs.declared.sides.Sides.{Sides}
 use Rattle.cq_goals.specs.Checking.{error_for, part_error, part_id, IsLivePart, waiting_error, waiting_size, GoesOn, IsUnderWay, IsRole}
-use Rattle.cq_goals.proofs.Errors.{or_error-assoc, or_error-none, found_first, found_same}
-use Rattle.cq_goals.proofs.Heads.{tree_of_sides, size_of_sides, error_of_conjunction, error_of_disjunction, error_of_relation, error_of_other}
+use Rattle.cq_goals.proofs.Errors.{or_error-assoc, or_error-none}
+use Rattle.cq_goals.proofs.Heads.{error_of_conjunction, error_of_disjunction, error_of_relation, error_of_other}
 
 module _ (p : Purpose) (texts : List Text) (ts : List HeapTerm) where
   pub waits_last : (ws : List Part) (w : Part) → waiting_error p texts ts (ws ++ w ∷ []) ≡ or_error (part_error p texts ts w) (waiting_error p texts ts ws)

@@ -1,14 +1,7 @@
 -- Errors that are looked for in turn.
-use Rattle.std.proofs.Common.{◌≡◌, Bool, true, false, List, [], ◌∷◌, Option, Some, None, is_some, refl, ap, ◌∙◌}
-use Rattle.std.specs.Prelude.{is_none, if◌then◌else◌}
-use Rattle.spec_lists.specs.Texts.{Text}
+use Rattle.std.proofs.Common.{◌≡◌, Option, Some, None, refl}
 use Rattle.spec_syntax.specs.Trees.{Tree}
 use Rattle.spec_built.specs.Errors.{or_error}
-use Rattle.spec_builtins.specs.Clauses.{first_error}
-use Rattle.cq_term.specs.Meaning.{HeapTerm}
-use Rattle.cq_built.specs.declared.errors.BuiltinFault.{BuiltinFault}
-use Rattle.cq_built.specs.declared.errors.BuiltinFault.TheVariants as builtin_fault
-use Rattle.cq_goals.specs.Faults.{IsFound}
 
 pub or_error-assoc : (a b c : Option Tree) → or_error (or_error a b) c ≡ or_error a (or_error b c)
 or_error-assoc None b c = refl
@@ -17,15 +10,3 @@ or_error-assoc (Some e) b c = refl
 pub or_error-none : (a : Option Tree) → or_error a None ≡ a
 or_error-none None = refl
 or_error-none (Some e) = refl
-
-pub neither : (a b : Option Tree) → a ≡ None → b ≡ None → or_error a b ≡ None
-neither a b e f = ap (λ o. or_error o b) e ∙ f
-
-module _ (texts : List Text) (ts : List HeapTerm) where
-  pub found_first : (a b : Option Tree) (f : BuiltinFault) → IsFound texts ts a f → IsFound texts ts (or_error a b) f
-  found_first a b (builtin_fault.Error e) h = ap (λ o. or_error o b) h
-  found_first a b builtin_fault.NoMemory h = tt
-
-  pub found_same : (a b : Option Tree) (f : BuiltinFault) → a ≡ b → IsFound texts ts b f → IsFound texts ts a f
-  found_same a b (builtin_fault.Error e) s h = s ∙ h
-  found_same a b builtin_fault.NoMemory s h = tt

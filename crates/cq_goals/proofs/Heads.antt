@@ -1,56 +1,23 @@
 -- Errors and members of terms by their heads.
-use Rattle.std.proofs.Common.{◌≡◌, ◌≢◌, ℕ, suc, ◌+◌, ◌<◌, Bool, true, false, ◌&&◌, ◌||◌, List, [], ◌∷◌, ◌++◌, length, Option, Some, None, is_some, nat_eq, refl, ap, sym, ◌∙◌, subst, arith}
-use Rattle.std.specs.Prelude.{if◌then◌else◌, ◌==◌, slice_get}
+use Rattle.std.proofs.Common.{◌≡◌, ◌≢◌, ℕ, ◌+◌, Bool, true, false, ◌&&◌, ◌||◌, [], ◌∷◌, ◌++◌, Option, Some, None, is_some, nat_eq, refl, ap, ◌∙◌, arith}
+use Rattle.std.specs.Prelude.{if◌then◌else◌}
 use Rattle.std.proofs.lemmas.Bool.Decides.{nat_tests}
 use Rattle.spec_lists.specs.Texts.{Text}
-use Rattle.spec_terms.specs.Term.{Terms, Var, Number, Name, Compound, one, more, count, named, named_all, size}
+use Rattle.spec_terms.specs.Term.{Var, Number, Name, Compound, one, more, count, named, named_all}
 use Rattle.spec_syntax.specs.Trees.{Tree, binary}
 use Rattle.spec_built.specs.Built.{indicator}
 use Rattle.spec_built.specs.Errors.{instantiation, type_error, not_evaluable, or_error}
-use Rattle.spec_told.specs.Checks.{is_expression, expression_error, expressions_error, constraint_error, question_error, binary_error, is_conjunction, is_disjunction, members, halves, Halves, in_conjunction}
+use Rattle.spec_told.specs.Checks.{is_expression, expression_error, expressions_error, constraint_error, question_error, binary_error, is_conjunction, is_disjunction, members, halves, in_conjunction}
 use Rattle.spec_told.specs.Expressions.{unary_name, binary_name}
 use Rattle.spec_told.specs.Relations.{relation_name}
-use Rattle.cq_atoms.specs.Texts.{text_of}
-use Rattle.cq_term.specs.Meaning.{HeapTerm, at}
-use Rattle.cq_term.specs.Names.{HasNamesBelow}
+use Rattle.cq_term.specs.Meaning.{HeapTerm}
 use Rattle.cq_term.specs.Shown.{view_of}
 use Rattle.cq_term.specs.declared.view.View.TheVariants as view
-use Rattle.cq_term.specs.Trees.{tree, KnowsTerms}
-use Rattle.cq_built.proofs.Trees.{known_at}
-use Rattle.cq_goals.specs.Sides.{is_binary, HasSides}
-use Rattle.cq_goals.specs.declared.sides.Sides.{Sides}
+use Rattle.cq_sides.specs.Sides.{is_binary}
+use Rattle.cq_sides.proofs.Heads.{count-named}
 use Rattle.cq_goals.specs.declared.checks.Purpose.{Purpose}
 use Rattle.cq_goals.specs.declared.checks.Purpose.TheVariants as purpose
 use Rattle.cq_goals.specs.Checking.{error_for}
-
-pub size_positive : (t : HeapTerm) → 0 < size t
-size_positive (Var v) = omega arith
-size_positive (Number q) = omega arith
-size_positive (Name a) = omega arith
-size_positive (Compound f ts) = omega arith
-
-pub tree_of_sides : (texts : List Text) (ts : List HeapTerm) (id : ℕ) (s : Sides) → HasSides ts id s → tree texts ts id ≡ binary (text_of texts s.name) (tree texts ts s.left) (tree texts ts s.right)
-tree_of_sides texts ts id s h = ap (named (text_of texts)) h.term
-
-pub size_of_sides : (ts : List HeapTerm) (id : ℕ) (s : Sides) → HasSides ts id s → size (at ts s.left) + size (at ts s.right) < size (at ts id)
-size_of_sides ts id s h = let e = ap size h.term in omega (arith, e)
-
-pub not_two_arguments : (t : HeapTerm) (f n : ℕ) → view_of t ≡ view.Compound f n → n ≢ 2 → is_binary t ≡ false
-not_two_arguments (Var v) f n e h = refl
-not_two_arguments (Number q) f n e h = refl
-not_two_arguments (Name a) f n e h = refl
-not_two_arguments (Compound g (one t)) f n e h = refl
-not_two_arguments (Compound g (more t (one u))) f n e h = let d : ◌≡◌ {A = ℕ} n 2 = cc in absurd (h d)
-not_two_arguments (Compound g (more t (more u us))) f n e h = refl
-
-pub no_compound : (t : HeapTerm) → ((f n : ℕ) → view_of t ≢ view.Compound f n) → is_binary t ≡ false
-no_compound (Var v) h = refl
-no_compound (Number q) h = refl
-no_compound (Name a) h = refl
-no_compound (Compound f ts) h = absurd (h f (count ts) refl)
-
-pub side_name_known : (texts : List Text) (ts : List HeapTerm) (id : ℕ) (s : Sides) → HasSides ts id s → KnowsTerms texts ts → id < length ts → s.name < length texts
-side_name_known texts ts id s h known live = (subst (HasNamesBelow (length texts)) h.term (known_at texts ts id known live)).0
 
 -- ---- constraints
 
@@ -154,10 +121,6 @@ or_false false = refl
 
 no_expression : (f : Text) (n : ℕ) → n ≢ 1 → n ≢ 2 → is_expression f n ≡ false
 no_expression f n h k = λ i. (apart n 1 h i && is_some (unary_name f)) || (apart n 2 k i && is_some (binary_name f))
-
-count-named : (g : ℕ → Text) (us : Terms ℕ) → count (named_all g us) ≡ count us
-count-named g (one t) = refl
-count-named g (more t us) = ap (λ n. suc n) (count-named g us)
 
 module _ (g : ℕ → Text) where
   pub many_expression : (t : HeapTerm) (f n : ℕ) → view_of t ≡ view.Compound f n → n ≢ 1 → n ≢ 2 → expression_error (named g t) ≡ Some (not_evaluable (indicator (g f) n))

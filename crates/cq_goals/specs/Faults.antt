@@ -1,5 +1,5 @@
 -- What the faults of goals say of them.
-use Rattle.std.specs.Prelude.{◌≡◌, Bool, List, Option, Some, ⊤}
+use Rattle.std.specs.Prelude.{◌≡◌, Bool, List, ⊤}
 use Rattle.spec_lists.specs.Texts.{Text}
 use Rattle.spec_rational.specs.Rational.{ℚ}
 use Rattle.spec_rational.specs.Order.{cmp_ℚ}
@@ -11,8 +11,6 @@ use Rattle.spec_built.specs.Errors.{arithmetic_error}
 use Rattle.spec_builtins.specs.Alternatives.{Comparison, allows}
 use Rattle.cq_term.specs.Meaning.{HeapTerm}
 use Rattle.cq_built.specs.Errors.{error_tree, HasCulprit}
-use Rattle.cq_built.specs.declared.errors.BuiltinFault.{BuiltinFault}
-use Rattle.cq_built.specs.declared.errors.BuiltinFault.TheVariants as builtin_fault
 use Rattle.cq_goals.specs.declared.faults.GoalFault.{GoalFault}
 use Rattle.cq_goals.specs.declared.faults.GoalFault.TheVariants as fault
 
@@ -52,8 +50,3 @@ pub record Compares (c : Comparison) (left right : Evaluated) (holds : Bool) : T
   pub left_is : left ≡ Value first
   pub right_is : right ≡ Value second
   pub stands : holds ≡ allows c (cmp_ℚ first second)
-
--- the error is the one that is found; want of memory says nothing of it
-abbrev pub IsFound : List Text → List HeapTerm → Option Tree → BuiltinFault → Type 0
-IsFound texts ts found (builtin_fault.Error e) = found ≡ Some (error_tree texts ts e)
-IsFound texts ts found builtin_fault.NoMemory = ⊤

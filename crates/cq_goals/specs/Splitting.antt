@@ -1,16 +1,15 @@
 -- The members of a constraint, and its halves, while they are looked for.
-use Rattle.std.specs.Prelude.{◌≡◌, ℕ, ◌+◌, ◌<◌, List, [], ◌∷◌, ◌++◌, Option, Some, None, true, length, All}
+use Rattle.std.specs.Prelude.{◌≡◌, ℕ, ◌+◌, ◌<◌, List, [], ◌∷◌, Option, Some, None, true, length, All}
 use Rattle.spec_lists.specs.Texts.{Text}
 use Rattle.spec_terms.specs.Term.{size}
-use Rattle.spec_syntax.specs.Trees.{Tree}
 use Rattle.spec_told.specs.Checks.{is_conjunction, Halves, halves, in_conjunction}
 use Rattle.cq_atoms.specs.Texts.{text_of}
 use Rattle.cq_term.specs.Meaning.{HeapTerm, at}
 use Rattle.cq_term.specs.HeapValue.{HeapValue}
-use Rattle.cq_term.specs.Trees.{tree, trees}
+use Rattle.cq_term.specs.Trees.{tree}
 use Rattle.cq_built.specs.Growing.{Grows}
-use Rattle.cq_goals.specs.Sides.{HasSides}
-use Rattle.cq_goals.specs.declared.sides.Sides.{Sides}
+use Rattle.cq_sides.specs.Sides.{HasSides}
+use Rattle.cq_sides.specs.declared.sides.Sides.{Sides}
 use Rattle.cq_goals.specs.declared.halves.Frame.{Frame}
 use Rattle.cq_goals.specs.declared.halves.Frame.TheVariants as frame
 use Rattle.cq_goals.specs.declared.halves.HalfTerms.{HalfTerms}
@@ -18,37 +17,12 @@ use Rattle.cq_goals.specs.declared.halves.Occurrence.{Occurrence}
 use Rattle.cq_goals.specs.declared.halves.Shape.{Shape}
 use Rattle.cq_goals.specs.declared.halves.Shape.TheVariants as shape
 
-abbrev pub AreLive : List HeapTerm → List ℕ → Type 0
-AreLive ts ids = All (λ id. id < length ts) ids
-
 -- ---- members
 
 -- the term is a conjunction of these
 pub record AreConjuncts (texts : List Text) (ts : List HeapTerm) (id : ℕ) (s : Sides) : Type 0 where
   pub sides : HasSides ts id s
   pub conjunction : is_conjunction (text_of texts s.name) ≡ true
-
--- the parts of terms that wait, the last one first
-abbrev pub waiting_parts : (Tree → List Tree) → List Text → List HeapTerm → List ℕ → List Tree
-waiting_parts parts texts ts [] = []
-waiting_parts parts texts ts (id ∷ ids) = waiting_parts parts texts ts ids ++ parts (tree texts ts id)
-
-abbrev pub waiting_size : List HeapTerm → List ℕ → ℕ
-waiting_size ts [] = 0
-waiting_size ts (id ∷ ids) = size (at ts id) + waiting_size ts ids
-
--- in place of a term its parts were found, or others wait
-pub record TakesApart (parts : Tree → List Tree) (texts : List Text) (ts : List HeapTerm) (found waiting : List ℕ) (id : ℕ) (found' waiting' : List ℕ) : Type 0 where
-  pub same : trees texts ts found' ++ waiting_parts parts texts ts waiting' ≡ trees texts ts found ++ (parts (tree texts ts id) ++ waiting_parts parts texts ts waiting)
-  pub found_live : AreLive ts found → AreLive ts found'
-  pub waiting_live : AreLive ts waiting → AreLive ts waiting'
-  pub less : waiting_size ts waiting' < waiting_size ts waiting + size (at ts id)
-
--- the parts that were found and those of the terms that wait are the parts of the whole
-pub record IsTakenApart (parts : Tree → List Tree) (texts : List Text) (ts : List HeapTerm) (whole : List Tree) (found waiting : List ℕ) : Type 0 where
-  pub found_live : AreLive ts found
-  pub waiting_live : AreLive ts waiting
-  pub same : trees texts ts found ++ waiting_parts parts texts ts waiting ≡ whole
 
 -- ---- halves
 

@@ -5,7 +5,7 @@ use Rattle.spec_syntax.specs.Trees.{Tree}
 use Rattle.spec_told.specs.Checks.{members, halves}
 use Rattle.cq_term.specs.Meaning.{HeapTerm}
 use Rattle.cq_term.specs.Trees.{tree, trees}
-use Rattle.cq_goals.specs.Splitting.{AreLive}
+use Rattle.cq_sides.specs.Splitting.{AreLive}
 use Rattle.cq_goals.specs.declared.tellings.Telling.{Telling}
 use Rattle.cq_goals.specs.declared.tellings.Telling.TheVariants as telling
 

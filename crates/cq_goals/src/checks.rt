@@ -11,13 +11,13 @@ ghost use Rattle.cq_term.specs.Shown.{view_of};
 ghost use Rattle.cq_term.specs.declared.view.View.TheVariants.{Compound};
 ghost use Rattle.cq_term.specs.Trees.{tree, KnowsTerms};
 ghost use Rattle.cq_built.specs.Errors.{error_tree, HasCulprit, CanBeRaised};
-ghost use Rattle.cq_goals.specs.Faults.{IsFound};
-ghost use Rattle.cq_goals.specs.Sides.{HasSides, is_binary};
+ghost use Rattle.cq_sides.specs.Faults.{IsFound};
+ghost use Rattle.cq_sides.specs.Sides.{HasSides, is_binary};
 ghost use Rattle.cq_goals.specs.Checking.{error_for, part_error, part_id, IsLivePart, GoesOn, ExpressionGoesOn, IsRole};
 
-use crate::sides::{Sides, sides_of};
 use cq_atoms::{Atom, Atoms};
 use cq_built::{BuiltinError, BuiltinFault, Culprit, ValidType};
+use cq_sides::{Sides, sides_of};
 use cq_term::{Heap, Pred, TermId, View};
 use std::alloc::{AllocError, Global};
 

@@ -10,9 +10,9 @@ ghost use Rattle.cq_term.specs.Trees.{tree, KnowsTerms};
 ghost use Rattle.cq_built.specs.Growing.{Grows};
 ghost use Rattle.cq_goals.specs.Splitting.{HasShape, IsLiveFrame, IsNext, next_work, all_work, all_resumed, resumed, halves_at, AreHalvesLive, IsOccurrence};
 
-use crate::sides::{Sides, sides_of};
 use cq_atoms::Atoms;
 use cq_built::compound;
+use cq_sides::{Sides, sides_of};
 use cq_term::{Heap, TermId};
 use std::alloc::AllocError;
 

@@ -7,7 +7,6 @@ mod checks;
 mod faults;
 mod halves;
 mod members;
-mod sides;
 mod tellings;
 
 pub use arithmetic::{compare_values, is_value};

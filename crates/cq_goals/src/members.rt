@@ -3,10 +3,11 @@
 ghost use Rattle.std.specs.Prelude.{◌≡◌, ◌<◌, ◌∷◌, [], length, IfOk, IfSome, IsNone, OnOk};
 ghost use Rattle.spec_told.specs.Checks.{members};
 ghost use Rattle.cq_term.specs.Trees.{tree, trees, KnowsTerms};
-ghost use Rattle.cq_goals.specs.Splitting.{AreLive, AreConjuncts, TakesApart};
+ghost use Rattle.cq_sides.specs.Splitting.{AreLive, TakesApart};
+ghost use Rattle.cq_goals.specs.Splitting.{AreConjuncts};
 
-use crate::sides::{Sides, sides_of};
 use cq_atoms::Atoms;
+use cq_sides::{Sides, sides_of};
 use cq_term::{Heap, TermId};
 use std::alloc::AllocError;
 

@@ -5,8 +5,8 @@ ghost use Rattle.spec_told.specs.Checks.{constraint_error, question_error, expre
 ghost use Rattle.cq_term.specs.Trees.{tree, trees, KnowsTerms};
 ghost use Rattle.cq_built.specs.Errors.{CanBeRaised};
 ghost use Rattle.cq_built.specs.Growing.{Grows};
-ghost use Rattle.cq_goals.specs.Faults.{IsFound};
-ghost use Rattle.cq_goals.specs.Splitting.{AreLive};
+ghost use Rattle.cq_sides.specs.Faults.{IsFound};
+ghost use Rattle.cq_sides.specs.Splitting.{AreLive};
 ghost use Rattle.cq_goals.specs.Tellings.{IsTelling, IsLiveTelling};
 
 use crate::checks::{Part, Purpose, check};

@@ -2,8 +2,8 @@ use Rattle.std.proofs.Common.{◌∙◌, ap}
 use Rattle.spec_built.specs.Errors.{or_error}
 use Rattle.spec_builtins.specs.Clauses.{clause_error}
 use Rattle.cq_term.specs.Trees.{tree}
+use Rattle.cq_sides.proofs.Errors.{neither, found_same, found_then}
 use Rattle.cq_declarations.specs.Clauses.{head_error, body_error, body_tree}
-use Rattle.cq_declarations.proofs.Errors.{neither, found_same, found_then}
 use Rattle.cq_declarations.proofs.Bodies.{clause_in_turn}
 use Rattle.cq_declarations.proofs.clauses.check_clause.Goals as goal
 

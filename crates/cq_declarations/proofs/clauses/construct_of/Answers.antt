@@ -3,7 +3,7 @@ use Rattle.spec_built.specs.Bodies.{is_body, is_control}
 use Rattle.cq_atoms.specs.Texts.{text_of}
 use Rattle.cq_term.specs.Meaning.{at}
 use Rattle.cq_term.specs.Trees.{tree}
-use Rattle.cq_declarations.proofs.Heads.{tree_of_sides, side_name_known}
+use Rattle.cq_sides.proofs.Heads.{tree_of_sides, side_name_known}
 use Rattle.cq_declarations.proofs.Bodies.{body_of_other, body_of_goal}
 use Rattle.cq_declarations.proofs.clauses.construct_of.Goals as goal
 

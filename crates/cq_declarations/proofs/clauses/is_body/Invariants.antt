@@ -1,10 +1,11 @@
 use Rattle.spec_built.specs.Bodies.{is_body}
 use Rattle.cq_term.specs.Trees.{tree}
-use Rattle.cq_declarations.specs.Clauses.{bodies_size, IsBodyUnderWay}
+use Rattle.cq_sides.specs.Splitting.{waiting_size}
+use Rattle.cq_declarations.specs.Clauses.{IsBodyUnderWay}
 use Rattle.cq_declarations.proofs.clauses.is_body.Given as goal
 
 abbrev pub invariant-loop-id : goal.invariant-loop-id
 invariant-loop-id l = IsBodyUnderWay l.atoms l.heap.now.terms (is_body (tree l.atoms l.heap.now.terms l.fn.body)) l.waiting.items
 
 abbrev pub decreases-loop-id : goal.decreases-loop-id
-decreases-loop-id l = bodies_size l.heap.now.terms l.waiting.items
+decreases-loop-id l = waiting_size l.heap.now.terms l.waiting.items

@@ -1,9 +1,10 @@
 use Rattle.std.proofs.Common.{◌∙◌, Some, length, sym, ap}
 use Rattle.cq_atoms.specs.Texts.{text_of}
 use Rattle.cq_term.specs.Meaning.{at}
+use Rattle.cq_term.proofs.Named.{name_below, functor_below}
 use Rattle.cq_built.specs.Errors.{error_tree}
 use Rattle.cq_built.proofs.Trees.{known_at}
-use Rattle.cq_declarations.proofs.Heads.{atom_indicator, compound_indicator, atom_known, compound_known}
+use Rattle.cq_declarations.proofs.Heads.{atom_indicator, compound_indicator}
 use Rattle.cq_declarations.proofs.Bodies.{head_is_atom, head_is_compound, head_is_number, head_is_unbound}
 use Rattle.cq_declarations.proofs.clauses.predicate_of.Goals as goal
 
@@ -26,7 +27,7 @@ returns-in-Name-clause-predicate c =
     let shown = sym c.view.ensures.view ∙ c.in-Name.is in
     record {
       indicator = atom_indicator (text_of texts) (at ts c.args.head) c.in-Name.name shown;
-      known = atom_known (length texts) (at ts c.args.head) c.in-Name.name shown (known_at texts ts c.args.head c.requires.names c.requires.live);
+      known = name_below (length texts) (at ts c.args.head) c.in-Name.name shown (known_at texts ts c.args.head c.requires.names c.requires.live);
     }
 
 pub returns-in-Compound-clause-lawful : goal.returns-in-Compound-clause-lawful
@@ -39,5 +40,5 @@ returns-in-Compound-clause-predicate c =
     let shown = sym c.view.ensures.view ∙ c.in-Compound.is in
     record {
       indicator = compound_indicator (text_of texts) (at ts c.args.head) c.in-Compound.name c.in-Compound.arity shown;
-      known = compound_known (length texts) (at ts c.args.head) c.in-Compound.name c.in-Compound.arity shown (known_at texts ts c.args.head c.requires.names c.requires.live);
+      known = functor_below (length texts) (at ts c.args.head) c.in-Compound.name c.in-Compound.arity shown (known_at texts ts c.args.head c.requires.names c.requires.live);
     }

@@ -4,7 +4,7 @@ use Rattle.spec_builtins.specs.Clauses.{head_body, fact}
 use Rattle.cq_atoms.specs.Texts.{text_of}
 use Rattle.cq_term.specs.Meaning.{at}
 use Rattle.cq_term.specs.Trees.{tree}
-use Rattle.cq_declarations.proofs.Heads.{tree_of_sides, side_name_known}
+use Rattle.cq_sides.proofs.Heads.{tree_of_sides, side_name_known}
 use Rattle.cq_declarations.proofs.Bodies.{fact_of_other, no_rule, rule_is}
 use Rattle.cq_declarations.proofs.clauses.rule_of.Goals as goal
 

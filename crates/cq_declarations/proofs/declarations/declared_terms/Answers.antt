@@ -1,6 +1,6 @@
 use Rattle.std.proofs.Common.{arith}
 use Rattle.spec_builtins.specs.Clauses.{declared_terms}
-use Rattle.cq_declarations.proofs.Splitting.{taken_apart_starts, part_live, takes, takes_less, all_found}
+use Rattle.cq_sides.proofs.Splitting.{taken_apart_starts, part_live, takes, takes_less, all_found}
 use Rattle.cq_declarations.proofs.declarations.declared_terms.Goals as goal
 
 pub loop-id-init : goal.loop-id-init

@@ -1,6 +1,6 @@
 use Rattle.spec_builtins.specs.Clauses.{declared_terms}
 use Rattle.cq_term.specs.Trees.{tree}
-use Rattle.cq_declarations.specs.Splitting.{waiting_size, IsTakenApart}
+use Rattle.cq_sides.specs.Splitting.{waiting_size, IsTakenApart}
 use Rattle.cq_declarations.proofs.declarations.declared_terms.Given as goal
 
 abbrev pub invariant-loop-id : goal.invariant-loop-id

@@ -3,7 +3,7 @@ use Rattle.spec_builtins.specs.Clauses.{declared_terms, is_joining}
 use Rattle.cq_atoms.specs.Texts.{text_of}
 use Rattle.cq_term.specs.Meaning.{at}
 use Rattle.cq_term.specs.Trees.{tree}
-use Rattle.cq_declarations.proofs.Heads.{tree_of_sides, side_name_known}
+use Rattle.cq_sides.proofs.Heads.{tree_of_sides, side_name_known}
 use Rattle.cq_declarations.proofs.Declared.{declared_alone, joins_nothing}
 use Rattle.cq_declarations.proofs.declarations.joined_by.Goals as goal
 

@@ -6,7 +6,7 @@ use Rattle.spec_builtins.specs.Clauses.{is_indicator}
 use Rattle.cq_term.specs.Trees.{trees}
 use Rattle.cq_term.specs.declared.names.Pred.{Pred}
 use Rattle.cq_built.specs.Errors.{indicator_of}
-use Rattle.cq_declarations.specs.Faults.{IsFound}
+use Rattle.cq_sides.specs.Faults.{IsFound}
 use Rattle.cq_declarations.specs.Declarations.{indicators_error}
 use Rattle.cq_declarations.proofs.Declaring.{first_passes, first_here, first_end}
 use Rattle.cq_declarations.proofs.Declared.{declared_next, declared_over}

@@ -4,7 +4,7 @@ use Rattle.spec_builtins.specs.Clauses.{slashed}
 use Rattle.cq_atoms.specs.Texts.{text_of}
 use Rattle.cq_term.specs.Meaning.{at}
 use Rattle.cq_term.specs.Trees.{tree}
-use Rattle.cq_declarations.proofs.Heads.{tree_of_sides, side_name_known}
+use Rattle.cq_sides.proofs.Heads.{tree_of_sides, side_name_known}
 use Rattle.cq_declarations.proofs.Declared.{no_slash, slash_is}
 use Rattle.cq_declarations.proofs.declarations.slash_of.Goals as goal
 

@@ -2,9 +2,9 @@ use Rattle.std.proofs.Common.{◌∷◌, ◌++◌, [], ◌∙◌, ap, refl, sym}
 use Rattle.spec_builtins.specs.Clauses.{declared_terms}
 use Rattle.cq_atoms.specs.Texts.{text_of}
 use Rattle.cq_term.specs.Trees.{tree}
-use Rattle.cq_declarations.proofs.Heads.{tree_of_sides}
+use Rattle.cq_sides.proofs.Heads.{tree_of_sides}
+use Rattle.cq_sides.proofs.Splitting.{sides_wait, part_found, nothing_found}
 use Rattle.cq_declarations.proofs.Declared.{terms_of_joined, nil_declares}
-use Rattle.cq_declarations.proofs.Splitting.{sides_wait, part_found, nothing_found}
 use Rattle.cq_declarations.proofs.declarations.take_declared.Goals as goal
 
 pub returns-in_ok-push-in-Some-2 : goal.returns-in_ok-push-in-Some-2

@@ -1,11 +1,11 @@
 use Rattle.std.proofs.Common.{◌≡◌, ◌∙◌, Some, None, ap, sym, refl}
 use Rattle.spec_built.specs.Errors.{or_error}
 use Rattle.cq_built.specs.Errors.{error_tree}
+use Rattle.cq_sides.proofs.Errors.{found_first, found_same, neither}
 use Rattle.cq_declarations.specs.declared.operators.OperatorGoal.{OperatorGoal}
 use Rattle.cq_ops.specs.Tables.{named}
 use Rattle.cq_declarations.specs.Operators.{goal_error, arguments_error, refusal_error}
 use Rattle.cq_declarations.proofs.Declaring.{in_turn}
-use Rattle.cq_declarations.proofs.Errors.{found_first, found_same, neither}
 use Rattle.cq_declarations.proofs.operators.declare_operators.Goals as goal
 
 pub returns-in-Err-clause-fault : goal.returns-in-Err-clause-fault

@@ -8,7 +8,7 @@ use Rattle.cq_term.specs.Shown.{arguments}
 use Rattle.cq_term.specs.Trees.{tree}
 use Rattle.cq_term.proofs.Arguments.{both_arguments}
 use Rattle.cq_arith.proofs.Steps.{has_two, two_arguments}
-use Rattle.cq_goals.specs.Faults.{IsFound}
+use Rattle.cq_sides.specs.Faults.{IsFound}
 use Rattle.cq_goals.specs.declared.checks.Part.TheVariants as part
 use Rattle.cq_goals.proofs.Heads.{not_two, two_expression}
 use Rattle.cq_goals.proofs.Checking.{goes_to_both}

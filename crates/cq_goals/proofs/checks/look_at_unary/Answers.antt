@@ -6,7 +6,7 @@ use Rattle.cq_atoms.specs.Texts.{text_of}
 use Rattle.cq_term.specs.Meaning.{at}
 use Rattle.cq_term.specs.Trees.{tree}
 use Rattle.cq_arith.proofs.Steps.{only_argument, has_one, one_argument}
-use Rattle.cq_goals.specs.Faults.{IsFound}
+use Rattle.cq_sides.specs.Faults.{IsFound}
 use Rattle.cq_goals.specs.declared.checks.Part.TheVariants as part
 use Rattle.cq_goals.proofs.Heads.{not_one, one_expression}
 use Rattle.cq_goals.proofs.Checking.{goes_to}

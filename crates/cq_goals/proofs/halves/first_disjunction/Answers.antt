@@ -2,7 +2,7 @@ use Rattle.std.proofs.Common.{arith}
 use Rattle.spec_told.specs.Checks.{halves}
 use Rattle.cq_term.specs.Meaning.{at}
 use Rattle.cq_term.specs.Trees.{tree}
-use Rattle.cq_goals.proofs.Heads.{size_positive}
+use Rattle.cq_sides.proofs.Heads.{size_positive}
 use Rattle.cq_goals.proofs.Splitting.{left_next, left_less, searched, work_now}
 use Rattle.cq_goals.proofs.halves.first_disjunction.Goals as goal
 

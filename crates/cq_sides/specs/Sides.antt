@@ -1,8 +1,8 @@
 -- The two arguments of a compound that has two.
 use Rattle.std.specs.Prelude.{◌≡◌, ℕ, ◌<◌, List, Bool, true, false, length}
-use Rattle.spec_terms.specs.Term.{Var, Number, Name, Compound, one, more}
+use Rattle.spec_terms.specs.Term.{Compound, one, more}
 use Rattle.cq_term.specs.Meaning.{HeapTerm, at}
-use Rattle.cq_goals.specs.declared.sides.Sides.{Sides}
+use Rattle.cq_sides.specs.declared.sides.Sides.{Sides}
 
 -- a compound of two arguments
 abbrev pub is_binary : HeapTerm → Bool

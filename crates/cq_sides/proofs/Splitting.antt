@@ -7,10 +7,15 @@ use Rattle.spec_syntax.specs.Trees.{Tree}
 use Rattle.cq_term.specs.Meaning.{HeapTerm, at}
 use Rattle.cq_term.specs.Trees.{tree, trees}
 use Rattle.cq_kinds.proofs.Listed.{trees_push}
-use Rattle.cq_declarations.specs.Sides.{HasSides}
-use Rattle.cq_declarations.specs.declared.sides.Sides.{Sides}
-use Rattle.cq_declarations.specs.Splitting.{AreLive, waiting_parts, waiting_size, TakesApart, IsTakenApart}
-use Rattle.cq_declarations.proofs.Heads.{size_of_sides, size_positive}
+use Rattle.cq_sides.specs.Sides.{HasSides}
+use Rattle.cq_sides.specs.declared.sides.Sides.{Sides}
+use Rattle.cq_sides.specs.Splitting.{AreLive, waiting_parts, waiting_size, TakesApart, IsTakenApart}
+use Rattle.cq_sides.proofs.Heads.{size_of_sides, size_positive}
+
+-- the size with one more behind them
+pub size_last : (ts : List HeapTerm) (ids : List ℕ) (id : ℕ) → waiting_size ts (ids ++ id ∷ []) ≡ waiting_size ts ids + size (at ts id)
+size_last ts [] id = omega arith
+size_last ts (w ∷ ids) id = let h = size_last ts ids id in omega (arith, h)
 
 module _ (parts : Tree → List Tree) (texts : List Text) (ts : List HeapTerm) where
   waits_last : (ids : List ℕ) (id : ℕ) → waiting_parts parts texts ts (ids ++ id ∷ []) ≡ parts (tree texts ts id) ++ waiting_parts parts texts ts ids
@@ -18,10 +23,6 @@ module _ (parts : Tree → List Tree) (texts : List Text) (ts : List HeapTerm) w
   waits_last (w ∷ ids) id =
       ap (λ us. us ++ parts (tree texts ts w)) (waits_last ids id)
       ∙ append_assoc (parts (tree texts ts id)) (waiting_parts parts texts ts ids) (parts (tree texts ts w))
-
-  size_last : (ids : List ℕ) (id : ℕ) → waiting_size ts (ids ++ id ∷ []) ≡ waiting_size ts ids + size (at ts id)
-  size_last [] id = omega arith
-  size_last (w ∷ ids) id = let h = size_last ids id in omega (arith, h)
 
   pub sides_wait : (found waiting found' waiting' : List ℕ) (id : ℕ) (s : Sides) → HasSides ts id s → parts (tree texts ts id) ≡ parts (tree texts ts s.left) ++ parts (tree texts ts s.right)
       → found' ≡ found → waiting' ≡ (waiting ++ s.right ∷ []) ++ s.left ∷ [] → TakesApart parts texts ts found waiting id found' waiting'
@@ -38,7 +39,7 @@ module _ (parts : Tree → List Tree) (texts : List Text) (ts : List HeapTerm) w
         waiting_live = λ all.
             All-same (λ x. x < length ts) waiting' ((waiting ++ s.right ∷ []) ++ s.left ∷ []) w
             (All-push (λ x. x < length ts) (waiting ++ s.right ∷ []) s.left (All-push (λ x. x < length ts) waiting s.right all h.right) h.left);
-        less = (let e = ap (waiting_size ts) w in let a = size_last (waiting ++ s.right ∷ []) s.left in let b = size_last waiting s.right in let z = size_of_sides ts id s h in omega (arith, e, a, b, z));
+        less = (let e = ap (waiting_size ts) w in let a = size_last ts (waiting ++ s.right ∷ []) s.left in let b = size_last ts waiting s.right in let z = size_of_sides ts id s h in omega (arith, e, a, b, z));
       }
 
   pub part_found : (found waiting found' waiting' : List ℕ) (id : ℕ) → id < length ts → parts (tree texts ts id) ≡ tree texts ts id ∷ [] → found' ≡ found ++ id ∷ [] → waiting' ≡ waiting
@@ -79,7 +80,7 @@ module _ (parts : Tree → List Tree) (texts : List Text) (ts : List HeapTerm) w
       }
 
       pub takes_less : waiting_size ts new < waiting_size ts ws
-      takes_less = let e = ap (waiting_size ts) n in let s = size_last old id in let l = t.less in omega (arith, e, s, l)
+      takes_less = let e = ap (waiting_size ts) n in let s = size_last ts old id in let l = t.less in omega (arith, e, s, l)
 
   pub taken_apart_starts : (found ws : List ℕ) (id : ℕ) → id < length ts → found ≡ [] → ws ≡ id ∷ [] → IsTakenApart parts texts ts (parts (tree texts ts id)) found ws
   taken_apart_starts found ws id live f w = record {

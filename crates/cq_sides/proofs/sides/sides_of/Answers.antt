@@ -2,8 +2,8 @@ use Rattle.std.proofs.Common.{◌<◌, ◌∙◌, length, sym, arith}
 use Rattle.cq_term.specs.Meaning.{at}
 use Rattle.cq_term.specs.Shown.{arguments}
 use Rattle.cq_kinds.proofs.Arguments.{has_two, two_arguments}
-use Rattle.cq_goals.proofs.Heads.{not_two_arguments, no_compound}
-use Rattle.cq_goals.proofs.sides.sides_of.Goals as goal
+use Rattle.cq_sides.proofs.Heads.{not_two_arguments, no_compound}
+use Rattle.cq_sides.proofs.sides.sides_of.Goals as goal
 
 pub returns-then-arity-ne2-clause-none : goal.returns-then-arity-ne2-clause-none
 returns-then-arity-ne2-clause-none c = λ none. not_two_arguments (at c.args.heap.now.now.terms c.args.id) c.in-Compound.name c.in-Compound.arity (sym c.view.ensures.view ∙ c.in-Compound.is) c.if-arity-ne2.true

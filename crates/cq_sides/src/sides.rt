@@ -2,20 +2,20 @@
 
 ghost use Rattle.std.specs.Prelude.{◌≡◌, ◌<◌, false, length, IfSome, IsNone};
 ghost use Rattle.cq_term.specs.Meaning.{at};
-ghost use Rattle.cq_goals.specs.Sides.{HasSides, is_binary};
+ghost use Rattle.cq_sides.specs.Sides.{HasSides, is_binary};
 
 use cq_term::{Atom, Heap, TermId, View};
 
 /// The name and the arguments of a compound that has two.
 #[derive(Clone, Copy)]
-pub(crate) struct Sides {
-    pub(crate) name: Atom,
-    pub(crate) left: TermId,
-    pub(crate) right: TermId,
+pub struct Sides {
+    pub name: Atom,
+    pub left: TermId,
+    pub right: TermId,
 }
 
 /// The sides of a term; None where it is no compound of two arguments.
-pub(crate) fn sides_of(heap: &Heap, id: TermId) -> Option<Sides>
+pub fn sides_of(heap: &Heap, id: TermId) -> Option<Sides>
     requires { id < length heap.now.now.terms }
     ensures some { IfSome result (HasSides heap.now.now.terms id) }
     ensures none { IsNone result → is_binary (at heap.now.now.terms id) ≡ false }
