@@ -6,6 +6,4 @@ mod clauses;
 #[cfg(test)]
 mod program;
 #[cfg(test)]
-mod resolve;
-#[cfg(test)]
 mod stored;

@@ -1,6 +1,6 @@
 use Rattle.cq_term.specs.Trees.{KnowsTerms}
 use Rattle.cq_text.specs.Ways.{CanGoOn}
-use Rattle.tests_terms.proofs.text.are_all_parts.Given as goal
+use Rattle.tests_predicates.proofs.text.are_all_parts.Given as goal
 
 abbrev pub invariant-loop-text : goal.invariant-loop-text
 invariant-loop-text l = record {

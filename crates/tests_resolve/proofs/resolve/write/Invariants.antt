@@ -3,7 +3,7 @@ use Rattle.std.specs.Prelude.{All}
 use Rattle.std.specs.List.{sum_by}
 use Rattle.spec_terms.specs.Term.{size}
 use Rattle.cq_term.specs.Meaning.{at}
-use Rattle.tests_clauses.proofs.resolve.write.Given as goal
+use Rattle.tests_resolve.proofs.resolve.write.Given as goal
 
 abbrev pub invariant-loop-id : goal.invariant-loop-id
 invariant-loop-id l = All (λ id. id < length l.heap.now.terms) l.work.items

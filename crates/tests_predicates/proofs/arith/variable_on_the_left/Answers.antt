@@ -1,5 +1,5 @@
 use Rattle.std.proofs.Common.{length}
-use Rattle.tests_terms.proofs.arith.variable_on_the_left.Goals as goal
+use Rattle.tests_predicates.proofs.arith.variable_on_the_left.Goals as goal
 
 pub outcome_of-requires-clause-names : goal.outcome_of-requires-clause-names
 outcome_of-requires-clause-names c =

@@ -1,7 +1,7 @@
 use Rattle.std.proofs.Common.{length}
-use Rattle.tests_terms.proofs.arith.unlisted.Goals as goal
+use Rattle.tests_predicates.proofs.arith.over_two.Goals as goal
 
 pub outcome_of-requires-clause-names : goal.outcome_of-requires-clause-names
 outcome_of-requires-clause-names c =
     let n = length c.args.atoms.now in
-    c.single.ensures.names n c.requires.foo (c.variable.ensures.names n c.requires.names)
+    c.pair.ensures.names n c.requires.known (c.number-2.ensures.names n (c.number.ensures.names n c.requires.names))

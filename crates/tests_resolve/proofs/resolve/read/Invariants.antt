@@ -1,6 +1,6 @@
 use Rattle.std.proofs.Common.{◌≡◌, ◌<◌, ◌≤◌, length}
 use Rattle.std.specs.Prelude.{All}
-use Rattle.tests_clauses.proofs.resolve.read.Given as goal
+use Rattle.tests_resolve.proofs.resolve.read.Given as goal
 
 abbrev pub invariant-loop-byte : goal.invariant-loop-byte
 invariant-loop-byte l = record {

@@ -1,5 +1,5 @@
 use Rattle.std.proofs.Common.{◌<◌, length}
-use Rattle.tests_clauses.proofs.resolve.nested.Given as goal
+use Rattle.tests_resolve.proofs.resolve.nested.Given as goal
 
 abbrev pub invariant-loop-level : goal.invariant-loop-level
 invariant-loop-level l = record {

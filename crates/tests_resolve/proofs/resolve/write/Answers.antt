@@ -3,7 +3,7 @@ use Rattle.std.proofs.lemmas.List.Elements.{All-pop}
 use Rattle.cq_term.specs.Meaning.{at}
 use Rattle.cq_term.proofs.Arguments.{length-arguments}
 use Rattle.cq_walk.proofs.Arguments.{live_push, sizes_push}
-use Rattle.tests_clauses.proofs.resolve.write.Goals as goal
+use Rattle.tests_resolve.proofs.resolve.write.Goals as goal
 
 pub push_arguments-requires-clause-arity : goal.push_arguments-requires-clause-arity
 push_arguments-requires-clause-arity c = length-arguments (at c.args.heap.now.now.terms c.in-Some.id) c.in-Compound.name c.in-Compound.arity (sym c.in-Compound.ensures.view)

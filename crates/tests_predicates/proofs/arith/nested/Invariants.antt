@@ -1,7 +1,7 @@
 use Rattle.std.proofs.Common.{◌<◌, ℕ, length}
 use Rattle.std.specs.Prelude.{All}
 use Rattle.cq_term.specs.Names.{HasNamesBelow}
-use Rattle.tests_terms.proofs.arith.nested.Given as goal
+use Rattle.tests_predicates.proofs.arith.nested.Given as goal
 
 abbrev pub invariant-loop-level : goal.invariant-loop-level
 invariant-loop-level l = record {
