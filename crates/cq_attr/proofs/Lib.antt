@@ -1,6 +1,6 @@
 mod Newest
 mod Linked
-mod Elements
+pub mod Elements
 mod Watched
 mod Slots
 pub mod Numbers
