@@ -6,7 +6,7 @@ use Rattle.spec_rational.specs.Rational.{ℚ}
 use Rattle.spec_linear.specs.Solution.{Constraint, Has, Solvable, Fixed, Fixes}
 use Rattle.spec_lists.specs.Texts.{Text}
 use Rattle.spec_terms.specs.Term.{Subst, Var, Occurs, apply, followed_by}
-use Rattle.spec_terms.proofs.Substitution.{apply_agree, occurs_from}
+use Rattle.spec_terms.proofs.Substitution.{apply_agree}
 use Rattle.spec_syntax.specs.Trees.{Tree}
 use Rattle.spec_told.specs.Relations.{Waits, lin}
 use Rattle.spec_branch.specs.Branch.{State, Item, Pending}
@@ -18,7 +18,8 @@ use Rattle.cq_world.specs.Contents.{Contents}
 use Rattle.cq_world.specs.Standing.{constraints}
 use Rattle.cq_settle.specs.Underway.{IsUnderway, WaitsOrToDo, IsToDo, unified, numeric_then, valued, bindings_now}
 use Rattle.cq_settle.proofs.Ends.{AllWait, waiting_closed}
-use Rattle.cq_settle.proofs.Values.{same_value, lin_agree, one_image}
+use Rattle.cq_settle.proofs.Here.{agree, inside}
+use Rattle.cq_settle.proofs.Values.{lin_agree, one_image}
 
 nothing_behind : {A : Type 0} (xs : List A) → xs ++ [] ≡ xs
 nothing_behind [] = refl
@@ -49,27 +50,18 @@ module _ (s : Subst Text) (values : ℕ → Option ℚ) where
   waits_each (k ∷ ks) (x ∷ ts) z t (inr h) = waits_each ks ts z.1 t h
 
 module _ (texts : List Text) (older : List HeapTerm) (c : Contents) (st : State) (p : Pending) (u : Subst Text) (values : ℕ → Option ℚ) (waiting : List Tree) (all : List ℕ)
-    (k : IsUnderway texts older c st p u values [] waiting [] [] [] [] all) (solvable : Solvable c.told) (fixed : ℕ → Option ℚ) (fixes : Fixes c.told fixed) where
-  found : (v : ℕ) (q : ℚ) → (values v ≡ Some q) ⊎ Contains [] v → values v ≡ Some q
-  found v q (inl e) = e
-  found v q (inr h) = no_member v h
-
-  -- the values are those that the list fixes
-  pub agree : (v : ℕ) → numeric_then st p u v ≡ true → unified st u v ≡ Var v → values v ≡ fixed v
-  agree v n e = same_value (values v) (fixed v) (λ q h. fixes.complete v q (k.values.fixed v q h))
-      (λ q h. found v q (k.values.complete v q n e (fixes.sound v q h)))
-
-  pub inside : (t : Tree) (v : ℕ) → Occurs v (apply (unified st u) t) → unified st u v ≡ Var v
-  inside t v o = let r = occurs_from (unified st u) v t o in k.task.read_through.through r.0 v r.2
+    (k : IsUnderway texts older c st p u values waiting [] [] [] [] all) (solvable : Solvable c.told) (fixed : ℕ → Option ℚ) (fixes : Fixes c.told fixed) where
+  agree_here : (v : ℕ) → numeric_then st p u v ≡ true → unified st u v ≡ Var v → values v ≡ fixed v
+  agree_here = agree texts older c st p u values waiting [] [] [] [] all k.here fixed fixes
 
   pub numeric_inside : (t : Tree) → Has t waiting → (v : ℕ) → Occurs v (apply (unified st u) t) → numeric_then st p u v ≡ true
   numeric_inside t h =
-      by_member (waiting ++ []) k.numeric_terms t (subst (λ (ws : List Tree). Has t ws) (sym (nothing_behind waiting)) h)
+      by_member (waiting ++ []) k.here.numeric_terms t (subst (λ (ws : List Tree). Has t ws) (sym (nothing_behind waiting)) h)
 
   pub all_wait : AllWait (unified st u) fixed waiting
   all_wait t h =
-      sym (lin_agree values fixed (apply (unified st u) t) (λ v o. agree v (numeric_inside t h v o) (inside t v o)))
-      ∙ waits_each (unified st u) values (constraints c.attrs) waiting k.looked_at t h
+      sym (lin_agree values fixed (apply (unified st u) t) (λ v o. agree_here v (numeric_inside t h v o) (inside st p u k.here.task t v o)))
+      ∙ waits_each (unified st u) values (constraints c.attrs) waiting k.here.looked_at t h
 
   pub settling : Settling st p u
   settling = record {
@@ -84,12 +76,12 @@ module _ (texts : List Text) (older : List HeapTerm) (c : Contents) (st : State)
   }
 
   pub settles : (items : List Item) → SettlesUnified items st p u (Kept (kept_branch items st p u c.told waiting fixed))
-  settles items = kept k.task.no_clash settling solvable fixed fixes
+  settles items = kept k.here.task.no_clash settling solvable fixed fixes
 
   -- the bindings are those of the branch that is kept
   pub same_image : (w : ℕ) → unified st u w ≡ Var w → valued values w ≡ fixed_values (numeric_then st p u) fixed w
-  same_image w e = one_image (numeric_then st p u w) (values w) (fixed w) w (λ n. agree w n e) (λ q h. k.values.numeric w q h)
+  same_image w e = one_image (numeric_then st p u w) (values w) (fixed w) w (λ n. agree_here w n e) (λ q h. k.here.are_bound.numeric w q h)
 
   pub same_bindings : (v : ℕ) → bindings_now st u values v ≡ bindings_after st p u fixed v
   same_bindings v =
-      apply_agree (valued values) (fixed_values (numeric_then st p u) fixed) (unified st u v) (λ w o. same_image w (k.task.read_through.through v w o))
+      apply_agree (valued values) (fixed_values (numeric_then st p u) fixed) (unified st u v) (λ w o. same_image w (k.here.task.read_through.through v w o))

@@ -41,8 +41,9 @@ unnamed f v (Name a) e = cc
 unnamed f v (Compound g ts) e = cc
 
 module _ (texts : List Text) (c : Contents) (row : Constraint) (d : Contents) (before after : List VarId) (st : State) (p : Pending) (u : Subst Text)
-    (f : ℕ → Option ℚ) (old : AreBound st p u c.told f []) (j : JoinsAndBinds c row d before after)
-    (images : (v : ℕ) → bindings_now st u f v ≡ tree texts c.heap.images v)
+    (f : ℕ → Option ℚ) (old : AreBound st p u c.told f) (j : JoinsAndBinds c row d before after)
+    (images : (v : ℕ) → v < length c.heap.images → bindings_now st u f v ≡ tree texts c.heap.images v)
+    (below : (v : ℕ) → is_numeric c.attrs v ≡ true → v < length c.heap.images)
     (numeric : (v : ℕ) → is_numeric c.attrs v ≡ numeric_then st p u v) where
   solvable_longer : Solvable (c.told ++ row ∷ [])
   solvable_longer = subst Solvable j.list j.solvable
@@ -56,27 +57,26 @@ module _ (texts : List Text) (c : Contents) (row : Constraint) (d : Contents) (b
 
   unbound_of : (v : ℕ) (q : ℚ) (o : Option ℚ) → f v ≡ o → first_of o (j.values v) ≡ Some q → unified st u v ≡ Var v
   unbound_of v q (Some r) e h = old.unbound v r e
-  unbound_of v q None e h = unread f v (unified st u v) (images v ∙ ap (named (text_of texts)) (j.binds.sound v q h).1)
+  unbound_of v q None e h = unread f v (unified st u v) (images v (below v (j.binds.sound v q h).0) ∙ ap (named (text_of texts)) (j.binds.sound v q h).1)
 
   fixed_of : (v : ℕ) (q : ℚ) (o : Option ℚ) → f v ≡ o → first_of o (j.values v) ≡ Some q → Fixed d.told v q
   fixed_of v q (Some r) e h = grown v q (old.fixed v q (e ∙ h))
   fixed_of v q None e h = (j.binds.sound v q h).2
 
-  left_over : (v : ℕ) (r : ℚ) → (f v ≡ Some r) ⊎ Contains [] v → f v ≡ None → ⊥
-  left_over v r (inl e) n = let s : None ≡ Some r = sym n ∙ e in cc
-  left_over v r (inr h) n = omega (arith, h.1)
+  left_over : (v : ℕ) (r : ℚ) → f v ≡ Some r → f v ≡ None → ⊥
+  left_over v r e n = let s : None ≡ Some r = sym n ∙ e in cc
 
   complete_of : (v : ℕ) (q : ℚ) (o : Option ℚ) → f v ≡ o → numeric_then st p u v ≡ true → unified st u v ≡ Var v → Fixed d.told v q → first_of o (j.values v) ≡ Some q
   complete_of v q (Some r) e n b h = ap (λ (x : ℚ). Some x) (fixed_once d.told v r q (grown v r (old.fixed v r e)) h)
   complete_of v q None e n b h =
       let here : at c.heap.images v ≡ Var v = unnamed (text_of texts) v (at c.heap.images v)
-          (sym (images v) ∙ ap (apply (valued f)) b ∙ ap (λ (x : Option ℚ). value_or_variable x v) e) in
+          (sym (images v (below v (numeric v ∙ n))) ∙ ap (apply (valued f)) b ∙ ap (λ (x : Option ℚ). value_or_variable x v) e) in
       j.complete v q (numeric v ∙ n) here h (λ r g. left_over v r (old.complete v r n b g) e)
 
-  pub bound_further : AreBound st p u d.told (together f j.values) []
+  pub bound_further : AreBound st p u d.told (together f j.values)
   bound_further = record {
     numeric = λ v q h. numeric_of v q (f v) refl h;
     unbound = λ v q h. unbound_of v q (f v) refl h;
     fixed = λ v q h. fixed_of v q (f v) refl h;
-    complete = λ v q n b h. inl (complete_of v q (f v) refl n b h);
+    complete = λ v q n b h. complete_of v q (f v) refl n b h;
   }

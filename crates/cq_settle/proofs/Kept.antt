@@ -27,16 +27,11 @@ use Rattle.cq_settle.proofs.Closed.{same_bindings, settles}
 use Rattle.cq_settle.proofs.Resting.{rests}
 use Rattle.std.proofs.lemmas.List.Elements.{All-from_recursion}
 use Rattle.cq_settle.proofs.Numeric.{variable_bound}
+use Rattle.cq_settle.proofs.Zips.{zip_right}
 use Rattle.cq_settle.proofs.Woken.{stays, constraints_stay, filters_commute, zip_filter, zip_both, zip_so, waits_for_it, is_variable, named_variable, sleeps_variable, sleeping_variable}
 
-zip_right : {A B : Type 0} (R : A → B → Type 0) (P : B → Type 0) (xs : List A) (ys : List B) → AllZip R xs ys → AllByRecursion P ys → AllZip (λ x y. R x y × P y) xs ys
-zip_right R P [] [] r s = tt
-zip_right R P [] (y ∷ ys) r s = absurd r
-zip_right R P (x ∷ xs) [] r s = absurd r
-zip_right R P (x ∷ xs) (y ∷ ys) r s = ((r.0, s.0), zip_right R P xs ys r.1 s.1)
-
 module _ (texts : List Text) (older : List HeapTerm) (c : Contents) (st : State) (p : Pending) (u : Subst Text) (values : ℕ → Option ℚ) (waiting : List Tree) (all : List ℕ)
-    (k : IsUnderway texts older c st p u values [] waiting [] [] [] [] all) (solvable : Solvable c.told) (fixed : ℕ → Option ℚ) (fixes : Fixes c.told fixed) where
+    (k : IsUnderway texts older c st p u values waiting [] [] [] [] all) (solvable : Solvable c.told) (fixed : ℕ → Option ℚ) (fixes : Fixes c.told fixed) where
   abbrev now : Subst Text
   now = bindings_now st u values
 
@@ -52,7 +47,7 @@ module _ (texts : List Text) (older : List HeapTerm) (c : Contents) (st : State)
 
   by_value : (x : ℕ) (o : Option ℚ) → values x ≡ o → is_variable (value_or_variable o x) ≡ false → Contains all x
   by_value x None e h = cc
-  by_value x (Some q) e h = k.all_values x q e
+  by_value x (Some q) e h = k.here.all_values x q e
 
   by_binding : (x : ℕ) (b : Bool) → is_bound u x ≡ b → (is_bound u x ≡ true → Contains all x) → is_variable (apply (valued values) (u x)) ≡ false → Contains all x
   by_binding x true e f h = f e
@@ -99,7 +94,7 @@ module _ (texts : List Text) (older : List HeapTerm) (c : Contents) (st : State)
 
   pairs : AllZip Pair (goals c.attrs) st.sleepers
   pairs = zip_right _ (λ (z : Sleeper). still_sleeps (state_of st.bindings z.asleep) ≡ true) (goals c.attrs) st.sleepers
-      (zip_both (IsSleeper texts c.heap now now) (λ (w : Waiting) (z : Sleeper). Awaits w z.asleep) (goals c.attrs) st.sleepers k.stands.sleepers k.awaited) k.task.rests.asleep
+      (zip_both (IsSleeper texts c.heap now now) (λ (w : Waiting) (z : Sleeper). Awaits w z.asleep) (goals c.attrs) st.sleepers k.here.stands.sleepers k.here.awaited) k.here.task.rests.asleep
 
   -- those that go on sleeping are those of the branch
   pub asleep : AllZip (IsSleeper texts c.heap now now) (filter (stays c.heap.images all) (goals c.attrs)) (left_asleep after st.sleepers)
@@ -205,13 +200,13 @@ module _ (texts : List Text) (older : List HeapTerm) (c : Contents) (st : State)
 
     pub stands_now : Stands texts final now now (record (kept_branch [] st p u c.told waiting fixed).state { bindings = now })
     stands_now = record {
-      bindings = k.stands.bindings;
-      linear = k.stands.linear;
-      delayed = rw constraints_left k.stands.delayed;
-      numeric = λ v. ap (λ (ns : List ℕ). Rattle.std.specs.List.list_any (λ (x : ℕ). Rattle.std.specs.Prelude.nat_eq x v) ns) w.numeric ∙ k.stands.numeric v;
+      bindings = k.here.stands.bindings;
+      linear = k.here.stands.linear;
+      delayed = rw constraints_left k.here.stands.delayed;
+      numeric = λ v. ap (λ (ns : List ℕ). Rattle.std.specs.List.list_any (λ (x : ℕ). Rattle.std.specs.Prelude.nat_eq x v) ns) w.numeric ∙ k.here.stands.numeric v;
       sleepers = rw goals_left asleep;
-      fresh = k.stands.fresh;
-      names = k.stands.names;
+      fresh = k.here.stands.fresh;
+      names = k.here.stands.names;
     }
 
     pub stands_after : Stands texts final after after (kept_branch [] st p u c.told waiting fixed).state
@@ -222,7 +217,7 @@ module _ (texts : List Text) (older : List HeapTerm) (c : Contents) (st : State)
 
     reads : (id : ℕ) (t : Tree) → id < length older → tree texts older id ≡ apply (unified st u) t → tree texts c.heap.terms id ≡ apply after t
     reads id t l e =
-        k.older_read id l ∙ ap (apply (valued values)) e ∙ sym (apply-followed_by (unified st u) (valued values) t) ∙ ap (λ (s : Subst Text). apply s t) same
+        k.here.older_read id l ∙ ap (apply (valued values)) e ∙ sym (apply-followed_by (unified st u) (valued values) t) ∙ ap (λ (s : Subst Text). apply s t) same
 
     pub is_kept : (old : Contents) → old.heap.terms ≡ older → IsKept texts old final woken st p u
     is_kept old e = record {
@@ -231,7 +226,7 @@ module _ (texts : List Text) (older : List HeapTerm) (c : Contents) (st : State)
       fixed = fixed;
       settles = settles texts older c st p u values waiting all k solvable fixed fixes;
       ready = record { stands = stands_after; rests = rests texts older c st p u values waiting all k solvable fixed fixes };
-      live = rw e k.older_live;
+      live = rw e k.here.older_live;
       reads = rw e reads;
       goals_live = All-from_recursion (λ id. id < length c.heap.terms) woken goals_are.live;
       woken = goals_are.read;

@@ -3,6 +3,8 @@ mod Ends
 mod Operands
 mod Moments
 mod Values
+mod Zips
+mod Here
 mod Closed
 mod Numeric
 mod Resting
@@ -14,5 +16,7 @@ mod Further
 mod Stood
 mod Looked
 mod Permuted
+mod Unique
 mod Refused
 mod Pruned
+mod Stops

@@ -2,7 +2,6 @@
 use Rattle.std.proofs.Common.{◌≡◌, ◌<◌, ℕ, List, [], ◌∷◌, ◌++◌, map, Bool, true, false, Option, None, Some, refl, sym, ap, ◌∙◌, subst, inl, inr, ◌⊎◌}
 use Rattle.std.specs.Prelude.{Contains, ◌&&◌, is_some, is_none}
 use Rattle.std.specs.List.{AllZip, list_any}
-use Rattle.std.proofs.lemmas.List.Elements.{Contains-append_left, Contains-append_right}
 use Rattle.spec_rational.specs.Rational.{ℚ}
 use Rattle.spec_linear.specs.Solution.{Has}
 use Rattle.spec_terms.specs.Term.{Subst, Occurs, apply}
@@ -57,17 +56,17 @@ module _ (f g : ℕ → Option ℚ) where
   gets_or_same t false e =
       inr (λ v o. sym (no_values_of (f v) (g v) (not_found (variables t) v (gets v) refl e (has_of_contains (variables t) v (occurs_listed t v o)))))
 
-  module _ (s : Subst Text) (numbers bound more : List ℕ) (told : (v : ℕ) (q : ℚ) → g v ≡ Some q → Contains more v) where
-    still_to_do : (k : Waiting) → IsToDo numbers bound k → IsToDo numbers (bound ++ more) k
+  module _ (s : Subst Text) (numbers bound more : List ℕ) (still : (v : ℕ) → Contains bound v → Contains more v) (told : (v : ℕ) (q : ℚ) → g v ≡ Some q → Contains more v) where
+    still_to_do : (k : Waiting) → IsToDo numbers bound k → IsToDo numbers more k
     still_to_do k (inl h) = inl h
-    still_to_do k (inr h) = inr (h.0, h.1, Contains-append_left bound more h.0 h.2)
+    still_to_do k (inr h) = inr (h.0, h.1, still h.0 h.2)
 
     one_looked : (k : Waiting) (t : Tree) → ((v : ℕ) → Occurs v (apply s t) → f v ≡ None → Contains k.watched v) → lin f (apply s t) ≡ Waits
-        → Gets (apply s t) ⊎ ((v : ℕ) → Occurs v (apply s t) → f v ≡ together f g v) → WaitsOrToDo s (together f g) numbers (bound ++ more) k t
-    one_looked k t w e (inl r) = inr (inr (r.variable, w r.variable r.occurs r.none_before, Contains-append_right bound more r.variable (told r.variable r.value r.later)))
+        → Gets (apply s t) ⊎ ((v : ℕ) → Occurs v (apply s t) → f v ≡ together f g v) → WaitsOrToDo s (together f g) numbers more k t
+    one_looked k t w e (inl r) = inr (inr (r.variable, w r.variable r.occurs r.none_before, told r.variable r.value r.later))
     one_looked k t w e (inr h) = inl (sym (lin_agree f (together f g) (apply s t) h) ∙ e)
 
     pub looked_further : (k : Waiting) (t : Tree) → ((v : ℕ) → Occurs v (apply s t) → f v ≡ None → Contains k.watched v) → WaitsOrToDo s f numbers bound k t
-        → WaitsOrToDo s (together f g) numbers (bound ++ more) k t
+        → WaitsOrToDo s (together f g) numbers more k t
     looked_further k t w (inl e) = one_looked k t w e (gets_or_same (apply s t) (list_any gets (variables (apply s t))) refl)
     looked_further k t w (inr d) = inr (still_to_do k d)

@@ -1,10 +1,11 @@
 -- The operations of a term are the same with fixed values bound.
-use Rattle.std.proofs.Common.{◌≡◌, ℕ, List, [], ◌∷◌, ◌++◌, Option, None, Some, refl, ap, ap₂, ◌∙◌}
+use Rattle.std.proofs.Common.{◌≡◌, ℕ, List, [], ◌∷◌, ◌++◌, Option, None, Some, refl, sym, ap, ap₂, ◌∙◌}
 use Rattle.spec_rational.specs.Rational.{ℚ}
 use Rattle.spec_linear.specs.Form.{Linear}
 use Rattle.spec_limits.specs.Overflow.{Operands}
 use Rattle.cq_frac.specs.declared.Operation.TheVariants.{Difference}
-use Rattle.spec_terms.specs.Term.{Var, Number, Name, Compound, one, more, apply}
+use Rattle.spec_terms.specs.Term.{Var, Number, Name, Compound, one, more, Occurs, apply}
+use Rattle.spec_terms.proofs.Substitution.{apply_agree}
 use Rattle.spec_syntax.specs.Trees.{Tree}
 use Rattle.spec_told.specs.Expressions.{binary_name, form_of}
 use Rattle.spec_branch.specs.Settling.{value_or_variable}
@@ -42,3 +43,10 @@ relation_same fixed (Compound f (more a (one b))) =
     (ap₂ (λ x y. both Difference x y) (form_same fixed a) (form_same fixed b)))
     (ap₂ (λ x y. both Difference y x) (form_same fixed a) (form_same fixed b))
 relation_same fixed (Compound f (more a (more b ts))) = refl
+
+-- a relation's operations depend on the values of its variables alone
+pub relation_agree : (f g : ℕ → Option ℚ) (t : Tree) → ((v : ℕ) → Occurs v t → f v ≡ g v) → relation_operands f t ≡ relation_operands g t
+relation_agree f g t h =
+    sym (relation_same f t)
+    ∙ ap (λ (x : Tree). relation_operands no_values x) (apply_agree (valued f) (valued g) t (λ v o. ap (λ (x : Option ℚ). value_or_variable x v) (h v o)))
+    ∙ relation_same g t

@@ -42,10 +42,10 @@ in_middle (z ∷ b) a x = contains_later z (b ++ x ∷ a) x (in_middle b a x)
 abbrev pub IsOnce : List ℕ → Type 0
 IsOnce xs = AllPairs ◌≢◌ xs
 
-once_rest : (x : ℕ) (xs : List ℕ) → IsOnce (x ∷ xs) → IsOnce xs
+pub once_rest : (x : ℕ) (xs : List ℕ) → IsOnce (x ∷ xs) → IsOnce xs
 once_rest x xs h i j d l m = h (suc i) (suc j) d (omega (arith, l)) (omega (arith, m))
 
-once_head : (x : ℕ) (xs : List ℕ) → IsOnce (x ∷ xs) → Contains xs x → ⊥
+pub once_head : (x : ℕ) (xs : List ℕ) → IsOnce (x ∷ xs) → Contains xs x → ⊥
 once_head x xs h m = h 0 (suc m.0) x (omega arith) (omega (arith, m.1)) (sym m.2)
 
 any_default : (ys : List ℕ) (j d e : ℕ) → j < length ys → get_or ys j e ≡ get_or ys j d
@@ -53,14 +53,14 @@ any_default [] j d e l = absurd (omega (arith, l))
 any_default (y ∷ ys) zero d e l = refl
 any_default (y ∷ ys) (suc j) d e l = any_default ys j d e (omega (arith, l))
 
-once_cons : (y : ℕ) (ys : List ℕ) → IsOnce ys → (Contains ys y → ⊥) → IsOnce (y ∷ ys)
+pub once_cons : (y : ℕ) (ys : List ℕ) → IsOnce ys → (Contains ys y → ⊥) → IsOnce (y ∷ ys)
 once_cons y ys o n zero zero d l m = absurd (omega (arith, l))
 once_cons y ys o n zero (suc j) d l m = λ e. n (j, omega (arith, m), any_default ys j d y (omega (arith, m)) ∙ sym e)
 once_cons y ys o n (suc i) zero d l m = absurd (omega (arith, l))
 once_cons y ys o n (suc i) (suc j) d l m = o i j d (omega (arith, l)) (omega (arith, m))
 
 -- the list without the element
-once_without : (b a : List ℕ) (x : ℕ) → IsOnce (b ++ x ∷ a) → IsOnce (b ++ a) × (Contains (b ++ a) x → ⊥)
+pub once_without : (b a : List ℕ) (x : ℕ) → IsOnce (b ++ x ∷ a) → IsOnce (b ++ a) × (Contains (b ++ a) x → ⊥)
 once_without [] a x h = (once_rest x a h, once_head x a h)
 once_without (z ∷ b) a x h =
     let r = once_without b a x (once_rest z (b ++ x ∷ a) h) in (

@@ -42,7 +42,7 @@ all_from [] f = tt
 all_from (x ∷ ts) f = (f x (inl refl), all_from ts (λ t h. f t (inr h)))
 
 module _ (texts : List Text) (older : List HeapTerm) (c : Contents) (st : State) (p : Pending) (u : Subst Text) (values : ℕ → Option ℚ) (waiting : List Tree) (all : List ℕ)
-    (k : IsUnderway texts older c st p u values [] waiting [] [] [] [] all) (solvable : Solvable c.told) (fixed : ℕ → Option ℚ) (fixes : Fixes c.told fixed) where
+    (k : IsUnderway texts older c st p u values waiting [] [] [] [] all) (solvable : Solvable c.told) (fixed : ℕ → Option ℚ) (fixes : Fixes c.told fixed) where
   abbrev after : Subst Text
   after = bindings_after st p u fixed
 
@@ -74,11 +74,11 @@ module _ (texts : List Text) (older : List HeapTerm) (c : Contents) (st : State)
   pub read_through : IsReadThrough (kept_branch [] st p u c.told waiting fixed).state
   read_through = record {
     through = λ v w o. let r = occurs_from (fixed_values n fixed) w (unified st u v) o in
-        at_free w (k.task.read_through.through v w (same_inside (unified st u v) w o)) ∙ still_unbound w r.0 r.2;
+        at_free w (k.here.task.read_through.through v w (same_inside (unified st u v) w o)) ∙ still_unbound w r.0 r.2;
     older = λ v w e. older v w e (unified st u v) refl;
-    below = λ v w l o. k.task.read_through.below v w l (same_inside (unified st u v) w o);
-    beyond = λ v l. at_free v (k.task.read_through.beyond v l) ∙ beyond v l (becomes n fixed v);
-    numeric = λ v e. numeric_below st p u k.task v e;
+    below = λ v w l o. k.here.task.read_through.below v w l (same_inside (unified st u v) w o);
+    beyond = λ v l. at_free v (k.here.task.read_through.beyond v l) ∙ beyond v l (becomes n fixed v);
+    numeric = λ v e. numeric_below st p u k.here.task v e;
   } where
     is_value : (x w : ℕ) (t : Tree) → Becomes n fixed x t → t ≡ Var w → x ≡ w
     is_value x w t (itself i f) e = let g : Var x ≡ Var w = sym i ∙ e in cc
@@ -87,14 +87,14 @@ module _ (texts : List Text) (older : List HeapTerm) (c : Contents) (st : State)
     older : (v w : ℕ) → after v ≡ Var w → (t : Tree) → unified st u v ≡ t → w ≤ v
     older v w e (Var x) i =
         let g : x ≡ w = is_value x w (fixed_values n fixed x) (becomes n fixed x) (ap (apply (fixed_values n fixed)) (sym i) ∙ e) in
-        subst (λ (y : ℕ). y ≤ v) g (k.task.read_through.older v x i)
+        subst (λ (y : ℕ). y ≤ v) g (k.here.task.read_through.older v x i)
     older v w e (Number q) i = let h : Number q ≡ Var w = ap (apply (fixed_values n fixed)) (sym i) ∙ e in cc
     older v w e (Name a) i = let h : Name a ≡ Var w = ap (apply (fixed_values n fixed)) (sym i) ∙ e in cc
     older v w e (Compound f ts) i = let h : apply (fixed_values n fixed) (Compound f ts) ≡ Var w = ap (apply (fixed_values n fixed)) (sym i) ∙ e in cc
 
     beyond : (v : ℕ) → st.fresh ≤ v → Becomes n fixed v (fixed_values n fixed v) → fixed_values n fixed v ≡ Var v
     beyond v l (itself e f) = e
-    beyond v l (number q e m) = absurd (omega (arith, l, numeric_below st p u k.task v m))
+    beyond v l (number q e m) = absurd (omega (arith, l, numeric_below st p u k.here.task v m))
 
   -- ---- numeric variables
 
@@ -111,8 +111,8 @@ module _ (texts : List Text) (older : List HeapTerm) (c : Contents) (st : State)
   no_clash_of (Compound f ts) e = cc
 
   pub no_clash : NoClash (kept_branch [] st p u c.told waiting fixed).state after
-  no_clash v e = elim (numeric_cases st p u k.task v e) [
-    | inl m ↦ no_clash_of (unified st u v) (k.task.no_clash v m)
+  no_clash v e = elim (numeric_cases st p u k.here.task v e) [
+    | inl m ↦ no_clash_of (unified st u v) (k.here.task.no_clash v m)
     | inr f ↦ (ap is_no_number (at_free v f.0) ∙ value_is_no_clash v)
   ]
 
@@ -168,13 +168,13 @@ module _ (texts : List Text) (older : List HeapTerm) (c : Contents) (st : State)
 
   image_term : (v w : ℕ) → st.numeric v ≡ true → after v ≡ Var w → (t : Tree) → unified st u v ≡ t → n w ≡ true
   image_term v w m e (Var x) i =
-      value_numeric x w (numeric_image st p u k.task v x m i) (fixed_values n fixed x) (becomes n fixed x) (ap (apply (fixed_values n fixed)) (sym i) ∙ e)
+      value_numeric x w (numeric_image st p u k.here.task v x m i) (fixed_values n fixed x) (becomes n fixed x) (ap (apply (fixed_values n fixed)) (sym i) ∙ e)
   image_term v w m e (Number q) i = let s : Number q ≡ Var w = ap (apply (fixed_values n fixed)) (sym i) ∙ e in cc
   image_term v w m e (Name a) i = let s : Name a ≡ Var w = ap (apply (fixed_values n fixed)) (sym i) ∙ e in cc
   image_term v w m e (Compound f ts) i = let s : apply (fixed_values n fixed) (Compound f ts) ≡ Var w = ap (apply (fixed_values n fixed)) (sym i) ∙ e in cc
 
   pub images : (v w : ℕ) → n v ≡ true → after v ≡ Var w → n w ≡ true
-  images v w m e = elim (numeric_cases st p u k.task v m) [
+  images v w m e = elim (numeric_cases st p u k.here.task v m) [
     | inl b ↦ image_term v w b e (unified st u v) refl
     | inr f ↦ value_numeric v w m (fixed_values n fixed v) (becomes n fixed v) (sym (at_free v f.0) ∙ e)
   ]

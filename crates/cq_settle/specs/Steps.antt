@@ -64,9 +64,13 @@ form_of_image t = variable_form 0
 abbrev pub equation_at : List HeapTerm → ℕ → Constraint
 equation_at images v = record { relation = Eq; form = difference_form (variable_form v) (form_of_image (at images v)) }
 
--- the equations of the numeric ones of the variables
+-- the numeric ones of the variables
+abbrev pub numeric_ones : Attributes → List VarId → List ℕ
+numeric_ones a newly = filter (is_numeric a) (numbers_of newly)
+
+-- their equations
 abbrev pub equations_of : Contents → List VarId → List Constraint
-equations_of c newly = map (equation_at c.heap.images) (filter (is_numeric c.attrs) (numbers_of newly))
+equations_of c newly = map (equation_at c.heap.images) (numeric_ones c.attrs newly)
 
 -- the constraints have joined the list, which keeps a solution, and the variables that they fix are told behind the others
 pub record HaveJoined (old more new : List Constraint) (before after : List VarId) : Type 0 where
@@ -92,7 +96,7 @@ Refuses pair l c = MayRefuse l (Only c) NoQuestion pair
 abbrev pub Takes : ℕ → List Constraint → Constraint → Type 0
 Takes n l c = MayTake l (Only c) NoQuestion n
 
--- the images of the numeric ones of the variables are numeric too
+-- the variable is the image of one of the variables
 abbrev pub is_image_of : List HeapTerm → List ℕ → ℕ → Bool
 is_image_of images vs w = list_any (λ v. is_the_variable w (at images v)) vs where
   is_the_variable : ℕ → HeapTerm → Bool
@@ -108,15 +112,16 @@ value_or_variable (Some q) v = Number q
 abbrev pub valued : (ℕ → Option ℚ) → Subst ℕ
 valued values v = value_or_variable (values v) v
 
--- Numeric variables that were unbound are bound to the values that the list gives them. All older terms are read so, the variables
--- are told behind the others, and each name that was known is known.
+-- Numeric variables that were unbound are bound to the values that the list gives them, and are told behind the others. All older
+-- terms are read so, and each name that was known is known.
 pub record BindsValues (a : Attributes) (told : List Constraint) (old new : Terms) (before after : List VarId) (values : ℕ → Option ℚ) : Type 0 where
   pub sound : (v : ℕ) (q : ℚ) → values v ≡ Some q → (is_numeric a v ≡ true) × (at old.images v ≡ Var v) × Fixed told v q
   pub longer : length old.terms ≤ length new.terms
   pub terms : (id : ℕ) → id < length old.terms → at new.terms id ≡ apply (valued values) (at old.terms id)
   pub images : new.images ≡ map (apply (valued values)) old.images
-  pub still : (v : ℕ) → Contains (numbers_of before) v → Contains (numbers_of after) v
-  pub newly : (v : ℕ) (q : ℚ) → values v ≡ Some q → Contains (numbers_of after) v
+  pub more : List VarId
+  pub list : after ≡ before ++ more
+  pub newly : (v : ℕ) (q : ℚ) → values v ≡ Some q → Contains (numbers_of more) v
   pub names : (n : ℕ) → KeepsNames n old new
 
 -- the constraint has joined the list, and the numeric variables that it fixes and that were unbound are bound

@@ -79,14 +79,12 @@ pub record IsReached (st : State) (p : Pending) (u : Subst Text) (l : List Const
 
 -- ---- values that are bound
 
--- The bound values are of numeric variables that were unbound and that the list fixes; each such variable is bound, or
--- stands in the list of those that are left.
-pub record AreBound (st : State) (p : Pending) (u : Subst Text) (l : List Constraint) (values : ℕ → Option ℚ) (left : List ℕ) : Type 0 where
+-- the bound values are those of the numeric variables that were unbound and that the list fixes
+pub record AreBound (st : State) (p : Pending) (u : Subst Text) (l : List Constraint) (values : ℕ → Option ℚ) : Type 0 where
   pub numeric : (v : ℕ) (q : ℚ) → values v ≡ Some q → numeric_then st p u v ≡ true
   pub unbound : (v : ℕ) (q : ℚ) → values v ≡ Some q → unified st u v ≡ Var v
   pub fixed : (v : ℕ) (q : ℚ) → values v ≡ Some q → Fixed l v q
-  pub complete : (v : ℕ) (q : ℚ) → numeric_then st p u v ≡ true → unified st u v ≡ Var v → Fixed l v q
-      → (values v ≡ Some q) ⊎ Contains left v
+  pub complete : (v : ℕ) (q : ℚ) → numeric_then st p u v ≡ true → unified st u v ≡ Var v → Fixed l v q → values v ≡ Some q
 
 -- ---- what is to be looked at
 
@@ -102,13 +100,12 @@ WaitsOrToDo s values numbers bound k t = (lin values (apply s t) ≡ Waits) ⊎ 
 abbrev pub state_then : State → Pending → Subst Text → List Constraint → List Tree → State
 state_then st p u l w = record st { linear = l; delayed = w; numeric = numeric_then st p u }
 
--- All equations and rows have joined. The world reads under the values that are bound, and the older terms are read with them;
--- `later` are the told terms that are left, by the ids of `rest`.
-pub record IsUnderway (texts : List Text) (older : List HeapTerm) (c : Contents) (st : State) (p : Pending) (u : Subst Text) (values : ℕ → Option ℚ) (left : List ℕ)
+-- The world reads under the values that are bound, and the older terms are read with them; `later` are the told terms that are
+-- left, by the ids of `rest`. A term that waits does so under these values, or is to be looked at.
+pub record IsHere (texts : List Text) (older : List HeapTerm) (c : Contents) (st : State) (p : Pending) (u : Subst Text) (values : ℕ → Option ℚ)
     (waiting later : List Tree) (rest numbers bound all : List ℕ) : Type 0 where
   pub task : IsTask st p u
-  pub reached : IsReached st p u c.told (waiting ++ later)
-  pub values : AreBound st p u c.told values left
+  pub are_bound : AreBound st p u c.told values
   pub stands : Stands texts c (bindings_now st u values) (bindings_now st u values) (state_then st p u c.told waiting)
   pub older_live : length older ≤ length c.heap.terms
   pub older_read : (id : ℕ) → id < length older → tree texts c.heap.terms id ≡ apply (valued values) (tree texts older id)
@@ -120,6 +117,12 @@ pub record IsUnderway (texts : List Text) (older : List HeapTerm) (c : Contents)
   pub rest_live : All (λ id. id < length c.heap.terms) rest
   pub rest_reads : trees texts c.heap.terms rest ≡ map (apply (bindings_now st u values)) later
   pub looked_at : AllZip (WaitsOrToDo (unified st u) values numbers bound) (constraints c.attrs) waiting
+
+-- all equations and rows have joined, some terms have, and the world is here
+pub record IsUnderway (texts : List Text) (older : List HeapTerm) (c : Contents) (st : State) (p : Pending) (u : Subst Text) (values : ℕ → Option ℚ)
+    (waiting later : List Tree) (rest numbers bound all : List ℕ) : Type 0 where
+  pub reached : IsReached st p u c.told (waiting ++ later)
+  pub here : IsHere texts older c st p u values waiting later rest numbers bound all
 
 -- ---- from one world to the next, whatever is being settled
 
@@ -136,11 +139,11 @@ to_do rest numbers bound all = record { rest = rest; numbers = numbers; bound = 
 -- a settling that is underway in one world is so in the other, with other terms left and other things to look at
 abbrev pub GoesOn : List Text → Contents → Contents → ToDo → ToDo → Type 0
 GoesOn texts c d i j = (st : State) (p : Pending) (u : Subst Text) (older : List HeapTerm) (values : ℕ → Option ℚ) (waiting later : List Tree)
-    → IsUnderway texts older c st p u values [] waiting later i.rest i.numbers i.bound i.all
+    → IsUnderway texts older c st p u values waiting later i.rest i.numbers i.bound i.all
     → (values' : ℕ → Option ℚ) × (waiting' : List Tree) × (later' : List Tree)
-    × IsUnderway texts older d st p u values' [] waiting' later' j.rest j.numbers j.bound j.all
+    × IsUnderway texts older d st p u values' waiting' later' j.rest j.numbers j.bound j.all
 
 -- what holds of each settling that is underway
 abbrev pub OfEach : List Text → Contents → ToDo → (State → Pending → Subst Text → Type 0) → Type 0
 OfEach texts c i P = (st : State) (p : Pending) (u : Subst Text) (older : List HeapTerm) (values : ℕ → Option ℚ) (waiting later : List Tree)
-    → IsUnderway texts older c st p u values [] waiting later i.rest i.numbers i.bound i.all → P st p u
+    → IsUnderway texts older c st p u values waiting later i.rest i.numbers i.bound i.all → P st p u

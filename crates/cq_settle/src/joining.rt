@@ -15,7 +15,7 @@ ghost use Rattle.cq_attr.specs.Attributes.{is_numeric};
 ghost use Rattle.cq_linear.specs.declared.store.StoreFault.TheVariants.{Overflow, Pivots};
 ghost use Rattle.cq_world.specs.Worlds.{now_of};
 ghost use Rattle.cq_settle.specs.Settled.{KeepsMarks};
-ghost use Rattle.cq_settle.specs.Steps.{is_neither, ClashesAt, AreThere, AreBoundThere, Follows, equation_at, equations_of, HaveJoined, StopsAt, CannotJoin, Refuses, Takes, is_image_of, BindsValues};
+ghost use Rattle.cq_settle.specs.Steps.{is_neither, ClashesAt, AreThere, AreBoundThere, Follows, equation_at, equations_of, numeric_ones, HaveJoined, StopsAt, CannotJoin, Refuses, Takes, is_image_of, BindsValues};
 
 use cq_attr::{Attrs, SuspNo};
 use cq_form::{Constraint, Form};
@@ -76,13 +76,14 @@ pub(crate) fn join_equations(
     fixed: &mut Vec<VarId>,
 ) -> Result<bool, StoreFault>
     requires bound { AreBoundThere world.old.heap.now.images newly.now }
+    requires older { All (λ (v : VarId). (w : ℕ) → at world.old.heap.now.images v.0 ≡ Var w → w < v.0) newly.now }
     requires values { All (λ v. ClashesAt (now_of world.old) v.0 → ⊥) newly.now }
     ensures joined { IfOk result (λ yes. MatchBool yes
         (HaveJoined world.old.store.told (equations_of (now_of world.old) newly.now) world.new.store.told fixed.old.items fixed.new.items)
         (StopsAt CannotJoin world.old.store.told (equations_of (now_of world.old) newly.now))) }
     ensures numeric { OnOk result ((v : ℕ) → is_numeric world.new.attrs.now v
-        ≡ (is_numeric world.old.attrs.now v || is_image_of world.old.heap.now.images (numbers_of newly.now) v)) }
-    ensures images { OnOk result ((v : ℕ) → is_image_of world.old.heap.now.images (numbers_of newly.now) v ≡ true
+        ≡ (is_numeric world.old.attrs.now v || is_image_of world.old.heap.now.images (numeric_ones world.old.attrs.now newly.now) v)) }
+    ensures images { OnOk result ((v : ℕ) → is_image_of world.old.heap.now.images (numeric_ones world.old.attrs.now newly.now) v ≡ true
         → Contains (numbers_of fixed.new.items) v) }
     ensures waiting { world.new.attrs.now.waiting ≡ world.old.attrs.now.waiting }
     ensures heap { world.new.heap.now ≡ world.old.heap.now }
