@@ -21,7 +21,7 @@ use Rattle.cq_settle.proofs.Ends.{AllWait, waiting_closed}
 use Rattle.cq_settle.proofs.Here.{agree, inside}
 use Rattle.cq_settle.proofs.Values.{lin_agree, one_image}
 
-nothing_behind : {A : Type 0} (xs : List A) → xs ++ [] ≡ xs
+pub nothing_behind : {A : Type 0} (xs : List A) → xs ++ [] ≡ xs
 nothing_behind [] = refl
 nothing_behind (x ∷ xs) = ap (λ ys. x ∷ ys) (nothing_behind xs)
 
@@ -32,10 +32,10 @@ nothing_to_do : (k : Waiting) → IsToDo [] [] k → ⊥
 nothing_to_do k (inl h) = no_member k.number h
 nothing_to_do k (inr h) = no_member h.0 h.2
 
-pub by_member : {P : Tree → Type 0} (ts : List Tree) → AllByRecursion P ts → (t : Tree) → Has t ts → P t
-by_member [] h t m = absurd m
-by_member {P} (x ∷ ts) h t (inl e) = subst P (sym e) h.0
-by_member (x ∷ ts) h t (inr m) = by_member ts h.1 t m
+pub by_member : (P : Tree → Type 0) (ts : List Tree) → AllByRecursion P ts → (t : Tree) → Has t ts → P t
+by_member P [] h t m = absurd m
+by_member P (x ∷ ts) h t (inl e) = subst P (sym e) h.0
+by_member P (x ∷ ts) h t (inr m) = by_member P ts h.1 t m
 
 module _ (s : Subst Text) (values : ℕ → Option ℚ) where
   waits_here : (k : Waiting) (t : Tree) → WaitsOrToDo s values [] [] k t → lin values (apply s t) ≡ Waits
@@ -56,7 +56,7 @@ module _ (texts : List Text) (older : List HeapTerm) (c : Contents) (st : State)
 
   pub numeric_inside : (t : Tree) → Has t waiting → (v : ℕ) → Occurs v (apply (unified st u) t) → numeric_then st p u v ≡ true
   numeric_inside t h =
-      by_member (waiting ++ []) k.here.numeric_terms t (subst (λ (ws : List Tree). Has t ws) (sym (nothing_behind waiting)) h)
+      by_member _ (waiting ++ []) k.here.numeric_terms t (subst (λ (ws : List Tree). Has t ws) (sym (nothing_behind waiting)) h)
 
   pub all_wait : AllWait (unified st u) fixed waiting
   all_wait t h =
@@ -76,6 +76,7 @@ module _ (texts : List Text) (older : List HeapTerm) (c : Contents) (st : State)
   }
 
   pub settles : (items : List Item) → SettlesUnified items st p u (Kept (kept_branch items st p u c.told waiting fixed))
+  unfolding settling
   settles items = kept k.here.task.no_clash settling solvable fixed fixes
 
   -- the bindings are those of the branch that is kept

@@ -13,7 +13,7 @@ use Rattle.spec_branch.proofs.Waiting.{one_map}
 abbrev pub AllWait : Subst Text → (ℕ → Option ℚ) → List Tree → Type 0
 AllWait s fixed w = (t : Tree) → Has t w → lin fixed (apply s t) ≡ Waits
 
-has_middle : (t : Tree) (before after : List Tree) → Has t (before ++ t ∷ after)
+pub has_middle : (t : Tree) (before after : List Tree) → Has t (before ++ t ∷ after)
 has_middle t [] after = inl refl
 has_middle t (u ∷ us) after = inr (has_middle t us after)
 

@@ -27,7 +27,7 @@ contains_or_not (x ∷ xs) v = by_test (nat_eq x v) refl (contains_or_not xs v) 
   by_test false e (inl h) = inl (contains_later x xs v h)
   by_test false e (inr g) = inr (λ h. neither (nat_eq-other x v e) g (contains_cases x xs v h))
 
-numbers_behind : (xs ys : List VarId) → numbers_of (xs ++ ys) ≡ numbers_of xs ++ numbers_of ys
+pub numbers_behind : (xs ys : List VarId) → numbers_of (xs ++ ys) ≡ numbers_of xs ++ numbers_of ys
 numbers_behind xs ys = map-append (λ (v : VarId). v.0) xs ys
 
 pub joins_nothing : (l : List Constraint) (fixed : List VarId) → HaveJoined l [] l fixed fixed

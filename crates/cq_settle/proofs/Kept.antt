@@ -164,8 +164,8 @@ module _ (texts : List Text) (older : List HeapTerm) (c : Contents) (st : State)
     pub read : map (tree texts c.heap.terms) ids ≡ map (apply after) gs
 
   one_goal : (o : Option ℕ) (r : Option Tree) (ids : List ℕ) (gs : List Tree) → WakesAlike o r → AreGoals ids gs → AreGoals (cons_option o ids) (cons_option r gs)
-  one_goal None None ids gs neither h = h
-  one_goal (Some id) (Some g) ids gs (both id g l e) h = record { live = (l, h.live); read = λ i. e i ∷ h.read i }
+  one_goal _ _ ids gs neither h = h
+  one_goal _ _ ids gs (both id g l e) h = record { live = (l, h.live); read = λ i. e i ∷ h.read i }
 
   pub all_goals : (ws : List Waiting) (zs : List Sleeper) → AllZip Pair ws zs → AreGoals (filter_map wakes_now ws) (filter_map wakes_there zs)
   all_goals [] [] z = record { live = tt; read = refl }
@@ -174,10 +174,10 @@ module _ (texts : List Text) (older : List HeapTerm) (c : Contents) (st : State)
   all_goals (x ∷ ws) (y ∷ zs) z = one_goal (wakes_now x) (wakes_there y) (filter_map wakes_now ws) (filter_map wakes_there zs) (alike x y z.0) (all_goals ws zs z.1)
 
   no_goal : (w : Waiting) (s : Susp) → w.susp ≡ s → is_goal s ≡ false → wakes_now w ≡ None
-  no_goal w (susp.Delayed t) e h = ap (λ (x : Susp). if waits_for_one all w then goal_that_wakes c.heap.images x else None) e ∙ none (waits_for_one all w) where
-    none : (d : Bool) → (if d then None {T = ℕ} else None) ≡ None
-    none true = refl
-    none false = refl
+  no_goal w (susp.Delayed t) e h = ap (λ (x : Susp). if waits_for_one all w then goal_that_wakes c.heap.images x else None) e ∙ never (waits_for_one all w) where
+    never : (d : Bool) → (if d then goal_that_wakes c.heap.images (susp.Delayed t) else None) ≡ None
+    never true = refl
+    never false = refl
   no_goal w (susp.Goal v t) e h = cc
 
   among_goals : (w : Waiting) (ids : List ℕ) (ws : List Waiting) (b : Bool) → is_goal w.susp ≡ b → cons_option (wakes_now w) (filter_map wakes_now ws) ≡ filter_map wakes_now (cond b (w ∷ ws) ws)
@@ -213,7 +213,7 @@ module _ (texts : List Text) (older : List HeapTerm) (c : Contents) (st : State)
     stands_after = subst (λ (s : Subst Text). Stands texts final s s (record (kept_branch [] st p u c.told waiting fixed).state { bindings = s })) same stands_now
 
     goals_are : AreGoals woken (woken_goals after st.sleepers)
-    goals_are = subst (λ (ids : List ℕ). AreGoals ids (woken_goals after st.sleepers)) (sym (w.goals ∙ only_goals c.attrs.waiting)) (all_goals (goals c.attrs) st.sleepers pairs)
+    goals_are = subst (λ (ids : List ℕ). AreGoals ids (woken_goals after st.sleepers)) (sym (w.given ∙ only_goals c.attrs.waiting)) (all_goals (goals c.attrs) st.sleepers pairs)
 
     reads : (id : ℕ) (t : Tree) → id < length older → tree texts older id ≡ apply (unified st u) t → tree texts c.heap.terms id ≡ apply after t
     reads id t l e =

@@ -20,3 +20,4 @@ mod Unique
 mod Refused
 mod Pruned
 mod Stops
+mod Progress

@@ -82,7 +82,7 @@ module _ (st : State) (p : Pending) (u : Subst Text) (k : IsTask st p u) where
       let w = found_any (λ w. w == v) (variables (apply (unified st u) t.item)) t.passes in
       let o : Occurs w.item (apply (unified st u) t.item) = listed_occurs (apply (unified st u) t.item) w.item (contains_of_has _ w.item w.among) in
       let o' : Occurs v (apply (unified st u) t.item) = subst (λ (x : ℕ). Occurs x (apply (unified st u) t.item)) (nat_eq-same w.item v w.passes) o in
-      (of_term t.item v o', by_member p.told k.told_below t.item t.among v o')
+      (of_term t.item v o', by_member _ p.told k.told_below t.item t.among v o')
 
   -- a numeric variable was so, or is unbound
   pub numeric_cases : (v : ℕ) → numeric_then st p u v ≡ true → (st.numeric v ≡ true) ⊎ IsFree v
@@ -127,7 +127,7 @@ any_found test [] x h e = absurd h
 any_found test (y ∷ xs) x (inl i) e = or_left (test y) (list_any test xs) (ap test (sym i) ∙ e)
 any_found test (y ∷ xs) x (inr h) e = or_right (test y) (list_any test xs) (any_found test xs x h e)
 
-variable_bound : (y : ℕ) (t : Tree) → not (is_the_variable y t) ≡ false → t ≡ Var y
+pub variable_bound : (y : ℕ) (t : Tree) → not (is_the_variable y t) ≡ false → t ≡ Var y
 variable_bound y t e = variable_from y t (turned (is_the_variable y t) e) where
   turned : (b : Bool) → not b ≡ false → b ≡ true
   turned true e = refl

@@ -75,26 +75,26 @@ module _ (texts : List Text) (older : List HeapTerm) (c : Contents) (st : State)
   read_through = record {
     through = λ v w o. let r = occurs_from (fixed_values n fixed) w (unified st u v) o in
         at_free w (k.here.task.read_through.through v w (same_inside (unified st u v) w o)) ∙ still_unbound w r.0 r.2;
-    older = λ v w e. older v w e (unified st u v) refl;
+    older = λ v w e. older_by v w e (unified st u v) refl;
     below = λ v w l o. k.here.task.read_through.below v w l (same_inside (unified st u v) w o);
-    beyond = λ v l. at_free v (k.here.task.read_through.beyond v l) ∙ beyond v l (becomes n fixed v);
+    beyond = λ v l. at_free v (k.here.task.read_through.beyond v l) ∙ beyond_by v l (becomes n fixed v);
     numeric = λ v e. numeric_below st p u k.here.task v e;
   } where
     is_value : (x w : ℕ) (t : Tree) → Becomes n fixed x t → t ≡ Var w → x ≡ w
     is_value x w t (itself i f) e = let g : Var x ≡ Var w = sym i ∙ e in cc
     is_value x w t (number q i g) e = let h : Number q ≡ Var w = sym i ∙ e in cc
 
-    older : (v w : ℕ) → after v ≡ Var w → (t : Tree) → unified st u v ≡ t → w ≤ v
-    older v w e (Var x) i =
+    older_by : (v w : ℕ) → after v ≡ Var w → (t : Tree) → unified st u v ≡ t → w ≤ v
+    older_by v w e (Var x) i =
         let g : x ≡ w = is_value x w (fixed_values n fixed x) (becomes n fixed x) (ap (apply (fixed_values n fixed)) (sym i) ∙ e) in
         subst (λ (y : ℕ). y ≤ v) g (k.here.task.read_through.older v x i)
-    older v w e (Number q) i = let h : Number q ≡ Var w = ap (apply (fixed_values n fixed)) (sym i) ∙ e in cc
-    older v w e (Name a) i = let h : Name a ≡ Var w = ap (apply (fixed_values n fixed)) (sym i) ∙ e in cc
-    older v w e (Compound f ts) i = let h : apply (fixed_values n fixed) (Compound f ts) ≡ Var w = ap (apply (fixed_values n fixed)) (sym i) ∙ e in cc
+    older_by v w e (Number q) i = let h : Number q ≡ Var w = ap (apply (fixed_values n fixed)) (sym i) ∙ e in cc
+    older_by v w e (Name a) i = let h : Name a ≡ Var w = ap (apply (fixed_values n fixed)) (sym i) ∙ e in cc
+    older_by v w e (Compound f ts) i = let h : apply (fixed_values n fixed) (Compound f ts) ≡ Var w = ap (apply (fixed_values n fixed)) (sym i) ∙ e in cc
 
-    beyond : (v : ℕ) → st.fresh ≤ v → Becomes n fixed v (fixed_values n fixed v) → fixed_values n fixed v ≡ Var v
-    beyond v l (itself e f) = e
-    beyond v l (number q e m) = absurd (omega (arith, l, numeric_below st p u k.here.task v m))
+    beyond_by : (v : ℕ) → st.fresh ≤ v → Becomes n fixed v (fixed_values n fixed v) → fixed_values n fixed v ≡ Var v
+    beyond_by v l (itself e f) = e
+    beyond_by v l (number q e m) = absurd (omega (arith, l, numeric_below st p u k.here.task v m))
 
   -- ---- numeric variables
 

@@ -21,16 +21,19 @@ number_in (w ∷ ws) k h =
     ]
 
 -- two that wait under one number
+same_or_rest : (w : Waiting) (ws : List Waiting) (k m : Waiting) → IsOnce (numbers (w ∷ ws)) → k.number ≡ m.number → (Contains ws k → Contains ws m → k ≡ m)
+    → (w ≡ k) ⊎ Contains ws k → (w ≡ m) ⊎ Contains ws m → k ≡ m
+same_or_rest w ws k m o e f (inl a) (inl b) = sym a ∙ b
+same_or_rest w ws k m o e f (inl a) (inr b) =
+    absurd (once_head w.number (numbers ws) o (subst (λ (n : ℕ). Contains (numbers ws) n) (sym e ∙ sym (ap (λ (x : Waiting). x.number) a)) (number_in ws m b)))
+same_or_rest w ws k m o e f (inr a) (inl b) =
+    absurd (once_head w.number (numbers ws) o (subst (λ (n : ℕ). Contains (numbers ws) n) (e ∙ sym (ap (λ (x : Waiting). x.number) b)) (number_in ws k a)))
+same_or_rest w ws k m o e f (inr a) (inr b) = f a b
+
 pub one_number : (ws : List Waiting) (k m : Waiting) → IsOnce (numbers ws) → Contains ws k → Contains ws m → k.number ≡ m.number → k ≡ m
 one_number [] k m o h g e = absurd (contains_none k h)
-one_number (w ∷ ws) k m o h g e = by_case (contains_cases w ws k h) (contains_cases w ws m g) where
-  by_case : (w ≡ k) ⊎ Contains ws k → (w ≡ m) ⊎ Contains ws m → k ≡ m
-  by_case (inl a) (inl b) = sym a ∙ b
-  by_case (inl a) (inr b) =
-      absurd (once_head w.number (numbers ws) o (subst (λ (n : ℕ). Contains (numbers ws) n) (sym e ∙ sym (ap (λ (x : Waiting). x.number) a)) (number_in ws m b)))
-  by_case (inr a) (inl b) =
-      absurd (once_head w.number (numbers ws) o (subst (λ (n : ℕ). Contains (numbers ws) n) (e ∙ sym (ap (λ (x : Waiting). x.number) b)) (number_in ws k a)))
-  by_case (inr a) (inr b) = one_number ws k m (once_rest w.number (numbers ws) o) a b e
+one_number (w ∷ ws) k m o h g e =
+    same_or_rest w ws k m o e (λ a b. one_number ws k m (once_rest w.number (numbers ws) o) a b e) (contains_cases w ws k h) (contains_cases w ws m g)
 
 -- what is found under a number
 pub record WaitsUnder (ws : List Waiting) (n : ℕ) (s : Susp) : Type 0 where
@@ -39,14 +42,16 @@ pub record WaitsUnder (ws : List Waiting) (n : ℕ) (s : Susp) : Type 0 where
   pub number : waiting.number ≡ n
   pub is : waiting.susp ≡ s
 
+found_here : (w : Waiting) (ws : List Waiting) (n : ℕ) (s : Susp) (b : Bool) → (w.number == n) ≡ b → (if b then Some w.susp else find ws n) ≡ Some s
+    → (find ws n ≡ Some s → WaitsUnder ws n s) → WaitsUnder (w ∷ ws) n s
+found_here w ws n s true i e f = let h : w.susp ≡ s = cc in record { waiting = w; waits = contains_here w ws w refl; number = nat_eq-same w.number n i; is = h }
+found_here w ws n s false i e f =
+    let r = f e in
+    record { waiting = r.waiting; waits = contains_later w ws r.waiting r.waits; number = r.number; is = r.is }
+
 pub found_waits : (ws : List Waiting) (n : ℕ) (s : Susp) → find ws n ≡ Some s → WaitsUnder ws n s
 found_waits [] n s e = cc
-found_waits (w ∷ ws) n s e = by_test (w.number == n) refl e where
-  by_test : (b : Bool) → (w.number == n) ≡ b → (if b then Some w.susp else find ws n) ≡ Some s → WaitsUnder (w ∷ ws) n s
-  by_test true i e = let h : w.susp ≡ s = cc in record { waiting = w; waits = contains_here w ws w refl; number = nat_eq-same w.number n i; is = h }
-  by_test false i e =
-      let r = found_waits ws n s e in
-      record { waiting = r.waiting; waits = contains_later w ws r.waiting r.waits; number = r.number; is = r.is }
+found_waits (w ∷ ws) n s e = found_here w ws n s (w.number == n) refl e (λ i. found_waits ws n s i)
 
 pub susp_under : (ws : List Waiting) (n : ℕ) (s : Susp) (k : Waiting) → IsOnce (numbers ws) → find ws n ≡ Some s → Contains ws k → k.number ≡ n → k.susp ≡ s
 susp_under ws n s k o e h i =
@@ -59,15 +64,17 @@ kept_once : (b : Bool) (w : Waiting) (ws : List Waiting) → IsOnce (numbers ws)
 kept_once true w ws o n = once_cons w.number (numbers ws) o n
 kept_once false w ws o n = o
 
+number_kept : (b : Bool) (w : Waiting) (vs : List Waiting) (n : ℕ) → Contains (numbers (cond b (w ∷ vs) vs)) n → (w.number ≡ n) ⊎ Contains (numbers vs) n
+number_kept true w vs n h = contains_cases w.number (numbers vs) n h
+number_kept false w vs n h = inr h
+
 numbers_unfiltered : (p : Waiting → Bool) (ws : List Waiting) (n : ℕ) → Contains (numbers (filter p ws)) n → Contains (numbers ws) n
 numbers_unfiltered p [] n h = h
-numbers_unfiltered p (w ∷ ws) n h = by_test (p w) h where
-  either : (w.number ≡ n) ⊎ Contains (numbers (filter p ws)) n → Contains (w.number ∷ numbers ws) n
-  either (inl e) = contains_here w.number (numbers ws) n e
-  either (inr m) = contains_later w.number (numbers ws) n (numbers_unfiltered p ws n m)
-  by_test : (b : Bool) → Contains (numbers (cond b (w ∷ filter p ws) (filter p ws))) n → Contains (w.number ∷ numbers ws) n
-  by_test true h = either (contains_cases w.number (numbers (filter p ws)) n h)
-  by_test false h = either (inr h)
+numbers_unfiltered p (w ∷ ws) n h =
+    elim (number_kept (p w) w (filter p ws) n h) [
+      | inl e ↦ contains_here w.number (numbers ws) n e
+      | inr m ↦ contains_later w.number (numbers ws) n (numbers_unfiltered p ws n m)
+    ]
 
 pub once_filtered : (p : Waiting → Bool) (ws : List Waiting) → IsOnce (numbers ws) → IsOnce (numbers (filter p ws))
 once_filtered p [] o = o

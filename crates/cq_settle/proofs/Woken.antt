@@ -32,7 +32,7 @@ kept_cases p x xs true c e = ap (λ (d : Bool). cond d (x ∷ filter p xs) (filt
 kept_cases p x xs false c e = refl
 
 module _ (images : List HeapTerm) (bound : List ℕ) where
-  abbrev stays : Waiting → Bool
+  abbrev pub stays : Waiting → Bool
   stays k = not (waits_for_one bound k && wakes images k)
 
   constraint_stays : (k : Waiting) (s : Susp) → k.susp ≡ s → is_constraint s ≡ true → stays k ≡ true

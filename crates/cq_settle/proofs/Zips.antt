@@ -6,13 +6,13 @@ use Rattle.cq_attr.proofs.Elements.{contains_here, contains_later, contains_case
 
 -- both of a pair stand to one of a third list
 pub zip_across : {A B C : Type 0} (R : A → B → Type 0) (S : A → C → Type 0) (T : B → C → Type 0) → ((a : A) (b : B) (c : C) → R a b → S a c → T b c)
-    → (as : List A) (bs : List B) (cs : List C) → AllZip R as bs → AllZip S as cs → AllZip T bs cs
+    → (xs : List A) (ys : List B) (zs : List C) → AllZip R xs ys → AllZip S xs zs → AllZip T ys zs
 zip_across R S T f [] [] [] r s = tt
-zip_across R S T f [] [] (z ∷ cs) r s = absurd s
-zip_across R S T f [] (y ∷ bs) cs r s = absurd r
-zip_across R S T f (x ∷ as) [] cs r s = absurd r
-zip_across R S T f (x ∷ as) (y ∷ bs) [] r s = absurd s
-zip_across R S T f (x ∷ as) (y ∷ bs) (z ∷ cs) r s = (f x y z r.0 s.0, zip_across R S T f as bs cs r.1 s.1)
+zip_across R S T f [] [] (z ∷ zs) r s = absurd s
+zip_across R S T f [] (y ∷ ys) zs r s = absurd r
+zip_across R S T f (x ∷ xs) [] zs r s = absurd r
+zip_across R S T f (x ∷ xs) (y ∷ ys) [] r s = absurd s
+zip_across R S T f (x ∷ xs) (y ∷ ys) (z ∷ zs) r s = (f x y z r.0 s.0, zip_across R S T f xs ys zs r.1 s.1)
 
 -- with a fact of each left element
 pub zip_left : {A B : Type 0} (R : A → B → Type 0) (P : A → Type 0) (xs : List A) (ys : List B) → AllZip R xs ys → ((x : A) → Contains xs x → P x)
@@ -35,17 +35,17 @@ zip_append R [] (y ∷ ys) vs ws r s = absurd r
 zip_append R (x ∷ xs) [] vs ws r s = absurd r
 zip_append R (x ∷ xs) (y ∷ ys) vs ws r s = (r.0, zip_append R xs ys vs ws r.1 s)
 
-pub all_append : {A : Type 0} {P : A → Type 0} (xs ys : List A) → AllByRecursion P xs → AllByRecursion P ys → AllByRecursion P (xs ++ ys)
-all_append [] ys f g = g
-all_append (x ∷ xs) ys f g = (f.0, all_append xs ys f.1 g)
+pub all_append : {A : Type 0} (P : A → Type 0) (xs ys : List A) → AllByRecursion P xs → AllByRecursion P ys → AllByRecursion P (xs ++ ys)
+all_append P [] ys f g = g
+all_append P (x ∷ xs) ys f g = (f.0, all_append P xs ys f.1 g)
 
-pub all_front : {A : Type 0} {P : A → Type 0} (xs ys : List A) → AllByRecursion P (xs ++ ys) → AllByRecursion P xs
-all_front [] ys f = tt
-all_front (x ∷ xs) ys f = (f.0, all_front xs ys f.1)
+pub all_front : {A : Type 0} (P : A → Type 0) (xs ys : List A) → AllByRecursion P (xs ++ ys) → AllByRecursion P xs
+all_front P [] ys f = tt
+all_front P (x ∷ xs) ys f = (f.0, all_front P xs ys f.1)
 
-pub all_behind : {A : Type 0} {P : A → Type 0} (xs ys : List A) → AllByRecursion P (xs ++ ys) → AllByRecursion P ys
-all_behind [] ys f = f
-all_behind (x ∷ xs) ys f = all_behind xs ys f.1
+pub all_behind : {A : Type 0} (P : A → Type 0) (xs ys : List A) → AllByRecursion P (xs ++ ys) → AllByRecursion P ys
+all_behind P [] ys f = f
+all_behind P (x ∷ xs) ys f = all_behind P xs ys f.1
 
 kept_case : {A : Type 0} (b : Bool) (x y : A) (xs : List A) → Contains (cond b (x ∷ xs) xs) y → (x ≡ y) ⊎ Contains xs y
 kept_case true x y xs h = contains_cases x xs y h
@@ -68,23 +68,36 @@ pub record Partner {A B : Type 0} (R : A → B → Type 0) (xs : List A) (ys : L
   pub pair : R x partner
   pub pairs_after : AllZip R left_after after
 
+partner_here : {A B : Type 0} (R : A → B → Type 0) (w : A) (xs : List A) (y : B) (ys : List B) (x : A) → R w y → AllZip R xs ys → w ≡ x → Partner R (w ∷ xs) (y ∷ ys) x
+partner_here R w xs y ys x r z e = record {
+  left_before = [];
+  left_after = xs;
+  before = [];
+  partner = y;
+  after = ys;
+  left = ap (λ v. v ∷ xs) e;
+  right = refl;
+  pairs_before = tt;
+  pair = subst (λ v. R v y) e r;
+  pairs_after = z;
+}
+
+partner_later : {A B : Type 0} (R : A → B → Type 0) (w : A) (xs : List A) (y : B) (ys : List B) (x : A) → R w y → Partner R xs ys x → Partner R (w ∷ xs) (y ∷ ys) x
+partner_later R w xs y ys x s r = record {
+  left_before = w ∷ r.left_before;
+  left_after = r.left_after;
+  before = y ∷ r.before;
+  partner = r.partner;
+  after = r.after;
+  left = ap (λ vs. w ∷ vs) r.left;
+  right = ap (λ vs. y ∷ vs) r.right;
+  pairs_before = (s, r.pairs_before);
+  pair = r.pair;
+  pairs_after = r.pairs_after;
+}
+
 pub partner_of : {A B : Type 0} (R : A → B → Type 0) (xs : List A) (ys : List B) (x : A) → AllZip R xs ys → Contains xs x → Partner R xs ys x
 partner_of R [] ys x z h = absurd (contains_none x h)
 partner_of R (w ∷ xs) [] x z h = absurd z
-partner_of R (w ∷ xs) (y ∷ ys) x z h = by_case (contains_cases w xs x h) where
-  by_case : (w ≡ x) ⊎ Contains xs x → Partner R (w ∷ xs) (y ∷ ys) x
-  by_case (inl e) = record { left_before = []; left_after = xs; before = []; partner = y; after = ys; left = ap (λ v. v ∷ xs) e; right = refl; pairs_before = tt; pair = subst (λ v. R v y) e z.0; pairs_after = z.1 }
-  by_case (inr m) =
-      let r = partner_of R xs ys x z.1 m in
-      record {
-        left_before = w ∷ r.left_before;
-        left_after = r.left_after;
-        before = y ∷ r.before;
-        partner = r.partner;
-        after = r.after;
-        left = ap (λ vs. w ∷ vs) r.left;
-        right = ap (λ vs. y ∷ vs) r.right;
-        pairs_before = (z.0, r.pairs_before);
-        pair = r.pair;
-        pairs_after = r.pairs_after;
-      }
+partner_of R (w ∷ xs) (y ∷ ys) x z h =
+    elim (contains_cases w xs x h) [ inl e ↦ partner_here R w xs y ys x z.0 z.1 e | inr m ↦ partner_later R w xs y ys x z.0 (partner_of R xs ys x z.1 m) ]

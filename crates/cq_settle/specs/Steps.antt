@@ -155,5 +155,5 @@ wakes images k = is_some (goal_that_wakes images k.susp)
 pub record WakesAll (c : Contents) (bound : List ℕ) (a : Attributes) (goals : List ℕ) : Type 0 where
   pub numeric : a.numeric ≡ c.attrs.numeric
   pub next : a.next ≡ c.attrs.next
-  pub goals : goals ≡ filter_map (λ k. if waits_for_one bound k then goal_that_wakes c.heap.images k.susp else None) c.attrs.waiting
+  pub given : goals ≡ filter_map (λ k. if waits_for_one bound k then goal_that_wakes c.heap.images k.susp else None) c.attrs.waiting
   pub waiting : a.waiting ≡ filter (λ k. not (waits_for_one bound k && wakes c.heap.images k)) c.attrs.waiting

@@ -96,6 +96,10 @@ IsToDo numbers bound k = Contains numbers k.number ⊎ ((v : ℕ) × Contains k.
 abbrev pub WaitsOrToDo : Subst Text → (ℕ → Option ℚ) → List ℕ → List ℕ → Waiting → Tree → Type 0
 WaitsOrToDo s values numbers bound k t = (lin values (apply s t) ≡ Waits) ⊎ IsToDo numbers bound k
 
+-- the goal waits for the variable that it had before; where that was bound, it is among all that were
+abbrev pub Awaits : State → Subst Text → List ℕ → Waiting → Sleeper → Type 0
+Awaits st u all k z = (v : ℕ) → IsAwaited st.bindings v z.asleep → Contains k.watched v × (is_bound u v ≡ true → Contains all v)
+
 -- the state with what has joined, what waits, and the variables that are numeric
 abbrev pub state_then : State → Pending → Subst Text → List Constraint → List Tree → State
 state_then st p u l w = record st { linear = l; delayed = w; numeric = numeric_then st p u }
@@ -109,9 +113,8 @@ pub record IsHere (texts : List Text) (older : List HeapTerm) (c : Contents) (st
   pub stands : Stands texts c (bindings_now st u values) (bindings_now st u values) (state_then st p u c.told waiting)
   pub older_live : length older ≤ length c.heap.terms
   pub older_read : (id : ℕ) → id < length older → tree texts c.heap.terms id ≡ apply (valued values) (tree texts older id)
-  -- each goal waits for the variable that it had before; `all` has that variable where it was bound, and each that got a value
-  pub awaited : AllZip (λ (k : Waiting) (z : Sleeper). (v : ℕ) → IsAwaited st.bindings v z.asleep
-      → Contains k.watched v × (is_bound u v ≡ true → Contains all v)) (goals c.attrs) st.sleepers
+  -- `all` has the variable of each goal where it was bound, and each variable that got a value
+  pub awaited : AllZip (Awaits st u all) (goals c.attrs) st.sleepers
   pub all_values : (v : ℕ) (q : ℚ) → values v ≡ Some q → Contains all v
   pub numeric_terms : AllByRecursion (λ t. (v : ℕ) → Occurs v (apply (unified st u) t) → numeric_then st p u v ≡ true) (waiting ++ later)
   pub rest_live : All (λ id. id < length c.heap.terms) rest

@@ -7,7 +7,7 @@ ghost use Rattle.spec_terms.specs.Term.{Var};
 ghost use Rattle.cq_frac.specs.declared.Pair.{Pair};
 ghost use Rattle.cq_term.specs.Meaning.{at};
 ghost use Rattle.cq_walk.specs.Places.{numbers_of};
-ghost use Rattle.cq_attr.specs.Attributes.{is_numeric, numbers, find};
+ghost use Rattle.cq_attr.specs.Attributes.{is_numeric, numbers, find, Ascends};
 ghost use Rattle.cq_linear.specs.declared.store.StoreFault.TheVariants.{Overflow, Pivots};
 ghost use Rattle.cq_world.specs.Standing.{constraints};
 ghost use Rattle.cq_world.specs.Worlds.{now_of};
@@ -133,25 +133,26 @@ pub(crate) fn close(world: &mut World, atoms: &Atoms, newly: &mut Newly) -> Resu
 fn look_again(
     world: &mut World,
     atoms: &Atoms,
-    numbers: &[SuspNo],
+    woken: &[SuspNo],
     newly: &mut Newly,
 ) -> Result<bool, StoreFault>
     requires whole { IsWhole atoms.now (now_of world.old) }
-    requires waits { All (λ n. Contains (numbers world.old.attrs.now.waiting) n) numbers.now }
+    requires ascending { Ascends woken.now }
+    requires waits { All (λ n. Contains (numbers world.old.attrs.now.waiting) n) woken.now }
     ensures looked { IfOk result (λ yes. MatchBool yes
-        (GoesOn atoms.now (now_of world.old) (now_of world.new) (to_do [] numbers.now [] (numbers_of newly.old)) (to_do [] [] (numbers_of (drop (length newly.old) newly.new)) (numbers_of newly.new)))
-        (OfEach atoms.now (now_of world.old) (to_do [] numbers.now [] (numbers_of newly.old)) IsPruned)) }
+        (GoesOn atoms.now (now_of world.old) (now_of world.new) (to_do [] woken.now [] (numbers_of newly.old)) (to_do [] [] (numbers_of (drop (length newly.old) newly.new)) (numbers_of newly.new)))
+        (OfEach atoms.now (now_of world.old) (to_do [] woken.now [] (numbers_of newly.old)) IsPruned)) }
     ensures whole { OnOk result (IsWhole atoms.now (now_of world.new)) }
     ensures fewer { length (constraints world.new.attrs.now) ≤ length (constraints world.old.attrs.now) }
     ensures newly { (more : List VarId) × (newly.new ≡ newly.old ++ more) }
     ensures none { length (constraints world.new.attrs.now) ≡ length (constraints world.old.attrs.now) → newly.new ≡ newly.old }
     ensures overflow { (pair : Pair) → result ≡ Err (Overflow pair)
-        → OfEach atoms.now (now_of world.old) (to_do [] numbers.now [] (numbers_of newly.old)) (λ st p u. MayRefuse st p pair) }
+        → OfEach atoms.now (now_of world.old) (to_do [] woken.now [] (numbers_of newly.old)) (λ st p u. MayRefuse st p pair) }
     ensures pivots { (n : ℕ) → result ≡ Err (Pivots n) → (n ≡ world.old.store.pivots)
-        × OfEach atoms.now (now_of world.old) (to_do [] numbers.now [] (numbers_of newly.old)) (λ st p u. MayTake st p n) }
+        × OfEach atoms.now (now_of world.old) (to_do [] woken.now [] (numbers_of newly.old)) (λ st p u. MayTake st p n) }
     ensures marks { KeepsMarks world.old world.new }
 {
-    for &number in numbers {
+    for &number in woken {
         if let Susp::Delayed(term) = *world.attrs.susp(number) {
             if !rejoin(world, atoms, number, term, newly)? {
                 return Ok(false);
