@@ -21,3 +21,5 @@ mod Refused
 mod Pruned
 mod Stops
 mod Progress
+mod Taken
+mod Terms

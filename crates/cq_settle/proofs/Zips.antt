@@ -101,3 +101,19 @@ partner_of R [] ys x z h = absurd (contains_none x h)
 partner_of R (w ∷ xs) [] x z h = absurd z
 partner_of R (w ∷ xs) (y ∷ ys) x z h =
     elim (contains_cases w xs x h) [ inl e ↦ partner_here R w xs y ys x z.0 z.1 e | inr m ↦ partner_later R w xs y ys x z.0 (partner_of R xs ys x z.1 m) ]
+
+kept_first : {A : Type 0} (b : Bool) (x y : A) (xs : List A) → b ≡ true → x ≡ y → Contains (cond b (x ∷ xs) xs) y
+kept_first true x y xs e h = contains_here x xs y h
+kept_first false x y xs e h = cc
+
+kept_later : {A : Type 0} (b : Bool) (x y : A) (xs : List A) → Contains xs y → Contains (cond b (x ∷ xs) xs) y
+kept_later true x y xs h = contains_later x xs y h
+kept_later false x y xs h = h
+
+pub contains_filtered : {A : Type 0} (p : A → Bool) (xs : List A) (y : A) → Contains xs y → p y ≡ true → Contains (filter p xs) y
+contains_filtered p [] y h e = h
+contains_filtered p (x ∷ xs) y h e =
+    elim (contains_cases x xs y h) [
+      | inl i ↦ kept_first (p x) x y (filter p xs) (ap p i ∙ e) i
+      | inr m ↦ kept_later (p x) x y (filter p xs) (contains_filtered p xs y m e)
+    ]
