@@ -23,3 +23,5 @@ mod Stops
 mod Progress
 mod Taken
 mod Terms
+mod Forms
+mod Binding

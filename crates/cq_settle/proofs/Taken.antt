@@ -25,7 +25,7 @@ use Rattle.cq_settle.proofs.Zips.{Partner, partner_of, zip_left, zip_append, all
 
 -- where a constraint waits under a number, the others have other numbers
 module _ (a : Attributes) (n id : ℕ) (once : IsOnce (numbers a.waiting)) (found : find a.waiting n ≡ Some (susp.Delayed id)) where
-  under : WaitsUnder a.waiting n (susp.Delayed id)
+  abbrev pub under : WaitsUnder a.waiting n (susp.Delayed id)
   under = found_waits a.waiting n (susp.Delayed id) found
 
   pub is_among : Contains (constraints a) under.waiting

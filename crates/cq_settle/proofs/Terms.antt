@@ -81,7 +81,7 @@ module _ (texts : List Text) (c : Contents) (solvable : Solvable c.told) (fixed 
 
   -- ---- the told term in front
 
-  front : (older : List HeapTerm) (st : State) (p : Pending) (u : Subst Text) (values : ℕ → Option ℚ) (waiting : List Tree) (t : Tree) (later : List Tree) (rest numbers bound all : List ℕ)
+  abbrev front : (older : List HeapTerm) (st : State) (p : Pending) (u : Subst Text) (values : ℕ → Option ℚ) (waiting : List Tree) (t : Tree) (later : List Tree) (rest numbers bound all : List ℕ)
       → IsHere texts older c st p u values waiting (t ∷ later) (id ∷ rest) numbers bound all → IsTermOf texts c st p u values (waiting ++ t ∷ later) id
   front older st p u values waiting t later rest numbers bound all k = record {
     before = waiting;
@@ -162,7 +162,7 @@ module _ (texts : List Text) (c : Contents) (solvable : Solvable c.told) (fixed 
   -- ---- the term that waits under a number
 
   module _ (n : ℕ) (once : IsOnce (numbers c.attrs.waiting)) (found : find c.attrs.waiting n ≡ Some (susp.Delayed id)) where
-    under : (older : List HeapTerm) (st : State) (p : Pending) (u : Subst Text) (values : ℕ → Option ℚ) (waiting later : List Tree) (rest ns bound all : List ℕ)
+    abbrev under : (older : List HeapTerm) (st : State) (p : Pending) (u : Subst Text) (values : ℕ → Option ℚ) (waiting later : List Tree) (rest ns bound all : List ℕ)
         → IsHere texts older c st p u values waiting later rest (n ∷ ns) bound all → IsTermOf texts c st p u values (waiting ++ later) id
     under older st p u values waiting later rest ns bound all k =
         let q = place texts older c st p u values waiting later rest ns bound all n id k once found in
