@@ -34,7 +34,7 @@ no_value : (v : ℕ) (o : Option ℚ) → value_or_variable o v ≡ Var v → o 
 no_value v None e = refl
 no_value v (Some q) e = cc
 
-unnamed : (f : ℕ → Text) (v : ℕ) (t : HeapTerm) → named f t ≡ Var v → t ≡ Var v
+pub unnamed : (f : ℕ → Text) (v : ℕ) (t : HeapTerm) → named f t ≡ Var v → t ≡ Var v
 unnamed f v (Var w) e = let s : w ≡ v = cc in ap (λ (x : ℕ). Var x) s
 unnamed f v (Number q) e = cc
 unnamed f v (Name a) e = cc

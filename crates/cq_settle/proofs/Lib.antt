@@ -25,3 +25,6 @@ mod Taken
 mod Terms
 mod Forms
 mod Binding
+mod Start
+mod Begin
+mod Ways

@@ -40,3 +40,14 @@ pub record IsCalled (texts : List Text) (c : Contents) (newly : List VarId) (tol
   pub told_live : All (λ id. id < length c.heap.terms) told
   pub told_reads : trees texts c.heap.terms told ≡ map (apply (followed_by st.bindings u)) p.told
   pub rows_are : rows ≡ p.rows
+
+-- there is a state that settling is called for
+pub record SomeIsCalled (texts : List Text) (c : Contents) (newly : List VarId) (told : List ℕ) (rows : List Constraint) : Type 0 where
+  pub state : State
+  pub pending : Pending
+  pub unifier : Subst Text
+  pub is : IsCalled texts c newly told rows state pending unifier
+
+-- what holds of each such state
+abbrev pub OfCalls : List Text → Contents → List VarId → List ℕ → List Constraint → (State → Pending → Subst Text → Type 0) → Type 0
+OfCalls texts c newly told rows P = (st : State) (p : Pending) (u : Subst Text) → IsCalled texts c newly told rows st p u → P st p u

@@ -14,7 +14,7 @@ use Rattle.cq_term.specs.HeapValue.{Terms}
 use Rattle.cq_term.specs.Meaning.{HeapTerm, at}
 use Rattle.cq_term.specs.Names.{KeepsNames}
 use Rattle.cq_walk.specs.Places.{numbers_of}
-use Rattle.cq_attr.specs.Attributes.{Waiting, Attributes, is_numeric}
+use Rattle.cq_attr.specs.Attributes.{Waiting, Attributes, is_numeric, IsWokenBy}
 use Rattle.cq_attr.specs.declared.susp.Susp.{Susp}
 use Rattle.cq_attr.specs.declared.susp.Susp.TheVariants as susp
 use Rattle.cq_linear.specs.StoreValue.{MayRefuse, MayTake, Only}
@@ -96,12 +96,14 @@ Refuses pair l c = MayRefuse l (Only c) NoQuestion pair
 abbrev pub Takes : ℕ → List Constraint → Constraint → Type 0
 Takes n l c = MayTake l (Only c) NoQuestion n
 
+-- the term is the variable
+abbrev pub is_the_variable : ℕ → HeapTerm → Bool
+is_the_variable w (Var v) = v == w
+is_the_variable w t = false
+
 -- the variable is the image of one of the variables
 abbrev pub is_image_of : List HeapTerm → List ℕ → ℕ → Bool
-is_image_of images vs w = list_any (λ v. is_the_variable w (at images v)) vs where
-  is_the_variable : ℕ → HeapTerm → Bool
-  is_the_variable w (Var v) = v == w
-  is_the_variable w t = false
+is_image_of images vs w = list_any (λ v. is_the_variable w (at images v)) vs
 
 -- ---- values that are bound
 
@@ -157,3 +159,10 @@ pub record WakesAll (c : Contents) (bound : List ℕ) (a : Attributes) (goals : 
   pub next : a.next ≡ c.attrs.next
   pub given : goals ≡ filter_map (λ k. if waits_for_one bound k then goal_that_wakes c.heap.images k.susp else None) c.attrs.waiting
   pub waiting : a.waiting ≡ filter (λ k. not (waits_for_one bound k && wakes c.heap.images k)) c.attrs.waiting
+
+-- nothing was told, no numeric variable was bound, and nothing waits for those that were
+pub record IsIdle (c : Contents) (newly : List VarId) (told : List ℕ) (rows : List Constraint) : Type 0 where
+  pub nothing_told : told ≡ []
+  pub no_rows : rows ≡ []
+  pub numeric : (v : ℕ) → Contains (numbers_of newly) v → is_numeric c.attrs v ≡ false
+  pub awaited : (n : ℕ) → IsWokenBy c.attrs (numbers_of newly) n → ⊥

@@ -127,6 +127,11 @@ pub record IsUnderway (texts : List Text) (older : List HeapTerm) (c : Contents)
   pub reached : IsReached st p u c.told (waiting ++ later)
   pub here : IsHere texts older c st p u values waiting later rest numbers bound all
 
+-- the equations and rows have joined, and the told terms are left
+pub record HasStarted (texts : List Text) (older : List HeapTerm) (c : Contents) (told all : List ℕ) (st : State) (p : Pending) (u : Subst Text) : Type 0 where
+  pub values : ℕ → Option ℚ
+  pub underway : IsUnderway texts older c st p u values st.delayed p.told told [] all all
+
 -- ---- from one world to the next, whatever is being settled
 
 -- the told terms that are left; the numbers and the bound variables whose terms are to be looked at; and all variables that were bound
@@ -150,3 +155,14 @@ GoesOn texts c d i j = (st : State) (p : Pending) (u : Subst Text) (older : List
 abbrev pub OfEach : List Text → Contents → ToDo → (State → Pending → Subst Text → Type 0) → Type 0
 OfEach texts c i P = (st : State) (p : Pending) (u : Subst Text) (older : List HeapTerm) (values : ℕ → Option ℚ) (waiting later : List Tree)
     → IsUnderway texts older c st p u values waiting later i.rest i.numbers i.bound i.all → P st p u
+
+-- some settling is underway
+pub record SomeIsUnderway (texts : List Text) (c : Contents) (i : ToDo) : Type 0 where
+  pub state : State
+  pub pending : Pending
+  pub unifier : Subst Text
+  pub older : List HeapTerm
+  pub values : ℕ → Option ℚ
+  pub waiting : List Tree
+  pub later : List Tree
+  pub is : IsUnderway texts older c state pending unifier values waiting later i.rest i.numbers i.bound i.all

@@ -2,7 +2,7 @@
 
 ghost use Rattle.std.specs.Prelude.{◌≡◌, ◌≢◌, ℕ, ◌<◌, ◌≤◌, ◌+◌, ◌*◌, List, [], ◌∷◌, ◌++◌, length, map, drop, filter, not, All, Contains, true, Option, Some, IfOk, OnOk, MatchBool, ◌⊎◌};
 ghost use Rattle.spec_rational.specs.Rational.{ℚ};
-ghost use Rattle.spec_linear.specs.Solution.{Fixed};
+ghost use Rattle.spec_linear.specs.Solution.{Solvable, Fixes};
 ghost use Rattle.spec_terms.specs.Term.{Var};
 ghost use Rattle.cq_frac.specs.declared.Pair.{Pair};
 ghost use Rattle.cq_term.specs.Meaning.{at};
@@ -12,7 +12,7 @@ ghost use Rattle.cq_linear.specs.declared.store.StoreFault.TheVariants.{Overflow
 ghost use Rattle.cq_world.specs.Standing.{constraints};
 ghost use Rattle.cq_world.specs.Worlds.{now_of};
 ghost use Rattle.cq_settle.specs.Settled.{KeepsMarks, IsPruned, MayRefuse, MayTake};
-ghost use Rattle.cq_settle.specs.Underway.{IsLive, IsWhole, GoesOn, OfEach, to_do};
+ghost use Rattle.cq_settle.specs.Underway.{IsLive, SomeIsUnderway, GoesOn, OfEach, to_do};
 ghost use Rattle.cq_attr.specs.declared.susp.Susp.TheVariants as susp;
 ghost use Rattle.cq_settle.specs.Steps.{CannotJoin, Refuses, Takes, JoinsAndBinds, WakesAll};
 
@@ -26,6 +26,16 @@ use cq_linear::store::{StoreFault, Told};
 use cq_term::{Newly, TermId, View};
 use cq_world::World;
 use std::alloc::AllocError;
+
+/// The told list has a solution and fixes values, and the numbers of what waits ascend. This does nothing but prove it.
+pub(crate) fn store_and_numbers(world: &World)
+    ensures solvable { Solvable world.now.store.told }
+    ensures fixes { (fixed : ℕ → Option ℚ) × Fixes world.now.store.told fixed }
+    ensures ascending { Ascends (numbers world.now.attrs.now.waiting) }
+{
+    world.attrs.numbers_ascend();
+    let _ = world.store.told();
+}
 
 /// A constraint joins, and the variables that it fixes are bound. False where the list has no solution.
 fn tell(world: &mut World, constraint: Constraint, newly: &mut Newly) -> Result<bool, StoreFault>
@@ -53,12 +63,10 @@ pub(crate) fn join_told(
     told: &[TermId],
     newly: &mut Newly,
 ) -> Result<bool, StoreFault>
-    requires whole { IsWhole atoms.now (now_of world.old) }
-    requires live { All (λ id. id < length world.old.heap.now.terms) told.now }
+    requires { SomeIsUnderway atoms.now (now_of world.old) (to_do told.now [] (numbers_of newly.old) (numbers_of newly.old)) }
     ensures joined { IfOk result (λ yes. MatchBool yes
         (GoesOn atoms.now (now_of world.old) (now_of world.new) (to_do told.now [] (numbers_of newly.old) (numbers_of newly.old)) (to_do [] [] (numbers_of newly.new) (numbers_of newly.new)))
         (OfEach atoms.now (now_of world.old) (to_do told.now [] (numbers_of newly.old) (numbers_of newly.old)) IsPruned)) }
-    ensures whole { OnOk result (IsWhole atoms.now (now_of world.new)) }
     ensures overflow { (pair : Pair) → result ≡ Err (Overflow pair)
         → OfEach atoms.now (now_of world.old) (to_do told.now [] (numbers_of newly.old) (numbers_of newly.old)) (λ st p u. MayRefuse st p pair) }
     ensures pivots { (n : ℕ) → result ≡ Err (Pivots n) → (n ≡ world.old.store.pivots)
@@ -80,19 +88,17 @@ fn join_term(
     term: TermId,
     newly: &mut Newly,
 ) -> Result<bool, StoreFault>
-    requires whole { IsWhole atoms.now (now_of world.old) }
-    requires live { term < length world.old.heap.now.terms }
+    requires { (rest : List ℕ) × SomeIsUnderway atoms.now (now_of world.old) (to_do (term ∷ rest) [] (numbers_of newly.old) (numbers_of newly.old)) }
     ensures joined { IfOk result (λ yes. MatchBool yes
         ((rest : List ℕ) → GoesOn atoms.now (now_of world.old) (now_of world.new) (to_do (term ∷ rest) [] (numbers_of newly.old) (numbers_of newly.old)) (to_do rest [] (numbers_of newly.new) (numbers_of newly.new)))
         ((rest : List ℕ) → OfEach atoms.now (now_of world.old) (to_do (term ∷ rest) [] (numbers_of newly.old) (numbers_of newly.old)) IsPruned)) }
-    ensures whole { OnOk result (IsWhole atoms.now (now_of world.new)) }
-    ensures longer { OnOk result (length world.old.heap.now.terms ≤ length world.new.heap.now.terms) }
     ensures overflow { (pair : Pair) → result ≡ Err (Overflow pair)
         → (rest : List ℕ) → OfEach atoms.now (now_of world.old) (to_do (term ∷ rest) [] (numbers_of newly.old) (numbers_of newly.old)) (λ st p u. MayRefuse st p pair) }
     ensures pivots { (n : ℕ) → result ≡ Err (Pivots n) → (n ≡ world.old.store.pivots)
         × ((rest : List ℕ) → OfEach atoms.now (now_of world.old) (to_do (term ∷ rest) [] (numbers_of newly.old) (numbers_of newly.old)) (λ st p u. MayTake st p n)) }
     ensures marks { KeepsMarks world.old world.new }
 {
+    store_and_numbers(world);
     match linearise(&world.heap, atoms, term)? {
         Lin::False => Ok(false),
         Lin::Linear(constraint) => tell(world, constraint, newly),
@@ -106,11 +112,10 @@ fn join_term(
 /// Terms that wait for variables that were bound are looked at again, until none is left. False where one is false, or the
 /// list has no solution.
 pub(crate) fn close(world: &mut World, atoms: &Atoms, newly: &mut Newly) -> Result<bool, StoreFault>
-    requires whole { IsWhole atoms.now (now_of world.old) }
+    requires { SomeIsUnderway atoms.now (now_of world.old) (to_do [] [] (numbers_of newly.old) (numbers_of newly.old)) }
     ensures closed { IfOk result (λ yes. MatchBool yes
         (GoesOn atoms.now (now_of world.old) (now_of world.new) (to_do [] [] (numbers_of newly.old) (numbers_of newly.old)) (to_do [] [] [] (numbers_of newly.new)))
         (OfEach atoms.now (now_of world.old) (to_do [] [] (numbers_of newly.old) (numbers_of newly.old)) IsPruned)) }
-    ensures whole { OnOk result (IsWhole atoms.now (now_of world.new)) }
     ensures newly { (more : List VarId) × (newly.new ≡ newly.old ++ more) }
     ensures overflow { (pair : Pair) → result ≡ Err (Overflow pair)
         → OfEach atoms.now (now_of world.old) (to_do [] [] (numbers_of newly.old) (numbers_of newly.old)) (λ st p u. MayRefuse st p pair) }
@@ -136,13 +141,12 @@ fn look_again(
     woken: &[SuspNo],
     newly: &mut Newly,
 ) -> Result<bool, StoreFault>
-    requires whole { IsWhole atoms.now (now_of world.old) }
+    requires underway { SomeIsUnderway atoms.now (now_of world.old) (to_do [] woken.now [] (numbers_of newly.old)) }
     requires ascending { Ascends woken.now }
     requires waits { All (λ n. Contains (numbers world.old.attrs.now.waiting) n) woken.now }
     ensures looked { IfOk result (λ yes. MatchBool yes
         (GoesOn atoms.now (now_of world.old) (now_of world.new) (to_do [] woken.now [] (numbers_of newly.old)) (to_do [] [] (numbers_of (drop (length newly.old) newly.new)) (numbers_of newly.new)))
         (OfEach atoms.now (now_of world.old) (to_do [] woken.now [] (numbers_of newly.old)) IsPruned)) }
-    ensures whole { OnOk result (IsWhole atoms.now (now_of world.new)) }
     ensures fewer { length (constraints world.new.attrs.now) ≤ length (constraints world.old.attrs.now) }
     ensures newly { (more : List VarId) × (newly.new ≡ newly.old ++ more) }
     ensures none { length (constraints world.new.attrs.now) ≡ length (constraints world.old.attrs.now) → newly.new ≡ newly.old }
@@ -170,14 +174,13 @@ fn rejoin(
     term: TermId,
     newly: &mut Newly,
 ) -> Result<bool, StoreFault>
-    requires whole { IsWhole atoms.now (now_of world.old) }
+    requires underway { (ns bound : List ℕ) × SomeIsUnderway atoms.now (now_of world.old) (to_do [] (number ∷ ns) bound (numbers_of newly.old)) }
     requires waits { Contains (numbers world.old.attrs.now.waiting) number }
     requires susp { find world.old.attrs.now.waiting number ≡ Some (susp.Delayed term) }
     ensures joined { IfOk result (λ yes. MatchBool yes
         ((ns bound : List ℕ) → GoesOn atoms.now (now_of world.old) (now_of world.new) (to_do [] (number ∷ ns) bound (numbers_of newly.old))
         (to_do [] ns (bound ++ numbers_of (drop (length newly.old) newly.new)) (numbers_of newly.new)))
         ((ns bound : List ℕ) → OfEach atoms.now (now_of world.old) (to_do [] (number ∷ ns) bound (numbers_of newly.old)) IsPruned)) }
-    ensures whole { OnOk result (IsWhole atoms.now (now_of world.new)) }
     ensures others { (n : ℕ) → n ≢ number → Contains (numbers world.old.attrs.now.waiting) n → Contains (numbers world.new.attrs.now.waiting) n }
     ensures newly { (more : List VarId) × (newly.new ≡ newly.old ++ more) }
     ensures fewer { (length (constraints world.new.attrs.now) ≡ length (constraints world.old.attrs.now)) × (newly.new ≡ newly.old)
@@ -188,6 +191,7 @@ fn rejoin(
         × ((ns bound : List ℕ) → OfEach atoms.now (now_of world.old) (to_do [] (number ∷ ns) bound (numbers_of newly.old)) (λ st p u. MayTake st p n)) }
     ensures marks { KeepsMarks world.old world.new }
 {
+    store_and_numbers(world);
     match linearise(&world.heap, atoms, term)? {
         Lin::False => Ok(false),
         Lin::Linear(constraint) => {

@@ -1,17 +1,15 @@
 // Settling: from a world whose variables were bound, with constraints to be told, to a world that is settled again.
 
 ghost use Rattle.std.specs.Prelude.{◌≡◌, ℕ, [], IfOk, OnErr, IsTrue};
-ghost use Rattle.spec_lists.specs.Texts.{Text};
-ghost use Rattle.spec_terms.specs.Term.{Subst};
-ghost use Rattle.spec_branch.specs.Branch.{State, Pending};
 ghost use Rattle.cq_frac.specs.declared.Pair.{Pair};
 ghost use Rattle.cq_linear.specs.declared.store.StoreFault.TheVariants.{Overflow, Pivots};
 ghost use Rattle.cq_world.specs.Worlds.{now_of};
-ghost use Rattle.cq_settle.specs.Called.{IsCalled};
+ghost use Rattle.cq_settle.specs.Called.{SomeIsCalled, OfCalls};
+ghost use Rattle.cq_settle.specs.Steps.{IsIdle};
 ghost use Rattle.cq_settle.specs.Settled.{IfWoken, IfPruned, IsKept, IsPruned, MayRefuse, MayTake, KeepsMarks};
 
-use crate::closing::{close, join_told, wake};
-use crate::joining::{bind_fixed, clashes, follow, join_equations, join_rows, make_numeric};
+use crate::closing::{close, join_told, store_and_numbers, wake};
+use crate::beginning::begin;
 use cq_atoms::Atoms;
 use cq_form::Constraint;
 use cq_linear::store::StoreFault;
@@ -42,24 +40,18 @@ pub enum Settled {
 /// the world is as at the call. With nothing numeric bound, nothing told and nothing that waits for what was bound, no memory
 /// is taken and no mark is made.
 pub fn settle(world: &mut World, atoms: &Atoms, work: Work) -> Result<Settled, StoreFault>
-    requires { (st : State) × (p : Pending) × (u : Subst Text) × IsCalled atoms.now (now_of world.old) work.newly work.told.items work.rows.items st p u }
-    ensures woken { IfOk result (λ r. IfWoken r (λ goals. (st : State) (p : Pending) (u : Subst Text)
-        → IsCalled atoms.now (now_of world.old) work.newly work.told.items work.rows.items st p u
-        → IsKept atoms.now (now_of world.old) (now_of world.new) goals st p u)) }
-    ensures pruned { IfOk result (λ r. IfPruned r ((st : State) (p : Pending) (u : Subst Text)
-        → IsCalled atoms.now (now_of world.old) work.newly work.told.items work.rows.items st p u
-        → IsPruned st p u)) }
+    requires { SomeIsCalled atoms.now (now_of world.old) work.newly work.told.items work.rows.items }
+    ensures woken { IfOk result (λ r. IfWoken r (λ goals. OfCalls atoms.now (now_of world.old) work.newly work.told.items work.rows.items
+        (λ st p u. IsKept atoms.now (now_of world.old) (now_of world.new) goals st p u))) }
+    ensures pruned { IfOk result (λ r. IfPruned r (OfCalls atoms.now (now_of world.old) work.newly work.told.items work.rows.items IsPruned)) }
 
     // Where the branch is pruned, and after an error, nothing has changed.
     ensures unchanged { IfOk result (λ r. IfPruned r (now_of world.new ≡ now_of world.old)) }
     ensures err { OnErr result (now_of world.new ≡ now_of world.old) }
 
-    ensures overflow { (pair : Pair) → result ≡ Err (Overflow pair) → (st : State) (p : Pending) (u : Subst Text)
-        → IsCalled atoms.now (now_of world.old) work.newly work.told.items work.rows.items st p u
-        → MayRefuse st p pair }
-    ensures pivots { (n : ℕ) → result ≡ Err (Pivots n) → (n ≡ world.old.store.pivots) × ((st : State) (p : Pending) (u : Subst Text)
-        → IsCalled atoms.now (now_of world.old) work.newly work.told.items work.rows.items st p u
-        → MayTake st p n) }
+    ensures overflow { (pair : Pair) → result ≡ Err (Overflow pair) → OfCalls atoms.now (now_of world.old) work.newly work.told.items work.rows.items (λ st p u. MayRefuse st p pair) }
+    ensures pivots { (n : ℕ) → result ≡ Err (Pivots n)
+        → (n ≡ world.old.store.pivots) × OfCalls atoms.now (now_of world.old) work.newly work.told.items work.rows.items (λ st p u. MayTake st p n) }
     ensures marks { KeepsMarks world.old world.new }
 {
     if is_idle(world, &work)? {
@@ -83,7 +75,9 @@ pub fn settle(world: &mut World, atoms: &Atoms, work: Work) -> Result<Settled, S
 }
 
 /// Whether there is nothing to do: nothing was told, no numeric variable was bound, and nothing waits for those that were.
-fn is_idle(world: &World, work: &Work) -> Result<bool, AllocError> {
+fn is_idle(world: &World, work: &Work) -> Result<bool, AllocError>
+    ensures { IfOk result (λ yes. IsTrue yes → IsIdle (now_of world.now) work.now.newly work.now.told.items work.now.rows.items) }
+{
     if !work.told.is_empty() || !work.rows.is_empty() {
         return Ok(false);
     }
@@ -98,19 +92,13 @@ fn is_idle(world: &World, work: &Work) -> Result<bool, AllocError> {
 
 /// The same, but for what was done before the branch was pruned, or before an error.
 fn run(world: &mut World, atoms: &Atoms, work: Work) -> Result<Settled, StoreFault>
-    requires { (st : State) × (p : Pending) × (u : Subst Text) × IsCalled atoms.now (now_of world.old) work.newly work.told.items work.rows.items st p u }
-    ensures woken { IfOk result (λ r. IfWoken r (λ goals. (st : State) (p : Pending) (u : Subst Text)
-        → IsCalled atoms.now (now_of world.old) work.newly work.told.items work.rows.items st p u
-        → IsKept atoms.now (now_of world.old) (now_of world.new) goals st p u)) }
-    ensures pruned { IfOk result (λ r. IfPruned r ((st : State) (p : Pending) (u : Subst Text)
-        → IsCalled atoms.now (now_of world.old) work.newly work.told.items work.rows.items st p u
-        → IsPruned st p u)) }
-    ensures overflow { (pair : Pair) → result ≡ Err (Overflow pair) → (st : State) (p : Pending) (u : Subst Text)
-        → IsCalled atoms.now (now_of world.old) work.newly work.told.items work.rows.items st p u
-        → MayRefuse st p pair }
-    ensures pivots { (n : ℕ) → result ≡ Err (Pivots n) → (n ≡ world.old.store.pivots) × ((st : State) (p : Pending) (u : Subst Text)
-        → IsCalled atoms.now (now_of world.old) work.newly work.told.items work.rows.items st p u
-        → MayTake st p n) }
+    requires { SomeIsCalled atoms.now (now_of world.old) work.newly work.told.items work.rows.items }
+    ensures woken { IfOk result (λ r. IfWoken r (λ goals. OfCalls atoms.now (now_of world.old) work.newly work.told.items work.rows.items
+        (λ st p u. IsKept atoms.now (now_of world.old) (now_of world.new) goals st p u))) }
+    ensures pruned { IfOk result (λ r. IfPruned r (OfCalls atoms.now (now_of world.old) work.newly work.told.items work.rows.items IsPruned)) }
+    ensures overflow { (pair : Pair) → result ≡ Err (Overflow pair) → OfCalls atoms.now (now_of world.old) work.newly work.told.items work.rows.items (λ st p u. MayRefuse st p pair) }
+    ensures pivots { (n : ℕ) → result ≡ Err (Pivots n)
+        → (n ≡ world.old.store.pivots) × OfCalls atoms.now (now_of world.old) work.newly work.told.items work.rows.items (λ st p u. MayTake st p n) }
     ensures marks { KeepsMarks world.old world.new }
 {
     let Work {
@@ -118,24 +106,15 @@ fn run(world: &mut World, atoms: &Atoms, work: Work) -> Result<Settled, StoreFau
         told,
         rows,
     } = work;
-    if clashes(world, newly.as_slice()) {
+    if !begin(world, &mut newly, &told, rows)? {
         return Ok(Settled::Pruned);
     }
-    follow(world, newly.as_slice())?;
-    let mut fixed = Vec::new(world.heap.alloc());
-    if !join_equations(world, newly.as_slice(), &mut fixed)? {
-        return Ok(Settled::Pruned);
-    }
-    if !join_rows(&mut world.store, rows, &mut fixed)? {
-        return Ok(Settled::Pruned);
-    }
-    make_numeric(world, &told, &mut fixed)?;
-    bind_fixed(world, &fixed, &mut newly)?;
     if !join_told(world, atoms, &told, &mut newly)? {
         return Ok(Settled::Pruned);
     }
     if !close(world, atoms, &mut newly)? {
         return Ok(Settled::Pruned);
     }
+    store_and_numbers(world);
     Ok(Settled::Woken(wake(world, newly.as_slice())?))
 }
