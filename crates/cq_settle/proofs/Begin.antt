@@ -427,8 +427,11 @@ module _ (texts : List Text) (c : Contents) (newly : List VarId) (told : List �
           (same_told ∙ b.list ∙ ap₂ (λ l rs. l ++ (equations_of c newly ++ rs)) k.stands.linear k.rows_are ∙ sym (append_assoc st.linear (equations_of c newly) p.rows)) no_move;
     }
 
+    abbrev binds_there : BindsValues d.attrs e.told d.heap e.heap newly after values
+    binds_there = subst (λ (l : List Constraint). BindsValues d.attrs l d.heap e.heap newly after values) (sym same_told) binds
+
     begun : IsHere texts c.heap.terms e st p u values st.delayed p.told told [] (numbers_of after) (numbers_of after)
-    begun = bind_on texts c.heap.terms st p u d e newly after none values (subst (λ (l : List Constraint). BindsValues d.attrs l d.heap e.heap newly after values) (sym same_told) binds) same_attrs st.delayed p.told told [] newly_ones (numbers_of after) task
+    begun = bind_on texts c.heap.terms st p u d e newly after none values binds_there same_attrs st.delayed p.told told [] newly_ones (numbers_of after) task
         (subst (λ (x : Subst Text). Stands texts d x x (state_then st p u d.told st.delayed)) no_value_yet stands_d)
         (subst (λ hp. length c.heap.terms ≤ length hp.terms) (sym b.heap) (omega arith))
         (λ id l. ap (λ hp. tree texts hp.terms id) b.heap ∙ sym (apply-identity (tree texts c.heap.terms id)))
@@ -437,11 +440,11 @@ module _ (texts : List Text) (c : Contents) (newly : List VarId) (told : List �
         (ap (λ hp. trees texts hp.terms told) b.heap ∙ k.told_reads ∙ ap (λ (x : Subst Text). map (apply x) p.told) no_value_yet)
         looked_at are_bound sums new_sums where
           sums : (v : ℕ) → Contains newly_ones v → Contains (numbers_of after) v
-          sums v h = subst (λ (vs : List VarId). Contains (numbers_of vs) v) (sym binds.list)
-              (subst (λ (ns : List ℕ). Contains ns v) (sym (numbers_behind newly binds.more)) (Contains-append_left newly_ones (numbers_of binds.more) v h))
-          new_sums : (v : ℕ) → Contains (numbers_of binds.more) v → Contains (numbers_of after) v
-          new_sums v h = subst (λ (vs : List VarId). Contains (numbers_of vs) v) (sym binds.list)
-              (subst (λ (ns : List ℕ). Contains ns v) (sym (numbers_behind newly binds.more)) (Contains-append_right newly_ones (numbers_of binds.more) v h))
+          sums v h = subst (λ (vs : List VarId). Contains (numbers_of vs) v) (sym binds_there.list)
+              (subst (λ (ns : List ℕ). Contains ns v) (sym (numbers_behind newly binds_there.more)) (Contains-append_left newly_ones (numbers_of binds_there.more) v h))
+          new_sums : (v : ℕ) → Contains (numbers_of binds_there.more) v → Contains (numbers_of after) v
+          new_sums v h = subst (λ (vs : List VarId). Contains (numbers_of vs) v) (sym binds_there.list)
+              (subst (λ (ns : List ℕ). Contains ns v) (sym (numbers_behind newly binds_there.more)) (Contains-append_right newly_ones (numbers_of binds_there.more) v h))
 
     pub underway : IsUnderway texts c.heap.terms e st p u values st.delayed p.told told [] (numbers_of after) (numbers_of after)
     underway = record { reached = reached; here = begun }

@@ -28,3 +28,7 @@ mod Binding
 mod Start
 mod Begin
 mod Ways
+mod Idle
+mod Watch
+mod Waking
+mod Gather

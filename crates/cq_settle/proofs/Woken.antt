@@ -27,7 +27,7 @@ use Rattle.cq_settle.proofs.Numeric.{variable_bound}
 
 -- ---- filters
 
-kept_cases : {A : Type 0} (p : A → Bool) (x : A) (xs : List A) (b c : Bool) → p x ≡ c → filter p (cond b (x ∷ xs) xs) ≡ cond (b && c) (x ∷ filter p xs) (filter p xs)
+pub kept_cases : {A : Type 0} (p : A → Bool) (x : A) (xs : List A) (b c : Bool) → p x ≡ c → filter p (cond b (x ∷ xs) xs) ≡ cond (b && c) (x ∷ filter p xs) (filter p xs)
 kept_cases p x xs true c e = ap (λ (d : Bool). cond d (x ∷ filter p xs) (filter p xs)) e
 kept_cases p x xs false c e = refl
 

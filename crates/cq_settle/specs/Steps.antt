@@ -52,6 +52,18 @@ pub record Follows (images : List HeapTerm) (newly : List ℕ) (old new : Attrib
   pub next : new.next ≡ old.next
   pub waiting : AllZip (WaitsOn images newly) old.waiting new.waiting
 
+-- what waits under one of the numbers waits for the variable too
+pub record WatchesToo (ns : List ℕ) (x : ℕ) (k m : Waiting) : Type 0 where
+  pub number : m.number ≡ k.number
+  pub susp : m.susp ≡ k.susp
+  pub still : (v : ℕ) → Contains k.watched v → Contains m.watched v
+  pub too : Contains ns k.number → Contains m.watched x
+
+pub record AllWatch (ns : List ℕ) (x : ℕ) (old new : Attributes) : Type 0 where
+  pub numeric : new.numeric ≡ old.numeric
+  pub next : new.next ≡ old.next
+  pub waiting : AllZip (WatchesToo ns x) old.waiting new.waiting
+
 -- ---- constraints that join
 
 -- the form of a number or a variable

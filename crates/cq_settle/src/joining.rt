@@ -1,6 +1,6 @@
 // What joins the linear constraints before any term: equations of variables that were bound, and rows.
 
-ghost use Rattle.std.specs.Prelude.{◌≡◌, ◌↔◌, ℕ, ◌<◌, ◌≤◌, ◌||◌, ◌==◌, [], ◌∷◌, length, All, Any, Contains, true, Option, Some, IsTrue, IfOk, OnOk, MatchBool};
+ghost use Rattle.std.specs.Prelude.{◌≡◌, ◌↔◌, ℕ, ◌<◌, ◌≤◌, ◌||◌, ◌==◌, [], ◌∷◌, ◌++◌, length, All, Any, Contains, true, Option, Some, IsTrue, IfOk, OnOk, MatchBool};
 ghost use Rattle.std.specs.List.{list_any};
 ghost use Rattle.spec_rational.specs.Rational.{ℚ};
 ghost use Rattle.spec_linear.specs.Form.{variable_form, difference_form};
@@ -11,11 +11,11 @@ ghost use Rattle.cq_term.specs.Meaning.{at};
 ghost use Rattle.cq_term.specs.Shown.{IsUnbound};
 ghost use Rattle.spec_terms.specs.Term.{Var};
 ghost use Rattle.cq_walk.specs.Places.{numbers_of};
-ghost use Rattle.cq_attr.specs.Attributes.{is_numeric};
+ghost use Rattle.cq_attr.specs.Attributes.{is_numeric, numbers};
 ghost use Rattle.cq_linear.specs.declared.store.StoreFault.TheVariants.{Overflow, Pivots};
 ghost use Rattle.cq_world.specs.Worlds.{now_of};
 ghost use Rattle.cq_settle.specs.Settled.{KeepsMarks};
-ghost use Rattle.cq_settle.specs.Steps.{is_neither, ClashesAt, AreThere, AreBoundThere, Follows, equation_at, equations_of, numeric_ones, HaveJoined, StopsAt, CannotJoin, Refuses, Takes, is_image_of, BindsValues};
+ghost use Rattle.cq_settle.specs.Steps.{is_neither, ClashesAt, AreThere, AreBoundThere, Follows, AllWatch, equation_at, equations_of, numeric_ones, HaveJoined, StopsAt, CannotJoin, Refuses, Takes, is_image_of, BindsValues};
 
 use cq_attr::{Attrs, SuspNo};
 use cq_form::{Constraint, Form};
@@ -53,16 +53,20 @@ pub(crate) fn follow(world: &mut World, newly: &[VarId]) -> Result<(), AllocErro
 {
     for &variable in newly {
         if let View::Var(image) = world.heap.view(world.heap.var_term(variable)) {
-            let numbers = world.attrs.woken(&[variable])?;
-            watch_all(&mut world.attrs, &numbers, image)?;
+            let woken = world.attrs.woken(&[variable])?;
+            watch_all(&mut world.attrs, &woken, image)?;
         }
     }
     Ok(())
 }
 
 /// What waits under the numbers waits for the variable too.
-fn watch_all(attrs: &mut Attrs, numbers: &[SuspNo], image: VarId) -> Result<(), AllocError> {
-    for &number in numbers {
+fn watch_all(attrs: &mut Attrs, woken: &[SuspNo], image: VarId) -> Result<(), AllocError>
+    requires { All (λ n. Contains (numbers attrs.old.now.waiting) n) woken.now }
+    ensures watch { OnOk result (AllWatch woken.now image.0 attrs.old.now attrs.new.now) }
+    ensures saved { attrs.new.saved ≡ attrs.old.saved }
+{
+    for &number in woken {
         attrs.watch(number, &[image])?;
     }
     Ok(())
@@ -159,6 +163,7 @@ fn equation_of(
     requires value { IsTrue (is_neither (at world.old.heap.now.images variable.0)) → ⊥ }
     requires older { (w : ℕ) → at world.old.heap.now.images variable.0 ≡ Var w → w < variable.0 }
     ensures equation { IfOk result (λ c. c ≡ equation_at world.old.heap.now.images variable.0) }
+    ensures unbound { OnOk result ((w : ℕ) → at world.old.heap.now.images variable.0 ≡ Var w → at world.old.heap.now.images w ≡ Var w) }
     ensures numeric { OnOk result ((v : ℕ) → is_numeric world.new.attrs.now v
         ≡ (is_numeric world.old.attrs.now v || is_image_of world.old.heap.now.images (variable.0 ∷ []) v)) }
     ensures images { OnOk result ((v : ℕ) → is_image_of world.old.heap.now.images (variable.0 ∷ []) v ≡ true → Contains (numbers_of fixed.new.items) v) }
@@ -211,10 +216,27 @@ pub(crate) fn make_numeric(
     ensures marks { KeepsMarks world.old world.new }
 {
     for &term in told {
-        for variable in vars_of(&world.heap, term)? {
-            world.attrs.set_numeric(variable)?;
-            fixed.push(variable)?;
-        }
+        let variables = vars_of(&world.heap, term)?;
+        make_each_numeric(&mut world.attrs, &variables, fixed)?;
+    }
+    Ok(())
+}
+
+/// The variables become numeric, and are told.
+fn make_each_numeric(
+    attrs: &mut Attrs,
+    variables: &[VarId],
+    fixed: &mut Vec<VarId>,
+) -> Result<(), AllocError>
+    ensures numeric { OnOk result ((v : ℕ) → is_numeric attrs.new.now v ≡ (is_numeric attrs.old.now v
+        || list_any (λ w. w == v) (numbers_of variables.now))) }
+    ensures told { OnOk result (fixed.new.items ≡ fixed.old.items ++ variables.now) }
+    ensures waiting { attrs.new.now.waiting ≡ attrs.old.now.waiting }
+    ensures saved { attrs.new.saved ≡ attrs.old.saved }
+{
+    for &variable in variables {
+        attrs.set_numeric(variable)?;
+        fixed.push(variable)?;
     }
     Ok(())
 }
