@@ -1,8 +1,8 @@
 -- Values that are bound on the heap, one after another.
 use Rattle.std.proofs.Common.{◌≡◌, ◌<◌, ◌≤◌, ℕ, ◌+◌, List, [], ◌∷◌, ◌++◌, map, length, Bool, true, false, cond, Option, None, Some, refl, sym, ap, ap₂, ◌∙◌, subst, inl, inr, ◌⊎◌, arith, append_assoc}
-use Rattle.std.specs.Prelude.{Contains, All, ◌==◌}
+use Rattle.std.specs.Prelude.{Contains, All, ◌==◌, not, MatchOption}
 use Rattle.std.proofs.lemmas.List.{length-append, length-map}
-use Rattle.std.proofs.lemmas.List.Elements.{All-weaker, All-map, All-append, All-cons, All-nil, Contains-append_left, Contains-append_right}
+use Rattle.std.proofs.lemmas.List.Elements.{All-contains, All-weaker, All-map, All-append, All-cons, All-nil, Contains-append_left, Contains-append_right}
 use Rattle.spec_rational.specs.Rational.{ℚ}
 use Rattle.spec_linear.specs.Solution.{Constraint, Fixed}
 use Rattle.spec_linear.proofs.Lists.{fixed_once}
@@ -22,6 +22,7 @@ use Rattle.cq_settle.specs.Steps.{BindsValues, valued, value_or_variable}
 use Rattle.cq_settle.proofs.Closed.{nothing_behind}
 use Rattle.cq_settle.proofs.Composed.{first_of, together}
 use Rattle.cq_settle.proofs.Joined.{numbers_behind}
+use Rattle.cq_settle.proofs.Numeric.{found_any, contains_of_has}
 
 abbrev pub none : ℕ → Option ℚ
 none v = None
@@ -186,3 +187,22 @@ module _ (a : Attributes) (told : List Constraint) (old mid new : Terms) (before
   -- and what they bound stays so
   pub still_bound : (v : ℕ) (q : ℚ) → f v ≡ Some q → together f g v ≡ Some q
   still_bound v q e = ap (λ (o : Option ℚ). first_of o (g v)) e
+
+-- ---- what a call knows of one variable
+
+pub numeric_within : (a : Attributes) (n v : ℕ) → All (λ w. w < n) a.numeric → is_numeric a v ≡ true → v < n
+numeric_within a n v h e =
+    let r = found_any (λ w. w == v) a.numeric e in
+    subst (λ (x : ℕ). x < n) (nat_eq-same r.item v r.passes) (All-contains (λ w. w < n) a.numeric r.item h (contains_of_has a.numeric r.item r.among))
+
+pub bool_absurd : {X : Type 0} (r n : Bool) → r ≡ n → not r ≡ true → n ≡ true → X
+bool_absurd true n e f g = cc
+bool_absurd false n e f g = cc
+
+pub bool_known : (r n : Bool) → r ≡ n → not r ≡ false → n ≡ true
+bool_known true n e f = sym e
+bool_known false n e f = cc
+
+pub none_fixed : {X : Type 0} (o : Option ℚ) (P : ℚ → Type 0) → MatchOption o ((q : ℚ) → P q → ⊥) P → ((x : ℚ) → o ≡ Some x → ⊥) → (q : ℚ) → P q → X
+none_fixed None P m n q p = absurd (m q p)
+none_fixed (Some x) P m n q p = absurd (n x refl)

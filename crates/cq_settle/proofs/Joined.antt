@@ -1,17 +1,23 @@
 -- Constraints that join one after another.
-use Rattle.std.proofs.Common.{◌≡◌, ℕ, List, [], ◌∷◌, ◌++◌, map, Bool, true, false, refl, sym, ap, ◌∙◌, subst, inl, inr, ◌⊎◌, append_assoc}
+use Rattle.std.proofs.Common.{◌≡◌, ℕ, List, [], ◌∷◌, ◌++◌, map, Bool, true, false, Option, Some, refl, sym, ap, ◌∙◌, subst, inl, inr, ◌⊎◌, append_assoc}
 use Rattle.std.specs.Prelude.{Contains, nat_eq}
 use Rattle.std.proofs.lemmas.List.{map-append}
 use Rattle.std.proofs.lemmas.List.Elements.{Contains-append_left, Contains-append_right}
 use Rattle.spec_rational.specs.Rational.{ℚ}
 use Rattle.spec_linear.specs.Solution.{Constraint, Solvable, Fixed}
+use Rattle.spec_inequalities.specs.Certificate.{Refutes}
+use Rattle.spec_inequalities.proofs.Refutation.{refuted}
 use Rattle.spec_lists.proofs.Tests.{nat_eq-same, nat_eq-other}
 use Rattle.spec_tableau.specs.Fixing.{NewlyFixed}
 use Rattle.cq_attr.proofs.Elements.{contains_here, contains_later, contains_cases, contains_none}
+use Rattle.spec_terms.specs.Term.{Var}
+use Rattle.cq_attr.specs.Attributes.{is_numeric}
 use Rattle.cq_frac.specs.declared.VarId.{VarId}
+use Rattle.cq_term.specs.Meaning.{at}
+use Rattle.cq_world.specs.Contents.{Contents}
 use Rattle.cq_tableau.specs.Newly.{AreNewlyFixed}
 use Rattle.cq_walk.specs.Places.{numbers_of}
-use Rattle.cq_settle.specs.Steps.{HaveJoined, StopsAt}
+use Rattle.cq_settle.specs.Steps.{HaveJoined, StopsAt, CannotJoin, BindsValues, JoinsAndBinds}
 use Rattle.cq_settle.proofs.Numeric.{contains_of_has}
 
 -- whether a number is in a list
@@ -63,3 +69,21 @@ one_more_joins old mid new more c first before after j k = record {
 pub stops_at : (P : List Constraint → Constraint → Type 0) (old mid done left all : List Constraint) (c : Constraint) (first before : List VarId)
     → HaveJoined old done mid first before → all ≡ done ++ c ∷ left → P mid c → StopsAt P old all
 stops_at P old mid done left all c first before j e h = record { done = done; next = c; left = left; split = e; here = subst (λ (l : List Constraint). P l c) j.list h }
+
+-- a certificate shows that the constraint cannot join
+pub cannot_join : (l : List Constraint) (c : Constraint) (cert : List (ℕ × ℚ)) → Refutes cert (l ++ c ∷ []) → CannotJoin l c
+cannot_join l c cert h = refuted cert (l ++ c ∷ []) h
+
+-- and the numeric variables that it fixes and that were unbound are bound
+pub joins_and_binds : (c d : Contents) (row : Constraint) (before after fixed : List VarId) (values : ℕ → Option ℚ) → Solvable d.told × (d.told ≡ c.told ++ row ∷ [])
+    → AreNewlyFixed c.told d.told (numbers_of fixed) → d.attrs ≡ c.attrs → BindsValues c.attrs d.told c.heap d.heap before after values
+    → ((v : ℕ) (q : ℚ) → Contains (numbers_of fixed) v → is_numeric c.attrs v ≡ true → at c.heap.images v ≡ Var v → Fixed d.told v q → values v ≡ Some q)
+    → JoinsAndBinds c row d before after
+joins_and_binds c d row before after fixed values k f a b complete = record {
+  list = k.1;
+  solvable = k.0;
+  attrs = a;
+  values = values;
+  binds = b;
+  complete = λ v q n u h g. complete v q (contains_of_has (numbers_of fixed) v ((f.each v).1 (record { value = q; fixed = h; not_before = g }))) n u h;
+}

@@ -32,3 +32,4 @@ mod Idle
 mod Watch
 mod Waking
 mod Gather
+mod Marks

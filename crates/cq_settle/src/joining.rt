@@ -21,7 +21,7 @@ use cq_attr::{Attrs, SuspNo};
 use cq_form::{Constraint, Form};
 use cq_frac::{Frac, VarId};
 use cq_linear::store::{Store, StoreFault, Told};
-use cq_term::{Newly, TermId, View};
+use cq_term::{Heap, Newly, TermId, View};
 use cq_unify::vars_of;
 use cq_world::World;
 use spec_linear::Relation;
@@ -279,10 +279,21 @@ fn bind_value(world: &mut World, variable: VarId, newly: &mut Newly) -> Result<(
     let Some(value) = world.store.value(variable) else {
         return Ok(());
     };
-    if world.heap.view(world.heap.var_term(variable)) != View::Var(variable) {
+    if !is_unbound(&world.heap, variable) {
         return Ok(());
     }
     let number = world.heap.number(value)?;
     world.heap.bind(variable, number)?;
     newly.push(variable)
+}
+
+/// Whether a variable is unbound.
+fn is_unbound(heap: &Heap, variable: VarId) -> bool
+    requires { variable.0 < length heap.now.now.images }
+    ensures { MatchBool result (at heap.now.now.images variable.0 ≡ Var variable.0) (at heap.now.now.images variable.0 ≡ Var variable.0 → ⊥) }
+{
+    match heap.view(heap.var_term(variable)) {
+        View::Var(image) => image == variable,
+        View::Number(_) | View::Name(_) | View::Compound(_, _) => false,
+    }
 }
