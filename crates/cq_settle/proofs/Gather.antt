@@ -20,14 +20,14 @@ use Rattle.cq_settle.proofs.Closed.{nothing_behind}
 
 -- ---- lists
 
-any_append : (test : ℕ → Bool) (xs ys : List ℕ) → list_any test (xs ++ ys) ≡ (list_any test xs || list_any test ys)
+pub any_append : (test : ℕ → Bool) (xs ys : List ℕ) → list_any test (xs ++ ys) ≡ (list_any test xs || list_any test ys)
 any_append test [] ys = refl
 any_append test (x ∷ xs) ys = ap (λ (b : Bool). test x || b) (any_append test xs ys) ∙ assoc (test x) (list_any test xs) (list_any test ys) where
   assoc : (a b c : Bool) → (a || (b || c)) ≡ ((a || b) || c)
   assoc true b c = refl
   assoc false b c = refl
 
-or_assoc : (a b c : Bool) → ((a || b) || c) ≡ (a || (b || c))
+pub or_assoc : (a b c : Bool) → ((a || b) || c) ≡ (a || (b || c))
 or_assoc true b c = refl
 or_assoc false b c = refl
 

@@ -33,3 +33,4 @@ mod Watch
 mod Waking
 mod Gather
 mod Marks
+mod Marked
