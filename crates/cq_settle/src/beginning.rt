@@ -23,17 +23,17 @@ pub(crate) fn begin(
     world: &mut World,
     newly: &mut Newly,
     told: &[TermId],
-    rows: Vec<Constraint>,
+    rows: &[Constraint],
 ) -> Result<bool, StoreFault>
-    requires { (texts : List Text) × SomeIsCalled texts (now_of world.old) newly.old told.now rows.items }
+    requires { (texts : List Text) × SomeIsCalled texts (now_of world.old) newly.old told.now rows.now }
     ensures begun { IfOk result (λ yes. MatchBool yes
-        ((texts : List Text) → OfCalls texts (now_of world.old) newly.old told.now rows.items
+        ((texts : List Text) → OfCalls texts (now_of world.old) newly.old told.now rows.now
             (HasStarted texts world.old.heap.now.terms (now_of world.new) told.now (numbers_of newly.new)))
-        ((texts : List Text) → OfCalls texts (now_of world.old) newly.old told.now rows.items IsPruned)) }
+        ((texts : List Text) → OfCalls texts (now_of world.old) newly.old told.now rows.now IsPruned)) }
     ensures overflow { (pair : Pair) → result ≡ Err (Overflow pair)
-        → (texts : List Text) → OfCalls texts (now_of world.old) newly.old told.now rows.items (λ st p u. MayRefuse st p pair) }
+        → (texts : List Text) → OfCalls texts (now_of world.old) newly.old told.now rows.now (λ st p u. MayRefuse st p pair) }
     ensures pivots { (n : ℕ) → result ≡ Err (Pivots n) → (n ≡ world.old.store.pivots)
-        × ((texts : List Text) → OfCalls texts (now_of world.old) newly.old told.now rows.items (λ st p u. MayTake st p n)) }
+        × ((texts : List Text) → OfCalls texts (now_of world.old) newly.old told.now rows.now (λ st p u. MayTake st p n)) }
     ensures marks { KeepsMarks world.old world.new }
 {
     store_and_numbers(world);

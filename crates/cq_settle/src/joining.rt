@@ -111,18 +111,19 @@ pub(crate) fn join_equations(
 /// The rows join. The variables that get fixed are told. False where the list has no solution.
 pub(crate) fn join_rows(
     store: &mut Store,
-    rows: Vec<Constraint>,
+    rows: &[Constraint],
     fixed: &mut Vec<VarId>,
 ) -> Result<bool, StoreFault>
     ensures joined { IfOk result (λ yes. MatchBool yes
-        (HaveJoined store.old.told rows.items store.new.told fixed.old.items fixed.new.items)
-        (StopsAt CannotJoin store.old.told rows.items)) }
-    ensures overflow { (pair : Pair) → result ≡ Err (Overflow pair) → StopsAt (Refuses pair) store.old.told rows.items }
-    ensures pivots { (n : ℕ) → result ≡ Err (Pivots n) → (n ≡ store.old.pivots) × StopsAt (Takes n) store.old.told rows.items }
+        (HaveJoined store.old.told rows.now store.new.told fixed.old.items fixed.new.items)
+        (StopsAt CannotJoin store.old.told rows.now)) }
+    ensures overflow { (pair : Pair) → result ≡ Err (Overflow pair) → StopsAt (Refuses pair) store.old.told rows.now }
+    ensures pivots { (n : ℕ) → result ≡ Err (Pivots n) → (n ≡ store.old.pivots) × StopsAt (Takes n) store.old.told rows.now }
     ensures saved { store.new.saved ≡ store.old.saved }
     ensures budget { store.new.pivots ≡ store.old.pivots }
 {
     for row in rows {
+        let row = row.clone()?;
         if !join(store, row, fixed)? {
             return Ok(false);
         }

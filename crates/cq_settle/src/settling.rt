@@ -106,7 +106,7 @@ fn run(world: &mut World, atoms: &Atoms, work: Work) -> Result<Settled, StoreFau
         told,
         rows,
     } = work;
-    if !begin(world, &mut newly, &told, rows)? {
+    if !begin(world, &mut newly, &told, &rows)? {
         return Ok(Settled::Pruned);
     }
     if !join_told(world, atoms, &told, &mut newly)? {
