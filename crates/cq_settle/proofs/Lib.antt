@@ -34,3 +34,4 @@ mod Waking
 mod Gather
 mod Marks
 mod Marked
+mod Gathered

@@ -10,7 +10,7 @@ use Rattle.spec_lists.proofs.Tests.{nat_eq-self}
 use Rattle.spec_terms.specs.Term.{Subst}
 use Rattle.spec_syntax.specs.Trees.{Tree}
 use Rattle.spec_branch.specs.Branch.{State, Pending, Sleeper}
-use Rattle.cq_attr.specs.Attributes.{Waiting, Attributes, is_numeric, IsWokenBy}
+use Rattle.cq_attr.specs.Attributes.{Waiting, Attributes, is_numeric, IsWokenBy, numbers}
 use Rattle.cq_attr.specs.declared.susp.Susp.{Susp}
 use Rattle.cq_attr.specs.declared.susp.Susp.TheVariants as susp
 use Rattle.cq_attr.proofs.Elements.{contains_cases}
@@ -25,6 +25,7 @@ use Rattle.cq_settle.proofs.Kept.{is_kept}
 use Rattle.cq_settle.proofs.Numeric.{any_found, numeric_below}
 use Rattle.cq_settle.proofs.Looked.{has_of_contains}
 use Rattle.cq_settle.proofs.Progress.{looked_on}
+use Rattle.cq_settle.proofs.Unique.{number_in}
 use Rattle.cq_settle.proofs.Zips.{Partner, partner_of, contains_filtered, contains_unfiltered}
 
 -- ---- from world to world
@@ -126,3 +127,9 @@ ends_kept texts old c all a woken solvable fixed fixes w st p u values waiting l
     let e : later ≡ [] = none_left _ later k.here.rest_reads in
     is_kept texts old.heap.terms c st p u values waiting all (subst (λ (ts : List Tree). IsUnderway texts old.heap.terms c st p u values waiting ts [] [] [] all) e k)
     solvable fixed fixes a woken w old refl
+
+-- what was woken waits
+pub woken_waits : (a : Attributes) (bound ns : List ℕ) → ((n : ℕ) → Contains ns n → IsWokenBy a bound n) → All (λ n. Contains (numbers a.waiting) n) ns
+woken_waits a bound ns f i d l =
+    let w = f (get_or ns i d) (Contains-get_or ns i d l) in
+    subst (λ (n : ℕ). Contains (numbers a.waiting) n) w.waits_for.number (number_in a.waiting w.waits_for.waiting w.waits_for.waits)
