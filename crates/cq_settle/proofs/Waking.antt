@@ -129,15 +129,22 @@ any_push k (m ∷ ns) n = ap (λ (b : Bool). (k.number == m) || b) (any_push k n
   assoc true b c = refl
   assoc false b c = refl
 
+-- what is left, and the goals that are given, once these numbers were looked at
+abbrev pub left_of : List HeapTerm → List Waiting → List ℕ → List Waiting
+left_of images ws ns = filter (λ k. not (among ns k && wakes images k)) ws
+
+abbrev pub given_of : List HeapTerm → List Waiting → List ℕ → List ℕ
+given_of images ws ns = filter_map (λ n. waking images (find ws n)) ns
+
 module _ (images : List HeapTerm) (ws : List Waiting) (ascends : Ascends (numbers ws)) where
   once : IsOnce (numbers ws)
   once = once_ascending (numbers ws) ascends
 
   abbrev pub left : List ℕ → List Waiting
-  left ns = filter (λ k. not (among ns k && wakes images k)) ws
+  left = left_of images ws
 
   abbrev pub given : List ℕ → List ℕ
-  given ns = filter_map (λ n. waking images (find ws n)) ns
+  given = given_of images ws
 
   pub left_none : ws ≡ left []
   left_none = all ws where
@@ -265,12 +272,12 @@ module _ (images : List HeapTerm) (ws : List Waiting) (ascends : Ascends (number
     given_by true k vs rest f e = ap₂ (λ o xs. cons_option o xs) (ap (waking images) f) e
     given_by false k vs rest f e = e
 
-    given_of : (vs : List Waiting) → ((k : Waiting) → Contains vs k → Contains ws k)
+    given_each : (vs : List Waiting) → ((k : Waiting) → Contains vs k → Contains ws k)
         → filter_map (λ n. waking images (find ws n)) (numbers (filter (waits_for_one bound) vs)) ≡ filter_map (λ k. if waits_for_one bound k then goal_that_wakes images k.susp else None) vs
-    given_of [] f = refl
-    given_of (k ∷ vs) f =
+    given_each [] f = refl
+    given_each (k ∷ vs) f =
         given_by (waits_for_one bound k) k (filter (waits_for_one bound) vs) (filter_map (λ k. if waits_for_one bound k then goal_that_wakes images k.susp else None) vs)
-        (find_of ws k once (f k (contains_here k vs k refl))) (given_of vs (λ m h. f m (contains_later k vs m h)))
+        (find_of ws k once (f k (contains_here k vs k refl))) (given_each vs (λ m h. f m (contains_later k vs m h)))
 
     pub all_given : given ns ≡ filter_map (λ k. if waits_for_one bound k then goal_that_wakes images k.susp else None) ws
-    all_given = ap given these ∙ given_of ws (λ k h. h)
+    all_given = ap given these ∙ given_each ws (λ k h. h)

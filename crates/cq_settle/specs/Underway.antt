@@ -29,12 +29,6 @@ abbrev pub IsLive : Terms → Susp → Type 0
 IsLive h (susp.Delayed t) = t < length h.terms
 IsLive h (susp.Goal v t) = (v.0 < length h.images) × (t < length h.terms)
 
--- what waits and the numeric variables are there, and each name has a text
-pub record IsWhole (texts : List Text) (c : Contents) : Type 0 where
-  pub live : All (λ k. IsLive c.heap k.susp) c.attrs.waiting
-  pub numeric : All (λ v. v < length c.heap.images) c.attrs.numeric
-  pub names : KnowsTerms texts c.heap.terms
-
 -- ---- what is being settled
 
 -- the unified bindings

@@ -14,7 +14,7 @@ ghost use Rattle.cq_world.specs.Worlds.{now_of};
 ghost use Rattle.cq_settle.specs.Settled.{KeepsMarks, IsPruned, MayRefuse, MayTake};
 ghost use Rattle.cq_settle.specs.Underway.{IsLive, SomeIsUnderway, GoesOn, OfEach, to_do};
 ghost use Rattle.cq_attr.specs.declared.susp.Susp.TheVariants as susp;
-ghost use Rattle.cq_settle.specs.Steps.{CannotJoin, Refuses, Takes, JoinsAndBinds, WakesAll};
+ghost use Rattle.cq_settle.specs.Steps.{CannotJoin, Refuses, Takes, JoinsAndBinds, WakesAll, is_unbound_term};
 
 use crate::joining::bind_fixed;
 use cq_atoms::Atoms;
@@ -23,7 +23,7 @@ use cq_cexpr::{Lin, linearise};
 use cq_form::Constraint;
 use cq_frac::VarId;
 use cq_linear::store::{StoreFault, Told};
-use cq_term::{Newly, TermId, View};
+use cq_term::{Heap, Newly, TermId, View};
 use cq_world::World;
 use std::alloc::AllocError;
 
@@ -210,15 +210,24 @@ pub(crate) fn wake(world: &mut World, newly: &[VarId]) -> Result<Vec<TermId>, Al
     ensures store { world.new.store.told ≡ world.old.store.told }
     ensures marks { KeepsMarks world.old world.new }
 {
+    store_and_numbers(world);
+    let woken = world.attrs.woken(newly)?;
     let mut goals = Vec::new(world.heap.alloc());
-    for number in world.attrs.woken(newly)? {
+    for &number in &woken {
         if let Susp::Goal(variable, goal) = *world.attrs.susp(number) {
-            let term = world.heap.var_term(variable);
-            if !matches!(world.heap.view(term), View::Var(_)) {
+            if !is_variable(&world.heap, variable) {
                 world.attrs.take(number)?;
                 goals.push(goal)?;
             }
         }
     }
     Ok(goals)
+}
+
+/// Whether the variable is unbound, or became another one.
+fn is_variable(heap: &Heap, variable: VarId) -> bool
+    requires { variable.0 < length heap.now.now.images }
+    ensures { result ≡ is_unbound_term (at heap.now.now.images variable.0) }
+{
+    matches!(heap.view(heap.var_term(variable)), View::Var(_))
 }

@@ -54,6 +54,7 @@ pub fn settle(world: &mut World, atoms: &Atoms, work: Work) -> Result<Settled, S
         → (n ≡ world.old.store.pivots) × OfCalls atoms.now (now_of world.old) work.newly work.told.items work.rows.items (λ st p u. MayTake st p n) }
     ensures marks { KeepsMarks world.old world.new }
 {
+    store_and_numbers(world);
     if is_idle(world, &work)? {
         return Ok(Settled::Woken(Vec::new(world.heap.alloc())));
     }
