@@ -2,7 +2,7 @@
 use Rattle.std.proofs.Common.{◌≡◌, ◌<◌, ◌≤◌, ℕ, List, [], ◌∷◌, ◌++◌, map, length, drop, get_or, Bool, true, false, Option, None, Some, refl, sym, ap, ◌∙◌, subst, inl, inr, ◌⊎◌, arith}
 use Rattle.std.specs.Prelude.{Contains, All, ◌==◌}
 use Rattle.std.specs.List.{AllZip}
-use Rattle.std.proofs.lemmas.List.Elements.{Contains-get_or}
+use Rattle.std.proofs.lemmas.List.Elements.{Contains-get_or, All-get_or, All-contains}
 use Rattle.spec_rational.specs.Rational.{ℚ}
 use Rattle.spec_linear.specs.Solution.{Solvable, Fixes}
 use Rattle.spec_lists.specs.Texts.{Text}
@@ -10,12 +10,13 @@ use Rattle.spec_lists.proofs.Tests.{nat_eq-self}
 use Rattle.spec_terms.specs.Term.{Subst}
 use Rattle.spec_syntax.specs.Trees.{Tree}
 use Rattle.spec_branch.specs.Branch.{State, Pending, Sleeper}
-use Rattle.cq_attr.specs.Attributes.{Waiting, Attributes, is_numeric, IsWokenBy, numbers}
+use Rattle.cq_attr.specs.Attributes.{Waiting, Attributes, is_numeric, IsWokenBy, numbers, find}
 use Rattle.cq_attr.specs.declared.susp.Susp.{Susp}
 use Rattle.cq_attr.specs.declared.susp.Susp.TheVariants as susp
 use Rattle.cq_attr.proofs.Elements.{contains_cases}
 use Rattle.cq_term.specs.HeapValue.{Terms}
-use Rattle.cq_term.specs.Meaning.{HeapTerm}
+use Rattle.cq_term.specs.Meaning.{HeapTerm, at, blank}
+use Rattle.cq_term.specs.Names.{HasNamesBelow}
 use Rattle.cq_world.specs.Contents.{Contents}
 use Rattle.cq_world.specs.Standing.{IsConstraint, IsSleeper, constraints, goals, is_constraint, is_goal}
 use Rattle.cq_settle.specs.Settled.{IsKept}
@@ -25,7 +26,7 @@ use Rattle.cq_settle.proofs.Kept.{is_kept}
 use Rattle.cq_settle.proofs.Numeric.{any_found, numeric_below}
 use Rattle.cq_settle.proofs.Looked.{has_of_contains}
 use Rattle.cq_settle.proofs.Progress.{looked_on}
-use Rattle.cq_settle.proofs.Unique.{number_in}
+use Rattle.cq_settle.proofs.Unique.{number_in, found_waits}
 use Rattle.cq_settle.proofs.Zips.{Partner, partner_of, contains_filtered, contains_unfiltered}
 
 -- ---- from world to world
@@ -133,3 +134,23 @@ pub woken_waits : (a : Attributes) (bound ns : List ℕ) → ((n : ℕ) → Cont
 woken_waits a bound ns f i d l =
     let w = f (get_or ns i d) (Contains-get_or ns i d l) in
     subst (λ (n : ℕ). Contains (numbers a.waiting) n) w.waits_for.number (number_in a.waiting w.waits_for.waiting w.waits_for.waits)
+
+-- ---- what a call may rely on while some settling is underway
+
+module _ (texts : List Text) (c : Contents) (i : ToDo) (k : SomeIsUnderway texts c i) where
+  pub numeric_live : All (λ v. v < length c.heap.images) c.attrs.numeric
+  numeric_live = numeric_there texts k.older c k.state k.pending k.unifier k.values k.waiting k.later i.rest i.numbers i.bound i.all k.is.here
+
+  pub waiting_live : All (λ w. IsLive c.heap w.susp) c.attrs.waiting
+  waiting_live = all_live texts k.older c k.state k.pending k.unifier k.values k.waiting k.later i.rest i.numbers i.bound i.all k.is.here
+
+  pub rest_live : All (λ id. id < length c.heap.terms) i.rest
+  rest_live = k.is.here.rest_live
+
+  pub named : (id : ℕ) → id < length c.heap.terms → HasNamesBelow (length texts) (at c.heap.terms id)
+  named id l = All-get_or (HasNamesBelow (length texts)) c.heap.terms id blank l k.is.here.stands.names
+
+  pub live_under : (n id : ℕ) → find c.attrs.waiting n ≡ Some (susp.Delayed id) → id < length c.heap.terms
+  live_under n id e =
+      let r = found_waits c.attrs.waiting n (susp.Delayed id) e in
+      subst (IsLive c.heap) r.is (All-contains (λ w. IsLive c.heap w.susp) c.attrs.waiting r.waiting waiting_live r.waits)
