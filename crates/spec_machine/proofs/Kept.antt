@@ -10,7 +10,9 @@ use Rattle.spec_search.specs.Balls as balls
 use Rattle.cq_control.specs.Heights.{total}
 use Rattle.cq_control.specs.Items.{items_at}
 use Rattle.cq_control.specs.Open.{last}
-use Rattle.spec_machine.specs.Cells.{Cell, Goal, Call, CutTo, CutFail, CatchEnd, Collect, Fits, Left, One, Clauses, Ways, Barrier, Gathers, size, Value, Stack, below, top_world}
+use Rattle.spec_machine.specs.declared.cell.Cell.{Cell}
+use Rattle.spec_machine.specs.declared.cell.Cell.TheVariants.{Goal, Call, CutTo, CutFail, CatchEnd, Collect}
+use Rattle.spec_machine.specs.Cells.{Fits, Left, One, Clauses, Ways, Barrier, Gathers, size, Value, Stack, below, top_world}
 use Rattle.spec_machine.specs.Standing.{AreItems, IsContinuation, IsPlace, AreBranches, AreWaiting, KeepsReading, ReadsOn}
 
 -- ---- the oldest ones

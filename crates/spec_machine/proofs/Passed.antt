@@ -11,7 +11,9 @@ use Rattle.spec_search.specs.Turns as turn
 use Rattle.spec_search.specs.Turns.{Turn, with_branches, place_of, after_step}
 use Rattle.cq_control.specs.Items.{items_at}
 use Rattle.cq_control.specs.Open.{last}
-use Rattle.spec_machine.specs.Cells.{Cell, Goal, CutTo, CutFail, CatchEnd, Fits, One, Clauses, Value, Stack, below}
+use Rattle.spec_machine.specs.declared.cell.Cell.{Cell}
+use Rattle.spec_machine.specs.declared.cell.Cell.TheVariants.{Goal, CutTo, CutFail, CatchEnd}
+use Rattle.spec_machine.specs.Cells.{Fits, One, Clauses, Value, Stack, below}
 use Rattle.spec_machine.specs.Standing.{engine, AreItems, IsPlace, AreWaiting, IsStanding}
 use Rattle.spec_machine.specs.Coming.{at_once, after, Comes, Rest}
 use Rattle.spec_machine.proofs.Kept.{length-last, fits_more, items_last, length-waiting, waiting-last}

@@ -9,7 +9,9 @@ use Rattle.spec_search.specs.Balls.{handed}
 use Rattle.spec_search.specs.Control.{put}
 use Rattle.spec_search.specs.Search.{settled, empty_state, start}
 use Rattle.cq_control.specs.Items.{items_at}
-use Rattle.spec_machine.specs.Cells.{Cell, Goal, Call, CutTo, CutFail, CatchEnd, Collect, Fits, nearest_catch, Value, Stack}
+use Rattle.spec_machine.specs.declared.cell.Cell.{Cell}
+use Rattle.spec_machine.specs.declared.cell.Cell.TheVariants.{Goal, Call, CutTo, CutFail, CatchEnd, Collect}
+use Rattle.spec_machine.specs.Cells.{Fits, nearest_catch, Value, Stack}
 use Rattle.spec_machine.specs.Standing.{engine, AreItems, IsStanding, IsHanded}
 
 pub nearest_fits : (n : ℕ) (cs : List Cell) (q : ℕ × ℕ × ℕ × List Cell) → Fits n cs → nearest_catch cs ≡ Some q → (q.0 < n) × Fits q.0 q.3

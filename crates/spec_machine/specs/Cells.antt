@@ -6,22 +6,10 @@ use Rattle.spec_branch.specs.Branch.{Copied}
 use Rattle.spec_search.specs.Database.{Clause}
 use Rattle.cq_control.specs.Heights.{branches_below}
 use Rattle.cq_control.specs.Open.{last}
+use Rattle.spec_machine.specs.declared.cell.Cell.{Cell}
+use Rattle.spec_machine.specs.declared.cell.Cell.TheVariants.{Goal, Call, CutTo, CutFail, CatchEnd, Collect}
 
 -- ---- cells
-
-pub data Cell : Type 0 where
-  -- a goal, and the height that a cut in it goes back to
-  Goal : ℕ → ℕ → Cell
-  -- call of a term, which a cut in it can't see
-  Call : ℕ → Cell
-  -- cuts to the height, and goes on
-  CutTo : ℕ → Cell
-  -- cuts to the height, and comes back
-  CutFail : ℕ → Cell
-  -- the end of a catch: the height of its choice, which keeps the world of its call, and its two other arguments
-  CatchEnd : ℕ → ℕ → ℕ → Cell
-  -- the end of a findall's goal: the height of its choice, which gathers, and the template
-  Collect : ℕ → ℕ → Cell
 
 -- Each cell speaks of choices among the oldest n, and what is behind it of those alone that it goes back to.
 abbrev pub Fits : ℕ → List Cell → Type 0

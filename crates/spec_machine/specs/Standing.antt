@@ -12,7 +12,9 @@ use Rattle.spec_search.specs.Balls.{caught_branch, handed}
 use Rattle.spec_search.specs.Search.{Search, settled}
 use Rattle.cq_control.specs.Heights.{total}
 use Rattle.cq_control.specs.Items.{items_at}
-use Rattle.spec_machine.specs.Cells.{Cell, Goal, Call, CutTo, CutFail, CatchEnd, Collect, Fits, Left, One, Clauses, Ways, Barrier, Gathers, size, Value, Stack, below, world_at}
+use Rattle.spec_machine.specs.declared.cell.Cell.{Cell}
+use Rattle.spec_machine.specs.declared.cell.Cell.TheVariants.{Goal, Call, CutTo, CutFail, CatchEnd, Collect}
+use Rattle.spec_machine.specs.Cells.{Fits, Left, One, Clauses, Ways, Barrier, Gathers, size, Value, Stack, below, world_at}
 
 -- an engine: the database, how many goals were selected, the choices, the world and the continuations now, and the
 -- continuation that it goes on with, if it doesn't come back

@@ -16,7 +16,9 @@ ghost use Rattle.spec_search.specs.Search.{Search, settled, empty_state, start, 
 ghost use Rattle.spec_search.specs.Turns.{Turn, Wrote, place_of, after_step};
 ghost use Rattle.cq_control.specs.Items.{items_at};
 ghost use Rattle.cq_control.specs.Open.{last};
-ghost use Rattle.spec_machine.specs.Cells.{Cell, Goal, CutTo, CutFail, CatchEnd, Fits, Left, One, Clauses, Barrier, Value, Stack, below, nearest_catch};
+ghost use Rattle.spec_machine.specs.declared.cell.Cell.{Cell};
+ghost use Rattle.spec_machine.specs.declared.cell.Cell.TheVariants.{Goal, CutTo, CutFail, CatchEnd};
+ghost use Rattle.spec_machine.specs.Cells.{Fits, Left, One, Clauses, Barrier, Value, Stack, below, nearest_catch};
 ghost use Rattle.spec_machine.specs.Standing.{engine, AreItems, AreWaiting, IsContinuation, IsHanded, IsPlace, IsStanding, KeepsReading, ReadsOn};
 ghost use Rattle.spec_machine.specs.Coming.{Comes};
 

@@ -3,8 +3,10 @@
 //! definitions.
 #![tactic(auto)]
 
+mod cell;
 mod laws;
 
+pub use cell::Cell;
 pub use laws::{
     StateWorlds, balls_are_handed, children_are_settled, choices_are_come_back_to,
     goals_are_selected, marks_are_passed, queries_begin, searches_end, standing_stays,
