@@ -1,0 +1,2 @@
+pub mod EngineValue
+pub mod Cells
