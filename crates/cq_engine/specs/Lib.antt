@@ -1,2 +1,1 @@
 pub mod EngineValue
-pub mod Cells

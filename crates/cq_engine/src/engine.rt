@@ -1,24 +1,25 @@
-// The engine of a program: a query is asked, and its events come one at a time.
+// The engine of a program: clauses are added, a query is asked, and its events come one at a time.
 
-ghost use Rattle.std.specs.Prelude.{◌≡◌, ◌≢◌, ◌<◌, ◌≤◌, ℕ, List, [], ◌∷◌, length, Ok, Some, None, IfOk, OnOk, OnErr};
-ghost use Rattle.spec_lists.specs.Texts.{Text};
+ghost use Rattle.std.specs.Prelude.{◌≡◌, ◌<◌, ◌≤◌, ℕ, List, [], length, Option, Some, None, IfOk, IfSome, IfNone, OnOk, OnErr};
 ghost use Rattle.spec_syntax.specs.Trees.{Tree};
 ghost use Rattle.spec_built.specs.Bodies.{as_goal};
-ghost use Rattle.spec_operators.specs.Operators.{Ops};
-ghost use Rattle.spec_branch.specs.Branch.{State, Copied, read};
+ghost use Rattle.spec_built.specs.Built.{compound1};
+ghost use Rattle.spec_search.specs.Changes.{consult_error, consulted};
 ghost use Rattle.spec_search.specs.Database.{Database, initial};
-ghost use Rattle.spec_search.specs.Search.{start, empty_state};
-ghost use Rattle.spec_search.specs.Turns.{Wrote, Answered, Threw, Ended};
-ghost use Rattle.spec_machine.specs.Coming.{Shows, Stops, Told};
-ghost use Rattle.cq_engine.specs.EngineValue.{StandsFor, TellsNext, GoesQuietly};
+ghost use Rattle.spec_search.specs.Search.{Search, start, empty_state};
+ghost use Rattle.cq_steps.specs.Worlds.{IsBranch, term_in};
+ghost use Rattle.cq_engine.specs.EngineValue.{StandsFor, TellsNext, GoesQuietly, IsOver, KeepsAll};
 
-use crate::parts::{BranchWorld, Item};
 use cq_atoms::Atoms;
-use cq_control::{Choices, Continuation, Continuations};
+use cq_clauses::Clauses;
+use cq_control::{Choices, Continuation};
 use cq_frac::Pair;
+use cq_ops::Ops;
+use cq_program::ProgramClause;
+use cq_steps::{Alternatives, Searching};
 use cq_term::TermId;
-use cq_trail::Both;
-use std::alloc::AllocError;
+use cq_world::World;
+use std::alloc::{AllocError, Global};
 use std::marker::Model;
 
 /// What a query may spend: selected goals, and exchanges of one maximisation.
@@ -51,59 +52,94 @@ pub enum Event {
     Stop(Cause),
 }
 
-/// The search of one program. Contracts see it as a machine of `spec_machine` over the texts of its names, and say for which
-/// searches of the definitions it stands.
+/// The search of one program. Contracts see it as an engine of the definitions over the texts of its names, and say for which
+/// searches it stands.
 #[derive(Drop)]
-pub struct Engine<W: BranchWorld> {
+pub struct Engine {
     atoms: Atoms,
-    /// The world, and what each continuation has to do: both go back to a choice together.
-    world: Both<W, Continuations<Item>>,
+    ops: Ops,
+    clauses: Clauses<ProgramClause>,
+    world: Searching,
+    choices: Choices<Alternatives>,
     current: Option<Continuation>,
     selected: u64,
     budgets: Budgets,
 }
 
-impl<W: BranchWorld> Engine<W> {
+impl Engine {
     /// The engine of no program and no query: its database is the one at the start, and no branch is left.
-    pub fn new(world: W) -> Result<Self, AllocError>
-        requires { W.saved world ≡ [] }
+    pub fn new(alloc: Global) -> Result<Self, AllocError>
         ensures database { IfOk result (λ e. e.machine.database ≡ initial) }
-        ensures nothing { IfOk result (λ e. (e.machine.choices ≡ []) × (e.machine.current ≡ None)) }
+        ensures over { IfOk result (λ e. IsOver e) }
     {
         Err(AllocError)
     }
 
-    /// Asks a goal; what is left of the query before is dropped, and its bindings are gone. New variables are numbered from the
-    /// number of those that the world has then. Fails for want of memory, with no branch left.
+    /// Asks a goal; what is left of the query before is dropped. New variables are numbered from the number of those that there
+    /// are. An error is want of memory, with no branch left.
     pub fn solve(&mut self, goal: TermId, budgets: Budgets) -> Result<(), AllocError>
         requires steps { 0 < budgets.steps }
-        requires goal { (st : State) (query : Tree) × W.is_state self.old.texts (base self.old) st × (W.term self.old.texts (base self.old) goal ≡ Some (read st query)) }
-        ensures stands { OnOk result ((n : ℕ) (query : Tree) → W.is_state self.new.texts self.new.machine.now.0 (empty_state n)
-            → W.term self.old.texts (base self.old) goal ≡ Some (read (empty_state n) query)
-            → StandsFor W.is_state W.term self.new (start self.old.machine.database query n)) }
+        requires goal { (query : Tree) × (term_in self.old.texts self.old.machine.now.0 goal ≡ Some query) }
+        ensures stands { OnOk result ((query : Tree) → term_in self.old.texts self.old.machine.now.0 goal ≡ Some query
+            → StandsFor self.new (start self.old.machine.database query (length self.new.machine.now.0.heap.images))) }
         ensures database { self.new.machine.database ≡ self.old.machine.database }
-        ensures err { OnErr result ((self.new.machine.choices ≡ []) × (self.new.machine.current ≡ None)) }
+        ensures budgets { OnOk result ((self.new.budgets.steps ≡ budgets.steps) × (self.new.budgets.pivots ≡ budgets.pivots)) }
+        ensures err { OnErr result (IsOver self.new) }
+    {
+        Err(AllocError)
+    }
+
+    /// Asks once of a goal, as a directive does.
+    pub fn solve_once(&mut self, goal: TermId, budgets: Budgets) -> Result<(), AllocError>
+        requires steps { 0 < budgets.steps }
+        requires goal { (query : Tree) × (term_in self.old.texts self.old.machine.now.0 goal ≡ Some query) }
+        ensures stands { OnOk result ((query : Tree) → term_in self.old.texts self.old.machine.now.0 goal ≡ Some query
+            → StandsFor self.new (start self.old.machine.database (compound1 "once" query) (length self.new.machine.now.0.heap.images))) }
+        ensures database { self.new.machine.database ≡ self.old.machine.database }
+        ensures budgets { OnOk result ((self.new.budgets.steps ≡ budgets.steps) × (self.new.budgets.pivots ≡ budgets.pivots)) }
+        ensures err { OnErr result (IsOver self.new) }
     {
         Err(AllocError)
     }
 
     /// The next that the search shows. After Fail, Ball or Stop it is Fail.
     pub fn next(&mut self) -> Result<Event, AllocError>
-        ensures answer { result ≡ Ok Event.Answer → (s : Search) → StandsFor W.is_state W.term self.old s → (st : State) × (ops : Ops) × (t : Search)
-            × Tells self.old.budgets s (Shows (Answered st ops)) t × StandsFor W.is_state W.term self.new t
-            × W.is_state self.new.texts self.new.machine.now.0 st }
-        ensures output { (bytes : List ℕ) → result ≡ Ok (Event.Output bytes) → TellsNext W.is_state W.term self.old (Shows (Wrote bytes)) self.new }
-        ensures fail { result ≡ Ok Event.Fail → TellsNext W.is_state W.term self.old (Shows Ended) self.new }
-        ensures ball { (id : ℕ) → result ≡ Ok (Event.Ball id) → (s : Search) → StandsFor W.is_state W.term self.old s → (ball : Copied) × (t : Search)
-            × Tells self.old.budgets s (Shows (Threw ball)) t × StandsFor W.is_state W.term self.new t
-            × AreVariantsOf (W.term self.new.texts self.new.machine.now.0 id) ball.term }
-        ensures stop { (cause : Cause) → result ≡ Ok (Event.Stop cause) → TellsNext W.is_state W.term self.old (Stops (cause_of cause)) self.new }
+        ensures event { IfOk result (λ e. TellsNext self.old e self.new) }
 
         // After want of memory the engine stands after some turns that show nothing.
-        ensures err { OnErr result (GoesQuietly W.is_state W.term self.old self.new) }
-        ensures texts { KeepsTexts self.old.texts self.new.texts }
+        ensures err { OnErr result (GoesQuietly self.old self.new) }
         ensures budgets { self.new.budgets ≡ self.old.budgets }
     {
         Err(AllocError)
+    }
+
+    /// Adds a clause of a file, last among those of its predicate; a procedure that it makes is static. Some where it is refused,
+    /// with the error.
+    pub fn consult(&mut self, clause: TermId) -> Result<Option<TermId>, AllocError>
+        requires { (t : Tree) × (term_in self.old.texts self.old.machine.now.0 clause ≡ Some t) }
+        ensures added { IfOk result (λ r. IfNone r ((t : Tree) → term_in self.old.texts self.old.machine.now.0 clause ≡ Some t
+            → (consult_error t ≡ None) × (self.new.machine.database ≡ consulted t self.old.machine.database))) }
+        ensures refused { IfOk result (λ r. IfSome r (λ ball. (t : Tree) → term_in self.old.texts self.old.machine.now.0 clause ≡ Some t
+            → (e : Tree) × (consult_error t ≡ Some e) × (self.new.machine.database ≡ self.old.machine.database))) }
+        ensures err { OnErr result (self.new.machine.database ≡ self.old.machine.database) }
+    {
+        Err(AllocError)
+    }
+
+    /// The world of the branch that was answered last.
+    pub fn world(&self) -> &World {
+        &self.world.first
+    }
+
+    /// The names of its terms.
+    pub fn atoms(&self) -> &Atoms
+        ensures { result.now ≡ self.now.texts }
+    {
+        &self.atoms
+    }
+
+    /// The operators of the moment.
+    pub fn ops(&self) -> &Ops {
+        &self.ops
     }
 }

@@ -1,3 +1,3 @@
-pub mod Rows
+pub mod Control
 pub mod Selected
 pub mod Arrived

@@ -119,24 +119,24 @@ module _ {W : Type 0} (IsState : W → State → Type 0) (term : W → ℕ → O
           s.waiting)
 
       -- C->T, with one child
-      pub if_then_becomes : (k condition then : ℕ) (c t : Tree) → Reads IsState term w p.state condition c → Reads IsState term w p.state then t → k < length lists
-          → items_at lists k ≡ put_cell (is_callable c) condition (length choices) ∷ CutTo (length choices) ∷ put_cell (is_callable t) then height ∷ items_at old rest
+      pub if_then_becomes : (k condition second : ℕ) (c t : Tree) → Reads IsState term w p.state condition c → Reads IsState term w p.state second t → k < length lists
+          → items_at lists k ≡ put_cell (is_callable c) condition (length choices) ∷ CutTo (length choices) ∷ put_cell (is_callable t) second height ∷ items_at old rest
           → Becomes IsState term choices (w, lists) (Some k) p behind (if_then_row p c t)
-      if_then_becomes k condition then c t rc rt there e =
+      if_then_becomes k condition second c t rc rt there e =
           let P : ℕ → ℕ → Type 0 = λ h g. Becomes IsState term choices (w, lists) (Some k) p behind (goes_on p (put c h ∷ branch.CutTo h ∷ put t g ∷ p.rest)) in
           subst (λ h. P h p.cut) all_below
           (subst (P (below choices (length choices))) (sym s.goes_back)
           (goes_on_with choices (w, lists) k p behind (put c (below choices (length choices)) ∷ branch.CutTo (below choices (length choices)) ∷ put t (below choices height) ∷ p.rest)
           (built choices w lists k _ _ p.state there e
           (put_fits (length choices) condition (length choices) (is_callable c) _ (omega arith)
-          (omega arith, put_fits (length choices) then height (is_callable t) _ s.within s.fits))
+          (omega arith, put_fits (length choices) second height (is_callable t) _ s.within s.fits))
           s.place.continuation.state
-          (put_items choices w p.state condition (length choices) c _ _ rc (_, refl, put_items choices w p.state then height t _ _ rt s.place.continuation.cells)))
+          (put_items choices w p.state condition (length choices) c _ _ rc (_, refl, put_items choices w p.state second height t _ _ rt s.place.continuation.cells)))
           s.waiting))
 
       -- ---- with one more choice, of another continuation
       module _ (k other : ℕ) (there : k < length lists) (other_there : other < length lists) where
-        pushed : Stack W
+        abbrev pub pushed : Stack W
         pushed = ((w, lists), One other) ∷ choices
 
         same_below : (h : ℕ) → h ≤ length choices → below pushed h ≡ below choices h
@@ -144,7 +144,7 @@ module _ {W : Type 0} (IsState : W → State → Type 0) (term : W → ℕ → O
 
         one_more : below pushed (length choices + 1) ≡ p.height + 1
         one_more =
-            let e : below pushed (length choices + 1) ≡ suc (total size choices) = ap (total size) (last-all pushed (length choices + 1) (omega arith)) in
+            let e : below pushed (length choices + 1) ≡ 1 + total size choices = ap (total size) (last-all pushed (length choices + 1) (omega arith)) in
             omega (arith, e, s.place.height)
 
         below_old : below pushed (length choices) ≡ p.height
@@ -168,11 +168,11 @@ module _ {W : Type 0} (IsState : W → State → Type 0) (term : W → ℕ → O
         rest_items = older_items (items_at old rest) p.rest s.place.continuation.fits s.place.continuation.cells
 
         -- C, then a cut to the choices, then T
-        condition_items : (condition then : ℕ) (c t : Tree) → Reads IsState term w p.state condition c → Reads IsState term w p.state then t
-            → AreItems IsState term pushed w p.state (put_cell (is_callable c) condition (length choices + 1) ∷ CutTo (length choices) ∷ put_cell (is_callable t) then height ∷ items_at old rest)
+        condition_items : (condition second : ℕ) (c t : Tree) → Reads IsState term w p.state condition c → Reads IsState term w p.state second t
+            → AreItems IsState term pushed w p.state (put_cell (is_callable c) condition (length choices + 1) ∷ CutTo (length choices) ∷ put_cell (is_callable t) second height ∷ items_at old rest)
             (put c (below pushed (length choices + 1)) ∷ branch.CutTo (below pushed (length choices)) ∷ put t (below pushed height) ∷ p.rest)
-        condition_items condition then c t rc rt =
-            put_items pushed w p.state condition (length choices + 1) c _ _ rc (_, refl, put_items pushed w p.state then height t _ _ rt rest_items)
+        condition_items condition second c t rc rt =
+            put_items pushed w p.state condition (length choices + 1) c _ _ rc (_, refl, put_items pushed w p.state second height t _ _ rt rest_items)
 
         -- A;B where A is no if-then
         pub or_becomes : (left right : ℕ) (a b : Tree) → Reads IsState term w p.state left a → Reads IsState term w p.state right b → first_items p a ≡ put a p.cut ∷ p.rest
@@ -189,12 +189,12 @@ module _ {W : Type 0} (IsState : W → State → Type 0) (term : W → ℕ → O
             s.waiting)
 
         -- C->T;B
-        pub if_then_else_becomes : (condition then right : ℕ) (a c t b : Tree) → Reads IsState term w p.state condition c → Reads IsState term w p.state then t
+        pub if_then_else_becomes : (condition second right : ℕ) (a c t b : Tree) → Reads IsState term w p.state condition c → Reads IsState term w p.state second t
             → Reads IsState term w p.state right b → first_items p a ≡ if_then_items p (p.height + 1) c t
-            → items_at lists k ≡ put_cell (is_callable c) condition (length choices + 1) ∷ CutTo (length choices) ∷ put_cell (is_callable t) then height ∷ items_at old rest
+            → items_at lists k ≡ put_cell (is_callable c) condition (length choices + 1) ∷ CutTo (length choices) ∷ put_cell (is_callable t) second height ∷ items_at old rest
             → items_at lists other ≡ put_cell (is_callable b) right height ∷ items_at old rest
             → Becomes IsState term pushed (w, lists) (Some k) p behind (or_row p a b)
-        if_then_else_becomes condition then right a c t b rc rt rb first e f =
+        if_then_else_becomes condition second right a c t b rc rt rb first e f =
             two (put c (below pushed (length choices + 1)) ∷ branch.CutTo (below pushed (length choices)) ∷ put t (below pushed height) ∷ p.rest) (put b (below choices height) ∷ p.rest)
             (first_items p a) (put b p.cut ∷ p.rest)
             (ap (λ h. put c h ∷ branch.CutTo (below pushed (length choices)) ∷ put t (below pushed height) ∷ p.rest) one_more
@@ -204,8 +204,8 @@ module _ {W : Type 0} (IsState : W → State → Type 0) (term : W → ℕ → O
             (chooses choices (w, lists) k other p behind _ _
             (built pushed w lists k _ _ p.state there e
             (put_fits (length pushed) condition (length choices + 1) (is_callable c) _ (omega arith)
-            (omega arith, put_fits (length choices) then height (is_callable t) _ s.within s.fits))
-            s.place.continuation.state (condition_items condition then c t rc rt))
+            (omega arith, put_fits (length choices) second height (is_callable t) _ s.within s.fits))
+            s.place.continuation.state (condition_items condition second c t rc rt))
             (built choices w lists other _ _ p.state other_there f (put_fits (length choices) right height (is_callable b) _ s.within s.fits) s.place.continuation.state
             (put_items choices w p.state right height b _ _ rb s.place.continuation.cells))
             s.waiting)
