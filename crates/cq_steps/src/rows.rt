@@ -1,6 +1,6 @@
 // What conjunction, if-then and negation become.
 
-ghost use Rattle.std.specs.Prelude.{◌≡◌, ◌<◌, ℕ, List, length, Some, IfOk};
+ghost use Rattle.std.specs.Prelude.{◌≡◌, ◌<◌, ◌+◌, ℕ, List, length, Some, IfOk, OnErr};
 ghost use Rattle.spec_lists.specs.Texts.{Text};
 ghost use Rattle.spec_built.specs.Kinds.{is_callable as callable};
 ghost use Rattle.spec_syntax.specs.Trees.{Tree};
@@ -32,6 +32,16 @@ pub(crate) fn put(heap: &Heap, goal: TermId, height: usize) -> Cell
         Cell::Goal(goal, height)
     } else {
         Cell::Call(goal)
+    }
+}
+
+/// The height above one more choice.
+fn one_more(height: usize) -> Result<usize, AllocError>
+    ensures { IfOk result (λ above. above ≡ height + 1) }
+{
+    match height.checked_add(1) {
+        Some(above) => Ok(above),
+        None => Err(AllocError),
     }
 }
 
@@ -67,26 +77,27 @@ pub fn if_then(
     world: &mut Searching,
     choices: &Choices<Alternatives>,
     condition: TermId,
-    then: TermId,
+    goal: TermId,
     height: usize,
     rest: Continuation,
 ) -> Result<Continuation, AllocError>
     requires condition { condition < length world.old.first.heap.now.terms }
-    requires then { then < length world.old.first.heap.now.terms }
+    requires goal { goal < length world.old.first.heap.now.terms }
     requires rest { rest < length world.old.second.now }
     ensures row { IfOk result (λ k. (texts : List Text) (stack : Stack Contents) (p : Place) (behind : List Branch) (c t : Tree)
         → length stack ≡ length choices.now
         → Selected texts stack (value world.old.first world.old.second.now) height rest p behind
-        → ReadsAs texts (now_of world.old.first) p.state condition c → ReadsAs texts (now_of world.old.first) p.state then t
+        → ReadsAs texts (now_of world.old.first) p.state condition c → ReadsAs texts (now_of world.old.first) p.state goal t
         → Leads texts stack (value world.new.first world.new.second.now) (Some k) p behind (if_then_row p c t)) }
     ensures grown { (texts : List Text) → Grown texts (value world.old.first world.old.second.now) (value world.new.first world.new.second.now) }
     ensures first { world.new.first ≡ world.old.first }
     ensures saved { world.new.second.saved ≡ world.old.second.saved }
 {
-    let second = put(&world.first.heap, then, height);
+    let top = choices.height();
+    let second = put(&world.first.heap, goal, height);
     let last = world.second.before(second, rest)?;
-    let mark = world.second.before(Cell::CutTo(choices.height()), last)?;
-    let first = put(&world.first.heap, condition, choices.height());
+    let mark = world.second.before(Cell::CutTo(top), last)?;
+    let first = put(&world.first.heap, condition, top);
     let all = world.second.before(first, mark)?;
     Ok(all)
 }
@@ -107,10 +118,13 @@ pub fn not(
         → Leads texts (stack texts v (saved_values world.new.first world.new.second.saved) choices.new) (value world.new.first world.new.second.now) (Some k) p behind (not_row p g)) }
     ensures grown { (texts : List Text) → Grown texts (value world.old.first world.old.second.now) (value world.new.first world.new.second.now) }
     ensures marked { AreMarked (saved_values world.new.first world.new.second.saved) choices.new }
+    ensures err { OnErr result (choices.new ≡ choices.old) }
+    ensures err_saved { OnErr result (saved_values world.new.first world.new.second.saved ≡ saved_values world.old.first world.old.second.saved) }
 {
-    let height = choices.height();
-    let mark = world.second.before(Cell::CutFail(height), rest)?;
-    let first = put(&world.first.heap, goal, height + 1);
+    let top = choices.height();
+    let mark = world.second.before(Cell::CutFail(top), rest)?;
+    let above = one_more(top)?;
+    let first = put(&world.first.heap, goal, above);
     let both = world.second.before(first, mark)?;
     choices.push(world, Alternatives::One(rest))?;
     Ok(both)
