@@ -1,5 +1,5 @@
 -- What an engine is to its callers.
-use Rattle.std.specs.Prelude.{◌≡◌, ℕ, ◌≤◌, List, [], Option, Some, None}
+use Rattle.std.specs.Prelude.{◌≡◌, ℕ, ◌≤◌, List, [], ◌∷◌, Option, Some, None}
 use Rattle.spec_lists.specs.Texts.{Text}
 use Rattle.spec_operators.specs.Operators.{Ops}
 use Rattle.spec_terms.specs.Variables.{renamed_from}
@@ -26,6 +26,14 @@ pub record EngineValue : Type 0 where
   pub texts : List Text
   pub machine : Machine Contents
   pub budgets : Budgets
+
+-- the world that the engine goes back to once its query is over: that of its oldest choice, which stands for no branch
+abbrev pub base_below : Stack Contents → Contents → Contents
+base_below [] w = w
+base_below (c ∷ older) w = base_below older c.0.0
+
+abbrev pub base : EngineValue → Contents
+base e = base_below e.machine.choices e.machine.now.0
 
 -- no branch is left
 abbrev pub IsOver : EngineValue → Type 0

@@ -8,7 +8,7 @@ ghost use Rattle.spec_search.specs.Changes.{consult_error, consulted};
 ghost use Rattle.spec_search.specs.Database.{Database, initial};
 ghost use Rattle.spec_search.specs.Search.{Search, start, empty_state};
 ghost use Rattle.cq_steps.specs.Worlds.{IsBranch, term_in};
-ghost use Rattle.cq_engine.specs.EngineValue.{StandsFor, TellsNext, GoesQuietly, IsOver, KeepsAll};
+ghost use Rattle.cq_engine.specs.EngineValue.{StandsFor, TellsNext, GoesQuietly, IsOver, base};
 
 use cq_atoms::Atoms;
 use cq_clauses::Clauses;
@@ -75,13 +75,13 @@ impl Engine {
         Err(AllocError)
     }
 
-    /// Asks a goal; what is left of the query before is dropped. New variables are numbered from the number of those that there
-    /// are. An error is want of memory, with no branch left.
+    /// Asks a goal, whose term was there before the last query, or once that was over; what is left of that query is dropped.
+    /// New variables are numbered from the number of those that there were. An error is want of memory, with no branch left.
     pub fn solve(&mut self, goal: TermId, budgets: Budgets) -> Result<(), AllocError>
         requires steps { 0 < budgets.steps }
-        requires goal { (query : Tree) × (term_in self.old.texts self.old.machine.now.0 goal ≡ Some query) }
-        ensures stands { OnOk result ((query : Tree) → term_in self.old.texts self.old.machine.now.0 goal ≡ Some query
-            → StandsFor self.new (start self.old.machine.database query (length self.new.machine.now.0.heap.images))) }
+        requires goal { (query : Tree) × (term_in self.old.texts (base self.old) goal ≡ Some query) }
+        ensures stands { OnOk result ((query : Tree) → term_in self.old.texts (base self.old) goal ≡ Some query
+            → StandsFor self.new (start self.old.machine.database query (length (base self.old).heap.images))) }
         ensures database { self.new.machine.database ≡ self.old.machine.database }
         ensures budgets { OnOk result ((self.new.budgets.steps ≡ budgets.steps) × (self.new.budgets.pivots ≡ budgets.pivots)) }
         ensures err { OnErr result (IsOver self.new) }
@@ -92,14 +92,22 @@ impl Engine {
     /// Asks once of a goal, as a directive does.
     pub fn solve_once(&mut self, goal: TermId, budgets: Budgets) -> Result<(), AllocError>
         requires steps { 0 < budgets.steps }
-        requires goal { (query : Tree) × (term_in self.old.texts self.old.machine.now.0 goal ≡ Some query) }
-        ensures stands { OnOk result ((query : Tree) → term_in self.old.texts self.old.machine.now.0 goal ≡ Some query
-            → StandsFor self.new (start self.old.machine.database (compound1 "once" query) (length self.new.machine.now.0.heap.images))) }
+        requires goal { (query : Tree) × (term_in self.old.texts (base self.old) goal ≡ Some query) }
+        ensures stands { OnOk result ((query : Tree) → term_in self.old.texts (base self.old) goal ≡ Some query
+            → StandsFor self.new (start self.old.machine.database (compound1 "once" query) (length (base self.old).heap.images))) }
         ensures database { self.new.machine.database ≡ self.old.machine.database }
         ensures budgets { OnOk result ((self.new.budgets.steps ≡ budgets.steps) × (self.new.budgets.pivots ≡ budgets.pivots)) }
         ensures err { OnErr result (IsOver self.new) }
     {
         Err(AllocError)
+    }
+
+    /// Drops what is left of the query: no branch is left, and the world is as before it. It takes no memory.
+    pub fn end_query(&mut self)
+        ensures over { IsOver self.new }
+        ensures world { self.new.machine.now.0 ≡ base self.old }
+        ensures database { self.new.machine.database ≡ self.old.machine.database }
+    {
     }
 
     /// The next that the search shows. After Fail, Ball or Stop it is Fail.
