@@ -1,6 +1,6 @@
 //! The steps of telling a constraint. Where one of them is refused, the store is left between marks, to be undone.
 
-ghost use Rattle.std.specs.Prelude.{◌≡◌, ℕ, [], ◌∷◌, ◌++◌, IfOk, MatchBool};
+ghost use Rattle.std.specs.Prelude.{◌≡◌, ◌≤◌, ℕ, [], ◌∷◌, ◌++◌, IfOk, MatchBool};
 ghost use Rattle.spec_linear.specs.declared.Relation.TheVariants.{Ne};
 ghost use Rattle.spec_linear.specs.Solution.{Solvable, Unsolvable};
 ghost use Rattle.spec_limits.specs.Asked.{NoQuestion};
@@ -66,7 +66,9 @@ pub fn enter_inequality(
     ensures grows { IsPrefix names.old.now names.new.now }
     ensures numbered { AreNumbered names.new.now numbers.new.entries }
     ensures names_saved { names.new.saved ≡ names.old.saved }
+    ensures names_room { names.old.room ≤ names.new.room }
     ensures dict_saved { dict.new.saved ≡ dict.old.saved }
+    ensures dict_room { dict.old.room ≤ dict.new.room }
 {
     let q = ask(alloc, numbers, names, dict, &c.form)?;
     names.reserve_places(1)?;
@@ -114,7 +116,9 @@ fn enter_on_face(
     ensures grows { IsPrefix names.old.now names.new.now }
     ensures numbered { AreNumbered names.new.now numbers.now.entries }
     ensures names_saved { names.new.saved ≡ names.old.saved }
+    ensures names_room { names.old.room ≤ names.new.room }
     ensures dict_saved { dict.new.saved ≡ dict.old.saved }
+    ensures dict_room { dict.old.room ≤ dict.new.room }
 {
     let before = open_variables(alloc, names, dict)?;
     let fallen = face(alloc, pivots, told, names, dict, q, columns)?;
@@ -148,7 +152,9 @@ pub fn enter_disequation(
     ensures grows { IsPrefix names.old.now names.new.now }
     ensures numbered { AreNumbered names.new.now numbers.new.entries }
     ensures names_saved { names.new.saved ≡ names.old.saved }
+    ensures names_room { names.old.room ≤ names.new.room }
     ensures dict_saved { dict.new.saved ≡ dict.old.saved }
+    ensures dict_room { dict.old.room ≤ dict.new.room }
 {
     let q = ask(alloc, numbers, names, dict, &c.form)?;
     let number = told.len() + 1;
@@ -189,7 +195,9 @@ fn enter_behind(
     ensures grows { IsPrefix names.old.now names.new.now }
     ensures numbered { AreNumbered names.new.now numbers.new.entries }
     ensures names_saved { names.new.saved ≡ names.old.saved }
+    ensures names_room { names.old.room ≤ names.new.room }
     ensures dict_saved { dict.new.saved ≡ dict.old.saved }
+    ensures dict_room { dict.old.room ≤ dict.new.room }
 {
     match c.relation {
         Relation::Ge | Relation::Gt => enter_inequality(
@@ -218,8 +226,11 @@ pub fn enter(
     ensures grows { IsPrefix held.old.second.first.now held.new.second.first.now }
     ensures numbered { AreNumbered held.new.second.first.now numbers.new.entries }
     ensures told_saved { held.new.first.saved ≡ held.old.first.saved }
+    ensures told_room { held.old.first.room ≤ held.new.first.room }
     ensures names_saved { held.new.second.first.saved ≡ held.old.second.first.saved }
+    ensures names_room { held.old.second.first.room ≤ held.new.second.first.room }
     ensures dict_saved { held.new.second.second.saved ≡ held.old.second.second.saved }
+    ensures dict_room { held.old.second.second.room ≤ held.new.second.second.room }
 {
     held.first.reserve_places(1)?;
     let told = held.first.as_slice();
@@ -258,8 +269,11 @@ pub fn can_enter(
     ensures grows { IsPrefix held.old.second.first.now held.new.second.first.now }
     ensures numbered { AreNumbered held.new.second.first.now numbers.new.entries }
     ensures told_saved { held.new.first.saved ≡ held.old.first.saved }
+    ensures told_room { held.old.first.room ≤ held.new.first.room }
     ensures names_saved { held.new.second.first.saved ≡ held.old.second.first.saved }
+    ensures names_room { held.old.second.first.room ≤ held.new.second.first.room }
     ensures dict_saved { held.new.second.second.saved ≡ held.old.second.second.saved }
+    ensures dict_room { held.old.second.second.room ≤ held.new.second.second.room }
 {
     match enter(alloc, pivots, numbers, held, c) {
         Ok(Entered::Joined(_)) => Ok(true),

@@ -1,6 +1,6 @@
 //! Equations: the quantity of a told one is a dropped column, unless its row is zero by other equations.
 
-ghost use Rattle.std.specs.Prelude.{◌≡◌, ℕ, [], ◌∷◌, ◌++◌, ◌+◌, length, IfOk, IfSome, OnOk, MatchOption};
+ghost use Rattle.std.specs.Prelude.{◌≡◌, ◌≤◌, ℕ, [], ◌∷◌, ◌++◌, ◌+◌, length, IfOk, IfSome, OnOk, MatchOption};
 ghost use Rattle.spec_rational.specs.Rational.{0ℚ, 1ℚ, neg_ℚ};
 ghost use Rattle.spec_rational.specs.Sums.{Mentions};
 ghost use Rattle.spec_inequalities.specs.Certificate.{Refutes};
@@ -82,7 +82,9 @@ fn conclude(
     ensures grows { IsPrefix names.old.now names.new.now }
     ensures numbered { AreNumbered names.new.now numbers.now.entries }
     ensures names_saved { names.new.saved ≡ names.old.saved }
+    ensures names_room { names.old.room ≤ names.new.room }
     ensures dict_saved { dict.new.saved ≡ dict.old.saved }
+    ensures dict_room { dict.old.room ≤ dict.new.room }
 {
     names.reserve_places(1)?;
     names.push(Name::Member(told.len() + 1)).unwrap();
@@ -117,7 +119,9 @@ fn enter_by_column(
     ensures grows { IsPrefix names.old.now names.new.now }
     ensures numbered { AreNumbered names.new.now numbers.now.entries }
     ensures names_saved { names.new.saved ≡ names.old.saved }
+    ensures names_room { names.old.room ≤ names.new.room }
     ensures dict_saved { dict.new.saved ≡ dict.old.saved }
+    ensures dict_room { dict.old.room ≤ dict.new.room }
 {
     let before = open_variables(alloc, names, dict)?;
     dict.eliminate(q, column)?;
@@ -164,7 +168,9 @@ fn enter_held(
     ensures grows { IsPrefix names.old.now names.new.now }
     ensures numbered { StayNumbered names.old.now names.new.now }
     ensures names_saved { names.new.saved ≡ names.old.saved }
+    ensures names_room { names.old.room ≤ names.new.room }
     ensures dict_saved { dict.new.saved ≡ dict.old.saved }
+    ensures dict_room { dict.old.room ≤ dict.new.room }
 {
     dict.restore_column(column)?;
     dict.eliminate(q, column)?;
@@ -193,7 +199,9 @@ fn enter_nothing(
     ensures grows { IsPrefix names.old.now names.new.now }
     ensures numbered { StayNumbered names.old.now names.new.now }
     ensures names_saved { names.new.saved ≡ names.old.saved }
+    ensures names_room { names.old.room ≤ names.new.room }
     ensures dict_saved { dict.new.saved ≡ dict.old.saved }
+    ensures dict_room { dict.old.room ≤ dict.new.room }
 {
     if let Some(column) = held_column(dict, q) {
         return enter_held(alloc, names, dict, told, c, q, column);
@@ -216,6 +224,7 @@ fn look_at_members(
     ensures found { IfOk result (IsFound told.now names.now.now dict.old.roles dict.new.roles dict.old.restricted) }
     ensures flags { dict.new.restricted ≡ dict.old.restricted }
     ensures saved { dict.new.saved ≡ dict.old.saved }
+    ensures room { dict.old.room ≤ dict.new.room }
     ensures overflow { (pair : Pair) → result ≡ Err (Overflow pair) → RefusesLook dict.old.roles dict.old.restricted pair }
     ensures pivots { (n : ℕ) → result ≡ Err (Pivots n) → (n ≡ pivots) × SpendsLook dict.old.roles dict.old.restricted n }
 {
@@ -248,7 +257,9 @@ fn enter_by_level(
     ensures grows { IsPrefix names.old.now names.new.now }
     ensures numbered { AreNumbered names.new.now numbers.now.entries }
     ensures names_saved { names.new.saved ≡ names.old.saved }
+    ensures names_room { names.old.room ≤ names.new.room }
     ensures dict_saved { dict.new.saved ≡ dict.old.saved }
+    ensures dict_room { dict.old.room ≤ dict.new.room }
 {
     let before = open_variables(alloc, names, dict)?;
     dict.eliminate(q, column)?;
@@ -292,7 +303,9 @@ fn enter_zero(
     ensures grows { IsPrefix names.old.now names.new.now }
     ensures numbered { AreNumbered names.new.now numbers.now.entries }
     ensures names_saved { names.new.saved ≡ names.old.saved }
+    ensures names_room { names.old.room ≤ names.new.room }
     ensures dict_saved { dict.new.saved ≡ dict.old.saved }
+    ensures dict_room { dict.old.room ≤ dict.new.room }
 {
     if let Some(column) = lightest_column(dict, q) {
         return enter_by_column(alloc, pivots, numbers, names, dict, told, c, q, column);
@@ -322,6 +335,7 @@ fn below_certificate(
     ensures overflow { (pair : Pair) → result ≡ Err (of_search.Overflow pair) → MayRefuse told.now (Only c.now) NoQuestion pair }
     ensures pivots { (n : ℕ) → result ≡ Err (of_search.Pivots n) → (n ≡ pivots) × MayTake told.now (Only c.now) NoQuestion n }
     ensures saved { dict.new.saved ≡ dict.old.saved }
+    ensures room { dict.old.room ≤ dict.new.room }
 {
     form_certificate(alloc, pivots, numbers, names, dict, &c.form, told.len() + 1)
 }
@@ -355,6 +369,7 @@ fn opposite_certificate(
     requires least { AsksGreatest names.now.now (quantities_of dict.old) (negated_form form.now) }
     ensures certificate { IfOk result (λ cert. IsOppositeCertificate names.now.now (quantities_of dict.old) form.now number cert) }
     ensures saved { dict.new.saved ≡ dict.old.saved }
+    ensures room { dict.old.room ≤ dict.new.room }
     ensures overflow { (pair : Pair) → result ≡ Err (of_search.Overflow pair)
         → RefusesFormEntries names.now.now (quantities_of dict.old) (negated_form form.now) pair }
     ensures pivots { (n : ℕ) → result ≡ Err (of_search.Pivots n)
@@ -385,6 +400,7 @@ fn above_certificate(
     ensures overflow { (pair : Pair) → result ≡ Err (of_search.Overflow pair) → MayRefuse told.now (Only c.now) NoQuestion pair }
     ensures pivots { (n : ℕ) → result ≡ Err (of_search.Pivots n) → (n ≡ pivots) × MayTake told.now (Only c.now) NoQuestion n }
     ensures saved { dict.new.saved ≡ dict.old.saved }
+    ensures room { dict.old.room ≤ dict.new.room }
 {
     opposite_certificate(alloc, pivots, numbers, names, dict, &c.form, told.len() + 1)
 }
@@ -399,6 +415,7 @@ fn approach(
     requires { IsToJoinSome (quantities_of dict.old) places.now constant }
     ensures approached { IfOk result (λ a. OfJoining (quantities_of dict.old) places.now constant (IsApproached dict.new.roles dict.new.restricted a)) }
     ensures saved { dict.new.saved ≡ dict.old.saved }
+    ensures room { dict.old.room ≤ dict.new.room }
     ensures overflow { (pair : Pair) → result ≡ Err (of_search.Overflow pair)
         → OfJoining (quantities_of dict.old) places.now constant (λ told names c. MayRefuse told (Only c) NoQuestion pair) }
     ensures pivots { (n : ℕ) → result ≡ Err (of_search.Pivots n)
@@ -437,7 +454,9 @@ pub fn enter_equation(
     ensures grows { IsPrefix names.old.now names.new.now }
     ensures numbered { AreNumbered names.new.now numbers.new.entries }
     ensures names_saved { names.new.saved ≡ names.old.saved }
+    ensures names_room { names.old.room ≤ names.new.room }
     ensures dict_saved { dict.new.saved ≡ dict.old.saved }
+    ensures dict_room { dict.old.room ≤ dict.new.room }
 {
     let places = place(numbers, names, dict, alloc, &c.form)?;
     let start = dict.mark()?;

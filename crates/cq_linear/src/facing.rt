@@ -1,6 +1,6 @@
 //! The face where the form of a new inequality is zero, which is its greatest value there.
 
-ghost use Rattle.std.specs.Prelude.{◌≡◌, ◌<◌, ℕ, length, IfOk, OnOk, MatchOption, MatchBool};
+ghost use Rattle.std.specs.Prelude.{◌≡◌, ◌≤◌, ◌<◌, ℕ, length, IfOk, OnOk, MatchOption, MatchBool};
 ghost use Rattle.spec_linear.specs.declared.Relation.TheVariants.{Ne};
 ghost use Rattle.cq_frac.specs.declared.Pair.{Pair};
 ghost use Rattle.cq_linear.specs.declared.store.StoreFault.TheVariants.{Overflow, Pivots};
@@ -27,6 +27,7 @@ fn hold_at_zero(dict: &mut Dict, q: usize, columns: &[Entry]) -> Result<(), Allo
     requires face { IsFace dict.old.roles dict.old.restricted q columns.now }
     ensures holds { OnOk result (HoldsAtZero q dict.old.roles dict.old.restricted dict.new.roles dict.new.restricted) }
     ensures saved { dict.new.saved ≡ dict.old.saved }
+    ensures room { dict.old.room ≤ dict.new.room }
 {
     // the count's contract is what tells that the roles are a table
     prove!(q < dict.count());
@@ -94,6 +95,7 @@ pub fn face(
     ensures holds { OnOk result (HoldsAtZero q dict.old.roles dict.old.restricted dict.new.roles dict.new.restricted) }
     ensures faced { IfOk result (λ o. IsFaced told.now names.now.now q dict.old.roles dict.old.restricted dict.new.roles dict.new.restricted o) }
     ensures saved { dict.new.saved ≡ dict.old.saved }
+    ensures room { dict.old.room ≤ dict.new.room }
     ensures overflow { (pair : Pair) → result ≡ Err (Overflow pair) → RefusesFace q dict.old.roles dict.old.restricted pair }
     ensures pivots { (n : ℕ) → result ≡ Err (Pivots n) → (n ≡ pivots) × SpendsFace q dict.old.roles dict.old.restricted n }
 {

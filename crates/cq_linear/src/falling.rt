@@ -1,6 +1,6 @@
 //! The certificate that a member can't hold where its form is zero at each solution.
 
-ghost use Rattle.std.specs.Prelude.{◌≡◌, ℕ, [], ◌∷◌, ◌++◌, IfOk};
+ghost use Rattle.std.specs.Prelude.{◌≡◌, ◌≤◌, ℕ, [], ◌∷◌, ◌++◌, IfOk};
 ghost use Rattle.spec_inequalities.specs.Certificate.{Refutes};
 ghost use Rattle.spec_limits.specs.Asked.{NoQuestion};
 ghost use Rattle.cq_frac.specs.declared.Pair.{Pair};
@@ -41,6 +41,7 @@ pub fn fallen_certificate(
     ensures overflow { (pair : Pair) → result ≡ Err (Overflow pair) → MayRefuse told.now (Only c.now) NoQuestion pair }
     ensures pivots { (n : ℕ) → result ≡ Err (Pivots n) → (n ≡ pivots) × MayTake told.now (Only c.now) NoQuestion n }
     ensures saved { dict.new.saved ≡ dict.old.saved }
+    ensures room { dict.old.room ≤ dict.new.room }
 {
     let number = member_number(names, q);
     let member = &told[number - 1];

@@ -1,6 +1,6 @@
 //! How far a form reaches on the solutions of the told list: its row is maximised.
 
-ghost use Rattle.std.specs.Prelude.{◌≡◌, ℕ, List, IfOk};
+ghost use Rattle.std.specs.Prelude.{◌≡◌, ◌≤◌, ℕ, List, IfOk};
 ghost use Rattle.spec_linear.specs.Solution.{Constraint};
 ghost use Rattle.spec_lists.specs.Prefixes.{IsPrefix};
 ghost use Rattle.cq_frac.specs.declared.Pair.{Pair};
@@ -39,7 +39,9 @@ pub fn reach(
     ensures grows { IsPrefix names.old.now names.new.now }
     ensures numbered { AreNumbered names.new.now numbers.new.entries }
     ensures names_saved { names.new.saved ≡ names.old.saved }
+    ensures names_room { names.old.room ≤ names.new.room }
     ensures dict_saved { dict.new.saved ≡ dict.old.saved }
+    ensures dict_room { dict.old.room ≤ dict.new.room }
 {
     let q = ask(alloc, numbers, names, dict, form)?;
     match maximise(dict, alloc, q, Aim::Best, pivots)? {

@@ -1,6 +1,6 @@
 //! The store: linear constraints of all relations, told one by one.
 
-ghost use Rattle.std.specs.Prelude.{◌≡◌, ℕ, [], ◌∷◌, ◌++◌, length, Option, IfOk, IfSome, OnErr, MatchOption, MatchBool};
+ghost use Rattle.std.specs.Prelude.{◌≡◌, ◌≤◌, ℕ, [], ◌∷◌, ◌++◌, length, Option, IfOk, IfSome, OnErr, MatchOption, MatchBool};
 ghost use Rattle.spec_rational.specs.Rational.{ℚ};
 ghost use Rattle.spec_linear.specs.Solution.{Solvable, Unsolvable, Fixed, Fixes, Entails};
 ghost use Rattle.spec_extremes.specs.Extremes.{Leaves};
@@ -173,6 +173,7 @@ impl Store {
         ensures pivots { (n : ℕ) → result ≡ Err (Pivots n) → (n ≡ self.old.pivots) × MayTake self.old.told (Only c) NoQuestion n }
         ensures err { OnErr result (self.new.told ≡ self.old.told) }
         ensures saved { self.new.saved ≡ self.old.saved }
+        ensures room { self.old.room ≤ self.new.room }
         ensures budget { self.new.pivots ≡ self.old.pivots }
     {
         let start = self.held.mark()?;
@@ -205,6 +206,7 @@ impl Store {
         ensures pivots { (n : ℕ) → result ≡ Err (Pivots n) → (n ≡ self.old.pivots) × MayTake self.old.told (Only c) NoQuestion n }
         ensures told { self.new.told ≡ self.old.told }
         ensures saved { self.new.saved ≡ self.old.saved }
+        ensures room { self.old.room ≤ self.new.room }
         ensures budget { self.new.pivots ≡ self.old.pivots }
     {
         let start = self.held.mark()?;
@@ -226,6 +228,7 @@ impl Store {
         ensures pivots { (n : ℕ) → result ≡ Err (Pivots n) → (n ≡ self.old.pivots) × MayTake self.old.told NoQuestion (Only c.now) n }
         ensures told { self.new.told ≡ self.old.told }
         ensures saved { self.new.saved ≡ self.old.saved }
+        ensures room { self.old.room ≤ self.new.room }
         ensures budget { self.new.pivots ≡ self.old.pivots }
     {
         let denial = opposite(self.alloc, c)?;
@@ -242,6 +245,7 @@ impl Store {
         ensures pivots { (n : ℕ) → result ≡ Err (Pivots n) → SpendsQuestion self.old.told form.now n self.old.pivots }
         ensures told { self.new.told ≡ self.old.told }
         ensures saved { self.new.saved ≡ self.old.saved }
+        ensures room { self.old.room ≤ self.new.room }
         ensures budget { self.new.pivots ≡ self.old.pivots }
     {
         let start = self.held.mark()?;
@@ -265,6 +269,7 @@ impl Store {
         ensures pivots { (n : ℕ) → result ≡ Err (Pivots n) → (n ≡ self.old.pivots) × MayTake self.old.told NoQuestion (Only (at_least_zero form.now)) n }
         ensures told { self.new.told ≡ self.old.told }
         ensures saved { self.new.saved ≡ self.old.saved }
+        ensures room { self.old.room ≤ self.new.room }
         ensures budget { self.new.pivots ≡ self.old.pivots }
     {
         self.reached(form)
@@ -277,6 +282,7 @@ impl Store {
         ensures pivots { (n : ℕ) → result ≡ Err (Pivots n) → (n ≡ self.old.pivots) × MayTake self.old.told NoQuestion (Only (at_least_zero form.now)) n }
         ensures told { self.new.told ≡ self.old.told }
         ensures saved { self.new.saved ≡ self.old.saved }
+        ensures room { self.old.room ≤ self.new.room }
         ensures budget { self.new.pivots ≡ self.old.pivots }
     {
         let opposite = negated(self.alloc, form)?;
