@@ -17,3 +17,4 @@ pub mod Against
 pub mod Instead
 pub mod Concluded
 pub mod Valued
+pub mod Spent

@@ -6,3 +6,4 @@ pub mod Faced
 pub mod Questions
 pub mod Fallen
 pub mod Equated
+pub mod Enough

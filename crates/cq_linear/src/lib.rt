@@ -2,6 +2,7 @@
 #![tactic(auto)]
 
 pub mod asking;
+pub mod budgets;
 pub mod entering;
 pub mod equating;
 pub mod facing;

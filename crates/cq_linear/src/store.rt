@@ -9,6 +9,7 @@ ghost use Rattle.spec_inequalities.specs.Certificate.{Refutes};
 ghost use Rattle.spec_limits.specs.Asked.{NoQuestion};
 ghost use Rattle.cq_frac.specs.declared.Pair.{Pair};
 ghost use Rattle.cq_linear.specs.declared.store.StoreFault.TheVariants.{Overflow, Pivots, NoMemory};
+ghost use Rattle.cq_linear.specs.Enough.{enough_for};
 ghost use Rattle.cq_linear.specs.Faults.{IsFaultOf, IsFaultOfSearch};
 ghost use Rattle.cq_linear.specs.Questions.{RefusesQuestion, SpendsQuestion};
 ghost use Rattle.cq_tableau.specs.Newly.{AreNewlyFixed};
@@ -171,6 +172,7 @@ impl Store {
         ensures unsolvable { IfOk result (λ t. IfUnsolvable t (λ cert. Refutes cert (self.old.told ++ c ∷ []) × (self.new.told ≡ self.old.told))) }
         ensures overflow { (pair : Pair) → result ≡ Err (Overflow pair) → MayRefuse self.old.told (Only c) NoQuestion pair }
         ensures pivots { (n : ℕ) → result ≡ Err (Pivots n) → (n ≡ self.old.pivots) × MayTake self.old.told (Only c) NoQuestion n }
+        ensures enough { enough_for self.old.told ≤ self.old.pivots → (n : ℕ) → result ≡ Err (Pivots n) → ⊥ }
         ensures err { OnErr result (self.new.told ≡ self.old.told) }
         ensures saved { self.new.saved ≡ self.old.saved }
         ensures room { self.old.room ≤ self.new.room }
@@ -226,6 +228,7 @@ impl Store {
         ensures entailed { IfOk result (λ yes. MatchBool yes (Entails self.old.told c.now) (Leaves self.old.told c.now)) }
         ensures overflow { (pair : Pair) → result ≡ Err (Overflow pair) → MayRefuse self.old.told NoQuestion (Only c.now) pair }
         ensures pivots { (n : ℕ) → result ≡ Err (Pivots n) → (n ≡ self.old.pivots) × MayTake self.old.told NoQuestion (Only c.now) n }
+        ensures enough { enough_for self.old.told ≤ self.old.pivots → (n : ℕ) → result ≡ Err (Pivots n) → ⊥ }
         ensures told { self.new.told ≡ self.old.told }
         ensures saved { self.new.saved ≡ self.old.saved }
         ensures room { self.old.room ≤ self.new.room }
@@ -267,6 +270,7 @@ impl Store {
         ensures extent { IfOk result (λ e. IsExtent self.old.told form.now e) }
         ensures overflow { (pair : Pair) → result ≡ Err (Overflow pair) → MayRefuse self.old.told NoQuestion (Only (at_least_zero form.now)) pair }
         ensures pivots { (n : ℕ) → result ≡ Err (Pivots n) → (n ≡ self.old.pivots) × MayTake self.old.told NoQuestion (Only (at_least_zero form.now)) n }
+        ensures enough { enough_for self.old.told ≤ self.old.pivots → (n : ℕ) → result ≡ Err (Pivots n) → ⊥ }
         ensures told { self.new.told ≡ self.old.told }
         ensures saved { self.new.saved ≡ self.old.saved }
         ensures room { self.old.room ≤ self.new.room }
@@ -280,6 +284,7 @@ impl Store {
         ensures extent { IfOk result (λ e. IsDepth self.old.told form.now e) }
         ensures overflow { (pair : Pair) → result ≡ Err (Overflow pair) → MayRefuse self.old.told NoQuestion (Only (at_least_zero form.now)) pair }
         ensures pivots { (n : ℕ) → result ≡ Err (Pivots n) → (n ≡ self.old.pivots) × MayTake self.old.told NoQuestion (Only (at_least_zero form.now)) n }
+        ensures enough { enough_for self.old.told ≤ self.old.pivots → (n : ℕ) → result ≡ Err (Pivots n) → ⊥ }
         ensures told { self.new.told ≡ self.old.told }
         ensures saved { self.new.saved ≡ self.old.saved }
         ensures room { self.old.room ≤ self.new.room }

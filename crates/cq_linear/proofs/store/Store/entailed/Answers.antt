@@ -1,6 +1,9 @@
 use Rattle.cq_store.proofs.Gained.{moved_err}
 use Rattle.cq_linear.specs.declared.store.StoreFault.TheVariants.{Overflow, Pivots}
 use Rattle.cq_linear.proofs.Questions.{answered, refuses_instead, takes_instead}
+use Rattle.spec_limits.specs.Asked.{NoQuestion}
+use Rattle.cq_linear.specs.StoreValue.{Only}
+use Rattle.cq_linear.proofs.Spent.{not_spent}
 use Rattle.cq_linear.proofs.store.Store.entailed.Goals as goal
 
 pub returns-in-Ok-clause-entailed : goal.returns-in-Ok-clause-entailed
@@ -15,3 +18,8 @@ pub returns-in-Err-clause-pivots : goal.returns-in-Err-clause-pivots
 returns-in-Err-clause-pivots c = λ n e.
     let o = c.in-Err.ensures.pivots n (moved_err c.in-Err.fault (Pivots n) e) in
     (o.0, takes_instead c.args.self.now.told c.args.c.now c.in_ok-denial.denial c.in_ok-denial.ensures n o.1)
+
+pub returns-in-Err-clause-enough : goal.returns-in-Err-clause-enough
+returns-in-Err-clause-enough c = λ h n e.
+    let o = returns-in-Err-clause-pivots c n e in
+    not_spent c.args.self.now.told NoQuestion (Only c.args.c.now) c.args.self.now.pivots n h o.0 o.1

@@ -5,10 +5,11 @@ use Rattle.spec_rational.proofs.Rational.{ring}
 use Rattle.spec_linear.specs.Form.{Linear, negated_form}
 use Rattle.spec_extremes.specs.Extremes.{IsSupremum}
 use Rattle.spec_inequalities.specs.Weak.{at_least_zero}
-use Rattle.spec_limits.specs.Asked.{of_question, negated}
+use Rattle.spec_limits.specs.Asked.{of_question, negated, NoQuestion}
 use Rattle.cq_linear.specs.Questions.{RefusesQuestion, SpendsQuestion}
-use Rattle.cq_linear.specs.StoreValue.{IsExtent}
+use Rattle.cq_linear.specs.StoreValue.{IsExtent, Only}
 use Rattle.cq_linear.proofs.Passed.{passed, store_spent}
+use Rattle.cq_linear.proofs.Spent.{not_spent}
 use Rattle.cq_linear.proofs.store.Store.inf.Goals as goal
 
 pub returns-in_err-extent-clause-overflow : goal.returns-in_err-extent-clause-overflow
@@ -22,6 +23,11 @@ returns-in_err-extent-clause-pivots c = λ n e.
     let f = store_spent c.from_residual-in_err-extent.result c.in_err-extent.field-0.0 n c.from_residual-in_err-extent.ensures.1 e in
     let o = subst (λ (g : Linear). SpendsQuestion c.args.self.now.told g n c.args.self.now.pivots) c.in_ok-opposite.ensures (c.in_err-extent.ensures.pivots n (ap Err f)) in
     (o.0, o.1 (at_least_zero c.args.form.now) (negated c.args.form.now (of_question (at_least_zero c.args.form.now) refl)))
+
+pub returns-in_err-extent-clause-enough : goal.returns-in_err-extent-clause-enough
+returns-in_err-extent-clause-enough c = λ h n e.
+    let o = returns-in_err-extent-clause-pivots c n e in
+    not_spent c.args.self.now.told NoQuestion (Only (at_least_zero c.args.form.now)) c.args.self.now.pivots n h o.0 o.1
 
 pub returns-in-Value-clause-extent : goal.returns-in-Value-clause-extent
 returns-in-Value-clause-extent c =

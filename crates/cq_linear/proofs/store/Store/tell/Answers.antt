@@ -14,6 +14,7 @@ use Rattle.spec_limits.specs.Asked.{NoQuestion}
 use Rattle.cq_store.proofs.Gained.{moved_err}
 use Rattle.cq_linear.specs.declared.store.StoreFault.TheVariants.{Pivots}
 use Rattle.cq_linear.specs.StoreValue.{MayTake, Only}
+use Rattle.cq_linear.proofs.Spent.{not_spent}
 use Rattle.cq_linear.proofs.store.Store.tell.Goals as goal
 use Rattle.cq_linear.proofs.store.Store.tell.Goals.{After-forget, After-undo, After-undo-in-Err}
 
@@ -99,3 +100,8 @@ returns-in-Err-clause-pivots c = λ n e.
       o.0 ∙ ap (λ (z : StoreValue). z.pivots) c.self.view_is,
       subst (λ (l : List Constraint). MayTake l (Only c.args.c) NoQuestion n) was o.1,
     )
+
+pub returns-in-Err-clause-enough : goal.returns-in-Err-clause-enough
+returns-in-Err-clause-enough c = λ h n e.
+    let o = returns-in-Err-clause-pivots c n e in
+    not_spent c.args.self.now.told (Only c.args.c) NoQuestion c.args.self.now.pivots n h o.0 o.1
