@@ -1,6 +1,6 @@
 -- The side on which a row is, and the rows of each side.
 use Rattle.std.proofs.Common.{◌≡◌, ◌≢◌, inl, inr, ℕ, suc, List, [], ◌∷◌, ◌++◌, Bool, true, false, pos, refl, ap, sym, subst, ◌∙◌, append-nil}
-use Rattle.std.specs.Prelude.{map, filter, cond}
+use Rattle.std.specs.Prelude.{map, cond}
 use Rattle.std.proofs.lemmas.List.{map-append}
 use Rattle.std.proofs.lemmas.List.Elements.{filter-append}
 use Rattle.spec_rational.specs.Rational.{ℚ, 0ℚ, neg_ℚ, IsPositive, IsNotNegative}
@@ -16,7 +16,7 @@ use Rattle.spec_projection.proofs.Eliminated.{is_positive-true, is_positive-of}
 use Rattle.spec_projection.specs.Elimination.{coefficient, is_positive, lower_rows, upper_rows, other_rows}
 use Rattle.cq_row.specs.declared.Entry.{Entry}
 use Rattle.cq_row.specs.Rows as row
-use Rattle.cq_form.specs.Entries.{product_of, products_of}
+use Rattle.cq_form.specs.Entries.{products_of}
 use Rattle.cq_form.proofs.Forms.{coefficient_is}
 use Rattle.cq_form.proofs.Rows.{has_product}
 use Rattle.cq_fourier.specs.Sides.{over_coefficient}

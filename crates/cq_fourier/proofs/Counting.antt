@@ -1,10 +1,10 @@
 -- The rows of a variable counted, and which variable comes next.
-use Rattle.std.proofs.Common.{◌≡◌, ◌≢◌, ◌⊎◌, inl, inr, ℕ, zero, suc, ◌+◌, ◌*◌, ◌<◌, ◌≤◌, List, [], ◌∷◌, ◌++◌, length, take, get_or, Bool, true, false, cond, Option, None, Some, arith, refl, ap, ap₂, sym, subst, ◌∙◌}
-use Rattle.std.specs.Prelude.{map, filter, MatchOption}
+use Rattle.std.proofs.Common.{◌≡◌, ◌⊎◌, inl, inr, ℕ, ◌+◌, ◌*◌, ◌<◌, ◌≤◌, List, [], ◌∷◌, ◌++◌, length, take, get_or, Bool, true, false, cond, Option, None, Some, arith, refl, ap, ap₂, sym, subst, ◌∙◌}
+use Rattle.std.specs.Prelude.{filter, MatchOption}
 use Rattle.std.proofs.lemmas.List.{take_more, take_all, map-append}
 use Rattle.std.proofs.lemmas.List.Filters.{length-filter_more}
-use Rattle.spec_rational.specs.Rational.{ℚ, 0ℚ, neg_ℚ, IsPositive}
-use Rattle.spec_rational.specs.Sums.{Mentions, factor_of}
+use Rattle.spec_rational.specs.Rational.{neg_ℚ, IsPositive}
+use Rattle.spec_rational.specs.Sums.{Mentions}
 use Rattle.spec_linear.specs.Form.{is_zero}
 use Rattle.spec_linear.specs.Solution.{Constraint, Has, SomeMentions, MentionsOnly}
 use Rattle.spec_projection.specs.Elimination.{coefficient, is_positive, lower_rows, upper_rows, other_rows}

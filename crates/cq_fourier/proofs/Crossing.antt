@@ -1,6 +1,6 @@
 -- Lower and upper rows combined, and the pairs that this meets.
 use Rattle.std.proofs.Common.{◌≡◌, ◌≢◌, inl, inr, ℕ, ◌+◌, ◌<◌, List, [], ◌∷◌, ◌++◌, length, take, get_or, Bool, true, false, pos, refl, ap, ap₂, sym, subst, ◌∙◌, append_assoc, append-nil}
-use Rattle.std.specs.Prelude.{map, filter, cond, not}
+use Rattle.std.specs.Prelude.{map, cond, not}
 use Rattle.std.proofs.lemmas.List.{take_more}
 use Rattle.spec_rational.specs.Rational.{ℚ, 0ℚ, neg_ℚ, inv_ℚ, ◌*ℚ◌, ◌/ℚ◌, IsPositive}
 use Rattle.spec_rational.specs.Sums.{Monomial, factor_of, scaled_products, negated_products, unit}
@@ -11,7 +11,7 @@ use Rattle.spec_rational.proofs.Sums.{factor_of-is, sum_at-scaled_products}
 use Rattle.spec_linear.specs.Form.{Linear, IsForm, is_zero, without_zeros, sum_form, negated_form, scaled_form}
 use Rattle.spec_linear.specs.Solution.{Constraint, Has}
 use Rattle.spec_linear.proofs.Ordered.{form_same, product_same}
-use Rattle.spec_linear.proofs.Values.{sum_at-without_zeros, is_zero-true, is_zero-of, is_zero-false}
+use Rattle.spec_linear.proofs.Values.{sum_at-without_zeros, is_zero-true, is_zero-false}
 use Rattle.spec_projection.specs.Elimination.{coefficient, is_positive, stricter, lower_rows, upper_rows, other_rows, combination, combinations, eliminated}
 use Rattle.spec_projection.proofs.Eliminated.{is_positive-of}
 use Rattle.spec_projection.proofs.Members.{has_filtered, has_mapped, Comes}
@@ -20,9 +20,9 @@ use Rattle.cq_frac.specs.declared.Operation.{Operation}
 use Rattle.cq_frac.specs.declared.Operation.TheVariants.{Quotient, Difference}
 use Rattle.cq_frac.specs.declared.Pair.{Pair}
 use Rattle.cq_frac.specs.Refused.{IsRefused}
-use Rattle.cq_form.specs.Steps.{HasCoefficient, DifferencePair, JoinedPair, coefficients, constants, CommonPair, of_variable}
+use Rattle.cq_form.specs.Steps.{DifferencePair, coefficients, constants, of_variable}
 use Rattle.cq_form.proofs.Forms.{coefficient_is}
-use Rattle.cq_fourier.specs.Sides.{over_number, over_coefficient, between, crossed}
+use Rattle.cq_fourier.specs.Sides.{over_coefficient, between, crossed}
 use Rattle.cq_fourier.specs.Steps.{DividesIn, CombinesWith, CombinesIn, AreRowsOf}
 use Rattle.cq_fourier.proofs.Bounds.{negative_not_zero}
 

@@ -1,8 +1,7 @@
-use Rattle.std.proofs.Common.{◌≡◌, ◌<◌, ◌≤◌, ◌++◌, length, Err, arith, ap, sym, ◌∙◌, append-nil}
-use Rattle.std.specs.Prelude.{map}
+use Rattle.std.proofs.Common.{◌<◌, ◌≤◌, ◌++◌, length, Err, arith, ap, sym, ◌∙◌, append-nil}
 use Rattle.std.proofs.lemmas.List.{take_all}
 use Rattle.cq_frac.proofs.Exits.{refusal_told}
-use Rattle.cq_fourier.specs.Sides.{between, crossed}
+use Rattle.cq_fourier.specs.Sides.{crossed}
 use Rattle.cq_fourier.proofs.Lists.{has_at}
 use Rattle.cq_fourier.proofs.Crossing.{crossed_more}
 use Rattle.cq_fourier.proofs.push_crossed.Goals as goal

@@ -15,11 +15,11 @@ returns-in_default c =
 pub returns-then-is_positive : goal.returns-then-is_positive
 returns-then-is_positive c =
     let own = found c.args.variable.0 c.entries.result.now c.row.inside.relation c.row.inside.form c.args.row.now c.row.view_is c.entries.ensures.value c.in-Some.factor
-        (subst (IsSumFrom 0) (sym c.entries.ensures.value) c.entries.ensures.in_order) c.in-Some.ensures in
+    (subst (IsSumFrom 0) (sym c.entries.ensures.value) c.entries.ensures.in_order) c.in-Some.ensures in
     (own.0, c.is_positive.ensures.positive.0 c.if-is_positive.true)
 
 pub returns-else-is_positive : goal.returns-else-is_positive
 returns-else-is_positive c =
     let own = found c.args.variable.0 c.entries.result.now c.row.inside.relation c.row.inside.form c.args.row.now c.row.view_is c.entries.ensures.value c.in-Some.factor
-        (subst (IsSumFrom 0) (sym c.entries.ensures.value) c.entries.ensures.in_order) c.in-Some.ensures in
+    (subst (IsSumFrom 0) (sym c.entries.ensures.value) c.entries.ensures.in_order) c.in-Some.ensures in
     (own.0, is_negative c.in-Some.factor own.1 c.if-is_positive.ensures.otherwise)

@@ -30,51 +30,51 @@ pub returns-clause-others : goal.returns-clause-others
 returns-clause-others c =
     elim c.match-side_of.branch [
       | in-Other+in_ok-copy-in-Other+in_ok-push-in-Other w ↦
-      let more : c.match-side_of.self.others.items ≡ c.args.self.now.others.items ++ c.args.row.now ∷ [] = search rules in
-      passes_itself (is_zero (coefficient c.args.variable.0 c.args.row.now)) c.args.row.now c.args.self.now.others.items c.match-side_of.self.others.items
-      (tests_other (coefficient c.args.variable.0 c.args.row.now) (unmentioned_factor c.args.variable.0 c.args.row.now.form.products w.in-Other.ensures)).other_is more
+          let more : c.match-side_of.self.others.items ≡ c.args.self.now.others.items ++ c.args.row.now ∷ [] = search rules in
+          passes_itself (is_zero (coefficient c.args.variable.0 c.args.row.now)) c.args.row.now c.args.self.now.others.items c.match-side_of.self.others.items
+          (tests_other (coefficient c.args.variable.0 c.args.row.now) (unmentioned_factor c.args.variable.0 c.args.row.now.form.products w.in-Other.ensures)).other_is more
       | in-Lower+in_ok-bound-in-Lower+in_ok-push-in-Lower w ↦
-      let same : c.match-side_of.self.others.items ≡ c.args.self.now.others.items = search rules in
-      fails_itself (is_zero (coefficient c.args.variable.0 c.args.row.now)) c.args.row.now c.args.self.now.others.items c.match-side_of.self.others.items
-      (tests_lower (coefficient c.args.variable.0 c.args.row.now) (subst IsPositive w.in-Lower.ensures.0 w.in-Lower.ensures.1)).other_is same
+          let same : c.match-side_of.self.others.items ≡ c.args.self.now.others.items = search rules in
+          fails_itself (is_zero (coefficient c.args.variable.0 c.args.row.now)) c.args.row.now c.args.self.now.others.items c.match-side_of.self.others.items
+          (tests_lower (coefficient c.args.variable.0 c.args.row.now) (subst IsPositive w.in-Lower.ensures.0 w.in-Lower.ensures.1)).other_is same
       | in-Upper+in_ok-bound-in-Upper+in_ok-push-in-Upper w ↦
-      let same : c.match-side_of.self.others.items ≡ c.args.self.now.others.items = search rules in
-      fails_itself (is_zero (coefficient c.args.variable.0 c.args.row.now)) c.args.row.now c.args.self.now.others.items c.match-side_of.self.others.items
-      (tests_upper (coefficient c.args.variable.0 c.args.row.now) (subst (λ k. IsPositive (neg_ℚ k)) w.in-Upper.ensures.0 w.in-Upper.ensures.1)).other_is same
+          let same : c.match-side_of.self.others.items ≡ c.args.self.now.others.items = search rules in
+          fails_itself (is_zero (coefficient c.args.variable.0 c.args.row.now)) c.args.row.now c.args.self.now.others.items c.match-side_of.self.others.items
+          (tests_upper (coefficient c.args.variable.0 c.args.row.now) (subst (λ k. IsPositive (neg_ℚ k)) w.in-Upper.ensures.0 w.in-Upper.ensures.1)).other_is same
     ]
 
 pub returns-clause-lower : goal.returns-clause-lower
 returns-clause-lower c =
     elim c.match-side_of.branch [
       | in-Other+in_ok-copy-in-Other+in_ok-push-in-Other w ↦
-      let same : c.match-side_of.self.lower.items ≡ c.args.self.now.lower.items = search rules in
-      fails (over_coefficient c.args.variable.0) (is_positive (coefficient c.args.variable.0 c.args.row.now)) c.args.row.now c.args.self.now.lower.items c.match-side_of.self.lower.items
-      (tests_other (coefficient c.args.variable.0 c.args.row.now) (unmentioned_factor c.args.variable.0 c.args.row.now.form.products w.in-Other.ensures)).lower_is same
+          let same : c.match-side_of.self.lower.items ≡ c.args.self.now.lower.items = search rules in
+          fails (over_coefficient c.args.variable.0) (is_positive (coefficient c.args.variable.0 c.args.row.now)) c.args.row.now c.args.self.now.lower.items c.match-side_of.self.lower.items
+          (tests_other (coefficient c.args.variable.0 c.args.row.now) (unmentioned_factor c.args.variable.0 c.args.row.now.form.products w.in-Other.ensures)).lower_is same
       | in-Lower+in_ok-bound-in-Lower+in_ok-push-in-Lower w ↦
-      let more : c.match-side_of.self.lower.items ≡ c.args.self.now.lower.items ++ over_number w.in-Lower.factor c.args.row.now ∷ [] = search rules in
-      passes (over_coefficient c.args.variable.0) (is_positive (coefficient c.args.variable.0 c.args.row.now)) c.args.row.now c.args.self.now.lower.items c.match-side_of.self.lower.items
-      (tests_lower (coefficient c.args.variable.0 c.args.row.now) (subst IsPositive w.in-Lower.ensures.0 w.in-Lower.ensures.1)).lower_is
-      (more ∙ ap (λ k. c.args.self.now.lower.items ++ over_number k c.args.row.now ∷ []) w.in-Lower.ensures.0)
+          let more : c.match-side_of.self.lower.items ≡ c.args.self.now.lower.items ++ over_number w.in-Lower.factor c.args.row.now ∷ [] = search rules in
+          passes (over_coefficient c.args.variable.0) (is_positive (coefficient c.args.variable.0 c.args.row.now)) c.args.row.now c.args.self.now.lower.items c.match-side_of.self.lower.items
+          (tests_lower (coefficient c.args.variable.0 c.args.row.now) (subst IsPositive w.in-Lower.ensures.0 w.in-Lower.ensures.1)).lower_is
+          (more ∙ ap (λ k. c.args.self.now.lower.items ++ over_number k c.args.row.now ∷ []) w.in-Lower.ensures.0)
       | in-Upper+in_ok-bound-in-Upper+in_ok-push-in-Upper w ↦
-      let same : c.match-side_of.self.lower.items ≡ c.args.self.now.lower.items = search rules in
-      fails (over_coefficient c.args.variable.0) (is_positive (coefficient c.args.variable.0 c.args.row.now)) c.args.row.now c.args.self.now.lower.items c.match-side_of.self.lower.items
-      (tests_upper (coefficient c.args.variable.0 c.args.row.now) (subst (λ k. IsPositive (neg_ℚ k)) w.in-Upper.ensures.0 w.in-Upper.ensures.1)).lower_is same
+          let same : c.match-side_of.self.lower.items ≡ c.args.self.now.lower.items = search rules in
+          fails (over_coefficient c.args.variable.0) (is_positive (coefficient c.args.variable.0 c.args.row.now)) c.args.row.now c.args.self.now.lower.items c.match-side_of.self.lower.items
+          (tests_upper (coefficient c.args.variable.0 c.args.row.now) (subst (λ k. IsPositive (neg_ℚ k)) w.in-Upper.ensures.0 w.in-Upper.ensures.1)).lower_is same
     ]
 
 pub returns-clause-upper : goal.returns-clause-upper
 returns-clause-upper c =
     elim c.match-side_of.branch [
       | in-Other+in_ok-copy-in-Other+in_ok-push-in-Other w ↦
-      let same : c.match-side_of.self.upper.items ≡ c.args.self.now.upper.items = search rules in
-      fails (over_coefficient c.args.variable.0) (is_positive (neg_ℚ (coefficient c.args.variable.0 c.args.row.now))) c.args.row.now c.args.self.now.upper.items c.match-side_of.self.upper.items
-      (tests_other (coefficient c.args.variable.0 c.args.row.now) (unmentioned_factor c.args.variable.0 c.args.row.now.form.products w.in-Other.ensures)).upper_is same
+          let same : c.match-side_of.self.upper.items ≡ c.args.self.now.upper.items = search rules in
+          fails (over_coefficient c.args.variable.0) (is_positive (neg_ℚ (coefficient c.args.variable.0 c.args.row.now))) c.args.row.now c.args.self.now.upper.items c.match-side_of.self.upper.items
+          (tests_other (coefficient c.args.variable.0 c.args.row.now) (unmentioned_factor c.args.variable.0 c.args.row.now.form.products w.in-Other.ensures)).upper_is same
       | in-Lower+in_ok-bound-in-Lower+in_ok-push-in-Lower w ↦
-      let same : c.match-side_of.self.upper.items ≡ c.args.self.now.upper.items = search rules in
-      fails (over_coefficient c.args.variable.0) (is_positive (neg_ℚ (coefficient c.args.variable.0 c.args.row.now))) c.args.row.now c.args.self.now.upper.items c.match-side_of.self.upper.items
-      (tests_lower (coefficient c.args.variable.0 c.args.row.now) (subst IsPositive w.in-Lower.ensures.0 w.in-Lower.ensures.1)).upper_is same
+          let same : c.match-side_of.self.upper.items ≡ c.args.self.now.upper.items = search rules in
+          fails (over_coefficient c.args.variable.0) (is_positive (neg_ℚ (coefficient c.args.variable.0 c.args.row.now))) c.args.row.now c.args.self.now.upper.items c.match-side_of.self.upper.items
+          (tests_lower (coefficient c.args.variable.0 c.args.row.now) (subst IsPositive w.in-Lower.ensures.0 w.in-Lower.ensures.1)).upper_is same
       | in-Upper+in_ok-bound-in-Upper+in_ok-push-in-Upper w ↦
-      let more : c.match-side_of.self.upper.items ≡ c.args.self.now.upper.items ++ over_number w.in-Upper.factor c.args.row.now ∷ [] = search rules in
-      passes (over_coefficient c.args.variable.0) (is_positive (neg_ℚ (coefficient c.args.variable.0 c.args.row.now))) c.args.row.now c.args.self.now.upper.items c.match-side_of.self.upper.items
-      (tests_upper (coefficient c.args.variable.0 c.args.row.now) (subst (λ k. IsPositive (neg_ℚ k)) w.in-Upper.ensures.0 w.in-Upper.ensures.1)).upper_is
-      (more ∙ ap (λ k. c.args.self.now.upper.items ++ over_number k c.args.row.now ∷ []) w.in-Upper.ensures.0)
+          let more : c.match-side_of.self.upper.items ≡ c.args.self.now.upper.items ++ over_number w.in-Upper.factor c.args.row.now ∷ [] = search rules in
+          passes (over_coefficient c.args.variable.0) (is_positive (neg_ℚ (coefficient c.args.variable.0 c.args.row.now))) c.args.row.now c.args.self.now.upper.items c.match-side_of.self.upper.items
+          (tests_upper (coefficient c.args.variable.0 c.args.row.now) (subst (λ k. IsPositive (neg_ℚ k)) w.in-Upper.ensures.0 w.in-Upper.ensures.1)).upper_is
+          (more ∙ ap (λ k. c.args.self.now.upper.items ++ over_number k c.args.row.now ∷ []) w.in-Upper.ensures.0)
     ]

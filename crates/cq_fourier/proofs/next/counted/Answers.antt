@@ -1,4 +1,4 @@
-use Rattle.std.proofs.Common.{◌≡◌, ◌<◌, ◌≤◌, length, arith, ap, sym, subst, ◌∙◌}
+use Rattle.std.proofs.Common.{◌<◌, ◌≤◌, length, arith, sym, subst, ◌∙◌}
 use Rattle.cq_frac.specs.declared.VarId.{VarId}
 use Rattle.cq_fourier.proofs.Counting.{Counted, counted_more, variable_stays, counts_all}
 use Rattle.cq_fourier.proofs.next.counted.Goals as goal
