@@ -1,8 +1,6 @@
 -- The side on which a row is, and the rows of each side.
 use Rattle.std.proofs.Common.{◌≡◌, ◌≢◌, inl, inr, ℕ, suc, List, [], ◌∷◌, ◌++◌, Bool, true, false, pos, refl, ap, sym, subst, ◌∙◌, append-nil}
 use Rattle.std.specs.Prelude.{map, cond}
-use Rattle.std.proofs.lemmas.List.{map-append}
-use Rattle.std.proofs.lemmas.List.Elements.{filter-append}
 use Rattle.spec_rational.specs.Rational.{ℚ, 0ℚ, neg_ℚ, IsPositive, IsNotNegative}
 use Rattle.spec_rational.specs.Sums.{Monomial, Mentions, factor_of}
 use Rattle.spec_rational.proofs.Ring.{var, int, minus}
@@ -13,13 +11,12 @@ use Rattle.spec_linear.specs.Form.{Linear, IsSumFrom, is_zero}
 use Rattle.spec_linear.specs.Solution.{Constraint, Has}
 use Rattle.spec_linear.proofs.Values.{is_zero-true, is_zero-of}
 use Rattle.spec_projection.proofs.Eliminated.{is_positive-true, is_positive-of}
-use Rattle.spec_projection.specs.Elimination.{coefficient, is_positive, lower_rows, upper_rows, other_rows}
+use Rattle.spec_projection.specs.Elimination.{coefficient, is_positive}
 use Rattle.cq_row.specs.declared.Entry.{Entry}
 use Rattle.cq_row.specs.Rows as row
 use Rattle.cq_form.specs.Entries.{products_of}
 use Rattle.cq_form.proofs.Forms.{coefficient_is}
 use Rattle.cq_form.proofs.Rows.{has_product}
-use Rattle.cq_fourier.specs.Sides.{over_coefficient}
 
 neg_zero : neg_ℚ 0ℚ ≡ 0ℚ
 neg_zero = ring [] (minus (int (pos 0))) (int (pos 0)) refl
@@ -111,15 +108,3 @@ module _ (x : ℕ) (s : List Entry) (r : Relation) (f : Linear) (c : Constraint)
 
   pub missing : (Mentions x (products_of s) → ⊥) → Mentions x c.form.products → ⊥
   missing n = subst (λ t. Mentions x t → ⊥) products_are n
-
--- ---- the rows of a list by their sides, part by part
-
-module _ (x : ℕ) where
-  pub others_join : (s t : List Constraint) → other_rows x (s ++ t) ≡ other_rows x s ++ other_rows x t
-  others_join s t = filter-append _ s t
-
-  pub lower_join : (s t : List Constraint) → map (over_coefficient x) (lower_rows x (s ++ t)) ≡ map (over_coefficient x) (lower_rows x s) ++ map (over_coefficient x) (lower_rows x t)
-  lower_join s t = ap (map (over_coefficient x)) (filter-append _ s t) ∙ map-append (over_coefficient x) (lower_rows x s) (lower_rows x t)
-
-  pub upper_join : (s t : List Constraint) → map (over_coefficient x) (upper_rows x (s ++ t)) ≡ map (over_coefficient x) (upper_rows x s) ++ map (over_coefficient x) (upper_rows x t)
-  upper_join s t = ap (map (over_coefficient x)) (filter-append _ s t) ∙ map-append (over_coefficient x) (upper_rows x s) (upper_rows x t)
