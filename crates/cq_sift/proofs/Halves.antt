@@ -6,7 +6,7 @@ use Rattle.spec_linear.proofs.Denominators.{has_left, has_right}
 use Rattle.spec_projection.specs.Irredundant.{Sifts, done, dropped, stays}
 use Rattle.spec_projection.proofs.Members.{alike_by_same_members, has_either}
 use Rattle.spec_projection.proofs.Sifted.{sifted_halves}
-use Rattle.cq_sift.specs.Sifting.{HaveSameMembers}
+use Rattle.cq_sift.specs.Sifting.{HaveSameMembers, SiftsBeside}
 
 -- ---- members
 
@@ -45,13 +45,9 @@ module _ (told before beside : List Constraint) (row : Constraint) (same : HaveS
 
 -- ---- two halves
 
--- what a pass over rows gives, for each way to part what the store was told
-abbrev pub SiftsBeside : List Constraint → List Constraint → List Constraint → Type 0
-SiftsBeside told rows kept = (before beside : List Constraint) → HaveSameMembers (before ++ beside) told → Sifts beside before rows (before ++ kept)
-
 -- the kept ones of the first half stand before the second
 module _ (told front back first second : List Constraint) (sifted : SiftsBeside (told ++ back) front first) (rest : SiftsBeside (told ++ first) back second) where
-  both_halves : SiftsBeside told (front ++ back) (first ++ second)
+  pub both_halves : SiftsBeside told (front ++ back) (first ++ second)
   both_halves before beside same =
       let one : Sifts (back ++ beside) before front (before ++ first) = sifted before (back ++ beside) (same_between before beside back told same) in
       let moved : HaveSameMembers ((before ++ first) ++ beside) (told ++ first) =

@@ -1,12 +1,11 @@
 //! One pass over rows that leaves those of which none follows from the others and what a store was told.
 #![tactic(auto)]
 
-ghost use Rattle.std.specs.Prelude.{◌≡◌, ℕ, List, ◌++◌, IfOk, OnOk};
-ghost use Rattle.spec_linear.specs.Solution.{Constraint, Solvable};
-ghost use Rattle.spec_projection.specs.Irredundant.{Sifts};
+ghost use Rattle.std.specs.Prelude.{◌≡◌, ◌×◌, ℕ, [], ◌∷◌, ◌++◌, IfOk, OnOk};
+ghost use Rattle.spec_linear.specs.Solution.{Solvable};
 ghost use Rattle.cq_frac.specs.declared.Pair.{Pair};
 ghost use Rattle.cq_linear.specs.declared.store.StoreFault.TheVariants.{Overflow, Pivots};
-ghost use Rattle.cq_sift.specs.Sifting.{HaveSameMembers, RefusesSifting, SpendsSifting};
+ghost use Rattle.cq_sift.specs.Sifting.{SiftsBeside, RefusesSifting, SpendsSifting};
 
 use cq_form::Constraint;
 use cq_linear::store::{Store, StoreFault, Told};
@@ -33,18 +32,26 @@ fn tell_all(store: &mut Store, rows: &[Constraint]) -> Result<(), StoreFault>
     Ok(())
 }
 
-/// The row, told to the store, unless it follows from what that was told.
+/// The row, told to the store, unless it follows from what the store was told.
 fn sift_one(
     alloc: Global,
     store: &mut Store,
     row: &Constraint,
 ) -> Result<Vec<Constraint>, StoreFault>
+    requires solvable { Solvable (store.old.told ++ row.now ∷ []) }
+    ensures sifts { IfOk result (λ kept. SiftsBeside store.old.told (row.now ∷ []) kept.items) }
+    ensures told { IfOk result (λ kept. store.new.told ≡ store.old.told ++ kept.items) }
+    ensures overflow { (pair : Pair) → result ≡ Err (Overflow pair) → RefusesSifting store.old.told (row.now ∷ []) pair }
+    ensures pivots { (n : ℕ) → result ≡ Err (Pivots n) → (n ≡ store.old.pivots) × SpendsSifting store.old.told (row.now ∷ []) n }
+    ensures saved { store.new.saved ≡ store.old.saved }
+    ensures budget { store.new.pivots ≡ store.old.pivots }
 {
     let mut kept = Vec::new(alloc);
-    if !store.entailed(row)? {
-        kept.push(row.clone()?)?;
-        tell_all(store, &kept)?;
+    if store.entailed(row)? {
+        return Ok(kept);
     }
+    kept.push(row.clone()?)?;
+    tell_all(store, &kept)?;
     Ok(kept)
 }
 
@@ -57,8 +64,7 @@ pub fn sift(
     rows: &[Constraint],
 ) -> Result<Vec<Constraint>, StoreFault>
     requires solvable { Solvable (store.old.told ++ rows.now) }
-    ensures sifts { IfOk result (λ kept. (before beside : List Constraint) → HaveSameMembers (before ++ beside) store.old.told
-        → Sifts beside before rows.now (before ++ kept.items)) }
+    ensures sifts { IfOk result (λ kept. SiftsBeside store.old.told rows.now kept.items) }
     ensures told { IfOk result (λ kept. store.new.told ≡ store.old.told ++ kept.items) }
     ensures overflow { (pair : Pair) → result ≡ Err (Overflow pair) → RefusesSifting store.old.told rows.now pair }
     ensures pivots { (n : ℕ) → result ≡ Err (Pivots n) → (n ≡ store.old.pivots) × SpendsSifting store.old.told rows.now n }
@@ -73,24 +79,15 @@ pub fn sift(
     }
     let (front, back) = rows.split_at(rows.len() / 2);
     let start = store.mark()?;
-    let kept = sift_beside(alloc, store, front, back);
+    let beside = match tell_all(store, back) {
+        Ok(()) => sift(alloc, store, front),
+        Err(fault) => Err(fault),
+    };
     store.undo(start);
-    let mut kept = kept?;
+    let mut kept = beside?;
     tell_all(store, &kept)?;
     for row in sift(alloc, store, back)? {
         kept.push(row)?;
     }
     Ok(kept)
-}
-
-/// Goes through the rows while the store is told the others too.
-fn sift_beside(
-    alloc: Global,
-    store: &mut Store,
-    rows: &[Constraint],
-    others: &[Constraint],
-) -> Result<Vec<Constraint>, StoreFault>
-{
-    tell_all(store, others)?;
-    sift(alloc, store, rows)
 }
