@@ -1,0 +1,3 @@
+pub mod Names
+pub mod Given
+pub mod Calls

@@ -1,0 +1,10 @@
+//! The built-in predicates on terms and texts as one call: found by name and number of arguments, and called with terms of a
+//! heap, which gives their alternatives one at a time.
+#![tactic(auto)]
+
+mod predicates;
+mod solutions;
+mod terms;
+
+pub use predicates::Predicate;
+pub use solutions::Solutions;
