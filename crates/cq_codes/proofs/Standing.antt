@@ -1,6 +1,8 @@
 -- Codes and characters as elements of lists.
-use Rattle.std.proofs.Common.{◌≡◌, ℕ, List, [], ◌∷◌, ◌++◌, map, length, Bool, true, false, cond, not, ◌&&◌, ◌||◌, Option, Some, None, encode_utf8_all, refl, sym, ap, ◌∙◌, append_assoc, append-nil, arith}
+use Rattle.std.proofs.Common.{◌≡◌, ℕ, ◌+◌, ◌<◌, ◌≤◌, List, [], ◌∷◌, ◌++◌, map, length, get_or, drop, take, Bool, true, false, cond, not, ◌&&◌, ◌||◌, ◌==◌, Option, Some, None, chars, encode_utf8_all, refl, sym, ap, ◌∙◌, append_assoc, append-nil, arith}
 use Rattle.std.specs.Prelude.{slice_get, encode_utf8}
+use Rattle.std.specs.List.{list_all, list_any}
+use Rattle.std.proofs.lemmas.Bool.{ne_eqb}
 use Rattle.spec_lists.specs.Texts.{Text}
 use Rattle.spec_terms.specs.Term.{Var, Number, Name, Compound}
 use Rattle.spec_syntax.specs.Trees.{Tree}
@@ -55,6 +57,32 @@ module _ (k : ElementKind) where
     right = sym h.error ∙ ap (elements_error k) e;
     made = sym (append-nil text) ∙ sym (ap (λ ts. text ++ encode_utf8_all (map code_of ts)) e) ∙ h.made;
   }
+
+-- what is left of codes
+pub record LeftCodes (all rest : List Tree) (text : Text) : Type 0 where
+  pub codes : list_all is_code rest ≡ list_all is_code all
+  pub made : text ++ encode_utf8_all (map natural_of rest) ≡ encode_utf8_all (map natural_of all)
+
+pub codes_start : (ts : List Tree) (text : Text) → text ≡ [] → LeftCodes ts ts text
+codes_start ts text e = record { codes = refl; made = ap (λ (w : Text). w ++ encode_utf8_all (map natural_of ts)) e }
+
+pub codes_more : (all rest more : List Tree) (t : Tree) (c : ℕ) (text longer : Text) → rest ≡ t ∷ more → IsCodeOf t c → longer ≡ text ++ encode_utf8 c → LeftCodes all rest text → LeftCodes all more longer
+codes_more all rest more t c text longer e s l h = record {
+  codes = sym (ap (list_all is_code) e ∙ ap (λ b. b && list_all is_code more) s.code) ∙ h.codes;
+  made = ap (λ (w : Text). w ++ encode_utf8_all (map natural_of more)) l
+      ∙ append_assoc text (encode_utf8 c) (encode_utf8_all (map natural_of more))
+      ∙ sym (ap (λ ts. text ++ encode_utf8_all (map natural_of ts)) e ∙ ap (λ n. text ++ (encode_utf8 n ++ encode_utf8_all (map natural_of more))) s.natural)
+      ∙ h.made;
+}
+
+pub codes_none : (all rest : List Tree) (text : Text) → rest ≡ [] → LeftCodes all rest text → (list_all is_code all ≡ true) × (text ≡ encode_utf8_all (map natural_of all))
+codes_none all rest text e h = (
+  sym h.codes ∙ ap (list_all is_code) e,
+  sym (append-nil text) ∙ sym (ap (λ ts. text ++ encode_utf8_all (map natural_of ts)) e) ∙ h.made,
+)
+
+pub no_codes : (all rest more : List Tree) (t : Tree) (text : Text) → rest ≡ t ∷ more → is_code t ≡ false → LeftCodes all rest text → list_all is_code all ≡ false
+no_codes all rest more t text e c h = sym h.codes ∙ ap (list_all is_code) e ∙ ap (λ b. b && list_all is_code more) c
 
 -- ---- a term that has to be a code
 
