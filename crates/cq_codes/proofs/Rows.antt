@@ -1,5 +1,5 @@
 -- What the definitions give of lists that were looked at.
-use Rattle.std.proofs.Common.{◌≡◌, ℕ, List, [], ◌∷◌, map, Bool, true, false, not, ◌||◌, ◌&&◌, Option, Some, None, encode_utf8_all, String, string_bytes, refl, sym, ap, ◌∙◌}
+use Rattle.std.proofs.Common.{◌≡◌, ℕ, [], ◌∷◌, map, Bool, true, false, not, ◌||◌, ◌&&◌, Option, Some, None, encode_utf8_all, String, sym, ap, ◌∙◌}
 use Rattle.std.specs.Prelude.{if◌then◌else◌}
 use Rattle.std.specs.List.{list_any, list_all}
 use Rattle.spec_lists.specs.Texts.{Text}
@@ -9,10 +9,10 @@ use Rattle.spec_built.specs.Built.{is_atom, natural}
 use Rattle.spec_built.specs.Kinds.{Parts, parts, is_variable, natural_of}
 use Rattle.spec_built.specs.Errors.{instantiation, type_error}
 use Rattle.spec_builtins.specs.Alternatives.{Solutions, Faults, ◌≐◌, one_way, faults_if}
-use Rattle.spec_builtins.specs.Texts.{ElementKind, Codes, name_of, is_character, is_code, code_of, element_error, elements_error, from_elements, number_in, number_read, codes_of_number, atom_list_row, char_code_row, number_codes_row}
+use Rattle.spec_builtins.specs.Texts.{ElementKind, Codes, name_of, is_character, is_code, code_of, elements_error, from_elements, atom_list_row, char_code_row}
 use Rattle.std.specs.declared.alloc.Global.{Global}
 use Rattle.cq_codes.specs.Elements.{Make, IsMadeOf, IsCharacterOf, StandsFor, code_tests}
-use Rattle.cq_codes.specs.Rows.{is_code_list, Reads}
+use Rattle.cq_codes.specs.Rows.{Reads}
 use Rattle.cq_codes.proofs.Standing.{code_passes, code_known}
 
 module _ (k : ElementKind) (v : ℕ) (l : Tree) (p : Parts) (is : p ≡ parts l) where
@@ -45,19 +45,6 @@ reads_by l p (Some s) e n h = (
   ap (λ (q : Parts). is_atom "[]" q.tail && list_all is_code q.elements) (sym e) ∙ ap (λ b. b && list_all is_code p.elements) n ∙ h.0,
   h.1 ∙ ap (λ (q : Parts). encode_utf8_all (map natural_of q.elements)) e,
 )
-
-pub reads_none : (l : Tree) (p : Parts) → p ≡ parts l → is_atom "[]" p.tail ≡ false → is_code_list l ≡ false
-reads_none l p e n = ap (λ (q : Parts). is_atom "[]" q.tail && list_all is_code q.elements) (sym e) ∙ ap (λ b. b && list_all is_code p.elements) n
-
-module _ (n l : Tree) where
-  abbrev by_list : Bool → Text → Solutions
-  by_list listed text = if listed then number_read n (number_in text) else faults_if (is_variable n) instantiation (codes_of_number n l)
-
-  pub codes_read : (s : String Global) → Reads l (Some s) → number_codes_row n l ≡ number_read n (number_in (string_bytes s))
-  codes_read s h = λ i. by_list (h.0 i) (sym h.1 i)
-
-  pub codes_told : Reads l None → number_codes_row n l ≡ faults_if (is_variable n) instantiation (codes_of_number n l)
-  codes_told h = λ i. by_list (h i) (encode_utf8_all (map natural_of (parts l).elements))
 
 -- ---- a character and its code
 module _ (c n : Tree) where

@@ -52,9 +52,13 @@ module _ (text : Text) where
   no_number (b ∷ bs) at e =
       either (passes starts_name (first_char (b ∷ bs))) (Ok (token kind.Name at (name_end (continuation_len b) bs (at + 1)))) _ (plain kind.Name at (name_end (continuation_len b) bs (at + 1))) (
       either (starts_variable b) (Ok (token kind.Variable at (name_end 0 bs (at + 1)))) _ (plain kind.Variable at (name_end 0 bs (at + 1))) (
-      either (is_symbol b) (Ok (symbols (prefix_len is_symbol (b ∷ bs)) (b ∷ bs) at)) _ (plain _ at (at + prefix_len is_symbol (b ∷ bs))) (
+      either (is_symbol b) (Ok (symbols (prefix_len is_symbol (b ∷ bs)) (b ∷ bs) at)) _ (plain kind.Name at (at + prefix_len is_symbol (b ∷ bs))) (
       other b bs at e)))
 
 -- ---- what begins with a digit has nothing before its token
 pub digit_first : (text : Text) → begins is_ascii_digit text ≡ true → next_token text 0 ≡ token_at text 0
 digit_first text e = ap (token_behind text) (ap (λ (w : Text). gap Between w 0) (sym (append-nil text)) ∙ digit_gap text [] 0 e)
+
+-- ---- a text whose token begins with a digit
+pub digit_token : (text : Text) (t : Token) → begins is_ascii_digit text ≡ true → Ok t ≡ next_token text 0 → whole_number text (token_at text 0) ≡ (if t.span.end == length text then t.number else None)
+digit_token text t digit is = ap (whole_number text) (sym (is ∙ digit_first text digit))
