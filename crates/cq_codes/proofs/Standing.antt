@@ -1,5 +1,5 @@
 -- Codes and characters as elements of lists.
-use Rattle.std.proofs.Common.{◌≡◌, ℕ, List, ◌++◌, map, Bool, true, false, cond, not, ◌&&◌, ◌||◌, Option, Some, None, encode_utf8_all, refl, sym, ◌∙◌}
+use Rattle.std.proofs.Common.{◌≡◌, ℕ, List, ◌++◌, map, Bool, true, false, cond, not, ◌||◌, Option, Some, None, encode_utf8_all, refl, sym, ◌∙◌}
 use Rattle.std.specs.List.{list_all}
 use Rattle.spec_lists.specs.Texts.{Text}
 use Rattle.spec_terms.specs.Term.{Var, Number, Name, Compound}

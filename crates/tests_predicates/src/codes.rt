@@ -464,11 +464,7 @@ fn numbers_are_spelled_as_they_are_written(rt: HostRuntime) -> Result<(), Fail> 
     for (top, bottom, text) in [
         (-120, 1, "-120"),
         (1, -2, "-1r2"),
-        (
-            i128::MAX,
-            1,
-            "170141183460469231731687303715884105727",
-        ),
+        (i128::MAX, 1, "170141183460469231731687303715884105727"),
     ] {
         let found = Frac::new(top, bottom)?;
         assert!(rt; spells(rt.alloc(), found, text)?, "{text}");
