@@ -2,9 +2,12 @@
 //! heap, which gives their alternatives one at a time.
 #![tactic(auto)]
 
+mod calls;
 mod predicates;
 mod solutions;
 mod terms;
+mod texts;
 
+pub use calls::call;
 pub use predicates::Predicate;
 pub use solutions::Solutions;

@@ -3,10 +3,11 @@
 ghost use Rattle.std.specs.Prelude.{◌≡◌, bytes_eq, find};
 ghost use Rattle.std.specs.Option.{option_map};
 ghost use Rattle.spec_built.specs.Built.{indicator};
-ghost use Rattle.spec_predicates.specs.Predicates.{predicate_named};
+ghost use Rattle.spec_predicates.specs.Predicates.{arity, predicate_named};
 ghost use Rattle.cq_predicates.specs.Names.{as_predicate};
 
 use cq_builtin::{Comparison, TypeTest};
+use cq_codes::Conversion;
 
 /// A predicate on terms or texts.
 #[derive(Clone, Copy, Debug, PartialEq, Eq)]
@@ -17,12 +18,29 @@ pub enum Predicate {
     Arg,
     Univ,
     CopyTerm,
+    Convert(Conversion),
     AtomLength,
     AtomConcat,
     SubAtom,
 }
 
 impl Predicate {
+    /// How many arguments it has.
+    pub fn arity(self) -> usize
+        ensures { result ≡ arity (as_predicate self) }
+    {
+        match self {
+            Predicate::Test(_) => 1,
+            Predicate::Functor | Predicate::Arg | Predicate::AtomConcat => 3,
+            Predicate::SubAtom => 5,
+            Predicate::Order(_)
+            | Predicate::Univ
+            | Predicate::CopyTerm
+            | Predicate::Convert(_)
+            | Predicate::AtomLength => 2,
+        }
+    }
+
     /// The predicate of a name with so many arguments, if there is one.
     pub fn named(name: &str, arity: usize) -> Option<Predicate>
         ensures { option_map as_predicate result ≡ predicate_named (indicator name.now arity) }
@@ -70,6 +88,10 @@ fn of_two(name: &str) -> Option<Predicate>
         ("=..", Predicate::Univ),
         ("copy_term", Predicate::CopyTerm),
         ("atom_length", Predicate::AtomLength),
+        ("atom_chars", Predicate::Convert(Conversion::AtomChars)),
+        ("atom_codes", Predicate::Convert(Conversion::AtomCodes)),
+        ("char_code", Predicate::Convert(Conversion::CharCode)),
+        ("number_codes", Predicate::Convert(Conversion::NumberCodes)),
     ];
     among(&predicates, name)
 }

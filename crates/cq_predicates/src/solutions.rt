@@ -4,7 +4,9 @@ ghost use Rattle.std.specs.Prelude.{◌≡◌, List, IfOk, OnErr};
 ghost use Rattle.spec_lists.specs.Texts.{Text};
 ghost use Rattle.cq_term.specs.Trees.{KnowsTerms};
 ghost use Rattle.cq_text.specs.Ways.{CanBeTried};
+ghost use Rattle.cq_text.specs.Ways.{offered};
 ghost use Rattle.cq_text.specs.Ways as text;
+ghost use Rattle.cq_built.specs.Growing.{Grows};
 ghost use Rattle.cq_builtin.specs.Offered.{IsLiveOrNone};
 ghost use Rattle.cq_predicates.specs.Given.{CanGoOn, TakesNext, TakesWay, Adds};
 
@@ -91,7 +93,7 @@ fn next_pair(heap: &Heap, pair: &mut Option<Pair>) -> Result<Option<Alternative>
     }
 }
 
-/// The next way of a predicate on texts.
+/// The next way of a predicate on texts. After want of memory the heap is as it was.
 fn next_text(
     heap: &mut Heap,
     atoms: &mut Atoms,
@@ -99,11 +101,10 @@ fn next_text(
 ) -> Result<Option<Alternative>, AllocError>
     requires live { text.CanGoOn heap.old.now.terms ways.old }
     requires names { KnowsTerms atoms.old heap.old.now.terms }
-    ensures next { IfOk result (TakesWay atoms.old heap.old.now.terms (Ways.Texts ways.old) atoms.new heap.new.now.terms (Ways.Texts ways.new)) }
+    ensures next { IfOk result (text.TakesNext offered atoms.old heap.old.now.terms ways.old atoms.new heap.new.now.terms ways.new) }
     ensures there { IfOk result (CanBeTried heap.new.now.terms) }
     ensures live { text.CanGoOn heap.new.now.terms ways.new }
-    ensures images { heap.new.now.images ≡ heap.old.now.images }
-    ensures adds { Adds atoms.old heap.old atoms.new heap.new }
+    ensures grows { Grows atoms.old heap.old atoms.new heap.new }
     ensures err { OnErr result (heap.new.now ≡ heap.old.now) }
     ensures same { OnErr result (ways.new ≡ ways.old) }
 {

@@ -4,7 +4,7 @@ ghost use Rattle.std.specs.Prelude.{◌≡◌, ◌<◌, All, length, IfOk, IfErr
 ghost use Rattle.cq_term.specs.Trees.{KnowsTerms};
 ghost use Rattle.cq_built.specs.Errors.{Explains, CanBeRaised};
 ghost use Rattle.cq_predicates.specs.Calls.{solutions_on};
-ghost use Rattle.cq_predicates.specs.Given.{CanGoOn, Gives, Adds, offers};
+ghost use Rattle.cq_predicates.specs.Given.{CanGoOn, Gives, Adds};
 
 use crate::predicates::Predicate;
 use crate::solutions::{Solutions, Ways};
@@ -24,7 +24,7 @@ pub(crate) fn compared(
     requires arity { length args.now ≡ 2 }
     requires live { All (λ id. id < length heap.now.now.terms) args.now }
     requires names { KnowsTerms atoms.now heap.now.now.terms }
-    ensures offered { IfOk result (λ s. solutions_on atoms.now heap.now.now (Predicate.Order comparison) args.now ≡ offers 0 atoms.now heap.now.now.terms s) }
+    ensures offered { IfOk result (Gives atoms.now heap.now.now heap.now.now (solutions_on atoms.now heap.now.now (Predicate.Order comparison) args.now)) }
     ensures live { IfOk result (CanGoOn heap.now.now.terms) }
 {
     let holds = order(heap, atoms, comparison, args[0], args[1])?;
@@ -43,7 +43,7 @@ pub(crate) fn tested(
     requires arity { length args.now ≡ 1 }
     requires live { All (λ id. id < length heap.now.now.terms) args.now }
     requires names { KnowsTerms atoms.now heap.now.now.terms }
-    ensures offered { IfOk result (λ s. solutions_on atoms.now heap.now.now (Predicate.Test wanted) args.now ≡ offers 0 atoms.now heap.now.now.terms s) }
+    ensures offered { IfOk result (Gives atoms.now heap.now.now heap.now.now (solutions_on atoms.now heap.now.now (Predicate.Test wanted) args.now)) }
     ensures live { IfOk result (CanGoOn heap.now.now.terms) }
 {
     let holds = test(heap, atoms, wanted, args[0])?;
@@ -57,7 +57,7 @@ pub(crate) fn chosen(heap: &Heap, atoms: &Atoms, args: &[TermId]) -> Result<Solu
     requires arity { length args.now ≡ 3 }
     requires live { All (λ id. id < length heap.now.now.terms) args.now }
     requires names { KnowsTerms atoms.now heap.now.now.terms }
-    ensures offered { IfOk result (λ s. solutions_on atoms.now heap.now.now Predicate.Arg args.now ≡ offers 0 atoms.now heap.now.now.terms s) }
+    ensures offered { IfOk result (Gives atoms.now heap.now.now heap.now.now (solutions_on atoms.now heap.now.now Predicate.Arg args.now)) }
     ensures live { IfOk result (CanGoOn heap.now.now.terms) }
     ensures fault { IfErr result (Explains atoms.now heap.now.now.terms (solutions_on atoms.now heap.now.now Predicate.Arg args.now)) }
     ensures culprit { IfErr result (CanBeRaised atoms.now heap.now.now.terms) }

@@ -1,0 +1,16 @@
+use Rattle.std.proofs.Common.{refl, sym, ◌∙◌, arith}
+use Rattle.cq_predicates.proofs.Givings.{nth_is, held, gives_none_new}
+use Rattle.spec_builtins.specs.Terms.{order_row}
+use Rattle.cq_builtin.specs.Rows.{comparison_of}
+use Rattle.cq_term.specs.Trees.{tree}
+use Rattle.cq_predicates.proofs.terms.compared.Goals as goal
+
+pub returns-clause-offered : goal.returns-clause-offered
+returns-clause-offered c =
+    let f = tree c.args.atoms.now c.args.heap.now.now.terms in
+    let xs = c.args.args.now in
+    let e0 = nth_is f xs 0 c.index-args-0.result (omega arith) c.index-args-0.is in
+    let e1 = nth_is f xs 1 c.index-args-1.result (omega arith) c.index-args-1.is in
+    gives_none_new c.args.atoms.now c.args.heap.now.now c.args.heap.now.now _ _
+    ((λ i. order_row (comparison_of c.args.comparison) (e0 i) (e1 i)) ∙ sym c.in_ok-holds.ensures ∙ held c.args.atoms.now c.args.heap.now.now.terms c.in_ok-holds.holds)
+    refl
