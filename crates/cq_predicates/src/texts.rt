@@ -37,10 +37,12 @@ pub(crate) fn converted(
     ensures adds { Adds atoms.old heap.old atoms.new heap.new }
     ensures err { OnErr result (heap.new.now ≡ heap.old.now) }
 {
-    let pair = convert(heap, atoms, conversion, args[0], args[1])?;
-    Ok(Solutions {
-        ways: Ways::Pair(Some(pair)),
-    })
+    match convert(heap, atoms, conversion, args[0], args[1]) {
+        Ok(pair) => Ok(Solutions {
+            ways: Ways::Pair(Some(pair)),
+        }),
+        Err(fault) => Err(fault),
+    }
 }
 
 /// How many characters an atom has.

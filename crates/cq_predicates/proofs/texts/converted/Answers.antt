@@ -1,5 +1,5 @@
 use Rattle.std.proofs.Common.{◌≡◌, ℕ, List, [], ◌∷◌, map, length, ◌∙◌, sym, subst, arith}
-use Rattle.cq_predicates.proofs.Givings.{nth_is, gives_none_new, adds_grown}
+use Rattle.cq_predicates.proofs.Givings.{nth_is, gives_none_new}
 use Rattle.spec_lists.specs.Texts.{Text}
 use Rattle.spec_builtins.specs.Alternatives.{Solutions}
 use Rattle.spec_builtins.specs.Texts.{Characters, Codes, atom_list_row, char_code_row, number_codes_row}
@@ -23,28 +23,22 @@ row_of conversion.AtomCodes texts ts fresh a b us e d = λ i. atom_list_row Code
 row_of conversion.CharCode texts ts fresh a b us e d = λ i. char_code_row (e i) (d i)
 row_of conversion.NumberCodes texts ts fresh a b us e d = λ i. number_codes_row (e i) (d i)
 
-pub returns-clause-offered : goal.returns-clause-offered
-returns-clause-offered c =
+pub returns-in-Ok-clause-offered : goal.returns-in-Ok-clause-offered
+returns-in-Ok-clause-offered c =
     let f = tree c.args.atoms.now c.args.heap.now.now.terms in
     let xs = c.args.args.now in
     let e0 = nth_is f xs 0 c.index-args-0.result (omega arith) c.index-args-0.is in
     let e1 = nth_is f xs 1 c.index-args-1.result (omega arith) c.index-args-1.is in
     gives_none_new c.convert.new.atoms c.args.heap.now.now c.convert.new.heap.now _ _
     (row_of c.args.conversion c.args.atoms.now c.args.heap.now.now.terms (length c.args.heap.now.now.images) c.index-args-0.result c.index-args-1.result (map f xs) e0 e1
-    ∙ c.in_ok-pair.ensures.offered) c.convert.ensures.grows.images
+    ∙ c.in-Ok.ensures.offered) c.convert.ensures.grows.images
 
-pub returns-clause-adds : goal.returns-clause-adds
-returns-clause-adds c = adds_grown c.args.atoms.now c.convert.new.atoms c.args.heap.now c.convert.new.heap c.convert.ensures.grows
-
-pub returns-in_err-pair-clause-adds : goal.returns-in_err-pair-clause-adds
-returns-in_err-pair-clause-adds c = adds_grown c.args.atoms.now c.convert.new.atoms c.args.heap.now c.convert.new.heap c.convert.ensures.grows
-
-pub returns-in_err-pair-clause-fault : goal.returns-in_err-pair-clause-fault
-returns-in_err-pair-clause-fault c =
+pub returns-in-Err-clause-fault : goal.returns-in-Err-clause-fault
+returns-in-Err-clause-fault c =
     let f = tree c.args.atoms.now c.args.heap.now.now.terms in
     let xs = c.args.args.now in
     let e0 = nth_is f xs 0 c.index-args-0.result (omega arith) c.index-args-0.is in
     let e1 = nth_is f xs 1 c.index-args-1.result (omega arith) c.index-args-1.is in
-    subst (λ s. Explains c.args.atoms.now c.args.heap.now.now.terms s c.in_err-pair.error)
+    subst (λ s. Explains c.args.atoms.now c.args.heap.now.now.terms s c.in-Err.fault)
     (sym (row_of c.args.conversion c.args.atoms.now c.args.heap.now.now.terms (length c.args.heap.now.now.images) c.index-args-0.result c.index-args-1.result (map f xs) e0 e1))
-    c.in_err-pair.ensures.fault
+    c.in-Err.ensures.fault

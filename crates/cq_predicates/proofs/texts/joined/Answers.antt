@@ -1,5 +1,5 @@
 use Rattle.std.proofs.Common.{ap, ◌∙◌, arith}
-use Rattle.cq_predicates.proofs.Givings.{nth_is, offered_alone, gives_none_new, adds_grown}
+use Rattle.cq_predicates.proofs.Givings.{nth_is, offered_alone, gives_none_new}
 use Rattle.spec_builtins.specs.Alternatives.{Offers}
 use Rattle.spec_builtins.specs.Texts.{atom_concat_row}
 use Rattle.cq_term.specs.Trees.{tree}
@@ -15,9 +15,3 @@ returns-clause-offered c =
     gives_none_new c.concat_ways.new.atoms c.args.heap.now.now c.concat_ways.new.heap.now _ _
     ((λ i. atom_concat_row (e0 i) (e1 i) (e2 i)) ∙ c.in_ok-ways.ensures.ok ∙ ap Offers (offered_alone c.concat_ways.new.atoms c.concat_ways.new.heap.now.terms c.in_ok-ways.ways))
     c.concat_ways.ensures.grows.images
-
-pub returns-clause-adds : goal.returns-clause-adds
-returns-clause-adds c = adds_grown c.args.atoms.now c.concat_ways.new.atoms c.args.heap.now c.concat_ways.new.heap c.concat_ways.ensures.grows
-
-pub returns-in_err-ways-clause-adds : goal.returns-in_err-ways-clause-adds
-returns-in_err-ways-clause-adds c = adds_grown c.args.atoms.now c.concat_ways.new.atoms c.args.heap.now c.concat_ways.new.heap c.concat_ways.ensures.grows
