@@ -77,13 +77,18 @@ module _ (E : Type 0) (text : E → Text) (value : E → Predicate) (n : ℕ) wh
       by row (inl e) = (let clash : is_none (Some q) ≡ true = ap is_none (sym row.predicate) ∙ e in cc)
       by row (inr e) = here row (one_is (not (r.indicator.arity == n)) _ e)
 
-  pub found : (name : Text) (es : List E) → AllByRecursion IsRight es → list_all (covered es) built ≡ true
+  found_there : (name : Text) (es : List E) → AllByRecursion IsRight es → list_all (covered es) built ≡ true
       → option_map as_predicate (option_map value (find (test name) es)) ≡ predicate_named (indicator name n)
-  found name es all cover = by (find (test name) es) refl
+  found_there name es all cover = by (find (test name) es) refl
     where
       by : (o : Option E) → find (test name) es ≡ o → option_map as_predicate (option_map value o) ≡ predicate_named (indicator name n)
       by None e = none_from (predicate_named (indicator name n)) (found_none name es cover e)
       by (Some x) e = sym (found_some name es all x e)
+
+  -- what is found in the list is what the table has
+  pub found : (name : Text) (r : Option Predicate) (es : List E) → r ≡ option_map value (find (test name) es)
+      → AllByRecursion IsRight es → list_all (covered es) built ≡ true → option_map as_predicate r ≡ predicate_named (indicator name n)
+  found name r es e all cover = ap (option_map as_predicate) e ∙ found_there name es all cover
 
 -- with another number of arguments there is none
 pub none_other : (name : Text) (n : ℕ) → (n ≡ 1 → ⊥) → (n ≡ 2 → ⊥) → (n ≡ 3 → ⊥) → (n ≡ 5 → ⊥) → None ≡ predicate_named (indicator name n)
