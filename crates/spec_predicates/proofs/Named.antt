@@ -1,5 +1,5 @@
 -- What is found by its name and number of arguments.
-use Rattle.std.proofs.Common.{◌≡◌, ℕ, List, [], ◌∷◌, Bool, true, false, cond, ◌&&◌, ◌==◌, Option, Some, None, find, refl, sym, ap, ◌∙◌}
+use Rattle.std.proofs.Common.{◌≡◌, ℕ, List, [], ◌∷◌, Bool, true, false, cond, ◌==◌, Option, Some, None, find, refl, sym, ap, ◌∙◌}
 use Rattle.std.specs.Prelude.{bytes_eq, Contains, option_and_then}
 use Rattle.std.specs.List.{AllByRecursion, list_all}
 use Rattle.std.specs.Option.{option_map, option_map_or}
@@ -7,7 +7,7 @@ use Rattle.std.specs.Cmp.Lexicographic.{bytes_decides}
 use Rattle.std.proofs.lemmas.List.Elements.{All-from_recursion, All-contains}
 use Rattle.spec_lists.proofs.Tests.{nat_eq-same, both_are}
 use Rattle.spec_built.specs.Built.{Indicator, same_indicator}
-use Rattle.spec_search.specs.Builtins.{Builtin, Row, built, builtin_of}
+use Rattle.spec_search.specs.Builtins.{Row, built, builtin_of}
 use Rattle.spec_predicates.specs.Predicates.{Predicate, predicate_of, predicate_named, arity}
 
 abbrev IsFound : Row → Type 0

@@ -1,17 +1,17 @@
 -- The steps of a goal that calls a predicate on terms or texts.
-use Rattle.std.proofs.Common.{◌≡◌, ℕ, zero, suc, ◌+◌, List, [], ◌∷◌, map, length, Bool, true, false, ◌||◌, Option, Some, None, refl, sym, ap, ◌∙◌, subst, arith}
+use Rattle.std.proofs.Common.{◌≡◌, ℕ, ◌+◌, List, [], ◌∷◌, length, Bool, true, false, ◌||◌, Option, Some, None, refl, sym, ap, ◌∙◌, subst, arith}
 use Rattle.std.specs.Prelude.{option_and_then}
-use Rattle.spec_terms.specs.Term.{Term, Terms, Var, Number, Name, Compound, one, more, list_of, apply, apply_all}
+use Rattle.spec_terms.specs.Term.{Terms, Var, Number, Name, Compound, one, more, list_of, apply, apply_all}
 use Rattle.spec_terms.specs.Variables.{variables, renamed_from}
 use Rattle.spec_syntax.specs.Trees.{Tree}
 use Rattle.spec_built.specs.Built.{indicator_of}
-use Rattle.spec_builtins.specs.Alternatives.{Solutions, Faults, Offers, ◌≐◌, without_new, holds_if}
+use Rattle.spec_builtins.specs.Alternatives.{Solutions, Faults, Offers, ◌≐◌, holds_if}
 use Rattle.spec_builtins.specs.Terms.{arguments, passes}
-use Rattle.spec_branch.specs.Branch.{State, Branch, plain_copy, read}
+use Rattle.spec_branch.specs.Branch.{State, plain_copy, read}
 use Rattle.spec_search.specs.Builtins.{Builtin, builtin_of}
 use Rattle.spec_search.specs.Builtins as builtin
 use Rattle.spec_search.specs.Database.{Clause}
-use Rattle.spec_search.specs.Replies.{Place, Reply, Calls, WithCopy, offers, succeeds_if, child, with_new, with_equations, alternative_child}
+use Rattle.spec_search.specs.Replies.{Place, Calls, WithCopy, offers, succeeds_if, child, with_new, with_equations, alternative_child}
 use Rattle.spec_search.specs.Control.{copied_child}
 use Rattle.spec_search.specs.Rows.{nth, reply_of, reply_by, builtin_reply}
 use Rattle.spec_search.specs.Steps.{Steps, Stepped, children, raises, makes, copies}
