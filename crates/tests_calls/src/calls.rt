@@ -58,11 +58,7 @@ fn term(heap: &mut Heap, atoms: &mut Atoms, sample: Sample) -> Result<TermId, Al
 }
 
 /// How many alternatives come, where these are a hundred at most.
-fn count(
-    heap: &mut Heap,
-    atoms: &mut Atoms,
-    solutions: &mut Solutions,
-) -> Result<usize, AllocError>
+fn count(heap: &mut Heap, atoms: &mut Atoms, solutions: &mut Solutions) -> Result<usize, AllocError>
     requires live { CanGoOn heap.old.now.terms solutions.old }
     requires names { KnowsTerms atoms.old heap.old.now.terms }
 {
@@ -95,11 +91,7 @@ fn called(
 }
 
 /// The terms of arguments.
-fn terms(
-    heap: &mut Heap,
-    atoms: &mut Atoms,
-    samples: &[Sample],
-) -> Result<Vec<TermId>, AllocError>
+fn terms(heap: &mut Heap, atoms: &mut Atoms, samples: &[Sample]) -> Result<Vec<TermId>, AllocError>
     requires names { KnowsTerms atoms.old heap.old.now.terms }
     ensures live { IfOk result (λ ids. All (λ id. id < length heap.new.now.terms) ids.items) }
     ensures names { KnowsTerms atoms.new heap.new.now.terms }
@@ -131,9 +123,18 @@ fn ways(alloc: Global, name: &str, samples: &[Sample]) -> Result<Option<usize>, 
 
 #[test]
 fn predicates_have_their_names(rt: HostRuntime) -> Result<(), Fail> {
-    assert_eq!(rt; Predicate::named("rational", 1), Some(Predicate::Test(TypeTest::Number)));
-    assert_eq!(rt; Predicate::named("@>=", 2), Some(Predicate::Order(Comparison::AfterOrSame)));
-    assert_eq!(rt; Predicate::named("number_codes", 2), Some(Predicate::Convert(Conversion::NumberCodes)));
+    assert_eq!(rt;
+        Predicate::named("rational", 1),
+        Some(Predicate::Test(TypeTest::Number))
+    );
+    assert_eq!(rt;
+        Predicate::named("@>=", 2),
+        Some(Predicate::Order(Comparison::AfterOrSame))
+    );
+    assert_eq!(rt;
+        Predicate::named("number_codes", 2),
+        Some(Predicate::Convert(Conversion::NumberCodes))
+    );
     assert_eq!(rt; Predicate::named("sub_atom", 5), Some(Predicate::SubAtom));
     assert_eq!(rt; Predicate::named("arg", 2), None);
     assert_eq!(rt; Predicate::named("append", 3), None);
@@ -162,6 +163,9 @@ fn calls_on_texts_give_their_alternatives(rt: HostRuntime) -> Result<(), Fail> {
     assert_eq!(rt; ways(rt.alloc(), "atom_concat", &[x, x, text])?, Some(3));
     assert_eq!(rt; ways(rt.alloc(), "atom_concat", &[x, x, x])?, None);
     assert_eq!(rt; ways(rt.alloc(), "sub_atom", &[text, x, x, x, x])?, Some(6));
-    assert_eq!(rt; ways(rt.alloc(), "sub_atom", &[text, x, x, x, accent])?, Some(1));
+    assert_eq!(rt;
+        ways(rt.alloc(), "sub_atom", &[text, x, x, x, accent])?,
+        Some(1)
+    );
     Ok(())
 }
