@@ -11,6 +11,7 @@ use Rattle.spec_search.specs.Builtins.{Row, built}
 use Rattle.spec_predicates.specs.Predicates as definition
 use Rattle.spec_predicates.specs.Predicates.{predicate_of, predicate_named, arity}
 use Rattle.spec_predicates.proofs.Named.{IsRow, row_in, same_arity, same_name, named_arity}
+use Rattle.cq_predicates.specs.Found.{IsFirst}
 use Rattle.cq_predicates.specs.Names.{as_predicate}
 use Rattle.cq_predicates.specs.declared.predicates.Predicate.{Predicate}
 
@@ -86,9 +87,9 @@ module _ (E : Type 0) (text : E → Text) (value : E → Predicate) (n : ℕ) wh
       by (Some x) e = sym (found_some name es all x e)
 
   -- what is found in the list is what the table has
-  pub found : (name : Text) (r : Option Predicate) (es : List E) → r ≡ option_map value (find (test name) es)
+  pub found : (name : Text) (r : Option Predicate) (es : List E) → IsFirst (test name) value es r
       → AllByRecursion IsRight es → list_all (covered es) built ≡ true → option_map as_predicate r ≡ predicate_named (indicator name n)
-  found name r es e all cover = ap (option_map as_predicate) e ∙ found_there name es all cover
+  found name r es first all cover = ap (option_map as_predicate) first.found ∙ found_there name es all cover
 
 -- with another number of arguments there is none
 pub none_other : (name : Text) (n : ℕ) → (n ≡ 1 → ⊥) → (n ≡ 2 → ⊥) → (n ≡ 3 → ⊥) → (n ≡ 5 → ⊥) → None ≡ predicate_named (indicator name n)

@@ -3,11 +3,13 @@
 #![tactic(auto)]
 
 mod calls;
+mod laws;
 mod predicates;
 mod solutions;
 mod terms;
 mod texts;
 
 pub use calls::call;
+pub use laws::alternatives_stay_the_same;
 pub use predicates::Predicate;
 pub use solutions::Solutions;

@@ -1,9 +1,10 @@
 // The predicates, by name and number of arguments.
 
-ghost use Rattle.std.specs.Prelude.{◌≡◌, bytes_eq, find};
+ghost use Rattle.std.specs.Prelude.{◌≡◌, bytes_eq};
 ghost use Rattle.std.specs.Option.{option_map};
 ghost use Rattle.spec_built.specs.Built.{indicator};
 ghost use Rattle.spec_predicates.specs.Predicates.{arity, predicate_named};
+ghost use Rattle.cq_predicates.specs.Found.{IsFirst};
 ghost use Rattle.cq_predicates.specs.Names.{as_predicate};
 
 use cq_builtin::{Comparison, TypeTest};
@@ -117,7 +118,7 @@ fn of_five(name: &str) -> Option<Predicate>
 
 /// The first predicate that has this name.
 fn among(named: &[(&str, Predicate)], name: &str) -> Option<Predicate>
-    ensures { result ≡ option_map (λ row. row.1) (find (λ row. bytes_eq row.0.now name.now) named.now) }
+    ensures { IsFirst (λ row. bytes_eq row.0.now name.now) (λ row. row.1) named.now result }
 {
     for (other, predicate) in named {
         if *other == name {

@@ -1,6 +1,7 @@
 -- The steps of a goal that calls a predicate on terms or texts.
-use Rattle.std.proofs.Common.{◌≡◌, ℕ, ◌+◌, List, [], ◌∷◌, length, Bool, true, false, ◌||◌, Option, Some, None, refl, sym, ap, ◌∙◌, subst, arith}
+use Rattle.std.proofs.Common.{◌≡◌, ℕ, ◌+◌, List, [], ◌∷◌, length, Bool, true, false, Option, Some, None, refl, sym, ap, ◌∙◌, subst, arith}
 use Rattle.std.specs.Prelude.{option_and_then}
+use Rattle.std.proofs.Math.Bool.{or-false}
 use Rattle.spec_terms.specs.Term.{Terms, Var, Number, Name, Compound, one, more, list_of, apply, apply_all}
 use Rattle.spec_terms.specs.Variables.{variables, renamed_from}
 use Rattle.spec_syntax.specs.Trees.{Tree}
@@ -41,10 +42,6 @@ first_read st (t ∷ ts) h = h.0
 
 -- ---- children
 
-or_false : (b : Bool) → (b || false) ≡ b
-or_false true = refl
-or_false false = refl
-
 module _ (p : Place) (goal : Tree) where
   offered : (s : Solutions) → reply_of p goal ≡ offers p s → Steps p goal (stepped_by p goal s)
   offered (Faults e) h = raises h
@@ -59,7 +56,7 @@ module _ (p : Place) (goal : Tree) where
 
   copied_way : (a b : Tree) → copied_child p b (plain_copy a) ≡ alternative_child p (copy_way p.state.fresh (plain_copy a) b)
   copied_way a b = λ i. child p.rest
-      (record p.state { fresh = p.state.fresh + length (variables a); numeric = λ v. or_false (p.state.numeric v) i })
+      (record p.state { fresh = p.state.fresh + length (variables a); numeric = λ v. or-false (p.state.numeric v) i })
       (with_equations ((b ≐ renamed_from p.state.fresh a) ∷ []))
 
   copied : (a b : Tree) → read p.state a ≡ a → reply_of p goal ≡ WithCopy a (copied_child p b)
