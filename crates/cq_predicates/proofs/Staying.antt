@@ -1,20 +1,16 @@
 -- Alternatives that are still to come stay the same while names, terms and variables are added.
-use Rattle.std.proofs.Common.{◌≡◌, ℕ, ◌<◌, List, [], ◌∷◌, map, length, All, Bool, true, false, Option, Some, None, refl, ap, ◌∙◌, arith}
+use Rattle.std.proofs.Common.{◌≡◌, ℕ, ◌<◌, List, [], ◌∷◌, map, length, All, true, false, Some, None, refl, ap}
 use Rattle.std.proofs.lemmas.List.Elements.{All-head, All-tail, All-weaker}
 use Rattle.spec_lists.specs.Texts.{Text}
-use Rattle.spec_lists.specs.Prefixes.{IsPrefix}
 use Rattle.spec_lists.proofs.Prefixes.{prefix_within}
-use Rattle.spec_terms.specs.Unifier.{Equation}
 use Rattle.spec_builtins.specs.Alternatives as definition
 use Rattle.spec_builtins.specs.Alternatives.{◌≐◌}
 use Rattle.cq_term.specs.HeapValue.{HeapValue}
-use Rattle.cq_term.specs.Meaning.{HeapTerm}
 use Rattle.cq_term.specs.Trees.{KnowsTerms}
 use Rattle.cq_walk.specs.Pairs.{IsLive}
 use Rattle.cq_walk.specs.declared.pairs.Pair.{Pair}
 use Rattle.cq_built.specs.Growing.{Grows}
 use Rattle.cq_built.specs.Offered.{equation_of}
-use Rattle.cq_built.specs.declared.alternatives.Alternative.{Alternative}
 use Rattle.cq_built.proofs.Trees.{tree_kept}
 use Rattle.cq_text.specs.Ways.{offered}
 use Rattle.cq_text.specs.Ways as text

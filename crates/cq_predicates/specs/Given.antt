@@ -1,5 +1,5 @@
 -- What a call gives, as alternatives that are made one at a time.
-use Rattle.std.specs.Prelude.{◌≡◌, ◌≤◌, ℕ, List, [], ◌∷◌, ◌++◌, Bool, true, false, map, length, Option, Some, None, ⊤}
+use Rattle.std.specs.Prelude.{◌≡◌, ◌≤◌, ℕ, List, [], ◌∷◌, ◌++◌, true, false, map, length, Option, Some, None, ⊤}
 use Rattle.spec_lists.specs.Texts.{Text}
 use Rattle.spec_lists.specs.Prefixes.{IsPrefix}
 use Rattle.spec_terms.specs.Unifier.{Equation}
@@ -9,8 +9,6 @@ use Rattle.cq_term.specs.HeapValue.{HeapValue, Terms}
 use Rattle.cq_term.specs.Meaning.{HeapTerm}
 use Rattle.cq_term.specs.Trees.{KnowsTerms}
 use Rattle.cq_unify.specs.Copied.{unbound_from}
-use Rattle.cq_walk.specs.Pairs.{IsLive}
-use Rattle.cq_walk.specs.declared.pairs.Pair.{Pair}
 use Rattle.cq_built.specs.Offered.{equation_of}
 use Rattle.cq_built.specs.declared.alternatives.Alternative.{Alternative}
 use Rattle.cq_builtin.specs.Offered.{IsLiveOrNone}

@@ -1,7 +1,6 @@
-use Rattle.std.proofs.Common.{◌≡◌, ℕ, List, [], ◌∷◌, map, length, ◌∙◌, sym, subst, arith}
+use Rattle.std.proofs.Common.{◌≡◌, ℕ, List, map, length, ◌∙◌, sym, subst, arith}
 use Rattle.cq_predicates.proofs.Givings.{nth_is, gives_none_new}
 use Rattle.spec_lists.specs.Texts.{Text}
-use Rattle.spec_builtins.specs.Alternatives.{Solutions}
 use Rattle.spec_builtins.specs.Texts.{Characters, Codes, atom_list_row, char_code_row, number_codes_row}
 use Rattle.spec_syntax.specs.Trees.{Tree}
 use Rattle.spec_search.specs.Rows.{nth}
