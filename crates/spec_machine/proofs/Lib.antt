@@ -1,0 +1,4 @@
+pub mod Kept
+pub mod Passed
+pub mod Made
+pub mod Thrown

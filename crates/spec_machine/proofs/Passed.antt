@@ -1,0 +1,161 @@
+-- Marks that are passed, choices that are come back to, and goals that are selected.
+use Rattle.std.proofs.Common.{inl, ◌≡◌, ℕ, ◌<◌, List, [], ◌∷◌, ◌++◌, length, Option, None, Some, refl, sym, ap, ◌∙◌, subst, map, arith}
+use Rattle.spec_syntax.specs.Trees.{Tree}
+use Rattle.spec_branch.specs.Branch.{State, Item, Branch, no_work, read}
+use Rattle.spec_search.specs.Database.{Database, Clause}
+use Rattle.spec_search.specs.Replies.{Place, child}
+use Rattle.spec_search.specs.Control.{clause_child, clause_items, clause_state, clause_work}
+use Rattle.spec_search.specs.Balls as balls
+use Rattle.spec_search.specs.Search.{Search, is_selecting, settled, Settling, Selecting, look_at}
+use Rattle.spec_search.specs.Turns as turn
+use Rattle.spec_search.specs.Turns.{Turn, with_branches, place_of, after_step}
+use Rattle.cq_control.specs.Items.{items_at}
+use Rattle.cq_control.specs.Open.{last}
+use Rattle.spec_machine.specs.declared.cell.Cell.{Cell}
+use Rattle.spec_machine.specs.declared.cell.Cell.TheVariants.{Goal, CutTo, CutFail, CatchEnd}
+use Rattle.spec_machine.specs.Cells.{Fits, One, Clauses, Value, Stack, below}
+use Rattle.spec_machine.specs.Standing.{engine, AreItems, IsPlace, AreWaiting, IsStanding}
+use Rattle.spec_machine.specs.Coming.{at_once, after, Comes, Rest}
+use Rattle.spec_machine.proofs.Kept.{length-last, fits_more, items_last, length-waiting, waiting-last}
+
+module _ {W : Type 0} (IsState : W → State → Type 0) (term : W → ℕ → Option Tree) where
+  -- a search whose first branch is this one, settled
+  first_is : (s : Search) (first behind : List Branch) (items items' : List Item) (st : State) → s.branches ≡ first ++ behind → first ≡ settled items st ∷ [] → items ≡ items'
+      → s.branches ≡ settled items' st ∷ behind
+  first_is s first behind items items' st e f i = e ∙ ap (λ l. l ++ behind) f ∙ ap (λ is. settled is st ∷ behind) i
+
+  module _ (steps : ℕ) (db : Database) (n : ℕ) (rs : Stack W) (now : Value W) (k next : ℕ) (s : Search) (j : IsStanding IsState term (engine db n rs now (Some k)) s) (earlier : next < k) where
+    -- the cells in front
+    front : (cs : List Cell) → items_at now.1 k ≡ cs → AreItems IsState term rs now.0 j.current.1 cs j.current.0 × Fits (length rs) cs
+    front cs e = (subst (λ l. AreItems IsState term rs now.0 j.current.1 l j.current.0) e j.current.3.cells, subst (Fits (length rs)) e j.current.3.fits)
+
+    behind_there : next < length now.1
+    behind_there = omega (arith, j.current.3.there)
+
+    pub cut_passed : (h : ℕ) → items_at now.1 k ≡ CutTo h ∷ items_at now.1 next → Comes IsState term steps (engine db n (last h rs) now (Some next)) s
+    cut_passed h e =
+        let f = front (CutTo h ∷ items_at now.1 next) e in
+        let st = j.current.1 in
+        let bs = settled f.0.0 st ∷ balls.last (below rs h) j.behind in
+        let long : length (last h rs) ≡ h = length-last rs h f.1.0 in
+        record {
+          reached = with_branches bs s;
+          quiet = after (inl (ap is_selecting (ap look_at (first_is s j.first j.behind j.current.0 _ st j.branches j.current.2 f.0.1)))) (turn.moves (ap look_at (first_is s j.first j.behind j.current.0 _ st j.branches j.current.2 f.0.1))) at_once;
+          stands = record {
+            database = j.database;
+            selected = j.selected;
+            first = settled f.0.0 st ∷ [];
+            behind = balls.last (below rs h) j.behind;
+            branches = refl;
+            current = (
+              f.0.0,
+              st,
+              refl,
+              record {
+                there = behind_there;
+                fits = subst (λ m. Fits m (items_at now.1 next)) (sym long) f.1.1;
+                state = j.current.3.state;
+                cells = items_last IsState term rs h now.0 st (items_at now.1 next) f.0.0 f.1.1 f.0.2;
+              },
+            );
+            waiting = waiting-last IsState term rs h j.behind j.waiting;
+          };
+        }
+
+    pub fail_passed : (h : ℕ) → items_at now.1 k ≡ CutFail h ∷ items_at now.1 next → Comes IsState term steps (engine db n (last h rs) now None) s
+    fail_passed h e =
+        let f = front (CutFail h ∷ items_at now.1 next) e in
+        let st = j.current.1 in
+        record {
+          reached = with_branches (balls.last (below rs h) j.behind) s;
+          quiet = after (inl (ap is_selecting (ap look_at (first_is s j.first j.behind j.current.0 _ st j.branches j.current.2 f.0.1)))) (turn.moves (ap look_at (first_is s j.first j.behind j.current.0 _ st j.branches j.current.2 f.0.1))) at_once;
+          stands = record {
+            database = j.database;
+            selected = j.selected;
+            first = [];
+            behind = balls.last (below rs h) j.behind;
+            branches = refl;
+            current = refl;
+            waiting = waiting-last IsState term rs h j.behind j.waiting;
+          };
+        }
+
+    pub end_passed : (h c r : ℕ) → items_at now.1 k ≡ CatchEnd h c r ∷ items_at now.1 next → Comes IsState term steps (engine db n rs now (Some next)) s
+    end_passed h c r e =
+        let f = front (CatchEnd h c r ∷ items_at now.1 next) e in
+        let st = j.current.1 in
+        let more = f.0.4 in
+        record {
+          reached = with_branches (settled more st ∷ j.behind) s;
+          quiet = after (inl (ap is_selecting (ap look_at (first_is s j.first j.behind j.current.0 _ st j.branches j.current.2 f.0.5)))) (turn.moves (ap look_at (first_is s j.first j.behind j.current.0 _ st j.branches j.current.2 f.0.5))) at_once;
+          stands = record {
+            database = j.database;
+            selected = j.selected;
+            first = settled more st ∷ [];
+            behind = j.behind;
+            branches = refl;
+            current = (
+              more,
+              st,
+              refl,
+              record {
+                there = behind_there;
+                fits = fits_more h (length rs) (items_at now.1 next) (omega (arith, f.1.0)) f.1.1;
+                state = j.current.3.state;
+                cells = f.0.11;
+              },
+            );
+            waiting = j.waiting;
+          };
+        }
+
+    -- a goal in front is selected: it reads as the world reads its term, and stands in a place with this continuation behind it
+    pub selects : (t cut : ℕ) → items_at now.1 k ≡ Goal t cut ∷ items_at now.1 next
+        → (goal : Tree) × (items : List Item) × (st : State) × (look_at s.branches ≡ Selecting goal (below rs cut) items st j.behind)
+        × (term now.0 t ≡ Some (read st goal)) × IsPlace IsState term rs now next (place_of s st items (below rs cut) j.behind)
+    selects t cut e =
+        let f = front (Goal t cut ∷ items_at now.1 next) e in
+        let st = j.current.1 in (
+          f.0.0,
+          f.0.1,
+          st,
+          ap look_at (first_is s j.first j.behind j.current.0 _ st j.branches j.current.2 f.0.2),
+          f.0.3,
+          record {
+            continuation = record { there = behind_there; fits = fits_more cut (length rs) (items_at now.1 next) f.1.0 f.1.1; state = j.current.3.state; cells = f.0.4 };
+            height = length-waiting IsState term rs j.behind j.waiting;
+          },
+        )
+
+  -- ---- the engine comes back to its newest choice
+
+  module _ (steps : ℕ) (db : Database) (n : ℕ) (older : Stack W) (v now : Value W) (s : Search) where
+    pub one_begun : Rest IsState → (k : ℕ) → IsStanding IsState term (engine db n ((v, One k) ∷ older) now None) s → Comes IsState term steps (engine db n older v (Some k)) s
+    one_begun rest k j =
+        let own = j.waiting.3 in
+        let is : s.branches ≡ child own.0 own.1 no_work ∷ j.waiting.1 =
+        j.branches ∙ ap (λ l. l ++ j.behind) j.current ∙ j.waiting.2 ∙ ap (λ l. l ++ j.waiting.1) own.2 in
+        record {
+          reached = record s { database = s.database; branches = settled own.0 own.1 ∷ j.waiting.1 };
+          quiet = after (inl (ap is_selecting (ap look_at is))) (turn.keeps (ap look_at is) (rest v.0 own.1 own.0 own.3.state)) at_once;
+          stands = record {
+            database = j.database;
+            selected = j.selected;
+            first = settled own.0 own.1 ∷ [];
+            behind = j.waiting.1;
+            branches = refl;
+            current = (own.0, own.1, refl, own.3);
+            waiting = j.waiting.4;
+          };
+        }
+
+    -- the next clause of a call is tried: its branch is settled, and the others wait
+    pub clause_begun : (t k : ℕ) (c : Clause) (cs : List Clause) → IsStanding IsState term (engine db n ((v, Clauses t (c ∷ cs) k) ∷ older) now None) s
+        → (p : Place) × (goal : Tree) × (behind : List Branch) × (look_at s.branches ≡ Settling (clause_items p c) (clause_state p c) (clause_work p goal c) behind)
+        × (term v.0 t ≡ Some goal) × IsPlace IsState term older v k p × AreWaiting IsState term ((v, Clauses t cs k) ∷ older) behind
+    clause_begun t k c cs j =
+        let own = j.waiting.3 in
+        let left = map (clause_child own.0 own.1) cs in
+        let is : s.branches ≡ clause_child own.0 own.1 c ∷ (left ++ j.waiting.1) =
+        j.branches ∙ ap (λ l. l ++ j.behind) j.current ∙ j.waiting.2 ∙ ap (λ l. l ++ j.waiting.1) own.2 in
+        (own.0, own.1, left ++ j.waiting.1, ap look_at is, own.3, own.4, (left, j.waiting.1, refl, (own.0, own.1, refl, own.3, own.4), j.waiting.4))

@@ -1,0 +1,8 @@
+use Rattle.spec_machine.proofs.Passed.{one_begun, clause_begun}
+use Rattle.spec_machine.proofs.laws.choices_are_come_back_to.Goals as goal
+
+pub returns-clause-one : goal.returns-clause-one
+returns-clause-one g c = λ texts steps db n older v now s k rest j. one_begun (g.R.StateWorlds.is_state texts) (g.R.StateWorlds.term texts) steps db n older v now s rest k j
+
+pub returns-clause-clause : goal.returns-clause-clause
+returns-clause-clause g c = λ texts. clause_begun (g.R.StateWorlds.is_state texts) (g.R.StateWorlds.term texts) 0

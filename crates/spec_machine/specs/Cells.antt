@@ -1,0 +1,75 @@
+-- What an engine keeps of a search: cells of what is still to be done, and what its choices leave to try. Terms are numbers
+-- that a world reads, continuations are numbers, and heights are numbers of choices.
+use Rattle.std.specs.Prelude.{ℕ, suc, ◌≤◌, ◌<◌, List, [], ◌∷◌, length, Option, Some, None, ⊤}
+use Rattle.spec_builtins.specs.Alternatives.{Alternative}
+use Rattle.spec_branch.specs.Branch.{Copied}
+use Rattle.spec_search.specs.Database.{Clause}
+use Rattle.cq_control.specs.Heights.{branches_below}
+use Rattle.cq_control.specs.Open.{last}
+use Rattle.spec_machine.specs.declared.cell.Cell.{Cell}
+use Rattle.spec_machine.specs.declared.cell.Cell.TheVariants.{Goal, Call, CutTo, CutFail, CatchEnd, Collect}
+
+-- ---- cells
+
+-- Each cell speaks of choices among the oldest n, and what is behind it of those alone that it goes back to.
+abbrev pub Fits : ℕ → List Cell → Type 0
+Fits n [] = ⊤
+Fits n (Goal t cut ∷ cs) = (cut ≤ n) × Fits cut cs
+Fits n (Call t ∷ cs) = Fits n cs
+Fits n (CutTo h ∷ cs) = (h ≤ n) × Fits h cs
+Fits n (CutFail h ∷ cs) = (h ≤ n) × Fits h cs
+Fits n (CatchEnd h c r ∷ cs) = (h < n) × Fits h cs
+Fits n (Collect h t ∷ cs) = (h < n) × Fits h cs
+
+-- the nearest end of a catch: its height, its two other arguments, and the cells behind it
+abbrev pub nearest_catch : List Cell → Option (ℕ × ℕ × ℕ × List Cell)
+nearest_catch [] = None
+nearest_catch (Goal t cut ∷ cs) = nearest_catch cs
+nearest_catch (Call t ∷ cs) = nearest_catch cs
+nearest_catch (CutTo h ∷ cs) = nearest_catch cs
+nearest_catch (CutFail h ∷ cs) = nearest_catch cs
+nearest_catch (CatchEnd h c r ∷ cs) = Some (h, c, r, cs)
+nearest_catch (Collect h t ∷ cs) = nearest_catch cs
+
+-- ---- choices
+
+-- what a choice leaves to try
+pub data Left : Type 0 where
+  -- one branch, which goes on with a continuation
+  One : ℕ → Left
+  -- the clauses of a call that were not tried: its goal, and the continuation behind it
+  Clauses : ℕ → List Clause → ℕ → Left
+  -- the alternatives of a predicate that were not tried, and the continuation behind its goal
+  Ways : List Alternative → ℕ → Left
+  -- no branch: it keeps the world of a catch's call
+  Barrier : Left
+  -- a findall's own saved branch: the term that the list is unified with, the copies so far, and the continuation
+  Gathers : ℕ → List Copied → ℕ → Left
+
+-- how many branches a choice stands for
+abbrev pub size : Left → ℕ
+size (One k) = 1
+size (Clauses t cs k) = length cs
+size (Ways ways k) = length ways
+size Barrier = 0
+size (Gathers t cs k) = 1
+
+-- what a world holds, and what each continuation has to do
+abbrev pub Value : Type 0 → Type 0
+Value W = W × List (List Cell)
+
+-- choices, the newest first, each behind the value that the search goes back to
+abbrev pub Stack : Type 0 → Type 0
+Stack W = List (Value W × Left)
+
+-- the height of the definitions: how many branches there are below a height
+abbrev pub below : {W : Type 0} → Stack W → ℕ → ℕ
+below choices height = branches_below size choices height
+
+abbrev pub top_world : {W : Type 0} → Stack W → Option W
+top_world [] = None
+top_world (c ∷ older) = Some c.0.0
+
+-- the world that the choice with so many older ones goes back to
+abbrev pub world_at : {W : Type 0} → Stack W → ℕ → Option W
+world_at choices height = top_world (last (suc height) choices)

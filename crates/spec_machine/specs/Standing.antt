@@ -1,0 +1,126 @@
+-- How an engine stands for a search: its choices hold branches that are not made yet.
+use Rattle.std.specs.Prelude.{◌≡◌, ℕ, ◌<◌, List, [], ◌∷◌, ◌++◌, map, length, Option, Some, None}
+use Rattle.spec_syntax.specs.Trees.{Tree}
+use Rattle.spec_built.specs.Built.{compound1}
+use Rattle.spec_branch.specs.Branch as branch
+use Rattle.spec_branch.specs.Branch.{State, Item, Branch, Copied, no_work, read}
+use Rattle.spec_search.specs.Database.{Database}
+use Rattle.spec_search.specs.Replies.{Place, child, alternative_child}
+use Rattle.spec_search.specs.Control.{clause_child}
+use Rattle.spec_search.specs.Balls as balls
+use Rattle.spec_search.specs.Balls.{caught_branch, handed}
+use Rattle.spec_search.specs.Search.{Search, settled}
+use Rattle.cq_control.specs.Heights.{total}
+use Rattle.cq_control.specs.Items.{items_at}
+use Rattle.spec_machine.specs.declared.cell.Cell.{Cell}
+use Rattle.spec_machine.specs.declared.cell.Cell.TheVariants.{Goal, Call, CutTo, CutFail, CatchEnd, Collect}
+use Rattle.spec_machine.specs.Cells.{Fits, Left, One, Clauses, Ways, Barrier, Gathers, size, Value, Stack, below, world_at}
+
+-- an engine: the database, how many goals were selected, the choices, the world and the continuations now, and the
+-- continuation that it goes on with, if it doesn't come back
+pub record Machine (W : Type 0) : Type 0 where
+  pub database : Database
+  pub selected : ℕ
+  pub choices : Stack W
+  pub now : Value W
+  pub current : Option ℕ
+
+abbrev pub engine : {W : Type 0} → Database → ℕ → Stack W → Value W → Option ℕ → Machine W
+engine db n choices now k = record { database = db; selected = n; choices = choices; now = now; current = k }
+
+-- Over worlds that are states of branches, and that read some numbers as terms.
+module _ {W : Type 0} (IsState : W → State → Type 0) (term : W → ℕ → Option Tree) where
+  -- The cells stand for these items of a branch, over these choices. A term of the branch reads in its state as the world
+  -- reads the term of the cell. What is behind the end of a catch reads so in the state of its call, too: a ball goes on there.
+  abbrev pub AreItems : Stack W → W → State → List Cell → List Item → Type 0
+  AreItems choices w st [] items = items ≡ []
+  AreItems choices w st (Goal t cut ∷ cs) items =
+      (goal : Tree) × (more : List Item) × (items ≡ branch.Goal goal (below choices cut) ∷ more) × (term w t ≡ Some (read st goal))
+      × AreItems choices w st cs more
+  AreItems choices w st (Call t ∷ cs) items =
+      (goal : Tree) × (height : ℕ) × (more : List Item) × (items ≡ branch.Goal (compound1 "call" goal) height ∷ more)
+      × (term w t ≡ Some (read st goal)) × AreItems choices w st cs more
+  AreItems choices w st (CutTo h ∷ cs) items =
+      (more : List Item) × (items ≡ branch.CutTo (below choices h) ∷ more) × AreItems choices w st cs more
+  AreItems choices w st (CutFail h ∷ cs) items =
+      (more : List Item) × (items ≡ branch.CutFail (below choices h) ∷ more) × AreItems choices w st cs more
+  AreItems choices w st (CatchEnd h c r ∷ cs) items =
+      (v : W) × (saved : State) × (catcher : Tree) × (recovery : Tree) × (more : List Item)
+      × (items ≡ branch.CatchEnd (below choices h) saved catcher recovery ∷ more)
+      × (world_at choices h ≡ Some v) × IsState v saved
+      × (term v c ≡ Some (read saved catcher)) × (term v r ≡ Some (read saved recovery))
+      × AreItems choices v saved cs more × AreItems choices w st cs more
+  AreItems choices w st (Collect h t ∷ cs) items =
+      (template : Tree) × (more : List Item) × (items ≡ branch.Collect (below choices h) template ∷ more)
+      × (term w t ≡ Some (read st template)) × AreItems choices w st cs more
+
+  -- The continuation of this number stands for these items in this state: its cells speak of choices that are there.
+  pub record IsContinuation (choices : Stack W) (v : Value W) (k : ℕ) (items : List Item) (st : State) : Type 0 where
+    pub there : k < length v.1
+    pub fits : Fits (length choices) (items_at v.1 k)
+    pub state : IsState v.0 st
+    pub cells : AreItems choices v.0 st (items_at v.1 k) items
+
+  -- where the goal of a call or of a predicate was selected, with this continuation behind it
+  pub record IsPlace (older : Stack W) (v : Value W) (k : ℕ) (p : Place) : Type 0 where
+    pub continuation : IsContinuation older v k p.rest p.state
+    pub height : p.height ≡ total size older
+
+  -- what a choice stands for, over the older ones
+  abbrev pub AreBranches : Stack W → Value W → Left → List Branch → Type 0
+  AreBranches older v (One k) bs =
+      (items : List Item) × (st : State) × (bs ≡ child items st no_work ∷ []) × IsContinuation older v k items st
+  AreBranches older v (Clauses t cs k) bs =
+      (p : Place) × (goal : Tree) × (bs ≡ map (clause_child p goal) cs) × (term v.0 t ≡ Some goal) × IsPlace older v k p
+  AreBranches older v (Ways ways k) bs = (p : Place) × (bs ≡ map (alternative_child p) ways) × IsPlace older v k p
+  AreBranches older v Barrier bs = bs ≡ []
+  AreBranches older v (Gathers t cs k) bs =
+      (items : List Item) × (st : State) × (list : Tree) × (bs ≡ child (branch.Gathered list cs ∷ items) st no_work ∷ [])
+      × (term v.0 t ≡ Some (read st list)) × IsContinuation older v k items st
+
+  -- what the choices stand for, those of the newest first
+  abbrev pub AreWaiting : Stack W → List Branch → Type 0
+  AreWaiting [] bs = bs ≡ []
+  AreWaiting (c ∷ older) bs =
+      (own : List Branch) × (behind : List Branch) × (bs ≡ own ++ behind) × AreBranches older c.0 c.1 own × AreWaiting older behind
+
+  -- the branch that the engine goes on with, if it doesn't come back
+  abbrev pub IsCurrent : Stack W → Value W → Option ℕ → List Branch → Type 0
+  IsCurrent choices now None bs = bs ≡ []
+  IsCurrent choices now (Some k) bs =
+      (items : List Item) × (st : State) × (bs ≡ settled items st ∷ []) × IsContinuation choices now k items st
+
+  pub record IsStanding (m : Machine W) (s : Search) : Type 0 where
+    pub database : s.database ≡ m.database
+    pub selected : s.selected ≡ m.selected
+    pub first : List Branch
+    pub behind : List Branch
+    pub branches : s.branches ≡ first ++ behind
+    pub current : IsCurrent m.choices m.now m.current first
+    pub waiting : AreWaiting m.choices behind
+
+  -- A ball that comes up in front of these items is handed to the end of a catch, of this height, with these two other arguments
+  -- and these cells behind it: to the branch that the catch saved, in the world that the choice at the height keeps.
+  pub record IsHanded (choices : Stack W) (ball : Copied) (items : List Item) (behind : List Branch) (c : ℕ × ℕ × ℕ × List Cell) : Type 0 where
+    pub world : W
+    pub saved : State
+    pub catcher : Tree
+    pub recovery : Tree
+    pub left : List Item
+    pub is : handed ball items behind ≡ Some (caught_branch ball saved catcher recovery left ∷ balls.last (below choices c.0) behind)
+    pub kept : world_at choices c.0 ≡ Some world
+    pub state : IsState world saved
+    pub reads_catcher : term world c.1 ≡ Some (read saved catcher)
+    pub reads_recovery : term world c.2 ≡ Some (read saved recovery)
+    pub cells : AreItems choices world saved c.3 left
+
+-- ---- changes of a world
+
+-- what a world read as a term of a state, another one reads as that term of another state
+abbrev pub KeepsReading : {W : Type 0} → (W → ℕ → Option Tree) → W → State → W → State → Type 0
+KeepsReading term w st v su = (id : ℕ) (t : Tree) → term w id ≡ Some (read st t) → term v id ≡ Some (read su t)
+
+-- a world that is a state in one way of reading is it in another way, too, which reads each term as the first does
+abbrev pub ReadsOn : {W : Type 0} → (W → State → Type 0) → (W → ℕ → Option Tree) → (W → State → Type 0) → (W → ℕ → Option Tree) → Type 0
+ReadsOn {W} IsState term IsOther other =
+    (w : W) (st : State) → IsState w st → IsOther w st × ((id : ℕ) (t : Tree) → term w id ≡ Some t → other w id ≡ Some t)
