@@ -1,2 +1,4 @@
 pub mod Standing
+pub mod WholeNumbers
 pub mod Rows
+pub mod Spelled

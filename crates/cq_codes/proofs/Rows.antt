@@ -1,7 +1,7 @@
 -- What the definitions give of lists that were looked at.
-use Rattle.std.proofs.Common.{◌≡◌, ℕ, [], ◌∷◌, Bool, true, false, not, ◌||◌, ◌&&◌, Option, Some, sym, ap, ◌∙◌}
+use Rattle.std.proofs.Common.{◌≡◌, ℕ, [], ◌∷◌, map, Bool, true, false, not, ◌||◌, ◌&&◌, Option, Some, None, encode_utf8_all, String, sym, ap, ◌∙◌}
 use Rattle.std.specs.Prelude.{if◌then◌else◌}
-use Rattle.std.specs.List.{list_any}
+use Rattle.std.specs.List.{list_any, list_all}
 use Rattle.spec_lists.specs.Texts.{Text}
 use Rattle.spec_terms.specs.Term.{Var, Name}
 use Rattle.spec_syntax.specs.Trees.{Tree}
@@ -9,8 +9,10 @@ use Rattle.spec_built.specs.Built.{is_atom, natural}
 use Rattle.spec_built.specs.Kinds.{Parts, parts, is_variable, natural_of}
 use Rattle.spec_built.specs.Errors.{instantiation, type_error}
 use Rattle.spec_builtins.specs.Alternatives.{Solutions, Faults, ◌≐◌, one_way, faults_if}
-use Rattle.spec_builtins.specs.Texts.{ElementKind, Codes, name_of, is_character, code_of, elements_error, from_elements, atom_list_row, char_code_row}
-use Rattle.cq_codes.specs.Elements.{Make, IsCharacterOf, StandsFor, code_tests}
+use Rattle.spec_builtins.specs.Texts.{ElementKind, Codes, name_of, is_character, is_code, code_of, elements_error, from_elements, atom_list_row, char_code_row}
+use Rattle.std.specs.declared.alloc.Global.{Global}
+use Rattle.cq_codes.specs.Elements.{Make, IsMadeOf, IsCharacterOf, StandsFor, code_tests}
+use Rattle.cq_codes.specs.Rows.{Reads}
 use Rattle.cq_codes.proofs.Standing.{code_passes, code_known}
 
 module _ (k : ElementKind) (v : ℕ) (l : Tree) (p : Parts) (is : p ≡ parts l) where
@@ -34,6 +36,15 @@ module _ (k : ElementKind) (v : ℕ) (l : Tree) (p : Parts) (is : p ≡ parts l)
 
     pub made : (text : Text) → is_atom "[]" p.tail ≡ true → Make k p.elements text → atom_list_row k (Var v) l ≡ one_way ((Var v ≐ Name text) ∷ [])
     made text n m = listed ∙ (λ i. looked (o i) (a i) (n i) (m.right i)) ∙ ap (λ (t : Text). one_way ((Var v ≐ Name t) ∷ [])) (sym m.made)
+
+-- ---- lists of codes
+
+pub reads_by : (l : Tree) (p : Parts) (o : Option (String Global)) → p ≡ parts l → is_atom "[]" p.tail ≡ true → IsMadeOf p.elements o → Reads l o
+reads_by l p None e n h = ap (λ (q : Parts). is_atom "[]" q.tail && list_all is_code q.elements) (sym e) ∙ ap (λ b. b && list_all is_code p.elements) n ∙ h
+reads_by l p (Some s) e n h = (
+  ap (λ (q : Parts). is_atom "[]" q.tail && list_all is_code q.elements) (sym e) ∙ ap (λ b. b && list_all is_code p.elements) n ∙ h.0,
+  h.1 ∙ ap (λ (q : Parts). encode_utf8_all (map natural_of q.elements)) e,
+)
 
 -- ---- a character and its code
 module _ (c n : Tree) where

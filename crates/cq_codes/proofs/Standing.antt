@@ -1,29 +1,16 @@
 -- Codes and characters as elements of lists.
-use Rattle.std.proofs.Common.{◌≡◌, ℕ, List, [], ◌∷◌, ◌++◌, map, length, Bool, true, false, cond, not, ◌&&◌, ◌||◌, Option, Some, None, encode_utf8_all, refl, sym, ap, ◌∙◌, append_assoc, append-nil, arith}
-use Rattle.std.specs.Prelude.{slice_get, encode_utf8}
+use Rattle.std.proofs.Common.{◌≡◌, ℕ, List, ◌++◌, map, Bool, true, false, cond, not, ◌||◌, Option, Some, None, encode_utf8_all, refl, sym, ◌∙◌}
+use Rattle.std.specs.List.{list_all}
 use Rattle.spec_lists.specs.Texts.{Text}
 use Rattle.spec_terms.specs.Term.{Var, Number, Name, Compound}
 use Rattle.spec_syntax.specs.Trees.{Tree}
-use Rattle.spec_built.specs.Kinds.{is_variable, is_integer, is_below_zero, natural_of}
-use Rattle.spec_built.specs.Errors.{type_error, representation_error, or_error}
+use Rattle.spec_built.specs.Kinds.{is_variable, is_integer, natural_of}
+use Rattle.spec_built.specs.Errors.{type_error, representation_error}
 use Rattle.spec_builtins.specs.Alternatives.{Solutions, faults_if}
-use Rattle.spec_builtins.specs.Texts.{is_scalar, is_code, code_of, Codes, ElementKind, elements_error}
-use Rattle.cq_codes.specs.Elements.{only_of, StandsFor, Make, code_tests}
-
--- ---- the only character
-
-pub only_one : (cs : List ℕ) (n : ℕ) → n ≡ length cs → n ≡ 1 → slice_get cs 0 ≡ only_of cs
-only_one [] n e one = absurd (omega arith)
-only_one (c ∷ []) n e one = refl
-only_one (c ∷ d ∷ cs) n e one = absurd (omega arith)
+use Rattle.spec_builtins.specs.Texts.{is_code, code_of, Codes, ElementKind, elements_error}
+use Rattle.cq_codes.specs.Elements.{StandsFor, code_tests}
 
 -- ---- codes
-
-pub code_by : (t : Tree) (b : Bool) → is_integer t ≡ true → is_below_zero t ≡ false → is_scalar (natural_of t) ≡ b → is_code t ≡ b
-code_by (Var v) b i n s = cc
-code_by (Number q) b i n s = λ j. (i j && not (n j)) && s j
-code_by (Name a) b i n s = cc
-code_by (Compound f ts) b i n s = cc
 
 pub code_natural : (t : Tree) → is_code t ≡ true → code_of t ≡ natural_of t
 code_natural (Var v) e = refl
@@ -40,21 +27,10 @@ pub record Left (k : ElementKind) (all rest : List Tree) (text : Text) : Type 0 
   pub error : elements_error k rest ≡ elements_error k all
   pub made : text ++ encode_utf8_all (map code_of rest) ≡ encode_utf8_all (map code_of all)
 
-module _ (k : ElementKind) where
-  pub left_more : (all rest more : List Tree) (t : Tree) (c : ℕ) (text longer : Text) → rest ≡ t ∷ more → StandsFor k t c → longer ≡ text ++ encode_utf8 c → Left k all rest text → Left k all more longer
-  left_more all rest more t c text longer e s l h = record {
-    error = sym (ap (elements_error k) e ∙ ap (λ o. or_error o (elements_error k more)) s.right) ∙ h.error;
-    made = ap (λ (w : Text). w ++ encode_utf8_all (map code_of more)) l
-        ∙ append_assoc text (encode_utf8 c) (encode_utf8_all (map code_of more))
-        ∙ sym (ap (λ ts. text ++ encode_utf8_all (map code_of ts)) e ∙ ap (λ n. text ++ (encode_utf8 n ++ encode_utf8_all (map code_of more))) s.character)
-        ∙ h.made;
-  }
-
-  pub left_none : (all rest : List Tree) (text : Text) → rest ≡ [] → Left k all rest text → Make k all text
-  left_none all rest text e h = record {
-    right = sym h.error ∙ ap (elements_error k) e;
-    made = sym (append-nil text) ∙ sym (ap (λ ts. text ++ encode_utf8_all (map code_of ts)) e) ∙ h.made;
-  }
+-- what is left of codes
+pub record LeftCodes (all rest : List Tree) (text : Text) : Type 0 where
+  pub codes : list_all is_code rest ≡ list_all is_code all
+  pub made : text ++ encode_utf8_all (map natural_of rest) ≡ encode_utf8_all (map natural_of all)
 
 -- ---- a term that has to be a code
 

@@ -1,5 +1,7 @@
 -- Elements of lists of characters and codes, as terms of a heap and as what they stand for.
-use Rattle.std.specs.Prelude.{◌≡◌, ℕ, List, [], ◌∷◌, map, encode_utf8_all, true, Option, Some, None, ⊤}
+use Rattle.std.specs.Prelude.{◌≡◌, ℕ, List, [], ◌∷◌, map, encode_utf8_all, true, false, Option, Some, None, String, string_bytes, ⊤}
+use Rattle.std.specs.List.{list_all}
+use Rattle.std.specs.declared.alloc.Global.{Global}
 use Rattle.spec_lists.specs.Texts.{Text}
 use Rattle.spec_syntax.specs.Trees.{Tree}
 use Rattle.spec_built.specs.Kinds.{natural_of, is_integer, is_other}
@@ -66,3 +68,8 @@ IsLetPass ts id = (texts : List Text) (rest : Solutions) → code_tests (tree te
 abbrev pub IsFound : List Text → List HeapTerm → Option Tree → BuiltinFault → Type 0
 IsFound texts ts e (fault.Error f) = e ≡ Some (error_tree texts ts f)
 IsFound texts ts e fault.NoMemory = ⊤
+
+-- the text that codes make; none where one is no code
+abbrev pub IsMadeOf : List Tree → Option (String Global) → Type 0
+IsMadeOf ts None = list_all is_code ts ≡ false
+IsMadeOf ts (Some s) = (list_all is_code ts ≡ true) × (string_bytes s ≡ encode_utf8_all (map natural_of ts))

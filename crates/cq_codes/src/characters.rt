@@ -51,3 +51,10 @@ pub(crate) fn scalar(number: u128) -> Option<char>
         Err(_) => None,
     }
 }
+
+/// The bytes of a text as characters, each of its own code.
+pub(crate) fn bytes_as_characters(alloc: Global, text: &str) -> Result<Vec<char>, AllocError>
+    ensures { IfOk result (λ cs. cs.items ≡ text.now) }
+{
+    text.bytes().map(char::from).collect(alloc)
+}

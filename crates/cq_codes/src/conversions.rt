@@ -10,21 +10,23 @@ ghost use Rattle.cq_codes.specs.Rows.{IsOffered, conversion_of};
 use crate::character_codes::char_code;
 use crate::elements::ElementKind;
 use crate::lists::atom_list;
+use crate::number_lists::number_codes;
 use cq_atoms::Atoms;
 use cq_built::BuiltinFault;
 use cq_term::{Heap, TermId};
 use cq_trail::Undo;
 use cq_walk::Pair;
 
-/// The predicates `atom_chars`, `atom_codes` and `char_code`.
+/// The predicates `atom_chars`, `atom_codes`, `char_code` and `number_codes`.
 #[derive(Clone, Copy, Debug, PartialEq, Eq)]
 pub enum Conversion {
     AtomChars,
     AtomCodes,
     CharCode,
+    NumberCodes,
 }
 
-/// The pair that is to be unified where a predicate holds of an atom and its characters or codes. `atoms` has to know the
+/// The pair that is to be unified where a predicate holds of a value and its characters or codes. `atoms` has to know the
 /// names in the heap's terms. It takes time linear in the text. After a fault the heap is as it was; names may stay.
 pub fn convert(
     heap: &mut Heap,
@@ -77,5 +79,6 @@ fn converted(
         Conversion::AtomChars => { atom_list(heap, atoms, ElementKind::Characters, value, spelled) }
         Conversion::AtomCodes => atom_list(heap, atoms, ElementKind::Codes, value, spelled),
         Conversion::CharCode => char_code(heap, atoms, value, spelled),
+        Conversion::NumberCodes => number_codes(heap, atoms, value, spelled),
     }
 }

@@ -1,15 +1,17 @@
 // The texts that elements of lists make.
 
-ghost use Rattle.std.specs.Prelude.{◌<◌, All, length, string_bytes, IfOk, IfErr};
+ghost use Rattle.std.specs.Prelude.{◌≡◌, ◌<◌, ℕ, List, All, map, length, encode_utf8_all, string_bytes, IfOk, IfErr};
+ghost use Rattle.spec_lists.specs.Texts.{Text};
 ghost use Rattle.spec_builtins.specs.Texts.{elements_error};
 ghost use Rattle.cq_term.specs.Trees.{trees, KnowsTerms};
 ghost use Rattle.cq_built.specs.Errors.{CanBeRaised};
-ghost use Rattle.cq_codes.specs.Elements.{Make, IsFound, kind_of};
+ghost use Rattle.cq_codes.specs.Elements.{Make, IsFound, IsMadeOf, kind_of};
 
-use crate::elements::{ElementKind, element_character};
+use crate::elements::{ElementKind, code_character, element_character};
 use cq_atoms::Atoms;
 use cq_built::BuiltinFault;
 use cq_term::{Heap, TermId};
+use std::alloc::AllocError;
 
 /// The text that elements make, or the error of the first that stands for no character.
 pub(crate) fn joined(
@@ -32,4 +34,19 @@ pub(crate) fn joined(
         }
     }
     Ok(text)
+}
+
+/// The text that codes make; none where one of the terms is no code. An error is want of memory.
+pub(crate) fn joined_codes(heap: &Heap, elements: &[TermId]) -> Result<Option<String>, AllocError>
+    requires { All (λ id. id < length heap.now.now.terms) elements.now }
+    ensures { IfOk result (λ o. (texts : List Text) → IsMadeOf (trees texts heap.now.now.terms elements.now) o) }
+{
+    let mut text = String::new(heap.alloc());
+    for id in elements {
+        match code_character(heap, *id) {
+            Some(character) => text.push(character)?,
+            None => return Ok(None),
+        }
+    }
+    Ok(Some(text))
 }

@@ -1,4 +1,5 @@
-//! The built-in predicates that turn atoms into characters and codes, and back: `atom_chars`, `atom_codes` and `char_code`.
+//! The built-in predicates that turn atoms and numbers into characters and codes, and back: `atom_chars`, `atom_codes`,
+//! `char_code` and `number_codes`.
 #![tactic(auto)]
 
 mod character_codes;
@@ -7,5 +8,7 @@ mod conversions;
 mod elements;
 mod joined;
 mod lists;
+mod number_lists;
+mod numerals;
 
 pub use conversions::{Conversion, convert};

@@ -1,5 +1,5 @@
-// Atoms that are spelled and read back, and what is refused: the contracts leave out that there is an answer where there is
-// memory.
+// Atoms and numbers that are spelled and read back, and what is refused: the contracts leave out that there is an answer where
+// there is memory.
 
 ghost use Rattle.std.specs.Prelude.{◌<◌, ◌≤◌, length, IfOk};
 ghost use Rattle.cq_term.specs.Trees.{KnowsTerms};
@@ -12,7 +12,7 @@ use cq_built::{
 use cq_codes::{Conversion, convert};
 use cq_frac::Frac;
 use cq_order::same;
-use cq_term::{Heap, TermId};
+use cq_term::{Heap, TermId, View};
 use cq_walk::Pair;
 use std::alloc::{AllocError, Global};
 use std::test::Fail;
@@ -195,6 +195,11 @@ fn values_and_spellings_are_made_of_each_other(rt: HostRuntime) -> Result<(), Fa
             Plain::Name("日"),
             Sample::Alone(Plain::Whole(0x65e5)),
         ),
+        (
+            Conversion::NumberCodes,
+            Plain::Whole(-7),
+            Sample::Listed(Plain::Whole(45), Plain::Whole(55)),
+        ),
     ] {
         let value = Sample::Alone(value);
         let told = one_way(rt.alloc(), conversion, value, spelled, true)?;
@@ -213,6 +218,8 @@ fn kind_of(error: &BuiltinError) -> &'static str {
         BuiltinError::Type(ValidType::List, _) => "list",
         BuiltinError::Type(ValidType::Character, _) => "character",
         BuiltinError::Type(ValidType::Integer, _) => "integer",
+        BuiltinError::Type(ValidType::Number, _) => "number",
+        BuiltinError::IllegalNumber => "illegal_number",
         BuiltinError::Representation(Representation::CharacterCode) => "character_code",
         _ => "another",
     }
@@ -351,6 +358,145 @@ fn codes_are_refused(rt: HostRuntime) -> Result<(), Fail> {
     ] {
         let holds = refuses(rt.alloc(), Conversion::CharCode, value, code, kind, wanted)?;
         assert!(rt; holds, "{kind}");
+    }
+    Ok(())
+}
+
+#[test]
+fn numbers_are_refused(rt: HostRuntime) -> Result<(), Fail> {
+    let name = Plain::Name("1");
+    let one = Plain::Whole(49);
+    for (value, spelled, kind, wanted) in [
+        (OPEN, OPEN, "instantiation", Blamed::Nothing),
+        (Sample::Alone(name), OPEN, "number", Blamed::Value),
+        (OPEN, Sample::Begun(one), "instantiation", Blamed::Nothing),
+        (
+            OPEN,
+            Sample::Listed(one, name),
+            "instantiation",
+            Blamed::Nothing,
+        ),
+        (
+            Sample::Alone(one),
+            Sample::Alone(Plain::Name("[]")),
+            "illegal_number",
+            Blamed::Nothing,
+        ),
+    ] {
+        let holds = refuses(
+            rt.alloc(),
+            Conversion::NumberCodes,
+            value,
+            spelled,
+            kind,
+            wanted,
+        )?;
+        assert!(rt; holds, "{value:?} {spelled:?}");
+    }
+    Ok(())
+}
+
+/// The list of the codes of a text.
+fn codes_of(heap: &mut Heap, atoms: &mut Atoms, text: &str) -> Result<TermId, BuiltinFault>
+    requires names { KnowsTerms atoms.old heap.old.now.terms }
+    ensures live { IfOk result (λ id. id < length heap.new.now.terms) }
+    ensures names { KnowsTerms atoms.new heap.new.now.terms }
+{
+    let name = atom(heap, atoms, text)?;
+    let unbound = variable(heap, atoms)?;
+    match convert(heap, atoms, Conversion::AtomCodes, name, unbound) {
+        Ok(pair) => Ok(pair.right),
+        Err(fault) => Err(fault),
+    }
+}
+
+/// Whether the codes of a text are told of a number.
+fn spells(alloc: Global, found: Frac, text: &str) -> Result<bool, AllocError> {
+    let mut heap = Heap::new(alloc);
+    let mut atoms = Atoms::new(alloc);
+    let found = heap.number(found)?;
+    match codes_of(&mut heap, &mut atoms, text) {
+        Ok(codes) => is_told(&mut heap, &mut atoms, Conversion::NumberCodes, found, codes),
+        Err(_) => Ok(false),
+    }
+}
+
+/// Whether a text is read as this number, or as none.
+fn reads(alloc: Global, text: &str, wanted: Option<Frac>) -> Result<bool, AllocError> {
+    let mut heap = Heap::new(alloc);
+    let mut atoms = Atoms::new(alloc);
+    let unbound = heap.new_var()?;
+    match codes_of(&mut heap, &mut atoms, text) {
+        Ok(codes) => {
+            match converted(
+                &mut heap,
+                &mut atoms,
+                Conversion::NumberCodes,
+                unbound,
+                codes,
+            ) {
+                Ok(pair) => Ok(number_of(&heap, pair.right) == wanted),
+                Err(fault) => Ok(is_illegal(&fault) && wanted == None),
+            }
+        }
+        Err(_) => Ok(false),
+    }
+}
+
+fn number_of(heap: &Heap, id: TermId) -> Option<Frac>
+    requires { id < length heap.now.now.terms }
+{
+    match heap.view(id) {
+        View::Number(found) => Some(found),
+        _ => None,
+    }
+}
+
+fn is_illegal(fault: &BuiltinFault) -> bool {
+    match fault {
+        BuiltinFault::Error(error) => kind_of(error) == "illegal_number",
+        BuiltinFault::NoMemory => false,
+    }
+}
+
+#[test]
+fn numbers_are_spelled_as_they_are_written(rt: HostRuntime) -> Result<(), Fail> {
+    for (top, bottom, text) in [
+        (-120, 1, "-120"),
+        (1, -2, "-1r2"),
+        (i128::MAX, 1, "170141183460469231731687303715884105727"),
+    ] {
+        let found = Frac::new(top, bottom)?;
+        assert!(rt; spells(rt.alloc(), found, text)?, "{text}");
+        assert!(rt; reads(rt.alloc(), text, Some(found))?, "{text}");
+    }
+    Ok(())
+}
+
+#[test]
+fn texts_are_read_as_numerals(rt: HostRuntime) -> Result<(), Fail> {
+    for (text, top, bottom) in [
+        (" \n\t-0x1F", -31, 1),
+        ("0'a", 97, 1),
+        ("2r4", 1, 2),
+        ("007", 7, 1),
+    ] {
+        let found = Frac::new(top, bottom)?;
+        assert!(rt; reads(rt.alloc(), text, Some(found))?, "{text}");
+    }
+    for text in [
+        "",
+        "-",
+        "- 1",
+        "+1",
+        "1 ",
+        "1.5",
+        "1r0",
+        "%\n1",
+        "abc",
+        "170141183460469231731687303715884105728",
+    ] {
+        assert!(rt; reads(rt.alloc(), text, None)?, "{text}");
     }
     Ok(())
 }
