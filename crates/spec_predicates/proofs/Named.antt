@@ -3,6 +3,7 @@ use Rattle.std.proofs.Common.{◌≡◌, ℕ, List, [], ◌∷◌, Bool, true, f
 use Rattle.std.specs.Prelude.{bytes_eq, Contains, option_and_then}
 use Rattle.std.specs.List.{AllByRecursion, list_all}
 use Rattle.std.specs.Option.{option_map, option_map_or}
+use Rattle.std.specs.Cmp.Lexicographic.{bytes_decides}
 use Rattle.std.proofs.lemmas.List.Elements.{All-from_recursion, All-contains}
 use Rattle.spec_lists.proofs.Tests.{nat_eq-same, both_are}
 use Rattle.spec_built.specs.Built.{Indicator, same_indicator}
@@ -49,6 +50,9 @@ row_in test i q (r ∷ rs) a e = go (same_indicator r.indicator i) refl e (row_i
 
 pub same_arity : (i j : Indicator) → same_indicator i j ≡ true → i.arity ≡ j.arity
 same_arity i j e = nat_eq-same i.arity j.arity (both_are (bytes_eq i.name j.name) (i.arity == j.arity) e).1
+
+pub same_name : (i j : Indicator) → same_indicator i j ≡ true → i.name ≡ j.name
+same_name i j e = (bytes_decides i.name j.name).0 (both_are (bytes_eq i.name j.name) (i.arity == j.arity) e).0
 
 -- the row has as many arguments as its predicate on terms or texts, if it is one
 abbrev agrees : Row → Bool

@@ -1,7 +1,7 @@
 -- The steps of a goal that calls a predicate on terms or texts.
-use Rattle.std.proofs.Common.{◌≡◌, ℕ, ◌+◌, List, [], ◌∷◌, length, Bool, true, false, ◌||◌, Option, Some, None, refl, sym, ap, ◌∙◌, subst, arith}
-use Rattle.std.proofs.Math.Bool.{or-false}
+use Rattle.std.proofs.Common.{◌≡◌, ℕ, ◌+◌, List, [], ◌∷◌, length, Bool, true, false, Option, Some, None, refl, sym, ap, ◌∙◌, subst, arith}
 use Rattle.std.specs.Prelude.{option_and_then}
+use Rattle.std.proofs.Math.Bool.{or-false}
 use Rattle.spec_terms.specs.Term.{Terms, Var, Number, Name, Compound, one, more, list_of, apply, apply_all}
 use Rattle.spec_terms.specs.Variables.{variables, renamed_from}
 use Rattle.spec_syntax.specs.Trees.{Tree}
