@@ -1,5 +1,5 @@
 -- Forms with another sign, and forms by a number.
-use Rattle.std.proofs.Common.{◌≡◌, ◌≢◌, ℕ, suc, ◌-◌, List, [], ◌∷◌, Bool, true, false, cond, not, Option, Some, None, refl, ap, ap₂, sym, subst, ◌∙◌}
+use Rattle.std.proofs.Common.{◌≡◌, ◌≢◌, ℕ, suc, List, [], ◌∷◌, Bool, true, false, cond, not, Option, Some, None, refl, ap, ap₂, sym, subst, ◌∙◌}
 use Rattle.std.specs.Prelude.{◌↔◌, IsTrue, map, pos}
 use Rattle.spec_rational.specs.Rational.{ℚ, 0ℚ, ◌*ℚ◌, ◌/ℚ◌, inv_ℚ, neg_ℚ}
 use Rattle.spec_rational.specs.Sums.{Monomial, scaled_products, negated_products}

@@ -42,7 +42,7 @@ comes_within s t pair h c = λ m k. c m (λ o i. k o (h o i))
 
 -- ---- sums and differences
 
-is_joining : (how : Joining) → IsSumOrDifference (row.operation_of how)
+pub is_joining : (how : Joining) → IsSumOrDifference (row.operation_of how)
 is_joining Plus = inl refl
 is_joining Less = inr refl
 

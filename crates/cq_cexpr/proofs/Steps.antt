@@ -1,5 +1,5 @@
 -- The steps of a walk through an expression: what the operations under way make of what a step comes to.
-use Rattle.std.proofs.Common.{◌≡◌, ◌≢◌, ℕ, Bool, true, false, suc, ◌+◌, ◌*◌, ◌<◌, List, [], ◌∷◌, ◌++◌, length, Option, Some, None, refl, ap, ap₂, sym, ◌∙◌, subst, arith}
+use Rattle.std.proofs.Common.{◌≡◌, ◌≢◌, ℕ, Bool, true, false, suc, ◌+◌, ◌*◌, ◌<◌, List, [], ◌∷◌, ◌++◌, length, Option, Some, None, ◌⊎◌, inl, inr, refl, ap, ap₂, sym, ◌∙◌, subst, arith}
 use Rattle.std.specs.Prelude.{slice_get, if◌then◌else◌, ◌&&◌}
 use Rattle.std.proofs.lemmas.Option.{same_Some}
 use Rattle.spec_linear.specs.Form.{Linear}
@@ -8,7 +8,7 @@ use Rattle.spec_limits.specs.Overflow.{Operands}
 use Rattle.spec_lists.specs.Texts.{Text}
 use Rattle.spec_terms.specs.Term.{Var, Number, Name, Compound, one, more, count, size, named}
 use Rattle.spec_syntax.specs.Trees.{Tree}
-use Rattle.spec_told.specs.Expressions.{BinaryName, Plus, Minus, Times, Over, Power, Least, Greatest, unary_name, binary_name, unary_of, binary_of, is_zero_form, form_of}
+use Rattle.spec_told.specs.Expressions.{BinaryName, Plus, Minus, Times, Over, Power, Least, Greatest, unary_name, binary_name, binary_of, is_zero_form, form_of}
 use Rattle.spec_told.specs.Relations.{Lin, Waits, False, form_or_waits, lin_expression}
 use Rattle.spec_branch.specs.Alike.{no_values}
 use Rattle.spec_stops.specs.Operands.{binary_operands, expression_operands}
@@ -27,6 +27,8 @@ use Rattle.cq_cexpr.specs.declared.evaluation.Step.{Step}
 use Rattle.cq_cexpr.specs.declared.evaluation.Step.TheVariants as step
 use Rattle.cq_cexpr.specs.Names.{unary_meant, binary_meant, is_over}
 use Rattle.cq_cexpr.specs.Overflows.{Within, ComesFrom}
+use Rattle.cq_cexpr.specs.Sums.{whole_of, due_in}
+use Rattle.cq_cexpr.specs.declared.sums.Sum.{Sum}
 use Rattle.cq_cexpr.specs.Work.{form_in, unless_zero, after_one, after_right, after_both, read_at, outcome, resumed, all_resumed, CanVisit, CanTake, CanResume, CanResumeAll, step_work, waiting_work, all_work, IsUnderWay, GoesOn, IsJoined}
 use Rattle.cq_cexpr.proofs.Overflowing.{within_left, within_right, within_trans, comes_within}
 use Rattle.cq_cexpr.proofs.Expressed.{one_is, two_is, form_in_taken, FormOr, as_defined, is_none, form_or}
@@ -164,28 +166,31 @@ module _ (texts : List Text) (ts : List HeapTerm) where
       pub stopped : s ≡ step.Stop → False ≡ result
       stopped e = sym (all_false ws) ∙ ap (λ t. all_resumed texts ts ws (outcome texts ts t)) (sym e) ∙ h.leads
 
-      pub done : (value : Option Linear) → s ≡ step.Return value → ws ≡ [] → form_or_waits value ≡ result
+      pub due : (value : Option Sum) → s ≡ step.Return value → Within (due_in value) all
+      due value e = subst (CanTake texts ts all) e h.ready
+
+      pub done : (value : Option Sum) → s ≡ step.Return value → ws ≡ [] → form_or_waits (whole_of value) ≡ result
       done value e n =
-          ap (λ us. all_resumed texts ts us (form_or_waits value)) (sym n) ∙ ap (λ t. all_resumed texts ts ws (outcome texts ts t)) (sym e) ∙ h.leads
+          ap (λ us. all_resumed texts ts us (form_or_waits (whole_of value))) (sym n) ∙ ap (λ t. all_resumed texts ts ws (outcome texts ts t)) (sym e) ∙ h.leads
 
-      module _ (value : Option Linear) (old : List Waiting) (w : Waiting) (e : s ≡ step.Return value) (n : ws ≡ old ++ w ∷ []) where
-        returned : all_resumed texts ts old (resumed texts ts w (form_or_waits value)) ≡ result
+      module _ (value : Option Sum) (old : List Waiting) (w : Waiting) (e : s ≡ step.Return value) (n : ws ≡ old ++ w ∷ []) where
+        returned : all_resumed texts ts old (resumed texts ts w (form_or_waits (whole_of value))) ≡ result
         returned =
-            sym (all_resumed-append old w (form_or_waits value))
-            ∙ ap (λ us. all_resumed texts ts us (form_or_waits value)) (sym n) ∙ ap (λ t. all_resumed texts ts ws (outcome texts ts t)) (sym e) ∙ h.leads
+            sym (all_resumed-append old w (form_or_waits (whole_of value)))
+            ∙ ap (λ us. all_resumed texts ts us (form_or_waits (whole_of value))) (sym n) ∙ ap (λ t. all_resumed texts ts ws (outcome texts ts t)) (sym e) ∙ h.leads
 
-        popped : CanResumeAll texts ts all old (resumed texts ts w (form_or_waits value)) × CanResume texts ts all w (form_or_waits value)
+        popped : CanResumeAll texts ts all old (resumed texts ts w (form_or_waits (whole_of value))) × CanResume texts ts all w (form_or_waits (whole_of value))
         popped =
-            pop old w (form_or_waits value)
-            (subst (λ us. CanResumeAll texts ts all us (form_or_waits value)) n (subst (λ t. CanResumeAll texts ts all ws (outcome texts ts t)) e h.waiting))
+            pop old w (form_or_waits (whole_of value))
+            (subst (λ us. CanResumeAll texts ts all us (form_or_waits (whole_of value))) n (subst (λ t. CanResumeAll texts ts all ws (outcome texts ts t)) e h.waiting))
 
-        pub resume_overflows : (pair : Pair) → ((texts : List Text) (ts : List HeapTerm) (all : List Operands) → CanResume texts ts all w (form_or_waits value) → ComesFrom all pair) → ComesFrom all pair
-        resume_overflows pair c = c texts ts all popped.1
+        pub resume_overflows : (pair : Pair) → ((texts : List Text) (ts : List HeapTerm) (all : List Operands) → Within (due_in value) all → CanResume texts ts all w (form_or_waits (whole_of value)) → ComesFrom all pair) → ComesFrom all pair
+        resume_overflows pair c = c texts ts all (due value e) popped.1
 
-        module _ (new : List Waiting) (next : Step) (g : (texts : List Text) (ts : List HeapTerm) (all : List Operands) → CanResume texts ts all w (form_or_waits value)
-            → GoesOn texts ts all old (resumed texts ts w (form_or_waits value)) (waiting_work ts w) new next) where
-          resume_on : GoesOn texts ts all old (resumed texts ts w (form_or_waits value)) (waiting_work ts w) new next
-          resume_on = g texts ts all popped.1
+        module _ (new : List Waiting) (next : Step) (g : (texts : List Text) (ts : List HeapTerm) (all : List Operands) → Within (due_in value) all → CanResume texts ts all w (form_or_waits (whole_of value))
+            → GoesOn texts ts all old (resumed texts ts w (form_or_waits (whole_of value))) (waiting_work ts w) new next) where
+          resume_on : GoesOn texts ts all old (resumed texts ts w (form_or_waits (whole_of value))) (waiting_work ts w) new next
+          resume_on = g texts ts all (due value e) popped.1
 
           pub resume_goes_on : IsUnderWay texts ts all result new next
           resume_goes_on = record { leads = resume_on.leads ∙ returned; waiting = resume_on.waiting popped.0; ready = resume_on.ready }
@@ -234,12 +239,15 @@ module _ (texts : List Text) (ts : List HeapTerm) (all : List Operands) (old new
       (record { live = left_live; names = names.1.0; operations = within_trans _ _ all (left_operands g a b) inside })
       (omega (arith, smaller))
 
-  pub right_waits : (w : Waiting) (n : Option Binary) (right : ℕ) (value : Option Linear) → w ≡ waiting.Left n right → CanResume texts ts all w (form_or_waits value)
-      → new ≡ old ++ waiting.Right n value ∷ [] → GoesOn texts ts all old (resumed texts ts w (form_or_waits value)) (waiting_work ts w) new (step.Visit right)
-  right_waits w n right value e c m =
-      subst (λ v. GoesOn texts ts all old (resumed texts ts v (form_or_waits value)) (waiting_work ts v) new (step.Visit right)) (sym e)
-      (waits texts ts all old new (waiting.Right n value) (resumed texts ts (waiting.Left n right) (form_or_waits value)) (2 + 3 * size (at ts right)) (step.Visit right) m
-      (same value) (inside value (subst (λ v. CanResume texts ts all v (form_or_waits value)) e c).1) (subst (λ v. CanResume texts ts all v (form_or_waits value)) e c).0 (omega arith))
+  pub right_waits : (w : Waiting) (n : Option Binary) (right : ℕ) (value : Option Sum) → w ≡ waiting.Left n right → Within (due_in value) all
+      → CanResume texts ts all w (form_or_waits (whole_of value)) → new ≡ old ++ waiting.Right n value ∷ []
+      → GoesOn texts ts all old (resumed texts ts w (form_or_waits (whole_of value))) (waiting_work ts w) new (step.Visit right)
+  right_waits w n right value e d c m =
+      let form = whole_of value in
+      let can = subst (λ v. CanResume texts ts all v (form_or_waits form)) e c in
+      subst (λ v. GoesOn texts ts all old (resumed texts ts v (form_or_waits form)) (waiting_work ts v) new (step.Visit right)) (sym e)
+      (waits texts ts all old new (waiting.Right n value) (resumed texts ts (waiting.Left n right) (form_or_waits form)) (2 + 3 * size (at ts right)) (step.Visit right) m
+      (same form) (d, inside form can.1) can.0 (omega arith))
     where
       same : (value : Option Linear) → after_right (binary_meant n) value (read_at texts ts right) ≡ resumed texts ts (waiting.Left n right) (form_or_waits value)
       same None = refl
@@ -282,44 +290,53 @@ something_to_do (Compound f ts) = omega arith
 
 -- ---- what an operation makes of its forms
 
+has_either : (o : Operands) (s t : List Operands) → Has o (s ++ t) → Has o s ⊎ Has o t
+has_either o [] t h = inr h
+has_either o (p ∷ s) t (inl e) = inl (inl e)
+has_either o (p ∷ s) t (inr h) = elim (has_either o s t h) [ inl k ↦ inl (inr k) | inr k ↦ inr k ]
+
 -- where a divisor is zero
-pub joined_zero : (n : Option BinaryName) (left right : Option Linear) → (is_over n && is_zero_form right) ≡ true → IsJoined n left right step.Stop
-joined_zero n left right e = ap (λ (b : Bool). if b then False else form_or_waits (binary_of n left right)) (sym e)
+pub joined_zero : (n : Option BinaryName) (left : Option Sum) (right : Option Linear) → (is_over n && is_zero_form right) ≡ true → IsJoined n left right step.Stop
+joined_zero n left right e = ap (λ (b : Bool). if b then False else form_or_waits (binary_of n (whole_of left) right)) (sym e)
 
-pub joined_form : (n : Option BinaryName) (left right value : Option Linear) → (is_over n && is_zero_form right) ≡ false → value ≡ binary_of n left right
+pub joined_form : (n : Option BinaryName) (left value : Option Sum) (right : Option Linear) → (is_over n && is_zero_form right) ≡ false
+    → whole_of value ≡ binary_of n (whole_of left) right → Within (due_in value) (due_in left ++ binary_operands n (whole_of left) right)
     → IsJoined n left right (step.Return value)
-joined_form n left right value e v = ap form_or_waits v ∙ ap (λ (b : Bool). if b then False else form_or_waits (binary_of n left right)) (sym e)
+joined_form n left value right e v d =
+    (ap form_or_waits v ∙ ap (λ (b : Bool). if b then False else form_or_waits (binary_of n (whole_of left) right)) (sym e), d)
 
-module _ (texts : List Text) (ts : List HeapTerm) (all : List Operands) (old : List Waiting) (w : Waiting) (value : Option Linear) where
-  pub only_returns : (n : Option Unary) (made : Option Linear) → w ≡ waiting.Only n → made ≡ unary_of (unary_meant n) value
-      → GoesOn texts ts all old (resumed texts ts w (form_or_waits value)) (waiting_work ts w) old (step.Return made)
-  only_returns n made e m =
-      subst (λ v. GoesOn texts ts all old (resumed texts ts v (form_or_waits value)) (waiting_work ts v) old (step.Return made)) (sym e)
-      (returns texts ts all old (resumed texts ts (waiting.Only n) (form_or_waits value)) 1 (step.Return made) (ap form_or_waits m ∙ same value) tt (omega arith))
+module _ (texts : List Text) (ts : List HeapTerm) (all : List Operands) (old : List Waiting) (w : Waiting) (form : Option Linear) where
+  -- the operations of the right argument's turn
+  all_within : (n : Option Binary) (left : Option Sum) → CanResume texts ts all (waiting.Right n left) (form_or_waits form)
+      → Within (due_in left ++ binary_operands (binary_meant n) (whole_of left) form) all
+  all_within n left c o h =
+      elim (has_either o (due_in left) (binary_operands (binary_meant n) (whole_of left) form) h) [
+        | inl k ↦ c.0 o k
+        | inr k ↦ subst (λ p. Within (binary_operands (binary_meant n) (whole_of left) p) all) (form_in_taken form) c.1 o k
+      ]
+
+  pub right_returns : (n : Option Binary) (left : Option Sum) (next : Step) → w ≡ waiting.Right n left → CanResume texts ts all w (form_or_waits form) → IsJoined (binary_meant n) left form next
+      → GoesOn texts ts all old (resumed texts ts w (form_or_waits form)) (waiting_work ts w) old next
+  right_returns n left next e c j =
+      subst (λ v. GoesOn texts ts all old (resumed texts ts v (form_or_waits form)) (waiting_work ts v) old next) (sym e)
+      (go next (subst (λ v. CanResume texts ts all v (form_or_waits form)) e c) j)
     where
-      same : (value : Option Linear) → form_or_waits (unary_of (unary_meant n) value) ≡ after_one (unary_meant n) (form_or_waits value)
+      same : (form : Option Linear) → unless_zero (binary_meant n) form (binary_of (binary_meant n) (whole_of left) form) ≡ after_right (binary_meant n) (whole_of left) (form_or_waits form)
       same None = refl
       same (Some f) = refl
 
-  pub right_returns : (n : Option Binary) (left : Option Linear) (next : Step) → w ≡ waiting.Right n left → IsJoined (binary_meant n) left value next
-      → GoesOn texts ts all old (resumed texts ts w (form_or_waits value)) (waiting_work ts w) old next
-  right_returns n left next e j =
-      subst (λ v. GoesOn texts ts all old (resumed texts ts v (form_or_waits value)) (waiting_work ts v) old next) (sym e) (go next j)
-    where
-      same : (value : Option Linear) → unless_zero (binary_meant n) value (binary_of (binary_meant n) left value) ≡ after_right (binary_meant n) left (form_or_waits value)
-      same None = refl
-      same (Some f) = refl
+      go : (next : Step) → CanResume texts ts all (waiting.Right n left) (form_or_waits form) → IsJoined (binary_meant n) left form next
+          → GoesOn texts ts all old (resumed texts ts (waiting.Right n left) (form_or_waits form)) 1 old next
+      go (step.Visit id) c j = absurd j
+      go (step.Return made) c j =
+          returns texts ts all old (resumed texts ts (waiting.Right n left) (form_or_waits form)) 1 (step.Return made) (j.0 ∙ same form)
+          (within_trans (due_in made) _ all j.1 (all_within n left c)) (omega arith)
+      go step.Stop c j = returns texts ts all old (resumed texts ts (waiting.Right n left) (form_or_waits form)) 1 step.Stop (j ∙ same form) tt (omega arith)
 
-      go : (next : Step) → IsJoined (binary_meant n) left value next → GoesOn texts ts all old (resumed texts ts (waiting.Right n left) (form_or_waits value)) 1 old next
-      go (step.Visit id) j = absurd j
-      go (step.Return made) j = returns texts ts all old (resumed texts ts (waiting.Right n left) (form_or_waits value)) 1 (step.Return made) (j ∙ same value) tt (omega arith)
-      go step.Stop j = returns texts ts all old (resumed texts ts (waiting.Right n left) (form_or_waits value)) 1 step.Stop (j ∙ same value) tt (omega arith)
-
-  pub right_comes : (n : Option Binary) (left : Option Linear) (pair : Pair) → w ≡ waiting.Right n left → CanResume texts ts all w (form_or_waits value)
-      → ComesFrom (binary_operands (binary_meant n) left value) pair → ComesFrom all pair
+  pub right_comes : (n : Option Binary) (left : Option Sum) (pair : Pair) → w ≡ waiting.Right n left → CanResume texts ts all w (form_or_waits form)
+      → ComesFrom (due_in left ++ binary_operands (binary_meant n) (whole_of left) form) pair → ComesFrom all pair
   right_comes n left pair e c h =
-      comes_within (binary_operands (binary_meant n) left value) all pair
-      (subst (λ o. Within (binary_operands (binary_meant n) left o) all) (form_in_taken value) (subst (λ v. CanResume texts ts all v (form_or_waits value)) e c)) h
+      comes_within (due_in left ++ binary_operands (binary_meant n) (whole_of left) form) all pair (all_within n left (subst (λ v. CanResume texts ts all v (form_or_waits form)) e c)) h
 
 -- a walk begins
 pub begins : (texts : List Text) (ts : List HeapTerm) (id : ℕ) (ws : List Waiting) → ws ≡ [] → id < length ts → HasNamesBelow (length texts) (at ts id)

@@ -2,6 +2,8 @@
 use Rattle.std.specs.Prelude.{Bool, true, false, Option, Some, None}
 use Rattle.spec_told.specs.Expressions.{UnaryName, Same, Opposite, Absolute, BinaryName, Plus, Minus, Times, Over, Power, Least, Greatest}
 use Rattle.spec_told.specs.Relations.{RelationName, Equals, Differs, Greater, GreaterOrEqual, Lesser, LesserOrEqual}
+use Rattle.cq_row.specs.declared.Joining.{Joining}
+use Rattle.cq_row.specs.declared.Joining.TheVariants as joining
 use Rattle.cq_cexpr.specs.declared.names.Unary.{Unary}
 use Rattle.cq_cexpr.specs.declared.names.Unary.TheVariants as one
 use Rattle.cq_cexpr.specs.declared.names.Binary.{Binary}
@@ -42,6 +44,11 @@ relation_of_code comparison.LesserOrEqual = LesserOrEqual
 abbrev pub relation_meant : Option Comparison → Option RelationName
 relation_meant None = None
 relation_meant (Some r) = Some (relation_of_code r)
+
+-- the name of a sum or of a difference
+abbrev pub name_of : Joining → BinaryName
+name_of joining.Plus = Plus
+name_of joining.Less = Minus
 
 -- the operation is a quotient
 abbrev pub is_over : Option BinaryName → Bool

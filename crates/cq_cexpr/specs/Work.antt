@@ -1,5 +1,5 @@
 -- An expression under way: the operations that wait for a form, the innermost last, and the step that is next.
-use Rattle.std.specs.Prelude.{◌≡◌, ℕ, ◌+◌, ◌*◌, ◌<◌, List, [], ◌∷◌, length, ⊤, if◌then◌else◌, ◌&&◌, Option, Some, None}
+use Rattle.std.specs.Prelude.{◌≡◌, ℕ, ◌+◌, ◌*◌, ◌<◌, List, [], ◌∷◌, ◌++◌, length, ⊤, if◌then◌else◌, ◌&&◌, Option, Some, None}
 use Rattle.spec_linear.specs.Form.{Linear}
 use Rattle.spec_limits.specs.Overflow.{Operands}
 use Rattle.spec_lists.specs.Texts.{Text}
@@ -14,6 +14,8 @@ use Rattle.cq_term.specs.Meaning.{HeapTerm, at}
 use Rattle.cq_term.specs.Names.{HasNamesBelow}
 use Rattle.cq_cexpr.specs.Names.{unary_meant, binary_meant, is_over}
 use Rattle.cq_cexpr.specs.Overflows.{Within, ComesFrom}
+use Rattle.cq_cexpr.specs.Sums.{whole_of, due_in}
+use Rattle.cq_cexpr.specs.declared.sums.Sum.{Sum}
 use Rattle.cq_cexpr.specs.declared.evaluation.Waiting.{Waiting}
 use Rattle.cq_cexpr.specs.declared.evaluation.Waiting.TheVariants as waiting
 use Rattle.cq_cexpr.specs.declared.evaluation.Step.{Step}
@@ -52,14 +54,14 @@ read_at texts ts id = lin_expression no_values (tree texts ts id)
 -- what a step comes to
 abbrev pub outcome : List Text → List HeapTerm → Step → Lin Linear
 outcome texts ts (step.Visit id) = read_at texts ts id
-outcome texts ts (step.Return value) = form_or_waits value
+outcome texts ts (step.Return value) = form_or_waits (whole_of value)
 outcome texts ts step.Stop = False
 
 -- what an operation that waits comes to
 abbrev pub resumed : List Text → List HeapTerm → Waiting → Lin Linear → Lin Linear
 resumed texts ts (waiting.Only n) r = after_one (unary_meant n) r
 resumed texts ts (waiting.Left n right) r = after_both (binary_meant n) r (read_at texts ts right)
-resumed texts ts (waiting.Right n left) r = after_right (binary_meant n) left r
+resumed texts ts (waiting.Right n left) r = after_right (binary_meant n) (whole_of left) r
 
 -- what all of them come to, of which the last one has the form first
 abbrev pub all_resumed : List Text → List HeapTerm → List Waiting → Lin Linear → Lin Linear
@@ -76,7 +78,7 @@ pub record CanVisit (texts : List Text) (ts : List HeapTerm) (all : List Operand
 
 abbrev pub CanTake : List Text → List HeapTerm → List Operands → Step → Type 0
 CanTake texts ts all (step.Visit id) = CanVisit texts ts all id
-CanTake texts ts all (step.Return value) = ⊤
+CanTake texts ts all (step.Return value) = Within (due_in value) all
 CanTake texts ts all step.Stop = ⊤
 
 -- the operation can have what its argument comes to
@@ -84,7 +86,7 @@ abbrev pub CanResume : List Text → List HeapTerm → List Operands → Waiting
 CanResume texts ts all (waiting.Only n) r = ⊤
 CanResume texts ts all (waiting.Left n right) r =
     CanVisit texts ts all right × Within (binary_operands (binary_meant n) (form_in r) (form_in (read_at texts ts right))) all
-CanResume texts ts all (waiting.Right n left) r = Within (binary_operands (binary_meant n) left (form_in r)) all
+CanResume texts ts all (waiting.Right n left) r = Within (due_in left) all × Within (binary_operands (binary_meant n) (whole_of left) (form_in r)) all
 
 abbrev pub CanResumeAll : List Text → List HeapTerm → List Operands → List Waiting → Lin Linear → Type 0
 CanResumeAll texts ts all [] r = ⊤
@@ -128,18 +130,27 @@ AfterVisit texts ts id old new next =
     (all : List Operands) → CanVisit texts ts all id → GoesOn texts ts all old (read_at texts ts id) (3 * size (at ts id)) new next
 
 -- the same from an operation that got what its argument comes to
-abbrev pub AfterResume : Waiting → Lin Linear → List Waiting → List Waiting → Step → Type 0
-AfterResume w r old new next =
-    (texts : List Text) (ts : List HeapTerm) (all : List Operands) → CanResume texts ts all w r
-    → GoesOn texts ts all old (resumed texts ts w r) (waiting_work ts w) new next
+abbrev pub AfterResume : Waiting → Option Sum → List Waiting → List Waiting → Step → Type 0
+AfterResume w value old new next =
+    (texts : List Text) (ts : List HeapTerm) (all : List Operands) → Within (due_in value) all → CanResume texts ts all w (form_or_waits (whole_of value))
+    → GoesOn texts ts all old (resumed texts ts w (form_or_waits (whole_of value))) (waiting_work ts w) new next
 
 -- the overflow of an operation that got what its argument comes to
-abbrev pub ResumeOverflows : Waiting → Lin Linear → Pair → Type 0
-ResumeOverflows w r pair =
-    (texts : List Text) (ts : List HeapTerm) (all : List Operands) → CanResume texts ts all w r → ComesFrom all pair
+abbrev pub ResumeOverflows : Waiting → Option Sum → Pair → Type 0
+ResumeOverflows w value pair =
+    (texts : List Text) (ts : List HeapTerm) (all : List Operands) → Within (due_in value) all → CanResume texts ts all w (form_or_waits (whole_of value))
+    → ComesFrom all pair
+
+-- the step of a form, or of what waits, of which no operation is due
+abbrev pub IsGiven : Option Linear → Step → Type 0
+IsGiven form (step.Visit id) = ⊥
+IsGiven form (step.Return value) = (whole_of value ≡ form) × (due_in value ≡ [])
+IsGiven form step.Stop = ⊥
 
 -- the step after an operation on two forms
-abbrev pub IsJoined : Option BinaryName → Option Linear → Option Linear → Step → Type 0
+abbrev pub IsJoined : Option BinaryName → Option Sum → Option Linear → Step → Type 0
 IsJoined n left right (step.Visit id) = ⊥
-IsJoined n left right (step.Return value) = form_or_waits value ≡ unless_zero n right (binary_of n left right)
-IsJoined n left right step.Stop = False ≡ unless_zero n right (binary_of n left right)
+IsJoined n left right (step.Return value) =
+    (form_or_waits (whole_of value) ≡ unless_zero n right (binary_of n (whole_of left) right))
+    × Within (due_in value) (due_in left ++ binary_operands n (whole_of left) right)
+IsJoined n left right step.Stop = False ≡ unless_zero n right (binary_of n (whole_of left) right)

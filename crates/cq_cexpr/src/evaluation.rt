@@ -1,8 +1,8 @@
 // The linear forms of expressions, with the operations under way on a list of their own, so that memory alone bounds
 // the depth of an expression.
 
-ghost use Rattle.std.specs.Prelude.{◌≡◌, ◌&&◌, ◌<◌, ◌++◌, ◌∷◌, [], length, IfOk, OnOk};
-ghost use Rattle.spec_told.specs.Expressions.{is_zero_form};
+ghost use Rattle.std.specs.Prelude.{◌≡◌, ◌&&◌, ◌<◌, ◌++◌, ◌∷◌, [], length, IfOk, OnOk, Some};
+ghost use Rattle.spec_told.specs.Expressions.{is_zero_form, binary_of};
 ghost use Rattle.spec_told.specs.Relations.{form_or_waits, lin_expression};
 ghost use Rattle.spec_branch.specs.Alike.{no_values};
 ghost use Rattle.spec_stops.specs.Operands.{binary_operands, expression_operands};
@@ -13,15 +13,19 @@ ghost use Rattle.cq_term.specs.Names.{HasNamesBelow};
 ghost use Rattle.cq_term.specs.Shown.{view_of};
 ghost use Rattle.cq_term.specs.declared.view.View.TheVariants.{Compound};
 ghost use Rattle.cq_cexpr.specs.Found.{expression_of, is_false};
-ghost use Rattle.cq_cexpr.specs.Names.{binary_meant, is_over};
-ghost use Rattle.cq_cexpr.specs.Overflows.{ComesFrom};
-ghost use Rattle.cq_cexpr.specs.Work.{form_in, AfterVisit, AfterResume, ResumeOverflows, IsJoined};
+ghost use Rattle.cq_row.specs.declared.Joining.{Joining};
+ghost use Rattle.cq_cexpr.specs.Names.{binary_meant, is_over, name_of};
+ghost use Rattle.cq_cexpr.specs.Overflows.{Within, ComesFrom};
+ghost use Rattle.cq_cexpr.specs.Sums.{whole_of, due_in};
+ghost use Rattle.cq_cexpr.specs.Work.{form_in, IsGiven, AfterVisit, AfterResume, ResumeOverflows, IsJoined};
 
 use crate::names::{self, Binary, Unary};
 use crate::operations;
+use crate::sums::{Sum, whole};
 use cq_atoms::Atoms;
 use cq_form::Form;
 use cq_frac::Refusal;
+use cq_row::Joining;
 use cq_term::{Atom, Heap, TermId, View};
 use std::alloc::{AllocError, Global};
 
@@ -64,8 +68,8 @@ enum Waiting {
     Only(Option<Unary>),
     /// The form is that of the left argument, and the term is the right one.
     Left(Option<Binary>, TermId),
-    /// The form is that of the right argument, and the left one has this form.
-    Right(Option<Binary>, Option<Form>),
+    /// The form is that of the right argument, and the left one has this form, once its operands are joined.
+    Right(Option<Binary>, Option<Sum>),
 }
 
 /// What is next.
@@ -73,8 +77,9 @@ enum Waiting {
 enum Step {
     /// The term is looked at.
     Visit(TermId),
-    /// The form, or that the expression waits, goes to the last of the operations under way.
-    Return(Option<Form>),
+    /// The form, once its operands are joined, or that the expression waits, goes to the last of the operations under
+    /// way.
+    Return(Option<Sum>),
     /// A divisor is zero.
     Stop,
 }
@@ -99,12 +104,21 @@ pub fn linearise_expression(
         match step {
             Step::Visit(id) => step = visit(heap, atoms, id, &mut under_way)?,
             Step::Stop => return Ok(LinExpression::False),
-            Step::Return(form) => match under_way.pop() {
-                None => return Ok(answer(form)),
-                Some(waiting) => step = resume(heap.alloc(), waiting, form, &mut under_way)?,
+            Step::Return(sum) => match under_way.pop() {
+                None => return finish(heap.alloc(), sum),
+                Some(waiting) => step = resume(heap.alloc(), waiting, sum, &mut under_way)?,
             },
         }
     }
+}
+
+/// The answer of an expression whose operands are joined now, or that waits.
+fn finish(alloc: Global, sum: Option<Sum>) -> Result<LinExpression, Refusal>
+    ensures lin { IfOk result (λ r. expression_of r ≡ form_or_waits (whole_of sum)) }
+    ensures overflow { (pair : Pair) → result ≡ Err (Refusal.Overflow pair) → ComesFrom (due_in sum) pair }
+{
+    let form = whole(alloc, sum)?;
+    Ok(answer(form))
 }
 
 /// The answer of an expression that has a form, or waits.
@@ -129,12 +143,15 @@ fn visit(
     ensures { IfOk result (AfterVisit atoms.now heap.now.now.terms id under_way.old.items under_way.new.items) }
 {
     match heap.view(id) {
-        View::Var(variable) => Ok(Step::Return(Some(operations::variable(
-            heap.alloc(),
-            variable,
-        )?))),
-        View::Number(number) => Ok(Step::Return(Some(operations::constant(heap.alloc(), number)?))),
-        View::Name(_) => Ok(Step::Return(None)),
+        View::Var(variable) => {
+            let form = operations::variable(heap.alloc(), variable)?;
+            Ok(given(heap.alloc(), Some(form)))
+        }
+        View::Number(number) => {
+            let form = operations::constant(heap.alloc(), number)?;
+            Ok(given(heap.alloc(), Some(form)))
+        }
+        View::Name(_) => Ok(given(heap.alloc(), None)),
         View::Compound(name, arity) => {
             if arity == 1 {
                 visit_one(heap, atoms, id, name, under_way)
@@ -144,6 +161,16 @@ fn visit(
                 Ok(Step::Return(None))
             }
         }
+    }
+}
+
+/// The step of a form, or of what waits.
+fn given(alloc: Global, form: Option<Form>) -> Step
+    ensures { IsGiven form result }
+{
+    match form {
+        None => Step::Return(None),
+        Some(form) => Step::Return(Some(Sum::alone(alloc, form))),
     }
 }
 
@@ -198,20 +225,26 @@ fn wait(under_way: &mut Vec<Waiting>, waiting: Waiting) -> Result<(), AllocError
 fn resume(
     alloc: Global,
     waiting: Waiting,
-    form: Option<Form>,
+    sum: Option<Sum>,
     under_way: &mut Vec<Waiting>,
 ) -> Result<Step, Refusal>
-    ensures goes_on { IfOk result (AfterResume waiting (form_or_waits form) under_way.old.items under_way.new.items) }
-    ensures overflow { (pair : Pair) → result ≡ Err (Refusal.Overflow pair)
-        → ResumeOverflows waiting (form_or_waits form) pair }
+    ensures goes_on { IfOk result (AfterResume waiting sum under_way.old.items under_way.new.items) }
+    ensures overflow { (pair : Pair) → result ≡ Err (Refusal.Overflow pair) → ResumeOverflows waiting sum pair }
 {
     match waiting {
-        Waiting::Only(operation) => Ok(Step::Return(operations::unary(alloc, operation, form)?)),
+        Waiting::Only(operation) => {
+            let form = whole(alloc, sum)?;
+            let made = operations::unary(alloc, operation, form)?;
+            Ok(given(alloc, made))
+        }
         Waiting::Left(operation, right) => {
-            wait(under_way, Waiting::Right(operation, form))?;
+            wait(under_way, Waiting::Right(operation, sum))?;
             Ok(Step::Visit(right))
         }
-        Waiting::Right(operation, left) => joined(alloc, operation, left, form),
+        Waiting::Right(operation, left) => {
+            let right = whole(alloc, sum)?;
+            joined(alloc, operation, left, right)
+        }
     }
 }
 
@@ -219,17 +252,58 @@ fn resume(
 fn joined(
     alloc: Global,
     operation: Option<Binary>,
-    left: Option<Form>,
+    left: Option<Sum>,
     right: Option<Form>,
 ) -> Result<Step, Refusal>
     ensures value { IfOk result (λ next. IsJoined (binary_meant operation) left right next) }
     ensures overflow { (pair : Pair) → result ≡ Err (Refusal.Overflow pair)
-        → ComesFrom (binary_operands (binary_meant operation) left right) pair }
+        → ComesFrom (due_in left ++ binary_operands (binary_meant operation) (whole_of left) right) pair }
 {
     if has_zero_divisor(operation, &right) {
         return Ok(Step::Stop);
     }
-    Ok(Step::Return(operations::binary(alloc, operation, left, right)?))
+    Ok(Step::Return(operated(alloc, operation, left, right)?))
+}
+
+/// The operation on two forms. Where it joins one to a sum of many variables, the form may wait there.
+fn operated(
+    alloc: Global,
+    operation: Option<Binary>,
+    left: Option<Sum>,
+    right: Option<Form>,
+) -> Result<Option<Sum>, Refusal>
+    ensures value { IfOk result (λ s. whole_of s ≡ binary_of (binary_meant operation) (whole_of left) right) }
+    ensures due { IfOk result (λ s. Within (due_in s) (due_in left ++ binary_operands (binary_meant operation) (whole_of left) right)) }
+    ensures overflow { (pair : Pair) → result ≡ Err (Refusal.Overflow pair)
+        → ComesFrom (due_in left ++ binary_operands (binary_meant operation) (whole_of left) right) pair }
+{
+    let Some(left) = left else {
+        return Ok(None);
+    };
+    let Some(right) = right else {
+        return Ok(None);
+    };
+    if left.lets_wait(&right) {
+        if let Some(how) = joining_of(operation) {
+            return Ok(Some(left.with(how, right)?));
+        }
+    }
+    let form = whole(alloc, Some(left))?;
+    match operations::binary(alloc, operation, form, Some(right))? {
+        None => Ok(None),
+        Some(made) => Ok(Some(Sum::alone(alloc, made))),
+    }
+}
+
+/// How the operation joins its right argument to the left one, if it is a sum or a difference.
+fn joining_of(operation: Option<Binary>) -> Option<Joining>
+    ensures { (how : Joining) → result ≡ Some how → binary_meant operation ≡ Some (name_of how) }
+{
+    match operation {
+        Some(Binary::Plus) => Some(Joining::Plus),
+        Some(Binary::Minus) => Some(Joining::Less),
+        _ => None,
+    }
 }
 
 /// Whether the operation is a quotient by the number zero.

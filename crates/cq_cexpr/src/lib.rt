@@ -6,6 +6,8 @@ mod evaluation;
 mod names;
 mod operations;
 mod relations;
+mod slots;
+mod sums;
 
 pub use evaluation::{LinExpression, linearise_expression};
 pub use relations::{Lin, linearise};

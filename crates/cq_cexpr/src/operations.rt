@@ -50,7 +50,7 @@ fn number(form: &Form) -> Option<Frac>
 }
 
 /// The products of a form are in order: its type keeps them so.
-fn is_in_order(form: &Form)
+pub(crate) fn is_in_order(form: &Form)
     ensures { IsForm form.now }
 {
     let _entries = form.entries();
@@ -76,7 +76,11 @@ fn is_number_zero(form: &Form) -> bool
 }
 
 /// The form of a constant and entries.
-fn form_with(alloc: Global, constant: Frac, entries: &[Entry]) -> Result<Form, AllocError>
+pub(crate) fn form_with(
+    alloc: Global,
+    constant: Frac,
+    entries: &[Entry],
+) -> Result<Form, AllocError>
     requires in_order { IsForm (form_of constant entries.now) }
     ensures { IfOk result (λ f. f ≡ form_of constant entries.now) }
 {

@@ -1,5 +1,6 @@
 -- Clauses taken apart, and bodies whose parts are looked at one after another.
 use Rattle.std.proofs.Common.{◌≡◌, ℕ, ◌+◌, ◌<◌, Bool, true, false, ◌&&◌, List, [], ◌∷◌, ◌++◌, length, Some, None, refl, ap, sym, ◌∙◌, arith}
+use Rattle.std.proofs.Math.Bool.{and-true}
 use Rattle.std.specs.Prelude.{All, not, if◌then◌else◌, codes, bytes_eq}
 use Rattle.std.proofs.lemmas.List.Elements.{All-nil, All-push, All-same, All-pop}
 use Rattle.spec_lists.specs.Texts.{Text}
@@ -70,10 +71,6 @@ and_assoc : (a b c : Bool) → ((a && b) && c) ≡ (a && (b && c))
 and_assoc true b c = refl
 and_assoc false b c = refl
 
-and_true : (a : Bool) → (a && true) ≡ a
-and_true true = refl
-and_true false = refl
-
 and_swap : (a b : Bool) → (a && b) ≡ (b && a)
 and_swap true true = refl
 and_swap true false = refl
@@ -82,7 +79,7 @@ and_swap false false = refl
 
 module _ (texts : List Text) (ts : List HeapTerm) where
   bodies_last : (ids : List ℕ) (id : ℕ) → are_bodies texts ts (ids ++ id ∷ []) ≡ (are_bodies texts ts ids && is_body (tree texts ts id))
-  bodies_last [] id = and_true (is_body (tree texts ts id))
+  bodies_last [] id = and-true (is_body (tree texts ts id))
   bodies_last (w ∷ ids) id = ap (λ b. is_body (tree texts ts w) && b) (bodies_last ids id) ∙ sym (and_assoc (is_body (tree texts ts w)) (are_bodies texts ts ids) (is_body (tree texts ts id)))
 
   module _ (old new : List ℕ) (id : ℕ) where
@@ -103,7 +100,7 @@ module _ (texts : List Text) (ts : List HeapTerm) where
 
     pub goal_passes : is_body (tree texts ts id) ≡ true → new ≡ old → BodyWaits texts ts old id new
     goal_passes b n = record {
-      same = ap (are_bodies texts ts) n ∙ sym (and_true (are_bodies texts ts old)) ∙ ap (λ x. are_bodies texts ts old && x) (sym b);
+      same = ap (are_bodies texts ts) n ∙ sym (and-true (are_bodies texts ts old)) ∙ ap (λ x. are_bodies texts ts old && x) (sym b);
       live = λ all. All-same (λ x. x < length ts) new old n all;
       less = (let e = ap (waiting_size ts) n in let z = size_positive (at ts id) in omega (arith, e, z));
     }
@@ -134,7 +131,7 @@ module _ (texts : List Text) (ts : List HeapTerm) where
 
   pub body_starts : (id : ℕ) (ws : List ℕ) → id < length ts → ws ≡ id ∷ [] → IsBodyUnderWay texts ts (is_body (tree texts ts id)) ws
   body_starts id ws live n = record {
-    leads = ap (are_bodies texts ts) n ∙ and_true (is_body (tree texts ts id));
+    leads = ap (are_bodies texts ts) n ∙ and-true (is_body (tree texts ts id));
     live = All-same (λ x. x < length ts) ws (id ∷ []) n (All-push (λ x. x < length ts) [] id (All-nil (λ x. x < length ts)) live);
   }
 

@@ -47,7 +47,8 @@ pub fn check_declaration(
 
 /// The error of a declaration is that of its term, or else that of the first of its predicates that is built in.
 pub fn declarations_in_turn()
-    ensures { (built_in : Indicator → Bool) (t : Tree) → declaration_error built_in t ≡ or_error (own_error t) (built_in_error built_in (declarations t)) }
+    ensures { (built_in : Indicator → Bool) (t : Tree)
+        → declaration_error built_in t ≡ or_error (own_error t) (built_in_error built_in (declarations t)) }
 {}
 
 /// The terms that are declared: the parts of a conjunction or a list.

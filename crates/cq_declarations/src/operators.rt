@@ -189,7 +189,8 @@ fn priority_of(heap: &Heap, priority: TermId) -> Result<i128, BuiltinError>
     requires { priority < length heap.now.now.terms }
     ensures ok { IfOk result (λ z. (texts : List Text) → whole_of (tree texts heap.now.now.terms priority) ≡ z) }
     ensures lawful { OnOk result ((texts : List Text) → priority_error (tree texts heap.now.now.terms priority) ≡ None) }
-    ensures err { IfErr result (λ e. (texts : List Text) → priority_error (tree texts heap.now.now.terms priority) ≡ Some (error_tree texts heap.now.now.terms e)) }
+    ensures err { IfErr result (λ e. (texts : List Text)
+        → priority_error (tree texts heap.now.now.terms priority) ≡ Some (error_tree texts heap.now.now.terms e)) }
     ensures culprit { IfErr result (λ e. (texts : List Text) → HasCulprit texts heap.now.now.terms e) }
 {
     if !is_integer(heap, priority) {
@@ -283,7 +284,8 @@ fn all_names(heap: &Heap, ids: &[TermId]) -> bool
 fn refusal(heap: &Heap, atoms: &Atoms, ops: &Ops, asked: &Asked) -> Option<BuiltinError>
     requires asked { IsAsked atoms.now heap.now.now.terms asked.now }
     requires names { KnowsTerms atoms.now heap.now.now.terms }
-    ensures some { IfSome result (λ e. refusal_error atoms.now heap.now.now.terms asked.now.goal (named atoms.now ops.now) ≡ Some (error_tree atoms.now heap.now.now.terms e)) }
+    ensures some { IfSome result (λ e. refusal_error atoms.now heap.now.now.terms asked.now.goal (named atoms.now ops.now)
+        ≡ Some (error_tree atoms.now heap.now.now.terms e)) }
     ensures culprit { IfSome result (HasCulprit atoms.now heap.now.now.terms) }
     ensures none { IsNone result → refusal_error atoms.now heap.now.now.terms asked.now.goal (named atoms.now ops.now) ≡ None }
 {

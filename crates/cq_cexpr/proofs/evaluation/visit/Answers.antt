@@ -12,4 +12,4 @@ returns-else-arity-eq2 c = λ all can.
     let ts = c.args.heap.now.now.terms in
     steps.returns c.args.atoms.now ts all c.args.under_way.now.items (read_at c.args.atoms.now ts c.args.id) (3 * size (at ts c.args.id)) (step.Return None)
     (sym (others_wait c.args.atoms.now (at ts c.args.id) c.in-Compound.name c.in-Compound.arity (sym c.in-Compound.ensures.view) c.if-arity-eq1.false c.if-arity-eq2.false))
-    tt (something_to_do (at ts c.args.id))
+    (λ o h. absurd h) (something_to_do (at ts c.args.id))

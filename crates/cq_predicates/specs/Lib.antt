@@ -1,0 +1,4 @@
+pub mod Names
+pub mod Found
+pub mod Given
+pub mod Calls

@@ -1,0 +1,122 @@
+// What a call of a predicate gives.
+
+ghost use Rattle.std.specs.Prelude.{◌≡◌, List, IfOk, OnErr};
+ghost use Rattle.spec_lists.specs.Texts.{Text};
+ghost use Rattle.cq_term.specs.Trees.{KnowsTerms};
+ghost use Rattle.cq_text.specs.Ways.{CanBeTried};
+ghost use Rattle.cq_text.specs.Ways.{offered};
+ghost use Rattle.cq_text.specs.Ways as text;
+ghost use Rattle.cq_built.specs.Growing.{Grows};
+ghost use Rattle.cq_builtin.specs.Offered.{IsLiveOrNone};
+ghost use Rattle.cq_predicates.specs.Given.{CanGoOn, TakesNext, TakesWay, Adds};
+
+use cq_atoms::Atoms;
+use cq_built::Alternative;
+use cq_term::Heap;
+use cq_text::TextAlternatives;
+use cq_trail::Undo;
+use cq_walk::Pair;
+use std::alloc::AllocError;
+
+#[derive(Drop)]
+pub(crate) enum Ways {
+    /// A test: one way without pairs, or none.
+    Test(bool),
+    Pair(Option<Pair>),
+    Pairs(Option<Alternative>),
+    Texts(TextAlternatives),
+}
+
+/// The alternatives of a call that are still to come. Where there can be many, each is made when it is asked for.
+#[derive(Drop)]
+pub struct Solutions {
+    pub(crate) ways: Ways,
+}
+
+impl Solutions {
+    /// The next alternative; none behind the last one. After an error, which is want of memory, the heap is as it was, and
+    /// the same alternatives are still to come; names may stay.
+    pub fn next(
+        &mut self,
+        heap: &mut Heap,
+        atoms: &mut Atoms,
+    ) -> Result<Option<Alternative>, AllocError>
+        requires live { CanGoOn heap.old.now.terms self.old }
+        requires names { KnowsTerms atoms.old heap.old.now.terms }
+        ensures next { IfOk result (TakesNext atoms.old heap.old.now.terms self.old atoms.new heap.new.now.terms self.new) }
+        ensures there { IfOk result (CanBeTried heap.new.now.terms) }
+        ensures live { CanGoOn heap.new.now.terms self.new }
+        ensures images { heap.new.now.images ≡ heap.old.now.images }
+        ensures adds { Adds atoms.old heap.old atoms.new heap.new }
+        ensures err { OnErr result (heap.new.now ≡ heap.old.now) }
+        ensures same { OnErr result (self.new ≡ self.old) }
+    {
+        match &mut self.ways {
+            Ways::Test(holds) => Ok(next_test(heap, holds)),
+            Ways::Pair(pair) => next_pair(heap, pair),
+            Ways::Pairs(only) => Ok(only.take()),
+            Ways::Texts(ways) => next_text(heap, atoms, ways),
+        }
+    }
+}
+
+/// The way of a test that holds.
+fn next_test(heap: &Heap, holds: &mut bool) -> Option<Alternative>
+    ensures next { (texts : List Text) → TakesWay texts heap.now.now.terms (Ways.Test holds.old) texts heap.now.now.terms (Ways.Test holds.new) result }
+    ensures there { CanBeTried heap.now.now.terms result }
+{
+    if *holds {
+        *holds = false;
+        let pairs = Vec::new(heap.alloc());
+        Some(Alternative { pairs })
+    } else {
+        None
+    }
+}
+
+/// The way of one pair.
+fn next_pair(heap: &Heap, pair: &mut Option<Pair>) -> Result<Option<Alternative>, AllocError>
+    requires live { IsLiveOrNone heap.now.now.terms pair.old }
+    ensures next { IfOk result (λ next. (texts : List Text) →
+        TakesWay texts heap.now.now.terms (Ways.Pair pair.old) texts heap.now.now.terms (Ways.Pair pair.new) next) }
+    ensures there { IfOk result (CanBeTried heap.now.now.terms) }
+    ensures live { IsLiveOrNone heap.now.now.terms pair.new }
+    ensures same { OnErr result (pair.new ≡ pair.old) }
+{
+    match *pair {
+        Some(found) => {
+            let pairs = vec![in heap.alloc(); found]?;
+            *pair = None;
+            Ok(Some(Alternative { pairs }))
+        }
+        None => Ok(None),
+    }
+}
+
+/// The next way of a predicate on texts. After want of memory the heap is as it was.
+fn next_text(
+    heap: &mut Heap,
+    atoms: &mut Atoms,
+    ways: &mut TextAlternatives,
+) -> Result<Option<Alternative>, AllocError>
+    requires live { text.CanGoOn heap.old.now.terms ways.old }
+    requires names { KnowsTerms atoms.old heap.old.now.terms }
+    ensures next { IfOk result (text.TakesNext offered atoms.old heap.old.now.terms ways.old atoms.new heap.new.now.terms ways.new) }
+    ensures there { IfOk result (CanBeTried heap.new.now.terms) }
+    ensures live { text.CanGoOn heap.new.now.terms ways.new }
+    ensures grows { Grows atoms.old heap.old atoms.new heap.new }
+    ensures err { OnErr result (heap.new.now ≡ heap.old.now) }
+    ensures same { OnErr result (ways.new ≡ ways.old) }
+{
+    let m = heap.mark()?;
+    match ways.next(heap, atoms) {
+        Ok(next) => {
+            heap.forget(m);
+            Ok(next)
+        }
+        Err(fault) => {
+            heap.undo(m);
+            Err(fault)
+        }
+    }
+}
