@@ -72,6 +72,11 @@ pub record Counts : Type 0 where
   pub source_taken : ℕ
   pub out_faults : ℕ
 
+-- these five counts, in that order
+abbrev pub counted : ℕ → ℕ → ℕ → ℕ → ℕ → Counts
+counted absent refused failed taken unwritten =
+    record { shelf_faults = absent; shelf_refused = refused; source_faults = failed; source_taken = taken; out_faults = unwritten }
+
 -- the words are in the language
 abbrev pub TakesWords : Option Asked → Type 0
 TakesWords asked = asked ≡ Some transcript

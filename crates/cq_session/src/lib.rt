@@ -2,7 +2,7 @@
 #![tactic(auto)]
 
 ghost use Rattle.std.specs.Prelude.{◌≡◌, ◌≤◌, ℕ, length, IfSome, MatchBool, None, Some};
-ghost use Rattle.cq_session.specs.Outcome.{Caused, Completeness, Ended, IsClear, IsLine, IsWhole, Tells, status_without};
+ghost use Rattle.cq_session.specs.Outcome.{Caused, Completeness, Ended, IsClear, IsLine, IsWhole, Tells, counted, status_without};
 ghost use Rattle.cq_session.specs.Progress.{CausedByOut};
 ghost use Rattle.cq_session.specs.Words.{asked_by, transcript};
 
@@ -82,8 +82,8 @@ fn answer<I: Source, O: Sink>(alloc: Global, words: &[String], input: &mut I, ou
 
     // The counts of a shelf don't matter.
     ensures cause { (faults now_faults refused now_refused : ℕ) → Caused result (asked_by words.now)
-        (record { shelf_faults = faults; shelf_refused = refused; source_faults = I.faults input.old; source_taken = I.taken input.old; out_faults = O.faults out.old })
-        (record { shelf_faults = now_faults; shelf_refused = now_refused; source_faults = I.faults input.new; source_taken = I.taken input.new; out_faults = O.faults out.new }) }
+        (counted faults refused (I.faults input.old) (I.taken input.old) (O.faults out.old))
+        (counted now_faults now_refused (I.faults input.new) (I.taken input.new) (O.faults out.new)) }
 {
     if !are_words(words) {
         return Status::BadWords;
@@ -132,8 +132,8 @@ pub fn run<F: Shelf, I: Source, O: Sink, E: Sink>(
 
     // What the status says of the words and of the counts, whatever is told.
     ensures cause { Caused result (asked_by words.now)
-        (record { shelf_faults = F.faults shelf.old; shelf_refused = F.refused shelf.old; source_faults = I.faults input.old; source_taken = I.taken input.old; out_faults = O.faults out.old })
-        (record { shelf_faults = F.faults shelf.new; shelf_refused = F.refused shelf.new; source_faults = I.faults input.new; source_taken = I.taken input.new; out_faults = O.faults out.new }) }
+        (counted (F.faults shelf.old) (F.refused shelf.old) (I.faults input.old) (I.taken input.old) (O.faults out.old))
+        (counted (F.faults shelf.new) (F.refused shelf.new) (I.faults input.new) (I.taken input.new) (O.faults out.new)) }
 
     ensures line { Tells result (E.faults err.old) (E.faults err.new) (E.held err.old) (E.held err.new) }
 
@@ -143,8 +143,8 @@ pub fn run<F: Shelf, I: Source, O: Sink, E: Sink>(
 
     // Where nothing stands in the way, the transcript is whole, unless memory is wanting.
     ensures complete { asked_by words.now ≡ Some transcript → IfSome (I.left input.old) (λ bytes. IsClear bytes
-        (record { shelf_faults = F.faults shelf.old; shelf_refused = F.refused shelf.old; source_faults = I.faults input.old; source_taken = I.taken input.old; out_faults = O.faults out.old })
-        (record { shelf_faults = F.faults shelf.new; shelf_refused = F.refused shelf.new; source_faults = I.faults input.new; source_taken = I.taken input.new; out_faults = O.faults out.new })
+        (counted (F.faults shelf.old) (F.refused shelf.old) (I.faults input.old) (I.taken input.old) (O.faults out.old))
+        (counted (F.faults shelf.new) (F.refused shelf.new) (I.faults input.new) (I.taken input.new) (O.faults out.new))
         → IsWhole result) }
 {
     let status = answer(alloc, words, input, out);
