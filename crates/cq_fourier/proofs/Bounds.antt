@@ -1,6 +1,7 @@
 -- The side on which a row is, and the rows of each side.
 use Rattle.std.proofs.Common.{◌≡◌, ◌≢◌, inl, inr, ℕ, suc, List, [], ◌∷◌, ◌++◌, Bool, true, false, pos, refl, ap, sym, subst, ◌∙◌, append-nil}
 use Rattle.std.specs.Prelude.{map, cond}
+use Rattle.std.proofs.lemmas.Bool.{false_from_ne_true}
 use Rattle.spec_rational.specs.Rational.{ℚ, 0ℚ, neg_ℚ, IsPositive, IsNotNegative}
 use Rattle.spec_rational.specs.Sums.{Monomial, Mentions, factor_of}
 use Rattle.spec_rational.proofs.Ring.{var, int, minus}
@@ -24,9 +25,6 @@ neg_zero = ring [] (minus (int (pos 0))) (int (pos 0)) refl
 neg_neg : (q : ℚ) → q ≡ neg_ℚ (neg_ℚ q)
 neg_neg q = ring (q ∷ []) (var 0) (minus (minus (var 0))) refl
 
-pub positive_not_zero : (q : ℚ) → IsPositive q → q ≢ 0ℚ
-positive_not_zero q h e = not_pos_zero (subst IsPositive e h)
-
 pub negative_not_zero : (q : ℚ) → IsPositive (neg_ℚ q) → q ≢ 0ℚ
 negative_not_zero q h e = not_pos_zero (subst IsPositive (ap neg_ℚ e ∙ neg_zero) h)
 
@@ -41,15 +39,11 @@ nonzero_member low p (m ∷ s) o (inr h) = nonzero_member (suc m.variable) p s o
 
 -- ---- what the tests of the sides say
 
-test_false : (b : Bool) → (b ≡ true → ⊥) → b ≡ false
-test_false true n = absurd (n refl)
-test_false false n = refl
-
 not_positive : (q : ℚ) → (IsPositive q → ⊥) → is_positive q ≡ false
-not_positive q n = test_false (is_positive q) (λ e. n (is_positive-of q e))
+not_positive q n = false_from_ne_true (is_positive q) (λ e. n (is_positive-of q e))
 
-not_zero : (q : ℚ) → q ≢ 0ℚ → is_zero q ≡ false
-not_zero q n = test_false (is_zero q) (λ e. n (is_zero-true q e))
+pub not_zero : (q : ℚ) → q ≢ 0ℚ → is_zero q ≡ false
+not_zero q n = false_from_ne_true (is_zero q) (λ e. n (is_zero-true q e))
 
 -- what the tests say of the coefficient
 pub record Tests (q : ℚ) (lower upper other : Bool) : Type 0 where
@@ -61,7 +55,7 @@ pub tests_lower : (q : ℚ) → IsPositive q → Tests q true false false
 tests_lower q h = record {
   lower_is = is_positive-true q h;
   upper_is = not_positive (neg_ℚ q) (λ k. not_both h (pos_nonneg k));
-  other_is = not_zero q (positive_not_zero q h);
+  other_is = not_zero q (λ e. not_pos_zero (subst IsPositive e h));
 }
 
 pub tests_upper : (q : ℚ) → IsPositive (neg_ℚ q) → Tests q false true false
@@ -73,7 +67,7 @@ tests_upper q h = record {
 
 pub tests_other : (q : ℚ) → q ≡ 0ℚ → Tests q false false true
 tests_other q e = record {
-  lower_is = not_positive q (λ h. positive_not_zero q h e);
+  lower_is = not_positive q (λ h. not_pos_zero (subst IsPositive e h));
   upper_is = not_positive (neg_ℚ q) (λ h. negative_not_zero q h e);
   other_is = is_zero-of q e;
 }

@@ -5,8 +5,10 @@ use Rattle.std.proofs.lemmas.List.{take_more, take_all, map-append}
 use Rattle.std.proofs.lemmas.List.Filters.{length-filter_more}
 use Rattle.spec_rational.specs.Rational.{neg_ℚ, IsPositive}
 use Rattle.spec_rational.specs.Sums.{Mentions}
+use Rattle.spec_rational.proofs.Sign.{not_pos_zero}
 use Rattle.spec_linear.specs.Form.{is_zero}
 use Rattle.spec_linear.specs.Solution.{Constraint, Has, SomeMentions, MentionsOnly}
+use Rattle.spec_linear.proofs.Denominators.{has_left, has_right}
 use Rattle.spec_projection.specs.Elimination.{coefficient, is_positive, lower_rows, upper_rows, other_rows}
 use Rattle.spec_projection.specs.Partial.{pairs, IsNext}
 use Rattle.spec_projection.proofs.Eliminated.{is_positive-of}
@@ -14,12 +16,13 @@ use Rattle.spec_projection.proofs.Members.{has_either, has_filtered}
 use Rattle.spec_projection.proofs.Mentions.{unmentioned_factor, factor_mentioned}
 use Rattle.cq_frac.specs.declared.VarId.{VarId}
 use Rattle.cq_store.specs.Told.{numbers_of}
+use Rattle.cq_store.proofs.Variables.{has_end}
 use Rattle.cq_fourier.specs.declared.Side.{Side}
 use Rattle.cq_fourier.specs.declared.Side.TheVariants.{Lower, Upper, Other}
 use Rattle.cq_fourier.specs.declared.next.Elimination.{Elimination}
 use Rattle.cq_fourier.specs.Sides.{IsSide}
 use Rattle.cq_fourier.specs.Next.{Counts, IsBefore, IsFirstOf, HasOneMore, ComesBefore, IsFirst, NoneStands, AreApart}
-use Rattle.cq_fourier.proofs.Bounds.{positive_not_zero, negative_not_zero, Tests, tests_lower, tests_upper, tests_other}
+use Rattle.cq_fourier.proofs.Bounds.{negative_not_zero, Tests, tests_lower, tests_upper, tests_other}
 
 -- ---- counting
 
@@ -121,23 +124,11 @@ stands l e k n = go (lower_rows e.variable.0 l) refl (upper_rows e.variable.0 l)
     go : (s : List Constraint) → lower_rows x l ≡ s → (t : List Constraint) → upper_rows x l ≡ t → SomeMentions x l
     go (c ∷ s) f t g =
         let h = has_filtered (λ d. is_positive (coefficient x d)) c l (subst (Has c) (sym f) (inl refl)) in
-        some_of_member x c l h.0 (factor_mentioned x c.form.products (positive_not_zero (coefficient x c) (is_positive-of (coefficient x c) h.1)))
+        some_of_member x c l h.0 (factor_mentioned x c.form.products (λ e. not_pos_zero (subst IsPositive e (is_positive-of (coefficient x c) h.1))))
     go [] f (c ∷ t) g =
         let h = has_filtered (λ d. is_positive (neg_ℚ (coefficient x d))) c l (subst (Has c) (sym g) (inl refl)) in
         some_of_member x c l h.0 (factor_mentioned x c.form.products (negative_not_zero (coefficient x c) (is_positive-of (neg_ℚ (coefficient x c)) h.1)))
     go [] f [] g = absurd (n (k.lower_is ∙ ap length f, k.upper_is ∙ ap length g))
-
-has_end : (xs : List ℕ) (x y : ℕ) → Has y (xs ++ x ∷ []) → Has y xs ⊎ (y ≡ x)
-has_end xs x y h = elim (has_either y xs (x ∷ []) h) [ inl k ↦ inl k | inr k ↦ elim k [ inl e ↦ inr e | inr z ↦ absurd z ] ]
-
-has_front : (xs : List ℕ) (x y : ℕ) → Has y xs → Has y (xs ++ x ∷ [])
-has_front [] x y h = absurd h
-has_front (z ∷ xs) x y (inl e) = inl e
-has_front (z ∷ xs) x y (inr h) = inr (has_front xs x y h)
-
-has_last : (xs : List ℕ) (x : ℕ) → Has x (xs ++ x ∷ [])
-has_last [] x = inl refl
-has_last (z ∷ xs) x = inr (has_last xs x)
 
 pairs_are : (l : List Constraint) (e : Elimination) → Counts l e → e.lower * e.upper ≡ pairs e.variable.0 l
 pairs_are l e k = ap₂ (λ p q. p * q) k.lower_is k.upper_is
@@ -161,12 +152,12 @@ module _ (xs : List ℕ) (l : List Constraint) (own : Elimination) (counts : Cou
 
   -- one that stands nowhere
   best_skip : (found : Option Elimination) → own.lower ≡ 0 → own.upper ≡ 0 → Best xs l found → Best (xs ++ x ∷ []) l found
-  best_skip None e f b = λ y h m. elim (has_end xs x y h) [ inl k ↦ b y k m | inr i ↦ counts.idle e f (subst (λ z. SomeMentions z l) i m) ]
+  best_skip None e f b = λ y h m. elim (has_end y xs x h) [ inl k ↦ b y k m | inr i ↦ counts.idle e f (subst (λ z. SomeMentions z l) i m) ]
   best_skip (Some first) e f b = record {
     counts = b.counts;
-    among = has_front xs x first.variable.0 b.among;
+    among = has_left first.variable.0 xs (x ∷ []) b.among;
     mentioned = b.mentioned;
-    least = λ y h m. elim (has_end xs x y h) [ inl k ↦ b.least y k m | inr i ↦ absurd (counts.idle e f (subst (λ z. SomeMentions z l) i m)) ];
+    least = λ y h m. elim (has_end y xs x h) [ inl k ↦ b.least y k m | inr i ↦ absurd (counts.idle e f (subst (λ z. SomeMentions z l) i m)) ];
   }
 
   self : ComesBefore l x x
@@ -175,9 +166,9 @@ module _ (xs : List ℕ) (l : List Constraint) (own : Elimination) (counts : Cou
   own_first : ((own.lower ≡ 0) × (own.upper ≡ 0) → ⊥) → ((y : ℕ) → Has y xs → SomeMentions y l → ComesBefore l x y) → IsFirst (xs ++ x ∷ []) l own
   own_first n before = record {
     counts = counts;
-    among = has_last xs x;
+    among = has_right x xs (x ∷ []) (inl refl);
     mentioned = stands l own counts n;
-    least = λ y h m. elim (has_end xs x y h) [ inl k ↦ before y k m | inr i ↦ subst (ComesBefore l x) (sym i) self ];
+    least = λ y h m. elim (has_end y xs x h) [ inl k ↦ before y k m | inr i ↦ subst (ComesBefore l x) (sym i) self ];
   }
 
   -- one that stands somewhere
@@ -185,9 +176,9 @@ module _ (xs : List ℕ) (l : List Constraint) (own : Elimination) (counts : Cou
   best_more None new n i b = subst (IsFirst (xs ++ x ∷ []) l) (sym i) (own_first n (λ y h m. absurd (b y h m)))
   best_more (Some first) new n (inl i) b = subst (IsFirst (xs ++ x ∷ []) l) (sym i.0) (record {
     counts = b.counts;
-    among = has_front xs x first.variable.0 b.among;
+    among = has_left first.variable.0 xs (x ∷ []) b.among;
     mentioned = b.mentioned;
-    least = λ y h m. elim (has_end xs x y h) [
+    least = λ y h m. elim (has_end y xs x h) [
       | inl k ↦ b.least y k m
       | inr j ↦ subst (ComesBefore l first.variable.0) (sym j) (comes_before l first own b.counts counts i.1)
     ];

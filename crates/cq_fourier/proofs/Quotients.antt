@@ -8,7 +8,6 @@ use Rattle.spec_rational.proofs.Sign.{product_zero, inverse_not_zero}
 use Rattle.spec_linear.specs.Form.{Linear, IsSumFrom, IsForm, is_zero, without_zeros, scaled_form}
 use Rattle.spec_linear.specs.Solution.{Constraint, Has}
 use Rattle.spec_linear.proofs.Ordered.{form_same, product_same, IsForm-scaled_form}
-use Rattle.spec_linear.proofs.Values.{is_zero-true}
 use Rattle.spec_projection.specs.Elimination.{coefficient}
 use Rattle.spec_limits.specs.Overflow.{IsNumberOf, of_variable}
 use Rattle.cq_frac.specs.declared.Operation.TheVariants.{Quotient}
@@ -24,6 +23,7 @@ use Rattle.cq_form.proofs.Forms.{coefficient_is}
 use Rattle.cq_form.proofs.Rows.{has_product}
 use Rattle.cq_fourier.specs.Sides.{pair_of}
 use Rattle.cq_fourier.specs.Steps.{IsQuotientOf, DividesIn}
+use Rattle.cq_fourier.proofs.Bounds.{not_zero}
 
 -- ---- values
 
@@ -35,17 +35,10 @@ over_is : (k : ℚ) (s : List Entry) → products_of (over k s) ≡ scaled_produ
 over_is k [] = refl
 over_is k (m ∷ s) = ap₂ (λ p t. p ∷ t) (product_same _ _ refl (mul_comm m.factor (inv_ℚ k))) (over_is k s)
 
-is_zero-not : (q : ℚ) → q ≢ 0ℚ → is_zero q ≡ false
-is_zero-not q n = go (is_zero q) refl
-  where
-    go : (b : Bool) → is_zero q ≡ b → b ≡ false
-    go true e = absurd (n (is_zero-true q e))
-    go false e = refl
-
 -- a multiple has no zero to leave away
 all_stay : (low : ℕ) (k : ℚ) (s : List Monomial) → k ≢ 0ℚ → IsSumFrom low s → scaled_products k s ≡ without_zeros (scaled_products k s)
 all_stay low k [] n o = refl
-all_stay low k (m ∷ s) n o = go (is_zero (k *ℚ m.factor)) (is_zero-not (k *ℚ m.factor) (λ e. o.1 (product_zero k m.factor n e))) (all_stay (suc m.variable) k s n o.2)
+all_stay low k (m ∷ s) n o = go (is_zero (k *ℚ m.factor)) (not_zero (k *ℚ m.factor) (λ e. o.1 (product_zero k m.factor n e))) (all_stay (suc m.variable) k s n o.2)
   where
     go : (b : Bool) → b ≡ false → scaled_products k s ≡ without_zeros (scaled_products k s)
         → scaled_products k (m ∷ s) ≡ cond (not b) (record { variable = m.variable; factor = k *ℚ m.factor } ∷ without_zeros (scaled_products k s)) (without_zeros (scaled_products k s))

@@ -1,21 +1,22 @@
 use Rattle.std.proofs.Common.{rules, ◌≡◌, inl, [], ◌∷◌, ◌++◌, Err, refl, ap, subst, ◌∙◌}
 use Rattle.spec_rational.specs.Rational.{neg_ℚ, IsPositive}
+use Rattle.spec_rational.proofs.Sign.{not_pos_zero}
 use Rattle.spec_linear.specs.Form.{is_zero}
 use Rattle.spec_projection.specs.Elimination.{coefficient, is_positive}
 use Rattle.spec_projection.proofs.Mentions.{unmentioned_factor}
 use Rattle.cq_fourier.specs.Sides.{over_number, over_coefficient}
 use Rattle.cq_frac.proofs.Exits.{refusal_told}
-use Rattle.cq_fourier.proofs.Bounds.{positive_not_zero, negative_not_zero, tests_lower, tests_upper, tests_other, passes, fails, passes_itself, fails_itself}
+use Rattle.cq_fourier.proofs.Bounds.{negative_not_zero, tests_lower, tests_upper, tests_other, passes, fails, passes_itself, fails_itself}
 use Rattle.cq_fourier.proofs.Quotients.{divides_by}
 use Rattle.cq_fourier.proofs.Sides.push.Goals as goal
 use Rattle.cq_fourier.proofs.Sides.push.Goals.{in-Other+in_ok-copy-in-Other+in_ok-push-in-Other, in-Lower+in_ok-bound-in-Lower+in_ok-push-in-Lower, in-Upper+in_ok-bound-in-Upper+in_ok-push-in-Upper}
 
 pub divided_row-requires : goal.divided_row-requires
-divided_row-requires c = record { nonzero = positive_not_zero c.in-Lower.factor c.in-Lower.ensures.1 }
+divided_row-requires c = record { nonzero = λ z. not_pos_zero (subst IsPositive z c.in-Lower.ensures.1) }
 
 pub returns-in_err-bound-in-Lower-clause-overflow : goal.returns-in_err-bound-in-Lower-clause-overflow
 returns-in_err-bound-in-Lower-clause-overflow c = λ pair e.
-    divides_by c.args.variable.0 c.args.row.now c.in-Lower.factor (c.args.row.now ∷ []) pair c.in-Lower.ensures.0 (positive_not_zero c.in-Lower.factor c.in-Lower.ensures.1) (inl refl)
+    divides_by c.args.variable.0 c.args.row.now c.in-Lower.factor (c.args.row.now ∷ []) pair c.in-Lower.ensures.0 (λ z. not_pos_zero (subst IsPositive z c.in-Lower.ensures.1)) (inl refl)
     (c.in_err-bound-in-Lower.ensures.overflow pair (ap Err (refusal_told _ _ pair c.from_residual-in_err-bound-in-Lower.ensures.1 e)))
 
 pub divided_row-requires-in-Upper : goal.divided_row-requires-in-Upper
