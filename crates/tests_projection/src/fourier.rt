@@ -1,0 +1,149 @@
+// Eliminations worked by hand.
+use cq_form::{Constraint, Form};
+use cq_fourier::eliminated;
+use cq_fourier::next::{Elimination, next_of};
+use cq_frac::{Frac, Operation, Refusal, VarId};
+use spec_linear::Relation;
+use std::alloc::{AllocError, Global};
+use std::test::Fail;
+
+const M: i128 = 170141183460469231731687303715884105727;
+
+// A relation, variables with numerator and denominator of their coefficients, and those of the constant.
+type Given<'a> = (Relation, &'a [(usize, i128, i128)], i128, i128);
+
+fn number(n: i128, d: i128) -> Frac {
+    Frac::new(n, d).unwrap_or(Frac::zero())
+}
+
+fn variable(alloc: Global, x: usize) -> Result<Form, AllocError> {
+    Form::new(alloc, Frac::zero(), &[(VarId(x), Frac::one())])
+}
+
+fn row(alloc: Global, given: &Given) -> Result<Constraint, Refusal> {
+    let mut form = Form::new(alloc, number(given.2, given.3), &[])?;
+    for (x, n, d) in given.1 {
+        form = form.add(&variable(alloc, *x)?.scale(number(*n, *d))?)?;
+    }
+    Ok(Constraint {
+        relation: given.0,
+        form,
+    })
+}
+
+fn rows(alloc: Global, given: &[Given]) -> Result<Vec<Constraint>, Refusal> {
+    let mut rows = Vec::new(alloc);
+    for one in given {
+        rows.push(row(alloc, one)?)?;
+    }
+    Ok(rows)
+}
+
+fn is_given(row: &Constraint, given: &Given) -> bool {
+    let mut same = row.relation == given.0
+        && row.form.entries().len() == given.1.len()
+        && row.form.constant().parts() == (given.2, given.3);
+    for (entry, want) in row.form.entries().iter().zip(given.1) {
+        same = same && entry.quantity == want.0 && entry.factor.parts() == (want.1, want.2);
+    }
+    same
+}
+
+fn are_given(rows: &[Constraint], given: &[Given]) -> bool {
+    let mut same = rows.len() == given.len();
+    for (row, want) in rows.iter().zip(given) {
+        same = same && is_given(row, want);
+    }
+    same
+}
+
+fn is_refused(
+    fault: Option<Refusal>,
+    operation: Operation,
+    left: (i128, i128),
+    right: (i128, i128),
+) -> bool {
+    match fault {
+        None | Some(Refusal::NoMemory) => false,
+        Some(Refusal::Overflow(pair)) => {
+            pair.operation == operation && pair.left.parts() == left && pair.right.parts() == right
+        }
+    }
+}
+
+fn counts(next: Option<Elimination>) -> Option<(usize, usize, usize, usize)> {
+    let next = next?;
+    Some((next.variable.0, next.lower, next.upper, next.others))
+}
+
+// X, Y and Z are 0, 1 and 2: Y =< Z =< X, 1 < 2*Z, 0 =< Y, 3*Z =< 6
+const BETWEEN: [Given; 5] = [
+    (Relation::Ge, &[(1, -1, 1), (2, 1, 1)], 0, 1),
+    (Relation::Ge, &[(0, 1, 1), (2, -1, 1)], 0, 1),
+    (Relation::Gt, &[(2, 2, 1)], -1, 1),
+    (Relation::Ge, &[(1, 1, 1)], 0, 1),
+    (Relation::Ge, &[(2, -3, 1)], 6, 1),
+];
+
+// X =< Z, Y < Z, 0 =< X
+const ABOVE: [Given; 3] = [
+    (Relation::Ge, &[(0, -1, 1), (2, 1, 1)], 0, 1),
+    (Relation::Gt, &[(1, -1, 1), (2, 1, 1)], 0, 1),
+    (Relation::Ge, &[(0, 1, 1)], 0, 1),
+];
+
+#[test]
+fn each_lower_row_meets_each_upper_one(rt: HostRuntime) -> Result<(), Fail> {
+    let want: [Given; 5] = [
+        (Relation::Ge, &[(1, 1, 1)], 0, 1),
+        (Relation::Ge, &[(0, 1, 1), (1, -1, 1)], 0, 1),
+        (Relation::Ge, &[(1, -1, 1)], 2, 1),
+        (Relation::Gt, &[(0, 1, 1)], -1, 2),
+        (Relation::Gt, &[], 3, 2),
+    ];
+    let left = eliminated(rt.alloc(), &rows(rt.alloc(), &BETWEEN)?, VarId(2))?;
+    assert!(rt; are_given(&left, &want), "{left:?}");
+    Ok(())
+}
+
+#[test]
+fn rows_of_one_side_fall_away(rt: HostRuntime) -> Result<(), Fail> {
+    let want: [Given; 1] = [(Relation::Ge, &[(0, 1, 1)], 0, 1)];
+    let left = eliminated(rt.alloc(), &rows(rt.alloc(), &ABOVE)?, VarId(2))?;
+    assert!(rt; are_given(&left, &want), "{left:?}");
+    let same = eliminated(rt.alloc(), &rows(rt.alloc(), &ABOVE)?, VarId(9))?;
+    assert!(rt; are_given(&same, &ABOVE), "{same:?}");
+    Ok(())
+}
+
+#[test]
+fn a_refusal_names_the_quotient_or_the_difference(rt: HostRuntime) -> Result<(), Fail> {
+    // 2*Z >= Y/M: 1/M by 2
+    let fine: [Given; 1] = [(Relation::Ge, &[(1, -1, M), (2, 2, 1)], 0, 1)];
+    let quotient = eliminated(rt.alloc(), &rows(rt.alloc(), &fine)?, VarId(2)).err();
+    assert!(rt; is_refused(quotient, Operation::Quotient, (-1, M), (2, 1)));
+    // -M =< Z =< M
+    let wide: [Given; 2] = [
+        (Relation::Ge, &[(2, 1, 1)], M, 1),
+        (Relation::Ge, &[(2, -1, 1)], M, 1),
+    ];
+    let difference = eliminated(rt.alloc(), &rows(rt.alloc(), &wide)?, VarId(2)).err();
+    assert!(rt; is_refused(difference, Operation::Difference, (M, 1), (-M, 1)));
+    Ok(())
+}
+
+#[test]
+fn the_variable_with_the_fewest_pairs_comes_next(rt: HostRuntime) -> Result<(), Fail> {
+    let between = rows(rt.alloc(), &BETWEEN)?;
+    let (x, y, z) = (VarId(0), VarId(1), VarId(2));
+    assert!(rt; counts(next_of(&between, &[z, y, x])) == Some((0, 1, 0, 4)));
+    assert!(rt; counts(next_of(&between, &[y, z])) == Some((1, 1, 1, 3)));
+    assert!(rt; counts(next_of(&between, &[VarId(7), z])) == Some((2, 2, 2, 1)));
+    let four = next_of(&between, &[z]);
+    assert!(rt; four.is_some_and(|next| next.pairs() == 4 && next.rows() == 5));
+    // of two with as many pairs the older one, and none where none stands in the rows
+    let above = rows(rt.alloc(), &ABOVE)?;
+    assert!(rt; counts(next_of(&above, &[z, y])) == Some((1, 0, 1, 2)));
+    assert!(rt; next_of(&above, &[VarId(3)]).is_none());
+    Ok(())
+}
