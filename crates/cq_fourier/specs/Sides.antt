@@ -16,10 +16,6 @@ IsSide x c (Lower k) = (k ≡ coefficient x c) × IsPositive k
 IsSide x c (Upper k) = (k ≡ coefficient x c) × IsPositive (neg_ℚ k)
 IsSide x c Other = Mentions x c.form.products → ⊥
 
--- the variable of an entry, with its coefficient
-abbrev pub pair_of : Entry → VarId × ℚ
-pair_of m = (record { 0 = m.quantity }, m.factor)
-
 -- the row by a number
 abbrev pub over_number : ℚ → Constraint → Constraint
 over_number k c = record { relation = c.relation; form = scaled_form (inv_ℚ k) c.form }

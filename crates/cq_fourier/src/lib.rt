@@ -10,7 +10,8 @@ ghost use Rattle.spec_linear.specs.Form.{scaled_form};
 ghost use Rattle.spec_projection.specs.Elimination.{coefficient, lower_rows, upper_rows, other_rows, eliminated as eliminated_from};
 ghost use Rattle.spec_limits.specs.Overflow.{Moment, OverflowDue};
 ghost use Rattle.cq_frac.specs.declared.Pair.{Pair};
-ghost use Rattle.cq_fourier.specs.Sides.{IsSide, pair_of, over_number, over_coefficient, between, crossed};
+ghost use Rattle.cq_form.specs.Entries.{entry_of};
+ghost use Rattle.cq_fourier.specs.Sides.{IsSide, over_number, over_coefficient, between, crossed};
 ghost use Rattle.cq_fourier.specs.Steps.{IsQuotientOf, DividesIn, CombinesWith, CombinesIn, AreRowsOf};
 
 use cq_form::{Constraint, Form};
@@ -52,12 +53,13 @@ pub(crate) fn side_of(row: &Constraint, variable: VarId) -> Side
 
 /// The entries as variables with their coefficients.
 fn pairs_of(alloc: Global, entries: &[Entry]) -> Result<Vec<(VarId, Frac)>, AllocError>
-    ensures { IfOk result (λ r. r.items ≡ map pair_of entries.now) }
+    ensures { IfOk result (λ r. map entry_of r.items ≡ entries.now) }
 {
-    entries
-        .iter()
-        .map(|entry| (VarId(entry.quantity), entry.factor))
-        .collect(alloc)
+    let mut pairs = Vec::new(alloc);
+    'entries: for entry in entries {
+        pairs.push((VarId(entry.quantity), entry.factor))?;
+    }
+    Ok(pairs)
 }
 
 /// Each number of the form by the divisor.

@@ -13,6 +13,7 @@ use Rattle.cq_dict.specs.declared.table.Role.TheVariants.{Live, Dropped, Basic}
 use Rattle.cq_dict.specs.Roles.{IsAt, AreOverColumns, is_restricted, role_at}
 use Rattle.cq_dict.proofs.Roles.{role_is, factor_is}
 use Rattle.cq_row.proofs.Units.{no_entry}
+use Rattle.cq_row.proofs.Steps.{has_end}
 use Rattle.cq_simplex.specs.Dictionary.{dictionary}
 use Rattle.cq_simplex.proofs.Entries.{entry_or_lacks, free_is, none_free}
 use Rattle.cq_level.specs.declared.choosing.Candidate.{Candidate}
@@ -78,12 +79,6 @@ pub record IsLightestOf (roles : List Role) (flags : List Bool) (s : List Entry)
 
 abbrev pub AreLightest : List Role → List Bool → List Entry → Option Candidate → Type 0
 AreLightest roles flags s found = MatchOption found ((n : Entry) → Has n s → is_restricted flags n.quantity ≡ true) (IsLightestOf roles flags s)
-
-has_end : (s : List Entry) (n m : Entry) → Has n (s ++ m ∷ []) → Has n s ⊎ (n ≡ m)
-has_end [] n m (inl e) = inr e
-has_end [] n m (inr h) = absurd h
-has_end (x ∷ s) n m (inl e) = inl (inl e)
-has_end (x ∷ s) n m (inr h) = elim (has_end s n m h) [ inl k ↦ inl (inr k) | inr e ↦ inr e ]
 
 has_left : (s : List Entry) (n m : Entry) → Has n s → Has n (s ++ m ∷ [])
 has_left [] n m h = absurd h

@@ -4,7 +4,7 @@ use Rattle.std.specs.Prelude.{bytes_eq, not, Vec, IfSome, IfOk}
 use Rattle.std.specs.declared.alloc.Global.{Global}
 use Rattle.std.specs.declared.cmp.Ordering.{Ordering}
 use Rattle.std.specs.declared.cmp.Ordering.TheVariants.{Less, Equal, Greater}
-use Rattle.std.proofs.lemmas.Bool.{cases_eq, eq-eqb, ne_eqb}
+use Rattle.std.proofs.lemmas.Bool.{cases_eq, eq-eqb, ne_eqb, false_from_ne_true}
 use Rattle.std.proofs.lemmas.Str.{encodes-chars, encodes_same}
 use Rattle.std.proofs.lemmas.Slice.Eq.{bytes_eq-Decides}
 use Rattle.std.proofs.lemmas.Int.{to_z-of_z, ints}
@@ -29,7 +29,6 @@ use Rattle.spec_built.specs.Kinds.{is_variable, is_name}
 use Rattle.spec_built.specs.Errors.{instantiation, type_error}
 use Rattle.cq_text.specs.Arguments.{IsAsked, IsAskedText, atom_tests}
 use Rattle.cq_text.specs.declared.sought.Wanted.TheVariants as wanted
-use Rattle.cq_text.proofs.Rows.{not_true}
 
 pub if_some : {A : Type 0} {P Q : A → Type 0} (o : Option A) → IfSome o P → ((x : A) → P x → Q x) → IfSome o Q
 if_some None h f = tt
@@ -51,7 +50,7 @@ same_is : (t u : Tree) → t ≡ u → same_term t u ≡ true
 same_is t u e = ap (allows Same) (compare_terms-itself t u e)
 
 same_other : (t u : Tree) → (t ≡ u → ⊥) → same_term t u ≡ false
-same_other t u n = not_true (same_term t u) (λ e. n (same_means t u e))
+same_other t u n = false_from_ne_true (same_term t u) (λ e. n (same_means t u e))
 
 -- ---- numbers
 

@@ -1,15 +1,11 @@
 -- What a test keeps of counted things, and of the places of parts.
 use Rattle.std.proofs.Common.{◌≡◌, ℕ, zero, suc, ◌+◌, ◌-◌, ◌<◌, ◌≤◌, arith, List, [], ◌∷◌, ◌++◌, map, length, filter, flat_map, Bool, true, false, cond, refl, sym, ap, ap₂, ◌∙◌, inl, inr}
-use Rattle.std.proofs.lemmas.Bool.{cases_eq}
+use Rattle.std.proofs.lemmas.Bool.{cases_eq, false_from_ne_true}
 use Rattle.std.proofs.lemmas.List.Elements.{filter-append}
 use Rattle.spec_terms.specs.Variables.{counted_from}
 use Rattle.cq_text.specs.Places.{place, fits, row, places_from, all_places}
 use Rattle.cq_text.specs.declared.sought.Place.{Place}
 use Rattle.cq_text.specs.declared.sought.Sought.{Sought}
-
-pub not_true : (b : Bool) → (b ≡ true → ⊥) → b ≡ false
-not_true true h = absurd (h refl)
-not_true false h = refl
 
 module _ {A : Type 0} (p : A → Bool) where
   pub keeps : (x : A) (xs : List A) → p x ≡ true → filter p (x ∷ xs) ≡ x ∷ filter p xs
@@ -21,7 +17,7 @@ module _ {A : Type 0} (p : A → Bool) where
   pub none_counted : (f : ℕ → A) (m k : ℕ) → ((j : ℕ) → m ≤ j → j < m + k → p (f j) ≡ true → ⊥) → filter p (map f (counted_from m k)) ≡ []
   none_counted f m zero h = refl
   none_counted f m (suc k) h =
-      drops (f m) (map f (counted_from (suc m) k)) (not_true (p (f m)) (h m (omega arith) (omega arith)))
+      drops (f m) (map f (counted_from (suc m) k)) (false_from_ne_true (p (f m)) (h m (omega arith) (omega arith)))
       ∙ none_counted f (suc m) k (λ j l u. h j (omega arith) (omega arith))
 
   pub first_counted : (f : ℕ → A) (m k n : ℕ) → m ≤ n → n < m + k → ((j : ℕ) → m ≤ j → j < n → p (f j) ≡ true → ⊥) → p (f n) ≡ true
@@ -35,7 +31,7 @@ module _ {A : Type 0} (p : A → Bool) where
         ∙ ap₂ (λ x xs. x ∷ filter p (map f xs)) (ap f same) (ap₂ counted_from next left))
     | inr other ↦ (
         let left : suc m + k - (n + 1) ≡ m + suc k - (n + 1) = omega arith in
-        drops (f m) (map f (counted_from (suc m) k)) (not_true (p (f m)) (h m (omega arith) (omega arith)))
+        drops (f m) (map f (counted_from (suc m) k)) (false_from_ne_true (p (f m)) (h m (omega arith) (omega arith)))
         ∙ first_counted f (suc m) k n (omega arith) (omega arith) (λ j a b. h j (omega arith) b) e
         ∙ ap (λ i. f n ∷ filter p (map f (counted_from (n + 1) i))) left)
   ]

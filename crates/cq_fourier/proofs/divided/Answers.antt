@@ -1,9 +1,11 @@
 use Rattle.std.proofs.Common.{◌∙◌, Err, ap, subst}
+use Rattle.std.specs.Prelude.{map}
 use Rattle.spec_rational.specs.Rational.{ℚ, ◌/ℚ◌}
 use Rattle.spec_limits.specs.Overflow.{of_constant}
 use Rattle.cq_frac.specs.declared.Operation.TheVariants.{Quotient}
 use Rattle.cq_frac.specs.Refused.{Tells}
 use Rattle.cq_frac.proofs.Exits.{pair_told, refusal_told}
+use Rattle.cq_form.specs.Entries.{entry_of}
 use Rattle.cq_fourier.proofs.Quotients.{divided_is, divided_in_order, quotient_told, entry_told}
 use Rattle.cq_fourier.proofs.divided.Goals as goal
 
@@ -24,7 +26,7 @@ new-requires c = record {
   in_order =
       divided_in_order c.args.divisor c.args.form.now c.entries.result.now c.deref.result.now c.deref-2.result.now c.in_ok-constant.constant c.requires.nonzero
       c.entries.ensures.in_order c.entries.ensures.value (c.deref.ensures.value ∙ c.in_ok-entries.ensures.value)
-      (c.deref-2.ensures.value ∙ c.in_ok-pairs.ensures) (c.in_ok-constant.ensures.0 ∙ ap (λ q. q /ℚ c.args.divisor) c.constant.ensures);
+      (ap (map entry_of) c.deref-2.ensures.value ∙ c.in_ok-pairs.ensures) (c.in_ok-constant.ensures.0 ∙ ap (λ q. q /ℚ c.args.divisor) c.constant.ensures);
 }
 
 pub returns-clause-value : goal.returns-clause-value
@@ -32,4 +34,4 @@ returns-clause-value c =
     c.in_ok-new.ensures
     ∙ divided_is c.args.divisor c.args.form.now c.entries.result.now c.deref.result.now c.deref-2.result.now c.in_ok-constant.constant c.requires.nonzero
     c.entries.ensures.in_order c.entries.ensures.value (c.deref.ensures.value ∙ c.in_ok-entries.ensures.value)
-    (c.deref-2.ensures.value ∙ c.in_ok-pairs.ensures) (c.in_ok-constant.ensures.0 ∙ ap (λ q. q /ℚ c.args.divisor) c.constant.ensures)
+    (ap (map entry_of) c.deref-2.ensures.value ∙ c.in_ok-pairs.ensures) (c.in_ok-constant.ensures.0 ∙ ap (λ q. q /ℚ c.args.divisor) c.constant.ensures)
