@@ -1,0 +1,80 @@
+-- The marks of a world during a settling.
+use Rattle.std.proofs.Common.{◌≡◌, ◌<◌, ℕ, suc, ◌+◌, List, [], ◌∷◌, ◌++◌, map, length, take, Option, Some, refl, sym, ap, ap₂, ◌∙◌, subst, arith}
+use Rattle.std.specs.Prelude.{slice_get}
+use Rattle.std.specs.List.{zip}
+use Rattle.std.proofs.lemmas.List.{take_at, length-append}
+use Rattle.spec_linear.specs.Solution.{Constraint}
+use Rattle.cq_attr.specs.Attributes.{Attributes}
+use Rattle.cq_linear.specs.StoreValue.{kept}
+use Rattle.cq_term.specs.HeapValue.{Terms}
+use Rattle.cq_term.proofs.Kept.{get_last}
+use Rattle.cq_world.specs.Contents.{Contents, contents_of}
+use Rattle.cq_world.specs.Worlds.{now_of, saved_of}
+use Rattle.cq_world.specs.declared.world.World.{World}
+use Rattle.cq_settle.specs.Settled.{KeepsMarks}
+
+abbrev all_of : ℕ → List Terms → List Attributes → List (List Constraint) → List Contents
+all_of n hs as_ ts = map contents_of (zip hs (zip as_ (map (kept n) ts)))
+
+heaps : (n : ℕ) (hs : List Terms) (bs : List Attributes) (ts : List (List Constraint)) → length bs ≡ length hs → length ts ≡ length hs → map (λ (c : Contents). c.heap) (all_of n hs bs ts) ≡ hs
+heaps n [] bs ts e f = refl
+heaps n (h ∷ hs) [] ts e f = absurd (omega (arith, e))
+heaps n (h ∷ hs) (b ∷ bs) [] e f = absurd (omega (arith, f))
+heaps n (h ∷ hs) (b ∷ bs) (t ∷ ts) e f = ap (λ (xs : List Terms). h ∷ xs) (heaps n hs bs ts (omega (arith, e)) (omega (arith, f)))
+
+all_attrs : (n : ℕ) (hs : List Terms) (bs : List Attributes) (ts : List (List Constraint)) → length bs ≡ length hs → length ts ≡ length hs → map (λ (c : Contents). c.attrs) (all_of n hs bs ts) ≡ bs
+all_attrs n [] [] ts e f = refl
+all_attrs n [] (b ∷ bs) ts e f = absurd (omega (arith, e))
+all_attrs n (h ∷ hs) [] ts e f = absurd (omega (arith, e))
+all_attrs n (h ∷ hs) (b ∷ bs) [] e f = absurd (omega (arith, f))
+all_attrs n (h ∷ hs) (b ∷ bs) (t ∷ ts) e f = ap (λ (xs : List Attributes). b ∷ xs) (all_attrs n hs bs ts (omega (arith, e)) (omega (arith, f)))
+
+lists : (n : ℕ) (hs : List Terms) (bs : List Attributes) (ts : List (List Constraint)) → length bs ≡ length hs → length ts ≡ length hs → map (λ (c : Contents). c.told) (all_of n hs bs ts) ≡ ts
+lists n [] bs [] e f = refl
+lists n [] bs (t ∷ ts) e f = absurd (omega (arith, f))
+lists n (h ∷ hs) [] ts e f = absurd (omega (arith, e))
+lists n (h ∷ hs) (b ∷ bs) [] e f = absurd (omega (arith, f))
+lists n (h ∷ hs) (b ∷ bs) (t ∷ ts) e f = ap (λ (xs : List (List Constraint)). t ∷ xs) (lists n hs bs ts (omega (arith, e)) (omega (arith, f)))
+
+-- the marks of the parts are those of the world
+pub parts_same : (v w : World) → saved_of w ≡ saved_of v → w.store.pivots ≡ v.store.pivots → KeepsMarks v w
+parts_same v w e f = record {
+  heap = sym (heaps w.store.pivots w.heap.saved w.attrs.saved w.store.saved w.attrs_together w.store_together)
+      ∙ ap (map (λ (c : Contents). c.heap)) e ∙ heaps v.store.pivots v.heap.saved v.attrs.saved v.store.saved v.attrs_together v.store_together;
+  attrs = sym (all_attrs w.store.pivots w.heap.saved w.attrs.saved w.store.saved w.attrs_together w.store_together)
+      ∙ ap (map (λ (c : Contents). c.attrs)) e ∙ all_attrs v.store.pivots v.heap.saved v.attrs.saved v.store.saved v.attrs_together v.store_together;
+  store = sym (lists w.store.pivots w.heap.saved w.attrs.saved w.store.saved w.attrs_together w.store_together)
+      ∙ ap (map (λ (c : Contents). c.told)) e ∙ lists v.store.pivots v.heap.saved v.attrs.saved v.store.saved v.attrs_together v.store_together;
+  pivots = f;
+}
+
+pub same_saved : (v w : World) → KeepsMarks v w → saved_of w ≡ saved_of v
+same_saved v w k =
+    ap₂ (λ (n : ℕ) (p : List Terms × (List Attributes × List (List Constraint))). all_of n p.0 p.1.0 p.1.1) k.pivots (λ i. (k.heap i, (k.attrs i, k.store i)))
+
+pub marks_then : (u v w : World) → KeepsMarks u v → KeepsMarks v w → KeepsMarks u w
+marks_then u v w j k = record { heap = k.heap ∙ j.heap; attrs = k.attrs ∙ j.attrs; store = k.store ∙ j.store; pivots = k.pivots ∙ j.pivots }
+
+-- from the world at a mark, over one that has its marks, back to the mark or on without it
+module _ (old marked ran : World) (n : ℕ) (number : n ≡ length (saved_of old)) (saved : saved_of marked ≡ saved_of old ++ now_of old ∷ []) (now : now_of marked ≡ now_of old)
+    (runs : KeepsMarks marked ran) where
+  saved_then : saved_of ran ≡ saved_of old ++ now_of old ∷ []
+  saved_then = same_saved marked ran runs ∙ saved
+
+  pub mark_lives : n < length (saved_of ran)
+  mark_lives = omega (arith, number, ap length saved_then ∙ length-append (saved_of old) (now_of old ∷ []))
+
+  taken : (end : World) → saved_of end ≡ take n (saved_of ran) → saved_of end ≡ saved_of old
+  taken end e = e ∙ ap₂ take number saved_then ∙ take_at (saved_of old) (now_of old ∷ []) (length (saved_of old)) refl
+
+  some_same : {A : Type 0} (x y : A) → Some x ≡ Some y → x ≡ y
+  some_same x y e = cc
+
+  pub went_back : (end : World) → slice_get (saved_of ran) n ≡ Some (now_of end) → now_of end ≡ now_of old
+  went_back end e = sym (some_same (now_of old) (now_of end) (sym (get_last (saved_of old) (now_of old)) ∙ ap₂ slice_get (sym saved_then) (sym number) ∙ e))
+
+  pub marks_back : (end : World) → slice_get (saved_of ran) n ≡ Some (now_of end) → saved_of end ≡ take n (saved_of ran) → KeepsMarks old end
+  marks_back end e f = parts_same old end (taken end f) (ap (λ (c : Contents). c.pivots) (went_back end e))
+
+  pub marks_on : (end : World) → now_of end ≡ now_of ran → saved_of end ≡ take n (saved_of ran) → KeepsMarks old end
+  marks_on end e f = parts_same old end (taken end f) (ap (λ (c : Contents). c.pivots) e ∙ runs.pivots ∙ ap (λ (c : Contents). c.pivots) now)
