@@ -15,6 +15,7 @@ use Rattle.spec_stops.specs.Settlings.{IsSettlingMoment}
 use Rattle.cq_frac.specs.declared.Pair.{Pair}
 use Rattle.cq_term.specs.Trees.{tree, trees}
 use Rattle.cq_world.specs.Contents.{Contents}
+use Rattle.cq_world.specs.Worlds.{room_of}
 use Rattle.cq_world.specs.Rest.{IsReadyAs}
 use Rattle.cq_world.specs.declared.world.World.{World}
 use Rattle.cq_settle.specs.declared.settling.Settled.{Settled}
@@ -68,9 +69,10 @@ pub record MayTake (st : State) (p : Pending) (n : ℕ) : Type 0 where
   pub of_settling : IsSettlingMoment st p moment
   pub chain : IsBlandChain moment n
 
--- the marks and the budget of exchanges stay
+-- the marks and the budget of exchanges stay, and no mark loses the memory that was set aside for it
 pub record KeepsMarks (old new : World) : Type 0 where
   pub heap : new.heap.saved ≡ old.heap.saved
   pub attrs : new.attrs.saved ≡ old.attrs.saved
   pub store : new.store.saved ≡ old.store.saved
   pub pivots : new.store.pivots ≡ old.store.pivots
+  pub room : room_of old ≤ room_of new

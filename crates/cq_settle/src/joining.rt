@@ -65,6 +65,7 @@ fn watch_all(attrs: &mut Attrs, woken: &[SuspNo], image: VarId) -> Result<(), Al
     requires { All (λ n. Contains (numbers attrs.old.now.waiting) n) woken.now }
     ensures watch { OnOk result (AllWatch woken.now image.0 attrs.old.now attrs.new.now) }
     ensures saved { attrs.new.saved ≡ attrs.old.saved }
+    ensures room { attrs.old.room ≤ attrs.new.room }
 {
     for &number in woken {
         attrs.watch(number, &[image])?;
@@ -120,6 +121,7 @@ pub(crate) fn join_rows(
     ensures overflow { (pair : Pair) → result ≡ Err (Overflow pair) → StopsAt (Refuses pair) store.old.told rows.now }
     ensures pivots { (n : ℕ) → result ≡ Err (Pivots n) → (n ≡ store.old.pivots) × StopsAt (Takes n) store.old.told rows.now }
     ensures saved { store.new.saved ≡ store.old.saved }
+    ensures room { store.old.room ≤ store.new.room }
     ensures budget { store.new.pivots ≡ store.old.pivots }
 {
     for row in rows {
@@ -143,6 +145,7 @@ fn join(
     ensures overflow { (pair : Pair) → result ≡ Err (Overflow pair) → Refuses pair store.old.told constraint }
     ensures pivots { (n : ℕ) → result ≡ Err (Pivots n) → (n ≡ store.old.pivots) × Takes n store.old.told constraint }
     ensures saved { store.new.saved ≡ store.old.saved }
+    ensures room { store.old.room ≤ store.new.room }
     ensures budget { store.new.pivots ≡ store.old.pivots }
 {
     match store.tell(constraint)? {
@@ -234,6 +237,7 @@ fn make_each_numeric(
     ensures told { OnOk result (fixed.new.items ≡ fixed.old.items ++ variables.now) }
     ensures waiting { attrs.new.now.waiting ≡ attrs.old.now.waiting }
     ensures saved { attrs.new.saved ≡ attrs.old.saved }
+    ensures room { attrs.old.room ≤ attrs.new.room }
 {
     for &variable in variables {
         attrs.set_numeric(variable)?;

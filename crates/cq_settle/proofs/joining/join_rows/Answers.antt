@@ -10,7 +10,7 @@ split : (rows : List Constraint) (i : Rattle.std.specs.Prelude.ℕ) (row : Const
 split rows i row l e = sym (take-append-drop i rows) ∙ ap (λ (rs : List Constraint). take i rows ++ rs) (drop_more rows i row l) ∙ ap (λ (r : Constraint). take i rows ++ r ∷ drop (i + 1) rows) (sym e)
 
 pub loop-row-init : goal.loop-row-init
-loop-row-init c = record { joined = joins_nothing c.args.store.now.told c.args.fixed.now.items; saved = refl; budget = refl }
+loop-row-init c = record { joined = joins_nothing c.args.store.now.told c.args.fixed.now.items; saved = refl; room = omega arith; budget = refl }
 
 pub loop-row-preserved : goal.loop-row-preserved
 loop-row-preserved c =
@@ -24,5 +24,6 @@ loop-row-preserved c =
           (one_more_joins c.args.store.now.told c.loop-row.store.told c.join.new.store.told (take i rows) c.in_ok-row.row c.args.fixed.now.items c.loop-row.fixed.items c.join.new.fixed.items
           c.loop-row.invariant.joined c.if-not-join.ensures.joined);
       saved = c.join.ensures.saved ∙ c.loop-row.invariant.saved;
+      room = omega arith;
       budget = c.join.ensures.budget ∙ c.loop-row.invariant.budget;
     }

@@ -16,6 +16,7 @@ loop-variable-preserved c =
       told = each_told vs i d at c.loop-variable.fixed.items c.args.fixed.now.items c.push.new.self.items c.loop-variable.invariant.told c.in_ok-push.ensures.items;
       waiting = ap (λ (a : Attributes). a.waiting) c.in_ok-set_numeric.ensures.ok ∙ c.loop-variable.invariant.waiting;
       saved = c.set_numeric.ensures.saved ∙ c.loop-variable.invariant.saved;
+      room = omega arith;
     }
 
 pub returns-clause-numeric : goal.returns-clause-numeric

@@ -1,4 +1,4 @@
-use Rattle.std.proofs.Common.{◌≡◌, ℕ, ◌||◌, ◌++◌, take}
+use Rattle.std.proofs.Common.{◌≡◌, ◌≤◌, ℕ, ◌||◌, ◌++◌, take}
 use Rattle.std.specs.Prelude.{◌==◌}
 use Rattle.std.specs.List.{list_any}
 use Rattle.cq_attr.specs.Attributes.{is_numeric}
@@ -11,4 +11,5 @@ invariant-loop-variable l = record {
   told : l.fixed.items ≡ l.fn.fixed.items ++ take l.variable-index l.variables;
   waiting : l.attrs.now.waiting ≡ l.fn.attrs.now.waiting;
   saved : l.attrs.saved ≡ l.fn.attrs.saved;
+  room : l.fn.attrs.room ≤ l.attrs.room;
 }

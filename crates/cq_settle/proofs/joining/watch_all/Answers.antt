@@ -8,7 +8,7 @@ use Rattle.cq_settle.proofs.Watch.{none_watch, one_watches, watch_more, still_wa
 use Rattle.cq_settle.proofs.joining.watch_all.Goals as goal
 
 pub loop-number-init : goal.loop-number-init
-loop-number-init c = record { watch = none_watch c.args.image.0 c.args.attrs.now.now; saved = refl }
+loop-number-init c = record { watch = none_watch c.args.image.0 c.args.attrs.now.now; saved = refl; room = omega arith }
 
 pub watch-requires : goal.watch-requires
 watch-requires c =
@@ -27,6 +27,7 @@ loop-number-preserved c =
           (watch_more (take i c.args.woken.now) n c.args.image.0 c.args.attrs.now.now c.loop-number.attrs.now c.watch.new.self.now c.loop-number.invariant.watch
           (one_watches n c.args.image.0 c.loop-number.attrs.now c.watch.new.self.now c.in_ok-watch.ensures.ok));
       saved = c.watch.ensures.saved ∙ c.loop-number.invariant.saved;
+      room = omega arith;
     }
 
 pub returns-clause-watch : goal.returns-clause-watch
