@@ -31,6 +31,8 @@ mod Ways
 mod Idle
 mod Watch
 mod Waking
+mod Again
+mod Ran
 mod Gather
 mod Marks
 mod Marked

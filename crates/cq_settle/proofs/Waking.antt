@@ -1,15 +1,15 @@
 -- The goals that wake, taken one after another.
-use Rattle.std.proofs.Common.{◌≡◌, ◌<◌, ◌≤◌, ℕ, zero, suc, ◌+◌, List, [], ◌∷◌, ◌++◌, map, length, get_or, Bool, true, false, cond, Option, None, Some, refl, sym, ap, ap₂, ◌∙◌, subst, inl, inr, ◌⊎◌, arith}
-use Rattle.std.specs.Prelude.{Contains, filter, not, ◌&&◌, ◌||◌, ◌==◌, is_some, if◌then◌else◌}
+use Rattle.std.proofs.Common.{◌≡◌, ◌<◌, ◌≤◌, ℕ, zero, suc, ◌+◌, List, [], ◌∷◌, ◌++◌, map, length, get_or, take, Bool, true, false, cond, Option, None, Some, refl, sym, ap, ap₂, ◌∙◌, subst, inl, inr, ◌⊎◌, arith}
+use Rattle.std.specs.Prelude.{Contains, All, filter, not, ◌&&◌, ◌||◌, ◌==◌, is_some, if◌then◌else◌}
 use Rattle.std.specs.List.{list_any, filter_map, cons_option}
 use Rattle.std.proofs.lemmas.Bool.{true≢false}
-use Rattle.std.proofs.lemmas.List.Elements.{filter_map-append, Contains-push_cases}
+use Rattle.std.proofs.lemmas.List.Elements.{filter_map-append, filter_passes, All-contains, Contains-get_or}
 use Rattle.spec_lists.proofs.Tests.{nat_eq-same, nat_eq-self, nat_eq-apart}
 use Rattle.cq_attr.specs.Attributes.{Waiting, Attributes, Ascends, numbers, find, IsWokenBy}
 use Rattle.cq_attr.specs.declared.susp.Susp.{Susp}
 use Rattle.cq_attr.proofs.Elements.{contains_here, contains_later, contains_cases, contains_none}
 use Rattle.cq_term.specs.Meaning.{HeapTerm}
-use Rattle.cq_settle.specs.Steps.{goal_that_wakes, waits_for_one, wakes}
+use Rattle.cq_settle.specs.Steps.{WakesOne, goal_that_wakes, unless_given, waits_for_one, wakes}
 use Rattle.cq_settle.proofs.Looked.{has_of_contains}
 use Rattle.cq_settle.proofs.Numeric.{found_any, any_found, contains_of_has}
 use Rattle.cq_settle.proofs.Permuted.{IsOnce, once_rest, once_head}
@@ -110,6 +110,26 @@ pub find_of : (ws : List Waiting) (k : Waiting) → IsOnce (numbers ws) → Cont
 find_of [] k o h = absurd (contains_none k h)
 find_of (w ∷ ws) k o h = find_by w ws k o (λ m. find_of ws k (once_rest w.number (numbers ws) o) m) (contains_cases w ws k h)
 
+-- a number does not stand again before
+pub not_before : (ns : List ℕ) (i d : ℕ) → Ascends ns → i < length ns → Contains (take i ns) (get_or ns i d) → ⊥
+not_before [] i d a l m = omega (arith, l)
+not_before (n ∷ ns) zero d a l m = contains_none n m
+not_before (n ∷ ns) (suc i) d a l m =
+    let l' : i < length ns = omega (arith, l) in
+    elim (contains_cases n (take i ns) (get_or ns i d) m) [
+      | inl e ↦ omega (arith, ascends_head n ns (get_or ns i d) a (Contains-get_or ns i d l'), e)
+      | inr h ↦ not_before ns i d (ascends_rest n ns a) l' h
+    ]
+
+-- what is given or not changes only what waits
+pub given_numeric : (o : Option ℕ) (n : ℕ) (a : Attributes) → (unless_given o n a).numeric ≡ a.numeric
+given_numeric None n a = refl
+given_numeric (Some g) n a = refl
+
+pub given_next : (o : Option ℕ) (n : ℕ) (a : Attributes) → (unless_given o n a).next ≡ a.next
+given_next None n a = refl
+given_next (Some g) n a = refl
+
 -- ---- what was looked at
 
 abbrev pub among : List ℕ → Waiting → Bool
@@ -196,11 +216,37 @@ module _ (images : List HeapTerm) (ws : List Waiting) (ascends : Ascends (number
   given_takes ns n s g f e =
       sym (filter_map-append (λ n. waking images (find ws n)) ns (n ∷ []) ∙ ap (λ (o : Option ℕ). given ns ++ cons_option o []) (ap (waking images) f ∙ e))
 
+  -- one that was looked at, on the way
+  waiting_on : (ns : List ℕ) (n : ℕ) (s : Susp) (a b : Attributes) → find ws n ≡ Some s → a.waiting ≡ left ns → (o : Option ℕ) → goal_that_wakes images s ≡ o → b ≡ unless_given o n a
+      → b.waiting ≡ left (ns ++ n ∷ [])
+  waiting_on ns n s a b f e None i j = ap (λ (x : Attributes). x.waiting) j ∙ e ∙ left_stays ns n s f i
+  waiting_on ns n s a b f e (Some g) i j = ap (λ (x : Attributes). x.waiting) j ∙ ap (filter (is_other n)) e ∙ left_takes ns n s g f i
+
+  given_on : (ns : List ℕ) (n : ℕ) (s : Susp) (before after : List ℕ) → find ws n ≡ Some s → before ≡ given ns → (o : Option ℕ) → goal_that_wakes images s ≡ o
+      → after ≡ before ++ cons_option o [] → after ≡ given (ns ++ n ∷ [])
+  given_on ns n s before after f e None i j = j ∙ nothing before ∙ e ∙ given_stays ns n s f i where
+    nothing : (xs : List ℕ) → xs ++ [] ≡ xs
+    nothing [] = refl
+    nothing (x ∷ xs) = ap (λ ys. x ∷ ys) (nothing xs)
+  given_on ns n s before after f e (Some g) i j = j ∙ ap (λ (xs : List ℕ). xs ++ g ∷ []) e ∙ given_takes ns n s g f i
+
   -- what is found among those that are left is what waited
   pub found_left : (ns : List ℕ) (n : ℕ) (s : Susp) → find (left ns) n ≡ Some s → find ws n ≡ Some s
   found_left ns n s f =
       let r = found_waits (left ns) n s f in
       ap (find ws) (sym r.number) ∙ find_of ws r.waiting once (contains_unfiltered (λ k. not (among ns k && wakes images k)) ws r.waiting r.waits) ∙ ap (λ (x : Susp). Some x) r.is
+
+  pub wake_on : (ns : List ℕ) (n : ℕ) (a b : Attributes) (before after : List ℕ) → WakesOne images n a b before after → a.waiting ≡ left ns → before ≡ given ns
+      → (b.waiting ≡ left (ns ++ n ∷ [])) × (after ≡ given (ns ++ n ∷ []))
+  wake_on ns n a b before after w e i =
+      let f = found_left ns n w.susp (subst (λ (vs : List Waiting). find vs n ≡ Some w.susp) e w.found) in (
+        waiting_on ns n w.susp a b f e (goal_that_wakes images w.susp) refl w.attrs,
+        given_on ns n w.susp before after f i (goal_that_wakes images w.susp) refl w.given,
+      )
+
+  pub left_live : (P : Waiting → Type 0) (ns : List ℕ) → All P ws → All P (left ns)
+  left_live P ns h i d l =
+      All-contains P ws (get_or (left ns) i d) h (contains_unfiltered (λ k. not (among ns k && wakes images k)) ws (get_or (left ns) i d) (Contains-get_or (left ns) i d l))
 
   not_among : (ns : List ℕ) (k : Waiting) → (Contains ns k.number → ⊥) → (b : Bool) → among ns k ≡ b → b ≡ false
   not_among ns k h true e =
@@ -263,8 +309,8 @@ module _ (images : List HeapTerm) (ws : List Waiting) (ascends : Ascends (number
           (waits_for_it bound w.waits_for.waiting w.variable w.is_new w.waits_for.watches))))
         (λ n h. let r = with_number (filter (waits_for_one bound) ws) n h in
           subst (λ (x : ℕ). Contains ns x) r.number (number_of r.waiting (contains_unfiltered (waits_for_one bound) ws r.waiting r.waits)
-          (Rattle.std.proofs.lemmas.List.Elements.All-contains (λ k. waits_for_one bound k ≡ true) (filter (waits_for_one bound) ws) r.waiting
-          (Rattle.std.proofs.lemmas.List.Elements.filter_passes (waits_for_one bound) ws) r.waits)))
+          (All-contains (λ k. waits_for_one bound k ≡ true) (filter (waits_for_one bound) ws) r.waiting
+          (filter_passes (waits_for_one bound) ws) r.waits)))
 
     given_by : (b : Bool) (k : Waiting) (vs : List Waiting) (rest : List ℕ) → find ws k.number ≡ Some k.susp
         → filter_map (λ n. waking images (find ws n)) (numbers vs) ≡ rest

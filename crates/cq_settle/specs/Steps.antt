@@ -1,6 +1,6 @@
 -- What the steps of a settling do to a world.
 use Rattle.std.specs.Prelude.{◌≡◌, ◌≢◌, ◌↔◌, ℕ, ◌<◌, ◌≤◌, List, [], ◌∷◌, ◌++◌, map, filter, length, All, Contains, Bool, true, false, not, ◌&&◌, ◌||◌, ◌==◌, if◌then◌else◌, Option, None, Some, is_some}
-use Rattle.std.specs.List.{AllZip, list_any, filter_map}
+use Rattle.std.specs.List.{AllZip, list_any, filter_map, cons_option}
 use Rattle.spec_rational.specs.Rational.{ℚ}
 use Rattle.spec_linear.specs.declared.Relation.TheVariants.{Eq}
 use Rattle.spec_linear.specs.Form.{Linear, constant_form, variable_form, difference_form}
@@ -14,11 +14,12 @@ use Rattle.cq_term.specs.HeapValue.{Terms}
 use Rattle.cq_term.specs.Meaning.{HeapTerm, at}
 use Rattle.cq_term.specs.Names.{KeepsNames}
 use Rattle.cq_walk.specs.Places.{numbers_of}
-use Rattle.cq_attr.specs.Attributes.{Waiting, Attributes, is_numeric, IsWokenBy}
+use Rattle.cq_attr.specs.Attributes.{Waiting, Attributes, is_numeric, find, without, IsWokenBy}
 use Rattle.cq_attr.specs.declared.susp.Susp.{Susp}
 use Rattle.cq_attr.specs.declared.susp.Susp.TheVariants as susp
 use Rattle.cq_linear.specs.StoreValue.{MayRefuse, MayTake, Only}
 use Rattle.cq_world.specs.Contents.{Contents}
+use Rattle.cq_world.specs.Standing.{constraints}
 
 -- ---- variables that were bound
 
@@ -148,6 +149,13 @@ pub record JoinsAndBinds (c : Contents) (joins : Constraint) (d : Contents) (bef
   pub complete : (v : ℕ) (q : ℚ) → is_numeric c.attrs v ≡ true → at c.heap.images v ≡ Var v → Fixed d.told v q
       → ((r : ℚ) → Fixed c.told v r → ⊥) → values v ≡ Some q
 
+-- variables were bound behind the others, and none where no fewer constraints wait
+pub record HasFewer (c d : Contents) (before after : List VarId) : Type 0 where
+  pub more : List VarId
+  pub list : after ≡ before ++ more
+  pub fewer : length (constraints d.attrs) ≤ length (constraints c.attrs)
+  pub none : length (constraints d.attrs) ≡ length (constraints c.attrs) → after ≡ before
+
 -- ---- goals that wake
 
 abbrev pub is_unbound_term : HeapTerm → Bool
@@ -164,6 +172,18 @@ waits_for_one bound k = list_any (λ v. list_any (λ w. w == v) k.watched) bound
 
 abbrev pub wakes : List HeapTerm → Waiting → Bool
 wakes images k = is_some (goal_that_wakes images k.susp)
+
+-- nothing waits under the number any more, where a goal is given
+abbrev pub unless_given : Option ℕ → ℕ → Attributes → Attributes
+unless_given None n a = a
+unless_given (Some g) n a = without a n
+
+-- what waits under the number, where it is a goal that wakes, is given and waits no more
+pub record WakesOne (images : List HeapTerm) (n : ℕ) (old new : Attributes) (before after : List ℕ) : Type 0 where
+  pub susp : Susp
+  pub found : find old.waiting n ≡ Some susp
+  pub attrs : new ≡ unless_given (goal_that_wakes images susp) n old
+  pub given : after ≡ before ++ cons_option (goal_that_wakes images susp) []
 
 -- of what waits for one of the bound variables, the goals of variables that are none any more are given and wait no more
 pub record WakesAll (c : Contents) (bound : List ℕ) (a : Attributes) (goals : List ℕ) : Type 0 where

@@ -1,24 +1,21 @@
 // The closure: terms join as they become linear, until none can; and the goals that wake.
 
-ghost use Rattle.std.specs.Prelude.{◌≡◌, ◌≢◌, ℕ, ◌<◌, ◌≤◌, ◌+◌, ◌*◌, List, [], ◌∷◌, ◌++◌, length, map, drop, filter, not, All, Contains, true, Option, Some, IfOk, OnOk, MatchBool, ◌⊎◌};
+ghost use Rattle.std.specs.Prelude.{◌≡◌, ◌≢◌, ℕ, ◌<◌, ◌≤◌, List, [], ◌∷◌, ◌++◌, length, drop, All, Contains, Option, ⊤, IfOk, OnOk, MatchBool};
 ghost use Rattle.spec_rational.specs.Rational.{ℚ};
 ghost use Rattle.spec_linear.specs.Solution.{Solvable, Fixes};
-ghost use Rattle.spec_terms.specs.Term.{Var};
 ghost use Rattle.cq_frac.specs.declared.Pair.{Pair};
 ghost use Rattle.cq_term.specs.Meaning.{at};
 ghost use Rattle.cq_walk.specs.Places.{numbers_of};
-ghost use Rattle.cq_attr.specs.Attributes.{is_numeric, numbers, find, Ascends};
+ghost use Rattle.cq_attr.specs.Attributes.{numbers, Ascends};
 ghost use Rattle.cq_linear.specs.declared.store.StoreFault.TheVariants.{Overflow, Pivots};
-ghost use Rattle.cq_world.specs.Standing.{constraints};
 ghost use Rattle.cq_world.specs.Worlds.{now_of};
 ghost use Rattle.cq_settle.specs.Settled.{KeepsMarks, IsPruned, MayRefuse, MayTake};
 ghost use Rattle.cq_settle.specs.Underway.{IsLive, SomeIsUnderway, GoesOn, OfEach, to_do};
-ghost use Rattle.cq_attr.specs.declared.susp.Susp.TheVariants as susp;
-ghost use Rattle.cq_settle.specs.Steps.{CannotJoin, Refuses, Takes, JoinsAndBinds, WakesAll, is_unbound_term};
+ghost use Rattle.cq_settle.specs.Steps.{CannotJoin, Refuses, Takes, JoinsAndBinds, HasFewer, WakesOne, WakesAll, is_unbound_term};
 
 use crate::joining::bind_fixed;
 use cq_atoms::Atoms;
-use cq_attr::{Susp, SuspNo};
+use cq_attr::{Attrs, Susp, SuspNo};
 use cq_cexpr::{Lin, linearise};
 use cq_form::Constraint;
 use cq_frac::VarId;
@@ -116,7 +113,6 @@ pub(crate) fn close(world: &mut World, atoms: &Atoms, newly: &mut Newly) -> Resu
     ensures closed { IfOk result (λ yes. MatchBool yes
         (GoesOn atoms.now (now_of world.old) (now_of world.new) (to_do [] [] (numbers_of newly.old) (numbers_of newly.old)) (to_do [] [] [] (numbers_of newly.new)))
         (OfEach atoms.now (now_of world.old) (to_do [] [] (numbers_of newly.old) (numbers_of newly.old)) IsPruned)) }
-    ensures newly { (more : List VarId) × (newly.new ≡ newly.old ++ more) }
     ensures overflow { (pair : Pair) → result ≡ Err (Overflow pair)
         → OfEach atoms.now (now_of world.old) (to_do [] [] (numbers_of newly.old) (numbers_of newly.old)) (λ st p u. MayRefuse st p pair) }
     ensures pivots { (n : ℕ) → result ≡ Err (Pivots n) → (n ≡ world.old.store.pivots)
@@ -134,7 +130,7 @@ pub(crate) fn close(world: &mut World, atoms: &Atoms, newly: &mut Newly) -> Resu
     Ok(true)
 }
 
-/// Those of the numbers that are of terms are looked at again. Where none joins, nothing was bound.
+/// Those of the numbers that are of terms are looked at again.
 fn look_again(
     world: &mut World,
     atoms: &Atoms,
@@ -145,11 +141,10 @@ fn look_again(
     requires ascending { Ascends woken.now }
     requires waits { All (λ n. Contains (numbers world.old.attrs.now.waiting) n) woken.now }
     ensures looked { IfOk result (λ yes. MatchBool yes
-        (GoesOn atoms.now (now_of world.old) (now_of world.new) (to_do [] woken.now [] (numbers_of newly.old)) (to_do [] [] (numbers_of (drop (length newly.old) newly.new)) (numbers_of newly.new)))
+        (GoesOn atoms.now (now_of world.old) (now_of world.new) (to_do [] woken.now [] (numbers_of newly.old))
+        (to_do [] [] (numbers_of (drop (length newly.old) newly.new)) (numbers_of newly.new)))
         (OfEach atoms.now (now_of world.old) (to_do [] woken.now [] (numbers_of newly.old)) IsPruned)) }
-    ensures fewer { length (constraints world.new.attrs.now) ≤ length (constraints world.old.attrs.now) }
-    ensures newly { (more : List VarId) × (newly.new ≡ newly.old ++ more) }
-    ensures none { length (constraints world.new.attrs.now) ≡ length (constraints world.old.attrs.now) → newly.new ≡ newly.old }
+    ensures fewer { IfOk result (λ yes. MatchBool yes (HasFewer (now_of world.old) (now_of world.new) newly.old newly.new) ⊤) }
     ensures overflow { (pair : Pair) → result ≡ Err (Overflow pair)
         → OfEach atoms.now (now_of world.old) (to_do [] woken.now [] (numbers_of newly.old)) (λ st p u. MayRefuse st p pair) }
     ensures pivots { (n : ℕ) → result ≡ Err (Pivots n) → (n ≡ world.old.store.pivots)
@@ -157,34 +152,29 @@ fn look_again(
     ensures marks { KeepsMarks world.old world.new }
 {
     for &number in woken {
-        if let Susp::Delayed(term) = *world.attrs.susp(number) {
-            if !rejoin(world, atoms, number, term, newly)? {
-                return Ok(false);
-            }
+        if !rejoin(world, atoms, number, newly)? {
+            return Ok(false);
         }
     }
     Ok(true)
 }
 
-/// A term that waits under the number joins, or goes on waiting.
+/// A term that waits under the number joins, or goes on waiting; a goal sleeps on.
 fn rejoin(
     world: &mut World,
     atoms: &Atoms,
     number: SuspNo,
-    term: TermId,
     newly: &mut Newly,
 ) -> Result<bool, StoreFault>
     requires underway { (ns bound : List ℕ) × SomeIsUnderway atoms.now (now_of world.old) (to_do [] (number ∷ ns) bound (numbers_of newly.old)) }
     requires waits { Contains (numbers world.old.attrs.now.waiting) number }
-    requires susp { find world.old.attrs.now.waiting number ≡ Some (susp.Delayed term) }
     ensures joined { IfOk result (λ yes. MatchBool yes
         ((ns bound : List ℕ) → GoesOn atoms.now (now_of world.old) (now_of world.new) (to_do [] (number ∷ ns) bound (numbers_of newly.old))
         (to_do [] ns (bound ++ numbers_of (drop (length newly.old) newly.new)) (numbers_of newly.new)))
         ((ns bound : List ℕ) → OfEach atoms.now (now_of world.old) (to_do [] (number ∷ ns) bound (numbers_of newly.old)) IsPruned)) }
-    ensures others { (n : ℕ) → n ≢ number → Contains (numbers world.old.attrs.now.waiting) n → Contains (numbers world.new.attrs.now.waiting) n }
-    ensures newly { (more : List VarId) × (newly.new ≡ newly.old ++ more) }
-    ensures fewer { (length (constraints world.new.attrs.now) ≡ length (constraints world.old.attrs.now)) × (newly.new ≡ newly.old)
-        ⊎ (length (constraints world.new.attrs.now) + 1 ≡ length (constraints world.old.attrs.now)) }
+    ensures fewer { IfOk result (λ yes. MatchBool yes (HasFewer (now_of world.old) (now_of world.new) newly.old newly.new) ⊤) }
+    ensures others { IfOk result (λ yes. MatchBool yes
+        ((n : ℕ) → n ≢ number → Contains (numbers world.old.attrs.now.waiting) n → Contains (numbers world.new.attrs.now.waiting) n) ⊤) }
     ensures overflow { (pair : Pair) → result ≡ Err (Overflow pair)
         → (ns bound : List ℕ) → OfEach atoms.now (now_of world.old) (to_do [] (number ∷ ns) bound (numbers_of newly.old)) (λ st p u. MayRefuse st p pair) }
     ensures pivots { (n : ℕ) → result ≡ Err (Pivots n) → (n ≡ world.old.store.pivots)
@@ -192,13 +182,16 @@ fn rejoin(
     ensures marks { KeepsMarks world.old world.new }
 {
     store_and_numbers(world);
-    match linearise(&world.heap, atoms, term)? {
-        Lin::False => Ok(false),
-        Lin::Linear(constraint) => {
-            world.attrs.take(number)?;
-            tell(world, constraint, newly)
-        }
-        Lin::Waits(_) => Ok(true),
+    match *world.attrs.susp(number) {
+        Susp::Goal(_, _) => Ok(true),
+        Susp::Delayed(term) => match linearise(&world.heap, atoms, term)? {
+            Lin::False => Ok(false),
+            Lin::Linear(constraint) => {
+                world.attrs.take(number)?;
+                tell(world, constraint, newly)
+            }
+            Lin::Waits(_) => Ok(true),
+        },
     }
 }
 
@@ -214,14 +207,29 @@ pub(crate) fn wake(world: &mut World, newly: &[VarId]) -> Result<Vec<TermId>, Al
     let woken = world.attrs.woken(newly)?;
     let mut goals = Vec::new(world.heap.alloc());
     for &number in &woken {
-        if let Susp::Goal(variable, goal) = *world.attrs.susp(number) {
-            if !is_variable(&world.heap, variable) {
-                world.attrs.take(number)?;
-                goals.push(goal)?;
-            }
-        }
+        wake_one(&world.heap, &mut world.attrs, number, &mut goals)?;
     }
     Ok(goals)
+}
+
+/// A goal that waits under the number, and whose variable is none any more, waits no more and is told.
+fn wake_one(heap: &Heap, attrs: &mut Attrs, number: SuspNo, goals: &mut Vec<TermId>) -> Result<(), AllocError>
+    requires waits { Contains (numbers attrs.old.now.waiting) number }
+    requires live { All (λ k. IsLive heap.now.now k.susp) attrs.old.now.waiting }
+    ensures wakes { OnOk result (WakesOne heap.now.now.images number attrs.old.now attrs.new.now goals.old.items goals.new.items) }
+    ensures saved { attrs.new.saved ≡ attrs.old.saved }
+    ensures room { attrs.old.room ≤ attrs.new.room }
+{
+    match *attrs.susp(number) {
+        Susp::Delayed(_) => Ok(()),
+        Susp::Goal(variable, goal) => {
+            if is_variable(heap, variable) {
+                return Ok(());
+            }
+            attrs.take(number)?;
+            goals.push(goal)
+        }
+    }
 }
 
 /// Whether the variable is unbound, or became another one.

@@ -79,7 +79,10 @@ pub fn settle(world: &mut World, atoms: &Atoms, work: Work) -> Result<Settled, S
 fn is_idle(world: &World, work: &Work) -> Result<bool, AllocError>
     ensures { IfOk result (λ yes. IsTrue yes → IsIdle (now_of world.now) work.now.newly work.now.told.items work.now.rows.items) }
 {
-    if !work.told.is_empty() || !work.rows.is_empty() {
+    if !work.told.is_empty() {
+        return Ok(false);
+    }
+    if !work.rows.is_empty() {
         return Ok(false);
     }
     for &variable in work.newly.as_slice() {

@@ -1,6 +1,5 @@
-use Rattle.std.proofs.Common.{◌≡◌, ℕ, ◌≤◌, ◌+◌, ◌*◌, [], ◌++◌, List, length, drop}
+use Rattle.std.proofs.Common.{ℕ, ◌≤◌, ◌+◌, ◌*◌, [], length, drop}
 use Rattle.std.specs.Prelude.{if◌then◌else◌, nat_lt}
-use Rattle.cq_frac.specs.declared.VarId.{VarId}
 use Rattle.cq_walk.specs.Places.{numbers_of}
 use Rattle.cq_world.specs.Standing.{constraints}
 use Rattle.cq_world.specs.Worlds.{now_of}
@@ -13,7 +12,6 @@ invariant-loop-seen l = record {
   goes : GoesOn l.atoms (now_of l.fn.world) (now_of l.world) (to_do [] [] (numbers_of l.fn.newly) (numbers_of l.fn.newly))
       (to_do [] [] (numbers_of (drop l.seen l.newly)) (numbers_of l.newly));
   seen : l.seen ≤ length l.newly;
-  newly : (more : List VarId) × (l.newly ≡ l.fn.newly ++ more);
   marks : KeepsMarks l.fn.world l.world;
 }
 
