@@ -1,25 +1,39 @@
 -- Terms that are looked at again, one after another.
-use Rattle.std.proofs.Common.{◌≡◌, ◌≢◌, ◌<◌, ◌≤◌, ℕ, ◌+◌, ◌*◌, List, [], ◌∷◌, ◌++◌, map, length, drop, Bool, true, false, Some, refl, sym, ap, ◌∙◌, subst, inl, inr, ◌⊎◌, arith, append_assoc}
-use Rattle.std.specs.Prelude.{Contains, not, if◌then◌else◌, nat_lt}
+use Rattle.std.proofs.Common.{◌≡◌, ◌≢◌, ◌<◌, ◌≤◌, ℕ, ◌+◌, ◌*◌, List, [], ◌∷◌, ◌++◌, map, length, drop, get_or, Bool, true, false, Option, None, Some, refl, sym, ap, ◌∙◌, subst, inl, inr, ◌⊎◌, arith, append_assoc}
+use Rattle.std.specs.Prelude.{All, Contains, MatchBool, not, if◌then◌else◌, nat_lt}
+use Rattle.std.specs.List.{cons_option}
 use Rattle.std.proofs.lemmas.Bool.{lt-ltb, ltb-true, cases_lt}
-use Rattle.std.proofs.lemmas.List.{drop_all, drop_at}
-use Rattle.std.proofs.lemmas.List.Elements.{All-contains, filter_passes}
+use Rattle.std.proofs.lemmas.List.{drop_all, drop_at, drop_more, length-drop, get_or-drop}
+use Rattle.std.proofs.lemmas.List.Elements.{All-head, All-tail, All-contains, Contains-get_or, filter_passes}
 use Rattle.spec_linear.specs.Solution.{Constraint}
 use Rattle.spec_lists.proofs.Tests.{nat_eq-apart}
-use Rattle.cq_attr.specs.Attributes.{Waiting, Attributes, numbers, find, without}
+use Rattle.cq_attr.specs.Attributes.{Waiting, Attributes, Ascends, numbers, find, without}
+use Rattle.cq_attr.specs.declared.susp.Susp.{Susp}
 use Rattle.cq_attr.specs.declared.susp.Susp.TheVariants as susp
 use Rattle.cq_frac.specs.declared.VarId.{VarId}
+use Rattle.cq_linear.specs.StoreValue.{StoreValue}
+use Rattle.cq_term.specs.HeapValue.{HeapValue}
+use Rattle.cq_term.specs.Meaning.{HeapTerm}
 use Rattle.cq_walk.specs.Places.{numbers_of}
 use Rattle.cq_world.specs.Contents.{Contents}
 use Rattle.cq_world.specs.Standing.{constraints, is_constraint}
-use Rattle.cq_settle.specs.Steps.{HasFewer, JoinsAndBinds}
+use Rattle.cq_world.specs.Worlds.{room_of}
+use Rattle.cq_world.specs.declared.world.World.{World}
+use Rattle.cq_settle.specs.Settled.{KeepsMarks}
+use Rattle.cq_settle.specs.Steps.{HasFewer, JoinsAndBinds, WakesOne, goal_that_wakes, unless_given}
 use Rattle.cq_settle.proofs.Closed.{nothing_behind}
 use Rattle.cq_settle.proofs.Joined.{numbers_behind}
-use Rattle.cq_settle.proofs.Permuted.{IsOnce}
+use Rattle.cq_settle.proofs.Permuted.{IsOnce, any_default}
 use Rattle.cq_settle.proofs.Taken.{one_fewer}
 use Rattle.cq_settle.proofs.Unique.{susp_under, number_in, is_other}
 use Rattle.cq_settle.proofs.Waking.{with_number}
 use Rattle.cq_settle.proofs.Zips.{contains_filtered, contains_unfiltered}
+
+-- ---- answers of yes or no
+
+pub by_yes : {P Q R S : Type 0} (b : Bool) → (P → R) → (Q → S) → MatchBool b P Q → MatchBool b R S
+by_yes true f g h = f h
+by_yes false f g h = g h
 
 -- ---- variables that were bound
 
@@ -47,6 +61,28 @@ fewer_then c d e first second third f g = record {
   fewer = omega (arith, f.fewer, g.fewer);
   none = λ i. g.none (omega (arith, f.fewer, g.fewer, i)) ∙ f.none (omega (arith, f.fewer, g.fewer, i));
 }
+
+-- ---- what is still to be looked at waits
+
+pub waits_there : (a : Attributes) (ns : List ℕ) (i : ℕ) → i < length ns → All (λ n. Contains (numbers a.waiting) n) (drop i ns) → Contains (numbers a.waiting) (get_or ns i 0)
+waits_there a ns i l h =
+    All-head (λ n. Contains (numbers a.waiting) n) (get_or ns i 0) (drop (i + 1) ns) (subst (λ (ms : List ℕ). All (λ n. Contains (numbers a.waiting) n) ms) (drop_more ns i 0 l) h)
+
+-- a later number is another one
+later_other : (ns : List ℕ) (i m : ℕ) → i < length ns → Ascends ns → Contains (drop (i + 1) ns) m → m ≢ get_or ns i 0
+later_other ns i m l a h = λ e.
+    let at : i + 1 + h.0 < length ns = omega (arith, h.1, length-drop (i + 1) ns) in
+    let is : get_or ns (i + 1 + h.0) m ≡ m = sym (get_or-drop (i + 1) ns h.0 m) ∙ h.2 in
+    let same : get_or ns i m ≡ get_or ns i 0 = any_default ns i 0 m l in
+    omega (arith, a i (i + 1 + h.0) m (omega arith) at, is, same, e)
+
+pub wait_on : (a b : Attributes) (ns : List ℕ) (i : ℕ) → i < length ns → Ascends ns → All (λ n. Contains (numbers a.waiting) n) (drop i ns)
+    → ((m : ℕ) → m ≢ get_or ns i 0 → Contains (numbers a.waiting) m → Contains (numbers b.waiting) m) → All (λ n. Contains (numbers b.waiting) n) (drop (i + 1) ns)
+wait_on a b ns i l asc h f j d m =
+    let n = get_or (drop (i + 1) ns) j d in
+    let among = Contains-get_or (drop (i + 1) ns) j d m in
+    let rest = All-tail (λ n. Contains (numbers a.waiting) n) (get_or ns i 0) (drop (i + 1) ns) (subst (λ (ms : List ℕ). All (λ n. Contains (numbers a.waiting) n) ms) (drop_more ns i 0 l) h) in
+    f n (later_other ns i n l asc among) (rest j d m)
 
 -- ---- the term that is taken away
 
@@ -87,3 +123,35 @@ sooner c d seen before after l f =
         by_count : (length (constraints d.attrs) < length (constraints c.attrs)) ⊎ (length (constraints c.attrs) ≤ length (constraints d.attrs)) → 2 * length (constraints d.attrs) + 1 < 2 * length (constraints c.attrs) + 1
         by_count (inl m) = omega (arith, m)
         by_count (inr m) = absurd (omega (arith, ltb-true (length before) (length after) e, ap length (f.none (omega (arith, f.fewer, m)))))
+
+-- ---- a goal that wakes, or sleeps on
+
+pub wakes_none : (images : List HeapTerm) (n : ℕ) (a : Attributes) (goals : List ℕ) (s : Susp) → find a.waiting n ≡ Some s → goal_that_wakes images s ≡ None
+    → WakesOne images n a a goals goals
+wakes_none images n a goals s f e = record {
+  susp = s;
+  found = f;
+  attrs = sym (ap (λ (o : Option ℕ). unless_given o n a) e);
+  given = sym (ap (λ (o : Option ℕ). goals ++ cons_option o []) e ∙ nothing_behind goals);
+}
+
+pub wakes_goal : (images : List HeapTerm) (n : ℕ) (a b : Attributes) (before after : List ℕ) (s : Susp) → find a.waiting n ≡ Some s → (g : ℕ) → goal_that_wakes images s ≡ Some g
+    → b ≡ without a n → after ≡ before ++ g ∷ [] → WakesOne images n a b before after
+wakes_goal images n a b before after s f g e i j = record {
+  susp = s;
+  found = f;
+  attrs = i ∙ sym (ap (λ (o : Option ℕ). unless_given o n a) e);
+  given = j ∙ sym (ap (λ (o : Option ℕ). before ++ cons_option o []) e);
+}
+
+-- ---- marks
+
+-- where only the attributes, or only the store, have changed
+pub attrs_marks : (v w : World) → w.heap ≡ v.heap → w.store ≡ v.store → w.attrs.saved ≡ v.attrs.saved → v.attrs.room ≤ w.attrs.room → KeepsMarks v w
+attrs_marks v w h s e r = record {
+  heap = ap (λ (x : HeapValue). x.saved) h;
+  attrs = e;
+  store = ap (λ (x : StoreValue). x.saved) s;
+  pivots = ap (λ (x : StoreValue). x.pivots) s;
+  room = omega (arith, r, ap (λ (x : HeapValue). x.room) h, ap (λ (x : StoreValue). x.room) s);
+}

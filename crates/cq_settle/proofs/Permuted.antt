@@ -48,7 +48,7 @@ once_rest x xs h i j d l m = h (suc i) (suc j) d (omega (arith, l)) (omega (arit
 pub once_head : (x : ℕ) (xs : List ℕ) → IsOnce (x ∷ xs) → Contains xs x → ⊥
 once_head x xs h m = h 0 (suc m.0) x (omega arith) (omega (arith, m.1)) (sym m.2)
 
-any_default : (ys : List ℕ) (j d e : ℕ) → j < length ys → get_or ys j e ≡ get_or ys j d
+pub any_default : (ys : List ℕ) (j d e : ℕ) → j < length ys → get_or ys j e ≡ get_or ys j d
 any_default [] j d e l = absurd (omega (arith, l))
 any_default (y ∷ ys) zero d e l = refl
 any_default (y ∷ ys) (suc j) d e l = any_default ys j d e (omega (arith, l))

@@ -68,7 +68,7 @@ number_kept : (b : Bool) (w : Waiting) (vs : List Waiting) (n : ℕ) → Contain
 number_kept true w vs n h = contains_cases w.number (numbers vs) n h
 number_kept false w vs n h = inr h
 
-numbers_unfiltered : (p : Waiting → Bool) (ws : List Waiting) (n : ℕ) → Contains (numbers (filter p ws)) n → Contains (numbers ws) n
+pub numbers_unfiltered : (p : Waiting → Bool) (ws : List Waiting) (n : ℕ) → Contains (numbers (filter p ws)) n → Contains (numbers ws) n
 numbers_unfiltered p [] n h = h
 numbers_unfiltered p (w ∷ ws) n h =
     elim (number_kept (p w) w (filter p ws) n h) [

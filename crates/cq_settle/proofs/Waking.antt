@@ -12,8 +12,8 @@ use Rattle.cq_term.specs.Meaning.{HeapTerm}
 use Rattle.cq_settle.specs.Steps.{WakesOne, goal_that_wakes, unless_given, waits_for_one, wakes}
 use Rattle.cq_settle.proofs.Looked.{has_of_contains}
 use Rattle.cq_settle.proofs.Numeric.{found_any, any_found, contains_of_has}
-use Rattle.cq_settle.proofs.Permuted.{IsOnce, once_rest, once_head}
-use Rattle.cq_settle.proofs.Unique.{once_ascending, number_in, one_number, found_waits, susp_under, is_other}
+use Rattle.cq_settle.proofs.Permuted.{IsOnce, any_default, once_rest, once_head}
+use Rattle.cq_settle.proofs.Unique.{once_ascending, number_in, numbers_unfiltered, one_number, found_waits, susp_under, is_other}
 use Rattle.cq_settle.proofs.Woken.{kept_cases, waits_for_it}
 use Rattle.cq_settle.proofs.Zips.{contains_filtered, contains_unfiltered}
 
@@ -30,11 +30,6 @@ filter_twice p q (w ∷ ws) = kept_cases p w (filter q ws) (q w) (p w) refl ∙ 
 
 ascends_rest : (x : ℕ) (xs : List ℕ) → Ascends (x ∷ xs) → Ascends xs
 ascends_rest x xs h i j d l m = h (suc i) (suc j) d (omega (arith, l)) (omega (arith, m))
-
-any_default : (ys : List ℕ) (j d e : ℕ) → j < length ys → get_or ys j e ≡ get_or ys j d
-any_default [] j d e l = absurd (omega (arith, l))
-any_default (y ∷ ys) zero d e l = refl
-any_default (y ∷ ys) (suc j) d e l = any_default ys j d e (omega (arith, l))
 
 ascends_head : (x : ℕ) (xs : List ℕ) (y : ℕ) → Ascends (x ∷ xs) → Contains xs y → x < y
 ascends_head x xs y h m = subst (λ (z : ℕ). x < z) m.2 (h 0 (suc m.0) y (omega arith) (omega (arith, m.1)))
@@ -66,23 +61,11 @@ ascends_kept true w vs a f (suc i) zero d l m = absurd (omega (arith, l))
 ascends_kept true w vs a f (suc i) (suc j) d l m = a i j d (omega (arith, l)) (omega (arith, m))
 ascends_kept false w vs a f = a
 
-number_kept : (b : Bool) (w : Waiting) (vs : List Waiting) (n : ℕ) → Contains (numbers (cond b (w ∷ vs) vs)) n → (w.number ≡ n) ⊎ Contains (numbers vs) n
-number_kept true w vs n h = contains_cases w.number (numbers vs) n h
-number_kept false w vs n h = inr h
-
-number_of_kept : (p : Waiting → Bool) (ws : List Waiting) (n : ℕ) → Contains (numbers (filter p ws)) n → Contains (numbers ws) n
-number_of_kept p [] n h = h
-number_of_kept p (w ∷ ws) n h =
-    elim (number_kept (p w) w (filter p ws) n h) [
-      | inl e ↦ contains_here w.number (numbers ws) n e
-      | inr m ↦ contains_later w.number (numbers ws) n (number_of_kept p ws n m)
-    ]
-
 ascends_filtered : (p : Waiting → Bool) (ws : List Waiting) → Ascends (numbers ws) → Ascends (numbers (filter p ws))
 ascends_filtered p [] a = a
 ascends_filtered p (w ∷ ws) a =
     ascends_kept (p w) w (filter p ws) (ascends_filtered p ws (ascends_rest w.number (numbers ws) a))
-    (λ n h. ascends_head w.number (numbers ws) n a (number_of_kept p ws n h))
+    (λ n h. ascends_head w.number (numbers ws) n a (numbers_unfiltered p ws n h))
 
 -- the one that has a number
 pub record HasNumber (ws : List Waiting) (n : ℕ) : Type 0 where
@@ -122,13 +105,19 @@ not_before (n ∷ ns) (suc i) d a l m =
     ]
 
 -- what is given or not changes only what waits
-pub given_numeric : (o : Option ℕ) (n : ℕ) (a : Attributes) → (unless_given o n a).numeric ≡ a.numeric
+given_numeric : (o : Option ℕ) (n : ℕ) (a : Attributes) → (unless_given o n a).numeric ≡ a.numeric
 given_numeric None n a = refl
 given_numeric (Some g) n a = refl
 
-pub given_next : (o : Option ℕ) (n : ℕ) (a : Attributes) → (unless_given o n a).next ≡ a.next
+given_next : (o : Option ℕ) (n : ℕ) (a : Attributes) → (unless_given o n a).next ≡ a.next
 given_next None n a = refl
 given_next (Some g) n a = refl
+
+pub wakes_numeric : (images : List HeapTerm) (n : ℕ) (a b : Attributes) (before after : List ℕ) → WakesOne images n a b before after → b.numeric ≡ a.numeric
+wakes_numeric images n a b before after w = ap (λ (x : Attributes). x.numeric) w.attrs ∙ given_numeric (goal_that_wakes images w.susp) n a
+
+pub wakes_next : (images : List HeapTerm) (n : ℕ) (a b : Attributes) (before after : List ℕ) → WakesOne images n a b before after → b.next ≡ a.next
+wakes_next images n a b before after w = ap (λ (x : Attributes). x.next) w.attrs ∙ given_next (goal_that_wakes images w.susp) n a
 
 -- ---- what was looked at
 

@@ -135,6 +135,12 @@ woken_waits a bound ns f i d l =
     let w = f (get_or ns i d) (Contains-get_or ns i d l) in
     subst (λ (n : ℕ). Contains (numbers a.waiting) n) w.waits_for.number (number_in a.waiting w.waits_for.waiting w.waits_for.waits)
 
+-- what is found waits, and its parts are there
+pub found_live : (h : Terms) (ws : List Waiting) (n : ℕ) (s : Susp) → All (λ w. IsLive h w.susp) ws → find ws n ≡ Some s → IsLive h s
+found_live h ws n s l e =
+    let r = found_waits ws n s e in
+    subst (IsLive h) r.is (All-contains (λ w. IsLive h w.susp) ws r.waiting l r.waits)
+
 -- ---- what a call may rely on while some settling is underway
 
 module _ (texts : List Text) (c : Contents) (i : ToDo) (k : SomeIsUnderway texts c i) where
@@ -151,6 +157,4 @@ module _ (texts : List Text) (c : Contents) (i : ToDo) (k : SomeIsUnderway texts
   named id l = All-get_or (HasNamesBelow (length texts)) c.heap.terms id blank l k.is.here.stands.names
 
   pub live_under : (n id : ℕ) → find c.attrs.waiting n ≡ Some (susp.Delayed id) → id < length c.heap.terms
-  live_under n id e =
-      let r = found_waits c.attrs.waiting n (susp.Delayed id) e in
-      subst (IsLive c.heap) r.is (All-contains (λ w. IsLive c.heap w.susp) c.attrs.waiting r.waiting waiting_live r.waits)
+  live_under n id e = found_live c.heap c.attrs.waiting n (susp.Delayed id) waiting_live e
