@@ -37,3 +37,5 @@ mod Gather
 mod Marks
 mod Marked
 mod Gathered
+mod Shown
+mod Before

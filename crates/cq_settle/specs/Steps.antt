@@ -73,9 +73,13 @@ form_of_image (Var w) = variable_form w
 form_of_image (Number q) = constant_form q
 form_of_image t = variable_form 0
 
+-- the variable less the form is zero
+abbrev pub zero_difference : ℕ → Linear → Constraint
+zero_difference v f = record { relation = Eq; form = difference_form (variable_form v) f }
+
 -- the variable less its image is zero
 abbrev pub equation_at : List HeapTerm → ℕ → Constraint
-equation_at images v = record { relation = Eq; form = difference_form (variable_form v) (form_of_image (at images v)) }
+equation_at images v = zero_difference v (form_of_image (at images v))
 
 -- the numeric ones of the variables
 abbrev pub numeric_ones : Attributes → List VarId → List ℕ

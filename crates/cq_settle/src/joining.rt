@@ -3,7 +3,7 @@
 ghost use Rattle.std.specs.Prelude.{◌≡◌, ◌↔◌, ℕ, ◌<◌, ◌≤◌, ◌||◌, ◌==◌, [], ◌∷◌, ◌++◌, length, All, Any, Contains, true, Option, Some, IsTrue, IfOk, OnOk, MatchBool};
 ghost use Rattle.std.specs.List.{list_any};
 ghost use Rattle.spec_rational.specs.Rational.{ℚ};
-ghost use Rattle.spec_linear.specs.Form.{variable_form, difference_form};
+ghost use Rattle.spec_linear.specs.Form.{variable_form, constant_form};
 ghost use Rattle.spec_linear.specs.Solution.{Fixed};
 ghost use Rattle.spec_terms.specs.Variables.{variables};
 ghost use Rattle.cq_frac.specs.declared.Pair.{Pair};
@@ -15,7 +15,7 @@ ghost use Rattle.cq_attr.specs.Attributes.{is_numeric, numbers};
 ghost use Rattle.cq_linear.specs.declared.store.StoreFault.TheVariants.{Overflow, Pivots};
 ghost use Rattle.cq_world.specs.Worlds.{now_of};
 ghost use Rattle.cq_settle.specs.Settled.{KeepsMarks};
-ghost use Rattle.cq_settle.specs.Steps.{is_neither, ClashesAt, AreThere, AreBoundThere, Follows, AllWatch, equation_at, equations_of, numeric_ones, HaveJoined, StopsAt, CannotJoin, Refuses, Takes, is_image_of, BindsValues};
+ghost use Rattle.cq_settle.specs.Steps.{is_neither, ClashesAt, AreThere, AreBoundThere, Follows, AllWatch, zero_difference, equation_at, equations_of, numeric_ones, HaveJoined, StopsAt, CannotJoin, Refuses, Takes, is_image_of, BindsValues};
 
 use cq_attr::{Attrs, SuspNo};
 use cq_form::{Constraint, Form};
@@ -27,20 +27,31 @@ use cq_world::World;
 use spec_linear::Relation;
 use std::alloc::{AllocError, Global};
 
-/// Whether a numeric variable is to be an atom or a compound.
+/// Whether one of the variables is numeric and is to be an atom or a compound.
 pub(crate) fn clashes(world: &World, newly: &[VarId]) -> bool
     requires { AreThere world.now.heap.now.images newly.now }
     ensures { MatchBool result (Any (λ v. ClashesAt (now_of world.now) v.0) newly.now) (All (λ v. ClashesAt (now_of world.now) v.0 → ⊥) newly.now) }
 {
     for &variable in newly {
-        if world.attrs.is_numeric(variable) {
-            match world.heap.view(world.heap.var_term(variable)) {
-                View::Name(_) | View::Compound(_, _) => return true,
-                View::Var(_) | View::Number(_) => {}
-            }
+        if clashes_at(world, variable) {
+            return true;
         }
     }
     false
+}
+
+/// Whether a variable is numeric and is to be an atom or a compound.
+fn clashes_at(world: &World, variable: VarId) -> bool
+    requires { variable.0 < length world.now.heap.now.images }
+    ensures { MatchBool result (ClashesAt (now_of world.now) variable.0) (ClashesAt (now_of world.now) variable.0 → ⊥) }
+{
+    if !world.attrs.is_numeric(variable) {
+        return false;
+    }
+    match world.heap.view(world.heap.var_term(variable)) {
+        View::Name(_) | View::Compound(_, _) => true,
+        View::Var(_) | View::Number(_) => false,
+    }
 }
 
 /// What waits for a variable that became another one waits for that one too.
@@ -178,28 +189,37 @@ fn equation_of(
     ensures marks { KeepsMarks world.old world.new }
 {
     let alloc = world.heap.alloc();
-    let form = match world.heap.view(world.heap.var_term(variable)) {
+    match world.heap.view(world.heap.var_term(variable)) {
         View::Var(image) => {
             world.attrs.set_numeric(image)?;
             fixed.push(image)?;
-            less_variable(alloc, variable, image)?
+            less_variable(alloc, variable, image)
         }
-        View::Number(value) => Form::new(alloc, value.neg(), &[(variable, Frac::one())])?,
+        View::Number(value) => less_number(alloc, variable, value),
         View::Name(_) | View::Compound(_, _) => unreachable!(),
-    };
+    }
+}
+
+/// That a variable less an older one is zero.
+fn less_variable(alloc: Global, variable: VarId, older: VarId) -> Result<Constraint, AllocError>
+    requires { older.0 < variable.0 }
+    ensures { IfOk result (λ c. c ≡ zero_difference variable.0 (variable_form older.0)) }
+{
+    let one = Frac::one();
     Ok(Constraint {
         relation: Relation::Eq,
-        form,
+        form: Form::new(alloc, Frac::zero(), &[(older, one.neg()), (variable, one)])?,
     })
 }
 
-/// A variable less an older one.
-fn less_variable(alloc: Global, variable: VarId, older: VarId) -> Result<Form, AllocError>
-    requires { older.0 < variable.0 }
-    ensures { IfOk result (λ f. f ≡ difference_form (variable_form variable.0) (variable_form older.0)) }
+/// That a variable less a number is zero.
+fn less_number(alloc: Global, variable: VarId, value: Frac) -> Result<Constraint, AllocError>
+    ensures { IfOk result (λ c. c ≡ zero_difference variable.0 (constant_form value)) }
 {
-    let one = Frac::one();
-    Form::new(alloc, Frac::zero(), &[(older, one.neg()), (variable, one)])
+    Ok(Constraint {
+        relation: Relation::Eq,
+        form: Form::new(alloc, value.neg(), &[(variable, Frac::one())])?,
+    })
 }
 
 /// The variables of the terms become numeric, and are told.
