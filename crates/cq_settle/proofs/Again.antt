@@ -1,5 +1,5 @@
 -- Terms that are looked at again, one after another.
-use Rattle.std.proofs.Common.{◌≡◌, ◌≢◌, ◌<◌, ◌≤◌, ℕ, ◌+◌, ◌*◌, List, [], ◌∷◌, ◌++◌, map, length, drop, get_or, Bool, true, false, Option, None, Some, refl, sym, ap, ◌∙◌, subst, inl, inr, ◌⊎◌, arith, append_assoc}
+use Rattle.std.proofs.Common.{◌≡◌, ◌≢◌, ◌<◌, ◌≤◌, ℕ, zero, suc, ◌+◌, ◌*◌, List, [], ◌∷◌, ◌++◌, map, length, drop, get_or, Bool, true, false, Option, None, Some, refl, sym, ap, ◌∙◌, subst, inl, inr, ◌⊎◌, arith, append_assoc}
 use Rattle.std.specs.Prelude.{All, Contains, MatchBool, not, if◌then◌else◌, nat_lt}
 use Rattle.std.specs.List.{cons_option}
 use Rattle.std.proofs.lemmas.Bool.{lt-ltb, ltb-true, cases_lt}
@@ -155,3 +155,8 @@ attrs_marks v w h s e r = record {
   pivots = ap (λ (x : StoreValue). x.pivots) s;
   room = omega (arith, r, ap (λ (x : HeapValue). x.room) h, ap (λ (x : StoreValue). x.room) s);
 }
+
+-- where no mark could be made, no memory was set aside for one
+pub no_room : (m n : ℕ) → (0 < m → false ≡ true) → m ≤ n
+no_room zero n f = omega arith
+no_room (suc m) n f = let e : false ≡ true = f (omega arith) in cc

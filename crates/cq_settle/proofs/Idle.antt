@@ -1,9 +1,10 @@
 -- A settling with nothing to do.
-use Rattle.std.proofs.Common.{◌≡◌, ◌<◌, ◌≤◌, ℕ, List, [], ◌∷◌, ◌++◌, map, length, get_or, Bool, true, false, cond, Option, None, Some, refl, sym, ap, ap₂, ◌∙◌, subst, inl, inr, ◌⊎◌, arith, ◌||◌}
+use Rattle.std.proofs.Common.{◌≡◌, ◌<◌, ◌≤◌, ℕ, ◌+◌, List, [], ◌∷◌, ◌++◌, map, length, take, get_or, Bool, true, false, cond, Option, None, Some, refl, sym, ap, ap₂, ◌∙◌, subst, inl, inr, ◌⊎◌, arith, ◌||◌}
 use Rattle.std.specs.Prelude.{Contains, All, filter, not, ◌&&◌, ◌==◌, if◌then◌else◌}
 use Rattle.std.specs.List.{AllZip, list_any, filter_map, cons_option}
 use Rattle.std.proofs.lemmas.Bool.{true≢false}
-use Rattle.std.proofs.lemmas.List.Elements.{Contains-get_or, All-nil, All-same}
+use Rattle.std.proofs.lemmas.List.{take_more}
+use Rattle.std.proofs.lemmas.List.Elements.{Contains-get_or, Contains-push_cases, All-nil, All-same}
 use Rattle.spec_rational.specs.Rational.{ℚ}
 use Rattle.spec_linear.specs.Solution.{Constraint, Solvable, Fixes}
 use Rattle.spec_lists.specs.Texts.{Text}
@@ -26,6 +27,7 @@ use Rattle.cq_settle.specs.Underway.{IsUnderway, to_do}
 use Rattle.cq_settle.proofs.Begin.{HasBegun, underway}
 use Rattle.cq_settle.proofs.Binding.{none, binds_nothing}
 use Rattle.cq_settle.proofs.Closed.{nothing_behind}
+use Rattle.cq_settle.proofs.Joined.{numbers_behind}
 use Rattle.cq_settle.proofs.Numeric.{found_any, contains_of_has}
 use Rattle.cq_settle.proofs.Ways.{to_look_at, ends_kept}
 
@@ -33,6 +35,30 @@ contains_number : (vs : List VarId) (v : VarId) → Contains vs v → Contains (
 contains_number [] v h = absurd (contains_none v h)
 contains_number (w ∷ vs) v h =
     elim (contains_cases w vs v h) [ inl e ↦ contains_here w.0 (numbers_of vs) v.0 (ap (λ x. x.0) e) | inr m ↦ contains_later w.0 (numbers_of vs) v.0 (contains_number vs v m) ]
+
+pub empty_list : {A : Type 0} (xs : List A) → length xs ≡ 0 → xs ≡ []
+empty_list [] e = refl
+empty_list (x ∷ xs) e = absurd (omega (arith, e))
+
+-- one more variable that is not numeric
+pub one_more : (a : Attributes) (vs : List VarId) (i : ℕ) (d : VarId) → i < length vs → ((v : ℕ) → Contains (numbers_of (take i vs)) v → is_numeric a v ≡ false)
+    → is_numeric a (get_or vs i d).0 ≡ false → (v : ℕ) → Contains (numbers_of (take (i + 1) vs)) v → is_numeric a v ≡ false
+one_more a vs i d l f e v h =
+    let sums : numbers_of (take (i + 1) vs) ≡ numbers_of (take i vs) ++ (get_or vs i d).0 ∷ [] = ap numbers_of (take_more vs i d l) ∙ numbers_behind (take i vs) (get_or vs i d ∷ []) in
+    elim (Contains-push_cases (numbers_of (take i vs)) (get_or vs i d).0 v (subst (λ (ns : List ℕ). Contains ns v) sums h)) [
+      | inl m ↦ f v m
+      | inr i ↦ ap (is_numeric a) (sym i) ∙ e
+    ]
+
+pub is_idle_then : (c : Contents) (newly vs : List VarId) (told : List ℕ) (rows : List Constraint) → told ≡ [] → rows ≡ [] → vs ≡ newly
+    → ((v : ℕ) → Contains (numbers_of vs) v → is_numeric c.attrs v ≡ false) → (ns : List ℕ) → ns ≡ [] → ((n : ℕ) → IsWokenBy c.attrs (numbers_of vs) n → Contains ns n)
+    → IsIdle c newly told rows
+is_idle_then c newly vs told rows e f i numeric ns none woken = record {
+  nothing_told = e;
+  no_rows = f;
+  numeric = λ v h. numeric v (subst (λ (us : List VarId). Contains (numbers_of us) v) (sym i) h);
+  awaited = λ n h. contains_none n (subst (λ (ms : List ℕ). Contains ms n) none (woken n (subst (λ (us : List VarId). IsWokenBy c.attrs (numbers_of us) n) (sym i) h)));
+}
 
 none_kept : (test : ℕ → Bool) (xs : List ℕ) → ((x : ℕ) → Contains xs x → test x ≡ false) → filter test xs ≡ []
 none_kept test [] f = refl

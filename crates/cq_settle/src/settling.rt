@@ -85,12 +85,13 @@ fn is_idle(world: &World, work: &Work) -> Result<bool, AllocError>
     if !work.rows.is_empty() {
         return Ok(false);
     }
-    for &variable in work.newly.as_slice() {
+    let newly = work.newly.as_slice();
+    for &variable in newly {
         if world.attrs.is_numeric(variable) {
             return Ok(false);
         }
     }
-    let woken = world.attrs.woken(work.newly.as_slice())?;
+    let woken = world.attrs.woken(newly)?;
     Ok(woken.is_empty())
 }
 

@@ -1,10 +1,26 @@
-use Rattle.std.proofs.Common.{◌≡◌, ◌<◌, ◌≤◌, ◌+◌, ◌∙◌, ℕ, List, [], Bool, true, false, length, take, get_or, refl, sym, ap, subst, arith}
-use Rattle.std.proofs.lemmas.Bool.{true≢false, not-false, not-true}
+use Rattle.std.proofs.Common.{◌≡◌, ◌<◌, ◌≤◌, ◌∙◌, ℕ, List, length, take, sym, ap, subst, arith}
+use Rattle.std.specs.Prelude.{Contains}
+use Rattle.std.proofs.lemmas.Bool.{eqb-true}
 use Rattle.std.proofs.lemmas.List.{take_all}
 use Rattle.cq_attr.specs.Attributes.{is_numeric}
 use Rattle.cq_frac.specs.declared.VarId.{VarId}
-use Rattle.cq_settle.proofs.Idle.{none_numeric, one_more_plain, empty_items, none_woken}
+use Rattle.cq_walk.specs.Places.{numbers_of}
+use Rattle.cq_world.specs.Worlds.{now_of}
+use Rattle.cq_settle.proofs.Idle.{empty_list, one_more, is_idle_then}
 use Rattle.cq_settle.proofs.settling.is_idle.Goals as goal
 
-pub loop-variable-init : goal.loop-variable-init
-loop-variable-init c = none_numeric c.args.world.now.attrs.now
+pub loop-variable-preserved : goal.loop-variable-preserved
+loop-variable-preserved c =
+    let i = c.loop-variable.variable-index in
+    let d : VarId = record { 0 = 0 } in
+    let at : i < length c.as_slice-newly.result.now = omega (arith, c.loop-variable-test.true) in
+    one_more c.args.world.now.attrs.now c.as_slice-newly.result.now i d at c.loop-variable.invariant (sym c.is_numeric.ensures ∙ c.if-is_numeric.false)
+
+pub returns-in_ok-woken : goal.returns-in_ok-woken
+returns-in_ok-woken c = λ e.
+    let all : length c.as_slice-newly.result.now ≤ c.loop-variable.variable-index = omega (arith, c.loop-variable-test.false) in
+    is_idle_then (now_of c.args.world.now) c.args.work.now.newly c.as_slice-newly.result.now c.args.work.now.told.items c.args.work.now.rows.items
+    (empty_list _ (eqb-true _ 0 (sym c.is_empty.ensures ∙ c.if-not-is_empty.true))) (empty_list _ (eqb-true _ 0 (sym c.is_empty-2.ensures ∙ c.if-not-is_empty-2.true))) c.as_slice-newly.ensures
+    (subst (λ (vs : List VarId). (v : ℕ) → Contains (numbers_of vs) v → is_numeric c.args.world.now.attrs.now v ≡ false) (take_all c.loop-variable.variable-index c.as_slice-newly.result.now all)
+    c.loop-variable.invariant)
+    c.in_ok-woken.woken.items (empty_list _ (eqb-true _ 0 (sym c.is_empty-3.ensures ∙ e))) c.in_ok-woken.ensures.all

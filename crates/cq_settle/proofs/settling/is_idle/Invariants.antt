@@ -5,4 +5,4 @@ use Rattle.cq_walk.specs.Places.{numbers_of}
 use Rattle.cq_settle.proofs.settling.is_idle.Given as goal
 
 abbrev pub invariant-loop-variable : goal.invariant-loop-variable
-invariant-loop-variable l = (v : ℕ) → Contains (numbers_of (take l.variable-index l.work.newly)) v → is_numeric l.world.attrs.now v ≡ false
+invariant-loop-variable l = (v : ℕ) → Contains (numbers_of (take l.variable-index l.newly)) v → is_numeric l.world.attrs.now v ≡ false
