@@ -59,7 +59,7 @@ ascends_kept true w vs a f zero zero d l m = absurd (omega (arith, l))
 ascends_kept true w vs a f zero (suc j) d l m = f (get_or (numbers vs) j d) (j, omega (arith, m), any_default (numbers vs) j d (get_or (numbers vs) j d) (omega (arith, m)))
 ascends_kept true w vs a f (suc i) zero d l m = absurd (omega (arith, l))
 ascends_kept true w vs a f (suc i) (suc j) d l m = a i j d (omega (arith, l)) (omega (arith, m))
-ascends_kept false w vs a f = a
+ascends_kept false w vs a f i j d l m = a i j d l m
 
 ascends_filtered : (p : Waiting → Bool) (ws : List Waiting) → Ascends (numbers ws) → Ascends (numbers (filter p ws))
 ascends_filtered p [] a = a
