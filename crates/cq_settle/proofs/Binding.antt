@@ -2,7 +2,7 @@
 use Rattle.std.proofs.Common.{◌≡◌, ◌<◌, ◌≤◌, ℕ, ◌+◌, List, [], ◌∷◌, ◌++◌, map, length, Bool, true, false, cond, Option, None, Some, refl, sym, ap, ap₂, ◌∙◌, subst, inl, inr, ◌⊎◌, arith, append_assoc}
 use Rattle.std.specs.Prelude.{Contains, All, ◌==◌, not, MatchOption}
 use Rattle.std.proofs.lemmas.List.{length-append, length-map}
-use Rattle.std.proofs.lemmas.List.Elements.{All-contains, All-weaker, All-map, All-append, All-cons, All-nil, Contains-append_left, Contains-append_right}
+use Rattle.std.proofs.lemmas.List.Elements.{All-contains, All-weaker, All-map, All-append, All-cons, All-nil, Contains-append_left, Contains-append_right, Contains-push_cases}
 use Rattle.spec_rational.specs.Rational.{ℚ}
 use Rattle.spec_linear.specs.Solution.{Constraint, Fixed}
 use Rattle.spec_linear.proofs.Lists.{fixed_once}
@@ -10,7 +10,7 @@ use Rattle.spec_lists.proofs.Tests.{nat_eq-same, nat_eq-self}
 use Rattle.spec_terms.specs.Term.{Subst, Var, Number, Name, Compound, apply, single}
 use Rattle.spec_terms.proofs.Substitution.{apply-identity, apply-followed_by, apply_agree}
 use Rattle.cq_attr.specs.Attributes.{Attributes, is_numeric}
-use Rattle.cq_attr.proofs.Elements.{contains_here}
+use Rattle.cq_attr.proofs.Elements.{contains_here, contains_none}
 use Rattle.cq_frac.specs.declared.VarId.{VarId}
 use Rattle.cq_term.specs.HeapValue.{Terms}
 use Rattle.cq_term.specs.Meaning.{HeapTerm, at}
@@ -126,6 +126,12 @@ module _ (a : Attributes) (told : List Constraint) (old made new : Terms) (v : V
         (old.terms ++ Number q ∷ []) (All-append (HasNamesBelow n) old.terms (Number q ∷ []) all (All-cons (HasNamesBelow n) (Number q) [] tt (All-nil (HasNamesBelow n))))));
   }
 
+-- a numeric variable is within
+pub numeric_within : (a : Attributes) (n v : ℕ) → All (λ w. w < n) a.numeric → is_numeric a v ≡ true → v < n
+numeric_within a n v h e =
+    let r = found_any (λ w. w == v) a.numeric e in
+    subst (λ (x : ℕ). x < n) (nat_eq-same r.item v r.passes) (All-contains (λ w. w < n) a.numeric r.item h (contains_of_has a.numeric r.item r.among))
+
 -- ---- more values
 
 read_by : (f g : ℕ → Option ℚ) (v : ℕ) (o : Option ℚ) → apply (valued g) (value_or_variable o v) ≡ value_or_variable (first_of o (g v)) v
@@ -188,12 +194,45 @@ module _ (a : Attributes) (told : List Constraint) (old mid new : Terms) (before
   pub still_bound : (v : ℕ) (q : ℚ) → f v ≡ Some q → together f g v ≡ Some q
   still_bound v q e = ap (λ (o : Option ℚ). first_of o (g v)) e
 
--- ---- what a call knows of one variable
+  -- of one more variable
+  more_complete : (vs : List VarId) (x : VarId) → ((v : ℕ) (q : ℚ) → Contains (numbers_of vs) v → is_numeric a v ≡ true → at old.images v ≡ Var v → Fixed told v q → f v ≡ Some q)
+      → ((q : ℚ) → is_numeric a x.0 ≡ true → at mid.images x.0 ≡ Var x.0 → Fixed told x.0 q → g x.0 ≡ Some q)
+      → (v : ℕ) (q : ℚ) → Contains (numbers_of (vs ++ x ∷ [])) v → is_numeric a v ≡ true → at old.images v ≡ Var v → Fixed told v q → together f g v ≡ Some q
+  more_complete vs x h k v q m n u i = by_case (Contains-push_cases (numbers_of vs) x.0 v (subst (λ (ns : List ℕ). Contains ns v) (numbers_behind vs (x ∷ [])) m)) where
+    by_case : Contains (numbers_of vs) v ⊎ (x.0 ≡ v) → together f g v ≡ Some q
+    by_case (inl o) = still_bound v q (h v q o n u i)
+    by_case (inr e) = both_complete v q n u i (λ s. subst (λ (y : ℕ). g y ≡ Some q) e
+        (k q (subst (λ (y : ℕ). is_numeric a y ≡ true) (sym e) n) (subst (λ (y : ℕ). at mid.images y ≡ Var y) (sym e) s) (subst (λ (y : ℕ). Fixed told y q) (sym e) i)))
 
-pub numeric_within : (a : Attributes) (n v : ℕ) → All (λ w. w < n) a.numeric → is_numeric a v ≡ true → v < n
-numeric_within a n v h e =
-    let r = found_any (λ w. w == v) a.numeric e in
-    subst (λ (x : ℕ). x < n) (nat_eq-same r.item v r.passes) (All-contains (λ w. w < n) a.numeric r.item h (contains_of_has a.numeric r.item r.among))
+-- those of the variables that are numeric and unbound are bound
+abbrev pub AllBound : Attributes → List Constraint → Terms → Terms → List VarId → List VarId → List VarId → Type 0
+AllBound a told old new before after vs = (values : ℕ → Option ℚ)
+    × BindsValues a told old new before after values
+    × ((v : ℕ) (q : ℚ) → Contains (numbers_of vs) v → is_numeric a v ≡ true → at old.images v ≡ Var v → Fixed told v q → values v ≡ Some q)
+
+abbrev pub OneBound : Attributes → List Constraint → Terms → Terms → List VarId → List VarId → VarId → Type 0
+OneBound a told old new before after x = (values : ℕ → Option ℚ)
+    × BindsValues a told old new before after values
+    × ((q : ℚ) → is_numeric a x.0 ≡ true → at old.images x.0 ≡ Var x.0 → Fixed told x.0 q → values x.0 ≡ Some q)
+
+pub none_bound : (a : Attributes) (told : List Constraint) (h : Terms) (newly : List VarId) → AllBound a told h h newly newly []
+none_bound a told h newly = (none, binds_nothing a told h newly, λ v q m n u f. absurd (contains_none v m))
+
+pub one_more_bound : (a b : Attributes) (told said : List Constraint) (old mid new : Terms) (before first after vs : List VarId) (x : VarId)
+    → All (λ v. v < length old.images) a.numeric → b ≡ a → said ≡ told → AllBound a told old mid before first vs → OneBound b said mid new first after x
+    → AllBound a told old new before after (vs ++ x ∷ [])
+one_more_bound a b told said old mid new before first after vs x within e s h k =
+    joined (subst (λ (l : List Constraint). OneBound a l mid new first after x) s (subst (λ (y : Attributes). OneBound y said mid new first after x) e k)) where
+      below : (v : ℕ) → is_numeric a v ≡ true → v < length old.images
+      below v n = numeric_within a (length old.images) v within n
+      joined : OneBound a told mid new first after x → AllBound a told old new before after (vs ++ x ∷ [])
+      joined j = (
+        together h.0 j.0,
+        both_bind a told old mid new before first after h.0 j.0 below h.1 j.1,
+        more_complete a told old mid new before first after h.0 j.0 below h.1 j.1 vs x h.2 j.2,
+      )
+
+-- ---- what a call knows of one variable
 
 pub bool_absurd : {X : Type 0} (r n : Bool) → r ≡ n → not r ≡ true → n ≡ true → X
 bool_absurd true n e f g = cc

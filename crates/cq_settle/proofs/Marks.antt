@@ -60,6 +60,15 @@ same_saved v w k =
 pub marks_then : (u v w : World) → KeepsMarks u v → KeepsMarks v w → KeepsMarks u w
 marks_then u v w j k = record { heap = k.heap ∙ j.heap; attrs = k.attrs ∙ j.attrs; store = k.store ∙ j.store; pivots = k.pivots ∙ j.pivots; room = omega (arith, j.room, k.room) }
 
+pub marks_same : (w : World) → KeepsMarks w w
+marks_same w = record { heap = refl; attrs = refl; store = refl; pivots = refl; room = omega arith }
+
+-- the parts of the one world have the marks of those of the other
+pub marks_more : (u v w : World) → KeepsMarks u v → w.heap.saved ≡ v.heap.saved → v.heap.room ≤ w.heap.room → w.attrs.saved ≡ v.attrs.saved → v.attrs.room ≤ w.attrs.room
+    → w.store.saved ≡ v.store.saved → v.store.room ≤ w.store.room → w.store.pivots ≡ v.store.pivots → KeepsMarks u w
+marks_more u v w k h i a b s t p =
+    marks_then u v w k (record { heap = h; attrs = a; store = s; pivots = p; room = room_grows v.heap.room w.heap.room v.attrs.room w.attrs.room v.store.room w.store.room i b t })
+
 -- from the world at a mark, over one that has its marks, back to the mark or on without it
 module _ (old marked ran : World) (n : ℕ) (number : n ≡ length (saved_of old)) (saved : saved_of marked ≡ saved_of old ++ now_of old ∷ []) (now : now_of marked ≡ now_of old)
     (room : room_of old ≤ room_of marked + 1) (runs : KeepsMarks marked ran) where

@@ -2,7 +2,7 @@
 use Rattle.std.proofs.Common.{◌≡◌, ℕ, List, [], ◌∷◌, ◌++◌, Bool, true, false, refl, sym, ap, ◌∙◌, subst, ◌||◌}
 use Rattle.std.specs.Prelude.{Contains}
 use Rattle.std.proofs.lemmas.Bool.{true≢false}
-use Rattle.std.proofs.lemmas.List.Elements.{Contains-append_left, Contains-push}
+use Rattle.std.proofs.lemmas.List.Elements.{Contains-push}
 use Rattle.spec_rational.specs.Rational.{ℚ}
 use Rattle.spec_linear.specs.Form.{variable_form, constant_form}
 use Rattle.spec_linear.specs.Solution.{Constraint}
@@ -73,9 +73,6 @@ module _ (images : List HeapTerm) (v : ℕ) (x : VarId) (is : at images v ≡ Va
   variable_told before after e w i =
       subst (λ (ns : List ℕ). Contains ns w) (sym (ap numbers_of e ∙ numbers_behind before (x ∷ [])))
       (subst (λ (y : ℕ). Contains (numbers_of before ++ x.0 ∷ []) y) (same_variable w (sym is) (one_image images v w i)) (Contains-push (numbers_of before) x.0))
-
-pub still_told : (before after : List VarId) (x : VarId) → after ≡ before ++ x ∷ [] → (w : ℕ) → Contains (numbers_of before) w → Contains (numbers_of after) w
-still_told before after x e w h = subst (λ (ns : List ℕ). Contains ns w) (sym (ap numbers_of e ∙ numbers_behind before (x ∷ []))) (Contains-append_left (numbers_of before) (x.0 ∷ []) w h)
 
 -- ---- a number
 

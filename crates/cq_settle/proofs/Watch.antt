@@ -1,9 +1,9 @@
 -- What waits for a variable that became another one waits for that one too.
 use Rattle.std.proofs.Common.{◌≡◌, ℕ, ◌<◌, ◌+◌, List, [], ◌∷◌, ◌++◌, map, length, take, get_or, Bool, true, false, refl, sym, ap, ap₂, ◌∙◌, subst, inl, inr, ◌⊎◌, arith}
-use Rattle.std.specs.Prelude.{Contains, ◌==◌, if◌then◌else◌}
+use Rattle.std.specs.Prelude.{Contains, All, ◌==◌, if◌then◌else◌}
 use Rattle.std.specs.List.{AllZip}
 use Rattle.std.proofs.lemmas.List.{map-append}
-use Rattle.std.proofs.lemmas.List.Elements.{Contains-append_left, Contains-push_cases}
+use Rattle.std.proofs.lemmas.List.Elements.{All-weaker, All-contains_itself, Contains-append_left, Contains-push_cases}
 use Rattle.spec_terms.specs.Term.{Var, Number, Name, Compound}
 use Rattle.spec_lists.proofs.Tests.{nat_eq-self}
 use Rattle.spec_lists.proofs.Places.{take-next}
@@ -90,7 +90,17 @@ same_numbers ns x (k ∷ ks) (m ∷ ms) z = ap₂ (λ y ys. y ∷ ys) (sym z.0.n
 pub still_waits : (ns : List ℕ) (x n : ℕ) (a b : Attributes) → AllWatch ns x a b → Contains (numbers a.waiting) n → Contains (numbers b.waiting) n
 still_waits ns x n a b f h = subst (λ (ms : List ℕ). Contains ms n) (same_numbers ns x a.waiting b.waiting f.waiting) h
 
+-- what is woken waits
+pub woken_wait : (a : Attributes) (vs ns : List ℕ) → ((n : ℕ) → Contains ns n → IsWokenBy a vs n) → All (λ n. Contains (numbers a.waiting) n) ns
+woken_wait a vs ns f = All-weaker (Contains ns) (Contains (numbers a.waiting)) waits ns (All-contains_itself ns) where
+  waits : (n : ℕ) → Contains ns n → Contains (numbers a.waiting) n
+  waits n h = let w = (f n h).waits_for in subst (λ (m : ℕ). Contains (numbers a.waiting) m) w.number (number_in a.waiting w.waiting w.waits)
+
 -- ---- the variables that were bound
+
+-- among what waits, it waits for the variable too
+abbrev Among : List Waiting → List ℕ → ℕ → Waiting → Waiting → Type 0
+Among ls ns x l m = Contains ls l × WatchesToo ns x l m
 
 pub follows_none : (images : List HeapTerm) (a : Attributes) → Follows images [] a a
 follows_none images a = record { numeric = refl; next = refl; waiting = each a.waiting } where
@@ -112,12 +122,10 @@ module _ (images : List HeapTerm) (vs : List ℕ) (v : ℕ) (a b c : Attributes)
   follows_variable x i ns woken g = record {
     numeric = g.numeric ∙ f.numeric;
     next = g.next ∙ f.next;
-    waiting = zip_then (WaitsOn images vs) Among (WaitsOn images (vs ++ v ∷ [])) on a.waiting b.waiting c.waiting f.waiting
+    waiting = zip_then (WaitsOn images vs) (Among b.waiting ns x) (WaitsOn images (vs ++ v ∷ [])) on a.waiting b.waiting c.waiting f.waiting
         (zip_left (WatchesToo ns x) (λ l. Contains b.waiting l) b.waiting c.waiting g.waiting (λ l h. h));
   } where
-    abbrev Among : Waiting → Waiting → Type 0
-    Among l m = Contains b.waiting l × WatchesToo ns x l m
-    by_case : (k l m : Waiting) (y w : ℕ) → WaitsOn images vs k l → Among l m → at images y ≡ Var w → Contains k.watched y → Contains vs y ⊎ (v ≡ y) → Contains m.watched w
+    by_case : (k l m : Waiting) (y w : ℕ) → WaitsOn images vs k l → Among b.waiting ns x l m → at images y ≡ Var w → Contains k.watched y → Contains vs y ⊎ (v ≡ y) → Contains m.watched w
     by_case k l m y w r s e h (inl j) = s.1.still w (r.image y w j e h)
     by_case k l m y w r s e h (inr j) =
         let q : Var x ≡ Var w = sym i ∙ ap (at images) j ∙ e in
@@ -128,7 +136,7 @@ module _ (images : List HeapTerm) (vs : List ℕ) (v : ℕ) (a b c : Attributes)
           waits_for = record { waiting = l; waits = s.0; number = refl; watches = subst (λ (z : ℕ). Contains l.watched z) (sym j) (r.still y h) };
         } in
         subst (λ (z : ℕ). Contains m.watched z) same (s.1.too (woken l.number waits))
-    on : (k l m : Waiting) → WaitsOn images vs k l → Among l m → WaitsOn images (vs ++ v ∷ []) k m
+    on : (k l m : Waiting) → WaitsOn images vs k l → Among b.waiting ns x l m → WaitsOn images (vs ++ v ∷ []) k m
     on k l m r s = record {
       number = s.1.number ∙ r.number;
       susp = s.1.susp ∙ r.susp;

@@ -255,6 +255,7 @@ fn make_each_numeric(
     ensures numeric { OnOk result ((v : ℕ) → is_numeric attrs.new.now v ≡ (is_numeric attrs.old.now v
         || list_any (λ w. w == v) (numbers_of variables.now))) }
     ensures told { OnOk result (fixed.new.items ≡ fixed.old.items ++ variables.now) }
+    ensures still { (v : ℕ) → Contains (numbers_of fixed.old.items) v → Contains (numbers_of fixed.new.items) v }
     ensures waiting { attrs.new.now.waiting ≡ attrs.old.now.waiting }
     ensures saved { attrs.new.saved ≡ attrs.old.saved }
     ensures room { attrs.old.room ≤ attrs.new.room }

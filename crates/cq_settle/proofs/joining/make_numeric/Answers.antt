@@ -8,5 +8,19 @@ pub vars_of-requires : goal.vars_of-requires
 vars_of-requires c =
     let i = c.loop-term.term-index in
     let at : i < length c.args.told.now = omega (arith, c.loop-term-test.true) in
-    subst (λ h. get_or c.args.told.now i 0 < length h.terms) (sym c.loop-term.invariant.heap)
-    (All-get_or (λ id. id < length c.args.world.now.heap.now.terms) c.args.told.now i 0 at c.requires)
+    let terms = c.args.world.now.heap.now.terms in
+    subst (λ h. c.term-item.result < length h.terms) (sym c.loop-term.invariant.heap)
+    (subst (λ id. id < length terms) (sym c.term-item.is) (All-get_or (λ id. id < length terms) c.args.told.now i c.term-item.result at c.requires))
+
+pub loop-term-preserved : goal.loop-term-preserved
+loop-term-preserved c = ?
+
+pub returns-clause-unbound : goal.returns-clause-unbound
+returns-clause-unbound c =
+    let all : length c.args.told.now ≤ c.loop-term.term-index = omega (arith, c.loop-term-test.false) in
+    rw (take_all c.loop-term.term-index c.args.told.now all) at c.loop-term.invariant.unbound
+
+pub returns-clause-told : goal.returns-clause-told
+returns-clause-told c =
+    let all : length c.args.told.now ≤ c.loop-term.term-index = omega (arith, c.loop-term-test.false) in
+    rw (take_all c.loop-term.term-index c.args.told.now all) at c.loop-term.invariant.told
