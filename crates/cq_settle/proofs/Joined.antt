@@ -1,6 +1,6 @@
 -- Constraints that join one after another.
 use Rattle.std.proofs.Common.{◌≡◌, ℕ, List, [], ◌∷◌, ◌++◌, map, Bool, true, false, Option, Some, refl, sym, ap, ◌∙◌, subst, inl, inr, ◌⊎◌, append_assoc}
-use Rattle.std.specs.Prelude.{Contains, MatchBool, nat_eq, not}
+use Rattle.std.specs.Prelude.{Contains, nat_eq}
 use Rattle.std.proofs.lemmas.List.{map-append}
 use Rattle.std.proofs.lemmas.List.Elements.{Contains-append_left, Contains-append_right}
 use Rattle.spec_rational.specs.Rational.{ℚ}
@@ -40,15 +40,6 @@ numbers_behind xs ys = map-append (λ (v : VarId). v.0) xs ys
 pub told_ahead : (before more after : List VarId) → after ≡ before ++ more → (v : ℕ) → Contains (numbers_of before) v → Contains (numbers_of after) v
 told_ahead before more after e v h =
     subst (λ (ns : List ℕ). Contains ns v) (sym (ap numbers_of e ∙ numbers_behind before more)) (Contains-append_left (numbers_of before) (numbers_of more) v h)
-
--- a test that is turned says which
-pub went_on : {P Q : Type 0} (b : Bool) → not b ≡ false → MatchBool b P Q → P
-went_on true e h = h
-went_on false e h = cc
-
-pub was_stopped : {P Q : Type 0} (b : Bool) → not b ≡ true → MatchBool b P Q → Q
-was_stopped true e h = cc
-was_stopped false e h = h
 
 pub joins_nothing : (l : List Constraint) (fixed : List VarId) → HaveJoined l [] l fixed fixed
 joins_nothing l fixed = record { list = nothing l; solvable = λ h. h; still = λ v h. h; told = λ v q f g. absurd (g q f) } where

@@ -39,3 +39,4 @@ mod Marked
 mod Gathered
 mod Shown
 mod Before
+mod Equated

@@ -92,7 +92,3 @@ module _ (images terms : List HeapTerm) (told : List ℕ) (i d : ℕ) (at_place 
         still x m = subst (λ (ns : List ℕ). Contains ns x) (sym sums) (Contains-append_left (numbers_of fixed) (numbers_of vs) x m)
         new : (x : ℕ) → Contains (numbers_of vs) x → Contains (numbers_of after) x
         new x m = subst (λ (ns : List ℕ). Contains ns x) (sym sums) (Contains-append_right (numbers_of fixed) (numbers_of vs) x m)
-
-  pub told_on : (fixed before after : List VarId) → after ≡ fixed ++ vs → ((v : ℕ) → Contains (numbers_of before) v → Contains (numbers_of fixed) v)
-      → (v : ℕ) → Contains (numbers_of before) v → Contains (numbers_of after) v
-  told_on fixed before after e f v m = subst (λ (ns : List ℕ). Contains ns v) (sym (ap numbers_of e ∙ numbers_behind fixed vs)) (Contains-append_left (numbers_of fixed) (numbers_of vs) v (f v m))

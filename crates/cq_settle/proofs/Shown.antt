@@ -51,7 +51,7 @@ module _ (images terms : List HeapTerm) (v id : ℕ) (same : at terms id ≡ at 
   pub as_compound : (a n : ℕ) → view.Compound a n ≡ view_of (at terms id) → is_neither (at images v) ≡ true
   as_compound a n e = ap is_neither (sym same) ∙ compound_shown (at terms id) a n e
 
-or_nothing : (b : Bool) → b ≡ (b || false)
+pub or_nothing : (b : Bool) → b ≡ (b || false)
 or_nothing true = refl
 or_nothing false = refl
 

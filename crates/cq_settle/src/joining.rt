@@ -97,9 +97,9 @@ pub(crate) fn join_equations(
     ensures joined { IfOk result (λ yes. MatchBool yes
         (HaveJoined world.old.store.told (equations_of (now_of world.old) newly.now) world.new.store.told fixed.old.items fixed.new.items)
         (StopsAt CannotJoin world.old.store.told (equations_of (now_of world.old) newly.now))) }
-    ensures numeric { OnOk result ((v : ℕ) → is_numeric world.new.attrs.now v
+    ensures numeric { IfOk result (λ yes. IsTrue yes → (v : ℕ) → is_numeric world.new.attrs.now v
         ≡ (is_numeric world.old.attrs.now v || is_image_of world.old.heap.now.images (numeric_ones world.old.attrs.now newly.now) v)) }
-    ensures images { OnOk result ((v : ℕ) → is_image_of world.old.heap.now.images (numeric_ones world.old.attrs.now newly.now) v ≡ true
+    ensures images { IfOk result (λ yes. IsTrue yes → (v : ℕ) → is_image_of world.old.heap.now.images (numeric_ones world.old.attrs.now newly.now) v ≡ true
         → Contains (numbers_of fixed.new.items) v) }
     ensures waiting { world.new.attrs.now.waiting ≡ world.old.attrs.now.waiting }
     ensures heap { world.new.heap.now ≡ world.old.heap.now }

@@ -1,10 +1,11 @@
 use Rattle.std.proofs.Common.{◌≡◌, ◌+◌, ◌<◌, ◌≤◌, ◌∙◌, [], ◌∷◌, ◌++◌, length, take, drop, get_or, arith, refl, ap, sym, subst, Err}
 use Rattle.std.proofs.lemmas.List.{take_all, take_more, drop_more, take-append-drop}
+use Rattle.std.proofs.lemmas.Bool.Decides.{when_true, when_false}
 use Rattle.std.specs.Prelude.{ℕ, List}
 use Rattle.spec_linear.specs.Solution.{Constraint}
 use Rattle.cq_settle.specs.Steps.{HaveJoined, StopsAt, CannotJoin, Refuses, Takes}
 use Rattle.cq_linear.proofs.Passed.{passed, store_spent}
-use Rattle.cq_settle.proofs.Joined.{joins_nothing, one_more_joins, stops_at, went_on, was_stopped}
+use Rattle.cq_settle.proofs.Joined.{joins_nothing, one_more_joins, stops_at}
 use Rattle.cq_settle.proofs.joining.join_rows.Goals as goal
 
 split : (rows : List Constraint) (i : ℕ) (row : Constraint) → i < length rows → row ≡ get_or rows i row → rows ≡ take i rows ++ row ∷ drop (i + 1) rows
@@ -27,7 +28,7 @@ loop-row-preserved c =
       joined = subst (λ (rs : List Constraint). HaveJoined c.args.store.now.told rs c.join.new.store.told c.args.fixed.now.items c.join.new.fixed.items)
           (sym (take_more rows i row at ∙ ap (λ (r : Constraint). take i rows ++ r ∷ []) (sym (here rows i row c.row-item.result c.in_ok-row.ensures.cases c.row-item.is))))
           (one_more_joins c.args.store.now.told c.loop-row.store.told c.join.new.store.told (take i rows) row c.args.fixed.now.items c.loop-row.fixed.items c.join.new.fixed.items
-          c.loop-row.invariant.joined (went_on c.in_ok-join.field-0 c.if-not-branch.false c.in_ok-join.ensures.joined));
+          c.loop-row.invariant.joined (when_true _ _ c.if-not-branch.false c.in_ok-join.ensures.joined));
       saved = c.join.ensures.saved ∙ c.loop-row.invariant.saved;
       room = omega arith;
       budget = c.join.ensures.budget ∙ c.loop-row.invariant.budget;
@@ -40,7 +41,7 @@ returns-then-not-branch-clause-joined c =
     let at : i < length rows = omega arith in
     let row = c.in_ok-row.row in
     stops_at CannotJoin c.args.store.now.told c.loop-row.store.told (take i rows) (drop (i + 1) rows) rows row c.args.fixed.now.items c.loop-row.fixed.items c.loop-row.invariant.joined
-    (split rows i row at (here rows i row c.row-item.result c.in_ok-row.ensures.cases c.row-item.is)) (was_stopped c.in_ok-join.field-0 c.if-not-branch.true c.in_ok-join.ensures.joined)
+    (split rows i row at (here rows i row c.row-item.result c.in_ok-row.ensures.cases c.row-item.is)) (when_false _ _ c.if-not-branch.true c.in_ok-join.ensures.joined)
 
 pub returns-in_err-join-clause-overflow : goal.returns-in_err-join-clause-overflow
 returns-in_err-join-clause-overflow c = λ pair e.

@@ -1,7 +1,8 @@
-use Rattle.std.proofs.Common.{◌≡◌, ◌<◌, ◌≤◌, ◌∙◌, ap, sym, refl, length, arith}
+use Rattle.std.proofs.Common.{◌≡◌, ◌<◌, ◌≤◌, ◌∙◌, ap, sym, refl, length, take, arith}
 use Rattle.std.proofs.lemmas.List.{take_all}
 use Rattle.cq_attr.specs.Attributes.{Attributes}
 use Rattle.cq_frac.specs.declared.VarId.{VarId}
+use Rattle.cq_settle.proofs.Joined.{told_ahead}
 use Rattle.cq_settle.proofs.Marked.{each_numeric, each_told}
 use Rattle.cq_settle.proofs.joining.make_each_numeric.Goals as goal
 
@@ -28,3 +29,15 @@ pub returns-clause-told : goal.returns-clause-told
 returns-clause-told c =
     let all : length c.args.variables.now ≤ c.loop-variable.variable-index = omega (arith, c.loop-variable-test.false) in
     rw (take_all c.loop-variable.variable-index c.args.variables.now all) at c.loop-variable.invariant.told
+
+pub returns-in_err-set_numeric-clause-still : goal.returns-in_err-set_numeric-clause-still
+returns-in_err-set_numeric-clause-still c =
+    told_ahead c.args.fixed.now.items (take c.loop-variable.variable-index c.args.variables.now) c.loop-variable.fixed.items c.loop-variable.invariant.told
+
+pub returns-in_err-push-clause-still : goal.returns-in_err-push-clause-still
+returns-in_err-push-clause-still c =
+    told_ahead c.args.fixed.now.items (take c.loop-variable.variable-index c.args.variables.now) c.push.new.self.items (c.in_err-push.ensures.items ∙ c.loop-variable.invariant.told)
+
+pub returns-clause-still : goal.returns-clause-still
+returns-clause-still c =
+    told_ahead c.args.fixed.now.items (take c.loop-variable.variable-index c.args.variables.now) c.loop-variable.fixed.items c.loop-variable.invariant.told
