@@ -227,7 +227,8 @@ fn wake_one(heap: &Heap, attrs: &mut Attrs, number: SuspNo, goals: &mut Vec<Term
                 return Ok(());
             }
             attrs.take(number)?;
-            goals.push(goal)
+            goals.push(goal)?;
+            Ok(())
         }
     }
 }
