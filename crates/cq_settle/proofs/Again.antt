@@ -1,9 +1,9 @@
 -- Terms that are looked at again, one after another.
-use Rattle.std.proofs.Common.{◌≡◌, ◌≢◌, ◌<◌, ◌≤◌, ℕ, zero, suc, ◌+◌, ◌*◌, List, [], ◌∷◌, ◌++◌, map, length, drop, get_or, Bool, true, false, Option, None, Some, refl, sym, ap, ◌∙◌, subst, inl, inr, ◌⊎◌, arith, append_assoc}
+use Rattle.std.proofs.Common.{◌≡◌, ◌≢◌, ◌<◌, ◌≤◌, ℕ, zero, suc, ◌+◌, ◌*◌, List, [], ◌∷◌, ◌++◌, map, length, take, drop, get_or, Bool, true, false, Option, None, Some, refl, sym, ap, ◌∙◌, subst, inl, inr, ◌⊎◌, arith, append_assoc}
 use Rattle.std.specs.Prelude.{All, Contains, MatchBool, not, if◌then◌else◌, nat_lt}
 use Rattle.std.specs.List.{cons_option}
 use Rattle.std.proofs.lemmas.Bool.{lt-ltb, ltb-true, cases_lt}
-use Rattle.std.proofs.lemmas.List.{drop_all, drop_at, drop_more, length-drop, get_or-drop}
+use Rattle.std.proofs.lemmas.List.{drop_all, drop_at, drop_more, take_more, length-drop, get_or-drop}
 use Rattle.std.proofs.lemmas.List.Elements.{All-head, All-tail, All-contains, Contains-get_or, filter_passes}
 use Rattle.spec_linear.specs.Solution.{Constraint}
 use Rattle.spec_lists.proofs.Tests.{nat_eq-apart}
@@ -64,25 +64,35 @@ fewer_then c d e first second third f g = record {
 
 -- ---- what is still to be looked at waits
 
-pub waits_there : (a : Attributes) (ns : List ℕ) (i : ℕ) → i < length ns → All (λ n. Contains (numbers a.waiting) n) (drop i ns) → Contains (numbers a.waiting) (get_or ns i 0)
-waits_there a ns i l h =
-    All-head (λ n. Contains (numbers a.waiting) n) (get_or ns i 0) (drop (i + 1) ns) (subst (λ (ms : List ℕ). All (λ n. Contains (numbers a.waiting) n) ms) (drop_more ns i 0 l) h)
+-- the element that comes next
+pub drop_here : (ns : List ℕ) (i n : ℕ) → i < length ns → n ≡ get_or ns i n → drop i ns ≡ n ∷ drop (i + 1) ns
+drop_here ns i n l e = drop_more ns i n l ∙ ap (λ (m : ℕ). m ∷ drop (i + 1) ns) (sym e)
+
+pub take_here : (ns : List ℕ) (i n : ℕ) → i < length ns → n ≡ get_or ns i n → take (i + 1) ns ≡ take i ns ++ n ∷ []
+take_here ns i n l e = take_more ns i n l ∙ ap (λ (m : ℕ). take i ns ++ m ∷ []) (sym e)
+
+pub element : (P : ℕ → Type 0) (ns : List ℕ) (i n : ℕ) → i < length ns → n ≡ get_or ns i n → All P ns → P n
+element P ns i n l e h = subst P (sym e) (h i n l)
+
+pub waits_there : (a : Attributes) (ns : List ℕ) (i n : ℕ) → i < length ns → n ≡ get_or ns i n → All (λ m. Contains (numbers a.waiting) m) (drop i ns) → Contains (numbers a.waiting) n
+waits_there a ns i n l e h =
+    All-head (λ m. Contains (numbers a.waiting) m) n (drop (i + 1) ns) (subst (λ (ms : List ℕ). All (λ m. Contains (numbers a.waiting) m) ms) (drop_here ns i n l e) h)
 
 -- a later number is another one
-later_other : (ns : List ℕ) (i m : ℕ) → i < length ns → Ascends ns → Contains (drop (i + 1) ns) m → m ≢ get_or ns i 0
-later_other ns i m l a h = λ e.
+later_other : (ns : List ℕ) (i n m : ℕ) → i < length ns → n ≡ get_or ns i n → Ascends ns → Contains (drop (i + 1) ns) m → m ≢ n
+later_other ns i n m l e a h = λ same.
     let at : i + 1 + h.0 < length ns = omega (arith, h.1, length-drop (i + 1) ns) in
     let is : get_or ns (i + 1 + h.0) m ≡ m = sym (get_or-drop (i + 1) ns h.0 m) ∙ h.2 in
-    let same : get_or ns i m ≡ get_or ns i 0 = any_default ns i 0 m l in
-    omega (arith, a i (i + 1 + h.0) m (omega arith) at, is, same, e)
+    let here : get_or ns i m ≡ n = any_default ns i n m l ∙ sym e in
+    omega (arith, a i (i + 1 + h.0) m (omega arith) at, is, here, same)
 
-pub wait_on : (a b : Attributes) (ns : List ℕ) (i : ℕ) → i < length ns → Ascends ns → All (λ n. Contains (numbers a.waiting) n) (drop i ns)
-    → ((m : ℕ) → m ≢ get_or ns i 0 → Contains (numbers a.waiting) m → Contains (numbers b.waiting) m) → All (λ n. Contains (numbers b.waiting) n) (drop (i + 1) ns)
-wait_on a b ns i l asc h f j d m =
-    let n = get_or (drop (i + 1) ns) j d in
-    let among = Contains-get_or (drop (i + 1) ns) j d m in
-    let rest = All-tail (λ n. Contains (numbers a.waiting) n) (get_or ns i 0) (drop (i + 1) ns) (subst (λ (ms : List ℕ). All (λ n. Contains (numbers a.waiting) n) ms) (drop_more ns i 0 l) h) in
-    f n (later_other ns i n l asc among) (rest j d m)
+pub wait_on : (a b : Attributes) (ns : List ℕ) (i n : ℕ) → i < length ns → n ≡ get_or ns i n → Ascends ns → All (λ m. Contains (numbers a.waiting) m) (drop i ns)
+    → ((m : ℕ) → m ≢ n → Contains (numbers a.waiting) m → Contains (numbers b.waiting) m) → All (λ m. Contains (numbers b.waiting) m) (drop (i + 1) ns)
+wait_on a b ns i n l e asc h f j d k =
+    let m = get_or (drop (i + 1) ns) j d in
+    let among = Contains-get_or (drop (i + 1) ns) j d k in
+    let rest = All-tail (λ m. Contains (numbers a.waiting) m) n (drop (i + 1) ns) (subst (λ (ms : List ℕ). All (λ m. Contains (numbers a.waiting) m) ms) (drop_here ns i n l e) h) in
+    f m (later_other ns i n m l e asc among) (rest j d k)
 
 -- ---- the term that is taken away
 
@@ -112,17 +122,18 @@ no_constraint a n v t once found w h e =
 -- ---- a pass over what waits
 
 -- a pass in which nothing joins is the last one
-pub sooner : (c d : Contents) (seen : ℕ) (before after : List VarId) → seen < length before → HasFewer c d before after
-    → 2 * length (constraints d.attrs) + (if nat_lt (length before) (length after) then 1 else 0) < 2 * length (constraints c.attrs) + (if nat_lt seen (length before) then 1 else 0)
-sooner c d seen before after l f =
-    subst (λ (b : Bool). 2 * length (constraints d.attrs) + (if nat_lt (length before) (length after) then 1 else 0) < 2 * length (constraints c.attrs) + (if b then 1 else 0)) (sym (lt-ltb seen (length before) l))
-    (by_length (nat_lt (length before) (length after)) refl) where
-      by_length : (b : Bool) → nat_lt (length before) (length after) ≡ b → 2 * length (constraints d.attrs) + (if b then 1 else 0) < 2 * length (constraints c.attrs) + 1
-      by_length false e = omega (arith, f.fewer)
-      by_length true e = by_count (cases_lt (length (constraints d.attrs)) (length (constraints c.attrs))) where
-        by_count : (length (constraints d.attrs) < length (constraints c.attrs)) ⊎ (length (constraints c.attrs) ≤ length (constraints d.attrs)) → 2 * length (constraints d.attrs) + 1 < 2 * length (constraints c.attrs) + 1
-        by_count (inl m) = omega (arith, m)
-        by_count (inr m) = absurd (omega (arith, ltb-true (length before) (length after) e, ap length (f.none (omega (arith, f.fewer, m)))))
+pub sooner : (c d : Contents) (seen now : ℕ) (before after : List VarId) → seen < length before → now ≡ length before → HasFewer c d before after
+    → 2 * length (constraints d.attrs) + (if nat_lt now (length after) then 1 else 0) < 2 * length (constraints c.attrs) + (if nat_lt seen (length before) then 1 else 0)
+sooner c d seen now before after l e f =
+    subst (λ (b : Bool). 2 * length (constraints d.attrs) + (if nat_lt now (length after) then 1 else 0) < 2 * length (constraints c.attrs) + (if b then 1 else 0)) (sym (lt-ltb seen (length before) l))
+    (by_length (nat_lt now (length after)) refl) where
+      by_count : nat_lt now (length after) ≡ true
+          → (length (constraints d.attrs) < length (constraints c.attrs)) ⊎ (length (constraints c.attrs) ≤ length (constraints d.attrs)) → 2 * length (constraints d.attrs) + 1 < 2 * length (constraints c.attrs) + 1
+      by_count i (inl m) = omega (arith, m)
+      by_count i (inr m) = absurd (omega (arith, ltb-true now (length after) i, e, ap length (f.none (omega (arith, f.fewer, m)))))
+      by_length : (b : Bool) → nat_lt now (length after) ≡ b → 2 * length (constraints d.attrs) + (if b then 1 else 0) < 2 * length (constraints c.attrs) + 1
+      by_length false i = omega (arith, f.fewer)
+      by_length true i = by_count i (cases_lt (length (constraints d.attrs)) (length (constraints c.attrs)))
 
 -- ---- a goal that wakes, or sleeps on
 

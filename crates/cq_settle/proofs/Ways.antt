@@ -1,7 +1,8 @@
 -- From the call of a settling to its end, by way of the worlds in between.
-use Rattle.std.proofs.Common.{◌≡◌, ◌<◌, ◌≤◌, ℕ, List, [], ◌∷◌, ◌++◌, map, length, drop, get_or, Bool, true, false, Option, None, Some, refl, sym, ap, ◌∙◌, subst, inl, inr, ◌⊎◌, arith}
+use Rattle.std.proofs.Common.{◌≡◌, ◌<◌, ◌≤◌, ℕ, List, [], ◌∷◌, ◌++◌, ◌-◌, map, length, take, drop, get_or, Bool, true, false, Option, None, Some, refl, sym, ap, ◌∙◌, subst, inl, inr, ◌⊎◌, arith}
 use Rattle.std.specs.Prelude.{Contains, All, ◌==◌}
 use Rattle.std.specs.List.{AllZip}
+use Rattle.std.proofs.lemmas.List.{take_rest}
 use Rattle.std.proofs.lemmas.List.Elements.{Contains-get_or, All-get_or, All-contains}
 use Rattle.spec_rational.specs.Rational.{ℚ}
 use Rattle.spec_linear.specs.Solution.{Solvable, Fixes}
@@ -10,13 +11,15 @@ use Rattle.spec_lists.proofs.Tests.{nat_eq-self}
 use Rattle.spec_terms.specs.Term.{Subst}
 use Rattle.spec_syntax.specs.Trees.{Tree}
 use Rattle.spec_branch.specs.Branch.{State, Pending, Sleeper}
-use Rattle.cq_attr.specs.Attributes.{Waiting, Attributes, is_numeric, IsWokenBy, numbers, find}
+use Rattle.cq_attr.specs.Attributes.{Waiting, Attributes, Ascends, is_numeric, IsWokenBy, numbers, find}
 use Rattle.cq_attr.specs.declared.susp.Susp.{Susp}
 use Rattle.cq_attr.specs.declared.susp.Susp.TheVariants as susp
 use Rattle.cq_attr.proofs.Elements.{contains_cases}
+use Rattle.cq_frac.specs.declared.VarId.{VarId}
 use Rattle.cq_term.specs.HeapValue.{Terms}
 use Rattle.cq_term.specs.Meaning.{HeapTerm, at, blank}
 use Rattle.cq_term.specs.Names.{HasNamesBelow}
+use Rattle.cq_walk.specs.Places.{numbers_of}
 use Rattle.cq_world.specs.Contents.{Contents}
 use Rattle.cq_world.specs.Standing.{IsConstraint, IsSleeper, constraints, goals, is_constraint, is_goal}
 use Rattle.cq_settle.specs.Settled.{IsKept}
@@ -129,10 +132,22 @@ ends_kept texts old c all a woken solvable fixed fixes w st p u values waiting l
     is_kept texts old.heap.terms c st p u values waiting all (subst (λ (ts : List Tree). IsUnderway texts old.heap.terms c st p u values waiting ts [] [] [] all) e k)
     solvable fixed fixes a woken w old refl
 
+-- the numbers are those of what waits for one of the variables, ascending
+pub record AreWoken (a : Attributes) (bound ns : List ℕ) : Type 0 where
+  pub sound : (n : ℕ) → Contains ns n → IsWokenBy a bound n
+  pub all : (n : ℕ) → IsWokenBy a bound n → Contains ns n
+  pub ascends : Ascends ns
+
+pub woken_since : (a : Attributes) (newly s : List VarId) (seen : ℕ) (ns ms : List ℕ) → s ≡ newly → ms ≡ ns → AreWoken a (numbers_of (take (length s - seen) (drop seen s))) ns
+    → AreWoken a (numbers_of (drop seen newly)) ms
+woken_since a newly s seen ns ms e f w =
+    subst (λ (ks : List ℕ). AreWoken a (numbers_of (drop seen newly)) ks) (sym f)
+    (subst (λ (vs : List VarId). AreWoken a (numbers_of vs) ns) (take_rest s seen ∙ ap (drop seen) e) w)
+
 -- what was woken waits
-pub woken_waits : (a : Attributes) (bound ns : List ℕ) → ((n : ℕ) → Contains ns n → IsWokenBy a bound n) → All (λ n. Contains (numbers a.waiting) n) ns
+pub woken_waits : (a : Attributes) (bound ns : List ℕ) → AreWoken a bound ns → All (λ n. Contains (numbers a.waiting) n) ns
 woken_waits a bound ns f i d l =
-    let w = f (get_or ns i d) (Contains-get_or ns i d l) in
+    let w = f.sound (get_or ns i d) (Contains-get_or ns i d l) in
     subst (λ (n : ℕ). Contains (numbers a.waiting) n) w.waits_for.number (number_in a.waiting w.waits_for.waiting w.waits_for.waits)
 
 -- what is found waits, and its parts are there

@@ -1,10 +1,11 @@
-use Rattle.std.proofs.Common.{◌≡◌, ◌+◌, ◌<◌, ◌≤◌, ◌∙◌, [], ◌∷◌, List, ℕ, Err, length, drop, get_or, ap, refl, sym, subst, arith}
-use Rattle.std.proofs.lemmas.List.{drop_more, drop_all}
+use Rattle.std.proofs.Common.{◌≡◌, ◌+◌, ◌<◌, ◌≤◌, ◌∙◌, [], ◌∷◌, List, ℕ, Err, length, drop, ap, refl, sym, subst, arith}
+use Rattle.std.proofs.lemmas.List.{drop_all}
 use Rattle.cq_linear.proofs.Passed.{passed, store_spent}
 use Rattle.cq_walk.specs.Places.{numbers_of}
 use Rattle.cq_world.specs.Worlds.{now_of}
 use Rattle.cq_settle.specs.Settled.{IsPruned, MayRefuse, MayTake}
 use Rattle.cq_settle.specs.Underway.{GoesOn, SomeIsUnderway, to_do}
+use Rattle.cq_settle.proofs.Again.{drop_here}
 use Rattle.cq_settle.proofs.Marks.{marks_then}
 use Rattle.cq_settle.proofs.Ways.{goes_nowhere, goes_then, of_before, some_after}
 use Rattle.cq_settle.proofs.closing.join_told.Goals as goal
@@ -22,7 +23,7 @@ join_term-requires c =
     let b = numbers_of c.loop-term.newly in
     let at : i < length told = omega (arith, c.loop-term-test.true) in (
       drop (i + 1) told,
-      subst (λ (ts : List ℕ). SomeIsUnderway c.args.atoms.now (now_of c.loop-term.world) (to_do ts [] b b)) (drop_more told i 0 at)
+      subst (λ (ts : List ℕ). SomeIsUnderway c.args.atoms.now (now_of c.loop-term.world) (to_do ts [] b b)) (drop_here told i c.term-item.result at c.term-item.is)
           (some_after c.args.atoms.now (now_of c.args.world.now) (now_of c.loop-term.world) (to_do told [] (numbers_of c.args.newly.now) (numbers_of c.args.newly.now))
           (to_do (drop i told) [] b b) c.loop-term.invariant.goes c.requires),
     )
@@ -34,24 +35,26 @@ loop-term-preserved c =
     let b = numbers_of c.loop-term.newly in
     let d = numbers_of c.join_term.new.newly in
     let at : i < length told = omega (arith, c.loop-term-test.true) in
+    let joined = rw c.if-not-branch.false at c.in_ok-join_term.ensures.joined in
     record {
       goes = goes_then c.args.atoms.now (now_of c.args.world.now) (now_of c.loop-term.world) (now_of c.join_term.new.world)
           (to_do told [] (numbers_of c.args.newly.now) (numbers_of c.args.newly.now)) (to_do (drop i told) [] b b) (to_do (drop (i + 1) told) [] d d) c.loop-term.invariant.goes
           (subst (λ (ts : List ℕ). GoesOn c.args.atoms.now (now_of c.loop-term.world) (now_of c.join_term.new.world) (to_do ts [] b b) (to_do (drop (i + 1) told) [] d d))
-          (sym (drop_more told i 0 at)) (c.if-not-join_term.ensures.joined (drop (i + 1) told)));
+          (sym (drop_here told i c.term-item.result at c.term-item.is)) (joined (drop (i + 1) told)));
       marks = marks_then _ _ _ c.loop-term.invariant.marks c.join_term.ensures.marks;
     }
 
-pub returns-then-not-join_term-clause-joined : goal.returns-then-not-join_term-clause-joined
-returns-then-not-join_term-clause-joined c =
+pub returns-then-not-branch-clause-joined : goal.returns-then-not-branch-clause-joined
+returns-then-not-branch-clause-joined c =
     let i = c.loop-term.term-index in
     let told = c.args.told.now in
     let b = numbers_of c.loop-term.newly in
     let at : i < length told = omega (arith, c.loop-term-test.true) in
     let begin = to_do told [] (numbers_of c.args.newly.now) (numbers_of c.args.newly.now) in
-    of_before c.args.atoms.now (now_of c.args.world.now) (now_of c.loop-term.world) begin (to_do (get_or told i 0 ∷ drop (i + 1) told) [] b b) IsPruned
-    (subst (λ (ts : List ℕ). GoesOn c.args.atoms.now (now_of c.args.world.now) (now_of c.loop-term.world) begin (to_do ts [] b b)) (drop_more told i 0 at) c.loop-term.invariant.goes)
-    (c.if-not-join_term.ensures.joined (drop (i + 1) told))
+    let joined = rw c.if-not-branch.true at c.in_ok-join_term.ensures.joined in
+    of_before c.args.atoms.now (now_of c.args.world.now) (now_of c.loop-term.world) begin (to_do (c.term-item.result ∷ drop (i + 1) told) [] b b) IsPruned
+    (subst (λ (ts : List ℕ). GoesOn c.args.atoms.now (now_of c.args.world.now) (now_of c.loop-term.world) begin (to_do ts [] b b)) (drop_here told i c.term-item.result at c.term-item.is) c.loop-term.invariant.goes)
+    (joined (drop (i + 1) told))
 
 pub returns-in_err-join_term-clause-overflow : goal.returns-in_err-join_term-clause-overflow
 returns-in_err-join_term-clause-overflow c = λ pair e.
@@ -60,8 +63,8 @@ returns-in_err-join_term-clause-overflow c = λ pair e.
     let b = numbers_of c.loop-term.newly in
     let at : i < length told = omega (arith, c.loop-term-test.true) in
     let begin = to_do told [] (numbers_of c.args.newly.now) (numbers_of c.args.newly.now) in
-    of_before c.args.atoms.now (now_of c.args.world.now) (now_of c.loop-term.world) begin (to_do (get_or told i 0 ∷ drop (i + 1) told) [] b b) (λ st p u. MayRefuse st p pair)
-    (subst (λ (ts : List ℕ). GoesOn c.args.atoms.now (now_of c.args.world.now) (now_of c.loop-term.world) begin (to_do ts [] b b)) (drop_more told i 0 at) c.loop-term.invariant.goes)
+    of_before c.args.atoms.now (now_of c.args.world.now) (now_of c.loop-term.world) begin (to_do (c.term-item.result ∷ drop (i + 1) told) [] b b) (λ st p u. MayRefuse st p pair)
+    (subst (λ (ts : List ℕ). GoesOn c.args.atoms.now (now_of c.args.world.now) (now_of c.loop-term.world) begin (to_do ts [] b b)) (drop_here told i c.term-item.result at c.term-item.is) c.loop-term.invariant.goes)
     (c.in_err-join_term.ensures.overflow pair (ap Err (passed c.from_residual.result c.in_err-join_term.field-0.0 pair c.from_residual.ensures.1 e)) (drop (i + 1) told))
 
 pub returns-in_err-join_term-clause-pivots : goal.returns-in_err-join_term-clause-pivots
@@ -73,8 +76,8 @@ returns-in_err-join_term-clause-pivots c = λ n e.
     let begin = to_do told [] (numbers_of c.args.newly.now) (numbers_of c.args.newly.now) in
     let o = c.in_err-join_term.ensures.pivots n (ap Err (store_spent c.from_residual.result c.in_err-join_term.field-0.0 n c.from_residual.ensures.1 e)) in (
       o.0 ∙ c.loop-term.invariant.marks.pivots,
-      of_before c.args.atoms.now (now_of c.args.world.now) (now_of c.loop-term.world) begin (to_do (get_or told i 0 ∷ drop (i + 1) told) [] b b) (λ st p u. MayTake st p n)
-          (subst (λ (ts : List ℕ). GoesOn c.args.atoms.now (now_of c.args.world.now) (now_of c.loop-term.world) begin (to_do ts [] b b)) (drop_more told i 0 at) c.loop-term.invariant.goes)
+      of_before c.args.atoms.now (now_of c.args.world.now) (now_of c.loop-term.world) begin (to_do (c.term-item.result ∷ drop (i + 1) told) [] b b) (λ st p u. MayTake st p n)
+          (subst (λ (ts : List ℕ). GoesOn c.args.atoms.now (now_of c.args.world.now) (now_of c.loop-term.world) begin (to_do ts [] b b)) (drop_here told i c.term-item.result at c.term-item.is) c.loop-term.invariant.goes)
           (o.1 (drop (i + 1) told)),
     )
 

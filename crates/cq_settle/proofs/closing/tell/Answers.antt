@@ -17,8 +17,8 @@ returns-in-Unsolvable-clause-joined c =
     let h = rw c.in-Unsolvable.is at c.in_ok-tell.ensures.unsolvable in
     cannot_join c.args.world.now.store.told c.args.constraint c.in-Unsolvable.field-0 h.0
 
-pub returns-in_ok-bind_fixed-clause-joined : goal.returns-in_ok-bind_fixed-clause-joined
-returns-in_ok-bind_fixed-clause-joined c =
-    let b = c.in_ok-bind_fixed.ensures.bound in
+pub returns-clause-joined : goal.returns-clause-joined
+returns-clause-joined c =
+    let b = c.in_ok-bind_fixed-in-Kept.ensures.bound in
     joins_and_binds (now_of c.args.world.now) (now_of c.bind_fixed.new.world) c.args.constraint c.args.newly.now c.bind_fixed.new.newly c.in-Kept.fixed.items b.0
     (rw c.in-Kept.is at c.in_ok-tell.ensures.kept) (rw c.in-Kept.is at c.in_ok-tell.ensures.fixed) c.bind_fixed.ensures.attrs b.1 b.2

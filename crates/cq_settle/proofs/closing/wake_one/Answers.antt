@@ -22,10 +22,10 @@ returns-then-is_variable-clause-wakes c =
     (ap (goal_that_wakes c.args.heap.now.now.images) c.in-Goal.is
     ∙ ap (λ (b : Bool). if b then None else Some c.in-Goal.goal) (sym c.is_variable.ensures ∙ c.if-is_variable.true))
 
-pub returns-in_ok-push-clause-wakes : goal.returns-in_ok-push-clause-wakes
-returns-in_ok-push-clause-wakes c =
+pub returns-in_ok-push-in-Goal-clause-wakes : goal.returns-in_ok-push-in-Goal-clause-wakes
+returns-in_ok-push-in-Goal-clause-wakes c =
     wakes_goal c.args.heap.now.now.images c.args.number c.args.attrs.now.now c.take.new.self.now c.args.goals.now.items c.push.new.self.items c.susp.result.now c.susp.ensures
     c.in-Goal.goal
     (ap (goal_that_wakes c.args.heap.now.now.images) c.in-Goal.is
     ∙ ap (λ (b : Bool). if b then None else Some c.in-Goal.goal) (sym c.is_variable.ensures ∙ c.if-is_variable.false))
-    c.in_ok-take.ensures.ok c.in_ok-push.ensures.items
+    c.in_ok-take-in-Goal.ensures.ok c.in_ok-push-in-Goal.ensures.items

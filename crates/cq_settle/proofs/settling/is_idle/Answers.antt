@@ -16,8 +16,8 @@ loop-variable-preserved c =
     let at : i < length c.as_slice-newly.result.now = omega (arith, c.loop-variable-test.true) in
     one_more c.args.world.now.attrs.now c.as_slice-newly.result.now i d at c.loop-variable.invariant (sym c.is_numeric.ensures ∙ c.if-is_numeric.false)
 
-pub returns-in_ok-woken : goal.returns-in_ok-woken
-returns-in_ok-woken c = λ e.
+pub returns : goal.returns
+returns c = λ e.
     let all : length c.as_slice-newly.result.now ≤ c.loop-variable.variable-index = omega (arith, c.loop-variable-test.false) in
     is_idle_then (now_of c.args.world.now) c.args.work.now.newly c.as_slice-newly.result.now c.args.work.now.told.items c.args.work.now.rows.items
     (empty_list _ (eqb-true _ 0 (sym c.is_empty.ensures ∙ c.if-not-is_empty.true))) (empty_list _ (eqb-true _ 0 (sym c.is_empty-2.ensures ∙ c.if-not-is_empty-2.true))) c.as_slice-newly.ensures
