@@ -2,7 +2,6 @@ use Rattle.std.proofs.Common.{◌≡◌, ◌<◌, ◌≤◌, ◌+◌, ◌∙◌,
 use Rattle.std.specs.Prelude.{Contains}
 use Rattle.std.proofs.lemmas.Bool.Decides.{when_true, when_false}
 use Rattle.std.proofs.lemmas.List.{take_all}
-use Rattle.std.proofs.lemmas.List.Elements.{All-get_or}
 use Rattle.spec_linear.specs.Solution.{Constraint}
 use Rattle.spec_terms.specs.Term.{Var}
 use Rattle.cq_attr.specs.Attributes.{is_numeric}
@@ -44,7 +43,7 @@ returns-in_err-join-clause-overflow c = λ pair e.
     let here : i < length vs = omega (arith, c.loop-variable-test.true) in
     let v = get_or vs i d in
     let same = bound_same old.heap.now.images old.attrs.now l.world.attrs.now (numeric_ones old.attrs.now (take i vs)) v.0 l.invariant.numeric l.invariant.unbound
-        (All-get_or _ vs i d here c.requires.bound).1 in
+        (c.requires.bound i d here).1 in
     equation_stops (now_of old) vs i d here (sym same ∙ sym c.if-is_numeric.ensures) l.world.store.told c.equation_of.new.world.store.told c.in_ok-equation.equation
     c.args.fixed.now.items l.fixed.items l.invariant.joined c.equation_of.ensures.told
     (c.in_ok-equation.ensures.equation ∙ ap (λ (h : Terms). equation_at h.images v.0) l.invariant.heap) (Refuses pair)
@@ -60,7 +59,7 @@ returns-in_err-join-clause-pivots c = λ n e.
     let here : i < length vs = omega (arith, c.loop-variable-test.true) in
     let v = get_or vs i d in
     let same = bound_same old.heap.now.images old.attrs.now l.world.attrs.now (numeric_ones old.attrs.now (take i vs)) v.0 l.invariant.numeric l.invariant.unbound
-        (All-get_or _ vs i d here c.requires.bound).1 in
+        (c.requires.bound i d here).1 in
     let o = c.in_err-join.ensures.pivots n (ap Err (store_spent c.from_residual-in_err-join.result c.in_err-join.field-0.0 n c.from_residual-in_err-join.ensures.1 e)) in (
       o.0 ∙ c.equation_of.ensures.marks.pivots ∙ l.invariant.marks.pivots,
       equation_stops (now_of old) vs i d here (sym same ∙ sym c.if-is_numeric.ensures) l.world.store.told c.equation_of.new.world.store.told c.in_ok-equation.equation
@@ -78,7 +77,7 @@ returns-then-not-branch-clause-joined c =
     let here : i < length vs = omega (arith, c.loop-variable-test.true) in
     let v = get_or vs i d in
     let same = bound_same old.heap.now.images old.attrs.now l.world.attrs.now (numeric_ones old.attrs.now (take i vs)) v.0 l.invariant.numeric l.invariant.unbound
-        (All-get_or _ vs i d here c.requires.bound).1 in
+        (c.requires.bound i d here).1 in
     equation_stops (now_of old) vs i d here (sym same ∙ sym c.if-is_numeric.ensures) l.world.store.told c.equation_of.new.world.store.told c.in_ok-equation.equation
     c.args.fixed.now.items l.fixed.items l.invariant.joined c.equation_of.ensures.told
     (c.in_ok-equation.ensures.equation ∙ ap (λ (h : Terms). equation_at h.images v.0) l.invariant.heap) CannotJoin
@@ -94,7 +93,7 @@ loop-variable-preserved c =
     let here : i < length vs = omega (arith, c.loop-variable-test.true) in
     let v = get_or vs i d in
     let same = bound_same old.heap.now.images old.attrs.now l.world.attrs.now (numeric_ones old.attrs.now (take i vs)) v.0 l.invariant.numeric l.invariant.unbound
-        (All-get_or _ vs i d here c.requires.bound).1 in
+        (c.requires.bound i d here).1 in
     elim c.if-is_numeric.branch [
       | then-is_numeric+in_ok-equation+in_ok-join+else-not-branch w ↦ (
         let numeric = sym same ∙ sym w.if-is_numeric.ensures in
