@@ -5,24 +5,27 @@ use Rattle.std.specs.List.{cons_option}
 use Rattle.std.proofs.lemmas.Bool.{lt-ltb, ltb-true, cases_lt}
 use Rattle.std.proofs.lemmas.List.{drop_all, drop_at, drop_more, take_more, length-drop, get_or-drop}
 use Rattle.std.proofs.lemmas.List.Elements.{All-head, All-tail, All-contains, Contains-get_or, filter_passes}
-use Rattle.spec_linear.specs.Solution.{Constraint}
+use Rattle.spec_rational.specs.Rational.{ℚ}
+use Rattle.spec_linear.specs.Solution.{Constraint, Solvable, Fixed}
 use Rattle.spec_lists.proofs.Tests.{nat_eq-apart}
-use Rattle.cq_attr.specs.Attributes.{Waiting, Attributes, Ascends, numbers, find, without}
+use Rattle.spec_terms.specs.Term.{Var}
+use Rattle.cq_attr.specs.Attributes.{Waiting, Attributes, Ascends, is_numeric, numbers, find, without}
 use Rattle.cq_attr.specs.declared.susp.Susp.{Susp}
 use Rattle.cq_attr.specs.declared.susp.Susp.TheVariants as susp
 use Rattle.cq_frac.specs.declared.VarId.{VarId}
+use Rattle.cq_tableau.specs.Newly.{AreNewlyFixed}
 use Rattle.cq_linear.specs.StoreValue.{StoreValue}
 use Rattle.cq_term.specs.HeapValue.{HeapValue}
-use Rattle.cq_term.specs.Meaning.{HeapTerm}
+use Rattle.cq_term.specs.Meaning.{HeapTerm, at}
 use Rattle.cq_walk.specs.Places.{numbers_of}
 use Rattle.cq_world.specs.Contents.{Contents}
 use Rattle.cq_world.specs.Standing.{constraints, is_constraint}
 use Rattle.cq_world.specs.Worlds.{room_of}
 use Rattle.cq_world.specs.declared.world.World.{World}
 use Rattle.cq_settle.specs.Settled.{KeepsMarks}
-use Rattle.cq_settle.specs.Steps.{HasFewer, JoinsAndBinds, WakesOne, goal_that_wakes, unless_given}
+use Rattle.cq_settle.specs.Steps.{HasFewer, BindsValues, JoinsAndBinds, WakesOne, goal_that_wakes, unless_given}
 use Rattle.cq_settle.proofs.Closed.{nothing_behind}
-use Rattle.cq_settle.proofs.Joined.{numbers_behind}
+use Rattle.cq_settle.proofs.Joined.{numbers_behind, joins_and_binds}
 use Rattle.cq_settle.proofs.Permuted.{IsOnce, any_default}
 use Rattle.cq_settle.proofs.Taken.{one_fewer}
 use Rattle.cq_settle.proofs.Unique.{susp_under, number_in, is_other}
@@ -93,6 +96,19 @@ wait_on a b ns i n l e asc h f j d k =
     let among = Contains-get_or (drop (i + 1) ns) j d k in
     let rest = All-tail (λ m. Contains (numbers a.waiting) m) n (drop (i + 1) ns) (subst (λ (ms : List ℕ). All (λ m. Contains (numbers a.waiting) m) ms) (drop_here ns i n l e) h) in
     f m (later_other ns i n m l e asc among) (rest j d k)
+
+-- ---- a constraint that joins
+
+-- the list stays as values are bound
+pub joins_then : (c d : Contents) (row : Constraint) (before after these fixed : List VarId) (values : ℕ → Option ℚ) (told : List Constraint) → d.told ≡ told → these ≡ fixed
+    → Solvable told × (told ≡ c.told ++ row ∷ []) → AreNewlyFixed c.told told (numbers_of fixed) → d.attrs ≡ c.attrs → BindsValues c.attrs told c.heap d.heap before after values
+    → ((v : ℕ) (q : ℚ) → Contains (numbers_of these) v → is_numeric c.attrs v ≡ true → at c.heap.images v ≡ Var v → Fixed told v q → values v ≡ Some q)
+    → JoinsAndBinds c row d before after
+joins_then c d row before after these fixed values told e f kept newly attrs binds complete =
+    joins_and_binds c d row before after fixed values (subst (λ (l : List Constraint). Solvable l × (l ≡ c.told ++ row ∷ [])) (sym e) kept)
+    (subst (λ (l : List Constraint). AreNewlyFixed c.told l (numbers_of fixed)) (sym e) newly) attrs
+    (subst (λ (l : List Constraint). BindsValues c.attrs l c.heap d.heap before after values) (sym e) binds)
+    (λ v q h n u k. complete v q (subst (λ (vs : List VarId). Contains (numbers_of vs) v) (sym f) h) n u (subst (λ (l : List Constraint). Fixed l v q) e k))
 
 -- ---- the term that is taken away
 

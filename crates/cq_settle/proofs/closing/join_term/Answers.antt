@@ -79,8 +79,8 @@ returns-in_ok-suspend-in-Waits-clause-joined c = λ rest.
     let w = now_of c.args.world.now in
     let all = numbers_of c.args.newly.now in
     let id = c.args.term in
-    let vs = c.in-Waits.variables.items in
-    let these = rw c.in-Waits.is at c.in_ok-linearise.ensures.waits in
+    let vs = c.deref.result.now in
+    let these = ap numbers_of c.deref.ensures.value ∙ (rw c.in-Waits.is at c.in_ok-linearise.ensures.waits) in
     subst (λ (a : Attributes). GoesOn c.args.atoms.now w (record w { attrs = a }) (to_do (id ∷ rest) [] all all) (to_do rest [] all all)) (sym c.in_ok-suspend-in-Waits.ensures.ok)
     (front_suspends c.args.atoms.now w c.store_and_numbers.ensures.solvable f.0 f.1 id (sym c.in_ok-linearise.ensures.lin ∙ ap constraint_of c.in-Waits.is) (numbers_of vs)
     (λ v o. subst (λ (ns : List ℕ). Contains ns v) (variables_named (text_of c.args.atoms.now) (at w.heap.terms id) ∙ sym these) (occurs_listed (tree c.args.atoms.now w.heap.terms id) v o)) all rest)

@@ -1,7 +1,8 @@
 use Rattle.std.proofs.Common.{Err, ap, refl}
 use Rattle.cq_linear.proofs.Passed.{passed, store_spent}
 use Rattle.cq_world.specs.Worlds.{now_of}
-use Rattle.cq_settle.proofs.Joined.{cannot_join, joins_and_binds}
+use Rattle.cq_settle.proofs.Again.{joins_then}
+use Rattle.cq_settle.proofs.Joined.{cannot_join}
 use Rattle.cq_settle.proofs.closing.tell.Goals as goal
 
 pub returns-in_err-tell-clause-overflow : goal.returns-in_err-tell-clause-overflow
@@ -20,5 +21,6 @@ returns-in-Unsolvable-clause-joined c =
 pub returns-clause-joined : goal.returns-clause-joined
 returns-clause-joined c =
     let b = c.in_ok-bind_fixed-in-Kept.ensures.bound in
-    joins_and_binds (now_of c.args.world.now) (now_of c.bind_fixed.new.world) c.args.constraint c.args.newly.now c.bind_fixed.new.newly c.in-Kept.fixed.items b.0
+    joins_then (now_of c.args.world.now) (now_of c.bind_fixed.new.world) c.args.constraint c.args.newly.now c.bind_fixed.new.newly c.deref.result.now c.in-Kept.fixed.items b.0
+    c.tell.new.self.told c.bind_fixed.ensures.store c.deref.ensures.value
     (rw c.in-Kept.is at c.in_ok-tell.ensures.kept) (rw c.in-Kept.is at c.in_ok-tell.ensures.fixed) c.bind_fixed.ensures.attrs b.1 b.2

@@ -229,7 +229,7 @@ returns-clause-woken c =
     let closed = rw c.if-not-branch-3.false at c.in_ok-close.ensures.closed in
     let v = now_of c.wake.new.world in
     let fixes = c.store_and_numbers.ensures.fixes in
-    let goals = c.in_ok-wake.wake.items in
+    let goals = c.in_ok-wake.field-0.items in
     subst (λ (d : Contents). OfCalls texts w newly told rows (λ st p u. IsKept texts w d goals st p u))
     (but_attrs z v c.wake.ensures.heap c.wake.ensures.store c.wake.ensures.marks.pivots)
     (ran_kept texts w x newly told ts us rows rs all
