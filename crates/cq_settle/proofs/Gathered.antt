@@ -22,7 +22,7 @@ module _ (c : Contents) (newly : List VarId) (a : Attributes) (follows : Follows
   followed = record c { attrs = a }
 
   same_test : is_numeric a ≡ is_numeric c.attrs
-  same_test = ap (λ (ns : List ℕ) (v : ℕ). list_any (λ w. w == v) ns) follows.numeric
+  same_test = let f : List ℕ → ℕ → Bool = λ ns v. list_any (λ w. w == v) ns in ap f follows.numeric
 
   pub same_ones : numeric_ones a newly ≡ numeric_ones c.attrs newly
   same_ones = ap (λ (test : ℕ → Bool). Rattle.std.specs.Prelude.filter test (numbers_of newly)) same_test

@@ -40,3 +40,4 @@ mod Gathered
 mod Shown
 mod Before
 mod Equated
+mod Begun
