@@ -36,9 +36,9 @@ contains_number [] v h = absurd (contains_none v h)
 contains_number (w ∷ vs) v h =
     elim (contains_cases w vs v h) [ inl e ↦ contains_here w.0 (numbers_of vs) v.0 (ap (λ x. x.0) e) | inr m ↦ contains_later w.0 (numbers_of vs) v.0 (contains_number vs v m) ]
 
-pub empty_list : {A : Type 0} (xs : List A) (b : Bool) → b ≡ (length xs == 0) → b ≡ true → xs ≡ []
-empty_list [] b e f = refl
-empty_list (x ∷ xs) b e f = let n : length (x ∷ xs) ≡ 0 = nat_eq-same (length (x ∷ xs)) 0 (sym e ∙ f) in absurd (omega (arith, n))
+pub empty_list : {A : Type 0} (xs : List A) (n : ℕ) (b : Bool) → length xs ≡ n → b ≡ (n == 0) → b ≡ true → xs ≡ []
+empty_list [] n b l e f = refl
+empty_list (x ∷ xs) n b l e f = absurd (omega (arith, l, nat_eq-same n 0 (sym e ∙ f)))
 
 -- one more variable that is not numeric
 pub one_more : (a : Attributes) (vs : List VarId) (i : ℕ) (d : VarId) → i < length vs → ((v : ℕ) → Contains (numbers_of (take i vs)) v → is_numeric a v ≡ false)
