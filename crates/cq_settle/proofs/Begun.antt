@@ -31,13 +31,6 @@ module _ (c : Contents) (newly : List VarId) (e : Contents) (heap : e.heap ≡ c
   same_world : e ≡ with_attrs e.attrs e.pivots c.heap c.told
   same_world = ap₂ (with_attrs e.attrs e.pivots) heap list
 
-  same_numeric : (v : ℕ) → is_numeric e.attrs v ≡ is_numeric c.attrs v
-  same_numeric v = ap (λ (ns : List ℕ). list_any (λ w. w == v) ns) follows.numeric
-
-  pub free_then : All (λ (v : VarId). ClashesAt c v.0 → ⊥) newly → All (λ (v : VarId). ClashesAt e v.0 → ⊥) newly
-  free_then free = All-weaker (λ (v : VarId). ClashesAt c v.0 → ⊥) (λ (v : VarId). ClashesAt e v.0 → ⊥)
-      (λ v n x. n (sym (same_numeric v.0) ∙ x.0, ap (λ (h : Terms). is_neither (at h.images v.0)) (sym heap) ∙ x.1)) newly free
-
   -- what stops among the equations, or among the rows behind them, stops among all
   pub stops_equations : (P : List Constraint → Constraint → Type 0) (rows : List Constraint) → StopsAt P e.told (equations_of e newly)
       → StopsAt P c.told (equations_of c newly ++ rows)

@@ -234,14 +234,6 @@ one_more_bound a b told said old mid new before first after vs x within e s h k 
 
 -- ---- what a call knows of one variable
 
-pub bool_absurd : {X : Type 0} (r n : Bool) → r ≡ n → not r ≡ true → n ≡ true → X
-bool_absurd true n e f g = cc
-bool_absurd false n e f g = cc
-
-pub bool_known : (r n : Bool) → r ≡ n → not r ≡ false → n ≡ true
-bool_known true n e f = sym e
-bool_known false n e f = cc
-
 pub none_fixed : {X : Type 0} (o : Option ℚ) (P : ℚ → Type 0) → MatchOption o ((q : ℚ) → P q → ⊥) P → ((x : ℚ) → o ≡ Some x → ⊥) → (q : ℚ) → P q → X
 none_fixed None P m n q p = absurd (m q p)
 none_fixed (Some x) P m n q p = absurd (n x refl)

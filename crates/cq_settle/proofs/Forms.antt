@@ -57,11 +57,6 @@ of_one v q = ap₂ (λ (ps : List Monomial) (r : ℚ). record { products = ps; c
 pub neg_one_not_zero : neg_ℚ 1ℚ ≡ 0ℚ → ⊥
 neg_one_not_zero e = one_not_zero (ring [] (int (pos 1)) (minus (minus (int (pos 1)))) refl ∙ ap neg_ℚ e ∙ ring [] (minus (int (pos 0))) (int (pos 0)) refl)
 
-pub pair_is_form : (v w : ℕ) → w < v → IsForm (pair_form v w)
-pair_is_form v w l = (omega arith, neg_one_not_zero, (omega (arith, l), one_not_zero, tt))
-
-pub single_is_form : (v : ℕ) (q : ℚ) → IsForm (single_form v q)
-single_is_form v q = (omega arith, one_not_zero, tt)
 
 -- ---- such a form is zero
 

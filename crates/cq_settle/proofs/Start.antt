@@ -89,16 +89,7 @@ mutual
 pub variables_named : (f : ℕ → Text) (t : HeapTerm) → variables (named f t) ≡ variables t
 variables_named f t = variables_named_after f [] t
 
-pub unbound_value : (v : ℕ) (t : Tree) → t ≡ Var v → not (is_the_variable v t) ≡ false
-unbound_value v t e = ap (λ (x : Tree). not (is_the_variable v x)) e ∙ ap not (nat_eq-self v)
-
-bound_value : (v : ℕ) (t : Tree) → (t ≡ Var v → ⊥) → not (is_the_variable v t) ≡ true
-bound_value v t n = by_test (is_the_variable v t) refl where
-  by_test : (b : Bool) → is_the_variable v t ≡ b → not b ≡ true
-  by_test true e = absurd (n (variable_from v t e))
-  by_test false e = refl
-
-module _ (texts : List Text) (c : Contents) (newly : List VarId) (told : List ℕ) (rows : List Constraint) (st : State) (p : Pending) (u : Subst Text)
+pub unmodule _ (texts : List Text) (c : Contents) (newly : List VarId) (told : List ℕ) (rows : List Constraint) (st : State) (p : Pending) (u : Subst Text)
     (k : IsCalled texts c newly told rows st p u) where
   abbrev s : Subst Text
   s = unified st u
