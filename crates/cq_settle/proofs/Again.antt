@@ -147,6 +147,7 @@ sooner c d seen now before after l e f =
           → (length (constraints d.attrs) < length (constraints c.attrs)) ⊎ (length (constraints c.attrs) ≤ length (constraints d.attrs)) → 2 * length (constraints d.attrs) + 1 < 2 * length (constraints c.attrs) + 1
       by_count i (inl m) = omega (arith, m)
       by_count i (inr m) = absurd (omega (arith, ltb-true now (length after) i, e, ap length (f.none (omega (arith, f.fewer, m)))))
+
       by_length : (b : Bool) → nat_lt now (length after) ≡ b → 2 * length (constraints d.attrs) + (if b then 1 else 0) < 2 * length (constraints c.attrs) + 1
       by_length false i = omega (arith, f.fewer)
       by_length true i = by_count i (cases_lt (length (constraints d.attrs)) (length (constraints c.attrs)))

@@ -32,6 +32,7 @@ of_numbers P vs h = λ k d l. subst P (by_place vs k d) (h k d.0 (subst (λ (n :
   same_length : (vs : List VarId) → length (numbers_of vs) ≡ length vs
   same_length [] = refl
   same_length (v ∷ vs) = ap Rattle.std.proofs.Common.suc (same_length vs)
+
   by_place : (vs : List VarId) (k : ℕ) (d : VarId) → Rattle.std.specs.Prelude.slice_index_or (numbers_of vs) k d.0 ≡ (Rattle.std.specs.Prelude.slice_index_or vs k d).0
   by_place [] k d = refl
   by_place (v ∷ vs) Rattle.std.proofs.Common.zero d = refl
@@ -77,6 +78,6 @@ module _ (texts : List Text) (c : Contents) (newly : List VarId) (told : List �
   numeric_there_below free d fixed b =
       All-weaker (Contains d.attrs.numeric) (λ v. v < length d.heap.images)
       (λ v h. let n : is_numeric d.attrs v ≡ true = any_found (λ w. w == v) d.attrs.numeric v (has_of_contains d.attrs.numeric v h) (nat_eq-self v) in
-        let l = numeric_below st p u (task texts c newly told rows st p u k free d fixed b) v (sym (numeric_there texts c newly told rows st p u k free d fixed b v) ∙ n) in
-        subst (λ hp. v < length hp.images) (sym b.heap) (subst (λ (m : ℕ). v < m) (sym k.stands.fresh) l))
+      let l = numeric_below st p u (task texts c newly told rows st p u k free d fixed b) v (sym (numeric_there texts c newly told rows st p u k free d fixed b v) ∙ n) in
+      subst (λ hp. v < length hp.images) (sym b.heap) (subst (λ (m : ℕ). v < m) (sym k.stands.fresh) l))
       d.attrs.numeric (All-contains_itself d.attrs.numeric)

@@ -81,10 +81,10 @@ module _ (texts : List Text) (c : Contents) (newly : List VarId) (told : List �
   told_variables (i ∷ ids) [] e h = cc
   told_variables (i ∷ ids) (t ∷ ts) e h = (
     (λ v o. let r : tree texts c.heap.terms i ≡ apply s t = cc in
-      let n : Occurs v (at c.heap.terms i) = occurs_named (text_of texts) v (at c.heap.terms i) (subst (λ (x : Tree). Occurs v x) (sym r) o) in
-      let w = All-contains (IsUnbound c.heap.images) (variables (at c.heap.terms i)) v (All-head (λ id. All (IsUnbound c.heap.images) (variables (at c.heap.terms id))) i ids h)
-      (occurs_listed (at c.heap.terms i) v n) in
-      subst (λ (n : ℕ). v < n) k.stands.fresh w.0),
+        let n : Occurs v (at c.heap.terms i) = occurs_named (text_of texts) v (at c.heap.terms i) (subst (λ (x : Tree). Occurs v x) (sym r) o) in
+        let w = All-contains (IsUnbound c.heap.images) (variables (at c.heap.terms i)) v (All-head (λ id. All (IsUnbound c.heap.images) (variables (at c.heap.terms id))) i ids h)
+        (occurs_listed (at c.heap.terms i) v n) in
+        subst (λ (n : ℕ). v < n) k.stands.fresh w.0),
     told_variables ids ts (ap (Rattle.std.proofs.Common.drop 1) e) (All-tail (λ id. All (IsUnbound c.heap.images) (variables (at c.heap.terms id))) i ids h),
   )
 
@@ -167,16 +167,16 @@ module _ (texts : List Text) (c : Contents) (newly : List VarId) (told : List �
       elim (one_is (st.numeric v || list_any (λ w. definitions.is_the_variable v (s w)) (newly_bound st u)) (stands_in s p.told v) n) [
         | inl h ↦ (elim (one_is (st.numeric v) (list_any (λ w. definitions.is_the_variable v (s w)) (newly_bound st u)) h) [
           | inl m ↦ b.newly_fixed v q f (λ r g.
-            let bound = k.rests.fixed v r m (subst (λ (l : List Constraint). Fixed l v r) k.stands.linear g) in
-            let unbound = unbound_value v (st.bindings v) (unbound_before v e) in
-            true≢false (sym bound ∙ unbound))
+              let bound = k.rests.fixed v r m (subst (λ (l : List Constraint). Fixed l v r) k.stands.linear g) in
+              let unbound = unbound_value v (st.bindings v) (unbound_before v e) in
+              true≢false (sym bound ∙ unbound))
           | inr i ↦ b.images v (image_here v i)
         ])
         | inr t ↦ (let r = found_any (λ id. list_any (λ w. w == v) (variables (at c.heap.terms id))) told (stands_here v ∙ t) in
-          let w = found_any (λ w. w == v) (variables (at c.heap.terms r.item)) r.passes in
-          let all = All-contains (λ id. All (Contains fixed) (variables (at c.heap.terms id))) told r.item b.in_told (contains_of_has told r.item r.among) in
-          subst (λ (x : ℕ). Contains fixed x) (nat_eq-same w.item v w.passes)
-          (All-contains (Contains fixed) (variables (at c.heap.terms r.item)) w.item all (contains_of_has (variables (at c.heap.terms r.item)) w.item w.among)))
+            let w = found_any (λ w. w == v) (variables (at c.heap.terms r.item)) r.passes in
+            let all = All-contains (λ id. All (Contains fixed) (variables (at c.heap.terms id))) told r.item b.in_told (contains_of_has told r.item r.among) in
+            subst (λ (x : ℕ). Contains fixed x) (nat_eq-same w.item v w.passes)
+            (All-contains (Contains fixed) (variables (at c.heap.terms r.item)) w.item all (contains_of_has (variables (at c.heap.terms r.item)) w.item w.among)))
       ]
 
   -- ---- what waits
@@ -364,12 +364,12 @@ module _ (texts : List Text) (c : Contents) (newly : List VarId) (told : List �
   looked_one : (w m : Waiting) (t : Tree) → WaitsOn c.heap.images newly_ones w m → Before w t → WaitsOrToDo s none [] newly_ones m t
   looked_one w m t r h =
       looked_by m t h.1 (λ v o f.
-        let y = occurs_from st.bindings v t o in
-        let unbound : st.bindings v ≡ Var v = k.rests.read_through.through y.0 v y.2 in
-        let n : st.numeric v ≡ true = h.1.1 v o in (
-          r.still v (h.0.watched v o),
-          k.numeric v n (newly_there texts c newly told rows st p u k v (k.rests.read_through.numeric v n) unbound f),
-        )) (list_any (is_bound u) (variables (apply st.bindings t))) refl
+      let y = occurs_from st.bindings v t o in
+      let unbound : st.bindings v ≡ Var v = k.rests.read_through.through y.0 v y.2 in
+      let n : st.numeric v ≡ true = h.1.1 v o in (
+        r.still v (h.0.watched v o),
+        k.numeric v n (newly_there texts c newly told rows st p u k v (k.rests.read_through.numeric v n) unbound f),
+      )) (list_any (is_bound u) (variables (apply st.bindings t))) refl
 
   looked_at : AllZip (WaitsOrToDo s none [] newly_ones) (constraints d.attrs) st.delayed
   looked_at = zip_across (WaitsOn c.heap.images newly_ones) Before (WaitsOrToDo s none [] newly_ones) looked_one (constraints c.attrs) (constraints d.attrs) st.delayed
@@ -384,11 +384,11 @@ module _ (texts : List Text) (c : Contents) (newly : List VarId) (told : List �
   delayed_numeric [] h = tt
   delayed_numeric (t ∷ ts) h = (
     (λ v o.
-      let x = occurs_from u v (apply st.bindings t) (subst (λ (y : Tree). Occurs v y) (apply-followed_by st.bindings u t) o) in
-      let y = occurs_from st.bindings x.0 t x.1 in
-      let unbound : st.bindings x.0 ≡ Var x.0 = k.rests.read_through.through y.0 x.0 y.2 in
-      let n : st.numeric x.0 ≡ true = h.0 x.0 x.1 in
-      numeric_image st p u task x.0 v n (unified_unbound texts c newly told rows st p u k x.0 unbound ∙ by_unified x.0 v (u x.0) (numeric_unified x.0 n unbound) x.2)),
+        let x = occurs_from u v (apply st.bindings t) (subst (λ (y : Tree). Occurs v y) (apply-followed_by st.bindings u t) o) in
+        let y = occurs_from st.bindings x.0 t x.1 in
+        let unbound : st.bindings x.0 ≡ Var x.0 = k.rests.read_through.through y.0 x.0 y.2 in
+        let n : st.numeric x.0 ≡ true = h.0 x.0 x.1 in
+        numeric_image st p u task x.0 v n (unified_unbound texts c newly told rows st p u k x.0 unbound ∙ by_unified x.0 v (u x.0) (numeric_unified x.0 n unbound) x.2)),
     delayed_numeric ts h.1,
   )
 
@@ -396,7 +396,7 @@ module _ (texts : List Text) (c : Contents) (newly : List VarId) (told : List �
   told_numeric [] f = tt
   told_numeric (t ∷ ts) f = (
     (λ v o. or_right _ (stands_in s p.told v) (any_found (λ y. list_any (λ w. w == v) (variables (apply s y))) p.told t (f t (inl refl))
-      (any_found (λ w. w == v) (variables (apply s t)) v (has_of_contains (variables (apply s t)) v (occurs_listed (apply s t) v o)) (nat_eq-self v)))),
+        (any_found (λ w. w == v) (variables (apply s t)) v (has_of_contains (variables (apply s t)) v (occurs_listed (apply s t) v o)) (nat_eq-self v)))),
     told_numeric ts (λ y h. f y (inr h)),
   )
 
@@ -442,6 +442,7 @@ module _ (texts : List Text) (c : Contents) (newly : List VarId) (told : List �
           sums : (v : ℕ) → Contains newly_ones v → Contains (numbers_of after) v
           sums v h = subst (λ (vs : List VarId). Contains (numbers_of vs) v) (sym binds_there.list)
               (subst (λ (ns : List ℕ). Contains ns v) (sym (numbers_behind newly binds_there.more)) (Contains-append_left newly_ones (numbers_of binds_there.more) v h))
+
           new_sums : (v : ℕ) → Contains (numbers_of binds_there.more) v → Contains (numbers_of after) v
           new_sums v h = subst (λ (vs : List VarId). Contains (numbers_of vs) v) (sym binds_there.list)
               (subst (λ (ns : List ℕ). Contains ns v) (sym (numbers_behind newly binds_there.more)) (Contains-append_right newly_ones (numbers_of binds_there.more) v h))

@@ -225,6 +225,7 @@ one_more_bound a b told said old mid new before first after vs x within e s h k 
     joined (subst (λ (l : List Constraint). OneBound a l mid new first after x) s (subst (λ (y : Attributes). OneBound y said mid new first after x) e k)) where
       below : (v : ℕ) → is_numeric a v ≡ true → v < length old.images
       below v n = numeric_within a (length old.images) v within n
+
       joined : OneBound a told mid new first after x → AllBound a told old new before after (vs ++ x ∷ [])
       joined j = (
         together h.0 j.0,

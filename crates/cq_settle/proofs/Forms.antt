@@ -57,7 +57,6 @@ of_one v q = ap₂ (λ (ps : List Monomial) (r : ℚ). record { products = ps; c
 pub neg_one_not_zero : neg_ℚ 1ℚ ≡ 0ℚ → ⊥
 neg_one_not_zero e = one_not_zero (ring [] (int (pos 1)) (minus (minus (int (pos 1)))) refl ∙ ap neg_ℚ e ∙ ring [] (minus (int (pos 0))) (int (pos 0)) refl)
 
-
 -- ---- such a form is zero
 
 abbrev equals_zero : Linear → Constraint

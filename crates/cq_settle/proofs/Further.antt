@@ -70,7 +70,7 @@ module _ (texts : List Text) (c : Contents) (row : Constraint) (d : Contents) (b
   complete_of v q (Some r) e n b h = ap (λ (x : ℚ). Some x) (fixed_once d.told v r q (grown v r (old.fixed v r e)) h)
   complete_of v q None e n b h =
       let here : at c.heap.images v ≡ Var v = unnamed (text_of texts) v (at c.heap.images v)
-          (sym (images v (below v (numeric v ∙ n))) ∙ ap (apply (valued f)) b ∙ ap (λ (x : Option ℚ). value_or_variable x v) e) in
+      (sym (images v (below v (numeric v ∙ n))) ∙ ap (apply (valued f)) b ∙ ap (λ (x : Option ℚ). value_or_variable x v) e) in
       j.complete v q (numeric v ∙ n) here h (λ r g. left_over v r (old.complete v r n b g) e)
 
   pub bound_further : AreBound st p u d.told (together f j.values)

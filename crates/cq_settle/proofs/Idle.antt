@@ -146,8 +146,8 @@ module _ (c : Contents) (newly : List VarId) (told : List ℕ) (rows : List Cons
       → IsKept texts c c [] st p u
   idle_kept texts st p u k solvable fixed fixes =
       let start : IsUnderway texts c.heap.terms c st p u none st.delayed p.told told [] (numbers_of newly) (numbers_of newly) =
-          underway texts c newly told rows st p u k free c [] begun c newly none (binds_nothing c.attrs c.told c.heap newly) (λ v q h. absurd (contains_none v h)) refl refl in
+      underway texts c newly told rows st p u k free c [] begun c newly none (binds_nothing c.attrs c.told c.heap newly) (λ v q h. absurd (contains_none v h)) refl refl in
       let start_none : IsUnderway texts c.heap.terms c st p u none st.delayed p.told [] [] (numbers_of newly) (numbers_of newly) =
-          subst (λ (ids : List ℕ). IsUnderway texts c.heap.terms c st p u none st.delayed p.told ids [] (numbers_of newly) (numbers_of newly)) i.nothing_told start in
+      subst (λ (ids : List ℕ). IsUnderway texts c.heap.terms c st p u none st.delayed p.told ids [] (numbers_of newly) (numbers_of newly)) i.nothing_told start in
       let done = to_look_at texts c (numbers_of newly) [] (numbers_of newly) (λ n h. absurd (i.awaited n h)) st p u c.heap.terms none st.delayed p.told start_none in
       ends_kept texts c c (numbers_of newly) c.attrs [] solvable fixed fixes none_wakes st p u done.0 done.1 done.2 done.3

@@ -88,7 +88,9 @@ module _ (images terms : List HeapTerm) (told : List ℕ) (i d : ℕ) (at_place 
       (subst (All (Contains (numbers_of after))) these (All-weaker (Contains (numbers_of vs)) (Contains (numbers_of after)) new (numbers_of vs) (All-contains_itself (numbers_of vs)))) where
         sums : numbers_of after ≡ numbers_of fixed ++ numbers_of vs
         sums = ap numbers_of e ∙ numbers_behind fixed vs
+
         still : (x : ℕ) → Contains (numbers_of fixed) x → Contains (numbers_of after) x
         still x m = subst (λ (ns : List ℕ). Contains ns x) (sym sums) (Contains-append_left (numbers_of fixed) (numbers_of vs) x m)
+
         new : (x : ℕ) → Contains (numbers_of vs) x → Contains (numbers_of after) x
         new x m = subst (λ (ns : List ℕ). Contains ns x) (sym sums) (Contains-append_right (numbers_of fixed) (numbers_of vs) x m)

@@ -158,7 +158,6 @@ module _ (texts : List Text) (older : List HeapTerm) (st : State) (p : Pending) 
       (looked_at : AllZip (WaitsOrToDo (unified st u) f numbers bound) (constraints c.attrs) waiting)
       (are_bound : AreBound st p u d.told (together f g))
       (still : (v : ℕ) → Contains bound v → Contains more v) (news : (v : ℕ) → Contains (numbers_of b.more) v → Contains more v) where
-
     abbrev was : Subst Text
     was = bindings_now st u f
 

@@ -80,6 +80,7 @@ module _ (texts : List Text) (st : State) (u : Subst Text) (f : ℕ → Option �
     from_value : (w : ℕ) (o : Option ℚ) → value_or_variable o w ≡ Var v → w ≡ v
     from_value w None i = cc
     from_value w (Some q) i = cc
+
     unvalued : (t : Tree) → apply (valued g) t ≡ Var v → t ≡ Var v
     unvalued (Var w) i = ap (λ (x : ℕ). Var x) (from_value w (g w) i)
     unvalued (Number q) i = cc

@@ -44,9 +44,9 @@ module _ (a : Attributes) (n id : ℕ) (once : IsOnce (numbers a.waiting)) (foun
     pub others : (m : Waiting) → Contains (before ++ after) m → m.number ≡ n → ⊥
     others m h e =
         let o : IsOnce (numbers (before ++ under.waiting ∷ after)) =
-            subst (λ (ws : List Waiting). IsOnce (numbers ws)) split (once_filtered (λ (w : Waiting). is_constraint w.susp) a.waiting once) in
+        subst (λ (ws : List Waiting). IsOnce (numbers ws)) split (once_filtered (λ (w : Waiting). is_constraint w.susp) a.waiting once) in
         let w = once_without (numbers before) (numbers after) under.waiting.number
-            (subst IsOnce (map-append (λ (w : Waiting). w.number) before (under.waiting ∷ after)) o) in
+        (subst IsOnce (map-append (λ (w : Waiting). w.number) before (under.waiting ∷ after)) o) in
         w.1 (subst (λ (ns : List ℕ). Contains ns under.waiting.number) (map-append (λ (w : Waiting). w.number) before after)
         (subst (λ (x : ℕ). Contains (numbers (before ++ after)) x) (e ∙ sym under.number) (number_in (before ++ after) m h)))
 
@@ -59,15 +59,15 @@ module _ (a : Attributes) (n id : ℕ) (once : IsOnce (numbers a.waiting)) (foun
     pub one_less : length (constraints (without a n)) + 1 ≡ length (constraints a)
     one_less = ap (λ (ws : List Waiting). length ws + 1) constraints_then ∙ ap (λ (x : ℕ). x + 1) (length-append before after)
         ∙ plus_one (length before) (length after) ∙ sym (ap length split ∙ length-append before (under.waiting ∷ after)) where
-      plus_one : (x y : ℕ) → (x + y) + 1 ≡ x + suc y
-      plus_one x y = omega Rattle.std.proofs.Common.arith
+          plus_one : (x y : ℕ) → (x + y) + 1 ≡ x + suc y
+          plus_one x y = omega Rattle.std.proofs.Common.arith
 
   pub one_fewer : length (constraints (without a n)) + 1 ≡ length (constraints a)
   one_fewer = let r = partner_of (λ (x y : Waiting). Unit {0}) (constraints a) (constraints a) under.waiting (all_zip (constraints a)) is_among in
       one_less r.left_before r.left_after r.left where
-    all_zip : (ws : List Waiting) → AllZip (λ (x y : Waiting). Unit {0}) ws ws
-    all_zip [] = tt
-    all_zip (w ∷ ws) = (tt, all_zip ws)
+        all_zip : (ws : List Waiting) → AllZip (λ (x y : Waiting). Unit {0}) ws ws
+        all_zip [] = tt
+        all_zip (w ∷ ws) = (tt, all_zip ws)
 
 module _ (texts : List Text) (older : List HeapTerm) (c : Contents) (st : State) (p : Pending) (u : Subst Text) (f : ℕ → Option ℚ) (waiting later : List Tree)
     (rest ns bound all : List ℕ) (n id : ℕ) (k : IsHere texts older c st p u f waiting later rest (n ∷ ns) bound all) (once : IsOnce (numbers c.attrs.waiting))

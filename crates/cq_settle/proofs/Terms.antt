@@ -139,6 +139,7 @@ module _ (texts : List Text) (c : Contents) (solvable : Solvable c.told) (fixed 
           sums : (before after : List VarId) (j : JoinsAndBinds c row d before after) (v : ℕ) → Contains (numbers_of before) v → Contains (numbers_of after) v
           sums before after j v h = subst (λ (vs : List VarId). Contains (numbers_of vs) v) (sym j.binds.list)
               (subst (λ (ns : List ℕ). Contains ns v) (sym (numbers_behind before j.binds.more)) (Contains-append_left (numbers_of before) (numbers_of j.binds.more) v h))
+
           new_sums : (before after : List VarId) (j : JoinsAndBinds c row d before after) (v : ℕ) → Contains (numbers_of j.binds.more) v → Contains (numbers_of after) v
           new_sums before after j v h = subst (λ (vs : List VarId). Contains (numbers_of vs) v) (sym j.binds.list)
               (subst (λ (ns : List ℕ). Contains ns v) (sym (numbers_behind before j.binds.more)) (Contains-append_right (numbers_of before) (numbers_of j.binds.more) v h))
@@ -149,7 +150,7 @@ module _ (texts : List Text) (c : Contents) (solvable : Solvable c.told) (fixed 
   front_suspends e vs w all rest st p u older values waiting (t ∷ later) k =
       let o = front older st p u values waiting t later rest [] all all k.here in
       let waits : lin values (apply (unified st u) t) ≡ Waits =
-          sym (on_heap texts older c st p u values waiting (t ∷ later) (id ∷ rest) [] all all k.here fixed fixes id t o.reads) ∙ e in (
+      sym (on_heap texts older c st p u values waiting (t ∷ later) (id ∷ rest) [] all all k.here fixed fixes id t o.reads) ∙ e in (
         values,
         waiting ++ t ∷ [],
         later,
@@ -235,7 +236,7 @@ module _ (texts : List Text) (c : Contents) (solvable : Solvable c.told) (fixed 
           → w.number ≡ n → lin values (apply (unified st u) t) ≡ Waits
       here_waits w t h s i =
           let d : susp.Delayed s.id ≡ susp.Delayed id =
-              sym s.susp ∙ susp_under c.attrs.waiting n (susp.Delayed id) w once found (contains_unfiltered (λ (w : Waiting). is_constraint w.susp) c.attrs.waiting w h) i in
+          sym s.susp ∙ susp_under c.attrs.waiting n (susp.Delayed id) w once found (contains_unfiltered (λ (w : Waiting). is_constraint w.susp) c.attrs.waiting w h) i in
           let same : s.id ≡ id = cc in
           sym (on_heap texts older c st p u values waiting later [] (n ∷ ns) bound all k.here fixed fixes id t
           (subst (λ (x : ℕ). tree texts c.heap.terms x ≡ apply (bindings_now st u values) t) same s.reads)) ∙ e

@@ -282,7 +282,7 @@ module _ (images : List HeapTerm) (ws : List Waiting) (ascends : Ascends (number
     same_test : (k : Waiting) → Contains ws k → among ns k ≡ waits_for_one bound k
     same_test k h = same_bool (among ns k) (waits_for_one bound k)
         (λ e. let r = found_any (λ n. k.number == n) ns e in
-          waits_of k h (subst (λ (x : ℕ). Contains ns x) (sym (nat_eq-same k.number r.item r.passes)) (contains_of_has ns r.item r.among)))
+        waits_of k h (subst (λ (x : ℕ). Contains ns x) (sym (nat_eq-same k.number r.item r.passes)) (contains_of_has ns r.item r.among)))
         (λ e. any_found (λ n. k.number == n) ns k.number (has_of_contains ns k.number (number_of k h e)) (nat_eq-self k.number))
 
     pub all_left : left ns ≡ filter (λ k. not (waits_for_one bound k && wakes images k)) ws
@@ -292,14 +292,14 @@ module _ (images : List HeapTerm) (ws : List Waiting) (ascends : Ascends (number
     these : ns ≡ numbers (filter (waits_for_one bound) ws)
     these = same_ascending ns (numbers (filter (waits_for_one bound) ws)) asc (ascends_filtered (waits_for_one bound) ws ascends)
         (λ n h. let w = sound n h in
-          let m : Contains ws w.waits_for.waiting = subst (λ (vs : List Waiting). Contains vs w.waits_for.waiting) is w.waits_for.waits in
-          subst (λ (x : ℕ). Contains (numbers (filter (waits_for_one bound) ws)) x) w.waits_for.number
-          (number_in (filter (waits_for_one bound) ws) w.waits_for.waiting (contains_filtered (waits_for_one bound) ws w.waits_for.waiting m
-          (waits_for_it bound w.waits_for.waiting w.variable w.is_new w.waits_for.watches))))
+        let m : Contains ws w.waits_for.waiting = subst (λ (vs : List Waiting). Contains vs w.waits_for.waiting) is w.waits_for.waits in
+        subst (λ (x : ℕ). Contains (numbers (filter (waits_for_one bound) ws)) x) w.waits_for.number
+        (number_in (filter (waits_for_one bound) ws) w.waits_for.waiting (contains_filtered (waits_for_one bound) ws w.waits_for.waiting m
+        (waits_for_it bound w.waits_for.waiting w.variable w.is_new w.waits_for.watches))))
         (λ n h. let r = with_number (filter (waits_for_one bound) ws) n h in
-          subst (λ (x : ℕ). Contains ns x) r.number (number_of r.waiting (contains_unfiltered (waits_for_one bound) ws r.waiting r.waits)
-          (All-contains (λ k. waits_for_one bound k ≡ true) (filter (waits_for_one bound) ws) r.waiting
-          (filter_passes (waits_for_one bound) ws) r.waits)))
+        subst (λ (x : ℕ). Contains ns x) r.number (number_of r.waiting (contains_unfiltered (waits_for_one bound) ws r.waiting r.waits)
+        (All-contains (λ k. waits_for_one bound k ≡ true) (filter (waits_for_one bound) ws) r.waiting
+        (filter_passes (waits_for_one bound) ws) r.waits)))
 
     given_by : (b : Bool) (k : Waiting) (vs : List Waiting) (rest : List ℕ) → find ws k.number ≡ Some k.susp
         → filter_map (λ n. waking images (find ws n)) (numbers vs) ≡ rest

@@ -73,6 +73,7 @@ watch_more ns n x a b c f g = record {
   by_case : (k l m : Waiting) → WatchesToo ns x k l → WatchesToo (n ∷ []) x l m → Contains ns k.number ⊎ (n ≡ k.number) → Contains m.watched x
   by_case k l m r s (inl h) = s.still x (r.too h)
   by_case k l m r s (inr e) = s.too (contains_here n [] l.number (e ∙ sym r.number))
+
   both : (k l m : Waiting) → WatchesToo ns x k l → WatchesToo (n ∷ []) x l m → WatchesToo (ns ++ n ∷ []) x k m
   both k l m r s = record {
     number = s.number ∙ r.number;
@@ -115,6 +116,7 @@ module _ (images : List HeapTerm) (vs : List ℕ) (v : ℕ) (a b c : Attributes)
     by_case : (k m : Waiting) (x w : ℕ) → WaitsOn images vs k m → at images x ≡ Var w → Contains k.watched x → Contains vs x ⊎ (v ≡ x) → Contains m.watched w
     by_case k m x w r e h (inl i) = r.image x w i e h
     by_case k m x w r e h (inr i) = absurd (n w (ap (at images) i ∙ e))
+
     on : (k m : Waiting) → WaitsOn images vs k m → WaitsOn images (vs ++ v ∷ []) k m
     on k m r = record { number = r.number; susp = r.susp; still = r.still; image = λ x w i e h. by_case k m x w r e h (Contains-push_cases vs v x i) }
 
@@ -136,6 +138,7 @@ module _ (images : List HeapTerm) (vs : List ℕ) (v : ℕ) (a b c : Attributes)
           waits_for = record { waiting = l; waits = s.0; number = refl; watches = subst (λ (z : ℕ). Contains l.watched z) (sym j) (r.still y h) };
         } in
         subst (λ (z : ℕ). Contains m.watched z) same (s.1.too (woken l.number waits))
+
     on : (k l m : Waiting) → WaitsOn images vs k l → Among b.waiting ns x l m → WaitsOn images (vs ++ v ∷ []) k m
     on k l m r s = record {
       number = s.1.number ∙ r.number;

@@ -59,13 +59,13 @@ module _ (texts : List Text) (older : List HeapTerm) (c : Contents) (st : State)
   live_by : (w : Waiting) → Contains c.attrs.waiting w → (s : Susp) → w.susp ≡ s → IsLive c.heap s
   live_by w h (susp.Delayed t) e =
       let r = partner_of (IsConstraint texts c.heap (bindings_now st u values) (bindings_now st u values)) (constraints c.attrs) waiting w k.stands.delayed
-          (contains_filtered (λ x. is_constraint x.susp) c.attrs.waiting w h (ap is_constraint e)) in
+      (contains_filtered (λ x. is_constraint x.susp) c.attrs.waiting w h (ap is_constraint e)) in
       let d : susp.Delayed r.pair.id ≡ susp.Delayed t = sym r.pair.susp ∙ e in
       let i : r.pair.id ≡ t = cc in
       subst (λ (x : ℕ). x < length c.heap.terms) i r.pair.live
   live_by w h (susp.Goal v t) e =
       let r = partner_of (IsSleeper texts c.heap (bindings_now st u values) (bindings_now st u values)) (goals c.attrs) st.sleepers w k.stands.sleepers
-          (contains_filtered (λ x. is_goal x.susp) c.attrs.waiting w h (ap is_goal e)) in
+      (contains_filtered (λ x. is_goal x.susp) c.attrs.waiting w h (ap is_goal e)) in
       let d : susp.Goal r.pair.variable r.pair.id ≡ susp.Goal v t = sym r.pair.susp ∙ e in
       let i : r.pair.id ≡ t = cc in
       let j : r.pair.variable ≡ v = cc in (

@@ -28,7 +28,7 @@ pub(crate) fn begin(
     requires { (texts : List Text) × SomeIsCalled texts (now_of world.old) newly.old told.now rows.now }
     ensures begun { IfOk result (λ yes. MatchBool yes
         ((texts : List Text) → OfCalls texts (now_of world.old) newly.old told.now rows.now
-            (HasStarted texts world.old.heap.now.terms (now_of world.new) told.now (numbers_of newly.new)))
+        (HasStarted texts world.old.heap.now.terms (now_of world.new) told.now (numbers_of newly.new)))
         ((texts : List Text) → OfCalls texts (now_of world.old) newly.old told.now rows.now IsPruned)) }
     ensures overflow { (pair : Pair) → result ≡ Err (Overflow pair)
         → (texts : List Text) → OfCalls texts (now_of world.old) newly.old told.now rows.now (λ st p u. MayRefuse st p pair) }

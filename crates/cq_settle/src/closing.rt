@@ -213,7 +213,12 @@ pub(crate) fn wake(world: &mut World, newly: &[VarId]) -> Result<Vec<TermId>, Al
 }
 
 /// A goal that waits under the number, and whose variable is none any more, waits no more and is told.
-fn wake_one(heap: &Heap, attrs: &mut Attrs, number: SuspNo, goals: &mut Vec<TermId>) -> Result<(), AllocError>
+fn wake_one(
+    heap: &Heap,
+    attrs: &mut Attrs,
+    number: SuspNo,
+    goals: &mut Vec<TermId>,
+) -> Result<(), AllocError>
     requires waits { Contains (numbers attrs.old.now.waiting) number }
     requires live { All (λ k. IsLive heap.now.now k.susp) attrs.old.now.waiting }
     ensures wakes { OnOk result (WakesOne heap.now.now.images number attrs.old.now attrs.new.now goals.old.items goals.new.items) }

@@ -8,8 +8,8 @@ ghost use Rattle.cq_settle.specs.Called.{SomeIsCalled, OfCalls};
 ghost use Rattle.cq_settle.specs.Steps.{IsIdle};
 ghost use Rattle.cq_settle.specs.Settled.{IfWoken, IfPruned, IsKept, IsPruned, MayRefuse, MayTake, KeepsMarks};
 
-use crate::closing::{close, join_told, store_and_numbers, wake};
 use crate::beginning::begin;
+use crate::closing::{close, join_told, store_and_numbers, wake};
 use cq_atoms::Atoms;
 use cq_form::Constraint;
 use cq_linear::store::StoreFault;

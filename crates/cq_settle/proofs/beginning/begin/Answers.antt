@@ -115,7 +115,7 @@ returns-in_err-join_rows-clause-overflow c = λ pair e texts st p u k.
     let free = free_of (now_of old) c.as_slice.result.now newly c.as_slice.ensures c.if-clashes.ensures in
     let follows = follows_of old.heap.now.images c.as_slice-2.result.now newly old.attrs.now then.attrs.now c.as_slice-2.ensures c.in_ok-follow.ensures.follows in
     let equations = joined_of (now_of then) c.as_slice-3.result.now newly c.join_equations.new.world.store.told c.new-fixed.result.items c.join_equations.new.fixed.items c.as_slice-3.ensures
-        (when_true _ _ c.if-not-branch.false c.in_ok-join_equations.ensures.joined) in
+    (when_true _ _ c.if-not-branch.false c.in_ok-join_equations.ensures.joined) in
     refused texts (now_of old) newly c.args.told.now rows st p u k free c.store_and_numbers.ensures.fixes.0 c.store_and_numbers.ensures.fixes.1 pair
     (stops_rows (now_of old) newly (now_of then) c.follow.ensures.heap c.follow.ensures.told follows (Refuses pair) rows c.join_equations.new.world.store.told c.new-fixed.result.items c.join_equations.new.fixed.items equations
     (c.in_err-join_rows.ensures.overflow pair (ap Err (passed c.from_residual-in_err-join_rows.result c.in_err-join_rows.field-0.0 pair c.from_residual-in_err-join_rows.ensures.1 e))))
@@ -129,7 +129,7 @@ returns-in_err-join_rows-clause-pivots c = λ n e.
     let free = free_of (now_of old) c.as_slice.result.now newly c.as_slice.ensures c.if-clashes.ensures in
     let follows = follows_of old.heap.now.images c.as_slice-2.result.now newly old.attrs.now then.attrs.now c.as_slice-2.ensures c.in_ok-follow.ensures.follows in
     let equations = joined_of (now_of then) c.as_slice-3.result.now newly c.join_equations.new.world.store.told c.new-fixed.result.items c.join_equations.new.fixed.items c.as_slice-3.ensures
-        (when_true _ _ c.if-not-branch.false c.in_ok-join_equations.ensures.joined) in
+    (when_true _ _ c.if-not-branch.false c.in_ok-join_equations.ensures.joined) in
     let o = c.in_err-join_rows.ensures.pivots n (ap Err (store_spent c.from_residual-in_err-join_rows.result c.in_err-join_rows.field-0.0 n c.from_residual-in_err-join_rows.ensures.1 e)) in (
       o.0 ∙ c.join_equations.ensures.marks.pivots ∙ c.follow.ensures.marks.pivots,
       λ texts st p u k. spent texts (now_of old) newly c.args.told.now rows st p u k free c.store_and_numbers.ensures.fixes.0 c.store_and_numbers.ensures.fixes.1 n
@@ -145,7 +145,7 @@ returns-then-not-branch-2-clause-begun c = λ texts st p u k.
     let free = free_of (now_of old) c.as_slice.result.now newly c.as_slice.ensures c.if-clashes.ensures in
     let follows = follows_of old.heap.now.images c.as_slice-2.result.now newly old.attrs.now then.attrs.now c.as_slice-2.ensures c.in_ok-follow.ensures.follows in
     let equations = joined_of (now_of then) c.as_slice-3.result.now newly c.join_equations.new.world.store.told c.new-fixed.result.items c.join_equations.new.fixed.items c.as_slice-3.ensures
-        (when_true _ _ c.if-not-branch.false c.in_ok-join_equations.ensures.joined) in
+    (when_true _ _ c.if-not-branch.false c.in_ok-join_equations.ensures.joined) in
     prunes texts (now_of old) newly c.args.told.now rows st p u k free
     (stops_rows (now_of old) newly (now_of then) c.follow.ensures.heap c.follow.ensures.told follows CannotJoin rows c.join_equations.new.world.store.told c.new-fixed.result.items c.join_equations.new.fixed.items equations (when_false _ _ c.if-not-branch-2.true c.in_ok-join_rows.ensures.joined))
 
@@ -158,18 +158,18 @@ bind_fixed-requires c =
     let free = free_of (now_of old) c.as_slice.result.now newly c.as_slice.ensures c.if-clashes.ensures in
     let follows = follows_of old.heap.now.images c.as_slice-2.result.now newly old.attrs.now then.attrs.now c.as_slice-2.ensures c.in_ok-follow.ensures.follows in
     let equations = joined_of (now_of then) c.as_slice-3.result.now newly c.join_equations.new.world.store.told c.new-fixed.result.items c.join_equations.new.fixed.items c.as_slice-3.ensures
-        (when_true _ _ c.if-not-branch.false c.in_ok-join_equations.ensures.joined) in
+    (when_true _ _ c.if-not-branch.false c.in_ok-join_equations.ensures.joined) in
     let has = begun (now_of old) newly (now_of then) c.follow.ensures.heap c.follow.ensures.told follows c.args.told.now rows
-        (joined_then c.join_equations.new.world.heap.now c.join_equations.new.world.attrs.now c.join_rows.new.store.told c.join_rows.new.store.pivots)
-        (now_of c.make_numeric.new.world) c.join_equations.new.world.store.told c.new-fixed.result.items c.join_equations.new.fixed.items c.join_rows.new.fixed.items c.make_numeric.new.fixed.items
-        equations
-        (subst (λ (xs : List VarId). (v : ℕ) → is_numeric c.join_equations.new.world.attrs.now v ≡ (is_numeric then.attrs.now v || is_image_of then.heap.now.images (numeric_ones then.attrs.now xs) v))
-        c.as_slice-3.ensures (c.in_ok-join_equations.ensures.numeric c.if-not-branch.false))
-        (subst (λ (xs : List VarId). (v : ℕ) → is_image_of then.heap.now.images (numeric_ones then.attrs.now xs) v ≡ true → Contains (numbers_of c.join_equations.new.fixed.items) v)
-        c.as_slice-3.ensures (c.in_ok-join_equations.ensures.images c.if-not-branch.false))
-        c.join_equations.ensures.waiting c.join_equations.ensures.heap (when_true _ _ c.if-not-branch-2.false c.in_ok-join_rows.ensures.joined)
-        c.in_ok-make_numeric.ensures.numeric c.in_ok-make_numeric.ensures.unbound c.in_ok-make_numeric.ensures.told c.make_numeric.ensures.still
-        c.make_numeric.ensures.waiting c.make_numeric.ensures.heap c.make_numeric.ensures.store in
+    (joined_then c.join_equations.new.world.heap.now c.join_equations.new.world.attrs.now c.join_rows.new.store.told c.join_rows.new.store.pivots)
+    (now_of c.make_numeric.new.world) c.join_equations.new.world.store.told c.new-fixed.result.items c.join_equations.new.fixed.items c.join_rows.new.fixed.items c.make_numeric.new.fixed.items
+    equations
+    (subst (λ (xs : List VarId). (v : ℕ) → is_numeric c.join_equations.new.world.attrs.now v ≡ (is_numeric then.attrs.now v || is_image_of then.heap.now.images (numeric_ones then.attrs.now xs) v))
+    c.as_slice-3.ensures (c.in_ok-join_equations.ensures.numeric c.if-not-branch.false))
+    (subst (λ (xs : List VarId). (v : ℕ) → is_image_of then.heap.now.images (numeric_ones then.attrs.now xs) v ≡ true → Contains (numbers_of c.join_equations.new.fixed.items) v)
+    c.as_slice-3.ensures (c.in_ok-join_equations.ensures.images c.if-not-branch.false))
+    c.join_equations.ensures.waiting c.join_equations.ensures.heap (when_true _ _ c.if-not-branch-2.false c.in_ok-join_rows.ensures.joined)
+    c.in_ok-make_numeric.ensures.numeric c.in_ok-make_numeric.ensures.unbound c.in_ok-make_numeric.ensures.told c.make_numeric.ensures.still
+    c.make_numeric.ensures.waiting c.make_numeric.ensures.heap c.make_numeric.ensures.store in
     let k = c.requires.1 in
     numeric_there_below c.requires.0 (now_of old) newly c.args.told.now rows k.state k.pending k.unifier k.is free (now_of c.make_numeric.new.world) (numbers_of c.make_numeric.new.fixed.items) has
 
@@ -182,18 +182,18 @@ returns-clause-begun c = λ texts st p u k.
     let free = free_of (now_of old) c.as_slice.result.now newly c.as_slice.ensures c.if-clashes.ensures in
     let follows = follows_of old.heap.now.images c.as_slice-2.result.now newly old.attrs.now then.attrs.now c.as_slice-2.ensures c.in_ok-follow.ensures.follows in
     let equations = joined_of (now_of then) c.as_slice-3.result.now newly c.join_equations.new.world.store.told c.new-fixed.result.items c.join_equations.new.fixed.items c.as_slice-3.ensures
-        (when_true _ _ c.if-not-branch.false c.in_ok-join_equations.ensures.joined) in
+    (when_true _ _ c.if-not-branch.false c.in_ok-join_equations.ensures.joined) in
     let has = begun (now_of old) newly (now_of then) c.follow.ensures.heap c.follow.ensures.told follows c.args.told.now rows
-        (joined_then c.join_equations.new.world.heap.now c.join_equations.new.world.attrs.now c.join_rows.new.store.told c.join_rows.new.store.pivots)
-        (now_of c.make_numeric.new.world) c.join_equations.new.world.store.told c.new-fixed.result.items c.join_equations.new.fixed.items c.join_rows.new.fixed.items c.make_numeric.new.fixed.items
-        equations
-        (subst (λ (xs : List VarId). (v : ℕ) → is_numeric c.join_equations.new.world.attrs.now v ≡ (is_numeric then.attrs.now v || is_image_of then.heap.now.images (numeric_ones then.attrs.now xs) v))
-        c.as_slice-3.ensures (c.in_ok-join_equations.ensures.numeric c.if-not-branch.false))
-        (subst (λ (xs : List VarId). (v : ℕ) → is_image_of then.heap.now.images (numeric_ones then.attrs.now xs) v ≡ true → Contains (numbers_of c.join_equations.new.fixed.items) v)
-        c.as_slice-3.ensures (c.in_ok-join_equations.ensures.images c.if-not-branch.false))
-        c.join_equations.ensures.waiting c.join_equations.ensures.heap (when_true _ _ c.if-not-branch-2.false c.in_ok-join_rows.ensures.joined)
-        c.in_ok-make_numeric.ensures.numeric c.in_ok-make_numeric.ensures.unbound c.in_ok-make_numeric.ensures.told c.make_numeric.ensures.still
-        c.make_numeric.ensures.waiting c.make_numeric.ensures.heap c.make_numeric.ensures.store in
+    (joined_then c.join_equations.new.world.heap.now c.join_equations.new.world.attrs.now c.join_rows.new.store.told c.join_rows.new.store.pivots)
+    (now_of c.make_numeric.new.world) c.join_equations.new.world.store.told c.new-fixed.result.items c.join_equations.new.fixed.items c.join_rows.new.fixed.items c.make_numeric.new.fixed.items
+    equations
+    (subst (λ (xs : List VarId). (v : ℕ) → is_numeric c.join_equations.new.world.attrs.now v ≡ (is_numeric then.attrs.now v || is_image_of then.heap.now.images (numeric_ones then.attrs.now xs) v))
+    c.as_slice-3.ensures (c.in_ok-join_equations.ensures.numeric c.if-not-branch.false))
+    (subst (λ (xs : List VarId). (v : ℕ) → is_image_of then.heap.now.images (numeric_ones then.attrs.now xs) v ≡ true → Contains (numbers_of c.join_equations.new.fixed.items) v)
+    c.as_slice-3.ensures (c.in_ok-join_equations.ensures.images c.if-not-branch.false))
+    c.join_equations.ensures.waiting c.join_equations.ensures.heap (when_true _ _ c.if-not-branch-2.false c.in_ok-join_rows.ensures.joined)
+    c.in_ok-make_numeric.ensures.numeric c.in_ok-make_numeric.ensures.unbound c.in_ok-make_numeric.ensures.told c.make_numeric.ensures.still
+    c.make_numeric.ensures.waiting c.make_numeric.ensures.heap c.make_numeric.ensures.store in
     started texts (now_of old) newly c.args.told.now rows st p u k free (now_of c.make_numeric.new.world) c.make_numeric.new.fixed.items has (now_of c.bind_fixed.new.world) c.bind_fixed.new.newly
     (subst (λ (xs : List VarId). AllBound c.make_numeric.new.world.attrs.now c.make_numeric.new.world.store.told c.make_numeric.new.world.heap.now c.bind_fixed.new.world.heap.now newly c.bind_fixed.new.newly xs)
     c.deref.ensures.value c.in_ok-bind_fixed.ensures.bound)

@@ -52,7 +52,7 @@ returns-in-Linear-clause-joined c =
     let e = sym c.in_ok-linearise.ensures.lin ∙ ap constraint_of c.in-Linear.is in
     IfOk-weaker c.tell.result _ _ (λ b h. by_yes b
     (λ j rest. front_joins c.args.atoms.now (now_of c.args.world.now) c.store_and_numbers.ensures.solvable f.0 f.1 c.args.term c.in-Linear.constraint e
-      (now_of c.tell.new.world) c.args.newly.now c.tell.new.newly j rest)
+    (now_of c.tell.new.world) c.args.newly.now c.tell.new.newly j rest)
     (λ n rest. front_none c.args.atoms.now (now_of c.args.world.now) c.store_and_numbers.ensures.solvable f.0 f.1 c.args.term c.in-Linear.constraint e n (numbers_of c.args.newly.now) rest)
     h) c.tell.ensures.joined
 

@@ -78,10 +78,10 @@ returns-in-Linear-clause-joined c =
     let once = once_ascending _ c.store_and_numbers.ensures.ascending in
     IfOk-weaker c.tell.result _ _ (λ b h. by_yes b
     (λ j ns bound. under_joins c.args.atoms.now w c.store_and_numbers.ensures.solvable f.0 f.1 c.in-Delayed.term c.args.number once found c.in-Linear.constraint e
-      c.take.new.self.now c.in_ok-take-in-Linear.ensures.ok (now_of c.tell.new.world) c.args.newly.now c.tell.new.newly (drop (length c.args.newly.now) c.tell.new.newly) j
-      (sym (behind c.args.newly.now c.tell.new.newly j.binds.more j.binds.list)) ns bound)
+    c.take.new.self.now c.in_ok-take-in-Linear.ensures.ok (now_of c.tell.new.world) c.args.newly.now c.tell.new.newly (drop (length c.args.newly.now) c.tell.new.newly) j
+    (sym (behind c.args.newly.now c.tell.new.newly j.binds.more j.binds.list)) ns bound)
     (λ n ns bound. under_none c.args.atoms.now w c.store_and_numbers.ensures.solvable f.0 f.1 c.in-Delayed.term c.args.number once found c.in-Linear.constraint e n
-      (numbers_of c.args.newly.now) ns bound)
+    (numbers_of c.args.newly.now) ns bound)
     h) c.tell.ensures.joined
 
 pub returns-in-Linear-clause-fewer : goal.returns-in-Linear-clause-fewer
@@ -89,7 +89,7 @@ returns-in-Linear-clause-fewer c =
     let found = c.susp.ensures ∙ ap (λ (s : Susp). Some s) c.in-Delayed.is in
     IfOk-weaker c.tell.result _ _ (λ b h. by_yes b
     (joins_fewer (now_of c.args.world.now) (now_of c.tell.new.world) c.take.new.self.now c.in-Linear.constraint c.args.newly.now c.tell.new.newly c.args.number c.in-Delayed.term
-      (once_ascending _ c.store_and_numbers.ensures.ascending) found c.in_ok-take-in-Linear.ensures.ok)
+    (once_ascending _ c.store_and_numbers.ensures.ascending) found c.in_ok-take-in-Linear.ensures.ok)
     (λ n. tt) h) c.tell.ensures.joined
 
 pub returns-in-Linear-clause-others : goal.returns-in-Linear-clause-others

@@ -43,25 +43,25 @@ loop-variable-preserved c =
     let ones : numbers_of (take i vs) ++ v.0 ∷ [] ≡ numbers_of (take (i + 1) vs) = sym (ap numbers_of (take_more vs i d here) ∙ numbers_behind (take i vs) (v ∷ [])) in
     elim c.match-view.branch [
       | in-Var+in_ok-woken+in_ok-watch_all w ↦ (
-        let shows : at old.heap.now.images v.0 ≡ Var w.in-Var.image.0 =
-            ap (λ (h : Terms). at h.images v.0) (sym l.invariant.heap)
-            ∙ as_variable l.world.heap.now.images l.world.heap.now.terms v.0 c.var_term.result c.var_term.ensures.term w.in-Var.image w.in-Var.ensures.view in
-        record {
-          follows = subst (λ (ns : List ℕ). Follows old.heap.now.images ns old.attrs.now c.match-view.world.attrs.now) ones
-              (subst (λ (x : World). Follows old.heap.now.images (numbers_of (take i vs) ++ v.0 ∷ []) old.attrs.now x.attrs.now) (sym w.world-is)
-              (follows_variable old.heap.now.images (numbers_of (take i vs)) v.0 old.attrs.now l.world.attrs.now w.watch_all.new.attrs.now l.invariant.follows
-              w.in-Var.image.0 shows w.deref.result.now
-              (λ n h. subst (λ (ns : List ℕ). Contains ns n) (sym w.deref.ensures.value) (w.in_ok-woken.ensures.all n h)) w.in_ok-watch_all.ensures.watch));
-          heap = ap (λ (x : World). x.heap.now) w.world-is ∙ l.invariant.heap;
-          told = ap (λ (x : World). x.store.told) w.world-is ∙ l.invariant.told;
-          marks = subst (KeepsMarks old) (sym w.world-is) (marks_more old l.world _ l.invariant.marks refl (omega arith) w.watch_all.ensures.saved w.watch_all.ensures.room refl (omega arith) refl);
-        })
+          let shows : at old.heap.now.images v.0 ≡ Var w.in-Var.image.0 =
+          ap (λ (h : Terms). at h.images v.0) (sym l.invariant.heap)
+          ∙ as_variable l.world.heap.now.images l.world.heap.now.terms v.0 c.var_term.result c.var_term.ensures.term w.in-Var.image w.in-Var.ensures.view in
+          record {
+            follows = subst (λ (ns : List ℕ). Follows old.heap.now.images ns old.attrs.now c.match-view.world.attrs.now) ones
+                (subst (λ (x : World). Follows old.heap.now.images (numbers_of (take i vs) ++ v.0 ∷ []) old.attrs.now x.attrs.now) (sym w.world-is)
+                (follows_variable old.heap.now.images (numbers_of (take i vs)) v.0 old.attrs.now l.world.attrs.now w.watch_all.new.attrs.now l.invariant.follows
+                w.in-Var.image.0 shows w.deref.result.now
+                (λ n h. subst (λ (ns : List ℕ). Contains ns n) (sym w.deref.ensures.value) (w.in_ok-woken.ensures.all n h)) w.in_ok-watch_all.ensures.watch));
+            heap = ap (λ (x : World). x.heap.now) w.world-is ∙ l.invariant.heap;
+            told = ap (λ (x : World). x.store.told) w.world-is ∙ l.invariant.told;
+            marks = subst (KeepsMarks old) (sym w.world-is) (marks_more old l.world _ l.invariant.marks refl (omega arith) w.watch_all.ensures.saved w.watch_all.ensures.room refl (omega arith) refl);
+          })
       | in_default w ↦ record {
         follows = subst (λ (ns : List ℕ). Follows old.heap.now.images ns old.attrs.now c.match-view.world.attrs.now) ones
             (subst (λ (x : World). Follows old.heap.now.images (numbers_of (take i vs) ++ v.0 ∷ []) old.attrs.now x.attrs.now) (sym w.world-is)
             (follows_value old.heap.now.images (numbers_of (take i vs)) v.0 old.attrs.now l.world.attrs.now l.world.attrs.now l.invariant.follows
             (λ x e. w.in_default.not-Var (record { 0 = x })
-              (c.view.ensures.view ∙ ap view_of (c.var_term.ensures.term ∙ ap (λ (h : Terms). at h.images v.0) l.invariant.heap ∙ e)))));
+            (c.view.ensures.view ∙ ap view_of (c.var_term.ensures.term ∙ ap (λ (h : Terms). at h.images v.0) l.invariant.heap ∙ e)))));
         heap = ap (λ (x : World). x.heap.now) w.world-is ∙ l.invariant.heap;
         told = ap (λ (x : World). x.store.told) w.world-is ∙ l.invariant.told;
         marks = subst (KeepsMarks old) (sym w.world-is) l.invariant.marks;

@@ -43,7 +43,7 @@ returns-in_err-join-clause-overflow c = λ pair e.
     let here : i < length vs = omega (arith, c.loop-variable-test.true) in
     let v = get_or vs i d in
     let same = bound_same old.heap.now.images old.attrs.now l.world.attrs.now (numeric_ones old.attrs.now (take i vs)) v.0 l.invariant.numeric l.invariant.unbound
-        (c.requires.bound i d here).1 in
+    (c.requires.bound i d here).1 in
     equation_stops (now_of old) vs i d here (sym same ∙ sym c.if-is_numeric.ensures) l.world.store.told c.equation_of.new.world.store.told c.in_ok-equation.equation
     c.args.fixed.now.items l.fixed.items l.invariant.joined c.equation_of.ensures.told
     (c.in_ok-equation.ensures.equation ∙ ap (λ (h : Terms). equation_at h.images v.0) l.invariant.heap) (Refuses pair)
@@ -59,12 +59,12 @@ returns-in_err-join-clause-pivots c = λ n e.
     let here : i < length vs = omega (arith, c.loop-variable-test.true) in
     let v = get_or vs i d in
     let same = bound_same old.heap.now.images old.attrs.now l.world.attrs.now (numeric_ones old.attrs.now (take i vs)) v.0 l.invariant.numeric l.invariant.unbound
-        (c.requires.bound i d here).1 in
+    (c.requires.bound i d here).1 in
     let o = c.in_err-join.ensures.pivots n (ap Err (store_spent c.from_residual-in_err-join.result c.in_err-join.field-0.0 n c.from_residual-in_err-join.ensures.1 e)) in (
       o.0 ∙ c.equation_of.ensures.marks.pivots ∙ l.invariant.marks.pivots,
       equation_stops (now_of old) vs i d here (sym same ∙ sym c.if-is_numeric.ensures) l.world.store.told c.equation_of.new.world.store.told c.in_ok-equation.equation
-      c.args.fixed.now.items l.fixed.items l.invariant.joined c.equation_of.ensures.told
-      (c.in_ok-equation.ensures.equation ∙ ap (λ (h : Terms). equation_at h.images v.0) l.invariant.heap) (Takes n) o.1,
+          c.args.fixed.now.items l.fixed.items l.invariant.joined c.equation_of.ensures.told
+          (c.in_ok-equation.ensures.equation ∙ ap (λ (h : Terms). equation_at h.images v.0) l.invariant.heap) (Takes n) o.1,
     )
 
 pub returns-then-not-branch-clause-joined : goal.returns-then-not-branch-clause-joined
@@ -77,7 +77,7 @@ returns-then-not-branch-clause-joined c =
     let here : i < length vs = omega (arith, c.loop-variable-test.true) in
     let v = get_or vs i d in
     let same = bound_same old.heap.now.images old.attrs.now l.world.attrs.now (numeric_ones old.attrs.now (take i vs)) v.0 l.invariant.numeric l.invariant.unbound
-        (c.requires.bound i d here).1 in
+    (c.requires.bound i d here).1 in
     equation_stops (now_of old) vs i d here (sym same ∙ sym c.if-is_numeric.ensures) l.world.store.told c.equation_of.new.world.store.told c.in_ok-equation.equation
     c.args.fixed.now.items l.fixed.items l.invariant.joined c.equation_of.ensures.told
     (c.in_ok-equation.ensures.equation ∙ ap (λ (h : Terms). equation_at h.images v.0) l.invariant.heap) CannotJoin
@@ -93,49 +93,49 @@ loop-variable-preserved c =
     let here : i < length vs = omega (arith, c.loop-variable-test.true) in
     let v = get_or vs i d in
     let same = bound_same old.heap.now.images old.attrs.now l.world.attrs.now (numeric_ones old.attrs.now (take i vs)) v.0 l.invariant.numeric l.invariant.unbound
-        (c.requires.bound i d here).1 in
+    (c.requires.bound i d here).1 in
     elim c.if-is_numeric.branch [
       | then-is_numeric+in_ok-equation+in_ok-join+else-not-branch w ↦ (
-        let numeric = sym same ∙ sym w.if-is_numeric.ensures in
-        let told : c.if-is_numeric.world.store.told ≡ w.join.new.store.told = ap (λ (x : World). x.store.told) w.world-is in
-        let items : c.if-is_numeric.fixed.items ≡ w.join.new.fixed.items = ap (λ (f : Vec VarId Global). f.items) w.fixed-is in
-        let ahead = λ (x : ℕ) (h : Contains (numbers_of w.equation_of.new.fixed.items) x).
-            let k = when_true _ _ w.if-not-branch.false w.in_ok-join.ensures.joined in k.still x h in
-        record {
-          joined = subst (λ (t : List Constraint). HaveJoined old.store.told (Rattle.cq_settle.specs.Steps.equations_of (now_of old) (take (i + 1) vs)) t c.args.fixed.now.items c.if-is_numeric.fixed.items) (sym told)
-              (subst (λ (xs : List VarId). HaveJoined old.store.told (Rattle.cq_settle.specs.Steps.equations_of (now_of old) (take (i + 1) vs)) w.join.new.store.told c.args.fixed.now.items xs) (sym items)
-              (equation_joins (now_of old) vs i d here numeric l.world.store.told w.equation_of.new.world.store.told w.in_ok-equation.equation
-              c.args.fixed.now.items l.fixed.items l.invariant.joined w.equation_of.ensures.told
-              (w.in_ok-equation.ensures.equation ∙ ap (λ (h : Terms). equation_at h.images v.0) l.invariant.heap)
-              w.join.new.store.told w.equation_of.new.fixed.items w.join.new.fixed.items w.equation_of.ensures.still
-              (when_true _ _ w.if-not-branch.false w.in_ok-join.ensures.joined)));
-          numeric = subst (λ (x : World). (y : ℕ) → is_numeric x.attrs.now y ≡ (is_numeric old.attrs.now y || is_image_of old.heap.now.images (numeric_ones old.attrs.now (take (i + 1) vs)) y)) (sym w.world-is)
-              (numeric_next (now_of old) vs i d here numeric l.world.heap.now l.invariant.heap l.world.attrs.now w.equation_of.new.world.attrs.now l.invariant.numeric w.in_ok-equation.ensures.numeric);
-          images = subst (λ (xs : List VarId). (y : ℕ) → is_image_of old.heap.now.images (numeric_ones old.attrs.now (take (i + 1) vs)) y ≡ true → Contains (numbers_of xs) y) (sym items)
-              (images_next (now_of old) vs i d here numeric l.world.heap.now l.invariant.heap (λ y. Contains (numbers_of w.join.new.fixed.items) y)
-              (λ y h. ahead y (w.equation_of.ensures.still y (l.invariant.images y h))) (λ y h. ahead y (w.in_ok-equation.ensures.images y h)));
-          unbound = unbound_next (now_of old) vs i d here numeric l.world.heap.now l.invariant.heap l.invariant.unbound w.in_ok-equation.ensures.unbound;
-          waiting = ap (λ (x : World). x.attrs.now.waiting) w.world-is ∙ w.equation_of.ensures.waiting ∙ l.invariant.waiting;
-          heap = ap (λ (x : World). x.heap.now) w.world-is ∙ w.equation_of.ensures.heap ∙ l.invariant.heap;
-          marks = subst (KeepsMarks old) (sym w.world-is) (marks_more old w.equation_of.new.world _ (marks_then old l.world w.equation_of.new.world l.invariant.marks w.equation_of.ensures.marks)
-              refl (omega arith) refl (omega arith) w.join.ensures.saved w.join.ensures.room w.join.ensures.budget);
-        })
+          let numeric = sym same ∙ sym w.if-is_numeric.ensures in
+          let told : c.if-is_numeric.world.store.told ≡ w.join.new.store.told = ap (λ (x : World). x.store.told) w.world-is in
+          let items : c.if-is_numeric.fixed.items ≡ w.join.new.fixed.items = ap (λ (f : Vec VarId Global). f.items) w.fixed-is in
+          let ahead = λ (x : ℕ) (h : Contains (numbers_of w.equation_of.new.fixed.items) x).
+          let k = when_true _ _ w.if-not-branch.false w.in_ok-join.ensures.joined in k.still x h in
+          record {
+            joined = subst (λ (t : List Constraint). HaveJoined old.store.told (Rattle.cq_settle.specs.Steps.equations_of (now_of old) (take (i + 1) vs)) t c.args.fixed.now.items c.if-is_numeric.fixed.items) (sym told)
+                (subst (λ (xs : List VarId). HaveJoined old.store.told (Rattle.cq_settle.specs.Steps.equations_of (now_of old) (take (i + 1) vs)) w.join.new.store.told c.args.fixed.now.items xs) (sym items)
+                (equation_joins (now_of old) vs i d here numeric l.world.store.told w.equation_of.new.world.store.told w.in_ok-equation.equation
+                c.args.fixed.now.items l.fixed.items l.invariant.joined w.equation_of.ensures.told
+                (w.in_ok-equation.ensures.equation ∙ ap (λ (h : Terms). equation_at h.images v.0) l.invariant.heap)
+                w.join.new.store.told w.equation_of.new.fixed.items w.join.new.fixed.items w.equation_of.ensures.still
+                (when_true _ _ w.if-not-branch.false w.in_ok-join.ensures.joined)));
+            numeric = subst (λ (x : World). (y : ℕ) → is_numeric x.attrs.now y ≡ (is_numeric old.attrs.now y || is_image_of old.heap.now.images (numeric_ones old.attrs.now (take (i + 1) vs)) y)) (sym w.world-is)
+                (numeric_next (now_of old) vs i d here numeric l.world.heap.now l.invariant.heap l.world.attrs.now w.equation_of.new.world.attrs.now l.invariant.numeric w.in_ok-equation.ensures.numeric);
+            images = subst (λ (xs : List VarId). (y : ℕ) → is_image_of old.heap.now.images (numeric_ones old.attrs.now (take (i + 1) vs)) y ≡ true → Contains (numbers_of xs) y) (sym items)
+                (images_next (now_of old) vs i d here numeric l.world.heap.now l.invariant.heap (λ y. Contains (numbers_of w.join.new.fixed.items) y)
+                (λ y h. ahead y (w.equation_of.ensures.still y (l.invariant.images y h))) (λ y h. ahead y (w.in_ok-equation.ensures.images y h)));
+            unbound = unbound_next (now_of old) vs i d here numeric l.world.heap.now l.invariant.heap l.invariant.unbound w.in_ok-equation.ensures.unbound;
+            waiting = ap (λ (x : World). x.attrs.now.waiting) w.world-is ∙ w.equation_of.ensures.waiting ∙ l.invariant.waiting;
+            heap = ap (λ (x : World). x.heap.now) w.world-is ∙ w.equation_of.ensures.heap ∙ l.invariant.heap;
+            marks = subst (KeepsMarks old) (sym w.world-is) (marks_more old w.equation_of.new.world _ (marks_then old l.world w.equation_of.new.world l.invariant.marks w.equation_of.ensures.marks)
+                refl (omega arith) refl (omega arith) w.join.ensures.saved w.join.ensures.room w.join.ensures.budget);
+          })
       | else-is_numeric w ↦ (
-        let ones = ones_same (now_of old) vs i d here (sym same ∙ sym w.if-is_numeric.ensures) in
-        let items : c.if-is_numeric.fixed.items ≡ l.fixed.items = ap (λ (f : Vec VarId Global). f.items) w.fixed-is in
-        record {
-          joined = subst (λ (ns : List ℕ). HaveJoined old.store.told (map (equation_at old.heap.now.images) ns) c.if-is_numeric.world.store.told c.args.fixed.now.items c.if-is_numeric.fixed.items) ones
-              (subst (λ (x : World). HaveJoined old.store.told (map (equation_at old.heap.now.images) (numeric_ones old.attrs.now (take i vs))) x.store.told c.args.fixed.now.items c.if-is_numeric.fixed.items) (sym w.world-is)
-              (subst (λ (xs : List VarId). HaveJoined old.store.told (map (equation_at old.heap.now.images) (numeric_ones old.attrs.now (take i vs))) l.world.store.told c.args.fixed.now.items xs) (sym items) l.invariant.joined));
-          numeric = subst (λ (ns : List ℕ). (y : ℕ) → is_numeric c.if-is_numeric.world.attrs.now y ≡ (is_numeric old.attrs.now y || is_image_of old.heap.now.images ns y)) ones
-              (subst (λ (x : World). (y : ℕ) → is_numeric x.attrs.now y ≡ (is_numeric old.attrs.now y || is_image_of old.heap.now.images (numeric_ones old.attrs.now (take i vs)) y)) (sym w.world-is) l.invariant.numeric);
-          images = subst (λ (ns : List ℕ). (y : ℕ) → is_image_of old.heap.now.images ns y ≡ true → Contains (numbers_of c.if-is_numeric.fixed.items) y) ones
-              (subst (λ (xs : List VarId). (y : ℕ) → is_image_of old.heap.now.images (numeric_ones old.attrs.now (take i vs)) y ≡ true → Contains (numbers_of xs) y) (sym items) l.invariant.images);
-          unbound = subst (λ (ns : List ℕ). (y : ℕ) → is_image_of old.heap.now.images ns y ≡ true → at old.heap.now.images y ≡ Var y) ones l.invariant.unbound;
-          waiting = ap (λ (x : World). x.attrs.now.waiting) w.world-is ∙ l.invariant.waiting;
-          heap = ap (λ (x : World). x.heap.now) w.world-is ∙ l.invariant.heap;
-          marks = subst (KeepsMarks old) (sym w.world-is) l.invariant.marks;
-        })
+          let ones = ones_same (now_of old) vs i d here (sym same ∙ sym w.if-is_numeric.ensures) in
+          let items : c.if-is_numeric.fixed.items ≡ l.fixed.items = ap (λ (f : Vec VarId Global). f.items) w.fixed-is in
+          record {
+            joined = subst (λ (ns : List ℕ). HaveJoined old.store.told (map (equation_at old.heap.now.images) ns) c.if-is_numeric.world.store.told c.args.fixed.now.items c.if-is_numeric.fixed.items) ones
+                (subst (λ (x : World). HaveJoined old.store.told (map (equation_at old.heap.now.images) (numeric_ones old.attrs.now (take i vs))) x.store.told c.args.fixed.now.items c.if-is_numeric.fixed.items) (sym w.world-is)
+                (subst (λ (xs : List VarId). HaveJoined old.store.told (map (equation_at old.heap.now.images) (numeric_ones old.attrs.now (take i vs))) l.world.store.told c.args.fixed.now.items xs) (sym items) l.invariant.joined));
+            numeric = subst (λ (ns : List ℕ). (y : ℕ) → is_numeric c.if-is_numeric.world.attrs.now y ≡ (is_numeric old.attrs.now y || is_image_of old.heap.now.images ns y)) ones
+                (subst (λ (x : World). (y : ℕ) → is_numeric x.attrs.now y ≡ (is_numeric old.attrs.now y || is_image_of old.heap.now.images (numeric_ones old.attrs.now (take i vs)) y)) (sym w.world-is) l.invariant.numeric);
+            images = subst (λ (ns : List ℕ). (y : ℕ) → is_image_of old.heap.now.images ns y ≡ true → Contains (numbers_of c.if-is_numeric.fixed.items) y) ones
+                (subst (λ (xs : List VarId). (y : ℕ) → is_image_of old.heap.now.images (numeric_ones old.attrs.now (take i vs)) y ≡ true → Contains (numbers_of xs) y) (sym items) l.invariant.images);
+            unbound = subst (λ (ns : List ℕ). (y : ℕ) → is_image_of old.heap.now.images ns y ≡ true → at old.heap.now.images y ≡ Var y) ones l.invariant.unbound;
+            waiting = ap (λ (x : World). x.attrs.now.waiting) w.world-is ∙ l.invariant.waiting;
+            heap = ap (λ (x : World). x.heap.now) w.world-is ∙ l.invariant.heap;
+            marks = subst (KeepsMarks old) (sym w.world-is) l.invariant.marks;
+          })
     ]
 
 pub returns-clause-joined : goal.returns-clause-joined

@@ -62,5 +62,5 @@ returns-in_err-join-clause-pivots c = λ n e.
     let o = c.in_err-join.ensures.pivots n (ap Err (store_spent c.from_residual-in_err-join.result c.in_err-join.field-0.0 n c.from_residual-in_err-join.ensures.1 e)) in (
       o.0 ∙ c.loop-row.invariant.budget,
       stops_at (Takes n) c.args.store.now.told c.loop-row.store.told (take i rows) (drop (i + 1) rows) rows row c.args.fixed.now.items c.loop-row.fixed.items c.loop-row.invariant.joined
-      (split rows i row at (here rows i row c.row-item.result c.in_ok-row.ensures.cases c.row-item.is)) o.1,
+          (split rows i row at (here rows i row c.row-item.result c.in_ok-row.ensures.cases c.row-item.is)) o.1,
     )

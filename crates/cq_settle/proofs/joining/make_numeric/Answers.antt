@@ -32,7 +32,7 @@ loop-term-preserved c =
     let images = old.heap.now.images in
     let terms = old.heap.now.terms in
     let these : numbers_of vs ≡ variables (at terms (get_or told i d)) =
-        ap numbers_of c.deref.ensures.value ∙ c.in_ok-variables.ensures.variables ∙ ap (λ (h : Terms). variables (at h.terms d)) l.invariant.heap ∙ ap (λ id. variables (at terms id)) c.term-item.is in
+    ap numbers_of c.deref.ensures.value ∙ c.in_ok-variables.ensures.variables ∙ ap (λ (h : Terms). variables (at h.terms d)) l.invariant.heap ∙ ap (λ id. variables (at terms id)) c.term-item.is in
     record {
       numeric = all_numeric images terms told i d here vs these old.attrs.now l.world.attrs.now c.make_each_numeric.new.attrs.now l.invariant.numeric c.in_ok-make_each_numeric.ensures.numeric;
       unbound = all_unbound images terms told i d here vs these l.invariant.unbound

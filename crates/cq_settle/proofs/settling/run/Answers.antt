@@ -98,9 +98,11 @@ returns-in_err-join_told-clause-pivots c = λ n e.
     let us = c.deref-3.result.now in
     let all = numbers_of c.begin.new.newly in
     let begun = (rw c.if-not-branch.false at c.in_ok-begin.ensures.begun) texts in
-    let o = c.in_err-join_told.ensures.pivots n (ap Err (store_spent c.from_residual-in_err-join_told.result c.in_err-join_told.field-0.0 n c.from_residual-in_err-join_told.ensures.1 e)) in
-    (o.0 ∙ c.begin.ensures.marks.pivots, of_started texts w x newly told ts us rows rs all
-    c.deref.ensures.value c.deref-2.ensures.value c.deref-3.ensures.value begun (λ st p u. MayTake st p n) o.1)
+    let o = c.in_err-join_told.ensures.pivots n (ap Err (store_spent c.from_residual-in_err-join_told.result c.in_err-join_told.field-0.0 n c.from_residual-in_err-join_told.ensures.1 e)) in (
+      o.0 ∙ c.begin.ensures.marks.pivots,
+      of_started texts w x newly told ts us rows rs all
+          c.deref.ensures.value c.deref-2.ensures.value c.deref-3.ensures.value begun (λ st p u. MayTake st p n) o.1,
+    )
 
 pub close-requires : goal.close-requires
 close-requires c =
@@ -181,7 +183,7 @@ returns-in_err-close-clause-pivots c = λ n e.
     let o = c.in_err-close.ensures.pivots n (ap Err (store_spent c.from_residual-in_err-close.result c.in_err-close.field-0.0 n c.from_residual-in_err-close.ensures.1 e)) in (
       o.0 ∙ c.join_told.ensures.marks.pivots ∙ c.begin.ensures.marks.pivots,
       of_started texts w x newly told ts us rows rs all
-    c.deref.ensures.value c.deref-2.ensures.value c.deref-3.ensures.value begun (λ st p u. MayTake st p n)
+          c.deref.ensures.value c.deref-2.ensures.value c.deref-3.ensures.value begun (λ st p u. MayTake st p n)
           (of_before texts x y (to_do us [] all all) (to_do [] [] more more) (λ st p u. MayTake st p n) joined o.1),
     )
 
