@@ -49,7 +49,8 @@ pub fn settle(world: &mut World, atoms: &Atoms, work: Work) -> Result<Settled, S
     ensures unchanged { IfOk result (λ r. IfPruned r (now_of world.new ≡ now_of world.old)) }
     ensures err { OnErr result (now_of world.new ≡ now_of world.old) }
 
-    ensures overflow { (pair : Pair) → result ≡ Err (Overflow pair) → OfCalls atoms.now (now_of world.old) work.newly work.told.items work.rows.items (λ st p u. MayRefuse st p pair) }
+    ensures overflow { (pair : Pair) → result ≡ Err (Overflow pair)
+        → OfCalls atoms.now (now_of world.old) work.newly work.told.items work.rows.items (λ st p u. MayRefuse st p pair) }
     ensures pivots { (n : ℕ) → result ≡ Err (Pivots n)
         → (n ≡ world.old.store.pivots) × OfCalls atoms.now (now_of world.old) work.newly work.told.items work.rows.items (λ st p u. MayTake st p n) }
     ensures marks { KeepsMarks world.old world.new }
@@ -101,7 +102,8 @@ fn run(world: &mut World, atoms: &Atoms, work: Work) -> Result<Settled, StoreFau
     ensures woken { IfOk result (λ r. IfWoken r (λ goals. OfCalls atoms.now (now_of world.old) work.newly work.told.items work.rows.items
         (λ st p u. IsKept atoms.now (now_of world.old) (now_of world.new) goals st p u))) }
     ensures pruned { IfOk result (λ r. IfPruned r (OfCalls atoms.now (now_of world.old) work.newly work.told.items work.rows.items IsPruned)) }
-    ensures overflow { (pair : Pair) → result ≡ Err (Overflow pair) → OfCalls atoms.now (now_of world.old) work.newly work.told.items work.rows.items (λ st p u. MayRefuse st p pair) }
+    ensures overflow { (pair : Pair) → result ≡ Err (Overflow pair)
+        → OfCalls atoms.now (now_of world.old) work.newly work.told.items work.rows.items (λ st p u. MayRefuse st p pair) }
     ensures pivots { (n : ℕ) → result ≡ Err (Pivots n)
         → (n ≡ world.old.store.pivots) × OfCalls atoms.now (now_of world.old) work.newly work.told.items work.rows.items (λ st p u. MayTake st p n) }
     ensures marks { KeepsMarks world.old world.new }
