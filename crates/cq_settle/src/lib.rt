@@ -1,0 +1,9 @@
+//! Settling of a world: told constraints, constraints that wait to become linear, fixed values, and goals that wake.
+#![tactic(auto)]
+
+mod beginning;
+mod closing;
+mod joining;
+mod settling;
+
+pub use settling::{Settled, Work, settle};
