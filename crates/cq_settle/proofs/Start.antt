@@ -89,7 +89,10 @@ mutual
 pub variables_named : (f : ℕ → Text) (t : HeapTerm) → variables (named f t) ≡ variables t
 variables_named f t = variables_named_after f [] t
 
-pub unmodule _ (texts : List Text) (c : Contents) (newly : List VarId) (told : List ℕ) (rows : List Constraint) (st : State) (p : Pending) (u : Subst Text)
+pub unbound_value : (v : ℕ) (t : Tree) → t ≡ Var v → not (is_the_variable v t) ≡ false
+unbound_value v t e = ap (λ (x : Tree). not (is_the_variable v x)) e ∙ ap not (nat_eq-self v)
+
+module _ (texts : List Text) (c : Contents) (newly : List VarId) (told : List ℕ) (rows : List Constraint) (st : State) (p : Pending) (u : Subst Text)
     (k : IsCalled texts c newly told rows st p u) where
   abbrev s : Subst Text
   s = unified st u
