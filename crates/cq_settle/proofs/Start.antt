@@ -125,7 +125,7 @@ module _ (texts : List Text) (c : Contents) (newly : List VarId) (told : List �
     at_unbound w n e true i true f =
         let l : w < st.fresh = k.rests.read_through.numeric w n in
         let neither : true ≡ is_neither (at c.heap.images w) =
-            sym f ∙ ap is_no_number (sym (unified_unbound w e) ∙ image_is w l) ∙ named_neither (text_of texts) (at c.heap.images w) in
+        sym f ∙ ap is_no_number (sym (unified_unbound w e) ∙ image_is w l) ∙ named_neither (text_of texts) (at c.heap.images w) in
         absurd (free_at w (k.numeric w n (newly_there w l e i)) (k.stands.numeric w ∙ n, sym neither))
 
     no_clash_by : (v : ℕ) → st.numeric v ≡ true → (t : Tree) → st.bindings v ≡ t → is_no_number (s v) ≡ false
@@ -235,7 +235,7 @@ module _ (texts : List Text) (c : Contents) (newly : List VarId) (told : List �
     joins_one : (x : Constraint) → Has x (equations_of c newly ++ p.rows) → JoinsIn st p u x
     joins_one x h = elim (has_cases x (equations_of c newly) p.rows h) [
       | inl e ↦ (let r = from_map (equation_at c.heap.images) (numeric_ones c.attrs newly) x e in
-        subst (λ (y : Constraint). JoinsIn st p u y) (sym (r.2 ∙ same_equation r.0 r.1)) (of_binding r.0 (newly_numeric r.0 r.1)))
+          subst (λ (y : Constraint). JoinsIn st p u y) (sym (r.2 ∙ same_equation r.0 r.1)) (of_binding r.0 (newly_numeric r.0 r.1)))
       | inr r ↦ of_row x r
     ]
 
