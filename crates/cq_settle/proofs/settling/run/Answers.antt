@@ -72,7 +72,7 @@ returns-in_err-join_told-clause-pivots c = λ n e.
     let o = c.in_err-join_told.ensures.pivots n (ap Err (store_spent c.from_residual-in_err-join_told.result c.in_err-join_told.field-0.0 n c.from_residual-in_err-join_told.ensures.1 e)) in (
       o.0 ∙ c.begin.ensures.marks.pivots,
       of_started c.args.atoms.now (now_of c.args.world.now) (now_of c.begin.new.world) c.args.work.newly c.args.work.told.items c.deref-3.result.now c.args.work.rows.items
-    (numbers_of c.begin.new.newly) (begun (goal.at.returns-in_err-join_told-clause-pivots c).After-deref-3) (λ st p u. MayTake st p n) o.1,
+          (numbers_of c.begin.new.newly) (begun (goal.at.returns-in_err-join_told-clause-pivots c).After-deref-3) (λ st p u. MayTake st p n) o.1,
     )
 
 pub close-requires : goal.close-requires
@@ -99,7 +99,7 @@ returns-in_err-close-clause-pivots c = λ n e.
     let o = c.in_err-close.ensures.pivots n (ap Err (store_spent c.from_residual-in_err-close.result c.in_err-close.field-0.0 n c.from_residual-in_err-close.ensures.1 e)) in (
       o.0 ∙ c.join_told.ensures.marks.pivots ∙ c.begin.ensures.marks.pivots,
       of_started c.args.atoms.now (now_of c.args.world.now) (now_of c.begin.new.world) c.args.work.newly c.args.work.told.items c.deref-3.result.now c.args.work.rows.items
-    (numbers_of c.begin.new.newly) (begun (goal.at.returns-in_err-close-clause-pivots c).After-deref-3) (λ st p u. MayTake st p n)
+          (numbers_of c.begin.new.newly) (begun (goal.at.returns-in_err-close-clause-pivots c).After-deref-3) (λ st p u. MayTake st p n)
           (of_before c.args.atoms.now (now_of c.begin.new.world) (now_of c.join_told.new.world) _ _ (λ st p u. MayTake st p n) (told (goal.at.returns-in_err-close-clause-pivots c).Else-not-branch-2) o.1),
     )
 
