@@ -7,6 +7,7 @@ use Rattle.std.proofs.lemmas.List.{drop_all, drop_at, drop_more, take_more, leng
 use Rattle.std.proofs.lemmas.List.Elements.{All-head, All-tail, All-contains, Contains-get_or, filter_passes}
 use Rattle.spec_rational.specs.Rational.{ℚ}
 use Rattle.spec_linear.specs.Solution.{Constraint, Solvable, Fixed}
+use Rattle.spec_lists.specs.Texts.{Text}
 use Rattle.spec_lists.proofs.Tests.{nat_eq-apart}
 use Rattle.spec_terms.specs.Term.{Var}
 use Rattle.cq_attr.specs.Attributes.{Waiting, Attributes, Ascends, is_numeric, numbers, find, without}
@@ -24,6 +25,7 @@ use Rattle.cq_world.specs.Worlds.{room_of}
 use Rattle.cq_world.specs.declared.world.World.{World}
 use Rattle.cq_settle.specs.Settled.{KeepsMarks}
 use Rattle.cq_settle.specs.Steps.{HasFewer, BindsValues, JoinsAndBinds, WakesOne, goal_that_wakes, unless_given}
+use Rattle.cq_settle.specs.Underway.{ToDo, GoesOn, to_do}
 use Rattle.cq_settle.proofs.Closed.{nothing_behind}
 use Rattle.cq_settle.proofs.Joined.{numbers_behind, joins_and_binds}
 use Rattle.cq_settle.proofs.Permuted.{IsOnce, any_default}
@@ -68,11 +70,20 @@ fewer_then c d e first second third f g = record {
 -- ---- what is still to be looked at waits
 
 -- the element that comes next
-pub drop_here : (ns : List ℕ) (i n : ℕ) → i < length ns → n ≡ get_or ns i n → drop i ns ≡ n ∷ drop (i + 1) ns
+drop_here : (ns : List ℕ) (i n : ℕ) → i < length ns → n ≡ get_or ns i n → drop i ns ≡ n ∷ drop (i + 1) ns
 drop_here ns i n l e = drop_more ns i n l ∙ ap (λ (m : ℕ). m ∷ drop (i + 1) ns) (sym e)
 
 pub take_here : (ns : List ℕ) (i n : ℕ) → i < length ns → n ≡ get_or ns i n → take (i + 1) ns ≡ take i ns ++ n ∷ []
 take_here ns i n l e = take_more ns i n l ∙ ap (λ (m : ℕ). take i ns ++ m ∷ []) (sym e)
+
+-- a settling that goes on to a told term, or to a number that is to be looked at
+pub at_term : (texts : List Text) (c d : Contents) (from : ToDo) (told : List ℕ) (i t : ℕ) (bound : List ℕ) → i < length told → t ≡ get_or told i t
+    → GoesOn texts c d from (to_do (drop i told) [] bound bound) → GoesOn texts c d from (to_do (t ∷ drop (i + 1) told) [] bound bound)
+at_term texts c d from told i t bound l e = subst (λ (ts : List ℕ). GoesOn texts c d from (to_do ts [] bound bound)) (drop_here told i t l e)
+
+pub at_number : (texts : List Text) (c d : Contents) (from : ToDo) (ns : List ℕ) (i n : ℕ) (bound all : List ℕ) → i < length ns → n ≡ get_or ns i n
+    → GoesOn texts c d from (to_do [] (drop i ns) bound all) → GoesOn texts c d from (to_do [] (n ∷ drop (i + 1) ns) bound all)
+at_number texts c d from ns i n bound all l e = subst (λ (ms : List ℕ). GoesOn texts c d from (to_do [] ms bound all)) (drop_here ns i n l e)
 
 pub element : (P : ℕ → Type 0) (ns : List ℕ) (i n : ℕ) → i < length ns → n ≡ get_or ns i n → All P ns → P n
 element P ns i n l e h = subst P (sym e) (h i n l)

@@ -40,6 +40,20 @@ pub empty_list : {A : Type 0} (xs : List A) (n : ℕ) (b : Bool) → length xs �
 empty_list [] n b l e f = refl
 empty_list (x ∷ xs) n b l e f = absurd (omega (arith, l, nat_eq-same n 0 (sym e ∙ f)))
 
+-- none of these lengths is above zero
+pub no_length : {A : Type 0} (xs : List A) (n : ℕ) → length xs ≡ n → xs ≡ [] → true ≡ (n == 0)
+no_length {A} xs n l z = ap (λ (ys : List A). length ys == 0) (sym z) ∙ ap (λ (m : ℕ). m == 0) l
+
+pub not_empty : {A : Type 0} (xs : List A) (n : ℕ) (b : Bool) → length xs ≡ n → b ≡ (n == 0) → b ≡ false → xs ≡ [] → ⊥
+not_empty xs n b l e f z = true≢false (no_length xs n l z ∙ sym e ∙ f)
+
+pub nothing_in : (xs : List ℕ) → ((n : ℕ) → Contains xs n → ⊥) → xs ≡ []
+nothing_in [] f = refl
+nothing_in (x ∷ xs) f = absurd (f x (contains_here x xs x refl))
+
+pub at_place : (vs : List VarId) (i : ℕ) (d : VarId) → i < length vs → Contains (numbers_of vs) (get_or vs i d).0
+at_place vs i d l = contains_number vs (get_or vs i d) (Contains-get_or vs i d l)
+
 -- one more variable that is not numeric
 pub one_more : (a : Attributes) (vs : List VarId) (i : ℕ) (d : VarId) → i < length vs → ((v : ℕ) → Contains (numbers_of (take i vs)) v → is_numeric a v ≡ false)
     → is_numeric a (get_or vs i d).0 ≡ false → (v : ℕ) → Contains (numbers_of (take (i + 1) vs)) v → is_numeric a v ≡ false

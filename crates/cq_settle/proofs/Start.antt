@@ -89,7 +89,10 @@ mutual
 pub variables_named : (f : ℕ → Text) (t : HeapTerm) → variables (named f t) ≡ variables t
 variables_named f t = variables_named_after f [] t
 
-pub unmodule _ (texts : List Text) (c : Contents) (newly : List VarId) (told : List ℕ) (rows : List Constraint) (st : State) (p : Pending) (u : Subst Text)
+pub unbound_value : (v : ℕ) (t : Tree) → t ≡ Var v → not (is_the_variable v t) ≡ false
+unbound_value v t e = ap (λ (x : Tree). not (is_the_variable v x)) e ∙ ap not (nat_eq-self v)
+
+module _ (texts : List Text) (c : Contents) (newly : List VarId) (told : List ℕ) (rows : List Constraint) (st : State) (p : Pending) (u : Subst Text)
     (k : IsCalled texts c newly told rows st p u) where
   abbrev s : Subst Text
   s = unified st u
@@ -122,7 +125,7 @@ pub unmodule _ (texts : List Text) (c : Contents) (newly : List VarId) (told : L
     at_unbound w n e true i true f =
         let l : w < st.fresh = k.rests.read_through.numeric w n in
         let neither : true ≡ is_neither (at c.heap.images w) =
-            sym f ∙ ap is_no_number (sym (unified_unbound w e) ∙ image_is w l) ∙ named_neither (text_of texts) (at c.heap.images w) in
+        sym f ∙ ap is_no_number (sym (unified_unbound w e) ∙ image_is w l) ∙ named_neither (text_of texts) (at c.heap.images w) in
         absurd (free_at w (k.numeric w n (newly_there w l e i)) (k.stands.numeric w ∙ n, sym neither))
 
     no_clash_by : (v : ℕ) → st.numeric v ≡ true → (t : Tree) → st.bindings v ≡ t → is_no_number (s v) ≡ false
@@ -232,7 +235,7 @@ pub unmodule _ (texts : List Text) (c : Contents) (newly : List VarId) (told : L
     joins_one : (x : Constraint) → Has x (equations_of c newly ++ p.rows) → JoinsIn st p u x
     joins_one x h = elim (has_cases x (equations_of c newly) p.rows h) [
       | inl e ↦ (let r = from_map (equation_at c.heap.images) (numeric_ones c.attrs newly) x e in
-        subst (λ (y : Constraint). JoinsIn st p u y) (sym (r.2 ∙ same_equation r.0 r.1)) (of_binding r.0 (newly_numeric r.0 r.1)))
+          subst (λ (y : Constraint). JoinsIn st p u y) (sym (r.2 ∙ same_equation r.0 r.1)) (of_binding r.0 (newly_numeric r.0 r.1)))
       | inr r ↦ of_row x r
     ]
 

@@ -62,7 +62,8 @@ pub(crate) fn join_told(
 ) -> Result<bool, StoreFault>
     requires { SomeIsUnderway atoms.now (now_of world.old) (to_do told.now [] (numbers_of newly.old) (numbers_of newly.old)) }
     ensures joined { IfOk result (λ yes. MatchBool yes
-        (GoesOn atoms.now (now_of world.old) (now_of world.new) (to_do told.now [] (numbers_of newly.old) (numbers_of newly.old)) (to_do [] [] (numbers_of newly.new) (numbers_of newly.new)))
+        (GoesOn atoms.now (now_of world.old) (now_of world.new) (to_do told.now [] (numbers_of newly.old) (numbers_of newly.old))
+        (to_do [] [] (numbers_of newly.new) (numbers_of newly.new)))
         (OfEach atoms.now (now_of world.old) (to_do told.now [] (numbers_of newly.old) (numbers_of newly.old)) IsPruned)) }
     ensures overflow { (pair : Pair) → result ≡ Err (Overflow pair)
         → OfEach atoms.now (now_of world.old) (to_do told.now [] (numbers_of newly.old) (numbers_of newly.old)) (λ st p u. MayRefuse st p pair) }
@@ -87,12 +88,15 @@ fn join_term(
 ) -> Result<bool, StoreFault>
     requires { (rest : List ℕ) × SomeIsUnderway atoms.now (now_of world.old) (to_do (term ∷ rest) [] (numbers_of newly.old) (numbers_of newly.old)) }
     ensures joined { IfOk result (λ yes. MatchBool yes
-        ((rest : List ℕ) → GoesOn atoms.now (now_of world.old) (now_of world.new) (to_do (term ∷ rest) [] (numbers_of newly.old) (numbers_of newly.old)) (to_do rest [] (numbers_of newly.new) (numbers_of newly.new)))
+        ((rest : List ℕ) → GoesOn atoms.now (now_of world.old) (now_of world.new) (to_do (term ∷ rest) [] (numbers_of newly.old) (numbers_of newly.old))
+        (to_do rest [] (numbers_of newly.new) (numbers_of newly.new)))
         ((rest : List ℕ) → OfEach atoms.now (now_of world.old) (to_do (term ∷ rest) [] (numbers_of newly.old) (numbers_of newly.old)) IsPruned)) }
     ensures overflow { (pair : Pair) → result ≡ Err (Overflow pair)
-        → (rest : List ℕ) → OfEach atoms.now (now_of world.old) (to_do (term ∷ rest) [] (numbers_of newly.old) (numbers_of newly.old)) (λ st p u. MayRefuse st p pair) }
+        → (rest : List ℕ) → OfEach atoms.now (now_of world.old) (to_do (term ∷ rest) [] (numbers_of newly.old) (numbers_of newly.old))
+        (λ st p u. MayRefuse st p pair) }
     ensures pivots { (n : ℕ) → result ≡ Err (Pivots n) → (n ≡ world.old.store.pivots)
-        × ((rest : List ℕ) → OfEach atoms.now (now_of world.old) (to_do (term ∷ rest) [] (numbers_of newly.old) (numbers_of newly.old)) (λ st p u. MayTake st p n)) }
+        × ((rest : List ℕ) → OfEach atoms.now (now_of world.old) (to_do (term ∷ rest) [] (numbers_of newly.old) (numbers_of newly.old))
+        (λ st p u. MayTake st p n)) }
     ensures marks { KeepsMarks world.old world.new }
 {
     store_and_numbers(world);
@@ -111,7 +115,8 @@ fn join_term(
 pub(crate) fn close(world: &mut World, atoms: &Atoms, newly: &mut Newly) -> Result<bool, StoreFault>
     requires { SomeIsUnderway atoms.now (now_of world.old) (to_do [] [] (numbers_of newly.old) (numbers_of newly.old)) }
     ensures closed { IfOk result (λ yes. MatchBool yes
-        (GoesOn atoms.now (now_of world.old) (now_of world.new) (to_do [] [] (numbers_of newly.old) (numbers_of newly.old)) (to_do [] [] [] (numbers_of newly.new)))
+        (GoesOn atoms.now (now_of world.old) (now_of world.new) (to_do [] [] (numbers_of newly.old) (numbers_of newly.old))
+        (to_do [] [] [] (numbers_of newly.new)))
         (OfEach atoms.now (now_of world.old) (to_do [] [] (numbers_of newly.old) (numbers_of newly.old)) IsPruned)) }
     ensures overflow { (pair : Pair) → result ≡ Err (Overflow pair)
         → OfEach atoms.now (now_of world.old) (to_do [] [] (numbers_of newly.old) (numbers_of newly.old)) (λ st p u. MayRefuse st p pair) }

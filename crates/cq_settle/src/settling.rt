@@ -1,6 +1,6 @@
 // Settling: from a world whose variables were bound, with constraints to be told, to a world that is settled again.
 
-ghost use Rattle.std.specs.Prelude.{◌≡◌, ℕ, [], IfOk, OnErr, IsTrue};
+ghost use Rattle.std.specs.Prelude.{◌≡◌, ℕ, [], IfOk, IsOk, OnErr, IsTrue, true};
 ghost use Rattle.cq_frac.specs.declared.Pair.{Pair};
 ghost use Rattle.cq_linear.specs.declared.store.StoreFault.TheVariants.{Overflow, Pivots};
 ghost use Rattle.cq_world.specs.Worlds.{now_of};
@@ -49,6 +49,9 @@ pub fn settle(world: &mut World, atoms: &Atoms, work: Work) -> Result<Settled, S
     ensures unchanged { IfOk result (λ r. IfPruned r (now_of world.new ≡ now_of world.old)) }
     ensures err { OnErr result (now_of world.new ≡ now_of world.old) }
 
+    // With nothing to do, no memory is taken and no mark is made.
+    ensures idle { IsIdle (now_of world.old) work.newly work.told.items work.rows.items → IsOk result × (world.new ≡ world.old) }
+
     ensures overflow { (pair : Pair) → result ≡ Err (Overflow pair)
         → OfCalls atoms.now (now_of world.old) work.newly work.told.items work.rows.items (λ st p u. MayRefuse st p pair) }
     ensures pivots { (n : ℕ) → result ≡ Err (Pivots n)
@@ -78,7 +81,8 @@ pub fn settle(world: &mut World, atoms: &Atoms, work: Work) -> Result<Settled, S
 
 /// Whether there is nothing to do: nothing was told, no numeric variable was bound, and nothing waits for those that were.
 fn is_idle(world: &World, work: &Work) -> Result<bool, AllocError>
-    ensures { IfOk result (λ yes. IsTrue yes → IsIdle (now_of world.now) work.now.newly work.now.told.items work.now.rows.items) }
+    ensures idle { IfOk result (λ yes. IsTrue yes → IsIdle (now_of world.now) work.now.newly work.now.told.items work.now.rows.items) }
+    ensures seen { IsIdle (now_of world.now) work.now.newly work.now.told.items work.now.rows.items → result ≡ Ok true }
 {
     if !work.told.is_empty() {
         return Ok(false);

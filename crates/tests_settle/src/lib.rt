@@ -1,7 +1,5 @@
-//! Tests of worlds and their settling: what no clause says of them.
+//! Tests of settling: what no clause says of it.
 #![tactic(auto)]
 
 #[cfg(test)]
 mod settle;
-#[cfg(test)]
-mod world;

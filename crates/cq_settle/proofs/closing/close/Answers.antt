@@ -5,11 +5,12 @@ use Rattle.cq_frac.specs.declared.VarId.{VarId}
 use Rattle.cq_walk.specs.Places.{numbers_of}
 use Rattle.cq_world.specs.Worlds.{now_of}
 use Rattle.cq_settle.specs.Settled.{IsPruned, MayRefuse, MayTake}
-use Rattle.cq_settle.specs.Underway.{GoesOn, to_do}
+use Rattle.cq_settle.specs.Underway.{GoesOn, ToDo, to_do}
 use Rattle.cq_settle.proofs.Again.{sooner}
 use Rattle.cq_settle.proofs.Marks.{marks_then}
-use Rattle.cq_settle.proofs.Ways.{goes_nowhere, goes_then, of_before, some_after, to_look_at, woken_since, woken_waits}
+use Rattle.cq_settle.proofs.Ways.{AreWoken, goes_nowhere, goes_then, of_before, some_after, to_look_at, woken_since, woken_waits}
 use Rattle.cq_settle.proofs.closing.close.Goals as goal
+use Rattle.cq_settle.proofs.closing.close.Goals.{After-deref}
 
 pub loop-seen-init : goal.loop-seen-init
 loop-seen-init c = record {
@@ -18,60 +19,39 @@ loop-seen-init c = record {
   marks = record { heap = refl; attrs = refl; store = refl; pivots = refl; room = omega arith };
 }
 
+-- what a pass looks at
+these : (c : After-deref) → AreWoken c.loop-seen.world.attrs.now (numbers_of (drop c.loop-seen.seen c.loop-seen.newly)) c.deref.result.now
+these c = woken_since c.loop-seen.world.attrs.now c.loop-seen.newly c.as_slice-in-loop-seen.result.now c.loop-seen.seen c.in_ok-numbers.numbers.items c.deref.result.now
+    c.as_slice-in-loop-seen.ensures c.deref.ensures.value
+    (record { sound = c.in_ok-numbers.ensures.woken; all = c.in_ok-numbers.ensures.all; ascends = c.in_ok-numbers.ensures.ascending })
+
+-- up to a pass
+up_to : (c : After-deref) → GoesOn c.args.atoms.now (now_of c.args.world.now) (now_of c.loop-seen.world) (to_do [] [] (numbers_of c.args.newly.now) (numbers_of c.args.newly.now))
+    (to_do [] c.deref.result.now [] (numbers_of c.loop-seen.newly))
+up_to c = goes_then c.args.atoms.now (now_of c.args.world.now) (now_of c.loop-seen.world) (now_of c.loop-seen.world) _ _ _ c.loop-seen.invariant.goes
+    (to_look_at c.args.atoms.now (now_of c.loop-seen.world) (numbers_of (drop c.loop-seen.seen c.loop-seen.newly)) c.deref.result.now (numbers_of c.loop-seen.newly) (these c).all)
+
 pub look_again-requires-clause-underway : goal.look_again-requires-clause-underway
 look_again-requires-clause-underway c =
-    let w = now_of c.args.world.now in
-    let x = now_of c.loop-seen.world in
-    let all = numbers_of c.loop-seen.newly in
-    let ns = c.deref.result.now in
-    let begin = to_do [] [] (numbers_of c.args.newly.now) (numbers_of c.args.newly.now) in
-    let these = woken_since x.attrs c.loop-seen.newly c.as_slice-in-loop-seen.result.now c.loop-seen.seen c.in_ok-numbers.numbers.items ns c.as_slice-in-loop-seen.ensures c.deref.ensures.value
-    (record { sound = c.in_ok-numbers.ensures.woken; all = c.in_ok-numbers.ensures.all; ascends = c.in_ok-numbers.ensures.ascending }) in
-    let goes = goes_then c.args.atoms.now w x x begin (to_do [] [] (numbers_of (drop c.loop-seen.seen c.loop-seen.newly)) all) (to_do [] ns [] all) c.loop-seen.invariant.goes
-    (to_look_at c.args.atoms.now x (numbers_of (drop c.loop-seen.seen c.loop-seen.newly)) ns all these.all) in
-    some_after c.args.atoms.now w x begin (to_do [] ns [] all) goes c.requires
+    some_after c.args.atoms.now (now_of c.args.world.now) (now_of c.loop-seen.world) _ _ (up_to (goal.at.look_again-requires-clause-underway c).After-deref) c.requires
 
 pub look_again-requires-clause-ascending : goal.look_again-requires-clause-ascending
-look_again-requires-clause-ascending c =
-    let w = now_of c.args.world.now in
-    let x = now_of c.loop-seen.world in
-    let all = numbers_of c.loop-seen.newly in
-    let ns = c.deref.result.now in
-    let begin = to_do [] [] (numbers_of c.args.newly.now) (numbers_of c.args.newly.now) in
-    let these = woken_since x.attrs c.loop-seen.newly c.as_slice-in-loop-seen.result.now c.loop-seen.seen c.in_ok-numbers.numbers.items ns c.as_slice-in-loop-seen.ensures c.deref.ensures.value
-    (record { sound = c.in_ok-numbers.ensures.woken; all = c.in_ok-numbers.ensures.all; ascends = c.in_ok-numbers.ensures.ascending }) in
-    these.ascends
+look_again-requires-clause-ascending c = (these (goal.at.look_again-requires-clause-ascending c).After-deref).ascends
 
 pub look_again-requires-clause-waits : goal.look_again-requires-clause-waits
 look_again-requires-clause-waits c =
-    let w = now_of c.args.world.now in
-    let x = now_of c.loop-seen.world in
-    let all = numbers_of c.loop-seen.newly in
-    let ns = c.deref.result.now in
-    let begin = to_do [] [] (numbers_of c.args.newly.now) (numbers_of c.args.newly.now) in
-    let these = woken_since x.attrs c.loop-seen.newly c.as_slice-in-loop-seen.result.now c.loop-seen.seen c.in_ok-numbers.numbers.items ns c.as_slice-in-loop-seen.ensures c.deref.ensures.value
-    (record { sound = c.in_ok-numbers.ensures.woken; all = c.in_ok-numbers.ensures.all; ascends = c.in_ok-numbers.ensures.ascending }) in
-    woken_waits x.attrs (numbers_of (drop c.loop-seen.seen c.loop-seen.newly)) ns these
+    woken_waits c.loop-seen.world.attrs.now _ c.deref.result.now (these (goal.at.look_again-requires-clause-waits c).After-deref)
 
 pub loop-seen-preserved : goal.loop-seen-preserved
 loop-seen-preserved c =
-    let w = now_of c.args.world.now in
-    let x = now_of c.loop-seen.world in
-    let all = numbers_of c.loop-seen.newly in
-    let ns = c.deref.result.now in
-    let begin = to_do [] [] (numbers_of c.args.newly.now) (numbers_of c.args.newly.now) in
-    let these = woken_since x.attrs c.loop-seen.newly c.as_slice-in-loop-seen.result.now c.loop-seen.seen c.in_ok-numbers.numbers.items ns c.as_slice-in-loop-seen.ensures c.deref.ensures.value
-    (record { sound = c.in_ok-numbers.ensures.woken; all = c.in_ok-numbers.ensures.all; ascends = c.in_ok-numbers.ensures.ascending }) in
-    let goes = goes_then c.args.atoms.now w x x begin (to_do [] [] (numbers_of (drop c.loop-seen.seen c.loop-seen.newly)) all) (to_do [] ns [] all) c.loop-seen.invariant.goes
-    (to_look_at c.args.atoms.now x (numbers_of (drop c.loop-seen.seen c.loop-seen.newly)) ns all these.all) in
-    let y = now_of c.look_again.new.world in
     let looked = rw c.if-not-branch.false at c.in_ok-look_again.ensures.looked in
     let fewer = rw c.if-not-branch.false at c.in_ok-look_again.ensures.fewer in
-    let end = to_do [] [] (numbers_of (drop (length c.loop-seen.newly) c.look_again.new.newly)) (numbers_of c.look_again.new.newly) in
+    let begin = to_do [] [] (numbers_of c.args.newly.now) (numbers_of c.args.newly.now) in
     let seen = ap length c.as_slice-seen.ensures in
     record {
-      goes = subst (λ (n : ℕ). GoesOn c.args.atoms.now w y begin (to_do [] [] (numbers_of (drop n c.look_again.new.newly)) (numbers_of c.look_again.new.newly))) (sym seen)
-          (goes_then c.args.atoms.now w x y begin (to_do [] ns [] all) end goes looked);
+      goes = subst (λ (n : ℕ). GoesOn c.args.atoms.now (now_of c.args.world.now) (now_of c.look_again.new.world) begin
+          (to_do [] [] (numbers_of (drop n c.look_again.new.newly)) (numbers_of c.look_again.new.newly))) (sym seen)
+          (goes_then c.args.atoms.now (now_of c.args.world.now) (now_of c.loop-seen.world) (now_of c.look_again.new.world) _ _ _ (up_to (goal.at.loop-seen-preserved c).After-deref) looked);
       seen = omega (arith, seen, ap length fewer.list, length-append c.loop-seen.newly fewer.more);
       marks = marks_then _ _ _ c.loop-seen.invariant.marks c.look_again.ensures.marks;
     }
@@ -85,44 +65,21 @@ loop-seen-smaller c =
 
 pub returns-in_err-look_again-clause-overflow : goal.returns-in_err-look_again-clause-overflow
 returns-in_err-look_again-clause-overflow c = λ pair e.
-    let w = now_of c.args.world.now in
-    let x = now_of c.loop-seen.world in
-    let all = numbers_of c.loop-seen.newly in
-    let ns = c.deref.result.now in
-    let begin = to_do [] [] (numbers_of c.args.newly.now) (numbers_of c.args.newly.now) in
-    let these = woken_since x.attrs c.loop-seen.newly c.as_slice-in-loop-seen.result.now c.loop-seen.seen c.in_ok-numbers.numbers.items ns c.as_slice-in-loop-seen.ensures c.deref.ensures.value
-    (record { sound = c.in_ok-numbers.ensures.woken; all = c.in_ok-numbers.ensures.all; ascends = c.in_ok-numbers.ensures.ascending }) in
-    let goes = goes_then c.args.atoms.now w x x begin (to_do [] [] (numbers_of (drop c.loop-seen.seen c.loop-seen.newly)) all) (to_do [] ns [] all) c.loop-seen.invariant.goes
-    (to_look_at c.args.atoms.now x (numbers_of (drop c.loop-seen.seen c.loop-seen.newly)) ns all these.all) in
-    of_before c.args.atoms.now w x begin (to_do [] ns [] all) (λ st p u. MayRefuse st p pair) goes
+    of_before c.args.atoms.now (now_of c.args.world.now) (now_of c.loop-seen.world) _ _ (λ st p u. MayRefuse st p pair)
+    (up_to (goal.at.returns-in_err-look_again-clause-overflow c).After-deref)
     (c.in_err-look_again.ensures.overflow pair (ap Err (passed c.from_residual-in_err-look_again.result c.in_err-look_again.field-0.0 pair c.from_residual-in_err-look_again.ensures.1 e)))
 
 pub returns-in_err-look_again-clause-pivots : goal.returns-in_err-look_again-clause-pivots
 returns-in_err-look_again-clause-pivots c = λ n e.
-    let w = now_of c.args.world.now in
-    let x = now_of c.loop-seen.world in
-    let all = numbers_of c.loop-seen.newly in
-    let ns = c.deref.result.now in
-    let begin = to_do [] [] (numbers_of c.args.newly.now) (numbers_of c.args.newly.now) in
-    let these = woken_since x.attrs c.loop-seen.newly c.as_slice-in-loop-seen.result.now c.loop-seen.seen c.in_ok-numbers.numbers.items ns c.as_slice-in-loop-seen.ensures c.deref.ensures.value
-    (record { sound = c.in_ok-numbers.ensures.woken; all = c.in_ok-numbers.ensures.all; ascends = c.in_ok-numbers.ensures.ascending }) in
-    let goes = goes_then c.args.atoms.now w x x begin (to_do [] [] (numbers_of (drop c.loop-seen.seen c.loop-seen.newly)) all) (to_do [] ns [] all) c.loop-seen.invariant.goes
-    (to_look_at c.args.atoms.now x (numbers_of (drop c.loop-seen.seen c.loop-seen.newly)) ns all these.all) in
-    let o = c.in_err-look_again.ensures.pivots n (ap Err (store_spent c.from_residual-in_err-look_again.result c.in_err-look_again.field-0.0 n c.from_residual-in_err-look_again.ensures.1 e)) in
-    (o.0 ∙ c.loop-seen.invariant.marks.pivots, of_before c.args.atoms.now w x begin (to_do [] ns [] all) (λ st p u. MayTake st p n) goes o.1)
+    let o = c.in_err-look_again.ensures.pivots n (ap Err (store_spent c.from_residual-in_err-look_again.result c.in_err-look_again.field-0.0 n c.from_residual-in_err-look_again.ensures.1 e)) in (
+      o.0 ∙ c.loop-seen.invariant.marks.pivots,
+      of_before c.args.atoms.now (now_of c.args.world.now) (now_of c.loop-seen.world) _ _ (λ st p u. MayTake st p n) (up_to (goal.at.returns-in_err-look_again-clause-pivots c).After-deref) o.1,
+    )
 
 pub returns-then-not-branch-clause-closed : goal.returns-then-not-branch-clause-closed
 returns-then-not-branch-clause-closed c =
-    let w = now_of c.args.world.now in
-    let x = now_of c.loop-seen.world in
-    let all = numbers_of c.loop-seen.newly in
-    let ns = c.deref.result.now in
-    let begin = to_do [] [] (numbers_of c.args.newly.now) (numbers_of c.args.newly.now) in
-    let these = woken_since x.attrs c.loop-seen.newly c.as_slice-in-loop-seen.result.now c.loop-seen.seen c.in_ok-numbers.numbers.items ns c.as_slice-in-loop-seen.ensures c.deref.ensures.value
-    (record { sound = c.in_ok-numbers.ensures.woken; all = c.in_ok-numbers.ensures.all; ascends = c.in_ok-numbers.ensures.ascending }) in
-    let goes = goes_then c.args.atoms.now w x x begin (to_do [] [] (numbers_of (drop c.loop-seen.seen c.loop-seen.newly)) all) (to_do [] ns [] all) c.loop-seen.invariant.goes
-    (to_look_at c.args.atoms.now x (numbers_of (drop c.loop-seen.seen c.loop-seen.newly)) ns all these.all) in
-    of_before c.args.atoms.now w x begin (to_do [] ns [] all) IsPruned goes (rw c.if-not-branch.true at c.in_ok-look_again.ensures.looked)
+    of_before c.args.atoms.now (now_of c.args.world.now) (now_of c.loop-seen.world) _ _ IsPruned (up_to (goal.at.returns-then-not-branch-clause-closed c).After-deref)
+    (rw c.if-not-branch.true at c.in_ok-look_again.ensures.looked)
 
 pub returns-clause-closed : goal.returns-clause-closed
 returns-clause-closed c =

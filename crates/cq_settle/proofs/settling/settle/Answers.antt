@@ -15,7 +15,7 @@ returns-then-branch-clause-woken c =
     let w = now_of c.args.world.now in
     subst (λ (goals : List ℕ). OfCalls c.args.atoms.now w c.args.work.newly c.args.work.told.items c.args.work.rows.items (λ st p u. IsKept c.args.atoms.now w w goals st p u))
     (sym c.new.ensures.items)
-    (λ st p u k. idle_kept w c.args.work.newly c.args.work.told.items c.args.work.rows.items (c.in_ok-is_idle.ensures c.if-branch.true) c.args.atoms.now st p u k
+    (λ st p u k. idle_kept w c.args.work.newly c.args.work.told.items c.args.work.rows.items (c.in_ok-is_idle.ensures.idle c.if-branch.true) c.args.atoms.now st p u k
     c.store_and_numbers.ensures.solvable f.0 f.1)
 
 pub returns-in_err-start-clause-marks : goal.returns-in_err-start-clause-marks
