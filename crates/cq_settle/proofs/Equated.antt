@@ -1,5 +1,5 @@
 -- One more equation of a variable that was bound joins.
-use Rattle.std.proofs.Common.{◌≡◌, ◌<◌, ◌+◌, ℕ, List, [], ◌∷◌, ◌++◌, length, take, drop, get_or, true, false, refl, sym, ap, ◌∙◌, subst, ◌||◌}
+use Rattle.std.proofs.Common.{◌≡◌, ◌<◌, ◌+◌, ℕ, List, [], ◌∷◌, ◌++◌, length, take, drop, get_or, Bool, true, false, refl, sym, ap, ◌∙◌, subst, ◌||◌}
 use Rattle.std.specs.Prelude.{Contains}
 use Rattle.std.proofs.lemmas.List.{take_more, drop_more, take-append-drop}
 use Rattle.spec_linear.specs.Solution.{Constraint}
@@ -10,8 +10,8 @@ use Rattle.cq_term.specs.HeapValue.{Terms}
 use Rattle.cq_term.specs.Meaning.{at}
 use Rattle.cq_walk.specs.Places.{numbers_of}
 use Rattle.cq_world.specs.Contents.{Contents}
-use Rattle.cq_settle.specs.Steps.{HaveJoined, StopsAt, equation_at, equations_of, numeric_ones, is_image_of}
-use Rattle.cq_settle.proofs.Gather.{ones_with, ones_without, equations_with, equations_split, numeric_push, of_images, one_image, told_more}
+use Rattle.cq_settle.specs.Steps.{AreBoundThere, HaveJoined, StopsAt, equation_at, equations_of, numeric_ones, is_image_of}
+use Rattle.cq_settle.proofs.Gather.{bound_same, ones_with, ones_without, equations_with, equations_split, numeric_push, of_images, one_image, told_more}
 use Rattle.cq_settle.proofs.Joined.{one_more_joins, stops_at}
 
 module _ (c : Contents) (vs : List VarId) (i : ℕ) (d : VarId) (here : i < length vs) where
@@ -27,6 +27,12 @@ module _ (c : Contents) (vs : List VarId) (i : ℕ) (d : VarId) (here : i < leng
 
   parts : vs ≡ take i vs ++ v ∷ drop (i + 1) vs
   parts = sym (take-append-drop i vs) ∙ ap (λ (xs : List VarId). take i vs ++ xs) (drop_more vs i d here)
+
+  -- as a bound variable is as numeric as before
+  pub numeric_here : (b : Attributes) → ((x : ℕ) → is_numeric b x ≡ (is_numeric c.attrs x || is_image_of c.heap.images (numeric_ones c.attrs (take i vs)) x))
+      → ((x : ℕ) → is_image_of c.heap.images (numeric_ones c.attrs (take i vs)) x ≡ true → at c.heap.images x ≡ Var x) → AreBoundThere c.heap.images vs
+      → (t : Bool) → t ≡ is_numeric b v.0 → is_numeric c.attrs v.0 ≡ t
+  numeric_here b f g h t e = sym (bound_same c.heap.images c.attrs b (numeric_ones c.attrs (take i vs)) v.0 f g (h i d here).1) ∙ sym e
 
   -- a variable that is not numeric has none
   pub ones_same : is_numeric c.attrs v.0 ≡ false → numeric_ones c.attrs (take i vs) ≡ numeric_ones c.attrs (take (i + 1) vs)

@@ -13,14 +13,13 @@ use Rattle.cq_walk.specs.Places.{numbers_of}
 use Rattle.cq_world.specs.Worlds.{now_of}
 use Rattle.cq_world.specs.declared.world.World.{World}
 use Rattle.cq_settle.specs.Settled.{KeepsMarks}
-use Rattle.cq_settle.specs.Steps.{HaveJoined, CannotJoin, Refuses, Takes, equation_at, numeric_ones, is_image_of}
-use Rattle.cq_settle.proofs.Equated.{ones_same, equation_joins, equation_stops, numeric_next, images_next, unbound_next}
-use Rattle.cq_settle.proofs.Gather.{bound_same}
+use Rattle.cq_settle.specs.Steps.{HaveJoined, StopsAt, CannotJoin, Refuses, Takes, equation_at, equations_of, numeric_ones, is_image_of}
+use Rattle.cq_settle.proofs.Equated.{ones_same, numeric_here, equation_joins, equation_stops, numeric_next, images_next, unbound_next}
 use Rattle.cq_settle.proofs.Joined.{joins_nothing}
 use Rattle.cq_settle.proofs.Marks.{marks_same, marks_more, marks_then}
 use Rattle.cq_settle.proofs.Shown.{or_nothing}
 use Rattle.cq_settle.proofs.joining.join_equations.Goals as goal
-use Rattle.cq_settle.proofs.joining.join_equations.Goals.{then-is_numeric+in_ok-equation+in_ok-join+else-not-branch, else-is_numeric}
+use Rattle.cq_settle.proofs.joining.join_equations.Goals.{After-join, then-is_numeric+in_ok-equation+in_ok-join+else-not-branch, else-is_numeric}
 
 pub loop-variable-init : goal.loop-variable-init
 loop-variable-init c = record {
@@ -33,55 +32,34 @@ loop-variable-init c = record {
   marks = marks_same c.args.world.now;
 }
 
-pub returns-in_err-join-clause-overflow : goal.returns-in_err-join-clause-overflow
-returns-in_err-join-clause-overflow c = λ pair e.
-    let d : VarId = record { 0 = 0 } in
+-- what stops the equation stops them all
+stops : (c : After-join) (P : List Constraint → Constraint → Type 0) → P c.equation_of.new.world.store.told c.in_ok-equation.equation
+    → StopsAt P c.args.world.now.store.told (equations_of (now_of c.args.world.now) c.args.newly.now)
+stops c =
     let i = c.loop-variable.variable-index in
     let old = c.args.world.now in
-    let vs = c.args.newly.now in
     let l = c.loop-variable in
-    let here : i < length vs = omega (arith, c.loop-variable-test.true) in
-    let v = get_or vs i d in
-    let same = bound_same old.heap.now.images old.attrs.now l.world.attrs.now (numeric_ones old.attrs.now (take i vs)) v.0 l.invariant.numeric l.invariant.unbound
-    (c.requires.bound i d here).1 in
-    equation_stops (now_of old) vs i d here (sym same ∙ sym c.if-is_numeric.ensures) l.world.store.told c.equation_of.new.world.store.told c.in_ok-equation.equation
-    c.args.fixed.now.items l.fixed.items l.invariant.joined c.equation_of.ensures.told
-    (c.in_ok-equation.ensures.equation ∙ ap (λ (h : Terms). equation_at h.images v.0) l.invariant.heap) (Refuses pair)
+    let here : i < length c.args.newly.now = omega (arith, c.loop-variable-test.true) in
+    equation_stops (now_of old) c.args.newly.now i (record { 0 = 0 }) here
+    (numeric_here (now_of old) c.args.newly.now i (record { 0 = 0 }) here l.world.attrs.now l.invariant.numeric l.invariant.unbound c.requires.bound true c.if-is_numeric.ensures)
+    l.world.store.told c.equation_of.new.world.store.told c.in_ok-equation.equation c.args.fixed.now.items l.fixed.items l.invariant.joined c.equation_of.ensures.told
+    (c.in_ok-equation.ensures.equation ∙ ap (λ (h : Terms). equation_at h.images (get_or c.args.newly.now i (record { 0 = 0 })).0) l.invariant.heap)
+
+pub returns-in_err-join-clause-overflow : goal.returns-in_err-join-clause-overflow
+returns-in_err-join-clause-overflow c = λ pair e.
+    stops (goal.at.returns-in_err-join-clause-overflow c).After-join (Refuses pair)
     (c.in_err-join.ensures.overflow pair (ap Err (passed c.from_residual-in_err-join.result c.in_err-join.field-0.0 pair c.from_residual-in_err-join.ensures.1 e)))
 
 pub returns-in_err-join-clause-pivots : goal.returns-in_err-join-clause-pivots
 returns-in_err-join-clause-pivots c = λ n e.
-    let d : VarId = record { 0 = 0 } in
-    let i = c.loop-variable.variable-index in
-    let old = c.args.world.now in
-    let vs = c.args.newly.now in
-    let l = c.loop-variable in
-    let here : i < length vs = omega (arith, c.loop-variable-test.true) in
-    let v = get_or vs i d in
-    let same = bound_same old.heap.now.images old.attrs.now l.world.attrs.now (numeric_ones old.attrs.now (take i vs)) v.0 l.invariant.numeric l.invariant.unbound
-    (c.requires.bound i d here).1 in
     let o = c.in_err-join.ensures.pivots n (ap Err (store_spent c.from_residual-in_err-join.result c.in_err-join.field-0.0 n c.from_residual-in_err-join.ensures.1 e)) in (
-      o.0 ∙ c.equation_of.ensures.marks.pivots ∙ l.invariant.marks.pivots,
-      equation_stops (now_of old) vs i d here (sym same ∙ sym c.if-is_numeric.ensures) l.world.store.told c.equation_of.new.world.store.told c.in_ok-equation.equation
-          c.args.fixed.now.items l.fixed.items l.invariant.joined c.equation_of.ensures.told
-          (c.in_ok-equation.ensures.equation ∙ ap (λ (h : Terms). equation_at h.images v.0) l.invariant.heap) (Takes n) o.1,
+      o.0 ∙ c.equation_of.ensures.marks.pivots ∙ c.loop-variable.invariant.marks.pivots,
+      stops (goal.at.returns-in_err-join-clause-pivots c).After-join (Takes n) o.1,
     )
 
 pub returns-then-not-branch-clause-joined : goal.returns-then-not-branch-clause-joined
 returns-then-not-branch-clause-joined c =
-    let d : VarId = record { 0 = 0 } in
-    let i = c.loop-variable.variable-index in
-    let old = c.args.world.now in
-    let vs = c.args.newly.now in
-    let l = c.loop-variable in
-    let here : i < length vs = omega (arith, c.loop-variable-test.true) in
-    let v = get_or vs i d in
-    let same = bound_same old.heap.now.images old.attrs.now l.world.attrs.now (numeric_ones old.attrs.now (take i vs)) v.0 l.invariant.numeric l.invariant.unbound
-    (c.requires.bound i d here).1 in
-    equation_stops (now_of old) vs i d here (sym same ∙ sym c.if-is_numeric.ensures) l.world.store.told c.equation_of.new.world.store.told c.in_ok-equation.equation
-    c.args.fixed.now.items l.fixed.items l.invariant.joined c.equation_of.ensures.told
-    (c.in_ok-equation.ensures.equation ∙ ap (λ (h : Terms). equation_at h.images v.0) l.invariant.heap) CannotJoin
-    (when_false _ _ c.if-not-branch.true c.in_ok-join.ensures.joined)
+    stops (goal.at.returns-then-not-branch-clause-joined c).After-join CannotJoin (when_false _ _ c.if-not-branch.true c.in_ok-join.ensures.joined)
 
 pub loop-variable-preserved : goal.loop-variable-preserved
 loop-variable-preserved c =
@@ -92,18 +70,17 @@ loop-variable-preserved c =
     let l = c.loop-variable in
     let here : i < length vs = omega (arith, c.loop-variable-test.true) in
     let v = get_or vs i d in
-    let same = bound_same old.heap.now.images old.attrs.now l.world.attrs.now (numeric_ones old.attrs.now (take i vs)) v.0 l.invariant.numeric l.invariant.unbound
-    (c.requires.bound i d here).1 in
+    let numeric_so = numeric_here (now_of old) vs i d here l.world.attrs.now l.invariant.numeric l.invariant.unbound c.requires.bound in
     elim c.if-is_numeric.branch [
       | then-is_numeric+in_ok-equation+in_ok-join+else-not-branch w ↦ (
-          let numeric = sym same ∙ sym w.if-is_numeric.ensures in
+          let numeric = numeric_so true w.if-is_numeric.ensures in
           let told : c.if-is_numeric.world.store.told ≡ w.join.new.store.told = ap (λ (x : World). x.store.told) w.world-is in
           let items : c.if-is_numeric.fixed.items ≡ w.join.new.fixed.items = ap (λ (f : Vec VarId Global). f.items) w.fixed-is in
           let ahead = λ (x : ℕ) (h : Contains (numbers_of w.equation_of.new.fixed.items) x).
           let k = when_true _ _ w.if-not-branch.false w.in_ok-join.ensures.joined in k.still x h in
           record {
-            joined = subst (λ (t : List Constraint). HaveJoined old.store.told (Rattle.cq_settle.specs.Steps.equations_of (now_of old) (take (i + 1) vs)) t c.args.fixed.now.items c.if-is_numeric.fixed.items) (sym told)
-                (subst (λ (xs : List VarId). HaveJoined old.store.told (Rattle.cq_settle.specs.Steps.equations_of (now_of old) (take (i + 1) vs)) w.join.new.store.told c.args.fixed.now.items xs) (sym items)
+            joined = subst (λ (t : List Constraint). HaveJoined old.store.told (equations_of (now_of old) (take (i + 1) vs)) t c.args.fixed.now.items c.if-is_numeric.fixed.items) (sym told)
+                (subst (λ (xs : List VarId). HaveJoined old.store.told (equations_of (now_of old) (take (i + 1) vs)) w.join.new.store.told c.args.fixed.now.items xs) (sym items)
                 (equation_joins (now_of old) vs i d here numeric l.world.store.told w.equation_of.new.world.store.told w.in_ok-equation.equation
                 c.args.fixed.now.items l.fixed.items l.invariant.joined w.equation_of.ensures.told
                 (w.in_ok-equation.ensures.equation ∙ ap (λ (h : Terms). equation_at h.images v.0) l.invariant.heap)
@@ -121,7 +98,7 @@ loop-variable-preserved c =
                 refl (omega arith) refl (omega arith) w.join.ensures.saved w.join.ensures.room w.join.ensures.budget);
           })
       | else-is_numeric w ↦ (
-          let ones = ones_same (now_of old) vs i d here (sym same ∙ sym w.if-is_numeric.ensures) in
+          let ones = ones_same (now_of old) vs i d here (numeric_so false w.if-is_numeric.ensures) in
           let items : c.if-is_numeric.fixed.items ≡ l.fixed.items = ap (λ (f : Vec VarId Global). f.items) w.fixed-is in
           record {
             joined = subst (λ (ns : List ℕ). HaveJoined old.store.told (map (equation_at old.heap.now.images) ns) c.if-is_numeric.world.store.told c.args.fixed.now.items c.if-is_numeric.fixed.items) ones
