@@ -1,5 +1,5 @@
 -- Terms that are looked at again, one after another.
-use Rattle.std.proofs.Common.{◌≡◌, ◌≢◌, ◌<◌, ◌≤◌, ℕ, zero, suc, ◌+◌, ◌*◌, List, [], ◌∷◌, ◌++◌, map, length, take, drop, get_or, Bool, true, false, Option, None, Some, refl, sym, ap, ◌∙◌, subst, inl, inr, ◌⊎◌, arith, append_assoc}
+use Rattle.std.proofs.Common.{◌≡◌, ◌≢◌, ◌<◌, ◌≤◌, ℕ, zero, suc, ◌+◌, ◌*◌, List, [], ◌∷◌, ◌++◌, length, take, drop, get_or, Bool, true, false, Option, None, Some, refl, sym, ap, ◌∙◌, subst, inl, inr, ◌⊎◌, arith, append_assoc}
 use Rattle.std.specs.Prelude.{All, Contains, MatchBool, not, if◌then◌else◌, nat_lt}
 use Rattle.std.specs.List.{cons_option}
 use Rattle.std.proofs.lemmas.Bool.{lt-ltb, ltb-true, cases_lt}
@@ -21,7 +21,6 @@ use Rattle.cq_term.specs.Meaning.{HeapTerm, at}
 use Rattle.cq_walk.specs.Places.{numbers_of}
 use Rattle.cq_world.specs.Contents.{Contents}
 use Rattle.cq_world.specs.Standing.{constraints, is_constraint}
-use Rattle.cq_world.specs.Worlds.{room_of}
 use Rattle.cq_world.specs.declared.world.World.{World}
 use Rattle.cq_settle.specs.Settled.{KeepsMarks}
 use Rattle.cq_settle.specs.Steps.{HasFewer, BindsValues, JoinsAndBinds, WakesOne, goal_that_wakes, unless_given}

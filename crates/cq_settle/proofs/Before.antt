@@ -2,17 +2,16 @@
 use Rattle.std.proofs.Common.{◌≡◌, ◌≢◌, ◌<◌, ◌≤◌, ℕ, List, [], ◌∷◌, length, Bool, true, false, refl, sym, ap, ◌∙◌, subst, arith}
 use Rattle.std.specs.Prelude.{Contains, All, Any, ◌==◌}
 use Rattle.std.proofs.lemmas.Bool.{true≢false}
-use Rattle.std.proofs.lemmas.List.Elements.{All-contains, All-weaker, All-contains_itself, All-from_get_or, All-get_or}
+use Rattle.std.proofs.lemmas.List.Elements.{All-weaker, All-contains_itself}
 use Rattle.spec_linear.specs.Solution.{Constraint}
 use Rattle.spec_lists.specs.Texts.{Text}
 use Rattle.spec_lists.proofs.Tests.{nat_eq-self}
 use Rattle.spec_terms.specs.Term.{Subst, Var, named}
 use Rattle.spec_branch.specs.Branch.{State, Pending}
-use Rattle.spec_branch.specs.Settling.{is_bound}
 use Rattle.cq_atoms.specs.Texts.{text_of}
 use Rattle.cq_attr.specs.Attributes.{is_numeric}
 use Rattle.cq_frac.specs.declared.VarId.{VarId}
-use Rattle.cq_term.specs.Meaning.{HeapTerm, at}
+use Rattle.cq_term.specs.Meaning.{at}
 use Rattle.cq_walk.specs.Places.{numbers_of}
 use Rattle.cq_world.specs.Contents.{Contents}
 use Rattle.cq_settle.specs.Called.{IsCalled, IsNewlyBound}
@@ -20,7 +19,6 @@ use Rattle.cq_settle.specs.Settled.{IsPruned}
 use Rattle.cq_settle.specs.Steps.{AreThere, AreBoundThere, ClashesAt}
 use Rattle.cq_settle.specs.Underway.{unified}
 use Rattle.cq_settle.proofs.Begin.{HasBegun, task, numeric_there}
-use Rattle.cq_settle.proofs.Closed.{by_member}
 use Rattle.cq_settle.proofs.Looked.{has_of_contains}
 use Rattle.cq_settle.proofs.Numeric.{variable_bound, any_found, numeric_below}
 use Rattle.cq_settle.proofs.Pruned.{clash_prunes}

@@ -1,14 +1,14 @@
 -- All equations and rows have joined, and values are bound: the settling is underway.
 use Rattle.std.proofs.Common.{◌≡◌, ◌≢◌, ◌<◌, ◌≤◌, ℕ, zero, suc, List, [], ◌∷◌, ◌++◌, map, length, Bool, true, false, cond, Option, None, Some, refl, sym, ap, ap₂, ◌∙◌, subst, inl, inr, ◌⊎◌, arith, ◌||◌, append_assoc}
-use Rattle.std.specs.Prelude.{Contains, All, not, ◌&&◌, ◌==◌, filter}
+use Rattle.std.specs.Prelude.{Contains, All, ◌==◌}
 use Rattle.std.specs.List.{AllByRecursion, AllZip, list_any}
 use Rattle.std.proofs.lemmas.Bool.{true≢false}
 use Rattle.std.proofs.lemmas.List.Elements.{All-contains, All-head, All-tail, Contains-append_left, Contains-append_right}
 use Rattle.spec_rational.specs.Rational.{ℚ}
 use Rattle.spec_linear.specs.Solution.{Constraint, Has, Fixed}
 use Rattle.spec_lists.specs.Texts.{Text}
-use Rattle.spec_lists.proofs.Tests.{one_is, or_left, or_right, nat_eq-self, nat_eq-same}
-use Rattle.spec_terms.specs.Term.{Subst, Var, Number, Name, Compound, Occurs, apply, followed_by, named}
+use Rattle.spec_lists.proofs.Tests.{one_is, or_right, nat_eq-self, nat_eq-same}
+use Rattle.spec_terms.specs.Term.{Subst, Var, Number, Name, Compound, Occurs, apply, named}
 use Rattle.spec_terms.specs.Variables.{variables}
 use Rattle.spec_terms.proofs.Listed.{occurs_listed, listed_occurs}
 use Rattle.spec_terms.proofs.Substitution.{apply-followed_by, apply-identity, apply_agree, occurs_from}
@@ -20,8 +20,8 @@ use Rattle.spec_branch.specs.Closure.{Moves, no_move}
 use Rattle.spec_branch.specs.Settling.{is_bound, is_no_number, NoClash, newly_bound, stands_in}
 use Rattle.spec_branch.specs.Settling as definitions
 use Rattle.cq_atoms.specs.Texts.{text_of}
-use Rattle.cq_attr.specs.Attributes.{Attributes, Waiting, WaitsFor, is_numeric}
-use Rattle.cq_attr.proofs.Elements.{any_of_map, contains_here}
+use Rattle.cq_attr.specs.Attributes.{Waiting, is_numeric}
+use Rattle.cq_attr.proofs.Elements.{any_of_map}
 use Rattle.cq_frac.specs.declared.VarId.{VarId}
 use Rattle.cq_term.specs.Meaning.{HeapTerm, at}
 use Rattle.cq_term.specs.Shown.{IsUnbound}
@@ -30,18 +30,16 @@ use Rattle.cq_walk.specs.Places.{numbers_of}
 use Rattle.cq_world.specs.Contents.{Contents}
 use Rattle.cq_world.specs.Standing.{IsConstraint, IsSleeper, IsAwaited, AreRead, Stands, constraints, goals, is_constraint, is_goal}
 use Rattle.cq_settle.specs.Called.{IsCalled, IsNewlyBound}
-use Rattle.cq_settle.specs.Steps.{ClashesAt, WaitsOn, HaveJoined, BindsValues, equations_of, numeric_ones, is_image_of, is_the_variable}
-use Rattle.cq_settle.specs.Underway.{IsTask, AreBound, Awaits, IsReached, IsHere, IsUnderway, WaitsOrToDo, unified, numeric_then, valued, bindings_now, state_then}
+use Rattle.cq_settle.specs.Steps.{ClashesAt, WaitsOn, BindsValues, equations_of, numeric_ones, is_image_of, is_the_variable}
+use Rattle.cq_settle.specs.Underway.{IsTask, AreBound, Awaits, IsReached, IsHere, IsUnderway, WaitsOrToDo, unified, numeric_then, bindings_now, state_then}
 use Rattle.cq_settle.proofs.Binding.{none}
-use Rattle.cq_settle.proofs.Composed.{together}
-use Rattle.cq_settle.proofs.Closed.{by_member}
 use Rattle.cq_settle.proofs.Further.{unnamed}
-use Rattle.cq_settle.proofs.Numeric.{Found, found_any, any_found, contains_of_has, numeric_below, numeric_image, variable_bound, variable_from}
+use Rattle.cq_settle.proofs.Numeric.{found_any, any_found, contains_of_has, numeric_below, numeric_image, variable_bound}
 use Rattle.cq_settle.proofs.Progress.{bind_on}
-use Rattle.cq_settle.proofs.Start.{no_clash, image_is, unified_unbound, newly_there, newly_numeric, newly_listed, each_newly_bound, occurs_named, named_occurs, variables_named, unbound_value}
+use Rattle.cq_settle.proofs.Start.{no_clash, image_is, unified_unbound, newly_there, newly_numeric, newly_listed, each_newly_bound, occurs_named, variables_named, unbound_value}
 use Rattle.cq_settle.proofs.Joined.{numbers_behind}
 use Rattle.cq_settle.proofs.Looked.{has_of_contains}
-use Rattle.cq_settle.proofs.Woken.{zip_filter, zip_both, zip_so}
+use Rattle.cq_settle.proofs.Woken.{zip_filter}
 use Rattle.cq_settle.proofs.Zips.{zip_across, zip_left, zip_right, all_append, contains_unfiltered}
 
 -- the world once all equations and rows have joined, before any value is bound

@@ -1,23 +1,21 @@
 -- The worlds of a begin: what follows, what joins and what becomes numeric, one after another.
-use Rattle.std.proofs.Common.{◌≡◌, ◌<◌, ℕ, List, [], ◌∷◌, ◌++◌, map, length, Bool, true, Option, Some, refl, sym, ap, ap₂, ◌∙◌, subst, ◌||◌}
-use Rattle.std.specs.Prelude.{Contains, All, Any, ◌==◌}
+use Rattle.std.proofs.Common.{◌≡◌, ℕ, List, ◌++◌, true, sym, ap₂, ◌∙◌, subst, ◌||◌}
+use Rattle.std.specs.Prelude.{Contains, All, ◌==◌}
 use Rattle.std.specs.List.{list_any}
-use Rattle.std.proofs.lemmas.List.Elements.{All-weaker}
-use Rattle.spec_rational.specs.Rational.{ℚ}
-use Rattle.spec_linear.specs.Solution.{Constraint, Fixed}
+use Rattle.spec_linear.specs.Solution.{Constraint}
 use Rattle.spec_lists.specs.Texts.{Text}
-use Rattle.spec_terms.specs.Term.{Subst, Var}
+use Rattle.spec_terms.specs.Term.{Subst}
 use Rattle.spec_terms.specs.Variables.{variables}
 use Rattle.spec_branch.specs.Branch.{State, Pending}
 use Rattle.cq_attr.specs.Attributes.{Attributes, is_numeric}
 use Rattle.cq_frac.specs.declared.VarId.{VarId}
 use Rattle.cq_term.specs.HeapValue.{Terms}
-use Rattle.cq_term.specs.Meaning.{HeapTerm, at}
+use Rattle.cq_term.specs.Meaning.{at}
 use Rattle.cq_term.specs.Shown.{IsUnbound}
 use Rattle.cq_walk.specs.Places.{numbers_of}
 use Rattle.cq_world.specs.Contents.{Contents}
 use Rattle.cq_settle.specs.Called.{IsCalled}
-use Rattle.cq_settle.specs.Steps.{ClashesAt, Follows, HaveJoined, StopsAt, equations_of, numeric_ones, is_image_of, is_neither}
+use Rattle.cq_settle.specs.Steps.{ClashesAt, Follows, HaveJoined, StopsAt, equations_of, numeric_ones, is_image_of}
 use Rattle.cq_settle.specs.Underway.{HasStarted}
 use Rattle.cq_settle.proofs.Begin.{HasBegun, underway}
 use Rattle.cq_settle.proofs.Binding.{AllBound}

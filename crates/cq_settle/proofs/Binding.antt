@@ -1,20 +1,20 @@
 -- Values that are bound on the heap, one after another.
-use Rattle.std.proofs.Common.{◌≡◌, ◌<◌, ◌≤◌, ℕ, ◌+◌, List, [], ◌∷◌, ◌++◌, map, length, Bool, true, false, cond, Option, None, Some, refl, sym, ap, ap₂, ◌∙◌, subst, inl, inr, ◌⊎◌, arith, append_assoc}
-use Rattle.std.specs.Prelude.{Contains, All, ◌==◌, not, MatchOption}
+use Rattle.std.proofs.Common.{◌≡◌, ◌<◌, ℕ, ◌+◌, List, [], ◌∷◌, ◌++◌, map, length, Bool, true, false, cond, Option, None, Some, refl, sym, ap, ap₂, ◌∙◌, subst, inl, inr, ◌⊎◌, arith, append_assoc}
+use Rattle.std.specs.Prelude.{Contains, All, ◌==◌, MatchOption}
 use Rattle.std.proofs.lemmas.List.{length-append, length-map}
 use Rattle.std.proofs.lemmas.List.Elements.{All-contains, All-weaker, All-map, All-append, All-cons, All-nil, Contains-append_left, Contains-append_right, Contains-push_cases}
 use Rattle.spec_rational.specs.Rational.{ℚ}
 use Rattle.spec_linear.specs.Solution.{Constraint, Fixed}
 use Rattle.spec_linear.proofs.Lists.{fixed_once}
 use Rattle.spec_lists.proofs.Tests.{nat_eq-same, nat_eq-self}
-use Rattle.spec_terms.specs.Term.{Subst, Var, Number, Name, Compound, apply, single}
+use Rattle.spec_terms.specs.Term.{Var, Number, Name, Compound, apply, single}
 use Rattle.spec_terms.proofs.Substitution.{apply-identity, apply-followed_by, apply_agree}
 use Rattle.cq_attr.specs.Attributes.{Attributes, is_numeric}
 use Rattle.cq_attr.proofs.Elements.{contains_here, contains_none}
 use Rattle.cq_frac.specs.declared.VarId.{VarId}
 use Rattle.cq_term.specs.HeapValue.{Terms}
 use Rattle.cq_term.specs.Meaning.{HeapTerm, at}
-use Rattle.cq_term.specs.Names.{HasNamesBelow, PutsNamesBelow}
+use Rattle.cq_term.specs.Names.{HasNamesBelow}
 use Rattle.cq_term.proofs.Known.{names_substituted}
 use Rattle.cq_term.proofs.Meanings.{at-append, at-map}
 use Rattle.cq_walk.specs.Places.{numbers_of}

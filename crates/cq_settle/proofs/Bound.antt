@@ -1,11 +1,10 @@
 -- Fixed values may as well be read as bindings to numbers.
-use Rattle.std.proofs.Common.{◌≡◌, ℕ, Bool, true, false, Option, None, Some, refl, sym, ap, ap₂, ◌∙◌, ◌||◌, cond}
+use Rattle.std.proofs.Common.{◌≡◌, ℕ, Bool, true, false, Option, None, Some, refl, ap, ap₂, ◌∙◌, ◌||◌}
 use Rattle.std.specs.Prelude.{◌&&◌, if◌then◌else◌, bytes_eq, codes}
 use Rattle.spec_rational.specs.Rational.{ℚ}
-use Rattle.spec_linear.specs.Form.{Linear, constant_form, variable_form}
+use Rattle.spec_linear.specs.Form.{Linear}
 use Rattle.spec_linear.specs.Solution.{Constraint}
-use Rattle.spec_lists.specs.Texts.{Text}
-use Rattle.spec_terms.specs.Term.{Subst, Var, Number, Name, Compound, one, more, Occurs, apply}
+use Rattle.spec_terms.specs.Term.{Var, Number, Name, Compound, one, more, Occurs, apply}
 use Rattle.spec_terms.proofs.Substitution.{apply_agree}
 use Rattle.spec_syntax.specs.Trees.{Tree}
 use Rattle.spec_told.specs.Expressions.{form_of, has_zero_divisor, is_zero_form, unary_name, unary_of, binary_name, binary_of, variable_under}

@@ -1,17 +1,17 @@
 -- Where nothing is left to do, the moves have ended in a closure, and the branch is kept.
-use Rattle.std.proofs.Common.{◌≡◌, ◌≤◌, ◌<◌, ℕ, List, [], ◌∷◌, ◌++◌, Bool, true, false, Option, None, Some, refl, sym, ap, ◌∙◌, subst, inl, inr, ◌⊎◌, arith}
+use Rattle.std.proofs.Common.{◌≡◌, ℕ, List, [], ◌∷◌, ◌++◌, true, Option, refl, sym, ap, ◌∙◌, subst, inl, inr, arith}
 use Rattle.std.specs.Prelude.{Contains}
 use Rattle.std.specs.List.{AllByRecursion, AllZip}
 use Rattle.spec_rational.specs.Rational.{ℚ}
-use Rattle.spec_linear.specs.Solution.{Constraint, Has, Solvable, Fixed, Fixes}
+use Rattle.spec_linear.specs.Solution.{Has, Solvable, Fixes}
 use Rattle.spec_lists.specs.Texts.{Text}
-use Rattle.spec_terms.specs.Term.{Subst, Var, Occurs, apply, followed_by}
+use Rattle.spec_terms.specs.Term.{Subst, Var, Occurs, apply}
 use Rattle.spec_terms.proofs.Substitution.{apply_agree}
 use Rattle.spec_syntax.specs.Trees.{Tree}
 use Rattle.spec_told.specs.Relations.{Waits, lin}
 use Rattle.spec_branch.specs.Branch.{State, Item, Pending}
-use Rattle.spec_branch.specs.Closure.{Moves, IsClosure}
-use Rattle.spec_branch.specs.Settling.{Settling, SettlesUnified, Kept, kept, kept_branch, bindings_after, fixed_values, value_or_variable}
+use Rattle.spec_branch.specs.Closure.{Moves}
+use Rattle.spec_branch.specs.Settling.{Settling, SettlesUnified, Kept, kept, kept_branch, bindings_after, fixed_values}
 use Rattle.cq_attr.specs.Attributes.{Waiting}
 use Rattle.cq_term.specs.Meaning.{HeapTerm}
 use Rattle.cq_world.specs.Contents.{Contents}

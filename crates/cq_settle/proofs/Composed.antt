@@ -1,8 +1,8 @@
 -- Values that are bound after other values.
-use Rattle.std.proofs.Common.{◌≡◌, ◌<◌, ℕ, List, [], ◌∷◌, ◌++◌, map, length, Bool, Option, None, Some, refl, sym, ap, ◌∙◌, subst, inl, inr, ◌⊎◌}
+use Rattle.std.proofs.Common.{◌≡◌, ℕ, List, Option, None, Some, refl, sym, ap, ◌∙◌}
 use Rattle.spec_rational.specs.Rational.{ℚ}
 use Rattle.spec_lists.specs.Texts.{Text}
-use Rattle.spec_terms.specs.Term.{Subst, Var, Number, apply, followed_by, named}
+use Rattle.spec_terms.specs.Term.{Subst, apply, followed_by, named}
 use Rattle.spec_terms.proofs.Substitution.{apply-followed_by, apply_agree, named-apply}
 use Rattle.spec_syntax.specs.Trees.{Tree}
 use Rattle.spec_branch.specs.Branch.{State}

@@ -6,7 +6,7 @@ use Rattle.spec_lists.specs.Texts.{Text}
 use Rattle.spec_terms.specs.Term.{Subst, apply}
 use Rattle.spec_syntax.specs.Trees.{Tree}
 use Rattle.spec_told.specs.Relations.{Lin, Waits, lin, row_of}
-use Rattle.spec_branch.specs.Closure.{IsMove, Moves, no_move, move, IsClosure}
+use Rattle.spec_branch.specs.Closure.{IsMove, Moves, no_move, move}
 use Rattle.spec_branch.proofs.Waiting.{one_map}
 
 -- each term waits under these values

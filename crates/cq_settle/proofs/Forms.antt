@@ -7,7 +7,7 @@ use Rattle.spec_rational.proofs.Ring.{var, int, ◌⊕◌, minus}
 use Rattle.spec_rational.proofs.Rational.{ring}
 use Rattle.spec_rational.proofs.Sign.{one_not_zero}
 use Rattle.spec_linear.specs.declared.Relation.TheVariants.{Eq}
-use Rattle.spec_linear.specs.Form.{Linear, IsForm, variable_form, constant_form, difference_form, is_zero, in_front, with_product}
+use Rattle.spec_linear.specs.Form.{Linear, variable_form, constant_form, difference_form, is_zero, in_front, with_product}
 use Rattle.spec_linear.specs.Solution.{Constraint}
 use Rattle.spec_linear.proofs.Values.{is_zero-true}
 use Rattle.spec_lists.proofs.Tests.{nat_eq-apart}

@@ -1,12 +1,11 @@
 -- The equations of variables that were bound, one after another.
-use Rattle.std.proofs.Common.{◌≡◌, ℕ, List, [], ◌∷◌, ◌++◌, map, Bool, true, false, cond, refl, sym, ap, ap₂, ◌∙◌, subst, inl, inr, ◌⊎◌, ◌||◌}
+use Rattle.std.proofs.Common.{◌≡◌, ℕ, List, [], ◌∷◌, ◌++◌, map, Bool, true, false, cond, refl, sym, ap, ◌∙◌, inl, inr, ◌||◌}
 use Rattle.std.specs.Prelude.{Contains, filter}
 use Rattle.std.specs.List.{list_any}
 use Rattle.std.proofs.lemmas.Bool.{true≢false}
 use Rattle.std.proofs.lemmas.List.{map-append}
 use Rattle.std.proofs.lemmas.List.Elements.{filter-append}
-use Rattle.spec_rational.specs.Rational.{ℚ}
-use Rattle.spec_linear.specs.Solution.{Constraint, Fixed}
+use Rattle.spec_linear.specs.Solution.{Constraint}
 use Rattle.spec_lists.proofs.Tests.{one_is}
 use Rattle.spec_terms.specs.Term.{Var, Number, Name, Compound}
 use Rattle.cq_attr.specs.Attributes.{Attributes, is_numeric}

@@ -1,10 +1,9 @@
 -- What a term that waits or is told comes to over the list, in the middle of a settling.
-use Rattle.std.proofs.Common.{◌≡◌, ℕ, List, Option, None, Some, refl, sym, ap, ◌∙◌}
+use Rattle.std.proofs.Common.{◌≡◌, ℕ, List, Option, ap, ◌∙◌}
 use Rattle.std.specs.Prelude.{true}
 use Rattle.spec_rational.specs.Rational.{ℚ}
 use Rattle.spec_linear.specs.Solution.{Fixes}
 use Rattle.spec_lists.specs.Texts.{Text}
-use Rattle.spec_limits.specs.Overflow.{Operands}
 use Rattle.spec_terms.specs.Term.{Subst, Var, Occurs, apply}
 use Rattle.spec_terms.proofs.Substitution.{apply-followed_by, occurs_from}
 use Rattle.spec_syntax.specs.Trees.{Tree}

@@ -1,5 +1,5 @@
 -- A settling with nothing to do.
-use Rattle.std.proofs.Common.{◌≡◌, ◌<◌, ◌≤◌, ℕ, ◌+◌, List, [], ◌∷◌, ◌++◌, map, length, take, get_or, Bool, true, false, cond, Option, None, Some, refl, sym, ap, ap₂, ◌∙◌, subst, inl, inr, ◌⊎◌, arith, ◌||◌}
+use Rattle.std.proofs.Common.{◌≡◌, ◌<◌, ℕ, ◌+◌, List, [], ◌∷◌, ◌++◌, map, length, take, get_or, Bool, true, false, cond, Option, None, refl, sym, ap, ap₂, ◌∙◌, subst, inl, inr, arith, ◌||◌}
 use Rattle.std.specs.Prelude.{Contains, All, filter, not, ◌&&◌, ◌==◌, if◌then◌else◌}
 use Rattle.std.specs.List.{AllZip, list_any, filter_map, cons_option}
 use Rattle.std.proofs.lemmas.Bool.{true≢false}
@@ -11,19 +11,18 @@ use Rattle.spec_lists.specs.Texts.{Text}
 use Rattle.spec_lists.proofs.Tests.{nat_eq-same}
 use Rattle.spec_terms.specs.Term.{Subst}
 use Rattle.spec_terms.specs.Variables.{variables}
-use Rattle.spec_syntax.specs.Trees.{Tree}
 use Rattle.spec_branch.specs.Branch.{State, Pending}
 use Rattle.cq_attr.specs.Attributes.{Waiting, Attributes, is_numeric, IsWokenBy}
 use Rattle.cq_attr.proofs.Elements.{contains_here, contains_later, contains_cases, contains_none}
 use Rattle.cq_frac.specs.declared.VarId.{VarId}
-use Rattle.cq_term.specs.Meaning.{HeapTerm, at}
+use Rattle.cq_term.specs.Meaning.{at}
 use Rattle.cq_term.specs.Shown.{IsUnbound}
 use Rattle.cq_walk.specs.Places.{numbers_of}
 use Rattle.cq_world.specs.Contents.{Contents}
 use Rattle.cq_settle.specs.Called.{IsCalled}
 use Rattle.cq_settle.specs.Settled.{IsKept}
 use Rattle.cq_settle.specs.Steps.{ClashesAt, IsIdle, WaitsOn, WakesAll, equations_of, equation_at, numeric_ones, is_image_of, waits_for_one, wakes, goal_that_wakes}
-use Rattle.cq_settle.specs.Underway.{IsUnderway, to_do}
+use Rattle.cq_settle.specs.Underway.{IsUnderway}
 use Rattle.cq_settle.proofs.Begin.{HasBegun, underway}
 use Rattle.cq_settle.proofs.Binding.{none, binds_nothing}
 use Rattle.cq_settle.proofs.Closed.{nothing_behind}

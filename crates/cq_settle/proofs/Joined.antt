@@ -1,5 +1,5 @@
 -- Constraints that join one after another.
-use Rattle.std.proofs.Common.{◌≡◌, ℕ, List, [], ◌∷◌, ◌++◌, map, Bool, true, false, Option, Some, refl, sym, ap, ◌∙◌, subst, inl, inr, ◌⊎◌, append_assoc}
+use Rattle.std.proofs.Common.{◌≡◌, ℕ, List, [], ◌∷◌, ◌++◌, Bool, true, false, Option, Some, refl, sym, ap, ◌∙◌, subst, inl, inr, ◌⊎◌, append_assoc}
 use Rattle.std.specs.Prelude.{Contains, nat_eq}
 use Rattle.std.proofs.lemmas.List.{map-append}
 use Rattle.std.proofs.lemmas.List.Elements.{Contains-append_left, Contains-append_right}
@@ -8,7 +8,6 @@ use Rattle.spec_linear.specs.Solution.{Constraint, Solvable, Fixed}
 use Rattle.spec_inequalities.specs.Certificate.{Refutes}
 use Rattle.spec_inequalities.proofs.Refutation.{refuted}
 use Rattle.spec_lists.proofs.Tests.{nat_eq-same, nat_eq-other}
-use Rattle.spec_tableau.specs.Fixing.{NewlyFixed}
 use Rattle.cq_attr.proofs.Elements.{contains_here, contains_later, contains_cases, contains_none}
 use Rattle.spec_terms.specs.Term.{Var}
 use Rattle.cq_attr.specs.Attributes.{is_numeric}

@@ -1,7 +1,7 @@
 -- Which terms are to be looked at again as values are bound.
-use Rattle.std.proofs.Common.{◌≡◌, ◌<◌, ℕ, List, [], ◌∷◌, ◌++◌, map, Bool, true, false, Option, None, Some, refl, sym, ap, ◌∙◌, subst, inl, inr, ◌⊎◌}
+use Rattle.std.proofs.Common.{◌≡◌, ℕ, List, [], ◌∷◌, Bool, true, false, Option, None, Some, refl, sym, ◌∙◌, inl, inr, ◌⊎◌}
 use Rattle.std.specs.Prelude.{Contains, ◌&&◌, is_some, is_none}
-use Rattle.std.specs.List.{AllZip, list_any}
+use Rattle.std.specs.List.{list_any}
 use Rattle.spec_rational.specs.Rational.{ℚ}
 use Rattle.spec_linear.specs.Solution.{Has}
 use Rattle.spec_terms.specs.Term.{Subst, Occurs, apply}
@@ -14,7 +14,7 @@ use Rattle.cq_attr.specs.Attributes.{Waiting}
 use Rattle.cq_attr.proofs.Elements.{contains_cases, contains_none}
 use Rattle.cq_settle.specs.Underway.{WaitsOrToDo, IsToDo}
 use Rattle.cq_settle.proofs.Composed.{first_of, together}
-use Rattle.cq_settle.proofs.Numeric.{Found, found_any, any_found, contains_of_has}
+use Rattle.cq_settle.proofs.Numeric.{found_any, any_found, contains_of_has}
 use Rattle.cq_settle.proofs.Values.{lin_agree}
 
 pub has_of_contains : (xs : List ℕ) (v : ℕ) → Contains xs v → Has v xs

@@ -3,7 +3,7 @@ use Rattle.std.proofs.Common.{◌≡◌, ℕ, ◌<◌, ◌+◌, List, [], ◌∷
 use Rattle.std.specs.Prelude.{Contains, All, ◌==◌, if◌then◌else◌}
 use Rattle.std.specs.List.{list_any}
 use Rattle.std.proofs.lemmas.List.{take_more}
-use Rattle.std.proofs.lemmas.List.Elements.{All-weaker, All-map, All-more, All-same, All-contains_itself, Contains-append_left, Contains-append_right}
+use Rattle.std.proofs.lemmas.List.Elements.{All-weaker, All-map, All-more, All-contains_itself, Contains-append_left, Contains-append_right}
 use Rattle.spec_lists.proofs.Tests.{nat_eq-same}
 use Rattle.spec_terms.specs.Variables.{variables}
 use Rattle.cq_attr.specs.Attributes.{Attributes, is_numeric, marked}

@@ -1,16 +1,16 @@
 -- Steps of a settling in the definitions: a term moves, and a branch is pruned.
-use Rattle.std.proofs.Common.{◌≡◌, ◌<◌, ℕ, List, [], ◌∷◌, ◌++◌, map, length, Bool, true, false, Option, None, Some, refl, sym, ap, ◌∙◌, subst, inl, inr, ◌⊎◌, append_assoc}
+use Rattle.std.proofs.Common.{◌≡◌, ◌<◌, ℕ, List, [], ◌∷◌, ◌++◌, map, length, Option, Some, refl, sym, ap, ◌∙◌, subst, append_assoc}
 use Rattle.std.specs.Prelude.{IsPermutation}
 use Rattle.spec_rational.specs.Rational.{ℚ}
-use Rattle.spec_linear.specs.Solution.{Constraint, Has, Solvable, Unsolvable, Fixes}
+use Rattle.spec_linear.specs.Solution.{Constraint, Solvable, Unsolvable, Fixes}
 use Rattle.spec_linear.proofs.Lists.{unsolvable_more}
 use Rattle.spec_lists.specs.Texts.{Text}
-use Rattle.spec_terms.specs.Term.{Subst, Var, Number, Name, Compound, apply, followed_by, named}
+use Rattle.spec_terms.specs.Term.{Subst, Var, Number, Name, Compound, apply, named}
 use Rattle.spec_syntax.specs.Trees.{Tree}
-use Rattle.spec_told.specs.Relations.{Lin, lin, row_of}
-use Rattle.spec_branch.specs.Branch.{State, Item, Pending}
-use Rattle.spec_branch.specs.Closure.{IsMove, Moves, no_move, move}
-use Rattle.spec_branch.specs.Settling.{Settling, SettlesUnified, Clash, NoSolution, clash, no_solution, NoClash, Clashes, is_no_number, binding_equation, newly_bound}
+use Rattle.spec_told.specs.Relations.{lin, row_of}
+use Rattle.spec_branch.specs.Branch.{State, Pending}
+use Rattle.spec_branch.specs.Closure.{no_move, move}
+use Rattle.spec_branch.specs.Settling.{Settling, Clash, NoSolution, clash, no_solution, NoClash, is_no_number, binding_equation, newly_bound}
 use Rattle.cq_atoms.specs.Texts.{text_of}
 use Rattle.cq_frac.specs.declared.VarId.{VarId}
 use Rattle.cq_term.specs.Meaning.{HeapTerm, at}

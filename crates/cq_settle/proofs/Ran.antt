@@ -1,5 +1,5 @@
 -- From the call of a settling to its end.
-use Rattle.std.proofs.Common.{◌≡◌, ℕ, List, [], ◌∷◌, ◌++◌, Option, refl, sym, ap, ◌∙◌, subst}
+use Rattle.std.proofs.Common.{◌≡◌, ℕ, List, [], Option, sym, ◌∙◌, subst}
 use Rattle.spec_rational.specs.Rational.{ℚ}
 use Rattle.spec_linear.specs.Solution.{Constraint, Solvable, Fixes}
 use Rattle.spec_lists.specs.Texts.{Text}
@@ -7,9 +7,8 @@ use Rattle.spec_terms.specs.Term.{Subst}
 use Rattle.spec_branch.specs.Branch.{State, Pending}
 use Rattle.cq_attr.specs.Attributes.{Attributes}
 use Rattle.cq_frac.specs.declared.VarId.{VarId}
-use Rattle.cq_term.specs.HeapValue.{Terms}
 use Rattle.cq_world.specs.Contents.{Contents}
-use Rattle.cq_settle.specs.Called.{IsCalled, SomeIsCalled, OfCalls}
+use Rattle.cq_settle.specs.Called.{SomeIsCalled, OfCalls}
 use Rattle.cq_settle.specs.Settled.{IsKept}
 use Rattle.cq_settle.specs.Steps.{WakesAll}
 use Rattle.cq_settle.specs.Underway.{HasStarted, SomeIsUnderway, GoesOn, OfEach, to_do}

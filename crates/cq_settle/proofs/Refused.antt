@@ -1,11 +1,9 @@
 -- What stops a settling while a constraint joins.
-use Rattle.std.proofs.Common.{◌≡◌, ℕ, List, [], ◌∷◌, ◌++◌, Option, refl, sym, ap, ◌∙◌, subst, inl, inr, ◌⊎◌}
+use Rattle.std.proofs.Common.{◌≡◌, ℕ, List, [], ◌∷◌, ◌++◌, Option, refl, sym, subst}
 use Rattle.std.specs.Prelude.{flat_map}
-use Rattle.std.specs.List.{AllByRecursion}
 use Rattle.spec_rational.specs.Rational.{ℚ}
-use Rattle.spec_linear.specs.Form.{Linear}
 use Rattle.spec_linear.specs.Solution.{Constraint, Has, Fixes}
-use Rattle.spec_limits.specs.Asked.{IsAsked, IsInForce, alone, NoQuestion}
+use Rattle.spec_limits.specs.Asked.{IsInForce, alone, NoQuestion}
 use Rattle.spec_limits.specs.Overflow.{Operands, Moment}
 use Rattle.spec_lists.specs.Texts.{Text}
 use Rattle.spec_terms.specs.Term.{Subst, apply, followed_by}

@@ -1,8 +1,7 @@
 -- From the call of a settling to the middle of it.
-use Rattle.std.proofs.Common.{◌≡◌, ◌≢◌, ◌<◌, ◌≤◌, ℕ, List, [], ◌∷◌, ◌++◌, map, length, zero, suc, ◌+◌, Bool, true, false, cond, Option, None, Some, refl, sym, ap, ap₂, ◌∙◌, subst, inl, inr, ◌⊎◌, arith, ◌||◌, append_assoc}
-use Rattle.std.specs.Prelude.{Contains, All, not, ◌&&◌, ◌==◌, filter, IsPermutation}
-use Rattle.std.specs.List.{AllByRecursion, AllZip, list_any, AllPairs}
-use Rattle.std.proofs.lemmas.List.Elements.{All-contains, All-map, All-head, All-tail, filter_passes}
+use Rattle.std.proofs.Common.{◌≡◌, ◌<◌, ℕ, List, [], ◌∷◌, ◌++◌, map, zero, suc, Bool, true, false, cond, Option, refl, sym, ap, ap₂, ◌∙◌, subst, inl, inr, ◌⊎◌, arith, append_assoc}
+use Rattle.std.specs.Prelude.{Contains, All, not, ◌&&◌, filter, IsPermutation}
+use Rattle.std.proofs.lemmas.List.Elements.{All-contains, All-map, filter_passes}
 use Rattle.std.proofs.lemmas.List.Sorted.{IsPermutation-map}
 use Rattle.std.proofs.lemmas.Bool.{true≢false}
 use Rattle.spec_rational.specs.Rational.{ℚ}
@@ -10,34 +9,30 @@ use Rattle.spec_linear.specs.declared.Relation.TheVariants.{Eq}
 use Rattle.spec_linear.specs.Form.{Linear, variable_form, difference_form}
 use Rattle.spec_linear.specs.Solution.{Constraint, Has, Fixes}
 use Rattle.spec_lists.specs.Texts.{Text}
-use Rattle.spec_lists.proofs.Tests.{one_is, or_left, or_right, both_are, nat_eq-self, nat_eq-same}
-use Rattle.spec_terms.specs.Term.{Terms, Subst, Var, Number, Name, Compound, one, more, Occurs, OccursIn, apply, followed_by, named, named_all}
+use Rattle.spec_lists.proofs.Tests.{both_are, nat_eq-self}
+use Rattle.spec_terms.specs.Term.{Terms, Subst, Var, Number, Name, Compound, one, more, Occurs, OccursIn, apply, named, named_all}
 use Rattle.spec_terms.specs.Variables.{variables, variables_after, variables_in, counted_from}
-use Rattle.spec_terms.proofs.Listed.{occurs_listed, listed_occurs}
-use Rattle.spec_terms.proofs.Substitution.{apply-followed_by, apply-identity, apply_agree, occurs_from, occurs_into}
 use Rattle.spec_syntax.specs.Trees.{Tree}
 use Rattle.spec_branch.specs.Branch.{State, Pending}
 use Rattle.spec_branch.specs.Settling.{is_bound, is_the_variable, is_no_number, NoClash, newly_bound, binding_equation, image_form}
 use Rattle.spec_branch.specs.Closure.{no_move}
 use Rattle.spec_stops.specs.Settlings.{IsListOf, JoinsIn, of_binding, of_row}
 use Rattle.cq_atoms.specs.Texts.{text_of}
-use Rattle.cq_attr.specs.Attributes.{Attributes, Waiting, is_numeric}
+use Rattle.cq_attr.specs.Attributes.{is_numeric}
 use Rattle.cq_attr.proofs.Elements.{contains_here, contains_later}
 use Rattle.cq_frac.specs.declared.Pair.{Pair}
 use Rattle.cq_frac.specs.declared.VarId.{VarId}
 use Rattle.cq_term.specs.Meaning.{HeapTerm, at}
-use Rattle.cq_term.specs.Shown.{IsUnbound}
-use Rattle.cq_term.specs.Trees.{tree, trees}
+use Rattle.cq_term.specs.Trees.{tree}
 use Rattle.cq_walk.specs.Places.{numbers_of}
 use Rattle.cq_world.specs.Contents.{Contents}
 use Rattle.cq_settle.specs.Called.{IsCalled, IsNewlyBound}
 use Rattle.cq_settle.specs.Settled.{IsPruned, MayRefuse, MayTake}
 use Rattle.cq_settle.specs.Steps.{StopsAt, CannotJoin, Refuses, Takes, ClashesAt, is_neither, equation_at, equations_of, numeric_ones, form_of_image}
-use Rattle.cq_settle.specs.Underway.{IsTask, unified}
-use Rattle.cq_settle.proofs.Closed.{by_member, nothing_behind}
-use Rattle.cq_settle.proofs.Further.{unnamed}
+use Rattle.cq_settle.specs.Underway.{unified}
+use Rattle.cq_settle.proofs.Closed.{nothing_behind}
 use Rattle.cq_settle.proofs.Looked.{has_of_contains}
-use Rattle.cq_settle.proofs.Numeric.{Found, found_any, contains_of_has, has_unfiltered, has_filtered, has_counted, in_counted, variable_bound, variable_from}
+use Rattle.cq_settle.proofs.Numeric.{contains_of_has, has_unfiltered, has_filtered, has_counted, in_counted, variable_bound}
 use Rattle.cq_settle.proofs.Permuted.{IsOnce, permuted, once_rest, once_head, once_cons}
 use Rattle.cq_settle.proofs.Pruned.{named_neither, stops_joining}
 use Rattle.cq_settle.proofs.Refused.{refuses, takes}

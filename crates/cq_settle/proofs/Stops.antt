@@ -1,5 +1,5 @@
 -- A term that joins the list in the middle of a settling, or stops it.
-use Rattle.std.proofs.Common.{◌≡◌, ℕ, List, [], ◌∷◌, ◌++◌, Option, None, Some, refl, sym, ap, ◌∙◌, subst, inl, inr, ◌⊎◌, append_assoc}
+use Rattle.std.proofs.Common.{◌≡◌, ℕ, List, [], ◌∷◌, ◌++◌, Option, refl, sym, ap, subst, inl, inr, append_assoc}
 use Rattle.std.specs.Prelude.{flat_map}
 use Rattle.spec_rational.specs.Rational.{ℚ}
 use Rattle.spec_linear.specs.Solution.{Constraint, Has, Solvable, Fixes, false_constraint}
@@ -9,7 +9,7 @@ use Rattle.spec_limits.specs.Overflow.{Moment, Operands, settling}
 use Rattle.spec_lists.specs.Texts.{Text}
 use Rattle.spec_terms.specs.Term.{Subst, apply}
 use Rattle.spec_syntax.specs.Trees.{Tree}
-use Rattle.spec_told.specs.Relations.{Lin, Is, False, lin, row_of}
+use Rattle.spec_told.specs.Relations.{Is, False, lin, row_of}
 use Rattle.spec_branch.specs.Branch.{State, Pending}
 use Rattle.spec_branch.specs.Closure.{Moves, no_move, move}
 use Rattle.spec_stops.specs.Operands.{relation_operands}

@@ -1,5 +1,5 @@
 -- A told term, or one that waits, is looked at: what becomes of each settling that is underway.
-use Rattle.std.proofs.Common.{◌≡◌, ◌<◌, ℕ, List, [], ◌∷◌, ◌++◌, map, length, drop, Bool, true, false, Option, None, Some, refl, sym, ap, ◌∙◌, subst, inl, inr, ◌⊎◌, append_assoc}
+use Rattle.std.proofs.Common.{◌≡◌, ℕ, List, [], ◌∷◌, ◌++◌, true, Option, Some, refl, sym, ◌∙◌, subst, inl, inr, append_assoc}
 use Rattle.std.specs.Prelude.{Contains}
 use Rattle.std.proofs.lemmas.List.Elements.{Contains-append_left, Contains-append_right}
 use Rattle.spec_rational.specs.Rational.{ℚ}
@@ -12,7 +12,6 @@ use Rattle.spec_branch.specs.Alike.{no_values}
 use Rattle.spec_branch.specs.Branch.{State, Pending}
 use Rattle.spec_stops.specs.Operands.{relation_operands}
 use Rattle.cq_attr.specs.Attributes.{Waiting, Attributes, numbers, find, without, suspended}
-use Rattle.cq_attr.specs.declared.susp.Susp.{Susp}
 use Rattle.cq_attr.specs.declared.susp.Susp.TheVariants as susp
 use Rattle.cq_attr.proofs.Elements.{contains_cases}
 use Rattle.cq_cexpr.specs.Overflows.{ComesFrom}
@@ -25,7 +24,7 @@ use Rattle.cq_world.specs.Contents.{Contents}
 use Rattle.cq_world.specs.Standing.{IsConstraint, constraints, is_constraint}
 use Rattle.cq_settle.specs.Settled.{IsPruned, MayRefuse, MayTake}
 use Rattle.cq_settle.specs.Steps.{JoinsAndBinds, CannotJoin, Refuses, Takes}
-use Rattle.cq_settle.specs.Underway.{IsReached, IsHere, IsUnderway, GoesOn, OfEach, WaitsOrToDo, IsToDo, to_do, unified, numeric_then, bindings_now}
+use Rattle.cq_settle.specs.Underway.{IsReached, IsHere, IsUnderway, GoesOn, OfEach, WaitsOrToDo, to_do, unified, numeric_then, bindings_now}
 use Rattle.cq_settle.proofs.Composed.{together}
 use Rattle.cq_settle.proofs.Here.{over_list, on_heap, operations_over_list}
 use Rattle.cq_settle.proofs.Joined.{numbers_behind}

@@ -1,13 +1,11 @@
 -- What waits under a number is one.
-use Rattle.std.proofs.Common.{◌≡◌, ◌≢◌, ◌<◌, ℕ, zero, suc, ◌+◌, List, [], ◌∷◌, ◌++◌, map, length, Bool, true, false, cond, Option, None, Some, refl, sym, ap, ◌∙◌, subst, inl, inr, ◌⊎◌, arith}
+use Rattle.std.proofs.Common.{◌≡◌, ℕ, List, [], ◌∷◌, ◌++◌, Bool, true, false, cond, Some, refl, sym, ap, ◌∙◌, subst, inl, inr, ◌⊎◌, arith}
 use Rattle.std.specs.Prelude.{Contains, filter, not, ◌==◌, if◌then◌else◌}
-use Rattle.std.proofs.lemmas.List.Elements.{filter-append}
 use Rattle.spec_lists.proofs.Tests.{nat_eq-same, nat_eq-self, nat_eq-apart}
 use Rattle.cq_attr.specs.Attributes.{Waiting, Ascends, numbers, find}
 use Rattle.cq_attr.specs.declared.susp.Susp.{Susp}
 use Rattle.cq_attr.proofs.Elements.{contains_here, contains_later, contains_cases, contains_none}
 use Rattle.cq_settle.proofs.Permuted.{IsOnce, once_rest, once_head, once_cons}
-use Rattle.cq_settle.proofs.Zips.{contains_unfiltered}
 
 pub once_ascending : (ns : List ℕ) → Ascends ns → IsOnce ns
 once_ascending ns h i j d l m = λ e. omega (arith, h i j d l m, e)

@@ -1,18 +1,14 @@
 -- What waits for a variable that became another one waits for that one too.
-use Rattle.std.proofs.Common.{◌≡◌, ℕ, ◌<◌, ◌+◌, List, [], ◌∷◌, ◌++◌, map, length, take, get_or, Bool, true, false, refl, sym, ap, ap₂, ◌∙◌, subst, inl, inr, ◌⊎◌, arith}
+use Rattle.std.proofs.Common.{◌≡◌, ℕ, List, [], ◌∷◌, ◌++◌, map, Bool, true, false, refl, sym, ap, ap₂, ◌∙◌, subst, inl, inr, ◌⊎◌}
 use Rattle.std.specs.Prelude.{Contains, All, ◌==◌, if◌then◌else◌}
 use Rattle.std.specs.List.{AllZip}
 use Rattle.std.proofs.lemmas.List.{map-append}
 use Rattle.std.proofs.lemmas.List.Elements.{All-weaker, All-contains_itself, Contains-append_left, Contains-push_cases}
-use Rattle.spec_terms.specs.Term.{Var, Number, Name, Compound}
+use Rattle.spec_terms.specs.Term.{Var}
 use Rattle.spec_lists.proofs.Tests.{nat_eq-self}
-use Rattle.spec_lists.proofs.Places.{take-next}
-use Rattle.cq_attr.specs.Attributes.{Waiting, Attributes, WaitsFor, IsWokenBy, numbers, watching_more, watched_more}
-use Rattle.cq_attr.specs.declared.susp.Susp.{Susp}
+use Rattle.cq_attr.specs.Attributes.{Waiting, Attributes, IsWokenBy, numbers, watching_more, watched_more}
 use Rattle.cq_attr.proofs.Elements.{contains_here, contains_cases, contains_none}
-use Rattle.cq_frac.specs.declared.VarId.{VarId}
 use Rattle.cq_term.specs.Meaning.{HeapTerm, at}
-use Rattle.cq_walk.specs.Places.{numbers_of}
 use Rattle.cq_settle.specs.Steps.{WaitsOn, Follows, WatchesToo, AllWatch}
 use Rattle.cq_settle.proofs.Unique.{number_in}
 use Rattle.cq_settle.proofs.Zips.{zip_left}

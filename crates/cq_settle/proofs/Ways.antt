@@ -1,7 +1,6 @@
 -- From the call of a settling to its end, by way of the worlds in between.
-use Rattle.std.proofs.Common.{◌≡◌, ◌<◌, ◌≤◌, ℕ, List, [], ◌∷◌, ◌++◌, ◌-◌, map, length, take, drop, get_or, Bool, true, false, Option, None, Some, refl, sym, ap, ◌∙◌, subst, inl, inr, ◌⊎◌, arith}
+use Rattle.std.proofs.Common.{◌≡◌, ◌<◌, ℕ, List, [], ◌∷◌, ◌-◌, map, length, take, drop, get_or, true, Option, Some, refl, sym, ap, ◌∙◌, subst, inl, inr, arith}
 use Rattle.std.specs.Prelude.{Contains, All, ◌==◌}
-use Rattle.std.specs.List.{AllZip}
 use Rattle.std.proofs.lemmas.List.{take_rest}
 use Rattle.std.proofs.lemmas.List.Elements.{Contains-get_or, All-get_or, All-contains}
 use Rattle.spec_rational.specs.Rational.{ℚ}
@@ -10,7 +9,7 @@ use Rattle.spec_lists.specs.Texts.{Text}
 use Rattle.spec_lists.proofs.Tests.{nat_eq-self}
 use Rattle.spec_terms.specs.Term.{Subst}
 use Rattle.spec_syntax.specs.Trees.{Tree}
-use Rattle.spec_branch.specs.Branch.{State, Pending, Sleeper}
+use Rattle.spec_branch.specs.Branch.{State, Pending}
 use Rattle.cq_attr.specs.Attributes.{Waiting, Attributes, Ascends, is_numeric, IsWokenBy, numbers, find}
 use Rattle.cq_attr.specs.declared.susp.Susp.{Susp}
 use Rattle.cq_attr.specs.declared.susp.Susp.TheVariants as susp
@@ -24,13 +23,13 @@ use Rattle.cq_world.specs.Contents.{Contents}
 use Rattle.cq_world.specs.Standing.{IsConstraint, IsSleeper, constraints, goals, is_constraint, is_goal}
 use Rattle.cq_settle.specs.Settled.{IsKept}
 use Rattle.cq_settle.specs.Steps.{WakesAll}
-use Rattle.cq_settle.specs.Underway.{IsLive, IsHere, IsUnderway, WaitsOrToDo, IsToDo, ToDo, to_do, GoesOn, OfEach, SomeIsUnderway, unified, bindings_now}
+use Rattle.cq_settle.specs.Underway.{IsLive, IsHere, IsUnderway, WaitsOrToDo, ToDo, to_do, GoesOn, OfEach, SomeIsUnderway, unified, bindings_now}
 use Rattle.cq_settle.proofs.Kept.{is_kept}
 use Rattle.cq_settle.proofs.Numeric.{any_found, numeric_below}
 use Rattle.cq_settle.proofs.Looked.{has_of_contains}
 use Rattle.cq_settle.proofs.Progress.{looked_on}
 use Rattle.cq_settle.proofs.Unique.{number_in, found_waits}
-use Rattle.cq_settle.proofs.Zips.{Partner, partner_of, contains_filtered, contains_unfiltered}
+use Rattle.cq_settle.proofs.Zips.{partner_of, contains_filtered, contains_unfiltered}
 
 -- ---- from world to world
 

@@ -1,29 +1,19 @@
 -- Goals that wake, and those that go on sleeping.
-use Rattle.std.proofs.Common.{◌≡◌, ◌<◌, ℕ, List, [], ◌∷◌, ◌++◌, map, length, Bool, true, false, cond, Option, None, Some, refl, sym, ap, ◌∙◌, subst, inl, inr, ◌⊎◌}
-use Rattle.std.specs.Prelude.{Contains, ◌&&◌, ◌||◌, ◌==◌, not, filter, is_some, if◌then◌else◌}
-use Rattle.std.specs.List.{AllByRecursion, AllZip, list_any, filter_map, cons_option}
-use Rattle.spec_rational.specs.Rational.{ℚ}
-use Rattle.spec_linear.specs.Solution.{Has}
+use Rattle.std.proofs.Common.{◌≡◌, ℕ, List, [], ◌∷◌, Bool, true, false, cond, refl, sym, ap, ◌∙◌, inl, inr}
+use Rattle.std.specs.Prelude.{Contains, ◌&&◌, ◌==◌, not, filter, is_some}
+use Rattle.std.specs.List.{AllZip, list_any}
 use Rattle.spec_lists.specs.Texts.{Text}
 use Rattle.spec_lists.proofs.Tests.{or_left, or_right, nat_eq-self}
-use Rattle.spec_terms.specs.Term.{Subst, Var, Number, Name, Compound, apply, followed_by, named}
-use Rattle.spec_terms.proofs.Substitution.{apply-followed_by}
+use Rattle.spec_terms.specs.Term.{Var, Number, Name, Compound, named}
 use Rattle.spec_syntax.specs.Trees.{Tree}
-use Rattle.spec_branch.specs.Branch.{Asleep, Frozen, Sleeper}
-use Rattle.spec_branch.specs.Settling.{is_the_variable, is_bound, frozen_state, still_sleeps, state_of}
-use Rattle.cq_atoms.specs.Texts.{text_of}
+use Rattle.spec_branch.specs.Settling.{frozen_state, still_sleeps}
 use Rattle.cq_attr.specs.Attributes.{Waiting}
 use Rattle.cq_attr.specs.declared.susp.Susp.{Susp}
 use Rattle.cq_attr.specs.declared.susp.Susp.TheVariants as susp
 use Rattle.cq_attr.proofs.Elements.{contains_cases}
-use Rattle.cq_term.specs.HeapValue.{Terms}
-use Rattle.cq_term.specs.Meaning.{HeapTerm, at}
-use Rattle.cq_term.specs.Trees.{tree}
-use Rattle.cq_world.specs.Standing.{is_constraint, is_goal, IsAwaited, IsSleeper}
-use Rattle.cq_settle.specs.Settled.{woken_goal}
+use Rattle.cq_term.specs.Meaning.{HeapTerm}
+use Rattle.cq_world.specs.Standing.{is_constraint}
 use Rattle.cq_settle.specs.Steps.{is_unbound_term, goal_that_wakes, waits_for_one, wakes}
-use Rattle.cq_settle.specs.Underway.{valued}
-use Rattle.cq_settle.proofs.Numeric.{variable_bound}
 
 -- ---- filters
 

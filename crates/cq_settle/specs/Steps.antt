@@ -1,13 +1,12 @@
 -- What the steps of a settling do to a world.
-use Rattle.std.specs.Prelude.{◌≡◌, ◌≢◌, ◌↔◌, ℕ, ◌<◌, ◌≤◌, List, [], ◌∷◌, ◌++◌, map, filter, length, All, Contains, Bool, true, false, not, ◌&&◌, ◌||◌, ◌==◌, if◌then◌else◌, Option, None, Some, is_some}
+use Rattle.std.specs.Prelude.{◌≡◌, ◌≢◌, ℕ, ◌<◌, ◌≤◌, List, [], ◌∷◌, ◌++◌, map, filter, length, All, Contains, Bool, true, false, not, ◌&&◌, ◌==◌, if◌then◌else◌, Option, None, Some, is_some}
 use Rattle.std.specs.List.{AllZip, list_any, filter_map, cons_option}
 use Rattle.spec_rational.specs.Rational.{ℚ}
 use Rattle.spec_linear.specs.declared.Relation.TheVariants.{Eq}
 use Rattle.spec_linear.specs.Form.{Linear, constant_form, variable_form, difference_form}
 use Rattle.spec_linear.specs.Solution.{Constraint, Solvable, Unsolvable, Fixed}
 use Rattle.spec_limits.specs.Asked.{NoQuestion}
-use Rattle.spec_terms.specs.Term.{Term, Subst, Var, Number, Name, Compound, apply}
-use Rattle.spec_terms.specs.Variables.{variables}
+use Rattle.spec_terms.specs.Term.{Subst, Var, Number, apply}
 use Rattle.cq_frac.specs.declared.Pair.{Pair}
 use Rattle.cq_frac.specs.declared.VarId.{VarId}
 use Rattle.cq_term.specs.HeapValue.{Terms}

@@ -13,7 +13,7 @@ use Rattle.spec_branch.specs.Closure.{Moves}
 use Rattle.spec_branch.specs.Settling.{is_bound, binding_equation, newly_bound, numeric_after, value_or_variable, NoClash}
 use Rattle.cq_term.specs.HeapValue.{Terms}
 use Rattle.cq_term.specs.Meaning.{HeapTerm}
-use Rattle.cq_term.specs.Trees.{tree, trees, KnowsTerms}
+use Rattle.cq_term.specs.Trees.{tree, trees}
 use Rattle.cq_attr.specs.Attributes.{Waiting}
 use Rattle.cq_attr.specs.declared.susp.Susp.{Susp}
 use Rattle.cq_attr.specs.declared.susp.Susp.TheVariants as susp

@@ -1,5 +1,5 @@
-use Rattle.std.proofs.Common.{◌≡◌, ◌<◌, List, ℕ, Err, Bool, true, false, [], ◌∷◌, length, ap, refl, sym, subst, ◌∙◌}
-use Rattle.std.specs.Prelude.{All, Contains, MatchBool}
+use Rattle.std.proofs.Common.{◌<◌, List, ℕ, Err, [], ◌∷◌, length, ap, sym, subst, ◌∙◌}
+use Rattle.std.specs.Prelude.{Contains}
 use Rattle.std.proofs.lemmas.List.Elements.{All-head}
 use Rattle.std.proofs.lemmas.Result.{IfOk-weaker}
 use Rattle.spec_terms.proofs.Listed.{occurs_listed}

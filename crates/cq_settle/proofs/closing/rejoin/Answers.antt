@@ -1,4 +1,4 @@
-use Rattle.std.proofs.Common.{◌≡◌, ◌<◌, List, ℕ, [], ◌∷◌, ◌++◌, Err, Some, length, drop, ap, refl, sym, subst, ◌∙◌}
+use Rattle.std.proofs.Common.{◌<◌, List, ℕ, [], ◌∷◌, Err, Some, length, drop, ap, sym, subst, ◌∙◌}
 use Rattle.std.specs.Prelude.{All}
 use Rattle.std.proofs.lemmas.Result.{IfOk-weaker}
 use Rattle.cq_attr.specs.Attributes.{Attributes}

@@ -1,4 +1,4 @@
-use Rattle.std.proofs.Common.{Err, ap, refl}
+use Rattle.std.proofs.Common.{Err, ap}
 use Rattle.cq_linear.proofs.Passed.{passed, store_spent}
 use Rattle.cq_world.specs.Worlds.{now_of}
 use Rattle.cq_settle.proofs.Again.{joins_then}

@@ -1,6 +1,5 @@
-use Rattle.std.proofs.Common.{◌≡◌, ◌<◌, Bool, true, None, Some, ℕ, Option, length, ap, refl, sym, subst, ◌∙◌}
+use Rattle.std.proofs.Common.{Bool, None, Some, ap, sym, ◌∙◌}
 use Rattle.std.specs.Prelude.{if◌then◌else◌}
-use Rattle.std.proofs.lemmas.Result.{on_ok_weaker}
 use Rattle.cq_attr.specs.declared.susp.Susp.{Susp}
 use Rattle.cq_settle.specs.Steps.{goal_that_wakes}
 use Rattle.cq_settle.proofs.Ways.{found_live}

@@ -1,4 +1,4 @@
-use Rattle.std.proofs.Common.{◌≡◌, ◌<◌, ◌≤◌, ◌+◌, ◌∙◌, refl, subst, sym, length, take, get_or, arith}
+use Rattle.std.proofs.Common.{◌<◌, ◌≤◌, ◌∙◌, refl, subst, sym, length, take, get_or, arith}
 use Rattle.std.proofs.lemmas.List.{take_all, take_more}
 use Rattle.cq_frac.specs.declared.VarId.{VarId}
 use Rattle.cq_settle.proofs.Binding.{AllBound, none_bound, one_more_bound}

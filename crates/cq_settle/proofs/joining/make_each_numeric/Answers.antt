@@ -1,4 +1,4 @@
-use Rattle.std.proofs.Common.{◌≡◌, ◌<◌, ◌≤◌, ◌∙◌, ap, sym, refl, length, take, arith}
+use Rattle.std.proofs.Common.{◌<◌, ◌≤◌, ◌∙◌, ap, length, take, arith}
 use Rattle.std.proofs.lemmas.List.{take_all}
 use Rattle.cq_attr.specs.Attributes.{Attributes}
 use Rattle.cq_frac.specs.declared.VarId.{VarId}

@@ -1,4 +1,4 @@
-use Rattle.std.proofs.Common.{◌≡◌, ◌∙◌, List, ℕ, [], Err, ap, sym, subst}
+use Rattle.std.proofs.Common.{◌∙◌, List, ℕ, [], Err, ap, subst}
 use Rattle.cq_linear.proofs.Passed.{passed, store_spent}
 use Rattle.cq_walk.specs.Places.{numbers_of}
 use Rattle.cq_world.specs.Contents.{Contents}

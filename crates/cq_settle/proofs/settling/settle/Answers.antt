@@ -1,5 +1,4 @@
-use Rattle.std.proofs.Common.{◌≡◌, ◌∙◌, List, ℕ, [], Err, ap, refl, sym, subst}
-use Rattle.cq_linear.proofs.Passed.{one_fault}
+use Rattle.std.proofs.Common.{◌∙◌, List, ℕ, ap, sym, subst}
 use Rattle.cq_world.specs.Contents.{Contents}
 use Rattle.cq_world.specs.Worlds.{now_of}
 use Rattle.cq_settle.specs.Called.{SomeIsCalled, OfCalls}
