@@ -3,6 +3,7 @@ use Rattle.std.proofs.Common.{◌≡◌, ◌≢◌, ◌<◌, ◌≤◌, ℕ, zer
 use Rattle.std.specs.Prelude.{Contains, All, ◌==◌}
 use Rattle.std.specs.List.{AllByRecursion, AllZip, list_any}
 use Rattle.std.proofs.lemmas.Bool.{true≢false}
+use Rattle.std.specs.Cmp.{both_ways}
 use Rattle.std.proofs.lemmas.List.Elements.{All-contains, All-head, All-tail, Contains-append_left, Contains-append_right}
 use Rattle.spec_rational.specs.Rational.{ℚ}
 use Rattle.spec_linear.specs.Solution.{Constraint, Has, Fixed}
@@ -53,11 +54,6 @@ pub record HasBegun (c d : Contents) (newly : List VarId) (told : List ℕ) (row
   pub images : (v : ℕ) → is_image_of c.heap.images (numeric_ones c.attrs newly) v ≡ true → Contains fixed v
   pub in_told : All (λ id. All (Contains fixed) (variables (at c.heap.terms id))) told
   pub unbound : All (λ id. All (IsUnbound c.heap.images) (variables (at c.heap.terms id))) told
-
-same_bool : (a b : Bool) → (a ≡ true → b ≡ true) → (b ≡ true → a ≡ true) → a ≡ b
-same_bool true b f g = sym (f refl)
-same_bool false true f g = g refl
-same_bool false false f g = refl
 
 below_or : (v n : ℕ) → (v < n) ⊎ (n ≤ v)
 below_or v zero = inr (omega arith)
@@ -142,7 +138,7 @@ module _ (texts : List Text) (c : Contents) (newly : List VarId) (told : List �
   pub numeric_there : (v : ℕ) → is_numeric d.attrs v ≡ numeric_then st p u v
   numeric_there v =
       b.numeric v
-      ∙ ap₂ (λ x y. x || y) (ap₂ (λ x y. x || y) (k.stands.numeric v) (same_bool _ _ (image_there v) (image_here v))) (stands_here v)
+      ∙ ap₂ (λ x y. x || y) (ap₂ (λ x y. x || y) (k.stands.numeric v) (both_ways _ _ (image_there v) (image_here v))) (stands_here v)
 
   -- ---- values
 

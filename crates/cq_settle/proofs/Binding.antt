@@ -145,12 +145,12 @@ map_twice : (f g : ℕ → Option ℚ) (ts : List HeapTerm) → map (apply (valu
 map_twice f g [] = refl
 map_twice f g (t ∷ ts) = ap₂ (λ x xs. x ∷ xs) (reads_on f g t) (map_twice f g ts)
 
-itself : (w v : ℕ) (o : Option ℚ) → value_or_variable o w ≡ Var v → w ≡ v
-itself w v None e = cc
-itself w v (Some q) e = cc
-
 pub unread : (f : ℕ → Option ℚ) (v : ℕ) (t : HeapTerm) → apply (valued f) t ≡ Var v → t ≡ Var v
-unread f v (Var w) e = ap (λ (x : ℕ). Var x) (itself w v (f w) e)
+unread f v (Var w) e = go (f w) e
+  where
+    go : (o : Option ℚ) → ◌≡◌ {A = HeapTerm} (value_or_variable o w) (Var v) → ◌≡◌ {A = HeapTerm} (Var w) (Var v)
+    go None h = h
+    go (Some q) h = cc
 unread f v (Number q) e = cc
 unread f v (Name n) e = cc
 unread f v (Compound n ts) e = cc

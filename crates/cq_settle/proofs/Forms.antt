@@ -8,7 +8,7 @@ use Rattle.spec_rational.proofs.Rational.{ring}
 use Rattle.spec_rational.proofs.Sign.{one_not_zero}
 use Rattle.spec_linear.specs.declared.Relation.TheVariants.{Eq}
 use Rattle.spec_linear.specs.Form.{Linear, variable_form, constant_form, difference_form, is_zero, in_front, with_product}
-use Rattle.spec_linear.specs.Solution.{Constraint}
+use Rattle.spec_linear.specs.Solution.{Constraint, equal_zero}
 use Rattle.spec_linear.proofs.Values.{is_zero-true}
 use Rattle.spec_lists.proofs.Tests.{nat_eq-apart}
 use Rattle.cq_settle.specs.Steps.{zero_difference}
@@ -59,17 +59,14 @@ neg_one_not_zero e = one_not_zero (ring [] (int (pos 1)) (minus (minus (int (pos
 
 -- ---- such a form is zero
 
-abbrev equals_zero : Linear → Constraint
-equals_zero f = record { relation = Eq; form = f }
-
 pub two_differ : (v w : ℕ) (n o z : ℚ) (f : Linear) → w < v → n ≡ neg_ℚ 1ℚ → o ≡ 1ℚ → z ≡ 0ℚ → f ≡ record { products = one_of w n ∷ one_of v o ∷ []; constant = z }
     → record { relation = Eq; form = f } ≡ zero_difference v (variable_form w)
 two_differ v w n o z f l a b d e =
-    ap equals_zero
+    ap equal_zero
     (e ∙ ap₂ (λ (x y : ℚ). record { products = one_of w x ∷ one_of v y ∷ []; constant = z }) a b
     ∙ ap (λ (x : ℚ). record { products = one_of w (neg_ℚ 1ℚ) ∷ one_of v 1ℚ ∷ []; constant = x }) d ∙ sym (of_two v w l))
 
 pub one_differs : (v : ℕ) (q o k : ℚ) (f : Linear) → k ≡ neg_ℚ q → o ≡ 1ℚ → f ≡ record { products = one_of v o ∷ []; constant = k }
     → record { relation = Eq; form = f } ≡ zero_difference v (constant_form q)
 one_differs v q o k f a b e =
-    ap equals_zero (e ∙ ap₂ (λ (x y : ℚ). record { products = one_of v x ∷ []; constant = y }) b a ∙ sym (of_one v q))
+    ap equal_zero (e ∙ ap₂ (λ (x y : ℚ). record { products = one_of v x ∷ []; constant = y }) b a ∙ sym (of_one v q))

@@ -8,6 +8,7 @@ use Rattle.spec_lists.specs.Texts.{Text}
 use Rattle.spec_terms.specs.Term.{Subst, Var, Number, Name, Compound, apply}
 use Rattle.spec_terms.proofs.Substitution.{apply-followed_by}
 use Rattle.spec_syntax.specs.Trees.{Tree}
+use Rattle.spec_built.specs.Kinds.{is_variable}
 use Rattle.spec_branch.specs.Branch.{State, Pending, Asleep, Frozen, Sleeper}
 use Rattle.spec_branch.specs.Settling.{is_bound, frozen_state, still_sleeps, state_of, left_asleep, bindings_after, kept_branch, value_or_variable}
 use Rattle.cq_atoms.specs.Texts.{text_of}
@@ -27,7 +28,7 @@ use Rattle.cq_settle.proofs.Resting.{rests}
 use Rattle.std.proofs.lemmas.List.Elements.{All-from_recursion}
 use Rattle.cq_settle.proofs.Numeric.{variable_bound}
 use Rattle.cq_settle.proofs.Zips.{zip_right}
-use Rattle.cq_settle.proofs.Woken.{stays, constraints_stay, filters_commute, zip_filter, zip_both, zip_so, waits_for_it, is_variable, named_variable, sleeps_variable, sleeping_variable}
+use Rattle.cq_settle.proofs.Woken.{stays, constraints_stay, filters_commute, zip_filter, zip_both, zip_so, waits_for_it, named_variable, sleeps_variable, sleeping_variable}
 
 module _ (texts : List Text) (older : List HeapTerm) (c : Contents) (st : State) (p : Pending) (u : Subst Text) (values : ℕ → Option ℚ) (waiting : List Tree) (all : List ℕ)
     (k : IsUnderway texts older c st p u values waiting [] [] [] [] all) (solvable : Solvable c.told) (fixed : ℕ → Option ℚ) (fixes : Fixes c.told fixed) where

@@ -3,6 +3,7 @@ use Rattle.std.proofs.Common.{◌≡◌, ◌<◌, ℕ, zero, suc, List, [], ◌�
 use Rattle.std.specs.Prelude.{Contains, All, filter, not, ◌&&◌, ◌||◌, ◌==◌, is_some, if◌then◌else◌}
 use Rattle.std.specs.List.{list_any, filter_map, cons_option}
 use Rattle.std.proofs.lemmas.Bool.{true≢false}
+use Rattle.std.specs.Cmp.{both_ways}
 use Rattle.std.proofs.lemmas.List.Elements.{filter_map-append, filter_passes, All-contains, Contains-get_or}
 use Rattle.spec_lists.proofs.Tests.{nat_eq-same, nat_eq-self, nat_eq-apart}
 use Rattle.cq_attr.specs.Attributes.{Waiting, Attributes, Ascends, numbers, find, IsWokenBy}
@@ -253,11 +254,6 @@ module _ (images : List HeapTerm) (ws : List Waiting) (ascends : Ascends (number
   -- ---- all that wait for bound variables
 
   module _ (a : Attributes) (is : a.waiting ≡ ws) (bound ns : List ℕ) (asc : Ascends ns) (sound : (n : ℕ) → Contains ns n → IsWokenBy a bound n) (all : (n : ℕ) → IsWokenBy a bound n → Contains ns n) where
-    same_bool : (x y : Bool) → (x ≡ true → y ≡ true) → (y ≡ true → x ≡ true) → x ≡ y
-    same_bool true y f g = sym (f refl)
-    same_bool false true f g = g refl
-    same_bool false false f g = refl
-
     waits_of : (k : Waiting) → Contains ws k → Contains ns k.number → waits_for_one bound k ≡ true
     waits_of k h m =
         let w = sound k.number m in
@@ -280,7 +276,7 @@ module _ (images : List HeapTerm) (ws : List Waiting) (ascends : Ascends (number
         })
 
     same_test : (k : Waiting) → Contains ws k → among ns k ≡ waits_for_one bound k
-    same_test k h = same_bool (among ns k) (waits_for_one bound k)
+    same_test k h = both_ways (among ns k) (waits_for_one bound k)
         (λ e. let r = found_any (λ n. k.number == n) ns e in
         waits_of k h (subst (λ (x : ℕ). Contains ns x) (sym (nat_eq-same k.number r.item r.passes)) (contains_of_has ns r.item r.among)))
         (λ e. any_found (λ n. k.number == n) ns k.number (has_of_contains ns k.number (number_of k h e)) (nat_eq-self k.number))

@@ -6,6 +6,7 @@ use Rattle.spec_lists.specs.Texts.{Text}
 use Rattle.spec_lists.proofs.Tests.{or_left, or_right, nat_eq-self}
 use Rattle.spec_terms.specs.Term.{Var, Number, Name, Compound, named}
 use Rattle.spec_syntax.specs.Trees.{Tree}
+use Rattle.spec_built.specs.Kinds.{is_variable}
 use Rattle.spec_branch.specs.Settling.{frozen_state, still_sleeps}
 use Rattle.cq_attr.specs.Attributes.{Waiting}
 use Rattle.cq_attr.specs.declared.susp.Susp.{Susp}
@@ -103,10 +104,6 @@ pub waits_for_it : (bound : List ℕ) (k : Waiting) (v : ℕ) → Contains bound
 waits_for_it bound k v b w = any_of (λ x. list_any (λ y. y == x) k.watched) bound v b (any_of (λ y. y == v) k.watched v w (nat_eq-self v))
 
 -- whether a term is a variable, of the heap and as the definitions see it
-abbrev pub is_variable : Tree → Bool
-is_variable (Var v) = true
-is_variable t = false
-
 pub named_variable : (f : ℕ → Text) (t : HeapTerm) → is_variable (named f t) ≡ is_unbound_term t
 named_variable f (Var v) = refl
 named_variable f (Number q) = refl
