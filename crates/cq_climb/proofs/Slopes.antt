@@ -30,11 +30,11 @@ AreSteepest flags items s found = MatchOption found ((n : Entry) → Has n s →
 
 module _ (flags : List Bool) (items s : List Entry) (m : Entry) where
   pub passed_over : (IsRaising flags m → ⊥) → (o : Option Entry) → AreSteepest flags items s o → AreSteepest flags items (s ++ m ∷ []) o
-  passed_over no None a = λ n h r. elim (has_end s n m h) [ inl g ↦ a n g r | inr e ↦ no (subst (IsRaising flags) e r) ]
-  passed_over no (Some k) a = record {
+  passed_over skip None a = λ n h r. elim (has_end s n m h) [ inl g ↦ a n g r | inr e ↦ skip (subst (IsRaising flags) e r) ]
+  passed_over skip (Some k) a = record {
     has = a.has;
     raising = a.raising;
-    greatest = λ n h r. elim (has_end s n m h) [ inl g ↦ a.greatest n g r | inr e ↦ absurd (no (subst (IsRaising flags) e r)) ];
+    greatest = λ n h r. elim (has_end s n m h) [ inl g ↦ a.greatest n g r | inr e ↦ absurd (skip (subst (IsRaising flags) e r)) ];
   }
 
   module _ (in_items : Has m items) (r : IsRaising flags m) where

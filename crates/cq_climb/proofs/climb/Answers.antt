@@ -15,3 +15,17 @@ loop-init c = record {
   room = omega arith;
   climbed = climbs_not c.args.dict.now.restricted c.args.row c.args.dict.now.roles c.count.ensures.table c.requires.row c.requires.feasible;
 }
+
+pub pivot-requires : goal.pivot-requires
+pivot-requires c = rise_entry c.loop.dict.restricted c.args.row c.loop.dict.roles c.in-Some.rise c.in-Some.ensures
+
+pub loop-preserved : goal.loop-preserved
+loop-preserved c =
+    let x = c.in-Ok.ensures in
+    let is = subst (λ f. IsRise c.loop.dict.roles f c.args.row c.in-Some.rise) c.loop.invariant.flags c.in-Some.ensures in
+    record {
+      flags = x.flags ∙ c.loop.invariant.flags;
+      saved = x.saved ∙ c.loop.invariant.saved;
+      room = omega (arith, x.room, c.loop.invariant.room);
+      climbed = climbs_on c.args.dict.now.restricted c.args.row c.loop.dict.roles c.in-Some.rise is c.args.dict.now.roles c.pivot.new.self.roles c.loop.invariant.climbed x.same x.kinds x.table;
+    }
