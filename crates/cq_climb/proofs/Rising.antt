@@ -1,12 +1,12 @@
 -- An exchange of any restricted column with a row of the least ratio keeps a dictionary feasible: what is asked doesn't matter, so the
 -- column's own amount is asked for instead, and the exchange is due by the rule.
-use Rattle.std.proofs.Common.{◌≡◌, ℕ, ◌<◌, ◌≤◌, Bool, true, false, nat_eq, [], ◌∷◌, pos, arith, refl, ap, sym, subst, ◌∙◌, ◌⊎◌, inl, inr}
+use Rattle.std.proofs.Common.{◌≡◌, ℕ, ◌≤◌, Bool, true, false, nat_eq, [], ◌∷◌, pos, arith, refl, ap, sym, subst, ◌∙◌, ◌⊎◌, inl, inr}
 use Rattle.spec_rational.specs.Rational.{ℚ, 0ℚ, 1ℚ, ◌+ℚ◌, ◌*ℚ◌, ◌-ℚ◌, ◌≤ℚ◌, IsPositive, IsNotNegative}
 use Rattle.spec_rational.proofs.Ring.{var, int, ◌⊕◌, ◌⊗◌, minus}
 use Rattle.spec_rational.proofs.Rational.{ring}
 use Rattle.spec_rational.proofs.Sign.{not_pos_zero, pos_one, nonneg_mul, pos_nonneg}
 use Rattle.spec_simplex.specs.Dictionary.{Dictionary, IsDictionary, Satisfies, AreEquivalent, IsFeasible, sum_below, pick, basic_solution}
-use Rattle.spec_simplex.specs.Rule.{Raises, Limits, Leaves, IsDue, Exchanged}
+use Rattle.spec_simplex.specs.Rule.{Limits, Leaves, IsDue, Exchanged}
 use Rattle.spec_simplex.proofs.Sums.{equal_or_not, sum_only}
 use Rattle.spec_simplex.proofs.Solutions.{writes, alike_itself, true_not_false, pick_true, pick_false}
 use Rattle.spec_simplex.proofs.Exchanges.{feasible_after}
@@ -54,17 +54,17 @@ module _ (size : ℕ) (restricted : ℕ → Bool) (d e : Dictionary) (wd : IsDic
   amount_is : (x : ℕ → ℚ) → 0ℚ +ℚ sum_below size (λ q. own q *ℚ x q) ≡ x c
   amount_is x =
       ap (λ s. 0ℚ +ℚ s) (sum_only size (λ q. own q *ℚ x q) c (wd.columns_below c column)
-        (λ q n. ap (λ y. y *ℚ x q) (own_other q n) ∙ ring (x q ∷ []) (int (pos 0) ⊗ var 0) (int (pos 0)) refl))
+      (λ q n. ap (λ y. y *ℚ x q) (own_other q n) ∙ ring (x q ∷ []) (int (pos 0) ⊗ var 0) (int (pos 0)) refl))
       ∙ ap (λ y. 0ℚ +ℚ y *ℚ x c) own_self ∙ ring (x c ∷ []) (int (pos 0) ⊕ int (pos 1) ⊗ var 0) (var 0) refl
 
   same_values : AreEquivalent size before after
   same_values x z = (
     λ s.
-      let t = (alike x (d.value +ℚ sum_below size (λ q. d.coefficient q *ℚ x q))).0 (record { rows = s.rows; asked = refl }) in
-      record { rows = t.rows; asked = s.asked ∙ amount_is x ∙ t.rows c ex.row },
+        let t = (alike x (d.value +ℚ sum_below size (λ q. d.coefficient q *ℚ x q))).0 (record { rows = s.rows; asked = refl }) in
+        record { rows = t.rows; asked = s.asked ∙ amount_is x ∙ t.rows c ex.row },
     λ s.
-      let t = (alike x (e.value +ℚ sum_below size (λ q. e.coefficient q *ℚ x q))).1 (record { rows = s.rows; asked = refl }) in
-      record { rows = t.rows; asked = s.asked ∙ sym (s.rows c ex.row) ∙ sym (amount_is x) },
+        let t = (alike x (e.value +ℚ sum_below size (λ q. e.coefficient q *ℚ x q))).1 (record { rows = s.rows; asked = refl }) in
+        record { rows = t.rows; asked = s.asked ∙ sym (s.rows c ex.row) ∙ sym (amount_is x) },
   )
 
   is_own : (q : ℕ) → IsPositive (own q) → (q ≡ c) ⊎ (q ≡ c → ⊥) → c ≤ q
@@ -90,9 +90,9 @@ module _ (size : ℕ) (restricted : ℕ → Bool) (d e : Dictionary) (wd : IsDic
   pub feasible_still : IsFeasible restricted d → IsFeasible restricted e
   feasible_still f =
       let g = feasible_after size (Satisfies size before) restricted before after c r
-          (writes size before before is_before (alike_itself size before)) (writes size before after is_after same_values)
-          (record { constants = f.constants; no_free_column = f.no_free_column }) due
-          (record { row = ex.row; column = ex.column; other_rows = ex.other_rows; other_columns = ex.other_columns }) in
+      (writes size before before is_before (alike_itself size before)) (writes size before after is_after same_values)
+      (record { constants = f.constants; no_free_column = f.no_free_column }) due
+      (record { row = ex.row; column = ex.column; other_rows = ex.other_rows; other_columns = ex.other_columns }) in
       record { constants = g.constants; no_free_column = g.no_free_column }
 
   -- ---- the asked form is not lower
