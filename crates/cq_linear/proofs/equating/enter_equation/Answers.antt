@@ -1,16 +1,20 @@
-use Rattle.std.proofs.Common.{◌≡◌, ℕ, Err, ap, sym, subst, ◌∙◌}
+use Rattle.std.proofs.Common.{◌≡◌, ℕ, List, Err, ap, sym, subst, ◌∙◌}
+use Rattle.std.specs.Prelude.{IfSome}
 use Rattle.spec_rational.specs.Rational.{0ℚ}
 use Rattle.spec_rational.specs.Sums.{Mentions}
-use Rattle.spec_linear.specs.Form.{negated_form}
+use Rattle.spec_linear.specs.Form.{IsForm, negated_form}
 use Rattle.spec_linear.specs.Solution.{Constraint}
 use Rattle.spec_limits.specs.Asked.{NoQuestion}
 use Rattle.cq_dict.specs.DictValue.{quantities_of}
 use Rattle.cq_dict.specs.Roles.{Quantities, constant_at}
-use Rattle.cq_tableau.specs.Stored.{IsKnown, IsStored}
+use Rattle.cq_tableau.specs.Stored.{IsKnown, IsPlaced, IsStored}
 use Rattle.cq_tableau.proofs.Restores.{undone}
 use Rattle.cq_tableau.proofs.Storing.{placed_known}
 use Rattle.cq_linear.specs.declared.equating.Approached.{Approached}
 use Rattle.cq_linear.specs.declared.store.StoreFault.TheVariants.{Overflow, Pivots}
+use Rattle.cq_row.specs.declared.Entry.{Entry}
+use Rattle.cq_linear.specs.Alone.{IsPlaceBehind}
+use Rattle.cq_linear.proofs.Alone.{new_if}
 use Rattle.cq_linear.specs.Equated.{IsRowBehind, Crosses, StaysBelow, OfJoining, IsApproached}
 use Rattle.cq_linear.specs.StoreValue.{MayRefuse, MayTake, Only}
 use Rattle.cq_linear.proofs.Approach.{joining}
@@ -54,8 +58,8 @@ enter_zero-requires-clause-zero c =
     c.in-Ok-Zero.ensures.approached in
     subst (λ (z : Quantities). constant_at z.roles c.in-Ok-Zero.q ≡ 0ℚ) (sym c.forget.ensures.now) (a told names k j).1
 
-pub enter_by_column-requires-clause-crosses : goal.enter_by_column-requires-clause-crosses
-enter_by_column-requires-clause-crosses c =
+pub enter_crossing-requires-clause-crosses : goal.enter_by_column-requires-clause-crosses
+enter_crossing-requires-clause-crosses c =
     let told = c.args.told.now in
     let names = c.place.new.names.now in
     let k : Constraint = record { relation = c.c.inside.relation; form = c.c.inside.form } in
@@ -150,3 +154,14 @@ returns-clause-pivots c = λ n e.
     let f = told_number c.in-Err.fault c.from.result n c.from.ensures (one_fault c.from.result (Pivots n) e) in
     let o = c.in-Err.ensures.pivots n (ap Err f) in
     (o.0, subst (λ (z : Constraint). MayTake told (Only z) NoQuestion n) c.c.view_is (o.1 told names k j))
+
+pub enter_crossing-requires-clause-new : goal.enter_crossing-requires-clause-new
+enter_crossing-requires-clause-new c =
+    let told = c.args.told.now in
+    let names = c.place.new.names.now in
+    let k : Constraint = record { relation = c.c.inside.relation; form = c.c.inside.form } in
+    let p = c.in_ok-places.ensures in
+    new_if told c.args.names.now.now (quantities_of c.args.dict.now) c.requires.stored names p.grows (p.stored told c.requires.stored).once c.args.c.now c.in_ok-places.places.items
+    (subst (λ (z : Constraint). IsPlaced names z.form.products c.in_ok-places.places.items) c.c.view_is p.placed)
+    (subst (λ (z : Constraint). IsForm z.form) c.c.view_is p.in_order) c.len-known.result c.len-known.ensures c.new_place-new.result
+    (subst (λ (s : List Entry). IfSome c.new_place-new.result (IsPlaceBehind c.len-known.result s)) c.deref-new.ensures.value c.new_place-new.ensures)

@@ -87,7 +87,7 @@ returns-in_err-ascend-clause-overflow c = λ pair e.
     record {
       roles = c.ascend.new.dict.roles;
       keeps = still_keeps c.args.dict.now.roles c.args.dict.now.restricted c.args.q c.requires.row c.requires.columns c.ascend.new.dict.roles d;
-      is_row = d.reached.asked_row;
+      is_row = d.asked_row;
       row = o.row;
       column = o.column;
       made = o.made;
@@ -102,7 +102,7 @@ returns-in_err-swap-in-Unbounded-clause-overflow c = λ pair e.
     record {
       roles = c.ascend.new.dict.roles;
       keeps = still_keeps c.args.dict.now.roles c.args.dict.now.restricted c.args.q c.requires.row c.requires.columns c.ascend.new.dict.roles d;
-      is_row = d.reached.asked_row;
+      is_row = d.asked_row;
       row = c.args.q;
       column = c.in-Unbounded.c;
       made = o.0;
