@@ -95,12 +95,12 @@ module _ (told : List Constraint) (names : List Name) (c : Constraint) (n : ℕ)
   none_falls solvable z f =
       let a = (solvable_same told).0 solvable in
       let b = there a.0 in
-      apart f.constraint f.relation_is (member_satisfied b told f.constraint (has_member told f.number f.constraint f.told_at) (still_told a.0 a.1))
+      apart f.constraint b f.relation_is (member_satisfied b told f.constraint (has_member told f.number f.constraint f.told_at) (still_told a.0 a.1))
       (f.flat b (weak_satisfied b (told ++ c ∷ []) (goes_on a.0 a.1)))
     where
-      apart : (k : Constraint) → (k.relation ≡ Gt) ⊎ (k.relation ≡ Ne) → {b : ℕ → ℚ} → HoldsAt b k → value_at b k.form ≡ 0ℚ → ⊥
-      apart k (inl r) h e = not_pos_zero (subst IsPositive e (subst (λ t. Meets t (value_at _ k.form)) r h))
-      apart k (inr r) h e = subst (λ t. Meets t (value_at _ k.form)) r h e
+      apart : (k : Constraint) (b : ℕ → ℚ) → (k.relation ≡ Gt) ⊎ (k.relation ≡ Ne) → HoldsAt b k → value_at b k.form ≡ 0ℚ → ⊥
+      apart k b (inl r) h e = not_pos_zero (subst IsPositive e (subst (λ t. Meets t (value_at b k.form)) r h))
+      apart k b (inr r) h e = subst (λ t. Meets t (value_at b k.form)) r h e
 
 -- ---- what a quantity is after an exchange
 state : (roles : List Role) (z : ℕ) → z < length roles → IsOpen roles z ⊎ ((v : ℚ) × IsNumber roles z v)

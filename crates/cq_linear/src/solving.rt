@@ -48,12 +48,16 @@ fn fixed_alone(
     ensures { IfOk result (λ xs. IsAloneFixed names.now.now dict.now.roles n xs.items) }
 {
     let mut fixed = Vec::new(alloc);
-    if let Name::Variable(x) = names.get(n) {
-        if let Some(_) = fixed_number(dict, n) {
-            fixed.push(*x)?;
-        }
+    match names.get(n) {
+        Name::Variable(x) => match fixed_number(dict, n) {
+            Some(_) => {
+                fixed.push(*x)?;
+                Ok(fixed)
+            }
+            None => Ok(fixed),
+        },
+        Name::Member(_) => Ok(fixed),
     }
-    Ok(fixed)
 }
 
 /// Enters such an equation by a column that may take its row's place: the equation's own quantity is a dropped column then.

@@ -65,6 +65,6 @@ returns-in_err-value-clause-pivots c = λ n e told s.
     let o = c.in_err-value.ensures.pivots n (ap Err f) in (
       o.0,
       λ k asks. subst (λ (m : ℕ). MayTake told NoQuestion (Only k) m) (sym o.0)
-          (search_spent told c.args.names.now.now (quantities_of c.args.dict.now) s c.args.form.now NoQuestion (Only k) asks c.ask.new.names.now (quantities_of c.ask.new.dict) c.in_ok-q.q
-          c.in_ok-q.ensures.asked aim_of.Best c.args.pivots c.ascend.new.dict.roles o.1),
+          (search_spent told c.args.names.now.now (quantities_of c.args.dict.now) s c.args.form.now c.ask.new.names.now (quantities_of c.ask.new.dict) c.in_ok-q.q c.in_ok-q.ensures.asked
+          NoQuestion (Only k) asks aim_of.Best c.args.pivots c.ascend.new.dict.roles o.1),
     )

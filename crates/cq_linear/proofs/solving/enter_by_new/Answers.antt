@@ -42,10 +42,10 @@ returns-clause-numbered c = λ entries h.
 
 pub returns-in_err-eliminate-clause-overflow : goal.returns-in_err-eliminate-clause-overflow
 returns-in_err-eliminate-clause-overflow c = λ pair e.
-    let f = refused c.from_residual-in_err-eliminate.result c.in_err-eliminate.field-0.0 pair c.from_residual-in_err-eliminate.ensures.1 e in
+    let f = refused c.from_residual.result c.in_err-eliminate.field-0.0 pair c.from_residual.ensures.1 e in
     crossing_refused c.args.told.now c.args.names.now.now c.args.c.now c.args.dict.now.roles c.args.dict.now.restricted c.args.q c.requires.crosses.behind
     c.args.q c.args.column pair (c.in_err-eliminate.ensures.overflow pair (ap Err f))
 
 pub returns-in_err-eliminate-clause-pivots : goal.returns-in_err-eliminate-clause-pivots
 returns-in_err-eliminate-clause-pivots c = λ n e.
-    never_spent c.from_residual-in_err-eliminate.result c.in_err-eliminate.field-0.0 n c.from_residual-in_err-eliminate.ensures.1 e
+    never_spent c.from_residual.result c.in_err-eliminate.field-0.0 n c.from_residual.ensures.1 e
