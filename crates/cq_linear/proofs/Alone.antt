@@ -161,16 +161,16 @@ module _ (told : List Constraint) (names : List Name) (c : Constraint) (roles : 
     newly : AreNewlyFixed told (told ++ c ∷ []) (numbers_of fixed)
     newly = elim (alone new.variable new.named) [
       | inl h ↦ subst (λ xs. AreNewlyFixed told (told ++ c ∷ []) (numbers_of xs)) (sym h.0) (record {
-          once = (λ k. absurd k, tt);
-          each = λ z. (
-            λ k. elim k [ inl g ↦ subst (NewlyFixed told (told ++ c ∷ [])) (sym g) (itself h.1 h.2) | inr g ↦ absurd g ],
-            λ f. inl (only z f),
-          );
-        })
+        once = (λ k. absurd k, tt);
+        each = λ z. (
+          λ k. elim k [ inl g ↦ subst (NewlyFixed told (told ++ c ∷ [])) (sym g) (itself h.1 h.2) | inr g ↦ absurd g ],
+          λ f. inl (only z f),
+        );
+      })
       | inr h ↦ subst (λ xs. AreNewlyFixed told (told ++ c ∷ []) (numbers_of xs)) (sym h.0) (record {
-          once = tt;
-          each = λ z. (λ k. absurd k, λ f. absurd (open_still h.1 (subst (NewlyFixed told (told ++ c ∷ [])) (only z f) f)));
-        })
+        once = tt;
+        each = λ z. (λ k. absurd k, λ f. absurd (open_still h.1 (subst (NewlyFixed told (told ++ c ∷ [])) (only z f) f)));
+      })
     ]
 
     pub alone_joins : JoinsStored told c fixed new_names (record { roles = after; restricted = flags })

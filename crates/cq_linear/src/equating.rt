@@ -506,9 +506,7 @@ pub fn enter_equation(
         }
         Ok(Approached::Crossing(q, column)) => {
             dict.forget(start);
-            enter_crossing(
-                alloc, pivots, numbers, names, dict, told, c, q, column, new,
-            )
+            enter_crossing(alloc, pivots, numbers, names, dict, told, c, q, column, new)
         }
         Ok(Approached::Below) => {
             dict.undo(start);

@@ -352,9 +352,21 @@ fn enough_is_a_power_of_two(rt: HostRuntime) -> Result<(), Fail> {
 #[test]
 fn a_store_goes_back_to_a_mark(rt: HostRuntime) -> Result<(), Fail> {
     let mut store = Store::new(rt.alloc(), 20);
-    assert!(rt; keeps(&mut store, constraint(rt.alloc(), Relation::Ge, &[(1, 0)], -1)?, 0));
+    assert!(rt;
+        keeps(
+            &mut store,
+            constraint(rt.alloc(), Relation::Ge, &[(1, 0)], -1)?,
+            0
+        )
+    );
     let mark = store.mark()?;
-    assert!(rt; keeps(&mut store, constraint(rt.alloc(), Relation::Eq, &[(1, 0)], -3)?, 1));
+    assert!(rt;
+        keeps(
+            &mut store,
+            constraint(rt.alloc(), Relation::Eq, &[(1, 0)], -3)?,
+            1
+        )
+    );
     let form = form_of(rt.alloc(), &[(1, 0)], 0)?;
     assert!(rt; is_reached(store.sup(&form), Some(3)));
     let other = constraint(rt.alloc(), Relation::Eq, &[(1, 0)], -4)?;
