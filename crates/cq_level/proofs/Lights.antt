@@ -183,3 +183,20 @@ module _ (roles : List Role) (flags : List Bool) (q : ℕ) (table : AreOverColum
 
   pub none_lightest : ((n : Entry) → Has n own.live → is_restricted flags n.quantity ≡ true) → IsLightest roles flags q None
   none_lightest h = none_free roles flags table q own at h
+
+  pub only_lightest : (m : Entry) → own.live ≡ m ∷ [] → is_restricted flags m.quantity ≡ false → IsLightest roles flags q (Some m.quantity)
+  only_lightest m e f = lightest_of (record { column = m.quantity; rows = rows_with m.quantity roles }) (record {
+    entry = m;
+    has = subst (Has m) (sym e) (inl refl);
+    quantity = refl;
+    flag = f;
+    rows_are = refl;
+    least = λ n h g. elim (subst (Has n) e h) [
+      | inl i ↦ (let y = ap (λ (z : Entry). rows_with z.quantity roles) i in omega (arith, y))
+      | inr k ↦ absurd k
+    ];
+  })
+
+  pub only_restricted : (m : Entry) → own.live ≡ m ∷ [] → is_restricted flags m.quantity ≡ true → IsLightest roles flags q None
+  only_restricted m e f =
+      none_lightest (λ n h. elim (subst (Has n) e h) [ inl i ↦ subst (λ (z : Entry). is_restricted flags z.quantity ≡ true) (sym i) f | inr k ↦ absurd k ])

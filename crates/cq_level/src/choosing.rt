@@ -1,11 +1,11 @@
 //! The column by which an equation is solved: one that stands in as few rows as can be, so that few are written again.
 
-ghost use Rattle.std.specs.Prelude.{◌≡◌, ◌<◌, length, MatchBool};
+ghost use Rattle.std.specs.Prelude.{◌≡◌, ◌<◌, [], ◌∷◌, length, MatchBool, IfSome};
 ghost use Rattle.cq_dict.specs.Roles.{AreOverColumns, IsRow, role_at};
 ghost use Rattle.cq_level.specs.Lightest.{stands, rows_with, IsLighter, IsLightest};
 
 use cq_dict::dict::{Col, Dict};
-use cq_row::entry_at;
+use cq_row::{Entry, entry_at};
 
 /// An unrestricted column, and in how many rows it stands.
 #[derive(Clone, Copy, Debug)]
@@ -55,12 +55,30 @@ fn lighter(before: Option<Candidate>, next: Candidate) -> Candidate
     }
 }
 
+/// The entry of a row that has no other.
+fn only_entry(row: &[Entry]) -> Option<Entry>
+    ensures { IfSome result (λ m. row.now ≡ m ∷ []) }
+{
+    if row.len() == 1 {
+        return Some(row[0]);
+    }
+    None
+}
+
 /// Of the unrestricted columns of the row one that stands in the fewest rows: a new variable's stands in no other row.
+///
+/// Of a row with one column no rows are counted.
 pub fn lightest_column(dict: &Dict, q: usize) -> Option<Col>
     requires table { AreOverColumns dict.now.roles }
     requires row { IsRow dict.now.roles q }
     ensures { IsLightest dict.now.roles dict.now.restricted q result }
 {
+    if let Some(m) = only_entry(dict.row(q)) {
+        if dict.is_restricted(m.quantity) {
+            return None;
+        }
+        return Some(m.quantity);
+    }
     let mut found: Option<Candidate> = None;
     for m in dict.row(q) {
         if !dict.is_restricted(m.quantity) {

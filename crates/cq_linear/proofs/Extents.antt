@@ -13,7 +13,9 @@ use Rattle.cq_dict.specs.Roles.{Quantities, is_restricted}
 use Rattle.cq_dict.proofs.Roles.{at_below}
 use Rattle.spec_simplex.specs.Dictionary as of_simplex
 use Rattle.cq_simplex.specs.Dictionary.{dictionary}
-use Rattle.cq_simplex.specs.Answers.{IsMaximum, RisesWithoutEnd, IsWithin, IsOverflow}
+use Rattle.cq_simplex.specs.Answers.{IsMaximum, RisesWithoutEnd, IsOverflow}
+use Rattle.cq_simplex.specs.declared.Aim.{Aim}
+use Rattle.cq_climb.specs.Climbs.{IsCarried, IsSpentAfter}
 use Rattle.spec_limits.specs.Asked.{IsAsked}
 use Rattle.cq_frac.specs.declared.Pair.{Pair}
 use Rattle.cq_tableau.specs.declared.names.Name.{Name}
@@ -21,12 +23,12 @@ use Rattle.cq_tableau.specs.Asking.{AsksForm}
 use Rattle.cq_tableau.specs.Forms.{form_at}
 use Rattle.cq_tableau.specs.Keeps.{Keeps}
 use Rattle.cq_tableau.specs.Stored.{IsStored}
-use Rattle.cq_linear.specs.StoreValue.{MayRefuse}
+use Rattle.cq_linear.specs.StoreValue.{MayRefuse, MayTake}
 use Rattle.cq_tableau.proofs.Steps.{form_last}
 use Rattle.cq_tableau.proofs.Tied.{maximum, unbounded, searchable}
-use Rattle.cq_tableau.proofs.Joined.{reached}
+use Rattle.cq_tableau.proofs.Joined.{carried_keeps}
 use Rattle.cq_tableau.proofs.Storing.{stored_solvable, asked_kept, asked_row}
-use Rattle.cq_linear.proofs.Moments.{row_refused}
+use Rattle.cq_linear.proofs.Moments.{row_refused, row_spent}
 
 module _ (told : List Constraint) (names : List Name) (q : Quantities) (s : IsStored told names q) (f : Linear) (new_names : List Name) (mid : Quantities) (n : ℕ)
     (a : AsksForm names q f new_names mid n) where
@@ -55,9 +57,17 @@ module _ (told : List Constraint) (names : List Name) (q : Quantities) (s : IsSt
   asked_feasible = searchable mid.roles mid.restricted ((a.stays told s).forms ++ f ∷ []) n kept.size kept.invariant.sound.feasible
 
   -- a refusal of the search
-  pub search_refused : (Joins Questions : Constraint → Type 0) → IsAsked told Joins Questions f → (budget : ℕ) (new : List Role) (pair : Pair)
-      → IsWithin mid.roles mid.restricted n budget new → IsOverflow mid.restricted n new pair → MayRefuse told Joins Questions pair
-  search_refused Joins Questions is_asked budget new pair w o =
+  pub search_refused : (Joins Questions : Constraint → Type 0) → IsAsked told Joins Questions f → (new : List Role) (pair : Pair)
+      → IsCarried mid.roles mid.restricted n new → IsOverflow mid.restricted n new pair → MayRefuse told Joins Questions pair
+  search_refused Joins Questions is_asked new pair w o =
       row_refused told names q s f Joins Questions is_asked new_names mid n a new
-      (reached ((a.stays told s).forms ++ f ∷ []) told mid.roles mid.restricted kept n (asked_row told names q s f new_names mid n a) w.exchanges new w.reached)
-      w.reached.asked_row o.row o.column pair (o.made, o.refused)
+      (carried_keeps ((a.stays told s).forms ++ f ∷ []) told mid.roles mid.restricted kept n (asked_row told names q s f new_names mid n a) new w)
+      w.asked_row o.row o.column pair (o.made, o.refused)
+
+  -- or a want of exchanges
+  pub search_spent : (Joins Questions : Constraint → Type 0) → IsAsked told Joins Questions f → (aim : Aim) (budget : ℕ) (new : List Role)
+      → IsSpentAfter mid.roles mid.restricted n aim budget new → MayTake told Joins Questions budget
+  search_spent Joins Questions is_asked aim budget new t =
+      row_spent told names q s f Joins Questions is_asked new_names mid n a t.from
+      (carried_keeps ((a.stays told s).forms ++ f ∷ []) told mid.roles mid.restricted kept n (asked_row told names q s f new_names mid n a) t.from t.carried)
+      t.carried.asked_row aim budget new t.spent

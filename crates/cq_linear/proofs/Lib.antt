@@ -16,5 +16,6 @@ pub mod Approach
 pub mod Against
 pub mod Instead
 pub mod Concluded
+pub mod Alone
 pub mod Valued
 pub mod Spent

@@ -24,11 +24,11 @@ use Rattle.cq_tableau.specs.Asking.{AsksForm, RefusesAsking}
 use Rattle.cq_tableau.specs.Forms.{form_at}
 use Rattle.cq_tableau.specs.Keeps.{Keeps, Speaks}
 use Rattle.cq_tableau.specs.Quantities.{variable_forms}
-use Rattle.cq_tableau.specs.Raised.{RefusesRaise}
+use Rattle.cq_tableau.specs.Raised.{RefusesRaise, SpendsRaise}
 use Rattle.cq_tableau.specs.Stored.{IsKnown, IsMemberForm, IsStored, IsBetween, IsPlaced}
 use Rattle.cq_linear.specs.StoreValue.{IsCallList, in_force, IsCallMoment, MayRefuse, MayTake, Only}
 use Rattle.cq_tableau.proofs.Steps.{form_more, form_last, flag_more}
-use Rattle.cq_tableau.proofs.Storing.{placed_known, asked_kept, asked_row}
+use Rattle.cq_tableau.proofs.Storing.{placed_known, asked_kept}
 use Rattle.cq_tableau.proofs.Numbering.{mentioned, known_of, all_variables}
 use Rattle.cq_tableau.proofs.Working.{IsAtWork, pivot_makes, form_makes}
 use Rattle.cq_tableau.proofs.Chains.{bland}
@@ -199,12 +199,13 @@ module _ (told : List Constraint) (names : List Name) (q : Quantities) (s : IsSt
         asked_refused told new_names a.before (between_of told new_names a.before (a.stays told s)) f knows_form told Joins Questions (in_force alone) is_asked
         roles mid.restricted a.flags (speaks_of ((a.stays told s).forms ++ f ∷ []) told roles mid.restricted k) (subst (IsRow roles) a.number row) r c pair p
 
-    pub row_spent : (aim : Aim) (budget : ℕ) (new : List Role) → AreSpent mid.roles mid.restricted n aim budget new → MayTake told Joins Questions budget
+    pub row_spent : (roles : List Role) → Keeps ((a.stays told s).forms ++ f ∷ []) told roles mid.restricted → IsRow roles n → (aim : Aim) (budget : ℕ) (new : List Role)
+        → AreSpent roles mid.restricted n aim budget new → MayTake told Joins Questions budget
     unfolding between_of
-    row_spent aim budget new t =
+    row_spent roles k row aim budget new t =
         asked_spent told new_names a.before (between_of told new_names a.before (a.stays told s)) f knows_form told Joins Questions (in_force alone) is_asked
-        mid.roles mid.restricted a.flags (speaks_of ((a.stays told s).forms ++ f ∷ []) told mid.roles mid.restricted (asked_kept told names q s f new_names mid n a)) (subst (IsRow mid.roles) a.number (asked_row told names q s f new_names mid n a))
-        aim budget new (subst (λ m. AreSpent mid.roles mid.restricted m aim budget new) a.number t)
+        roles mid.restricted a.flags (speaks_of ((a.stays told s).forms ++ f ∷ []) told roles mid.restricted k) (subst (IsRow roles) a.number row)
+        aim budget new (subst (λ m. AreSpent roles mid.restricted m aim budget new) a.number t)
 
 -- ---- a constraint that joins, of which the form is a row
 module _ (told : List Constraint) (names : List Name) (q : Quantities) (s : IsStored told names q) (c : Constraint) (new_names : List Name) (mid : Quantities) (n : ℕ)
@@ -214,8 +215,10 @@ module _ (told : List Constraint) (names : List Name) (q : Quantities) (s : IsSt
       row_refused told names q s c.form (Only c) NoQuestion (of_joining c refl) new_names mid n a r.roles
       (r.keeps ((a.stays told s).forms ++ c.form ∷ []) told (asked_kept told names q s c.form new_names mid n a)) r.is_row r.row r.column pair (r.made, r.refused)
 
-  pub raise_spent : (new : List Role) (budget : ℕ) → AreSpent mid.roles mid.restricted n Positive budget new → MayTake told (Only c) NoQuestion budget
-  raise_spent new budget t = row_spent told names q s c.form (Only c) NoQuestion (of_joining c refl) new_names mid n a Positive budget new t
+  pub raise_spent : (budget : ℕ) → SpendsRaise n mid.roles mid.restricted budget → MayTake told (Only c) NoQuestion budget
+  raise_spent budget t =
+      row_spent told names q s c.form (Only c) NoQuestion (of_joining c refl) new_names mid n a t.roles
+      (t.keeps ((a.stays told s).forms ++ c.form ∷ []) told (asked_kept told names q s c.form new_names mid n a)) t.is_row Positive budget t.last t.spent
 
 -- ---- a form whose row stands behind what is stored, in other roles too
 module _ (told : List Constraint) (names : List Name) (q : Quantities) (s : IsStored told names q) (f : Linear) (Joins Questions : Constraint → Type 0) (is_asked : IsAsked told Joins Questions f)

@@ -5,5 +5,6 @@ pub mod Held
 pub mod Faced
 pub mod Questions
 pub mod Fallen
+pub mod Alone
 pub mod Equated
 pub mod Enough

@@ -18,6 +18,7 @@ ghost use Rattle.cq_tableau.specs.Restored.{AsksGreatest, RefusesFormEntries, Sp
 ghost use Rattle.cq_tableau.specs.Looked.{SpeaksOfSome, LooksOn, RefusesLook, SpendsLook};
 ghost use Rattle.cq_tableau.specs.Stored.{IsKnown, IsStored, IsBetween};
 ghost use Rattle.cq_linear.specs.declared.store.StoreFault.TheVariants.{Overflow, Pivots};
+ghost use Rattle.cq_linear.specs.Alone.{IsNewIn};
 ghost use Rattle.cq_linear.specs.Entered.{IfJoined, IsJoined, IsRefuted};
 ghost use Rattle.cq_linear.specs.Equated.{IsRowBehind, Crosses, IsLevelRow, HasNoLiveEntry, IsHeldBy, IsHeldColumn, StayNumbered, IsConcluded, IsFound, StaysBelow, IsToJoinSome, OfJoining, IsApproached, IsOppositeCertificate};
 ghost use Rattle.cq_linear.specs.StoreValue.{MayRefuse, MayTake, Only};
@@ -26,6 +27,7 @@ ghost use Rattle.cq_linear.specs.Fallen.{FallsAt};
 use crate::entering::Entered;
 use crate::facing::fallen_disequation;
 use crate::falling::fallen_certificate;
+use crate::solving::{enter_by_new, new_place};
 use crate::store::StoreFault;
 use cq_dict::dict::{Col, Dict};
 use cq_form::{Cert, Constraint, Form};
@@ -129,6 +131,41 @@ fn enter_by_column(
     conclude(
         alloc, pivots, numbers, names, dict, told, c, &before, fallen,
     )
+}
+
+/// Enters an equation by a column that may take its row's place. Where it mentions a variable of which the told list says nothing, of
+/// this quantity, no other is looked at.
+fn enter_crossing(
+    alloc: Global,
+    pivots: u64,
+    numbers: &IndexMap<VarId, usize>,
+    names: &mut Stack<Name>,
+    dict: &mut Dict,
+    told: &[Constraint],
+    c: &Constraint,
+    q: usize,
+    column: Col,
+    new: Option<usize>,
+) -> Result<Entered, StoreFault>
+    requires equation { c.now.relation ≡ Eq }
+    requires numbered { AreNumbered names.old.now numbers.now.entries }
+    requires crosses { Crosses told.now names.old.now c.now dict.old.roles dict.old.restricted q column }
+    requires new { IfSome new (IsNewIn told.now names.old.now c.now) }
+    ensures joined { IsJoined result told.now c.now names.new.now (quantities_of dict.new) }
+    ensures refuted { IsRefuted result told.now c.now }
+    ensures overflow { (pair : Pair) → result ≡ Err (Overflow pair) → MayRefuse told.now (Only c.now) NoQuestion pair }
+    ensures pivots { (n : ℕ) → result ≡ Err (Pivots n) → (n ≡ pivots) × MayTake told.now (Only c.now) NoQuestion n }
+    ensures grows { IsPrefix names.old.now names.new.now }
+    ensures numbered { AreNumbered names.new.now numbers.now.entries }
+    ensures names_saved { names.new.saved ≡ names.old.saved }
+    ensures names_room { names.old.room ≤ names.new.room }
+    ensures dict_saved { dict.new.saved ≡ dict.old.saved }
+    ensures dict_room { dict.old.room ≤ dict.new.room }
+{
+    match new {
+        Some(n) => enter_by_new(alloc, names, dict, told, c, q, column, n),
+        None => enter_by_column(alloc, pivots, numbers, names, dict, told, c, q, column),
+    }
 }
 
 /// A restricted column among the dropped ones of the row.
@@ -458,7 +495,9 @@ pub fn enter_equation(
     ensures dict_saved { dict.new.saved ≡ dict.old.saved }
     ensures dict_room { dict.old.room ≤ dict.new.room }
 {
+    let known = names.len();
     let places = place(numbers, names, dict, alloc, &c.form)?;
+    let new = new_place(&places, known);
     let start = dict.mark()?;
     match approach(dict, &places, c.form.constant(), pivots) {
         Ok(Approached::Zero(q)) => {
@@ -467,7 +506,7 @@ pub fn enter_equation(
         }
         Ok(Approached::Crossing(q, column)) => {
             dict.forget(start);
-            enter_by_column(alloc, pivots, numbers, names, dict, told, c, q, column)
+            enter_crossing(alloc, pivots, numbers, names, dict, told, c, q, column, new)
         }
         Ok(Approached::Below) => {
             dict.undo(start);

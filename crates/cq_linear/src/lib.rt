@@ -8,4 +8,5 @@ pub mod equating;
 pub mod facing;
 pub mod falling;
 pub mod reaching;
+pub mod solving;
 pub mod store;

@@ -1,4 +1,4 @@
-//! How far a form reaches on the solutions of the told list: its row is maximised.
+//! How far a form reaches on the solutions of the told list: its row climbs and is maximised.
 
 ghost use Rattle.std.specs.Prelude.{◌≡◌, ◌≤◌, ℕ, List, IfOk};
 ghost use Rattle.spec_linear.specs.Solution.{Constraint};
@@ -13,10 +13,11 @@ ghost use Rattle.cq_linear.specs.StoreValue.{IsExtent};
 
 use crate::asking::ask;
 use crate::store::{Extent, StoreFault};
+use cq_climb::ascend;
 use cq_dict::dict::Dict;
 use cq_form::Form;
 use cq_frac::VarId;
-use cq_simplex::{Aim, Max, maximise};
+use cq_simplex::{Aim, Max};
 use cq_tableau::names::Name;
 use cq_trail::Stack;
 use indexmap::IndexMap;
@@ -44,7 +45,7 @@ pub fn reach(
     ensures dict_room { dict.old.room ≤ dict.new.room }
 {
     let q = ask(alloc, numbers, names, dict, form)?;
-    match maximise(dict, alloc, q, Aim::Best, pivots)? {
+    match ascend(dict, alloc, q, Aim::Best, pivots)? {
         Max::At(value, _) => Ok(Extent::Value(value)),
         Max::Unbounded(_) => Ok(Extent::Unbounded),
         // The aim is the greatest value.

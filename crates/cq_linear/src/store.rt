@@ -120,7 +120,7 @@ impl Model for Store {
 }
 
 impl Store {
-    /// An empty store. A call may make as many exchanges as `pivots` says.
+    /// An empty store. A search may make as many exchanges as `pivots` says, after a climb of as many at most.
     pub fn new(alloc: Global, pivots: u64) -> Store
         ensures told { result.told ≡ [] }
         ensures saved { result.saved ≡ [] }
@@ -141,7 +141,7 @@ impl Store {
         }
     }
 
-    /// How many exchanges a call may make.
+    /// How many exchanges a search may make.
     pub fn pivots(&self) -> u64
         ensures { result ≡ self.now.pivots }
     {

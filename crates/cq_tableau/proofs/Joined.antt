@@ -28,13 +28,14 @@ use Rattle.cq_dict.specs.declared.table.Role.TheVariants.{Live, Dropped, Basic}
 use Rattle.cq_dict.specs.Roles.{IsAt, IsRow, AreOverColumns, HasEntry, IsExchanged, is_live, is_dropped, is_restricted, role_at, constant_at, factor_at}
 use Rattle.cq_dict.specs.Dict.{SameMeaning}
 use Rattle.cq_dict.proofs.Roles.{role_is, at_below, at_exists, constant_is, dropped_at, factor_is, row_is, is_row_of}
-use Rattle.cq_simplex.specs.Dictionary.{dictionary, IsReached}
-use Rattle.cq_simplex.specs.Answers.{IsWithin, RisesWithoutEnd}
+use Rattle.cq_simplex.specs.Dictionary.{dictionary}
+use Rattle.cq_climb.specs.Climbs.{IsCarried}
+use Rattle.cq_simplex.specs.Answers.{RisesWithoutEnd}
 use Rattle.cq_simplex.proofs.Entries.{has_entry}
 use Rattle.cq_simplex.proofs.Roles.{dropped_after}
 use Rattle.cq_tableau.specs.Forms.{row_of, form_at, tableau}
 use Rattle.cq_tableau.specs.Keeps.{Keeps, KeepsBoth, StillKeeps, Joins}
-use Rattle.cq_tableau.proofs.Tied.{linked, still_describes, factor_same, feasible_of, each_restricted, entry_live, entry_not_zero, reached_keeps, changed, constant_row, positive, unbounded_rises}
+use Rattle.cq_tableau.proofs.Tied.{linked, still_describes, factor_same, feasible_of, each_restricted, entry_live, entry_not_zero, carried_invariant, changed, constant_row, positive, unbounded_rises}
 use Rattle.cq_tableau.proofs.Steps.{exchanged, restricted, flag_still, flag_only}
 
 ge_not_eq : Ge ≡ Eq → ⊥
@@ -165,25 +166,25 @@ module _ (forms : List Linear) (l : List Constraint) (old : List Role) (flags : 
         (λ c h n. sym (factor_is old q row.0 row.1 c) ∙ f c h n) row.0.live (λ m h. h))
 
     -- ---- what the search leaves
-    module _ (n : ℕ) (mid : List Role) (r : IsReached flags q old n mid) where
-      pub reached : Keeps forms l mid flags
-      reached = record {
+    module _ (mid : List Role) (r : IsCarried old flags q mid) where
+      pub carried_keeps : Keeps forms l mid flags
+      carried_keeps = record {
         table = r.table;
         size = k.size ∙ sym r.size;
         describes = still_describes old mid forms r.size r.same k.describes;
-        invariant = reached_keeps old mid flags forms l q n k.size k.describes k.invariant r;
-        dropped = still_dropped (tableau old flags forms) (tableau mid flags forms) written [] [] (changed old mid flags forms q n r) (λ z h. absurd h) l k.dropped;
+        invariant = carried_invariant old mid flags forms l q k.size k.describes k.invariant r;
+        dropped = still_dropped (tableau old flags forms) (tableau mid flags forms) written [] [] (changed old mid flags forms q r) (λ z h. absurd h) l k.dropped;
       }
 
 -- the row that is asked stays over restricted columns
 module _ (forms : List Linear) (l : List Constraint) (old : List Role) (flags : List Bool) (k : Keeps forms l old flags) (q : ℕ) (row : IsRow old q)
-    (a : AllIn (is_restricted flags) (row_of q (role_at old q)).live) (n : ℕ) (mid : List Role) (r : IsReached flags q old n mid) where
+    (a : AllIn (is_restricted flags) (row_of q (role_at old q)).live) (mid : List Role) (r : IsCarried old flags q mid) where
   after : Keeps forms l mid flags
-  after = reached forms l old flags k q row n mid r
+  after = carried_keeps forms l old flags k q row mid r
 
   pub no_free_entry : (z : ℕ) → is_restricted flags z ≡ false → factor_of z (row_of q (role_at mid q)).live ≡ 0ℚ
   no_free_entry =
-      restricted_row (tableau old flags forms) (tableau mid flags forms) (written forms l old flags k) (written forms l mid flags after) (changed old mid flags forms q n r) q
+      restricted_row (tableau old flags forms) (tableau mid flags forms) (written forms l old flags k) (written forms l mid flags after) (changed old mid flags forms q r) q
       (at_below old q (Basic row.0) row.1) a (numbers_feasible forms l mid flags after)
 
 -- a column that no row of the search limits
@@ -228,17 +229,17 @@ module _ (old : List Role) (flags : List Bool) (q : ℕ) (row : IsRow old q) whe
     λ z. dropped_after old new q c row f.column x z,
   )
 
-  module _ (none : (c : ℕ) → is_live old c ≡ true → is_restricted flags c ≡ false → factor_at old q c ≡ 0ℚ) (budget : ℕ) (mid : List Role)
-      (within : IsWithin old flags q budget mid) where
+  module _ (none : (c : ℕ) → is_live old c ≡ true → is_restricted flags c ≡ false → factor_at old q c ≡ 0ℚ) (mid : List Role)
+      (carried : IsCarried old flags q mid) where
     pub asked_row : IsRow mid q
-    asked_row = within.reached.asked_row
+    asked_row = carried.asked_row
 
     pub still_keeps : StillKeeps old mid flags
-    still_keeps forms l k = reached forms l old flags k q row within.exchanges mid within.reached
+    still_keeps forms l k = carried_keeps forms l old flags k q row mid carried
 
     module _ (forms : List Linear) (l : List Constraint) (k : Keeps forms l old flags) where
       no_entry : (z : ℕ) → is_restricted flags z ≡ false → factor_of z (row_of q (role_at mid q)).live ≡ 0ℚ
-      no_entry = no_free_entry forms l old flags k q row (over_restricted forms l old flags k q row none) within.exchanges mid within.reached
+      no_entry = no_free_entry forms l old flags k q row (over_restricted forms l old flags k q row none) mid carried
 
       restricted_columns : AllIn (is_restricted flags) (row_of q (role_at mid q)).live
       restricted_columns =
@@ -255,7 +256,7 @@ module _ (old : List Role) (flags : List Bool) (q : ℕ) (row : IsRow old q) whe
       subst (λ g. KeepsBoth forms l q g new_flags) (sym d) (subst (λ g. KeepsBoth forms l q mid g) (sym e)
           (join_here forms l mid flags (still_keeps forms l k) q asked_row (no_entry forms l k) (pos_nonneg p)
           (positive mid flags forms l (still_keeps forms l k).invariant.sound q (at_below mid q (Basic asked_row.0) asked_row.1) p))),
-      λ z. ap (λ r. is_dropped r z) d ∙ within.reached.dropped z,
+      λ z. ap (λ r. is_dropped r z) d ∙ carried.dropped z,
     )
 
     -- without a greatest value, and not below zero
@@ -265,7 +266,7 @@ module _ (old : List Role) (flags : List Bool) (q : ℕ) (row : IsRow old q) whe
       subst (λ g. KeepsBoth forms l q g new_flags) (sym d) (subst (λ g. KeepsBoth forms l q mid g) (sym e)
           (join_here forms l mid flags (still_keeps forms l k) q asked_row (no_entry forms l k) high
           (unbounded_rises old flags forms l k.describes k.invariant.sound q (below_count forms l k) u))),
-      λ z. ap (λ r. is_dropped r z) d ∙ within.reached.dropped z,
+      λ z. ap (λ r. is_dropped r z) d ∙ carried.dropped z,
     )
 
     -- without a greatest value, and below zero
@@ -278,12 +279,12 @@ module _ (old : List Role) (flags : List Bool) (q : ℕ) (row : IsRow old q) whe
           (join_unlimited forms l mid flags (still_keeps forms l k) q asked_row c (unbounded_entry mid (is_restricted flags) q c asked_row (inl o)) new x same table
           (unlimited mid flags forms q c o) o.raises.coefficient low (restricted_columns forms l k)
           (unbounded_rises old flags forms l k.describes k.invariant.sound q (below_count forms l k) u)),
-      λ z. dropped_after mid new q c asked_row o.raises.column x z ∙ within.reached.dropped z,
+      λ z. dropped_after mid new q c asked_row o.raises.column x z ∙ carried.dropped z,
     )
     unlimited_joins c u (inr f) low new new_flags x same table e = λ forms l k. (
       subst (λ g. KeepsBoth forms l q new g) (sym e)
           (join_free forms l mid flags (still_keeps forms l k) q asked_row c (free_entry mid (is_restricted flags) q c asked_row f) new x same table f.flag),
-      λ z. dropped_after mid new q c asked_row f.column x z ∙ within.reached.dropped z,
+      λ z. dropped_after mid new q c asked_row f.column x z ∙ carried.dropped z,
     )
 
 -- the constant that a call tells

@@ -34,8 +34,9 @@ use Rattle.cq_dict.specs.declared.table.Role.TheVariants.{Live, Dropped, Basic}
 use Rattle.cq_dict.specs.Roles.{AreOverColumns, IsAt, IsRow, IsExchanged, is_live, is_dropped, is_restricted, role_at, constant_at, factor_at}
 use Rattle.cq_dict.specs.Dict.{SameMeaning}
 use Rattle.cq_dict.proofs.Roles.{at_below, at_exists, at_one, role_is, role_live, constant_is, factor_is, dropped_at, live_at}
-use Rattle.cq_simplex.specs.Dictionary.{dictionary, IsReached}
-use Rattle.cq_simplex.specs.Answers.{IsMaximum, AreMultipliers, AreSpent, RisesWithoutEnd, IsWithin}
+use Rattle.cq_simplex.specs.Dictionary.{dictionary}
+use Rattle.cq_climb.specs.Climbs.{IsCarried}
+use Rattle.cq_simplex.specs.Answers.{IsMaximum, AreMultipliers, AreSpent, RisesWithoutEnd}
 use Rattle.cq_simplex.proofs.Roles.{dropped_after}
 use Rattle.cq_tableau.specs.declared.names.Name.{Name}
 use Rattle.cq_tableau.specs.Forms.{row_of, form_at, tableau}
@@ -55,14 +56,14 @@ pub search_feasible : (forms : List Linear) (l : List Constraint) (roles : List 
     → of_simplex.IsFeasible (is_restricted flags) (dictionary roles asked)
 search_feasible forms l roles flags s asked = searchable roles flags forms asked s.size s.sound.feasible
 
-pub reached_speaks : (old new : List Role) (flags : List Bool) (asked n : ℕ) → IsReached flags asked old n new → (forms : List Linear) (l : List Constraint)
+pub carried_speaks : (old new : List Role) (flags : List Bool) (asked : ℕ) → IsCarried old flags asked new → (forms : List Linear) (l : List Constraint)
     → Speaks forms l old flags → Speaks forms l new flags
-reached_speaks old new flags asked n r forms l s =
+carried_speaks old new flags asked r forms l s =
     let d = tableau old flags forms in
     let e = tableau new flags forms in
     let size = s.size ∙ sym r.size in
     let describes = still_describes old new forms r.size r.same s.describes in
-    let ch = changed old new flags forms asked n r in
+    let ch = changed old new flags forms asked r in
     record {
       table = r.table;
       size = size;
@@ -72,10 +73,10 @@ reached_speaks old new flags asked n r forms l s =
       dropped = still_dropped d e s.sound.written [] [] ch (λ z k. absurd k) l s.dropped;
     }
 
-pub reached_looks : (old new : List Role) (flags : List Bool) (asked n : ℕ) → IsReached flags asked old n new → LooksOn old new flags
-reached_looks old new flags asked n r = record {
+pub carried_looks : (old new : List Role) (flags : List Bool) (asked : ℕ) → IsCarried old flags asked new → LooksOn old new flags
+carried_looks old new flags asked r = record {
   size = r.size;
-  speaks = reached_speaks old new flags asked n r;
+  speaks = carried_speaks old new flags asked r;
   still = λ c h. r.dropped c ∙ h;
   only = λ c h. inr (sym (r.dropped c) ∙ h);
 }
@@ -168,25 +169,25 @@ quantities-negated [] = refl
 quantities-negated (m ∷ s) = ap (λ t. m.quantity ∷ t) (quantities-negated s)
 
 -- ---- what the search shows of a restricted row
-module _ (old : List Role) (flags : List Bool) (q budget : ℕ) (mid : List Role) (within : IsWithin old flags q budget mid) where
+module _ (old : List Role) (flags : List Bool) (q : ℕ) (mid : List Role) (carried : IsCarried old flags q mid) where
   below : q < length old
-  below = subst (λ n. q < n) within.reached.size (at_below mid q (Basic within.reached.asked_row.0) within.reached.asked_row.1)
+  below = subst (λ n. q < n) carried.size (at_below mid q (Basic carried.asked_row.0) carried.asked_row.1)
 
   there : (forms : List Linear) (l : List Constraint) → Speaks forms l old flags → Speaks forms l mid flags
-  there = reached_speaks old mid flags q within.exchanges within.reached
+  there = carried_speaks old mid flags q carried
 
   pub positive_rises : IsPositive (constant_at mid q) → RisesStill old flags q
-  positive_rises p forms l s = positive mid flags forms l (there forms l s).sound q (at_below mid q (Basic within.reached.asked_row.0) within.reached.asked_row.1) p
+  positive_rises p forms l s = positive mid flags forms l (there forms l s).sound q (at_below mid q (Basic carried.asked_row.0) carried.asked_row.1) p
 
   pub unlimited_rises : RisesWithoutEnd old flags q → RisesStill old flags q
   unlimited_rises u forms l s = unbounded_rises old flags forms l s.describes s.sound q below u
 
   module _ (v : ℚ) (multipliers : List Entry) (max : IsMaximum old flags q mid v) (m : AreMultipliers old flags q mid v multipliers) where
     abbrev pub mid_row : Row
-    mid_row = within.reached.asked_row.0
+    mid_row = carried.asked_row.0
 
     same_columns : quantities multipliers ≡ quantities mid_row.live
-    same_columns = ap quantities (m.entries mid_row within.reached.asked_row.1) ∙ quantities-negated mid_row.live
+    same_columns = ap quantities (m.entries mid_row carried.asked_row.1) ∙ quantities-negated mid_row.live
 
     some_entry : (s : List Entry) (z : ℕ) → Has z (quantities s) → (n : Entry) × rows.Has n s × (n.quantity ≡ z)
     some_entry [] z h = absurd h
@@ -207,20 +208,20 @@ module _ (old : List Role) (flags : List Bool) (q budget : ℕ) (mid : List Role
       pub columns_dropped : (forms : List Linear) (l : List Constraint) → Speaks forms l old flags → Speaks forms l new flags
       columns_dropped forms l s =
           drop_speaks forms l mid flags (there forms l s) (quantities multipliers) new d columns_made
-          (λ z h w k. columns_zero forms l mid flags (there forms l s) q mid_row within.reached.asked_row.1 constant_zero
-          (optimal old flags forms q mid v multipliers mid_row within.reached.asked_row.1 m) w k (not_below forms l s w k) z (subst (Has z) same_columns h))
+          (λ z h w k. columns_zero forms l mid flags (there forms l s) q mid_row carried.asked_row.1 constant_zero
+          (optimal old flags forms q mid v multipliers mid_row carried.asked_row.1 m) w k (not_below forms l s w k) z (subst (Has z) same_columns h))
 
       pub dropped_looks : LooksOn old new flags
       dropped_looks = record {
-        size = d.size ∙ within.reached.size;
+        size = d.size ∙ carried.size;
         speaks = columns_dropped;
-        still = λ c h. d.still c (within.reached.dropped c ∙ h);
-        only = λ c h. elim (d.only c h) [ inl g ↦ inl (columns_restricted c g) | inr g ↦ inr (sym (within.reached.dropped c) ∙ g) ];
+        still = λ c h. d.still c (carried.dropped c ∙ h);
+        only = λ c h. elim (d.only c h) [ inl g ↦ inl (columns_restricted c g) | inr g ↦ inr (sym (carried.dropped c) ∙ g) ];
       }
 
       pub flat_now : IsFlatNow old new flags q
       flat_now forms l s =
-          row_flat forms l mid flags (there forms l s) q mid_row within.reached.asked_row.1 constant_zero new (subst (λ c. DropsEach mid c new) same_columns d)
+          row_flat forms l mid flags (there forms l s) q mid_row carried.asked_row.1 constant_zero new (subst (λ c. DropsEach mid c new) same_columns d)
 
 -- ---- a restricted row
 -- it is not below zero
@@ -236,11 +237,11 @@ restricted_zero forms l roles flags s q own at r h =
     (s.sound.feasible.constants q (at_below roles q (Basic own) at) r)))
 
 -- the search's greatest value of it is zero
-pub at_zero : (old : List Role) (flags : List Bool) (q budget : ℕ) (mid : List Role) (within : IsWithin old flags q budget mid) (v : ℚ) → IsMaximum old flags q mid v
-    → is_restricted flags q ≡ true → (forms : List Linear) (l : List Constraint) → Speaks forms l old flags → v ≤ℚ 0ℚ → within.reached.asked_row.0.constant ≡ 0ℚ
-at_zero old flags q budget mid within v max r forms l s h =
-    let own = within.reached.asked_row in
-    restricted_zero forms l mid flags (reached_speaks old mid flags q within.exchanges within.reached forms l s) q own.0 own.1 r
+pub at_zero : (old : List Role) (flags : List Bool) (q : ℕ) (mid : List Role) (carried : IsCarried old flags q mid) (v : ℚ) → IsMaximum old flags q mid v
+    → is_restricted flags q ≡ true → (forms : List Linear) (l : List Constraint) → Speaks forms l old flags → v ≤ℚ 0ℚ → carried.asked_row.0.constant ≡ 0ℚ
+at_zero old flags q mid carried v max r forms l s h =
+    let own = carried.asked_row in
+    restricted_zero forms l mid flags (carried_speaks old mid flags q carried forms l s) q own.0 own.1 r
     (subst (λ w. w ≤ℚ 0ℚ) (greatest_constant old mid flags q v max own.0 own.1) h)
 
 -- ---- a column

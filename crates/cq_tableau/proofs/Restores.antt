@@ -25,8 +25,9 @@ use Rattle.cq_dict.specs.Roles.{Quantities, AreOverColumns, ChangesKind, IsAt, I
 use Rattle.cq_dict.specs.Dict.{SameMeaning, DefinesLast}
 use Rattle.cq_dict.proofs.Roles.{at_below, at_last, dropped_at, equal_or_not, is_row_of, live_at, role_dropped, row_of}
 use Rattle.cq_simplex.specs.Dictionary.{dictionary}
+use Rattle.cq_climb.specs.Climbs.{IsCarried, IsSpentAfter}
 use Rattle.cq_simplex.specs.declared.Aim.TheVariants.{Best}
-use Rattle.cq_simplex.specs.Answers.{AreMultipliers, IsWithin, IsOverflow, AreSpent, RisesWithoutEnd}
+use Rattle.cq_simplex.specs.Answers.{AreMultipliers, IsOverflow, AreSpent, RisesWithoutEnd}
 use Rattle.cq_tableau.specs.declared.names.Name.{Name}
 use Rattle.cq_tableau.specs.Forms.{form_at, tableau, Describes}
 use Rattle.cq_tableau.specs.Keeps.{Speaks, StillSpeaks}
@@ -36,7 +37,7 @@ use Rattle.cq_tableau.proofs.Tied.{linked, still_describes, feasible_of, flag_be
 use Rattle.cq_tableau.proofs.Steps.{changed_more, feasible_more, described_row, form_last, more_length}
 use Rattle.cq_tableau.proofs.Storing.{placed_below, placed_value}
 use Rattle.spec_simplex.proofs.Solutions.{true_not_false}
-use Rattle.cq_tableau.proofs.Looks.{reached_speaks, search_feasible}
+use Rattle.cq_tableau.proofs.Looks.{carried_speaks, search_feasible}
 
 -- ---- columns restored
 pub restores_further : (flags : List Bool) (old mid new : List Role) → Restores flags old mid → Restores flags mid new → Restores flags old new
@@ -110,18 +111,18 @@ restored_speaks flags old new r forms l s =
     stay z h o = elim (r.turned z h) [ inl g ↦ g | inr g ↦ absurd (true_not_false (is_restricted flags z) g.1 o) ]
 
 -- ---- the row is raised then
-module _ (flags : List Bool) (old mid : List Role) (r : Restores flags old mid) (n : NoneBelow flags (length old) mid) (q budget : ℕ) (new : List Role)
-    (within : IsWithin mid flags q budget new) where
+module _ (flags : List Bool) (old mid : List Role) (r : Restores flags old mid) (n : NoneBelow flags (length old) mid) (q : ℕ) (new : List Role)
+    (carried : IsCarried mid flags q new) where
   pub raised_speaks : StillSpeaks old new flags
-  raised_speaks forms l s = reached_speaks mid new flags q within.exchanges within.reached forms l (restored_speaks flags old mid r forms l s)
+  raised_speaks forms l s = carried_speaks mid new flags q carried forms l (restored_speaks flags old mid r forms l s)
 
   pub raised_highest : (v : ℚ) (multipliers : List Entry) → AreMultipliers mid flags q new v multipliers → (own : Row) → IsAt new q (Basic own)
       → IsHighest flags q old new own
   raised_highest v multipliers m own at = record {
     speaks = raised_speaks;
-    none = λ z h. let g = sym (within.reached.dropped z) ∙ h in
+    none = λ z h. let g = sym (carried.dropped z) ∙ h in
         n z (subst (λ k. z < k) r.size (at_below mid z Dropped (role_dropped mid z g))) g;
-    only = λ z h. r.only z (sym (within.reached.dropped z) ∙ h);
+    only = λ z h. r.only z (sym (carried.dropped z) ∙ h);
     is_row = at;
     positive = λ y h. m.positive y (subst (rows.Has y) (sym (m.entries own at)) h);
     restricted = λ y h. m.restricted y (subst (rows.Has y) (sym (m.entries own at)) h);
@@ -186,40 +187,40 @@ entry_mentioned (n ∷ s) zero m l e = inl (ap (λ (t : Entry). t.quantity) e)
 entry_mentioned (n ∷ s) (suc i) m l e = inr (entry_mentioned s i m (omega (arith, l)) e)
 
 -- ---- what the search leaves, with its own flags, which are the same
-module _ (flags : List Bool) (old mid : List Role) (r : Restores flags old mid) (n : NoneBelow flags (length old) mid) (q budget : ℕ)
-    (mid_flags : List Bool) (e : mid_flags ≡ flags) (new : List Role) (w : IsWithin mid mid_flags q budget new) where
-  same_within : IsWithin mid flags q budget new
-  same_within = subst (λ f. IsWithin mid f q budget new) e w
+module _ (flags : List Bool) (old mid : List Role) (r : Restores flags old mid) (n : NoneBelow flags (length old) mid) (q : ℕ)
+    (mid_flags : List Bool) (e : mid_flags ≡ flags) (new : List Role) (w : IsCarried mid mid_flags q new) where
+  same_carried : IsCarried mid flags q new
+  same_carried = subst (λ f. IsCarried mid f q new) e w
 
   pub found_highest : (v : ℚ) (multipliers : List Entry) → AreMultipliers mid mid_flags q new v multipliers → (names : List Name) (found : List (ℕ × ℚ))
       → ((own : Row) → IsAt new q (Basic own) → found ≡ members_of names own) → AreHighest names q old flags found
   found_highest v multipliers m names found is =
-      let own = same_within.reached.asked_row in
+      let own = same_carried.asked_row in
       record {
         new = new;
         own = own.0;
-        highest = raised_highest flags old mid r n q budget new same_within v multipliers (subst (λ f. AreMultipliers mid f q new v multipliers) e m) own.0 own.1;
+        highest = raised_highest flags old mid r n q new same_carried v multipliers (subst (λ f. AreMultipliers mid f q new v multipliers) e m) own.0 own.1;
         is = is own.0 own.1;
       }
 
   pub raise_refuses : (pair : Pair) → IsOverflow mid_flags q new pair → RefusesRaised q old flags pair
   raise_refuses pair o = record {
     roles = new;
-    speaks = raised_speaks flags old mid r n q budget new same_within;
-    is_row = same_within.reached.asked_row;
+    speaks = raised_speaks flags old mid r n q new same_carried;
+    is_row = same_carried.asked_row;
     row = o.row;
     column = o.column;
     made = o.made;
     refused = o.refused;
   }
 
-  pub raise_spends : (k : ℕ) → IsRow old q → AreSpent mid mid_flags q Best k new → SpendsRaised q old flags k
-  raise_spends k row s = record {
-    roles = mid;
-    speaks = restored_speaks flags old mid r;
-    is_row = r.rows q row;
+  pub raise_spends : (k : ℕ) → IsSpentAfter mid mid_flags q Best k new → SpendsRaised q old flags k
+  raise_spends k s = record {
+    roles = s.from;
+    speaks = λ forms l h. carried_speaks mid s.from flags q (subst (λ f. IsCarried mid f q s.from) e s.carried) forms l (restored_speaks flags old mid r forms l h);
+    is_row = s.carried.asked_row;
     last = new;
-    spent = subst (λ f. AreSpent mid f q Best k new) e s;
+    spent = subst (λ f. AreSpent s.from f q Best k new) e s.spent;
   }
 
 pub restored_feasible : (flags : List Bool) (old mid : List Role) → Restores flags old mid → (q : ℕ) → HasGreatest old flags q → (mid_flags : List Bool) → mid_flags ≡ flags

@@ -22,7 +22,8 @@ use Rattle.cq_dict.specs.declared.table.Role.TheVariants.{Live, Dropped, Basic}
 use Rattle.cq_dict.specs.Roles.{AreOverColumns, IsMet, IsAt, is_live, is_dropped, is_restricted, role_at, constant_at, constant_in, factor_in}
 use Rattle.cq_dict.specs.Dict.{SameMeaning}
 use Rattle.cq_dict.proofs.Roles.{live_at, dropped_at, role_live, role_dropped, role_is, constant_is, factor_is, row_is, at_exists, at_below}
-use Rattle.cq_simplex.specs.Dictionary.{dictionary, IsReached}
+use Rattle.cq_simplex.specs.Dictionary.{dictionary}
+use Rattle.cq_climb.specs.Climbs.{IsCarried}
 use Rattle.cq_simplex.specs.Answers.{IsSolution, IsMaximum, AreMultipliers, RisesWithoutEnd}
 use Rattle.spec_tableau.specs.Reach.{Rises, IsGreatest}
 use Rattle.spec_tableau.specs.Tableau.{numbers, AllIn, right_side, MeetsRows, IsShaped, Linked, Sound, IsOptimal, Changed, IsFeasible, HasFeasibleNumbers, Invariant}
@@ -165,9 +166,9 @@ optimal roles flags forms asked new v multipliers own a m =
     let e = m.entries own a in
     optimal_of new flags forms own.live (λ n i. m.positive n (subst (rows.Has n) (sym e) i)) (λ n i. m.restricted n (subst (rows.Has n) (sym e) i))
 
--- ---- exchanges of the search
-pub changed : (old new : List Role) (flags : List Bool) (forms : List Linear) (asked n : ℕ) → IsReached flags asked old n new → Changed (tableau old flags forms) (tableau new flags forms) [] []
-changed old new flags forms asked n r = record {
+-- ---- exchanges of the climb and of the search
+pub changed : (old new : List Role) (flags : List Bool) (forms : List Linear) (asked : ℕ) → IsCarried old flags asked new → Changed (tableau old flags forms) (tableau new flags forms) [] []
+changed old new flags forms asked r = record {
   count = let e = r.size in omega arith;
   form = λ z h. refl;
   drops_made = λ z k. absurd k;
@@ -274,8 +275,8 @@ module _ (roles : List Role) (flags : List Bool) (forms : List Linear) (asked : 
   }
 
 -- the search keeps the invariant
-pub reached_keeps : (old new : List Role) (flags : List Bool) (forms : List Linear) (l : List Constraint) (asked n : ℕ) → length flags ≡ length old → Describes old forms → Invariant (tableau old flags forms) l → IsReached flags asked old n new → Invariant (tableau new flags forms) l
-reached_keeps old new flags forms l asked n size d i r =
-    exchanged (tableau old flags forms) (tableau new flags forms) l i (changed old new flags forms asked n r)
+pub carried_invariant : (old new : List Role) (flags : List Bool) (forms : List Linear) (l : List Constraint) (asked : ℕ) → length flags ≡ length old → Describes old forms → Invariant (tableau old flags forms) l → IsCarried old flags asked new → Invariant (tableau new flags forms) l
+carried_invariant old new flags forms l asked size d i r =
+    exchanged (tableau old flags forms) (tableau new flags forms) l i (changed old new flags forms asked r)
     (linked_written (tableau new flags forms) (linked new flags forms r.table (size ∙ sym r.size) (still_describes old new forms r.size r.same d)))
     (feasible new flags forms asked (size ∙ sym r.size) r.table r.feasible)

@@ -6,7 +6,8 @@ use Rattle.cq_dict.specs.Roles.{IsRow, PivotPair, is_live, is_restricted, factor
 use Rattle.cq_frac.specs.declared.Pair.{Pair}
 use Rattle.cq_frac.specs.Refused.{IsRefused}
 use Rattle.cq_row.specs.declared.Entry.{Entry}
-use Rattle.cq_simplex.specs.Answers.{IsMaximum, AreMultipliers}
+use Rattle.cq_simplex.specs.declared.Aim.TheVariants.{Positive}
+use Rattle.cq_simplex.specs.Answers.{IsMaximum, AreMultipliers, AreSpent}
 use Rattle.cq_tableau.specs.declared.raising.Raised.{Raised}
 use Rattle.cq_tableau.specs.declared.raising.Raised.TheVariants.{Rises, Best}
 use Rattle.cq_tableau.specs.Keeps.{Joins, StillKeeps, SameDropped}
@@ -39,3 +40,11 @@ pub record RefusesRaise (q : ℕ) (old : List Role) (flags : List Bool) (pair : 
   pub column : ℕ
   pub made : PivotPair roles row column pair.operation pair.left pair.right
   pub refused : IsRefused pair
+
+-- so many exchanges are made for the row in such roles, and another is due
+pub record SpendsRaise (q : ℕ) (old : List Role) (flags : List Bool) (n : ℕ) : Type 0 where
+  pub roles : List Role
+  pub keeps : StillKeeps old roles flags
+  pub is_row : IsRow roles q
+  pub last : List Role
+  pub spent : AreSpent roles flags q Positive n last

@@ -11,10 +11,11 @@ ghost use Rattle.cq_tableau.specs.Looked.{SpeaksOfSome, LooksOn, Blocks, LeavesR
 use crate::dropping::drop_all;
 use crate::names::Name;
 use crate::refuting::relation_of;
+use cq_climb::ascend;
 use cq_dict::dict::{Col, Dict};
 use cq_form::Constraint;
 use cq_row::entry_at;
-use cq_simplex::{Aim, Max, SimplexFault, maximise};
+use cq_simplex::{Aim, Max, SimplexFault};
 use cq_trail::Stack;
 use spec_linear::Relation;
 use std::alloc::Global;
@@ -75,7 +76,7 @@ fn look_at_row(dict: &mut Dict, alloc: Global, q: usize, pivots: u64) -> Result<
     ensures overflow { (pair : Pair) → result ≡ Err (Overflow pair) → RefusesLook dict.old.roles dict.old.restricted pair }
     ensures pivots { (n : ℕ) → result ≡ Err (Pivots n) → (n ≡ pivots) × SpendsLook dict.old.roles dict.old.restricted n }
 {
-    match maximise(dict, alloc, q, Aim::Positive, pivots)? {
+    match ascend(dict, alloc, q, Aim::Positive, pivots)? {
         Max::Positive => Ok(Seen::Rises),
         Max::Unbounded(_) => Ok(Seen::Rises),
         Max::At(_, columns) => {

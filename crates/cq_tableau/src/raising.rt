@@ -4,18 +4,17 @@ ghost use Rattle.std.specs.Prelude.{◌≡◌, ◌≤◌, ℕ, slice_set, true, 
 ghost use Rattle.spec_simplex.specs.Dictionary.{IsFeasible};
 ghost use Rattle.cq_frac.specs.declared.Pair.{Pair};
 ghost use Rattle.cq_simplex.specs.declared.SimplexFault.TheVariants.{Overflow, Pivots};
-ghost use Rattle.cq_simplex.specs.declared.Aim.TheVariants.{Positive};
-ghost use Rattle.cq_simplex.specs.Answers.{AreSpent};
 ghost use Rattle.cq_dict.specs.Roles.{IsRow, AreOverColumns, HasEntry, IsExchanged, is_restricted};
 ghost use Rattle.cq_dict.specs.Dict.{SameMeaning, RefusesPivot};
 ghost use Rattle.cq_simplex.specs.Dictionary.{dictionary};
-ghost use Rattle.cq_tableau.specs.Raised.{IsRaised, HasNoFreeColumn, RefusesRaise};
+ghost use Rattle.cq_tableau.specs.Raised.{IsRaised, HasNoFreeColumn, RefusesRaise, SpendsRaise};
 
+use cq_climb::ascend;
 use cq_dict::dict::{Col, Dict};
 use cq_frac::Frac;
 use cq_row::Entry;
 use cq_simplex::rising::free_column;
-use cq_simplex::{Aim, Max, SimplexFault, maximise};
+use cq_simplex::{Aim, Max, SimplexFault};
 use std::alloc::Global;
 
 /// What became of a quantity that is to be at least zero.
@@ -46,8 +45,8 @@ fn swap(dict: &mut Dict, q: usize, c: Col) -> Result<(), SimplexFault>
 
 /// Restricts the quantity of a row if it is above zero somewhere, or finds its greatest value.
 ///
-/// An unrestricted column of the row takes its place at once. Else the row is maximised until it is above zero, with
-/// `pivots` exchanges at most.
+/// An unrestricted column of the row takes its place at once. Else the row climbs and is maximised until it is above zero, with
+/// `pivots` exchanges at most of each.
 pub fn raise(dict: &mut Dict, alloc: Global, q: usize, pivots: u64) -> Result<Raised, SimplexFault>
     requires row { IsRow dict.old.roles q }
     requires feasible { IsFeasible (is_restricted dict.old.restricted) (dictionary dict.old.roles q) }
@@ -55,7 +54,7 @@ pub fn raise(dict: &mut Dict, alloc: Global, q: usize, pivots: u64) -> Result<Ra
     ensures saved { dict.new.saved ≡ dict.old.saved }
     ensures room { dict.old.room ≤ dict.new.room }
     ensures overflow { (pair : Pair) → result ≡ Err (Overflow pair) → RefusesRaise q dict.old.roles dict.old.restricted pair }
-    ensures pivots { (n : ℕ) → result ≡ Err (Pivots n) → (n ≡ pivots) × AreSpent dict.old.roles dict.old.restricted q Positive pivots dict.new.roles }
+    ensures pivots { (n : ℕ) → result ≡ Err (Pivots n) → (n ≡ pivots) × SpendsRaise q dict.old.roles dict.old.restricted n }
 {
     // the count's contract is what tells that the roles are a table
     prove!(q < dict.count());
@@ -82,9 +81,9 @@ fn raise_restricted(
     ensures saved { dict.new.saved ≡ dict.old.saved }
     ensures room { dict.old.room ≤ dict.new.room }
     ensures overflow { (pair : Pair) → result ≡ Err (Overflow pair) → RefusesRaise q dict.old.roles dict.old.restricted pair }
-    ensures pivots { (n : ℕ) → result ≡ Err (Pivots n) → (n ≡ pivots) × AreSpent dict.old.roles dict.old.restricted q Positive pivots dict.new.roles }
+    ensures pivots { (n : ℕ) → result ≡ Err (Pivots n) → (n ≡ pivots) × SpendsRaise q dict.old.roles dict.old.restricted n }
 {
-    match maximise(dict, alloc, q, Aim::Positive, pivots)? {
+    match ascend(dict, alloc, q, Aim::Positive, pivots)? {
         Max::Positive => {
             dict.restrict(q)?;
             Ok(Raised::Rises)

@@ -15,10 +15,11 @@ ghost use Rattle.cq_tableau.specs.Restored.{Restores, NoneBelow, HasGreatest, Ar
 use crate::names::Name;
 use crate::placing::place_known;
 use crate::refuting::add_members;
+use cq_climb::ascend;
 use cq_dict::dict::Dict;
 use cq_form::Form;
 use cq_frac::{Frac, VarId};
-use cq_simplex::{Aim, Max, SimplexFault, maximise};
+use cq_simplex::{Aim, Max, SimplexFault};
 use cq_trail::{Stack, Undo};
 use indexmap::IndexMap;
 use std::alloc::{AllocError, Global};
@@ -90,7 +91,7 @@ fn highest(
     ensures pivots { (n : ℕ) → result ≡ Err (Pivots n) → (n ≡ pivots) × SpendsRaised q dict.old.roles dict.old.restricted n }
 {
     restore_all(dict)?;
-    match maximise(dict, alloc, q, Aim::Best, pivots)? {
+    match ascend(dict, alloc, q, Aim::Best, pivots)? {
         Max::At(_, _) => {
             let found = members(alloc, names, dict, q)?;
             Ok(found)

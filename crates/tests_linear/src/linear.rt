@@ -3,6 +3,7 @@
 use cq_form::{Constraint, Form};
 use cq_frac::{Frac, VarId};
 use cq_linear::store::{Extent, Store, StoreFault, Told};
+use cq_trail::Undo;
 use spec_linear::Relation;
 use std::alloc::Global;
 use std::test::Fail;
@@ -23,7 +24,7 @@ enum Step<'a> {
     Entails(Relation, Products<'a>, i128, bool),
 }
 
-static STEPS: [&[Step]; 12] = [
+static STEPS: [&[Step]; 19] = [
     // x0 >= 1, x1 >= x0 + 2
     &[
         Step::Keeps(Relation::Ge, &[(1, 0)], -1, 0),
@@ -149,6 +150,64 @@ static STEPS: [&[Step]; 12] = [
         ),
         Step::Keeps(Relation::Eq, &[(1, 1)], -3, 1),
     ],
+    // 1 =< x0 =< 1
+    &[
+        Step::Keeps(Relation::Ge, &[(1, 0)], -1, 0),
+        Step::Keeps(Relation::Ge, &[(-1, 0)], 1, 1),
+        Step::Falls(&[(1, 0)], 0, Some(1)),
+    ],
+    // x0 > x1 > x2 > x0
+    &[
+        Step::Keeps(Relation::Gt, &[(1, 0), (-1, 1)], 0, 0),
+        Step::Keeps(Relation::Gt, &[(1, 1), (-1, 2)], 0, 0),
+        Step::Refuses(
+            Relation::Gt,
+            &[(-1, 0), (1, 2)],
+            0,
+            &[(3, 1), (1, 1), (2, 1)],
+        ),
+    ],
+    // x0 >= 3, x0 >= 5
+    &[
+        Step::Keeps(Relation::Ge, &[(1, 0)], -3, 0),
+        Step::Keeps(Relation::Ge, &[(1, 0)], -5, 0),
+        Step::Falls(&[(1, 0)], 0, Some(5)),
+        Step::Entails(Relation::Gt, &[(1, 0)], -4, true),
+        Step::Entails(Relation::Gt, &[(1, 0)], -5, false),
+    ],
+    // x0 + x1 =< 4 over columns that are not below zero
+    &[
+        Step::Keeps(Relation::Ge, &[(-1, 0), (-1, 1)], 4, 0),
+        Step::Keeps(Relation::Ge, &[(1, 0)], 0, 0),
+        Step::Keeps(Relation::Ge, &[(1, 1)], 0, 0),
+        Step::Reaches(&[(1, 0), (2, 1)], 0, Some(8)),
+    ],
+    // x0 < 5, so that 5 is not attained
+    &[
+        Step::Keeps(Relation::Gt, &[(-1, 0)], 5, 0),
+        Step::Reaches(&[(1, 0)], 0, Some(5)),
+        Step::Refuses(Relation::Eq, &[(1, 0)], -5, &[(1, 1), (2, 1)]),
+    ],
+    // x0 > 0, so not -1, and 2 maybe
+    &[
+        Step::Keeps(Relation::Gt, &[(1, 0)], 0, 0),
+        Step::Refuses(Relation::Eq, &[(1, 0)], 1, &[(2, -1), (1, 1)]),
+        Step::Keeps(Relation::Eq, &[(1, 0)], -2, 1),
+    ],
+    // equations with new variables: one more fixes none, and one fixes all three
+    &[
+        Step::Keeps(Relation::Ne, &[(1, 0)], 0, 0),
+        Step::Keeps(Relation::Eq, &[(1, 0), (-1, 1)], 0, 0),
+        Step::Keeps(Relation::Eq, &[(1, 1), (1, 2)], -3, 0),
+        Step::Keeps(Relation::Eq, &[(2, 3)], -1, 1),
+        Step::Refuses(
+            Relation::Eq,
+            &[(1, 1)],
+            0,
+            &[(1, 1), (2, -1), (5, -1), (1, -1), (2, 1), (5, 1)],
+        ),
+        Step::Keeps(Relation::Eq, &[(1, 2)], -2, 3),
+    ],
 ];
 
 fn number(n: i128) -> Frac {
@@ -262,5 +321,60 @@ fn lists_are_kept_refused_and_asked_about(rt: HostRuntime) -> Result<(), Fail> {
             assert!(rt; comes_as_wanted(&mut store, rt.alloc(), step)?);
         }
     }
+    Ok(())
+}
+
+/// x0 >= 0, x1 = 0, x2 =\= 0, x3 > 0: two inequalities
+const MIXED: [(Relation, Products); 4] = [
+    (Relation::Ge, &[(1, 0)]),
+    (Relation::Eq, &[(1, 1)]),
+    (Relation::Ne, &[(1, 2)]),
+    (Relation::Gt, &[(1, 3)]),
+];
+
+#[test]
+fn enough_is_a_power_of_two(rt: HostRuntime) -> Result<(), Fail> {
+    let mut store = Store::new(rt.alloc(), 20);
+    assert_eq!(rt; store.enough(), Some(2));
+    for (relation, form) in &MIXED {
+        store.tell(constraint(rt.alloc(), *relation, *form, 0)?)?;
+    }
+    assert_eq!(rt; store.enough(), Some(8));
+    for x in 4..64 {
+        store.tell(constraint(rt.alloc(), Relation::Ge, &[(1, x)], 0)?)?;
+    }
+    assert_eq!(rt; store.enough(), Some(9_223_372_036_854_775_808));
+    store.tell(constraint(rt.alloc(), Relation::Ge, &[(1, 64)], 0)?)?;
+    assert_eq!(rt; store.enough(), None);
+    Ok(())
+}
+
+#[test]
+fn a_store_goes_back_to_a_mark(rt: HostRuntime) -> Result<(), Fail> {
+    let mut store = Store::new(rt.alloc(), 20);
+    assert!(rt;
+        keeps(
+            &mut store,
+            constraint(rt.alloc(), Relation::Ge, &[(1, 0)], -1)?,
+            0
+        )
+    );
+    let mark = store.mark()?;
+    assert!(rt;
+        keeps(
+            &mut store,
+            constraint(rt.alloc(), Relation::Eq, &[(1, 0)], -3)?,
+            1
+        )
+    );
+    let form = form_of(rt.alloc(), &[(1, 0)], 0)?;
+    assert!(rt; is_reached(store.sup(&form), Some(3)));
+    let other = constraint(rt.alloc(), Relation::Eq, &[(1, 0)], -4)?;
+    assert!(rt; refuses(&mut store, other, &[(3, 1), (2, -1)]));
+    store.undo(mark);
+    assert_eq!(rt; store.told().len(), 1);
+    assert!(rt; store.value(VarId(0)).is_none());
+    assert!(rt; is_reached(store.inf(&form), Some(1)));
+    assert!(rt; is_reached(store.sup(&form), None));
     Ok(())
 }

@@ -9,6 +9,7 @@ ghost use Rattle.cq_dict.specs.Roles.{AreOverColumns, is_restricted};
 ghost use Rattle.cq_simplex.specs.Checked.{IsRowFeasible};
 ghost use Rattle.cq_simplex.specs.Dictionary.{dictionary};
 
+use cq_climb::ascend;
 use cq_dict::dict::Dict;
 use cq_frac::{Frac, Refusal};
 use cq_row::Entry;
@@ -211,11 +212,22 @@ fn shown(alloc: Global, found: &Result<Max, SimplexFault>) -> Result<String, All
     }
 }
 
-fn answer(alloc: Global, problem: &Problem, aim: Aim, budget: u64) -> Result<String, Fail> {
+/// What the search finds, or the climb and the search.
+fn answer(
+    alloc: Global,
+    problem: &Problem,
+    climbs: bool,
+    aim: Aim,
+    budget: u64,
+) -> Result<String, Fail> {
     let (mut dict, row) = made(alloc, problem)?;
     if row < dict.count() && dict.is_row(row) {
         if is_feasible(&dict) {
-            let found = maximise(&mut dict, alloc, row, aim, budget);
+            let found = if climbs {
+                ascend(&mut dict, alloc, row, aim, budget)
+            } else {
+                maximise(&mut dict, alloc, row, aim, budget)
+            };
             return Ok(shown(alloc, &found)?);
         }
     }
@@ -225,7 +237,31 @@ fn answer(alloc: Global, problem: &Problem, aim: Aim, budget: u64) -> Result<Str
 #[test]
 fn rows_have_their_maxima(rt: HostRuntime) -> Result<(), Fail> {
     for (problem, aim, budget, expected) in &CASES {
-        let text = answer(rt.alloc(), *problem, *aim, *budget)?;
+        let text = answer(rt.alloc(), *problem, false, *aim, *budget)?;
+        assert_eq!(rt; text.as_str(), *expected);
+    }
+    Ok(())
+}
+
+// Of the two columns the second gains 8 and the first 4. On the box one exchange of the climb and one of the search are not enough.
+// On Beale's example the climb takes two exchanges, where the search by itself takes six.
+const CLIMBS: [(&Problem, Aim, u64, &str); 10] = [
+    (&TWO_COLUMNS, Aim::Best, 0, "0 pivots and no end"),
+    (&TWO_COLUMNS, Aim::Best, 1, "8 0:1 2:2"),
+    (&TWO_COLUMNS, Aim::Positive, 1, "positive"),
+    (&BOX, Aim::Best, 1, "1 pivots and no end"),
+    (&BOX, Aim::Best, 2, "3 3:1 4:1 5:1"),
+    (&BEALE, Aim::Best, 2, "1r20 1:15 3:21r2 5:3r2 6:1r20"),
+    (&NO_ROW, Aim::Best, 1, "unbounded along 0"),
+    (&FREE_COLUMN, Aim::Positive, 9, "unbounded along 1"),
+    (&FALLING, Aim::Best, 0, "0 0:2"),
+    (&LARGE, Aim::Best, 1, "a number past 128 bits"),
+];
+
+#[test]
+fn rows_that_climb_have_their_maxima(rt: HostRuntime) -> Result<(), Fail> {
+    for (problem, aim, budget, expected) in &CLIMBS {
+        let text = answer(rt.alloc(), *problem, true, *aim, *budget)?;
         assert_eq!(rt; text.as_str(), *expected);
     }
     Ok(())

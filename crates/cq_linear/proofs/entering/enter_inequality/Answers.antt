@@ -87,10 +87,7 @@ returns-in_err-raise-clause-pivots c = λ n e.
     let told = c.args.told.now in
     let a = asked_of _ _ _ _ c.c.view_is _ _ _ c.in_ok-q.ensures.asked in
     let f = spent c.from_residual-in_err-raise.result c.in_err-raise.field-0.0 n c.from_residual-in_err-raise.ensures.1 e in
-    let o = c.in_err-raise.ensures.pivots n (ap Err f) in (
-      o.0,
-      subst (λ (m : ℕ). MayTake told (Only c.args.c.now) NoQuestion m) (sym o.0) (raise_spent told _ _ c.requires.stored c.args.c.now _ _ _ a c.raise.new.dict.roles c.args.pivots o.1),
-    )
+    let o = c.in_err-raise.ensures.pivots n (ap Err f) in (o.0, raise_spent told _ _ c.requires.stored c.args.c.now _ _ _ a n o.1)
 
 pub row_certificate-requires-clause-row : goal.row_certificate-requires-clause-row
 row_certificate-requires-clause-row c =

@@ -1,16 +1,20 @@
-use Rattle.std.proofs.Common.{◌≡◌, ℕ, Err, ap, sym, subst, ◌∙◌}
+use Rattle.std.proofs.Common.{◌≡◌, ℕ, List, Err, ap, sym, subst, ◌∙◌}
+use Rattle.std.specs.Prelude.{IfSome}
 use Rattle.spec_rational.specs.Rational.{0ℚ}
 use Rattle.spec_rational.specs.Sums.{Mentions}
-use Rattle.spec_linear.specs.Form.{negated_form}
+use Rattle.spec_linear.specs.Form.{IsForm, negated_form}
 use Rattle.spec_linear.specs.Solution.{Constraint}
 use Rattle.spec_limits.specs.Asked.{NoQuestion}
 use Rattle.cq_dict.specs.DictValue.{quantities_of}
 use Rattle.cq_dict.specs.Roles.{Quantities, constant_at}
-use Rattle.cq_tableau.specs.Stored.{IsKnown, IsStored}
+use Rattle.cq_tableau.specs.Stored.{IsKnown, IsPlaced, IsStored}
 use Rattle.cq_tableau.proofs.Restores.{undone}
 use Rattle.cq_tableau.proofs.Storing.{placed_known}
 use Rattle.cq_linear.specs.declared.equating.Approached.{Approached}
 use Rattle.cq_linear.specs.declared.store.StoreFault.TheVariants.{Overflow, Pivots}
+use Rattle.cq_row.specs.declared.Entry.{Entry}
+use Rattle.cq_linear.specs.Alone.{IsPlaceBehind}
+use Rattle.cq_linear.proofs.Alone.{new_if}
 use Rattle.cq_linear.specs.Equated.{IsRowBehind, Crosses, StaysBelow, OfJoining, IsApproached}
 use Rattle.cq_linear.specs.StoreValue.{MayRefuse, MayTake, Only}
 use Rattle.cq_linear.proofs.Approach.{joining}
@@ -25,7 +29,7 @@ approach-requires c =
       told = c.args.told.now;
       names = c.place.new.names.now;
       constraint = k;
-      joins = joining c.args.told.now c.place.new.names.now k _ _ c.mark.ensures.now (p.stored c.args.told.now c.requires.stored) _ _ c.deref.ensures.value p.placed p.in_order _
+      joins = joining c.args.told.now c.place.new.names.now k _ _ c.mark.ensures.now (p.stored c.args.told.now c.requires.stored) _ _ c.deref-2.ensures.value p.placed p.in_order _
           c.constant.ensures;
     }
 
@@ -36,8 +40,8 @@ enter_zero-requires-clause-behind c =
     let k : Constraint = record { relation = c.c.inside.relation; form = c.c.inside.form } in
     let p = c.in_ok-places.ensures in
     let new = c.approach.new.dict in
-    let j = joining told names k _ _ c.mark.ensures.now (p.stored told c.requires.stored) _ _ c.deref.ensures.value p.placed p.in_order _ c.constant.ensures in
-    let a = subst (λ (y : Approached). OfJoining (quantities_of c.mark.new.self) c.deref.result.now c.constant.result (IsApproached new.roles new.restricted y)) c.in-Ok-Zero.field-0-is
+    let j = joining told names k _ _ c.mark.ensures.now (p.stored told c.requires.stored) _ _ c.deref-2.ensures.value p.placed p.in_order _ c.constant.ensures in
+    let a = subst (λ (y : Approached). OfJoining (quantities_of c.mark.new.self) c.deref-2.result.now c.constant.result (IsApproached new.roles new.restricted y)) c.in-Ok-Zero.field-0-is
     c.in-Ok-Zero.ensures.approached in
     subst (λ (z : Quantities). IsRowBehind told names c.args.c.now z.roles z.restricted c.in-Ok-Zero.q) (sym c.forget.ensures.now)
     (subst (λ (z : Constraint). IsRowBehind told names z new.roles new.restricted c.in-Ok-Zero.q) c.c.view_is (a told names k j).0)
@@ -49,20 +53,20 @@ enter_zero-requires-clause-zero c =
     let k : Constraint = record { relation = c.c.inside.relation; form = c.c.inside.form } in
     let p = c.in_ok-places.ensures in
     let new = c.approach.new.dict in
-    let j = joining told names k _ _ c.mark.ensures.now (p.stored told c.requires.stored) _ _ c.deref.ensures.value p.placed p.in_order _ c.constant.ensures in
-    let a = subst (λ (y : Approached). OfJoining (quantities_of c.mark.new.self) c.deref.result.now c.constant.result (IsApproached new.roles new.restricted y)) c.in-Ok-Zero.field-0-is
+    let j = joining told names k _ _ c.mark.ensures.now (p.stored told c.requires.stored) _ _ c.deref-2.ensures.value p.placed p.in_order _ c.constant.ensures in
+    let a = subst (λ (y : Approached). OfJoining (quantities_of c.mark.new.self) c.deref-2.result.now c.constant.result (IsApproached new.roles new.restricted y)) c.in-Ok-Zero.field-0-is
     c.in-Ok-Zero.ensures.approached in
     subst (λ (z : Quantities). constant_at z.roles c.in-Ok-Zero.q ≡ 0ℚ) (sym c.forget.ensures.now) (a told names k j).1
 
-pub enter_by_column-requires-clause-crosses : goal.enter_by_column-requires-clause-crosses
-enter_by_column-requires-clause-crosses c =
+pub enter_crossing-requires-clause-crosses : goal.enter_crossing-requires-clause-crosses
+enter_crossing-requires-clause-crosses c =
     let told = c.args.told.now in
     let names = c.place.new.names.now in
     let k : Constraint = record { relation = c.c.inside.relation; form = c.c.inside.form } in
     let p = c.in_ok-places.ensures in
     let new = c.approach.new.dict in
-    let j = joining told names k _ _ c.mark.ensures.now (p.stored told c.requires.stored) _ _ c.deref.ensures.value p.placed p.in_order _ c.constant.ensures in
-    let a = subst (λ (y : Approached). OfJoining (quantities_of c.mark.new.self) c.deref.result.now c.constant.result (IsApproached new.roles new.restricted y)) c.in-Ok-Crossing.field-0-is
+    let j = joining told names k _ _ c.mark.ensures.now (p.stored told c.requires.stored) _ _ c.deref-2.ensures.value p.placed p.in_order _ c.constant.ensures in
+    let a = subst (λ (y : Approached). OfJoining (quantities_of c.mark.new.self) c.deref-2.result.now c.constant.result (IsApproached new.roles new.restricted y)) c.in-Ok-Crossing.field-0-is
     c.in-Ok-Crossing.ensures.approached in
     subst (λ (z : Quantities). Crosses told names c.args.c.now z.roles z.restricted c.in-Ok-Crossing.q c.in-Ok-Crossing.column) (sym c.forget-in-Ok-Crossing.ensures.now)
     (subst (λ (z : Constraint). Crosses told names z new.roles new.restricted c.in-Ok-Crossing.q c.in-Ok-Crossing.column) c.c.view_is (a told names k j))
@@ -89,8 +93,8 @@ below_certificate-requires-clause-below c =
     let k : Constraint = record { relation = c.c.inside.relation; form = c.c.inside.form } in
     let p = c.in_ok-places.ensures in
     let new = c.approach.new.dict in
-    let j = joining told names k _ _ c.mark.ensures.now (p.stored told c.requires.stored) _ _ c.deref.ensures.value p.placed p.in_order _ c.constant.ensures in
-    let a = subst (λ (y : Approached). OfJoining (quantities_of c.mark.new.self) c.deref.result.now c.constant.result (IsApproached new.roles new.restricted y)) c.in-Ok-Below.field-0-is
+    let j = joining told names k _ _ c.mark.ensures.now (p.stored told c.requires.stored) _ _ c.deref-2.ensures.value p.placed p.in_order _ c.constant.ensures in
+    let a = subst (λ (y : Approached). OfJoining (quantities_of c.mark.new.self) c.deref-2.result.now c.constant.result (IsApproached new.roles new.restricted y)) c.in-Ok-Below.field-0-is
     c.in-Ok-Below.ensures.approached in
     subst (λ (z : Constraint). StaysBelow told z.form) c.c.view_is (a told names k j)
 
@@ -125,8 +129,8 @@ above_certificate-requires-clause-above c =
     let k : Constraint = record { relation = c.c.inside.relation; form = c.c.inside.form } in
     let p = c.in_ok-places.ensures in
     let new = c.approach.new.dict in
-    let j = joining told names k _ _ c.mark.ensures.now (p.stored told c.requires.stored) _ _ c.deref.ensures.value p.placed p.in_order _ c.constant.ensures in
-    let a = subst (λ (y : Approached). OfJoining (quantities_of c.mark.new.self) c.deref.result.now c.constant.result (IsApproached new.roles new.restricted y)) c.in-Ok-Above.field-0-is
+    let j = joining told names k _ _ c.mark.ensures.now (p.stored told c.requires.stored) _ _ c.deref-2.ensures.value p.placed p.in_order _ c.constant.ensures in
+    let a = subst (λ (y : Approached). OfJoining (quantities_of c.mark.new.self) c.deref-2.result.now c.constant.result (IsApproached new.roles new.restricted y)) c.in-Ok-Above.field-0-is
     c.in-Ok-Above.ensures.approached in
     subst (λ (z : Constraint). StaysBelow told (negated_form z.form)) c.c.view_is (a told names k j)
 
@@ -136,7 +140,7 @@ returns-clause-overflow c = λ pair e.
     let names = c.place.new.names.now in
     let k : Constraint = record { relation = c.c.inside.relation; form = c.c.inside.form } in
     let p = c.in_ok-places.ensures in
-    let j = joining told names k _ _ c.mark.ensures.now (p.stored told c.requires.stored) _ _ c.deref.ensures.value p.placed p.in_order _ c.constant.ensures in
+    let j = joining told names k _ _ c.mark.ensures.now (p.stored told c.requires.stored) _ _ c.deref-2.ensures.value p.placed p.in_order _ c.constant.ensures in
     let f = told_pair c.in-Err.fault c.from.result pair c.from.ensures (one_fault c.from.result (Overflow pair) e) in
     subst (λ (z : Constraint). MayRefuse told (Only z) NoQuestion pair) c.c.view_is (c.in-Err.ensures.overflow pair (ap Err f) told names k j)
 
@@ -146,7 +150,18 @@ returns-clause-pivots c = λ n e.
     let names = c.place.new.names.now in
     let k : Constraint = record { relation = c.c.inside.relation; form = c.c.inside.form } in
     let p = c.in_ok-places.ensures in
-    let j = joining told names k _ _ c.mark.ensures.now (p.stored told c.requires.stored) _ _ c.deref.ensures.value p.placed p.in_order _ c.constant.ensures in
+    let j = joining told names k _ _ c.mark.ensures.now (p.stored told c.requires.stored) _ _ c.deref-2.ensures.value p.placed p.in_order _ c.constant.ensures in
     let f = told_number c.in-Err.fault c.from.result n c.from.ensures (one_fault c.from.result (Pivots n) e) in
     let o = c.in-Err.ensures.pivots n (ap Err f) in
     (o.0, subst (λ (z : Constraint). MayTake told (Only z) NoQuestion n) c.c.view_is (o.1 told names k j))
+
+pub enter_crossing-requires-clause-new : goal.enter_crossing-requires-clause-new
+enter_crossing-requires-clause-new c =
+    let told = c.args.told.now in
+    let names = c.place.new.names.now in
+    let k : Constraint = record { relation = c.c.inside.relation; form = c.c.inside.form } in
+    let p = c.in_ok-places.ensures in
+    new_if told c.args.names.now.now (quantities_of c.args.dict.now) c.requires.stored names p.grows (p.stored told c.requires.stored).once c.args.c.now c.in_ok-places.places.items
+    (subst (λ (z : Constraint). IsPlaced names z.form.products c.in_ok-places.places.items) c.c.view_is p.placed)
+    (subst (λ (z : Constraint). IsForm z.form) c.c.view_is p.in_order) c.len-known.result c.len-known.ensures c.new_place-new.result
+    (subst (λ (s : List Entry). IfSome c.new_place-new.result (IsPlaceBehind c.len-known.result s)) c.deref.ensures.value c.new_place-new.ensures)

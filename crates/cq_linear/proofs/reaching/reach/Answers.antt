@@ -6,20 +6,20 @@ use Rattle.spec_limits.specs.Asked.{NoQuestion}
 use Rattle.std.specs.Prelude.{IfOk}
 use Rattle.cq_linear.specs.Questions.{OfStored}
 use Rattle.cq_linear.specs.StoreValue.{IsExtent, MayTake, Only}
-use Rattle.cq_linear.proofs.Extents.{asked_supremum, asked_unbounded, asked_feasible, search_refused}
-use Rattle.cq_linear.proofs.Moments.{asking_refused, row_spent}
+use Rattle.cq_linear.proofs.Extents.{asked_supremum, asked_unbounded, asked_feasible, search_refused, search_spent}
+use Rattle.cq_linear.proofs.Moments.{asking_refused}
 use Rattle.cq_linear.proofs.Passed as passed_on
 use Rattle.cq_tableau.proofs.Storing.{asked_row}
 use Rattle.cq_linear.proofs.reaching.reach.Goals as goal
 use Rattle.cq_linear.proofs.reaching.reach.Goals.{in-At, in-Unbounded}
 
-pub maximise-requires-clause-row : goal.maximise-requires-clause-row
-maximise-requires-clause-row c =
+pub ascend-requires-clause-row : goal.ascend-requires-clause-row
+ascend-requires-clause-row c =
     asked_row c.requires.stored.0 c.args.names.now.now (quantities_of c.args.dict.now) c.requires.stored.1 c.args.form.now c.ask.new.names.now (quantities_of c.ask.new.dict) c.in_ok-q.q
     c.in_ok-q.ensures.asked
 
-pub maximise-requires-clause-feasible : goal.maximise-requires-clause-feasible
-maximise-requires-clause-feasible c =
+pub ascend-requires-clause-feasible : goal.ascend-requires-clause-feasible
+ascend-requires-clause-feasible c =
     asked_feasible c.requires.stored.0 c.args.names.now.now (quantities_of c.args.dict.now) c.requires.stored.1 c.args.form.now c.ask.new.names.now (quantities_of c.ask.new.dict)
     c.in_ok-q.q c.in_ok-q.ensures.asked
 
@@ -27,18 +27,18 @@ pub returns-clause-extent : goal.returns-clause-extent
 returns-clause-extent c = elim c.match-branch-3.branch [
   | in-At w ↦ subst (λ r. IfOk r (λ e. OfStored c.args.names.now.now (quantities_of c.args.dict.now) (λ told. IsExtent told c.args.form.now e))) (sym w.result-is)
       (λ told s.
-      let a = subst (IsAnswer c.ask.new.dict.roles c.ask.new.dict.restricted c.in_ok-q.q aim_of.Best c.maximise.new.dict.roles) w.in-At.is c.in_ok-value.ensures.answer in
+      let a = subst (IsAnswer c.ask.new.dict.roles c.ask.new.dict.restricted c.in_ok-q.q aim_of.Best c.ascend.new.dict.roles) w.in-At.is c.in_ok-value.ensures.answer in
       asked_supremum told c.args.names.now.now (quantities_of c.args.dict.now) s c.args.form.now c.ask.new.names.now (quantities_of c.ask.new.dict) c.in_ok-q.q c.in_ok-q.ensures.asked
-      c.maximise.new.dict.roles w.in-At.value a.0)
+      c.ascend.new.dict.roles w.in-At.value a.0)
   | in-Unbounded w ↦ subst (λ r. IfOk r (λ e. OfStored c.args.names.now.now (quantities_of c.args.dict.now) (λ told. IsExtent told c.args.form.now e))) (sym w.result-is)
       (λ told s.
-      let a = subst (IsAnswer c.ask.new.dict.roles c.ask.new.dict.restricted c.in_ok-q.q aim_of.Best c.maximise.new.dict.roles) w.in-Unbounded.is c.in_ok-value.ensures.answer in
+      let a = subst (IsAnswer c.ask.new.dict.roles c.ask.new.dict.restricted c.in_ok-q.q aim_of.Best c.ascend.new.dict.roles) w.in-Unbounded.is c.in_ok-value.ensures.answer in
       asked_unbounded told c.args.names.now.now (quantities_of c.args.dict.now) s c.args.form.now c.ask.new.names.now (quantities_of c.ask.new.dict) c.in_ok-q.q c.in_ok-q.ensures.asked a.0)
 ]
 
 pub unreachable-requires : goal.unreachable-requires
 unreachable-requires c =
-    let a = subst (IsAnswer c.ask.new.dict.roles c.ask.new.dict.restricted c.in_ok-q.q aim_of.Best c.maximise.new.dict.roles) c.in-Positive.is c.in_ok-value.ensures.answer in
+    let a = subst (IsAnswer c.ask.new.dict.roles c.ask.new.dict.restricted c.in_ok-q.q aim_of.Best c.ascend.new.dict.roles) c.in-Positive.is c.in_ok-value.ensures.answer in
     best_not_positive a.0
   where
     best_not_positive : aim_of.Best ≡ aim_of.Positive → ⊥
@@ -57,7 +57,7 @@ pub returns-in_err-value-clause-overflow : goal.returns-in_err-value-clause-over
 returns-in_err-value-clause-overflow c = λ pair e told s k asks.
     let f = passed_on.search_refused c.from_residual-in_err-value.result c.in_err-value.field-0.0 pair c.from_residual-in_err-value.ensures.1 e in
     search_refused told c.args.names.now.now (quantities_of c.args.dict.now) s c.args.form.now c.ask.new.names.now (quantities_of c.ask.new.dict) c.in_ok-q.q c.in_ok-q.ensures.asked
-    NoQuestion (Only k) asks c.args.pivots c.maximise.new.dict.roles pair c.in_err-value.ensures.dictionary (c.in_err-value.ensures.overflow pair (ap Err f))
+    NoQuestion (Only k) asks c.ascend.new.dict.roles pair c.in_err-value.ensures.carried (c.in_err-value.ensures.overflow pair (ap Err f))
 
 pub returns-in_err-value-clause-pivots : goal.returns-in_err-value-clause-pivots
 returns-in_err-value-clause-pivots c = λ n e told s.
@@ -65,6 +65,6 @@ returns-in_err-value-clause-pivots c = λ n e told s.
     let o = c.in_err-value.ensures.pivots n (ap Err f) in (
       o.0,
       λ k asks. subst (λ (m : ℕ). MayTake told NoQuestion (Only k) m) (sym o.0)
-          (row_spent told c.args.names.now.now (quantities_of c.args.dict.now) s c.args.form.now NoQuestion (Only k) asks c.ask.new.names.now (quantities_of c.ask.new.dict) c.in_ok-q.q
-          c.in_ok-q.ensures.asked aim_of.Best c.args.pivots c.maximise.new.dict.roles o.1),
+          (search_spent told c.args.names.now.now (quantities_of c.args.dict.now) s c.args.form.now c.ask.new.names.now (quantities_of c.ask.new.dict) c.in_ok-q.q c.in_ok-q.ensures.asked
+          NoQuestion (Only k) asks aim_of.Best c.args.pivots c.ascend.new.dict.roles o.1),
     )
