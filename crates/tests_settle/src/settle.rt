@@ -1,512 +1,467 @@
-// Worlds made by hand, and what settling makes of them.
+// Worlds made by hand, and what settling makes of constraints that are told to them, together and one after another.
 
-use cq_atoms::Atoms;
-use cq_attr::Susp;
+ghost use Rattle.std.specs.Prelude.{◌≡◌, ◌∷◌, ◌≤◌, ◌<◌, ℕ, [], length, All, IfOk, OnOk};
+ghost use Rattle.spec_terms.specs.Term.{Var};
+ghost use Rattle.cq_term.specs.Names.{HasNamesBelow};
+ghost use Rattle.cq_term.specs.Trees.{KnowsTerms};
+ghost use Rattle.cq_world.specs.Rest.{IsReady};
+ghost use Rattle.cq_world.specs.Worlds.{now_of};
+
+use cq_atoms::{Atom, Atoms};
 use cq_frac::{Frac, VarId};
+use cq_rest::{
+    constraints_may_be_told, kept_worlds_are_ready, look_at_told, new_worlds_are_ready,
+};
 use cq_settle::{Settled, Work, settle};
 use cq_term::{Heap, Newly, TermId, View};
-use cq_trail::Undo;
-use cq_unify::unify;
 use cq_world::World;
 use std::alloc::{AllocError, Global};
 use std::test::Fail;
 
-/// A part of a term, which stands behind its arguments.
+/// A variable, or a number by its parts.
 #[derive(Clone, Copy, Debug)]
 enum Part {
-    V(usize),
+    X,
+    Y,
+    Z,
     N(i128, i128),
-    Name(&'static str),
-    One(&'static str),
-    Two(&'static str),
 }
 
-use Part::{N, Name, One, Two, V};
-
-const X: Part = V(0);
-
-const Y: Part = V(1);
-
-const Z: Part = V(2);
-
-/// What is done to a world, each before it settles.
+/// A side of a relation: a part, or a name over one or two.
 #[derive(Clone, Copy, Debug)]
-enum Step {
-    /// Constraints are told.
-    Tell(&'static [&'static [Part]]),
-    /// A variable is made equal to a term.
-    Equate(usize, &'static [Part]),
-    /// A variable is made equal to a term, and constraints are told.
-    Both(usize, &'static [Part], &'static [&'static [Part]]),
-    /// A goal sleeps on a variable.
-    Freeze(usize, &'static str),
+enum Side {
+    Is(Part),
+    Over(&'static str, Part),
+    Both(Part, &'static str, Part),
 }
-
-/// What settling says.
-#[derive(Clone, Copy, Debug)]
-enum Want {
-    Woken(&'static [&'static str]),
-    Pruned,
-}
-
-use Step::{Both, Equate, Freeze, Tell};
-use Want::{Pruned, Woken};
 
 /// What a variable is at the end.
 #[derive(Clone, Copy, Debug)]
 enum End {
     Free,
-    Is(i128, i128),
-    Same(usize),
-    Other,
+    Number(i128, i128),
 }
 
-use End::{Free, Is, Other, Same};
+use End::{Free, Number};
+use Part::{N, X, Y, Z};
+use Side::{Both, Is, Over};
 
-/// Steps, then what the first variables are, and how many wait.
-type Scene = (&'static [(Step, Want)], &'static [End], usize);
+type Told = (Side, &'static str, Side);
 
-const NONE: Want = Woken(&[]);
+/// Constraints that are told together, then some that are told one after another; which of these settlings keep the branch;
+/// what X, Y and Z are at the end, and how many constraints wait then.
+type Scene = (
+    &'static [Told],
+    &'static [Told],
+    &'static [bool],
+    [End; 3],
+    usize,
+);
 
-static SCENES: [Scene; 24] = [
-    // {X*Y=6, X+Y=Z}, X=2
+const PRODUCT_IS_SIX: Told = (Both(X, "*", Y), "=", Is(N(6, 1)));
+
+static SCENES: [Scene; 16] = [
+    // X*Y=6, X+Y=Z; X=2
     (
-        &[
-            (
-                Tell(&[
-                    &[X, Y, Two("*"), N(6, 1), Two("=")],
-                    &[X, Y, Two("+"), Z, Two("=")],
-                ]),
-                NONE,
-            ),
-            (Equate(0, &[N(2, 1)]), NONE),
-        ],
-        &[Is(2, 1), Is(3, 1), Is(5, 1)],
+        &[PRODUCT_IS_SIX, (Both(X, "+", Y), "=", Is(Z))],
+        &[(Is(X), "=", Is(N(2, 1)))],
+        &[true, true],
+        [Number(2, 1), Number(3, 1), Number(5, 1)],
         0,
     ),
-    // {X*Y=6}
+    // X*Y=6 alone waits
+    (&[PRODUCT_IS_SIX], &[], &[true], [Free, Free, Free], 1),
+    // X+Y=3, Y=1
     (
-        &[(Tell(&[&[X, Y, Two("*"), N(6, 1), Two("=")]]), NONE)],
-        &[Free, Free],
+        &[
+            (Both(X, "+", Y), "=", Is(N(3, 1))),
+            (Is(Y), "=", Is(N(1, 1))),
+        ],
+        &[],
+        &[true],
+        [Number(2, 1), Number(1, 1), Free],
+        0,
+    ),
+    // Y=abs(X); X= -3
+    (
+        &[(Is(Y), "=", Over("abs", X))],
+        &[(Is(X), "=", Is(N(-3, 1)))],
+        &[true, true],
+        [Number(-3, 1), Number(3, 1), Free],
+        0,
+    ),
+    // X=2^100: an exponent above 64 waits
+    (
+        &[(Is(X), "=", Both(N(2, 1), "^", N(100, 1)))],
+        &[],
+        &[true],
+        [Free, Free, Free],
         1,
     ),
-    // freeze(X,g), {X+Y=3, Y=1}
+    // X=1/0
     (
-        &[
-            (Freeze(0, "g"), NONE),
-            (
-                Tell(&[
-                    &[X, Y, Two("+"), N(3, 1), Two("=")],
-                    &[Y, N(1, 1), Two("=")],
-                ]),
-                Woken(&["g"]),
-            ),
-        ],
-        &[Is(2, 1), Is(1, 1)],
+        &[(Is(X), "=", Both(N(1, 1), "/", N(0, 1)))],
+        &[],
+        &[false],
+        [Free, Free, Free],
         0,
     ),
-    // freeze(X,a), freeze(X,b), X=1
+    // X*Y=Z, Y=2; X=3
     (
         &[
-            (Freeze(0, "a"), NONE),
-            (Freeze(0, "b"), NONE),
-            (Equate(0, &[N(1, 1)]), Woken(&["a", "b"])),
+            (Both(X, "*", Y), "=", Is(Z)),
+            (Is(Y), "=", Is(N(2, 1))),
         ],
-        &[Is(1, 1)],
+        &[(Is(X), "=", Is(N(3, 1)))],
+        &[true, true],
+        [Number(3, 1), Number(2, 1), Number(6, 1)],
         0,
     ),
-    // freeze(X,a), X=Y, freeze(Y,b), X=c: X and Y are one variable
+    // X*Y=6; X=0 has no solution, and nothing of it stays; X=3
+    (
+        &[PRODUCT_IS_SIX],
+        &[
+            (Is(X), "=", Is(N(0, 1))),
+            (Is(X), "=", Is(N(3, 1))),
+        ],
+        &[true, false, true],
+        [Number(3, 1), Number(2, 1), Free],
+        0,
+    ),
+    // X>=1, X=<1
     (
         &[
-            (Freeze(1, "a"), NONE),
-            (Equate(1, &[X]), NONE),
-            (Freeze(0, "b"), NONE),
-            (Equate(0, &[Name("c")]), Woken(&["a", "b"])),
+            (Is(X), ">=", Is(N(1, 1))),
+            (Is(X), "=<", Is(N(1, 1))),
         ],
-        &[Other, Other],
+        &[],
+        &[true],
+        [Number(1, 1), Free, Free],
         0,
     ),
-    // {Y=abs(X)}, X= -3
+    // X>=0; Y>=0; X+Y=<0
+    (
+        &[(Is(X), ">=", Is(N(0, 1)))],
+        &[
+            (Is(Y), ">=", Is(N(0, 1))),
+            (Both(X, "+", Y), "=<", Is(N(0, 1))),
+        ],
+        &[true, true, true],
+        [Number(0, 1), Number(0, 1), Free],
+        0,
+    ),
+    // X=Y: entailed equal, and two variables
+    (
+        &[(Is(X), "=", Is(Y))],
+        &[],
+        &[true],
+        [Free, Free, Free],
+        0,
+    ),
+    // X>0; X=Y; Y<0 has no solution
+    (
+        &[(Is(X), ">", Is(N(0, 1)))],
+        &[
+            (Is(X), "=", Is(Y)),
+            (Is(Y), "<", Is(N(0, 1))),
+        ],
+        &[true, true, false],
+        [Free, Free, Free],
+        0,
+    ),
+    // Y*Z=6; Y=X; X=2
+    (
+        &[(Both(Y, "*", Z), "=", Is(N(6, 1)))],
+        &[
+            (Is(Y), "=", Is(X)),
+            (Is(X), "=", Is(N(2, 1))),
+        ],
+        &[true, true, true],
+        [Number(2, 1), Number(2, 1), Number(3, 1)],
+        0,
+    ),
+    // Y+Z=4; Y=Z
+    (
+        &[(Both(Y, "+", Z), "=", Is(N(4, 1)))],
+        &[(Is(Y), "=", Is(Z))],
+        &[true, true],
+        [Free, Number(2, 1), Number(2, 1)],
+        0,
+    ),
+    // X*Y=6, X=\=3, Y>=2, Y=<2: fixed by inequalities, then told, then without solution
     (
         &[
-            (Tell(&[&[Y, X, One("abs"), Two("=")]]), NONE),
-            (Equate(0, &[N(-3, 1)]), NONE),
+            PRODUCT_IS_SIX,
+            (Is(X), "=\\=", Is(N(3, 1))),
+            (Is(Y), ">=", Is(N(2, 1))),
+            (Is(Y), "=<", Is(N(2, 1))),
         ],
-        &[Is(-3, 1), Is(3, 1)],
+        &[],
+        &[false],
+        [Free, Free, Free],
         0,
     ),
-    // {X=2^100}
+    // a zero divisor that comes later: X=1/Y; Y=0
     (
-        &[(Tell(&[&[X, N(2, 1), N(100, 1), Two("^"), Two("=")]]), NONE)],
-        &[Free],
+        &[(Is(X), "=", Both(N(1, 1), "/", Y))],
+        &[(Is(Y), "=", Is(N(0, 1)))],
+        &[true, false],
+        [Free, Free, Free],
         1,
-    ),
-    // {X=1/0}
-    (
-        &[(Tell(&[&[X, N(1, 1), N(0, 1), Two("/"), Two("=")]]), Pruned)],
-        &[Free],
-        0,
-    ),
-    // {X*Y=Z, Y=2}, freeze(Z,g), {X=3}
-    (
-        &[
-            (
-                Tell(&[&[X, Y, Two("*"), Z, Two("=")], &[Y, N(2, 1), Two("=")]]),
-                NONE,
-            ),
-            (Freeze(2, "g"), NONE),
-            (Tell(&[&[X, N(3, 1), Two("=")]]), Woken(&["g"])),
-        ],
-        &[Is(3, 1), Is(2, 1), Is(6, 1)],
-        0,
-    ),
-    // {X*Y=6}, X=0
-    (
-        &[
-            (Tell(&[&[X, Y, Two("*"), N(6, 1), Two("=")]]), NONE),
-            (Equate(0, &[N(0, 1)]), Pruned),
-        ],
-        &[Free, Free],
-        1,
-    ),
-    // {X>0}, X=a
-    (
-        &[
-            (Tell(&[&[X, N(0, 1), Two(">")]]), NONE),
-            (Equate(0, &[Name("a")]), Pruned),
-        ],
-        &[Free],
-        0,
-    ),
-    // {X>0}, X=f(Y)
-    (
-        &[
-            (Tell(&[&[X, N(0, 1), Two(">")]]), NONE),
-            (Equate(0, &[Y, One("f")]), Pruned),
-        ],
-        &[Free, Free],
-        0,
-    ),
-    // {X>=1, X=<1}
-    (
-        &[(
-            Tell(&[&[X, N(1, 1), Two(">=")], &[X, N(1, 1), Two("=<")]]),
-            NONE,
-        )],
-        &[Is(1, 1)],
-        0,
-    ),
-    // {X>=0, Y>=0, X+Y=<0}
-    (
-        &[(
-            Tell(&[
-                &[X, N(0, 1), Two(">=")],
-                &[Y, N(0, 1), Two(">=")],
-                &[X, Y, Two("+"), N(0, 1), Two("=<")],
-            ]),
-            NONE,
-        )],
-        &[Is(0, 1), Is(0, 1)],
-        0,
-    ),
-    // {X=Y}: entailed equal, and two variables
-    (&[(Tell(&[&[X, Y, Two("=")]]), NONE)], &[Free, Free], 0),
-    // {X>0}, X=Y, {Y<0}
-    (
-        &[
-            (Tell(&[&[Y, N(0, 1), Two(">")]]), NONE),
-            (Equate(1, &[X]), NONE),
-            (Tell(&[&[X, N(0, 1), Two("<")]]), Pruned),
-        ],
-        &[Free, Same(0)],
-        0,
-    ),
-    // {Y*Z=6}, Y=X, {X=2}: what waits for Y waits for X
-    (
-        &[
-            (Tell(&[&[Y, Z, Two("*"), N(6, 1), Two("=")]]), NONE),
-            (Equate(1, &[X]), NONE),
-            (Tell(&[&[X, N(2, 1), Two("=")]]), NONE),
-        ],
-        &[Is(2, 1), Is(2, 1), Is(3, 1)],
-        0,
-    ),
-    // {Y*Z=6}, Y=Z: the square waits
-    (
-        &[
-            (Tell(&[&[Y, Z, Two("*"), N(6, 1), Two("=")]]), NONE),
-            (Equate(2, &[Y]), NONE),
-        ],
-        &[Free, Free, Same(1)],
-        1,
-    ),
-    // {Y=Z, Z=2} with Y=Z bound before it is told: both are fixed at once
-    (
-        &[
-            (Tell(&[&[Y, Z, Two("+"), N(4, 1), Two("=")]]), NONE),
-            (Equate(2, &[Y]), NONE),
-        ],
-        &[Free, Is(2, 1), Is(2, 1)],
-        0,
-    ),
-    // X=2 and {X*Y=6} in one settling
-    (
-        &[(
-            Both(0, &[N(2, 1)], &[&[X, Y, Two("*"), N(6, 1), Two("=")]]),
-            NONE,
-        )],
-        &[Is(2, 1), Is(3, 1)],
-        0,
-    ),
-    // {X*Y=6, Y>=2, Y=<2, X=\=3}: fixed by inequalities, then told, then without solution
-    (
-        &[(
-            Tell(&[
-                &[X, Y, Two("*"), N(6, 1), Two("=")],
-                &[X, N(3, 1), Two("=\\=")],
-                &[Y, N(2, 1), Two(">=")],
-                &[Y, N(2, 1), Two("=<")],
-            ]),
-            Pruned,
-        )],
-        &[Free, Free],
-        0,
-    ),
-    // a zero divisor that comes later: {X=1/Y}, {Y=0}
-    (
-        &[
-            (Tell(&[&[X, N(1, 1), Y, Two("/"), Two("=")]]), NONE),
-            (Tell(&[&[Y, N(0, 1), Two("=")]]), Pruned),
-        ],
-        &[Free, Free],
-        1,
-    ),
-    // nothing numeric
-    (&[(Equate(0, &[Y, One("f")]), NONE)], &[Other, Free], 0),
-    // a frozen goal wakes by a compound
-    (
-        &[
-            (Freeze(0, "g"), NONE),
-            (Equate(0, &[Y, One("f")]), Woken(&["g"])),
-        ],
-        &[Other, Free],
-        0,
     ),
 ];
 
-/// The term that a part makes with those that stand before it.
-fn made(
-    heap: &mut Heap,
-    atoms: &mut Atoms,
-    part: Part,
-    variables: &[TermId],
-    terms: &mut Vec<TermId>,
-) -> Result<TermId, AllocError> {
+// ---- terms
+
+fn symbol(atoms: &mut Atoms, text: &str) -> Result<Atom, AllocError>
+    ensures known { IfOk result (λ name. name < length atoms.new) }
+    ensures more { length atoms.old ≤ length atoms.new }
+{
+    let name = atoms.intern(text)?;
+    Ok(name)
+}
+
+// Each of these makes a term, and the heap has no name that it did not have, but for the one that is given.
+
+fn part(heap: &mut Heap, part: Part) -> Result<TermId, AllocError>
+    requires variables { 3 ≤ length heap.old.now.images }
+    ensures live { IfOk result (λ id. id < length heap.new.now.terms) }
+    ensures more { length heap.old.now.terms ≤ length heap.new.now.terms }
+    ensures images { OnOk result (heap.new.now.images ≡ heap.old.now.images) }
+    ensures names { (n : ℕ) → All (HasNamesBelow n) heap.old.now.terms → All (HasNamesBelow n) heap.new.now.terms }
+{
     match part {
-        V(i) => Ok(variables[i]),
+        X => Ok(heap.var_term(VarId(0))),
+        Y => Ok(heap.var_term(VarId(1))),
+        Z => Ok(heap.var_term(VarId(2))),
         N(n, d) => heap.number(Frac::new(n, d).unwrap_or(Frac::zero())),
-        Name(name) => {
-            let atom = atoms.intern(name)?;
-            heap.atom(atom)
+    }
+}
+
+/// A name over one term.
+fn single(heap: &mut Heap, name: Atom, argument: TermId) -> Result<TermId, AllocError>
+    requires { argument < length heap.old.now.terms }
+    ensures live { IfOk result (λ id. id < length heap.new.now.terms) }
+    ensures more { length heap.old.now.terms ≤ length heap.new.now.terms }
+    ensures images { OnOk result (heap.new.now.images ≡ heap.old.now.images) }
+    ensures names { (n : ℕ) → name < n → All (HasNamesBelow n) heap.old.now.terms → All (HasNamesBelow n) heap.new.now.terms }
+{
+    let id = heap.compound(name, &[argument])?;
+    Ok(id)
+}
+
+/// A name over two terms.
+fn pair(heap: &mut Heap, name: Atom, first: TermId, second: TermId) -> Result<TermId, AllocError>
+    requires first { first < length heap.old.now.terms }
+    requires second { second < length heap.old.now.terms }
+    ensures live { IfOk result (λ id. id < length heap.new.now.terms) }
+    ensures more { length heap.old.now.terms ≤ length heap.new.now.terms }
+    ensures images { OnOk result (heap.new.now.images ≡ heap.old.now.images) }
+    ensures names { (n : ℕ) → name < n → All (HasNamesBelow n) heap.old.now.terms → All (HasNamesBelow n) heap.new.now.terms }
+{
+    let id = heap.compound(name, &[first, second])?;
+    Ok(id)
+}
+
+fn over_one(heap: &mut Heap, name: Atom, one: Part) -> Result<TermId, AllocError>
+    requires variables { 3 ≤ length heap.old.now.images }
+    ensures live { IfOk result (λ id. id < length heap.new.now.terms) }
+    ensures more { length heap.old.now.terms ≤ length heap.new.now.terms }
+    ensures images { OnOk result (heap.new.now.images ≡ heap.old.now.images) }
+    ensures names { (n : ℕ) → name < n → All (HasNamesBelow n) heap.old.now.terms → All (HasNamesBelow n) heap.new.now.terms }
+{
+    let argument = part(heap, one)?;
+    single(heap, name, argument)
+}
+
+fn over_two(heap: &mut Heap, name: Atom, left: Part, right: Part) -> Result<TermId, AllocError>
+    requires variables { 3 ≤ length heap.old.now.images }
+    ensures live { IfOk result (λ id. id < length heap.new.now.terms) }
+    ensures more { length heap.old.now.terms ≤ length heap.new.now.terms }
+    ensures images { OnOk result (heap.new.now.images ≡ heap.old.now.images) }
+    ensures names { (n : ℕ) → name < n → All (HasNamesBelow n) heap.old.now.terms → All (HasNamesBelow n) heap.new.now.terms }
+{
+    let first = part(heap, left)?;
+    let second = part(heap, right)?;
+    pair(heap, name, first, second)
+}
+
+fn side_of(heap: &mut Heap, atoms: &mut Atoms, side: Side) -> Result<TermId, AllocError>
+    requires variables { 3 ≤ length heap.old.now.images }
+    ensures live { IfOk result (λ id. id < length heap.new.now.terms) }
+    ensures more { length heap.old.now.terms ≤ length heap.new.now.terms }
+    ensures images { OnOk result (heap.new.now.images ≡ heap.old.now.images) }
+    ensures names { OnOk result (KnowsTerms atoms.old heap.old.now.terms → KnowsTerms atoms.new heap.new.now.terms) }
+{
+    match side {
+        Is(only) => part(heap, only),
+        Over(text, only) => {
+            let name = symbol(atoms, text)?;
+            over_one(heap, name, only)
         }
-        One(name) => {
-            let atom = atoms.intern(name)?;
-            let only = terms.pop().unwrap();
-            heap.compound(atom, &[only])
-        }
-        Two(name) => {
-            let atom = atoms.intern(name)?;
-            let right = terms.pop().unwrap();
-            let left = terms.pop().unwrap();
-            heap.compound(atom, &[left, right])
+        Both(left, text, right) => {
+            let name = symbol(atoms, text)?;
+            over_two(heap, name, left, right)
         }
     }
 }
 
-/// The term of the parts: the last one that they make.
-fn term_of(
-    heap: &mut Heap,
-    atoms: &mut Atoms,
-    parts: &[Part],
-    variables: &[TermId],
-) -> Result<TermId, AllocError> {
-    let mut terms = Vec::new(heap.alloc());
-    let mut last = variables[0];
-    for part in parts {
-        last = made(heap, atoms, *part, variables, &mut terms)?;
-        terms.push(last)?;
-    }
-    Ok(last)
+/// The term of a constraint.
+fn term_of(heap: &mut Heap, atoms: &mut Atoms, told: Told) -> Result<TermId, AllocError>
+    requires variables { 3 ≤ length heap.old.now.images }
+    ensures live { IfOk result (λ id. id < length heap.new.now.terms) }
+    ensures more { length heap.old.now.terms ≤ length heap.new.now.terms }
+    ensures images { OnOk result (heap.new.now.images ≡ heap.old.now.images) }
+    ensures names { OnOk result (KnowsTerms atoms.old heap.old.now.terms → KnowsTerms atoms.new heap.new.now.terms) }
+{
+    let left = side_of(heap, atoms, told.0)?;
+    let right = side_of(heap, atoms, told.2)?;
+    let name = symbol(atoms, told.1)?;
+    pair(heap, name, left, right)
 }
 
-fn terms_of(
-    heap: &mut Heap,
-    atoms: &mut Atoms,
-    told: &[&[Part]],
-    variables: &[TermId],
-) -> Result<Vec<TermId>, AllocError> {
+fn terms_of(heap: &mut Heap, atoms: &mut Atoms, told: &[Told]) -> Result<Vec<TermId>, AllocError>
+    requires variables { 3 ≤ length heap.old.now.images }
+    ensures live { IfOk result (λ ids. All (λ id. id < length heap.new.now.terms) ids.items) }
+    ensures more { length heap.old.now.terms ≤ length heap.new.now.terms }
+    ensures images { OnOk result (heap.new.now.images ≡ heap.old.now.images) }
+    ensures names { OnOk result (KnowsTerms atoms.old heap.old.now.terms → KnowsTerms atoms.new heap.new.now.terms) }
+{
     let mut terms = Vec::new(heap.alloc());
-    for parts in told {
-        terms.push(term_of(heap, atoms, parts, variables)?)?;
+    for constraint in told {
+        let term = term_of(heap, atoms, *constraint)?;
+        terms.push(term)?;
     }
     Ok(terms)
 }
 
-fn work_of(
-    world: &mut World,
-    atoms: &mut Atoms,
-    step: Step,
-    variables: &[TermId],
-) -> Result<Work, AllocError> {
+/// The first three variables.
+fn make_variables(heap: &mut Heap) -> Result<(), AllocError>
+    requires terms { heap.old.now.terms ≡ [] }
+    requires images { heap.old.now.images ≡ [] }
+    ensures terms { OnOk result (heap.new.now.terms ≡ Var 0 ∷ Var 1 ∷ Var 2 ∷ []) }
+    ensures images { OnOk result (heap.new.now.images ≡ Var 0 ∷ Var 1 ∷ Var 2 ∷ []) }
+{
+    heap.new_var()?;
+    heap.new_var()?;
+    heap.new_var()?;
+    Ok(())
+}
+
+// ---- settling
+
+/// Whether the branch is kept where the constraints are told.
+fn tell(world: &mut World, atoms: &Atoms, told: Vec<TermId>) -> Result<bool, Fail>
+    requires ready { IsReady atoms.now (now_of world.old) }
+    requires live { All (λ id. id < length world.old.heap.now.terms) told.items }
+    ensures ready { OnOk result (IsReady atoms.now (now_of world.new)) }
+    ensures live { OnOk result (length world.old.heap.now.terms ≤ length world.new.heap.now.terms) }
+    ensures variables { OnOk result (length world.new.heap.now.images ≡ length world.old.heap.now.images) }
+{
+    look_at_told(&world.heap, &told);
+    constraints_may_be_told();
+    kept_worlds_are_ready();
     let alloc = world.heap.alloc();
-    let mut newly = Newly::new(alloc);
-    let mut told = Vec::new(alloc);
-    match step {
-        Tell(terms) => {
-            told = terms_of(&mut world.heap, atoms, terms, variables)?;
-        }
-        Equate(v, parts) => {
-            let other = term_of(&mut world.heap, atoms, parts, variables)?;
-            let _one = unify(&mut world.heap, &mut newly, variables[v], other)?;
-        }
-        Both(v, parts, terms) => {
-            told = terms_of(&mut world.heap, atoms, terms, variables)?;
-            let other = term_of(&mut world.heap, atoms, parts, variables)?;
-            let _one = unify(&mut world.heap, &mut newly, variables[v], other)?;
-        }
-        Freeze(v, name) => {
-            let atom = atoms.intern(name)?;
-            let goal = world.heap.atom(atom)?;
-            world
-                .attrs
-                .suspend(&[VarId(v)], Susp::Goal(VarId(v), goal))?;
-        }
-    }
-    Ok(Work {
-        newly,
+    let work = Work {
+        newly: Newly::new(alloc),
         told,
         rows: Vec::new(alloc),
-    })
-}
-
-fn is_wanted(world: &World, atoms: &Atoms, settled: &Settled, want: Want) -> bool {
-    match settled {
-        Settled::Pruned => match want {
-            Pruned => true,
-            _ => false,
-        },
-        Settled::Woken(goals) => match want {
-            Woken(names) => {
-                let mut same = goals.len() == names.len();
-                for (goal, name) in goals.iter().zip(names) {
-                    same = same
-                        && match world.heap.view(*goal) {
-                            View::Name(atom) => atoms.text(atom) == *name,
-                            _ => false,
-                        };
-                }
-                same
-            }
-            _ => false,
-        },
+    };
+    match settle(world, atoms, work)? {
+        Settled::Pruned => Ok(false),
+        Settled::Woken(_) => Ok(true),
     }
 }
 
-fn is_end(world: &World, v: usize, end: End) -> bool {
-    let seen = world.heap.view(world.heap.var_term(VarId(v)));
+fn tell_one(world: &mut World, atoms: &Atoms, term: TermId) -> Result<bool, Fail>
+    requires ready { IsReady atoms.now (now_of world.old) }
+    requires live { term < length world.old.heap.now.terms }
+    ensures ready { OnOk result (IsReady atoms.now (now_of world.new)) }
+    ensures live { OnOk result (length world.old.heap.now.terms ≤ length world.new.heap.now.terms) }
+    ensures variables { OnOk result (length world.new.heap.now.images ≡ length world.old.heap.now.images) }
+{
+    let mut told = Vec::new(world.heap.alloc());
+    told.push(term)?;
+    tell(world, atoms, told)
+}
+
+/// Whether the branch is kept, for each of the terms in turn.
+fn tell_each(
+    world: &mut World,
+    atoms: &Atoms,
+    terms: &[TermId],
+    kept: &mut Vec<bool>,
+) -> Result<(), Fail>
+    requires ready { IsReady atoms.now (now_of world.old) }
+    requires live { All (λ id. id < length world.old.heap.now.terms) terms.now }
+    ensures variables { OnOk result (length world.new.heap.now.images ≡ length world.old.heap.now.images) }
+{
+    for &term in terms {
+        kept.push(tell_one(world, atoms, term)?)?;
+    }
+    Ok(())
+}
+
+/// Which settlings keep the branch.
+fn settlings(
+    world: &mut World,
+    atoms: &Atoms,
+    first: Vec<TermId>,
+    then: &[TermId],
+) -> Result<Vec<bool>, Fail>
+    requires ready { IsReady atoms.now (now_of world.old) }
+    requires first { All (λ id. id < length world.old.heap.now.terms) first.items }
+    requires then { All (λ id. id < length world.old.heap.now.terms) then.now }
+    ensures variables { OnOk result (length world.new.heap.now.images ≡ length world.old.heap.now.images) }
+{
+    let mut kept = Vec::new(world.heap.alloc());
+    kept.push(tell(world, atoms, first)?)?;
+    tell_each(world, atoms, then, &mut kept)?;
+    Ok(kept)
+}
+
+// ---- scenes
+
+fn is_end(heap: &Heap, variable: VarId, end: End) -> bool
+    requires { variable.0 < length heap.now.now.images }
+{
+    let seen = heap.view(heap.var_term(variable));
     match end {
-        Free => seen == View::Var(VarId(v)),
-        Same(w) => seen == View::Var(VarId(w)),
-        Is(n, d) => match seen {
+        Free => seen == View::Var(variable),
+        Number(n, d) => match seen {
             View::Number(q) => q.parts() == (n, d),
             _ => false,
         },
-        Other => match seen {
-            View::Name(_) | View::Compound(_, _) => true,
-            _ => false,
-        },
     }
 }
 
-/// How far a scene goes as it is wanted: 100 more than the step that doesn't, 200 more than the variable.
-fn play(alloc: Global, scene: &Scene) -> Result<Option<usize>, Fail> {
+fn are_ends(heap: &Heap, ends: [End; 3]) -> bool
+    requires { 3 ≤ length heap.now.now.images }
+{
+    is_end(heap, VarId(0), ends[0])
+        && is_end(heap, VarId(1), ends[1])
+        && is_end(heap, VarId(2), ends[2])
+}
+
+/// A world in which the terms of the scene are built, those of both lists.
+fn plays(alloc: Global, scene: &Scene) -> Result<bool, Fail> {
     let mut world = World::new(alloc, 1000);
     let mut atoms = Atoms::new(alloc);
-    let x = world.heap.new_var()?;
-    let y = world.heap.new_var()?;
-    let z = world.heap.new_var()?;
-    let variables = [x, y, z];
-    for (i, (step, want)) in scene.0.iter().enumerate() {
-        let start = world.mark()?;
-        let work = work_of(&mut world, &mut atoms, *step, &variables)?;
-        let settled = settle(&mut world, &atoms, work)?;
-        if !is_wanted(&world, &atoms, &settled, *want) {
-            return Ok(Some(100 + i));
-        }
-        match settled {
-            Settled::Pruned => world.undo(start),
-            Settled::Woken(_) => world.forget(start),
-        }
-    }
-    for (v, end) in scene.1.iter().enumerate() {
-        if !is_end(&world, v, *end) {
-            return Ok(Some(200 + v));
-        }
-    }
-    if world.attrs.waiting()?.len() != scene.2 {
-        return Ok(Some(300));
-    }
-    Ok(None)
+    make_variables(&mut world.heap)?;
+    let first = terms_of(&mut world.heap, &mut atoms, scene.0)?;
+    let then = terms_of(&mut world.heap, &mut atoms, scene.1)?;
+    new_worlds_are_ready();
+    let kept = settlings(&mut world, &atoms, first, &then)?;
+    let waiting = world.attrs.waiting()?;
+    Ok(kept.as_slice() == scene.2
+        && are_ends(&world.heap, scene.3)
+        && waiting.len() == scene.4)
 }
 
 #[test]
 fn scenes_end_as_worked_by_hand(rt: HostRuntime) -> Result<(), Fail> {
     for (i, scene) in SCENES.iter().enumerate() {
-        let wrong = play(rt.alloc(), scene)?;
-        assert_eq!(rt; wrong, None, "scene {i}");
+        assert!(rt; plays(rt.alloc(), scene)?, "scene {i}");
     }
-    Ok(())
-}
-
-/// Each of `n` terms is `Xi*X(i+1)=1`; the last variable is left free.
-fn tell_chain(world: &mut World, atoms: &mut Atoms, n: usize) -> Result<bool, Fail> {
-    let alloc = world.heap.alloc();
-    let one = world.heap.number(Frac::one())?;
-    let times = atoms.intern("*")?;
-    let equals = atoms.intern("=")?;
-    let first = world.heap.new_var()?;
-    let mut last = first;
-    let mut told = Vec::new(alloc);
-    for _ in 0..n {
-        let next = world.heap.new_var()?;
-        let product = world.heap.compound(times, &[last, next])?;
-        told.push(world.heap.compound(equals, &[product, one])?)?;
-        last = next;
-    }
-    let newly = Newly::new(alloc);
-    let work = Work {
-        newly,
-        told,
-        rows: Vec::new(alloc),
-    };
-    let _told = settle(world, atoms, work)?;
-    let before = world.attrs.waiting()?.len();
-    let mut newly = Newly::new(alloc);
-    let _one = unify(&mut world.heap, &mut newly, first, one)?;
-    let work = Work {
-        newly,
-        told: Vec::new(alloc),
-        rows: Vec::new(alloc),
-    };
-    let _bound = settle(world, atoms, work)?;
-    let after = world.attrs.waiting()?.len();
-    Ok(before == n && after == 0 && world.heap.view(last) == View::Number(Frac::one()))
-}
-
-#[test]
-fn a_chain_of_products_wakes_to_its_end(rt: HostRuntime) -> Result<(), Fail> {
-    let mut world = World::new(rt.alloc(), 1000);
-    let mut atoms = Atoms::new(rt.alloc());
-    assert!(rt; tell_chain(&mut world, &mut atoms, 100)?);
     Ok(())
 }

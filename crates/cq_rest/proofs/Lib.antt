@@ -1,0 +1,6 @@
+mod Names
+mod Beginning
+mod Told
+mod Alone
+mod Bound
+mod Equated
