@@ -1,5 +1,5 @@
 -- A world whose terms were made equal is called to be settled.
-use Rattle.std.proofs.Common.{◌≡◌, ◌≢◌, ◌<◌, ◌≤◌, ℕ, zero, suc, List, [], ◌∷◌, length, map, get_or, Bool, true, false, Some, refl, sym, ap, ◌∙◌, subst, arith, inl, inr}
+use Rattle.std.proofs.Common.{◌≡◌, ◌≢◌, ◌<◌, ◌≤◌, ℕ, zero, suc, List, [], ◌∷◌, length, map, get_or, Bool, true, false, Some, refl, sym, ap, ap₂, ◌∙◌, subst, arith, inl, inr}
 use Rattle.std.specs.Prelude.{All, Contains, not, ◌==◌}
 use Rattle.std.specs.List.{AllZip, AllPairs}
 use Rattle.std.proofs.lemmas.Bool.{true≢false}
@@ -57,6 +57,9 @@ unbound_is s v e = unbound_by v (s v) (is_the_variable v (s v)) refl e
 
 is_unbound : (s : Subst Text) (v : ℕ) → s v ≡ Var v → is_bound s v ≡ false
 is_unbound s v e = ap (λ (t : Tree). not (is_the_variable v t)) e ∙ ap not (nat_eq-self v)
+
+abbrev one_pair : Tree → Tree → List (Equation Text)
+one_pair x y = record { left = x; right = y } ∷ []
 
 number_contained : (vs : List VarId) (v : VarId) → Contains vs v → Contains (numbers_of vs) v.0
 number_contained [] v h = absurd (contains_none v h)
@@ -131,10 +134,7 @@ module _ (texts : List Text) (different : AreDifferent texts) (c : Contents) (h 
       (λ v. each_below (length texts) (s v) (image_known v)) k.unifier
 
   read_same : read_under st.bindings equations ≡ equations
-  read_same = λ i. record {
-    left = itself texts c.heap st.bindings r.stands.bindings a ma (~ i);
-    right = itself texts c.heap st.bindings r.stands.bindings b mb (~ i);
-  } ∷ []
+  read_same = ap₂ one_pair (sym (itself texts c.heap st.bindings r.stands.bindings a ma)) (sym (itself texts c.heap st.bindings r.stands.bindings b mb))
 
   unnamed_pair : (v : ℕ) → StandsIn v equations → StandsIn v pairs
   unnamed_pair v (inl o) = inl (occurs_named (text_of texts) v (at c.heap.terms a) o)

@@ -4,3 +4,4 @@ mod Told
 mod Alone
 mod Bound
 mod Equated
+mod Asleep

@@ -2,6 +2,7 @@
 use Rattle.std.specs.Prelude.{◌≡◌, ℕ, ◌<◌, List, [], length}
 use Rattle.spec_lists.specs.Texts.{Text}
 use Rattle.spec_terms.specs.Term.{Var, Occurs}
+use Rattle.cq_attr.specs.Attributes.{Attributes}
 use Rattle.cq_term.specs.HeapValue.{Terms}
 use Rattle.cq_term.specs.Meaning.{at}
 use Rattle.cq_term.specs.Shown.{IsUnbound}
@@ -24,3 +25,7 @@ pub record MayBeTold (h : Terms) (id : ℕ) : Type 0 where
 -- the same with these terms
 abbrev pub with_terms : Contents → Terms → Contents
 with_terms c h = record c { heap = h }
+
+-- the same with these attributes
+abbrev pub with_attributes : Contents → Attributes → Contents
+with_attributes c a = record c { attrs = a }

@@ -5,7 +5,15 @@ ghost use Rattle.cq_rest.specs.Ready.{MayBeTold};
 
 use cq_term::{Heap, TermId};
 
-/// Terms of a heap are read through its bindings: each may be told.
+/// A term of a heap is read through its bindings: it may be told.
+pub fn look_at(heap: &Heap, id: TermId)
+    requires live { id < length heap.now.now.terms }
+    ensures told { MayBeTold heap.now.now id }
+{
+    let _ = heap.view(id);
+}
+
+/// The same of several terms.
 pub fn look_at_told(heap: &Heap, told: &[TermId])
     requires live { All (λ id. id < length heap.now.now.terms) told.now }
     ensures told { All (MayBeTold heap.now.now) told.now }
@@ -13,11 +21,4 @@ pub fn look_at_told(heap: &Heap, told: &[TermId])
     for &id in told {
         look_at(heap, id);
     }
-}
-
-fn look_at(heap: &Heap, id: TermId)
-    requires live { id < length heap.now.now.terms }
-    ensures told { MayBeTold heap.now.now id }
-{
-    let _ = heap.view(id);
 }
