@@ -15,7 +15,7 @@ use Rattle.cq_atoms.specs.Texts.{text_of}
 use Rattle.cq_frac.specs.declared.VarId.{VarId}
 use Rattle.cq_term.specs.HeapValue.{Terms}
 use Rattle.cq_term.specs.Meaning.{at}
-use Rattle.cq_term.specs.Trees.{tree, trees}
+use Rattle.cq_term.specs.Trees.{tree, trees, KnowsTerms}
 use Rattle.cq_walk.specs.Places.{numbers_of}
 use Rattle.cq_world.specs.Contents.{Contents}
 use Rattle.cq_world.specs.Standing.{AreImages, Stands}
@@ -88,3 +88,9 @@ module _ (texts : List Text) (old new : Contents) (newly : List VarId) (told : L
 
   pub left_live : (length old.heap.terms ≤ length new.heap.terms) × (length new.heap.images ≡ length old.heap.images)
   left_live = (kept.live, kept.ready.stands.fresh ∙ sym s.is.stands.fresh)
+
+  pub left_goals : All (λ id. id < length new.heap.terms) goals
+  left_goals = kept.goals_live
+
+pub ready_names : (texts : List Text) (c : Contents) → IsReady texts c → KnowsTerms texts c.heap.terms
+ready_names texts c r = r.1.stands.names

@@ -1,6 +1,6 @@
 // What holds of worlds in which nothing is left to settle.
 
-ghost use Rattle.std.specs.Prelude.{◌≡◌, ◌≤◌, ℕ, List, [], ◌∷◌, All, length};
+ghost use Rattle.std.specs.Prelude.{◌≡◌, ◌≤◌, ◌<◌, ℕ, List, [], ◌∷◌, All, length};
 ghost use Rattle.spec_linear.specs.Solution.{Constraint};
 ghost use Rattle.spec_lists.specs.Texts.{Text};
 ghost use Rattle.cq_atoms.specs.Texts.{AreDifferent};
@@ -28,7 +28,7 @@ pub fn constraints_may_be_told()
         → All (MayBeTold c.heap) told → SomeIsCalled texts c [] told rows }
 {}
 
-/// Where the branch is kept, nothing is left to settle, and the terms and the variables stay.
+/// Where the branch is kept, nothing is left to settle, and the terms and the variables stay. Then each name has a text.
 pub fn kept_worlds_are_ready()
     ensures ready { (texts : List Text) (old new : Contents) (newly : List VarId) (told : List ℕ) (rows : List Constraint) (goals : List ℕ)
         → SomeIsCalled texts old newly told rows → OfCalls texts old newly told rows (λ st p u. IsKept texts old new goals st p u)
@@ -36,6 +36,10 @@ pub fn kept_worlds_are_ready()
     ensures live { (texts : List Text) (old new : Contents) (newly : List VarId) (told : List ℕ) (rows : List Constraint) (goals : List ℕ)
         → SomeIsCalled texts old newly told rows → OfCalls texts old newly told rows (λ st p u. IsKept texts old new goals st p u)
         → (length old.heap.terms ≤ length new.heap.terms) × (length new.heap.images ≡ length old.heap.images) }
+    ensures goals { (texts : List Text) (old new : Contents) (newly : List VarId) (told : List ℕ) (rows : List Constraint) (goals : List ℕ)
+        → SomeIsCalled texts old newly told rows → OfCalls texts old newly told rows (λ st p u. IsKept texts old new goals st p u)
+        → All (λ id. id < length new.heap.terms) goals }
+    ensures names { (texts : List Text) (c : Contents) → IsReady texts c → KnowsTerms texts c.heap.terms }
 {}
 
 /// Where nothing was left to settle and two terms were made equal, constraints may be told besides: settling is called for.

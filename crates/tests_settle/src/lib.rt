@@ -2,4 +2,6 @@
 #![tactic(auto)]
 
 #[cfg(test)]
-mod settle;
+mod terms;
+#[cfg(test)]
+mod told;

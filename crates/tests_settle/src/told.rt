@@ -1,39 +1,22 @@
 // Worlds made by hand, and what settling makes of constraints that are told to them, together and one after another.
 
-ghost use Rattle.std.specs.Prelude.{◌≡◌, ◌∷◌, ◌≤◌, ◌<◌, ℕ, [], length, All, IfOk, OnOk};
-ghost use Rattle.spec_terms.specs.Term.{Var};
-ghost use Rattle.cq_term.specs.Names.{HasNamesBelow};
-ghost use Rattle.cq_term.specs.Trees.{KnowsTerms};
+ghost use Rattle.std.specs.Prelude.{◌≡◌, ◌≤◌, ◌<◌, length, All, OnOk};
 ghost use Rattle.cq_world.specs.Rest.{IsReady};
 ghost use Rattle.cq_world.specs.Worlds.{now_of};
 
-use cq_atoms::{Atom, Atoms};
-use cq_frac::{Frac, VarId};
+use crate::terms::Part::{N, X, Y, Z};
+use crate::terms::Side::{Both, Is, Over};
+use crate::terms::{Told, make_variables, terms_of};
+use cq_atoms::Atoms;
+use cq_frac::VarId;
 use cq_rest::{
     constraints_may_be_told, kept_worlds_are_ready, look_at_told, new_worlds_are_ready,
 };
 use cq_settle::{Settled, Work, settle};
 use cq_term::{Heap, Newly, TermId, View};
 use cq_world::World;
-use std::alloc::{AllocError, Global};
+use std::alloc::Global;
 use std::test::Fail;
-
-/// A variable, or a number by its parts.
-#[derive(Clone, Copy, Debug)]
-enum Part {
-    X,
-    Y,
-    Z,
-    N(i128, i128),
-}
-
-/// A side of a relation: a part, or a name over one or two.
-#[derive(Clone, Copy, Debug)]
-enum Side {
-    Is(Part),
-    Over(&'static str, Part),
-    Both(Part, &'static str, Part),
-}
 
 /// What a variable is at the end.
 #[derive(Clone, Copy, Debug)]
@@ -43,10 +26,6 @@ enum End {
 }
 
 use End::{Free, Number};
-use Part::{N, X, Y, Z};
-use Side::{Both, Is, Over};
-
-type Told = (Side, &'static str, Side);
 
 /// Constraints that are told together, then some that are told one after another; which of these settlings keep the branch;
 /// what X, Y and Z are at the end, and how many constraints wait then.
@@ -210,143 +189,6 @@ static SCENES: [Scene; 16] = [
         1,
     ),
 ];
-
-// ---- terms
-
-fn symbol(atoms: &mut Atoms, text: &str) -> Result<Atom, AllocError>
-    ensures known { IfOk result (λ name. name < length atoms.new) }
-    ensures more { length atoms.old ≤ length atoms.new }
-{
-    let name = atoms.intern(text)?;
-    Ok(name)
-}
-
-// Each of these makes a term, and the heap has no name that it did not have, but for the one that is given.
-
-fn part(heap: &mut Heap, part: Part) -> Result<TermId, AllocError>
-    requires variables { 3 ≤ length heap.old.now.images }
-    ensures live { IfOk result (λ id. id < length heap.new.now.terms) }
-    ensures more { length heap.old.now.terms ≤ length heap.new.now.terms }
-    ensures images { OnOk result (heap.new.now.images ≡ heap.old.now.images) }
-    ensures names { (n : ℕ) → All (HasNamesBelow n) heap.old.now.terms → All (HasNamesBelow n) heap.new.now.terms }
-{
-    match part {
-        X => Ok(heap.var_term(VarId(0))),
-        Y => Ok(heap.var_term(VarId(1))),
-        Z => Ok(heap.var_term(VarId(2))),
-        N(n, d) => heap.number(Frac::new(n, d).unwrap_or(Frac::zero())),
-    }
-}
-
-/// A name over one term.
-fn single(heap: &mut Heap, name: Atom, argument: TermId) -> Result<TermId, AllocError>
-    requires { argument < length heap.old.now.terms }
-    ensures live { IfOk result (λ id. id < length heap.new.now.terms) }
-    ensures more { length heap.old.now.terms ≤ length heap.new.now.terms }
-    ensures images { OnOk result (heap.new.now.images ≡ heap.old.now.images) }
-    ensures names { (n : ℕ) → name < n → All (HasNamesBelow n) heap.old.now.terms → All (HasNamesBelow n) heap.new.now.terms }
-{
-    let id = heap.compound(name, &[argument])?;
-    Ok(id)
-}
-
-/// A name over two terms.
-fn pair(heap: &mut Heap, name: Atom, first: TermId, second: TermId) -> Result<TermId, AllocError>
-    requires first { first < length heap.old.now.terms }
-    requires second { second < length heap.old.now.terms }
-    ensures live { IfOk result (λ id. id < length heap.new.now.terms) }
-    ensures more { length heap.old.now.terms ≤ length heap.new.now.terms }
-    ensures images { OnOk result (heap.new.now.images ≡ heap.old.now.images) }
-    ensures names { (n : ℕ) → name < n → All (HasNamesBelow n) heap.old.now.terms → All (HasNamesBelow n) heap.new.now.terms }
-{
-    let id = heap.compound(name, &[first, second])?;
-    Ok(id)
-}
-
-fn over_one(heap: &mut Heap, name: Atom, one: Part) -> Result<TermId, AllocError>
-    requires variables { 3 ≤ length heap.old.now.images }
-    ensures live { IfOk result (λ id. id < length heap.new.now.terms) }
-    ensures more { length heap.old.now.terms ≤ length heap.new.now.terms }
-    ensures images { OnOk result (heap.new.now.images ≡ heap.old.now.images) }
-    ensures names { (n : ℕ) → name < n → All (HasNamesBelow n) heap.old.now.terms → All (HasNamesBelow n) heap.new.now.terms }
-{
-    let argument = part(heap, one)?;
-    single(heap, name, argument)
-}
-
-fn over_two(heap: &mut Heap, name: Atom, left: Part, right: Part) -> Result<TermId, AllocError>
-    requires variables { 3 ≤ length heap.old.now.images }
-    ensures live { IfOk result (λ id. id < length heap.new.now.terms) }
-    ensures more { length heap.old.now.terms ≤ length heap.new.now.terms }
-    ensures images { OnOk result (heap.new.now.images ≡ heap.old.now.images) }
-    ensures names { (n : ℕ) → name < n → All (HasNamesBelow n) heap.old.now.terms → All (HasNamesBelow n) heap.new.now.terms }
-{
-    let first = part(heap, left)?;
-    let second = part(heap, right)?;
-    pair(heap, name, first, second)
-}
-
-fn side_of(heap: &mut Heap, atoms: &mut Atoms, side: Side) -> Result<TermId, AllocError>
-    requires variables { 3 ≤ length heap.old.now.images }
-    ensures live { IfOk result (λ id. id < length heap.new.now.terms) }
-    ensures more { length heap.old.now.terms ≤ length heap.new.now.terms }
-    ensures images { OnOk result (heap.new.now.images ≡ heap.old.now.images) }
-    ensures names { OnOk result (KnowsTerms atoms.old heap.old.now.terms → KnowsTerms atoms.new heap.new.now.terms) }
-{
-    match side {
-        Is(only) => part(heap, only),
-        Over(text, only) => {
-            let name = symbol(atoms, text)?;
-            over_one(heap, name, only)
-        }
-        Both(left, text, right) => {
-            let name = symbol(atoms, text)?;
-            over_two(heap, name, left, right)
-        }
-    }
-}
-
-/// The term of a constraint.
-fn term_of(heap: &mut Heap, atoms: &mut Atoms, told: Told) -> Result<TermId, AllocError>
-    requires variables { 3 ≤ length heap.old.now.images }
-    ensures live { IfOk result (λ id. id < length heap.new.now.terms) }
-    ensures more { length heap.old.now.terms ≤ length heap.new.now.terms }
-    ensures images { OnOk result (heap.new.now.images ≡ heap.old.now.images) }
-    ensures names { OnOk result (KnowsTerms atoms.old heap.old.now.terms → KnowsTerms atoms.new heap.new.now.terms) }
-{
-    let left = side_of(heap, atoms, told.0)?;
-    let right = side_of(heap, atoms, told.2)?;
-    let name = symbol(atoms, told.1)?;
-    pair(heap, name, left, right)
-}
-
-fn terms_of(heap: &mut Heap, atoms: &mut Atoms, told: &[Told]) -> Result<Vec<TermId>, AllocError>
-    requires variables { 3 ≤ length heap.old.now.images }
-    ensures live { IfOk result (λ ids. All (λ id. id < length heap.new.now.terms) ids.items) }
-    ensures more { length heap.old.now.terms ≤ length heap.new.now.terms }
-    ensures images { OnOk result (heap.new.now.images ≡ heap.old.now.images) }
-    ensures names { OnOk result (KnowsTerms atoms.old heap.old.now.terms → KnowsTerms atoms.new heap.new.now.terms) }
-{
-    let mut terms = Vec::new(heap.alloc());
-    for constraint in told {
-        let term = term_of(heap, atoms, *constraint)?;
-        terms.push(term)?;
-    }
-    Ok(terms)
-}
-
-/// The first three variables.
-fn make_variables(heap: &mut Heap) -> Result<(), AllocError>
-    requires terms { heap.old.now.terms ≡ [] }
-    requires images { heap.old.now.images ≡ [] }
-    ensures terms { OnOk result (heap.new.now.terms ≡ Var 0 ∷ Var 1 ∷ Var 2 ∷ []) }
-    ensures images { OnOk result (heap.new.now.images ≡ Var 0 ∷ Var 1 ∷ Var 2 ∷ []) }
-{
-    heap.new_var()?;
-    heap.new_var()?;
-    heap.new_var()?;
-    Ok(())
-}
 
 // ---- settling
 
