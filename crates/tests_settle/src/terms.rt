@@ -44,7 +44,7 @@ fn symbol(atoms: &mut Atoms, text: &str) -> Result<Atom, AllocError>
 
 // Each of these makes a term, and the heap has no name that it did not have, but for the one that is given.
 
-fn part(heap: &mut Heap, part: Part) -> Result<TermId, AllocError>
+fn make_part(heap: &mut Heap, part: Part) -> Result<TermId, AllocError>
     requires variables { 3 ≤ length heap.old.now.images }
     ensures live { IfOk result (λ id. id < length heap.new.now.terms) }
     ensures more { length heap.old.now.terms ≤ length heap.new.now.terms }
@@ -101,7 +101,7 @@ fn over_one(heap: &mut Heap, name: Atom, one: Part) -> Result<TermId, AllocError
     ensures images { OnOk result (heap.new.now.images ≡ heap.old.now.images) }
     ensures names { (n : ℕ) → name < n → All (HasNamesBelow n) heap.old.now.terms → All (HasNamesBelow n) heap.new.now.terms }
 {
-    let argument = part(heap, one)?;
+    let argument = make_part(heap, one)?;
     single(heap, name, argument)
 }
 
@@ -112,8 +112,8 @@ fn over_two(heap: &mut Heap, name: Atom, left: Part, right: Part) -> Result<Term
     ensures images { OnOk result (heap.new.now.images ≡ heap.old.now.images) }
     ensures names { (n : ℕ) → name < n → All (HasNamesBelow n) heap.old.now.terms → All (HasNamesBelow n) heap.new.now.terms }
 {
-    let first = part(heap, left)?;
-    let second = part(heap, right)?;
+    let first = make_part(heap, left)?;
+    let second = make_part(heap, right)?;
     pair(heap, name, first, second)
 }
 
@@ -125,7 +125,7 @@ pub(crate) fn side_of(heap: &mut Heap, atoms: &mut Atoms, side: Side) -> Result<
     ensures names { OnOk result (KnowsTerms atoms.old heap.old.now.terms → KnowsTerms atoms.new heap.new.now.terms) }
 {
     match side {
-        Is(only) => part(heap, only),
+        Is(only) => make_part(heap, only),
         Named(text) => {
             let name = symbol(atoms, text)?;
             constant(heap, name)
@@ -155,7 +155,11 @@ fn term_of(heap: &mut Heap, atoms: &mut Atoms, told: Told) -> Result<TermId, All
     pair(heap, name, left, right)
 }
 
-pub(crate) fn terms_of(heap: &mut Heap, atoms: &mut Atoms, told: &[Told]) -> Result<Vec<TermId>, AllocError>
+pub(crate) fn terms_of(
+    heap: &mut Heap,
+    atoms: &mut Atoms,
+    told: &[Told],
+) -> Result<Vec<TermId>, AllocError>
     requires variables { 3 ≤ length heap.old.now.images }
     ensures live { IfOk result (λ ids. All (λ id. id < length heap.new.now.terms) ids.items) }
     ensures more { length heap.old.now.terms ≤ length heap.new.now.terms }

@@ -9,9 +9,7 @@ use crate::terms::Side::{Both, Is, Over};
 use crate::terms::{Told, make_variables, terms_of};
 use cq_atoms::Atoms;
 use cq_frac::VarId;
-use cq_rest::{
-    constraints_may_be_told, kept_worlds_are_ready, look_at_told, new_worlds_are_ready,
-};
+use cq_rest::{constraints_may_be_told, kept_worlds_are_ready, look_at_told, new_worlds_are_ready};
 use cq_settle::{Settled, Work, settle};
 use cq_term::{Heap, Newly, TermId, View};
 use cq_world::World;
@@ -87,10 +85,7 @@ static SCENES: [Scene; 16] = [
     ),
     // X*Y=Z, Y=2; X=3
     (
-        &[
-            (Both(X, "*", Y), "=", Is(Z)),
-            (Is(Y), "=", Is(N(2, 1))),
-        ],
+        &[(Both(X, "*", Y), "=", Is(Z)), (Is(Y), "=", Is(N(2, 1)))],
         &[(Is(X), "=", Is(N(3, 1)))],
         &[true, true],
         [Number(3, 1), Number(2, 1), Number(6, 1)],
@@ -99,20 +94,14 @@ static SCENES: [Scene; 16] = [
     // X*Y=6; X=0 has no solution, and nothing of it stays; X=3
     (
         &[PRODUCT_IS_SIX],
-        &[
-            (Is(X), "=", Is(N(0, 1))),
-            (Is(X), "=", Is(N(3, 1))),
-        ],
+        &[(Is(X), "=", Is(N(0, 1))), (Is(X), "=", Is(N(3, 1)))],
         &[true, false, true],
         [Number(3, 1), Number(2, 1), Free],
         0,
     ),
     // X>=1, X=<1
     (
-        &[
-            (Is(X), ">=", Is(N(1, 1))),
-            (Is(X), "=<", Is(N(1, 1))),
-        ],
+        &[(Is(X), ">=", Is(N(1, 1))), (Is(X), "=<", Is(N(1, 1)))],
         &[],
         &[true],
         [Number(1, 1), Free, Free],
@@ -130,20 +119,11 @@ static SCENES: [Scene; 16] = [
         0,
     ),
     // X=Y: entailed equal, and two variables
-    (
-        &[(Is(X), "=", Is(Y))],
-        &[],
-        &[true],
-        [Free, Free, Free],
-        0,
-    ),
+    (&[(Is(X), "=", Is(Y))], &[], &[true], [Free, Free, Free], 0),
     // X>0; X=Y; Y<0 has no solution
     (
         &[(Is(X), ">", Is(N(0, 1)))],
-        &[
-            (Is(X), "=", Is(Y)),
-            (Is(Y), "<", Is(N(0, 1))),
-        ],
+        &[(Is(X), "=", Is(Y)), (Is(Y), "<", Is(N(0, 1)))],
         &[true, true, false],
         [Free, Free, Free],
         0,
@@ -151,10 +131,7 @@ static SCENES: [Scene; 16] = [
     // Y*Z=6; Y=X; X=2
     (
         &[(Both(Y, "*", Z), "=", Is(N(6, 1)))],
-        &[
-            (Is(Y), "=", Is(X)),
-            (Is(X), "=", Is(N(2, 1))),
-        ],
+        &[(Is(Y), "=", Is(X)), (Is(X), "=", Is(N(2, 1)))],
         &[true, true, true],
         [Number(2, 1), Number(2, 1), Number(3, 1)],
         0,
@@ -295,9 +272,7 @@ fn plays(alloc: Global, scene: &Scene) -> Result<bool, Fail> {
     new_worlds_are_ready();
     let kept = settlings(&mut world, &atoms, first, &then)?;
     let waiting = world.attrs.waiting()?;
-    Ok(kept.as_slice() == scene.2
-        && are_ends(&world.heap, scene.3)
-        && waiting.len() == scene.4)
+    Ok(kept.as_slice() == scene.2 && are_ends(&world.heap, scene.3) && waiting.len() == scene.4)
 }
 
 #[test]
