@@ -1,6 +1,7 @@
 // Worlds made by hand, and what settling makes of constraints that are told to them, together and one after another.
 
 ghost use Rattle.std.specs.Prelude.{◌≡◌, ◌≤◌, ◌<◌, length, All, OnOk};
+ghost use Rattle.cq_settle.specs.Called.{SomeIsCalled};
 ghost use Rattle.cq_world.specs.Rest.{IsReady};
 ghost use Rattle.cq_world.specs.Worlds.{now_of};
 
@@ -9,6 +10,7 @@ use crate::terms::Side::{Both, Is, Over};
 use crate::terms::{Told, make_variables, terms_of};
 use cq_atoms::Atoms;
 use cq_frac::VarId;
+use cq_linear::store::StoreFault;
 use cq_rest::{constraints_may_be_told, kept_worlds_are_ready, look_at_told, new_worlds_are_ready};
 use cq_settle::{Settled, Work, settle};
 use cq_term::{Heap, Newly, TermId, View};
@@ -169,8 +171,24 @@ static SCENES: [Scene; 16] = [
 
 // ---- settling
 
+/// Whether the branch is kept.
+fn settle_ready(world: &mut World, atoms: &Atoms, work: Work) -> Result<bool, StoreFault>
+    requires called { SomeIsCalled atoms.now (now_of world.old) work.newly work.told.items work.rows.items }
+    requires ready { IsReady atoms.now (now_of world.old) }
+    ensures ready { OnOk result (IsReady atoms.now (now_of world.new)) }
+    ensures live { OnOk result (length world.old.heap.now.terms ≤ length world.new.heap.now.terms) }
+    ensures variables { OnOk result (length world.new.heap.now.images ≡ length world.old.heap.now.images) }
+{
+    kept_worlds_are_ready();
+    match settle(world, atoms, work) {
+        Ok(Settled::Woken(_)) => Ok(true),
+        Ok(Settled::Pruned) => Ok(false),
+        Err(fault) => Err(fault),
+    }
+}
+
 /// Whether the branch is kept where the constraints are told.
-fn tell(world: &mut World, atoms: &Atoms, told: Vec<TermId>) -> Result<bool, Fail>
+pub(crate) fn tell(world: &mut World, atoms: &Atoms, told: Vec<TermId>) -> Result<bool, StoreFault>
     requires ready { IsReady atoms.now (now_of world.old) }
     requires live { All (λ id. id < length world.old.heap.now.terms) told.items }
     ensures ready { OnOk result (IsReady atoms.now (now_of world.new)) }
@@ -179,20 +197,16 @@ fn tell(world: &mut World, atoms: &Atoms, told: Vec<TermId>) -> Result<bool, Fai
 {
     look_at_told(&world.heap, &told);
     constraints_may_be_told();
-    kept_worlds_are_ready();
     let alloc = world.heap.alloc();
     let work = Work {
         newly: Newly::new(alloc),
         told,
         rows: Vec::new(alloc),
     };
-    match settle(world, atoms, work)? {
-        Settled::Pruned => Ok(false),
-        Settled::Woken(_) => Ok(true),
-    }
+    settle_ready(world, atoms, work)
 }
 
-fn tell_one(world: &mut World, atoms: &Atoms, term: TermId) -> Result<bool, Fail>
+fn tell_one(world: &mut World, atoms: &Atoms, term: TermId) -> Result<bool, StoreFault>
     requires ready { IsReady atoms.now (now_of world.old) }
     requires live { term < length world.old.heap.now.terms }
     ensures ready { OnOk result (IsReady atoms.now (now_of world.new)) }
