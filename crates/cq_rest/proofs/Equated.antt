@@ -1,0 +1,283 @@
+-- A world whose terms were made equal is called to be settled.
+use Rattle.std.proofs.Common.{◌≡◌, ◌≢◌, ◌<◌, ◌≤◌, ℕ, zero, suc, List, [], ◌∷◌, length, map, get_or, Bool, true, false, Some, refl, sym, ap, ap₂, ◌∙◌, subst, arith, inl, inr}
+use Rattle.std.specs.Prelude.{All, Contains, not, ◌==◌}
+use Rattle.std.specs.List.{AllZip, AllPairs}
+use Rattle.std.proofs.lemmas.Bool.{true≢false}
+use Rattle.std.proofs.lemmas.List.{get_or-map, length-map}
+use Rattle.std.proofs.lemmas.List.Elements.{Contains-get_or}
+use Rattle.std.proofs.lemmas.Option.{slice_get-get_or}
+use Rattle.spec_linear.specs.Solution.{Constraint}
+use Rattle.spec_lists.specs.Texts.{Text}
+use Rattle.spec_lists.proofs.Tests.{nat_eq-self, nat_eq-same}
+use Rattle.spec_terms.specs.Term.{Subst, Var, Number, Name, Compound, Occurs, apply, followed_by, named}
+use Rattle.spec_terms.specs.Unifier.{Equation, IsUnifier, read_under}
+use Rattle.spec_terms.specs.Names.{AreDifferentBelow, named_pairs, named_images}
+use Rattle.spec_terms.proofs.Renamed.{unifier_by_texts}
+use Rattle.spec_terms.proofs.Substitution.{apply-followed_by, named-apply}
+use Rattle.spec_syntax.specs.Trees.{Tree}
+use Rattle.spec_branch.specs.Branch.{State, Pending, no_work, Asleep, Frozen, Sleeper}
+use Rattle.spec_branch.specs.Settling.{is_the_variable, is_bound}
+use Rattle.cq_atoms.specs.Texts.{AreDifferent, text_of}
+use Rattle.cq_attr.specs.Attributes.{Waiting}
+use Rattle.cq_attr.proofs.Elements.{contains_here, contains_later, contains_cases, contains_none}
+use Rattle.cq_frac.specs.declared.VarId.{VarId}
+use Rattle.cq_term.specs.HeapValue.{Terms}
+use Rattle.cq_term.specs.Meaning.{HeapTerm, at, blank}
+use Rattle.cq_term.specs.Names.{HasNamesBelow}
+use Rattle.cq_term.specs.Shown.{IsUnbound}
+use Rattle.cq_term.specs.Trees.{tree, trees, KnowsTerms}
+use Rattle.cq_term.proofs.Meanings.{at-map}
+use Rattle.cq_unify.specs.Unified.{Unified, equation, in_turn}
+use Rattle.cq_walk.specs.Places.{numbers_of}
+use Rattle.cq_world.specs.Contents.{Contents}
+use Rattle.cq_world.specs.Standing.{AreImages, Stands, IsConstraint, IsSleeper, AreRead, constraints, goals}
+use Rattle.cq_world.specs.Rest.{IsReadThrough, IsReadyAs, IsReady}
+use Rattle.cq_settle.specs.Called.{IsCalled, IsNewlyBound, SomeIsCalled, bound_state}
+use Rattle.cq_rest.specs.Ready.{MayBeTold, with_terms}
+use Rattle.cq_rest.proofs.Alone.{StandsIn, stands_or_not, stays_itself}
+use Rattle.cq_rest.proofs.Bound.{bound_through}
+use Rattle.cq_rest.proofs.Names.{occurs_named, named_variable, each_below, image_below}
+use Rattle.cq_rest.proofs.Told.{themselves, itself, live}
+
+-- ---- variables and lists of them
+
+its_own : (v : ℕ) (t : Tree) → is_the_variable v t ≡ true → t ≡ Var v
+its_own v (Var w) e = ap (λ (x : ℕ). Var x) (nat_eq-same w v e)
+its_own v (Number q) e = cc
+its_own v (Name a) e = cc
+its_own v (Compound a ts) e = cc
+
+unbound_by : (v : ℕ) (t : Tree) (b : Bool) → is_the_variable v t ≡ b → not b ≡ false → t ≡ Var v
+unbound_by v t true e n = its_own v t e
+unbound_by v t false e n = cc
+
+-- what is not bound is its own image
+unbound_is : (s : Subst Text) (v : ℕ) → is_bound s v ≡ false → s v ≡ Var v
+unbound_is s v e = unbound_by v (s v) (is_the_variable v (s v)) refl e
+
+is_unbound : (s : Subst Text) (v : ℕ) → s v ≡ Var v → is_bound s v ≡ false
+is_unbound s v e = ap (λ (t : Tree). not (is_the_variable v t)) e ∙ ap not (nat_eq-self v)
+
+abbrev one_pair : Tree → Tree → List (Equation Text)
+one_pair x y = record { left = x; right = y } ∷ []
+
+number_contained : (vs : List VarId) (v : VarId) → Contains vs v → Contains (numbers_of vs) v.0
+number_contained [] v h = absurd (contains_none v h)
+number_contained (w ∷ vs) v h = elim (contains_cases w vs v h) [
+  | inl e ↦ contains_here w.0 (numbers_of vs) v.0 (ap (λ (x : VarId). x.0) e)
+  | inr m ↦ contains_later w.0 (numbers_of vs) v.0 (number_contained vs v m)
+]
+
+numbers_once : (vs : List VarId) → AllPairs ◌≢◌ vs → AllPairs ◌≢◌ (numbers_of vs)
+numbers_once vs h i j d l w e =
+    let within : j < length vs = omega (arith, w, length-map vs (λ (x : VarId). x.0)) in
+    let same : (get_or vs i (record { 0 = d })).0 ≡ (get_or vs j (record { 0 = d })).0 =
+    sym (get_or-map (λ (x : VarId). x.0) vs i (record { 0 = d }) d (omega (arith, l, within))) ∙ e ∙ get_or-map (λ (x : VarId). x.0) vs j (record { 0 = d }) d within in
+    h i j (record { 0 = d }) l within (ap (λ (n : ℕ). record { 0 = n }) same)
+
+each_number : (P : ℕ → Type 0) (vs : List VarId) → ((v : VarId) → Contains vs v → P v.0) → All P (numbers_of vs)
+each_number P vs h i d l =
+    let within : i < length vs = omega (arith, l, length-map vs (λ (x : VarId). x.0)) in
+    subst P (sym (get_or-map (λ (x : VarId). x.0) vs i (record { 0 = d }) d within)) (h (get_or vs i (record { 0 = d })) (Contains-get_or vs i (record { 0 = d }) within))
+
+module _ (texts : List Text) (different : AreDifferent texts) (c : Contents) (h : Terms) (a b : ℕ) (newly : List VarId) (st : State)
+    (r : IsReadyAs texts c st) (ma : MayBeTold c.heap a) (mb : MayBeTold c.heap b) (k : Unified c.heap h a b newly) (names : KnowsTerms texts h.terms) where
+  abbrev s : Subst ℕ
+  s = in_turn k.bindings
+
+  abbrev u : Subst Text
+  u = named_images (text_of texts) s
+
+  abbrev pairs : List (Equation ℕ)
+  pairs = equation c.heap a b
+
+  abbrev equations : List (Equation Text)
+  equations = named_pairs (text_of texts) pairs
+
+  same_images : length h.images ≡ length c.heap.images
+  same_images = ap length k.images ∙ length-map c.heap.images (apply s)
+
+  same_terms : length h.terms ≡ length c.heap.terms
+  same_terms = ap length k.terms ∙ length-map c.heap.terms (apply s)
+
+  -- ---- the unifier
+
+  in_pair : (v : ℕ) → StandsIn v pairs → IsUnbound c.heap.images v
+  in_pair v (inl o) = ma.inside v o
+  in_pair v (inr (inl o)) = mb.inside v o
+  in_pair v (inr (inr o)) = absurd o
+
+  at_new : (id : ℕ) → id < length c.heap.terms → at h.terms id ≡ apply s (at c.heap.terms id)
+  at_new id l = ap (λ (ts : List HeapTerm). at ts id) k.terms ∙ at-map (apply s) c.heap.terms id l
+
+  known_new : (id : ℕ) → id < length c.heap.terms → HasNamesBelow (length texts) (apply s (at c.heap.terms id))
+  known_new id l = subst (HasNamesBelow (length texts)) (at_new id l) (names id blank (omega (arith, l, same_terms)))
+
+  known_in_pair : (v : ℕ) → StandsIn v pairs → HasNamesBelow (length texts) (s v)
+  known_in_pair v (inl o) = image_below (length texts) s v (at c.heap.terms a) o (known_new a ma.live)
+  known_in_pair v (inr (inl o)) = image_below (length texts) s v (at c.heap.terms b) o (known_new b mb.live)
+  known_in_pair v (inr (inr o)) = absurd o
+
+  image_known : (v : ℕ) → HasNamesBelow (length texts) (s v)
+  image_known v = elim (stands_or_not v pairs) [
+    | inl i ↦ known_in_pair v i
+    | inr out ↦ subst (HasNamesBelow (length texts)) (sym (stays_itself pairs s k.unifier v out)) tt
+  ]
+
+  different_below : AreDifferentBelow (length texts) (text_of texts)
+  different_below i j in_i in_j same =
+      different i j (text_of texts i) (slice_get-get_or texts i [] in_i) (slice_get-get_or texts j [] in_j ∙ ap (λ t. Some t) (sym same))
+
+  named_unifier : IsUnifier equations u
+  named_unifier = unifier_by_texts (text_of texts) (length texts) different_below pairs s
+      (each_below (length texts) (at c.heap.terms a) (r.stands.names a blank ma.live), each_below (length texts) (at c.heap.terms b) (r.stands.names b blank mb.live), tt)
+      (λ v. each_below (length texts) (s v) (image_known v)) k.unifier
+
+  read_same : read_under st.bindings equations ≡ equations
+  read_same = ap₂ one_pair (sym (itself texts c.heap st.bindings r.stands.bindings a ma)) (sym (itself texts c.heap st.bindings r.stands.bindings b mb))
+
+  unnamed_pair : (v : ℕ) → StandsIn v equations → StandsIn v pairs
+  unnamed_pair v (inl o) = inl (occurs_named (text_of texts) v (at c.heap.terms a) o)
+  unnamed_pair v (inr (inl o)) = inr (inl (occurs_named (text_of texts) v (at c.heap.terms b) o))
+  unnamed_pair v (inr (inr o)) = absurd o
+
+  state_unbound : (v : ℕ) → IsUnbound c.heap.images v → st.bindings v ≡ Var v
+  state_unbound v i = r.stands.bindings.inside v i.0 ∙ ap (named (text_of texts)) i.1
+
+  inside_state : (v : ℕ) → StandsIn v equations → (v < st.fresh) × (st.bindings v ≡ Var v)
+  inside_state v o = let i = in_pair v (unnamed_pair v o) in (omega (arith, i.0, r.stands.fresh), state_unbound v i)
+
+  through : IsReadThrough (bound_state st u)
+  through = bound_through st equations u r.rests.read_through named_unifier inside_state
+
+  -- ---- the world
+
+  images_new : (v : ℕ) → v < length c.heap.images → tree texts h.images v ≡ apply u (tree texts c.heap.images v)
+  images_new v l =
+      ap (λ (ts : List HeapTerm). named (text_of texts) (at ts v)) k.images
+      ∙ ap (named (text_of texts)) (at-map (apply s) c.heap.images v l)
+      ∙ named-apply (text_of texts) s (at c.heap.images v)
+
+  terms_new : (id : ℕ) → id < length c.heap.terms → tree texts h.terms id ≡ apply u (tree texts c.heap.terms id)
+  terms_new id l = ap (named (text_of texts)) (at_new id l) ∙ named-apply (text_of texts) s (at c.heap.terms id)
+
+  now_images : AreImages texts h.images (followed_by st.bindings u)
+  now_images = record {
+    inside = λ v l. (let old : v < length c.heap.images = omega (arith, l, same_images) in ap (apply u) (r.stands.bindings.inside v old) ∙ sym (images_new v old));
+    outside = λ v l. through.beyond v (omega (arith, l, same_images, r.stands.fresh));
+  }
+
+  constraint_now : (w : Waiting) (t : Tree) → IsConstraint texts c.heap st.bindings st.bindings w t → IsConstraint texts h st.bindings (followed_by st.bindings u) w t
+  constraint_now w t e = record {
+    id = e.id;
+    susp = e.susp;
+    live = omega (arith, e.live, same_terms);
+    reads = terms_new e.id e.live ∙ ap (apply u) e.reads ∙ sym (apply-followed_by st.bindings u t);
+    watched = e.watched;
+  }
+
+  constraints_now : (ws : List Waiting) (ts : List Tree) → AllZip (IsConstraint texts c.heap st.bindings st.bindings) ws ts
+      → AllZip (IsConstraint texts h st.bindings (followed_by st.bindings u)) ws ts
+  constraints_now [] [] z = tt
+  constraints_now [] (t ∷ ts) z = absurd z
+  constraints_now (w ∷ ws) [] z = absurd z
+  constraints_now (w ∷ ws) (t ∷ ts) z = (constraint_now w t z.0, constraints_now ws ts z.1)
+
+  read_now : (x : VarId) (id : ℕ) → x.0 < length c.heap.images → id < length c.heap.terms → (y : Asleep) → AreRead texts c.heap st.bindings x id y
+      → AreRead texts h (followed_by st.bindings u) x id y
+  read_now x id lx l (Frozen y g) e = (
+    images_new x.0 lx ∙ ap (apply u) e.0 ∙ sym (apply-followed_by st.bindings u y),
+    terms_new id l ∙ ap (apply u) e.1 ∙ sym (apply-followed_by st.bindings u g),
+  )
+
+  sleeper_now : (w : Waiting) (z : Sleeper) → IsSleeper texts c.heap st.bindings st.bindings w z → IsSleeper texts h st.bindings (followed_by st.bindings u) w z
+  sleeper_now w z e = record {
+    variable = e.variable;
+    id = e.id;
+    susp = e.susp;
+    variable_live = omega (arith, e.variable_live, same_images);
+    live = omega (arith, e.live, same_terms);
+    reads = read_now e.variable e.id e.variable_live e.live z.asleep e.reads;
+    watched = e.watched;
+  }
+
+  sleepers_now : (ws : List Waiting) (zs : List Sleeper) → AllZip (IsSleeper texts c.heap st.bindings st.bindings) ws zs
+      → AllZip (IsSleeper texts h st.bindings (followed_by st.bindings u)) ws zs
+  sleepers_now [] [] z = tt
+  sleepers_now [] (t ∷ ts) z = absurd z
+  sleepers_now (w ∷ ws) [] z = absurd z
+  sleepers_now (w ∷ ws) (t ∷ ts) z = (sleeper_now w t z.0, sleepers_now ws ts z.1)
+
+  stands_now : Stands texts (with_terms c h) st.bindings (followed_by st.bindings u) st
+  stands_now = record {
+    bindings = now_images;
+    linear = r.stands.linear;
+    delayed = constraints_now (constraints c.attrs) st.delayed r.stands.delayed;
+    numeric = r.stands.numeric;
+    sleepers = sleepers_now (goals c.attrs) st.sleepers r.stands.sleepers;
+    fresh = same_images ∙ r.stands.fresh;
+    names = names;
+  }
+
+  -- ---- what was bound
+
+  at_image : (v : ℕ) → IsUnbound c.heap.images v → at h.images v ≡ s v
+  at_image v i = ap (λ (ts : List HeapTerm). at ts v) k.images ∙ at-map (apply s) c.heap.images v i.0 ∙ ap (apply s) i.1
+
+  stays_unbound : (v : ℕ) → IsUnbound c.heap.images v → is_bound u v ≡ false → IsUnbound h.images v
+  stays_unbound v i e = (omega (arith, i.0, same_images), at_image v i ∙ named_variable (text_of texts) (s v) v (unbound_is u v e))
+
+  is_bound_by : (v : ℕ) → IsUnbound c.heap.images v → (IsUnbound h.images v → ⊥) → (x : Bool) → is_bound u v ≡ x → is_bound u v ≡ true
+  is_bound_by v i n true e = e
+  is_bound_by v i n false e = absurd (n (stays_unbound v i e))
+
+  bound_one : (v : VarId) → Contains newly v → IsNewlyBound st u v.0
+  bound_one v m =
+      let n = (k.newly v).0 m in
+      record {
+        there = omega (arith, n.0.0, r.stands.fresh);
+        unbound = is_unbound st.bindings v.0 (state_unbound v.0 n.0);
+        binds = is_bound_by v.0 n.0 n.1 (is_bound u v.0) refl;
+      }
+
+  was_unbound : (v : ℕ) → IsNewlyBound st u v → IsUnbound c.heap.images v
+  was_unbound v n =
+      let l : v < length c.heap.images = omega (arith, n.there, r.stands.fresh) in
+      (l, named_variable (text_of texts) (at c.heap.images v) v (sym (r.stands.bindings.inside v l) ∙ unbound_is st.bindings v n.unbound))
+
+  now_bound : (v : ℕ) → IsNewlyBound st u v → IsUnbound h.images v → ⊥
+  now_bound v n i =
+      true≢false (sym n.binds ∙ is_unbound u v (ap (named (text_of texts)) (sym (at_image v (was_unbound v n)) ∙ i.1)))
+
+  listed : (v : ℕ) → IsNewlyBound st u v → Contains (numbers_of newly) v
+  listed v n = number_contained newly (record { 0 = v }) ((k.newly (record { 0 = v })).1 (was_unbound v n, now_bound v n))
+
+  -- ---- the call
+
+  module _ (told : List ℕ) (rows : List Constraint) (m : All (MayBeTold h) told) where
+    work : Pending
+    work = record no_work { equations = equations; rows = rows; told = trees texts h.terms told }
+
+    equated : IsCalled texts (with_terms c h) newly told rows st work u
+    unfolding work
+    equated = record {
+      rests = r.rests;
+      unifier = subst (λ (es : List (Equation Text)). IsUnifier es u) (sym read_same) named_unifier;
+      read_through = through;
+      stands = stands_now;
+      once = numbers_once newly k.once;
+      bound = each_number (IsNewlyBound st u) newly bound_one;
+      numeric = λ v e n. listed v n;
+      awaited = λ v n w b. listed v b;
+      told_live = live h told m;
+      told_reads = themselves texts h (followed_by st.bindings u) now_images told m;
+      rows_are = refl;
+    }
+
+    is_equated : SomeIsCalled texts (with_terms c h) newly told rows
+    is_equated = record { state = st; pending = work; unifier = u; is = equated }
+
+pub equated_called : (texts : List Text) (c : Contents) (h : Terms) (a b : ℕ) (newly : List VarId) (told : List ℕ) (rows : List Constraint) → AreDifferent texts → IsReady texts c
+    → MayBeTold c.heap a → MayBeTold c.heap b → Unified c.heap h a b newly → KnowsTerms texts h.terms → All (MayBeTold h) told
+    → SomeIsCalled texts (with_terms c h) newly told rows
+equated_called texts c h a b newly told rows different r ma mb k names m = is_equated texts different c h a b newly r.0 r.1 ma mb k names told rows m

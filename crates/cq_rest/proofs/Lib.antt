@@ -1,0 +1,7 @@
+mod Names
+mod Beginning
+mod Told
+mod Alone
+mod Bound
+mod Equated
+mod Asleep
