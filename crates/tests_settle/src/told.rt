@@ -20,12 +20,16 @@ use std::test::Fail;
 
 /// What a variable is at the end.
 #[derive(Clone, Copy, Debug)]
-enum End {
+pub(crate) enum End {
     Free,
     Number(i128, i128),
+    /// It is the variable.
+    Same(usize),
+    /// It is an atom or a compound.
+    Other,
 }
 
-use End::{Free, Number};
+use End::{Free, Number, Other, Same};
 
 /// Constraints that are told together, then some that are told one after another; which of these settlings keep the branch;
 /// what X, Y and Z are at the end, and how many constraints wait then.
@@ -206,7 +210,7 @@ pub(crate) fn tell(world: &mut World, atoms: &Atoms, told: Vec<TermId>) -> Resul
     settle_ready(world, atoms, work)
 }
 
-fn tell_one(world: &mut World, atoms: &Atoms, term: TermId) -> Result<bool, StoreFault>
+fn tell_one(world: &mut World, atoms: &Atoms, term: TermId) -> Result<bool, Fail>
     requires ready { IsReady atoms.now (now_of world.old) }
     requires live { term < length world.old.heap.now.terms }
     ensures ready { OnOk result (IsReady atoms.now (now_of world.new)) }
@@ -215,11 +219,11 @@ fn tell_one(world: &mut World, atoms: &Atoms, term: TermId) -> Result<bool, Stor
 {
     let mut told = Vec::new(world.heap.alloc());
     told.push(term)?;
-    tell(world, atoms, told)
+    Ok(tell(world, atoms, told)?)
 }
 
 /// Whether the branch is kept, for each of the terms in turn.
-fn tell_each(
+pub(crate) fn tell_each(
     world: &mut World,
     atoms: &Atoms,
     terms: &[TermId],
@@ -261,6 +265,11 @@ fn is_end(heap: &Heap, variable: VarId, end: End) -> bool
     let seen = heap.view(heap.var_term(variable));
     match end {
         Free => seen == View::Var(variable),
+        Same(other) => seen == View::Var(VarId(other)),
+        Other => match seen {
+            View::Name(_) | View::Compound(_, _) => true,
+            _ => false,
+        },
         Number(n, d) => match seen {
             View::Number(q) => q.parts() == (n, d),
             _ => false,
@@ -268,7 +277,7 @@ fn is_end(heap: &Heap, variable: VarId, end: End) -> bool
     }
 }
 
-fn are_ends(heap: &Heap, ends: [End; 3]) -> bool
+pub(crate) fn are_ends(heap: &Heap, ends: [End; 3]) -> bool
     requires { 3 ≤ length heap.now.now.images }
 {
     is_end(heap, VarId(0), ends[0])
