@@ -3,7 +3,6 @@
 use cq_form::{Constraint, Form};
 use cq_frac::{Frac, VarId};
 use cq_linear::store::{Extent, Store, StoreFault, Told};
-use cq_trail::Undo;
 use spec_linear::Relation;
 use std::alloc::Global;
 use std::test::Fail;
@@ -346,35 +345,5 @@ fn enough_is_a_power_of_two(rt: HostRuntime) -> Result<(), Fail> {
     assert_eq!(rt; store.enough(), Some(9_223_372_036_854_775_808));
     store.tell(constraint(rt.alloc(), Relation::Ge, &[(1, 64)], 0)?)?;
     assert_eq!(rt; store.enough(), None);
-    Ok(())
-}
-
-#[test]
-fn a_store_goes_back_to_a_mark(rt: HostRuntime) -> Result<(), Fail> {
-    let mut store = Store::new(rt.alloc(), 20);
-    assert!(rt;
-        keeps(
-            &mut store,
-            constraint(rt.alloc(), Relation::Ge, &[(1, 0)], -1)?,
-            0
-        )
-    );
-    let mark = store.mark()?;
-    assert!(rt;
-        keeps(
-            &mut store,
-            constraint(rt.alloc(), Relation::Eq, &[(1, 0)], -3)?,
-            1
-        )
-    );
-    let form = form_of(rt.alloc(), &[(1, 0)], 0)?;
-    assert!(rt; is_reached(store.sup(&form), Some(3)));
-    let other = constraint(rt.alloc(), Relation::Eq, &[(1, 0)], -4)?;
-    assert!(rt; refuses(&mut store, other, &[(3, 1), (2, -1)]));
-    store.undo(mark);
-    assert_eq!(rt; store.told().len(), 1);
-    assert!(rt; store.value(VarId(0)).is_none());
-    assert!(rt; is_reached(store.inf(&form), Some(1)));
-    assert!(rt; is_reached(store.sup(&form), None));
     Ok(())
 }
