@@ -41,3 +41,4 @@ mod Shown
 mod Before
 mod Equated
 mod Begun
+mod Calls
