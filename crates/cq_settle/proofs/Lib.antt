@@ -41,4 +41,3 @@ mod Shown
 mod Before
 mod Equated
 mod Begun
-mod Calls

@@ -4,8 +4,6 @@
 mod beginning;
 mod closing;
 mod joining;
-mod laws;
 mod settling;
 
-pub use laws::worlds_at_rest_may_be_called;
 pub use settling::{Settled, Work, settle};
