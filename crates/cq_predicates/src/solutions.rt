@@ -35,7 +35,8 @@ pub struct Solutions {
 
 impl Solutions {
     /// The next alternative; none behind the last one. After an error, which is want of memory, the heap is as it was, and
-    /// the same alternatives are still to come; names may stay.
+    /// the same alternatives are still to come; names may stay. What is still to come afterwards needs no terms but those that
+    /// were there before, so the heap may go back to what it was.
     pub fn next(
         &mut self,
         heap: &mut Heap,
@@ -46,6 +47,7 @@ impl Solutions {
         ensures next { IfOk result (TakesNext atoms.old heap.old.now.terms self.old atoms.new heap.new.now.terms self.new) }
         ensures there { IfOk result (CanBeTried heap.new.now.terms) }
         ensures live { CanGoOn heap.new.now.terms self.new }
+        ensures back { CanGoOn heap.old.now.terms self.new }
         ensures images { heap.new.now.images ≡ heap.old.now.images }
         ensures adds { Adds atoms.old heap.old atoms.new heap.new }
         ensures err { OnErr result (heap.new.now ≡ heap.old.now) }
@@ -104,6 +106,7 @@ fn next_text(
     ensures next { IfOk result (text.TakesNext offered atoms.old heap.old.now.terms ways.old atoms.new heap.new.now.terms ways.new) }
     ensures there { IfOk result (CanBeTried heap.new.now.terms) }
     ensures live { text.CanGoOn heap.new.now.terms ways.new }
+    ensures back { text.CanGoOn heap.old.now.terms ways.new }
     ensures grows { Grows atoms.old heap.old atoms.new heap.new }
     ensures err { OnErr result (heap.new.now ≡ heap.old.now) }
     ensures same { OnErr result (ways.new ≡ ways.old) }

@@ -67,7 +67,7 @@ pub struct TextAlternatives {
 
 impl TextAlternatives {
     /// The next alternative; none behind the last one. After an error, which is want of memory, the same ones are still to
-    /// come.
+    /// come. What is still to come afterwards needs no terms but those that were there before.
     pub fn next(
         &mut self,
         heap: &mut Heap,
@@ -78,6 +78,7 @@ impl TextAlternatives {
         ensures next { IfOk result (λ next. TakesNext offered atoms.old heap.old.now.terms self.old atoms.new heap.new.now.terms self.new next) }
         ensures there { IfOk result (CanBeTried heap.new.now.terms) }
         ensures live { CanGoOn heap.new.now.terms self.new }
+        ensures back { CanGoOn heap.old.now.terms self.new }
         ensures grows { Grows atoms.old heap.old atoms.new heap.new }
         ensures err { OnErr result (self.new ≡ self.old) }
     {
@@ -100,6 +101,7 @@ impl SplitWays {
         ensures next { IfOk result (λ next. TakesNext split_ways atoms.old heap.old.now.terms self.old atoms.new heap.new.now.terms self.new next) }
         ensures there { IfOk result (CanBeTried heap.new.now.terms) }
         ensures live { HasSplitArgs heap.new.now.terms self.new.args }
+        ensures back { HasSplitArgs heap.old.now.terms self.new.args }
         ensures grows { Grows atoms.old heap.old atoms.new heap.new }
         ensures err { OnErr result (self.new ≡ self.old) }
     {
@@ -123,6 +125,7 @@ impl PartWays {
         ensures next { IfOk result (λ next. TakesNext part_ways atoms.old heap.old.now.terms self.old atoms.new heap.new.now.terms self.new next) }
         ensures there { IfOk result (CanBeTried heap.new.now.terms) }
         ensures live { HasPartArgs heap.new.now.terms self.new.args }
+        ensures back { HasPartArgs heap.old.now.terms self.new.args }
         ensures grows { Grows atoms.old heap.old atoms.new heap.new }
         ensures err { OnErr result (self.new ≡ self.old) }
     {
