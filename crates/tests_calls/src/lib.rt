@@ -2,4 +2,12 @@
 #![tactic(auto)]
 
 #[cfg(test)]
-mod calls;
+mod deep;
+#[cfg(test)]
+mod names;
+#[cfg(test)]
+mod outcomes;
+#[cfg(test)]
+mod terms;
+#[cfg(test)]
+mod texts;

@@ -1,0 +1,129 @@
+// Texts of many characters: their codes as a list that is deeper than any stack, and their first parts.
+
+ghost use Rattle.std.specs.Prelude.{◌<◌, ◌≤◌, length, IfOk};
+ghost use Rattle.cq_term.specs.Trees.{KnowsTerms};
+ghost use Rattle.cq_walk.specs.Pairs.{IsLive};
+
+use cq_atoms::Atoms;
+use cq_built::{BuiltinFault, atom};
+use cq_builtin::{Comparison, TypeTest, copy_term, order, test};
+use cq_codes::{Conversion, convert};
+use cq_term::{Heap, TermId};
+use cq_walk::Pair;
+use std::alloc::{AllocError, Global};
+use std::test::Fail;
+
+const MANY: usize = 200_000;
+
+fn long_text(alloc: Global) -> Result<String, AllocError> {
+    let mut text = String::new(alloc);
+    for _character in 0..MANY {
+        text.push('é')?;
+    }
+    Ok(text)
+}
+
+fn variable(heap: &mut Heap, atoms: &Atoms) -> Result<TermId, AllocError>
+    requires names { KnowsTerms atoms.now heap.old.now.terms }
+    ensures live { IfOk result (λ id. id < length heap.new.now.terms) }
+    ensures more { length heap.old.now.terms ≤ length heap.new.now.terms }
+    ensures names { KnowsTerms atoms.now heap.new.now.terms }
+{
+    let id = heap.new_var()?;
+    Ok(id)
+}
+
+/// atom_codes, with what its contract says of the sizes.
+fn spelled(
+    heap: &mut Heap,
+    atoms: &mut Atoms,
+    name: TermId,
+    codes: TermId,
+) -> Result<Pair, BuiltinFault>
+    requires name { name < length heap.old.now.terms }
+    requires codes { codes < length heap.old.now.terms }
+    requires names { KnowsTerms atoms.old heap.old.now.terms }
+    ensures live { IfOk result (IsLive heap.new.now.terms) }
+    ensures more { length heap.old.now.terms ≤ length heap.new.now.terms }
+    ensures names { KnowsTerms atoms.new heap.new.now.terms }
+{
+    convert(heap, atoms, Conversion::AtomCodes, name, codes)
+}
+
+/// Whether the codes are a list and the same as their copy.
+fn are_listed(heap: &mut Heap, atoms: &Atoms, codes: TermId) -> Result<bool, AllocError>
+    requires live { codes < length heap.old.now.terms }
+    requires names { KnowsTerms atoms.now heap.old.now.terms }
+{
+    let is_list = test(heap, atoms, TypeTest::List, codes)?;
+    let copied = copy_term(heap, atoms, codes, codes)?;
+    let is_same = order(heap, atoms, Comparison::Same, copied.left, copied.right)?;
+    Ok(is_list && is_same)
+}
+
+/// Whether the codes spell the atom.
+fn spell(
+    heap: &mut Heap,
+    atoms: &mut Atoms,
+    codes: TermId,
+    open: TermId,
+    name: TermId,
+) -> Result<bool, AllocError>
+    requires codes { codes < length heap.old.now.terms }
+    requires open { open < length heap.old.now.terms }
+    requires name { name < length heap.old.now.terms }
+    requires names { KnowsTerms atoms.old heap.old.now.terms }
+{
+    match spelled(heap, atoms, open, codes) {
+        Ok(pair) => order(heap, atoms, Comparison::Same, pair.right, name),
+        Err(_) => Ok(false),
+    }
+}
+
+/// Whether the codes of an atom are a list that spells it.
+fn is_spelled(heap: &mut Heap, atoms: &mut Atoms, name: TermId) -> Result<bool, AllocError>
+    requires live { name < length heap.old.now.terms }
+    requires names { KnowsTerms atoms.old heap.old.now.terms }
+{
+    let open = variable(heap, atoms)?;
+    match spelled(heap, atoms, name, open) {
+        Ok(pair) => Ok(spell(heap, atoms, pair.right, open, name)?),
+        Err(_) => Ok(false),
+    }
+}
+
+/// Whether the codes of an atom are a list.
+fn is_listed(heap: &mut Heap, atoms: &mut Atoms, name: TermId) -> Result<bool, AllocError>
+    requires live { name < length heap.old.now.terms }
+    requires names { KnowsTerms atoms.old heap.old.now.terms }
+{
+    let open = variable(heap, atoms)?;
+    match spelled(heap, atoms, name, open) {
+        Ok(pair) => Ok(are_listed(heap, atoms, pair.right)?),
+        Err(_) => Ok(false),
+    }
+}
+
+fn with_long_atom(alloc: Global, spelling: bool) -> Result<bool, AllocError> {
+    let mut heap = Heap::new(alloc);
+    let mut atoms = Atoms::new(alloc);
+    let text = long_text(alloc)?;
+    let name = atom(&mut heap, &mut atoms, text.as_str())?;
+    if spelling {
+        is_spelled(&mut heap, &mut atoms, name)
+    } else {
+        is_listed(&mut heap, &mut atoms, name)
+    }
+}
+
+#[test]
+fn a_long_list_is_copied_and_compared(rt: HostRuntime) -> Result<(), Fail> {
+    assert!(rt; with_long_atom(rt.alloc(), false)?);
+    Ok(())
+}
+
+#[test]
+fn a_long_list_spells_an_atom(rt: HostRuntime) -> Result<(), Fail> {
+    assert!(rt; with_long_atom(rt.alloc(), true)?);
+    Ok(())
+}

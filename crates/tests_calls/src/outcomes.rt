@@ -1,0 +1,249 @@
+// What goals of predicates on terms and texts come to, as texts.
+
+ghost use Rattle.std.specs.Prelude.{◌≡◌, ◌<◌, All, length};
+ghost use Rattle.spec_lists.specs.Prefixes.{IsPrefix};
+ghost use Rattle.spec_predicates.specs.Predicates.{arity};
+ghost use Rattle.cq_term.specs.Trees.{KnowsTerms};
+ghost use Rattle.cq_walk.specs.Pairs.{IsLive};
+ghost use Rattle.cq_built.specs.Errors.{CanBeRaised};
+ghost use Rattle.cq_predicates.specs.Names.{as_predicate};
+ghost use Rattle.cq_predicates.specs.Given.{CanGoOn};
+
+use cq_atoms::Atoms;
+use cq_built::{Alternative, BuiltinFault, ball};
+use cq_ops::Ops;
+use cq_predicates::{Predicate, Solutions, call};
+use cq_read::{Read, read_clause};
+use cq_term::{Heap, Newly, Pred, TermId, View};
+use cq_trail::Undo;
+use cq_unify::unify;
+use cq_write::{Style, write_term};
+use std::alloc::{AllocError, Global};
+
+/// More alternatives than any goal of the tables has.
+const MOST: usize = 100;
+
+/// The text of a term, its variables as `_1`, `_2` and so on by first occurrence.
+fn written(heap: &Heap, atoms: &Atoms, ops: &Ops, term: TermId) -> Result<Vec<u8>, AllocError>
+    requires live { term < length heap.now.now.terms }
+    requires names { KnowsTerms atoms.now heap.now.now.terms }
+{
+    write_term(heap, atoms, ops, term, Style::Quoted, 1200, &[])
+}
+
+/// Whether the pairs of an alternative become equal, one after the other.
+fn unified(heap: &mut Heap, atoms: &Atoms, way: &Alternative) -> Result<bool, AllocError>
+    requires there { All (IsLive heap.old.now.terms) way.now.pairs.items }
+    requires names { KnowsTerms atoms.now heap.old.now.terms }
+    ensures live { length heap.new.now.terms ≡ length heap.old.now.terms }
+    ensures names { KnowsTerms atoms.now heap.new.now.terms }
+    ensures saved { heap.new.saved ≡ heap.old.saved }
+{
+    let mut newly = Newly::new(heap.alloc());
+    for pair in &way.pairs {
+        if !unify(heap, &mut newly, pair.left, pair.right)? {
+            return Ok(false);
+        }
+    }
+    Ok(true)
+}
+
+/// The goal with the pairs of an alternative made equal; nothing where they can't be.
+fn told(
+    heap: &mut Heap,
+    atoms: &Atoms,
+    ops: &Ops,
+    goal: TermId,
+    way: &Alternative,
+) -> Result<Vec<u8>, AllocError>
+    requires goal { goal < length heap.old.now.terms }
+    requires there { All (IsLive heap.old.now.terms) way.now.pairs.items }
+    requires names { KnowsTerms atoms.now heap.old.now.terms }
+    ensures saved { heap.new.saved ≡ heap.old.saved }
+{
+    if unified(heap, atoms, way)? {
+        written(heap, atoms, ops, goal)
+    } else {
+        Ok(Vec::new(heap.alloc()))
+    }
+}
+
+/// The goal under the next alternative, whose bindings stay.
+fn tried(
+    heap: &mut Heap,
+    atoms: &mut Atoms,
+    ops: &Ops,
+    goal: TermId,
+    solutions: &mut Solutions,
+) -> Result<Option<Vec<u8>>, AllocError>
+    requires goal { goal < length heap.old.now.terms }
+    requires live { CanGoOn heap.old.now.terms solutions.old }
+    requires names { KnowsTerms atoms.old heap.old.now.terms }
+    ensures back { CanGoOn heap.old.now.terms solutions.new }
+    ensures longer { IsPrefix atoms.old atoms.new }
+    ensures saved { heap.new.saved ≡ heap.old.saved }
+{
+    match solutions.next(heap, atoms)? {
+        Some(way) => {
+            let text = told(heap, atoms, ops, goal, &way)?;
+            Ok(Some(text))
+        }
+        None => Ok(None),
+    }
+}
+
+/// The goal under the next alternative, on a heap that goes back to what it was.
+fn next_text(
+    heap: &mut Heap,
+    atoms: &mut Atoms,
+    ops: &Ops,
+    goal: TermId,
+    solutions: &mut Solutions,
+) -> Result<Option<Vec<u8>>, AllocError>
+    requires goal { goal < length heap.old.now.terms }
+    requires live { CanGoOn heap.old.now.terms solutions.old }
+    requires names { KnowsTerms atoms.old heap.old.now.terms }
+    ensures same { heap.new.now ≡ heap.old.now }
+    ensures live { CanGoOn heap.old.now.terms solutions.new }
+    ensures names { KnowsTerms atoms.new heap.old.now.terms }
+{
+    let mark = heap.mark()?;
+    let text = tried(heap, atoms, ops, goal, solutions);
+    heap.undo(mark);
+    text
+}
+
+/// Puts a text behind others.
+fn put(texts: &mut Vec<u8>, text: &[u8]) -> Result<(), AllocError> {
+    if texts.len() > 0 && text.len() > 0 {
+        texts.extend_from_slice(b"; ")?;
+    }
+    texts.extend_from_slice(text)?;
+    Ok(())
+}
+
+/// The goal under each alternative, in order.
+fn texts_of(
+    heap: &mut Heap,
+    atoms: &mut Atoms,
+    ops: &Ops,
+    goal: TermId,
+    solutions: &mut Solutions,
+) -> Result<Vec<u8>, AllocError>
+    requires goal { goal < length heap.old.now.terms }
+    requires live { CanGoOn heap.old.now.terms solutions.old }
+    requires names { KnowsTerms atoms.old heap.old.now.terms }
+{
+    let mut texts = Vec::new(heap.alloc());
+    for _way in 0..MOST {
+        let Some(text) = next_text(heap, atoms, ops, goal, solutions)? else {
+            return Ok(texts);
+        };
+        put(&mut texts, &text)?;
+    }
+    Ok(texts)
+}
+
+/// The ball of a goal's error.
+fn ball_text(
+    heap: &mut Heap,
+    atoms: &mut Atoms,
+    ops: &Ops,
+    goal: Pred,
+    fault: BuiltinFault,
+) -> Result<Vec<u8>, AllocError>
+    requires culprit { CanBeRaised atoms.old heap.old.now.terms fault }
+    requires known { goal.name < length atoms.old }
+    requires names { KnowsTerms atoms.old heap.old.now.terms }
+{
+    match fault {
+        BuiltinFault::Error(error) => {
+            let term = ball(heap, atoms, error, goal)?;
+            written(heap, atoms, ops, term)
+        }
+        BuiltinFault::NoMemory => Err(AllocError),
+    }
+}
+
+/// A goal with its name and its number of arguments, and a predicate of so many.
+#[derive(Clone, Copy)]
+struct Goal {
+    term: TermId,
+    pred: Pred,
+    predicate: Predicate,
+}
+
+/// What a call with these arguments comes to.
+fn called(
+    heap: &mut Heap,
+    atoms: &mut Atoms,
+    ops: &Ops,
+    goal: Goal,
+    args: &[TermId],
+) -> Result<Vec<u8>, AllocError>
+    requires arity { length args.now ≡ arity (as_predicate goal.predicate) }
+    requires args { All (λ id. id < length heap.old.now.terms) args.now }
+    requires goal { goal.term < length heap.old.now.terms }
+    requires known { goal.pred.name < length atoms.old }
+    requires names { KnowsTerms atoms.old heap.old.now.terms }
+{
+    match call(heap, atoms, goal.predicate, args) {
+        Ok(mut solutions) => texts_of(heap, atoms, ops, goal.term, &mut solutions),
+        Err(fault) => ball_text(heap, atoms, ops, goal.pred, fault),
+    }
+}
+
+/// What a term comes to as a goal.
+fn of_goal(
+    heap: &mut Heap,
+    atoms: &mut Atoms,
+    ops: &Ops,
+    term: TermId,
+) -> Result<Vec<u8>, AllocError>
+    requires live { term < length heap.old.now.terms }
+    requires names { KnowsTerms atoms.old heap.old.now.terms }
+{
+    let nothing = Vec::new(heap.alloc());
+    let View::Compound(name, arity) = heap.view(term) else {
+        return Ok(nothing);
+    };
+    let Some(predicate) = Predicate::named(atoms.text(name), arity) else {
+        return Ok(nothing);
+    };
+    let args = heap.args(term).to_vec(heap.alloc())?;
+    if args.len() != predicate.arity() {
+        return Ok(nothing);
+    }
+    let goal = Goal {
+        term,
+        pred: Pred { name, arity },
+        predicate,
+    };
+    called(heap, atoms, ops, goal, &args)
+}
+
+/// What the goal that stands in a text comes to: itself under each alternative, in order, with the pairs made equal, or the
+/// ball of its error.
+fn outcome(alloc: Global, text: &str) -> Result<Vec<u8>, AllocError> {
+    let mut heap = Heap::new(alloc);
+    let mut atoms = Atoms::new(alloc);
+    let ops = Ops::standard(alloc, &mut atoms)?;
+    match read_clause(&mut heap, &mut atoms, &ops, text.as_bytes(), 0)? {
+        Read::Clause { term, .. } => of_goal(&mut heap, &mut atoms, &ops, term),
+        _ => Ok(Vec::new(alloc)),
+    }
+}
+
+/// A goal and what it comes to, as texts.
+pub(crate) type Row = (&'static str, &'static str);
+
+/// The place of the first goal that comes to something else.
+pub(crate) fn first_wrong(alloc: Global, rows: &[Row]) -> Result<Option<usize>, AllocError> {
+    for (place, row) in rows.iter().enumerate() {
+        let found = outcome(alloc, row.0)?;
+        if found.as_slice() != row.1.as_bytes() {
+            return Ok(Some(place));
+        }
+    }
+    Ok(None)
+}
