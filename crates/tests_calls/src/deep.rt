@@ -66,15 +66,15 @@ fn spell(
     heap: &mut Heap,
     atoms: &mut Atoms,
     codes: TermId,
-    open: TermId,
+    unbound: TermId,
     name: TermId,
 ) -> Result<bool, AllocError>
     requires codes { codes < length heap.old.now.terms }
-    requires open { open < length heap.old.now.terms }
+    requires unbound { unbound < length heap.old.now.terms }
     requires name { name < length heap.old.now.terms }
     requires names { KnowsTerms atoms.old heap.old.now.terms }
 {
-    match spelled(heap, atoms, open, codes) {
+    match spelled(heap, atoms, unbound, codes) {
         Ok(pair) => order(heap, atoms, Comparison::Same, pair.right, name),
         Err(_) => Ok(false),
     }
@@ -85,9 +85,9 @@ fn is_spelled(heap: &mut Heap, atoms: &mut Atoms, name: TermId) -> Result<bool, 
     requires live { name < length heap.old.now.terms }
     requires names { KnowsTerms atoms.old heap.old.now.terms }
 {
-    let open = variable(heap, atoms)?;
-    match spelled(heap, atoms, name, open) {
-        Ok(pair) => Ok(spell(heap, atoms, pair.right, open, name)?),
+    let unbound = variable(heap, atoms)?;
+    match spelled(heap, atoms, name, unbound) {
+        Ok(pair) => Ok(spell(heap, atoms, pair.right, unbound, name)?),
         Err(_) => Ok(false),
     }
 }
@@ -97,8 +97,8 @@ fn is_listed(heap: &mut Heap, atoms: &mut Atoms, name: TermId) -> Result<bool, A
     requires live { name < length heap.old.now.terms }
     requires names { KnowsTerms atoms.old heap.old.now.terms }
 {
-    let open = variable(heap, atoms)?;
-    match spelled(heap, atoms, name, open) {
+    let unbound = variable(heap, atoms)?;
+    match spelled(heap, atoms, name, unbound) {
         Ok(pair) => Ok(are_listed(heap, atoms, pair.right)?),
         Err(_) => Ok(false),
     }

@@ -1,35 +1,27 @@
-// What goals of predicates on terms and texts come to, as texts.
+// What goals come to, as texts.
 
 ghost use Rattle.std.specs.Prelude.{◌≡◌, ◌<◌, All, length};
 ghost use Rattle.spec_lists.specs.Prefixes.{IsPrefix};
 ghost use Rattle.spec_predicates.specs.Predicates.{arity};
 ghost use Rattle.cq_term.specs.Trees.{KnowsTerms};
 ghost use Rattle.cq_walk.specs.Pairs.{IsLive};
-ghost use Rattle.cq_built.specs.Errors.{CanBeRaised};
 ghost use Rattle.cq_predicates.specs.Names.{as_predicate};
 ghost use Rattle.cq_predicates.specs.Given.{CanGoOn};
 
+use crate::checked::{of_one, of_three, of_two};
+use crate::written::{ball_text, put, written};
 use cq_atoms::Atoms;
-use cq_built::{Alternative, BuiltinFault, ball};
+use cq_built::Alternative;
 use cq_ops::Ops;
 use cq_predicates::{Predicate, Solutions, call};
 use cq_read::{Read, read_clause};
 use cq_term::{Heap, Newly, Pred, TermId, View};
 use cq_trail::Undo;
 use cq_unify::unify;
-use cq_write::{Style, write_term};
 use std::alloc::{AllocError, Global};
 
 /// More alternatives than any goal of the tables has.
 const MOST: usize = 100;
-
-/// The text of a term, its variables as `_1`, `_2` and so on by first occurrence.
-fn written(heap: &Heap, atoms: &Atoms, ops: &Ops, term: TermId) -> Result<Vec<u8>, AllocError>
-    requires live { term < length heap.now.now.terms }
-    requires names { KnowsTerms atoms.now heap.now.now.terms }
-{
-    write_term(heap, atoms, ops, term, Style::Quoted, 1200, &[])
-}
 
 /// Whether the pairs of an alternative become equal, one after the other.
 fn unified(heap: &mut Heap, atoms: &Atoms, way: &Alternative) -> Result<bool, AllocError>
@@ -113,15 +105,6 @@ fn next_text(
     text
 }
 
-/// Puts a text behind others.
-fn put(texts: &mut Vec<u8>, text: &[u8]) -> Result<(), AllocError> {
-    if texts.len() > 0 && text.len() > 0 {
-        texts.extend_from_slice(b"; ")?;
-    }
-    texts.extend_from_slice(text)?;
-    Ok(())
-}
-
 /// The goal under each alternative, in order.
 fn texts_of(
     heap: &mut Heap,
@@ -142,27 +125,6 @@ fn texts_of(
         put(&mut texts, &text)?;
     }
     Ok(texts)
-}
-
-/// The ball of a goal's error.
-fn ball_text(
-    heap: &mut Heap,
-    atoms: &mut Atoms,
-    ops: &Ops,
-    goal: Pred,
-    fault: BuiltinFault,
-) -> Result<Vec<u8>, AllocError>
-    requires culprit { CanBeRaised atoms.old heap.old.now.terms fault }
-    requires known { goal.name < length atoms.old }
-    requires names { KnowsTerms atoms.old heap.old.now.terms }
-{
-    match fault {
-        BuiltinFault::Error(error) => {
-            let term = ball(heap, atoms, error, goal)?;
-            written(heap, atoms, ops, term)
-        }
-        BuiltinFault::NoMemory => Err(AllocError),
-    }
 }
 
 /// A goal with its name and its number of arguments, and a predicate of so many.
@@ -193,6 +155,26 @@ fn called(
     }
 }
 
+/// What a goal comes to that is no call of a predicate on terms or texts.
+fn checked(
+    heap: &mut Heap,
+    atoms: &mut Atoms,
+    ops: &Ops,
+    pred: Pred,
+    args: &[TermId],
+) -> Result<Vec<u8>, AllocError>
+    requires args { All (λ id. id < length heap.old.now.terms) args.now }
+    requires known { pred.name < length atoms.old }
+    requires names { KnowsTerms atoms.old heap.old.now.terms }
+{
+    match args.len() {
+        1 => of_one(heap, atoms, ops, pred, args[0]),
+        2 => of_two(heap, atoms, ops, pred, args[0], args[1]),
+        3 => of_three(heap, atoms, ops, pred, args),
+        _ => Ok(Vec::new(heap.alloc())),
+    }
+}
+
 /// What a term comes to as a goal.
 fn of_goal(
     heap: &mut Heap,
@@ -203,27 +185,30 @@ fn of_goal(
     requires live { term < length heap.old.now.terms }
     requires names { KnowsTerms atoms.old heap.old.now.terms }
 {
-    let nothing = Vec::new(heap.alloc());
     let View::Compound(name, arity) = heap.view(term) else {
-        return Ok(nothing);
+        return Ok(Vec::new(heap.alloc()));
     };
-    let Some(predicate) = Predicate::named(atoms.text(name), arity) else {
-        return Ok(nothing);
-    };
+    let pred = Pred { name, arity };
     let args = heap.args(term).to_vec(heap.alloc())?;
-    if args.len() != predicate.arity() {
-        return Ok(nothing);
+    match Predicate::named(atoms.text(name), args.len()) {
+        Some(predicate) => {
+            if args.len() == predicate.arity() {
+                let goal = Goal {
+                    term,
+                    pred,
+                    predicate,
+                };
+                called(heap, atoms, ops, goal, &args)
+            } else {
+                Ok(Vec::new(heap.alloc()))
+            }
+        }
+        None => checked(heap, atoms, ops, pred, &args),
     }
-    let goal = Goal {
-        term,
-        pred: Pred { name, arity },
-        predicate,
-    };
-    called(heap, atoms, ops, goal, &args)
 }
 
-/// What the goal that stands in a text comes to: itself under each alternative, in order, with the pairs made equal, or the
-/// ball of its error.
+/// What the goal that stands in a text comes to: itself under each alternative, in order, with the pairs made equal, or what
+/// its check gives, or the ball of its error.
 fn outcome(alloc: Global, text: &str) -> Result<Vec<u8>, AllocError> {
     let mut heap = Heap::new(alloc);
     let mut atoms = Atoms::new(alloc);
