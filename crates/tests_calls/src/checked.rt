@@ -4,6 +4,7 @@ ghost use Rattle.std.specs.Prelude.{◌≡◌, ◌<◌, ◌≤◌, All, length, 
 ghost use Rattle.cq_term.specs.Trees.{KnowsTerms};
 ghost use Rattle.cq_built.specs.Errors.{CanBeRaised};
 ghost use Rattle.cq_goals.specs.Faults.{HasItsCulprit};
+ghost use Rattle.cq_goals.specs.Tellings.{IsLiveTelling};
 
 use crate::written::{ball_text, put, written};
 use cq_atoms::Atoms;
@@ -137,6 +138,22 @@ fn halves_text(
     Ok(text)
 }
 
+/// The relations of a constraint, or its halves.
+fn telling_text(
+    heap: &Heap,
+    atoms: &Atoms,
+    ops: &Ops,
+    telling: &Telling,
+) -> Result<Vec<u8>, AllocError>
+    requires live { IsLiveTelling heap.now.now.terms telling.now }
+    requires names { KnowsTerms atoms.now heap.now.now.terms }
+{
+    match telling {
+        Telling::Members(members) => relations_text(heap, atoms, ops, members),
+        Telling::Halves(left, right) => halves_text(heap, atoms, ops, *left, *right),
+    }
+}
+
 /// A constraint that is told.
 fn told(
     heap: &mut Heap,
@@ -150,8 +167,7 @@ fn told(
     requires names { KnowsTerms atoms.old heap.old.now.terms }
 {
     match check_telling(heap, atoms, constraint) {
-        Ok(Telling::Members(members)) => relations_text(heap, atoms, ops, &members),
-        Ok(Telling::Halves(left, right)) => halves_text(heap, atoms, ops, left, right),
+        Ok(telling) => telling_text(heap, atoms, ops, &telling),
         Err(fault) => ball_text(heap, atoms, ops, goal, fault),
     }
 }
@@ -242,12 +258,7 @@ fn clause(heap: &Heap, atoms: &Atoms, term: TermId) -> Result<(), BuiltinFault>
     }
 }
 
-fn clause_goal(
-    heap: &Heap,
-    atoms: &Atoms,
-    head: TermId,
-    body: TermId,
-) -> Result<(), BuiltinFault>
+fn clause_goal(heap: &Heap, atoms: &Atoms, head: TermId, body: TermId) -> Result<(), BuiltinFault>
     requires head { head < length heap.now.now.terms }
     requires body { body < length heap.now.now.terms }
     requires names { KnowsTerms atoms.now heap.now.now.terms }
@@ -309,9 +320,7 @@ fn fault_text(
     requires names { KnowsTerms atoms.old heap.old.now.terms }
 {
     match fault {
-        GoalFault::Error(error) => {
-            ball_text(heap, atoms, ops, goal, BuiltinFault::Error(error))
-        }
+        GoalFault::Error(error) => { ball_text(heap, atoms, ops, goal, BuiltinFault::Error(error)) }
         GoalFault::Overflow(_) => words(heap.alloc(), "overflow"),
         GoalFault::NoMemory => Err(AllocError),
     }

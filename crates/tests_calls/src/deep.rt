@@ -1,13 +1,15 @@
-// Texts of many characters: their codes as a list that is deeper than any stack, and their first parts.
+// Lists and sums that are deeper than any stack.
 
-ghost use Rattle.std.specs.Prelude.{◌<◌, ◌≤◌, length, IfOk};
+ghost use Rattle.std.specs.Prelude.{◌<◌, ◌≤◌, All, length, IfOk};
 ghost use Rattle.cq_term.specs.Trees.{KnowsTerms};
 ghost use Rattle.cq_walk.specs.Pairs.{IsLive};
 
 use cq_atoms::Atoms;
-use cq_built::{BuiltinFault, atom};
+use cq_built::{BuiltinFault, atom, compound, whole};
 use cq_builtin::{Comparison, TypeTest, copy_term, order, test};
+use cq_cexpr::{Lin, linearise};
 use cq_codes::{Conversion, convert};
+use cq_goals::{Telling, check_telling};
 use cq_term::{Heap, TermId};
 use cq_walk::Pair;
 use std::alloc::{AllocError, Global};
@@ -125,5 +127,91 @@ fn a_long_list_is_copied_and_compared(rt: HostRuntime) -> Result<(), Fail> {
 #[test]
 fn a_long_list_spells_an_atom(rt: HostRuntime) -> Result<(), Fail> {
     assert!(rt; with_long_atom(rt.alloc(), true)?);
+    Ok(())
+}
+
+/// A name over two terms.
+fn over(
+    heap: &mut Heap,
+    atoms: &mut Atoms,
+    name: &str,
+    left: TermId,
+    right: TermId,
+) -> Result<TermId, AllocError>
+    requires left { left < length heap.old.now.terms }
+    requires right { right < length heap.old.now.terms }
+    requires names { KnowsTerms atoms.old heap.old.now.terms }
+    ensures live { IfOk result (λ id. id < length heap.new.now.terms) }
+    ensures more { length heap.old.now.terms ≤ length heap.new.now.terms }
+    ensures names { KnowsTerms atoms.new heap.new.now.terms }
+{
+    compound(heap, atoms, name, &[left, right])
+}
+
+fn one(heap: &mut Heap, atoms: &Atoms) -> Result<TermId, AllocError>
+    requires names { KnowsTerms atoms.now heap.old.now.terms }
+    ensures live { IfOk result (λ id. id < length heap.new.now.terms) }
+    ensures more { length heap.old.now.terms ≤ length heap.new.now.terms }
+    ensures names { KnowsTerms atoms.now heap.new.now.terms }
+{
+    whole(heap, atoms, 1)
+}
+
+/// 1 added so many times, before the term.
+fn sum(heap: &mut Heap, atoms: &mut Atoms, term: TermId) -> Result<TermId, AllocError>
+    requires live { term < length heap.old.now.terms }
+    requires names { KnowsTerms atoms.old heap.old.now.terms }
+    ensures live { IfOk result (λ id. id < length heap.new.now.terms) }
+    ensures more { length heap.old.now.terms ≤ length heap.new.now.terms }
+    ensures names { KnowsTerms atoms.new heap.new.now.terms }
+{
+    let one = one(heap, atoms)?;
+    let mut whole = term;
+    for _level in 0..MANY {
+        whole = over(heap, atoms, "+", one, whole)?;
+    }
+    Ok(whole)
+}
+
+/// Whether these are one relation, which is linear.
+fn are_linear(heap: &Heap, atoms: &Atoms, relations: &[TermId]) -> bool
+    requires live { All (λ id. id < length heap.now.now.terms) relations.now }
+    requires names { KnowsTerms atoms.now heap.now.now.terms }
+{
+    if relations.len() != 1 {
+        return false;
+    }
+    match linearise(heap, atoms, relations[0]) {
+        Ok(Lin::Linear(_)) => true,
+        _ => false,
+    }
+}
+
+/// Whether a constraint is one relation, which is linear.
+fn is_linear(heap: &mut Heap, atoms: &mut Atoms, constraint: TermId) -> bool
+    requires live { constraint < length heap.old.now.terms }
+    requires names { KnowsTerms atoms.old heap.old.now.terms }
+{
+    match check_telling(heap, atoms, constraint) {
+        Ok(telling) => match &telling {
+            Telling::Members(members) => are_linear(heap, atoms, members),
+            Telling::Halves(_, _) => false,
+        },
+        Err(_) => false,
+    }
+}
+
+fn with_deep_sum(alloc: Global) -> Result<bool, AllocError> {
+    let mut heap = Heap::new(alloc);
+    let mut atoms = Atoms::new(alloc);
+    let x = variable(&mut heap, &atoms)?;
+    let whole = sum(&mut heap, &mut atoms, x)?;
+    let constraint = over(&mut heap, &mut atoms, "=", x, whole)?;
+    Ok(is_linear(&mut heap, &mut atoms, constraint))
+}
+
+#[test]
+fn a_deep_sum_is_linear(rt: HostRuntime) -> Result<(), Fail> {
+    assert!(rt; with_deep_sum(rt.alloc())?);
     Ok(())
 }

@@ -12,7 +12,12 @@ use cq_write::{Style, write_term};
 use std::alloc::AllocError;
 
 /// The text of a term, its variables as `_1`, `_2` and so on by first occurrence.
-pub(crate) fn written(heap: &Heap, atoms: &Atoms, ops: &Ops, term: TermId) -> Result<Vec<u8>, AllocError>
+pub(crate) fn written(
+    heap: &Heap,
+    atoms: &Atoms,
+    ops: &Ops,
+    term: TermId,
+) -> Result<Vec<u8>, AllocError>
     requires live { term < length heap.now.now.terms }
     requires names { KnowsTerms atoms.now heap.now.now.terms }
 {
