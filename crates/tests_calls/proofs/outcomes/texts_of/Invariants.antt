@@ -1,4 +1,4 @@
-use Rattle.std.proofs.Common.{◌≡◌, ◌<◌, length}
+use Rattle.std.proofs.Common.{◌<◌, length}
 use Rattle.cq_term.specs.Trees.{KnowsTerms}
 use Rattle.cq_predicates.specs.Given.{CanGoOn}
 use Rattle.tests_calls.proofs.outcomes.texts_of.Given as goal
