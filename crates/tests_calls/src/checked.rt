@@ -229,7 +229,7 @@ fn declared(
 fn names_text(alloc: Global, atoms: &Atoms, predicates: &[Pred]) -> Result<Vec<u8>, AllocError>
     requires { All (λ p. p.name < length atoms.now) predicates.now }
 {
-    let mut texts = Vec::new(alloc);
+    let mut texts = words(alloc, "declared")?;
     for predicate in predicates {
         put(&mut texts, atoms.text(predicate.name).as_bytes())?;
     }

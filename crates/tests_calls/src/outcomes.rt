@@ -207,26 +207,31 @@ fn of_goal(
     }
 }
 
-/// What the goal that stands in a text comes to: itself under each alternative, in order, with the pairs made equal, or what
-/// its check gives, or the ball of its error.
-fn outcome(alloc: Global, text: &str) -> Result<Vec<u8>, AllocError> {
+/// Whether a text is a space with the outcome behind it, which is `no` where nothing came.
+fn is_told(text: &[u8], outcome: &[u8]) -> bool {
+    let outcome = if outcome.is_empty() { b"no" } else { outcome };
+    text.len() > 0 && text[0] == b' ' && &text[1..] == outcome
+}
+
+/// Whether the goal with which a text begins comes to what stands behind it: the goal under each alternative, in order, with
+/// the pairs made equal, or what its check gives, or the ball of its error.
+fn comes_to_it(alloc: Global, text: &[u8]) -> Result<bool, AllocError> {
     let mut heap = Heap::new(alloc);
     let mut atoms = Atoms::new(alloc);
     let ops = Ops::standard(alloc, &mut atoms)?;
-    match read_clause(&mut heap, &mut atoms, &ops, text.as_bytes(), 0)? {
-        Read::Clause { term, .. } => of_goal(&mut heap, &mut atoms, &ops, term),
-        _ => Ok(Vec::new(alloc)),
+    match read_clause(&mut heap, &mut atoms, &ops, text, 0)? {
+        Read::Clause { term, next, .. } => {
+            let found = of_goal(&mut heap, &mut atoms, &ops, term)?;
+            Ok(is_told(&text[next..], &found))
+        }
+        _ => Ok(false),
     }
 }
 
-/// A goal and what it comes to, as texts.
-pub(crate) type Row = (&'static str, &'static str);
-
-/// The place of the first goal that comes to something else.
-pub(crate) fn first_wrong(alloc: Global, rows: &[Row]) -> Result<Option<usize>, AllocError> {
+/// The place of the first goal that comes to something else than what stands behind it.
+pub(crate) fn first_wrong(alloc: Global, rows: &[&str]) -> Result<Option<usize>, AllocError> {
     for (place, row) in rows.iter().enumerate() {
-        let found = outcome(alloc, row.0)?;
-        if found.as_slice() != row.1.as_bytes() {
+        if !comes_to_it(alloc, row.as_bytes())? {
             return Ok(Some(place));
         }
     }
