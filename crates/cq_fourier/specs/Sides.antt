@@ -5,8 +5,6 @@ use Rattle.spec_rational.specs.Sums.{Mentions}
 use Rattle.spec_linear.specs.Form.{difference_form, scaled_form}
 use Rattle.spec_linear.specs.Solution.{Constraint}
 use Rattle.spec_projection.specs.Elimination.{coefficient, stricter}
-use Rattle.cq_frac.specs.declared.VarId.{VarId}
-use Rattle.cq_row.specs.declared.Entry.{Entry}
 use Rattle.cq_fourier.specs.declared.Side.{Side}
 use Rattle.cq_fourier.specs.declared.Side.TheVariants.{Lower, Upper, Other}
 
@@ -15,10 +13,6 @@ abbrev pub IsSide : ℕ → Constraint → Side → Type 0
 IsSide x c (Lower k) = (k ≡ coefficient x c) × IsPositive k
 IsSide x c (Upper k) = (k ≡ coefficient x c) × IsPositive (neg_ℚ k)
 IsSide x c Other = Mentions x c.form.products → ⊥
-
--- the variable of an entry, with its coefficient
-abbrev pub pair_of : Entry → VarId × ℚ
-pair_of m = (record { 0 = m.quantity }, m.factor)
 
 -- the row by a number
 abbrev pub over_number : ℚ → Constraint → Constraint
