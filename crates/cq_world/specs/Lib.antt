@@ -1,2 +1,4 @@
 pub mod Contents
 pub mod Worlds
+pub mod Standing
+pub mod Rest

@@ -1,0 +1,4 @@
+pub mod Called
+pub mod Settled
+pub mod Underway
+pub mod Steps

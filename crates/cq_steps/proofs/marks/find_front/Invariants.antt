@@ -1,0 +1,21 @@
+use Rattle.std.proofs.Common.{◌≡◌, ◌≤◌, ◌+◌, ◌*◌, ℕ, List, length, Option, Some, None}
+use Rattle.spec_lists.specs.Texts.{Text}
+use Rattle.spec_search.specs.Database.{Database}
+use Rattle.spec_search.specs.Search.{Search}
+use Rattle.cq_control.specs.Open.{AreMarked}
+use Rattle.cq_program.specs.Database.{Program}
+use Rattle.cq_steps.specs.Worlds.{value, saved_values, Stands, Arrives}
+use Rattle.cq_steps.proofs.Arrived.{one_if_some}
+use Rattle.cq_steps.proofs.marks.find_front.Given as goal
+
+abbrev pub invariant-loop-current : goal.invariant-loop-current
+invariant-loop-current l =
+    record {
+      marked : AreMarked (saved_values l.world.first l.world.second.saved) l.choices;
+      arrives : (steps : ℕ) (texts : List Text) (v : Program) (db : Database) (n : ℕ) (s : Search)
+          → Stands texts v db n (saved_values l.fn.world.first l.fn.world.second.saved) l.fn.choices (value l.fn.world.first l.fn.world.second.now) l.fn.start s
+          → Arrives steps texts v db n (saved_values l.world.first l.world.second.saved) l.choices (value l.world.first l.world.second.now) l.current s;
+    }
+
+abbrev pub decreases-loop-current : goal.decreases-loop-current
+decreases-loop-current l = 2 * length l.choices + one_if_some l.current

@@ -1,0 +1,10 @@
+//! The steps of a search that look at no constraint: control, marks, and choices that are come back to.
+#![tactic(auto)]
+
+mod alternatives;
+mod marks;
+mod rows;
+
+pub use alternatives::{Alternatives, Searching};
+pub use marks::find_front;
+pub use rows::{and, cut, if_then, not};
