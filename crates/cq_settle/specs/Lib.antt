@@ -1,4 +1,0 @@
-pub mod Called
-pub mod Settled
-pub mod Underway
-pub mod Steps
