@@ -21,7 +21,8 @@ use Rattle.spec_machine.specs.Standing.{engine, AreItems, IsContinuation, IsPlac
 use Rattle.spec_machine.specs.Coming.{at_once, Comes, Rest}
 use Rattle.spec_machine.proofs.Kept.{fits_more, items_older, items_last, waiting-last, length-last, last-all, last-older}
 use Rattle.spec_machine.proofs.Made.{child_kept, choice_waits}
-use Rattle.cq_steps.specs.Selecting.{put_cell, Reads, IsSelected, Becomes}
+use Rattle.cq_steps.specs.Lists.{put_cell}
+use Rattle.cq_steps.specs.Selecting.{Reads, IsSelected, Becomes}
 
 module _ {W : Type 0} (IsState : W → State → Type 0) (term : W → ℕ → Option Tree) where
   -- ---- items in front

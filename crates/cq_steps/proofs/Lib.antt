@@ -1,7 +1,9 @@
 pub mod Control
 pub mod Selected
 pub mod Arrived
+pub mod Rested
 pub mod Branches
-pub mod Added
+pub mod Cells
 pub mod Done
 pub mod Passing
+pub mod Disjunctions

@@ -25,10 +25,10 @@ module _ {W : Type 0} (IsState : W → State → Type 0) (term : W → ℕ → O
   pub continuation_grown : (choices : Stack W) (old new : Value W) → HasGrown IsState term old new → (k : ℕ) (items : List Item) (st : State)
       → IsContinuation IsState term choices old k items st → IsContinuation IsState term choices new k items st
   continuation_grown choices old new g k items st c = record {
-    there = omega (arith, c.there, g.more);
-    fits = subst (Fits (length choices)) (sym (g.lists k c.there)) c.fits;
+    there = omega (arith, c.there, g.lists.more);
+    fits = subst (Fits (length choices)) (sym (g.lists.same k c.there)) c.fits;
     state = g.state st c.state;
-    cells = subst (λ cs. AreItems IsState term choices new.0 st cs items) (sym (g.lists k c.there))
+    cells = subst (λ cs. AreItems IsState term choices new.0 st cs items) (sym (g.lists.same k c.there))
         (items_read_on IsState term choices old.0 st new.0 st (λ id t e. g.terms id (read st t) e) (items_at old.1 k) items c.cells);
   }
 
@@ -38,7 +38,7 @@ module _ {W : Type 0} (IsState : W → State → Type 0) (term : W → ℕ → O
     place = record { continuation = continuation_grown choices old new g rest p.rest p.state s.place.continuation; height = s.place.height };
     within = s.within;
     goes_back = s.goes_back;
-    fits = subst (Fits height) (sym (g.lists rest s.place.continuation.there)) s.fits;
+    fits = subst (Fits height) (sym (g.lists.same rest s.place.continuation.there)) s.fits;
     waiting = s.waiting;
   }
 

@@ -1,2 +1,4 @@
+pub mod Lists
 pub mod Selecting
 pub mod Worlds
+pub mod Sides

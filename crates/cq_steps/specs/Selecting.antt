@@ -1,5 +1,5 @@
 -- What an engine knows where a goal is selected, and what it comes to by the goal's row.
-use Rattle.std.specs.Prelude.{◌≡◌, ℕ, ◌<◌, ◌≤◌, List, [], ◌++◌, length, Option, Some, Bool, true, false}
+use Rattle.std.specs.Prelude.{◌≡◌, ℕ, ◌≤◌, List, [], ◌++◌, length, Option, Some}
 use Rattle.spec_syntax.specs.Trees.{Tree}
 use Rattle.spec_built.specs.Built.{compound1}
 use Rattle.spec_branch.specs.Branch.{State, Item, Branch, read}
@@ -7,16 +7,10 @@ use Rattle.spec_search.specs.Replies.{Place, Reply, Makes, Made}
 use Rattle.spec_search.specs.Search.{Search, look_at, Selecting}
 use Rattle.spec_search.specs.Turns.{older, place_of}
 use Rattle.cq_control.specs.Items.{items_at}
-use Rattle.spec_machine.specs.declared.cell.Cell.{Cell}
-use Rattle.spec_machine.specs.declared.cell.Cell.TheVariants.{Goal, Call}
 use Rattle.spec_machine.specs.Cells.{Fits, Value, Stack, below}
 use Rattle.spec_machine.specs.Standing.{engine, IsPlace, AreWaiting}
 use Rattle.spec_machine.specs.Coming.{Comes}
-
--- the cell of a goal that a construct puts in front: one that is not callable is put there as call of it
-abbrev pub put_cell : Bool → ℕ → ℕ → Cell
-put_cell true t height = Goal t height
-put_cell false t height = Call t
+use Rattle.cq_steps.specs.Lists.{KeepsLists}
 
 module _ {W : Type 0} (IsState : W → State → Type 0) (term : W → ℕ → Option Tree) where
   -- the world reads the number as the term, which reads as itself in the state
@@ -45,8 +39,7 @@ module _ {W : Type 0} (IsState : W → State → Type 0) (term : W → ℕ → O
   pub record HasGrown (old new : Value W) : Type 0 where
     pub state : (st : State) → IsState old.0 st → IsState new.0 st
     pub terms : (id : ℕ) (t : Tree) → term old.0 id ≡ Some t → term new.0 id ≡ Some t
-    pub more : length old.1 ≤ length new.1
-    pub lists : (k : ℕ) → k < length old.1 → items_at new.1 k ≡ items_at old.1 k
+    pub lists : KeepsLists old.1 new.1
 
   -- The search selects a goal, which the engine has in front: the goal, the cut height, the items and the branches behind it, and
   -- the state in which they are read.

@@ -23,7 +23,7 @@ use Rattle.cq_stored.specs.StoredValue.{ClauseValue}
 use Rattle.cq_control.specs.Open.{open_choices}
 use Rattle.spec_machine.specs.declared.cell.Cell.{Cell}
 use Rattle.spec_machine.specs.declared.cell.Cell.TheVariants.{Goal, Call, CutTo, CutFail, CatchEnd, Collect}
-use Rattle.spec_machine.specs.Cells.{Left, One, Clauses, Value, Stack}
+use Rattle.spec_machine.specs.Cells.{Left, One, Clauses, Barrier, Value, Stack}
 use Rattle.spec_machine.specs.Standing.{engine, IsStanding}
 use Rattle.spec_machine.specs.Coming.{Comes}
 use Rattle.cq_steps.specs.declared.alternatives.Alternatives.{Alternatives}
@@ -56,6 +56,7 @@ saved_values w saved = zip (saved_of w) saved
 abbrev pub left_of : List Text → Program → Alternatives → Left
 left_of texts v (alternatives.One k) = One k
 left_of texts v (alternatives.Clauses t walk k) = Clauses t (map (as_clause texts v.contents) (left (λ (c : ClauseValue). key_of c.head) walk v)) k
+left_of texts v alternatives.Barrier = Barrier
 
 abbrev pub left_at : List Text → Program → Value Contents × Alternatives → Value Contents × Left
 left_at texts v c = (c.0, left_of texts v c.1)
@@ -106,3 +107,4 @@ abbrev pub IsCall : List Alternatives → Type 0
 IsCall [] = ⊤
 IsCall (alternatives.One k ∷ choices) = ⊥
 IsCall (alternatives.Clauses t walk k ∷ choices) = ⊤
+IsCall (alternatives.Barrier ∷ choices) = ⊥

@@ -14,6 +14,8 @@ pub enum Alternatives {
     One(Continuation),
     /// The clauses of a call that were not tried: its goal, and the continuation behind it.
     Clauses(TermId, Walk, Continuation),
+    /// No branch: the choice keeps a world to go back to.
+    Barrier,
 }
 
 /// The world of a search, and what each continuation has to do: both go back to a choice together.

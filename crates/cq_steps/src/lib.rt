@@ -2,9 +2,12 @@
 #![tactic(auto)]
 
 mod alternatives;
+mod cells;
+mod disjunction;
 mod marks;
 mod rows;
 
 pub use alternatives::{Alternatives, Searching};
+pub use disjunction::or;
 pub use marks::find_front;
-pub use rows::{and, cut, if_then, not};
+pub use rows::{and, cut, if_then, not, once};
