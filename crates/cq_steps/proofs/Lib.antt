@@ -5,5 +5,8 @@ pub mod Rested
 pub mod Branches
 pub mod Cells
 pub mod Done
+pub mod Grown
+pub mod Beginning
+pub mod Calling
 pub mod Passing
 pub mod Disjunctions

@@ -58,8 +58,8 @@ module _ (f g : ℕ → Option ℚ) where
 
 -- ---- lists
 
-among : {P : Tree → Type 0} (before : List Tree) (t : Tree) (after ts : List Tree) → ts ≡ before ++ t ∷ after → AllByRecursion P ts → P t
-among {P} before t after ts e h = go before (subst (AllByRecursion P) e h) where
+among : (P : Tree → Type 0) (before : List Tree) (t : Tree) (after ts : List Tree) → ts ≡ before ++ t ∷ after → AllByRecursion P ts → P t
+among P before t after ts e h = go before (subst (AllByRecursion P) e h) where
   go : (front : List Tree) → AllByRecursion P (front ++ t ∷ after) → P t
   go [] a = a.0
   go (x ∷ front) a = go front a.1
@@ -153,8 +153,8 @@ module _ (st : State) (rest : IsAtRest st) (fixed : ℕ → Option ℚ) (fixes :
   -- a delayed constraint waits under the values that are fixed, too
   still_waits : (before : List Tree) (t : Tree) (after : List Tree) → st.delayed ≡ before ++ t ∷ after → lin fixed (read st t) ≡ Waits
   still_waits before t after e =
-      told_agrees fixed no_values (read st t) (λ v o. not_fixed v (unbound_inside t v o) (among before t after st.delayed e rest.delayed v o))
-      ∙ among before t after st.delayed e rest.waiting
+      told_agrees fixed no_values (read st t) (λ v o. not_fixed v (unbound_inside t v o) (among _ before t after st.delayed e rest.delayed v o))
+      ∙ among _ before t after st.delayed e rest.waiting
 
   no_more_moves : (m : List Constraint) (x : List Tree) → IsMove st.bindings st.linear st.delayed m x → ⊥
   no_more_moves m x k =
@@ -163,20 +163,20 @@ module _ (st : State) (rest : IsAtRest st) (fixed : ℕ → Option ℚ) (fixes :
       let n : None ≡ Some k.row = ap (λ (z : Lin Constraint). row_of z) (sym r) ∙ k.row_is in
       cc
 
-  is_closed : IsClosure st.bindings (st.linear ++ []) (st.delayed ++ []) st.linear st.delayed
+  is_closed : IsClosure st.bindings (st.linear ++ [] ++ []) (st.delayed ++ []) st.linear st.delayed
   is_closed = record {
-    moves = subst (λ l. Moves st.bindings l (st.delayed ++ []) st.linear st.delayed) (sym (nothing_behind st.linear))
+    moves = subst (λ l. Moves st.bindings l (st.delayed ++ []) st.linear st.delayed) (sym (nothing_behind (st.linear ++ []) ∙ nothing_behind st.linear))
         (subst (λ w. Moves st.bindings st.linear w st.linear st.delayed) (sym (nothing_behind st.delayed)) no_move);
     closed = no_more_moves;
   }
 
-  settling : Settling st no_work identity
+  abbrev settling : Settling st no_work identity
   settling = record {
     equations = [];
     each_newly_bound = no_equations (followed_by st.bindings identity) (newly_bound st identity) (none_new (counted_from 0 st.fresh));
     linear = st.linear;
     waiting = st.delayed;
-    closure = subst (λ s. IsClosure s (st.linear ++ []) (st.delayed ++ []) st.linear st.delayed) (sym same) is_closed;
+    closure = subst (λ s. IsClosure s (st.linear ++ [] ++ []) (st.delayed ++ []) st.linear st.delayed) (sym same) is_closed;
   }
 
   same_items : (items : List Item) → woken (bindings_after st no_work identity fixed) st.sleepers ++ items ≡ items

@@ -2,3 +2,4 @@ pub mod Lists
 pub mod Selecting
 pub mod Worlds
 pub mod Sides
+pub mod Calls

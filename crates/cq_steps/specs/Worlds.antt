@@ -1,17 +1,21 @@
 -- The world and the choices of an engine, as the definitions see them.
-use Rattle.std.specs.Prelude.{ℕ, List, [], ◌∷◌, map, slice_get, Option, Some, ⊤}
+use Rattle.std.specs.Prelude.{◌≡◌, ℕ, ◌<◌, List, [], ◌∷◌, map, length, slice_get, Option, Some, ⊤}
 use Rattle.std.specs.Option.{option_map}
 use Rattle.std.specs.List.{zip}
 use Rattle.spec_rational.specs.Rational.{ℚ}
 use Rattle.spec_linear.specs.Solution.{Fixes}
 use Rattle.spec_lists.specs.Texts.{Text}
-use Rattle.spec_terms.specs.Term.{named}
+use Rattle.spec_terms.specs.Term.{Var, named}
 use Rattle.spec_syntax.specs.Trees.{Tree}
 use Rattle.spec_branch.specs.Branch.{State, Branch}
 use Rattle.spec_search.specs.Database.{Database}
 use Rattle.spec_search.specs.Replies.{Place, Reply}
 use Rattle.spec_search.specs.Search.{Search}
 use Rattle.cq_atoms.specs.Texts.{text_of}
+use Rattle.cq_attr.specs.Attributes.{nothing}
+use Rattle.cq_term.specs.HeapValue.{Terms}
+use Rattle.cq_term.specs.Meaning.{at}
+use Rattle.cq_term.specs.Trees.{KnowsTerms}
 use Rattle.cq_world.specs.Contents.{Contents}
 use Rattle.cq_world.specs.Rest.{IsReadyAs}
 use Rattle.cq_world.specs.Worlds.{now_of, saved_of}
@@ -24,7 +28,7 @@ use Rattle.cq_control.specs.Open.{open_choices}
 use Rattle.spec_machine.specs.declared.cell.Cell.{Cell}
 use Rattle.spec_machine.specs.declared.cell.Cell.TheVariants.{Goal, Call, CutTo, CutFail, CatchEnd, Collect}
 use Rattle.spec_machine.specs.Cells.{Left, One, Clauses, Barrier, Value, Stack}
-use Rattle.spec_machine.specs.Standing.{engine, IsStanding}
+use Rattle.spec_machine.specs.Standing.{engine, IsPlace, AreWaiting, IsStanding}
 use Rattle.spec_machine.specs.Coming.{Comes}
 use Rattle.cq_steps.specs.declared.alternatives.Alternatives.{Alternatives}
 use Rattle.cq_steps.specs.declared.alternatives.Alternatives.TheVariants as alternatives
@@ -41,6 +45,10 @@ pub record IsBranch (texts : List Text) (c : Contents) (st : State) : Type 0 whe
 -- the term of a number
 abbrev pub term_in : List Text → Contents → ℕ → Option Tree
 term_in texts c id = option_map (named (text_of texts)) (slice_get c.heap.terms id)
+
+-- the world with another heap
+abbrev pub with_heap : Terms → Contents → Contents
+with_heap h c = record c { heap = h }
 
 -- a world, and what each continuation has to do
 abbrev pub value : World → List (List Cell) → Value Contents
@@ -71,6 +79,10 @@ ReadsAs texts c st id t = Reads (IsBranch texts) (term_in texts) c st id t
 
 abbrev pub Selected : List Text → Stack Contents → Value Contents → ℕ → ℕ → Place → List Branch → Type 0
 Selected texts choices now height rest p behind = IsSelected (IsBranch texts) (term_in texts) choices now height rest p behind
+
+-- call of a term is selected at the place, with this continuation and these branches behind it
+abbrev pub Placed : List Text → Stack Contents → Value Contents → ℕ → Place → List Branch → Type 0
+Placed texts choices now rest p behind = IsPlace (IsBranch texts) (term_in texts) choices now rest p × AreWaiting (IsBranch texts) (term_in texts) choices behind
 
 abbrev pub Leads : List Text → Stack Contents → Value Contents → Option ℕ → Place → List Branch → Reply → Type 0
 Leads texts choices now current p behind reply = Becomes (IsBranch texts) (term_in texts) choices now current p behind reply
@@ -108,3 +120,10 @@ IsCall [] = ⊤
 IsCall (alternatives.One k ∷ choices) = ⊥
 IsCall (alternatives.Clauses t walk k ∷ choices) = ⊤
 IsCall (alternatives.Barrier ∷ choices) = ⊥
+
+-- nothing is known of a world's terms but themselves: no variable is bound or numeric, nothing was told, and nothing waits
+pub record KnowsNothing (texts : List Text) (c : Contents) : Type 0 where
+  pub names : KnowsTerms texts c.heap.terms
+  pub images : (v : ℕ) → v < length c.heap.images → at c.heap.images v ≡ Var v
+  pub attrs : c.attrs ≡ nothing
+  pub told : c.told ≡ []

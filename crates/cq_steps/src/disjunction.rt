@@ -57,6 +57,7 @@ fn either(
         → Leads texts (stack texts v (saved_values world.new.first world.new.second.saved) choices.new)
         (value world.new.first world.new.second.now) (Some k) p behind (or_row p a b)) }
     ensures world { now_of world.new.first ≡ now_of world.old.first }
+    ensures there { IfOk result (λ k. k < length world.new.second.now) }
     ensures keeps { KeepsLists world.old.second.now world.new.second.now }
     ensures marked { AreMarked (saved_values world.new.first world.new.second.saved) choices.new }
     ensures err { OnErr result (choices.new ≡ choices.old) }
@@ -90,6 +91,7 @@ fn if_then_else(
         → Leads texts (stack texts v (saved_values world.new.first world.new.second.saved) choices.new)
         (value world.new.first world.new.second.now) (Some k) p behind (or_row p (binary (codes "->") c t) b)) }
     ensures world { now_of world.new.first ≡ now_of world.old.first }
+    ensures there { IfOk result (λ k. k < length world.new.second.now) }
     ensures keeps { KeepsLists world.old.second.now world.new.second.now }
     ensures marked { AreMarked (saved_values world.new.first world.new.second.saved) choices.new }
     ensures err { OnErr result (choices.new ≡ choices.old) }
@@ -127,6 +129,7 @@ pub fn or(
         → Leads atoms.now (stack atoms.now v (saved_values world.new.first world.new.second.saved) choices.new)
         (value world.new.first world.new.second.now) (Some k) p behind (or_row p a b)) }
     ensures world { now_of world.new.first ≡ now_of world.old.first }
+    ensures there { IfOk result (λ k. k < length world.new.second.now) }
     ensures keeps { KeepsLists world.old.second.now world.new.second.now }
     ensures marked { AreMarked (saved_values world.new.first world.new.second.saved) choices.new }
     ensures err { OnErr result (choices.new ≡ choices.old) }

@@ -39,6 +39,7 @@ pub fn and(
         → Selected texts choices (value world.now lists.old.now) height rest p behind
         → ReadsAs texts (now_of world.now) p.state left a → ReadsAs texts (now_of world.now) p.state right b
         → Leads texts choices (value world.now lists.new.now) (Some k) p behind (and_row p a b)) }
+    ensures there { IfOk result (λ k. k < length lists.new.now) }
     ensures keeps { KeepsLists lists.old.now lists.new.now }
     ensures saved { lists.new.saved ≡ lists.old.saved }
 {
@@ -64,6 +65,7 @@ pub fn if_then(
         → length stack ≡ length choices.now → Selected texts stack (value world.now lists.old.now) height rest p behind
         → ReadsAs texts (now_of world.now) p.state condition c → ReadsAs texts (now_of world.now) p.state goal t
         → Leads texts stack (value world.now lists.new.now) (Some k) p behind (if_then_row p c t)) }
+    ensures there { IfOk result (λ k. k < length lists.new.now) }
     ensures keeps { KeepsLists lists.old.now lists.new.now }
     ensures saved { lists.new.saved ≡ lists.old.saved }
 {
@@ -90,6 +92,7 @@ pub fn once(
         → length stack ≡ length choices.now → Selected texts stack (value world.now lists.old.now) height rest p behind
         → ReadsAs texts (now_of world.now) p.state goal g → ReadsAs texts (now_of world.now) p.state truth (atom "true")
         → Leads texts stack (value world.now lists.new.now) (Some k) p behind (once_row p g)) }
+    ensures there { IfOk result (λ k. k < length lists.new.now) }
     ensures keeps { KeepsLists lists.old.now lists.new.now }
     ensures saved { lists.new.saved ≡ lists.old.saved }
 {
@@ -114,6 +117,7 @@ pub fn not(
         → Leads texts (stack texts v (saved_values world.new.first world.new.second.saved) choices.new)
         (value world.new.first world.new.second.now) (Some k) p behind (not_row p g)) }
     ensures world { now_of world.new.first ≡ now_of world.old.first }
+    ensures there { IfOk result (λ k. k < length world.new.second.now) }
     ensures keeps { KeepsLists world.old.second.now world.new.second.now }
     ensures marked { AreMarked (saved_values world.new.first world.new.second.saved) choices.new }
     ensures err { OnErr result (choices.new ≡ choices.old) }
