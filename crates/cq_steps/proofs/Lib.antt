@@ -7,6 +7,5 @@ pub mod Cells
 pub mod Done
 pub mod Grown
 pub mod Beginning
-pub mod Calling
 pub mod Passing
 pub mod Disjunctions

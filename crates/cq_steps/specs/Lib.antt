@@ -2,4 +2,3 @@ pub mod Lists
 pub mod Selecting
 pub mod Worlds
 pub mod Sides
-pub mod Calls
