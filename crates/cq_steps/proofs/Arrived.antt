@@ -29,8 +29,3 @@ drop-map f (suc n) (x ∷ xs) = drop-map f n xs
 
 pub last-map : {A B : Type 0} (f : A → B) (n : ℕ) (xs : List A) → last n (map f xs) ≡ map f (last n xs)
 last-map f n xs = ap (λ m. drop (m - n) (map f xs)) (length-map xs f) ∙ drop-map f (length xs - n) xs
-
--- whether there is one, as a number
-abbrev pub one_if_some : {A : Type 0} → Option A → ℕ
-one_if_some None = 0
-one_if_some (Some x) = 1

@@ -1,5 +1,5 @@
 -- The world and the choices of an engine, as the definitions see them.
-use Rattle.std.specs.Prelude.{◌≡◌, ℕ, ◌<◌, List, [], ◌∷◌, map, length, slice_get, Option, Some, ⊤}
+use Rattle.std.specs.Prelude.{◌≡◌, ℕ, ◌<◌, List, [], ◌∷◌, map, length, slice_get, Option, Some}
 use Rattle.std.specs.Option.{option_map}
 use Rattle.std.specs.List.{zip}
 use Rattle.spec_rational.specs.Rational.{ℚ}
@@ -26,7 +26,6 @@ use Rattle.cq_clauses.specs.Walks.{left}
 use Rattle.cq_stored.specs.StoredValue.{ClauseValue}
 use Rattle.cq_control.specs.Open.{open_choices}
 use Rattle.spec_machine.specs.declared.cell.Cell.{Cell}
-use Rattle.spec_machine.specs.declared.cell.Cell.TheVariants.{Goal, Call, CutTo, CutFail, CatchEnd, Collect}
 use Rattle.spec_machine.specs.Cells.{Left, One, Clauses, Barrier, Value, Stack}
 use Rattle.spec_machine.specs.Standing.{engine, IsStanding}
 use Rattle.spec_machine.specs.Coming.{Comes}
@@ -99,23 +98,6 @@ IsWorking saved choices now current = (texts : List Text) × (v : Program) × (d
 -- the search comes quietly to one for which the engine stands
 abbrev pub Arrives : ℕ → List Text → Program → Database → ℕ → List (Value Contents) → List Alternatives → Value Contents → Option ℕ → Search → Type 0
 Arrives steps texts v db n saved choices now current s = Comes (IsBranch texts) (term_in texts) steps (engine db n (stack texts v saved choices) now current) s
-
--- no mark is in front
-abbrev pub IsFront : List Cell → Type 0
-IsFront [] = ⊤
-IsFront (Goal t height ∷ cs) = ⊤
-IsFront (Call t ∷ cs) = ⊤
-IsFront (CutTo height ∷ cs) = ⊥
-IsFront (CutFail height ∷ cs) = ⊥
-IsFront (CatchEnd height c r ∷ cs) = ⊥
-IsFront (Collect height t ∷ cs) = ⊤
-
--- the clauses of a call are left to try first
-abbrev pub IsCall : List Alternatives → Type 0
-IsCall [] = ⊤
-IsCall (alternatives.One k ∷ choices) = ⊥
-IsCall (alternatives.Clauses t walk k ∷ choices) = ⊤
-IsCall (alternatives.Barrier ∷ choices) = ⊥
 
 -- nothing is known of a world's terms but themselves: no variable is bound or numeric, nothing was told, and nothing waits
 pub record KnowsNothing (texts : List Text) (c : Contents) : Type 0 where

@@ -63,9 +63,9 @@ fn either(
     ensures err { OnErr result (choices.new ≡ choices.old) }
     ensures err_saved { OnErr result (saved_values world.new.first world.new.second.saved ≡ saved_values world.old.first world.old.second.saved) }
 {
-    let other = goal_before(&world.first.heap, &mut world.second, right, height, rest)?;
+    let second = goal_before(&world.first.heap, &mut world.second, right, height, rest)?;
     let first = goal_before(&world.first.heap, &mut world.second, left, height, rest)?;
-    choices.push(world, Alternatives::One(other))?;
+    choices.push(world, Alternatives::One(second))?;
     Ok(first)
 }
 

@@ -7,13 +7,69 @@ ghost use Rattle.spec_search.specs.Search.{Search};
 ghost use Rattle.cq_control.specs.Items.{items_at};
 ghost use Rattle.cq_control.specs.Open.{AreMarked};
 ghost use Rattle.cq_program.specs.Database.{Program};
-ghost use Rattle.cq_steps.specs.Worlds.{value, saved_values, Stands, IsWorking, Arrives, IsFront, IsCall};
+ghost use Rattle.cq_steps.specs.Marks.{IsFront, past, IsPast, IsCall, came_to, HasComeBack};
+ghost use Rattle.cq_steps.specs.Worlds.{value, saved_values, Stands, IsWorking, Arrives};
 
 use crate::alternatives::{Alternatives, Searching};
 use cq_control::{Choices, Continuation};
 use spec_machine::Cell;
 
-/// Goes past the marks in front; None where the last of them comes back.
+/// What is in front of a continuation.
+#[derive(Clone, Copy)]
+enum Front {
+    /// A goal, or nothing.
+    Clear,
+    /// A mark that was passed, with what is behind it.
+    Passed(Continuation),
+    /// A mark that comes back.
+    Back,
+}
+
+/// Where a search comes back to.
+#[derive(Clone, Copy)]
+enum Came {
+    /// To a continuation, or past a choice of no branch.
+    Back(Option<Continuation>),
+    /// The clauses of a call are to be tried, or no choice is left.
+    Call,
+}
+
+/// Passes a mark in front.
+fn pass_mark(
+    world: &mut Searching,
+    choices: &mut Choices<Alternatives>,
+    start: Continuation,
+) -> Front
+    requires marked { AreMarked (saved_values world.old.first world.old.second.saved) choices.old }
+    requires works { IsWorking (saved_values world.old.first world.old.second.saved) choices.old (value world.old.first world.old.second.now) (Some start) }
+    ensures marked { AreMarked (saved_values world.new.first world.new.second.saved) choices.new }
+    ensures arrives { (steps : ℕ) (texts : List Text) (v : Program) (db : Database) (n : ℕ) (s : Search)
+        → Stands texts v db n (saved_values world.old.first world.old.second.saved) choices.old (value world.old.first world.old.second.now) (Some start) s
+        → Arrives steps texts v db n (saved_values world.new.first world.new.second.saved) choices.new (value world.new.first world.new.second.now)
+        (past result start) s }
+    ensures passes { IsPast result start (items_at world.new.second.now start) }
+    ensures fewer { length choices.new ≤ length choices.old }
+{
+    let Some((cell, rest)) = world.second.first(start) else {
+        return Front::Clear;
+    };
+    match cell {
+        Cell::Goal(_, _) => Front::Clear,
+        Cell::Call(_) => Front::Clear,
+        Cell::Collect(_, _) => Front::Clear,
+        Cell::CutTo(height) => {
+            choices.cut(world, height);
+            Front::Passed(rest)
+        }
+        Cell::CutFail(height) => {
+            choices.cut(world, height);
+            Front::Back
+        }
+        Cell::CatchEnd(_, _, _) => Front::Passed(rest),
+    }
+}
+
+/// Passes the marks in front; None where the last of them comes back.
 fn pass_marks(
     world: &mut Searching,
     choices: &mut Choices<Alternatives>,
@@ -29,19 +85,60 @@ fn pass_marks(
     ensures fewer { length choices.new ≤ length choices.old }
 {
     let mut current = start;
-    while let Some((cell, rest)) = world.second.first(current) {
-        match cell {
-            Cell::Goal(_, _) | Cell::Call(_) | Cell::Collect(_, _) => return Some(current),
-            Cell::CutTo(height) => choices.cut(world, height),
-            Cell::CutFail(height) => {
-                choices.cut(world, height);
-                return None;
-            }
-            Cell::CatchEnd(_, _, _) => {}
+    loop {
+        match pass_mark(world, choices, current) {
+            Front::Clear => return Some(current),
+            Front::Passed(rest) => current = rest,
+            Front::Back => return None,
         }
-        current = rest;
     }
-    Some(current)
+}
+
+/// The same from where an engine goes on, if it doesn't come back.
+fn pass_from(
+    world: &mut Searching,
+    choices: &mut Choices<Alternatives>,
+    start: Option<Continuation>,
+) -> Option<Continuation>
+    requires marked { AreMarked (saved_values world.old.first world.old.second.saved) choices.old }
+    requires works { IsWorking (saved_values world.old.first world.old.second.saved) choices.old (value world.old.first world.old.second.now) start }
+    ensures marked { AreMarked (saved_values world.new.first world.new.second.saved) choices.new }
+    ensures arrives { (steps : ℕ) (texts : List Text) (v : Program) (db : Database) (n : ℕ) (s : Search)
+        → Stands texts v db n (saved_values world.old.first world.old.second.saved) choices.old (value world.old.first world.old.second.now) start s
+        → Arrives steps texts v db n (saved_values world.new.first world.new.second.saved) choices.new (value world.new.first world.new.second.now) result s }
+    ensures front { IfSome result (λ k. IsFront (items_at world.new.second.now k)) }
+    ensures fewer { length choices.new ≤ length choices.old }
+{
+    match start {
+        Some(k) => pass_marks(world, choices, k),
+        None => None,
+    }
+}
+
+/// Comes back to the newest choice, unless that is of a call.
+fn come_back(world: &mut Searching, choices: &mut Choices<Alternatives>) -> Came
+    requires marked { AreMarked (saved_values world.old.first world.old.second.saved) choices.old }
+    ensures marked { AreMarked (saved_values world.new.first world.new.second.saved) choices.new }
+    ensures arrives { (steps : ℕ) (texts : List Text) (v : Program) (db : Database) (n : ℕ) (s : Search)
+        → Stands texts v db n (saved_values world.old.first world.old.second.saved) choices.old (value world.old.first world.old.second.now) None s
+        → Arrives steps texts v db n (saved_values world.new.first world.new.second.saved) choices.new (value world.new.first world.new.second.now)
+        (came_to result) s }
+    ensures back { HasComeBack result choices.old choices.new }
+{
+    let Some(newest) = choices.top() else {
+        return Came::Call;
+    };
+    match *newest {
+        Alternatives::One(k) => {
+            choices.back(world);
+            Came::Back(Some(k))
+        }
+        Alternatives::Barrier => {
+            choices.back(world);
+            Came::Back(None)
+        }
+        Alternatives::Clauses(_, _, _) => Came::Call,
+    }
 }
 
 /// Goes on to where a goal is in front, nothing is left to do, the clauses of a call are to be tried, or no choice is left.
@@ -61,20 +158,12 @@ pub fn find_front(
 {
     let mut current = start;
     loop {
-        match current {
-            Some(k) => match pass_marks(world, choices, k) {
-                Some(front) => return Some(front),
-                None => current = None,
-            },
-            None => match choices.top() {
-                Some(Alternatives::One(k)) => {
-                    let next = *k;
-                    choices.back(world);
-                    current = Some(next);
-                }
-                Some(Alternatives::Clauses(_, _, _)) => return None,
-                None => return None,
-            },
+        if let Some(front) = pass_from(world, choices, current) {
+            return Some(front);
+        }
+        match come_back(world, choices) {
+            Came::Back(next) => current = next,
+            Came::Call => return None,
         }
     }
 }
