@@ -22,8 +22,11 @@ use Rattle.cq_steps.specs.Worlds.{IsBranch, term_in, ReadsAs, KnowsNothing}
 
 -- ---- nothing is known
 
-same_variable : (v w : ℕ) → Var {A = Text} v ≡ Var w → w ≤ v
+same_variable : (v w : ℕ) → identity {A = Text} v ≡ Var w → w ≤ v
 same_variable v w e = let h : v ≡ w = cc in omega (arith, h)
+
+no : false ≡ true → ⊥
+no e = cc
 
 empty_reads : (n : ℕ) → IsReadThrough (empty_state n)
 empty_reads n = record {
@@ -31,26 +34,20 @@ empty_reads n = record {
   older = λ v w e. same_variable v w e;
   below = λ v w l o. let h : w ≡ v = o in omega (arith, l, h);
   beyond = λ v l. refl;
-  numeric = λ v e. let c : false ≡ true = e in absurd (cc_false c);
+  numeric = λ v e. absurd (no e);
 }
-  where
-    cc_false : false ≡ true → ⊥
-    cc_false e = cc
 
 empty_rests : (n : ℕ) → IsAtRest (empty_state n)
 empty_rests n = record {
   read_through = empty_reads n;
   solvable = (all_at (pos 0), tt);
-  fixed = λ v q e f. let c : false ≡ true = e in absurd (no c);
-  no_clash = λ v e. let c : false ≡ true = e in absurd (no c);
-  images = λ v w e f. let c : false ≡ true = e in absurd (no c);
+  fixed = λ v q e f. absurd (no e);
+  no_clash = λ v e. absurd (no e);
+  images = λ v w e f. absurd (no e);
   waiting = tt;
   delayed = tt;
   asleep = tt;
 }
-  where
-    no : false ≡ true → ⊥
-    no e = cc
 
 module _ (texts : List Text) (c : Contents) (k : KnowsNothing texts c) where
   abbrev st : State

@@ -1,5 +1,5 @@
 -- Marks that are passed and choices that are come back to, over the choices of the code.
-use Rattle.std.proofs.Common.{◌≡◌, ℕ, ◌<◌, ◌≤◌, List, [], ◌∷◌, length, Option, None, Some, refl, sym, ap, ◌∙◌, subst, map, arith}
+use Rattle.std.proofs.Common.{◌≡◌, ℕ, ◌<◌, ◌≤◌, List, [], ◌∷◌, ◌++◌, length, Option, None, Some, refl, sym, ap, ◌∙◌, subst, map, arith}
 use Rattle.spec_lists.specs.Texts.{Text}
 use Rattle.spec_search.specs.Database.{Database}
 use Rattle.spec_search.specs.Search.{Search}
@@ -46,25 +46,22 @@ module _ (steps : ℕ) (texts : List Text) (v : Program) (db : Database) (n : �
     end_on height c r e = comes_on (IsBranch texts) (term_in texts) steps _ _ s a
         (λ t j. end_passed (IsBranch texts) (term_in texts) steps db n (stack texts v saved choices) now k rest t j earlier height c r e)
 
+  abbrev Standing : Value Contents → Stack Contents → Search → Type 0
+  Standing now st t = IsStanding (IsBranch texts) (term_in texts) (engine db n st now None) t
+
   pub one_on : (saved fewer : List (Value Contents)) (choices left : List Alternatives) (now back : Value Contents) (k : ℕ)
       → open_choices saved choices ≡ (back, alternatives.One k) ∷ open_choices fewer left
       → Arrives steps texts v db n saved choices now None s → Arrives steps texts v db n fewer left back (Some k) s
   one_on saved fewer choices left now back k e a = comes_on (IsBranch texts) (term_in texts) steps _ _ s a
       (λ t j. one_begun (IsBranch texts) (term_in texts) steps db n (stack texts v fewer left) back now t (branches_rest texts) k
-      (subst (λ st. Standing st t) (ap (map (left_at texts v)) e) j))
-    where
-      abbrev Standing : Stack Contents → Search → Type 0
-      Standing st t = IsStanding (IsBranch texts) (term_in texts) (engine db n st now None) t
+      (subst (λ st. Standing now st t) (ap (map (left_at texts v)) e) j))
 
   pub barrier_on : (saved fewer : List (Value Contents)) (choices left : List Alternatives) (now back : Value Contents)
       → open_choices saved choices ≡ (back, alternatives.Barrier) ∷ open_choices fewer left
       → Arrives steps texts v db n saved choices now None s → Arrives steps texts v db n fewer left back None s
   barrier_on saved fewer choices left now back e a = comes_on (IsBranch texts) (term_in texts) steps _ _ s a
-      (λ t j. comes_at_once (IsBranch texts) (term_in texts) steps _ t (past_barrier (stack texts v fewer left) back now t (subst (λ st. Standing st t) (ap (map (left_at texts v)) e) j)))
+      (λ t j. comes_at_once (IsBranch texts) (term_in texts) steps _ t (past_barrier (stack texts v fewer left) back now t (subst (λ st. Standing now st t) (ap (map (left_at texts v)) e) j)))
     where
-      abbrev Standing : Stack Contents → Search → Type 0
-      Standing st t = IsStanding (IsBranch texts) (term_in texts) (engine db n st now None) t
-
       -- a choice that stands for no branch is passed
       past_barrier : (older : Stack Contents) (w now : Value Contents) (t : Search) → IsStanding (IsBranch texts) (term_in texts) (engine db n ((w, Barrier) ∷ older) now None) t
           → IsStanding (IsBranch texts) (term_in texts) (engine db n older w None) t
