@@ -17,7 +17,7 @@ use Rattle.cq_term.specs.Trees.{tree}
 use Rattle.cq_world.specs.Contents.{Contents}
 use Rattle.cq_steps.specs.Sides.{IsIfThen, IsPlain}
 use Rattle.cq_steps.specs.Worlds.{term_in, ReadsAs}
-use Rattle.cq_steps.proofs.Cells.{reads_tree}
+use Rattle.cq_steps.proofs.Added.{reads_tree}
 
 -- what is no compound of two arguments is no if-then
 pub plain_other : (g : ℕ → Text) (t : HeapTerm) → is_binary t ≡ false → IsPlain (named g t)

@@ -3,7 +3,7 @@ pub mod Selected
 pub mod Arrived
 pub mod Rested
 pub mod Branches
-pub mod Cells
+pub mod Added
 pub mod Done
 pub mod Grown
 pub mod Beginning

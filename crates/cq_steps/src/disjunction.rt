@@ -15,7 +15,7 @@ ghost use Rattle.cq_steps.specs.Sides.{IsIfThen, IsPlain};
 ghost use Rattle.cq_steps.specs.Worlds.{value, saved_values, stack, ReadsAs, Selected, Leads};
 
 use crate::alternatives::{Alternatives, Searching};
-use crate::cells::{goal_before, one_more, then_before};
+use crate::cells::{goal_before, leave, one_more, then_before};
 use cq_atoms::Atoms;
 use cq_control::{Choices, Continuation};
 use cq_sides::{Sides, sides_of};
@@ -63,9 +63,10 @@ fn either(
     ensures err { OnErr result (choices.new ≡ choices.old) }
     ensures err_saved { OnErr result (saved_values world.new.first world.new.second.saved ≡ saved_values world.old.first world.old.second.saved) }
 {
-    let second = goal_before(&world.first.heap, &mut world.second, right, height, rest)?;
-    let first = goal_before(&world.first.heap, &mut world.second, left, height, rest)?;
-    choices.push(world, Alternatives::One(second))?;
+    let known = &world.first;
+    let second = goal_before(&known.heap, &mut world.second, right, height, rest)?;
+    let first = goal_before(&known.heap, &mut world.second, left, height, rest)?;
+    leave(world, choices, second)?;
     Ok(first)
 }
 
@@ -99,10 +100,11 @@ fn if_then_else(
 {
     let top = choices.height();
     let above = one_more(top)?;
-    let other = goal_before(&world.first.heap, &mut world.second, right, height, rest)?;
-    let mark = then_before(&world.first.heap, &mut world.second, top, left.right, height, rest)?;
-    let all = goal_before(&world.first.heap, &mut world.second, left.left, above, mark)?;
-    choices.push(world, Alternatives::One(other))?;
+    let known = &world.first;
+    let other = goal_before(&known.heap, &mut world.second, right, height, rest)?;
+    let mark = then_before(&known.heap, &mut world.second, top, left.right, height, rest)?;
+    let all = goal_before(&known.heap, &mut world.second, left.left, above, mark)?;
+    leave(world, choices, other)?;
     Ok(all)
 }
 

@@ -8,7 +8,7 @@ mod laws;
 mod marks;
 mod rows;
 
-pub use alternatives::{Alternatives, Searching};
+pub use alternatives::{Alternatives, Searching, Untried};
 pub use disjunction::or;
 pub use laws::{
     more_may_be_built, queries_begin_where_nothing_is_known, selected_goals_lead,

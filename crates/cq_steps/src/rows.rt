@@ -16,7 +16,7 @@ ghost use Rattle.cq_steps.specs.Lists.{KeepsLists};
 ghost use Rattle.cq_steps.specs.Worlds.{value, saved_values, stack, ReadsAs, Selected, Leads};
 
 use crate::alternatives::{Alternatives, Searching};
-use crate::cells::{cell_before, goal_before, one_more, then_before};
+use crate::cells::{cell_before, goal_before, leave, one_more, then_before};
 use cq_control::{Choices, Continuation, Continuations};
 use cq_term::TermId;
 use cq_world::World;
@@ -126,8 +126,9 @@ pub fn not(
     let top = choices.height();
     let above = one_more(top)?;
     let mark = cell_before(&mut world.second, Cell::CutFail(top), rest)?;
-    let both = goal_before(&world.first.heap, &mut world.second, goal, above, mark)?;
-    choices.push(world, Alternatives::One(rest))?;
+    let known = &world.first;
+    let both = goal_before(&known.heap, &mut world.second, goal, above, mark)?;
+    leave(world, choices, rest)?;
     Ok(both)
 }
 

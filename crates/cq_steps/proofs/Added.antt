@@ -61,3 +61,12 @@ reads_tree texts w st id t r = tree_is texts w.heap.terms id t r.0
 pub cell_is : (texts : List Text) (w : Contents) (st : State) (id height : ℕ) (t : Tree) → ReadsAs texts w st id t
     → goal_cell texts w.heap.terms id height ≡ put_cell (is_callable t) id height
 cell_is texts w st id height t r = ap (λ (u : Tree). put_cell (is_callable u) id height) (reads_tree texts w st id t r)
+
+-- what is behind two cells stays as it was
+pub has_behind : (old mid new : List (List Cell)) (k rest : ℕ) (x y : Cell) → KeepsLists old mid → rest < length old → HasCells new k (x ∷ y ∷ items_at mid rest)
+    → HasCells new k (x ∷ y ∷ items_at old rest)
+has_behind old mid new k rest x y e l h = record { there = h.there; are = h.are ∙ ap (λ cs. x ∷ y ∷ cs) (e.same rest l) }
+
+pub has_front : (old mid new : List (List Cell)) (k rest : ℕ) (x : Cell) → KeepsLists old mid → rest < length old → HasCells new k (x ∷ items_at mid rest)
+    → HasCells new k (x ∷ items_at old rest)
+has_front old mid new k rest x e l h = record { there = h.there; are = h.are ∙ ap (λ cs. x ∷ cs) (e.same rest l) }
