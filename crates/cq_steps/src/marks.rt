@@ -85,7 +85,7 @@ fn pass_marks(
     ensures fewer { length choices.new ≤ length choices.old }
 {
     let mut current = start;
-    loop {
+    'marks: loop {
         match pass_mark(world, choices, current) {
             Front::Clear => return Some(current),
             Front::Passed(rest) => current = rest,
@@ -157,7 +157,7 @@ pub fn find_front(
     ensures call { IfNone result (IsCall choices.new) }
 {
     let mut current = start;
-    loop {
+    'choices: loop {
         if let Some(front) = pass_from(world, choices, current) {
             return Some(front);
         }
