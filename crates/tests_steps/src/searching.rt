@@ -40,7 +40,7 @@ pub struct Three {
 pub fn three(heap: &mut Heap, atoms: &mut Atoms) -> Result<Three, AllocError>
     requires { heap.old.now.terms ≡ [] }
     ensures live { IfOk result (AreLive heap.new.now.terms) }
-    ensures names { KnowsTerms atoms.new heap.new.now.terms }
+    ensures names { OnOk result (KnowsTerms atoms.new heap.new.now.terms) }
     ensures saved { heap.new.saved ≡ heap.old.saved }
 {
     let a = atom(heap, atoms, "a")?;
