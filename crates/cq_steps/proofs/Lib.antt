@@ -7,5 +7,4 @@ pub mod Added
 pub mod Done
 pub mod Grown
 pub mod Beginning
-pub mod Passing
 pub mod Disjunctions

@@ -1,5 +1,4 @@
 pub mod Lists
 pub mod Selecting
 pub mod Worlds
-pub mod Marks
 pub mod Sides

@@ -1,11 +1,10 @@
-//! The steps of a search that look at no constraint: control, marks, and choices that are come back to.
+//! The rows of control as steps of a search: none of them looks at a constraint.
 #![tactic(auto)]
 
 mod alternatives;
 mod cells;
 mod disjunction;
 mod laws;
-mod marks;
 mod rows;
 
 pub use alternatives::{Alternatives, Searching, Untried};
@@ -13,5 +12,4 @@ pub use disjunction::or;
 pub use laws::{
     more_may_be_built, queries_begin_where_nothing_is_known, selected_goals_lead,
 };
-pub use marks::find_front;
 pub use rows::{and, cut, if_then, not, once};
