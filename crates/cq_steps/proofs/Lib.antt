@@ -6,6 +6,7 @@ pub mod Branches
 pub mod Added
 pub mod Done
 pub mod Grown
+pub mod Calling
 pub mod Beginning
 pub mod Passing
 pub mod Disjunctions

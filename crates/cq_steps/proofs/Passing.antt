@@ -93,3 +93,8 @@ pub arrives_on : (old mid new : List (Value Contents)) (choices fewer left : Lis
     → ((steps : ℕ) (texts : List Text) (v : Program) (db : Database) (n : ℕ) (s : Search) → Stands texts v db n mid fewer between at s → Arrives steps texts v db n new left now after s)
     → Arrives steps texts v db n new left now after s
 arrives_on old mid new choices fewer left was between now before at after steps texts v db n s a f = comes_on (IsBranch texts) (term_in texts) steps _ _ s a (λ t j. f steps texts v db n t j)
+
+-- the same where the world is an equal one
+pub arrives_same : (steps : ℕ) (texts : List Text) (v : Program) (db : Database) (n : ℕ) (s : Search) (saved : List (Value Contents)) (choices : List Alternatives) (now later : Value Contents)
+    (current : Option ℕ) → later ≡ now → Arrives steps texts v db n saved choices now current s → Arrives steps texts v db n saved choices later current s
+arrives_same steps texts v db n s saved choices now later current e a = subst (λ w. Arrives steps texts v db n saved choices w current s) (sym e) a

@@ -3,3 +3,4 @@ pub mod Selecting
 pub mod Worlds
 pub mod Marks
 pub mod Sides
+pub mod Calls

@@ -27,7 +27,7 @@ use Rattle.cq_stored.specs.StoredValue.{ClauseValue}
 use Rattle.cq_control.specs.Open.{open_choices}
 use Rattle.spec_machine.specs.declared.cell.Cell.{Cell}
 use Rattle.spec_machine.specs.Cells.{Left, One, Clauses, Barrier, Value, Stack}
-use Rattle.spec_machine.specs.Standing.{engine, IsStanding}
+use Rattle.spec_machine.specs.Standing.{engine, IsPlace, AreWaiting, IsStanding}
 use Rattle.spec_machine.specs.Coming.{Comes}
 use Rattle.cq_steps.specs.declared.alternatives.Alternatives.{Alternatives}
 use Rattle.cq_steps.specs.declared.alternatives.Alternatives.TheVariants as alternatives
@@ -78,6 +78,10 @@ ReadsAs texts c st id t = Reads (IsBranch texts) (term_in texts) c st id t
 
 abbrev pub Selected : List Text → Stack Contents → Value Contents → ℕ → ℕ → Place → List Branch → Type 0
 Selected texts choices now height rest p behind = IsSelected (IsBranch texts) (term_in texts) choices now height rest p behind
+
+-- call of a term is selected at the place, with this continuation and these branches behind it
+abbrev pub Placed : List Text → Stack Contents → Value Contents → ℕ → Place → List Branch → Type 0
+Placed texts choices now rest p behind = IsPlace (IsBranch texts) (term_in texts) choices now rest p × AreWaiting (IsBranch texts) (term_in texts) choices behind
 
 abbrev pub Leads : List Text → Stack Contents → Value Contents → Option ℕ → Place → List Branch → Reply → Type 0
 Leads texts choices now current p behind reply = Becomes (IsBranch texts) (term_in texts) choices now current p behind reply

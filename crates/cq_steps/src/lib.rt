@@ -2,6 +2,7 @@
 #![tactic(auto)]
 
 mod alternatives;
+mod calls;
 mod cells;
 mod disjunction;
 mod laws;
@@ -9,6 +10,7 @@ mod marks;
 mod rows;
 
 pub use alternatives::{Alternatives, Searching, Untried};
+pub use calls::call;
 pub use disjunction::or;
 pub use laws::{
     more_may_be_built, queries_begin_where_nothing_is_known, selected_goals_lead,
