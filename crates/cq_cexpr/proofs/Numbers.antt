@@ -1,6 +1,6 @@
 -- Forms with another sign, and forms by a number.
 use Rattle.std.proofs.Common.{◌≡◌, ◌≢◌, ℕ, suc, List, [], ◌∷◌, Bool, true, false, cond, not, Option, Some, None, refl, ap, ap₂, sym, subst, ◌∙◌}
-use Rattle.std.specs.Prelude.{◌↔◌, IsTrue, map, pos}
+use Rattle.std.specs.Prelude.{◌↔◌, IsTrue, pos}
 use Rattle.spec_rational.specs.Rational.{ℚ, 0ℚ, ◌*ℚ◌, ◌/ℚ◌, inv_ℚ, neg_ℚ}
 use Rattle.spec_rational.specs.Sums.{Monomial, scaled_products, negated_products}
 use Rattle.spec_rational.proofs.Ring.{var, int, ◌⊗◌}
@@ -13,8 +13,7 @@ use Rattle.spec_told.specs.Expressions.{number_of, is_zero_form, quotient_form, 
 use Rattle.spec_told.proofs.Kept.{is_constant_form}
 use Rattle.cq_row.specs.declared.Entry.{Entry}
 use Rattle.cq_row.specs.Rows.{over, negated}
-use Rattle.cq_form.specs.Entries.{entry_of, form_of, products_of}
-use Rattle.cq_cexpr.specs.Entries.{pair_of}
+use Rattle.cq_form.specs.Entries.{form_of, products_of}
 
 -- ---- the other sign
 
@@ -55,12 +54,6 @@ module _ (f : Linear) (s : List Entry) (e : products_of s ≡ f.products) (d : �
 
   pub over_in_order : (c : ℚ) → c ≡ f.constant /ℚ d → IsForm (form_of c (over d s))
   over_in_order c h = subst IsForm (sym (over_is c h)) (IsForm-scaled_form (inv_ℚ d) f i)
-
--- ---- entries
-
-pub entries_back : (s : List Entry) → map entry_of (map pair_of s) ≡ s
-entries_back [] = refl
-entries_back (m ∷ s) = ap (λ (r : List Entry). m ∷ r) (entries_back s)
 
 -- ---- numbers
 

@@ -4,4 +4,3 @@ pub mod Sums
 pub mod Overflows
 pub mod Found
 pub mod Work
-pub mod Entries

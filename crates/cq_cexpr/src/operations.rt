@@ -12,7 +12,6 @@ ghost use Rattle.spec_stops.specs.Operands.{power_products, power_operands, bina
 ghost use Rattle.cq_frac.specs.declared.Operation.TheVariants.{Sum, Difference, Product, Quotient};
 ghost use Rattle.cq_frac.specs.declared.Pair.{Pair};
 ghost use Rattle.cq_form.specs.Entries.{form_of};
-ghost use Rattle.cq_cexpr.specs.Entries.{pair_of};
 ghost use Rattle.cq_cexpr.specs.Names.{unary_meant, binary_meant, binary_of_code};
 ghost use Rattle.cq_cexpr.specs.Overflows.{ComesFrom};
 
@@ -75,35 +74,12 @@ fn is_number_zero(form: &Form) -> bool
     }
 }
 
-/// The form of a constant and entries.
-pub(crate) fn form_with(
-    alloc: Global,
-    constant: Frac,
-    entries: &[Entry],
-) -> Result<Form, AllocError>
-    requires in_order { IsForm (form_of constant entries.now) }
-    ensures { IfOk result (λ f. f ≡ form_of constant entries.now) }
-{
-    let pairs = pairs_of(alloc, entries)?;
-    Form::new(alloc, constant, &pairs)
-}
-
-/// The variables with their coefficients.
-fn pairs_of(alloc: Global, entries: &[Entry]) -> Result<Vec<(VarId, Frac)>, AllocError>
-    ensures { IfOk result (λ pairs. pairs.items ≡ map pair_of entries.now) }
-{
-    entries
-        .iter()
-        .map(|entry| (VarId(entry.quantity), entry.factor))
-        .collect(alloc)
-}
-
 /// The form with the other sign.
 fn negated(alloc: Global, form: &Form) -> Result<Form, AllocError>
     ensures { IfOk result (λ f. f ≡ negated_form form.now) }
 {
     let entries = opposed(alloc, form.entries())?;
-    form_with(alloc, form.constant().neg(), &entries)
+    Ok(Form::of_entries(form.constant().neg(), entries))
 }
 
 /// The form by a number that is not zero.
@@ -115,7 +91,7 @@ fn over_number(alloc: Global, form: &Form, divisor: Frac) -> Result<Form, Refusa
 {
     let constant = quotient(form.constant(), divisor)?;
     let entries = divided(alloc, form.entries(), divisor)?;
-    Ok(form_with(alloc, constant, &entries)?)
+    Ok(Form::of_entries(constant, entries))
 }
 
 /// The operation on one form.

@@ -9,7 +9,7 @@ ghost use Rattle.cq_cexpr.specs.Overflows.{ComesFrom};
 ghost use Rattle.cq_cexpr.specs.Slots.{IsRisingFrom};
 ghost use Rattle.cq_cexpr.specs.Sums.{all_joined, joining_operands, whole_of, due_in};
 
-use crate::operations::{form_with, is_in_order};
+use crate::operations::is_in_order;
 use crate::slots::{filled, join_all, slots_for};
 use cq_form::Form;
 use cq_frac::Refusal;
@@ -104,7 +104,7 @@ fn by_variable(alloc: Global, first: &Form, more: &[(Joining, Form)]) -> Result<
         join_all(&mut slots, next.0, next.1.entries())?;
     }
     let entries = filled(alloc, &slots)?;
-    Ok(form_with(alloc, constant, &entries)?)
+    Ok(Form::of_entries(constant, entries))
 }
 
 /// Slots for the variables, with the factors of the form.

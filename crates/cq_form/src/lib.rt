@@ -52,6 +52,14 @@ impl Form {
         })
     }
 
+    /// The form of a constant and entries of variables.
+    pub fn of_entries(constant: Frac, entries: Vec<Entry>) -> Form
+        requires in_order { IsForm (form_of constant entries.items) }
+        ensures { result ≡ form_of constant entries.items }
+    {
+        Form { constant, entries }
+    }
+
     /// The value of the form where every variable is zero.
     pub fn constant(&self) -> Frac
         ensures { result ≡ self.now.constant }

@@ -10,10 +10,11 @@ use Rattle.spec_linear.specs.Form.{is_zero}
 use Rattle.spec_linear.specs.Solution.{Constraint, Has, SomeMentions, MentionsOnly}
 use Rattle.spec_linear.proofs.Denominators.{has_left, has_right}
 use Rattle.spec_projection.specs.Elimination.{coefficient, is_positive, lower_rows, upper_rows, other_rows}
-use Rattle.spec_projection.specs.Partial.{pairs, IsNext}
+use Rattle.spec_projection.specs.Partial.{pairs, ComesBefore, IsNext}
 use Rattle.spec_projection.proofs.Eliminated.{is_positive-of}
 use Rattle.spec_projection.proofs.Members.{has_either, has_filtered}
 use Rattle.spec_projection.proofs.Mentions.{unmentioned_factor, factor_mentioned}
+use Rattle.spec_projection.proofs.Nexts.{chained}
 use Rattle.cq_frac.specs.declared.VarId.{VarId}
 use Rattle.cq_store.specs.Told.{numbers_of}
 use Rattle.cq_store.proofs.Variables.{has_end}
@@ -21,7 +22,7 @@ use Rattle.cq_fourier.specs.declared.Side.{Side}
 use Rattle.cq_fourier.specs.declared.Side.TheVariants.{Lower, Upper, Other}
 use Rattle.cq_fourier.specs.declared.next.Elimination.{Elimination}
 use Rattle.cq_fourier.specs.Sides.{IsSide}
-use Rattle.cq_fourier.specs.Next.{Counts, IsBefore, IsFirstOf, HasOneMore, ComesBefore, IsFirst, NoneStands, AreApart}
+use Rattle.cq_fourier.specs.Next.{Counts, IsBefore, IsFirstOf, HasOneMore, IsFirst, NoneStands, AreApart}
 use Rattle.cq_fourier.proofs.Bounds.{negative_not_zero, Tests, tests_lower, tests_upper, tests_other}
 
 -- ---- counting
@@ -136,12 +137,6 @@ pairs_are l e k = ap₂ (λ p q. p * q) k.lower_is k.upper_is
 comes_before : (l : List Constraint) (e f : Elimination) → Counts l e → Counts l f → IsBefore e f → ComesBefore l e.variable.0 f.variable.0
 comes_before l e f j k (inl h) = inl (subst (λ p. p < pairs f.variable.0 l) (pairs_are l e j) (subst (λ q. e.lower * e.upper < q) (pairs_are l f k) h))
 comes_before l e f j k (inr h) = inr (sym (pairs_are l e j) ∙ h.0 ∙ pairs_are l f k, h.1)
-
-chained : (a b c x y z : ℕ) → (a < b) ⊎ ((a ≡ b) × (x ≤ y)) → (b < c) ⊎ ((b ≡ c) × (y ≤ z)) → (a < c) ⊎ ((a ≡ c) × (x ≤ z))
-chained a b c x y z (inl h) (inl k) = inl (omega (arith, h, k))
-chained a b c x y z (inl h) (inr k) = let e : b ≡ c = k.0 in inl (omega (arith, h, e))
-chained a b c x y z (inr h) (inl k) = let e : a ≡ b = h.0 in inl (omega (arith, k, e))
-chained a b c x y z (inr h) (inr k) = let u : x ≤ y = h.1 in let v : y ≤ z = k.1 in inr (h.0 ∙ k.0, omega (arith, u, v))
 
 abbrev pub Best : List ℕ → List Constraint → Option Elimination → Type 0
 Best xs l found = MatchOption found (NoneStands xs l) (IsFirst xs l)

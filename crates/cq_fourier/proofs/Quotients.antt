@@ -1,6 +1,6 @@
 -- Forms that are divided by a number, and the pairs that this meets.
 use Rattle.std.proofs.Common.{◌≡◌, ◌≢◌, ℕ, suc, List, [], ◌∷◌, Bool, true, false, refl, ap, ap₂, sym, subst, ◌∙◌}
-use Rattle.std.specs.Prelude.{map, cond, not}
+use Rattle.std.specs.Prelude.{cond, not}
 use Rattle.spec_rational.specs.Rational.{ℚ, 0ℚ, inv_ℚ, ◌*ℚ◌, ◌/ℚ◌}
 use Rattle.spec_rational.specs.Sums.{Monomial, scaled_products}
 use Rattle.spec_rational.proofs.Rational.{mul_comm}
@@ -12,12 +12,11 @@ use Rattle.spec_projection.specs.Elimination.{coefficient}
 use Rattle.spec_limits.specs.Overflow.{IsNumberOf, of_variable}
 use Rattle.cq_frac.specs.declared.Operation.TheVariants.{Quotient}
 use Rattle.cq_frac.specs.declared.Pair.{Pair}
-use Rattle.cq_frac.specs.declared.VarId.{VarId}
 use Rattle.cq_frac.specs.Refused.{Tells, IsRefused}
 use Rattle.cq_row.specs.declared.Entry.{Entry}
 use Rattle.cq_row.specs.Rows as row
 use Rattle.cq_row.specs.Rows.{over}
-use Rattle.cq_form.specs.Entries.{entry_of, form_of, products_of}
+use Rattle.cq_form.specs.Entries.{form_of, products_of}
 use Rattle.cq_form.specs.Steps.{HasCoefficient}
 use Rattle.cq_form.proofs.Forms.{coefficient_is}
 use Rattle.cq_form.proofs.Rows.{has_product}
@@ -40,16 +39,16 @@ all_stay low k (m ∷ s) n o = go (is_zero (k *ℚ m.factor)) (not_zero (k *ℚ 
     go true e h = absurd (cc)
     go false e h = ap (λ t. record { variable = m.variable; factor = k *ℚ m.factor } ∷ t) h
 
-module _ (k : ℚ) (f : Linear) (s t : List Entry) (pairs : List (VarId × ℚ)) (c : ℚ) (nonzero : k ≢ 0ℚ) (form : IsForm f) (entries : products_of s ≡ f.products)
-    (quotients : t ≡ over k s) (listed : map entry_of pairs ≡ t) (constant : c ≡ f.constant /ℚ k) where
-  pub divided_is : form_of c (map entry_of pairs) ≡ scaled_form (inv_ℚ k) f
+module _ (k : ℚ) (f : Linear) (s t : List Entry) (c : ℚ) (nonzero : k ≢ 0ℚ) (form : IsForm f) (entries : products_of s ≡ f.products)
+    (quotients : t ≡ over k s) (constant : c ≡ f.constant /ℚ k) where
+  pub divided_is : form_of c t ≡ scaled_form (inv_ℚ k) f
   divided_is =
       form_same _ _
-      (ap products_of (listed ∙ quotients) ∙ over_is k s ∙ ap (scaled_products (inv_ℚ k)) entries
+      (ap products_of quotients ∙ over_is k s ∙ ap (scaled_products (inv_ℚ k)) entries
       ∙ all_stay 0 (inv_ℚ k) f.products (inverse_not_zero k nonzero) form)
       (constant ∙ mul_comm f.constant (inv_ℚ k))
 
-  pub divided_in_order : IsForm (form_of c (map entry_of pairs))
+  pub divided_in_order : IsForm (form_of c t)
   divided_in_order = subst IsForm (sym divided_is) (IsForm-scaled_form (inv_ℚ k) f form)
 
 -- ---- pairs

@@ -2,7 +2,7 @@
 use Rattle.std.specs.Prelude.{◌≡◌, ◌⊎◌, ℕ, ◌+◌, ◌*◌, ◌<◌, ◌≤◌, List, length, Option, None, Some}
 use Rattle.spec_linear.specs.Solution.{Constraint, Has, SomeMentions}
 use Rattle.spec_projection.specs.Elimination.{lower_rows, upper_rows, other_rows}
-use Rattle.spec_projection.specs.Partial.{pairs}
+use Rattle.spec_projection.specs.Partial.{ComesBefore}
 use Rattle.cq_fourier.specs.declared.Side.{Side}
 use Rattle.cq_fourier.specs.declared.Side.TheVariants.{Lower, Upper, Other}
 use Rattle.cq_fourier.specs.declared.next.Elimination.{Elimination}
@@ -30,10 +30,6 @@ IsBefore e f = (e.lower * e.upper < f.lower * f.upper)
 abbrev pub IsFirstOf : Option Elimination → Elimination → Elimination → Type 0
 IsFirstOf None other r = r ≡ other
 IsFirstOf (Some found) other r = ((r ≡ found) × IsBefore found other) ⊎ ((r ≡ other) × IsBefore other found)
-
--- x has fewer pairs of a lower and an upper row than y, or as many and is the older
-abbrev pub ComesBefore : List Constraint → ℕ → ℕ → Type 0
-ComesBefore l x y = (pairs x l < pairs y l) ⊎ ((pairs x l ≡ pairs y l) × (x ≤ y))
 
 -- one of the variables, which stands in the list, and comes before each other one that does
 pub record IsFirst (xs : List ℕ) (l : List Constraint) (e : Elimination) : Type 0 where

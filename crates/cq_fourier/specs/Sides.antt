@@ -5,8 +5,6 @@ use Rattle.spec_rational.specs.Sums.{Mentions}
 use Rattle.spec_linear.specs.Form.{difference_form, scaled_form}
 use Rattle.spec_linear.specs.Solution.{Constraint}
 use Rattle.spec_projection.specs.Elimination.{coefficient, stricter}
-use Rattle.cq_frac.specs.declared.VarId.{VarId}
-use Rattle.cq_row.specs.declared.Entry.{Entry}
 use Rattle.cq_fourier.specs.declared.Side.{Side}
 use Rattle.cq_fourier.specs.declared.Side.TheVariants.{Lower, Upper, Other}
 

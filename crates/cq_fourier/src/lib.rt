@@ -10,15 +10,14 @@ ghost use Rattle.spec_linear.specs.Form.{scaled_form};
 ghost use Rattle.spec_projection.specs.Elimination.{coefficient, lower_rows, upper_rows, other_rows, eliminated as eliminated_from};
 ghost use Rattle.spec_limits.specs.Overflow.{Moment, OverflowDue};
 ghost use Rattle.cq_frac.specs.declared.Pair.{Pair};
-ghost use Rattle.cq_form.specs.Entries.{entry_of};
 ghost use Rattle.cq_fourier.specs.Sides.{IsSide, over_number, over_coefficient, between, crossed};
 ghost use Rattle.cq_fourier.specs.Steps.{IsQuotientOf, DividesIn, CombinesWith, CombinesIn, AreRowsOf};
 
 use cq_form::{Constraint, Form};
 use cq_frac::{Frac, Refusal, VarId, quotient};
-use cq_row::{Entry, entry_at};
+use cq_row::entry_at;
 use spec_linear::Relation;
-use std::alloc::{AllocError, Global};
+use std::alloc::Global;
 
 /// How a row stands to a variable: it bounds the variable from below or from above, by this coefficient, or the
 /// variable does not stand in it.
@@ -51,17 +50,6 @@ pub(crate) fn side_of(row: &Constraint, variable: VarId) -> Side
     }
 }
 
-/// The entries as variables with their coefficients.
-fn pairs_of(alloc: Global, entries: &[Entry]) -> Result<Vec<(VarId, Frac)>, AllocError>
-    ensures { IfOk result (λ r. map entry_of r.items ≡ entries.now) }
-{
-    let mut pairs = Vec::new(alloc);
-    'entries: for entry in entries {
-        pairs.push((VarId(entry.quantity), entry.factor))?;
-    }
-    Ok(pairs)
-}
-
 /// Each number of the form by the divisor.
 pub fn divided(alloc: Global, form: &Form, divisor: Frac) -> Result<Form, Refusal>
     requires nonzero { divisor ≢ 0ℚ }
@@ -70,8 +58,7 @@ pub fn divided(alloc: Global, form: &Form, divisor: Frac) -> Result<Form, Refusa
 {
     let constant = quotient(form.constant(), divisor)?;
     let entries = cq_row::divided(alloc, form.entries(), divisor)?;
-    let pairs = pairs_of(alloc, &entries)?;
-    Ok(Form::new(alloc, constant, &pairs)?)
+    Ok(Form::of_entries(constant, entries))
 }
 
 /// The row with each number of its form by the divisor.

@@ -7,56 +7,15 @@ use Rattle.spec_linear.specs.Solution.{Constraint, Has}
 use Rattle.spec_linear.proofs.Denominators.{has_left}
 use Rattle.cq_frac.specs.declared.Operation.{Operation}
 use Rattle.cq_frac.specs.declared.Pair.{Pair}
-use Rattle.spec_limits.specs.Dictionary.{Quantity}
-use Rattle.spec_limits.specs.Overflow.{Operands, Stage, settling, Moment, IsInUse, beside_feasible, in_answer, IsRow, quantity_row, asked_row, Row, Exchange, Adding, Makes, coefficients, constants, operands, quotient, inverse, product, product_inverse, difference, scaled, added, divided, between, between_constants}
+use Rattle.spec_limits.specs.Overflow.{Operands, Stage, settling, Makes, coefficients, constants, operands}
+use Rattle.spec_limits.proofs.Later.{overflow_stays}
 use Rattle.spec_queries.specs.Tree.{Query}
 use Rattle.spec_queries.specs.Meaning.{told, operations}
 use Rattle.spec_equations.specs.Moments.{IsAsked, of_equation, of_variable, turned, IsStopDue}
-use Rattle.cq_store.specs.Told.{CallMakes, while_asked}
+use Rattle.cq_store.specs.Told.{CallMakes, while_asked, asking}
 use Rattle.cq_store.specs.Contents.{variable_forms}
 use Rattle.cq_equations.specs.Pairs as equation
 use Rattle.cq_project.specs.Rows.{ProjectionMakes}
-
--- ---- a moment at which more operations are in the terms, and which may be one of an answer
-
-module _ (stage : Stage) (list : List Constraint) (asked : List Linear) (more : List Operands) where
-  abbrev old : Moment
-  old = record { stage = settling; list = list; asked = asked; operations = []; rows = [] }
-
-  abbrev new : Moment
-  new = record { stage = stage; list = list; asked = asked; operations = more; rows = [] }
-
-  in_use : {zeros columns : List Quantity} → IsInUse old zeros columns → IsInUse new zeros columns
-  in_use (beside_feasible g) = beside_feasible (record { own = g.own; all_zeros = g.all_zeros; live = g.live; feasible = g.feasible; part = g.part; rest = g.rest })
-  in_use (in_answer e d) = cc
-
-  is_row : {columns : List Quantity} {f : Linear} → IsRow old columns f → IsRow new columns f
-  is_row (quantity_row q i n) = quantity_row q i n
-  is_row (asked_row h) = asked_row h
-
-  abbrev row : {zeros columns : List Quantity} → Row old zeros columns → Row new zeros columns
-  row r = record { form = r.form; is_row = is_row r.is_row; numbers = r.numbers; written = r.written }
-
-  abbrev exchange : Exchange old → Exchange new
-  exchange x = record { zeros = x.zeros; columns = x.columns; in_use = in_use x.in_use; row = row x.row; column = x.column; is_column = x.is_column; not_zero = x.not_zero }
-
-  abbrev adding : Adding old → Adding new
-  adding a = record { zeros = a.zeros; columns = a.columns; in_use = in_use a.in_use; form = a.form; is_asked = a.is_asked; ordered = a.ordered; earlier = a.earlier; now = a.now; later = a.later; split = a.split; numbers = a.numbers; written = a.written; before = a.before; gave = a.gave }
-
-  makes : {o : Operation} {a b : ℚ} → Makes old o a b → Makes new o a b
-  makes (coefficients o h s x) = absurd h
-  makes (constants o h s) = absurd h
-  makes (operands o h s l r) = absurd h
-  makes (quotient x at p) = quotient (exchange x) at p
-  makes (inverse x) = inverse (exchange x)
-  makes (product x other at p) = product (exchange x) (row other) at p
-  makes (product_inverse x other) = product_inverse (exchange x) (row other)
-  makes (difference x other at p) = difference (exchange x) (row other) at p
-  makes (scaled a at p) = scaled (adding a) at p
-  makes (added a at p) = added (adding a) at p
-  makes (divided f h n x z) = absurd h
-  makes (between f g h k x y p n) = absurd h
-  makes (between_constants f g h k x p n) = absurd h
 
 -- ---- the dues
 
@@ -97,7 +56,7 @@ module _ (q : Query) where
         terms = refl;
         rows = refl;
       };
-      due = record { made = makes stage before (c.form ∷ variable_forms order) terms due.made; refused = due.refused };
+      due = overflow_stays (asking before order c) stage terms [] (record { answers = λ e. cc; each_operation = λ o h. absurd h; each_row = λ f h. absurd h }) p due;
     }
 
     -- told one by one, for a store or for the rows of an answer

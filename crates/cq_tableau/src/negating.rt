@@ -1,42 +1,20 @@
 //! The negative of a form, and the opposite of a constraint.
 
 ghost use Rattle.std.specs.Prelude.{◌≡◌, IfOk};
-ghost use Rattle.spec_rational.specs.Rational.{ℚ};
-ghost use Rattle.spec_linear.specs.Form.{IsForm, negated_form};
+ghost use Rattle.spec_linear.specs.Form.{negated_form};
 ghost use Rattle.spec_inequalities.specs.Opposite as of_constraint;
-ghost use Rattle.cq_form.specs.Entries.{form_of};
 
 use cq_form::{Constraint, Form};
-use cq_frac::{Frac, VarId};
-use cq_row::{Entry, opposed};
+use cq_row::opposed;
 use spec_linear::Relation;
 use std::alloc::{AllocError, Global};
-
-/// The form of a constant and entries of variables.
-fn form_of_entries(alloc: Global, constant: Frac, entries: &[Entry]) -> Result<Form, AllocError>
-    requires in_order { IsForm (form_of constant entries.now) }
-    ensures { IfOk result (λ f. f ≡ form_of constant entries.now) }
-{
-    let mut pairs = Vec::new(alloc);
-    for entry in entries {
-        pairs.push((VarId(entry.quantity), entry.factor))?;
-    }
-    Form::new(alloc, constant, &pairs)
-}
-
-/// The form once more.
-fn copied(alloc: Global, form: &Form) -> Result<Form, AllocError>
-    ensures { IfOk result (λ f. f ≡ form.now) }
-{
-    form_of_entries(alloc, form.constant(), form.entries())
-}
 
 /// The form with the other sign. It is as wide as the form, so that no number of it is refused.
 pub fn negated(alloc: Global, form: &Form) -> Result<Form, AllocError>
     ensures { IfOk result (λ f. f ≡ negated_form form.now) }
 {
     let opposite = opposed(alloc, form.entries())?;
-    form_of_entries(alloc, form.constant().neg(), &opposite)
+    Ok(Form::of_entries(form.constant().neg(), opposite))
 }
 
 /// The constraint that holds just where the given one does not.
@@ -46,7 +24,7 @@ pub fn opposite(alloc: Global, c: &Constraint) -> Result<Constraint, AllocError>
     match c.relation {
         Relation::Eq => Ok(Constraint {
             relation: Relation::Ne,
-            form: copied(alloc, &c.form)?,
+            form: c.form.clone()?,
         }),
         Relation::Gt => Ok(Constraint {
             relation: Relation::Ge,
@@ -58,7 +36,7 @@ pub fn opposite(alloc: Global, c: &Constraint) -> Result<Constraint, AllocError>
         }),
         Relation::Ne => Ok(Constraint {
             relation: Relation::Eq,
-            form: copied(alloc, &c.form)?,
+            form: c.form.clone()?,
         }),
     }
 }

@@ -1,3 +1,4 @@
 pub mod Written
 pub mod InUse
 pub mod PastGreatest
+pub mod Later

@@ -1,9 +1,9 @@
 -- The moments while the rows of an answer over some targets are made of a list of constraints, and when they are
 -- too many. No law takes these relations apart: only code introduces them, so that they can grow by constructors.
-use Rattle.std.specs.Prelude.{◌≡◌, ℕ, List, [], ◌++◌, map}
+use Rattle.std.specs.Prelude.{◌≡◌, ℕ, List, [], ◌++◌, map, IsPermutation}
 use Rattle.std.specs.List.{AllByRecursion}
 use Rattle.spec_linear.specs.Form.{Linear}
-use Rattle.spec_linear.specs.Solution.{Constraint, Has}
+use Rattle.spec_linear.specs.Solution.{Constraint, Has, MentionsOnly}
 use Rattle.spec_echelon.specs.Echelon.{Solved, IsEchelon}
 use Rattle.spec_projection.specs.Others.{AreOthers}
 use Rattle.spec_projection.specs.Substitution.{put_into}
@@ -38,19 +38,31 @@ pub record Leaves (targets : List ℕ) (l : List Constraint) (kept : List ℕ) (
 
 -- ---- moments
 
--- the list from which an answer goes out: a beginning of the branch's list, or some of the inequalities with some
--- disequations beside them, before and while variables are eliminated
+-- the list from which an answer goes out: a beginning of the branch's list, or, in some order, some of the inequalities
+-- with some disequations beside them, before and while variables are eliminated, and once no other variable is left and
+-- weak ones with the form of a disequation are made strict again
 pub data IsAnswerList (targets : List ℕ) (l : List Constraint) : List Constraint → Type 0 where
   beginning : (earlier later : List Constraint) → l ≡ earlier ++ later → IsAnswerList targets l earlier
-  substituted : {es : List Solved} {strict some beside : List Constraint} → Solves targets l es
+  substituted : {es : List Solved} {strict some beside list : List Constraint} → Solves targets l es
       → Strengthens l es strict
       → IsSublist some strict → IsSublist beside (map (put_into es) (disequations_of l))
-      → IsAnswerList targets l (some ++ beside)
-  projected : {kept : List ℕ} {es : List Solved} {strict rows some beside : List Constraint}
+      → IsPermutation (some ++ beside) list → IsAnswerList targets l list
+  projected : {kept : List ℕ} {es : List Solved} {strict rows some beside list : List Constraint}
       → Leaves targets l kept es strict
       → IsPartialProjection (targets ++ kept) strict rows → IsSublist some rows
       → IsSublist beside (map (put_into es) (disequations_of l))
-      → IsAnswerList targets l (some ++ beside)
+      → IsPermutation (some ++ beside) list → IsAnswerList targets l list
+  strict_again : {kept : List ℕ} {es : List Solved} {strict rows again some beside list : List Constraint}
+      → (leaves : Leaves targets l kept es strict)
+      → IsPartial (targets ++ kept) strict rows → MentionsOnly (targets ++ kept) rows
+      → Strengthened leaves.keeps.left rows again → IsSublist some again → IsSublist beside leaves.keeps.left
+      → IsPermutation (some ++ beside) list → IsAnswerList targets l list
+
+-- a constraint of such a list
+pub record IsAnswerMember (targets : List ℕ) (l : List Constraint) (c : Constraint) : Type 0 where
+  pub list : List Constraint
+  pub is_list : IsAnswerList targets l list
+  pub member : Has c list
 
 -- the form of a row of the answer: after the equations are put in, or of a partial projection without redundant rows
 pub data IsAnswerRow (targets : List ℕ) (l : List Constraint) : Linear → Type 0 where
@@ -61,21 +73,19 @@ pub data IsAnswerRow (targets : List ℕ) (l : List Constraint) : Linear → Typ
       → Leaves targets l kept es strict
       → IsPartial (targets ++ kept) strict rows → Has c rows → IsAnswerRow targets l c.form
 
--- the branch's constraints join
-abbrev pub JoinsAnswer : List Constraint → Constraint → Type 0
-JoinsAnswer l c = Has c l
-
--- it is asked of each row whether it follows
-abbrev pub AsksRow : List ℕ → List Constraint → Constraint → Type 0
-AsksRow targets l c = IsAnswerRow targets l c.form
+-- it is asked how the form of such a constraint stands to zero
+pub record AsksMember (targets : List ℕ) (l : List Constraint) (c : Constraint) : Type 0 where
+  pub of : Constraint
+  pub member : IsAnswerMember targets l of
+  pub form : c.form ≡ of.form
 
 -- a moment while the rows are made
 pub record IsAnswerMoment (targets : List ℕ) (l : List Constraint) (m : Moment) : Type 0 where
   pub stage : m.stage ≡ answering
   pub list : List Constraint
   pub is_list : IsAnswerList targets l list
-  pub in_force : IsInForce list (JoinsAnswer l) (AsksRow targets l) m.list
-  pub asked : AllByRecursion (IsAsked m.list (JoinsAnswer l) (AsksRow targets l)) m.asked
+  pub in_force : IsInForce list (IsAnswerMember targets l) (AsksMember targets l) m.list
+  pub asked : AllByRecursion (IsAsked m.list (IsAnswerMember targets l) (AsksMember targets l)) m.asked
   pub rows : AllByRecursion (IsAnswerRow targets l) m.rows
   -- no term is told or asked
   pub operations : m.operations ≡ []

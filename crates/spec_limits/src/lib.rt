@@ -7,7 +7,10 @@ ghost use Rattle.spec_rational.specs.Sums.{Mentions};
 ghost use Rattle.spec_linear.specs.Form.{Linear};
 ghost use Rattle.spec_linear.specs.Solution.{Constraint, Has};
 ghost use Rattle.spec_limits.specs.Dictionary.{Quantity, variable, IsQuantity, Expression, IsWritten, AreOne, IsDictionary, IsFeasible};
-ghost use Rattle.spec_limits.specs.Overflow.{Moment, IsInUse};
+ghost use Rattle.cq_frac.specs.declared.Pair.{Pair};
+ghost use Rattle.spec_limits.specs.Overflow.{Stage, Operands, Moment, IsInUse, OverflowDue};
+ghost use Rattle.spec_limits.specs.Chains.{IsBlandChain};
+ghost use Rattle.spec_limits.specs.Later.{in_place_of, HasAll};
 
 /// Over a dictionary each form of the quantities, and so each form that is asked, is written in one way,
 /// and in no other.
@@ -28,4 +31,13 @@ pub fn forms_are_written_in_one_way()
 pub fn feasible_dictionaries_are_in_use()
     ensures { (m : Moment) (zeros columns : List Quantity) → IsFeasible m.list m.asked zeros columns
         → IsInUse m zeros columns }
+{}
+
+/// What is due at a moment is due also where more is told and more rows of an answer stand, and while an answer is made
+/// in place of a settling.
+pub fn stops_stay_due()
+    ensures overflow { (m : Moment) (stage : Stage) (operations : List Operands) (rows : List Linear) (pair : Pair)
+        → HasAll m stage operations rows → OverflowDue m pair → OverflowDue (in_place_of m stage operations rows) pair }
+    ensures pivots { (m : Moment) (stage : Stage) (operations : List Operands) (rows : List Linear) (n : ℕ)
+        → IsBlandChain m n → IsBlandChain (in_place_of m stage operations rows) n }
 {}

@@ -21,17 +21,15 @@ returns-in_err-entries-clause-overflow c = λ pair e.
     entry_told c.args.form.now c.entries.result.now c.args.divisor pair c.entries.ensures.in_order c.entries.ensures.value
     (c.in_err-entries.ensures.overflow pair (ap Err (refusal_told _ _ pair c.from_residual-in_err-entries.ensures.1 e)))
 
-pub new-requires : goal.new-requires
-new-requires c = record {
+pub of_entries-requires : goal.of_entries-requires
+of_entries-requires c = record {
   in_order =
-      divided_in_order c.args.divisor c.args.form.now c.entries.result.now c.deref.result.now c.deref-2.result.now c.in_ok-constant.constant c.requires.nonzero
-      c.entries.ensures.in_order c.entries.ensures.value (c.deref.ensures.value ∙ c.in_ok-entries.ensures.value)
-      (ap (map entry_of) c.deref-2.ensures.value ∙ c.in_ok-pairs.ensures) (c.in_ok-constant.ensures.0 ∙ ap (λ q. q /ℚ c.args.divisor) c.constant.ensures);
+      divided_in_order c.args.divisor c.args.form.now c.entries.result.now c.in_ok-entries.entries.items c.in_ok-constant.constant c.requires.nonzero
+      c.entries.ensures.in_order c.entries.ensures.value c.in_ok-entries.ensures.value (c.in_ok-constant.ensures.0 ∙ ap (λ q. q /ℚ c.args.divisor) c.constant.ensures);
 }
 
 pub returns-clause-value : goal.returns-clause-value
 returns-clause-value c =
-    c.in_ok-new.ensures
-    ∙ divided_is c.args.divisor c.args.form.now c.entries.result.now c.deref.result.now c.deref-2.result.now c.in_ok-constant.constant c.requires.nonzero
-    c.entries.ensures.in_order c.entries.ensures.value (c.deref.ensures.value ∙ c.in_ok-entries.ensures.value)
-    (ap (map entry_of) c.deref-2.ensures.value ∙ c.in_ok-pairs.ensures) (c.in_ok-constant.ensures.0 ∙ ap (λ q. q /ℚ c.args.divisor) c.constant.ensures)
+    c.of_entries.ensures
+    ∙ divided_is c.args.divisor c.args.form.now c.entries.result.now c.in_ok-entries.entries.items c.in_ok-constant.constant c.requires.nonzero
+    c.entries.ensures.in_order c.entries.ensures.value c.in_ok-entries.ensures.value (c.in_ok-constant.ensures.0 ∙ ap (λ q. q /ℚ c.args.divisor) c.constant.ensures)

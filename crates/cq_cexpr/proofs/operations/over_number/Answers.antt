@@ -20,15 +20,15 @@ returns-in_err-entries-clause-overflow c = λ pair e.
     entry_comes c.args.form.now c.args.divisor c.entries.result.now c.entries.ensures.value c.entries.ensures.in_order pair
     (c.in_err-entries.ensures.overflow pair (ap Err (refusal_told _ _ pair c.from_residual-in_err-entries.ensures.1 e)))
 
-pub form_with-requires : goal.form_with-requires
-form_with-requires c = record {
-  in_order = subst (λ s. IsForm (form_of c.in_ok-constant.constant s)) (sym (c.deref.ensures.value ∙ c.in_ok-entries.ensures.value))
+pub of_entries-requires : goal.of_entries-requires
+of_entries-requires c = record {
+  in_order = subst (λ s. IsForm (form_of c.in_ok-constant.constant s)) (sym c.in_ok-entries.ensures.value)
       (over_in_order c.args.form.now c.entries.result.now c.entries.ensures.value c.args.divisor c.requires c.entries.ensures.in_order
       c.in_ok-constant.constant (c.in_ok-constant.ensures.0 ∙ ap (λ q. q /ℚ c.args.divisor) c.constant.ensures));
 }
 
 pub returns-clause-value : goal.returns-clause-value
 returns-clause-value c =
-    c.in_ok-form_with.ensures ∙ ap (form_of c.in_ok-constant.constant) (c.deref.ensures.value ∙ c.in_ok-entries.ensures.value)
+    c.of_entries.ensures ∙ ap (form_of c.in_ok-constant.constant) c.in_ok-entries.ensures.value
     ∙ over_is c.args.form.now c.entries.result.now c.entries.ensures.value c.args.divisor c.requires c.entries.ensures.in_order
     c.in_ok-constant.constant (c.in_ok-constant.ensures.0 ∙ ap (λ q. q /ℚ c.args.divisor) c.constant.ensures)

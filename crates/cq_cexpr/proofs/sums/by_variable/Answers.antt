@@ -8,7 +8,6 @@ use Rattle.cq_form.specs.Entries.{products_of}
 use Rattle.cq_cexpr.specs.Sums.{all_joined}
 use Rattle.cq_cexpr.proofs.Turns.{constant_due, coefficient_due, held_next, left_in_order, left_is}
 use Rattle.cq_cexpr.proofs.sums.by_variable.Goals as goal
-use Rattle.cq_cexpr.proofs.sums.by_variable.Goals.{After-deref-3}
 
 pub loop-next-init : goal.loop-next-init
 loop-next-init c = record {
@@ -41,19 +40,16 @@ loop-next-preserved c =
     c.in_ok-constant.constant c.join_all.new.slots.items c.entries.result.now c.entries.ensures.in_order c.entries.ensures.value
     (c.in_ok-constant.ensures.0 ∙ ap (joined n.0 c.loop-next.constant) c.constant.ensures) c.in_ok-join_all.ensures.rising c.in_ok-join_all.ensures.value
 
-kept : (c : After-deref-3) → products_of c.deref-3.result.now ≡ without_zeros (products_of c.loop-next.slots.items)
-kept c = ap products_of c.deref-3.ensures.value ∙ c.in_ok-entries.ensures ∙ ap (λ s. without_zeros (products_of s)) c.deref-2.ensures.value
-
-pub form_with-requires : goal.form_with-requires
-form_with-requires c = record {
-  in_order = left_in_order (all_joined c.args.first.now (take c.loop-next.next-index c.args.more.now)) c.loop-next.constant c.loop-next.slots.items c.deref-3.result.now c.loop-next.invariant
-      (kept (goal.at.form_with-requires c).After-deref-3);
+pub of_entries-requires : goal.of_entries-requires
+of_entries-requires c = record {
+  in_order = left_in_order (all_joined c.args.first.now (take c.loop-next.next-index c.args.more.now)) c.loop-next.constant c.loop-next.slots.items c.in_ok-entries.entries.items
+      c.loop-next.invariant (c.in_ok-entries.ensures ∙ ap (λ s. without_zeros (products_of s)) c.deref-2.ensures.value);
 }
 
 pub returns-clause-value : goal.returns-clause-value
 returns-clause-value c =
     let all : length c.args.more.now ≤ c.loop-next.next-index = omega arith in
-    c.in_ok-form_with.ensures
-    ∙ left_is (all_joined c.args.first.now (take c.loop-next.next-index c.args.more.now)) c.loop-next.constant c.loop-next.slots.items c.deref-3.result.now c.loop-next.invariant
-    (kept (goal.at.returns-clause-value c).After-deref-3)
+    c.of_entries.ensures
+    ∙ left_is (all_joined c.args.first.now (take c.loop-next.next-index c.args.more.now)) c.loop-next.constant c.loop-next.slots.items c.in_ok-entries.entries.items
+    c.loop-next.invariant (c.in_ok-entries.ensures ∙ ap (λ s. without_zeros (products_of s)) c.deref-2.ensures.value)
     ∙ ap (all_joined c.args.first.now) (take_all c.loop-next.next-index c.args.more.now all)
