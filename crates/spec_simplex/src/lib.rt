@@ -29,9 +29,11 @@ pub fn chains_end()
 /// An exchange of the rule keeps the dictionary feasible, and the asked form's value does not fall.
 pub fn exchanges_keep_feasibility()
     ensures feasible { (size : ℕ) (restricted : ℕ → Bool) (d e : Dictionary) (c r : ℕ)
-        → IsDictionary size d → IsDictionary size e → AreEquivalent size d e → IsFeasible restricted d → IsDue restricted d c r → Exchanged d c r e → IsFeasible restricted e }
+        → IsDictionary size d → IsDictionary size e → AreEquivalent size d e
+        → IsFeasible restricted d → IsDue restricted d c r → Exchanged d c r e → IsFeasible restricted e }
     ensures value { (size : ℕ) (restricted : ℕ → Bool) (d e : Dictionary) (c r : ℕ)
-        → IsDictionary size d → IsDictionary size e → AreEquivalent size d e → IsFeasible restricted d → IsDue restricted d c r → Exchanged d c r e → d.value ≤ℚ e.value }
+        → IsDictionary size d → IsDictionary size e → AreEquivalent size d e
+        → IsFeasible restricted d → IsDue restricted d c r → Exchanged d c r e → d.value ≤ℚ e.value }
 {}
 
 /// What the last dictionary of a chain says of the asked form.
