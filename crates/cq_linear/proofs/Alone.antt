@@ -10,10 +10,9 @@ use Rattle.spec_rational.specs.Sums.{Monomial, factor_of}
 use Rattle.spec_rational.proofs.Ring.{var, int, ◌⊕◌, ◌⊗◌, minus}
 use Rattle.spec_rational.proofs.Rational.{ring}
 use Rattle.spec_rational.proofs.Sign.{times_inverse, zero_or_not, not_pos_zero}
-use Rattle.spec_linear.specs.declared.Relation.{Relation}
 use Rattle.spec_linear.specs.declared.Relation.TheVariants.{Eq, Gt, Ne}
 use Rattle.spec_linear.specs.Form.{changed_at, value_at, IsForm, IsSumFrom}
-use Rattle.spec_linear.specs.Solution.{Constraint, Has, HoldsAt, Meets, Satisfies, SomeMentions, Solvable, Fixed}
+use Rattle.spec_linear.specs.Solution.{Constraint, HoldsAt, Meets, Satisfies, SomeMentions, Solvable, Fixed}
 use Rattle.spec_linear.proofs.Denominators.{satisfies_agrees, solvable_same}
 use Rattle.spec_linear.proofs.Lists.{fixed_same}
 use Rattle.spec_linear.proofs.Ordered.{factor_of-first, factor_of-rest}
@@ -35,10 +34,9 @@ use Rattle.cq_dict.proofs.Roles.{at_exists, equal_or_not}
 use Rattle.cq_store.specs.Told.{numbers_of}
 use Rattle.cq_tableau.specs.declared.names.Name.{Name}
 use Rattle.cq_tableau.specs.declared.names.Name.TheVariants.{Variable, Member}
-use Rattle.cq_tableau.specs.Looked.{IsApart}
 use Rattle.cq_tableau.specs.Newly.{AreNewlyFixed}
 use Rattle.cq_tableau.specs.Fixing.{AreOnce}
-use Rattle.cq_tableau.specs.Stored.{IsMemberOf, IsStored, IsPlaced, JoinsStored}
+use Rattle.cq_tableau.specs.Stored.{IsStored, IsPlaced, JoinsStored}
 use Rattle.cq_tableau.specs.Values.{IsOpen, IsNumber, open_row, open_column, number_row, dropped_column}
 use Rattle.cq_linear.specs.Alone.{IsNewIn, IsAloneFixed, IsPlaceBehind}
 use Rattle.cq_linear.specs.Equated.{Crosses}

@@ -1,4 +1,4 @@
-use Rattle.std.proofs.Common.{◌≡◌, ◌+◌, ℕ, List, [], ◌∷◌, ◌++◌, Bool, Err, length, ap, refl, subst, sym, ◌∙◌}
+use Rattle.std.proofs.Common.{◌≡◌, ◌+◌, List, [], ◌∷◌, ◌++◌, Bool, Err, length, ap, refl, subst, sym, ◌∙◌}
 use Rattle.std.specs.Prelude.{MatchBool}
 use Rattle.spec_rational.specs.Rational.{0ℚ}
 use Rattle.spec_linear.specs.declared.Relation.TheVariants.{Ge}
@@ -16,7 +16,7 @@ use Rattle.cq_tableau.specs.Refuted.{IsRowCertificate, IsTooSmall}
 use Rattle.cq_tableau.specs.Restored.{IsRestoredCertificate}
 use Rattle.cq_tableau.proofs.Storing.{asked_row, numbered_member}
 use Rattle.cq_linear.specs.Faced.{IsOnFace}
-use Rattle.cq_linear.specs.StoreValue.{MayRefuse, MayTake, Only}
+use Rattle.cq_linear.specs.StoreValue.{MayRefuse, Only}
 use Rattle.cq_linear.proofs.Asked.{asked_of, risen_joins}
 use Rattle.cq_linear.proofs.Extents.{asked_feasible}
 use Rattle.cq_linear.proofs.Moments.{asking_refused, raise_refused, raise_spent}
