@@ -40,7 +40,7 @@ module _ {W : Type 0} (IsState : W → State → Type 0) (term : W → ℕ → O
     go false e = (goal, below choices height, more, ap (λ (c : Bool). item c ∷ more) e, r.0 ∙ ap (λ (x : Tree). Some x) (sym r.1), a)
 
   -- a continuation of these cells
-  built : (choices : Stack W) (w : W) (lists : List (List Cell)) (k : ℕ) (cs : List Cell) (items : List Item) (st : State) → k < length lists → items_at lists k ≡ cs
+  pub built : (choices : Stack W) (w : W) (lists : List (List Cell)) (k : ℕ) (cs : List Cell) (items : List Item) (st : State) → k < length lists → items_at lists k ≡ cs
       → Fits (length choices) cs → IsState w st → AreItems IsState term choices w st cs items → IsContinuation IsState term choices (w, lists) k items st
   built choices w lists k cs items st there e f i a = record {
     there = there;
@@ -72,7 +72,7 @@ module _ {W : Type 0} (IsState : W → State → Type 0) (term : W → ℕ → O
 
   module _ (rests : Rest IsState) where
     -- one child, which goes on with a continuation
-    goes_on_with : (choices : Stack W) (now : Value W) (k : ℕ) (p : Place) (behind : List Branch) (items : List Item)
+    pub goes_on_with : (choices : Stack W) (now : Value W) (k : ℕ) (p : Place) (behind : List Branch) (items : List Item)
         → IsContinuation IsState term choices now k items p.state → AreWaiting IsState term choices behind
         → Becomes IsState term choices now (Some k) p behind (goes_on p items)
     goes_on_with choices now k p behind items c wait = record {
