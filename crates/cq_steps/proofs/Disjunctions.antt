@@ -45,7 +45,7 @@ abbrev right_argument : Tree → Tree
 right_argument (Compound f (more a (one b))) = b
 right_argument t = t
 
-term_there : (texts : List Text) (ts : List HeapTerm) (id : ℕ) → id < length ts → option_map (named (text_of texts)) (slice_get ts id) ≡ Some (tree texts ts id)
+pub term_there : (texts : List Text) (ts : List HeapTerm) (id : ℕ) → id < length ts → option_map (named (text_of texts)) (slice_get ts id) ≡ Some (tree texts ts id)
 term_there texts [] id l = absurd (omega (arith, l))
 term_there texts (t ∷ ts) zero l = refl
 term_there texts (t ∷ ts) (suc id) l = term_there texts ts id (omega (arith, l))

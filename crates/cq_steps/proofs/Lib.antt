@@ -11,3 +11,4 @@ pub mod Beginning
 pub mod Older
 pub mod Passing
 pub mod Disjunctions
+pub mod Arguments

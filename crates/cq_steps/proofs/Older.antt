@@ -1,5 +1,6 @@
 -- The choices that are left as the newest are taken away.
-use Rattle.std.proofs.Common.{◌≡◌, ℕ, ◌-◌, ◌≤◌, List, [], ◌∷◌, ◌++◌, length, take, refl, sym, ap, ◌∙◌, arith, append_assoc, length-append}
+use Rattle.std.proofs.Common.{◌≡◌, ℕ, ◌-◌, ◌≤◌, List, [], ◌∷◌, ◌++◌, length, take, Option, None, Some, refl, sym, ap, ◌∙◌, subst, arith, append_assoc, length-append}
+use Rattle.std.specs.Prelude.{IfSome, IfNone}
 use Rattle.std.proofs.lemmas.List.{take-append-drop}
 use Rattle.cq_control.specs.Open.{last}
 use Rattle.cq_steps.specs.Choices.{KeepsOlder}
@@ -21,3 +22,11 @@ older_next x xs ys e = record { gone = x ∷ []; are = e }
 
 pub older_fewer : (xs ys : List Alternatives) → KeepsOlder xs ys → length ys ≤ length xs
 older_fewer xs ys k = omega (arith, ap length k.are, length-append k.gone ys)
+
+-- ---- the newest is taken off
+
+-- a stack that has this newest choice gives it, and what is said of what it gave is so of that choice
+pub newest_gone : (r : Option Alternatives) (old new older : List Alternatives) (x : Alternatives) (P : Alternatives → Type 0) → IfNone r ((old ≡ []) × (new ≡ []))
+    → IfSome r (λ y. old ≡ y ∷ new) → IfSome r P → old ≡ x ∷ older → (old ≡ x ∷ new) × P x
+newest_gone None old new older x P none some p e = (let h : [] ≡ x ∷ older = sym none.0 ∙ e in cc)
+newest_gone (Some y) old new older x P none some p e = let h : y ≡ x = cc in (some ∙ ap (λ z. z ∷ new) h, subst P h p)

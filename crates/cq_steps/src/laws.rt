@@ -1,13 +1,14 @@
 // What an engine may do where a goal is in front, by the goal's row.
 
-ghost use Rattle.std.specs.Prelude.{◌≡◌, ◌<◌, ◌∷◌, ℕ, suc, List, Option, None, Some, length, false, true};
+ghost use Rattle.std.specs.Prelude.{◌≡◌, ◌<◌, ◌∷◌, ℕ, suc, List, Option, None, Some, length, slice_get, false, true};
 ghost use Rattle.spec_lists.specs.Prefixes.{IsPrefix};
 ghost use Rattle.spec_lists.specs.Texts.{Text};
 ghost use Rattle.spec_syntax.specs.Trees.{Tree};
+ghost use Rattle.spec_builtins.specs.Terms as terms;
 ghost use Rattle.spec_branch.specs.Branch.{State, Item, Branch, read};
 ghost use Rattle.spec_search.specs.Database.{Database};
 ghost use Rattle.spec_search.specs.Replies.{Place, succeeds_if};
-ghost use Rattle.spec_search.specs.Rows.{reply_of};
+ghost use Rattle.spec_search.specs.Rows.{nth, reply_of};
 ghost use Rattle.spec_search.specs.Search.{Search, empty_state, look_at, Selecting};
 ghost use Rattle.spec_search.specs.Turns.{place_of};
 ghost use Rattle.spec_machine.specs.declared.cell.Cell.{Cell};
@@ -17,6 +18,8 @@ ghost use Rattle.spec_machine.specs.Coming.{Comes};
 ghost use Rattle.spec_machine.specs.Standing.{engine, IsStanding};
 ghost use Rattle.cq_control.specs.Items.{items_at};
 ghost use Rattle.cq_term.specs.HeapValue.{Terms};
+ghost use Rattle.cq_term.specs.Meaning.{at};
+ghost use Rattle.cq_term.specs.Shown.{arguments};
 ghost use Rattle.cq_term.specs.Trees.{KnowsTerms};
 ghost use Rattle.cq_world.specs.Contents.{Contents};
 ghost use Rattle.cq_steps.specs.Selecting.{Selects, SelectsCall};
@@ -41,6 +44,12 @@ pub fn selected_goals_lead()
         → Comes (IsBranch texts) (term_in texts) steps (engine s.database (suc s.selected) choices now current) s }
     ensures reads { (texts : List Text) (c : Contents) (st : State) (id : ℕ) (t : Tree) → IsBranch texts c st
         → term_in texts c id ≡ Some (read st t) → ReadsAs texts c st id (read st t) }
+{}
+
+/// The arguments of a term that reads as itself read as themselves.
+pub fn arguments_read_as_themselves()
+    ensures { (texts : List Text) (c : Contents) (st : State) (id i k : ℕ) (t : Tree) → ReadsAs texts c st id t → k < length c.heap.terms
+        → slice_get (arguments (at c.heap.terms id)) i ≡ Some (at c.heap.terms k) → ReadsAs texts c st k (nth (terms.arguments t) i) }
 {}
 
 /// A goal that has nothing more to do goes on behind it, and one that fails comes back.

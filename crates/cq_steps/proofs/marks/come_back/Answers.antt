@@ -1,0 +1,19 @@
+use Rattle.std.proofs.Common.{◌≡◌, ◌∷◌, ◌∙◌, Some, None, ap}
+use Rattle.cq_control.specs.Open.{open_choices}
+use Rattle.cq_steps.specs.declared.alternatives.Alternatives.{Alternatives}
+use Rattle.cq_steps.specs.declared.alternatives.Alternatives.TheVariants.{One, Barrier}
+use Rattle.cq_steps.specs.Worlds.{value, saved_values}
+use Rattle.cq_steps.proofs.Older.{newest_gone, older_all, older_next}
+use Rattle.cq_steps.proofs.Passing.{here, one_on, barrier_on}
+use Rattle.cq_steps.proofs.marks.come_back.Goals as goal
+
+pub returns-in-One-clause-arrives : goal.returns-in-One-clause-arrives
+returns-in-One-clause-arrives c = λ steps texts v db n s j.
+    let saved = saved_values c.args.world.now.first c.args.world.now.second.saved in
+    let now = value c.args.world.now.first c.args.world.now.second.now in
+    let fewer = saved_values c.back.new.world.first c.back.new.world.second.saved in
+    let back = value c.back.new.world.first c.back.new.world.second.now in
+    let gone = newest_gone c.back.result c.args.choices.now c.back.new.self c.in-Some.ensures.some.0 (One c.in-One.k)
+        (λ (x : Alternatives). open_choices saved c.args.choices.now ≡ (back, x) ∷ open_choices fewer c.back.new.self) c.back.ensures.none c.back.ensures.contents c.back.ensures.open
+        (c.in-Some.ensures.some.1 ∙ ap (λ x. x ∷ c.in-Some.ensures.some.0) c.in-One.is) in
+    one_on steps texts v db n s saved fewer c.args.choices.now c.back.new.self now back c.in-One.k gone.1 (here steps texts v db n s saved c.args.choices.now now None j)
