@@ -25,8 +25,8 @@ older_fewer xs ys k = omega (arith, ap length k.are, length-append k.gone ys)
 
 -- ---- the newest is taken off
 
--- a stack that has this newest choice gives it, and what is said of what it gave is so of that choice
+-- what is said of the choice that a stack gave is so of the newest that it had
 pub newest_gone : (r : Option Alternatives) (old new older : List Alternatives) (x : Alternatives) (P : Alternatives → Type 0) → IfNone r ((old ≡ []) × (new ≡ []))
-    → IfSome r (λ y. old ≡ y ∷ new) → IfSome r P → old ≡ x ∷ older → (old ≡ x ∷ new) × P x
+    → IfSome r (λ y. old ≡ y ∷ new) → IfSome r P → old ≡ x ∷ older → P x
 newest_gone None old new older x P none some p e = (let h : [] ≡ x ∷ older = sym none.0 ∙ e in cc)
-newest_gone (Some y) old new older x P none some p e = let h : y ≡ x = cc in (some ∙ ap (λ z. z ∷ new) h, subst P h p)
+newest_gone (Some y) old new older x P none some p e = (let h : y ≡ x = cc in subst P h p)

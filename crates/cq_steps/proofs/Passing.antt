@@ -7,7 +7,6 @@ use Rattle.cq_control.specs.Items.{items_at}
 use Rattle.cq_control.specs.Open.{AreMarked, last, open_choices}
 use Rattle.cq_program.specs.Database.{Program}
 use Rattle.cq_world.specs.Contents.{Contents}
-use Rattle.spec_machine.specs.declared.cell.Cell.{Cell}
 use Rattle.spec_machine.specs.declared.cell.Cell.TheVariants.{CutTo, CutFail, CatchEnd}
 use Rattle.spec_machine.specs.Cells.{Barrier, Value, Stack}
 use Rattle.spec_machine.specs.Standing.{engine, IsStanding}
@@ -16,7 +15,6 @@ use Rattle.spec_machine.proofs.Passed.{cut_passed, fail_passed, end_passed, one_
 use Rattle.spec_machine.proofs.Kept.{length-last}
 use Rattle.cq_steps.specs.declared.alternatives.Alternatives.{Alternatives}
 use Rattle.cq_steps.specs.declared.alternatives.Alternatives.TheVariants as alternatives
-use Rattle.cq_steps.specs.Marks.{IsFront}
 use Rattle.cq_steps.specs.Worlds.{IsBranch, term_in, Stands, IsWorking, Arrives, stack, left_at}
 use Rattle.cq_steps.proofs.Arrived.{comes_on, comes_at_once}
 use Rattle.cq_steps.proofs.Branches.{branches_rest}
@@ -100,7 +98,3 @@ arrives_on mid new fewer left between now at after steps texts v db n s a f = co
 pub arrives_same : (steps : ℕ) (texts : List Text) (v : Program) (db : Database) (n : ℕ) (s : Search) (saved : List (Value Contents)) (choices : List Alternatives) (now later : Value Contents)
     (current : Option ℕ) → later ≡ now → Arrives steps texts v db n saved choices now current s → Arrives steps texts v db n saved choices later current s
 arrives_same steps texts v db n s saved choices now later current e a = subst (λ w. Arrives steps texts v db n saved choices w current s) (sym e) a
-
--- the cells in front
-pub front_is : (cells cs : List Cell) → cells ≡ cs → IsFront cs → IsFront cells
-front_is cells cs e f = subst (λ l. IsFront l) (sym e) f

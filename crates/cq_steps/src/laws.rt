@@ -4,7 +4,7 @@ ghost use Rattle.std.specs.Prelude.{◌≡◌, ◌<◌, ◌∷◌, ℕ, suc, Lis
 ghost use Rattle.spec_lists.specs.Prefixes.{IsPrefix};
 ghost use Rattle.spec_lists.specs.Texts.{Text};
 ghost use Rattle.spec_syntax.specs.Trees.{Tree};
-ghost use Rattle.spec_builtins.specs.Terms as terms;
+ghost use Rattle.spec_builtins.specs.Terms as builtins;
 ghost use Rattle.spec_branch.specs.Branch.{State, Item, Branch, read};
 ghost use Rattle.spec_search.specs.Database.{Database};
 ghost use Rattle.spec_search.specs.Replies.{Place, succeeds_if};
@@ -49,7 +49,7 @@ pub fn selected_goals_lead()
 /// The arguments of a term that reads as itself read as themselves.
 pub fn arguments_read_as_themselves()
     ensures { (texts : List Text) (c : Contents) (st : State) (id i k : ℕ) (t : Tree) → ReadsAs texts c st id t → k < length c.heap.terms
-        → slice_get (arguments (at c.heap.terms id)) i ≡ Some (at c.heap.terms k) → ReadsAs texts c st k (nth (terms.arguments t) i) }
+        → slice_get (arguments (at c.heap.terms id)) i ≡ Some (at c.heap.terms k) → ReadsAs texts c st k (nth (builtins.arguments t) i) }
 {}
 
 /// A goal that has nothing more to do goes on behind it, and one that fails comes back.

@@ -3,8 +3,8 @@ use Rattle.cq_world.specs.Worlds.{now_of}
 use Rattle.cq_steps.proofs.Calling.{call_done, raised_as}
 use Rattle.cq_steps.proofs.calls.call.Goals as goal
 
-pub returns-in_ok-k-clause-row : goal.returns-in_ok-k-clause-row
-returns-in_ok-k-clause-row c = λ choices p behind g same s r.
+pub returns-in_ok-k-in-Ok-clause-row : goal.returns-in_ok-k-in-Ok-clause-row
+returns-in_ok-k-in-Ok-clause-row c = λ choices p behind g same s r.
     call_done c.args.atoms.now (now_of c.args.world.now) c.args.lists.now.now c.cell_before.new.lists.now c.args.rest p behind choices s
     c.in_ok-k.k c.height.result c.args.goal g (c.height.ensures ∙ sym same) c.in-Ok.ensures.lawful r c.in_ok-k.ensures.cells
 

@@ -1,4 +1,4 @@
-use Rattle.std.proofs.Common.{ℕ, Some}
+use Rattle.std.proofs.Common.{ℕ, List, Some}
 use Rattle.spec_lists.specs.Texts.{Text}
 use Rattle.spec_search.specs.Database.{Database}
 use Rattle.spec_search.specs.Search.{Search}
