@@ -60,6 +60,6 @@ pub argument_reads : (texts : List Text) (c : Contents) (st : State) (id i k : �
 argument_reads texts c st id i k t r l e =
     let same : tree texts c.heap.terms id ≡ t = reads_tree texts c st id t r in
     let a : IsArgument st.bindings (text_of texts) t i (at c.heap.terms k) =
-        subst (λ (u : Tree). IsArgument st.bindings (text_of texts) u i (at c.heap.terms k)) same
-        (argument_is st.bindings (text_of texts) (at c.heap.terms id) i (at c.heap.terms k) e (subst (λ (u : Tree). apply st.bindings u ≡ u) (sym same) r.1)) in
+    subst (λ (u : Tree). IsArgument st.bindings (text_of texts) u i (at c.heap.terms k)) same
+    (argument_is st.bindings (text_of texts) (at c.heap.terms id) i (at c.heap.terms k) e (subst (λ (u : Tree). apply st.bindings u ≡ u) (sym same) r.1)) in
     (term_there texts c.heap.terms k l ∙ ap (λ (u : Tree). Some u) (sym a.is), a.reads)

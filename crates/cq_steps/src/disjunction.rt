@@ -105,7 +105,14 @@ fn if_then_else(
     let above = one_more(top)?;
     let known = &world.first;
     let other = goal_before(&known.heap, &mut world.second, right, height, rest)?;
-    let mark = then_before(&known.heap, &mut world.second, top, left.right, height, rest)?;
+    let mark = then_before(
+        &known.heap,
+        &mut world.second,
+        top,
+        left.right,
+        height,
+        rest,
+    )?;
     let all = goal_before(&known.heap, &mut world.second, left.left, above, mark)?;
     leave(world, choices, other)?;
     Ok(all)

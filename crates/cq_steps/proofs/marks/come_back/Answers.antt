@@ -14,8 +14,8 @@ returns-in-One-clause-arrives c = λ steps texts v db n s j.
     let fewer = saved_values c.back.new.world.first c.back.new.world.second.saved in
     let back = value c.back.new.world.first c.back.new.world.second.now in
     let gone = newest_gone c.back.result c.args.choices.now c.back.new.self c.in-Some.ensures.some.0 (One c.in-One.k)
-        (λ (x : Alternatives). open_choices saved c.args.choices.now ≡ (back, x) ∷ open_choices fewer c.back.new.self) c.back.ensures.none c.back.ensures.contents c.back.ensures.open
-        (c.in-Some.ensures.some.1 ∙ ap (λ x. x ∷ c.in-Some.ensures.some.0) c.in-One.is) in
+    (λ (x : Alternatives). open_choices saved c.args.choices.now ≡ (back, x) ∷ open_choices fewer c.back.new.self) c.back.ensures.none c.back.ensures.contents c.back.ensures.open
+    (c.in-Some.ensures.some.1 ∙ ap (λ x. x ∷ c.in-Some.ensures.some.0) c.in-One.is) in
     one_on steps texts v db n s saved fewer c.args.choices.now c.back.new.self now back c.in-One.k gone (here steps texts v db n s saved c.args.choices.now now None j)
 
 pub returns-in_default-clause-arrives : goal.returns-in_default-clause-arrives
@@ -40,8 +40,8 @@ returns-in-Barrier-clause-arrives c = λ steps texts v db n s j.
     let fewer = saved_values c.back-in-Barrier.new.world.first c.back-in-Barrier.new.world.second.saved in
     let back = value c.back-in-Barrier.new.world.first c.back-in-Barrier.new.world.second.now in
     let gone = newest_gone c.back-in-Barrier.result c.args.choices.now c.back-in-Barrier.new.self c.in-Some.ensures.some.0 Barrier
-        (λ (x : Alternatives). open_choices saved c.args.choices.now ≡ (back, x) ∷ open_choices fewer c.back-in-Barrier.new.self) c.back-in-Barrier.ensures.none
-        c.back-in-Barrier.ensures.contents c.back-in-Barrier.ensures.open (c.in-Some.ensures.some.1 ∙ ap (λ x. x ∷ c.in-Some.ensures.some.0) c.in-Barrier.is) in
+    (λ (x : Alternatives). open_choices saved c.args.choices.now ≡ (back, x) ∷ open_choices fewer c.back-in-Barrier.new.self) c.back-in-Barrier.ensures.none
+    c.back-in-Barrier.ensures.contents c.back-in-Barrier.ensures.open (c.in-Some.ensures.some.1 ∙ ap (λ x. x ∷ c.in-Some.ensures.some.0) c.in-Barrier.is) in
     barrier_on steps texts v db n s saved fewer c.args.choices.now c.back-in-Barrier.new.self now back gone (here steps texts v db n s saved c.args.choices.now now None j)
 
 pub returns-in-Barrier-clause-older : goal.returns-in-Barrier-clause-older

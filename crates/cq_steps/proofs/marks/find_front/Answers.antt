@@ -23,8 +23,8 @@ choices-preserved c = record {
   arrives = λ steps texts v db n s j.
       let i = c.choices.invariant in
       let passed = arrives_on (saved_values c.choices.world.first c.choices.world.second.saved) (saved_values c.pass_from.new.world.first c.pass_from.new.world.second.saved)
-          c.choices.choices c.pass_from.new.choices (value c.choices.world.first c.choices.world.second.now) (value c.pass_from.new.world.first c.pass_from.new.world.second.now)
-          c.choices.current None steps texts v db n s (i.arrives steps texts v db n s j) c.in_default.ensures.arrives in
+      c.choices.choices c.pass_from.new.choices (value c.choices.world.first c.choices.world.second.now) (value c.pass_from.new.world.first c.pass_from.new.world.second.now)
+      c.choices.current None steps texts v db n s (i.arrives steps texts v db n s j) c.in_default.ensures.arrives in
       arrives_on (saved_values c.pass_from.new.world.first c.pass_from.new.world.second.saved) (saved_values c.come_back.new.world.first c.come_back.new.world.second.saved)
       c.pass_from.new.choices c.come_back.new.choices (value c.pass_from.new.world.first c.pass_from.new.world.second.now)
       (value c.come_back.new.world.first c.come_back.new.world.second.now) None c.in-Back.next steps texts v db n s passed c.in-Back.ensures.arrives;
@@ -44,8 +44,8 @@ pub returns-in-Call-clause-arrives : goal.returns-in-Call-clause-arrives
 returns-in-Call-clause-arrives c = λ steps texts v db n s j.
     let i = c.choices.invariant in
     let passed = arrives_on (saved_values c.choices.world.first c.choices.world.second.saved) (saved_values c.pass_from.new.world.first c.pass_from.new.world.second.saved)
-        c.choices.choices c.pass_from.new.choices (value c.choices.world.first c.choices.world.second.now) (value c.pass_from.new.world.first c.pass_from.new.world.second.now)
-        c.choices.current None steps texts v db n s (i.arrives steps texts v db n s j) c.in_default.ensures.arrives in
+    c.choices.choices c.pass_from.new.choices (value c.choices.world.first c.choices.world.second.now) (value c.pass_from.new.world.first c.pass_from.new.world.second.now)
+    c.choices.current None steps texts v db n s (i.arrives steps texts v db n s j) c.in_default.ensures.arrives in
     arrives_on (saved_values c.pass_from.new.world.first c.pass_from.new.world.second.saved) (saved_values c.come_back.new.world.first c.come_back.new.world.second.saved)
     c.pass_from.new.choices c.come_back.new.choices (value c.pass_from.new.world.first c.pass_from.new.world.second.now)
     (value c.come_back.new.world.first c.come_back.new.world.second.now) None None steps texts v db n s passed c.in-Call.ensures.arrives
