@@ -1,0 +1,14 @@
+pub mod Control
+pub mod Selected
+pub mod Arrived
+pub mod Rested
+pub mod Branches
+pub mod Added
+pub mod Done
+pub mod Grown
+pub mod Calling
+pub mod Beginning
+pub mod Older
+pub mod Passing
+pub mod Disjunctions
+pub mod Arguments

@@ -1,0 +1,17 @@
+use Rattle.cq_steps.specs.Worlds.{IsBranch, term_in}
+use Rattle.cq_steps.proofs.Beginning.{reads_again}
+use Rattle.cq_steps.proofs.Selected.{goal_selected, call_selected, made_comes}
+use Rattle.cq_steps.proofs.laws.selected_goals_lead.Goals as goal
+
+pub returns-clause-goal : goal.returns-clause-goal
+returns-clause-goal c = λ texts db n choices now k rest s j l t height e. goal_selected (IsBranch texts) (term_in texts) db n choices now k rest s j l t height e
+
+pub returns-clause-call : goal.returns-clause-call
+returns-clause-call c = λ texts db n choices now k rest s j l t e. call_selected (IsBranch texts) (term_in texts) db n choices now k rest s j l t e
+
+pub returns-clause-comes : goal.returns-clause-comes
+returns-clause-comes c = λ texts steps s goal cut items st behind look few choices now current leads.
+    made_comes (IsBranch texts) (term_in texts) steps s goal cut items st behind look few choices now current leads
+
+pub returns-clause-reads : goal.returns-clause-reads
+returns-clause-reads c = λ texts w st id t b e. reads_again texts w st id t b e

@@ -1,0 +1,7 @@
+pub mod Lists
+pub mod Choices
+pub mod Selecting
+pub mod Worlds
+pub mod Marks
+pub mod Sides
+pub mod Calls

@@ -1,0 +1,49 @@
+-- What stands in front of a continuation, and where a search comes back to.
+use Rattle.std.specs.Prelude.{ℕ, ◌<◌, List, [], ◌∷◌, length, Option, Some, None, ⊤}
+use Rattle.spec_machine.specs.declared.cell.Cell.{Cell}
+use Rattle.spec_machine.specs.declared.cell.Cell.TheVariants.{Goal, Call, CutTo, CutFail, CatchEnd, Collect}
+use Rattle.cq_steps.specs.declared.alternatives.Alternatives.{Alternatives}
+use Rattle.cq_steps.specs.declared.alternatives.Alternatives.TheVariants as alternatives
+use Rattle.cq_steps.specs.declared.marks.Front.{Front}
+use Rattle.cq_steps.specs.declared.marks.Front.TheVariants as front
+use Rattle.cq_steps.specs.declared.marks.Came.{Came}
+use Rattle.cq_steps.specs.declared.marks.Came.TheVariants as came
+
+-- no mark is in front
+abbrev pub IsFront : List Cell → Type 0
+IsFront [] = ⊤
+IsFront (Goal t height ∷ cs) = ⊤
+IsFront (Call t ∷ cs) = ⊤
+IsFront (CutTo height ∷ cs) = ⊥
+IsFront (CutFail height ∷ cs) = ⊥
+IsFront (CatchEnd height c r ∷ cs) = ⊥
+IsFront (Collect height t ∷ cs) = ⊤
+
+-- what the engine goes on with past the front of a continuation
+abbrev pub past : Front → ℕ → Option ℕ
+past front.Clear k = Some k
+past (front.Passed rest) k = Some rest
+past front.Back k = None
+
+-- it stops where no mark is, and goes on with an earlier continuation
+abbrev pub IsPast : Front → ℕ → List Cell → Type 0
+IsPast front.Clear k cells = IsFront cells
+IsPast (front.Passed rest) k cells = rest < k
+IsPast front.Back k cells = ⊤
+
+-- the clauses of a call are left to try first, or nothing is
+abbrev pub IsCall : List Alternatives → Type 0
+IsCall [] = ⊤
+IsCall (alternatives.One k ∷ choices) = ⊥
+IsCall (alternatives.Clauses t walk k ∷ choices) = ⊤
+IsCall (alternatives.Barrier ∷ choices) = ⊥
+
+-- what the engine goes on with
+abbrev pub came_to : Came → Option ℕ
+came_to (came.Back k) = k
+came_to came.Call = None
+
+-- a choice is gone, or a call's is the newest
+abbrev pub HasComeBack : Came → List Alternatives → List Alternatives → Type 0
+HasComeBack (came.Back k) old new = length new < length old
+HasComeBack came.Call old new = IsCall new

@@ -1,0 +1,20 @@
+//! The steps of a search that look at no constraint: control, marks, and choices that are come back to.
+#![tactic(auto)]
+
+mod alternatives;
+mod calls;
+mod cells;
+mod disjunction;
+mod laws;
+mod marks;
+mod rows;
+
+pub use alternatives::{Alternatives, Searching, Untried};
+pub use calls::call;
+pub use disjunction::or;
+pub use laws::{
+    arguments_read_as_themselves, goals_succeed_or_fail, more_may_be_built,
+    queries_begin_where_nothing_is_known, selected_goals_lead,
+};
+pub use marks::find_front;
+pub use rows::{and, cut, if_then, not, once};
