@@ -1,0 +1,4 @@
+pub mod Parts
+pub mod Halves
+pub mod Marked
+pub mod Whole
