@@ -4,11 +4,14 @@ use crate::outcomes::first_wrong;
 use std::test::Fail;
 
 /// Values, and the first error from the left.
-static VALUES: [&str; 26] = [
+static VALUES: [&str; 30] = [
     "X is 7 mod -2. -1",
     "Y is -7//2. -3",
     "Z is 1/3. 1r3",
     "X is -(2)+abs(-3)*4. 10",
+    "X is min(1,1r2)+max(2,3)+sign(-5)+ +(1). 7r2",
+    "X is floor(-7r2)*100+ceiling(-7r2)*10+truncate(-7r2). -433",
+    "X is -7 rem 2. -1",
     "X is 170141183460469231731687303715884105727. 170141183460469231731687303715884105727",
     "X is -170141183460469231731687303715884105727 // -1. 170141183460469231731687303715884105727",
     "X is 1/170141183460469231731687303715884105727. 1r170141183460469231731687303715884105727",
@@ -16,6 +19,7 @@ static VALUES: [&str; 26] = [
     "X is foo. error(type_error(evaluable,foo/0),(is)/2)",
     "X is foo+1. error(type_error(evaluable,foo/0),(is)/2)",
     "X is foo(Y). error(type_error(evaluable,foo/1),(is)/2)",
+    "X is foo(1,2,3). error(type_error(evaluable,foo/3),(is)/2)",
     "X is foo+Y. error(type_error(evaluable,foo/0),(is)/2)",
     "X is Y+foo. error(instantiation_error,(is)/2)",
     "X is 3r2//0. error(type_error(integer,3r2),(is)/2)",

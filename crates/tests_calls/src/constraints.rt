@@ -4,10 +4,15 @@ use crate::outcomes::first_wrong;
 use std::test::Fail;
 
 /// Constraints that are told: what each of their relations is, their two halves, or their first error.
-static TOLD: [&str; 24] = [
+static TOLD: [&str; 30] = [
     "{X=<1}. _1=<1 linear",
-    "{X=1,Y=X+1}. _1=1 linear; _1=_2+1 linear",
+    "{X=:=1,X=\\=2,X>3,X>=4,X<5}. _1=:=1 linear; _1=\\=2 linear; _1>3 linear; _1>=4 linear; _1<5 linear",
+    "{X=Y*(Z-Z+2)-Y/3+pow(Y,1)+3^2}. _1=_2*(_3-_3+2)-_2/3+pow(_2,1)+3^2 linear",
+    "{X=min(1,2)+max(1,2)-abs(-1)+ +(Y)}. _1=min(1,2)+max(1,2)-abs(-1)+ +_2 linear",
     "{X*Y=6}. _1*_2=6 waits",
+    "{X*Y=Z,Y=2}. _1*_2=_3 waits; _1=2 linear",
+    "{X=2^Y}. _1=2^_2 waits",
+    "{X=min(Y,1)}. _1=min(_2,1) waits",
     "{Y=abs(X)}. _1=abs(_2) waits",
     "{X=2^100}. _1=2^100 waits",
     "{X=1/0}. _1=1/0 false",
@@ -26,6 +31,7 @@ static TOLD: [&str; 24] = [
     "{X is 1}. error(type_error(constraint,_1 is 1),{}/1)",
     "{X=foo}. error(type_error(evaluable,foo/0),{}/1)",
     "{foo(bar)=X}. error(type_error(evaluable,foo/1),{}/1)",
+    "{foo(1,2,3)=X}. error(type_error(evaluable,foo/3),{}/1)",
     "{X=7//2}. error(type_error(evaluable,(//)/2),{}/1)",
     "{X=1;Y<sign(X)}. error(type_error(evaluable,sign/1),{}/1)",
     "{X=foo,Y}. error(type_error(evaluable,foo/0),{}/1)",

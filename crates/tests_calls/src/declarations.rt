@@ -4,7 +4,7 @@ use crate::outcomes::first_wrong;
 use std::test::Fail;
 
 /// Predicates that are declared, and modules.
-static DECLARED: [&str; 18] = [
+static DECLARED: [&str; 19] = [
     "dynamic foo/1. declared; foo",
     "dynamic((foo/1,bar/2)). declared; foo; bar",
     "dynamic([foo/0,bar/1000000]). declared; foo; bar",
@@ -17,6 +17,7 @@ static DECLARED: [&str; 18] = [
     "dynamic(1/1). error(type_error(predicate_indicator,1/1),(dynamic)/1)",
     "dynamic(foo/a). error(type_error(predicate_indicator,foo/a),(dynamic)/1)",
     "dynamic(foo/ -1). error(type_error(predicate_indicator,foo/(-1)),(dynamic)/1)",
+    "dynamic([foo/1|bar]). error(type_error(predicate_indicator,bar),(dynamic)/1)",
     "dynamic(foo/1000001). error(type_error(predicate_indicator,foo/1000001),(dynamic)/1)",
     "discontiguous((foo/1,bar)). error(type_error(predicate_indicator,bar),(discontiguous)/1)",
     "use_module(library(clpq)). lawful",
@@ -56,7 +57,7 @@ fn clauses_are_checked(rt: HostRuntime) -> Result<(), Fail> {
 }
 
 /// Operators that are set, and the errors in their order.
-static OPERATORS: [&str; 18] = [
+static OPERATORS: [&str; 19] = [
     "op(700,xfx,foo). lawful",
     "op(0,yfx,[+,-]). lawful",
     "op(P,1,foo). error(instantiation_error,op/3)",
@@ -72,6 +73,7 @@ static OPERATORS: [&str; 18] = [
     "op(700,fyx,2). error(domain_error(operator_specifier,fyx),op/3)",
     "op(700,xfx,2). error(type_error(list,2),op/3)",
     "op(700,xfx,[foo,2]). error(type_error(list,[foo,2]),op/3)",
+    "op(700,xfx,[foo|bar]). error(type_error(list,[foo|bar]),op/3)",
     "op(700,xfx,','). error(permission_error(modify,operator,','),op/3)",
     "op(700,xf,[+,',']). error(permission_error(modify,operator,','),op/3)",
     "op(700,xf,[foo,+]). error(permission_error(create,operator,+),op/3)",

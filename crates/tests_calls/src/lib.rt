@@ -12,8 +12,6 @@ mod declarations;
 #[cfg(test)]
 mod deep;
 #[cfg(test)]
-mod names;
-#[cfg(test)]
 mod outcomes;
 #[cfg(test)]
 mod terms;

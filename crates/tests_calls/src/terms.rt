@@ -4,7 +4,7 @@ use crate::outcomes::first_wrong;
 use std::test::Fail;
 
 /// Each test of a term, and a term that fails it.
-static TESTS: [&str; 21] = [
+static TESTS: [&str; 22] = [
     "var(X). var(_1)",
     "var(a). no",
     "nonvar(a). nonvar(a)",
@@ -13,15 +13,16 @@ static TESTS: [&str; 21] = [
     "atom(1). no",
     "number(1r2). number(1r2)",
     "number(a). no",
-    "integer(-3). integer(-3)",
+    "integer(4r2). integer(2)",
     "integer(1r2). no",
-    "rational(2). rational(2)",
+    "rational(1r2). rational(1r2)",
     "rational(f(1)). no",
     "atomic(a). atomic(a)",
     "atomic(f(a)). no",
     "compound([a]). compound([a])",
     "compound([]). no",
     "callable(f(X)). callable(f(_1))",
+    "callable(a). callable(a)",
     "callable(1). no",
     "is_list([a,B]). is_list([a,_1])",
     "is_list([a|B]). no",
@@ -35,10 +36,11 @@ fn terms_are_tested(rt: HostRuntime) -> Result<(), Fail> {
 }
 
 /// Each comparison: variables stand before numbers, these before atoms, these before compounds, of which the shorter stand first.
-static COMPARISONS: [&str; 19] = [
+static COMPARISONS: [&str; 20] = [
     "f(X,a) == f(X,a). f(_1,a)==f(_1,a)",
     "X == Y. no",
     "X \\== Y. _1\\==_2",
+    "f(X,Y) @< f(Y,X). f(_1,_2)@<f(_2,_1)",
     "a \\== a. no",
     "1r2 @< 1. 1r2@<1",
     "a @< f(b). a@<f(b)",
@@ -63,8 +65,8 @@ fn terms_are_compared(rt: HostRuntime) -> Result<(), Fail> {
     Ok(())
 }
 
-/// functor(T,N,A) in each direction, and its errors in their order.
-static FUNCTORS: [&str; 18] = [
+/// functor(T,N,A) in each direction and arg(N,T,A), and their errors in their order.
+static PARTS: [&str; 31] = [
     "functor(foo(a,B),N,A). functor(foo(a,_1),foo,2)",
     "functor([a|T],N,A). functor([a|_1],'.',2)",
     "functor(a,N,A). functor(a,a,0)",
@@ -83,16 +85,6 @@ static FUNCTORS: [&str; 18] = [
     "functor(T,foo(a),0). error(type_error(atomic,foo(a)),functor/3)",
     "functor(T,foo(a),1). error(type_error(atomic,foo(a)),functor/3)",
     "functor(T,1r2,1). error(type_error(atom,1r2),functor/3)",
-];
-
-#[test]
-fn names_and_numbers_of_arguments(rt: HostRuntime) -> Result<(), Fail> {
-    assert_eq!(rt; first_wrong(rt.alloc(), &FUNCTORS)?, None);
-    Ok(())
-}
-
-/// arg(N,T,A), and its errors in their order.
-static ARGUMENTS: [&str; 13] = [
     "arg(2,f(a,b),A). arg(2,f(a,b),b)",
     "arg(1,f(X),a). arg(1,f(a),a)",
     "arg(1,f(a),b). no",
@@ -109,13 +101,13 @@ static ARGUMENTS: [&str; 13] = [
 ];
 
 #[test]
-fn arguments_are_found(rt: HostRuntime) -> Result<(), Fail> {
-    assert_eq!(rt; first_wrong(rt.alloc(), &ARGUMENTS)?, None);
+fn parts_of_terms(rt: HostRuntime) -> Result<(), Fail> {
+    assert_eq!(rt; first_wrong(rt.alloc(), &PARTS)?, None);
     Ok(())
 }
 
-/// T =.. L in both directions, and its errors in their order.
-static LISTS: [&str; 19] = [
+/// T =.. L in both directions, with its errors in their order, and copies: their variables are new, shared as the term's.
+static BUILT: [&str; 25] = [
     "foo(a,B) =.. L. foo(a,_1)=..[foo,a,_1]",
     "foo =.. L. foo=..[foo]",
     "1r2 =.. L. 1r2=..[1r2]",
@@ -135,16 +127,6 @@ static LISTS: [&str; 19] = [
     "T =.. [f(a)]. error(type_error(atomic,f(a)),(=..)/2)",
     "T =.. [f(a),b]. error(type_error(atom,f(a)),(=..)/2)",
     "T =.. [1,a]. error(type_error(atom,1),(=..)/2)",
-];
-
-#[test]
-fn terms_and_lists(rt: HostRuntime) -> Result<(), Fail> {
-    assert_eq!(rt; first_wrong(rt.alloc(), &LISTS)?, None);
-    Ok(())
-}
-
-/// Copies, whose variables are new ones, shared as those of the term.
-static COPIES: [&str; 6] = [
     "copy_term(f(X,Y,X),C). copy_term(f(_1,_2,_1),f(_3,_4,_3))",
     "copy_term(f(X,a),f(b,Y)). copy_term(f(_1,a),f(b,a))",
     "copy_term(f(X,X),f(a,b)). no",
@@ -154,7 +136,7 @@ static COPIES: [&str; 6] = [
 ];
 
 #[test]
-fn terms_are_copied(rt: HostRuntime) -> Result<(), Fail> {
-    assert_eq!(rt; first_wrong(rt.alloc(), &COPIES)?, None);
+fn terms_are_built(rt: HostRuntime) -> Result<(), Fail> {
+    assert_eq!(rt; first_wrong(rt.alloc(), &BUILT)?, None);
     Ok(())
 }

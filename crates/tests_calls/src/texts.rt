@@ -4,12 +4,14 @@ use crate::outcomes::first_wrong;
 use std::test::Fail;
 
 /// Lengths count characters.
-static LENGTHS: [&str; 11] = [
+static LENGTHS: [&str; 13] = [
     "atom_length('',N). atom_length('',0)",
+    "atom_length([],N). atom_length([],2)",
     "atom_length(aé,N). atom_length(aé,2)",
     "atom_length('日本 😀',N). atom_length('日本 😀',4)",
     "atom_length(ab,2). atom_length(ab,2)",
     "atom_length(é,2). no",
+    "atom_length(X,N). error(instantiation_error,atom_length/2)",
     "atom_length(A,b). error(instantiation_error,atom_length/2)",
     "atom_length(1,b). error(type_error(atom,1),atom_length/2)",
     "atom_length(f(a),N). error(type_error(atom,f(a)),atom_length/2)",
@@ -25,7 +27,7 @@ fn texts_are_measured(rt: HostRuntime) -> Result<(), Fail> {
 }
 
 /// Atoms and their characters or codes.
-static SPELLINGS: [&str; 33] = [
+static SPELLINGS: [&str; 34] = [
     "atom_chars(aé,L). atom_chars(aé,[a,é])",
     "atom_chars('',L). atom_chars('',[])",
     "atom_chars(ab,[X|T]). atom_chars(ab,[a,b])",
@@ -33,6 +35,7 @@ static SPELLINGS: [&str; 33] = [
     "atom_chars(ab,c). no",
     "atom_chars(A,['1','2']). atom_chars('12',['1','2'])",
     "atom_chars(A,[]). atom_chars('',[])",
+    "atom_chars([],L). atom_chars([],['[',']'])",
     "atom_chars(1,b). error(type_error(atom,1),atom_chars/2)",
     "atom_chars(A,L). error(instantiation_error,atom_chars/2)",
     "atom_chars(A,[1|L]). error(instantiation_error,atom_chars/2)",
@@ -68,16 +71,22 @@ fn texts_are_spelled(rt: HostRuntime) -> Result<(), Fail> {
 }
 
 /// Numbers and the codes of their texts, up to those of the greatest size.
-static NUMERALS: [&str; 13] = [
+static NUMERALS: [&str; 19] = [
     "number_codes(N,\" -12\"). number_codes(-12,[32,45,49,50])",
     "number_codes(N,\"2r4\"). number_codes(1r2,[50,114,52])",
+    "number_codes(N,\"0xF\"). number_codes(15,[48,120,70])",
     "number_codes(12,L). number_codes(12,[49,50])",
     "number_codes(-1r2,L). number_codes(-1r2,[45,49,114,50])",
+    "number_codes(12,\" 12\"). number_codes(12,[32,49,50])",
     "number_codes(13,\"12\"). no",
+    "number_codes(1,abc). no",
     "number_codes(N,\"-170141183460469231731687303715884105727\"). number_codes(-170141183460469231731687303715884105727,[45,49,55,48,49,52,49,49,56,51,52,54,48,52,54,57,50,51,49,55,51,49,54,56,55,51,48,51,55,49,53,56,56,52,49,48,53,55,50,55])",
     "number_codes(1r170141183460469231731687303715884105727,L). number_codes(1r170141183460469231731687303715884105727,[49,114,49,55,48,49,52,49,49,56,51,52,54,48,52,54,57,50,51,49,55,51,49,54,56,55,51,48,51,55,49,53,56,56,52,49,48,53,55,50,55])",
     "number_codes(N,\"170141183460469231731687303715884105728\"). error(syntax_error(illegal_number),number_codes/2)",
     "number_codes(a,\"1x\"). error(syntax_error(illegal_number),number_codes/2)",
+    "number_codes(N,\"12 \"). error(syntax_error(illegal_number),number_codes/2)",
+    "number_codes(N,\"- 1\"). error(syntax_error(illegal_number),number_codes/2)",
+    "number_codes(N,[]). error(syntax_error(illegal_number),number_codes/2)",
     "number_codes(N,L). error(instantiation_error,number_codes/2)",
     "number_codes(N,[49|L]). error(instantiation_error,number_codes/2)",
     "number_codes(a,L). error(type_error(number,a),number_codes/2)",
@@ -91,8 +100,9 @@ fn numbers_are_spelled(rt: HostRuntime) -> Result<(), Fail> {
 }
 
 /// Texts that are joined, and splits by the growing length of the first text.
-static JOINED: [&str; 13] = [
+static JOINED: [&str; 14] = [
     "atom_concat(aé,b,C). atom_concat(aé,b,aéb)",
+    "atom_concat(a,b,ab). atom_concat(a,b,ab)",
     "atom_concat(a,b,ac). no",
     "atom_concat(X,Y,ab). atom_concat('',ab,ab); atom_concat(a,b,ab); atom_concat(ab,'',ab)",
     "atom_concat(X,Y,''). atom_concat('','','')",
@@ -114,7 +124,7 @@ fn texts_are_joined_and_split(rt: HostRuntime) -> Result<(), Fail> {
 }
 
 /// Parts of a text by where they begin, then by their length, counted in characters.
-static PARTS: [&str; 17] = [
+static PARTS: [&str; 19] = [
     "sub_atom(aé,B,L,R,S). sub_atom(aé,0,0,2,''); sub_atom(aé,0,1,1,a); sub_atom(aé,0,2,0,aé); sub_atom(aé,1,0,1,''); sub_atom(aé,1,1,0,é); sub_atom(aé,2,0,0,'')",
     "sub_atom('',B,L,R,S). sub_atom('',0,0,0,'')",
     "sub_atom(aéb,1,1,R,S). sub_atom(aéb,1,1,1,é)",
@@ -123,6 +133,8 @@ static PARTS: [&str; 17] = [
     "sub_atom(abc,2,L,R,S). sub_atom(abc,2,0,1,''); sub_atom(abc,2,1,0,c)",
     "sub_atom(abab,B,L,R,ab). sub_atom(abab,0,2,2,ab); sub_atom(abab,2,2,0,ab)",
     "sub_atom(aaa,B,L,R,aa). sub_atom(aaa,0,2,1,aa); sub_atom(aaa,1,2,0,aa)",
+    "sub_atom(日本,B,L,R,''). sub_atom(日本,0,0,2,''); sub_atom(日本,1,0,1,''); sub_atom(日本,2,0,0,'')",
+    "sub_atom(abc,1,1,1,b). sub_atom(abc,1,1,1,b)",
     "sub_atom(ab,-1,L,R,S). no",
     "sub_atom(ab,B,3,R,S). no",
     "sub_atom(ab,B,L,R,c). no",
