@@ -1,12 +1,12 @@
 -- The arguments of a term that reads as itself read as themselves.
-use Rattle.std.proofs.Common.{◌≡◌, ℕ, zero, suc, ◌<◌, List, length, Option, Some, refl, sym, ap, ◌∙◌, subst}
+use Rattle.std.proofs.Common.{◌≡◌, ℕ, zero, suc, ◌<◌, List, length, Some, refl, sym, ap, ◌∙◌, subst}
 use Rattle.std.specs.Prelude.{slice_get}
 use Rattle.std.proofs.lemmas.Option.{none-some}
 use Rattle.spec_lists.specs.Texts.{Text}
 use Rattle.spec_terms.specs.Term.{Terms, Var, Number, Name, Compound, one, more, list_of, Subst, apply, apply_all, named, named_all}
 use Rattle.spec_syntax.specs.Trees.{Tree}
 use Rattle.spec_builtins.specs.Terms as terms
-use Rattle.spec_branch.specs.Branch.{State, read}
+use Rattle.spec_branch.specs.Branch.{State}
 use Rattle.spec_search.specs.Rows.{nth}
 use Rattle.cq_atoms.specs.Texts.{text_of}
 use Rattle.cq_term.specs.Meaning.{HeapTerm, at}

@@ -10,12 +10,12 @@ use Rattle.spec_built.specs.Kinds.{is_callable, is_variable}
 use Rattle.spec_branch.specs.Branch as branch
 use Rattle.spec_branch.specs.Branch.{State, Branch}
 use Rattle.spec_search.specs.Control.{with_more, called, call_row}
-use Rattle.spec_search.specs.Replies.{Place, Reply, Raises, goes_on}
+use Rattle.spec_search.specs.Replies.{Place, Raises, goes_on}
 use Rattle.cq_control.specs.Heights.{total}
 use Rattle.cq_control.specs.Items.{items_at}
 use Rattle.spec_machine.specs.declared.cell.Cell.{Cell}
 use Rattle.spec_machine.specs.declared.cell.Cell.TheVariants.{Goal}
-use Rattle.spec_machine.specs.Cells.{size, Value, Stack, below}
+use Rattle.spec_machine.specs.Cells.{size, Stack, below}
 use Rattle.spec_machine.specs.Standing.{IsPlace, AreWaiting}
 use Rattle.spec_machine.specs.Coming.{Rest}
 use Rattle.spec_machine.proofs.Kept.{last-all}

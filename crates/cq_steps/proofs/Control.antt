@@ -1,24 +1,23 @@
 -- The rows of control, as what an engine does by them.
-use Rattle.std.proofs.Common.{◌≡◌, ℕ, suc, ◌<◌, ◌≤◌, ◌+◌, List, [], ◌∷◌, ◌++◌, length, Option, None, Some, Bool, true, false, refl, sym, ap, ◌∙◌, subst, arith}
+use Rattle.std.proofs.Common.{◌≡◌, ℕ, ◌<◌, ◌≤◌, ◌+◌, List, [], ◌∷◌, length, Option, None, Some, Bool, true, false, refl, sym, ap, ◌∙◌, subst, arith}
 use Rattle.std.specs.Prelude.{if◌then◌else◌}
 use Rattle.spec_syntax.specs.Trees.{Tree}
 use Rattle.spec_built.specs.Built.{compound1}
-use Rattle.spec_built.specs.Bodies.{as_goal}
 use Rattle.spec_built.specs.Kinds.{is_callable}
 use Rattle.spec_branch.specs.Branch as branch
 use Rattle.spec_branch.specs.Branch.{State, Item, Branch, no_work, read}
 use Rattle.spec_search.specs.Balls as balls
 use Rattle.spec_search.specs.Control.{put, and_row, or_row, first_items, if_then_row, if_then_items, cut_row, not_row}
 use Rattle.spec_search.specs.Replies.{Place, child, made, makes, goes_on, onward}
-use Rattle.spec_search.specs.Search.{look_at, settled}
+use Rattle.spec_search.specs.Search.{look_at}
 use Rattle.cq_control.specs.Heights.{total}
 use Rattle.cq_control.specs.Items.{items_at}
 use Rattle.cq_control.specs.Open.{last}
 use Rattle.spec_machine.specs.declared.cell.Cell.{Cell}
-use Rattle.spec_machine.specs.declared.cell.Cell.TheVariants.{Goal, Call, CutTo, CutFail}
+use Rattle.spec_machine.specs.declared.cell.Cell.TheVariants.{CutTo, CutFail}
 use Rattle.spec_machine.specs.Cells.{Fits, One, size, Value, Stack, below}
-use Rattle.spec_machine.specs.Standing.{engine, AreItems, IsContinuation, IsPlace, AreWaiting}
-use Rattle.spec_machine.specs.Coming.{at_once, Comes, Rest}
+use Rattle.spec_machine.specs.Standing.{AreItems, IsContinuation, AreWaiting}
+use Rattle.spec_machine.specs.Coming.{at_once, Rest}
 use Rattle.spec_machine.proofs.Kept.{fits_more, items_older, items_last, waiting-last, length-last, last-all, last-older}
 use Rattle.spec_machine.proofs.Made.{child_kept, choice_waits}
 use Rattle.cq_steps.specs.Lists.{put_cell}

@@ -1,10 +1,10 @@
 -- Marks that are passed and choices that are come back to, over the choices of the code.
-use Rattle.std.proofs.Common.{◌≡◌, ℕ, ◌<◌, ◌≤◌, List, [], ◌∷◌, ◌++◌, length, Option, None, Some, refl, sym, ap, ◌∙◌, subst, map, arith}
+use Rattle.std.proofs.Common.{◌≡◌, ℕ, ◌<◌, List, ◌∷◌, ◌++◌, length, Option, None, Some, sym, ap, ◌∙◌, subst, map}
 use Rattle.spec_lists.specs.Texts.{Text}
 use Rattle.spec_search.specs.Database.{Database}
 use Rattle.spec_search.specs.Search.{Search}
 use Rattle.cq_control.specs.Items.{items_at}
-use Rattle.cq_control.specs.Open.{AreMarked, last, open_choices}
+use Rattle.cq_control.specs.Open.{last, open_choices}
 use Rattle.cq_program.specs.Database.{Program}
 use Rattle.cq_world.specs.Contents.{Contents}
 use Rattle.spec_machine.specs.declared.cell.Cell.TheVariants.{CutTo, CutFail, CatchEnd}
@@ -12,7 +12,6 @@ use Rattle.spec_machine.specs.Cells.{Barrier, Value, Stack}
 use Rattle.spec_machine.specs.Standing.{engine, IsStanding}
 use Rattle.spec_machine.specs.Coming.{Comes}
 use Rattle.spec_machine.proofs.Passed.{cut_passed, fail_passed, end_passed, one_begun}
-use Rattle.spec_machine.proofs.Kept.{length-last}
 use Rattle.cq_steps.specs.declared.alternatives.Alternatives.{Alternatives}
 use Rattle.cq_steps.specs.declared.alternatives.Alternatives.TheVariants as alternatives
 use Rattle.cq_steps.specs.Worlds.{IsBranch, term_in, Stands, IsWorking, Arrives, stack, left_at}

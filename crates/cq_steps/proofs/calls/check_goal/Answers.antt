@@ -1,8 +1,6 @@
-use Rattle.std.proofs.Common.{◌∙◌, sym, ap}
-use Rattle.spec_search.specs.Replies.{Raises}
-use Rattle.cq_built.specs.Errors.{error_tree}
+use Rattle.std.proofs.Common.{◌∙◌, sym}
 use Rattle.cq_term.specs.Trees.{tree}
-use Rattle.cq_steps.proofs.Calling.{unbound_raises, other_raises, body_raises}
+use Rattle.cq_steps.proofs.Calling.{unbound_raises}
 use Rattle.cq_steps.proofs.calls.check_goal.Goals as goal
 
 pub returns-then-is_variable-clause-fault : goal.returns-then-is_variable-clause-fault

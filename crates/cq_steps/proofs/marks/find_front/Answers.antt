@@ -1,6 +1,6 @@
-use Rattle.std.proofs.Common.{Some, None, arith}
+use Rattle.std.proofs.Common.{Some, None}
 use Rattle.cq_steps.specs.Worlds.{value, saved_values}
-use Rattle.cq_steps.proofs.Older.{older_all, older_on, older_fewer}
+use Rattle.cq_steps.proofs.Older.{older_all, older_on}
 use Rattle.cq_steps.proofs.Passing.{here, works_on, arrives_on}
 use Rattle.cq_steps.proofs.marks.find_front.Goals as goal
 
