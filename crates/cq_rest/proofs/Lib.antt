@@ -1,7 +1,8 @@
 mod Names
 mod Beginning
-mod Told
+pub mod Told
 mod Alone
+mod Pairs
 mod Bound
-mod Equated
+pub mod Equated
 mod Asleep

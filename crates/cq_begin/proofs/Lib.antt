@@ -1,0 +1,6 @@
+mod Reading
+mod Waking
+mod Begins
+mod Leading
+mod Marks
+mod Newer
