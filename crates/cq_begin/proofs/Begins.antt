@@ -1,8 +1,7 @@
 -- A branch that was begun, by what its settling made of the world.
 use Rattle.std.proofs.Common.{◌≡◌, ◌<◌, ◌≤◌, ℕ, List, [], ◌∷◌, ◌++◌, length, Option, None, Some, refl, sym, ap, ◌∙◌, subst, arith}
-use Rattle.std.specs.Prelude.{⊤, All}
+use Rattle.std.specs.Prelude.{⊤}
 use Rattle.std.proofs.lemmas.List.{length-map}
-use Rattle.std.proofs.lemmas.List.Elements.{All-weaker}
 use Rattle.spec_rational.specs.Rational.{ℚ}
 use Rattle.spec_linear.specs.Solution.{Constraint, Fixes}
 use Rattle.spec_lists.specs.Texts.{Text}
@@ -12,24 +11,21 @@ use Rattle.spec_syntax.specs.Trees.{Tree}
 use Rattle.spec_branch.specs.Branch.{State, Item, Pending, Branch, read}
 use Rattle.spec_branch.specs.Settling.{Settles, no_unifier, unified, SettlesUnified, clash, no_solution, kept, Outcome, Kept, kept_branch, bindings_after, woken, Clash}
 use Rattle.spec_branch.specs.Settling as outcome
-use Rattle.cq_atoms.specs.Texts.{AreDifferent}
 use Rattle.cq_control.specs.Items.{items_at}
 use Rattle.cq_frac.specs.declared.VarId.{VarId}
-use Rattle.cq_settle.specs.Called.{SomeIsCalled, OfCalls}
+use Rattle.cq_settle.specs.Called.{OfCalls}
 use Rattle.cq_settle.specs.Settled.{IsKept, IsPruned, woken_goals}
 use Rattle.cq_term.specs.HeapValue.{Terms}
-use Rattle.cq_term.specs.Trees.{tree, KnowsTerms}
-use Rattle.cq_walk.specs.Pairs.{IsLive, equations}
+use Rattle.cq_term.specs.Trees.{tree}
 use Rattle.cq_walk.specs.declared.pairs.Pair.{Pair}
 use Rattle.cq_world.specs.Contents.{Contents}
-use Rattle.cq_world.specs.Rest.{IsReadyAs, IsReady}
+use Rattle.cq_world.specs.Rest.{IsReadyAs}
 use Rattle.spec_machine.specs.declared.cell.Cell.{Cell}
 use Rattle.spec_machine.specs.Cells.{Fits, Stack}
 use Rattle.spec_machine.specs.Standing.{AreItems}
 use Rattle.spec_machine.proofs.Kept.{items_read_on}
-use Rattle.cq_rest.specs.Equal.{MayBeEqual, AllEqual, IsWork, CallsFor}
-use Rattle.cq_rest.specs.Ready.{MayBeTold, with_terms}
-use Rattle.cq_rest.proofs.Equated.{equated_called, equated_calls, none_of_trees}
+use Rattle.cq_rest.specs.Equal.{AllEqual, IsWork, CallsFor}
+use Rattle.cq_rest.specs.Ready.{with_terms}
 use Rattle.cq_steps.specs.Lists.{HasCells}
 use Rattle.cq_steps.specs.Worlds.{IsBranch, term_in}
 use Rattle.cq_begin.specs.Begun.{calls, HasWoken, IsPlacedAs, IsBegun, OfWork, GoesOn, Prunes}
@@ -115,19 +111,14 @@ pruned_at_once st p none = (Clash, λ items. no_unifier none)
 
 -- ---- pairs of terms were made equal
 
-module _ (texts : List Text) (different : AreDifferent texts) (c : Contents) (h : Terms) (pairs : List Pair) (newly : List VarId) (told : List ℕ)
-    (names : KnowsTerms texts h.terms) (equal : AllEqual c.heap h pairs newly) (m : All (MayBeTold c.heap) told) where
-  there : All (λ id. id < length c.heap.terms) told
-  there i d l = (m i d l).live
+-- settling is called for of each work that these pairs and told terms are
+abbrev pub CallsForEach : List Text → Contents → Terms → List Pair → List VarId → List ℕ → Type 0
+CallsForEach texts c h pairs newly told = (st : State) (p : Pending) → IsReadyAs texts c st → IsWork texts c st pairs told [] p → CallsFor texts c h newly told [] st p
 
+module _ (texts : List Text) (c : Contents) (h : Terms) (pairs : List Pair) (newly : List VarId) (told : List ℕ) (equal : AllEqual c.heap h pairs newly)
+    (for_each : CallsForEach texts c h pairs newly told) where
   as_long : length c.heap.terms ≤ length h.terms
   as_long = omega (arith, ap length equal.terms, length-map c.heap.terms (apply equal.unifier))
-
-  for_each : (st : State) (p : Pending) → IsReadyAs texts c st → IsWork texts c st pairs told [] p → CallsFor texts c h newly told [] st p
-  for_each st p r w = equated_calls texts c h pairs newly told [] st p different r equal names there w
-
-  pub some_called : IsReady texts c → SomeIsCalled texts (with_terms c h) newly told []
-  some_called r = equated_called texts c h pairs newly told [] different r equal names m
 
   pub all_go_on : (d : Contents) (lists later : List (List Cell)) (rest k : ℕ) → OfCalls texts (with_terms c h) newly told [] (HasWoken texts (with_terms c h) d lists later rest k)
       → GoesOn texts (c, lists) (d, later) pairs told rest k
@@ -141,11 +132,3 @@ module _ (texts : List Text) (different : AreDifferent texts) (c : Contents) (h 
   -- what a settling says of each call it says of each such work
   pub of_each : (P : State → Pending → Type 0) → OfCalls texts (with_terms c h) newly told [] (λ st p u. P st p) → OfWork texts c pairs told P
   of_each P o st p r w = let call = for_each st p r w in o st p call.unifier call.called
-
--- nothing makes them equal
-pub none_pruned : (texts : List Text) (c : Contents) (pairs : List Pair) (told : List ℕ) → AreDifferent texts → All (MayBeEqual c.heap) pairs
-    → HasNoUnifier (equations c.heap.terms pairs) → OfWork texts c pairs told Prunes
-none_pruned texts c pairs told different m none st p r w =
-    pruned_at_once st p (none_of_trees texts c pairs told [] st p different r.stands.names
-    (All-weaker (MayBeEqual c.heap) (IsLive c.heap.terms) (λ q k. (k.0.live, k.1.live)) pairs m) none w)
-

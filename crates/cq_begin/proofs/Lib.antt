@@ -4,3 +4,4 @@ mod Begins
 mod Leading
 mod Marks
 mod Newer
+mod Clauses

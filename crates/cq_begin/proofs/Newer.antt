@@ -1,5 +1,5 @@
 -- A world to whose heap terms and new variables were added is the state with as many more variables.
-use Rattle.std.proofs.Common.{◌≡◌, ◌<◌, ◌≤◌, ◌+◌, ◌-◌, ℕ, List, [], ◌∷◌, ◌++◌, length, refl, sym, ap, ◌∙◌, subst, arith, inl, inr, ◌⊎◌}
+use Rattle.std.proofs.Common.{◌≡◌, ◌<◌, ◌≤◌, ◌+◌, ◌-◌, ℕ, List, [], ◌∷◌, ◌++◌, length, Some, refl, sym, ap, ◌∙◌, subst, arith, inl, inr, ◌⊎◌}
 use Rattle.std.specs.List.{AllZip}
 use Rattle.std.proofs.lemmas.Bool.{cases_lt}
 use Rattle.std.proofs.lemmas.List.{get_or_append_left}
@@ -20,9 +20,10 @@ use Rattle.cq_term.specs.Trees.{tree, KnowsTerms}
 use Rattle.cq_unify.specs.Copied.{unbound_from}
 use Rattle.cq_unify.proofs.Places.{variables_now}
 use Rattle.cq_world.specs.Contents.{Contents}
-use Rattle.cq_world.specs.Rest.{IsReadThrough, IsAtRest}
+use Rattle.cq_world.specs.Rest.{IsReadThrough, IsAtRest, IsReadyAs}
 use Rattle.cq_world.specs.Standing.{Stands, AreRead, IsConstraint, IsSleeper, constraints, goals}
-use Rattle.cq_steps.specs.Worlds.{IsBranch, with_heap}
+use Rattle.cq_steps.specs.Worlds.{IsBranch, term_in, with_heap}
+use Rattle.cq_begin.proofs.Reading.{read_live, read_tree, tree_read}
 
 module _ (texts : List Text) (old new : Terms) (n : ℕ) (terms : IsPrefix old.terms new.terms) (images : new.images ≡ old.images ++ unbound_from (length old.images) n) where
   pub more_images : length new.images ≡ length old.images + n
@@ -101,9 +102,9 @@ rests_more st n r = record {
 
 module _ (texts : List Text) (c : Contents) (h : Terms) (n : ℕ) (terms : IsPrefix c.heap.terms h.terms) (images : h.images ≡ c.heap.images ++ unbound_from (length c.heap.images) n)
     (names : KnowsTerms texts h.terms) where
-  module _ (st : State) (b : IsBranch texts c st) where
+  module _ (st : State) (r : IsReadyAs texts c st) where
     abbrev stands : Stands texts c st.bindings st.bindings st
-    stands = b.ready.stands
+    stands = r.stands
 
     inside_by : (v : ℕ) → v < length h.images → (v < length c.heap.images) ⊎ (length c.heap.images ≤ v) → st.bindings v ≡ tree texts h.images v
     inside_by v l (inl early) = stands.bindings.inside v early ∙ sym (image_same texts c.heap h n terms images v early)
@@ -112,20 +113,26 @@ module _ (texts : List Text) (c : Contents) (h : Terms) (n : ℕ) (terms : IsPre
     outside : (v : ℕ) → length h.images ≤ v → st.bindings v ≡ Var v
     outside v l = stands.bindings.outside v (omega (arith, l, more_images texts c.heap h n terms images))
 
-    pub branch_more : IsBranch texts (with_heap h c) (with_new n st)
-    branch_more = record {
-      ready = record {
-        stands = record {
-          bindings = record { inside = λ v l. inside_by v l (cases_lt v (length c.heap.images)); outside = outside };
-          linear = stands.linear;
-          delayed = constraints_same texts c.heap h n terms images st.bindings st.bindings (constraints c.attrs) st.delayed stands.delayed;
-          numeric = stands.numeric;
-          sleepers = sleepers_same texts c.heap h n terms images st.bindings st.bindings (goals c.attrs) st.sleepers stands.sleepers;
-          fresh = more_images texts c.heap h n terms images ∙ ap (λ (m : ℕ). m + n) stands.fresh;
-          names = names;
-        };
-        rests = rests_more st n b.ready.rests;
+    pub ready_more : IsReadyAs texts (with_heap h c) (with_new n st)
+    ready_more = record {
+      stands = record {
+        bindings = record { inside = λ v l. inside_by v l (cases_lt v (length c.heap.images)); outside = outside };
+        linear = stands.linear;
+        delayed = constraints_same texts c.heap h n terms images st.bindings st.bindings (constraints c.attrs) st.delayed stands.delayed;
+        numeric = stands.numeric;
+        sleepers = sleepers_same texts c.heap h n terms images st.bindings st.bindings (goals c.attrs) st.sleepers stands.sleepers;
+        fresh = more_images texts c.heap h n terms images ∙ ap (λ (m : ℕ). m + n) stands.fresh;
+        names = names;
       };
-      fixed = b.fixed;
-      fixes = b.fixes;
+      rests = rests_more st n r.rests;
     }
+
+  pub branch_more : (st : State) → IsBranch texts c st → IsBranch texts (with_heap h c) (with_new n st)
+  branch_more st b = record { ready = ready_more st b.ready; fixed = b.fixed; fixes = b.fixes }
+
+  -- each term is read as it was
+  pub read_still : (id : ℕ) (t : Tree) → term_in texts c id ≡ Some t → term_in texts (with_heap h c) id ≡ Some t
+  read_still id t e =
+      let l = read_live texts c.heap.terms id t e in
+      tree_read texts h.terms id t (prefix_within c.heap.terms h.terms id terms l)
+      (tree_same texts c.heap h n terms images id l ∙ read_tree texts c.heap.terms id t e)

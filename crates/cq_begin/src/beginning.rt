@@ -18,7 +18,7 @@ use crate::waking::wake;
 use cq_atoms::Atoms;
 use cq_control::{Continuation, Continuations};
 use cq_linear::store::StoreFault;
-use cq_rest::equate;
+use cq_rest::{equate, equated_worlds_may_be_settled};
 use cq_settle::{Settled, Work, settle};
 use cq_term::TermId;
 use cq_trail::Undo;
@@ -87,7 +87,7 @@ pub fn begin(
 }
 
 /// The same, but for what was done before the branch was pruned, or before an error.
-fn run(
+pub(crate) fn run(
     world: &mut World,
     lists: &mut Continuations<Cell>,
     atoms: &Atoms,
@@ -112,6 +112,7 @@ fn run(
     ensures lists { lists.new.saved ≡ lists.old.saved }
     ensures marks { KeepsMarks world.old world.new }
 {
+    equated_worlds_may_be_settled();
     let Some(newly) = equate(&mut world.heap, pairs)? else {
         return Ok(Begun::Pruned);
     };

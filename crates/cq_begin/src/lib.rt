@@ -3,8 +3,10 @@
 #![tactic(auto)]
 
 mod beginning;
+mod clauses;
 mod rows;
 mod waking;
 
 pub use beginning::{Begun, begin};
+pub use clauses::begin_clause;
 pub use rows::{tell, unify};

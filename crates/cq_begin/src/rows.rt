@@ -22,7 +22,7 @@ use crate::beginning::{Begun, begin};
 use cq_atoms::Atoms;
 use cq_control::{Continuation, Continuations};
 use cq_linear::store::StoreFault;
-use cq_rest::{look_at_pairs, look_at_told};
+use cq_rest::{equated_worlds_may_be_settled, look_at_pairs, look_at_told};
 use cq_term::TermId;
 use cq_walk::Pair;
 use cq_world::World;
@@ -64,6 +64,7 @@ pub fn unify(
     ensures budget { world.new.store.pivots ≡ world.old.store.pivots }
     ensures room { room_of world.old ≤ room_of world.new }
 {
+    equated_worlds_may_be_settled();
     look_at_pairs(&world.heap, pairs);
     let told = Vec::new(world.heap.alloc());
     begin(world, lists, atoms, pairs, told, rest)
@@ -104,6 +105,7 @@ pub fn tell(
     ensures budget { world.new.store.pivots ≡ world.old.store.pivots }
     ensures room { room_of world.old ≤ room_of world.new }
 {
+    equated_worlds_may_be_settled();
     look_at_told(&world.heap, &told);
     begin(world, lists, atoms, &[], told, rest)
 }

@@ -15,7 +15,7 @@ use Rattle.spec_terms.specs.Names.{AreDifferentBelow, EachNameInPairs, named_pai
 use Rattle.spec_terms.proofs.Renamed.{unifier_by_texts, none_by_texts}
 use Rattle.spec_terms.proofs.Substitution.{apply-followed_by, named-apply}
 use Rattle.spec_syntax.specs.Trees.{Tree}
-use Rattle.spec_branch.specs.Branch.{State, Pending, no_work, Asleep, Frozen, Sleeper, read}
+use Rattle.spec_branch.specs.Branch.{State, Pending, Asleep, Frozen, Sleeper, read}
 use Rattle.spec_branch.specs.Settling.{is_the_variable, is_bound}
 use Rattle.cq_atoms.specs.Texts.{AreDifferent, text_of}
 use Rattle.cq_attr.specs.Attributes.{Waiting}
@@ -35,7 +35,7 @@ use Rattle.cq_world.specs.Standing.{AreImages, Stands, IsConstraint, IsSleeper, 
 use Rattle.cq_world.specs.Rest.{IsReadThrough, IsReadyAs, IsReady}
 use Rattle.cq_settle.specs.Called.{IsCalled, IsNewlyBound, SomeIsCalled, bound_state}
 use Rattle.cq_rest.specs.Ready.{MayBeTold, with_terms}
-use Rattle.cq_rest.specs.Equal.{MayBeEqual, AllEqual, IsWork, CallsFor}
+use Rattle.cq_rest.specs.Equal.{MayBeEqual, AllEqual, IsWork, work_of, CallsFor}
 use Rattle.cq_rest.proofs.Alone.{StandsIn, stands_or_not, stays_itself}
 use Rattle.cq_rest.proofs.Bound.{bound_through}
 use Rattle.cq_rest.proofs.Names.{occurs_named, named_variable, each_below, image_below}
@@ -307,37 +307,34 @@ module _ (texts : List Text) (different : AreDifferent texts) (c : Contents) (h 
       pub calls_for : CallsFor texts c h newly told rows st p
       calls_for = record { unifier = u; called = equated; reads = reads_on }
 
-  -- ---- some work
+-- ---- some work
 
-  read_pairs : (qs : List Pair) → All (MayBeEqual c.heap) qs → read_under st.bindings (named_pairs (text_of texts) (equations c.heap.terms qs)) ≡ named_pairs (text_of texts) (equations c.heap.terms qs)
+module _ (texts : List Text) (c : Contents) (st : State) (r : IsReadyAs texts c st) where
+  read_pairs : (ps : List Pair) → All (MayBeEqual c.heap) ps
+      → read_under st.bindings (named_pairs (text_of texts) (equations c.heap.terms ps)) ≡ named_pairs (text_of texts) (equations c.heap.terms ps)
   read_pairs [] m = refl
-  read_pairs (q ∷ qs) m =
-      let here = All-head (MayBeEqual c.heap) q qs m in
-      λ i. record {
-        left = sym (itself texts c.heap st.bindings r.stands.bindings q.left here.0) i;
-        right = sym (itself texts c.heap st.bindings r.stands.bindings q.right here.1) i;
-      } ∷ read_pairs qs (All-tail (MayBeEqual c.heap) q qs m) i
+  read_pairs (p ∷ ps) m =
+      let here = All-head (MayBeEqual c.heap) p ps m in
+      let left = sym (itself texts c.heap st.bindings r.stands.bindings p.left here.0) in
+      let right = sym (itself texts c.heap st.bindings r.stands.bindings p.right here.1) in
+      λ i. record { left = left i; right = right i } ∷ read_pairs ps (All-tail (MayBeEqual c.heap) p ps m) i
 
-  module _ (told : List ℕ) (rows : List Constraint) (m : All (MayBeTold c.heap) told) where
-    work : Pending
-    work = record no_work { equations = trees_of_pairs; rows = rows; told = trees texts c.heap.terms told }
+  pub is_work : (ps : List Pair) (told : List ℕ) (rows : List Constraint) → All (MayBeEqual c.heap) ps → All (MayBeTold c.heap) told
+      → IsWork texts c st ps told rows (work_of texts c ps told rows)
+  is_work ps told rows m n = record { equations = read_pairs ps m; told = sym (themselves texts c.heap st.bindings r.stands.bindings told n); rows = refl }
 
-    is_work : IsWork texts c st ps told rows work
-    unfolding work
-    is_work = record {
-      equations = read_pairs ps k.read_through;
-      told = sym (themselves texts c.heap st.bindings r.stands.bindings told m);
-      rows = refl;
-    }
-
-    is_equated : SomeIsCalled texts (with_terms c h) newly told rows
-    is_equated = record { state = st; pending = work; unifier = u; is = equated told rows (live c.heap told m) work is_work }
-
-pub equated_called : (texts : List Text) (c : Contents) (h : Terms) (ps : List Pair) (newly : List VarId) (told : List ℕ) (rows : List Constraint) → AreDifferent texts → IsReady texts c
-    → AllEqual c.heap h ps newly → KnowsTerms texts h.terms → All (MayBeTold c.heap) told → SomeIsCalled texts (with_terms c h) newly told rows
-equated_called texts c h ps newly told rows different r k names m = is_equated texts different c h ps newly r.0 r.1 k names told rows m
+pub works : (texts : List Text) (c : Contents) (pairs : List Pair) (told : List ℕ) (rows : List Constraint) (st : State) → IsReadyAs texts c st → All (MayBeEqual c.heap) pairs
+    → All (MayBeTold c.heap) told → IsWork texts c st pairs told rows (work_of texts c pairs told rows)
+works texts c pairs told rows st r m n = is_work texts c st r pairs told rows m n
 
 pub equated_calls : (texts : List Text) (c : Contents) (h : Terms) (ps : List Pair) (newly : List VarId) (told : List ℕ) (rows : List Constraint) (st : State) (p : Pending)
     → AreDifferent texts → IsReadyAs texts c st → AllEqual c.heap h ps newly → KnowsTerms texts h.terms → All (λ id. id < length c.heap.terms) told
     → IsWork texts c st ps told rows p → CallsFor texts c h newly told rows st p
 equated_calls texts c h ps newly told rows st p different r k names l w = calls_for texts different c h ps newly st r k names told rows l p w
+
+pub equated_called : (texts : List Text) (c : Contents) (h : Terms) (ps : List Pair) (newly : List VarId) (told : List ℕ) (rows : List Constraint) → AreDifferent texts → IsReady texts c
+    → AllEqual c.heap h ps newly → KnowsTerms texts h.terms → All (MayBeTold c.heap) told → SomeIsCalled texts (with_terms c h) newly told rows
+equated_called texts c h ps newly told rows different r k names m =
+    let w = works texts c ps told rows r.0 r.1 k.read_through m in
+    let call = equated_calls texts c h ps newly told rows r.0 (work_of texts c ps told rows) different r.1 k names (live c.heap told m) w in
+    record { state = r.0; pending = work_of texts c ps told rows; unifier = call.unifier; is = call.called }

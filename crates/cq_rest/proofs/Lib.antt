@@ -1,8 +1,8 @@
 mod Names
 mod Beginning
-pub mod Told
+mod Told
 mod Alone
 mod Pairs
 mod Bound
-pub mod Equated
+mod Equated
 mod Asleep

@@ -7,7 +7,7 @@ use Rattle.spec_terms.specs.Names.{named_pairs}
 use Rattle.spec_terms.specs.Term.{Subst, apply, followed_by}
 use Rattle.spec_terms.specs.Unifier.{IsUnifier, read_under}
 use Rattle.spec_syntax.specs.Trees.{Tree}
-use Rattle.spec_branch.specs.Branch.{State, Pending, read}
+use Rattle.spec_branch.specs.Branch.{State, Pending, no_work, read}
 use Rattle.cq_atoms.specs.Texts.{text_of}
 use Rattle.cq_frac.specs.declared.VarId.{VarId}
 use Rattle.cq_term.specs.HeapValue.{Terms}
@@ -38,6 +38,11 @@ pub record IsWork (texts : List Text) (c : Contents) (st : State) (pairs : List 
   pub equations : read_under st.bindings p.equations ≡ named_pairs (text_of texts) (equations c.heap.terms pairs)
   pub told : map (read st) p.told ≡ trees texts c.heap.terms told
   pub rows : rows ≡ p.rows
+
+-- such work, with the terms as they read
+abbrev pub work_of : List Text → Contents → List Pair → List ℕ → List Constraint → Pending
+work_of texts c pairs told rows =
+    record no_work { equations = named_pairs (text_of texts) (equations c.heap.terms pairs); rows = rows; told = trees texts c.heap.terms told }
 
 -- Settling of the work is called for in a world with the terms h, by a unifier under which each older term is read on.
 pub record CallsFor (texts : List Text) (c : Contents) (h : Terms) (newly : List VarId) (told : List ℕ) (rows : List Constraint) (st : State) (p : Pending)

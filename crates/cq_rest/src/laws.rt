@@ -18,7 +18,7 @@ ghost use Rattle.cq_world.specs.Contents.{Contents};
 ghost use Rattle.cq_world.specs.Rest.{IsReady, IsReadyAs};
 ghost use Rattle.cq_settle.specs.Called.{SomeIsCalled, OfCalls};
 ghost use Rattle.cq_settle.specs.Settled.{IsKept};
-ghost use Rattle.cq_rest.specs.Equal.{AllEqual, IsWork, CallsFor};
+ghost use Rattle.cq_rest.specs.Equal.{MayBeEqual, AllEqual, IsWork, work_of, CallsFor};
 ghost use Rattle.cq_rest.specs.Ready.{KnowsNothing, MayBeTold, with_terms, with_attributes};
 
 /// A world in which nothing was told or bound has nothing left to settle.
@@ -47,8 +47,8 @@ pub fn kept_worlds_are_ready()
 {}
 
 /// Where nothing was left to settle and pairs of terms were made equal, settling is called for: of each work of a branch that
-/// these pairs and the told terms are, in each state of the world. Where nothing makes the pairs equal, nothing makes those
-/// of the work equal.
+/// these pairs and the told terms are, in each state of the world. The terms as they read are such work. Where nothing makes
+/// the pairs equal, nothing makes those of the work equal.
 pub fn equated_worlds_may_be_settled()
     ensures called { (texts : List Text) (c : Contents) (h : Terms) (pairs : List Pair) (newly : List VarId) (told : List ℕ) (rows : List Constraint)
         → AreDifferent texts → IsReady texts c → AllEqual c.heap h pairs newly → KnowsTerms texts h.terms → All (MayBeTold c.heap) told
@@ -56,6 +56,9 @@ pub fn equated_worlds_may_be_settled()
     ensures each { (texts : List Text) (c : Contents) (h : Terms) (pairs : List Pair) (newly : List VarId) (told : List ℕ) (rows : List Constraint) (st : State)
         (p : Pending) → AreDifferent texts → IsReadyAs texts c st → AllEqual c.heap h pairs newly → KnowsTerms texts h.terms
         → All (λ id. id < length c.heap.terms) told → IsWork texts c st pairs told rows p → CallsFor texts c h newly told rows st p }
+    ensures work { (texts : List Text) (c : Contents) (pairs : List Pair) (told : List ℕ) (rows : List Constraint) (st : State)
+        → IsReadyAs texts c st → All (MayBeEqual c.heap) pairs → All (MayBeTold c.heap) told
+        → IsWork texts c st pairs told rows (work_of texts c pairs told rows) }
     ensures none { (texts : List Text) (c : Contents) (pairs : List Pair) (told : List ℕ) (rows : List Constraint) (st : State) (p : Pending)
         → AreDifferent texts → KnowsTerms texts c.heap.terms → All (IsLive c.heap.terms) pairs → HasNoUnifier (equations c.heap.terms pairs)
         → IsWork texts c st pairs told rows p → HasNoUnifier (read_under st.bindings p.equations) }
