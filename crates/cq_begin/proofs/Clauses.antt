@@ -69,7 +69,7 @@ module _ (texts : List Text) (choices : Stack Contents) (c : Contents) (h : Term
       ∙ sym (ap₂ (λ (x y : HeapTerm). record { head = named (text_of texts) x; body = named (text_of texts) y }) head_is body_is)
 
   goal_is : tree texts h.terms id ≡ goal
-  goal_is = read_tree texts h.terms id goal (read_still texts c h kept.variables terms images names id goal call.goal)
+  goal_is = read_tree texts h.terms id goal (read_still texts c h kept.variables terms images names id goal call.reads)
 
   -- ---- the world with the new variables
 

@@ -34,7 +34,7 @@ pub record IsCallOf (texts : List Text) (choices : Stack Contents) (now : Value 
   pub within : height ≤ length choices
   pub goes_back : p.height ≡ below choices height
   pub fits : Fits height (items_at now.1 rest)
-  pub goal : term_in texts now.0 id ≡ Some goal
+  pub reads : term_in texts now.0 id ≡ Some goal
   pub parts : c.parts ≡ as_parts texts kept
 
 -- what holds of the state and the work of the clause's branch

@@ -99,7 +99,7 @@ pub none_of_trees : (texts : List Text) (c : Contents) (ps : List Pair) (told : 
     → KnowsTerms texts c.heap.terms → All (IsLive c.heap.terms) ps → HasNoUnifier (equations c.heap.terms ps) → IsWork texts c st ps told rows p
     → HasNoUnifier (read_under st.bindings p.equations)
 none_of_trees texts c ps told rows st p different names l none w =
-    subst HasNoUnifier (sym w.equations)
+    subst (λ (es : List (Equation Text)). HasNoUnifier es) (sym w.pairs_are)
     (none_by_texts (text_of texts) (length texts) (different_below texts different) (equations c.heap.terms ps) (known_pairs texts c.heap names ps l) none)
 
 module _ (texts : List Text) (different : AreDifferent texts) (c : Contents) (h : Terms) (ps : List Pair) (newly : List VarId) (st : State)
@@ -292,7 +292,7 @@ module _ (texts : List Text) (different : AreDifferent texts) (c : Contents) (h 
       equated : IsCalled texts (with_terms c h) newly told rows st p u
       equated = record {
         rests = r.rests;
-        unifier = subst (λ (es : List (Equation Text)). IsUnifier es u) (sym w.equations) named_unifier;
+        unifier = subst (λ (es : List (Equation Text)). IsUnifier es u) (sym w.pairs_are) named_unifier;
         read_through = through;
         stands = stands_now;
         once = numbers_once newly k.once;
@@ -300,8 +300,8 @@ module _ (texts : List Text) (different : AreDifferent texts) (c : Contents) (h 
         numeric = λ v e n. listed v n;
         awaited = λ v n a b. listed v b;
         told_live = still_live told l;
-        told_reads = trees_on told p.told l w.told;
-        rows_are = w.rows;
+        told_reads = trees_on told p.told l w.told_are;
+        rows_are = w.rows_are;
       }
 
       pub calls_for : CallsFor texts c h newly told rows st p
@@ -321,7 +321,7 @@ module _ (texts : List Text) (c : Contents) (st : State) (r : IsReadyAs texts c 
 
   pub is_work : (ps : List Pair) (told : List ℕ) (rows : List Constraint) → All (MayBeEqual c.heap) ps → All (MayBeTold c.heap) told
       → IsWork texts c st ps told rows (work_of texts c ps told rows)
-  is_work ps told rows m n = record { equations = read_pairs ps m; told = sym (themselves texts c.heap st.bindings r.stands.bindings told n); rows = refl }
+  is_work ps told rows m n = record { pairs_are = read_pairs ps m; told_are = sym (themselves texts c.heap st.bindings r.stands.bindings told n); rows_are = refl }
 
 pub works : (texts : List Text) (c : Contents) (pairs : List Pair) (told : List ℕ) (rows : List Constraint) (st : State) → IsReadyAs texts c st → All (MayBeEqual c.heap) pairs
     → All (MayBeTold c.heap) told → IsWork texts c st pairs told rows (work_of texts c pairs told rows)

@@ -35,9 +35,9 @@ pub record AllEqual (old new : Terms) (pairs : List Pair) (bound : List VarId) :
 
 -- the work of a branch in the state: these pairs are to be made equal, and these terms and rows to be told
 pub record IsWork (texts : List Text) (c : Contents) (st : State) (pairs : List Pair) (told : List ℕ) (rows : List Constraint) (p : Pending) : Type 0 where
-  pub equations : read_under st.bindings p.equations ≡ named_pairs (text_of texts) (equations c.heap.terms pairs)
-  pub told : map (read st) p.told ≡ trees texts c.heap.terms told
-  pub rows : rows ≡ p.rows
+  pub pairs_are : read_under st.bindings p.equations ≡ named_pairs (text_of texts) (equations c.heap.terms pairs)
+  pub told_are : map (read st) p.told ≡ trees texts c.heap.terms told
+  pub rows_are : rows ≡ p.rows
 
 -- such work, with the terms as they read
 abbrev pub work_of : List Text → Contents → List Pair → List ℕ → List Constraint → Pending
