@@ -1,6 +1,6 @@
 -- A world whose terms were made equal is called to be settled.
-use Rattle.std.proofs.Common.{◌≡◌, ◌≢◌, ◌<◌, ◌≤◌, ℕ, zero, suc, List, [], ◌∷◌, length, map, get_or, Bool, true, false, Some, refl, sym, ap, ap₂, ◌∙◌, subst, arith, inl, inr}
-use Rattle.std.specs.Prelude.{All, Contains, not, ◌==◌}
+use Rattle.std.proofs.Common.{◌≡◌, ◌≢◌, ◌<◌, ℕ, List, [], ◌∷◌, length, map, get_or, Bool, true, false, Some, refl, sym, ap, ap₂, ◌∙◌, subst, arith, inl, inr}
+use Rattle.std.specs.Prelude.{All, Contains, not}
 use Rattle.std.specs.List.{AllZip, AllPairs}
 use Rattle.std.proofs.lemmas.Bool.{true≢false}
 use Rattle.std.proofs.lemmas.List.{get_or-map, length-map}
@@ -9,7 +9,7 @@ use Rattle.std.proofs.lemmas.Option.{slice_get-get_or}
 use Rattle.spec_linear.specs.Solution.{Constraint}
 use Rattle.spec_lists.specs.Texts.{Text}
 use Rattle.spec_lists.proofs.Tests.{nat_eq-self, nat_eq-same}
-use Rattle.spec_terms.specs.Term.{Subst, Var, Number, Name, Compound, Occurs, apply, followed_by, named}
+use Rattle.spec_terms.specs.Term.{Subst, Var, Number, Name, Compound, apply, followed_by, named}
 use Rattle.spec_terms.specs.Unifier.{Equation, IsUnifier, HasNoUnifier, read_under}
 use Rattle.spec_terms.specs.Names.{AreDifferentBelow, EachNameInPairs, named_pairs, named_images}
 use Rattle.spec_terms.proofs.Renamed.{unifier_by_texts, none_by_texts}

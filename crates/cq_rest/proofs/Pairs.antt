@@ -1,9 +1,9 @@
 -- Pairs of terms that are made equal one after another.
 use Rattle.std.proofs.Common.{◌≡◌, ◌≢◌, ◌<◌, ◌≤◌, ◌+◌, ◌-◌, ◌⊎◌, ℕ, zero, suc, List, [], ◌∷◌, ◌++◌, length, map, take, drop, get_or, refl, sym, ap, ap₂, ◌∙◌, subst, arith, inl, inr, append_assoc, length-append}
-use Rattle.std.specs.Prelude.{All, Contains, ◌↔◌}
+use Rattle.std.specs.Prelude.{All, Contains}
 use Rattle.std.specs.List.{AllPairs}
 use Rattle.std.proofs.lemmas.Bool.{cases_eq, cases_lt}
-use Rattle.std.proofs.lemmas.List.{length-map, map-append, get_or_append_left, get_or-append_right, take_more, take_all}
+use Rattle.std.proofs.lemmas.List.{length-map, map-append, get_or_append_left, get_or-append_right, take_more}
 use Rattle.std.proofs.lemmas.List.Elements.{All-head, All-tail, All-push, All-get_or, Contains-get_or, Contains-append_left, Contains-append_right, Contains-append_cases}
 use Rattle.spec_terms.specs.Term.{Subst, Var, Number, Name, Compound, Occurs, apply, identity, followed_by}
 use Rattle.spec_terms.specs.Unifier.{Equation, IsUnifier, HasNoUnifier, read_under}
@@ -16,10 +16,10 @@ use Rattle.cq_term.specs.Shown.{IsUnbound}
 use Rattle.cq_term.proofs.Meanings.{at-map}
 use Rattle.cq_unify.specs.Unified.{Unified, equation, in_turn, IsNewlyBound}
 use Rattle.cq_unify.proofs.Progress.{map-identity}
-use Rattle.cq_walk.specs.Pairs.{IsLive, equation_of, equations}
+use Rattle.cq_walk.specs.Pairs.{equation_of, equations}
 use Rattle.cq_walk.specs.declared.pairs.Pair.{Pair}
 use Rattle.cq_rest.specs.Equal.{MayBeEqual, AllEqual}
-use Rattle.cq_rest.proofs.Alone.{StandsIn, stands_or_not, only_variable, own_or_paired}
+use Rattle.cq_rest.proofs.Alone.{StandsIn, only_variable, own_or_paired}
 
 -- ---- variables
 
@@ -191,28 +191,22 @@ split_at [] i d l = absurd (omega (arith, l))
 split_at (x ∷ xs) zero d l = refl
 split_at {X} (x ∷ xs) (suc i) d l = ap (λ (ys : List X). x ∷ ys) (split_at xs i d (omega (arith, l)))
 
-module _ (old mid : Terms) (pairs : List Pair) (i : ℕ) (d : Pair) (before : List VarId) (l : i < length pairs) (m : All (MayBeEqual old) pairs)
-    (e : AllEqual old mid (take i pairs) before) where
-  abbrev pair : Pair
-  pair = get_or pairs i d
-
+module _ (old mid : Terms) (pairs : List Pair) (i : ℕ) (pair : Pair) (is : pair ≡ get_or pairs i pair) (before : List VarId) (l : i < length pairs)
+    (m : All (MayBeEqual old) pairs) (e : AllEqual old mid (take i pairs) before) where
   here : MayBeEqual old pair
-  here = All-get_or (MayBeEqual old) pairs i d l m
+  here = subst (MayBeEqual old) (sym is) (All-get_or (MayBeEqual old) pairs i pair l m)
 
-  as_long : length mid.terms ≡ length old.terms
-  as_long = ap length e.terms ∙ length-map old.terms (apply e.unifier)
+  one_more : take (i + 1) pairs ≡ take i pairs ++ pair ∷ []
+  one_more = take_more pairs i pair l ∙ ap (λ (p : Pair). take i pairs ++ p ∷ []) (sym is)
 
-  pub next_live : IsLive mid.terms pair
-  next_live = (omega (arith, here.0.live, as_long), omega (arith, here.1.live, as_long))
+  whole : take i pairs ++ pair ∷ drop (suc i) pairs ≡ pairs
+  whole = ap (λ (p : Pair). take i pairs ++ p ∷ drop (suc i) pairs) is ∙ split_at pairs i pair l
 
   pub next_equal : (new : Terms) (after : List VarId) → ((more : List VarId) × (after ≡ before ++ more) × Unified mid new pair.left pair.right more)
       → AllEqual old new (take (i + 1) pairs) after
   next_equal new after u =
       subst (λ (vs : List VarId). AllEqual old new (take (i + 1) pairs) vs) (sym u.1)
-      (subst (λ (ps : List Pair). AllEqual old new ps (before ++ u.0)) (sym (take_more pairs i d l)) (equal_more old mid (take i pairs) pair before e here new u.0 u.2))
+      (subst (λ (ps : List Pair). AllEqual old new ps (before ++ u.0)) (sym one_more) (equal_more old mid (take i pairs) pair before e here new u.0 u.2))
 
   pub next_none : HasNoUnifier (equation mid pair.left pair.right) → HasNoUnifier (equations old.terms pairs)
-  next_none none = subst (λ (ps : List Pair). HasNoUnifier (equations old.terms ps)) (split_at pairs i d l) (equal_none old mid (take i pairs) pair before e here none (drop (suc i) pairs))
-
-pub all_equal : (old new : Terms) (pairs : List Pair) (i : ℕ) (bound : List VarId) → length pairs ≤ i → AllEqual old new (take i pairs) bound → AllEqual old new pairs bound
-all_equal old new pairs i bound l e = subst (λ (ps : List Pair). AllEqual old new ps bound) (take_all i pairs l) e
+  next_none none = subst (λ (ps : List Pair). HasNoUnifier (equations old.terms ps)) whole (equal_none old mid (take i pairs) pair before e here none (drop (suc i) pairs))

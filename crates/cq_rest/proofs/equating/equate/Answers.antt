@@ -1,6 +1,5 @@
 use Rattle.std.proofs.Common.{◌<◌, [], Ok, List, length, refl, ap, ◌∙◌, sym, subst, arith}
 use Rattle.cq_frac.specs.declared.VarId.{VarId}
-use Rattle.cq_walk.specs.declared.pairs.Pair.{Pair}
 use Rattle.cq_rest.specs.Equal.{AllEqual}
 use Rattle.cq_rest.proofs.Pairs.{equal_start, next_equal, next_none}
 use Rattle.cq_rest.proofs.equating.equate.Goals as goal
@@ -16,14 +15,14 @@ loop-pair-init c = record {
 pub returns-then-not-branch-clause-none : goal.returns-then-not-branch-clause-none
 returns-then-not-branch-clause-none c = λ _.
     let here : c.loop-pair.pair-index < length c.args.pairs.now = omega (arith, c.loop-pair-test.true) in
-    next_none c.args.heap.now.now c.loop-pair.heap.now c.args.pairs.now c.loop-pair.pair-index (record { left = 0; right = 0 }) c.loop-pair.newly here c.requires
+    next_none c.args.heap.now.now c.loop-pair.heap.now c.args.pairs.now c.loop-pair.pair-index c.pair-item.result c.pair-item.is c.loop-pair.newly here c.requires
     c.loop-pair.invariant.equal (c.in_ok-unify.ensures.none (ap Ok c.if-not-branch.true))
 
 pub loop-pair-preserved : goal.loop-pair-preserved
 loop-pair-preserved c =
     let here : c.loop-pair.pair-index < length c.args.pairs.now = omega (arith, c.loop-pair-test.true) in
     record {
-      equal = next_equal c.args.heap.now.now c.loop-pair.heap.now c.args.pairs.now c.loop-pair.pair-index (record { left = 0; right = 0 }) c.loop-pair.newly here c.requires
+      equal = next_equal c.args.heap.now.now c.loop-pair.heap.now c.args.pairs.now c.loop-pair.pair-index c.pair-item.result c.pair-item.is c.loop-pair.newly here c.requires
           c.loop-pair.invariant.equal c.unify.new.heap.now c.unify.new.newly (c.in_ok-unify.ensures.unified (ap Ok c.if-not-branch.false));
       names = λ n k. c.in_ok-unify.ensures.names n (c.loop-pair.invariant.names n k);
       saved = c.in_ok-unify.ensures.saved ∙ c.loop-pair.invariant.saved;
