@@ -30,7 +30,7 @@ use Rattle.cq_steps.specs.Lists.{HasCells}
 use Rattle.cq_steps.specs.Worlds.{IsBranch, term_in}
 use Rattle.cq_begin.specs.Begun.{calls, HasWoken, IsPlacedAs, IsBegun, OfWork, GoesOn, Prunes}
 use Rattle.cq_begin.proofs.Reading.{read_live, read_tree, tree_read}
-use Rattle.cq_begin.proofs.Waking.{woken_calls, calls_fit, calls_are}
+use Rattle.cq_begin.proofs.Woken.{woken_calls, calls_fit, calls_are}
 
 -- ---- the values that are fixed
 

@@ -1,7 +1,8 @@
 mod Reading
-mod Waking
+mod Woken
 mod Begins
 mod Leading
 mod Marks
 mod Newer
-mod Clauses
+mod Stopping
+mod Instances

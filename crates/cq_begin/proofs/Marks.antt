@@ -18,10 +18,6 @@ same_saved v w k =
     ap₂ (λ (n : ℕ) (p : List Terms × (List Attributes × List (List Constraint))). map contents_of (zip p.0 (zip p.1.0 (map (kept n) p.1.1))))
     k.pivots (λ i. (k.heap i, (k.attrs i, k.store i)))
 
--- a heap that keeps its marks, in a world
-pub heap_marks : (v w : World) → w.heap.saved ≡ v.heap.saved → v.heap.room ≤ w.heap.room → w.attrs ≡ v.attrs → w.store ≡ v.store → KeepsMarks v w
-heap_marks v w h r a s = ?
-
 pub marks_then : (u v w : World) → KeepsMarks u v → KeepsMarks v w → KeepsMarks u w
 marks_then u v w j k = record { heap = k.heap ∙ j.heap; attrs = k.attrs ∙ j.attrs; store = k.store ∙ j.store; pivots = k.pivots ∙ j.pivots; room = omega (arith, j.room, k.room) }
 

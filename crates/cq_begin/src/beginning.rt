@@ -22,7 +22,6 @@ use cq_rest::{equate, equated_worlds_may_be_settled};
 use cq_settle::{Settled, Work, settle};
 use cq_term::TermId;
 use cq_trail::Undo;
-use cq_walk::Pair;
 use cq_world::World;
 use spec_machine::Cell;
 
@@ -41,7 +40,7 @@ pub fn begin(
     world: &mut World,
     lists: &mut Continuations<Cell>,
     atoms: &Atoms,
-    pairs: &[Pair],
+    pairs: &[cq_walk::Pair],
     told: Vec<TermId>,
     rest: Continuation,
 ) -> Result<Begun, StoreFault>
@@ -71,14 +70,16 @@ pub fn begin(
 {
     let start = world.mark()?;
     match run(world, lists, atoms, pairs, told, rest) {
-        Ok(Begun::Goes(first)) => {
-            world.forget(start);
-            Ok(Begun::Goes(first))
-        }
-        Ok(Begun::Pruned) => {
-            world.undo(start);
-            Ok(Begun::Pruned)
-        }
+        Ok(begun) => match begun {
+            Begun::Goes(first) => {
+                world.forget(start);
+                Ok(Begun::Goes(first))
+            }
+            Begun::Pruned => {
+                world.undo(start);
+                Ok(Begun::Pruned)
+            }
+        },
         Err(fault) => {
             world.undo(start);
             Err(fault)
@@ -91,7 +92,7 @@ pub(crate) fn run(
     world: &mut World,
     lists: &mut Continuations<Cell>,
     atoms: &Atoms,
-    pairs: &[Pair],
+    pairs: &[cq_walk::Pair],
     told: Vec<TermId>,
     rest: Continuation,
 ) -> Result<Begun, StoreFault>

@@ -26,7 +26,6 @@ use cq_rest::{equated_worlds_may_be_settled, look_at, look_at_pairs};
 use cq_stored::Clause;
 use cq_term::{Heap, TermId, View};
 use cq_trail::Undo;
-use cq_walk::Pair;
 use cq_world::World;
 use spec_machine::Cell;
 use std::alloc::AllocError;
@@ -68,14 +67,16 @@ pub fn begin_clause(
 {
     let start = world.mark()?;
     match try_clause(world, lists, atoms, clause, goal, height, rest) {
-        Ok(Begun::Goes(first)) => {
-            world.forget(start);
-            Ok(Begun::Goes(first))
-        }
-        Ok(Begun::Pruned) => {
-            world.undo(start);
-            Ok(Begun::Pruned)
-        }
+        Ok(begun) => match begun {
+            Begun::Goes(first) => {
+                world.forget(start);
+                Ok(Begun::Goes(first))
+            }
+            Begun::Pruned => {
+                world.undo(start);
+                Ok(Begun::Pruned)
+            }
+        },
         Err(fault) => {
             world.undo(start);
             Err(fault)
@@ -113,7 +114,7 @@ fn try_clause(
     let (head, body) = clause.rename(&mut world.heap)?;
     look_at(&world.heap, body);
     let behind = body_before(&world.heap, lists, atoms, body, height, rest)?;
-    let pairs = [Pair {
+    let pairs = [cq_walk::Pair {
         left: goal,
         right: head,
     }];

@@ -4,9 +4,11 @@
 
 mod beginning;
 mod clauses;
+mod laws;
 mod rows;
 mod waking;
 
 pub use beginning::{Begun, begin};
 pub use clauses::begin_clause;
+pub use laws::{rows_stop, settlings_stop};
 pub use rows::{tell, unify};

@@ -24,7 +24,6 @@ use cq_control::{Continuation, Continuations};
 use cq_linear::store::StoreFault;
 use cq_rest::{equated_worlds_may_be_settled, look_at_pairs, look_at_told};
 use cq_term::TermId;
-use cq_walk::Pair;
 use cq_world::World;
 use spec_machine::Cell;
 
@@ -35,7 +34,7 @@ pub fn unify(
     world: &mut World,
     lists: &mut Continuations<Cell>,
     atoms: &Atoms,
-    pairs: &[Pair],
+    pairs: &[cq_walk::Pair],
     rest: Continuation,
 ) -> Result<Begun, StoreFault>
     requires ready { IsReady atoms.now (now_of world.old) }
