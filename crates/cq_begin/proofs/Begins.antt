@@ -1,7 +1,9 @@
 -- A branch that was begun, by what its settling made of the world.
 use Rattle.std.proofs.Common.{◌≡◌, ◌<◌, ◌≤◌, ℕ, List, [], ◌∷◌, ◌++◌, length, Option, None, Some, refl, sym, ap, ◌∙◌, subst, arith}
-use Rattle.std.specs.Prelude.{⊤}
+use Rattle.std.specs.Prelude.{⊤, All, IfOk, Ok, Err}
+use Rattle.std.specs.declared.result.Result.{Result}
 use Rattle.std.proofs.lemmas.List.{length-map}
+use Rattle.std.proofs.lemmas.List.Elements.{All-weaker}
 use Rattle.spec_rational.specs.Rational.{ℚ}
 use Rattle.spec_linear.specs.Solution.{Constraint, Fixes}
 use Rattle.spec_lists.specs.Texts.{Text}
@@ -13,10 +15,12 @@ use Rattle.spec_branch.specs.Settling.{Settles, no_unifier, unified, SettlesUnif
 use Rattle.spec_branch.specs.Settling as outcome
 use Rattle.cq_control.specs.Items.{items_at}
 use Rattle.cq_frac.specs.declared.VarId.{VarId}
+use Rattle.cq_linear.specs.declared.store.StoreFault.{StoreFault}
 use Rattle.cq_settle.specs.Called.{OfCalls}
 use Rattle.cq_settle.specs.Settled.{IsKept, IsPruned, woken_goals}
 use Rattle.cq_term.specs.HeapValue.{Terms}
 use Rattle.cq_term.specs.Trees.{tree}
+use Rattle.cq_walk.specs.Pairs.{IsLive}
 use Rattle.cq_walk.specs.declared.pairs.Pair.{Pair}
 use Rattle.cq_world.specs.Contents.{Contents}
 use Rattle.cq_world.specs.Rest.{IsReadyAs}
@@ -24,11 +28,13 @@ use Rattle.spec_machine.specs.declared.cell.Cell.{Cell}
 use Rattle.spec_machine.specs.Cells.{Fits, Stack}
 use Rattle.spec_machine.specs.Standing.{AreItems}
 use Rattle.spec_machine.proofs.Kept.{items_read_on}
-use Rattle.cq_rest.specs.Equal.{AllEqual, IsWork, CallsFor}
-use Rattle.cq_rest.specs.Ready.{with_terms}
+use Rattle.cq_rest.specs.Equal.{MayBeEqual, AllEqual, IsWork, CallsFor}
+use Rattle.cq_rest.specs.Ready.{MayBeTold, with_terms}
 use Rattle.cq_steps.specs.Lists.{HasCells}
 use Rattle.cq_steps.specs.Worlds.{IsBranch, term_in}
-use Rattle.cq_begin.specs.Begun.{calls, HasWoken, IsPlacedAs, IsBegun, OfWork, GoesOn, Prunes}
+use Rattle.cq_begin.specs.declared.beginning.Begun.{Begun}
+use Rattle.cq_begin.specs.declared.beginning.Begun.TheVariants.{Goes, Pruned}
+use Rattle.cq_begin.specs.Begun.{calls, IfGoes, IfPruned, HasWoken, IsPlacedAs, IsBegun, OfWork, GoesOn, Prunes}
 use Rattle.cq_begin.proofs.Reading.{read_live, read_tree, tree_read}
 use Rattle.cq_begin.proofs.Woken.{woken_calls, calls_fit, calls_are}
 
@@ -129,6 +135,30 @@ module _ (texts : List Text) (c : Contents) (h : Terms) (pairs : List Pair) (new
   pub all_pruned : OfCalls texts (with_terms c h) newly told [] IsPruned → OfWork texts c pairs told Prunes
   all_pruned o st p r w = pruned_by texts c h newly told [] st p o (for_each st p r w)
 
-  -- what a settling says of each call it says of each such work
-  pub of_each : (P : State → Pending → Type 0) → OfCalls texts (with_terms c h) newly told [] (λ st p u. P st p) → OfWork texts c pairs told P
-  of_each P o st p r w = let call = for_each st p r w in o st p call.unifier call.called
+  module _ (rows : List Constraint) (none : rows ≡ []) where
+    without_rows : (P : State → Pending → Subst Text → Type 0) → OfCalls texts (with_terms c h) newly told rows P → OfCalls texts (with_terms c h) newly told [] P
+    without_rows P o = subst (λ (l : List Constraint). OfCalls texts (with_terms c h) newly told l P) none o
+
+    -- what a settling says of each call it says of each such work
+    pub of_each : (P : State → Pending → Type 0) → OfCalls texts (with_terms c h) newly told rows (λ st p u. P st p) → OfWork texts c pairs told P
+    of_each P o st p r w = let call = for_each st p r w in without_rows (λ x q u. P x q) o st p call.unifier call.called
+
+    pub goes_ok : (d : Contents) (lists later : List (List Cell)) (rest : ℕ) (result : Result Begun StoreFault)
+        → IfOk result (λ b. IfGoes b (λ k. OfCalls texts (with_terms c h) newly told rows (HasWoken texts (with_terms c h) d lists later rest k)))
+        → IfOk result (λ b. IfGoes b (GoesOn texts (c, lists) (d, later) pairs told rest))
+    goes_ok d lists later rest (Ok (Goes k)) o = all_go_on d lists later rest k (without_rows (HasWoken texts (with_terms c h) d lists later rest k) o)
+    goes_ok d lists later rest (Ok Pruned) o = tt
+    goes_ok d lists later rest (Err e) o = tt
+
+    pub pruned_ok : (result : Result Begun StoreFault) → IfOk result (λ b. IfPruned b (OfCalls texts (with_terms c h) newly told rows IsPruned))
+        → IfOk result (λ b. IfPruned b (OfWork texts c pairs told Prunes))
+    pruned_ok (Ok (Goes k)) o = tt
+    pruned_ok (Ok Pruned) o = all_pruned (without_rows IsPruned o)
+    pruned_ok (Err e) o = tt
+
+-- pairs that may be equal are there
+pub pairs_live : (h : Terms) (pairs : List Pair) → All (MayBeEqual h) pairs → All (IsLive h.terms) pairs
+pairs_live h pairs m = All-weaker (MayBeEqual h) (IsLive h.terms) (λ q k. (k.0.live, k.1.live)) pairs m
+
+pub told_live : (h : Terms) (told : List ℕ) → All (MayBeTold h) told → All (λ id. id < length h.terms) told
+told_live h told m i d l = (m i d l).live

@@ -1,6 +1,7 @@
 -- A clause of a call that was put under new variables, as work of the world with those.
 use Rattle.std.proofs.Common.{◌≡◌, ◌<◌, ◌≤◌, ◌+◌, ℕ, List, [], ◌∷◌, ◌++◌, length, Bool, true, false, Some, refl, sym, ap, ap₂, ◌∙◌, subst, arith}
-use Rattle.std.specs.Prelude.{if◌then◌else◌, None}
+use Rattle.std.specs.Prelude.{if◌then◌else◌, None, IfOk, Ok, Err}
+use Rattle.std.specs.declared.result.Result.{Result}
 use Rattle.spec_lists.specs.Prefixes.{IsPrefix}
 use Rattle.spec_lists.specs.Texts.{Text}
 use Rattle.spec_terms.specs.Term.{apply, named}
@@ -16,6 +17,7 @@ use Rattle.spec_search.specs.Replies.{Place, with_new, with_equations}
 use Rattle.spec_search.specs.Search.{Search, look_at, Settling}
 use Rattle.cq_atoms.specs.Texts.{text_of}
 use Rattle.cq_control.specs.Items.{items_at}
+use Rattle.cq_linear.specs.declared.store.StoreFault.{StoreFault}
 use Rattle.cq_program.specs.Database.{as_parts}
 use Rattle.cq_stored.specs.Building.{moved_by}
 use Rattle.cq_stored.specs.StoredValue.{ClauseValue}
@@ -36,8 +38,10 @@ use Rattle.cq_rest.specs.Equal.{IsWork, work_of}
 use Rattle.cq_steps.specs.Lists.{HasCells, put_cell}
 use Rattle.cq_steps.specs.Worlds.{IsBranch, term_in, with_heap}
 use Rattle.cq_steps.proofs.Control.{put_items}
-use Rattle.cq_begin.specs.Begun.{IsPlacedAs, IsBegun, GoesOn, Prunes}
-use Rattle.cq_begin.specs.Calls.{body_cells, IsCallOf}
+use Rattle.cq_begin.specs.declared.beginning.Begun.{Begun}
+use Rattle.cq_begin.specs.declared.beginning.Begun.TheVariants.{Goes, Pruned}
+use Rattle.cq_begin.specs.Begun.{IfGoes, IfPruned, OfWork, IsPlacedAs, IsBegun, GoesOn, Prunes}
+use Rattle.cq_begin.specs.Calls.{body_cells, IsCallOf, OfClause, ClauseComes}
 use Rattle.cq_begin.proofs.Newer.{branch_more, read_still}
 use Rattle.cq_begin.proofs.Reading.{read_tree, tree_read}
 
@@ -151,3 +155,81 @@ module _ (texts : List Text) (choices : Stack Contents) (now : Value Contents) (
   pub clause_goes_back : Prunes (clause_state p cl) (clause_work p goal cl) → Comes (IsBranch texts) (term_in texts) steps (engine s.database s.selected choices now None) s
   clause_goes_back q = child_pruned (IsBranch texts) (term_in texts) steps s.database s.selected choices now s (clause_items p cl) (clause_state p cl) (clause_work p goal cl) behind
       refl refl looks refl q.0 (q.1 (clause_items p cl)) waiting
+
+-- an engine that comes back does so from any world
+comes_any : (texts : List Text) (choices : Stack Contents) (now later : Value Contents) (steps : ℕ) (s : Search)
+    → Comes (IsBranch texts) (term_in texts) steps (engine s.database s.selected choices now None) s
+    → Comes (IsBranch texts) (term_in texts) steps (engine s.database s.selected choices later None) s
+comes_any texts choices now later steps s e = record {
+  reached = e.reached;
+  quiet = e.quiet;
+  stands = record {
+    database = e.stands.database;
+    selected = e.stands.selected;
+    first = e.stands.first;
+    behind = e.stands.behind;
+    branches = e.stands.branches;
+    current = e.stands.current;
+    waiting = e.stands.waiting;
+  };
+}
+
+pub pruned_any : (texts : List Text) (old now later : Value Contents) (id height rest : ℕ) (kept : ClauseValue) → ClauseComes texts old now id height rest kept Pruned
+    → ClauseComes texts old later id height rest kept Pruned
+pruned_any texts old now later id height rest kept h choices p goal cl call steps s behind looks waiting =
+    comes_any texts choices now later steps s (h choices p goal cl call steps s behind looks waiting)
+
+first_same : (t u : Tree) → t ∷ [] ≡ u ∷ [] → t ≡ u
+first_same t u e = cc
+
+module _ (texts : List Text) (c : Contents) (h : Terms) (lists later : List (List Cell)) (id head body height rest behind : ℕ) (kept : ClauseValue)
+    (terms : IsPrefix c.heap.terms h.terms) (images : h.images ≡ c.heap.images ++ unbound_from (length c.heap.images) kept.variables) (names : KnowsTerms texts h.terms)
+    (head_is : at h.terms head ≡ apply (moved_by (length c.heap.images)) kept.head) (body_is : at h.terms body ≡ apply (moved_by (length c.heap.images)) kept.body)
+    (moved : (n : ℕ) → counted_on n (as_parts texts kept) ≡ record { head = named (text_of texts) (apply (moved_by n) kept.head); body = named (text_of texts) (apply (moved_by n) kept.body) })
+    (count : variable_count (as_parts texts kept) ≡ kept.variables)
+    (cells : HasCells later behind (body_cells texts h.terms body height (items_at lists rest))) (there : body < length h.terms)
+    (pair : Pair) (pair_is : pair ≡ record { left = id; right = head })
+    (works : (st : State) → IsReadyAs texts (with_heap h c) st → IsWork texts (with_heap h c) st (pair ∷ []) [] [] (work_of texts (with_heap h c) (pair ∷ []) [] []))
+    (told : (st : State) → IsReadyAs texts (with_heap h c) st → IsWork texts (with_heap h c) st [] (body ∷ []) [] (work_of texts (with_heap h c) [] (body ∷ []) [])) where
+  module _ (choices : Stack Contents) (p : Place) (goal : Tree) (cl : Clause) (call : IsCallOf texts choices (c, lists) id height rest kept p goal cl) where
+    abbrev st_then : State
+    st_then = with_new kept.variables p.state
+
+    ready_then : IsReadyAs texts (with_heap h c) st_then
+    ready_then = (branch_more texts c h kept.variables terms images names p.state call.place.state).ready
+
+    reads : read st_then (tree texts h.terms body) ≡ tree texts h.terms body
+    reads = first_same (read st_then (tree texts h.terms body)) (tree texts h.terms body) (told st_then ready_then).told_are
+
+    placed_then : IsPlacedAs texts choices (with_heap h c, later) behind (clause_items p cl) (clause_state p cl)
+    placed_then = clause_placed texts choices c h lists later id head body height rest behind kept p goal cl call terms images names head_is body_is moved count cells reads there
+
+    ready_still : IsReadyAs texts (with_heap h c) (clause_state p cl)
+    ready_still = clause_ready texts choices c h lists later id head body height rest behind kept p goal cl call terms images names head_is body_is moved count
+
+    work_then : IsWork texts (with_heap h c) (clause_state p cl) (pair ∷ []) [] [] (clause_work p goal cl)
+    work_then =
+        subst (λ (q : Pair). IsWork texts (with_heap h c) (clause_state p cl) (q ∷ []) [] [] (clause_work p goal cl)) (sym pair_is)
+        (clause_is_work texts choices c h lists later id head body height rest behind kept p goal cl call terms images names head_is body_is moved count
+        (subst (λ (q : Pair). IsWork texts (with_heap h c) st_then (q ∷ []) [] [] (work_of texts (with_heap h c) (q ∷ []) [] [])) pair_is (works st_then ready_then)))
+
+  module _ (d : Contents) (last : List (List Cell)) where
+    comes_by : (b : Begun) → IfGoes b (GoesOn texts (with_heap h c, later) (d, last) (pair ∷ []) [] behind) → IfPruned b (OfWork texts (with_heap h c) (pair ∷ []) [] Prunes)
+        → ClauseComes texts (c, lists) (d, last) id height rest kept b
+    comes_by (Goes k) g q choices p goal cl call steps s bs looks waiting =
+        clause_comes texts choices (d, last) steps s p goal cl bs looks waiting (with_heap h c, later) k
+        (g choices (clause_items p cl) (clause_state p cl) (clause_work p goal cl) (placed_then choices p goal cl call) (work_then choices p goal cl call))
+    comes_by Pruned g q choices p goal cl call steps s bs looks waiting =
+        clause_goes_back texts choices (d, last) steps s p goal cl bs looks waiting
+        (q (clause_state p cl) (clause_work p goal cl) (ready_still choices p goal cl call) (work_then choices p goal cl call))
+
+    pub comes_ok : (none : List ℕ) → none ≡ [] → (result : Result Begun StoreFault) → IfOk result (λ b. IfGoes b (GoesOn texts (with_heap h c, later) (d, last) (pair ∷ []) none behind))
+        → IfOk result (λ b. IfPruned b (OfWork texts (with_heap h c) (pair ∷ []) none Prunes)) → IfOk result (ClauseComes texts (c, lists) (d, last) id height rest kept)
+    comes_ok none e (Ok b) g q =
+        comes_by b (subst (λ (l : List ℕ). IfGoes b (GoesOn texts (with_heap h c, later) (d, last) (pair ∷ []) l behind)) e g)
+        (subst (λ (l : List ℕ). IfPruned b (OfWork texts (with_heap h c) (pair ∷ []) l Prunes)) e q)
+    comes_ok none e (Err f) g q = tt
+
+  pub of_clause : (none : List ℕ) → none ≡ [] → (P : State → Pending → Type 0) → OfWork texts (with_heap h c) (pair ∷ []) none P → OfClause texts (c, lists) id height rest kept P
+  of_clause none e P o choices p goal cl call =
+      subst (λ (l : List ℕ). OfWork texts (with_heap h c) (pair ∷ []) l P) e o (clause_state p cl) (clause_work p goal cl) (ready_still choices p goal cl call) (work_then choices p goal cl call)
