@@ -1,5 +1,5 @@
 -- A branch that was begun, by what its settling made of the world.
-use Rattle.std.proofs.Common.{◌≡◌, ◌<◌, ◌≤◌, ℕ, List, [], ◌∷◌, ◌++◌, length, Option, None, Some, refl, sym, ap, ◌∙◌, subst, arith}
+use Rattle.std.proofs.Common.{◌≡◌, ◌<◌, ◌≤◌, ℕ, List, [], ◌++◌, length, Option, Some, sym, ap, subst, arith}
 use Rattle.std.specs.Prelude.{⊤, All, IfOk, Ok, Err}
 use Rattle.std.specs.declared.result.Result.{Result}
 use Rattle.std.proofs.lemmas.List.{length-map}
@@ -7,7 +7,7 @@ use Rattle.std.proofs.lemmas.List.Elements.{All-weaker}
 use Rattle.spec_rational.specs.Rational.{ℚ}
 use Rattle.spec_linear.specs.Solution.{Constraint, Fixes}
 use Rattle.spec_lists.specs.Texts.{Text}
-use Rattle.spec_terms.specs.Term.{Subst, apply, followed_by}
+use Rattle.spec_terms.specs.Term.{Subst, apply}
 use Rattle.spec_terms.specs.Unifier.{HasNoUnifier, read_under}
 use Rattle.spec_syntax.specs.Trees.{Tree}
 use Rattle.spec_branch.specs.Branch.{State, Item, Pending, Branch, read}
@@ -17,9 +17,8 @@ use Rattle.cq_control.specs.Items.{items_at}
 use Rattle.cq_frac.specs.declared.VarId.{VarId}
 use Rattle.cq_linear.specs.declared.store.StoreFault.{StoreFault}
 use Rattle.cq_settle.specs.Called.{OfCalls}
-use Rattle.cq_settle.specs.Settled.{IsKept, IsPruned, woken_goals}
+use Rattle.cq_settle.specs.Settled.{IsPruned, woken_goals}
 use Rattle.cq_term.specs.HeapValue.{Terms}
-use Rattle.cq_term.specs.Trees.{tree}
 use Rattle.cq_walk.specs.Pairs.{IsLive}
 use Rattle.cq_walk.specs.declared.pairs.Pair.{Pair}
 use Rattle.cq_world.specs.Contents.{Contents}
@@ -30,7 +29,6 @@ use Rattle.spec_machine.specs.Standing.{AreItems}
 use Rattle.spec_machine.proofs.Kept.{items_read_on}
 use Rattle.cq_rest.specs.Equal.{MayBeEqual, AllEqual, IsWork, CallsFor}
 use Rattle.cq_rest.specs.Ready.{MayBeTold, with_terms}
-use Rattle.cq_steps.specs.Lists.{HasCells}
 use Rattle.cq_steps.specs.Worlds.{IsBranch, term_in}
 use Rattle.cq_begin.specs.declared.beginning.Begun.{Begun}
 use Rattle.cq_begin.specs.declared.beginning.Begun.TheVariants.{Goes, Pruned}

@@ -1,5 +1,5 @@
 -- A clause of a call that was put under new variables, as work of the world with those.
-use Rattle.std.proofs.Common.{◌≡◌, ◌<◌, ◌≤◌, ◌+◌, ℕ, List, [], ◌∷◌, ◌++◌, length, Bool, true, false, Some, refl, sym, ap, ap₂, ◌∙◌, subst, arith}
+use Rattle.std.proofs.Common.{◌≡◌, ◌<◌, ◌≤◌, ℕ, List, [], ◌∷◌, ◌++◌, length, Bool, true, false, Some, refl, sym, ap, ap₂, ◌∙◌, subst}
 use Rattle.std.specs.Prelude.{if◌then◌else◌, None, IfOk, Ok, Err}
 use Rattle.std.specs.declared.result.Result.{Result}
 use Rattle.spec_lists.specs.Prefixes.{IsPrefix}
@@ -29,7 +29,7 @@ use Rattle.cq_walk.specs.declared.pairs.Pair.{Pair}
 use Rattle.cq_world.specs.Contents.{Contents}
 use Rattle.cq_world.specs.Rest.{IsReadyAs}
 use Rattle.spec_machine.specs.declared.cell.Cell.{Cell}
-use Rattle.spec_machine.specs.Cells.{Fits, Value, Stack, below}
+use Rattle.spec_machine.specs.Cells.{Fits, Value, Stack}
 use Rattle.spec_machine.specs.Standing.{AreItems, engine, AreWaiting}
 use Rattle.spec_machine.specs.Coming.{Comes}
 use Rattle.spec_machine.proofs.Kept.{fits_more, items_read_on}

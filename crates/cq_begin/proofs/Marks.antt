@@ -1,5 +1,5 @@
 -- Back to a mark of a world, or on without it.
-use Rattle.std.proofs.Common.{◌≡◌, ◌<◌, ◌≤◌, ◌+◌, ◌-◌, ℕ, min, List, [], ◌∷◌, ◌++◌, map, length, take, Some, refl, sym, ap, ap₂, ◌∙◌, arith}
+use Rattle.std.proofs.Common.{◌≡◌, ◌<◌, ◌≤◌, ◌+◌, ◌-◌, ℕ, List, [], ◌∷◌, ◌++◌, map, length, take, Some, refl, sym, ap, ap₂, ◌∙◌, arith}
 use Rattle.std.specs.Prelude.{slice_get}
 use Rattle.std.specs.List.{zip}
 use Rattle.std.proofs.lemmas.List.{take_at, length-append}
@@ -9,7 +9,7 @@ use Rattle.cq_linear.specs.StoreValue.{kept}
 use Rattle.cq_settle.specs.Settled.{KeepsMarks}
 use Rattle.cq_term.specs.HeapValue.{Terms}
 use Rattle.cq_term.proofs.Kept.{get_last}
-use Rattle.cq_world.specs.Contents.{Contents, contents_of}
+use Rattle.cq_world.specs.Contents.{contents_of}
 use Rattle.cq_world.specs.Worlds.{now_of, saved_of, room_of}
 use Rattle.cq_world.specs.declared.world.World.{World}
 

@@ -2,7 +2,7 @@
 use Rattle.std.proofs.Common.{◌≡◌, ◌<◌, ℕ, List, [], ◌∷◌, None, refl, inl, inr}
 use Rattle.spec_syntax.specs.Trees.{Tree}
 use Rattle.spec_branch.specs.Branch.{State, Item, Branch, Pending, read}
-use Rattle.spec_search.specs.Replies.{Made, Makes, child, makes, made}
+use Rattle.spec_search.specs.Replies.{Made, child, makes, made}
 use Rattle.spec_search.specs.Rows.{reply_of}
 use Rattle.spec_search.specs.Search.{Search, look_at, Selecting, Settling}
 use Rattle.spec_search.specs.Turns.{place_of, after_step, with_branches}

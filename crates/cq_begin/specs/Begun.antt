@@ -1,5 +1,5 @@
 -- What a branch that is begun comes to.
-use Rattle.std.specs.Prelude.{◌≡◌, ℕ, List, [], ◌++◌, map, Option, None, Some, ⊤}
+use Rattle.std.specs.Prelude.{ℕ, List, [], ◌++◌, map, Option, None, Some, ⊤}
 use Rattle.spec_lists.specs.Texts.{Text}
 use Rattle.spec_terms.specs.Names.{named_pairs}
 use Rattle.spec_terms.specs.Term.{Subst}

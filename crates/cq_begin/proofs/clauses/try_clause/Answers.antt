@@ -1,4 +1,4 @@
-use Rattle.std.proofs.Common.{[], ◌∷◌, ℕ, List, length, refl, sym, subst}
+use Rattle.std.proofs.Common.{[], ◌∷◌, length, refl}
 use Rattle.spec_branch.specs.Branch.{State}
 use Rattle.spec_search.specs.Replies.{with_new}
 use Rattle.cq_rest.specs.Equal.{IsWork, work_of}

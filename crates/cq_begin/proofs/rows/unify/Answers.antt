@@ -1,4 +1,4 @@
-use Rattle.std.proofs.Common.{◌<◌, [], ℕ, List, refl, sym, subst, arith}
+use Rattle.std.proofs.Common.{[], ℕ, List, refl, sym, subst}
 use Rattle.spec_branch.specs.Branch.{State}
 use Rattle.spec_search.specs.Replies.{with_equations}
 use Rattle.cq_rest.specs.Equal.{IsWork}
