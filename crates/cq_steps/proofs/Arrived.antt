@@ -1,12 +1,10 @@
 -- An engine comes quietly from one search to another, as its choices are cut and come back to.
-use Rattle.std.proofs.Common.{◌≡◌, ℕ, zero, suc, ◌-◌, ◌≤◌, List, [], ◌∷◌, ◌++◌, length, map, drop, Option, None, Some, refl, sym, ap, ◌∙◌, subst, arith}
+use Rattle.std.proofs.Common.{◌≡◌, ℕ, zero, suc, ◌-◌, List, [], ◌∷◌, length, map, drop, Option, refl, ap, ◌∙◌}
 use Rattle.std.proofs.lemmas.List.{length-map}
-use Rattle.spec_lists.specs.Texts.{Text}
 use Rattle.spec_branch.specs.Branch.{State}
 use Rattle.spec_syntax.specs.Trees.{Tree}
 use Rattle.spec_search.specs.Search.{Search}
-use Rattle.cq_control.specs.Open.{last, open_choices}
-use Rattle.spec_machine.specs.Cells.{Value, Stack}
+use Rattle.cq_control.specs.Open.{last}
 use Rattle.spec_machine.specs.Standing.{Machine, IsStanding}
 use Rattle.spec_machine.specs.Coming.{Quietly, at_once, after, Comes}
 

@@ -1,12 +1,11 @@
 -- A world of which nothing is known is the state of a query before its first goal. A term that was read reads as itself.
-use Rattle.std.proofs.Common.{◌≡◌, ℕ, ◌<◌, ◌≤◌, List, [], length, Bool, true, false, Option, None, Some, refl, sym, ap, ◌∙◌, subst, arith}
+use Rattle.std.proofs.Common.{◌≡◌, ℕ, ◌≤◌, List, [], length, true, false, Some, refl, sym, ap, ◌∙◌, subst, arith}
 use Rattle.std.specs.List.{AllZip}
 use Rattle.std.specs.Prelude.{pos}
-use Rattle.spec_rational.specs.Rational.{ℚ}
 use Rattle.spec_linear.specs.Solution.{Constraint, Fixes}
 use Rattle.spec_linear.proofs.Points.{all_at}
 use Rattle.spec_lists.specs.Texts.{Text}
-use Rattle.spec_terms.specs.Term.{Var, Occurs, apply, identity, named}
+use Rattle.spec_terms.specs.Term.{Var, identity, named}
 use Rattle.spec_terms.proofs.Substitution.{apply-identity, apply_agree, occurs_from}
 use Rattle.spec_syntax.specs.Trees.{Tree}
 use Rattle.spec_branch.specs.Branch.{State, read}
@@ -16,7 +15,7 @@ use Rattle.spec_search.specs.Search.{empty_state}
 use Rattle.cq_atoms.specs.Texts.{text_of}
 use Rattle.cq_attr.specs.Attributes.{Attributes, is_numeric}
 use Rattle.cq_world.specs.Contents.{Contents}
-use Rattle.cq_world.specs.Standing.{Stands, IsConstraint, IsSleeper, constraints, goals}
+use Rattle.cq_world.specs.Standing.{IsConstraint, IsSleeper, constraints, goals}
 use Rattle.cq_world.specs.Rest.{IsAtRest, IsReadThrough}
 use Rattle.cq_steps.specs.Worlds.{IsBranch, term_in, ReadsAs, KnowsNothing}
 

@@ -1,5 +1,5 @@
 -- A branch of a world has nothing left to settle.
-use Rattle.std.proofs.Common.{◌≡◌, List, sym, ap, subst}
+use Rattle.std.proofs.Common.{List, subst}
 use Rattle.spec_linear.specs.Solution.{Constraint, Fixes}
 use Rattle.spec_lists.specs.Texts.{Text}
 use Rattle.spec_machine.specs.Coming.{Rest}

@@ -2,23 +2,32 @@
 use Rattle.std.proofs.Common.{◌≡◌, ℕ, ◌<◌, List, [], ◌∷◌, ◌++◌, length, Option, Some, Bool, true, false, refl, sym, ap, ◌∙◌, subst, arith}
 use Rattle.std.specs.Prelude.{if◌then◌else◌}
 use Rattle.spec_terms.specs.Term.{Term, Terms, Var, Number, Name, Compound, one, more, list_of, terms_of, with_arguments}
+use Rattle.spec_lists.specs.Texts.{Text}
 use Rattle.spec_syntax.specs.Trees.{Tree}
 use Rattle.spec_built.specs.Bodies.{is_body}
-use Rattle.spec_built.specs.Errors.{type_error}
-use Rattle.spec_built.specs.Kinds.{is_callable}
+use Rattle.spec_built.specs.Errors.{instantiation, type_error}
+use Rattle.spec_built.specs.Kinds.{is_callable, is_variable}
 use Rattle.spec_branch.specs.Branch as branch
 use Rattle.spec_branch.specs.Branch.{State, Branch}
 use Rattle.spec_search.specs.Control.{with_more, called, call_row}
-use Rattle.spec_search.specs.Replies.{Place, Reply, Raises, goes_on}
+use Rattle.spec_search.specs.Replies.{Place, Raises, goes_on}
 use Rattle.cq_control.specs.Heights.{total}
 use Rattle.cq_control.specs.Items.{items_at}
 use Rattle.spec_machine.specs.declared.cell.Cell.{Cell}
 use Rattle.spec_machine.specs.declared.cell.Cell.TheVariants.{Goal}
-use Rattle.spec_machine.specs.Cells.{size, Value, Stack, below}
+use Rattle.spec_machine.specs.Cells.{size, Stack, below}
 use Rattle.spec_machine.specs.Standing.{IsPlace, AreWaiting}
 use Rattle.spec_machine.specs.Coming.{Rest}
 use Rattle.spec_machine.proofs.Kept.{last-all}
+use Rattle.cq_built.specs.declared.errors.BuiltinFault.{BuiltinFault}
+use Rattle.cq_term.specs.Trees.{tree}
+use Rattle.cq_world.specs.Contents.{Contents}
+use Rattle.cq_steps.specs.Calls.{IsLawful, IsRaised}
+use Rattle.cq_steps.specs.Lists.{HasCells}
 use Rattle.cq_steps.specs.Selecting.{Reads, Becomes}
+use Rattle.cq_steps.specs.Worlds.{IsBranch, term_in, ReadsAs, Placed, Leads}
+use Rattle.cq_steps.proofs.Added.{reads_tree}
+use Rattle.cq_steps.proofs.Branches.{branches_rest}
 use Rattle.cq_steps.proofs.Control.{goes_on_with, built}
 
 terms_of-list : {A : Type 0} (t : Term A) (us : Terms A) → terms_of t (list_of us) ≡ more t us
@@ -46,6 +55,31 @@ call_is p (Number q) e b = cc
 call_is p (Name f) e b = called_is p (Name f) (with_more (Name f) []) (no_more (Name f) e) b
 call_is p (Compound f ts) e b = called_is p (Compound f ts) (with_more (Compound f ts) []) (no_more (Compound f ts) e) b
 
+-- ---- errors
+
+pub unbound_raises : (p : Place) (g : Tree) → is_variable g ≡ true → call_row p g [] ≡ Raises instantiation
+unbound_raises p (Var v) e = refl
+unbound_raises p (Number q) e = cc
+unbound_raises p (Name f) e = cc
+unbound_raises p (Compound f ts) e = cc
+
+pub other_raises : (p : Place) (g : Tree) → is_variable g ≡ false → is_callable g ≡ false → call_row p g [] ≡ Raises (type_error "callable" g)
+other_raises p (Var v) e f = cc
+other_raises p (Number q) e f = refl
+other_raises p (Name a) e f = cc
+other_raises p (Compound a ts) e f = cc
+
+refused : (p : Place) (g h : Tree) → h ≡ g → is_body g ≡ false → called p h ≡ Raises (type_error "callable" g)
+refused p g h e b = ap (called p) e ∙ ap (λ (x : Bool). if x then goes_on p (branch.Goal g p.height ∷ p.rest) else Raises (type_error "callable" g)) b
+
+pub body_raises : (p : Place) (g : Tree) → is_callable g ≡ true → is_body g ≡ false → call_row p g [] ≡ Raises (type_error "callable" g)
+body_raises p (Var v) e b = cc
+body_raises p (Number q) e b = cc
+body_raises p (Name f) e b = refused p (Name f) (with_more (Name f) []) (no_more (Name f) e) b
+body_raises p (Compound f ts) e b = refused p (Compound f ts) (with_more (Compound f ts) []) (no_more (Compound f ts) e) b
+
+-- ---- its child
+
 module _ {W : Type 0} (IsState : W → State → Type 0) (term : W → ℕ → Option Tree) (rests : Rest IsState) where
   -- call of a callable term becomes the term, over all choices
   pub call_becomes : (choices : Stack W) (w : W) (old lists : List (List Cell)) (rest : ℕ) (p : Place) (behind : List Branch)
@@ -61,3 +95,18 @@ module _ {W : Type 0} (IsState : W → State → Type 0) (term : W → ℕ → O
       (built IsState term choices w lists k _ _ p.state there e (omega arith, place.continuation.fits) place.continuation.state
       (g, p.rest, refl, r.0 ∙ ap (λ (x : Tree). Some x) (sym r.1), place.continuation.cells))
       wait))
+
+-- ---- in a world
+
+pub call_done : (texts : List Text) (w : Contents) (old new : List (List Cell)) (rest : ℕ) (p : Place) (behind : List Branch) (choices : Stack Contents)
+    → Placed texts choices (w, old) rest p behind → (k top t : ℕ) (g : Tree) → top ≡ length choices → IsLawful (tree texts w.heap.terms t) → ReadsAs texts w p.state t g
+    → HasCells new k (Goal t top ∷ items_at old rest) → Leads texts choices (w, new) (Some k) p behind (call_row p g [])
+call_done texts w old new rest p behind choices s k top t g e l r h =
+    let same = reads_tree texts w p.state t g r in
+    call_becomes (IsBranch texts) (term_in texts) (branches_rest texts) choices w old new rest p behind s.0 s.1 k t g r
+    (subst (λ (x : Tree). is_callable x ≡ true) same l.callable) (subst (λ (x : Tree). is_body x ≡ true) same l.body) h.there
+    (h.are ∙ ap (λ n. Goal t n ∷ items_at old rest) e)
+
+pub raised_as : (texts : List Text) (w : Contents) (p : Place) (t : ℕ) (g : Tree) (f : BuiltinFault) → ReadsAs texts w p.state t g
+    → IsRaised texts w.heap.terms f (call_row p (tree texts w.heap.terms t) []) → IsRaised texts w.heap.terms f (call_row p g [])
+raised_as texts w p t g f r i = subst (λ (x : Tree). IsRaised texts w.heap.terms f (call_row p x [])) (reads_tree texts w p.state t g r) i

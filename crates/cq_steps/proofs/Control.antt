@@ -1,24 +1,23 @@
 -- The rows of control, as what an engine does by them.
-use Rattle.std.proofs.Common.{◌≡◌, ℕ, suc, ◌<◌, ◌≤◌, ◌+◌, List, [], ◌∷◌, ◌++◌, length, Option, None, Some, Bool, true, false, refl, sym, ap, ◌∙◌, subst, arith}
+use Rattle.std.proofs.Common.{◌≡◌, ℕ, ◌<◌, ◌≤◌, ◌+◌, List, [], ◌∷◌, length, Option, None, Some, Bool, true, false, refl, sym, ap, ◌∙◌, subst, arith}
 use Rattle.std.specs.Prelude.{if◌then◌else◌}
 use Rattle.spec_syntax.specs.Trees.{Tree}
 use Rattle.spec_built.specs.Built.{compound1}
-use Rattle.spec_built.specs.Bodies.{as_goal}
 use Rattle.spec_built.specs.Kinds.{is_callable}
 use Rattle.spec_branch.specs.Branch as branch
 use Rattle.spec_branch.specs.Branch.{State, Item, Branch, no_work, read}
 use Rattle.spec_search.specs.Balls as balls
 use Rattle.spec_search.specs.Control.{put, and_row, or_row, first_items, if_then_row, if_then_items, cut_row, not_row}
 use Rattle.spec_search.specs.Replies.{Place, child, made, makes, goes_on, onward}
-use Rattle.spec_search.specs.Search.{look_at, settled}
+use Rattle.spec_search.specs.Search.{look_at}
 use Rattle.cq_control.specs.Heights.{total}
 use Rattle.cq_control.specs.Items.{items_at}
 use Rattle.cq_control.specs.Open.{last}
 use Rattle.spec_machine.specs.declared.cell.Cell.{Cell}
-use Rattle.spec_machine.specs.declared.cell.Cell.TheVariants.{Goal, Call, CutTo, CutFail}
+use Rattle.spec_machine.specs.declared.cell.Cell.TheVariants.{CutTo, CutFail}
 use Rattle.spec_machine.specs.Cells.{Fits, One, size, Value, Stack, below}
-use Rattle.spec_machine.specs.Standing.{engine, AreItems, IsContinuation, IsPlace, AreWaiting}
-use Rattle.spec_machine.specs.Coming.{at_once, Comes, Rest}
+use Rattle.spec_machine.specs.Standing.{AreItems, IsContinuation, AreWaiting}
+use Rattle.spec_machine.specs.Coming.{at_once, Rest}
 use Rattle.spec_machine.proofs.Kept.{fits_more, items_older, items_last, waiting-last, length-last, last-all, last-older}
 use Rattle.spec_machine.proofs.Made.{child_kept, choice_waits}
 use Rattle.cq_steps.specs.Lists.{put_cell}
@@ -40,7 +39,7 @@ module _ {W : Type 0} (IsState : W → State → Type 0) (term : W → ℕ → O
     go false e = (goal, below choices height, more, ap (λ (c : Bool). item c ∷ more) e, r.0 ∙ ap (λ (x : Tree). Some x) (sym r.1), a)
 
   -- a continuation of these cells
-  built : (choices : Stack W) (w : W) (lists : List (List Cell)) (k : ℕ) (cs : List Cell) (items : List Item) (st : State) → k < length lists → items_at lists k ≡ cs
+  pub built : (choices : Stack W) (w : W) (lists : List (List Cell)) (k : ℕ) (cs : List Cell) (items : List Item) (st : State) → k < length lists → items_at lists k ≡ cs
       → Fits (length choices) cs → IsState w st → AreItems IsState term choices w st cs items → IsContinuation IsState term choices (w, lists) k items st
   built choices w lists k cs items st there e f i a = record {
     there = there;
@@ -72,7 +71,7 @@ module _ {W : Type 0} (IsState : W → State → Type 0) (term : W → ℕ → O
 
   module _ (rests : Rest IsState) where
     -- one child, which goes on with a continuation
-    goes_on_with : (choices : Stack W) (now : Value W) (k : ℕ) (p : Place) (behind : List Branch) (items : List Item)
+    pub goes_on_with : (choices : Stack W) (now : Value W) (k : ℕ) (p : Place) (behind : List Branch) (items : List Item)
         → IsContinuation IsState term choices now k items p.state → AreWaiting IsState term choices behind
         → Becomes IsState term choices now (Some k) p behind (goes_on p items)
     goes_on_with choices now k p behind items c wait = record {

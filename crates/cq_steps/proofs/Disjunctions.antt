@@ -1,5 +1,5 @@
 -- The left side of a disjunction on a heap.
-use Rattle.std.proofs.Common.{◌≡◌, ℕ, zero, suc, ◌<◌, List, [], ◌∷◌, length, Bool, true, false, Option, None, Some, refl, sym, ap, ◌∙◌, subst, arith, codes}
+use Rattle.std.proofs.Common.{◌≡◌, ℕ, zero, suc, ◌<◌, List, [], ◌∷◌, length, Bool, true, false, Some, refl, sym, ap, ◌∙◌, subst, arith, codes}
 use Rattle.std.specs.Prelude.{bytes_eq, slice_get, if◌then◌else◌, ◌+◌}
 use Rattle.std.specs.Cmp.Lexicographic.{bytes_decides}
 use Rattle.std.specs.Option.{option_map}
@@ -16,7 +16,7 @@ use Rattle.cq_term.specs.Meaning.{HeapTerm}
 use Rattle.cq_term.specs.Trees.{tree}
 use Rattle.cq_world.specs.Contents.{Contents}
 use Rattle.cq_steps.specs.Sides.{IsIfThen, IsPlain}
-use Rattle.cq_steps.specs.Worlds.{term_in, ReadsAs}
+use Rattle.cq_steps.specs.Worlds.{ReadsAs}
 use Rattle.cq_steps.proofs.Added.{reads_tree}
 
 -- what is no compound of two arguments is no if-then
@@ -45,7 +45,7 @@ abbrev right_argument : Tree → Tree
 right_argument (Compound f (more a (one b))) = b
 right_argument t = t
 
-term_there : (texts : List Text) (ts : List HeapTerm) (id : ℕ) → id < length ts → option_map (named (text_of texts)) (slice_get ts id) ≡ Some (tree texts ts id)
+pub term_there : (texts : List Text) (ts : List HeapTerm) (id : ℕ) → id < length ts → option_map (named (text_of texts)) (slice_get ts id) ≡ Some (tree texts ts id)
 term_there texts [] id l = absurd (omega (arith, l))
 term_there texts (t ∷ ts) zero l = refl
 term_there texts (t ∷ ts) (suc id) l = term_there texts ts id (omega (arith, l))

@@ -1,13 +1,12 @@
 -- What the rows of control have done, by the continuations that they added.
-use Rattle.std.proofs.Common.{◌≡◌, ℕ, ◌+◌, ◌<◌, List, [], ◌∷◌, length, Option, None, Some, refl, sym, ap, ap₂, ◌∙◌, subst, map, arith, codes}
+use Rattle.std.proofs.Common.{◌≡◌, ℕ, ◌+◌, List, ◌∷◌, length, Some, refl, sym, ap, ap₂, ◌∙◌, subst, map, arith, codes}
 use Rattle.std.specs.Prelude.{reverse}
 use Rattle.std.proofs.lemmas.List.{length-map, length-reverse}
 use Rattle.std.proofs.lemmas.Slice.Zip.{length-zip}
 use Rattle.spec_lists.specs.Texts.{Text}
 use Rattle.spec_syntax.specs.Trees.{Tree, binary}
-use Rattle.spec_built.specs.Kinds.{is_callable}
 use Rattle.spec_branch.specs.Branch.{Branch}
-use Rattle.spec_search.specs.Control.{and_row, or_row, if_then_row, not_row, cut_row}
+use Rattle.spec_search.specs.Control.{and_row, or_row, if_then_row, not_row}
 use Rattle.spec_search.specs.Replies.{Place, Reply}
 use Rattle.cq_control.specs.Items.{items_at}
 use Rattle.cq_control.specs.Open.{AreMarked, last, open_choices}
@@ -24,7 +23,7 @@ use Rattle.cq_steps.specs.Worlds.{IsBranch, term_in, ReadsAs, Selected, Leads, s
 use Rattle.cq_steps.proofs.Arrived.{last-map}
 use Rattle.cq_steps.proofs.Branches.{branches_rest}
 use Rattle.cq_steps.proofs.Added.{cell_is, has_still}
-use Rattle.cq_steps.proofs.Control.{and_becomes, or_becomes, if_then_becomes, if_then_else_becomes, not_becomes, cut_becomes}
+use Rattle.cq_steps.proofs.Control.{and_becomes, or_becomes, if_then_becomes, if_then_else_becomes, not_becomes}
 
 module _ (texts : List Text) (w : Contents) (old new : List (List Cell)) (height rest : ℕ) (p : Place) (behind : List Branch) (choices : Stack Contents)
     (s : Selected texts choices (w, old) height rest p behind) where

@@ -1,5 +1,5 @@
 -- A world to whose heap terms were added, and no variables, is the state of the same branches.
-use Rattle.std.proofs.Common.{◌≡◌, ℕ, zero, suc, ◌<◌, List, [], ◌∷◌, ◌++◌, length, Some, refl, sym, ap, ◌∙◌, subst, arith}
+use Rattle.std.proofs.Common.{◌≡◌, ℕ, zero, suc, ◌<◌, List, [], ◌∷◌, ◌++◌, length, Some, sym, ap, ◌∙◌, subst, arith}
 use Rattle.std.specs.Prelude.{slice_get}
 use Rattle.std.specs.Option.{option_map}
 use Rattle.std.proofs.lemmas.Option.{none-some}
@@ -18,10 +18,9 @@ use Rattle.cq_term.specs.Meaning.{HeapTerm, blank}
 use Rattle.cq_term.specs.Trees.{tree, KnowsTerms}
 use Rattle.cq_world.specs.Contents.{Contents}
 use Rattle.cq_world.specs.Standing.{Stands, AreRead, IsConstraint, IsSleeper, constraints, goals}
-use Rattle.cq_world.specs.Rest.{IsReadyAs}
 use Rattle.spec_machine.specs.declared.cell.Cell.{Cell}
 use Rattle.cq_steps.specs.Lists.{KeepsLists}
-use Rattle.cq_steps.specs.Worlds.{IsBranch, term_in, Grown, with_heap}
+use Rattle.cq_steps.specs.Worlds.{IsBranch, Grown, with_heap}
 
 module _ (texts : List Text) (old new : Terms) (terms : IsPrefix old.terms new.terms) (images : new.images ≡ old.images) where
   pub tree_same : (id : ℕ) → id < length old.terms → tree texts new.terms id ≡ tree texts old.terms id

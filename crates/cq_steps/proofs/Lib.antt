@@ -8,5 +8,7 @@ pub mod Done
 pub mod Grown
 pub mod Calling
 pub mod Beginning
+pub mod Older
 pub mod Passing
 pub mod Disjunctions
+pub mod Arguments

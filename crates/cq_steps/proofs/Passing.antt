@@ -1,10 +1,10 @@
 -- Marks that are passed and choices that are come back to, over the choices of the code.
-use Rattle.std.proofs.Common.{◌≡◌, ℕ, ◌<◌, ◌≤◌, List, [], ◌∷◌, ◌++◌, length, Option, None, Some, refl, sym, ap, ◌∙◌, subst, map, arith}
+use Rattle.std.proofs.Common.{◌≡◌, ℕ, ◌<◌, List, ◌∷◌, ◌++◌, length, Option, None, Some, sym, ap, ◌∙◌, subst, map}
 use Rattle.spec_lists.specs.Texts.{Text}
 use Rattle.spec_search.specs.Database.{Database}
 use Rattle.spec_search.specs.Search.{Search}
 use Rattle.cq_control.specs.Items.{items_at}
-use Rattle.cq_control.specs.Open.{AreMarked, last, open_choices}
+use Rattle.cq_control.specs.Open.{last, open_choices}
 use Rattle.cq_program.specs.Database.{Program}
 use Rattle.cq_world.specs.Contents.{Contents}
 use Rattle.spec_machine.specs.declared.cell.Cell.TheVariants.{CutTo, CutFail, CatchEnd}
@@ -12,7 +12,6 @@ use Rattle.spec_machine.specs.Cells.{Barrier, Value, Stack}
 use Rattle.spec_machine.specs.Standing.{engine, IsStanding}
 use Rattle.spec_machine.specs.Coming.{Comes}
 use Rattle.spec_machine.proofs.Passed.{cut_passed, fail_passed, end_passed, one_begun}
-use Rattle.spec_machine.proofs.Kept.{length-last}
 use Rattle.cq_steps.specs.declared.alternatives.Alternatives.{Alternatives}
 use Rattle.cq_steps.specs.declared.alternatives.Alternatives.TheVariants as alternatives
 use Rattle.cq_steps.specs.Worlds.{IsBranch, term_in, Stands, IsWorking, Arrives, stack, left_at}
@@ -88,11 +87,11 @@ works_on old new choices left was now before after w f =
 pub current_there : (saved : List (Value Contents)) (choices : List Alternatives) (now : Value Contents) (k : ℕ) → IsWorking saved choices now (Some k) → k < length now.1
 current_there saved choices now k w = w.5.current.3.there
 
-pub arrives_on : (old mid new : List (Value Contents)) (choices fewer left : List Alternatives) (was between now : Value Contents) (before at after : Option ℕ)
+pub arrives_on : (mid new : List (Value Contents)) (fewer left : List Alternatives) (between now : Value Contents) (at after : Option ℕ)
     → (steps : ℕ) (texts : List Text) (v : Program) (db : Database) (n : ℕ) (s : Search) → Arrives steps texts v db n mid fewer between at s
     → ((steps : ℕ) (texts : List Text) (v : Program) (db : Database) (n : ℕ) (s : Search) → Stands texts v db n mid fewer between at s → Arrives steps texts v db n new left now after s)
     → Arrives steps texts v db n new left now after s
-arrives_on old mid new choices fewer left was between now before at after steps texts v db n s a f = comes_on (IsBranch texts) (term_in texts) steps _ _ s a (λ t j. f steps texts v db n t j)
+arrives_on mid new fewer left between now at after steps texts v db n s a f = comes_on (IsBranch texts) (term_in texts) steps _ _ s a (λ t j. f steps texts v db n t j)
 
 -- the same where the world is an equal one
 pub arrives_same : (steps : ℕ) (texts : List Text) (v : Program) (db : Database) (n : ℕ) (s : Search) (saved : List (Value Contents)) (choices : List Alternatives) (now later : Value Contents)

@@ -1,10 +1,10 @@
 -- A branch at rest is kept as it is where it has no work to do.
-use Rattle.std.proofs.Common.{◌≡◌, ◌≤◌, ℕ, List, [], ◌∷◌, ◌++◌, Bool, true, false, Option, None, Some, refl, sym, ap, ap₂, ◌∙◌, subst, arith, ◌||◌, inl, inr}
-use Rattle.std.specs.Prelude.{◌&&◌, not, ◌==◌, filter, map, if◌then◌else◌, IsPermutation, bytes_eq, codes}
+use Rattle.std.proofs.Common.{◌≡◌, ℕ, List, [], ◌∷◌, ◌++◌, Bool, true, false, Option, None, Some, refl, sym, ap, ap₂, ◌∙◌, subst, arith, ◌||◌, inl, inr}
+use Rattle.std.specs.Prelude.{◌&&◌, not, filter, map, if◌then◌else◌, IsPermutation, bytes_eq, codes}
 use Rattle.std.specs.List.{AllByRecursion}
 use Rattle.spec_rational.specs.Rational.{ℚ}
 use Rattle.spec_linear.specs.Form.{Linear}
-use Rattle.spec_linear.specs.Solution.{Constraint, Has, Fixes}
+use Rattle.spec_linear.specs.Solution.{Constraint, Fixes}
 use Rattle.spec_lists.specs.Texts.{Text}
 use Rattle.spec_lists.proofs.Tests.{nat_eq-self}
 use Rattle.spec_terms.specs.Term.{Subst, Var, Number, Name, Compound, one, more, Occurs, apply, identity, followed_by}

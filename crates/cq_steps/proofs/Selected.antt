@@ -1,11 +1,11 @@
 -- A goal in front is selected, and the engine comes to what its row makes. More that is built changes nothing.
-use Rattle.std.proofs.Common.{inr, ◌≡◌, ℕ, suc, ◌<◌, ◌≤◌, List, [], ◌∷◌, ◌++◌, length, Option, None, Some, refl, sym, ap, ◌∙◌, subst, arith}
+use Rattle.std.proofs.Common.{inr, ◌≡◌, ℕ, suc, ◌<◌, List, [], ◌∷◌, ◌++◌, length, Option, None, Some, refl, sym, ap, ◌∙◌, subst, arith}
 use Rattle.spec_syntax.specs.Trees.{Tree}
 use Rattle.spec_built.specs.Built.{compound1}
 use Rattle.spec_branch.specs.Branch as branch
 use Rattle.spec_branch.specs.Branch.{State, Item, Branch, read}
 use Rattle.spec_search.specs.Database.{Database}
-use Rattle.spec_search.specs.Replies.{Place, Reply, Makes, Made}
+use Rattle.spec_search.specs.Replies.{Place}
 use Rattle.spec_search.specs.Rows.{reply_of}
 use Rattle.spec_search.specs.Search.{Search, settled, look_at, Selecting}
 use Rattle.spec_search.specs.Turns.{Turn, Wrote, place_of, after_step}

@@ -1,8 +1,7 @@
 // What `call` of a term becomes.
 
-ghost use Rattle.std.specs.Prelude.{◌≡◌, ◌<◌, [], ℕ, List, length, true, Some, IfOk, IfErr, OnOk};
-ghost use Rattle.spec_built.specs.Bodies.{is_body};
-ghost use Rattle.spec_built.specs.Kinds.{is_callable};
+ghost use Rattle.std.specs.Prelude.{◌≡◌, ◌<◌, [], List, length, Some, IfOk, IfErr, OnOk};
+ghost use Rattle.spec_syntax.specs.Trees.{Tree};
 ghost use Rattle.spec_branch.specs.Branch.{Branch};
 ghost use Rattle.spec_search.specs.Control.{call_row};
 ghost use Rattle.spec_search.specs.Replies.{Place};
@@ -10,9 +9,10 @@ ghost use Rattle.spec_machine.specs.Cells.{Stack};
 ghost use Rattle.cq_built.specs.Errors.{CanBeRaised};
 ghost use Rattle.cq_term.specs.Trees.{tree, KnowsTerms};
 ghost use Rattle.cq_world.specs.Contents.{Contents};
+ghost use Rattle.cq_world.specs.Worlds.{now_of};
 ghost use Rattle.cq_steps.specs.Calls.{IsLawful, IsRaised};
 ghost use Rattle.cq_steps.specs.Lists.{KeepsLists};
-ghost use Rattle.cq_steps.specs.Worlds.{value, Placed, Leads};
+ghost use Rattle.cq_steps.specs.Worlds.{value, ReadsAs, Placed, Leads};
 
 use crate::alternatives::Alternatives;
 use crate::cells::cell_before;
@@ -20,7 +20,8 @@ use cq_atoms::Atoms;
 use cq_built::{BuiltinError, BuiltinFault, Culprit, ValidType};
 use cq_control::{Choices, Continuation, Continuations};
 use cq_declarations::is_body;
-use cq_term::{Heap, TermId, View};
+use cq_kinds::{is_callable, is_variable};
+use cq_term::{Heap, TermId};
 use cq_world::World;
 use spec_machine::Cell;
 
@@ -36,11 +37,11 @@ pub fn call(
     requires goal { goal < length world.now.heap.now.terms }
     requires names { KnowsTerms atoms.now world.now.heap.now.terms }
     requires rest { rest < length lists.old.now }
-    ensures row { IfOk result (λ k. (stack : Stack Contents) (p : Place) (behind : List Branch) → length stack ≡ length choices.now
-        → Placed atoms.now stack (value world.now lists.old.now) rest p behind
-        → Leads atoms.now stack (value world.now lists.new.now) (Some k) p behind (call_row p (tree atoms.now world.now.heap.now.terms goal) [])) }
-    ensures fault { IfErr result (λ f. (p : Place)
-        → IsRaised atoms.now world.now.heap.now.terms f (call_row p (tree atoms.now world.now.heap.now.terms goal) [])) }
+    ensures row { IfOk result (λ k. (stack : Stack Contents) (p : Place) (behind : List Branch) (g : Tree) → length stack ≡ length choices.now
+        → Placed atoms.now stack (value world.now lists.old.now) rest p behind → ReadsAs atoms.now (now_of world.now) p.state goal g
+        → Leads atoms.now stack (value world.now lists.new.now) (Some k) p behind (call_row p g [])) }
+    ensures fault { IfErr result (λ f. (p : Place) (g : Tree) → ReadsAs atoms.now (now_of world.now) p.state goal g
+        → IsRaised atoms.now world.now.heap.now.terms f (call_row p g [])) }
     ensures culprit { IfErr result (CanBeRaised atoms.now world.now.heap.now.terms) }
     ensures there { IfOk result (λ k. k < length lists.new.now) }
     ensures keeps { KeepsLists lists.old.now lists.new.now }
@@ -64,10 +65,11 @@ fn check_goal(heap: &Heap, atoms: &Atoms, goal: TermId) -> Result<(), BuiltinFau
         → IsRaised atoms.now heap.now.now.terms f (call_row p (tree atoms.now heap.now.now.terms goal) [])) }
     ensures culprit { IfErr result (CanBeRaised atoms.now heap.now.now.terms) }
 {
-    match heap.view(goal) {
-        View::Var(_) => return Err(BuiltinFault::Error(BuiltinError::Instantiation)),
-        View::Number(_) => return Err(BuiltinFault::Error(not_callable(goal))),
-        _ => {}
+    if is_variable(heap, goal) {
+        return Err(BuiltinFault::Error(BuiltinError::Instantiation));
+    }
+    if !is_callable(heap, goal) {
+        return Err(BuiltinFault::Error(not_callable(goal)));
     }
     if is_body(heap, atoms, goal)? {
         Ok(())
@@ -76,6 +78,9 @@ fn check_goal(heap: &Heap, atoms: &Atoms, goal: TermId) -> Result<(), BuiltinFau
     }
 }
 
-fn not_callable(goal: TermId) -> BuiltinError {
+/// The error of a term that is neither an atom nor a compound, or has a number among its conjuncts and branches.
+fn not_callable(goal: TermId) -> BuiltinError
+    ensures { result ≡ BuiltinError.Type ValidType.Callable (Culprit.Term goal) }
+{
     BuiltinError::Type(ValidType::Callable, Culprit::Term(goal))
 }

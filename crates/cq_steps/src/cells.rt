@@ -8,6 +8,7 @@ ghost use Rattle.cq_program.specs.Database.{Program};
 ghost use Rattle.cq_world.specs.Worlds.{now_of};
 ghost use Rattle.spec_machine.specs.Cells.{One};
 ghost use Rattle.spec_machine.specs.declared.cell.Cell.TheVariants.{CutTo};
+ghost use Rattle.cq_steps.specs.Choices.{LeavesMore};
 ghost use Rattle.cq_steps.specs.Lists.{HasCells, KeepsLists, goal_cell};
 ghost use Rattle.cq_steps.specs.Worlds.{value, saved_values, stack};
 
@@ -100,6 +101,7 @@ pub(crate) fn leave(
         ≡ (value world.old.first world.old.second.now, One k) ∷ stack texts v (saved_values world.old.first world.old.second.saved) choices.old) }
     ensures first { now_of world.new.first ≡ now_of world.old.first }
     ensures lists { world.new.second.now ≡ world.old.second.now }
+    ensures choices { OnOk result (LeavesMore choices.old choices.new) }
     ensures marked { AreMarked (saved_values world.new.first world.new.second.saved) choices.new }
     ensures err { OnErr result (choices.new ≡ choices.old) }
     ensures err_saved { OnErr result (saved_values world.new.first world.new.second.saved ≡ saved_values world.old.first world.old.second.saved) }

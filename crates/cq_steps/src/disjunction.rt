@@ -1,6 +1,6 @@
 // What a disjunction becomes, with an if-then on its left or without.
 
-ghost use Rattle.std.specs.Prelude.{◌≡◌, ◌<◌, ℕ, List, length, codes, Some, IfOk, IfSome, IsNone, OnErr};
+ghost use Rattle.std.specs.Prelude.{◌≡◌, ◌<◌, ℕ, List, length, codes, Some, IfOk, IfSome, IsNone, OnOk, OnErr};
 ghost use Rattle.spec_lists.specs.Texts.{Text};
 ghost use Rattle.spec_syntax.specs.Trees.{Tree, binary};
 ghost use Rattle.spec_branch.specs.Branch.{Branch};
@@ -10,6 +10,7 @@ ghost use Rattle.cq_control.specs.Open.{AreMarked};
 ghost use Rattle.cq_program.specs.Database.{Program};
 ghost use Rattle.cq_term.specs.Trees.{tree, KnowsTerms};
 ghost use Rattle.cq_world.specs.Worlds.{now_of};
+ghost use Rattle.cq_steps.specs.Choices.{LeavesMore};
 ghost use Rattle.cq_steps.specs.Lists.{KeepsLists};
 ghost use Rattle.cq_steps.specs.Sides.{IsIfThen, IsPlain};
 ghost use Rattle.cq_steps.specs.Worlds.{value, saved_values, stack, ReadsAs, Selected, Leads};
@@ -59,6 +60,7 @@ fn either(
     ensures world { now_of world.new.first ≡ now_of world.old.first }
     ensures there { IfOk result (λ k. k < length world.new.second.now) }
     ensures keeps { KeepsLists world.old.second.now world.new.second.now }
+    ensures choices { OnOk result (LeavesMore choices.old choices.new) }
     ensures marked { AreMarked (saved_values world.new.first world.new.second.saved) choices.new }
     ensures err { OnErr result (choices.new ≡ choices.old) }
     ensures err_saved { OnErr result (saved_values world.new.first world.new.second.saved ≡ saved_values world.old.first world.old.second.saved) }
@@ -94,6 +96,7 @@ fn if_then_else(
     ensures world { now_of world.new.first ≡ now_of world.old.first }
     ensures there { IfOk result (λ k. k < length world.new.second.now) }
     ensures keeps { KeepsLists world.old.second.now world.new.second.now }
+    ensures choices { OnOk result (LeavesMore choices.old choices.new) }
     ensures marked { AreMarked (saved_values world.new.first world.new.second.saved) choices.new }
     ensures err { OnErr result (choices.new ≡ choices.old) }
     ensures err_saved { OnErr result (saved_values world.new.first world.new.second.saved ≡ saved_values world.old.first world.old.second.saved) }
@@ -102,7 +105,14 @@ fn if_then_else(
     let above = one_more(top)?;
     let known = &world.first;
     let other = goal_before(&known.heap, &mut world.second, right, height, rest)?;
-    let mark = then_before(&known.heap, &mut world.second, top, left.right, height, rest)?;
+    let mark = then_before(
+        &known.heap,
+        &mut world.second,
+        top,
+        left.right,
+        height,
+        rest,
+    )?;
     let all = goal_before(&known.heap, &mut world.second, left.left, above, mark)?;
     leave(world, choices, other)?;
     Ok(all)
@@ -133,6 +143,7 @@ pub fn or(
     ensures world { now_of world.new.first ≡ now_of world.old.first }
     ensures there { IfOk result (λ k. k < length world.new.second.now) }
     ensures keeps { KeepsLists world.old.second.now world.new.second.now }
+    ensures choices { OnOk result (LeavesMore choices.old choices.new) }
     ensures marked { AreMarked (saved_values world.new.first world.new.second.saved) choices.new }
     ensures err { OnErr result (choices.new ≡ choices.old) }
     ensures err_saved { OnErr result (saved_values world.new.first world.new.second.saved ≡ saved_values world.old.first world.old.second.saved) }

@@ -1,12 +1,14 @@
 // What an engine may do where a goal is in front, by the goal's row.
 
-ghost use Rattle.std.specs.Prelude.{◌≡◌, ◌<◌, ◌∷◌, ℕ, suc, List, Option, Some, length};
+ghost use Rattle.std.specs.Prelude.{◌≡◌, ◌<◌, ◌∷◌, ℕ, suc, List, Option, None, Some, length, slice_get, false, true};
 ghost use Rattle.spec_lists.specs.Prefixes.{IsPrefix};
 ghost use Rattle.spec_lists.specs.Texts.{Text};
 ghost use Rattle.spec_syntax.specs.Trees.{Tree};
+ghost use Rattle.spec_builtins.specs.Terms as builtins;
 ghost use Rattle.spec_branch.specs.Branch.{State, Item, Branch, read};
 ghost use Rattle.spec_search.specs.Database.{Database};
-ghost use Rattle.spec_search.specs.Rows.{reply_of};
+ghost use Rattle.spec_search.specs.Replies.{Place, succeeds_if};
+ghost use Rattle.spec_search.specs.Rows.{nth, reply_of};
 ghost use Rattle.spec_search.specs.Search.{Search, empty_state, look_at, Selecting};
 ghost use Rattle.spec_search.specs.Turns.{place_of};
 ghost use Rattle.spec_machine.specs.declared.cell.Cell.{Cell};
@@ -16,11 +18,13 @@ ghost use Rattle.spec_machine.specs.Coming.{Comes};
 ghost use Rattle.spec_machine.specs.Standing.{engine, IsStanding};
 ghost use Rattle.cq_control.specs.Items.{items_at};
 ghost use Rattle.cq_term.specs.HeapValue.{Terms};
+ghost use Rattle.cq_term.specs.Meaning.{at};
+ghost use Rattle.cq_term.specs.Shown.{arguments};
 ghost use Rattle.cq_term.specs.Trees.{KnowsTerms};
 ghost use Rattle.cq_world.specs.Contents.{Contents};
 ghost use Rattle.cq_steps.specs.Selecting.{Selects, SelectsCall};
 ghost use Rattle.cq_steps.specs.Lists.{KeepsLists};
-ghost use Rattle.cq_steps.specs.Worlds.{IsBranch, term_in, KnowsNothing, ReadsAs, Leads, Grown, with_heap};
+ghost use Rattle.cq_steps.specs.Worlds.{IsBranch, term_in, KnowsNothing, ReadsAs, Selected, Leads, Grown, with_heap};
 
 /// A goal in front is the one that the search selects, and one that is put as `call` of it is selected so. Where the engine
 /// leads to what the goal's row makes, the search comes to it.
@@ -40,6 +44,20 @@ pub fn selected_goals_lead()
         → Comes (IsBranch texts) (term_in texts) steps (engine s.database (suc s.selected) choices now current) s }
     ensures reads { (texts : List Text) (c : Contents) (st : State) (id : ℕ) (t : Tree) → IsBranch texts c st
         → term_in texts c id ≡ Some (read st t) → ReadsAs texts c st id (read st t) }
+{}
+
+/// The arguments of a term that reads as itself read as themselves.
+pub fn arguments_read_as_themselves()
+    ensures { (texts : List Text) (c : Contents) (st : State) (id i k : ℕ) (t : Tree) → ReadsAs texts c st id t → k < length c.heap.terms
+        → slice_get (arguments (at c.heap.terms id)) i ≡ Some (at c.heap.terms k) → ReadsAs texts c st k (nth (builtins.arguments t) i) }
+{}
+
+/// A goal that has nothing more to do goes on behind it, and one that fails comes back.
+pub fn goals_succeed_or_fail()
+    ensures on { (texts : List Text) (choices : Stack Contents) (now : Value Contents) (height rest : ℕ) (p : Place) (behind : List Branch)
+        → Selected texts choices now height rest p behind → Leads texts choices now (Some rest) p behind (succeeds_if true p) }
+    ensures back { (texts : List Text) (choices : Stack Contents) (now : Value Contents) (height rest : ℕ) (p : Place) (behind : List Branch)
+        → Selected texts choices now height rest p behind → Leads texts choices now None p behind (succeeds_if false p) }
 {}
 
 /// More that is built, terms without variables of their own and continuations, changes nothing of what an engine stands for.

@@ -13,7 +13,8 @@ pub use alternatives::{Alternatives, Searching, Untried};
 pub use calls::call;
 pub use disjunction::or;
 pub use laws::{
-    more_may_be_built, queries_begin_where_nothing_is_known, selected_goals_lead,
+    arguments_read_as_themselves, goals_succeed_or_fail, more_may_be_built,
+    queries_begin_where_nothing_is_known, selected_goals_lead,
 };
 pub use marks::find_front;
 pub use rows::{and, cut, if_then, not, once};

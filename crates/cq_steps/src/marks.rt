@@ -1,12 +1,13 @@
 // Marks in front of a continuation, and choices that are come back to, up to a goal.
 
-ghost use Rattle.std.specs.Prelude.{◌≡◌, ◌≤◌, ℕ, List, length, Option, Some, None, IfSome, IfNone};
+ghost use Rattle.std.specs.Prelude.{ℕ, List, Option, Some, None, IfSome, IfNone};
 ghost use Rattle.spec_lists.specs.Texts.{Text};
 ghost use Rattle.spec_search.specs.Database.{Database};
 ghost use Rattle.spec_search.specs.Search.{Search};
 ghost use Rattle.cq_control.specs.Items.{items_at};
 ghost use Rattle.cq_control.specs.Open.{AreMarked};
 ghost use Rattle.cq_program.specs.Database.{Program};
+ghost use Rattle.cq_steps.specs.Choices.{KeepsOlder};
 ghost use Rattle.cq_steps.specs.Marks.{IsFront, past, IsPast, IsCall, came_to, HasComeBack};
 ghost use Rattle.cq_steps.specs.Worlds.{value, saved_values, Stands, IsWorking, Arrives};
 
@@ -48,7 +49,7 @@ fn pass_mark(
         → Arrives steps texts v db n (saved_values world.new.first world.new.second.saved) choices.new (value world.new.first world.new.second.now)
         (past result start) s }
     ensures passes { IsPast result start (items_at world.new.second.now start) }
-    ensures fewer { length choices.new ≤ length choices.old }
+    ensures older { KeepsOlder choices.old choices.new }
 {
     let Some((cell, rest)) = world.second.first(start) else {
         return Front::Clear;
@@ -82,7 +83,7 @@ fn pass_marks(
         → Stands texts v db n (saved_values world.old.first world.old.second.saved) choices.old (value world.old.first world.old.second.now) (Some start) s
         → Arrives steps texts v db n (saved_values world.new.first world.new.second.saved) choices.new (value world.new.first world.new.second.now) result s }
     ensures front { IfSome result (λ k. IsFront (items_at world.new.second.now k)) }
-    ensures fewer { length choices.new ≤ length choices.old }
+    ensures older { KeepsOlder choices.old choices.new }
 {
     let mut current = start;
     'marks: loop {
@@ -107,7 +108,7 @@ fn pass_from(
         → Stands texts v db n (saved_values world.old.first world.old.second.saved) choices.old (value world.old.first world.old.second.now) start s
         → Arrives steps texts v db n (saved_values world.new.first world.new.second.saved) choices.new (value world.new.first world.new.second.now) result s }
     ensures front { IfSome result (λ k. IsFront (items_at world.new.second.now k)) }
-    ensures fewer { length choices.new ≤ length choices.old }
+    ensures older { KeepsOlder choices.old choices.new }
 {
     match start {
         Some(k) => pass_marks(world, choices, k),
@@ -123,6 +124,7 @@ fn come_back(world: &mut Searching, choices: &mut Choices<Alternatives>) -> Came
         → Stands texts v db n (saved_values world.old.first world.old.second.saved) choices.old (value world.old.first world.old.second.now) None s
         → Arrives steps texts v db n (saved_values world.new.first world.new.second.saved) choices.new (value world.new.first world.new.second.now)
         (came_to result) s }
+    ensures older { KeepsOlder choices.old choices.new }
     ensures back { HasComeBack result choices.old choices.new }
 {
     let Some(newest) = choices.top() else {
@@ -155,6 +157,7 @@ pub fn find_front(
         → Arrives steps texts v db n (saved_values world.new.first world.new.second.saved) choices.new (value world.new.first world.new.second.now) result s }
     ensures front { IfSome result (λ k. IsFront (items_at world.new.second.now k)) }
     ensures call { IfNone result (IsCall choices.new) }
+    ensures older { KeepsOlder choices.old choices.new }
 {
     let mut current = start;
     'choices: loop {

@@ -1,6 +1,6 @@
 // What conjunction, if-then, negation, once and cut become.
 
-ghost use Rattle.std.specs.Prelude.{◌≡◌, ◌<◌, ℕ, List, length, Some, IfOk, OnErr};
+ghost use Rattle.std.specs.Prelude.{◌≡◌, ◌<◌, ℕ, List, length, Some, IfOk, OnOk, OnErr};
 ghost use Rattle.spec_lists.specs.Texts.{Text};
 ghost use Rattle.spec_built.specs.Built.{atom};
 ghost use Rattle.spec_syntax.specs.Trees.{Tree};
@@ -8,10 +8,11 @@ ghost use Rattle.spec_branch.specs.Branch.{Branch};
 ghost use Rattle.spec_search.specs.Control.{and_row, if_then_row, not_row, once_row, cut_row};
 ghost use Rattle.spec_search.specs.Replies.{Place};
 ghost use Rattle.spec_machine.specs.Cells.{Stack};
-ghost use Rattle.cq_control.specs.Open.{AreMarked};
+ghost use Rattle.cq_control.specs.Open.{AreMarked, last};
 ghost use Rattle.cq_program.specs.Database.{Program};
 ghost use Rattle.cq_world.specs.Contents.{Contents};
 ghost use Rattle.cq_world.specs.Worlds.{now_of};
+ghost use Rattle.cq_steps.specs.Choices.{LeavesMore};
 ghost use Rattle.cq_steps.specs.Lists.{KeepsLists};
 ghost use Rattle.cq_steps.specs.Worlds.{value, saved_values, stack, ReadsAs, Selected, Leads};
 
@@ -119,6 +120,7 @@ pub fn not(
     ensures world { now_of world.new.first ≡ now_of world.old.first }
     ensures there { IfOk result (λ k. k < length world.new.second.now) }
     ensures keeps { KeepsLists world.old.second.now world.new.second.now }
+    ensures choices { OnOk result (LeavesMore choices.old choices.new) }
     ensures marked { AreMarked (saved_values world.new.first world.new.second.saved) choices.new }
     ensures err { OnErr result (choices.new ≡ choices.old) }
     ensures err_saved { OnErr result (saved_values world.new.first world.new.second.saved ≡ saved_values world.old.first world.old.second.saved) }
@@ -140,6 +142,9 @@ pub fn cut(world: &mut Searching, choices: &mut Choices<Alternatives>, height: u
         (value world.old.first world.old.second.now) height rest p behind
         → Leads texts (stack texts v (saved_values world.new.first world.new.second.saved) choices.new)
         (value world.new.first world.new.second.now) (Some rest) p behind (cut_row p) }
+    ensures world { now_of world.new.first ≡ now_of world.old.first }
+    ensures lists { world.new.second.now ≡ world.old.second.now }
+    ensures choices { choices.new ≡ last height choices.old }
     ensures marked { AreMarked (saved_values world.new.first world.new.second.saved) choices.new }
 {
     choices.cut(world, height);

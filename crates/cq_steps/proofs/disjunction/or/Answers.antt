@@ -1,13 +1,9 @@
-use Rattle.std.proofs.Common.{sym, refl, subst}
+use Rattle.std.proofs.Common.{refl, subst}
 use Rattle.spec_syntax.specs.Trees.{Tree}
-use Rattle.spec_search.specs.Control.{or_row}
 use Rattle.cq_world.specs.Worlds.{now_of}
 use Rattle.cq_steps.specs.Sides.{IsPlain}
-use Rattle.cq_steps.specs.Worlds.{value, saved_values, stack, Leads}
 use Rattle.cq_steps.proofs.Added.{reads_tree}
-use Rattle.cq_steps.proofs.Disjunctions.{term_is, left_reads, right_reads}
 use Rattle.cq_steps.proofs.disjunction.or.Goals as goal
-use Rattle.std.proofs.Common.{Some}
 
 pub returns-in_ok-k-in-None-clause-row : goal.returns-in_ok-k-in-None-clause-row
 returns-in_ok-k-in-None-clause-row c = λ v p behind a b s ra rb.

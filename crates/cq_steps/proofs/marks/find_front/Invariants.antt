@@ -1,9 +1,10 @@
-use Rattle.std.proofs.Common.{◌≡◌, ℕ, List, length}
+use Rattle.std.proofs.Common.{ℕ, List, length}
 use Rattle.spec_lists.specs.Texts.{Text}
 use Rattle.spec_search.specs.Database.{Database}
 use Rattle.spec_search.specs.Search.{Search}
 use Rattle.cq_control.specs.Open.{AreMarked}
 use Rattle.cq_program.specs.Database.{Program}
+use Rattle.cq_steps.specs.Choices.{KeepsOlder}
 use Rattle.cq_steps.specs.Worlds.{value, saved_values, Stands, Arrives}
 use Rattle.cq_steps.proofs.marks.find_front.Given as goal
 
@@ -14,6 +15,7 @@ invariant-choices l =
       arrives : (steps : ℕ) (texts : List Text) (v : Program) (db : Database) (n : ℕ) (s : Search)
           → Stands texts v db n (saved_values l.fn.world.first l.fn.world.second.saved) l.fn.choices (value l.fn.world.first l.fn.world.second.now) l.fn.start s
           → Arrives steps texts v db n (saved_values l.world.first l.world.second.saved) l.choices (value l.world.first l.world.second.now) l.current s;
+      older : KeepsOlder l.fn.choices l.choices;
     }
 
 abbrev pub decreases-choices : goal.decreases-choices

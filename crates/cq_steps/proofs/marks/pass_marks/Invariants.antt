@@ -1,9 +1,10 @@
-use Rattle.std.proofs.Common.{◌≡◌, ◌≤◌, ℕ, List, length, Some}
+use Rattle.std.proofs.Common.{ℕ, List, Some}
 use Rattle.spec_lists.specs.Texts.{Text}
 use Rattle.spec_search.specs.Database.{Database}
 use Rattle.spec_search.specs.Search.{Search}
 use Rattle.cq_control.specs.Open.{AreMarked}
 use Rattle.cq_program.specs.Database.{Program}
+use Rattle.cq_steps.specs.Choices.{KeepsOlder}
 use Rattle.cq_steps.specs.Worlds.{value, saved_values, Stands, Arrives}
 use Rattle.cq_steps.proofs.marks.pass_marks.Given as goal
 
@@ -14,7 +15,7 @@ invariant-marks l =
       arrives : (steps : ℕ) (texts : List Text) (v : Program) (db : Database) (n : ℕ) (s : Search)
           → Stands texts v db n (saved_values l.fn.world.first l.fn.world.second.saved) l.fn.choices (value l.fn.world.first l.fn.world.second.now) (Some l.fn.start) s
           → Arrives steps texts v db n (saved_values l.world.first l.world.second.saved) l.choices (value l.world.first l.world.second.now) (Some l.current) s;
-      fewer : length l.choices ≤ length l.fn.choices;
+      older : KeepsOlder l.fn.choices l.choices;
     }
 
 abbrev pub decreases-marks : goal.decreases-marks
