@@ -59,8 +59,3 @@ module _ (texts : List Text) (choices : Stack Contents) (w : Contents) (st : Sta
         tree_read texts w.heap.terms g (read st t) (All-head (λ id. id < length w.heap.terms) g goals l) first,
         calls_are goals gs cs more (All-tail (λ id. id < length w.heap.terms) g goals l) others a,
       )
-
--- ---- goals that are put in front, the last one first
-
-pub calls_behind : (goals : List ℕ) (g : ℕ) (cs : List Cell) → calls (goals ++ g ∷ []) ++ cs ≡ calls goals ++ Call g ∷ cs
-calls_behind goals g cs = ap (λ (xs : List Cell). xs ++ cs) (map-append (λ (x : ℕ). Call x) goals (g ∷ [])) ∙ append_assoc (calls goals) (Call g ∷ []) cs

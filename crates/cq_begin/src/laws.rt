@@ -24,8 +24,8 @@ pub fn settlings_stop()
 
 /// Where the row of a selected goal makes one child, the query stops while that is settled.
 pub fn rows_stop()
-    ensures overflow { (budgets : Budgets) (s : Search) (goal : Tree) (cut : ℕ) (items : List Item) (st : State) (behind : List Branch) (work : Pending) (pair : Pair)
-        → look_at s.branches ≡ Selecting goal cut items st behind → s.selected < budgets.steps
+    ensures overflow { (budgets : Budgets) (s : Search) (goal : Tree) (cut : ℕ) (items : List Item) (st : State) (behind : List Branch)
+        (work : Pending) (pair : Pair) → look_at s.branches ≡ Selecting goal cut items st behind → s.selected < budgets.steps
         → reply_of (place_of s st items cut behind) (read st goal) ≡ makes (place_of s st items cut behind) (child items st work ∷ [])
         → MayRefuse st work pair → Tells budgets s (Stops (Overflow pair))
         (with_branches [] (after_step s (made (place_of s st items cut behind) (child items st work ∷ [])) behind)) }

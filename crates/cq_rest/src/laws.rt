@@ -53,8 +53,8 @@ pub fn equated_worlds_may_be_settled()
     ensures called { (texts : List Text) (c : Contents) (h : Terms) (pairs : List Pair) (newly : List VarId) (told : List ℕ) (rows : List Constraint)
         → AreDifferent texts → IsReady texts c → AllEqual c.heap h pairs newly → KnowsTerms texts h.terms → All (MayBeTold c.heap) told
         → SomeIsCalled texts (with_terms c h) newly told rows }
-    ensures each { (texts : List Text) (c : Contents) (h : Terms) (pairs : List Pair) (newly : List VarId) (told : List ℕ) (rows : List Constraint) (st : State)
-        (p : Pending) → AreDifferent texts → IsReadyAs texts c st → AllEqual c.heap h pairs newly → KnowsTerms texts h.terms
+    ensures each { (texts : List Text) (c : Contents) (h : Terms) (pairs : List Pair) (newly : List VarId) (told : List ℕ) (rows : List Constraint)
+        (st : State) (p : Pending) → AreDifferent texts → IsReadyAs texts c st → AllEqual c.heap h pairs newly → KnowsTerms texts h.terms
         → All (λ id. id < length c.heap.terms) told → IsWork texts c st pairs told rows p → CallsFor texts c h newly told rows st p }
     ensures work { (texts : List Text) (c : Contents) (pairs : List Pair) (told : List ℕ) (rows : List Constraint) (st : State)
         → IsReadyAs texts c st → All (MayBeEqual c.heap) pairs → All (MayBeTold c.heap) told

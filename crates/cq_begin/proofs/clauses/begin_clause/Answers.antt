@@ -26,20 +26,20 @@ returns-in-Pruned-clause-comes c =
 
 pub returns-in-Pruned-clause-unchanged : goal.returns-in-Pruned-clause-unchanged
 returns-in-Pruned-clause-unchanged c =
-    went_back c.args.world.now c.mark.new.self c.try_clause.new.world c.in_ok-start.start.number c.in_ok-start.ensures.mark c.in_ok-start.ensures.saved c.mark.ensures.room
+    went_back c.args.world.now c.mark.new.self c.try_clause.new.world c.in_ok-start.start.number c.in_ok-start.ensures.mark c.in_ok-start.ensures.saved
     c.try_clause.ensures.marks c.undo.new.self c.undo.ensures.now
 
 pub returns-in-Pruned-clause-budget : goal.returns-in-Pruned-clause-budget
 returns-in-Pruned-clause-budget c = ap (λ (x : Contents). x.pivots)
-    (went_back c.args.world.now c.mark.new.self c.try_clause.new.world c.in_ok-start.start.number c.in_ok-start.ensures.mark c.in_ok-start.ensures.saved c.mark.ensures.room
+    (went_back c.args.world.now c.mark.new.self c.try_clause.new.world c.in_ok-start.start.number c.in_ok-start.ensures.mark c.in_ok-start.ensures.saved
     c.try_clause.ensures.marks c.undo.new.self c.undo.ensures.now)
 
 pub returns-in-Err-clause-err : goal.returns-in-Err-clause-err
 returns-in-Err-clause-err c =
-    went_back c.args.world.now c.mark.new.self c.try_clause.new.world c.in_ok-start.start.number c.in_ok-start.ensures.mark c.in_ok-start.ensures.saved c.mark.ensures.room
+    went_back c.args.world.now c.mark.new.self c.try_clause.new.world c.in_ok-start.start.number c.in_ok-start.ensures.mark c.in_ok-start.ensures.saved
     c.try_clause.ensures.marks c.undo-in-Err.new.self c.undo-in-Err.ensures.now
 
 pub returns-in-Err-clause-budget : goal.returns-in-Err-clause-budget
 returns-in-Err-clause-budget c = ap (λ (x : Contents). x.pivots)
-    (went_back c.args.world.now c.mark.new.self c.try_clause.new.world c.in_ok-start.start.number c.in_ok-start.ensures.mark c.in_ok-start.ensures.saved c.mark.ensures.room
+    (went_back c.args.world.now c.mark.new.self c.try_clause.new.world c.in_ok-start.start.number c.in_ok-start.ensures.mark c.in_ok-start.ensures.saved
     c.try_clause.ensures.marks c.undo-in-Err.new.self c.undo-in-Err.ensures.now)
