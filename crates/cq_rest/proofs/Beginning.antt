@@ -1,10 +1,10 @@
 -- A world that knows nothing has nothing left to settle.
-use Rattle.std.proofs.Common.{◌≡◌, ◌<◌, ◌≤◌, ℕ, List, [], length, map, Bool, true, false, refl, sym, ap, ◌∙◌, subst, arith}
+use Rattle.std.proofs.Common.{◌≡◌, ℕ, List, [], length, false, refl, sym, ap, subst, arith}
 use Rattle.std.specs.Prelude.{filter, pos, ◌==◌}
 use Rattle.std.specs.List.{AllZip, list_any}
-use Rattle.spec_linear.specs.Solution.{Constraint, Solvable}
+use Rattle.spec_linear.specs.Solution.{Solvable}
 use Rattle.spec_lists.specs.Texts.{Text}
-use Rattle.spec_terms.specs.Term.{Var, identity, named}
+use Rattle.spec_terms.specs.Term.{identity, named}
 use Rattle.spec_branch.specs.Branch.{State}
 use Rattle.spec_branch.specs.Alike.{idle}
 use Rattle.cq_atoms.specs.Texts.{text_of}

@@ -1,10 +1,9 @@
 -- The bindings of a state with a unifier behind them.
-use Rattle.std.proofs.Common.{◌≡◌, ◌≤◌, ◌<◌, ℕ, List, true, refl, sym, ap, ◌∙◌, subst, arith, inl, inr}
+use Rattle.std.proofs.Common.{◌≡◌, ◌≤◌, ◌<◌, ℕ, List, sym, ap, ◌∙◌, subst, arith, inl, inr}
 use Rattle.spec_lists.specs.Texts.{Text}
-use Rattle.spec_terms.specs.Term.{Subst, Var, Occurs, apply, identity, followed_by}
+use Rattle.spec_terms.specs.Term.{Subst, Var, Occurs, apply, identity}
 use Rattle.spec_terms.specs.Unifier.{Equation, IsUnifier}
 use Rattle.spec_terms.proofs.Substitution.{apply-identity, agree_apply, occurs_from}
-use Rattle.spec_syntax.specs.Trees.{Tree}
 use Rattle.spec_branch.specs.Branch.{State}
 use Rattle.cq_world.specs.Rest.{IsReadThrough}
 use Rattle.cq_settle.specs.Called.{bound_state}

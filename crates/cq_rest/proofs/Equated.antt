@@ -1,21 +1,21 @@
 -- A world whose terms were made equal is called to be settled.
-use Rattle.std.proofs.Common.{◌≡◌, ◌≢◌, ◌<◌, ◌≤◌, ℕ, zero, suc, List, [], ◌∷◌, length, map, get_or, Bool, true, false, Some, refl, sym, ap, ap₂, ◌∙◌, subst, arith, inl, inr}
-use Rattle.std.specs.Prelude.{All, Contains, not, ◌==◌}
+use Rattle.std.proofs.Common.{◌≡◌, ◌≢◌, ◌<◌, ℕ, List, [], ◌∷◌, length, map, get_or, Bool, true, false, Some, refl, sym, ap, ap₂, ◌∙◌, subst, arith, inl, inr}
+use Rattle.std.specs.Prelude.{All, Contains, not}
 use Rattle.std.specs.List.{AllZip, AllPairs}
 use Rattle.std.proofs.lemmas.Bool.{true≢false}
 use Rattle.std.proofs.lemmas.List.{get_or-map, length-map}
-use Rattle.std.proofs.lemmas.List.Elements.{Contains-get_or}
+use Rattle.std.proofs.lemmas.List.Elements.{All-head, All-tail, All-weaker, Contains-get_or}
 use Rattle.std.proofs.lemmas.Option.{slice_get-get_or}
 use Rattle.spec_linear.specs.Solution.{Constraint}
 use Rattle.spec_lists.specs.Texts.{Text}
 use Rattle.spec_lists.proofs.Tests.{nat_eq-self, nat_eq-same}
-use Rattle.spec_terms.specs.Term.{Subst, Var, Number, Name, Compound, Occurs, apply, followed_by, named}
-use Rattle.spec_terms.specs.Unifier.{Equation, IsUnifier, read_under}
-use Rattle.spec_terms.specs.Names.{AreDifferentBelow, named_pairs, named_images}
-use Rattle.spec_terms.proofs.Renamed.{unifier_by_texts}
+use Rattle.spec_terms.specs.Term.{Subst, Var, Number, Name, Compound, apply, followed_by, named}
+use Rattle.spec_terms.specs.Unifier.{Equation, IsUnifier, HasNoUnifier, read_under}
+use Rattle.spec_terms.specs.Names.{AreDifferentBelow, EachNameInPairs, named_pairs, named_images}
+use Rattle.spec_terms.proofs.Renamed.{unifier_by_texts, none_by_texts}
 use Rattle.spec_terms.proofs.Substitution.{apply-followed_by, named-apply}
 use Rattle.spec_syntax.specs.Trees.{Tree}
-use Rattle.spec_branch.specs.Branch.{State, Pending, no_work, Asleep, Frozen, Sleeper}
+use Rattle.spec_branch.specs.Branch.{State, Pending, Asleep, Frozen, Sleeper, read}
 use Rattle.spec_branch.specs.Settling.{is_the_variable, is_bound}
 use Rattle.cq_atoms.specs.Texts.{AreDifferent, text_of}
 use Rattle.cq_attr.specs.Attributes.{Waiting}
@@ -27,16 +27,19 @@ use Rattle.cq_term.specs.Names.{HasNamesBelow}
 use Rattle.cq_term.specs.Shown.{IsUnbound}
 use Rattle.cq_term.specs.Trees.{tree, trees, KnowsTerms}
 use Rattle.cq_term.proofs.Meanings.{at-map}
-use Rattle.cq_unify.specs.Unified.{Unified, equation, in_turn}
+use Rattle.cq_walk.specs.Pairs.{IsLive, equations}
+use Rattle.cq_walk.specs.declared.pairs.Pair.{Pair}
 use Rattle.cq_walk.specs.Places.{numbers_of}
 use Rattle.cq_world.specs.Contents.{Contents}
 use Rattle.cq_world.specs.Standing.{AreImages, Stands, IsConstraint, IsSleeper, AreRead, constraints, goals}
 use Rattle.cq_world.specs.Rest.{IsReadThrough, IsReadyAs, IsReady}
 use Rattle.cq_settle.specs.Called.{IsCalled, IsNewlyBound, SomeIsCalled, bound_state}
 use Rattle.cq_rest.specs.Ready.{MayBeTold, with_terms}
+use Rattle.cq_rest.specs.Equal.{MayBeEqual, AllEqual, IsWork, work_of, CallsFor}
 use Rattle.cq_rest.proofs.Alone.{StandsIn, stands_or_not, stays_itself}
 use Rattle.cq_rest.proofs.Bound.{bound_through}
 use Rattle.cq_rest.proofs.Names.{occurs_named, named_variable, each_below, image_below}
+use Rattle.cq_rest.proofs.Pairs.{in_pairs}
 use Rattle.cq_rest.proofs.Told.{themselves, itself, live}
 
 -- ---- variables and lists of them
@@ -58,9 +61,6 @@ unbound_is s v e = unbound_by v (s v) (is_the_variable v (s v)) refl e
 is_unbound : (s : Subst Text) (v : ℕ) → s v ≡ Var v → is_bound s v ≡ false
 is_unbound s v e = ap (λ (t : Tree). not (is_the_variable v t)) e ∙ ap not (nat_eq-self v)
 
-abbrev one_pair : Tree → Tree → List (Equation Text)
-one_pair x y = record { left = x; right = y } ∷ []
-
 number_contained : (vs : List VarId) (v : VarId) → Contains vs v → Contains (numbers_of vs) v.0
 number_contained [] v h = absurd (contains_none v h)
 number_contained (w ∷ vs) v h = elim (contains_cases w vs v h) [
@@ -80,19 +80,41 @@ each_number P vs h i d l =
     let within : i < length vs = omega (arith, l, length-map vs (λ (x : VarId). x.0)) in
     subst P (sym (get_or-map (λ (x : VarId). x.0) vs i (record { 0 = d }) d within)) (h (get_or vs i (record { 0 = d })) (Contains-get_or vs i (record { 0 = d }) within))
 
-module _ (texts : List Text) (different : AreDifferent texts) (c : Contents) (h : Terms) (a b : ℕ) (newly : List VarId) (st : State)
-    (r : IsReadyAs texts c st) (ma : MayBeTold c.heap a) (mb : MayBeTold c.heap b) (k : Unified c.heap h a b newly) (names : KnowsTerms texts h.terms) where
+different_below : (texts : List Text) → AreDifferent texts → AreDifferentBelow (length texts) (text_of texts)
+different_below texts different i j in_i in_j same =
+    different i j (text_of texts i) (slice_get-get_or texts i [] in_i) (slice_get-get_or texts j [] in_j ∙ ap (λ t. Some t) (sym same))
+
+-- each name in the pairs has a text
+known_pairs : (texts : List Text) (h : Terms) → KnowsTerms texts h.terms → (ps : List Pair) → All (IsLive h.terms) ps → EachNameInPairs (λ a. a < length texts) (equations h.terms ps)
+known_pairs texts h names [] l = tt
+known_pairs texts h names (p ∷ ps) l =
+    let here = All-head (IsLive h.terms) p ps l in (
+      each_below (length texts) (at h.terms p.left) (names p.left blank here.0),
+      each_below (length texts) (at h.terms p.right) (names p.right blank here.1),
+      known_pairs texts h names ps (All-tail (IsLive h.terms) p ps l),
+    )
+
+-- nothing makes the trees of the pairs equal, where nothing makes the pairs equal
+pub none_of_trees : (texts : List Text) (c : Contents) (ps : List Pair) (told : List ℕ) (rows : List Constraint) (st : State) (p : Pending) → AreDifferent texts
+    → KnowsTerms texts c.heap.terms → All (IsLive c.heap.terms) ps → HasNoUnifier (equations c.heap.terms ps) → IsWork texts c st ps told rows p
+    → HasNoUnifier (read_under st.bindings p.equations)
+none_of_trees texts c ps told rows st p different names l none w =
+    subst (λ (es : List (Equation Text)). HasNoUnifier es) (sym w.pairs_are)
+    (none_by_texts (text_of texts) (length texts) (different_below texts different) (equations c.heap.terms ps) (known_pairs texts c.heap names ps l) none)
+
+module _ (texts : List Text) (different : AreDifferent texts) (c : Contents) (h : Terms) (ps : List Pair) (newly : List VarId) (st : State)
+    (r : IsReadyAs texts c st) (k : AllEqual c.heap h ps newly) (names : KnowsTerms texts h.terms) where
   abbrev s : Subst ℕ
-  s = in_turn k.bindings
+  s = k.unifier
 
   abbrev u : Subst Text
   u = named_images (text_of texts) s
 
   abbrev pairs : List (Equation ℕ)
-  pairs = equation c.heap a b
+  pairs = equations c.heap.terms ps
 
-  abbrev equations : List (Equation Text)
-  equations = named_pairs (text_of texts) pairs
+  abbrev trees_of_pairs : List (Equation Text)
+  trees_of_pairs = named_pairs (text_of texts) pairs
 
   same_images : length h.images ≡ length c.heap.images
   same_images = ap length k.images ∙ length-map c.heap.images (apply s)
@@ -103,9 +125,7 @@ module _ (texts : List Text) (different : AreDifferent texts) (c : Contents) (h 
   -- ---- the unifier
 
   in_pair : (v : ℕ) → StandsIn v pairs → IsUnbound c.heap.images v
-  in_pair v (inl o) = ma.inside v o
-  in_pair v (inr (inl o)) = mb.inside v o
-  in_pair v (inr (inr o)) = absurd o
+  in_pair = in_pairs c.heap ps k.read_through
 
   at_new : (id : ℕ) → id < length c.heap.terms → at h.terms id ≡ apply s (at c.heap.terms id)
   at_new id l = ap (λ (ts : List HeapTerm). at ts id) k.terms ∙ at-map (apply s) c.heap.terms id l
@@ -113,42 +133,37 @@ module _ (texts : List Text) (different : AreDifferent texts) (c : Contents) (h 
   known_new : (id : ℕ) → id < length c.heap.terms → HasNamesBelow (length texts) (apply s (at c.heap.terms id))
   known_new id l = subst (HasNamesBelow (length texts)) (at_new id l) (names id blank (omega (arith, l, same_terms)))
 
-  known_in_pair : (v : ℕ) → StandsIn v pairs → HasNamesBelow (length texts) (s v)
-  known_in_pair v (inl o) = image_below (length texts) s v (at c.heap.terms a) o (known_new a ma.live)
-  known_in_pair v (inr (inl o)) = image_below (length texts) s v (at c.heap.terms b) o (known_new b mb.live)
-  known_in_pair v (inr (inr o)) = absurd o
+  known_in : (qs : List Pair) → All (MayBeEqual c.heap) qs → (v : ℕ) → StandsIn v (equations c.heap.terms qs) → HasNamesBelow (length texts) (s v)
+  known_in [] m v o = absurd o
+  known_in (q ∷ qs) m v (inl o) = image_below (length texts) s v (at c.heap.terms q.left) o (known_new q.left (All-head (MayBeEqual c.heap) q qs m).0.live)
+  known_in (q ∷ qs) m v (inr (inl o)) = image_below (length texts) s v (at c.heap.terms q.right) o (known_new q.right (All-head (MayBeEqual c.heap) q qs m).1.live)
+  known_in (q ∷ qs) m v (inr (inr o)) = known_in qs (All-tail (MayBeEqual c.heap) q qs m) v o
 
   image_known : (v : ℕ) → HasNamesBelow (length texts) (s v)
   image_known v = elim (stands_or_not v pairs) [
-    | inl i ↦ known_in_pair v i
-    | inr out ↦ subst (HasNamesBelow (length texts)) (sym (stays_itself pairs s k.unifier v out)) tt
+    | inl i ↦ known_in ps k.read_through v i
+    | inr out ↦ subst (HasNamesBelow (length texts)) (sym (stays_itself pairs s k.unifies v out)) tt
   ]
 
-  different_below : AreDifferentBelow (length texts) (text_of texts)
-  different_below i j in_i in_j same =
-      different i j (text_of texts i) (slice_get-get_or texts i [] in_i) (slice_get-get_or texts j [] in_j ∙ ap (λ t. Some t) (sym same))
+  named_unifier : IsUnifier trees_of_pairs u
+  named_unifier = unifier_by_texts (text_of texts) (length texts) (different_below texts different) pairs s
+      (known_pairs texts c.heap r.stands.names ps (All-weaker (MayBeEqual c.heap) (IsLive c.heap.terms) (λ p m. (m.0.live, m.1.live)) ps k.read_through))
+      (λ v. each_below (length texts) (s v) (image_known v)) k.unifies
 
-  named_unifier : IsUnifier equations u
-  named_unifier = unifier_by_texts (text_of texts) (length texts) different_below pairs s
-      (each_below (length texts) (at c.heap.terms a) (r.stands.names a blank ma.live), each_below (length texts) (at c.heap.terms b) (r.stands.names b blank mb.live), tt)
-      (λ v. each_below (length texts) (s v) (image_known v)) k.unifier
-
-  read_same : read_under st.bindings equations ≡ equations
-  read_same = ap₂ one_pair (sym (itself texts c.heap st.bindings r.stands.bindings a ma)) (sym (itself texts c.heap st.bindings r.stands.bindings b mb))
-
-  unnamed_pair : (v : ℕ) → StandsIn v equations → StandsIn v pairs
-  unnamed_pair v (inl o) = inl (occurs_named (text_of texts) v (at c.heap.terms a) o)
-  unnamed_pair v (inr (inl o)) = inr (inl (occurs_named (text_of texts) v (at c.heap.terms b) o))
-  unnamed_pair v (inr (inr o)) = absurd o
+  unnamed : (es : List (Equation ℕ)) (v : ℕ) → StandsIn v (named_pairs (text_of texts) es) → StandsIn v es
+  unnamed [] v o = absurd o
+  unnamed (e ∷ es) v (inl o) = inl (occurs_named (text_of texts) v e.left o)
+  unnamed (e ∷ es) v (inr (inl o)) = inr (inl (occurs_named (text_of texts) v e.right o))
+  unnamed (e ∷ es) v (inr (inr o)) = inr (inr (unnamed es v o))
 
   state_unbound : (v : ℕ) → IsUnbound c.heap.images v → st.bindings v ≡ Var v
   state_unbound v i = r.stands.bindings.inside v i.0 ∙ ap (named (text_of texts)) i.1
 
-  inside_state : (v : ℕ) → StandsIn v equations → (v < st.fresh) × (st.bindings v ≡ Var v)
-  inside_state v o = let i = in_pair v (unnamed_pair v o) in (omega (arith, i.0, r.stands.fresh), state_unbound v i)
+  inside_state : (v : ℕ) → StandsIn v trees_of_pairs → (v < st.fresh) × (st.bindings v ≡ Var v)
+  inside_state v o = let i = in_pair v (unnamed pairs v o) in (omega (arith, i.0, r.stands.fresh), state_unbound v i)
 
   through : IsReadThrough (bound_state st u)
-  through = bound_through st equations u r.rests.read_through named_unifier inside_state
+  through = bound_through st trees_of_pairs u r.rests.read_through named_unifier inside_state
 
   -- ---- the world
 
@@ -254,30 +269,72 @@ module _ (texts : List Text) (different : AreDifferent texts) (c : Contents) (h 
 
   -- ---- the call
 
-  module _ (told : List ℕ) (rows : List Constraint) (m : All (MayBeTold h) told) where
-    work : Pending
-    work = record no_work { equations = equations; rows = rows; told = trees texts h.terms told }
+  -- what was read is read on
+  pub reads_on : (id : ℕ) (t : Tree) → id < length c.heap.terms → tree texts c.heap.terms id ≡ apply st.bindings t → tree texts h.terms id ≡ apply (followed_by st.bindings u) t
+  reads_on id t l e = terms_new id l ∙ ap (apply u) e ∙ sym (apply-followed_by st.bindings u t)
 
-    equated : IsCalled texts (with_terms c h) newly told rows st work u
-    unfolding work
-    equated = record {
-      rests = r.rests;
-      unifier = subst (λ (es : List (Equation Text)). IsUnifier es u) (sym read_same) named_unifier;
-      read_through = through;
-      stands = stands_now;
-      once = numbers_once newly k.once;
-      bound = each_number (IsNewlyBound st u) newly bound_one;
-      numeric = λ v e n. listed v n;
-      awaited = λ v n w b. listed v b;
-      told_live = live h told m;
-      told_reads = themselves texts h (followed_by st.bindings u) now_images told m;
-      rows_are = refl;
-    }
+  trees_on : (ids : List ℕ) (ts : List Tree) → All (λ id. id < length c.heap.terms) ids → map (read st) ts ≡ trees texts c.heap.terms ids
+      → trees texts h.terms ids ≡ map (apply (followed_by st.bindings u)) ts
+  trees_on [] [] l e = refl
+  trees_on [] (t ∷ ts) l e = cc
+  trees_on (id ∷ ids) [] l e = cc
+  trees_on (id ∷ ids) (t ∷ ts) l e =
+      let first : read st t ≡ tree texts c.heap.terms id = cc in
+      let others : map (read st) ts ≡ trees texts c.heap.terms ids = cc in
+      ap₂ (λ x xs. x ∷ xs) (reads_on id t (All-head (λ n. n < length c.heap.terms) id ids l) (sym first))
+      (trees_on ids ts (All-tail (λ n. n < length c.heap.terms) id ids l) others)
 
-    is_equated : SomeIsCalled texts (with_terms c h) newly told rows
-    is_equated = record { state = st; pending = work; unifier = u; is = equated }
+  module _ (told : List ℕ) (rows : List Constraint) (l : All (λ id. id < length c.heap.terms) told) where
+    still_live : (ids : List ℕ) → All (λ id. id < length c.heap.terms) ids → All (λ id. id < length h.terms) ids
+    still_live ids m i d w = omega (arith, m i d w, same_terms)
 
-pub equated_called : (texts : List Text) (c : Contents) (h : Terms) (a b : ℕ) (newly : List VarId) (told : List ℕ) (rows : List Constraint) → AreDifferent texts → IsReady texts c
-    → MayBeTold c.heap a → MayBeTold c.heap b → Unified c.heap h a b newly → KnowsTerms texts h.terms → All (MayBeTold h) told
-    → SomeIsCalled texts (with_terms c h) newly told rows
-equated_called texts c h a b newly told rows different r ma mb k names m = is_equated texts different c h a b newly r.0 r.1 ma mb k names told rows m
+    module _ (p : Pending) (w : IsWork texts c st ps told rows p) where
+      equated : IsCalled texts (with_terms c h) newly told rows st p u
+      equated = record {
+        rests = r.rests;
+        unifier = subst (λ (es : List (Equation Text)). IsUnifier es u) (sym w.pairs_are) named_unifier;
+        read_through = through;
+        stands = stands_now;
+        once = numbers_once newly k.once;
+        bound = each_number (IsNewlyBound st u) newly bound_one;
+        numeric = λ v e n. listed v n;
+        awaited = λ v n a b. listed v b;
+        told_live = still_live told l;
+        told_reads = trees_on told p.told l w.told_are;
+        rows_are = w.rows_are;
+      }
+
+      pub calls_for : CallsFor texts c h newly told rows st p
+      calls_for = record { unifier = u; called = equated; reads = reads_on }
+
+-- ---- some work
+
+module _ (texts : List Text) (c : Contents) (st : State) (r : IsReadyAs texts c st) where
+  read_pairs : (ps : List Pair) → All (MayBeEqual c.heap) ps
+      → read_under st.bindings (named_pairs (text_of texts) (equations c.heap.terms ps)) ≡ named_pairs (text_of texts) (equations c.heap.terms ps)
+  read_pairs [] m = refl
+  read_pairs (p ∷ ps) m =
+      let here = All-head (MayBeEqual c.heap) p ps m in
+      let left = sym (itself texts c.heap st.bindings r.stands.bindings p.left here.0) in
+      let right = sym (itself texts c.heap st.bindings r.stands.bindings p.right here.1) in
+      λ i. record { left = left i; right = right i } ∷ read_pairs ps (All-tail (MayBeEqual c.heap) p ps m) i
+
+  pub is_work : (ps : List Pair) (told : List ℕ) (rows : List Constraint) → All (MayBeEqual c.heap) ps → All (MayBeTold c.heap) told
+      → IsWork texts c st ps told rows (work_of texts c ps told rows)
+  is_work ps told rows m n = record { pairs_are = read_pairs ps m; told_are = sym (themselves texts c.heap st.bindings r.stands.bindings told n); rows_are = refl }
+
+pub works : (texts : List Text) (c : Contents) (pairs : List Pair) (told : List ℕ) (rows : List Constraint) (st : State) → IsReadyAs texts c st → All (MayBeEqual c.heap) pairs
+    → All (MayBeTold c.heap) told → IsWork texts c st pairs told rows (work_of texts c pairs told rows)
+works texts c pairs told rows st r m n = is_work texts c st r pairs told rows m n
+
+pub equated_calls : (texts : List Text) (c : Contents) (h : Terms) (ps : List Pair) (newly : List VarId) (told : List ℕ) (rows : List Constraint) (st : State) (p : Pending)
+    → AreDifferent texts → IsReadyAs texts c st → AllEqual c.heap h ps newly → KnowsTerms texts h.terms → All (λ id. id < length c.heap.terms) told
+    → IsWork texts c st ps told rows p → CallsFor texts c h newly told rows st p
+equated_calls texts c h ps newly told rows st p different r k names l w = calls_for texts different c h ps newly st r k names told rows l p w
+
+pub equated_called : (texts : List Text) (c : Contents) (h : Terms) (ps : List Pair) (newly : List VarId) (told : List ℕ) (rows : List Constraint) → AreDifferent texts → IsReady texts c
+    → AllEqual c.heap h ps newly → KnowsTerms texts h.terms → All (MayBeTold c.heap) told → SomeIsCalled texts (with_terms c h) newly told rows
+equated_called texts c h ps newly told rows different r k names m =
+    let w = works texts c ps told rows r.0 r.1 k.read_through m in
+    let call = equated_calls texts c h ps newly told rows r.0 (work_of texts c ps told rows) different r.1 k names (live c.heap told m) w in
+    record { state = r.0; pending = work_of texts c ps told rows; unifier = call.unifier; is = call.called }

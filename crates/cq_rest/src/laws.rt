@@ -3,6 +3,8 @@
 ghost use Rattle.std.specs.Prelude.{◌≡◌, ◌≤◌, ◌<◌, ℕ, List, [], ◌∷◌, All, length};
 ghost use Rattle.spec_linear.specs.Solution.{Constraint};
 ghost use Rattle.spec_lists.specs.Texts.{Text};
+ghost use Rattle.spec_terms.specs.Unifier.{HasNoUnifier, read_under};
+ghost use Rattle.spec_branch.specs.Branch.{State, Pending};
 ghost use Rattle.cq_atoms.specs.Texts.{AreDifferent};
 ghost use Rattle.cq_attr.specs.Attributes.{suspended};
 ghost use Rattle.cq_attr.specs.declared.susp.Susp.TheVariants.{Goal};
@@ -10,11 +12,13 @@ ghost use Rattle.cq_frac.specs.declared.VarId.{VarId};
 ghost use Rattle.cq_term.specs.HeapValue.{Terms};
 ghost use Rattle.cq_term.specs.Shown.{IsUnbound};
 ghost use Rattle.cq_term.specs.Trees.{KnowsTerms};
-ghost use Rattle.cq_unify.specs.Unified.{Unified};
+ghost use Rattle.cq_walk.specs.Pairs.{IsLive, equations};
+ghost use Rattle.cq_walk.specs.declared.pairs.Pair.{Pair};
 ghost use Rattle.cq_world.specs.Contents.{Contents};
-ghost use Rattle.cq_world.specs.Rest.{IsReady};
+ghost use Rattle.cq_world.specs.Rest.{IsReady, IsReadyAs};
 ghost use Rattle.cq_settle.specs.Called.{SomeIsCalled, OfCalls};
 ghost use Rattle.cq_settle.specs.Settled.{IsKept};
+ghost use Rattle.cq_rest.specs.Equal.{MayBeEqual, AllEqual, IsWork, work_of, CallsFor};
 ghost use Rattle.cq_rest.specs.Ready.{KnowsNothing, MayBeTold, with_terms, with_attributes};
 
 /// A world in which nothing was told or bound has nothing left to settle.
@@ -42,11 +46,22 @@ pub fn kept_worlds_are_ready()
     ensures names { (texts : List Text) (c : Contents) → IsReady texts c → KnowsTerms texts c.heap.terms }
 {}
 
-/// Where nothing was left to settle and two terms were made equal, constraints may be told besides: settling is called for.
+/// Where nothing was left to settle and pairs of terms were made equal, settling is called for: of each work of a branch that
+/// these pairs and the told terms are, in each state of the world. The terms as they read are such work. Where nothing makes
+/// the pairs equal, nothing makes those of the work equal.
 pub fn equated_worlds_may_be_settled()
-    ensures called { (texts : List Text) (c : Contents) (h : Terms) (a b : ℕ) (newly : List VarId) (told : List ℕ) (rows : List Constraint)
-        → AreDifferent texts → IsReady texts c → MayBeTold c.heap a → MayBeTold c.heap b → Unified c.heap h a b newly
-        → KnowsTerms texts h.terms → All (MayBeTold h) told → SomeIsCalled texts (with_terms c h) newly told rows }
+    ensures called { (texts : List Text) (c : Contents) (h : Terms) (pairs : List Pair) (newly : List VarId) (told : List ℕ) (rows : List Constraint)
+        → AreDifferent texts → IsReady texts c → AllEqual c.heap h pairs newly → KnowsTerms texts h.terms → All (MayBeTold c.heap) told
+        → SomeIsCalled texts (with_terms c h) newly told rows }
+    ensures each { (texts : List Text) (c : Contents) (h : Terms) (pairs : List Pair) (newly : List VarId) (told : List ℕ) (rows : List Constraint)
+        (st : State) (p : Pending) → AreDifferent texts → IsReadyAs texts c st → AllEqual c.heap h pairs newly → KnowsTerms texts h.terms
+        → All (λ id. id < length c.heap.terms) told → IsWork texts c st pairs told rows p → CallsFor texts c h newly told rows st p }
+    ensures work { (texts : List Text) (c : Contents) (pairs : List Pair) (told : List ℕ) (rows : List Constraint) (st : State)
+        → IsReadyAs texts c st → All (MayBeEqual c.heap) pairs → All (MayBeTold c.heap) told
+        → IsWork texts c st pairs told rows (work_of texts c pairs told rows) }
+    ensures none { (texts : List Text) (c : Contents) (pairs : List Pair) (told : List ℕ) (rows : List Constraint) (st : State) (p : Pending)
+        → AreDifferent texts → KnowsTerms texts c.heap.terms → All (IsLive c.heap.terms) pairs → HasNoUnifier (equations c.heap.terms pairs)
+        → IsWork texts c st pairs told rows p → HasNoUnifier (read_under st.bindings p.equations) }
 {}
 
 /// Where nothing is left to settle, a goal may be put to sleep on a variable that is unbound.

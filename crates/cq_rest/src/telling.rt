@@ -1,9 +1,12 @@
-// Terms that are to be told.
+// Terms that are to be told, or to be made equal.
 
 ghost use Rattle.std.specs.Prelude.{◌<◌, All, length};
+ghost use Rattle.cq_walk.specs.Pairs.{IsLive};
+ghost use Rattle.cq_rest.specs.Equal.{MayBeEqual};
 ghost use Rattle.cq_rest.specs.Ready.{MayBeTold};
 
 use cq_term::{Heap, TermId};
+use cq_walk::Pair;
 
 /// A term of a heap is read through its bindings: it may be told.
 pub fn look_at(heap: &Heap, id: TermId)
@@ -20,5 +23,16 @@ pub fn look_at_told(heap: &Heap, told: &[TermId])
 {
     for &id in told {
         look_at(heap, id);
+    }
+}
+
+/// Terms of a heap may be made equal.
+pub fn look_at_pairs(heap: &Heap, pairs: &[Pair])
+    requires live { All (IsLive heap.now.now.terms) pairs.now }
+    ensures equal { All (MayBeEqual heap.now.now) pairs.now }
+{
+    for pair in pairs {
+        look_at(heap, pair.left);
+        look_at(heap, pair.right);
     }
 }

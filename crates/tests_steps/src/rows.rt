@@ -23,7 +23,15 @@ fn a_condition_is_cut_before_its_goal(rt: HostRuntime) -> Result<(), Fail> {
     let mut s = two_choices(rt.alloc(), &mut atoms)?;
     let t = s.terms;
     let lists = &mut s.world.second;
-    let k = if_then(&s.world.first, lists, &s.choices, t.c, t.a, 0, Continuation::done())?;
+    let k = if_then(
+        &s.world.first,
+        lists,
+        &s.choices,
+        t.c,
+        t.a,
+        0,
+        Continuation::done(),
+    )?;
     assert_eq!(rt; items(rt.alloc(), lists, k, &t)?.as_str(), "c2!2a0");
     Ok(())
 }
@@ -34,7 +42,15 @@ fn once_is_cut_before_true(rt: HostRuntime) -> Result<(), Fail> {
     let mut s = two_choices(rt.alloc(), &mut atoms)?;
     let t = s.terms;
     let lists = &mut s.world.second;
-    let k = once(&s.world.first, lists, &s.choices, t.a, t.b, 0, Continuation::done())?;
+    let k = once(
+        &s.world.first,
+        lists,
+        &s.choices,
+        t.a,
+        t.b,
+        0,
+        Continuation::done(),
+    )?;
     assert_eq!(rt; items(rt.alloc(), lists, k, &t)?.as_str(), "a2!2b0");
     Ok(())
 }
@@ -45,7 +61,14 @@ fn a_called_goal_sees_no_choice(rt: HostRuntime) -> Result<(), Fail> {
     let mut s = two_choices(rt.alloc(), &mut atoms)?;
     let t = s.terms;
     let lists = &mut s.world.second;
-    match call(&s.world.first, lists, &s.choices, &atoms, t.a, Continuation::done()) {
+    match call(
+        &s.world.first,
+        lists,
+        &s.choices,
+        &atoms,
+        t.a,
+        Continuation::done(),
+    ) {
         Ok(k) => {
             assert_eq!(rt; items(rt.alloc(), lists, k, &t)?.as_str(), "a2");
         }
@@ -61,7 +84,15 @@ fn a_disjunction_leaves_a_choice(rt: HostRuntime) -> Result<(), Fail> {
     let mut atoms = Atoms::new(rt.alloc());
     let mut s = two_choices(rt.alloc(), &mut atoms)?;
     let t = s.terms;
-    let k = or(&mut s.world, &mut s.choices, &atoms, t.a, t.c, 1, Continuation::done())?;
+    let k = or(
+        &mut s.world,
+        &mut s.choices,
+        &atoms,
+        t.a,
+        t.c,
+        1,
+        Continuation::done(),
+    )?;
     assert_eq!(rt; items(rt.alloc(), &s.world.second, k, &t)?.as_str(), "a1");
     assert_eq!(rt; s.choices.height(), 3);
     Ok(())
@@ -72,8 +103,19 @@ fn a_condition_is_cut_before_the_right_side(rt: HostRuntime) -> Result<(), Fail>
     let mut atoms = Atoms::new(rt.alloc());
     let mut s = two_choices(rt.alloc(), &mut atoms)?;
     let t = s.terms;
-    let k = or(&mut s.world, &mut s.choices, &atoms, t.rule, t.c, 1, Continuation::done())?;
-    assert_eq!(rt; items(rt.alloc(), &s.world.second, k, &t)?.as_str(), "a3!2b1");
+    let k = or(
+        &mut s.world,
+        &mut s.choices,
+        &atoms,
+        t.rule,
+        t.c,
+        1,
+        Continuation::done(),
+    )?;
+    assert_eq!(rt;
+        items(rt.alloc(), &s.world.second, k, &t)?.as_str(),
+        "a3!2b1"
+    );
     assert_eq!(rt; s.choices.height(), 3);
     Ok(())
 }

@@ -1,10 +1,9 @@
 // A search over a few atoms, and what its continuations have to do, as a text.
 
-ghost use Rattle.std.specs.Prelude.{◌≡◌, ◌<◌, [], ◌∷◌, length, IfOk, OnOk};
+ghost use Rattle.std.specs.Prelude.{◌≡◌, ◌<◌, length, IfOk, OnOk};
 ghost use Rattle.cq_control.specs.Open.{AreMarked};
 ghost use Rattle.cq_steps.specs.Worlds.{saved_values};
 ghost use Rattle.cq_term.specs.Trees.{KnowsTerms};
-ghost use Rattle.cq_world.specs.Worlds.{saved_of};
 
 use cq_atoms::Atoms;
 use cq_built::{atom, compound};
@@ -33,24 +32,8 @@ pub struct Ready {
     pub terms: Terms,
 }
 
-/// A world without terms, and the continuation that has nothing to do.
-fn searching(alloc: Global) -> Searching
-    ensures terms { result.first.heap.now.terms ≡ [] }
-    ensures lists { result.second.now ≡ [] ∷ [] }
-    ensures marks { saved_of result.first ≡ [] }
-    ensures saved { result.second.saved ≡ [] }
-{
-    Both {
-        first: World::new(alloc, 100),
-        second: Continuations::new(alloc),
-    }
-}
-
 /// One more choice, which goes on with nothing.
-fn choose(
-    world: &mut Searching,
-    choices: &mut Choices<Alternatives>,
-) -> Result<(), AllocError>
+fn choose(world: &mut Searching, choices: &mut Choices<Alternatives>) -> Result<(), AllocError>
     requires { AreMarked (saved_values world.old.first world.old.second.saved) choices.old }
     ensures marked { AreMarked (saved_values world.new.first world.new.second.saved) choices.new }
     ensures heap { world.new.first.heap.now ≡ world.old.first.heap.now }
@@ -87,11 +70,15 @@ pub fn two_choices(alloc: Global, atoms: &mut Atoms) -> Result<Ready, AllocError
     ensures c { IfOk result (λ r. r.terms.c < length r.world.first.heap.now.terms) }
     ensures rule { IfOk result (λ r. r.terms.rule < length r.world.first.heap.now.terms) }
 {
-    let mut world = searching(alloc);
+    let mut known = World::new(alloc, 100);
+    let terms = build_terms(&mut known.heap, atoms)?;
+    let mut world = Both {
+        first: known,
+        second: Continuations::new(alloc),
+    };
     let mut choices = Choices::new(alloc);
     choose(&mut world, &mut choices)?;
     choose(&mut world, &mut choices)?;
-    let terms = build_terms(&mut world.first.heap, atoms)?;
     Ok(Ready {
         world,
         choices,

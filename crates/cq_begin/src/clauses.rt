@@ -1,0 +1,164 @@
+// The beginning of a clause of a call.
+
+ghost use Rattle.std.specs.Prelude.{◌≡◌, ◌<◌, ◌≤◌, ◌∷◌, [], ℕ, length, IfOk, OnErr};
+ghost use Rattle.spec_built.specs.Built.{is_atom};
+ghost use Rattle.cq_atoms.specs.Texts.{AreDifferent};
+ghost use Rattle.cq_control.specs.Items.{items_at};
+ghost use Rattle.cq_frac.specs.declared.Pair.{Pair};
+ghost use Rattle.cq_linear.specs.declared.store.StoreFault.TheVariants.{Overflow, Pivots};
+ghost use Rattle.cq_program.specs.Database.{IsCounted};
+ghost use Rattle.cq_term.specs.Trees.{tree, KnowsTerms};
+ghost use Rattle.cq_world.specs.Rest.{IsReady};
+ghost use Rattle.cq_world.specs.Worlds.{now_of, saved_of, room_of};
+ghost use Rattle.cq_settle.specs.Settled.{MayRefuse, MayTake, KeepsMarks};
+ghost use Rattle.cq_steps.specs.Lists.{HasCells, KeepsLists};
+ghost use Rattle.cq_steps.specs.Worlds.{value};
+ghost use Rattle.cq_begin.specs.Begun.{IfGoes, IfPruned};
+ghost use Rattle.cq_begin.specs.Calls.{body_cells, ClauseComes, OfClause};
+
+use crate::beginning::{Begun, run};
+use cq_atoms::Atoms;
+use cq_control::{Continuation, Continuations};
+use cq_kinds::is_callable;
+use cq_linear::store::StoreFault;
+use cq_program::clauses_are_counted;
+use cq_rest::{equated_worlds_may_be_settled, look_at, look_at_pairs};
+use cq_stored::Clause;
+use cq_term::{Heap, TermId, View};
+use cq_trail::Undo;
+use cq_world::World;
+use spec_machine::Cell;
+use std::alloc::AllocError;
+
+/// A call begins one of its clauses: under new variables its head is made equal to the goal, the world is settled, and its body
+/// goes in front of the continuation, behind the goals that woke. A cut in the body goes back to the height. Where the head
+/// can't be made equal, or the constraints have no solution then, and after an error, the world is as at the call.
+pub fn begin_clause(
+    world: &mut World,
+    lists: &mut Continuations<Cell>,
+    atoms: &Atoms,
+    clause: &Clause,
+    goal: TermId,
+    height: usize,
+    rest: Continuation,
+) -> Result<Begun, StoreFault>
+    requires ready { IsReady atoms.now (now_of world.old) }
+    requires different { AreDifferent atoms.now }
+    requires clause { IsCounted (length atoms.now) clause.now }
+    requires goal { goal < length world.old.heap.now.terms }
+    requires rest { rest < length lists.old.now }
+    ensures comes { IfOk result (ClauseComes atoms.now (value world.old lists.old.now) (value world.new lists.new.now) goal height rest clause.now) }
+
+    // Where the branch is pruned, and after an error, the world is as it was.
+    ensures unchanged { IfOk result (λ b. IfPruned b (now_of world.new ≡ now_of world.old)) }
+    ensures err { OnErr result (now_of world.new ≡ now_of world.old) }
+
+    // A stop is due while the branch is settled.
+    ensures overflow { (pair : Pair) → result ≡ Err (Overflow pair)
+        → OfClause atoms.now (value world.old lists.old.now) goal height rest clause.now (λ st p. MayRefuse st p pair) }
+    ensures pivots { (n : ℕ) → result ≡ Err (Pivots n) → (n ≡ world.old.store.pivots)
+        × OfClause atoms.now (value world.old lists.old.now) goal height rest clause.now (λ st p. MayTake st p n) }
+    ensures there { IfOk result (λ b. IfGoes b (λ k. k < length lists.new.now)) }
+    ensures keeps { KeepsLists lists.old.now lists.new.now }
+    ensures lists { lists.new.saved ≡ lists.old.saved }
+    ensures saved { saved_of world.new ≡ saved_of world.old }
+    ensures budget { world.new.store.pivots ≡ world.old.store.pivots }
+    ensures room { room_of world.old ≤ room_of world.new }
+{
+    let start = world.mark()?;
+    match try_clause(world, lists, atoms, clause, goal, height, rest) {
+        Ok(begun) => match begun {
+            Begun::Goes(first) => {
+                world.forget(start);
+                Ok(Begun::Goes(first))
+            }
+            Begun::Pruned => {
+                world.undo(start);
+                Ok(Begun::Pruned)
+            }
+        },
+        Err(fault) => {
+            world.undo(start);
+            Err(fault)
+        }
+    }
+}
+
+/// The same, but for what was done before the branch was pruned, or before an error.
+fn try_clause(
+    world: &mut World,
+    lists: &mut Continuations<Cell>,
+    atoms: &Atoms,
+    clause: &Clause,
+    goal: TermId,
+    height: usize,
+    rest: Continuation,
+) -> Result<Begun, StoreFault>
+    requires ready { IsReady atoms.now (now_of world.old) }
+    requires different { AreDifferent atoms.now }
+    requires clause { IsCounted (length atoms.now) clause.now }
+    requires goal { goal < length world.old.heap.now.terms }
+    requires rest { rest < length lists.old.now }
+    ensures comes { IfOk result (ClauseComes atoms.now (value world.old lists.old.now) (value world.new lists.new.now) goal height rest clause.now) }
+    ensures overflow { (pair : Pair) → result ≡ Err (Overflow pair)
+        → OfClause atoms.now (value world.old lists.old.now) goal height rest clause.now (λ st p. MayRefuse st p pair) }
+    ensures pivots { (n : ℕ) → result ≡ Err (Pivots n) → (n ≡ world.old.store.pivots)
+        × OfClause atoms.now (value world.old lists.old.now) goal height rest clause.now (λ st p. MayTake st p n) }
+    ensures there { IfOk result (λ b. IfGoes b (λ k. k < length lists.new.now)) }
+    ensures keeps { KeepsLists lists.old.now lists.new.now }
+    ensures lists { lists.new.saved ≡ lists.old.saved }
+    ensures marks { KeepsMarks world.old world.new }
+{
+    clauses_are_counted();
+    equated_worlds_may_be_settled();
+    let (head, body) = clause.rename(&mut world.heap)?;
+    look_at(&world.heap, body);
+    let behind = body_before(&world.heap, lists, atoms, body, height, rest)?;
+    let pairs = [cq_walk::Pair {
+        left: goal,
+        right: head,
+    }];
+    look_at_pairs(&world.heap, &pairs);
+    let told = Vec::new(world.heap.alloc());
+    run(world, lists, atoms, &pairs, told, behind)
+}
+
+/// The body of a clause in front of a continuation; the body `true` adds nothing.
+fn body_before(
+    heap: &Heap,
+    lists: &mut Continuations<Cell>,
+    atoms: &Atoms,
+    body: TermId,
+    height: usize,
+    rest: Continuation,
+) -> Result<Continuation, AllocError>
+    requires body { body < length heap.now.now.terms }
+    requires names { KnowsTerms atoms.now heap.now.now.terms }
+    requires rest { rest < length lists.old.now }
+    ensures cells { IfOk result (λ k. HasCells lists.new.now k (body_cells atoms.now heap.now.now.terms body height (items_at lists.old.now rest))) }
+    ensures keeps { KeepsLists lists.old.now lists.new.now }
+    ensures saved { lists.new.saved ≡ lists.old.saved }
+{
+    if is_true(heap, atoms, body) {
+        return Ok(rest);
+    }
+    let cell = if is_callable(heap, body) {
+        Cell::Goal(body, height)
+    } else {
+        Cell::Call(body)
+    };
+    let k = lists.before(cell, rest)?;
+    Ok(k)
+}
+
+/// Whether a term is the atom `true`.
+fn is_true(heap: &Heap, atoms: &Atoms, id: TermId) -> bool
+    requires live { id < length heap.now.now.terms }
+    requires names { KnowsTerms atoms.now heap.now.now.terms }
+    ensures { result ≡ is_atom "true" (tree atoms.now heap.now.now.terms id) }
+{
+    match heap.view(id) {
+        View::Name(name) => atoms.text(name) == "true",
+        _ => false,
+    }
+}
