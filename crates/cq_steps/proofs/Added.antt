@@ -1,8 +1,7 @@
 -- Continuations that were added to those of a world, and the cells of terms that were read.
-use Rattle.std.proofs.Common.{◌≡◌, ℕ, zero, suc, ◌<◌, List, [], ◌∷◌, ◌++◌, length, Some, refl, sym, ap, ◌∙◌, arith, length-append}
+use Rattle.std.proofs.Common.{◌≡◌, ℕ, zero, suc, ◌<◌, List, [], ◌∷◌, length, Some, ap, ◌∙◌, arith}
 use Rattle.std.specs.Prelude.{slice_get}
 use Rattle.std.specs.Option.{option_map}
-use Rattle.std.proofs.lemmas.List.{get_or_push}
 use Rattle.std.proofs.lemmas.Option.{same_Some, none-some}
 use Rattle.spec_lists.specs.Texts.{Text}
 use Rattle.spec_terms.specs.Term.{named}
@@ -11,7 +10,6 @@ use Rattle.spec_built.specs.Kinds.{is_callable}
 use Rattle.spec_branch.specs.Branch.{State}
 use Rattle.cq_atoms.specs.Texts.{text_of}
 use Rattle.cq_control.specs.Items.{items_at}
-use Rattle.cq_control.proofs.Lists.{items_kept}
 use Rattle.cq_term.specs.Meaning.{HeapTerm}
 use Rattle.cq_term.specs.Trees.{tree}
 use Rattle.cq_world.specs.Contents.{Contents}
@@ -21,23 +19,8 @@ use Rattle.cq_steps.specs.Worlds.{ReadsAs}
 
 -- ---- one more
 
-pub keeps_all : (lists : List (List Cell)) → KeepsLists lists lists
-keeps_all lists = record { more = omega arith; same = λ k l. refl }
-
 pub keeps_on : (old mid new : List (List Cell)) → KeepsLists old mid → KeepsLists mid new → KeepsLists old new
 keeps_on old mid new e f = record { more = omega (arith, e.more, f.more); same = λ k l. f.same k (omega (arith, l, e.more)) ∙ e.same k l }
-
-pub keeps_pushed : (old new : List (List Cell)) (cells : List Cell) → new ≡ old ++ cells ∷ [] → KeepsLists old new
-keeps_pushed old new cells e = record {
-  more = omega (arith, ap length e, length-append old (cells ∷ []));
-  same = λ k l. ap (λ ls. items_at ls k) e ∙ items_kept old (cells ∷ []) k l;
-}
-
-pub has_pushed : (old new : List (List Cell)) (cells : List Cell) (k : ℕ) → new ≡ old ++ cells ∷ [] → k ≡ length old → HasCells new k cells
-has_pushed old new cells k e n = record {
-  there = omega (arith, ap length e, length-append old (cells ∷ []), n);
-  are = ap (λ ls. items_at ls k) e ∙ get_or_push old cells [] k (sym n);
-}
 
 -- in front of one that has these cells
 pub has_more : (mid new : List (List Cell)) (j k : ℕ) (x : Cell) (cells : List Cell) → HasCells mid j cells → HasCells new k (x ∷ items_at mid j) → HasCells new k (x ∷ cells)

@@ -1,5 +1,5 @@
 -- call(G), as what an engine does by it.
-use Rattle.std.proofs.Common.{◌≡◌, ℕ, ◌<◌, List, [], ◌∷◌, ◌++◌, length, Option, Some, Bool, true, false, refl, sym, ap, ◌∙◌, subst, arith}
+use Rattle.std.proofs.Common.{◌≡◌, ℕ, ◌<◌, List, [], ◌∷◌, ◌++◌, length, Option, Some, Bool, true, refl, sym, ap, ◌∙◌, subst, arith}
 use Rattle.std.specs.Prelude.{if◌then◌else◌}
 use Rattle.spec_terms.specs.Term.{Term, Terms, Var, Number, Name, Compound, one, more, list_of, terms_of, with_arguments}
 use Rattle.spec_lists.specs.Texts.{Text}
@@ -62,21 +62,6 @@ unbound_raises p (Var v) e = refl
 unbound_raises p (Number q) e = cc
 unbound_raises p (Name f) e = cc
 unbound_raises p (Compound f ts) e = cc
-
-pub other_raises : (p : Place) (g : Tree) → is_variable g ≡ false → is_callable g ≡ false → call_row p g [] ≡ Raises (type_error "callable" g)
-other_raises p (Var v) e f = cc
-other_raises p (Number q) e f = refl
-other_raises p (Name a) e f = cc
-other_raises p (Compound a ts) e f = cc
-
-refused : (p : Place) (g h : Tree) → h ≡ g → is_body g ≡ false → called p h ≡ Raises (type_error "callable" g)
-refused p g h e b = ap (called p) e ∙ ap (λ (x : Bool). if x then goes_on p (branch.Goal g p.height ∷ p.rest) else Raises (type_error "callable" g)) b
-
-pub body_raises : (p : Place) (g : Tree) → is_callable g ≡ true → is_body g ≡ false → call_row p g [] ≡ Raises (type_error "callable" g)
-body_raises p (Var v) e b = cc
-body_raises p (Number q) e b = cc
-body_raises p (Name f) e b = refused p (Name f) (with_more (Name f) []) (no_more (Name f) e) b
-body_raises p (Compound f ts) e b = refused p (Compound f ts) (with_more (Compound f ts) []) (no_more (Compound f ts) e) b
 
 -- ---- its child
 

@@ -1,5 +1,5 @@
 -- The left side of a disjunction on a heap.
-use Rattle.std.proofs.Common.{◌≡◌, ℕ, zero, suc, ◌<◌, List, [], ◌∷◌, length, Bool, true, false, Some, refl, sym, ap, ◌∙◌, subst, arith, codes}
+use Rattle.std.proofs.Common.{◌≡◌, ℕ, zero, suc, ◌<◌, List, [], ◌∷◌, length, Bool, true, false, Some, refl, sym, ap, ◌∙◌, arith, codes}
 use Rattle.std.specs.Prelude.{bytes_eq, slice_get, if◌then◌else◌, ◌+◌}
 use Rattle.std.specs.Cmp.Lexicographic.{bytes_decides}
 use Rattle.std.specs.Option.{option_map}
@@ -7,7 +7,7 @@ use Rattle.spec_lists.specs.Texts.{Text}
 use Rattle.spec_terms.specs.Term.{Var, Number, Name, Compound, one, more, named}
 use Rattle.spec_syntax.specs.Trees.{Tree, binary}
 use Rattle.spec_branch.specs.Branch as branch
-use Rattle.spec_branch.specs.Branch.{State, read}
+use Rattle.spec_branch.specs.Branch.{State}
 use Rattle.spec_search.specs.Control.{if_then_items}
 use Rattle.cq_atoms.specs.Texts.{text_of}
 use Rattle.cq_sides.specs.Sides.{is_binary}
@@ -37,14 +37,6 @@ arrow_is f a b e = ap (λ (g : Text). binary g a b) ((bytes_decides f (codes "->
 
 -- ---- the sides of a term that reads as itself
 
-abbrev left_argument : Tree → Tree
-left_argument (Compound f (more a ts)) = a
-left_argument t = t
-
-abbrev right_argument : Tree → Tree
-right_argument (Compound f (more a (one b))) = b
-right_argument t = t
-
 pub term_there : (texts : List Text) (ts : List HeapTerm) (id : ℕ) → id < length ts → option_map (named (text_of texts)) (slice_get ts id) ≡ Some (tree texts ts id)
 term_there texts [] id l = absurd (omega (arith, l))
 term_there texts (t ∷ ts) zero l = refl
@@ -59,12 +51,3 @@ module _ (texts : List Text) (w : Contents) (st : State) (id : ℕ) (s : Sides) 
 
   pub term_is : a ≡ binary (codes "->") left right
   term_is = sym (reads_tree texts w st id a r) ∙ i.term
-
-  reads_itself : read st (binary (codes "->") left right) ≡ binary (codes "->") left right
-  reads_itself = subst (λ (x : Tree). read st x ≡ x) term_is r.1
-
-  pub left_reads : ReadsAs texts w st s.left left
-  left_reads = (term_there texts w.heap.terms s.left i.sides.left, ap left_argument reads_itself)
-
-  pub right_reads : ReadsAs texts w st s.right right
-  right_reads = (term_there texts w.heap.terms s.right i.sides.right, ap right_argument reads_itself)

@@ -1,5 +1,5 @@
 -- The choices that are left as the newest are taken away.
-use Rattle.std.proofs.Common.{◌≡◌, ℕ, ◌-◌, ◌≤◌, List, [], ◌∷◌, ◌++◌, length, take, Option, None, Some, refl, sym, ap, ◌∙◌, subst, arith, append_assoc, length-append}
+use Rattle.std.proofs.Common.{◌≡◌, ℕ, ◌-◌, List, [], ◌∷◌, ◌++◌, length, take, Option, None, Some, refl, sym, ap, ◌∙◌, subst, append_assoc}
 use Rattle.std.specs.Prelude.{IfSome, IfNone}
 use Rattle.std.proofs.lemmas.List.{take-append-drop}
 use Rattle.cq_control.specs.Open.{last}
@@ -19,9 +19,6 @@ older_last height xs ys e =
 
 pub older_next : (x : Alternatives) (xs ys : List Alternatives) → xs ≡ x ∷ ys → KeepsOlder xs ys
 older_next x xs ys e = record { gone = x ∷ []; are = e }
-
-pub older_fewer : (xs ys : List Alternatives) → KeepsOlder xs ys → length ys ≤ length xs
-older_fewer xs ys k = omega (arith, ap length k.are, length-append k.gone ys)
 
 -- ---- the newest is taken off
 

@@ -5,7 +5,6 @@ use Rattle.spec_built.specs.Built.{compound1}
 use Rattle.spec_branch.specs.Branch as branch
 use Rattle.spec_branch.specs.Branch.{State, Item, Branch, read}
 use Rattle.spec_search.specs.Database.{Database}
-use Rattle.spec_search.specs.Replies.{Place}
 use Rattle.spec_search.specs.Rows.{reply_of}
 use Rattle.spec_search.specs.Search.{Search, settled, look_at, Selecting}
 use Rattle.spec_search.specs.Turns.{Turn, Wrote, place_of, after_step}
@@ -17,7 +16,7 @@ use Rattle.spec_machine.specs.Standing.{engine, AreItems, IsContinuation, IsCurr
 use Rattle.spec_machine.specs.Coming.{after, Comes}
 use Rattle.spec_machine.proofs.Kept.{fits_more, items_read_on, length-waiting}
 use Rattle.spec_machine.proofs.Made.{goal_made}
-use Rattle.cq_steps.specs.Selecting.{IsSelected, Selects, SelectsCall, Becomes, HasGrown}
+use Rattle.cq_steps.specs.Selecting.{Selects, SelectsCall, Becomes, HasGrown}
 
 module _ {W : Type 0} (IsState : W → State → Type 0) (term : W → ℕ → Option Tree) where
   -- ---- more was built
@@ -30,16 +29,6 @@ module _ {W : Type 0} (IsState : W → State → Type 0) (term : W → ℕ → O
     state = g.state st c.state;
     cells = subst (λ cs. AreItems IsState term choices new.0 st cs items) (sym (g.lists.same k c.there))
         (items_read_on IsState term choices old.0 st new.0 st (λ id t e. g.terms id (read st t) e) (items_at old.1 k) items c.cells);
-  }
-
-  pub selected_grown : (choices : Stack W) (old new : Value W) → HasGrown IsState term old new → (height rest : ℕ) (p : Place) (behind : List Branch)
-      → IsSelected IsState term choices old height rest p behind → IsSelected IsState term choices new height rest p behind
-  selected_grown choices old new g height rest p behind s = record {
-    place = record { continuation = continuation_grown choices old new g rest p.rest p.state s.place.continuation; height = s.place.height };
-    within = s.within;
-    goes_back = s.goes_back;
-    fits = subst (Fits height) (sym (g.lists.same rest s.place.continuation.there)) s.fits;
-    waiting = s.waiting;
   }
 
   current_grown : (choices : Stack W) (old new : Value W) → HasGrown IsState term old new → (current : Option ℕ) (bs : List Branch)
