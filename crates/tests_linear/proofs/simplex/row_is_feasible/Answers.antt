@@ -1,4 +1,4 @@
-use Rattle.std.proofs.Common.{◌≡◌, ◌∙◌, true, false, sym, subst}
+use Rattle.std.proofs.Common.{◌∙◌, sym, subst}
 use Rattle.spec_rational.specs.Rational.{IsNotNegative}
 use Rattle.cq_dict.specs.Roles.{is_restricted}
 use Rattle.cq_dict.proofs.Roles.{constant_is}
