@@ -1,0 +1,188 @@
+// Constraints and terms by tables, and their terms in a heap.
+
+ghost use Rattle.std.specs.Prelude.{◌≡◌, ◌∷◌, ◌≤◌, ◌<◌, ℕ, [], length, All, IfOk, OnOk};
+ghost use Rattle.spec_terms.specs.Term.{Var};
+ghost use Rattle.cq_term.specs.Names.{HasNamesBelow};
+ghost use Rattle.cq_term.specs.Trees.{KnowsTerms};
+
+use cq_atoms::{Atom, Atoms};
+use cq_frac::{Frac, VarId};
+use cq_term::{Heap, TermId};
+use std::alloc::AllocError;
+
+/// A variable, or a number by its parts.
+#[derive(Clone, Copy, Debug)]
+pub(crate) enum Part {
+    X,
+    Y,
+    Z,
+    N(i128, i128),
+}
+
+/// A side of a relation, or a term: a part, a name, or a name over one or two parts.
+#[derive(Clone, Copy, Debug)]
+pub(crate) enum Side {
+    Is(Part),
+    Named(&'static str),
+    Over(&'static str, Part),
+    Both(Part, &'static str, Part),
+}
+
+use Part::{N, X, Y, Z};
+use Side::{Both, Is, Named, Over};
+
+/// Two sides with the name of a relation between them.
+pub(crate) type Told = (Side, &'static str, Side);
+
+fn symbol(atoms: &mut Atoms, text: &str) -> Result<Atom, AllocError>
+    ensures known { IfOk result (λ name. name < length atoms.new) }
+    ensures more { length atoms.old ≤ length atoms.new }
+{
+    let name = atoms.intern(text)?;
+    Ok(name)
+}
+
+// Each of these makes a term, and the heap has no name that it did not have, but for the one that is given.
+
+fn make_part(heap: &mut Heap, part: Part) -> Result<TermId, AllocError>
+    requires variables { 3 ≤ length heap.old.now.images }
+    ensures live { IfOk result (λ id. id < length heap.new.now.terms) }
+    ensures more { length heap.old.now.terms ≤ length heap.new.now.terms }
+    ensures images { OnOk result (heap.new.now.images ≡ heap.old.now.images) }
+    ensures names { (n : ℕ) → All (HasNamesBelow n) heap.old.now.terms → All (HasNamesBelow n) heap.new.now.terms }
+{
+    match part {
+        X => Ok(heap.var_term(VarId(0))),
+        Y => Ok(heap.var_term(VarId(1))),
+        Z => Ok(heap.var_term(VarId(2))),
+        N(n, d) => heap.number(Frac::new(n, d).unwrap_or(Frac::zero())),
+    }
+}
+
+fn constant(heap: &mut Heap, name: Atom) -> Result<TermId, AllocError>
+    ensures live { IfOk result (λ id. id < length heap.new.now.terms) }
+    ensures more { length heap.old.now.terms ≤ length heap.new.now.terms }
+    ensures images { OnOk result (heap.new.now.images ≡ heap.old.now.images) }
+    ensures names { (n : ℕ) → name < n → All (HasNamesBelow n) heap.old.now.terms → All (HasNamesBelow n) heap.new.now.terms }
+{
+    let id = heap.atom(name)?;
+    Ok(id)
+}
+
+/// A name over one term.
+fn single(heap: &mut Heap, name: Atom, argument: TermId) -> Result<TermId, AllocError>
+    requires { argument < length heap.old.now.terms }
+    ensures live { IfOk result (λ id. id < length heap.new.now.terms) }
+    ensures more { length heap.old.now.terms ≤ length heap.new.now.terms }
+    ensures images { OnOk result (heap.new.now.images ≡ heap.old.now.images) }
+    ensures names { (n : ℕ) → name < n → All (HasNamesBelow n) heap.old.now.terms → All (HasNamesBelow n) heap.new.now.terms }
+{
+    let id = heap.compound(name, &[argument])?;
+    Ok(id)
+}
+
+/// A name over two terms.
+fn pair(heap: &mut Heap, name: Atom, first: TermId, second: TermId) -> Result<TermId, AllocError>
+    requires first { first < length heap.old.now.terms }
+    requires second { second < length heap.old.now.terms }
+    ensures live { IfOk result (λ id. id < length heap.new.now.terms) }
+    ensures more { length heap.old.now.terms ≤ length heap.new.now.terms }
+    ensures images { OnOk result (heap.new.now.images ≡ heap.old.now.images) }
+    ensures names { (n : ℕ) → name < n → All (HasNamesBelow n) heap.old.now.terms → All (HasNamesBelow n) heap.new.now.terms }
+{
+    let id = heap.compound(name, &[first, second])?;
+    Ok(id)
+}
+
+fn over_one(heap: &mut Heap, name: Atom, one: Part) -> Result<TermId, AllocError>
+    requires variables { 3 ≤ length heap.old.now.images }
+    ensures live { IfOk result (λ id. id < length heap.new.now.terms) }
+    ensures more { length heap.old.now.terms ≤ length heap.new.now.terms }
+    ensures images { OnOk result (heap.new.now.images ≡ heap.old.now.images) }
+    ensures names { (n : ℕ) → name < n → All (HasNamesBelow n) heap.old.now.terms → All (HasNamesBelow n) heap.new.now.terms }
+{
+    let argument = make_part(heap, one)?;
+    single(heap, name, argument)
+}
+
+fn over_two(heap: &mut Heap, name: Atom, left: Part, right: Part) -> Result<TermId, AllocError>
+    requires variables { 3 ≤ length heap.old.now.images }
+    ensures live { IfOk result (λ id. id < length heap.new.now.terms) }
+    ensures more { length heap.old.now.terms ≤ length heap.new.now.terms }
+    ensures images { OnOk result (heap.new.now.images ≡ heap.old.now.images) }
+    ensures names { (n : ℕ) → name < n → All (HasNamesBelow n) heap.old.now.terms → All (HasNamesBelow n) heap.new.now.terms }
+{
+    let first = make_part(heap, left)?;
+    let second = make_part(heap, right)?;
+    pair(heap, name, first, second)
+}
+
+pub(crate) fn side_of(heap: &mut Heap, atoms: &mut Atoms, side: Side) -> Result<TermId, AllocError>
+    requires variables { 3 ≤ length heap.old.now.images }
+    ensures live { IfOk result (λ id. id < length heap.new.now.terms) }
+    ensures more { length heap.old.now.terms ≤ length heap.new.now.terms }
+    ensures images { OnOk result (heap.new.now.images ≡ heap.old.now.images) }
+    ensures names { OnOk result (KnowsTerms atoms.old heap.old.now.terms → KnowsTerms atoms.new heap.new.now.terms) }
+{
+    match side {
+        Is(only) => make_part(heap, only),
+        Named(text) => {
+            let name = symbol(atoms, text)?;
+            constant(heap, name)
+        }
+        Over(text, only) => {
+            let name = symbol(atoms, text)?;
+            over_one(heap, name, only)
+        }
+        Both(left, text, right) => {
+            let name = symbol(atoms, text)?;
+            over_two(heap, name, left, right)
+        }
+    }
+}
+
+/// The term of a constraint.
+fn term_of(heap: &mut Heap, atoms: &mut Atoms, told: Told) -> Result<TermId, AllocError>
+    requires variables { 3 ≤ length heap.old.now.images }
+    ensures live { IfOk result (λ id. id < length heap.new.now.terms) }
+    ensures more { length heap.old.now.terms ≤ length heap.new.now.terms }
+    ensures images { OnOk result (heap.new.now.images ≡ heap.old.now.images) }
+    ensures names { OnOk result (KnowsTerms atoms.old heap.old.now.terms → KnowsTerms atoms.new heap.new.now.terms) }
+{
+    let left = side_of(heap, atoms, told.0)?;
+    let right = side_of(heap, atoms, told.2)?;
+    let name = symbol(atoms, told.1)?;
+    pair(heap, name, left, right)
+}
+
+pub(crate) fn terms_of(
+    heap: &mut Heap,
+    atoms: &mut Atoms,
+    told: &[Told],
+) -> Result<Vec<TermId>, AllocError>
+    requires variables { 3 ≤ length heap.old.now.images }
+    ensures live { IfOk result (λ ids. All (λ id. id < length heap.new.now.terms) ids.items) }
+    ensures more { length heap.old.now.terms ≤ length heap.new.now.terms }
+    ensures images { OnOk result (heap.new.now.images ≡ heap.old.now.images) }
+    ensures names { OnOk result (KnowsTerms atoms.old heap.old.now.terms → KnowsTerms atoms.new heap.new.now.terms) }
+{
+    let mut terms = Vec::new(heap.alloc());
+    for constraint in told {
+        let term = term_of(heap, atoms, *constraint)?;
+        terms.push(term)?;
+    }
+    Ok(terms)
+}
+
+/// The first three variables.
+pub(crate) fn make_variables(heap: &mut Heap) -> Result<(), AllocError>
+    requires terms { heap.old.now.terms ≡ [] }
+    requires images { heap.old.now.images ≡ [] }
+    ensures terms { OnOk result (heap.new.now.terms ≡ Var 0 ∷ Var 1 ∷ Var 2 ∷ []) }
+    ensures images { OnOk result (heap.new.now.images ≡ Var 0 ∷ Var 1 ∷ Var 2 ∷ []) }
+{
+    heap.new_var()?;
+    heap.new_var()?;
+    heap.new_var()?;
+    Ok(())
+}
