@@ -159,7 +159,7 @@ fn check_body(heap: &Heap, atoms: &Atoms, body: Option<TermId>) -> Result<(), Bu
 }
 
 /// Whether no conjunct and no branch of a term is a number.
-fn is_body(heap: &Heap, atoms: &Atoms, body: TermId) -> Result<bool, AllocError>
+pub fn is_body(heap: &Heap, atoms: &Atoms, body: TermId) -> Result<bool, AllocError>
     requires live { body < length heap.now.now.terms }
     requires names { KnowsTerms atoms.now heap.now.now.terms }
     ensures { IfOk result (λ b. is_body (tree atoms.now heap.now.now.terms body) ≡ b) }

@@ -7,7 +7,7 @@ mod declarations;
 mod modules;
 mod operators;
 
-pub use clauses::{CheckedClause, ClauseParts, check_clause, check_clause_goal};
+pub use clauses::{CheckedClause, ClauseParts, check_clause, check_clause_goal, is_body};
 pub use declarations::{check_declaration, declarations_in_turn};
 pub use modules::check_module;
 pub use operators::{OperatorGoal, declare_operators};
