@@ -2,6 +2,14 @@
 #![tactic(auto)]
 
 #[cfg(test)]
+mod chain;
+#[cfg(test)]
+mod choices;
+#[cfg(test)]
+mod scenes;
+#[cfg(test)]
+mod steps;
+#[cfg(test)]
 mod terms;
 #[cfg(test)]
-mod told;
+mod undone;

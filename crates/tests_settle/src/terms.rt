@@ -1,14 +1,16 @@
 // Constraints and terms by tables, and their terms in a heap.
 
-ghost use Rattle.std.specs.Prelude.{◌≡◌, ◌∷◌, ◌≤◌, ◌<◌, ℕ, [], length, All, IfOk, OnOk};
-ghost use Rattle.spec_terms.specs.Term.{Var};
+ghost use Rattle.std.specs.Prelude.{◌≡◌, ◌≤◌, ◌<◌, ◌+◌, ℕ, length, All, IfOk, OnOk};
+ghost use Rattle.cq_atoms.specs.Texts.{AreDifferent};
 ghost use Rattle.cq_term.specs.Names.{HasNamesBelow};
 ghost use Rattle.cq_term.specs.Trees.{KnowsTerms};
+ghost use Rattle.tests_settle.specs.Next.{AreUnbound, IsBlank};
 
 use cq_atoms::{Atom, Atoms};
 use cq_frac::{Frac, VarId};
 use cq_term::{Heap, TermId};
-use std::alloc::AllocError;
+use cq_world::World;
+use std::alloc::{AllocError, Global};
 
 /// A variable, or a number by its parts.
 #[derive(Clone, Copy, Debug)]
@@ -34,9 +36,10 @@ use Side::{Both, Is, Named, Over};
 /// Two sides with the name of a relation between them.
 pub(crate) type Told = (Side, &'static str, Side);
 
-fn symbol(atoms: &mut Atoms, text: &str) -> Result<Atom, AllocError>
+pub(crate) fn symbol(atoms: &mut Atoms, text: &str) -> Result<Atom, AllocError>
     ensures known { IfOk result (λ name. name < length atoms.new) }
     ensures more { length atoms.old ≤ length atoms.new }
+    ensures different { AreDifferent atoms.new }
 {
     let name = atoms.intern(text)?;
     Ok(name)
@@ -82,7 +85,7 @@ fn single(heap: &mut Heap, name: Atom, argument: TermId) -> Result<TermId, Alloc
 }
 
 /// A name over two terms.
-fn pair(heap: &mut Heap, name: Atom, first: TermId, second: TermId) -> Result<TermId, AllocError>
+pub(crate) fn pair(heap: &mut Heap, name: Atom, first: TermId, second: TermId) -> Result<TermId, AllocError>
     requires first { first < length heap.old.now.terms }
     requires second { second < length heap.old.now.terms }
     ensures live { IfOk result (λ id. id < length heap.new.now.terms) }
@@ -142,7 +145,7 @@ pub(crate) fn side_of(heap: &mut Heap, atoms: &mut Atoms, side: Side) -> Result<
 }
 
 /// The term of a constraint.
-fn term_of(heap: &mut Heap, atoms: &mut Atoms, told: Told) -> Result<TermId, AllocError>
+pub(crate) fn term_of(heap: &mut Heap, atoms: &mut Atoms, told: Told) -> Result<TermId, AllocError>
     requires variables { 3 ≤ length heap.old.now.images }
     ensures live { IfOk result (λ id. id < length heap.new.now.terms) }
     ensures more { length heap.old.now.terms ≤ length heap.new.now.terms }
@@ -174,15 +177,37 @@ pub(crate) fn terms_of(
     Ok(terms)
 }
 
-/// The first three variables.
-pub(crate) fn make_variables(heap: &mut Heap) -> Result<(), AllocError>
-    requires terms { heap.old.now.terms ≡ [] }
-    requires images { heap.old.now.images ≡ [] }
-    ensures terms { OnOk result (heap.new.now.terms ≡ Var 0 ∷ Var 1 ∷ Var 2 ∷ []) }
-    ensures images { OnOk result (heap.new.now.images ≡ Var 0 ∷ Var 1 ∷ Var 2 ∷ []) }
+// ---- worlds
+
+/// Makes the youngest variable.
+fn add_variable(heap: &mut Heap) -> Result<(), AllocError>
+    requires unbound { AreUnbound heap.old.now.images }
+    ensures unbound { OnOk result (AreUnbound heap.new.now.images) }
+    ensures more { OnOk result (length heap.new.now.images ≡ length heap.old.now.images + 1) }
+    ensures names { OnOk result ((n : ℕ) → All (HasNamesBelow n) heap.old.now.terms → All (HasNamesBelow n) heap.new.now.terms) }
 {
     heap.new_var()?;
-    heap.new_var()?;
-    heap.new_var()?;
     Ok(())
+}
+
+fn add_variables(heap: &mut Heap, count: usize) -> Result<(), AllocError>
+    requires unbound { AreUnbound heap.old.now.images }
+    ensures unbound { OnOk result (AreUnbound heap.new.now.images) }
+    ensures enough { OnOk result (count ≤ length heap.new.now.images) }
+    ensures names { OnOk result ((n : ℕ) → All (HasNamesBelow n) heap.old.now.terms → All (HasNamesBelow n) heap.new.now.terms) }
+{
+    for _made in 0..count {
+        add_variable(heap)?;
+    }
+    Ok(())
+}
+
+/// A world with so many variables, of which nothing is known.
+pub(crate) fn blank_world(alloc: Global, count: usize) -> Result<World, AllocError>
+    ensures blank { IfOk result (λ world. IsBlank world) }
+    ensures enough { IfOk result (λ world. count ≤ length world.heap.now.images) }
+{
+    let mut world = World::new(alloc, 1000);
+    add_variables(&mut world.heap, count)?;
+    Ok(world)
 }

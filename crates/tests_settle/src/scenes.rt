@@ -1,0 +1,600 @@
+// Branches by tables: goals that sleep, constraints that are told together, and steps one after another, with their ends.
+
+ghost use Rattle.std.specs.Prelude.{◌≡◌, ◌≤◌, ◌<◌, length, All, IfOk, OnOk};
+ghost use Rattle.cq_atoms.specs.Texts.{AreDifferent};
+ghost use Rattle.cq_term.specs.Trees.{KnowsTerms};
+ghost use Rattle.cq_world.specs.Rest.{IsReady};
+ghost use Rattle.cq_world.specs.Worlds.{now_of};
+ghost use Rattle.tests_settle.specs.Next.{IsNext};
+ghost use Rattle.tests_settle.specs.declared.steps.Step.{Step};
+
+use crate::steps::Way::{Equal, Sleep, Tell};
+use crate::steps::{Step, Way, attempt_each, tell};
+use crate::terms::Part::{N, X, Y, Z};
+use crate::terms::Side::{Both, Is, Named, Over};
+use crate::terms::{Told, blank_world, symbol, term_of, terms_of};
+use cq_atoms::{Atom, Atoms};
+use cq_frac::VarId;
+use cq_rest::new_worlds_are_ready;
+use cq_term::{Heap, TermId, View};
+use cq_world::World;
+use std::alloc::{AllocError, Global};
+use std::test::Fail;
+
+/// What a variable is at the end.
+#[derive(Clone, Copy, Debug)]
+pub(crate) enum End {
+    Free,
+    Value(i128, i128),
+    /// It is the variable.
+    Same(usize),
+    /// It is an atom or a compound.
+    Other,
+}
+
+use End::{Free, Other, Same, Value};
+
+/// A way, and the term that it is done with.
+pub(crate) type Act = (Way, Told);
+
+/// A branch: some steps one after another, constraints that are told together, and further steps. Then which of these keep
+/// the branch, which goals wake in which order, what X, Y and Z are at the end, and how much waits then.
+struct Scene {
+    before: &'static [Act],
+    told: &'static [Told],
+    after: &'static [Act],
+    kept: &'static [bool],
+    woken: &'static [&'static str],
+    ends: [End; 3],
+    waiting: usize,
+}
+
+pub(crate) const PRODUCT_IS_SIX: Told = (Both(X, "*", Y), "=", Is(N(6, 1)));
+
+static SCENES: [Scene; 34] = [
+    // {X*Y=6, X+Y=Z}, X=2
+    Scene {
+        before: &[],
+        told: &[PRODUCT_IS_SIX, (Both(X, "+", Y), "=", Is(Z))],
+        after: &[(Equal, (Is(X), "=", Is(N(2, 1))))],
+        kept: &[true, true],
+        woken: &[],
+        ends: [Value(2, 1), Value(3, 1), Value(5, 1)],
+        waiting: 0,
+    },
+    // {X*Y=6} waits
+    Scene {
+        before: &[],
+        told: &[PRODUCT_IS_SIX],
+        after: &[],
+        kept: &[true],
+        woken: &[],
+        ends: [Free, Free, Free],
+        waiting: 1,
+    },
+    // freeze(X,g), {X+Y=3, Y=1}
+    Scene {
+        before: &[(Sleep, (Is(X), "freeze", Named("g")))],
+        told: &[
+            (Both(X, "+", Y), "=", Is(N(3, 1))),
+            (Is(Y), "=", Is(N(1, 1))),
+        ],
+        after: &[],
+        kept: &[true, true],
+        woken: &["g"],
+        ends: [Value(2, 1), Value(1, 1), Free],
+        waiting: 0,
+    },
+    // freeze(X,g(Y))
+    Scene {
+        before: &[(Sleep, (Is(X), "freeze", Over("g", Y)))],
+        told: &[],
+        after: &[],
+        kept: &[true, true],
+        woken: &[],
+        ends: [Free, Free, Free],
+        waiting: 1,
+    },
+    // freeze(X,g), freeze(X,h), X=1
+    Scene {
+        before: &[
+            (Sleep, (Is(X), "freeze", Named("g"))),
+            (Sleep, (Is(X), "freeze", Named("h"))),
+            (Equal, (Is(X), "=", Is(N(1, 1)))),
+        ],
+        told: &[],
+        after: &[],
+        kept: &[true, true, true, true],
+        woken: &["g", "h"],
+        ends: [Value(1, 1), Free, Free],
+        waiting: 0,
+    },
+    // {Y=abs(X)}, X= -3
+    Scene {
+        before: &[],
+        told: &[(Is(Y), "=", Over("abs", X))],
+        after: &[(Equal, (Is(X), "=", Is(N(-3, 1))))],
+        kept: &[true, true],
+        woken: &[],
+        ends: [Value(-3, 1), Value(3, 1), Free],
+        waiting: 0,
+    },
+    // {X=2^100}: an exponent above 64 waits
+    Scene {
+        before: &[],
+        told: &[(Is(X), "=", Both(N(2, 1), "^", N(100, 1)))],
+        after: &[],
+        kept: &[true],
+        woken: &[],
+        ends: [Free, Free, Free],
+        waiting: 1,
+    },
+    // {X=1/0}
+    Scene {
+        before: &[],
+        told: &[(Is(X), "=", Both(N(1, 1), "/", N(0, 1)))],
+        after: &[],
+        kept: &[false],
+        woken: &[],
+        ends: [Free, Free, Free],
+        waiting: 0,
+    },
+    // {X=1, Y=X+1}
+    Scene {
+        before: &[],
+        told: &[
+            (Is(X), "=", Is(N(1, 1))),
+            (Is(Y), "=", Both(X, "+", N(1, 1))),
+        ],
+        after: &[],
+        kept: &[true],
+        woken: &[],
+        ends: [Value(1, 1), Value(2, 1), Free],
+        waiting: 0,
+    },
+    // {X=2, Y=X+1}
+    Scene {
+        before: &[],
+        told: &[
+            (Is(X), "=", Is(N(2, 1))),
+            (Is(Y), "=", Both(X, "+", N(1, 1))),
+        ],
+        after: &[],
+        kept: &[true],
+        woken: &[],
+        ends: [Value(2, 1), Value(3, 1), Free],
+        waiting: 0,
+    },
+    // {X*Y=Z, Y=2}, freeze(Z,g), {X=3}
+    Scene {
+        before: &[],
+        told: &[(Both(X, "*", Y), "=", Is(Z)), (Is(Y), "=", Is(N(2, 1)))],
+        after: &[
+            (Sleep, (Is(Z), "freeze", Named("g"))),
+            (Tell, (Is(X), "=", Is(N(3, 1)))),
+        ],
+        kept: &[true, true, true],
+        woken: &["g"],
+        ends: [Value(3, 1), Value(2, 1), Value(6, 1)],
+        waiting: 0,
+    },
+    // freeze(X,g), Y=2, X=a
+    Scene {
+        before: &[
+            (Sleep, (Is(X), "freeze", Named("g"))),
+            (Equal, (Is(Y), "=", Is(N(2, 1)))),
+            (Equal, (Is(X), "=", Named("a"))),
+        ],
+        told: &[],
+        after: &[],
+        kept: &[true, true, true, true],
+        woken: &["g"],
+        ends: [Other, Value(2, 1), Free],
+        waiting: 0,
+    },
+    // {X*Y=6}, X=0 has no solution, and nothing of it stays; X=3
+    Scene {
+        before: &[],
+        told: &[PRODUCT_IS_SIX],
+        after: &[
+            (Equal, (Is(X), "=", Is(N(0, 1)))),
+            (Equal, (Is(X), "=", Is(N(3, 1)))),
+        ],
+        kept: &[true, false, true],
+        woken: &[],
+        ends: [Value(3, 1), Value(2, 1), Free],
+        waiting: 0,
+    },
+    // {X>0}: X is no atom and no compound
+    Scene {
+        before: &[],
+        told: &[(Is(X), ">", Is(N(0, 1)))],
+        after: &[
+            (Equal, (Is(X), "=", Named("a"))),
+            (Equal, (Is(X), "=", Over("f", Y))),
+        ],
+        kept: &[true, false, false],
+        woken: &[],
+        ends: [Free, Free, Free],
+        waiting: 0,
+    },
+    // {X*Y=6}: Y is no atom, though it is in no linear constraint
+    Scene {
+        before: &[],
+        told: &[PRODUCT_IS_SIX],
+        after: &[(Equal, (Is(Y), "=", Named("a")))],
+        kept: &[true, false],
+        woken: &[],
+        ends: [Free, Free, Free],
+        waiting: 1,
+    },
+    // {Y>0}, Y=X: X is numeric now, and no atom
+    Scene {
+        before: &[],
+        told: &[(Is(Y), ">", Is(N(0, 1)))],
+        after: &[
+            (Equal, (Is(Y), "=", Is(X))),
+            (Equal, (Is(X), "=", Named("a"))),
+        ],
+        kept: &[true, true, false],
+        woken: &[],
+        ends: [Free, Same(0), Free],
+        waiting: 0,
+    },
+    // {X+Y=3, Y=1}
+    Scene {
+        before: &[],
+        told: &[
+            (Both(X, "+", Y), "=", Is(N(3, 1))),
+            (Is(Y), "=", Is(N(1, 1))),
+        ],
+        after: &[],
+        kept: &[true],
+        woken: &[],
+        ends: [Value(2, 1), Value(1, 1), Free],
+        waiting: 0,
+    },
+    // {X>=1, X=<1}
+    Scene {
+        before: &[],
+        told: &[(Is(X), ">=", Is(N(1, 1))), (Is(X), "=<", Is(N(1, 1)))],
+        after: &[],
+        kept: &[true],
+        woken: &[],
+        ends: [Value(1, 1), Free, Free],
+        waiting: 0,
+    },
+    // {X>=0}, {Y>=0}, {X+Y=<0}
+    Scene {
+        before: &[],
+        told: &[(Is(X), ">=", Is(N(0, 1)))],
+        after: &[
+            (Tell, (Is(Y), ">=", Is(N(0, 1)))),
+            (Tell, (Both(X, "+", Y), "=<", Is(N(0, 1)))),
+        ],
+        kept: &[true, true, true],
+        woken: &[],
+        ends: [Value(0, 1), Value(0, 1), Free],
+        waiting: 0,
+    },
+    // {X=Y}: entailed equal, and two variables
+    Scene {
+        before: &[],
+        told: &[(Is(X), "=", Is(Y))],
+        after: &[],
+        kept: &[true],
+        woken: &[],
+        ends: [Free, Free, Free],
+        waiting: 0,
+    },
+    // {X=Y, Z>=X, Z=<Y}, {Z=4}: three that are entailed equal get their value together
+    Scene {
+        before: &[],
+        told: &[
+            (Is(X), "=", Is(Y)),
+            (Is(Z), ">=", Is(X)),
+            (Is(Z), "=<", Is(Y)),
+        ],
+        after: &[(Tell, (Is(Z), "=", Is(N(4, 1))))],
+        kept: &[true, true],
+        woken: &[],
+        ends: [Value(4, 1), Value(4, 1), Value(4, 1)],
+        waiting: 0,
+    },
+    // {X>0}, {X=Y}, {Y<0}
+    Scene {
+        before: &[],
+        told: &[(Is(X), ">", Is(N(0, 1)))],
+        after: &[
+            (Tell, (Is(X), "=", Is(Y))),
+            (Tell, (Is(Y), "<", Is(N(0, 1)))),
+        ],
+        kept: &[true, true, false],
+        woken: &[],
+        ends: [Free, Free, Free],
+        waiting: 0,
+    },
+    // {X>=1, Y=<1}, X=Y: the younger is bound to the older, and both are fixed
+    Scene {
+        before: &[],
+        told: &[(Is(X), ">=", Is(N(1, 1))), (Is(Y), "=<", Is(N(1, 1)))],
+        after: &[(Equal, (Is(X), "=", Is(Y)))],
+        kept: &[true, true],
+        woken: &[],
+        ends: [Value(1, 1), Value(1, 1), Free],
+        waiting: 0,
+    },
+    // {Y*Z=6}, {Y=X}, {X=2}
+    Scene {
+        before: &[],
+        told: &[(Both(Y, "*", Z), "=", Is(N(6, 1)))],
+        after: &[
+            (Tell, (Is(Y), "=", Is(X))),
+            (Tell, (Is(X), "=", Is(N(2, 1)))),
+        ],
+        kept: &[true, true, true],
+        woken: &[],
+        ends: [Value(2, 1), Value(2, 1), Value(3, 1)],
+        waiting: 0,
+    },
+    // {Y*Z=6}, Y=X, X=2: what waits for Y waits for X
+    Scene {
+        before: &[],
+        told: &[(Both(Y, "*", Z), "=", Is(N(6, 1)))],
+        after: &[
+            (Equal, (Is(Y), "=", Is(X))),
+            (Equal, (Is(X), "=", Is(N(2, 1)))),
+        ],
+        kept: &[true, true, true],
+        woken: &[],
+        ends: [Value(2, 1), Value(2, 1), Value(3, 1)],
+        waiting: 0,
+    },
+    // freeze(Y,g), Y=X, X=1: g sleeps on
+    Scene {
+        before: &[
+            (Sleep, (Is(Y), "freeze", Named("g"))),
+            (Equal, (Is(Y), "=", Is(X))),
+        ],
+        told: &[],
+        after: &[],
+        kept: &[true, true, true],
+        woken: &[],
+        ends: [Free, Same(0), Free],
+        waiting: 1,
+    },
+    // freeze(Y,g), Y=X, X=1: g wakes
+    Scene {
+        before: &[
+            (Sleep, (Is(Y), "freeze", Named("g"))),
+            (Equal, (Is(Y), "=", Is(X))),
+            (Equal, (Is(X), "=", Is(N(1, 1)))),
+        ],
+        told: &[],
+        after: &[],
+        kept: &[true, true, true, true],
+        woken: &["g"],
+        ends: [Value(1, 1), Value(1, 1), Free],
+        waiting: 0,
+    },
+    // freeze(Y,g), freeze(X,h), {X=1, Y=X}: the older goal first, though X was fixed before Y
+    Scene {
+        before: &[
+            (Sleep, (Is(Y), "freeze", Named("g"))),
+            (Sleep, (Is(X), "freeze", Named("h"))),
+        ],
+        told: &[(Is(X), "=", Is(N(1, 1))), (Is(Y), "=", Is(X))],
+        after: &[],
+        kept: &[true, true, true],
+        woken: &["g", "h"],
+        ends: [Value(1, 1), Value(1, 1), Free],
+        waiting: 0,
+    },
+    // {Y+Z=4}, {Y=Z}
+    Scene {
+        before: &[],
+        told: &[(Both(Y, "+", Z), "=", Is(N(4, 1)))],
+        after: &[(Tell, (Is(Y), "=", Is(Z)))],
+        kept: &[true, true],
+        woken: &[],
+        ends: [Free, Value(2, 1), Value(2, 1)],
+        waiting: 0,
+    },
+    // {X*Y=Z}, X+Y=2+3
+    Scene {
+        before: &[],
+        told: &[(Both(X, "*", Y), "=", Is(Z))],
+        after: &[(
+            Equal,
+            (Both(X, "+", Y), "=", Both(N(2, 1), "+", N(3, 1))),
+        )],
+        kept: &[true, true],
+        woken: &[],
+        ends: [Value(2, 1), Value(3, 1), Value(6, 1)],
+        waiting: 0,
+    },
+    // {X*Y=6, X=\=3, Y>=2, Y=<2}: fixed by inequalities, then told, then without solution
+    Scene {
+        before: &[],
+        told: &[
+            PRODUCT_IS_SIX,
+            (Is(X), "=\\=", Is(N(3, 1))),
+            (Is(Y), ">=", Is(N(2, 1))),
+            (Is(Y), "=<", Is(N(2, 1))),
+        ],
+        after: &[],
+        kept: &[false],
+        woken: &[],
+        ends: [Free, Free, Free],
+        waiting: 0,
+    },
+    // {X=1/Y}, {Y=0}: a divisor that comes to be zero
+    Scene {
+        before: &[],
+        told: &[(Is(X), "=", Both(N(1, 1), "/", Y))],
+        after: &[(Tell, (Is(Y), "=", Is(N(0, 1))))],
+        kept: &[true, false],
+        woken: &[],
+        ends: [Free, Free, Free],
+        waiting: 1,
+    },
+    // {Y=2^X}, {X=5}
+    Scene {
+        before: &[],
+        told: &[(Is(Y), "=", Both(N(2, 1), "^", X))],
+        after: &[(Tell, (Is(X), "=", Is(N(5, 1))))],
+        kept: &[true, true],
+        woken: &[],
+        ends: [Value(5, 1), Value(32, 1), Free],
+        waiting: 0,
+    },
+    // X=a: X is not numeric
+    Scene {
+        before: &[(Equal, (Is(X), "=", Named("a")))],
+        told: &[],
+        after: &[],
+        kept: &[true, true],
+        woken: &[],
+        ends: [Other, Free, Free],
+        waiting: 0,
+    },
+];
+
+// ---- scripts
+
+/// A scene with its terms.
+#[derive(Drop)]
+struct Script {
+    before: Vec<Step>,
+    told: Vec<TermId>,
+    after: Vec<Step>,
+}
+
+pub(crate) fn steps_of(heap: &mut Heap, atoms: &mut Atoms, acts: &[Act]) -> Result<Vec<Step>, AllocError>
+    requires variables { 3 ≤ length heap.old.now.images }
+    ensures live { IfOk result (λ steps. All (λ (s : Step). s.term < length heap.new.now.terms) steps.items) }
+    ensures more { length heap.old.now.terms ≤ length heap.new.now.terms }
+    ensures images { OnOk result (heap.new.now.images ≡ heap.old.now.images) }
+    ensures names { OnOk result (KnowsTerms atoms.old heap.old.now.terms → KnowsTerms atoms.new heap.new.now.terms) }
+{
+    let mut steps = Vec::new(heap.alloc());
+    for act in acts {
+        let term = term_of(heap, atoms, act.1)?;
+        steps.push(Step { way: act.0, term })?;
+    }
+    Ok(steps)
+}
+
+fn script_of(heap: &mut Heap, atoms: &mut Atoms, scene: &Scene) -> Result<Script, AllocError>
+    requires variables { 3 ≤ length heap.old.now.images }
+    ensures before { IfOk result (λ s. All (λ (t : Step). t.term < length heap.new.now.terms) s.before.items) }
+    ensures told { IfOk result (λ s. All (λ id. id < length heap.new.now.terms) s.told.items) }
+    ensures after { IfOk result (λ s. All (λ (t : Step). t.term < length heap.new.now.terms) s.after.items) }
+    ensures images { OnOk result (heap.new.now.images ≡ heap.old.now.images) }
+    ensures names { OnOk result (KnowsTerms atoms.old heap.old.now.terms → KnowsTerms atoms.new heap.new.now.terms) }
+{
+    let before = steps_of(heap, atoms, scene.before)?;
+    let told = terms_of(heap, atoms, scene.told)?;
+    let after = steps_of(heap, atoms, scene.after)?;
+    Ok(Script {
+        before,
+        told,
+        after,
+    })
+}
+
+/// Which steps keep the branch.
+fn perform(
+    world: &mut World,
+    atoms: &Atoms,
+    script: Script,
+    woken: &mut Vec<Atom>,
+) -> Result<Vec<bool>, Fail>
+    requires different { AreDifferent atoms.now }
+    requires ready { IsReady atoms.now (now_of world.old) }
+    requires before { All (λ (t : Step). t.term < length world.old.heap.now.terms) script.before.items }
+    requires told { All (λ id. id < length world.old.heap.now.terms) script.told.items }
+    requires after { All (λ (t : Step). t.term < length world.old.heap.now.terms) script.after.items }
+    ensures next { OnOk result (IsNext atoms.now world.old world.new) }
+{
+    let Script {
+        before,
+        told,
+        after,
+    } = script;
+    let mut kept = Vec::new(world.heap.alloc());
+    attempt_each(world, atoms, &before, woken, &mut kept)?;
+    kept.push(tell(world, atoms, told, woken)?)?;
+    attempt_each(world, atoms, &after, woken, &mut kept)?;
+    Ok(kept)
+}
+
+// ---- ends
+
+fn is_end(heap: &Heap, variable: VarId, end: End) -> bool
+    requires { variable.0 < length heap.now.now.images }
+{
+    let seen = heap.view(heap.var_term(variable));
+    match end {
+        Free => seen == View::Var(variable),
+        Same(other) => seen == View::Var(VarId(other)),
+        Other => match seen {
+            View::Name(_) | View::Compound(_, _) => true,
+            View::Var(_) | View::Number(_) => false,
+        },
+        Value(n, d) => match seen {
+            View::Number(q) => q.parts() == (n, d),
+            View::Var(_) | View::Name(_) | View::Compound(_, _) => false,
+        },
+    }
+}
+
+pub(crate) fn are_ends(heap: &Heap, ends: &[End; 3]) -> bool
+    requires { 3 ≤ length heap.now.now.images }
+{
+    is_end(heap, VarId(0), ends[0])
+        && is_end(heap, VarId(1), ends[1])
+        && is_end(heap, VarId(2), ends[2])
+}
+
+/// Whether the names are those of the texts.
+fn are_named(atoms: &mut Atoms, names: &[Atom], texts: &[&str]) -> Result<bool, AllocError> {
+    if names.len() != texts.len() {
+        return Ok(false);
+    }
+    for (i, text) in texts.iter().enumerate() {
+        if atoms.intern(text)? != names[i] {
+            return Ok(false);
+        }
+    }
+    Ok(true)
+}
+
+pub(crate) fn waits(world: &World, count: usize) -> Result<bool, AllocError> {
+    Ok(world.attrs.waiting()?.len() == count)
+}
+
+fn ends_well(world: &World, scene: &Scene, kept: &[bool]) -> Result<bool, AllocError>
+    requires { 3 ≤ length world.now.heap.now.images }
+{
+    Ok(kept == scene.kept && are_ends(&world.heap, &scene.ends) && waits(world, scene.waiting)?)
+}
+
+fn plays(alloc: Global, scene: &Scene) -> Result<bool, Fail> {
+    let mut world = blank_world(alloc, 3)?;
+    let mut atoms = Atoms::new(alloc);
+    let script = script_of(&mut world.heap, &mut atoms, scene)?;
+    let _ = symbol(&mut atoms, "freeze")?;
+    new_worlds_are_ready();
+    let mut woken = Vec::new(alloc);
+    let kept = perform(&mut world, &atoms, script, &mut woken)?;
+    Ok(ends_well(&world, scene, &kept)? && are_named(&mut atoms, &woken, scene.woken)?)
+}
+
+#[test]
+fn scenes_end_as_worked_by_hand(rt: HostRuntime) -> Result<(), Fail> {
+    for (i, scene) in SCENES.iter().enumerate() {
+        assert!(rt; plays(rt.alloc(), scene)?, "scene {i}");
+    }
+    Ok(())
+}
