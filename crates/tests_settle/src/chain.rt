@@ -1,14 +1,13 @@
 // Products that wait for each other, a thousand deep.
 
-ghost use Rattle.std.specs.Prelude.{◌≡◌, ◌≤◌, ◌<◌, ℕ, length, All, IfOk, OnOk};
-ghost use Rattle.cq_term.specs.Names.{HasNamesBelow};
+ghost use Rattle.std.specs.Prelude.{◌≡◌, ◌≤◌, ◌<◌, length, All, IfOk};
+ghost use Rattle.cq_term.specs.Trees.{KnowsTerms};
 ghost use Rattle.cq_world.specs.Rest.{IsReady};
 ghost use Rattle.cq_world.specs.Worlds.{now_of};
 
-use crate::scenes::waits;
-use crate::steps::{tell, tell_one};
-use crate::terms::{blank_world, pair, symbol};
-use cq_atoms::{Atom, Atoms};
+use crate::steps::{tell, tell_one, waits};
+use crate::terms::{blank_world, make_number, pair};
+use cq_atoms::Atoms;
 use cq_frac::{Frac, VarId};
 use cq_rest::new_worlds_are_ready;
 use cq_term::{Heap, TermId, View};
@@ -16,85 +15,62 @@ use cq_world::World;
 use std::alloc::{AllocError, Global};
 use std::test::Fail;
 
-/// The names in a chain.
-#[derive(Clone, Copy, Debug)]
-struct Symbols {
-    times: Atom,
-    equals: Atom,
-}
-
-fn symbols_of(atoms: &mut Atoms) -> Result<Symbols, AllocError>
-    ensures times { IfOk result (λ s. s.times < length atoms.new) }
-    ensures equals { IfOk result (λ s. s.equals < length atoms.new) }
-{
-    let times = symbol(atoms, "*")?;
-    let equals = symbol(atoms, "=")?;
-    Ok(Symbols { times, equals })
-}
-
 /// That a variable times the one before it is two.
 fn link(
     heap: &mut Heap,
-    symbols: Symbols,
+    atoms: &mut Atoms,
     variable: usize,
     two: TermId,
 ) -> Result<TermId, AllocError>
+    requires names { KnowsTerms atoms.old heap.old.now.terms }
     requires younger { 0 < variable }
     requires variable { variable < length heap.old.now.images }
     requires two { two < length heap.old.now.terms }
     ensures live { IfOk result (λ id. id < length heap.new.now.terms) }
     ensures more { length heap.old.now.terms ≤ length heap.new.now.terms }
-    ensures images { OnOk result (heap.new.now.images ≡ heap.old.now.images) }
-    ensures names { (n : ℕ) → symbols.times < n → symbols.equals < n → All (HasNamesBelow n) heap.old.now.terms → All (HasNamesBelow n) heap.new.now.terms }
+    ensures images { heap.new.now.images ≡ heap.old.now.images }
+    ensures names { KnowsTerms atoms.new heap.new.now.terms }
 {
     let before = heap.var_term(VarId(variable - 1));
     let this = heap.var_term(VarId(variable));
-    let product = pair(heap, symbols.times, before, this)?;
-    pair(heap, symbols.equals, product, two)
+    let product = pair(heap, atoms, "*", before, this)?;
+    pair(heap, atoms, "=", product, two)
 }
 
 /// Such links of so many variables.
 fn links_of(
     heap: &mut Heap,
-    symbols: Symbols,
+    atoms: &mut Atoms,
     count: usize,
     two: TermId,
 ) -> Result<Vec<TermId>, AllocError>
+    requires names { KnowsTerms atoms.old heap.old.now.terms }
     requires variables { count ≤ length heap.old.now.images }
     requires two { two < length heap.old.now.terms }
     ensures live { IfOk result (λ ids. All (λ id. id < length heap.new.now.terms) ids.items) }
     ensures more { length heap.old.now.terms ≤ length heap.new.now.terms }
-    ensures images { OnOk result (heap.new.now.images ≡ heap.old.now.images) }
-    ensures names { (n : ℕ) → symbols.times < n → symbols.equals < n → All (HasNamesBelow n) heap.old.now.terms → All (HasNamesBelow n) heap.new.now.terms }
+    ensures images { heap.new.now.images ≡ heap.old.now.images }
+    ensures names { KnowsTerms atoms.new heap.new.now.terms }
 {
     let mut links = Vec::new(heap.alloc());
     for variable in 1..count {
-        links.push(link(heap, symbols, variable, two)?)?;
+        links.push(link(heap, atoms, variable, two)?)?;
     }
     Ok(links)
 }
 
-/// A number as a term.
-fn number(heap: &mut Heap, value: i64) -> Result<TermId, AllocError>
-    ensures live { IfOk result (λ id. id < length heap.new.now.terms) }
-    ensures more { length heap.old.now.terms ≤ length heap.new.now.terms }
-    ensures images { OnOk result (heap.new.now.images ≡ heap.old.now.images) }
-    ensures names { (n : ℕ) → All (HasNamesBelow n) heap.old.now.terms → All (HasNamesBelow n) heap.new.now.terms }
-{
-    heap.number(Frac::from(value))
-}
-
 /// That the oldest variable is one.
-fn start_of(heap: &mut Heap, symbols: Symbols) -> Result<TermId, AllocError>
+fn start_of(heap: &mut Heap, atoms: &mut Atoms) -> Result<TermId, AllocError>
+    requires names { KnowsTerms atoms.old heap.old.now.terms }
     requires variables { 0 < length heap.old.now.images }
     ensures live { IfOk result (λ id. id < length heap.new.now.terms) }
     ensures more { length heap.old.now.terms ≤ length heap.new.now.terms }
-    ensures images { OnOk result (heap.new.now.images ≡ heap.old.now.images) }
-    ensures names { (n : ℕ) → symbols.equals < n → All (HasNamesBelow n) heap.old.now.terms → All (HasNamesBelow n) heap.new.now.terms }
+    ensures images { heap.new.now.images ≡ heap.old.now.images }
+    ensures names { KnowsTerms atoms.new heap.new.now.terms }
 {
-    let one = number(heap, 1)?;
+    let one = make_number(heap, atoms, 1, 1)?;
     let oldest = heap.var_term(VarId(0));
-    pair(heap, symbols.equals, oldest, one)
+    pair(heap, atoms, "=", oldest, one)
 }
 
 /// The links, and what fixes the first of them.
@@ -104,17 +80,18 @@ struct Chain {
     start: TermId,
 }
 
-fn chain_of(heap: &mut Heap, symbols: Symbols, count: usize) -> Result<Chain, AllocError>
+fn chain_of(heap: &mut Heap, atoms: &mut Atoms, count: usize) -> Result<Chain, AllocError>
+    requires names { KnowsTerms atoms.old heap.old.now.terms }
     requires some { 0 < count }
     requires variables { count ≤ length heap.old.now.images }
     ensures links { IfOk result (λ c. All (λ id. id < length heap.new.now.terms) c.links.items) }
     ensures start { IfOk result (λ c. c.start < length heap.new.now.terms) }
-    ensures images { OnOk result (heap.new.now.images ≡ heap.old.now.images) }
-    ensures names { (n : ℕ) → symbols.times < n → symbols.equals < n → All (HasNamesBelow n) heap.old.now.terms → All (HasNamesBelow n) heap.new.now.terms }
+    ensures images { heap.new.now.images ≡ heap.old.now.images }
+    ensures names { KnowsTerms atoms.new heap.new.now.terms }
 {
-    let start = start_of(heap, symbols)?;
-    let two = number(heap, 2)?;
-    let links = links_of(heap, symbols, count, two)?;
+    let start = start_of(heap, atoms)?;
+    let two = make_number(heap, atoms, 2, 1)?;
+    let links = links_of(heap, atoms, count, two)?;
     Ok(Chain { links, start })
 }
 
@@ -152,8 +129,7 @@ fn is_passed_on(alloc: Global, count: usize) -> Result<bool, Fail>
 {
     let mut world = blank_world(alloc, count)?;
     let mut atoms = Atoms::new(alloc);
-    let symbols = symbols_of(&mut atoms)?;
-    let chain = chain_of(&mut world.heap, symbols, count)?;
+    let chain = chain_of(&mut world.heap, &mut atoms, count)?;
     new_worlds_are_ready();
     runs(&mut world, &atoms, chain, count)
 }

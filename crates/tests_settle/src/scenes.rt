@@ -9,7 +9,7 @@ ghost use Rattle.tests_settle.specs.Next.{IsNext};
 ghost use Rattle.tests_settle.specs.declared.steps.Step.{Step};
 
 use crate::steps::Way::{Equal, Sleep, Tell};
-use crate::steps::{Step, Way, attempt_each, tell};
+use crate::steps::{Step, Way, attempt_each, tell, waits};
 use crate::terms::Part::{N, X, Y, Z};
 use crate::terms::Side::{Both, Is, Named, Over};
 use crate::terms::{Told, blank_world, symbol, term_of, terms_of};
@@ -471,27 +471,29 @@ struct Script {
 }
 
 pub(crate) fn steps_of(heap: &mut Heap, atoms: &mut Atoms, acts: &[Act]) -> Result<Vec<Step>, AllocError>
+    requires names { KnowsTerms atoms.old heap.old.now.terms }
     requires variables { 3 ≤ length heap.old.now.images }
     ensures live { IfOk result (λ steps. All (λ (s : Step). s.term < length heap.new.now.terms) steps.items) }
     ensures more { length heap.old.now.terms ≤ length heap.new.now.terms }
-    ensures images { OnOk result (heap.new.now.images ≡ heap.old.now.images) }
-    ensures names { OnOk result (KnowsTerms atoms.old heap.old.now.terms → KnowsTerms atoms.new heap.new.now.terms) }
+    ensures images { heap.new.now.images ≡ heap.old.now.images }
+    ensures names { KnowsTerms atoms.new heap.new.now.terms }
 {
     let mut steps = Vec::new(heap.alloc());
     for act in acts {
-        let term = term_of(heap, atoms, act.1)?;
+        let term = term_of(heap, atoms, &act.1)?;
         steps.push(Step { way: act.0, term })?;
     }
     Ok(steps)
 }
 
 fn script_of(heap: &mut Heap, atoms: &mut Atoms, scene: &Scene) -> Result<Script, AllocError>
+    requires names { KnowsTerms atoms.old heap.old.now.terms }
     requires variables { 3 ≤ length heap.old.now.images }
     ensures before { IfOk result (λ s. All (λ (t : Step). t.term < length heap.new.now.terms) s.before.items) }
     ensures told { IfOk result (λ s. All (λ id. id < length heap.new.now.terms) s.told.items) }
     ensures after { IfOk result (λ s. All (λ (t : Step). t.term < length heap.new.now.terms) s.after.items) }
-    ensures images { OnOk result (heap.new.now.images ≡ heap.old.now.images) }
-    ensures names { OnOk result (KnowsTerms atoms.old heap.old.now.terms → KnowsTerms atoms.new heap.new.now.terms) }
+    ensures images { heap.new.now.images ≡ heap.old.now.images }
+    ensures names { KnowsTerms atoms.new heap.new.now.terms }
 {
     let before = steps_of(heap, atoms, scene.before)?;
     let told = terms_of(heap, atoms, scene.told)?;
@@ -563,15 +565,11 @@ fn are_named(atoms: &mut Atoms, names: &[Atom], texts: &[&str]) -> Result<bool, 
         return Ok(false);
     }
     for (i, text) in texts.iter().enumerate() {
-        if atoms.intern(text)? != names[i] {
+        if atoms.intern(*text)? != names[i] {
             return Ok(false);
         }
     }
     Ok(true)
-}
-
-pub(crate) fn waits(world: &World, count: usize) -> Result<bool, AllocError> {
-    Ok(world.attrs.waiting()?.len() == count)
 }
 
 fn ends_well(world: &World, scene: &Scene, kept: &[bool]) -> Result<bool, AllocError>

@@ -1,6 +1,6 @@
 // Steps of a branch over worlds made by hand: tellings, equations, goals that sleep, each with its settling.
 
-ghost use Rattle.std.specs.Prelude.{◌≡◌, ◌≤◌, ◌<◌, length, All, IsTrue, IfOk, OnOk, MatchBool};
+ghost use Rattle.std.specs.Prelude.{◌≡◌, ◌≤◌, ◌<◌, ◌∷◌, [], length, All, IsTrue, IfOk, OnOk, MatchBool};
 ghost use Rattle.cq_atoms.specs.Texts.{AreDifferent};
 ghost use Rattle.cq_settle.specs.Called.{SomeIsCalled};
 ghost use Rattle.cq_settle.specs.Settled.{KeepsMarks};
@@ -21,7 +21,7 @@ use cq_term::{Heap, Newly, TermId, View};
 use cq_trail::Undo;
 use cq_unify::unify;
 use cq_world::World;
-use std::alloc::AllocError;
+use std::alloc::{AllocError, Global};
 use std::test::Fail;
 
 /// What is done with a term: it is told, its two arguments are made equal, or its second one sleeps until the first is no
@@ -44,8 +44,9 @@ fn note(heap: &Heap, goals: &[TermId], woken: &mut Vec<Atom>) -> Result<(), Allo
     requires { All (λ id. id < length heap.now.now.terms) goals.now }
 {
     for &goal in goals {
-        if let View::Name(name) | View::Compound(name, _) = heap.view(goal) {
-            woken.push(name)?;
+        match heap.view(goal) {
+            View::Name(name) | View::Compound(name, _) => woken.push(name)?,
+            View::Var(_) | View::Number(_) => {}
         }
     }
     Ok(())
@@ -96,6 +97,14 @@ pub(crate) fn tell(
     settle_called(world, atoms, work, woken)
 }
 
+fn alone(alloc: Global, term: TermId) -> Result<Vec<TermId>, AllocError>
+    ensures { IfOk result (λ ids. ids.items ≡ term ∷ []) }
+{
+    let mut ids = Vec::new(alloc);
+    ids.push(term)?;
+    Ok(ids)
+}
+
 /// The same of one constraint.
 pub(crate) fn tell_one(
     world: &mut World,
@@ -108,8 +117,7 @@ pub(crate) fn tell_one(
     ensures next { OnOk result (IsNext atoms.now world.old world.new) }
     ensures marks { OnOk result (KeepsMarks world.old world.new) }
 {
-    let mut told = Vec::new(world.heap.alloc());
-    told.push(term)?;
+    let told = alone(world.heap.alloc(), term)?;
     tell(world, atoms, told, woken)
 }
 
@@ -251,4 +259,9 @@ pub(crate) fn attempt_each(
         kept.push(attempt(world, atoms, step, woken)?)?;
     }
     Ok(())
+}
+
+/// Whether so many constraints and goals wait.
+pub(crate) fn waits(world: &World, count: usize) -> Result<bool, AllocError> {
+    Ok(world.attrs.waiting()?.len() == count)
 }

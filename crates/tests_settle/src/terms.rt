@@ -7,6 +7,7 @@ ghost use Rattle.cq_term.specs.Trees.{KnowsTerms};
 ghost use Rattle.tests_settle.specs.Next.{AreUnbound, IsBlank};
 
 use cq_atoms::{Atom, Atoms};
+use cq_built::{atom, compound};
 use cq_frac::{Frac, VarId};
 use cq_term::{Heap, TermId};
 use cq_world::World;
@@ -37,125 +38,164 @@ use Side::{Both, Is, Named, Over};
 pub(crate) type Told = (Side, &'static str, Side);
 
 pub(crate) fn symbol(atoms: &mut Atoms, text: &str) -> Result<Atom, AllocError>
-    ensures known { IfOk result (λ name. name < length atoms.new) }
-    ensures more { length atoms.old ≤ length atoms.new }
     ensures different { AreDifferent atoms.new }
 {
     let name = atoms.intern(text)?;
     Ok(name)
 }
 
-// Each of these makes a term, and the heap has no name that it did not have, but for the one that is given.
+// Each of these makes a term, and keeps what stood on the heap.
 
-fn make_part(heap: &mut Heap, part: Part) -> Result<TermId, AllocError>
+pub(crate) fn make_number(
+    heap: &mut Heap,
+    atoms: &Atoms,
+    n: i128,
+    d: i128,
+) -> Result<TermId, AllocError>
+    requires names { KnowsTerms atoms.now heap.old.now.terms }
+    ensures live { IfOk result (λ id. id < length heap.new.now.terms) }
+    ensures more { length heap.old.now.terms ≤ length heap.new.now.terms }
+    ensures images { heap.new.now.images ≡ heap.old.now.images }
+    ensures names { KnowsTerms atoms.now heap.new.now.terms }
+{
+    let id = heap.number(Frac::new(n, d).unwrap_or(Frac::zero()))?;
+    Ok(id)
+}
+
+fn make_part(heap: &mut Heap, atoms: &Atoms, part: Part) -> Result<TermId, AllocError>
+    requires names { KnowsTerms atoms.now heap.old.now.terms }
     requires variables { 3 ≤ length heap.old.now.images }
     ensures live { IfOk result (λ id. id < length heap.new.now.terms) }
     ensures more { length heap.old.now.terms ≤ length heap.new.now.terms }
-    ensures images { OnOk result (heap.new.now.images ≡ heap.old.now.images) }
-    ensures names { (n : ℕ) → All (HasNamesBelow n) heap.old.now.terms → All (HasNamesBelow n) heap.new.now.terms }
+    ensures images { heap.new.now.images ≡ heap.old.now.images }
+    ensures names { KnowsTerms atoms.now heap.new.now.terms }
 {
     match part {
         X => Ok(heap.var_term(VarId(0))),
         Y => Ok(heap.var_term(VarId(1))),
         Z => Ok(heap.var_term(VarId(2))),
-        N(n, d) => heap.number(Frac::new(n, d).unwrap_or(Frac::zero())),
+        N(n, d) => make_number(heap, atoms, n, d),
     }
 }
 
-fn constant(heap: &mut Heap, name: Atom) -> Result<TermId, AllocError>
+pub(crate) fn constant(
+    heap: &mut Heap,
+    atoms: &mut Atoms,
+    text: &str,
+) -> Result<TermId, AllocError>
+    requires names { KnowsTerms atoms.old heap.old.now.terms }
     ensures live { IfOk result (λ id. id < length heap.new.now.terms) }
     ensures more { length heap.old.now.terms ≤ length heap.new.now.terms }
-    ensures images { OnOk result (heap.new.now.images ≡ heap.old.now.images) }
-    ensures names { (n : ℕ) → name < n → All (HasNamesBelow n) heap.old.now.terms → All (HasNamesBelow n) heap.new.now.terms }
+    ensures images { heap.new.now.images ≡ heap.old.now.images }
+    ensures names { KnowsTerms atoms.new heap.new.now.terms }
 {
-    let id = heap.atom(name)?;
-    Ok(id)
+    atom(heap, atoms, text)
 }
 
 /// A name over one term.
-fn single(heap: &mut Heap, name: Atom, argument: TermId) -> Result<TermId, AllocError>
-    requires { argument < length heap.old.now.terms }
+fn single(
+    heap: &mut Heap,
+    atoms: &mut Atoms,
+    text: &str,
+    argument: TermId,
+) -> Result<TermId, AllocError>
+    requires names { KnowsTerms atoms.old heap.old.now.terms }
+    requires argument { argument < length heap.old.now.terms }
     ensures live { IfOk result (λ id. id < length heap.new.now.terms) }
     ensures more { length heap.old.now.terms ≤ length heap.new.now.terms }
-    ensures images { OnOk result (heap.new.now.images ≡ heap.old.now.images) }
-    ensures names { (n : ℕ) → name < n → All (HasNamesBelow n) heap.old.now.terms → All (HasNamesBelow n) heap.new.now.terms }
+    ensures images { heap.new.now.images ≡ heap.old.now.images }
+    ensures names { KnowsTerms atoms.new heap.new.now.terms }
 {
-    let id = heap.compound(name, &[argument])?;
-    Ok(id)
+    compound(heap, atoms, text, &[argument])
 }
 
 /// A name over two terms.
-pub(crate) fn pair(heap: &mut Heap, name: Atom, first: TermId, second: TermId) -> Result<TermId, AllocError>
+pub(crate) fn pair(
+    heap: &mut Heap,
+    atoms: &mut Atoms,
+    text: &str,
+    first: TermId,
+    second: TermId,
+) -> Result<TermId, AllocError>
+    requires names { KnowsTerms atoms.old heap.old.now.terms }
     requires first { first < length heap.old.now.terms }
     requires second { second < length heap.old.now.terms }
     ensures live { IfOk result (λ id. id < length heap.new.now.terms) }
     ensures more { length heap.old.now.terms ≤ length heap.new.now.terms }
-    ensures images { OnOk result (heap.new.now.images ≡ heap.old.now.images) }
-    ensures names { (n : ℕ) → name < n → All (HasNamesBelow n) heap.old.now.terms → All (HasNamesBelow n) heap.new.now.terms }
+    ensures images { heap.new.now.images ≡ heap.old.now.images }
+    ensures names { KnowsTerms atoms.new heap.new.now.terms }
 {
-    let id = heap.compound(name, &[first, second])?;
-    Ok(id)
+    compound(heap, atoms, text, &[first, second])
 }
 
-fn over_one(heap: &mut Heap, name: Atom, one: Part) -> Result<TermId, AllocError>
+fn over_one(
+    heap: &mut Heap,
+    atoms: &mut Atoms,
+    text: &str,
+    only: Part,
+) -> Result<TermId, AllocError>
+    requires names { KnowsTerms atoms.old heap.old.now.terms }
     requires variables { 3 ≤ length heap.old.now.images }
     ensures live { IfOk result (λ id. id < length heap.new.now.terms) }
     ensures more { length heap.old.now.terms ≤ length heap.new.now.terms }
-    ensures images { OnOk result (heap.new.now.images ≡ heap.old.now.images) }
-    ensures names { (n : ℕ) → name < n → All (HasNamesBelow n) heap.old.now.terms → All (HasNamesBelow n) heap.new.now.terms }
+    ensures images { heap.new.now.images ≡ heap.old.now.images }
+    ensures names { KnowsTerms atoms.new heap.new.now.terms }
 {
-    let argument = make_part(heap, one)?;
-    single(heap, name, argument)
+    let argument = make_part(heap, atoms, only)?;
+    single(heap, atoms, text, argument)
 }
 
-fn over_two(heap: &mut Heap, name: Atom, left: Part, right: Part) -> Result<TermId, AllocError>
+fn over_two(
+    heap: &mut Heap,
+    atoms: &mut Atoms,
+    text: &str,
+    left: Part,
+    right: Part,
+) -> Result<TermId, AllocError>
+    requires names { KnowsTerms atoms.old heap.old.now.terms }
     requires variables { 3 ≤ length heap.old.now.images }
     ensures live { IfOk result (λ id. id < length heap.new.now.terms) }
     ensures more { length heap.old.now.terms ≤ length heap.new.now.terms }
-    ensures images { OnOk result (heap.new.now.images ≡ heap.old.now.images) }
-    ensures names { (n : ℕ) → name < n → All (HasNamesBelow n) heap.old.now.terms → All (HasNamesBelow n) heap.new.now.terms }
+    ensures images { heap.new.now.images ≡ heap.old.now.images }
+    ensures names { KnowsTerms atoms.new heap.new.now.terms }
 {
-    let first = make_part(heap, left)?;
-    let second = make_part(heap, right)?;
-    pair(heap, name, first, second)
+    let first = make_part(heap, atoms, left)?;
+    let second = make_part(heap, atoms, right)?;
+    pair(heap, atoms, text, first, second)
 }
 
-pub(crate) fn side_of(heap: &mut Heap, atoms: &mut Atoms, side: Side) -> Result<TermId, AllocError>
+fn side_of(heap: &mut Heap, atoms: &mut Atoms, side: Side) -> Result<TermId, AllocError>
+    requires names { KnowsTerms atoms.old heap.old.now.terms }
     requires variables { 3 ≤ length heap.old.now.images }
     ensures live { IfOk result (λ id. id < length heap.new.now.terms) }
     ensures more { length heap.old.now.terms ≤ length heap.new.now.terms }
-    ensures images { OnOk result (heap.new.now.images ≡ heap.old.now.images) }
-    ensures names { OnOk result (KnowsTerms atoms.old heap.old.now.terms → KnowsTerms atoms.new heap.new.now.terms) }
+    ensures images { heap.new.now.images ≡ heap.old.now.images }
+    ensures names { KnowsTerms atoms.new heap.new.now.terms }
 {
     match side {
-        Is(only) => make_part(heap, only),
-        Named(text) => {
-            let name = symbol(atoms, text)?;
-            constant(heap, name)
-        }
-        Over(text, only) => {
-            let name = symbol(atoms, text)?;
-            over_one(heap, name, only)
-        }
-        Both(left, text, right) => {
-            let name = symbol(atoms, text)?;
-            over_two(heap, name, left, right)
-        }
+        Is(only) => make_part(heap, atoms, only),
+        Named(text) => constant(heap, atoms, text),
+        Over(text, only) => over_one(heap, atoms, text, only),
+        Both(left, text, right) => over_two(heap, atoms, text, left, right),
     }
 }
 
-/// The term of a constraint.
-pub(crate) fn term_of(heap: &mut Heap, atoms: &mut Atoms, told: Told) -> Result<TermId, AllocError>
+/// The term of a constraint, or another one with two sides.
+pub(crate) fn term_of(
+    heap: &mut Heap,
+    atoms: &mut Atoms,
+    told: &Told,
+) -> Result<TermId, AllocError>
+    requires names { KnowsTerms atoms.old heap.old.now.terms }
     requires variables { 3 ≤ length heap.old.now.images }
     ensures live { IfOk result (λ id. id < length heap.new.now.terms) }
     ensures more { length heap.old.now.terms ≤ length heap.new.now.terms }
-    ensures images { OnOk result (heap.new.now.images ≡ heap.old.now.images) }
-    ensures names { OnOk result (KnowsTerms atoms.old heap.old.now.terms → KnowsTerms atoms.new heap.new.now.terms) }
+    ensures images { heap.new.now.images ≡ heap.old.now.images }
+    ensures names { KnowsTerms atoms.new heap.new.now.terms }
 {
     let left = side_of(heap, atoms, told.0)?;
     let right = side_of(heap, atoms, told.2)?;
-    let name = symbol(atoms, told.1)?;
-    pair(heap, name, left, right)
+    pair(heap, atoms, told.1, left, right)
 }
 
 pub(crate) fn terms_of(
@@ -163,15 +203,16 @@ pub(crate) fn terms_of(
     atoms: &mut Atoms,
     told: &[Told],
 ) -> Result<Vec<TermId>, AllocError>
+    requires names { KnowsTerms atoms.old heap.old.now.terms }
     requires variables { 3 ≤ length heap.old.now.images }
     ensures live { IfOk result (λ ids. All (λ id. id < length heap.new.now.terms) ids.items) }
     ensures more { length heap.old.now.terms ≤ length heap.new.now.terms }
-    ensures images { OnOk result (heap.new.now.images ≡ heap.old.now.images) }
-    ensures names { OnOk result (KnowsTerms atoms.old heap.old.now.terms → KnowsTerms atoms.new heap.new.now.terms) }
+    ensures images { heap.new.now.images ≡ heap.old.now.images }
+    ensures names { KnowsTerms atoms.new heap.new.now.terms }
 {
     let mut terms = Vec::new(heap.alloc());
     for constraint in told {
-        let term = term_of(heap, atoms, *constraint)?;
+        let term = term_of(heap, atoms, constraint)?;
         terms.push(term)?;
     }
     Ok(terms)

@@ -1,9 +1,8 @@
 // A world that was settled, told, asked, refused and pruned goes back to its mark.
 
-ghost use Rattle.std.specs.Prelude.{◌≡◌, ◌≤◌, ◌<◌, ℕ, length, All, IsTrue, IfOk, OnOk};
+ghost use Rattle.std.specs.Prelude.{◌≡◌, ◌≤◌, ◌<◌, length, All, IsTrue, IfOk, OnOk};
 ghost use Rattle.cq_atoms.specs.Texts.{AreDifferent};
 ghost use Rattle.cq_settle.specs.Settled.{KeepsMarks};
-ghost use Rattle.cq_term.specs.Names.{HasNamesBelow};
 ghost use Rattle.cq_term.specs.Trees.{KnowsTerms};
 ghost use Rattle.cq_world.specs.Rest.{IsReady};
 ghost use Rattle.cq_world.specs.Worlds.{now_of};
@@ -14,7 +13,7 @@ use crate::scenes::{PRODUCT_IS_SIX, are_ends};
 use crate::steps::{equate, sleep, tell, tell_one};
 use crate::terms::Part::{N, X, Y, Z};
 use crate::terms::Side::{Both, Is};
-use crate::terms::{Told, blank_world, symbol, terms_of};
+use crate::terms::{Told, blank_world, constant, symbol, terms_of};
 use cq_atoms::{Atom, Atoms};
 use cq_form::{Constraint, Form};
 use cq_frac::{Frac, VarId};
@@ -130,7 +129,9 @@ fn changes(
 /// The told list, the numbers that wait, and of X, Y and Z whether they are numeric and which value they have.
 fn known(world: &World) -> Result<String, Fail> {
     let alloc = world.heap.alloc();
-    let mut text = format!(in alloc; "{:?} {:?}", world.store.told(), world.attrs.waiting()?)?;
+    let told = world.store.told();
+    let waiting = world.attrs.waiting()?;
+    let mut text = format!(in alloc; "{told:?} {waiting:?}")?;
     for v in 0..3 {
         let variable = VarId(v);
         let numeric = world.attrs.is_numeric(variable);
@@ -153,20 +154,27 @@ fn seen(heap: &Heap, terms: &[TermId]) -> Result<String, Fail>
     Ok(text)
 }
 
-/// The terms of the variables and of the goal, and those that are told.
-fn all_terms(heap: &mut Heap, goal: Atom, told: &[TermId]) -> Result<Vec<TermId>, AllocError>
+/// The terms of the variables, of the goal and of what is told.
+fn all_terms(
+    heap: &mut Heap,
+    atoms: &mut Atoms,
+    told: &[TermId],
+) -> Result<Vec<TermId>, AllocError>
+    requires names { KnowsTerms atoms.old heap.old.now.terms }
     requires variables { 3 ≤ length heap.old.now.images }
     requires told { All (λ id. id < length heap.old.now.terms) told.now }
     ensures live { IfOk result (λ ids. All (λ id. id < length heap.new.now.terms) ids.items) }
     ensures more { length heap.old.now.terms ≤ length heap.new.now.terms }
-    ensures images { OnOk result (heap.new.now.images ≡ heap.old.now.images) }
-    ensures names { OnOk result ((n : ℕ) → goal < n → All (HasNamesBelow n) heap.old.now.terms → All (HasNamesBelow n) heap.new.now.terms) }
+    ensures images { heap.new.now.images ≡ heap.old.now.images }
+    ensures names { KnowsTerms atoms.new heap.new.now.terms }
 {
-    let mut terms = Vec::new(heap.alloc());
-    for v in 0..3 {
-        terms.push(heap.var_term(VarId(v)))?;
-    }
-    terms.push(heap.atom(goal)?)?;
+    let goal = constant(heap, atoms, "goal")?;
+    let (x, y, z) = (
+        heap.var_term(VarId(0)),
+        heap.var_term(VarId(1)),
+        heap.var_term(VarId(2)),
+    );
+    let mut terms = Vec::from_array(heap.alloc(), [x, y, z, goal])?;
     terms.extend_from_slice(told)?;
     Ok(terms)
 }
@@ -223,17 +231,17 @@ struct Cast {
 }
 
 fn cast_of(heap: &mut Heap, atoms: &mut Atoms) -> Result<Cast, AllocError>
+    requires names { KnowsTerms atoms.old heap.old.now.terms }
     requires variables { 3 ≤ length heap.old.now.images }
     ensures told { IfOk result (λ c. All (λ id. id < length heap.new.now.terms) c.told.items) }
     ensures more { IfOk result (λ c. All (λ id. id < length heap.new.now.terms) c.more.items) }
     ensures terms { IfOk result (λ c. All (λ id. id < length heap.new.now.terms) c.terms.items) }
-    ensures images { OnOk result (heap.new.now.images ≡ heap.old.now.images) }
-    ensures names { OnOk result (KnowsTerms atoms.old heap.old.now.terms → KnowsTerms atoms.new heap.new.now.terms) }
+    ensures images { heap.new.now.images ≡ heap.old.now.images }
+    ensures names { KnowsTerms atoms.new heap.new.now.terms }
 {
-    let goal = symbol(atoms, "goal")?;
     let told = terms_of(heap, atoms, &TOLD)?;
     let more = terms_of(heap, atoms, &MORE)?;
-    let terms = all_terms(heap, goal, &told)?;
+    let terms = all_terms(heap, atoms, &told)?;
     Ok(Cast { told, more, terms })
 }
 

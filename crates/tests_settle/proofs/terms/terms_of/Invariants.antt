@@ -8,5 +8,5 @@ invariant-loop-constraint l = record {
   live : All (λ id. id < length l.heap.now.terms) l.terms.items;
   more : length l.fn.heap.now.terms ≤ length l.heap.now.terms;
   images : l.heap.now.images ≡ l.fn.heap.now.images;
-  names : KnowsTerms l.fn.atoms l.fn.heap.now.terms → KnowsTerms l.atoms l.heap.now.terms;
+  names : KnowsTerms l.atoms l.heap.now.terms;
 }
