@@ -28,7 +28,19 @@ struct Choice {
     ends: &'static [[End; 3]],
 }
 
-static CHOICES: [Choice; 3] = [
+static CHOICES: [Choice; 4] = [
+    // {(X=1 ; X=2), Y=X+1}
+    Choice {
+        told: &[(Is(Y), "=", Both(X, "+", N(1, 1)))],
+        ways: &[
+            (Tell, (Is(X), "=", Is(N(1, 1)))),
+            (Tell, (Is(X), "=", Is(N(2, 1)))),
+        ],
+        ends: &[
+            [Value(1, 1), Value(2, 1), Free],
+            [Value(2, 1), Value(3, 1), Free],
+        ],
+    },
     // {X>=0}, ({X=<0} ; {X=\=0} ; {X=0})
     Choice {
         told: &[(Is(X), ">=", Is(N(0, 1)))],

@@ -51,7 +51,7 @@ struct Scene {
 
 pub(crate) const PRODUCT_IS_SIX: Told = (Both(X, "*", Y), "=", Is(N(6, 1)));
 
-static SCENES: [Scene; 34] = [
+static SCENES: [Scene; 28] = [
     // {X*Y=6, X+Y=Z}, X=2
     Scene {
         before: &[],
@@ -139,32 +139,6 @@ static SCENES: [Scene; 34] = [
         ends: [Free, Free, Free],
         waiting: 0,
     },
-    // {X=1, Y=X+1}
-    Scene {
-        before: &[],
-        told: &[
-            (Is(X), "=", Is(N(1, 1))),
-            (Is(Y), "=", Both(X, "+", N(1, 1))),
-        ],
-        after: &[],
-        kept: &[true],
-        woken: &[],
-        ends: [Value(1, 1), Value(2, 1), Free],
-        waiting: 0,
-    },
-    // {X=2, Y=X+1}
-    Scene {
-        before: &[],
-        told: &[
-            (Is(X), "=", Is(N(2, 1))),
-            (Is(Y), "=", Both(X, "+", N(1, 1))),
-        ],
-        after: &[],
-        kept: &[true],
-        woken: &[],
-        ends: [Value(2, 1), Value(3, 1), Free],
-        waiting: 0,
-    },
     // {X*Y=Z, Y=2}, freeze(Z,g), {X=3}
     Scene {
         before: &[],
@@ -241,19 +215,6 @@ static SCENES: [Scene; 34] = [
         ends: [Free, Same(0), Free],
         waiting: 0,
     },
-    // {X+Y=3, Y=1}
-    Scene {
-        before: &[],
-        told: &[
-            (Both(X, "+", Y), "=", Is(N(3, 1))),
-            (Is(Y), "=", Is(N(1, 1))),
-        ],
-        after: &[],
-        kept: &[true],
-        woken: &[],
-        ends: [Value(2, 1), Value(1, 1), Free],
-        waiting: 0,
-    },
     // {X>=1, X=<1}
     Scene {
         before: &[],
@@ -324,19 +285,6 @@ static SCENES: [Scene; 34] = [
         ends: [Value(1, 1), Value(1, 1), Free],
         waiting: 0,
     },
-    // {Y*Z=6}, {Y=X}, {X=2}
-    Scene {
-        before: &[],
-        told: &[(Both(Y, "*", Z), "=", Is(N(6, 1)))],
-        after: &[
-            (Tell, (Is(Y), "=", Is(X))),
-            (Tell, (Is(X), "=", Is(N(2, 1)))),
-        ],
-        kept: &[true, true, true],
-        woken: &[],
-        ends: [Value(2, 1), Value(2, 1), Value(3, 1)],
-        waiting: 0,
-    },
     // {Y*Z=6}, Y=X, X=2: what waits for Y waits for X
     Scene {
         before: &[],
@@ -390,16 +338,6 @@ static SCENES: [Scene; 34] = [
         ends: [Value(1, 1), Value(1, 1), Free],
         waiting: 0,
     },
-    // {Y+Z=4}, {Y=Z}
-    Scene {
-        before: &[],
-        told: &[(Both(Y, "+", Z), "=", Is(N(4, 1)))],
-        after: &[(Tell, (Is(Y), "=", Is(Z)))],
-        kept: &[true, true],
-        woken: &[],
-        ends: [Free, Value(2, 1), Value(2, 1)],
-        waiting: 0,
-    },
     // {X*Y=Z}, X+Y=2+3
     Scene {
         before: &[],
@@ -446,16 +384,6 @@ static SCENES: [Scene; 34] = [
         kept: &[true, true],
         woken: &[],
         ends: [Value(5, 1), Value(32, 1), Free],
-        waiting: 0,
-    },
-    // X=a: X is not numeric
-    Scene {
-        before: &[(Equal, (Is(X), "=", Named("a")))],
-        told: &[],
-        after: &[],
-        kept: &[true, true],
-        woken: &[],
-        ends: [Other, Free, Free],
         waiting: 0,
     },
 ];

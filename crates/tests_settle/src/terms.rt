@@ -78,37 +78,6 @@ fn make_part(heap: &mut Heap, atoms: &Atoms, part: Part) -> Result<TermId, Alloc
     }
 }
 
-pub(crate) fn constant(
-    heap: &mut Heap,
-    atoms: &mut Atoms,
-    text: &str,
-) -> Result<TermId, AllocError>
-    requires names { KnowsTerms atoms.old heap.old.now.terms }
-    ensures live { IfOk result (λ id. id < length heap.new.now.terms) }
-    ensures more { length heap.old.now.terms ≤ length heap.new.now.terms }
-    ensures images { heap.new.now.images ≡ heap.old.now.images }
-    ensures names { KnowsTerms atoms.new heap.new.now.terms }
-{
-    atom(heap, atoms, text)
-}
-
-/// A name over one term.
-fn single(
-    heap: &mut Heap,
-    atoms: &mut Atoms,
-    text: &str,
-    argument: TermId,
-) -> Result<TermId, AllocError>
-    requires names { KnowsTerms atoms.old heap.old.now.terms }
-    requires argument { argument < length heap.old.now.terms }
-    ensures live { IfOk result (λ id. id < length heap.new.now.terms) }
-    ensures more { length heap.old.now.terms ≤ length heap.new.now.terms }
-    ensures images { heap.new.now.images ≡ heap.old.now.images }
-    ensures names { KnowsTerms atoms.new heap.new.now.terms }
-{
-    compound(heap, atoms, text, &[argument])
-}
-
 /// A name over two terms.
 pub(crate) fn pair(
     heap: &mut Heap,
@@ -142,7 +111,7 @@ fn over_one(
     ensures names { KnowsTerms atoms.new heap.new.now.terms }
 {
     let argument = make_part(heap, atoms, only)?;
-    single(heap, atoms, text, argument)
+    compound(heap, atoms, text, &[argument])
 }
 
 fn over_two(
@@ -174,7 +143,7 @@ fn side_of(heap: &mut Heap, atoms: &mut Atoms, side: Side) -> Result<TermId, All
 {
     match side {
         Is(only) => make_part(heap, atoms, only),
-        Named(text) => constant(heap, atoms, text),
+        Named(text) => atom(heap, atoms, text),
         Over(text, only) => over_one(heap, atoms, text, only),
         Both(left, text, right) => over_two(heap, atoms, text, left, right),
     }

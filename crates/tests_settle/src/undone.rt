@@ -11,10 +11,11 @@ ghost use Rattle.tests_settle.specs.Next.{IsNext};
 use crate::scenes::End::{Free, Value};
 use crate::scenes::{PRODUCT_IS_SIX, are_ends};
 use crate::steps::{equate, sleep, tell, tell_one};
-use crate::terms::Part::{N, X, Y, Z};
+use crate::terms::Part::{N, X, Y};
 use crate::terms::Side::{Both, Is};
-use crate::terms::{Told, blank_world, constant, symbol, terms_of};
+use crate::terms::{Told, blank_world, symbol, terms_of};
 use cq_atoms::{Atom, Atoms};
+use cq_built::atom;
 use cq_form::{Constraint, Form};
 use cq_frac::{Frac, VarId};
 use cq_linear::store::Told as Answer;
@@ -168,7 +169,7 @@ fn all_terms(
     ensures images { heap.new.now.images ≡ heap.old.now.images }
     ensures names { KnowsTerms atoms.new heap.new.now.terms }
 {
-    let goal = constant(heap, atoms, "goal")?;
+    let goal = atom(heap, atoms, "goal")?;
     let (x, y, z) = (
         heap.var_term(VarId(0)),
         heap.var_term(VarId(1)),
