@@ -9,7 +9,7 @@ ghost use Rattle.tests_settle.specs.declared.steps.Step.{Step};
 
 use crate::scenes::End::{self, Free, Value};
 use crate::scenes::{Act, PRODUCT_IS_SIX, are_ends, steps_of};
-use crate::steps::Way::{Equal, Tell};
+use crate::steps::Way::{Equating, Telling};
 use crate::steps::{Step, take_step, tell};
 use crate::terms::Part::{N, X, Y, Z};
 use crate::terms::Side::{Both, Is};
@@ -33,8 +33,8 @@ static CHOICES: [Choice; 4] = [
     Choice {
         told: &[(Is(Y), "=", Both(X, "+", N(1, 1)))],
         ways: &[
-            (Tell, (Is(X), "=", Is(N(1, 1)))),
-            (Tell, (Is(X), "=", Is(N(2, 1)))),
+            (Telling, (Is(X), "=", Is(N(1, 1)))),
+            (Telling, (Is(X), "=", Is(N(2, 1)))),
         ],
         ends: &[
             [Value(1, 1), Value(2, 1), Free],
@@ -45,9 +45,9 @@ static CHOICES: [Choice; 4] = [
     Choice {
         told: &[(Is(X), ">=", Is(N(0, 1)))],
         ways: &[
-            (Tell, (Is(X), "=<", Is(N(0, 1)))),
-            (Tell, (Is(X), "=\\=", Is(N(0, 1)))),
-            (Tell, (Is(X), "=", Is(N(0, 1)))),
+            (Telling, (Is(X), "=<", Is(N(0, 1)))),
+            (Telling, (Is(X), "=\\=", Is(N(0, 1)))),
+            (Telling, (Is(X), "=", Is(N(0, 1)))),
         ],
         ends: &[
             [Value(0, 1), Free, Free],
@@ -59,8 +59,8 @@ static CHOICES: [Choice; 4] = [
     Choice {
         told: &[PRODUCT_IS_SIX],
         ways: &[
-            (Equal, (Is(X), "=", Is(N(2, 1)))),
-            (Equal, (Is(X), "=", Is(N(3, 1)))),
+            (Equating, (Is(X), "=", Is(N(2, 1)))),
+            (Equating, (Is(X), "=", Is(N(3, 1)))),
         ],
         ends: &[
             [Value(2, 1), Value(3, 1), Free],
@@ -75,10 +75,10 @@ static CHOICES: [Choice; 4] = [
             (Is(Y), ">=", Is(N(0, 1))),
         ],
         ways: &[
-            (Tell, (Is(Z), "=", Is(N(0, 1)))),
-            (Tell, (Is(X), "=", Is(N(1, 1)))),
-            (Equal, (Is(Z), "=", Is(N(1, 1)))),
-            (Tell, (Is(Z), "=<", Is(N(0, 1)))),
+            (Telling, (Is(Z), "=", Is(N(0, 1)))),
+            (Telling, (Is(X), "=", Is(N(1, 1)))),
+            (Equating, (Is(Z), "=", Is(N(1, 1)))),
+            (Telling, (Is(Z), "=<", Is(N(0, 1)))),
         ],
         ends: &[
             [Value(0, 1), Value(0, 1), Value(0, 1)],

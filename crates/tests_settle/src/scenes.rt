@@ -8,7 +8,7 @@ ghost use Rattle.cq_world.specs.Worlds.{now_of};
 ghost use Rattle.tests_settle.specs.Next.{IsNext};
 ghost use Rattle.tests_settle.specs.declared.steps.Step.{Step};
 
-use crate::steps::Way::{Equal, Sleep, Tell};
+use crate::steps::Way::{Equating, Sleeping, Telling};
 use crate::steps::{Step, Way, attempt_each, tell, waits};
 use crate::terms::Part::{N, X, Y, Z};
 use crate::terms::Side::{Both, Is, Named, Over};
@@ -56,7 +56,7 @@ static SCENES: [Scene; 28] = [
     Scene {
         before: &[],
         told: &[PRODUCT_IS_SIX, (Both(X, "+", Y), "=", Is(Z))],
-        after: &[(Equal, (Is(X), "=", Is(N(2, 1))))],
+        after: &[(Equating, (Is(X), "=", Is(N(2, 1))))],
         kept: &[true, true],
         woken: &[],
         ends: [Value(2, 1), Value(3, 1), Value(5, 1)],
@@ -74,7 +74,7 @@ static SCENES: [Scene; 28] = [
     },
     // freeze(X,g), {X+Y=3, Y=1}
     Scene {
-        before: &[(Sleep, (Is(X), "freeze", Named("g")))],
+        before: &[(Sleeping, (Is(X), "freeze", Named("g")))],
         told: &[
             (Both(X, "+", Y), "=", Is(N(3, 1))),
             (Is(Y), "=", Is(N(1, 1))),
@@ -87,7 +87,7 @@ static SCENES: [Scene; 28] = [
     },
     // freeze(X,g(Y))
     Scene {
-        before: &[(Sleep, (Is(X), "freeze", Over("g", Y)))],
+        before: &[(Sleeping, (Is(X), "freeze", Over("g", Y)))],
         told: &[],
         after: &[],
         kept: &[true, true],
@@ -98,9 +98,9 @@ static SCENES: [Scene; 28] = [
     // freeze(X,g), freeze(X,h), X=1
     Scene {
         before: &[
-            (Sleep, (Is(X), "freeze", Named("g"))),
-            (Sleep, (Is(X), "freeze", Named("h"))),
-            (Equal, (Is(X), "=", Is(N(1, 1)))),
+            (Sleeping, (Is(X), "freeze", Named("g"))),
+            (Sleeping, (Is(X), "freeze", Named("h"))),
+            (Equating, (Is(X), "=", Is(N(1, 1)))),
         ],
         told: &[],
         after: &[],
@@ -113,7 +113,7 @@ static SCENES: [Scene; 28] = [
     Scene {
         before: &[],
         told: &[(Is(Y), "=", Over("abs", X))],
-        after: &[(Equal, (Is(X), "=", Is(N(-3, 1))))],
+        after: &[(Equating, (Is(X), "=", Is(N(-3, 1))))],
         kept: &[true, true],
         woken: &[],
         ends: [Value(-3, 1), Value(3, 1), Free],
@@ -144,8 +144,8 @@ static SCENES: [Scene; 28] = [
         before: &[],
         told: &[(Both(X, "*", Y), "=", Is(Z)), (Is(Y), "=", Is(N(2, 1)))],
         after: &[
-            (Sleep, (Is(Z), "freeze", Named("g"))),
-            (Tell, (Is(X), "=", Is(N(3, 1)))),
+            (Sleeping, (Is(Z), "freeze", Named("g"))),
+            (Telling, (Is(X), "=", Is(N(3, 1)))),
         ],
         kept: &[true, true, true],
         woken: &["g"],
@@ -155,9 +155,9 @@ static SCENES: [Scene; 28] = [
     // freeze(X,g), Y=2, X=a
     Scene {
         before: &[
-            (Sleep, (Is(X), "freeze", Named("g"))),
-            (Equal, (Is(Y), "=", Is(N(2, 1)))),
-            (Equal, (Is(X), "=", Named("a"))),
+            (Sleeping, (Is(X), "freeze", Named("g"))),
+            (Equating, (Is(Y), "=", Is(N(2, 1)))),
+            (Equating, (Is(X), "=", Named("a"))),
         ],
         told: &[],
         after: &[],
@@ -171,8 +171,8 @@ static SCENES: [Scene; 28] = [
         before: &[],
         told: &[PRODUCT_IS_SIX],
         after: &[
-            (Equal, (Is(X), "=", Is(N(0, 1)))),
-            (Equal, (Is(X), "=", Is(N(3, 1)))),
+            (Equating, (Is(X), "=", Is(N(0, 1)))),
+            (Equating, (Is(X), "=", Is(N(3, 1)))),
         ],
         kept: &[true, false, true],
         woken: &[],
@@ -184,8 +184,8 @@ static SCENES: [Scene; 28] = [
         before: &[],
         told: &[(Is(X), ">", Is(N(0, 1)))],
         after: &[
-            (Equal, (Is(X), "=", Named("a"))),
-            (Equal, (Is(X), "=", Over("f", Y))),
+            (Equating, (Is(X), "=", Named("a"))),
+            (Equating, (Is(X), "=", Over("f", Y))),
         ],
         kept: &[true, false, false],
         woken: &[],
@@ -196,7 +196,7 @@ static SCENES: [Scene; 28] = [
     Scene {
         before: &[],
         told: &[PRODUCT_IS_SIX],
-        after: &[(Equal, (Is(Y), "=", Named("a")))],
+        after: &[(Equating, (Is(Y), "=", Named("a")))],
         kept: &[true, false],
         woken: &[],
         ends: [Free, Free, Free],
@@ -207,8 +207,8 @@ static SCENES: [Scene; 28] = [
         before: &[],
         told: &[(Is(Y), ">", Is(N(0, 1)))],
         after: &[
-            (Equal, (Is(Y), "=", Is(X))),
-            (Equal, (Is(X), "=", Named("a"))),
+            (Equating, (Is(Y), "=", Is(X))),
+            (Equating, (Is(X), "=", Named("a"))),
         ],
         kept: &[true, true, false],
         woken: &[],
@@ -230,8 +230,8 @@ static SCENES: [Scene; 28] = [
         before: &[],
         told: &[(Is(X), ">=", Is(N(0, 1)))],
         after: &[
-            (Tell, (Is(Y), ">=", Is(N(0, 1)))),
-            (Tell, (Both(X, "+", Y), "=<", Is(N(0, 1)))),
+            (Telling, (Is(Y), ">=", Is(N(0, 1)))),
+            (Telling, (Both(X, "+", Y), "=<", Is(N(0, 1)))),
         ],
         kept: &[true, true, true],
         woken: &[],
@@ -256,7 +256,7 @@ static SCENES: [Scene; 28] = [
             (Is(Z), ">=", Is(X)),
             (Is(Z), "=<", Is(Y)),
         ],
-        after: &[(Tell, (Is(Z), "=", Is(N(4, 1))))],
+        after: &[(Telling, (Is(Z), "=", Is(N(4, 1))))],
         kept: &[true, true],
         woken: &[],
         ends: [Value(4, 1), Value(4, 1), Value(4, 1)],
@@ -267,8 +267,8 @@ static SCENES: [Scene; 28] = [
         before: &[],
         told: &[(Is(X), ">", Is(N(0, 1)))],
         after: &[
-            (Tell, (Is(X), "=", Is(Y))),
-            (Tell, (Is(Y), "<", Is(N(0, 1)))),
+            (Telling, (Is(X), "=", Is(Y))),
+            (Telling, (Is(Y), "<", Is(N(0, 1)))),
         ],
         kept: &[true, true, false],
         woken: &[],
@@ -279,7 +279,7 @@ static SCENES: [Scene; 28] = [
     Scene {
         before: &[],
         told: &[(Is(X), ">=", Is(N(1, 1))), (Is(Y), "=<", Is(N(1, 1)))],
-        after: &[(Equal, (Is(X), "=", Is(Y)))],
+        after: &[(Equating, (Is(X), "=", Is(Y)))],
         kept: &[true, true],
         woken: &[],
         ends: [Value(1, 1), Value(1, 1), Free],
@@ -290,8 +290,8 @@ static SCENES: [Scene; 28] = [
         before: &[],
         told: &[(Both(Y, "*", Z), "=", Is(N(6, 1)))],
         after: &[
-            (Equal, (Is(Y), "=", Is(X))),
-            (Equal, (Is(X), "=", Is(N(2, 1)))),
+            (Equating, (Is(Y), "=", Is(X))),
+            (Equating, (Is(X), "=", Is(N(2, 1)))),
         ],
         kept: &[true, true, true],
         woken: &[],
@@ -301,8 +301,8 @@ static SCENES: [Scene; 28] = [
     // freeze(Y,g), Y=X, X=1: g sleeps on
     Scene {
         before: &[
-            (Sleep, (Is(Y), "freeze", Named("g"))),
-            (Equal, (Is(Y), "=", Is(X))),
+            (Sleeping, (Is(Y), "freeze", Named("g"))),
+            (Equating, (Is(Y), "=", Is(X))),
         ],
         told: &[],
         after: &[],
@@ -314,9 +314,9 @@ static SCENES: [Scene; 28] = [
     // freeze(Y,g), Y=X, X=1: g wakes
     Scene {
         before: &[
-            (Sleep, (Is(Y), "freeze", Named("g"))),
-            (Equal, (Is(Y), "=", Is(X))),
-            (Equal, (Is(X), "=", Is(N(1, 1)))),
+            (Sleeping, (Is(Y), "freeze", Named("g"))),
+            (Equating, (Is(Y), "=", Is(X))),
+            (Equating, (Is(X), "=", Is(N(1, 1)))),
         ],
         told: &[],
         after: &[],
@@ -328,8 +328,8 @@ static SCENES: [Scene; 28] = [
     // freeze(Y,g), freeze(X,h), {X=1, Y=X}: the older goal first, though X was fixed before Y
     Scene {
         before: &[
-            (Sleep, (Is(Y), "freeze", Named("g"))),
-            (Sleep, (Is(X), "freeze", Named("h"))),
+            (Sleeping, (Is(Y), "freeze", Named("g"))),
+            (Sleeping, (Is(X), "freeze", Named("h"))),
         ],
         told: &[(Is(X), "=", Is(N(1, 1))), (Is(Y), "=", Is(X))],
         after: &[],
@@ -343,7 +343,7 @@ static SCENES: [Scene; 28] = [
         before: &[],
         told: &[(Both(X, "*", Y), "=", Is(Z))],
         after: &[(
-            Equal,
+            Equating,
             (Both(X, "+", Y), "=", Both(N(2, 1), "+", N(3, 1))),
         )],
         kept: &[true, true],
@@ -370,7 +370,7 @@ static SCENES: [Scene; 28] = [
     Scene {
         before: &[],
         told: &[(Is(X), "=", Both(N(1, 1), "/", Y))],
-        after: &[(Tell, (Is(Y), "=", Is(N(0, 1))))],
+        after: &[(Telling, (Is(Y), "=", Is(N(0, 1))))],
         kept: &[true, false],
         woken: &[],
         ends: [Free, Free, Free],
@@ -380,7 +380,7 @@ static SCENES: [Scene; 28] = [
     Scene {
         before: &[],
         told: &[(Is(Y), "=", Both(N(2, 1), "^", X))],
-        after: &[(Tell, (Is(X), "=", Is(N(5, 1))))],
+        after: &[(Telling, (Is(X), "=", Is(N(5, 1))))],
         kept: &[true, true],
         woken: &[],
         ends: [Value(5, 1), Value(32, 1), Free],

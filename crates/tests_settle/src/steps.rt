@@ -28,9 +28,9 @@ use std::test::Fail;
 /// variable.
 #[derive(Clone, Copy, Debug)]
 pub(crate) enum Way {
-    Tell,
-    Equal,
-    Sleep,
+    Telling,
+    Equating,
+    Sleeping,
 }
 
 #[derive(Clone, Copy, Debug)]
@@ -208,12 +208,12 @@ pub(crate) fn take_step(
     ensures marks { OnOk result (KeepsMarks world.old world.new) }
 {
     match step.way {
-        Way::Tell => tell_one(world, atoms, step.term, woken),
-        Way::Equal => {
+        Way::Telling => tell_one(world, atoms, step.term, woken),
+        Way::Equating => {
             let (left, right) = arguments_of(&world.heap, step.term)?;
             equate(world, atoms, left, right, woken)
         }
-        Way::Sleep => {
+        Way::Sleeping => {
             let (variable, goal) = arguments_of(&world.heap, step.term)?;
             sleep(world, atoms, variable, goal, woken)?;
             Ok(true)
