@@ -16,11 +16,11 @@ use Rattle.tests_settle.specs.Next.{AreUnbound, IsBlank}
 pub unbound_more : (images : List HeapTerm) → AreUnbound images → AreUnbound (images ++ Var (length images) ∷ [])
 unbound_more images h v l =
     let longer = length-append images (Var (length images) ∷ []) in
-    elim cases_lt v (length images) [
-      inl b ↦ get_or_append_left images (Var (length images) ∷ []) blank v b ∙ h v b
-    | inr b ↦
-        let same : length images ≡ v = omega (arith, b, l, longer) in
-        get_or_at images (Var (length images)) [] blank v same ∙ ap (λ n. Var n) same
+    elim (cases_lt v (length images)) [
+      | inl b ↦ get_or_append_left images (Var (length images) ∷ []) blank v b ∙ h v b
+      | inr b ↦
+          let same : length images ≡ v = omega (arith, b, l, longer) in
+          get_or_at images (Var (length images)) [] blank v same ∙ ap (λ n. Var n) same
     ]
 
 -- other terms over the same variables

@@ -398,7 +398,11 @@ struct Script {
     after: Vec<Step>,
 }
 
-pub(crate) fn steps_of(heap: &mut Heap, atoms: &mut Atoms, acts: &[Act]) -> Result<Vec<Step>, AllocError>
+pub(crate) fn steps_of(
+    heap: &mut Heap,
+    atoms: &mut Atoms,
+    acts: &[Act],
+) -> Result<Vec<Step>, AllocError>
     requires names { KnowsTerms atoms.old heap.old.now.terms }
     requires variables { 3 ≤ length heap.old.now.images }
     ensures live { IfOk result (λ steps. All (λ (s : Step). s.term < length heap.new.now.terms) steps.items) }

@@ -150,11 +150,7 @@ fn side_of(heap: &mut Heap, atoms: &mut Atoms, side: Side) -> Result<TermId, All
 }
 
 /// The term of a constraint, or another one with two sides.
-pub(crate) fn term_of(
-    heap: &mut Heap,
-    atoms: &mut Atoms,
-    told: &Told,
-) -> Result<TermId, AllocError>
+pub(crate) fn term_of(heap: &mut Heap, atoms: &mut Atoms, told: &Told) -> Result<TermId, AllocError>
     requires names { KnowsTerms atoms.old heap.old.now.terms }
     requires variables { 3 ≤ length heap.old.now.images }
     ensures live { IfOk result (λ id. id < length heap.new.now.terms) }

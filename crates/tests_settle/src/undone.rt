@@ -18,8 +18,7 @@ use cq_atoms::{Atom, Atoms};
 use cq_built::atom;
 use cq_form::{Constraint, Form};
 use cq_frac::{Frac, VarId};
-use cq_linear::store::Told as Answer;
-use cq_linear::store::{Extent, StoreFault};
+use cq_linear::store::{Extent, StoreFault, Told as Answer};
 use cq_rest::new_worlds_are_ready;
 use cq_term::{Heap, TermId};
 use cq_trail::Undo;
@@ -156,11 +155,7 @@ fn seen(heap: &Heap, terms: &[TermId]) -> Result<String, Fail>
 }
 
 /// The terms of the variables, of the goal and of what is told.
-fn all_terms(
-    heap: &mut Heap,
-    atoms: &mut Atoms,
-    told: &[TermId],
-) -> Result<Vec<TermId>, AllocError>
+fn all_terms(heap: &mut Heap, atoms: &mut Atoms, told: &[TermId]) -> Result<Vec<TermId>, AllocError>
     requires names { KnowsTerms atoms.old heap.old.now.terms }
     requires variables { 3 ≤ length heap.old.now.images }
     requires told { All (λ id. id < length heap.old.now.terms) told.now }
