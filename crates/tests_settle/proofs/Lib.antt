@@ -1,2 +1,2 @@
-mod Steps
+mod Onward
 mod Blank

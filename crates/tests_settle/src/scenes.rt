@@ -22,7 +22,7 @@ use std::alloc::{AllocError, Global};
 use std::test::Fail;
 
 /// What a variable is at the end.
-#[derive(Clone, Copy, Debug)]
+#[derive(Clone, Copy)]
 pub(crate) enum End {
     Free,
     Value(i128, i128),

@@ -26,14 +26,14 @@ use std::test::Fail;
 
 /// What is done with a term: it is told, its two arguments are made equal, or its second one sleeps until the first is no
 /// variable.
-#[derive(Clone, Copy, Debug)]
+#[derive(Clone, Copy)]
 pub(crate) enum Way {
     Telling,
     Equating,
     Sleeping,
 }
 
-#[derive(Clone, Copy, Debug)]
+#[derive(Clone, Copy)]
 pub(crate) struct Step {
     pub way: Way,
     pub term: TermId,

@@ -14,7 +14,7 @@ use cq_world::World;
 use std::alloc::{AllocError, Global};
 
 /// A variable, or a number by its parts.
-#[derive(Clone, Copy, Debug)]
+#[derive(Clone, Copy)]
 pub(crate) enum Part {
     X,
     Y,
@@ -23,7 +23,7 @@ pub(crate) enum Part {
 }
 
 /// A side of a relation, or a term: a part, a name, or a name over one or two parts.
-#[derive(Clone, Copy, Debug)]
+#[derive(Clone, Copy)]
 pub(crate) enum Side {
     Is(Part),
     Named(&'static str),
