@@ -29,6 +29,7 @@ fn link(
     ensures live { IfOk result (λ id. id < length heap.new.now.terms) }
     ensures more { length heap.old.now.terms ≤ length heap.new.now.terms }
     ensures images { heap.new.now.images ≡ heap.old.now.images }
+    ensures saved { heap.new.saved ≡ heap.old.saved }
     ensures names { KnowsTerms atoms.new heap.new.now.terms }
 {
     let before = heap.var_term(VarId(variable - 1));
@@ -50,6 +51,7 @@ fn links_of(
     ensures live { IfOk result (λ ids. All (λ id. id < length heap.new.now.terms) ids.items) }
     ensures more { length heap.old.now.terms ≤ length heap.new.now.terms }
     ensures images { heap.new.now.images ≡ heap.old.now.images }
+    ensures saved { heap.new.saved ≡ heap.old.saved }
     ensures names { KnowsTerms atoms.new heap.new.now.terms }
 {
     let mut links = Vec::new(heap.alloc());
@@ -66,6 +68,7 @@ fn start_of(heap: &mut Heap, atoms: &mut Atoms) -> Result<TermId, AllocError>
     ensures live { IfOk result (λ id. id < length heap.new.now.terms) }
     ensures more { length heap.old.now.terms ≤ length heap.new.now.terms }
     ensures images { heap.new.now.images ≡ heap.old.now.images }
+    ensures saved { heap.new.saved ≡ heap.old.saved }
     ensures names { KnowsTerms atoms.new heap.new.now.terms }
 {
     let one = make_number(heap, atoms, 1, 1)?;
@@ -87,6 +90,7 @@ fn chain_of(heap: &mut Heap, atoms: &mut Atoms, count: usize) -> Result<Chain, A
     ensures links { IfOk result (λ c. All (λ id. id < length heap.new.now.terms) c.links.items) }
     ensures start { IfOk result (λ c. c.start < length heap.new.now.terms) }
     ensures images { heap.new.now.images ≡ heap.old.now.images }
+    ensures saved { heap.new.saved ≡ heap.old.saved }
     ensures names { KnowsTerms atoms.new heap.new.now.terms }
 {
     let start = start_of(heap, atoms)?;

@@ -13,7 +13,7 @@ use crate::steps::Way::{Equating, Telling};
 use crate::steps::{Step, take_step, tell};
 use crate::terms::Part::{N, X, Y, Z};
 use crate::terms::Side::{Both, Is};
-use crate::terms::{Told, blank_world, symbol, terms_of};
+use crate::terms::{Told, blank_world, terms_of};
 use cq_atoms::{Atom, Atoms};
 use cq_rest::new_worlds_are_ready;
 use cq_trail::Undo;
@@ -138,7 +138,6 @@ fn offers(alloc: Global, choice: &Choice) -> Result<bool, Fail> {
     let mut atoms = Atoms::new(alloc);
     let told = terms_of(&mut world.heap, &mut atoms, choice.told)?;
     let steps = steps_of(&mut world.heap, &mut atoms, choice.ways)?;
-    let _ = symbol(&mut atoms, "=")?;
     new_worlds_are_ready();
     let mut woken = Vec::new(alloc);
     let kept = tell(&mut world, &atoms, told, &mut woken)?;

@@ -12,7 +12,7 @@ use crate::steps::Way::{Equating, Sleeping, Telling};
 use crate::steps::{Step, Way, attempt_each, tell, waits};
 use crate::terms::Part::{N, X, Y, Z};
 use crate::terms::Side::{Both, Is, Named, Over};
-use crate::terms::{Told, blank_world, symbol, term_of, terms_of};
+use crate::terms::{Told, blank_world, term_of, terms_of};
 use cq_atoms::{Atom, Atoms};
 use cq_frac::VarId;
 use cq_rest::new_worlds_are_ready;
@@ -390,14 +390,6 @@ static SCENES: [Scene; 28] = [
 
 // ---- scripts
 
-/// A scene with its terms.
-#[derive(Drop)]
-struct Script {
-    before: Vec<Step>,
-    told: Vec<TermId>,
-    after: Vec<Step>,
-}
-
 pub(crate) fn steps_of(
     heap: &mut Heap,
     atoms: &mut Atoms,
@@ -408,6 +400,7 @@ pub(crate) fn steps_of(
     ensures live { IfOk result (λ steps. All (λ (s : Step). s.term < length heap.new.now.terms) steps.items) }
     ensures more { length heap.old.now.terms ≤ length heap.new.now.terms }
     ensures images { heap.new.now.images ≡ heap.old.now.images }
+    ensures saved { heap.new.saved ≡ heap.old.saved }
     ensures names { KnowsTerms atoms.new heap.new.now.terms }
 {
     let mut steps = Vec::new(heap.alloc());
@@ -418,48 +411,26 @@ pub(crate) fn steps_of(
     Ok(steps)
 }
 
-fn script_of(heap: &mut Heap, atoms: &mut Atoms, scene: &Scene) -> Result<Script, AllocError>
-    requires names { KnowsTerms atoms.old heap.old.now.terms }
-    requires variables { 3 ≤ length heap.old.now.images }
-    ensures before { IfOk result (λ s. All (λ (t : Step). t.term < length heap.new.now.terms) s.before.items) }
-    ensures told { IfOk result (λ s. All (λ id. id < length heap.new.now.terms) s.told.items) }
-    ensures after { IfOk result (λ s. All (λ (t : Step). t.term < length heap.new.now.terms) s.after.items) }
-    ensures images { heap.new.now.images ≡ heap.old.now.images }
-    ensures names { KnowsTerms atoms.new heap.new.now.terms }
-{
-    let before = steps_of(heap, atoms, scene.before)?;
-    let told = terms_of(heap, atoms, scene.told)?;
-    let after = steps_of(heap, atoms, scene.after)?;
-    Ok(Script {
-        before,
-        told,
-        after,
-    })
-}
-
-/// Which steps keep the branch.
+/// Which steps keep the branch, where constraints are told together between the former steps and the latter.
 fn perform(
     world: &mut World,
     atoms: &Atoms,
-    script: Script,
+    before: &[Step],
+    told: Vec<TermId>,
+    after: &[Step],
     woken: &mut Vec<Atom>,
 ) -> Result<Vec<bool>, Fail>
     requires different { AreDifferent atoms.now }
     requires ready { IsReady atoms.now (now_of world.old) }
-    requires before { All (λ (t : Step). t.term < length world.old.heap.now.terms) script.before.items }
-    requires told { All (λ id. id < length world.old.heap.now.terms) script.told.items }
-    requires after { All (λ (t : Step). t.term < length world.old.heap.now.terms) script.after.items }
+    requires before { All (λ (s : Step). s.term < length world.old.heap.now.terms) before.now }
+    requires told { All (λ id. id < length world.old.heap.now.terms) told.items }
+    requires after { All (λ (s : Step). s.term < length world.old.heap.now.terms) after.now }
     ensures next { OnOk result (IsNext atoms.now world.old world.new) }
 {
-    let Script {
-        before,
-        told,
-        after,
-    } = script;
     let mut kept = Vec::new(world.heap.alloc());
-    attempt_each(world, atoms, &before, woken, &mut kept)?;
+    attempt_each(world, atoms, before, woken, &mut kept)?;
     kept.push(tell(world, atoms, told, woken)?)?;
-    attempt_each(world, atoms, &after, woken, &mut kept)?;
+    attempt_each(world, atoms, after, woken, &mut kept)?;
     Ok(kept)
 }
 
@@ -513,11 +484,12 @@ fn ends_well(world: &World, scene: &Scene, kept: &[bool]) -> Result<bool, AllocE
 fn plays(alloc: Global, scene: &Scene) -> Result<bool, Fail> {
     let mut world = blank_world(alloc, 3)?;
     let mut atoms = Atoms::new(alloc);
-    let script = script_of(&mut world.heap, &mut atoms, scene)?;
-    let _ = symbol(&mut atoms, "freeze")?;
+    let before = steps_of(&mut world.heap, &mut atoms, scene.before)?;
+    let told = terms_of(&mut world.heap, &mut atoms, scene.told)?;
+    let after = steps_of(&mut world.heap, &mut atoms, scene.after)?;
     new_worlds_are_ready();
     let mut woken = Vec::new(alloc);
-    let kept = perform(&mut world, &atoms, script, &mut woken)?;
+    let kept = perform(&mut world, &atoms, &before, told, &after, &mut woken)?;
     Ok(ends_well(&world, scene, &kept)? && are_named(&mut atoms, &woken, scene.woken)?)
 }
 

@@ -1,12 +1,11 @@
 // Constraints and terms by tables, and their terms in a heap.
 
 ghost use Rattle.std.specs.Prelude.{◌≡◌, ◌≤◌, ◌<◌, ◌+◌, ℕ, length, All, IfOk, OnOk};
-ghost use Rattle.cq_atoms.specs.Texts.{AreDifferent};
 ghost use Rattle.cq_term.specs.Names.{HasNamesBelow};
 ghost use Rattle.cq_term.specs.Trees.{KnowsTerms};
 ghost use Rattle.tests_settle.specs.Next.{AreUnbound, IsBlank};
 
-use cq_atoms::{Atom, Atoms};
+use cq_atoms::Atoms;
 use cq_built::{atom, compound};
 use cq_frac::{Frac, VarId};
 use cq_term::{Heap, TermId};
@@ -37,13 +36,6 @@ use Side::{Both, Is, Named, Over};
 /// Two sides with the name of a relation between them.
 pub(crate) type Told = (Side, &'static str, Side);
 
-pub(crate) fn symbol(atoms: &mut Atoms, text: &str) -> Result<Atom, AllocError>
-    ensures different { AreDifferent atoms.new }
-{
-    let name = atoms.intern(text)?;
-    Ok(name)
-}
-
 // Each of these makes a term, and keeps what stood on the heap.
 
 pub(crate) fn make_number(
@@ -56,6 +48,7 @@ pub(crate) fn make_number(
     ensures live { IfOk result (λ id. id < length heap.new.now.terms) }
     ensures more { length heap.old.now.terms ≤ length heap.new.now.terms }
     ensures images { heap.new.now.images ≡ heap.old.now.images }
+    ensures saved { heap.new.saved ≡ heap.old.saved }
     ensures names { KnowsTerms atoms.now heap.new.now.terms }
 {
     let id = heap.number(Frac::new(n, d).unwrap_or(Frac::zero()))?;
@@ -68,6 +61,7 @@ fn make_part(heap: &mut Heap, atoms: &Atoms, part: Part) -> Result<TermId, Alloc
     ensures live { IfOk result (λ id. id < length heap.new.now.terms) }
     ensures more { length heap.old.now.terms ≤ length heap.new.now.terms }
     ensures images { heap.new.now.images ≡ heap.old.now.images }
+    ensures saved { heap.new.saved ≡ heap.old.saved }
     ensures names { KnowsTerms atoms.now heap.new.now.terms }
 {
     match part {
@@ -92,6 +86,7 @@ pub(crate) fn pair(
     ensures live { IfOk result (λ id. id < length heap.new.now.terms) }
     ensures more { length heap.old.now.terms ≤ length heap.new.now.terms }
     ensures images { heap.new.now.images ≡ heap.old.now.images }
+    ensures saved { heap.new.saved ≡ heap.old.saved }
     ensures names { KnowsTerms atoms.new heap.new.now.terms }
 {
     compound(heap, atoms, text, &[first, second])
@@ -108,6 +103,7 @@ fn over_one(
     ensures live { IfOk result (λ id. id < length heap.new.now.terms) }
     ensures more { length heap.old.now.terms ≤ length heap.new.now.terms }
     ensures images { heap.new.now.images ≡ heap.old.now.images }
+    ensures saved { heap.new.saved ≡ heap.old.saved }
     ensures names { KnowsTerms atoms.new heap.new.now.terms }
 {
     let argument = make_part(heap, atoms, only)?;
@@ -126,6 +122,7 @@ fn over_two(
     ensures live { IfOk result (λ id. id < length heap.new.now.terms) }
     ensures more { length heap.old.now.terms ≤ length heap.new.now.terms }
     ensures images { heap.new.now.images ≡ heap.old.now.images }
+    ensures saved { heap.new.saved ≡ heap.old.saved }
     ensures names { KnowsTerms atoms.new heap.new.now.terms }
 {
     let first = make_part(heap, atoms, left)?;
@@ -139,6 +136,7 @@ fn side_of(heap: &mut Heap, atoms: &mut Atoms, side: Side) -> Result<TermId, All
     ensures live { IfOk result (λ id. id < length heap.new.now.terms) }
     ensures more { length heap.old.now.terms ≤ length heap.new.now.terms }
     ensures images { heap.new.now.images ≡ heap.old.now.images }
+    ensures saved { heap.new.saved ≡ heap.old.saved }
     ensures names { KnowsTerms atoms.new heap.new.now.terms }
 {
     match side {
@@ -156,6 +154,7 @@ pub(crate) fn term_of(heap: &mut Heap, atoms: &mut Atoms, told: &Told) -> Result
     ensures live { IfOk result (λ id. id < length heap.new.now.terms) }
     ensures more { length heap.old.now.terms ≤ length heap.new.now.terms }
     ensures images { heap.new.now.images ≡ heap.old.now.images }
+    ensures saved { heap.new.saved ≡ heap.old.saved }
     ensures names { KnowsTerms atoms.new heap.new.now.terms }
 {
     let left = side_of(heap, atoms, told.0)?;
@@ -173,6 +172,7 @@ pub(crate) fn terms_of(
     ensures live { IfOk result (λ ids. All (λ id. id < length heap.new.now.terms) ids.items) }
     ensures more { length heap.old.now.terms ≤ length heap.new.now.terms }
     ensures images { heap.new.now.images ≡ heap.old.now.images }
+    ensures saved { heap.new.saved ≡ heap.old.saved }
     ensures names { KnowsTerms atoms.new heap.new.now.terms }
 {
     let mut terms = Vec::new(heap.alloc());
@@ -189,6 +189,7 @@ pub(crate) fn terms_of(
 fn add_variable(heap: &mut Heap) -> Result<(), AllocError>
     requires unbound { AreUnbound heap.old.now.images }
     ensures unbound { OnOk result (AreUnbound heap.new.now.images) }
+    ensures saved { heap.new.saved ≡ heap.old.saved }
     ensures more { OnOk result (length heap.new.now.images ≡ length heap.old.now.images + 1) }
     ensures names { OnOk result ((n : ℕ) → All (HasNamesBelow n) heap.old.now.terms → All (HasNamesBelow n) heap.new.now.terms) }
 {
@@ -199,6 +200,7 @@ fn add_variable(heap: &mut Heap) -> Result<(), AllocError>
 fn add_variables(heap: &mut Heap, count: usize) -> Result<(), AllocError>
     requires unbound { AreUnbound heap.old.now.images }
     ensures unbound { OnOk result (AreUnbound heap.new.now.images) }
+    ensures saved { heap.new.saved ≡ heap.old.saved }
     ensures enough { OnOk result (count ≤ length heap.new.now.images) }
     ensures names { OnOk result ((n : ℕ) → All (HasNamesBelow n) heap.old.now.terms → All (HasNamesBelow n) heap.new.now.terms) }
 {

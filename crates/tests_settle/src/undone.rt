@@ -13,7 +13,7 @@ use crate::scenes::{PRODUCT_IS_SIX, are_ends};
 use crate::steps::{equate, sleep, tell, tell_one};
 use crate::terms::Part::{N, X, Y};
 use crate::terms::Side::{Both, Is};
-use crate::terms::{Told, blank_world, symbol, terms_of};
+use crate::terms::{Told, blank_world, terms_of};
 use cq_atoms::{Atom, Atoms};
 use cq_built::atom;
 use cq_form::{Constraint, Form};
@@ -162,6 +162,7 @@ fn all_terms(heap: &mut Heap, atoms: &mut Atoms, told: &[TermId]) -> Result<Vec<
     ensures live { IfOk result (λ ids. All (λ id. id < length heap.new.now.terms) ids.items) }
     ensures more { length heap.old.now.terms ≤ length heap.new.now.terms }
     ensures images { heap.new.now.images ≡ heap.old.now.images }
+    ensures saved { heap.new.saved ≡ heap.old.saved }
     ensures names { KnowsTerms atoms.new heap.new.now.terms }
 {
     let goal = atom(heap, atoms, "goal")?;
@@ -218,36 +219,13 @@ fn settled(
     Ok(kept)
 }
 
-/// The terms of a world that is to go back.
-#[derive(Drop)]
-struct Cast {
-    told: Vec<TermId>,
-    more: Vec<TermId>,
-    terms: Vec<TermId>,
-}
-
-fn cast_of(heap: &mut Heap, atoms: &mut Atoms) -> Result<Cast, AllocError>
-    requires names { KnowsTerms atoms.old heap.old.now.terms }
-    requires variables { 3 ≤ length heap.old.now.images }
-    ensures told { IfOk result (λ c. All (λ id. id < length heap.new.now.terms) c.told.items) }
-    ensures more { IfOk result (λ c. All (λ id. id < length heap.new.now.terms) c.more.items) }
-    ensures terms { IfOk result (λ c. All (λ id. id < length heap.new.now.terms) c.terms.items) }
-    ensures images { heap.new.now.images ≡ heap.old.now.images }
-    ensures names { KnowsTerms atoms.new heap.new.now.terms }
-{
-    let told = terms_of(heap, atoms, &TOLD)?;
-    let more = terms_of(heap, atoms, &MORE)?;
-    let terms = all_terms(heap, atoms, &told)?;
-    Ok(Cast { told, more, terms })
-}
-
 fn is_undone(alloc: Global) -> Result<bool, Fail> {
     let mut world = blank_world(alloc, 3)?;
     let mut atoms = Atoms::new(alloc);
-    let cast = cast_of(&mut world.heap, &mut atoms)?;
-    let _ = symbol(&mut atoms, "goal")?;
+    let told = terms_of(&mut world.heap, &mut atoms, &TOLD)?;
+    let more = terms_of(&mut world.heap, &mut atoms, &MORE)?;
+    let terms = all_terms(&mut world.heap, &mut atoms, &told)?;
     new_worlds_are_ready();
-    let Cast { told, more, terms } = cast;
     if more.len() < 3 || terms.len() < 4 {
         return Ok(false);
     }

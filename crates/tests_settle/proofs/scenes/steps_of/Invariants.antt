@@ -9,5 +9,6 @@ invariant-loop-act l = record {
   live : All (λ (s : Step). s.term < length l.heap.now.terms) l.steps.items;
   more : length l.fn.heap.now.terms ≤ length l.heap.now.terms;
   images : l.heap.now.images ≡ l.fn.heap.now.images;
+  saved : l.heap.saved ≡ l.fn.heap.saved;
   names : KnowsTerms l.atoms l.heap.now.terms;
 }

@@ -18,4 +18,4 @@ settle_called-requires c =
     let told = subst (λ (ids : List ℕ). All (MayBeTold h) ids) (sym c.new.ensures.items) (All-nil (MayBeTold h)) in
     subst (λ (vs : List VarId). SomeIsCalled texts (with_terms old h) vs c.new.result.items c.new-2.result.items) (sym list)
     (c.equated_worlds_may_be_settled.ensures.called texts old h c.args.left c.args.right u.0 c.new.result.items c.new-2.result.items c.requires.different c.requires.ready
-        c.look_at.ensures.told c.look_at-2.ensures.told u.2 (c.unify.ensures.names (length texts) (c.kept_worlds_are_ready.ensures.names texts old c.requires.ready)) told)
+    c.look_at.ensures.told c.look_at-2.ensures.told u.2 (c.unify.ensures.names (length texts) (c.kept_worlds_are_ready.ensures.names texts old c.requires.ready)) told)

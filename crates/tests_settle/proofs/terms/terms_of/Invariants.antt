@@ -8,5 +8,6 @@ invariant-loop-constraint l = record {
   live : All (λ id. id < length l.heap.now.terms) l.terms.items;
   more : length l.fn.heap.now.terms ≤ length l.heap.now.terms;
   images : l.heap.now.images ≡ l.fn.heap.now.images;
+  saved : l.heap.saved ≡ l.fn.heap.saved;
   names : KnowsTerms l.atoms l.heap.now.terms;
 }
