@@ -37,10 +37,9 @@ use End::{Free, Other, Same, Value};
 /// A way, and the term that it is done with.
 pub(crate) type Act = (Way, Told);
 
-/// A branch: some steps one after another, constraints that are told together, and further steps. Then which of these keep
-/// the branch, which goals wake in which order, what X, Y and Z are at the end, and how much waits then.
+/// A branch: constraints that are told together, and steps one after another. Then which of these keep the branch, which
+/// goals wake in which order, what X, Y and Z are at the end, and how much waits then.
 struct Scene {
-    before: &'static [Act],
     told: &'static [Told],
     after: &'static [Act],
     kept: &'static [bool],
@@ -54,7 +53,6 @@ pub(crate) const PRODUCT_IS_SIX: Told = (Both(X, "*", Y), "=", Is(N(6, 1)));
 static SCENES: [Scene; 28] = [
     // {X*Y=6, X+Y=Z}, X=2
     Scene {
-        before: &[],
         told: &[PRODUCT_IS_SIX, (Both(X, "+", Y), "=", Is(Z))],
         after: &[(Equating, (Is(X), "=", Is(N(2, 1))))],
         kept: &[true, true],
@@ -64,7 +62,6 @@ static SCENES: [Scene; 28] = [
     },
     // {X*Y=6} waits
     Scene {
-        before: &[],
         told: &[PRODUCT_IS_SIX],
         after: &[],
         kept: &[true],
@@ -72,24 +69,19 @@ static SCENES: [Scene; 28] = [
         ends: [Free, Free, Free],
         waiting: 1,
     },
-    // freeze(X,g), {X+Y=3, Y=1}
+    // freeze(X,g), {X+Y=3}, {Y=1}
     Scene {
-        before: &[(Sleeping, (Is(X), "freeze", Named("g")))],
-        told: &[
-            (Both(X, "+", Y), "=", Is(N(3, 1))),
-            (Is(Y), "=", Is(N(1, 1))),
-        ],
-        after: &[],
-        kept: &[true, true],
+        told: &[],
+        after: &[(Sleeping, (Is(X), "freeze", Named("g"))), (Telling, (Both(X, "+", Y), "=", Is(N(3, 1)))), (Telling, (Is(Y), "=", Is(N(1, 1))))],
+        kept: &[true, true, true, true],
         woken: &["g"],
         ends: [Value(2, 1), Value(1, 1), Free],
         waiting: 0,
     },
     // freeze(X,g(Y))
     Scene {
-        before: &[(Sleeping, (Is(X), "freeze", Over("g", Y)))],
         told: &[],
-        after: &[],
+        after: &[(Sleeping, (Is(X), "freeze", Over("g", Y)))],
         kept: &[true, true],
         woken: &[],
         ends: [Free, Free, Free],
@@ -97,13 +89,8 @@ static SCENES: [Scene; 28] = [
     },
     // freeze(X,g), freeze(X,h), X=1
     Scene {
-        before: &[
-            (Sleeping, (Is(X), "freeze", Named("g"))),
-            (Sleeping, (Is(X), "freeze", Named("h"))),
-            (Equating, (Is(X), "=", Is(N(1, 1)))),
-        ],
         told: &[],
-        after: &[],
+        after: &[(Sleeping, (Is(X), "freeze", Named("g"))), (Sleeping, (Is(X), "freeze", Named("h"))), (Equating, (Is(X), "=", Is(N(1, 1))))],
         kept: &[true, true, true, true],
         woken: &["g", "h"],
         ends: [Value(1, 1), Free, Free],
@@ -111,7 +98,6 @@ static SCENES: [Scene; 28] = [
     },
     // {Y=abs(X)}, X= -3
     Scene {
-        before: &[],
         told: &[(Is(Y), "=", Over("abs", X))],
         after: &[(Equating, (Is(X), "=", Is(N(-3, 1))))],
         kept: &[true, true],
@@ -121,7 +107,6 @@ static SCENES: [Scene; 28] = [
     },
     // {X=2^100}: an exponent above 64 waits
     Scene {
-        before: &[],
         told: &[(Is(X), "=", Both(N(2, 1), "^", N(100, 1)))],
         after: &[],
         kept: &[true],
@@ -131,7 +116,6 @@ static SCENES: [Scene; 28] = [
     },
     // {X=1/0}
     Scene {
-        before: &[],
         told: &[(Is(X), "=", Both(N(1, 1), "/", N(0, 1)))],
         after: &[],
         kept: &[false],
@@ -141,12 +125,8 @@ static SCENES: [Scene; 28] = [
     },
     // {X*Y=Z, Y=2}, freeze(Z,g), {X=3}
     Scene {
-        before: &[],
         told: &[(Both(X, "*", Y), "=", Is(Z)), (Is(Y), "=", Is(N(2, 1)))],
-        after: &[
-            (Sleeping, (Is(Z), "freeze", Named("g"))),
-            (Telling, (Is(X), "=", Is(N(3, 1)))),
-        ],
+        after: &[(Sleeping, (Is(Z), "freeze", Named("g"))), (Telling, (Is(X), "=", Is(N(3, 1))))],
         kept: &[true, true, true],
         woken: &["g"],
         ends: [Value(3, 1), Value(2, 1), Value(6, 1)],
@@ -154,13 +134,8 @@ static SCENES: [Scene; 28] = [
     },
     // freeze(X,g), Y=2, X=a
     Scene {
-        before: &[
-            (Sleeping, (Is(X), "freeze", Named("g"))),
-            (Equating, (Is(Y), "=", Is(N(2, 1)))),
-            (Equating, (Is(X), "=", Named("a"))),
-        ],
         told: &[],
-        after: &[],
+        after: &[(Sleeping, (Is(X), "freeze", Named("g"))), (Equating, (Is(Y), "=", Is(N(2, 1)))), (Equating, (Is(X), "=", Named("a")))],
         kept: &[true, true, true, true],
         woken: &["g"],
         ends: [Other, Value(2, 1), Free],
@@ -168,12 +143,8 @@ static SCENES: [Scene; 28] = [
     },
     // {X*Y=6}, X=0 has no solution, and nothing of it stays; X=3
     Scene {
-        before: &[],
         told: &[PRODUCT_IS_SIX],
-        after: &[
-            (Equating, (Is(X), "=", Is(N(0, 1)))),
-            (Equating, (Is(X), "=", Is(N(3, 1)))),
-        ],
+        after: &[(Equating, (Is(X), "=", Is(N(0, 1)))), (Equating, (Is(X), "=", Is(N(3, 1))))],
         kept: &[true, false, true],
         woken: &[],
         ends: [Value(3, 1), Value(2, 1), Free],
@@ -181,12 +152,8 @@ static SCENES: [Scene; 28] = [
     },
     // {X>0}: X is no atom and no compound
     Scene {
-        before: &[],
         told: &[(Is(X), ">", Is(N(0, 1)))],
-        after: &[
-            (Equating, (Is(X), "=", Named("a"))),
-            (Equating, (Is(X), "=", Over("f", Y))),
-        ],
+        after: &[(Equating, (Is(X), "=", Named("a"))), (Equating, (Is(X), "=", Over("f", Y)))],
         kept: &[true, false, false],
         woken: &[],
         ends: [Free, Free, Free],
@@ -194,7 +161,6 @@ static SCENES: [Scene; 28] = [
     },
     // {X*Y=6}: Y is no atom, though it is in no linear constraint
     Scene {
-        before: &[],
         told: &[PRODUCT_IS_SIX],
         after: &[(Equating, (Is(Y), "=", Named("a")))],
         kept: &[true, false],
@@ -204,12 +170,8 @@ static SCENES: [Scene; 28] = [
     },
     // {Y>0}, Y=X: X is numeric now, and no atom
     Scene {
-        before: &[],
         told: &[(Is(Y), ">", Is(N(0, 1)))],
-        after: &[
-            (Equating, (Is(Y), "=", Is(X))),
-            (Equating, (Is(X), "=", Named("a"))),
-        ],
+        after: &[(Equating, (Is(Y), "=", Is(X))), (Equating, (Is(X), "=", Named("a")))],
         kept: &[true, true, false],
         woken: &[],
         ends: [Free, Same(0), Free],
@@ -217,7 +179,6 @@ static SCENES: [Scene; 28] = [
     },
     // {X>=1, X=<1}
     Scene {
-        before: &[],
         told: &[(Is(X), ">=", Is(N(1, 1))), (Is(X), "=<", Is(N(1, 1)))],
         after: &[],
         kept: &[true],
@@ -227,12 +188,8 @@ static SCENES: [Scene; 28] = [
     },
     // {X>=0}, {Y>=0}, {X+Y=<0}
     Scene {
-        before: &[],
         told: &[(Is(X), ">=", Is(N(0, 1)))],
-        after: &[
-            (Telling, (Is(Y), ">=", Is(N(0, 1)))),
-            (Telling, (Both(X, "+", Y), "=<", Is(N(0, 1)))),
-        ],
+        after: &[(Telling, (Is(Y), ">=", Is(N(0, 1)))), (Telling, (Both(X, "+", Y), "=<", Is(N(0, 1))))],
         kept: &[true, true, true],
         woken: &[],
         ends: [Value(0, 1), Value(0, 1), Free],
@@ -240,7 +197,6 @@ static SCENES: [Scene; 28] = [
     },
     // {X=Y}: entailed equal, and two variables
     Scene {
-        before: &[],
         told: &[(Is(X), "=", Is(Y))],
         after: &[],
         kept: &[true],
@@ -250,12 +206,7 @@ static SCENES: [Scene; 28] = [
     },
     // {X=Y, Z>=X, Z=<Y}, {Z=4}: three that are entailed equal get their value together
     Scene {
-        before: &[],
-        told: &[
-            (Is(X), "=", Is(Y)),
-            (Is(Z), ">=", Is(X)),
-            (Is(Z), "=<", Is(Y)),
-        ],
+        told: &[(Is(X), "=", Is(Y)), (Is(Z), ">=", Is(X)), (Is(Z), "=<", Is(Y))],
         after: &[(Telling, (Is(Z), "=", Is(N(4, 1))))],
         kept: &[true, true],
         woken: &[],
@@ -264,12 +215,8 @@ static SCENES: [Scene; 28] = [
     },
     // {X>0}, {X=Y}, {Y<0}
     Scene {
-        before: &[],
         told: &[(Is(X), ">", Is(N(0, 1)))],
-        after: &[
-            (Telling, (Is(X), "=", Is(Y))),
-            (Telling, (Is(Y), "<", Is(N(0, 1)))),
-        ],
+        after: &[(Telling, (Is(X), "=", Is(Y))), (Telling, (Is(Y), "<", Is(N(0, 1))))],
         kept: &[true, true, false],
         woken: &[],
         ends: [Free, Free, Free],
@@ -277,7 +224,6 @@ static SCENES: [Scene; 28] = [
     },
     // {X>=1, Y=<1}, X=Y: the younger is bound to the older, and both are fixed
     Scene {
-        before: &[],
         told: &[(Is(X), ">=", Is(N(1, 1))), (Is(Y), "=<", Is(N(1, 1)))],
         after: &[(Equating, (Is(X), "=", Is(Y)))],
         kept: &[true, true],
@@ -287,12 +233,8 @@ static SCENES: [Scene; 28] = [
     },
     // {Y*Z=6}, Y=X, X=2: what waits for Y waits for X
     Scene {
-        before: &[],
         told: &[(Both(Y, "*", Z), "=", Is(N(6, 1)))],
-        after: &[
-            (Equating, (Is(Y), "=", Is(X))),
-            (Equating, (Is(X), "=", Is(N(2, 1)))),
-        ],
+        after: &[(Equating, (Is(Y), "=", Is(X))), (Equating, (Is(X), "=", Is(N(2, 1))))],
         kept: &[true, true, true],
         woken: &[],
         ends: [Value(2, 1), Value(2, 1), Value(3, 1)],
@@ -300,12 +242,8 @@ static SCENES: [Scene; 28] = [
     },
     // freeze(Y,g), Y=X, X=1: g sleeps on
     Scene {
-        before: &[
-            (Sleeping, (Is(Y), "freeze", Named("g"))),
-            (Equating, (Is(Y), "=", Is(X))),
-        ],
         told: &[],
-        after: &[],
+        after: &[(Sleeping, (Is(Y), "freeze", Named("g"))), (Equating, (Is(Y), "=", Is(X)))],
         kept: &[true, true, true],
         woken: &[],
         ends: [Free, Same(0), Free],
@@ -313,39 +251,26 @@ static SCENES: [Scene; 28] = [
     },
     // freeze(Y,g), Y=X, X=1: g wakes
     Scene {
-        before: &[
-            (Sleeping, (Is(Y), "freeze", Named("g"))),
-            (Equating, (Is(Y), "=", Is(X))),
-            (Equating, (Is(X), "=", Is(N(1, 1)))),
-        ],
         told: &[],
-        after: &[],
+        after: &[(Sleeping, (Is(Y), "freeze", Named("g"))), (Equating, (Is(Y), "=", Is(X))), (Equating, (Is(X), "=", Is(N(1, 1))))],
         kept: &[true, true, true, true],
         woken: &["g"],
         ends: [Value(1, 1), Value(1, 1), Free],
         waiting: 0,
     },
-    // freeze(Y,g), freeze(X,h), {X=1, Y=X}: the older goal first, though X was fixed before Y
+    // freeze(Y,g), freeze(X,h), {Y=X}, {X=1}: the older goal first, though X was fixed before Y
     Scene {
-        before: &[
-            (Sleeping, (Is(Y), "freeze", Named("g"))),
-            (Sleeping, (Is(X), "freeze", Named("h"))),
-        ],
-        told: &[(Is(X), "=", Is(N(1, 1))), (Is(Y), "=", Is(X))],
-        after: &[],
-        kept: &[true, true, true],
+        told: &[],
+        after: &[(Sleeping, (Is(Y), "freeze", Named("g"))), (Sleeping, (Is(X), "freeze", Named("h"))), (Telling, (Is(Y), "=", Is(X))), (Telling, (Is(X), "=", Is(N(1, 1))))],
+        kept: &[true, true, true, true, true],
         woken: &["g", "h"],
         ends: [Value(1, 1), Value(1, 1), Free],
         waiting: 0,
     },
     // {X*Y=Z}, X+Y=2+3
     Scene {
-        before: &[],
         told: &[(Both(X, "*", Y), "=", Is(Z))],
-        after: &[(
-            Equating,
-            (Both(X, "+", Y), "=", Both(N(2, 1), "+", N(3, 1))),
-        )],
+        after: &[(Equating, (Both(X, "+", Y), "=", Both(N(2, 1), "+", N(3, 1))))],
         kept: &[true, true],
         woken: &[],
         ends: [Value(2, 1), Value(3, 1), Value(6, 1)],
@@ -353,13 +278,7 @@ static SCENES: [Scene; 28] = [
     },
     // {X*Y=6, X=\=3, Y>=2, Y=<2}: fixed by inequalities, then told, then without solution
     Scene {
-        before: &[],
-        told: &[
-            PRODUCT_IS_SIX,
-            (Is(X), "=\\=", Is(N(3, 1))),
-            (Is(Y), ">=", Is(N(2, 1))),
-            (Is(Y), "=<", Is(N(2, 1))),
-        ],
+        told: &[PRODUCT_IS_SIX, (Is(X), "=\\=", Is(N(3, 1))), (Is(Y), ">=", Is(N(2, 1))), (Is(Y), "=<", Is(N(2, 1)))],
         after: &[],
         kept: &[false],
         woken: &[],
@@ -368,7 +287,6 @@ static SCENES: [Scene; 28] = [
     },
     // {X=1/Y}, {Y=0}: a divisor that comes to be zero
     Scene {
-        before: &[],
         told: &[(Is(X), "=", Both(N(1, 1), "/", Y))],
         after: &[(Telling, (Is(Y), "=", Is(N(0, 1))))],
         kept: &[true, false],
@@ -378,7 +296,6 @@ static SCENES: [Scene; 28] = [
     },
     // {Y=2^X}, {X=5}
     Scene {
-        before: &[],
         told: &[(Is(Y), "=", Both(N(2, 1), "^", X))],
         after: &[(Telling, (Is(X), "=", Is(N(5, 1))))],
         kept: &[true, true],
@@ -411,24 +328,21 @@ pub(crate) fn steps_of(
     Ok(steps)
 }
 
-/// Which steps keep the branch, where constraints are told together between the former steps and the latter.
+/// Which of the settlings keep the branch: of what is told together, and of each step.
 fn perform(
     world: &mut World,
     atoms: &Atoms,
-    before: &[Step],
     told: Vec<TermId>,
     after: &[Step],
     woken: &mut Vec<Atom>,
 ) -> Result<Vec<bool>, Fail>
     requires different { AreDifferent atoms.now }
     requires ready { IsReady atoms.now (now_of world.old) }
-    requires before { All (λ (s : Step). s.term < length world.old.heap.now.terms) before.now }
     requires told { All (λ id. id < length world.old.heap.now.terms) told.items }
     requires after { All (λ (s : Step). s.term < length world.old.heap.now.terms) after.now }
     ensures next { OnOk result (IsNext atoms.now world.old world.new) }
 {
     let mut kept = Vec::new(world.heap.alloc());
-    attempt_each(world, atoms, before, woken, &mut kept)?;
     kept.push(tell(world, atoms, told, woken)?)?;
     attempt_each(world, atoms, after, woken, &mut kept)?;
     Ok(kept)
@@ -475,22 +389,30 @@ fn are_named(atoms: &mut Atoms, names: &[Atom], texts: &[&str]) -> Result<bool, 
     Ok(true)
 }
 
-fn ends_well(world: &World, scene: &Scene, kept: &[bool]) -> Result<bool, AllocError>
+/// Whether the branch is as the scene says.
+fn ends_well(
+    world: &World,
+    atoms: &mut Atoms,
+    scene: &Scene,
+    kept: &[bool],
+    woken: &[Atom],
+) -> Result<bool, AllocError>
     requires { 3 ≤ length world.now.heap.now.images }
 {
-    Ok(kept == scene.kept && are_ends(&world.heap, &scene.ends) && waits(world, scene.waiting)?)
+    let named = are_named(atoms, woken, scene.woken)?;
+    let waiting = waits(world, scene.waiting)?;
+    Ok(named && waiting && kept == scene.kept && are_ends(&world.heap, &scene.ends))
 }
 
 fn plays(alloc: Global, scene: &Scene) -> Result<bool, Fail> {
     let mut world = blank_world(alloc, 3)?;
     let mut atoms = Atoms::new(alloc);
-    let before = steps_of(&mut world.heap, &mut atoms, scene.before)?;
     let told = terms_of(&mut world.heap, &mut atoms, scene.told)?;
-    let after = steps_of(&mut world.heap, &mut atoms, scene.after)?;
+    let steps = steps_of(&mut world.heap, &mut atoms, scene.after)?;
     new_worlds_are_ready();
     let mut woken = Vec::new(alloc);
-    let kept = perform(&mut world, &atoms, &before, told, &after, &mut woken)?;
-    Ok(ends_well(&world, scene, &kept)? && are_named(&mut atoms, &woken, scene.woken)?)
+    let kept = perform(&mut world, &atoms, told, &steps, &mut woken)?;
+    Ok(ends_well(&world, &mut atoms, scene, &kept, &woken)?)
 }
 
 #[test]

@@ -7,7 +7,7 @@ use Rattle.tests_settle.proofs.terms.add_variables.Given as goal
 abbrev pub invariant-loop-made : goal.invariant-loop-made
 invariant-loop-made l = record {
   unbound : AreUnbound l.heap.now.images;
-  enough : l.made ≤ length l.heap.now.images;
+  enough : l._made ≤ length l.heap.now.images;
   saved : l.heap.saved ≡ l.fn.heap.saved;
   names : (n : ℕ) → All (HasNamesBelow n) l.fn.heap.now.terms → All (HasNamesBelow n) l.heap.now.terms;
 }
