@@ -11,5 +11,3 @@ mod scenes;
 mod steps;
 #[cfg(test)]
 mod terms;
-#[cfg(test)]
-mod undone;

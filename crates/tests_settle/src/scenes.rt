@@ -1,11 +1,10 @@
 // Branches by tables: goals that sleep, constraints that are told together, and steps one after another, with their ends.
 
-ghost use Rattle.std.specs.Prelude.{◌≡◌, ◌≤◌, ◌<◌, length, All, IfOk, OnOk};
+ghost use Rattle.std.specs.Prelude.{◌≡◌, ◌≤◌, ◌<◌, length, All, IfOk};
 ghost use Rattle.cq_atoms.specs.Texts.{AreDifferent};
 ghost use Rattle.cq_term.specs.Trees.{KnowsTerms};
 ghost use Rattle.cq_world.specs.Rest.{IsReady};
 ghost use Rattle.cq_world.specs.Worlds.{now_of};
-ghost use Rattle.tests_settle.specs.Next.{IsNext};
 ghost use Rattle.tests_settle.specs.declared.steps.Step.{Step};
 
 use crate::steps::Way::{Equating, Sleeping, Telling};
@@ -72,7 +71,11 @@ static SCENES: [Scene; 28] = [
     // freeze(X,g), {X+Y=3}, {Y=1}
     Scene {
         told: &[],
-        after: &[(Sleeping, (Is(X), "freeze", Named("g"))), (Telling, (Both(X, "+", Y), "=", Is(N(3, 1)))), (Telling, (Is(Y), "=", Is(N(1, 1))))],
+        after: &[
+            (Sleeping, (Is(X), "freeze", Named("g"))),
+            (Telling, (Both(X, "+", Y), "=", Is(N(3, 1)))),
+            (Telling, (Is(Y), "=", Is(N(1, 1)))),
+        ],
         kept: &[true, true, true, true],
         woken: &["g"],
         ends: [Value(2, 1), Value(1, 1), Free],
@@ -90,7 +93,11 @@ static SCENES: [Scene; 28] = [
     // freeze(X,g), freeze(X,h), X=1
     Scene {
         told: &[],
-        after: &[(Sleeping, (Is(X), "freeze", Named("g"))), (Sleeping, (Is(X), "freeze", Named("h"))), (Equating, (Is(X), "=", Is(N(1, 1))))],
+        after: &[
+            (Sleeping, (Is(X), "freeze", Named("g"))),
+            (Sleeping, (Is(X), "freeze", Named("h"))),
+            (Equating, (Is(X), "=", Is(N(1, 1)))),
+        ],
         kept: &[true, true, true, true],
         woken: &["g", "h"],
         ends: [Value(1, 1), Free, Free],
@@ -126,7 +133,10 @@ static SCENES: [Scene; 28] = [
     // {X*Y=Z, Y=2}, freeze(Z,g), {X=3}
     Scene {
         told: &[(Both(X, "*", Y), "=", Is(Z)), (Is(Y), "=", Is(N(2, 1)))],
-        after: &[(Sleeping, (Is(Z), "freeze", Named("g"))), (Telling, (Is(X), "=", Is(N(3, 1))))],
+        after: &[
+            (Sleeping, (Is(Z), "freeze", Named("g"))),
+            (Telling, (Is(X), "=", Is(N(3, 1)))),
+        ],
         kept: &[true, true, true],
         woken: &["g"],
         ends: [Value(3, 1), Value(2, 1), Value(6, 1)],
@@ -135,7 +145,11 @@ static SCENES: [Scene; 28] = [
     // freeze(X,g), Y=2, X=a
     Scene {
         told: &[],
-        after: &[(Sleeping, (Is(X), "freeze", Named("g"))), (Equating, (Is(Y), "=", Is(N(2, 1)))), (Equating, (Is(X), "=", Named("a")))],
+        after: &[
+            (Sleeping, (Is(X), "freeze", Named("g"))),
+            (Equating, (Is(Y), "=", Is(N(2, 1)))),
+            (Equating, (Is(X), "=", Named("a"))),
+        ],
         kept: &[true, true, true, true],
         woken: &["g"],
         ends: [Other, Value(2, 1), Free],
@@ -144,7 +158,10 @@ static SCENES: [Scene; 28] = [
     // {X*Y=6}, X=0 has no solution, and nothing of it stays; X=3
     Scene {
         told: &[PRODUCT_IS_SIX],
-        after: &[(Equating, (Is(X), "=", Is(N(0, 1)))), (Equating, (Is(X), "=", Is(N(3, 1))))],
+        after: &[
+            (Equating, (Is(X), "=", Is(N(0, 1)))),
+            (Equating, (Is(X), "=", Is(N(3, 1)))),
+        ],
         kept: &[true, false, true],
         woken: &[],
         ends: [Value(3, 1), Value(2, 1), Free],
@@ -153,7 +170,10 @@ static SCENES: [Scene; 28] = [
     // {X>0}: X is no atom and no compound
     Scene {
         told: &[(Is(X), ">", Is(N(0, 1)))],
-        after: &[(Equating, (Is(X), "=", Named("a"))), (Equating, (Is(X), "=", Over("f", Y)))],
+        after: &[
+            (Equating, (Is(X), "=", Named("a"))),
+            (Equating, (Is(X), "=", Over("f", Y))),
+        ],
         kept: &[true, false, false],
         woken: &[],
         ends: [Free, Free, Free],
@@ -171,7 +191,10 @@ static SCENES: [Scene; 28] = [
     // {Y>0}, Y=X: X is numeric now, and no atom
     Scene {
         told: &[(Is(Y), ">", Is(N(0, 1)))],
-        after: &[(Equating, (Is(Y), "=", Is(X))), (Equating, (Is(X), "=", Named("a")))],
+        after: &[
+            (Equating, (Is(Y), "=", Is(X))),
+            (Equating, (Is(X), "=", Named("a"))),
+        ],
         kept: &[true, true, false],
         woken: &[],
         ends: [Free, Same(0), Free],
@@ -189,7 +212,10 @@ static SCENES: [Scene; 28] = [
     // {X>=0}, {Y>=0}, {X+Y=<0}
     Scene {
         told: &[(Is(X), ">=", Is(N(0, 1)))],
-        after: &[(Telling, (Is(Y), ">=", Is(N(0, 1)))), (Telling, (Both(X, "+", Y), "=<", Is(N(0, 1))))],
+        after: &[
+            (Telling, (Is(Y), ">=", Is(N(0, 1)))),
+            (Telling, (Both(X, "+", Y), "=<", Is(N(0, 1)))),
+        ],
         kept: &[true, true, true],
         woken: &[],
         ends: [Value(0, 1), Value(0, 1), Free],
@@ -206,7 +232,11 @@ static SCENES: [Scene; 28] = [
     },
     // {X=Y, Z>=X, Z=<Y}, {Z=4}: three that are entailed equal get their value together
     Scene {
-        told: &[(Is(X), "=", Is(Y)), (Is(Z), ">=", Is(X)), (Is(Z), "=<", Is(Y))],
+        told: &[
+            (Is(X), "=", Is(Y)),
+            (Is(Z), ">=", Is(X)),
+            (Is(Z), "=<", Is(Y)),
+        ],
         after: &[(Telling, (Is(Z), "=", Is(N(4, 1))))],
         kept: &[true, true],
         woken: &[],
@@ -216,7 +246,10 @@ static SCENES: [Scene; 28] = [
     // {X>0}, {X=Y}, {Y<0}
     Scene {
         told: &[(Is(X), ">", Is(N(0, 1)))],
-        after: &[(Telling, (Is(X), "=", Is(Y))), (Telling, (Is(Y), "<", Is(N(0, 1))))],
+        after: &[
+            (Telling, (Is(X), "=", Is(Y))),
+            (Telling, (Is(Y), "<", Is(N(0, 1)))),
+        ],
         kept: &[true, true, false],
         woken: &[],
         ends: [Free, Free, Free],
@@ -234,7 +267,10 @@ static SCENES: [Scene; 28] = [
     // {Y*Z=6}, Y=X, X=2: what waits for Y waits for X
     Scene {
         told: &[(Both(Y, "*", Z), "=", Is(N(6, 1)))],
-        after: &[(Equating, (Is(Y), "=", Is(X))), (Equating, (Is(X), "=", Is(N(2, 1))))],
+        after: &[
+            (Equating, (Is(Y), "=", Is(X))),
+            (Equating, (Is(X), "=", Is(N(2, 1)))),
+        ],
         kept: &[true, true, true],
         woken: &[],
         ends: [Value(2, 1), Value(2, 1), Value(3, 1)],
@@ -243,7 +279,10 @@ static SCENES: [Scene; 28] = [
     // freeze(Y,g), Y=X, X=1: g sleeps on
     Scene {
         told: &[],
-        after: &[(Sleeping, (Is(Y), "freeze", Named("g"))), (Equating, (Is(Y), "=", Is(X)))],
+        after: &[
+            (Sleeping, (Is(Y), "freeze", Named("g"))),
+            (Equating, (Is(Y), "=", Is(X))),
+        ],
         kept: &[true, true, true],
         woken: &[],
         ends: [Free, Same(0), Free],
@@ -252,7 +291,11 @@ static SCENES: [Scene; 28] = [
     // freeze(Y,g), Y=X, X=1: g wakes
     Scene {
         told: &[],
-        after: &[(Sleeping, (Is(Y), "freeze", Named("g"))), (Equating, (Is(Y), "=", Is(X))), (Equating, (Is(X), "=", Is(N(1, 1))))],
+        after: &[
+            (Sleeping, (Is(Y), "freeze", Named("g"))),
+            (Equating, (Is(Y), "=", Is(X))),
+            (Equating, (Is(X), "=", Is(N(1, 1)))),
+        ],
         kept: &[true, true, true, true],
         woken: &["g"],
         ends: [Value(1, 1), Value(1, 1), Free],
@@ -261,7 +304,12 @@ static SCENES: [Scene; 28] = [
     // freeze(Y,g), freeze(X,h), {Y=X}, {X=1}: the older goal first, though X was fixed before Y
     Scene {
         told: &[],
-        after: &[(Sleeping, (Is(Y), "freeze", Named("g"))), (Sleeping, (Is(X), "freeze", Named("h"))), (Telling, (Is(Y), "=", Is(X))), (Telling, (Is(X), "=", Is(N(1, 1))))],
+        after: &[
+            (Sleeping, (Is(Y), "freeze", Named("g"))),
+            (Sleeping, (Is(X), "freeze", Named("h"))),
+            (Telling, (Is(Y), "=", Is(X))),
+            (Telling, (Is(X), "=", Is(N(1, 1)))),
+        ],
         kept: &[true, true, true, true, true],
         woken: &["g", "h"],
         ends: [Value(1, 1), Value(1, 1), Free],
@@ -270,7 +318,10 @@ static SCENES: [Scene; 28] = [
     // {X*Y=Z}, X+Y=2+3
     Scene {
         told: &[(Both(X, "*", Y), "=", Is(Z))],
-        after: &[(Equating, (Both(X, "+", Y), "=", Both(N(2, 1), "+", N(3, 1))))],
+        after: &[(
+            Equating,
+            (Both(X, "+", Y), "=", Both(N(2, 1), "+", N(3, 1))),
+        )],
         kept: &[true, true],
         woken: &[],
         ends: [Value(2, 1), Value(3, 1), Value(6, 1)],
@@ -278,7 +329,12 @@ static SCENES: [Scene; 28] = [
     },
     // {X*Y=6, X=\=3, Y>=2, Y=<2}: fixed by inequalities, then told, then without solution
     Scene {
-        told: &[PRODUCT_IS_SIX, (Is(X), "=\\=", Is(N(3, 1))), (Is(Y), ">=", Is(N(2, 1))), (Is(Y), "=<", Is(N(2, 1)))],
+        told: &[
+            PRODUCT_IS_SIX,
+            (Is(X), "=\\=", Is(N(3, 1))),
+            (Is(Y), ">=", Is(N(2, 1))),
+            (Is(Y), "=<", Is(N(2, 1))),
+        ],
         after: &[],
         kept: &[false],
         woken: &[],
@@ -328,26 +384,6 @@ pub(crate) fn steps_of(
     Ok(steps)
 }
 
-/// Which of the settlings keep the branch: of what is told together, and of each step.
-fn perform(
-    world: &mut World,
-    atoms: &Atoms,
-    told: Vec<TermId>,
-    after: &[Step],
-    woken: &mut Vec<Atom>,
-) -> Result<Vec<bool>, Fail>
-    requires different { AreDifferent atoms.now }
-    requires ready { IsReady atoms.now (now_of world.old) }
-    requires told { All (λ id. id < length world.old.heap.now.terms) told.items }
-    requires after { All (λ (s : Step). s.term < length world.old.heap.now.terms) after.now }
-    ensures next { OnOk result (IsNext atoms.now world.old world.new) }
-{
-    let mut kept = Vec::new(world.heap.alloc());
-    kept.push(tell(world, atoms, told, woken)?)?;
-    attempt_each(world, atoms, after, woken, &mut kept)?;
-    Ok(kept)
-}
-
 // ---- ends
 
 fn is_end(heap: &Heap, variable: VarId, end: End) -> bool
@@ -389,19 +425,26 @@ fn are_named(atoms: &mut Atoms, names: &[Atom], texts: &[&str]) -> Result<bool, 
     Ok(true)
 }
 
-/// Whether the branch is as the scene says.
-fn ends_well(
-    world: &World,
-    atoms: &mut Atoms,
-    scene: &Scene,
-    kept: &[bool],
-    woken: &[Atom],
-) -> Result<bool, AllocError>
-    requires { 3 ≤ length world.now.heap.now.images }
+/// Whether these settlings keep the branch, of what is told together and of each step, with these ends.
+fn performs(
+    world: &mut World,
+    atoms: &Atoms,
+    told: Vec<TermId>,
+    steps: &[Step],
+    wanted: &[bool],
+    ends: &[End; 3],
+    woken: &mut Vec<Atom>,
+) -> Result<bool, Fail>
+    requires different { AreDifferent atoms.now }
+    requires ready { IsReady atoms.now (now_of world.old) }
+    requires told { All (λ id. id < length world.old.heap.now.terms) told.items }
+    requires steps { All (λ (s : Step). s.term < length world.old.heap.now.terms) steps.now }
+    requires variables { 3 ≤ length world.old.heap.now.images }
 {
-    let named = are_named(atoms, woken, scene.woken)?;
-    let waiting = waits(world, scene.waiting)?;
-    Ok(named && waiting && kept == scene.kept && are_ends(&world.heap, &scene.ends))
+    let mut kept = Vec::new(world.heap.alloc());
+    kept.push(tell(world, atoms, told, woken)?)?;
+    attempt_each(world, atoms, steps, woken, &mut kept)?;
+    Ok(kept.as_slice() == wanted && are_ends(&world.heap, ends))
 }
 
 fn plays(alloc: Global, scene: &Scene) -> Result<bool, Fail> {
@@ -411,8 +454,17 @@ fn plays(alloc: Global, scene: &Scene) -> Result<bool, Fail> {
     let steps = steps_of(&mut world.heap, &mut atoms, scene.after)?;
     new_worlds_are_ready();
     let mut woken = Vec::new(alloc);
-    let kept = perform(&mut world, &atoms, told, &steps, &mut woken)?;
-    Ok(ends_well(&world, &mut atoms, scene, &kept, &woken)?)
+    let well = performs(
+        &mut world,
+        &atoms,
+        told,
+        &steps,
+        scene.kept,
+        &scene.ends,
+        &mut woken,
+    )?;
+    let waiting = waits(&world, scene.waiting)?;
+    Ok(well && waiting && are_named(&mut atoms, &woken, scene.woken)?)
 }
 
 #[test]
