@@ -1,0 +1,13 @@
+//! Tests of settling: what no clause says of it.
+#![tactic(auto)]
+
+#[cfg(test)]
+mod chain;
+#[cfg(test)]
+mod choices;
+#[cfg(test)]
+mod scenes;
+#[cfg(test)]
+mod steps;
+#[cfg(test)]
+mod terms;
