@@ -1,2 +1,1 @@
-mod Onward
 mod Blank

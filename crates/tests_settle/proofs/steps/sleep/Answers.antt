@@ -1,4 +1,4 @@
-use Rattle.std.proofs.Common.{sym, subst, refl, arith, ◌∙◌}
+use Rattle.std.proofs.Common.{sym, subst, refl, arith}
 use Rattle.cq_attr.specs.Attributes.{Attributes}
 use Rattle.cq_term.proofs.Arguments.{shown_variable}
 use Rattle.cq_world.specs.Rest.{IsReady}
