@@ -1,5 +1,5 @@
 -- A world with terms, of which nothing is known, has nothing left to settle.
-use Rattle.std.proofs.Common.{◌≡◌, sym, subst}
+use Rattle.std.proofs.Common.{◌≡◌, List, sym, subst}
 use Rattle.spec_lists.specs.Texts.{Text}
 use Rattle.cq_term.specs.HeapValue.{Terms}
 use Rattle.cq_term.specs.Trees.{KnowsTerms}
