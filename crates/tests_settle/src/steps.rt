@@ -14,11 +14,11 @@ use cq_attr::Susp;
 use cq_linear::store::StoreFault;
 use cq_rest::{
     constraints_may_be_told, equated_worlds_may_be_settled, goals_may_be_put_to_sleep,
-    kept_worlds_are_ready, look_at, look_at_told,
+    kept_worlds_are_ready, look_at, look_at_pairs, look_at_told,
 };
 use cq_settle::{Settled, Work, settle};
 use cq_term::{Heap, Newly, TermId, View};
-use cq_unify::unify;
+use cq_walk::Pair;
 use cq_world::World;
 use std::alloc::{AllocError, Global};
 
@@ -134,15 +134,14 @@ pub(crate) fn equate(
     ensures next { IfOk result (λ kept. IsTrue kept → IsNext atoms.now world.old world.new) }
     ensures marks { OnOk result (KeepsMarks world.old world.new) }
 {
-    look_at(&world.heap, left);
-    look_at(&world.heap, right);
+    let pairs = [Pair { left, right }];
+    look_at_pairs(&world.heap, &pairs);
     kept_worlds_are_ready();
     equated_worlds_may_be_settled();
-    let alloc = world.heap.alloc();
-    let mut newly = Newly::new(alloc);
-    if !unify(&mut world.heap, &mut newly, left, right)? {
+    let Some(newly) = cq_rest::equate(&mut world.heap, &pairs)? else {
         return Ok(false);
-    }
+    };
+    let alloc = world.heap.alloc();
     let work = Work {
         newly,
         told: Vec::new(alloc),
