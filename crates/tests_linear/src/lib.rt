@@ -7,3 +7,5 @@ mod level;
 mod linear;
 #[cfg(test)]
 mod simplex;
+#[cfg(test)]
+mod weighing;

@@ -1,8 +1,12 @@
 //! Small lists of constraints, and what is asked of them, worked out by hand.
 
+ghost use Rattle.std.specs.Prelude.{◌≡◌};
+
+use crate::weighing::is_refuted;
 use cq_form::{Constraint, Form};
 use cq_frac::{Frac, VarId};
 use cq_linear::store::{Extent, Store, StoreFault, Told};
+use cq_trail::Undo;
 use spec_linear::Relation;
 use std::alloc::Global;
 use std::test::Fail;
@@ -23,7 +27,7 @@ enum Step<'a> {
     Entails(Relation, Products<'a>, i128, bool),
 }
 
-static STEPS: [&[Step]; 19] = [
+static STEPS: [&[Step]; 20] = [
     // x0 >= 1, x1 >= x0 + 2
     &[
         Step::Keeps(Relation::Ge, &[(1, 0)], -1, 0),
@@ -173,6 +177,20 @@ static STEPS: [&[Step]; 19] = [
         Step::Falls(&[(1, 0)], 0, Some(5)),
         Step::Entails(Relation::Gt, &[(1, 0)], -4, true),
         Step::Entails(Relation::Gt, &[(1, 0)], -5, false),
+        // x0 =< 4, and x0 =< 5
+        Step::Refuses(Relation::Ge, &[(-1, 0)], 4, &[(3, 1), (2, 1)]),
+        Step::Keeps(Relation::Ge, &[(-1, 0)], 5, 1),
+    ],
+    // equations told where inequalities hold both variables to zero: inequalities refute what is told then
+    &[
+        Step::Keeps(Relation::Ge, &[(1, 0)], 0, 0),
+        Step::Keeps(Relation::Ge, &[(1, 1)], 0, 0),
+        Step::Keeps(Relation::Ge, &[(-1, 0), (-1, 1)], 0, 2),
+        Step::Keeps(Relation::Eq, &[(1, 0), (-1, 1)], 0, 0),
+        Step::Refuses(Relation::Gt, &[(1, 0), (1, 1)], 0, &[]),
+        Step::Refuses(Relation::Ne, &[(1, 0), (2, 1)], 0, &[]),
+        Step::Refuses(Relation::Eq, &[(1, 0), (2, 1)], -1, &[]),
+        Step::Refuses(Relation::Eq, &[(1, 0), (2, 1)], 1, &[]),
     ],
     // x0 + x1 =< 4 over columns that are not below zero
     &[
@@ -246,17 +264,30 @@ fn are_entries(found: &[(usize, Frac)], wanted: &[(usize, i128)]) -> bool {
         && wanted.iter().all(|w| found.iter().any(|f| f.0 == w.0 && f.1.parts() == (w.1, 1)))
 }
 
-fn keeps(store: &mut Store, c: Constraint, fixed: usize) -> bool {
+fn keeps(store: &mut Store, c: Constraint, fixed: usize) -> bool
+    ensures saved { store.new.saved ≡ store.old.saved }
+{
     match store.tell(c) {
         Ok(Told::Kept(xs)) => xs.len() == fixed,
         _ => false,
     }
 }
 
-fn refuses(store: &mut Store, c: Constraint, wanted: &[(usize, i128)]) -> bool {
+/// Whether the last of the list is refused behind the others, with this certificate, and the certificate's weights refute the list.
+fn refuses(
+    store: &mut Store,
+    alloc: Global,
+    c: Constraint,
+    list: &[Constraint],
+    wanted: &[(usize, i128)],
+) -> Result<bool, Fail>
+    ensures saved { store.new.saved ≡ store.old.saved }
+{
     match store.tell(c) {
-        Ok(Told::Unsolvable(cert)) => are_entries(cert.entries(), wanted),
-        _ => false,
+        Ok(Told::Unsolvable(cert)) => {
+            Ok(are_entries(cert.entries(), wanted) && is_refuted(alloc, list, cert.entries())?)
+        }
+        _ => Ok(false),
     }
 }
 
@@ -281,9 +312,18 @@ fn is_answered(answer: Result<bool, StoreFault>, wanted: bool) -> bool {
     }
 }
 
-fn comes_as_wanted(store: &mut Store, alloc: Global, step: &Step) -> Result<bool, Fail> {
+/// Takes the step; the list has what was kept.
+fn comes_as_wanted(
+    store: &mut Store,
+    list: &mut Vec<Constraint>,
+    alloc: Global,
+    step: &Step,
+) -> Result<bool, Fail>
+    ensures saved { store.new.saved ≡ store.old.saved }
+{
     match step {
         Step::Keeps(relation, form, constant, fixed) => {
+            list.push(constraint(alloc, *relation, *form, *constant)?)?;
             Ok(keeps(
                 store,
                 constraint(alloc, *relation, *form, *constant)?,
@@ -291,11 +331,11 @@ fn comes_as_wanted(store: &mut Store, alloc: Global, step: &Step) -> Result<bool
             ))
         }
         Step::Refuses(relation, form, constant, cert) => {
-            Ok(refuses(
-                store,
-                constraint(alloc, *relation, *form, *constant)?,
-                *cert,
-            ))
+            list.push(constraint(alloc, *relation, *form, *constant)?)?;
+            let c = constraint(alloc, *relation, *form, *constant)?;
+            let refused = refuses(store, alloc, c, list, *cert)?;
+            let _last = list.pop();
+            Ok(refused)
         }
         Step::Reaches(form, constant, wanted) => {
             Ok(is_reached(store.sup(&form_of(alloc, *form, *constant)?), *wanted))
@@ -312,13 +352,78 @@ fn comes_as_wanted(store: &mut Store, alloc: Global, step: &Step) -> Result<bool
     }
 }
 
+/// Whether each step comes as wanted.
+fn all_come(
+    store: &mut Store,
+    list: &mut Vec<Constraint>,
+    alloc: Global,
+    steps: &[Step],
+) -> Result<bool, Fail>
+    ensures saved { store.new.saved ≡ store.old.saved }
+{
+    for step in steps {
+        if !comes_as_wanted(store, list, alloc, step)? {
+            return Ok(false);
+        }
+    }
+    Ok(true)
+}
+
 #[test]
 fn lists_are_kept_refused_and_asked_about(rt: HostRuntime) -> Result<(), Fail> {
     for steps in &STEPS {
         let mut store = Store::new(rt.alloc(), 20);
-        for step in *steps {
-            assert!(rt; comes_as_wanted(&mut store, rt.alloc(), step)?);
-        }
+        let mut list = Vec::new(rt.alloc());
+        assert!(rt; all_come(&mut store, &mut list, rt.alloc(), *steps)?);
+    }
+    Ok(())
+}
+
+/// x0 >= 0, x0 + x1 = 3, x1 =\= 2
+const TOLD: [Step; 3] = [
+    Step::Keeps(Relation::Ge, &[(1, 0)], 0, 0),
+    Step::Keeps(Relation::Eq, &[(1, 0), (1, 1)], -3, 0),
+    Step::Keeps(Relation::Ne, &[(1, 1)], -2, 0),
+];
+
+/// What is asked of them, where nothing else is told.
+const ASKED: [Step; 6] = [
+    Step::Reaches(&[(1, 1)], 0, Some(3)),
+    Step::Falls(&[(1, 1)], 0, None),
+    Step::Reaches(&[(1, 0), (1, 1), (1, 2)], 0, None),
+    Step::Entails(Relation::Ne, &[(1, 0)], -1, true),
+    Step::Entails(Relation::Eq, &[(1, 1)], -3, false),
+    Step::Entails(Relation::Ge, &[(-1, 1)], 3, true),
+];
+
+/// x1 >= 3 is kept, so that x0 = 0 and x1 = 3; x2 > x1 is kept; x0 > 0 is refused.
+const CHANGES: [Step; 5] = [
+    Step::Keeps(Relation::Ge, &[(1, 1)], -3, 2),
+    Step::Keeps(Relation::Gt, &[(-1, 1), (1, 2)], 0, 0),
+    Step::Reaches(&[(1, 1)], 0, Some(3)),
+    Step::Falls(&[(1, 2)], 0, Some(3)),
+    Step::Refuses(Relation::Gt, &[(1, 0)], 0, &[(6, 1), (2, -1), (4, 1)]),
+];
+
+/// Whether the changes come as wanted, and what is asked is answered before them and once they are undone.
+fn goes_back(store: &mut Store, list: &mut Vec<Constraint>, alloc: Global) -> Result<bool, Fail> {
+    let before = all_come(store, list, alloc, &ASKED)?;
+    let start = store.mark()?;
+    let changed = all_come(store, list, alloc, &CHANGES)?;
+    store.undo(start);
+    let after = all_come(store, list, alloc, &ASKED)?;
+    Ok(before && changed && after)
+}
+
+#[test]
+fn what_is_undone_is_as_before(rt: HostRuntime) -> Result<(), Fail> {
+    let mut store = Store::new(rt.alloc(), 20);
+    let mut list = Vec::new(rt.alloc());
+    assert!(rt; all_come(&mut store, &mut list, rt.alloc(), &TOLD)?);
+    assert!(rt; goes_back(&mut store, &mut list, rt.alloc())?);
+    assert_eq!(rt; store.told().len(), 3);
+    for x in 0..3 {
+        assert_eq!(rt; store.value(VarId(x)), None);
     }
     Ok(())
 }
