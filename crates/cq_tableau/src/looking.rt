@@ -1,11 +1,14 @@
 //! A second look at restricted quantities, where columns were dropped: each is above zero somewhere, or zero everywhere.
 
-ghost use Rattle.std.specs.Prelude.{◌≡◌, ◌≤◌, ℕ, ◌<◌, length, true, IsTrue, IfOk, OnOk, MatchBool, MatchOption};
+ghost use Rattle.std.specs.Prelude.{◌≡◌, ◌≤◌, ℕ, ◌<◌, length, true, IsTrue, IfOk, IfSome, OnOk, MatchBool, MatchOption};
+ghost use Rattle.std.specs.Bool.{OnFalse};
+ghost use Rattle.spec_linear.specs.Solution.{Has};
 ghost use Rattle.cq_frac.specs.declared.Pair.{Pair};
 ghost use Rattle.cq_dict.specs.Roles.{AreOverColumns, IsRow, is_live, is_restricted};
 ghost use Rattle.cq_simplex.specs.declared.SimplexFault.TheVariants.{Overflow, Pivots};
 ghost use Rattle.spec_linear.specs.declared.Relation.TheVariants.{Gt};
 ghost use Rattle.cq_tableau.specs.Stored.{IsMemberOf};
+ghost use Rattle.cq_tableau.specs.Tight.{IsSlack, AreTight};
 ghost use Rattle.cq_tableau.specs.Looked.{SpeaksOfSome, LooksOn, Blocks, LeavesRoom, IsSeen, RefusesLook, SpendsLook, IsStrict, IsLooked};
 
 use crate::dropping::drop_all;
@@ -18,7 +21,7 @@ use cq_row::entry_at;
 use cq_simplex::{Aim, Max, SimplexFault};
 use cq_trail::Stack;
 use spec_linear::Relation;
-use std::alloc::Global;
+use std::alloc::{AllocError, Global};
 
 /// What is known of a restricted quantity.
 #[derive(Clone, Copy, Debug)]
@@ -61,6 +64,50 @@ fn blocking_row(dict: &Dict, c: Col) -> Option<usize>
         }
     }
     None
+}
+
+/// Whether the quantity is a restricted row without a constant above zero.
+fn is_tight(dict: &Dict, q: usize) -> bool
+    requires there { q < length dict.now.roles }
+    ensures { OnFalse result (IsSlack dict.now.roles dict.now.restricted q) }
+{
+    if !dict.is_row(q) {
+        return false;
+    }
+    if !dict.is_restricted(q) {
+        return false;
+    }
+    if dict.constant(q).is_positive() {
+        return false;
+    }
+    true
+}
+
+/// The rows that may hold a column to zero.
+fn tight_rows(alloc: Global, dict: &Dict) -> Result<Vec<usize>, AllocError>
+    ensures { IfOk result (λ rows. AreTight dict.now.roles dict.now.restricted (length dict.now.roles) rows.items) }
+{
+    let mut rows = Vec::new(alloc);
+    for q in 0..dict.count() {
+        if is_tight(dict, q) {
+            rows.push(q)?;
+        }
+    }
+    Ok(rows)
+}
+
+/// Whether one of the rows holds the column to zero.
+fn is_blocked(dict: &Dict, rows: &[usize], c: Col) -> bool
+    requires table { AreOverColumns dict.now.roles }
+    requires there { (q : ℕ) → Has q rows.now → q < length dict.now.roles }
+    ensures { OnFalse result ((q : ℕ) → Has q rows.now → LeavesRoom dict.now.roles dict.now.restricted c q) }
+{
+    for q in rows {
+        if blocks(dict, *q, c) {
+            return true;
+        }
+    }
+    false
 }
 
 /// Looks at a restricted row again: it is maximised, and where it stays zero the columns that hold it there are dropped.
@@ -115,6 +162,59 @@ fn look(dict: &mut Dict, alloc: Global, q: usize, pivots: u64) -> Result<Seen, S
     }
 }
 
+/// What is known of a restricted quantity as the roles stand, where these rows may hold columns to zero.
+fn seen_already(dict: &Dict, rows: &[usize], q: usize) -> Option<Seen>
+    requires table { AreOverColumns dict.now.roles }
+    requires there { q < length dict.now.roles }
+    requires tight { AreTight dict.now.roles dict.now.restricted (length dict.now.roles) rows.now }
+    ensures { IfSome result (λ s. IsSeen dict.now.roles dict.now.roles dict.now.restricted q s) }
+{
+    if dict.is_row(q) {
+        if dict.constant(q).is_positive() {
+            return Some(Seen::Rises);
+        }
+        return None;
+    }
+    if dict.is_dropped(q) {
+        return Some(Seen::Flat);
+    }
+    if is_blocked(dict, rows, q) {
+        return None;
+    }
+    Some(Seen::Rises)
+}
+
+/// Looks at a restricted quantity again, where these rows may hold columns to zero; they are found anew where something was exchanged.
+fn look_first(
+    dict: &mut Dict,
+    alloc: Global,
+    rows: &mut Vec<usize>,
+    q: usize,
+    pivots: u64,
+) -> Result<Seen, SimplexFault>
+    requires there { q < length dict.old.roles }
+    requires flag { is_restricted dict.old.restricted q ≡ true }
+    requires speaks { SpeaksOfSome dict.old.roles dict.old.restricted }
+    requires tight { AreTight dict.old.roles dict.old.restricted (length dict.old.roles) rows.old.items }
+    ensures looks { OnOk result (LooksOn dict.old.roles dict.new.roles dict.old.restricted) }
+    ensures seen { IfOk result (λ s. IsSeen dict.old.roles dict.new.roles dict.old.restricted q s) }
+    ensures tight { OnOk result (AreTight dict.new.roles dict.new.restricted (length dict.new.roles) rows.new.items) }
+    ensures flags { dict.new.restricted ≡ dict.old.restricted }
+    ensures saved { dict.new.saved ≡ dict.old.saved }
+    ensures room { dict.old.room ≤ dict.new.room }
+    ensures overflow { (pair : Pair) → result ≡ Err (Overflow pair) → RefusesLook dict.old.roles dict.old.restricted pair }
+    ensures pivots { (n : ℕ) → result ≡ Err (Pivots n) → (n ≡ pivots) × SpendsLook dict.old.roles dict.old.restricted n }
+{
+    // the count's contract is what tells that the roles are a table
+    prove!(q < dict.count());
+    if let Some(seen) = seen_already(dict, rows, q) {
+        return Ok(seen);
+    }
+    let seen = look(dict, alloc, q, pivots)?;
+    *rows = tight_rows(alloc, dict)?;
+    Ok(seen)
+}
+
 fn is_above(relation: Relation) -> bool
     ensures { MatchBool result (relation ≡ Gt) (relation ≡ Gt → ⊥) }
 {
@@ -151,9 +251,10 @@ pub fn look_again(
     ensures overflow { (pair : Pair) → result ≡ Err (Overflow pair) → RefusesLook dict.old.roles dict.old.restricted pair }
     ensures pivots { (n : ℕ) → result ≡ Err (Pivots n) → (n ≡ pivots) × SpendsLook dict.old.roles dict.old.restricted n }
 {
+    let mut rows = tight_rows(alloc, dict)?;
     for q in 0..dict.count() {
         if dict.is_restricted(q) {
-            match look(dict, alloc, q, pivots)? {
+            match look_first(dict, alloc, &mut rows, q, pivots)? {
                 Seen::Rises => {}
                 Seen::Flat => {
                     if is_strict(told, names, q) {
