@@ -187,10 +187,25 @@ static STEPS: [&[Step]; 20] = [
         Step::Keeps(Relation::Ge, &[(1, 1)], 0, 0),
         Step::Keeps(Relation::Ge, &[(-1, 0), (-1, 1)], 0, 2),
         Step::Keeps(Relation::Eq, &[(1, 0), (-1, 1)], 0, 0),
-        Step::Refuses(Relation::Gt, &[(1, 0), (1, 1)], 0, &[]),
-        Step::Refuses(Relation::Ne, &[(1, 0), (2, 1)], 0, &[]),
-        Step::Refuses(Relation::Eq, &[(1, 0), (2, 1)], -1, &[]),
-        Step::Refuses(Relation::Eq, &[(1, 0), (2, 1)], 1, &[]),
+        Step::Refuses(Relation::Gt, &[(1, 0), (1, 1)], 0, &[(5, 1), (3, 1)]),
+        Step::Refuses(
+            Relation::Ne,
+            &[(2, 0), (4, 1)],
+            0,
+            &[(5, 1), (3, 3), (4, 1), (5, -1), (2, 6), (4, 2)],
+        ),
+        Step::Refuses(
+            Relation::Eq,
+            &[(2, 0), (4, 1)],
+            -1,
+            &[(5, 1), (3, 3), (4, 1)],
+        ),
+        Step::Refuses(
+            Relation::Eq,
+            &[(2, 0), (4, 1)],
+            1,
+            &[(5, -1), (2, 6), (4, 2)],
+        ),
     ],
     // x0 + x1 =< 4 over columns that are not below zero
     &[
@@ -312,6 +327,18 @@ fn is_answered(answer: Result<bool, StoreFault>, wanted: bool) -> bool {
     }
 }
 
+/// Puts the constraint last in the list, and gives it once more.
+fn listed(
+    list: &mut Vec<Constraint>,
+    alloc: Global,
+    relation: Relation,
+    products: Products,
+    constant: i128,
+) -> Result<Constraint, Fail> {
+    list.push(constraint(alloc, relation, products, constant)?)?;
+    constraint(alloc, relation, products, constant)
+}
+
 /// Takes the step; the list has what was kept.
 fn comes_as_wanted(
     store: &mut Store,
@@ -323,17 +350,12 @@ fn comes_as_wanted(
 {
     match step {
         Step::Keeps(relation, form, constant, fixed) => {
-            list.push(constraint(alloc, *relation, *form, *constant)?)?;
-            Ok(keeps(
-                store,
-                constraint(alloc, *relation, *form, *constant)?,
-                *fixed,
-            ))
+            let c = listed(list, alloc, *relation, *form, *constant)?;
+            Ok(keeps(store, c, *fixed))
         }
         Step::Refuses(relation, form, constant, cert) => {
-            list.push(constraint(alloc, *relation, *form, *constant)?)?;
-            let c = constraint(alloc, *relation, *form, *constant)?;
-            let refused = refuses(store, alloc, c, list, *cert)?;
+            let c = listed(list, alloc, *relation, *form, *constant)?;
+            let refused = refuses(store, alloc, c, list.as_slice(), *cert)?;
             let _last = list.pop();
             Ok(refused)
         }

@@ -59,10 +59,10 @@ fn sum(alloc: Global, list: &[Constraint], run: &[Weight]) -> Result<Form, Fail>
 fn is_false(alloc: Global, list: &[Constraint], run: &[Weight]) -> Result<bool, Fail> {
     let total = sum(alloc, list, run)?;
     let number = total.constant();
-    let is_strict = run.iter().any(|weight| is_strict(list, *weight));
+    let has_strict = run.iter().any(|weight| is_strict(list, *weight));
     Ok(run.iter().all(|weight| is_allowed(list, *weight))
         && total.entries().is_empty()
-        && (number.is_negative() || is_strict && number.is_zero()))
+        && (number.is_negative() || has_strict && number.is_zero()))
 }
 
 /// Whether the run, behind a disequation's form that is taken to be above zero, or below it, is a number that is not above zero.
@@ -86,12 +86,12 @@ fn is_false_behind(
         && !total.constant().is_positive())
 }
 
-/// Where the second run begins: at the second entry of a member that the first entry names.
-fn second_run(weights: &[Weight]) -> usize
+/// Where the second run begins: behind the first entry, at the next one of this member.
+fn second_run(weights: &[Weight], number: usize) -> usize
     ensures { result ≤ length weights.now }
 {
     for (place, weight) in weights.iter().enumerate() {
-        if place > 0 && weight.0 == weights[0].0 {
+        if place > 0 && weight.0 == number {
             return place;
         }
     }
@@ -103,8 +103,13 @@ pub fn is_refuted(alloc: Global, list: &[Constraint], weights: &[Weight]) -> Res
     if is_false(alloc, list, weights)? {
         return Ok(true);
     }
-    let middle = second_run(weights);
-    let above = is_false_behind(alloc, list, &weights[..middle], true)?;
-    let below = is_false_behind(alloc, list, &weights[middle..], false)?;
-    Ok(above && below)
+    match weights.get(0) {
+        Some((number, _)) => {
+            let middle = second_run(weights, *number);
+            let above = is_false_behind(alloc, list, &weights[..middle], true)?;
+            let below = is_false_behind(alloc, list, &weights[middle..], false)?;
+            Ok(above && below)
+        }
+        None => Ok(false),
+    }
 }
