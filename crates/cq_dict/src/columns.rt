@@ -8,6 +8,7 @@ ghost use Rattle.cq_dict.specs.declared.table.Change.{Change};
 ghost use Rattle.cq_dict.specs.declared.table.Role.{Role};
 ghost use Rattle.cq_dict.specs.declared.table.Role.TheVariants.{Basic};
 ghost use Rattle.cq_dict.specs.Roles.{AreOverColumns};
+ghost use Rattle.cq_dict.specs.Holders.{AreRowsOf};
 ghost use Rattle.cq_dict.specs.Changes.{Changes, IsWritten, had, kind_of, IsTurnedRow, LacksOther, Turned, AreTurned, Turns};
 
 use crate::table::{Change, Role};
@@ -98,18 +99,21 @@ impl Turn {
         self,
         alloc: Global,
         roles: &[Role],
+        rows: &[usize],
         column: usize,
     ) -> Result<Vec<Change>, AllocError>
         requires table { AreOverColumns roles.now }
+        requires rows { AreRowsOf roles.now column rows.now }
         requires column { had self roles.now column ≡ true }
         ensures within { IfOk result (λ changes. (c : Change) → Changes c changes.items → c.at < length roles.now) }
         ensures turns { IfOk result (λ changes. (new : List Role) → IsWritten roles.now changes.items new → Turns self roles.now column new) }
     {
         let mut changes = Vec::new(alloc);
-        for (i, role) in roles.iter().enumerate() {
-            let next = self.next(alloc, i, role, column)?;
+        changes.push(Change { at: column, role: self.kind() })?;
+        for i in rows {
+            let next = self.next(alloc, *i, &roles[*i], column)?;
             if let Some(role) = next {
-                changes.push(Change { at: i, role })?;
+                changes.push(Change { at: *i, role })?;
             }
         }
         Ok(changes)

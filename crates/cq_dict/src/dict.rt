@@ -12,11 +12,13 @@ ghost use Rattle.cq_dict.specs.declared.table.Role.{Role};
 ghost use Rattle.cq_dict.specs.declared.table.Role.TheVariants.{Live, Dropped, Basic};
 ghost use Rattle.cq_dict.specs.Changes.{Changes, IsWritten};
 ghost use Rattle.cq_dict.specs.Roles.{IsAt, IsRow, AreOverColumns, is_live, is_dropped as has_dropped, is_restricted as flag_of, HasEntry, IsExchanged, IsEliminated, ChangesKind};
+ghost use Rattle.cq_dict.specs.Holders.{AreRowsOf};
 ghost use Rattle.cq_dict.specs.Dict.{SameMeaning, AddsRow, DefinesLast, RefusesPivot, RefusesForm, NoPivotPair, NoFormPair};
 
 use crate::columns::Turn;
 use crate::exchange::{eliminate, exchange};
 use crate::form::expressed;
+use crate::holders::{after_exchange, joined_by, put_lists};
 use crate::table::{Change, Role, write};
 use cq_frac::{Frac, Refusal};
 use cq_row::Entry;
@@ -39,11 +41,14 @@ pub struct Dict {
     roles: Trail<Role>,
     // apart from the roles, so that to restrict a row is not to write it
     restricted: Trail<bool>,
+    // for each column the rows with an entry in it, in ascending order
+    holders: Trail<Vec<usize>>,
 }
 
 impl Model for Dict {
     ghost use Rattle.std.specs.Prelude.{min};
     ghost use Rattle.cq_dict.specs.DictValue.{DictValue, AreMarked, saved_quantities};
+    ghost use Rattle.cq_dict.specs.Holders.{AreHeldAtMarks};
 
     ghost Value = { DictValue };
 
@@ -51,10 +56,12 @@ impl Model for Dict {
       roles = d.roles.now;
       restricted = d.restricted.now;
       saved = saved_quantities d.roles.saved d.restricted.saved;
-      room = min d.roles.room d.restricted.room;
+      room = min d.roles.room (min d.restricted.room d.holders.room);
     } };
 
-    ghost invariant = { λ d. AreMarked d.roles.now d.restricted.now d.roles.saved d.restricted.saved };
+    ghost invariant = { λ d.
+        AreMarked d.roles.now d.restricted.now d.roles.saved d.restricted.saved
+        × AreHeldAtMarks d.roles.now d.holders.now d.roles.saved d.holders.saved };
 }
 
 impl Dict {
@@ -70,6 +77,7 @@ impl Dict {
             alloc,
             roles: Trail::new(alloc),
             restricted: Trail::new(alloc),
+            holders: Trail::new(alloc),
         }
     }
 
@@ -157,6 +165,14 @@ impl Dict {
         self.basic(r).constant()
     }
 
+    /// The rows with an entry in the column, in ascending order, and maybe rows without one.
+    pub fn rows_with(&self, c: Col) -> &[usize]
+        requires { c < length self.now.roles }
+        ensures rows { AreRowsOf self.now.roles c result.now }
+    {
+        self.holders.get(c)
+    }
+
     /// Puts a role and its flag at the end.
     fn push(&mut self, role: Role, restricted: bool) -> Result<(), AllocError>
         requires { AreOverColumns (self.old.roles ++ role ∷ []) }
@@ -167,7 +183,9 @@ impl Dict {
         ensures err { OnErr result (quantities_of self.new ≡ quantities_of self.old) }
     {
         self.roles.reserve_places(1)?;
+        self.holders.reserve_places(1)?;
         self.restricted.push(restricted)?;
+        self.holders.push(Vec::new(self.alloc)).unwrap();
         self.roles.push(role).unwrap();
         Ok(())
     }
@@ -225,7 +243,10 @@ impl Dict {
     {
         let number = self.count();
         let row = expressed(self.alloc, self.roles(), form, constant)?;
+        let lists = joined_by(self.alloc, self.holders.as_slice(), &row, number)?;
+        self.holders.reserve_saves(lists.len())?;
         self.push(Role::Basic(row), restricted)?;
+        put_lists(&mut self.holders, lists);
         Ok(number)
     }
 
@@ -256,8 +277,12 @@ impl Dict {
         ensures room { self.old.room ≤ self.new.room }
         ensures err { OnErr result (self.new.roles ≡ self.old.roles) }
     {
-        let changes = exchange(self.alloc, self.roles(), r, c)?;
+        let rows = self.holders.get(c).as_slice();
+        let changes = exchange(self.alloc, self.roles(), rows, r, c)?;
+        let lists = after_exchange(self.alloc, self.holders.as_slice(), &changes, c)?;
+        self.holders.reserve_saves(lists.len())?;
         self.write(changes)?;
+        put_lists(&mut self.holders, lists);
         Ok(())
     }
 
@@ -276,8 +301,12 @@ impl Dict {
         ensures room { self.old.room ≤ self.new.room }
         ensures err { OnErr result (self.new.roles ≡ self.old.roles) }
     {
-        let changes = eliminate(self.alloc, self.roles(), r, c)?;
+        let rows = self.holders.get(c).as_slice();
+        let changes = eliminate(self.alloc, self.roles(), rows, r, c)?;
+        let lists = after_exchange(self.alloc, self.holders.as_slice(), &changes, c)?;
+        self.holders.reserve_saves(lists.len())?;
         self.write(changes)?;
+        put_lists(&mut self.holders, lists);
         Ok(())
     }
 
@@ -292,7 +321,7 @@ impl Dict {
         ensures room { self.old.room ≤ self.new.room }
         ensures err { OnErr result (self.new.roles ≡ self.old.roles) }
     {
-        let changes = Turn::Dropping.changes(self.alloc, self.roles(), c)?;
+        let changes = Turn::Dropping.changes(self.alloc, self.roles(), self.holders.get(c).as_slice(), c)?;
         self.write(changes)?;
         Ok(())
     }
@@ -308,7 +337,7 @@ impl Dict {
         ensures room { self.old.room ≤ self.new.room }
         ensures err { OnErr result (self.new.roles ≡ self.old.roles) }
     {
-        let changes = Turn::Restoring.changes(self.alloc, self.roles(), c)?;
+        let changes = Turn::Restoring.changes(self.alloc, self.roles(), self.holders.get(c).as_slice(), c)?;
         self.write(changes)?;
         Ok(())
     }
@@ -330,26 +359,30 @@ impl Undo for Dict {
         self.reserve(1)?;
         let m = self.roles.mark().unwrap();
         self.restricted.mark().unwrap();
+        self.holders.mark().unwrap();
         Ok(m)
     }
 
     fn undo(&mut self, m: Mark) {
         self.roles.undo(m);
         self.restricted.undo(m);
+        self.holders.undo(m);
     }
 
     fn forget(&mut self, m: Mark) {
         self.roles.forget(m);
         self.restricted.forget(m);
+        self.holders.forget(m);
     }
 
     fn reserve(&mut self, n: usize) -> Result<(), AllocError> {
         self.roles.reserve(n)?;
         self.restricted.reserve(n)?;
+        self.holders.reserve(n)?;
         Ok(())
     }
 
     fn spare(&self) -> usize {
-        self.roles.spare().min(self.restricted.spare())
+        self.roles.spare().min(self.restricted.spare()).min(self.holders.spare())
     }
 }

@@ -31,13 +31,7 @@ fn count_rows(dict: &Dict, c: Col) -> usize
     requires { AreOverColumns dict.now.roles }
     ensures { result ≡ rows_with c dict.now.roles }
 {
-    let mut rows = 0;
-    for q in 0..dict.count() {
-        if stands_in(dict, q, c) {
-            rows += 1;
-        }
-    }
-    rows
+    dict.rows_with(c).len()
 }
 
 /// The candidate that was found before, unless the next one stands in fewer rows.

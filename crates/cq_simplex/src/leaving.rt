@@ -60,7 +60,8 @@ pub fn leaving(dict: &Dict, column: Col) -> Result<Option<usize>, Pair>
     ensures overflow { (pair : Pair) → result ≡ Err pair → (asked : ℕ) → IsRefusedSome dict.now.roles dict.now.restricted asked column pair }
 {
     let mut first: Option<Limit> = None;
-    for row in 0..dict.count() {
+    for r in dict.rows_with(column) {
+        let row = *r;
         if let Some(ratio) = ratio_of(dict, row, column)? {
             first = Some(first_of(first, Limit { row, ratio }));
         }
