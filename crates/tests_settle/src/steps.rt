@@ -4,6 +4,7 @@ ghost use Rattle.std.specs.Prelude.{◌≡◌, ◌≤◌, ◌<◌, ◌∷◌, []
 ghost use Rattle.cq_atoms.specs.Texts.{AreDifferent};
 ghost use Rattle.cq_settle.specs.Called.{SomeIsCalled};
 ghost use Rattle.cq_settle.specs.Settled.{KeepsMarks};
+ghost use Rattle.cq_walk.specs.Pairs.{IsLive};
 ghost use Rattle.cq_world.specs.Rest.{IsReady};
 ghost use Rattle.cq_world.specs.Worlds.{now_of};
 ghost use Rattle.tests_settle.specs.Next.{IsNext};
@@ -14,11 +15,11 @@ use cq_attr::Susp;
 use cq_linear::store::StoreFault;
 use cq_rest::{
     constraints_may_be_told, equated_worlds_may_be_settled, goals_may_be_put_to_sleep,
-    kept_worlds_are_ready, look_at, look_at_told,
+    kept_worlds_are_ready, look_at, look_at_pairs, look_at_told,
 };
 use cq_settle::{Settled, Work, settle};
 use cq_term::{Heap, Newly, TermId, View};
-use cq_unify::unify;
+use cq_walk::Pair;
 use cq_world::World;
 use std::alloc::{AllocError, Global};
 
@@ -119,30 +120,25 @@ pub(crate) fn tell_one(
     tell(world, atoms, told, woken)
 }
 
-/// Whether the branch is kept where the terms are made equal. Where it isn't, the terms may have been made equal.
+/// Whether the branch is kept where the pairs are made equal. Where it isn't, some of them may have been made equal.
 pub(crate) fn equate(
     world: &mut World,
     atoms: &Atoms,
-    left: TermId,
-    right: TermId,
+    pairs: &[Pair],
     woken: &mut Vec<Atom>,
 ) -> Result<bool, StoreFault>
     requires different { AreDifferent atoms.now }
     requires ready { IsReady atoms.now (now_of world.old) }
-    requires left { left < length world.old.heap.now.terms }
-    requires right { right < length world.old.heap.now.terms }
+    requires live { All (IsLive world.old.heap.now.terms) pairs.now }
     ensures next { IfOk result (λ kept. IsTrue kept → IsNext atoms.now world.old world.new) }
     ensures marks { OnOk result (KeepsMarks world.old world.new) }
 {
-    look_at(&world.heap, left);
-    look_at(&world.heap, right);
-    kept_worlds_are_ready();
+    look_at_pairs(&world.heap, pairs);
     equated_worlds_may_be_settled();
-    let alloc = world.heap.alloc();
-    let mut newly = Newly::new(alloc);
-    if !unify(&mut world.heap, &mut newly, left, right)? {
+    let Some(newly) = cq_rest::equate(&mut world.heap, pairs)? else {
         return Ok(false);
-    }
+    };
+    let alloc = world.heap.alloc();
     let work = Work {
         newly,
         told: Vec::new(alloc),
@@ -209,7 +205,7 @@ pub(crate) fn take_step(
         Way::Telling => tell_one(world, atoms, step.term, woken),
         Way::Equating => {
             let (left, right) = arguments_of(&world.heap, step.term)?;
-            equate(world, atoms, left, right, woken)
+            equate(world, atoms, &[Pair { left, right }], woken)
         }
         Way::Sleeping => {
             let (variable, goal) = arguments_of(&world.heap, step.term)?;
