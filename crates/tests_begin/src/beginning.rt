@@ -1,8 +1,8 @@
 // What becomes of branches that are begun.
 
-use crate::worlds::{freeze, keep_clause, make_ready};
+use crate::worlds::{freeze, make_ready};
 use cq_atoms::Atoms;
-use cq_begin::{Begun, begin_clause, tell, unify};
+use cq_begin::{Begun, tell, unify};
 use cq_control::{Continuation, Continuations};
 use cq_walk::Pair;
 use spec_machine::Cell;
@@ -88,42 +88,6 @@ fn relations_have_no_solution(rt: HostRuntime) -> Result<(), Fail> {
     match tell(&mut s.world, &mut lists, &atoms, told, Continuation::done())? {
         Begun::Goes(_) => assert!(rt; false),
         Begun::Pruned => assert!(rt; s.world.store.told().is_empty()),
-    }
-    Ok(())
-}
-
-#[test]
-fn a_clause_begins_with_its_body(rt: HostRuntime) -> Result<(), Fail> {
-    let mut atoms = Atoms::new(rt.alloc());
-    let mut s = make_ready(rt.alloc(), &mut atoms)?;
-    let clause = keep_clause(&s.world.heap, &atoms, s.terms.head, s.terms.b)?;
-    let mut lists = Continuations::new(rt.alloc());
-    let goal = s.terms.goal;
-    let done = Continuation::done();
-    match begin_clause(&mut s.world, &mut lists, &atoms, &clause, goal, 2, done)? {
-        Begun::Goes(first) => match lists.first(first) {
-            Some((Cell::Goal(_, height), rest)) => {
-                assert_eq!(rt; height, 2);
-                assert_eq!(rt; rest, done);
-            }
-            _ => assert!(rt; false),
-        },
-        Begun::Pruned => assert!(rt; false),
-    }
-    Ok(())
-}
-
-#[test]
-fn a_head_is_not_the_goal(rt: HostRuntime) -> Result<(), Fail> {
-    let mut atoms = Atoms::new(rt.alloc());
-    let mut s = make_ready(rt.alloc(), &mut atoms)?;
-    let clause = keep_clause(&s.world.heap, &atoms, s.terms.head, s.terms.b)?;
-    let mut lists = Continuations::new(rt.alloc());
-    let goal = s.terms.a;
-    let done = Continuation::done();
-    match begin_clause(&mut s.world, &mut lists, &atoms, &clause, goal, 0, done)? {
-        Begun::Goes(_) => assert!(rt; false),
-        Begun::Pruned => {}
     }
     Ok(())
 }

@@ -1,9 +1,8 @@
 // A world in which nothing was told or bound, and the terms of the tests.
 
-ghost use Rattle.std.specs.Prelude.{◌≡◌, ◌<◌, ◌++◌, [], ◌∷◌, length, IfOk, OnOk};
+ghost use Rattle.std.specs.Prelude.{◌≡◌, ◌≤◌, ◌<◌, ◌++◌, [], ◌∷◌, length, IfOk, OnOk};
 ghost use Rattle.spec_terms.specs.Term.{Var};
 ghost use Rattle.cq_atoms.specs.Texts.{AreDifferent};
-ghost use Rattle.cq_program.specs.Database.{IsCounted};
 ghost use Rattle.cq_term.specs.Trees.{KnowsTerms};
 ghost use Rattle.cq_world.specs.Rest.{IsReady};
 ghost use Rattle.cq_world.specs.Worlds.{now_of};
@@ -11,21 +10,17 @@ ghost use Rattle.cq_world.specs.Worlds.{now_of};
 use cq_atoms::Atoms;
 use cq_attr::Susp;
 use cq_built::{atom, compound, whole};
-use cq_program::clauses_are_counted;
 use cq_rest::{goals_may_be_put_to_sleep, look_at, new_worlds_are_ready};
-use cq_stored::Clause;
 use cq_term::{Heap, TermId, View};
 use cq_world::World;
 use std::alloc::{AllocError, Global};
 
-/// A variable X, two atoms, `p(X)`, `p` of the first atom, `X=3` and `X<0`.
+/// A variable X, two atoms, `X=3` and `X<0`.
 #[derive(Clone, Copy)]
 pub struct Terms {
     pub x: TermId,
     pub a: TermId,
     pub b: TermId,
-    pub goal: TermId,
-    pub head: TermId,
     pub three: TermId,
     pub below: TermId,
 }
@@ -37,60 +32,141 @@ pub struct Ready {
     pub terms: Terms,
 }
 
-fn build_terms(heap: &mut Heap, atoms: &mut Atoms) -> Result<Terms, AllocError>
-    requires { KnowsTerms atoms.old heap.old.now.terms }
+// Each of these makes a term, and keeps what stood on the heap.
+
+fn name(heap: &mut Heap, atoms: &mut Atoms, text: &str) -> Result<TermId, AllocError>
+    requires names { KnowsTerms atoms.old heap.old.now.terms }
+    ensures live { IfOk result (λ id. id < length heap.new.now.terms) }
+    ensures more { length heap.old.now.terms ≤ length heap.new.now.terms }
+    ensures images { heap.new.now.images ≡ heap.old.now.images }
+    ensures saved { heap.new.saved ≡ heap.old.saved }
+    ensures names { KnowsTerms atoms.new heap.new.now.terms }
+{
+    atom(heap, atoms, text)
+}
+
+fn relation(
+    heap: &mut Heap,
+    atoms: &mut Atoms,
+    text: &str,
+    left: TermId,
+    right: TermId,
+) -> Result<TermId, AllocError>
+    requires names { KnowsTerms atoms.old heap.old.now.terms }
+    requires left { left < length heap.old.now.terms }
+    requires right { right < length heap.old.now.terms }
+    ensures live { IfOk result (λ id. id < length heap.new.now.terms) }
+    ensures more { length heap.old.now.terms ≤ length heap.new.now.terms }
+    ensures images { heap.new.now.images ≡ heap.old.now.images }
+    ensures saved { heap.new.saved ≡ heap.old.saved }
+    ensures names { KnowsTerms atoms.new heap.new.now.terms }
+{
+    compound(heap, atoms, text, &[left, right])
+}
+
+fn number(heap: &mut Heap, atoms: &Atoms, value: usize) -> Result<TermId, AllocError>
+    requires names { KnowsTerms atoms.now heap.old.now.terms }
+    ensures live { IfOk result (λ id. id < length heap.new.now.terms) }
+    ensures more { length heap.old.now.terms ≤ length heap.new.now.terms }
+    ensures images { heap.new.now.images ≡ heap.old.now.images }
+    ensures saved { heap.new.saved ≡ heap.old.saved }
+    ensures names { KnowsTerms atoms.now heap.new.now.terms }
+{
+    whole(heap, atoms, value)
+}
+
+fn told(
+    heap: &mut Heap,
+    atoms: &mut Atoms,
+    x: TermId,
+    text: &str,
+    value: usize,
+) -> Result<TermId, AllocError>
+    requires names { KnowsTerms atoms.old heap.old.now.terms }
+    requires x { x < length heap.old.now.terms }
+    ensures live { IfOk result (λ id. id < length heap.new.now.terms) }
+    ensures more { length heap.old.now.terms ≤ length heap.new.now.terms }
+    ensures images { heap.new.now.images ≡ heap.old.now.images }
+    ensures saved { heap.new.saved ≡ heap.old.saved }
+    ensures names { KnowsTerms atoms.new heap.new.now.terms }
+{
+    let right = number(heap, atoms, value)?;
+    relation(heap, atoms, text, x, right)
+}
+
+/// Two different names.
+#[derive(Clone, Copy)]
+struct Names {
+    a: TermId,
+    b: TermId,
+}
+
+fn names_of(heap: &mut Heap, atoms: &mut Atoms) -> Result<Names, AllocError>
+    requires names { KnowsTerms atoms.old heap.old.now.terms }
+    ensures a { IfOk result (λ n. n.a < length heap.new.now.terms) }
+    ensures b { IfOk result (λ n. n.b < length heap.new.now.terms) }
+    ensures more { OnOk result (length heap.old.now.terms ≤ length heap.new.now.terms) }
+    ensures images { OnOk result (heap.new.now.images ≡ heap.old.now.images) }
+    ensures names { OnOk result (KnowsTerms atoms.new heap.new.now.terms) }
+{
+    let a = name(heap, atoms, "a")?;
+    let b = name(heap, atoms, "b")?;
+    Ok(Names { a, b })
+}
+
+fn terms_of(heap: &mut Heap, atoms: &mut Atoms, x: TermId) -> Result<Terms, AllocError>
+    requires names { KnowsTerms atoms.old heap.old.now.terms }
+    requires x { x < length heap.old.now.terms }
     ensures x { IfOk result (λ t. t.x < length heap.new.now.terms) }
     ensures a { IfOk result (λ t. t.a < length heap.new.now.terms) }
     ensures b { IfOk result (λ t. t.b < length heap.new.now.terms) }
-    ensures goal { IfOk result (λ t. t.goal < length heap.new.now.terms) }
-    ensures head { IfOk result (λ t. t.head < length heap.new.now.terms) }
     ensures three { IfOk result (λ t. t.three < length heap.new.now.terms) }
     ensures below { IfOk result (λ t. t.below < length heap.new.now.terms) }
-    ensures images { OnOk result (heap.new.now.images ≡ heap.old.now.images ++ Var (length heap.old.now.images) ∷ []) }
+    ensures images { OnOk result (heap.new.now.images ≡ heap.old.now.images) }
     ensures names { OnOk result (KnowsTerms atoms.new heap.new.now.terms) }
-    ensures saved { heap.new.saved ≡ heap.old.saved }
 {
-    let x = new_variable(heap, atoms)?;
-    let a = atom(heap, atoms, "a")?;
-    let b = atom(heap, atoms, "b")?;
-    let goal = compound(heap, atoms, "p", &[x])?;
-    let head = compound(heap, atoms, "p", &[a])?;
-    let number = whole(heap, atoms, 3)?;
-    let three = compound(heap, atoms, "=", &[x, number])?;
-    let zero = whole(heap, atoms, 0)?;
-    let below = compound(heap, atoms, "<", &[x, zero])?;
+    let Names { a, b } = names_of(heap, atoms)?;
+    let three = told(heap, atoms, x, "=", 3)?;
+    let below = told(heap, atoms, x, "<", 0)?;
     Ok(Terms {
         x,
         a,
         b,
-        goal,
-        head,
         three,
         below,
     })
 }
 
 fn new_variable(heap: &mut Heap, atoms: &Atoms) -> Result<TermId, AllocError>
-    requires { KnowsTerms atoms.now heap.old.now.terms }
+    requires names { KnowsTerms atoms.now heap.old.now.terms }
     ensures live { IfOk result (λ id. id < length heap.new.now.terms) }
     ensures images { OnOk result (heap.new.now.images ≡ heap.old.now.images ++ Var (length heap.old.now.images) ∷ []) }
     ensures names { OnOk result (KnowsTerms atoms.now heap.new.now.terms) }
-    ensures saved { heap.new.saved ≡ heap.old.saved }
 {
-    let x = heap.new_var()?;
-    Ok(x)
+    heap.new_var()
+}
+
+fn build_terms(heap: &mut Heap, atoms: &mut Atoms) -> Result<Terms, AllocError>
+    requires { KnowsTerms atoms.old heap.old.now.terms }
+    ensures x { IfOk result (λ t. t.x < length heap.new.now.terms) }
+    ensures a { IfOk result (λ t. t.a < length heap.new.now.terms) }
+    ensures b { IfOk result (λ t. t.b < length heap.new.now.terms) }
+    ensures three { IfOk result (λ t. t.three < length heap.new.now.terms) }
+    ensures below { IfOk result (λ t. t.below < length heap.new.now.terms) }
+    ensures images { OnOk result (heap.new.now.images ≡ heap.old.now.images ++ Var (length heap.old.now.images) ∷ []) }
+    ensures names { OnOk result (KnowsTerms atoms.new heap.new.now.terms) }
+{
+    let x = new_variable(heap, atoms)?;
+    terms_of(heap, atoms, x)
 }
 
 /// The world of the tests.
 pub fn make_ready(alloc: Global, atoms: &mut Atoms) -> Result<Ready, AllocError>
     ensures ready { IfOk result (λ r. IsReady atoms.new (now_of r.world)) }
-    ensures names { IfOk result (λ r. KnowsTerms atoms.new r.world.heap.now.terms) }
     ensures different { OnOk result (AreDifferent atoms.new) }
     ensures x { IfOk result (λ r. r.terms.x < length r.world.heap.now.terms) }
     ensures a { IfOk result (λ r. r.terms.a < length r.world.heap.now.terms) }
     ensures b { IfOk result (λ r. r.terms.b < length r.world.heap.now.terms) }
-    ensures goal { IfOk result (λ r. r.terms.goal < length r.world.heap.now.terms) }
-    ensures head { IfOk result (λ r. r.terms.head < length r.world.heap.now.terms) }
     ensures three { IfOk result (λ r. r.terms.three < length r.world.heap.now.terms) }
     ensures below { IfOk result (λ r. r.terms.below < length r.world.heap.now.terms) }
 {
@@ -136,21 +212,4 @@ pub fn freeze(
     };
     world.attrs.suspend(&[x], Susp::Goal(x, goal))?;
     Ok(())
-}
-
-/// A clause of a head and a body.
-pub fn keep_clause(
-    heap: &Heap,
-    atoms: &Atoms,
-    head: TermId,
-    body: TermId,
-) -> Result<Clause, AllocError>
-    requires head { head < length heap.now.now.terms }
-    requires body { body < length heap.now.now.terms }
-    requires names { KnowsTerms atoms.now heap.now.now.terms }
-    ensures { IfOk result (IsCounted (length atoms.now)) }
-{
-    clauses_are_counted();
-    let clause = Clause::of(heap, head, body)?;
-    Ok(clause)
 }

@@ -3,7 +3,7 @@
 use crate::searching::{items, two_choices};
 use cq_atoms::Atoms;
 use cq_control::Continuation;
-use cq_steps::{and, call, cut, if_then, not, once, or};
+use cq_steps::{and, if_then, not, or};
 use std::test::Fail;
 
 #[test]
@@ -37,68 +37,6 @@ fn a_condition_is_cut_before_its_goal(rt: HostRuntime) -> Result<(), Fail> {
 }
 
 #[test]
-fn once_is_cut_before_true(rt: HostRuntime) -> Result<(), Fail> {
-    let mut atoms = Atoms::new(rt.alloc());
-    let mut s = two_choices(rt.alloc(), &mut atoms)?;
-    let t = s.terms;
-    let lists = &mut s.world.second;
-    let k = once(
-        &s.world.first,
-        lists,
-        &s.choices,
-        t.a,
-        t.b,
-        0,
-        Continuation::done(),
-    )?;
-    assert_eq!(rt; items(rt.alloc(), lists, k, &t)?.as_str(), "a2!2b0");
-    Ok(())
-}
-
-#[test]
-fn a_called_goal_sees_no_choice(rt: HostRuntime) -> Result<(), Fail> {
-    let mut atoms = Atoms::new(rt.alloc());
-    let mut s = two_choices(rt.alloc(), &mut atoms)?;
-    let t = s.terms;
-    let lists = &mut s.world.second;
-    match call(
-        &s.world.first,
-        lists,
-        &s.choices,
-        &atoms,
-        t.a,
-        Continuation::done(),
-    ) {
-        Ok(k) => {
-            assert_eq!(rt; items(rt.alloc(), lists, k, &t)?.as_str(), "a2");
-        }
-        Err(_) => {
-            assert!(rt; false);
-        }
-    }
-    Ok(())
-}
-
-#[test]
-fn a_disjunction_leaves_a_choice(rt: HostRuntime) -> Result<(), Fail> {
-    let mut atoms = Atoms::new(rt.alloc());
-    let mut s = two_choices(rt.alloc(), &mut atoms)?;
-    let t = s.terms;
-    let k = or(
-        &mut s.world,
-        &mut s.choices,
-        &atoms,
-        t.a,
-        t.c,
-        1,
-        Continuation::done(),
-    )?;
-    assert_eq!(rt; items(rt.alloc(), &s.world.second, k, &t)?.as_str(), "a1");
-    assert_eq!(rt; s.choices.height(), 3);
-    Ok(())
-}
-
-#[test]
 fn a_condition_is_cut_before_the_right_side(rt: HostRuntime) -> Result<(), Fail> {
     let mut atoms = Atoms::new(rt.alloc());
     let mut s = two_choices(rt.alloc(), &mut atoms)?;
@@ -127,7 +65,6 @@ fn a_negation_comes_back_after_its_goal(rt: HostRuntime) -> Result<(), Fail> {
     let t = s.terms;
     let k = not(&mut s.world, &mut s.choices, t.a, Continuation::done())?;
     assert_eq!(rt; items(rt.alloc(), &s.world.second, k, &t)?.as_str(), "a3-2");
-    cut(&mut s.world, &mut s.choices, 1);
-    assert_eq!(rt; s.choices.height(), 1);
+    assert_eq!(rt; s.choices.height(), 3);
     Ok(())
 }
