@@ -1,0 +1,5 @@
+use Rattle.spec_projection.specs.Strict.{Strengthened}
+use Rattle.cq_rows.proofs.strengthened.Given as goal
+
+abbrev pub invariant-rows : goal.invariant-rows
+invariant-rows l = Strengthened l.disequations l.yielded l.strict.items
