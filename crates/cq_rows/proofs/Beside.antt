@@ -12,6 +12,7 @@ use Rattle.spec_limits.specs.Overflow.{Moment, OverflowDue}
 use Rattle.cq_frac.specs.declared.Pair.{Pair}
 use Rattle.cq_fourier.specs.Steps.{AreRowsOf}
 use Rattle.cq_fourier.proofs.Crossing.{division_due}
+use Rattle.cq_fourier.proofs.Lists.{has_at}
 use Rattle.cq_rows.specs.Scaling.{canonical, canonical_of, ScalesForm, ScalesIn, AreDisequations, IsRelationBeside}
 use Rattle.cq_rows.proofs.Canonical.{multiples_scaled, scaled_multiples}
 
@@ -29,6 +30,18 @@ module _ (rows : List Constraint) (i : ℕ) (row : Constraint) (within : i < len
   pub scaled_more : (forms : List Linear) → forms ≡ map canonical_of (take i rows) → (forms ++ canonical row.form ∷ []) ≡ map canonical_of (take (i + 1) rows)
   scaled_more forms e =
       ap (λ w. w ++ canonical row.form ∷ []) e ∙ sym (map-append canonical_of (take i rows) (row ∷ [])) ∙ ap (map canonical_of) (sym one_more)
+
+-- ---- members
+module _ {A : Type 0} (l : List A) (i : ℕ) (y : A) (within : i < length l) (at : y ≡ get_or l i y) where
+  pub none_more : (x : A) → (Has x (take i l) → ⊥) → (x ≡ y → ⊥) → Has x (take (i + 1) l) → ⊥
+  none_more x n d h =
+      elim (has_either x (take i l) (y ∷ []) (subst (Has x) (take_more l i y within ∙ ap (λ z. take i l ++ z ∷ []) (sym at)) h)) [
+        | inl a ↦ n a
+        | inr a ↦ elim a [ inl e ↦ d e | inr k ↦ absurd k ]
+      ]
+
+  pub found_at : (x : A) → x ≡ y → Has x l
+  found_at x e = subst (λ z. Has z l) (sym e) (has_at l i y within at)
 
 -- ---- what is refused
 pub scales_due : (m : Moment) (l : List Constraint) (row : Constraint) (pair : Pair) → AreRowsOf m l → Has row l → ScalesForm row.form pair → OverflowDue m pair

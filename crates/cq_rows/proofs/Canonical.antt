@@ -13,14 +13,14 @@ use Rattle.spec_projection.proofs.Arranged.{multiples_back, multiples_both}
 use Rattle.cq_rows.specs.Scaling.{leading_of, leading, canonical}
 
 -- a number, or 1 for it where it is zero
-unless_zero : (q : ℚ) → q ≢ 0ℚ → cond (is_zero q) 1ℚ q ≡ q
+pub unless_zero : (q : ℚ) → q ≢ 0ℚ → cond (is_zero q) 1ℚ q ≡ q
 unless_zero q n = go (is_zero q) refl
   where
     go : (b : Bool) → is_zero q ≡ b → cond b 1ℚ q ≡ q
     go true e = absurd (n (is_zero-true q e))
     go false e = refl
 
-leading_stands : (q : ℚ) (s : List Monomial) → IsSumFrom 0 s → leading_of s q ≢ 0ℚ
+pub leading_stands : (q : ℚ) (s : List Monomial) → IsSumFrom 0 s → leading_of s q ≢ 0ℚ
 leading_stands q [] i = go (is_zero q) refl
   where
     zero_is : is_zero 0ℚ ≡ true

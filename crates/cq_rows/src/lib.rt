@@ -1,7 +1,9 @@
 //! Rows of an answer: scaled, and beside disequations of their forms made strict.
 #![tactic(auto)]
 
-ghost use Rattle.std.specs.Prelude.{◌≡◌, ◌++◌, map, IfOk, OnOk, MatchBool};
+ghost use Rattle.std.specs.Prelude.{◌≡◌, ◌≢◌, ◌++◌, map, IfOk, OnOk, MatchBool};
+ghost use Rattle.spec_rational.specs.Rational.{0ℚ, 1ℚ};
+ghost use Rattle.spec_linear.specs.declared.Relation.TheVariants.{Ge};
 ghost use Rattle.spec_linear.specs.Form.{IsForm};
 ghost use Rattle.spec_linear.specs.Solution.{Has};
 ghost use Rattle.spec_projection.specs.Lists.{AreForms};
@@ -18,6 +20,13 @@ use cq_row::Entry;
 use spec_linear::Relation;
 use std::alloc::Global;
 
+/// Whether the two are one entry.
+fn are_equal(a: Entry, b: Entry) -> bool
+    ensures { MatchBool result (a ≡ b) (a ≡ b → ⊥) }
+{
+    a.quantity == b.quantity && a.factor == b.factor
+}
+
 /// Whether the two have the same entries.
 fn have_same_entries(a: &[Entry], b: &[Entry]) -> bool
     ensures { MatchBool result (a.now ≡ b.now) (a.now ≡ b.now → ⊥) }
@@ -26,8 +35,7 @@ fn have_same_entries(a: &[Entry], b: &[Entry]) -> bool
         return false;
     }
     'entries: for (i, &entry) in a.iter().enumerate() {
-        let other = b[i];
-        if entry.quantity != other.quantity || entry.factor != other.factor {
+        if !are_equal(entry, b[i]) {
             return false;
         }
     }
@@ -38,7 +46,23 @@ fn have_same_entries(a: &[Entry], b: &[Entry]) -> bool
 fn are_one(f: &Form, g: &Form) -> bool
     ensures { MatchBool result (f.now ≡ g.now) (f.now ≡ g.now → ⊥) }
 {
-    f.constant() == g.constant() && have_same_entries(f.entries(), g.entries())
+    if f.constant() == g.constant() {
+        have_same_entries(f.entries(), g.entries())
+    } else {
+        false
+    }
+}
+
+/// 1, unless the number is zero.
+fn unit_of(number: Frac) -> Frac
+    ensures zero { number ≡ 0ℚ → result ≡ 0ℚ }
+    ensures unit { number ≢ 0ℚ → result ≡ 1ℚ }
+{
+    if number.is_zero() {
+        Frac::zero()
+    } else {
+        Frac::one()
+    }
 }
 
 /// The form by its first coefficient; 1 for a number, unless that is zero. Two forms are multiples of each other just
@@ -49,15 +73,10 @@ pub fn scaled(alloc: Global, form: &Form) -> Result<Form, Refusal>
     ensures overflow { (pair : Pair) → result ≡ Err (Refusal.Overflow pair) → ScalesForm form.now pair }
 {
     let _entries = form.entries();
-    let Some((_, first)) = form.lead() else {
-        let number = if form.constant().is_zero() {
-            Frac::zero()
-        } else {
-            Frac::one()
-        };
-        return Ok(Form::new(alloc, number, &[])?);
-    };
-    divided(alloc, form, first)
+    match form.lead() {
+        None => Ok(Form::new(alloc, unit_of(form.constant()), &[])?),
+        Some((_, first)) => divided(alloc, form, first),
+    }
 }
 
 /// The forms of the rows, each scaled.
@@ -86,6 +105,16 @@ fn is_among(form: &Form, forms: &[Form]) -> bool
     false
 }
 
+/// Whether the relation is that of a weak inequality.
+fn is_weak(relation: Relation) -> bool
+    ensures { MatchBool result (relation ≡ Ge) (relation ≡ Ge → ⊥) }
+{
+    match relation {
+        Relation::Ge => true,
+        _ => false,
+    }
+}
+
 /// The relation that the row has beside disequations of these scaled forms: a weak one is strict where its form is one of
 /// theirs.
 fn relation_beside(alloc: Global, row: &Constraint, forms: &[Form]) -> Result<Relation, Refusal>
@@ -94,7 +123,7 @@ fn relation_beside(alloc: Global, row: &Constraint, forms: &[Form]) -> Result<Re
     ensures overflow { (pair : Pair) → result ≡ Err (Refusal.Overflow pair) → ScalesForm row.now.form pair }
 {
     let _entries = row.form.entries();
-    if row.relation != Relation::Ge || forms.is_empty() {
+    if forms.is_empty() || !is_weak(row.relation) {
         return Ok(row.relation);
     }
     let own = scaled(alloc, &row.form)?;
