@@ -6,7 +6,7 @@ use Rattle.spec_rational.proofs.Ring.{var, int, ◌⊕◌, ◌⊗◌}
 use Rattle.spec_rational.proofs.Rational.{ring}
 use Rattle.spec_rational.proofs.Sign.{zero_or_not, one_not_zero, product_zero, times_inverse, inverse_not_zero}
 use Rattle.spec_linear.specs.Form.{Linear, value_at, IsSumFrom, IsForm, is_zero, without_zeros, scaled_form}
-use Rattle.spec_linear.proofs.Values.{value_at-scaled_form, is_zero-true}
+use Rattle.spec_linear.proofs.Values.{value_at-scaled_form, is_zero-true, is_zero-of}
 use Rattle.spec_linear.proofs.Ordered.{forms_same, IsForm-scaled_form}
 use Rattle.spec_projection.specs.Strict.{AreMultiples}
 use Rattle.spec_projection.proofs.Arranged.{multiples_back, multiples_both}
@@ -24,7 +24,7 @@ pub leading_stands : (q : ℚ) (s : List Monomial) → IsSumFrom 0 s → leading
 leading_stands q [] i = go (is_zero q) refl
   where
     zero_is : is_zero 0ℚ ≡ true
-    zero_is = refl
+    zero_is = is_zero-of 0ℚ refl
 
     go : (b : Bool) → is_zero q ≡ b → cond b 1ℚ q ≢ 0ℚ
     go true e = one_not_zero

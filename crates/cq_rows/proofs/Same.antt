@@ -1,7 +1,6 @@
 -- Entries, and forms by their constants and entries, that are the same.
-use Rattle.std.proofs.Common.{◌≡◌, ◌+◌, ◌<◌, ℕ, List, [], ◌∷◌, ◌++◌, Bool, true, false, length, take, get_or, refl, ap, ap₂, sym, ◌∙◌}
+use Rattle.std.proofs.Common.{◌≡◌, ℕ, List, [], ◌∷◌, Bool, true, false, refl, ap, ap₂, sym, ◌∙◌}
 use Rattle.std.specs.Prelude.{MatchBool}
-use Rattle.std.proofs.lemmas.List.{take_more, get_or_default}
 use Rattle.spec_rational.specs.Rational.{ℚ}
 use Rattle.spec_linear.specs.Form.{Linear}
 use Rattle.spec_linear.proofs.Ordered.{form_same}
@@ -10,14 +9,6 @@ use Rattle.cq_form.specs.Entries.{product_of, products_of}
 
 entry_same : (m n : Entry) → m.quantity ≡ n.quantity → m.factor ≡ n.factor → m ≡ n
 entry_same m n e f = ap₂ (λ (x : ℕ) (q : ℚ). let p : Entry = record { quantity = x; factor = q } in p) e f
-
--- one more of two lists
-module _ {A : Type 0} (a b : List A) (i : ℕ) (x y : A) (in_a : i < length a) (in_b : i < length b) (at_a : x ≡ get_or a i x) (at_b : y ≡ get_or b i y) where
-  pub same_more : take i a ≡ take i b → x ≡ y → take (i + 1) a ≡ take (i + 1) b
-  same_more e same = take_more a i x in_a ∙ ap₂ (λ s z. s ++ z ∷ []) e (sym at_a ∙ same ∙ at_b) ∙ sym (take_more b i y in_b)
-
-  pub same_at : a ≡ b → x ≡ y
-  same_at e = at_a ∙ ap (λ s. get_or s i x) e ∙ get_or_default b i x y in_b ∙ sym at_b
 
 entries_same : (s t : List Entry) → products_of s ≡ products_of t → s ≡ t
 entries_same [] [] e = refl

@@ -75,7 +75,7 @@ pub fn scaled(alloc: Global, form: &Form) -> Result<Form, Refusal>
     let _entries = form.entries();
     match form.lead() {
         None => Ok(Form::new(alloc, unit_of(form.constant()), &[])?),
-        Some((_, first)) => divided(alloc, form, first),
+        Some(lead) => divided(alloc, form, lead.1),
     }
 }
 
@@ -138,21 +138,19 @@ fn relation_beside(alloc: Global, row: &Constraint, forms: &[Form]) -> Result<Re
 pub fn strengthened(
     alloc: Global,
     disequations: &[Constraint],
-    rows: Vec<Constraint>,
+    rows: &[Constraint],
 ) -> Result<Vec<Constraint>, Refusal>
     requires disequations { AreDisequations disequations.now }
-    ensures strict { IfOk result (λ strict. Strengthened disequations.now rows.items strict.items) }
-    ensures overflow { (pair : Pair) (m : Moment) → AreRowsOf m (disequations.now ++ rows.items)
+    ensures strict { IfOk result (λ strict. Strengthened disequations.now rows.now strict.items) }
+    ensures overflow { (pair : Pair) (m : Moment) → AreRowsOf m (disequations.now ++ rows.now)
         → result ≡ Err (Refusal.Overflow pair) → OverflowDue m pair }
 {
     let forms = scaled_forms(alloc, disequations)?;
     let mut strict = Vec::new(alloc);
     'rows: for row in rows {
-        let relation = relation_beside(alloc, &row, &forms)?;
-        strict.push(Constraint {
-            relation,
-            form: row.form,
-        })?;
+        let relation = relation_beside(alloc, row, &forms)?;
+        let form = row.form.clone()?;
+        strict.push(Constraint { relation, form })?;
     }
     Ok(strict)
 }
