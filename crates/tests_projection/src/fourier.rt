@@ -1,61 +1,12 @@
 // Eliminations worked by hand.
-use cq_form::{Constraint, Form};
+use crate::given::{Given, are_given, rows};
 use cq_fourier::eliminated;
 use cq_fourier::next::{Elimination, next_of};
-use cq_frac::{Frac, Operation, Refusal, VarId};
+use cq_frac::{Operation, Refusal, VarId};
 use spec_linear::Relation;
-use std::alloc::{AllocError, Global};
 use std::test::Fail;
 
 const M: i128 = 170141183460469231731687303715884105727;
-
-// A relation, variables with numerator and denominator of their coefficients, and those of the constant.
-type Given<'a> = (Relation, &'a [(usize, i128, i128)], i128, i128);
-
-fn number(n: i128, d: i128) -> Frac {
-    Frac::new(n, d).unwrap_or(Frac::zero())
-}
-
-fn variable(alloc: Global, x: usize) -> Result<Form, AllocError> {
-    Form::new(alloc, Frac::zero(), &[(VarId(x), Frac::one())])
-}
-
-fn row(alloc: Global, given: &Given) -> Result<Constraint, Refusal> {
-    let mut form = Form::new(alloc, number(given.2, given.3), &[])?;
-    for (x, n, d) in given.1 {
-        form = form.add(&variable(alloc, *x)?.scale(number(*n, *d))?)?;
-    }
-    Ok(Constraint {
-        relation: given.0,
-        form,
-    })
-}
-
-fn rows(alloc: Global, given: &[Given]) -> Result<Vec<Constraint>, Refusal> {
-    let mut rows = Vec::new(alloc);
-    for one in given {
-        rows.push(row(alloc, one)?)?;
-    }
-    Ok(rows)
-}
-
-fn is_given(row: &Constraint, given: &Given) -> bool {
-    let mut same = row.relation == given.0
-        && row.form.entries().len() == given.1.len()
-        && row.form.constant().parts() == (given.2, given.3);
-    for (entry, want) in row.form.entries().iter().zip(given.1) {
-        same = same && entry.quantity == want.0 && entry.factor.parts() == (want.1, want.2);
-    }
-    same
-}
-
-fn are_given(rows: &[Constraint], given: &[Given]) -> bool {
-    let mut same = rows.len() == given.len();
-    for (row, want) in rows.iter().zip(given) {
-        same = same && is_given(row, want);
-    }
-    same
-}
 
 fn is_refused(
     fault: Option<Refusal>,

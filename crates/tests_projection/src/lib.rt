@@ -3,3 +3,7 @@
 
 #[cfg(test)]
 mod fourier;
+#[cfg(test)]
+mod given;
+#[cfg(test)]
+mod sift;

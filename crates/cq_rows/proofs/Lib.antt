@@ -1,0 +1,4 @@
+pub mod Canonical
+pub mod Leading
+pub mod Same
+pub mod Beside
