@@ -33,7 +33,8 @@ use Rattle.cq_steps.specs.Worlds.{IsBranch, term_in}
 use Rattle.cq_begin.specs.declared.beginning.Begun.{Begun}
 use Rattle.cq_begin.specs.declared.beginning.Begun.TheVariants.{Goes, Pruned}
 use Rattle.cq_begin.specs.Begun.{calls, IfGoes, IfPruned, HasWoken, IsPlacedAs, IsBegun, OfWork, GoesOn, Prunes}
-use Rattle.cq_begin.proofs.Reading.{read_live, read_tree, tree_read}
+use Rattle.cq_steps.proofs.Added.{tree_is}
+use Rattle.cq_begin.proofs.Reading.{read_live, tree_read}
 use Rattle.cq_begin.proofs.Woken.{woken_calls, calls_fit, calls_are}
 
 -- ---- the values that are fixed
@@ -80,7 +81,7 @@ module _ (texts : List Text) (choices : Stack Contents) (c : Contents) (h : Term
       let l = read_live texts c.heap.terms id (read st t) e in
       let mid : id < length h.terms = omega (arith, l, shorter) in
       let live : id < length d.heap.terms = omega (arith, mid, w.kept.live) in
-      tree_read texts d.heap.terms id (read su t) live (w.kept.reads id t mid (call.reads id t l (read_tree texts c.heap.terms id (read st t) e)))
+      tree_read texts d.heap.terms id (read su t) live (w.kept.reads id t mid (call.reads id t l (tree_is texts c.heap.terms id (read st t) e)))
 
   cells_are : AreItems (IsBranch texts) (term_in texts) choices d su (calls w.goals ++ items_at lists rest) left
   cells_are =

@@ -43,7 +43,8 @@ use Rattle.cq_begin.specs.declared.beginning.Begun.TheVariants.{Goes, Pruned}
 use Rattle.cq_begin.specs.Begun.{IfGoes, IfPruned, OfWork, IsPlacedAs, IsBegun, GoesOn, Prunes}
 use Rattle.cq_begin.specs.Calls.{body_cells, IsCallOf, OfClause, ClauseComes}
 use Rattle.cq_begin.proofs.Newer.{branch_more, read_still}
-use Rattle.cq_begin.proofs.Reading.{read_tree, tree_read}
+use Rattle.cq_steps.proofs.Added.{tree_is}
+use Rattle.cq_begin.proofs.Reading.{tree_read}
 
 put_fits : (n t height : ℕ) (b : Bool) (cs : List Cell) → height ≤ n → Fits height cs → Fits n (put_cell b t height ∷ cs)
 put_fits n t height true cs l f = (l, f)
@@ -73,7 +74,7 @@ module _ (texts : List Text) (choices : Stack Contents) (c : Contents) (h : Term
       ∙ sym (ap₂ (λ (x y : HeapTerm). record { head = named (text_of texts) x; body = named (text_of texts) y }) head_is body_is)
 
   goal_is : tree texts h.terms id ≡ goal
-  goal_is = read_tree texts h.terms id goal (read_still texts c h kept.variables terms images names id goal call.reads)
+  goal_is = tree_is texts h.terms id goal (read_still texts c h kept.variables terms images names id goal call.reads)
 
   -- ---- the world with the new variables
 

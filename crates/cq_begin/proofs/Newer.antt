@@ -23,7 +23,8 @@ use Rattle.cq_world.specs.Contents.{Contents}
 use Rattle.cq_world.specs.Rest.{IsReadThrough, IsAtRest, IsReadyAs}
 use Rattle.cq_world.specs.Standing.{Stands, AreRead, IsConstraint, IsSleeper, constraints, goals}
 use Rattle.cq_steps.specs.Worlds.{IsBranch, term_in, with_heap}
-use Rattle.cq_begin.proofs.Reading.{read_live, read_tree, tree_read}
+use Rattle.cq_steps.proofs.Added.{tree_is}
+use Rattle.cq_begin.proofs.Reading.{read_live, tree_read}
 
 module _ (texts : List Text) (old new : Terms) (n : ℕ) (terms : IsPrefix old.terms new.terms) (images : new.images ≡ old.images ++ unbound_from (length old.images) n) where
   pub more_images : length new.images ≡ length old.images + n
@@ -135,4 +136,4 @@ module _ (texts : List Text) (c : Contents) (h : Terms) (n : ℕ) (terms : IsPre
   read_still id t e =
       let l = read_live texts c.heap.terms id t e in
       tree_read texts h.terms id t (prefix_within c.heap.terms h.terms id terms l)
-      (tree_same texts c.heap h n terms images id l ∙ read_tree texts c.heap.terms id t e)
+      (tree_same texts c.heap h n terms images id l ∙ tree_is texts c.heap.terms id t e)

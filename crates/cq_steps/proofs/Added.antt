@@ -32,7 +32,7 @@ has_still mid new j cells h k = record { there = omega (arith, h.there, k.more);
 
 -- ---- the tree of a number that reads as a term
 
-tree_is : (texts : List Text) (ts : List HeapTerm) (id : ℕ) (t : Tree) → option_map (named (text_of texts)) (slice_get ts id) ≡ Some t → tree texts ts id ≡ t
+pub tree_is : (texts : List Text) (ts : List HeapTerm) (id : ℕ) (t : Tree) → option_map (named (text_of texts)) (slice_get ts id) ≡ Some t → tree texts ts id ≡ t
 tree_is texts [] id t e = absurd (none-some t e)
 tree_is texts (x ∷ ts) zero t e = same_Some (named (text_of texts) x) t e
 tree_is texts (x ∷ ts) (suc id) t e = tree_is texts ts id t e

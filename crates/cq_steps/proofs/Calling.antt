@@ -1,5 +1,5 @@
 -- call(G), as what an engine does by it.
-use Rattle.std.proofs.Common.{◌≡◌, ℕ, ◌<◌, List, [], ◌∷◌, ◌++◌, length, Option, Some, Bool, true, refl, sym, ap, ◌∙◌, subst, arith}
+use Rattle.std.proofs.Common.{◌≡◌, ℕ, ◌<◌, List, [], ◌∷◌, ◌++◌, length, Option, Some, Bool, true, refl, sym, ap, append-nil, ◌∙◌, subst, arith}
 use Rattle.std.specs.Prelude.{if◌then◌else◌}
 use Rattle.spec_terms.specs.Term.{Term, Terms, Var, Number, Name, Compound, one, more, list_of, terms_of, with_arguments}
 use Rattle.spec_lists.specs.Texts.{Text}
@@ -34,17 +34,13 @@ terms_of-list : {A : Type 0} (t : Term A) (us : Terms A) → terms_of t (list_of
 terms_of-list t (one u) = refl
 terms_of-list t (more u us) = ap (λ ts. more t ts) (terms_of-list u us)
 
-nothing_behind : {A : Type 0} (xs : List A) → xs ++ [] ≡ xs
-nothing_behind [] = refl
-nothing_behind (x ∷ xs) = ap (λ ys. x ∷ ys) (nothing_behind xs)
-
 -- a callable term with no more arguments is itself
 no_more : (g : Tree) → is_callable g ≡ true → with_more g [] ≡ g
 no_more (Var v) e = cc
 no_more (Number q) e = cc
 no_more (Name f) e = refl
 no_more (Compound f (one t)) e = refl
-no_more (Compound f (more t ts)) e = ap (λ l. with_arguments f l) (nothing_behind (t ∷ list_of ts)) ∙ ap (λ us. Compound f us) (terms_of-list t ts)
+no_more (Compound f (more t ts)) e = ap (λ l. with_arguments f l) (append-nil (t ∷ list_of ts)) ∙ ap (λ us. Compound f us) (terms_of-list t ts)
 
 called_is : (p : Place) (g h : Tree) → h ≡ g → is_body g ≡ true → called p h ≡ goes_on p (branch.Goal g p.height ∷ p.rest)
 called_is p g h e b = ap (called p) e ∙ ap (λ (x : Bool). if x then goes_on p (branch.Goal g p.height ∷ p.rest) else Raises (type_error "callable" g)) b

@@ -1,5 +1,5 @@
 -- A branch at rest is kept as it is where it has no work to do.
-use Rattle.std.proofs.Common.{◌≡◌, ℕ, List, [], ◌∷◌, ◌++◌, Bool, true, false, Option, None, Some, refl, sym, ap, ap₂, ◌∙◌, subst, arith, ◌||◌, inl, inr}
+use Rattle.std.proofs.Common.{◌≡◌, ℕ, List, [], ◌∷◌, ◌++◌, Bool, true, false, Option, None, Some, refl, sym, ap, append-nil, ap₂, ◌∙◌, subst, arith, ◌||◌, inl, inr}
 use Rattle.std.specs.Prelude.{◌&&◌, not, filter, map, if◌then◌else◌, IsPermutation, bytes_eq, codes}
 use Rattle.std.specs.List.{AllByRecursion}
 use Rattle.spec_rational.specs.Rational.{ℚ}
@@ -19,6 +19,7 @@ use Rattle.spec_branch.specs.Alike.{no_values}
 use Rattle.spec_branch.specs.Closure.{IsMove, Moves, no_move, IsClosure}
 use Rattle.spec_branch.specs.Settling.{is_the_variable, is_bound, newly_bound, binding_equation, numeric_after, fixed_values, value_or_variable, bindings_after, NoClash, SleeperState, Sleeps, Wakes, state_of, still_sleeps, woken_item, woken, left_asleep, Settling, Settles, unified, kept, Kept, kept_branch}
 use Rattle.spec_branch.proofs.Waiting.{one_map}
+use Rattle.spec_search.specs.Search.{settled}
 use Rattle.cq_world.specs.Rest.{IsAtRest}
 
 -- ---- a told term depends on the values of its own variables alone
@@ -73,10 +74,6 @@ or_false : (a : Bool) → (a || false || false) ≡ a
 or_false true = refl
 or_false false = refl
 
-nothing_behind : {A : Type 0} (xs : List A) → xs ++ [] ≡ xs
-nothing_behind [] = refl
-nothing_behind (x ∷ xs) = ap (λ ys. x ∷ ys) (nothing_behind xs)
-
 -- ---- sleepers
 
 not_woken : (x : SleeperState) → still_sleeps x ≡ true → woken_item x ≡ None
@@ -92,10 +89,6 @@ all_asleep s [] a = refl
 all_asleep s (k ∷ ks) a = rw a.0 (ap (λ l. k ∷ l) (all_asleep s ks a.1))
 
 -- ---- settling
-
--- the branch, settled
-abbrev as_it_is : List Item → State → Branch
-as_it_is items st = record { items = items; state = st; phase = Settled }
 
 module _ (st : State) (rest : IsAtRest st) (fixed : ℕ → Option ℚ) (fixes : Fixes st.linear fixed) where
   same : followed_by st.bindings identity ≡ st.bindings
@@ -165,8 +158,8 @@ module _ (st : State) (rest : IsAtRest st) (fixed : ℕ → Option ℚ) (fixes :
 
   is_closed : IsClosure st.bindings (st.linear ++ [] ++ []) (st.delayed ++ []) st.linear st.delayed
   is_closed = record {
-    moves = subst (λ l. Moves st.bindings l (st.delayed ++ []) st.linear st.delayed) (sym (nothing_behind (st.linear ++ []) ∙ nothing_behind st.linear))
-        (subst (λ w. Moves st.bindings st.linear w st.linear st.delayed) (sym (nothing_behind st.delayed)) no_move);
+    moves = subst (λ l. Moves st.bindings l (st.delayed ++ []) st.linear st.delayed) (sym (append-nil (st.linear ++ []) ∙ append-nil st.linear))
+        (subst (λ w. Moves st.bindings st.linear w st.linear st.delayed) (sym (append-nil st.delayed)) no_move);
     closed = no_more_moves;
   }
 
@@ -185,14 +178,14 @@ module _ (st : State) (rest : IsAtRest st) (fixed : ℕ → Option ℚ) (fixes :
   same_sleepers : left_asleep (bindings_after st no_work identity fixed) st.sleepers ≡ st.sleepers
   same_sleepers = ap (λ s. left_asleep s st.sleepers) same_bindings ∙ all_asleep st.bindings st.sleepers rest.asleep
 
-  same_branch : (items : List Item) → kept_branch items st no_work identity st.linear st.delayed fixed ≡ as_it_is items st
+  same_branch : (items : List Item) → kept_branch items st no_work identity st.linear st.delayed fixed ≡ settled items st
   same_branch items = λ i. record {
     items = same_items items i;
     state = record st { bindings = same_bindings i; numeric = same_numeric i; sleepers = same_sleepers i };
     phase = Settled;
   }
 
-  pub settles_as_it_is : (items : List Item) → Settles items st no_work (Kept (as_it_is items st))
+  pub settles_as_it_is : (items : List Item) → Settles items st no_work (Kept (settled items st))
   settles_as_it_is items =
       subst (λ b. Settles items st no_work (Kept b)) (same_branch items)
       (unified identity is_unifier (kept (subst (NoClash st) (sym same) rest.no_clash) settling rest.solvable fixed fixes))

@@ -133,9 +133,11 @@ pub(crate) fn equate(
     ensures next { IfOk result (λ kept. IsTrue kept → IsNext atoms.now world.old world.new) }
     ensures marks { OnOk result (KeepsMarks world.old world.new) }
 {
-    look_at_pairs(&world.heap, pairs);
+    let pairs = [Pair { left, right }];
+    look_at_pairs(&world.heap, &pairs);
+    kept_worlds_are_ready();
     equated_worlds_may_be_settled();
-    let Some(newly) = cq_rest::equate(&mut world.heap, pairs)? else {
+    let Some(newly) = cq_rest::equate(&mut world.heap, &pairs)? else {
         return Ok(false);
     };
     let alloc = world.heap.alloc();

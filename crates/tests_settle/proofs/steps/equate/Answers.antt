@@ -8,7 +8,8 @@ use Rattle.tests_settle.proofs.steps.equate.Goals as goal
 pub settle_called-requires : goal.settle_called-requires
 settle_called-requires c =
     let texts = c.args.atoms.now in
-    let told = subst (λ (ids : List ℕ). All (MayBeTold c.args.world.now.heap.now) ids) (sym c.new.ensures.items) (All-nil (MayBeTold c.args.world.now.heap.now)) in
-    c.equated_worlds_may_be_settled.ensures.called texts (now_of c.args.world.now) c.equate.new.heap.now c.args.pairs.now c.in-Some.newly c.new.result.items c.new-2.result.items
-    c.requires.different c.requires.ready (rw c.in-Some.is at c.in_ok-newly.ensures.equal)
-    (c.in_ok-newly.ensures.names (length texts) c.requires.ready.1.stands.names) told
+    let old = now_of c.args.world.now in
+    let h = c.equate.new.heap.now in
+    let told = subst (λ (ids : List ℕ). All (MayBeTold old.heap) ids) (sym c.new.ensures.items) (All-nil (MayBeTold old.heap)) in
+    c.equated_worlds_may_be_settled.ensures.called texts old h _ c.in-Some.newly c.new.result.items c.new-2.result.items c.requires.different c.requires.ready
+    (rw c.in-Some.is at c.in_ok-newly.ensures.equal) (c.in_ok-newly.ensures.names (length texts) (c.kept_worlds_are_ready.ensures.names texts old c.requires.ready)) told
