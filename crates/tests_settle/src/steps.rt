@@ -4,7 +4,6 @@ ghost use Rattle.std.specs.Prelude.{◌≡◌, ◌≤◌, ◌<◌, ◌∷◌, []
 ghost use Rattle.cq_atoms.specs.Texts.{AreDifferent};
 ghost use Rattle.cq_settle.specs.Called.{SomeIsCalled};
 ghost use Rattle.cq_settle.specs.Settled.{KeepsMarks};
-ghost use Rattle.cq_walk.specs.Pairs.{IsLive};
 ghost use Rattle.cq_world.specs.Rest.{IsReady};
 ghost use Rattle.cq_world.specs.Worlds.{now_of};
 ghost use Rattle.tests_settle.specs.Next.{IsNext};
@@ -120,16 +119,18 @@ pub(crate) fn tell_one(
     tell(world, atoms, told, woken)
 }
 
-/// Whether the branch is kept where the pairs are made equal. Where it isn't, some of them may have been made equal.
+/// Whether the branch is kept where the terms are made equal. Where it isn't, the terms may have been made equal.
 pub(crate) fn equate(
     world: &mut World,
     atoms: &Atoms,
-    pairs: &[Pair],
+    left: TermId,
+    right: TermId,
     woken: &mut Vec<Atom>,
 ) -> Result<bool, StoreFault>
     requires different { AreDifferent atoms.now }
     requires ready { IsReady atoms.now (now_of world.old) }
-    requires live { All (IsLive world.old.heap.now.terms) pairs.now }
+    requires left { left < length world.old.heap.now.terms }
+    requires right { right < length world.old.heap.now.terms }
     ensures next { IfOk result (λ kept. IsTrue kept → IsNext atoms.now world.old world.new) }
     ensures marks { OnOk result (KeepsMarks world.old world.new) }
 {
@@ -207,7 +208,7 @@ pub(crate) fn take_step(
         Way::Telling => tell_one(world, atoms, step.term, woken),
         Way::Equating => {
             let (left, right) = arguments_of(&world.heap, step.term)?;
-            equate(world, atoms, &[Pair { left, right }], woken)
+            equate(world, atoms, left, right, woken)
         }
         Way::Sleeping => {
             let (variable, goal) = arguments_of(&world.heap, step.term)?;
