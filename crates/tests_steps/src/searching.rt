@@ -3,10 +3,9 @@
 ghost use Rattle.std.specs.Prelude.{◌≡◌, ◌<◌, length, IfOk, OnOk};
 ghost use Rattle.cq_control.specs.Open.{AreMarked};
 ghost use Rattle.cq_steps.specs.Worlds.{saved_values};
-ghost use Rattle.cq_term.specs.Trees.{KnowsTerms};
 
 use cq_atoms::Atoms;
-use cq_built::{atom, compound};
+use cq_built::atom;
 use cq_control::{Choices, Continuation, Continuations};
 use cq_steps::{Alternatives, Searching};
 use cq_term::{Heap, TermId};
@@ -15,16 +14,14 @@ use cq_world::World;
 use spec_machine::Cell;
 use std::alloc::{AllocError, Global};
 
-/// Three atoms, and the if-then of the first two.
+/// Two atoms.
 #[derive(Clone, Copy)]
 pub struct Terms {
     pub a: TermId,
     pub b: TermId,
-    pub c: TermId,
-    pub rule: TermId,
 }
 
-/// A search that has two choices.
+/// A search that has one choice.
 #[derive(Drop)]
 pub struct Ready {
     pub world: Searching,
@@ -45,30 +42,21 @@ fn choose(world: &mut Searching, choices: &mut Choices<Alternatives>) -> Result<
 
 /// The terms of the tests.
 fn build_terms(heap: &mut Heap, atoms: &mut Atoms) -> Result<Terms, AllocError>
-    requires { KnowsTerms atoms.old heap.old.now.terms }
     ensures a { IfOk result (λ t. t.a < length heap.new.now.terms) }
     ensures b { IfOk result (λ t. t.b < length heap.new.now.terms) }
-    ensures c { IfOk result (λ t. t.c < length heap.new.now.terms) }
-    ensures rule { IfOk result (λ t. t.rule < length heap.new.now.terms) }
-    ensures names { OnOk result (KnowsTerms atoms.new heap.new.now.terms) }
     ensures saved { heap.new.saved ≡ heap.old.saved }
 {
     let a = atom(heap, atoms, "a")?;
     let b = atom(heap, atoms, "b")?;
-    let c = atom(heap, atoms, "c")?;
-    let rule = compound(heap, atoms, "->", &[a, b])?;
-    Ok(Terms { a, b, c, rule })
+    Ok(Terms { a, b })
 }
 
-/// A search with two choices, and its terms.
-pub fn two_choices(alloc: Global, atoms: &mut Atoms) -> Result<Ready, AllocError>
+/// A search with one choice, and its terms.
+pub fn one_choice(alloc: Global, atoms: &mut Atoms) -> Result<Ready, AllocError>
     ensures marked { IfOk result (λ r. AreMarked (saved_values r.world.first r.world.second.saved) r.choices) }
     ensures lists { IfOk result (λ r. 0 < length r.world.second.now) }
-    ensures names { IfOk result (λ r. KnowsTerms atoms.new r.world.first.heap.now.terms) }
     ensures a { IfOk result (λ r. r.terms.a < length r.world.first.heap.now.terms) }
     ensures b { IfOk result (λ r. r.terms.b < length r.world.first.heap.now.terms) }
-    ensures c { IfOk result (λ r. r.terms.c < length r.world.first.heap.now.terms) }
-    ensures rule { IfOk result (λ r. r.terms.rule < length r.world.first.heap.now.terms) }
 {
     let mut known = World::new(alloc, 100);
     let terms = build_terms(&mut known.heap, atoms)?;
@@ -77,7 +65,6 @@ pub fn two_choices(alloc: Global, atoms: &mut Atoms) -> Result<Ready, AllocError
         second: Continuations::new(alloc),
     };
     let mut choices = Choices::new(alloc);
-    choose(&mut world, &mut choices)?;
     choose(&mut world, &mut choices)?;
     Ok(Ready {
         world,
@@ -130,8 +117,6 @@ fn letter(id: TermId, terms: &Terms) -> char {
         'a'
     } else if id == terms.b {
         'b'
-    } else if id == terms.c {
-        'c'
     } else {
         'x'
     }
