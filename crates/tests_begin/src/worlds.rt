@@ -108,6 +108,7 @@ fn names_of(heap: &mut Heap, atoms: &mut Atoms) -> Result<Names, AllocError>
     ensures more { OnOk result (length heap.old.now.terms ≤ length heap.new.now.terms) }
     ensures images { OnOk result (heap.new.now.images ≡ heap.old.now.images) }
     ensures names { OnOk result (KnowsTerms atoms.new heap.new.now.terms) }
+    ensures saved { heap.new.saved ≡ heap.old.saved }
 {
     let a = name(heap, atoms, "a")?;
     let b = name(heap, atoms, "b")?;
@@ -124,6 +125,7 @@ fn terms_of(heap: &mut Heap, atoms: &mut Atoms, x: TermId) -> Result<Terms, Allo
     ensures below { IfOk result (λ t. t.below < length heap.new.now.terms) }
     ensures images { OnOk result (heap.new.now.images ≡ heap.old.now.images) }
     ensures names { OnOk result (KnowsTerms atoms.new heap.new.now.terms) }
+    ensures saved { heap.new.saved ≡ heap.old.saved }
 {
     let Names { a, b } = names_of(heap, atoms)?;
     let three = told(heap, atoms, x, "=", 3)?;
@@ -142,6 +144,7 @@ fn new_variable(heap: &mut Heap, atoms: &Atoms) -> Result<TermId, AllocError>
     ensures live { IfOk result (λ id. id < length heap.new.now.terms) }
     ensures images { OnOk result (heap.new.now.images ≡ heap.old.now.images ++ Var (length heap.old.now.images) ∷ []) }
     ensures names { OnOk result (KnowsTerms atoms.now heap.new.now.terms) }
+    ensures saved { heap.new.saved ≡ heap.old.saved }
 {
     heap.new_var()
 }
@@ -155,6 +158,7 @@ fn build_terms(heap: &mut Heap, atoms: &mut Atoms) -> Result<Terms, AllocError>
     ensures below { IfOk result (λ t. t.below < length heap.new.now.terms) }
     ensures images { OnOk result (heap.new.now.images ≡ heap.old.now.images ++ Var (length heap.old.now.images) ∷ []) }
     ensures names { OnOk result (KnowsTerms atoms.new heap.new.now.terms) }
+    ensures saved { heap.new.saved ≡ heap.old.saved }
 {
     let x = new_variable(heap, atoms)?;
     terms_of(heap, atoms, x)
@@ -207,9 +211,11 @@ pub fn freeze(
 {
     goals_may_be_put_to_sleep();
     look_at(&world.heap, goal);
-    let View::Var(x) = world.heap.view(variable) else {
-        return Err(AllocError);
-    };
-    world.attrs.suspend(&[x], Susp::Goal(x, goal))?;
-    Ok(())
+    match world.heap.view(variable) {
+        View::Var(unbound) => {
+            world.attrs.suspend(&[unbound], Susp::Goal(unbound, goal))?;
+            Ok(())
+        }
+        View::Number(_) | View::Name(_) | View::Compound(_, _) => Err(AllocError),
+    }
 }
