@@ -1,4 +1,5 @@
-use Rattle.std.proofs.Common.{◌≡◌, ◌<◌, [], ◌∷◌, ◌++◌, length, take, Err, arith, ap, sym, subst, ◌∙◌}
+use Rattle.std.proofs.Common.{◌≡◌, ◌<◌, List, [], ◌∷◌, ◌++◌, length, take, Err, arith, ap, sym, subst, ◌∙◌}
+use Rattle.spec_linear.specs.Form.{Linear}
 use Rattle.spec_linear.specs.Solution.{Constraint}
 use Rattle.spec_linear.proofs.Denominators.{has_left, has_right}
 use Rattle.spec_projection.specs.Strict.{Strengthened, no_more}
@@ -27,7 +28,7 @@ pub rows-preserved : goal.rows-preserved
 rows-preserved c =
     let within : c.rows.row-index < length c.args.rows.now = omega arith in
     let beside = subst (λ forms. IsRelationBeside forms c.row-item.result c.in_ok-relation.relation) (c.deref.ensures.value ∙ c.in_ok-forms.ensures.value) c.in_ok-relation.ensures.relation in
-    let pushed = λ f. let row : Constraint = record { relation = c.in_ok-relation.relation; form = f } in c.rows.strict.items ++ row ∷ [] in
+    let pushed : Linear → List Constraint = λ f. c.rows.strict.items ++ record { relation = c.in_ok-relation.relation; form = f } ∷ [] in
     let strict : c.push.new.self.items ≡ pushed c.row-item.result.form =
         c.in_ok-push.ensures.items ∙ ap pushed (c.in_ok-form.ensures.cases ∙ ap (λ (r : Constraint). r.form) c.row.view_is) in
     subst (λ rows. Strengthened c.args.disequations.now rows c.push.new.self.items) (sym (one_more c.args.rows.now c.rows.row-index c.row-item.result within c.row-item.is))
