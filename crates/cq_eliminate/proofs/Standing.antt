@@ -1,5 +1,5 @@
 -- How many of some variables stand in a list. Where one goes and none joins, there are fewer.
-use Rattle.std.proofs.Common.{◌≡◌, inl, inr, ℕ, zero, suc, ◌<◌, ◌≤◌, List, [], ◌∷◌, Bool, true, false, nat_eq, ◌||◌, arith, refl, ap, sym, subst, ◌∙◌}
+use Rattle.std.proofs.Common.{◌≡◌, ◌⊎◌, inl, inr, ℕ, zero, suc, ◌<◌, ◌≤◌, List, [], ◌∷◌, Bool, true, false, nat_eq, ◌||◌, arith, refl, ap, sym, subst, ◌∙◌}
 use Rattle.spec_rational.specs.Sums.{Monomial, Mentions}
 use Rattle.spec_linear.specs.Solution.{Constraint, Has, SomeMentions}
 use Rattle.spec_lists.proofs.Tests.{nat_eq-same}
@@ -13,11 +13,11 @@ true_either true b e = refl
 true_either false b e = e
 
 -- ---- whether a variable stands in a list
-mentions : ℕ → List Monomial → Bool
+abbrev pub mentions : ℕ → List Monomial → Bool
 mentions x [] = false
 mentions x (m ∷ s) = nat_eq x m.variable || mentions x s
 
-stands : ℕ → List Constraint → Bool
+abbrev pub stands : ℕ → List Constraint → Bool
 stands x [] = false
 stands x (c ∷ l) = mentions x c.form.products || stands x l
 
@@ -40,7 +40,7 @@ is-stands x (c ∷ l) (inl h) = ap (λ b. b || stands x l) (is-mentions x c.form
 is-stands x (c ∷ l) (inr h) = true_either (mentions x c.form.products) (stands x l) (is-stands x l h)
 
 -- ---- how many do
-one_more_if : Bool → ℕ → ℕ
+abbrev pub one_more_if : Bool → ℕ → ℕ
 one_more_if true n = suc n
 one_more_if false n = n
 

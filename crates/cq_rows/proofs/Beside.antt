@@ -1,5 +1,5 @@
 -- Rows beside disequations: a weak one whose scaled form is one of theirs is made strict.
-use Rattle.std.proofs.Common.{◌≡◌, ◌+◌, ◌<◌, inl, inr, ℕ, List, [], ◌∷◌, ◌++◌, map, length, take, get_or, refl, ap, sym, subst, ◌∙◌}
+use Rattle.std.proofs.Common.{◌≡◌, ◌+◌, ◌<◌, inl, inr, ℕ, List, [], ◌∷◌, ◌++◌, map, length, take, get_or, ap, sym, subst, ◌∙◌}
 use Rattle.std.proofs.lemmas.List.{take_more, map-append}
 use Rattle.spec_linear.specs.declared.Relation.{Relation}
 use Rattle.spec_linear.specs.declared.Relation.TheVariants.{Gt, Ge}
@@ -13,7 +13,7 @@ use Rattle.cq_frac.specs.declared.Pair.{Pair}
 use Rattle.cq_fourier.specs.Steps.{AreRowsOf}
 use Rattle.cq_fourier.proofs.Crossing.{division_due}
 use Rattle.cq_fourier.proofs.Lists.{has_at}
-use Rattle.cq_rows.specs.Scaling.{canonical, canonical_of, ScalesForm, ScalesIn, AreDisequations, IsRelationBeside}
+use Rattle.cq_rows.specs.Scaling.{canonical, canonical_of, ScalesForm, AreDisequations, IsRelationBeside}
 use Rattle.cq_rows.proofs.Canonical.{multiples_scaled, scaled_multiples}
 
 -- ---- one more row of a list

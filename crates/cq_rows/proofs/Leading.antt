@@ -1,5 +1,5 @@
 -- What leads a form, and the form by it.
-use Rattle.std.proofs.Common.{◌≡◌, ◌≢◌, inl, inr, ℕ, List, [], ◌∷◌, Option, None, Some, pos, refl, ap, sym, subst, ◌∙◌}
+use Rattle.std.proofs.Common.{◌≡◌, ◌≢◌, inl, inr, List, [], ◌∷◌, None, Some, pos, refl, ap, sym, subst, ◌∙◌}
 use Rattle.std.specs.Prelude.{slice_get}
 use Rattle.spec_rational.specs.Rational.{ℚ, 0ℚ, 1ℚ, ◌*ℚ◌, inv_ℚ}
 use Rattle.spec_rational.specs.Sums.{Monomial, factor_of, scaled_products}

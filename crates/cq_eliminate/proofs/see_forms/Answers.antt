@@ -12,9 +12,9 @@ rows-init c = λ d h. absurd h
 pub rows-preserved : goal.rows-preserved
 rows-preserved c =
     let within : c.rows.row-index < length c.args.rows.now = omega arith in
-    forms_more c.args.rows.now c.rows.row-index c.row-item.result within c.row-item.is (subst (λ (r : Constraint). IsForm r.form) c.row-item.view_is c.entries.ensures.in_order) c.rows.invariant
+    forms_more c.args.rows.now c.rows.row-index c.row-item.result within c.row-item.is (subst (λ (r : Constraint). IsForm r.form) c.row.view_is c.entries.ensures.in_order) c.rows.invariant
 
-pub returns-clause : goal.returns-clause
-returns-clause c =
+pub returns : goal.returns
+returns c =
     let whole : length c.args.rows.now ≤ c.rows.row-index = omega arith in
     subst AreForms (take_all c.rows.row-index c.args.rows.now whole) c.rows.invariant

@@ -1,6 +1,7 @@
 use Rattle.std.proofs.Common.{◌≡◌, ◌+◌, ◌*◌, ◌<◌, Err, refl, arith, ap, sym, subst, ◌∙◌}
 use Rattle.spec_linear.specs.Solution.{Solvable}
 use Rattle.spec_projection.specs.Irredundant.{IsIrredundantSublist}
+use Rattle.cq_fourier.specs.Steps.{AreRowsOf}
 use Rattle.cq_sift.specs.Sifting.{RefusesSifting, SpendsSifting}
 use Rattle.cq_eliminate.specs.Eliminating.{while_combining, while_sifting, IsLimitPassed}
 use Rattle.cq_eliminate.proofs.Exits.{refused, never_spent, told_pair, told_number, one_fault, no_rows_told, no_rows_refused}
@@ -9,7 +10,7 @@ use Rattle.cq_eliminate.proofs.step.Goals as goal
 
 pub returns-in_err-fewer-clause-overflow : goal.returns-in_err-fewer-clause-overflow
 returns-in_err-fewer-clause-overflow c = λ pair e.
-    while_combining (λ m rows. c.in_err-fewer.ensures.overflow pair m rows (ap Err (refused c.from_residual.result c.in_err-fewer.field-0.0 pair c.from_residual.ensures.1 e)))
+    while_combining (λ m rows. c.in_err-fewer.ensures.overflow pair m (subst (AreRowsOf m) (sym c.deref.ensures.value) rows) (ap Err (refused c.from_residual.result c.in_err-fewer.field-0.0 pair c.from_residual.ensures.1 e)))
 
 pub returns-in_err-fewer-clause-pivots : goal.returns-in_err-fewer-clause-pivots
 returns-in_err-fewer-clause-pivots c = λ n e. absurd (never_spent c.from_residual.result c.in_err-fewer.field-0.0 n c.from_residual.ensures.1 e)

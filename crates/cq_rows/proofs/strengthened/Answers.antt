@@ -30,7 +30,7 @@ rows-preserved c =
     let beside = subst (λ forms. IsRelationBeside forms c.row-item.result c.in_ok-relation.relation) (c.deref.ensures.value ∙ c.in_ok-forms.ensures.value) c.in_ok-relation.ensures.relation in
     let pushed : Linear → List Constraint = λ f. c.rows.strict.items ++ record { relation = c.in_ok-relation.relation; form = f } ∷ [] in
     let strict : c.push.new.self.items ≡ pushed c.row-item.result.form =
-        c.in_ok-push.ensures.items ∙ ap pushed (c.in_ok-form.ensures.cases ∙ ap (λ (r : Constraint). r.form) c.row.view_is) in
+    c.in_ok-push.ensures.items ∙ ap pushed (c.in_ok-form.ensures.cases ∙ ap (λ (r : Constraint). r.form) c.row.view_is) in
     subst (λ rows. Strengthened c.args.disequations.now rows c.push.new.self.items) (sym (one_more c.args.rows.now c.rows.row-index c.row-item.result within c.row-item.is))
     (subst (Strengthened c.args.disequations.now (take c.rows.row-index c.args.rows.now ++ c.row-item.result ∷ [])) (sym strict)
     (strengthened_more c.args.disequations.now c.requires.disequations c.in_ok-forms.ensures.in_order (take c.rows.row-index c.args.rows.now) c.rows.strict.items
