@@ -6,7 +6,7 @@ use Rattle.spec_rational.specs.Sums.{Monomial, factor_of, scaled_products}
 use Rattle.spec_rational.proofs.Ring.{var, int, ◌⊗◌}
 use Rattle.spec_rational.proofs.Rational.{ring, mul_comm}
 use Rattle.spec_rational.proofs.Sign.{zero_or_not, times_inverse}
-use Rattle.spec_linear.specs.Form.{Linear, IsForm, without_zeros, scaled_form}
+use Rattle.spec_linear.specs.Form.{Linear, IsForm, without_zeros}
 use Rattle.spec_linear.proofs.Ordered.{form_same}
 use Rattle.cq_frac.specs.declared.Pair.{Pair}
 use Rattle.cq_frac.specs.declared.VarId.{VarId}
@@ -44,9 +44,6 @@ module _ (p : VarId × ℚ) where
   module _ (f : Linear) (first : Some (product_of (entry_of p)) ≡ slice_get f.products 0) where
     pub lead_stands : IsForm f → p.1 ≢ 0ℚ
     lead_stands i z = leading_stands f.constant f.products i (sym (lead_is f.constant f.products first) ∙ z)
-
-    pub divided_scaled : scaled_form (inv_ℚ p.1) f ≡ canonical f
-    divided_scaled = ap (λ k. scaled_form (inv_ℚ k) f) (lead_is f.constant f.products first)
 
     pub scales : (pair : Pair) → IsForm f → IsQuotientOf f p.1 pair → ScalesForm f pair
     scales pair i q =

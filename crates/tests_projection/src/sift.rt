@@ -20,16 +20,27 @@ struct Pass<'a> {
 
 // X, Y and Z are 0, 1 and 2.
 const AT_LEAST: Given = (Relation::Ge, &[(0, 1, 1)], 0, 1);
+
 const ABOVE: Given = (Relation::Gt, &[(0, 1, 1)], 0, 1);
+
 const AT_LEAST_ONE: Given = (Relation::Ge, &[(0, 1, 1)], -1, 1);
+
 const AT_LEAST_TWO: Given = (Relation::Ge, &[(0, 1, 1)], -2, 1);
+
 const AT_MOST_NINE: Given = (Relation::Ge, &[(0, -1, 1)], 9, 1);
+
 const OTHER_AT_LEAST: Given = (Relation::Ge, &[(1, 1, 1)], 0, 1);
+
 const SUM_AT_LEAST: Given = (Relation::Ge, &[(0, 1, 1), (1, 1, 1)], 0, 1);
+
 const OTHER_NOT_LESS: Given = (Relation::Ge, &[(0, -1, 1), (1, 1, 1)], 0, 1);
+
 const THIRD_NOT_LESS: Given = (Relation::Ge, &[(1, -1, 1), (2, 1, 1)], 0, 1);
+
 const THIRD_ABOVE_FIRST: Given = (Relation::Gt, &[(0, -1, 1), (2, 1, 1)], 0, 1);
+
 const NOT_ZERO: Given = (Relation::Ne, &[(0, 1, 1)], 0, 1);
+
 const NOT_FIVE: Given = (Relation::Ne, &[(0, 1, 1)], -5, 1);
 
 static PASSES: [Pass; 9] = [
@@ -128,7 +139,10 @@ fn what_follows_is_dropped_in_order(rt: HostRuntime) -> Result<(), Fail> {
     for pass in &PASSES {
         let told = rows(rt.alloc(), pass.told)?;
         let kept = kept(rt.alloc(), &told, &rows(rt.alloc(), pass.rows)?)?;
-        assert!(rt; kept.as_ref().is_some_and(|rows| are_given(rows, pass.kept)), "{kept:?}");
+        assert!(rt;
+            kept.as_ref().is_some_and(|rows| are_given(rows, pass.kept)),
+            "{kept:?}"
+        );
     }
     Ok(())
 }

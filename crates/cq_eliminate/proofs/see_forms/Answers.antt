@@ -12,7 +12,7 @@ rows-init c = λ d h. absurd h
 pub rows-preserved : goal.rows-preserved
 rows-preserved c =
     let within : c.rows.row-index < length c.args.rows.now = omega arith in
-    forms_more c.args.rows.now c.rows.row-index c.row-item.result within c.row-item.is (subst (λ (r : Constraint). IsForm r.form) c.row.view_is c.entries.ensures.in_order) c.rows.invariant
+    forms_more c.args.rows.now c.rows.row-index c.row-item.result within c.row-item.is (subst (λ (r : Constraint). IsForm r.form) c.row.view_is c.entries-products.ensures.in_order) c.rows.invariant
 
 pub returns : goal.returns
 returns c =
