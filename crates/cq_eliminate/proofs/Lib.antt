@@ -1,3 +1,0 @@
-pub mod Exits
-pub mod Standing
-pub mod Steps
