@@ -1,6 +1,6 @@
 // What a call of a predicate gives.
 
-ghost use Rattle.std.specs.Prelude.{◌≡◌, List, IfOk, OnErr};
+ghost use Rattle.std.specs.Prelude.{◌≡◌, [], List, IfOk, OnErr, true};
 ghost use Rattle.spec_lists.specs.Texts.{Text};
 ghost use Rattle.cq_term.specs.Trees.{KnowsTerms};
 ghost use Rattle.cq_text.specs.Ways.{CanBeTried};
@@ -8,7 +8,8 @@ ghost use Rattle.cq_text.specs.Ways.{offered};
 ghost use Rattle.cq_text.specs.Ways as text;
 ghost use Rattle.cq_built.specs.Growing.{Grows};
 ghost use Rattle.cq_builtin.specs.Offered.{IsLiveOrNone};
-ghost use Rattle.cq_predicates.specs.Given.{CanGoOn, TakesNext, TakesWay, Adds};
+ghost use Rattle.cq_term.specs.Meaning.{HeapTerm};
+ghost use Rattle.cq_predicates.specs.Given.{CanGoOn, TakesNext, TakesWay, Adds, ways_left};
 
 use cq_atoms::Atoms;
 use cq_built::Alternative;
@@ -58,6 +59,19 @@ impl Solutions {
             Ways::Pair(pair) => next_pair(heap, pair),
             Ways::Pairs(only) => Ok(only.take()),
             Ways::Texts(ways) => next_text(heap, atoms, ways),
+        }
+    }
+
+    /// Whether it is known that none is left. Of the alternatives of a predicate on texts it is known only once the last was
+    /// asked for and none came.
+    pub fn is_over(&self) -> bool
+        ensures { result ≡ true → (texts : List Text) (ts : List HeapTerm) → ways_left texts ts self.now ≡ [] }
+    {
+        match &self.ways {
+            Ways::Test(holds) => !*holds,
+            Ways::Pair(pair) => pair.is_none(),
+            Ways::Pairs(only) => only.is_none(),
+            Ways::Texts(_) => false,
         }
     }
 }

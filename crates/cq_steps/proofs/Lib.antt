@@ -10,5 +10,6 @@ pub mod Calling
 pub mod Beginning
 pub mod Older
 pub mod Passing
+pub mod Reading
 pub mod Disjunctions
 pub mod Arguments

@@ -2,23 +2,30 @@
 use Rattle.std.proofs.Common.{◌≡◌, ℕ, ◌-◌, List, [], ◌∷◌, ◌++◌, length, take, Option, None, Some, refl, sym, ap, ◌∙◌, subst, append_assoc}
 use Rattle.std.specs.Prelude.{IfSome, IfNone}
 use Rattle.std.proofs.lemmas.List.{take-append-drop}
-use Rattle.cq_control.specs.Open.{last}
+use Rattle.cq_control.specs.Open.{last, open_choices}
+use Rattle.cq_world.specs.Contents.{Contents}
+use Rattle.spec_machine.specs.Cells.{Value}
 use Rattle.cq_steps.specs.Choices.{KeepsOlder}
 use Rattle.cq_steps.specs.declared.alternatives.Alternatives.{Alternatives}
 
-pub older_all : (xs : List Alternatives) → KeepsOlder xs xs
-older_all xs = record { gone = []; are = refl }
+pub older_all : (saved : List (Value Contents)) (choices : List Alternatives) → KeepsOlder saved choices saved choices
+older_all saved choices = record { gone = []; are = refl }
 
-pub older_on : (xs ys zs : List Alternatives) → KeepsOlder xs ys → KeepsOlder ys zs → KeepsOlder xs zs
-older_on xs ys zs a b = record { gone = a.gone ++ b.gone; are = a.are ∙ ap (λ l. a.gone ++ l) b.are ∙ sym (append_assoc a.gone b.gone zs) }
+pub older_on : (saved some fewer : List (Value Contents)) (choices between left : List Alternatives) → KeepsOlder saved choices some between → KeepsOlder some between fewer left
+    → KeepsOlder saved choices fewer left
+older_on saved some fewer choices between left a b =
+    record { gone = a.gone ++ b.gone; are = a.are ∙ ap (λ l. a.gone ++ l) b.are ∙ sym (append_assoc a.gone b.gone (open_choices fewer left)) }
 
-pub older_last : (height : ℕ) (xs ys : List Alternatives) → ys ≡ last height xs → KeepsOlder xs ys
-older_last height xs ys e =
+pub older_last : (height : ℕ) (saved fewer : List (Value Contents)) (choices left : List Alternatives) → open_choices fewer left ≡ last height (open_choices saved choices)
+    → KeepsOlder saved choices fewer left
+older_last height saved fewer choices left e =
+    let xs = open_choices saved choices in
     let n = length xs - height in
     record { gone = take n xs; are = sym (take-append-drop n xs) ∙ ap (λ l. take n xs ++ l) (sym e) }
 
-pub older_next : (x : Alternatives) (xs ys : List Alternatives) → xs ≡ x ∷ ys → KeepsOlder xs ys
-older_next x xs ys e = record { gone = x ∷ []; are = e }
+pub older_next : (x : Value Contents × Alternatives) (saved fewer : List (Value Contents)) (choices left : List Alternatives)
+    → open_choices saved choices ≡ x ∷ open_choices fewer left → KeepsOlder saved choices fewer left
+older_next x saved fewer choices left e = record { gone = x ∷ []; are = e }
 
 -- ---- the newest is taken off
 

@@ -1,13 +1,33 @@
--- Which choices are open after a step.
-use Rattle.std.specs.Prelude.{◌≡◌, ℕ, List, ◌∷◌, ◌++◌}
+-- Which choices are open after a step, each with the value of the world that it goes back to.
+use Rattle.std.specs.Prelude.{◌≡◌, ℕ, List, ◌∷◌, ◌++◌, ⊤}
+use Rattle.std.specs.List.{AllByRecursion}
+use Rattle.cq_clauses.specs.Walks.{IsWalk}
+use Rattle.cq_control.specs.Open.{open_choices}
+use Rattle.cq_predicates.specs.Given.{CanGoOn}
+use Rattle.cq_program.specs.Database.{Program}
+use Rattle.cq_term.specs.Meaning.{HeapTerm}
+use Rattle.cq_world.specs.Contents.{Contents}
+use Rattle.spec_machine.specs.Cells.{Value}
 use Rattle.cq_steps.specs.declared.alternatives.Alternatives.{Alternatives}
+use Rattle.cq_steps.specs.declared.alternatives.Alternatives.TheVariants as alternatives
 use Rattle.cq_steps.specs.declared.alternatives.Alternatives.TheVariants.{One}
 
--- those of before, and one more that goes on with a continuation
-abbrev pub LeavesMore : List Alternatives → List Alternatives → Type 0
-LeavesMore old new = (k : ℕ) × (new ≡ One k ∷ old)
+-- those of before, and one more that goes on with a continuation in this world
+abbrev pub LeavesMore : List (Value Contents) → List Alternatives → Value Contents → List (Value Contents) → List Alternatives → Type 0
+LeavesMore saved choices now more after = (k : ℕ) × (open_choices more after ≡ (now, One k) ∷ open_choices saved choices)
 
 -- some of those of before: the newest may be gone
-pub record KeepsOlder (old new : List Alternatives) : Type 0 where
-  pub gone : List Alternatives
-  pub are : old ≡ gone ++ new
+pub record KeepsOlder (saved : List (Value Contents)) (choices : List Alternatives) (fewer : List (Value Contents)) (left : List Alternatives) : Type 0 where
+  pub gone : List (Value Contents × Alternatives)
+  pub are : open_choices saved choices ≡ gone ++ open_choices fewer left
+
+-- the clauses and the alternatives that are left can be gone on with, over the program and the terms of the choice's world
+abbrev pub CanBeTried : Program → List HeapTerm → Alternatives → Type 0
+CanBeTried v ts (alternatives.One k) = ⊤
+CanBeTried v ts (alternatives.Clauses t walk k) = IsWalk walk v
+CanBeTried v ts (alternatives.Ways s k) = CanGoOn ts s
+CanBeTried v ts alternatives.Barrier = ⊤
+
+-- so can those of each choice
+abbrev pub AreOpen : Program → List (Value Contents) → List Alternatives → Type 0
+AreOpen v saved choices = AllByRecursion (λ (c : Value Contents × Alternatives). CanBeTried v c.0.0.heap.terms c.1) (open_choices saved choices)

@@ -31,11 +31,12 @@ IsPast front.Clear k cells = IsFront cells
 IsPast (front.Passed rest) k cells = rest < k
 IsPast front.Back k cells = ⊤
 
--- the clauses of a call are left to try first, or nothing is
+-- the clauses of a call or the alternatives of a predicate are left to try first, or nothing is
 abbrev pub IsCall : List Alternatives → Type 0
 IsCall [] = ⊤
 IsCall (alternatives.One k ∷ choices) = ⊥
 IsCall (alternatives.Clauses t walk k ∷ choices) = ⊤
+IsCall (alternatives.Ways s k ∷ choices) = ⊤
 IsCall (alternatives.Barrier ∷ choices) = ⊥
 
 -- what the engine goes on with

@@ -14,7 +14,7 @@ use Rattle.spec_search.specs.Search.{Search}
 use Rattle.cq_atoms.specs.Texts.{text_of}
 use Rattle.cq_attr.specs.Attributes.{nothing}
 use Rattle.cq_term.specs.HeapValue.{Terms}
-use Rattle.cq_term.specs.Meaning.{at}
+use Rattle.cq_term.specs.Meaning.{HeapTerm, at}
 use Rattle.cq_term.specs.Trees.{KnowsTerms}
 use Rattle.cq_world.specs.Contents.{Contents}
 use Rattle.cq_world.specs.Rest.{IsReadyAs}
@@ -23,10 +23,11 @@ use Rattle.cq_world.specs.declared.world.World.{World}
 use Rattle.cq_program.specs.Database.{Program, as_clause}
 use Rattle.cq_program.specs.Keys.{key_of}
 use Rattle.cq_clauses.specs.Walks.{left}
+use Rattle.cq_predicates.specs.Given.{over, ways_left}
 use Rattle.cq_stored.specs.StoredValue.{ClauseValue}
 use Rattle.cq_control.specs.Open.{open_choices}
 use Rattle.spec_machine.specs.declared.cell.Cell.{Cell}
-use Rattle.spec_machine.specs.Cells.{Left, One, Clauses, Barrier, Value, Stack}
+use Rattle.spec_machine.specs.Cells.{Left, One, Clauses, Ways, Barrier, Value, Stack}
 use Rattle.spec_machine.specs.Standing.{engine, IsPlace, AreWaiting, IsStanding}
 use Rattle.spec_machine.specs.Coming.{Comes}
 use Rattle.cq_steps.specs.declared.alternatives.Alternatives.{Alternatives}
@@ -59,23 +60,26 @@ saved_values w saved = zip (saved_of w) saved
 
 -- ---- choices
 
--- what a choice leaves to try, by the clauses of the program
-abbrev pub left_of : List Text → Program → Alternatives → Left
-left_of texts v (alternatives.One k) = One k
-left_of texts v (alternatives.Clauses t walk k) = Clauses t (map (as_clause texts v.contents) (left (λ (c : ClauseValue). key_of c.head) walk v)) k
-left_of texts v alternatives.Barrier = Barrier
+-- what a choice leaves to try, by the clauses of the program and the terms of its world, in which an alternative has no new variables
+abbrev pub left_of : List Text → Program → List HeapTerm → Alternatives → Left
+left_of texts v ts (alternatives.One k) = One k
+left_of texts v ts (alternatives.Clauses t walk k) = Clauses t (map (as_clause texts v.contents) (left (λ (c : ClauseValue). key_of c.head) walk v)) k
+left_of texts v ts (alternatives.Ways s k) = Ways (map (over 0) (ways_left texts ts s)) k
+left_of texts v ts alternatives.Barrier = Barrier
 
 abbrev pub left_at : List Text → Program → Value Contents × Alternatives → Value Contents × Left
-left_at texts v c = (c.0, left_of texts v c.1)
+left_at texts v c = (c.0, left_of texts v c.0.0.heap.terms c.1)
 
 abbrev pub stack : List Text → Program → List (Value Contents) → List Alternatives → Stack Contents
 stack texts v saved choices = map (left_at texts v) (open_choices saved choices)
 
 -- ---- rows
 
+-- the world reads the number as this term, which reads as itself in the state
 abbrev pub ReadsAs : List Text → Contents → State → ℕ → Tree → Type 0
 ReadsAs texts c st id t = Reads (IsBranch texts) (term_in texts) c st id t
 
+-- a goal is selected at the place, with this continuation and these branches behind it
 abbrev pub Selected : List Text → Stack Contents → Value Contents → ℕ → ℕ → Place → List Branch → Type 0
 Selected texts choices now height rest p behind = IsSelected (IsBranch texts) (term_in texts) choices now height rest p behind
 
@@ -83,9 +87,11 @@ Selected texts choices now height rest p behind = IsSelected (IsBranch texts) (t
 abbrev pub Placed : List Text → Stack Contents → Value Contents → ℕ → Place → List Branch → Type 0
 Placed texts choices now rest p behind = IsPlace (IsBranch texts) (term_in texts) choices now rest p × AreWaiting (IsBranch texts) (term_in texts) choices behind
 
+-- the engine leads to what the reply makes: it goes on with the continuation, if it doesn't come back
 abbrev pub Leads : List Text → Stack Contents → Value Contents → Option ℕ → Place → List Branch → Reply → Type 0
 Leads texts choices now current p behind reply = Becomes (IsBranch texts) (term_in texts) choices now current p behind reply
 
+-- more was built: what was there is as it was
 abbrev pub Grown : List Text → Value Contents → Value Contents → Type 0
 Grown texts old new = HasGrown (IsBranch texts) (term_in texts) old new
 

@@ -4,6 +4,7 @@ ghost use Rattle.std.specs.Prelude.{◌≡◌};
 
 use cq_clauses::Walk;
 use cq_control::{Continuation, Continuations};
+use cq_predicates::Solutions;
 use cq_term::TermId;
 use cq_trail::Both;
 use cq_world::World;
@@ -43,12 +44,14 @@ impl Untried {
 }
 
 /// What a choice leaves to try.
-#[derive(Clone, Copy, Drop)]
+#[derive(Drop)]
 pub enum Alternatives {
     /// One branch, which goes on with a continuation.
     One(Continuation),
     /// The clauses of a call that were not tried: its goal, and the continuation behind it.
     Clauses(TermId, Untried, Continuation),
+    /// The alternatives of a predicate that were not tried, and the continuation behind its goal.
+    Ways(Solutions, Continuation),
     /// No branch: the choice keeps a world to go back to.
     Barrier,
 }

@@ -101,7 +101,8 @@ pub(crate) fn leave(
         ≡ (value world.old.first world.old.second.now, One k) ∷ stack texts v (saved_values world.old.first world.old.second.saved) choices.old) }
     ensures first { now_of world.new.first ≡ now_of world.old.first }
     ensures lists { world.new.second.now ≡ world.old.second.now }
-    ensures choices { OnOk result (LeavesMore choices.old choices.new) }
+    ensures choices { OnOk result (LeavesMore (saved_values world.old.first world.old.second.saved) choices.old (value world.new.first world.new.second.now)
+        (saved_values world.new.first world.new.second.saved) choices.new) }
     ensures marked { AreMarked (saved_values world.new.first world.new.second.saved) choices.new }
     ensures err { OnErr result (choices.new ≡ choices.old) }
     ensures err_saved { OnErr result (saved_values world.new.first world.new.second.saved ≡ saved_values world.old.first world.old.second.saved) }

@@ -60,7 +60,8 @@ fn either(
     ensures world { now_of world.new.first ≡ now_of world.old.first }
     ensures there { IfOk result (λ k. k < length world.new.second.now) }
     ensures keeps { KeepsLists world.old.second.now world.new.second.now }
-    ensures choices { OnOk result (LeavesMore choices.old choices.new) }
+    ensures choices { OnOk result (LeavesMore (saved_values world.old.first world.old.second.saved) choices.old (value world.new.first world.new.second.now)
+        (saved_values world.new.first world.new.second.saved) choices.new) }
     ensures marked { AreMarked (saved_values world.new.first world.new.second.saved) choices.new }
     ensures err { OnErr result (choices.new ≡ choices.old) }
     ensures err_saved { OnErr result (saved_values world.new.first world.new.second.saved ≡ saved_values world.old.first world.old.second.saved) }
@@ -96,7 +97,8 @@ fn if_then_else(
     ensures world { now_of world.new.first ≡ now_of world.old.first }
     ensures there { IfOk result (λ k. k < length world.new.second.now) }
     ensures keeps { KeepsLists world.old.second.now world.new.second.now }
-    ensures choices { OnOk result (LeavesMore choices.old choices.new) }
+    ensures choices { OnOk result (LeavesMore (saved_values world.old.first world.old.second.saved) choices.old (value world.new.first world.new.second.now)
+        (saved_values world.new.first world.new.second.saved) choices.new) }
     ensures marked { AreMarked (saved_values world.new.first world.new.second.saved) choices.new }
     ensures err { OnErr result (choices.new ≡ choices.old) }
     ensures err_saved { OnErr result (saved_values world.new.first world.new.second.saved ≡ saved_values world.old.first world.old.second.saved) }
@@ -143,7 +145,8 @@ pub fn or(
     ensures world { now_of world.new.first ≡ now_of world.old.first }
     ensures there { IfOk result (λ k. k < length world.new.second.now) }
     ensures keeps { KeepsLists world.old.second.now world.new.second.now }
-    ensures choices { OnOk result (LeavesMore choices.old choices.new) }
+    ensures choices { OnOk result (LeavesMore (saved_values world.old.first world.old.second.saved) choices.old (value world.new.first world.new.second.now)
+        (saved_values world.new.first world.new.second.saved) choices.new) }
     ensures marked { AreMarked (saved_values world.new.first world.new.second.saved) choices.new }
     ensures err { OnErr result (choices.new ≡ choices.old) }
     ensures err_saved { OnErr result (saved_values world.new.first world.new.second.saved ≡ saved_values world.old.first world.old.second.saved) }

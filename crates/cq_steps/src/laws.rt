@@ -44,6 +44,7 @@ pub fn selected_goals_lead()
         → Comes (IsBranch texts) (term_in texts) steps (engine s.database (suc s.selected) choices now current) s }
     ensures reads { (texts : List Text) (c : Contents) (st : State) (id : ℕ) (t : Tree) → IsBranch texts c st
         → term_in texts c id ≡ Some (read st t) → ReadsAs texts c st id (read st t) }
+    ensures there { (texts : List Text) (c : Contents) (id : ℕ) (t : Tree) → term_in texts c id ≡ Some t → id < length c.heap.terms }
 {}
 
 /// The arguments of a term that reads as itself read as themselves.

@@ -49,7 +49,7 @@ fn pass_mark(
         → Arrives steps texts v db n (saved_values world.new.first world.new.second.saved) choices.new (value world.new.first world.new.second.now)
         (past result start) s }
     ensures passes { IsPast result start (items_at world.new.second.now start) }
-    ensures older { KeepsOlder choices.old choices.new }
+    ensures older { KeepsOlder (saved_values world.old.first world.old.second.saved) choices.old (saved_values world.new.first world.new.second.saved) choices.new }
 {
     let Some((cell, rest)) = world.second.first(start) else {
         return Front::Clear;
@@ -83,7 +83,7 @@ fn pass_marks(
         → Stands texts v db n (saved_values world.old.first world.old.second.saved) choices.old (value world.old.first world.old.second.now) (Some start) s
         → Arrives steps texts v db n (saved_values world.new.first world.new.second.saved) choices.new (value world.new.first world.new.second.now) result s }
     ensures front { IfSome result (λ k. IsFront (items_at world.new.second.now k)) }
-    ensures older { KeepsOlder choices.old choices.new }
+    ensures older { KeepsOlder (saved_values world.old.first world.old.second.saved) choices.old (saved_values world.new.first world.new.second.saved) choices.new }
 {
     let mut current = start;
     'marks: loop {
@@ -108,7 +108,7 @@ fn pass_from(
         → Stands texts v db n (saved_values world.old.first world.old.second.saved) choices.old (value world.old.first world.old.second.now) start s
         → Arrives steps texts v db n (saved_values world.new.first world.new.second.saved) choices.new (value world.new.first world.new.second.now) result s }
     ensures front { IfSome result (λ k. IsFront (items_at world.new.second.now k)) }
-    ensures older { KeepsOlder choices.old choices.new }
+    ensures older { KeepsOlder (saved_values world.old.first world.old.second.saved) choices.old (saved_values world.new.first world.new.second.saved) choices.new }
 {
     match start {
         Some(k) => pass_marks(world, choices, k),
@@ -124,14 +124,15 @@ fn come_back(world: &mut Searching, choices: &mut Choices<Alternatives>) -> Came
         → Stands texts v db n (saved_values world.old.first world.old.second.saved) choices.old (value world.old.first world.old.second.now) None s
         → Arrives steps texts v db n (saved_values world.new.first world.new.second.saved) choices.new (value world.new.first world.new.second.now)
         (came_to result) s }
-    ensures older { KeepsOlder choices.old choices.new }
+    ensures older { KeepsOlder (saved_values world.old.first world.old.second.saved) choices.old (saved_values world.new.first world.new.second.saved) choices.new }
     ensures back { HasComeBack result choices.old choices.new }
 {
     let Some(newest) = choices.top() else {
         return Came::Call;
     };
-    match *newest {
-        Alternatives::One(k) => {
+    match newest {
+        Alternatives::One(next) => {
+            let k = *next;
             choices.back(world);
             Came::Back(Some(k))
         }
@@ -140,6 +141,7 @@ fn come_back(world: &mut Searching, choices: &mut Choices<Alternatives>) -> Came
             Came::Back(None)
         }
         Alternatives::Clauses(_, _, _) => Came::Call,
+        Alternatives::Ways(_, _) => Came::Call,
     }
 }
 
@@ -157,7 +159,7 @@ pub fn find_front(
         → Arrives steps texts v db n (saved_values world.new.first world.new.second.saved) choices.new (value world.new.first world.new.second.now) result s }
     ensures front { IfSome result (λ k. IsFront (items_at world.new.second.now k)) }
     ensures call { IfNone result (IsCall choices.new) }
-    ensures older { KeepsOlder choices.old choices.new }
+    ensures older { KeepsOlder (saved_values world.old.first world.old.second.saved) choices.old (saved_values world.new.first world.new.second.saved) choices.new }
 {
     let mut current = start;
     'choices: loop {

@@ -12,7 +12,7 @@ ghost use Rattle.cq_control.specs.Open.{AreMarked, last};
 ghost use Rattle.cq_program.specs.Database.{Program};
 ghost use Rattle.cq_world.specs.Contents.{Contents};
 ghost use Rattle.cq_world.specs.Worlds.{now_of};
-ghost use Rattle.cq_steps.specs.Choices.{LeavesMore};
+ghost use Rattle.cq_steps.specs.Choices.{LeavesMore, KeepsOlder};
 ghost use Rattle.cq_steps.specs.Lists.{KeepsLists};
 ghost use Rattle.cq_steps.specs.Worlds.{value, saved_values, stack, ReadsAs, Selected, Leads};
 
@@ -120,7 +120,8 @@ pub fn not(
     ensures world { now_of world.new.first ≡ now_of world.old.first }
     ensures there { IfOk result (λ k. k < length world.new.second.now) }
     ensures keeps { KeepsLists world.old.second.now world.new.second.now }
-    ensures choices { OnOk result (LeavesMore choices.old choices.new) }
+    ensures choices { OnOk result (LeavesMore (saved_values world.old.first world.old.second.saved) choices.old (value world.new.first world.new.second.now)
+        (saved_values world.new.first world.new.second.saved) choices.new) }
     ensures marked { AreMarked (saved_values world.new.first world.new.second.saved) choices.new }
     ensures err { OnErr result (choices.new ≡ choices.old) }
     ensures err_saved { OnErr result (saved_values world.new.first world.new.second.saved ≡ saved_values world.old.first world.old.second.saved) }
@@ -145,6 +146,7 @@ pub fn cut(world: &mut Searching, choices: &mut Choices<Alternatives>, height: u
     ensures world { now_of world.new.first ≡ now_of world.old.first }
     ensures lists { world.new.second.now ≡ world.old.second.now }
     ensures choices { choices.new ≡ last height choices.old }
+    ensures older { KeepsOlder (saved_values world.old.first world.old.second.saved) choices.old (saved_values world.new.first world.new.second.saved) choices.new }
     ensures marked { AreMarked (saved_values world.new.first world.new.second.saved) choices.new }
 {
     choices.cut(world, height);

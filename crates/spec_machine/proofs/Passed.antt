@@ -3,7 +3,8 @@ use Rattle.std.proofs.Common.{inl, ◌≡◌, ℕ, ◌<◌, List, [], ◌∷◌,
 use Rattle.spec_syntax.specs.Trees.{Tree}
 use Rattle.spec_branch.specs.Branch.{State, Item, Branch, no_work, read}
 use Rattle.spec_search.specs.Database.{Database, Clause}
-use Rattle.spec_search.specs.Replies.{Place, child}
+use Rattle.spec_builtins.specs.Alternatives.{Alternative}
+use Rattle.spec_search.specs.Replies.{Place, child, alternative_child, with_new, with_equations}
 use Rattle.spec_search.specs.Control.{clause_child, clause_items, clause_state, clause_work}
 use Rattle.spec_search.specs.Balls as balls
 use Rattle.spec_search.specs.Search.{Search, is_selecting, settled, Settling, Selecting, look_at}
@@ -13,7 +14,7 @@ use Rattle.cq_control.specs.Items.{items_at}
 use Rattle.cq_control.specs.Open.{last}
 use Rattle.spec_machine.specs.declared.cell.Cell.{Cell}
 use Rattle.spec_machine.specs.declared.cell.Cell.TheVariants.{Goal, CutTo, CutFail, CatchEnd}
-use Rattle.spec_machine.specs.Cells.{Fits, One, Clauses, Value, Stack, below}
+use Rattle.spec_machine.specs.Cells.{Fits, One, Clauses, Ways, Value, Stack, below}
 use Rattle.spec_machine.specs.Standing.{engine, AreItems, IsPlace, AreWaiting, IsStanding}
 use Rattle.spec_machine.specs.Coming.{at_once, after, Comes, Rest}
 use Rattle.spec_machine.proofs.Kept.{length-last, fits_more, items_last, length-waiting, waiting-last}
@@ -159,3 +160,14 @@ module _ {W : Type 0} (IsState : W → State → Type 0) (term : W → ℕ → O
         let is : s.branches ≡ clause_child own.0 own.1 c ∷ (left ++ j.waiting.1) =
         j.branches ∙ ap (λ l. l ++ j.behind) j.current ∙ j.waiting.2 ∙ ap (λ l. l ++ j.waiting.1) own.2 in
         (own.0, own.1, left ++ j.waiting.1, ap look_at is, own.3, own.4, (left, j.waiting.1, refl, (own.0, own.1, refl, own.3, own.4), j.waiting.4))
+
+    -- the next alternative of a predicate is tried: its branch is settled, and the others wait
+    pub way_begun : (k : ℕ) (way : Alternative) (ways : List Alternative) → IsStanding IsState term (engine db n ((v, Ways (way ∷ ways) k) ∷ older) now None) s
+        → (p : Place) × (behind : List Branch) × (look_at s.branches ≡ Settling p.rest (with_new way.new p.state) (with_equations way.equations) behind)
+        × IsPlace IsState term older v k p × AreWaiting IsState term ((v, Ways ways k) ∷ older) behind
+    way_begun k way ways j =
+        let own = j.waiting.3 in
+        let left = map (alternative_child own.0) ways in
+        let is : s.branches ≡ alternative_child own.0 way ∷ (left ++ j.waiting.1) =
+        j.branches ∙ ap (λ l. l ++ j.behind) j.current ∙ j.waiting.2 ∙ ap (λ l. l ++ j.waiting.1) own.1 in
+        (own.0, left ++ j.waiting.1, ap look_at is, own.2, (left, j.waiting.1, refl, (own.0, refl, own.2), j.waiting.4))

@@ -10,7 +10,8 @@ ghost use Rattle.spec_search.specs.Balls as balls;
 ghost use Rattle.spec_search.specs.Balls.{handed};
 ghost use Rattle.spec_search.specs.Control.{clause_items, clause_state, clause_work};
 ghost use Rattle.spec_search.specs.Database.{Database, Clause};
-ghost use Rattle.spec_search.specs.Replies.{Place, Made, Makes, child};
+ghost use Rattle.spec_builtins.specs.Alternatives.{Alternative};
+ghost use Rattle.spec_search.specs.Replies.{Place, Made, Makes, child, with_new, with_equations};
 ghost use Rattle.spec_search.specs.Rows.{reply_of};
 ghost use Rattle.spec_search.specs.Search.{Search, settled, empty_state, start, look_at, Answering, Over, Selecting, Settling};
 ghost use Rattle.spec_search.specs.Turns.{Turn, Wrote, place_of, after_step};
@@ -18,7 +19,7 @@ ghost use Rattle.cq_control.specs.Items.{items_at};
 ghost use Rattle.cq_control.specs.Open.{last};
 ghost use Rattle.spec_machine.specs.declared.cell.Cell.{Cell};
 ghost use Rattle.spec_machine.specs.declared.cell.Cell.TheVariants.{Goal, CutTo, CutFail, CatchEnd};
-ghost use Rattle.spec_machine.specs.Cells.{Fits, Left, One, Clauses, Barrier, Value, Stack, below, nearest_catch};
+ghost use Rattle.spec_machine.specs.Cells.{Fits, Left, One, Clauses, Ways, Barrier, Value, Stack, below, nearest_catch};
 ghost use Rattle.spec_machine.specs.Standing.{engine, AreItems, AreWaiting, IsContinuation, IsHanded, IsPlace, IsStanding, KeepsReading, ReadsOn};
 ghost use Rattle.spec_machine.specs.Coming.{Comes};
 
@@ -109,7 +110,7 @@ pub fn children_are_settled<R: StateWorlds>()
 {}
 
 /// The engine comes back to its newest choice: one that stands for no branch is passed, one of a continuation goes on with it,
-/// and one of a call begins its next clause, and is gone once it has none.
+/// and one of a call begins its next clause or alternative, and is gone once it has none.
 pub fn choices_are_come_back_to<R: StateWorlds>()
     ensures barrier { (texts : List Text) (db : Database) (n : ℕ) (older : Stack R.World) (v now : Value R.World) (s : Search)
         → IsStanding (R.is_state texts) (R.term texts) (engine db n ((v, Barrier) ∷ older) now None) s
@@ -127,6 +128,16 @@ pub fn choices_are_come_back_to<R: StateWorlds>()
         × AreWaiting (R.is_state texts) (R.term texts) ((v, Clauses t cs k) ∷ older) behind }
     ensures ended { (texts : List Text) (older : Stack R.World) (v : Value R.World) (t k : ℕ) (branches : List Branch)
         → AreWaiting (R.is_state texts) (R.term texts) ((v, Clauses t [] k) ∷ older) branches
+        → AreWaiting (R.is_state texts) (R.term texts) older branches }
+    ensures way { (texts : List Text) (db : Database) (n : ℕ) (older : Stack R.World) (v now : Value R.World) (s : Search) (k : ℕ) (a : Alternative)
+        (ways : List Alternative)
+        → IsStanding (R.is_state texts) (R.term texts) (engine db n ((v, Ways (a ∷ ways) k) ∷ older) now None) s
+        → (p : Place) × (behind : List Branch)
+        × (look_at s.branches ≡ Settling p.rest (with_new a.new p.state) (with_equations a.equations) behind)
+        × IsPlace (R.is_state texts) (R.term texts) older v k p
+        × AreWaiting (R.is_state texts) (R.term texts) ((v, Ways ways k) ∷ older) behind }
+    ensures ways_ended { (texts : List Text) (older : Stack R.World) (v : Value R.World) (k : ℕ) (branches : List Branch)
+        → AreWaiting (R.is_state texts) (R.term texts) ((v, Ways [] k) ∷ older) branches
         → AreWaiting (R.is_state texts) (R.term texts) older branches }
 {}
 

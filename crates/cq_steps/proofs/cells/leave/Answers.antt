@@ -6,3 +6,10 @@ pub returns-clause-stack : goal.returns-clause-stack
 returns-clause-stack c = λ texts v.
     stack_pushed texts v (saved_values c.args.world.now.first c.args.world.now.second.saved) (saved_values c.push.new.world.first c.push.new.world.second.saved)
     c.args.choices.now c.push.new.self (value c.args.world.now.first c.args.world.now.second.now) c.args.k c.in_ok-push.ensures.open
+
+pub returns-clause-choices : goal.returns-clause-choices
+returns-clause-choices c = (
+  c.args.k,
+  c.in_ok-push.ensures.open
+  ∙ ap (λ (w : Value Contents). (w, One c.args.k) ∷ open_choices (saved_values c.args.world.now.first c.args.world.now.second.saved) c.args.choices.now) (sym c.in_ok-push.ensures.now),
+)

@@ -2,7 +2,9 @@ use Rattle.std.proofs.Common.{◌∷◌, ap, ap₂, ◌∙◌}
 use Rattle.spec_search.specs.Control.{or_row}
 use Rattle.spec_machine.specs.Cells.{One}
 use Rattle.cq_world.specs.Worlds.{now_of}
-use Rattle.cq_steps.specs.Worlds.{saved_values, stack}
+use Rattle.cq_control.specs.Open.{open_choices}
+use Rattle.cq_steps.specs.declared.alternatives.Alternatives.TheVariants as alternatives
+use Rattle.cq_steps.specs.Worlds.{value, saved_values, stack}
 use Rattle.cq_steps.proofs.Added.{has_front, has_still}
 use Rattle.cq_steps.proofs.Done.{or_done, leads_same}
 use Rattle.cq_steps.proofs.disjunction.either.Goals as goal
@@ -21,3 +23,14 @@ returns-clause-row c = λ texts v p behind a b s ra rb plain.
     (or_done texts (now_of first) old new c.args.height c.args.rest p behind choices s c.in_ok-first.first c.in_ok-second.second c.args.left c.args.right a b
     (has_front old mid new c.in_ok-first.first c.args.rest _ c.in_ok-second.ensures.keeps c.requires.rest (c.in_ok-first.ensures.cells texts))
     (has_still mid new c.in_ok-second.second _ (c.in_ok-second.ensures.cells texts) c.in_ok-first.ensures.keeps) ra rb plain)
+
+pub returns-clause-choices : goal.returns-clause-choices
+returns-clause-choices c =
+    let first = c.args.world.now.first in
+    let saved = c.in_ok-first.ensures.saved ∙ c.in_ok-second.ensures.saved in
+    let left = c.in_ok-leave.ensures.choices in
+    (
+      left.0,
+      left.1
+      ∙ ap (λ l. (value c.leave.new.world.first c.leave.new.world.second.now, alternatives.One left.0) ∷ open_choices (saved_values first l) c.args.choices.now) saved,
+    )

@@ -3,7 +3,9 @@ use Rattle.spec_syntax.specs.Trees.{binary}
 use Rattle.spec_search.specs.Control.{or_row}
 use Rattle.spec_machine.specs.Cells.{One}
 use Rattle.cq_world.specs.Worlds.{now_of}
-use Rattle.cq_steps.specs.Worlds.{saved_values, stack}
+use Rattle.cq_control.specs.Open.{open_choices}
+use Rattle.cq_steps.specs.declared.alternatives.Alternatives.TheVariants as alternatives
+use Rattle.cq_steps.specs.Worlds.{value, saved_values, stack}
 use Rattle.cq_steps.proofs.Added.{has_behind, has_more, has_still, keeps_on}
 use Rattle.cq_steps.proofs.Done.{if_then_else_done, length-stack, leads_same}
 use Rattle.cq_steps.proofs.disjunction.if_then_else.Goals as goal
@@ -27,3 +29,14 @@ returns-clause-row c = λ texts v p behind condition t b s rc rt rb.
     (has_more mid new c.in_ok-mark.mark c.in_ok-all.all _ _
     (has_behind old low mid c.in_ok-mark.mark c.args.rest _ _ c.in_ok-other.ensures.keeps c.requires.rest (c.in_ok-mark.ensures.cells texts)) (c.in_ok-all.ensures.cells texts))
     (has_still low new c.in_ok-other.other _ (c.in_ok-other.ensures.cells texts) (keeps_on low mid new c.in_ok-mark.ensures.keeps c.in_ok-all.ensures.keeps)) rc rt rb)
+
+pub returns-clause-choices : goal.returns-clause-choices
+returns-clause-choices c =
+    let first = c.args.world.now.first in
+    let saved = c.in_ok-all.ensures.saved ∙ c.in_ok-mark.ensures.saved ∙ c.in_ok-other.ensures.saved in
+    let left = c.in_ok-leave.ensures.choices in
+    (
+      left.0,
+      left.1
+      ∙ ap (λ l. (value c.leave.new.world.first c.leave.new.world.second.now, alternatives.One left.0) ∷ open_choices (saved_values first l) c.args.choices.now) saved,
+    )

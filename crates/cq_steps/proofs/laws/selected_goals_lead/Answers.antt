@@ -1,5 +1,6 @@
 use Rattle.cq_steps.specs.Worlds.{IsBranch, term_in}
 use Rattle.cq_steps.proofs.Beginning.{reads_again}
+use Rattle.cq_steps.proofs.Reading.{read_live}
 use Rattle.cq_steps.proofs.Selected.{goal_selected, call_selected, made_comes}
 use Rattle.cq_steps.proofs.laws.selected_goals_lead.Goals as goal
 
@@ -15,3 +16,6 @@ returns-clause-comes c = λ texts steps s goal cut items st behind look few choi
 
 pub returns-clause-reads : goal.returns-clause-reads
 returns-clause-reads c = λ texts w st id t b e. reads_again texts w st id t b e
+
+pub returns-clause-there : goal.returns-clause-there
+returns-clause-there c = λ texts w id t e. read_live texts w.heap.terms id t e

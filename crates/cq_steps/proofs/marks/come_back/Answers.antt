@@ -13,10 +13,10 @@ returns-in-One-clause-arrives c = λ steps texts v db n s j.
     let now = value c.args.world.now.first c.args.world.now.second.now in
     let fewer = saved_values c.back.new.world.first c.back.new.world.second.saved in
     let back = value c.back.new.world.first c.back.new.world.second.now in
-    let gone = newest_gone c.back.result c.args.choices.now c.back.new.self c.in-Some.ensures.some.0 (One c.in-One.k)
+    let gone = newest_gone c.back.result c.args.choices.now c.back.new.self c.in-Some.ensures.some.0 (One c.in-One.next.now)
     (λ (x : Alternatives). open_choices saved c.args.choices.now ≡ (back, x) ∷ open_choices fewer c.back.new.self) c.back.ensures.none c.back.ensures.contents c.back.ensures.open
     (c.in-Some.ensures.some.1 ∙ ap (λ x. x ∷ c.in-Some.ensures.some.0) c.in-One.is) in
-    one_on steps texts v db n s saved fewer c.args.choices.now c.back.new.self now back c.in-One.k gone (here steps texts v db n s saved c.args.choices.now now None j)
+    one_on steps texts v db n s saved fewer c.args.choices.now c.back.new.self now back c.in-One.next.now gone (here steps texts v db n s saved c.args.choices.now now None j)
 
 pub returns-in_default-clause-arrives : goal.returns-in_default-clause-arrives
 returns-in_default-clause-arrives c = λ steps texts v db n s j.
@@ -28,10 +28,13 @@ returns-in-Clauses-clause-arrives c = λ steps texts v db n s j.
 
 pub returns-in-One-clause-older : goal.returns-in-One-clause-older
 returns-in-One-clause-older c =
-    let old = c.args.choices.now in
-    older_next (One c.in-One.k) old c.back.new.self
-    (newest_gone c.back.result old c.back.new.self c.in-Some.ensures.some.0 (One c.in-One.k) (λ (x : Alternatives). old ≡ x ∷ c.back.new.self) c.back.ensures.none c.back.ensures.contents
-    c.back.ensures.contents (c.in-Some.ensures.some.1 ∙ ap (λ x. x ∷ c.in-Some.ensures.some.0) c.in-One.is))
+    let saved = saved_values c.args.world.now.first c.args.world.now.second.saved in
+    let back = value c.back.new.world.first c.back.new.world.second.now in
+    let fewer = saved_values c.back.new.world.first c.back.new.world.second.saved in
+    older_next (back, One c.in-One.next.now) saved fewer c.args.choices.now c.back.new.self
+    (newest_gone c.back.result c.args.choices.now c.back.new.self c.in-Some.ensures.some.0 (One c.in-One.next.now)
+    (λ (x : Alternatives). open_choices saved c.args.choices.now ≡ (back, x) ∷ open_choices fewer c.back.new.self) c.back.ensures.none c.back.ensures.contents c.back.ensures.open
+    (c.in-Some.ensures.some.1 ∙ ap (λ x. x ∷ c.in-Some.ensures.some.0) c.in-One.is))
 
 pub returns-in-Barrier-clause-arrives : goal.returns-in-Barrier-clause-arrives
 returns-in-Barrier-clause-arrives c = λ steps texts v db n s j.
@@ -46,8 +49,14 @@ returns-in-Barrier-clause-arrives c = λ steps texts v db n s j.
 
 pub returns-in-Barrier-clause-older : goal.returns-in-Barrier-clause-older
 returns-in-Barrier-clause-older c =
-    let old = c.args.choices.now in
-    older_next Barrier old c.back-in-Barrier.new.self
-    (newest_gone c.back-in-Barrier.result old c.back-in-Barrier.new.self c.in-Some.ensures.some.0 Barrier (λ (x : Alternatives). old ≡ x ∷ c.back-in-Barrier.new.self)
-    c.back-in-Barrier.ensures.none c.back-in-Barrier.ensures.contents c.back-in-Barrier.ensures.contents
+    let saved = saved_values c.args.world.now.first c.args.world.now.second.saved in
+    let back = value c.back-in-Barrier.new.world.first c.back-in-Barrier.new.world.second.now in
+    let fewer = saved_values c.back-in-Barrier.new.world.first c.back-in-Barrier.new.world.second.saved in
+    older_next (back, Barrier) saved fewer c.args.choices.now c.back-in-Barrier.new.self
+    (newest_gone c.back-in-Barrier.result c.args.choices.now c.back-in-Barrier.new.self c.in-Some.ensures.some.0 Barrier
+    (λ (x : Alternatives). open_choices saved c.args.choices.now ≡ (back, x) ∷ open_choices fewer c.back-in-Barrier.new.self) c.back-in-Barrier.ensures.none c.back-in-Barrier.ensures.contents c.back-in-Barrier.ensures.open
     (c.in-Some.ensures.some.1 ∙ ap (λ x. x ∷ c.in-Some.ensures.some.0) c.in-Barrier.is))
+
+pub returns-in-Ways-clause-arrives : goal.returns-in-Ways-clause-arrives
+returns-in-Ways-clause-arrives c = λ steps texts v db n s j.
+    here steps texts v db n s (saved_values c.args.world.now.first c.args.world.now.second.saved) c.args.choices.now (value c.args.world.now.first c.args.world.now.second.now) None j

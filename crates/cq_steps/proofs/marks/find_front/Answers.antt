@@ -9,7 +9,7 @@ choices-init c = record {
   marked = c.requires.marked;
   arrives = λ steps texts v db n s j.
       here steps texts v db n s (saved_values c.args.world.now.first c.args.world.now.second.saved) c.args.choices.now (value c.args.world.now.first c.args.world.now.second.now) c.args.start j;
-  older = older_all c.args.choices.now;
+  older = older_all (saved_values c.args.world.now.first c.args.world.now.second.saved) c.args.choices.now;
 }
 
 pub pass_from-requires-clause-works : goal.pass_from-requires-clause-works
@@ -28,7 +28,7 @@ choices-preserved c = record {
       arrives_on (saved_values c.pass_from.new.world.first c.pass_from.new.world.second.saved) (saved_values c.come_back.new.world.first c.come_back.new.world.second.saved)
       c.pass_from.new.choices c.come_back.new.choices (value c.pass_from.new.world.first c.pass_from.new.world.second.now)
       (value c.come_back.new.world.first c.come_back.new.world.second.now) None c.in-Back.next steps texts v db n s passed c.in-Back.ensures.arrives;
-  older = older_on _ _ _ (older_on _ _ _ c.choices.invariant.older c.in_default.ensures.older) c.in-Back.ensures.older;
+  older = older_on _ _ _ _ _ _ (older_on _ _ _ _ _ _ c.choices.invariant.older c.in_default.ensures.older) c.in-Back.ensures.older;
 }
 
 pub returns-in-Some-clause-arrives : goal.returns-in-Some-clause-arrives
@@ -38,7 +38,7 @@ returns-in-Some-clause-arrives c = λ steps texts v db n s j.
     c.choices.current (Some c.in-Some.front) steps texts v db n s (c.choices.invariant.arrives steps texts v db n s j) c.in-Some.ensures.arrives
 
 pub returns-in-Some-clause-older : goal.returns-in-Some-clause-older
-returns-in-Some-clause-older c = older_on _ _ _ c.choices.invariant.older c.in-Some.ensures.older
+returns-in-Some-clause-older c = older_on _ _ _ _ _ _ c.choices.invariant.older c.in-Some.ensures.older
 
 pub returns-in-Call-clause-arrives : goal.returns-in-Call-clause-arrives
 returns-in-Call-clause-arrives c = λ steps texts v db n s j.
@@ -51,4 +51,4 @@ returns-in-Call-clause-arrives c = λ steps texts v db n s j.
     (value c.come_back.new.world.first c.come_back.new.world.second.now) None None steps texts v db n s passed c.in-Call.ensures.arrives
 
 pub returns-in-Call-clause-older : goal.returns-in-Call-clause-older
-returns-in-Call-clause-older c = older_on _ _ _ (older_on _ _ _ c.choices.invariant.older c.in_default.ensures.older) c.in-Call.ensures.older
+returns-in-Call-clause-older c = older_on _ _ _ _ _ _ (older_on _ _ _ _ _ _ c.choices.invariant.older c.in_default.ensures.older) c.in-Call.ensures.older

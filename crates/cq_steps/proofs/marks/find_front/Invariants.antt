@@ -15,7 +15,7 @@ invariant-choices l =
       arrives : (steps : ℕ) (texts : List Text) (v : Program) (db : Database) (n : ℕ) (s : Search)
           → Stands texts v db n (saved_values l.fn.world.first l.fn.world.second.saved) l.fn.choices (value l.fn.world.first l.fn.world.second.now) l.fn.start s
           → Arrives steps texts v db n (saved_values l.world.first l.world.second.saved) l.choices (value l.world.first l.world.second.now) l.current s;
-      older : KeepsOlder l.fn.choices l.choices;
+      older : KeepsOlder (saved_values l.fn.world.first l.fn.world.second.saved) l.fn.choices (saved_values l.world.first l.world.second.saved) l.choices;
     }
 
 abbrev pub decreases-choices : goal.decreases-choices

@@ -11,4 +11,4 @@ returns-in-None-clause-arrives c = λ steps texts v db n s j.
     here steps texts v db n s saved c.args.choices.now now None (subst (λ (k : Option ℕ). Stands texts v db n saved c.args.choices.now now k s) c.in-None.is j)
 
 pub returns-in-None-clause-older : goal.returns-in-None-clause-older
-returns-in-None-clause-older c = older_all c.args.choices.now
+returns-in-None-clause-older c = older_all (saved_values c.args.world.now.first c.args.world.now.second.saved) c.args.choices.now

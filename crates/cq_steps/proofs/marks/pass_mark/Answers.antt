@@ -46,10 +46,11 @@ returns-in-Collect-clause-arrives c = λ steps texts v db n s j.
     here steps texts v db n s (saved_values c.args.world.now.first c.args.world.now.second.saved) c.args.choices.now (value c.args.world.now.first c.args.world.now.second.now) (Some c.args.start) j
 
 pub returns-in-CutTo-clause-older : goal.returns-in-CutTo-clause-older
-returns-in-CutTo-clause-older c = older_last c.in-CutTo.height c.args.choices.now c.cut.new.self c.cut.ensures.contents
+returns-in-CutTo-clause-older c = older_last c.in-CutTo.height (saved_values c.args.world.now.first c.args.world.now.second.saved) (saved_values c.cut.new.world.first c.cut.new.world.second.saved) c.args.choices.now c.cut.new.self c.cut.ensures.open
 
 pub returns-in-CutFail-clause-older : goal.returns-in-CutFail-clause-older
-returns-in-CutFail-clause-older c = older_last c.in-CutFail.height c.args.choices.now c.cut-in-CutFail.new.self c.cut-in-CutFail.ensures.contents
+returns-in-CutFail-clause-older c = older_last c.in-CutFail.height (saved_values c.args.world.now.first c.args.world.now.second.saved) (saved_values c.cut-in-CutFail.new.world.first c.cut-in-CutFail.new.world.second.saved) c.args.choices.now c.cut-in-CutFail.new.self
+    c.cut-in-CutFail.ensures.open
 
 pub returns-in-CatchEnd-clause-arrives : goal.returns-in-CatchEnd-clause-arrives
 returns-in-CatchEnd-clause-arrives c = λ steps texts v db n s j.

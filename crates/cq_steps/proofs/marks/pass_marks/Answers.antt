@@ -9,7 +9,7 @@ marks-init c = record {
   marked = c.requires.marked;
   arrives = λ steps texts v db n s j.
       here steps texts v db n s (saved_values c.args.world.now.first c.args.world.now.second.saved) c.args.choices.now (value c.args.world.now.first c.args.world.now.second.now) (Some c.args.start) j;
-  older = older_all c.args.choices.now;
+  older = older_all (saved_values c.args.world.now.first c.args.world.now.second.saved) c.args.choices.now;
 }
 
 pub pass_mark-requires-clause-works : goal.pass_mark-requires-clause-works
@@ -24,7 +24,7 @@ marks-preserved c = record {
       arrives_on (saved_values c.marks.world.first c.marks.world.second.saved) (saved_values c.pass_mark.new.world.first c.pass_mark.new.world.second.saved) c.marks.choices c.pass_mark.new.choices
       (value c.marks.world.first c.marks.world.second.now) (value c.pass_mark.new.world.first c.pass_mark.new.world.second.now) (Some c.marks.current) (Some c.in-Passed.rest)
       steps texts v db n s (c.marks.invariant.arrives steps texts v db n s j) c.in-Passed.ensures.arrives;
-  older = older_on _ _ _ c.marks.invariant.older c.in-Passed.ensures.older;
+  older = older_on _ _ _ _ _ _ c.marks.invariant.older c.in-Passed.ensures.older;
 }
 
 pub returns-in-Clear-clause-arrives : goal.returns-in-Clear-clause-arrives
@@ -34,7 +34,7 @@ returns-in-Clear-clause-arrives c = λ steps texts v db n s j.
     steps texts v db n s (c.marks.invariant.arrives steps texts v db n s j) c.in-Clear.ensures.arrives
 
 pub returns-in-Clear-clause-older : goal.returns-in-Clear-clause-older
-returns-in-Clear-clause-older c = older_on _ _ _ c.marks.invariant.older c.in-Clear.ensures.older
+returns-in-Clear-clause-older c = older_on _ _ _ _ _ _ c.marks.invariant.older c.in-Clear.ensures.older
 
 pub returns-in-Back-clause-arrives : goal.returns-in-Back-clause-arrives
 returns-in-Back-clause-arrives c = λ steps texts v db n s j.
@@ -43,4 +43,4 @@ returns-in-Back-clause-arrives c = λ steps texts v db n s j.
     steps texts v db n s (c.marks.invariant.arrives steps texts v db n s j) c.in-Back.ensures.arrives
 
 pub returns-in-Back-clause-older : goal.returns-in-Back-clause-older
-returns-in-Back-clause-older c = older_on _ _ _ c.marks.invariant.older c.in-Back.ensures.older
+returns-in-Back-clause-older c = older_on _ _ _ _ _ _ c.marks.invariant.older c.in-Back.ensures.older

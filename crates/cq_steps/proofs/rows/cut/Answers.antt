@@ -5,6 +5,7 @@ use Rattle.cq_steps.specs.Worlds.{IsBranch, term_in, saved_values, stack}
 use Rattle.cq_steps.proofs.Branches.{branches_rest}
 use Rattle.cq_steps.proofs.Control.{cut_becomes}
 use Rattle.cq_steps.proofs.Done.{leads_same, stack_cut}
+use Rattle.cq_steps.proofs.Older.{older_last}
 use Rattle.cq_steps.proofs.rows.cut.Goals as goal
 
 pub returns-clause-row : goal.returns-clause-row
@@ -17,3 +18,8 @@ returns-clause-row c = λ texts v rest p behind s.
     (stack_cut texts v saved (saved_values c.cut.new.world.first c.cut.new.world.second.saved) c.args.choices.now c.cut.new.self c.args.height c.cut.ensures.open)
     c.cut.ensures.now
     (cut_becomes (IsBranch texts) (term_in texts) (branches_rest texts) choices (now_of first) lists lists c.args.height rest p behind s)
+
+pub returns-clause-older : goal.returns-clause-older
+returns-clause-older c =
+    older_last c.args.height (saved_values c.args.world.now.first c.args.world.now.second.saved) (saved_values c.cut.new.world.first c.cut.new.world.second.saved)
+    c.args.choices.now c.cut.new.self c.cut.ensures.open

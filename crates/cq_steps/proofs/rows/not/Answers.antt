@@ -2,7 +2,9 @@ use Rattle.std.proofs.Common.{◌∷◌, sym, ap, ap₂, ◌∙◌}
 use Rattle.spec_search.specs.Control.{not_row}
 use Rattle.spec_machine.specs.Cells.{One}
 use Rattle.cq_world.specs.Worlds.{now_of}
-use Rattle.cq_steps.specs.Worlds.{saved_values, stack}
+use Rattle.cq_control.specs.Open.{open_choices}
+use Rattle.cq_steps.specs.declared.alternatives.Alternatives.TheVariants as alternatives
+use Rattle.cq_steps.specs.Worlds.{value, saved_values, stack}
 use Rattle.cq_steps.proofs.Added.{has_more, keeps_on}
 use Rattle.cq_steps.proofs.Done.{not_done, length-stack, leads_same}
 use Rattle.cq_steps.proofs.rows.not.Goals as goal
@@ -22,3 +24,14 @@ returns-clause-row c = λ texts v height p behind g s r.
     (c.height-top.ensures ∙ sym (length-stack texts v (saved_values first c.args.world.now.second.saved) c.args.choices.now c.requires.marked))
     c.in_ok-above.ensures (keeps_on old mid new c.in_ok-mark.ensures.keeps c.in_ok-both.ensures.keeps)
     (has_more mid new c.in_ok-mark.mark c.in_ok-both.both _ _ c.in_ok-mark.ensures.cells (c.in_ok-both.ensures.cells texts)) r)
+
+pub returns-clause-choices : goal.returns-clause-choices
+returns-clause-choices c =
+    let first = c.args.world.now.first in
+    let saved = c.in_ok-both.ensures.saved ∙ c.in_ok-mark.ensures.saved in
+    let left = c.in_ok-leave.ensures.choices in
+    (
+      left.0,
+      left.1
+      ∙ ap (λ l. (value c.leave.new.world.first c.leave.new.world.second.now, alternatives.One left.0) ∷ open_choices (saved_values first l) c.args.choices.now) saved,
+    )

@@ -1,4 +1,4 @@
-use Rattle.spec_machine.proofs.Passed.{one_begun, clause_begun}
+use Rattle.spec_machine.proofs.Passed.{one_begun, clause_begun, way_begun}
 use Rattle.spec_machine.proofs.laws.choices_are_come_back_to.Goals as goal
 
 pub returns-clause-one : goal.returns-clause-one
@@ -6,3 +6,6 @@ returns-clause-one g c = λ texts steps db n older v now s k rest j. one_begun (
 
 pub returns-clause-clause : goal.returns-clause-clause
 returns-clause-clause g c = λ texts. clause_begun (g.R.StateWorlds.is_state texts) (g.R.StateWorlds.term texts) 0
+
+pub returns-clause-way : goal.returns-clause-way
+returns-clause-way g c = λ texts. way_begun (g.R.StateWorlds.is_state texts) (g.R.StateWorlds.term texts) 0
