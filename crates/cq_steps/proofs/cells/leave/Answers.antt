@@ -1,3 +1,8 @@
+use Rattle.std.proofs.Common.{◌∷◌, sym, ap, ◌∙◌}
+use Rattle.cq_control.specs.Open.{open_choices}
+use Rattle.cq_world.specs.Contents.{Contents}
+use Rattle.spec_machine.specs.Cells.{Value}
+use Rattle.cq_steps.specs.declared.alternatives.Alternatives.TheVariants.{One}
 use Rattle.cq_steps.specs.Worlds.{value, saved_values}
 use Rattle.cq_steps.proofs.Done.{stack_pushed}
 use Rattle.cq_steps.proofs.cells.leave.Goals as goal
