@@ -1,0 +1,10 @@
+//! The steps of an engine: what a selected goal comes to, by the row of what it calls.
+#![tactic(auto)]
+
+mod control;
+mod machine;
+mod step;
+
+pub use control::{call, conjunction, cut, disjunction, if_then, negation};
+pub use machine::Machine;
+pub use step::Step;
