@@ -1,16 +1,25 @@
 -- What a machine keeps while its choices and its world change.
-use Rattle.std.proofs.Common.{◌≡◌, ℕ, List, [], ◌∷◌, ◌++◌, Option, subst, sym}
+use Rattle.std.proofs.Common.{◌≡◌, ◌<◌, ℕ, List, [], ◌∷◌, ◌++◌, length, Option, Some, subst, sym}
+use Rattle.std.specs.Prelude.{slice_get}
 use Rattle.std.specs.List.{AllByRecursion}
 use Rattle.spec_lists.specs.Texts.{Text}
-use Rattle.spec_branch.specs.Branch.{Branch}
+use Rattle.spec_syntax.specs.Trees.{Tree}
+use Rattle.spec_branch.specs.Branch.{State, Branch}
+use Rattle.spec_builtins.specs.Terms as builtins
 use Rattle.spec_search.specs.Replies.{Place, Reply}
+use Rattle.spec_search.specs.Rows.{nth}
 use Rattle.cq_control.specs.Open.{open_choices}
 use Rattle.cq_program.specs.Database.{Program}
+use Rattle.cq_term.specs.Meaning.{at}
+use Rattle.cq_term.specs.Shown.{arguments}
+use Rattle.cq_term.specs.Trees.{tree}
 use Rattle.cq_world.specs.Contents.{Contents}
 use Rattle.spec_machine.specs.Cells.{Value}
 use Rattle.cq_steps.specs.declared.alternatives.Alternatives.{Alternatives}
 use Rattle.cq_steps.specs.Choices.{CanBeTried, AreOpen, KeepsOlder}
-use Rattle.cq_steps.specs.Worlds.{Leads, stack}
+use Rattle.cq_steps.specs.Worlds.{ReadsAs, Leads, stack}
+use Rattle.cq_steps.proofs.Added.{reads_tree}
+use Rattle.cq_steps.proofs.Arguments.{argument_reads}
 
 -- the same over equal marks
 pub leads_over : (texts : List Text) (v : Program) (saved more : List (Value Contents)) (choices : List Alternatives) (now : Value Contents) (current : Option ℕ) (p : Place)
@@ -29,3 +38,8 @@ pub older_open : (v : Program) (saved fewer : List (Value Contents)) (choices le
     → AreOpen v fewer left
 older_open v saved fewer choices left all k =
     all_behind v k.gone (open_choices fewer left) (subst (λ cs. AllByRecursion (Tried v) cs) k.are all)
+
+-- an argument of a term that reads as itself is that of the term
+pub argument_is : (texts : List Text) (w : Contents) (st : State) (id i k : ℕ) (t : Tree) → ReadsAs texts w st id t → k < length w.heap.terms
+    → slice_get (arguments (at w.heap.terms id)) i ≡ Some (at w.heap.terms k) → tree texts w.heap.terms k ≡ nth (builtins.arguments t) i
+argument_is texts w st id i k t r l e = reads_tree texts w st k (nth (builtins.arguments t) i) (argument_reads texts w st id i k t r l e)

@@ -3,8 +3,10 @@
 
 mod control;
 mod machine;
+mod output;
 mod step;
 
 pub use control::{call, conjunction, cut, disjunction, if_then, negation};
 pub use machine::Machine;
+pub use output::{declare, write};
 pub use step::Step;
