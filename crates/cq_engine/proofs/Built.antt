@@ -1,23 +1,32 @@
 -- What a machine stands for while terms are built and goals put in front.
-use Rattle.std.proofs.Common.{◌≡◌, ℕ, List, [], ◌∷◌, ◌++◌, length, length-append, Some, true, refl, sym, ap, subst, ◌∙◌, arith}
+use Rattle.std.proofs.Common.{◌≡◌, ◌<◌, ap₂, ℕ, List, [], ◌∷◌, ◌++◌, length, length-append, Some, true, refl, sym, ap, subst, ◌∙◌, arith}
 use Rattle.std.proofs.lemmas.List.{get_or_push}
 use Rattle.spec_lists.specs.Texts.{Text}
+use Rattle.spec_terms.specs.Term.{Compound, one, more}
 use Rattle.spec_syntax.specs.Trees.{Tree}
 use Rattle.spec_built.specs.Kinds.{is_callable}
-use Rattle.spec_branch.specs.Branch.{Branch}
+use Rattle.spec_branch.specs.Branch.{State, Branch, read}
 use Rattle.spec_search.specs.Control.{put}
 use Rattle.spec_search.specs.Replies.{Place, goes_on}
 use Rattle.cq_control.specs.Items.{items_at}
+use Rattle.cq_program.specs.Database.{Program, as_database}
+use Rattle.cq_term.specs.Trees.{tree}
+use Rattle.cq_write.specs.Meaning.{operators}
 use Rattle.cq_world.specs.Contents.{Contents}
 use Rattle.spec_machine.specs.declared.cell.Cell.{Cell}
 use Rattle.spec_machine.specs.declared.cell.Cell.TheVariants.{Goal}
 use Rattle.spec_machine.specs.Cells.{Fits, Value, Stack, below}
-use Rattle.spec_machine.specs.Standing.{AreItems}
+use Rattle.spec_machine.specs.Standing.{engine, AreItems, IsStanding}
 use Rattle.cq_steps.specs.Lists.{HasCells, KeepsLists, put_cell}
-use Rattle.cq_steps.specs.Worlds.{IsBranch, term_in, ReadsAs, Selected, Leads, Grown}
+use Rattle.cq_steps.specs.declared.alternatives.Alternatives.{Alternatives}
+use Rattle.cq_steps.specs.Worlds.{IsBranch, term_in, stack, ReadsAs, Selected, Leads, Grown}
 use Rattle.cq_steps.proofs.Branches.{branches_rest}
 use Rattle.cq_steps.proofs.Control.{put_items, built, goes_on_with}
-use Rattle.cq_steps.proofs.Selected.{continuation_grown}
+use Rattle.cq_steps.proofs.Selected.{continuation_grown, standing_grown}
+use Rattle.cq_begin.proofs.Reading.{tree_read}
+use Rattle.cq_engine.specs.declared.machine.Machine.{Machine}
+use Rattle.cq_engine.specs.Machines.{now, saved, holds, HasBuilt, HasSameProgram, StillStands}
+use Rattle.cq_engine.specs.Stepping.{IsSelectedAt}
 
 -- a goal that was selected stands so where more was built
 pub selected_grown : (texts : List Text) (choices : Stack Contents) (old new : Value Contents) (height rest : ℕ) (p : Place) (behind : List Branch) → Grown texts old new
@@ -56,3 +65,45 @@ last_cells old new k cells e n = record {
 -- nothing was added
 pub lists_same : (lists : List (List Cell)) → KeepsLists lists lists
 lists_same lists = record { more = omega arith; same = λ k l. refl }
+
+-- ---- a machine that has built terms
+
+-- a goal that was selected still is
+pub selected_on : (old new : Machine) (id height rest : ℕ) (p : Place) (behind : List Branch) (g : Tree) → HasBuilt old new → IsSelectedAt old id height rest p behind g
+    → IsSelectedAt new id height rest p behind g
+selected_on old new id height rest p behind g b s = record {
+  selected = subst (λ (a : List Text). Selected a (stack a new.clauses (saved new) new.choices) (now new) height rest p behind) (sym b.program.atoms)
+      (subst (λ (v : Program). Selected old.atoms (stack old.atoms v (saved new) new.choices) (now new) height rest p behind) (sym b.program.clauses)
+      (subst (λ (l : List (Value Contents)). Selected old.atoms (stack old.atoms old.clauses l new.choices) (now new) height rest p behind) (sym b.saved)
+      (subst (λ (c : List Alternatives). Selected old.atoms (stack old.atoms old.clauses (saved old) c) (now new) height rest p behind) (sym b.choices)
+      (selected_grown old.atoms (holds old) (now old) (now new) height rest p behind b.grown s.selected))));
+  reads = subst (λ (a : List Text). ReadsAs a (now new).0 p.state id g) (sym b.program.atoms) (b.grown.terms id g s.reads.0, s.reads.1);
+  database = s.database ∙ sym (λ i. as_database (b.program.atoms i) (operators (b.program.atoms i) (b.program.ops i)) (b.program.clauses i));
+}
+
+-- it stands for what it stood for
+pub stands_on : (old new : Machine) → HasBuilt old new → StillStands old new
+stands_on old new b = λ db n current s j.
+    subst (λ (a : List Text). IsStanding (IsBranch a) (term_in a) (engine db n (stack a new.clauses (saved new) new.choices) (now new) current) s) (sym b.program.atoms)
+    (subst (λ (v : Program). IsStanding (IsBranch old.atoms) (term_in old.atoms) (engine db n (stack old.atoms v (saved new) new.choices) (now new) current) s) (sym b.program.clauses)
+    (subst (λ (l : List (Value Contents)). IsStanding (IsBranch old.atoms) (term_in old.atoms) (engine db n (stack old.atoms old.clauses l new.choices) (now new) current) s) (sym b.saved)
+    (subst (λ (c : List Alternatives). IsStanding (IsBranch old.atoms) (term_in old.atoms) (engine db n (stack old.atoms old.clauses (saved old) c) (now new) current) s) (sym b.choices)
+    (standing_grown (IsBranch old.atoms) (term_in old.atoms) db n (holds old) (now old) (now new) b.grown current s j))))
+
+-- and what stands for it then
+pub stands_then : (old mid new : Machine) → StillStands old mid → StillStands mid new → StillStands old new
+stands_then old mid new f g = λ db n current s j. g db n current s (f db n current s j)
+
+pub program_then : (old mid new : Machine) → HasSameProgram old mid → HasSameProgram mid new → HasSameProgram old new
+program_then old mid new f g = record { atoms = g.atoms ∙ f.atoms; names = g.names ∙ f.names; ops = g.ops ∙ f.ops; clauses = g.clauses ∙ f.clauses }
+
+-- a term over one that reads as itself
+pub reads_over_one : (texts : List Text) (w : Contents) (st : State) (id : ℕ) (f : Text) (a : Tree) → id < length w.heap.terms → tree texts w.heap.terms id ≡ Compound f (one a) → read st a ≡ a
+    → ReadsAs texts w st id (Compound f (one a))
+reads_over_one texts w st id f a l e r = (tree_read texts w.heap.terms id (Compound f (one a)) l e, ap (λ (x : Tree). Compound f (one x)) r)
+
+-- a term over two
+pub reads_over_two : (texts : List Text) (w : Contents) (st : State) (id : ℕ) (f : Text) (a b : Tree) → id < length w.heap.terms
+    → tree texts w.heap.terms id ≡ Compound f (more a (one b)) → read st a ≡ a → read st b ≡ b → ReadsAs texts w st id (Compound f (more a (one b)))
+reads_over_two texts w st id f a b l e r q =
+    (tree_read texts w.heap.terms id (Compound f (more a (one b))) l e, ap₂ (λ (x y : Tree). Compound f (more x (one y))) r q)

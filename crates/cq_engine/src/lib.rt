@@ -3,12 +3,14 @@
 
 mod building;
 mod control;
+mod derived;
 mod machine;
 mod names;
 mod output;
 mod step;
 
 pub use control::{call, conjunction, cut, disjunction, if_then, negation};
+pub use derived::{initialization, not_unify, once};
 pub use machine::Machine;
 pub use names::Names;
 pub use output::{declare, write};
