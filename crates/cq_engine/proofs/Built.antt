@@ -23,7 +23,6 @@ use Rattle.cq_steps.specs.Worlds.{IsBranch, term_in, stack, ReadsAs, Selected, L
 use Rattle.cq_steps.proofs.Branches.{branches_rest}
 use Rattle.cq_steps.proofs.Control.{put_items, built, goes_on_with}
 use Rattle.cq_steps.proofs.Selected.{continuation_grown, standing_grown}
-use Rattle.cq_begin.proofs.Reading.{tree_read}
 use Rattle.cq_engine.specs.declared.machine.Machine.{Machine}
 use Rattle.cq_engine.specs.Machines.{now, saved, holds, HasBuilt, HasSameProgram, StillStands}
 use Rattle.cq_engine.specs.Stepping.{IsSelectedAt}
@@ -96,14 +95,3 @@ stands_then old mid new f g = λ db n current s j. g db n current s (f db n curr
 
 pub program_then : (old mid new : Machine) → HasSameProgram old mid → HasSameProgram mid new → HasSameProgram old new
 program_then old mid new f g = record { atoms = g.atoms ∙ f.atoms; names = g.names ∙ f.names; ops = g.ops ∙ f.ops; clauses = g.clauses ∙ f.clauses }
-
--- a term over one that reads as itself
-pub reads_over_one : (texts : List Text) (w : Contents) (st : State) (id : ℕ) (f : Text) (a : Tree) → id < length w.heap.terms → tree texts w.heap.terms id ≡ Compound f (one a) → read st a ≡ a
-    → ReadsAs texts w st id (Compound f (one a))
-reads_over_one texts w st id f a l e r = (tree_read texts w.heap.terms id (Compound f (one a)) l e, ap (λ (x : Tree). Compound f (one x)) r)
-
--- a term over two
-pub reads_over_two : (texts : List Text) (w : Contents) (st : State) (id : ℕ) (f : Text) (a b : Tree) → id < length w.heap.terms
-    → tree texts w.heap.terms id ≡ Compound f (more a (one b)) → read st a ≡ a → read st b ≡ b → ReadsAs texts w st id (Compound f (more a (one b)))
-reads_over_two texts w st id f a b l e r q =
-    (tree_read texts w.heap.terms id (Compound f (more a (one b))) l e, ap₂ (λ (x y : Tree). Compound f (more x (one y))) r q)
