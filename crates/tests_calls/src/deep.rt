@@ -9,8 +9,8 @@ use cq_built::{BuiltinFault, atom, compound, whole};
 use cq_builtin::{Comparison, TypeTest, copy_term, order, test};
 use cq_cexpr::{Lin, linearise};
 use cq_codes::{Conversion, convert};
-use cq_goals::{Telling, check_telling};
-use cq_term::{Heap, TermId};
+use cq_goals::{Telling, check_telling, is_value};
+use cq_term::{Heap, TermId, View};
 use cq_walk::Pair;
 use std::alloc::{AllocError, Global};
 use std::test::Fail;
@@ -213,5 +213,33 @@ fn with_deep_sum(alloc: Global) -> Result<bool, AllocError> {
 #[test]
 fn a_deep_sum_is_linear(rt: HostRuntime) -> Result<(), Fail> {
     assert!(rt; with_deep_sum(rt.alloc())?);
+    Ok(())
+}
+
+/// Whether an expression comes to one more than the number of ones that are added.
+fn has_value(heap: &mut Heap, atoms: &Atoms, expression: TermId) -> bool
+    requires live { expression < length heap.old.now.terms }
+    requires names { KnowsTerms atoms.now heap.old.now.terms }
+{
+    match is_value(heap, atoms, expression) {
+        Ok(value) => match heap.view(value) {
+            View::Number(number) => number.parts() == (200_001, 1),
+            _ => false,
+        },
+        Err(_) => false,
+    }
+}
+
+fn with_evaluated_sum(alloc: Global) -> Result<bool, AllocError> {
+    let mut heap = Heap::new(alloc);
+    let mut atoms = Atoms::new(alloc);
+    let one = one(&mut heap, &atoms)?;
+    let whole = sum(&mut heap, &mut atoms, one)?;
+    Ok(has_value(&mut heap, &atoms, whole))
+}
+
+#[test]
+fn a_deep_sum_has_a_value(rt: HostRuntime) -> Result<(), Fail> {
+    assert!(rt; with_evaluated_sum(rt.alloc())?);
     Ok(())
 }
