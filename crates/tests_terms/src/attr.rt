@@ -64,17 +64,23 @@ fn take_oldest(attrs: &mut Attrs) -> Result<Option<SuspNo>, AllocError>
     Ok(Some(oldest))
 }
 
-/// Whether a variable is numeric, and what was taken is gone, until that is undone.
-fn goes_back(attrs: &mut Attrs, three: Three) -> Result<bool, AllocError> {
-    let m = attrs.mark()?;
+/// Makes a variable numeric and takes the oldest; whether that is seen.
+fn change(attrs: &mut Attrs, three: Three) -> Result<bool, AllocError>
+    ensures saved { attrs.new.saved ≡ attrs.old.saved }
+{
     attrs.set_numeric(X)?;
     let _taken = take_oldest(attrs)?;
     let left = attrs.woken(&[X])?;
-    let marked = attrs.is_numeric(X);
+    Ok(attrs.is_numeric(X) && are(&left, &[three.both]))
+}
+
+/// Whether a change is gone once it is undone.
+fn goes_back(attrs: &mut Attrs, three: Three) -> Result<bool, AllocError> {
+    let m = attrs.mark()?;
+    let changed = change(attrs, three)?;
     attrs.undo(m);
     let all = attrs.woken(&[X])?;
-    let back = are(&left, &[three.both]) && are(&all, &[three.first, three.both]);
-    Ok(marked && back && !attrs.is_numeric(X))
+    Ok(changed && are(&all, &[three.first, three.both]) && !attrs.is_numeric(X))
 }
 
 #[test]

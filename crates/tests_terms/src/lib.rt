@@ -6,8 +6,6 @@ mod attr;
 #[cfg(test)]
 mod built;
 #[cfg(test)]
-mod kinds;
-#[cfg(test)]
 mod order;
 #[cfg(test)]
 mod term;
