@@ -2,6 +2,7 @@
 ghost use Rattle.std.specs.Prelude.{◌≡◌, IfOk};
 ghost use Rattle.spec_linear.specs.declared.Relation.TheVariants.{Eq};
 
+use crate::form::with_product;
 use cq_form::{Constraint, Form};
 use cq_frac::{Frac, Operation, Pair, VarId};
 use cq_store::store::{Store, StoreFault, Told};
@@ -126,19 +127,12 @@ fn number(n: i128) -> Frac {
     Frac::new(n, 1).unwrap_or(Frac::zero())
 }
 
-/// The form and the product of a number and a variable.
-fn with_product(alloc: Global, form: Form, factor: i128, x: usize) -> Result<Form, Fail> {
-    let variable = Form::new(alloc, Frac::zero(), &[(VarId(x), Frac::one())])?;
-    let product = variable.scale(number(factor))?;
-    Ok(form.add(&product)?)
-}
-
 fn equation(alloc: Global, products: &[(i128, usize)], constant: i128) -> Result<Constraint, Fail>
     ensures { IfOk result (λ c. c.relation ≡ Eq) }
 {
     let mut form = Form::new(alloc, number(constant), &[])?;
     for (factor, x) in products {
-        form = with_product(alloc, form, *factor, *x)?;
+        form = with_product(alloc, form, number(*factor), *x)?;
     }
     Ok(Constraint {
         relation: Relation::Eq,
