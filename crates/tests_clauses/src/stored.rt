@@ -70,13 +70,18 @@ fn a_stored_term_has_new_variables_each_time(rt: HostRuntime) -> Result<(), Fail
     Ok(())
 }
 
-/// The head f(Y, X, Y) and the body f(X, Y, Y), renamed.
-fn renamed(heap: &mut Heap, f: Atom) -> Result<Vec<View>, AllocError> {
+/// The head f(Y, X, Y) and the body f(X, Y, Y).
+fn clause(heap: &mut Heap, f: Atom) -> Result<Clause, AllocError> {
     let x = variable(heap)?;
     let y = variable(heap)?;
     let head = over(heap, f, [y, x, y])?;
     let body = over(heap, f, [x, y, y])?;
-    let (_, moved) = Clause::of(heap, head, body)?.rename(heap)?;
+    Clause::of(heap, head, body)
+}
+
+/// What the body shows once it is renamed.
+fn renamed(heap: &mut Heap, f: Atom) -> Result<Vec<View>, AllocError> {
+    let (_, moved) = clause(heap, f)?.rename(heap)?;
     shown(heap, moved)
 }
 
@@ -94,20 +99,19 @@ fn the_body_shares_the_variables_of_the_head(rt: HostRuntime) -> Result<(), Fail
     Ok(())
 }
 
-/// What the first argument of f(Y, X, Y) shows on the heap and in a clause.
-fn first_arguments(heap: &mut Heap, f: Atom) -> Result<[Option<View>; 2], AllocError> {
+/// The first argument of f(X, X, X) on the heap.
+fn first_on_the_heap(heap: &mut Heap, f: Atom) -> Result<Option<View>, AllocError> {
     let x = variable(heap)?;
-    let y = variable(heap)?;
-    let head = over(heap, f, [y, x, y])?;
-    let clause = Clause::of(heap, head, head)?;
-    Ok([first_argument(heap, head), clause.first_argument()])
+    let term = over(heap, f, [x, x, x])?;
+    Ok(first_argument(heap, term))
 }
 
 #[test]
 fn a_first_argument_is_shown_on_the_heap_and_in_a_clause(rt: HostRuntime) -> Result<(), Fail> {
     let f = Atoms::new(rt.alloc()).intern("f")?;
     let mut heap = Heap::new(rt.alloc());
-    let found = first_arguments(&mut heap, f)?;
-    assert!(rt; found == [Some(View::Var(VarId(1))), Some(View::Var(VarId(0)))]);
+    let stored = clause(&mut heap, f)?.first_argument();
+    let shown = first_on_the_heap(&mut heap, f)?;
+    assert!(rt; stored == Some(View::Var(VarId(0))) && shown == Some(View::Var(VarId(2))));
     Ok(())
 }
