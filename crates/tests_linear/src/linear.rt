@@ -474,19 +474,30 @@ const MIXED: [(Relation, Products); 4] = [
     (Relation::Gt, &[(1, 3)]),
 ];
 
+/// Tells that a form stands so to zero.
+fn told(
+    store: &mut Store,
+    alloc: Global,
+    relation: Relation,
+    products: Products,
+) -> Result<(), Fail> {
+    store.tell(constraint(alloc, relation, products, 0)?)?;
+    Ok(())
+}
+
 #[test]
 fn enough_is_a_power_of_two(rt: HostRuntime) -> Result<(), Fail> {
     let mut store = Store::new(rt.alloc(), 20);
     assert_eq!(rt; store.enough(), Some(2));
     for (relation, form) in &MIXED {
-        store.tell(constraint(rt.alloc(), *relation, *form, 0)?)?;
+        told(&mut store, rt.alloc(), *relation, *form)?;
     }
     assert_eq!(rt; store.enough(), Some(8));
     for x in 4..64 {
-        store.tell(constraint(rt.alloc(), Relation::Ge, &[(1, x)], 0)?)?;
+        told(&mut store, rt.alloc(), Relation::Ge, &[(1, x)])?;
     }
     assert_eq!(rt; store.enough(), Some(9_223_372_036_854_775_808));
-    store.tell(constraint(rt.alloc(), Relation::Ge, &[(1, 64)], 0)?)?;
+    told(&mut store, rt.alloc(), Relation::Ge, &[(1, 64)])?;
     assert_eq!(rt; store.enough(), None);
     Ok(())
 }

@@ -2,7 +2,7 @@ use Rattle.std.proofs.Common.{arith}
 use Rattle.cq_dict.specs.Roles.{is_restricted}
 use Rattle.cq_simplex.specs.Dictionary.{dictionary}
 use Rattle.cq_simplex.proofs.Feasibility.{feasible_more, all_feasible}
-use Rattle.tests_linear.proofs.level.is_feasible.Goals as goal
+use Rattle.tests_linear.proofs.problems.is_feasible.Goals as goal
 
 pub loop-q-preserved : goal.loop-q-preserved
 loop-q-preserved c = λ asked.

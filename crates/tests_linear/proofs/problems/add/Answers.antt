@@ -2,7 +2,7 @@ use Rattle.std.proofs.Common.{◌<◌, subst}
 use Rattle.std.specs.Bool.{OnTrue}
 use Rattle.cq_row.specs.declared.Entry.{Entry}
 use Rattle.cq_row.specs.Rows.{Has}
-use Rattle.tests_linear.proofs.simplex.add.Goals as goal
+use Rattle.tests_linear.proofs.problems.add.Goals as goal
 
 pub add_row-requires : goal.add_row-requires
 add_row-requires c = λ m h.

@@ -3,8 +3,8 @@ use Rattle.spec_rational.specs.Rational.{IsNotNegative}
 use Rattle.cq_dict.specs.Roles.{is_restricted}
 use Rattle.cq_dict.proofs.Roles.{constant_is}
 use Rattle.cq_simplex.proofs.Feasibility.{column_feasible, free_feasible, restricted_feasible}
-use Rattle.tests_linear.proofs.level.row_is_feasible.Goals as goal
-use Rattle.tests_linear.proofs.level.row_is_feasible.Goals.{then-not-is_row-via-then-not-is_row, then-not-is_row-via-else-not-is_row+then-not-is_restricted}
+use Rattle.tests_linear.proofs.problems.row_is_feasible.Goals as goal
+use Rattle.tests_linear.proofs.problems.row_is_feasible.Goals.{then-not-is_row-via-then-not-is_row, then-not-is_row-via-else-not-is_row+then-not-is_restricted}
 
 pub returns-then-not-is_row : goal.returns-then-not-is_row
 returns-then-not-is_row c = λ asked.

@@ -3,7 +3,7 @@ use Rattle.std.proofs.lemmas.List.{take_more}
 use Rattle.cq_row.specs.declared.Entry.{Entry}
 use Rattle.cq_row.specs.Rows.{Has}
 use Rattle.cq_row.proofs.Steps.{has_end}
-use Rattle.tests_linear.proofs.simplex.within.Goals as goal
+use Rattle.tests_linear.proofs.problems.within.Goals as goal
 
 pub loop-m-preserved : goal.loop-m-preserved
 loop-m-preserved c = λ n h.
