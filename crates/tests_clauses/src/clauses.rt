@@ -2,6 +2,7 @@
 
 ghost use Rattle.cq_clauses.specs.Snapshots.{IsSnapshot, KeepsSnapshots};
 
+use crate::names::p_named;
 use cq_atoms::{Atom, Atoms};
 use cq_clauses::{Clauses, Key, Keyed, Kind, Snapshot};
 use cq_frac::Frac;
@@ -164,15 +165,21 @@ fn shows_what_was(
     shows(clauses, early, &copy, alloc)
 }
 
+/// Whether snapshots before and behind the last changes show what was and what is.
+fn show_what_was_and_is(alloc: Global, name: Atom) -> Result<bool, AllocError> {
+    let mut clauses = Clauses::new(alloc);
+    let mut list = Vec::new(alloc);
+    change_all(&mut clauses, &mut list, name, &STEPS[..8])?;
+    let was = shows_what_was(&mut clauses, &mut list, name, alloc)?;
+    let late = clauses.snapshot(of_one(name));
+    let is = shows(&clauses, late, &list, alloc)?;
+    Ok(was && is)
+}
+
 #[test]
 fn a_snapshot_shows_the_clauses_as_they_were(rt: HostRuntime) -> Result<(), Fail> {
-    let name = Atoms::new(rt.alloc()).intern("p")?;
-    let mut clauses = Clauses::new(rt.alloc());
-    let mut list = Vec::new(rt.alloc());
-    change_all(&mut clauses, &mut list, name, &STEPS[..8])?;
-    assert!(rt; shows_what_was(&mut clauses, &mut list, name, rt.alloc())?);
-    let late = clauses.snapshot(of_one(name));
-    assert!(rt; shows(&clauses, late, &list, rt.alloc())?);
+    let name = p_named(rt.alloc())?;
+    assert!(rt; show_what_was_and_is(rt.alloc(), name)?);
     Ok(())
 }
 
@@ -211,16 +218,20 @@ fn shows_the_replaced(
     shows(clauses, before, &[1, 2], alloc)
 }
 
+fn shows_before_and_after(alloc: Global, name: Atom) -> Result<bool, AllocError> {
+    let mut clauses = Clauses::new(alloc);
+    add(&mut clauses, name, None, 1)?;
+    add(&mut clauses, name, None, 2)?;
+    let replaced = shows_the_replaced(&mut clauses, name, alloc)?;
+    let after = clauses.snapshot(of_one(name));
+    let nines = shows(&clauses, after, &[9, 9], alloc)?;
+    Ok(replaced && nines)
+}
+
 #[test]
 fn a_call_takes_no_clause_that_is_added_while_it_runs(rt: HostRuntime) -> Result<(), Fail> {
-    let name = Atoms::new(rt.alloc()).intern("q")?;
-    let mut clauses = Clauses::new(rt.alloc());
-    for number in 1..3 {
-        add(&mut clauses, name, None, number)?;
-    }
-    assert!(rt; shows_the_replaced(&mut clauses, name, rt.alloc())?);
-    let after = clauses.snapshot(of_one(name));
-    assert!(rt; shows(&clauses, after, &[9, 9], rt.alloc())?);
+    let name = p_named(rt.alloc())?;
+    assert!(rt; shows_before_and_after(rt.alloc(), name)?);
     Ok(())
 }
 
@@ -231,18 +242,22 @@ fn add_two(clauses: &mut Clauses<Fact>, name: Atom) -> Result<(), AllocError> {
     Ok(())
 }
 
-#[test]
-fn procedures_are_found_by_name_and_arity(rt: HostRuntime) -> Result<(), Fail> {
-    let name = Atoms::new(rt.alloc()).intern("p")?;
-    let mut clauses = Clauses::new(rt.alloc());
+fn are_found(alloc: Global, name: Atom) -> Result<bool, AllocError> {
+    let mut clauses = Clauses::new(alloc);
     add_two(&mut clauses, name)?;
     clauses.declare_dynamic(Pred { name, arity: 2 })?;
-    let kinds = [None, Some(Kind::Static), Some(Kind::Dynamic), None];
-    for (arity, kind) in kinds.iter().enumerate() {
-        assert_eq!(rt; clauses.status_of(Pred { name, arity }), *kind);
-    }
     let two = clauses.snapshot(Pred { name, arity: 2 });
-    assert!(rt; shows(&clauses, two, &[20], rt.alloc())?);
+    let kinds = clauses.status_of(of_one(name)) == Some(Kind::Static)
+        && clauses.status_of(Pred { name, arity: 2 }) == Some(Kind::Dynamic)
+        && clauses.status_of(Pred { name, arity: 3 }).is_none();
+    let alone = shows(&clauses, two, &[20], alloc)?;
+    Ok(kinds && alone)
+}
+
+#[test]
+fn procedures_are_found_by_name_and_arity(rt: HostRuntime) -> Result<(), Fail> {
+    let name = p_named(rt.alloc())?;
+    assert!(rt; are_found(rt.alloc(), name)?);
     Ok(())
 }
 
@@ -279,17 +294,33 @@ fn add_keys(clauses: &mut Clauses<Fact>, a: Atom, b: Atom) -> Result<(), AllocEr
     Ok(())
 }
 
-#[test]
-fn clauses_of_another_key_are_passed_over(rt: HostRuntime) -> Result<(), Fail> {
-    let mut atoms = Atoms::new(rt.alloc());
+/// Whether those of another key are passed over.
+fn are_passed_over(alloc: Global, a: Atom, b: Atom) -> Result<bool, AllocError> {
+    let mut clauses = Clauses::new(alloc);
+    add_keys(&mut clauses, a, b)?;
+    let name = finds(&mut clauses, a, Some(Key::Name(b)), &[2, 3], alloc)?;
+    let number = finds(
+        &mut clauses,
+        a,
+        Some(Key::Number(Frac::one())),
+        &[2, 4],
+        alloc,
+    )?;
+    let all = finds(&mut clauses, a, None, &[1, 2, 3, 4, 5], alloc)?;
+    Ok(name && number && all)
+}
+
+fn two_names(alloc: Global) -> Result<(Atom, Atom), AllocError> {
+    let mut atoms = Atoms::new(alloc);
     let a = atoms.intern("a")?;
     let b = atoms.intern("b")?;
-    let mut clauses = Clauses::new(rt.alloc());
-    add_keys(&mut clauses, a, b)?;
-    let (name, number) = (Key::Name(b), Key::Number(Frac::one()));
-    assert!(rt; finds(&mut clauses, a, Some(name), &[2, 3], rt.alloc())?);
-    assert!(rt; finds(&mut clauses, a, Some(number), &[2, 4], rt.alloc())?);
-    assert!(rt; finds(&mut clauses, a, None, &[1, 2, 3, 4, 5], rt.alloc())?);
+    Ok((a, b))
+}
+
+#[test]
+fn clauses_of_another_key_are_passed_over(rt: HostRuntime) -> Result<(), Fail> {
+    let (a, b) = two_names(rt.alloc())?;
+    assert!(rt; are_passed_over(rt.alloc(), a, b)?);
     Ok(())
 }
 
@@ -311,14 +342,19 @@ fn add_about(clauses: &mut Clauses<Fact>, name: Atom) -> Result<(), AllocError> 
     add(clauses, name, None, 200)
 }
 
+fn is_kept(alloc: Global, name: Atom) -> Result<bool, AllocError> {
+    let mut clauses = Clauses::new(alloc);
+    add_many(&mut clauses, name)?;
+    let before = finds(&mut clauses, name, seven(name), &[7], alloc)?;
+    add_about(&mut clauses, name)?;
+    let after = finds(&mut clauses, name, seven(name), &[100, 7, 200], alloc)?;
+    Ok(before && after)
+}
+
 #[test]
 fn an_index_is_kept_under_changes(rt: HostRuntime) -> Result<(), Fail> {
-    let name = Atoms::new(rt.alloc()).intern("p")?;
-    let mut clauses = Clauses::new(rt.alloc());
-    add_many(&mut clauses, name)?;
-    assert!(rt; finds(&mut clauses, name, seven(name), &[7], rt.alloc())?);
-    add_about(&mut clauses, name)?;
-    assert!(rt; finds(&mut clauses, name, seven(name), &[100, 7, 200], rt.alloc())?);
+    let name = p_named(rt.alloc())?;
+    assert!(rt; is_kept(rt.alloc(), name)?);
     Ok(())
 }
 
@@ -329,11 +365,15 @@ fn ends_with_the_second(clauses: &mut Clauses<Fact>, name: Atom) -> bool {
     first && clauses.step(&mut walk).is_some() && walk.is_empty()
 }
 
+fn is_known(alloc: Global, name: Atom) -> Result<bool, AllocError> {
+    let mut clauses = Clauses::new(alloc);
+    add_about(&mut clauses, name)?;
+    Ok(ends_with_the_second(&mut clauses, name))
+}
+
 #[test]
 fn the_last_clause_is_known_before_it_is_entered(rt: HostRuntime) -> Result<(), Fail> {
-    let name = Atoms::new(rt.alloc()).intern("p")?;
-    let mut clauses = Clauses::new(rt.alloc());
-    add_about(&mut clauses, name)?;
-    assert!(rt; ends_with_the_second(&mut clauses, name));
+    let name = p_named(rt.alloc())?;
+    assert!(rt; is_known(rt.alloc(), name)?);
     Ok(())
 }

@@ -2,7 +2,8 @@
 
 ghost use Rattle.std.specs.Prelude.{◌<◌, length, IfOk};
 
-use cq_atoms::{Atom, Atoms};
+use crate::names::p_named;
+use cq_atoms::Atom;
 use cq_clauses::{Clauses, Kind};
 use cq_frac::Frac;
 use cq_program::{ProgramClause, goal_key};
@@ -81,15 +82,36 @@ static CALLS: [(Argument, &[usize]); 4] = [
     (Argument::Variable, &[0, 1, 0]),
 ];
 
+/// The place of the first call that tries others.
+fn first_wrong(
+    clauses: &mut Clauses<ProgramClause>,
+    alloc: Global,
+    name: Atom,
+) -> Result<Option<usize>, AllocError> {
+    for (place, (argument, wanted)) in CALLS.iter().enumerate() {
+        if !tries(clauses, alloc, name, *argument, *wanted)? {
+            return Ok(Some(place));
+        }
+    }
+    Ok(None)
+}
+
+fn facts(alloc: Global, name: Atom) -> Result<Clauses<ProgramClause>, AllocError> {
+    let mut clauses = Clauses::new(alloc);
+    add(&mut clauses, alloc, name, Argument::One)?;
+    add(&mut clauses, alloc, name, Argument::Variable)?;
+    add(&mut clauses, alloc, name, Argument::Name)?;
+    Ok(clauses)
+}
+
+fn are_found(alloc: Global, name: Atom) -> Result<bool, AllocError> {
+    let mut clauses = facts(alloc, name)?;
+    Ok(first_wrong(&mut clauses, alloc, name)?.is_none())
+}
+
 #[test]
 fn facts_are_found_by_their_argument(rt: HostRuntime) -> Result<(), Fail> {
-    let p = Atoms::new(rt.alloc()).intern("p")?;
-    let mut clauses = Clauses::new(rt.alloc());
-    for argument in [Argument::One, Argument::Variable, Argument::Name] {
-        add(&mut clauses, rt.alloc(), p, argument)?;
-    }
-    for (argument, wanted) in &CALLS {
-        assert!(rt; tries(&mut clauses, rt.alloc(), p, *argument, *wanted)?);
-    }
+    let p = p_named(rt.alloc())?;
+    assert!(rt; are_found(rt.alloc(), p)?);
     Ok(())
 }

@@ -2,7 +2,7 @@
 
 ghost use Rattle.std.specs.Prelude.{◌<◌, ◌≤◌, length, All, IfOk};
 
-use cq_atoms::Atoms;
+use crate::names::p_named;
 use cq_frac::VarId;
 use cq_stored::{Clause, StoredTerm, first_argument};
 use cq_term::{Atom, Heap, TermId, View};
@@ -56,17 +56,20 @@ fn restored(heap: &mut Heap, f: Atom) -> Result<Vec<View>, AllocError> {
     shown(heap, id)
 }
 
-#[test]
-fn a_stored_term_has_new_variables_each_time(rt: HostRuntime) -> Result<(), Fail> {
-    let f = Atoms::new(rt.alloc()).intern("f")?;
-    let mut heap = Heap::new(rt.alloc());
-    let found = restored(&mut heap, f)?;
+fn has_new_variables(alloc: Global, f: Atom) -> Result<bool, AllocError> {
+    let found = restored(&mut Heap::new(alloc), f)?;
     let expected = [
         View::Var(VarId(2)),
         View::Var(VarId(3)),
         View::Var(VarId(2)),
     ];
-    assert_eq!(rt; found.as_slice(), expected.as_slice());
+    Ok(found.as_slice() == expected.as_slice())
+}
+
+#[test]
+fn a_stored_term_has_new_variables_each_time(rt: HostRuntime) -> Result<(), Fail> {
+    let f = p_named(rt.alloc())?;
+    assert!(rt; has_new_variables(rt.alloc(), f)?);
     Ok(())
 }
 
@@ -85,17 +88,20 @@ fn renamed(heap: &mut Heap, f: Atom) -> Result<Vec<View>, AllocError> {
     shown(heap, moved)
 }
 
-#[test]
-fn the_body_shares_the_variables_of_the_head(rt: HostRuntime) -> Result<(), Fail> {
-    let f = Atoms::new(rt.alloc()).intern("f")?;
-    let mut heap = Heap::new(rt.alloc());
-    let found = renamed(&mut heap, f)?;
+fn shares_its_variables(alloc: Global, f: Atom) -> Result<bool, AllocError> {
+    let found = renamed(&mut Heap::new(alloc), f)?;
     let expected = [
         View::Var(VarId(3)),
         View::Var(VarId(2)),
         View::Var(VarId(2)),
     ];
-    assert_eq!(rt; found.as_slice(), expected.as_slice());
+    Ok(found.as_slice() == expected.as_slice())
+}
+
+#[test]
+fn the_body_shares_the_variables_of_the_head(rt: HostRuntime) -> Result<(), Fail> {
+    let f = p_named(rt.alloc())?;
+    assert!(rt; shares_its_variables(rt.alloc(), f)?);
     Ok(())
 }
 
@@ -106,12 +112,16 @@ fn first_on_the_heap(heap: &mut Heap, f: Atom) -> Result<Option<View>, AllocErro
     Ok(first_argument(heap, term))
 }
 
-#[test]
-fn a_first_argument_is_shown_on_the_heap_and_in_a_clause(rt: HostRuntime) -> Result<(), Fail> {
-    let f = Atoms::new(rt.alloc()).intern("f")?;
-    let mut heap = Heap::new(rt.alloc());
+fn is_first(alloc: Global, f: Atom) -> Result<bool, AllocError> {
+    let mut heap = Heap::new(alloc);
     let stored = clause(&mut heap, f)?.first_argument();
     let shown = first_on_the_heap(&mut heap, f)?;
-    assert!(rt; stored == Some(View::Var(VarId(0))) && shown == Some(View::Var(VarId(2))));
+    Ok(stored == Some(View::Var(VarId(0))) && shown == Some(View::Var(VarId(2))))
+}
+
+#[test]
+fn a_first_argument_is_shown_on_the_heap_and_in_a_clause(rt: HostRuntime) -> Result<(), Fail> {
+    let f = p_named(rt.alloc())?;
+    assert!(rt; is_first(rt.alloc(), f)?);
     Ok(())
 }

@@ -79,7 +79,7 @@ const LARGE: Problem = Problem {
     asked: (&[(0, 1, 2)], -1),
 };
 
-const CASES: [(&Problem, u64, &str); 13] = [
+static CASES: [(&Problem, u64, &str); 13] = [
     (&AT_ZERO, 0, "level"),
     (&FREE_COLUMN, 0, "crossing by 1"),
     (&RISES, 0, "crossing by 0"),
@@ -121,12 +121,19 @@ fn answer(alloc: Global, problem: &Problem, budget: u64) -> Result<String, Fail>
     Ok(String::from_str(alloc, "not feasible")?)
 }
 
+/// The place of the first case with another answer.
+fn first_wrong(alloc: Global) -> Result<Option<usize>, Fail> {
+    for (place, (problem, budget, expected)) in CASES.iter().enumerate() {
+        if answer(alloc, *problem, *budget)?.as_str() != *expected {
+            return Ok(Some(place));
+        }
+    }
+    Ok(None)
+}
+
 #[test]
 fn rows_are_levelled(rt: HostRuntime) -> Result<(), Fail> {
-    for (problem, budget, expected) in &CASES {
-        let text = answer(rt.alloc(), *problem, *budget)?;
-        assert_eq!(rt; text.as_str(), *expected);
-    }
+    assert_eq!(rt; first_wrong(rt.alloc())?, None);
     Ok(())
 }
 

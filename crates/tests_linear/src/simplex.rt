@@ -71,7 +71,7 @@ const LARGE: Problem = Problem {
     asked: (&[(0, 1, 1)], 0),
 };
 
-const CASES: [(&Problem, Aim, u64, &str); 18] = [
+static CASES: [Case; 18] = [
     (&TWO_COLUMNS, Aim::Best, 1, "1 pivots and no end"),
     (&TWO_COLUMNS, Aim::Best, 2, "8 0:1 2:2"),
     (&TWO_COLUMNS, Aim::Positive, 0, "0 pivots and no end"),
@@ -132,18 +132,28 @@ fn answer(
     Ok(String::from_str(alloc, "not feasible")?)
 }
 
+/// A row that is asked in a way, under a limit, with the answer.
+type Case<'a> = (&'a Problem<'a>, Aim, u64, &'a str);
+
+/// The place of the first case with another answer.
+fn first_wrong(alloc: Global, cases: &[Case], climbs: bool) -> Result<Option<usize>, Fail> {
+    for (place, (problem, aim, budget, expected)) in cases.iter().enumerate() {
+        if answer(alloc, *problem, climbs, *aim, *budget)?.as_str() != *expected {
+            return Ok(Some(place));
+        }
+    }
+    Ok(None)
+}
+
 #[test]
 fn rows_have_their_maxima(rt: HostRuntime) -> Result<(), Fail> {
-    for (problem, aim, budget, expected) in &CASES {
-        let text = answer(rt.alloc(), *problem, false, *aim, *budget)?;
-        assert_eq!(rt; text.as_str(), *expected);
-    }
+    assert_eq!(rt; first_wrong(rt.alloc(), &CASES, false)?, None);
     Ok(())
 }
 
 // Of the two columns the second gains 8 and the first 4. On the box one exchange of the climb and one of the search are not enough.
 // On Beale's example the climb takes two exchanges, where the search by itself takes six.
-const CLIMBS: [(&Problem, Aim, u64, &str); 10] = [
+static CLIMBS: [Case; 10] = [
     (&TWO_COLUMNS, Aim::Best, 0, "0 pivots and no end"),
     (&TWO_COLUMNS, Aim::Best, 1, "8 0:1 2:2"),
     (&TWO_COLUMNS, Aim::Positive, 1, "positive"),
@@ -158,9 +168,6 @@ const CLIMBS: [(&Problem, Aim, u64, &str); 10] = [
 
 #[test]
 fn rows_that_climb_have_their_maxima(rt: HostRuntime) -> Result<(), Fail> {
-    for (problem, aim, budget, expected) in &CLIMBS {
-        let text = answer(rt.alloc(), *problem, true, *aim, *budget)?;
-        assert_eq!(rt; text.as_str(), *expected);
-    }
+    assert_eq!(rt; first_wrong(rt.alloc(), &CLIMBS, true)?, None);
     Ok(())
 }

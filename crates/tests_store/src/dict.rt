@@ -139,27 +139,46 @@ fn solved(alloc: Global) -> Result<Dict, Refusal> {
     Ok(dict)
 }
 
-const SOLVED: &str = "4 0: 2 | 1r2*2 1r2*3 1: 1 | 1r2*2 -1r2*3 ";
+const TWO_AND_ONE: &str = "4 0: 2 | 1r2*2 1r2*3 1: 1 | 1r2*2 -1r2*3 ";
+
+/// Whether a dictionary is what the text says.
+fn is_dict(alloc: Global, dict: &Dict, text: &str) -> Result<bool, Refusal> {
+    Ok(dict_text(alloc, dict)?.as_str() == text)
+}
+
+fn is_solved(alloc: Global) -> Result<bool, Refusal> {
+    let dict = solved(alloc)?;
+    is_dict(alloc, &dict, TWO_AND_ONE)
+}
 
 #[test]
 fn two_equations_give_two_and_one(rt: HostRuntime) -> Result<(), Fail> {
-    let dict = solved(rt.alloc())?;
-    assert_eq!(rt; dict_text(rt.alloc(), &dict)?.as_str(), SOLVED);
+    assert!(rt; is_solved(rt.alloc())?);
     Ok(())
+}
+
+/// Whether the first equation's column stands among the live ones once it is restored.
+fn is_restored(alloc: Global, dict: &mut Dict) -> Result<bool, Refusal> {
+    turn(dict, 2)?;
+    is_dict(alloc, dict, "4 0: 2 1r2*2 | 1r2*3 1: 1 1r2*2 | -1r2*3 ")
+}
+
+/// Whether it is the row then that it is exchanged with.
+fn is_exchanged(alloc: Global, dict: &mut Dict) -> Result<bool, Refusal> {
+    exchange(dict, 0, 2)?;
+    is_dict(alloc, dict, "4 1: -1 1*0 | -1*3 2: -4 2*0 | -1*3 ")
+}
+
+fn goes_back_in(alloc: Global) -> Result<bool, Refusal> {
+    let mut dict = solved(alloc)?;
+    let restored = is_restored(alloc, &mut dict)?;
+    let exchanged = is_exchanged(alloc, &mut dict)?;
+    Ok(restored && exchanged)
 }
 
 #[test]
 fn a_restored_column_stands_among_the_live_ones(rt: HostRuntime) -> Result<(), Fail> {
-    let mut dict = solved(rt.alloc())?;
-    turn(&mut dict, 2)?;
-    let restored = dict_text(rt.alloc(), &dict)?;
-    assert_eq!(rt;
-        restored.as_str(),
-        "4 0: 2 1r2*2 | 1r2*3 1: 1 1r2*2 | -1r2*3 "
-    );
-    exchange(&mut dict, 0, 2)?;
-    let exchanged = dict_text(rt.alloc(), &dict)?;
-    assert_eq!(rt; exchanged.as_str(), "4 1: -1 1*0 | -1*3 2: -4 2*0 | -1*3 ");
+    assert!(rt; goes_back_in(rt.alloc())?);
     Ok(())
 }
 
@@ -173,12 +192,15 @@ fn two_rows(alloc: Global) -> Result<Dict, Refusal> {
     Ok(dict)
 }
 
+fn is_eliminated(alloc: Global) -> Result<bool, Refusal> {
+    let mut dict = two_rows(alloc)?;
+    eliminate(&mut dict, 2, 0)?;
+    is_dict(alloc, &dict, "4 0: 3 -1*1 | 1*2 3: 6 -2*1 | 2*2 ")
+}
+
 #[test]
 fn an_eliminated_row_is_a_dropped_column_of_all_rows(rt: HostRuntime) -> Result<(), Fail> {
-    let mut dict = two_rows(rt.alloc())?;
-    eliminate(&mut dict, 2, 0)?;
-    let text = dict_text(rt.alloc(), &dict)?;
-    assert_eq!(rt; text.as_str(), "4 0: 3 -1*1 | 1*2 3: 6 -2*1 | 2*2 ");
+    assert!(rt; is_eliminated(rt.alloc())?);
     Ok(())
 }
 
@@ -213,14 +235,23 @@ fn change_and_undo(dict: &mut Dict) -> Result<(), Refusal> {
     Ok(())
 }
 
-#[test]
-fn undo_gives_back_each_row_constant_and_flag(rt: HostRuntime) -> Result<(), Fail> {
-    let mut dict = solved(rt.alloc())?;
+/// Whether all is as it was, with room for two more quantities.
+fn is_as_it_was(alloc: Global, dict: &Dict) -> Result<bool, Refusal> {
+    let flags = !is_restricted(dict, 0) && is_restricted(dict, 1);
+    let same = is_dict(alloc, dict, TWO_AND_ONE)?;
+    Ok(flags && same && dict.spare() >= 2)
+}
+
+fn goes_back(alloc: Global) -> Result<bool, Refusal> {
+    let mut dict = solved(alloc)?;
     restrict(&mut dict, 1)?;
     change_and_undo(&mut dict)?;
-    assert_eq!(rt; dict_text(rt.alloc(), &dict)?.as_str(), SOLVED);
-    assert!(rt; !is_restricted(&dict, 0) && is_restricted(&dict, 1) && dict.spare() >= 2);
-    assert_eq!(rt; dict.add_column(false)?, 4);
+    is_as_it_was(alloc, &dict)
+}
+
+#[test]
+fn undo_gives_back_each_row_constant_and_flag(rt: HostRuntime) -> Result<(), Fail> {
+    assert!(rt; goes_back(rt.alloc())?);
     Ok(())
 }
 
@@ -262,24 +293,26 @@ fn exchanged(alloc: Global, dict: &mut Dict) -> Result<String, AllocError> {
     }
 }
 
+/// Whether both are refused, each with its pair.
+fn are_refused(alloc: Global, dict: &mut Dict) -> Result<bool, AllocError> {
+    let product = doubled(alloc, dict)?;
+    let quotient = exchanged(alloc, dict)?;
+    Ok(
+        product.as_str() == "Product 2 170141183460469231731687303715884105727"
+            && quotient.as_str() == "Quotient 170141183460469231731687303715884105727 1r2",
+    )
+}
+
+fn stays(alloc: Global) -> Result<bool, Refusal> {
+    let mut dict = at_the_end(alloc)?;
+    let refused = are_refused(alloc, &mut dict)?;
+    let row = "2 1: 170141183460469231731687303715884105727 1r2*0 | ";
+    let same = is_dict(alloc, &dict, row)?;
+    Ok(refused && same && is_restricted(&dict, 0))
+}
+
 #[test]
 fn a_fault_tells_its_pair_and_leaves_all_as_it_was(rt: HostRuntime) -> Result<(), Fail> {
-    let mut dict = at_the_end(rt.alloc())?;
-    let sum = doubled(rt.alloc(), &mut dict)?;
-    assert_eq!(rt;
-        sum.as_str(),
-        "Product 2 170141183460469231731687303715884105727"
-    );
-    let turned = exchanged(rt.alloc(), &mut dict)?;
-    assert_eq!(rt;
-        turned.as_str(),
-        "Quotient 170141183460469231731687303715884105727 1r2"
-    );
-    let left = dict_text(rt.alloc(), &dict)?;
-    assert_eq!(rt;
-        left.as_str(),
-        "2 1: 170141183460469231731687303715884105727 1r2*0 | "
-    );
-    assert!(rt; is_restricted(&dict, 0));
+    assert!(rt; stays(rt.alloc())?);
     Ok(())
 }

@@ -138,14 +138,32 @@ static ROWS: [(Act, Given, Given, &str); 17] = [
     ),
 ];
 
+/// What a row comes to.
+fn outcome(
+    alloc: Global,
+    act: Act,
+    first: &Given,
+    second: &Given,
+) -> Result<Result<Form, Refusal>, Refusal> {
+    let first = form(alloc, first)?;
+    let second = form(alloc, second)?;
+    Ok(done(act, first, &second))
+}
+
+/// The place of the first row that comes to something else.
+fn first_wrong(alloc: Global) -> Result<Option<usize>, Refusal> {
+    for (place, (act, left, right, want)) in ROWS.iter().enumerate() {
+        let found = outcome(alloc, *act, left, right)?;
+        if text_of(alloc, &found)?.as_str() != *want {
+            return Ok(Some(place));
+        }
+    }
+    Ok(None)
+}
+
 #[test]
 fn forms_are_added_subtracted_scaled_and_put_in(rt: HostRuntime) -> Result<(), Fail> {
-    for (act, left, right, want) in &ROWS {
-        let first = form(rt.alloc(), left)?;
-        let second = form(rt.alloc(), right)?;
-        let found = text_of(rt.alloc(), &done(*act, first, &second))?;
-        assert_eq!(rt; found.as_str(), *want);
-    }
+    assert_eq!(rt; first_wrong(rt.alloc())?, None);
     Ok(())
 }
 
@@ -160,15 +178,23 @@ fn copy_text(alloc: Global, form: Form) -> Result<String, AllocError> {
     format!(in alloc; "{:?} {text}", copy.relation)
 }
 
+fn is_copied_whole(alloc: Global) -> Result<bool, Refusal> {
+    let given = form(alloc, &K)?;
+    Ok(copy_text(alloc, given)?.as_str() == "Ge 3*2 -1*5 0")
+}
+
+/// The first variable of a form with its coefficient.
+fn lead_of(alloc: Global, given: &Given) -> Result<Option<(VarId, Frac)>, Refusal> {
+    Ok(form(alloc, given)?.lead())
+}
+
 #[test]
 fn a_constraint_is_copied_whole_and_leads_with_its_oldest_variable(
     rt: HostRuntime,
 ) -> Result<(), Fail> {
-    let given = form(rt.alloc(), &K)?;
-    let lead = given.lead();
-    assert!(rt; lead.is_some_and(|pair| pair.0 == VarId(2) && pair.1.parts() == (3, 1)));
-    assert_eq!(rt; copy_text(rt.alloc(), given)?.as_str(), "Ge 3*2 -1*5 0");
-    assert!(rt; form(rt.alloc(), &(&[], 1, 2))?.lead().is_none());
+    assert!(rt; is_copied_whole(rt.alloc())?);
+    assert_eq!(rt; lead_of(rt.alloc(), &K)?, Some((VarId(2), Frac::from(3))));
+    assert_eq!(rt; lead_of(rt.alloc(), &(&[], 1, 2))?, None);
     assert!(rt; Cert::empty(rt.alloc()).entries().is_empty());
     Ok(())
 }

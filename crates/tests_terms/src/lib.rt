@@ -6,6 +6,8 @@ mod attr;
 #[cfg(test)]
 mod built;
 #[cfg(test)]
+mod names;
+#[cfg(test)]
 mod order;
 #[cfg(test)]
 mod term;

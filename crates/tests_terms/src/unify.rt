@@ -3,11 +3,11 @@
 
 ghost use Rattle.std.specs.Prelude.{◌≡◌, ◌<◌, ◌≤◌, length, IfOk};
 
-use cq_atoms::Atoms;
+use crate::names::f_named;
 use cq_frac::VarId;
 use cq_term::{Atom, Heap, Newly, TermId, View};
 use cq_unify::{copy, unify, vars_of};
-use std::alloc::AllocError;
+use std::alloc::{AllocError, Global};
 use std::test::Fail;
 
 const DEPTH: usize = 200_000;
@@ -84,13 +84,18 @@ fn clash_at_the_end(heap: &mut Heap, newly: &mut Newly, f: Atom) -> Result<bool,
     Ok(!same && heap.view(x) != View::Name(f) && newly.as_slice().len() == 0)
 }
 
+fn equal_or_as_they_are(alloc: Global, f: Atom) -> Result<bool, AllocError> {
+    let mut heap = Heap::new(alloc);
+    let mut newly = Newly::new(alloc);
+    let clash = clash_at_the_end(&mut heap, &mut newly, f)?;
+    let equal = become_a_name(&mut heap, &mut newly, f)?;
+    Ok(clash && equal)
+}
+
 #[test]
 fn terms_become_equal_or_stay_as_they_are(rt: HostRuntime) -> Result<(), Fail> {
-    let f = Atoms::new(rt.alloc()).intern("f")?;
-    let mut heap = Heap::new(rt.alloc());
-    let mut newly = Newly::new(rt.alloc());
-    assert!(rt; clash_at_the_end(&mut heap, &mut newly, f)?);
-    assert!(rt; become_a_name(&mut heap, &mut newly, f)?);
+    let f = f_named(rt.alloc())?;
+    assert!(rt; equal_or_as_they_are(rt.alloc(), f)?);
     Ok(())
 }
 
@@ -124,21 +129,25 @@ fn shifted(heap: &mut Heap, name: Atom, oldest: TermId) -> Result<Lists, AllocEr
     })
 }
 
-/// Two lists of the same length, after which the youngest variable is the oldest.
+/// Two lists of the same length, after which the youngest variable is the oldest, and so many were bound.
 fn become_a_chain(heap: &mut Heap, newly: &mut Newly, f: Atom) -> Result<bool, AllocError> {
     let oldest = variable(heap)?;
     let made = shifted(heap, f, oldest)?;
     let same = unified(heap, newly, made.younger, made.older)?;
-    Ok(same && heap.view(made.youngest) == heap.view(oldest))
+    let leads = heap.view(made.youngest) == heap.view(oldest);
+    Ok(same && leads && newly.as_slice().len() == DEPTH)
+}
+
+fn is_a_chain(alloc: Global, f: Atom) -> Result<bool, AllocError> {
+    let mut heap = Heap::new(alloc);
+    let mut newly = Newly::new(alloc);
+    become_a_chain(&mut heap, &mut newly, f)
 }
 
 #[test]
 fn deep_terms_unify_into_a_long_chain(rt: HostRuntime) -> Result<(), Fail> {
-    let f = Atoms::new(rt.alloc()).intern("f")?;
-    let mut heap = Heap::new(rt.alloc());
-    let mut newly = Newly::new(rt.alloc());
-    assert!(rt; become_a_chain(&mut heap, &mut newly, f)?);
-    assert_eq!(rt; newly.as_slice().len(), DEPTH);
+    let f = f_named(rt.alloc())?;
+    assert!(rt; is_a_chain(rt.alloc(), f)?);
     Ok(())
 }
 
@@ -197,11 +206,16 @@ fn has_a_new_variable(heap: &mut Heap, f: Atom) -> Result<bool, AllocError> {
     has_variables(heap, second, &[VarId(5)])
 }
 
+fn have_new_variables(alloc: Global, f: Atom) -> Result<bool, AllocError> {
+    let mut heap = Heap::new(alloc);
+    let small = has_new_variables(&mut heap, f)?;
+    let deep = has_a_new_variable(&mut heap, f)?;
+    Ok(small && deep)
+}
+
 #[test]
 fn copies_have_new_variables_in_the_order_of_the_term(rt: HostRuntime) -> Result<(), Fail> {
-    let f = Atoms::new(rt.alloc()).intern("f")?;
-    let mut heap = Heap::new(rt.alloc());
-    assert!(rt; has_new_variables(&mut heap, f)?);
-    assert!(rt; has_a_new_variable(&mut heap, f)?);
+    let f = f_named(rt.alloc())?;
+    assert!(rt; have_new_variables(rt.alloc(), f)?);
     Ok(())
 }

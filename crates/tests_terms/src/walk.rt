@@ -2,10 +2,10 @@
 
 ghost use Rattle.std.specs.Prelude.{◌<◌, length, IfOk};
 
-use cq_atoms::Atoms;
+use crate::names::f_named;
 use cq_term::{Atom, Heap, TermId, View};
 use cq_walk::Visited;
-use std::alloc::AllocError;
+use std::alloc::{AllocError, Global};
 use std::test::Fail;
 
 /// A name over a variable and an atom.
@@ -31,17 +31,17 @@ fn visited(heap: &Heap, id: TermId, times: usize) -> Result<usize, AllocError>
     Ok(work.len())
 }
 
-fn added(heap: &mut Heap, name: Atom, times: usize) -> Result<usize, AllocError> {
-    let whole = sample(heap, name)?;
-    visited(heap, whole, times)
+fn added(alloc: Global, name: Atom, times: usize) -> Result<usize, AllocError> {
+    let mut heap = Heap::new(alloc);
+    let whole = sample(&mut heap, name)?;
+    visited(&heap, whole, times)
 }
 
 #[test]
 fn a_compound_is_gone_into_sixty_five_times(rt: HostRuntime) -> Result<(), Fail> {
-    let f = Atoms::new(rt.alloc()).intern("f")?;
-    let mut heap = Heap::new(rt.alloc());
-    for (times, want) in [(1, 2), (65, 130), (66, 130)] {
-        assert_eq!(rt; added(&mut heap, f, times)?, want);
-    }
+    let f = f_named(rt.alloc())?;
+    assert_eq!(rt; added(rt.alloc(), f, 1)?, 2);
+    assert_eq!(rt; added(rt.alloc(), f, 65)?, 130);
+    assert_eq!(rt; added(rt.alloc(), f, 66)?, 130);
     Ok(())
 }

@@ -9,6 +9,7 @@ use cq_read::{Fed, Feed, Read, read_clause};
 use cq_term::{Heap, TermId};
 use cq_write::{Style, write_term};
 use std::alloc::{AllocError, Global};
+use std::str;
 use std::test::Fail;
 
 /// A clause as it is written, with how many variables it names and the place behind it.
@@ -125,12 +126,19 @@ static ROWS: [(&str, usize, &str); 54] = [
     ("a % b.\n. c", 0, "a 0 8"),
 ];
 
+/// The place of the first row with something else.
+fn first_wrong(alloc: Global) -> Result<Option<usize>, AllocError> {
+    for (place, (text, at, want)) in ROWS.iter().enumerate() {
+        if standing(alloc, text, *at)?.as_str() != *want {
+            return Ok(Some(place));
+        }
+    }
+    Ok(None)
+}
+
 #[test]
 fn places_have_what_stands_there(rt: HostRuntime) -> Result<(), Fail> {
-    for (text, at, want) in &ROWS {
-        let found = standing(rt.alloc(), text, *at)?;
-        assert!(rt; found.as_str() == *want, "{text} at {at}: {found}");
-    }
+    assert_eq!(rt; first_wrong(rt.alloc())?, None);
     Ok(())
 }
 
@@ -245,7 +253,7 @@ fn all_agree(
     Ok(one && two && seven)
 }
 
-const TEXTS: [&str; 12] = [
+static TEXTS: [&str; 12] = [
     "",
     "a. b.\n c(X,Y,X).\n",
     "p:-q,r.% comment.\n/* more. */ s.\n",
@@ -260,14 +268,25 @@ const TEXTS: [&str; 12] = [
     "ä. é(Ö). `. \u{a0}.\n",
 ];
 
+/// Whether a text that is read in pieces is read as a whole.
+fn reads_alike(alloc: Global, text: &str) -> Result<bool, AllocError> {
+    let mut atoms = Atoms::new(alloc);
+    let ops = Ops::standard(alloc, &mut atoms)?;
+    all_agree(&mut Heap::new(alloc), &mut atoms, &ops, text)
+}
+
+fn first_unlike(alloc: Global) -> Result<Option<usize>, AllocError> {
+    for (place, text) in TEXTS.iter().enumerate() {
+        if !reads_alike(alloc, text)? {
+            return Ok(Some(place));
+        }
+    }
+    Ok(None)
+}
+
 #[test]
 fn pieces_read_as_the_whole_text(rt: HostRuntime) -> Result<(), Fail> {
-    let mut atoms = Atoms::new(rt.alloc());
-    let ops = Ops::standard(rt.alloc(), &mut atoms)?;
-    let mut heap = Heap::new(rt.alloc());
-    for text in TEXTS {
-        assert!(rt; all_agree(&mut heap, &mut atoms, &ops, text)?, "{text}");
-    }
+    assert_eq!(rt; first_unlike(rt.alloc())?, None);
     Ok(())
 }
 
@@ -303,24 +322,44 @@ fn piece_reads_clause(
     reads_clause(feed, heap, atoms, ops, next)
 }
 
-const PIECES: [(&[u8], usize, bool); 4] = [
+static PIECES: [(&[u8], usize, bool); 4] = [
     (b"a. b.", 2, true),
     (b"", 5, false),
     (b"\n", 5, true),
     (b"c.", 8, false),
 ];
 
+/// Whether the pieces are read as they should be.
+fn are_read(
+    feed: &mut Feed,
+    heap: &mut Heap,
+    atoms: &mut Atoms,
+    ops: &Ops,
+) -> Result<bool, AllocError>
+    requires { feed.old.finished ≡ false }
+    ensures { feed.new.finished ≡ false }
+{
+    for (piece, next, want) in &PIECES {
+        if piece_reads_clause(feed, heap, atoms, ops, piece, *next)? != *want {
+            return Ok(false);
+        }
+    }
+    Ok(true)
+}
+
+fn waits_for_what_follows(alloc: Global) -> Result<bool, AllocError> {
+    let mut atoms = Atoms::new(alloc);
+    let ops = Ops::standard(alloc, &mut atoms)?;
+    let mut heap = Heap::new(alloc);
+    let mut feed = Feed::new(alloc);
+    let read = are_read(&mut feed, &mut heap, &mut atoms, &ops)?;
+    feed.finish();
+    let last = reads_clause(&mut feed, &mut heap, &mut atoms, &ops, 8)?;
+    Ok(read && last)
+}
+
 #[test]
 fn a_final_full_stop_waits_for_what_follows(rt: HostRuntime) -> Result<(), Fail> {
-    let mut atoms = Atoms::new(rt.alloc());
-    let ops = Ops::standard(rt.alloc(), &mut atoms)?;
-    let mut heap = Heap::new(rt.alloc());
-    let mut feed = Feed::new(rt.alloc());
-    for (piece, next, want) in PIECES {
-        let is_read = piece_reads_clause(&mut feed, &mut heap, &mut atoms, &ops, piece, next)?;
-        assert!(rt; is_read == want, "{next}");
-    }
-    feed.finish();
-    assert!(rt; reads_clause(&mut feed, &mut heap, &mut atoms, &ops, 8)?);
+    assert!(rt; waits_for_what_follows(rt.alloc())?);
     Ok(())
 }
