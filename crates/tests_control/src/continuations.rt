@@ -81,16 +81,18 @@ fn two_continuations_share_their_rest(rt: HostRuntime) -> Result<(), Fail> {
 
 fn are_taken_away(alloc: Global) -> Result<bool, AllocError> {
     let mut world = Both {
-        first: Trail::<u32>::new(alloc),
+        first: Trail::new(alloc),
         second: Continuations::new(alloc),
     };
     let mut choices = Choices::new(alloc);
+    world.first.push(1)?;
     world.second.before('a', Continuation::done())?;
     choices.push(&mut world, 0)?;
     world.second.before('b', Continuation::done())?;
+    world.second.before('c', Continuation::done())?;
     let grown = world.second.made();
     let back = choices.back(&mut world);
-    Ok(grown == 2 && back == Some(0) && world.second.made() == 1)
+    Ok(grown == 3 && back == Some(0) && world.second.made() == 1)
 }
 
 #[test]

@@ -470,8 +470,10 @@ fn stays_as_before(
 
 /// Whether three constraints are left, by which no variable has a value.
 fn leaves_three(store: &Store) -> bool {
-    let values = [0, 1, 2].iter().any(|x| store.value(VarId(*x)).is_some());
-    store.told().len() == 3 && !values
+    store.told().len() == 3
+        && store.value(VarId(0)).is_none()
+        && store.value(VarId(1)).is_none()
+        && store.value(VarId(2)).is_none()
 }
 
 fn is_as_before(alloc: Global) -> Result<bool, Fail> {
@@ -496,7 +498,7 @@ static MIXED: [(Relation, Products); 4] = [
 ];
 
 /// Tells that a form stands so to zero.
-fn told(
+fn tell_form(
     store: &mut Store,
     alloc: Global,
     relation: Relation,
@@ -508,7 +510,7 @@ fn told(
 
 fn tell_mixed(store: &mut Store, alloc: Global) -> Result<(), Fail> {
     for (relation, form) in &MIXED {
-        told(store, alloc, *relation, *form)?;
+        tell_form(store, alloc, *relation, *form)?;
     }
     Ok(())
 }
@@ -516,7 +518,7 @@ fn tell_mixed(store: &mut Store, alloc: Global) -> Result<(), Fail> {
 /// Inequalities of so many variables more.
 fn tell_many(store: &mut Store, alloc: Global, from: usize, to: usize) -> Result<(), Fail> {
     for x in from..to {
-        told(store, alloc, Relation::Ge, &[(1, x)])?;
+        tell_form(store, alloc, Relation::Ge, &[(1, x)])?;
     }
     Ok(())
 }

@@ -68,10 +68,10 @@ pub(crate) type Form<'a> = (&'a [(usize, i128, i128)], i64);
 
 /// A row that is asked, over columns and restricted rows, which are numbered after the columns.
 pub(crate) struct Problem<'a> {
-    pub(crate) restricted_columns: usize,
-    pub(crate) free_columns: usize,
-    pub(crate) rows: &'a [Form<'a>],
-    pub(crate) asked: Form<'a>,
+    pub restricted_columns: usize,
+    pub free_columns: usize,
+    pub rows: &'a [Form<'a>],
+    pub asked: Form<'a>,
 }
 
 fn entries(alloc: Global, form: &[(usize, i128, i128)]) -> Result<Vec<Entry>, Fail> {
