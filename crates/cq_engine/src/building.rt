@@ -50,6 +50,7 @@ pub(crate) fn build(m: &mut Machine, name: Atom, args: &[TermId]) -> Result<Term
     ensures built { IfOk result (λ id. (text : Text) → slice_get m.old.atoms name ≡ Some text
         → tree m.new.atoms (terms m.new) id ≡ with_arguments text (trees m.old.atoms (terms m.old) args.now)) }
     ensures more { HasBuilt m.old m.new }
+    ensures stands { StillStands m.old m.new }
     ensures sound { IsSound m.new }
 {
     over(&mut m.world.first, name, args)

@@ -3,7 +3,7 @@ use Rattle.std.specs.List.{zip}
 use Rattle.cq_steps.specs.Worlds.{Grown}
 use Rattle.cq_steps.proofs.Grown.{grown}
 use Rattle.cq_engine.specs.Machines.{now}
-use Rattle.cq_engine.proofs.Built.{lists_same}
+use Rattle.cq_engine.proofs.Built.{lists_same, stands_on}
 use Rattle.cq_engine.proofs.building.build.Goals as goal
 
 pub returns-clause-more : goal.returns-clause-more
@@ -19,3 +19,6 @@ returns-clause-more c =
       grown = subst (λ w. Grown m.atoms (now m) (w, lists)) (sym c.over.ensures.rest)
           (grown m.atoms (now m).0 c.over.new.world.heap.now g.terms g.images (g.names c.requires.sound.names) lists lists (lists_same lists));
     }
+
+pub returns-clause-stands : goal.returns-clause-stands
+returns-clause-stands c = stands_on c.args.m.now _ (returns-clause-more c)
