@@ -8,7 +8,7 @@ use Rattle.cq_frac.specs.declared.Refusal.TheVariants as of_refusal
 use Rattle.cq_linear.specs.declared.store.StoreFault.{StoreFault}
 use Rattle.cq_linear.specs.declared.store.StoreFault.TheVariants as of_store
 use Rattle.cq_eliminate.specs.declared.ProjectFault.{ProjectFault}
-use Rattle.cq_eliminate.specs.declared.ProjectFault.TheVariants.{Overflow, Pivots}
+use Rattle.cq_eliminate.specs.declared.ProjectFault.TheVariants.{Overflow, Pivots, Rows, NoMemory}
 use Rattle.cq_eliminate.specs.Faults.{IsFaultOf, fault_of, IfRows}
 
 -- ---- of a refusal that a `?` passes on
@@ -46,3 +46,11 @@ pub no_rows_refused : {T : Type 0} (r : Result T ProjectFault) (told : Refusal) 
 no_rows_refused (Ok x) told P h = tt
 no_rows_refused (Err f) (of_refusal.Overflow p) P h = subst (λ g. IfRows g P) (sym h) tt
 no_rows_refused (Err f) of_refusal.NoMemory P h = subst (λ g. IfRows g P) (sym h) tt
+
+-- what holds of too many rows, by what holds of them otherwise
+pub if_rows : (fault : ProjectFault) (P Q : ℕ → ℕ → ℕ → List Constraint → Type 0)
+    → ((p n rest : ℕ) (rows : List Constraint) → P p n rest rows → Q p n rest rows) → IfRows fault P → IfRows fault Q
+if_rows (Overflow pair) P Q w h = tt
+if_rows (Pivots n) P Q w h = tt
+if_rows (Rows p n rest rows) P Q w h = w p n rest rows.items h
+if_rows NoMemory P Q w h = tt

@@ -1,16 +1,8 @@
 -- How many of some variables stand in a list. Where one goes and none joins, there are fewer.
-use Rattle.std.proofs.Common.{◌≡◌, ◌⊎◌, inl, inr, ℕ, zero, suc, ◌<◌, ◌≤◌, List, [], ◌∷◌, Bool, true, false, nat_eq, ◌||◌, arith, refl, ap, sym, subst, ◌∙◌}
+use Rattle.std.proofs.Common.{◌≡◌, inl, inr, ℕ, suc, ◌<◌, ◌≤◌, List, [], ◌∷◌, Bool, true, false, nat_eq, ◌||◌, arith, refl, subst}
 use Rattle.spec_rational.specs.Sums.{Monomial, Mentions}
 use Rattle.spec_linear.specs.Solution.{Constraint, Has, SomeMentions}
-use Rattle.spec_lists.proofs.Tests.{nat_eq-same}
-
-either_true : (a b : Bool) → (a || b) ≡ true → (a ≡ true) ⊎ (b ≡ true)
-either_true true b e = inl refl
-either_true false b e = inr e
-
-true_either : (a b : Bool) → b ≡ true → (a || b) ≡ true
-true_either true b e = refl
-true_either false b e = e
+use Rattle.spec_lists.proofs.Tests.{nat_eq-same, one_is, or_left, or_right}
 
 -- ---- whether a variable stands in a list
 abbrev pub mentions : ℕ → List Monomial → Bool
@@ -23,21 +15,21 @@ stands x (c ∷ l) = mentions x c.form.products || stands x l
 
 mentions-is : (x : ℕ) (s : List Monomial) → mentions x s ≡ true → Mentions x s
 mentions-is x [] e = let d : false ≡ true = e in cc
-mentions-is x (m ∷ s) e = elim (either_true (nat_eq x m.variable) (mentions x s) e) [ inl h ↦ inl (nat_eq-same x m.variable h) | inr h ↦ inr (mentions-is x s h) ]
+mentions-is x (m ∷ s) e = elim (one_is (nat_eq x m.variable) (mentions x s) e) [ inl h ↦ inl (nat_eq-same x m.variable h) | inr h ↦ inr (mentions-is x s h) ]
 
 is-mentions : (x : ℕ) (s : List Monomial) → Mentions x s → mentions x s ≡ true
 is-mentions x [] h = absurd h
-is-mentions x (m ∷ s) (inl e) = let t : nat_eq x m.variable ≡ true = grind arith in ap (λ b. b || mentions x s) t
-is-mentions x (m ∷ s) (inr h) = true_either (nat_eq x m.variable) (mentions x s) (is-mentions x s h)
+is-mentions x (m ∷ s) (inl e) = let t : nat_eq x m.variable ≡ true = grind arith in or_left (nat_eq x m.variable) (mentions x s) t
+is-mentions x (m ∷ s) (inr h) = or_right (nat_eq x m.variable) (mentions x s) (is-mentions x s h)
 
 stands-is : (x : ℕ) (l : List Constraint) → stands x l ≡ true → SomeMentions x l
 stands-is x [] e = let d : false ≡ true = e in cc
-stands-is x (c ∷ l) e = elim (either_true (mentions x c.form.products) (stands x l) e) [ inl h ↦ inl (mentions-is x c.form.products h) | inr h ↦ inr (stands-is x l h) ]
+stands-is x (c ∷ l) e = elim (one_is (mentions x c.form.products) (stands x l) e) [ inl h ↦ inl (mentions-is x c.form.products h) | inr h ↦ inr (stands-is x l h) ]
 
 is-stands : (x : ℕ) (l : List Constraint) → SomeMentions x l → stands x l ≡ true
 is-stands x [] h = absurd h
-is-stands x (c ∷ l) (inl h) = ap (λ b. b || stands x l) (is-mentions x c.form.products h)
-is-stands x (c ∷ l) (inr h) = true_either (mentions x c.form.products) (stands x l) (is-stands x l h)
+is-stands x (c ∷ l) (inl h) = or_left (mentions x c.form.products) (stands x l) (is-mentions x c.form.products h)
+is-stands x (c ∷ l) (inr h) = or_right (mentions x c.form.products) (stands x l) (is-stands x l h)
 
 -- ---- how many do
 abbrev pub one_more_if : Bool → ℕ → ℕ

@@ -1,14 +1,14 @@
 -- What holds of the rows while one variable after the other is eliminated.
-use Rattle.std.proofs.Common.{◌≡◌, ◌⊎◌, inl, inr, ℕ, ◌+◌, ◌*◌, ◌<◌, List, [], ◌∷◌, ◌++◌, length, take, get_or, ap, ap₂, sym, subst, ◌∙◌, append-nil}
+use Rattle.std.proofs.Common.{◌≡◌, inl, inr, ℕ, ◌+◌, ◌<◌, List, [], ◌∷◌, ◌++◌, length, take, get_or, ap, sym, subst, ◌∙◌, append-nil}
 use Rattle.std.proofs.lemmas.List.{take_more}
 use Rattle.spec_linear.specs.Form.{IsForm}
-use Rattle.spec_linear.specs.Solution.{Constraint, Solvable, Equivalent, Has, SomeMentions, MentionsOnly}
+use Rattle.spec_linear.specs.Solution.{Constraint, Solvable, Has, SomeMentions, MentionsOnly}
 use Rattle.spec_linear.proofs.Lists.{alike_solvable, alike_sym}
 use Rattle.spec_projection.specs.Targets.{SameOn}
 use Rattle.spec_projection.specs.Lists.{AreForms}
 use Rattle.spec_projection.specs.Elimination.{eliminated}
 use Rattle.spec_projection.specs.Irredundant.{IsIrredundantSublist}
-use Rattle.spec_projection.specs.Partial.{AreInequalities, IsNext, IsPartial, first, next, IsPartialProjection, at_start, before, RowsDue}
+use Rattle.spec_projection.specs.Partial.{AreInequalities, IsNext, IsPartial, first, next, before}
 use Rattle.spec_projection.proofs.Members.{has_either}
 use Rattle.spec_projection.proofs.Sifted.{sublist_has}
 use Rattle.spec_projection.proofs.SameOn.{same_on_solvable}
@@ -16,7 +16,7 @@ use Rattle.spec_projection.proofs.Projected.{eliminated_same_on}
 use Rattle.spec_projection.proofs.Mentions.{x_is_gone, no_variable_joins, AreForms-eliminated}
 use Rattle.spec_projection.proofs.Eliminating.{sublist_mentions, AreInequalities-eliminated}
 use Rattle.cq_frac.specs.declared.Pair.{Pair}
-use Rattle.cq_sift.specs.Sifting.{RefusesSifting, SpendsSifting}
+use Rattle.cq_fourier.specs.Next.{AreApart}
 use Rattle.cq_eliminate.specs.Eliminating.{AreOver, RefusesStep, SpendsStep, RefusesEliminating, SpendsEliminating, IsLimitPassed, IsRowsDue, while_combining, while_sifting}
 
 -- one more row with a form in order
@@ -59,6 +59,13 @@ module _ (others : List ℕ) (start : List Constraint) where
     -- the rows are of the others and of targets still
     pub over : (targets : List ℕ) → AreOver targets others start → MentionsOnly (others ++ targets) m
     over targets o y h = o.all y (a.mentions y h)
+
+    -- as they are read
+    pub next_here : (read : List Constraint) (x : ℕ) → read ≡ m
+        → ((targets : List ℕ) → AreApart others targets → MentionsOnly (others ++ targets) read → IsNext targets read x)
+        → (targets : List ℕ) → AreOver targets others start → IsNext targets m x
+    next_here read x e h targets o =
+        subst (λ l. IsNext targets l x) e (h targets o.apart (subst (λ l. MentionsOnly (others ++ targets) l) (sym e) (over targets o)))
 
     module _ (x : ℕ) (is_next : (targets : List ℕ) → AreOver targets others start → IsNext targets m x) where
       -- without the next variable

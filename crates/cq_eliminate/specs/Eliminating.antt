@@ -2,7 +2,7 @@
 use Rattle.std.specs.Prelude.{◌≡◌, ℕ, ◌+◌, ◌*◌, ◌<◌, List, [], ◌++◌, length}
 use Rattle.spec_linear.specs.Solution.{Constraint, MentionsOnly}
 use Rattle.spec_projection.specs.Elimination.{lower_rows, upper_rows, other_rows, eliminated}
-use Rattle.spec_projection.specs.Partial.{IsNext, IsPartial, IsPartialProjection, RowsDue}
+use Rattle.spec_projection.specs.Partial.{IsPartial, IsPartialProjection, RowsDue}
 use Rattle.spec_limits.specs.Overflow.{Moment, OverflowDue}
 use Rattle.cq_frac.specs.declared.Pair.{Pair}
 use Rattle.cq_fourier.specs.Next.{AreApart}

@@ -5,14 +5,15 @@ use Rattle.spec_rational.specs.Rational.{IsPositive}
 use Rattle.spec_rational.proofs.Sign.{nonneg_cases, nonneg_zero}
 use Rattle.spec_linear.specs.declared.Relation.TheVariants.{Eq, Ge}
 use Rattle.spec_linear.specs.Form.{Linear}
-use Rattle.spec_linear.specs.Solution.{Constraint, Meets, Holds, through, Point, Solves, Solvable, Equivalent, Has, number, equal_zero}
+use Rattle.spec_linear.specs.Solution.{Constraint, Meets, Holds, through, Point, Solves, Solvable, Entails, Equivalent, Has, number, equal_zero}
 use Rattle.spec_linear.proofs.Points.{solves_same}
 use Rattle.spec_linear.proofs.Lists.{member_holds, alike_solvable, alike_sym}
 use Rattle.spec_inequalities.specs.Weak.{above_zero, at_least_zero, weak}
 use Rattle.spec_inequalities.proofs.Far.{weak_satisfied}
 use Rattle.spec_extremes.specs.Extremes.{Leaves}
-use Rattle.spec_projection.specs.Interior.{strictly}
+use Rattle.spec_projection.specs.Interior.{strictly, equations_of}
 use Rattle.spec_projection.proofs.Interior.{strict_together}
+use Rattle.spec_projection.proofs.Inside.{equations_follow}
 use Rattle.cq_reduce.specs.Disclosing.{IsDisclosed, Discloses, no_row, one_row}
 
 module _ (told : List Constraint) where
@@ -67,3 +68,7 @@ module _ (told : List Constraint) where
       let p = r.0.point in
       let above : IsPositive (through p f) = elim (nonneg_cases (through p f) (member_holds p told (at_least_zero f) r.1 r.0.solves)) [ inl z ↦ absurd (r.0.breaks z) | inr o ↦ o ] in
       (p, (above, (solves_same p (weak m)).1 (weak_satisfied (number p) m ((solves_same p m).0 (forth p r.0.solves told m t r.0.solves))))))
+
+  -- what equations the list entails follows from those that stand then
+  pub disclosed_complete : (m : List Constraint) → Discloses told told m → Solvable told → (f : Linear) → Entails told (equal_zero f) → Entails (equations_of m) (equal_zero f)
+  disclosed_complete m t s f h = equations_follow m f (disclosed_strictly m t s) (λ p o. h p ((disclosed_same m t p).0 o))

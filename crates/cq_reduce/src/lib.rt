@@ -1,6 +1,8 @@
 //! The equations that a list of constraints entails: its own, and the weak rows that are zero in every solution.
 #![tactic(auto)]
 
+pub mod telling;
+
 ghost use Rattle.std.specs.Prelude.{◌≡◌, ℕ, List, IfOk};
 ghost use Rattle.spec_linear.specs.Form.{Linear};
 ghost use Rattle.spec_linear.specs.Solution.{Solvable, Entails, Equivalent, equal_zero};
@@ -10,37 +12,32 @@ ghost use Rattle.cq_linear.specs.declared.store.StoreFault.TheVariants.{Overflow
 ghost use Rattle.cq_reduce.specs.Answering.{IsRefusedAnswering, IsSpentAnswering};
 ghost use Rattle.cq_reduce.specs.Disclosing.{IsDisclosed, Discloses, RefusesDisclosing, SpendsDisclosing, RefusesSome, SpendsSome};
 
+use crate::telling::holding;
 use cq_form::Constraint;
 use cq_linear::store::{Store, StoreFault};
-use cq_sift::tell_all;
 use spec_linear::Relation;
 use std::alloc::Global;
 
 /// The row, or its equation where it is weak and zero in every solution of the told list.
-fn disclosed_row(
-    alloc: Global,
-    store: &mut Store,
-    row: &Constraint,
-) -> Result<Constraint, StoreFault>
+fn disclosed_row(store: &mut Store, row: &Constraint) -> Result<Constraint, StoreFault>
     ensures disclosed { IfOk result (IsDisclosed store.old.told row.now) }
     ensures overflow { (pair : Pair) → result ≡ Err (Overflow pair) → RefusesDisclosing store.old.told row.now pair }
     ensures pivots { (n : ℕ) → result ≡ Err (Pivots n) → (n ≡ store.old.pivots) × SpendsDisclosing store.old.told row.now n }
     ensures told { store.new.told ≡ store.old.told }
-    ensures saved { store.new.saved ≡ store.old.saved }
     ensures budget { store.new.pivots ≡ store.old.pivots }
 {
-    let copy = row.clone()?;
-    if row.relation != Relation::Ge {
-        return Ok(copy);
-    }
-    let equation = Constraint {
-        relation: Relation::Eq,
-        form: row.form.clone()?,
+    let equation = match row.relation {
+        Relation::Ge => Constraint {
+            relation: Relation::Eq,
+            form: row.form.clone()?,
+        },
+        _ => return Ok(row.clone()?),
     };
     if store.entailed(&equation)? {
-        return Ok(equation);
+        Ok(equation)
+    } else {
+        Ok(row.clone()?)
     }
-    Ok(copy)
 }
 
 /// The rows, which the store was told, each weak row that is zero in every solution made an equation.
@@ -56,14 +53,14 @@ fn disclosed_rows(
 {
     let mut all = Vec::new(alloc);
     'rows: for row in rows {
-        let disclosed = disclosed_row(alloc, store, row)?;
+        let disclosed = disclosed_row(store, row)?;
         all.push(disclosed)?;
     }
     Ok(all)
 }
 
 /// The list with each weak row that is zero in every solution made an equation. Then every equation that the list entails
-/// follows from those that stand there.
+/// follows from those that stand there. No call of a store makes more than `pivots` exchanges.
 pub fn disclosed(
     alloc: Global,
     told: &[Constraint],
@@ -76,7 +73,6 @@ pub fn disclosed(
     ensures overflow { (targets : List ℕ) (pair : Pair) → result ≡ Err (Overflow pair) → IsRefusedAnswering targets told.now pair }
     ensures pivots { (targets : List ℕ) (n : ℕ) → result ≡ Err (Pivots n) → (n ≡ pivots) × IsSpentAnswering targets told.now n }
 {
-    let mut store = Store::new(alloc, pivots);
-    tell_all(&mut store, told)?;
+    let mut store = holding(alloc, told, pivots)?;
     disclosed_rows(alloc, &mut store, told)
 }

@@ -5,7 +5,6 @@ use Rattle.cq_reduce.proofs.disclosed_rows.Given as goal
 abbrev pub invariant-rows : goal.invariant-rows
 invariant-rows l = record {
   disclosed : Discloses l.rows (take l.row-index l.rows) l.all.items;
-  told : l.store.told ≡ l.fn.store.told;
-  saved : l.store.saved ≡ l.fn.store.saved;
+  told : l.store.told ≡ l.rows;
   pivots : l.store.pivots ≡ l.fn.store.pivots;
 }

@@ -1,13 +1,16 @@
 // Variables eliminated from lists of inequalities, worked by hand.
 
-ghost use Rattle.std.specs.Prelude.{IsTrue};
+ghost use Rattle.std.specs.Prelude.{IfOk, IfSome, IsTrue};
+ghost use Rattle.spec_linear.specs.Solution.{Solvable};
+ghost use Rattle.spec_projection.specs.Elimination.{IsInequality};
 ghost use Rattle.spec_projection.specs.Partial.{AreInequalities};
 
-use crate::given::{Given, are_given, rows, tells};
+use crate::given::{Given, are_given, rows};
+use crate::sift::can_hold;
 use cq_eliminate::{ProjectFault, eliminate};
 use cq_form::Constraint;
 use cq_frac::VarId;
-use cq_linear::store::{Store, StoreFault};
+use cq_linear::store::StoreFault;
 use spec_linear::Relation;
 use std::alloc::Global;
 use std::test::Fail;
@@ -98,28 +101,46 @@ static ELIMINATIONS: [Elimination; 7] = [
     },
 ];
 
-/// Whether each row is an inequality.
+/// Whether the row is an inequality.
+fn is_inequality(row: &Constraint) -> bool
+    ensures { IsTrue result → IsInequality row.now.relation }
+{
+    match row.relation {
+        Relation::Gt | Relation::Ge => true,
+        Relation::Eq | Relation::Ne => false,
+    }
+}
+
 fn are_inequalities(rows: &[Constraint]) -> bool
     ensures { IsTrue result → AreInequalities rows.now }
 {
     'rows: for row in rows {
-        match row.relation {
-            Relation::Gt | Relation::Ge => continue,
-            Relation::Eq | Relation::Ne => return false,
+        if is_inequality(row) {
+            continue;
         }
+        return false;
     }
     true
 }
 
+/// The rows, where they can hold.
+fn holding(alloc: Global, given: &[Given]) -> Result<Option<Vec<Constraint>>, StoreFault>
+    ensures { IfOk result (λ found. IfSome found (λ rows. Solvable rows.items)) }
+{
+    let rows = rows(alloc, given)?;
+    if !can_hold(alloc, &[], &rows)? {
+        return Ok(None);
+    }
+    Ok(Some(rows))
+}
+
 /// What comes of the rows without the variables, where they are inequalities that can hold.
 fn left(alloc: Global, given: &Elimination) -> Result<Option<Vec<Constraint>>, ProjectFault> {
-    let rows = rows(alloc, given.rows)?;
-    let mut store = Store::new(alloc, 1000);
-    match tells(&mut store, &rows) {
-        Ok(true) => {}
-        Ok(false) => return Ok(None),
+    let rows = match holding(alloc, given.rows) {
+        Ok(Some(rows)) => rows,
+        Ok(None) => return Ok(None),
         Err(fault) => return Err(ProjectFault::from(fault)),
-    }
+    };
     if !are_inequalities(&rows) {
         return Ok(None);
     }
