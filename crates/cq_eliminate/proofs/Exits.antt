@@ -36,11 +36,6 @@ told_number of_store.NoMemory n e = cc
 pub one_fault : {T : Type 0} (x y : ProjectFault) → ◌≡◌ {A = Result T ProjectFault} (Err x) (Err y) → x ≡ y
 one_fault x y e = cc
 
-pub no_rows_told : (told : StoreFault) (P : ℕ → ℕ → ℕ → List Constraint → Type 0) → IfRows (fault_of told) P
-no_rows_told (of_store.Overflow p) P = tt
-no_rows_told (of_store.Pivots n) P = tt
-no_rows_told of_store.NoMemory P = tt
-
 pub no_rows_refused : {T : Type 0} (r : Result T ProjectFault) (told : Refusal) (P : ℕ → ℕ → ℕ → List Constraint → Type 0) → IsErrAnd r (IsFaultOf told)
     → IfErr r (λ f. IfRows f P)
 no_rows_refused (Ok x) told P h = tt

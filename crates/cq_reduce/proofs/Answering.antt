@@ -5,8 +5,7 @@ use Rattle.spec_linear.specs.declared.Relation.TheVariants.{Eq, Ne}
 use Rattle.spec_linear.specs.Form.{Linear}
 use Rattle.spec_linear.specs.Solution.{Constraint}
 use Rattle.spec_limits.specs.Asked.{IsAsked, of_member, of_joining, of_question, of_variable, negated, IsInForce, alone, while_joining, while_asked, while_asked_unequal}
-use Rattle.spec_limits.specs.Overflow.{Moment, answering, OverflowDue}
-use Rattle.spec_limits.specs.Chains.{IsBlandChain}
+use Rattle.spec_limits.specs.Overflow.{Moment, answering}
 use Rattle.spec_limits.specs.Later.{in_place_of, HasAll}
 use Rattle.spec_limits.specs.Answers.{IsAnswerList, IsAnswerMember, AsksMember, IsAnswerMoment, IsAnswerRow}
 use Rattle.spec_limits.proofs.Later.{overflow_stays, chain_stays}

@@ -1,5 +1,5 @@
 -- With the equations in disguise disclosed a list says the same, and holds strictly somewhere.
-use Rattle.std.proofs.Common.{◌≡◌, ◌+◌, ◌<◌, inl, inr, ℕ, List, [], ◌∷◌, ◌++◌, length, take, get_or, refl, ap, sym, subst, ◌∙◌}
+use Rattle.std.proofs.Common.{◌≡◌, ◌+◌, ◌<◌, inl, inr, ℕ, List, [], ◌∷◌, ◌++◌, length, take, get_or, ap, sym, subst, ◌∙◌}
 use Rattle.std.proofs.lemmas.List.{take_more}
 use Rattle.spec_rational.specs.Rational.{IsPositive}
 use Rattle.spec_rational.proofs.Sign.{nonneg_cases, nonneg_zero}
@@ -8,7 +8,7 @@ use Rattle.spec_linear.specs.Form.{Linear}
 use Rattle.spec_linear.specs.Solution.{Constraint, Meets, Holds, through, Point, Solves, Solvable, Entails, Equivalent, Has, number, equal_zero}
 use Rattle.spec_linear.proofs.Points.{solves_same}
 use Rattle.spec_linear.proofs.Lists.{member_holds, alike_solvable, alike_sym}
-use Rattle.spec_inequalities.specs.Weak.{above_zero, at_least_zero, weak}
+use Rattle.spec_inequalities.specs.Weak.{at_least_zero, weak}
 use Rattle.spec_inequalities.proofs.Far.{weak_satisfied}
 use Rattle.spec_extremes.specs.Extremes.{Leaves}
 use Rattle.spec_projection.specs.Interior.{strictly, equations_of}
@@ -53,9 +53,9 @@ module _ (told : List Constraint) where
   -- ---- strictly
   rises : (k m : List Constraint) → Discloses told k m → (f : Linear) → Has (at_least_zero f) m → Leaves told (equal_zero f) × Has (at_least_zero f) k
   rises _ _ no_row f h = absurd h
-  rises _ _ (one_row {c = c} {d = d} own t) f (inl e) = by own
+  rises _ _ (one_row {c = c} {d = d} {k = k} own t) f (inl e) = by own
     where
-      by : IsDisclosed told c d → Leaves told (equal_zero f) × Has (at_least_zero f) (c ∷ _)
+      by : IsDisclosed told c d → Leaves told (equal_zero f) × Has (at_least_zero f) (c ∷ k)
       by (inl h) = let w : Ge ≡ Eq = ap (λ z. z.relation) (e ∙ h.1) in cc
       by (inr h) =
           let same : at_least_zero f ≡ c = e ∙ h.0 in

@@ -3,7 +3,7 @@
 
 pub mod telling;
 
-ghost use Rattle.std.specs.Prelude.{◌≡◌, ℕ, List, IfOk};
+ghost use Rattle.std.specs.Prelude.{◌≡◌, ℕ, List, [], ◌∷◌, ◌++◌, IfOk, OnOk};
 ghost use Rattle.spec_linear.specs.Form.{Linear};
 ghost use Rattle.spec_linear.specs.Solution.{Solvable, Entails, Equivalent, equal_zero};
 ghost use Rattle.spec_projection.specs.Interior.{equations_of};
@@ -16,7 +16,7 @@ use crate::telling::holding;
 use cq_form::Constraint;
 use cq_linear::store::{Store, StoreFault};
 use spec_linear::Relation;
-use std::alloc::Global;
+use std::alloc::{AllocError, Global};
 
 /// The row, or its equation where it is weak and zero in every solution of the told list.
 fn disclosed_row(store: &mut Store, row: &Constraint) -> Result<Constraint, StoreFault>
@@ -40,6 +40,14 @@ fn disclosed_row(store: &mut Store, row: &Constraint) -> Result<Constraint, Stor
     }
 }
 
+/// Appends the row.
+fn append(rows: &mut Vec<Constraint>, row: Constraint) -> Result<(), AllocError>
+    ensures { OnOk result (rows.new.items ≡ rows.old.items ++ row ∷ []) }
+{
+    rows.push(row)?;
+    Ok(())
+}
+
 /// The rows, which the store was told, each weak row that is zero in every solution made an equation.
 fn disclosed_rows(
     alloc: Global,
@@ -54,7 +62,7 @@ fn disclosed_rows(
     let mut all = Vec::new(alloc);
     'rows: for row in rows {
         let disclosed = disclosed_row(store, row)?;
-        all.push(disclosed)?;
+        append(&mut all, disclosed)?;
     }
     Ok(all)
 }

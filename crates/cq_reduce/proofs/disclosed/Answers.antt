@@ -1,4 +1,4 @@
-use Rattle.std.proofs.Common.{◌≡◌, Err, ap, sym, subst, ◌∙◌}
+use Rattle.std.proofs.Common.{Err, ap, ◌∙◌}
 use Rattle.std.proofs.lemmas.Result.{IfOk-weaker}
 use Rattle.cq_linear.proofs.Passed.{passed, store_spent}
 use Rattle.cq_reduce.proofs.Disguised.{disclosed_same, disclosed_complete}

@@ -1,6 +1,5 @@
-use Rattle.std.proofs.Common.{◌≡◌, ◌+◌, ◌<◌, ◌≤◌, [], ◌∷◌, ◌++◌, length, take, Err, arith, refl, ap, sym, subst, ◌∙◌}
+use Rattle.std.proofs.Common.{◌+◌, ◌<◌, ◌≤◌, [], length, take, Err, arith, refl, ap, sym, subst, ◌∙◌}
 use Rattle.std.proofs.lemmas.List.{take_all}
-use Rattle.spec_linear.specs.Solution.{Constraint}
 use Rattle.cq_linear.proofs.Passed.{passed, store_spent}
 use Rattle.cq_reduce.specs.Disclosing.{IsDisclosed, Discloses, RefusesDisclosing, SpendsDisclosing, no_row}
 use Rattle.cq_reduce.proofs.Disguised.{disclosed_more}
@@ -36,11 +35,11 @@ pub rows-preserved : goal.rows-preserved
 rows-preserved c =
     let within : c.rows.row-index < length c.args.rows.now = omega arith in
     record {
-      disclosed = subst (Discloses c.args.rows.now (take (c.rows.row-index + 1) c.args.rows.now)) (sym c.in_ok-push.ensures.items)
+      disclosed = subst (Discloses c.args.rows.now (take (c.rows.row-index + 1) c.args.rows.now)) (sym c.in_ok-append.ensures)
           (disclosed_more c.args.rows.now c.args.rows.now c.rows.all.items c.rows.row-index c.row-item.result c.in_ok-disclosed.disclosed within c.row-item.is
           (subst (λ l. IsDisclosed l c.row-item.result c.in_ok-disclosed.disclosed) c.rows.invariant.told c.in_ok-disclosed.ensures.disclosed) c.rows.invariant.disclosed);
-      told = c.disclosed_row-disclosed.ensures.told ∙ c.rows.invariant.told;
-      pivots = c.disclosed_row-disclosed.ensures.budget ∙ c.rows.invariant.pivots;
+      told = c.disclosed_row.ensures.told ∙ c.rows.invariant.told;
+      pivots = c.disclosed_row.ensures.budget ∙ c.rows.invariant.pivots;
     }
 
 pub returns-clause-disclosed : goal.returns-clause-disclosed
