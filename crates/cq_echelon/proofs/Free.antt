@@ -2,28 +2,31 @@
 use Rattle.std.proofs.Common.{◌≡◌, ◌⊎◌, inl, inr, ℕ, zero, suc, ◌+◌, ◌<◌, List, [], ◌∷◌, Bool, true, false, cond, nat_eq, length, arith, pos, refl, ap, ap₂, sym, subst, ◌∙◌}
 use Rattle.std.specs.Prelude.{map, filter, not}
 use Rattle.std.specs.List.{AllByRecursion, list_any}
-use Rattle.spec_rational.specs.Rational.{ℚ, 0ℚ, ◌+ℚ◌, ◌*ℚ◌, neg_ℚ}
-use Rattle.spec_rational.specs.Sums.{Mentions, unit, factor_of, sum_at}
+use Rattle.spec_rational.specs.Rational.{ℚ, 0ℚ, 1ℚ, ◌+ℚ◌, ◌*ℚ◌, neg_ℚ}
+use Rattle.spec_rational.specs.Sums.{Mentions, when, unit, factor_of, sum_at}
 use Rattle.spec_rational.proofs.Ring.{var, int, ◌⊕◌, ◌⊗◌, minus}
 use Rattle.spec_rational.proofs.Rational.{ring}
 use Rattle.spec_linear.specs.declared.Relation.TheVariants.{Eq}
-use Rattle.spec_linear.specs.Form.{Linear, value_at, variable_form}
+use Rattle.spec_linear.specs.Form.{Linear, IsForm, value_at, variable_form}
 use Rattle.spec_linear.specs.Solution.{Constraint, Meets, HoldsAt, Satisfies, Point, number, Solves, AreEquations, Entails, Has, SomeMentions, MentionsOnly}
 use Rattle.spec_linear.proofs.Lists.{entails_same}
 use Rattle.spec_linear.proofs.Points.{solves_same}
+use Rattle.spec_linear.proofs.Ordered.{constant_is}
 use Rattle.spec_linear.proofs.Values.{value_at-variable_form}
-use Rattle.spec_lists.proofs.Tests.{nat_eq-same, nat_eq-self, one_is, or_left, or_right}
+use Rattle.spec_rational.proofs.Sums.{factor_of-is}
+use Rattle.spec_lists.proofs.Tests.{nat_eq-same, nat_eq-self, nat_eq-apart, one_is, or_left, or_right}
 use Rattle.spec_echelon.specs.Echelon.{Solved, equation, equations, solved_variables, AreDistinct, MentionsNone, variables, IsBefore, IsEchelon}
-use Rattle.spec_echelon.proofs.Filled.{equation-says}
+use Rattle.spec_echelon.proofs.Filled.{equation-says, value_at-agrees}
 use Rattle.spec_echelon.proofs.Orders.{in_order-has, mentions-has}
 use Rattle.spec_projection.specs.Substitution.{AreReduced}
 use Rattle.spec_projection.proofs.Members.{has_mapped, has_image, has_filtered, has_passed, satisfies_all}
-use Rattle.spec_projection.proofs.Mentions.{some_mentions}
+use Rattle.spec_projection.proofs.Mentions.{some_mentions, mentioned_factor}
 use Rattle.spec_projection.proofs.Filled.{each, filled, filled-free, filled-equations, free_variable}
 use Rattle.spec_projection.proofs.Echelons.{echelon_reduced, equation_follows}
 use Rattle.spec_limits.specs.Dictionary.{Quantity, variable, member, member_at, IsQuantity, SomeFormMentions, IsSet, Expression, amount, sum_over, expressed, form_of, AllZero, IsWritten, AreOne, IsDictionary, without_disequations}
 use Rattle.cq_store.specs.Describes.{members_from}
 use Rattle.cq_store.proofs.Feasible.{in_members, of_members, all_zero, zero_of, same_list, holds_at}
+use Rattle.cq_echelon.specs.Putting.{value_of}
 use Rattle.cq_echelon.proofs.Totals.{total, total_same, total_factors, total_at_unit}
 
 -- ---- the free variables
@@ -32,6 +35,13 @@ is_free es x = not (list_any (nat_eq x) (solved_variables es))
 
 abbrev pub free_of : List Solved → List ℕ → List ℕ
 free_of es order = filter (is_free es) order
+
+-- the zero set, and the columns
+abbrev pub zeros_of : List Constraint → List Quantity
+zeros_of l = members_from 0 l
+
+abbrev pub columns_of : List Solved → List ℕ → List Quantity
+columns_of es order = map variable (free_of es order)
 
 is_any : (x : ℕ) (xs : List ℕ) → list_any (nat_eq x) xs ≡ true → Has x xs
 is_any x [] e = let d : false ≡ true = e in cc
@@ -75,6 +85,21 @@ row_is (e ∷ es) x = by (nat_eq e.variable x) refl (row_is es x)
     by true n r = is_solved e (inl refl) (sym (nat_eq-same e.variable x n)) refl
     by false n r = later (row_of es x) n r
 
+pub value_row : (es : List Solved) (a : ℕ → ℚ) (x : ℕ) → value_of es a x ≡ value_at a (row_of es x)
+value_row [] a x = sym (value_at-variable_form a x)
+value_row (e ∷ es) a x = by (nat_eq e.variable x) (value_row es a x)
+  where
+    by : (b : Bool) → value_of es a x ≡ value_at a (row_of es x) → cond b (value_at a e.form) (value_of es a x) ≡ value_at a (cond b e.form (row_of es x))
+    by true r = refl
+    by false r = r
+
+has_or_not : (x : ℕ) (xs : List ℕ) → Has x xs ⊎ (Has x xs → ⊥)
+has_or_not x xs = by (list_any (nat_eq x) xs) refl
+  where
+    by : (b : Bool) → list_any (nat_eq x) xs ≡ b → Has x xs ⊎ (Has x xs → ⊥)
+    by true e = inl (is_any x xs e)
+    by false e = inr (λ h. let d : true ≡ false = sym (any_is x xs h) ∙ e in cc)
+
 -- the entries of a form
 abbrev on_variable : (ℕ → ℚ) → Quantity → ℚ
 on_variable g (variable x) = g x
@@ -99,17 +124,17 @@ has_place [] c h = absurd h
 has_place (d ∷ l) c (inl e) = (0, omega arith, sym e)
 has_place (d ∷ l) c (inr h) = let r = has_place l c h in (suc r.0, omega (arith, r.1), r.2)
 
-relation_at : (l : List Constraint) → AreEquations l → (i : ℕ) → i < length l → (member_at l i).relation ≡ Eq
+pub relation_at : (l : List Constraint) → AreEquations l → (i : ℕ) → i < length l → (member_at l i).relation ≡ Eq
 relation_at [] e i h = absurd (omega (arith, h))
 relation_at (c ∷ l) e zero h = e.0
 relation_at (c ∷ l) e (suc i) h = relation_at l e.1 i (omega (arith, h))
 
 module _ (order : List ℕ) (l : List Constraint) (es : List Solved) (distinct : AreDistinct order) (are_equations : AreEquations l) (echelon : IsEchelon order l es) (only : MentionsOnly order l) where
-  abbrev pub zeros : List Quantity
-  zeros = members_from 0 l
+  abbrev zeros : List Quantity
+  zeros = zeros_of l
 
-  abbrev pub columns : List Quantity
-  columns = map variable (free_of es order)
+  abbrev columns : List Quantity
+  columns = columns_of es order
 
   free_distinct : AreDistinct (free_of es order)
   free_distinct = distinct_filtered (is_free es) order distinct
@@ -159,14 +184,43 @@ module _ (order : List ℕ) (l : List Constraint) (es : List Solved) (distinct :
           let same : y ≡ x = one y (subst (λ (g : Linear). Mentions y g.products) w i) in
           subst (λ z. Has z (free_of es order)) (sym same) (free_there x h n)
 
-  -- each variable is written by the numbers of its row
-  pub variable_written : (x : ℕ) → Has x order → IsWritten l zeros columns (variable_form x) (expression_of (row_of es x))
-  variable_written x h = record { same = λ v z. value_at-variable_form v x ∙ says v z (row_of es x) (row_is es x) ∙ free_form (row_of es x) (is_over_free x h) v }
+  -- where the equations hold, the variables have the values of their rows
+  as_valued : (v : ℕ → ℚ) → AllZero l v zeros → (x : ℕ) → v x ≡ value_of es v x
+  as_valued v z x = says (row_of es x) (row_is es x) ∙ sym (value_row es v x)
     where
-      says : (v : ℕ → ℚ) → AllZero l v zeros → (f : Linear) → RowOf es x f → v x ≡ value_at v f
-      says v z f (is_solved e k i w) =
+      says : (f : Linear) → RowOf es x f → v x ≡ value_at v f
+      says f (is_solved e k i w) =
           ap v i ∙ equation-says v e ((entails_same l (equation e)).0 (each (λ d. Entails l (equation d)) es echelon.entailed e k) v (zero_satisfies v z)) ∙ ap (value_at v) (sym w)
-      says v z f (stays_free n w) = sym (value_at-variable_form v x) ∙ ap (value_at v) (sym w)
+      says f (stays_free n w) = sym (value_at-variable_form v x) ∙ ap (value_at v) (sym w)
+
+  -- a form with the values that another has over the rows is over the free variables
+  module _ (f g : Linear) (over : (x : ℕ) → Mentions x f.products → Has x order) (ordered : IsForm g) (values : (a : ℕ → ℚ) → value_at a g ≡ value_at (value_of es a) f) where
+    unit_elsewhere : (y z : ℕ) → (y ≡ z → ⊥) → unit y z ≡ 0ℚ
+    unit_elsewhere y z n = ap (λ b. when b 1ℚ) (nat_eq-apart y z n)
+
+    no_change : (y : ℕ) → (Has y (free_of es order) → ⊥) → value_at (unit y) g ≡ value_at (λ x. 0ℚ) g
+    no_change y n =
+        values (unit y)
+        ∙ value_at-agrees (value_of es (unit y)) (value_of es (λ x. 0ℚ)) f (λ x m.
+        value_row es (unit y) x
+        ∙ value_at-agrees (unit y) (λ x. 0ℚ) (row_of es x) (λ z i. unit_elsewhere y z (λ e. n (subst (λ u. Has u (free_of es order)) (sym e) (is_over_free x (over x m) z i))))
+        ∙ sym (value_row es (λ x. 0ℚ) x))
+        ∙ sym (values (λ x. 0ℚ))
+
+    no_factor : (y : ℕ) → (Has y (free_of es order) → ⊥) → factor_of y g.products ≡ 0ℚ
+    no_factor y n =
+        let w : g.constant +ℚ factor_of y g.products ≡ g.constant = ap (λ r. g.constant +ℚ r) (factor_of-is y g.products) ∙ no_change y n ∙ constant_is g in
+        ring (g.constant ∷ factor_of y g.products ∷ []) (var 1) (minus (var 0) ⊕ (var 0 ⊕ var 1)) refl ∙ ap (λ r. neg_ℚ g.constant +ℚ r) w
+        ∙ ring (g.constant ∷ []) (minus (var 0) ⊕ var 0) (int (pos 0)) refl
+
+    pub over_free : (y : ℕ) → Mentions y g.products → Has y (free_of es order)
+    over_free y m = elim (has_or_not y (free_of es order)) [ inl h ↦ h | inr n ↦ absurd (mentioned_factor y 0 g.products ordered m (no_factor y n)) ]
+
+    -- the first is written by the numbers of the second
+    pub form_written : IsWritten l (zeros_of l) (columns_of es order) f (expression_of g)
+    form_written = record {
+      same = λ v z. value_at-agrees v (value_of es v) f (λ x m. as_valued v z x) ∙ sym (values v) ∙ free_form g over_free v;
+    }
 
   member_written : (i : ℕ) → i < length l → IsWritten l zeros columns (member_at l i).form (record { constant = 0ℚ; entry = λ q. 0ℚ })
   member_written i h = record {
@@ -221,7 +275,10 @@ module _ (order : List ℕ) (l : List Constraint) (es : List Solved) (distinct :
 
   module _ (asked : List Linear) (known : (x : ℕ) → IsQuantity l asked (variable x) → Has x order) (each_known : (x : ℕ) → Has x order → SomeFormMentions x asked) where
     some_way : (q : Quantity) → IsQuantity l asked q → (e : Expression) × IsWritten l zeros columns (form_of l q) e
-    some_way (variable x) h = (expression_of (row_of es x), variable_written x (known x h))
+    some_way (variable x) h = (
+      expression_of (row_of es x),
+      record { same = λ v z. value_at-variable_form v x ∙ as_valued v z x ∙ value_row es v x ∙ free_form (row_of es x) (is_over_free x (known x h)) v },
+    )
     some_way (member i) h = (record { constant = 0ℚ; entry = λ q. 0ℚ }, member_written i h)
 
     zero_of_member : (q : Quantity) → Has q zeros → (i : ℕ) × (i < length l) × (q ≡ member i)
@@ -230,7 +287,7 @@ module _ (order : List ℕ) (l : List Constraint) (es : List Solved) (distinct :
     apart : (x i : ℕ) → variable x ≡ member i → ⊥
     apart x i e = cc
 
-    pub free_dictionary : IsDictionary l asked zeros columns
+    pub free_dictionary : IsDictionary l asked (zeros_of l) (columns_of es order)
     free_dictionary = record {
       zeros_are_quantities = λ q h. let m = zero_of_member q h in subst (IsQuantity l asked) (sym m.2) m.1;
       zero = λ q h p s.

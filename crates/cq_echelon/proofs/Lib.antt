@@ -1,3 +1,10 @@
 pub mod Places
 pub mod Moved
 pub mod Pairs
+pub mod Totals
+pub mod Free
+pub mod Valued
+pub mod Weakly
+pub mod Sorting
+pub mod Products
+pub mod Stops

@@ -12,8 +12,8 @@ use Rattle.cq_echelon.proofs.Moved.{has_map, moved, all_moved, moved_expression,
 
 module _ (m : Moment) (k : List Constraint) (a : AreAmong m.list k) (known : (x : ℕ) → SomeMentions x k → IsQuantity m.list m.asked (variable x))
     (follows : (p : Point) → Solves p (without_disequations k) → Solves p (without_disequations m.list)) where
-  abbrev pub of_answer : Moment
-  of_answer = record { stage = answering; list = k; asked = m.asked; operations = m.operations; rows = m.rows }
+  abbrev pub answered : Moment
+  answered = record { stage = answering; list = k; asked = m.asked; operations = m.operations; rows = m.rows }
 
   own : {zeros columns : List Quantity} → IsInUse m zeros columns → IsDictionary m.list m.asked zeros columns
   own (beside_feasible g) = g.own
@@ -28,13 +28,13 @@ module _ (m : Moment) (k : List Constraint) (a : AreAmong m.list k) (known : (x 
   abbrev expression : Expression → Expression
   expression e = moved_expression m.list k a e
 
-  in_use : {zeros columns : List Quantity} → IsInUse m zeros columns → IsInUse of_answer (all_there zeros) (all_there columns)
+  in_use : {zeros columns : List Quantity} → IsInUse m zeros columns → IsInUse answered (all_there zeros) (all_there columns)
   in_use {zeros} {columns} u = in_answer refl (dictionary m.list k a m.asked zeros columns (own u) known follows)
 
   module _ (zeros columns : List Quantity) (d : IsDictionary m.list m.asked zeros columns) where
-    is_row : (f : Linear) → IsRow m columns f → IsRow of_answer (all_there columns) f
+    is_row : (f : Linear) → IsRow m columns f → IsRow answered (all_there columns) f
     is_row _ (quantity_row q i n) =
-        subst (IsRow of_answer (all_there columns)) (same_form m.list k a m.asked q i)
+        subst (IsRow answered (all_there columns)) (same_form m.list k a m.asked q i)
         (quantity_row (there q) (is_quantity m.list k a m.asked q i)
         (λ h. n (column_given m.list k a m.asked zeros columns d.zeros_are_quantities d.columns_are_quantities q i columns d.columns_are_quantities h)))
     is_row f (asked_row h) = asked_row h
@@ -42,7 +42,7 @@ module _ (m : Moment) (k : List Constraint) (a : AreAmong m.list k) (known : (x 
     written_there : (f : Linear) (e : Expression) → IsWritten m.list zeros columns f e → IsWritten k (all_there zeros) (all_there columns) f (expression e)
     written_there f e w = written m.list k a m.asked zeros columns d.zeros_are_quantities d.columns_are_quantities f e w
 
-    abbrev row : Row m zeros columns → Row of_answer (all_there zeros) (all_there columns)
+    abbrev row : Row m zeros columns → Row answered (all_there zeros) (all_there columns)
     row r = record { form = r.form; is_row = is_row r.form r.is_row; numbers = expression r.numbers; written = written_there r.form r.numbers r.written }
 
     abbrev index : RowIndex → RowIndex
@@ -60,7 +60,7 @@ module _ (m : Moment) (k : List Constraint) (a : AreAmong m.list k) (known : (x 
     number e constant h = refl
     number e (column q) h = entry e q h
 
-  abbrev exchange : Exchange m → Exchange of_answer
+  abbrev exchange : Exchange m → Exchange answered
   exchange x = record {
     zeros = all_there x.zeros;
     columns = all_there x.columns;
@@ -71,7 +71,7 @@ module _ (m : Moment) (k : List Constraint) (a : AreAmong m.list k) (known : (x 
     not_zero = λ e. x.not_zero (sym (entry x.zeros x.columns (own x.in_use) x.row.numbers x.column x.is_column) ∙ e);
   }
 
-  abbrev adding : Adding m → Adding of_answer
+  abbrev adding : Adding m → Adding answered
   adding x = record {
     zeros = all_there x.zeros;
     columns = all_there x.columns;
@@ -89,8 +89,8 @@ module _ (m : Moment) (k : List Constraint) (a : AreAmong m.list k) (known : (x 
     gave = written_there x.zeros x.columns (own x.in_use) _ x.before x.gave;
   }
 
-  with_numbers : {o : Operation} (p q : ℚ) {r s : ℚ} → Makes of_answer o p q → p ≡ r → q ≡ s → Makes of_answer o r s
-  with_numbers {o} p q {r} {s} w e f = subst (λ y. Makes of_answer o r y) f (subst (λ z. Makes of_answer o z q) e w)
+  with_numbers : {o : Operation} (p q : ℚ) {r s : ℚ} → Makes answered o p q → p ≡ r → q ≡ s → Makes answered o r s
+  with_numbers {o} p q {r} {s} w e f = subst (λ y. Makes answered o r y) f (subst (λ z. Makes answered o z q) e w)
 
   module _ (x : Exchange m) where
     in_row : (at : RowIndex) → IsRowIndex x.columns at → number_at (exchange x).row.numbers (index x.zeros x.columns (own x.in_use) at) ≡ number_at x.row.numbers at
@@ -102,7 +102,7 @@ module _ (m : Moment) (k : List Constraint) (a : AreAmong m.list k) (known : (x 
     in_column : (other : Row m x.zeros x.columns) → (expression other.numbers).entry (there x.column) ≡ other.numbers.entry x.column
     in_column other = entry x.zeros x.columns (own x.in_use) other.numbers x.column x.is_column
 
-  makes : {o : Operation} {p q : ℚ} → Makes m o p q → Makes of_answer o p q
+  makes : {o : Operation} {p q : ℚ} → Makes m o p q → Makes answered o p q
   makes (coefficients o h s x) = coefficients o h s x
   makes (constants o h s) = constants o h s
   makes (operands o h s l r) = operands o h s l r
@@ -127,5 +127,5 @@ module _ (m : Moment) (k : List Constraint) (a : AreAmong m.list k) (known : (x 
   makes (between f g h j x y p n) = between f g h j x y p n
   makes (between_constants f g h j x p n) = between_constants f g h j x p n
 
-  pub refused_there : (pair : Pair) → OverflowDue m pair → OverflowDue of_answer pair
+  pub refused_there : (pair : Pair) → OverflowDue m pair → OverflowDue answered pair
   refused_there pair d = record { made = makes d.made; refused = d.refused }

@@ -59,3 +59,10 @@ mentioned_there _ k no_more x h = absurd h
 mentioned_there l _ (passed a) x h = inr (mentioned_there l _ a x h)
 mentioned_there _ _ (found e a) x (inl h) = inl (subst (λ (f : Linear). Mentions x f.products) (sym e) h)
 mentioned_there _ _ (found e a) x (inr h) = inr (mentioned_there _ _ a x h)
+
+-- a member's form is that of a member there
+pub form_among : (l k : List Constraint) → AreAmong l k → (c : Constraint) → Has c l → (d : Constraint) × Has d k × (d.form ≡ c.form)
+form_among _ k no_more c h = absurd h
+form_among l _ (passed a) c h = let r = form_among l _ a c h in (r.0, inr r.1, r.2)
+form_among _ _ (found {d = d} e a) c (inl w) = (d, inl refl, e ∙ ap (λ z. z.form) (sym w))
+form_among _ _ (found e a) c (inr h) = let r = form_among _ _ a c h in (r.0, inr r.1, r.2)

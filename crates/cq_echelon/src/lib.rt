@@ -1,2 +1,4 @@
-//! The reduced echelon form of what a list of constraints entails.
+//! The reduced echelon form of what a list of constraints entails, and rows into which it is put.
 #![tactic(auto)]
+
+pub mod putting;
