@@ -31,17 +31,27 @@ enum Outcome<'a> {
 
 // U, V, W, Y are 0, 1, 2, 3, and X and Z are 4 and 5.
 const AT_LEAST_U: Given = (Relation::Ge, &[(0, -1, 1), (4, 1, 1)], 0, 1);
+
 const ABOVE_V: Given = (Relation::Gt, &[(1, -1, 1), (4, 1, 1)], 0, 1);
+
 const AT_LEAST_V: Given = (Relation::Ge, &[(1, -1, 1), (4, 1, 1)], 0, 1);
+
 const AT_MOST_W: Given = (Relation::Ge, &[(2, 1, 1), (4, -1, 1)], 0, 1);
+
 const AT_MOST_Y: Given = (Relation::Ge, &[(3, 1, 1), (4, -1, 1)], 0, 1);
+
 const TWICE_AT_MOST_W: Given = (Relation::Ge, &[(2, 1, 1), (4, -2, 1)], 0, 1);
+
 const AT_LEAST_ONE: Given = (Relation::Ge, &[(4, 1, 1)], -1, 1);
+
 const AT_LEAST_ZERO: Given = (Relation::Ge, &[(4, 1, 1)], 0, 1);
+
 const Z_AT_LEAST_U: Given = (Relation::Ge, &[(0, -1, 1), (5, 1, 1)], 0, 1);
+
 const Z_AT_MOST_Y: Given = (Relation::Ge, &[(3, 1, 1), (5, -1, 1)], 0, 1);
 
 const X: VarId = VarId(4);
+
 const Z: VarId = VarId(5);
 
 static ELIMINATIONS: [Elimination; 7] = [
@@ -87,7 +97,14 @@ static ELIMINATIONS: [Elimination; 7] = [
     },
     // the variable with the fewest pairs comes first
     Elimination {
-        rows: &[AT_LEAST_U, AT_LEAST_V, AT_MOST_W, AT_MOST_Y, Z_AT_LEAST_U, Z_AT_MOST_Y],
+        rows: &[
+            AT_LEAST_U,
+            AT_LEAST_V,
+            AT_MOST_W,
+            AT_MOST_Y,
+            Z_AT_LEAST_U,
+            Z_AT_MOST_Y,
+        ],
         variables: &[X, Z],
         limit: 4,
         outcome: Outcome::TooMany(1, 1, 4),
