@@ -123,29 +123,22 @@ nonzero_at [] h i d b = absurd (omega (arith, b))
 nonzero_at (m ∷ s) h zero d b = h.0
 nonzero_at (m ∷ s) h (suc i) d b = nonzero_at s h.1 i d (omega (arith, b))
 
+in_front_nonzero : (m : Entry) (s : List Entry) → (m.factor ≡ 0ℚ → ⊥) → AreNonzero s → AreNonzero (m ∷ s)
+in_front_nonzero m s f y zero d b = f
+in_front_nonzero m s f y (suc n) d b = y n d (omega (arith, b))
+
+set_nonzero : (s : List Entry) (i : ℕ) (v : Entry) → (v.factor ≡ 0ℚ → ⊥) → AreNonzero s → AreNonzero (set s i v)
+set_nonzero [] i v f y = y
+set_nonzero (m ∷ s) zero v f y = in_front_nonzero v s f (λ n d b. y (suc n) d (omega (arith, b)))
+set_nonzero (m ∷ s) (suc i) v f y = in_front_nonzero m (set s i v) (y 0 m (omega arith)) (set_nonzero s i v f (λ n d b. y (suc n) d (omega (arith, b))))
+
+swap_nonzero : (s : List Entry) (i j : ℕ) → i < length s → j < length s → AreNonzero s → AreNonzero (swap s i j)
+swap_nonzero [] i j h k z = z
+swap_nonzero (e ∷ s) i j h k z = set_nonzero (set (e ∷ s) i (get_or (e ∷ s) j e)) j (get_or (e ∷ s) i e) (z i e h) (set_nonzero (e ∷ s) i (get_or (e ∷ s) j e) (z j e k) z)
+
 -- so sorted products are those of a form
 pub sorted_form : (s t : List Entry) → IsPermutation s t → IsNonDecreasingBy (λ (m : Entry). m.quantity) t → AreDistinct (variables (products_of s))
     → AllByRecursion (λ m. m.factor ≡ 0ℚ → ⊥) (products_of s) → IsSumFrom 0 (products_of t)
 sorted_form s t p up d n =
     ascending t up (λ q. subst (λ c. c ≤ 1) (sym (sum_by-IsPermutation (λ (m : Entry). one (nat_eq m.quantity q)) s t p)) (at_most_once q s d))
-    (IsPermutation-keeps s AreNonzero (nonzero_at s n) swapped t p) 0 (λ m h. omega arith)
-  where
-    swapped : (l : List Entry) (i j : ℕ) → i < length l → j < length l → AreNonzero l → AreNonzero (swap l i j)
-    swapped [] i j h k z = z
-    swapped (e ∷ l) i j h k z = λ n d b. set_nonzero (set (e ∷ l) i (get_or (e ∷ l) j e)) j (get_or (e ∷ l) i e) (z i e h) (set_nonzero (e ∷ l) i (get_or (e ∷ l) j e) (z j e k) z) n d b
-      where
-        set_nonzero : (w : List Entry) (x : ℕ) (v : Entry) → (v.factor ≡ 0ℚ → ⊥) → AreNonzero w → AreNonzero (set w x v)
-        set_nonzero [] x v f y = y
-        set_nonzero (m ∷ w) zero v f y = λ n d b. by n d b
-          where
-            by : (n : ℕ) (d : Entry) → n < length (v ∷ w) → (get_or (v ∷ w) n d).factor ≡ 0ℚ → ⊥
-            by zero d b = f
-            by (suc n) d b = y (suc n) d (omega (arith, b))
-        set_nonzero (m ∷ w) (suc x) v f y = λ n d b. by n d b
-          where
-            rest : AreNonzero (set w x v)
-            rest = set_nonzero w x v f (λ n d b. y (suc n) d (omega (arith, b)))
-
-            by : (n : ℕ) (d : Entry) → n < length (m ∷ set w x v) → (get_or (m ∷ set w x v) n d).factor ≡ 0ℚ → ⊥
-            by zero d b = y 0 d (omega arith)
-            by (suc n) d b = rest n d (omega (arith, b))
+    (IsPermutation-keeps s AreNonzero (nonzero_at s n) swap_nonzero t p) 0 (λ m h. omega arith)

@@ -80,7 +80,7 @@ fn see_forms(rows: &[Constraint])
 }
 
 /// The rows of which none follows from the others, in their order, as a store of their own tells.
-pub fn irredundant(
+fn irredundant(
     alloc: Global,
     rows: &[Constraint],
     pivots: u64,
