@@ -128,8 +128,8 @@ module _ (l k : List Constraint) (a : AreAmong l k) where
             (moved_expression e.0, written zeros columns d.zeros_are_quantities d.columns_are_quantities (form_of k q) e.0 e.1);
         one_way = λ q h e g of_e of_g.
             let one = one_way l asked zeros columns d (form_of k q) (given_expression e) (given_expression g)
-                (written_given zeros columns d.zeros_are_quantities d.columns_are_quantities (form_of k q) e of_e)
-                (written_given zeros columns d.zeros_are_quantities d.columns_are_quantities (form_of k q) g of_g) in
+            (written_given zeros columns d.zeros_are_quantities d.columns_are_quantities (form_of k q) e of_e)
+            (written_given zeros columns d.zeros_are_quantities d.columns_are_quantities (form_of k q) g of_g) in
             record {
               constant = one.constant;
               entries = λ c i. let r = of_map moved c columns i in ap e.entry r.2 ∙ one.entries r.0 r.1 ∙ ap g.entry (sym r.2);

@@ -57,7 +57,7 @@ factor_scaled : (k : ℚ) (f : Linear) (x : ℕ) → factor_of x (scaled_form k 
 factor_scaled k f x =
     let g : Linear = scaled_form k f in
     let w : g.constant +ℚ factor_of x g.products ≡ k *ℚ (f.constant +ℚ factor_of x f.products) =
-        ap (λ r. g.constant +ℚ r) (factor_of-is x g.products) ∙ value_at-scaled_form (unit x) k f ∙ ap (λ r. k *ℚ (f.constant +ℚ r)) (sym (factor_of-is x f.products)) in
+    ap (λ r. g.constant +ℚ r) (factor_of-is x g.products) ∙ value_at-scaled_form (unit x) k f ∙ ap (λ r. k *ℚ (f.constant +ℚ r)) (sym (factor_of-is x f.products)) in
     ring (g.constant ∷ factor_of x g.products ∷ []) (var 1) (minus (var 0) ⊕ (var 0 ⊕ var 1)) refl ∙ ap (λ r. neg_ℚ g.constant +ℚ r) w
     ∙ ring (k ∷ f.constant ∷ factor_of x f.products ∷ []) (minus (var 0 ⊗ var 1) ⊕ var 0 ⊗ (var 1 ⊕ var 2)) (var 0 ⊗ var 2) refl
 

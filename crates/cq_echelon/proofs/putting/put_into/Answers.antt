@@ -30,8 +30,8 @@ rows-preserved c =
     let es = equations_of c.args.equations.now in
     let alike = subst (λ (w : List Row). AreAlike (all_solved_by w) es) (sym c.deref.ensures.value) c.in_ok-sorted.ensures in
     let form : c.in_ok-form.form ≡ with_forms_of es c.row.inside.form =
-        put_in_form es c.requires.reduced c.row.inside.form c.in_ok-form.form c.in_ok-form.ensures.in_order.1 c.in_ok-form.ensures.in_order.0
-        (λ a. c.in_ok-form.ensures.value a ∙ alike_forms (all_solved_by c.deref.result.now) es alike a c.row.inside.form) in
+    put_in_form es c.requires.reduced c.row.inside.form c.in_ok-form.form c.in_ok-form.ensures.in_order.1 c.in_ok-form.ensures.in_order.0
+    (λ a. c.in_ok-form.ensures.value a ∙ alike_forms (all_solved_by c.deref.result.now) es alike a c.row.inside.form) in
     let with_form : Linear → Constraint = λ f. record { relation = c.row.inside.relation; form = f } in
     rows_more es c.args.rows.now c.rows.row-index c.row-item.result c.rows.all.items c.push.new.self.items c.rows.invariant within c.row-item.is
     (c.in_ok-push.ensures.items ∙ ap (λ (d : Constraint). c.rows.all.items ++ d ∷ []) (ap with_form form ∙ ap (put_into es) c.row.view_is))
