@@ -8,3 +8,4 @@ pub mod Weakly
 pub mod Sorting
 pub mod Products
 pub mod Stops
+pub mod Solving
