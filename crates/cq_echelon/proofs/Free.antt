@@ -1,14 +1,14 @@
 -- The variables for which no equation of an echelon form is solved are the columns of a dictionary of the equations.
-use Rattle.std.proofs.Common.{◌≡◌, ◌⊎◌, inl, inr, ℕ, zero, suc, ◌+◌, ◌<◌, List, [], ◌∷◌, Bool, true, false, cond, nat_eq, length, arith, pos, refl, ap, ap₂, sym, subst, ◌∙◌}
+use Rattle.std.proofs.Common.{◌≡◌, ◌⊎◌, inl, inr, ℕ, zero, suc, ◌<◌, List, [], ◌∷◌, Bool, true, false, cond, nat_eq, length, arith, pos, refl, ap, ap₂, sym, subst, ◌∙◌}
 use Rattle.std.specs.Prelude.{map, filter, not}
-use Rattle.std.specs.List.{AllByRecursion, list_any}
+use Rattle.std.specs.List.{list_any}
 use Rattle.spec_rational.specs.Rational.{ℚ, 0ℚ, 1ℚ, ◌+ℚ◌, ◌*ℚ◌, neg_ℚ}
-use Rattle.spec_rational.specs.Sums.{Mentions, when, unit, factor_of, sum_at}
+use Rattle.spec_rational.specs.Sums.{Mentions, when, unit, factor_of}
 use Rattle.spec_rational.proofs.Ring.{var, int, ◌⊕◌, ◌⊗◌, minus}
 use Rattle.spec_rational.proofs.Rational.{ring}
 use Rattle.spec_linear.specs.declared.Relation.TheVariants.{Eq}
 use Rattle.spec_linear.specs.Form.{Linear, IsForm, value_at, variable_form}
-use Rattle.spec_linear.specs.Solution.{Constraint, Meets, HoldsAt, Satisfies, Point, number, Solves, AreEquations, Entails, Has, SomeMentions, MentionsOnly}
+use Rattle.spec_linear.specs.Solution.{Constraint, Meets, Satisfies, number, Solves, AreEquations, Entails, Has, MentionsOnly}
 use Rattle.spec_linear.proofs.Lists.{entails_same}
 use Rattle.spec_linear.proofs.Points.{solves_same}
 use Rattle.spec_linear.proofs.Ordered.{constant_is}
@@ -19,11 +19,11 @@ use Rattle.spec_echelon.specs.Echelon.{Solved, equation, equations, solved_varia
 use Rattle.spec_echelon.proofs.Filled.{equation-says, value_at-agrees}
 use Rattle.spec_echelon.proofs.Orders.{in_order-has, mentions-has}
 use Rattle.spec_projection.specs.Substitution.{AreReduced}
-use Rattle.spec_projection.proofs.Members.{has_mapped, has_image, has_filtered, has_passed, satisfies_all}
+use Rattle.spec_projection.proofs.Members.{has_mapped, has_filtered, has_passed, satisfies_all}
 use Rattle.spec_projection.proofs.Mentions.{some_mentions, mentioned_factor}
 use Rattle.spec_projection.proofs.Filled.{each, filled, filled-free, filled-equations, free_variable}
 use Rattle.spec_projection.proofs.Echelons.{echelon_reduced, equation_follows}
-use Rattle.spec_limits.specs.Dictionary.{Quantity, variable, member, member_at, IsQuantity, SomeFormMentions, IsSet, Expression, amount, sum_over, expressed, form_of, AllZero, IsWritten, AreOne, IsDictionary, without_disequations}
+use Rattle.spec_limits.specs.Dictionary.{Quantity, variable, member, member_at, IsQuantity, SomeFormMentions, IsSet, Expression, amount, sum_over, expressed, form_of, AllZero, IsWritten, AreOne, IsDictionary}
 use Rattle.cq_store.specs.Describes.{members_from}
 use Rattle.cq_store.proofs.Feasible.{in_members, of_members, all_zero, zero_of, same_list, holds_at}
 use Rattle.cq_echelon.specs.Putting.{value_of}

@@ -1,22 +1,13 @@
 -- A dictionary of equations that follow from a list, whose forms stand there, is a dictionary of the list.
-use Rattle.std.proofs.Common.{◌≡◌, ◌⊎◌, inl, inr, ℕ, ◌<◌, zero, suc, List, [], ◌∷◌, map, length, arith, refl, ap, ap₂, sym, subst, ◌∙◌}
-use Rattle.spec_rational.specs.Rational.{ℚ, 0ℚ, ◌+ℚ◌, ◌*ℚ◌}
+use Rattle.std.proofs.Common.{◌≡◌, inl, inr, ℕ, ◌<◌, zero, suc, List, [], ◌∷◌, map, length, arith, refl, ap, ap₂, sym, subst, ◌∙◌}
+use Rattle.spec_rational.specs.Rational.{ℚ, ◌+ℚ◌, ◌*ℚ◌}
 use Rattle.spec_rational.specs.Sums.{Mentions}
 use Rattle.spec_linear.specs.Form.{Linear, value_at}
 use Rattle.spec_linear.specs.Solution.{Constraint, Point, number, Solves, Has, SomeMentions}
-use Rattle.spec_limits.specs.Dictionary.{Quantity, variable, member, member_at, IsQuantity, SomeFormMentions, IsSet, Expression, amount, sum_over, expressed, form_of, AllZero, IsWritten, AreOne, IsDictionary, without_disequations}
+use Rattle.spec_projection.proofs.Members.{has_mapped}
+use Rattle.spec_limits.specs.Dictionary.{Quantity, variable, member, member_at, IsQuantity, SomeFormMentions, IsSet, Expression, amount, sum_over, form_of, AllZero, IsWritten, IsDictionary, without_disequations}
 use Rattle.spec_limits.proofs.Written.{some_way, one_way}
 use Rattle.cq_echelon.proofs.Places.{AreAmong, place, back, within, form_there, there_and_back, mentioned_there}
-
-pub has_map : {A B : Type 0} (f : A → B) (x : A) (s : List A) → Has x s → Has (f x) (map f s)
-has_map f x [] h = absurd h
-has_map f x (y ∷ s) (inl e) = inl (ap f e)
-has_map f x (y ∷ s) (inr h) = inr (has_map f x s h)
-
-pub of_map : {A B : Type 0} (f : A → B) (y : B) (s : List A) → Has y (map f s) → (x : A) × Has x s × (y ≡ f x)
-of_map f y [] h = absurd h
-of_map f y (x ∷ s) (inl e) = (x, inl refl, e)
-of_map f y (x ∷ s) (inr h) = let r = of_map f y s h in (r.0, inr r.1, r.2)
 
 module _ (l k : List Constraint) (a : AreAmong l k) where
   -- the quantity there, and back
@@ -89,8 +80,8 @@ module _ (l k : List Constraint) (a : AreAmong l k) where
       -- a moved quantity that is a moved column comes from that column
       pub column_given : (q : Quantity) → IsQuantity l asked q → (s : List Quantity) → AreQuantities s → Has (moved q) (all_moved s) → Has q s
       column_given q i s h m =
-          let r = of_map moved (moved q) s m in
-          subst (λ p. Has p s) (sym (same_quantity r.0 (h r.0 r.1)) ∙ ap given (sym r.2) ∙ same_quantity q i) r.1
+          let r = has_mapped moved (moved q) s m in
+          subst (λ p. Has p s) (sym (same_quantity r.from (h r.from r.member)) ∙ ap given (sym r.is) ∙ same_quantity q i) r.member
 
       set_moved : (s : List Quantity) → AreQuantities s → IsSet s → IsSet (all_moved s)
       set_moved [] h d = tt
@@ -112,17 +103,17 @@ module _ (l k : List Constraint) (a : AreAmong l k) where
 
       pub dictionary : IsDictionary k asked (all_moved zeros) (all_moved columns)
       dictionary = record {
-        zeros_are_quantities = λ q h. let r = of_map moved q zeros h in subst (IsQuantity k asked) (sym r.2) (is_quantity r.0 (d.zeros_are_quantities r.0 r.1));
+        zeros_are_quantities = λ q h. let r = has_mapped moved q zeros h in subst (IsQuantity k asked) (sym r.is) (is_quantity r.from (d.zeros_are_quantities r.from r.member));
         zero = λ q h p s.
-            let r = of_map moved q zeros h in
-            ap (amount k (number p)) r.2 ∙ same_amount (number p) r.0 (d.zeros_are_quantities r.0 r.1) ∙ d.zero r.0 r.1 p (follows p s);
-        columns_are_quantities = λ q h. let r = of_map moved q columns h in subst (IsQuantity k asked) (sym r.2) (is_quantity r.0 (d.columns_are_quantities r.0 r.1));
+            let r = has_mapped moved q zeros h in
+            ap (amount k (number p)) r.is ∙ same_amount (number p) r.from (d.zeros_are_quantities r.from r.member) ∙ d.zero r.from r.member p (follows p s);
+        columns_are_quantities = λ q h. let r = has_mapped moved q columns h in subst (IsQuantity k asked) (sym r.is) (is_quantity r.from (d.columns_are_quantities r.from r.member));
         once = set_moved zeros columns d.zeros_are_quantities d.columns_are_quantities columns d.columns_are_quantities d.once;
         outside = λ q h z.
-            let r = of_map moved q columns h in
-            let i = d.columns_are_quantities r.0 r.1 in
-            d.outside r.0 r.1
-            (column_given zeros columns d.zeros_are_quantities d.columns_are_quantities r.0 i zeros d.zeros_are_quantities (subst (λ p. Has p (all_moved zeros)) r.2 z));
+            let r = has_mapped moved q columns h in
+            let i = d.columns_are_quantities r.from r.member in
+            d.outside r.from r.member
+            (column_given zeros columns d.zeros_are_quantities d.columns_are_quantities r.from i zeros d.zeros_are_quantities (subst (λ p. Has p (all_moved zeros)) r.is z));
         some_way = λ q h.
             let e = some_way l asked zeros columns d (form_of k q) (own_form q h) in
             (moved_expression e.0, written zeros columns d.zeros_are_quantities d.columns_are_quantities (form_of k q) e.0 e.1);
@@ -132,6 +123,6 @@ module _ (l k : List Constraint) (a : AreAmong l k) where
             (written_given zeros columns d.zeros_are_quantities d.columns_are_quantities (form_of k q) g of_g) in
             record {
               constant = one.constant;
-              entries = λ c i. let r = of_map moved c columns i in ap e.entry r.2 ∙ one.entries r.0 r.1 ∙ ap g.entry (sym r.2);
+              entries = λ c i. let r = has_mapped moved c columns i in ap e.entry r.is ∙ one.entries r.from r.member ∙ ap g.entry (sym r.is);
             };
       }

@@ -1,14 +1,15 @@
 -- What is refused over a dictionary of equations that follow from a list, is refused over one of the list while an answer is made.
 use Rattle.std.proofs.Common.{◌≡◌, ℕ, List, refl, ap, ap₂, sym, subst, ◌∙◌}
-use Rattle.spec_rational.specs.Rational.{ℚ, 0ℚ, 1ℚ, ◌*ℚ◌, ◌/ℚ◌}
+use Rattle.spec_rational.specs.Rational.{ℚ, 1ℚ, ◌*ℚ◌, ◌/ℚ◌}
 use Rattle.spec_linear.specs.Form.{Linear}
 use Rattle.spec_linear.specs.Solution.{Constraint, Point, Solves, Has, SomeMentions}
+use Rattle.spec_projection.proofs.Members.{has_image}
 use Rattle.spec_limits.specs.Dictionary.{Quantity, variable, IsQuantity, Expression, IsWritten, IsDictionary, without_disequations}
 use Rattle.spec_limits.specs.Overflow.{Moment, answering, IsInUse, beside_feasible, in_answer, IsRow, quantity_row, asked_row, Row, RowIndex, constant, column, IsRowIndex, number_at, Exchange, pivot_entry, Adding, Makes, coefficients, constants, operands, quotient, inverse, product, product_inverse, difference, scaled, added, divided, between, between_constants, OverflowDue}
 use Rattle.cq_frac.specs.declared.Operation.{Operation}
 use Rattle.cq_frac.specs.declared.Pair.{Pair}
 use Rattle.cq_echelon.proofs.Places.{AreAmong}
-use Rattle.cq_echelon.proofs.Moved.{has_map, moved, all_moved, moved_expression, same_quantity, is_quantity, same_form, written, column_given, dictionary}
+use Rattle.cq_echelon.proofs.Moved.{moved, all_moved, moved_expression, same_quantity, is_quantity, same_form, written, column_given, dictionary}
 
 module _ (m : Moment) (k : List Constraint) (a : AreAmong m.list k) (known : (x : ℕ) → SomeMentions x k → IsQuantity m.list m.asked (variable x))
     (follows : (p : Point) → Solves p (without_disequations k) → Solves p (without_disequations m.list)) where
@@ -51,7 +52,7 @@ module _ (m : Moment) (k : List Constraint) (a : AreAmong m.list k) (known : (x 
 
     is_index : (at : RowIndex) → IsRowIndex columns at → IsRowIndex (all_there columns) (index at)
     is_index constant h = tt
-    is_index (column q) h = has_map there q columns h
+    is_index (column q) h = has_image there q columns h
 
     entry : (e : Expression) (q : Quantity) → Has q columns → (expression e).entry (there q) ≡ e.entry q
     entry e q h = ap e.entry (same_quantity m.list k a m.asked q (d.columns_are_quantities q h))
@@ -67,7 +68,7 @@ module _ (m : Moment) (k : List Constraint) (a : AreAmong m.list k) (known : (x 
     in_use = in_use x.in_use;
     row = row x.zeros x.columns (own x.in_use) x.row;
     column = there x.column;
-    is_column = has_map there x.column x.columns x.is_column;
+    is_column = has_image there x.column x.columns x.is_column;
     not_zero = λ e. x.not_zero (sym (entry x.zeros x.columns (own x.in_use) x.row.numbers x.column x.is_column) ∙ e);
   }
 

@@ -2,21 +2,20 @@
 use Rattle.std.proofs.Common.{◌≡◌, ℕ, zero, suc, ◌+◌, ◌<◌, List, [], ◌∷◌, ◌++◌, map, length, take, drop, get_or, add-one, arith, inl, pos, refl, ap, ap₂, sym, subst, ◌∙◌}
 use Rattle.std.proofs.lemmas.List.{map-append}
 use Rattle.std.proofs.Math.Seq.{split_at}
-use Rattle.spec_rational.specs.Rational.{ℚ, 0ℚ, ◌+ℚ◌, ◌*ℚ◌}
+use Rattle.spec_rational.specs.Rational.{ℚ, ◌+ℚ◌, ◌*ℚ◌}
 use Rattle.spec_rational.specs.Sums.{Monomial, sum_at}
-use Rattle.spec_rational.proofs.Ring.{var, int, ◌⊕◌, ◌⊗◌}
+use Rattle.spec_rational.proofs.Ring.{var, int, ◌⊕◌}
 use Rattle.spec_rational.proofs.Rational.{ring}
 use Rattle.spec_rational.proofs.Sums.{sum_at-append}
-use Rattle.spec_linear.specs.Form.{Linear, IsForm, value_at, sum_form, scaled_form}
+use Rattle.spec_linear.specs.Form.{Linear, value_at, sum_form, scaled_form}
 use Rattle.spec_linear.specs.Solution.{Constraint, Has}
 use Rattle.spec_linear.proofs.Denominators.{has_right}
 use Rattle.spec_linear.proofs.Values.{value_at-sum_form, value_at-scaled_form}
 use Rattle.spec_lists.proofs.Places.{take-next}
 use Rattle.spec_echelon.specs.Echelon.{Solved}
 use Rattle.cq_frac.specs.declared.Pair.{Pair}
-use Rattle.cq_frac.specs.declared.VarId.{VarId}
 use Rattle.cq_row.specs.declared.Entry.{Entry}
-use Rattle.cq_form.specs.Entries.{entry_of, product_of, products_of}
+use Rattle.cq_form.specs.Entries.{product_of, products_of}
 use Rattle.spec_projection.specs.Substitution.{put_into}
 use Rattle.cq_project.specs.declared.Equation.{Equation}
 use Rattle.cq_project.specs.Rows.{equations_of, solved_of}

@@ -1,13 +1,13 @@
 -- Products of different variables, sorted by variable, are those of a form with the same values.
-use Rattle.std.proofs.Common.{◌≡◌, ℕ, zero, suc, ◌+◌, ◌<◌, ◌≤◌, List, [], ◌∷◌, map, length, Bool, true, false, nat_eq, get_or, set, get_or-set_same, get_or-set_other, pos, arith, refl, ap, ap₂, sym, subst, ◌∙◌, inl, inr, ◌⊎◌}
-use Rattle.std.specs.List.{AllByRecursion, sum_by, swap, All}
+use Rattle.std.proofs.Common.{◌≡◌, ℕ, zero, suc, ◌+◌, ◌<◌, ◌≤◌, List, [], ◌∷◌, map, length, Bool, true, false, nat_eq, get_or, set, get_or-set_same, get_or-set_other, arith, refl, ap, ap₂, sym, subst, ◌∙◌, inl, inr, ◌⊎◌}
+use Rattle.std.specs.List.{AllByRecursion, sum_by, swap}
 use Rattle.std.specs.List.Sorted.{IsPermutation, IsNonDecreasingBy}
 use Rattle.std.proofs.lemmas.List.{length-set}
 use Rattle.std.proofs.lemmas.List.Sums.{sum_by-cons}
-use Rattle.std.proofs.lemmas.List.Sorted.{IsPermutation-keeps, sum_by-IsPermutation, length_permutation}
+use Rattle.std.proofs.lemmas.List.Sorted.{IsPermutation-keeps, sum_by-IsPermutation}
 use Rattle.spec_rational.specs.Rational.{ℚ, 0ℚ, ◌+ℚ◌, ◌*ℚ◌, neg_ℚ}
-use Rattle.spec_rational.specs.Sums.{Monomial, sum_at}
-use Rattle.spec_rational.proofs.Ring.{var, int, ◌⊕◌, ◌⊗◌, minus}
+use Rattle.spec_rational.specs.Sums.{sum_at}
+use Rattle.spec_rational.proofs.Ring.{var, ◌⊕◌, minus}
 use Rattle.spec_rational.proofs.Rational.{ring}
 use Rattle.spec_linear.specs.Form.{variables, IsSumFrom}
 use Rattle.spec_linear.specs.Solution.{Has}
@@ -16,7 +16,7 @@ use Rattle.spec_lists.proofs.Tests.{nat_eq-same, nat_eq-self}
 use Rattle.spec_projection.proofs.Decided.{nat_dec}
 use Rattle.cq_frac.specs.declared.VarId.{VarId}
 use Rattle.cq_row.specs.declared.Entry.{Entry}
-use Rattle.cq_form.specs.Entries.{entry_of, product_of, products_of}
+use Rattle.cq_form.specs.Entries.{entry_of, products_of}
 use Rattle.cq_project.specs.Rows.{monomial_of}
 
 -- ---- the entries of products
@@ -98,9 +98,6 @@ ascending (m ∷ k ∷ s) up once n low h = (
   ascending (k ∷ s) (λ i j d a b. up (suc i) (suc j) d (omega (arith, a)) (omega (arith, b))) rest_once (λ i d b. n (suc i) d (omega (arith, b))) (suc m.quantity) (λ d b. above),
 )
   where
-    counts : Entry → ℕ → ℕ
-    counts e q = one (nat_eq e.quantity q)
-
     split : (q : ℕ) → one (nat_eq m.quantity q) + how_many q (k ∷ s) ≤ 1
     split q = subst (λ c. c ≤ 1) (sum_by-cons (λ (e : Entry). one (nat_eq e.quantity q)) m (k ∷ s)) (once q)
 

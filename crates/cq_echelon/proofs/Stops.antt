@@ -1,6 +1,6 @@
 -- What is refused while equations that follow from a list are solved, or put into its other rows, is refused while an answer is
 -- made of the list.
-use Rattle.std.proofs.Common.{◌≡◌, ◌⊎◌, inl, inr, ℕ, List, [], ◌∷◌, ◌++◌, map, refl, ap, sym, subst, ◌∙◌, append-nil}
+use Rattle.std.proofs.Common.{◌≡◌, inl, inr, ℕ, List, [], ◌∷◌, ◌++◌, refl, ap, sym, subst, ◌∙◌, append-nil}
 use Rattle.std.specs.List.{AllByRecursion}
 use Rattle.spec_rational.specs.Rational.{ℚ, ◌+ℚ◌, ◌*ℚ◌, neg_ℚ}
 use Rattle.spec_rational.specs.Sums.{Monomial, Mentions, unit, factor_of}
@@ -10,23 +10,22 @@ use Rattle.spec_rational.proofs.Sums.{factor_of-is}
 use Rattle.spec_linear.specs.declared.Relation.{Relation}
 use Rattle.spec_linear.specs.declared.Relation.TheVariants.{Eq, Gt, Ge, Ne}
 use Rattle.spec_linear.specs.Form.{Linear, IsForm, value_at, variable_form, scaled_form}
-use Rattle.spec_linear.specs.Solution.{Constraint, Holds, HoldsAt, Satisfies, Point, number, Solves, Solvable, AreEquations, Entails, Has, SomeMentions, MentionsOnly, equal_zero}
+use Rattle.spec_linear.specs.Solution.{Constraint, Holds, HoldsAt, Point, number, Solves, Solvable, AreEquations, Entails, Has, SomeMentions, MentionsOnly, equal_zero}
 use Rattle.spec_linear.proofs.Points.{solves_same}
 use Rattle.spec_linear.proofs.Denominators.{has_left}
 use Rattle.spec_linear.proofs.Values.{value_at-variable_form, value_at-scaled_form}
 use Rattle.spec_linear.proofs.Ordered.{IsForm-scaled_form}
 use Rattle.spec_echelon.specs.Echelon.{Solved, AreDistinct, IsEchelon}
-use Rattle.spec_projection.proofs.Members.{satisfies_all, has_mapped, has_image}
+use Rattle.spec_projection.proofs.Members.{has_image}
 use Rattle.spec_projection.proofs.Mentions.{some_mentions}
-use Rattle.spec_limits.specs.Dictionary.{Quantity, variable, member, IsQuantity, SomeFormMentions, Expression, IsWritten, IsDictionary, without_disequations, in_front_unless_disequation}
+use Rattle.spec_limits.specs.Dictionary.{variable, IsQuantity, SomeFormMentions, IsDictionary, without_disequations, in_front_unless_disequation}
 use Rattle.spec_limits.specs.Asked.{IsAsked, of_member, of_variable, alone}
-use Rattle.spec_limits.specs.Answers.{IsAnswerList, beginning, IsAnswerMember, AsksMember, IsAnswerMoment, IsAnswerRow}
-use Rattle.spec_limits.specs.Overflow.{Moment, answering, IsInUse, in_answer, RowIndex, constant, column, IsRowIndex, number_at, Adding, Makes, scaled, added, OverflowDue}
+use Rattle.spec_limits.specs.Answers.{beginning, IsAnswerMember, AsksMember, IsAnswerRow}
+use Rattle.spec_limits.specs.Overflow.{Moment, answering, in_answer, constant, column, Adding, Makes, scaled, added, OverflowDue}
 use Rattle.cq_frac.specs.declared.Operation.{Operation}
 use Rattle.cq_frac.specs.declared.Operation.TheVariants.{Sum, Product as Times}
 use Rattle.cq_frac.specs.declared.Pair.{Pair}
-use Rattle.cq_frac.specs.Refused.{IsRefused}
-use Rattle.cq_form.specs.Steps.{HasCoefficient, CommonPair, MultiplePair, JoinedPair, coefficients, constants, SumPair, ScalePair, coefficient}
+use Rattle.cq_form.specs.Steps.{HasCoefficient, coefficients, constants, SumPair, ScalePair, coefficient}
 use Rattle.cq_form.specs.Steps.{of_variable as common, of_variable as multiple, constant as constant_pair}
 use Rattle.cq_form.proofs.Forms.{coefficient_is}
 use Rattle.cq_store.specs.Contents.{variable_forms}

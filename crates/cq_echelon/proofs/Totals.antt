@@ -2,7 +2,7 @@
 use Rattle.std.proofs.Common.{◌≡◌, inl, inr, ℕ, List, [], ◌∷◌, Bool, true, false, nat_eq, pos, refl, ap, ap₂, sym, subst, ◌∙◌}
 use Rattle.spec_rational.specs.Rational.{ℚ, 0ℚ, 1ℚ, ◌+ℚ◌, ◌*ℚ◌}
 use Rattle.spec_rational.specs.Sums.{Monomial, Mentions, when, unit, factor_of, sum_at}
-use Rattle.spec_rational.proofs.Ring.{var, int, ◌⊕◌, ◌⊗◌, minus}
+use Rattle.spec_rational.proofs.Ring.{var, int, ◌⊕◌, ◌⊗◌}
 use Rattle.spec_rational.proofs.Rational.{ring}
 use Rattle.spec_linear.specs.Solution.{Has}
 use Rattle.spec_lists.proofs.Tests.{nat_eq-same, nat_eq-self, nat_eq-apart, nat_eq-sym}

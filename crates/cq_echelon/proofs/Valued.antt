@@ -1,7 +1,7 @@
 -- The values of variables that solved equations give, and of forms into which the equations are put.
-use Rattle.std.proofs.Common.{◌≡◌, ℕ, List, [], ◌∷◌, nat_eq, cond, refl, ap, ap₂, sym, ◌∙◌}
+use Rattle.std.proofs.Common.{◌≡◌, ℕ, List, [], ◌∷◌, nat_eq, cond, refl, ap, sym, ◌∙◌}
 use Rattle.std.specs.List.{AllByRecursion}
-use Rattle.spec_rational.specs.Rational.{ℚ, ◌+ℚ◌}
+use Rattle.spec_rational.specs.Rational.{ℚ}
 use Rattle.spec_rational.specs.Sums.{Monomial}
 use Rattle.spec_linear.specs.Form.{Linear, IsForm, value_at, changed_at}
 use Rattle.spec_linear.specs.Solution.{Has}

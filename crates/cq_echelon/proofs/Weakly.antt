@@ -5,9 +5,8 @@ use Rattle.spec_rational.proofs.Sign.{pos_nonneg}
 use Rattle.spec_linear.specs.declared.Relation.{Relation}
 use Rattle.spec_linear.specs.declared.Relation.TheVariants.{Eq, Gt, Ge, Ne}
 use Rattle.spec_linear.specs.Form.{Linear}
-use Rattle.spec_linear.specs.Solution.{Constraint, HoldsAt, Satisfies, Point, number, Solves, Solvable, Entails, equal_zero}
+use Rattle.spec_linear.specs.Solution.{Constraint, HoldsAt, Satisfies, Solvable, Entails, equal_zero}
 use Rattle.spec_linear.proofs.Lists.{entails_same}
-use Rattle.spec_linear.proofs.Points.{solves_same}
 use Rattle.spec_inequalities.specs.Weak.{with_weak, weak}
 use Rattle.spec_limits.specs.Dictionary.{in_front_unless_disequation, without_disequations}
 use Rattle.spec_projection.proofs.Members.{satisfies_all}

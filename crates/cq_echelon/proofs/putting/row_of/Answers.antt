@@ -1,4 +1,4 @@
-use Rattle.std.proofs.Common.{◌≡◌, ◌≤◌, length, arith, pos, refl, ap, ap₂, sym, ◌∙◌}
+use Rattle.std.proofs.Common.{◌≤◌, length, arith, ap, ap₂, sym, ◌∙◌}
 use Rattle.std.proofs.lemmas.List.{drop_all}
 use Rattle.std.proofs.lemmas.Result.{IfOk-weaker}
 use Rattle.spec_rational.specs.Rational.{0ℚ, ◌+ℚ◌, ◌*ℚ◌}
