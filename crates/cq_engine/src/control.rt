@@ -95,14 +95,7 @@ pub fn if_then(
 {
     let condition = m.world.first.heap.arg(goal, 0);
     let then = m.world.first.heap.arg(goal, 1);
-    let k = cq_steps::if_then(
-        &mut m.world,
-        &m.choices,
-        condition,
-        then,
-        height,
-        rest,
-    )?;
+    let k = cq_steps::if_then(&mut m.world, &m.choices, condition, then, height, rest)?;
     Ok(Step::Goes(k))
 }
 
@@ -121,7 +114,12 @@ pub fn cut(m: &mut Machine, height: usize, rest: Continuation) -> Step
 }
 
 /// `\+ G`.
-pub fn negation(m: &mut Machine, goal: TermId, height: usize, rest: Continuation) -> Result<Step, AllocError>
+pub fn negation(
+    m: &mut Machine,
+    goal: TermId,
+    height: usize,
+    rest: Continuation,
+) -> Result<Step, AllocError>
     requires sound { IsSound m.old }
     requires goal { goal < length (terms m.old) }
     requires one { length (arguments (at (terms m.old) goal)) ≡ 1 }
@@ -139,7 +137,12 @@ pub fn negation(m: &mut Machine, goal: TermId, height: usize, rest: Continuation
 }
 
 /// `call(G)`.
-pub fn call(m: &mut Machine, goal: TermId, height: usize, rest: Continuation) -> Result<Step, AllocError>
+pub fn call(
+    m: &mut Machine,
+    goal: TermId,
+    height: usize,
+    rest: Continuation,
+) -> Result<Step, AllocError>
     requires sound { IsSound m.old }
     requires goal { goal < length (terms m.old) }
     requires one { length (arguments (at (terms m.old) goal)) ≡ 1 }
@@ -152,13 +155,7 @@ pub fn call(m: &mut Machine, goal: TermId, height: usize, rest: Continuation) ->
     ensures err { OnErr result (StillStands m.old m.new) }
 {
     let called = m.world.first.heap.arg(goal, 0);
-    match cq_steps::call(
-        &mut m.world,
-        &m.choices,
-        &m.atoms,
-        called,
-        rest,
-    ) {
+    match cq_steps::call(&mut m.world, &m.choices, &m.atoms, called, rest) {
         Ok(k) => Ok(Step::Goes(k)),
         Err(BuiltinFault::Error(error)) => Ok(Step::Raises(error)),
         Err(BuiltinFault::NoMemory) => Err(AllocError),

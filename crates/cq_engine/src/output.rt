@@ -30,7 +30,15 @@ pub fn write(m: &Machine, style: Style, goal: TermId) -> Result<Vec<u8>, AllocEr
         → write_row p style (nth (builtins.arguments g) 0) ≡ outputs p text.items) }
 {
     let term = m.world.first.heap.arg(goal, 0);
-    let text = write_term(&m.world.first.heap, &m.atoms, &m.ops, term, style, 1200, &[])?;
+    let text = write_term(
+        &m.world.first.heap,
+        &m.atoms,
+        &m.ops,
+        term,
+        style,
+        1200,
+        &[],
+    )?;
     Ok(text)
 }
 
