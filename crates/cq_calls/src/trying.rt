@@ -1,15 +1,14 @@
 // The clauses of a call, tried in order.
 
-ghost use Rattle.std.specs.Prelude.{◌≡◌, ◌<◌, ◌∷◌, List, None, IfOk, IfErr, OnOk, OnErr};
+ghost use Rattle.std.specs.Prelude.{◌≡◌, ◌<◌, ◌∷◌, None, IfOk, IfErr, OnOk, OnErr};
 ghost use Rattle.cq_atoms.specs.Texts.{AreDifferent};
 ghost use Rattle.cq_begin.specs.Stops.{IsBack, ComesOn, AllStop, still_waiting};
 ghost use Rattle.cq_calls.specs.Trying.{HasLeft, IsOfCall, IfPruned, Leaves, goes_on};
-ghost use Rattle.cq_control.specs.Open.{AreMarked};
+ghost use Rattle.cq_control.specs.Open.{AreMarked, open_choices};
 ghost use Rattle.cq_program.specs.Database.{IsProgram};
 ghost use Rattle.cq_steps.specs.Choices.{AreOpen};
 ghost use Rattle.cq_steps.specs.Worlds.{saved_values};
-ghost use Rattle.cq_steps.specs.declared.alternatives.Alternatives.TheVariants as alternatives;
-ghost use Rattle.cq_steps.specs.declared.alternatives.Alternatives as alternatives_of;
+ghost use Rattle.cq_world.specs.Worlds.{now_of};
 
 use cq_atoms::Atoms;
 use cq_begin::{Begun, begin_clause};
@@ -25,7 +24,7 @@ use cq_term::TermId;
 enum Tried {
     /// Its branch is kept, and goes on with this continuation.
     Goes(Continuation),
-    /// Its branch is pruned; the clauses that are left.
+    /// Its branch is pruned, and these clauses are left.
     Pruned(Walk),
     /// There was none, and the choice is gone.
     Ended,
@@ -68,9 +67,11 @@ pub fn try_clauses(
     let mut walk = untried.walk();
     'clauses: loop {
         match try_clause(world, choices, atoms, clauses, goal, walk, rest) {
-            Ok(Tried::Goes(first)) => return Ok(Some(first)),
-            Ok(Tried::Pruned(left)) => walk = left,
-            Ok(Tried::Ended) => return Ok(None),
+            Ok(tried) => match tried {
+                Tried::Goes(first) => return Ok(Some(first)),
+                Tried::Pruned(left) => walk = left,
+                Tried::Ended => return Ok(None),
+            },
             Err(fault) => return Err(fault),
         }
     }
@@ -113,14 +114,40 @@ fn try_clause(
     let clause = clauses.content(number).clause();
     let height = choices.height() - 1;
     match begin_clause(&mut world.first, &mut world.second, atoms, clause, goal, height, rest) {
-        Ok(Begun::Goes(first)) => {
-            leave(world, choices, goal, left, rest);
-            Ok(Tried::Goes(first))
-        }
-        Ok(Begun::Pruned) => {
-            choices.replace_at(height, Alternatives::Clauses(goal, Untried::new(left), rest));
-            Ok(Tried::Pruned(left))
-        }
+        Ok(begun) => match begun {
+            Begun::Goes(first) => {
+                leave_untried(world, choices, goal, left, rest);
+                Ok(Tried::Goes(first))
+            }
+            Begun::Pruned => {
+                choices.replace_at(height, Alternatives::Clauses(goal, Untried::new(left), rest));
+                Ok(Tried::Pruned(left))
+            }
+        },
         Err(fault) => Err(fault),
+    }
+}
+
+/// Leaves the newest choice the clauses of its call that were not tried; without any it is gone.
+fn leave_untried(
+    world: &mut Searching,
+    choices: &mut Choices<Alternatives>,
+    goal: TermId,
+    left: Walk,
+    rest: Continuation,
+)
+    requires marked { AreMarked (saved_values world.old.first world.old.second.saved) choices.old }
+    requires newest { IsOfCall choices.old }
+    ensures leaves { Leaves goal left rest (open_choices (saved_values world.old.first world.old.second.saved) choices.old)
+        (open_choices (saved_values world.new.first world.new.second.saved) choices.new) }
+    ensures first { now_of world.new.first ≡ now_of world.old.first }
+    ensures lists { world.new.second.now ≡ world.old.second.now }
+    ensures marked { AreMarked (saved_values world.new.first world.new.second.saved) choices.new }
+{
+    let height = choices.height() - 1;
+    if left.is_empty() {
+        choices.cut(world, height);
+    } else {
+        choices.replace_at(height, Alternatives::Clauses(goal, Untried::new(left), rest));
     }
 }

@@ -1,0 +1,185 @@
+-- The newest choice, which is of a call, as its clauses are tried.
+use Rattle.std.proofs.Common.{◌≡◌, ◌⊎◌, inl, inr, ℕ, suc, ◌+◌, ◌<◌, List, [], ◌∷◌, ◌++◌, length, Option, None, Some, refl, sym, ap, ap₂, ◌∙◌, subst, map, arith, true, length-append}
+use Rattle.std.specs.Prelude.{reverse, slice_get}
+use Rattle.std.specs.List.{AllByRecursion, zip}
+use Rattle.std.proofs.lemmas.List.{length-map, length-reverse}
+use Rattle.std.proofs.lemmas.Option.{get_or_from_slice_get}
+use Rattle.std.proofs.lemmas.Slice.Zip.{length-zip}
+use Rattle.spec_lists.specs.Texts.{Text}
+use Rattle.spec_search.specs.Database.{Database, Clause}
+use Rattle.spec_search.specs.Search.{Search}
+use Rattle.cq_clauses.specs.Selected.{key_at}
+use Rattle.cq_clauses.specs.Walks.{IsWalk, HasNoneLeft, left}
+use Rattle.cq_clauses.specs.declared.walk.Walk.{Walk}
+use Rattle.cq_control.specs.Heights.{total}
+use Rattle.cq_control.specs.Open.{AreMarked, last, open_choices}
+use Rattle.cq_program.specs.Database.{Program, as_clause, as_parts, content_at}
+use Rattle.cq_program.specs.Keys.{key_of}
+use Rattle.cq_stored.specs.StoredValue.{ClauseValue}
+use Rattle.cq_term.specs.Meaning.{blank}
+use Rattle.cq_world.specs.Contents.{Contents}
+use Rattle.spec_machine.specs.Cells.{Clauses, Left, Stack, Value, size}
+use Rattle.spec_machine.specs.Coming.{Comes}
+use Rattle.spec_machine.specs.Standing.{engine, IsStanding}
+use Rattle.cq_steps.specs.Choices.{AreOpen, CanBeTried}
+use Rattle.cq_steps.specs.Worlds.{IsBranch, term_in, Stands, Arrives, stack, left_at}
+use Rattle.cq_steps.specs.declared.alternatives.Alternatives.{Alternatives}
+use Rattle.cq_steps.specs.declared.alternatives.Alternatives.TheVariants as alternatives
+use Rattle.cq_steps.proofs.Arrived.{comes_at_once}
+use Rattle.cq_begin.specs.declared.beginning.Begun.{Begun}
+use Rattle.cq_begin.specs.Begun.{goes_to}
+use Rattle.cq_begin.specs.Calls.{ClauseComes}
+use Rattle.cq_begin.specs.Stops.{waiting_in}
+use Rattle.cq_calls.specs.Trying.{HasLeft, Leaves, gone, stays}
+use Rattle.cq_calls.proofs.Turns.{ComesBackTo, comes_with_others, comes_without, came_past, older-all}
+
+abbrev pub Opened : Type 0
+Opened = List (Value Contents × Alternatives)
+
+-- the clauses that a walk leaves, by number
+abbrev pub numbers_left : Program → Walk → List ℕ
+numbers_left v walk = left (λ (c : ClauseValue). key_of c.head) walk v
+
+-- what a clause holds
+pub content_is : (texts : List Text) (v : Program) (n : ℕ) (kept : ClauseValue) → slice_get v.contents n ≡ Some kept → (as_clause texts v.contents n).parts ≡ as_parts texts kept
+content_is texts v n kept e = ap (as_parts texts) (get_or_from_slice_get v.contents n kept (record { head = blank; body = blank; variables = 0 }) e)
+
+none_left : (v : Program) (walk : Walk) → HasNoneLeft true walk → numbers_left v walk ≡ []
+none_left v walk h = (h.tells_so (key_at (λ (c : ClauseValue). key_of c.head) v.contents) v.procedures).0 refl
+
+-- ---- lists with a newest
+
+same-first : {A : Type 0} (x y : A) (xs ys : List A) → x ∷ xs ≡ y ∷ ys → x ≡ y
+same-first x y xs ys e = cc
+
+same-others : {A : Type 0} (x y : A) (xs ys : List A) → x ∷ xs ≡ y ∷ ys → xs ≡ ys
+same-others x y xs ys e = cc
+
+-- ---- what is left of the newest choice
+
+-- without any clause it is gone, and else it has the others
+abbrev pub AreLeft : ℕ → Walk → ℕ → Value Contents → Opened → Opened → Type 0
+AreLeft t rest k w others new = (HasNoneLeft true rest × (new ≡ others)) ⊎ (new ≡ (w, alternatives.Clauses t rest k) ∷ others)
+
+pub are_left : (t : ℕ) (rest : Walk) (k : ℕ) (w : Value Contents) (x : Alternatives) (others old new : Opened) → old ≡ (w, x) ∷ others → Leaves t rest k old new
+    → AreLeft t rest k w others new
+are_left t rest k w x others old new was (gone {c} none e) = inl (none, same-others c (w, x) new others (sym e ∙ was))
+are_left t rest k w x others old new was (stays {c} {more} e f) =
+    let first : c.0 ≡ w = ap (λ p. p.0) (same-first c (w, x) more others (sym e ∙ was)) in
+    let same : more ≡ others = same-others c (w, x) more others (sym e ∙ was) in
+    inr (f ∙ ap₂ (λ (z : Value Contents) (l : Opened). (z, alternatives.Clauses t rest k) ∷ l) first same)
+
+-- cut away
+pub cut_away : (t : ℕ) (rest : Walk) (k : ℕ) (old new : Opened) (height : ℕ) → HasNoneLeft true rest → length old ≡ suc height → new ≡ last height old → Leaves t rest k old new
+cut_away t rest k [] new height none long e = absurd (omega (arith, long))
+cut_away t rest k (c ∷ others) new height none long e =
+    let high : height ≡ length others = omega (arith, long) in
+    let same : new ≡ others = e ∙ ap (λ (m : ℕ). last m (c ∷ others)) high ∙ older-all c others in
+    gone {c = c} none (ap (λ (l : Opened). c ∷ l) (sym same))
+
+-- put in its place
+pub put_there : (t : ℕ) (rest : Walk) (k : ℕ) (vs : List (Value Contents)) (x : Alternatives) (xs : List Alternatives) → length vs ≡ length (x ∷ xs)
+    → Leaves t rest k (zip vs (x ∷ xs)) (zip vs (alternatives.Clauses t rest k ∷ xs))
+put_there t rest k [] x xs long = absurd (omega (arith, long))
+put_there t rest k (v ∷ vs) x xs long = stays {c = (v, x)} {older = zip vs xs} refl refl
+
+-- the contents of the newest choice, where those of the choice with so many older ones were changed
+pub changed_newest : (newer old new xs : List Alternatives) (x y z : Alternatives) (height : ℕ) → old ≡ x ∷ xs → height ≡ length xs
+    → old ≡ newer ++ y ∷ last height old → new ≡ newer ++ z ∷ last height old → new ≡ z ∷ xs
+changed_newest newer old new xs x y z height e high before after =
+    let below : last height old ≡ xs = ap₂ (λ (m : ℕ) (l : List Alternatives). last m l) high e ∙ older-all x xs in
+    let long : length newer ≡ 0 = omega (arith, ap length before, length-append newer (y ∷ last height old), ap length below, ap length e) in
+    after ∙ ap₂ (λ (l m : List Alternatives). l ++ z ∷ m) (is_empty newer long) below
+  where
+    is_empty : (l : List Alternatives) → length l ≡ 0 → l ≡ []
+    is_empty [] e = refl
+    is_empty (a ∷ l) e = absurd (omega (arith, e))
+
+pub length-opened : (saved : List (Value Contents)) (choices : List Alternatives) → AreMarked saved choices → length (open_choices saved choices) ≡ length choices
+length-opened saved choices m = omega (arith, length-zip (reverse saved) choices, length-reverse saved, m)
+
+-- ---- the searches for which the engine stands
+
+module _ (texts : List Text) (v : Program) (saved : List (Value Contents)) (choices : List Alternatives) (now w : Value Contents) (t k : ℕ) (walk : Walk) (others : Opened)
+    (was : open_choices saved choices ≡ (w, alternatives.Clauses t walk k) ∷ others) where
+  abbrev older : Stack Contents
+  older = map (left_at texts v) others
+
+  abbrev clauses : List ℕ → List Clause
+  clauses ns = map (as_clause texts v.contents) ns
+
+  stack_was : (ns : List ℕ) → numbers_left v walk ≡ ns → stack texts v saved choices ≡ (w, Clauses t (clauses ns) k) ∷ older
+  stack_was ns e = ap (map (left_at texts v)) was ∙ ap (λ (ms : List ℕ). (w, Clauses t (clauses ms) k) ∷ older) e
+
+  module _ (db : Database) (m : ℕ) (s : Search) where
+    -- it comes back to a choice that has these clauses to try
+    pub comes_back_to : (ns : List ℕ) → numbers_left v walk ≡ ns → Stands texts v db m saved choices now None s → ComesBackTo texts db m s older now w t k (clauses ns)
+    comes_back_to ns e j = subst (λ st. IsStanding (IsBranch texts) (term_in texts) (engine db m st now None) s) (stack_was ns e) j
+
+    -- with none left the choice is gone
+    pub arrives_past : (fewer : List (Value Contents)) (after : List Alternatives) (later : Value Contents) (steps : ℕ) → numbers_left v walk ≡ []
+        → open_choices fewer after ≡ others → Stands texts v db m saved choices now None s → Arrives steps texts v db m fewer after later None s
+    arrives_past fewer after later steps none same j =
+        comes_at_once (IsBranch texts) (term_in texts) steps _ s
+        (subst (λ st. IsStanding (IsBranch texts) (term_in texts) (engine db m st later None) s) (sym (ap (map (left_at texts v)) same))
+        (came_past texts db m s older now w t k (comes_back_to [] none j) later))
+
+  -- ---- the next clause is begun
+
+  module _ (rest : Walk) (n : ℕ) (next : numbers_left v walk ≡ n ∷ numbers_left v rest) where
+    module _ (kept : ClauseValue) (got : slice_get v.contents n ≡ Some kept) (height : ℕ) (high : height ≡ length others) (db : Database) (m : ℕ) (s : Search)
+        (j : Stands texts v db m saved choices now None s) where
+      abbrev pub back : ComesBackTo texts db m s older now w t k (as_clause texts v.contents n ∷ clauses (numbers_left v rest))
+      back = comes_back_to db m s (n ∷ numbers_left v rest) next j
+
+      pub high_stack : height ≡ length older
+      high_stack = high ∙ sym (length-map others (left_at texts v))
+
+      module _ (new : Value Contents) (b : Begun) (comes : ClauseComes texts w new t height k kept b) (fewer : List (Value Contents)) (after : List Alternatives) (steps : ℕ) where
+        abbrev Came : Stack Contents → Type 0
+        Came st = Comes (IsBranch texts) (term_in texts) steps (engine db m st new (goes_to b)) s
+
+        -- and these choices are left
+        pub arrives_left : AreLeft t rest k w others (open_choices fewer after) → Arrives steps texts v db m fewer after new (goes_to b) s
+        arrives_left (inl l) =
+            subst Came (sym (ap (map (left_at texts v)) l.1))
+            (comes_without texts db m s older now w t k (as_clause texts v.contents n) (clauses (numbers_left v rest)) back height high_stack kept (content_is texts v n kept got) new b comes steps
+            (ap clauses (none_left v rest l.0)))
+        arrives_left (inr e) =
+            subst Came (sym (ap (map (left_at texts v)) e))
+            (comes_with_others texts db m s older now w t k (as_clause texts v.contents n) (clauses (numbers_left v rest)) back height high_stack kept (content_is texts v n kept got) new b comes steps)
+
+    -- fewer branches and choices wait
+    pub fewer_wait : (fewer : List (Value Contents)) (after : List Alternatives) → AreLeft t rest k w others (open_choices fewer after)
+        → waiting_in (stack texts v fewer after) < waiting_in (stack texts v saved choices)
+    fewer_wait fewer after (inl l) =
+        let old = ap waiting_in (stack_was (n ∷ numbers_left v rest) next) in
+        let new = ap (λ (o : Opened). waiting_in (map (left_at texts v) o)) l.1 in
+        omega (arith, old, new)
+    fewer_wait fewer after (inr e) =
+        let old = ap waiting_in (stack_was (n ∷ numbers_left v rest) next) in
+        let new = ap (λ (o : Opened). waiting_in (map (left_at texts v) o)) e in
+        omega (arith, old, new)
+
+  pub fewer_past : (fewer : List (Value Contents)) (after : List Alternatives) → numbers_left v walk ≡ [] → open_choices fewer after ≡ others
+      → waiting_in (stack texts v fewer after) < waiting_in (stack texts v saved choices)
+  fewer_past fewer after none same =
+      let old = ap waiting_in (stack_was [] none) in
+      let new = ap (λ (o : Opened). waiting_in (map (left_at texts v) o)) same in
+      omega (arith, old, new)
+
+  -- ---- the choices that are open
+
+  abbrev Each : Opened → Type 0
+  Each o = AllByRecursion (λ (c : Value Contents × Alternatives). CanBeTried v c.0.0.heap.terms c.1) o
+
+  pub is_walk : AreOpen v saved choices → IsWalk walk v
+  is_walk a = (subst Each was a).0
+
+  pub open_left : (fewer : List (Value Contents)) (after : List Alternatives) (rest : Walk) → IsWalk rest v → AreOpen v saved choices
+      → AreLeft t rest k w others (open_choices fewer after) → AreOpen v fewer after
+  open_left fewer after rest i a (inl l) = subst Each (sym l.1) (subst Each was a).1
+  open_left fewer after rest i a (inr e) = subst Each (sym e) (i, (subst Each was a).1)
+
+  pub open_past : (fewer : List (Value Contents)) (after : List Alternatives) → AreOpen v saved choices → open_choices fewer after ≡ others → AreOpen v fewer after
+  open_past fewer after a e = subst Each (sym e) (subst Each was a).1
