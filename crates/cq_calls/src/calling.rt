@@ -13,7 +13,7 @@ ghost use Rattle.cq_calls.specs.Calling.{IsCalledAt, HasCalled};
 
 use cq_clauses::Clauses;
 use cq_control::{Choices, Continuation};
-use cq_program::{ProgramClause, goal_key};
+use cq_program::{ProgramClause, calls_read_the_database, goal_key, walks_select_clauses};
 use cq_steps::{Alternatives, Searching, Untried};
 use cq_term::{Pred, TermId};
 use std::alloc::AllocError;
@@ -47,9 +47,11 @@ pub fn call_procedure(
     ensures err { OnErr result (choices.new ≡ choices.old) }
     ensures err_saved { OnErr result (saved_values world.new.first world.new.second.saved ≡ saved_values world.old.first world.old.second.saved) }
 {
+    calls_read_the_database();
     if clauses.status_of(pred).is_none() {
         return Ok(false);
     }
+    walks_select_clauses();
     let key = goal_key(&world.first.heap, goal);
     let walk = clauses.walk(pred, key);
     choices.push(world, Alternatives::Clauses(goal, Untried::new(walk), rest))?;
