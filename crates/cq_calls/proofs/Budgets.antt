@@ -24,12 +24,12 @@ module _ (n : ℕ) where
   abbrev MayThen : Value Contents → Type 0
   MayThen w = May w.0
 
-  all_may : (hs : List Terms) (as : List Attributes) (ss : List (List Constraint)) → All May (map contents_of (zip hs (zip as (map (kept n) ss))))
-  all_may [] as ss = λ i d l. absurd (omega (arith, l))
+  all_may : (hs : List Terms) (ats : List Attributes) (ss : List (List Constraint)) → All May (map contents_of (zip hs (zip ats (map (kept n) ss))))
+  all_may [] ats ss = λ i d l. absurd (omega (arith, l))
   all_may (h ∷ hs) [] ss = λ i d l. absurd (omega (arith, l))
-  all_may (h ∷ hs) (a ∷ as) [] = λ i d l. absurd (omega (arith, l))
-  all_may (h ∷ hs) (a ∷ as) (s ∷ ss) =
-      All-cons May (contents_of (h, (a, kept n s))) (map contents_of (zip hs (zip as (map (kept n) ss)))) refl (all_may hs as ss)
+  all_may (h ∷ hs) (a ∷ ats) [] = λ i d l. absurd (omega (arith, l))
+  all_may (h ∷ hs) (a ∷ ats) (s ∷ ss) =
+      All-cons May (contents_of (h, (a, kept n s))) (map contents_of (zip hs (zip ats (map (kept n) ss)))) refl (all_may hs ats ss)
 
   all_then : (cs : List Contents) (ls : List (List (List Cell))) → All May cs → All MayThen (zip cs ls)
   all_then [] ls a = λ i d l. absurd (omega (arith, l))

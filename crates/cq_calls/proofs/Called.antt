@@ -100,9 +100,9 @@ pub calls_come : (texts : List Text) (steps : ℕ) (s : Search) (goal : Tree) (c
     → IsSelection (place_of s st items cut behind) (read st goal) all some → (choices : Stack Contents) (now : Value Contents)
     → AreWaiting (IsBranch texts) (term_in texts) choices (map (clause_child (place_of s st items cut behind) (read st goal)) some ++ behind)
     → Comes (IsBranch texts) (term_in texts) steps (engine s.database (suc s.selected) choices now None) s
-calls_come texts steps s goal cut items st behind look few all some row selection choices now waiting =
+calls_come texts steps s goal cut items st behind look few every tried row selection choices now waiting =
     let p = place_of s st items cut behind in
-    let m = made p (map (clause_child p (read st goal)) some) in
+    let m = made p (map (clause_child p (read st goal)) tried) in
     record {
       reached = after_step s m behind;
       quiet = after (inr few) (turn.steps {m = m} look (step.calls row selection)) at_once;
@@ -110,7 +110,7 @@ calls_come texts steps s goal cut items st behind look few all some row selectio
         database = refl;
         selected = refl;
         first = [];
-        behind = map (clause_child p (read st goal)) some ++ behind;
+        behind = map (clause_child p (read st goal)) tried ++ behind;
         branches = refl;
         current = refl;
         waiting = waiting;

@@ -64,7 +64,7 @@ AreLeft t rest k w others new = (HasNoneLeft true rest × (new ≡ others)) ⊎ 
 pub are_left : (t : ℕ) (rest : Walk) (k : ℕ) (w : Value Contents) (x : Alternatives) (others old new : Opened) → old ≡ (w, x) ∷ others → Leaves t rest k old new
     → AreLeft t rest k w others new
 are_left t rest k w x others old new was (gone {c} none e) = inl (none, same-others c (w, x) new others (sym e ∙ was))
-are_left t rest k w x others old new was (stays {c} {more} e f) =
+are_left t rest k w x others old new was (stays {c} {older = more} e f) =
     let first : c.0 ≡ w = ap (λ p. p.0) (same-first c (w, x) more others (sym e ∙ was)) in
     let same : more ≡ others = same-others c (w, x) more others (sym e ∙ was) in
     inr (f ∙ ap₂ (λ (z : Value Contents) (l : Opened). (z, alternatives.Clauses t rest k) ∷ l) first same)
@@ -95,8 +95,26 @@ changed_newest newer old new xs x y z height e high before after =
     is_empty [] e = refl
     is_empty (a ∷ l) e = absurd (omega (arith, e))
 
+pub put_newest : (t : ℕ) (rest : Walk) (k : ℕ) (saved : List (Value Contents)) (old new xs : List Alternatives) (x : Alternatives) → AreMarked saved old → old ≡ x ∷ xs
+    → new ≡ alternatives.Clauses t rest k ∷ xs → Leaves t rest k (open_choices saved old) (open_choices saved new)
+put_newest t rest k saved old new xs x marked e f =
+    subst (λ (l : List Alternatives). Leaves t rest k (open_choices saved l) (open_choices saved new)) (sym e)
+    (subst (λ (l : List Alternatives). Leaves t rest k (open_choices saved (x ∷ xs)) (open_choices saved l)) (sym f)
+    (put_there t rest k (reverse saved) x xs (omega (arith, length-reverse saved, marked, ap length e))))
+
 pub length-opened : (saved : List (Value Contents)) (choices : List Alternatives) → AreMarked saved choices → length (open_choices saved choices) ≡ length choices
 length-opened saved choices m = omega (arith, length-zip (reverse saved) choices, length-reverse saved, m)
+
+-- the newest of the choices that are open, in the world that it goes back to
+pub opened_is : (saved : List (Value Contents)) (choices xs : List Alternatives) (x : Alternatives) → AreMarked saved choices → choices ≡ x ∷ xs
+    → (w : Value Contents) × (others : Opened) × (open_choices saved choices ≡ (w, x) ∷ others) × (length others ≡ length xs)
+opened_is saved choices xs x marked e =
+    let first = opened_first (reverse saved) (omega (arith, length-reverse saved, marked, ap length e)) in
+    (first.0, first.1, ap (λ (l : List Alternatives). open_choices saved l) e ∙ first.2, first.3)
+  where
+    opened_first : (vs : List (Value Contents)) → length vs ≡ length (x ∷ xs) → (w : Value Contents) × (others : Opened) × (zip vs (x ∷ xs) ≡ (w, x) ∷ others) × (length others ≡ length xs)
+    opened_first [] long = absurd (omega (arith, long))
+    opened_first (v ∷ vs) long = (v, zip vs xs, refl, omega (arith, length-zip vs xs, long))
 
 -- ---- the searches for which the engine stands
 

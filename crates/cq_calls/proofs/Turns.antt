@@ -34,7 +34,7 @@ use Rattle.cq_begin.specs.Stops.{ComesToStop, waiting_in}
 use Rattle.cq_begin.proofs.Stopping.{refuses, takes}
 
 -- the choices below the newest are those that are older than it
-older-all : {A : Type 0} (x : A) (xs : List A) → last (length xs) (x ∷ xs) ≡ xs
+pub older-all : {A : Type 0} (x : A) (xs : List A) → last (length xs) (x ∷ xs) ≡ xs
 older-all x xs = last-older x xs (length xs) (omega arith) ∙ last-all xs (length xs) (omega arith)
 
 module _ (texts : List Text) (db : Database) (n : ℕ) (s : Search) (older : Stack Contents) (now w : Value Contents) (t k : ℕ) where

@@ -48,12 +48,13 @@ pub fn call_procedure(
     ensures err_saved { OnErr result (saved_values world.new.first world.new.second.saved ≡ saved_values world.old.first world.old.second.saved) }
 {
     calls_read_the_database();
-    if clauses.status_of(pred).is_none() {
+    let called = pred;
+    if clauses.status_of(called).is_none() {
         return Ok(false);
     }
     walks_select_clauses();
-    let key = goal_key(&world.first.heap, goal);
-    let walk = clauses.walk(pred, key);
-    choices.push(world, Alternatives::Clauses(goal, Untried::new(walk), rest))?;
+    let walk = clauses.walk(pred, goal_key(&world.first.heap, goal));
+    let untried = Untried::new(walk);
+    choices.push(world, Alternatives::Clauses(goal, untried, rest))?;
     Ok(true)
 }
