@@ -1,6 +1,6 @@
 -- The newest choice, which is of a call, as its clauses are tried.
 use Rattle.std.proofs.Common.{◌≡◌, ◌⊎◌, inl, inr, ℕ, suc, ◌+◌, ◌<◌, List, [], ◌∷◌, ◌++◌, length, Option, None, Some, refl, sym, ap, ap₂, ◌∙◌, subst, map, arith, true, length-append}
-use Rattle.std.specs.Prelude.{reverse, slice_get}
+use Rattle.std.specs.Prelude.{All, reverse, slice_get}
 use Rattle.std.specs.List.{AllByRecursion, zip}
 use Rattle.std.proofs.lemmas.List.{length-map, length-reverse}
 use Rattle.std.proofs.lemmas.Option.{get_or_from_slice_get}
@@ -13,25 +13,33 @@ use Rattle.cq_clauses.specs.Walks.{IsWalk, HasNoneLeft, left}
 use Rattle.cq_clauses.specs.declared.walk.Walk.{Walk}
 use Rattle.cq_control.specs.Heights.{total}
 use Rattle.cq_control.specs.Open.{AreMarked, last, open_choices}
+use Rattle.cq_frac.specs.declared.Pair.{Pair}
+use Rattle.cq_linear.specs.declared.store.StoreFault.{StoreFault}
+use Rattle.cq_linear.specs.declared.store.StoreFault.TheVariants as fault
 use Rattle.cq_program.specs.Database.{Program, as_clause, as_parts, content_at}
 use Rattle.cq_program.specs.Keys.{key_of}
+use Rattle.cq_settle.specs.Settled.{MayRefuse, MayTake}
 use Rattle.cq_stored.specs.StoredValue.{ClauseValue}
 use Rattle.cq_term.specs.Meaning.{blank}
 use Rattle.cq_world.specs.Contents.{Contents}
+use Rattle.cq_world.specs.Rest.{IsReady}
+use Rattle.cq_world.specs.Worlds.{saved_of}
+use Rattle.cq_world.specs.declared.world.World.{World}
+use Rattle.spec_machine.specs.declared.cell.Cell.{Cell}
 use Rattle.spec_machine.specs.Cells.{Clauses, Left, Stack, Value, size}
 use Rattle.spec_machine.specs.Coming.{Comes}
 use Rattle.spec_machine.specs.Standing.{engine, IsStanding}
 use Rattle.cq_steps.specs.Choices.{AreOpen, CanBeTried}
-use Rattle.cq_steps.specs.Worlds.{IsBranch, term_in, Stands, Arrives, stack, left_at}
+use Rattle.cq_steps.specs.Worlds.{IsBranch, term_in, Stands, Arrives, saved_values, stack, left_at}
 use Rattle.cq_steps.specs.declared.alternatives.Alternatives.{Alternatives}
 use Rattle.cq_steps.specs.declared.alternatives.Alternatives.TheVariants as alternatives
 use Rattle.cq_steps.proofs.Arrived.{comes_at_once}
 use Rattle.cq_begin.specs.declared.beginning.Begun.{Begun}
 use Rattle.cq_begin.specs.Begun.{goes_to}
-use Rattle.cq_begin.specs.Calls.{ClauseComes}
-use Rattle.cq_begin.specs.Stops.{waiting_in}
+use Rattle.cq_begin.specs.Calls.{ClauseComes, OfClause}
+use Rattle.cq_begin.specs.Stops.{FaultStops, waiting_in}
 use Rattle.cq_calls.specs.Trying.{HasLeft, Leaves, gone, stays}
-use Rattle.cq_calls.proofs.Turns.{ComesBackTo, comes_with_others, comes_without, came_past, older-all}
+use Rattle.cq_calls.proofs.Turns.{ComesBackTo, ready, goal_there, rest_there, comes_with_others, comes_without, refused, taken, came_past, older-all}
 
 abbrev pub Opened : Type 0
 Opened = List (Value Contents × Alternatives)
@@ -47,9 +55,13 @@ content_is texts v n kept e = ap (as_parts texts) (get_or_from_slice_get v.conte
 none_left : (v : Program) (walk : Walk) → HasNoneLeft true walk → numbers_left v walk ≡ []
 none_left v walk h = (h.tells_so (key_at (λ (c : ClauseValue). key_of c.head) v.contents) v.procedures).0 refl
 
+-- a fact of what each clause holds
+pub of_content : (P : ClauseValue → Type 0) (cs : List ClauseValue) (n : ℕ) (kept : ClauseValue) → All P cs → n < length cs → slice_get cs n ≡ Some kept → P kept
+of_content P cs n kept a l e = subst P (get_or_from_slice_get cs n kept kept e) (a n kept l)
+
 -- ---- lists with a newest
 
-same-first : {A : Type 0} (x y : A) (xs ys : List A) → x ∷ xs ≡ y ∷ ys → x ≡ y
+pub same-first : {A : Type 0} (x y : A) (xs ys : List A) → x ∷ xs ≡ y ∷ ys → x ≡ y
 same-first x y xs ys e = cc
 
 same-others : {A : Type 0} (x y : A) (xs ys : List A) → x ∷ xs ≡ y ∷ ys → xs ≡ ys
@@ -116,6 +128,20 @@ opened_is saved choices xs x marked e =
     opened_first [] long = absurd (omega (arith, long))
     opened_first (v ∷ vs) long = (v, zip vs xs, refl, omega (arith, length-zip vs xs, long))
 
+-- over a world with the same marks
+pub open_same : (w z : World) (l m : List (List (List Cell))) (choices : List Alternatives) (o : Opened) → saved_of z ≡ saved_of w → m ≡ l
+    → open_choices (saved_values w l) choices ≡ o → open_choices (saved_values z m) choices ≡ o
+open_same w z l m choices o e f g = ap₂ (λ (x : List Contents) (y : List (List (List Cell))). open_choices (zip x y) choices) e f ∙ g
+
+pub marked_same : (w z : World) (l m : List (List (List Cell))) (choices : List Alternatives) → saved_of z ≡ saved_of w → m ≡ l
+    → AreMarked (saved_values w l) choices → AreMarked (saved_values z m) choices
+marked_same w z l m choices e f g = ap₂ (λ (x : List Contents) (y : List (List (List Cell))). length (zip x y)) e f ∙ g
+
+pub open_still : (v : Program) (saved more : List (Value Contents)) (choices after : List Alternatives) → open_choices more after ≡ open_choices saved choices
+    → AreOpen v saved choices → AreOpen v more after
+open_still v saved more choices after e a =
+    subst (λ (o : Opened). AllByRecursion (λ (c : Value Contents × Alternatives). CanBeTried v c.0.0.heap.terms c.1) o) (sym e) a
+
 -- ---- the searches for which the engine stands
 
 module _ (texts : List Text) (v : Program) (saved : List (Value Contents)) (choices : List Alternatives) (now w : Value Contents) (t k : ℕ) (walk : Walk) (others : Opened)
@@ -145,27 +171,60 @@ module _ (texts : List Text) (v : Program) (saved : List (Value Contents)) (choi
   -- ---- the next clause is begun
 
   module _ (rest : Walk) (n : ℕ) (next : numbers_left v walk ≡ n ∷ numbers_left v rest) where
-    module _ (kept : ClauseValue) (got : slice_get v.contents n ≡ Some kept) (height : ℕ) (high : height ≡ length others) (db : Database) (m : ℕ) (s : Search)
-        (j : Stands texts v db m saved choices now None s) where
-      abbrev pub back : ComesBackTo texts db m s older now w t k (as_clause texts v.contents n ∷ clauses (numbers_left v rest))
+    abbrev first : Clause
+    first = as_clause texts v.contents n
+
+    abbrev others_left : List Clause
+    others_left = clauses (numbers_left v rest)
+
+    module _ (db : Database) (m : ℕ) (s : Search) (j : Stands texts v db m saved choices now None s) where
+      abbrev back : ComesBackTo texts db m s older now w t k (first ∷ others_left)
       back = comes_back_to db m s (n ∷ numbers_left v rest) next j
 
-      pub high_stack : height ≡ length older
-      high_stack = high ∙ sym (length-map others (left_at texts v))
+      -- the world is ready for it
+      pub begins_ready : IsReady texts w.0
+      begins_ready = ready texts db m s older now w t k first others_left back
 
-      module _ (new : Value Contents) (b : Begun) (comes : ClauseComes texts w new t height k kept b) (fewer : List (Value Contents)) (after : List Alternatives) (steps : ℕ) where
-        abbrev Came : Stack Contents → Type 0
-        Came st = Comes (IsBranch texts) (term_in texts) steps (engine db m st new (goes_to b)) s
+      pub begins_goal : t < length w.0.heap.terms
+      begins_goal = goal_there texts db m s older now w t k first others_left back
 
-        -- and these choices are left
-        pub arrives_left : AreLeft t rest k w others (open_choices fewer after) → Arrives steps texts v db m fewer after new (goes_to b) s
-        arrives_left (inl l) =
-            subst Came (sym (ap (map (left_at texts v)) l.1))
-            (comes_without texts db m s older now w t k (as_clause texts v.contents n) (clauses (numbers_left v rest)) back height high_stack kept (content_is texts v n kept got) new b comes steps
-            (ap clauses (none_left v rest l.0)))
-        arrives_left (inr e) =
-            subst Came (sym (ap (map (left_at texts v)) e))
-            (comes_with_others texts db m s older now w t k (as_clause texts v.contents n) (clauses (numbers_left v rest)) back height high_stack kept (content_is texts v n kept got) new b comes steps)
+      pub begins_rest : k < length w.1
+      begins_rest = rest_there texts db m s older now w t k first others_left back
+
+      module _ (kept : ClauseValue) (got : slice_get v.contents n ≡ Some kept) (height : ℕ) (high : height ≡ length others) where
+        parts : first.parts ≡ as_parts texts kept
+        parts = content_is texts v n kept got
+
+        high_stack : height ≡ length older
+        high_stack = high ∙ sym (length-map others (left_at texts v))
+
+        -- what becomes of it, with the choices that are left
+        module _ (new later : Value Contents) (same : later ≡ new) (b : Begun) (comes : ClauseComes texts w new t height k kept b) (fewer : List (Value Contents))
+            (after : List Alternatives) (steps : ℕ) where
+          abbrev Came : Stack Contents → Type 0
+          Came st = Comes (IsBranch texts) (term_in texts) steps (engine db m st later (goes_to b)) s
+
+          abbrev came_later : (st : Stack Contents) → Comes (IsBranch texts) (term_in texts) steps (engine db m st new (goes_to b)) s → Came st
+          came_later st a = subst (λ (x : Value Contents). Comes (IsBranch texts) (term_in texts) steps (engine db m st x (goes_to b)) s) (sym same) a
+
+          pub arrives_left : AreLeft t rest k w others (open_choices fewer after) → Arrives steps texts v db m fewer after later (goes_to b) s
+          arrives_left (inl l) =
+              subst Came (sym (ap (map (left_at texts v)) l.1))
+              (came_later older (comes_without texts db m s older now w t k first others_left back height high_stack kept parts new b comes steps
+              (ap clauses (none_left v rest l.0))))
+          arrives_left (inr e) =
+              subst Came (sym (ap (map (left_at texts v)) e))
+              (came_later ((w, Clauses t others_left k) ∷ older) (comes_with_others texts db m s older now w t k first others_left back height high_stack kept parts new b comes steps))
+
+        -- why the query stops while it is settled
+        pub fault_stops : (why : StoreFault) (budget pivots : ℕ) → budget ≡ pivots
+            → ((pair : Pair) → why ≡ fault.Overflow pair → OfClause texts w t height k kept (λ st p. MayRefuse st p pair))
+            → ((x : ℕ) → why ≡ fault.Pivots x → (x ≡ budget) × OfClause texts w t height k kept (λ st p. MayTake st p x)) → FaultStops pivots why s
+        fault_stops (fault.Overflow pair) budget pivots e o q = λ budgets b.
+            refused texts db m s older now w t k first others_left back height high_stack kept parts pair (o pair refl) budgets
+        fault_stops (fault.Pivots x) budget pivots e o q = λ budgets b.
+            taken texts db m s older now w t k first others_left back height high_stack kept parts x (q x refl).1 budgets (b ∙ sym e ∙ sym (q x refl).0)
+        fault_stops fault.NoMemory budget pivots e o q = tt
 
     -- fewer branches and choices wait
     pub fewer_wait : (fewer : List (Value Contents)) (after : List Alternatives) → AreLeft t rest k w others (open_choices fewer after)
