@@ -37,7 +37,6 @@ fault_after old new NoMemory s e f = tt
 
 -- ---- the engine
 
-
 module _ (texts : List Text) (v : Program) where
   module _ (old new : World) (lists more : ContinuationsValue Cell) (before after : List Alternatives) where
     -- with the same choices it stands for the same searches, whatever the world is now

@@ -1,6 +1,6 @@
 -- A goal that calls the clauses of a procedure, and what the search comes to then.
 use Rattle.std.proofs.Common.{◌≡◌, ℕ, suc, ◌<◌, List, [], ◌∷◌, ◌++◌, length, Option, None, Some, Bool, true, false, refl, sym, ap, ap₂, ◌∙◌, subst, map, inr}
-use Rattle.std.specs.Prelude.{All}
+use Rattle.std.specs.Prelude.{All, is_none}
 use Rattle.std.specs.Option.{option_map}
 use Rattle.std.proofs.lemmas.Option.{none-some}
 use Rattle.spec_lists.specs.Texts.{Text}
@@ -50,6 +50,14 @@ known_row i (Some q) kind all e f = ap (λ (cs : List Clause). Calls cs) f
 unknown_row : (i : Indicator) (o : Option Procedure) → option_map (λ p. p.kind) o ≡ None → calls i o ≡ Raises (existence_error i)
 unknown_row i None e = refl
 unknown_row i (Some q) e = cc
+
+pub none_known : {A : Type 0} (o : Option A) → is_none o ≡ true → o ≡ None
+none_known None e = refl
+none_known (Some x) e = cc
+
+pub some_known : {A : Type 0} (o : Option A) → is_none o ≡ false → (x : A) × (o ≡ Some x)
+some_known None e = cc
+some_known (Some x) e = (x, refl)
 
 -- ---- a goal that calls a predicate
 

@@ -153,7 +153,7 @@ leave_untried-requires-clause-marked c =
     marked_then (goal.at.leave_untried-requires-clause-marked c).After-retry c.begin_clause.new.world c.begin_clause.new.lists c.in-Ok.ensures.saved c.in-Ok.ensures.lists
 
 pub leave_untried-requires-clause-newest : goal.leave_untried-requires-clause-newest
-leave_untried-requires-clause-newest c = (c.args.goal, c.new.result, c.args.rest, c.retry.ensures.contents.0, c.retry.ensures.contents.2)
+leave_untried-requires-clause-newest c = (c.args.goal, c.new.result, c.args.rest, (c.retry.ensures.contents.0, c.retry.ensures.contents.2))
 
 pub returns-in-Goes-clause-comes : goal.returns-in-Goes-clause-comes
 returns-in-Goes-clause-comes c = λ steps db n s j.
@@ -270,7 +270,7 @@ returns-in-Err-clause-stops c = λ db n s j.
     c.step.new.walk c.in-Some.number c.in-Some.ensures.some db n s j c.clause-clause.result.now (kept_is (goal.at.returns-in-Err-clause-stops c).After-clause-clause)
     (c.height-height.result - 1) (high (goal.at.returns-in-Err-clause-stops c).After-height-height)
     c.in-Err.fault c.retry.new.world.first.store.pivots c.args.world.now.first.store.pivots (same_exchanges r)
-    (λ pair e. c.in-Err.ensures.overflow pair (c.in-Err.is ∙ ap (λ (f : StoreFault). Err f) e)) (λ m e. c.in-Err.ensures.pivots m (c.in-Err.is ∙ ap (λ (f : StoreFault). Err f) e))
+    (λ pair e. c.in-Err.ensures.overflow pair (ap (λ (f : StoreFault). Err f) e)) (λ m e. c.in-Err.ensures.pivots m (ap (λ (f : StoreFault). Err f) e))
 
 pub returns-in-Err-clause-marked : goal.returns-in-Err-clause-marked
 returns-in-Err-clause-marked c =
