@@ -61,14 +61,14 @@ module _ (E : Type 0) (text : E → Text) (value : E → Builtin) (n : ℕ) wher
   found_none : (name : Text) (es : List E) → find (test name) es ≡ None → (rows : List Row) → list_all (covered es) rows ≡ true
       → find (is_of (indicator name n)) rows ≡ None
   found_none name es none [] all = refl
-  found_none name es none (r ∷ rows) all = go (is_of (indicator name n) r) refl
+  found_none name es none (r ∷ rows) all = go (is_of (indicator name n) r) refl (found_none name es none rows each.1)
     where
       each : (covered es r ≡ true) × (list_all (covered es) rows ≡ true)
       each = both_are (covered es r) (list_all (covered es) rows) all
 
-      go : (b : Bool) → is_of (indicator name n) r ≡ b → cond b (Some r) (find (is_of (indicator name n)) rows) ≡ None
-      go true k = absurd (uncovered name es none r each.0 k)
-      go false k = found_none name es none rows each.1
+      go : (b : Bool) → is_of (indicator name n) r ≡ b → find (is_of (indicator name n)) rows ≡ None → cond b (Some r) (find (is_of (indicator name n)) rows) ≡ None
+      go true k behind = absurd (uncovered name es none r each.0 k)
+      go false k behind = behind
 
   -- what is found in the list is what the table has
   pub found : (name : Text) (r : Option Builtin) (es : List E) → IsFirst (test name) value es r
@@ -90,7 +90,7 @@ all_small = refl
 
 none_past : (name : Text) (n : ℕ) → 9 ≤ n → (rows : List Row) → list_all small rows ≡ true → find (is_of (indicator name n)) rows ≡ None
 none_past name n past [] all = refl
-none_past name n past (r ∷ rows) all = go (is_of (indicator name n) r) refl
+none_past name n past (r ∷ rows) all = go (is_of (indicator name n) r) refl (none_past name n past rows each.1)
   where
     each : (small r ≡ true) × (list_all small rows ≡ true)
     each = both_are (small r) (list_all small rows) all
@@ -98,9 +98,9 @@ none_past name n past (r ∷ rows) all = go (is_of (indicator name n) r) refl
     few : r.indicator.arity - 8 ≡ 0
     few = nat_eq-same (r.indicator.arity - 8) 0 each.0
 
-    go : (b : Bool) → is_of (indicator name n) r ≡ b → cond b (Some r) (find (is_of (indicator name n)) rows) ≡ None
-    go true k = (let same : r.indicator.arity ≡ n = same_arity r.indicator (indicator name n) k in absurd (omega (arith, few, same, past)))
-    go false k = none_past name n past rows each.1
+    go : (b : Bool) → is_of (indicator name n) r ≡ b → find (is_of (indicator name n)) rows ≡ None → cond b (Some r) (find (is_of (indicator name n)) rows) ≡ None
+    go true k behind = (let same : r.indicator.arity ≡ n = same_arity r.indicator (indicator name n) k in absurd (omega (arith, few, same, past)))
+    go false k behind = behind
 
 -- with more arguments there is none
 pub none_other : (name : Text) (n : ℕ) → 9 ≤ n → None ≡ builtin_of (indicator name n)
