@@ -1,6 +1,6 @@
 -- A goal that calls the clauses of a procedure, and what the search comes to then.
 use Rattle.std.proofs.Common.{◌≡◌, ℕ, suc, ◌<◌, List, [], ◌∷◌, ◌++◌, length, Option, None, Some, Bool, true, false, refl, sym, ap, ap₂, ◌∙◌, subst, map, inr}
-use Rattle.std.specs.Prelude.{All, is_none}
+use Rattle.std.specs.Prelude.{All, is_some, not}
 use Rattle.std.specs.Option.{option_map}
 use Rattle.std.proofs.lemmas.Option.{none-some}
 use Rattle.spec_lists.specs.Texts.{Text}
@@ -51,13 +51,15 @@ unknown_row : (i : Indicator) (o : Option Procedure) → option_map (λ p. p.kin
 unknown_row i None e = refl
 unknown_row i (Some q) e = cc
 
-pub none_known : {A : Type 0} (o : Option A) → is_none o ≡ true → o ≡ None
-none_known None e = refl
-none_known (Some x) e = cc
+pub none_known : {A : Type 0} (o : Option A) (none : Bool) → is_some o ≡ not none → none ≡ true → o ≡ None
+none_known None none e f = refl
+none_known (Some x) true e f = cc
+none_known (Some x) false e f = cc
 
-pub some_known : {A : Type 0} (o : Option A) → is_none o ≡ false → (x : A) × (o ≡ Some x)
-some_known None e = cc
-some_known (Some x) e = (x, refl)
+pub some_known : {A : Type 0} (o : Option A) (none : Bool) → is_some o ≡ not none → none ≡ false → (x : A) × (o ≡ Some x)
+some_known None true e f = cc
+some_known None false e f = cc
+some_known (Some x) none e f = (x, refl)
 
 -- ---- a goal that calls a predicate
 

@@ -20,7 +20,7 @@ returns-then-is_none-clause-row c = λ texts p behind g i.
     raises texts c.args.clauses.now (saved_values c.args.world.now.first c.args.world.now.second.saved) c.args.choices.now (value c.args.world.now.first c.args.world.now.second.now)
     c.args.pred c.args.goal c.args.rest p behind g i
     (c.calls_read_the_database.ensures.kind texts i.different c.args.pred i.name c.args.clauses.now i.program i.operators
-    ∙ ap (option_map as_kind) (sym c.status_of.ensures ∙ none_known c.status_of.result (sym c.is_none.ensures ∙ c.if-is_none.true)))
+    ∙ ap (option_map as_kind) (sym c.status_of.ensures ∙ none_known c.status_of.result c.is_none.result c.is_none.ensures c.if-is_none.true))
 
 pub returns-clause-row : goal.returns-clause-row
 returns-clause-row c = λ texts p behind g i.
@@ -28,7 +28,7 @@ returns-clause-row c = λ texts p behind g i.
     let saved = saved_values c.args.world.now.first c.args.world.now.second.saved in
     let now = value c.args.world.now.first c.args.world.now.second.now in
     let more = saved_values c.push.new.world.first c.push.new.world.second.saved in
-    let kind = some_known c.status_of.result (sym c.is_none.ensures ∙ c.if-is_none.false) in
+    let kind = some_known c.status_of.result c.is_none.result c.is_none.ensures c.if-is_none.false in
     let called = clauses_of c.args.pred (database v.procedures) in
     subst (λ (u : Program). CallBecomes texts (stack texts u more c.push.new.self) p behind g) (sym c.walk-walk.ensures.same)
     (becomes texts v saved c.args.choices.now now c.args.pred c.args.goal c.args.rest p behind g i (as_kind kind.0)
