@@ -38,7 +38,7 @@ use Rattle.cq_begin.specs.declared.beginning.Begun.{Begun}
 use Rattle.cq_begin.specs.Begun.{goes_to}
 use Rattle.cq_begin.specs.Calls.{ClauseComes, OfClause}
 use Rattle.cq_begin.specs.Stops.{FaultStops, waiting_in}
-use Rattle.cq_calls.specs.Trying.{HasLeft, Leaves, gone, stays}
+use Rattle.cq_calls.specs.Trying.{IsGone, Leaves, gone, stays}
 use Rattle.cq_calls.proofs.Turns.{ComesBackTo, ready, goal_there, rest_there, comes_with_others, comes_without, refused, taken, came_past, older-all}
 
 abbrev pub Opened : Type 0
@@ -66,6 +66,16 @@ same-first x y xs ys e = cc
 
 same-others : {A : Type 0} (x y : A) (xs ys : List A) → x ∷ xs ≡ y ∷ ys → xs ≡ ys
 same-others x y xs ys e = cc
+
+-- the newest of the choices of before was changed again, or is gone
+pub newest_on : {first old new : List Alternatives} {x y : Alternatives} → (c : Alternatives) × (older : List Alternatives) × (old ≡ c ∷ older) × (new ≡ y ∷ older)
+    → (c : Alternatives) × (older : List Alternatives) × (first ≡ c ∷ older) × (old ≡ x ∷ older)
+    → (c : Alternatives) × (older : List Alternatives) × (first ≡ c ∷ older) × (new ≡ y ∷ older)
+newest_on {x = x} {y = y} a b = (b.0, b.1, b.2, a.3 ∙ ap (λ (l : List Alternatives). y ∷ l) (same-others a.0 x a.1 b.1 (sym a.2 ∙ b.3)))
+
+pub gone_on : {first old new : List Alternatives} {x : Alternatives} → IsGone old new → (c : Alternatives) × (older : List Alternatives) × (first ≡ c ∷ older) × (old ≡ x ∷ older)
+    → IsGone first new
+gone_on {new = new} {x = x} a b = (b.0, b.2 ∙ ap (λ (l : List Alternatives). b.0 ∷ l) (sym (same-others a.0 x new b.1 (sym a.1 ∙ b.3))))
 
 -- ---- what is left of the newest choice
 

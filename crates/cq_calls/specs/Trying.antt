@@ -17,6 +17,10 @@ HasLeft goal walk rest choices = (older : List Alternatives) × (choices ≡ Cla
 abbrev pub IsOfCall : List Alternatives → Type 0
 IsOfCall choices = (goal : ℕ) × (walk : Walk) × (rest : ℕ) × HasLeft goal walk rest choices
 
+-- the newest choice is gone
+abbrev pub IsGone : List Alternatives → List Alternatives → Type 0
+IsGone old new = (c : Alternatives) × (old ≡ c ∷ new)
+
 -- Of the newest choice's clauses these are left to try. Without any the choice is gone.
 pub data Leaves (goal : ℕ) (walk : Walk) (rest : ℕ) (old new : List (Value Contents × Alternatives)) : Type 0 where
   gone : {c : Value Contents × Alternatives} → HasNoneLeft true walk → old ≡ c ∷ new → Leaves goal walk rest old new
@@ -31,8 +35,9 @@ goes_on (Goes k) = Some k
 goes_on (Pruned walk) = None
 goes_on Ended = None
 
--- a fact of the clauses that are left, where a branch is pruned
-abbrev pub IfPruned : (Walk → Type 0) → Tried → Type 0
-IfPruned P (Goes k) = ⊤
-IfPruned P (Pruned walk) = P walk
-IfPruned P Ended = ⊤
+-- where a branch is pruned the choice has the clauses that are left, and where there was none it is gone
+abbrev pub IsTried : ℕ → ℕ → List Alternatives → List Alternatives → Tried → Type 0
+IsTried goal rest old new (Goes k) = ⊤
+IsTried goal rest old new (Pruned walk) =
+    (c : Alternatives) × (older : List Alternatives) × (old ≡ c ∷ older) × (new ≡ Clauses goal walk rest ∷ older)
+IsTried goal rest old new Ended = IsGone old new

@@ -1,9 +1,9 @@
 // The clauses of a call, tried in order.
 
-ghost use Rattle.std.specs.Prelude.{◌≡◌, ◌<◌, ◌∷◌, None, IfOk, IfErr, OnOk, OnErr};
+ghost use Rattle.std.specs.Prelude.{◌≡◌, ◌<◌, None, IfNone, IfOk, IfErr, OnOk, OnErr};
 ghost use Rattle.cq_atoms.specs.Texts.{AreDifferent};
 ghost use Rattle.cq_begin.specs.Stops.{IsBack, ComesOn, AllStop, still_waiting};
-ghost use Rattle.cq_calls.specs.Trying.{HasLeft, IsOfCall, IfPruned, Leaves, goes_on};
+ghost use Rattle.cq_calls.specs.Trying.{HasLeft, IsGone, IsOfCall, IsTried, Leaves, goes_on};
 ghost use Rattle.cq_control.specs.Open.{AreMarked, open_choices};
 ghost use Rattle.cq_program.specs.Database.{IsProgram};
 ghost use Rattle.cq_steps.specs.Choices.{AreOpen};
@@ -50,6 +50,7 @@ pub fn try_clauses(
     ensures err { OnErr result (ComesOn atoms.now clauses.now world.old.first world.old.second choices.old
         world.new.first world.new.second choices.new None) }
     ensures stops { IfErr result (AllStop atoms.now clauses.now world.old.first world.old.second choices.old) }
+    ensures gone { IfOk result (λ k. IfNone k (IsGone choices.old choices.new)) }
     ensures fewer { OnOk result (still_waiting atoms.now clauses.now world.new.first world.new.second choices.new
         < still_waiting atoms.now clauses.now world.old.first world.old.second choices.old) }
     ensures marked { AreMarked (saved_values world.new.first world.new.second.saved) choices.new }
@@ -98,7 +99,7 @@ fn try_clause(
     ensures err { OnErr result (ComesOn atoms.now clauses.now world.old.first world.old.second choices.old
         world.new.first world.new.second choices.new None) }
     ensures stops { IfErr result (AllStop atoms.now clauses.now world.old.first world.old.second choices.old) }
-    ensures left { IfOk result (IfPruned (λ w. HasLeft goal w rest choices.new)) }
+    ensures left { IfOk result (IsTried goal rest choices.old choices.new) }
     ensures fewer { OnOk result (still_waiting atoms.now clauses.now world.new.first world.new.second choices.new
         < still_waiting atoms.now clauses.now world.old.first world.old.second choices.old) }
     ensures marked { AreMarked (saved_values world.new.first world.new.second.saved) choices.new }

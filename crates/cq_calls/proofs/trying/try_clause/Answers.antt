@@ -49,6 +49,14 @@ returns-in_default-clause-comes c = λ steps db n s j.
     (value c.args.world.now.first c.args.world.now.second.now) later c.args.goal c.args.rest c.args.walk (open_choices fewer c.back.new.self)
     (went_past (goal.at.returns-in_default-clause-comes c).After-back) db n s fewer c.back.new.self later steps c.in_default.ensures.none refl j
 
+pub returns-in_default-clause-left : goal.returns-in_default-clause-left
+returns-in_default-clause-left c =
+    let newest = Clauses c.args.goal c.args.walk c.args.rest in (
+      newest,
+      newest_gone c.back.result c.args.choices.now c.back.new.self c.requires.newest.0 newest (λ (x : Alternatives). c.args.choices.now ≡ x ∷ c.back.new.self)
+          c.back.ensures.none c.back.ensures.contents c.back.ensures.contents c.requires.newest.1,
+    )
+
 pub returns-in_default-clause-fewer : goal.returns-in_default-clause-fewer
 returns-in_default-clause-fewer c =
     let later = value c.back.new.world.first c.back.new.world.second.now in
@@ -221,7 +229,8 @@ returns-in-Pruned-clause-comes c = λ steps db n s j.
     (leaves_others x marked))
 
 pub returns-in-Pruned-clause-left : goal.returns-in-Pruned-clause-left
-returns-in-Pruned-clause-left c = (c.retry.ensures.contents.0, put_back (goal.at.returns-in-Pruned-clause-left c).After-replace_at)
+returns-in-Pruned-clause-left c =
+    (c.retry.result, c.retry.ensures.contents.0, c.retry.ensures.contents.1, put_back (goal.at.returns-in-Pruned-clause-left c).After-replace_at)
 
 pub returns-in-Pruned-clause-fewer : goal.returns-in-Pruned-clause-fewer
 returns-in-Pruned-clause-fewer c =
