@@ -1,6 +1,6 @@
 -- A goal that calls the clauses of a procedure, and what the search comes to then.
-use Rattle.std.proofs.Common.{◌≡◌, ℕ, suc, ◌<◌, List, [], ◌∷◌, ◌++◌, length, Option, None, Some, Bool, true, false, refl, sym, ap, ap₂, ◌∙◌, subst, map, inr}
-use Rattle.std.specs.Prelude.{All, is_some, not}
+use Rattle.std.proofs.Common.{◌≡◌, ℕ, suc, ◌<◌, List, [], ◌∷◌, ◌++◌, Option, None, Some, Bool, true, false, refl, sym, ap, ap₂, ◌∙◌, subst, map, inr}
+use Rattle.std.specs.Prelude.{is_some, not}
 use Rattle.std.specs.Option.{option_map}
 use Rattle.std.proofs.lemmas.Option.{none-some}
 use Rattle.spec_lists.specs.Texts.{Text}

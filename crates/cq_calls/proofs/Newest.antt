@@ -1,5 +1,5 @@
 -- The newest choice, which is of a call, as its clauses are tried.
-use Rattle.std.proofs.Common.{◌≡◌, ◌⊎◌, inl, inr, ℕ, suc, ◌+◌, ◌<◌, List, [], ◌∷◌, ◌++◌, length, Option, None, Some, refl, sym, ap, ap₂, ◌∙◌, subst, map, arith, true, length-append}
+use Rattle.std.proofs.Common.{◌≡◌, ◌⊎◌, inl, inr, ℕ, suc, ◌<◌, List, [], ◌∷◌, ◌++◌, length, None, Some, refl, sym, ap, ap₂, ◌∙◌, subst, map, arith, true, length-append}
 use Rattle.std.specs.Prelude.{All, reverse, slice_get}
 use Rattle.std.specs.List.{AllByRecursion, zip}
 use Rattle.std.proofs.lemmas.List.{length-map, length-reverse}
@@ -11,12 +11,11 @@ use Rattle.spec_search.specs.Search.{Search}
 use Rattle.cq_clauses.specs.Selected.{key_at}
 use Rattle.cq_clauses.specs.Walks.{IsWalk, HasNoneLeft, left}
 use Rattle.cq_clauses.specs.declared.walk.Walk.{Walk}
-use Rattle.cq_control.specs.Heights.{total}
 use Rattle.cq_control.specs.Open.{AreMarked, last, open_choices}
 use Rattle.cq_frac.specs.declared.Pair.{Pair}
 use Rattle.cq_linear.specs.declared.store.StoreFault.{StoreFault}
 use Rattle.cq_linear.specs.declared.store.StoreFault.TheVariants as fault
-use Rattle.cq_program.specs.Database.{Program, as_clause, as_parts, content_at}
+use Rattle.cq_program.specs.Database.{Program, as_clause, as_parts}
 use Rattle.cq_program.specs.Keys.{key_of}
 use Rattle.cq_settle.specs.Settled.{MayRefuse, MayTake}
 use Rattle.cq_stored.specs.StoredValue.{ClauseValue}
@@ -26,7 +25,7 @@ use Rattle.cq_world.specs.Rest.{IsReady}
 use Rattle.cq_world.specs.Worlds.{saved_of}
 use Rattle.cq_world.specs.declared.world.World.{World}
 use Rattle.spec_machine.specs.declared.cell.Cell.{Cell}
-use Rattle.spec_machine.specs.Cells.{Clauses, Left, Stack, Value, size}
+use Rattle.spec_machine.specs.Cells.{Clauses, Stack, Value}
 use Rattle.spec_machine.specs.Coming.{Comes}
 use Rattle.spec_machine.specs.Standing.{engine, IsStanding}
 use Rattle.cq_steps.specs.Choices.{AreOpen, CanBeTried}

@@ -1,9 +1,9 @@
 -- What an engine comes to as it begins the next clause of its newest choice.
-use Rattle.std.proofs.Common.{◌≡◌, ℕ, zero, suc, ◌+◌, ◌<◌, ◌≤◌, List, [], ◌∷◌, ◌++◌, length, Option, None, Some, refl, sym, ap, ◌∙◌, subst, map, arith, inl}
+use Rattle.std.proofs.Common.{◌≡◌, ℕ, ◌<◌, List, [], ◌∷◌, ◌++◌, length, Option, None, Some, sym, ap, ◌∙◌, subst, arith, inl}
 use Rattle.spec_lists.specs.Texts.{Text}
 use Rattle.spec_syntax.specs.Trees.{Tree}
-use Rattle.spec_branch.specs.Branch.{State, Branch, Pending}
-use Rattle.spec_search.specs.Control.{clause_child, clause_items, clause_state, clause_work}
+use Rattle.spec_branch.specs.Branch.{Branch}
+use Rattle.spec_search.specs.Control.{clause_items, clause_state, clause_work}
 use Rattle.spec_search.specs.Database.{Database, Clause}
 use Rattle.spec_search.specs.Replies.{Place}
 use Rattle.spec_search.specs.Search.{Search, look_at, Settling, is_selecting}
@@ -19,7 +19,7 @@ use Rattle.cq_settle.specs.Settled.{MayRefuse, MayTake}
 use Rattle.cq_stored.specs.StoredValue.{ClauseValue}
 use Rattle.cq_world.specs.Contents.{Contents}
 use Rattle.cq_world.specs.Rest.{IsReady}
-use Rattle.spec_machine.specs.Cells.{Fits, Clauses, Stack, Value, below, size}
+use Rattle.spec_machine.specs.Cells.{Fits, Clauses, Stack, Value, size}
 use Rattle.spec_machine.specs.Coming.{at_once, Comes}
 use Rattle.spec_machine.specs.Coming as coming
 use Rattle.spec_machine.specs.Standing.{engine, IsPlace, AreWaiting, IsStanding}
@@ -28,9 +28,9 @@ use Rattle.spec_machine.proofs.Passed.{clause_begun}
 use Rattle.cq_steps.specs.Worlds.{IsBranch, term_in}
 use Rattle.cq_steps.proofs.Reading.{read_live}
 use Rattle.cq_begin.specs.declared.beginning.Begun.{Begun}
-use Rattle.cq_begin.specs.Begun.{IsPlacedAs, goes_to}
+use Rattle.cq_begin.specs.Begun.{goes_to}
 use Rattle.cq_begin.specs.Calls.{IsCallOf, OfClause, ClauseComes}
-use Rattle.cq_begin.specs.Stops.{ComesToStop, waiting_in}
+use Rattle.cq_begin.specs.Stops.{ComesToStop}
 use Rattle.cq_begin.proofs.Stopping.{refuses, takes}
 
 -- the choices below the newest are those that are older than it

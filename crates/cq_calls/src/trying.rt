@@ -114,14 +114,23 @@ fn try_clause(
     choices.retry(world, Alternatives::Clauses(goal, Untried::new(walk), rest));
     let clause = clauses.content(number).clause();
     let height = choices.height() - 1;
-    match begin_clause(&mut world.first, &mut world.second, atoms, clause, goal, height, rest) {
+    match begin_clause(
+        &mut world.first,
+        &mut world.second,
+        atoms,
+        clause,
+        goal,
+        height,
+        rest,
+    ) {
         Ok(begun) => match begun {
             Begun::Goes(first) => {
                 leave_untried(world, choices, goal, left, rest);
                 Ok(Tried::Goes(first))
             }
             Begun::Pruned => {
-                choices.replace_at(height, Alternatives::Clauses(goal, Untried::new(left), rest));
+                let others = Alternatives::Clauses(goal, Untried::new(left), rest);
+                choices.replace_at(height, others);
                 Ok(Tried::Pruned(left))
             }
         },
@@ -149,6 +158,7 @@ fn leave_untried(
     if left.is_empty() {
         choices.cut(world, height);
     } else {
-        choices.replace_at(height, Alternatives::Clauses(goal, Untried::new(left), rest));
+        let others = Alternatives::Clauses(goal, Untried::new(left), rest);
+        choices.replace_at(height, others);
     }
 }

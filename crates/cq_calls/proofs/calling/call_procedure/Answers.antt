@@ -1,4 +1,4 @@
-use Rattle.std.proofs.Common.{◌≡◌, ◌∷◌, List, ℕ, Option, sym, ap, ◌∙◌, subst}
+use Rattle.std.proofs.Common.{◌∷◌, Option, sym, ap, ◌∙◌, subst}
 use Rattle.std.specs.Option.{option_map}
 use Rattle.cq_clauses.specs.Database.{clauses_of, database}
 use Rattle.cq_clauses.specs.Selected.{key_at, matching}

@@ -1,6 +1,5 @@
-use Rattle.std.proofs.Common.{◌≡◌, ◌∷◌, [], List, ℕ, ◌-◌, length, Some, None, refl, sym, ap, ap₂, ◌∙◌, arith, subst}
+use Rattle.std.proofs.Common.{◌≡◌, ◌∷◌, List, ◌-◌, length, Some, refl, sym, ap, ap₂, ◌∙◌, arith}
 use Rattle.std.specs.Prelude.{slice_get, Err}
-use Rattle.std.specs.List.{zip}
 use Rattle.cq_clauses.specs.declared.walk.Walk.{Walk}
 use Rattle.cq_control.specs.Items.{ContinuationsValue}
 use Rattle.cq_control.specs.Open.{AreMarked, open_choices}
@@ -122,8 +121,14 @@ module _ (c : After-retry) where
 
 high : (c : After-height-height) → c.height-height.result - 1 ≡ length c.retry.ensures.open.0
 high c =
-    omega (arith, c.height-height.ensures, ap length c.retry.ensures.contents.2, ap length c.retry.ensures.contents.1, ap length c.retry.ensures.open.1,
-    length-opened (saved_values c.args.world.now.first c.args.world.now.second.saved) c.args.choices.now c.requires.marked)
+    omega (
+      arith,
+      c.height-height.ensures,
+      ap length c.retry.ensures.contents.2,
+      ap length c.retry.ensures.contents.1,
+      ap length c.retry.ensures.open.1,
+      length-opened (saved_values c.args.world.now.first c.args.world.now.second.saved) c.args.choices.now c.requires.marked,
+    )
 
 kept_is : (c : After-clause-clause) → slice_get c.args.clauses.now.contents c.in-Some.number ≡ Some c.clause-clause.result.now
 kept_is c = c.content.ensures ∙ ap (λ (x : ClauseValue). Some x) (sym c.clause-clause.ensures)

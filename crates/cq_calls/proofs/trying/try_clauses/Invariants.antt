@@ -1,4 +1,4 @@
-use Rattle.std.proofs.Common.{◌≡◌, ◌≤◌, ◌∷◌, ℕ, List}
+use Rattle.std.proofs.Common.{◌≡◌, ◌≤◌, ◌∷◌, List}
 use Rattle.cq_control.specs.Open.{AreMarked}
 use Rattle.std.specs.Prelude.{None}
 use Rattle.cq_begin.specs.Stops.{ComesOn, still_waiting}
