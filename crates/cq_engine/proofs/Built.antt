@@ -93,9 +93,6 @@ stands_on old new b = λ db n current s j.
 pub stands_then : (old mid new : Machine) → StillStands old mid → StillStands mid new → StillStands old new
 stands_then old mid new f g = λ db n current s j. g db n current s (f db n current s j)
 
-pub program_then : (old mid new : Machine) → HasSameProgram old mid → HasSameProgram mid new → HasSameProgram old new
-program_then old mid new f g = record { atoms = g.atoms ∙ f.atoms; names = g.names ∙ f.names; ops = g.ops ∙ f.ops; clauses = g.clauses ∙ f.clauses }
-
 -- what was read is read on
 pub reads_on : (old new : Machine) (st : State) (id : ℕ) (t : Tree) → HasBuilt old new → ReadsAs old.atoms (now old).0 st id t → ReadsAs new.atoms (now new).0 st id t
 reads_on old new st id t b r = subst (λ (a : List Text). ReadsAs a (now new).0 st id t) (sym b.program.atoms) (b.grown.terms id t r.0, r.1)
