@@ -559,7 +559,11 @@ fn value(alloc: Global, text: &[u8]) -> Result<String, AllocError> {
         return String::from_str(alloc, "none");
     };
     match token.kind {
-        Kind::Quoted | Kind::Codes => {
+        Kind::Quoted => {
+            let meant = quoted_text(alloc, text, token.span)?;
+            format!(in alloc; "text {meant}")
+        }
+        Kind::Codes => {
             let meant = quoted_text(alloc, text, token.span)?;
             format!(in alloc; "text {meant}")
         }
