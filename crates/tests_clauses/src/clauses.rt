@@ -280,15 +280,13 @@ fn finds(
 /// Clauses of `a/1` with keys of each kind, numbered from 1.
 fn add_keys(clauses: &mut Clauses<Fact>, a: Atom, b: Atom) -> Result<(), AllocError> {
     let keys = [
-        Some(Key::Name(a)),
-        None,
-        Some(Key::Name(b)),
-        Some(Key::Number(Frac::one())),
-        Some(Key::Compound(b, 1)),
+        (1, Some(Key::Name(a))),
+        (2, None),
+        (3, Some(Key::Name(b))),
+        (4, Some(Key::Number(Frac::one()))),
+        (5, Some(Key::Compound(b, 1))),
     ];
-    let mut number = 0;
-    for key in keys {
-        number += 1;
+    for (number, key) in keys {
         add(clauses, a, key, number)?;
     }
     Ok(())
