@@ -1,0 +1,5 @@
+mod Values
+mod Growing
+mod Equating
+mod Asleep
+mod Curly
