@@ -1,12 +1,12 @@
 // The row of constraints that are told.
 
-ghost use Rattle.std.specs.Prelude.{◌≡◌, ◌<◌, List, Option, length, codes, IfOk, IfErr, OnOk, OnErr};
+ghost use Rattle.std.specs.Prelude.{◌≡◌, ◌<◌, List, Option, Some, length, slice_get, codes, IfOk, IfErr, OnOk, OnErr};
 ghost use Rattle.spec_built.specs.Built.{compound1};
 ghost use Rattle.spec_lists.specs.Texts.{Text};
 ghost use Rattle.spec_syntax.specs.Trees.{Tree};
 ghost use Rattle.spec_search.specs.Constraints.{curly_row};
 ghost use Rattle.spec_search.specs.Replies.{Reply, unless_error};
-ghost use Rattle.cq_atoms.specs.Texts.{AreDifferent, text_of};
+ghost use Rattle.cq_atoms.specs.Texts.{AreDifferent};
 ghost use Rattle.cq_built.specs.Errors.{CanBeRaised};
 ghost use Rattle.cq_built.specs.Growing.{Grows};
 ghost use Rattle.cq_control.specs.Open.{AreMarked};
@@ -48,7 +48,7 @@ pub fn constrain(
 ) -> Result<Begun, RelationFault>
     requires ready { IsReady atoms.now (now_of world.old.first) }
     requires different { AreDifferent atoms.now }
-    requires curly { text_of atoms.now curly ≡ codes "{}" }
+    requires curly { slice_get atoms.now curly ≡ Some (codes "{}") }
     requires constraint { constraint < length world.old.first.heap.now.terms }
     requires rest { rest < length world.old.second.now }
     requires marked { AreMarked (saved_values world.old.first world.old.second.saved) choices.old }
@@ -111,7 +111,7 @@ fn goals_of(
     left: TermId,
     right: TermId,
 ) -> Result<(TermId, TermId), AllocError>
-    requires curly { text_of atoms.now curly ≡ codes "{}" }
+    requires curly { slice_get atoms.now curly ≡ Some (codes "{}") }
     requires left { left < length heap.old.now.terms }
     requires right { right < length heap.old.now.terms }
     requires names { KnowsTerms atoms.now heap.old.now.terms }
@@ -132,7 +132,7 @@ fn in_braces(
     curly: Atom,
     constraint: TermId,
 ) -> Result<TermId, AllocError>
-    requires curly { text_of atoms.now curly ≡ codes "{}" }
+    requires curly { slice_get atoms.now curly ≡ Some (codes "{}") }
     requires constraint { constraint < length heap.old.now.terms }
     requires names { KnowsTerms atoms.now heap.old.now.terms }
     ensures live { IfOk result (λ id. id < length heap.new.now.terms) }
