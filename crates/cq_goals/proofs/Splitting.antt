@@ -2,7 +2,7 @@
 use Rattle.std.proofs.Common.{◌≡◌, ◌≢◌, ℕ, ◌+◌, ◌<◌, ◌≤◌, List, [], ◌∷◌, ◌++◌, length, map, true, codes, Option, Some, None, refl, ap, sym, ◌∙◌, subst, arith}
 use Rattle.std.specs.Prelude.{All}
 use Rattle.std.specs.Cmp.Lexicographic.{bytes_decides}
-use Rattle.std.proofs.lemmas.List.Elements.{All-push, All-same, All-pop}
+use Rattle.std.proofs.lemmas.List.Elements.{All-cons, All-push, All-same, All-pop}
 use Rattle.spec_lists.specs.Texts.{Text}
 use Rattle.spec_lists.proofs.Prefixes.{prefix_length, prefix_same}
 use Rattle.spec_terms.specs.Term.{size, with_arguments}
@@ -93,6 +93,10 @@ pub conjunction_built : (texts : List Text) (ts us : List HeapTerm) (name left r
 conjunction_built texts ts us name left right id comma longer last =
     tree_last texts ts us (with_arguments name (map (at ts) (left ∷ right ∷ []))) id longer last
     ∙ ap (λ (f : Text). binary f (tree texts ts left) (tree texts ts right)) ((bytes_decides (text_of texts name) (codes ",")).0 comma)
+
+-- two terms that are there
+pub both_live : (ts : List HeapTerm) (left right : ℕ) → left < length ts → right < length ts → All (λ id. id < length ts) (left ∷ right ∷ [])
+both_live ts left right l r = All-cons (λ id. id < length ts) left (right ∷ []) l (All-cons (λ id. id < length ts) right [] r (λ i d m. absurd (omega (arith, m))))
 
 -- two conjunctions, one built after the other
 pub both_built : (texts : List Text) (a b c : HeapValue) → Grows texts a texts b → Grows texts b texts c → KnowsTerms texts a.now.terms → (p q r s left right : ℕ)

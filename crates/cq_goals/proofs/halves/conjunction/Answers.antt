@@ -4,7 +4,7 @@ use Rattle.spec_terms.specs.Term.{with_arguments}
 use Rattle.cq_term.specs.Meaning.{at}
 use Rattle.cq_built.proofs.Growing.{grows_names, grows_term}
 use Rattle.cq_built.proofs.Trees.{over_known}
-use Rattle.cq_goals.proofs.Splitting.{conjunction_built}
+use Rattle.cq_goals.proofs.Splitting.{conjunction_built, both_live}
 use Rattle.cq_goals.proofs.halves.conjunction.Goals as goal
 
 pub returns-in_err-id-clause-grows : goal.returns-in_err-id-clause-grows
@@ -20,5 +20,5 @@ returns-clause-grows c =
     let texts = c.args.atoms.now in
     let ts = c.args.heap.now.now.terms in
     grows_term texts texts c.args.heap.now c.compound.new.self (with_arguments c.args.name (map (at ts) (c.args.left ∷ c.args.right ∷ []))) (prefix_same texts texts refl)
-    c.in_ok-id.ensures.terms c.in_ok-id.ensures.images (λ known. over_known texts ts c.args.name (c.args.left ∷ c.args.right ∷ []) c.requires.known c.compound-requires.live known)
+    c.in_ok-id.ensures.terms c.in_ok-id.ensures.images (λ known. over_known texts ts c.args.name (c.args.left ∷ c.args.right ∷ []) c.requires.known (both_live ts c.args.left c.args.right c.requires.left c.requires.right) known)
     c.in_ok-id.ensures.saved c.in_ok-id.ensures.room
