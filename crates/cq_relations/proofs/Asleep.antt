@@ -132,11 +132,11 @@ module _ (texts : List Text) (c : Contents) (v : VarId) (goal : ℕ) (g : Tree) 
 -- ---- rows
 
 -- the term of a variable
-variable_is : (texts : List Text) (t : HeapTerm) (v : VarId) → view_of t ≡ view.Var v → named (text_of texts) t ≡ Var v.0
-variable_is texts (Var w) v e = let same : record { 0 = w } ≡ v = cc in ap (λ (x : VarId). Var x.0) same
-variable_is texts (Number q) v e = cc
-variable_is texts (Name a) v e = cc
-variable_is texts (Compound f ts) v e = cc
+pub variable_is : (t : HeapTerm) (v : VarId) → view_of t ≡ view.Var v → t ≡ Var v.0
+variable_is (Var w) v e = let same : record { 0 = w } ≡ v = cc in ap (λ (x : VarId). Var x.0) same
+variable_is (Number q) v e = cc
+variable_is (Name a) v e = cc
+variable_is (Compound f ts) v e = cc
 
 -- what is no variable is no reason to sleep
 called_instead : (texts : List Text) (t : HeapTerm) (p : Place) (g : Tree) → ((v : VarId) → view_of t ≢ view.Var v) → freeze_row p (named (text_of texts) t) g ≡ goes_on p (call_of g ∷ p.rest)
@@ -149,7 +149,7 @@ module _ (texts : List Text) (c : Contents) (lists : List (List Cell)) (variable
   pub goes_to_sleep : (v : VarId) → view_of (at c.heap.terms variable) ≡ view.Var v → IsUnbound c.heap.images v.0
       → AtBoth texts (c, lists) variable goal rest (λ choices p behind x g. Leads texts choices (with_sleeper c v goal, lists) (Some rest) p behind (freeze_row p x g))
   goes_to_sleep v e i = λ choices p behind x g place rx rg.
-      let is : x ≡ Var v.0 = sym (reads_tree texts c p.state variable x rx) ∙ variable_is texts (at c.heap.terms variable) v e in
+      let is : x ≡ Var v.0 = sym (reads_tree texts c p.state variable x rx) ∙ ap (named (text_of texts)) (variable_is (at c.heap.terms variable) v e) in
       let k = place.0.continuation in
       let later = reply.suspended p.state (Frozen (Var v.0) g) in
       let w = with_sleeper c v goal in

@@ -1,5 +1,5 @@
 -- X is E, as a goal that makes X and a number equal that was put on the heap.
-use Rattle.std.proofs.Common.{◌≡◌, ℕ, List, [], ◌∷◌, sym, ap, ◌∙◌, subst, refl}
+use Rattle.std.proofs.Common.{◌≡◌, ℕ, List, [], ◌∷◌, Option, None, sym, ap, ◌∙◌, subst, refl}
 use Rattle.spec_lists.specs.Prefixes.{IsPrefix}
 use Rattle.spec_lists.specs.Texts.{Text}
 use Rattle.spec_arithmetic.specs.Arithmetic.{evaluate}
@@ -29,7 +29,7 @@ use Rattle.cq_begin.specs.Begun.{goes_to, trees_of_pairs, AtPlaces}
 use Rattle.cq_relations.specs.declared.faults.RelationFault.TheVariants as fault
 use Rattle.cq_relations.specs.Faults.{IsRefused, IsStopped, Explains}
 use Rattle.cq_relations.specs.Goals.{AtBoth}
-use Rattle.cq_relations.proofs.Growing.{grown_terms, placed_grown}
+use Rattle.cq_relations.proofs.Growing.{grown_terms, placed_grown, back_from_any}
 use Rattle.cq_relations.proofs.Values.{value_is, value_refused}
 
 -- a reply that makes one child is why that is not settled
@@ -83,3 +83,23 @@ module _ (texts : List Text) (c : Contents) (h : Terms) (lists : List (List Cell
   has_no_value n f o = λ choices p behind x e place rx re.
       subst (λ (t : Tree). IsRefused texts c.heap.terms f (is_row p x t)) (reads_tree texts c p.state expression e re)
       (value_refused texts c.heap.terms p x (evaluate (tree texts c.heap.terms expression)) f o)
+
+-- ---- under a mark
+
+-- where the row of X is E leads to, from a world to another
+abbrev pub ValueRow : List Text → List (List Cell) → List (List Cell) → ℕ → ℕ → ℕ → Option ℕ → Contents → Contents → Type 0
+ValueRow texts lists later left expression rest current old new =
+    AtBoth texts (old, lists) left expression rest (λ choices p behind x e. Leads texts choices (new, later) current p behind (is_row p x e))
+
+module _ (texts : List Text) (lists later : List (List Cell)) (left expression rest : ℕ) where
+  pub row_from : (current : Option ℕ) (old marked ran end : Contents) → marked ≡ old → end ≡ ran → ValueRow texts lists later left expression rest current marked ran
+      → ValueRow texts lists later left expression rest current old end
+  row_from current old marked ran end m n r =
+      subst (λ (x : Contents). ValueRow texts lists later left expression rest current x end) m
+      (subst (ValueRow texts lists later left expression rest current marked) (sym n) r)
+
+  pub row_back : (old marked ran end : Contents) → marked ≡ old → ValueRow texts lists later left expression rest None marked ran
+      → ValueRow texts lists later left expression rest None old end
+  row_back old marked ran end m r =
+      subst (λ (x : Contents). ValueRow texts lists later left expression rest None x end) m
+      (λ choices p behind x e place rx re. back_from_any texts choices (ran, later) (end, later) p behind (is_row p x e) (r choices p behind x e place rx re))

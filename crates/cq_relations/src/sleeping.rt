@@ -1,19 +1,17 @@
 // Goals that sleep until a variable is bound.
 
-ghost use Rattle.std.specs.Prelude.{◌≡◌, ◌<◌, ◌≤◌, List, length, Some, IfOk, OnErr};
+ghost use Rattle.std.specs.Prelude.{◌≡◌, ◌<◌, ◌≤◌, ◌∷◌, List, length, Some, IfOk, OnErr};
 ghost use Rattle.spec_lists.specs.Texts.{Text};
 ghost use Rattle.spec_search.specs.Constraints.{freeze_row};
-ghost use Rattle.cq_term.specs.Meaning.{at};
-ghost use Rattle.cq_term.specs.Shown.{view_of};
-ghost use Rattle.cq_term.specs.declared.view.View.TheVariants as view;
+ghost use Rattle.cq_control.specs.Items.{items_at};
+ghost use Rattle.spec_machine.specs.declared.cell.Cell.TheVariants.{Call};
 ghost use Rattle.cq_world.specs.Worlds.{now_of, saved_of, room_of};
-ghost use Rattle.cq_steps.specs.Lists.{KeepsLists};
+ghost use Rattle.cq_steps.specs.Lists.{HasCells, KeepsLists};
 ghost use Rattle.cq_steps.specs.Worlds.{value, Leads};
 ghost use Rattle.cq_relations.specs.Goals.{AtBoth};
 
 use cq_attr::Susp;
 use cq_control::{Continuation, Continuations};
-use cq_frac::VarId;
 use cq_term::{TermId, View};
 use cq_world::World;
 use spec_machine::Cell;
@@ -47,8 +45,23 @@ pub fn freeze(
             Ok(rest)
         }
         _ => {
-            let k = lists.before(Cell::Call(goal), rest)?;
+            let k = call_before(lists, goal, rest)?;
             Ok(k)
         }
     }
+}
+
+/// `call` of a goal, in front of a continuation.
+fn call_before(
+    lists: &mut Continuations<Cell>,
+    goal: TermId,
+    rest: Continuation,
+) -> Result<Continuation, AllocError>
+    requires rest { rest < length lists.old.now }
+    ensures cells { IfOk result (λ k. HasCells lists.new.now k (Call goal ∷ items_at lists.old.now rest)) }
+    ensures keeps { KeepsLists lists.old.now lists.new.now }
+    ensures saved { lists.new.saved ≡ lists.old.saved }
+{
+    let k = lists.before(Cell::Call(goal), rest)?;
+    Ok(k)
 }
