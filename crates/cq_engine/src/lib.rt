@@ -1,0 +1,12 @@
+//! The steps of an engine: what a selected goal comes to, by the row of what it calls.
+#![tactic(auto)]
+
+mod control;
+mod machine;
+mod output;
+mod step;
+
+pub use control::{call, conjunction, cut, disjunction, if_then, negation};
+pub use machine::Machine;
+pub use output::{declare, write};
+pub use step::Step;
