@@ -1,5 +1,6 @@
 // What an engine is made of.
 
+use crate::names::Names;
 use cq_atoms::Atoms;
 use cq_clauses::Clauses;
 use cq_control::Choices;
@@ -16,6 +17,8 @@ pub struct Machine {
     pub choices: Choices<Alternatives>,
     /// The names of the terms.
     pub atoms: Atoms,
+    /// Those among them that rows put in front.
+    pub names: Names,
     /// The operators by which goals read and write.
     pub ops: Ops,
     /// The program's clauses.

@@ -8,6 +8,7 @@ pub returns-clause-sound : goal.returns-clause-sound
 returns-clause-sound c =
     let m = c.args.m.now in
     record {
+      known = c.requires.sound.known;
       different = c.requires.sound.different;
       names = subst (λ w. KnowsTerms m.atoms w.heap.terms) (sym c.cut.ensures.world) c.requires.sound.names;
       program = c.requires.sound.program;
