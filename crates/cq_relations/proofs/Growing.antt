@@ -12,6 +12,9 @@ use Rattle.spec_machine.specs.declared.cell.Cell.{Cell}
 use Rattle.spec_machine.specs.Cells.{Fits, Value, Stack}
 use Rattle.cq_steps.specs.Lists.{KeepsLists}
 use Rattle.cq_steps.specs.Worlds.{IsBranch, term_in, with_heap, Placed, Selected, Leads, Grown}
+use Rattle.cq_begin.specs.declared.beginning.Begun.{Begun}
+use Rattle.cq_begin.specs.declared.beginning.Begun.TheVariants.{Goes, Pruned}
+use Rattle.cq_begin.specs.Begun.{IfPruned}
 use Rattle.cq_steps.proofs.Added.{keeps_on}
 use Rattle.cq_steps.proofs.Grown.{stands_grown, grown}
 use Rattle.cq_steps.proofs.Selected.{continuation_grown}
@@ -32,6 +35,13 @@ grown_both texts a b c f g = record {
   terms = λ id t e. g.terms id t (f.terms id t e);
   lists = keeps_on a.1 b.1 c.1 f.lists g.lists;
 }
+
+-- the same world, and more continuations
+pub grown_still : (texts : List Text) (old mid : Value Contents) (later : Contents) (lists : List (List Cell)) → Grown texts old mid → later ≡ mid.0 → KeepsLists mid.1 lists
+    → Grown texts old (later, lists)
+grown_still texts old mid later lists g e keeps =
+    subst (λ (c : Contents). Grown texts old (c, lists)) (sym e)
+    (record { state = λ st i. g.state st i; terms = λ id t r. g.terms id t r; lists = keeps_on old.1 mid.1 lists g.lists keeps })
 
 -- ---- what is selected stays so
 
@@ -77,3 +87,10 @@ back_from_any texts choices now later p behind reply l = record {
         };
       });
 }
+
+-- ---- a branch that is pruned
+
+pub grown_if : (texts : List Text) (old mid : Value Contents) (later : Contents) (lists : List (List Cell)) (b : Begun) → Grown texts old mid → IfPruned b (later ≡ mid.0) → KeepsLists mid.1 lists
+    → IfPruned b (Grown texts old (later, lists))
+grown_if texts old mid later lists (Goes k) g e keeps = tt
+grown_if texts old mid later lists Pruned g e keeps = grown_still texts old mid later lists g e keeps
