@@ -5,7 +5,7 @@ use Rattle.std.proofs.lemmas.List.Elements.{filter-append}
 use Rattle.spec_lists.specs.Texts.{Text}
 use Rattle.spec_terms.specs.Term.{Var, Number, Name, Compound, named}
 use Rattle.spec_syntax.specs.Trees.{Tree}
-use Rattle.spec_branch.specs.Branch.{State, Branch, Frozen, Sleeper, no_work, read}
+use Rattle.spec_branch.specs.Branch.{State, Branch, Frozen, Sleeper, no_work}
 use Rattle.spec_branch.specs.Settling.{frozen_state, still_sleeps, state_of}
 use Rattle.spec_search.specs.Constraints.{freeze_row}
 use Rattle.spec_search.specs.Control.{call_of}
@@ -94,7 +94,7 @@ module _ (texts : List Text) (c : Contents) (v : VarId) (goal : ℕ) (g : Tree) 
   one_goal = filter-append (λ (k : Waiting). is_goal k.susp) c.attrs.waiting (waiting ∷ [])
 
   sleeps : still_sleeps (state_of st.bindings sleeper.asleep) ≡ true
-  sleeps = ap (λ (t : Tree). still_sleeps (frozen_state t (read st g))) unbound
+  sleeps = ap (λ (t : Tree). still_sleeps (frozen_state t g)) unbound
 
   ready : IsReadyAs texts (with_sleeper c v goal) after
   ready = record {

@@ -77,12 +77,13 @@ module _ (texts : List Text) (c : Contents) (h : Terms) (lists : List (List Cell
         stopped_by n f p (is_row p x e) work (row_is p x e rx re) (λ pair q. refuses pair q choices p behind there)
         (λ k q. (let t = takes k q in (t.0, t.1 choices p behind there)))
 
-  -- the expression has no value
-  pub has_no_value : (n : ℕ) (f : GoalFault) → IsOutcome texts c.heap.terms (evaluate (tree texts c.heap.terms expression)) f
-      → AtBoth texts (c, lists) left expression rest (λ choices p behind x e. Explains texts c.heap.terms n (fault.Goal f) p (is_row p x e))
-  has_no_value n f o = λ choices p behind x e place rx re.
-      subst (λ (t : Tree). IsRefused texts c.heap.terms f (is_row p x t)) (reads_tree texts c p.state expression e re)
-      (value_refused texts c.heap.terms p x (evaluate (tree texts c.heap.terms expression)) f o)
+-- the expression has no value
+pub has_no_value : (texts : List Text) (c : Contents) (lists : List (List Cell)) (left expression rest n : ℕ) (f : GoalFault)
+    → IsOutcome texts c.heap.terms (evaluate (tree texts c.heap.terms expression)) f
+    → AtBoth texts (c, lists) left expression rest (λ choices p behind x e. Explains texts c.heap.terms n (fault.Goal f) p (is_row p x e))
+has_no_value texts c lists left expression rest n f o = λ choices p behind x e place rx re.
+    subst (λ (t : Tree). IsRefused texts c.heap.terms f (is_row p x t)) (reads_tree texts c p.state expression e re)
+    (value_refused texts c.heap.terms p x (evaluate (tree texts c.heap.terms expression)) f o)
 
 -- ---- under a mark
 
