@@ -1,5 +1,7 @@
 -- Worlds to whose heap terms were added.
 use Rattle.std.proofs.Common.{◌≡◌, ℕ, List, None, refl, sym, subst, arith}
+use Rattle.std.specs.Prelude.{OnErr, Ok, Err}
+use Rattle.std.specs.declared.result.Result.{Result}
 use Rattle.spec_lists.specs.Prefixes.{IsPrefix}
 use Rattle.spec_lists.specs.Texts.{Text}
 use Rattle.spec_branch.specs.Branch.{State, Branch}
@@ -94,3 +96,8 @@ pub grown_if : (texts : List Text) (old mid : Value Contents) (later : Contents)
     → IfPruned b (Grown texts old (later, lists))
 grown_if texts old mid later lists (Goes k) g e keeps = tt
 grown_if texts old mid later lists Pruned g e keeps = grown_still texts old mid later lists g e keeps
+
+-- what holds holds after an error
+pub after_error : {A E : Type 0} (P : Type 0) (result : Result A E) → P → OnErr result P
+after_error P (Ok x) p = tt
+after_error P (Err e) p = p

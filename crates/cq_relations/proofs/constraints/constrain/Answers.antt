@@ -18,7 +18,7 @@ use Rattle.spec_machine.specs.Cells.{Value}
 use Rattle.cq_steps.specs.Worlds.{value, saved_values, stack, with_heap, Selected, Leads}
 use Rattle.cq_begin.specs.Begun.{goes_to}
 use Rattle.cq_relations.proofs.Curly.{told_leads, told_stops, split_leads, refused_at}
-use Rattle.cq_relations.proofs.Growing.{ready_grown, grown_terms, grown_still, grown_if}
+use Rattle.cq_relations.proofs.Growing.{ready_grown, grown_terms, grown_still, grown_if, after_error}
 use Rattle.cq_relations.proofs.Marks.{saved_still}
 use Rattle.cq_relations.proofs.constraints.constrain.Goals as goal
 
@@ -83,7 +83,8 @@ pub returns-in_err-first-in-Halves-clause-err : goal.returns-in_err-first-in-Hal
 returns-in_err-first-in-Halves-clause-err c =
     let texts = c.args.atoms.now in
     let g = grows_both texts texts texts c.args.world.now.first.heap c.check_telling.new.heap c.goals_of.new.heap c.check_telling.ensures.grows c.goals_of.ensures.grows in
-    grown_terms texts (now_of c.args.world.now.first) c.goals_of.new.heap.now g.terms g.images (g.names c.requires.ready.1.stands.names) c.args.world.now.second.now
+    after_error _ c.from_residual.result
+    (grown_terms texts (now_of c.args.world.now.first) c.goals_of.new.heap.now g.terms g.images (g.names c.requires.ready.1.stands.names) c.args.world.now.second.now)
 
 pub returns-in_err-k-in-Halves-clause-err : goal.returns-in_err-k-in-Halves-clause-err
 returns-in_err-k-in-Halves-clause-err c =
@@ -92,8 +93,9 @@ returns-in_err-k-in-Halves-clause-err c =
     let w = now_of c.args.world.now.first in
     let lists = c.args.world.now.second.now in
     let h = c.goals_of.new.heap.now in
-    grown_still texts (w, lists) (with_heap h w, lists) (now_of c.or.new.world.first) c.or.new.world.second.now
-    (grown_terms texts w h g.terms g.images (g.names c.requires.ready.1.stands.names) lists) c.or.ensures.world c.or.ensures.keeps
+    after_error _ c.from_residual-in_err-k-in-Halves.result
+    (grown_still texts (w, lists) (with_heap h w, lists) (now_of c.or.new.world.first) c.or.new.world.second.now
+    (grown_terms texts w h g.terms g.images (g.names c.requires.ready.1.stands.names) lists) c.or.ensures.world c.or.ensures.keeps)
 
 -- ---- two goals
 
