@@ -2,7 +2,7 @@
 use Rattle.std.specs.Prelude.{◌≡◌, ℕ, List, ◌∷◌, ◌++◌, map}
 use Rattle.spec_rational.specs.Rational.{ℚ}
 use Rattle.spec_rational.specs.Sums.{Monomial}
-use Rattle.spec_linear.specs.Solution.{Constraint, MentionsOnly}
+use Rattle.spec_linear.specs.Solution.{Constraint, Has, MentionsOnly}
 use Rattle.spec_echelon.specs.Echelon.{Solved, AreDistinct}
 use Rattle.cq_frac.specs.declared.Pair.{Pair}
 use Rattle.cq_frac.specs.declared.VarId.{VarId}
@@ -21,13 +21,14 @@ solved_of e = record { variable = e.variable.0; form = record { products = map m
 abbrev pub equations_of : List Equation → List Solved
 equations_of es = map solved_of es
 
--- a pair that telling a member of the list behind those before it makes, while some variables are known
-pub record ProjectionMakes (told : List Constraint) (p : Pair) : Type 0 where
+-- a pair that telling a member of the list behind those before it makes, while these variables and maybe others are known
+pub record ProjectionMakes (first : List ℕ) (told : List Constraint) (p : Pair) : Type 0 where
   pub before : List Constraint
   pub member : Constraint
   pub after : List Constraint
   pub order : List ℕ
   pub split : told ≡ before ++ member ∷ after
+  pub stays : (x : ℕ) → Has x first → Has x order
   pub made : CallMakes before order member p
 
 -- the keys are the wanted variables and then others, each once, and the constraints mention no more

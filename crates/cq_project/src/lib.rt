@@ -127,7 +127,7 @@ pub fn tell_all(store: &mut Store, told: &[Constraint]) -> Result<bool, StoreFau
     requires equations { AreEquations told.now }
     ensures kept { IfOk result (λ kept. MatchBool kept (told_of store.new ≡ told.now) (Unsolvable told.now)) }
     ensures order { MentionsOnly (order_of store.old) told.now → OnOk result (order_of store.new ≡ order_of store.old) }
-    ensures overflow { (pair : Pair) → result ≡ Err (StoreFault.Overflow pair) → ProjectionMakes told.now pair }
+    ensures overflow { (pair : Pair) → result ≡ Err (StoreFault.Overflow pair) → ProjectionMakes (order_of store.old) told.now pair }
     // Equations are eliminated by exchanges that no budget counts.
     ensures pivots { (n : ℕ) → result ≡ Err (StoreFault.Pivots n) → ⊥ }
 {
@@ -154,7 +154,7 @@ fn solved(
     requires distinct { AreDistinct (numbers_of keep.now) }
     ensures order { IfOk result (λ store. IsOrdered keep.now told.now (order_of store)) }
     ensures told { IfOk result (λ store. told_of store ≡ told.now) }
-    ensures overflow { (pair : Pair) → result ≡ Err (ProjectFault.Overflow pair) → ProjectionMakes told.now pair }
+    ensures overflow { (pair : Pair) → result ≡ Err (ProjectFault.Overflow pair) → ProjectionMakes (numbers_of keep.now) told.now pair }
     ensures pivots { (n : ℕ) → result ≡ Err (ProjectFault.Pivots n) → ⊥ }
 {
     let mut store = ordered(alloc, told, keep, pivots)?;
@@ -210,7 +210,7 @@ pub fn project(
     requires distinct { AreDistinct (numbers_of keep.now) }
     ensures echelon { IfOk result (λ rows. IsEchelon (numbers_of keep.now) told.now (equations_of rows.equations.items)) }
     ensures same { IfOk result (λ rows. Same (numbers_of keep.now) (equations (equations_of rows.equations.items)) told.now) }
-    ensures overflow { (pair : Pair) → result ≡ Err (ProjectFault.Overflow pair) → ProjectionMakes told.now pair }
+    ensures overflow { (pair : Pair) → result ≡ Err (ProjectFault.Overflow pair) → ProjectionMakes (numbers_of keep.now) told.now pair }
     // Equations are eliminated by exchanges that no budget counts.
     ensures pivots { (n : ℕ) → result ≡ Err (ProjectFault.Pivots n) → ⊥ }
 {

@@ -60,5 +60,5 @@ module _ (q : Query) where
     }
 
     -- told one by one, for a store or for the rows of an answer
-    pub due_in_telling : (l : List Constraint) → l ≡ told q → ProjectionMakes l p → IsStopDue q stage p
+    pub due_in_telling : {first : List ℕ} (l : List Constraint) → l ≡ told q → ProjectionMakes first l p → IsStopDue q stage p
     due_in_telling l e m = by_call m.before m.after m.member m.order (sym e ∙ m.split) m.made

@@ -1,6 +1,6 @@
 //! The store of a query's equations.
 
-ghost use Rattle.std.specs.Prelude.{◌≡◌, ℕ, IfOk, MatchOption};
+ghost use Rattle.std.specs.Prelude.{◌≡◌, ℕ, [], IfOk, MatchOption};
 ghost use Rattle.spec_linear.specs.Solution.{AreEquations, Unsolvable};
 ghost use Rattle.cq_frac.specs.declared.Pair.{Pair};
 ghost use Rattle.cq_store.specs.Contents.{told_of};
@@ -18,7 +18,7 @@ pub const PIVOTS: u64 = 1;
 pub fn settled(alloc: Global, equations: &[Constraint]) -> Result<Option<Store>, StoreFault>
     requires { AreEquations equations.now }
     ensures value { IfOk result (λ s. MatchOption s (Unsolvable equations.now) (λ store. told_of store ≡ equations.now)) }
-    ensures overflow { (pair : Pair) → result ≡ Err (StoreFault.Overflow pair) → ProjectionMakes equations.now pair }
+    ensures overflow { (pair : Pair) → result ≡ Err (StoreFault.Overflow pair) → ProjectionMakes [] equations.now pair }
     // An equation takes one exchange.
     ensures pivots { (n : ℕ) → result ≡ Err (StoreFault.Pivots n) → ⊥ }
 {

@@ -4,7 +4,7 @@ use crate::outcomes::first_wrong;
 use std::test::Fail;
 
 /// Values, and the first error from the left.
-static VALUES: [&str; 30] = [
+static VALUES: [&str; 45] = [
     "X is 7 mod -2. -1",
     "Y is -7//2. -3",
     "Z is 1/3. 1r3",
@@ -15,6 +15,19 @@ static VALUES: [&str; 30] = [
     "X is 170141183460469231731687303715884105727. 170141183460469231731687303715884105727",
     "X is -170141183460469231731687303715884105727 // -1. 170141183460469231731687303715884105727",
     "X is 1/170141183460469231731687303715884105727. 1r170141183460469231731687303715884105727",
+    "X is sign(0)+sign(1r3)*10+floor(7r2)*100+ceiling(7r2)*1000+truncate(7r2)*10000. 34310",
+    "X is abs(-7r2)+ -(1r2)+ +(1r2). 7r2",
+    "X is floor(-170141183460469231731687303715884105727). -170141183460469231731687303715884105727",
+    "X is 1r3+1r6. 1r2",
+    "X is 1r3-1r2. -1r6",
+    "X is 2r3*3r4. 1r2",
+    "X is 7// -2. -3",
+    "X is 7 rem -2. 1",
+    "X is -7 mod 2. 1",
+    "X is -7 mod -2. -1",
+    "X is 6 mod -2. 0",
+    "X is min(1r2,1r3). 1r3",
+    "X is max(1r2,1r3). 1r2",
     "X is Y. error(instantiation_error,(is)/2)",
     "X is foo. error(type_error(evaluable,foo/0),(is)/2)",
     "X is foo+1. error(type_error(evaluable,foo/0),(is)/2)",
@@ -25,6 +38,8 @@ static VALUES: [&str; 30] = [
     "X is 3r2//0. error(type_error(integer,3r2),(is)/2)",
     "X is 1 rem 1r3. error(type_error(integer,1r3),(is)/2)",
     "X is 1r2 mod 1. error(type_error(integer,1r2),(is)/2)",
+    "X is 1r2 mod 0. error(type_error(integer,1r2),(is)/2)",
+    "X is 1r2 rem 1r3. error(type_error(integer,1r2),(is)/2)",
     "X is 1/0. error(evaluation_error(zero_divisor),(is)/2)",
     "X is 1//0. error(evaluation_error(zero_divisor),(is)/2)",
     "X is 1 rem 0. error(evaluation_error(zero_divisor),(is)/2)",

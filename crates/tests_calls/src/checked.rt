@@ -6,6 +6,7 @@ ghost use Rattle.cq_built.specs.Errors.{CanBeRaised};
 ghost use Rattle.cq_goals.specs.Faults.{HasItsCulprit};
 ghost use Rattle.cq_goals.specs.Tellings.{IsLiveTelling};
 
+use crate::forms::{form_of, form_where};
 use crate::written::{ball_text, put, written};
 use cq_atoms::Atoms;
 use cq_built::BuiltinFault;
@@ -32,6 +33,7 @@ enum One {
     Declaration,
     Module,
     Clause,
+    Form,
 }
 
 /// A goal of two arguments.
@@ -43,7 +45,7 @@ enum Two {
     ClauseGoal,
 }
 
-const ONES: [(&str, One); 10] = [
+const ONES: [(&str, One); 11] = [
     ("{}", One::Told),
     ("entailed", One::Asked),
     ("minimize", One::Expression),
@@ -54,6 +56,7 @@ const ONES: [(&str, One); 10] = [
     ("asserta", One::Clause),
     ("assertz", One::Clause),
     ("retract", One::Clause),
+    ("linear", One::Form),
 ];
 
 const TWOS: [(&str, Two); 10] = [
@@ -247,14 +250,28 @@ fn module(heap: &Heap, atoms: &Atoms, term: TermId) -> Result<(), BuiltinFault>
     }
 }
 
-fn clause(heap: &Heap, atoms: &Atoms, term: TermId) -> Result<(), BuiltinFault>
-    requires live { term < length heap.now.now.terms }
-    requires names { KnowsTerms atoms.now heap.now.now.terms }
-    ensures culprit { IfErr result (CanBeRaised atoms.now heap.now.now.terms) }
+/// Whether the clause that a goal adds or removes has a body.
+fn clause(
+    heap: &mut Heap,
+    atoms: &mut Atoms,
+    ops: &Ops,
+    goal: Pred,
+    term: TermId,
+) -> Result<Vec<u8>, AllocError>
+    requires live { term < length heap.old.now.terms }
+    requires known { goal.name < length atoms.old }
+    requires names { KnowsTerms atoms.old heap.old.now.terms }
 {
     match check_clause(heap, atoms, term) {
-        Ok(_) => Ok(()),
-        Err(fault) => Err(fault),
+        Ok(clause) => {
+            let kind = if clause.parts.body.is_some() {
+                "rule"
+            } else {
+                "fact"
+            };
+            words(heap.alloc(), kind)
+        }
+        Err(fault) => ball_text(heap, atoms, ops, goal, fault),
     }
 }
 
@@ -374,10 +391,8 @@ pub(crate) fn of_one(
             let checked = module(heap, atoms, only);
             lawful(heap, atoms, ops, goal, checked)
         }
-        One::Clause => {
-            let checked = clause(heap, atoms, only);
-            lawful(heap, atoms, ops, goal, checked)
-        }
+        One::Clause => clause(heap, atoms, ops, goal, only),
+        One::Form => form_of(heap, atoms, only),
     }
 }
 
@@ -412,7 +427,7 @@ pub(crate) fn of_two(
     }
 }
 
-/// What op(PRIORITY,KIND,NAMES) comes to; nothing where the goal is another.
+/// What a goal of three arguments comes to; nothing where it is not one of these.
 pub(crate) fn of_three(
     heap: &mut Heap,
     atoms: &mut Atoms,
@@ -425,7 +440,11 @@ pub(crate) fn of_three(
     requires known { goal.name < length atoms.old }
     requires names { KnowsTerms atoms.old heap.old.now.terms }
 {
-    if atoms.text(goal.name) != "op" {
+    let name = atoms.text(goal.name);
+    if name == "linear" {
+        return form_where(heap, atoms, args[0], args[1], args[2]);
+    }
+    if name != "op" {
         return words(heap.alloc(), "");
     }
     let asked = OperatorGoal {

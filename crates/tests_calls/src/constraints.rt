@@ -44,7 +44,7 @@ fn constraints_are_told(rt: HostRuntime) -> Result<(), Fail> {
 }
 
 /// Constraints and expressions that are asked about.
-static ASKED: [&str; 17] = [
+static ASKED: [&str; 18] = [
     "entailed((X=1,Y>=X)). _1=1 linear; _1>=_2 linear",
     "entailed(X*Y=1). _1*_2=1 waits",
     "entailed(X=1/0). _1=1/0 false",
@@ -59,6 +59,7 @@ static ASKED: [&str; 17] = [
     "inf(X*Y,I). lawful",
     "inf(floor(X),I). error(type_error(evaluable,floor/1),inf/2)",
     "minimize(X). lawful",
+    "minimize(X^1). lawful",
     "minimize(X rem 2). error(type_error(evaluable,(rem)/2),minimize/1)",
     "maximize(1). lawful",
     "maximize(X+foo). error(type_error(evaluable,foo/0),maximize/1)",

@@ -1,10 +1,19 @@
 // Goals that declare or change something, and what each comes to.
 
+ghost use Rattle.std.specs.Prelude.{◌<◌, length};
+ghost use Rattle.cq_term.specs.Trees.{KnowsTerms};
+
 use crate::outcomes::first_wrong;
+use cq_atoms::Atoms;
+use cq_declarations::{OperatorGoal, declare_operators};
+use cq_ops::Ops;
+use cq_read::{Read, read_clause};
+use cq_term::{Heap, TermId};
+use std::alloc::{AllocError, Global};
 use std::test::Fail;
 
 /// Predicates that are declared, and modules.
-static DECLARED: [&str; 19] = [
+static DECLARED: [&str; 21] = [
     "dynamic foo/1. declared; foo",
     "dynamic((foo/1,bar/2)). declared; foo; bar",
     "dynamic([foo/0,bar/1000000]). declared; foo; bar",
@@ -18,11 +27,13 @@ static DECLARED: [&str; 19] = [
     "dynamic(foo/a). error(type_error(predicate_indicator,foo/a),(dynamic)/1)",
     "dynamic(foo/ -1). error(type_error(predicate_indicator,foo/(-1)),(dynamic)/1)",
     "dynamic([foo/1|bar]). error(type_error(predicate_indicator,bar),(dynamic)/1)",
+    "dynamic([foo/1,foo]). error(type_error(predicate_indicator,foo),(dynamic)/1)",
     "dynamic(foo/1000001). error(type_error(predicate_indicator,foo/1000001),(dynamic)/1)",
     "discontiguous((foo/1,bar)). error(type_error(predicate_indicator,bar),(discontiguous)/1)",
     "use_module(library(clpq)). lawful",
     "use_module(X). error(instantiation_error,use_module/1)",
     "use_module(library(lists)). error(domain_error(library,library(lists)),use_module/1)",
+    "use_module(module(clpq)). error(domain_error(library,module(clpq)),use_module/1)",
     "use_module(clpq). error(domain_error(library,clpq),use_module/1)",
 ];
 
@@ -33,15 +44,19 @@ fn predicates_are_declared(rt: HostRuntime) -> Result<(), Fail> {
 }
 
 /// Clauses that are added, removed or read.
-static CLAUSES: [&str; 14] = [
-    "asserta(foo). lawful",
-    "assertz((foo(X):-X,(a->b;c))). lawful",
-    "retract((foo:-X)). lawful",
+static CLAUSES: [&str; 18] = [
+    "asserta(foo). fact",
+    "asserta((:-foo)). fact",
+    "assertz((foo(X):-X,(a->b;c))). rule",
+    "assertz((foo:-a->X)). rule",
+    "assertz((foo:-a+1)). rule",
+    "retract((foo:-X)). rule",
     "asserta(X). error(instantiation_error,asserta/1)",
     "assertz((X:-1)). error(instantiation_error,assertz/1)",
     "retract((1:-2)). error(type_error(callable,1),retract/1)",
     "asserta(1). error(type_error(callable,1),asserta/1)",
     "assertz((foo:-1)). error(type_error(callable,1),assertz/1)",
+    "assertz((foo:-a;1)). error(type_error(callable,(a;1)),assertz/1)",
     "retract((foo:-a,1)). error(type_error(callable,(a,1)),retract/1)",
     "clause(foo,B). lawful",
     "clause(foo(X),(a,b)). lawful",
@@ -57,9 +72,11 @@ fn clauses_are_checked(rt: HostRuntime) -> Result<(), Fail> {
 }
 
 /// Operators that are set, and the errors in their order.
-static OPERATORS: [&str; 19] = [
+static OPERATORS: [&str; 22] = [
     "op(700,xfx,foo). lawful",
     "op(0,yfx,[+,-]). lawful",
+    "op(0,xf,+). lawful",
+    "op(700,fy,+). lawful",
     "op(P,1,foo). error(instantiation_error,op/3)",
     "op(a,K,foo). error(instantiation_error,op/3)",
     "op(a,xfx,N). error(instantiation_error,op/3)",
@@ -76,11 +93,48 @@ static OPERATORS: [&str; 19] = [
     "op(700,xfx,[foo|bar]). error(type_error(list,[foo|bar]),op/3)",
     "op(700,xfx,','). error(permission_error(modify,operator,','),op/3)",
     "op(700,xf,[+,',']). error(permission_error(modify,operator,','),op/3)",
+    "op(0,xfx,[]). error(permission_error(create,operator,[]),op/3)",
     "op(700,xf,[foo,+]). error(permission_error(create,operator,+),op/3)",
 ];
 
 #[test]
 fn operators_are_set(rt: HostRuntime) -> Result<(), Fail> {
     assert_eq!(rt; first_wrong(rt.alloc(), &OPERATORS)?, None);
+    Ok(())
+}
+
+/// Sets the operators of a goal in a table.
+fn set_operators(heap: &Heap, atoms: &Atoms, table: &mut Ops, goal: TermId)
+    requires live { goal < length heap.now.now.terms }
+    requires names { KnowsTerms atoms.now heap.now.now.terms }
+{
+    let args = heap.args(goal);
+    if args.len() == 3 {
+        let asked = OperatorGoal {
+            priority: args[0],
+            kind: args[1],
+            names: args[2],
+        };
+        let _set = declare_operators(heap, atoms, table, asked);
+    }
+}
+
+/// Whether foo is a postfix operator after the goal of a text.
+fn foo_is_set(alloc: Global, text: &str) -> Result<bool, AllocError> {
+    let mut heap = Heap::new(alloc);
+    let mut atoms = Atoms::new(alloc);
+    let mut table = Ops::standard(alloc, &mut atoms)?;
+    match read_clause(&mut heap, &mut atoms, &table, text.as_bytes(), 0)? {
+        Read::Clause { term, .. } => set_operators(&heap, &atoms, &mut table, term),
+        _ => return Ok(false),
+    }
+    let foo = atoms.intern("foo")?;
+    Ok(table.postfix(foo).is_some())
+}
+
+#[test]
+fn all_of_a_list_are_set_or_none(rt: HostRuntime) -> Result<(), Fail> {
+    assert!(rt; foo_is_set(rt.alloc(), "op(700,xf,[foo,bar]).")?);
+    assert!(rt; !foo_is_set(rt.alloc(), "op(700,xf,[foo,+]).")?);
     Ok(())
 }

@@ -9,8 +9,8 @@ use cq_built::{BuiltinFault, atom, compound, whole};
 use cq_builtin::{Comparison, TypeTest, copy_term, order, test};
 use cq_cexpr::{Lin, linearise};
 use cq_codes::{Conversion, convert};
-use cq_goals::{Telling, check_telling};
-use cq_term::{Heap, TermId};
+use cq_goals::{Telling, check_telling, is_value};
+use cq_term::{Heap, TermId, View};
 use cq_walk::Pair;
 use std::alloc::{AllocError, Global};
 use std::test::Fail;
@@ -157,8 +157,36 @@ fn one(heap: &mut Heap, atoms: &Atoms) -> Result<TermId, AllocError>
     whole(heap, atoms, 1)
 }
 
-/// 1 added so many times, before the term.
-fn sum(heap: &mut Heap, atoms: &mut Atoms, term: TermId) -> Result<TermId, AllocError>
+/// Where the rest of a sum stands beside its 1.
+#[derive(Clone, Copy)]
+enum Side {
+    Left,
+    Right,
+}
+
+/// 1 added to a term.
+fn added(
+    heap: &mut Heap,
+    atoms: &mut Atoms,
+    one: TermId,
+    term: TermId,
+    side: Side,
+) -> Result<TermId, AllocError>
+    requires one { one < length heap.old.now.terms }
+    requires live { term < length heap.old.now.terms }
+    requires names { KnowsTerms atoms.old heap.old.now.terms }
+    ensures live { IfOk result (λ id. id < length heap.new.now.terms) }
+    ensures more { length heap.old.now.terms ≤ length heap.new.now.terms }
+    ensures names { KnowsTerms atoms.new heap.new.now.terms }
+{
+    match side {
+        Side::Left => over(heap, atoms, "+", term, one),
+        Side::Right => over(heap, atoms, "+", one, term),
+    }
+}
+
+/// 1 added to a term so many times.
+fn sum(heap: &mut Heap, atoms: &mut Atoms, term: TermId, side: Side) -> Result<TermId, AllocError>
     requires live { term < length heap.old.now.terms }
     requires names { KnowsTerms atoms.old heap.old.now.terms }
     ensures live { IfOk result (λ id. id < length heap.new.now.terms) }
@@ -168,12 +196,12 @@ fn sum(heap: &mut Heap, atoms: &mut Atoms, term: TermId) -> Result<TermId, Alloc
     let one = one(heap, atoms)?;
     let mut whole = term;
     for _level in 0..MANY {
-        whole = over(heap, atoms, "+", one, whole)?;
+        whole = added(heap, atoms, one, whole, side)?;
     }
     Ok(whole)
 }
 
-/// Whether these are one relation, which is linear.
+/// Whether these are one relation, which is linear and says that twice the sums' number of ones is zero.
 fn are_linear(heap: &Heap, atoms: &Atoms, relations: &[TermId]) -> bool
     requires live { All (λ id. id < length heap.now.now.terms) relations.now }
     requires names { KnowsTerms atoms.now heap.now.now.terms }
@@ -182,12 +210,14 @@ fn are_linear(heap: &Heap, atoms: &Atoms, relations: &[TermId]) -> bool
         return false;
     }
     match linearise(heap, atoms, relations[0]) {
-        Ok(Lin::Linear(_)) => true,
+        Ok(Lin::Linear(found)) => {
+            found.form.entries().is_empty() && found.form.constant().parts() == (-400_000, 1)
+        }
         _ => false,
     }
 }
 
-/// Whether a constraint is one relation, which is linear.
+/// Whether a constraint is such a relation.
 fn is_linear(heap: &mut Heap, atoms: &mut Atoms, constraint: TermId) -> bool
     requires live { constraint < length heap.old.now.terms }
     requires names { KnowsTerms atoms.old heap.old.now.terms }
@@ -201,17 +231,47 @@ fn is_linear(heap: &mut Heap, atoms: &mut Atoms, constraint: TermId) -> bool
     }
 }
 
-fn with_deep_sum(alloc: Global) -> Result<bool, AllocError> {
+/// X is X with so many ones behind it, and so many before that.
+fn with_deep_sums(alloc: Global) -> Result<bool, AllocError> {
     let mut heap = Heap::new(alloc);
     let mut atoms = Atoms::new(alloc);
     let x = variable(&mut heap, &atoms)?;
-    let whole = sum(&mut heap, &mut atoms, x)?;
+    let left = sum(&mut heap, &mut atoms, x, Side::Left)?;
+    let whole = sum(&mut heap, &mut atoms, left, Side::Right)?;
     let constraint = over(&mut heap, &mut atoms, "=", x, whole)?;
     Ok(is_linear(&mut heap, &mut atoms, constraint))
 }
 
 #[test]
-fn a_deep_sum_is_linear(rt: HostRuntime) -> Result<(), Fail> {
-    assert!(rt; with_deep_sum(rt.alloc())?);
+fn a_sum_deep_on_both_sides_is_linear(rt: HostRuntime) -> Result<(), Fail> {
+    assert!(rt; with_deep_sums(rt.alloc())?);
+    Ok(())
+}
+
+/// Whether an expression comes to one more than the number of ones that are added.
+fn has_value(heap: &mut Heap, atoms: &Atoms, expression: TermId) -> bool
+    requires live { expression < length heap.old.now.terms }
+    requires names { KnowsTerms atoms.now heap.old.now.terms }
+{
+    match is_value(heap, atoms, expression) {
+        Ok(value) => match heap.view(value) {
+            View::Number(number) => number.parts() == (200_001, 1),
+            _ => false,
+        },
+        Err(_) => false,
+    }
+}
+
+fn with_evaluated_sum(alloc: Global) -> Result<bool, AllocError> {
+    let mut heap = Heap::new(alloc);
+    let mut atoms = Atoms::new(alloc);
+    let one = one(&mut heap, &atoms)?;
+    let whole = sum(&mut heap, &mut atoms, one, Side::Right)?;
+    Ok(has_value(&mut heap, &atoms, whole))
+}
+
+#[test]
+fn a_deep_sum_has_a_value(rt: HostRuntime) -> Result<(), Fail> {
+    assert!(rt; with_evaluated_sum(rt.alloc())?);
     Ok(())
 }

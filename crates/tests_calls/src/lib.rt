@@ -12,6 +12,8 @@ mod declarations;
 #[cfg(test)]
 mod deep;
 #[cfg(test)]
+mod forms;
+#[cfg(test)]
 mod outcomes;
 #[cfg(test)]
 mod terms;

@@ -36,13 +36,16 @@ fn terms_are_tested(rt: HostRuntime) -> Result<(), Fail> {
 }
 
 /// Each comparison: variables stand before numbers, these before atoms, these before compounds, of which the shorter stand first.
-static COMPARISONS: [&str; 20] = [
+static COMPARISONS: [&str; 23] = [
     "f(X,a) == f(X,a). f(_1,a)==f(_1,a)",
     "X == Y. no",
     "X \\== Y. _1\\==_2",
     "f(X,Y) @< f(Y,X). f(_1,_2)@<f(_2,_1)",
     "a \\== a. no",
     "1r2 @< 1. 1r2@<1",
+    "2 @< a. 2@<a",
+    "1 @> 2. no",
+    "f(a,b) @< f(b,a). f(a,b)@<f(b,a)",
     "a @< f(b). a@<f(b)",
     "g(b) @< f(a,a). g(b)@<f(a,a)",
     "f(a,a) @< g(b). no",
@@ -66,7 +69,7 @@ fn terms_are_compared(rt: HostRuntime) -> Result<(), Fail> {
 }
 
 /// functor(T,N,A) in each direction and arg(N,T,A), and their errors in their order.
-static PARTS: [&str; 31] = [
+static PARTS: [&str; 36] = [
     "functor(foo(a,B),N,A). functor(foo(a,_1),foo,2)",
     "functor([a|T],N,A). functor([a|_1],'.',2)",
     "functor(a,N,A). functor(a,a,0)",
@@ -88,6 +91,11 @@ static PARTS: [&str; 31] = [
     "arg(2,f(a,b),A). arg(2,f(a,b),b)",
     "arg(1,f(X),a). arg(1,f(a),a)",
     "arg(1,f(a),b). no",
+    "arg(1,g(f(X,Y)),f(Y,f)). arg(1,g(f(f,f)),f(f,f))",
+    "arg(1,g(f(X,f)),f(f,f(X,f))). no",
+    "arg(1,f(X),Y). arg(1,f(_1),_1)",
+    "arg(1,g(X),f(X)). no",
+    "arg(1,f(a),1). no",
     "arg(0,f(a),A). no",
     "arg(2,f(a),A). no",
     "arg(170141183460469231731687303715884105727,f(a),A). no",
@@ -107,7 +115,7 @@ fn parts_of_terms(rt: HostRuntime) -> Result<(), Fail> {
 }
 
 /// T =.. L in both directions, with its errors in their order, and copies: their variables are new, shared as the term's.
-static BUILT: [&str; 25] = [
+static BUILT: [&str; 26] = [
     "foo(a,B) =.. L. foo(a,_1)=..[foo,a,_1]",
     "foo =.. L. foo=..[foo]",
     "1r2 =.. L. 1r2=..[1r2]",
@@ -132,6 +140,7 @@ static BUILT: [&str; 25] = [
     "copy_term(f(X,X),f(a,b)). no",
     "copy_term(f(X),f(X)). copy_term(f(_1),f(_1))",
     "copy_term(X,Y). copy_term(_1,_2)",
+    "copy_term(f(a),C). copy_term(f(a),f(a))",
     "copy_term(a,b). no",
 ];
 

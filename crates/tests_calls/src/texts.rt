@@ -71,10 +71,13 @@ fn texts_are_spelled(rt: HostRuntime) -> Result<(), Fail> {
 }
 
 /// Numbers and the codes of their texts, up to those of the greatest size.
-static NUMERALS: [&str; 19] = [
+static NUMERALS: [&str; 30] = [
     "number_codes(N,\" -12\"). number_codes(-12,[32,45,49,50])",
     "number_codes(N,\"2r4\"). number_codes(1r2,[50,114,52])",
     "number_codes(N,\"0xF\"). number_codes(15,[48,120,70])",
+    "number_codes(N,\" \\n\\t-0x1F\"). number_codes(-31,[32,10,9,45,48,120,49,70])",
+    "number_codes(N,\"0'a\"). number_codes(97,[48,39,97])",
+    "number_codes(N,\"007\"). number_codes(7,[48,48,55])",
     "number_codes(12,L). number_codes(12,[49,50])",
     "number_codes(-1r2,L). number_codes(-1r2,[45,49,114,50])",
     "number_codes(12,\" 12\"). number_codes(12,[32,49,50])",
@@ -86,9 +89,17 @@ static NUMERALS: [&str; 19] = [
     "number_codes(a,\"1x\"). error(syntax_error(illegal_number),number_codes/2)",
     "number_codes(N,\"12 \"). error(syntax_error(illegal_number),number_codes/2)",
     "number_codes(N,\"- 1\"). error(syntax_error(illegal_number),number_codes/2)",
+    "number_codes(N,\"-\"). error(syntax_error(illegal_number),number_codes/2)",
+    "number_codes(N,\"+1\"). error(syntax_error(illegal_number),number_codes/2)",
+    "number_codes(N,\"1.5\"). error(syntax_error(illegal_number),number_codes/2)",
+    "number_codes(N,\"1r0\"). error(syntax_error(illegal_number),number_codes/2)",
+    "number_codes(N,\"%\\n1\"). error(syntax_error(illegal_number),number_codes/2)",
+    "number_codes(N,\"abc\"). error(syntax_error(illegal_number),number_codes/2)",
     "number_codes(N,[]). error(syntax_error(illegal_number),number_codes/2)",
+    "number_codes(1,[]). error(syntax_error(illegal_number),number_codes/2)",
     "number_codes(N,L). error(instantiation_error,number_codes/2)",
     "number_codes(N,[49|L]). error(instantiation_error,number_codes/2)",
+    "number_codes(N,[49,'1']). error(instantiation_error,number_codes/2)",
     "number_codes(a,L). error(type_error(number,a),number_codes/2)",
     "number_codes(f(1),[49,a]). error(type_error(number,f(1)),number_codes/2)",
 ];

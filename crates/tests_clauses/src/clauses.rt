@@ -2,6 +2,7 @@
 
 ghost use Rattle.cq_clauses.specs.Snapshots.{IsSnapshot, KeepsSnapshots};
 
+use crate::names::p_named;
 use cq_atoms::{Atom, Atoms};
 use cq_clauses::{Clauses, Key, Keyed, Kind, Snapshot};
 use cq_frac::Frac;
@@ -94,26 +95,28 @@ fn remove(clauses: &mut Clauses<Fact>, name: Atom, place: usize)
     }
 }
 
-/// Makes the same change to the clauses of `name/1` and to a list.
-fn change(
-    clauses: &mut Clauses<Fact>,
-    list: &mut Vec<u32>,
-    name: Atom,
-    step: Step,
-) -> Result<(), AllocError>
+/// Makes a change to the clauses of `name/1`.
+fn change(clauses: &mut Clauses<Fact>, name: Atom, step: Step) -> Result<(), AllocError>
     ensures { KeepsSnapshots clauses.old.procedures clauses.new.procedures }
 {
     match step {
         Step::First(content) => {
             clauses.add_first(of_one(name), fact_of(None, content), Kind::Dynamic)?;
-            list.insert(0, content)?;
         }
         Step::Last(content) => {
             clauses.add_last(of_one(name), fact_of(None, content), Kind::Dynamic)?;
-            list.push(content)?;
         }
+        Step::Remove(place) => remove(clauses, name, place),
+    }
+    Ok(())
+}
+
+/// Makes it to a list.
+fn change_list(list: &mut Vec<u32>, step: Step) -> Result<(), AllocError> {
+    match step {
+        Step::First(content) => list.insert(0, content)?,
+        Step::Last(content) => list.push(content)?,
         Step::Remove(place) => {
-            remove(clauses, name, place);
             if place < list.len() {
                 list.remove(place);
             }
@@ -131,23 +134,52 @@ fn change_all(
     ensures { KeepsSnapshots clauses.old.procedures clauses.new.procedures }
 {
     for step in steps {
-        change(clauses, list, name, *step)?;
+        change_list(list, *step)?;
+        change(clauses, name, *step)?;
     }
     Ok(())
 }
 
-#[test]
-fn a_snapshot_shows_the_clauses_as_they_were(rt: HostRuntime) -> Result<(), Fail> {
-    let name = Atoms::new(rt.alloc()).intern("p")?;
-    let mut clauses = Clauses::new(rt.alloc());
-    let mut list = Vec::new(rt.alloc());
-    change_all(&mut clauses, &mut list, name, &STEPS[..8])?;
+/// Whether a snapshot shows a list.
+fn shows(
+    clauses: &Clauses<Fact>,
+    snapshot: Snapshot,
+    list: &[u32],
+    alloc: Global,
+) -> Result<bool, AllocError>
+    requires { IsSnapshot snapshot clauses.now.procedures }
+{
+    Ok(read(clauses, snapshot, alloc)?.as_slice() == list)
+}
+
+/// Whether a snapshot from before the last changes shows the list as it was then.
+fn shows_what_was(
+    clauses: &mut Clauses<Fact>,
+    list: &mut Vec<u32>,
+    name: Atom,
+    alloc: Global,
+) -> Result<bool, AllocError> {
     let early = clauses.snapshot(of_one(name));
     let copy = list.clone()?;
-    change_all(&mut clauses, &mut list, name, &STEPS[8..])?;
+    change_all(clauses, list, name, &STEPS[8..])?;
+    shows(clauses, early, &copy, alloc)
+}
+
+/// Whether snapshots before and behind the last changes show what was and what is.
+fn show_what_was_and_is(alloc: Global, name: Atom) -> Result<bool, AllocError> {
+    let mut clauses = Clauses::new(alloc);
+    let mut list = Vec::new(alloc);
+    change_all(&mut clauses, &mut list, name, &STEPS[..8])?;
+    let was = shows_what_was(&mut clauses, &mut list, name, alloc)?;
     let late = clauses.snapshot(of_one(name));
-    assert_eq!(rt; read(&clauses, early, rt.alloc())?, copy);
-    assert_eq!(rt; read(&clauses, late, rt.alloc())?, list);
+    let is = shows(&clauses, late, &list, alloc)?;
+    Ok(was && is)
+}
+
+#[test]
+fn a_snapshot_shows_the_clauses_as_they_were(rt: HostRuntime) -> Result<(), Fail> {
+    let name = p_named(rt.alloc())?;
+    assert!(rt; show_what_was_and_is(rt.alloc(), name)?);
     Ok(())
 }
 
@@ -164,41 +196,6 @@ fn replace_all(clauses: &mut Clauses<Fact>, name: Atom, content: u32) -> Result<
     Ok(())
 }
 
-#[test]
-fn a_call_takes_no_clause_that_is_added_while_it_runs(rt: HostRuntime) -> Result<(), Fail> {
-    let name = Atoms::new(rt.alloc()).intern("q")?;
-    let mut clauses = Clauses::new(rt.alloc());
-    add(&mut clauses, name, None, 1)?;
-    add(&mut clauses, name, None, 2)?;
-    let before = clauses.snapshot(of_one(name));
-    replace_all(&mut clauses, name, 9)?;
-    let running = read(&clauses, before, rt.alloc())?;
-    let after = clauses.snapshot(of_one(name));
-    let now = read(&clauses, after, rt.alloc())?;
-    assert_eq!(rt; running.as_slice(), [1, 2].as_slice());
-    assert_eq!(rt; now.as_slice(), [9, 9].as_slice());
-    Ok(())
-}
-
-#[test]
-fn procedures_are_found_by_name_and_arity(rt: HostRuntime) -> Result<(), Fail> {
-    let name = Atoms::new(rt.alloc()).intern("p")?;
-    let mut clauses = Clauses::new(rt.alloc());
-    clauses.add_last(of_one(name), fact_of(None, 10), Kind::Static)?;
-    clauses.add_last(Pred { name, arity: 2 }, fact_of(None, 20), Kind::Static)?;
-    clauses.declare_dynamic(Pred { name, arity: 2 })?;
-    let two = clauses.snapshot(Pred { name, arity: 2 });
-    let held = read(&clauses, two, rt.alloc())?;
-    assert_eq!(rt; clauses.status_of(of_one(name)), Some(Kind::Static));
-    assert_eq!(rt;
-        clauses.status_of(Pred { name, arity: 2 }),
-        Some(Kind::Dynamic)
-    );
-    assert_eq!(rt; clauses.status_of(Pred { name, arity: 3 }), None);
-    assert_eq!(rt; held.as_slice(), [20].as_slice());
-    Ok(())
-}
-
 /// Adds a clause of `name/1` behind the others.
 fn add(
     clauses: &mut Clauses<Fact>,
@@ -206,42 +203,122 @@ fn add(
     key: Option<Key>,
     number: u32,
 ) -> Result<(), AllocError> {
-    clauses.add_last(of_one(name), Fact { key, number }, Kind::Dynamic)?;
+    clauses.add_last(of_one(name), fact_of(key, number), Kind::Dynamic)?;
     Ok(())
 }
 
-/// The numbers of the clauses of `name/1` that may match a call with this key.
-fn ask(
+/// Whether a snapshot of the two clauses 1 and 2 shows them once they are replaced.
+fn shows_the_replaced(
+    clauses: &mut Clauses<Fact>,
+    name: Atom,
+    alloc: Global,
+) -> Result<bool, AllocError> {
+    let before = clauses.snapshot(of_one(name));
+    replace_all(clauses, name, 9)?;
+    shows(clauses, before, &[1, 2], alloc)
+}
+
+fn shows_before_and_after(alloc: Global, name: Atom) -> Result<bool, AllocError> {
+    let mut clauses = Clauses::new(alloc);
+    add(&mut clauses, name, None, 1)?;
+    add(&mut clauses, name, None, 2)?;
+    let replaced = shows_the_replaced(&mut clauses, name, alloc)?;
+    let after = clauses.snapshot(of_one(name));
+    let nines = shows(&clauses, after, &[9, 9], alloc)?;
+    Ok(replaced && nines)
+}
+
+#[test]
+fn a_call_takes_no_clause_that_is_added_while_it_runs(rt: HostRuntime) -> Result<(), Fail> {
+    let name = p_named(rt.alloc())?;
+    assert!(rt; shows_before_and_after(rt.alloc(), name)?);
+    Ok(())
+}
+
+/// p/1 and p/2, each with a clause.
+fn add_two(clauses: &mut Clauses<Fact>, name: Atom) -> Result<(), AllocError> {
+    clauses.add_last(of_one(name), fact_of(None, 10), Kind::Static)?;
+    clauses.add_last(Pred { name, arity: 2 }, fact_of(None, 20), Kind::Static)?;
+    Ok(())
+}
+
+fn are_found(alloc: Global, name: Atom) -> Result<bool, AllocError> {
+    let mut clauses = Clauses::new(alloc);
+    add_two(&mut clauses, name)?;
+    clauses.declare_dynamic(Pred { name, arity: 2 })?;
+    let two = clauses.snapshot(Pred { name, arity: 2 });
+    let kinds = clauses.status_of(of_one(name)) == Some(Kind::Static)
+        && clauses.status_of(Pred { name, arity: 2 }) == Some(Kind::Dynamic)
+        && clauses.status_of(Pred { name, arity: 3 }).is_none();
+    let alone = shows(&clauses, two, &[20], alloc)?;
+    Ok(kinds && alone)
+}
+
+#[test]
+fn procedures_are_found_by_name_and_arity(rt: HostRuntime) -> Result<(), Fail> {
+    let name = p_named(rt.alloc())?;
+    assert!(rt; are_found(rt.alloc(), name)?);
+    Ok(())
+}
+
+/// Whether these are the numbers of the clauses of `name/1` that may match a call with this key.
+fn finds(
     clauses: &mut Clauses<Fact>,
     name: Atom,
     key: Option<Key>,
+    wanted: &[u32],
     alloc: Global,
-) -> Result<Vec<u32>, AllocError> {
+) -> Result<bool, AllocError> {
     let mut numbers = Vec::new(alloc);
     let mut walk = clauses.walk(of_one(name), key);
     while let Some(clause) = clauses.step(&mut walk) {
         numbers.push(clauses.content(clause).number)?;
     }
-    Ok(numbers)
+    Ok(numbers.as_slice() == wanted)
+}
+
+/// Clauses of `a/1` with keys of each kind, numbered from 1.
+fn add_keys(clauses: &mut Clauses<Fact>, a: Atom, b: Atom) -> Result<(), AllocError> {
+    let keys = [
+        (1, Some(Key::Name(a))),
+        (2, None),
+        (3, Some(Key::Name(b))),
+        (4, Some(Key::Number(Frac::one()))),
+        (5, Some(Key::Compound(b, 1))),
+    ];
+    for (number, key) in keys {
+        add(clauses, a, key, number)?;
+    }
+    Ok(())
+}
+
+/// Whether those of another key are passed over.
+fn are_passed_over(alloc: Global, a: Atom, b: Atom) -> Result<bool, AllocError> {
+    let mut clauses = Clauses::new(alloc);
+    add_keys(&mut clauses, a, b)?;
+    let name = finds(&mut clauses, a, Some(Key::Name(b)), &[2, 3], alloc)?;
+    let number = finds(
+        &mut clauses,
+        a,
+        Some(Key::Number(Frac::one())),
+        &[2, 4],
+        alloc,
+    )?;
+    let all = finds(&mut clauses, a, None, &[1, 2, 3, 4, 5], alloc)?;
+    Ok(name && number && all)
+}
+
+fn two_names(alloc: Global) -> Result<(Atom, Atom), AllocError> {
+    let mut atoms = Atoms::new(alloc);
+    let a = atoms.intern("a")?;
+    let b = atoms.intern("b")?;
+    Ok((a, b))
 }
 
 #[test]
 fn clauses_of_another_key_are_passed_over(rt: HostRuntime) -> Result<(), Fail> {
-    let mut atoms = Atoms::new(rt.alloc());
-    let a = atoms.intern("a")?;
-    let b = atoms.intern("b")?;
-    let mut clauses = Clauses::new(rt.alloc());
-    add(&mut clauses, a, Some(Key::Name(a)), 1)?;
-    add(&mut clauses, a, None, 2)?;
-    add(&mut clauses, a, Some(Key::Name(b)), 3)?;
-    add(&mut clauses, a, Some(Key::Number(Frac::one())), 4)?;
-    add(&mut clauses, a, Some(Key::Compound(b, 1)), 5)?;
-    let name = ask(&mut clauses, a, Some(Key::Name(b)), rt.alloc())?;
-    let number = ask(&mut clauses, a, Some(Key::Number(Frac::one())), rt.alloc())?;
-    let variable = ask(&mut clauses, a, None, rt.alloc())?;
-    assert_eq!(rt; name.as_slice(), [2, 3].as_slice());
-    assert_eq!(rt; number.as_slice(), [2, 4].as_slice());
-    assert_eq!(rt; variable.as_slice(), [1, 2, 3, 4, 5].as_slice());
+    let (a, b) = two_names(rt.alloc())?;
+    assert!(rt; are_passed_over(rt.alloc(), a, b)?);
     Ok(())
 }
 
@@ -263,28 +340,38 @@ fn add_about(clauses: &mut Clauses<Fact>, name: Atom) -> Result<(), AllocError> 
     add(clauses, name, None, 200)
 }
 
+fn is_kept(alloc: Global, name: Atom) -> Result<bool, AllocError> {
+    let mut clauses = Clauses::new(alloc);
+    add_many(&mut clauses, name)?;
+    let before = finds(&mut clauses, name, seven(name), &[7], alloc)?;
+    add_about(&mut clauses, name)?;
+    let after = finds(&mut clauses, name, seven(name), &[100, 7, 200], alloc)?;
+    Ok(before && after)
+}
+
 #[test]
 fn an_index_is_kept_under_changes(rt: HostRuntime) -> Result<(), Fail> {
-    let name = Atoms::new(rt.alloc()).intern("p")?;
-    let mut clauses = Clauses::new(rt.alloc());
-    add_many(&mut clauses, name)?;
-    let before = ask(&mut clauses, name, seven(name), rt.alloc())?;
-    add_about(&mut clauses, name)?;
-    let after = ask(&mut clauses, name, seven(name), rt.alloc())?;
-    assert_eq!(rt; before.as_slice(), [7].as_slice());
-    assert_eq!(rt; after.as_slice(), [100, 7, 200].as_slice());
+    let name = p_named(rt.alloc())?;
+    assert!(rt; is_kept(rt.alloc(), name)?);
     Ok(())
+}
+
+/// Whether two steps are made, and no more is known to come behind the second alone.
+fn ends_with_the_second(clauses: &mut Clauses<Fact>, name: Atom) -> bool {
+    let mut walk = clauses.walk(of_one(name), seven(name));
+    let first = clauses.step(&mut walk).is_some() && !walk.is_empty();
+    first && clauses.step(&mut walk).is_some() && walk.is_empty()
+}
+
+fn is_known(alloc: Global, name: Atom) -> Result<bool, AllocError> {
+    let mut clauses = Clauses::new(alloc);
+    add_about(&mut clauses, name)?;
+    Ok(ends_with_the_second(&mut clauses, name))
 }
 
 #[test]
 fn the_last_clause_is_known_before_it_is_entered(rt: HostRuntime) -> Result<(), Fail> {
-    let name = Atoms::new(rt.alloc()).intern("p")?;
-    let mut clauses = Clauses::new(rt.alloc());
-    add_about(&mut clauses, name)?;
-    let mut walk = clauses.walk(of_one(name), seven(name));
-    assert!(rt; clauses.step(&mut walk).is_some());
-    assert!(rt; !walk.is_empty());
-    assert!(rt; clauses.step(&mut walk).is_some());
-    assert!(rt; walk.is_empty());
+    let name = p_named(rt.alloc())?;
+    assert!(rt; is_known(rt.alloc(), name)?);
     Ok(())
 }

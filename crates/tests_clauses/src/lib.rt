@@ -4,6 +4,8 @@
 #[cfg(test)]
 mod clauses;
 #[cfg(test)]
+mod names;
+#[cfg(test)]
 mod program;
 #[cfg(test)]
 mod stored;

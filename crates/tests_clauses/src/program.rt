@@ -2,7 +2,8 @@
 
 ghost use Rattle.std.specs.Prelude.{◌<◌, length, IfOk};
 
-use cq_atoms::{Atom, Atoms};
+use crate::names::p_named;
+use cq_atoms::Atom;
 use cq_clauses::{Clauses, Kind};
 use cq_frac::Frac;
 use cq_program::{ProgramClause, goal_key};
@@ -55,13 +56,14 @@ fn add(
     Ok(())
 }
 
-/// How many variables each fact has that a call tries.
-fn tried(
+/// Whether a call tries facts with so many variables each.
+fn tries(
     clauses: &mut Clauses<ProgramClause>,
     alloc: Global,
     name: Atom,
     argument: Argument,
-) -> Result<Vec<usize>, AllocError> {
+    wanted: &[usize],
+) -> Result<bool, AllocError> {
     let mut heap = Heap::new(alloc);
     let goal = over(&mut heap, name, argument)?;
     let mut walk = clauses.walk(Pred { name, arity: 1 }, goal_key(&heap, goal));
@@ -69,23 +71,47 @@ fn tried(
     while let Some(clause) = clauses.step(&mut walk) {
         variables.push(clauses.content(clause).clause().variables())?;
     }
-    Ok(variables)
+    Ok(variables.as_slice() == wanted)
+}
+
+/// The arguments of calls, with how many variables each fact has that is tried.
+static CALLS: [(Argument, &[usize]); 4] = [
+    (Argument::One, &[0, 1]),
+    (Argument::Zero, &[1]),
+    (Argument::Name, &[1, 0]),
+    (Argument::Variable, &[0, 1, 0]),
+];
+
+/// The place of the first call that tries others.
+fn first_wrong(
+    clauses: &mut Clauses<ProgramClause>,
+    alloc: Global,
+    name: Atom,
+) -> Result<Option<usize>, AllocError> {
+    for (place, (argument, wanted)) in CALLS.iter().enumerate() {
+        if !tries(clauses, alloc, name, *argument, *wanted)? {
+            return Ok(Some(place));
+        }
+    }
+    Ok(None)
+}
+
+fn facts(alloc: Global, name: Atom) -> Result<Clauses<ProgramClause>, AllocError> {
+    let mut clauses = Clauses::new(alloc);
+    add(&mut clauses, alloc, name, Argument::One)?;
+    add(&mut clauses, alloc, name, Argument::Variable)?;
+    add(&mut clauses, alloc, name, Argument::Name)?;
+    Ok(clauses)
+}
+
+fn are_found(alloc: Global, name: Atom) -> Result<bool, AllocError> {
+    let mut clauses = facts(alloc, name)?;
+    Ok(first_wrong(&mut clauses, alloc, name)?.is_none())
 }
 
 #[test]
 fn facts_are_found_by_their_argument(rt: HostRuntime) -> Result<(), Fail> {
-    let p = Atoms::new(rt.alloc()).intern("p")?;
-    let mut clauses = Clauses::new(rt.alloc());
-    add(&mut clauses, rt.alloc(), p, Argument::One)?;
-    add(&mut clauses, rt.alloc(), p, Argument::Variable)?;
-    add(&mut clauses, rt.alloc(), p, Argument::Name)?;
-    let one = tried(&mut clauses, rt.alloc(), p, Argument::One)?;
-    let zero = tried(&mut clauses, rt.alloc(), p, Argument::Zero)?;
-    let name = tried(&mut clauses, rt.alloc(), p, Argument::Name)?;
-    let all = tried(&mut clauses, rt.alloc(), p, Argument::Variable)?;
-    assert_eq!(rt; one.as_slice(), [0, 1].as_slice());
-    assert_eq!(rt; zero.as_slice(), [1].as_slice());
-    assert_eq!(rt; name.as_slice(), [1, 0].as_slice());
-    assert_eq!(rt; all.as_slice(), [0, 1, 0].as_slice());
+    let p = p_named(rt.alloc())?;
+    assert!(rt; are_found(rt.alloc(), p)?);
     Ok(())
 }

@@ -2,7 +2,7 @@
 
 ghost use Rattle.std.specs.Prelude.{◌<◌, ◌≤◌, length, All, IfOk};
 
-use cq_atoms::Atoms;
+use crate::names::p_named;
 use cq_frac::VarId;
 use cq_stored::{Clause, StoredTerm, first_argument};
 use cq_term::{Atom, Heap, TermId, View};
@@ -56,58 +56,72 @@ fn restored(heap: &mut Heap, f: Atom) -> Result<Vec<View>, AllocError> {
     shown(heap, id)
 }
 
-#[test]
-fn a_stored_term_has_new_variables_each_time(rt: HostRuntime) -> Result<(), Fail> {
-    let f = Atoms::new(rt.alloc()).intern("f")?;
-    let mut heap = Heap::new(rt.alloc());
-    let found = restored(&mut heap, f)?;
+fn has_new_variables(alloc: Global, f: Atom) -> Result<bool, AllocError> {
+    let found = restored(&mut Heap::new(alloc), f)?;
     let expected = [
         View::Var(VarId(2)),
         View::Var(VarId(3)),
         View::Var(VarId(2)),
     ];
-    assert_eq!(rt; found.as_slice(), expected.as_slice());
+    Ok(found.as_slice() == expected.as_slice())
+}
+
+#[test]
+fn a_stored_term_has_new_variables_each_time(rt: HostRuntime) -> Result<(), Fail> {
+    let f = p_named(rt.alloc())?;
+    assert!(rt; has_new_variables(rt.alloc(), f)?);
     Ok(())
 }
 
-/// The head f(Y, X, Y) and the body f(X, Y, Y), renamed.
-fn renamed(heap: &mut Heap, f: Atom) -> Result<Vec<View>, AllocError> {
+/// The head f(Y, X, Y) and the body f(X, Y, Y).
+fn clause(heap: &mut Heap, f: Atom) -> Result<Clause, AllocError> {
     let x = variable(heap)?;
     let y = variable(heap)?;
     let head = over(heap, f, [y, x, y])?;
     let body = over(heap, f, [x, y, y])?;
-    let (_, moved) = Clause::of(heap, head, body)?.rename(heap)?;
+    Clause::of(heap, head, body)
+}
+
+/// What the body shows once it is renamed.
+fn renamed(heap: &mut Heap, f: Atom) -> Result<Vec<View>, AllocError> {
+    let (_, moved) = clause(heap, f)?.rename(heap)?;
     shown(heap, moved)
 }
 
-#[test]
-fn the_body_shares_the_variables_of_the_head(rt: HostRuntime) -> Result<(), Fail> {
-    let f = Atoms::new(rt.alloc()).intern("f")?;
-    let mut heap = Heap::new(rt.alloc());
-    let found = renamed(&mut heap, f)?;
+fn shares_its_variables(alloc: Global, f: Atom) -> Result<bool, AllocError> {
+    let found = renamed(&mut Heap::new(alloc), f)?;
     let expected = [
         View::Var(VarId(3)),
         View::Var(VarId(2)),
         View::Var(VarId(2)),
     ];
-    assert_eq!(rt; found.as_slice(), expected.as_slice());
+    Ok(found.as_slice() == expected.as_slice())
+}
+
+#[test]
+fn the_body_shares_the_variables_of_the_head(rt: HostRuntime) -> Result<(), Fail> {
+    let f = p_named(rt.alloc())?;
+    assert!(rt; shares_its_variables(rt.alloc(), f)?);
     Ok(())
 }
 
-/// What the first argument of f(Y, X, Y) shows on the heap and in a clause.
-fn first_arguments(heap: &mut Heap, f: Atom) -> Result<[Option<View>; 2], AllocError> {
+/// The first argument of f(X, X, X) on the heap.
+fn first_on_the_heap(heap: &mut Heap, f: Atom) -> Result<Option<View>, AllocError> {
     let x = variable(heap)?;
-    let y = variable(heap)?;
-    let head = over(heap, f, [y, x, y])?;
-    let clause = Clause::of(heap, head, head)?;
-    Ok([first_argument(heap, head), clause.first_argument()])
+    let term = over(heap, f, [x, x, x])?;
+    Ok(first_argument(heap, term))
+}
+
+fn is_first(alloc: Global, f: Atom) -> Result<bool, AllocError> {
+    let mut heap = Heap::new(alloc);
+    let stored = clause(&mut heap, f)?.first_argument();
+    let shown = first_on_the_heap(&mut heap, f)?;
+    Ok(stored == Some(View::Var(VarId(0))) && shown == Some(View::Var(VarId(2))))
 }
 
 #[test]
 fn a_first_argument_is_shown_on_the_heap_and_in_a_clause(rt: HostRuntime) -> Result<(), Fail> {
-    let f = Atoms::new(rt.alloc()).intern("f")?;
-    let mut heap = Heap::new(rt.alloc());
-    let found = first_arguments(&mut heap, f)?;
-    assert!(rt; found == [Some(View::Var(VarId(1))), Some(View::Var(VarId(0)))]);
+    let f = p_named(rt.alloc())?;
+    assert!(rt; is_first(rt.alloc(), f)?);
     Ok(())
 }

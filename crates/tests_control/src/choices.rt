@@ -4,20 +4,32 @@ ghost use Rattle.cq_control.specs.Open.{AreMarked};
 
 use cq_control::Choices;
 use cq_trail::Trail;
-use std::alloc::AllocError;
+use std::alloc::{AllocError, Global};
 use std::test::Fail;
+
+/// A number, and a choice behind it.
+fn choose(
+    choices: &mut Choices<char>,
+    world: &mut Trail<u32>,
+    number: u32,
+    left: char,
+) -> Result<(), AllocError>
+    requires { AreMarked world.old.saved choices.old }
+    ensures { AreMarked world.new.saved choices.new }
+{
+    world.push(number)?;
+    choices.push(world, left)?;
+    Ok(())
+}
 
 /// A choice after each of three numbers, and one number more.
 fn three_choices(choices: &mut Choices<char>, world: &mut Trail<u32>) -> Result<(), AllocError>
     requires { AreMarked world.old.saved choices.old }
     ensures { AreMarked world.new.saved choices.new }
 {
-    world.push(10)?;
-    choices.push(world, 'a')?;
-    world.push(20)?;
-    choices.push(world, 'b')?;
-    world.push(30)?;
-    choices.push(world, 'c')?;
+    choose(choices, world, 10, 'a')?;
+    choose(choices, world, 20, 'b')?;
+    choose(choices, world, 30, 'c')?;
     world.push(40)?;
     Ok(())
 }
@@ -44,112 +56,161 @@ fn back_to(choices: &mut Choices<char>, world: &mut Trail<u32>, height: usize) -
     Some(choices.back_to(world, height))
 }
 
-/// Puts other contents into the choice at a height, where there is one, and gives what it had and has.
+/// Puts other contents into the choice at a height, where there is one, and gives what it had.
 fn replace(
     choices: &mut Choices<char>,
     world: &Trail<u32>,
     height: usize,
     left: char,
-) -> Option<(char, char)>
+) -> Option<char>
     requires { AreMarked world.now.saved choices.old }
     ensures { AreMarked world.now.saved choices.new }
 {
     if choices.height() <= height {
         return None;
     }
-    let had = choices.replace_at(height, left);
-    if choices.height() <= height {
-        return None;
+    Some(choices.replace_at(height, left))
+}
+
+/// What a search does.
+#[derive(Clone, Copy)]
+enum Act {
+    Push(u32),
+    Back,
+    Retry(char),
+    BackTo(usize),
+    Replace(usize, char),
+    Cut(usize),
+}
+
+/// What it comes back to, or replaces.
+fn done(
+    choices: &mut Choices<char>,
+    world: &mut Trail<u32>,
+    act: Act,
+) -> Result<Option<char>, AllocError>
+    requires { AreMarked world.old.saved choices.old }
+    ensures { AreMarked world.new.saved choices.new }
+{
+    match act {
+        Act::Push(number) => {
+            world.push(number)?;
+            Ok(None)
+        }
+        Act::Back => Ok(choices.back(world)),
+        Act::Retry(left) => Ok(retry(choices, world, left)),
+        Act::BackTo(height) => Ok(back_to(choices, world, height)),
+        Act::Replace(height, left) => Ok(replace(choices, world, height, left)),
+        Act::Cut(height) => {
+            choices.cut(world, height);
+            Ok(None)
+        }
     }
-    Some((had, *choices.at(height)))
+}
+
+/// What was come back to, how many choices there are, the newest one's contents, and the numbers.
+fn put_state(
+    text: &mut String,
+    alloc: Global,
+    found: Option<char>,
+    choices: &Choices<char>,
+    numbers: &[u32],
+) -> Result<(), AllocError> {
+    let found = found.unwrap_or('-');
+    let top = choices.top().copied().unwrap_or('-');
+    let state = format!(in alloc; "{found}{}{top}", choices.height())?;
+    text.push_str(state.as_str())?;
+    for number in numbers {
+        let shown = format!(in alloc; " {number}")?;
+        text.push_str(shown.as_str())?;
+    }
+    text.push_str("; ")
+}
+
+/// What each act comes to.
+fn played(
+    alloc: Global,
+    choices: &mut Choices<char>,
+    world: &mut Trail<u32>,
+    acts: &[Act],
+) -> Result<String, AllocError>
+    requires { AreMarked world.old.saved choices.old }
+{
+    let mut text = String::new(alloc);
+    for act in acts {
+        let found = done(choices, world, *act)?;
+        put_state(&mut text, alloc, found, choices, world.as_slice())?;
+    }
+    Ok(text)
+}
+
+/// What each act comes to after three choices.
+fn played_on_three(alloc: Global, acts: &[Act]) -> Result<String, AllocError> {
+    let mut world = Trail::new(alloc);
+    let mut choices = Choices::new(alloc);
+    three_choices(&mut choices, &mut world)?;
+    played(alloc, &mut choices, &mut world, acts)
+}
+
+static PLAYS: [(&[Act], &str); 5] = [
+    // The newest choice comes first.
+    (
+        &[Act::Cut(5), Act::Back, Act::Back, Act::Back, Act::Back],
+        "-3c 10 20 30 40; c2b 10 20 30; b1a 10 20; a0- 10; -0- 10; ",
+    ),
+    // A choice is retried, and is gone at its last.
+    (
+        &[Act::Retry('d'), Act::Push(50), Act::Retry('e'), Act::Back],
+        "c3d 10 20 30; -3d 10 20 30 50; d3e 10 20 30; e2b 10 20 30; ",
+    ),
+    // A cut keeps the world, and ends the marks.
+    (&[Act::Cut(1), Act::Back], "-1a 10 20 30 40; a0- 10; "),
+    // A ball goes back past newer choices.
+    (&[Act::BackTo(1)], "b1a 10 20; "),
+    // A choice below others gets other contents.
+    (
+        &[Act::Replace(1, 'd'), Act::Back, Act::Back, Act::Back],
+        "b3c 10 20 30 40; c2d 10 20 30; d1a 10 20; a0- 10; ",
+    ),
+];
+
+/// The place of the first play that comes to something else.
+fn first_wrong(alloc: Global) -> Result<Option<usize>, AllocError> {
+    for (place, (acts, wanted)) in PLAYS.iter().enumerate() {
+        if played_on_three(alloc, *acts)?.as_str() != *wanted {
+            return Ok(Some(place));
+        }
+    }
+    Ok(None)
 }
 
 #[test]
-fn the_search_comes_back_to_the_newest_choice_first(rt: HostRuntime) -> Result<(), Fail> {
-    let mut world = Trail::new(rt.alloc());
-    let mut choices = Choices::new(rt.alloc());
-    three_choices(&mut choices, &mut world)?;
-    assert_eq!(rt; choices.top(), Some(&'c'));
-    assert_eq!(rt; choices.height(), 3);
-    assert_eq!(rt; choices.back(&mut world), Some('c'));
-    assert_eq!(rt; world.as_slice(), [10, 20, 30].as_slice());
-    assert_eq!(rt; choices.back(&mut world), Some('b'));
-    assert_eq!(rt; choices.back(&mut world), Some('a'));
-    assert_eq!(rt; world.as_slice(), [10].as_slice());
-    assert_eq!(rt; choices.back(&mut world), None);
-    assert_eq!(rt; choices.top(), None);
-    assert_eq!(rt; world.as_slice(), [10].as_slice());
+fn searches_come_back_to_their_choices(rt: HostRuntime) -> Result<(), Fail> {
+    assert_eq!(rt; first_wrong(rt.alloc())?, None);
     Ok(())
 }
 
-#[test]
-fn a_choice_is_retried_and_gone_at_its_last(rt: HostRuntime) -> Result<(), Fail> {
-    let mut world = Trail::new(rt.alloc());
-    let mut choices = Choices::new(rt.alloc());
-    three_choices(&mut choices, &mut world)?;
-    assert_eq!(rt; retry(&mut choices, &mut world, 'd'), Some('c'));
-    assert_eq!(rt; world.as_slice(), [10, 20, 30].as_slice());
-    world.push(50)?;
-    assert_eq!(rt; retry(&mut choices, &mut world, 'e'), Some('d'));
-    assert_eq!(rt; world.as_slice(), [10, 20, 30].as_slice());
-    assert_eq!(rt; choices.height(), 3);
-    assert_eq!(rt; choices.back(&mut world), Some('e'));
-    assert_eq!(rt; choices.height(), 2);
-    assert_eq!(rt; choices.top(), Some(&'b'));
-    Ok(())
+/// Whether a change is put aside until the only choice is cut.
+fn is_put_aside(choices: &mut Choices<char>, world: &mut Trail<u32>) -> Result<bool, AllocError>
+    requires { AreMarked world.old.saved choices.old }
+{
+    if world.len() == 1 {
+        world.set(0, 11)?;
+    }
+    let aside = world.saved();
+    choices.cut(world, 0);
+    Ok(aside == 1 && world.saved() == 0 && world.as_slice() == [11].as_slice())
 }
 
-#[test]
-fn a_cut_keeps_the_world_and_ends_the_marks(rt: HostRuntime) -> Result<(), Fail> {
-    let mut world = Trail::new(rt.alloc());
-    let mut choices = Choices::new(rt.alloc());
-    three_choices(&mut choices, &mut world)?;
-    choices.cut(&mut world, 5);
-    assert_eq!(rt; choices.height(), 3);
-    choices.cut(&mut world, 1);
-    assert_eq!(rt; choices.height(), 1);
-    assert_eq!(rt; world.as_slice(), [10, 20, 30, 40].as_slice());
-    assert_eq!(rt; choices.back(&mut world), Some('a'));
-    assert_eq!(rt; world.as_slice(), [10].as_slice());
-    Ok(())
+fn leaves_nothing(alloc: Global) -> Result<bool, AllocError> {
+    let mut world = Trail::new(alloc);
+    let mut choices = Choices::new(alloc);
+    choose(&mut choices, &mut world, 10, 'a')?;
+    is_put_aside(&mut choices, &mut world)
 }
 
 #[test]
 fn a_cut_of_all_leaves_nothing_to_put_aside(rt: HostRuntime) -> Result<(), Fail> {
-    let mut world = Trail::new(rt.alloc());
-    let mut choices = Choices::new(rt.alloc());
-    world.push(10)?;
-    choices.push(&mut world, 'a')?;
-    if world.len() == 1 {
-        world.set(0, 11)?;
-    }
-    assert_eq!(rt; world.saved(), 1);
-    choices.cut(&mut world, 0);
-    assert_eq!(rt; world.saved(), 0);
-    assert_eq!(rt; world.as_slice(), [11].as_slice());
-    Ok(())
-}
-
-#[test]
-fn a_ball_goes_back_past_newer_choices(rt: HostRuntime) -> Result<(), Fail> {
-    let mut world = Trail::new(rt.alloc());
-    let mut choices = Choices::new(rt.alloc());
-    three_choices(&mut choices, &mut world)?;
-    assert_eq!(rt; back_to(&mut choices, &mut world, 1), Some('b'));
-    assert_eq!(rt; choices.height(), 1);
-    assert_eq!(rt; choices.top(), Some(&'a'));
-    assert_eq!(rt; world.as_slice(), [10, 20].as_slice());
-    Ok(())
-}
-
-#[test]
-fn a_choice_below_others_gets_other_contents(rt: HostRuntime) -> Result<(), Fail> {
-    let mut world = Trail::new(rt.alloc());
-    let mut choices = Choices::new(rt.alloc());
-    three_choices(&mut choices, &mut world)?;
-    assert_eq!(rt; replace(&mut choices, &world, 1, 'd'), Some(('b', 'd')));
-    assert_eq!(rt; choices.back(&mut world), Some('c'));
-    assert_eq!(rt; choices.back(&mut world), Some('d'));
-    assert_eq!(rt; choices.back(&mut world), Some('a'));
+    assert!(rt; leaves_nothing(rt.alloc())?);
     Ok(())
 }

@@ -38,34 +38,65 @@ fn before(
     Ok(k)
 }
 
-#[test]
-fn two_continuations_share_their_rest(rt: HostRuntime) -> Result<(), Fail> {
-    let mut all = Continuations::new(rt.alloc());
+fn shows(
+    alloc: Global,
+    all: &Continuations<char>,
+    of: Continuation,
+    wanted: &str,
+) -> Result<bool, AllocError>
+    requires { of < length all.now.now }
+{
+    Ok(items(alloc, all, of)?.as_str() == wanted)
+}
+
+/// Whether two that stand in front of one rest show it both.
+fn share(
+    alloc: Global,
+    all: &mut Continuations<char>,
+    rest: Continuation,
+) -> Result<bool, AllocError>
+    requires { rest < length all.old.now }
+{
+    let first = before(all, 'a', rest)?;
+    let second = before(all, 'd', rest)?;
+    let abc = shows(alloc, all, first, "abc")?;
+    let dbc = shows(alloc, all, second, "dbc")?;
+    Ok(abc && dbc && all.made() == 4)
+}
+
+fn share_their_rest(alloc: Global) -> Result<bool, AllocError> {
+    let mut all = Continuations::new(alloc);
+    let done = shows(alloc, &all, Continuation::done(), "")?;
     let c = before(&mut all, 'c', Continuation::done())?;
     let bc = before(&mut all, 'b', c)?;
-    let abc = before(&mut all, 'a', bc)?;
-    let dbc = before(&mut all, 'd', bc)?;
-    assert_eq!(rt; items(rt.alloc(), &all, abc)?.as_str(), "abc");
-    assert_eq!(rt; items(rt.alloc(), &all, dbc)?.as_str(), "dbc");
-    assert_eq!(rt; items(rt.alloc(), &all, Continuation::done())?.as_str(), "");
-    assert_eq!(rt; all.made(), 4);
-    Ok(())
+    let shared = share(alloc, &mut all, bc)?;
+    Ok(done && shared)
 }
 
 #[test]
-fn an_undo_takes_later_continuations_away(rt: HostRuntime) -> Result<(), Fail> {
+fn two_continuations_share_their_rest(rt: HostRuntime) -> Result<(), Fail> {
+    assert!(rt; share_their_rest(rt.alloc())?);
+    Ok(())
+}
+
+fn are_taken_away(alloc: Global) -> Result<bool, AllocError> {
     let mut world = Both {
-        first: Trail::new(rt.alloc()),
-        second: Continuations::new(rt.alloc()),
+        first: Trail::new(alloc),
+        second: Continuations::new(alloc),
     };
-    let mut choices = Choices::new(rt.alloc());
+    let mut choices = Choices::new(alloc);
     world.first.push(1)?;
     world.second.before('a', Continuation::done())?;
     choices.push(&mut world, 0)?;
     world.second.before('b', Continuation::done())?;
     world.second.before('c', Continuation::done())?;
-    assert_eq!(rt; world.second.made(), 3);
-    assert_eq!(rt; choices.back(&mut world), Some(0));
-    assert_eq!(rt; world.second.made(), 1);
+    let grown = world.second.made();
+    let back = choices.back(&mut world);
+    Ok(grown == 3 && back == Some(0) && world.second.made() == 1)
+}
+
+#[test]
+fn an_undo_takes_later_continuations_away(rt: HostRuntime) -> Result<(), Fail> {
+    assert!(rt; are_taken_away(rt.alloc())?);
     Ok(())
 }

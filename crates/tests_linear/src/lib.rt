@@ -6,6 +6,8 @@ mod level;
 #[cfg(test)]
 mod linear;
 #[cfg(test)]
+mod problems;
+#[cfg(test)]
 mod simplex;
 #[cfg(test)]
 mod weighing;

@@ -300,7 +300,8 @@ fn refuses(
 {
     match store.tell(c) {
         Ok(Told::Unsolvable(cert)) => {
-            Ok(are_entries(cert.entries(), wanted) && is_refuted(alloc, list, cert.entries())?)
+            let refuted = is_refuted(alloc, list, cert.entries())?;
+            Ok(refuted && are_entries(cert.entries(), wanted))
         }
         _ => Ok(false),
     }
@@ -391,25 +392,38 @@ fn all_come(
     Ok(true)
 }
 
+/// Whether each step of a list comes as wanted.
+fn comes(alloc: Global, steps: &[Step]) -> Result<bool, Fail> {
+    let mut store = Store::new(alloc, 20);
+    let mut list = Vec::new(alloc);
+    all_come(&mut store, &mut list, alloc, steps)
+}
+
+/// The place of the first list of which a step comes otherwise.
+fn first_wrong(alloc: Global) -> Result<Option<usize>, Fail> {
+    for (place, steps) in STEPS.iter().enumerate() {
+        if !comes(alloc, *steps)? {
+            return Ok(Some(place));
+        }
+    }
+    Ok(None)
+}
+
 #[test]
 fn lists_are_kept_refused_and_asked_about(rt: HostRuntime) -> Result<(), Fail> {
-    for steps in &STEPS {
-        let mut store = Store::new(rt.alloc(), 20);
-        let mut list = Vec::new(rt.alloc());
-        assert!(rt; all_come(&mut store, &mut list, rt.alloc(), *steps)?);
-    }
+    assert_eq!(rt; first_wrong(rt.alloc())?, None);
     Ok(())
 }
 
 /// x0 >= 0, x0 + x1 = 3, x1 =\= 2
-const TOLD: [Step; 3] = [
+static TOLD: [Step; 3] = [
     Step::Keeps(Relation::Ge, &[(1, 0)], 0, 0),
     Step::Keeps(Relation::Eq, &[(1, 0), (1, 1)], -3, 0),
     Step::Keeps(Relation::Ne, &[(1, 1)], -2, 0),
 ];
 
 /// What is asked of them, where nothing else is told.
-const ASKED: [Step; 6] = [
+static ASKED: [Step; 6] = [
     Step::Reaches(&[(1, 1)], 0, Some(3)),
     Step::Falls(&[(1, 1)], 0, None),
     Step::Reaches(&[(1, 0), (1, 1), (1, 2)], 0, None),
@@ -419,7 +433,7 @@ const ASKED: [Step; 6] = [
 ];
 
 /// x1 >= 3 is kept, so that x0 = 0 and x1 = 3; x2 > x1 is kept; x0 > 0 is refused.
-const CHANGES: [Step; 5] = [
+static CHANGES: [Step; 5] = [
     Step::Keeps(Relation::Ge, &[(1, 1)], -3, 2),
     Step::Keeps(Relation::Gt, &[(-1, 1), (1, 2)], 0, 0),
     Step::Reaches(&[(1, 1)], 0, Some(3)),
@@ -454,39 +468,76 @@ fn stays_as_before(
     Ok(told && before && changed && after)
 }
 
+/// Whether three constraints are left, by which no variable has a value.
+fn leaves_three(store: &Store) -> bool {
+    store.told().len() == 3
+        && store.value(VarId(0)).is_none()
+        && store.value(VarId(1)).is_none()
+        && store.value(VarId(2)).is_none()
+}
+
+fn is_as_before(alloc: Global) -> Result<bool, Fail> {
+    let mut store = Store::new(alloc, 20);
+    let mut list = Vec::new(alloc);
+    let stays = stays_as_before(&mut store, &mut list, alloc)?;
+    Ok(stays && leaves_three(&store))
+}
+
 #[test]
 fn what_is_undone_is_as_before(rt: HostRuntime) -> Result<(), Fail> {
-    let mut store = Store::new(rt.alloc(), 20);
-    let mut list = Vec::new(rt.alloc());
-    assert!(rt; stays_as_before(&mut store, &mut list, rt.alloc())?);
-    assert_eq!(rt; store.told().len(), 3);
-    for x in 0..3 {
-        assert_eq!(rt; store.value(VarId(x)), None);
-    }
+    assert!(rt; is_as_before(rt.alloc())?);
     Ok(())
 }
 
 /// x0 >= 0, x1 = 0, x2 =\= 0, x3 > 0: two inequalities
-const MIXED: [(Relation, Products); 4] = [
+static MIXED: [(Relation, Products); 4] = [
     (Relation::Ge, &[(1, 0)]),
     (Relation::Eq, &[(1, 1)]),
     (Relation::Ne, &[(1, 2)]),
     (Relation::Gt, &[(1, 3)]),
 ];
 
+/// Tells that a form stands so to zero.
+fn tell_form(
+    store: &mut Store,
+    alloc: Global,
+    relation: Relation,
+    products: Products,
+) -> Result<(), Fail> {
+    store.tell(constraint(alloc, relation, products, 0)?)?;
+    Ok(())
+}
+
+fn tell_mixed(store: &mut Store, alloc: Global) -> Result<(), Fail> {
+    for (relation, form) in &MIXED {
+        tell_form(store, alloc, *relation, *form)?;
+    }
+    Ok(())
+}
+
+/// Inequalities of so many variables more.
+fn tell_many(store: &mut Store, alloc: Global, from: usize, to: usize) -> Result<(), Fail> {
+    for x in from..to {
+        tell_form(store, alloc, Relation::Ge, &[(1, x)])?;
+    }
+    Ok(())
+}
+
+/// How much is enough for none, two, 62 and 63 inequalities.
+fn enough_for(alloc: Global) -> Result<[Option<u64>; 4], Fail> {
+    let mut store = Store::new(alloc, 20);
+    let none = store.enough();
+    tell_mixed(&mut store, alloc)?;
+    let two = store.enough();
+    tell_many(&mut store, alloc, 4, 64)?;
+    let many = store.enough();
+    tell_many(&mut store, alloc, 64, 65)?;
+    Ok([none, two, many, store.enough()])
+}
+
 #[test]
 fn enough_is_a_power_of_two(rt: HostRuntime) -> Result<(), Fail> {
-    let mut store = Store::new(rt.alloc(), 20);
-    assert_eq!(rt; store.enough(), Some(2));
-    for (relation, form) in &MIXED {
-        store.tell(constraint(rt.alloc(), *relation, *form, 0)?)?;
-    }
-    assert_eq!(rt; store.enough(), Some(8));
-    for x in 4..64 {
-        store.tell(constraint(rt.alloc(), Relation::Ge, &[(1, x)], 0)?)?;
-    }
-    assert_eq!(rt; store.enough(), Some(9_223_372_036_854_775_808));
-    store.tell(constraint(rt.alloc(), Relation::Ge, &[(1, 64)], 0)?)?;
-    assert_eq!(rt; store.enough(), None);
+    let wanted = [Some(2), Some(8), Some(9_223_372_036_854_775_808), None];
+    assert!(rt; enough_for(rt.alloc())? == wanted);
     Ok(())
 }

@@ -1,93 +1,25 @@
 // Maxima of small dictionaries by hand, Beale's example (1955) among them, on which the rule of the greatest coefficient
 // goes round in a circle: exchanges made, ties, columns without a limit, and numbers past 128 bits.
-ghost use Rattle.std.specs.Prelude.{◌≡◌, ◌<◌, ℕ, length};
-ghost use Rattle.std.specs.Bool.{OnTrue};
-ghost use Rattle.spec_simplex.specs.Dictionary.{IsFeasible};
-ghost use Rattle.cq_row.specs.declared.Entry.{Entry};
-ghost use Rattle.cq_row.specs.Rows.{Has};
-ghost use Rattle.cq_dict.specs.Roles.{AreOverColumns, is_restricted};
-ghost use Rattle.cq_simplex.specs.Checked.{IsRowFeasible};
-ghost use Rattle.cq_simplex.specs.Dictionary.{dictionary};
-
+use crate::problems::{Problem, is_feasible, made};
 use cq_climb::ascend;
-use cq_dict::dict::Dict;
-use cq_frac::{Frac, Refusal};
+use cq_frac::Frac;
 use cq_row::Entry;
-use cq_simplex::rising::free_column;
 use cq_simplex::{Aim, Max, SimplexFault, maximise};
 use std::alloc::{AllocError, Global};
 use std::test::Fail;
-
-fn within(form: &[Entry], count: usize) -> bool
-    ensures { OnTrue result ((m : Entry) → Has m form.now → m.quantity < count) }
-{
-    for m in form {
-        if m.quantity >= count {
-            return false;
-        }
-    }
-    true
-}
-
-/// Adds a row over quantities that are there.
-fn add(dict: &mut Dict, form: &[Entry], constant: i64, restricted: bool) -> Result<usize, Refusal> {
-    if within(form, dict.count()) {
-        return dict.add_row(form, Frac::from(constant), restricted);
-    }
-    Err(Refusal::NoMemory)
-}
-
-fn row_is_feasible(dict: &Dict, q: usize) -> bool
-    requires table { AreOverColumns dict.now.roles }
-    requires there { q < length dict.now.roles }
-    ensures { OnTrue result ((asked : ℕ) → IsRowFeasible (is_restricted dict.now.restricted) (dictionary dict.now.roles asked) q) }
-{
-    if !dict.is_row(q) || !dict.is_restricted(q) {
-        return true;
-    }
-    if dict.constant(q).is_negative() {
-        return false;
-    }
-    match free_column(dict, q) {
-        Some(_) => false,
-        None => true,
-    }
-}
-
-fn is_feasible(dict: &Dict) -> bool
-    ensures { OnTrue result ((asked : ℕ) → IsFeasible (is_restricted dict.now.restricted) (dictionary dict.now.roles asked)) }
-{
-    for q in 0..dict.count() {
-        if !row_is_feasible(dict, q) {
-            return false;
-        }
-    }
-    true
-}
-
-/// Quantities, each with a numerator and a denominator.
-type Form<'a> = &'a [(usize, i128, i128)];
-
-/// A row that is asked, over columns and restricted rows, which are numbered after the columns.
-struct Problem<'a> {
-    restricted_columns: usize,
-    free_columns: usize,
-    rows: &'a [(Form<'a>, i64)],
-    asked: Form<'a>,
-}
 
 const TWO_COLUMNS: Problem = Problem {
     restricted_columns: 2,
     free_columns: 0,
     rows: &[(&[(0, -1, 1), (1, -1, 1)], 4)],
-    asked: &[(0, 1, 1), (1, 2, 1)],
+    asked: (&[(0, 1, 1), (1, 2, 1)], 0),
 };
 
 const BOX: Problem = Problem {
     restricted_columns: 3,
     free_columns: 0,
     rows: &[(&[(0, -1, 1)], 1), (&[(1, -1, 1)], 1), (&[(2, -1, 1)], 1)],
-    asked: &[(0, 1, 1), (1, 1, 1), (2, 1, 1)],
+    asked: (&[(0, 1, 1), (1, 1, 1), (2, 1, 1)], 0),
 };
 
 const BEALE: Problem = Problem {
@@ -98,35 +30,35 @@ const BEALE: Problem = Problem {
         (&[(0, -1, 2), (1, 90, 1), (2, 1, 50), (3, -3, 1)], 0),
         (&[(2, -1, 1)], 1),
     ],
-    asked: &[(0, 3, 4), (1, -150, 1), (2, 1, 50), (3, -6, 1)],
+    asked: (&[(0, 3, 4), (1, -150, 1), (2, 1, 50), (3, -6, 1)], 0),
 };
 
 const NO_ROW: Problem = Problem {
     restricted_columns: 1,
     free_columns: 0,
     rows: &[],
-    asked: &[(0, 1, 1)],
+    asked: (&[(0, 1, 1)], 0),
 };
 
 const TIE: Problem = Problem {
     restricted_columns: 1,
     free_columns: 0,
     rows: &[(&[(0, 1, 1)], 0), (&[(0, -1, 1)], 2), (&[(0, -1, 1)], 2)],
-    asked: &[(0, 1, 1)],
+    asked: (&[(0, 1, 1)], 0),
 };
 
 const FREE_COLUMN: Problem = Problem {
     restricted_columns: 1,
     free_columns: 1,
     rows: &[(&[(0, -1, 1)], 1)],
-    asked: &[(0, 1, 1), (1, -1, 1)],
+    asked: (&[(0, 1, 1), (1, -1, 1)], 0),
 };
 
 const FALLING: Problem = Problem {
     restricted_columns: 1,
     free_columns: 0,
     rows: &[],
-    asked: &[(0, -2, 1)],
+    asked: (&[(0, -2, 1)], 0),
 };
 
 const LARGE: Problem = Problem {
@@ -136,10 +68,10 @@ const LARGE: Problem = Problem {
         &[(0, -1, 170_141_183_460_469_231_731_687_303_715_884_105_727)],
         3,
     )],
-    asked: &[(0, 1, 1)],
+    asked: (&[(0, 1, 1)], 0),
 };
 
-const CASES: [(&Problem, Aim, u64, &str); 18] = [
+static CASES: [Case; 18] = [
     (&TWO_COLUMNS, Aim::Best, 1, "1 pivots and no end"),
     (&TWO_COLUMNS, Aim::Best, 2, "8 0:1 2:2"),
     (&TWO_COLUMNS, Aim::Positive, 0, "0 pivots and no end"),
@@ -160,45 +92,11 @@ const CASES: [(&Problem, Aim, u64, &str); 18] = [
     (&LARGE, Aim::Positive, 1, "a number past 128 bits"),
 ];
 
-fn entries(alloc: Global, form: Form) -> Result<Vec<Entry>, Fail> {
-    let mut entries = Vec::new(alloc);
-    for (quantity, n, d) in form {
-        entries.push(Entry {
-            quantity: *quantity,
-            factor: Frac::new(*n, *d)?,
-        })?;
-    }
-    Ok(entries)
-}
-
-fn made(alloc: Global, problem: &Problem) -> Result<(Dict, usize), Fail> {
-    let mut dict = Dict::new(alloc);
-    for _ in 0..problem.restricted_columns {
-        dict.add_column(true)?;
-    }
-    for _ in 0..problem.free_columns {
-        dict.add_column(false)?;
-    }
-    for (form, constant) in problem.rows {
-        add(&mut dict, &entries(alloc, *form)?, *constant, true)?;
-    }
-    let asked = add(&mut dict, &entries(alloc, problem.asked)?, 0, false)?;
-    Ok((dict, asked))
-}
-
-fn shown_number(alloc: Global, number: Frac) -> Result<String, AllocError> {
-    let (n, d) = number.parts();
-    if d == 1 {
-        return format!(in alloc; "{n}");
-    }
-    format!(in alloc; "{n}r{d}")
-}
-
 fn shown_maximum(alloc: Global, value: Frac, multipliers: &[Entry]) -> Result<String, AllocError> {
-    let mut text = shown_number(alloc, value)?;
+    let mut text = format!(in alloc; "{value}")?;
     for m in multipliers {
-        let factor = shown_number(alloc, m.factor)?;
-        text.push_str(format!(in alloc; " {}:{}", m.quantity, factor.as_str())?.as_str())?;
+        let multiplier = format!(in alloc; " {}:{}", m.quantity, m.factor)?;
+        text.push_str(multiplier.as_str())?;
     }
     Ok(text)
 }
@@ -234,18 +132,28 @@ fn answer(
     Ok(String::from_str(alloc, "not feasible")?)
 }
 
+/// A row that is asked in a way, under a limit, with the answer.
+type Case<'a> = (&'a Problem<'a>, Aim, u64, &'a str);
+
+/// The place of the first case with another answer.
+fn first_wrong(alloc: Global, cases: &[Case], climbs: bool) -> Result<Option<usize>, Fail> {
+    for (place, (problem, aim, budget, expected)) in cases.iter().enumerate() {
+        if answer(alloc, *problem, climbs, *aim, *budget)?.as_str() != *expected {
+            return Ok(Some(place));
+        }
+    }
+    Ok(None)
+}
+
 #[test]
 fn rows_have_their_maxima(rt: HostRuntime) -> Result<(), Fail> {
-    for (problem, aim, budget, expected) in &CASES {
-        let text = answer(rt.alloc(), *problem, false, *aim, *budget)?;
-        assert_eq!(rt; text.as_str(), *expected);
-    }
+    assert_eq!(rt; first_wrong(rt.alloc(), &CASES, false)?, None);
     Ok(())
 }
 
 // Of the two columns the second gains 8 and the first 4. On the box one exchange of the climb and one of the search are not enough.
 // On Beale's example the climb takes two exchanges, where the search by itself takes six.
-const CLIMBS: [(&Problem, Aim, u64, &str); 10] = [
+static CLIMBS: [Case; 10] = [
     (&TWO_COLUMNS, Aim::Best, 0, "0 pivots and no end"),
     (&TWO_COLUMNS, Aim::Best, 1, "8 0:1 2:2"),
     (&TWO_COLUMNS, Aim::Positive, 1, "positive"),
@@ -260,9 +168,6 @@ const CLIMBS: [(&Problem, Aim, u64, &str); 10] = [
 
 #[test]
 fn rows_that_climb_have_their_maxima(rt: HostRuntime) -> Result<(), Fail> {
-    for (problem, aim, budget, expected) in &CLIMBS {
-        let text = answer(rt.alloc(), *problem, true, *aim, *budget)?;
-        assert_eq!(rt; text.as_str(), *expected);
-    }
+    assert_eq!(rt; first_wrong(rt.alloc(), &CLIMBS, true)?, None);
     Ok(())
 }

@@ -2,6 +2,8 @@
 #![tactic(auto)]
 
 #[cfg(test)]
+mod eliminate;
+#[cfg(test)]
 mod fourier;
 #[cfg(test)]
 mod given;

@@ -98,7 +98,11 @@ static PASSES: [Pass; 9] = [
 ];
 
 /// Whether the rows can hold together with what is told.
-fn can_hold(alloc: Global, told: &[Constraint], rows: &[Constraint]) -> Result<bool, StoreFault>
+pub(crate) fn can_hold(
+    alloc: Global,
+    told: &[Constraint],
+    rows: &[Constraint],
+) -> Result<bool, StoreFault>
     ensures { IfOk result (λ yes. IsTrue yes → Solvable (told.now ++ rows.now)) }
 {
     let mut store = Store::new(alloc, 1000);

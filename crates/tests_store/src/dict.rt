@@ -6,10 +6,10 @@ ghost use Rattle.cq_row.specs.declared.Entry.{Entry};
 ghost use Rattle.cq_row.specs.Rows.{Has};
 
 use cq_dict::dict::Dict;
-use cq_frac::{Frac, Operation, Refusal};
+use cq_frac::{Frac, Refusal};
 use cq_row::{Entry, entry_at};
 use cq_trail::Undo;
-use std::alloc::Global;
+use std::alloc::{AllocError, Global};
 use std::test::Fail;
 
 const M: i128 = 170_141_183_460_469_231_731_687_303_715_884_105_727;
@@ -84,98 +84,123 @@ fn is_restricted(dict: &Dict, q: usize) -> bool {
     q < dict.count() && dict.is_restricted(q)
 }
 
-fn entry(quantity: usize, factor: Frac) -> Entry {
-    Entry { quantity, factor }
+fn entry(quantity: usize, factor: i64) -> Entry {
+    Entry {
+        quantity,
+        factor: Frac::from(factor),
+    }
 }
 
-/// A row's constant, or nothing for a column.
-fn constant(dict: &Dict, r: usize) -> Option<Frac> {
-    if r < dict.count() && dict.is_row(r) {
-        return Some(dict.constant(r));
+fn put_products(text: &mut String, alloc: Global, products: &[Entry]) -> Result<(), AllocError> {
+    for m in products {
+        let product = format!(in alloc; "{}*{} ", m.factor, m.quantity)?;
+        text.push_str(product.as_str())?;
     }
-    None
+    Ok(())
 }
 
-/// The factor of a column among a row's entries: live ones, or else dropped ones.
-fn factor(dict: &Dict, r: usize, c: usize, live: bool) -> Option<Frac> {
-    if r < dict.count() && dict.is_row(r) {
-        let entries = if live { dict.row(r) } else { dict.dropped(r) };
-        for m in entries {
-            if m.quantity == c {
-                return Some(m.factor);
-            }
-        }
+/// A row: its constant, its products over live columns, and those over dropped ones; nothing for a column.
+fn row_text(alloc: Global, dict: &Dict, r: usize) -> Result<String, AllocError>
+    requires { r < length dict.now.roles }
+{
+    if !dict.is_row(r) {
+        return Ok(String::new(alloc));
     }
-    None
+    let mut text = format!(in alloc; "{r}: {} ", dict.constant(r))?;
+    put_products(&mut text, alloc, dict.row(r))?;
+    text.push_str("| ")?;
+    put_products(&mut text, alloc, dict.dropped(r))?;
+    Ok(text)
+}
+
+/// The number of quantities, and each row.
+fn dict_text(alloc: Global, dict: &Dict) -> Result<String, AllocError> {
+    let mut text = format!(in alloc; "{} ", dict.count())?;
+    for r in 0..dict.count() {
+        text.push_str(row_text(alloc, dict, r)?.as_str())?;
+    }
+    Ok(text)
+}
+
+/// Adds a row, and exchanges it with a column, which is dropped.
+fn solve(dict: &mut Dict, form: &[Entry], constant: i64, column: usize) -> Result<(), Refusal> {
+    let row = add(dict, form, Frac::from(constant))?;
+    exchange(dict, row, column)?;
+    turn(dict, row)
 }
 
 /// X + Y = 3 and X - Y = 1, with X and Y the quantities 0 and 1, and the equations 2 and 3.
 fn solved(alloc: Global) -> Result<Dict, Refusal> {
-    let one = Frac::one();
     let mut dict = Dict::new(alloc);
-    let x = dict.add_column(false)?;
-    let y = dict.add_column(false)?;
-    let sum = add(&mut dict, &[entry(x, one), entry(y, one)], Frac::from(-3))?;
-    exchange(&mut dict, sum, x)?;
-    turn(&mut dict, sum)?;
-    let difference = add(
-        &mut dict,
-        &[entry(x, one), entry(y, one.neg())],
-        Frac::from(-1),
-    )?;
-    exchange(&mut dict, difference, y)?;
-    turn(&mut dict, difference)?;
+    dict.add_column(false)?;
+    dict.add_column(false)?;
+    solve(&mut dict, &[entry(0, 1), entry(1, 1)], -3, 0)?;
+    solve(&mut dict, &[entry(0, 1), entry(1, -1)], -1, 1)?;
     Ok(dict)
+}
+
+const TWO_AND_ONE: &str = "4 0: 2 | 1r2*2 1r2*3 1: 1 | 1r2*2 -1r2*3 ";
+
+/// Whether a dictionary is what the text says.
+fn is_dict(alloc: Global, dict: &Dict, text: &str) -> Result<bool, Refusal> {
+    Ok(dict_text(alloc, dict)?.as_str() == text)
+}
+
+fn is_solved(alloc: Global) -> Result<bool, Refusal> {
+    let dict = solved(alloc)?;
+    is_dict(alloc, &dict, TWO_AND_ONE)
 }
 
 #[test]
 fn two_equations_give_two_and_one(rt: HostRuntime) -> Result<(), Fail> {
-    let dict = solved(rt.alloc())?;
-    let half = Frac::new(1, 2)?;
-    assert_eq!(rt; dict.count(), 4);
-    assert_eq!(rt; constant(&dict, 0), Some(Frac::from(2)));
-    assert_eq!(rt; constant(&dict, 1), Some(Frac::from(1)));
-    assert_eq!(rt; factor(&dict, 0, 2, false), Some(half));
-    assert_eq!(rt; factor(&dict, 0, 3, false), Some(half));
-    assert_eq!(rt; factor(&dict, 1, 2, false), Some(half));
-    assert_eq!(rt; factor(&dict, 1, 3, false), Some(half.neg()));
-    assert_eq!(rt; factor(&dict, 0, 2, true), None);
+    assert!(rt; is_solved(rt.alloc())?);
     Ok(())
+}
+
+/// Whether the first equation's column stands among the live ones once it is restored.
+fn is_restored(alloc: Global, dict: &mut Dict) -> Result<bool, Refusal> {
+    turn(dict, 2)?;
+    is_dict(alloc, dict, "4 0: 2 1r2*2 | 1r2*3 1: 1 1r2*2 | -1r2*3 ")
+}
+
+/// Whether it is the row then that it is exchanged with.
+fn is_exchanged(alloc: Global, dict: &mut Dict) -> Result<bool, Refusal> {
+    exchange(dict, 0, 2)?;
+    is_dict(alloc, dict, "4 1: -1 1*0 | -1*3 2: -4 2*0 | -1*3 ")
+}
+
+fn goes_back_in(alloc: Global) -> Result<bool, Refusal> {
+    let mut dict = solved(alloc)?;
+    let restored = is_restored(alloc, &mut dict)?;
+    let exchanged = is_exchanged(alloc, &mut dict)?;
+    Ok(restored && exchanged)
 }
 
 #[test]
 fn a_restored_column_stands_among_the_live_ones(rt: HostRuntime) -> Result<(), Fail> {
-    let mut dict = solved(rt.alloc())?;
-    let half = Frac::new(1, 2)?;
-    turn(&mut dict, 2)?;
-    assert_eq!(rt; factor(&dict, 0, 2, true), Some(half));
-    assert_eq!(rt; factor(&dict, 0, 2, false), None);
-    assert_eq!(rt; factor(&dict, 0, 3, false), Some(half));
-    exchange(&mut dict, 0, 2)?;
-    assert_eq!(rt; constant(&dict, 2), Some(Frac::from(-4)));
-    assert_eq!(rt; factor(&dict, 2, 0, true), Some(Frac::from(2)));
-    assert_eq!(rt; factor(&dict, 2, 3, false), Some(Frac::from(-1)));
-    assert_eq!(rt; constant(&dict, 1), Some(Frac::from(-1)));
+    assert!(rt; goes_back_in(rt.alloc())?);
     Ok(())
+}
+
+/// X + Y - 3 and 2 X, with X and Y the quantities 0 and 1, and the rows 2 and 3.
+fn two_rows(alloc: Global) -> Result<Dict, Refusal> {
+    let mut dict = Dict::new(alloc);
+    dict.add_column(false)?;
+    dict.add_column(false)?;
+    add(&mut dict, &[entry(0, 1), entry(1, 1)], Frac::from(-3))?;
+    add(&mut dict, &[entry(0, 2)], Frac::zero())?;
+    Ok(dict)
+}
+
+fn is_eliminated(alloc: Global) -> Result<bool, Refusal> {
+    let mut dict = two_rows(alloc)?;
+    eliminate(&mut dict, 2, 0)?;
+    is_dict(alloc, &dict, "4 0: 3 -1*1 | 1*2 3: 6 -2*1 | 2*2 ")
 }
 
 #[test]
 fn an_eliminated_row_is_a_dropped_column_of_all_rows(rt: HostRuntime) -> Result<(), Fail> {
-    let one = Frac::one();
-    let mut dict = Dict::new(rt.alloc());
-    let x = dict.add_column(false)?;
-    let y = dict.add_column(false)?;
-    let sum = add(&mut dict, &[entry(x, one), entry(y, one)], Frac::from(-3))?;
-    let twice = add(&mut dict, &[entry(x, Frac::from(2))], Frac::zero())?;
-    eliminate(&mut dict, sum, x)?;
-    assert_eq!(rt; constant(&dict, x), Some(Frac::from(3)));
-    assert_eq!(rt; factor(&dict, x, y, true), Some(one.neg()));
-    assert_eq!(rt; factor(&dict, x, sum, false), Some(one));
-    assert_eq!(rt; factor(&dict, x, sum, true), None);
-    assert_eq!(rt; constant(&dict, twice), Some(Frac::from(6)));
-    assert_eq!(rt; factor(&dict, twice, y, true), Some(Frac::from(-2)));
-    assert_eq!(rt; factor(&dict, twice, sum, false), Some(Frac::from(2)));
-    assert_eq!(rt; constant(&dict, sum), None);
+    assert!(rt; is_eliminated(rt.alloc())?);
     Ok(())
 }
 
@@ -186,8 +211,14 @@ fn change(dict: &mut Dict) -> Result<(), Refusal>
     turn(dict, 2)?;
     exchange(dict, 0, 2)?;
     turn(dict, 0)?;
+    grow(dict)
+}
+
+fn grow(dict: &mut Dict) -> Result<(), Refusal>
+    ensures { dict.new.saved ≡ dict.old.saved }
+{
     restrict(dict, 0)?;
-    add(dict, &[entry(1, Frac::from(2))], Frac::one())?;
+    add(dict, &[entry(1, 2)], Frac::one())?;
     dict.add_column(true)?;
     Ok(())
 }
@@ -204,55 +235,84 @@ fn change_and_undo(dict: &mut Dict) -> Result<(), Refusal> {
     Ok(())
 }
 
-#[test]
-fn undo_gives_back_each_row_constant_and_flag(rt: HostRuntime) -> Result<(), Fail> {
-    let mut dict = solved(rt.alloc())?;
-    let half = Frac::new(1, 2)?;
+/// Whether all is as it was, with room for two more quantities.
+fn is_as_it_was(alloc: Global, dict: &Dict) -> Result<bool, Refusal> {
+    let flags = !is_restricted(dict, 0) && is_restricted(dict, 1);
+    let same = is_dict(alloc, dict, TWO_AND_ONE)?;
+    Ok(flags && same && dict.spare() >= 2)
+}
+
+fn goes_back(alloc: Global) -> Result<bool, Refusal> {
+    let mut dict = solved(alloc)?;
     restrict(&mut dict, 1)?;
     change_and_undo(&mut dict)?;
-    assert_eq!(rt; dict.count(), 4);
-    assert_eq!(rt; constant(&dict, 0), Some(Frac::from(2)));
-    assert_eq!(rt; constant(&dict, 1), Some(Frac::from(1)));
-    assert_eq!(rt; factor(&dict, 0, 2, false), Some(half));
-    assert_eq!(rt; factor(&dict, 0, 3, false), Some(half));
-    assert_eq!(rt; factor(&dict, 1, 2, false), Some(half));
-    assert_eq!(rt; factor(&dict, 1, 3, false), Some(half.neg()));
-    assert!(rt; !is_restricted(&dict, 0));
-    assert!(rt; is_restricted(&dict, 1));
-    assert!(rt; dict.spare() >= 2);
-    assert_eq!(rt; dict.add_column(false)?, 4);
+    is_as_it_was(alloc, &dict)
+}
+
+#[test]
+fn undo_gives_back_each_row_constant_and_flag(rt: HostRuntime) -> Result<(), Fail> {
+    assert!(rt; goes_back(rt.alloc())?);
     Ok(())
+}
+
+/// X / 2 + M, where X is the restricted quantity 0 and the row the quantity 1.
+fn at_the_end(alloc: Global) -> Result<Dict, Refusal> {
+    let mut dict = Dict::new(alloc);
+    dict.add_column(true)?;
+    let half = Entry {
+        quantity: 0,
+        factor: Frac::new(1, 2).unwrap_or(Frac::zero()),
+    };
+    add(&mut dict, &[half], Frac::new(M, 1).unwrap_or(Frac::zero()))?;
+    Ok(dict)
+}
+
+/// The operation that is refused, with its two numbers.
+fn refusal_text(alloc: Global, refusal: Refusal) -> Result<String, AllocError> {
+    match refusal {
+        Refusal::Overflow(pair) => {
+            format!(in alloc; "{:?} {} {}", pair.operation, pair.left, pair.right)
+        }
+        Refusal::NoMemory => Err(AllocError),
+    }
+}
+
+/// Adds twice the row 1; why it is refused.
+fn doubled(alloc: Global, dict: &mut Dict) -> Result<String, AllocError> {
+    match add(dict, &[entry(1, 2)], Frac::zero()) {
+        Ok(_) => Ok(String::new(alloc)),
+        Err(refusal) => refusal_text(alloc, refusal),
+    }
+}
+
+/// Exchanges the row 1 with the column 0; why it is refused.
+fn exchanged(alloc: Global, dict: &mut Dict) -> Result<String, AllocError> {
+    match exchange(dict, 1, 0) {
+        Ok(()) => Ok(String::new(alloc)),
+        Err(refusal) => refusal_text(alloc, refusal),
+    }
+}
+
+/// Whether both are refused, each with its pair.
+fn are_refused(alloc: Global, dict: &mut Dict) -> Result<bool, AllocError> {
+    let product = doubled(alloc, dict)?;
+    let quotient = exchanged(alloc, dict)?;
+    Ok(
+        product.as_str() == "Product 2 170141183460469231731687303715884105727"
+            && quotient.as_str() == "Quotient 170141183460469231731687303715884105727 1r2",
+    )
+}
+
+fn stays(alloc: Global) -> Result<bool, Refusal> {
+    let mut dict = at_the_end(alloc)?;
+    let refused = are_refused(alloc, &mut dict)?;
+    let row = "2 1: 170141183460469231731687303715884105727 1r2*0 | ";
+    let same = is_dict(alloc, &dict, row)?;
+    Ok(refused && same && is_restricted(&dict, 0))
 }
 
 #[test]
 fn a_fault_tells_its_pair_and_leaves_all_as_it_was(rt: HostRuntime) -> Result<(), Fail> {
-    let most = Frac::new(M, 1)?;
-    let half = Frac::new(1, 2)?;
-    let mut dict = Dict::new(rt.alloc());
-    let x = dict.add_column(false)?;
-    let row = add(&mut dict, &[entry(x, half)], most)?;
-    if x < dict.count() {
-        dict.restrict(x)?;
-    }
-    match add(&mut dict, &[entry(row, Frac::from(2))], Frac::zero()) {
-        Err(Refusal::Overflow(pair)) => {
-            assert_eq!(rt; pair.operation, Operation::Product);
-            assert_eq!(rt; pair.left, Frac::from(2));
-            assert_eq!(rt; pair.right, most);
-        }
-        _ => assert!(rt; false),
-    }
-    match exchange(&mut dict, row, x) {
-        Err(Refusal::Overflow(pair)) => {
-            assert_eq!(rt; pair.operation, Operation::Quotient);
-            assert_eq!(rt; pair.left, most);
-            assert_eq!(rt; pair.right, half);
-        }
-        _ => assert!(rt; false),
-    }
-    assert_eq!(rt; dict.count(), 2);
-    assert_eq!(rt; constant(&dict, row), Some(most));
-    assert_eq!(rt; factor(&dict, row, x, true), Some(half));
-    assert!(rt; dict.is_restricted(x));
+    assert!(rt; stays(rt.alloc())?);
     Ok(())
 }

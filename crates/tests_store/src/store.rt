@@ -2,6 +2,7 @@
 ghost use Rattle.std.specs.Prelude.{◌≡◌, IfOk};
 ghost use Rattle.spec_linear.specs.declared.Relation.TheVariants.{Eq};
 
+use crate::form::with_product;
 use cq_form::{Constraint, Form};
 use cq_frac::{Frac, Operation, Pair, VarId};
 use cq_store::store::{Store, StoreFault, Told};
@@ -54,7 +55,7 @@ const LARGE: Step = Step {
     wanted: Wanted::Fixes(&[0]),
 };
 
-const CASES: [Case; 5] = [
+static CASES: [Case; 5] = [
     // 2 * X0 + 3 = 7
     Case {
         steps: &[Step {
@@ -126,19 +127,12 @@ fn number(n: i128) -> Frac {
     Frac::new(n, 1).unwrap_or(Frac::zero())
 }
 
-/// The form and the product of a number and a variable.
-fn with_product(alloc: Global, form: Form, factor: i128, x: usize) -> Result<Form, Fail> {
-    let variable = Form::new(alloc, Frac::zero(), &[(VarId(x), Frac::one())])?;
-    let product = variable.scale(number(factor))?;
-    Ok(form.add(&product)?)
-}
-
 fn equation(alloc: Global, products: &[(i128, usize)], constant: i128) -> Result<Constraint, Fail>
     ensures { IfOk result (λ c. c.relation ≡ Eq) }
 {
     let mut form = Form::new(alloc, number(constant), &[])?;
     for (factor, x) in products {
-        form = with_product(alloc, form, *factor, *x)?;
+        form = with_product(alloc, form, number(*factor), *x)?;
     }
     Ok(Constraint {
         relation: Relation::Eq,
@@ -193,12 +187,19 @@ fn holds(alloc: Global, case: &Case) -> Result<bool, Fail> {
     Ok(has_values(&store, case.values) && store.told().len() == case.told)
 }
 
+/// The place of the first case that comes to something else.
+fn first_wrong(alloc: Global) -> Result<Option<usize>, Fail> {
+    for (place, case) in CASES.iter().enumerate() {
+        if !holds(alloc, case)? {
+            return Ok(Some(place));
+        }
+    }
+    Ok(None)
+}
+
 #[test]
 fn equations_fix_what_they_leave_no_choice(rt: HostRuntime) -> Result<(), Fail> {
-    for case in &CASES {
-        let told = case.told;
-        assert!(rt; holds(rt.alloc(), case)?, "{told}");
-    }
+    assert_eq!(rt; first_wrong(rt.alloc())?, None);
     Ok(())
 }
 
@@ -228,12 +229,18 @@ fn knowing_the_second(alloc: Global) -> Result<Store, Fail> {
     Ok(store)
 }
 
+fn is_solved_for(alloc: Global) -> Result<bool, Fail> {
+    let store = knowing_the_second(alloc)?;
+    Ok(
+        are_variables(store.order(), &[5, 2])
+            && is_row(&store, 5, (3, 1), 2, (-1, 1))
+            && store.row(VarId(2)).is_none()
+            && store.pivots() == 7,
+    )
+}
+
 #[test]
 fn the_first_variable_in_the_order_is_solved_for(rt: HostRuntime) -> Result<(), Fail> {
-    let store = knowing_the_second(rt.alloc())?;
-    assert!(rt; are_variables(store.order(), &[5, 2]));
-    assert!(rt; is_row(&store, 5, (3, 1), 2, (-1, 1)));
-    assert!(rt; store.row(VarId(2)).is_none());
-    assert_eq!(rt; store.pivots(), 7);
+    assert!(rt; is_solved_for(rt.alloc())?);
     Ok(())
 }

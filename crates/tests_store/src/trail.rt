@@ -118,32 +118,54 @@ fn step(alloc: Global, watched: &mut Watched, random: u32) -> Result<(), AllocEr
     Ok(())
 }
 
-#[test]
-fn goes_back_to_whole_copies(rt: HostRuntime) -> Result<(), Fail> {
-    let mut watched = new_watched(rt.alloc());
+/// The turn after which the trails are something else than the copies.
+fn first_unlike(alloc: Global) -> Result<Option<usize>, AllocError> {
+    let mut watched = new_watched(alloc);
     let mut random: u32 = 20_261_126;
     for turn in 0..800 {
         random = random.wrapping_mul(1_664_525).wrapping_add(1_013_904_223);
-        step(rt.alloc(), &mut watched, random >> 8)?;
-        assert!(rt; both_agree(&watched), "at turn {turn}");
+        step(alloc, &mut watched, random >> 8)?;
+        if !both_agree(&watched) {
+            return Ok(Some(turn));
+        }
     }
+    Ok(None)
+}
+
+#[test]
+fn goes_back_to_whole_copies(rt: HostRuntime) -> Result<(), Fail> {
+    assert_eq!(rt; first_unlike(rt.alloc())?, None);
     Ok(())
+}
+
+/// Whether what was pushed behind a mark is gone once that is undone.
+fn is_cut_off(stack: &mut Stack<u32>) -> Result<bool, AllocError> {
+    let m = stack.mark()?;
+    stack.push(8)?;
+    stack.push(9)?;
+    let grown = stack.as_slice() == [7, 8, 9].as_slice();
+    stack.undo(m);
+    Ok(grown && stack.as_slice() == [7].as_slice())
+}
+
+/// Whether there is room for one more then.
+fn goes_on(stack: &mut Stack<u32>) -> Result<bool, AllocError> {
+    stack.reserve_places(2)?;
+    stack.push(5)?;
+    Ok(stack.as_slice() == [7, 5].as_slice())
+}
+
+fn grows_and_goes_back(alloc: Global) -> Result<bool, AllocError> {
+    let mut stack = Stack::new(alloc);
+    let empty = stack.is_empty();
+    stack.push(7)?;
+    let cut = is_cut_off(&mut stack)?;
+    let more = goes_on(&mut stack)?;
+    Ok(empty && cut && more)
 }
 
 #[test]
 fn a_list_that_grew_is_cut_off(rt: HostRuntime) -> Result<(), Fail> {
-    let mut stack = Stack::new(rt.alloc());
-    assert!(rt; stack.is_empty());
-    stack.push(7)?;
-    let m = stack.mark()?;
-    stack.push(8)?;
-    stack.push(9)?;
-    assert_eq!(rt; stack.as_slice(), [7, 8, 9].as_slice());
-    stack.undo(m);
-    assert_eq!(rt; stack.as_slice(), [7].as_slice());
-    stack.reserve_places(2)?;
-    stack.push(5)?;
-    assert_eq!(rt; stack.len(), 2);
-    assert_eq!(rt; *stack.get(1), 5);
+    assert!(rt; grows_and_goes_back(rt.alloc())?);
     Ok(())
 }

@@ -64,29 +64,51 @@ fn take_oldest(attrs: &mut Attrs) -> Result<Option<SuspNo>, AllocError>
     Ok(Some(oldest))
 }
 
-/// Whether a variable is numeric, and what was taken is gone, until that is undone.
-fn goes_back(attrs: &mut Attrs, three: Three) -> Result<bool, AllocError> {
-    let m = attrs.mark()?;
+/// Makes a variable numeric and takes the oldest; whether that is seen.
+fn change(attrs: &mut Attrs, three: Three) -> Result<bool, AllocError>
+    ensures saved { attrs.new.saved ≡ attrs.old.saved }
+{
     attrs.set_numeric(X)?;
     let _taken = take_oldest(attrs)?;
     let left = attrs.woken(&[X])?;
-    let marked = attrs.is_numeric(X);
+    Ok(attrs.is_numeric(X) && are(&left, &[three.both]))
+}
+
+/// Whether a change is gone once it is undone.
+fn goes_back(attrs: &mut Attrs, three: Three) -> Result<bool, AllocError> {
+    let m = attrs.mark()?;
+    let changed = change(attrs, three)?;
     attrs.undo(m);
     let all = attrs.woken(&[X])?;
-    let back = are(&left, &[three.both]) && are(&all, &[three.first, three.both]);
-    Ok(marked && back && !attrs.is_numeric(X))
+    Ok(changed && are(&all, &[three.first, three.both]) && !attrs.is_numeric(X))
+}
+
+/// Whether the three are taken one after the other, and then none.
+fn are_taken(attrs: &mut Attrs, three: Three) -> Result<bool, AllocError> {
+    let first = take_oldest(attrs)?;
+    let second = take_oldest(attrs)?;
+    let both = take_oldest(attrs)?;
+    let none = take_oldest(attrs)?;
+    Ok(
+        first == Some(three.first)
+            && second == Some(three.second)
+            && both == Some(three.both)
+            && none.is_none(),
+    )
+}
+
+fn wake_in_order(alloc: Global, susp: &Susp) -> Result<bool, AllocError> {
+    let mut attrs = Attrs::new(alloc);
+    let three = suspend(&mut attrs, susp)?;
+    let woken = wake(&attrs, three)?;
+    let back = goes_back(&mut attrs, three)?;
+    let taken = are_taken(&mut attrs, three)?;
+    Ok(woken && back && taken)
 }
 
 #[test]
 fn wakes_the_oldest_first(rt: HostRuntime) -> Result<(), Fail> {
-    let mut attrs = Attrs::new(rt.alloc());
     let susp = Susp::Delayed(term(rt.alloc())?);
-    let three = suspend(&mut attrs, &susp)?;
-    assert!(rt; wake(&attrs, three)?);
-    assert!(rt; goes_back(&mut attrs, three)?);
-    for number in [three.first, three.second, three.both] {
-        assert!(rt; take_oldest(&mut attrs)? == Some(number));
-    }
-    assert!(rt; take_oldest(&mut attrs)?.is_none());
+    assert!(rt; wake_in_order(rt.alloc(), &susp)?);
     Ok(())
 }

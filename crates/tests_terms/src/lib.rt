@@ -6,7 +6,7 @@ mod attr;
 #[cfg(test)]
 mod built;
 #[cfg(test)]
-mod kinds;
+mod names;
 #[cfg(test)]
 mod order;
 #[cfg(test)]

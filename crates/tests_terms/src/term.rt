@@ -3,11 +3,11 @@
 ghost use Rattle.std.specs.Prelude.{◌≡◌, ◌<◌, ◌≤◌, length, IfOk};
 ghost use Rattle.cq_term.specs.Shown.{IsUnbound};
 
-use cq_atoms::Atoms;
+use crate::names::f_named;
 use cq_frac::{Frac, VarId};
 use cq_term::{Atom, Heap, Newly, TermId, View};
 use cq_trail::Undo;
-use std::alloc::AllocError;
+use std::alloc::{AllocError, Global};
 use std::test::Fail;
 
 const DEPTH: usize = 1_000_000;
@@ -66,10 +66,7 @@ fn depth(heap: &Heap, term: TermId) -> usize
     0
 }
 
-fn shows_number(heap: &mut Heap, numerator: i128, denominator: i128) -> Result<bool, AllocError> {
-    let Ok(number) = Frac::new(numerator, denominator) else {
-        return Ok(false);
-    };
+fn shows_number(heap: &mut Heap, number: Frac) -> Result<bool, AllocError> {
     let term = heap.number(number)?;
     Ok(heap.view(term) == View::Number(number) && heap.is_ground(term))
 }
@@ -79,12 +76,14 @@ fn shows_name(heap: &mut Heap, name: Atom) -> Result<bool, AllocError> {
     Ok(heap.view(term) == View::Name(name) && heap.is_ground(term))
 }
 
-fn shows_variable(heap: &mut Heap) -> Result<bool, AllocError> {
+/// A variable, and a name over it.
+fn shows_variable(heap: &mut Heap, name: Atom) -> Result<bool, AllocError> {
     let term = heap.new_var()?;
+    let whole = heap.compound(name, &[term])?;
     let View::Var(variable) = heap.view(term) else {
         return Ok(false);
     };
-    Ok(heap.var_term(variable) == term && !heap.is_ground(term))
+    Ok(heap.var_term(variable) == term && !heap.is_ground(term) && !heap.is_ground(whole))
 }
 
 fn shows_ground_compound(heap: &mut Heap, name: Atom) -> Result<bool, AllocError> {
@@ -94,32 +93,34 @@ fn shows_ground_compound(heap: &mut Heap, name: Atom) -> Result<bool, AllocError
     Ok(args && heap.view(whole) == View::Compound(name, 1) && heap.is_ground(whole))
 }
 
-fn is_open_over_a_variable(heap: &mut Heap, name: Atom) -> Result<bool, AllocError> {
-    let term = heap.new_var()?;
-    let whole = heap.compound(name, &[term])?;
-    Ok(!heap.is_ground(whole))
+static NUMBERS: [(i128, i128); 4] = [
+    (0, 1),
+    (-9_223_372_036_854_775_808, 1),
+    (9_223_372_036_854_775_808, 1),
+    (-1, 3),
+];
+
+#[test]
+fn numbers_show_themselves(rt: HostRuntime) -> Result<(), Fail> {
+    for (numerator, denominator) in &NUMBERS {
+        let number = Frac::new(*numerator, *denominator)?;
+        assert!(rt; shows_number(&mut Heap::new(rt.alloc()), number)?);
+    }
+    Ok(())
+}
+
+fn show_themselves(alloc: Global, name: Atom) -> Result<bool, AllocError> {
+    let mut heap = Heap::new(alloc);
+    let named = shows_name(&mut heap, name)?;
+    let unbound = shows_variable(&mut heap, name)?;
+    let ground = shows_ground_compound(&mut heap, name)?;
+    Ok(named && unbound && ground)
 }
 
 #[test]
-fn each_kind_of_term_shows_its_head(rt: HostRuntime) -> Result<(), Fail> {
-    let mut heap = Heap::new(rt.alloc());
-    let name = Atoms::new(rt.alloc()).intern("f")?;
-    let numbers = [
-        (0, 1),
-        (-9_223_372_036_854_775_808, 1),
-        (9_223_372_036_854_775_808, 1),
-        (-1, 3),
-    ];
-    for (numerator, denominator) in numbers {
-        assert!(rt;
-            shows_number(&mut heap, numerator, denominator)?,
-            "{numerator}r{denominator}"
-        );
-    }
-    assert!(rt; shows_name(&mut heap, name)?);
-    assert!(rt; shows_variable(&mut heap)?);
-    assert!(rt; shows_ground_compound(&mut heap, name)?);
-    assert!(rt; is_open_over_a_variable(&mut heap, name)?);
+fn names_variables_and_compounds_show_themselves(rt: HostRuntime) -> Result<(), Fail> {
+    let name = f_named(rt.alloc())?;
+    assert!(rt; show_themselves(rt.alloc(), name)?);
     Ok(())
 }
 
@@ -141,30 +142,44 @@ fn reaches_the_depth(
     Ok(leads && last != variable && depth(heap, whole) == DEPTH)
 }
 
-#[test]
-fn a_chain_and_a_term_of_a_million_are_built_read_and_undone(rt: HostRuntime) -> Result<(), Fail> {
-    let mut heap = Heap::new(rt.alloc());
-    let name = Atoms::new(rt.alloc()).intern("f")?;
+/// Whether they are reached, and the first variable is unbound once that is undone.
+fn goes_back(heap: &mut Heap, name: Atom) -> Result<bool, AllocError> {
     let first = heap.new_var()?;
     let View::Var(variable) = heap.view(first) else {
-        return Ok(());
+        return Ok(false);
     };
     let m = heap.mark()?;
-    assert!(rt; reaches_the_depth(&mut heap, variable, first, name)?);
+    let reached = reaches_the_depth(heap, variable, first, name)?;
     heap.undo(m);
-    assert!(rt; heap.view(first) == View::Var(variable));
+    Ok(reached && heap.view(first) == View::Var(variable))
+}
+
+#[test]
+fn a_chain_and_a_term_of_a_million_are_built_read_and_undone(rt: HostRuntime) -> Result<(), Fail> {
+    let name = f_named(rt.alloc())?;
+    assert!(rt; goes_back(&mut Heap::new(rt.alloc()), name)?);
     Ok(())
+}
+
+/// Whether room is found, and a mark and a list of variables fill it.
+fn find_room(alloc: Global) -> Result<bool, AllocError> {
+    let mut heap = Heap::new(alloc);
+    heap.reserve(2)?;
+    let has_room = heap.spare() >= 2;
+    let m = heap.mark()?;
+    heap.forget(m);
+    Ok(has_room)
+}
+
+fn keeps_a_variable(alloc: Global) -> Result<bool, AllocError> {
+    let mut newly = Newly::new(alloc);
+    newly.push(VarId(3))?;
+    Ok(newly.as_slice() == [VarId(3)].as_slice())
 }
 
 #[test]
 fn marks_find_their_room(rt: HostRuntime) -> Result<(), Fail> {
-    let mut heap = Heap::new(rt.alloc());
-    heap.reserve(2)?;
-    assert!(rt; heap.spare() >= 2);
-    let m = heap.mark()?;
-    heap.forget(m);
-    let mut newly = Newly::new(rt.alloc());
-    newly.push(VarId(3))?;
-    assert_eq!(rt; newly.as_slice(), [VarId(3)].as_slice());
+    assert!(rt; find_room(rt.alloc())?);
+    assert!(rt; keeps_a_variable(rt.alloc())?);
     Ok(())
 }

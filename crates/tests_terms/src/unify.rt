@@ -3,11 +3,11 @@
 
 ghost use Rattle.std.specs.Prelude.{◌≡◌, ◌<◌, ◌≤◌, length, IfOk};
 
-use cq_atoms::Atoms;
-use cq_frac::{Frac, VarId};
+use crate::names::f_named;
+use cq_frac::VarId;
 use cq_term::{Atom, Heap, Newly, TermId, View};
 use cq_unify::{copy, unify, vars_of};
-use std::alloc::AllocError;
+use std::alloc::{AllocError, Global};
 use std::test::Fail;
 
 const DEPTH: usize = 200_000;
@@ -20,15 +20,6 @@ fn pair(heap: &mut Heap, name: Atom, first: TermId, second: TermId) -> Result<Te
     ensures more { length heap.old.now.terms ≤ length heap.new.now.terms }
 {
     heap.compound(name, &[first, second])
-}
-
-fn unified(heap: &mut Heap, newly: &mut Newly, a: TermId, b: TermId) -> Result<bool, AllocError>
-    requires a { a < length heap.old.now.terms }
-    requires b { b < length heap.old.now.terms }
-    ensures more { length heap.old.now.terms ≤ length heap.new.now.terms }
-{
-    let same = unify(heap, newly, a, b)?;
-    Ok(same)
 }
 
 fn variable(heap: &mut Heap) -> Result<TermId, AllocError>
@@ -47,88 +38,64 @@ fn constant(heap: &mut Heap, name: Atom) -> Result<TermId, AllocError>
     Ok(id)
 }
 
+fn unified(heap: &mut Heap, newly: &mut Newly, a: TermId, b: TermId) -> Result<bool, AllocError>
+    requires a { a < length heap.old.now.terms }
+    requires b { b < length heap.old.now.terms }
+    ensures more { length heap.old.now.terms ≤ length heap.new.now.terms }
+{
+    let same = unify(heap, newly, a, b)?;
+    Ok(same)
+}
+
+/// Whether the name over the first two terms becomes equal to the name over the others.
+fn become_equal(
+    heap: &mut Heap,
+    newly: &mut Newly,
+    name: Atom,
+    left: (TermId, TermId),
+    right: (TermId, TermId),
+) -> Result<bool, AllocError>
+    requires left_first { left.0 < length heap.old.now.terms }
+    requires left_second { left.1 < length heap.old.now.terms }
+    requires right_first { right.0 < length heap.old.now.terms }
+    requires right_second { right.1 < length heap.old.now.terms }
+    ensures more { length heap.old.now.terms ≤ length heap.new.now.terms }
+{
+    let first = pair(heap, name, left.0, left.1)?;
+    let second = pair(heap, name, right.0, right.1)?;
+    unified(heap, newly, first, second)
+}
+
 /// f(X, Y) and f(Y, f), where X is unbound before and the name f after.
 fn become_a_name(heap: &mut Heap, newly: &mut Newly, f: Atom) -> Result<bool, AllocError> {
     let x = variable(heap)?;
     let y = variable(heap)?;
     let name = constant(heap, f)?;
-    let left = pair(heap, f, x, y)?;
-    let right = pair(heap, f, y, name)?;
-    let same = unified(heap, newly, left, right)?;
+    let same = become_equal(heap, newly, f, (x, y), (y, name))?;
     Ok(same && heap.view(x) == View::Name(f) && newly.as_slice().len() == 2)
 }
 
-/// f(X, f) and f(f, f(X, f)).
+/// f(X, X) and f(f, f(f, f)), whose second arguments clash once X is bound.
 fn clash_at_the_end(heap: &mut Heap, newly: &mut Newly, f: Atom) -> Result<bool, AllocError> {
     let x = variable(heap)?;
     let name = constant(heap, f)?;
-    let left = pair(heap, f, x, name)?;
-    let right = pair(heap, f, name, left)?;
-    let same = unified(heap, newly, left, right)?;
+    let inner = pair(heap, f, name, name)?;
+    let same = become_equal(heap, newly, f, (x, x), (name, inner))?;
     Ok(!same && heap.view(x) != View::Name(f) && newly.as_slice().len() == 0)
 }
 
-/// X and f.
-fn becomes_a_name(heap: &mut Heap, newly: &mut Newly, f: Atom) -> Result<bool, AllocError> {
-    let x = variable(heap)?;
-    let name = constant(heap, f)?;
-    let same = unified(heap, newly, x, name)?;
-    Ok(same && heap.view(x) == View::Name(f) && newly.as_slice().len() == 1)
-}
-
-/// f and f, which are two terms of the heap, and f beside 1.
-fn are_told_apart(heap: &mut Heap, newly: &mut Newly, f: Atom) -> Result<bool, AllocError> {
-    let name = constant(heap, f)?;
-    let again = constant(heap, f)?;
-    let one = heap.number(Frac::one())?;
-    Ok(unified(heap, newly, name, again)? && !unified(heap, newly, name, one)?)
-}
-
-/// Two variables.
-fn become_equal(heap: &mut Heap, newly: &mut Newly) -> Result<bool, AllocError> {
-    let older = variable(heap)?;
-    let younger = variable(heap)?;
-    let shown = heap.view(older);
-    let same = unified(heap, newly, older, younger)?;
-    Ok(same && heap.view(younger) == shown && newly.as_slice().len() == 1)
-}
-
-/// A name over one term.
-fn over(heap: &mut Heap, name: Atom, part: TermId) -> Result<TermId, AllocError>
-    requires { part < length heap.old.now.terms }
-    ensures live { IfOk result (λ id. id < length heap.new.now.terms) }
-    ensures more { length heap.old.now.terms ≤ length heap.new.now.terms }
-{
-    heap.compound(name, &[part])
-}
-
-/// X and f(X).
-fn become_one(heap: &mut Heap, newly: &mut Newly, f: Atom) -> Result<bool, AllocError> {
-    let x = variable(heap)?;
-    let around = over(heap, f, x)?;
-    unified(heap, newly, x, around)
-}
-
-/// The pairs that become equal, each told to an empty list.
-fn become_equal_each(heap: &mut Heap, newly: &mut Newly, f: Atom) -> Result<bool, AllocError> {
-    let names = become_a_name(heap, newly, f)?;
-    newly.truncate(0);
-    let name = becomes_a_name(heap, newly, f)?;
-    newly.truncate(0);
-    let variables = become_equal(heap, newly)?;
-    newly.truncate(0);
-    Ok(names && name && variables)
+fn equal_or_as_they_are(alloc: Global, f: Atom) -> Result<bool, AllocError> {
+    let mut heap = Heap::new(alloc);
+    let mut newly = Newly::new(alloc);
+    let clash = clash_at_the_end(&mut heap, &mut newly, f)?;
+    let equal = become_a_name(&mut heap, &mut newly, f)?;
+    Ok(clash && equal)
 }
 
 #[test]
 fn terms_become_equal_or_stay_as_they_are(rt: HostRuntime) -> Result<(), Fail> {
-    let f = Atoms::new(rt.alloc()).intern("f")?;
-    let mut heap = Heap::new(rt.alloc());
-    let mut newly = Newly::new(rt.alloc());
-    assert!(rt; become_equal_each(&mut heap, &mut newly, f)?);
-    assert!(rt; clash_at_the_end(&mut heap, &mut newly, f)?);
-    assert!(rt; are_told_apart(&mut heap, &mut newly, f)?);
-    assert!(rt; !become_one(&mut heap, &mut newly, f)?);
+    let f = f_named(rt.alloc())?;
+    assert!(rt; equal_or_as_they_are(rt.alloc(), f)?);
     Ok(())
 }
 
@@ -162,21 +129,25 @@ fn shifted(heap: &mut Heap, name: Atom, oldest: TermId) -> Result<Lists, AllocEr
     })
 }
 
-/// Two lists of the same length, after which the youngest variable is the oldest.
+/// Two lists of the same length, after which the youngest variable is the oldest, and so many were bound.
 fn become_a_chain(heap: &mut Heap, newly: &mut Newly, f: Atom) -> Result<bool, AllocError> {
     let oldest = variable(heap)?;
     let made = shifted(heap, f, oldest)?;
     let same = unified(heap, newly, made.younger, made.older)?;
-    Ok(same && heap.view(made.youngest) == heap.view(oldest))
+    let leads = heap.view(made.youngest) == heap.view(oldest);
+    Ok(same && leads && newly.as_slice().len() == DEPTH)
+}
+
+fn is_a_chain(alloc: Global, f: Atom) -> Result<bool, AllocError> {
+    let mut heap = Heap::new(alloc);
+    let mut newly = Newly::new(alloc);
+    become_a_chain(&mut heap, &mut newly, f)
 }
 
 #[test]
 fn deep_terms_unify_into_a_long_chain(rt: HostRuntime) -> Result<(), Fail> {
-    let f = Atoms::new(rt.alloc()).intern("f")?;
-    let mut heap = Heap::new(rt.alloc());
-    let mut newly = Newly::new(rt.alloc());
-    assert!(rt; become_a_chain(&mut heap, &mut newly, f)?);
-    assert_eq!(rt; newly.as_slice().len(), DEPTH);
+    let f = f_named(rt.alloc())?;
+    assert!(rt; is_a_chain(rt.alloc(), f)?);
     Ok(())
 }
 
@@ -228,15 +199,6 @@ fn has_new_variables(heap: &mut Heap, f: Atom) -> Result<bool, AllocError> {
     Ok(old && new)
 }
 
-/// f and f(f).
-fn is_copied_as_it_is(heap: &mut Heap, f: Atom) -> Result<bool, AllocError> {
-    let name = constant(heap, f)?;
-    let around = over(heap, f, name)?;
-    let second = copied(heap, around)?;
-    let third = copied(heap, name)?;
-    Ok(heap.view(second) == View::Compound(f, 1) && heap.view(third) == View::Name(f))
-}
-
 /// The same of a term deeper than any stack, behind those four.
 fn has_a_new_variable(heap: &mut Heap, f: Atom) -> Result<bool, AllocError> {
     let term = nested(heap, f)?;
@@ -244,12 +206,16 @@ fn has_a_new_variable(heap: &mut Heap, f: Atom) -> Result<bool, AllocError> {
     has_variables(heap, second, &[VarId(5)])
 }
 
+fn have_new_variables(alloc: Global, f: Atom) -> Result<bool, AllocError> {
+    let mut heap = Heap::new(alloc);
+    let small = has_new_variables(&mut heap, f)?;
+    let deep = has_a_new_variable(&mut heap, f)?;
+    Ok(small && deep)
+}
+
 #[test]
 fn copies_have_new_variables_in_the_order_of_the_term(rt: HostRuntime) -> Result<(), Fail> {
-    let f = Atoms::new(rt.alloc()).intern("f")?;
-    let mut heap = Heap::new(rt.alloc());
-    assert!(rt; has_new_variables(&mut heap, f)?);
-    assert!(rt; has_a_new_variable(&mut heap, f)?);
-    assert!(rt; is_copied_as_it_is(&mut heap, f)?);
+    let f = f_named(rt.alloc())?;
+    assert!(rt; have_new_variables(rt.alloc(), f)?);
     Ok(())
 }

@@ -4,8 +4,6 @@
 #[cfg(test)]
 mod lex;
 #[cfg(test)]
-mod parse;
-#[cfg(test)]
 mod read;
 #[cfg(test)]
 mod write;

@@ -1,137 +1,144 @@
 // Texts with what stands in them.
 
 ghost use Rattle.std.specs.Prelude.{◌≡◌, ◌<◌, false, length};
+ghost use Rattle.cq_term.specs.Trees.{KnowsTerms};
 
 use cq_atoms::Atoms;
 use cq_ops::Ops;
 use cq_read::{Fed, Feed, Read, read_clause};
-use cq_term::{Heap, TermId, View};
-use std::alloc::AllocError;
+use cq_term::{Heap, TermId};
+use cq_write::{Style, write_term};
+use std::alloc::{AllocError, Global};
+use std::str;
 use std::test::Fail;
 
-/// What stands at a place.
-enum Want {
-    /// A clause with this name and so many arguments, so many named variables, and the place behind it.
-    Clause(&'static str, usize, usize, usize),
-    End,
-    Syntax(usize, usize),
-}
-
-/// Whether a term has this name and so many arguments.
-fn has_head(
+/// A clause as it is written, with how many variables it names and the place behind it.
+fn clause_text(
     heap: &Heap,
-    atoms: &mut Atoms,
-    term: TermId,
-    name: &str,
-    arity: usize,
-) -> Result<bool, AllocError>
-    requires { term < length heap.now.now.terms }
-{
-    let atom = atoms.intern(name)?;
-    match &heap.view(term) {
-        View::Compound(f, count) => Ok(*f == atom && *count == arity),
-        View::Name(f) => Ok(*f == atom && arity == 0),
-        _ => Ok(false),
-    }
-}
-
-/// Whether this stands at a place.
-fn stands(
-    heap: &mut Heap,
-    atoms: &mut Atoms,
+    atoms: &Atoms,
     ops: &Ops,
-    text: &str,
-    at: usize,
-    want: &Want,
-) -> Result<bool, AllocError> {
-    if at > text.len() {
-        return Ok(false);
-    }
-    match read_clause(heap, atoms, ops, text.as_bytes(), at)? {
-        Read::Clause { term, names, next } => match want {
-            Want::Clause(name, arity, count, end) => {
-                Ok(
-                    next == *end
-                        && names.len() == *count
-                        && has_head(heap, atoms, term, name, *arity)?,
-                )
-            }
-            _ => Ok(false),
-        },
-        Read::End => Ok(matches!(want, Want::End)),
-        Read::Syntax { at, resume } => match want {
-            Want::Syntax(error, on) => Ok(at == *error && resume == *on),
-            _ => Ok(false),
-        },
+    term: TermId,
+    count: usize,
+    next: usize,
+) -> Result<String, AllocError>
+    requires live { term < length heap.now.now.terms }
+    requires names { KnowsTerms atoms.now heap.now.now.terms }
+{
+    let bytes = write_term(heap, atoms, ops, term, Style::Quoted, 1200, &[])?;
+    match str::from_utf8(&bytes) {
+        Ok(text) => format!(in heap.alloc(); "{text} {count} {next}"),
+        Err(_) => Ok(String::new(heap.alloc())),
     }
 }
 
-const ROWS: [(&str, usize, Want); 32] = [
-    ("", 0, Want::End),
-    (" % nothing", 0, Want::End),
-    ("a. /* b. */ ", 2, Want::End),
-    ("a.", 0, Want::Clause("a", 0, 0, 2)),
-    ("a. b.\n", 2, Want::Clause("b", 0, 0, 5)),
-    ("?- write(a).", 0, Want::Clause("?-", 1, 0, 12)),
-    ("?- {X = ", 0, Want::Syntax(8, 8)),
-    ("?- a b. true.", 0, Want::Syntax(5, 7)),
-    ("?- a b. true.", 7, Want::Clause("true", 0, 0, 13)),
-    ("?- X = 1.5.", 0, Want::Syntax(8, 11)),
+/// What stands at a place: a clause, the end, or a fault with its place and where the rest begins.
+fn standing(alloc: Global, text: &str, at: usize) -> Result<String, AllocError> {
+    let mut heap = Heap::new(alloc);
+    let mut atoms = Atoms::new(alloc);
+    let ops = Ops::standard(alloc, &mut atoms)?;
+    if at > text.len() {
+        return Ok(String::new(alloc));
+    }
+    match read_clause(&mut heap, &mut atoms, &ops, text.as_bytes(), at)? {
+        Read::Clause { term, names, next } => {
+            clause_text(&heap, &atoms, &ops, term, names.len(), next)
+        }
+        Read::End => String::from_str(alloc, "end"),
+        Read::Syntax { at, resume } => format!(in alloc; "syntax {at} {resume}"),
+    }
+}
+
+/// Texts, a place in each, and what stands there.
+static ROWS: [(&str, usize, &str); 54] = [
+    ("", 0, "end"),
+    (" % nothing", 0, "end"),
+    ("a. /* b. */ ", 2, "end"),
+    ("a.", 0, "a 0 2"),
+    ("a. b.\n", 2, "b 0 5"),
+    ("1.", 0, "1 0 2"),
+    ("-1.", 0, "-1 0 3"),
+    ("X.", 0, "_1 1 2"),
+    ("(X).", 0, "_1 1 4"),
+    ("\"ab\".", 0, "[97,98] 0 5"),
+    ("[].", 0, "[] 0 3"),
+    ("[a,X].", 0, "[a,_1] 1 6"),
+    ("[a|X].", 0, "[a|_1] 1 6"),
+    ("[a,b|c].", 0, "[a,b|c] 0 8"),
+    ("{}.", 0, "{} 0 3"),
+    ("{a,X}.", 0, "{a,_1} 1 6"),
+    ("f(a).", 0, "f(a) 0 5"),
+    ("f(-1,[a]).", 0, "f(-1,[a]) 0 10"),
+    ("a+1.", 0, "a+1 0 4"),
+    ("a+a-1.", 0, "a+a-1 0 6"),
+    ("\\+a+1.", 0, "\\+a+1 0 6"),
+    ("(a,a)+1.", 0, "(a,a)+1 0 8"),
+    ("a,a+1.", 0, "a,a+1 0 6"),
+    ("+.", 0, "+ 0 2"),
+    ("aa a.", 0, "syntax 3 5"),
+    ("[a,].", 0, "syntax 3 5"),
+    ("{a).", 0, "syntax 2 4"),
+    ("a", 0, "syntax 1 1"),
+    (".", 0, "syntax 0 1"),
+    ("?- write(a).", 0, "?-write(a) 0 12"),
+    ("?- {X = ", 0, "syntax 8 8"),
+    ("?- a b. true.", 0, "syntax 5 7"),
+    ("?- a b. true.", 7, "true 0 13"),
+    ("?- X = 1.5.", 0, "syntax 8 11"),
     (
         "?- X = 170141183460469231731687303715884105728.",
         0,
-        Want::Syntax(7, 47),
+        "syntax 7 47",
     ),
     (
         "?- {X=170141183460469231731687303715884105727*2}.",
         0,
-        Want::Clause("?-", 1, 1, 49),
+        "?-{_1=170141183460469231731687303715884105727*2} 1 49",
     ),
     (
         "?- X = 'hello world', Y = [a|T], Z = -(1), W = (a:-b).",
         0,
-        Want::Clause("?-", 1, 5, 54),
+        "?-_1='hello world',_2=[a|_3],_4= -(1),_5=(a:-b) 5 54",
     ),
     (
         "p(X,_,Y,_,X,_Z):-q(Y),\n r.",
         0,
-        Want::Clause(":-", 2, 3, 26),
+        "p(_1,_2,_3,_4,_1,_5):-q(_3),r 3 26",
     ),
-    ("- 1.", 0, Want::Clause("-", 1, 0, 4)),
-    ("a- -1.", 0, Want::Clause("-", 2, 0, 6)),
+    ("- 1.", 0, "-(1) 0 4"),
+    ("a- -1.", 0, "a-(-1) 0 6"),
     (
         "f(0'a,0x1F,1r3,\"ab\",'it''s','\\x41\\').",
         0,
-        Want::Clause("f", 6, 0, 37),
+        "f(97,31,1r3,[97,98],'it\\'s','A') 0 37",
     ),
-    ("{}. [].", 0, Want::Clause("{}", 0, 0, 3)),
-    ("{}. [].", 3, Want::Clause("[]", 0, 0, 7)),
-    ("[a,b|c].", 0, Want::Clause(".", 2, 0, 8)),
-    ("{a,b}.", 0, Want::Clause("{}", 1, 0, 6)),
-    ("a:-b,!;c->d.", 0, Want::Clause(":-", 2, 0, 12)),
-    ("\\+a. - (1). -(1).", 4, Want::Clause("-", 1, 0, 11)),
-    ("äÖ(Ä,é).", 0, Want::Clause("äÖ", 2, 0, 12)),
-    (" . a.", 0, Want::Syntax(1, 2)),
-    ("f(. g(. a.", 0, Want::Syntax(2, 3)),
-    ("f(. g(. a.", 3, Want::Syntax(6, 7)),
-    ("f(. g(. a.", 7, Want::Clause("a", 0, 0, 10)),
-    ("'ab. c.\nd. e.", 0, Want::Syntax(7, 10)),
-    ("a /* b. c", 0, Want::Syntax(9, 9)),
-    ("a b 'x", 0, Want::Syntax(2, 6)),
-    ("a % b.\n. c", 0, Want::Clause("a", 0, 0, 8)),
+    ("{}. [].", 3, "[] 0 7"),
+    ("{a,b}.", 0, "{a,b} 0 6"),
+    ("a:-b,!;c->d.", 0, "a:-b,!;c->d 0 12"),
+    ("\\+a. - (1). -(1).", 4, "-(1) 0 11"),
+    ("äÖ(Ä,é).", 0, "äÖ(Ä,é) 0 12"),
+    (" . a.", 0, "syntax 1 2"),
+    ("f(. g(. a.", 0, "syntax 2 3"),
+    ("f(. g(. a.", 3, "syntax 6 7"),
+    ("f(. g(. a.", 7, "a 0 10"),
+    ("'ab. c.\nd. e.", 0, "syntax 7 10"),
+    ("a /* b. c", 0, "syntax 9 9"),
+    ("a b 'x", 0, "syntax 2 6"),
+    ("a % b.\n. c", 0, "a 0 8"),
 ];
+
+/// The place of the first row with something else.
+fn first_wrong(alloc: Global) -> Result<Option<usize>, AllocError> {
+    for (place, (text, at, want)) in ROWS.iter().enumerate() {
+        if standing(alloc, text, *at)?.as_str() != *want {
+            return Ok(Some(place));
+        }
+    }
+    Ok(None)
+}
 
 #[test]
 fn places_have_what_stands_there(rt: HostRuntime) -> Result<(), Fail> {
-    let mut atoms = Atoms::new(rt.alloc());
-    let ops = Ops::standard(rt.alloc(), &mut atoms)?;
-    let mut heap = Heap::new(rt.alloc());
-    for (text, at, want) in &ROWS {
-        assert!(rt;
-            stands(&mut heap, &mut atoms, &ops, text, *at, want)?,
-            "{text} at {at}"
-        );
-    }
+    assert_eq!(rt; first_wrong(rt.alloc())?, None);
     Ok(())
 }
 
@@ -246,7 +253,7 @@ fn all_agree(
     Ok(one && two && seven)
 }
 
-const TEXTS: [&str; 12] = [
+static TEXTS: [&str; 12] = [
     "",
     "a. b.\n c(X,Y,X).\n",
     "p:-q,r.% comment.\n/* more. */ s.\n",
@@ -261,14 +268,25 @@ const TEXTS: [&str; 12] = [
     "ä. é(Ö). `. \u{a0}.\n",
 ];
 
+/// Whether a text that is read in pieces is read as a whole.
+fn reads_alike(alloc: Global, text: &str) -> Result<bool, AllocError> {
+    let mut atoms = Atoms::new(alloc);
+    let ops = Ops::standard(alloc, &mut atoms)?;
+    all_agree(&mut Heap::new(alloc), &mut atoms, &ops, text)
+}
+
+fn first_unlike(alloc: Global) -> Result<Option<usize>, AllocError> {
+    for (place, text) in TEXTS.iter().enumerate() {
+        if !reads_alike(alloc, text)? {
+            return Ok(Some(place));
+        }
+    }
+    Ok(None)
+}
+
 #[test]
 fn pieces_read_as_the_whole_text(rt: HostRuntime) -> Result<(), Fail> {
-    let mut atoms = Atoms::new(rt.alloc());
-    let ops = Ops::standard(rt.alloc(), &mut atoms)?;
-    let mut heap = Heap::new(rt.alloc());
-    for text in TEXTS {
-        assert!(rt; all_agree(&mut heap, &mut atoms, &ops, text)?, "{text}");
-    }
+    assert_eq!(rt; first_unlike(rt.alloc())?, None);
     Ok(())
 }
 
@@ -304,24 +322,44 @@ fn piece_reads_clause(
     reads_clause(feed, heap, atoms, ops, next)
 }
 
-const PIECES: [(&[u8], usize, bool); 4] = [
+static PIECES: [(&[u8], usize, bool); 4] = [
     (b"a. b.", 2, true),
     (b"", 5, false),
     (b"\n", 5, true),
     (b"c.", 8, false),
 ];
 
+/// Whether the pieces are read as they should be.
+fn are_read(
+    feed: &mut Feed,
+    heap: &mut Heap,
+    atoms: &mut Atoms,
+    ops: &Ops,
+) -> Result<bool, AllocError>
+    requires { feed.old.finished ≡ false }
+    ensures { feed.new.finished ≡ false }
+{
+    for (piece, next, want) in &PIECES {
+        if piece_reads_clause(feed, heap, atoms, ops, piece, *next)? != *want {
+            return Ok(false);
+        }
+    }
+    Ok(true)
+}
+
+fn waits_for_what_follows(alloc: Global) -> Result<bool, AllocError> {
+    let mut atoms = Atoms::new(alloc);
+    let ops = Ops::standard(alloc, &mut atoms)?;
+    let mut heap = Heap::new(alloc);
+    let mut feed = Feed::new(alloc);
+    let read = are_read(&mut feed, &mut heap, &mut atoms, &ops)?;
+    feed.finish();
+    let last = reads_clause(&mut feed, &mut heap, &mut atoms, &ops, 8)?;
+    Ok(read && last)
+}
+
 #[test]
 fn a_final_full_stop_waits_for_what_follows(rt: HostRuntime) -> Result<(), Fail> {
-    let mut atoms = Atoms::new(rt.alloc());
-    let ops = Ops::standard(rt.alloc(), &mut atoms)?;
-    let mut heap = Heap::new(rt.alloc());
-    let mut feed = Feed::new(rt.alloc());
-    for (piece, next, want) in PIECES {
-        let is_read = piece_reads_clause(&mut feed, &mut heap, &mut atoms, &ops, piece, next)?;
-        assert!(rt; is_read == want, "{next}");
-    }
-    feed.finish();
-    assert!(rt; reads_clause(&mut feed, &mut heap, &mut atoms, &ops, 8)?);
+    assert!(rt; waits_for_what_follows(rt.alloc())?);
     Ok(())
 }

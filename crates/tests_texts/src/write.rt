@@ -1,4 +1,4 @@
-// One term in both styles, its variable without a name and with one.
+// A term without quotes, whose variable has a name. The other style stands in `read`.
 
 ghost use Rattle.std.specs.Prelude.{◌≡◌, ◌<◌, [], length, IfOk};
 ghost use Rattle.cq_term.specs.Meaning.{at};
@@ -26,26 +26,22 @@ fn sample(heap: &mut Heap, atoms: &Atoms, name: Atom) -> Result<TermId, AllocErr
     Ok(id)
 }
 
-/// The sample in quotes where they are needed, and as it is, with the variable as X.
-fn sample_texts(alloc: Global) -> Result<(Vec<u8>, Vec<u8>), AllocError> {
+/// The sample as it is, with the variable as X.
+fn sample_text(alloc: Global) -> Result<Vec<u8>, AllocError> {
     let mut atoms = Atoms::new(alloc);
     let ops = Ops::standard(alloc, &mut atoms)?;
     let name = atoms.intern("it's")?;
     let mut heap = Heap::new(alloc);
     let term = sample(&mut heap, &atoms, name)?;
-    let quoted = write_term(&heap, &atoms, &ops, term, Style::Quoted, 1200, &[])?;
     let x = VariableName {
         name: String::from_str(alloc, "X")?,
         variable: VarId(0),
     };
-    let plain = write_term(&heap, &atoms, &ops, term, Style::Plain, 1200, &[x])?;
-    Ok((quoted, plain))
+    write_term(&heap, &atoms, &ops, term, Style::Plain, 1200, &[x])
 }
 
 #[test]
-fn a_term_in_each_style(rt: HostRuntime) -> Result<(), Fail> {
-    let (quoted, plain) = sample_texts(rt.alloc())?;
-    assert_eq!(rt; quoted.as_slice(), b"'it\\'s'(_1,'it\\'s')".as_slice());
-    assert_eq!(rt; plain.as_slice(), b"it's(X,it's)".as_slice());
+fn a_plain_term_shows_its_names_as_they_are(rt: HostRuntime) -> Result<(), Fail> {
+    assert!(rt; sample_text(rt.alloc())?.as_slice() == b"it's(X,it's)".as_slice());
     Ok(())
 }

@@ -102,30 +102,31 @@ fn goes_back(world: &mut World, alloc: Global, x: TermId) -> Result<bool, Fail>
     let start = world.mark()?;
     let changed = change(world, alloc, x)?;
     world.undo(start);
-    Ok(changed && knows_nothing(world)?)
+    let forgotten = knows_nothing(world)?;
+    Ok(changed && forgotten)
 }
 
-#[test]
-fn a_change_is_undone(rt: HostRuntime) -> Result<(), Fail> {
-    let alloc = rt.alloc();
-    let mut world = World::new(alloc, 10);
-    let x = world.heap.new_var()?;
-    assert!(rt; goes_back(&mut world, alloc, x)?);
-    Ok(())
-}
-
-#[test]
-fn a_change_is_undone_again(rt: HostRuntime) -> Result<(), Fail> {
-    let alloc = rt.alloc();
-    let mut world = World::new(alloc, 10);
-    let x = world.heap.new_var()?;
+/// Whether room for two marks is found, and is there again once they are gone.
+fn keeps_its_room(world: &mut World) -> Result<bool, AllocError> {
     world.reserve(2)?;
-    assert_eq!(rt; world.spare() >= 2, true);
+    let before = world.spare() >= 2;
     let outer = world.mark()?;
     let inner = world.mark()?;
     world.forget(inner);
     world.undo(outer);
-    assert_eq!(rt; world.spare() >= 2, true);
-    assert!(rt; goes_back(&mut world, alloc, x)?);
+    Ok(before && world.spare() >= 2)
+}
+
+fn keeps_its_room_and_goes_back(alloc: Global) -> Result<bool, Fail> {
+    let mut world = World::new(alloc, 10);
+    let room = keeps_its_room(&mut world)?;
+    let x = world.heap.new_var()?;
+    let back = goes_back(&mut world, alloc, x)?;
+    Ok(room && back)
+}
+
+#[test]
+fn a_change_is_undone(rt: HostRuntime) -> Result<(), Fail> {
+    assert!(rt; keeps_its_room_and_goes_back(rt.alloc())?);
     Ok(())
 }

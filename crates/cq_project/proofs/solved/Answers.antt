@@ -1,7 +1,9 @@
-use Rattle.std.proofs.Common.{◌≡◌, subst}
+use Rattle.std.proofs.Common.{◌≡◌, sym, subst}
 use Rattle.std.specs.Prelude.{MatchBool}
-use Rattle.spec_linear.specs.Solution.{Unsolvable}
+use Rattle.spec_linear.specs.Solution.{Unsolvable, Has}
+use Rattle.spec_linear.proofs.Denominators.{has_right}
 use Rattle.cq_store.specs.Contents.{told_of}
+use Rattle.cq_store.specs.Told.{numbers_of}
 use Rattle.cq_project.proofs.Fault.{overflow_back}
 use Rattle.cq_project.proofs.solved.Goals as goal
 
@@ -12,4 +14,15 @@ unreachable-requires c =
     none c.requires.solvable.0 c.requires.solvable.1
 
 pub returns-in-Err-clause-overflow : goal.returns-in-Err-clause-overflow
-returns-in-Err-clause-overflow c pair e = c.in-Err.ensures.overflow pair (overflow_back c.in-Err.fault c.from.result pair c.from.ensures e)
+returns-in-Err-clause-overflow c pair e =
+    let ordered = c.in_ok-store.ensures.order in
+    let made = c.in-Err.ensures.overflow pair (overflow_back c.in-Err.fault c.from.result pair c.from.ensures e) in
+    record {
+      before = made.before;
+      member = made.member;
+      after = made.after;
+      order = made.order;
+      split = made.split;
+      stays = λ x h. made.stays x (subst (Has x) (sym ordered.split) (has_right x ordered.others (numbers_of c.args.keep.now) h));
+      made = made.made;
+    }

@@ -1,13 +1,14 @@
 use Rattle.std.proofs.Common.{rules, ◌≡◌, ◌+◌, ◌<◌, ◌≤◌, [], ◌∷◌, ◌++◌, length, take, drop, get_or, arith, refl, ap, sym, subst, ◌∙◌}
 use Rattle.std.proofs.lemmas.List.{take_all}
-use Rattle.spec_linear.specs.Solution.{Unsolvable, MentionsOnly}
+use Rattle.spec_linear.specs.Solution.{Unsolvable, Has, MentionsOnly}
+use Rattle.spec_linear.proofs.Denominators.{has_left}
 use Rattle.cq_store.specs.Told.{CallMakes, new_variables}
 use Rattle.cq_store.specs.Contents.{order_of, told_of}
 use Rattle.cq_project.proofs.Turned.{relation_at, parted, order_stays, no_solution, told_more}
 use Rattle.cq_project.proofs.tell_all.Goals as goal
 
 pub members-init : goal.members-init
-members-init c = (c.requires.new, λ m. refl)
+members-init c = (c.requires.new, λ m. refl, λ x h. h)
 
 pub tell-requires : goal.tell-requires
 tell-requires c =
@@ -25,6 +26,7 @@ returns-in-Err-clause-overflow c pair e =
       after = drop (c.members.c-index + 1) c.args.told.now;
       order = order_of c.members.store;
       split = parted c.args.told.now c.members.c-index c.in_ok-c.c within is;
+      stays = c.members.invariant.2;
       made = subst (λ t. CallMakes t (order_of c.members.store) c.in_ok-c.c pair) c.members.invariant.0 (c.in-Err.ensures.overflow pair (search rules));
     }
 
@@ -38,6 +40,7 @@ members-preserved c =
       λ m.
           let same = c.members.invariant.1 m in
           order_stays c.args.told.now c.members.c-index c.in_ok-c.c (order_of c.members.store) (order_of c.tell.new.self) (subst (λ o. MentionsOnly o c.args.told.now) (sym same) m) within is order ∙ same,
+      λ x h. subst (Has x) (sym order) (has_left x (order_of c.members.store) (new_variables (order_of c.members.store) c.in_ok-c.c.form) (c.members.invariant.2 x h)),
     )
 
 pub returns-in-Ok-Unsolvable-clause-kept : goal.returns-in-Ok-Unsolvable-clause-kept

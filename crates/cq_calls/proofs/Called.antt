@@ -1,0 +1,128 @@
+-- A goal that calls the clauses of a procedure, and what the search comes to then.
+use Rattle.std.proofs.Common.{◌≡◌, ℕ, suc, ◌<◌, List, [], ◌∷◌, ◌++◌, Option, None, Some, Bool, true, false, refl, sym, ap, ap₂, ◌∙◌, subst, map, inr}
+use Rattle.std.specs.Prelude.{is_some, not}
+use Rattle.std.specs.Option.{option_map}
+use Rattle.std.proofs.lemmas.Option.{none-some}
+use Rattle.spec_lists.specs.Texts.{Text}
+use Rattle.spec_terms.specs.Term.{named}
+use Rattle.spec_syntax.specs.Trees.{Tree}
+use Rattle.spec_built.specs.Built.{Indicator, indicator_of}
+use Rattle.spec_built.specs.Errors.{existence_error}
+use Rattle.spec_branch.specs.Branch.{State, Item, Branch, read}
+use Rattle.spec_search.specs.Control.{clause_child, calls, user_row}
+use Rattle.spec_search.specs.Database.{Database, Clause, Procedure, procedure_of, snapshot}
+use Rattle.spec_search.specs.Database as search
+use Rattle.spec_search.specs.Replies.{Place, Calls, Raises, made}
+use Rattle.spec_search.specs.Rows.{reply_of}
+use Rattle.spec_search.specs.Search.{Search, look_at, Selecting}
+use Rattle.spec_search.specs.Steps.{IsSelection}
+use Rattle.spec_search.specs.Steps as step
+use Rattle.spec_search.specs.Turns.{place_of, after_step}
+use Rattle.spec_search.specs.Turns as turn
+use Rattle.cq_atoms.specs.Texts.{text_of}
+use Rattle.cq_clauses.specs.Database.{clauses_of, database}
+use Rattle.cq_clauses.specs.Selected.{key_at, matching}
+use Rattle.cq_clauses.specs.Walks.{left}
+use Rattle.cq_clauses.specs.declared.walk.Walk.{Walk}
+use Rattle.cq_control.specs.Open.{open_choices}
+use Rattle.cq_program.specs.Database.{Program, as_clause, as_database, as_indicator}
+use Rattle.cq_program.specs.Keys.{key_of}
+use Rattle.cq_stored.specs.StoredValue.{ClauseValue}
+use Rattle.cq_term.specs.Meaning.{at}
+use Rattle.cq_term.specs.declared.names.Pred.{Pred}
+use Rattle.cq_world.specs.Contents.{Contents}
+use Rattle.spec_machine.specs.Cells.{Clauses, Stack, Value}
+use Rattle.spec_machine.specs.Coming.{after, at_once, Comes}
+use Rattle.spec_machine.specs.Standing.{engine, AreWaiting}
+use Rattle.cq_steps.specs.Worlds.{IsBranch, term_in, stack, left_at}
+use Rattle.cq_steps.specs.declared.alternatives.Alternatives.{Alternatives}
+use Rattle.cq_steps.specs.declared.alternatives.Alternatives.TheVariants as alternatives
+use Rattle.cq_steps.proofs.Added.{reads_tree}
+use Rattle.cq_calls.specs.Calling.{IsCalledAt, CallBecomes}
+
+-- ---- the procedure
+
+-- a procedure of some kind is called, by its clauses
+known_row : (i : Indicator) (o : Option Procedure) (kind : search.Kind) (all : List Clause) → option_map (λ p. p.kind) o ≡ Some kind → snapshot o ≡ all → calls i o ≡ Calls all
+known_row i None kind all e f = absurd (none-some kind e)
+known_row i (Some q) kind all e f = ap (λ (cs : List Clause). Calls cs) f
+
+unknown_row : (i : Indicator) (o : Option Procedure) → option_map (λ p. p.kind) o ≡ None → calls i o ≡ Raises (existence_error i)
+unknown_row i None e = refl
+unknown_row i (Some q) e = cc
+
+pub none_known : {A : Type 0} (o : Option A) (none : Bool) → is_some o ≡ not none → none ≡ true → o ≡ None
+none_known None none e f = refl
+none_known (Some x) true e f = cc
+none_known (Some x) false e f = cc
+
+pub some_known : {A : Type 0} (o : Option A) (none : Bool) → is_some o ≡ not none → none ≡ false → (x : A) × (o ≡ Some x)
+some_known None true e f = cc
+some_known None false e f = cc
+some_known (Some x) none e f = (x, refl)
+
+-- ---- a goal that calls a predicate
+
+module _ (texts : List Text) (v : Program) (saved : List (Value Contents)) (choices : List Alternatives) (now : Value Contents) (pred : Pred) (id rest : ℕ) (p : Place)
+    (behind : List Branch) (g : Tree) (c : IsCalledAt texts v (stack texts v saved choices) now pred id rest p behind g) where
+  abbrev procedure : Option Procedure
+  procedure = procedure_of (as_database texts c.operators v) (as_indicator texts pred)
+
+  row_is : user_row p (indicator_of g) ≡ calls (indicator_of g) procedure
+  row_is = ap₂ (λ (db : Database) (i : Indicator). calls (indicator_of g) (procedure_of db i)) c.database (sym c.indicator)
+
+  pub raises : option_map (λ q. q.kind) procedure ≡ None → user_row p (indicator_of g) ≡ Raises (existence_error (indicator_of g))
+  raises e = row_is ∙ unknown_row (indicator_of g) procedure e
+
+  abbrev clause : ℕ → Clause
+  clause = as_clause texts v.contents
+
+  abbrev all : List ℕ
+  all = clauses_of pred (database v.procedures)
+
+  abbrev some : List ℕ
+  some = matching (key_at (λ (d : ClauseValue). key_of d.head) v.contents) (key_of (at now.0.heap.terms id)) all
+
+  module _ (kind : search.Kind) (found : option_map (λ q. q.kind) procedure ≡ Some kind) (clauses_are : snapshot procedure ≡ map clause all)
+      (selects : IsSelection p (named (text_of texts) (at now.0.heap.terms id)) (map clause all) (map clause some))
+      (walk : Walk) (tried : left (λ (d : ClauseValue). key_of d.head) walk v ≡ some) (more : List (Value Contents)) (after : List Alternatives)
+      (pushed : open_choices more after ≡ (now, alternatives.Clauses id walk rest) ∷ open_choices saved choices) where
+    stack_is : stack texts v more after ≡ (now, Clauses id (map clause some) rest) ∷ stack texts v saved choices
+    stack_is = ap (map (left_at texts v)) pushed ∙ ap (λ (ns : List ℕ). (now, Clauses id (map clause ns) rest) ∷ stack texts v saved choices) tried
+
+    waits : AreWaiting (IsBranch texts) (term_in texts) ((now, Clauses id (map clause some) rest) ∷ stack texts v saved choices) (map (clause_child p g) (map clause some) ++ behind)
+    waits = (map (clause_child p g) (map clause some), behind, refl, (p, g, refl, c.reads.0, c.place.0), c.place.1)
+
+    pub becomes : CallBecomes texts (stack texts v more after) p behind g
+    becomes = record {
+      all = map clause all;
+      some = map clause some;
+      row = row_is ∙ known_row (indicator_of g) procedure kind (map clause all) found clauses_are;
+      selection = subst (λ (t : Tree). IsSelection p t (map clause all) (map clause some)) (reads_tree texts now.0 p.state id g c.reads) selects;
+      waiting = subst (λ st. AreWaiting (IsBranch texts) (term_in texts) st (map (clause_child p g) (map clause some) ++ behind)) (sym stack_is) waits;
+    }
+
+-- ---- the search
+
+pub calls_come : (texts : List Text) (steps : ℕ) (s : Search) (goal : Tree) (cut : ℕ) (items : List Item) (st : State) (behind : List Branch)
+    → look_at s.branches ≡ Selecting goal cut items st behind → s.selected < steps
+    → (all some : List Clause) → reply_of (place_of s st items cut behind) (read st goal) ≡ Calls all
+    → IsSelection (place_of s st items cut behind) (read st goal) all some → (choices : Stack Contents) (now : Value Contents)
+    → AreWaiting (IsBranch texts) (term_in texts) choices (map (clause_child (place_of s st items cut behind) (read st goal)) some ++ behind)
+    → Comes (IsBranch texts) (term_in texts) steps (engine s.database (suc s.selected) choices now None) s
+calls_come texts steps s goal cut items st behind look few every tried row selection choices now waiting =
+    let p = place_of s st items cut behind in
+    let m = made p (map (clause_child p (read st goal)) tried) in
+    record {
+      reached = after_step s m behind;
+      quiet = after (inr few) (turn.steps {m = m} look (step.calls row selection)) at_once;
+      stands = record {
+        database = refl;
+        selected = refl;
+        first = [];
+        behind = map (clause_child p (read st goal)) tried ++ behind;
+        branches = refl;
+        current = refl;
+        waiting = waiting;
+      };
+    }

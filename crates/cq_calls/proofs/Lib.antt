@@ -1,0 +1,4 @@
+mod Turns
+mod Newest
+mod Called
+mod Budgets

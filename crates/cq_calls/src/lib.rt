@@ -1,0 +1,10 @@
+//! How a call of a user predicate begins, and how its clauses are tried one after another.
+#![tactic(auto)]
+
+mod calling;
+mod laws;
+mod trying;
+
+pub use calling::call_procedure;
+pub use laws::called_goals_come_back;
+pub use trying::try_clauses;

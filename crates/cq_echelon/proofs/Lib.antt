@@ -1,0 +1,11 @@
+pub mod Places
+pub mod Moved
+pub mod Pairs
+pub mod Totals
+pub mod Free
+pub mod Valued
+pub mod Weakly
+pub mod Sorting
+pub mod Products
+pub mod Stops
+pub mod Solving

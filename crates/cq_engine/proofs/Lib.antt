@@ -1,0 +1,4 @@
+mod Kept
+mod Built
+mod Operators
+mod Over

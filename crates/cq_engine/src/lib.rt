@@ -1,0 +1,17 @@
+//! The steps of an engine: what a selected goal comes to, by the row of what it calls.
+#![tactic(auto)]
+
+mod building;
+mod control;
+mod derived;
+mod machine;
+mod names;
+mod output;
+mod step;
+
+pub use control::{call, conjunction, cut, disjunction, if_then, negation};
+pub use derived::{initialization, not_unify, once};
+pub use machine::Machine;
+pub use names::Names;
+pub use output::{declare, write};
+pub use step::Step;

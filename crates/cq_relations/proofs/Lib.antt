@@ -1,0 +1,6 @@
+mod Values
+mod Growing
+mod Marks
+mod Equating
+mod Asleep
+mod Curly

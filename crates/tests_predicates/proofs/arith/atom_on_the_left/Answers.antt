@@ -1,7 +1,0 @@
-use Rattle.std.proofs.Common.{length}
-use Rattle.tests_predicates.proofs.arith.atom_on_the_left.Goals as goal
-
-pub outcome_of-requires-clause-names : goal.outcome_of-requires-clause-names
-outcome_of-requires-clause-names c =
-    let n = length c.args.atoms.now in
-    c.pair.ensures.names n c.requires.plus (c.variable.ensures.names n (c.constant.ensures.names n c.requires.foo c.requires.names))
