@@ -4,6 +4,8 @@
 #[cfg(test)]
 mod lex;
 #[cfg(test)]
+mod ops;
+#[cfg(test)]
 mod read;
 #[cfg(test)]
 mod write;
