@@ -22,10 +22,10 @@ ComesToStop budgets cause s = (t : Search) × Tells budgets s (Stops cause) t
 
 -- The search comes quietly to where the query stops for the fault, where one maximisation may make so many exchanges. Want of
 -- memory tells nothing.
-abbrev pub StopsFor : ℕ → StoreFault → Search → Type 0
-StopsFor pivots (Overflow pair) s = (budgets : Budgets) → budgets.pivots ≡ pivots → ComesToStop budgets (cause.Overflow pair) s
-StopsFor pivots (Pivots n) s = (budgets : Budgets) → budgets.pivots ≡ pivots → ComesToStop budgets (cause.Pivots n) s
-StopsFor pivots NoMemory s = ⊤
+abbrev pub FaultStops : ℕ → StoreFault → Search → Type 0
+FaultStops pivots (Overflow pair) s = (budgets : Budgets) → budgets.pivots ≡ pivots → ComesToStop budgets (cause.Overflow pair) s
+FaultStops pivots (Pivots n) s = (budgets : Budgets) → budgets.pivots ≡ pivots → ComesToStop budgets (cause.Pivots n) s
+FaultStops pivots NoMemory s = ⊤
 
 -- ---- an engine that comes back to its newest choice
 
@@ -40,5 +40,5 @@ ComesOn texts v was older before saved choices now current = (steps : ℕ) (db :
     → Stands texts v db n was older before None s → Arrives steps texts v db n saved choices now current s
 
 -- each search for which it stood comes quietly to where the query stops for the fault
-abbrev pub AllStopFor : List Text → Program → List (Value Contents) → List Alternatives → Value Contents → ℕ → StoreFault → Type 0
-AllStopFor texts v saved choices now pivots fault = (db : Database) (n : ℕ) (s : Search) → Stands texts v db n saved choices now None s → StopsFor pivots fault s
+abbrev pub AllStop : List Text → Program → List (Value Contents) → List Alternatives → Value Contents → ℕ → StoreFault → Type 0
+AllStop texts v saved choices now pivots fault = (db : Database) (n : ℕ) (s : Search) → Stands texts v db n saved choices now None s → FaultStops pivots fault s
