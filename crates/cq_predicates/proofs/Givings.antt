@@ -54,6 +54,6 @@ nth_is f (x ∷ xs) zero r h e = ap f (sym e)
 nth_is f (x ∷ xs) (suc k) r h e = nth_is f xs k r (omega (arith, h)) e
 
 -- a pair or none as what is offered
-pub paired : (texts : List Text) (ts : List HeapTerm) (o : Option Pair) → offered_pair texts ts o ≡ offers 0 texts ts (record { ways = way.Pair o })
+pub paired : (texts : List Text) (ts : List HeapTerm) (o : Option Pair) → offered_pair texts ts o ≡ offers 0 texts ts (record { given_back = None; ways = way.Pair o })
 paired texts ts None = refl
 paired texts ts (Some p) = refl

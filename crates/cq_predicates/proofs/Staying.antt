@@ -1,5 +1,5 @@
 -- Alternatives that are still to come stay the same while names, terms and variables are added.
-use Rattle.std.proofs.Common.{◌≡◌, ℕ, ◌<◌, List, [], ◌∷◌, map, length, All, true, false, Some, None, refl, ap}
+use Rattle.std.proofs.Common.{◌≡◌, ℕ, ◌<◌, List, [], ◌∷◌, ◌++◌, map, length, All, true, false, Option, Some, None, refl, ap, ap₂}
 use Rattle.std.proofs.lemmas.List.Elements.{All-head, All-tail, All-weaker}
 use Rattle.spec_lists.specs.Texts.{Text}
 use Rattle.spec_lists.proofs.Prefixes.{prefix_within}
@@ -11,6 +11,7 @@ use Rattle.cq_walk.specs.Pairs.{IsLive}
 use Rattle.cq_walk.specs.declared.pairs.Pair.{Pair}
 use Rattle.cq_built.specs.Growing.{Grows}
 use Rattle.cq_built.specs.Offered.{equation_of}
+use Rattle.cq_built.specs.declared.alternatives.Alternative.{Alternative}
 use Rattle.cq_built.proofs.Trees.{tree_kept}
 use Rattle.cq_text.specs.Ways.{offered}
 use Rattle.cq_text.specs.Ways as text
@@ -19,7 +20,7 @@ use Rattle.cq_text.specs.declared.ways.Ways.{Ways}
 use Rattle.cq_text.specs.declared.ways.Ways.TheVariants as text_way
 use Rattle.cq_text.specs.declared.ways.TextAlternatives.{TextAlternatives}
 use Rattle.cq_text.proofs.Kept.{split_kept, part_kept, map_kept}
-use Rattle.cq_predicates.specs.Given.{Adds, CanGoOn, has_ways, some_ways, ways_left}
+use Rattle.cq_predicates.specs.Given.{Adds, CanGoOn, at_most_one, has_ways, some_ways, ways_left}
 use Rattle.cq_predicates.specs.declared.solutions.Ways.TheVariants as way
 use Rattle.cq_predicates.specs.declared.solutions.Ways as ways
 use Rattle.cq_predicates.specs.declared.solutions.Solutions.{Solutions}
@@ -90,25 +91,34 @@ module _ (texts more : List Text) (old new : HeapValue) (adds : Adds texts old m
 
   -- ---- all ways
 
+  some_kept : (w : ways.Ways) → has_ways old.now.terms w → some_ways more new.now.terms w ≡ some_ways texts old.now.terms w
+  some_kept (way.Test true) h = refl
+  some_kept (way.Test false) h = refl
+  some_kept (way.Pair None) h = refl
+  some_kept (way.Pair (Some p)) h = ap (λ e. (e ∷ []) ∷ []) (pair_kept p h)
+  some_kept (way.Pairs None) h = refl
+  some_kept (way.Pairs (Some a)) h = ap (λ es. es ∷ []) (pairs_kept a.pairs.items h)
+  some_kept (way.Texts w) h = ap (map (λ (a : definition.Alternative). a.equations)) (offered_kept w h)
+
+  some_live : (w : ways.Ways) → has_ways old.now.terms w → has_ways new.now.terms w
+  some_live (way.Test b) h = tt
+  some_live (way.Pair None) h = tt
+  some_live (way.Pair (Some p)) h = pair_live p h
+  some_live (way.Pairs None) h = tt
+  some_live (way.Pairs (Some a)) h = pairs_live a.pairs.items h
+  some_live (way.Texts w) h = texts_live w h
+
+  -- the one that was given back
+  back_kept : (o : Option Alternative) → text.CanBeTried old.now.terms o → at_most_one more new.now.terms o ≡ at_most_one texts old.now.terms o
+  back_kept None h = refl
+  back_kept (Some a) h = ap (λ es. es ∷ []) (pairs_kept a.pairs.items h)
+
+  back_live : (o : Option Alternative) → text.CanBeTried old.now.terms o → text.CanBeTried new.now.terms o
+  back_live None h = tt
+  back_live (Some a) h = pairs_live a.pairs.items h
+
   pub ways_kept : (s : Solutions) → CanGoOn old.now.terms s → ways_left more new.now.terms s ≡ ways_left texts old.now.terms s
-  ways_kept s live = by s.ways live
-    where
-      by : (w : ways.Ways) → has_ways old.now.terms w → some_ways more new.now.terms w ≡ some_ways texts old.now.terms w
-      by (way.Test true) h = refl
-      by (way.Test false) h = refl
-      by (way.Pair None) h = refl
-      by (way.Pair (Some p)) h = ap (λ e. (e ∷ []) ∷ []) (pair_kept p h)
-      by (way.Pairs None) h = refl
-      by (way.Pairs (Some a)) h = ap (λ es. es ∷ []) (pairs_kept a.pairs.items h)
-      by (way.Texts w) h = ap (map (λ (a : definition.Alternative). a.equations)) (offered_kept w h)
+  ways_kept s live = ap₂ (λ xs ys. xs ++ ys) (back_kept s.given_back live.0) (some_kept s.ways live.1)
 
   pub ways_live : (s : Solutions) → CanGoOn old.now.terms s → CanGoOn new.now.terms s
-  ways_live s live = by s.ways live
-    where
-      by : (w : ways.Ways) → has_ways old.now.terms w → has_ways new.now.terms w
-      by (way.Test b) h = tt
-      by (way.Pair None) h = tt
-      by (way.Pair (Some p)) h = pair_live p h
-      by (way.Pairs None) h = tt
-      by (way.Pairs (Some a)) h = pairs_live a.pairs.items h
-      by (way.Texts w) h = texts_live w h
+  ways_live s live = (back_live s.given_back live.0, some_live s.ways live.1)

@@ -34,9 +34,9 @@ some_ways texts ts (way.Pair (Some p)) = (equation_of texts ts p ∷ []) ∷ []
 some_ways texts ts (way.Pairs o) = at_most_one texts ts o
 some_ways texts ts (way.Texts w) = map (λ a. a.equations) (offered texts ts w)
 
--- the equations of each, in order, as the terms of a heap read
+-- the equations of each, in order, as the terms of a heap read: first of the one that was given back
 abbrev pub ways_left : List Text → List HeapTerm → Solutions → List (List (Equation Text))
-ways_left texts ts s = some_ways texts ts s.ways
+ways_left texts ts s = at_most_one texts ts s.given_back ++ some_ways texts ts s.ways
 
 abbrev pub has_ways : List HeapTerm → Ways → Type 0
 has_ways ts (way.Test b) = ⊤
@@ -47,7 +47,11 @@ has_ways ts (way.Texts w) = text.CanGoOn ts w
 
 -- the terms that stand in them are on the heap
 abbrev pub CanGoOn : List HeapTerm → Solutions → Type 0
-CanGoOn ts s = has_ways ts s.ways
+CanGoOn ts s = text.CanBeTried ts s.given_back × has_ways ts s.ways
+
+-- none was given back
+abbrev pub HasNoneBack : Solutions → Type 0
+HasNoneBack s = s.given_back ≡ None
 
 -- ---- what a call gives
 
@@ -78,7 +82,7 @@ abbrev pub TakesWay : List Text → List HeapTerm → Ways → List Text → Lis
 TakesWay texts ts old more us new next = some_ways texts ts old ≡ then_these more us next (some_ways more us new)
 
 abbrev pub TakesNext : List Text → List HeapTerm → Solutions → List Text → List HeapTerm → Solutions → Option Alternative → Type 0
-TakesNext texts ts old more us new next = TakesWay texts ts old.ways more us new.ways next
+TakesNext texts ts old more us new next = ways_left texts ts old ≡ then_these more us next (ways_left more us new)
 
 -- ---- what is added
 

@@ -1,6 +1,6 @@
 // What a call of a predicate gives.
 
-ghost use Rattle.std.specs.Prelude.{◌≡◌, [], List, IfOk, OnErr, true};
+ghost use Rattle.std.specs.Prelude.{◌≡◌, [], ◌∷◌, List, IfOk, OnErr, true};
 ghost use Rattle.spec_lists.specs.Texts.{Text};
 ghost use Rattle.cq_term.specs.Trees.{KnowsTerms};
 ghost use Rattle.cq_text.specs.Ways.{CanBeTried};
@@ -8,8 +8,9 @@ ghost use Rattle.cq_text.specs.Ways.{offered};
 ghost use Rattle.cq_text.specs.Ways as text;
 ghost use Rattle.cq_built.specs.Growing.{Grows};
 ghost use Rattle.cq_builtin.specs.Offered.{IsLiveOrNone};
+ghost use Rattle.cq_builtin.specs.Over.{equations_of, AreLive};
 ghost use Rattle.cq_term.specs.Meaning.{HeapTerm};
-ghost use Rattle.cq_predicates.specs.Given.{CanGoOn, TakesNext, TakesWay, Adds, ways_left};
+ghost use Rattle.cq_predicates.specs.Given.{CanGoOn, HasNoneBack, TakesNext, TakesWay, Adds, ways_left};
 
 use cq_atoms::Atoms;
 use cq_built::Alternative;
@@ -31,6 +32,8 @@ pub(crate) enum Ways {
 /// The alternatives of a call that are still to come. Where there can be many, each is made when it is asked for.
 #[derive(Drop)]
 pub struct Solutions {
+    /// One that was given back, which comes before the others.
+    pub(crate) given_back: Option<Alternative>,
     pub(crate) ways: Ways,
 }
 
@@ -49,11 +52,15 @@ impl Solutions {
         ensures there { IfOk result (CanBeTried heap.new.now.terms) }
         ensures live { CanGoOn heap.new.now.terms self.new }
         ensures back { CanGoOn heap.old.now.terms self.new }
+        ensures free { IfOk result (λ next. HasNoneBack self.new) }
         ensures images { heap.new.now.images ≡ heap.old.now.images }
         ensures adds { Adds atoms.old heap.old atoms.new heap.new }
         ensures err { OnErr result (heap.new.now ≡ heap.old.now) }
         ensures same { OnErr result (self.new ≡ self.old) }
     {
+        if let Some(first) = self.given_back.take() {
+            return Ok(Some(first));
+        }
         match &mut self.ways {
             Ways::Test(holds) => Ok(next_test(heap, holds)),
             Ways::Pair(pair) => next_pair(heap, pair),
@@ -62,11 +69,24 @@ impl Solutions {
         }
     }
 
+    /// Gives back an alternative that was taken: it comes next again, over the terms of a heap in which it stands.
+    pub fn give_back(&mut self, alternative: Alternative)
+        requires free { HasNoneBack self.old }
+        ensures first { (texts : List Text) (ts : List HeapTerm)
+            → ways_left texts ts self.new ≡ equations_of texts ts alternative ∷ ways_left texts ts self.old }
+        ensures live { (ts : List HeapTerm) → AreLive ts alternative → CanGoOn ts self.old → CanGoOn ts self.new }
+    {
+        self.given_back = Some(alternative);
+    }
+
     /// Whether it is known that none is left. Of the alternatives of a predicate on texts it is known only once the last was
     /// asked for and none came.
     pub fn is_over(&self) -> bool
         ensures { result ≡ true → (texts : List Text) (ts : List HeapTerm) → ways_left texts ts self.now ≡ [] }
     {
+        if self.given_back.is_some() {
+            return false;
+        }
         match &self.ways {
             Ways::Test(holds) => !*holds,
             Ways::Pair(pair) => pair.is_none(),

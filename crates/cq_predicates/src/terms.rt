@@ -29,6 +29,7 @@ pub(crate) fn compared(
 {
     let holds = order(heap, atoms, comparison, args[0], args[1])?;
     Ok(Solutions {
+        given_back: None,
         ways: Ways::Test(holds),
     })
 }
@@ -48,6 +49,7 @@ pub(crate) fn tested(
 {
     let holds = test(heap, atoms, wanted, args[0])?;
     Ok(Solutions {
+        given_back: None,
         ways: Ways::Test(holds),
     })
 }
@@ -64,6 +66,7 @@ pub(crate) fn chosen(heap: &Heap, atoms: &Atoms, args: &[TermId]) -> Result<Solu
 {
     match arg(heap, args[0], args[1], args[2]) {
         Ok(pair) => Ok(Solutions {
+            given_back: None,
             ways: Ways::Pair(pair),
         }),
         Err(error) => Err(BuiltinFault::Error(error)),
@@ -88,6 +91,7 @@ pub(crate) fn related(
 {
     let way = functor(heap, atoms, args[0], args[1], args[2])?;
     Ok(Solutions {
+        given_back: None,
         ways: Ways::Pairs(Some(way)),
     })
 }
@@ -110,6 +114,7 @@ pub(crate) fn listed(
 {
     let pair = univ(heap, atoms, args[0], args[1])?;
     Ok(Solutions {
+        given_back: None,
         ways: Ways::Pair(Some(pair)),
     })
 }
@@ -130,6 +135,7 @@ pub(crate) fn copied(
 {
     let pair = copy_term(heap, atoms, args[0], args[1])?;
     Ok(Solutions {
+        given_back: None,
         ways: Ways::Pair(Some(pair)),
     })
 }

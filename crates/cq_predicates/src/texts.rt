@@ -39,6 +39,7 @@ pub(crate) fn converted(
 {
     match convert(heap, atoms, conversion, args[0], args[1]) {
         Ok(pair) => Ok(Solutions {
+            given_back: None,
             ways: Ways::Pair(Some(pair)),
         }),
         Err(fault) => Err(fault),
@@ -63,6 +64,7 @@ pub(crate) fn measured(
 {
     let ways = length_ways(heap, atoms, args[0], args[1])?;
     Ok(Solutions {
+        given_back: None,
         ways: Ways::Texts(ways),
     })
 }
@@ -89,6 +91,7 @@ pub(crate) fn joined(
     };
     let ways = concat_ways(heap, atoms, split, args[2])?;
     Ok(Solutions {
+        given_back: None,
         ways: Ways::Texts(ways),
     })
 }
@@ -111,6 +114,7 @@ pub(crate) fn parted(heap: &Heap, atoms: &Atoms, args: &[TermId]) -> Result<Solu
     };
     let ways = sub_atom(heap, atoms, args[0], part)?;
     Ok(Solutions {
+        given_back: None,
         ways: Ways::Texts(ways),
     })
 }

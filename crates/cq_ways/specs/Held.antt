@@ -1,9 +1,11 @@
 -- What an engine holds, and what is said of it where names are added.
-use Rattle.std.specs.Prelude.{◌≡◌, List, ◌∷◌}
+use Rattle.std.specs.Prelude.{◌≡◌, List}
+use Rattle.std.specs.List.{AllByRecursion}
 use Rattle.spec_lists.specs.Texts.{Text}
 use Rattle.cq_control.specs.Items.{ContinuationsValue}
 use Rattle.cq_control.specs.Open.{AreMarked, open_choices}
 use Rattle.cq_program.specs.Database.{Program, IsProgram}
+use Rattle.cq_term.specs.Trees.{KnowsTerms}
 use Rattle.cq_world.specs.Contents.{Contents}
 use Rattle.cq_world.specs.declared.world.World.{World}
 use Rattle.spec_machine.specs.declared.cell.Cell.{Cell}
@@ -35,10 +37,19 @@ stack_of v h = stack h.texts v h.saved h.choices
 abbrev pub HasMarks : Held → Type 0
 HasMarks h = AreMarked h.saved h.choices
 
--- the names are those of the program, and each choice can be gone on with
+-- each name in the images of the world's variables has a text
+abbrev pub KnowsImages : List Text → Contents → Type 0
+KnowsImages texts c = KnowsTerms texts c.heap.images
+
+-- so it is in the world of each choice
+abbrev pub AllKnowImages : List Text → List (Value Contents) → List Alternatives → Type 0
+AllKnowImages texts saved choices = AllByRecursion (λ (c : Value Contents × Alternatives). KnowsImages texts c.0.0) (open_choices saved choices)
+
+-- the names are those of the program, and each choice can be gone on with and knows its names
 pub record IsOver (v : Program) (h : Held) : Type 0 where
   pub program : IsProgram h.texts v
   pub open : AreOpen v h.saved h.choices
+  pub images : AllKnowImages h.texts h.saved h.choices
 
 -- nothing has changed but names that may have been added
 pub record IsAsBefore (old new : Held) : Type 0 where
@@ -46,11 +57,5 @@ pub record IsAsBefore (old new : Held) : Type 0 where
   pub choices : open_of new ≡ open_of old
 
 -- where each choice could be gone on with, each can be
-abbrev pub KeepsOpen : Held → Held → Type 0
-KeepsOpen old new = (v : Program) → AreOpen v old.saved old.choices → AreOpen v new.saved new.choices
-
--- the newest choice goes back to this value and leaves these alternatives to try; the older ones are as they were
-abbrev pub Renews : List (Value Contents) → List Alternatives → Value Contents → Alternatives → List (Value Contents) → List Alternatives → Type 0
-Renews saved choices now content more after =
-    (newest : Value Contents × Alternatives) × (older : List (Value Contents × Alternatives)) × (open_choices saved choices ≡ newest ∷ older)
-    × (open_choices more after ≡ (now, content) ∷ older)
+abbrev pub StaysOver : Held → Held → Type 0
+StaysOver old new = (v : Program) → IsOver v old → IsOver v new

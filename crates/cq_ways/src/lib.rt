@@ -4,6 +4,9 @@
 mod calls;
 mod laws;
 mod marks;
+mod taking;
+mod trying;
 
 pub use calls::call_predicate;
 pub use laws::{calls_lead, names_may_be_added};
+pub use trying::try_ways;

@@ -1,0 +1,4 @@
+pub mod Named
+pub mod Reread
+pub mod Stacked
+pub mod Leading
