@@ -21,6 +21,7 @@ use Rattle.cq_built.specs.Errors.{Explains}
 use Rattle.cq_built.specs.declared.errors.BuiltinFault.{BuiltinFault}
 use Rattle.cq_built.specs.declared.errors.BuiltinFault.TheVariants as fault
 use Rattle.cq_control.specs.Items.{items_at}
+use Rattle.cq_control.specs.Open.{open_choices}
 use Rattle.cq_predicates.specs.Given.{over, ways_left, offers as offered}
 use Rattle.cq_predicates.specs.declared.solutions.Solutions as given
 use Rattle.cq_program.specs.Database.{Program}
@@ -33,17 +34,16 @@ use Rattle.spec_machine.specs.Cells.{Ways, Value, Stack}
 use Rattle.spec_machine.specs.Standing.{engine, IsContinuation, IsPlace, AreWaiting}
 use Rattle.spec_machine.specs.Coming.{at_once, after, Comes}
 use Rattle.spec_machine.proofs.Kept.{items_read_on}
+use Rattle.cq_steps.specs.declared.alternatives.Alternatives.{Alternatives}
 use Rattle.cq_steps.specs.declared.alternatives.Alternatives.TheVariants as alternatives
 use Rattle.cq_steps.specs.Calls.{IsRaised}
 use Rattle.cq_steps.specs.Selecting.{Becomes}
-use Rattle.cq_steps.specs.Worlds.{IsBranch, term_in, with_heap, ReadsAs, Placed, Leads, left_at}
+use Rattle.cq_steps.specs.Worlds.{IsBranch, term_in, with_heap, Placed, Leads, left_at, stack}
 use Rattle.cq_steps.proofs.Added.{tree_is}
 use Rattle.cq_begin.proofs.Newer.{branch_more, read_still}
 use Rattle.cq_ways.specs.Calls.{AreRead, row_of}
 use Rattle.cq_ways.specs.Held.{Held, IsOver, KnowsImages, open_of, stack_of}
-use Rattle.cq_ways.proofs.Named.{branch_named, term_named, known_more}
-use Rattle.cq_ways.proofs.Reread.{place_known}
-use Rattle.cq_ways.proofs.Stacked.{same_stack, stack_known, waiting_same}
+use Rattle.cq_ways.proofs.Stacked.{waits_more, place_more}
 
 -- ---- alternatives without new variables, in the state with those of the call
 
@@ -63,70 +63,72 @@ children_same p count (es ∷ ways) = ap₂ (λ b bs. b ∷ bs) (fresh_same p co
 module _ (more : List Text) (v : Program) (h : Held) (longer : IsPrefix h.texts more) (o : IsOver v h) (known : KnowsImages h.texts h.now.0)
     (built : Terms) (count : ℕ) (terms : IsPrefix h.now.0.heap.terms built.terms) (images : built.images ≡ h.now.0.heap.images ++ unbound_from (length h.now.0.heap.images) count)
     (names : KnowsTerms more built.terms) where
-  abbrev texts : List Text
-  texts = h.texts
-
   abbrev c : Contents
   c = h.now.0
 
   abbrev later : Value Contents
   later = (with_heap built c, h.now.1)
 
-  -- the place in the state with the new variables
-  pub newer_place : (rest : ℕ) (p : Place) → IsPlace (IsBranch texts) (term_in texts) (stack_of v h) h.now rest p
-      → IsPlace (IsBranch more) (term_in more) (stack_of v h) later rest (record p { state = with_new count p.state })
-  newer_place rest p i =
-      let j = place_known (IsBranch texts) (IsBranch more) (term_in texts) (term_in more) (KnowsImages texts) (branch_named texts more longer) (term_named texts more longer)
-          (stack_of v h) (stack_known texts v (open_of h) o.images) h.now known rest p i in
-      record {
-        continuation = record {
-          there = j.continuation.there;
-          fits = j.continuation.fits;
-          state = branch_more more c built count terms images names p.state j.continuation.state;
-          cells = items_read_on (IsBranch more) (term_in more) (stack_of v h) c p.state (with_heap built c) (with_new count p.state)
-              (λ id t e. read_still more c built count terms images names id (read p.state t) e) (items_at h.now.1 rest) p.rest j.continuation.cells;
-        };
-        height = j.height;
-      }
+  abbrev older : Stack Contents
+  older = map (left_at more v) (open_of h)
 
-  pub ways_lead : (new : Held) → new.texts ≡ more → new.now ≡ later → (rest : ℕ) (s : given.Solutions)
-      → open_of new ≡ (later, alternatives.Ways s rest) ∷ open_of h
-      → (p : Place) (behind : List Branch) → Placed texts (stack_of v h) h.now rest p behind
-      → Leads more (map (left_at more v) (open_of new)) later None p behind (offers p (offered count more built.terms s))
-  ways_lead new named now rest s opened p behind placed = record {
-    made = made p (map (alternative_child p) (map (over count) ways));
-    row = refl;
-    database = refl;
-    output = refl;
-    comes = λ steps t d e. record {
-      reached = t;
-      quiet = at_once;
-      stands = record {
-        database = d;
-        selected = refl;
-        first = [];
-        behind = map (alternative_child p) (map (over count) ways) ++ behind;
-        branches = e;
-        current = refl;
-        waiting = subst (λ (x : Stack Contents). AreWaiting (IsBranch more) (term_in more) x (map (alternative_child p) (map (over count) ways) ++ behind)) (sym stack_is) waits;
-      };
-    };
-  }
-    where
-      ways : List (List (Equation Text))
+  abbrev newer : ℕ → Place → Place
+  newer n p = record p { state = with_new n p.state }
+
+  module _ (rest : ℕ) (p : Place) (behind : List Branch) (placed : Placed h.texts (stack_of v h) h.now rest p behind) where
+    -- the place in the state with the new variables
+    newer_place : IsPlace (IsBranch more) (term_in more) older later rest (newer count p)
+    newer_place =
+        let j = place_more h.texts more longer v o.program (open_of h) o.open o.images behind placed.1 h.now known rest p placed.0 in
+        record {
+          continuation = record {
+            there = j.continuation.there;
+            fits = j.continuation.fits;
+            state = branch_more more c built count terms images names p.state j.continuation.state;
+            cells = items_read_on (IsBranch more) (term_in more) older c p.state (with_heap built c) (with_new count p.state)
+                (λ id t e. read_still more c built count terms images names id (read p.state t) e) (items_at h.now.1 rest) p.rest j.continuation.cells;
+          };
+          height = j.height;
+        }
+
+    module _ (s : given.Solutions) where
+      abbrev ways : List (List (Equation Text))
       ways = ways_left more built.terms s
 
-      stack_is : map (left_at more v) (open_of new) ≡ (later, Ways (map (over 0) ways) rest) ∷ stack_of v h
-      stack_is = ap (map (left_at more v)) opened ∙ ap (λ x. (later, Ways (map (over 0) ways) rest) ∷ x) (same_stack more v h longer o behind placed.1)
+      abbrev children : List Branch
+      children = map (alternative_child p) (map (over count) ways)
 
-      waits : AreWaiting (IsBranch more) (term_in more) ((later, Ways (map (over 0) ways) rest) ∷ stack_of v h) (map (alternative_child p) (map (over count) ways) ++ behind)
+      waits : AreWaiting (IsBranch more) (term_in more) ((later, Ways (map (over 0) ways) rest) ∷ older) (children ++ behind)
       waits = (
-        map (alternative_child p) (map (over count) ways),
+        children,
         behind,
         refl,
-        (record p { state = with_new count p.state }, children_same p count ways, newer_place rest p placed.0),
-        waiting_same more v h longer o behind placed.1,
+        (newer count p, children_same p count ways, newer_place),
+        waits_more h.texts more longer v o.program (open_of h) o.open o.images behind placed.1,
       )
+
+      pub ways_lead : (saved : List (Value Contents)) (choices : List Alternatives) (now : Value Contents)
+          → open_choices saved choices ≡ (later, alternatives.Ways s rest) ∷ open_of h
+          → Leads more (stack more v saved choices) now None p behind (offers p (offered count more built.terms s))
+      ways_lead saved choices now opened = record {
+        made = made p children;
+        row = refl;
+        database = refl;
+        output = refl;
+        comes = λ steps t d e. record {
+          reached = t;
+          quiet = at_once;
+          stands = record {
+            database = d;
+            selected = refl;
+            first = [];
+            behind = children ++ behind;
+            branches = e;
+            current = refl;
+            waiting = subst (λ (x : Stack Contents). AreWaiting (IsBranch more) (term_in more) x (children ++ behind)) (sym (ap (map (left_at more v)) opened)) waits;
+          };
+        };
+      }
 
 -- ---- arguments
 

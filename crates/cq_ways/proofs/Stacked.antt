@@ -11,6 +11,7 @@ use Rattle.spec_lists.specs.Texts.{Text}
 use Rattle.spec_terms.specs.Term.{Name, named}
 use Rattle.spec_branch.specs.Branch.{State, Branch}
 use Rattle.spec_search.specs.Database.{Database}
+use Rattle.spec_search.specs.Replies.{Place}
 use Rattle.spec_search.specs.Search.{Search}
 use Rattle.cq_atoms.specs.Texts.{text_of, KeepsTexts}
 use Rattle.cq_built.proofs.Trees.{named_alike}
@@ -36,14 +37,14 @@ use Rattle.cq_term.specs.Meaning.{HeapTerm, blank}
 use Rattle.cq_term.specs.Trees.{KnowsTerms}
 use Rattle.cq_world.specs.Contents.{Contents}
 use Rattle.spec_machine.specs.Cells.{Left, One, Clauses, Ways, Value, Stack}
-use Rattle.spec_machine.specs.Standing.{engine, AreBranches, AreWaiting, IsStanding}
+use Rattle.spec_machine.specs.Standing.{engine, AreBranches, AreWaiting, IsPlace, IsStanding}
 use Rattle.cq_steps.specs.declared.alternatives.Alternatives.{Alternatives}
 use Rattle.cq_steps.specs.declared.alternatives.Alternatives.TheVariants as alternatives
 use Rattle.cq_steps.specs.Choices.{AreOpen, CanBeTried}
 use Rattle.cq_steps.specs.Worlds.{IsBranch, term_in, left_of, left_at, stack, Stands}
 use Rattle.cq_ways.specs.Held.{Held, IsOver, KnowsImages, AllKnowImages, open_of}
 use Rattle.cq_ways.proofs.Named.{branch_named, term_named, known_more}
-use Rattle.cq_ways.proofs.Reread.{waiting_known, current_known}
+use Rattle.cq_ways.proofs.Reread.{waiting_known, place_known, current_known}
 
 module _ (texts more : List Text) (longer : IsPrefix texts more) where
   text_kept : (a : ℕ) → a < length texts → text_of more a ≡ text_of texts a
@@ -152,55 +153,64 @@ module _ (texts more : List Text) (longer : IsPrefix texts more) where
         ap (λ ws. Ways (map (over 0) ws) k) (ways_named w.0.heap are.2.continuation.state.ready.stands.names s can)
     left_same older w alternatives.Barrier bs can are = refl
 
-    same_choices : (xs : List (Value Contents × Alternatives)) → AllByRecursion (λ (c : Value Contents × Alternatives). CanBeTried v c.0.0.heap.terms c.1) xs
-        → (bs : List Branch) → AreWaiting (IsBranch texts) (term_in texts) (map (left_at texts v) xs) bs → map (left_at more v) xs ≡ map (left_at texts v) xs
+    abbrev Open : List (Value Contents × Alternatives) → Type 0
+    Open xs = AllByRecursion (λ (c : Value Contents × Alternatives). CanBeTried v c.0.0.heap.terms c.1) xs
+
+    abbrev Known : List (Value Contents × Alternatives) → Type 0
+    Known xs = AllByRecursion (λ (c : Value Contents × Alternatives). KnowsImages texts c.0.0) xs
+
+    pub same_choices : (xs : List (Value Contents × Alternatives)) → Open xs → (bs : List Branch)
+        → AreWaiting (IsBranch texts) (term_in texts) (map (left_at texts v) xs) bs → map (left_at more v) xs ≡ map (left_at texts v) xs
     same_choices [] open bs waiting = refl
     same_choices (x ∷ xs) open bs waiting =
         let first = left_same (map (left_at texts v) xs) x.0 x.1 waiting.0 open.0 waiting.3 in
         let older = same_choices xs open.1 waiting.1 waiting.4 in
         λ i. (x.0, first i) ∷ older i
 
-    pub stack_same : (saved : List (Value Contents)) (choices : List Alternatives) → AreOpen v saved choices → (behind : List Branch)
-        → AreWaiting (IsBranch texts) (term_in texts) (stack texts v saved choices) behind → stack more v saved choices ≡ stack texts v saved choices
-    stack_same saved choices open behind waiting = same_choices (open_choices saved choices) open behind waiting
+    -- the worlds of the choices as the definitions see them
+    pub stack_known : (xs : List (Value Contents × Alternatives)) → Known xs
+        → AllByRecursion (λ (c : Value Contents × Left). KnowsImages texts c.0.0) (map (left_at texts v) xs)
+    stack_known [] k = k
+    stack_known (x ∷ xs) k = (k.0, stack_known xs k.1)
+
+    -- the same branches wait over them
+    pub waits_still : (xs : List (Value Contents × Alternatives)) → Known xs → (bs : List Branch)
+        → AreWaiting (IsBranch texts) (term_in texts) (map (left_at texts v) xs) bs → AreWaiting (IsBranch more) (term_in more) (map (left_at texts v) xs) bs
+    waits_still xs known bs waiting =
+        waiting_known (IsBranch texts) (IsBranch more) (term_in texts) (term_in more) (KnowsImages texts) (branch_named texts more longer) (term_named texts more longer)
+        (map (left_at texts v) xs) (stack_known xs known) bs waiting
+
+    pub waits_more : (xs : List (Value Contents × Alternatives)) → Open xs → Known xs → (bs : List Branch)
+        → AreWaiting (IsBranch texts) (term_in texts) (map (left_at texts v) xs) bs → AreWaiting (IsBranch more) (term_in more) (map (left_at more v) xs) bs
+    waits_more xs open known bs waiting =
+        subst (λ (x : Stack Contents). AreWaiting (IsBranch more) (term_in more) x bs) (sym (same_choices xs open bs waiting)) (waits_still xs known bs waiting)
+
+    pub place_more : (xs : List (Value Contents × Alternatives)) → Open xs → Known xs → (bs : List Branch)
+        → AreWaiting (IsBranch texts) (term_in texts) (map (left_at texts v) xs) bs → (w : Value Contents) → KnowsImages texts w.0 → (k : ℕ) (p : Place)
+        → IsPlace (IsBranch texts) (term_in texts) (map (left_at texts v) xs) w k p → IsPlace (IsBranch more) (term_in more) (map (left_at more v) xs) w k p
+    place_more xs open known bs waiting w images k p i =
+        subst (λ (x : Stack Contents). IsPlace (IsBranch more) (term_in more) x w k p) (sym (same_choices xs open bs waiting))
+        (place_known (IsBranch texts) (IsBranch more) (term_in texts) (term_in more) (KnowsImages texts) (branch_named texts more longer) (term_named texts more longer)
+        (map (left_at texts v) xs) (stack_known xs known) w images k p i)
 
 -- ---- an engine
 
--- the worlds of the choices as the definitions see them
-pub stack_known : (texts : List Text) (v : Program) (xs : List (Value Contents × Alternatives))
-    → AllByRecursion (λ (c : Value Contents × Alternatives). KnowsImages texts c.0.0) xs
-    → AllByRecursion (λ (c : Value Contents × Left). KnowsImages texts c.0.0) (map (left_at texts v) xs)
-stack_known texts v [] k = k
-stack_known texts v (x ∷ xs) k = (k.0, stack_known texts v xs k.1)
-
-images_more : (texts more : List Text) → IsPrefix texts more → (xs : List (Value Contents × Alternatives))
+pub images_more : (texts more : List Text) → IsPrefix texts more → (xs : List (Value Contents × Alternatives))
     → AllByRecursion (λ (c : Value Contents × Alternatives). KnowsImages texts c.0.0) xs
     → AllByRecursion (λ (c : Value Contents × Alternatives). KnowsImages more c.0.0) xs
 images_more texts more longer [] k = k
 images_more texts more longer (x ∷ xs) k = (known_more texts more longer x.0.0.heap.images k.0, images_more texts more longer xs k.1)
 
 module _ (more : List Text) (v : Program) (h : Held) (longer : IsPrefix h.texts more) (o : IsOver v h) where
+  pub program_more : IsProgram more v
+  program_more = names_whole h.texts more (keeps_texts h.texts more longer) v o.program
+
   pub over_more : IsOver v (record h { texts = more })
-  over_more = record {
-    program = names_whole h.texts more (keeps_texts h.texts more longer) v o.program;
-    open = o.open;
-    images = images_more h.texts more longer (open_of h) o.images;
-  }
+  over_more = record { program = program_more; open = o.open; images = images_more h.texts more longer (open_of h) o.images }
 
-  abbrev old_stack : Stack Contents
-  old_stack = stack h.texts v h.saved h.choices
-
-  pub same_stack : (behind : List Branch) → AreWaiting (IsBranch h.texts) (term_in h.texts) old_stack behind → stack more v h.saved h.choices ≡ old_stack
-  same_stack behind waiting = stack_same h.texts more longer v o.program h.saved h.choices o.open behind waiting
-
-  abbrev states : (c : Contents) (st : State) → KnowsImages h.texts c → IsBranch h.texts c st → IsBranch more c st
-  states = branch_named h.texts more longer
-
-  -- what waits over the older choices waits over them where names are added
-  pub waiting_same : (behind : List Branch) → AreWaiting (IsBranch h.texts) (term_in h.texts) old_stack behind → AreWaiting (IsBranch more) (term_in more) old_stack behind
-  waiting_same behind waiting =
-      waiting_known (IsBranch h.texts) (IsBranch more) (term_in h.texts) (term_in more) (KnowsImages h.texts) states (term_named h.texts more longer) old_stack
-      (stack_known h.texts v (open_of h) o.images) behind waiting
+  pub same_stack : (behind : List Branch) → AreWaiting (IsBranch h.texts) (term_in h.texts) (stack h.texts v h.saved h.choices) behind
+      → stack more v h.saved h.choices ≡ stack h.texts v h.saved h.choices
+  same_stack behind waiting = same_choices h.texts more longer v o.program (open_of h) o.open behind waiting
 
   pub back_more : (db : Database) (n : ℕ) (s : Search) → Stands h.texts v db n h.saved h.choices h.now None s → Stands more v db n h.saved h.choices h.now None s
   back_more db n s j = record {
@@ -210,7 +220,7 @@ module _ (more : List Text) (v : Program) (h : Held) (longer : IsPrefix h.texts 
     behind = j.behind;
     branches = j.branches;
     current = j.current;
-    waiting = subst (λ (x : Stack Contents). AreWaiting (IsBranch more) (term_in more) x j.behind) (sym (same_stack j.behind j.waiting)) (waiting_same j.behind j.waiting);
+    waiting = waits_more h.texts more longer v o.program (open_of h) o.open o.images j.behind j.waiting;
   }
 
   pub stands_more : KnowsImages h.texts h.now.0 → (db : Database) (n : ℕ) (current : Option ℕ) (s : Search) → Stands h.texts v db n h.saved h.choices h.now current s
@@ -223,7 +233,18 @@ module _ (more : List Text) (v : Program) (h : Held) (longer : IsPrefix h.texts 
         first = j.first;
         behind = j.behind;
         branches = j.branches;
-        current = current_known (IsBranch h.texts) (IsBranch more) (term_in h.texts) (term_in more) (KnowsImages h.texts) states (term_named h.texts more longer) old_stack
-            (stack_known h.texts v (open_of h) o.images) h.now known current j.first j.current;
-        waiting = waiting_same j.behind j.waiting;
+        current = current_known (IsBranch h.texts) (IsBranch more) (term_in h.texts) (term_in more) (KnowsImages h.texts) (branch_named h.texts more longer)
+            (term_named h.texts more longer) (stack h.texts v h.saved h.choices) (stack_known h.texts more longer v o.program (open_of h) o.images) h.now known
+            current j.first j.current;
+        waiting = waits_still h.texts more longer v o.program (open_of h) o.images j.behind j.waiting;
       })
+
+  -- the same where the choices are the same ones
+  module _ (new : Held) (named : new.texts ≡ more) (same : open_of new ≡ open_of h) where
+    pub over_still : IsOver v new
+    over_still = record {
+      program = subst (λ (ts : List Text). IsProgram ts v) (sym named) program_more;
+      open = subst (λ (xs : List (Value Contents × Alternatives)). AllByRecursion (λ (c : Value Contents × Alternatives). CanBeTried v c.0.0.heap.terms c.1) xs) (sym same) o.open;
+      images = subst (λ (ts : List Text). AllByRecursion (λ (c : Value Contents × Alternatives). KnowsImages ts c.0.0) (open_of new)) (sym named)
+          (subst (λ (xs : List (Value Contents × Alternatives)). AllByRecursion (λ (c : Value Contents × Alternatives). KnowsImages more c.0.0) xs) (sym same) over_more.images);
+    }

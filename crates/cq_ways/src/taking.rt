@@ -62,7 +62,7 @@ pub(crate) fn take_way(
         (held atoms.new world.new.first world.new.second choices.new))) }
     ensures ready { IfOk result (λ o. IfSome o (λ w. IsReady atoms.new (now_of world.new.first))) }
     ensures there { IfOk result (λ o. IfSome o (λ w. w.rest < length world.new.second.now)) }
-    ensures some { IfOk result (λ o. IfSome o (λ w. 0 < length choices.new)) }
+    ensures same { IfOk result (λ o. IfSome o (λ w. length choices.new ≡ length choices.old)) }
     ensures gone { IfOk result (λ o. IfNone o (ComesOver (held atoms.old world.old.first world.old.second choices.old)
         (held atoms.new world.new.first world.new.second choices.new) None)) }
     ensures fewer { IfOk result (λ o. IfNone o (length choices.new < length choices.old)) }

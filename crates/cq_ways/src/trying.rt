@@ -113,6 +113,7 @@ fn begin_way(
         (λ before. StaysOver before (held atoms.now world.new.first world.new.second choices.new)) }
     ensures fewer { IfOk result (λ b. IfPruned b (AfterTaking (held atoms.now world.old.first world.old.second choices.old) way
         (λ before. HasFewer before (held atoms.now world.new.first world.new.second choices.new)))) }
+    ensures same { IfOk result (λ b. IfPruned b (length choices.new ≡ length choices.old)) }
     ensures budget { world.new.first.store.pivots ≡ world.old.first.store.pivots }
     ensures marked { HasMarks (held atoms.now world.new.first world.new.second choices.new) }
 {

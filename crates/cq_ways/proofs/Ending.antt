@@ -1,0 +1,123 @@
+-- What an engine stands for where an alternative is taken, or none is left.
+use Rattle.std.proofs.Common.{◌≡◌, ◌<◌, ◌⊎◌, inl, inr, ℕ, suc, List, [], ◌∷◌, ◌++◌, length, map, Option, None, Some, refl, sym, ap, ◌∙◌, subst, arith}
+use Rattle.std.specs.Prelude.{IfErr, IfOk, Ok, Err}
+use Rattle.std.specs.List.{AllByRecursion}
+use Rattle.spec_lists.specs.Prefixes.{IsPrefix}
+use Rattle.spec_lists.specs.Texts.{Text}
+use Rattle.spec_branch.specs.Branch.{Branch}
+use Rattle.spec_search.specs.Database.{Database}
+use Rattle.spec_search.specs.Replies.{alternative_child}
+use Rattle.spec_search.specs.Search.{Search}
+use Rattle.spec_stops.specs.Causes.{Budgets, Cause}
+use Rattle.spec_stops.specs.Causes as cause
+use Rattle.cq_linear.specs.declared.store.StoreFault.{StoreFault}
+use Rattle.cq_linear.specs.declared.store.StoreFault.TheVariants.{Overflow, Pivots, NoMemory}
+use Rattle.cq_predicates.specs.Given.{over, ways_left}
+use Rattle.cq_predicates.specs.declared.solutions.Solutions.{Solutions}
+use Rattle.cq_program.specs.Database.{Program}
+use Rattle.cq_world.specs.Contents.{Contents}
+use Rattle.spec_machine.specs.Cells.{Ways, Value, Stack}
+use Rattle.spec_machine.specs.Standing.{engine, AreWaiting}
+use Rattle.spec_machine.specs.Coming.{Quietly, at_once, Comes, Tells, Stops}
+use Rattle.spec_machine.specs.Coming as coming
+use Rattle.cq_steps.specs.declared.alternatives.Alternatives.{Alternatives}
+use Rattle.cq_steps.specs.declared.alternatives.Alternatives.TheVariants as alternatives
+use Rattle.cq_steps.specs.Choices.{CanBeTried}
+use Rattle.cq_steps.specs.Worlds.{IsBranch, term_in, Stands, Arrives, left_at, stack}
+use Rattle.cq_steps.proofs.Arrived.{quietly_on}
+use Rattle.cq_begin.specs.Stops.{ComesToStop, FaultStops}
+use Rattle.cq_ways.specs.Held.{Held, IsOver, StaysOver, KnowsImages, open_of}
+use Rattle.cq_ways.specs.Trying.{ComesOver, StopsOver}
+use Rattle.cq_ways.proofs.Stacked.{program_more, images_more, waits_more, back_more}
+
+abbrev pub Open : Program → List (Value Contents × Alternatives) → Type 0
+Open v xs = AllByRecursion (λ (c : Value Contents × Alternatives). CanBeTried v c.0.0.heap.terms c.1) xs
+
+abbrev pub Known : List Text → List (Value Contents × Alternatives) → Type 0
+Known texts xs = AllByRecursion (λ (c : Value Contents × Alternatives). KnowsImages texts c.0.0) xs
+
+-- ---- an engine whose choices are these
+
+pub over_with : (old new : Held) (v : Program) → IsOver v old → IsPrefix old.texts new.texts → (xs : List (Value Contents × Alternatives)) → open_of new ≡ xs → Open v xs
+    → Known new.texts xs → IsOver v new
+over_with old new v o longer xs e open known = record {
+  program = program_more new.texts v old longer o;
+  open = subst (Open v) (sym e) open;
+  images = subst (Known new.texts) (sym e) known;
+}
+
+-- nothing but names has changed
+pub over_same : (old new : Held) (v : Program) → IsOver v old → IsPrefix old.texts new.texts → open_of new ≡ open_of old → IsOver v new
+over_same old new v o longer e = over_with old new v o longer (open_of old) e o.open (images_more old.texts new.texts longer (open_of old) o.images)
+
+pub comes_same : (old new : Held) → IsPrefix old.texts new.texts → open_of new ≡ open_of old → ComesOver old new None
+comes_same old new longer e v o steps db n s j =
+    let k = back_more new.texts v old longer o db n s j in
+    record {
+      reached = s;
+      quiet = at_once;
+      stands = record {
+        database = k.database;
+        selected = k.selected;
+        first = k.first;
+        behind = k.behind;
+        branches = k.branches;
+        current = k.current;
+        waiting = subst (λ xs. AreWaiting (IsBranch new.texts) (term_in new.texts) (map (left_at new.texts v) xs) k.behind) (sym e) k.waiting;
+      };
+    }
+
+-- ---- no alternative is left
+
+module _ (old new : Held) (longer : IsPrefix old.texts new.texts) (start : Value Contents) (s : Solutions) (rest : ℕ) (older : List (Value Contents × Alternatives))
+    (was : open_of old ≡ (start, alternatives.Ways s rest) ∷ older) (is : open_of new ≡ older) where
+  pub over_ended : StaysOver old new
+  over_ended v o =
+      over_with old new v o longer older is (subst (Open v) was o.open).1 (images_more old.texts new.texts longer older (subst (Known old.texts) was o.images).1)
+
+  pub comes_ended : ways_left old.texts start.0.heap.terms s ≡ [] → ComesOver old new None
+  comes_ended none v o steps db n t j =
+      let texts = old.texts in
+      let w = subst (λ xs. AreWaiting (IsBranch texts) (term_in texts) (map (left_at texts v) xs) j.behind) was j.waiting in
+      let own : w.0 ≡ [] = w.3.1 ∙ ap (λ ws. map (alternative_child w.3.0) (map (over 0) ws)) none in
+      record {
+        reached = t;
+        quiet = at_once;
+        stands = record {
+          database = j.database;
+          selected = j.selected;
+          first = j.first;
+          behind = w.1;
+          branches = j.branches ∙ ap (λ bs. j.first ++ bs) (w.2 ∙ ap (λ bs. bs ++ w.1) own);
+          current = j.current;
+          waiting = subst (λ xs. AreWaiting (IsBranch new.texts) (term_in new.texts) (map (left_at new.texts v) xs) w.1) (sym is)
+              (waits_more texts new.texts longer v o.program older (subst (Open v) was o.open).1 (subst (Known texts) was o.images).1 w.1 w.4);
+        };
+      }
+
+-- ---- one thing after another
+
+pub comes_then : (a b c : Held) (current : Option ℕ) → StaysOver a b → ComesOver a b None → ComesOver b c current → ComesOver a c current
+comes_then a b c current stays f g v o steps db n s j =
+    let x = f v o steps db n s j in
+    let y = g v (stays v o) steps db n x.reached x.stands in
+    record { reached = y.reached; quiet = quietly_on x.quiet y.quiet; stands = y.stands }
+
+pub stays_then : (a b c : Held) → StaysOver a b → StaysOver b c → StaysOver a c
+stays_then a b c f g v o = g v (f v o)
+
+module _ (budgets : Budgets) (s t : Search) (quiet : Quietly budgets.steps s t) (cause : Cause) where
+  stops_later : (u : Search) → Tells budgets t (Stops cause) u → Tells budgets s (Stops cause) u
+  stops_later u (coming.stops q why) = coming.stops (quietly_on quiet q) why
+
+  pub comes_to_stop : ComesToStop budgets cause t → ComesToStop budgets cause s
+  comes_to_stop stop = (stop.0, stops_later stop.0 stop.1)
+
+pub faults_later : (pivots : ℕ) (fault : StoreFault) (s : Search) → ((steps : ℕ) → (t : Search) × Quietly steps s t × FaultStops pivots fault t) → FaultStops pivots fault s
+faults_later pivots (Overflow pair) s f = λ budgets e. let r = f budgets.steps in comes_to_stop budgets s r.0 r.1 (cause.Overflow pair) (r.2 budgets e)
+faults_later pivots (Pivots n) s f = λ budgets e. let r = f budgets.steps in comes_to_stop budgets s r.0 r.1 (cause.Pivots n) (r.2 budgets e)
+faults_later pivots NoMemory s f = tt
+
+pub stops_then : (a b : Held) (pivots : ℕ) (fault : StoreFault) → StaysOver a b → ComesOver a b None → StopsOver b pivots fault → StopsOver a pivots fault
+stops_then a b pivots fault stays f g v o db n s j =
+    faults_later pivots fault s (λ steps. let r = f v o steps db n s j in (r.reached, r.quiet, g v (stays v o) db n r.reached r.stands))
