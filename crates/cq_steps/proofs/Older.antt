@@ -1,8 +1,9 @@
 -- The choices that are left as the newest are taken away.
-use Rattle.std.proofs.Common.{◌≡◌, ℕ, ◌-◌, List, [], ◌∷◌, ◌++◌, length, take, Option, None, Some, refl, sym, ap, ◌∙◌, subst, append_assoc}
-use Rattle.std.specs.Prelude.{IfSome, IfNone}
-use Rattle.std.proofs.lemmas.List.{take-append-drop}
-use Rattle.cq_control.specs.Open.{last, open_choices}
+use Rattle.std.proofs.Common.{◌≡◌, ℕ, ◌+◌, ◌-◌, ◌≤◌, arith, length-append, List, [], ◌∷◌, ◌++◌, length, take, Option, None, Some, refl, sym, ap, ◌∙◌, subst, append_assoc}
+use Rattle.std.specs.Prelude.{IfSome, IfNone, reverse}
+use Rattle.std.proofs.lemmas.List.{take-append-drop, length-reverse}
+use Rattle.std.proofs.lemmas.Slice.Zip.{length-zip}
+use Rattle.cq_control.specs.Open.{AreMarked, last, open_choices}
 use Rattle.cq_world.specs.Contents.{Contents}
 use Rattle.spec_machine.specs.Cells.{Value}
 use Rattle.cq_steps.specs.Choices.{KeepsOlder}
@@ -26,6 +27,13 @@ older_last height saved fewer choices left e =
 pub older_next : (x : Value Contents × Alternatives) (saved fewer : List (Value Contents)) (choices left : List Alternatives)
     → open_choices saved choices ≡ x ∷ open_choices fewer left → KeepsOlder saved choices fewer left
 older_next x saved fewer choices left e = record { gone = x ∷ []; are = e }
+
+-- there are no more than before
+pub older_fewer : (saved fewer : List (Value Contents)) (choices left : List Alternatives) → AreMarked saved choices → AreMarked fewer left
+    → KeepsOlder saved choices fewer left → length left ≤ length choices
+older_fewer saved fewer choices left m n k =
+    let sum : length (open_choices saved choices) ≡ length k.gone + length (open_choices fewer left) = ap length k.are ∙ length-append k.gone (open_choices fewer left) in
+    omega (arith, sum, length-zip (reverse saved) choices, length-reverse saved, m, length-zip (reverse fewer) left, length-reverse fewer, n)
 
 -- ---- the newest is taken off
 

@@ -16,5 +16,5 @@ pub returns-clause-choices : goal.returns-clause-choices
 returns-clause-choices c = (
   c.args.k,
   c.in_ok-push.ensures.open
-  ∙ ap (λ (w : Value Contents). (w, One c.args.k) ∷ open_choices (saved_values c.args.world.now.first c.args.world.now.second.saved) c.args.choices.now) (sym c.in_ok-push.ensures.now),
+      ∙ ap (λ (w : Value Contents). (w, One c.args.k) ∷ open_choices (saved_values c.args.world.now.first c.args.world.now.second.saved) c.args.choices.now) (sym c.in_ok-push.ensures.now),
 )

@@ -34,9 +34,8 @@ pub returns-clause-choices : goal.returns-clause-choices
 returns-clause-choices c =
     let first = c.args.world.now.first in
     let saved = c.in_ok-all.ensures.saved ∙ c.in_ok-mark.ensures.saved ∙ c.in_ok-other.ensures.saved in
-    let left = c.in_ok-leave.ensures.choices in
-    (
+    let left = c.in_ok-leave.ensures.choices in (
       left.0,
       left.1
-      ∙ ap (λ l. (value c.leave.new.world.first c.leave.new.world.second.now, alternatives.One left.0) ∷ open_choices (saved_values first l) c.args.choices.now) saved,
+          ∙ ap (λ l. (value c.leave.new.world.first c.leave.new.world.second.now, alternatives.One left.0) ∷ open_choices (saved_values first l) c.args.choices.now) saved,
     )

@@ -13,10 +13,10 @@ returns-in-One-clause-arrives c = λ steps texts v db n s j.
     let now = value c.args.world.now.first c.args.world.now.second.now in
     let fewer = saved_values c.back.new.world.first c.back.new.world.second.saved in
     let back = value c.back.new.world.first c.back.new.world.second.now in
-    let gone = newest_gone c.back.result c.args.choices.now c.back.new.self c.in-Some.ensures.some.0 (One c.in-One.next.now)
+    let gone = newest_gone c.back.result c.args.choices.now c.back.new.self c.in-Some.ensures.some.0 (One c.in-One.next)
     (λ (x : Alternatives). open_choices saved c.args.choices.now ≡ (back, x) ∷ open_choices fewer c.back.new.self) c.back.ensures.none c.back.ensures.contents c.back.ensures.open
     (c.in-Some.ensures.some.1 ∙ ap (λ x. x ∷ c.in-Some.ensures.some.0) c.in-One.is) in
-    one_on steps texts v db n s saved fewer c.args.choices.now c.back.new.self now back c.in-One.next.now gone (here steps texts v db n s saved c.args.choices.now now None j)
+    one_on steps texts v db n s saved fewer c.args.choices.now c.back.new.self now back c.in-One.next gone (here steps texts v db n s saved c.args.choices.now now None j)
 
 pub returns-in_default-clause-arrives : goal.returns-in_default-clause-arrives
 returns-in_default-clause-arrives c = λ steps texts v db n s j.
@@ -31,8 +31,8 @@ returns-in-One-clause-older c =
     let saved = saved_values c.args.world.now.first c.args.world.now.second.saved in
     let back = value c.back.new.world.first c.back.new.world.second.now in
     let fewer = saved_values c.back.new.world.first c.back.new.world.second.saved in
-    older_next (back, One c.in-One.next.now) saved fewer c.args.choices.now c.back.new.self
-    (newest_gone c.back.result c.args.choices.now c.back.new.self c.in-Some.ensures.some.0 (One c.in-One.next.now)
+    older_next (back, One c.in-One.next) saved fewer c.args.choices.now c.back.new.self
+    (newest_gone c.back.result c.args.choices.now c.back.new.self c.in-Some.ensures.some.0 (One c.in-One.next)
     (λ (x : Alternatives). open_choices saved c.args.choices.now ≡ (back, x) ∷ open_choices fewer c.back.new.self) c.back.ensures.none c.back.ensures.contents c.back.ensures.open
     (c.in-Some.ensures.some.1 ∙ ap (λ x. x ∷ c.in-Some.ensures.some.0) c.in-One.is))
 

@@ -1,6 +1,6 @@
-use Rattle.std.proofs.Common.{Some, None}
+use Rattle.std.proofs.Common.{arith, Some, None}
 use Rattle.cq_steps.specs.Worlds.{value, saved_values}
-use Rattle.cq_steps.proofs.Older.{older_all, older_on}
+use Rattle.cq_steps.proofs.Older.{older_all, older_on, older_fewer}
 use Rattle.cq_steps.proofs.Passing.{here, works_on, arrives_on}
 use Rattle.cq_steps.proofs.marks.find_front.Goals as goal
 
@@ -52,3 +52,10 @@ returns-in-Call-clause-arrives c = λ steps texts v db n s j.
 
 pub returns-in-Call-clause-older : goal.returns-in-Call-clause-older
 returns-in-Call-clause-older c = older_on _ _ _ _ _ _ (older_on _ _ _ _ _ _ c.choices.invariant.older c.in_default.ensures.older) c.in-Call.ensures.older
+
+pub choices-smaller : goal.choices-smaller
+choices-smaller c =
+    let fewer = older_fewer (saved_values c.choices.world.first c.choices.world.second.saved) (saved_values c.pass_from.new.world.first c.pass_from.new.world.second.saved)
+    c.choices.choices c.pass_from.new.choices c.choices.invariant.marked c.in_default.ensures.marked c.in_default.ensures.older in
+    let back = c.in-Back.ensures.back in
+    omega (arith, fewer, back)

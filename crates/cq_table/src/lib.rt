@@ -1,0 +1,6 @@
+//! The built-in predicates by name and number of arguments, as an engine looks for what a goal calls.
+#![tactic(auto)]
+
+mod builtins;
+
+pub use builtins::{Builtin, Side};
