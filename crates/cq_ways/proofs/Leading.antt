@@ -60,14 +60,14 @@ children_same p count (es ∷ ways) = ap₂ (λ b bs. b ∷ bs) (fresh_same p co
 
 -- ---- the call's terms and variables
 
-module _ (more : List Text) (v : Program) (h : Held) (longer : IsPrefix h.texts more) (o : IsOver v h) (known : KnowsImages h.texts h.now.0)
-    (built : Terms) (count : ℕ) (terms : IsPrefix h.now.0.heap.terms built.terms) (images : built.images ≡ h.now.0.heap.images ++ unbound_from (length h.now.0.heap.images) count)
+module _ (more : List Text) (v : Program) (h : Held) (longer : IsPrefix h.texts more) (o : IsOver v h) (start : Value Contents) (known : KnowsImages h.texts start.0)
+    (built : Terms) (count : ℕ) (terms : IsPrefix start.0.heap.terms built.terms) (images : built.images ≡ start.0.heap.images ++ unbound_from (length start.0.heap.images) count)
     (names : KnowsTerms more built.terms) where
   abbrev c : Contents
-  c = h.now.0
+  c = start.0
 
   abbrev later : Value Contents
-  later = (with_heap built c, h.now.1)
+  later = (with_heap built c, start.1)
 
   abbrev older : Stack Contents
   older = map (left_at more v) (open_of h)
@@ -75,18 +75,18 @@ module _ (more : List Text) (v : Program) (h : Held) (longer : IsPrefix h.texts 
   abbrev newer : ℕ → Place → Place
   newer n p = record p { state = with_new n p.state }
 
-  module _ (rest : ℕ) (p : Place) (behind : List Branch) (placed : Placed h.texts (stack_of v h) h.now rest p behind) where
+  module _ (rest : ℕ) (p : Place) (behind : List Branch) (placed : Placed h.texts (stack_of v h) start rest p behind) where
     -- the place in the state with the new variables
     newer_place : IsPlace (IsBranch more) (term_in more) older later rest (newer count p)
     newer_place =
-        let j = place_more h.texts more longer v o.program (open_of h) o.open o.images behind placed.1 h.now known rest p placed.0 in
+        let j = place_more h.texts more longer v o.program (open_of h) o.open o.images behind placed.1 start known rest p placed.0 in
         record {
           continuation = record {
             there = j.continuation.there;
             fits = j.continuation.fits;
             state = branch_more more c built count terms images names p.state j.continuation.state;
             cells = items_read_on (IsBranch more) (term_in more) older c p.state (with_heap built c) (with_new count p.state)
-                (λ id t e. read_still more c built count terms images names id (read p.state t) e) (items_at h.now.1 rest) p.rest j.continuation.cells;
+                (λ id t e. read_still more c built count terms images names id (read p.state t) e) (items_at start.1 rest) p.rest j.continuation.cells;
           };
           height = j.height;
         }

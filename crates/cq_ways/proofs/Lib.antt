@@ -6,3 +6,5 @@ pub mod Budgets
 pub mod Leading
 pub mod Trying
 pub mod Ending
+pub mod Calling
+pub mod Pairs
