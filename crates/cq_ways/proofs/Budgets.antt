@@ -1,5 +1,6 @@
 -- The worlds that choices go back to have the budget of exchanges that the world has now.
-use Rattle.std.proofs.Common.{◌≡◌, ℕ, List, [], ◌∷◌, ◌++◌, map, reverse, reverse-append, refl, sym, subst}
+use Rattle.std.proofs.Common.{◌≡◌, ℕ, List, [], ◌∷◌, ◌++◌, map, reverse, refl, sym, subst}
+use Rattle.std.proofs.lemmas.List.{reverse-append}
 use Rattle.std.specs.List.{zip, AllByRecursion}
 use Rattle.spec_linear.specs.Solution.{Constraint}
 use Rattle.cq_attr.specs.Attributes.{Attributes}
@@ -21,11 +22,11 @@ module _ (n : ℕ) where
   abbrev ValuesHave : List (Value Contents) → Type 0
   ValuesHave xs = AllByRecursion (λ (x : Value Contents). x.0.pivots ≡ n) xs
 
-  contents_have : (hs : List Terms) (as : List Attributes) (ts : List (List Constraint)) → AllHave (map contents_of (zip hs (zip as (map (kept n) ts))))
-  contents_have [] as ts = tt
+  contents_have : (hs : List Terms) (bs : List Attributes) (ts : List (List Constraint)) → AllHave (map contents_of (zip hs (zip bs (map (kept n) ts))))
+  contents_have [] bs ts = tt
   contents_have (h ∷ hs) [] ts = tt
-  contents_have (h ∷ hs) (a ∷ as) [] = tt
-  contents_have (h ∷ hs) (a ∷ as) (t ∷ ts) = (refl, contents_have hs as ts)
+  contents_have (h ∷ hs) (b ∷ bs) [] = tt
+  contents_have (h ∷ hs) (b ∷ bs) (t ∷ ts) = (refl, contents_have hs bs ts)
 
   values_have : (cs : List Contents) (ls : List (List (List Cell))) → AllHave cs → ValuesHave (zip cs ls)
   values_have [] ls h = tt

@@ -1,6 +1,7 @@
 -- A call of a predicate, by what the code has done.
 use Rattle.std.proofs.Common.{◌≡◌, ◌<◌, ℕ, List, [], ◌∷◌, ◌++◌, length, map, Option, None, Some, refl, sym, ap, ◌∙◌, subst, arith}
 use Rattle.std.specs.Prelude.{All, IfNone, IfSome}
+use Rattle.std.specs.List.{zip}
 use Rattle.std.proofs.lemmas.List.Elements.{All-append, All-map}
 use Rattle.spec_lists.specs.Prefixes.{IsPrefix}
 use Rattle.spec_lists.specs.Texts.{Text}
@@ -11,7 +12,8 @@ use Rattle.spec_predicates.specs.Predicates.{Predicate}
 use Rattle.spec_predicates.specs.Calls.{solutions_of}
 use Rattle.cq_built.specs.Errors.{Explains}
 use Rattle.cq_built.specs.declared.errors.BuiltinFault.{BuiltinFault}
-use Rattle.cq_control.specs.Open.{open_choices}
+use Rattle.cq_control.specs.Open.{AreMarked, open_choices}
+use Rattle.cq_linear.specs.StoreValue.{kept}
 use Rattle.cq_predicates.specs.Given.{CanGoOn, Gives}
 use Rattle.cq_predicates.specs.declared.solutions.Solutions.{Solutions}
 use Rattle.cq_term.specs.HeapValue.{Terms}
@@ -19,18 +21,20 @@ use Rattle.cq_term.specs.Meaning.{HeapTerm}
 use Rattle.cq_term.specs.Names.{HasNamesBelow}
 use Rattle.cq_term.specs.Trees.{trees, KnowsTerms}
 use Rattle.cq_unify.specs.Copied.{unbound_from}
-use Rattle.cq_world.specs.Contents.{Contents}
+use Rattle.cq_world.specs.Contents.{Contents, contents_of}
+use Rattle.cq_world.specs.declared.world.World.{World}
+use Rattle.spec_machine.specs.declared.cell.Cell.{Cell}
 use Rattle.spec_machine.specs.Cells.{Value}
 use Rattle.cq_steps.specs.declared.alternatives.Alternatives.{Alternatives}
 use Rattle.cq_steps.specs.declared.alternatives.Alternatives.TheVariants as alternatives
-use Rattle.cq_steps.specs.Worlds.{with_heap, stack, Placed, Leads}
+use Rattle.cq_steps.specs.Worlds.{with_heap, saved_values, Placed, Leads}
 use Rattle.cq_ways.specs.Calls.{AreRead, CallLeads, CallRaises, LeavesWays, row_of}
 use Rattle.cq_ways.specs.Held.{Held, IsOver, StaysOver, KnowsImages, open_of, stack_of}
 use Rattle.cq_ways.specs.Newest.{Replaces, Renews}
 use Rattle.cq_ways.proofs.Ending.{over_with}
 use Rattle.cq_ways.proofs.Leading.{ways_lead, row_is, raised}
 use Rattle.cq_ways.proofs.Named.{known_more}
-use Rattle.cq_ways.proofs.Newest.{same_behind}
+use Rattle.cq_ways.proofs.Newest.{same_front, same_behind}
 use Rattle.cq_ways.proofs.Stacked.{images_more}
 
 -- ---- the names of images
@@ -76,7 +80,7 @@ module _ (h new : Held) (longer : IsPrefix h.texts new.texts) (known : KnowsImag
 
   pub stays_over : CanGoOn built.terms s → StaysOver h new
   stays_over live v o =
-      over_with h new v o longer (((with_heap built start.0, start.1), alternatives.Ways s rest) ∷ open_of h) opened (live, o.open)
+      over_with h new v o longer (((with_heap built start.0, start.1), alternatives.Ways s rest) ∷ open_of h) opened (live, o.choices)
       (known_now, images_more h.texts new.texts longer (open_of h) o.images)
 
 pub call_raises : (h : Held) (start : Value Contents) → start ≡ h.now → (q : Predicate) (args : List ℕ) (f : BuiltinFault)
@@ -84,3 +88,28 @@ pub call_raises : (h : Held) (start : Value Contents) → start ≡ h.now → (q
 call_raises h start same q args f x p ts b read =
     raised h.texts h.now.0 p (solutions_of q (length h.now.0.heap.images) (trees h.texts h.now.0.heap.terms args)) (row_of q p ts) f (row_is h.texts h.now.0 q p args ts b read)
     (subst (λ (y : Value Contents). Explains h.texts y.0.heap.terms (solutions_of q (length y.0.heap.images) (trees h.texts y.0.heap.terms args)) f) same x)
+
+-- ---- another heap with the same marks
+
+abbrev pub saved_with : List Terms → World → List (List (List Cell)) → List (Value Contents)
+saved_with hs w ls = zip (map contents_of (zip hs (zip w.attrs.saved (map (kept w.store.pivots) w.store.saved)))) ls
+
+pub open_with : (hs : List Terms) (w : World) (ls : List (List (List Cell))) (choices : List Alternatives) (xs : List (Value Contents × Alternatives)) → hs ≡ w.heap.saved
+    → open_choices (saved_values w ls) choices ≡ xs → open_choices (saved_with hs w ls) choices ≡ xs
+open_with hs w ls choices xs same e = ap (λ (ts : List Terms). open_choices (saved_with ts w ls) choices) same ∙ e
+
+pub marked_with : (hs : List Terms) (w : World) (ls : List (List (List Cell))) (choices : List Alternatives) → hs ≡ w.heap.saved → AreMarked (saved_values w ls) choices
+    → AreMarked (saved_with hs w ls) choices
+marked_with hs w ls choices same m = ap (λ (ts : List Terms). length (saved_with ts w ls)) same ∙ m
+
+-- ---- the choice is taken off again
+
+pub undone : (r : Option Alternatives) (choices fewer : List Alternatives) (saved less : List (Value Contents)) (now back : Value Contents)
+    (older : List (Value Contents × Alternatives)) (below : List Alternatives) → choices ≡ alternatives.Barrier ∷ below
+    → IfNone r ((choices ≡ []) × (fewer ≡ [])) → IfSome r (λ x. open_choices saved choices ≡ (back, x) ∷ open_choices less fewer)
+    → open_choices saved choices ≡ (now, alternatives.Barrier) ∷ older → (back ≡ now) × (open_choices less fewer ≡ older)
+undone None choices fewer saved less now back older below is none some e = (let h : [] ≡ alternatives.Barrier ∷ below = sym none.0 ∙ is in cc)
+undone (Some x) choices fewer saved less now back older below is none some e =
+    let same = sym some ∙ e in
+    (ap (λ (y : Value Contents × Alternatives). y.0) (same_front (back, x) (now, alternatives.Barrier) (open_choices less fewer) older same),
+    same_behind (back, x) (now, alternatives.Barrier) (open_choices less fewer) older same)

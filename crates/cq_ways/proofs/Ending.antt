@@ -40,15 +40,15 @@ Known texts xs = AllByRecursion (λ (c : Value Contents × Alternatives). KnowsI
 
 pub over_with : (old new : Held) (v : Program) → IsOver v old → IsPrefix old.texts new.texts → (xs : List (Value Contents × Alternatives)) → open_of new ≡ xs → Open v xs
     → Known new.texts xs → IsOver v new
-over_with old new v o longer xs e open known = record {
+over_with old new v o longer xs e can known = record {
   program = program_more new.texts v old longer o;
-  open = subst (Open v) (sym e) open;
+  choices = subst (Open v) (sym e) can;
   images = subst (Known new.texts) (sym e) known;
 }
 
 -- nothing but names has changed
 pub over_same : (old new : Held) (v : Program) → IsOver v old → IsPrefix old.texts new.texts → open_of new ≡ open_of old → IsOver v new
-over_same old new v o longer e = over_with old new v o longer (open_of old) e o.open (images_more old.texts new.texts longer (open_of old) o.images)
+over_same old new v o longer e = over_with old new v o longer (open_of old) e o.choices (images_more old.texts new.texts longer (open_of old) o.images)
 
 pub comes_same : (old new : Held) → IsPrefix old.texts new.texts → open_of new ≡ open_of old → ComesOver old new None
 comes_same old new longer e v o steps db n s j =
@@ -73,7 +73,7 @@ module _ (old new : Held) (longer : IsPrefix old.texts new.texts) (start : Value
     (was : open_of old ≡ (start, alternatives.Ways s rest) ∷ older) (is : open_of new ≡ older) where
   pub over_ended : StaysOver old new
   over_ended v o =
-      over_with old new v o longer older is (subst (Open v) was o.open).1 (images_more old.texts new.texts longer older (subst (Known old.texts) was o.images).1)
+      over_with old new v o longer older is (subst (Open v) was o.choices).1 (images_more old.texts new.texts longer older (subst (Known old.texts) was o.images).1)
 
   pub comes_ended : ways_left old.texts start.0.heap.terms s ≡ [] → ComesOver old new None
   comes_ended none v o steps db n t j =
@@ -91,7 +91,7 @@ module _ (old new : Held) (longer : IsPrefix old.texts new.texts) (start : Value
           branches = j.branches ∙ ap (λ bs. j.first ++ bs) (w.2 ∙ ap (λ bs. bs ++ w.1) own);
           current = j.current;
           waiting = subst (λ xs. AreWaiting (IsBranch new.texts) (term_in new.texts) (map (left_at new.texts v) xs) w.1) (sym is)
-              (waits_more texts new.texts longer v o.program older (subst (Open v) was o.open).1 (subst (Known texts) was o.images).1 w.1 w.4);
+              (waits_more texts new.texts longer v o.program older (subst (Open v) was o.choices).1 (subst (Known texts) was o.images).1 w.1 w.4);
         };
       }
 

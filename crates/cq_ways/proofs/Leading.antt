@@ -79,7 +79,7 @@ module _ (more : List Text) (v : Program) (h : Held) (longer : IsPrefix h.texts 
     -- the place in the state with the new variables
     newer_place : IsPlace (IsBranch more) (term_in more) older later rest (newer count p)
     newer_place =
-        let j = place_more h.texts more longer v o.program (open_of h) o.open o.images behind placed.1 start known rest p placed.0 in
+        let j = place_more h.texts more longer v o.program (open_of h) o.choices o.images behind placed.1 start known rest p placed.0 in
         record {
           continuation = record {
             there = j.continuation.there;
@@ -104,7 +104,7 @@ module _ (more : List Text) (v : Program) (h : Held) (longer : IsPrefix h.texts 
         behind,
         refl,
         (newer count p, children_same p count ways, newer_place),
-        waits_more h.texts more longer v o.program (open_of h) o.open o.images behind placed.1,
+        waits_more h.texts more longer v o.program (open_of h) o.choices o.images behind placed.1,
       )
 
       pub ways_lead : (saved : List (Value Contents)) (choices : List Alternatives) (now : Value Contents)

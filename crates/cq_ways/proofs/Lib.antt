@@ -4,7 +4,8 @@ pub mod Stacked
 pub mod Newest
 pub mod Budgets
 pub mod Leading
-pub mod Trying
+pub mod Begins
 pub mod Ending
+pub mod Taken
 pub mod Calling
 pub mod Pairs

@@ -1,10 +1,10 @@
 -- Choices leave the same to try where names are added.
-use Rattle.std.proofs.Common.{◌≡◌, ◌<◌, ◌≤◌, ◌⊎◌, inl, inr, ℕ, zero, suc, List, [], ◌∷◌, ◌++◌, length, map, Option, None, Some, refl, sym, ap, ap₂, ◌∙◌, subst, arith}
-use Rattle.std.specs.Prelude.{All, slice_get}
+use Rattle.std.proofs.Common.{◌≡◌, ◌<◌, ◌≤◌, ◌⊎◌, inl, inr, ℕ, List, [], ◌∷◌, ◌++◌, length, map, Option, None, Some, refl, sym, ap, ap₂, ◌∙◌, subst, arith}
+use Rattle.std.specs.Prelude.{All}
 use Rattle.std.specs.List.{AllByRecursion}
 use Rattle.std.proofs.lemmas.Bool.{cases_lt}
 use Rattle.std.proofs.lemmas.List.{get_or_past}
-use Rattle.std.proofs.lemmas.Option.{none-some}
+use Rattle.std.proofs.lemmas.List.Elements.{All-weaker}
 use Rattle.spec_lists.specs.Prefixes.{IsPrefix}
 use Rattle.spec_lists.proofs.Prefixes.{prefix_get_or, prefix_same, prefix_length}
 use Rattle.spec_lists.specs.Texts.{Text}
@@ -13,7 +13,7 @@ use Rattle.spec_branch.specs.Branch.{State, Branch}
 use Rattle.spec_search.specs.Database.{Database}
 use Rattle.spec_search.specs.Replies.{Place}
 use Rattle.spec_search.specs.Search.{Search}
-use Rattle.cq_atoms.specs.Texts.{text_of, KeepsTexts}
+use Rattle.cq_atoms.specs.Texts.{text_of}
 use Rattle.cq_built.proofs.Trees.{named_alike}
 use Rattle.cq_clauses.specs.Database.{database, now_of}
 use Rattle.cq_clauses.specs.Selected.{key_at, matching}
@@ -30,11 +30,11 @@ use Rattle.cq_predicates.specs.declared.solutions.Solutions.{Solutions}
 use Rattle.cq_predicates.proofs.Staying.{ways_kept}
 use Rattle.cq_program.specs.Database.{Program, IsProgram, IsCounted, IsKnown, as_clause, as_parts, content_at}
 use Rattle.cq_program.specs.Keys.{key_of}
-use Rattle.cq_program.proofs.Whole.{names_whole}
 use Rattle.cq_stored.specs.StoredValue.{ClauseValue}
 use Rattle.cq_term.specs.HeapValue.{HeapValue, Terms}
 use Rattle.cq_term.specs.Meaning.{HeapTerm, blank}
 use Rattle.cq_term.specs.Trees.{KnowsTerms}
+use Rattle.cq_term.proofs.Known.{names_more}
 use Rattle.cq_world.specs.Contents.{Contents}
 use Rattle.spec_machine.specs.Cells.{Left, One, Clauses, Ways, Value, Stack}
 use Rattle.spec_machine.specs.Standing.{engine, AreBranches, AreWaiting, IsPlace, IsStanding}
@@ -49,14 +49,6 @@ use Rattle.cq_ways.proofs.Reread.{waiting_known, place_known, current_known}
 module _ (texts more : List Text) (longer : IsPrefix texts more) where
   text_kept : (a : ℕ) → a < length texts → text_of more a ≡ text_of texts a
   text_kept a l = prefix_get_or texts more a [] longer l
-
-  get_kept : (xs ys : List Text) (i : ℕ) (text : Text) → slice_get xs i ≡ Some text → slice_get (xs ++ ys) i ≡ Some text
-  get_kept [] ys i text e = absurd (none-some text e)
-  get_kept (x ∷ xs) ys zero text e = e
-  get_kept (x ∷ xs) ys (suc i) text e = get_kept xs ys i text e
-
-  pub keeps_texts : KeepsTexts texts more
-  keeps_texts i text e = subst (λ (l : List Text). slice_get l i ≡ Some text) (sym longer.1) (get_kept texts longer.0 i text e)
 
   -- ---- the alternatives of a predicate
 
@@ -135,12 +127,12 @@ module _ (texts more : List Text) (longer : IsPrefix texts more) where
         let none_behind = nothing_matches key k (seen r.1 []) (nothing_seen r.1.part) in
         subst (λ ns. SameClauses (r.0 ∷ ns)) (sym none_behind) (ap (λ c. c ∷ []) (clause_there r.0 (known r refl)))
 
+    without_names : length texts ≤ 0 → (w : Walk) → IsWalk w v → SameClauses (left (λ (c : ClauseValue). key_of c.head) w v)
+    without_names no_name w is =
+        subst (λ ps. SameClauses (left_ahead key w.key w.ahead ps)) (sym (no_procedures no_name v.procedures whole.procedures)) (few_left w.key w.ahead is.known)
+
     clauses_same : (w : Walk) → IsWalk w v → SameClauses (left (λ (c : ClauseValue). key_of c.head) w v)
-    clauses_same w is = elim (cases_lt 0 (length texts)) [
-      inl some ↦ clauses_any some (left (λ (c : ClauseValue). key_of c.head) w v)
-    | inr none ↦
-          subst (λ ps. SameClauses (left_ahead key w.key w.ahead ps)) (sym (no_procedures none v.procedures whole.procedures)) (few_left w.key w.ahead is.known)
-    ]
+    clauses_same w is = elim (cases_lt 0 (length texts)) [ inl some ↦ clauses_any some (left (λ (c : ClauseValue). key_of c.head) w v) | inr no_name ↦ without_names no_name w is ]
 
     -- ---- all of them
 
@@ -161,10 +153,10 @@ module _ (texts more : List Text) (longer : IsPrefix texts more) where
 
     pub same_choices : (xs : List (Value Contents × Alternatives)) → Open xs → (bs : List Branch)
         → AreWaiting (IsBranch texts) (term_in texts) (map (left_at texts v) xs) bs → map (left_at more v) xs ≡ map (left_at texts v) xs
-    same_choices [] open bs waiting = refl
-    same_choices (x ∷ xs) open bs waiting =
-        let first = left_same (map (left_at texts v) xs) x.0 x.1 waiting.0 open.0 waiting.3 in
-        let older = same_choices xs open.1 waiting.1 waiting.4 in
+    same_choices [] can bs waiting = refl
+    same_choices (x ∷ xs) can bs waiting =
+        let first = left_same (map (left_at texts v) xs) x.0 x.1 waiting.0 can.0 waiting.3 in
+        let older = same_choices xs can.1 waiting.1 waiting.4 in
         λ i. (x.0, first i) ∷ older i
 
     -- the worlds of the choices as the definitions see them
@@ -182,14 +174,14 @@ module _ (texts more : List Text) (longer : IsPrefix texts more) where
 
     pub waits_more : (xs : List (Value Contents × Alternatives)) → Open xs → Known xs → (bs : List Branch)
         → AreWaiting (IsBranch texts) (term_in texts) (map (left_at texts v) xs) bs → AreWaiting (IsBranch more) (term_in more) (map (left_at more v) xs) bs
-    waits_more xs open known bs waiting =
-        subst (λ (x : Stack Contents). AreWaiting (IsBranch more) (term_in more) x bs) (sym (same_choices xs open bs waiting)) (waits_still xs known bs waiting)
+    waits_more xs can known bs waiting =
+        subst (λ (x : Stack Contents). AreWaiting (IsBranch more) (term_in more) x bs) (sym (same_choices xs can bs waiting)) (waits_still xs known bs waiting)
 
     pub place_more : (xs : List (Value Contents × Alternatives)) → Open xs → Known xs → (bs : List Branch)
         → AreWaiting (IsBranch texts) (term_in texts) (map (left_at texts v) xs) bs → (w : Value Contents) → KnowsImages texts w.0 → (k : ℕ) (p : Place)
         → IsPlace (IsBranch texts) (term_in texts) (map (left_at texts v) xs) w k p → IsPlace (IsBranch more) (term_in more) (map (left_at more v) xs) w k p
-    place_more xs open known bs waiting w images k p i =
-        subst (λ (x : Stack Contents). IsPlace (IsBranch more) (term_in more) x w k p) (sym (same_choices xs open bs waiting))
+    place_more xs can known bs waiting w images k p i =
+        subst (λ (x : Stack Contents). IsPlace (IsBranch more) (term_in more) x w k p) (sym (same_choices xs can bs waiting))
         (place_known (IsBranch texts) (IsBranch more) (term_in texts) (term_in more) (KnowsImages texts) (branch_named texts more longer) (term_named texts more longer)
         (map (left_at texts v) xs) (stack_known xs known) w images k p i)
 
@@ -202,15 +194,26 @@ images_more texts more longer [] k = k
 images_more texts more longer (x ∷ xs) k = (known_more texts more longer x.0.0.heap.images k.0, images_more texts more longer xs k.1)
 
 module _ (more : List Text) (v : Program) (h : Held) (longer : IsPrefix h.texts more) (o : IsOver v h) where
+  as_many : length h.texts ≤ length more
+  as_many = prefix_length h.texts more longer
+
   pub program_more : IsProgram more v
-  program_more = names_whole h.texts more (keeps_texts h.texts more longer) v o.program
+  program_more = record {
+    contents = All-weaker (IsCounted (length h.texts)) (IsCounted (length more))
+        (λ c k. record {
+          below = record { head = names_more (length h.texts) (length more) as_many c.head k.below.head; body = names_more (length h.texts) (length more) as_many c.body k.below.body };
+          numbered = k.numbered;
+        }) v.contents o.program.contents;
+    procedures = All-weaker (IsKnown (length h.texts) (length v.contents)) (IsKnown (length more) (length v.contents))
+        (λ p k. record { name = omega (arith, as_many, k.name); numbers = k.numbers }) (database v.procedures) o.program.procedures;
+  }
 
   pub over_more : IsOver v (record h { texts = more })
-  over_more = record { program = program_more; open = o.open; images = images_more h.texts more longer (open_of h) o.images }
+  over_more = record { program = program_more; choices = o.choices; images = images_more h.texts more longer (open_of h) o.images }
 
   pub same_stack : (behind : List Branch) → AreWaiting (IsBranch h.texts) (term_in h.texts) (stack h.texts v h.saved h.choices) behind
       → stack more v h.saved h.choices ≡ stack h.texts v h.saved h.choices
-  same_stack behind waiting = same_choices h.texts more longer v o.program (open_of h) o.open behind waiting
+  same_stack behind waiting = same_choices h.texts more longer v o.program (open_of h) o.choices behind waiting
 
   pub back_more : (db : Database) (n : ℕ) (s : Search) → Stands h.texts v db n h.saved h.choices h.now None s → Stands more v db n h.saved h.choices h.now None s
   back_more db n s j = record {
@@ -220,7 +223,7 @@ module _ (more : List Text) (v : Program) (h : Held) (longer : IsPrefix h.texts 
     behind = j.behind;
     branches = j.branches;
     current = j.current;
-    waiting = waits_more h.texts more longer v o.program (open_of h) o.open o.images j.behind j.waiting;
+    waiting = waits_more h.texts more longer v o.program (open_of h) o.choices o.images j.behind j.waiting;
   }
 
   pub stands_more : KnowsImages h.texts h.now.0 → (db : Database) (n : ℕ) (current : Option ℕ) (s : Search) → Stands h.texts v db n h.saved h.choices h.now current s
@@ -244,7 +247,7 @@ module _ (more : List Text) (v : Program) (h : Held) (longer : IsPrefix h.texts 
     pub over_still : IsOver v new
     over_still = record {
       program = subst (λ (ts : List Text). IsProgram ts v) (sym named) program_more;
-      open = subst (λ (xs : List (Value Contents × Alternatives)). AllByRecursion (λ (c : Value Contents × Alternatives). CanBeTried v c.0.0.heap.terms c.1) xs) (sym same) o.open;
+      choices = subst (λ (xs : List (Value Contents × Alternatives)). AllByRecursion (λ (c : Value Contents × Alternatives). CanBeTried v c.0.0.heap.terms c.1) xs) (sym same) o.choices;
       images = subst (λ (ts : List Text). AllByRecursion (λ (c : Value Contents × Alternatives). KnowsImages ts c.0.0) (open_of new)) (sym named)
           (subst (λ (xs : List (Value Contents × Alternatives)). AllByRecursion (λ (c : Value Contents × Alternatives). KnowsImages more c.0.0) xs) (sym same) over_more.images);
     }

@@ -48,7 +48,7 @@ AllKnowImages texts saved choices = AllByRecursion (λ (c : Value Contents × Al
 -- the names are those of the program, and each choice can be gone on with and knows its names
 pub record IsOver (v : Program) (h : Held) : Type 0 where
   pub program : IsProgram h.texts v
-  pub open : AreOpen v h.saved h.choices
+  pub choices : AreOpen v h.saved h.choices
   pub images : AllKnowImages h.texts h.saved h.choices
 
 -- nothing has changed but names that may have been added

@@ -2,7 +2,7 @@
 use Rattle.std.proofs.Common.{◌≡◌, ◌<◌, ◌⊎◌, inl, inr, ℕ, suc, List, [], ◌∷◌, ◌++◌, length, map, Option, None, Some, refl, sym, ap, ap₂, ◌∙◌, subst, arith}
 use Rattle.std.specs.List.{AllByRecursion}
 use Rattle.spec_lists.specs.Prefixes.{IsPrefix}
-use Rattle.spec_lists.proofs.Prefixes.{prefix_same}
+use Rattle.spec_lists.proofs.Prefixes.{prefix_same, prefix_get_or, prefix_within}
 use Rattle.spec_lists.specs.Texts.{Text}
 use Rattle.spec_terms.specs.Unifier.{Equation}
 use Rattle.spec_builtins.specs.Alternatives.{Alternative}
@@ -14,8 +14,9 @@ use Rattle.spec_search.specs.Turns.{with_branches}
 use Rattle.spec_stops.specs.Causes.{Budgets, Cause}
 use Rattle.spec_stops.specs.Causes as cause
 use Rattle.spec_stops.specs.Due.{Due}
-use Rattle.cq_builtin.specs.Over.{equations_of}
+use Rattle.cq_builtin.specs.Over.{equations_of, AreLive}
 use Rattle.cq_control.specs.Items.{items_at}
+use Rattle.cq_control.specs.Open.{open_choices}
 use Rattle.cq_frac.specs.declared.Pair.{Pair}
 use Rattle.cq_linear.specs.declared.store.StoreFault.{StoreFault}
 use Rattle.cq_linear.specs.declared.store.StoreFault.TheVariants.{Overflow, Pivots, NoMemory}
@@ -25,6 +26,7 @@ use Rattle.cq_predicates.proofs.Staying.{ways_kept}
 use Rattle.cq_program.specs.Database.{Program}
 use Rattle.cq_settle.specs.Settled.{MayRefuse, MayTake}
 use Rattle.cq_term.specs.HeapValue.{HeapValue, Terms}
+use Rattle.cq_term.specs.Names.{HasNamesBelow}
 use Rattle.cq_term.specs.Trees.{KnowsTerms}
 use Rattle.cq_world.specs.Contents.{Contents}
 use Rattle.spec_machine.specs.declared.cell.Cell.{Cell}
@@ -45,13 +47,14 @@ use Rattle.cq_steps.proofs.Selected.{continuation_grown}
 use Rattle.cq_begin.specs.Begun.{IsPlacedAs, IsBegun, Prunes}
 use Rattle.cq_begin.specs.Stops.{FaultStops}
 use Rattle.cq_begin.proofs.Stopping.{refuses, takes}
-use Rattle.cq_ways.specs.Held.{Held, IsOver, KnowsImages, open_of}
-use Rattle.cq_ways.specs.Newest.{HasNoneLeft}
-use Rattle.cq_ways.specs.Trying.{IsTaken, EquationsGo, EquationsPrune}
+use Rattle.cq_ways.specs.Held.{Held, IsOver, StaysOver, KnowsImages, open_of}
+use Rattle.cq_ways.specs.Newest.{IsLeft}
+use Rattle.cq_ways.specs.Trying.{IsTaken, ComesOver, StopsOver, AtStates, EquationsGo, EquationsPrune, newest_count}
 use Rattle.cq_ways.specs.declared.taking.Way.{Way}
+use Rattle.cq_ways.proofs.Ending.{over_ended}
 use Rattle.cq_ways.proofs.Named.{known_more}
-use Rattle.cq_ways.proofs.Newest.{same_front, same_behind}
-use Rattle.cq_ways.proofs.Stacked.{program_more, images_more, waits_more, place_more}
+use Rattle.cq_ways.proofs.Taken.{over_left, over_built}
+use Rattle.cq_ways.proofs.Stacked.{images_more, waits_more, place_more}
 
 -- ---- an alternative that is to be begun
 
@@ -82,7 +85,7 @@ module _ (old mid : Held) (w : Way) (t : IsTaken old mid w) (v : Program) (o : I
   Known texts xs = AllByRecursion (λ (c : Value Contents × Alternatives). KnowsImages texts c.0.0) xs
 
   open_there : Open ((t.start, alternatives.Ways t.before w.rest) ∷ t.older)
-  open_there = subst Open t.was o.open
+  open_there = subst Open t.was o.choices
 
   known_there : Known old.texts ((t.start, alternatives.Ways t.before w.rest) ∷ t.older)
   known_there = subst (Known old.texts) t.was o.images
@@ -96,6 +99,10 @@ module _ (old mid : Held) (w : Way) (t : IsTaken old mid w) (v : Program) (o : I
   pub start_known : KnowsImages more t.start.0
   start_known = known_more old.texts more t.longer t.start.0.heap.images known_there.0
 
+  pub terms_known : KnowsTerms more t.start.0.heap.terms
+  terms_known i d l = subst (HasNamesBelow (length more)) (prefix_get_or t.start.0.heap.terms t.built.terms i d t.terms l)
+      (t.names i d (prefix_within t.start.0.heap.terms t.built.terms i t.terms l))
+
   -- the older choices, where the names are added
   abbrev older : Stack Contents
   older = map (left_at more v) t.older
@@ -106,6 +113,29 @@ module _ (old mid : Held) (w : Way) (t : IsTaken old mid w) (v : Program) (o : I
   abbrev others : List (List (Equation Text))
   others = ways_left more t.start.0.heap.terms w.others
 
+  -- those that are still to come read so over the choice's own terms
+  others_same : ways_left more t.built.terms w.others ≡ others
+  others_same =
+      ways_kept more more (heap_of t.start.0.heap) (heap_of t.built)
+      (record {
+        longer = prefix_same more more refl;
+        terms = t.terms;
+        images = prefix_same t.start.0.heap.images t.built.images t.images;
+        names = λ k. t.names;
+        saved = refl;
+        room = omega arith;
+      }) terms_known w.others t.can_go_back
+
+  was_left : ways_left old.texts t.start.0.heap.terms t.before ≡ es ∷ others
+  was_left = t.next ∙ ap (λ ws. es ∷ ws) others_same
+
+  pub fewer_left : (new : Held) → new.texts ≡ more → open_of new ≡ (t.start, alternatives.Ways w.others w.rest) ∷ t.older
+      → newest_count new.texts (open_of new) < newest_count old.texts (open_of old)
+  fewer_left new named is =
+      let now : newest_count new.texts (open_of new) ≡ length others = ap (newest_count new.texts) is ∙ ap (λ ts. length (ways_left ts t.start.0.heap.terms w.others)) named in
+      let was : newest_count old.texts (open_of old) ≡ length (ways_left old.texts t.start.0.heap.terms t.before) = ap (newest_count old.texts) t.was in
+      omega (arith, now, was, ap length was_left)
+
   module _ (db : Database) (n : ℕ) (s : Search) (j : Stands old.texts v db n old.saved old.choices old.now None s) where
     abbrev before : Stack Contents
     before = map (left_at old.texts v) t.older
@@ -115,25 +145,6 @@ module _ (old mid : Held) (w : Way) (t : IsTaken old mid w) (v : Program) (o : I
 
     pub first_place : IsPlace (IsBranch old.texts) (term_in old.texts) before t.start w.rest waiting_there.3.0
     first_place = waiting_there.3.2
-
-    pub terms_known : KnowsTerms more t.start.0.heap.terms
-    terms_known = known_more old.texts more t.longer t.start.0.heap.terms first_place.continuation.state.ready.stands.names
-
-    -- those that are still to come read so over the choice's own terms
-    others_same : ways_left more t.built.terms w.others ≡ others
-    others_same =
-        ways_kept more more (heap_of t.start.0.heap) (heap_of t.built)
-        (record {
-          longer = prefix_same more more refl;
-          terms = t.terms;
-          images = prefix_same t.start.0.heap.images t.built.images t.images;
-          names = λ k. t.names;
-          saved = refl;
-          room = omega arith;
-        }) terms_known w.others t.can_go_back
-
-    was_left : ways_left old.texts t.start.0.heap.terms t.before ≡ es ∷ others
-    was_left = t.next ∙ ap (λ ws. es ∷ ws) others_same
 
     stands_there : IsStanding (IsBranch old.texts) (term_in old.texts) (engine db n ((t.start, Ways (over 0 es ∷ map (over 0) others) w.rest) ∷ before) old.now None) s
     stands_there = record {
@@ -277,3 +288,70 @@ module _ (old mid : Held) (w : Way) (t : IsTaken old mid w) (v : Program) (o : I
               (takes budgets s p.rest p.state (with_equations es) behind looks (subst (λ i. MayTake p.state (with_equations es) i) same (k.1 p.state placed.state)))),
         )
     fault_stops pivots NoMemory refused taken = tt
+
+-- ---- by what the code has done
+
+module _ (old mid : Held) (w : Way) (t : IsTaken old mid w) where
+  -- the equations as the world reads them
+  abbrev read_now : List (Equation Text)
+  read_now = equations_of mid.texts mid.now.0.heap.terms w.alternative
+
+  same_read : read_now ≡ equations_of mid.texts t.built.terms w.alternative
+  same_read = ap (λ (x : Value Contents). equations_of mid.texts x.0.heap.terms w.alternative) t.now
+
+  module _ (saved : List (Value Contents)) (choices : List Alternatives) (now : Value Contents) where
+    abbrev new : Held
+    new = record { texts = mid.texts; saved = saved; choices = choices; now = now }
+
+    pub goes_on : (k : ℕ) → EquationsGo mid.texts mid.now now read_now w.rest k → IsLeft t.start w.others w.rest t.older (open_choices saved choices)
+        → ComesOver old new (Some k)
+    goes_on k goes left v o steps db n s j =
+        let g = subst (λ es. EquationsGo mid.texts mid.now now es w.rest k) same_read goes in
+        let Over : List (Value Contents × Alternatives) → Type 0 = λ xs. Comes (IsBranch mid.texts) (term_in mid.texts) steps (engine db n (map (left_at mid.texts v) xs) now (Some k)) s in
+        elim left [ inl e ↦ subst Over (sym e) (kept_with old mid w t v o db n s j steps now k g) | inr e ↦ subst Over (sym e.0) (kept_last old mid w t v o db n s j steps now k g (e.1 mid.texts t.start.0.heap.terms)) ]
+
+    pub comes_back : EquationsPrune mid.texts mid.now.0 read_now → open_choices saved choices ≡ (t.start, alternatives.Ways w.others w.rest) ∷ t.older
+        → ComesOver old new None
+    comes_back prunes e v o steps db n s j =
+        subst (λ xs. Comes (IsBranch mid.texts) (term_in mid.texts) steps (engine db n (map (left_at mid.texts v) xs) now None) s) (sym e)
+        (pruned_with old mid w t v o db n s j steps now (subst (λ es. EquationsPrune mid.texts mid.now.0 es) same_read prunes))
+
+    pub comes_again : (lists : List (List Cell)) → KeepsLists mid.now.1 lists → (left : Solutions)
+        → ways_left mid.texts mid.now.0.heap.terms left ≡ read_now ∷ ways_left mid.texts mid.now.0.heap.terms w.others
+        → open_choices saved choices ≡ ((mid.now.0, lists), alternatives.Ways left w.rest) ∷ t.older → ComesOver old new None
+    comes_again lists keeps left first e v o steps db n s j =
+        let kept : KeepsLists t.start.1 lists = subst (λ (x : Value Contents). KeepsLists x.1 lists) t.now keeps in
+        let ways : ways_left mid.texts t.built.terms left ≡ equations_of mid.texts t.built.terms w.alternative ∷ ways_left mid.texts t.built.terms w.others =
+        subst (λ (x : Value Contents). ways_left mid.texts x.0.heap.terms left ≡ equations_of mid.texts x.0.heap.terms w.alternative ∷ ways_left mid.texts x.0.heap.terms w.others) t.now first in
+        let is : open_choices saved choices ≡ ((with_heap t.built t.start.0, lists), alternatives.Ways left w.rest) ∷ t.older =
+        e ∙ ap (λ (x : Value Contents). ((x.0, lists), alternatives.Ways left w.rest) ∷ t.older) t.now in
+        subst (λ xs. Comes (IsBranch mid.texts) (term_in mid.texts) steps (engine db n (map (left_at mid.texts v) xs) now None) s) (sym is)
+        (given_back old mid w t v o db n s j steps now lists kept (ways_left mid.texts t.built.terms left) ways)
+
+  pub query_stops : (pivots : ℕ) (fault : StoreFault)
+      → ((pair : Pair) → fault ≡ Overflow pair → AtStates mid.texts mid.now.0 (λ st. MayRefuse st (with_equations read_now) pair))
+      → ((m : ℕ) → fault ≡ Pivots m → (m ≡ pivots) × AtStates mid.texts mid.now.0 (λ st. MayTake st (with_equations read_now) m)) → StopsOver old pivots fault
+  query_stops pivots fault refused taken v o db n s j =
+      fault_stops old mid w t v o db n s j pivots fault
+      (λ pair e st b. subst (λ es. MayRefuse st (with_equations es) pair) same_read (refused pair e st b.ready))
+      (λ m e. ((taken m e).0, λ st b. subst (λ es. MayTake st (with_equations es) m) same_read ((taken m e).1 st b.ready)))
+
+  -- ---- each choice can be gone on with
+
+  pub over_after : (new : Held) → new.texts ≡ mid.texts → IsLeft t.start w.others w.rest t.older (open_of new) → StaysOver old new
+  over_after new named left =
+      let longer = subst (λ ts. IsPrefix old.texts ts) (sym named) t.longer in
+      elim left [ inl e ↦ over_left old new longer t.start t.before w.others w.rest t.older t.was e t.can_go_back | inr e ↦ over_ended old new longer t.start t.before w.rest t.older t.was e.0 ]
+
+  pub over_again : (new : Held) → new.texts ≡ mid.texts → (lists : List (List Cell)) (left : Solutions)
+      → open_of new ≡ ((mid.now.0, lists), alternatives.Ways left w.rest) ∷ t.older → CanGoOn mid.now.0.heap.terms left → StaysOver old new
+  over_again new named lists left e can =
+      over_built old new (subst (λ ts. IsPrefix old.texts ts) (sym named) t.longer) t.start t.before left w.rest t.older t.was (mid.now.0, lists) e
+      (ap (λ (x : Value Contents). x.0.heap.images) t.now ∙ t.images) can
+
+  -- what was taken can be gone on with where the world is now
+  pub can_now : CanGoOn mid.now.0.heap.terms w.others
+  can_now = subst (λ (x : Value Contents). CanGoOn x.0.heap.terms w.others) (sym t.now) t.can_go_on
+
+  pub live_now : AreLive mid.now.0.heap.terms w.alternative
+  live_now = subst (λ (x : Value Contents). AreLive x.0.heap.terms w.alternative) (sym t.now) t.live
