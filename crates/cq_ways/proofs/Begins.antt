@@ -51,10 +51,10 @@ use Rattle.cq_ways.specs.Held.{Held, IsOver, StaysOver, KnowsImages, open_of}
 use Rattle.cq_ways.specs.Newest.{IsLeft}
 use Rattle.cq_ways.specs.Trying.{IsTaken, ComesOver, StopsOver, AtStates, EquationsGo, EquationsPrune, newest_count}
 use Rattle.cq_ways.specs.declared.taking.Way.{Way}
-use Rattle.cq_ways.proofs.Ending.{over_ended}
+use Rattle.cq_ways.proofs.Ending.{Open, Known, over_ended}
 use Rattle.cq_ways.proofs.Named.{known_more}
 use Rattle.cq_ways.proofs.Taken.{over_left, over_built}
-use Rattle.cq_ways.proofs.Stacked.{images_more, waits_more, place_more}
+use Rattle.cq_ways.proofs.Stacked.{waits_more, place_more}
 
 -- ---- an alternative that is to be begun
 
@@ -74,44 +74,19 @@ one_more_choice texts x older now k items st c = record {
   cells = items_older (IsBranch texts) (term_in texts) x older now.0 st (items_at now.1 k) items c.fits c.cells;
 }
 
-module _ (old mid : Held) (w : Way) (t : IsTaken old mid w) (v : Program) (o : IsOver v old) where
+module _ (old mid : Held) (w : Way) (t : IsTaken old mid w) where
   abbrev more : List Text
   more = mid.texts
-
-  abbrev Open : List (Value Contents × Alternatives) → Type 0
-  Open xs = AllByRecursion (λ (c : Value Contents × Alternatives). CanBeTried v c.0.0.heap.terms c.1) xs
-
-  abbrev Known : List Text → List (Value Contents × Alternatives) → Type 0
-  Known texts xs = AllByRecursion (λ (c : Value Contents × Alternatives). KnowsImages texts c.0.0) xs
-
-  open_there : Open ((t.start, alternatives.Ways t.before w.rest) ∷ t.older)
-  open_there = subst Open t.was o.choices
-
-  known_there : Known old.texts ((t.start, alternatives.Ways t.before w.rest) ∷ t.older)
-  known_there = subst (Known old.texts) t.was o.images
-
-  pub older_open : Open t.older
-  older_open = open_there.1
-
-  pub older_known : Known more t.older
-  older_known = images_more old.texts more t.longer t.older known_there.1
-
-  pub start_known : KnowsImages more t.start.0
-  start_known = known_more old.texts more t.longer t.start.0.heap.images known_there.0
-
-  pub terms_known : KnowsTerms more t.start.0.heap.terms
-  terms_known i d l = subst (HasNamesBelow (length more)) (prefix_get_or t.start.0.heap.terms t.built.terms i d t.terms l)
-      (t.names i d (prefix_within t.start.0.heap.terms t.built.terms i t.terms l))
-
-  -- the older choices, where the names are added
-  abbrev older : Stack Contents
-  older = map (left_at more v) t.older
 
   abbrev es : List (Equation Text)
   es = equations_of more t.built.terms w.alternative
 
   abbrev others : List (List (Equation Text))
   others = ways_left more t.start.0.heap.terms w.others
+
+  terms_known : KnowsTerms more t.start.0.heap.terms
+  terms_known i d l = subst (HasNamesBelow (length more)) (prefix_get_or t.start.0.heap.terms t.built.terms i d t.terms l)
+      (t.names i d (prefix_within t.start.0.heap.terms t.built.terms i t.terms l))
 
   -- those that are still to come read so over the choice's own terms
   others_same : ways_left more t.built.terms w.others ≡ others
@@ -129,12 +104,26 @@ module _ (old mid : Held) (w : Way) (t : IsTaken old mid w) (v : Program) (o : I
   was_left : ways_left old.texts t.start.0.heap.terms t.before ≡ es ∷ others
   was_left = t.next ∙ ap (λ ws. es ∷ ws) others_same
 
-  pub fewer_left : (new : Held) → new.texts ≡ more → open_of new ≡ (t.start, alternatives.Ways w.others w.rest) ∷ t.older
-      → newest_count new.texts (open_of new) < newest_count old.texts (open_of old)
-  fewer_left new named is =
-      let now : newest_count new.texts (open_of new) ≡ length others = ap (newest_count new.texts) is ∙ ap (λ ts. length (ways_left ts t.start.0.heap.terms w.others)) named in
+  pub fewer_left : (xs : List (Value Contents × Alternatives)) → xs ≡ (t.start, alternatives.Ways w.others w.rest) ∷ t.older
+      → newest_count more xs < newest_count old.texts (open_of old)
+  fewer_left xs is =
+      let now : newest_count more xs ≡ length others = ap (newest_count more) is in
       let was : newest_count old.texts (open_of old) ≡ length (ways_left old.texts t.start.0.heap.terms t.before) = ap (newest_count old.texts) t.was in
       omega (arith, now, was, ap length was_left)
+
+  -- the older choices, where the names are added
+  abbrev older : Program → Stack Contents
+  older v = map (left_at more v) t.older
+
+module _ (old mid : Held) (w : Way) (t : IsTaken old mid w) (v : Program) (o : IsOver v old) where
+  open_there : Open v ((t.start, alternatives.Ways t.before w.rest) ∷ t.older)
+  open_there = subst (Open v) t.was o.choices
+
+  known_there : Known old.texts ((t.start, alternatives.Ways t.before w.rest) ∷ t.older)
+  known_there = subst (Known old.texts) t.was o.images
+
+  older_open : Open v t.older
+  older_open = open_there.1
 
   module _ (db : Database) (n : ℕ) (s : Search) (j : Stands old.texts v db n old.saved old.choices old.now None s) where
     abbrev before : Stack Contents
@@ -146,7 +135,7 @@ module _ (old mid : Held) (w : Way) (t : IsTaken old mid w) (v : Program) (o : I
     pub first_place : IsPlace (IsBranch old.texts) (term_in old.texts) before t.start w.rest waiting_there.3.0
     first_place = waiting_there.3.2
 
-    stands_there : IsStanding (IsBranch old.texts) (term_in old.texts) (engine db n ((t.start, Ways (over 0 es ∷ map (over 0) others) w.rest) ∷ before) old.now None) s
+    stands_there : IsStanding (IsBranch old.texts) (term_in old.texts) (engine db n ((t.start, Ways (over 0 (es old mid w t) ∷ map (over 0) (others old mid w t)) w.rest) ∷ before) old.now None) s
     stands_there = record {
       database = j.database;
       selected = j.selected;
@@ -154,16 +143,16 @@ module _ (old mid : Held) (w : Way) (t : IsTaken old mid w) (v : Program) (o : I
       behind = j.behind;
       branches = j.branches;
       current = j.current;
-      waiting = subst (λ ws. AreWaiting (IsBranch old.texts) (term_in old.texts) ((t.start, Ways (map (over 0) ws) w.rest) ∷ before) j.behind) was_left waiting_there;
+      waiting = subst (λ ws. AreWaiting (IsBranch old.texts) (term_in old.texts) ((t.start, Ways (map (over 0) ws) w.rest) ∷ before) j.behind) (was_left old mid w t) waiting_there;
     }
 
     abbrev Begins : Type 0
-    Begins = (p : Place) × (behind : List Branch) × (look_at s.branches ≡ Settling p.rest (with_new 0 p.state) (with_equations es) behind)
+    Begins = (p : Place) × (behind : List Branch) × (look_at s.branches ≡ Settling p.rest (with_new 0 p.state) (with_equations (es old mid w t)) behind)
         × IsPlace (IsBranch old.texts) (term_in old.texts) before t.start w.rest p
-        × AreWaiting (IsBranch old.texts) (term_in old.texts) ((t.start, Ways (map (over 0) others) w.rest) ∷ before) behind
+        × AreWaiting (IsBranch old.texts) (term_in old.texts) ((t.start, Ways (map (over 0) (others old mid w t)) w.rest) ∷ before) behind
 
     begins : Begins
-    begins = way_begun (IsBranch old.texts) (term_in old.texts) 0 db n before t.start old.now s w.rest (over 0 es) (map (over 0) others) stands_there
+    begins = way_begun (IsBranch old.texts) (term_in old.texts) 0 db n before t.start old.now s w.rest (over 0 (es old mid w t)) (map (over 0) (others old mid w t)) stands_there
 
     abbrev p : Place
     p = begins.0
@@ -171,76 +160,76 @@ module _ (old mid : Held) (w : Way) (t : IsTaken old mid w) (v : Program) (o : I
     abbrev behind : List Branch
     behind = begins.1
 
-    looks : look_at s.branches ≡ Settling p.rest p.state (with_equations es) behind
-    looks = begins.2 ∙ ap (λ (st : State). Settling p.rest st (with_equations es) behind) (none_new p)
+    looks : look_at s.branches ≡ Settling p.rest p.state (with_equations (es old mid w t)) behind
+    looks = begins.2 ∙ ap (λ (st : State). Settling p.rest st (with_equations (es old mid w t)) behind) (none_new p)
 
-    place_there : IsPlace (IsBranch more) (term_in more) older t.start w.rest p
-    place_there = place_more old.texts more t.longer v o.program t.older older_open known_there.1 begins.4.1 begins.4.4 t.start known_there.0 w.rest p begins.3
+    place_there : IsPlace (IsBranch mid.texts) (term_in mid.texts) (older old mid w t v) t.start w.rest p
+    place_there = place_more old.texts mid.texts t.longer v o.program t.older older_open known_there.1 begins.4.1 begins.4.4 t.start known_there.0 w.rest p begins.3
 
     -- the others wait
-    pub others_wait : AreWaiting (IsBranch more) (term_in more) ((t.start, Ways (map (over 0) others) w.rest) ∷ older) behind
+    pub others_wait : AreWaiting (IsBranch mid.texts) (term_in mid.texts) ((t.start, Ways (map (over 0) (others old mid w t)) w.rest) ∷ (older old mid w t v)) behind
     others_wait =
         let own = begins.4.3 in (
           begins.4.0,
           begins.4.1,
           begins.4.2,
-          (own.0, own.1, place_more old.texts more t.longer v o.program t.older older_open known_there.1 begins.4.1 begins.4.4 t.start known_there.0 w.rest own.0 own.2),
-          waits_more old.texts more t.longer v o.program t.older older_open known_there.1 begins.4.1 begins.4.4,
+          (own.0, own.1, place_more old.texts mid.texts t.longer v o.program t.older older_open known_there.1 begins.4.1 begins.4.4 t.start known_there.0 w.rest own.0 own.2),
+          waits_more old.texts mid.texts t.longer v o.program t.older older_open known_there.1 begins.4.1 begins.4.4,
         )
 
     -- none waits where none is left
-    older_wait : others ≡ [] → AreWaiting (IsBranch more) (term_in more) older behind
+    older_wait : (others old mid w t) ≡ [] → AreWaiting (IsBranch mid.texts) (term_in mid.texts) (older old mid w t v) behind
     older_wait e =
         let own : begins.4.0 ≡ [] = begins.4.3.1 ∙ ap (λ ws. map (alternative_child begins.4.3.0) (map (over 0) ws)) e in
-        subst (AreWaiting (IsBranch more) (term_in more) older) (sym (begins.4.2 ∙ ap (λ bs. bs ++ begins.4.1) own)) others_wait.4
+        subst (AreWaiting (IsBranch mid.texts) (term_in mid.texts) (older old mid w t v)) (sym (begins.4.2 ∙ ap (λ bs. bs ++ begins.4.1) own)) others_wait.4
 
     -- the continuation in the world with the terms that were added
-    place_then : (lists : List (List Cell)) → KeepsLists t.start.1 lists → (q : Place) → IsPlace (IsBranch more) (term_in more) older t.start w.rest q
-        → IsPlace (IsBranch more) (term_in more) older (with_heap t.built t.start.0, lists) w.rest q
+    place_then : (lists : List (List Cell)) → KeepsLists t.start.1 lists → (q : Place) → IsPlace (IsBranch mid.texts) (term_in mid.texts) (older old mid w t v) t.start w.rest q
+        → IsPlace (IsBranch mid.texts) (term_in mid.texts) (older old mid w t v) (with_heap t.built t.start.0, lists) w.rest q
     place_then lists keeps q i = record {
-      continuation = continuation_grown (IsBranch more) (term_in more) older t.start (with_heap t.built t.start.0, lists)
-          (grown more t.start.0 t.built t.terms t.images t.names t.start.1 lists keeps) w.rest q.rest q.state i.continuation;
+      continuation = continuation_grown (IsBranch mid.texts) (term_in mid.texts) (older old mid w t v) t.start (with_heap t.built t.start.0, lists)
+          (grown mid.texts t.start.0 t.built t.terms t.images t.names t.start.1 lists keeps) w.rest q.rest q.state i.continuation;
       height = i.height;
     }
 
-    placed : IsPlacedAs more older mid.now w.rest p.rest p.state
+    placed : IsPlacedAs mid.texts (older old mid w t v) mid.now w.rest p.rest p.state
     placed =
-        subst (λ (x : Value Contents). IsPlacedAs more older x w.rest p.rest p.state) (sym t.now)
+        subst (λ (x : Value Contents). IsPlacedAs mid.texts (older old mid w t v) x w.rest p.rest p.state) (sym t.now)
         (place_then t.start.1 (record { more = omega arith; same = λ k l. refl }) p place_there).continuation
 
     -- ---- it is kept
 
     module _ (steps : ℕ) (now : Value Contents) where
       abbrev Arrived : Stack Contents → Option ℕ → Type 0
-      Arrived choices current = Comes (IsBranch more) (term_in more) steps (engine db n choices now current) s
+      Arrived choices current = Comes (IsBranch mid.texts) (term_in mid.texts) steps (engine db n choices now current) s
 
-      kept_over : (k : ℕ) → EquationsGo more mid.now now es w.rest k → (choices : Stack Contents) → IsPlacedAs more choices mid.now w.rest p.rest p.state
-          → AreWaiting (IsBranch more) (term_in more) choices behind → Arrived choices (Some k)
+      kept_over : (k : ℕ) → EquationsGo mid.texts mid.now now (es old mid w t) w.rest k → (choices : Stack Contents) → IsPlacedAs mid.texts choices mid.now w.rest p.rest p.state
+          → AreWaiting (IsBranch mid.texts) (term_in mid.texts) choices behind → Arrived choices (Some k)
       kept_over k goes choices place wait =
           let b = goes choices p.rest p.state place in
-          child_kept (IsBranch more) (term_in more) steps db n choices now k s p.rest p.state (with_equations es) behind j.database j.selected looks refl b.left b.state b.settles
+          child_kept (IsBranch mid.texts) (term_in mid.texts) steps db n choices now k s p.rest p.state (with_equations (es old mid w t)) behind j.database j.selected looks refl b.left b.state b.settles
           b.continuation wait
 
-      pub kept_with : (k : ℕ) → EquationsGo more mid.now now es w.rest k → Arrived ((t.start, Ways (map (over 0) others) w.rest) ∷ older) (Some k)
+      pub kept_with : (k : ℕ) → EquationsGo mid.texts mid.now now (es old mid w t) w.rest k → Arrived ((t.start, Ways (map (over 0) (others old mid w t)) w.rest) ∷ (older old mid w t v)) (Some k)
       kept_with k goes =
-          kept_over k goes ((t.start, Ways (map (over 0) others) w.rest) ∷ older)
-          (one_more_choice more (t.start, Ways (map (over 0) others) w.rest) older mid.now w.rest p.rest p.state placed) others_wait
+          kept_over k goes ((t.start, Ways (map (over 0) (others old mid w t)) w.rest) ∷ (older old mid w t v))
+          (one_more_choice mid.texts (t.start, Ways (map (over 0) (others old mid w t)) w.rest) (older old mid w t v) mid.now w.rest p.rest p.state placed) others_wait
 
-      pub kept_last : (k : ℕ) → EquationsGo more mid.now now es w.rest k → others ≡ [] → Arrived older (Some k)
-      kept_last k goes none = kept_over k goes older placed (older_wait none)
+      pub kept_last : (k : ℕ) → EquationsGo mid.texts mid.now now (es old mid w t) w.rest k → (others old mid w t) ≡ [] → Arrived (older old mid w t v) (Some k)
+      kept_last k goes none = kept_over k goes (older old mid w t v) placed (older_wait none)
 
       -- ---- it is pruned
 
-      pub pruned_with : EquationsPrune more mid.now.0 es → Arrived ((t.start, Ways (map (over 0) others) w.rest) ∷ older) None
+      pub pruned_with : EquationsPrune mid.texts mid.now.0 (es old mid w t) → Arrived ((t.start, Ways (map (over 0) (others old mid w t)) w.rest) ∷ (older old mid w t v)) None
       pruned_with prunes =
           let q = prunes p.state placed.state.ready in
-          child_pruned (IsBranch more) (term_in more) steps db n ((t.start, Ways (map (over 0) others) w.rest) ∷ older) now s p.rest p.state (with_equations es) behind
+          child_pruned (IsBranch mid.texts) (term_in mid.texts) steps db n ((t.start, Ways (map (over 0) (others old mid w t)) w.rest) ∷ (older old mid w t v)) now s p.rest p.state (with_equations (es old mid w t)) behind
           j.database j.selected looks refl q.0 (q.1 p.rest) others_wait
 
       -- ---- it is given back
 
-      pub given_back : (lists : List (List Cell)) → KeepsLists t.start.1 lists → (ways : List (List (Equation Text))) → ways ≡ es ∷ ways_left more t.built.terms w.others
-          → Arrived (((with_heap t.built t.start.0, lists), Ways (map (over 0) ways) w.rest) ∷ older) None
+      pub given_back : (lists : List (List Cell)) → KeepsLists t.start.1 lists → (ways : List (List (Equation Text))) → ways ≡ (es old mid w t) ∷ ways_left mid.texts t.built.terms w.others
+          → Arrived (((with_heap t.built t.start.0, lists), Ways (map (over 0) ways) w.rest) ∷ (older old mid w t v)) None
       given_back lists keeps ways e =
           let own = waiting_there.3 in
           let all : ways ≡ ways_left old.texts t.start.0.heap.terms t.before = e ∙ sym t.next in
@@ -262,9 +251,9 @@ module _ (old mid : Held) (w : Way) (t : IsTaken old mid w) (v : Program) (o : I
                   own.0,
                   own.1 ∙ ap (λ ws. map (alternative_child own.0) (map (over 0) ws)) (sym all),
                   place_then lists keeps own.0
-                      (place_more old.texts more t.longer v o.program t.older older_open known_there.1 waiting_there.1 waiting_there.4 t.start known_there.0 w.rest own.0 own.2),
+                      (place_more old.texts mid.texts t.longer v o.program t.older older_open known_there.1 waiting_there.1 waiting_there.4 t.start known_there.0 w.rest own.0 own.2),
                 ),
-                waits_more old.texts more t.longer v o.program t.older older_open known_there.1 waiting_there.1 waiting_there.4,
+                waits_more old.texts mid.texts t.longer v o.program t.older older_open known_there.1 waiting_there.1 waiting_there.4,
               );
             };
           }
@@ -274,10 +263,10 @@ module _ (old mid : Held) (w : Way) (t : IsTaken old mid w) (v : Program) (o : I
     stops_there : (budgets : Budgets) (cause : Cause) → Due budgets None s cause → Tells budgets s (Stops cause) (with_branches [] s)
     stops_there budgets cause d = coming.stops at_once (coming.stops (inl (ap is_selecting looks)) d)
 
-    pub fault_stops : (pivots : ℕ) (fault : StoreFault) → ((pair : Pair) → fault ≡ Overflow pair → (st : State) → IsBranch more mid.now.0 st → MayRefuse st (with_equations es) pair)
-        → ((m : ℕ) → fault ≡ Pivots m → (m ≡ pivots) × ((st : State) → IsBranch more mid.now.0 st → MayTake st (with_equations es) m)) → FaultStops pivots fault s
+    pub fault_stops : (pivots : ℕ) (fault : StoreFault) → ((pair : Pair) → fault ≡ Overflow pair → (st : State) → IsBranch mid.texts mid.now.0 st → MayRefuse st (with_equations (es old mid w t)) pair)
+        → ((m : ℕ) → fault ≡ Pivots m → (m ≡ pivots) × ((st : State) → IsBranch mid.texts mid.now.0 st → MayTake st (with_equations (es old mid w t)) m)) → FaultStops pivots fault s
     fault_stops pivots (Overflow pair) refused taken = λ budgets e.
-        (with_branches [] s, stops_there budgets (cause.Overflow pair) (refuses budgets s p.rest p.state (with_equations es) behind pair looks (refused pair refl p.state placed.state)))
+        (with_branches [] s, stops_there budgets (cause.Overflow pair) (refuses budgets s p.rest p.state (with_equations (es old mid w t)) behind pair looks (refused pair refl p.state placed.state)))
     fault_stops pivots (Pivots m) refused taken = λ budgets e.
         let k = taken m refl in
         let same : m ≡ budgets.pivots = k.0 ∙ sym e in
@@ -285,7 +274,7 @@ module _ (old mid : Held) (w : Way) (t : IsTaken old mid w) (v : Program) (o : I
           with_branches [] s,
           subst (λ i. Tells budgets s (Stops (cause.Pivots i)) (with_branches [] s)) (sym same)
               (stops_there budgets (cause.Pivots budgets.pivots)
-              (takes budgets s p.rest p.state (with_equations es) behind looks (subst (λ i. MayTake p.state (with_equations es) i) same (k.1 p.state placed.state)))),
+              (takes budgets s p.rest p.state (with_equations (es old mid w t)) behind looks (subst (λ i. MayTake p.state (with_equations (es old mid w t)) i) same (k.1 p.state placed.state)))),
         )
     fault_stops pivots NoMemory refused taken = tt
 

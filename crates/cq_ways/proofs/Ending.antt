@@ -1,8 +1,9 @@
 -- What an engine stands for where an alternative is taken, or none is left.
-use Rattle.std.proofs.Common.{◌≡◌, ◌<◌, ◌⊎◌, inl, inr, ℕ, suc, List, [], ◌∷◌, ◌++◌, length, map, Option, None, Some, refl, sym, ap, ◌∙◌, subst, arith}
-use Rattle.std.specs.Prelude.{IfErr, IfOk, Ok, Err}
-use Rattle.std.specs.List.{AllByRecursion}
+use Rattle.std.proofs.Common.{◌≡◌, ℕ, List, [], ◌∷◌, ◌++◌, map, Bool, true, false, Option, None, sym, ap, ◌∙◌, subst}
+use Rattle.std.specs.Prelude.{bytes_eq, if◌then◌else◌}
+use Rattle.std.specs.List.{AllByRecursion, list_any}
 use Rattle.spec_lists.specs.Prefixes.{IsPrefix}
+use Rattle.spec_lists.proofs.Prefixes.{prefix_same}
 use Rattle.spec_lists.specs.Texts.{Text}
 use Rattle.spec_branch.specs.Branch.{Branch}
 use Rattle.spec_search.specs.Database.{Database}
@@ -10,6 +11,7 @@ use Rattle.spec_search.specs.Replies.{alternative_child}
 use Rattle.spec_search.specs.Search.{Search}
 use Rattle.spec_stops.specs.Causes.{Budgets, Cause}
 use Rattle.spec_stops.specs.Causes as cause
+use Rattle.cq_atoms.specs.Texts.{with_text}
 use Rattle.cq_linear.specs.declared.store.StoreFault.{StoreFault}
 use Rattle.cq_linear.specs.declared.store.StoreFault.TheVariants.{Overflow, Pivots, NoMemory}
 use Rattle.cq_predicates.specs.Given.{over, ways_left}
@@ -27,7 +29,7 @@ use Rattle.cq_steps.specs.Worlds.{IsBranch, term_in, Stands, Arrives, left_at, s
 use Rattle.cq_steps.proofs.Arrived.{quietly_on}
 use Rattle.cq_begin.specs.Stops.{ComesToStop, FaultStops}
 use Rattle.cq_ways.specs.Held.{Held, IsOver, StaysOver, KnowsImages, open_of}
-use Rattle.cq_ways.specs.Trying.{ComesOver, StopsOver}
+use Rattle.cq_ways.specs.Trying.{IsSearching, ComesOver, StopsOver}
 use Rattle.cq_ways.proofs.Stacked.{program_more, images_more, waits_more, back_more}
 
 abbrev pub Open : Program → List (Value Contents × Alternatives) → Type 0
@@ -121,3 +123,18 @@ faults_later pivots NoMemory s f = tt
 pub stops_then : (a b : Held) (pivots : ℕ) (fault : StoreFault) → StaysOver a b → ComesOver a b None → StopsOver b pivots fault → StopsOver a pivots fault
 stops_then a b pivots fault stays f g v o db n s j =
     faults_later pivots fault s (λ steps. let r = f v o steps db n s j in (r.reached, r.quiet, g v (stays v o) db n r.reached r.stands))
+
+-- an engine that comes back stands for some search on
+pub works_then : (a b : Held) → StaysOver a b → ComesOver a b None → IsSearching a → IsSearching b
+works_then a b stays f w =
+    let r = f w.0 w.1 0 w.2.0 w.2.1 w.2.2 w.2.3 in
+    (w.0, stays w.0 w.1, (w.2.0, w.2.1, r.reached, r.stands))
+
+-- ---- a name that is given
+
+pub text_prefix : (texts more : List Text) (text : Text) → more ≡ with_text texts text → IsPrefix texts more
+text_prefix texts more text e = go (list_any (bytes_eq text) texts) e
+  where
+    go : (b : Bool) → more ≡ if b then texts else texts ++ text ∷ [] → IsPrefix texts more
+    go true h = prefix_same texts more h
+    go false h = (text ∷ [], h)
