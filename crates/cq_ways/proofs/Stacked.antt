@@ -241,13 +241,3 @@ module _ (more : List Text) (v : Program) (h : Held) (longer : IsPrefix h.texts 
             current j.first j.current;
         waiting = waits_still h.texts more longer v o.program (open_of h) o.images j.behind j.waiting;
       })
-
-  -- the same where the choices are the same ones
-  module _ (new : Held) (named : new.texts ≡ more) (same : open_of new ≡ open_of h) where
-    pub over_still : IsOver v new
-    over_still = record {
-      program = subst (λ (ts : List Text). IsProgram ts v) (sym named) program_more;
-      choices = subst (λ (xs : List (Value Contents × Alternatives)). AllByRecursion (λ (c : Value Contents × Alternatives). CanBeTried v c.0.0.heap.terms c.1) xs) (sym same) o.choices;
-      images = subst (λ (ts : List Text). AllByRecursion (λ (c : Value Contents × Alternatives). KnowsImages ts c.0.0) (open_of new)) (sym named)
-          (subst (λ (xs : List (Value Contents × Alternatives)). AllByRecursion (λ (c : Value Contents × Alternatives). KnowsImages more c.0.0) xs) (sym same) over_more.images);
-    }
