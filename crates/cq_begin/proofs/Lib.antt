@@ -4,5 +4,6 @@ mod Begins
 mod Leading
 mod Marks
 mod Newer
-mod Stopping
+pub mod Stopping
 mod Instances
+pub mod Back

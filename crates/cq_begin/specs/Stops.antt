@@ -1,18 +1,22 @@
 -- How a search goes on from where its engine comes back to a choice, and for which faults its query stops.
-use Rattle.std.specs.Prelude.{◌≡◌, ℕ, List, Option, None, ⊤}
+use Rattle.std.specs.Prelude.{◌≡◌, ℕ, ◌+◌, List, length, Option, None, ⊤}
 use Rattle.spec_lists.specs.Texts.{Text}
 use Rattle.spec_search.specs.Database.{Database}
 use Rattle.spec_search.specs.Search.{Search}
 use Rattle.spec_stops.specs.Causes.{Budgets, Cause}
 use Rattle.spec_stops.specs.Causes as cause
-use Rattle.spec_machine.specs.Cells.{Value}
+use Rattle.spec_machine.specs.declared.cell.Cell.{Cell}
+use Rattle.spec_machine.specs.Cells.{Stack, size}
 use Rattle.spec_machine.specs.Coming.{Tells, Stops}
+use Rattle.cq_control.specs.Heights.{total}
+use Rattle.cq_control.specs.Items.{ContinuationsValue}
 use Rattle.cq_linear.specs.declared.store.StoreFault.{StoreFault}
 use Rattle.cq_linear.specs.declared.store.StoreFault.TheVariants.{Overflow, Pivots, NoMemory}
 use Rattle.cq_program.specs.Database.{Program}
 use Rattle.cq_world.specs.Contents.{Contents}
+use Rattle.cq_world.specs.declared.world.World.{World}
 use Rattle.cq_steps.specs.declared.alternatives.Alternatives.{Alternatives}
-use Rattle.cq_steps.specs.Worlds.{Stands, Arrives}
+use Rattle.cq_steps.specs.Worlds.{value, saved_values, stack, Stands, Arrives}
 
 -- ---- stops
 
@@ -27,18 +31,28 @@ FaultStops pivots (Overflow pair) s = (budgets : Budgets) → budgets.pivots ≡
 FaultStops pivots (Pivots n) s = (budgets : Budgets) → budgets.pivots ≡ pivots → ComesToStop budgets (cause.Pivots n) s
 FaultStops pivots NoMemory s = ⊤
 
--- ---- an engine that comes back to its newest choice
+-- ---- an engine that comes back to its newest choice, over a world and continuations
 
 -- it stands for some search
-abbrev pub IsBack : List Text → Program → List (Value Contents) → List Alternatives → Value Contents → Type 0
-IsBack texts v saved choices now = (db : Database) × (n : ℕ) × (s : Search) × Stands texts v db n saved choices now None s
+abbrev pub IsBack : List Text → Program → World → ContinuationsValue Cell → List Alternatives → Type 0
+IsBack texts v w lists choices = (db : Database) × (n : ℕ) × (s : Search)
+    × Stands texts v db n (saved_values w lists.saved) choices (value w lists.now) None s
 
--- each search for which it stood comes quietly to one for which the engine stands now
-abbrev pub ComesOn : List Text → Program → List (Value Contents) → List Alternatives → Value Contents
-    → List (Value Contents) → List Alternatives → Value Contents → Option ℕ → Type 0
-ComesOn texts v was older before saved choices now current = (steps : ℕ) (db : Database) (n : ℕ) (s : Search)
-    → Stands texts v db n was older before None s → Arrives steps texts v db n saved choices now current s
+-- each search for which it stood comes quietly to one for which the engine stands that goes on with this continuation
+abbrev pub ComesOn : List Text → Program → World → ContinuationsValue Cell → List Alternatives
+    → World → ContinuationsValue Cell → List Alternatives → Option ℕ → Type 0
+ComesOn texts v old lists before new more choices current = (steps : ℕ) (db : Database) (n : ℕ) (s : Search)
+    → Stands texts v db n (saved_values old lists.saved) before (value old lists.now) None s
+    → Arrives steps texts v db n (saved_values new more.saved) choices (value new more.now) current s
 
 -- each search for which it stood comes quietly to where the query stops for the fault
-abbrev pub AllStop : List Text → Program → List (Value Contents) → List Alternatives → Value Contents → ℕ → StoreFault → Type 0
-AllStop texts v saved choices now pivots fault = (db : Database) (n : ℕ) (s : Search) → Stands texts v db n saved choices now None s → FaultStops pivots fault s
+abbrev pub AllStop : List Text → Program → World → ContinuationsValue Cell → List Alternatives → StoreFault → Type 0
+AllStop texts v w lists choices fault = (db : Database) (n : ℕ) (s : Search)
+    → Stands texts v db n (saved_values w lists.saved) choices (value w lists.now) None s → FaultStops w.store.pivots fault s
+
+-- how many branches its choices stand for, and how many choices there are, together: this falls as it comes back
+abbrev pub waiting_in : Stack Contents → ℕ
+waiting_in choices = total size choices + length choices
+
+abbrev pub still_waiting : List Text → Program → World → ContinuationsValue Cell → List Alternatives → ℕ
+still_waiting texts v w lists choices = waiting_in (stack texts v (saved_values w lists.saved) choices)

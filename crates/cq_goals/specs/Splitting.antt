@@ -31,7 +31,7 @@ abbrev pub HasShape : List Text → List HeapTerm → ℕ → Shape → Type 0
 HasShape texts ts id (shape.Disjunction s) =
     HasSides ts id s × (halves (tree texts ts id) ≡ Some (record { left = tree texts ts s.left; right = tree texts ts s.right }))
 HasShape texts ts id (shape.Conjunction s) =
-    HasSides ts id s × (halves (tree texts ts id) ≡ in_conjunction (tree texts ts s.left) (tree texts ts s.right)
+    AreConjuncts texts ts id s × (halves (tree texts ts id) ≡ in_conjunction (tree texts ts s.left) (tree texts ts s.right)
     (halves (tree texts ts s.left)) (halves (tree texts ts s.right)))
 HasShape texts ts id shape.Neither = halves (tree texts ts id) ≡ None
 
@@ -49,10 +49,12 @@ abbrev pub frame_sides : Frame → Sides
 frame_sides (frame.Left s) = s
 frame_sides (frame.Right s) = s
 
--- both sides are there
-pub record IsLiveFrame (ts : List HeapTerm) (f : Frame) : Type 0 where
+-- both sides are there, and the name, which has a text, is that of a conjunction
+pub record IsLiveFrame (texts : List Text) (ts : List HeapTerm) (f : Frame) : Type 0 where
   pub left : (frame_sides f).left < length ts
   pub right : (frame_sides f).right < length ts
+  pub known : (frame_sides f).name < length texts
+  pub conjunction : is_conjunction (text_of texts (frame_sides f).name) ≡ true
 
 abbrev pub frame_work : List HeapTerm → Frame → ℕ
 frame_work ts (frame.Left s) = size (at ts s.right)
@@ -65,7 +67,7 @@ all_work ts (f ∷ fs) = frame_work ts f + all_work ts fs
 -- the search came to a term, or to the end
 pub record Searches (texts : List Text) (ts : List HeapTerm) (id : ℕ) (fs : List Frame) (whole : Option Halves) : Type 0 where
   pub id_live : id < length ts
-  pub live : All (IsLiveFrame ts) fs
+  pub live : All (IsLiveFrame texts ts) fs
   pub leads : all_resumed texts ts fs (halves (tree texts ts id)) ≡ whole
 
 abbrev pub IsNext : List Text → List HeapTerm → Option Halves → Option ℕ → List Frame → Type 0
@@ -86,12 +88,12 @@ AreHalvesLive ts h = (h.left < length ts) × (h.right < length ts)
 -- where the first disjunction stands: its sides, and the conjunctions round it
 pub record IsOccurrence (texts : List Text) (ts : List HeapTerm) (whole : Option Halves) (p : Occurrence) : Type 0 where
   pub halves_live : AreHalvesLive ts p.halves
-  pub live : All (IsLiveFrame ts) p.path.items
+  pub live : All (IsLiveFrame texts ts) p.path.items
   pub leads : all_resumed texts ts p.path.items (Some (halves_at texts ts p.halves)) ≡ whole
 
--- over names and a heap that have grown since, the halves within the conjunctions that are left are those of the whole
-pub record IsJoining (texts : List Text) (old : HeapValue) (whole : Option Halves) (more : List Text) (new : HeapValue) (path : List Frame) (h : HalfTerms) : Type 0 where
-  pub grows : Grows texts old more new
+-- over a heap that has grown since, the halves within the conjunctions that are left are those of the whole
+pub record IsJoining (texts : List Text) (old : HeapValue) (whole : Option Halves) (new : HeapValue) (path : List Frame) (h : HalfTerms) : Type 0 where
+  pub grows : Grows texts old texts new
   pub halves_live : AreHalvesLive new.now.terms h
-  pub live : All (IsLiveFrame old.now.terms) path
-  pub leads : all_resumed texts old.now.terms path (Some (halves_at more new.now.terms h)) ≡ whole
+  pub live : All (IsLiveFrame texts old.now.terms) path
+  pub leads : all_resumed texts old.now.terms path (Some (halves_at texts new.now.terms h)) ≡ whole

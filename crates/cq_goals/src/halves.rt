@@ -1,17 +1,17 @@
 // The halves of a constraint at its first disjunction.
 
-ghost use Rattle.std.specs.Prelude.{◌≡◌, ◌≢◌, ◌<◌, ◌≤◌, ◌++◌, ◌∷◌, [], None, Some, List, length, All, IfOk, IfSome, IsNone, OnOk};
+ghost use Rattle.std.specs.Prelude.{◌≡◌, ◌≢◌, ◌<◌, ◌≤◌, ◌++◌, ◌∷◌, [], None, Some, true, List, length, All, IfOk, IfSome, IsNone, OnOk};
 ghost use Rattle.std.specs.Option.{option_map};
 ghost use Rattle.spec_lists.specs.Texts.{Text};
 ghost use Rattle.spec_built.specs.Built.{compound2};
-ghost use Rattle.spec_told.specs.Checks.{halves};
+ghost use Rattle.spec_told.specs.Checks.{halves, is_conjunction};
+ghost use Rattle.cq_atoms.specs.Texts.{text_of};
 ghost use Rattle.cq_term.specs.Meaning.{HeapTerm};
 ghost use Rattle.cq_term.specs.Trees.{tree, KnowsTerms};
 ghost use Rattle.cq_built.specs.Growing.{Grows};
 ghost use Rattle.cq_goals.specs.Splitting.{HasShape, IsLiveFrame, IsNext, next_work, all_work, all_resumed, resumed, halves_at, AreHalvesLive, IsOccurrence};
 
-use cq_atoms::Atoms;
-use cq_built::compound;
+use cq_atoms::{Atom, Atoms};
 use cq_sides::{Sides, sides_of};
 use cq_term::{Heap, TermId};
 use std::alloc::AllocError;
@@ -49,14 +49,14 @@ struct Occurrence {
 /// is want of memory, which may leave parts of them on the heap.
 pub(crate) fn halves(
     heap: &mut Heap,
-    atoms: &mut Atoms,
+    atoms: &Atoms,
     constraint: TermId,
 ) -> Result<Option<HalfTerms>, AllocError>
     requires live { constraint < length heap.old.now.terms }
-    requires names { KnowsTerms atoms.old heap.old.now.terms }
-    ensures halves { IfOk result (λ h. halves (tree atoms.old heap.old.now.terms constraint) ≡ option_map (halves_at atoms.new heap.new.now.terms) h) }
+    requires names { KnowsTerms atoms.now heap.old.now.terms }
+    ensures halves { IfOk result (λ h. halves (tree atoms.now heap.old.now.terms constraint) ≡ option_map (halves_at atoms.now heap.new.now.terms) h) }
     ensures live { IfOk result (λ h. IfSome h (AreHalvesLive heap.new.now.terms)) }
-    ensures grows { Grows atoms.old heap.old atoms.new heap.new }
+    ensures grows { Grows atoms.now heap.old atoms.now heap.new }
 {
     match first_disjunction(heap, atoms, constraint)? {
         Some(place) => {
@@ -102,7 +102,7 @@ fn first_disjunction(
 
 /// The right side of the innermost conjunction of which the left one was searched.
 fn next_side(path: &mut Vec<Frame>) -> Result<Option<TermId>, AllocError>
-    ensures leads { IfOk result (λ next. (texts : List Text) (ts : List HeapTerm) → All (IsLiveFrame ts) path.old.items
+    ensures leads { IfOk result (λ next. (texts : List Text) (ts : List HeapTerm) → All (IsLiveFrame texts ts) path.old.items
         → IsNext texts ts (all_resumed texts ts path.old.items None) next path.new.items) }
     ensures less { IfOk result (λ next. (ts : List HeapTerm) → next_work ts next path.new.items ≤ all_work ts path.old.items) }
 {
@@ -157,14 +157,14 @@ fn shape_of(heap: &Heap, atoms: &Atoms, id: TermId) -> Shape
 }
 
 /// The halves within all conjunctions round the disjunction.
-fn joined(heap: &mut Heap, atoms: &mut Atoms, place: Occurrence) -> Result<HalfTerms, AllocError>
-    requires names { KnowsTerms atoms.old heap.old.now.terms }
+fn joined(heap: &mut Heap, atoms: &Atoms, place: Occurrence) -> Result<HalfTerms, AllocError>
+    requires names { KnowsTerms atoms.now heap.old.now.terms }
     requires halves_live { AreHalvesLive heap.old.now.terms place.halves }
-    requires live { All (IsLiveFrame heap.old.now.terms) place.path.items }
-    ensures joined { IfOk result (λ h. all_resumed atoms.old heap.old.now.terms place.path.items (Some (halves_at atoms.old heap.old.now.terms place.halves))
-        ≡ Some (halves_at atoms.new heap.new.now.terms h)) }
+    requires live { All (IsLiveFrame atoms.now heap.old.now.terms) place.path.items }
+    ensures joined { IfOk result (λ h. all_resumed atoms.now heap.old.now.terms place.path.items (Some (halves_at atoms.now heap.old.now.terms place.halves))
+        ≡ Some (halves_at atoms.now heap.new.now.terms h)) }
     ensures live { IfOk result (AreHalvesLive heap.new.now.terms) }
-    ensures grows { Grows atoms.old heap.old atoms.new heap.new }
+    ensures grows { Grows atoms.now heap.old atoms.now heap.new }
 {
     let mut halves = place.halves;
     let mut path = place.path;
@@ -177,48 +177,52 @@ fn joined(heap: &mut Heap, atoms: &mut Atoms, place: Occurrence) -> Result<HalfT
 /// The halves within a conjunction.
 fn within(
     heap: &mut Heap,
-    atoms: &mut Atoms,
+    atoms: &Atoms,
     frame: Frame,
     halves: HalfTerms,
 ) -> Result<HalfTerms, AllocError>
-    requires names { KnowsTerms atoms.old heap.old.now.terms }
+    requires names { KnowsTerms atoms.now heap.old.now.terms }
     requires halves_live { AreHalvesLive heap.old.now.terms halves }
-    requires live { IsLiveFrame heap.old.now.terms frame }
-    ensures joined { IfOk result (λ h. resumed atoms.old heap.old.now.terms frame (Some (halves_at atoms.old heap.old.now.terms halves))
-        ≡ Some (halves_at atoms.new heap.new.now.terms h)) }
+    requires live { IsLiveFrame atoms.now heap.old.now.terms frame }
+    ensures joined { IfOk result (λ h. resumed atoms.now heap.old.now.terms frame (Some (halves_at atoms.now heap.old.now.terms halves))
+        ≡ Some (halves_at atoms.now heap.new.now.terms h)) }
     ensures live { IfOk result (AreHalvesLive heap.new.now.terms) }
-    ensures grows { Grows atoms.old heap.old atoms.new heap.new }
+    ensures grows { Grows atoms.now heap.old atoms.now heap.new }
 {
     match frame {
         Frame::Left(sides) => {
             let beside = sides.right;
-            let left = conjunction(heap, atoms, halves.left, beside)?;
-            let right = conjunction(heap, atoms, halves.right, beside)?;
+            let left = conjunction(heap, atoms, sides.name, halves.left, beside)?;
+            let right = conjunction(heap, atoms, sides.name, halves.right, beside)?;
             Ok(HalfTerms { left, right })
         }
         Frame::Right(sides) => {
             let beside = sides.left;
-            let left = conjunction(heap, atoms, beside, halves.left)?;
-            let right = conjunction(heap, atoms, beside, halves.right)?;
+            let left = conjunction(heap, atoms, sides.name, beside, halves.left)?;
+            let right = conjunction(heap, atoms, sides.name, beside, halves.right)?;
             Ok(HalfTerms { left, right })
         }
     }
 }
 
-/// The conjunction of two terms.
+/// The conjunction of two terms, by the name that a conjunction has.
 fn conjunction(
     heap: &mut Heap,
-    atoms: &mut Atoms,
+    atoms: &Atoms,
+    name: Atom,
     left: TermId,
     right: TermId,
 ) -> Result<TermId, AllocError>
+    requires comma { is_conjunction (text_of atoms.now name) ≡ true }
+    requires known { name < length atoms.now }
     requires left { left < length heap.old.now.terms }
     requires right { right < length heap.old.now.terms }
-    requires names { KnowsTerms atoms.old heap.old.now.terms }
+    requires names { KnowsTerms atoms.now heap.old.now.terms }
     ensures live { IfOk result (λ id. id < length heap.new.now.terms) }
-    ensures built { IfOk result (λ id. tree atoms.new heap.new.now.terms id
-        ≡ compound2 "," (tree atoms.old heap.old.now.terms left) (tree atoms.old heap.old.now.terms right)) }
-    ensures grows { Grows atoms.old heap.old atoms.new heap.new }
+    ensures built { IfOk result (λ id. tree atoms.now heap.new.now.terms id
+        ≡ compound2 "," (tree atoms.now heap.old.now.terms left) (tree atoms.now heap.old.now.terms right)) }
+    ensures grows { Grows atoms.now heap.old atoms.now heap.new }
 {
-    compound(heap, atoms, ",", &[left, right])
+    let id = heap.compound(name, &[left, right])?;
+    Ok(id)
 }

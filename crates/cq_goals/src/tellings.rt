@@ -28,20 +28,20 @@ pub enum Telling {
 }
 
 /// `{CONSTRAINT}`: it is checked whole, and is then its members, or its halves at its first disjunction. After a fault the
-/// heap is as it was; names may stay.
+/// heap is as it was.
 pub fn check_telling(
     heap: &mut Heap,
-    atoms: &mut Atoms,
+    atoms: &Atoms,
     constraint: TermId,
 ) -> Result<Telling, BuiltinFault>
     requires live { constraint < length heap.old.now.terms }
-    requires names { KnowsTerms atoms.old heap.old.now.terms }
-    ensures lawful { OnOk result (constraint_error (tree atoms.old heap.old.now.terms constraint) ≡ None) }
-    ensures telling { IfOk result (IsTelling atoms.new heap.new.now.terms (tree atoms.old heap.old.now.terms constraint)) }
+    requires names { KnowsTerms atoms.now heap.old.now.terms }
+    ensures lawful { OnOk result (constraint_error (tree atoms.now heap.old.now.terms constraint) ≡ None) }
+    ensures telling { IfOk result (IsTelling atoms.now heap.new.now.terms (tree atoms.now heap.old.now.terms constraint)) }
     ensures live { IfOk result (IsLiveTelling heap.new.now.terms) }
-    ensures fault { IfErr result (IsFound atoms.old heap.old.now.terms (constraint_error (tree atoms.old heap.old.now.terms constraint))) }
-    ensures culprit { IfErr result (CanBeRaised atoms.old heap.old.now.terms) }
-    ensures grows { Grows atoms.old heap.old atoms.new heap.new }
+    ensures fault { IfErr result (IsFound atoms.now heap.old.now.terms (constraint_error (tree atoms.now heap.old.now.terms constraint))) }
+    ensures culprit { IfErr result (CanBeRaised atoms.now heap.old.now.terms) }
+    ensures grows { Grows atoms.now heap.old atoms.now heap.new }
     ensures err { OnErr result (heap.new.now ≡ heap.old.now) }
 {
     match check(heap, atoms, Purpose::Telling, Part::Constraint(constraint)) {
@@ -54,12 +54,12 @@ pub fn check_telling(
 }
 
 /// The members or the halves of a constraint. An error is want of memory, and the heap is then as it was.
-fn told_as(heap: &mut Heap, atoms: &mut Atoms, constraint: TermId) -> Result<Telling, AllocError>
+fn told_as(heap: &mut Heap, atoms: &Atoms, constraint: TermId) -> Result<Telling, AllocError>
     requires live { constraint < length heap.old.now.terms }
-    requires names { KnowsTerms atoms.old heap.old.now.terms }
-    ensures telling { IfOk result (IsTelling atoms.new heap.new.now.terms (tree atoms.old heap.old.now.terms constraint)) }
+    requires names { KnowsTerms atoms.now heap.old.now.terms }
+    ensures telling { IfOk result (IsTelling atoms.now heap.new.now.terms (tree atoms.now heap.old.now.terms constraint)) }
     ensures live { IfOk result (IsLiveTelling heap.new.now.terms) }
-    ensures grows { Grows atoms.old heap.old atoms.new heap.new }
+    ensures grows { Grows atoms.now heap.old atoms.now heap.new }
     ensures err { OnErr result (heap.new.now ≡ heap.old.now) }
 {
     let m = heap.mark()?;
@@ -78,14 +78,14 @@ fn told_as(heap: &mut Heap, atoms: &mut Atoms, constraint: TermId) -> Result<Tel
 /// The same, where want of memory may leave parts of the halves on the heap.
 fn members_or_halves(
     heap: &mut Heap,
-    atoms: &mut Atoms,
+    atoms: &Atoms,
     constraint: TermId,
 ) -> Result<Telling, AllocError>
     requires live { constraint < length heap.old.now.terms }
-    requires names { KnowsTerms atoms.old heap.old.now.terms }
-    ensures telling { IfOk result (IsTelling atoms.new heap.new.now.terms (tree atoms.old heap.old.now.terms constraint)) }
+    requires names { KnowsTerms atoms.now heap.old.now.terms }
+    ensures telling { IfOk result (IsTelling atoms.now heap.new.now.terms (tree atoms.now heap.old.now.terms constraint)) }
     ensures live { IfOk result (IsLiveTelling heap.new.now.terms) }
-    ensures grows { Grows atoms.old heap.old atoms.new heap.new }
+    ensures grows { Grows atoms.now heap.old atoms.now heap.new }
 {
     match halves(heap, atoms, constraint)? {
         Some(halves) => Ok(Telling::Halves(halves.left, halves.right)),

@@ -12,44 +12,43 @@ ghost use Rattle.cq_world.specs.Contents.{Contents};
 ghost use Rattle.cq_world.specs.Worlds.{now_of};
 ghost use Rattle.cq_steps.specs.Calls.{IsLawful, IsRaised};
 ghost use Rattle.cq_steps.specs.Lists.{KeepsLists};
-ghost use Rattle.cq_steps.specs.Worlds.{value, ReadsAs, Placed, Leads};
+ghost use Rattle.cq_steps.specs.Worlds.{value, saved_values, ReadsAs, Placed, Leads};
 
-use crate::alternatives::Alternatives;
+use crate::alternatives::{Alternatives, Searching};
 use crate::cells::cell_before;
 use cq_atoms::Atoms;
 use cq_built::{BuiltinError, BuiltinFault, Culprit, ValidType};
-use cq_control::{Choices, Continuation, Continuations};
+use cq_control::{Choices, Continuation};
 use cq_declarations::is_body;
 use cq_kinds::{is_callable, is_variable};
 use cq_term::{Heap, TermId};
-use cq_world::World;
 use spec_machine::Cell;
 
 /// `call(G)` becomes G, in which a cut sees no choice that is there now. A fault is the error of G, or want of memory.
 pub fn call(
-    world: &World,
-    lists: &mut Continuations<Cell>,
+    world: &mut Searching,
     choices: &Choices<Alternatives>,
     atoms: &Atoms,
     goal: TermId,
     rest: Continuation,
 ) -> Result<Continuation, BuiltinFault>
-    requires goal { goal < length world.now.heap.now.terms }
-    requires names { KnowsTerms atoms.now world.now.heap.now.terms }
-    requires rest { rest < length lists.old.now }
+    requires goal { goal < length world.old.first.heap.now.terms }
+    requires names { KnowsTerms atoms.now world.old.first.heap.now.terms }
+    requires rest { rest < length world.old.second.now }
     ensures row { IfOk result (λ k. (stack : Stack Contents) (p : Place) (behind : List Branch) (g : Tree) → length stack ≡ length choices.now
-        → Placed atoms.now stack (value world.now lists.old.now) rest p behind → ReadsAs atoms.now (now_of world.now) p.state goal g
-        → Leads atoms.now stack (value world.now lists.new.now) (Some k) p behind (call_row p g [])) }
-    ensures fault { IfErr result (λ f. (p : Place) (g : Tree) → ReadsAs atoms.now (now_of world.now) p.state goal g
-        → IsRaised atoms.now world.now.heap.now.terms f (call_row p g [])) }
-    ensures culprit { IfErr result (CanBeRaised atoms.now world.now.heap.now.terms) }
-    ensures there { IfOk result (λ k. k < length lists.new.now) }
-    ensures keeps { KeepsLists lists.old.now lists.new.now }
-    ensures saved { lists.new.saved ≡ lists.old.saved }
+        → Placed atoms.now stack (value world.old.first world.old.second.now) rest p behind → ReadsAs atoms.now (now_of world.old.first) p.state goal g
+        → Leads atoms.now stack (value world.new.first world.new.second.now) (Some k) p behind (call_row p g [])) }
+    ensures fault { IfErr result (λ f. (p : Place) (g : Tree) → ReadsAs atoms.now (now_of world.old.first) p.state goal g
+        → IsRaised atoms.now world.old.first.heap.now.terms f (call_row p g [])) }
+    ensures culprit { IfErr result (CanBeRaised atoms.now world.old.first.heap.now.terms) }
+    ensures world { now_of world.new.first ≡ now_of world.old.first }
+    ensures there { IfOk result (λ k. k < length world.new.second.now) }
+    ensures keeps { KeepsLists world.old.second.now world.new.second.now }
+    ensures saved { saved_values world.new.first world.new.second.saved ≡ saved_values world.old.first world.old.second.saved }
 {
-    match check_goal(&world.heap, atoms, goal) {
+    match check_goal(&world.first.heap, atoms, goal) {
         Ok(()) => {
-            let k = cell_before(lists, Cell::Goal(goal, choices.height()), rest)?;
+            let k = cell_before(&mut world.second, Cell::Goal(goal, choices.height()), rest)?;
             Ok(k)
         }
         Err(fault) => Err(fault),

@@ -18,86 +18,87 @@ ghost use Rattle.cq_steps.specs.Worlds.{value, saved_values, stack, ReadsAs, Sel
 
 use crate::alternatives::{Alternatives, Searching};
 use crate::cells::{cell_before, goal_before, leave, one_more, then_before};
-use cq_control::{Choices, Continuation, Continuations};
+use cq_control::{Choices, Continuation};
 use cq_term::TermId;
-use cq_world::World;
 use spec_machine::Cell;
 use std::alloc::AllocError;
 
 /// `A,B` becomes A, then B.
 pub fn and(
-    world: &World,
-    lists: &mut Continuations<Cell>,
+    world: &mut Searching,
     left: TermId,
     right: TermId,
     height: usize,
     rest: Continuation,
 ) -> Result<Continuation, AllocError>
-    requires left { left < length world.now.heap.now.terms }
-    requires right { right < length world.now.heap.now.terms }
-    requires rest { rest < length lists.old.now }
+    requires left { left < length world.old.first.heap.now.terms }
+    requires right { right < length world.old.first.heap.now.terms }
+    requires rest { rest < length world.old.second.now }
     ensures row { IfOk result (λ k. (texts : List Text) (choices : Stack Contents) (p : Place) (behind : List Branch) (a b : Tree)
-        → Selected texts choices (value world.now lists.old.now) height rest p behind
-        → ReadsAs texts (now_of world.now) p.state left a → ReadsAs texts (now_of world.now) p.state right b
-        → Leads texts choices (value world.now lists.new.now) (Some k) p behind (and_row p a b)) }
-    ensures there { IfOk result (λ k. k < length lists.new.now) }
-    ensures keeps { KeepsLists lists.old.now lists.new.now }
-    ensures saved { lists.new.saved ≡ lists.old.saved }
+        → Selected texts choices (value world.old.first world.old.second.now) height rest p behind
+        → ReadsAs texts (now_of world.old.first) p.state left a → ReadsAs texts (now_of world.old.first) p.state right b
+        → Leads texts choices (value world.new.first world.new.second.now) (Some k) p behind (and_row p a b)) }
+    ensures world { now_of world.new.first ≡ now_of world.old.first }
+    ensures there { IfOk result (λ k. k < length world.new.second.now) }
+    ensures keeps { KeepsLists world.old.second.now world.new.second.now }
+    ensures saved { saved_values world.new.first world.new.second.saved ≡ saved_values world.old.first world.old.second.saved }
 {
-    let behind = goal_before(&world.heap, lists, right, height, rest)?;
-    let both = goal_before(&world.heap, lists, left, height, behind)?;
+    let known = &world.first;
+    let behind = goal_before(&known.heap, &mut world.second, right, height, rest)?;
+    let both = goal_before(&known.heap, &mut world.second, left, height, behind)?;
     Ok(both)
 }
 
 /// `C->T` with one child: C, a cut of the choices since, and T.
 pub fn if_then(
-    world: &World,
-    lists: &mut Continuations<Cell>,
+    world: &mut Searching,
     choices: &Choices<Alternatives>,
     condition: TermId,
     goal: TermId,
     height: usize,
     rest: Continuation,
 ) -> Result<Continuation, AllocError>
-    requires condition { condition < length world.now.heap.now.terms }
-    requires goal { goal < length world.now.heap.now.terms }
-    requires rest { rest < length lists.old.now }
+    requires condition { condition < length world.old.first.heap.now.terms }
+    requires goal { goal < length world.old.first.heap.now.terms }
+    requires rest { rest < length world.old.second.now }
     ensures row { IfOk result (λ k. (texts : List Text) (stack : Stack Contents) (p : Place) (behind : List Branch) (c t : Tree)
-        → length stack ≡ length choices.now → Selected texts stack (value world.now lists.old.now) height rest p behind
-        → ReadsAs texts (now_of world.now) p.state condition c → ReadsAs texts (now_of world.now) p.state goal t
-        → Leads texts stack (value world.now lists.new.now) (Some k) p behind (if_then_row p c t)) }
-    ensures there { IfOk result (λ k. k < length lists.new.now) }
-    ensures keeps { KeepsLists lists.old.now lists.new.now }
-    ensures saved { lists.new.saved ≡ lists.old.saved }
+        → length stack ≡ length choices.now → Selected texts stack (value world.old.first world.old.second.now) height rest p behind
+        → ReadsAs texts (now_of world.old.first) p.state condition c → ReadsAs texts (now_of world.old.first) p.state goal t
+        → Leads texts stack (value world.new.first world.new.second.now) (Some k) p behind (if_then_row p c t)) }
+    ensures world { now_of world.new.first ≡ now_of world.old.first }
+    ensures there { IfOk result (λ k. k < length world.new.second.now) }
+    ensures keeps { KeepsLists world.old.second.now world.new.second.now }
+    ensures saved { saved_values world.new.first world.new.second.saved ≡ saved_values world.old.first world.old.second.saved }
 {
     let top = choices.height();
-    let mark = then_before(&world.heap, lists, top, goal, height, rest)?;
-    let all = goal_before(&world.heap, lists, condition, top, mark)?;
+    let known = &world.first;
+    let mark = then_before(&known.heap, &mut world.second, top, goal, height, rest)?;
+    let all = goal_before(&known.heap, &mut world.second, condition, top, mark)?;
     Ok(all)
 }
 
 /// `once(G)` becomes the child of `G->true`. The term of `true` is the caller's.
 pub fn once(
-    world: &World,
-    lists: &mut Continuations<Cell>,
+    world: &mut Searching,
     choices: &Choices<Alternatives>,
     goal: TermId,
     truth: TermId,
     height: usize,
     rest: Continuation,
 ) -> Result<Continuation, AllocError>
-    requires goal { goal < length world.now.heap.now.terms }
-    requires truth { truth < length world.now.heap.now.terms }
-    requires rest { rest < length lists.old.now }
+    requires goal { goal < length world.old.first.heap.now.terms }
+    requires truth { truth < length world.old.first.heap.now.terms }
+    requires rest { rest < length world.old.second.now }
     ensures row { IfOk result (λ k. (texts : List Text) (stack : Stack Contents) (p : Place) (behind : List Branch) (g : Tree)
-        → length stack ≡ length choices.now → Selected texts stack (value world.now lists.old.now) height rest p behind
-        → ReadsAs texts (now_of world.now) p.state goal g → ReadsAs texts (now_of world.now) p.state truth (atom "true")
-        → Leads texts stack (value world.now lists.new.now) (Some k) p behind (once_row p g)) }
-    ensures there { IfOk result (λ k. k < length lists.new.now) }
-    ensures keeps { KeepsLists lists.old.now lists.new.now }
-    ensures saved { lists.new.saved ≡ lists.old.saved }
+        → length stack ≡ length choices.now → Selected texts stack (value world.old.first world.old.second.now) height rest p behind
+        → ReadsAs texts (now_of world.old.first) p.state goal g → ReadsAs texts (now_of world.old.first) p.state truth (atom "true")
+        → Leads texts stack (value world.new.first world.new.second.now) (Some k) p behind (once_row p g)) }
+    ensures world { now_of world.new.first ≡ now_of world.old.first }
+    ensures there { IfOk result (λ k. k < length world.new.second.now) }
+    ensures keeps { KeepsLists world.old.second.now world.new.second.now }
+    ensures saved { saved_values world.new.first world.new.second.saved ≡ saved_values world.old.first world.old.second.saved }
 {
-    let all = if_then(world, lists, choices, goal, truth, height, rest)?;
+    let all = if_then(world, choices, goal, truth, height, rest)?;
     Ok(all)
 }
 

@@ -34,8 +34,8 @@ fn take(
     let Terms { a, b } = terms;
     let done = Continuation::done();
     match row {
-        Row::Both => and(&world.first, &mut world.second, a, b, 1, done),
-        Row::IfThen => if_then(&world.first, &mut world.second, choices, a, b, 0, done),
+        Row::Both => and(world, a, b, 1, done),
+        Row::IfThen => if_then(world, choices, a, b, 0, done),
         Row::Not => not(world, choices, a, done),
     }
 }

@@ -2,7 +2,7 @@ use Rattle.std.proofs.Common.{arith}
 use Rattle.spec_told.specs.Checks.{halves}
 use Rattle.cq_term.specs.Meaning.{at}
 use Rattle.cq_term.specs.Trees.{tree}
-use Rattle.cq_sides.proofs.Heads.{size_positive}
+use Rattle.cq_sides.proofs.Heads.{size_positive, side_name_known}
 use Rattle.cq_goals.proofs.Splitting.{left_next, left_less, searched, work_now}
 use Rattle.cq_goals.proofs.halves.first_disjunction.Goals as goal
 
@@ -13,7 +13,10 @@ loop-next-preserved-in-Conjunction c =
     let whole = halves (tree texts ts c.args.constraint) in
     let fs = c.loop-next.path.items in
     left_next texts ts c.in-Some.id fs c.enter.new.path.items whole c.in-Conjunction.sides (searched texts ts whole c.loop-next.next fs c.loop-next.invariant c.in-Some.id c.in-Some.is)
-    c.in-Conjunction.ensures.0 c.in_ok-enter-in-Conjunction.ensures c.in-Conjunction.ensures.1
+    c.in-Conjunction.ensures.0.sides c.in_ok-enter-in-Conjunction.ensures
+    (side_name_known texts ts c.in-Some.id c.in-Conjunction.sides c.in-Conjunction.ensures.0.sides c.requires.names
+    (searched texts ts whole c.loop-next.next fs c.loop-next.invariant c.in-Some.id c.in-Some.is).id_live)
+    c.in-Conjunction.ensures.0.conjunction c.in-Conjunction.ensures.1
 
 pub loop-next-smaller-in-Conjunction : goal.loop-next-smaller-in-Conjunction
 loop-next-smaller-in-Conjunction c =
@@ -22,7 +25,7 @@ loop-next-smaller-in-Conjunction c =
     let whole = halves (tree texts ts c.args.constraint) in
     let fs = c.loop-next.path.items in
     let k = searched texts ts whole c.loop-next.next fs c.loop-next.invariant c.in-Some.id c.in-Some.is in
-    let less = left_less texts ts c.in-Some.id fs c.enter.new.path.items whole c.in-Conjunction.sides k c.in-Conjunction.ensures.0 c.in_ok-enter-in-Conjunction.ensures in
+    let less = left_less texts ts c.in-Some.id fs c.enter.new.path.items whole c.in-Conjunction.sides k c.in-Conjunction.ensures.0.sides c.in_ok-enter-in-Conjunction.ensures in
     let now = work_now texts ts whole c.loop-next.next fs c.loop-next.invariant c.in-Some.id c.in-Some.is in
     omega (arith, less, now)
 

@@ -12,18 +12,18 @@ within-requires-clause-names c = c.loop-frame.invariant.grows.names c.requires.n
 
 pub within-requires-clause-live : goal.within-requires-clause-live
 within-requires-clause-live c =
-    frame_live c.args.atoms.now c.loop-frame.atoms c.loop-frame.atoms c.args.heap.now c.loop-frame.heap c.loop-frame.heap c.requires.names _ c.loop-frame.path.items c.pop.new.self.items c.in-Some.frame
+    frame_live c.args.atoms.now c.args.heap.now c.loop-frame.heap c.loop-frame.heap c.requires.names _ c.loop-frame.path.items c.pop.new.self.items c.in-Some.frame
     c.loop-frame.halves c.loop-frame.halves c.loop-frame.invariant c.in-Some.ensures.items
 
 pub loop-frame-preserved : goal.loop-frame-preserved
 loop-frame-preserved c =
-    joining c.args.atoms.now c.loop-frame.atoms c.within.new.atoms c.args.heap.now c.loop-frame.heap c.within.new.heap c.requires.names _ c.loop-frame.path.items c.pop.new.self.items c.in-Some.frame
+    joining c.args.atoms.now c.args.heap.now c.loop-frame.heap c.within.new.heap c.requires.names _ c.loop-frame.path.items c.pop.new.self.items c.in-Some.frame
     c.loop-frame.halves c.in_ok-halves.halves c.loop-frame.invariant c.in-Some.ensures.items c.within.ensures.grows c.in_ok-halves.ensures.joined c.in_ok-halves.ensures.live
 
 pub returns-in_err-halves-clause-grows : goal.returns-in_err-halves-clause-grows
 returns-in_err-halves-clause-grows c =
-    grows_both c.args.atoms.now c.loop-frame.atoms c.within.new.atoms c.args.heap.now c.loop-frame.heap c.within.new.heap c.loop-frame.invariant.grows c.within.ensures.grows
+    grows_both c.args.atoms.now c.args.atoms.now c.args.atoms.now c.args.heap.now c.loop-frame.heap c.within.new.heap c.loop-frame.invariant.grows c.within.ensures.grows
 
 pub returns-clause-joined : goal.returns-clause-joined
 returns-clause-joined c =
-    joined_ends c.args.atoms.now c.loop-frame.atoms c.args.heap.now c.loop-frame.heap _ c.loop-frame.path.items c.loop-frame.halves c.loop-frame.invariant (omega (arith, c.in_default.ensures.cases.0, c.loop-frame.path.ok.0))
+    joined_ends c.args.atoms.now c.args.heap.now c.loop-frame.heap _ c.loop-frame.path.items c.loop-frame.halves c.loop-frame.invariant (omega (arith, c.in_default.ensures.cases.0, c.loop-frame.path.ok.0))

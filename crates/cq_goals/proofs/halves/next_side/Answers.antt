@@ -8,7 +8,7 @@ pub returns-in-Some-left_sides-clause-leads : goal.returns-in-Some-left_sides-cl
 returns-in-Some-left_sides-clause-leads c = λ texts ts all.
     let old = c.pop.new.self.items in
     right_next texts ts old c.loop-frame.path.items c.in-Some-left_sides.sides c.enter.new.path.items _
-    (c.in-Some.ensures.items ∙ ap (λ (f : Frame). old ++ f ∷ []) c.in-Some-left_sides.ensures.some) c.in_ok-enter.ensures (c.loop-frame.invariant.live ts all) (c.loop-frame.invariant.leads texts ts)
+    (c.in-Some.ensures.items ∙ ap (λ (f : Frame). old ++ f ∷ []) c.in-Some-left_sides.ensures.some) c.in_ok-enter.ensures (c.loop-frame.invariant.live texts ts all) (c.loop-frame.invariant.leads texts ts)
 
 pub returns-in-Some-left_sides-clause-less : goal.returns-in-Some-left_sides-clause-less
 returns-in-Some-left_sides-clause-less c = λ ts.
@@ -23,6 +23,6 @@ loop-frame-preserved c =
     let path = c.loop-frame.path.items in
     record {
       leads = λ texts ts. frame_over old path c.in-Some.frame (c.in_default-left_sides.ensures.none refl) c.in-Some.ensures.items texts ts ∙ c.loop-frame.invariant.leads texts ts;
-      live = λ ts all. frame_over_live old path c.in-Some.frame c.in-Some.ensures.items ts (c.loop-frame.invariant.live ts all);
+      live = λ texts ts all. frame_over_live old path c.in-Some.frame c.in-Some.ensures.items texts ts (c.loop-frame.invariant.live texts ts all);
       less = λ ts. (let work = frame_over_work old path c.in-Some.frame c.in-Some.ensures.items ts in omega (arith, work, c.loop-frame.invariant.less ts));
     }

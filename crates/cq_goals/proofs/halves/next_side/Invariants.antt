@@ -8,7 +8,7 @@ use Rattle.cq_goals.proofs.halves.next_side.Given as goal
 abbrev pub invariant-loop-frame : goal.invariant-loop-frame
 invariant-loop-frame l = record {
   leads : (texts : List Text) (ts : List HeapTerm) → all_resumed texts ts l.path.items None ≡ all_resumed texts ts l.fn.path.items None;
-  live : (ts : List HeapTerm) → All (IsLiveFrame ts) l.fn.path.items → All (IsLiveFrame ts) l.path.items;
+  live : (texts : List Text) (ts : List HeapTerm) → All (IsLiveFrame texts ts) l.fn.path.items → All (IsLiveFrame texts ts) l.path.items;
   less : (ts : List HeapTerm) → all_work ts l.path.items ≤ all_work ts l.fn.path.items;
 }
 

@@ -26,7 +26,7 @@ returns-then-eq-2 c =
     let s = c.in-Some.sides in
     let d : is_disjunction (text_of texts s.name) ≡ false = ap (λ x. bytes_eq x (codes ";")) (sym c.text-name.ensures.value) ∙ sym c.eq.ensures ∙ c.if-eq.false in
     let k : is_conjunction (text_of texts s.name) ≡ true = ap (λ x. bytes_eq x (codes ",")) (sym c.text-name.ensures.value) ∙ sym c.eq-else-eq.ensures ∙ c.if-eq-2.true in
-    (c.in-Some.ensures.some, ap halves (tree_of_sides texts ts c.args.id s c.in-Some.ensures.some) ∙ halves_of_conjunction (text_of texts s.name) (tree texts ts s.left) (tree texts ts s.right) d k)
+    (record { sides = c.in-Some.ensures.some; conjunction = k }, ap halves (tree_of_sides texts ts c.args.id s c.in-Some.ensures.some) ∙ halves_of_conjunction (text_of texts s.name) (tree texts ts s.left) (tree texts ts s.right) d k)
 
 pub returns-else-eq-2 : goal.returns-else-eq-2
 returns-else-eq-2 c =

@@ -1,0 +1,45 @@
+-- What a machine keeps while its choices and its world change.
+use Rattle.std.proofs.Common.{◌≡◌, ◌<◌, ℕ, List, [], ◌∷◌, ◌++◌, length, Option, Some, subst, sym}
+use Rattle.std.specs.Prelude.{slice_get}
+use Rattle.std.specs.List.{AllByRecursion}
+use Rattle.spec_lists.specs.Texts.{Text}
+use Rattle.spec_syntax.specs.Trees.{Tree}
+use Rattle.spec_branch.specs.Branch.{State, Branch}
+use Rattle.spec_builtins.specs.Terms as builtins
+use Rattle.spec_search.specs.Replies.{Place, Reply}
+use Rattle.spec_search.specs.Rows.{nth}
+use Rattle.cq_control.specs.Open.{open_choices}
+use Rattle.cq_program.specs.Database.{Program}
+use Rattle.cq_term.specs.Meaning.{at}
+use Rattle.cq_term.specs.Shown.{arguments}
+use Rattle.cq_term.specs.Trees.{tree}
+use Rattle.cq_world.specs.Contents.{Contents}
+use Rattle.spec_machine.specs.Cells.{Value}
+use Rattle.cq_steps.specs.declared.alternatives.Alternatives.{Alternatives}
+use Rattle.cq_steps.specs.Choices.{CanBeTried, AreOpen, KeepsOlder}
+use Rattle.cq_steps.specs.Worlds.{ReadsAs, Leads, stack}
+use Rattle.cq_steps.proofs.Added.{reads_tree}
+use Rattle.cq_steps.proofs.Arguments.{argument_reads}
+
+-- the same over equal marks
+pub leads_over : (texts : List Text) (v : Program) (saved more : List (Value Contents)) (choices : List Alternatives) (now : Value Contents) (current : Option ℕ) (p : Place)
+    (behind : List Branch) (r : Reply) → more ≡ saved → Leads texts (stack texts v saved choices) now current p behind r → Leads texts (stack texts v more choices) now current p behind r
+leads_over texts v saved more choices now current p behind r e l = subst (λ s. Leads texts (stack texts v s choices) now current p behind r) (sym e) l
+
+abbrev Tried : Program → Value Contents × Alternatives → Type 0
+Tried v c = CanBeTried v c.0.0.heap.terms c.1
+
+all_behind : (v : Program) (gone left : List (Value Contents × Alternatives)) → AllByRecursion (Tried v) (gone ++ left) → AllByRecursion (Tried v) left
+all_behind v [] left all = all
+all_behind v (c ∷ gone) left all = all_behind v gone left all.1
+
+-- the older choices can still be gone on with
+pub older_open : (v : Program) (saved fewer : List (Value Contents)) (choices left : List Alternatives) → AreOpen v saved choices → KeepsOlder saved choices fewer left
+    → AreOpen v fewer left
+older_open v saved fewer choices left all k =
+    all_behind v k.gone (open_choices fewer left) (subst (λ cs. AllByRecursion (Tried v) cs) k.are all)
+
+-- an argument of a term that reads as itself is that of the term
+pub argument_is : (texts : List Text) (w : Contents) (st : State) (id i k : ℕ) (t : Tree) → ReadsAs texts w st id t → k < length w.heap.terms
+    → slice_get (arguments (at w.heap.terms id)) i ≡ Some (at w.heap.terms k) → tree texts w.heap.terms k ≡ nth (builtins.arguments t) i
+argument_is texts w st id i k t r l e = reads_tree texts w st k (nth (builtins.arguments t) i) (argument_reads texts w st id i k t r l e)

@@ -1,0 +1,15 @@
+//! The steps of an engine: what a selected goal comes to, by the row of what it calls.
+#![tactic(auto)]
+
+mod building;
+mod control;
+mod machine;
+mod names;
+mod output;
+mod step;
+
+pub use control::{call, conjunction, cut, disjunction, if_then, negation};
+pub use machine::Machine;
+pub use names::Names;
+pub use output::{declare, write};
+pub use step::Step;
