@@ -1,33 +1,26 @@
 -- What an engine stands for where an alternative is taken, or none is left.
-use Rattle.std.proofs.Common.{◌≡◌, ℕ, List, [], ◌∷◌, ◌++◌, map, Bool, true, false, Option, None, sym, ap, ◌∙◌, subst}
+use Rattle.std.proofs.Common.{◌≡◌, ℕ, List, [], ◌∷◌, ◌++◌, map, Bool, true, false, Option, None, refl, sym, ap, ◌∙◌, subst}
 use Rattle.std.specs.Prelude.{bytes_eq, if◌then◌else◌}
 use Rattle.std.specs.List.{AllByRecursion, list_any}
 use Rattle.spec_lists.specs.Prefixes.{IsPrefix}
 use Rattle.spec_lists.proofs.Prefixes.{prefix_same}
 use Rattle.spec_lists.specs.Texts.{Text}
-use Rattle.spec_branch.specs.Branch.{Branch}
-use Rattle.spec_search.specs.Database.{Database}
 use Rattle.spec_search.specs.Replies.{alternative_child}
-use Rattle.spec_search.specs.Search.{Search}
-use Rattle.spec_stops.specs.Causes.{Budgets, Cause}
-use Rattle.spec_stops.specs.Causes as cause
 use Rattle.cq_atoms.specs.Texts.{with_text}
 use Rattle.cq_linear.specs.declared.store.StoreFault.{StoreFault}
-use Rattle.cq_linear.specs.declared.store.StoreFault.TheVariants.{Overflow, Pivots, NoMemory}
 use Rattle.cq_predicates.specs.Given.{over, ways_left}
 use Rattle.cq_predicates.specs.declared.solutions.Solutions.{Solutions}
 use Rattle.cq_program.specs.Database.{Program}
 use Rattle.cq_world.specs.Contents.{Contents}
-use Rattle.spec_machine.specs.Cells.{Ways, Value, Stack}
-use Rattle.spec_machine.specs.Standing.{engine, AreWaiting}
-use Rattle.spec_machine.specs.Coming.{Quietly, at_once, Comes, Tells, Stops}
-use Rattle.spec_machine.specs.Coming as coming
+use Rattle.spec_machine.specs.Cells.{Value}
+use Rattle.spec_machine.specs.Standing.{AreWaiting}
+use Rattle.spec_machine.specs.Coming.{at_once}
 use Rattle.cq_steps.specs.declared.alternatives.Alternatives.{Alternatives}
 use Rattle.cq_steps.specs.declared.alternatives.Alternatives.TheVariants as alternatives
 use Rattle.cq_steps.specs.Choices.{CanBeTried}
-use Rattle.cq_steps.specs.Worlds.{IsBranch, term_in, Stands, Arrives, left_at, stack}
+use Rattle.cq_steps.specs.Worlds.{IsBranch, term_in, left_at}
 use Rattle.cq_steps.proofs.Arrived.{quietly_on}
-use Rattle.cq_begin.specs.Stops.{ComesToStop, FaultStops}
+use Rattle.cq_begin.proofs.Back.{fault_after}
 use Rattle.cq_ways.specs.Held.{Held, IsOver, StaysOver, KnowsImages, open_of}
 use Rattle.cq_ways.specs.Trying.{IsSearching, ComesOver, StopsOver}
 use Rattle.cq_ways.proofs.Stacked.{program_more, images_more, waits_more, back_more}
@@ -108,27 +101,15 @@ comes_then a b c current stays f g v o steps db n s j =
 pub stays_then : (a b c : Held) → StaysOver a b → StaysOver b c → StaysOver a c
 stays_then a b c f g v o = g v (f v o)
 
-module _ (budgets : Budgets) (s t : Search) (quiet : Quietly budgets.steps s t) (cause : Cause) where
-  stops_later : (u : Search) → Tells budgets t (Stops cause) u → Tells budgets s (Stops cause) u
-  stops_later u (coming.stops q why) = coming.stops (quietly_on quiet q) why
-
-  pub comes_to_stop : ComesToStop budgets cause t → ComesToStop budgets cause s
-  comes_to_stop stop = (stop.0, stops_later stop.0 stop.1)
-
-pub faults_later : (pivots : ℕ) (fault : StoreFault) (s : Search) → ((steps : ℕ) → (t : Search) × Quietly steps s t × FaultStops pivots fault t) → FaultStops pivots fault s
-faults_later pivots (Overflow pair) s f = λ budgets e. let r = f budgets.steps in comes_to_stop budgets s r.0 r.1 (cause.Overflow pair) (r.2 budgets e)
-faults_later pivots (Pivots n) s f = λ budgets e. let r = f budgets.steps in comes_to_stop budgets s r.0 r.1 (cause.Pivots n) (r.2 budgets e)
-faults_later pivots NoMemory s f = tt
-
 pub stops_then : (a b : Held) (pivots : ℕ) (fault : StoreFault) → StaysOver a b → ComesOver a b None → StopsOver b pivots fault → StopsOver a pivots fault
 stops_then a b pivots fault stays f g v o db n s j =
-    faults_later pivots fault s (λ steps. let r = f v o steps db n s j in (r.reached, r.quiet, g v (stays v o) db n r.reached r.stands))
+    fault_after pivots pivots fault s refl (λ steps. let r = f v o steps db n s j in (r.reached, r.quiet, g v (stays v o) db n r.reached r.stands))
 
 -- an engine that comes back stands for some search on
 pub works_then : (a b : Held) → StaysOver a b → ComesOver a b None → IsSearching a → IsSearching b
 works_then a b stays f w =
-    let r = f w.0 w.1 0 w.2.0 w.2.1 w.2.2 w.2.3 in
-    (w.0, stays w.0 w.1, (w.2.0, w.2.1, r.reached, r.stands))
+    let r = f w.0 w.1 0 w.2 w.3 w.4 w.5 in
+    (w.0, stays w.0 w.1, w.2, w.3, r.reached, r.stands)
 
 -- ---- a name that is given
 

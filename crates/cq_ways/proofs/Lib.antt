@@ -1,4 +1,5 @@
 pub mod Named
+pub mod Newer
 pub mod Reread
 pub mod Stacked
 pub mod Newest

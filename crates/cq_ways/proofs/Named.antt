@@ -1,13 +1,16 @@
 -- A world whose names are known is the state of the same branches where names are added.
-use Rattle.std.proofs.Common.{◌≡◌, ◌<◌, ℕ, List, [], ◌∷◌, length, Some, refl, sym, ap, ◌∙◌}
+use Rattle.std.proofs.Common.{◌≡◌, ◌<◌, ℕ, zero, suc, List, [], ◌∷◌, length, Some, refl, sym, ap, ◌∙◌, arith}
+use Rattle.std.specs.Prelude.{slice_get}
 use Rattle.std.specs.List.{AllZip}
+use Rattle.std.specs.Option.{option_map}
 use Rattle.std.proofs.lemmas.List.Elements.{All-weaker}
 use Rattle.spec_lists.specs.Prefixes.{IsPrefix}
 use Rattle.spec_lists.proofs.Prefixes.{prefix_same, prefix_length}
 use Rattle.spec_lists.specs.Texts.{Text}
-use Rattle.spec_terms.specs.Term.{Subst}
+use Rattle.spec_terms.specs.Term.{Subst, named}
 use Rattle.spec_syntax.specs.Trees.{Tree}
 use Rattle.spec_branch.specs.Branch.{State, Asleep, Frozen, Sleeper}
+use Rattle.cq_atoms.specs.Texts.{text_of}
 use Rattle.cq_attr.specs.Attributes.{Waiting}
 use Rattle.cq_built.proofs.Trees.{tree_kept}
 use Rattle.cq_frac.specs.declared.VarId.{VarId}
@@ -21,8 +24,14 @@ use Rattle.cq_world.specs.Standing.{Stands, AreRead, IsConstraint, IsSleeper, co
 use Rattle.cq_steps.specs.Worlds.{IsBranch, term_in}
 use Rattle.cq_steps.proofs.Added.{tree_is}
 use Rattle.cq_steps.proofs.Reading.{read_live}
-use Rattle.cq_begin.proofs.Reading.{tree_read}
 use Rattle.cq_ways.specs.Held.{KnowsImages}
+
+-- a term that is there is read
+pub tree_read : (texts : List Text) (ts : List HeapTerm) (id : ℕ) (t : Tree) → id < length ts → tree texts ts id ≡ t
+    → option_map (named (text_of texts)) (slice_get ts id) ≡ Some t
+tree_read texts [] id t l e = absurd (omega (arith, l))
+tree_read texts (x ∷ ts) zero t l e = ap (λ (u : Tree). Some u) e
+tree_read texts (x ∷ ts) (suc id) t l e = tree_read texts ts id t (omega (arith, l)) e
 
 module _ (texts more : List Text) (longer : IsPrefix texts more) where
   pub tree_named : (ts : List HeapTerm) → KnowsTerms texts ts → (id : ℕ) → id < length ts → tree more ts id ≡ tree texts ts id

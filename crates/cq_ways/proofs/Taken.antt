@@ -35,8 +35,8 @@ module _ (h : Held) (works : IsSearching h) (start : Value Contents) (s : Soluti
   images_there : KnowsImages h.texts start.0
   images_there = (subst (Known h.texts) was works.1.images).0
 
-  waiting : AreWaiting (IsBranch h.texts) (term_in h.texts) (map (left_at h.texts v) ((start, alternatives.Ways s rest) ∷ older)) works.2.3.behind
-  waiting = subst (λ xs. AreWaiting (IsBranch h.texts) (term_in h.texts) (map (left_at h.texts v) xs) works.2.3.behind) was works.2.3.waiting
+  waiting : AreWaiting (IsBranch h.texts) (term_in h.texts) (map (left_at h.texts v) ((start, alternatives.Ways s rest) ∷ older)) works.5.behind
+  waiting = subst (λ xs. AreWaiting (IsBranch h.texts) (term_in h.texts) (map (left_at h.texts v) xs) works.5.behind) was works.5.waiting
 
   abbrev p : Place
   p = waiting.3.0

@@ -22,7 +22,7 @@ use Rattle.cq_steps.specs.declared.alternatives.Alternatives.{Alternatives}
 use Rattle.cq_steps.specs.declared.alternatives.Alternatives.TheVariants as alternatives
 use Rattle.cq_steps.specs.Worlds.{Stands, Arrives, with_heap}
 use Rattle.cq_begin.specs.Begun.{IsPlacedAs, IsBegun, Prunes}
-use Rattle.cq_begin.specs.Stops.{AllStop, IsBack}
+use Rattle.cq_begin.specs.Stops.{FaultStops}
 use Rattle.cq_ways.specs.Held.{Held, IsOver, open_of}
 use Rattle.cq_ways.specs.declared.taking.Way.{Way}
 
@@ -32,7 +32,7 @@ IsWays choices = (s : Solutions) × (rest : ℕ) × (older : List Alternatives) 
 
 -- the engine, which comes back, stands for some search
 abbrev pub IsSearching : Held → Type 0
-IsSearching h = (v : Program) × IsOver v h × IsBack h.texts v h.saved h.choices h.now
+IsSearching h = (v : Program) × IsOver v h × (db : Database) × (n : ℕ) × (s : Search) × Stands h.texts v db n h.saved h.choices h.now None s
 
 -- each search for which the engine stood, where it came back, comes quietly to one for which it stands now
 abbrev pub ComesOver : Held → Held → Option ℕ → Type 0
@@ -41,7 +41,8 @@ ComesOver old new current = (v : Program) → IsOver v old → (steps : ℕ) (db
 
 -- each search for which it stood comes quietly to where its query stops for the fault
 abbrev pub StopsOver : Held → ℕ → StoreFault → Type 0
-StopsOver h pivots fault = (v : Program) → IsOver v h → AllStop h.texts v h.saved h.choices h.now pivots fault
+StopsOver h pivots fault = (v : Program) → IsOver v h → (db : Database) (n : ℕ) (s : Search)
+    → Stands h.texts v db n h.saved h.choices h.now None s → FaultStops pivots fault s
 
 -- ---- an alternative that was taken
 

@@ -1,9 +1,8 @@
-use Rattle.std.proofs.Common.{[], ℕ, List, refl, sym, subst}
+use Rattle.std.proofs.Common.{[], ℕ, List, sym, subst, arith}
 use Rattle.spec_lists.specs.Texts.{Text}
 use Rattle.spec_terms.specs.Unifier.{Equation}
 use Rattle.spec_branch.specs.Branch.{State}
 use Rattle.spec_search.specs.Replies.{with_equations}
-use Rattle.cq_begin.proofs.Leading.{none_told}
 use Rattle.cq_builtin.specs.Over.{equations_of}
 use Rattle.cq_rest.specs.Equal.{IsWork}
 use Rattle.cq_settle.specs.Settled.{MayRefuse, MayTake}
@@ -24,7 +23,7 @@ work c st r =
     (subst (λ (es : List (Equation Text)). IsWork c.args.atoms.now (now_of c.args.world.now) st c.args.alternative.now.pairs.items [] [] (with_equations es))
     (equations_named c.args.atoms.now c.args.world.now.heap.now.terms c.args.alternative.now.pairs.items)
     (c.equated_worlds_may_be_settled.ensures.work c.args.atoms.now (now_of c.args.world.now) c.args.alternative.now.pairs.items [] [] st r c.look_at_pairs.ensures.equal
-    (none_told c.args.world.now.heap.now [] refl)))
+    (λ i d l. absurd (omega (arith, l)))))
 
 pub returns-clause-goes : goal.returns-clause-goes
 returns-clause-goes c =
