@@ -181,7 +181,8 @@ module _ (old mid : Held) (w : Way) (t : IsTaken old mid w) (v : Program) (o : I
     older_wait : (others old mid w t) ≡ [] → AreWaiting (IsBranch mid.texts) (term_in mid.texts) (older old mid w t v) behind
     older_wait e =
         let own : begins.4.0 ≡ [] = begins.4.3.1 ∙ ap (λ ws. map (alternative_child begins.4.3.0) (map (over 0) ws)) e in
-        subst (AreWaiting (IsBranch mid.texts) (term_in mid.texts) (older old mid w t v)) (sym (begins.4.2 ∙ ap (λ bs. bs ++ begins.4.1) own)) others_wait.4
+        subst (AreWaiting (IsBranch mid.texts) (term_in mid.texts) (older old mid w t v)) (sym (begins.4.2 ∙ ap (λ bs. bs ++ begins.4.1) own))
+        (waits_more old.texts mid.texts t.longer v o.program t.older older_open known_there.1 begins.4.1 begins.4.4)
 
     -- the continuation in the world with the terms that were added
     place_then : (lists : List (List Cell)) → KeepsLists t.start.1 lists → (q : Place) → IsPlace (IsBranch mid.texts) (term_in mid.texts) (older old mid w t v) t.start w.rest q
@@ -292,12 +293,15 @@ module _ (old mid : Held) (w : Way) (t : IsTaken old mid w) where
     abbrev new : Held
     new = record { texts = mid.texts; saved = saved; choices = choices; now = now }
 
+    -- the engine over these choices goes on with the continuation
+    abbrev OverStack : Program → ℕ → Database → ℕ → Search → ℕ → List (Value Contents × Alternatives) → Type 0
+    OverStack v steps db n s k xs = Comes (IsBranch mid.texts) (term_in mid.texts) steps (engine db n (map (left_at mid.texts v) xs) now (Some k)) s
+
     pub goes_on : (k : ℕ) → EquationsGo mid.texts mid.now now read_now w.rest k → IsLeft t.start w.others w.rest t.older (open_choices saved choices)
         → ComesOver old new (Some k)
     goes_on k goes left v o steps db n s j =
         let g = subst (λ es. EquationsGo mid.texts mid.now now es w.rest k) same_read goes in
-        let Over : List (Value Contents × Alternatives) → Type 0 = λ xs. Comes (IsBranch mid.texts) (term_in mid.texts) steps (engine db n (map (left_at mid.texts v) xs) now (Some k)) s in
-        elim left [ inl e ↦ subst Over (sym e) (kept_with old mid w t v o db n s j steps now k g) | inr e ↦ subst Over (sym e.0) (kept_last old mid w t v o db n s j steps now k g (e.1 mid.texts t.start.0.heap.terms)) ]
+        elim left [ inl e ↦ subst (OverStack v steps db n s k) (sym e) (kept_with old mid w t v o db n s j steps now k g) | inr e ↦ subst (OverStack v steps db n s k) (sym e.0) (kept_last old mid w t v o db n s j steps now k g (e.1 mid.texts t.start.0.heap.terms)) ]
 
     pub comes_back : EquationsPrune mid.texts mid.now.0 read_now → open_choices saved choices ≡ (t.start, alternatives.Ways w.others w.rest) ∷ t.older
         → ComesOver old new None
