@@ -1,5 +1,5 @@
 -- The branch of an alternative that was taken, and what becomes of it.
-use Rattle.std.proofs.Common.{◌≡◌, ◌<◌, ◌⊎◌, inl, inr, ℕ, suc, List, [], ◌∷◌, ◌++◌, length, map, Option, None, Some, refl, sym, ap, ap₂, ◌∙◌, subst, arith}
+use Rattle.std.proofs.Common.{◌≡◌, ◌<◌, ◌+◌, ◌⊎◌, inl, inr, ℕ, suc, List, [], ◌∷◌, ◌++◌, length, map, Option, None, Some, refl, sym, ap, ap₂, ◌∙◌, subst, arith}
 use Rattle.std.specs.List.{AllByRecursion}
 use Rattle.spec_lists.specs.Prefixes.{IsPrefix}
 use Rattle.spec_lists.proofs.Prefixes.{prefix_same, prefix_get_or, prefix_within}
@@ -132,9 +132,6 @@ module _ (old mid : Held) (w : Way) (t : IsTaken old mid w) (v : Program) (o : I
     waiting_there : AreWaiting (IsBranch old.texts) (term_in old.texts) (map (left_at old.texts v) ((t.start, alternatives.Ways t.before w.rest) ∷ t.older)) j.behind
     waiting_there = subst (λ xs. AreWaiting (IsBranch old.texts) (term_in old.texts) (map (left_at old.texts v) xs) j.behind) t.was j.waiting
 
-    pub first_place : IsPlace (IsBranch old.texts) (term_in old.texts) before t.start w.rest waiting_there.3.0
-    first_place = waiting_there.3.2
-
     stands_there : IsStanding (IsBranch old.texts) (term_in old.texts) (engine db n ((t.start, Ways (over 0 (es old mid w t) ∷ map (over 0) (others old mid w t)) w.rest) ∷ before) old.now None) s
     stands_there = record {
       database = j.database;
@@ -167,7 +164,7 @@ module _ (old mid : Held) (w : Way) (t : IsTaken old mid w) (v : Program) (o : I
     place_there = place_more old.texts mid.texts t.longer v o.program t.older older_open known_there.1 begins.4.1 begins.4.4 t.start known_there.0 w.rest p begins.3
 
     -- the others wait
-    pub others_wait : AreWaiting (IsBranch mid.texts) (term_in mid.texts) ((t.start, Ways (map (over 0) (others old mid w t)) w.rest) ∷ (older old mid w t v)) behind
+    others_wait : AreWaiting (IsBranch mid.texts) (term_in mid.texts) ((t.start, Ways (map (over 0) (others old mid w t)) w.rest) ∷ (older old mid w t v)) behind
     others_wait =
         let own = begins.4.3 in (
           begins.4.0,
@@ -211,17 +208,17 @@ module _ (old mid : Held) (w : Way) (t : IsTaken old mid w) (v : Program) (o : I
           child_kept (IsBranch mid.texts) (term_in mid.texts) steps db n choices now k s p.rest p.state (with_equations (es old mid w t)) behind j.database j.selected looks refl b.left b.state b.settles
           b.continuation wait
 
-      pub kept_with : (k : ℕ) → EquationsGo mid.texts mid.now now (es old mid w t) w.rest k → Arrived ((t.start, Ways (map (over 0) (others old mid w t)) w.rest) ∷ (older old mid w t v)) (Some k)
+      kept_with : (k : ℕ) → EquationsGo mid.texts mid.now now (es old mid w t) w.rest k → Arrived ((t.start, Ways (map (over 0) (others old mid w t)) w.rest) ∷ (older old mid w t v)) (Some k)
       kept_with k goes =
           kept_over k goes ((t.start, Ways (map (over 0) (others old mid w t)) w.rest) ∷ (older old mid w t v))
           (one_more_choice mid.texts (t.start, Ways (map (over 0) (others old mid w t)) w.rest) (older old mid w t v) mid.now w.rest p.rest p.state placed) others_wait
 
-      pub kept_last : (k : ℕ) → EquationsGo mid.texts mid.now now (es old mid w t) w.rest k → (others old mid w t) ≡ [] → Arrived (older old mid w t v) (Some k)
+      kept_last : (k : ℕ) → EquationsGo mid.texts mid.now now (es old mid w t) w.rest k → (others old mid w t) ≡ [] → Arrived (older old mid w t v) (Some k)
       kept_last k goes none = kept_over k goes (older old mid w t v) placed (older_wait none)
 
       -- ---- it is pruned
 
-      pub pruned_with : EquationsPrune mid.texts mid.now.0 (es old mid w t) → Arrived ((t.start, Ways (map (over 0) (others old mid w t)) w.rest) ∷ (older old mid w t v)) None
+      pruned_with : EquationsPrune mid.texts mid.now.0 (es old mid w t) → Arrived ((t.start, Ways (map (over 0) (others old mid w t)) w.rest) ∷ (older old mid w t v)) None
       pruned_with prunes =
           let q = prunes p.state placed.state.ready in
           child_pruned (IsBranch mid.texts) (term_in mid.texts) steps db n ((t.start, Ways (map (over 0) (others old mid w t)) w.rest) ∷ (older old mid w t v)) now s p.rest p.state (with_equations (es old mid w t)) behind
@@ -229,7 +226,7 @@ module _ (old mid : Held) (w : Way) (t : IsTaken old mid w) (v : Program) (o : I
 
       -- ---- it is given back
 
-      pub given_back : (lists : List (List Cell)) → KeepsLists t.start.1 lists → (ways : List (List (Equation Text))) → ways ≡ (es old mid w t) ∷ ways_left mid.texts t.built.terms w.others
+      given_back : (lists : List (List Cell)) → KeepsLists t.start.1 lists → (ways : List (List (Equation Text))) → ways ≡ (es old mid w t) ∷ ways_left mid.texts t.built.terms w.others
           → Arrived (((with_heap t.built t.start.0, lists), Ways (map (over 0) ways) w.rest) ∷ (older old mid w t v)) None
       given_back lists keeps ways e =
           let own = waiting_there.3 in
@@ -264,7 +261,7 @@ module _ (old mid : Held) (w : Way) (t : IsTaken old mid w) (v : Program) (o : I
     stops_there : (budgets : Budgets) (cause : Cause) → Due budgets None s cause → Tells budgets s (Stops cause) (with_branches [] s)
     stops_there budgets cause d = coming.stops at_once (coming.stops (inl (ap is_selecting looks)) d)
 
-    pub fault_stops : (pivots : ℕ) (fault : StoreFault) → ((pair : Pair) → fault ≡ Overflow pair → (st : State) → IsBranch mid.texts mid.now.0 st → MayRefuse st (with_equations (es old mid w t)) pair)
+    fault_stops : (pivots : ℕ) (fault : StoreFault) → ((pair : Pair) → fault ≡ Overflow pair → (st : State) → IsBranch mid.texts mid.now.0 st → MayRefuse st (with_equations (es old mid w t)) pair)
         → ((m : ℕ) → fault ≡ Pivots m → (m ≡ pivots) × ((st : State) → IsBranch mid.texts mid.now.0 st → MayTake st (with_equations (es old mid w t)) m)) → FaultStops pivots fault s
     fault_stops pivots (Overflow pair) refused taken = λ budgets e.
         (with_branches [] s, stops_there budgets (cause.Overflow pair) (refuses budgets s p.rest p.state (with_equations (es old mid w t)) behind pair looks (refused pair refl p.state placed.state)))
