@@ -1,6 +1,7 @@
 -- What an engine stands for where an alternative is taken, or none is left.
 use Rattle.std.proofs.Common.{◌≡◌, ℕ, List, [], ◌∷◌, ◌++◌, map, Bool, true, false, Option, None, refl, sym, ap, ◌∙◌, subst}
-use Rattle.std.specs.Prelude.{bytes_eq, if◌then◌else◌}
+use Rattle.std.specs.Prelude.{bytes_eq, if◌then◌else◌, OnErr, Ok, Err}
+use Rattle.std.specs.declared.result.Result.{Result}
 use Rattle.std.specs.List.{AllByRecursion, list_any}
 use Rattle.spec_lists.specs.Prefixes.{IsPrefix}
 use Rattle.spec_lists.proofs.Prefixes.{prefix_same}
@@ -119,3 +120,8 @@ text_prefix texts more text e = go (list_any (bytes_eq text) texts) e
     go : (b : Bool) → more ≡ if b then texts else texts ++ text ∷ [] → IsPrefix texts more
     go true h = prefix_same texts more h
     go false h = (text ∷ [], h)
+
+-- what holds anyway holds after an error
+pub on_err : {A E : Type 0} {P : Type 0} (r : Result A E) → P → OnErr r P
+on_err (Ok x) p = tt
+on_err (Err e) p = p

@@ -175,9 +175,12 @@ pub fn try_ways(
         let Some(way) = take_way(world, choices, atoms, known)? else {
             return Ok(None);
         };
-        match begin_way(world, choices, atoms, way)? {
-            Begun::Goes(first) => return Ok(Some(first)),
-            Begun::Pruned => {}
+        match begin_way(world, choices, atoms, way) {
+            Ok(begun) => match begun {
+                Begun::Goes(first) => return Ok(Some(first)),
+                Begun::Pruned => {}
+            },
+            Err(fault) => return Err(fault),
         }
     }
 }
