@@ -1,13 +1,11 @@
 -- What an engine stands for where an alternative is taken, or none is left.
-use Rattle.std.proofs.Common.{◌≡◌, ℕ, List, [], ◌∷◌, ◌++◌, map, Bool, true, false, Option, None, refl, sym, ap, ◌∙◌, subst}
-use Rattle.std.specs.Prelude.{bytes_eq, if◌then◌else◌, OnErr, Ok, Err}
+use Rattle.std.proofs.Common.{◌≡◌, ℕ, List, [], ◌∷◌, ◌++◌, map, Option, None, refl, sym, ap, ◌∙◌, subst}
+use Rattle.std.specs.Prelude.{OnErr, Ok, Err}
 use Rattle.std.specs.declared.result.Result.{Result}
-use Rattle.std.specs.List.{AllByRecursion, list_any}
+use Rattle.std.specs.List.{AllByRecursion}
 use Rattle.spec_lists.specs.Prefixes.{IsPrefix}
-use Rattle.spec_lists.proofs.Prefixes.{prefix_same}
 use Rattle.spec_lists.specs.Texts.{Text}
 use Rattle.spec_search.specs.Replies.{alternative_child}
-use Rattle.cq_atoms.specs.Texts.{with_text}
 use Rattle.cq_linear.specs.declared.store.StoreFault.{StoreFault}
 use Rattle.cq_predicates.specs.Given.{over, ways_left}
 use Rattle.cq_predicates.specs.declared.solutions.Solutions.{Solutions}
@@ -111,15 +109,6 @@ pub works_then : (a b : Held) → StaysOver a b → ComesOver a b None → IsSea
 works_then a b stays f w =
     let r = f w.0 w.1 0 w.2 w.3 w.4 w.5 in
     (w.0, stays w.0 w.1, w.2, w.3, r.reached, r.stands)
-
--- ---- a name that is given
-
-pub text_prefix : (texts more : List Text) (text : Text) → more ≡ with_text texts text → IsPrefix texts more
-text_prefix texts more text e = go (list_any (bytes_eq text) texts) e
-  where
-    go : (b : Bool) → more ≡ if b then texts else texts ++ text ∷ [] → IsPrefix texts more
-    go true h = prefix_same texts more h
-    go false h = (text ∷ [], h)
 
 -- what holds anyway holds after an error
 pub on_err : {A E : Type 0} {P : Type 0} (r : Result A E) → P → OnErr r P

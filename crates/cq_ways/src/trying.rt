@@ -21,7 +21,7 @@ ghost use Rattle.cq_ways.specs.Trying.{IsWays, IsSearching, ComesOver, StopsOver
 
 use crate::marks::{renew, replace_newest};
 use crate::taking::{Way, take_way};
-use cq_atoms::Atoms;
+use cq_atoms::{Atom, Atoms};
 use cq_begin::{Begun, begin};
 use cq_built::Alternative;
 use cq_control::{Choices, Continuation, Continuations};
@@ -31,6 +31,7 @@ use cq_rest::{equated_worlds_may_be_settled, look_at_pairs};
 use cq_steps::{Alternatives, Searching};
 use cq_world::World;
 use spec_machine::Cell;
+use std::alloc::AllocError;
 
 /// Begins the branch of an alternative.
 fn begin_pairs(
@@ -147,6 +148,15 @@ fn begin_way(
     }
 }
 
+/// A name that is known.
+fn some_name(atoms: &mut Atoms, text: &str) -> Result<Atom, AllocError>
+    ensures known { IfOk result (λ name. name < length atoms.new) }
+    ensures longer { IsPrefix atoms.old atoms.new }
+{
+    let name = atoms.intern(text)?;
+    Ok(name)
+}
+
 /// Comes back to the newest choice, which is of a predicate's alternatives, and begins these one after another until the branch
 /// of one is kept; None where none is left, and the choice is gone. The choice is gone too where the one that is kept is known
 /// to be the last. After want of memory and a stop, the choice still holds the alternative that was begun.
@@ -170,7 +180,7 @@ pub fn try_ways(
     ensures budget { world.new.first.store.pivots ≡ world.old.first.store.pivots }
     ensures marked { HasMarks (held atoms.new world.new.first world.new.second choices.new) }
 {
-    let known = atoms.intern("[]")?;
+    let known = some_name(atoms, "[]")?;
     'ways: loop {
         let Some(way) = take_way(world, choices, atoms, known)? else {
             return Ok(None);

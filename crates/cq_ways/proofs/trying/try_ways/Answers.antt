@@ -1,27 +1,26 @@
-use Rattle.std.proofs.Common.{◌≡◌, ◌∙◌, refl, sym, subst, Some, None}
-use Rattle.std.proofs.lemmas.Option.{slice_get_within}
-use Rattle.spec_lists.proofs.Prefixes.{prefix_same, prefix_both, prefix_within}
+use Rattle.std.proofs.Common.{◌∙◌, refl, subst, Some, None}
+use Rattle.spec_lists.proofs.Prefixes.{prefix_both, prefix_within}
 use Rattle.cq_ways.specs.Held.{held}
 use Rattle.cq_ways.specs.Trying.{IsTaken, StopsOver}
-use Rattle.cq_ways.proofs.Ending.{comes_same, over_same, comes_then, stays_then, stops_then, works_then, text_prefix, on_err}
+use Rattle.cq_ways.proofs.Ending.{comes_same, over_same, comes_then, stays_then, stops_then, works_then, on_err}
 use Rattle.cq_ways.proofs.trying.try_ways.Goals as goal
 
 pub returns-in_err-known-clause-comes_err : goal.returns-in_err-known-clause-comes_err
 returns-in_err-known-clause-comes_err c =
     let start = held c.args.atoms.now c.args.world.now.first c.args.world.now.second c.args.choices.now in
-    let first = held c.intern.new.self c.args.world.now.first c.args.world.now.second c.args.choices.now in
-    on_err c.from_residual.result (comes_same start first (prefix_same c.args.atoms.now c.intern.new.self c.in_err-known.ensures.err) refl)
+    let first = held c.some_name.new.atoms c.args.world.now.first c.args.world.now.second c.args.choices.now in
+    on_err c.from_residual.result (comes_same start first c.some_name.ensures.longer refl)
 
 pub ways-init : goal.ways-init
 ways-init c =
     let start = held c.args.atoms.now c.args.world.now.first c.args.world.now.second c.args.choices.now in
-    let first = held c.intern.new.self c.args.world.now.first c.args.world.now.second c.args.choices.now in
-    let longer = text_prefix c.args.atoms.now c.intern.new.self _ c.in_ok-known.ensures.texts in
+    let first = held c.some_name.new.atoms c.args.world.now.first c.args.world.now.second c.args.choices.now in
+    let longer = c.some_name.ensures.longer in
     record {
       marked = c.requires.marked;
       newest = c.requires.newest;
       works = works_then start first (λ v o. over_same start first v o longer refl) (comes_same start first longer refl) c.requires.works;
-      known = slice_get_within c.intern.new.self c.in_ok-known.known _ c.in_ok-known.ensures.number;
+      known = c.in_ok-known.ensures.known;
       comes = comes_same start first longer refl;
       over = λ v o. over_same start first v o longer refl;
       longer = longer;
