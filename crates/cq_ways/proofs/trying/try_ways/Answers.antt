@@ -133,3 +133,9 @@ ways-preserved c =
       same = (rw c.in-Pruned.is at c.in-Ok.ensures.same) ∙ (rw c.in-Some.is at c.in_ok-way.ensures.same) ∙ i.same;
       budget = c.begin_way.ensures.budget ∙ c.take_way.ensures.budget ∙ i.budget;
     }
+
+pub returns-in_err-known-clause-over : goal.returns-in_err-known-clause-over
+returns-in_err-known-clause-over c =
+    let start = held c.args.atoms.now c.args.world.now.first c.args.world.now.second c.args.choices.now in
+    let first = held c.some_name.new.atoms c.args.world.now.first c.args.world.now.second c.args.choices.now in
+    λ v o. over_same start first v o c.some_name.ensures.longer refl
