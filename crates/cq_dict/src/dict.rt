@@ -18,7 +18,7 @@ ghost use Rattle.cq_dict.specs.Dict.{SameMeaning, AddsRow, DefinesLast, RefusesP
 use crate::columns::Turn;
 use crate::exchange::{eliminate, exchange};
 use crate::form::expressed;
-use crate::holders::{Cell, hold_changes, hold_row, listed};
+use crate::holders::{Cell, hold_changes, hold_new, listed};
 use crate::table::{Change, Role, write};
 use cq_frac::{Frac, Refusal};
 use cq_row::Entry;
@@ -168,7 +168,7 @@ impl Dict {
 
     /// The column's own number and those of the rows that hold it, and maybe of others, in ascending order.
     fn touched(&self, c: Col) -> Result<Vec<usize>, AllocError>
-        requires { c < length self.now.roles }
+        requires { AreOverColumns self.now.roles → c < length self.now.roles }
         ensures { IfOk result (λ rows. AreTouched self.now.roles c rows.items) }
     {
         let count = self.roles.len();
@@ -196,10 +196,8 @@ impl Dict {
         ensures room { self.old.room ≤ self.new.room }
         ensures err { OnErr result (quantities_of self.new ≡ quantities_of self.old) }
     {
-        let number = self.count();
-        if let Role::Basic(row) = &role {
-            hold_row(&mut self.heads, &mut self.cells, &Role::Live, row, number)?;
-        }
+        let number = self.roles.len();
+        hold_new(&mut self.heads, &mut self.cells, &role, number)?;
         self.roles.reserve_places(1)?;
         self.heads.reserve_places(1)?;
         self.restricted.push(restricted)?;

@@ -111,7 +111,7 @@ fn hold_entries(
 }
 
 /// Puts the row of this number on the lists of its columns, where it was this role before.
-pub fn hold_row(
+fn hold_row(
     heads: &mut Trail<usize>,
     cells: &mut Stack<Cell>,
     role: &Role,
@@ -127,6 +127,23 @@ pub fn hold_row(
     hold_entries(heads, cells, role, row.live(), number)?;
     hold_entries(heads, cells, role, row.dropped(), number)?;
     Ok(())
+}
+
+/// Puts a new quantity of this number, where it is a row, on the lists of its columns.
+pub fn hold_new(
+    heads: &mut Trail<usize>,
+    cells: &mut Stack<Cell>,
+    role: &Role,
+    number: usize,
+) -> Result<(), AllocError>
+    requires { (own : Row) (c : ℕ) → role.now ≡ Basic own → Holds own c → c < length heads.old.now }
+    ensures grows { Grows heads.old cells.old heads.new cells.new }
+    ensures listed { OnOk result ((own : Row) (c : ℕ) → role.now ≡ Basic own → Holds own c → IsListed heads.new.now cells.new.now c number) }
+{
+    match role {
+        Role::Basic(row) => hold_row(heads, cells, &Role::Live, row, number),
+        _ => Ok(()),
+    }
 }
 
 /// Puts each row among the new roles on the lists of its columns.
@@ -146,6 +163,7 @@ pub fn hold_changes(
 {
     for change in changes {
         if let Role::Basic(row) = &change.role {
+            prove!(change.at < roles.len());
             hold_row(heads, cells, &roles[change.at], row, change.at)?;
         }
     }

@@ -26,12 +26,12 @@ loop-m-preserved c =
     let front = take (c.loop-m.m-index + 1) c.args.entries.now in
     elim c.if-not-holds.branch [
       | then-not-holds+in_ok-add w ↦
-          subst (λ (z : TrailValue ℕ). Holding h x c.args.number front z _) (sym w.heads-is)
+          subst (λ (z : TrailValue ℕ). Holding h x c.args.number front z c.if-not-holds.cells) (sym w.heads-is)
           (subst (λ (z : StackValue Cell). Holding h x c.args.number front w.add.new.heads z) (sym w.cells-is)
           (holding_more h c.loop-m.heads w.add.new.heads x c.loop-m.cells w.add.new.cells c.args.number c.args.entries.now c.loop-m.m-index c.m-item.result l c.m-item.is c.loop-m.invariant w.add.ensures.grows w.in_ok-add.ensures.listed))
       | else-not-holds w ↦
           let f = OnTrue_at w.if-not-holds.false c.holds.ensures in
-          subst (λ (z : TrailValue ℕ). Holding h x c.args.number front z _) (sym w.heads-is)
+          subst (λ (z : TrailValue ℕ). Holding h x c.args.number front z c.if-not-holds.cells) (sym w.heads-is)
           (subst (λ (z : StackValue Cell). Holding h x c.args.number front c.loop-m.heads z) (sym w.cells-is)
           (holding_more h c.loop-m.heads c.loop-m.heads x c.loop-m.cells c.loop-m.cells c.args.number c.args.entries.now c.loop-m.m-index c.m-item.result l c.m-item.is c.loop-m.invariant (grows_same c.loop-m.heads c.loop-m.cells)
           (c.loop-m.invariant.grows.still c.m-item.result.quantity c.args.number (c.requires.before f.0 c.m-item.result.quantity f.1 f.2))))
