@@ -1,5 +1,5 @@
 -- Changes that cover all roles, and the roles that are written by them.
-use Rattle.std.proofs.Common.{◌≡◌, ℕ, zero, suc, ◌+◌, ◌<◌, ◌≤◌, List, [], ◌∷◌, ◌++◌, length, take, get_or, set, arith, refl, ap, sym, subst, ◌∙◌, ◌⊎◌, inl, inr, append_assoc, append-nil, Result, Ok, Err, IfOk}
+use Rattle.std.proofs.Common.{◌≡◌, ℕ, zero, suc, ◌+◌, ◌<◌, ◌≤◌, List, [], ◌∷◌, ◌++◌, length, take, get_or, set, arith, refl, ap, sym, subst, ◌∙◌, ◌⊎◌, inl, inr, append_assoc, append-nil, Result, Ok, Err, IfOk, OnOk}
 use Rattle.std.specs.List.{Contains}
 use Rattle.std.proofs.lemmas.List.{get_or_default}
 use Rattle.spec_lists.proofs.Places.{take-next}
@@ -69,6 +69,14 @@ module _ (R : ℕ → Role → Role → Type 0) (roles : List Role) (i : ℕ) (c
         let l = at_below new j t b in
         let s = at_exists roles j (omega (arith, l, written.size)) in
         (s.0, s.1, related j s.0 t s.1 b)
+
+pub on_ok : {A E : Type 0} (r : Result A E) (P Q : Type 0) → (P → Q) → OnOk r P → OnOk r Q
+on_ok (Ok x) P Q f h = f h
+on_ok (Err e) P Q f h = h
+
+pub if_all_ok : {A E : Type 0} (r : Result A E) (P Q R S : A → Type 0) → ((x : A) → P x → Q x → R x → S x) → IfOk r P → IfOk r Q → IfOk r R → IfOk r S
+if_all_ok (Ok x) P Q R S f h k l = f x h k l
+if_all_ok (Err e) P Q R S f h k l = h
 
 -- ---- the same for the roles of some numbers
 -- each change stands at a role that R lets become so, and each role of these numbers without a change is one that R lets be

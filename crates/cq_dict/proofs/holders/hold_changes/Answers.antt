@@ -13,7 +13,7 @@ use Rattle.cq_dict.proofs.Entries.{HoldingChanges, changes_here, changes_start, 
 use Rattle.cq_dict.proofs.Lists.{grows_same}
 use Rattle.cq_dict.proofs.Roles.{at_index}
 use Rattle.cq_dict.proofs.holders.hold_changes.Goals as goal
-use Rattle.cq_dict.proofs.holders.hold_changes.Goals.{In-Basic, in-Basic+in_ok-hold_row, in_default}
+use Rattle.cq_dict.proofs.holders.hold_changes.Goals.{In-Basic, in-Basic+else-prove+in_ok-hold_row, in_default}
 
 there : (c : In-Basic) → c.change-item.result.at < length c.args.roles.now
 there c = c.requires.within c.change-item.result (changes_here c.args.changes.now c.loop-change.change-index c.change-item.result c.loop-change-test.true c.change-item.is)
@@ -54,7 +54,7 @@ loop-change-preserved c =
     let front = take (c.loop-change.change-index + 1) c.args.changes.now in
     let d = c.change-item.result in
     elim c.match-change.branch [
-      | in-Basic+in_ok-hold_row w ↦
+      | in-Basic+else-prove+in_ok-hold_row w ↦
           subst (λ (z : TrailValue ℕ). HoldingChanges h x front z c.match-change.cells) (sym w.heads-is)
           (subst (λ (z : StackValue Cell). HoldingChanges h x front w.hold_row.new.heads z) (sym w.cells-is)
           (changes_more h c.loop-change.heads w.hold_row.new.heads x c.loop-change.cells w.hold_row.new.cells c.args.changes.now c.loop-change.change-index d c.loop-change-test.true c.change-item.is c.loop-change.invariant w.hold_row.ensures.grows
