@@ -1,5 +1,5 @@
 -- Entries up to a place, whose columns' lists have a row.
-use Rattle.std.proofs.Common.{◌≡◌, ℕ, zero, suc, ◌+◌, ◌<◌, List, [], ◌∷◌, ◌++◌, length, take, get_or, Option, Some, None, Bool, true, arith, refl, sym, subst, ◌⊎◌, inl, inr, is_some}
+use Rattle.std.proofs.Common.{◌≡◌, ℕ, zero, suc, ◌+◌, ◌<◌, List, [], ◌∷◌, ◌++◌, length, take, get_or, Option, Some, None, true, arith, sym, subst, ◌⊎◌, inl, inr, is_some}
 use Rattle.std.specs.Prelude.{MatchOption}
 use Rattle.spec_lists.proofs.Places.{take-next}
 use Rattle.cq_trail.specs.StackValue.{StackValue}

@@ -1,5 +1,5 @@
 -- The rows that hold a column stand on its list, also after a new role, and where all roles are written.
-use Rattle.std.proofs.Common.{◌≡◌, ℕ, zero, suc, ◌+◌, ◌<◌, List, [], ◌∷◌, ◌++◌, length, set, Some, true, arith, refl, ap, sym, subst, ◌∙◌, ◌⊎◌, inl, inr, length-append, length-take}
+use Rattle.std.proofs.Common.{◌≡◌, ℕ, zero, suc, ◌<◌, List, [], ◌∷◌, ◌++◌, length, set, Some, true, arith, refl, ap, sym, subst, ◌∙◌, ◌⊎◌, inl, inr, length-append, length-take}
 use Rattle.std.proofs.lemmas.List.{length-set}
 use Rattle.std.proofs.lemmas.Option.{slice_get_within}
 use Rattle.std.proofs.lemmas.List.Elements.{Contains-append_left, Contains-append_right, Contains-push, Contains-push_cases, Contains-append_cases}
@@ -16,10 +16,10 @@ use Rattle.cq_dict.specs.declared.table.Change.{Change}
 use Rattle.cq_dict.specs.declared.table.Role.{Role}
 use Rattle.cq_dict.specs.declared.table.Role.TheVariants.{Live, Dropped, Basic}
 use Rattle.cq_dict.specs.Changes.{Changes, IsWritten}
-use Rattle.cq_dict.specs.Holders.{Holds, AreTouched, IsListed, AreLists, Grows, AreHeld, AreHeldAtMarks}
+use Rattle.cq_dict.specs.Holders.{Holds, IsListed, Grows, AreHeld, AreHeldAtMarks}
 use Rattle.cq_dict.specs.Roles.{IsAt, AreOverColumns, is_live, is_dropped}
 use Rattle.cq_dict.proofs.Lists.{get_set, get_set_other}
-use Rattle.cq_dict.proofs.Roles.{at_one, at_end, at_below, role_live, role_dropped, live_at, dropped_at, equal_or_not}
+use Rattle.cq_dict.proofs.Roles.{at_one, at_end, at_below, role_live, role_dropped, equal_or_not}
 use Rattle.cq_dict.proofs.Written.{at_set}
 
 -- ---- a column that a row holds

@@ -1,7 +1,6 @@
 -- The lists of the rows that hold a column, and what is on them.
-use Rattle.std.proofs.Common.{◌≡◌, ℕ, zero, suc, ◌+◌, ◌<◌, ◌≤◌, List, [], ◌∷◌, ◌++◌, length, set, Some, arith, refl, ap, sym, subst, ◌∙◌, ◌⊎◌, inl, inr, length-append}
-use Rattle.std.proofs.lemmas.List.{length-set}
-use Rattle.std.proofs.lemmas.Option.{none-some, same_Some}
+use Rattle.std.proofs.Common.{◌≡◌, ℕ, zero, suc, ◌<◌, ◌≤◌, List, [], ◌∷◌, ◌++◌, length, set, Some, arith, refl, ap, sym, subst, ◌∙◌, ◌⊎◌, inl, inr, length-append}
+use Rattle.std.proofs.lemmas.Option.{same_Some}
 use Rattle.std.specs.Prelude.{slice_get}
 use Rattle.spec_lists.proofs.Places.{get_push, get_kept}
 use Rattle.cq_trail.specs.StackValue.{StackValue}
@@ -79,7 +78,6 @@ grows_on h h' h'' x x' x'' a b = record {
 
 -- a new cell, on no list yet or before the list of the column
 module _ (heads : List ℕ) (cells : List Cell) (c row first : ℕ) (at : slice_get heads c ≡ Some first) (there : c < length heads) where
-
   count : length (cells ++ record { row = row; older = first } ∷ []) ≡ suc (length cells)
   count = let k = length-append cells (record { row = row; older = first } ∷ []) in omega (arith, k)
 

@@ -1,5 +1,5 @@
 -- The roles that are not looked at stay: no row among them holds the column.
-use Rattle.std.proofs.Common.{◌≡◌, ℕ, ◌<◌, List, [], ◌∷◌, length, true, arith, refl, sym, subst, ◌⊎◌, inl, inr}
+use Rattle.std.proofs.Common.{◌≡◌, ℕ, List, length, refl, sym, subst, inl, inr}
 use Rattle.std.specs.List.{Contains}
 use Rattle.spec_rational.specs.Rational.{ℚ}
 use Rattle.cq_row.specs.Row.{Row}

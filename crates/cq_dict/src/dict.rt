@@ -172,7 +172,13 @@ impl Dict {
         ensures { IfOk result (λ rows. AreTouched self.now.roles c rows.items) }
     {
         let count = self.roles.len();
-        listed(self.alloc, self.heads.as_slice(), self.cells.as_slice(), c, count)
+        listed(
+            self.alloc,
+            self.heads.as_slice(),
+            self.cells.as_slice(),
+            c,
+            count,
+        )
     }
 
     /// Empties the list of a row, which none holds.
@@ -216,7 +222,12 @@ impl Dict {
         ensures room { self.old.room ≤ self.new.room }
         ensures err { OnErr result (self.new.roles ≡ self.old.roles) }
     {
-        hold_changes(&mut self.heads, &mut self.cells, self.roles.as_slice(), &changes)?;
+        hold_changes(
+            &mut self.heads,
+            &mut self.cells,
+            self.roles.as_slice(),
+            &changes,
+        )?;
         write(&mut self.roles, changes)?;
         Ok(())
     }
@@ -399,6 +410,9 @@ impl Undo for Dict {
     }
 
     fn spare(&self) -> usize {
-        self.roles.spare().min(self.restricted.spare()).min(self.heads.spare().min(self.cells.spare()))
+        self.roles
+            .spare()
+            .min(self.restricted.spare())
+            .min(self.heads.spare().min(self.cells.spare()))
     }
 }

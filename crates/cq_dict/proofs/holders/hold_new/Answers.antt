@@ -1,7 +1,7 @@
-use Rattle.std.proofs.Common.{◌≡◌, ◌∙◌, Ok, Err, IfOk, OnOk, Result, sym, subst}
+use Rattle.std.proofs.Common.{◌≡◌, ◌∙◌, sym, subst}
 use Rattle.cq_row.specs.Row.{Row}
 use Rattle.cq_dict.specs.declared.table.Role.TheVariants.{Basic}
-use Rattle.cq_dict.specs.Holders.{Holds, IsListed}
+use Rattle.cq_dict.specs.Holders.{Holds}
 use Rattle.cq_dict.proofs.Written.{on_ok}
 use Rattle.cq_dict.proofs.holders.hold_new.Goals as goal
 

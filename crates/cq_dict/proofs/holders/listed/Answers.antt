@@ -1,13 +1,13 @@
-use Rattle.std.proofs.Common.{nat_eq, ◌≡◌, ◌≤◌, ◌++◌, [], ◌∷◌, ◌-◌, ℕ, Some, arith, sym, subst, inl, inr}
+use Rattle.std.proofs.Common.{nat_eq, ◌≡◌, ◌++◌, [], ◌∷◌, ◌-◌, ℕ, Some, arith, sym, subst, inl, inr}
 use Rattle.std.proofs.lemmas.List.Elements.{Contains-append_left, Contains-push, Contains-push_cases}
 use Rattle.std.proofs.lemmas.List.Filters.{dedup_is}
 use Rattle.std.proofs.lemmas.List.Kept.{Contains-dedup_nat, Contains-from_dedup}
 use Rattle.std.proofs.lemmas.List.Sorted.{Contains-permutation, IsPermutation-sym}
 use Rattle.std.proofs.lemmas.Option.{slice_get-get_or}
-use Rattle.std.specs.List.{Contains, dedup}
+use Rattle.std.specs.List.{Contains}
 use Rattle.std.specs.Prelude.{slice_get, slice_index_or}
 use Rattle.cq_dict.specs.declared.holders.Cell.{Cell}
-use Rattle.cq_dict.specs.Holders.{IsOn, IsListed}
+use Rattle.cq_dict.specs.Holders.{IsOn}
 use Rattle.cq_dict.proofs.Lists.{on_rest, none_on}
 use Rattle.cq_dict.proofs.holders.listed.Goals as goal
 use Rattle.cq_dict.proofs.holders.listed.Goals.{After-dedup}

@@ -1,4 +1,4 @@
-use Rattle.std.proofs.Common.{◌≡◌, ℕ, ◌<◌, ◌≤◌, ◌⊎◌, length}
+use Rattle.std.proofs.Common.{ℕ, ◌<◌, ◌≤◌, ◌⊎◌, length}
 use Rattle.std.specs.List.{Contains}
 use Rattle.cq_dict.specs.Holders.{IsOn, IsListed}
 use Rattle.cq_dict.proofs.holders.listed.Given as goal

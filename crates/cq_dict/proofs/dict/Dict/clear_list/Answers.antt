@@ -12,8 +12,7 @@ set-requires c =
 
 pub invariant_of-self-2 : goal.invariant_of-self-2
 invariant_of-self-2 c =
-    let row = rw (← c.self.view_is) at c.requires in
-    (
+    let row = rw (← c.self.view_is) at c.requires in (
       c.self.invariant.0,
       held_now _ _ _ _ _ _ c.self.invariant.1 refl c.set.ensures.saved refl
           (held_cleared c.self.inside.roles.now c.self.inside.heads.now c.set.new.self.now c.self.inside.cells.now c.args.r row.0 c.self.invariant.0.now.table row.1 c.in_ok-set.ensures.ok c.self.invariant.1.now),

@@ -8,7 +8,7 @@ pub touched-requires : goal.touched-requires
 touched-requires c = λ t. at_below c.args.self.now.roles c.args.c Live (role_live c.args.self.now.roles c.args.c c.requires)
 
 pub changes-requires-clause-rows : goal.changes-requires-clause-rows
-changes-requires-clause-rows c = subst (λ l. AreTouched l c.args.c c.deref.result.now) (sym c.roles.ensures.value) (subst (AreTouched c.args.self.now.roles c.args.c) (sym c.deref.ensures) c.in_ok-rows.ensures)
+changes-requires-clause-rows c = subst (λ l. AreTouched l c.args.c c.deref.result.now) (sym c.roles.ensures.value) (subst (AreTouched c.args.self.now.roles c.args.c) (sym c.deref.ensures.value) c.in_ok-rows.ensures)
 
 pub write-requires-clause-within : goal.write-requires-clause-within
 write-requires-clause-within c = λ d h. subst (λ l. d.at < length l) c.roles.ensures.value (c.in_ok-changes.ensures.within d h)

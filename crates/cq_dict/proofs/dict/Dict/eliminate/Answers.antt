@@ -14,7 +14,7 @@ pub touched-requires : goal.touched-requires
 touched-requires c = λ t. held_below c.args.self.now.roles c.requires.own c.args.c (t.rows c.args.r c.requires.own c.requires.is_row) (record { quantity = c.args.c; factor = c.requires.factor }, inl c.requires.in_row, refl)
 
 pub eliminate-requires-clause-rows : goal.eliminate-requires-clause-rows
-eliminate-requires-clause-rows c = subst (λ l. AreTouched l c.args.c c.deref.result.now) (sym c.roles.ensures.value) (subst (AreTouched c.args.self.now.roles c.args.c) (sym c.deref.ensures) c.in_ok-rows.ensures)
+eliminate-requires-clause-rows c = subst (λ l. AreTouched l c.args.c c.deref.result.now) (sym c.roles.ensures.value) (subst (AreTouched c.args.self.now.roles c.args.c) (sym c.deref.ensures.value) c.in_ok-rows.ensures)
 
 pub write-requires-clause-within : goal.write-requires-clause-within
 write-requires-clause-within c = λ d h. subst (λ l. d.at < length l) (c.roles.ensures.value ∙ sym c.clear_list.ensures.roles) (c.in_ok-changes.ensures.within d h)

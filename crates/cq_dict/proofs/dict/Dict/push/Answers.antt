@@ -1,4 +1,4 @@
-use Rattle.std.proofs.Common.{◌≡◌, ◌∙◌, ◌++◌, ◌∷◌, [], arith, refl, ap, sym, subst, length, length-append}
+use Rattle.std.proofs.Common.{◌≡◌, ◌∙◌, ◌++◌, ◌∷◌, [], arith, refl, ap, subst, length, length-append}
 use Rattle.cq_dict.specs.Holders.{IsListed, AreHeld}
 use Rattle.cq_dict.proofs.Held.{held_now, held_grows, held_pushed, pushed_below}
 use Rattle.cq_dict.proofs.Marks.{marked}
@@ -23,8 +23,7 @@ invariant_of-self c =
 pub invariant_of-self-in_err-reserve_places : goal.invariant_of-self-in_err-reserve_places
 invariant_of-self-in_err-reserve_places c =
     let k = goal.at.invariant_of-self-in_err-reserve_places c in
-    let g = c.hold_new.ensures.grows in
-    (
+    let g = c.hold_new.ensures.grows in (
       marked c.self.invariant.0 c.reserve_places.ensures.saved refl (rw c.reserve_places.ensures.now c.self.invariant.0.now),
       held_now _ _ _ _ _ _ c.self.invariant.1 c.reserve_places.ensures.saved g.heads_saved g.cells_saved (rw c.reserve_places.ensures.now (held k.After-hold_new)),
     )
@@ -32,8 +31,7 @@ invariant_of-self-in_err-reserve_places c =
 pub invariant_of-self-in_err-reserve_places-2 : goal.invariant_of-self-in_err-reserve_places-2
 invariant_of-self-in_err-reserve_places-2 c =
     let k = goal.at.invariant_of-self-in_err-reserve_places-2 c in
-    let g = c.hold_new.ensures.grows in
-    (
+    let g = c.hold_new.ensures.grows in (
       marked c.self.invariant.0 c.reserve_places.ensures.saved refl (rw c.reserve_places.ensures.now c.self.invariant.0.now),
       held_now _ _ _ _ _ _ c.self.invariant.1 c.reserve_places.ensures.saved (c.reserve_places-2.ensures.saved ∙ g.heads_saved) g.cells_saved
           (rw (c.reserve_places.ensures.now, c.reserve_places-2.ensures.now) (held k.After-hold_new)),
@@ -42,8 +40,7 @@ invariant_of-self-in_err-reserve_places-2 c =
 pub invariant_of-self-in_err-push : goal.invariant_of-self-in_err-push
 invariant_of-self-in_err-push c =
     let k = goal.at.invariant_of-self-in_err-push c in
-    let g = c.hold_new.ensures.grows in
-    (
+    let g = c.hold_new.ensures.grows in (
       marked c.self.invariant.0 c.reserve_places.ensures.saved c.push.ensures.saved (rw (c.reserve_places.ensures.now, c.in_err-push.ensures.err) c.self.invariant.0.now),
       held_now _ _ _ _ _ _ c.self.invariant.1 c.reserve_places.ensures.saved (c.reserve_places-2.ensures.saved ∙ g.heads_saved) g.cells_saved
           (rw (c.reserve_places.ensures.now, c.reserve_places-2.ensures.now) (held k.After-hold_new)),
@@ -55,8 +52,7 @@ invariant_of-self-2 c =
     let g = c.hold_new.ensures.grows in
     let heads : c.push-2.new.self.now ≡ c.hold_new.new.heads.now ++ 0 ∷ [] = rw (c.unwrap.ensures, c.reserve_places-2.ensures.now) at c.push-2.ensures.ok in
     let roles : c.push-3.new.self.now ≡ c.self.inside.roles.now ++ c.args.role ∷ [] = rw (c.unwrap-2.ensures, c.reserve_places.ensures.now) at c.push-3.ensures.ok in
-    let flags : c.push.new.self.now ≡ c.self.inside.restricted.now ++ c.args.restricted ∷ [] = c.in_ok-push.ensures.ok in
-    (
+    let flags : c.push.new.self.now ≡ c.self.inside.restricted.now ++ c.args.restricted ∷ [] = c.in_ok-push.ensures.ok in (
       marked c.self.invariant.0 (c.push-3.ensures.saved ∙ c.reserve_places.ensures.saved) c.push.ensures.saved (record {
         table = rw roles (rw (← c.self.view_is) at c.requires);
         flags = omega (arith, ap length roles, ap length flags, length-append c.self.inside.roles.now (c.args.role ∷ []), length-append c.self.inside.restricted.now (c.args.restricted ∷ []), c.self.invariant.0.now.flags);
