@@ -3,6 +3,8 @@ pub mod Steps
 pub mod Joined
 pub mod Drops
 pub mod Looks
+pub mod Rays
+pub mod Blocked
 pub mod Opens
 pub mod Storing
 pub mod Fixed

@@ -245,27 +245,28 @@ at_zero old flags q mid carried v max r forms l s h =
     (subst (λ w. w ≤ℚ 0ℚ) (greatest_constant old mid flags q v max own.0 own.1) h)
 
 -- ---- a column
-module _ (old : List Role) (flags : List Bool) (c : ℕ) (live : is_live old c ≡ true) where
-  unit_high : (b : Bool) → IsNotNegative (when b 1ℚ +ℚ 0ℚ)
-  unit_high true = subst IsNotNegative (ring [] (int (pos 1)) (int (pos 1) ⊕ int (pos 0)) refl) (pos_nonneg pos_one)
-  unit_high false = subst IsNotNegative (ring [] (int (pos 0)) (int (pos 0) ⊕ int (pos 0)) refl) nonneg_zero
+unit_high : (b : Bool) → IsNotNegative (when b 1ℚ +ℚ 0ℚ)
+unit_high true = subst IsNotNegative (ring [] (int (pos 1)) (int (pos 1) ⊕ int (pos 0)) refl) (pos_nonneg pos_one)
+unit_high false = subst IsNotNegative (ring [] (int (pos 0)) (int (pos 0) ⊕ int (pos 0)) refl) nonneg_zero
 
+-- each row leaves it room
+pub has_room : (roles : List Role) (flags : List Bool) (c : ℕ) → ((q : ℕ) → LeavesRoom roles flags c q) → (forms : List Linear) → HasRoom (tableau roles flags forms) c
+has_room roles flags c h forms q m r =
+    let a = at_exists roles q m in
+    subst (λ t. IsPositive (row_of q t).constant ⊎ IsNotNegative (factor_of c (row_of q t).live)) (sym (role_is roles q a.0 a.1)) (one a.0 a.1)
+  where
+    one : (t : Role) → IsAt roles q t → IsPositive (row_of q t).constant ⊎ IsNotNegative (factor_of c (row_of q t).live)
+    one Live a = inr (unit_high (nat_eq c q))
+    one Dropped a = inr nonneg_zero
+    one (Basic o) a = elim (h q (o, a) r) [
+      | inl p ↦ inl (subst IsPositive (constant_is roles q o a) p)
+      | inr p ↦ inr (subst IsNotNegative (factor_is roles q o a c ∙ sym (factor_same c o.live)) p)
+    ]
+
+module _ (old : List Role) (flags : List Bool) (c : ℕ) (live : is_live old c ≡ true) where
   -- no restricted row holds it to zero
   pub room_rises : ((q : ℕ) → LeavesRoom old flags c q) → RisesStill old flags c
-  room_rises h forms l s = column_rises (tableau old flags forms) l s.sound c room live
-    where
-      one : (q : ℕ) (t : Role) → IsAt old q t → is_restricted flags q ≡ true → IsPositive (row_of q t).constant ⊎ IsNotNegative (factor_of c (row_of q t).live)
-      one q Live a r = inr (unit_high (nat_eq c q))
-      one q Dropped a r = inr nonneg_zero
-      one q (Basic o) a r = elim (h q (o, a) r) [
-        | inl p ↦ inl (subst IsPositive (constant_is old q o a) p)
-        | inr p ↦ inr (subst IsNotNegative (factor_is old q o a c ∙ sym (factor_same c o.live)) p)
-      ]
-
-      room : HasRoom (tableau old flags forms) c
-      room q m r =
-          let a = at_exists old q m in
-          subst (λ t. IsPositive (row_of q t).constant ⊎ IsNotNegative (factor_of c (row_of q t).live)) (sym (role_is old q a.0 a.1)) (one q a.0 a.1 r)
+  room_rises h forms l s = column_rises (tableau old flags forms) l s.sound c (has_room old flags c h forms) live
 
   -- it is exchanged with a row that does
   module _ (r : ℕ) (b : Blocks old flags c r) (new : List Role) (x : IsExchanged old r c new) (same : SameMeaning old new) (table : AreOverColumns new) where

@@ -10,5 +10,6 @@ pub mod Quantities
 pub mod Asking
 pub mod Dropped
 pub mod Looked
+pub mod Blocked
 pub mod Fixing
 pub mod Restored

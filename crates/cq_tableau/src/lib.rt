@@ -1,6 +1,7 @@
 //! Linear constraints as quantities of a dictionary: named, raised above zero or held to it, looked at, and read off as certificates.
 #![tactic(auto)]
 
+pub mod blocking;
 pub mod dropping;
 pub mod fixing;
 pub mod looking;

@@ -1,20 +1,21 @@
 //! A second look at restricted quantities, where columns were dropped: each is above zero somewhere, or zero everywhere.
 
-ghost use Rattle.std.specs.Prelude.{◌≡◌, ◌≤◌, ℕ, ◌<◌, length, true, IsTrue, IfOk, OnOk, MatchBool, MatchOption};
+ghost use Rattle.std.specs.Prelude.{◌≡◌, ◌≤◌, ℕ, ◌<◌, length, true, IsTrue, IfOk, IfSome, OnOk, MatchBool};
 ghost use Rattle.cq_frac.specs.declared.Pair.{Pair};
 ghost use Rattle.cq_dict.specs.Roles.{AreOverColumns, IsRow, is_live, is_restricted};
 ghost use Rattle.cq_simplex.specs.declared.SimplexFault.TheVariants.{Overflow, Pivots};
 ghost use Rattle.spec_linear.specs.declared.Relation.TheVariants.{Gt};
 ghost use Rattle.cq_tableau.specs.Stored.{IsMemberOf};
-ghost use Rattle.cq_tableau.specs.Looked.{SpeaksOfSome, LooksOn, Blocks, LeavesRoom, IsSeen, RefusesLook, SpendsLook, IsStrict, IsLooked};
+ghost use Rattle.cq_tableau.specs.Blocked.{AreMarked};
+ghost use Rattle.cq_tableau.specs.Looked.{SpeaksOfSome, LooksOn, IsSeen, RefusesLook, SpendsLook, IsStrict, IsLooked};
 
+use crate::blocking::{blocked_columns, blocking_row, rises_freely};
 use crate::dropping::drop_all;
 use crate::names::Name;
 use crate::refuting::relation_of;
 use cq_climb::ascend;
-use cq_dict::dict::{Col, Dict};
+use cq_dict::dict::Dict;
 use cq_form::Constraint;
-use cq_row::entry_at;
 use cq_simplex::{Aim, Max, SimplexFault};
 use cq_trail::Stack;
 use spec_linear::Relation;
@@ -27,40 +28,6 @@ pub enum Seen {
     Rises,
     /// It is zero everywhere.
     Flat,
-}
-
-/// Whether the row has no constant above zero and falls along the column.
-fn blocks(dict: &Dict, q: usize, c: Col) -> bool
-    requires table { AreOverColumns dict.now.roles }
-    requires there { q < length dict.now.roles }
-    ensures { MatchBool result (Blocks dict.now.roles dict.now.restricted c q) (LeavesRoom dict.now.roles dict.now.restricted c q) }
-{
-    if !dict.is_row(q) {
-        return false;
-    }
-    if !dict.is_restricted(q) {
-        return false;
-    }
-    if dict.constant(q).is_positive() {
-        return false;
-    }
-    match entry_at(dict.row(q), c) {
-        Some(entry) => entry.is_negative(),
-        None => false,
-    }
-}
-
-/// A restricted row that holds the column to zero.
-fn blocking_row(dict: &Dict, c: Col) -> Option<usize>
-    requires { AreOverColumns dict.now.roles }
-    ensures { MatchOption result ((q : ℕ) → LeavesRoom dict.now.roles dict.now.restricted c q) (λ q. Blocks dict.now.roles dict.now.restricted c q) }
-{
-    for q in 0..dict.count() {
-        if blocks(dict, q, c) {
-            return Some(q);
-        }
-    }
-    None
 }
 
 /// Looks at a restricted row again: it is maximised, and where it stays zero the columns that hold it there are dropped.
@@ -115,6 +82,79 @@ fn look(dict: &mut Dict, alloc: Global, q: usize, pivots: u64) -> Result<Seen, S
     }
 }
 
+/// What is known at once of a restricted row, where columns without a mark are not held to zero.
+fn row_seen(dict: &Dict, marks: &[bool], q: usize) -> Option<Seen>
+    requires row { IsRow dict.now.roles q }
+    requires flag { is_restricted dict.now.restricted q ≡ true }
+    requires table { AreOverColumns dict.now.roles }
+    requires marked { AreMarked dict.now.roles dict.now.restricted (length dict.now.roles) marks.now }
+    ensures { IfSome result (λ s. IsSeen dict.now.roles dict.now.roles dict.now.restricted q s) }
+{
+    if dict.constant(q).is_positive() {
+        return Some(Seen::Rises);
+    }
+    let row = dict.row(q);
+    if rises_freely(row, marks) {
+        return Some(Seen::Rises);
+    }
+    if row.is_empty() {
+        return Some(Seen::Flat);
+    }
+    None
+}
+
+/// What is known at once of a restricted quantity, where columns without a mark are not held to zero.
+fn seen_already(dict: &Dict, marks: &[bool], q: usize) -> Option<Seen>
+    requires there { q < length dict.now.roles }
+    requires flag { is_restricted dict.now.restricted q ≡ true }
+    requires table { AreOverColumns dict.now.roles }
+    requires marked { AreMarked dict.now.roles dict.now.restricted (length dict.now.roles) marks.now }
+    ensures { IfSome result (λ s. IsSeen dict.now.roles dict.now.roles dict.now.restricted q s) }
+{
+    if dict.is_row(q) {
+        return row_seen(dict, marks, q);
+    }
+    if dict.is_dropped(q) {
+        return Some(Seen::Flat);
+    }
+    if marks[q] {
+        return None;
+    }
+    Some(Seen::Rises)
+}
+
+/// Looks at a restricted quantity again, which is maximised only where the rows do not tell at once. After that the columns that
+/// rows hold to zero are marked anew.
+fn look_first(
+    dict: &mut Dict,
+    alloc: Global,
+    marks: &mut Vec<bool>,
+    q: usize,
+    pivots: u64,
+) -> Result<Seen, SimplexFault>
+    requires there { q < length dict.old.roles }
+    requires flag { is_restricted dict.old.restricted q ≡ true }
+    requires speaks { SpeaksOfSome dict.old.roles dict.old.restricted }
+    requires marked { AreMarked dict.old.roles dict.old.restricted (length dict.old.roles) marks.old.items }
+    ensures looks { OnOk result (LooksOn dict.old.roles dict.new.roles dict.old.restricted) }
+    ensures seen { IfOk result (λ s. IsSeen dict.old.roles dict.new.roles dict.old.restricted q s) }
+    ensures marked { OnOk result (AreMarked dict.new.roles dict.new.restricted (length dict.new.roles) marks.new.items) }
+    ensures flags { dict.new.restricted ≡ dict.old.restricted }
+    ensures saved { dict.new.saved ≡ dict.old.saved }
+    ensures room { dict.old.room ≤ dict.new.room }
+    ensures overflow { (pair : Pair) → result ≡ Err (Overflow pair) → RefusesLook dict.old.roles dict.old.restricted pair }
+    ensures pivots { (n : ℕ) → result ≡ Err (Pivots n) → (n ≡ pivots) × SpendsLook dict.old.roles dict.old.restricted n }
+{
+    // the count's contract is what tells that the roles are a table
+    prove!(q < dict.count());
+    if let Some(seen) = seen_already(dict, marks, q) {
+        return Ok(seen);
+    }
+    let seen = look(dict, alloc, q, pivots)?;
+    *marks = blocked_columns(alloc, dict)?;
+    Ok(seen)
+}
+
 fn is_above(relation: Relation) -> bool
     ensures { MatchBool result (relation ≡ Gt) (relation ≡ Gt → ⊥) }
 {
@@ -151,9 +191,10 @@ pub fn look_again(
     ensures overflow { (pair : Pair) → result ≡ Err (Overflow pair) → RefusesLook dict.old.roles dict.old.restricted pair }
     ensures pivots { (n : ℕ) → result ≡ Err (Pivots n) → (n ≡ pivots) × SpendsLook dict.old.roles dict.old.restricted n }
 {
+    let mut marks = blocked_columns(alloc, dict)?;
     for q in 0..dict.count() {
         if dict.is_restricted(q) {
-            match look(dict, alloc, q, pivots)? {
+            match look_first(dict, alloc, &mut marks, q, pivots)? {
                 Seen::Rises => {}
                 Seen::Flat => {
                     if is_strict(told, names, q) {

@@ -4,7 +4,7 @@ use Rattle.cq_row.specs.Rows.{Has, Lacks, IsRowFrom, everywhere}
 use Rattle.cq_row.proofs.Shifts.{anywhere}
 use Rattle.cq_dict.specs.Roles.{is_live}
 use Rattle.cq_tableau.proofs.Looks.{column_leaves, unflagged_leaves, positive_leaves, lacking_leaves, entry_blocks}
-use Rattle.cq_tableau.proofs.looking.blocks.Goals as goal
+use Rattle.cq_tableau.proofs.blocking.blocks.Goals as goal
 
 pub returns-then-not-is_row : goal.returns-then-not-is_row
 returns-then-not-is_row c = column_leaves c.args.dict.now.roles c.args.dict.now.restricted c.args.c c.args.q c.if-not-is_row.ensures

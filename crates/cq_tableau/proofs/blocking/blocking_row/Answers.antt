@@ -1,6 +1,6 @@
 use Rattle.std.proofs.Common.{arith}
 use Rattle.cq_tableau.proofs.Looks.{one_leaves, all_leave}
-use Rattle.cq_tableau.proofs.looking.blocking_row.Goals as goal
+use Rattle.cq_tableau.proofs.blocking.blocking_row.Goals as goal
 
 pub loop-q-preserved : goal.loop-q-preserved
 loop-q-preserved c =
