@@ -1,5 +1,6 @@
 -- The marks of columns that rows hold to zero, and what is known of a quantity by them.
 use Rattle.std.proofs.Common.{◌≡◌, ℕ, zero, suc, ◌+◌, ◌<◌, ◌≤◌, List, [], ◌∷◌, ◌++◌, length, take, get_or, set, replicate, nat_eq, Bool, true, false, ◌⊎◌, inl, inr, arith, pos, refl, ap, sym, subst, ◌∙◌, length-set, get_or-set_same, get_or-set_other}
+use Rattle.std.proofs.lemmas.List.{get_or_default}
 use Rattle.spec_lists.proofs.Places.{take-next}
 use Rattle.spec_rational.specs.Rational.{ℚ, 0ℚ, 1ℚ, ◌+ℚ◌, ◌*ℚ◌, IsPositive, IsNotNegative, ◌≤ℚ◌, ◌<ℚ◌}
 use Rattle.spec_rational.specs.Sums.{factor_of}
@@ -55,7 +56,7 @@ module _ (old : List Bool) (row : List Entry) (i : ℕ) (m : Entry) (l : i < len
 
   -- an entry whose column is marked
   module _ (there : m.quantity < length mid) where
-    new : List Bool
+    abbrev new : List Bool
     new = set mid m.quantity true
 
     other : (c : ℕ) → IsUnmarked new c → c ≡ m.quantity → ⊥
@@ -73,6 +74,16 @@ module _ (old : List Bool) (row : List Entry) (i : ℕ) (m : Entry) (l : i < len
         | inr k ↦ absurd (other z.quantity u (ap (λ (y : Entry). y.quantity) k))
       ];
     }
+
+-- each entry's column has a place
+pub entry_below : (roles : List Role) (marks : List Bool) → length marks ≡ length roles → (s : List Entry) → IsRowFrom (is_live roles) 0 s → (m : Entry) → Has m s
+    → m.quantity < length marks
+entry_below roles marks size s h m k =
+    subst (λ z. m.quantity < z) (sym size) (at_below roles m.quantity Live (role_live roles m.quantity (entry_live (is_live roles) 0 s h m k)))
+
+-- a column whose mark is read as false
+pub unmarked : (marks : List Bool) (c : ℕ) (d : Bool) → c < length marks → get_or marks c d ≡ false → IsUnmarked marks c
+unmarked marks c d l e = get_or_default marks c true d l ∙ e
 
 -- a row whose entries in a column are not below zero
 column_high : (c : ℕ) (s : List Entry) → ((m : Entry) → Has m s → m.quantity ≡ c → IsNotNegative m.factor) → IsNotNegative (sum_at (unit c) s)
@@ -121,14 +132,8 @@ module _ (roles : List Role) (flags : List Bool) where
     }
 
   -- ---- all of them
-  module _ (marks : List Bool) (t : AreMarked roles flags (length roles) marks) where
-    pub room_left : (c : ℕ) → IsUnmarked marks c → (q : ℕ) → LeavesRoom roles flags c q
-    room_left c u q r f = t.room c q u (at_below roles q (Basic r.0) r.1) r f
-
-    -- each entry's column has a place
-    pub entry_below : (s : List Entry) → IsRowFrom (is_live roles) 0 s → (m : Entry) → Has m s → m.quantity < length marks
-    entry_below s h m k =
-        subst (λ z. m.quantity < z) (sym t.size) (at_below roles m.quantity Live (role_live roles m.quantity (entry_live (is_live roles) 0 s h m k)))
+  pub room_left : (marks : List Bool) → AreMarked roles flags (length roles) marks → (c : ℕ) → IsUnmarked marks c → (q : ℕ) → LeavesRoom roles flags c q
+  room_left marks t c u q r f = t.room c q u (at_below roles q (Basic r.0) r.1) r f
 
   -- ---- a restricted row
   module _ (q : ℕ) (own : Row) (at : IsAt roles q (Basic own)) where

@@ -5,6 +5,10 @@ use Rattle.cq_tableau.proofs.Blocked.{none_marked, one_marked, one_slack, entry_
 use Rattle.cq_tableau.proofs.blocking.blocked_columns.Goals as goal
 use Rattle.cq_tableau.proofs.blocking.blocked_columns.Goals.{then-is_tight, else-is_tight}
 
+pub mark_falling-requires : goal.mark_falling-requires
+mark_falling-requires c =
+    record { there = entry_below c.args.dict.now.roles c.loop-q.marks.items c.loop-q.invariant.size c.row.result.now c.row.ensures.columns }
+
 pub loop-q-preserved : goal.loop-q-preserved
 loop-q-preserved c =
     let roles = c.args.dict.now.roles in
@@ -15,7 +19,7 @@ loop-q-preserved c =
       | then-is_tight w ↦
           let r = w.if-is_tight.ensures in
           subst (AreMarked roles flags (q + 1)) (sym (ap (λ v. v.items) w.marks-is))
-          (one_marked roles flags q mid c.loop-q.invariant r.0 r.1 _ (subst (λ s. MarksFalling mid s _) (w.row.ensures.entries r.0 r.1) w.mark_falling.ensures))
+          (one_marked roles flags q mid c.loop-q.invariant r.0 r.1 w.mark_falling.new.marks.items (subst (λ s. MarksFalling mid s w.mark_falling.new.marks.items) (w.row.ensures.entries r.0 r.1) w.mark_falling.ensures))
       | else-is_tight w ↦
           subst (AreMarked roles flags (q + 1)) (sym (ap (λ v. v.items) w.marks-is)) (one_slack roles flags q mid c.loop-q.invariant w.if-is_tight.ensures)
     ]

@@ -15,13 +15,13 @@ look_first-requires-clause-speaks c =
 
 pub returns-in_err-look_first-clause-overflow : goal.returns-in_err-look_first-clause-overflow
 returns-in_err-look_first-clause-overflow c = λ pair e.
-    let f = search_passed c.from_residual.result c.in_err-look_first.field-0.0 pair c.from_residual.ensures.1 e in
+    let f = search_passed c.from_residual-in_err-look_first.result c.in_err-look_first.field-0.0 pair c.from_residual-in_err-look_first.ensures.1 e in
     then_refuses c.args.dict.now.roles c.loop-q.dict.roles c.args.dict.now.restricted c.loop-q.dict.restricted c.loop-q.invariant.2 c.loop-q.invariant.0 pair
     (c.in_err-look_first.ensures.overflow pair (ap Err f))
 
 pub returns-in_err-look_first-clause-pivots : goal.returns-in_err-look_first-clause-pivots
 returns-in_err-look_first-clause-pivots c = λ n e.
-    let f = search_spent c.from_residual.result c.in_err-look_first.field-0.0 n c.from_residual.ensures.1 e in
+    let f = search_spent c.from_residual-in_err-look_first.result c.in_err-look_first.field-0.0 n c.from_residual-in_err-look_first.ensures.1 e in
     let o = c.in_err-look_first.ensures.pivots n (ap Err f) in (
       o.0,
       then_spends c.args.dict.now.roles c.loop-q.dict.roles c.args.dict.now.restricted c.loop-q.dict.restricted c.loop-q.invariant.2 c.loop-q.invariant.0 n o.1,
@@ -61,7 +61,7 @@ loop-q-preserved c =
               e.flags ∙ i.2,
               e.saved ∙ i.3,
               omega (arith, e.room, i.4),
-              e.tight,
+              e.marked,
             )
           )
       | then-is_restricted+in_ok-look_first+in-Flat+else-is_strict w ↦
@@ -79,7 +79,7 @@ loop-q-preserved c =
               e.flags ∙ i.2,
               e.saved ∙ i.3,
               omega (arith, e.room, i.4),
-              e.tight,
+              e.marked,
             )
           )
       | else-is_restricted w ↦

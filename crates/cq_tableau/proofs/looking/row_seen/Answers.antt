@@ -15,8 +15,7 @@ returns-then-is_positive c =
 
 pub rises_freely-requires : goal.rises_freely-requires
 rises_freely-requires c =
-    let r = c.requires.row in
-    entry_below c.args.dict.now.roles c.args.dict.now.restricted c.args.marks.now c.requires.marked c.row-row.result.now c.row-row.ensures.columns
+    record { there = entry_below c.args.dict.now.roles c.args.marks.now c.requires.marked.size c.row-row.result.now c.row-row.ensures.columns }
 
 pub returns-then-rises_freely : goal.returns-then-rises_freely
 returns-then-rises_freely c =
