@@ -27,7 +27,7 @@ enum Step<'a> {
     Entails(Relation, Products<'a>, i128, bool),
 }
 
-static STEPS: [&[Step]; 20] = [
+static STEPS: [&[Step]; 21] = [
     // x0 >= 1, x1 >= x0 + 2
     &[
         Step::Keeps(Relation::Ge, &[(1, 0)], -1, 0),
@@ -239,6 +239,20 @@ static STEPS: [&[Step]; 20] = [
             &[(1, 1), (2, -1), (5, -1), (1, -1), (2, 1), (5, 1)],
         ),
         Step::Keeps(Relation::Eq, &[(1, 2)], -2, 3),
+    ],
+    // a face beside rows that are zero where their columns are and rise still: x0 + x1 >= 0, and x1 >= x0, which holds x0 to zero
+    &[
+        Step::Keeps(Relation::Ge, &[(1, 0)], 0, 0),
+        Step::Keeps(Relation::Ge, &[(1, 1)], 0, 0),
+        Step::Keeps(Relation::Ge, &[(1, 0), (1, 1)], 0, 0),
+        Step::Keeps(Relation::Gt, &[(-1, 0), (1, 1)], 0, 0),
+        Step::Keeps(Relation::Ge, &[(1, 2)], 0, 0),
+        Step::Keeps(Relation::Ge, &[(-1, 2)], 0, 1),
+        Step::Keeps(Relation::Ge, &[(1, 0), (1, 2)], 0, 0),
+        Step::Entails(Relation::Eq, &[(1, 2)], 0, true),
+        Step::Reaches(&[(1, 0)], 0, None),
+        // x1 =< x0
+        Step::Refuses(Relation::Ge, &[(1, 0), (-1, 1)], 0, &[(8, 1), (4, 1)]),
     ],
 ];
 
