@@ -84,7 +84,7 @@ loop-q-preserved c =
           )
       | else-is_restricted w ↦
           let n : is_restricted old.restricted c.loop-q.q ≡ false = ap (λ f. is_restricted f c.loop-q.q) (sym i.2) ∙ sym c.is_restricted.ensures ∙ w.if-is_restricted.false in
-          subst (λ (d : DictValue). AreSeenBelow told names old (c.loop-q.q + 1) d _) (sym w.dict-is) (
+          subst (λ (d : DictValue). AreSeenBelow told names old (c.loop-q.q + 1) d c.if-is_restricted.marks.items) (sym w.dict-is) (
             subst (λ (s : List Bool). AreSeenBelow told names old (c.loop-q.q + 1) mid s) (sym (ap (λ v. v.items) w.marks-is)) (
               i.0,
               one_more told names old.roles mid.roles mid.roles old.restricted i.0 (looks_same mid.roles old.restricted) c.loop-q.q i.1 (λ forms l s r. apart (is_restricted old.restricted c.loop-q.q) n r),
