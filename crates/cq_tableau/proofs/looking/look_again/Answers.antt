@@ -54,45 +54,45 @@ loop-q-preserved c =
           let new = w.look_first.new.dict in
           let y = subst (LooksOn mid.roles new.roles) i.2 e.looks in
           subst (λ (d : DictValue). AreSeenBelow told names old (c.loop-q.q + 1) d _) (sym w.dict-is) (
-            subst (λ (s : List Bool). AreSeenBelow told names old (c.loop-q.q + 1) new s) (sym (ap (λ v. v.items) w.marks-is)) (
-              then_looks old.roles mid.roles old.restricted mid.restricted i.2 i.0 new.roles e.looks,
-              one_more told names old.roles mid.roles new.roles old.restricted i.0 y c.loop-q.q i.1
-                  (λ forms l s r. inl (then_seen old.roles mid.roles old.restricted mid.restricted i.2 i.0 new.roles c.loop-q.q of_seen.Rises (subst (IsSeen mid.roles new.roles mid.restricted c.loop-q.q) w.in-Rises.is e.seen) forms l s)),
-              e.flags ∙ i.2,
-              e.saved ∙ i.3,
-              omega (arith, e.room, i.4),
-              e.marked,
-            )
+          subst (λ (s : List Bool). AreSeenBelow told names old (c.loop-q.q + 1) new s) (sym (ap (λ v. v.items) w.marks-is)) (
+            then_looks old.roles mid.roles old.restricted mid.restricted i.2 i.0 new.roles e.looks,
+            one_more told names old.roles mid.roles new.roles old.restricted i.0 y c.loop-q.q i.1
+                (λ forms l s r. inl (then_seen old.roles mid.roles old.restricted mid.restricted i.2 i.0 new.roles c.loop-q.q of_seen.Rises (subst (IsSeen mid.roles new.roles mid.restricted c.loop-q.q) w.in-Rises.is e.seen) forms l s)),
+            e.flags ∙ i.2,
+            e.saved ∙ i.3,
+            omega (arith, e.room, i.4),
+            e.marked,
+          )
           )
       | then-is_restricted+in_ok-look_first+in-Flat+else-is_strict w ↦
           let e = w.in_ok-look_first.ensures in
           let new = w.look_first.new.dict in
           let y = subst (LooksOn mid.roles new.roles) i.2 e.looks in
           subst (λ (d : DictValue). AreSeenBelow told names old (c.loop-q.q + 1) d _) (sym w.dict-is) (
-            subst (λ (s : List Bool). AreSeenBelow told names old (c.loop-q.q + 1) new s) (sym (ap (λ v. v.items) w.marks-is)) (
-              then_looks old.roles mid.roles old.restricted mid.restricted i.2 i.0 new.roles e.looks,
-              one_more told names old.roles mid.roles new.roles old.restricted i.0 y c.loop-q.q i.1
-                  (λ forms l s r. inr (
-                    then_seen old.roles mid.roles old.restricted mid.restricted i.2 i.0 new.roles c.loop-q.q of_seen.Flat (subst (IsSeen mid.roles new.roles mid.restricted c.loop-q.q) w.in-Flat.is e.seen) forms l s,
-                    w.if-is_strict.ensures,
-                  )),
-              e.flags ∙ i.2,
-              e.saved ∙ i.3,
-              omega (arith, e.room, i.4),
-              e.marked,
-            )
+          subst (λ (s : List Bool). AreSeenBelow told names old (c.loop-q.q + 1) new s) (sym (ap (λ v. v.items) w.marks-is)) (
+            then_looks old.roles mid.roles old.restricted mid.restricted i.2 i.0 new.roles e.looks,
+            one_more told names old.roles mid.roles new.roles old.restricted i.0 y c.loop-q.q i.1
+                (λ forms l s r. inr (
+                  then_seen old.roles mid.roles old.restricted mid.restricted i.2 i.0 new.roles c.loop-q.q of_seen.Flat (subst (IsSeen mid.roles new.roles mid.restricted c.loop-q.q) w.in-Flat.is e.seen) forms l s,
+                  w.if-is_strict.ensures,
+                )),
+            e.flags ∙ i.2,
+            e.saved ∙ i.3,
+            omega (arith, e.room, i.4),
+            e.marked,
+          )
           )
       | else-is_restricted w ↦
           let n : is_restricted old.restricted c.loop-q.q ≡ false = ap (λ f. is_restricted f c.loop-q.q) (sym i.2) ∙ sym c.is_restricted.ensures ∙ w.if-is_restricted.false in
           subst (λ (d : DictValue). AreSeenBelow told names old (c.loop-q.q + 1) d c.if-is_restricted.marks.items) (sym w.dict-is) (
-            subst (λ (s : List Bool). AreSeenBelow told names old (c.loop-q.q + 1) mid s) (sym (ap (λ v. v.items) w.marks-is)) (
-              i.0,
-              one_more told names old.roles mid.roles mid.roles old.restricted i.0 (looks_same mid.roles old.restricted) c.loop-q.q i.1 (λ forms l s r. apart (is_restricted old.restricted c.loop-q.q) n r),
-              i.2,
-              i.3,
-              i.4,
-              i.5,
-            )
+          subst (λ (s : List Bool). AreSeenBelow told names old (c.loop-q.q + 1) mid s) (sym (ap (λ v. v.items) w.marks-is)) (
+            i.0,
+            one_more told names old.roles mid.roles mid.roles old.restricted i.0 (looks_same mid.roles old.restricted) c.loop-q.q i.1 (λ forms l s r. apart (is_restricted old.restricted c.loop-q.q) n r),
+            i.2,
+            i.3,
+            i.4,
+            i.5,
+          )
           )
     ]
 
