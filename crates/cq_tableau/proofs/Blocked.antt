@@ -1,16 +1,14 @@
 -- The marks of columns that rows hold to zero, and what is known of a quantity by them.
-use Rattle.std.proofs.Common.{◌≡◌, ℕ, zero, suc, ◌+◌, ◌<◌, ◌≤◌, List, [], ◌∷◌, ◌++◌, length, take, get_or, set, replicate, nat_eq, Bool, true, false, ◌⊎◌, inl, inr, arith, pos, refl, ap, sym, subst, ◌∙◌, length-set, get_or-set_same, get_or-set_other}
+use Rattle.std.proofs.Common.{◌≡◌, ℕ, zero, ◌+◌, ◌<◌, ◌≤◌, List, [], ◌∷◌, length, take, get_or, set, nat_eq, Bool, true, false, ◌⊎◌, inl, inr, arith, pos, refl, ap, sym, subst, ◌∙◌, length-set, get_or-set_same, get_or-set_other}
 use Rattle.std.proofs.lemmas.List.{get_or_default}
 use Rattle.spec_lists.proofs.Places.{take-next}
-use Rattle.spec_rational.specs.Rational.{ℚ, 0ℚ, 1ℚ, ◌+ℚ◌, ◌*ℚ◌, IsPositive, IsNotNegative, ◌≤ℚ◌, ◌<ℚ◌}
+use Rattle.spec_rational.specs.Rational.{ℚ, 0ℚ, 1ℚ, ◌*ℚ◌, IsPositive, IsNotNegative, ◌≤ℚ◌, ◌<ℚ◌}
 use Rattle.spec_rational.specs.Sums.{factor_of}
-use Rattle.spec_rational.proofs.Ring.{var, int, ◌⊕◌, ◌⊗◌}
+use Rattle.spec_rational.proofs.Ring.{var, int, ◌⊗◌}
 use Rattle.spec_rational.proofs.Rational.{ring}
 use Rattle.spec_rational.proofs.Sign.{nonneg_zero, nonneg_add}
 use Rattle.spec_rational.proofs.Order.{lt_or_le, lt_to_pos}
-use Rattle.spec_linear.specs.Form.{Linear}
 use Rattle.spec_linear.specs.Solution.{Constraint}
-use Rattle.spec_tableau.specs.Tableau.{IsNothing}
 use Rattle.spec_tableau.proofs.Written.{nothing_is}
 use Rattle.cq_form.specs.Entries.{products_of}
 use Rattle.cq_row.specs.declared.Entry.{Entry}
@@ -20,12 +18,11 @@ use Rattle.cq_row.proofs.Units.{at_unit, same_number}
 use Rattle.cq_row.proofs.Steps.{has_end}
 use Rattle.cq_dict.specs.declared.table.Role.{Role}
 use Rattle.cq_dict.specs.declared.table.Role.TheVariants.{Live, Dropped, Basic}
-use Rattle.cq_dict.specs.Roles.{AreOverColumns, IsAt, IsRow, is_live, is_restricted, constant_at, factor_at, role_at}
+use Rattle.cq_dict.specs.Roles.{AreOverColumns, IsAt, IsRow, is_live, is_restricted}
 use Rattle.cq_dict.specs.DictValue.{DictValue}
-use Rattle.cq_dict.proofs.Roles.{at_below, at_one, constant_is, factor_is, role_is, role_live, equal_or_not}
+use Rattle.cq_dict.proofs.Roles.{at_below, at_one, constant_is, factor_is, role_is, role_live}
 use Rattle.cq_tableau.specs.declared.names.Name.{Name}
-use Rattle.cq_tableau.specs.Forms.{row_of, form_at, tableau}
-use Rattle.cq_tableau.specs.Keeps.{Speaks}
+use Rattle.cq_tableau.specs.Forms.{row_of, tableau}
 use Rattle.cq_tableau.specs.Blocked.{IsSlack, IsUnmarked, MarksFalling, AreMarked, RisesFreely}
 use Rattle.cq_tableau.specs.Looked.{LooksOn, LeavesRoom, RisesStill, IsFlatNow}
 use Rattle.cq_tableau.proofs.Looks.{apart, has_room, restricted_zero, StandBelow}
@@ -39,9 +36,6 @@ AreSeenBelow told names old q d marks =
     × (old.room ≤ d.room) × AreMarked d.roles d.restricted (length d.roles) marks
 
 -- ---- marks along a row
-pub no_marks : (old : List Bool) → MarksFalling old [] old
-no_marks old = record { size = refl; kept = λ c u. u; high = λ m h u. absurd h }
-
 module _ (old : List Bool) (row : List Entry) (i : ℕ) (m : Entry) (l : i < length row) (e : m ≡ get_or row i m) (mid : List Bool) (f : MarksFalling old (take i row) mid) where
   -- an entry that is not below zero
   pub high_next : IsNotNegative m.factor → MarksFalling old (take (i + 1) row) mid
@@ -110,9 +104,6 @@ module _ (roles : List Role) (flags : List Bool) where
   -- ---- the quantities below a number
   last : (n q : ℕ) → q < n + 1 → (q < n) ⊎ (q ≡ n)
   last n q l = grind arith
-
-  pub none_marked : (marks : List Bool) → length marks ≡ length roles → AreMarked roles flags 0 marks
-  none_marked marks size = record { size = size; room = λ c q u l. absurd (omega (arith, l)) }
 
   module _ (n : ℕ) (marks : List Bool) (t : AreMarked roles flags n marks) where
     pub one_slack : IsSlack roles flags n → AreMarked roles flags (n + 1) marks

@@ -1,7 +1,6 @@
 use Rattle.std.proofs.Common.{◌≡◌, ◌<◌, ◌≤◌, ◌+◌, ◌∙◌, List, Bool, length, arith, ap, sym, subst}
-use Rattle.std.specs.Prelude.{MatchBool}
-use Rattle.cq_tableau.specs.Blocked.{IsSlack, MarksFalling, AreMarked}
-use Rattle.cq_tableau.proofs.Blocked.{none_marked, one_marked, one_slack, entry_below}
+use Rattle.cq_tableau.specs.Blocked.{MarksFalling, AreMarked}
+use Rattle.cq_tableau.proofs.Blocked.{one_marked, one_slack, entry_below}
 use Rattle.cq_tableau.proofs.blocking.blocked_columns.Goals as goal
 use Rattle.cq_tableau.proofs.blocking.blocked_columns.Goals.{then-is_tight, else-is_tight}
 

@@ -3,7 +3,7 @@ use Rattle.std.specs.Bool.{OnFalse}
 use Rattle.spec_rational.specs.Rational.{IsNotNegative}
 use Rattle.cq_row.proofs.Steps.{has_at}
 use Rattle.cq_tableau.specs.Blocked.{MarksFalling}
-use Rattle.cq_tableau.proofs.Blocked.{no_marks, high_next, marked_next}
+use Rattle.cq_tableau.proofs.Blocked.{high_next, marked_next}
 use Rattle.cq_tableau.proofs.blocking.mark_falling.Goals as goal
 use Rattle.cq_tableau.proofs.blocking.mark_falling.Goals.{then-is_negative, else-is_negative}
 
