@@ -8,14 +8,13 @@ ghost use Rattle.tests_settle.specs.Next.{IsNext};
 ghost use Rattle.tests_settle.specs.declared.steps.Step.{Step};
 
 use crate::scenes::End::{self, Free, Value};
-use crate::scenes::{Act, PRODUCT_IS_SIX, are_ends, steps_of};
+use crate::scenes::{Act, PRODUCT_IS_SIX, Stage, are_ends, set_up};
 use crate::steps::Way::{Equating, Telling};
 use crate::steps::{Step, take_step, tell};
 use crate::terms::Part::{N, X, Y, Z};
 use crate::terms::Side::{Both, Is};
-use crate::terms::{Told, blank_world, terms_of};
+use crate::terms::Told;
 use cq_atoms::{Atom, Atoms};
-use cq_rest::new_worlds_are_ready;
 use cq_trail::Undo;
 use cq_world::World;
 use std::alloc::Global;
@@ -134,11 +133,12 @@ fn each_leads_to(
 }
 
 fn offers(alloc: Global, choice: &Choice) -> Result<bool, Fail> {
-    let mut world = blank_world(alloc, 3)?;
     let mut atoms = Atoms::new(alloc);
-    let told = terms_of(&mut world.heap, &mut atoms, choice.told)?;
-    let steps = steps_of(&mut world.heap, &mut atoms, choice.ways)?;
-    new_worlds_are_ready();
+    let Stage {
+        mut world,
+        told,
+        steps,
+    } = set_up(alloc, &mut atoms, choice.told, choice.ways)?;
     let mut woken = Vec::new(alloc);
     let kept = tell(&mut world, &atoms, told, &mut woken)?;
     Ok(kept && each_leads_to(&mut world, &atoms, &steps, choice.ends, &mut woken)?)

@@ -11,3 +11,5 @@ mod scenes;
 mod steps;
 #[cfg(test)]
 mod terms;
+#[cfg(test)]
+mod undone;

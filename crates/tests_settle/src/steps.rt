@@ -18,9 +18,11 @@ use cq_rest::{
 };
 use cq_settle::{Settled, Work, settle};
 use cq_term::{Heap, Newly, TermId, View};
+use cq_trail::Undo;
 use cq_walk::Pair;
 use cq_world::World;
 use std::alloc::{AllocError, Global};
+use std::test::Fail;
 
 /// What is done with a term: it is told, its two arguments are made equal, or its second one sleeps until the first is no
 /// variable.
@@ -216,6 +218,46 @@ pub(crate) fn take_step(
             Ok(true)
         }
     }
+}
+
+/// Whether the branch is kept. Where it isn't, the world is as it was.
+pub(crate) fn attempt(
+    world: &mut World,
+    atoms: &Atoms,
+    step: Step,
+    woken: &mut Vec<Atom>,
+) -> Result<bool, Fail>
+    requires different { AreDifferent atoms.now }
+    requires ready { IsReady atoms.now (now_of world.old) }
+    requires live { step.term < length world.old.heap.now.terms }
+    ensures next { OnOk result (IsNext atoms.now world.old world.new) }
+{
+    let start = world.mark()?;
+    if take_step(world, atoms, step, woken)? {
+        world.forget(start);
+        return Ok(true);
+    }
+    world.undo(start);
+    Ok(false)
+}
+
+/// Which of the steps keep the branch, told behind the others.
+pub(crate) fn attempt_each(
+    world: &mut World,
+    atoms: &Atoms,
+    steps: &[Step],
+    woken: &mut Vec<Atom>,
+    kept: &mut Vec<bool>,
+) -> Result<(), Fail>
+    requires different { AreDifferent atoms.now }
+    requires ready { IsReady atoms.now (now_of world.old) }
+    requires live { All (λ (s : Step). s.term < length world.old.heap.now.terms) steps.now }
+    ensures next { OnOk result (IsNext atoms.now world.old world.new) }
+{
+    for &step in steps {
+        kept.push(attempt(world, atoms, step, woken)?)?;
+    }
+    Ok(())
 }
 
 /// Whether so many constraints and goals wait.
