@@ -363,11 +363,7 @@ static SCENES: [Scene; 28] = [
 
 // ---- scripts
 
-fn steps_of(
-    heap: &mut Heap,
-    atoms: &mut Atoms,
-    acts: &[Act],
-) -> Result<Vec<Step>, AllocError>
+fn steps_of(heap: &mut Heap, atoms: &mut Atoms, acts: &[Act]) -> Result<Vec<Step>, AllocError>
     requires names { KnowsTerms atoms.old heap.old.now.terms }
     requires variables { 3 ≤ length heap.old.now.images }
     ensures live { IfOk result (λ steps. All (λ (s : Step). s.term < length heap.new.now.terms) steps.items) }
