@@ -421,14 +421,14 @@ fn are_named(atoms: &mut Atoms, names: &[Atom], texts: &[&str]) -> Result<bool, 
     Ok(true)
 }
 
-/// Whether these settlings keep the branch, of what is told together and of each step, with these ends.
+/// Whether these settlings keep the branch as the scene says, of what is told together and of each step, with its ends, and as
+/// much waits.
 fn performs(
     world: &mut World,
     atoms: &Atoms,
     told: Vec<TermId>,
     steps: &[Step],
-    wanted: &[bool],
-    ends: &[End; 3],
+    scene: &Scene,
     woken: &mut Vec<Atom>,
 ) -> Result<bool, Fail>
     requires different { AreDifferent atoms.now }
@@ -440,7 +440,8 @@ fn performs(
     let mut kept = Vec::new(world.heap.alloc());
     kept.push(tell(world, atoms, told, woken)?)?;
     attempt_each(world, atoms, steps, woken, &mut kept)?;
-    Ok(kept.as_slice() == wanted && are_ends(&world.heap, ends))
+    let as_said = kept.as_slice() == scene.kept && are_ends(&world.heap, &scene.ends);
+    Ok(as_said && waits(world, scene.waiting)?)
 }
 
 /// A world, and the terms that are told together and the steps that are taken there.
@@ -477,17 +478,8 @@ fn plays(alloc: Global, scene: &Scene) -> Result<bool, Fail> {
         steps,
     } = set_up(alloc, &mut atoms, scene.told, scene.after)?;
     let mut woken = Vec::new(alloc);
-    let well = performs(
-        &mut world,
-        &atoms,
-        told,
-        &steps,
-        scene.kept,
-        &scene.ends,
-        &mut woken,
-    )?;
-    let waiting = waits(&world, scene.waiting)?;
-    Ok(well && waiting && are_named(&mut atoms, &woken, scene.woken)?)
+    let well = performs(&mut world, &atoms, told, &steps, scene, &mut woken)?;
+    Ok(well && are_named(&mut atoms, &woken, scene.woken)?)
 }
 
 #[test]

@@ -55,6 +55,15 @@ pub(crate) fn make_number(
     Ok(id)
 }
 
+/// The term of X, Y or Z by its number.
+fn variable(heap: &Heap, number: usize) -> TermId
+    requires small { number < 3 }
+    requires variables { 3 ≤ length heap.now.now.images }
+    ensures { result < length heap.now.now.terms }
+{
+    heap.var_term(VarId(number))
+}
+
 fn make_part(heap: &mut Heap, atoms: &Atoms, part: Part) -> Result<TermId, AllocError>
     requires names { KnowsTerms atoms.now heap.old.now.terms }
     requires variables { 3 ≤ length heap.old.now.images }
@@ -65,9 +74,9 @@ fn make_part(heap: &mut Heap, atoms: &Atoms, part: Part) -> Result<TermId, Alloc
     ensures names { KnowsTerms atoms.now heap.new.now.terms }
 {
     match part {
-        X => Ok(heap.var_term(VarId(0))),
-        Y => Ok(heap.var_term(VarId(1))),
-        Z => Ok(heap.var_term(VarId(2))),
+        X => Ok(variable(heap, 0)),
+        Y => Ok(variable(heap, 1)),
+        Z => Ok(variable(heap, 2)),
         N(n, d) => make_number(heap, atoms, n, d),
     }
 }
