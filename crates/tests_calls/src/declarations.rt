@@ -119,15 +119,27 @@ fn set_operators(heap: &Heap, atoms: &Atoms, table: &mut Ops, goal: TermId)
     }
 }
 
+/// The same of the goal of a text.
+fn read_and_set(
+    heap: &mut Heap,
+    atoms: &mut Atoms,
+    table: &mut Ops,
+    text: &str,
+) -> Result<(), AllocError>
+    requires names { KnowsTerms atoms.old heap.old.now.terms }
+{
+    match read_clause(heap, atoms, table, text.as_bytes(), 0)? {
+        Read::Clause { term, .. } => set_operators(heap, atoms, table, term),
+        _ => {}
+    }
+    Ok(())
+}
+
 /// Whether foo is a postfix operator after the goal of a text.
 fn foo_is_set(alloc: Global, text: &str) -> Result<bool, AllocError> {
-    let mut heap = Heap::new(alloc);
     let mut atoms = Atoms::new(alloc);
     let mut table = Ops::standard(alloc, &mut atoms)?;
-    match read_clause(&mut heap, &mut atoms, &table, text.as_bytes(), 0)? {
-        Read::Clause { term, .. } => set_operators(&heap, &atoms, &mut table, term),
-        _ => return Ok(false),
-    }
+    read_and_set(&mut Heap::new(alloc), &mut atoms, &mut table, text)?;
     let foo = atoms.intern("foo")?;
     Ok(table.postfix(foo).is_some())
 }
