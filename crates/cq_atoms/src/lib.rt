@@ -92,20 +92,3 @@ pub fn numbers_keep_their_texts()
 pub fn equal_texts_have_equal_numbers()
     ensures { (texts : List Text) (text : Text) → with_text (with_text texts text) text ≡ with_text texts text }
 {}
-
-#[cfg(test)]
-mod tests {
-    use super::*;
-
-    #[test]
-    fn names_are_numbered_by_text(rt: HostRuntime) -> Result<(), AllocError> {
-        let mut atoms = Atoms::new(rt.alloc());
-        let foo = atoms.intern("foo")?;
-        let empty = atoms.intern("")?;
-        let accent = atoms.intern("é")?;
-        let again = atoms.intern("foo")?;
-        assert_eq!(rt; foo, again);
-        assert!(rt; foo != empty && foo != accent && empty != accent);
-        Ok(())
-    }
-}

@@ -34,8 +34,7 @@ use Rattle.cq_begin.specs.declared.beginning.Begun.{Begun}
 use Rattle.cq_begin.specs.declared.beginning.Begun.TheVariants.{Goes, Pruned}
 use Rattle.cq_begin.specs.Begun.{calls, IfGoes, IfPruned, HasWoken, IsPlacedAs, IsBegun, OfWork, GoesOn, Prunes}
 use Rattle.cq_steps.proofs.Added.{tree_is}
-use Rattle.cq_steps.proofs.Reading.{read_live}
-use Rattle.cq_begin.proofs.Reading.{tree_read}
+use Rattle.cq_steps.proofs.Reading.{read_live, tree_read}
 use Rattle.cq_begin.proofs.Woken.{woken_calls, calls_fit, calls_are}
 
 -- ---- the values that are fixed

@@ -44,7 +44,7 @@ use Rattle.cq_begin.specs.Begun.{IfGoes, IfPruned, OfWork, IsPlacedAs, IsBegun, 
 use Rattle.cq_begin.specs.Calls.{body_cells, IsCallOf, OfClause, ClauseComes}
 use Rattle.cq_begin.proofs.Newer.{branch_more, read_still}
 use Rattle.cq_steps.proofs.Added.{tree_is}
-use Rattle.cq_begin.proofs.Reading.{tree_read}
+use Rattle.cq_steps.proofs.Reading.{tree_read}
 
 put_fits : (n t height : ℕ) (b : Bool) (cs : List Cell) → height ≤ n → Fits height cs → Fits n (put_cell b t height ∷ cs)
 put_fits n t height true cs l f = (l, f)

@@ -1,4 +1,3 @@
-mod Reading
 mod Woken
 mod Begins
 mod Leading

@@ -24,8 +24,7 @@ use Rattle.cq_world.specs.Rest.{IsReadThrough, IsAtRest, IsReadyAs}
 use Rattle.cq_world.specs.Standing.{Stands, AreRead, IsConstraint, IsSleeper, constraints, goals}
 use Rattle.cq_steps.specs.Worlds.{IsBranch, term_in, with_heap}
 use Rattle.cq_steps.proofs.Added.{tree_is}
-use Rattle.cq_steps.proofs.Reading.{read_live}
-use Rattle.cq_begin.proofs.Reading.{tree_read}
+use Rattle.cq_steps.proofs.Reading.{read_live, tree_read}
 
 module _ (texts : List Text) (old new : Terms) (n : ℕ) (terms : IsPrefix old.terms new.terms) (images : new.images ≡ old.images ++ unbound_from (length old.images) n) where
   pub more_images : length new.images ≡ length old.images + n

@@ -20,7 +20,7 @@ use Rattle.spec_machine.specs.Cells.{Fits, Stack}
 use Rattle.spec_machine.specs.Standing.{AreItems}
 use Rattle.cq_steps.specs.Worlds.{IsBranch, term_in}
 use Rattle.cq_begin.specs.Begun.{calls}
-use Rattle.cq_begin.proofs.Reading.{tree_read}
+use Rattle.cq_steps.proofs.Reading.{tree_read}
 
 -- ---- the items of the branch
 

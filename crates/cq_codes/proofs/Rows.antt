@@ -24,9 +24,6 @@ module _ (k : ElementKind) (v : ℕ) (l : Tree) (p : Parts) (is : p ≡ parts l)
   listed : atom_list_row k (Var v) l ≡ looked (is_variable p.tail) (list_any is_variable p.elements) (is_atom "[]" p.tail) (elements_error k p.elements)
   listed = ap (λ (q : Parts). faults_if (is_variable q.tail || list_any is_variable q.elements) instantiation (faults_if (not (is_atom "[]" q.tail)) (type_error "list" l) (from_elements (Var v) (elements_error k q.elements) q.elements))) (sym is)
 
-  pub open_list : is_variable p.tail ≡ true → atom_list_row k (Var v) l ≡ Faults instantiation
-  open_list o = listed ∙ ap (λ b. looked b (list_any is_variable p.elements) (is_atom "[]" p.tail) (elements_error k p.elements)) o
-
   module _ (o : is_variable p.tail ≡ false) (a : list_any is_variable p.elements ≡ false) where
     pub no_list : is_atom "[]" p.tail ≡ false → atom_list_row k (Var v) l ≡ Faults (type_error "list" l)
     no_list n = listed ∙ (λ i. looked (o i) (a i) (n i) (elements_error k p.elements))

@@ -9,3 +9,7 @@ pub mod Places
 pub mod Eliminated
 pub mod Ends
 pub mod Marks
+pub mod Lists
+pub mod Entries
+pub mod Held
+pub mod Others

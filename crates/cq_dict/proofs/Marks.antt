@@ -1,5 +1,5 @@
 -- The quantities at the marks, place by place.
-use Rattle.std.proofs.Common.{◌≡◌, ℕ, zero, suc, ◌<◌, List, [], ◌∷◌, ◌++◌, length, Bool, Some, refl, ap, ap₂, take, arith, inl, inr, length-append, length-take, ◌⊎◌}
+use Rattle.std.proofs.Common.{◌≡◌, ℕ, zero, suc, ◌<◌, List, [], ◌∷◌, ◌++◌, length, Bool, Some, refl, ap, ap₂, take, arith, inl, inr, length-append, length-take}
 use Rattle.std.proofs.lemmas.Option.{none-some, same_Some, slice_get_within}
 use Rattle.std.specs.Prelude.{slice_get}
 use Rattle.spec_lists.proofs.Places.{get_push, get_take}

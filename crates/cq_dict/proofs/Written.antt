@@ -1,5 +1,9 @@
 -- Changes that cover all roles, and the roles that are written by them.
-use Rattle.std.proofs.Common.{◌≡◌, ℕ, zero, suc, ◌+◌, ◌<◌, ◌≤◌, List, [], ◌∷◌, ◌++◌, length, set, arith, refl, ap, sym, subst, ◌∙◌, ◌⊎◌, inl, inr, append_assoc, append-nil, Result, Ok, Err, IfOk}
+use Rattle.std.proofs.Common.{◌≡◌, ℕ, zero, suc, ◌+◌, ◌<◌, ◌≤◌, List, [], ◌∷◌, ◌++◌, length, take, get_or, set, arith, refl, ap, sym, subst, ◌∙◌, ◌⊎◌, inl, inr, append_assoc, append-nil, Result, Ok, Err, IfOk, OnOk}
+use Rattle.std.specs.List.{Contains}
+use Rattle.std.proofs.lemmas.List.{get_or_default}
+use Rattle.spec_lists.proofs.Places.{take-next}
+use Rattle.std.proofs.lemmas.List.Elements.{Contains-push_cases}
 use Rattle.cq_dict.specs.declared.table.Change.{Change}
 use Rattle.cq_dict.specs.declared.table.Role.{Role}
 use Rattle.cq_dict.specs.Roles.{IsAt}
@@ -9,12 +13,6 @@ use Rattle.cq_dict.proofs.Roles.{at_one, at_exists, at_below}
 pub if_ok : {A E : Type 0} (r : Result A E) (P Q : A → Type 0) → ((x : A) → P x → Q x) → IfOk r P → IfOk r Q
 if_ok (Ok x) P Q f h = f x h
 if_ok (Err e) P Q f h = h
-
-below_or : (j i : ℕ) → j < i + 1 → (j < i) ⊎ (j ≡ i)
-below_or zero zero h = inr refl
-below_or zero (suc i) h = inl (omega arith)
-below_or (suc j) zero h = absurd (omega arith)
-below_or (suc j) (suc i) h = elim (below_or j i (omega arith)) [ inl k ↦ inl (omega (arith, k)) | inr e ↦ inr (ap suc e) ]
 
 pub changes_left : (c d : Change) (ds : List Change) → Changes c ds → Changes c (ds ++ d ∷ [])
 changes_left c d [] h = absurd h
@@ -30,37 +28,6 @@ changes_end c d [] (inl e) = inr e
 changes_end c d [] (inr h) = absurd h
 changes_end c d (x ∷ ds) (inl e) = inl (inl e)
 changes_end c d (x ∷ ds) (inr h) = elim (changes_end c d ds h) [ inl k ↦ inl (inr k) | inr e ↦ inr e ]
-
-pub covers_start : (R : ℕ → Role → Role → Type 0) (roles : List Role) (changes : List Change) → changes ≡ [] → Covers R roles 0 changes
-covers_start R roles changes e = record {
-  changed = λ c h. absurd (subst (Changes c) e h);
-  kept = λ j s l a. absurd (omega arith);
-}
-
-module _ (R : ℕ → Role → Role → Type 0) (roles : List Role) (i : ℕ) (changes : List Change) (s : Role) (covers : Covers R roles i changes) (at : IsAt roles i s) where
-  pub covers_more : (t : Role) (more : List Change) → R i s t → more ≡ changes ++ record { at = i; role = t } ∷ [] → Covers R roles (i + 1) more
-  covers_more t more r e = subst (Covers R roles (i + 1)) (sym e) (record {
-    changed = λ c h.
-        elim (changes_end c (record { at = i; role = t }) changes h) [
-          | inl k ↦ covers.changed c k
-          | inr f ↦ subst (λ (z : Change). (u : Role) × IsAt roles z.at u × R z.at u z.role) (sym f) (s, at, r)
-        ];
-    kept = λ j u l a.
-        elim (below_or j i l) [
-          | inl k ↦ elim (covers.kept j u k a) [ inl q ↦ inl q | inr w ↦ inr (w.0, changes_left w.0 (record { at = i; role = t }) changes w.1, w.2) ]
-          | inr f ↦ inr (record { at = i; role = t }, changes_last (record { at = i; role = t }) changes, sym f)
-        ];
-  })
-
-  pub covers_kept : R i s s → Covers R roles (i + 1) changes
-  covers_kept r = record {
-    changed = covers.changed;
-    kept = λ j u l a.
-        elim (below_or j i l) [
-          | inl k ↦ covers.kept j u k a
-          | inr f ↦ let e : s ≡ u = at_one roles i s u at (subst (λ k. IsAt roles k u) f a) in inl (subst (λ k. R k u u) (sym f) (subst (λ z. R i z z) e r))
-        ];
-  }
 
 module _ (R : ℕ → Role → Role → Type 0) (roles : List Role) (i : ℕ) (changes : List Change) (covers : Covers R roles i changes) where
   pub covers_within : (c : Change) → Changes c changes → c.at < length roles
@@ -102,6 +69,54 @@ module _ (R : ℕ → Role → Role → Type 0) (roles : List Role) (i : ℕ) (c
         let l = at_below new j t b in
         let s = at_exists roles j (omega (arith, l, written.size)) in
         (s.0, s.1, related j s.0 t s.1 b)
+
+pub on_ok : {A E : Type 0} (r : Result A E) (P Q : Type 0) → (P → Q) → OnOk r P → OnOk r Q
+on_ok (Ok x) P Q f h = f h
+on_ok (Err e) P Q f h = h
+
+pub if_all_ok : {A E : Type 0} (r : Result A E) (P Q R S : A → Type 0) → ((x : A) → P x → Q x → R x → S x) → IfOk r P → IfOk r Q → IfOk r R → IfOk r S
+if_all_ok (Ok x) P Q R S f h k l = f x h k l
+if_all_ok (Err e) P Q R S f h k l = h
+
+-- ---- the same for the roles of some numbers
+-- each change stands at a role that R lets become so, and each role of these numbers without a change is one that R lets be
+pub record CoversThese (R : ℕ → Role → Role → Type 0) (roles : List Role) (numbers : List ℕ) (changes : List Change) : Type 0 where
+  pub changed : (c : Change) → Changes c changes → (s : Role) × IsAt roles c.at s × R c.at s c.role
+  pub kept : (j : ℕ) (s : Role) → Contains numbers j → IsAt roles j s → (R j s s) ⊎ ((c : Change) × Changes c changes × (c.at ≡ j))
+
+pub these_start : (R : ℕ → Role → Role → Type 0) (roles : List Role) (changes : List Change) → changes ≡ [] → CoversThese R roles [] changes
+these_start R roles changes e = record {
+  changed = λ c h. absurd (subst (Changes c) e h);
+  kept = λ j s l a. let k = l.1 in absurd (omega (arith, k));
+}
+
+module _ (R : ℕ → Role → Role → Type 0) (roles : List Role) (numbers : List ℕ) (i : ℕ) (changes : List Change) (s : Role) (covers : CoversThese R roles numbers changes) (at : IsAt roles i s) where
+  pub these_more : (t : Role) (more : List Change) → R i s t → more ≡ changes ++ record { at = i; role = t } ∷ [] → CoversThese R roles (numbers ++ i ∷ []) more
+  these_more t more r e = subst (CoversThese R roles (numbers ++ i ∷ [])) (sym e) (record {
+    changed = λ c h.
+        elim (changes_end c (record { at = i; role = t }) changes h) [
+          | inl k ↦ covers.changed c k
+          | inr f ↦ subst (λ (z : Change). (u : Role) × IsAt roles z.at u × R z.at u z.role) (sym f) (s, at, r)
+        ];
+    kept = λ j u l a.
+        elim (Contains-push_cases numbers i j l) [
+          | inl k ↦ elim (covers.kept j u k a) [ inl q ↦ inl q | inr w ↦ inr (w.0, changes_left w.0 (record { at = i; role = t }) changes w.1, w.2) ]
+          | inr f ↦ inr (record { at = i; role = t }, changes_last (record { at = i; role = t }) changes, f)
+        ];
+  })
+
+  pub these_kept : R i s s → CoversThese R roles (numbers ++ i ∷ []) changes
+  these_kept r = record {
+    changed = covers.changed;
+    kept = λ j u l a.
+        elim (Contains-push_cases numbers i j l) [
+          | inl k ↦ covers.kept j u k a
+          | inr f ↦ let e : s ≡ u = at_one roles i s u at (subst (λ k. IsAt roles k u) (sym f) a) in inl (subst (λ k. R k u u) f (subst (λ z. R i z z) e r))
+        ];
+  }
+
+pub take_one : (xs : List ℕ) (i d : ℕ) → i < length xs → take (i + 1) xs ≡ take i xs ++ get_or xs i d ∷ []
+take_one xs i d l = take-next xs i (get_or xs i d) l (get_or_default xs i d (get_or xs i d) l)
 
 -- ---- one change that is written
 pub at_set : (l : List Role) (i : ℕ) (s : Role) (j : ℕ) (t : Role) → i < length l → IsAt (set l i s) j t → ((j ≡ i) × (t ≡ s)) ⊎ ((j ≡ i → ⊥) × IsAt l j t)

@@ -7,6 +7,7 @@ ghost use Rattle.cq_row.specs.Numbers.{IsOver, IsDropped, IsRestored};
 ghost use Rattle.cq_dict.specs.declared.table.Change.{Change};
 ghost use Rattle.cq_dict.specs.declared.table.Role.{Role};
 ghost use Rattle.cq_dict.specs.declared.table.Role.TheVariants.{Basic};
+ghost use Rattle.cq_dict.specs.Holders.{AreTouched};
 ghost use Rattle.cq_dict.specs.Roles.{AreOverColumns};
 ghost use Rattle.cq_dict.specs.Changes.{Changes, IsWritten, had, kind_of, IsTurnedRow, LacksOther, Turned, AreTurned, Turns};
 
@@ -98,16 +99,20 @@ impl Turn {
         self,
         alloc: Global,
         roles: &[Role],
+        rows: &[usize],
         column: usize,
     ) -> Result<Vec<Change>, AllocError>
         requires table { AreOverColumns roles.now }
+        requires rows { AreTouched roles.now column rows.now }
         requires column { had self roles.now column ≡ true }
         ensures within { IfOk result (λ changes. (c : Change) → Changes c changes.items → c.at < length roles.now) }
         ensures turns { IfOk result (λ changes. (new : List Role) → IsWritten roles.now changes.items new → Turns self roles.now column new) }
     {
         let mut changes = Vec::new(alloc);
-        for (i, role) in roles.iter().enumerate() {
-            let next = self.next(alloc, i, role, column)?;
+        for row in rows {
+            let i = *row;
+            prove!(i < roles.len());
+            let next = self.next(alloc, i, &roles[i], column)?;
             if let Some(role) = next {
                 changes.push(Change { at: i, role })?;
             }

@@ -12,16 +12,18 @@ ghost use Rattle.cq_dict.specs.declared.table.Role.{Role};
 ghost use Rattle.cq_dict.specs.declared.table.Role.TheVariants.{Live, Dropped, Basic};
 ghost use Rattle.cq_dict.specs.Changes.{Changes, IsWritten};
 ghost use Rattle.cq_dict.specs.Roles.{IsAt, IsRow, AreOverColumns, is_live, is_dropped as has_dropped, is_restricted as flag_of, HasEntry, IsExchanged, IsEliminated, ChangesKind};
+ghost use Rattle.cq_dict.specs.Holders.{AreTouched};
 ghost use Rattle.cq_dict.specs.Dict.{SameMeaning, AddsRow, DefinesLast, RefusesPivot, RefusesForm, NoPivotPair, NoFormPair};
 
 use crate::columns::Turn;
 use crate::exchange::{eliminate, exchange};
 use crate::form::expressed;
+use crate::holders::{Cell, hold_changes, hold_new, listed};
 use crate::table::{Change, Role, write};
 use cq_frac::{Frac, Refusal};
 use cq_row::Entry;
 use cq_row::rows::Row;
-use cq_trail::{Mark, Trail, Undo};
+use cq_trail::{Mark, Stack, Trail, Undo};
 use std::alloc::{AllocError, Global};
 use std::marker::Model;
 
@@ -39,11 +41,15 @@ pub struct Dict {
     roles: Trail<Role>,
     // apart from the roles, so that to restrict a row is not to write it
     restricted: Trail<bool>,
+    // for each quantity the list of the rows that hold it as a column
+    heads: Trail<usize>,
+    cells: Stack<Cell>,
 }
 
 impl Model for Dict {
     ghost use Rattle.std.specs.Prelude.{min};
     ghost use Rattle.cq_dict.specs.DictValue.{DictValue, AreMarked, saved_quantities};
+    ghost use Rattle.cq_dict.specs.Holders.{AreHeldAtMarks};
 
     ghost Value = { DictValue };
 
@@ -51,10 +57,11 @@ impl Model for Dict {
       roles = d.roles.now;
       restricted = d.restricted.now;
       saved = saved_quantities d.roles.saved d.restricted.saved;
-      room = min d.roles.room d.restricted.room;
+      room = min d.roles.room (min d.restricted.room (min d.heads.room d.cells.room));
     } };
 
-    ghost invariant = { λ d. AreMarked d.roles.now d.restricted.now d.roles.saved d.restricted.saved };
+    ghost invariant = { λ d. AreMarked d.roles.now d.restricted.now d.roles.saved d.restricted.saved
+        × AreHeldAtMarks d.roles.now d.heads.now d.cells.now d.roles.saved d.heads.saved d.cells.saved };
 }
 
 impl Dict {
@@ -70,6 +77,8 @@ impl Dict {
             alloc,
             roles: Trail::new(alloc),
             restricted: Trail::new(alloc),
+            heads: Trail::new(alloc),
+            cells: Stack::new(alloc),
         }
     }
 
@@ -157,6 +166,33 @@ impl Dict {
         self.basic(r).constant()
     }
 
+    /// The column's own number and those of the rows that hold it, and maybe of others, in ascending order.
+    fn touched(&self, c: Col) -> Result<Vec<usize>, AllocError>
+        requires { AreOverColumns self.now.roles → c < length self.now.roles }
+        ensures { IfOk result (λ rows. AreTouched self.now.roles c rows.items) }
+    {
+        let count = self.roles.len();
+        listed(
+            self.alloc,
+            self.heads.as_slice(),
+            self.cells.as_slice(),
+            c,
+            count,
+        )
+    }
+
+    /// Empties the list of a row, which none holds.
+    fn clear_list(&mut self, r: usize) -> Result<(), AllocError>
+        requires { IsRow self.old.roles r }
+        ensures roles { self.new.roles ≡ self.old.roles }
+        ensures flags { self.new.restricted ≡ self.old.restricted }
+        ensures saved { self.new.saved ≡ self.old.saved }
+        ensures room { self.old.room ≤ self.new.room }
+    {
+        self.heads.set(r, 0)?;
+        Ok(())
+    }
+
     /// Puts a role and its flag at the end.
     fn push(&mut self, role: Role, restricted: bool) -> Result<(), AllocError>
         requires { AreOverColumns (self.old.roles ++ role ∷ []) }
@@ -166,8 +202,12 @@ impl Dict {
         ensures room { self.old.room ≤ self.new.room }
         ensures err { OnErr result (quantities_of self.new ≡ quantities_of self.old) }
     {
+        let number = self.roles.len();
+        hold_new(&mut self.heads, &mut self.cells, &role, number)?;
         self.roles.reserve_places(1)?;
+        self.heads.reserve_places(1)?;
         self.restricted.push(restricted)?;
+        self.heads.push(0).unwrap();
         self.roles.push(role).unwrap();
         Ok(())
     }
@@ -182,6 +222,12 @@ impl Dict {
         ensures room { self.old.room ≤ self.new.room }
         ensures err { OnErr result (self.new.roles ≡ self.old.roles) }
     {
+        hold_changes(
+            &mut self.heads,
+            &mut self.cells,
+            self.roles.as_slice(),
+            &changes,
+        )?;
         write(&mut self.roles, changes)?;
         Ok(())
     }
@@ -256,7 +302,9 @@ impl Dict {
         ensures room { self.old.room ≤ self.new.room }
         ensures err { OnErr result (self.new.roles ≡ self.old.roles) }
     {
-        let changes = exchange(self.alloc, self.roles(), r, c)?;
+        let rows = self.touched(c)?;
+        let changes = exchange(self.alloc, self.roles(), &rows, r, c)?;
+        self.clear_list(r)?;
         self.write(changes)?;
         Ok(())
     }
@@ -276,7 +324,9 @@ impl Dict {
         ensures room { self.old.room ≤ self.new.room }
         ensures err { OnErr result (self.new.roles ≡ self.old.roles) }
     {
-        let changes = eliminate(self.alloc, self.roles(), r, c)?;
+        let rows = self.touched(c)?;
+        let changes = eliminate(self.alloc, self.roles(), &rows, r, c)?;
+        self.clear_list(r)?;
         self.write(changes)?;
         Ok(())
     }
@@ -292,7 +342,8 @@ impl Dict {
         ensures room { self.old.room ≤ self.new.room }
         ensures err { OnErr result (self.new.roles ≡ self.old.roles) }
     {
-        let changes = Turn::Dropping.changes(self.alloc, self.roles(), c)?;
+        let rows = self.touched(c)?;
+        let changes = Turn::Dropping.changes(self.alloc, self.roles(), &rows, c)?;
         self.write(changes)?;
         Ok(())
     }
@@ -308,7 +359,8 @@ impl Dict {
         ensures room { self.old.room ≤ self.new.room }
         ensures err { OnErr result (self.new.roles ≡ self.old.roles) }
     {
-        let changes = Turn::Restoring.changes(self.alloc, self.roles(), c)?;
+        let rows = self.touched(c)?;
+        let changes = Turn::Restoring.changes(self.alloc, self.roles(), &rows, c)?;
         self.write(changes)?;
         Ok(())
     }
@@ -330,26 +382,37 @@ impl Undo for Dict {
         self.reserve(1)?;
         let m = self.roles.mark().unwrap();
         self.restricted.mark().unwrap();
+        self.heads.mark().unwrap();
+        self.cells.mark().unwrap();
         Ok(m)
     }
 
     fn undo(&mut self, m: Mark) {
         self.roles.undo(m);
         self.restricted.undo(m);
+        self.heads.undo(m);
+        self.cells.undo(m);
     }
 
     fn forget(&mut self, m: Mark) {
         self.roles.forget(m);
         self.restricted.forget(m);
+        self.heads.forget(m);
+        self.cells.forget(m);
     }
 
     fn reserve(&mut self, n: usize) -> Result<(), AllocError> {
         self.roles.reserve(n)?;
         self.restricted.reserve(n)?;
+        self.heads.reserve(n)?;
+        self.cells.reserve(n)?;
         Ok(())
     }
 
     fn spare(&self) -> usize {
-        self.roles.spare().min(self.restricted.spare())
+        self.roles
+            .spare()
+            .min(self.restricted.spare())
+            .min(self.heads.spare().min(self.cells.spare()))
     }
 }

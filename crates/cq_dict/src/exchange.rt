@@ -12,6 +12,7 @@ ghost use Rattle.cq_dict.specs.declared.table.Role.{Role};
 ghost use Rattle.cq_dict.specs.declared.table.Role.TheVariants.{Basic};
 ghost use Rattle.cq_dict.specs.Roles.{AreOverColumns, HasEntry};
 ghost use Rattle.cq_dict.specs.Changes.{Changes, Covers, IsWritten, IsMoved, RefusesShift, NoShiftPair, Moved, IsSolved, AreMoved, Exchanges, Eliminates};
+ghost use Rattle.cq_dict.specs.Holders.{AreTouched};
 ghost use Rattle.cq_dict.specs.Dict.{RefusesPivot, NoPivotPair};
 
 use crate::columns::Turn;
@@ -54,18 +55,23 @@ fn moved(
 fn all_moved(
     alloc: Global,
     roles: &[Role],
+    rows: &[usize],
     leaving: usize,
     column: usize,
     q: &Row,
     rate: Frac,
 ) -> Result<Vec<Change>, Refusal>
     requires table { AreOverColumns roles.now }
+    requires rows { AreTouched roles.now column rows.now }
     requires solved { IsSolved roles.now leaving column q.now rate }
     ensures covers { IfOk result (λ changes. Covers (Moved leaving column q.now rate) roles.now (length roles.now) changes.items) }
     ensures overflow { (pair : Pair) → result ≡ Err (Refusal.Overflow pair) → RefusesPivot roles.now leaving column pair }
 {
     let mut changes = Vec::new(alloc);
-    for (i, role) in roles.iter().enumerate() {
+    for row in rows {
+        let i = *row;
+        prove!(i < roles.len());
+        let role = &roles[i];
         let next = if i == leaving {
             Some(Role::Live)
         } else if i == column {
@@ -87,10 +93,12 @@ fn all_moved(
 pub fn exchange(
     alloc: Global,
     roles: &[Role],
+    rows: &[usize],
     leaving: usize,
     column: usize,
 ) -> Result<Vec<Change>, Refusal>
     requires table { AreOverColumns roles.now }
+    requires rows { AreTouched roles.now column rows.now }
     requires there { leaving < length roles.now }
     requires entry { HasEntry roles.now leaving column }
     ensures within { IfOk result (λ changes. (c : Change) → Changes c changes.items → c.at < length roles.now) }
@@ -107,17 +115,19 @@ pub fn exchange(
     };
     let rate = quotient(Frac::one(), p)?;
     let q = row.divided(alloc, p)?;
-    all_moved(alloc, roles, leaving, column, &q, rate)
+    all_moved(alloc, roles, rows, leaving, column, &q, rate)
 }
 
 /// The new roles where the two are exchanged and the leaving quantity, a column then, is dropped.
 pub fn eliminate(
     alloc: Global,
     roles: &[Role],
+    rows: &[usize],
     leaving: usize,
     column: usize,
 ) -> Result<Vec<Change>, Refusal>
     requires table { AreOverColumns roles.now }
+    requires rows { AreTouched roles.now column rows.now }
     requires there { leaving < length roles.now }
     requires entry { HasEntry roles.now leaving column }
     ensures within { IfOk result (λ changes. (c : Change) → Changes c changes.items → c.at < length roles.now) }
@@ -125,7 +135,7 @@ pub fn eliminate(
     ensures accepted { OnOk result (NoPivotPair roles.now leaving column) }
     ensures overflow { (pair : Pair) → result ≡ Err (Refusal.Overflow pair) → RefusesPivot roles.now leaving column pair }
 {
-    let changes = exchange(alloc, roles, leaving, column)?;
+    let changes = exchange(alloc, roles, rows, leaving, column)?;
     let turned = Turn::Dropping.after(alloc, changes, leaving)?;
     Ok(turned)
 }

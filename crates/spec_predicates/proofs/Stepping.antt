@@ -116,6 +116,13 @@ module _ (p : Place) (goal : Tree) where
   no_call builtin.SubAtom q ts e cs h = offers_no_call _ cs h
   no_call b q ts e cs h = cc
 
+  -- a goal of a predicate's indicator is an atom or a compound
+  replies : (t : Tree) (q : Predicate) → predicate_named (indicator_of t) ≡ Some q → reply_of p t ≡ reply_by p t (builtin_of (indicator_of t))
+  replies (Var v) q e = cc
+  replies (Number n) q e = cc
+  replies (Name a) q e = refl
+  replies (Compound f ts) q e = refl
+
   by_found : (o : Option Builtin) (q : Predicate) → option_and_then predicate_of o ≡ Some q → reply_of p goal ≡ reply_by p goal o
       → AllRead p.state (arguments goal) → StepsBy q × ((cs : List Clause) → reply_of p goal ≡ Calls cs → ⊥)
   by_found None q e h all = cc
@@ -125,5 +132,5 @@ module _ (p : Place) (goal : Tree) where
       → (o : Stepped) → (Steps p goal o → o ≡ stepped_by p goal (solutions_of q p.state.fresh (arguments goal)))
       × (o ≡ stepped_by p goal (solutions_of q p.state.fresh (arguments goal)) → Steps p goal o)
   called q e r o =
-      let found = by_found (builtin_of (indicator_of goal)) q e refl (arguments_read p.state goal r) in
+      let found = by_found (builtin_of (indicator_of goal)) q e (replies goal q e) (arguments_read p.state goal r) in
       ((λ h. step_once p goal found.1 o _ h found.0), (λ k. subst (Steps p goal) (sym k) found.0))

@@ -309,4 +309,7 @@ module _ (s : List Rung) (db : Database) (st : State) (l : List Constraint) (sam
     reply_by_same t (Some x) = row_same x (arguments t)
 
     pub reply_same : (t : Tree) → SameReply s (reply_of p t) (reply_of q t)
-    reply_same t = reply_by_same t (builtin_of (indicator_of t))
+    reply_same (Var v) = both_raise instantiation
+    reply_same (Number q) = both_raise (type_error "callable" (Number q))
+    reply_same (Name a) = reply_by_same (Name a) (builtin_of (indicator_of (Name a)))
+    reply_same (Compound f ts) = reply_by_same (Compound f ts) (builtin_of (indicator_of (Compound f ts)))

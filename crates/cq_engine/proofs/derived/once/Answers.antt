@@ -12,9 +12,8 @@ use Rattle.cq_engine.specs.Machines.{terms, now, holds}
 use Rattle.cq_engine.proofs.Built.{selected_on, stands_then, reads_on}
 use Rattle.cq_engine.proofs.Kept.{argument_is}
 use Rattle.spec_built.specs.Built.{atom}
-use Rattle.cq_engine.proofs.Over.{tree_read}
 use Rattle.cq_steps.proofs.Done.{length-stack}
-use Rattle.cq_steps.proofs.Reading.{read_live}
+use Rattle.cq_steps.proofs.Reading.{read_live, tree_read}
 use Rattle.cq_engine.specs.Machines.{saved}
 use Rattle.cq_engine.proofs.Kept.{leads_over}
 use Rattle.cq_engine.proofs.derived.once.Goals as goal

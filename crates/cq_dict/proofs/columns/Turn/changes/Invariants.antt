@@ -1,5 +1,7 @@
-use Rattle.cq_dict.specs.Changes.{Covers, Turned}
+use Rattle.std.proofs.Common.{take}
+use Rattle.cq_dict.specs.Changes.{Turned}
+use Rattle.cq_dict.proofs.Written.{CoversThese}
 use Rattle.cq_dict.proofs.columns.Turn.changes.Given as goal
 
-abbrev pub invariant-loop-i : goal.invariant-loop-i
-invariant-loop-i l = Covers (Turned l.fn.self l.fn.column) l.roles l.i l.changes.items
+abbrev pub invariant-loop-row : goal.invariant-loop-row
+invariant-loop-row l = CoversThese (Turned l.fn.self l.fn.column) l.roles (take l.row-index l.rows) l.changes.items

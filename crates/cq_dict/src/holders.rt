@@ -1,0 +1,171 @@
+//! For each column a list of the rows that hold it. Lists grow at their front alone: a row that has lost its entry may
+//! stand on one, and one that holds the column always does.
+
+ghost use Rattle.std.specs.Prelude.{◌≡◌, ◌<◌, ℕ, length, slice_get, Some, IfOk, OnOk};
+ghost use Rattle.std.specs.Bool.{OnTrue};
+ghost use Rattle.std.specs.List.{Contains};
+ghost use Rattle.cq_row.specs.declared.Entry.{Entry};
+ghost use Rattle.cq_row.specs.Row.{Row};
+ghost use Rattle.cq_row.specs.Rows.{everywhere, Has};
+ghost use Rattle.cq_row.specs.Numbers.{IsOver};
+ghost use Rattle.cq_dict.specs.declared.table.Change.{Change};
+ghost use Rattle.cq_dict.specs.declared.table.Role.TheVariants.{Basic};
+ghost use Rattle.cq_dict.specs.Changes.{Changes};
+ghost use Rattle.cq_dict.specs.Holders.{Holds, IsOn, IsListed, AreLists, Grows, AreHeld};
+ghost use Rattle.cq_dict.specs.Roles.{AreOverColumns};
+
+use crate::table::{Change, Role};
+use cq_row::rows::Row;
+use cq_row::{Entry, entry_at};
+use cq_trail::{Stack, Trail};
+use std::alloc::{AllocError, Global};
+
+/// A row on a column's list, and the list that it was put in front of: the number of its newest cell, counted from 1,
+/// or 0 where it was empty.
+#[derive(Clone, Copy, Debug, Drop)]
+pub struct Cell {
+    pub row: usize,
+    pub older: usize,
+}
+
+/// The column's own number and the rows below `count` on its list, in ascending order.
+pub fn listed(
+    alloc: Global,
+    heads: &[usize],
+    cells: &[Cell],
+    column: usize,
+    count: usize,
+) -> Result<Vec<usize>, AllocError>
+    requires lists { AreLists heads.now cells.now }
+    requires there { column < length heads.now }
+    requires column { column < count }
+    ensures within { IfOk result (λ rows. (r : ℕ) → Contains rows.items r → r < count) }
+    ensures own { IfOk result (λ rows. Contains rows.items column) }
+    ensures all { IfOk result (λ rows. (r : ℕ) → r < count → IsListed heads.now cells.now column r → Contains rows.items r) }
+{
+    let mut rows = Vec::new(alloc);
+    rows.push(column)?;
+    let mut list = heads[column];
+    while list > 0 {
+        let cell = cells[list - 1];
+        if cell.row < count {
+            rows.push(cell.row)?;
+        }
+        list = cell.older;
+    }
+    rows.sort_unstable();
+    rows.dedup();
+    Ok(rows)
+}
+
+/// Puts the row on the column's list.
+fn add(
+    heads: &mut Trail<usize>,
+    cells: &mut Stack<Cell>,
+    column: usize,
+    row: usize,
+) -> Result<(), AllocError>
+    requires { column < length heads.old.now }
+    ensures grows { Grows heads.old cells.old heads.new cells.new }
+    ensures listed { OnOk result (IsListed heads.new.now cells.new.now column row) }
+{
+    let older = *heads.get(column);
+    cells.push(Cell { row, older })?;
+    heads.set(column, cells.len())?;
+    Ok(())
+}
+
+/// Whether the role is a row that holds the column.
+fn holds(role: &Role, column: usize) -> bool
+    requires { (own : Row) → role.now ≡ Basic own → IsOver everywhere everywhere own }
+    ensures { OnTrue result ((own : Row) × (role.now ≡ Basic own) × Holds own column) }
+{
+    match role {
+        Role::Basic(row) => {
+            entry_at(row.live(), column).is_some() || entry_at(row.dropped(), column).is_some()
+        }
+        _ => false,
+    }
+}
+
+/// Puts the row of this number on the lists of the entries, but for those on which it is, since it was this role.
+fn hold_entries(
+    heads: &mut Trail<usize>,
+    cells: &mut Stack<Cell>,
+    role: &Role,
+    entries: &[Entry],
+    number: usize,
+) -> Result<(), AllocError>
+    requires role { (own : Row) → role.now ≡ Basic own → IsOver everywhere everywhere own }
+    requires before { (own : Row) (c : ℕ) → role.now ≡ Basic own → Holds own c → IsListed heads.old.now cells.old.now c number }
+    requires columns { (m : Entry) → Has m entries.now → m.quantity < length heads.old.now }
+    ensures grows { Grows heads.old cells.old heads.new cells.new }
+    ensures listed { OnOk result ((m : Entry) → Has m entries.now → IsListed heads.new.now cells.new.now m.quantity number) }
+{
+    for m in entries {
+        if !holds(role, m.quantity) {
+            add(heads, cells, m.quantity, number)?;
+        }
+    }
+    Ok(())
+}
+
+/// Puts the row of this number on the lists of its columns, where it was this role before.
+fn hold_row(
+    heads: &mut Trail<usize>,
+    cells: &mut Stack<Cell>,
+    role: &Role,
+    row: &Row,
+    number: usize,
+) -> Result<(), AllocError>
+    requires role { (own : Row) → role.now ≡ Basic own → IsOver everywhere everywhere own }
+    requires before { (own : Row) (c : ℕ) → role.now ≡ Basic own → Holds own c → IsListed heads.old.now cells.old.now c number }
+    requires columns { (c : ℕ) → Holds row.now c → c < length heads.old.now }
+    ensures grows { Grows heads.old cells.old heads.new cells.new }
+    ensures listed { OnOk result ((c : ℕ) → Holds row.now c → IsListed heads.new.now cells.new.now c number) }
+{
+    hold_entries(heads, cells, role, row.live(), number)?;
+    hold_entries(heads, cells, role, row.dropped(), number)?;
+    Ok(())
+}
+
+/// Puts a new quantity of this number, where it is a row, on the lists of its columns.
+pub fn hold_new(
+    heads: &mut Trail<usize>,
+    cells: &mut Stack<Cell>,
+    role: &Role,
+    number: usize,
+) -> Result<(), AllocError>
+    requires { (own : Row) (c : ℕ) → role.now ≡ Basic own → Holds own c → c < length heads.old.now }
+    ensures grows { Grows heads.old cells.old heads.new cells.new }
+    ensures listed { OnOk result ((own : Row) (c : ℕ) → role.now ≡ Basic own → Holds own c → IsListed heads.new.now cells.new.now c number) }
+{
+    match role {
+        Role::Basic(row) => hold_row(heads, cells, &Role::Live, row, number),
+        _ => Ok(()),
+    }
+}
+
+/// Puts each row among the new roles on the lists of its columns.
+pub fn hold_changes(
+    heads: &mut Trail<usize>,
+    cells: &mut Stack<Cell>,
+    roles: &[Role],
+    changes: &[Change],
+) -> Result<(), AllocError>
+    requires table { AreOverColumns roles.now }
+    requires held { AreHeld roles.now heads.old.now cells.old.now }
+    requires within { (d : Change) → Changes d changes.now → d.at < length roles.now }
+    requires columns { (d : Change) (own : Row) (c : ℕ) → Changes d changes.now → d.role ≡ Basic own → Holds own c → c < length roles.now }
+    ensures grows { Grows heads.old cells.old heads.new cells.new }
+    ensures listed { OnOk result ((d : Change) (own : Row) (c : ℕ) → Changes d changes.now → d.role ≡ Basic own → Holds own c
+        → IsListed heads.new.now cells.new.now c d.at) }
+{
+    for change in changes {
+        if let Role::Basic(row) = &change.role {
+            prove!(change.at < roles.len());
+            hold_row(heads, cells, &roles[change.at], row, change.at)?;
+        }
+    }
+    Ok(())
+}

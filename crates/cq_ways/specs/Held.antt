@@ -1,0 +1,61 @@
+-- What an engine holds, and what is said of it where names are added.
+use Rattle.std.specs.Prelude.{◌≡◌, List}
+use Rattle.std.specs.List.{AllByRecursion}
+use Rattle.spec_lists.specs.Texts.{Text}
+use Rattle.cq_control.specs.Items.{ContinuationsValue}
+use Rattle.cq_control.specs.Open.{AreMarked, open_choices}
+use Rattle.cq_program.specs.Database.{Program, IsProgram}
+use Rattle.cq_term.specs.Trees.{KnowsTerms}
+use Rattle.cq_world.specs.Contents.{Contents}
+use Rattle.cq_world.specs.declared.world.World.{World}
+use Rattle.spec_machine.specs.declared.cell.Cell.{Cell}
+use Rattle.spec_machine.specs.Cells.{Value, Stack}
+use Rattle.cq_steps.specs.declared.alternatives.Alternatives.{Alternatives}
+use Rattle.cq_steps.specs.Choices.{AreOpen}
+use Rattle.cq_steps.specs.Worlds.{value, saved_values, stack}
+
+-- the texts of its names, its choices with the values that they go back to, the oldest value first, and the value now
+pub record Held : Type 0 where
+  pub texts : List Text
+  pub saved : List (Value Contents)
+  pub choices : List Alternatives
+  pub now : Value Contents
+
+-- what these names, this world, these continuations and choices are
+abbrev pub held : List Text → World → ContinuationsValue Cell → List Alternatives → Held
+held texts w lists choices = record { texts = texts; saved = saved_values w lists.saved; choices = choices; now = value w lists.now }
+
+-- its choices, each with the value that it goes back to
+abbrev pub open_of : Held → List (Value Contents × Alternatives)
+open_of h = open_choices h.saved h.choices
+
+-- the same as the definitions see them
+abbrev pub stack_of : Program → Held → Stack Contents
+stack_of v h = stack h.texts v h.saved h.choices
+
+-- a mark of the world for each choice
+abbrev pub HasMarks : Held → Type 0
+HasMarks h = AreMarked h.saved h.choices
+
+-- each name in the images of the world's variables has a text
+abbrev pub KnowsImages : List Text → Contents → Type 0
+KnowsImages texts c = KnowsTerms texts c.heap.images
+
+-- so it is in the world of each choice
+abbrev pub AllKnowImages : List Text → List (Value Contents) → List Alternatives → Type 0
+AllKnowImages texts saved choices = AllByRecursion (λ (c : Value Contents × Alternatives). KnowsImages texts c.0.0) (open_choices saved choices)
+
+-- the names are those of the program, and each choice can be gone on with and knows its names
+pub record IsOver (v : Program) (h : Held) : Type 0 where
+  pub program : IsProgram h.texts v
+  pub choices : AreOpen v h.saved h.choices
+  pub images : AllKnowImages h.texts h.saved h.choices
+
+-- nothing has changed but names that may have been added
+pub record IsAsBefore (old new : Held) : Type 0 where
+  pub now : new.now ≡ old.now
+  pub choices : open_of new ≡ open_of old
+
+-- where each choice could be gone on with, each can be
+abbrev pub StaysOver : Held → Held → Type 0
+StaysOver old new = (v : Program) → IsOver v old → IsOver v new

@@ -1,0 +1,11 @@
+//! Tests of the crates that read and write texts: what no clause says of them.
+#![tactic(auto)]
+
+#[cfg(test)]
+mod lex;
+#[cfg(test)]
+mod ops;
+#[cfg(test)]
+mod read;
+#[cfg(test)]
+mod write;
