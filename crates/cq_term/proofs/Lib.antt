@@ -6,3 +6,4 @@ pub mod Reading
 pub mod Marks
 pub mod Known
 pub mod Named
+pub mod Images

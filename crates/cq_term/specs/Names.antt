@@ -22,3 +22,7 @@ PutsNamesBelow n s t = (v : ℕ) → Occurs v t → HasNamesBelow n (s v)
 -- where each name of the heap's terms is among the first so many, it stays so
 abbrev pub KeepsNames : ℕ → HeapTerms → HeapTerms → Type 0
 KeepsNames n old new = All (HasNamesBelow n) old.terms → All (HasNamesBelow n) new.terms
+
+-- variables have no names but those of terms
+abbrev pub HasNamesOfTerms : HeapTerms → Type 0
+HasNamesOfTerms h = (n : ℕ) → All (HasNamesBelow n) h.terms → All (HasNamesBelow n) h.images

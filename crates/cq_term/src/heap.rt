@@ -5,6 +5,7 @@ ghost use Rattle.spec_terms.specs.Term.{Var, Number, Name, Occurs, with_argument
 ghost use Rattle.spec_rational.specs.Rational.{int_ℚ};
 ghost use Rattle.cq_term.specs.Meaning.{at};
 ghost use Rattle.cq_term.specs.Ground.{IsGround};
+ghost use Rattle.cq_term.specs.Names.{HasNamesOfTerms};
 ghost use Rattle.cq_term.specs.Shown.{view_of, arguments, IsUnbound};
 
 use crate::lists::{Binding, Cell, Lists, unbind, word};
@@ -290,6 +291,14 @@ impl Heap {
         ensures term { at self.now.now.terms result ≡ at self.now.now.images variable.0 }
     {
         self.lists.vars[variable.0]
+    }
+
+    /// Each variable means what some term means, so it has no names but those of terms, now and at each live mark.
+    pub fn names_are_of_terms(&self)
+        ensures now { HasNamesOfTerms self.now.now }
+        ensures saved { All HasNamesOfTerms self.now.saved }
+    {
+        let _lists = &self.lists;
     }
 }
 
