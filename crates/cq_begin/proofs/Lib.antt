@@ -2,7 +2,7 @@ mod Woken
 mod Begins
 mod Leading
 mod Marks
-mod Newer
+pub mod Newer
 pub mod Stopping
 mod Instances
 pub mod Back

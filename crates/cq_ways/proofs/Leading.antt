@@ -40,7 +40,7 @@ use Rattle.cq_steps.specs.Calls.{IsRaised}
 use Rattle.cq_steps.specs.Selecting.{Becomes}
 use Rattle.cq_steps.specs.Worlds.{IsBranch, term_in, with_heap, Placed, Leads, left_at, stack}
 use Rattle.cq_steps.proofs.Added.{tree_is}
-use Rattle.cq_ways.proofs.Newer.{branch_more, read_still}
+use Rattle.cq_begin.proofs.Newer.{branch_more, read_still}
 use Rattle.cq_ways.specs.Calls.{AreRead, row_of}
 use Rattle.cq_ways.specs.Held.{Held, IsOver, KnowsImages, open_of, stack_of}
 use Rattle.cq_ways.proofs.Stacked.{waits_more, place_more}

@@ -1,5 +1,4 @@
 pub mod Named
-pub mod Newer
 pub mod Reread
 pub mod Stacked
 pub mod Newest

@@ -1,0 +1,10 @@
+use Rattle.cq_steps.proofs.Arguments.{argument_reads}
+use Rattle.cq_machine.specs.Machines.{now}
+use Rattle.cq_machine.proofs.control.disjunction.Goals as goal
+
+pub returns-clause-row : goal.returns-clause-row
+returns-clause-row c = λ p behind g s.
+    let m = c.args.m.now in
+    let a = argument_reads m.atoms (now m).0 p.state c.args.goal 0 c.arg-left.result g s.reads c.arg-left.ensures.live c.arg-left.ensures.arg in
+    let b = argument_reads m.atoms (now m).0 p.state c.args.goal 1 c.arg-right.result g s.reads c.arg-right.ensures.live c.arg-right.ensures.arg in
+    c.in_ok-k.ensures.row m.clauses p behind _ _ s.selected a b

@@ -1,0 +1,33 @@
+-- What a selected goal comes to, and what that is in the search.
+use Rattle.std.specs.Prelude.{◌≡◌, ◌<◌, ℕ, List, length, Some, None, ⊤}
+use Rattle.spec_syntax.specs.Trees.{Tree}
+use Rattle.spec_branch.specs.Branch.{Branch}
+use Rattle.spec_search.specs.Replies as reply
+use Rattle.spec_search.specs.Replies.{Place, Reply}
+use Rattle.cq_built.specs.Errors.{error_tree, HasCulprit}
+use Rattle.cq_steps.specs.Worlds.{ReadsAs, Selected, Leads}
+use Rattle.cq_machine.specs.declared.machine.Machine.{Machine}
+use Rattle.cq_machine.specs.declared.step.Step.{Step}
+use Rattle.cq_machine.specs.declared.step.Step.TheVariants.{Goes, Back, Raises, Refuses}
+use Rattle.cq_machine.specs.Machines.{terms, now, holds, database_of}
+
+-- The goal of a number is selected at the place, with this continuation and these branches behind it. A cut in it goes back to
+-- the height.
+pub record IsSelectedAt (m : Machine) (id height rest : ℕ) (p : Place) (behind : List Branch) (goal : Tree) : Type 0 where
+  pub selected : Selected m.atoms (holds m) (now m) height rest p behind
+  pub reads : ReadsAs m.atoms (now m).0 p.state id goal
+  pub database : p.database ≡ database_of m
+
+-- the machine has come to what the reply says
+abbrev pub IsStep : Machine → Step → Place → List Branch → Reply → Type 0
+IsStep m (Goes k) p behind r = Leads m.atoms (holds m) (now m) (Some k) p behind r
+IsStep m Back p behind r = Leads m.atoms (holds m) (now m) None p behind r
+IsStep m (Raises e) p behind r = r ≡ reply.Raises (error_tree m.atoms (terms m) e)
+IsStep m (Refuses pair) p behind r = r ≡ reply.Overflows pair
+
+-- what it goes on with is there, and the culprit of an error
+abbrev pub CanGo : Machine → Step → Type 0
+CanGo m (Goes k) = k < length m.world.second.now
+CanGo m Back = ⊤
+CanGo m (Raises e) = HasCulprit m.atoms (terms m) e
+CanGo m (Refuses pair) = ⊤
