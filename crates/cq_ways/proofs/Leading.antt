@@ -26,6 +26,7 @@ use Rattle.cq_predicates.specs.Given.{over, ways_left, offers as offered}
 use Rattle.cq_predicates.specs.declared.solutions.Solutions as given
 use Rattle.cq_program.specs.Database.{Program}
 use Rattle.cq_term.specs.HeapValue.{Terms}
+use Rattle.cq_term.specs.Names.{HasNamesOfTerms}
 use Rattle.cq_term.specs.Trees.{tree, trees, KnowsTerms}
 use Rattle.cq_unify.specs.Copied.{unbound_from}
 use Rattle.cq_world.specs.Contents.{Contents}
