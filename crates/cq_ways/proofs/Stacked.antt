@@ -1,5 +1,5 @@
 -- Choices leave the same to try where names are added.
-use Rattle.std.proofs.Common.{◌≡◌, ◌<◌, ◌≤◌, ◌⊎◌, inl, inr, ℕ, List, [], ◌∷◌, ◌++◌, length, map, Option, None, Some, refl, sym, ap, ap₂, ◌∙◌, subst, arith}
+use Rattle.std.proofs.Common.{◌≡◌, ◌<◌, ◌≤◌, inl, inr, ℕ, List, [], ◌∷◌, length, map, Option, None, Some, refl, sym, ap, ap₂, subst, arith}
 use Rattle.std.specs.Prelude.{All}
 use Rattle.std.specs.List.{AllByRecursion}
 use Rattle.std.proofs.lemmas.Bool.{cases_lt}
@@ -8,10 +8,10 @@ use Rattle.std.proofs.lemmas.List.Elements.{All-weaker, All-head, All-tail}
 use Rattle.spec_lists.specs.Prefixes.{IsPrefix}
 use Rattle.spec_lists.proofs.Prefixes.{prefix_get_or, prefix_same, prefix_length}
 use Rattle.spec_lists.specs.Texts.{Text}
-use Rattle.spec_terms.specs.Term.{Name, named}
+use Rattle.spec_terms.specs.Term.{Name}
 use Rattle.spec_operators.specs.Operators.{Ops}
 use Rattle.spec_built.specs.Built.{indicator}
-use Rattle.spec_branch.specs.Branch.{State, Branch}
+use Rattle.spec_branch.specs.Branch.{Branch}
 use Rattle.spec_search.specs.Database.{Database}
 use Rattle.spec_search.specs.Replies.{Place}
 use Rattle.spec_search.specs.Search.{Search}
@@ -26,7 +26,6 @@ use Rattle.cq_clauses.specs.declared.procedures.Part.{Part}
 use Rattle.cq_clauses.specs.declared.procedures.Procedure.{Procedure}
 use Rattle.cq_clauses.specs.declared.procedures.Snapshot.{Snapshot}
 use Rattle.cq_clauses.specs.declared.walk.Walk.{Walk}
-use Rattle.cq_control.specs.Open.{open_choices}
 use Rattle.cq_predicates.specs.Given.{CanGoOn, over, ways_left}
 use Rattle.cq_predicates.specs.declared.solutions.Solutions.{Solutions}
 use Rattle.cq_predicates.proofs.Staying.{ways_kept}
@@ -34,16 +33,16 @@ use Rattle.cq_program.specs.Database.{Program, IsProgram, IsCounted, IsKnown, as
 use Rattle.cq_program.specs.Keys.{key_of}
 use Rattle.cq_stored.specs.StoredValue.{ClauseValue}
 use Rattle.cq_term.specs.HeapValue.{HeapValue, Terms}
-use Rattle.cq_term.specs.Meaning.{HeapTerm, blank}
+use Rattle.cq_term.specs.Meaning.{blank}
 use Rattle.cq_term.specs.Names.{HasNamesOfTerms}
 use Rattle.cq_term.specs.Trees.{KnowsTerms}
 use Rattle.cq_term.proofs.Known.{names_more}
 use Rattle.cq_world.specs.Contents.{Contents}
-use Rattle.spec_machine.specs.Cells.{Left, One, Clauses, Ways, Value, Stack}
+use Rattle.spec_machine.specs.Cells.{Left, Clauses, Ways, Value, Stack}
 use Rattle.spec_machine.specs.Standing.{engine, AreBranches, AreWaiting, IsPlace, IsStanding}
 use Rattle.cq_steps.specs.declared.alternatives.Alternatives.{Alternatives}
 use Rattle.cq_steps.specs.declared.alternatives.Alternatives.TheVariants as alternatives
-use Rattle.cq_steps.specs.Choices.{AreOpen, CanBeTried}
+use Rattle.cq_steps.specs.Choices.{CanBeTried}
 use Rattle.cq_steps.specs.Worlds.{IsBranch, term_in, left_of, left_at, stack, Stands}
 use Rattle.cq_ways.specs.Held.{Held, IsOver, AreNamedByTerms, open_of}
 use Rattle.cq_ways.proofs.Named.{branch_named, term_named, known_more}

@@ -1,17 +1,13 @@
-use Rattle.std.proofs.Common.{◌≡◌, ◌∷◌, ◌∙◌, ℕ, List, sym, ap, subst, refl}
-use Rattle.spec_lists.specs.Texts.{Text}
-use Rattle.cq_built.specs.Errors.{CanBeRaised}
-use Rattle.cq_control.specs.Open.{open_choices}
+use Rattle.std.proofs.Common.{◌∷◌, sym, subst}
 use Rattle.cq_predicates.specs.Names.{as_predicate}
 use Rattle.cq_term.specs.Trees.{KnowsTerms}
 use Rattle.cq_world.specs.Contents.{Contents}
 use Rattle.cq_world.specs.Worlds.{now_of}
 use Rattle.spec_machine.specs.Cells.{Value}
 use Rattle.cq_steps.specs.Worlds.{value, saved_values, with_heap}
-use Rattle.cq_steps.specs.declared.alternatives.Alternatives.{Alternatives}
 use Rattle.cq_steps.specs.declared.alternatives.Alternatives.TheVariants.{Barrier, Ways}
-use Rattle.cq_ways.specs.Held.{Held, held, open_of}
-use Rattle.cq_ways.proofs.Calling.{call_leads, stays_over, call_raises, left_open, left_choices, open_with, undone, saved_with}
+use Rattle.cq_ways.specs.Held.{held, open_of}
+use Rattle.cq_ways.proofs.Calling.{call_leads, stays_over, call_raises, left_open, open_with, undone, saved_with}
 use Rattle.cq_ways.proofs.Ending.{over_same}
 use Rattle.cq_ways.proofs.Named.{known_more}
 use Rattle.cq_ways.proofs.calls.call_predicate.Goals as goal
