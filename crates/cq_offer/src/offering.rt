@@ -64,7 +64,7 @@ fn call_on(
         args,
         rest,
     );
-    let _text = m.atoms.text(m.names.truth);
+    m.atoms.text(m.names.truth);
     called
 }
 
