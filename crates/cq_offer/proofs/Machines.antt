@@ -17,7 +17,7 @@ use Rattle.cq_steps.specs.Worlds.{IsBranch, term_in, left_at, Stands}
 use Rattle.cq_machine.specs.Machines.{IsSound, AreNames}
 use Rattle.cq_machine.specs.declared.machine.Machine.{Machine}
 use Rattle.cq_machine.specs.declared.names.Names.{Names}
-use Rattle.cq_ways.specs.Held.{Held, IsOver, IsAsBefore, open_of}
+use Rattle.cq_ways.specs.Held.{Held, IsOver, IsAsBefore}
 use Rattle.cq_offer.specs.Offers.{held_by}
 
 -- a sound machine's choices can be gone on with
