@@ -25,9 +25,9 @@ returns-clause-err c =
     let new : Held = held c.call_predicate-called.new.atoms c.call_predicate-called.new.world.first c.call_predicate-called.new.world.second c.call_predicate-called.new.choices in
     on_err c.call_predicate-called.result
     (λ (b : IsAsBefore (held_by m) new). λ db n current s j.
-      same_stands (held_by m) new b m.clauses db n current s
-      (c.names_may_be_added.ensures.stands new.texts m.clauses (held_by m) c.call_predicate-called.ensures.longer (over_sound m c.requires.sound)
-      c.names_are_of_terms.ensures.choices c.names_are_of_terms.ensures.now db n current s j))
+    same_stands (held_by m) new b m.clauses db n current s
+    (c.names_may_be_added.ensures.stands new.texts m.clauses (held_by m) c.call_predicate-called.ensures.longer (over_sound m c.requires.sound)
+    c.names_are_of_terms.ensures.choices c.names_are_of_terms.ensures.now db n current s j))
     c.call_predicate-called.ensures.err
 
 pub returns-clause-sound : goal.returns-clause-sound
