@@ -1,10 +1,9 @@
 -- The arguments of a goal that reads as itself, all of them, read as themselves.
-use Rattle.std.proofs.Common.{◌≡◌, ◌<◌, ℕ, List, [], ◌∷◌, length, map, Some, ap, ◌∙◌, sym, subst, arith}
+use Rattle.std.proofs.Common.{◌≡◌, ◌<◌, ℕ, List, [], ◌∷◌, length, map, Some, ap, ◌∙◌, sym, subst}
 use Rattle.std.specs.Prelude.{All}
-use Rattle.std.specs.List.{AllZip}
 use Rattle.std.proofs.lemmas.List.Elements.{All-head, All-tail}
 use Rattle.spec_lists.specs.Texts.{Text}
-use Rattle.spec_terms.specs.Term.{Terms, Var, Number, Name, Compound, one, more, list_of, Subst, apply, apply_all, named, named_all}
+use Rattle.spec_terms.specs.Term.{Terms, Var, Number, Name, Compound, one, more, list_of, apply, apply_all, named, named_all}
 use Rattle.spec_syntax.specs.Trees.{Tree}
 use Rattle.spec_builtins.specs.Terms as builtins
 use Rattle.spec_branch.specs.Branch.{State}

@@ -1,5 +1,5 @@
 -- Errors of calls: what they are where names are added, and as replies.
-use Rattle.std.proofs.Common.{◌≡◌, ◌<◌, List, [], length, Bool, true, false, Some, refl, ap, ◌∙◌, subst}
+use Rattle.std.proofs.Common.{◌≡◌, ◌<◌, List, [], length, Bool, true, false, Some, refl, ap, subst}
 use Rattle.spec_lists.specs.Prefixes.{IsPrefix}
 use Rattle.spec_lists.proofs.Prefixes.{prefix_get_or, prefix_within}
 use Rattle.spec_lists.specs.Texts.{Text}
@@ -14,14 +14,13 @@ use Rattle.spec_search.specs.Builtins as builtin
 use Rattle.spec_search.specs.Builtins.{Builtin}
 use Rattle.spec_search.specs.Replies.{Place, Raises, offers, succeeds_if}
 use Rattle.spec_search.specs.Rows.{nth, builtin_reply}
-use Rattle.cq_atoms.specs.Texts.{text_of}
 use Rattle.cq_built.specs.Errors.{culprit_tree, error_tree, indicator_of, type_name, domain_name, action_name, object_name, HasCulprit, IsThere}
 use Rattle.cq_built.specs.declared.errors.Culprit.{Culprit}
 use Rattle.cq_built.specs.declared.errors.Culprit.TheVariants as culprit
 use Rattle.cq_built.specs.declared.errors.BuiltinError.{BuiltinError}
 use Rattle.cq_built.specs.declared.errors.BuiltinError.TheVariants as error
 use Rattle.cq_term.specs.Meaning.{HeapTerm}
-use Rattle.cq_term.specs.Trees.{tree, KnowsTerms}
+use Rattle.cq_term.specs.Trees.{KnowsTerms}
 use Rattle.cq_term.specs.declared.names.Pred.{Pred}
 use Rattle.cq_ways.specs.Calls.{row_of}
 use Rattle.cq_ways.proofs.Named.{tree_named}

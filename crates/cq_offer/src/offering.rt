@@ -52,6 +52,7 @@ fn call_on(
     ensures err { OnErr result (StillStands m.old m.new) }
     ensures sound { IsSound m.new }
     ensures program { HasMoreNames m.old m.new }
+    ensures budget { m.new.world.first.store.pivots ≡ m.old.world.first.store.pivots }
 {
     names_may_be_added();
     more_names_keep_the_table();
@@ -64,7 +65,7 @@ fn call_on(
         args,
         rest,
     );
-    let _text = m.atoms.text(m.names.truth);
+    m.atoms.text(m.names.truth);
     called
 }
 
@@ -86,6 +87,7 @@ pub fn offer(
     ensures err { OnErr result (StillStands m.old m.new) }
     ensures sound { IsSound m.new }
     ensures program { HasMoreNames m.old m.new }
+    ensures budget { m.new.world.first.store.pivots ≡ m.old.world.first.store.pivots }
 {
     let args = arguments_of(&m.world.first.heap, goal)?;
     match call_on(m, predicate, &args, rest) {
