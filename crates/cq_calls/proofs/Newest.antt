@@ -1,5 +1,5 @@
 -- The newest choice, which is of a call, as its clauses are tried.
-use Rattle.std.proofs.Common.{◌≡◌, ◌⊎◌, inl, inr, ℕ, suc, ◌<◌, List, [], ◌∷◌, ◌++◌, length, None, Some, refl, sym, ap, ap₂, ◌∙◌, subst, map, arith, true, length-append, append_assoc}
+use Rattle.std.proofs.Common.{◌≡◌, ◌⊎◌, inl, inr, ℕ, suc, ◌<◌, List, [], ◌∷◌, ◌++◌, length, None, Some, refl, sym, ap, ap₂, ◌∙◌, subst, map, arith, true, length-append}
 use Rattle.std.specs.Prelude.{All, reverse, slice_get}
 use Rattle.std.specs.List.{AllByRecursion, zip}
 use Rattle.std.proofs.lemmas.List.{length-map, length-reverse}
@@ -37,7 +37,7 @@ use Rattle.cq_begin.specs.declared.beginning.Begun.{Begun}
 use Rattle.cq_begin.specs.Begun.{goes_to}
 use Rattle.cq_begin.specs.Calls.{ClauseComes, OfClause}
 use Rattle.cq_begin.specs.Stops.{FaultStops, waiting_in}
-use Rattle.cq_calls.specs.Trying.{IsGone, KeepsWorlds, Leaves, gone, stays, worlds}
+use Rattle.cq_calls.specs.Trying.{IsGone, Leaves, gone, stays}
 use Rattle.cq_calls.proofs.Turns.{ComesBackTo, ready, goal_there, rest_there, comes_with_others, comes_without, refused, taken, came_past, older-all}
 
 abbrev pub Opened : Type 0
@@ -89,25 +89,6 @@ are_left t rest k w x others old new was (stays {c} {older = more} e f) =
     let first : c.0 ≡ w = ap (λ p. p.0) (same-first c (w, x) more others (sym e ∙ was)) in
     let same : more ≡ others = same-others c (w, x) more others (sym e ∙ was) in
     inr (f ∙ ap₂ (λ (z : Value Contents) (l : Opened). (z, alternatives.Clauses t rest k) ∷ l) first same)
-
--- the choices go back to the worlds of before
-pub worlds_left : (t : ℕ) (rest : Walk) (k : ℕ) (w : Value Contents) (x : Alternatives) (others old new : Opened) → old ≡ (w, x) ∷ others → AreLeft t rest k w others new
-    → KeepsWorlds old new
-worlds_left t rest k w x others old new was (inl l) =
-    record { gone = w ∷ []; are = ap worlds was ∙ ap (λ (o : Opened). w ∷ worlds o) (sym l.1) }
-worlds_left t rest k w x others old new was (inr e) = record { gone = []; are = ap worlds was ∙ sym (ap worlds e) }
-
-pub worlds_past : (w : Value Contents) (x : Alternatives) (old new : Opened) → old ≡ (w, x) ∷ new → KeepsWorlds old new
-worlds_past w x old new was = record { gone = w ∷ []; are = ap worlds was }
-
-pub worlds_same : (old new : Opened) → new ≡ old → KeepsWorlds old new
-worlds_same old new e = record { gone = []; are = sym (ap worlds e) }
-
-pub worlds_on : (a b c : Opened) → KeepsWorlds a b → KeepsWorlds b c → KeepsWorlds a c
-worlds_on a b c f g = record {
-  gone = f.gone ++ g.gone;
-  are = f.are ∙ ap (λ (l : List (Value Contents)). f.gone ++ l) g.are ∙ sym (append_assoc f.gone g.gone (worlds c));
-}
 
 -- cut away
 pub cut_away : (t : ℕ) (rest : Walk) (k : ℕ) (old new : Opened) (height : ℕ) → HasNoneLeft true rest → length old ≡ suc height → new ≡ last height old → Leaves t rest k old new

@@ -1,5 +1,5 @@
 -- What becomes of the newest choice as the clauses of its call are tried.
-use Rattle.std.specs.Prelude.{◌≡◌, ℕ, List, ◌∷◌, ◌++◌, map, true, Option, Some, None, ⊤}
+use Rattle.std.specs.Prelude.{◌≡◌, ℕ, List, ◌∷◌, true, Option, Some, None, ⊤}
 use Rattle.cq_clauses.specs.Walks.{HasNoneLeft}
 use Rattle.cq_clauses.specs.declared.walk.Walk.{Walk}
 use Rattle.cq_world.specs.Contents.{Contents}
@@ -26,15 +26,6 @@ pub data Leaves (goal : ℕ) (walk : Walk) (rest : ℕ) (old new : List (Value C
   gone : {c : Value Contents × Alternatives} → HasNoneLeft true walk → old ≡ c ∷ new → Leaves goal walk rest old new
   stays : {c : Value Contents × Alternatives} {older : List (Value Contents × Alternatives)} → old ≡ c ∷ older
       → new ≡ (c.0, Clauses goal walk rest) ∷ older → Leaves goal walk rest old new
-
--- the worlds that choices go back to
-abbrev pub worlds : List (Value Contents × Alternatives) → List (Value Contents)
-worlds choices = map (λ (c : Value Contents × Alternatives). c.0) choices
-
--- the choices go back to the worlds of before, but for the newest, which may be gone
-pub record KeepsWorlds (old new : List (Value Contents × Alternatives)) : Type 0 where
-  pub gone : List (Value Contents)
-  pub are : worlds old ≡ gone ++ worlds new
 
 -- ---- a clause that was tried
 

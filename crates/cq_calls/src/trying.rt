@@ -3,7 +3,7 @@
 ghost use Rattle.std.specs.Prelude.{◌≡◌, ◌<◌, None, IfNone, IfOk, IfErr, OnOk, OnErr};
 ghost use Rattle.cq_atoms.specs.Texts.{AreDifferent};
 ghost use Rattle.cq_begin.specs.Stops.{IsBack, ComesOn, AllStop, still_waiting};
-ghost use Rattle.cq_calls.specs.Trying.{HasLeft, IsGone, IsOfCall, IsTried, KeepsWorlds, Leaves, goes_on};
+ghost use Rattle.cq_calls.specs.Trying.{HasLeft, IsGone, IsOfCall, IsTried, Leaves, goes_on};
 ghost use Rattle.cq_control.specs.Open.{AreMarked, open_choices};
 ghost use Rattle.cq_program.specs.Database.{IsProgram};
 ghost use Rattle.cq_steps.specs.Choices.{AreOpen};
@@ -53,8 +53,6 @@ pub fn try_clauses(
     ensures gone { IfOk result (λ k. IfNone k (IsGone choices.old choices.new)) }
     ensures fewer { OnOk result (still_waiting atoms.now clauses.now world.new.first world.new.second choices.new
         < still_waiting atoms.now clauses.now world.old.first world.old.second choices.old) }
-    ensures worlds { KeepsWorlds (open_choices (saved_values world.old.first world.old.second.saved) choices.old)
-        (open_choices (saved_values world.new.first world.new.second.saved) choices.new) }
     ensures marked { AreMarked (saved_values world.new.first world.new.second.saved) choices.new }
     ensures open { AreOpen clauses.now (saved_values world.new.first world.new.second.saved) choices.new }
     ensures budget { world.new.first.store.pivots ≡ world.old.first.store.pivots }
@@ -104,8 +102,6 @@ fn try_clause(
     ensures left { IfOk result (IsTried goal rest choices.old choices.new) }
     ensures fewer { OnOk result (still_waiting atoms.now clauses.now world.new.first world.new.second choices.new
         < still_waiting atoms.now clauses.now world.old.first world.old.second choices.old) }
-    ensures worlds { KeepsWorlds (open_choices (saved_values world.old.first world.old.second.saved) choices.old)
-        (open_choices (saved_values world.new.first world.new.second.saved) choices.new) }
     ensures marked { AreMarked (saved_values world.new.first world.new.second.saved) choices.new }
     ensures open { AreOpen clauses.now (saved_values world.new.first world.new.second.saved) choices.new }
     ensures budget { world.new.first.store.pivots ≡ world.old.first.store.pivots }

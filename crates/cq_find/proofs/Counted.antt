@@ -58,23 +58,23 @@ gather_count k c (b ∷ bs) =
     [ true ↦ refl | false ↦ ap suc (gather_count k c bs) ]
 
 turn_count : {s t : Search} {e : Event} → Turn s e t → is_selecting (look_at s.branches) ≡ false → length t.branches ≤ length s.branches
-turn_count {s} (keeps look settles) no = omega (arith, ap shown look, shown_all s.branches)
-turn_count {s} (prunes look settles none) no = omega (arith, ap shown look, shown_all s.branches)
-turn_count {s} (hands_on {items = items} {bs = bs} {next = next} {ball = ball} look settles some is) no =
+turn_count {s} (keeps look settles) idle = omega (arith, ap shown look, shown_all s.branches)
+turn_count {s} (prunes look settles none) idle = omega (arith, ap shown look, shown_all s.branches)
+turn_count {s} (hands_on {items = items} {bs = bs} {next = next} {ball = ball} look settles some is) idle =
     omega (arith, ap shown look, shown_all s.branches, handed_count ball items bs next is)
-turn_count {s} (escapes look settles some none) no = omega arith
-turn_count {s} (moves look) no = omega (arith, ap shown look, shown_all s.branches)
-turn_count {s} (collects {k = k} {bs = bs} {c = c} look copy) no = omega (arith, ap shown look, shown_all s.branches, gather_count k c bs)
-turn_count {s} (steps look step) no = (let yes = ap is_selecting look in cc)
-turn_count {s} (catches look step is) no = (let yes = ap is_selecting look in cc)
-turn_count {s} (throws look step none) no = omega arith
-turn_count {s} (answers look) no = omega (arith, ap shown look, shown_all s.branches)
-turn_count {s} (ends look) no = omega arith
+turn_count {s} (escapes look settles some none) idle = omega arith
+turn_count {s} (moves look) idle = omega (arith, ap shown look, shown_all s.branches)
+turn_count {s} (collects {k = k} {bs = bs} {c = c} look copy) idle = omega (arith, ap shown look, shown_all s.branches, gather_count k c bs)
+turn_count {s} (steps look step) idle = (let yes = ap is_selecting look in cc)
+turn_count {s} (catches look step is) idle = (let yes = ap is_selecting look in cc)
+turn_count {s} (throws look step none) idle = omega arith
+turn_count {s} (answers look) idle = omega (arith, ap shown look, shown_all s.branches)
+turn_count {s} (ends look) idle = omega arith
 
 -- where no goal may be selected
 pub quiet_count : {s t : Search} → Quietly 0 s t → length t.branches ≤ length s.branches
 quiet_count at_once = omega arith
-quiet_count (after {s} {t} {u} (inl no) turn q) = omega (arith, turn_count turn no, quiet_count q)
+quiet_count (after {s} {t} {u} (inl idle) turn q) = omega (arith, turn_count turn idle, quiet_count q)
 quiet_count (after (inr few) turn q) = absurd (omega (arith, few))
 
 -- the branch in hand

@@ -19,7 +19,7 @@ use Rattle.cq_begin.specs.declared.beginning.Begun.TheVariants.{Goes, Pruned}
 use Rattle.cq_begin.proofs.Back.{back_still}
 use Rattle.cq_calls.specs.Trying.{Leaves}
 use Rattle.cq_calls.proofs.Budgets.{same_budget}
-use Rattle.cq_calls.proofs.Newest.{Opened, AreLeft, opened_is, is_walk, same-first, open_same, marked_same, arrives_past, fewer_past, open_past, begins_ready, begins_goal, begins_rest, of_content, length-opened, are_left, arrives_left, fewer_wait, open_left, open_still, fault_stops, put_newest, changed_newest, worlds_left, worlds_past, worlds_same}
+use Rattle.cq_calls.proofs.Newest.{Opened, AreLeft, opened_is, is_walk, same-first, open_same, marked_same, arrives_past, fewer_past, open_past, begins_ready, begins_goal, begins_rest, of_content, length-opened, are_left, arrives_left, fewer_wait, open_left, open_still, fault_stops, put_newest, changed_newest}
 use Rattle.cq_calls.proofs.trying.try_clause.Goals as goal
 use Rattle.cq_calls.proofs.trying.try_clause.Goals.{After-back, After-retry, After-height-height, After-clause-clause, After-replace_at}
 
@@ -77,13 +77,6 @@ returns-in_default-clause-budget c =
     same_budget c.args.world.now.first c.args.world.now.second.saved c.args.choices.now (value c.back.new.world.first c.back.new.world.second.now)
     (Clauses c.args.goal c.args.walk c.args.rest) (open_choices (saved_values c.back.new.world.first c.back.new.world.second.saved) c.back.new.self)
     (went_past (goal.at.returns-in_default-clause-budget c).After-back)
-
-pub returns-in_default-clause-worlds : goal.returns-in_default-clause-worlds
-returns-in_default-clause-worlds c =
-    let later = value c.back.new.world.first c.back.new.world.second.now in
-    let fewer = saved_values c.back.new.world.first c.back.new.world.second.saved in
-    worlds_past later (Clauses c.args.goal c.args.walk c.args.rest) (open_choices (saved_values c.args.world.now.first c.args.world.now.second.saved) c.args.choices.now)
-    (open_choices fewer c.back.new.self) (went_past (goal.at.returns-in_default-clause-worlds c).After-back)
 
 -- ---- the next clause is begun
 
@@ -210,15 +203,6 @@ pub returns-in-Goes-clause-budget : goal.returns-in-Goes-clause-budget
 returns-in-Goes-clause-budget c =
     ap (λ (x : Contents). x.pivots) c.leave_untried.ensures.first ∙ c.in-Ok.ensures.budget ∙ same_exchanges (goal.at.returns-in-Goes-clause-budget c).After-retry
 
-pub returns-in-Goes-clause-worlds : goal.returns-in-Goes-clause-worlds
-returns-in-Goes-clause-worlds c =
-    let r = (goal.at.returns-in-Goes-clause-worlds c).After-retry in
-    let fewer = saved_values c.leave_untried.new.world.first c.leave_untried.new.world.second.saved in
-    worlds_left c.args.goal c.step.new.walk c.args.rest (back r) (Clauses c.args.goal c.args.walk c.args.rest) (others r) (open_choices (before r) c.args.choices.now)
-    (open_choices fewer c.leave_untried.new.choices) (was r)
-    (left_then r c.begin_clause.new.world c.begin_clause.new.lists c.in-Ok.ensures.saved c.in-Ok.ensures.lists c.step.new.walk (open_choices fewer c.leave_untried.new.choices)
-    c.leave_untried.ensures.leaves)
-
 -- ---- it is pruned
 
 put_back : (c : After-replace_at) → c.replace_at.new.self ≡ Clauses c.args.goal c.step.new.walk c.args.rest ∷ c.retry.ensures.contents.0
@@ -284,17 +268,6 @@ returns-in-Pruned-clause-open c =
 pub returns-in-Pruned-clause-budget : goal.returns-in-Pruned-clause-budget
 returns-in-Pruned-clause-budget c = c.in-Ok.ensures.budget ∙ same_exchanges (goal.at.returns-in-Pruned-clause-budget c).After-retry
 
-pub returns-in-Pruned-clause-worlds : goal.returns-in-Pruned-clause-worlds
-returns-in-Pruned-clause-worlds c =
-    let r = (goal.at.returns-in-Pruned-clause-worlds c).After-retry in
-    let x = (goal.at.returns-in-Pruned-clause-worlds c).After-replace_at in
-    let saved = saved_values c.begin_clause.new.world c.begin_clause.new.lists.saved in
-    let marked = marked_then r c.begin_clause.new.world c.begin_clause.new.lists c.in-Ok.ensures.saved c.in-Ok.ensures.lists in
-    worlds_left c.args.goal c.step.new.walk c.args.rest (back r) (Clauses c.args.goal c.args.walk c.args.rest) (others r) (open_choices (before r) c.args.choices.now)
-    (open_choices saved c.replace_at.new.self) (was r)
-    (left_then r c.begin_clause.new.world c.begin_clause.new.lists c.in-Ok.ensures.saved c.in-Ok.ensures.lists c.step.new.walk (open_choices saved c.replace_at.new.self)
-    (leaves_others x marked))
-
 -- ---- an error
 
 pub returns-in-Err-clause-err : goal.returns-in-Err-clause-err
@@ -326,10 +299,3 @@ returns-in-Err-clause-open c =
 
 pub returns-in-Err-clause-budget : goal.returns-in-Err-clause-budget
 returns-in-Err-clause-budget c = c.in-Err.ensures.budget ∙ same_exchanges (goal.at.returns-in-Err-clause-budget c).After-retry
-
-pub returns-in-Err-clause-worlds : goal.returns-in-Err-clause-worlds
-returns-in-Err-clause-worlds c =
-    let r = (goal.at.returns-in-Err-clause-worlds c).After-retry in
-    worlds_same (open_choices (before r) c.args.choices.now) (open_choices (saved_values c.begin_clause.new.world c.begin_clause.new.lists.saved) c.retry.new.self)
-    (open_same c.retry.new.world.first c.begin_clause.new.world c.retry.new.world.second.saved c.begin_clause.new.lists.saved c.retry.new.self _ c.in-Err.ensures.saved c.in-Err.ensures.lists
-    (still r) ∙ sym (was r))

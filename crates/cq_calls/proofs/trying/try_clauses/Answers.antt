@@ -1,11 +1,9 @@
 use Rattle.std.proofs.Common.{◌∷◌, Some, None, refl, sym, ap, ◌∙◌, arith}
 use Rattle.cq_clauses.specs.declared.walk.Walk.{Walk}
-use Rattle.cq_control.specs.Open.{open_choices}
-use Rattle.cq_steps.specs.Worlds.{saved_values}
 use Rattle.cq_steps.specs.declared.alternatives.Alternatives.{Alternatives}
 use Rattle.cq_steps.specs.declared.alternatives.Alternatives.TheVariants.{Clauses}
 use Rattle.cq_begin.proofs.Back.{back_still, still_back, comes_then, stops_then}
-use Rattle.cq_calls.proofs.Newest.{newest_on, gone_on, worlds_on, worlds_same}
+use Rattle.cq_calls.proofs.Newest.{newest_on, gone_on}
 use Rattle.cq_calls.proofs.trying.try_clauses.Goals as goal
 
 pub clauses-init : goal.clauses-init
@@ -20,8 +18,6 @@ clauses-init c =
       );
       marked = c.requires.marked;
       are_open = c.requires.open;
-      worlds = worlds_same (open_choices (saved_values c.args.world.now.first c.args.world.now.second.saved) c.args.choices.now)
-          (open_choices (saved_values c.args.world.now.first c.args.world.now.second.saved) c.args.choices.now) refl;
       comes = back_still c.args.atoms.now c.args.clauses.now c.args.world.now.first c.args.world.now.first c.args.world.now.second c.args.world.now.second c.args.choices.now
           c.args.choices.now refl;
       waiting = omega arith;
@@ -46,7 +42,6 @@ clauses-preserved c = record {
   newest = newest_on (rw c.in-Pruned.is at c.in-Ok.ensures.left) c.clauses.invariant.newest;
   marked = c.in-Ok.ensures.marked;
   are_open = c.in-Ok.ensures.open;
-  worlds = worlds_on _ _ _ c.clauses.invariant.worlds c.in-Ok.ensures.worlds;
   comes = comes_then c.args.atoms.now c.args.clauses.now c.args.world.now.first c.clauses.world.first c.args.world.now.second c.clauses.world.second c.args.choices.now c.clauses.choices
       c.clauses.invariant.comes c.try_clause.new.world.first c.try_clause.new.world.second c.try_clause.new.choices None (rw c.in-Pruned.is at c.in-Ok.ensures.comes);
   waiting = omega (arith, c.in-Ok.ensures.fewer, c.clauses.invariant.waiting);
@@ -70,12 +65,3 @@ pub returns-in-Err-clause-stops : goal.returns-in-Err-clause-stops
 returns-in-Err-clause-stops c =
     stops_then c.args.atoms.now c.args.clauses.now c.args.world.now.first c.clauses.world.first c.args.world.now.second c.clauses.world.second c.args.choices.now c.clauses.choices
     c.clauses.invariant.comes c.in-Err.fault c.clauses.invariant.budget c.in-Err.ensures.stops
-
-pub returns-in-Goes-clause-worlds : goal.returns-in-Goes-clause-worlds
-returns-in-Goes-clause-worlds c = worlds_on _ _ _ c.clauses.invariant.worlds c.in-Ok.ensures.worlds
-
-pub returns-in-Ended-clause-worlds : goal.returns-in-Ended-clause-worlds
-returns-in-Ended-clause-worlds c = worlds_on _ _ _ c.clauses.invariant.worlds c.in-Ok.ensures.worlds
-
-pub returns-in-Err-clause-worlds : goal.returns-in-Err-clause-worlds
-returns-in-Err-clause-worlds c = worlds_on _ _ _ c.clauses.invariant.worlds c.in-Err.ensures.worlds

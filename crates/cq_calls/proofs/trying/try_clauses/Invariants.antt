@@ -1,6 +1,5 @@
 use Rattle.std.proofs.Common.{◌≡◌, ◌≤◌, ◌∷◌, List}
-use Rattle.cq_calls.specs.Trying.{KeepsWorlds}
-use Rattle.cq_control.specs.Open.{AreMarked, open_choices}
+use Rattle.cq_control.specs.Open.{AreMarked}
 use Rattle.std.specs.Prelude.{None}
 use Rattle.cq_begin.specs.Stops.{ComesOn, still_waiting}
 use Rattle.cq_steps.specs.Choices.{AreOpen}
@@ -15,8 +14,6 @@ invariant-clauses l =
       newest : (c : Alternatives) × (older : List Alternatives) × (l.fn.choices ≡ c ∷ older) × (l.choices ≡ Clauses l.goal l.walk l.rest ∷ older);
       marked : AreMarked (saved_values l.world.first l.world.second.saved) l.choices;
       are_open : AreOpen l.fn.clauses (saved_values l.world.first l.world.second.saved) l.choices;
-      worlds : KeepsWorlds (open_choices (saved_values l.fn.world.first l.fn.world.second.saved) l.fn.choices)
-          (open_choices (saved_values l.world.first l.world.second.saved) l.choices);
       comes : ComesOn l.fn.atoms l.fn.clauses l.fn.world.first l.fn.world.second l.fn.choices l.world.first l.world.second l.choices None;
       waiting : still_waiting l.fn.atoms l.fn.clauses l.world.first l.world.second l.choices ≤ still_waiting l.fn.atoms l.fn.clauses l.fn.world.first l.fn.world.second l.fn.choices;
       budget : l.world.first.store.pivots ≡ l.fn.world.first.store.pivots;
