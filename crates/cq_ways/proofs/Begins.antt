@@ -47,12 +47,11 @@ use Rattle.cq_steps.proofs.Selected.{continuation_grown}
 use Rattle.cq_begin.specs.Begun.{IsPlacedAs, IsBegun, Prunes}
 use Rattle.cq_begin.specs.Stops.{FaultStops}
 use Rattle.cq_begin.proofs.Stopping.{refuses, takes}
-use Rattle.cq_ways.specs.Held.{Held, IsOver, StaysOver, KnowsImages, open_of}
+use Rattle.cq_ways.specs.Held.{Held, IsOver, StaysOver, AreNamedByTerms, open_of}
 use Rattle.cq_ways.specs.Newest.{IsLeft}
 use Rattle.cq_ways.specs.Trying.{IsTaken, ComesOver, StopsOver, AtStates, EquationsGo, EquationsPrune, newest_count}
 use Rattle.cq_ways.specs.declared.taking.Way.{Way}
-use Rattle.cq_ways.proofs.Ending.{Open, Known, over_ended}
-use Rattle.cq_ways.proofs.Named.{known_more}
+use Rattle.cq_ways.proofs.Ending.{Open, over_ended}
 use Rattle.cq_ways.proofs.Taken.{over_left, over_built}
 use Rattle.cq_ways.proofs.Stacked.{waits_more, place_more}
 
@@ -115,12 +114,12 @@ module _ (old mid : Held) (w : Way) (t : IsTaken old mid w) where
   abbrev older : Program → Stack Contents
   older v = map (left_at more v) t.older
 
-module _ (old mid : Held) (w : Way) (t : IsTaken old mid w) (v : Program) (o : IsOver v old) where
+module _ (old mid : Held) (w : Way) (t : IsTaken old mid w) (known : AreNamedByTerms (open_of mid)) (v : Program) (o : IsOver v old) where
   open_there : Open v ((t.start, alternatives.Ways t.before w.rest) ∷ t.older)
   open_there = subst (Open v) t.was o.choices
 
-  known_there : Known old.texts ((t.start, alternatives.Ways t.before w.rest) ∷ t.older)
-  known_there = subst (Known old.texts) t.was o.images
+  known_there : AreNamedByTerms ((t.start, alternatives.Ways t.before w.rest) ∷ t.older)
+  known_there = subst AreNamedByTerms t.is known
 
   older_open : Open v t.older
   older_open = open_there.1
@@ -278,7 +277,7 @@ module _ (old mid : Held) (w : Way) (t : IsTaken old mid w) (v : Program) (o : I
 
 -- ---- by what the code has done
 
-module _ (old mid : Held) (w : Way) (t : IsTaken old mid w) where
+module _ (old mid : Held) (w : Way) (t : IsTaken old mid w) (known : AreNamedByTerms (open_of mid)) where
   -- the equations as the world reads them
   abbrev read_now : List (Equation Text)
   read_now = equations_of mid.texts mid.now.0.heap.terms w.alternative
@@ -298,13 +297,13 @@ module _ (old mid : Held) (w : Way) (t : IsTaken old mid w) where
         → ComesOver old new (Some k)
     goes_on k goes left v o steps db n s j =
         let g = subst (λ es. EquationsGo mid.texts mid.now now es w.rest k) same_read goes in
-        elim left [ inl e ↦ subst (OverStack v steps db n s k) (sym e) (kept_with old mid w t v o db n s j steps now k g) | inr e ↦ subst (OverStack v steps db n s k) (sym e.0) (kept_last old mid w t v o db n s j steps now k g (e.1 mid.texts t.start.0.heap.terms)) ]
+        elim left [ inl e ↦ subst (OverStack v steps db n s k) (sym e) (kept_with old mid w t known v o db n s j steps now k g) | inr e ↦ subst (OverStack v steps db n s k) (sym e.0) (kept_last old mid w t known v o db n s j steps now k g (e.1 mid.texts t.start.0.heap.terms)) ]
 
     pub comes_back : EquationsPrune mid.texts mid.now.0 read_now → open_choices saved choices ≡ (t.start, alternatives.Ways w.others w.rest) ∷ t.older
         → ComesOver old new None
     comes_back prunes e v o steps db n s j =
         subst (λ xs. Comes (IsBranch mid.texts) (term_in mid.texts) steps (engine db n (map (left_at mid.texts v) xs) now None) s) (sym e)
-        (pruned_with old mid w t v o db n s j steps now (subst (λ es. EquationsPrune mid.texts mid.now.0 es) same_read prunes))
+        (pruned_with old mid w t known v o db n s j steps now (subst (λ es. EquationsPrune mid.texts mid.now.0 es) same_read prunes))
 
     pub comes_again : (lists : List (List Cell)) → KeepsLists mid.now.1 lists → (left : Solutions)
         → ways_left mid.texts mid.now.0.heap.terms left ≡ read_now ∷ ways_left mid.texts mid.now.0.heap.terms w.others
@@ -316,18 +315,19 @@ module _ (old mid : Held) (w : Way) (t : IsTaken old mid w) where
         let is : open_choices saved choices ≡ ((with_heap t.built t.start.0, lists), alternatives.Ways left w.rest) ∷ t.older =
         e ∙ ap (λ (x : Value Contents). ((x.0, lists), alternatives.Ways left w.rest) ∷ t.older) t.now in
         subst (λ xs. Comes (IsBranch mid.texts) (term_in mid.texts) steps (engine db n (map (left_at mid.texts v) xs) now None) s) (sym is)
-        (given_back old mid w t v o db n s j steps now lists kept (ways_left mid.texts t.built.terms left) ways)
+        (given_back old mid w t known v o db n s j steps now lists kept (ways_left mid.texts t.built.terms left) ways)
 
   pub query_stops : (pivots : ℕ) (fault : StoreFault)
       → ((pair : Pair) → fault ≡ Overflow pair → AtStates mid.texts mid.now.0 (λ st. MayRefuse st (with_equations read_now) pair))
       → ((m : ℕ) → fault ≡ Pivots m → (m ≡ pivots) × AtStates mid.texts mid.now.0 (λ st. MayTake st (with_equations read_now) m)) → StopsOver old pivots fault
   query_stops pivots fault refused taken v o db n s j =
-      fault_stops old mid w t v o db n s j pivots fault
+      fault_stops old mid w t known v o db n s j pivots fault
       (λ pair e st b. subst (λ es. MayRefuse st (with_equations es) pair) same_read (refused pair e st b.ready))
       (λ m e. ((taken m e).0, λ st b. subst (λ es. MayTake st (with_equations es) m) same_read ((taken m e).1 st b.ready)))
 
-  -- ---- each choice can be gone on with
+-- ---- each choice can be gone on with
 
+module _ (old mid : Held) (w : Way) (t : IsTaken old mid w) where
   pub over_after : (new : Held) → new.texts ≡ mid.texts → IsLeft t.start w.others w.rest t.older (open_of new) → StaysOver old new
   over_after new named left =
       let longer = subst (λ ts. IsPrefix old.texts ts) (sym named) t.longer in
@@ -336,8 +336,7 @@ module _ (old mid : Held) (w : Way) (t : IsTaken old mid w) where
   pub over_again : (new : Held) → new.texts ≡ mid.texts → (lists : List (List Cell)) (left : Solutions)
       → open_of new ≡ ((mid.now.0, lists), alternatives.Ways left w.rest) ∷ t.older → CanGoOn mid.now.0.heap.terms left → StaysOver old new
   over_again new named lists left e can =
-      over_built old new (subst (λ ts. IsPrefix old.texts ts) (sym named) t.longer) t.start t.before left w.rest t.older t.was (mid.now.0, lists) e
-      (ap (λ (x : Value Contents). x.0.heap.images) t.now ∙ t.images) can
+      over_built old new (subst (λ ts. IsPrefix old.texts ts) (sym named) t.longer) t.start t.before left w.rest t.older t.was (mid.now.0, lists) e can
 
   -- what was taken can be gone on with where the world is now
   pub can_now : CanGoOn mid.now.0.heap.terms w.others

@@ -42,7 +42,7 @@ use Rattle.cq_steps.specs.Worlds.{IsBranch, term_in, with_heap, Placed, Leads, l
 use Rattle.cq_steps.proofs.Added.{tree_is}
 use Rattle.cq_begin.proofs.Newer.{branch_more, read_still}
 use Rattle.cq_ways.specs.Calls.{AreRead, row_of}
-use Rattle.cq_ways.specs.Held.{Held, IsOver, KnowsImages, open_of, stack_of}
+use Rattle.cq_ways.specs.Held.{Held, IsOver, AreNamedByTerms, open_of, stack_of}
 use Rattle.cq_ways.proofs.Stacked.{waits_more, place_more}
 
 -- ---- alternatives without new variables, in the state with those of the call
@@ -60,7 +60,8 @@ children_same p count (es ∷ ways) = ap₂ (λ b bs. b ∷ bs) (fresh_same p co
 
 -- ---- the call's terms and variables
 
-module _ (more : List Text) (v : Program) (h : Held) (longer : IsPrefix h.texts more) (o : IsOver v h) (start : Value Contents) (known : KnowsImages h.texts start.0)
+module _ (more : List Text) (v : Program) (h : Held) (longer : IsPrefix h.texts more) (o : IsOver v h) (known : AreNamedByTerms (open_of h))
+    (start : Value Contents) (known_there : HasNamesOfTerms start.0.heap)
     (built : Terms) (count : ℕ) (terms : IsPrefix start.0.heap.terms built.terms) (images : built.images ≡ start.0.heap.images ++ unbound_from (length start.0.heap.images) count)
     (names : KnowsTerms more built.terms) where
   abbrev c : Contents
@@ -79,7 +80,7 @@ module _ (more : List Text) (v : Program) (h : Held) (longer : IsPrefix h.texts 
     -- the place in the state with the new variables
     newer_place : IsPlace (IsBranch more) (term_in more) older later rest (newer count p)
     newer_place =
-        let j = place_more h.texts more longer v o.program (open_of h) o.choices o.images behind placed.1 start known rest p placed.0 in
+        let j = place_more h.texts more longer v o.program (open_of h) o.choices known behind placed.1 start known_there rest p placed.0 in
         record {
           continuation = record {
             there = j.continuation.there;
@@ -104,7 +105,7 @@ module _ (more : List Text) (v : Program) (h : Held) (longer : IsPrefix h.texts 
         behind,
         refl,
         (newer count p, children_same p count ways, newer_place),
-        waits_more h.texts more longer v o.program (open_of h) o.choices o.images behind placed.1,
+        waits_more h.texts more longer v o.program (open_of h) o.choices known behind placed.1,
       )
 
       pub ways_lead : (saved : List (Value Contents)) (choices : List Alternatives) (now : Value Contents)

@@ -9,3 +9,4 @@ pub mod Ending
 pub mod Taken
 pub mod Calling
 pub mod Pairs
+pub mod Marked

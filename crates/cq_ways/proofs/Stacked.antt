@@ -33,6 +33,7 @@ use Rattle.cq_program.specs.Keys.{key_of}
 use Rattle.cq_stored.specs.StoredValue.{ClauseValue}
 use Rattle.cq_term.specs.HeapValue.{HeapValue, Terms}
 use Rattle.cq_term.specs.Meaning.{HeapTerm, blank}
+use Rattle.cq_term.specs.Names.{HasNamesOfTerms}
 use Rattle.cq_term.specs.Trees.{KnowsTerms}
 use Rattle.cq_term.proofs.Known.{names_more}
 use Rattle.cq_world.specs.Contents.{Contents}
@@ -42,9 +43,12 @@ use Rattle.cq_steps.specs.declared.alternatives.Alternatives.{Alternatives}
 use Rattle.cq_steps.specs.declared.alternatives.Alternatives.TheVariants as alternatives
 use Rattle.cq_steps.specs.Choices.{AreOpen, CanBeTried}
 use Rattle.cq_steps.specs.Worlds.{IsBranch, term_in, left_of, left_at, stack, Stands}
-use Rattle.cq_ways.specs.Held.{Held, IsOver, KnowsImages, AllKnowImages, open_of}
+use Rattle.cq_ways.specs.Held.{Held, IsOver, AreNamedByTerms, open_of}
 use Rattle.cq_ways.proofs.Named.{branch_named, term_named, known_more}
 use Rattle.cq_ways.proofs.Reread.{waiting_known, place_known, current_known}
+
+abbrev IsNamed : Contents → Type 0
+IsNamed c = HasNamesOfTerms c.heap
 
 module _ (texts more : List Text) (longer : IsPrefix texts more) where
   text_kept : (a : ℕ) → a < length texts → text_of more a ≡ text_of texts a
@@ -148,9 +152,6 @@ module _ (texts more : List Text) (longer : IsPrefix texts more) where
     abbrev Open : List (Value Contents × Alternatives) → Type 0
     Open xs = AllByRecursion (λ (c : Value Contents × Alternatives). CanBeTried v c.0.0.heap.terms c.1) xs
 
-    abbrev Known : List (Value Contents × Alternatives) → Type 0
-    Known xs = AllByRecursion (λ (c : Value Contents × Alternatives). KnowsImages texts c.0.0) xs
-
     pub same_choices : (xs : List (Value Contents × Alternatives)) → Open xs → (bs : List Branch)
         → AreWaiting (IsBranch texts) (term_in texts) (map (left_at texts v) xs) bs → map (left_at more v) xs ≡ map (left_at texts v) xs
     same_choices [] can bs waiting = refl
@@ -160,38 +161,32 @@ module _ (texts more : List Text) (longer : IsPrefix texts more) where
         λ i. (x.0, first i) ∷ older i
 
     -- the worlds of the choices as the definitions see them
-    pub stack_known : (xs : List (Value Contents × Alternatives)) → Known xs
-        → AllByRecursion (λ (c : Value Contents × Left). KnowsImages texts c.0.0) (map (left_at texts v) xs)
+    pub stack_known : (xs : List (Value Contents × Alternatives)) → AreNamedByTerms xs
+        → AllByRecursion (λ (c : Value Contents × Left). IsNamed c.0.0) (map (left_at texts v) xs)
     stack_known [] k = k
     stack_known (x ∷ xs) k = (k.0, stack_known xs k.1)
 
     -- the same branches wait over them
-    pub waits_still : (xs : List (Value Contents × Alternatives)) → Known xs → (bs : List Branch)
+    pub waits_still : (xs : List (Value Contents × Alternatives)) → AreNamedByTerms xs → (bs : List Branch)
         → AreWaiting (IsBranch texts) (term_in texts) (map (left_at texts v) xs) bs → AreWaiting (IsBranch more) (term_in more) (map (left_at texts v) xs) bs
     waits_still xs known bs waiting =
-        waiting_known (IsBranch texts) (IsBranch more) (term_in texts) (term_in more) (KnowsImages texts) (branch_named texts more longer) (term_named texts more longer)
+        waiting_known (IsBranch texts) (IsBranch more) (term_in texts) (term_in more) IsNamed (branch_named texts more longer) (term_named texts more longer)
         (map (left_at texts v) xs) (stack_known xs known) bs waiting
 
-    pub waits_more : (xs : List (Value Contents × Alternatives)) → Open xs → Known xs → (bs : List Branch)
+    pub waits_more : (xs : List (Value Contents × Alternatives)) → Open xs → AreNamedByTerms xs → (bs : List Branch)
         → AreWaiting (IsBranch texts) (term_in texts) (map (left_at texts v) xs) bs → AreWaiting (IsBranch more) (term_in more) (map (left_at more v) xs) bs
     waits_more xs can known bs waiting =
         subst (λ (x : Stack Contents). AreWaiting (IsBranch more) (term_in more) x bs) (sym (same_choices xs can bs waiting)) (waits_still xs known bs waiting)
 
-    pub place_more : (xs : List (Value Contents × Alternatives)) → Open xs → Known xs → (bs : List Branch)
-        → AreWaiting (IsBranch texts) (term_in texts) (map (left_at texts v) xs) bs → (w : Value Contents) → KnowsImages texts w.0 → (k : ℕ) (p : Place)
+    pub place_more : (xs : List (Value Contents × Alternatives)) → Open xs → AreNamedByTerms xs → (bs : List Branch)
+        → AreWaiting (IsBranch texts) (term_in texts) (map (left_at texts v) xs) bs → (w : Value Contents) → IsNamed w.0 → (k : ℕ) (p : Place)
         → IsPlace (IsBranch texts) (term_in texts) (map (left_at texts v) xs) w k p → IsPlace (IsBranch more) (term_in more) (map (left_at more v) xs) w k p
     place_more xs can known bs waiting w images k p i =
         subst (λ (x : Stack Contents). IsPlace (IsBranch more) (term_in more) x w k p) (sym (same_choices xs can bs waiting))
-        (place_known (IsBranch texts) (IsBranch more) (term_in texts) (term_in more) (KnowsImages texts) (branch_named texts more longer) (term_named texts more longer)
+        (place_known (IsBranch texts) (IsBranch more) (term_in texts) (term_in more) IsNamed (branch_named texts more longer) (term_named texts more longer)
         (map (left_at texts v) xs) (stack_known xs known) w images k p i)
 
 -- ---- an engine
-
-pub images_more : (texts more : List Text) → IsPrefix texts more → (xs : List (Value Contents × Alternatives))
-    → AllByRecursion (λ (c : Value Contents × Alternatives). KnowsImages texts c.0.0) xs
-    → AllByRecursion (λ (c : Value Contents × Alternatives). KnowsImages more c.0.0) xs
-images_more texts more longer [] k = k
-images_more texts more longer (x ∷ xs) k = (known_more texts more longer x.0.0.heap.images k.0, images_more texts more longer xs k.1)
 
 module _ (more : List Text) (v : Program) (h : Held) (longer : IsPrefix h.texts more) (o : IsOver v h) where
   as_many : length h.texts ≤ length more
@@ -209,26 +204,26 @@ module _ (more : List Text) (v : Program) (h : Held) (longer : IsPrefix h.texts 
   }
 
   pub over_more : IsOver v (record h { texts = more })
-  over_more = record { program = program_more; choices = o.choices; images = images_more h.texts more longer (open_of h) o.images }
+  over_more = record { program = program_more; choices = o.choices }
 
   pub same_stack : (behind : List Branch) → AreWaiting (IsBranch h.texts) (term_in h.texts) (stack h.texts v h.saved h.choices) behind
       → stack more v h.saved h.choices ≡ stack h.texts v h.saved h.choices
   same_stack behind waiting = same_choices h.texts more longer v o.program (open_of h) o.choices behind waiting
 
-  pub back_more : (db : Database) (n : ℕ) (s : Search) → Stands h.texts v db n h.saved h.choices h.now None s → Stands more v db n h.saved h.choices h.now None s
-  back_more db n s j = record {
+  pub back_more : AreNamedByTerms (open_of h) → (db : Database) (n : ℕ) (s : Search) → Stands h.texts v db n h.saved h.choices h.now None s → Stands more v db n h.saved h.choices h.now None s
+  back_more known db n s j = record {
     database = j.database;
     selected = j.selected;
     first = j.first;
     behind = j.behind;
     branches = j.branches;
     current = j.current;
-    waiting = waits_more h.texts more longer v o.program (open_of h) o.choices o.images j.behind j.waiting;
+    waiting = waits_more h.texts more longer v o.program (open_of h) o.choices known j.behind j.waiting;
   }
 
-  pub stands_more : KnowsImages h.texts h.now.0 → (db : Database) (n : ℕ) (current : Option ℕ) (s : Search) → Stands h.texts v db n h.saved h.choices h.now current s
+  pub stands_more : AreNamedByTerms (open_of h) → IsNamed h.now.0 → (db : Database) (n : ℕ) (current : Option ℕ) (s : Search) → Stands h.texts v db n h.saved h.choices h.now current s
       → Stands more v db n h.saved h.choices h.now current s
-  stands_more known db n current s j =
+  stands_more known known_now db n current s j =
       subst (λ (x : Stack Contents). IsStanding (IsBranch more) (term_in more) (engine db n x h.now current) s) (sym (same_stack j.behind j.waiting))
       (record {
         database = j.database;
@@ -236,8 +231,8 @@ module _ (more : List Text) (v : Program) (h : Held) (longer : IsPrefix h.texts 
         first = j.first;
         behind = j.behind;
         branches = j.branches;
-        current = current_known (IsBranch h.texts) (IsBranch more) (term_in h.texts) (term_in more) (KnowsImages h.texts) (branch_named h.texts more longer)
-            (term_named h.texts more longer) (stack h.texts v h.saved h.choices) (stack_known h.texts more longer v o.program (open_of h) o.images) h.now known
+        current = current_known (IsBranch h.texts) (IsBranch more) (term_in h.texts) (term_in more) IsNamed (branch_named h.texts more longer)
+            (term_named h.texts more longer) (stack h.texts v h.saved h.choices) (stack_known h.texts more longer v o.program (open_of h) known) h.now known_now
             current j.first j.current;
-        waiting = waits_still h.texts more longer v o.program (open_of h) o.images j.behind j.waiting;
+        waiting = waits_still h.texts more longer v o.program (open_of h) known j.behind j.waiting;
       })

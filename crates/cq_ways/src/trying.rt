@@ -19,6 +19,7 @@ ghost use Rattle.cq_ways.specs.Held.{held, HasMarks, StaysOver};
 ghost use Rattle.cq_ways.specs.Newest.{PutsBack};
 ghost use Rattle.cq_ways.specs.Trying.{IsWays, IsSearching, ComesOver, StopsOver, AfterTaking, AtStates, EquationsGo, EquationsPrune, HasFewer};
 
+use crate::laws::names_are_of_terms;
 use crate::marks::{renew, replace_newest};
 use crate::taking::{Way, take_way};
 use cq_atoms::{Atom, Atoms};
@@ -123,6 +124,7 @@ fn begin_way(
         mut others,
         rest,
     } = way;
+    names_are_of_terms(world, choices);
     match begin_pairs(
         &mut world.first,
         &mut world.second,
@@ -180,6 +182,7 @@ pub fn try_ways(
     ensures budget { world.new.first.store.pivots ≡ world.old.first.store.pivots }
     ensures marked { HasMarks (held atoms.new world.new.first world.new.second choices.new) }
 {
+    names_are_of_terms(world, choices);
     let known = some_name(atoms, "[]")?;
     'ways: loop {
         let Some(way) = take_way(world, choices, atoms, known)? else {
