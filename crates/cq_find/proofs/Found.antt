@@ -15,13 +15,12 @@ use Rattle.spec_machine.specs.Cells.{size, Value, Stack}
 use Rattle.spec_machine.specs.Coming.{at_once}
 use Rattle.spec_machine.specs.Standing.{engine}
 use Rattle.cq_steps.specs.declared.alternatives.Alternatives.{Alternatives}
-use Rattle.cq_steps.specs.Choices.{AreOpen, KeepsOlder}
+use Rattle.cq_steps.specs.Choices.{CanBeTried, KeepsOlder}
 use Rattle.cq_steps.specs.Worlds.{IsBranch, term_in, left_at, IsWorking}
 use Rattle.cq_steps.proofs.Arrived.{quietly_on}
 use Rattle.cq_begin.specs.Stops.{FaultStops, waiting_in}
 use Rattle.cq_begin.proofs.Back.{fault_after}
-use Rattle.cq_calls.specs.Trying.{KeepsWorlds, worlds}
-use Rattle.cq_ways.specs.Held.{Held, HasMarks, IsOver, KnowsImages, AllKnowImages, open_of, stack_of}
+use Rattle.cq_ways.specs.Held.{Held, HasMarks, IsOver, open_of, stack_of}
 use Rattle.cq_ways.specs.Trying.{IsSearching, ComesOver, StopsOver}
 use Rattle.cq_find.specs.Finding.{IsGoing, Reaches, AllStopFrom, AreFewer}
 use Rattle.cq_find.proofs.Counted.{in_hand, quiet_count, standing_count}
@@ -35,33 +34,13 @@ all_behind : {A : Type 0} (P : A → Type 0) (xs ys : List A) → AllByRecursion
 all_behind P [] ys a = a
 all_behind P (x ∷ xs) ys a = all_behind P xs ys a.1
 
-abbrev Knows : List Text → Value Contents → Type 0
-Knows texts x = KnowsImages texts x.0
-
-to_worlds : (texts : List Text) (cs : Opened) → AllByRecursion (λ (c : Value Contents × Alternatives). KnowsImages texts c.0.0) cs → AllByRecursion (Knows texts) (worlds cs)
-to_worlds texts [] a = a
-to_worlds texts (c ∷ cs) a = (a.0, to_worlds texts cs a.1)
-
-of_worlds : (texts : List Text) (cs : Opened) → AllByRecursion (Knows texts) (worlds cs) → AllByRecursion (λ (c : Value Contents × Alternatives). KnowsImages texts c.0.0) cs
-of_worlds texts [] a = a
-of_worlds texts (c ∷ cs) a = (a.0, of_worlds texts cs a.1)
-
 module _ (v : Program) where
   -- the older ones can be gone on with as before
   pub over_older : (old new : Held) → new.texts ≡ old.texts → KeepsOlder old.saved old.choices new.saved new.choices → IsOver v old → IsOver v new
   over_older old new same k o = record {
     program = subst (λ texts. IsProgram texts v) (sym same) o.program;
-    choices = all_behind _ k.gone (open_of new) (subst (AllByRecursion _) k.are o.choices);
-    images = subst (λ texts. AllKnowImages texts new.saved new.choices) (sym same) (all_behind _ k.gone (open_of new) (subst (AllByRecursion _) k.are o.images));
-  }
-
-  -- so can choices that go back to the same worlds
-  pub over_worlds : (old new : Held) → new.texts ≡ old.texts → AreOpen v new.saved new.choices → KeepsWorlds (open_of old) (open_of new) → IsOver v old → IsOver v new
-  over_worlds old new same can k o = record {
-    program = subst (λ texts. IsProgram texts v) (sym same) o.program;
-    choices = can;
-    images = subst (λ texts. AllKnowImages texts new.saved new.choices) (sym same)
-        (of_worlds old.texts (open_of new) (all_behind (Knows old.texts) k.gone (worlds (open_of new)) (subst (AllByRecursion (Knows old.texts)) k.are (to_worlds old.texts (open_of old) o.images))));
+    choices = all_behind (λ (c : Value Contents × Alternatives). CanBeTried v c.0.0.heap.terms c.1) k.gone (open_of new)
+        (subst (AllByRecursion (λ (c : Value Contents × Alternatives). CanBeTried v c.0.0.heap.terms c.1)) k.are o.choices);
   }
 
   -- ---- how many wait
