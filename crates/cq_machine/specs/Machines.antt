@@ -6,6 +6,7 @@ use Rattle.spec_search.specs.Database.{Database}
 use Rattle.spec_search.specs.Search.{Search}
 use Rattle.cq_atoms.specs.Texts.{AreDifferent}
 use Rattle.cq_control.specs.Open.{AreMarked}
+use Rattle.cq_ops.specs.Tables.{AreNamed}
 use Rattle.cq_program.specs.Database.{IsProgram, as_database}
 use Rattle.cq_term.specs.Meaning.{HeapTerm}
 use Rattle.cq_term.specs.Trees.{KnowsTerms}
@@ -53,6 +54,7 @@ pub record IsSound (m : Machine) : Type 0 where
   pub different : AreDifferent m.atoms
   pub names : KnowsTerms m.atoms (terms m)
   pub program : IsProgram m.atoms m.clauses
+  pub operators_named : AreNamed m.atoms m.ops
   pub marked : AreMarked (saved m) m.choices
   pub untried : AreOpen m.clauses (saved m) m.choices
 

@@ -1,12 +1,10 @@
 -- The branch of an alternative that was taken, and what becomes of it.
-use Rattle.std.proofs.Common.{◌≡◌, ◌<◌, ◌+◌, ◌⊎◌, inl, inr, ℕ, suc, List, [], ◌∷◌, ◌++◌, length, map, Option, None, Some, refl, sym, ap, ap₂, ◌∙◌, subst, arith}
-use Rattle.std.specs.List.{AllByRecursion}
+use Rattle.std.proofs.Common.{◌≡◌, ◌<◌, ◌+◌, inl, inr, ℕ, suc, List, [], ◌∷◌, ◌++◌, length, map, Option, None, Some, refl, sym, ap, ◌∙◌, subst, arith}
 use Rattle.spec_lists.specs.Prefixes.{IsPrefix}
 use Rattle.spec_lists.proofs.Prefixes.{prefix_same, prefix_get_or, prefix_within}
 use Rattle.spec_lists.specs.Texts.{Text}
 use Rattle.spec_terms.specs.Unifier.{Equation}
-use Rattle.spec_builtins.specs.Alternatives.{Alternative}
-use Rattle.spec_branch.specs.Branch.{State, Item, Branch, Pending}
+use Rattle.spec_branch.specs.Branch.{State, Item, Branch}
 use Rattle.spec_search.specs.Database.{Database}
 use Rattle.spec_search.specs.Replies.{Place, alternative_child, with_new, with_equations}
 use Rattle.spec_search.specs.Search.{Search, is_selecting, look_at, Settling}
@@ -31,7 +29,7 @@ use Rattle.cq_term.specs.Trees.{KnowsTerms}
 use Rattle.cq_world.specs.Contents.{Contents}
 use Rattle.spec_machine.specs.declared.cell.Cell.{Cell}
 use Rattle.spec_machine.specs.Cells.{Left, Ways, Value, Stack}
-use Rattle.spec_machine.specs.Standing.{engine, IsContinuation, IsPlace, AreWaiting, IsStanding}
+use Rattle.spec_machine.specs.Standing.{engine, IsPlace, AreWaiting, IsStanding}
 use Rattle.spec_machine.specs.Coming.{Quietly, at_once, Comes, Tells, Stops}
 use Rattle.spec_machine.specs.Coming as coming
 use Rattle.spec_machine.proofs.Kept.{fits_more, items_older}
@@ -39,12 +37,11 @@ use Rattle.spec_machine.proofs.Made.{child_kept, child_pruned}
 use Rattle.spec_machine.proofs.Passed.{way_begun}
 use Rattle.cq_steps.specs.declared.alternatives.Alternatives.{Alternatives}
 use Rattle.cq_steps.specs.declared.alternatives.Alternatives.TheVariants as alternatives
-use Rattle.cq_steps.specs.Choices.{CanBeTried}
 use Rattle.cq_steps.specs.Lists.{KeepsLists}
 use Rattle.cq_steps.specs.Worlds.{IsBranch, term_in, with_heap, Stands, left_at}
 use Rattle.cq_steps.proofs.Grown.{grown}
 use Rattle.cq_steps.proofs.Selected.{continuation_grown}
-use Rattle.cq_begin.specs.Begun.{IsPlacedAs, IsBegun, Prunes}
+use Rattle.cq_begin.specs.Begun.{IsPlacedAs}
 use Rattle.cq_begin.specs.Stops.{FaultStops}
 use Rattle.cq_begin.proofs.Stopping.{refuses, takes}
 use Rattle.cq_ways.specs.Held.{Held, IsOver, StaysOver, AreNamedByTerms, open_of}
@@ -266,8 +263,7 @@ module _ (old mid : Held) (w : Way) (t : IsTaken old mid w) (known : AreNamedByT
         (with_branches [] s, stops_there budgets (cause.Overflow pair) (refuses budgets s p.rest p.state (with_equations (es old mid w t)) behind pair looks (refused pair refl p.state placed.state)))
     fault_stops pivots (Pivots m) refused taken = λ budgets e.
         let k = taken m refl in
-        let same : m ≡ budgets.pivots = k.0 ∙ sym e in
-        (
+        let same : m ≡ budgets.pivots = k.0 ∙ sym e in (
           with_branches [] s,
           subst (λ i. Tells budgets s (Stops (cause.Pivots i)) (with_branches [] s)) (sym same)
               (stops_there budgets (cause.Pivots budgets.pivots)

@@ -1,12 +1,8 @@
 -- A call of a predicate, by what the code has done.
-use Rattle.std.proofs.Common.{◌≡◌, ◌<◌, ℕ, List, [], ◌∷◌, ◌++◌, length, map, Option, None, Some, refl, sym, ap, ◌∙◌, subst, arith}
-use Rattle.std.specs.Prelude.{All, IfNone, IfSome}
+use Rattle.std.proofs.Common.{◌≡◌, ℕ, List, [], ◌∷◌, length, map, Option, None, Some, sym, ap, ◌∙◌, subst}
+use Rattle.std.specs.Prelude.{IfNone, IfSome}
 use Rattle.std.specs.List.{zip}
-use Rattle.std.proofs.lemmas.List.Elements.{All-append, All-map}
 use Rattle.spec_lists.specs.Prefixes.{IsPrefix}
-use Rattle.spec_lists.specs.Texts.{Text}
-use Rattle.spec_terms.specs.Term.{Var}
-use Rattle.spec_terms.specs.Variables.{counted_from}
 use Rattle.spec_search.specs.Replies.{Reply, offers}
 use Rattle.spec_predicates.specs.Predicates.{Predicate}
 use Rattle.spec_predicates.specs.Calls.{solutions_of}
@@ -17,10 +13,8 @@ use Rattle.cq_linear.specs.StoreValue.{kept}
 use Rattle.cq_predicates.specs.Given.{CanGoOn, Gives}
 use Rattle.cq_predicates.specs.declared.solutions.Solutions.{Solutions}
 use Rattle.cq_term.specs.HeapValue.{Terms}
-use Rattle.cq_term.specs.Meaning.{HeapTerm}
 use Rattle.cq_term.specs.Names.{HasNamesOfTerms}
 use Rattle.cq_term.specs.Trees.{trees, KnowsTerms}
-use Rattle.cq_unify.specs.Copied.{unbound_from}
 use Rattle.cq_world.specs.Contents.{Contents, contents_of}
 use Rattle.cq_world.specs.declared.world.World.{World}
 use Rattle.spec_machine.specs.declared.cell.Cell.{Cell}
@@ -28,8 +22,8 @@ use Rattle.spec_machine.specs.Cells.{Value}
 use Rattle.cq_steps.specs.declared.alternatives.Alternatives.{Alternatives}
 use Rattle.cq_steps.specs.declared.alternatives.Alternatives.TheVariants as alternatives
 use Rattle.cq_steps.specs.Worlds.{with_heap, saved_values, Placed, Leads}
-use Rattle.cq_ways.specs.Calls.{AreRead, CallLeads, CallRaises, LeavesWays, row_of}
-use Rattle.cq_ways.specs.Held.{Held, IsOver, StaysOver, AreNamedByTerms, open_of, stack_of}
+use Rattle.cq_ways.specs.Calls.{AreRead, CallLeads, CallRaises, row_of}
+use Rattle.cq_ways.specs.Held.{Held, StaysOver, AreNamedByTerms, open_of, stack_of}
 use Rattle.cq_ways.specs.Newest.{Replaces, Renews}
 use Rattle.cq_ways.proofs.Ending.{over_with}
 use Rattle.cq_ways.proofs.Leading.{ways_lead, row_is, raised}
@@ -93,6 +87,7 @@ pub undone : (r : Option Alternatives) (choices fewer : List Alternatives) (save
     → open_choices saved choices ≡ (now, alternatives.Barrier) ∷ older → (back ≡ now) × (open_choices less fewer ≡ older)
 undone None choices fewer saved less now back older below is none some e = (let h : [] ≡ alternatives.Barrier ∷ below = sym none.0 ∙ is in cc)
 undone (Some x) choices fewer saved less now back older below is none some e =
-    let same = sym some ∙ e in
-    (ap (λ (y : Value Contents × Alternatives). y.0) (same_front (back, x) (now, alternatives.Barrier) (open_choices less fewer) older same),
-    same_behind (back, x) (now, alternatives.Barrier) (open_choices less fewer) older same)
+    let same = sym some ∙ e in (
+      ap (λ (y : Value Contents × Alternatives). y.0) (same_front (back, x) (now, alternatives.Barrier) (open_choices less fewer) older same),
+      same_behind (back, x) (now, alternatives.Barrier) (open_choices less fewer) older same,
+    )

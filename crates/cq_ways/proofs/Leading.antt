@@ -1,6 +1,5 @@
 -- A call of a predicate leads an engine to the alternatives that it left.
 use Rattle.std.proofs.Common.{inr, ◌≡◌, ◌<◌, ◌+◌, ℕ, suc, List, [], ◌∷◌, ◌++◌, length, map, Option, None, Some, refl, sym, ap, ap₂, ◌∙◌, subst, arith}
-use Rattle.std.specs.List.{AllZip}
 use Rattle.spec_lists.specs.Prefixes.{IsPrefix}
 use Rattle.spec_lists.specs.Texts.{Text}
 use Rattle.spec_terms.specs.Unifier.{Equation}
@@ -9,9 +8,9 @@ use Rattle.spec_built.specs.Built.{indicator_of}
 use Rattle.spec_builtins.specs.Alternatives.{Solutions, Faults, Offers}
 use Rattle.spec_builtins.specs.Terms.{arguments}
 use Rattle.spec_branch.specs.Branch.{State, Item, Branch, read}
-use Rattle.spec_search.specs.Replies.{Place, Reply, Raises, Makes, Made, child, made, offers, with_new, with_equations, alternative_child}
+use Rattle.spec_search.specs.Replies.{Place, Reply, Makes, Made, child, made, offers, with_new, with_equations, alternative_child}
 use Rattle.spec_search.specs.Search.{Search, look_at, Selecting}
-use Rattle.spec_search.specs.Steps.{Steps, Stepped, Children}
+use Rattle.spec_search.specs.Steps.{Children}
 use Rattle.spec_search.specs.Turns as turn
 use Rattle.spec_search.specs.Turns.{Turn, Wrote, place_of, after_step}
 use Rattle.spec_predicates.specs.Predicates.{Predicate, predicate_named}
@@ -26,18 +25,17 @@ use Rattle.cq_predicates.specs.Given.{over, ways_left, offers as offered}
 use Rattle.cq_predicates.specs.declared.solutions.Solutions as given
 use Rattle.cq_program.specs.Database.{Program}
 use Rattle.cq_term.specs.HeapValue.{Terms}
-use Rattle.cq_term.specs.Trees.{tree, trees, KnowsTerms}
+use Rattle.cq_term.specs.Names.{HasNamesOfTerms}
+use Rattle.cq_term.specs.Trees.{trees, KnowsTerms}
 use Rattle.cq_unify.specs.Copied.{unbound_from}
 use Rattle.cq_world.specs.Contents.{Contents}
-use Rattle.spec_machine.specs.declared.cell.Cell.{Cell}
 use Rattle.spec_machine.specs.Cells.{Ways, Value, Stack}
-use Rattle.spec_machine.specs.Standing.{engine, IsContinuation, IsPlace, AreWaiting}
+use Rattle.spec_machine.specs.Standing.{engine, IsPlace, AreWaiting}
 use Rattle.spec_machine.specs.Coming.{at_once, after, Comes}
 use Rattle.spec_machine.proofs.Kept.{items_read_on}
 use Rattle.cq_steps.specs.declared.alternatives.Alternatives.{Alternatives}
 use Rattle.cq_steps.specs.declared.alternatives.Alternatives.TheVariants as alternatives
 use Rattle.cq_steps.specs.Calls.{IsRaised}
-use Rattle.cq_steps.specs.Selecting.{Becomes}
 use Rattle.cq_steps.specs.Worlds.{IsBranch, term_in, with_heap, Placed, Leads, left_at, stack}
 use Rattle.cq_steps.proofs.Added.{tree_is}
 use Rattle.cq_begin.proofs.Newer.{branch_more, read_still}

@@ -2,7 +2,6 @@ pub mod Named
 pub mod Reread
 pub mod Stacked
 pub mod Newest
-pub mod Budgets
 pub mod Leading
 pub mod Begins
 pub mod Ending

@@ -1,16 +1,13 @@
 -- A world is the state of the same branches where names are added.
-use Rattle.std.proofs.Common.{◌≡◌, ◌<◌, ℕ, zero, suc, List, [], ◌∷◌, length, Some, refl, sym, ap, ◌∙◌, arith}
-use Rattle.std.specs.Prelude.{slice_get}
+use Rattle.std.proofs.Common.{◌≡◌, ◌<◌, ℕ, List, [], ◌∷◌, length, Some, refl, sym, ◌∙◌}
 use Rattle.std.specs.List.{AllZip}
-use Rattle.std.specs.Option.{option_map}
 use Rattle.std.proofs.lemmas.List.Elements.{All-weaker}
 use Rattle.spec_lists.specs.Prefixes.{IsPrefix}
 use Rattle.spec_lists.proofs.Prefixes.{prefix_same, prefix_length}
 use Rattle.spec_lists.specs.Texts.{Text}
-use Rattle.spec_terms.specs.Term.{Subst, named}
+use Rattle.spec_terms.specs.Term.{Subst}
 use Rattle.spec_syntax.specs.Trees.{Tree}
 use Rattle.spec_branch.specs.Branch.{State, Asleep, Frozen, Sleeper}
-use Rattle.cq_atoms.specs.Texts.{text_of}
 use Rattle.cq_attr.specs.Attributes.{Waiting}
 use Rattle.cq_built.proofs.Trees.{tree_kept}
 use Rattle.cq_frac.specs.declared.VarId.{VarId}

@@ -1,21 +1,23 @@
 -- Choices leave the same to try where names are added.
-use Rattle.std.proofs.Common.{◌≡◌, ◌<◌, ◌≤◌, ◌⊎◌, inl, inr, ℕ, List, [], ◌∷◌, ◌++◌, length, map, Option, None, Some, refl, sym, ap, ap₂, ◌∙◌, subst, arith}
+use Rattle.std.proofs.Common.{◌≡◌, ◌<◌, ◌≤◌, inl, inr, ℕ, List, [], ◌∷◌, length, map, Option, None, Some, refl, sym, ap, ap₂, subst, arith}
 use Rattle.std.specs.Prelude.{All}
 use Rattle.std.specs.List.{AllByRecursion}
 use Rattle.std.proofs.lemmas.Bool.{cases_lt}
 use Rattle.std.proofs.lemmas.List.{get_or_past}
-use Rattle.std.proofs.lemmas.List.Elements.{All-weaker}
+use Rattle.std.proofs.lemmas.List.Elements.{All-weaker, All-head, All-tail}
 use Rattle.spec_lists.specs.Prefixes.{IsPrefix}
 use Rattle.spec_lists.proofs.Prefixes.{prefix_get_or, prefix_same, prefix_length}
 use Rattle.spec_lists.specs.Texts.{Text}
-use Rattle.spec_terms.specs.Term.{Name, named}
-use Rattle.spec_branch.specs.Branch.{State, Branch}
+use Rattle.spec_terms.specs.Term.{Name}
+use Rattle.spec_operators.specs.Operators.{Ops}
+use Rattle.spec_built.specs.Built.{indicator}
+use Rattle.spec_branch.specs.Branch.{Branch}
 use Rattle.spec_search.specs.Database.{Database}
 use Rattle.spec_search.specs.Replies.{Place}
 use Rattle.spec_search.specs.Search.{Search}
 use Rattle.cq_atoms.specs.Texts.{text_of}
 use Rattle.cq_built.proofs.Trees.{named_alike}
-use Rattle.cq_clauses.specs.Database.{database, now_of}
+use Rattle.cq_clauses.specs.Database.{ProcedureNow, database, now_of}
 use Rattle.cq_clauses.specs.Selected.{key_at, matching}
 use Rattle.cq_clauses.specs.Snapshots.{seen, seen_part}
 use Rattle.cq_clauses.specs.Walks.{left, left_ahead, IsWalk}
@@ -24,24 +26,23 @@ use Rattle.cq_clauses.specs.declared.procedures.Part.{Part}
 use Rattle.cq_clauses.specs.declared.procedures.Procedure.{Procedure}
 use Rattle.cq_clauses.specs.declared.procedures.Snapshot.{Snapshot}
 use Rattle.cq_clauses.specs.declared.walk.Walk.{Walk}
-use Rattle.cq_control.specs.Open.{open_choices}
 use Rattle.cq_predicates.specs.Given.{CanGoOn, over, ways_left}
 use Rattle.cq_predicates.specs.declared.solutions.Solutions.{Solutions}
 use Rattle.cq_predicates.proofs.Staying.{ways_kept}
-use Rattle.cq_program.specs.Database.{Program, IsProgram, IsCounted, IsKnown, as_clause, as_parts, content_at}
+use Rattle.cq_program.specs.Database.{Program, IsProgram, IsCounted, IsKnown, as_clause, as_parts, as_procedure, as_kind, as_database, content_at}
 use Rattle.cq_program.specs.Keys.{key_of}
 use Rattle.cq_stored.specs.StoredValue.{ClauseValue}
 use Rattle.cq_term.specs.HeapValue.{HeapValue, Terms}
-use Rattle.cq_term.specs.Meaning.{HeapTerm, blank}
+use Rattle.cq_term.specs.Meaning.{blank}
 use Rattle.cq_term.specs.Names.{HasNamesOfTerms}
 use Rattle.cq_term.specs.Trees.{KnowsTerms}
 use Rattle.cq_term.proofs.Known.{names_more}
 use Rattle.cq_world.specs.Contents.{Contents}
-use Rattle.spec_machine.specs.Cells.{Left, One, Clauses, Ways, Value, Stack}
+use Rattle.spec_machine.specs.Cells.{Left, Clauses, Ways, Value, Stack}
 use Rattle.spec_machine.specs.Standing.{engine, AreBranches, AreWaiting, IsPlace, IsStanding}
 use Rattle.cq_steps.specs.declared.alternatives.Alternatives.{Alternatives}
 use Rattle.cq_steps.specs.declared.alternatives.Alternatives.TheVariants as alternatives
-use Rattle.cq_steps.specs.Choices.{AreOpen, CanBeTried}
+use Rattle.cq_steps.specs.Choices.{CanBeTried}
 use Rattle.cq_steps.specs.Worlds.{IsBranch, term_in, left_of, left_at, stack, Stands}
 use Rattle.cq_ways.specs.Held.{Held, IsOver, AreNamedByTerms, open_of}
 use Rattle.cq_ways.proofs.Named.{branch_named, term_named, known_more}
@@ -106,6 +107,35 @@ module _ (texts more : List Text) (longer : IsPrefix texts more) where
     clauses_any : 0 < length texts → (ns : List ℕ) → SameClauses ns
     clauses_any some [] = refl
     clauses_any some (n ∷ ns) = ap₂ (λ c cs. c ∷ cs) (clause_any some n) (clauses_any some ns)
+
+    -- ---- the database that the clauses make
+
+    clauses_there : (ns : List ℕ) → All (λ n. n < length v.contents) ns → SameClauses ns
+    clauses_there [] known = refl
+    clauses_there (n ∷ ns) known =
+        ap₂ (λ c cs. c ∷ cs) (clause_there n (All-head (λ m. m < length v.contents) n ns known)) (clauses_there ns (All-tail (λ m. m < length v.contents) n ns known))
+
+    procedure_same : (p : ProcedureNow) → IsKnown (length texts) (length v.contents) p → as_procedure more v.contents p ≡ as_procedure texts v.contents p
+    procedure_same p k = λ i. record {
+      indicator = indicator (text_kept p.pred.name k.name i) p.pred.arity;
+      kind = as_kind p.kind;
+      clauses = clauses_there p.clauses k.numbers i;
+    }
+
+    abbrev AreKnown : List ProcedureNow → Type 0
+    AreKnown ps = All (IsKnown (length texts) (length v.contents)) ps
+
+    procedures_same : (ps : List ProcedureNow) → AreKnown ps → map (as_procedure more v.contents) ps ≡ map (as_procedure texts v.contents) ps
+    procedures_same [] known = refl
+    procedures_same (p ∷ ps) known =
+        let each = IsKnown (length texts) (length v.contents) in
+        ap₂ (λ x xs. x ∷ xs) (procedure_same p (All-head each p ps known)) (procedures_same ps (All-tail each p ps known))
+
+    pub database_same : (ops : Ops) → as_database more ops v ≡ as_database texts ops v
+    database_same ops =
+        ap (λ ps. record { procedures = ps; operators = ops; next_clause = length v.contents }) (procedures_same (database v.procedures) whole.procedures)
+
+    -- ---- what choices leave
 
     -- without names there are no procedures
     no_procedures : length texts ≤ 0 → (ps : List Procedure) → All (IsKnown (length texts) (length v.contents)) (database ps) → ps ≡ []

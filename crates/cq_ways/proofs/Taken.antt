@@ -1,11 +1,9 @@
 -- The choice of a predicate's alternatives that an engine comes back to.
-use Rattle.std.proofs.Common.{◌≡◌, ◌<◌, ℕ, List, [], ◌∷◌, length, map, None, Some, refl, sym, ap, ◌∙◌, subst}
-use Rattle.std.specs.List.{AllByRecursion}
+use Rattle.std.proofs.Common.{◌≡◌, ◌<◌, ℕ, List, ◌∷◌, length, map, subst}
 use Rattle.spec_lists.specs.Prefixes.{IsPrefix}
 use Rattle.spec_lists.specs.Texts.{Text}
-use Rattle.spec_branch.specs.Branch.{State}
 use Rattle.spec_search.specs.Replies.{Place}
-use Rattle.cq_predicates.specs.Given.{CanGoOn, ways_left}
+use Rattle.cq_predicates.specs.Given.{CanGoOn}
 use Rattle.cq_predicates.specs.declared.solutions.Solutions.{Solutions}
 use Rattle.cq_program.specs.Database.{Program}
 use Rattle.cq_term.specs.HeapValue.{Terms}
@@ -18,7 +16,7 @@ use Rattle.cq_steps.specs.declared.alternatives.Alternatives.{Alternatives}
 use Rattle.cq_steps.specs.declared.alternatives.Alternatives.TheVariants as alternatives
 use Rattle.cq_steps.specs.Worlds.{IsBranch, term_in, with_heap, left_at}
 use Rattle.cq_steps.proofs.Grown.{branch_grown}
-use Rattle.cq_ways.specs.Held.{Held, IsOver, StaysOver, AreNamedByTerms, open_of}
+use Rattle.cq_ways.specs.Held.{Held, StaysOver, AreNamedByTerms, open_of}
 use Rattle.cq_ways.specs.Trying.{IsSearching}
 use Rattle.cq_ways.proofs.Ending.{Open, over_with}
 use Rattle.cq_ways.proofs.Named.{branch_named}

@@ -43,6 +43,7 @@ pub fn call_predicate(
         (held atoms.new world.new.first world.new.second choices.new)) }
     ensures over { StaysOver (held atoms.old world.old.first world.old.second choices.old)
         (held atoms.new world.new.first world.new.second choices.new) }
+    ensures names { KnowsTerms atoms.new world.new.first.heap.now.terms }
     ensures longer { IsPrefix atoms.old atoms.new }
     ensures lists { world.new.second.now ≡ world.old.second.now }
     ensures budget { world.new.first.store.pivots ≡ world.old.first.store.pivots }

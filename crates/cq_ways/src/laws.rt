@@ -10,11 +10,12 @@ ghost use Rattle.spec_predicates.specs.Predicates.{Predicate, predicate_named};
 ghost use Rattle.spec_search.specs.Database.{Database};
 ghost use Rattle.spec_search.specs.Search.{Search, look_at, Selecting};
 ghost use Rattle.spec_search.specs.Turns.{place_of};
+ghost use Rattle.spec_operators.specs.Operators.{Ops};
 ghost use Rattle.spec_syntax.specs.Trees.{Tree};
 ghost use Rattle.spec_machine.specs.Cells.{Value, Stack};
 ghost use Rattle.spec_machine.specs.Coming.{Comes};
 ghost use Rattle.spec_machine.specs.Standing.{engine, AreWaiting};
-ghost use Rattle.cq_program.specs.Database.{Program, IsProgram};
+ghost use Rattle.cq_program.specs.Database.{Program, IsProgram, as_database};
 ghost use Rattle.cq_control.specs.Open.{open_choices};
 ghost use Rattle.cq_term.specs.Names.{HasNamesOfTerms};
 ghost use Rattle.cq_world.specs.Contents.{Contents};
@@ -36,9 +37,11 @@ pub fn names_are_of_terms(world: &Searching, choices: &Choices<Alternatives>)
     let _height = choices.height();
 }
 
-/// Names that are added change nothing of what an engine stands for. Choices leave the same to try, and a world whose variables
+/// Names that are added change nothing of a program and of what an engine stands for. Choices leave the same to try, and a world whose variables
 /// have no names but those of its terms goes on to be the state of its branches and to read its terms.
 pub fn names_may_be_added()
+    ensures database { (texts more : List Text) → IsPrefix texts more → (v : Program) → IsProgram texts v → (ops : Ops)
+        → as_database more ops v ≡ as_database texts ops v }
     ensures branch { (texts more : List Text) → IsPrefix texts more → (c : Contents) (st : State) → HasNamesOfTerms c.heap → IsBranch texts c st
         → IsBranch more c st }
     ensures term { (texts more : List Text) → IsPrefix texts more → (c : Contents) (st : State) → IsBranch texts c st

@@ -1,15 +1,12 @@
-use Rattle.std.proofs.Common.{◌≡◌, ◌<◌, ◌-◌, ◌∷◌, [], ◌∙◌, ℕ, suc, List, Option, length, sym, ap, arith}
+use Rattle.std.proofs.Common.{◌≡◌, ◌-◌, ◌∷◌, ◌∙◌, suc, Option, length, sym, ap, arith}
 use Rattle.cq_built.specs.declared.alternatives.Alternative.{Alternative}
-use Rattle.cq_control.specs.Open.{AreMarked, open_choices}
 use Rattle.cq_predicates.specs.Given.{then_these, ways_left}
 use Rattle.cq_predicates.specs.declared.solutions.Solutions.{Solutions}
-use Rattle.cq_world.specs.Worlds.{now_of}
 use Rattle.spec_machine.specs.Cells.{Value}
 use Rattle.cq_world.specs.Contents.{Contents}
-use Rattle.cq_steps.specs.declared.alternatives.Alternatives.{Alternatives}
 use Rattle.cq_steps.specs.declared.alternatives.Alternatives.TheVariants.{Barrier, Ways}
-use Rattle.cq_steps.specs.Worlds.{value, saved_values, with_heap}
-use Rattle.cq_ways.specs.Held.{Held, held, open_of}
+use Rattle.cq_steps.specs.Worlds.{value, with_heap}
+use Rattle.cq_ways.specs.Held.{Held, held}
 use Rattle.cq_ways.proofs.Calling.{saved_with, open_with, marked_with}
 use Rattle.cq_ways.proofs.Ending.{comes_ended, over_ended, comes_same, over_same}
 use Rattle.cq_ways.proofs.Newest.{older_ones, other_newest}

@@ -1,20 +1,17 @@
-use Rattle.std.proofs.Common.{◌≡◌, ◌∷◌, [], ◌∙◌, ℕ, List, refl, sym, ap, subst, inl}
+use Rattle.std.proofs.Common.{◌≡◌, ◌∷◌, ◌∙◌, List, refl, sym, ap, subst, inl}
 use Rattle.std.specs.Prelude.{Err}
 use Rattle.std.specs.List.{zip}
 use Rattle.cq_builtin.specs.Over.{equations_of}
 use Rattle.cq_control.specs.Open.{open_choices}
-use Rattle.cq_linear.specs.declared.store.StoreFault.TheVariants.{Overflow, Pivots}
 use Rattle.cq_world.specs.Contents.{Contents}
-use Rattle.cq_world.specs.Worlds.{now_of}
 use Rattle.spec_machine.specs.Cells.{Value}
-use Rattle.cq_steps.specs.declared.alternatives.Alternatives.{Alternatives}
 use Rattle.cq_steps.specs.declared.alternatives.Alternatives.TheVariants.{Barrier, Ways}
 use Rattle.cq_steps.specs.Worlds.{value, saved_values}
 use Rattle.cq_ways.specs.Held.{Held, held, open_of}
-use Rattle.cq_ways.specs.Trying.{IsTaken, EquationsGo}
+use Rattle.cq_ways.specs.Trying.{EquationsGo}
 use Rattle.cq_ways.proofs.Begins.{goes_on, comes_back, comes_again, query_stops, over_after, over_again, can_now, live_now, fewer_left}
 use Rattle.cq_ways.proofs.Calling.{left_open}
-use Rattle.cq_ways.proofs.Newest.{other_newest, same_length}
+use Rattle.cq_ways.proofs.Newest.{other_newest}
 use Rattle.cq_ways.proofs.trying.begin_way.Goals as goal
 
 pub returns-in-Goes-clause-comes : goal.returns-in-Goes-clause-comes

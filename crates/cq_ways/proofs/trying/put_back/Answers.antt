@@ -1,5 +1,5 @@
-use Rattle.std.proofs.Common.{◌≡◌, ◌-◌, ◌∙◌, suc, length, length-drop, inl, inr, refl, ap, arith}
-use Rattle.cq_steps.specs.Worlds.{value, saved_values}
+use Rattle.std.proofs.Common.{◌≡◌, ◌-◌, ◌∙◌, suc, length, inl, inr, arith}
+use Rattle.cq_steps.specs.Worlds.{saved_values}
 use Rattle.cq_steps.specs.declared.alternatives.Alternatives.TheVariants.{Barrier, Ways}
 use Rattle.cq_ways.proofs.Newest.{older_ones, other_newest, same_length}
 use Rattle.cq_ways.proofs.trying.put_back.Goals as goal
@@ -8,8 +8,11 @@ pub returns-then-is_over-clause-open : goal.returns-then-is_over-clause-open
 returns-then-is_over-clause-open c = λ start older e.
     let n = c.height-newest.result - 1 in
     let long : length c.args.choices.now ≡ suc n = omega (arith, c.requires.some, c.height-newest.ensures) in
-    inr (c.cut.ensures.open
-      ∙ older_ones (saved_values c.args.world.now.first c.args.world.now.second.saved) c.args.choices.now n (start, Barrier) older c.requires.marked long e, c.is_over.ensures c.if-is_over.true)
+    inr (
+      c.cut.ensures.open
+          ∙ older_ones (saved_values c.args.world.now.first c.args.world.now.second.saved) c.args.choices.now n (start, Barrier) older c.requires.marked long e,
+      c.is_over.ensures c.if-is_over.true,
+    )
 
 pub returns-else-is_over-clause-open : goal.returns-else-is_over-clause-open
 returns-else-is_over-clause-open c = λ start older e.
