@@ -9,6 +9,7 @@ use Rattle.cq_steps.specs.declared.alternatives.Alternatives.TheVariants.{Barrie
 use Rattle.cq_ways.specs.Held.{held, open_of}
 use Rattle.cq_ways.proofs.Calling.{call_leads, stays_over, call_raises, left_open, open_with, undone, saved_with}
 use Rattle.cq_ways.proofs.Ending.{over_same}
+use Rattle.cq_ways.proofs.Named.{known_more}
 use Rattle.cq_ways.proofs.calls.call_predicate.Goals as goal
 
 pub returns-in-Ok-clause-row : goal.returns-in-Ok-clause-row

@@ -1,4 +1,4 @@
-use Rattle.std.proofs.Common.{◌≡◌, ◌-◌, ◌∙◌, suc, length, inl, inr, arith}
+use Rattle.std.proofs.Common.{◌≡◌, ◌-◌, ◌∙◌, suc, length, length-drop, inl, inr, ap, arith}
 use Rattle.cq_steps.specs.Worlds.{saved_values}
 use Rattle.cq_steps.specs.declared.alternatives.Alternatives.TheVariants.{Barrier, Ways}
 use Rattle.cq_ways.proofs.Newest.{older_ones, other_newest, same_length}
