@@ -1,0 +1,5 @@
+pub mod Listing
+pub mod Parted
+pub mod Passes
+pub mod Strengthening
+pub mod Keeping

@@ -1,16 +1,42 @@
 -- What of a list is kept for its rows over some targets.
-use Rattle.std.specs.Prelude.{◌≡◌, ℕ, List, ◌++◌}
+use Rattle.std.specs.Prelude.{◌≡◌, ℕ, List, [], ◌++◌, map}
 use Rattle.spec_linear.specs.Solution.{Constraint, Solvable, MentionsOnly}
-use Rattle.spec_echelon.specs.Echelon.{Solved, AreDistinct}
+use Rattle.spec_echelon.specs.Echelon.{Solved, AreDistinct, IsEchelon}
 use Rattle.spec_projection.specs.Lists.{AreForms}
 use Rattle.spec_projection.specs.Others.{AreAscending}
 use Rattle.spec_projection.specs.Partial.{AreInequalities}
-use Rattle.spec_limits.specs.Answers.{Leaves}
+use Rattle.spec_projection.specs.Irredundant.{Sifts}
+use Rattle.spec_projection.specs.Strict.{Strengthened}
+use Rattle.spec_projection.specs.Substitution.{put_into}
+use Rattle.spec_projection.specs.Projection.{inequalities_of, disequations_of}
+use Rattle.spec_limits.specs.Answers.{Solves, Leaves}
 use Rattle.cq_store.specs.Told.{numbers_of}
 use Rattle.cq_project.specs.Rows.{equations_of}
 use Rattle.cq_fourier.specs.Next.{AreApart}
 use Rattle.cq_rows.specs.Scaling.{AreDisequations}
 use Rattle.cq_keep.specs.declared.Kept.{Kept}
+use Rattle.cq_keep.specs.declared.Substituted.{Substituted}
+use Rattle.cq_keep.specs.declared.Left.{Left}
+
+-- the equations are put into the list's inequalities and disequations
+pub record ArePutIn (l : List Constraint) (s : Substituted) : Type 0 where
+  pub inequalities : s.inequalities.items ≡ map (put_into (equations_of s.equations.items)) (inequalities_of l)
+  pub disequations : s.disequations.items ≡ map (put_into (equations_of s.equations.items)) (disequations_of l)
+
+-- the equations are all that the list entails, each solved for its first variable in the order, and are put into the others
+pub record IsSubstituted (order : List ℕ) (l : List Constraint) (s : Substituted) : Type 0 where
+  pub echelon : IsEchelon order l (equations_of s.equations.items)
+  pub put_in : ArePutIn l s
+
+-- the same where the order is that of an answer over the targets
+pub record AreSubstituted (targets : List ℕ) (l : List Constraint) (s : Substituted) : Type 0 where
+  pub solves : Solves targets l (equations_of s.equations.items)
+  pub put_in : ArePutIn l s
+
+-- weak rows with the form of a disequation are made strict, and disequations that follow are dropped
+pub record AreLeft (s : Substituted) (left : Left) : Type 0 where
+  pub strict : Strengthened s.disequations.items s.inequalities.items left.inequalities.items
+  pub unequal : Sifts left.inequalities.items [] s.disequations.items left.disequations.items
 
 -- these are the equations of the targets, the inequalities from which the rest is eliminated, the disequations that are
 -- left and the variables that are kept beside the targets
