@@ -60,7 +60,7 @@ pub struct Kept {
 
 /// The equations that the list entails, each solved for its first variable in the order, and the other members with these
 /// put in.
-fn substituted(
+fn put_in(
     alloc: Global,
     told: &[Constraint],
     order: &[VarId],
@@ -122,7 +122,7 @@ fn of_variables(
 }
 
 /// What of the list is kept for its rows over `keep`. No call of a store makes more than `pivots` exchanges.
-pub fn kept(
+pub fn kept_of(
     alloc: Global,
     told: &[Constraint],
     keep: &[VarId],
@@ -137,7 +137,7 @@ pub fn kept(
     see_forms(told);
     let front = others_of(alloc, told, keep)?;
     let order = joined(alloc, &front, keep)?;
-    let rows = substituted(alloc, told, &order, pivots)?;
+    let rows = put_in(alloc, told, &order, pivots)?;
     let left = left_of(alloc, &rows, pivots)?;
     let variables = unwanted(alloc, &left.disequations, keep)?;
     let rest = others(alloc, &front, &variables)?;
