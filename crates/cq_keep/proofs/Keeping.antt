@@ -1,5 +1,5 @@
 -- What the steps up to the elimination keep of a list.
-use Rattle.std.proofs.Common.{◌≡◌, ◌↔◌, inl, inr, ℕ, List, [], ◌++◌, refl, ap, sym, subst, ◌∙◌}
+use Rattle.std.proofs.Common.{◌≡◌, ◌↔◌, inl, inr, ℕ, List, [], ◌∷◌, ◌++◌, refl, ap, sym, subst, ◌∙◌}
 use Rattle.std.specs.Prelude.{map}
 use Rattle.std.specs.List.{AllByRecursion}
 use Rattle.spec_rational.specs.Sums.{Mentions}
@@ -145,6 +145,7 @@ module _ (targets front : List ℕ) (l : List Constraint) (es : List Solved) (k 
       elim (has_either x targets kept i) [ inl t ↦ ((others.others x).0 r.0).1 t | inr n ↦ r.1 n ]
 
   pub is_kept : IsKept targets l k
+  unfolding keeps
   is_kept = record {
     es = es;
     leaves = record {

@@ -1,8 +1,17 @@
 -- Variables by age, and those that are not among others.
 use mathlib.Core.List.{reverse-cons}
-use Rattle.std.proofs.Common.{◌≡◌, ◌↔◌, ◌⊎◌, reverse, inl, inr, ℕ, zero, suc, ◌+◌, ◌<◌, List, [], ◌∷◌, ◌++◌, length, get_or, Bool, true, false, cond, not, nat_eq, ◌||◌, arith, refl, ap, sym, subst, ◌∙◌}
-use Rattle.std.specs.Prelude.{Contains, filter}
-use Rattle.std.specs.List.{list_any}
+use Rattle.std.proofs.Common.{◌≡◌, ◌↔◌, ◌⊎◌, reverse, inl, inr, ℕ, zero, suc, ◌+◌, ◌<◌, List, [], ◌∷◌, ◌++◌, length, take, get_or, Bool, true, false, cond, not, nat_eq, ◌||◌, arith, refl, ap, sym, subst, ◌∙◌}
+use Rattle.std.specs.Prelude.{Contains, filter, IsPermutation}
+use Rattle.std.specs.List.{list_any, dedup}
+use Rattle.std.proofs.lemmas.List.{take_more, map-append}
+use Rattle.std.proofs.lemmas.List.Kept.{Contains-dedup_nat, Contains-from_dedup}
+use Rattle.std.proofs.lemmas.List.Sorted.{Contains-permutation, IsPermutation-sym}
+use Rattle.spec_rational.specs.Sums.{Monomial, Mentions}
+use Rattle.spec_linear.specs.Form.{variables}
+use Rattle.spec_echelon.proofs.Orders.{mentions-has}
+use Rattle.spec_projection.proofs.Rows.{mention_either}
+use Rattle.cq_frac.specs.declared.VarId.{VarId}
+use Rattle.cq_store.specs.Told.{numbers_of}
 use Rattle.std.specs.List.Sorted.{IsStrictlyIncreasing}
 use Rattle.spec_lists.proofs.Tests.{nat_eq-same, nat_eq-other}
 use Rattle.spec_linear.specs.Solution.{Constraint, Has, SomeMentions, MentionsOnly}
@@ -11,7 +20,7 @@ use Rattle.spec_echelon.specs.Echelon.{AreDistinct}
 use Rattle.spec_projection.specs.Others.{AreAscending, AreDescending, AreOthers}
 use Rattle.spec_projection.proofs.Members.{has_either, has_filtered, has_passed}
 use Rattle.spec_projection.proofs.Standing.{has_or_not}
-use Rattle.cq_keep.specs.Variables.{is_among, others_than}
+use Rattle.cq_keep.specs.Variables.{is_among, others_than, AreUnwanted}
 
 -- ---- members
 
@@ -22,11 +31,11 @@ contains_of_has (y ∷ xs) x (inr h) = let c = contains_of_has xs x h in (suc c.
 
 pub has_of_contains : (xs : List ℕ) (x : ℕ) → Contains xs x → Has x xs
 has_of_contains [] x c = absurd (omega (arith, c.1))
-has_of_contains (y ∷ xs) x c = by_place c.0 c.1 c.2
+has_of_contains (y ∷ xs) x c = by_place c.0 c.1 c.2 (has_of_contains xs x)
   where
-    by_place : (k : ℕ) → k < length (y ∷ xs) → get_or (y ∷ xs) k x ≡ x → Has x (y ∷ xs)
-    by_place zero l e = inl (sym e)
-    by_place (suc k) l e = inr (has_of_contains xs x (k, omega (arith, l), e))
+    by_place : (k : ℕ) → k < length (y ∷ xs) → get_or (y ∷ xs) k x ≡ x → (Contains xs x → Has x xs) → Has x (y ∷ xs)
+    by_place zero l e r = inl (sym e)
+    by_place (suc k) l e r = inr (r (k, omega (arith, l), e))
 
 pub among_has : (xs : List ℕ) (x : ℕ) → is_among xs x ≡ true → Has x xs
 among_has [] x e = let d : false ≡ true = e in cc
@@ -153,3 +162,67 @@ descending [] a = tt
 descending (x ∷ xs) a =
     subst AreDescending (sym (reverse-cons x xs))
     (descending_more (reverse xs) x (descending xs (ascending_rest x xs a)) (λ y h. above x xs a y ((has_reversed xs y).0 h)))
+
+numbers_reversed : (vs : List VarId) → numbers_of (reverse vs) ≡ reverse (numbers_of vs)
+numbers_reversed [] = refl
+numbers_reversed (v ∷ vs) =
+    ap numbers_of (reverse-cons v vs) ∙ map-append (λ (x : VarId). x.0) (reverse vs) (v ∷ []) ∙ ap (λ w. w ++ v.0 ∷ []) (numbers_reversed vs) ∙ sym (reverse-cons v.0 (numbers_of vs))
+
+-- ---- the variables of rows
+
+has_mentions : (x : ℕ) (s : List Monomial) → Has x (variables s) → Mentions x s
+has_mentions x [] h = h
+has_mentions x (m ∷ s) (inl e) = inl e
+has_mentions x (m ∷ s) (inr h) = inr (has_mentions x s h)
+
+mention_left : (x : ℕ) (k l : List Constraint) → SomeMentions x k → SomeMentions x (k ++ l)
+mention_left x [] l h = absurd h
+mention_left x (c ∷ k) l (inl m) = inl m
+mention_left x (c ∷ k) l (inr h) = inr (mention_left x k l h)
+
+mention_right : (x : ℕ) (k l : List Constraint) → SomeMentions x l → SomeMentions x (k ++ l)
+mention_right x [] l h = h
+mention_right x (c ∷ k) l h = inr (mention_right x k l h)
+
+pub mentioned_more : (rows : List Constraint) (i : ℕ) (row : Constraint) (old new : List ℕ) → i < length rows → row ≡ get_or rows i row
+    → new ≡ old ++ variables row.form.products → ((x : ℕ) → Has x old ↔ SomeMentions x (take i rows)) → (x : ℕ)
+    → Has x new ↔ SomeMentions x (take (i + 1) rows)
+mentioned_more rows i row old new within at e known x =
+    let one : take (i + 1) rows ≡ take i rows ++ row ∷ [] = take_more rows i row within ∙ ap (λ d. take i rows ++ d ∷ []) (sym at) in (
+      (λ h. subst (SomeMentions x) (sym one) (elim (has_either x old (variables row.form.products) (subst (Has x) e h)) [
+        | inl k ↦ mention_left x (take i rows) (row ∷ []) ((known x).0 k)
+        | inr k ↦ mention_right x (take i rows) (row ∷ []) (inl (has_mentions x row.form.products k))
+      ])),
+      (λ m. subst (Has x) (sym e) (elim (mention_either x (take i rows) (row ∷ []) (subst (SomeMentions x) one m)) [
+        | inl k ↦ has_left x old (variables row.form.products) ((known x).1 k)
+        | inr k ↦ elim k [ inl j ↦ has_right x old (variables row.form.products) (mentions-has x row.form.products j) | inr n ↦ absurd n ]
+      ])),
+    )
+
+pub deduped : (given sorted : List ℕ) → IsPermutation given sorted → (x : ℕ) → Has x (dedup nat_eq sorted) ↔ Has x given
+deduped given sorted p x = (
+  (λ h. has_of_contains given x
+      (Contains-permutation sorted given x (IsPermutation-sym given sorted p) (Contains-from_dedup nat_eq sorted x (contains_of_has (dedup nat_eq sorted) x h)))),
+  (λ h. has_of_contains (dedup nat_eq sorted) x (Contains-dedup_nat sorted x (Contains-permutation given sorted x p (contains_of_has given x h)))),
+)
+
+pub unwanted_are : (targets xs : List ℕ) (rows : List Constraint) → AreAscending xs → ((x : ℕ) → Has x xs ↔ SomeMentions x rows)
+    → AreUnwanted targets rows (others_than targets xs)
+unwanted_are targets xs rows a m = record {
+  oldest_first = ascending_filter (λ x. not (is_among targets x)) xs a;
+  those = λ x.
+      let o = others_has targets xs x in (
+        (λ h. let k = o.0 h in ((m x).0 k.0, k.1)),
+        (λ h. o.1 ((m x).1 h.0, h.1)),
+      );
+}
+
+pub others_are : (targets : List ℕ) (l : List Constraint) (vs : List VarId) → AreUnwanted targets l (numbers_of vs) → AreOthers targets l (numbers_of (reverse vs))
+others_are targets l vs u =
+    subst (AreOthers targets l) (sym (numbers_reversed vs))
+    (record {
+      youngest_first = descending (numbers_of vs) u.oldest_first;
+      others = λ x.
+          let r = has_reversed (numbers_of vs) x in
+          let t = u.those x in ((λ h. t.0 (r.0 h)), (λ h. r.1 (t.1 h)));
+    })

@@ -2,10 +2,14 @@
 use Rattle.std.proofs.Common.{◌≡◌, inl, inr, ℕ, List, [], ◌∷◌, ◌++◌, Bool, true, false, cond, not, refl, ap, sym, subst, ◌∙◌}
 use Rattle.std.specs.Prelude.{filter}
 use Rattle.spec_linear.specs.Solution.{Has}
-use Rattle.spec_echelon.specs.Echelon.{Solved, AreDistinct, InOrder}
-use Rattle.spec_echelon.proofs.Orders.{in_order-has, in_order-behind, in_order-rest}
+use Rattle.std.specs.List.{AllByRecursion}
+use Rattle.spec_linear.specs.Solution.{Constraint}
+use Rattle.spec_echelon.specs.Echelon.{Solved, AreDistinct, InOrder, IsBefore, IsEchelon, variables}
+use Rattle.spec_echelon.proofs.Orders.{in_order-has, in_order-behind, in_order-rest, in_order-once}
 use Rattle.spec_projection.specs.Substitution.{solved_variables}
 use Rattle.spec_projection.proofs.Members.{has_either, has_mapped, has_image, has_filtered}
+use Rattle.spec_projection.proofs.Filled.{each, all_of}
+use Rattle.cq_echelon.specs.Putting.{IsProper}
 use Rattle.cq_keep.specs.Variables.{is_among, solved_for}
 use Rattle.cq_keep.proofs.Listing.{among_has, has_among, apart_from}
 
@@ -48,3 +52,14 @@ module _ (front targets : List ℕ) (distinct : AreDistinct (front ++ targets)) 
       let k = has_mapped (λ e. e.variable) x (solved_for targets es) h in
       let f = has_filtered (λ e. is_among targets e.variable) k.from es k.member in
       subst (λ z. Has z targets) (sym k.is) (among_has targets k.from.variable f.1)
+
+-- ---- its equations can be put into rows
+
+distinct_in_order : (order xs : List ℕ) → AreDistinct order → InOrder order xs → AreDistinct xs
+distinct_in_order order [] d h = tt
+distinct_in_order order (x ∷ xs) d h = (in_order-once order x xs d h, distinct_in_order order xs d (in_order-rest order x xs h))
+
+pub proper : (order : List ℕ) (l : List Constraint) (es : List Solved) → AreDistinct order → IsEchelon order l es → AllByRecursion IsProper es
+proper order l es d e = all_of IsProper es (λ g h.
+    let b = each (λ k. IsBefore order k.variable k.form.products) es e.first g h in
+    record { once = (distinct_in_order order (g.variable ∷ variables g.form.products) d b.ordered).1; nonzero = b.nonzero })

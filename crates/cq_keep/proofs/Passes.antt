@@ -14,6 +14,7 @@ use Rattle.cq_reduce.specs.Telling.{RefusesTelling, SpendsTelling}
 use Rattle.cq_reduce.proofs.Answering.{refused_so, spent_so}
 use Rattle.cq_sift.specs.Sifting.{IsToldWith, RefusesSifting, SpendsSifting, telling, asking}
 use Rattle.cq_sift.proofs.Parts.{sublist_all, sublist_front}
+use Rattle.cq_keep.specs.Passing.{RefusesPass, SpendsPass, while_telling, while_sifting}
 
 -- an answer goes out from some of the rows beside and some of those gone through, in whatever order
 module _ (targets : List ℕ) (l beside rows : List Constraint)
@@ -78,3 +79,12 @@ module _ (targets : List ℕ) (l beside rows : List Constraint)
       spent_so targets l list (Only c) NoQuestion (pass_joins list c v) (λ d k. absurd k) (of_pass list w) (pass_longer list c v) n r
   sifting_spent n (asking list c w h r) =
       spent_so targets l list NoQuestion (Only c) (λ d k. absurd k) (λ d e. asks c d h e) (of_pass list w) (λ d k. absurd k) n r
+
+  -- ---- either
+  pub pass_refused : (pair : Pair) → RefusesPass beside rows pair → IsRefusedAnswering targets l pair
+  pass_refused pair (while_telling r) = telling_refused pair r
+  pass_refused pair (while_sifting r) = sifting_refused pair r
+
+  pub pass_spent : (n : ℕ) → SpendsPass beside rows n → IsSpentAnswering targets l n
+  pass_spent n (while_telling r) = telling_spent n r
+  pass_spent n (while_sifting r) = sifting_spent n r
