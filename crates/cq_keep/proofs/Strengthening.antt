@@ -82,7 +82,7 @@ module _ (targets : List ℕ) (l : List Constraint) (s : Substituted) (a : AreSu
       (subst (λ i. (m : Moment) → AreRowsOf m (s.disequations.items ++ i) → OverflowDue m pair) a.put_in.inequalities due))
 
   module _ (strict : List Constraint) (strong : Strengthened s.disequations.items s.inequalities.items strict) where
-    strengthens : Strengthens l es strict
+    pub strengthens : Strengthens l es strict
     strengthens =
         subst (λ d. Strengthened d (map (put_into es) (inequalities_of l)) strict) a.put_in.disequations
         (subst (λ i. Strengthened s.disequations.items i strict) a.put_in.inequalities strong)
