@@ -1,34 +1,29 @@
 -- What the steps up to the elimination keep of a list.
 use Rattle.std.proofs.Common.{◌≡◌, ◌↔◌, inl, inr, ℕ, List, [], ◌∷◌, ◌++◌, refl, ap, sym, subst, ◌∙◌}
 use Rattle.std.specs.Prelude.{map}
-use Rattle.std.specs.List.{AllByRecursion}
 use Rattle.spec_rational.specs.Sums.{Mentions}
-use Rattle.spec_linear.specs.Solution.{Constraint, Solves as Satisfies, Solvable, Has, SomeMentions, MentionsOnly}
+use Rattle.spec_linear.specs.Solution.{Constraint, Solvable, Has, SomeMentions, MentionsOnly}
 use Rattle.spec_linear.proofs.Lists.{solves_append}
 use Rattle.spec_linear.proofs.Denominators.{has_left, has_right}
 use Rattle.spec_echelon.specs.Echelon.{Solved, AreDistinct, variables, equations, IsBefore, IsEchelon}
 use Rattle.spec_echelon.proofs.Orders.{in_order-has, mentions-has}
 use Rattle.spec_projection.specs.Lists.{AreForms}
 use Rattle.spec_projection.specs.Others.{AreAscending, AreOthers}
-use Rattle.spec_projection.specs.Partial.{AreInequalities}
 use Rattle.spec_projection.specs.Irredundant.{Sifts}
 use Rattle.spec_projection.specs.Strict.{Strengthened}
 use Rattle.spec_projection.specs.Substitution.{put_into}
 use Rattle.spec_projection.specs.Projection.{is_inequality, is_disequation, inequalities_of, disequations_of, Keeps}
-use Rattle.spec_projection.proofs.Members.{solves_all, has_either, has_mapped, has_filtered}
-use Rattle.spec_linear.proofs.Lists.{member_holds}
+use Rattle.spec_projection.proofs.Members.{has_either, has_mapped, has_filtered}
 use Rattle.spec_projection.proofs.Filled.{each}
 use Rattle.spec_projection.proofs.Free.{mentions-with_forms_of}
 use Rattle.spec_projection.proofs.Mentions.{some_mentions, mentioning}
 use Rattle.spec_projection.proofs.PutIn.{put_inequalities, put_disequations, put_in_alike}
-use Rattle.spec_projection.proofs.Rows.{mention_either}
 use Rattle.spec_projection.proofs.Sifted.{sublist_has, sifted_sublist}
 use Rattle.spec_projection.proofs.Standing.{has_or_not}
 use Rattle.spec_projection.proofs.Strong.{strengthened_alike, strengthened_from}
-use Rattle.spec_limits.specs.Answers.{Solves, Strengthens, Leaves}
+use Rattle.spec_limits.specs.Answers.{Strengthens}
 use Rattle.cq_store.specs.Told.{numbers_of}
 use Rattle.cq_project.specs.Rows.{equations_of}
-use Rattle.cq_rows.specs.Scaling.{AreDisequations}
 use Rattle.cq_sift.proofs.Parts.{solvable_part}
 use Rattle.cq_keep.specs.declared.Kept.{Kept}
 use Rattle.cq_keep.specs.Variables.{solved_for}

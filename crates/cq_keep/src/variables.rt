@@ -67,11 +67,7 @@ pub fn is_one_of(variable: VarId, variables: &[VarId]) -> bool
 }
 
 /// The variables that are none of those that are taken, in their order.
-pub fn others(
-    alloc: Global,
-    variables: &[VarId],
-    taken: &[VarId],
-) -> Result<Vec<VarId>, AllocError>
+pub fn others(alloc: Global, variables: &[VarId], taken: &[VarId]) -> Result<Vec<VarId>, AllocError>
     ensures { IfOk result (λ xs. numbers_of xs.items ≡ others_than (numbers_of taken.now) (numbers_of variables.now)) }
 {
     let mut others = Vec::new(alloc);

@@ -21,7 +21,7 @@ put_in-requires-clause-distinct c =
     let front = numbers_of c.in_ok-front.front.items in
     let targets = numbers_of c.args.keep.now in
     let order = ap numbers_of (c.deref-2.ensures.value ∙ c.in_ok-order.ensures ∙ ap (λ v. v ++ c.args.keep.now) c.deref.ensures.value)
-        ∙ map-append (λ (x : VarId). x.0) c.in_ok-front.front.items c.args.keep.now in
+    ∙ map-append (λ (x : VarId). x.0) c.in_ok-front.front.items c.args.keep.now in
     subst AreDistinct (sym order) (order_distinct targets front c.args.told.now c.in_ok-front.ensures c.requires.distinct)
 
 pub put_in-requires-clause-all : goal.put_in-requires-clause-all
@@ -29,7 +29,7 @@ put_in-requires-clause-all c =
     let front = numbers_of c.in_ok-front.front.items in
     let targets = numbers_of c.args.keep.now in
     let order = ap numbers_of (c.deref-2.ensures.value ∙ c.in_ok-order.ensures ∙ ap (λ v. v ++ c.args.keep.now) c.deref.ensures.value)
-        ∙ map-append (λ (x : VarId). x.0) c.in_ok-front.front.items c.args.keep.now in
+    ∙ map-append (λ (x : VarId). x.0) c.in_ok-front.front.items c.args.keep.now in
     subst (λ o. MentionsOnly o c.args.told.now) (sym order) (order_all targets front c.args.told.now c.in_ok-front.ensures)
 
 pub returns-in_err-rows-clause-pivots : goal.returns-in_err-rows-clause-pivots
@@ -49,7 +49,7 @@ left_of-requires-clause-solvable c =
     let told = c.args.told.now in
     let es = equations_of c.in_ok-rows.rows.equations.items in
     let order = ap numbers_of (c.deref-2.ensures.value ∙ c.in_ok-order.ensures ∙ ap (λ v. v ++ c.args.keep.now) c.deref.ensures.value)
-        ∙ map-append (λ (x : VarId). x.0) c.in_ok-front.front.items c.args.keep.now in
+    ∙ map-append (λ (x : VarId). x.0) c.in_ok-front.front.items c.args.keep.now in
     let s = c.in_ok-rows.ensures.substituted in
     subst Solvable (sym (ap₂ (λ a b. a ++ b) s.put_in.inequalities s.put_in.disequations))
     (put_solvable (front ++ targets) told es (order_distinct targets front told c.in_ok-front.ensures c.requires.distinct) (order_all targets front told c.in_ok-front.ensures)
@@ -62,7 +62,7 @@ returns-in_err-left-clause-overflow c = λ pair e.
     let told = c.args.told.now in
     let es = equations_of c.in_ok-rows.rows.equations.items in
     let order = ap numbers_of (c.deref-2.ensures.value ∙ c.in_ok-order.ensures ∙ ap (λ v. v ++ c.args.keep.now) c.deref.ensures.value)
-        ∙ map-append (λ (x : VarId). x.0) c.in_ok-front.front.items c.args.keep.now in
+    ∙ map-append (λ (x : VarId). x.0) c.in_ok-front.front.items c.args.keep.now in
     let s = c.in_ok-rows.ensures.substituted in
     let a : AreSubstituted targets told c.in_ok-rows.rows = record {
       solves = record { front = front; others = c.in_ok-front.ensures; echelon = subst (λ o. IsEchelon o told es) order s.echelon };
@@ -78,7 +78,7 @@ returns-in_err-left-clause-pivots c = λ n e.
     let told = c.args.told.now in
     let es = equations_of c.in_ok-rows.rows.equations.items in
     let order = ap numbers_of (c.deref-2.ensures.value ∙ c.in_ok-order.ensures ∙ ap (λ v. v ++ c.args.keep.now) c.deref.ensures.value)
-        ∙ map-append (λ (x : VarId). x.0) c.in_ok-front.front.items c.args.keep.now in
+    ∙ map-append (λ (x : VarId). x.0) c.in_ok-front.front.items c.args.keep.now in
     let s = c.in_ok-rows.ensures.substituted in
     let a : AreSubstituted targets told c.in_ok-rows.rows = record {
       solves = record { front = front; others = c.in_ok-front.ensures; echelon = subst (λ o. IsEchelon o told es) order s.echelon };
@@ -98,7 +98,7 @@ returns-clause-kept c =
     let left = c.in_ok-left.left.disequations.items in
     let variables = numbers_of c.in_ok-variables.variables.items in
     let order = ap numbers_of (c.deref-2.ensures.value ∙ c.in_ok-order.ensures ∙ ap (λ v. v ++ c.args.keep.now) c.deref.ensures.value)
-        ∙ map-append (λ (x : VarId). x.0) c.in_ok-front.front.items c.args.keep.now in
+    ∙ map-append (λ (x : VarId). x.0) c.in_ok-front.front.items c.args.keep.now in
     let s = c.in_ok-rows.ensures.substituted in
     let echelon = subst (λ o. IsEchelon o told es) order s.echelon in
     let a : AreSubstituted targets told rows = record { solves = record { front = front; others = c.in_ok-front.ensures; echelon = echelon }; put_in = s.put_in } in

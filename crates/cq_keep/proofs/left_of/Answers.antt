@@ -1,4 +1,4 @@
-use Rattle.std.proofs.Common.{◌++◌, Err, ap, ap₂, sym, subst, ◌∙◌}
+use Rattle.std.proofs.Common.{◌++◌, Err, ap, ap₂, sym, subst}
 use Rattle.spec_linear.specs.Solution.{Solvable}
 use Rattle.spec_projection.specs.Strict.{Strengthened}
 use Rattle.cq_fourier.specs.Steps.{AreRowsOf}
@@ -23,7 +23,7 @@ passed-requires c =
     let rows = c.args.rows.now in
     let strict = c.in_ok-inequalities.inequalities.items in
     let strong = subst (λ d. Strengthened d rows.inequalities.items strict) c.deref.ensures.value
-        (subst (λ i. Strengthened c.deref.result.now i strict) c.deref-2.ensures.value c.in_ok-inequalities.ensures.strict) in
+    (subst (λ i. Strengthened c.deref.result.now i strict) c.deref-2.ensures.value c.in_ok-inequalities.ensures.strict) in
     record {
       solvable = subst Solvable (sym (ap₂ (λ a b. a ++ b) c.deref-3.ensures.value c.deref-4.ensures.value))
           (strict_solvable rows.disequations.items rows.inequalities.items strict strong c.requires.solvable);
@@ -34,7 +34,7 @@ returns-in_err-disequations-clause-overflow c = λ targets l s pair e.
     let rows = c.args.rows.now in
     let strict = c.in_ok-inequalities.inequalities.items in
     let strong = subst (λ d. Strengthened d rows.inequalities.items strict) c.deref.ensures.value
-        (subst (λ i. Strengthened c.deref.result.now i strict) c.deref-2.ensures.value c.in_ok-inequalities.ensures.strict) in
+    (subst (λ i. Strengthened c.deref.result.now i strict) c.deref-2.ensures.value c.in_ok-inequalities.ensures.strict) in
     let told = passed c.from_residual-in_err-disequations.result c.in_err-disequations.field-0.0 pair c.from_residual-in_err-disequations.ensures.1 e in
     left_refused targets l rows s strict strong pair
     (subst (λ w. RefusesPass w rows.disequations.items pair) c.deref-3.ensures.value
@@ -45,7 +45,7 @@ returns-in_err-disequations-clause-pivots c = λ targets l s n e.
     let rows = c.args.rows.now in
     let strict = c.in_ok-inequalities.inequalities.items in
     let strong = subst (λ d. Strengthened d rows.inequalities.items strict) c.deref.ensures.value
-        (subst (λ i. Strengthened c.deref.result.now i strict) c.deref-2.ensures.value c.in_ok-inequalities.ensures.strict) in
+    (subst (λ i. Strengthened c.deref.result.now i strict) c.deref-2.ensures.value c.in_ok-inequalities.ensures.strict) in
     let told = store_spent c.from_residual-in_err-disequations.result c.in_err-disequations.field-0.0 n c.from_residual-in_err-disequations.ensures.1 e in
     let spent = c.in_err-disequations.ensures.pivots n (ap Err told) in (
       spent.0,

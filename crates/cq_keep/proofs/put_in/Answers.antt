@@ -44,7 +44,7 @@ pub returns-in_err-inequalities-clause-overflow : goal.returns-in_err-inequaliti
 returns-in_err-inequalities-clause-overflow c = λ targets pair e.
     let rows = c.deref-2.ensures.value ∙ c.in_ok-ordered.ensures in
     let puts = c.in_err-inequalities.ensures.overflow pair
-        (ap Err (refused c.from_residual-in_err-inequalities.result c.in_err-inequalities.field-0.0 pair c.from_residual-in_err-inequalities.ensures.1 e)) in
+    (ap Err (refused c.from_residual-in_err-inequalities.result c.in_err-inequalities.field-0.0 pair c.from_residual-in_err-inequalities.ensures.1 e)) in
     c.in_ok-equations.ensures.putting targets c.deref-2.result.now
     (λ d h. (has_filtered (λ k. is_inequality k.relation) d c.args.told.now (subst (Has d) rows h)).0) pair
     (subst (λ s. PutsInSome (equations_of s) c.deref-2.result.now pair) c.deref.ensures.value puts)
@@ -53,7 +53,7 @@ pub returns-in_err-disequations-clause-overflow : goal.returns-in_err-disequatio
 returns-in_err-disequations-clause-overflow c = λ targets pair e.
     let rows = c.deref-4.ensures.value ∙ c.in_ok-unequal.ensures in
     let puts = c.in_err-disequations.ensures.overflow pair
-        (ap Err (refused c.from_residual-in_err-disequations.result c.in_err-disequations.field-0.0 pair c.from_residual-in_err-disequations.ensures.1 e)) in
+    (ap Err (refused c.from_residual-in_err-disequations.result c.in_err-disequations.field-0.0 pair c.from_residual-in_err-disequations.ensures.1 e)) in
     c.in_ok-equations.ensures.putting targets c.deref-4.result.now
     (λ d h. (has_filtered (λ k. is_disequation k.relation) d c.args.told.now (subst (Has d) rows h)).0) pair
     (subst (λ s. PutsInSome (equations_of s) c.deref-4.result.now pair) c.deref-3.ensures.value puts)

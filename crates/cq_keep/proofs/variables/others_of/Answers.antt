@@ -1,4 +1,4 @@
-use Rattle.std.proofs.Common.{ap, sym, subst}
+use Rattle.std.proofs.Common.{sym, subst}
 use Rattle.spec_projection.specs.Others.{AreOthers}
 use Rattle.cq_store.specs.Told.{numbers_of}
 use Rattle.cq_keep.proofs.Listing.{others_are}
