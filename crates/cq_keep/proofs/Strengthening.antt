@@ -19,8 +19,8 @@ use Rattle.cq_project.specs.Rows.{equations_of}
 use Rattle.cq_reduce.specs.Answering.{IsRefusedAnswering, IsSpentAnswering}
 use Rattle.cq_keep.specs.declared.Substituted.{Substituted}
 use Rattle.cq_keep.specs.Keeping.{AreSubstituted}
-use Rattle.cq_keep.specs.Passing.{RefusesPass, SpendsPass}
-use Rattle.cq_keep.proofs.Passes.{pass_refused, pass_spent}
+use Rattle.cq_pass.specs.Passing.{RefusesPass, SpendsPass}
+use Rattle.cq_pass.proofs.Passes.{pass_refused, pass_spent}
 
 module _ (targets : List ℕ) (l : List Constraint) (es : List Solved) (solves : Solves targets l es) where
   abbrev ordered : List Constraint

@@ -2,7 +2,7 @@
 //! in the inequalities and the disequations that don't follow. Variables that stand in such a disequation are kept too.
 #![tactic(auto)]
 
-pub mod rows;
+mod rows;
 pub mod variables;
 
 ghost use Rattle.std.specs.Prelude.{◌≡◌, ℕ, List, [], ◌++◌, IfOk};
@@ -17,13 +17,14 @@ ghost use Rattle.cq_reduce.specs.Answering.{IsRefusedAnswering, IsSpentAnswering
 ghost use Rattle.cq_keep.specs.Variables.{solved_for};
 ghost use Rattle.cq_keep.specs.Keeping.{IsKept, IsSubstituted, AreSubstituted, AreLeft};
 
-use crate::rows::{disequations_in, inequalities_in, passed, see_forms};
+use crate::rows::{disequations_in, inequalities_in};
 use crate::variables::{is_one_of, joined, others, others_of, unwanted};
 use cq_echelon::putting::put_into;
 use cq_echelon::solved;
 use cq_form::Constraint;
 use cq_frac::VarId;
 use cq_linear::store::StoreFault;
+use cq_pass::{passed, see_forms};
 use cq_project::Equation;
 use cq_rows::strengthened;
 use std::alloc::{AllocError, Global};

@@ -4,7 +4,7 @@ use Rattle.spec_projection.specs.Strict.{Strengthened}
 use Rattle.cq_fourier.specs.Steps.{AreRowsOf}
 use Rattle.cq_linear.proofs.Passed.{refused, passed, store_spent}
 use Rattle.cq_rows.specs.Scaling.{AreDisequations}
-use Rattle.cq_keep.specs.Passing.{RefusesPass, SpendsPass}
+use Rattle.cq_pass.specs.Passing.{RefusesPass, SpendsPass}
 use Rattle.cq_keep.proofs.Keeping.{strict_solvable}
 use Rattle.cq_keep.proofs.Strengthening.{rows_refused, left_refused, left_spent}
 use Rattle.cq_keep.proofs.left_of.Goals as goal

@@ -14,7 +14,7 @@ use Rattle.cq_reduce.specs.Telling.{RefusesTelling, SpendsTelling}
 use Rattle.cq_reduce.proofs.Answering.{refused_so, spent_so}
 use Rattle.cq_sift.specs.Sifting.{IsToldWith, RefusesSifting, SpendsSifting, telling, asking}
 use Rattle.cq_sift.proofs.Parts.{sublist_all, sublist_front}
-use Rattle.cq_keep.specs.Passing.{RefusesPass, SpendsPass, while_telling, while_sifting}
+use Rattle.cq_pass.specs.Passing.{RefusesPass, SpendsPass, while_telling, while_sifting}
 
 -- an answer goes out from some of the rows beside and some of those gone through, in whatever order
 module _ (targets : List ℕ) (l beside rows : List Constraint)

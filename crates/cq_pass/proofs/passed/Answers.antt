@@ -5,8 +5,8 @@ use Rattle.spec_linear.proofs.Denominators.{has_left}
 use Rattle.cq_linear.proofs.Passed.{store_spent}
 use Rattle.cq_sift.specs.Sifting.{HaveSameMembers, RefusesSifting, SpendsSifting}
 use Rattle.cq_sift.proofs.Parts.{solvable_part}
-use Rattle.cq_keep.specs.Passing.{while_telling, while_sifting}
-use Rattle.cq_keep.proofs.rows.passed.Goals as goal
+use Rattle.cq_pass.specs.Passing.{while_telling, while_sifting}
+use Rattle.cq_pass.proofs.passed.Goals as goal
 
 pub holding-requires : goal.holding-requires
 holding-requires c = record {

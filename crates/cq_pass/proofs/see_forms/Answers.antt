@@ -4,7 +4,7 @@ use Rattle.spec_linear.specs.Form.{IsForm}
 use Rattle.spec_linear.specs.Solution.{Constraint}
 use Rattle.spec_projection.specs.Lists.{AreForms}
 use Rattle.cq_rows.proofs.Beside.{forms_more}
-use Rattle.cq_keep.proofs.rows.see_forms.Goals as goal
+use Rattle.cq_pass.proofs.see_forms.Goals as goal
 
 pub rows-init : goal.rows-init
 rows-init c = λ d h. absurd h
