@@ -108,6 +108,10 @@ ascending_filter test (x ∷ xs) a = by (test x) (ascending_filter test xs (asce
     by true r = ascending_more x (filter test xs) r (λ y h. above x xs a y (has_filtered test y xs h).0)
     by false r = r
 
+pub ascending_distinct : (xs : List ℕ) → AreAscending xs → AreDistinct xs
+ascending_distinct [] a = tt
+ascending_distinct (x ∷ xs) a = ((λ h. let more : x < x = above x xs a x h in omega arith), ascending_distinct xs (ascending_rest x xs a))
+
 descending_more : (ys : List ℕ) (x : ℕ) → AreDescending ys → ((y : ℕ) → Has y ys → x < y) → AreDescending (ys ++ x ∷ [])
 descending_more [] x d h = tt
 descending_more (a ∷ []) x d h = (h a (inl refl), tt)
@@ -126,7 +130,7 @@ descending_distinct : (xs : List ℕ) → AreDescending xs → AreDistinct xs
 descending_distinct [] d = tt
 descending_distinct (x ∷ xs) d = ((λ h. let less : x < x = below x xs d x h in omega arith), descending_distinct xs (descending_rest x xs d))
 
-distinct_both : (xs ys : List ℕ) → AreDistinct xs → AreDistinct ys → ((x : ℕ) → Has x xs → Has x ys → ⊥) → AreDistinct (xs ++ ys)
+pub distinct_both : (xs ys : List ℕ) → AreDistinct xs → AreDistinct ys → ((x : ℕ) → Has x xs → Has x ys → ⊥) → AreDistinct (xs ++ ys)
 distinct_both [] ys d e n = e
 distinct_both (x ∷ xs) ys d e n = (
   (λ h. elim (has_either x xs ys h) [ inl k ↦ d.0 k | inr k ↦ n x (inl refl) k ]),

@@ -1,7 +1,6 @@
 -- The stops while weak rows beside disequations are made strict, and the lists that are told then.
-use Rattle.std.proofs.Common.{inl, inr, ℕ, List, [], ◌∷◌, ◌++◌, refl, sym, subst}
+use Rattle.std.proofs.Common.{inl, inr, ℕ, List, ◌++◌, sym, subst}
 use Rattle.std.specs.Prelude.{map, IsPermutation}
-use Rattle.std.specs.List.{AllByRecursion}
 use Rattle.spec_linear.specs.Solution.{Constraint, Has}
 use Rattle.spec_linear.proofs.Denominators.{has_left, has_right}
 use Rattle.spec_echelon.specs.Echelon.{Solved}
@@ -10,9 +9,8 @@ use Rattle.spec_projection.specs.Strict.{Strengthened}
 use Rattle.spec_projection.specs.Substitution.{put_into}
 use Rattle.spec_projection.specs.Projection.{inequalities_of, disequations_of}
 use Rattle.spec_projection.proofs.Members.{has_either, has_mapped, has_image}
-use Rattle.spec_limits.specs.Asked.{alone}
-use Rattle.spec_limits.specs.Overflow.{Moment, answering, OverflowDue}
-use Rattle.spec_limits.specs.Answers.{Solves, Strengthens, IsAnswerList, beginning, IsAnswerRow, substituted}
+use Rattle.spec_limits.specs.Overflow.{Moment, OverflowDue}
+use Rattle.spec_limits.specs.Answers.{Solves, Strengthens, IsAnswerList, substituted}
 use Rattle.cq_frac.specs.declared.Pair.{Pair}
 use Rattle.cq_fourier.specs.Steps.{AreRowsOf}
 use Rattle.cq_project.specs.Rows.{equations_of}
@@ -20,6 +18,7 @@ use Rattle.cq_reduce.specs.Answering.{IsRefusedAnswering, IsSpentAnswering}
 use Rattle.cq_keep.specs.declared.Substituted.{Substituted}
 use Rattle.cq_keep.specs.Keeping.{AreSubstituted}
 use Rattle.cq_pass.specs.Passing.{RefusesPass, SpendsPass}
+use Rattle.cq_pass.proofs.Moments.{rows_refused}
 use Rattle.cq_pass.proofs.Passes.{pass_refused, pass_spent}
 
 module _ (targets : List ℕ) (l : List Constraint) (es : List Solved) (solves : Solves targets l es) where
@@ -28,15 +27,6 @@ module _ (targets : List ℕ) (l : List Constraint) (es : List Solved) (solves :
 
   abbrev unequal : List Constraint
   unequal = map (put_into es) (disequations_of l)
-
-  -- the moment has these rows
-  abbrev with_rows : List Constraint → Moment
-  with_rows rows = record { stage = answering; list = []; asked = []; operations = []; rows = map (λ c. c.form) rows }
-
-  answer_rows : (rows : List Constraint) → ((c : Constraint) → Has c rows → Has c (map (put_into es) (inequalities_of l ++ disequations_of l)))
-      → AllByRecursion (IsAnswerRow targets l) (map (λ c. c.form) rows)
-  answer_rows [] h = tt
-  answer_rows (c ∷ rows) h = (substituted c solves (h c (inl refl)), answer_rows rows (λ d k. h d (inr k)))
 
   put_member : (c : Constraint) → Has c (unequal ++ ordered) → Has c (map (put_into es) (inequalities_of l ++ disequations_of l))
   put_member c h = elim (has_either c unequal ordered h) [
@@ -51,19 +41,7 @@ module _ (targets : List ℕ) (l : List Constraint) (es : List Solved) (solves :
   ]
 
   pub strengthening_refused : (pair : Pair) → ((m : Moment) → AreRowsOf m (unequal ++ ordered) → OverflowDue m pair) → IsRefusedAnswering targets l pair
-  strengthening_refused pair due = record {
-    moment = with_rows (unequal ++ ordered);
-    of_answer = record {
-      stage = refl;
-      list = [];
-      is_list = beginning [] l refl;
-      in_force = alone;
-      asked = tt;
-      rows = answer_rows (unequal ++ ordered) put_member;
-      operations = refl;
-    };
-    due = due (with_rows (unequal ++ ordered)) (λ c h. has_image (λ d. d.form) c (unequal ++ ordered) h);
-  }
+  strengthening_refused pair due = rows_refused targets l (unequal ++ ordered) (λ c h. substituted c solves (put_member c h)) pair due
 
   -- some strict rows with some disequations are a list from which the answer goes out
   pub told_strict : (strict : List Constraint) → Strengthens l es strict → (told chosen list : List Constraint) → IsSublist told strict
@@ -75,8 +53,8 @@ module _ (targets : List ℕ) (l : List Constraint) (s : Substituted) (a : AreSu
   abbrev es : List Solved
   es = equations_of s.equations.items
 
-  pub rows_refused : (pair : Pair) → ((m : Moment) → AreRowsOf m (s.disequations.items ++ s.inequalities.items) → OverflowDue m pair) → IsRefusedAnswering targets l pair
-  rows_refused pair due =
+  pub scaling_refused : (pair : Pair) → ((m : Moment) → AreRowsOf m (s.disequations.items ++ s.inequalities.items) → OverflowDue m pair) → IsRefusedAnswering targets l pair
+  scaling_refused pair due =
       strengthening_refused targets l es a.solves pair
       (subst (λ d. (m : Moment) → AreRowsOf m (d ++ map (put_into es) (inequalities_of l)) → OverflowDue m pair) a.put_in.disequations
       (subst (λ i. (m : Moment) → AreRowsOf m (s.disequations.items ++ i) → OverflowDue m pair) a.put_in.inequalities due))

@@ -6,7 +6,7 @@ use Rattle.cq_linear.proofs.Passed.{refused, passed, store_spent}
 use Rattle.cq_rows.specs.Scaling.{AreDisequations}
 use Rattle.cq_pass.specs.Passing.{RefusesPass, SpendsPass}
 use Rattle.cq_keep.proofs.Keeping.{strict_solvable}
-use Rattle.cq_keep.proofs.Strengthening.{rows_refused, left_refused, left_spent}
+use Rattle.cq_keep.proofs.Strengthening.{scaling_refused, left_refused, left_spent}
 use Rattle.cq_keep.proofs.left_of.Goals as goal
 
 pub strengthened-requires : goal.strengthened-requires
@@ -15,7 +15,7 @@ strengthened-requires c = record { disequations = subst AreDisequations (sym c.d
 pub returns-in_err-inequalities-clause-overflow : goal.returns-in_err-inequalities-clause-overflow
 returns-in_err-inequalities-clause-overflow c = λ targets l s pair e.
     let told = refused c.from_residual.result c.in_err-inequalities.field-0.0 pair c.from_residual.ensures.1 e in
-    rows_refused targets l c.args.rows.now s pair
+    scaling_refused targets l c.args.rows.now s pair
     (λ m r. c.in_err-inequalities.ensures.overflow pair m (subst (AreRowsOf m) (sym (ap₂ (λ d i. d ++ i) c.deref.ensures.value c.deref-2.ensures.value)) r) (ap Err told))
 
 pub passed-requires : goal.passed-requires
