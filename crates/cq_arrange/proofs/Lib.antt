@@ -1,0 +1,5 @@
+pub mod Comparing
+pub mod Picked
+pub mod Lines
+pub mod Placed
+pub mod Arranged
