@@ -2,4 +2,5 @@ pub mod Comparing
 pub mod Picked
 pub mod Lines
 pub mod Placed
-pub mod Arranged
+pub mod Printing
+pub mod Joined

@@ -1,9 +1,8 @@
 -- The place of a row among others, found by halves.
-use Rattle.std.proofs.Common.{◌≡◌, ℕ, zero, suc, ◌+◌, ◌-◌, ◌<◌, ◌≤◌, List, [], ◌∷◌, ◌++◌, map, length, take, drop, get_or, arith, refl, ap, sym, subst, ◌∙◌}
-use Rattle.std.proofs.lemmas.List.{map-append, take-append-drop, drop_more}
-use Rattle.spec_linear.specs.Solution.{Has}
+use Rattle.std.proofs.Common.{◌≡◌, ℕ, zero, suc, ◌-◌, ◌<◌, ◌≤◌, List, [], ◌∷◌, ◌++◌, length, take, drop, get_or, arith, ap, sym, subst, ◌∙◌}
+use Rattle.std.proofs.lemmas.List.{map-append, take-append-drop}
 use Rattle.cq_arrange.specs.declared.PrintedRow.{PrintedRow}
-use Rattle.cq_arrange.specs.Lines.{Line, line_of, lines_of}
+use Rattle.cq_arrange.specs.Lines.{line_of, lines_of}
 use Rattle.cq_arrange.specs.Arranging.{LineBefore, IsPlace, LastBefore, BeforeFirst, JoinsAt}
 
 -- the row stands behind those before low, and in front of those from high on
@@ -20,7 +19,12 @@ module _ (order : List ℕ) (row : PrintedRow) where
   last_before [] (suc i) w h = absurd (omega (arith, w))
   last_before (r ∷ rows) (suc zero) w h = h r (omega arith)
   last_before (r ∷ []) (suc (suc i)) w h = absurd (omega (arith, w))
-  last_before (r ∷ q ∷ rows) (suc (suc i)) w h = last_before (q ∷ rows) (suc i) (omega (arith, w)) (λ d p. h d (omega arith))
+  last_before (r ∷ q ∷ rows) (suc (suc i)) w h =
+      let more : suc (suc i) - 1 ≡ suc i = omega arith in
+      let one : suc i - 1 ≡ i = omega arith in
+      last_before (q ∷ rows) (suc i) (omega (arith, w)) (λ d p.
+      subst (λ n. LineBefore order (line_of (get_or (q ∷ rows) n d)) (line_of row)) (sym one)
+      (subst (λ n. LineBefore order (line_of (get_or (r ∷ q ∷ rows) n d)) (line_of row)) more (h d (omega arith))))
 
   before_first : (rows : List PrintedRow) (i : ℕ) → ((d : PrintedRow) → i < length rows → LineBefore order (line_of row) (line_of (get_or rows i d)))
       → BeforeFirst order (line_of row) (lines_of (drop i rows))

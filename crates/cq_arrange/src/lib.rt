@@ -5,7 +5,7 @@ pub mod order;
 pub mod scaling;
 
 ghost use Rattle.std.specs.Prelude.{◌≡◌, ◌++◌, ◌∷◌, [], map, IfOk, OnOk};
-ghost use Rattle.spec_linear.specs.Solution.{Solvable, MentionsOnly};
+ghost use Rattle.spec_linear.specs.Solution.{Has, Solvable, MentionsOnly};
 ghost use Rattle.spec_echelon.specs.Echelon.{AreDistinct};
 ghost use Rattle.spec_projection.specs.Irredundant.{IsIrredundant};
 ghost use Rattle.spec_projection.specs.Partial.{AreInequalities};

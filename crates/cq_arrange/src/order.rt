@@ -1,6 +1,6 @@
 //! Which of two printed rows comes first, and the place of a row among others.
 
-ghost use Rattle.std.specs.Prelude.{◌≡◌, ◌≤◌, map};
+ghost use Rattle.std.specs.Prelude.{◌≡◌, drop};
 ghost use Rattle.std.specs.Ordering.{MatchOrdering, ordering_then, nat_cmp};
 ghost use Rattle.spec_rational.specs.Order.{cmp_ℚ};
 ghost use Rattle.spec_linear.specs.Solution.{Has};
