@@ -1,6 +1,7 @@
 -- Products in the order of distinct variables compared along that order.
-use Rattle.std.proofs.Common.{◌≡◌, ◌≢◌, ◌⊎◌, inl, inr, ℕ, List, [], ◌∷◌, Bool, true, false, pos, refl, ap, ap₂, sym, subst, ◌∙◌}
+use Rattle.std.proofs.Common.{◌≡◌, ◌≢◌, ◌⊎◌, inl, inr, ℕ, zero, suc, ◌+◌, ◌<◌, ◌≤◌, List, [], ◌∷◌, length, drop, get_or, Bool, true, false, pos, refl, ap, ap₂, sym, subst, ◌∙◌}
 use Rattle.std.specs.Prelude.{nat_eq}
+use Rattle.std.proofs.lemmas.List.{drop_more, drop_all}
 use Rattle.std.specs.List.{AllByRecursion}
 use Rattle.spec_rational.specs.Rational.{ℚ, 0ℚ, ◌+ℚ◌, ◌<ℚ◌}
 use Rattle.spec_rational.specs.Sums.{Monomial, Mentions, factor_of, when}
@@ -13,12 +14,18 @@ use Rattle.spec_echelon.specs.Echelon.{AreDistinct, InOrder, variables}
 use Rattle.spec_echelon.proofs.Orders.{in_order-has, mentions-has}
 use Rattle.spec_projection.proofs.Mentions.{unmentioned_factor}
 use Rattle.spec_answers.specs.Forms.{Before}
+use Rattle.cq_frac.specs.declared.VarId.{VarId}
+use Rattle.cq_store.specs.Told.{numbers_of}
+use Rattle.cq_arrange.specs.Lines.{monomials_of}
 use Rattle.cq_arrange.specs.Arranging.{IsPlaced, first_factor}
 
 -- all but the first
 abbrev pub behind_first : {A : Type 0} → List A → List A
 behind_first [] = []
 behind_first (x ∷ s) = s
+
+pub apart : (b : Bool) → b ≡ true → b ≡ false → ⊥
+apart b t f = let d : true ≡ false = sym t ∙ f in cc
 
 -- ---- the factor of the first variable of the order
 module _ (x : ℕ) (rest : List ℕ) (distinct : AreDistinct (x ∷ rest)) where
@@ -73,7 +80,7 @@ module _ (x : ℕ) (rest : List ℕ) (distinct : AreDistinct (x ∷ rest)) where
   pub before_behind : (order : List ℕ) (m n : Monomial) (s t : List Monomial) → (Has x order → ⊥) → m.variable ≡ x → n.variable ≡ x
       → Before order s t ⊥ → Before order (m ∷ s) (n ∷ t) ⊥
   before_behind [] m n s t d e f h = h
-  before_behind (y ∷ order) m n s t d e f h = go h
+  before_behind (y ∷ order) m n s t d e f h = go h (λ k. before_behind order m n s t (λ w. d (inr w)) e f k)
     where
       own : factor_of y (m ∷ s) ≡ factor_of y s
       own = factor_of-rest y m s (λ w. d (inl (sym (w ∙ e))))
@@ -81,9 +88,10 @@ module _ (x : ℕ) (rest : List ℕ) (distinct : AreDistinct (x ∷ rest)) where
       other : factor_of y (n ∷ t) ≡ factor_of y t
       other = factor_of-rest y n t (λ w. d (inl (sym (w ∙ f))))
 
-      go : (factor_of y t <ℚ factor_of y s) ⊎ ((factor_of y s ≡ factor_of y t) × Before order s t ⊥) → Before (y ∷ order) (m ∷ s) (n ∷ t) ⊥
-      go (inl l) = inl (subst (λ w. w <ℚ factor_of y (m ∷ s)) (sym other) (subst (λ w. factor_of y t <ℚ w) (sym own) l))
-      go (inr r) = inr (own ∙ r.0 ∙ sym other, before_behind order m n s t (λ k. d (inr k)) e f r.1)
+      go : (factor_of y t <ℚ factor_of y s) ⊎ ((factor_of y s ≡ factor_of y t) × Before order s t ⊥) → (Before order s t ⊥ → Before order (m ∷ s) (n ∷ t) ⊥)
+          → Before (y ∷ order) (m ∷ s) (n ∷ t) ⊥
+      go (inl l) rest = inl (subst (λ w. w <ℚ factor_of y (m ∷ s)) (sym other) (subst (λ w. factor_of y t <ℚ w) (sym own) l))
+      go (inr r) rest = inr (own ∙ r.0 ∙ sym other, rest r.1)
 
 -- ---- two rows of products, of which those of variables that have passed are the same
 pub record Compares (order : List ℕ) (s t : List Monomial) (left : List ℕ) (u v : List Monomial) : Type 0 where
@@ -149,3 +157,52 @@ module _ (order : List ℕ) (s t : List Monomial) (x : ℕ) (rest : List ℕ) (u
         ));
         same = λ w. c.same (a.is ∙ ap₂ (λ (p : Monomial) r. p ∷ r) heads w ∙ sym b.is);
       }
+
+-- what stands behind the next item
+behind_mapped : (s : List (VarId × ℚ)) (i : ℕ) → behind_first (monomials_of (drop i s)) ≡ monomials_of (drop (i + 1) s)
+behind_mapped [] zero = refl
+behind_mapped [] (suc i) = refl
+behind_mapped (p ∷ s) zero = refl
+behind_mapped (p ∷ s) (suc i) = behind_mapped s i
+
+-- ---- one step along the order
+module _ (vars : List VarId) (s t : List (VarId × ℚ)) (k i : ℕ) (x : VarId) (within : k < length vars) (at : x ≡ get_or vars k x)
+    (c : Compares (numbers_of vars) (monomials_of s) (monomials_of t) (numbers_of (drop k vars)) (monomials_of (drop i s)) (monomials_of (drop i t))) where
+  abbrev rest : List ℕ
+  rest = numbers_of (drop (k + 1) vars)
+
+  here : Compares (numbers_of vars) (monomials_of s) (monomials_of t) (x.0 ∷ rest) (monomials_of (drop i s)) (monomials_of (drop i t))
+  here =
+      subst (λ left. Compares (numbers_of vars) (monomials_of s) (monomials_of t) (numbers_of left) (monomials_of (drop i s)) (monomials_of (drop i t)))
+      (drop_more vars k x within ∙ ap (λ (y : VarId). y ∷ drop (k + 1) vars) (sym at)) c
+
+  module _ (a b : ℚ) (own : a ≡ first_factor x.0 (monomials_of (drop i s))) (other : b ≡ first_factor x.0 (monomials_of (drop i t))) where
+    pub comes_first : b <ℚ a → Before (numbers_of vars) (monomials_of s) (monomials_of t) ⊥
+    comes_first h =
+        greater_first (numbers_of vars) (monomials_of s) (monomials_of t) x.0 rest (monomials_of (drop i s)) (monomials_of (drop i t)) here
+        (subst (λ w. w <ℚ first_factor x.0 (monomials_of (drop i s))) other (subst (λ w. b <ℚ w) own h))
+
+    pub comes_behind : a <ℚ b → Before (numbers_of vars) (monomials_of t) (monomials_of s) ⊥
+    comes_behind h =
+        lesser_behind (numbers_of vars) (monomials_of s) (monomials_of t) x.0 rest (monomials_of (drop i s)) (monomials_of (drop i t)) here
+        (subst (λ w. w <ℚ first_factor x.0 (monomials_of (drop i t))) own (subst (λ w. a <ℚ w) other h))
+
+    pub both_without : a ≡ b → a ≡ 0ℚ
+        → Compares (numbers_of vars) (monomials_of s) (monomials_of t) rest (monomials_of (drop i s)) (monomials_of (drop i t))
+    both_without e z =
+        both_zero (numbers_of vars) (monomials_of s) (monomials_of t) x.0 rest (monomials_of (drop i s)) (monomials_of (drop i t)) here (sym own ∙ e ∙ other) (sym own ∙ z)
+
+    pub both_with : a ≡ b → a ≢ 0ℚ
+        → Compares (numbers_of vars) (monomials_of s) (monomials_of t) rest (monomials_of (drop (i + 1) s)) (monomials_of (drop (i + 1) t))
+    both_with e n =
+        subst (λ u. Compares (numbers_of vars) (monomials_of s) (monomials_of t) rest u (monomials_of (drop (i + 1) t))) (behind_mapped s i)
+        (subst (λ v. Compares (numbers_of vars) (monomials_of s) (monomials_of t) rest (behind_first (monomials_of (drop i s))) v) (behind_mapped t i)
+        (both_lead (numbers_of vars) (monomials_of s) (monomials_of t) x.0 rest (monomials_of (drop i s)) (monomials_of (drop i t)) here (sym own ∙ e ∙ other)
+        (λ z. n (own ∙ z))))
+
+-- all of the order has passed
+pub all_same : (vars : List VarId) (s t : List (VarId × ℚ)) (k i : ℕ) → length vars ≤ k
+    → Compares (numbers_of vars) (monomials_of s) (monomials_of t) (numbers_of (drop k vars)) (monomials_of (drop i s)) (monomials_of (drop i t)) → monomials_of s ≡ monomials_of t
+all_same vars s t k i h c =
+    compares_end (numbers_of vars) (monomials_of s) (monomials_of t) (monomials_of (drop i s)) (monomials_of (drop i t))
+    (subst (λ left. Compares (numbers_of vars) (monomials_of s) (monomials_of t) (numbers_of left) (monomials_of (drop i s)) (monomials_of (drop i t))) (drop_all k vars h) c)

@@ -206,8 +206,8 @@ module _ (order : List ℕ) (rows : List Constraint) (lines : List Line) (a : Ar
         let ne : s.row.relation ≡ Ne = sym s.multiple.relation ∙ ap (λ c. (said_by l.products c l.bound).relation) e in
         subst IsInequality ne (all s.row s.among)
 
-    before : (k l : Line) → Has k lines → Has l lines → LineBefore order k l → InequalityBefore order (inequality_of k) (inequality_of l)
-    before k l h i b = before_tie order k.products l.products (λ t. elim t [
+    inequality_before : (k l : Line) → Has k lines → Has l lines → LineBefore order k l → InequalityBefore order (inequality_of k) (inequality_of l)
+    inequality_before k l h i b = before_tie order k.products l.products (λ t. elim t [
       | inl r ↦ inl (subst (λ n. n < rank (comparison_of l.comparison)) (rank_same k.comparison (no_disequation k h)) (subst (λ n. rank_of k.comparison < n) (rank_same l.comparison (no_disequation l i)) r))
       | inr r ↦ inr (ap comparison_of r.0, r.1)
     ]) b
@@ -216,15 +216,15 @@ module _ (order : List ℕ) (rows : List Constraint) (lines : List Line) (a : Ar
     inequality_rows = record {
       arranged = subst (IsArranged rows) (sym (map_same inequality_of inequality said lines (λ l h. said_inequality l.products l.comparison l.bound (no_disequation l h)))) a.arranged;
       scaled = all_mapped inequality_of (λ i. IsScaled order i.products) lines a.scaled;
-      sorted = sorted_mapped inequality_of (LineBefore order) (InequalityBefore order) lines before a.sorted;
+      sorted = sorted_mapped inequality_of (LineBefore order) (InequalityBefore order) lines inequality_before a.sorted;
     }
 
   module _ (all : AreDisequations rows) where
     unequal : (l : Line) → Has l lines → l.comparison ≡ Unequal
     unequal l h = let s = from_row l h in unequal_relation l.products l.comparison l.bound (s.multiple.relation ∙ all s.row s.among)
 
-    before : (k l : Line) → Has k lines → Has l lines → LineBefore order k l → DisequationBefore order (disequation_of k) (disequation_of l)
-    before k l h i b = before_tie order k.products l.products (λ t. elim t [
+    disequation_before : (k l : Line) → Has k lines → Has l lines → LineBefore order k l → DisequationBefore order (disequation_of k) (disequation_of l)
+    disequation_before k l h i b = before_tie order k.products l.products (λ t. elim t [
       | inl r ↦ let e = ap rank_of (unequal k h) in let f = ap rank_of (unequal l i) in absurd (omega (arith, e, f, r))
       | inr r ↦ r.1
     ]) b
@@ -233,5 +233,5 @@ module _ (order : List ℕ) (rows : List Constraint) (lines : List Line) (a : Ar
     disequation_rows = record {
       arranged = subst (IsArranged rows) (sym (map_same disequation_of disequation said lines (λ l h. ap (λ c. said_by l.products c l.bound) (sym (unequal l h))))) a.arranged;
       scaled = all_mapped disequation_of (λ d. IsScaled order d.products) lines a.scaled;
-      sorted = sorted_mapped disequation_of (LineBefore order) (DisequationBefore order) lines before a.sorted;
+      sorted = sorted_mapped disequation_of (LineBefore order) (DisequationBefore order) lines disequation_before a.sorted;
     }

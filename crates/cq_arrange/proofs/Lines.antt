@@ -45,7 +45,7 @@ inverse-negative k n =
 
 module _ (c : Constraint) (s : List Monomial) (q k : ℚ) (nonzero : k ≢ 0ℚ) (sums : (a : ℕ → ℚ) → sum_at a s ≡ inv_ℚ k *ℚ sum_at a c.form.products)
     (bound : q ≡ neg_ℚ (c.form.constant /ℚ k)) where
-  up : AreMultiples c.form (record { products = s; constant = neg_ℚ q })
+  abbrev up : AreMultiples c.form (record { products = s; constant = neg_ℚ q })
   up = record {
     factor = inv_ℚ k;
     nonzero = inverse_not_zero k nonzero;
@@ -58,7 +58,7 @@ module _ (c : Constraint) (s : List Monomial) (q k : ℚ) (nonzero : k ≢ 0ℚ)
   down_nonzero e =
       inverse_not_zero k nonzero (ring (inv_ℚ k ∷ []) (var 0) (minus (minus (var 0))) refl ∙ ap neg_ℚ e ∙ ring [] (minus (int (pos 0))) (int (pos 0)) refl)
 
-  down : AreMultiples c.form (record { products = negated_products s; constant = q })
+  abbrev down : AreMultiples c.form (record { products = negated_products s; constant = q })
   down = record {
     factor = neg_ℚ (inv_ℚ k);
     nonzero = down_nonzero;
@@ -92,7 +92,7 @@ own_factor m s n =
 
 module _ (order : List ℕ) (distinct : AreDistinct order) (x : ℕ) where
   counts : (s : List Monomial) → InOrder order (variables s) → AllByRecursion (λ m. m.factor ≢ 0ℚ) s → Mentions x s → factor_of x s ≢ 0ℚ
-  counts [] o n h = absurd h
+  counts [] o n h z = absurd h
   counts (m ∷ s) o n (inl e) z =
       n.0 (sym (own_factor m s (λ k. in_order-once order m.variable (variables s) distinct o (mentions-has m.variable s k))) ∙ ap (λ y. factor_of y (m ∷ s)) (sym e) ∙ z)
   counts (m ∷ s) o n (inr k) z =
@@ -131,7 +131,7 @@ before_same : {P : Type 0} (order : List ℕ) (s t : List Monomial) → s ≡ t 
 before_same [] s t e p = p
 before_same (x ∷ order) s t e p = inr (ap (factor_of x) e, before_same order s t e p)
 
-comparison_at : ℕ → Comparison
+abbrev comparison_at : ℕ → Comparison
 comparison_at zero = AtLeast
 comparison_at (suc zero) = Above
 comparison_at (suc (suc zero)) = AtMost
@@ -154,7 +154,7 @@ line_same k l e f g =
     ∙ ap₂ (λ (c : Comparison) q. let m : Line = record { products = l.products; comparison = c; bound = q } in m) f g
 
 module _ (order : List ℕ) (k l : Line) where
-  Compared : Ordering → Type 0
+  abbrev pub Compared : Ordering → Type 0
   Compared o = MatchOrdering o (LineBefore order k l) (k ≡ l) (LineBefore order l k)
 
   by_bounds : k.products ≡ l.products → k.comparison ≡ l.comparison → (o : Ordering) → MatchOrdering o (k.bound <ℚ l.bound) (k.bound ≡ l.bound) (l.bound <ℚ k.bound) → Compared o

@@ -25,9 +25,9 @@ variables-preserved c =
           one_stands c.args.order.now c.variables.x-index (get_or c.args.order.now c.variables.x-index (record { 0 = 0 })) within at c.args.form.now.products
           (picked (numbers_of c.args.order.now) c.args.form.now.products) c.variables.products.items c.match-entry_at.products.items c.variables.invariant w.in-Some.factor
           c.entries-entries.ensures.in_order
-          (subst (HasCoefficient (get_or c.args.order.now c.variables.x-index (record { 0 = 0 })).0 w.in-Some.factor) value (has_product _ c.entries-entries.result.now w.in-Some.ensures)) (cc)
+          (subst (HasCoefficient (get_or c.args.order.now c.variables.x-index (record { 0 = 0 })).0 w.in-Some.factor) value (has_product _ c.entries-entries.result.now w.in-Some.ensures)) (ap (λ v. v.items) w.products-is ∙ w.in_ok-push.ensures.items)
       | in_default w ↦
           none_stands c.args.order.now c.variables.x-index (get_or c.args.order.now c.variables.x-index (record { 0 = 0 })) within at c.args.form.now.products
           (picked (numbers_of c.args.order.now) c.args.form.now.products) c.variables.products.items c.match-entry_at.products.items c.variables.invariant
-          (subst (λ s. Mentions (get_or c.args.order.now c.variables.x-index (record { 0 = 0 })).0 s → ⊥) value (not_mentioned _ c.entries-entries.result.now w.in_default.ensures)) (cc)
+          (subst (λ s. Mentions (get_or c.args.order.now c.variables.x-index (record { 0 = 0 })).0 s → ⊥) value (not_mentioned _ c.entries-entries.result.now w.in_default.ensures)) (ap (λ v. v.items) w.products-is)
     ]
