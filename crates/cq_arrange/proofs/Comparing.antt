@@ -1,5 +1,5 @@
 -- Products in the order of distinct variables compared along that order.
-use Rattle.std.proofs.Common.{◌≡◌, ◌≢◌, ◌⊎◌, inl, inr, ℕ, zero, suc, ◌+◌, ◌<◌, ◌≤◌, List, [], ◌∷◌, length, drop, get_or, Bool, true, false, pos, refl, ap, ap₂, sym, subst, ◌∙◌}
+use Rattle.std.proofs.Common.{◌≡◌, ◌≢◌, ◌⊎◌, inl, inr, ℕ, zero, suc, ◌+◌, ◌<◌, ◌≤◌, List, [], ◌∷◌, length, drop, get_or, arith, Bool, true, false, pos, refl, ap, ap₂, sym, subst, ◌∙◌}
 use Rattle.std.specs.Prelude.{nat_eq}
 use Rattle.std.proofs.lemmas.List.{drop_more, drop_all}
 use Rattle.std.specs.List.{AllByRecursion}
@@ -159,11 +159,14 @@ module _ (order : List ℕ) (s t : List Monomial) (x : ℕ) (rest : List ℕ) (u
       }
 
 -- what stands behind the next item
+behind_next : (s : List (VarId × ℚ)) (i : ℕ) → behind_first (monomials_of (drop i s)) ≡ monomials_of (drop (suc i) s)
+behind_next [] zero = refl
+behind_next [] (suc i) = refl
+behind_next (p ∷ s) zero = refl
+behind_next (p ∷ s) (suc i) = behind_next s i
+
 behind_mapped : (s : List (VarId × ℚ)) (i : ℕ) → behind_first (monomials_of (drop i s)) ≡ monomials_of (drop (i + 1) s)
-behind_mapped [] zero = refl
-behind_mapped [] (suc i) = refl
-behind_mapped (p ∷ s) zero = refl
-behind_mapped (p ∷ s) (suc i) = behind_mapped s i
+behind_mapped s i = let one : suc i ≡ i + 1 = omega arith in behind_next s i ∙ ap (λ n. monomials_of (drop n s)) one
 
 -- ---- one step along the order
 module _ (vars : List VarId) (s t : List (VarId × ℚ)) (k i : ℕ) (x : VarId) (within : k < length vars) (at : x ≡ get_or vars k x)

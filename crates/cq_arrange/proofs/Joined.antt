@@ -1,20 +1,17 @@
 -- Lines that are rows scaled and sorted, as one more joins them, and the inequalities and disequations that they are.
 use Rattle.std.proofs.Common.{◌≡◌, ◌≢◌, ◌⊎◌, inl, inr, ℕ, ◌+◌, ◌<◌, List, [], ◌∷◌, ◌++◌, map, length, take, drop, get_or, arith, refl, ap, ap₂, sym, subst, ◌∙◌}
-use Rattle.std.proofs.lemmas.List.{take_more, map-append, take-append-drop, drop_more}
+use Rattle.std.proofs.lemmas.List.{map-append, take-append-drop, drop_more}
 use Rattle.std.specs.List.{AllByRecursion}
-use Rattle.spec_rational.specs.Rational.{ℚ, ◌+ℚ◌, ◌<ℚ◌}
+use Rattle.spec_rational.specs.Rational.{ℚ, ◌+ℚ◌}
 use Rattle.spec_rational.specs.Sums.{Monomial, sum_at}
-use Rattle.spec_linear.specs.declared.Relation.{Relation}
-use Rattle.spec_linear.specs.declared.Relation.TheVariants.{Eq, Ne}
-use Rattle.spec_linear.specs.Form.{value_at}
-use Rattle.spec_linear.specs.Solution.{Constraint, Has, Meets, HoldsAt, Solvable, Solves, Entails, number}
+use Rattle.spec_linear.specs.declared.Relation.TheVariants.{Ne}
+use Rattle.spec_linear.specs.Solution.{Constraint, Has, Meets, HoldsAt, Solvable, Entails, number}
 use Rattle.spec_linear.proofs.Points.{solves_same}
 use Rattle.spec_linear.proofs.Lists.{member_holds}
 use Rattle.spec_linear.proofs.Denominators.{has_left, has_right}
 use Rattle.spec_inequalities.proofs.Far.{member_satisfied}
 use Rattle.spec_projection.specs.Elimination.{IsInequality}
 use Rattle.spec_projection.specs.Printed.{compared}
-use Rattle.spec_projection.specs.Printed as answer
 use Rattle.spec_projection.specs.Partial.{AreInequalities}
 use Rattle.spec_projection.specs.Strict.{IsMultiple, AreScaled, no_row, one_row}
 use Rattle.spec_projection.specs.Irredundant.{IsIrredundant}
@@ -24,12 +21,12 @@ use Rattle.spec_projection.proofs.Reordered.{reordered_refl, reordered_both}
 use Rattle.spec_projection.proofs.Strong.{scaled_alike, scaled_both}
 use Rattle.spec_projection.proofs.Members.{has_mapped, has_image, has_either}
 use Rattle.spec_answers.specs.Rows.{inequality, disequation}
-use Rattle.spec_answers.specs.Forms.{IsScaled, Before, rank, IsSorted, InequalityBefore, DisequationBefore}
+use Rattle.spec_answers.specs.Forms.{IsScaled, rank, IsSorted, InequalityBefore, DisequationBefore}
 use Rattle.spec_echelon.specs.Echelon.{AreDistinct}
 use Rattle.cq_arrange.specs.declared.Comparison.{Comparison}
 use Rattle.cq_arrange.specs.declared.Comparison.TheVariants.{AtLeast, Above, AtMost, Below, Unequal}
 use Rattle.cq_arrange.specs.Lines.{Line, said, said_by, comparison_of, inequality_of, disequation_of, rank_of}
-use Rattle.cq_arrange.specs.Arranging.{AreDisequations, AreInequalityRows, AreDisequationRows, Prints, IsLine, AreLines, LineBefore, LastBefore, BeforeFirst, JoinsAt}
+use Rattle.cq_arrange.specs.Arranging.{AreDisequations, AreInequalityRows, AreDisequationRows, Prints, IsLine, LineBefore, LastBefore, BeforeFirst, JoinsAt}
 use Rattle.cq_arrange.proofs.Lines.{said_counts, before_tie}
 
 -- the lines are the rows, scaled and sorted

@@ -1,12 +1,12 @@
 -- What a printed line says is a multiple of its row, and which of two lines comes first.
-use Rattle.std.proofs.Common.{◌≡◌, ◌≢◌, ◌⊎◌, inl, inr, ℕ, ◌<◌, List, [], ◌∷◌, map, Bool, true, false, pos, zero, suc, refl, ap, ap₂, sym, subst, ◌∙◌}
-use Rattle.std.specs.Prelude.{nat_eq, MatchBool}
+use Rattle.std.proofs.Common.{◌≡◌, ◌≢◌, inl, inr, ℕ, ◌<◌, List, [], ◌∷◌, Bool, true, false, pos, zero, suc, refl, ap, ap₂, sym, subst, ◌∙◌}
+use Rattle.std.specs.Prelude.{MatchBool}
 use Rattle.std.specs.List.{AllByRecursion}
 use Rattle.std.specs.declared.cmp.Ordering.{Ordering}
 use Rattle.std.specs.declared.cmp.Ordering.TheVariants.{Less, Equal, Greater}
 use Rattle.std.specs.Ordering.{MatchOrdering, ordering_then, nat_cmp}
 use Rattle.std.specs.Cmp.{ranks}
-use Rattle.spec_rational.specs.Rational.{ℚ, 0ℚ, 1ℚ, ◌+ℚ◌, ◌*ℚ◌, ◌/ℚ◌, neg_ℚ, inv_ℚ, IsPositive, ◌<ℚ◌}
+use Rattle.spec_rational.specs.Rational.{ℚ, 0ℚ, ◌+ℚ◌, ◌*ℚ◌, ◌/ℚ◌, neg_ℚ, inv_ℚ, IsPositive, ◌<ℚ◌}
 use Rattle.spec_rational.specs.Order.{cmp_ℚ}
 use Rattle.spec_rational.specs.Sums.{Monomial, Mentions, factor_of, when, sum_at, unit, negated_products}
 use Rattle.spec_rational.proofs.Ring.{var, int, ◌⊕◌, ◌⊗◌, minus}
@@ -16,7 +16,6 @@ use Rattle.spec_rational.proofs.Sign.{times_inverse, inverse_not_zero, inv_pos}
 use Rattle.spec_rational.proofs.Sums.{sum_at-negated_products, factor_of-is}
 use Rattle.spec_linear.specs.declared.Relation.{Relation}
 use Rattle.spec_linear.specs.declared.Relation.TheVariants.{Eq, Gt, Ge, Ne}
-use Rattle.spec_linear.specs.Form.{Linear, value_at}
 use Rattle.spec_linear.specs.Solution.{Constraint, Has}
 use Rattle.spec_linear.proofs.Ordered.{factor_of-rest}
 use Rattle.spec_echelon.specs.Echelon.{AreDistinct, InOrder, variables}
@@ -30,7 +29,7 @@ use Rattle.spec_answers.specs.Forms.{Before}
 use Rattle.cq_arrange.specs.declared.Comparison.{Comparison}
 use Rattle.cq_arrange.specs.declared.Comparison.TheVariants.{AtLeast, Above, AtMost, Below, Unequal}
 use Rattle.cq_arrange.specs.Lines.{Line, said, said_by, comparison_by, rank_of}
-use Rattle.cq_arrange.specs.Arranging.{IsPlaced, IsLine, LineBefore}
+use Rattle.cq_arrange.specs.Arranging.{IsLine, LineBefore}
 
 -- ---- multiples
 

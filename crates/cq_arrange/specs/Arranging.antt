@@ -1,5 +1,5 @@
 -- Rows scaled and sorted as an answer has them.
-use Rattle.std.specs.Prelude.{◌≡◌, ◌≢◌, ◌⊎◌, ℕ, ◌+◌, ◌-◌, ◌<◌, ◌≤◌, List, [], ◌∷◌, ◌++◌, map, length, slice_index_or, nat_eq, ⊤}
+use Rattle.std.specs.Prelude.{◌≡◌, ◌≢◌, ◌⊎◌, ℕ, ◌-◌, ◌<◌, ◌≤◌, List, [], ◌∷◌, ◌++◌, map, length, slice_index_or, nat_eq, ⊤}
 use Rattle.std.specs.List.{AllByRecursion}
 use Rattle.spec_rational.specs.Rational.{ℚ, 0ℚ, ◌<ℚ◌, ◌/ℚ◌}
 use Rattle.spec_rational.specs.Sums.{Monomial, factor_of, when}

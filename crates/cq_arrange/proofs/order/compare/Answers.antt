@@ -1,4 +1,4 @@
-use Rattle.std.proofs.Common.{◌≡◌, ap₂, sym, subst, ◌∙◌}
+use Rattle.std.proofs.Common.{◌≡◌, sym, subst}
 use Rattle.std.specs.Ordering.{MatchOrdering}
 use Rattle.spec_answers.specs.Forms.{Before}
 use Rattle.cq_frac.specs.declared.VarId.{VarId}

@@ -1,13 +1,12 @@
-use Rattle.std.proofs.Common.{◌≡◌, ◌<◌, ◌≤◌, length, get_or, arith, ap, sym, subst, ◌∙◌}
+use Rattle.std.proofs.Common.{◌<◌, length, get_or, arith, ap, sym, subst, ◌∙◌}
 use Rattle.std.proofs.lemmas.List.{get_or_default}
 use Rattle.spec_linear.specs.Form.{IsSumFrom}
 use Rattle.cq_store.specs.Told.{numbers_of}
 use Rattle.cq_form.specs.Steps.{HasCoefficient}
 use Rattle.cq_form.proofs.Rows.{row_of, has_product, not_mentioned}
 use Rattle.spec_rational.specs.Sums.{Mentions}
-use Rattle.cq_arrange.specs.Lines.{monomials_of}
 use Rattle.cq_arrange.specs.Arranging.{picked}
-use Rattle.cq_arrange.proofs.Picked.{one_stands, none_stands, all_picked}
+use Rattle.cq_arrange.proofs.Picked.{one_stands, none_stands}
 use Rattle.cq_arrange.proofs.scaling.products_in.Goals.{in-Some+in_ok-push, in_default}
 use Rattle.cq_arrange.proofs.scaling.products_in.Goals as goal
 
