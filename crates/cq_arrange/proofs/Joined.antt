@@ -23,10 +23,11 @@ use Rattle.spec_projection.proofs.Members.{has_mapped, has_image, has_either}
 use Rattle.spec_answers.specs.Rows.{inequality, disequation}
 use Rattle.spec_answers.specs.Forms.{IsScaled, rank, IsSorted, InequalityBefore, DisequationBefore}
 use Rattle.spec_echelon.specs.Echelon.{AreDistinct}
+use Rattle.cq_rows.specs.Scaling.{AreDisequations}
 use Rattle.cq_arrange.specs.declared.Comparison.{Comparison}
 use Rattle.cq_arrange.specs.declared.Comparison.TheVariants.{AtLeast, Above, AtMost, Below, Unequal}
 use Rattle.cq_arrange.specs.Lines.{Line, said, said_by, comparison_of, inequality_of, disequation_of, rank_of}
-use Rattle.cq_arrange.specs.Arranging.{AreDisequations, AreInequalityRows, AreDisequationRows, Prints, IsLine, LineBefore, LastBefore, BeforeFirst, JoinsAt}
+use Rattle.cq_arrange.specs.Arranging.{AreInequalityRows, AreDisequationRows, Prints, IsLine, LineBefore, LastBefore, BeforeFirst, JoinsAt}
 use Rattle.cq_arrange.proofs.Lines.{said_counts, before_tie}
 
 -- the lines are the rows, scaled and sorted

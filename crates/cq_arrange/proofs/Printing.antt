@@ -19,9 +19,10 @@ use Rattle.cq_frac.specs.Refused.{Tells}
 use Rattle.cq_fourier.specs.Steps.{IsQuotientOf}
 use Rattle.cq_fourier.proofs.Quotients.{quotient_told}
 use Rattle.cq_fourier.proofs.Bounds.{is_negative}
+use Rattle.cq_rows.specs.Scaling.{ScalesForm}
 use Rattle.cq_arrange.specs.declared.Comparison.{Comparison}
 use Rattle.cq_arrange.specs.Lines.{monomial_of, monomials_of, comparison_by, said_by}
-use Rattle.cq_arrange.specs.Arranging.{picked, over_lead, DividesProduct, DividesForm, Prints, IsPlaced}
+use Rattle.cq_arrange.specs.Arranging.{picked, over_lead, DividesProduct, Prints, IsPlaced}
 use Rattle.cq_arrange.proofs.Picked.{picked_placed, picked_sum, picked_member, form_picked, over_sum, over_first, some_item}
 use Rattle.cq_arrange.proofs.Lines.{line_multiple}
 
@@ -63,17 +64,17 @@ module _ (order : List ℕ) (row : Constraint) (r : Relation) (f : Linear) (is :
     lead_is : p.1 ≡ factor_of p.0.0 f.products
     lead_is = picked_member order f.products (monomial_of p) (subst (Has (monomial_of p)) (sym starts.leads ∙ picks) (inl refl))
 
-    divides : (a : ℚ) (pair : Pair) → IsNumberOf f a → Tells Quotient a p.1 pair → DividesForm row.form pair
-    divides a pair n t = subst (λ g. DividesForm g pair) same_form (record {
+    divides : (a : ℚ) (pair : Pair) → IsNumberOf f a → Tells Quotient a p.1 pair → ScalesForm row.form pair
+    divides a pair n t = subst (λ g. ScalesForm g pair) same_form (record {
       variable = p.0.0;
       stands = λ z. lead_nonzero (lead_is ∙ z);
       quotient = subst (λ k. IsQuotientOf f k pair) lead_is (quotient_told f a p.1 pair n t);
     })
 
-    pub divides_constant : (pair : Pair) → Tells Quotient f.constant p.1 pair → DividesForm row.form pair
+    pub divides_constant : (pair : Pair) → Tells Quotient f.constant p.1 pair → ScalesForm row.form pair
     divides_constant pair t = divides f.constant pair of_constant t
 
-    pub divides_product : (pair : Pair) → DividesProduct (monomials_of products) p.1 pair → DividesForm row.form pair
+    pub divides_product : (pair : Pair) → DividesProduct (monomials_of products) p.1 pair → ScalesForm row.form pair
     divides_product pair d =
         let factor : d.product.factor ≡ factor_of d.product.variable f.products = picked_member order f.products d.product (subst (Has d.product) picks d.member) in
         divides d.product.factor pair (subst (IsNumberOf f) (sym factor) (of_variable d.product.variable)) d.told

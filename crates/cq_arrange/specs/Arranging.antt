@@ -14,7 +14,6 @@ use Rattle.spec_answers.specs.Forms.{IsScaled, Before, InequalityBefore, Disequa
 use Rattle.cq_frac.specs.declared.Operation.TheVariants.{Quotient}
 use Rattle.cq_frac.specs.declared.Pair.{Pair}
 use Rattle.cq_frac.specs.Refused.{Tells}
-use Rattle.cq_fourier.specs.Steps.{IsQuotientOf}
 use Rattle.cq_arrange.specs.declared.PrintedRow.{PrintedRow}
 use Rattle.cq_arrange.specs.Lines.{Line, line_of, said, rank_of}
 
@@ -23,9 +22,6 @@ use Rattle.cq_arrange.specs.Lines.{Line, line_of, said, rank_of}
 -- no row is an equation
 abbrev pub HasNoEquation : List Constraint → Type 0
 HasNoEquation l = (c : Constraint) → Has c l → c.relation ≢ Eq
-
-abbrev pub AreDisequations : List Constraint → Type 0
-AreDisequations l = (c : Constraint) → Has c l → c.relation ≡ Ne
 
 -- they are the rows, scaled and sorted
 pub record AreInequalityRows (order : List ℕ) (rows : List Constraint) (is : List Inequality) : Type 0 where
@@ -54,12 +50,6 @@ pub record DividesProduct (s : List Monomial) (k : ℚ) (pair : Pair) : Type 0 w
   pub product : Monomial
   pub member : Has product s
   pub told : Tells Quotient product.factor k pair
-
--- a number of the form by one of its coefficients is refused
-pub record DividesForm (f : Linear) (pair : Pair) : Type 0 where
-  pub variable : ℕ
-  pub stands : factor_of variable f.products ≢ 0ℚ
-  pub quotient : IsQuotientOf f (factor_of variable f.products) pair
 
 -- the line says a multiple of the row, and is scaled
 pub record Prints (order : List ℕ) (c : Constraint) (l : Line) : Type 0 where

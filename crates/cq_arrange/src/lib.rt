@@ -13,8 +13,9 @@ ghost use Rattle.spec_limits.specs.Overflow.{Moment, OverflowDue};
 ghost use Rattle.cq_frac.specs.declared.Pair.{Pair};
 ghost use Rattle.cq_store.specs.Told.{numbers_of};
 ghost use Rattle.cq_fourier.specs.Steps.{AreRowsOf};
+ghost use Rattle.cq_rows.specs.Scaling.{AreDisequations};
 ghost use Rattle.cq_arrange.specs.Lines.{line_of, lines_of, inequality_of, disequation_of, rank_of};
-ghost use Rattle.cq_arrange.specs.Arranging.{HasNoEquation, AreDisequations, AreInequalityRows, AreDisequationRows, AreLines, IsLine, JoinsAt};
+ghost use Rattle.cq_arrange.specs.Arranging.{HasNoEquation, AreInequalityRows, AreDisequationRows, AreLines, IsLine, JoinsAt};
 
 use crate::order::place_of;
 use crate::scaling::printed;

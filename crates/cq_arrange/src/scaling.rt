@@ -8,8 +8,9 @@ ghost use Rattle.spec_linear.specs.Solution.{MentionsOnly};
 ghost use Rattle.spec_echelon.specs.Echelon.{AreDistinct};
 ghost use Rattle.cq_frac.specs.declared.Pair.{Pair};
 ghost use Rattle.cq_store.specs.Told.{numbers_of};
+ghost use Rattle.cq_rows.specs.Scaling.{ScalesForm};
 ghost use Rattle.cq_arrange.specs.Lines.{monomials_of, line_of, comparison_by};
-ghost use Rattle.cq_arrange.specs.Arranging.{picked, over_lead, DividesProduct, DividesForm, Prints};
+ghost use Rattle.cq_arrange.specs.Arranging.{picked, over_lead, DividesProduct, Prints};
 
 use crate::{Comparison, PrintedRow};
 use cq_form::{Constraint, Form};
@@ -69,7 +70,7 @@ pub(crate) fn printed(alloc: Global, order: &[VarId], row: &Constraint) -> Resul
     requires unequal { row.now.relation ≢ Eq }
     requires mentions { row.now.form.products ≢ [] }
     ensures value { IfOk result (λ r. Prints (numbers_of order.now) row.now (line_of r)) }
-    ensures overflow { (pair : Pair) → result ≡ Err (Refusal.Overflow pair) → DividesForm row.now.form pair }
+    ensures overflow { (pair : Pair) → result ≡ Err (Refusal.Overflow pair) → ScalesForm row.now.form pair }
 {
     let products = products_in(alloc, order, &row.form)?;
     let lead = products[0].1;

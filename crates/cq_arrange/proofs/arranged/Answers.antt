@@ -2,9 +2,9 @@ use Rattle.std.proofs.Common.{◌<◌, ◌≤◌, length, take, inl, inr, Err, a
 use Rattle.std.proofs.lemmas.List.{take_more, take_all}
 use Rattle.cq_frac.proofs.Exits.{refusal_told}
 use Rattle.cq_store.specs.Told.{numbers_of}
-use Rattle.cq_fourier.proofs.Crossing.{division_due}
 use Rattle.cq_fourier.proofs.Lists.{has_at}
 use Rattle.spec_projection.proofs.Mentions.{some_mentions}
+use Rattle.cq_rows.proofs.Beside.{scales_due}
 use Rattle.cq_arrange.specs.Lines.{line_of, lines_of}
 use Rattle.cq_arrange.proofs.Joined.{Arranged, none_arranged, one_more, scaled_line, mentions_some, new_line, inequality_rows, disequation_rows}
 use Rattle.cq_arrange.proofs.arranged.Goals as goal
@@ -32,8 +32,7 @@ pub returns-in_err-printed-clause-overflow : goal.returns-in_err-printed-clause-
 returns-in_err-printed-clause-overflow c = λ pair m rows e.
     let within : c.rows.row-index < length c.args.rows.now = omega arith in
     let member = has_at c.args.rows.now c.rows.row-index c.row-item.result within c.row-item.is in
-    let d = c.in_err-printed.ensures.overflow pair (ap Err (refusal_told _ _ pair c.from_residual.ensures.1 e)) in
-    division_due m d.variable c.args.rows.now pair rows (record { row = c.row-item.result; member = member; stands = d.stands; quotient = d.quotient })
+    scales_due m c.args.rows.now c.row-item.result pair rows member (c.in_err-printed.ensures.overflow pair (ap Err (refusal_told _ _ pair c.from_residual.ensures.1 e)))
 
 pub insert-requires-clause-placed : goal.insert-requires-clause-placed
 insert-requires-clause-placed c = λ l h. scaled_line (numbers_of c.args.order.now) l (c.rows.invariant.scaled l h)
