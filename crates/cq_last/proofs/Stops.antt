@@ -59,7 +59,7 @@ module _ (targets : List ℕ) (l rows : List Constraint) (each : (c : Constraint
   all_rows [] h = tt
   all_rows (c ∷ some) h = (each c (h c (inl refl)), all_rows some (λ d k. h d (inr k)))
 
-  rows_refused : (pair : Pair) → ((m : Moment) → AreRowsOf m rows → OverflowDue m pair) → IsRefusedAnswering targets l pair
+  pub rows_refused : (pair : Pair) → ((m : Moment) → AreRowsOf m rows → OverflowDue m pair) → IsRefusedAnswering targets l pair
   rows_refused pair due = record {
     moment = with_rows rows;
     of_answer = record {
@@ -115,7 +115,7 @@ module _ (targets kept rest : List ℕ) (l inequalities disequations : List Cons
 
   -- ---- while weak rows are made strict
   module _ (remaining : List Constraint) (p : IsPartial order inequalities remaining) where
-    each_row : (c : Constraint) → Has c (disequations ++ remaining) → IsAnswerRow targets l c.form
+    pub each_row : (c : Constraint) → Has c (disequations ++ remaining) → IsAnswerRow targets l c.form
     each_row c h = elim (has_either c disequations remaining h) [
       | inl i ↦
           let k = has_mapped (put_into a.es) c (disequations_of l) (sublist_has disequations unequal left_sublist c i) in
