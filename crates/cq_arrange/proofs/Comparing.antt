@@ -148,12 +148,12 @@ module _ (order : List ℕ) (s t : List Monomial) (x : ℕ) (rest : List ℕ) (u
         before = λ h. c.before (inr (
           one_factor e,
           subst (λ w. Before rest w v ⊥) (sym a.is) (subst (λ w. Before rest (a.head ∷ behind_first u) w ⊥) (sym b.is)
-          (before_behind x rest c.distinct rest a.head b.head (behind_first u) (behind_first v) c.distinct.0 a.own b.own h)),
+              (before_behind x rest c.distinct rest a.head b.head (behind_first u) (behind_first v) c.distinct.0 a.own b.own h)),
         ));
         behind = λ h. c.behind (inr (
           sym (one_factor e),
           subst (λ w. Before rest w u ⊥) (sym b.is) (subst (λ w. Before rest (b.head ∷ behind_first v) w ⊥) (sym a.is)
-          (before_behind x rest c.distinct rest b.head a.head (behind_first v) (behind_first u) c.distinct.0 b.own a.own h)),
+              (before_behind x rest c.distinct rest b.head a.head (behind_first v) (behind_first u) c.distinct.0 b.own a.own h)),
         ));
         same = λ w. c.same (a.is ∙ ap₂ (λ (p : Monomial) r. p ∷ r) heads w ∙ sym b.is);
       }

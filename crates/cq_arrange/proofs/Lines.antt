@@ -106,8 +106,8 @@ module _ (order : List ℕ) (distinct : AreDistinct order) (x : ℕ) where
   counts_negated : (s : List Monomial) → InOrder order (variables s) → AllByRecursion (λ m. m.factor ≢ 0ℚ) s → Mentions x (negated_products s) → factor_of x (negated_products s) ≢ 0ℚ
   counts_negated s o n h z =
       counts s o n (negated_mentions s h) (
-        factor_of-is x s ∙ ring (sum_at (unit x) s ∷ []) (var 0) (minus (minus (var 0))) refl
-        ∙ ap neg_ℚ (sym (sum_at-negated_products (unit x) s) ∙ sym (factor_of-is x (negated_products s)) ∙ z) ∙ ring [] (minus (int (pos 0))) (int (pos 0)) refl)
+      factor_of-is x s ∙ ring (sum_at (unit x) s ∷ []) (var 0) (minus (minus (var 0))) refl
+      ∙ ap neg_ℚ (sym (sum_at-negated_products (unit x) s) ∙ sym (factor_of-is x (negated_products s)) ∙ z) ∙ ring [] (minus (int (pos 0))) (int (pos 0)) refl)
 
 pub said_counts : (order : List ℕ) (l : Line) → AreDistinct order → IsLine order l → HasNoIdleVariable (said l).form
 said_counts order l d p = go l.comparison

@@ -20,7 +20,11 @@ use spec_linear::Relation;
 use std::alloc::{AllocError, Global};
 
 /// The products of the form, in the order of the variables.
-fn products_in(alloc: Global, order: &[VarId], form: &Form) -> Result<Vec<(VarId, Frac)>, AllocError>
+fn products_in(
+    alloc: Global,
+    order: &[VarId],
+    form: &Form,
+) -> Result<Vec<(VarId, Frac)>, AllocError>
     ensures value { IfOk result (λ r. monomials_of r.items ≡ picked (numbers_of order.now) form.now.products) }
     ensures in_order { IsForm form.now }
 {
@@ -35,7 +39,11 @@ fn products_in(alloc: Global, order: &[VarId], form: &Form) -> Result<Vec<(VarId
 }
 
 /// Each product by the divisor.
-fn quotients(alloc: Global, products: &[(VarId, Frac)], divisor: Frac) -> Result<Vec<(VarId, Frac)>, Refusal>
+fn quotients(
+    alloc: Global,
+    products: &[(VarId, Frac)],
+    divisor: Frac,
+) -> Result<Vec<(VarId, Frac)>, Refusal>
     requires nonzero { divisor ≢ 0ℚ }
     ensures value { IfOk result (λ r. monomials_of r.items ≡ map (over_lead divisor) (monomials_of products.now)) }
     ensures overflow { (pair : Pair) → result ≡ Err (Refusal.Overflow pair)
@@ -64,7 +72,11 @@ fn comparison(relation: Relation, is_positive: bool) -> Comparison
 }
 
 /// The row over these variables, by its first coefficient.
-pub(crate) fn printed(alloc: Global, order: &[VarId], row: &Constraint) -> Result<PrintedRow, Refusal>
+pub(crate) fn printed(
+    alloc: Global,
+    order: &[VarId],
+    row: &Constraint,
+) -> Result<PrintedRow, Refusal>
     requires distinct { AreDistinct (numbers_of order.now) }
     requires over { MentionsOnly (numbers_of order.now) (row.now ∷ []) }
     requires unequal { row.now.relation ≢ Eq }

@@ -1,19 +1,20 @@
 -- The stages of a projection together: what is kept of a list, the last rows of it, and these arranged.
 use Rattle.std.proofs.Common.{◌≡◌, inl, inr, ℕ, suc, ◌<◌, List, [], ◌∷◌, ◌++◌, map, refl, ap, sym, subst, ◌∙◌, arith, append_assoc}
-use Rattle.std.specs.List.{AllByRecursion}
 use Rattle.spec_rational.specs.Sums.{Mentions}
-use Rattle.spec_linear.specs.declared.Relation.TheVariants.{Eq, Ne}
+use Rattle.spec_linear.specs.Form.{IsForm}
 use Rattle.spec_linear.specs.Solution.{Constraint, Has, MentionsOnly, Solvable, Point, Solves}
 use Rattle.spec_linear.proofs.Lists.{solves_append}
 use Rattle.spec_linear.proofs.Denominators.{has_left, has_right}
-use Rattle.spec_echelon.specs.Echelon.{AreDistinct}
-use Rattle.spec_projection.specs.Elimination.{IsInequality}
+use Rattle.spec_echelon.specs.Echelon.{Solved, AreDistinct}
 use Rattle.spec_projection.specs.Lists.{AreForms}
 use Rattle.spec_projection.specs.Others.{AreAscending}
 use Rattle.spec_projection.specs.Partial.{AreInequalities, Eliminates}
 use Rattle.spec_projection.specs.Strict.{Strengthened}
 use Rattle.spec_projection.specs.Irredundant.{IsIrredundant, NoneFollows, Sifts}
-use Rattle.spec_projection.specs.Projection.{Projects}
+use Rattle.spec_projection.specs.Projection.{Projects, inequalities_of, disequations_of}
+use Rattle.spec_projection.specs.Substitution.{put_into}
+use Rattle.spec_projection.proofs.Free.{AreForms-put_into}
+use Rattle.spec_projection.proofs.PutIn.{forms_of_inequalities}
 use Rattle.spec_projection.proofs.Members.{has_either}
 use Rattle.spec_projection.proofs.Mentions.{mentioning, some_mentions}
 use Rattle.spec_projection.proofs.Sifted.{sublist_has, sifted_sublist, sifted_none, none_yet}
@@ -23,6 +24,11 @@ use Rattle.spec_projection.proofs.Ends.{projected_rows}
 use Rattle.spec_answers.specs.Forms.{AreAnswerRows}
 use Rattle.spec_answers.specs.Rows.{Inequality, Disequation, inequality, disequation}
 use Rattle.cq_project.specs.Rows.{equations_of}
+use Rattle.spec_limits.specs.Overflow.{Moment, OverflowDue}
+use Rattle.spec_limits.specs.Answers.{IsAnswerRow}
+use Rattle.cq_frac.specs.declared.Pair.{Pair}
+use Rattle.cq_fourier.specs.Steps.{AreRowsOf}
+use Rattle.cq_reduce.specs.Answering.{IsRefusedAnswering}
 use Rattle.cq_store.specs.Told.{numbers_of}
 use Rattle.cq_rows.specs.Scaling.{AreDisequations}
 use Rattle.cq_sift.proofs.Parts.{solvable_part}
@@ -31,9 +37,8 @@ use Rattle.cq_keep.specs.Keeping.{IsKept}
 use Rattle.cq_last.specs.declared.LastRows.{LastRows}
 use Rattle.cq_last.specs.Lasting.{Stands, AreLeft, AreLast}
 use Rattle.cq_last.proofs.Standing.{unequal_solvable}
-use Rattle.cq_arrange.specs.Arranging.{HasNoEquation, AreInequalityRows, AreDisequationRows}
-use Rattle.cq_projection.specs.declared.Rows.{Rows}
-use Rattle.cq_projection.specs.Projecting.{AreRowsOf}
+use Rattle.cq_last.proofs.Stops.{rows_refused, each_row}
+use Rattle.cq_arrange.specs.Arranging.{AreInequalityRows, AreDisequationRows}
 
 -- ---- distinct variables
 
@@ -95,12 +100,21 @@ module _ (targets : List ℕ) (l : List Constraint) (k : Kept) (is : IsKept targ
   pub are_left : AreLeft targets kept (numbers_of k.rest.items) l k.inequalities.items k.disequations.items
   are_left = record { es = is.es; leaves = is.leaves; left = is.left; over = record { apart = is.apart; all = is.over } }
 
+  -- the equations that are put in
+  abbrev all : List Solved
+  all = is.leaves.keeps.others ++ is.leaves.solved_targets
+
+  pub strict_forms : AreForms k.inequalities.items
+  strict_forms = subst AreForms (sym is.leaves.strict_is) (λ c h.
+      let s = strengthened_from (map (put_into all) (disequations_of l)) (map (put_into all) (inequalities_of l)) is.leaves.keeps.strict is.leaves.keeps.strengthened c h in
+      subst IsForm (sym s.form) (AreForms-put_into all (inequalities_of l) (forms_of_inequalities l is.forms) s.row s.among))
+
   pub order_distinct : AreDistinct order
   order_distinct =
       distinct_both targets kept (distinct_behind is.leaves.front targets is.distinct) (ascending_distinct kept is.older_first)
       (λ x t h. apart_in is.leaves.front targets is.distinct x (is.leaves.keeps.kept_only x h).0 t)
 
-  module _ (forms : AreForms k.inequalities.items) (r : LastRows) (a : AreLast order k.inequalities.items k.disequations.items r) where
+  module _ (r : LastRows) (a : AreLast order k.inequalities.items k.disequations.items r) where
     strong : (c : Constraint) → Has c a.strict → Strong k.disequations.items a.remaining c
     strong = strengthened_from k.disequations.items a.remaining a.strict a.strengthened
 
@@ -112,7 +126,7 @@ module _ (targets : List ℕ) (l : List Constraint) (k : Kept) (is : IsKept targ
 
     remaining_inequalities : AreInequalities a.remaining
     remaining_inequalities =
-        (eliminates_keeps order k.inequalities.items k.disequations.items is.inequalities forms (subst (MentionsOnly order) is.left is.leaves.keeps.kept_all) a.remaining
+        (eliminates_keeps order k.inequalities.items k.disequations.items is.inequalities strict_forms (subst (MentionsOnly order) is.left is.leaves.keeps.kept_all) a.remaining
         (partial_eliminates order k.inequalities.items a.remaining a.partial)).inequalities
 
     pub ordered : AreInequalities r.inequalities.items
@@ -133,7 +147,7 @@ module _ (targets : List ℕ) (l : List Constraint) (k : Kept) (is : IsKept targ
 
     together : Solvable (r.disequations.items ++ a.strict)
     together =
-        unequal_solvable (numbers_of k.rest.items) k.inequalities.items k.disequations.items stands forms a.remaining a.partial a.strict a.strengthened
+        unequal_solvable (numbers_of k.rest.items) k.inequalities.items k.disequations.items stands strict_forms a.remaining a.partial a.strict a.strengthened
         r.disequations.items a.unequal
 
     pub ordered_solvable : Solvable r.inequalities.items
@@ -148,6 +162,22 @@ module _ (targets : List ℕ) (l : List Constraint) (k : Kept) (is : IsKept targ
 
     pub unequal_irredundant : IsIrredundant r.disequations.items
     unequal_irredundant = irredundant_alone r.disequations.items a.strict (sifted_none a.strict [] k.disequations.items r.disequations.items (none_yet (k.disequations.items ++ a.strict)) a.unequal)
+
+    -- ---- their numbers by their coefficients
+    pub ordered_due : (pair : Pair) → ((m : Moment) → AreRowsOf m r.inequalities.items → OverflowDue m pair) → IsRefusedAnswering targets l pair
+    ordered_due pair due =
+        rows_refused targets l r.inequalities.items
+        (λ c h.
+        let s = strong c (in_strict c h) in
+        subst (IsAnswerRow targets l) (sym s.form)
+        (each_row targets kept (numbers_of k.rest.items) l k.inequalities.items k.disequations.items are_left a.remaining a.partial s.row
+        (has_right s.row k.disequations.items a.remaining s.among))) pair due
+
+    pub unequal_due : (pair : Pair) → ((m : Moment) → AreRowsOf m r.disequations.items → OverflowDue m pair) → IsRefusedAnswering targets l pair
+    unequal_due pair due =
+        rows_refused targets l r.disequations.items
+        (λ c h. each_row targets kept (numbers_of k.rest.items) l k.inequalities.items k.disequations.items are_left a.remaining a.partial c
+        (has_left c k.disequations.items a.remaining (in_left c h))) pair due
 
     -- ---- the rows in print
     module _ (inequalities : List Inequality) (disequations : List Disequation)

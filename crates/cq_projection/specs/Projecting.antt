@@ -20,7 +20,7 @@ rows_of r = record {
 
 -- the rows that an answer prints of a list: the variables that are no targets are solved for, the youngest first, some of
 -- them are kept, and the rows are in the form of an answer over the targets and those, the older first
-pub record AreRowsOf (targets : List ℕ) (l : List Constraint) (r : Rows) : Type 0 where
+pub record IsProjection (targets : List ℕ) (l : List Constraint) (r : Rows) : Type 0 where
   pub front : List ℕ
   pub others : AreOthers targets l front
   pub older_first : AreAscending (numbers_of r.kept.items)

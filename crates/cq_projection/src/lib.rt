@@ -10,7 +10,7 @@ ghost use Rattle.cq_store.specs.Told.{numbers_of};
 ghost use Rattle.cq_reduce.specs.Answering.{IsRefusedAnswering, IsSpentAnswering};
 ghost use Rattle.cq_eliminate.specs.declared.ProjectFault.TheVariants.{Overflow, Pivots};
 ghost use Rattle.cq_eliminate.specs.Faults.{IfRows};
-ghost use Rattle.cq_projection.specs.Projecting.{AreRowsOf};
+ghost use Rattle.cq_projection.specs.Projecting.{IsProjection};
 
 use cq_arrange::{PrintedRow, arranged};
 use cq_eliminate::ProjectFault;
@@ -47,7 +47,7 @@ pub fn project_rows(
 ) -> Result<Rows, ProjectFault>
     requires solvable { Solvable told.now }
     requires distinct { AreDistinct (numbers_of keep.now) }
-    ensures rows { IfOk result (AreRowsOf (numbers_of keep.now) told.now) }
+    ensures rows { IfOk result (IsProjection (numbers_of keep.now) told.now) }
     ensures overflow { (pair : Pair) → result ≡ Err (Overflow pair) → IsRefusedAnswering (numbers_of keep.now) told.now pair }
     ensures pivots { (n : ℕ) → result ≡ Err (Pivots n) → (n ≡ pivots) × IsSpentAnswering (numbers_of keep.now) told.now n }
     ensures limit { IfErr result (λ fault. IfRows fault (IsProjectionDue (numbers_of keep.now) told.now limit)) }
@@ -84,7 +84,7 @@ pub fn project(
 ) -> Result<Rows, ProjectFault>
     requires solvable { Solvable told.now }
     requires distinct { AreDistinct (numbers_of keep.now) }
-    ensures rows { IfOk result (AreRowsOf (numbers_of keep.now) told.now) }
+    ensures rows { IfOk result (IsProjection (numbers_of keep.now) told.now) }
     ensures overflow { (pair : Pair) → result ≡ Err (Overflow pair) → IsRefusedAnswering (numbers_of keep.now) told.now pair }
     ensures pivots { (n : ℕ) → result ≡ Err (Pivots n) → (n ≡ pivots) × IsSpentAnswering (numbers_of keep.now) told.now n }
     ensures limit { IfErr result (λ fault. IfRows fault (IsProjectionDue (numbers_of keep.now) told.now ROWS)) }

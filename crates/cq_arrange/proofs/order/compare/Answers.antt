@@ -13,8 +13,8 @@ pub returns : goal.returns
 returns c =
     let order = numbers_of c.args.order.now in
     let products = subst (λ (s : List (VarId × ℚ)). MatchOrdering c.compare_products.result (Before order (monomials_of s) (monomials_of c.args.b.now.products.items) ⊥)
-        (monomials_of s ≡ monomials_of c.args.b.now.products.items) (Before order (monomials_of c.args.b.now.products.items) (monomials_of s) ⊥)) c.deref.ensures.value
+    (monomials_of s ≡ monomials_of c.args.b.now.products.items) (Before order (monomials_of c.args.b.now.products.items) (monomials_of s) ⊥)) c.deref.ensures.value
     (subst (λ (t : List (VarId × ℚ)). MatchOrdering c.compare_products.result (Before order (monomials_of c.deref.result.now) (monomials_of t) ⊥)
-        (monomials_of c.deref.result.now ≡ monomials_of t) (Before order (monomials_of t) (monomials_of c.deref.result.now) ⊥)) c.deref-2.ensures.value c.compare_products.ensures) in
+    (monomials_of c.deref.result.now ≡ monomials_of t) (Before order (monomials_of t) (monomials_of c.deref.result.now) ⊥)) c.deref-2.ensures.value c.compare_products.ensures) in
     subst (Compared order (line_of c.args.a.now) (line_of c.args.b.now)) (sym c.then.ensures)
     (compared_lines order (line_of c.args.a.now) (line_of c.args.b.now) c.compare_products.result c.compare_bounds.result products c.compare_bounds.ensures)

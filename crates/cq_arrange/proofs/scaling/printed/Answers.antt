@@ -19,8 +19,10 @@ pub quotients-requires : goal.quotients-requires
 quotients-requires c =
     let some = any_product (numbers_of c.args.order.now) c.args.row.now c.row.inside.relation c.row.inside.form c.row.view_is c.requires.over c.in_ok-products.ensures.in_order
     c.in_ok-products.products.items c.in_ok-products.ensures.value c.requires.mentions in
-    record { nonzero = lead_nonzero (numbers_of c.args.order.now) c.args.row.now c.row.inside.relation c.row.inside.form c.row.view_is c.requires.over c.in_ok-products.ensures.in_order
-    c.in_ok-products.products.items c.in_ok-products.ensures.value some c.index.result.now c.index.ensures }
+    record {
+      nonzero = lead_nonzero (numbers_of c.args.order.now) c.args.row.now c.row.inside.relation c.row.inside.form c.row.view_is c.requires.over c.in_ok-products.ensures.in_order
+          c.in_ok-products.products.items c.in_ok-products.ensures.value some c.index.result.now c.index.ensures;
+    }
 
 pub returns-in_err-quotients-clause-overflow : goal.returns-in_err-quotients-clause-overflow
 returns-in_err-quotients-clause-overflow c = λ pair e.
@@ -35,8 +37,10 @@ pub quotient-requires : goal.quotient-requires
 quotient-requires c =
     let some = any_product (numbers_of c.args.order.now) c.args.row.now c.row.inside.relation c.row.inside.form c.row.view_is c.requires.over c.in_ok-products.ensures.in_order
     c.in_ok-products.products.items c.in_ok-products.ensures.value c.requires.mentions in
-    record { divisor = lead_nonzero (numbers_of c.args.order.now) c.args.row.now c.row.inside.relation c.row.inside.form c.row.view_is c.requires.over c.in_ok-products.ensures.in_order
-    c.in_ok-products.products.items c.in_ok-products.ensures.value some c.index.result.now c.index.ensures }
+    record {
+      divisor = lead_nonzero (numbers_of c.args.order.now) c.args.row.now c.row.inside.relation c.row.inside.form c.row.view_is c.requires.over c.in_ok-products.ensures.in_order
+          c.in_ok-products.products.items c.in_ok-products.ensures.value some c.index.result.now c.index.ensures;
+    }
 
 pub returns-in_err-quotient-clause-overflow : goal.returns-in_err-quotient-clause-overflow
 returns-in_err-quotient-clause-overflow c = λ pair e.
