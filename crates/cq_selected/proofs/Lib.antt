@@ -1,0 +1,4 @@
+mod Reached
+mod More
+mod Faults
+mod Equal

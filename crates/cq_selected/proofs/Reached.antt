@@ -1,0 +1,88 @@
+-- What a machine keeps while the world, its continuations and its choices change.
+use Rattle.std.proofs.Common.{inl, inr, ◌≡◌, ℕ, List, [], ◌∷◌, ◌++◌, Option, None, Some, refl, sym, subst}
+use Rattle.std.specs.List.{AllByRecursion}
+use Rattle.spec_lists.specs.Texts.{Text}
+use Rattle.spec_branch.specs.Branch.{State, Branch}
+use Rattle.spec_search.specs.Replies.{Place, Reply}
+use Rattle.spec_search.specs.Search.{Search}
+use Rattle.spec_search.specs.Turns.{older}
+use Rattle.cq_atoms.specs.Texts.{AreDifferent}
+use Rattle.cq_control.specs.Open.{AreMarked}
+use Rattle.cq_program.specs.Database.{Program, IsProgram}
+use Rattle.cq_term.specs.Trees.{KnowsTerms}
+use Rattle.cq_world.specs.Contents.{Contents}
+use Rattle.spec_machine.specs.declared.cell.Cell.{Cell}
+use Rattle.spec_machine.specs.Cells.{Value, Stack}
+use Rattle.cq_steps.specs.Choices.{CanBeTried, AreOpen}
+use Rattle.cq_steps.specs.Lists.{KeepsLists}
+use Rattle.cq_steps.specs.Worlds.{IsBranch, term_in, Leads, Grown}
+use Rattle.cq_steps.specs.declared.alternatives.Alternatives.{Alternatives}
+use Rattle.cq_begin.specs.declared.beginning.Begun.{Begun}
+use Rattle.cq_begin.specs.declared.beginning.Begun.TheVariants.{Goes, Pruned}
+use Rattle.cq_begin.specs.Begun.{goes_to, IfPruned}
+use Rattle.cq_machine.specs.declared.machine.Machine.{Machine}
+use Rattle.cq_machine.specs.declared.names.Names.{Names}
+use Rattle.cq_relations.specs.Goals.{LeavesOneAtMost}
+use Rattle.cq_machine.specs.Machines.{terms, saved, AreNames, IsSound, HasSameProgram}
+
+-- ---- names
+
+-- where a row leads to a continuation, the names of the terms are known
+pub names_ahead : (texts : List Text) (choices : Stack Contents) (now : Value Contents) (k : ℕ) (p : Place) (behind : List Branch) (r : Reply)
+    → Leads texts choices now (Some k) p behind r → KnowsTerms texts now.0.heap.terms
+names_ahead texts choices now k p behind r l =
+    let s : Search = record { database = p.database; branches = l.made.children ++ older l.made.keeps behind; selected = 0 } in
+    let c = l.comes 0 s refl refl in
+    c.stands.current.3.state.ready.stands.names
+
+-- where a branch is begun they are known, if they are where it is pruned
+pub names_begun : (texts : List Text) (choices : Stack Contents) (now : Value Contents) (b : Begun) (p : Place) (behind : List Branch) (r : Reply)
+    → Leads texts choices now (goes_to b) p behind r → IfPruned b (KnowsTerms texts now.0.heap.terms) → KnowsTerms texts now.0.heap.terms
+names_begun texts choices now (Goes k) p behind r l known = names_ahead texts choices now k p behind r l
+names_begun texts choices now Pruned p behind r l known = known
+
+pub if_pruned : {P Q : Type 0} (b : Begun) → (P → Q) → IfPruned b P → IfPruned b Q
+if_pruned (Goes k) f i = tt
+if_pruned Pruned f i = f i
+
+pub names_same : (texts : List Text) (old later : Contents) → KnowsTerms texts old.heap.terms → later ≡ old → KnowsTerms texts later.heap.terms
+names_same texts old later known e = subst (λ (c : Contents). KnowsTerms texts c.heap.terms) (sym e) known
+
+pub names_grown : (texts : List Text) (old new : Value Contents) (st : State) → IsBranch texts old.0 st → Grown texts old new → KnowsTerms texts new.0.heap.terms
+names_grown texts old new st b g = (g.state st b).ready.stands.names
+
+-- ---- what was built
+
+-- the same world, and more continuations
+pub same_grown : (texts : List Text) (old later : Contents) (lists more : List (List Cell)) → later ≡ old → KeepsLists lists more → Grown texts (old, lists) (later, more)
+same_grown texts old later lists more e keeps =
+    subst (λ (c : Contents). Grown texts (old, lists) (c, more)) (sym e) (record { state = λ st i. i; terms = λ id t r. r; lists = keeps })
+
+-- ---- a sound machine
+
+pub sound_still : (old new : Machine) → IsSound old → HasSameProgram old new → KnowsTerms old.atoms (terms new) → AreMarked (saved new) new.choices
+    → AreOpen new.clauses (saved new) new.choices → IsSound new
+sound_still old new s same names marked untried = record {
+  known = subst (λ (a : List Text). AreNames a new.names) (sym same.atoms) (subst (AreNames old.atoms) (sym same.names) s.known);
+  different = subst AreDifferent (sym same.atoms) s.different;
+  names = subst (λ (a : List Text). KnowsTerms a (terms new)) (sym same.atoms) names;
+  program = subst (λ (a : List Text). IsProgram a new.clauses) (sym same.atoms) (subst (IsProgram old.atoms) (sym same.clauses) s.program);
+  marked = marked;
+  untried = untried;
+}
+
+abbrev Tried : Program → Value Contents × Alternatives → Type 0
+Tried v c = CanBeTried v c.0.0.heap.terms c.1
+
+-- the same choices over the same marks
+pub open_still : (v : Program) (marks more : List (Value Contents)) (choices : List Alternatives) → more ≡ marks → AreOpen v marks choices → AreOpen v more choices
+open_still v marks more choices e o = subst (λ (l : List (Value Contents)). AreOpen v l choices) (sym e) o
+
+pub marked_still : (marks more : List (Value Contents)) (choices : List Alternatives) → more ≡ marks → AreMarked marks choices → AreMarked more choices
+marked_still marks more choices e o = subst (λ (l : List (Value Contents)). AreMarked l choices) (sym e) o
+
+-- the same choices, or one more
+pub open_left : (v : Program) (marks : List (Value Contents)) (choices : List Alternatives) (now : Value Contents) (more : List (Value Contents)) (after : List Alternatives)
+    → LeavesOneAtMost marks choices now more after → AreOpen v marks choices → AreOpen v more after
+open_left v marks choices now more after (inl e) o = subst (λ (cs : List (Value Contents × Alternatives)). AllByRecursion (Tried v) cs) (sym e) o
+open_left v marks choices now more after (inr (k, e)) o = subst (λ (cs : List (Value Contents × Alternatives)). AllByRecursion (Tried v) cs) (sym e) (tt, o)

@@ -1,0 +1,179 @@
+// The rows of goals that make terms equal, tell constraints, compare values and put goals to sleep.
+
+ghost use Rattle.std.specs.Prelude.{◌≡◌, ◌<◌, ℕ, List, length, IfOk, IfErr, OnErr};
+ghost use Rattle.spec_lists.specs.Texts.{Text};
+ghost use Rattle.spec_branch.specs.Branch.{Branch};
+ghost use Rattle.spec_search.specs.Builtins.{Unify, Curly, Is, Compare, Freeze};
+ghost use Rattle.spec_search.specs.Replies.{Place, Reply};
+ghost use Rattle.cq_builtin.specs.Rows.{comparison_of};
+ghost use Rattle.cq_term.specs.Meaning.{HeapTerm, at};
+ghost use Rattle.cq_term.specs.Shown.{arguments};
+ghost use Rattle.cq_machine.specs.Machines.{terms, IsSound, HasSameProgram, StillStands};
+ghost use Rattle.cq_machine.specs.Stepping.{row_of, IsSelectedSomewhere, LeadsTo, IsStep, CanGo};
+ghost use Rattle.cq_machine.specs.declared.machine.Machine.{Machine};
+ghost use Rattle.cq_relations.specs.Faults.{IsStopped, Explains, HasCulpritOf};
+ghost use Rattle.cq_selected.specs.Stops.{StopsAt};
+
+use crate::steps::step_of;
+use cq_builtin::Comparison;
+use cq_control::Continuation;
+use cq_goals::GoalFault;
+use cq_linear::store::StoreFault;
+use cq_machine::{Machine, Step};
+use cq_relations::RelationFault;
+use cq_term::TermId;
+use cq_walk::Pair;
+use std::alloc::AllocError;
+
+/// `A = B`.
+pub fn unify(m: &mut Machine, goal: TermId, rest: Continuation) -> Result<Step, StoreFault>
+    requires sound { IsSound m.old }
+    requires selected { IsSelectedSomewhere m.old goal rest }
+    requires goal { goal < length (terms m.old) }
+    requires two { length (arguments (at (terms m.old) goal)) ≡ 2 }
+    requires rest { rest < length m.old.world.second.now }
+    ensures row { IfOk result (λ s. (height : ℕ) → LeadsTo m.old m.new goal height rest (row_of Unify) s) }
+    ensures stop { IfErr result (λ f. (height : ℕ) → StopsAt m.old goal height rest (row_of Unify) f) }
+    ensures goes { IfOk result (CanGo m.new) }
+    ensures sound { IsSound m.new }
+    ensures program { HasSameProgram m.old m.new }
+    ensures err { OnErr result (StillStands m.old m.new) }
+{
+    let left = m.world.first.heap.arg(goal, 0);
+    let right = m.world.first.heap.arg(goal, 1);
+    let pairs = [Pair { left, right }];
+    let world = &mut m.world;
+    match cq_begin::unify(&mut world.first, &mut world.second, &m.atoms, &pairs, rest) {
+        Ok(begun) => Ok(step_of(begun)),
+        Err(fault) => Err(fault),
+    }
+}
+
+/// `X is E`.
+pub fn evaluate_to(
+    m: &mut Machine,
+    goal: TermId,
+    rest: Continuation,
+) -> Result<Step, StoreFault>
+    requires sound { IsSound m.old }
+    requires selected { IsSelectedSomewhere m.old goal rest }
+    requires goal { goal < length (terms m.old) }
+    requires two { length (arguments (at (terms m.old) goal)) ≡ 2 }
+    requires rest { rest < length m.old.world.second.now }
+    ensures row { IfOk result (λ s. (height : ℕ) → LeadsTo m.old m.new goal height rest (row_of Is) s) }
+    ensures stop { IfErr result (λ f. (height : ℕ) → StopsAt m.old goal height rest (row_of Is) f) }
+    ensures goes { IfOk result (CanGo m.new) }
+    ensures sound { IsSound m.new }
+    ensures program { HasSameProgram m.old m.new }
+    ensures err { OnErr result (StillStands m.old m.new) }
+{
+    let left = m.world.first.heap.arg(goal, 0);
+    let right = m.world.first.heap.arg(goal, 1);
+    let world = &mut m.world;
+    match cq_relations::evaluate_to(
+        &mut world.first,
+        &mut world.second,
+        &m.atoms,
+        left,
+        right,
+        rest,
+    ) {
+        Ok(begun) => Ok(step_of(begun)),
+        Err(fault) => refused(fault),
+    }
+}
+
+/// A comparison of the values of two expressions.
+pub fn compare(
+    m: &Machine,
+    comparison: Comparison,
+    goal: TermId,
+    rest: Continuation,
+) -> Result<Step, AllocError>
+    requires sound { IsSound m.now }
+    requires goal { goal < length (terms m.now) }
+    requires two { length (arguments (at (terms m.now) goal)) ≡ 2 }
+    requires rest { rest < length m.now.world.second.now }
+    ensures row { IfOk result (λ s. (height : ℕ) → LeadsTo m.now m.now goal height rest (row_of (Compare (comparison_of comparison))) s) }
+    ensures goes { IfOk result (CanGo m.now) }
+{
+    let left = m.world.first.heap.arg(goal, 0);
+    let right = m.world.first.heap.arg(goal, 1);
+    match cq_relations::compare(&m.world.first, &m.atoms, comparison, left, right) {
+        Ok(holds) => Ok(Step::succeed_if(holds, rest)),
+        Err(GoalFault::Error(error)) => Ok(Step::Raises(error)),
+        Err(GoalFault::Overflow(pair)) => Ok(Step::Refuses(pair)),
+        Err(GoalFault::NoMemory) => Err(AllocError),
+    }
+}
+
+/// `{C}`.
+pub fn constrain(
+    m: &mut Machine,
+    goal: TermId,
+    height: usize,
+    rest: Continuation,
+) -> Result<Step, StoreFault>
+    requires sound { IsSound m.old }
+    requires selected { IsSelectedSomewhere m.old goal rest }
+    requires goal { goal < length (terms m.old) }
+    requires one { length (arguments (at (terms m.old) goal)) ≡ 1 }
+    requires rest { rest < length m.old.world.second.now }
+    ensures row { IfOk result (LeadsTo m.old m.new goal height rest (row_of Curly)) }
+    ensures stop { IfErr result (StopsAt m.old goal height rest (row_of Curly)) }
+    ensures goes { IfOk result (CanGo m.new) }
+    ensures sound { IsSound m.new }
+    ensures program { HasSameProgram m.old m.new }
+    ensures err { OnErr result (StillStands m.old m.new) }
+{
+    let constraint = m.world.first.heap.arg(goal, 0);
+    let names = m.names;
+    match cq_relations::constrain(
+        &mut m.world,
+        &mut m.choices,
+        &m.atoms,
+        names.curly,
+        constraint,
+        height,
+        rest,
+    ) {
+        Ok(begun) => Ok(step_of(begun)),
+        Err(fault) => refused(fault),
+    }
+}
+
+/// `freeze(X,G)`.
+pub fn freeze(m: &mut Machine, goal: TermId, rest: Continuation) -> Result<Step, AllocError>
+    requires sound { IsSound m.old }
+    requires selected { IsSelectedSomewhere m.old goal rest }
+    requires goal { goal < length (terms m.old) }
+    requires two { length (arguments (at (terms m.old) goal)) ≡ 2 }
+    requires rest { rest < length m.old.world.second.now }
+    ensures row { IfOk result (λ s. (height : ℕ) → LeadsTo m.old m.new goal height rest (row_of Freeze) s) }
+    ensures goes { IfOk result (CanGo m.new) }
+    ensures sound { IsSound m.new }
+    ensures program { HasSameProgram m.old m.new }
+    ensures err { OnErr result (StillStands m.old m.new) }
+{
+    let variable = m.world.first.heap.arg(goal, 0);
+    let asleep = m.world.first.heap.arg(goal, 1);
+    let world = &mut m.world;
+    let k = cq_relations::freeze(&mut world.first, &mut world.second, variable, asleep, rest)?;
+    Ok(Step::Goes(k))
+}
+
+/// What a goal that is refused comes to, or the fault for which its query stops.
+fn refused(fault: RelationFault) -> Result<Step, StoreFault>
+    ensures step { IfOk result (λ s. (m : Machine) (n : ℕ) (p : Place) (behind : List Branch) (r : Reply)
+        → Explains m.atoms (terms m) n fault p r → IsStep m s p behind r) }
+    ensures goes { IfOk result (λ s. (m : Machine) → HasCulpritOf m.atoms (terms m) fault → CanGo m s) }
+    ensures stop { IfErr result (λ f. (texts : List Text) (ts : List HeapTerm) (n : ℕ) (p : Place) (r : Reply)
+        → Explains texts ts n fault p r → IsStopped n f p r) }
+{
+    match fault {
+        RelationFault::Goal(GoalFault::Error(error)) => Ok(Step::Raises(error)),
+        RelationFault::Goal(GoalFault::Overflow(pair)) => Ok(Step::Refuses(pair)),
+        RelationFault::Goal(GoalFault::NoMemory) => Err(StoreFault::NoMemory),
+        RelationFault::Settling(stop) => Err(stop),
+    }
+}
