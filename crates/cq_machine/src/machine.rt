@@ -11,9 +11,7 @@ use cq_atoms::Atoms;
 use cq_clauses::Clauses;
 use cq_control::{Choices, Continuations};
 use cq_ops::{Ops, more_names_keep_the_table};
-use cq_program::{
-    ProgramClause, changes_are_those_of_the_database, programs_stay_programs,
-};
+use cq_program::{ProgramClause, changes_are_those_of_the_database, programs_stay_programs};
 use cq_steps::{Alternatives, Searching};
 use cq_trail::Both;
 use cq_world::World;

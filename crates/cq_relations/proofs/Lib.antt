@@ -1,6 +1,6 @@
 mod Values
 mod Growing
 mod Marks
-pub mod Equating
+mod Equating
 mod Asleep
 mod Curly
