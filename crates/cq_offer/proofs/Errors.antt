@@ -1,5 +1,5 @@
--- Errors of calls: what they are where names are added, and as replies.
-use Rattle.std.proofs.Common.{◌≡◌, ◌<◌, List, [], length, Bool, true, false, Some, refl, ap, subst}
+-- Errors of calls where names are added, and rows as replies.
+use Rattle.std.proofs.Common.{◌≡◌, ◌≢◌, ◌<◌, ◌+◌, List, [], ◌∷◌, length, Bool, true, false, Some, refl, sym, ap, ◌∙◌, subst, arith}
 use Rattle.spec_lists.specs.Prefixes.{IsPrefix}
 use Rattle.spec_lists.proofs.Prefixes.{prefix_get_or, prefix_within}
 use Rattle.spec_lists.specs.Texts.{Text}
@@ -9,10 +9,11 @@ use Rattle.spec_built.specs.Built.{indicator, indicator_term, compound2, compoun
 use Rattle.spec_built.specs.Errors.{existence_error}
 use Rattle.spec_builtins.specs.Alternatives.{holds_if}
 use Rattle.spec_builtins.specs.Terms.{passes}
+use Rattle.spec_branch.specs.Branch.{State}
 use Rattle.spec_predicates.specs.Predicates.{Predicate, CopyTerm, predicate_of}
 use Rattle.spec_search.specs.Builtins as builtin
 use Rattle.spec_search.specs.Builtins.{Builtin}
-use Rattle.spec_search.specs.Replies.{Place, Raises, offers, succeeds_if}
+use Rattle.spec_search.specs.Replies.{Place, Raises, child, makes, offers, succeeds_if, with_equations, with_new}
 use Rattle.spec_search.specs.Rows.{nth, builtin_reply}
 use Rattle.cq_built.specs.Errors.{culprit_tree, error_tree, indicator_of, type_name, domain_name, action_name, object_name, HasCulprit, IsThere}
 use Rattle.cq_built.specs.declared.errors.Culprit.{Culprit}
@@ -66,28 +67,39 @@ module _ (texts more : List Text) (longer : IsPrefix texts more) (ts : List Heap
 
 -- ---- as replies
 
-module _ (p : Place) (ts : List Tree) (e : Tree) where
-  abbrev IsError : Predicate → Type 0
-  IsError q = row_of q p ts ≡ Raises e
+module _ (p : Place) (ts : List Tree) where
+  same_state : with_new 0 p.state ≡ p.state
+  same_state = (let e : p.state.fresh + 0 ≡ p.state.fresh = omega arith in λ i. record p.state { fresh = e i })
 
-  of_same : (q r : Predicate) → Some q ≡ Some r → IsError r → IsError q
-  of_same q r s h = (let same : r ≡ q = cc in subst IsError same h)
+  test_replies : (b : Bool) → offers p (holds_if b) ≡ succeeds_if b p
+  test_replies true = ap (λ (st : State). makes p (child p.rest st (with_equations []) ∷ [])) same_state
+  test_replies false = refl
 
-  of_test : (b : Bool) → offers p (holds_if b) ≡ Raises e → succeeds_if b p ≡ Raises e
-  of_test true h = cc
-  of_test false h = cc
+  abbrev IsReply : Builtin → Predicate → Type 0
+  IsReply b q = row_of q p ts ≡ builtin_reply p b ts
 
-  pub error_replies : (b : Builtin) (q : Predicate) → predicate_of b ≡ Some q → IsError q → builtin_reply p b ts ≡ Raises e
-  error_replies (builtin.Test k) q s h = of_test (passes k (nth ts 0)) (of_same _ q s h)
-  error_replies builtin.CopyTerm q s h = (let no : IsError CopyTerm = of_same _ q s h in cc)
-  error_replies (builtin.Order c) q s h = of_same _ q s h
-  error_replies (builtin.AtomList k) q s h = of_same _ q s h
-  error_replies builtin.Functor q s h = of_same _ q s h
-  error_replies builtin.Arg q s h = of_same _ q s h
-  error_replies builtin.Univ q s h = of_same _ q s h
-  error_replies builtin.AtomLength q s h = of_same _ q s h
-  error_replies builtin.CharCode q s h = of_same _ q s h
-  error_replies builtin.NumberCodes q s h = of_same _ q s h
-  error_replies builtin.AtomConcat q s h = of_same _ q s h
-  error_replies builtin.SubAtom q s h = of_same _ q s h
-  error_replies b q s h = cc
+  of_same : (b : Builtin) (q r : Predicate) → Some r ≡ Some q → IsReply b r → IsReply b q
+  of_same b q r s h = (let same : r ≡ q = cc in subst (IsReply b) same h)
+
+  -- but for copy_term, whose reply is of the copy that is made
+  pub row_replies : (b : Builtin) (q : Predicate) → predicate_of b ≡ Some q → q ≢ CopyTerm → IsReply b q
+  row_replies (builtin.Test k) q s other = of_same (builtin.Test k) q _ s (test_replies (passes k (nth ts 0)))
+  row_replies builtin.CopyTerm q s other = absurd (other (let same : q ≡ CopyTerm = cc in same))
+  row_replies (builtin.Order c) q s other = of_same (builtin.Order c) q _ s refl
+  row_replies (builtin.AtomList k) q s other = of_same (builtin.AtomList k) q _ s refl
+  row_replies builtin.Functor q s other = of_same builtin.Functor q _ s refl
+  row_replies builtin.Arg q s other = of_same builtin.Arg q _ s refl
+  row_replies builtin.Univ q s other = of_same builtin.Univ q _ s refl
+  row_replies builtin.AtomLength q s other = of_same builtin.AtomLength q _ s refl
+  row_replies builtin.CharCode q s other = of_same builtin.CharCode q _ s refl
+  row_replies builtin.NumberCodes q s other = of_same builtin.NumberCodes q _ s refl
+  row_replies builtin.AtomConcat q s other = of_same builtin.AtomConcat q _ s refl
+  row_replies builtin.SubAtom q s other = of_same builtin.SubAtom q _ s refl
+  row_replies b q s other = cc
+
+  -- copy_term raises no error
+  error_is : (q : Predicate) (e : Tree) → row_of q p ts ≡ Raises e → q ≢ CopyTerm
+  error_is q e h same = (let copies : row_of CopyTerm p ts ≡ Raises e = subst (λ (r : Predicate). row_of r p ts ≡ Raises e) same h in cc)
+
+  pub error_replies : (b : Builtin) (q : Predicate) (e : Tree) → predicate_of b ≡ Some q → row_of q p ts ≡ Raises e → builtin_reply p b ts ≡ Raises e
+  error_replies b q e s h = sym (row_replies b q s (error_is q e h)) ∙ h

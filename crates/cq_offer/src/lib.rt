@@ -4,5 +4,5 @@
 mod laws;
 mod offering;
 
-pub use laws::errors_are_replies;
+pub use laws::rows_are_replies;
 pub use offering::offer;
