@@ -1,17 +1,20 @@
 -- The stages of a projection together: what is kept of a list, the last rows of it, and these arranged.
 use Rattle.std.proofs.Common.{◌≡◌, inl, inr, ℕ, suc, ◌<◌, List, [], ◌∷◌, ◌++◌, map, refl, ap, sym, subst, ◌∙◌, arith, append_assoc}
+use Rattle.std.proofs.lemmas.List.{map-append}
 use Rattle.spec_rational.specs.Sums.{Mentions}
+use Rattle.spec_linear.specs.declared.Relation.TheVariants.{Eq, Ne}
 use Rattle.spec_linear.specs.Form.{IsForm}
 use Rattle.spec_linear.specs.Solution.{Constraint, Has, MentionsOnly, Solvable, Point, Solves}
 use Rattle.spec_linear.proofs.Lists.{solves_append}
 use Rattle.spec_linear.proofs.Denominators.{has_left, has_right}
 use Rattle.spec_echelon.specs.Echelon.{Solved, AreDistinct}
+use Rattle.spec_projection.specs.Elimination.{IsInequality}
 use Rattle.spec_projection.specs.Lists.{AreForms}
 use Rattle.spec_projection.specs.Others.{AreAscending}
 use Rattle.spec_projection.specs.Partial.{AreInequalities, Eliminates}
 use Rattle.spec_projection.specs.Strict.{Strengthened}
 use Rattle.spec_projection.specs.Irredundant.{IsIrredundant, NoneFollows, Sifts}
-use Rattle.spec_projection.specs.Projection.{Projects, inequalities_of, disequations_of}
+use Rattle.spec_projection.specs.Projection.{Keeps, Projects, inequalities_of, disequations_of}
 use Rattle.spec_projection.specs.Substitution.{put_into}
 use Rattle.spec_projection.proofs.Free.{AreForms-put_into}
 use Rattle.spec_projection.proofs.PutIn.{forms_of_inequalities}
@@ -27,6 +30,7 @@ use Rattle.cq_project.specs.Rows.{equations_of}
 use Rattle.spec_limits.specs.Overflow.{Moment, OverflowDue}
 use Rattle.spec_limits.specs.Answers.{IsAnswerRow}
 use Rattle.cq_frac.specs.declared.Pair.{Pair}
+use Rattle.cq_frac.specs.declared.VarId.{VarId}
 use Rattle.cq_fourier.specs.Steps.{AreRowsOf}
 use Rattle.cq_reduce.specs.Answering.{IsRefusedAnswering}
 use Rattle.cq_store.specs.Told.{numbers_of}
@@ -36,9 +40,9 @@ use Rattle.cq_keep.specs.declared.Kept.{Kept}
 use Rattle.cq_keep.specs.Keeping.{IsKept}
 use Rattle.cq_last.specs.declared.LastRows.{LastRows}
 use Rattle.cq_last.specs.Lasting.{Stands, AreLeft, AreLast}
-use Rattle.cq_last.proofs.Standing.{unequal_solvable}
+use Rattle.cq_last.proofs.Standing as standing
 use Rattle.cq_last.proofs.Stops.{rows_refused, each_row}
-use Rattle.cq_arrange.specs.Arranging.{AreInequalityRows, AreDisequationRows}
+use Rattle.cq_arrange.specs.Arranging.{HasNoEquation, AreInequalityRows, AreDisequationRows}
 
 -- ---- distinct variables
 
@@ -109,6 +113,9 @@ module _ (targets : List ℕ) (l : List Constraint) (k : Kept) (is : IsKept targ
       let s = strengthened_from (map (put_into all) (disequations_of l)) (map (put_into all) (inequalities_of l)) is.leaves.keeps.strict is.leaves.keeps.strengthened c h in
       subst IsForm (sym s.form) (AreForms-put_into all (inequalities_of l) (forms_of_inequalities l is.forms) s.row s.among))
 
+  pub kept_so : Keeps is.leaves.front targets kept l (equations_of k.equations.items)
+  kept_so = subst (Keeps is.leaves.front targets kept l) is.equations_are is.leaves.keeps
+
   pub order_distinct : AreDistinct order
   order_distinct =
       distinct_both targets kept (distinct_behind is.leaves.front targets is.distinct) (ascending_distinct kept is.older_first)
@@ -135,6 +142,12 @@ module _ (targets : List ℕ) (l : List Constraint) (k : Kept) (is : IsKept targ
     pub unequal : AreDisequations r.disequations.items
     unequal c h = is.disequations c (in_left c h)
 
+    pub ordered_no_equation : HasNoEquation r.inequalities.items
+    ordered_no_equation c h e = subst IsInequality e (ordered c h)
+
+    pub unequal_no_equation : HasNoEquation r.disequations.items
+    unequal_no_equation c h e = let differ : Ne ≡ Eq = sym (unequal c h) ∙ e in cc
+
     pub ordered_over : MentionsOnly order r.inequalities.items
     ordered_over x h =
         let t = mentioning x r.inequalities.items h in
@@ -147,15 +160,15 @@ module _ (targets : List ℕ) (l : List Constraint) (k : Kept) (is : IsKept targ
 
     together : Solvable (r.disequations.items ++ a.strict)
     together =
-        unequal_solvable (numbers_of k.rest.items) k.inequalities.items k.disequations.items stands strict_forms a.remaining a.partial a.strict a.strengthened
+        standing.unequal_solvable (numbers_of k.rest.items) k.inequalities.items k.disequations.items stands strict_forms a.remaining a.partial a.strict a.strengthened
         r.disequations.items a.unequal
 
     pub ordered_solvable : Solvable r.inequalities.items
     ordered_solvable =
         solvable_part r.inequalities.items (r.disequations.items ++ a.strict) (λ c h. has_right c r.disequations.items a.strict (in_strict c h)) together
 
-    pub unequal_solvable_too : Solvable r.disequations.items
-    unequal_solvable_too = solvable_part r.disequations.items (r.disequations.items ++ a.strict) (λ c h. has_left c r.disequations.items a.strict h) together
+    pub unequal_solvable : Solvable r.disequations.items
+    unequal_solvable = solvable_part r.disequations.items (r.disequations.items ++ a.strict) (λ c h. has_left c r.disequations.items a.strict h) together
 
     pub ordered_irredundant : IsIrredundant r.inequalities.items
     ordered_irredundant = irredundant_alone r.inequalities.items r.disequations.items (sifted_none r.disequations.items [] a.strict r.inequalities.items (none_yet (a.strict ++ r.disequations.items)) a.last)
@@ -208,3 +221,26 @@ module _ (targets : List ℕ) (l : List Constraint) (k : Kept) (is : IsKept targ
         sorted_inequalities = ordered_rows.sorted;
         sorted_disequations = unequal_rows.sorted;
       }
+
+-- ---- the same where a function lends what it was given
+module _ (targets : List ℕ) (l : List Constraint) (k : Kept) (is : IsKept targets l k) (ordered unequal : List Constraint) (rest : List VarId)
+    (ordered_is : ordered ≡ k.inequalities.items) (unequal_is : unequal ≡ k.disequations.items) (rest_is : rest ≡ k.rest.items) where
+  pub stands_lent : Stands (numbers_of rest) ordered unequal
+  stands_lent =
+      subst (λ xs. Stands (numbers_of xs) ordered unequal) (sym rest_is)
+      (subst (λ i. Stands (numbers_of k.rest.items) i unequal) (sym ordered_is)
+      (subst (λ d. Stands (numbers_of k.rest.items) k.inequalities.items d) (sym unequal_is) (stands targets l k is)))
+
+  pub left_lent : AreLeft targets (numbers_of k.variables.items) (numbers_of rest) l ordered unequal
+  left_lent =
+      subst (λ xs. AreLeft targets (numbers_of k.variables.items) (numbers_of xs) l ordered unequal) (sym rest_is)
+      (subst (λ i. AreLeft targets (numbers_of k.variables.items) (numbers_of k.rest.items) l i unequal) (sym ordered_is)
+      (subst (λ d. AreLeft targets (numbers_of k.variables.items) (numbers_of k.rest.items) l k.inequalities.items d) (sym unequal_is) (are_left targets l k is)))
+
+  pub last_given : (order : List ℕ) (r : LastRows) → AreLast order ordered unequal r → AreLast order k.inequalities.items k.disequations.items r
+  last_given order r a =
+      subst (λ d. AreLast order k.inequalities.items d r) unequal_is (subst (λ i. AreLast order i unequal r) ordered_is a)
+
+pub order_is : (keep variables : List VarId) (k : Kept) (order : List VarId) → order ≡ keep ++ variables → variables ≡ k.variables.items
+    → numbers_of order ≡ numbers_of keep ++ numbers_of k.variables.items
+order_is keep variables k order e f = ap numbers_of (e ∙ ap (λ v. keep ++ v) f) ∙ map-append (λ x. x.0) keep k.variables.items
