@@ -1,5 +1,5 @@
 -- The stages of a projection together: what is kept of a list, the last rows of it, and these arranged.
-use Rattle.std.proofs.Common.{◌≡◌, inl, inr, ℕ, suc, ◌<◌, List, [], ◌∷◌, ◌++◌, map, refl, ap, sym, subst, ◌∙◌, arith, append_assoc}
+use Rattle.std.proofs.Common.{◌≡◌, inl, inr, ℕ, ◌<◌, List, [], ◌∷◌, ◌++◌, map, refl, ap, sym, subst, ◌∙◌, arith}
 use Rattle.std.proofs.lemmas.List.{map-append}
 use Rattle.spec_rational.specs.Sums.{Mentions}
 use Rattle.spec_linear.specs.declared.Relation.TheVariants.{Eq, Ne}
@@ -81,7 +81,7 @@ irredundant_alone : (rows beside : List Constraint) → NoneFollows rows beside 
 irredundant_alone rows beside n k m c e h = n k m c e (λ p s. h p (fewer p k m beside s))
   where
     fewer : (p : Point) (k m beside : List Constraint) → Solves p (k ++ m ++ beside) → Solves p (k ++ m)
-    fewer p k m beside s = ((solves_append p (k ++ m) beside).0 (subst (Solves p) (sym (append_assoc k m beside)) s)).0
+    fewer p k m beside s = ((solves_append p (k ++ m) beside).0 s).0
 
 -- ---- the list
 module _ (targets : List ℕ) (l : List Constraint) (k : Kept) (is : IsKept targets l k) where
@@ -91,7 +91,7 @@ module _ (targets : List ℕ) (l : List Constraint) (k : Kept) (is : IsKept targ
   abbrev order : List ℕ
   order = targets ++ kept
 
-  pub stands : Stands (numbers_of k.rest.items) k.inequalities.items k.disequations.items
+  abbrev pub stands : Stands (numbers_of k.rest.items) k.inequalities.items k.disequations.items
   stands = record {
     ordered = is.inequalities;
     unequal = is.disequations;
