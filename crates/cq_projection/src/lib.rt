@@ -1,0 +1,93 @@
+//! The projection of a list of linear constraints on some of its variables: the rows of an answer.
+#![tactic(auto)]
+
+ghost use Rattle.std.specs.Prelude.{◌≡◌, ℕ, IfOk, IfErr};
+ghost use Rattle.spec_linear.specs.Solution.{Solvable};
+ghost use Rattle.spec_echelon.specs.Echelon.{AreDistinct};
+ghost use Rattle.spec_limits.specs.Answers.{IsProjectionDue};
+ghost use Rattle.cq_frac.specs.declared.Pair.{Pair};
+ghost use Rattle.cq_store.specs.Told.{numbers_of};
+ghost use Rattle.cq_reduce.specs.Answering.{IsRefusedAnswering, IsSpentAnswering};
+ghost use Rattle.cq_eliminate.specs.declared.ProjectFault.TheVariants.{Overflow, Pivots};
+ghost use Rattle.cq_eliminate.specs.Faults.{IfRows};
+ghost use Rattle.cq_projection.specs.Projecting.{IsProjection};
+
+use cq_arrange::{PrintedRow, arranged};
+use cq_eliminate::ProjectFault;
+use cq_form::Constraint;
+use cq_frac::VarId;
+use cq_keep::kept_of;
+use cq_keep::variables::joined;
+use cq_last::last_rows;
+use cq_project::Equation;
+use std::alloc::Global;
+
+/// How many rows there may be at most while variables are eliminated.
+const ROWS: u64 = 4096;
+
+/// The rows of an answer over some variables, the targets, and those that are kept beside them.
+#[derive(Debug, Drop)]
+pub struct Rows {
+    pub equations: Vec<Equation>,
+    pub inequalities: Vec<PrintedRow>,
+    pub disequations: Vec<PrintedRow>,
+    /// The variables that are no targets and stand in a disequation that doesn't follow, the oldest first.
+    pub kept: Vec<VarId>,
+}
+
+/// The rows over `keep`, and over variables that are kept for disequations, that leave these variables just the solutions of
+/// the constraints. `Rows` before an elimination that would leave more rows than the limit. No call of a store makes more
+/// than `pivots` exchanges.
+pub fn project_rows(
+    alloc: Global,
+    told: &[Constraint],
+    keep: &[VarId],
+    pivots: u64,
+    limit: u64,
+) -> Result<Rows, ProjectFault>
+    requires solvable { Solvable told.now }
+    requires distinct { AreDistinct (numbers_of keep.now) }
+    ensures rows { IfOk result (IsProjection (numbers_of keep.now) told.now) }
+    ensures overflow { (pair : Pair) → result ≡ Err (Overflow pair) → IsRefusedAnswering (numbers_of keep.now) told.now pair }
+    ensures pivots { (n : ℕ) → result ≡ Err (Pivots n) → (n ≡ pivots) × IsSpentAnswering (numbers_of keep.now) told.now n }
+    ensures limit { IfErr result (λ fault. IfRows fault (IsProjectionDue (numbers_of keep.now) told.now limit)) }
+{
+    let kept = kept_of(alloc, told, keep, pivots)?;
+    let last = match last_rows(
+        alloc,
+        &kept.inequalities,
+        &kept.disequations,
+        &kept.rest,
+        pivots,
+        limit,
+    ) {
+        Ok(last) => last,
+        Err(fault) => return Err(fault),
+    };
+    let order = joined(alloc, keep, &kept.variables)?;
+    let inequalities = arranged(alloc, &last.inequalities, &order)?;
+    let disequations = arranged(alloc, &last.disequations, &order)?;
+    Ok(Rows {
+        equations: kept.equations,
+        inequalities,
+        disequations,
+        kept: kept.variables,
+    })
+}
+
+/// The rows over `keep`, with at most 4096 rows while variables are eliminated.
+pub fn project(
+    alloc: Global,
+    told: &[Constraint],
+    keep: &[VarId],
+    pivots: u64,
+) -> Result<Rows, ProjectFault>
+    requires solvable { Solvable told.now }
+    requires distinct { AreDistinct (numbers_of keep.now) }
+    ensures rows { IfOk result (IsProjection (numbers_of keep.now) told.now) }
+    ensures overflow { (pair : Pair) → result ≡ Err (Overflow pair) → IsRefusedAnswering (numbers_of keep.now) told.now pair }
+    ensures pivots { (n : ℕ) → result ≡ Err (Pivots n) → (n ≡ pivots) × IsSpentAnswering (numbers_of keep.now) told.now n }
+    ensures limit { IfErr result (λ fault. IfRows fault (IsProjectionDue (numbers_of keep.now) told.now ROWS)) }
+{
+    project_rows(alloc, told, keep, pivots, ROWS)
+}
