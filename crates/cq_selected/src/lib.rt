@@ -3,8 +3,10 @@
 #![tactic(auto)]
 
 mod calls;
+mod checks;
 mod relations;
 mod steps;
 
 pub use calls::{call_procedure, call_with_more};
+pub use checks::{discontiguous, use_module};
 pub use relations::{compare, constrain, evaluate_to, freeze, unify};
