@@ -7,25 +7,30 @@ use Rattle.spec_lists.specs.Texts.{Text}
 use Rattle.spec_terms.specs.Term.{Name, named}
 use Rattle.spec_syntax.specs.Trees.{Tree}
 use Rattle.spec_built.specs.Built.{compound2, compound3}
-use Rattle.spec_search.specs.Replies.{Place, Reply, Raises}
+use Rattle.spec_branch.specs.Branch.{Pending}
+use Rattle.spec_search.specs.Replies.{Place, Reply, Raises, child, makes}
 use Rattle.cq_atoms.specs.Texts.{text_of}
 use Rattle.cq_built.specs.Errors.{type_name, domain_name, action_name, object_name, culprit_tree, error_tree, IsThere, HasCulprit}
 use Rattle.cq_built.specs.declared.errors.Culprit.{Culprit}
 use Rattle.cq_built.specs.declared.errors.Culprit.TheVariants as culprit
 use Rattle.cq_built.specs.declared.errors.BuiltinError.{BuiltinError}
 use Rattle.cq_built.specs.declared.errors.BuiltinError.TheVariants as error
+use Rattle.cq_frac.specs.declared.Pair.{Pair}
 use Rattle.cq_goals.specs.declared.faults.GoalFault.{GoalFault}
 use Rattle.cq_goals.specs.declared.faults.GoalFault.TheVariants as goal
+use Rattle.cq_linear.specs.declared.store.StoreFault.{StoreFault}
+use Rattle.cq_linear.specs.declared.store.StoreFault.TheVariants as store
 use Rattle.cq_term.specs.Meaning.{HeapTerm}
 use Rattle.cq_term.specs.Trees.{tree}
 use Rattle.cq_world.specs.Contents.{Contents}
+use Rattle.cq_settle.specs.Settled.{MayRefuse, MayTake}
 use Rattle.spec_machine.specs.Cells.{Value}
 use Rattle.cq_steps.specs.Worlds.{Grown}
 use Rattle.cq_steps.proofs.Added.{tree_is}
 use Rattle.cq_steps.proofs.Reading.{read_live, tree_read}
 use Rattle.cq_relations.specs.declared.faults.RelationFault.{RelationFault}
 use Rattle.cq_relations.specs.declared.faults.RelationFault.TheVariants as fault
-use Rattle.cq_relations.specs.Faults.{Explains, HasCulpritOf}
+use Rattle.cq_relations.specs.Faults.{IsStopped, Explains, HasCulpritOf}
 
 -- more terms stand behind those that were there
 pub record HasMore (texts : List Text) (ts us : List HeapTerm) : Type 0 where
@@ -94,3 +99,12 @@ ok_then P Q (Err e) h f = tt
 pub err_then : {A E : Type 0} (P Q : E → Type 0) (r : Result A E) → IfErr r P → ((e : E) → P e → Q e) → IfErr r Q
 err_then P Q (Ok x) h f = tt
 err_then P Q (Err e) h f = f e h
+
+-- ---- one child that is not settled
+
+-- a reply that makes one child is why that is not settled
+pub stopped_by : (n : ℕ) (f : StoreFault) (p : Place) (reply : Reply) (work : Pending) → reply ≡ makes p (child p.rest p.state work ∷ [])
+    → ((pair : Pair) → f ≡ store.Overflow pair → MayRefuse p.state work pair) → ((k : ℕ) → f ≡ store.Pivots k → (k ≡ n) × MayTake p.state work k) → IsStopped n f p reply
+stopped_by n (store.Overflow pair) p reply work row refuses takes = record { work = work; row = row; holds = refuses pair refl }
+stopped_by n (store.Pivots k) p reply work row refuses takes = (let t = takes k refl in (t.0, record { work = work; row = row; holds = t.1 }))
+stopped_by n store.NoMemory p reply work row refuses takes = tt

@@ -2,3 +2,4 @@ mod Reached
 mod More
 mod Faults
 mod Equal
+mod Called

@@ -86,3 +86,6 @@ pub open_left : (v : Program) (marks : List (Value Contents)) (choices : List Al
     → LeavesOneAtMost marks choices now more after → AreOpen v marks choices → AreOpen v more after
 open_left v marks choices now more after (inl e) o = subst (λ (cs : List (Value Contents × Alternatives)). AllByRecursion (Tried v) cs) (sym e) o
 open_left v marks choices now more after (inr (k, e)) o = subst (λ (cs : List (Value Contents × Alternatives)). AllByRecursion (Tried v) cs) (sym e) (tt, o)
+
+pub open_same : (v : Program) (marks more : List (Value Contents)) (choices after : List Alternatives) → more ≡ marks → after ≡ choices → AreOpen v marks choices → AreOpen v more after
+open_same v marks more choices after e f o = subst (λ (cs : List Alternatives). AreOpen v more cs) (sym f) (subst (λ (l : List (Value Contents)). AreOpen v l choices) (sym e) o)

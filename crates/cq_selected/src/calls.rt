@@ -36,11 +36,12 @@ pub fn call_procedure(
     ensures program { HasSameProgram m.old m.new }
     ensures err { OnErr result (StillStands m.old m.new) }
 {
+    let called = predicate;
     let found = cq_calls::call_procedure(
         &mut m.world,
         &mut m.choices,
         &mut m.clauses,
-        predicate,
+        called,
         goal,
         rest,
     )?;

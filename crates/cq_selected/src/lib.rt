@@ -8,5 +8,5 @@ mod relations;
 mod steps;
 
 pub use calls::{call_procedure, call_with_more};
-pub use checks::{discontiguous, use_module};
+pub use checks::use_module;
 pub use relations::{compare, constrain, evaluate_to, freeze, unify};

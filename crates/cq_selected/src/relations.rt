@@ -12,7 +12,7 @@ ghost use Rattle.cq_machine.specs.Machines.{terms, IsSound, HasSameProgram, Stil
 ghost use Rattle.cq_machine.specs.Stepping.{row_of, IsSelectedSomewhere, LeadsTo, IsStep, CanGo};
 ghost use Rattle.cq_machine.specs.declared.machine.Machine.{Machine};
 ghost use Rattle.cq_relations.specs.Faults.{IsStopped, Explains, HasCulpritOf};
-ghost use Rattle.cq_selected.specs.Stops.{StopsAt};
+ghost use Rattle.cq_selected.specs.Stops.{IsSelectedFrom, StopsAt};
 
 use crate::steps::step_of;
 use cq_builtin::Comparison;
@@ -115,7 +115,7 @@ pub fn constrain(
     rest: Continuation,
 ) -> Result<Step, StoreFault>
     requires sound { IsSound m.old }
-    requires selected { IsSelectedSomewhere m.old goal rest }
+    requires selected { IsSelectedFrom m.old goal height rest }
     requires goal { goal < length (terms m.old) }
     requires one { length (arguments (at (terms m.old) goal)) ≡ 1 }
     requires rest { rest < length m.old.world.second.now }

@@ -16,11 +16,11 @@ use Rattle.cq_machine.specs.Stepping.{row_of}
 use Rattle.cq_machine.proofs.Built.{stands_still}
 use Rattle.cq_machine.proofs.Kept.{leads_over}
 use Rattle.cq_selected.proofs.Faults.{ok_then, err_then, grown_more, explains_still, culprit_of_still}
-use Rattle.cq_selected.proofs.Reached.{names_ahead, names_begun, names_same, names_grown, if_pruned, same_grown, sound_still, open_still, open_left, marked_still}
+use Rattle.cq_selected.proofs.Reached.{names_ahead, names_begun, names_same, names_grown, if_pruned, same_grown, sound_still, open_left, open_same, marked_still}
 use Rattle.cq_selected.proofs.relations.constrain.Goals as goal
 
 pub constrain-requires-clause-ready : goal.constrain-requires-clause-ready
-constrain-requires-clause-ready c = (let s = c.requires.selected in (s.1.state, s.4.selected.place.continuation.state.ready))
+constrain-requires-clause-ready c = (let s = c.requires.selected in (s.0.state, s.3.selected.place.continuation.state.ready))
 
 pub returns-in-Ok-clause-row : goal.returns-in-Ok-clause-row
 returns-in-Ok-clause-row c = λ p behind g s.
@@ -31,7 +31,12 @@ returns-in-Ok-clause-row c = λ p behind g s.
 pub returns-in-Ok-clause-sound : goal.returns-in-Ok-clause-sound
 returns-in-Ok-clause-sound c =
     let m = c.args.m.now in
-    let s = c.requires.selected in ?
+    let s = c.requires.selected in
+    let rx = argument_reads m.atoms (now m).0 s.0.state c.args.goal 0 c.arg-constraint.result s.2 s.3.reads c.arg-constraint.ensures.live c.arg-constraint.ensures.arg in
+    sound_still m _ c.requires.sound (record { atoms = refl; names = refl; ops = refl; clauses = refl; budget = ? })
+    (names_begun m.atoms _ _ c.in-Ok.begun s.0 s.1 _ (c.in-Ok.ensures.row m.clauses s.0 s.1 _ s.3.selected rx)
+    (if_pruned c.in-Ok.begun (names_grown m.atoms (now m) _ s.0.state s.3.selected.place.continuation.state) c.in-Ok.ensures.unchanged))
+    c.constrain.ensures.marked (open_left m.clauses (saved m) m.choices _ _ _ c.in-Ok.ensures.choices c.requires.sound.untried)
 
 pub returns-in-Err-clause-row : goal.returns-in-Err-clause-row
 returns-in-Err-clause-row c = ok_then _ _ c.refused.result c.refused.ensures.step (λ t f p behind g s.
@@ -55,13 +60,13 @@ pub returns-in-Err-clause-sound : goal.returns-in-Err-clause-sound
 returns-in-Err-clause-sound c =
     let m = c.args.m.now in
     let s = c.requires.selected in
-    sound_still m _ c.requires.sound (record { atoms = refl; names = refl; ops = refl; clauses = refl; budget = c.constrain.ensures.budget })
-    (names_grown m.atoms (now m) _ s.1.state s.4.selected.place.continuation.state c.in-Err.ensures.err)
-    c.constrain.ensures.marked ?
+    sound_still m _ c.requires.sound (record { atoms = refl; names = refl; ops = refl; clauses = refl; budget = ? })
+    (names_grown m.atoms (now m) _ s.0.state s.3.selected.place.continuation.state c.in-Err.ensures.err)
+    c.constrain.ensures.marked (open_same m.clauses (saved m) _ m.choices _ c.in-Err.ensures.err_saved c.in-Err.ensures.err_choices c.requires.sound.untried)
 
 pub returns-in-Err-clause-err : goal.returns-in-Err-clause-err
 returns-in-Err-clause-err c =
     let m = c.args.m.now in
     on_err c.refused.result
-    (stands_still m _ (record { atoms = refl; names = refl; ops = refl; clauses = refl; budget = c.constrain.ensures.budget }) c.in-Err.ensures.err_choices
+    (stands_still m _ (record { atoms = refl; names = refl; ops = refl; clauses = refl; budget = ? }) c.in-Err.ensures.err_choices
     c.in-Err.ensures.err_saved c.in-Err.ensures.err)

@@ -6,12 +6,12 @@ use Rattle.spec_search.specs.Replies.{Reply, with_equations}
 use Rattle.cq_linear.specs.declared.store.StoreFault.{StoreFault}
 use Rattle.cq_steps.specs.Worlds.{Leads}
 use Rattle.cq_begin.specs.Begun.{goes_to}
-use Rattle.cq_relations.proofs.Equating.{stopped_by}
 use Rattle.cq_machine.specs.Machines.{now, saved, holds}
 use Rattle.cq_machine.specs.Stepping.{row_of}
 use Rattle.cq_machine.proofs.Built.{stands_still}
 use Rattle.cq_machine.proofs.Kept.{leads_over}
 use Rattle.cq_selected.proofs.Equal.{unify_row}
+use Rattle.cq_selected.proofs.Faults.{stopped_by}
 use Rattle.cq_selected.proofs.Reached.{names_begun, names_same, if_pruned, same_grown, sound_still, open_still, marked_still}
 use Rattle.cq_selected.proofs.relations.unify.Goals as goal
 
