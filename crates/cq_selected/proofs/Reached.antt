@@ -3,6 +3,7 @@ use Rattle.std.proofs.Common.{inl, inr, ◌≡◌, ℕ, List, [], ◌∷◌, ◌
 use Rattle.std.specs.List.{AllByRecursion}
 use Rattle.spec_lists.specs.Texts.{Text}
 use Rattle.spec_branch.specs.Branch.{State, Branch}
+use Rattle.spec_search.specs.Database.{Database}
 use Rattle.spec_search.specs.Replies.{Place, Reply}
 use Rattle.spec_search.specs.Search.{Search}
 use Rattle.spec_search.specs.Turns.{older}
@@ -13,9 +14,11 @@ use Rattle.cq_term.specs.Trees.{KnowsTerms}
 use Rattle.cq_world.specs.Contents.{Contents}
 use Rattle.spec_machine.specs.declared.cell.Cell.{Cell}
 use Rattle.spec_machine.specs.Cells.{Value, Stack}
+use Rattle.spec_machine.specs.Standing.{engine, IsStanding}
 use Rattle.cq_steps.specs.Choices.{CanBeTried, AreOpen}
 use Rattle.cq_steps.specs.Lists.{KeepsLists}
-use Rattle.cq_steps.specs.Worlds.{IsBranch, term_in, Leads, Grown}
+use Rattle.cq_steps.specs.Worlds.{IsBranch, term_in, stack, Leads, Grown}
+use Rattle.cq_steps.proofs.Selected.{standing_grown}
 use Rattle.cq_steps.specs.declared.alternatives.Alternatives.{Alternatives}
 use Rattle.cq_begin.specs.declared.beginning.Begun.{Begun}
 use Rattle.cq_begin.specs.declared.beginning.Begun.TheVariants.{Goes, Pruned}
@@ -23,7 +26,7 @@ use Rattle.cq_begin.specs.Begun.{goes_to, IfPruned}
 use Rattle.cq_machine.specs.declared.machine.Machine.{Machine}
 use Rattle.cq_machine.specs.declared.names.Names.{Names}
 use Rattle.cq_relations.specs.Goals.{LeavesOneAtMost}
-use Rattle.cq_machine.specs.Machines.{terms, saved, AreNames, IsSound, HasSameProgram}
+use Rattle.cq_machine.specs.Machines.{terms, now, saved, holds, AreNames, IsSound, HasSameProgram}
 
 -- ---- names
 
@@ -89,3 +92,11 @@ open_left v marks choices now more after (inr (k, e)) o = subst (λ (cs : List (
 
 pub open_same : (v : Program) (marks more : List (Value Contents)) (choices after : List Alternatives) → more ≡ marks → after ≡ choices → AreOpen v marks choices → AreOpen v more after
 open_same v marks more choices after e f o = subst (λ (cs : List Alternatives). AreOpen v more cs) (sym f) (subst (λ (l : List (Value Contents)). AreOpen v l choices) (sym e) o)
+
+-- where more was built beside the same choices, an engine stands for what it stood for
+pub stands_parts : (m : Machine) (more : List (Value Contents)) (later : Value Contents) → more ≡ saved m → Grown m.atoms (now m) later
+    → (db : Database) (n : ℕ) (current : Option ℕ) (s : Search) → IsStanding (IsBranch m.atoms) (term_in m.atoms) (engine db n (holds m) (now m) current) s
+    → IsStanding (IsBranch m.atoms) (term_in m.atoms) (engine db n (stack m.atoms m.clauses more m.choices) later current) s
+stands_parts m more later e g = λ db n current s j.
+    subst (λ (l : List (Value Contents)). IsStanding (IsBranch m.atoms) (term_in m.atoms) (engine db n (stack m.atoms m.clauses l m.choices) later current) s) (sym e)
+    (standing_grown (IsBranch m.atoms) (term_in m.atoms) db n (holds m) (now m) later g current s j)

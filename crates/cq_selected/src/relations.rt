@@ -15,6 +15,7 @@ ghost use Rattle.cq_relations.specs.Faults.{IsStopped, Explains, HasCulpritOf};
 ghost use Rattle.cq_selected.specs.Stops.{IsSelectedFrom, StopsAt};
 
 use crate::steps::step_of;
+use cq_begin::Begun;
 use cq_builtin::Comparison;
 use cq_control::Continuation;
 use cq_goals::GoalFault;
@@ -44,7 +45,10 @@ pub fn unify(m: &mut Machine, goal: TermId, rest: Continuation) -> Result<Step, 
     let pairs = [Pair { left, right }];
     let world = &mut m.world;
     match cq_begin::unify(&mut world.first, &mut world.second, &m.atoms, &pairs, rest) {
-        Ok(begun) => Ok(step_of(begun)),
+        Ok(begun) => match begun {
+            Begun::Goes(first) => Ok(Step::Goes(first)),
+            Begun::Pruned => Ok(Step::Back),
+        },
         Err(fault) => Err(fault),
     }
 }
