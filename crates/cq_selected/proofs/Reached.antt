@@ -100,3 +100,12 @@ pub stands_parts : (m : Machine) (more : List (Value Contents)) (later : Value C
 stands_parts m more later e g = λ db n current s j.
     subst (λ (l : List (Value Contents)). IsStanding (IsBranch m.atoms) (term_in m.atoms) (engine db n (stack m.atoms m.clauses l m.choices) later current) s) (sym e)
     (standing_grown (IsBranch m.atoms) (term_in m.atoms) db n (holds m) (now m) later g current s j)
+
+-- the same where its clauses and choices are said to be equal
+pub stands_all : (m : Machine) (v : Program) (more : List (Value Contents)) (choices : List Alternatives) (later : Value Contents) → v ≡ m.clauses → more ≡ saved m → choices ≡ m.choices
+    → Grown m.atoms (now m) later → (db : Database) (n : ℕ) (current : Option ℕ) (s : Search) → IsStanding (IsBranch m.atoms) (term_in m.atoms) (engine db n (holds m) (now m) current) s
+    → IsStanding (IsBranch m.atoms) (term_in m.atoms) (engine db n (stack m.atoms v more choices) later current) s
+stands_all m v more choices later e f h g = λ db n current s j.
+    subst (λ (w : Program). IsStanding (IsBranch m.atoms) (term_in m.atoms) (engine db n (stack m.atoms w more choices) later current) s) (sym e)
+    (subst (λ (cs : List Alternatives). IsStanding (IsBranch m.atoms) (term_in m.atoms) (engine db n (stack m.atoms m.clauses more cs) later current) s) (sym h)
+    (stands_parts m more later f g db n current s j))

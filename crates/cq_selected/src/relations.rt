@@ -105,9 +105,11 @@ pub fn compare(
     let right = m.world.first.heap.arg(goal, 1);
     match cq_relations::compare(&m.world.first, &m.atoms, comparison, left, right) {
         Ok(holds) => Ok(Step::succeed_if(holds, rest)),
-        Err(GoalFault::Error(error)) => Ok(Step::Raises(error)),
-        Err(GoalFault::Overflow(pair)) => Ok(Step::Refuses(pair)),
-        Err(GoalFault::NoMemory) => Err(AllocError),
+        Err(fault) => match fault {
+            GoalFault::Error(error) => Ok(Step::Raises(error)),
+            GoalFault::Overflow(pair) => Ok(Step::Refuses(pair)),
+            GoalFault::NoMemory => Err(AllocError),
+        },
     }
 }
 

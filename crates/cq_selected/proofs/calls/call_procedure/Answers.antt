@@ -4,12 +4,11 @@ use Rattle.spec_built.specs.Errors.{existence_error}
 use Rattle.spec_search.specs.Replies.{Raises}
 use Rattle.cq_attr.proofs.Elements.{on_err}
 use Rattle.cq_world.specs.Contents.{Contents}
-use Rattle.cq_steps.specs.Worlds.{saved_values, stack}
+use Rattle.cq_steps.specs.Worlds.{value, saved_values, stack}
 use Rattle.cq_calls.specs.Calling.{HasCalled}
 use Rattle.cq_machine.specs.Machines.{now}
-use Rattle.cq_machine.proofs.Built.{stands_still}
 use Rattle.cq_selected.proofs.Called.{called_at, keeps_equal}
-use Rattle.cq_selected.proofs.Reached.{names_same, same_grown, sound_still}
+use Rattle.cq_selected.proofs.Reached.{names_same, same_grown, sound_still, stands_all}
 use Rattle.cq_selected.proofs.calls.call_procedure.Goals as goal
 
 pub returns-then-found-clause-row : goal.returns-then-found-clause-row
@@ -54,7 +53,6 @@ pub returns-in_err-found-clause-err : goal.returns-in_err-found-clause-err
 returns-in_err-found-clause-err c =
     let m = c.args.m.now in
     on_err c.from_residual.result
-    (stands_still m _
-    (record { atoms = refl; names = refl; ops = refl; clauses = c.call_procedure.ensures.clauses; budget = ap (λ (w : Contents). w.pivots) c.call_procedure.ensures.world })
-    c.in_err-found.ensures.err c.in_err-found.ensures.err_saved
+    (stands_all m c.call_procedure.new.clauses _ c.call_procedure.new.choices (value c.call_procedure.new.world.first c.call_procedure.new.world.second.now)
+    c.call_procedure.ensures.clauses c.in_err-found.ensures.err_saved c.in_err-found.ensures.err
     (same_grown m.atoms (now m).0 _ (now m).1 _ c.call_procedure.ensures.world (keeps_equal (now m).1 _ c.call_procedure.ensures.lists)))

@@ -1,9 +1,10 @@
-use Rattle.std.proofs.Common.{◌≡◌, List, refl, sym, ap, ◌∙◌}
+use Rattle.std.proofs.Common.{◌≡◌, ℕ, List, ap, ◌∙◌}
 use Rattle.cq_atoms.specs.Texts.{text_of}
 use Rattle.cq_term.specs.Meaning.{at, blank}
 use Rattle.cq_term.specs.Shown.{arguments}
 use Rattle.spec_terms.specs.Term.{with_arguments}
 use Rattle.spec_syntax.specs.Trees.{Tree}
+use Rattle.cq_term.specs.Trees.{trees}
 use Rattle.cq_machine.specs.Machines.{terms}
 use Rattle.cq_selected.proofs.Called.{named_below, text_is, trees_named, nameless, built_none}
 use Rattle.cq_selected.proofs.Faults.{ok_then}
@@ -33,5 +34,6 @@ returns-clause-built c =
     let below = named_below _ (at (terms m) c.args.called) c.in-Some.name (c.requires.sound.names c.args.called blank c.requires.called) named in
     ok_then _ _ c.build.result c.build.ensures.built (λ id f.
     f (text_of m.atoms c.in-Some.name) (text_is m.atoms c.in-Some.name below)
+    ∙ ap (λ (ids : List ℕ). with_arguments (text_of m.atoms c.in-Some.name) (trees m.atoms (terms m) ids)) c.deref.ensures
     ∙ ap (with_arguments (text_of m.atoms c.in-Some.name)) (trees_named m.atoms (terms m) c.in_ok-args.args.items)
     ∙ more_built (text_of m.atoms) (at (terms m) c.args.called) (at (terms m) c.args.goal) c.in-Some.name _ named c.in_ok-args.ensures.are)

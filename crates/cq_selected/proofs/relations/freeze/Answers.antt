@@ -9,14 +9,13 @@ use Rattle.cq_attr.proofs.Elements.{on_err}
 use Rattle.cq_term.specs.Meaning.{HeapTerm}
 use Rattle.cq_world.specs.Contents.{Contents}
 use Rattle.cq_steps.proofs.Arguments.{argument_reads}
-use Rattle.cq_begin.specs.Begun.{goes_to}
+use Rattle.cq_steps.specs.Worlds.{value}
 use Rattle.cq_relations.specs.Faults.{Explains, HasCulpritOf}
 use Rattle.cq_machine.specs.Machines.{terms, now, saved, holds}
 use Rattle.cq_machine.specs.Stepping.{row_of}
-use Rattle.cq_machine.proofs.Built.{stands_still}
 use Rattle.cq_machine.proofs.Kept.{leads_over}
 use Rattle.cq_selected.proofs.Faults.{ok_then, err_then, grown_more, explains_still, culprit_of_still}
-use Rattle.cq_selected.proofs.Reached.{names_ahead, names_begun, names_same, names_grown, if_pruned, same_grown, sound_still, open_still, open_left, marked_still}
+use Rattle.cq_selected.proofs.Reached.{names_ahead, names_begun, names_same, names_grown, if_pruned, same_grown, sound_still, open_still, marked_still, stands_parts}
 use Rattle.cq_selected.proofs.relations.freeze.Goals as goal
 
 pub returns-clause-row : goal.returns-clause-row
@@ -50,6 +49,5 @@ pub returns-in_err-k-clause-err : goal.returns-in_err-k-clause-err
 returns-in_err-k-clause-err c =
     let m = c.args.m.now in
     on_err c.from_residual.result
-    (stands_still m _ (record { atoms = refl; names = refl; ops = refl; clauses = refl; budget = c.freeze.ensures.budget }) refl
-    (ap₂ zip c.freeze.ensures.saved c.freeze.ensures.lists)
-    (same_grown m.atoms (now m).0 _ _ _ c.in_err-k.ensures.err c.freeze.ensures.keeps))
+    (stands_parts m _ (value c.freeze.new.world c.freeze.new.lists.now) (ap₂ zip c.freeze.ensures.saved c.freeze.ensures.lists)
+    (same_grown m.atoms (now m).0 _ (now m).1 _ c.in_err-k.ensures.err c.freeze.ensures.keeps))
