@@ -1,5 +1,0 @@
-mod Reached
-mod More
-mod Faults
-mod Equal
-mod Called
