@@ -241,6 +241,6 @@ module _ (targets : List ℕ) (l : List Constraint) (k : Kept) (is : IsKept targ
   last_given order r a =
       subst (λ d. AreLast order k.inequalities.items d r) unequal_is (subst (λ i. AreLast order i unequal r) ordered_is a)
 
-pub order_is : (keep variables : List VarId) (k : Kept) (order : List VarId) → order ≡ keep ++ variables → variables ≡ k.variables.items
-    → numbers_of order ≡ numbers_of keep ++ numbers_of k.variables.items
-order_is keep variables k order e f = ap numbers_of (e ∙ ap (λ v. keep ++ v) f) ∙ map-append (λ x. x.0) keep k.variables.items
+pub order_is : (keep variables : List VarId) (k : Kept) (both : List VarId) → both ≡ keep ++ variables → variables ≡ k.variables.items
+    → numbers_of both ≡ numbers_of keep ++ numbers_of k.variables.items
+order_is keep variables k both e f = ap numbers_of (e ∙ ap (λ v. keep ++ v) f) ∙ map-append (λ x. x.0) keep k.variables.items
