@@ -1,30 +1,18 @@
 -- What an engine tells, and for which search it stands then.
-use Rattle.std.proofs.Common.{inl, inr, ◌≡◌, ◌⊎◌, ℕ, suc, ◌<◌, List, [], ◌∷◌, ◌++◌, length, Option, None, Some, Bool, true, false, refl, sym, ap, ◌∙◌, subst, arith}
+use Rattle.std.proofs.Common.{inl, ◌≡◌, ℕ, [], ◌∷◌, ◌++◌, Option, None, Some, Bool, true, false, refl, sym, ap, ◌∙◌, subst}
 use Rattle.std.proofs.lemmas.Bool.{false≢true}
-use Rattle.spec_lists.specs.Texts.{Text}
 use Rattle.spec_syntax.specs.Trees.{Tree}
-use Rattle.spec_built.specs.Built.{indicator_of}
-use Rattle.spec_built.specs.Errors.{error_ball}
-use Rattle.spec_branch.specs.Branch.{State, Item, Branch, Copied, Pending, no_work, plain_copy, read}
-use Rattle.spec_branch.specs.Settling.{Settles, Kept}
-use Rattle.spec_operators.specs.Operators.{Ops}
-use Rattle.spec_search.specs.Balls.{handed}
+use Rattle.spec_branch.specs.Branch.{State, Item}
 use Rattle.spec_search.specs.Database.{Database}
-use Rattle.spec_search.specs.Replies.{Place, Made, Makes, Raises, Reply, changes, child, makes, made, onward, outputs}
-use Rattle.spec_search.specs.Replies as reply
-use Rattle.spec_search.specs.Rows.{reply_of}
-use Rattle.spec_search.specs.Search.{Search, settled, look_at, is_selecting, Selecting, Settling, Answering, Over}
-use Rattle.spec_search.specs.Steps as step
+use Rattle.spec_search.specs.Search.{Search, settled, look_at, is_selecting, Answering, Over}
 use Rattle.spec_search.specs.Turns as turn
-use Rattle.spec_search.specs.Turns.{Turn, Event, Wrote, Answered, Threw, Ended, place_of, after_step, after_ball, with_branches}
-use Rattle.spec_stops.specs.Causes.{Budgets, Cause, Resolutions, Overflow}
+use Rattle.spec_search.specs.Turns.{Turn, Event, Wrote, Answered, Threw, Ended, with_branches}
+use Rattle.spec_stops.specs.Causes.{Budgets}
 use Rattle.spec_machine.specs.Cells.{Value, Stack}
-use Rattle.spec_machine.specs.Coming.{MayGo, Quietly, at_once, after, Comes, Told, Tells, Shows, Stops, shows, StopsFor, Rest}
+use Rattle.spec_machine.specs.Coming.{MayGo, Quietly, at_once, after, Told, Tells, Shows, shows}
 use Rattle.spec_machine.specs.Coming as coming
-use Rattle.spec_machine.specs.Standing.{engine, Machine, IsContinuation, AreWaiting, IsStanding, IsPlace, AreItems}
-use Rattle.spec_machine.proofs.Made.{goal_made, child_kept}
+use Rattle.spec_machine.specs.Standing.{engine, IsStanding, AreItems}
 use Rattle.cq_control.specs.Items.{items_at}
-use Rattle.cq_frac.specs.declared.Pair.{Pair}
 
 -- ---- behind quiet turns
 
@@ -49,13 +37,6 @@ is_written Ended = false
 
 not_written : (e : Event) → is_written e ≡ false → e ≡ Wrote [] → ⊥
 not_written e f w = (let yes : false ≡ true = sym f ∙ ap is_written w in absurd (false≢true yes))
-
-abbrev text_of_event : Event → Text
-text_of_event (Wrote text) = text
-text_of_event e = []
-
-some_written : (x : ℕ) (text : Text) → Wrote (x ∷ text) ≡ Wrote [] → ⊥
-some_written x text w = (let none : x ∷ text ≡ [] = ap text_of_event w in omega (arith, ap length none))
 
 module _ {W : Type 0} (IsState : W → State → Type 0) (term : W → ℕ → Option Tree) where
   abbrev Stand : Database → ℕ → Stack W → Value W → Option ℕ → Search → Type 0
@@ -86,57 +67,3 @@ module _ {W : Type 0} (IsState : W → State → Type 0) (term : W → ℕ → O
 
       pub comes_back : Stand db n choices now None (with_branches j.behind s)
       comes_back = record { database = j.database; selected = j.selected; first = []; behind = j.behind; branches = refl; current = refl; waiting = j.waiting }
-
-  -- ---- a goal that goes on behind it
-
-  module _ (rests : Rest IsState) (budgets : Budgets) (s : Search) (goal : Tree) (cut : ℕ) (items : List Item) (st : State) (behind : List Branch)
-      (look : look_at s.branches ≡ Selecting goal cut items st behind) where
-    abbrev place : Place
-    place = place_of s st items cut behind
-
-    pub runs_out : s.selected ≡ budgets.steps → Tells budgets s (Stops (Resolutions budgets.steps)) (with_branches [] s)
-    runs_out many = coming.stops at_once (coming.runs_out (ap is_selecting look) many)
-
-    module _ (few : s.selected < budgets.steps) where
-      pub refuses : (pair : Pair) → reply_of place (read st goal) ≡ reply.Overflows pair → Tells budgets s (Stops (Overflow pair)) (with_branches [] s)
-      refuses pair row =
-          coming.stops at_once (coming.overflows (inr few)
-          (record { goal = goal; cut = cut; items = items; state = st; behind = behind; selects = look; refused = row }))
-
-      abbrev ball : Tree → Copied
-      ball e = plain_copy (error_ball e (indicator_of (read st goal)))
-
-      pub throws : (e : Tree) → reply_of place (read st goal) ≡ Raises e → handed (ball e) items behind ≡ None
-          → Tells budgets s (Shows (Threw (ball e))) (after_ball s [])
-      throws e row none = shows_at_once budgets s (after_ball s []) (Threw (ball e)) (inr few) (turn.throws look (step.raises row) none) (not_written (Threw (ball e)) refl)
-
-      module _ (choices : Stack W) (now : Value W) (rest : ℕ) (at : IsPlace IsState term choices now rest place) (waiting : AreWaiting IsState term choices behind) where
-        abbrev then_ : Database → Text → Made
-        then_ db text = record (made place (onward place)) { database = db; output = text }
-
-        goes_behind : (db : Database) (text : Text) → Comes IsState term budgets.steps (engine db (suc s.selected) choices now (Some rest)) (after_step s (then_ db text) behind)
-        goes_behind db text =
-            child_kept IsState term budgets.steps db (suc s.selected) choices now rest (after_step s (then_ db text) behind) items st no_work behind refl refl refl refl items st
-            (rests now.0 st items at.continuation.state) at.continuation waiting
-
-        -- it shows a text
-        pub text_told : (x : ℕ) (text : Text) → reply_of place (read st goal) ≡ outputs place (x ∷ text)
-            → Tells budgets s (Shows (Wrote (x ∷ text))) (after_step s (then_ s.database (x ∷ text)) behind)
-            × Comes IsState term budgets.steps (engine s.database (suc s.selected) choices now (Some rest)) (after_step s (then_ s.database (x ∷ text)) behind)
-        text_told x text row = (
-          shows_at_once budgets s _ (Wrote (x ∷ text)) (inr few) (goal_made s goal cut items st behind (then_ s.database (x ∷ text)) look row) (some_written x text),
-          goes_behind s.database (x ∷ text),
-        )
-
-        after_turn : (db : Database) → Turn s (Wrote []) (after_step s (then_ db []) behind) → Comes IsState term budgets.steps (engine db (suc s.selected) choices now (Some rest)) s
-        after_turn db turn =
-            let c = goes_behind db [] in
-            record { reached = c.reached; quiet = after (inr few) turn c.quiet; stands = c.stands }
-
-        -- it shows none
-        pub no_text : reply_of place (read st goal) ≡ outputs place [] → Comes IsState term budgets.steps (engine s.database (suc s.selected) choices now (Some rest)) s
-        no_text row = after_turn s.database (goal_made s goal cut items st behind (then_ s.database []) look row)
-
-        -- it changes the database
-        pub changed : (db : Database) → reply_of place (read st goal) ≡ changes place db → Comes IsState term budgets.steps (engine db (suc s.selected) choices now (Some rest)) s
-        changed db row = after_turn db (goal_made s goal cut items st behind (then_ db []) look row)

@@ -1,5 +1,5 @@
 -- What an engine tells before a goal is selected.
-use Rattle.std.specs.Prelude.{◌≡◌, ◌<◌, ℕ, List, [], ◌∷◌, Bool, true, false, None, Some, ⊤}
+use Rattle.std.specs.Prelude.{◌≡◌, ◌<◌, ℕ, [], ◌∷◌, Bool, true, false, None, Some, ⊤}
 use Rattle.spec_branch.specs.Branch.{State}
 use Rattle.spec_search.specs.Search.{Search}
 use Rattle.spec_search.specs.Turns.{Answered, Ended, with_branches}

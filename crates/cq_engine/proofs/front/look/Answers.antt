@@ -1,4 +1,4 @@
-use Rattle.std.proofs.Common.{Some, None, refl, ◌∙◌}
+use Rattle.std.proofs.Common.{Some, None}
 use Rattle.spec_stops.specs.Causes as why
 use Rattle.cq_engine.proofs.Engines.{gains_on, going_on, ends_next, halts_next, holds_none, look_front}
 use Rattle.cq_engine.specs.declared.front.Front.TheVariants.{Fail}
