@@ -1,0 +1,205 @@
+-- What a machine keeps and stands for as names are added, and what it comes to behind quiet turns.
+use Rattle.std.proofs.Common.{◌≡◌, ℕ, zero, suc, ◌<◌, ◌-◌, length, map, drop, arith, List, [], ◌∷◌, ◌++◌, true, false, Option, None, Some, refl, sym, ap, ◌∙◌, subst}
+use Rattle.std.specs.Prelude.{slice_get, reverse}
+use Rattle.std.specs.List.{zip}
+use Rattle.std.proofs.lemmas.Bool.{false≢true}
+use Rattle.spec_lists.specs.Prefixes.{IsPrefix}
+use Rattle.spec_lists.proofs.Prefixes.{prefix_both, prefix_same}
+use Rattle.spec_lists.specs.Texts.{Text}
+use Rattle.spec_branch.specs.Branch.{Branch}
+use Rattle.spec_search.specs.Database.{Database}
+use Rattle.spec_search.specs.Search.{Search, look_at, is_selecting}
+use Rattle.spec_search.specs.Turns.{with_branches}
+use Rattle.spec_stops.specs.Causes.{Budgets, Cause, Resolutions}
+use Rattle.cq_atoms.specs.Texts.{KeepsTexts}
+use Rattle.cq_control.specs.Items.{items_at}
+use Rattle.cq_control.specs.Open.{last}
+use Rattle.cq_steps.specs.Marks.{IsFront}
+use Rattle.cq_steps.specs.Worlds.{IsBranch, term_in, left_at}
+use Rattle.cq_steps.proofs.Selected.{goal_selected, call_selected}
+use Rattle.cq_world.specs.Contents.{Contents}
+use Rattle.spec_machine.specs.declared.cell.Cell.{Cell}
+use Rattle.spec_machine.specs.declared.cell.Cell.TheVariants.{Goal, Call, CutTo, CutFail, CatchEnd, Collect}
+use Rattle.spec_machine.specs.Cells.{Value, Stack}
+use Rattle.spec_machine.specs.Coming.{Comes, Quietly, Tells, Stops}
+use Rattle.spec_machine.specs.Coming as coming
+use Rattle.spec_machine.specs.Standing.{engine, AreWaiting, IsStanding}
+use Rattle.cq_machine.specs.declared.machine.Machine.{Machine}
+use Rattle.cq_machine.specs.declared.names.Names.{Names}
+use Rattle.cq_machine.specs.Machines.{AreNames, IsSound, database_of, holds, now, saved, terms}
+use Rattle.cq_term.specs.Trees.{KnowsTerms}
+use Rattle.cq_engine.specs.declared.front.Front.{Front}
+use Rattle.cq_engine.specs.declared.front.Front.TheVariants.{Ahead, Answer, Fail, Stop}
+use Rattle.cq_begin.specs.Stops.{ComesToStop}
+use Rattle.cq_engine.specs.Fronts.{Answers, Ends, Halts, IsFrontOf, selects}
+use Rattle.cq_engine.specs.Seeking.{IsKept, GainsNames, StandsFor, ComesTo, IsGoing, GoesTo}
+use Rattle.cq_engine.proofs.Told.{quietly_then, told_then, ends_told, answer_told, comes_back}
+
+-- ---- names that are added
+
+kept_before : (texts more : List Text) → KeepsTexts texts (texts ++ more)
+kept_before [] more i text e = cc
+kept_before (x ∷ texts) more zero text e = e
+kept_before (x ∷ texts) more (suc i) text e = kept_before texts more i text e
+
+pub texts_kept : (old new : List Text) → IsPrefix old new → KeepsTexts old new
+texts_kept old new longer i t e = subst (λ (xs : List Text). slice_get xs i ≡ Some t) (sym longer.1) (kept_before old longer.0 i t e)
+
+pub names_kept : (old new : List Text) → KeepsTexts old new → (names : Names) → AreNames old names → AreNames new names
+names_kept old new keeps names a = record {
+  truth = keeps names.truth _ a.truth;
+  not = keeps names.not _ a.not;
+  equal = keeps names.equal _ a.equal;
+  once = keeps names.once _ a.once;
+}
+
+pub gains_on : (a b c : Machine) → GainsNames a b → GainsNames b c → GainsNames a c
+gains_on a b c f g = record {
+  atoms = prefix_both a.atoms b.atoms c.atoms f.atoms g.atoms;
+  names = g.names ∙ f.names;
+  ops = g.ops ∙ f.ops;
+  clauses = g.clauses ∙ f.clauses;
+  database = g.database ∙ f.database;
+}
+
+-- ---- a machine that goes on
+
+-- the terms of its world are known
+pub sound_where : (m : Machine) → IsKept m → KnowsTerms m.atoms (terms m) → IsSound m
+sound_where m k names = record {
+  known = k.known;
+  different = k.different;
+  names = names;
+  program = k.program;
+  operators_named = k.operators_named;
+  marked = k.marked;
+  untried = k.untried;
+}
+
+pub kept_where : (m : Machine) → IsSound m → IsKept m
+kept_where m s = record {
+  known = s.known;
+  different = s.different;
+  program = s.program;
+  operators_named = s.operators_named;
+  marked = s.marked;
+  untried = s.untried;
+}
+
+pub going_on : (old new : Machine) (start current : Option ℕ) → GoesTo old start new current → IsGoing old start → IsGoing new current
+going_on old new start current f w = let c = f 0 w.0 w.1 w.2 in (w.0, c.reached, c.stands)
+
+pub names_known : (m : Machine) (k : ℕ) → IsGoing m (Some k) → KnowsTerms m.atoms (terms m)
+names_known m k w = w.2.current.3.state.ready.stands.names
+
+-- without choices it stands for a search that has no branch
+pub none_left : (old new : Machine) (n : ℕ) (current : Option ℕ) (s : Search) → GainsNames old new → holds new ≡ [] → StandsFor old n current s
+    → StandsFor new n None (with_branches [] s)
+none_left old new n current s g none j = record {
+  database = j.database ∙ sym g.database;
+  selected = j.selected;
+  first = [];
+  behind = [];
+  branches = refl;
+  current = refl;
+  waiting = subst (λ (rs : Stack Contents). AreWaiting (IsBranch new.atoms) (term_in new.atoms) rs []) (sym none) refl;
+}
+
+-- ---- behind quiet turns
+
+pub front_then : (budgets : Budgets) (m : Machine) (n : ℕ) (f : Front) (s r : Search) → Quietly budgets.steps s r → IsFrontOf budgets m n f r → IsFrontOf budgets m n f s
+front_then budgets m n (Ahead k) s r q c = record { reached = c.reached; quiet = quietly_then q c.quiet; stands = c.stands }
+front_then budgets m n Answer s r q a = record { state = a.state; is_state = a.is_state; next = a.next; tells = told_then q a.tells; stands = a.stands }
+front_then budgets m n Fail s r q e = record { next = e.next; tells = told_then q e.tells; stands = e.stands }
+front_then budgets m n (Stop cause) s r q h = record { reached = h.reached; quiet = quietly_then q h.quiet; last = h.last; tells = h.tells; stands = h.stands }
+
+-- ---- a goal in front
+
+module _ (texts : List Text) (db : Database) (n : ℕ) (choices : Stack Contents) (now : Value Contents) (k rest : ℕ) (s : Search)
+    (j : IsStanding (IsBranch texts) (term_in texts) (engine db n choices now (Some k)) s) (earlier : rest < k) where
+  pub goal_next : (cell : Cell) → items_at now.1 k ≡ cell ∷ items_at now.1 rest → IsFront (items_at now.1 k) → selects cell ≡ true → is_selecting (look_at s.branches) ≡ true
+  goal_next (Goal t height) e f y = ap is_selecting (goal_selected (IsBranch texts) (term_in texts) db n choices now k rest s j earlier t height e).0.selects
+  goal_next (Call t) e f y = ap is_selecting (call_selected (IsBranch texts) (term_in texts) db n choices now k rest s j earlier t e).0.selects
+  goal_next (CutTo height) e f y = absurd (subst IsFront e f)
+  goal_next (CutFail height) e f y = absurd (subst IsFront e f)
+  goal_next (CatchEnd height c r) e f y = absurd (subst IsFront e f)
+  goal_next (Collect height t) e f y = absurd (false≢true y)
+
+pub stops_out : (budgets : Budgets) (s : Search) → is_selecting (look_at s.branches) ≡ true → s.selected ≡ budgets.steps
+    → Tells budgets s (Stops (Resolutions budgets.steps)) (with_branches [] s)
+stops_out budgets s next many = coming.stops coming.at_once (coming.runs_out next many)
+
+-- ---- the same database
+
+pub by_database : (old new : Machine) (steps n : ℕ) (current : Option ℕ) (s : Search) → database_of new ≡ database_of old
+    → Comes (IsBranch new.atoms) (term_in new.atoms) steps (engine (database_of old) n (holds new) (now new) current) s → ComesTo steps new n current s
+by_database old new steps n current s e a =
+    subst (λ (db : Database). Comes (IsBranch new.atoms) (term_in new.atoms) steps (engine db n (holds new) (now new) current) s) (sym e) a
+
+-- with no choice and nothing to go on with, no branch is left
+pub ends_next : (budgets : Budgets) (m : Machine) (n : ℕ) (s : Search) → holds m ≡ [] → StandsFor m n None s → Ends budgets m n s
+ends_next budgets m n s none j = record {
+  next = s;
+  tells = ends_told (IsBranch m.atoms) (term_in m.atoms) budgets (database_of m) n (now m) s
+      (subst (λ (rs : Stack Contents). IsStanding (IsBranch m.atoms) (term_in m.atoms) (engine (database_of m) n rs (now m) None) s) none j);
+  stands = j;
+}
+
+-- with nothing left to do the search answers
+pub answers_next : (budgets : Budgets) (m : Machine) (n k : ℕ) (s : Search) → items_at m.world.second.now k ≡ [] → StandsFor m n (Some k) s → Answers budgets m n s
+answers_next budgets m n k s done j = record {
+  state = j.current.1;
+  is_state = j.current.3.state;
+  next = with_branches j.behind s;
+  tells = answer_told (IsBranch m.atoms) (term_in m.atoms) budgets (database_of m) n (now m) s (holds m) k j done;
+  stands = comes_back (IsBranch m.atoms) (term_in m.atoms) budgets (database_of m) n (now m) s (holds m) k j done;
+}
+
+-- a query that stops for a fault
+pub halts_next : (budgets : Budgets) (old new : Machine) (n : ℕ) (start : Option ℕ) (s : Search) (cause : Cause) → GainsNames old new → holds new ≡ []
+    → StandsFor old n start s → ComesToStop budgets cause s → Halts budgets cause new n s
+halts_next budgets old new n start s cause g none j stop =
+    record { reached = s; quiet = coming.at_once; last = stop.0; tells = stop.1; stands = none_left old new n start s g none j }
+
+-- ---- no choices
+
+drop_all : {A : Type 0} (xs : List A) → drop (length xs) xs ≡ []
+drop_all [] = refl
+drop_all (x ∷ xs) = drop_all xs
+
+pub last-none : {A : Type 0} (xs : List A) → last 0 xs ≡ []
+last-none xs = let e : length xs - 0 ≡ length xs = omega arith in ap (λ (n : ℕ). drop n xs) e ∙ drop_all xs
+
+zip_none : {A B : Type 0} (xs : List A) (ys : List B) → ys ≡ [] → zip xs ys ≡ []
+zip_none [] ys e = refl
+zip_none (x ∷ xs) [] e = refl
+zip_none (x ∷ xs) (y ∷ ys) e = absurd (omega (arith, ap length e))
+
+pub holds_none : (m : Machine) → m.choices ≡ [] → holds m ≡ []
+holds_none m e = ap (map (left_at m.atoms m.clauses)) (zip_none (reverse (saved m)) m.choices e)
+
+-- ---- what is in front
+
+pub halts_out : (budgets : Budgets) (old new : Machine) (n k rest steps : ℕ) (cell : Cell) (s : Search) → GainsNames old new → holds new ≡ [] → budgets.steps ≡ steps
+    → n ≡ steps → rest < k → items_at old.world.second.now k ≡ cell ∷ items_at old.world.second.now rest → IsFront (items_at old.world.second.now k) → selects cell ≡ true
+    → StandsFor old n (Some k) s → Halts budgets (Resolutions steps) new n s
+halts_out budgets old new n k rest steps cell s g none e many earlier cells front goes j = record {
+  reached = s;
+  quiet = coming.at_once;
+  last = with_branches [] s;
+  tells = subst (λ (x : ℕ). Tells budgets s (Stops (Resolutions x)) (with_branches [] s)) e
+      (stops_out budgets s (goal_next old.atoms (database_of old) n (holds old) (now old) k rest s j earlier cell cells front goes) (j.selected ∙ many ∙ sym e));
+  stands = none_left old new n (Some k) s g none j;
+}
+
+pub look_front : (budgets : Budgets) (old mid new : Machine) (n : ℕ) (start current : Option ℕ) (f : Front) (s : Search) → GoesTo old start mid current
+    → ((r : Search) → StandsFor mid n current r → IsFrontOf budgets new n f r) → StandsFor old n start s → IsFrontOf budgets new n f s
+look_front budgets old mid new n start current f s g h j =
+    let c = g budgets.steps n s j in
+    front_then budgets new n f s c.reached c.quiet (h c.reached c.stands)
+
+pub gains_none : (m : Machine) → GainsNames m m
+gains_none m = record { atoms = prefix_same m.atoms m.atoms refl; names = refl; ops = refl; clauses = refl; database = refl }
+
+pub comes_at_once : (m : Machine) (steps n : ℕ) (current : Option ℕ) (s : Search) → StandsFor m n current s → ComesTo steps m n current s
+comes_at_once m steps n current s j = record { reached = s; quiet = coming.at_once; stands = j }

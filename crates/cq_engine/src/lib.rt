@@ -1,0 +1,8 @@
+//! What an engine comes to before a goal is selected: it goes on to a goal in front, answers, fails, or its query stops.
+#![tactic(auto)]
+
+mod front;
+mod seeking;
+
+pub use front::{Cause, Front, look};
+pub use seeking::seek;
