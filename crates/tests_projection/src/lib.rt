@@ -8,6 +8,4 @@ mod fourier;
 #[cfg(test)]
 mod given;
 #[cfg(test)]
-mod keep;
-#[cfg(test)]
 mod sift;
