@@ -44,6 +44,7 @@ names_kept old new keeps names a = record {
   not = keeps names.not _ a.not;
   equal = keeps names.equal _ a.equal;
   once = keeps names.once _ a.once;
+  curly = keeps names.curly _ a.curly;
 }
 
 -- the same choices and the same world stand for the same search
