@@ -51,6 +51,7 @@ names_kept old new keeps names a = record {
   not = keeps names.not _ a.not;
   equal = keeps names.equal _ a.equal;
   once = keeps names.once _ a.once;
+  curly = keeps names.curly _ a.curly;
 }
 
 pub gains_on : (a b c : Machine) → GainsNames a b → GainsNames b c → GainsNames a c
