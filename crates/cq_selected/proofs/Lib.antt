@@ -1,0 +1,4 @@
+mod Reached
+mod Stopped
+mod Equal
+mod Called

@@ -1,0 +1,26 @@
+-- What a call of a user predicate comes to.
+use Rattle.std.specs.Prelude.{◌≡◌, ℕ, List}
+use Rattle.spec_syntax.specs.Trees.{Tree}
+use Rattle.spec_built.specs.Built.{indicator_of}
+use Rattle.spec_branch.specs.Branch.{Branch}
+use Rattle.spec_search.specs.Control.{user_row}
+use Rattle.spec_search.specs.Replies.{Place, Raises}
+use Rattle.cq_built.specs.Errors.{error_tree}
+use Rattle.cq_calls.specs.Calling.{CallBecomes}
+use Rattle.cq_machine.specs.declared.machine.Machine.{Machine}
+use Rattle.cq_machine.specs.declared.step.Step.{Step}
+use Rattle.cq_machine.specs.declared.step.Step.TheVariants as step
+use Rattle.cq_machine.specs.Machines.{terms, holds}
+use Rattle.cq_machine.specs.Stepping.{IsSelectedAt}
+
+-- the machine comes back to the clauses of the goal's procedure, or there is no such procedure
+abbrev pub IsCall : Machine → Step → Place → List Branch → Tree → Type 0
+IsCall m step.Back p behind goal = CallBecomes m.atoms (holds m) p behind goal
+IsCall m (step.Raises e) p behind goal = user_row p (indicator_of goal) ≡ Raises (error_tree m.atoms (terms m) e)
+IsCall m (step.Goes k) p behind goal = ⊥
+IsCall m (step.Refuses pair) p behind goal = ⊥
+
+-- so it is wherever the goal is selected with this continuation behind it
+abbrev pub Calls : Machine → Machine → ℕ → ℕ → Step → Type 0
+Calls old new id rest s = (height : ℕ) (p : Place) (behind : List Branch) (goal : Tree) → IsSelectedAt old id height rest p behind goal
+    → IsCall new s p behind goal
