@@ -1,0 +1,83 @@
+// Lists of constraints by their numbers.
+
+ghost use Rattle.std.specs.Prelude.{◌≡◌, ◌++◌, IfOk, IfSome, IsTrue};
+ghost use Rattle.spec_linear.specs.Solution.{Solvable};
+
+use cq_form::{Constraint, Form};
+use cq_frac::{Frac, Refusal, VarId};
+use cq_linear::store::{Store, StoreFault, Told};
+use spec_linear::Relation;
+use std::alloc::{AllocError, Global};
+
+// A relation, variables with numerator and denominator of their coefficients, and those of the constant.
+pub(crate) type Given<'a> = (Relation, &'a [(usize, i128, i128)], i128, i128);
+
+fn number(n: i128, d: i128) -> Frac {
+    Frac::new(n, d).unwrap_or(Frac::zero())
+}
+
+fn variable(alloc: Global, x: usize) -> Result<Form, AllocError> {
+    Form::new(alloc, Frac::zero(), &[(VarId(x), Frac::one())])
+}
+
+fn row(alloc: Global, given: &Given) -> Result<Constraint, Refusal> {
+    let mut form = Form::new(alloc, number(given.2, given.3), &[])?;
+    for (x, n, d) in given.1 {
+        form = form.add(&variable(alloc, *x)?.scale(number(*n, *d))?)?;
+    }
+    Ok(Constraint {
+        relation: given.0,
+        form,
+    })
+}
+
+fn rows(alloc: Global, given: &[Given]) -> Result<Vec<Constraint>, Refusal> {
+    let mut rows = Vec::new(alloc);
+    for one in given {
+        rows.push(row(alloc, one)?)?;
+    }
+    Ok(rows)
+}
+
+/// Tells the rows, as long as they can hold.
+fn tells(store: &mut Store, rows: &[Constraint]) -> Result<bool, StoreFault>
+    ensures told { IfOk result (λ all. IsTrue all → store.new.told ≡ store.old.told ++ rows.now) }
+    ensures solvable { IfOk result (λ all. IsTrue all → Solvable store.new.told) }
+{
+    'rows: for row in rows {
+        let copy = row.clone()?;
+        match store.tell(copy) {
+            Ok(Told::Kept(_)) => continue,
+            Ok(Told::Unsolvable(_)) => return Ok(false),
+            Err(fault) => return Err(fault),
+        }
+    }
+    let _told = store.told();
+    Ok(true)
+}
+
+/// Whether the constraints can hold together with what is told.
+fn can_hold(
+    alloc: Global,
+    told: &[Constraint],
+    rows: &[Constraint],
+) -> Result<bool, StoreFault>
+    ensures { IfOk result (λ yes. IsTrue yes → Solvable (told.now ++ rows.now)) }
+{
+    let mut store = Store::new(alloc, 1000);
+    if !tells(&mut store, told)? {
+        return Ok(false);
+    }
+    tells(&mut store, rows)
+}
+
+/// The constraints, where they can hold.
+pub(crate) fn holding(alloc: Global, given: &[Given]) -> Result<Option<Vec<Constraint>>, StoreFault>
+    ensures { IfOk result (λ found. IfSome found (λ rows. Solvable rows.items)) }
+{
+    let rows = rows(alloc, given)?;
+    if !can_hold(alloc, &[], &rows)? {
+        return Ok(None);
+    }
+    Ok(Some(rows))
+}
