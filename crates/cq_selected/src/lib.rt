@@ -8,4 +8,4 @@ mod relations;
 
 pub use calls::call_procedure;
 pub use checks::use_module;
-pub use relations::{compare, freeze, unify};
+pub use relations::{compare, evaluate_to, freeze, unify};

@@ -1,7 +1,7 @@
 // The rows of goals that make terms equal, compare values and put goals to sleep.
 
 ghost use Rattle.std.specs.Prelude.{◌≡◌, ◌<◌, ℕ, length, IfOk, IfErr, OnErr};
-ghost use Rattle.spec_search.specs.Builtins.{Unify, Compare, Freeze};
+ghost use Rattle.spec_search.specs.Builtins.{Unify, Is, Compare, Freeze};
 ghost use Rattle.cq_builtin.specs.Rows.{comparison_of};
 ghost use Rattle.cq_term.specs.Meaning.{at};
 ghost use Rattle.cq_term.specs.Shown.{arguments};
@@ -15,6 +15,7 @@ use cq_control::Continuation;
 use cq_goals::GoalFault;
 use cq_linear::store::StoreFault;
 use cq_machine::{Machine, Step};
+use cq_relations::RelationFault;
 use cq_term::TermId;
 use cq_walk::Pair;
 use std::alloc::AllocError;
@@ -43,6 +44,46 @@ pub fn unify(m: &mut Machine, goal: TermId, rest: Continuation) -> Result<Step, 
             Begun::Pruned => Ok(Step::Back),
         },
         Err(fault) => Err(fault),
+    }
+}
+
+/// `X is E`.
+pub fn evaluate_to(m: &mut Machine, goal: TermId, rest: Continuation) -> Result<Step, StoreFault>
+    requires sound { IsSound m.old }
+    requires selected { IsSelectedSomewhere m.old goal rest }
+    requires goal { goal < length (terms m.old) }
+    requires two { length (arguments (at (terms m.old) goal)) ≡ 2 }
+    requires rest { rest < length m.old.world.second.now }
+    ensures row { IfOk result (λ s. (height : ℕ) → LeadsTo m.old m.new goal height rest (row_of Is) s) }
+    ensures stop { IfErr result (λ f. (height : ℕ) → StopsAt m.old goal height rest (row_of Is) f) }
+    ensures goes { IfOk result (CanGo m.new) }
+    ensures sound { IsSound m.new }
+    ensures program { HasSameProgram m.old m.new }
+    ensures err { OnErr result (StillStands m.old m.new) }
+{
+    let left = m.world.first.heap.arg(goal, 0);
+    let right = m.world.first.heap.arg(goal, 1);
+    let world = &mut m.world;
+    match cq_relations::evaluate_to(
+        &mut world.first,
+        &mut world.second,
+        &m.atoms,
+        left,
+        right,
+        rest,
+    ) {
+        Ok(begun) => match begun {
+            Begun::Goes(first) => Ok(Step::Goes(first)),
+            Begun::Pruned => Ok(Step::Back),
+        },
+        Err(fault) => match fault {
+            RelationFault::Goal(refusal) => match refusal {
+                GoalFault::Error(error) => Ok(Step::Raises(error)),
+                GoalFault::Overflow(pair) => Ok(Step::Refuses(pair)),
+                GoalFault::NoMemory => Err(StoreFault::NoMemory),
+            },
+            RelationFault::Settling(stop) => Err(stop),
+        },
     }
 }
 

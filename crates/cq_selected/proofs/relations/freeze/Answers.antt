@@ -1,6 +1,5 @@
 use Rattle.std.proofs.Common.{Some, refl, ap₂}
 use Rattle.std.specs.List.{zip}
-use Rattle.spec_builtins.specs.Terms as builtins
 use Rattle.spec_search.specs.Builtins.{Freeze}
 use Rattle.cq_attr.proofs.Elements.{on_err}
 use Rattle.cq_steps.proofs.Arguments.{argument_reads}
