@@ -1,4 +1,3 @@
 mod Turns
 mod Newest
 mod Called
-mod Budgets

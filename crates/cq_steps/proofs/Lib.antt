@@ -13,3 +13,4 @@ pub mod Passing
 pub mod Reading
 pub mod Disjunctions
 pub mod Arguments
+pub mod Budgets

@@ -1,6 +1,6 @@
 // Marks in front of a continuation, and choices that are come back to, up to a goal.
 
-ghost use Rattle.std.specs.Prelude.{ℕ, List, Option, Some, None, IfSome, IfNone};
+ghost use Rattle.std.specs.Prelude.{◌≡◌, ℕ, List, Option, Some, None, IfSome, IfNone};
 ghost use Rattle.spec_lists.specs.Texts.{Text};
 ghost use Rattle.spec_search.specs.Database.{Database};
 ghost use Rattle.spec_search.specs.Search.{Search};
@@ -50,6 +50,7 @@ fn pass_mark(
         (past result start) s }
     ensures passes { IsPast result start (items_at world.new.second.now start) }
     ensures older { KeepsOlder (saved_values world.old.first world.old.second.saved) choices.old (saved_values world.new.first world.new.second.saved) choices.new }
+    ensures budget { world.new.first.store.pivots ≡ world.old.first.store.pivots }
 {
     let Some((cell, rest)) = world.second.first(start) else {
         return Front::Clear;
@@ -84,6 +85,7 @@ fn pass_marks(
         → Arrives steps texts v db n (saved_values world.new.first world.new.second.saved) choices.new (value world.new.first world.new.second.now) result s }
     ensures front { IfSome result (λ k. IsFront (items_at world.new.second.now k)) }
     ensures older { KeepsOlder (saved_values world.old.first world.old.second.saved) choices.old (saved_values world.new.first world.new.second.saved) choices.new }
+    ensures budget { world.new.first.store.pivots ≡ world.old.first.store.pivots }
 {
     let mut current = start;
     'marks: loop {
@@ -109,6 +111,7 @@ fn pass_from(
         → Arrives steps texts v db n (saved_values world.new.first world.new.second.saved) choices.new (value world.new.first world.new.second.now) result s }
     ensures front { IfSome result (λ k. IsFront (items_at world.new.second.now k)) }
     ensures older { KeepsOlder (saved_values world.old.first world.old.second.saved) choices.old (saved_values world.new.first world.new.second.saved) choices.new }
+    ensures budget { world.new.first.store.pivots ≡ world.old.first.store.pivots }
 {
     match start {
         Some(k) => pass_marks(world, choices, k),
@@ -125,6 +128,7 @@ fn come_back(world: &mut Searching, choices: &mut Choices<Alternatives>) -> Came
         → Arrives steps texts v db n (saved_values world.new.first world.new.second.saved) choices.new (value world.new.first world.new.second.now)
         (came_to result) s }
     ensures older { KeepsOlder (saved_values world.old.first world.old.second.saved) choices.old (saved_values world.new.first world.new.second.saved) choices.new }
+    ensures budget { world.new.first.store.pivots ≡ world.old.first.store.pivots }
     ensures back { HasComeBack result choices.old choices.new }
 {
     let Some(newest) = choices.top() else {
@@ -160,6 +164,7 @@ pub fn find_front(
     ensures front { IfSome result (λ k. IsFront (items_at world.new.second.now k)) }
     ensures call { IfNone result (IsCall choices.new) }
     ensures older { KeepsOlder (saved_values world.old.first world.old.second.saved) choices.old (saved_values world.new.first world.new.second.saved) choices.new }
+    ensures budget { world.new.first.store.pivots ≡ world.old.first.store.pivots }
 {
     let mut current = start;
     'choices: loop {

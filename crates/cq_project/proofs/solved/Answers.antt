@@ -4,7 +4,7 @@ use Rattle.spec_linear.specs.Solution.{Unsolvable, Has}
 use Rattle.spec_linear.proofs.Denominators.{has_right}
 use Rattle.cq_store.specs.Contents.{told_of}
 use Rattle.cq_store.specs.Told.{numbers_of}
-use Rattle.cq_project.proofs.Fault.{overflow_back}
+use Rattle.cq_project.proofs.Fault.{overflow_back, pivots_back}
 use Rattle.cq_project.proofs.solved.Goals as goal
 
 pub unreachable-requires : goal.unreachable-requires
@@ -26,3 +26,6 @@ returns-in-Err-clause-overflow c pair e =
       stays = λ x h. made.stays x (subst (Has x) (sym ordered.split) (has_right x ordered.others (numbers_of c.args.keep.now) h));
       made = made.made;
     }
+
+pub returns-in-Err-clause-pivots : goal.returns-in-Err-clause-pivots
+returns-in-Err-clause-pivots c n e = c.in-Err.ensures.pivots n (pivots_back c.in-Err.fault c.from.result n c.from.ensures e)

@@ -14,11 +14,11 @@ use Rattle.spec_machine.specs.Cells.{Value}
 use Rattle.cq_steps.specs.Worlds.{saved_values, value}
 use Rattle.cq_steps.specs.declared.alternatives.Alternatives.{Alternatives}
 use Rattle.cq_steps.specs.declared.alternatives.Alternatives.TheVariants.{Clauses}
+use Rattle.cq_steps.proofs.Budgets.{same_budget}
 use Rattle.cq_steps.proofs.Older.{newest_gone}
 use Rattle.cq_begin.specs.declared.beginning.Begun.TheVariants.{Goes, Pruned}
 use Rattle.cq_begin.proofs.Back.{back_still}
 use Rattle.cq_calls.specs.Trying.{Leaves}
-use Rattle.cq_calls.proofs.Budgets.{same_budget}
 use Rattle.cq_calls.proofs.Newest.{Opened, AreLeft, opened_is, is_walk, same-first, open_same, marked_same, arrives_past, fewer_past, open_past, begins_ready, begins_goal, begins_rest, of_content, length-opened, are_left, arrives_left, fewer_wait, open_left, open_still, fault_stops, put_newest, changed_newest}
 use Rattle.cq_calls.proofs.trying.try_clause.Goals as goal
 use Rattle.cq_calls.proofs.trying.try_clause.Goals.{After-back, After-retry, After-height-height, After-clause-clause, After-replace_at}

@@ -3,6 +3,7 @@ use Rattle.cq_control.specs.Open.{open_choices}
 use Rattle.cq_steps.specs.declared.alternatives.Alternatives.{Alternatives}
 use Rattle.cq_steps.specs.declared.alternatives.Alternatives.TheVariants.{One, Barrier}
 use Rattle.cq_steps.specs.Worlds.{value, saved_values}
+use Rattle.cq_steps.proofs.Budgets.{same_budget}
 use Rattle.cq_steps.proofs.Older.{newest_gone, older_next}
 use Rattle.cq_steps.proofs.Passing.{here, one_on, barrier_on}
 use Rattle.cq_steps.proofs.marks.come_back.Goals as goal
@@ -60,3 +61,23 @@ returns-in-Barrier-clause-older c =
 pub returns-in-Ways-clause-arrives : goal.returns-in-Ways-clause-arrives
 returns-in-Ways-clause-arrives c = λ steps texts v db n s j.
     here steps texts v db n s (saved_values c.args.world.now.first c.args.world.now.second.saved) c.args.choices.now (value c.args.world.now.first c.args.world.now.second.now) None j
+
+pub returns-in-One-clause-budget : goal.returns-in-One-clause-budget
+returns-in-One-clause-budget c =
+    let saved = saved_values c.args.world.now.first c.args.world.now.second.saved in
+    let back = value c.back.new.world.first c.back.new.world.second.now in
+    let fewer = saved_values c.back.new.world.first c.back.new.world.second.saved in
+    same_budget c.args.world.now.first c.args.world.now.second.saved c.args.choices.now back (One c.in-One.next) (open_choices fewer c.back.new.self)
+    (newest_gone c.back.result c.args.choices.now c.back.new.self c.in-Some.ensures.some.0 (One c.in-One.next)
+    (λ (x : Alternatives). open_choices saved c.args.choices.now ≡ (back, x) ∷ open_choices fewer c.back.new.self) c.back.ensures.none c.back.ensures.contents c.back.ensures.open
+    (c.in-Some.ensures.some.1 ∙ ap (λ x. x ∷ c.in-Some.ensures.some.0) c.in-One.is))
+
+pub returns-in-Barrier-clause-budget : goal.returns-in-Barrier-clause-budget
+returns-in-Barrier-clause-budget c =
+    let saved = saved_values c.args.world.now.first c.args.world.now.second.saved in
+    let back = value c.back-in-Barrier.new.world.first c.back-in-Barrier.new.world.second.now in
+    let fewer = saved_values c.back-in-Barrier.new.world.first c.back-in-Barrier.new.world.second.saved in
+    same_budget c.args.world.now.first c.args.world.now.second.saved c.args.choices.now back Barrier (open_choices fewer c.back-in-Barrier.new.self)
+    (newest_gone c.back-in-Barrier.result c.args.choices.now c.back-in-Barrier.new.self c.in-Some.ensures.some.0 Barrier
+    (λ (x : Alternatives). open_choices saved c.args.choices.now ≡ (back, x) ∷ open_choices fewer c.back-in-Barrier.new.self) c.back-in-Barrier.ensures.none c.back-in-Barrier.ensures.contents c.back-in-Barrier.ensures.open
+    (c.in-Some.ensures.some.1 ∙ ap (λ x. x ∷ c.in-Some.ensures.some.0) c.in-Barrier.is))

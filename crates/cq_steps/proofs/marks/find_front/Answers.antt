@@ -1,4 +1,4 @@
-use Rattle.std.proofs.Common.{arith, Some, None}
+use Rattle.std.proofs.Common.{arith, Some, None, refl, ◌∙◌}
 use Rattle.cq_steps.specs.Worlds.{value, saved_values}
 use Rattle.cq_steps.proofs.Older.{older_all, older_on, older_fewer}
 use Rattle.cq_steps.proofs.Passing.{here, works_on, arrives_on}
@@ -10,6 +10,7 @@ choices-init c = record {
   arrives = λ steps texts v db n s j.
       here steps texts v db n s (saved_values c.args.world.now.first c.args.world.now.second.saved) c.args.choices.now (value c.args.world.now.first c.args.world.now.second.now) c.args.start j;
   older = older_all (saved_values c.args.world.now.first c.args.world.now.second.saved) c.args.choices.now;
+  budget = refl;
 }
 
 pub pass_from-requires-clause-works : goal.pass_from-requires-clause-works
@@ -29,6 +30,7 @@ choices-preserved c = record {
       c.pass_from.new.choices c.come_back.new.choices (value c.pass_from.new.world.first c.pass_from.new.world.second.now)
       (value c.come_back.new.world.first c.come_back.new.world.second.now) None c.in-Back.next steps texts v db n s passed c.in-Back.ensures.arrives;
   older = older_on _ _ _ _ _ _ (older_on _ _ _ _ _ _ c.choices.invariant.older c.in_default.ensures.older) c.in-Back.ensures.older;
+  budget = c.in-Back.ensures.budget ∙ c.in_default.ensures.budget ∙ c.choices.invariant.budget;
 }
 
 pub returns-in-Some-clause-arrives : goal.returns-in-Some-clause-arrives
@@ -59,3 +61,9 @@ choices-smaller c =
     c.choices.choices c.pass_from.new.choices c.choices.invariant.marked c.in_default.ensures.marked c.in_default.ensures.older in
     let back = c.in-Back.ensures.back in
     omega (arith, fewer, back)
+
+pub returns-in-Some-clause-budget : goal.returns-in-Some-clause-budget
+returns-in-Some-clause-budget c = c.in-Some.ensures.budget ∙ c.choices.invariant.budget
+
+pub returns-in-Call-clause-budget : goal.returns-in-Call-clause-budget
+returns-in-Call-clause-budget c = c.in-Call.ensures.budget ∙ c.in_default.ensures.budget ∙ c.choices.invariant.budget

@@ -1,4 +1,4 @@
-use Rattle.std.proofs.Common.{ℕ, List, length}
+use Rattle.std.proofs.Common.{◌≡◌, ℕ, List, length}
 use Rattle.spec_lists.specs.Texts.{Text}
 use Rattle.spec_search.specs.Database.{Database}
 use Rattle.spec_search.specs.Search.{Search}
@@ -16,6 +16,7 @@ invariant-choices l =
           → Stands texts v db n (saved_values l.fn.world.first l.fn.world.second.saved) l.fn.choices (value l.fn.world.first l.fn.world.second.now) l.fn.start s
           → Arrives steps texts v db n (saved_values l.world.first l.world.second.saved) l.choices (value l.world.first l.world.second.now) l.current s;
       older : KeepsOlder (saved_values l.fn.world.first l.fn.world.second.saved) l.fn.choices (saved_values l.world.first l.world.second.saved) l.choices;
+      budget : l.world.first.store.pivots ≡ l.fn.world.first.store.pivots;
     }
 
 abbrev pub decreases-choices : goal.decreases-choices

@@ -1,5 +1,7 @@
 use Rattle.std.proofs.Common.{Some, ◌∷◌, ap, ◌∙◌}
 use Rattle.cq_control.specs.Items.{items_at}
+use Rattle.cq_world.specs.Contents.{Contents}
+use Rattle.spec_machine.specs.Cells.{Value}
 use Rattle.cq_steps.specs.Worlds.{value, saved_values}
 use Rattle.cq_steps.proofs.Older.{older_last}
 use Rattle.cq_steps.proofs.Passing.{here, cut_on, fail_on, end_on, current_there, arrives_same}
@@ -59,3 +61,9 @@ returns-in-CatchEnd-clause-arrives c = λ steps texts v db n s j.
     end_on steps texts v db n s saved c.args.choices.now now c.args.start c.in-Some.rest c.in-Some.ensures.earlier
     (here steps texts v db n s saved c.args.choices.now now (Some c.args.start) j) c.in-CatchEnd.field-0 c.in-CatchEnd.field-1 c.in-CatchEnd.field-2
     (c.in-Some.ensures.some ∙ ap (λ x. x ∷ items_at now.1 c.in-Some.rest) c.in-CatchEnd.is)
+
+pub returns-in-CutTo-clause-budget : goal.returns-in-CutTo-clause-budget
+returns-in-CutTo-clause-budget c = ap (λ (w : Value Contents). w.0.pivots) c.cut.ensures.now
+
+pub returns-in-CutFail-clause-budget : goal.returns-in-CutFail-clause-budget
+returns-in-CutFail-clause-budget c = ap (λ (w : Value Contents). w.0.pivots) c.cut-in-CutFail.ensures.now

@@ -1,4 +1,4 @@
-use Rattle.std.proofs.Common.{Some, None}
+use Rattle.std.proofs.Common.{Some, None, refl, ◌∙◌}
 use Rattle.cq_steps.specs.Worlds.{value, saved_values}
 use Rattle.cq_steps.proofs.Older.{older_all, older_on}
 use Rattle.cq_steps.proofs.Passing.{here, works_on, arrives_on}
@@ -10,6 +10,7 @@ marks-init c = record {
   arrives = λ steps texts v db n s j.
       here steps texts v db n s (saved_values c.args.world.now.first c.args.world.now.second.saved) c.args.choices.now (value c.args.world.now.first c.args.world.now.second.now) (Some c.args.start) j;
   older = older_all (saved_values c.args.world.now.first c.args.world.now.second.saved) c.args.choices.now;
+  budget = refl;
 }
 
 pub pass_mark-requires-clause-works : goal.pass_mark-requires-clause-works
@@ -25,6 +26,7 @@ marks-preserved c = record {
       (value c.marks.world.first c.marks.world.second.now) (value c.pass_mark.new.world.first c.pass_mark.new.world.second.now) (Some c.marks.current) (Some c.in-Passed.rest)
       steps texts v db n s (c.marks.invariant.arrives steps texts v db n s j) c.in-Passed.ensures.arrives;
   older = older_on _ _ _ _ _ _ c.marks.invariant.older c.in-Passed.ensures.older;
+  budget = c.in-Passed.ensures.budget ∙ c.marks.invariant.budget;
 }
 
 pub returns-in-Clear-clause-arrives : goal.returns-in-Clear-clause-arrives
@@ -44,3 +46,9 @@ returns-in-Back-clause-arrives c = λ steps texts v db n s j.
 
 pub returns-in-Back-clause-older : goal.returns-in-Back-clause-older
 returns-in-Back-clause-older c = older_on _ _ _ _ _ _ c.marks.invariant.older c.in-Back.ensures.older
+
+pub returns-in-Clear-clause-budget : goal.returns-in-Clear-clause-budget
+returns-in-Clear-clause-budget c = c.in-Clear.ensures.budget ∙ c.marks.invariant.budget
+
+pub returns-in-Back-clause-budget : goal.returns-in-Back-clause-budget
+returns-in-Back-clause-budget c = c.in-Back.ensures.budget ∙ c.marks.invariant.budget

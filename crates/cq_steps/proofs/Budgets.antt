@@ -16,7 +16,6 @@ use Rattle.spec_machine.specs.declared.cell.Cell.{Cell}
 use Rattle.spec_machine.specs.Cells.{Value}
 use Rattle.cq_steps.specs.Worlds.{saved_values}
 use Rattle.cq_steps.specs.declared.alternatives.Alternatives.{Alternatives}
-use Rattle.cq_calls.proofs.Newest.{same-first}
 
 module _ (n : ℕ) where
   abbrev May : Contents → Type 0
@@ -41,7 +40,9 @@ module _ (n : ℕ) where
       → zip vs xs ≡ (w, x) ∷ others → All MayThen vs → May w.0
   newest_may [] xs w x others e a = cc
   newest_may (v ∷ vs) [] w x others e a = cc
-  newest_may (v ∷ vs) (y ∷ ys) w x others e a = sym (ap (λ (z : Value Contents × Alternatives). z.0.0.pivots) (same-first (v, y) (w, x) (zip vs ys) others e)) ∙ All-head MayThen v vs a
+  newest_may (v ∷ vs) (y ∷ ys) w x others e a =
+      let first : (v, y) ≡ (w, x) = cc in
+      sym (ap (λ (z : Value Contents × Alternatives). z.0.0.pivots) first) ∙ All-head MayThen v vs a
 
 -- the world that the newest choice goes back to
 pub same_budget : (w : World) (saved : List (List (List Cell))) (choices : List Alternatives) (back : Value Contents) (x : Alternatives) (others : List (Value Contents × Alternatives))
