@@ -6,7 +6,7 @@ ghost use Rattle.cq_world.specs.Rest.{IsReady};
 ghost use Rattle.cq_world.specs.Worlds.{now_of};
 ghost use Rattle.tests_settle.specs.Next.{IsNext};
 
-use crate::stage::{Language, Stage, members, stage};
+use crate::stage::{Language, parts_of, read_query};
 use crate::steps::{add_state, run};
 use cq_linear::store::StoreFault;
 use cq_term::TermId;
@@ -198,28 +198,29 @@ fn tries(
     Ok(well)
 }
 
-/// Whether each of the parts leads to what its line says.
-fn try_each(
+/// Whether the first part does, or another one, which is undone.
+fn take_part(
     world: &mut World,
     language: &Language,
     query: TermId,
-    parts: &[TermId],
-    wanted: &[&str],
+    part: (usize, TermId),
+    wanted: &str,
 ) -> Result<bool, StoreFault>
     requires different { AreDifferent language.now.atoms }
     requires ready { IsReady language.now.atoms (now_of world.old) }
     requires query { query < length world.old.heap.now.terms }
-    requires parts { All (λ id. id < length world.old.heap.now.terms) parts.now }
+    requires part { part.1 < length world.old.heap.now.terms }
+    ensures next { OnOk result (IsNext language.now.atoms world.old world.new) }
 {
-    for (part, line) in parts.iter().zip(wanted) {
-        if !tries(world, language, query, *part, *line)? {
-            return Ok(false);
-        }
+    let (number, goals) = part;
+    if number == 0 {
+        leads_to(world, language, query, goals, wanted)
+    } else {
+        tries(world, language, query, goals, wanted)
     }
-    Ok(true)
 }
 
-/// Whether the first part does, and then each other one.
+/// Whether each of the parts leads to what its line says.
 fn goes_on(
     world: &mut World,
     language: &Language,
@@ -232,22 +233,28 @@ fn goes_on(
     requires query { query < length world.old.heap.now.terms }
     requires parts { All (λ id. id < length world.old.heap.now.terms) parts.now }
 {
-    if parts.is_empty() || parts.len() != wanted.len() {
+    if parts.len() != wanted.len() {
         return Ok(false);
     }
-    let first = leads_to(world, language, query, parts[0], wanted[0])?;
-    Ok(first && try_each(world, language, query, &parts[1..], &wanted[1..])?)
+    for (i, part) in parts.iter().enumerate() {
+        if !take_part(world, language, query, (i, *part), wanted[i])? {
+            return Ok(false);
+        }
+    }
+    Ok(true)
 }
 
 /// Whether the query leads to what the lines say.
 pub(crate) fn plays(alloc: Global, text: &str, wanted: &[&str]) -> Result<bool, StoreFault> {
-    let Stage {
-        mut world,
-        query,
-        language,
-    } = stage(alloc, text)?;
-    let parts = members(&world.heap, language.words.semicolon, query)?;
-    goes_on(&mut world, &language, query, &parts, wanted)
+    let mut stage = read_query(alloc, text)?;
+    let parts = parts_of(&stage)?;
+    goes_on(
+        &mut stage.world,
+        &stage.language,
+        stage.query,
+        &parts,
+        wanted,
+    )
 }
 
 #[test]

@@ -55,7 +55,7 @@ fn words_of(atoms: &mut Atoms) -> Result<Words, AllocError> {
 }
 
 /// Reads a query. A text that is none is refused as want of memory is.
-pub(crate) fn stage(alloc: Global, text: &str) -> Result<Stage, AllocError>
+pub(crate) fn read_query(alloc: Global, text: &str) -> Result<Stage, AllocError>
     ensures different { IfOk result (λ s. AreDifferent s.language.atoms) }
     ensures ready { IfOk result (λ s. IsReady s.language.atoms (now_of s.world)) }
     ensures live { IfOk result (λ s. s.query < length s.world.heap.now.terms) }
@@ -133,4 +133,13 @@ pub(crate) fn members(heap: &Heap, name: Atom, term: TermId) -> Result<Vec<TermI
     }
     ids.push(rest)?;
     Ok(ids)
+}
+
+/// The parts of the query between semicolons.
+pub(crate) fn parts_of(stage: &Stage) -> Result<Vec<TermId>, AllocError>
+    requires { stage.now.query < length stage.now.world.heap.now.terms }
+    ensures { IfOk result (λ ids. All (λ id. id < length stage.now.world.heap.now.terms) ids.items) }
+{
+    let world = &stage.world;
+    members(&world.heap, stage.language.words.semicolon, stage.query)
 }

@@ -149,13 +149,12 @@ fn try_equal(
     ensures next { OnOk result (IsNext language.now.atoms world.old world.new) }
 {
     let start = world.mark()?;
-    let kept = equate(world, language, left, right, line)?;
-    if kept {
+    if equate(world, language, left, right, line)? {
         world.forget(start);
-    } else {
-        world.undo(start);
+        return Ok(true);
     }
-    Ok(kept)
+    world.undo(start);
+    Ok(false)
 }
 
 /// The goal sleeps on the variable. It is none, and wakes at once, where that has got a value.
@@ -204,6 +203,7 @@ fn take(
 }
 
 /// Takes the goals.
+#[tactic(auto, using(crate::proofs::Marks::next_next))]
 fn take_all(
     world: &mut World,
     language: &Language,

@@ -7,7 +7,7 @@ ghost use Rattle.cq_world.specs.Worlds.{now_of};
 ghost use Rattle.tests_settle.specs.Next.{IsNext};
 
 use crate::scenes::leads_to;
-use crate::stage::{Language, Stage, members, stage};
+use crate::stage::{Language, parts_of, read_query};
 use crate::steps::add_state;
 use cq_form::{Constraint, Form};
 use cq_frac::{Frac, VarId};
@@ -212,13 +212,14 @@ fn goes_back(
 }
 
 fn is_undone(alloc: Global) -> Result<bool, StoreFault> {
-    let Stage {
-        mut world,
-        query,
-        language,
-    } = stage(alloc, QUERY)?;
-    let parts = members(&world.heap, language.words.semicolon, query)?;
-    goes_back(&mut world, &language, query, &parts)
+    let mut stage = read_query(alloc, QUERY)?;
+    let parts = parts_of(&stage)?;
+    goes_back(
+        &mut stage.world,
+        &stage.language,
+        stage.query,
+        &parts,
+    )
 }
 
 #[test]
