@@ -80,14 +80,17 @@ selected_on old new id height rest p behind g b s = record {
   database = s.database ∙ sym (λ i. as_database (b.program.atoms i) (operators (b.program.atoms i) (b.program.ops i)) (b.program.clauses i));
 }
 
--- it stands for what it stood for
+-- where more was built beside the same choices, it stands for what it stood for
+pub stands_still : (old new : Machine) → HasSameProgram old new → new.choices ≡ old.choices → saved new ≡ saved old → Grown old.atoms (now old) (now new) → StillStands old new
+stands_still old new same choices marks g = λ db n current s j.
+    subst (λ (a : List Text). IsStanding (IsBranch a) (term_in a) (engine db n (stack a new.clauses (saved new) new.choices) (now new) current) s) (sym same.atoms)
+    (subst (λ (v : Program). IsStanding (IsBranch old.atoms) (term_in old.atoms) (engine db n (stack old.atoms v (saved new) new.choices) (now new) current) s) (sym same.clauses)
+    (subst (λ (l : List (Value Contents)). IsStanding (IsBranch old.atoms) (term_in old.atoms) (engine db n (stack old.atoms old.clauses l new.choices) (now new) current) s) (sym marks)
+    (subst (λ (c : List Alternatives). IsStanding (IsBranch old.atoms) (term_in old.atoms) (engine db n (stack old.atoms old.clauses (saved old) c) (now new) current) s) (sym choices)
+    (standing_grown (IsBranch old.atoms) (term_in old.atoms) db n (holds old) (now old) (now new) g current s j))))
+
 pub stands_on : (old new : Machine) → HasBuilt old new → StillStands old new
-stands_on old new b = λ db n current s j.
-    subst (λ (a : List Text). IsStanding (IsBranch a) (term_in a) (engine db n (stack a new.clauses (saved new) new.choices) (now new) current) s) (sym b.program.atoms)
-    (subst (λ (v : Program). IsStanding (IsBranch old.atoms) (term_in old.atoms) (engine db n (stack old.atoms v (saved new) new.choices) (now new) current) s) (sym b.program.clauses)
-    (subst (λ (l : List (Value Contents)). IsStanding (IsBranch old.atoms) (term_in old.atoms) (engine db n (stack old.atoms old.clauses l new.choices) (now new) current) s) (sym b.saved)
-    (subst (λ (c : List Alternatives). IsStanding (IsBranch old.atoms) (term_in old.atoms) (engine db n (stack old.atoms old.clauses (saved old) c) (now new) current) s) (sym b.choices)
-    (standing_grown (IsBranch old.atoms) (term_in old.atoms) db n (holds old) (now old) (now new) b.grown current s j))))
+stands_on old new b = stands_still old new b.program b.choices b.saved b.grown
 
 -- and what stands for it then
 pub stands_then : (old mid new : Machine) → StillStands old mid → StillStands mid new → StillStands old new

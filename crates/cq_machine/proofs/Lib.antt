@@ -1,4 +1,5 @@
-mod Kept
-mod Built
+pub mod Kept
+pub mod Built
 mod Operators
-mod Over
+pub mod Over
+pub mod Interned

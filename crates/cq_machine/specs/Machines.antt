@@ -6,6 +6,7 @@ use Rattle.spec_search.specs.Database.{Database}
 use Rattle.spec_search.specs.Search.{Search}
 use Rattle.cq_atoms.specs.Texts.{AreDifferent}
 use Rattle.cq_control.specs.Open.{AreMarked}
+use Rattle.cq_ops.specs.Tables.{AreNamed}
 use Rattle.cq_program.specs.Database.{IsProgram, as_database}
 use Rattle.cq_term.specs.Meaning.{HeapTerm}
 use Rattle.cq_term.specs.Trees.{KnowsTerms}
@@ -46,6 +47,7 @@ pub record AreNames (texts : List Text) (names : Names) : Type 0 where
   pub not : IsName texts names.not "\\+"
   pub equal : IsName texts names.equal "="
   pub once : IsName texts names.once "once"
+  pub curly : IsName texts names.curly "{}"
 
 -- what a machine keeps
 pub record IsSound (m : Machine) : Type 0 where
@@ -53,15 +55,17 @@ pub record IsSound (m : Machine) : Type 0 where
   pub different : AreDifferent m.atoms
   pub names : KnowsTerms m.atoms (terms m)
   pub program : IsProgram m.atoms m.clauses
+  pub operators_named : AreNamed m.atoms m.ops
   pub marked : AreMarked (saved m) m.choices
   pub untried : AreOpen m.clauses (saved m) m.choices
 
--- names, operators and clauses are the same
+-- names, operators, clauses and how many exchanges a call may make are the same
 pub record HasSameProgram (old new : Machine) : Type 0 where
   pub atoms : new.atoms ≡ old.atoms
   pub names : new.names ≡ old.names
   pub ops : new.ops ≡ old.ops
   pub clauses : new.clauses ≡ old.clauses
+  pub budget : new.world.first.store.pivots ≡ old.world.first.store.pivots
 
 -- for whatever search it stood, it still does
 abbrev pub StillStands : Machine → Machine → Type 0

@@ -2,8 +2,11 @@
 use Rattle.std.specs.Prelude.{◌≡◌, ◌<◌, ℕ, List, length, Some, None, ⊤}
 use Rattle.spec_syntax.specs.Trees.{Tree}
 use Rattle.spec_branch.specs.Branch.{Branch}
+use Rattle.spec_builtins.specs.Terms as builtins
+use Rattle.spec_search.specs.Builtins.{Builtin}
 use Rattle.spec_search.specs.Replies as reply
 use Rattle.spec_search.specs.Replies.{Place, Reply}
+use Rattle.spec_search.specs.Rows.{builtin_reply}
 use Rattle.cq_built.specs.Errors.{error_tree, HasCulprit}
 use Rattle.cq_steps.specs.Worlds.{ReadsAs, Selected, Leads}
 use Rattle.cq_machine.specs.declared.machine.Machine.{Machine}
@@ -31,3 +34,18 @@ CanGo m (Goes k) = k < length m.world.second.now
 CanGo m Back = ⊤
 CanGo m (Raises e) = HasCulprit m.atoms (terms m) e
 CanGo m (Refuses pair) = ⊤
+
+-- ---- rows
+
+-- the row of a built-in predicate, by the goal as it reads
+abbrev pub row_of : Builtin → Place → Tree → Reply
+row_of b p goal = builtin_reply p b (builtins.arguments goal)
+
+-- the goal of the number is selected somewhere, with this continuation behind it
+abbrev pub IsSelectedSomewhere : Machine → ℕ → ℕ → Type 0
+IsSelectedSomewhere m id rest = (height : ℕ) × (p : Place) × (behind : List Branch) × (goal : Tree) × IsSelectedAt m id height rest p behind goal
+
+-- wherever it is selected so, the machine has come to what the goal's row says there
+abbrev pub LeadsTo : Machine → Machine → ℕ → ℕ → ℕ → (Place → Tree → Reply) → Step → Type 0
+LeadsTo old new id height rest row s = (p : Place) (behind : List Branch) (goal : Tree) → IsSelectedAt old id height rest p behind goal
+    → IsStep new s p behind (row p goal)

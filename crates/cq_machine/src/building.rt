@@ -23,7 +23,7 @@ use cq_world::World;
 use spec_machine::Cell;
 use std::alloc::AllocError;
 
-/// A name over terms; the name alone over none.
+/// A name over terms in a world; the name alone over none.
 fn over(world: &mut World, name: Atom, args: &[TermId]) -> Result<TermId, AllocError>
     requires live { All (λ i. i < length world.old.heap.now.terms) args.now }
     ensures live { IfOk result (λ id. id < length world.new.heap.now.terms) }
@@ -41,8 +41,8 @@ fn over(world: &mut World, name: Atom, args: &[TermId]) -> Result<TermId, AllocE
     Ok(id)
 }
 
-/// The same on a machine.
-pub(crate) fn build(m: &mut Machine, name: Atom, args: &[TermId]) -> Result<TermId, AllocError>
+/// The same in the world of a machine.
+pub fn build(m: &mut Machine, name: Atom, args: &[TermId]) -> Result<TermId, AllocError>
     requires sound { IsSound m.old }
     requires name { name < length m.old.atoms }
     requires live { All (λ i. i < length (terms m.old)) args.now }
@@ -57,7 +57,7 @@ pub(crate) fn build(m: &mut Machine, name: Atom, args: &[TermId]) -> Result<Term
 }
 
 /// A goal that a row puts in front.
-pub(crate) fn put(
+pub fn put(
     m: &mut Machine,
     goal: TermId,
     height: usize,

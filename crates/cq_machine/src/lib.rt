@@ -9,9 +9,10 @@ mod names;
 mod output;
 mod step;
 
+pub use building::{build, put};
 pub use control::{call, conjunction, cut, disjunction, if_then, negation};
 pub use derived::{initialization, not_unify, once};
 pub use machine::Machine;
 pub use names::Names;
-pub use output::{declare, write};
+pub use output::{declare, newline, write};
 pub use step::Step;

@@ -1,8 +1,13 @@
 // Names of goals that rows put in front.
 
-use cq_term::Atom;
+ghost use Rattle.std.specs.Prelude.{◌≡◌, Some, slice_get, IfOk};
+ghost use Rattle.cq_ops.specs.Tables.{GainsNames};
+ghost use Rattle.cq_machine.specs.Machines.{AreNames};
 
-/// The names of goals that rows of control put in front.
+use cq_atoms::{Atom, Atoms, numbers_keep_their_texts};
+use std::alloc::AllocError;
+
+/// The names of goals that rows put in front.
 #[derive(Clone, Copy, Debug)]
 pub struct Names {
     /// `true`
@@ -13,4 +18,38 @@ pub struct Names {
     pub equal: Atom,
     /// `once`
     pub once: Atom,
+    /// `{}`
+    pub curly: Atom,
+}
+
+impl Names {
+    /// Finds or gives the numbers of these names.
+    #[tactic(auto, using(crate::proofs::Interned::gains_then))]
+    pub(crate) fn new(atoms: &mut Atoms) -> Result<Names, AllocError>
+        ensures names { IfOk result (AreNames atoms.new) }
+        ensures gains { GainsNames atoms.old atoms.new }
+    {
+        let truth = numbered(atoms, "true")?;
+        let not = numbered(atoms, "\\+")?;
+        let equal = numbered(atoms, "=")?;
+        let once = numbered(atoms, "once")?;
+        let curly = numbered(atoms, "{}")?;
+        Ok(Names {
+            truth,
+            not,
+            equal,
+            once,
+            curly,
+        })
+    }
+}
+
+/// Finds or gives the number of a name.
+fn numbered(atoms: &mut Atoms, text: &str) -> Result<Atom, AllocError>
+    ensures number { IfOk result (λ atom. slice_get atoms.new atom ≡ Some text.now) }
+    ensures gains { GainsNames atoms.old atoms.new }
+{
+    numbers_keep_their_texts();
+    let atom = atoms.intern(text)?;
+    Ok(atom)
 }

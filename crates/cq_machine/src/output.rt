@@ -6,7 +6,8 @@ ghost use Rattle.spec_branch.specs.Branch.{Branch};
 ghost use Rattle.spec_builtins.specs.Terms as builtins;
 ghost use Rattle.spec_search.specs.Changes.{write_row, op_row};
 ghost use Rattle.spec_search.specs.Replies.{Place, outputs, changes};
-ghost use Rattle.spec_search.specs.Rows.{nth};
+ghost use Rattle.spec_search.specs.Builtins.{Newline};
+ghost use Rattle.spec_search.specs.Rows.{nth, builtin_reply};
 ghost use Rattle.cq_built.specs.Errors.{CanBeRaised};
 ghost use Rattle.cq_steps.specs.Calls.{IsRaised};
 ghost use Rattle.cq_term.specs.Meaning.{at};
@@ -39,6 +40,14 @@ pub fn write(m: &Machine, style: Style, goal: TermId) -> Result<Vec<u8>, AllocEr
         1200,
         &[],
     )?;
+    Ok(text)
+}
+
+/// The text that `nl` shows.
+pub fn newline(m: &Machine) -> Result<Vec<u8>, AllocError>
+    ensures row { IfOk result (λ text. (p : Place) (ts : List Tree) → builtin_reply p Newline ts ≡ outputs p text.items) }
+{
+    let text = vec![in m.world.first.heap.alloc(); b'\n']?;
     Ok(text)
 }
 

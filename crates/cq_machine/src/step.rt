@@ -1,8 +1,16 @@
 // What a selected goal comes to.
 
+ghost use Rattle.std.specs.Prelude.{◌≡◌, ◌<◌, ℕ, List, length};
+ghost use Rattle.spec_syntax.specs.Trees.{Tree};
+ghost use Rattle.spec_branch.specs.Branch.{Branch};
+ghost use Rattle.spec_search.specs.Replies.{Place, succeeds_if};
+ghost use Rattle.cq_machine.specs.Stepping.{IsSelectedAt, IsStep, CanGo};
+ghost use Rattle.cq_machine.specs.declared.machine.Machine.{Machine};
+
 use cq_built::BuiltinError;
 use cq_control::Continuation;
 use cq_frac::Pair;
+use cq_steps::goals_succeed_or_fail;
 
 /// What a selected goal comes to.
 #[derive(Clone, Copy, Debug)]
@@ -15,4 +23,16 @@ pub enum Step {
     Raises(BuiltinError),
     /// The arithmetic of the goal refuses two numbers.
     Refuses(Pair),
+}
+
+impl Step {
+    /// A goal that has nothing more to do goes on behind it, as `true`, or it fails, as `fail`.
+    pub fn succeed_if(holds: bool, rest: Continuation) -> Step
+        ensures row { (m : Machine) (goal height : ℕ) (p : Place) (behind : List Branch) (g : Tree)
+            → IsSelectedAt m goal height rest p behind g → IsStep m result p behind (succeeds_if holds p) }
+        ensures goes { (m : Machine) → rest < length m.world.second.now → CanGo m result }
+    {
+        goals_succeed_or_fail();
+        if holds { Step::Goes(rest) } else { Step::Back }
+    }
 }

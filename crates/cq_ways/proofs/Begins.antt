@@ -1,12 +1,10 @@
 -- The branch of an alternative that was taken, and what becomes of it.
-use Rattle.std.proofs.Common.{◌≡◌, ◌<◌, ◌+◌, ◌⊎◌, inl, inr, ℕ, suc, List, [], ◌∷◌, ◌++◌, length, map, Option, None, Some, refl, sym, ap, ap₂, ◌∙◌, subst, arith}
-use Rattle.std.specs.List.{AllByRecursion}
+use Rattle.std.proofs.Common.{◌≡◌, ◌<◌, ◌+◌, inl, inr, ℕ, suc, List, [], ◌∷◌, ◌++◌, length, map, Option, None, Some, refl, sym, ap, ◌∙◌, subst, arith}
 use Rattle.spec_lists.specs.Prefixes.{IsPrefix}
 use Rattle.spec_lists.proofs.Prefixes.{prefix_same, prefix_get_or, prefix_within}
 use Rattle.spec_lists.specs.Texts.{Text}
 use Rattle.spec_terms.specs.Unifier.{Equation}
-use Rattle.spec_builtins.specs.Alternatives.{Alternative}
-use Rattle.spec_branch.specs.Branch.{State, Item, Branch, Pending}
+use Rattle.spec_branch.specs.Branch.{State, Item, Branch}
 use Rattle.spec_search.specs.Database.{Database}
 use Rattle.spec_search.specs.Replies.{Place, alternative_child, with_new, with_equations}
 use Rattle.spec_search.specs.Search.{Search, is_selecting, look_at, Settling}
@@ -31,7 +29,7 @@ use Rattle.cq_term.specs.Trees.{KnowsTerms}
 use Rattle.cq_world.specs.Contents.{Contents}
 use Rattle.spec_machine.specs.declared.cell.Cell.{Cell}
 use Rattle.spec_machine.specs.Cells.{Left, Ways, Value, Stack}
-use Rattle.spec_machine.specs.Standing.{engine, IsContinuation, IsPlace, AreWaiting, IsStanding}
+use Rattle.spec_machine.specs.Standing.{engine, IsPlace, AreWaiting, IsStanding}
 use Rattle.spec_machine.specs.Coming.{Quietly, at_once, Comes, Tells, Stops}
 use Rattle.spec_machine.specs.Coming as coming
 use Rattle.spec_machine.proofs.Kept.{fits_more, items_older}
@@ -39,20 +37,18 @@ use Rattle.spec_machine.proofs.Made.{child_kept, child_pruned}
 use Rattle.spec_machine.proofs.Passed.{way_begun}
 use Rattle.cq_steps.specs.declared.alternatives.Alternatives.{Alternatives}
 use Rattle.cq_steps.specs.declared.alternatives.Alternatives.TheVariants as alternatives
-use Rattle.cq_steps.specs.Choices.{CanBeTried}
 use Rattle.cq_steps.specs.Lists.{KeepsLists}
 use Rattle.cq_steps.specs.Worlds.{IsBranch, term_in, with_heap, Stands, left_at}
 use Rattle.cq_steps.proofs.Grown.{grown}
 use Rattle.cq_steps.proofs.Selected.{continuation_grown}
-use Rattle.cq_begin.specs.Begun.{IsPlacedAs, IsBegun, Prunes}
+use Rattle.cq_begin.specs.Begun.{IsPlacedAs}
 use Rattle.cq_begin.specs.Stops.{FaultStops}
 use Rattle.cq_begin.proofs.Stopping.{refuses, takes}
-use Rattle.cq_ways.specs.Held.{Held, IsOver, StaysOver, KnowsImages, open_of}
+use Rattle.cq_ways.specs.Held.{Held, IsOver, StaysOver, AreNamedByTerms, open_of}
 use Rattle.cq_ways.specs.Newest.{IsLeft}
 use Rattle.cq_ways.specs.Trying.{IsTaken, ComesOver, StopsOver, AtStates, EquationsGo, EquationsPrune, newest_count}
 use Rattle.cq_ways.specs.declared.taking.Way.{Way}
-use Rattle.cq_ways.proofs.Ending.{Open, Known, over_ended}
-use Rattle.cq_ways.proofs.Named.{known_more}
+use Rattle.cq_ways.proofs.Ending.{Open, over_ended}
 use Rattle.cq_ways.proofs.Taken.{over_left, over_built}
 use Rattle.cq_ways.proofs.Stacked.{waits_more, place_more}
 
@@ -115,12 +111,12 @@ module _ (old mid : Held) (w : Way) (t : IsTaken old mid w) where
   abbrev older : Program → Stack Contents
   older v = map (left_at more v) t.older
 
-module _ (old mid : Held) (w : Way) (t : IsTaken old mid w) (v : Program) (o : IsOver v old) where
+module _ (old mid : Held) (w : Way) (t : IsTaken old mid w) (known : AreNamedByTerms (open_of mid)) (v : Program) (o : IsOver v old) where
   open_there : Open v ((t.start, alternatives.Ways t.before w.rest) ∷ t.older)
   open_there = subst (Open v) t.was o.choices
 
-  known_there : Known old.texts ((t.start, alternatives.Ways t.before w.rest) ∷ t.older)
-  known_there = subst (Known old.texts) t.was o.images
+  known_there : AreNamedByTerms ((t.start, alternatives.Ways t.before w.rest) ∷ t.older)
+  known_there = subst AreNamedByTerms t.is known
 
   older_open : Open v t.older
   older_open = open_there.1
@@ -267,8 +263,7 @@ module _ (old mid : Held) (w : Way) (t : IsTaken old mid w) (v : Program) (o : I
         (with_branches [] s, stops_there budgets (cause.Overflow pair) (refuses budgets s p.rest p.state (with_equations (es old mid w t)) behind pair looks (refused pair refl p.state placed.state)))
     fault_stops pivots (Pivots m) refused taken = λ budgets e.
         let k = taken m refl in
-        let same : m ≡ budgets.pivots = k.0 ∙ sym e in
-        (
+        let same : m ≡ budgets.pivots = k.0 ∙ sym e in (
           with_branches [] s,
           subst (λ i. Tells budgets s (Stops (cause.Pivots i)) (with_branches [] s)) (sym same)
               (stops_there budgets (cause.Pivots budgets.pivots)
@@ -278,7 +273,7 @@ module _ (old mid : Held) (w : Way) (t : IsTaken old mid w) (v : Program) (o : I
 
 -- ---- by what the code has done
 
-module _ (old mid : Held) (w : Way) (t : IsTaken old mid w) where
+module _ (old mid : Held) (w : Way) (t : IsTaken old mid w) (known : AreNamedByTerms (open_of mid)) where
   -- the equations as the world reads them
   abbrev read_now : List (Equation Text)
   read_now = equations_of mid.texts mid.now.0.heap.terms w.alternative
@@ -298,13 +293,13 @@ module _ (old mid : Held) (w : Way) (t : IsTaken old mid w) where
         → ComesOver old new (Some k)
     goes_on k goes left v o steps db n s j =
         let g = subst (λ es. EquationsGo mid.texts mid.now now es w.rest k) same_read goes in
-        elim left [ inl e ↦ subst (OverStack v steps db n s k) (sym e) (kept_with old mid w t v o db n s j steps now k g) | inr e ↦ subst (OverStack v steps db n s k) (sym e.0) (kept_last old mid w t v o db n s j steps now k g (e.1 mid.texts t.start.0.heap.terms)) ]
+        elim left [ inl e ↦ subst (OverStack v steps db n s k) (sym e) (kept_with old mid w t known v o db n s j steps now k g) | inr e ↦ subst (OverStack v steps db n s k) (sym e.0) (kept_last old mid w t known v o db n s j steps now k g (e.1 mid.texts t.start.0.heap.terms)) ]
 
     pub comes_back : EquationsPrune mid.texts mid.now.0 read_now → open_choices saved choices ≡ (t.start, alternatives.Ways w.others w.rest) ∷ t.older
         → ComesOver old new None
     comes_back prunes e v o steps db n s j =
         subst (λ xs. Comes (IsBranch mid.texts) (term_in mid.texts) steps (engine db n (map (left_at mid.texts v) xs) now None) s) (sym e)
-        (pruned_with old mid w t v o db n s j steps now (subst (λ es. EquationsPrune mid.texts mid.now.0 es) same_read prunes))
+        (pruned_with old mid w t known v o db n s j steps now (subst (λ es. EquationsPrune mid.texts mid.now.0 es) same_read prunes))
 
     pub comes_again : (lists : List (List Cell)) → KeepsLists mid.now.1 lists → (left : Solutions)
         → ways_left mid.texts mid.now.0.heap.terms left ≡ read_now ∷ ways_left mid.texts mid.now.0.heap.terms w.others
@@ -316,18 +311,19 @@ module _ (old mid : Held) (w : Way) (t : IsTaken old mid w) where
         let is : open_choices saved choices ≡ ((with_heap t.built t.start.0, lists), alternatives.Ways left w.rest) ∷ t.older =
         e ∙ ap (λ (x : Value Contents). ((x.0, lists), alternatives.Ways left w.rest) ∷ t.older) t.now in
         subst (λ xs. Comes (IsBranch mid.texts) (term_in mid.texts) steps (engine db n (map (left_at mid.texts v) xs) now None) s) (sym is)
-        (given_back old mid w t v o db n s j steps now lists kept (ways_left mid.texts t.built.terms left) ways)
+        (given_back old mid w t known v o db n s j steps now lists kept (ways_left mid.texts t.built.terms left) ways)
 
   pub query_stops : (pivots : ℕ) (fault : StoreFault)
       → ((pair : Pair) → fault ≡ Overflow pair → AtStates mid.texts mid.now.0 (λ st. MayRefuse st (with_equations read_now) pair))
       → ((m : ℕ) → fault ≡ Pivots m → (m ≡ pivots) × AtStates mid.texts mid.now.0 (λ st. MayTake st (with_equations read_now) m)) → StopsOver old pivots fault
   query_stops pivots fault refused taken v o db n s j =
-      fault_stops old mid w t v o db n s j pivots fault
+      fault_stops old mid w t known v o db n s j pivots fault
       (λ pair e st b. subst (λ es. MayRefuse st (with_equations es) pair) same_read (refused pair e st b.ready))
       (λ m e. ((taken m e).0, λ st b. subst (λ es. MayTake st (with_equations es) m) same_read ((taken m e).1 st b.ready)))
 
-  -- ---- each choice can be gone on with
+-- ---- each choice can be gone on with
 
+module _ (old mid : Held) (w : Way) (t : IsTaken old mid w) where
   pub over_after : (new : Held) → new.texts ≡ mid.texts → IsLeft t.start w.others w.rest t.older (open_of new) → StaysOver old new
   over_after new named left =
       let longer = subst (λ ts. IsPrefix old.texts ts) (sym named) t.longer in
@@ -336,8 +332,7 @@ module _ (old mid : Held) (w : Way) (t : IsTaken old mid w) where
   pub over_again : (new : Held) → new.texts ≡ mid.texts → (lists : List (List Cell)) (left : Solutions)
       → open_of new ≡ ((mid.now.0, lists), alternatives.Ways left w.rest) ∷ t.older → CanGoOn mid.now.0.heap.terms left → StaysOver old new
   over_again new named lists left e can =
-      over_built old new (subst (λ ts. IsPrefix old.texts ts) (sym named) t.longer) t.start t.before left w.rest t.older t.was (mid.now.0, lists) e
-      (ap (λ (x : Value Contents). x.0.heap.images) t.now ∙ t.images) can
+      over_built old new (subst (λ ts. IsPrefix old.texts ts) (sym named) t.longer) t.start t.before left w.rest t.older t.was (mid.now.0, lists) e can
 
   -- what was taken can be gone on with where the world is now
   pub can_now : CanGoOn mid.now.0.heap.terms w.others

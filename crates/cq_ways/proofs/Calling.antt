@@ -1,12 +1,8 @@
 -- A call of a predicate, by what the code has done.
-use Rattle.std.proofs.Common.{◌≡◌, ◌<◌, ℕ, List, [], ◌∷◌, ◌++◌, length, map, Option, None, Some, refl, sym, ap, ◌∙◌, subst, arith}
-use Rattle.std.specs.Prelude.{All, IfNone, IfSome}
+use Rattle.std.proofs.Common.{◌≡◌, ℕ, List, [], ◌∷◌, length, map, Option, None, Some, sym, ap, ◌∙◌, subst}
+use Rattle.std.specs.Prelude.{IfNone, IfSome}
 use Rattle.std.specs.List.{zip}
-use Rattle.std.proofs.lemmas.List.Elements.{All-append, All-map}
 use Rattle.spec_lists.specs.Prefixes.{IsPrefix}
-use Rattle.spec_lists.specs.Texts.{Text}
-use Rattle.spec_terms.specs.Term.{Var}
-use Rattle.spec_terms.specs.Variables.{counted_from}
 use Rattle.spec_search.specs.Replies.{Reply, offers}
 use Rattle.spec_predicates.specs.Predicates.{Predicate}
 use Rattle.spec_predicates.specs.Calls.{solutions_of}
@@ -17,10 +13,8 @@ use Rattle.cq_linear.specs.StoreValue.{kept}
 use Rattle.cq_predicates.specs.Given.{CanGoOn, Gives}
 use Rattle.cq_predicates.specs.declared.solutions.Solutions.{Solutions}
 use Rattle.cq_term.specs.HeapValue.{Terms}
-use Rattle.cq_term.specs.Meaning.{HeapTerm}
-use Rattle.cq_term.specs.Names.{HasNamesBelow}
+use Rattle.cq_term.specs.Names.{HasNamesOfTerms}
 use Rattle.cq_term.specs.Trees.{trees, KnowsTerms}
-use Rattle.cq_unify.specs.Copied.{unbound_from}
 use Rattle.cq_world.specs.Contents.{Contents, contents_of}
 use Rattle.cq_world.specs.declared.world.World.{World}
 use Rattle.spec_machine.specs.declared.cell.Cell.{Cell}
@@ -28,25 +22,12 @@ use Rattle.spec_machine.specs.Cells.{Value}
 use Rattle.cq_steps.specs.declared.alternatives.Alternatives.{Alternatives}
 use Rattle.cq_steps.specs.declared.alternatives.Alternatives.TheVariants as alternatives
 use Rattle.cq_steps.specs.Worlds.{with_heap, saved_values, Placed, Leads}
-use Rattle.cq_ways.specs.Calls.{AreRead, CallLeads, CallRaises, LeavesWays, row_of}
-use Rattle.cq_ways.specs.Held.{Held, IsOver, StaysOver, KnowsImages, open_of, stack_of}
+use Rattle.cq_ways.specs.Calls.{AreRead, CallLeads, CallRaises, row_of}
+use Rattle.cq_ways.specs.Held.{Held, StaysOver, AreNamedByTerms, open_of, stack_of}
 use Rattle.cq_ways.specs.Newest.{Replaces, Renews}
 use Rattle.cq_ways.proofs.Ending.{over_with}
 use Rattle.cq_ways.proofs.Leading.{ways_lead, row_is, raised}
-use Rattle.cq_ways.proofs.Named.{known_more}
 use Rattle.cq_ways.proofs.Newest.{same_front, same_behind}
-use Rattle.cq_ways.proofs.Stacked.{images_more}
-
--- ---- the names of images
-
-pub unbound_known : (n from count : ℕ) → All (HasNamesBelow n) (unbound_from from count)
-unbound_known n from count = All-map (HasNamesBelow n) (λ v. Var v) (counted_from from count) (λ i d l. tt)
-
-pub images_known : (texts more : List Text) → IsPrefix texts more → (old new : List HeapTerm) (count : ℕ) → KnowsTerms texts old → new ≡ old ++ unbound_from (length old) count
-    → KnowsTerms more new
-images_known texts more longer old new count known e =
-    subst (KnowsTerms more) (sym e)
-    (All-append (HasNamesBelow (length more)) old (unbound_from (length old) count) (known_more texts more longer old known) (unbound_known (length more) (length old) count))
 
 -- ---- the choice that is left
 
@@ -59,13 +40,13 @@ left_open saved more choices after before now content older e r =
 pub left_choices : (choices after older : List Alternatives) (content : Alternatives) → choices ≡ alternatives.Barrier ∷ older → Replaces choices content after → after ≡ content ∷ older
 left_choices choices after older content e r = r.3 ∙ ap (λ xs. content ∷ xs) (same_behind r.0 alternatives.Barrier r.1 older (sym r.2 ∙ e))
 
-module _ (h new : Held) (longer : IsPrefix h.texts new.texts) (known : KnowsImages h.texts h.now.0) (start : Value Contents) (same : start ≡ h.now) (built : Terms)
+module _ (h new : Held) (longer : IsPrefix h.texts new.texts) (known : AreNamedByTerms (open_of h)) (known_now : HasNamesOfTerms h.now.0.heap) (start : Value Contents) (same : start ≡ h.now) (built : Terms)
     (q : Predicate) (args : List ℕ) (rest : ℕ) (s : Solutions)
     (gives : Gives new.texts start.0.heap built (solutions_of q (length start.0.heap.images) (trees h.texts start.0.heap.terms args)) s)
     (terms : IsPrefix start.0.heap.terms built.terms) (names : KnowsTerms new.texts built.terms)
     (opened : open_of new ≡ ((with_heap built start.0, start.1), alternatives.Ways s rest) ∷ open_of h) where
-  known_there : KnowsImages h.texts start.0
-  known_there = subst (λ (x : Value Contents). KnowsImages h.texts x.0) (sym same) known
+  known_there : HasNamesOfTerms start.0.heap
+  known_there = subst (λ (x : Value Contents). HasNamesOfTerms x.0.heap) (sym same) known_now
 
   pub call_leads : CallLeads h new q args rest
   call_leads v p behind ts o placed read =
@@ -73,15 +54,11 @@ module _ (h new : Held) (longer : IsPrefix h.texts new.texts) (known : KnowsImag
       let read_there : AreRead h.texts start.0 p.state args ts = subst (λ (x : Value Contents). AreRead h.texts x.0 p.state args ts) (sym same) read in
       let row = row_is h.texts start.0 q p args ts at_start.0.continuation.state read_there ∙ ap (offers p) gives.offered in
       subst (λ (r : Reply). Leads new.texts (stack_of v new) new.now None p behind r) (sym row)
-      (ways_lead new.texts v h longer o start known_there built gives.count terms gives.images names rest p behind at_start s new.saved new.choices new.now opened)
-
-  pub known_now : KnowsTerms new.texts built.images
-  known_now = images_known h.texts new.texts longer start.0.heap.images built.images gives.count known_there gives.images
+      (ways_lead new.texts v h longer o known start known_there built gives.count terms gives.images names rest p behind at_start s new.saved new.choices new.now opened)
 
   pub stays_over : CanGoOn built.terms s → StaysOver h new
   stays_over live v o =
       over_with h new v o longer (((with_heap built start.0, start.1), alternatives.Ways s rest) ∷ open_of h) opened (live, o.choices)
-      (known_now, images_more h.texts new.texts longer (open_of h) o.images)
 
 pub call_raises : (h : Held) (start : Value Contents) → start ≡ h.now → (q : Predicate) (args : List ℕ) (f : BuiltinFault)
     → Explains h.texts start.0.heap.terms (solutions_of q (length start.0.heap.images) (trees h.texts start.0.heap.terms args)) f → CallRaises h q args f
@@ -110,6 +87,7 @@ pub undone : (r : Option Alternatives) (choices fewer : List Alternatives) (save
     → open_choices saved choices ≡ (now, alternatives.Barrier) ∷ older → (back ≡ now) × (open_choices less fewer ≡ older)
 undone None choices fewer saved less now back older below is none some e = (let h : [] ≡ alternatives.Barrier ∷ below = sym none.0 ∙ is in cc)
 undone (Some x) choices fewer saved less now back older below is none some e =
-    let same = sym some ∙ e in
-    (ap (λ (y : Value Contents × Alternatives). y.0) (same_front (back, x) (now, alternatives.Barrier) (open_choices less fewer) older same),
-    same_behind (back, x) (now, alternatives.Barrier) (open_choices less fewer) older same)
+    let same = sym some ∙ e in (
+      ap (λ (y : Value Contents × Alternatives). y.0) (same_front (back, x) (now, alternatives.Barrier) (open_choices less fewer) older same),
+      same_behind (back, x) (now, alternatives.Barrier) (open_choices less fewer) older same,
+    )

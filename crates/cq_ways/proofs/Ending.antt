@@ -4,7 +4,6 @@ use Rattle.std.specs.Prelude.{OnErr, Ok, Err}
 use Rattle.std.specs.declared.result.Result.{Result}
 use Rattle.std.specs.List.{AllByRecursion}
 use Rattle.spec_lists.specs.Prefixes.{IsPrefix}
-use Rattle.spec_lists.specs.Texts.{Text}
 use Rattle.spec_search.specs.Replies.{alternative_child}
 use Rattle.cq_linear.specs.declared.store.StoreFault.{StoreFault}
 use Rattle.cq_predicates.specs.Given.{over, ways_left}
@@ -20,33 +19,26 @@ use Rattle.cq_steps.specs.Choices.{CanBeTried}
 use Rattle.cq_steps.specs.Worlds.{IsBranch, term_in, left_at}
 use Rattle.cq_steps.proofs.Arrived.{quietly_on}
 use Rattle.cq_begin.proofs.Back.{fault_after}
-use Rattle.cq_ways.specs.Held.{Held, IsOver, StaysOver, KnowsImages, open_of}
+use Rattle.cq_ways.specs.Held.{Held, IsOver, StaysOver, AreNamedByTerms, open_of}
 use Rattle.cq_ways.specs.Trying.{IsSearching, ComesOver, StopsOver}
-use Rattle.cq_ways.proofs.Stacked.{program_more, images_more, waits_more, back_more}
+use Rattle.cq_ways.proofs.Stacked.{program_more, waits_more, back_more}
 
 abbrev pub Open : Program → List (Value Contents × Alternatives) → Type 0
 Open v xs = AllByRecursion (λ (c : Value Contents × Alternatives). CanBeTried v c.0.0.heap.terms c.1) xs
 
-abbrev pub Known : List Text → List (Value Contents × Alternatives) → Type 0
-Known texts xs = AllByRecursion (λ (c : Value Contents × Alternatives). KnowsImages texts c.0.0) xs
-
 -- ---- an engine whose choices are these
 
 pub over_with : (old new : Held) (v : Program) → IsOver v old → IsPrefix old.texts new.texts → (xs : List (Value Contents × Alternatives)) → open_of new ≡ xs → Open v xs
-    → Known new.texts xs → IsOver v new
-over_with old new v o longer xs e can known = record {
-  program = program_more new.texts v old longer o;
-  choices = subst (Open v) (sym e) can;
-  images = subst (Known new.texts) (sym e) known;
-}
+    → IsOver v new
+over_with old new v o longer xs e can = record { program = program_more new.texts v old longer o; choices = subst (Open v) (sym e) can }
 
 -- nothing but names has changed
 pub over_same : (old new : Held) (v : Program) → IsOver v old → IsPrefix old.texts new.texts → open_of new ≡ open_of old → IsOver v new
-over_same old new v o longer e = over_with old new v o longer (open_of old) e o.choices (images_more old.texts new.texts longer (open_of old) o.images)
+over_same old new v o longer e = over_with old new v o longer (open_of old) e o.choices
 
-pub comes_same : (old new : Held) → IsPrefix old.texts new.texts → open_of new ≡ open_of old → ComesOver old new None
-comes_same old new longer e v o steps db n s j =
-    let k = back_more new.texts v old longer o db n s j in
+pub comes_same : (old new : Held) → AreNamedByTerms (open_of old) → IsPrefix old.texts new.texts → open_of new ≡ open_of old → ComesOver old new None
+comes_same old new known longer e v o steps db n s j =
+    let k = back_more new.texts v old longer o known db n s j in
     record {
       reached = s;
       quiet = at_once;
@@ -66,11 +58,10 @@ comes_same old new longer e v o steps db n s j =
 module _ (old new : Held) (longer : IsPrefix old.texts new.texts) (start : Value Contents) (s : Solutions) (rest : ℕ) (older : List (Value Contents × Alternatives))
     (was : open_of old ≡ (start, alternatives.Ways s rest) ∷ older) (is : open_of new ≡ older) where
   pub over_ended : StaysOver old new
-  over_ended v o =
-      over_with old new v o longer older is (subst (Open v) was o.choices).1 (images_more old.texts new.texts longer older (subst (Known old.texts) was o.images).1)
+  over_ended v o = over_with old new v o longer older is (subst (Open v) was o.choices).1
 
-  pub comes_ended : ways_left old.texts start.0.heap.terms s ≡ [] → ComesOver old new None
-  comes_ended none v o steps db n t j =
+  pub comes_ended : AreNamedByTerms (open_of old) → ways_left old.texts start.0.heap.terms s ≡ [] → ComesOver old new None
+  comes_ended known none v o steps db n t j =
       let texts = old.texts in
       let w = subst (λ xs. AreWaiting (IsBranch texts) (term_in texts) (map (left_at texts v) xs) j.behind) was j.waiting in
       let own : w.0 ≡ [] = w.3.1 ∙ ap (λ ws. map (alternative_child w.3.0) (map (over 0) ws)) none in
@@ -85,7 +76,7 @@ module _ (old new : Held) (longer : IsPrefix old.texts new.texts) (start : Value
           branches = j.branches ∙ ap (λ bs. j.first ++ bs) (w.2 ∙ ap (λ bs. bs ++ w.1) own);
           current = j.current;
           waiting = subst (λ xs. AreWaiting (IsBranch new.texts) (term_in new.texts) (map (left_at new.texts v) xs) w.1) (sym is)
-              (waits_more texts new.texts longer v o.program older (subst (Open v) was o.choices).1 (subst (Known texts) was o.images).1 w.1 w.4);
+              (waits_more texts new.texts longer v o.program older (subst (Open v) was o.choices).1 (subst AreNamedByTerms was known).1 w.1 w.4);
         };
       }
 

@@ -1,6 +1,5 @@
 -- A call of a predicate leads an engine to the alternatives that it left.
 use Rattle.std.proofs.Common.{inr, ◌≡◌, ◌<◌, ◌+◌, ℕ, suc, List, [], ◌∷◌, ◌++◌, length, map, Option, None, Some, refl, sym, ap, ap₂, ◌∙◌, subst, arith}
-use Rattle.std.specs.List.{AllZip}
 use Rattle.spec_lists.specs.Prefixes.{IsPrefix}
 use Rattle.spec_lists.specs.Texts.{Text}
 use Rattle.spec_terms.specs.Unifier.{Equation}
@@ -9,9 +8,9 @@ use Rattle.spec_built.specs.Built.{indicator_of}
 use Rattle.spec_builtins.specs.Alternatives.{Solutions, Faults, Offers}
 use Rattle.spec_builtins.specs.Terms.{arguments}
 use Rattle.spec_branch.specs.Branch.{State, Item, Branch, read}
-use Rattle.spec_search.specs.Replies.{Place, Reply, Raises, Makes, Made, child, made, offers, with_new, with_equations, alternative_child}
+use Rattle.spec_search.specs.Replies.{Place, Reply, Makes, Made, child, made, offers, with_new, with_equations, alternative_child}
 use Rattle.spec_search.specs.Search.{Search, look_at, Selecting}
-use Rattle.spec_search.specs.Steps.{Steps, Stepped, Children}
+use Rattle.spec_search.specs.Steps.{Children}
 use Rattle.spec_search.specs.Turns as turn
 use Rattle.spec_search.specs.Turns.{Turn, Wrote, place_of, after_step}
 use Rattle.spec_predicates.specs.Predicates.{Predicate, predicate_named}
@@ -26,23 +25,22 @@ use Rattle.cq_predicates.specs.Given.{over, ways_left, offers as offered}
 use Rattle.cq_predicates.specs.declared.solutions.Solutions as given
 use Rattle.cq_program.specs.Database.{Program}
 use Rattle.cq_term.specs.HeapValue.{Terms}
-use Rattle.cq_term.specs.Trees.{tree, trees, KnowsTerms}
+use Rattle.cq_term.specs.Names.{HasNamesOfTerms}
+use Rattle.cq_term.specs.Trees.{trees, KnowsTerms}
 use Rattle.cq_unify.specs.Copied.{unbound_from}
 use Rattle.cq_world.specs.Contents.{Contents}
-use Rattle.spec_machine.specs.declared.cell.Cell.{Cell}
 use Rattle.spec_machine.specs.Cells.{Ways, Value, Stack}
-use Rattle.spec_machine.specs.Standing.{engine, IsContinuation, IsPlace, AreWaiting}
+use Rattle.spec_machine.specs.Standing.{engine, IsPlace, AreWaiting}
 use Rattle.spec_machine.specs.Coming.{at_once, after, Comes}
 use Rattle.spec_machine.proofs.Kept.{items_read_on}
 use Rattle.cq_steps.specs.declared.alternatives.Alternatives.{Alternatives}
 use Rattle.cq_steps.specs.declared.alternatives.Alternatives.TheVariants as alternatives
 use Rattle.cq_steps.specs.Calls.{IsRaised}
-use Rattle.cq_steps.specs.Selecting.{Becomes}
 use Rattle.cq_steps.specs.Worlds.{IsBranch, term_in, with_heap, Placed, Leads, left_at, stack}
 use Rattle.cq_steps.proofs.Added.{tree_is}
 use Rattle.cq_begin.proofs.Newer.{branch_more, read_still}
 use Rattle.cq_ways.specs.Calls.{AreRead, row_of}
-use Rattle.cq_ways.specs.Held.{Held, IsOver, KnowsImages, open_of, stack_of}
+use Rattle.cq_ways.specs.Held.{Held, IsOver, AreNamedByTerms, open_of, stack_of}
 use Rattle.cq_ways.proofs.Stacked.{waits_more, place_more}
 
 -- ---- alternatives without new variables, in the state with those of the call
@@ -60,7 +58,8 @@ children_same p count (es ∷ ways) = ap₂ (λ b bs. b ∷ bs) (fresh_same p co
 
 -- ---- the call's terms and variables
 
-module _ (more : List Text) (v : Program) (h : Held) (longer : IsPrefix h.texts more) (o : IsOver v h) (start : Value Contents) (known : KnowsImages h.texts start.0)
+module _ (more : List Text) (v : Program) (h : Held) (longer : IsPrefix h.texts more) (o : IsOver v h) (known : AreNamedByTerms (open_of h))
+    (start : Value Contents) (known_there : HasNamesOfTerms start.0.heap)
     (built : Terms) (count : ℕ) (terms : IsPrefix start.0.heap.terms built.terms) (images : built.images ≡ start.0.heap.images ++ unbound_from (length start.0.heap.images) count)
     (names : KnowsTerms more built.terms) where
   abbrev c : Contents
@@ -79,7 +78,7 @@ module _ (more : List Text) (v : Program) (h : Held) (longer : IsPrefix h.texts 
     -- the place in the state with the new variables
     newer_place : IsPlace (IsBranch more) (term_in more) older later rest (newer count p)
     newer_place =
-        let j = place_more h.texts more longer v o.program (open_of h) o.choices o.images behind placed.1 start known rest p placed.0 in
+        let j = place_more h.texts more longer v o.program (open_of h) o.choices known behind placed.1 start known_there rest p placed.0 in
         record {
           continuation = record {
             there = j.continuation.there;
@@ -104,7 +103,7 @@ module _ (more : List Text) (v : Program) (h : Held) (longer : IsPrefix h.texts 
         behind,
         refl,
         (newer count p, children_same p count ways, newer_place),
-        waits_more h.texts more longer v o.program (open_of h) o.choices o.images behind placed.1,
+        waits_more h.texts more longer v o.program (open_of h) o.choices known behind placed.1,
       )
 
       pub ways_lead : (saved : List (Value Contents)) (choices : List Alternatives) (now : Value Contents)

@@ -2,10 +2,10 @@ pub mod Named
 pub mod Reread
 pub mod Stacked
 pub mod Newest
-pub mod Budgets
 pub mod Leading
 pub mod Begins
 pub mod Ending
 pub mod Taken
 pub mod Calling
 pub mod Pairs
+pub mod Marked

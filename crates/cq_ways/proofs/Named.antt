@@ -1,37 +1,26 @@
--- A world whose names are known is the state of the same branches where names are added.
-use Rattle.std.proofs.Common.{◌≡◌, ◌<◌, ℕ, zero, suc, List, [], ◌∷◌, length, Some, refl, sym, ap, ◌∙◌, arith}
-use Rattle.std.specs.Prelude.{slice_get}
+-- A world is the state of the same branches where names are added.
+use Rattle.std.proofs.Common.{◌≡◌, ◌<◌, ℕ, List, [], ◌∷◌, length, Some, refl, sym, ◌∙◌}
 use Rattle.std.specs.List.{AllZip}
-use Rattle.std.specs.Option.{option_map}
 use Rattle.std.proofs.lemmas.List.Elements.{All-weaker}
 use Rattle.spec_lists.specs.Prefixes.{IsPrefix}
 use Rattle.spec_lists.proofs.Prefixes.{prefix_same, prefix_length}
 use Rattle.spec_lists.specs.Texts.{Text}
-use Rattle.spec_terms.specs.Term.{Subst, named}
+use Rattle.spec_terms.specs.Term.{Subst}
 use Rattle.spec_syntax.specs.Trees.{Tree}
 use Rattle.spec_branch.specs.Branch.{State, Asleep, Frozen, Sleeper}
-use Rattle.cq_atoms.specs.Texts.{text_of}
 use Rattle.cq_attr.specs.Attributes.{Waiting}
 use Rattle.cq_built.proofs.Trees.{tree_kept}
 use Rattle.cq_frac.specs.declared.VarId.{VarId}
 use Rattle.cq_term.specs.HeapValue.{Terms}
 use Rattle.cq_term.specs.Meaning.{HeapTerm}
-use Rattle.cq_term.specs.Names.{HasNamesBelow}
+use Rattle.cq_term.specs.Names.{HasNamesBelow, HasNamesOfTerms}
 use Rattle.cq_term.specs.Trees.{tree, KnowsTerms}
 use Rattle.cq_term.proofs.Known.{names_more}
 use Rattle.cq_world.specs.Contents.{Contents}
 use Rattle.cq_world.specs.Standing.{Stands, AreRead, IsConstraint, IsSleeper, constraints, goals}
 use Rattle.cq_steps.specs.Worlds.{IsBranch, term_in}
 use Rattle.cq_steps.proofs.Added.{tree_is}
-use Rattle.cq_steps.proofs.Reading.{read_live}
-use Rattle.cq_ways.specs.Held.{KnowsImages}
-
--- a term that is there is read
-pub tree_read : (texts : List Text) (ts : List HeapTerm) (id : ℕ) (t : Tree) → id < length ts → tree texts ts id ≡ t
-    → option_map (named (text_of texts)) (slice_get ts id) ≡ Some t
-tree_read texts [] id t l e = absurd (omega (arith, l))
-tree_read texts (x ∷ ts) zero t l e = ap (λ (u : Tree). Some u) e
-tree_read texts (x ∷ ts) (suc id) t l e = tree_read texts ts id t (omega (arith, l)) e
+use Rattle.cq_steps.proofs.Reading.{read_live, tree_read}
 
 module _ (texts more : List Text) (longer : IsPrefix texts more) where
   pub tree_named : (ts : List HeapTerm) → KnowsTerms texts ts → (id : ℕ) → id < length ts → tree more ts id ≡ tree texts ts id
@@ -73,23 +62,25 @@ module _ (texts more : List Text) (longer : IsPrefix texts more) where
     sleepers_named r s (k ∷ ks) [] z = absurd z
     sleepers_named r s (k ∷ ks) (y ∷ zs) z = (sleeper_named r s k y z.0, sleepers_named r s ks zs z.1)
 
-  stands_named : (c : Contents) → KnowsImages texts c → (r s : Subst Text) (st : State) → Stands texts c r s st → Stands more c r s st
-  stands_named c images r s st j = record {
-    bindings = record {
-      inside = λ v l. j.bindings.inside v l ∙ sym (tree_named c.heap.images images v l);
-      outside = j.bindings.outside;
-    };
-    linear = j.linear;
-    delayed = constraints_named c.heap j.names images r s (constraints c.attrs) st.delayed j.delayed;
-    numeric = j.numeric;
-    sleepers = sleepers_named c.heap j.names images r s (goals c.attrs) st.sleepers j.sleepers;
-    fresh = j.fresh;
-    names = known_more c.heap.terms j.names;
-  }
+  stands_named : (c : Contents) → HasNamesOfTerms c.heap → (r s : Subst Text) (st : State) → Stands texts c r s st → Stands more c r s st
+  stands_named c known r s st j =
+      let images = known (length texts) j.names in
+      record {
+        bindings = record {
+          inside = λ v l. j.bindings.inside v l ∙ sym (tree_named c.heap.images images v l);
+          outside = j.bindings.outside;
+        };
+        linear = j.linear;
+        delayed = constraints_named c.heap j.names images r s (constraints c.attrs) st.delayed j.delayed;
+        numeric = j.numeric;
+        sleepers = sleepers_named c.heap j.names images r s (goals c.attrs) st.sleepers j.sleepers;
+        fresh = j.fresh;
+        names = known_more c.heap.terms j.names;
+      }
 
-  pub branch_named : (c : Contents) (st : State) → KnowsImages texts c → IsBranch texts c st → IsBranch more c st
-  branch_named c st images b = record {
-    ready = record { stands = stands_named c images st.bindings st.bindings st b.ready.stands; rests = b.ready.rests };
+  pub branch_named : (c : Contents) (st : State) → HasNamesOfTerms c.heap → IsBranch texts c st → IsBranch more c st
+  branch_named c st known b = record {
+    ready = record { stands = stands_named c known st.bindings st.bindings st b.ready.stands; rests = b.ready.rests };
     fixed = b.fixed;
     fixes = b.fixes;
   }

@@ -1,17 +1,15 @@
 -- What choices stand for, where their worlds are read in another way in which what was a state or a term stays one.
-use Rattle.std.proofs.Common.{◌≡◌, ℕ, zero, suc, ◌-◌, List, [], ◌∷◌, length, drop, Option, None, Some, sym, subst}
+use Rattle.std.proofs.Common.{◌≡◌, ℕ, zero, suc, ◌-◌, List, [], ◌∷◌, length, drop, Option, None, Some, subst}
 use Rattle.std.specs.List.{AllByRecursion}
 use Rattle.spec_syntax.specs.Trees.{Tree}
 use Rattle.spec_branch.specs.Branch.{State, Item, Branch}
-use Rattle.spec_search.specs.Database.{Database}
 use Rattle.spec_search.specs.Replies.{Place}
-use Rattle.spec_search.specs.Search.{Search}
 use Rattle.cq_control.specs.Items.{items_at}
 use Rattle.cq_control.specs.Open.{last}
 use Rattle.spec_machine.specs.declared.cell.Cell.{Cell}
 use Rattle.spec_machine.specs.declared.cell.Cell.TheVariants.{Goal, Call, CutTo, CutFail, CatchEnd, Collect}
 use Rattle.spec_machine.specs.Cells.{Left, One, Clauses, Ways, Barrier, Gathers, Value, Stack, top_world, world_at}
-use Rattle.spec_machine.specs.Standing.{engine, AreItems, IsContinuation, IsPlace, AreBranches, AreWaiting, IsCurrent, IsStanding}
+use Rattle.spec_machine.specs.Standing.{AreItems, IsContinuation, IsPlace, AreBranches, AreWaiting, IsCurrent}
 
 module _ {W : Type 0} (IsState IsOther : W → State → Type 0) (term other : W → ℕ → Option Tree) (Known : W → Type 0)
     (states : (w : W) (st : State) → Known w → IsState w st → IsOther w st)

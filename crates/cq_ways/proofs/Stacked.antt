@@ -1,21 +1,23 @@
 -- Choices leave the same to try where names are added.
-use Rattle.std.proofs.Common.{◌≡◌, ◌<◌, ◌≤◌, ◌⊎◌, inl, inr, ℕ, List, [], ◌∷◌, ◌++◌, length, map, Option, None, Some, refl, sym, ap, ap₂, ◌∙◌, subst, arith}
+use Rattle.std.proofs.Common.{◌≡◌, ◌<◌, ◌≤◌, inl, inr, ℕ, List, [], ◌∷◌, length, map, Option, None, Some, refl, sym, ap, ap₂, subst, arith}
 use Rattle.std.specs.Prelude.{All}
 use Rattle.std.specs.List.{AllByRecursion}
 use Rattle.std.proofs.lemmas.Bool.{cases_lt}
 use Rattle.std.proofs.lemmas.List.{get_or_past}
-use Rattle.std.proofs.lemmas.List.Elements.{All-weaker}
+use Rattle.std.proofs.lemmas.List.Elements.{All-weaker, All-head, All-tail}
 use Rattle.spec_lists.specs.Prefixes.{IsPrefix}
 use Rattle.spec_lists.proofs.Prefixes.{prefix_get_or, prefix_same, prefix_length}
 use Rattle.spec_lists.specs.Texts.{Text}
-use Rattle.spec_terms.specs.Term.{Name, named}
-use Rattle.spec_branch.specs.Branch.{State, Branch}
+use Rattle.spec_terms.specs.Term.{Name}
+use Rattle.spec_operators.specs.Operators.{Ops}
+use Rattle.spec_built.specs.Built.{indicator}
+use Rattle.spec_branch.specs.Branch.{Branch}
 use Rattle.spec_search.specs.Database.{Database}
 use Rattle.spec_search.specs.Replies.{Place}
 use Rattle.spec_search.specs.Search.{Search}
 use Rattle.cq_atoms.specs.Texts.{text_of}
 use Rattle.cq_built.proofs.Trees.{named_alike}
-use Rattle.cq_clauses.specs.Database.{database, now_of}
+use Rattle.cq_clauses.specs.Database.{ProcedureNow, database, now_of}
 use Rattle.cq_clauses.specs.Selected.{key_at, matching}
 use Rattle.cq_clauses.specs.Snapshots.{seen, seen_part}
 use Rattle.cq_clauses.specs.Walks.{left, left_ahead, IsWalk}
@@ -24,27 +26,30 @@ use Rattle.cq_clauses.specs.declared.procedures.Part.{Part}
 use Rattle.cq_clauses.specs.declared.procedures.Procedure.{Procedure}
 use Rattle.cq_clauses.specs.declared.procedures.Snapshot.{Snapshot}
 use Rattle.cq_clauses.specs.declared.walk.Walk.{Walk}
-use Rattle.cq_control.specs.Open.{open_choices}
 use Rattle.cq_predicates.specs.Given.{CanGoOn, over, ways_left}
 use Rattle.cq_predicates.specs.declared.solutions.Solutions.{Solutions}
 use Rattle.cq_predicates.proofs.Staying.{ways_kept}
-use Rattle.cq_program.specs.Database.{Program, IsProgram, IsCounted, IsKnown, as_clause, as_parts, content_at}
+use Rattle.cq_program.specs.Database.{Program, IsProgram, IsCounted, IsKnown, as_clause, as_parts, as_procedure, as_kind, as_database, content_at}
 use Rattle.cq_program.specs.Keys.{key_of}
 use Rattle.cq_stored.specs.StoredValue.{ClauseValue}
 use Rattle.cq_term.specs.HeapValue.{HeapValue, Terms}
-use Rattle.cq_term.specs.Meaning.{HeapTerm, blank}
+use Rattle.cq_term.specs.Meaning.{blank}
+use Rattle.cq_term.specs.Names.{HasNamesOfTerms}
 use Rattle.cq_term.specs.Trees.{KnowsTerms}
 use Rattle.cq_term.proofs.Known.{names_more}
 use Rattle.cq_world.specs.Contents.{Contents}
-use Rattle.spec_machine.specs.Cells.{Left, One, Clauses, Ways, Value, Stack}
+use Rattle.spec_machine.specs.Cells.{Left, Clauses, Ways, Value, Stack}
 use Rattle.spec_machine.specs.Standing.{engine, AreBranches, AreWaiting, IsPlace, IsStanding}
 use Rattle.cq_steps.specs.declared.alternatives.Alternatives.{Alternatives}
 use Rattle.cq_steps.specs.declared.alternatives.Alternatives.TheVariants as alternatives
-use Rattle.cq_steps.specs.Choices.{AreOpen, CanBeTried}
+use Rattle.cq_steps.specs.Choices.{CanBeTried}
 use Rattle.cq_steps.specs.Worlds.{IsBranch, term_in, left_of, left_at, stack, Stands}
-use Rattle.cq_ways.specs.Held.{Held, IsOver, KnowsImages, AllKnowImages, open_of}
+use Rattle.cq_ways.specs.Held.{Held, IsOver, AreNamedByTerms, open_of}
 use Rattle.cq_ways.proofs.Named.{branch_named, term_named, known_more}
 use Rattle.cq_ways.proofs.Reread.{waiting_known, place_known, current_known}
+
+abbrev IsNamed : Contents → Type 0
+IsNamed c = HasNamesOfTerms c.heap
 
 module _ (texts more : List Text) (longer : IsPrefix texts more) where
   text_kept : (a : ℕ) → a < length texts → text_of more a ≡ text_of texts a
@@ -103,6 +108,35 @@ module _ (texts more : List Text) (longer : IsPrefix texts more) where
     clauses_any some [] = refl
     clauses_any some (n ∷ ns) = ap₂ (λ c cs. c ∷ cs) (clause_any some n) (clauses_any some ns)
 
+    -- ---- the database that the clauses make
+
+    clauses_there : (ns : List ℕ) → All (λ n. n < length v.contents) ns → SameClauses ns
+    clauses_there [] known = refl
+    clauses_there (n ∷ ns) known =
+        ap₂ (λ c cs. c ∷ cs) (clause_there n (All-head (λ m. m < length v.contents) n ns known)) (clauses_there ns (All-tail (λ m. m < length v.contents) n ns known))
+
+    procedure_same : (p : ProcedureNow) → IsKnown (length texts) (length v.contents) p → as_procedure more v.contents p ≡ as_procedure texts v.contents p
+    procedure_same p k = λ i. record {
+      indicator = indicator (text_kept p.pred.name k.name i) p.pred.arity;
+      kind = as_kind p.kind;
+      clauses = clauses_there p.clauses k.numbers i;
+    }
+
+    abbrev AreKnown : List ProcedureNow → Type 0
+    AreKnown ps = All (IsKnown (length texts) (length v.contents)) ps
+
+    procedures_same : (ps : List ProcedureNow) → AreKnown ps → map (as_procedure more v.contents) ps ≡ map (as_procedure texts v.contents) ps
+    procedures_same [] known = refl
+    procedures_same (p ∷ ps) known =
+        let each = IsKnown (length texts) (length v.contents) in
+        ap₂ (λ x xs. x ∷ xs) (procedure_same p (All-head each p ps known)) (procedures_same ps (All-tail each p ps known))
+
+    pub database_same : (ops : Ops) → as_database more ops v ≡ as_database texts ops v
+    database_same ops =
+        ap (λ ps. record { procedures = ps; operators = ops; next_clause = length v.contents }) (procedures_same (database v.procedures) whole.procedures)
+
+    -- ---- what choices leave
+
     -- without names there are no procedures
     no_procedures : length texts ≤ 0 → (ps : List Procedure) → All (IsKnown (length texts) (length v.contents)) (database ps) → ps ≡ []
     no_procedures none [] known = refl
@@ -148,9 +182,6 @@ module _ (texts more : List Text) (longer : IsPrefix texts more) where
     abbrev Open : List (Value Contents × Alternatives) → Type 0
     Open xs = AllByRecursion (λ (c : Value Contents × Alternatives). CanBeTried v c.0.0.heap.terms c.1) xs
 
-    abbrev Known : List (Value Contents × Alternatives) → Type 0
-    Known xs = AllByRecursion (λ (c : Value Contents × Alternatives). KnowsImages texts c.0.0) xs
-
     pub same_choices : (xs : List (Value Contents × Alternatives)) → Open xs → (bs : List Branch)
         → AreWaiting (IsBranch texts) (term_in texts) (map (left_at texts v) xs) bs → map (left_at more v) xs ≡ map (left_at texts v) xs
     same_choices [] can bs waiting = refl
@@ -160,38 +191,32 @@ module _ (texts more : List Text) (longer : IsPrefix texts more) where
         λ i. (x.0, first i) ∷ older i
 
     -- the worlds of the choices as the definitions see them
-    pub stack_known : (xs : List (Value Contents × Alternatives)) → Known xs
-        → AllByRecursion (λ (c : Value Contents × Left). KnowsImages texts c.0.0) (map (left_at texts v) xs)
+    pub stack_known : (xs : List (Value Contents × Alternatives)) → AreNamedByTerms xs
+        → AllByRecursion (λ (c : Value Contents × Left). IsNamed c.0.0) (map (left_at texts v) xs)
     stack_known [] k = k
     stack_known (x ∷ xs) k = (k.0, stack_known xs k.1)
 
     -- the same branches wait over them
-    pub waits_still : (xs : List (Value Contents × Alternatives)) → Known xs → (bs : List Branch)
+    pub waits_still : (xs : List (Value Contents × Alternatives)) → AreNamedByTerms xs → (bs : List Branch)
         → AreWaiting (IsBranch texts) (term_in texts) (map (left_at texts v) xs) bs → AreWaiting (IsBranch more) (term_in more) (map (left_at texts v) xs) bs
     waits_still xs known bs waiting =
-        waiting_known (IsBranch texts) (IsBranch more) (term_in texts) (term_in more) (KnowsImages texts) (branch_named texts more longer) (term_named texts more longer)
+        waiting_known (IsBranch texts) (IsBranch more) (term_in texts) (term_in more) IsNamed (branch_named texts more longer) (term_named texts more longer)
         (map (left_at texts v) xs) (stack_known xs known) bs waiting
 
-    pub waits_more : (xs : List (Value Contents × Alternatives)) → Open xs → Known xs → (bs : List Branch)
+    pub waits_more : (xs : List (Value Contents × Alternatives)) → Open xs → AreNamedByTerms xs → (bs : List Branch)
         → AreWaiting (IsBranch texts) (term_in texts) (map (left_at texts v) xs) bs → AreWaiting (IsBranch more) (term_in more) (map (left_at more v) xs) bs
     waits_more xs can known bs waiting =
         subst (λ (x : Stack Contents). AreWaiting (IsBranch more) (term_in more) x bs) (sym (same_choices xs can bs waiting)) (waits_still xs known bs waiting)
 
-    pub place_more : (xs : List (Value Contents × Alternatives)) → Open xs → Known xs → (bs : List Branch)
-        → AreWaiting (IsBranch texts) (term_in texts) (map (left_at texts v) xs) bs → (w : Value Contents) → KnowsImages texts w.0 → (k : ℕ) (p : Place)
+    pub place_more : (xs : List (Value Contents × Alternatives)) → Open xs → AreNamedByTerms xs → (bs : List Branch)
+        → AreWaiting (IsBranch texts) (term_in texts) (map (left_at texts v) xs) bs → (w : Value Contents) → IsNamed w.0 → (k : ℕ) (p : Place)
         → IsPlace (IsBranch texts) (term_in texts) (map (left_at texts v) xs) w k p → IsPlace (IsBranch more) (term_in more) (map (left_at more v) xs) w k p
     place_more xs can known bs waiting w images k p i =
         subst (λ (x : Stack Contents). IsPlace (IsBranch more) (term_in more) x w k p) (sym (same_choices xs can bs waiting))
-        (place_known (IsBranch texts) (IsBranch more) (term_in texts) (term_in more) (KnowsImages texts) (branch_named texts more longer) (term_named texts more longer)
+        (place_known (IsBranch texts) (IsBranch more) (term_in texts) (term_in more) IsNamed (branch_named texts more longer) (term_named texts more longer)
         (map (left_at texts v) xs) (stack_known xs known) w images k p i)
 
 -- ---- an engine
-
-pub images_more : (texts more : List Text) → IsPrefix texts more → (xs : List (Value Contents × Alternatives))
-    → AllByRecursion (λ (c : Value Contents × Alternatives). KnowsImages texts c.0.0) xs
-    → AllByRecursion (λ (c : Value Contents × Alternatives). KnowsImages more c.0.0) xs
-images_more texts more longer [] k = k
-images_more texts more longer (x ∷ xs) k = (known_more texts more longer x.0.0.heap.images k.0, images_more texts more longer xs k.1)
 
 module _ (more : List Text) (v : Program) (h : Held) (longer : IsPrefix h.texts more) (o : IsOver v h) where
   as_many : length h.texts ≤ length more
@@ -209,26 +234,26 @@ module _ (more : List Text) (v : Program) (h : Held) (longer : IsPrefix h.texts 
   }
 
   pub over_more : IsOver v (record h { texts = more })
-  over_more = record { program = program_more; choices = o.choices; images = images_more h.texts more longer (open_of h) o.images }
+  over_more = record { program = program_more; choices = o.choices }
 
   pub same_stack : (behind : List Branch) → AreWaiting (IsBranch h.texts) (term_in h.texts) (stack h.texts v h.saved h.choices) behind
       → stack more v h.saved h.choices ≡ stack h.texts v h.saved h.choices
   same_stack behind waiting = same_choices h.texts more longer v o.program (open_of h) o.choices behind waiting
 
-  pub back_more : (db : Database) (n : ℕ) (s : Search) → Stands h.texts v db n h.saved h.choices h.now None s → Stands more v db n h.saved h.choices h.now None s
-  back_more db n s j = record {
+  pub back_more : AreNamedByTerms (open_of h) → (db : Database) (n : ℕ) (s : Search) → Stands h.texts v db n h.saved h.choices h.now None s → Stands more v db n h.saved h.choices h.now None s
+  back_more known db n s j = record {
     database = j.database;
     selected = j.selected;
     first = j.first;
     behind = j.behind;
     branches = j.branches;
     current = j.current;
-    waiting = waits_more h.texts more longer v o.program (open_of h) o.choices o.images j.behind j.waiting;
+    waiting = waits_more h.texts more longer v o.program (open_of h) o.choices known j.behind j.waiting;
   }
 
-  pub stands_more : KnowsImages h.texts h.now.0 → (db : Database) (n : ℕ) (current : Option ℕ) (s : Search) → Stands h.texts v db n h.saved h.choices h.now current s
+  pub stands_more : AreNamedByTerms (open_of h) → IsNamed h.now.0 → (db : Database) (n : ℕ) (current : Option ℕ) (s : Search) → Stands h.texts v db n h.saved h.choices h.now current s
       → Stands more v db n h.saved h.choices h.now current s
-  stands_more known db n current s j =
+  stands_more known known_now db n current s j =
       subst (λ (x : Stack Contents). IsStanding (IsBranch more) (term_in more) (engine db n x h.now current) s) (sym (same_stack j.behind j.waiting))
       (record {
         database = j.database;
@@ -236,8 +261,8 @@ module _ (more : List Text) (v : Program) (h : Held) (longer : IsPrefix h.texts 
         first = j.first;
         behind = j.behind;
         branches = j.branches;
-        current = current_known (IsBranch h.texts) (IsBranch more) (term_in h.texts) (term_in more) (KnowsImages h.texts) (branch_named h.texts more longer)
-            (term_named h.texts more longer) (stack h.texts v h.saved h.choices) (stack_known h.texts more longer v o.program (open_of h) o.images) h.now known
+        current = current_known (IsBranch h.texts) (IsBranch more) (term_in h.texts) (term_in more) IsNamed (branch_named h.texts more longer)
+            (term_named h.texts more longer) (stack h.texts v h.saved h.choices) (stack_known h.texts more longer v o.program (open_of h) known) h.now known_now
             current j.first j.current;
-        waiting = waits_still h.texts more longer v o.program (open_of h) o.images j.behind j.waiting;
+        waiting = waits_still h.texts more longer v o.program (open_of h) known j.behind j.waiting;
       })

@@ -1,11 +1,9 @@
 -- The choice of a predicate's alternatives that an engine comes back to.
-use Rattle.std.proofs.Common.{◌≡◌, ◌<◌, ℕ, List, [], ◌∷◌, length, map, None, Some, refl, sym, ap, ◌∙◌, subst}
-use Rattle.std.specs.List.{AllByRecursion}
+use Rattle.std.proofs.Common.{◌≡◌, ◌<◌, ℕ, List, ◌∷◌, length, map, subst}
 use Rattle.spec_lists.specs.Prefixes.{IsPrefix}
 use Rattle.spec_lists.specs.Texts.{Text}
-use Rattle.spec_branch.specs.Branch.{State}
 use Rattle.spec_search.specs.Replies.{Place}
-use Rattle.cq_predicates.specs.Given.{CanGoOn, ways_left}
+use Rattle.cq_predicates.specs.Given.{CanGoOn}
 use Rattle.cq_predicates.specs.declared.solutions.Solutions.{Solutions}
 use Rattle.cq_program.specs.Database.{Program}
 use Rattle.cq_term.specs.HeapValue.{Terms}
@@ -18,11 +16,10 @@ use Rattle.cq_steps.specs.declared.alternatives.Alternatives.{Alternatives}
 use Rattle.cq_steps.specs.declared.alternatives.Alternatives.TheVariants as alternatives
 use Rattle.cq_steps.specs.Worlds.{IsBranch, term_in, with_heap, left_at}
 use Rattle.cq_steps.proofs.Grown.{branch_grown}
-use Rattle.cq_ways.specs.Held.{Held, IsOver, StaysOver, KnowsImages, open_of}
+use Rattle.cq_ways.specs.Held.{Held, StaysOver, AreNamedByTerms, open_of}
 use Rattle.cq_ways.specs.Trying.{IsSearching}
-use Rattle.cq_ways.proofs.Ending.{Open, Known, over_with}
+use Rattle.cq_ways.proofs.Ending.{Open, over_with}
 use Rattle.cq_ways.proofs.Named.{branch_named}
-use Rattle.cq_ways.proofs.Stacked.{images_more}
 
 module _ (h : Held) (works : IsSearching h) (start : Value Contents) (s : Solutions) (rest : ℕ) (older : List (Value Contents × Alternatives))
     (was : open_of h ≡ (start, alternatives.Ways s rest) ∷ older) where
@@ -31,9 +28,6 @@ module _ (h : Held) (works : IsSearching h) (start : Value Contents) (s : Soluti
 
   pub can_there : CanGoOn start.0.heap.terms s
   can_there = (subst (Open v) was works.1.choices).0
-
-  images_there : KnowsImages h.texts start.0
-  images_there = (subst (Known h.texts) was works.1.images).0
 
   waiting : AreWaiting (IsBranch h.texts) (term_in h.texts) (map (left_at h.texts v) ((start, alternatives.Ways s rest) ∷ older)) works.5.behind
   waiting = subst (λ xs. AreWaiting (IsBranch h.texts) (term_in h.texts) (map (left_at h.texts v) xs) works.5.behind) was works.5.waiting
@@ -51,30 +45,26 @@ module _ (h : Held) (works : IsSearching h) (start : Value Contents) (s : Soluti
   rest_there = place.continuation.there
 
   -- a world to which terms and names were added may be settled
-  pub ready_then : (more : List Text) → IsPrefix h.texts more → (built : Terms) → IsPrefix start.0.heap.terms built.terms → built.images ≡ start.0.heap.images
+  pub ready_then : AreNamedByTerms (open_of h) → (more : List Text) → IsPrefix h.texts more → (built : Terms) → IsPrefix start.0.heap.terms built.terms → built.images ≡ start.0.heap.images
       → KnowsTerms more built.terms → IsReady more (with_heap built start.0)
-  ready_then more longer built terms images names =
-      (p.state, (branch_grown more start.0 built terms images names p.state (branch_named h.texts more longer start.0 p.state images_there place.continuation.state)).ready)
+  ready_then known more longer built terms images names =
+      (p.state, (branch_grown more start.0 built terms images names p.state (branch_named h.texts more longer start.0 p.state (subst AreNamedByTerms was known).0 place.continuation.state)).ready)
 
 -- while the alternative is taken, the choice stands for no branch
 pub over_barrier : (old new : Held) → IsPrefix old.texts new.texts → (start : Value Contents) (s : Solutions) (rest : ℕ) (older : List (Value Contents × Alternatives))
     → open_of old ≡ (start, alternatives.Ways s rest) ∷ older → open_of new ≡ (start, alternatives.Barrier) ∷ older → StaysOver old new
 over_barrier old new longer start s rest older was is v o =
     over_with old new v o longer ((start, alternatives.Barrier) ∷ older) is (tt, (subst (Open v) was o.choices).1)
-    (images_more old.texts new.texts longer ((start, alternatives.Ways s rest) ∷ older) (subst (Known old.texts) was o.images))
 
 -- the choice has other alternatives left
 pub over_left : (old new : Held) → IsPrefix old.texts new.texts → (start : Value Contents) (s left : Solutions) (rest : ℕ) (older : List (Value Contents × Alternatives))
     → open_of old ≡ (start, alternatives.Ways s rest) ∷ older → open_of new ≡ (start, alternatives.Ways left rest) ∷ older → CanGoOn start.0.heap.terms left → StaysOver old new
 over_left old new longer start s left rest older was is can v o =
     over_with old new v o longer ((start, alternatives.Ways left rest) ∷ older) is (can, (subst (Open v) was o.choices).1)
-    (images_more old.texts new.texts longer ((start, alternatives.Ways s rest) ∷ older) (subst (Known old.texts) was o.images))
 
 -- it goes back to a world to which terms were added
 pub over_built : (old new : Held) → IsPrefix old.texts new.texts → (start : Value Contents) (s left : Solutions) (rest : ℕ) (older : List (Value Contents × Alternatives))
     → open_of old ≡ (start, alternatives.Ways s rest) ∷ older → (now : Value Contents) → open_of new ≡ (now, alternatives.Ways left rest) ∷ older
-    → now.0.heap.images ≡ start.0.heap.images → CanGoOn now.0.heap.terms left → StaysOver old new
-over_built old new longer start s left rest older was now is images can v o =
-    let known = images_more old.texts new.texts longer ((start, alternatives.Ways s rest) ∷ older) (subst (Known old.texts) was o.images) in
+    → CanGoOn now.0.heap.terms left → StaysOver old new
+over_built old new longer start s left rest older was now is can v o =
     over_with old new v o longer ((now, alternatives.Ways left rest) ∷ older) is (can, (subst (Open v) was o.choices).1)
-    (subst (λ ts. KnowsTerms new.texts ts) (sym images) known.0, known.1)

@@ -5,7 +5,7 @@ use Rattle.spec_lists.specs.Texts.{Text}
 use Rattle.cq_control.specs.Items.{ContinuationsValue}
 use Rattle.cq_control.specs.Open.{AreMarked, open_choices}
 use Rattle.cq_program.specs.Database.{Program, IsProgram}
-use Rattle.cq_term.specs.Trees.{KnowsTerms}
+use Rattle.cq_term.specs.Names.{HasNamesOfTerms}
 use Rattle.cq_world.specs.Contents.{Contents}
 use Rattle.cq_world.specs.declared.world.World.{World}
 use Rattle.spec_machine.specs.declared.cell.Cell.{Cell}
@@ -37,19 +37,14 @@ stack_of v h = stack h.texts v h.saved h.choices
 abbrev pub HasMarks : Held → Type 0
 HasMarks h = AreMarked h.saved h.choices
 
--- each name in the images of the world's variables has a text
-abbrev pub KnowsImages : List Text → Contents → Type 0
-KnowsImages texts c = KnowsTerms texts c.heap.images
+-- in the world of each choice variables have no names but those of terms
+abbrev pub AreNamedByTerms : List (Value Contents × Alternatives) → Type 0
+AreNamedByTerms xs = AllByRecursion (λ (c : Value Contents × Alternatives). HasNamesOfTerms c.0.0.heap) xs
 
--- so it is in the world of each choice
-abbrev pub AllKnowImages : List Text → List (Value Contents) → List Alternatives → Type 0
-AllKnowImages texts saved choices = AllByRecursion (λ (c : Value Contents × Alternatives). KnowsImages texts c.0.0) (open_choices saved choices)
-
--- the names are those of the program, and each choice can be gone on with and knows its names
+-- the names are those of the program, and each choice can be gone on with
 pub record IsOver (v : Program) (h : Held) : Type 0 where
   pub program : IsProgram h.texts v
   pub choices : AreOpen v h.saved h.choices
-  pub images : AllKnowImages h.texts h.saved h.choices
 
 -- nothing has changed but names that may have been added
 pub record IsAsBefore (old new : Held) : Type 0 where

@@ -7,7 +7,6 @@ use Rattle.spec_branch.specs.Branch.{State, Item}
 use Rattle.spec_search.specs.Database.{Database}
 use Rattle.spec_search.specs.Replies.{with_equations}
 use Rattle.spec_search.specs.Search.{Search}
-use Rattle.cq_built.specs.declared.alternatives.Alternative.{Alternative}
 use Rattle.cq_builtin.specs.Over.{equations_of, AreLive}
 use Rattle.cq_linear.specs.declared.store.StoreFault.{StoreFault}
 use Rattle.cq_predicates.specs.Given.{CanGoOn, HasNoneBack, ways_left}

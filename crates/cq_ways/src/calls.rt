@@ -6,10 +6,10 @@ ghost use Rattle.spec_predicates.specs.Predicates.{arity};
 ghost use Rattle.cq_built.specs.Errors.{CanBeRaised};
 ghost use Rattle.cq_predicates.specs.Names.{as_predicate};
 ghost use Rattle.cq_term.specs.Trees.{KnowsTerms};
-ghost use Rattle.cq_world.specs.Worlds.{now_of};
 ghost use Rattle.cq_ways.specs.Calls.{CallLeads, CallRaises, LeavesWays};
-ghost use Rattle.cq_ways.specs.Held.{held, HasMarks, IsAsBefore, KnowsImages, StaysOver};
+ghost use Rattle.cq_ways.specs.Held.{held, HasMarks, IsAsBefore, StaysOver};
 
+use crate::laws::names_are_of_terms;
 use crate::marks::renew;
 use cq_atoms::Atoms;
 use cq_built::BuiltinFault;
@@ -32,7 +32,6 @@ pub fn call_predicate(
     requires arity { length args.now ≡ arity (as_predicate predicate) }
     requires live { All (λ id. id < length world.old.first.heap.now.terms) args.now }
     requires names { KnowsTerms atoms.old world.old.first.heap.now.terms }
-    requires images { KnowsImages atoms.old (now_of world.old.first) }
     requires marked { HasMarks (held atoms.old world.old.first world.old.second choices.old) }
     ensures row { OnOk result (CallLeads (held atoms.old world.old.first world.old.second choices.old)
         (held atoms.new world.new.first world.new.second choices.new) (as_predicate predicate) args.now rest) }
@@ -44,12 +43,13 @@ pub fn call_predicate(
         (held atoms.new world.new.first world.new.second choices.new)) }
     ensures over { StaysOver (held atoms.old world.old.first world.old.second choices.old)
         (held atoms.new world.new.first world.new.second choices.new) }
-    ensures images { KnowsImages atoms.new (now_of world.new.first) }
+    ensures names { KnowsTerms atoms.new world.new.first.heap.now.terms }
     ensures longer { IsPrefix atoms.old atoms.new }
     ensures lists { world.new.second.now ≡ world.old.second.now }
     ensures budget { world.new.first.store.pivots ≡ world.old.first.store.pivots }
     ensures marked { HasMarks (held atoms.new world.new.first world.new.second choices.new) }
 {
+    names_are_of_terms(world, choices);
     choices.push(world, Alternatives::Barrier)?;
     match call(&mut world.first.heap, atoms, predicate, args) {
         Ok(solutions) => {

@@ -10,22 +10,39 @@ ghost use Rattle.spec_predicates.specs.Predicates.{Predicate, predicate_named};
 ghost use Rattle.spec_search.specs.Database.{Database};
 ghost use Rattle.spec_search.specs.Search.{Search, look_at, Selecting};
 ghost use Rattle.spec_search.specs.Turns.{place_of};
+ghost use Rattle.spec_operators.specs.Operators.{Ops};
 ghost use Rattle.spec_syntax.specs.Trees.{Tree};
 ghost use Rattle.spec_machine.specs.Cells.{Value, Stack};
 ghost use Rattle.spec_machine.specs.Coming.{Comes};
 ghost use Rattle.spec_machine.specs.Standing.{engine, AreWaiting};
-ghost use Rattle.cq_program.specs.Database.{Program, IsProgram};
+ghost use Rattle.cq_program.specs.Database.{Program, IsProgram, as_database};
+ghost use Rattle.cq_control.specs.Open.{open_choices};
+ghost use Rattle.cq_term.specs.Names.{HasNamesOfTerms};
 ghost use Rattle.cq_world.specs.Contents.{Contents};
 ghost use Rattle.cq_steps.specs.declared.alternatives.Alternatives.{Alternatives};
 ghost use Rattle.cq_steps.specs.Choices.{AreOpen};
-ghost use Rattle.cq_steps.specs.Worlds.{IsBranch, term_in, stack, Leads, Stands};
+ghost use Rattle.cq_steps.specs.Worlds.{IsBranch, term_in, saved_values, stack, Leads, Stands};
 ghost use Rattle.cq_ways.specs.Calls.{row_of};
-ghost use Rattle.cq_ways.specs.Held.{Held, KnowsImages, IsOver};
+ghost use Rattle.cq_ways.specs.Held.{Held, AreNamedByTerms, IsOver, open_of};
 
-/// Names that are added change nothing of what an engine stands for. Choices leave the same to try, and a world whose names
-/// are known goes on to be the state of its branches and to read its terms.
+use cq_control::Choices;
+use cq_steps::{Alternatives, Searching};
+
+/// The variables of a world have no names but those of its terms, now and where its choices go back to.
+pub fn names_are_of_terms(world: &Searching, choices: &Choices<Alternatives>)
+    ensures now { HasNamesOfTerms world.now.first.heap.now }
+    ensures choices { AreNamedByTerms (open_choices (saved_values world.now.first world.now.second.saved) choices.now) }
+{
+    world.first.heap.names_are_of_terms();
+    let _height = choices.height();
+}
+
+/// Names that are added change nothing of a program and of what an engine stands for. Choices leave the same to try, and a world whose variables
+/// have no names but those of its terms goes on to be the state of its branches and to read its terms.
 pub fn names_may_be_added()
-    ensures branch { (texts more : List Text) → IsPrefix texts more → (c : Contents) (st : State) → KnowsImages texts c → IsBranch texts c st
+    ensures database { (texts more : List Text) → IsPrefix texts more → (v : Program) → IsProgram texts v → (ops : Ops)
+        → as_database more ops v ≡ as_database texts ops v }
+    ensures branch { (texts more : List Text) → IsPrefix texts more → (c : Contents) (st : State) → HasNamesOfTerms c.heap → IsBranch texts c st
         → IsBranch more c st }
     ensures term { (texts more : List Text) → IsPrefix texts more → (c : Contents) (st : State) → IsBranch texts c st
         → (id : ℕ) (t : Tree) → term_in texts c id ≡ Some t → term_in more c id ≡ Some t }
@@ -33,10 +50,10 @@ pub fn names_may_be_added()
         → (saved : List (Value Contents)) (choices : List Alternatives) → AreOpen v saved choices
         → (behind : List Branch) → AreWaiting (IsBranch texts) (term_in texts) (stack texts v saved choices) behind
         → stack more v saved choices ≡ stack texts v saved choices }
-    ensures stands { (more : List Text) (v : Program) (h : Held) → IsPrefix h.texts more → IsOver v h → KnowsImages h.texts h.now.0
-        → (db : Database) (n : ℕ) (current : Option ℕ) (s : Search)
+    ensures stands { (more : List Text) (v : Program) (h : Held) → IsPrefix h.texts more → IsOver v h
+        → AreNamedByTerms (open_of h) → HasNamesOfTerms h.now.0.heap → (db : Database) (n : ℕ) (current : Option ℕ) (s : Search)
         → Stands h.texts v db n h.saved h.choices h.now current s → Stands more v db n h.saved h.choices h.now current s }
-    ensures back { (more : List Text) (v : Program) (h : Held) → IsPrefix h.texts more → IsOver v h
+    ensures back { (more : List Text) (v : Program) (h : Held) → IsPrefix h.texts more → IsOver v h → AreNamedByTerms (open_of h)
         → (db : Database) (n : ℕ) (s : Search)
         → Stands h.texts v db n h.saved h.choices h.now None s → Stands more v db n h.saved h.choices h.now None s }
     ensures over { (more : List Text) (v : Program) (h : Held) → IsPrefix h.texts more → IsOver v h → IsOver v (record h { texts = more }) }

@@ -8,5 +8,5 @@ mod taking;
 mod trying;
 
 pub use calls::call_predicate;
-pub use laws::{calls_lead, names_may_be_added};
+pub use laws::{calls_lead, names_are_of_terms, names_may_be_added};
 pub use trying::try_ways;

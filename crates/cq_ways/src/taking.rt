@@ -11,6 +11,7 @@ ghost use Rattle.cq_ways.specs.Held.{held, HasMarks, StaysOver};
 ghost use Rattle.cq_ways.specs.Newest.{Takes};
 ghost use Rattle.cq_ways.specs.Trying.{IsWays, IsSearching, ComesOver, IsTaken};
 
+use crate::laws::names_are_of_terms;
 use crate::marks::replace_newest;
 use cq_atoms::{Atom, Atoms};
 use cq_built::Alternative;
@@ -75,6 +76,7 @@ pub(crate) fn take_way(
     ensures budget { world.new.first.store.pivots ≡ world.old.first.store.pivots }
     ensures marked { HasMarks (held atoms.new world.new.first world.new.second choices.new) }
 {
+    names_are_of_terms(world, choices);
     let (mut others, rest) = take_ways(world, choices);
     let next = others.next(&mut world.first.heap, atoms);
     let _text = atoms.text(known);

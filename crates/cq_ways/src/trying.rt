@@ -1,6 +1,6 @@
 // The alternatives of a predicate are tried.
 
-ghost use Rattle.std.specs.Prelude.{◌≡◌, ◌<◌, ℕ, length, None, IfOk, IfErr, IfNone, OnErr};
+ghost use Rattle.std.specs.Prelude.{◌≡◌, ◌<◌, ◌≤◌, ℕ, length, None, IfOk, IfErr, IfSome, IfNone, OnErr};
 ghost use Rattle.spec_lists.specs.Prefixes.{IsPrefix};
 ghost use Rattle.spec_search.specs.Replies.{with_equations};
 ghost use Rattle.cq_atoms.specs.Texts.{AreDifferent};
@@ -19,6 +19,7 @@ ghost use Rattle.cq_ways.specs.Held.{held, HasMarks, StaysOver};
 ghost use Rattle.cq_ways.specs.Newest.{PutsBack};
 ghost use Rattle.cq_ways.specs.Trying.{IsWays, IsSearching, ComesOver, StopsOver, AfterTaking, AtStates, EquationsGo, EquationsPrune, HasFewer};
 
+use crate::laws::names_are_of_terms;
 use crate::marks::{renew, replace_newest};
 use crate::taking::{Way, take_way};
 use cq_atoms::{Atom, Atoms};
@@ -78,6 +79,7 @@ fn put_back(
     requires some { 0 < length choices.old }
     ensures open { PutsBack (saved_values world.old.first world.old.second.saved) choices.old others rest
         (saved_values world.new.first world.new.second.saved) choices.new }
+    ensures no_more { length choices.new ≤ length choices.old }
     ensures now { now_of world.new.first ≡ now_of world.old.first }
     ensures lists { world.new.second.now ≡ world.old.second.now }
     ensures marked { AreMarked (saved_values world.new.first world.new.second.saved) choices.new }
@@ -115,6 +117,7 @@ fn begin_way(
     ensures fewer { IfOk result (λ b. IfPruned b (AfterTaking (held atoms.now world.old.first world.old.second choices.old) way
         (λ before. HasFewer before (held atoms.now world.new.first world.new.second choices.new)))) }
     ensures same { IfOk result (λ b. IfPruned b (length choices.new ≡ length choices.old)) }
+    ensures no_more { IfOk result (λ b. IfGoes b (λ k. length choices.new ≤ length choices.old)) }
     ensures budget { world.new.first.store.pivots ≡ world.old.first.store.pivots }
     ensures marked { HasMarks (held atoms.now world.new.first world.new.second choices.new) }
 {
@@ -123,6 +126,7 @@ fn begin_way(
         mut others,
         rest,
     } = way;
+    names_are_of_terms(world, choices);
     match begin_pairs(
         &mut world.first,
         &mut world.second,
@@ -151,6 +155,7 @@ fn begin_way(
 /// A name that is known.
 fn some_name(atoms: &mut Atoms, text: &str) -> Result<Atom, AllocError>
     ensures known { IfOk result (λ name. name < length atoms.new) }
+    ensures different { AreDifferent atoms.new }
     ensures longer { IsPrefix atoms.old atoms.new }
 {
     let name = atoms.intern(text)?;
@@ -176,10 +181,13 @@ pub fn try_ways(
     ensures over { StaysOver (held atoms.old world.old.first world.old.second choices.old)
         (held atoms.new world.new.first world.new.second choices.new) }
     ensures gone { IfOk result (λ o. IfNone o (length choices.new < length choices.old)) }
+    ensures no_more { IfOk result (λ o. IfSome o (λ k. length choices.new ≤ length choices.old)) }
+    ensures different { AreDifferent atoms.new }
     ensures longer { IsPrefix atoms.old atoms.new }
     ensures budget { world.new.first.store.pivots ≡ world.old.first.store.pivots }
     ensures marked { HasMarks (held atoms.new world.new.first world.new.second choices.new) }
 {
+    names_are_of_terms(world, choices);
     let known = some_name(atoms, "[]")?;
     'ways: loop {
         let Some(way) = take_way(world, choices, atoms, known)? else {

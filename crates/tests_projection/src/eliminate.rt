@@ -141,7 +141,7 @@ fn are_inequalities(rows: &[Constraint]) -> bool
 }
 
 /// The rows, where they can hold.
-fn holding(alloc: Global, given: &[Given]) -> Result<Option<Vec<Constraint>>, StoreFault>
+pub(crate) fn holding(alloc: Global, given: &[Given]) -> Result<Option<Vec<Constraint>>, StoreFault>
     ensures { IfOk result (λ found. IfSome found (λ rows. Solvable rows.items)) }
 {
     let rows = rows(alloc, given)?;

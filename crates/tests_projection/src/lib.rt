@@ -8,4 +8,6 @@ mod fourier;
 #[cfg(test)]
 mod given;
 #[cfg(test)]
+mod keep;
+#[cfg(test)]
 mod sift;

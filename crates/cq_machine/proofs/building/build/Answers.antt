@@ -12,7 +12,7 @@ returns-clause-more c =
     let lists = m.world.second.now in
     let g = c.over.ensures.grows m.atoms c.requires.name in
     record {
-      program = record { atoms = refl; names = refl; ops = refl; clauses = refl };
+      program = record { atoms = refl; names = refl; ops = refl; clauses = refl; budget = ap (λ w. w.pivots) c.over.ensures.rest };
       lists = refl;
       choices = refl;
       saved = ap (λ l. zip l m.world.second.saved) c.over.ensures.saved;

@@ -12,6 +12,7 @@ returns-clause-sound c =
       different = c.requires.sound.different;
       names = subst (λ w. KnowsTerms m.atoms w.heap.terms) (sym c.cut.ensures.world) c.requires.sound.names;
       program = c.requires.sound.program;
+      operators_named = c.requires.sound.operators_named;
       marked = c.cut.ensures.marked;
       untried = older_open m.clauses (saved m) _ m.choices _ c.requires.sound.untried c.cut.ensures.older;
     }

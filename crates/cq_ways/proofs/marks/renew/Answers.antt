@@ -1,4 +1,4 @@
-use Rattle.std.proofs.Common.{◌≡◌, ◌-◌, ◌++◌, ◌∷◌, [], suc, length, ap, ◌∙◌, arith, take}
+use Rattle.std.proofs.Common.{◌≡◌, ◌-◌, ◌++◌, ◌∷◌, [], suc, length, ◌∙◌, arith}
 use Rattle.cq_steps.specs.Worlds.{value, saved_values}
 use Rattle.cq_ways.proofs.Newest.{renews}
 use Rattle.cq_ways.proofs.marks.renew.Goals as goal

@@ -1,15 +1,12 @@
-use Rattle.std.proofs.Common.{◌≡◌, ◌<◌, ◌-◌, ◌∷◌, [], ◌∙◌, ℕ, suc, List, Option, length, sym, ap, arith}
+use Rattle.std.proofs.Common.{◌≡◌, ◌-◌, ◌∷◌, ◌∙◌, suc, Option, length, sym, ap, arith}
 use Rattle.cq_built.specs.declared.alternatives.Alternative.{Alternative}
-use Rattle.cq_control.specs.Open.{AreMarked, open_choices}
 use Rattle.cq_predicates.specs.Given.{then_these, ways_left}
 use Rattle.cq_predicates.specs.declared.solutions.Solutions.{Solutions}
-use Rattle.cq_world.specs.Worlds.{now_of}
 use Rattle.spec_machine.specs.Cells.{Value}
 use Rattle.cq_world.specs.Contents.{Contents}
-use Rattle.cq_steps.specs.declared.alternatives.Alternatives.{Alternatives}
 use Rattle.cq_steps.specs.declared.alternatives.Alternatives.TheVariants.{Barrier, Ways}
-use Rattle.cq_steps.specs.Worlds.{value, saved_values, with_heap}
-use Rattle.cq_ways.specs.Held.{Held, held, open_of}
+use Rattle.cq_steps.specs.Worlds.{value, with_heap}
+use Rattle.cq_ways.specs.Held.{Held, held}
 use Rattle.cq_ways.proofs.Calling.{saved_with, open_with, marked_with}
 use Rattle.cq_ways.proofs.Ending.{comes_ended, over_ended, comes_same, over_same}
 use Rattle.cq_ways.proofs.Newest.{older_ones, other_newest}
@@ -29,7 +26,7 @@ returns-in-Some-clause-ready c =
     let is = open_with c.next-next.new.heap.saved c.take_ways-others.new.world.first c.take_ways-others.new.world.second.saved c.take_ways-others.new.choices ((start, Barrier) ∷ older)
     c.next-next.ensures.adds.saved c.take_ways-others.ensures.takes.2 in
     let now : Value Contents = (with_heap c.next-next.new.heap.now start.0, start.1) in
-    ready_then old c.requires.works start before rest older was c.next-next.new.atoms longer c.next-next.new.heap.now c.next-next.ensures.adds.terms c.next-next.ensures.images
+    ready_then old c.requires.works start before rest older was c.names_are_of_terms.ensures.choices c.next-next.new.atoms longer c.next-next.new.heap.now c.next-next.ensures.adds.terms c.next-next.ensures.images
     (c.next-next.ensures.adds.names (names_there old c.requires.works start before rest older was))
 
 pub returns-in-Some-clause-over : goal.returns-in-Some-clause-over
@@ -68,7 +65,7 @@ returns-in-None-clause-gone c =
     ∙ older_ones saved c.take_ways-others.new.choices n (start, Barrier) older
     (marked_with c.next-next.new.heap.saved c.take_ways-others.new.world.first c.take_ways-others.new.world.second.saved c.take_ways-others.new.choices c.next-next.ensures.adds.saved
     c.take_ways-others.ensures.marked) long is in
-    comes_ended old end longer start before rest older was gone
+    comes_ended old end longer start before rest older was gone c.names_are_of_terms.ensures.choices
     (c.in-Ok.ensures.next
     ∙ ap (λ (o : Option Alternative). then_these c.next-next.new.atoms c.next-next.new.heap.now.terms o (ways_left c.next-next.new.atoms c.next-next.new.heap.now.terms c.next-next.new.self)) c.in-None.is)
 
@@ -110,7 +107,7 @@ returns-in-Err-clause-err c =
     let left : Held = record { texts = c.next-next.new.atoms; saved = saved; choices = c.replace_newest.new.choices; now = now } in
     let same = other_newest saved c.take_ways-others.new.choices c.replace_newest.new.choices (Ways c.next-next.new.self rest) (start, Barrier) older c.replace_newest.ensures is
     ∙ ap (λ (s : Solutions). (start, Ways s rest) ∷ older) c.in-Err.ensures.same ∙ sym was in
-    comes_same old left longer same
+    comes_same old left c.names_are_of_terms.ensures.choices longer same
 
 pub returns-in-Err-clause-over : goal.returns-in-Err-clause-over
 returns-in-Err-clause-over c =

@@ -1,20 +1,17 @@
-use Rattle.std.proofs.Common.{◌≡◌, ◌∷◌, [], ◌∙◌, ℕ, List, refl, sym, ap, subst, inl}
+use Rattle.std.proofs.Common.{◌≡◌, ◌∷◌, ◌∙◌, List, refl, sym, ap, subst, inl}
 use Rattle.std.specs.Prelude.{Err}
 use Rattle.std.specs.List.{zip}
 use Rattle.cq_builtin.specs.Over.{equations_of}
 use Rattle.cq_control.specs.Open.{open_choices}
-use Rattle.cq_linear.specs.declared.store.StoreFault.TheVariants.{Overflow, Pivots}
 use Rattle.cq_world.specs.Contents.{Contents}
-use Rattle.cq_world.specs.Worlds.{now_of}
 use Rattle.spec_machine.specs.Cells.{Value}
-use Rattle.cq_steps.specs.declared.alternatives.Alternatives.{Alternatives}
 use Rattle.cq_steps.specs.declared.alternatives.Alternatives.TheVariants.{Barrier, Ways}
 use Rattle.cq_steps.specs.Worlds.{value, saved_values}
 use Rattle.cq_ways.specs.Held.{Held, held, open_of}
-use Rattle.cq_ways.specs.Trying.{IsTaken, EquationsGo}
+use Rattle.cq_ways.specs.Trying.{EquationsGo}
 use Rattle.cq_ways.proofs.Begins.{goes_on, comes_back, comes_again, query_stops, over_after, over_again, can_now, live_now, fewer_left}
 use Rattle.cq_ways.proofs.Calling.{left_open}
-use Rattle.cq_ways.proofs.Newest.{other_newest, same_length}
+use Rattle.cq_ways.proofs.Newest.{other_newest}
 use Rattle.cq_ways.proofs.trying.begin_way.Goals as goal
 
 pub returns-in-Goes-clause-comes : goal.returns-in-Goes-clause-comes
@@ -26,7 +23,7 @@ returns-in-Goes-clause-comes c = λ before t.
     let marks = ap (λ (x : List (Value Contents)). open_choices x c.args.choices.now) same ∙ t.is in
     let kept = held c.args.atoms.now c.put_back.new.world.first c.put_back.new.world.second c.put_back.new.choices in
     let kept_now : kept.now ≡ then_ = λ i. (c.put_back.ensures.now i, c.put_back.ensures.lists i) in
-    goes_on before mid c.args.way t kept.saved kept.choices kept.now c.in-Goes.first
+    goes_on before mid c.args.way t c.names_are_of_terms.ensures.choices kept.saved kept.choices kept.now c.in-Goes.first
     (subst (λ (x : Value Contents). EquationsGo c.args.atoms.now mid.now x (equations_of c.args.atoms.now c.args.world.now.first.heap.now.terms c.args.way.alternative) c.args.way.rest
     c.in-Goes.first) (sym kept_now) (rw c.in-Goes.is at c.in-Ok.ensures.goes))
     (c.put_back.ensures.open t.start t.older marks)
@@ -51,7 +48,7 @@ returns-in-Ok-clause-comes c = λ before t.
     let marks = ap (λ (x : List (Value Contents)). open_choices x c.args.choices.now) same ∙ t.is in
     let pruned : Held = record { texts = c.args.atoms.now; saved = saved; choices = c.replace_newest.new.choices; now = then_ } in
     let left = other_newest saved c.args.choices.now c.replace_newest.new.choices (Ways c.args.way.others c.args.way.rest) (t.start, Barrier) t.older c.replace_newest.ensures marks in
-    comes_back before mid c.args.way t pruned.saved pruned.choices pruned.now (rw c.in-Pruned.is at c.in-Ok.ensures.pruned) left
+    comes_back before mid c.args.way t c.names_are_of_terms.ensures.choices pruned.saved pruned.choices pruned.now (rw c.in-Pruned.is at c.in-Ok.ensures.pruned) left
 
 pub returns-in-Ok-clause-over : goal.returns-in-Ok-clause-over
 returns-in-Ok-clause-over c = λ before t.
@@ -88,7 +85,7 @@ returns-clause-comes_err c = λ before t.
     let failed = held c.args.atoms.now c.renew.new.world.first c.renew.new.world.second c.renew.new.choices in
     let again = left_open saved failed.saved c.args.choices.now failed.choices t.start then_ (Ways c.give_back.new.self c.args.way.rest) t.older marks c.renew.ensures.open
     ∙ ap (λ (x : Contents). ((x, c.begin_pairs.new.lists.now), Ways c.give_back.new.self c.args.way.rest) ∷ t.older) c.in-Err.ensures.err in
-    comes_again before mid c.args.way t failed.saved failed.choices failed.now c.begin_pairs.new.lists.now c.begin_pairs.ensures.keeps c.give_back.new.self
+    comes_again before mid c.args.way t c.names_are_of_terms.ensures.choices failed.saved failed.choices failed.now c.begin_pairs.new.lists.now c.begin_pairs.ensures.keeps c.give_back.new.self
     (c.give_back.ensures.first c.args.atoms.now c.args.world.now.first.heap.now.terms) again
 
 pub returns-clause-stops : goal.returns-clause-stops
@@ -98,7 +95,7 @@ returns-clause-stops c = λ before t.
     let then_ = value c.begin_pairs.new.world c.begin_pairs.new.lists.now in
     let same : saved ≡ mid.saved = λ i. zip (c.begin_pairs.ensures.saved i) (c.begin_pairs.ensures.lists i) in
     let marks = ap (λ (x : List (Value Contents)). open_choices x c.args.choices.now) same ∙ t.is in
-    query_stops before mid c.args.way t c.args.world.now.first.store.pivots c.in-Err.fault (λ pair e. c.begin_pairs.ensures.overflow pair (c.in-Err.is ∙ ap Err e))
+    query_stops before mid c.args.way t c.names_are_of_terms.ensures.choices c.args.world.now.first.store.pivots c.in-Err.fault (λ pair e. c.begin_pairs.ensures.overflow pair (c.in-Err.is ∙ ap Err e))
     (λ n e. c.begin_pairs.ensures.pivots n (c.in-Err.is ∙ ap Err e))
 
 pub returns-clause-over : goal.returns-clause-over

@@ -1,4 +1,4 @@
-use Rattle.std.proofs.Common.{◌∙◌, refl, subst, Some, None}
+use Rattle.std.proofs.Common.{◌∙◌, refl, subst, Some, None, arith}
 use Rattle.spec_lists.proofs.Prefixes.{prefix_both, prefix_within}
 use Rattle.cq_ways.specs.Held.{held}
 use Rattle.cq_ways.specs.Trying.{IsTaken, StopsOver}
@@ -9,7 +9,7 @@ pub returns-in_err-known-clause-comes_err : goal.returns-in_err-known-clause-com
 returns-in_err-known-clause-comes_err c =
     let start = held c.args.atoms.now c.args.world.now.first c.args.world.now.second c.args.choices.now in
     let first = held c.some_name.new.atoms c.args.world.now.first c.args.world.now.second c.args.choices.now in
-    on_err c.from_residual.result (comes_same start first c.some_name.ensures.longer refl)
+    on_err c.from_residual.result (comes_same start first c.names_are_of_terms.ensures.choices c.some_name.ensures.longer refl)
 
 pub ways-init : goal.ways-init
 ways-init c =
@@ -19,9 +19,9 @@ ways-init c =
     record {
       marked = c.requires.marked;
       newest = c.requires.newest;
-      works = works_then start first (λ v o. over_same start first v o longer refl) (comes_same start first longer refl) c.requires.works;
+      works = works_then start first (λ v o. over_same start first v o longer refl) (comes_same start first c.names_are_of_terms.ensures.choices longer refl) c.requires.works;
       known = c.in_ok-known.ensures.known;
-      comes = comes_same start first longer refl;
+      comes = comes_same start first c.names_are_of_terms.ensures.choices longer refl;
       over = λ v o. over_same start first v o longer refl;
       longer = longer;
       same = refl;
@@ -139,3 +139,9 @@ returns-in_err-known-clause-over c =
     let start = held c.args.atoms.now c.args.world.now.first c.args.world.now.second c.args.choices.now in
     let first = held c.some_name.new.atoms c.args.world.now.first c.args.world.now.second c.args.choices.now in
     λ v o. over_same start first v o c.some_name.ensures.longer refl
+
+pub returns-in-Goes-clause-no_more : goal.returns-in-Goes-clause-no_more
+returns-in-Goes-clause-no_more c =
+    let fewer = rw c.in-Goes.is at c.in-Ok.ensures.no_more in
+    let same = rw c.in-Some.is at c.in_ok-way.ensures.same in
+    omega (arith, fewer, same, c.ways.invariant.same)

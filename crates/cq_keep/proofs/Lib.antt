@@ -1,0 +1,4 @@
+pub mod Listing
+pub mod Parted
+pub mod Strengthening
+pub mod Keeping

@@ -1,0 +1,42 @@
+//! One pass over rows beside others, in a store of its own.
+#![tactic(auto)]
+
+ghost use Rattle.std.specs.Prelude.{◌≡◌, ℕ, [], ◌++◌, IfOk};
+ghost use Rattle.spec_linear.specs.Solution.{Solvable};
+ghost use Rattle.spec_projection.specs.Lists.{AreForms};
+ghost use Rattle.spec_projection.specs.Irredundant.{Sifts};
+ghost use Rattle.cq_frac.specs.declared.Pair.{Pair};
+ghost use Rattle.cq_linear.specs.declared.store.StoreFault.TheVariants.{Overflow, Pivots};
+ghost use Rattle.cq_pass.specs.Passing.{RefusesPass, SpendsPass};
+
+use cq_form::Constraint;
+use cq_linear::store::StoreFault;
+use cq_reduce::telling::holding;
+use cq_sift::sift;
+use std::alloc::Global;
+
+/// Each row's form lists its products in order, as every form does.
+pub fn see_forms(rows: &[Constraint])
+    ensures { AreForms rows.now }
+{
+    'rows: for row in rows {
+        let _products = row.form.entries();
+    }
+}
+
+/// What a pass over the rows leaves: in their order, each that follows from those kept, those behind it and those beside is
+/// dropped. No call of a store makes more than `pivots` exchanges.
+pub fn passed(
+    alloc: Global,
+    beside: &[Constraint],
+    rows: &[Constraint],
+    pivots: u64,
+) -> Result<Vec<Constraint>, StoreFault>
+    requires solvable { Solvable (beside.now ++ rows.now) }
+    ensures left { IfOk result (λ left. Sifts beside.now [] rows.now left.items) }
+    ensures overflow { (pair : Pair) → result ≡ Err (Overflow pair) → RefusesPass beside.now rows.now pair }
+    ensures pivots { (n : ℕ) → result ≡ Err (Pivots n) → (n ≡ pivots) × SpendsPass beside.now rows.now n }
+{
+    let mut store = holding(alloc, beside, pivots)?;
+    sift(alloc, &mut store, rows)
+}
