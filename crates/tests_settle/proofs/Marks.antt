@@ -28,7 +28,6 @@ asked_next texts v w h a t s p r = record {
 
 module _ (texts : List Text) (v m w : World) (n : ℕ) (e : n ≡ length (saved_of v)) (grown : saved_of m ≡ saved_of v ++ now_of v ∷ [])
     (cut : saved_of w ≡ take n (saved_of m)) where
-
   -- the marks are those before
   cut_back : saved_of w ≡ saved_of v
   cut_back = cut ∙ (ap (take n) grown ∙ (ap (λ (k : ℕ). take k (saved_of v ++ now_of v ∷ [])) e ∙ take-append_seam (saved_of v) (now_of v ∷ [])))

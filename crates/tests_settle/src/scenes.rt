@@ -21,7 +21,10 @@ use std::test::Fail;
 pub(crate) type Scene = (&'static str, &'static [&'static str]);
 
 static SCENES: [Scene; 33] = [
-    ("{X*Y=6, X+Y=Z}, X=2.", &[" yes yes | 0 | {2*3=6,2+3=5},2=2"]),
+    (
+        "{X*Y=6, X+Y=Z}, X=2.",
+        &[" yes yes | 0 | {2*3=6,2+3=5},2=2"],
+    ),
     ("{X*Y=6}.", &[" yes | 1 | {X*Y=6}"]),
     (
         "freeze(X,g), {X+Y=3}, {Y=1}.",
@@ -44,10 +47,7 @@ static SCENES: [Scene; 33] = [
         &[" yes yes yes g | 0 | {3*2=6,2=2},freeze(6,g),{3=3}"],
     ),
     // nothing of a telling that has no solution stays
-    (
-        "{X*Y=6}, X=0, X=3.",
-        &[" yes no yes | 0 | {3*2=6},3=0,3=3"],
-    ),
+    ("{X*Y=6}, X=0, X=3.", &[" yes no yes | 0 | {3*2=6},3=0,3=3"]),
     // a numeric variable is no atom and no compound
     (
         "{X>0}, X=a, X=f(Y).",
@@ -77,10 +77,7 @@ static SCENES: [Scene; 33] = [
         &[" yes yes no | 0 | {X>0},{X=Y},{Y<0}"],
     ),
     // what is made equal is fixed by inequalities
-    (
-        "{X>=1, Y=<1}, X=Y.",
-        &[" yes yes | 0 | {1>=1,1=<1},1=1"],
-    ),
+    ("{X>=1, Y=<1}, X=Y.", &[" yes yes | 0 | {1>=1,1=<1},1=1"]),
     // what waits for a variable waits for the older one that it becomes
     (
         "X=X, {Y*Z=6}, Y=X, X=2.",

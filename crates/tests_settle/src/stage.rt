@@ -91,7 +91,12 @@ pub(crate) fn add_term(
     requires live { term < length heap.now.now.terms }
     requires names { KnowsTerms language.now.atoms heap.now.now.terms }
 {
-    let Language { atoms, ops, names, .. } = language;
+    let Language {
+        atoms,
+        ops,
+        names,
+        ..
+    } = language;
     let bytes = write_term(heap, atoms, ops, term, Style::Quoted, 1200, names)?;
     if let Ok(text) = str::from_utf8(&bytes) {
         line.push(' ')?;

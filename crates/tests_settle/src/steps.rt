@@ -64,11 +64,7 @@ fn settle_called(
 }
 
 /// The constraints between the braces of a goal.
-fn constraints_of(
-    heap: &Heap,
-    language: &Language,
-    goal: TermId,
-) -> Result<Vec<TermId>, AllocError>
+fn constraints_of(heap: &Heap, language: &Language, goal: TermId) -> Result<Vec<TermId>, AllocError>
     requires { goal < length heap.now.now.terms }
     ensures { IfOk result (λ ids. All (λ id. id < length heap.now.now.terms) ids.items) }
 {

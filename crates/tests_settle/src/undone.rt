@@ -31,8 +31,7 @@ const NARROWED: &str =
 const WOKEN: &str =
     " no yes g yes | 0 | {2*3=6,2+3>=5,2=<4,3=<4},freeze(a,g);{2=<3};{2=1},a=a,{2=2};{2=3}";
 
-const AFTER: &str =
-    " yes | 1 | {3*2=6,3+2>=5,3=<4,2=<4},freeze(Z,g);{3=<3};{3=1},Z=a,{3=2};{3=3}";
+const AFTER: &str = " yes | 1 | {3*2=6,3+2>=5,3=<4,2=<4},freeze(Z,g);{3=<3};{3=1},Z=a,{3=2};{3=3}";
 
 // ---- what the linear constraints say
 
@@ -111,11 +110,7 @@ fn add_lists(world: &World, alloc: Global, text: &mut String) -> Result<(), Stor
 }
 
 /// What the world's calls tell of it.
-fn portrait(
-    world: &mut World,
-    language: &Language,
-    query: TermId,
-) -> Result<String, StoreFault>
+fn portrait(world: &mut World, language: &Language, query: TermId) -> Result<String, StoreFault>
     requires ready { IsReady language.now.atoms (now_of world.old) }
     requires live { query < length world.old.heap.now.terms }
     ensures next { OnOk result (IsNext language.now.atoms world.old world.new) }
@@ -214,12 +209,7 @@ fn goes_back(
 fn is_undone(alloc: Global) -> Result<bool, StoreFault> {
     let mut stage = read_query(alloc, QUERY)?;
     let parts = parts_of(&stage)?;
-    goes_back(
-        &mut stage.world,
-        &stage.language,
-        stage.query,
-        &parts,
-    )
+    goes_back(&mut stage.world, &stage.language, stage.query, &parts)
 }
 
 #[test]
