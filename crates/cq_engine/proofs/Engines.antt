@@ -1,5 +1,5 @@
 -- What a machine keeps and stands for as names are added, and what it comes to behind quiet turns.
-use Rattle.std.proofs.Common.{◌≡◌, ℕ, zero, suc, ◌<◌, ◌-◌, length, map, drop, arith, List, [], ◌∷◌, ◌++◌, Bool, true, false, Option, None, Some, refl, sym, ap, ◌∙◌, subst}
+use Rattle.std.proofs.Common.{◌≡◌, ℕ, zero, suc, ◌<◌, ◌-◌, length, map, drop, arith, List, [], ◌∷◌, ◌++◌, true, false, Option, None, Some, refl, sym, ap, ◌∙◌, subst}
 use Rattle.std.specs.Prelude.{slice_get, reverse}
 use Rattle.std.specs.List.{zip}
 use Rattle.std.proofs.lemmas.Bool.{false≢true}
@@ -183,12 +183,12 @@ holds_none m e = ap (map (left_at m.atoms m.clauses)) (zip_none (reverse (saved 
 pub halts_out : (budgets : Budgets) (old new : Machine) (n k rest steps : ℕ) (cell : Cell) (s : Search) → GainsNames old new → holds new ≡ [] → budgets.steps ≡ steps
     → n ≡ steps → rest < k → items_at old.world.second.now k ≡ cell ∷ items_at old.world.second.now rest → IsFront (items_at old.world.second.now k) → selects cell ≡ true
     → StandsFor old n (Some k) s → Halts budgets (Resolutions steps) new n s
-halts_out budgets old new n k rest steps cell s g none e many earlier cells front yes j = record {
+halts_out budgets old new n k rest steps cell s g none e many earlier cells front goes j = record {
   reached = s;
   quiet = coming.at_once;
   last = with_branches [] s;
   tells = subst (λ (x : ℕ). Tells budgets s (Stops (Resolutions x)) (with_branches [] s)) e
-      (stops_out budgets s (goal_next old.atoms (database_of old) n (holds old) (now old) k rest s j earlier cell cells front yes) (j.selected ∙ many ∙ sym e));
+      (stops_out budgets s (goal_next old.atoms (database_of old) n (holds old) (now old) k rest s j earlier cell cells front goes) (j.selected ∙ many ∙ sym e));
   stands = none_left old new n (Some k) s g none j;
 }
 

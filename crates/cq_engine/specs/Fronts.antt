@@ -2,14 +2,17 @@
 use Rattle.std.specs.Prelude.{◌≡◌, ◌<◌, ℕ, List, [], ◌∷◌, Bool, true, false, None, Some, ⊤}
 use Rattle.spec_branch.specs.Branch.{State}
 use Rattle.spec_search.specs.Search.{Search}
-use Rattle.spec_search.specs.Turns.{Answered, Ended, with_branches}
+use Rattle.spec_search.specs.Turns.{Answered, Ended, Wrote, with_branches}
 use Rattle.spec_stops.specs.Causes.{Budgets}
 use Rattle.spec_stops.specs.Causes as why
 use Rattle.cq_control.specs.Items.{items_at}
-use Rattle.cq_steps.specs.Worlds.{IsBranch}
+use Rattle.spec_lists.specs.Texts.{Text}
+use Rattle.cq_world.specs.Contents.{Contents}
+use Rattle.cq_steps.specs.Worlds.{IsBranch, term_in}
 use Rattle.spec_machine.specs.declared.cell.Cell.{Cell}
 use Rattle.spec_machine.specs.declared.cell.Cell.TheVariants.{Goal, Call, CutTo, CutFail, CatchEnd, Collect}
-use Rattle.spec_machine.specs.Coming.{Quietly, Tells, Shows, Stops}
+use Rattle.spec_machine.specs.Coming.{Comes, Quietly, Tells, Shows, Stops}
+use Rattle.spec_machine.specs.Standing as standing
 use Rattle.cq_machine.specs.declared.machine.Machine.{Machine}
 use Rattle.cq_machine.specs.Machines.{IsSound, database_of, now}
 use Rattle.cq_engine.specs.declared.front.Cause.{Cause}
@@ -76,3 +79,11 @@ IsAhead steps n m (Ahead k) = HasWork steps n m k
 IsAhead steps n m Answer = ⊤
 IsAhead steps n m Fail = ⊤
 IsAhead steps n m (Stop c) = ⊤
+
+-- ---- a text
+
+-- the search shows the text next, and comes quietly from there to one for which the engine stands
+pub record ShowsText (texts : List Text) (budgets : Budgets) (m : standing.Machine Contents) (text : Text) (s : Search) : Type 0 where
+  pub next : Search
+  pub tells : Tells budgets s (Shows (Wrote text)) next
+  pub comes : Comes (IsBranch texts) (term_in texts) budgets.steps m next

@@ -2,7 +2,9 @@
 #![tactic(auto)]
 
 mod front;
+mod laws;
 mod seeking;
 
 pub use front::{Cause, Front, look};
+pub use laws::rows_tell;
 pub use seeking::seek;

@@ -23,21 +23,5 @@ returns-then-is_spent-clause-front c = λ budgets e s j.
     halts_out budgets c.args.m.now c.halt.new.m c.args.selected c.args.k c.in-Some._rest c.args.steps c.in-Some.cell s c.halt.ensures.program c.halt.ensures.none_left e
     spent.1 c.in-Some.ensures.earlier c.in-Some.ensures.some c.requires.front spent.0 j
 
-pub returns-else-is_spent-clause-front : goal.returns-else-is_spent-clause-front
-returns-else-is_spent-clause-front c = λ budgets e s j. comes_at_once c.args.m.now budgets.steps c.args.selected (Some c.args.k) s j
-
-pub returns-else-is_spent-clause-ahead : goal.returns-else-is_spent-clause-ahead
-returns-else-is_spent-clause-ahead c = record {
-  sound = c.requires.sound;
-  rest = c.in-Some._rest;
-  earlier = c.in-Some.ensures.earlier;
-  cell = c.in-Some.cell;
-  cells = c.in-Some.ensures.some;
-  few = c.is_spent.ensures.few c.if-is_spent.false;
-}
-
-pub returns-else-is_spent-clause-kept : goal.returns-else-is_spent-clause-kept
-returns-else-is_spent-clause-kept c = kept_where c.args.m.now c.requires.sound
-
-pub returns-else-is_spent-clause-program : goal.returns-else-is_spent-clause-program
-returns-else-is_spent-clause-program c = gains_none c.args.m.now
+pub returns-clause-front : goal.returns-clause-front
+returns-clause-front c = λ budgets e s j. comes_at_once c.args.m.now budgets.steps c.args.selected (Some c.args.k) s j

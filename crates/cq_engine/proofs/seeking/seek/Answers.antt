@@ -77,7 +77,7 @@ returns-in-Ok-Some-clause-sound c =
     (names_known (then_ f) c.in-Ok-Some.front
     (going_on m (then_ f) c.args.start (Some c.in-Ok-Some.front)
     (λ steps n s j. by_database m (then_ f) steps n (Some c.in-Ok-Some.front) s (gains f).database
-      ((rw c.in-Ok-Some.field-0-is at c.in-Ok-Some.ensures.comes) steps (database_of m) n s j))
+    ((rw c.in-Ok-Some.field-0-is at c.in-Ok-Some.ensures.comes) steps (database_of m) n s j))
     c.requires.works))
 
 pub returns-in-Ok-Some-clause-kept : goal.returns-in-Ok-Some-clause-kept
