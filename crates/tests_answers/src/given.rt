@@ -57,11 +57,7 @@ fn tells(store: &mut Store, rows: &[Constraint]) -> Result<bool, StoreFault>
 }
 
 /// Whether the constraints can hold together with what is told.
-fn can_hold(
-    alloc: Global,
-    told: &[Constraint],
-    rows: &[Constraint],
-) -> Result<bool, StoreFault>
+fn can_hold(alloc: Global, told: &[Constraint], rows: &[Constraint]) -> Result<bool, StoreFault>
     ensures { IfOk result (λ yes. IsTrue yes → Solvable (told.now ++ rows.now)) }
 {
     let mut store = Store::new(alloc, 1000);
