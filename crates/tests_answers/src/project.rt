@@ -50,7 +50,17 @@ const AT_MOST_Y: Given = (Relation::Ge, &[(3, 1, 1), (4, -1, 1)], 0, 1);
 
 const U_IS_NOT_V: Given = (Relation::Ne, &[(0, 1, 1), (1, -1, 1)], 0, 1);
 
-static PROJECTIONS: [Projection; 3] = [
+const ABOVE_ZERO: Given = (Relation::Gt, &[(4, 1, 1)], 0, 1);
+
+const U_ABOVE_ZERO: Given = (Relation::Gt, &[(0, 1, 1)], 0, 1);
+
+const U_AT_LEAST_ZERO: Given = (Relation::Ge, &[(0, 1, 1)], 0, 1);
+
+const V_AT_LEAST_ZERO: Given = (Relation::Ge, &[(1, 1, 1)], 0, 1);
+
+const IS_U: Given = (Relation::Eq, &[(0, -1, 1), (4, 1, 1)], 0, 1);
+
+static PROJECTIONS: [Projection; 10] = [
     // each lower row with each upper one, the greater coefficients first
     Projection {
         told: &[AT_LEAST_U, AT_LEAST_V, AT_MOST_W, AT_MOST_Y],
@@ -80,6 +90,95 @@ static PROJECTIONS: [Projection; 3] = [
         outcome: Outcome::Rows {
             equations: &[],
             inequalities: &[(&[(0, 1, 1), (1, -1, 1)], "<", 0, 1)],
+            disequations: &[],
+            kept: &[],
+        },
+    },
+    // V =< X, X =< U, U =\= V: by a negative coefficient it is turned
+    Projection {
+        told: &[
+            AT_LEAST_V,
+            (Relation::Ge, &[(0, 1, 1), (4, -1, 1)], 0, 1),
+            U_IS_NOT_V,
+        ],
+        limit: 4096,
+        outcome: Outcome::Rows {
+            equations: &[],
+            inequalities: &[(&[(0, 1, 1), (1, -1, 1)], ">", 0, 1)],
+            disequations: &[],
+            kept: &[],
+        },
+    },
+    // U >= 0, V >= 0, U + V > 0, U =\= V: the strict row follows together with the disequation
+    Projection {
+        told: &[
+            U_AT_LEAST_ZERO,
+            V_AT_LEAST_ZERO,
+            (Relation::Gt, &[(0, 1, 1), (1, 1, 1)], 0, 1),
+            U_IS_NOT_V,
+        ],
+        limit: 4096,
+        outcome: Outcome::Rows {
+            equations: &[],
+            inequalities: &[(&[(0, 1, 1)], ">=", 0, 1), (&[(1, 1, 1)], ">=", 0, 1)],
+            disequations: &[(&[(0, 1, 1), (1, -1, 1)], "=\\=", 0, 1)],
+            kept: &[],
+        },
+    },
+    // -3*U + 6*X + 3 =\= 0, X > 0: X is kept for the disequation
+    Projection {
+        told: &[(Relation::Ne, &[(0, -3, 1), (4, 6, 1)], 3, 1), ABOVE_ZERO],
+        limit: 4096,
+        outcome: Outcome::Rows {
+            equations: &[],
+            inequalities: &[(&[(4, 1, 1)], ">", 0, 1)],
+            disequations: &[(&[(0, 1, 1), (4, -2, 1)], "=\\=", 1, 1)],
+            kept: &[VarId(4)],
+        },
+    },
+    // X = 6 - U - V, X > 0: the equation takes X away
+    Projection {
+        told: &[
+            (Relation::Eq, &[(0, 1, 1), (1, 1, 1), (4, 1, 1)], -6, 1),
+            ABOVE_ZERO,
+        ],
+        limit: 4096,
+        outcome: Outcome::Rows {
+            equations: &[],
+            inequalities: &[(&[(0, 1, 1), (1, 1, 1)], "<", 6, 1)],
+            disequations: &[],
+            kept: &[],
+        },
+    },
+    // U + V + W = 6: it is solved for the first variable
+    Projection {
+        told: &[(Relation::Eq, &[(0, 1, 1), (1, 1, 1), (2, 1, 1)], -6, 1)],
+        limit: 4096,
+        outcome: Outcome::Rows {
+            equations: &[(0, &[(1, -1, 1), (2, -1, 1)], 6, 1)],
+            inequalities: &[],
+            disequations: &[],
+            kept: &[],
+        },
+    },
+    // of equal rows the strict one is left
+    Projection {
+        told: &[U_AT_LEAST_ZERO, U_ABOVE_ZERO],
+        limit: 4096,
+        outcome: Outcome::Rows {
+            equations: &[],
+            inequalities: &[(&[(0, 1, 1)], ">", 0, 1)],
+            disequations: &[],
+            kept: &[],
+        },
+    },
+    // X = U, X - U =\= 1: the disequation loses its variables
+    Projection {
+        told: &[IS_U, (Relation::Ne, &[(0, -1, 1), (4, 1, 1)], -1, 1)],
+        limit: 4096,
+        outcome: Outcome::Rows {
+            equations: &[],
+            inequalities: &[],
             disequations: &[],
             kept: &[],
         },
