@@ -98,9 +98,3 @@ module _ (v : Program) where
 
   pub searching : (h : Held) → IsOver v h → IsGoing v h None → IsSearching h
   searching h o w = (v, o, w.0, w.1, w.2, w.3)
-
-  pub of_ways : (old new : Held) (current : Option ℕ) → IsOver v old → ComesOver old new current → Reaches v old None new current
-  of_ways old new current o f = f v o
-
-  pub stops_of_ways : (h : Held) (pivots : ℕ) (fault : StoreFault) → IsOver v h → StopsOver h pivots fault → AllStopFrom v h None pivots fault
-  stops_of_ways h pivots fault o f = f v o
