@@ -102,9 +102,6 @@ pub record Compares (order : List ℕ) (s t : List Monomial) (left : List ℕ) (
   pub behind : Before left v u ⊥ → Before order t s ⊥
   pub same : u ≡ v → s ≡ t
 
-pub compares_start : (order : List ℕ) (s t : List Monomial) → AreDistinct order → IsPlaced order s → IsPlaced order t → Compares order s t order s t
-compares_start order s t d p q = record { distinct = d; placed = p; other_placed = q; before = λ h. h; behind = λ h. h; same = λ e. e }
-
 no_products : (s : List Monomial) → InOrder [] (variables s) → s ≡ []
 no_products [] o = refl
 no_products (m ∷ s) o = absurd o

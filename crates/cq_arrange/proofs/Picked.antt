@@ -1,6 +1,6 @@
 -- Products picked in an order of variables, and by the first of them.
-use Rattle.std.proofs.Common.{◌≡◌, ◌≢◌, ◌⊎◌, inl, inr, ℕ, ◌+◌, ◌<◌, ◌≤◌, List, [], ◌∷◌, ◌++◌, map, length, drop, get_or, append_assoc, append-nil, arith, Bool, true, false, cond, pos, refl, ap, sym, subst, ◌∙◌}
-use Rattle.std.proofs.lemmas.List.{map-append, drop_more, drop_all}
+use Rattle.std.proofs.Common.{◌≡◌, ◌≢◌, ◌⊎◌, inl, inr, ℕ, ◌+◌, ◌<◌, ◌≤◌, List, [], ◌∷◌, ◌++◌, map, length, drop, get_or, append_assoc, arith, Bool, true, false, cond, pos, refl, ap, sym, subst, ◌∙◌}
+use Rattle.std.proofs.lemmas.List.{map-append, drop_more}
 use Rattle.std.specs.List.{AllByRecursion}
 use Rattle.spec_rational.specs.Rational.{ℚ, 0ℚ, ◌+ℚ◌, ◌*ℚ◌, ◌/ℚ◌, inv_ℚ}
 use Rattle.spec_rational.specs.Sums.{Monomial, Mentions, factor_of, sum_at}
@@ -138,10 +138,6 @@ module _ (order : List VarId) (i : ℕ) (x : VarId) (within : i < length order) 
   none_stands n e =
       let z : is_zero (factor_of x.0 s) ≡ true = is_zero-of (factor_of x.0 s) (unmentioned_factor x.0 s n) in
       ap (λ t. monomials_of t ++ picked (numbers_of (drop (i + 1) order)) s) e ∙ ap (λ t. monomials_of now ++ t) (sym (front_is true z)) ∙ so_far
-
--- all of them
-pub all_picked : (order : List VarId) (i : ℕ) (s t whole : List Monomial) → length order ≤ i → t ++ picked (numbers_of (drop i order)) s ≡ whole → t ≡ whole
-all_picked order i s t whole h e = sym (append-nil t) ∙ ap (λ xs. t ++ picked (numbers_of xs) s) (sym (drop_all i order h)) ∙ e
 
 pub some_item : (ps : List (VarId × ℚ)) → (monomials_of ps ≡ [] → ⊥) → 0 < length ps
 some_item [] n = absurd (n refl)

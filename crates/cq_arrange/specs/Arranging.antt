@@ -3,8 +3,8 @@ use Rattle.std.specs.Prelude.{◌≡◌, ◌≢◌, ◌⊎◌, ℕ, ◌-◌, ◌
 use Rattle.std.specs.List.{AllByRecursion}
 use Rattle.spec_rational.specs.Rational.{ℚ, 0ℚ, ◌<ℚ◌, ◌/ℚ◌}
 use Rattle.spec_rational.specs.Sums.{Monomial, factor_of, when}
-use Rattle.spec_linear.specs.declared.Relation.TheVariants.{Eq, Ne}
-use Rattle.spec_linear.specs.Form.{Linear, in_front}
+use Rattle.spec_linear.specs.declared.Relation.TheVariants.{Eq}
+use Rattle.spec_linear.specs.Form.{in_front}
 use Rattle.spec_linear.specs.Solution.{Constraint, Has}
 use Rattle.spec_echelon.specs.Echelon.{InOrder, variables}
 use Rattle.spec_projection.specs.Strict.{IsMultiple}

@@ -35,6 +35,9 @@ pub type Col = usize;
 /// A quantity keeps its number as a row and as a column. Restricted quantities are those that may not be negative: the
 /// dictionary keeps the flag and does nothing by it. Marks take constant time, and `undo` the time of what was made and
 /// changed since: a row that is replaced is kept for the marks and not copied.
+///
+/// Each column has a linked list of the rows that may mention it, so an exchange visits these alone. A row's cells are put in
+/// front when it comes to mention a column, and are taken off by `undo` alone.
 #[derive(Drop)]
 pub struct Dict {
     alloc: Global,

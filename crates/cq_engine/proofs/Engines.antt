@@ -1,17 +1,14 @@
 -- What a machine keeps and stands for as names are added, and what it comes to behind quiet turns.
-use Rattle.std.proofs.Common.{◌≡◌, ℕ, zero, suc, ◌<◌, ◌-◌, length, map, drop, arith, List, [], ◌∷◌, ◌++◌, true, false, Option, None, Some, refl, sym, ap, ◌∙◌, subst}
-use Rattle.std.specs.Prelude.{slice_get, reverse}
+use Rattle.std.proofs.Common.{◌≡◌, ℕ, ◌<◌, ◌-◌, length, map, drop, arith, List, [], ◌∷◌, ◌++◌, true, false, Option, None, Some, refl, sym, ap, ◌∙◌, subst}
+use Rattle.std.specs.Prelude.{reverse}
 use Rattle.std.specs.List.{zip}
 use Rattle.std.proofs.lemmas.Bool.{false≢true}
-use Rattle.spec_lists.specs.Prefixes.{IsPrefix}
 use Rattle.spec_lists.proofs.Prefixes.{prefix_both, prefix_same}
 use Rattle.spec_lists.specs.Texts.{Text}
-use Rattle.spec_branch.specs.Branch.{Branch}
 use Rattle.spec_search.specs.Database.{Database}
 use Rattle.spec_search.specs.Search.{Search, look_at, is_selecting}
 use Rattle.spec_search.specs.Turns.{with_branches}
 use Rattle.spec_stops.specs.Causes.{Budgets, Cause, Resolutions}
-use Rattle.cq_atoms.specs.Texts.{KeepsTexts}
 use Rattle.cq_control.specs.Items.{items_at}
 use Rattle.cq_control.specs.Open.{last}
 use Rattle.cq_steps.specs.Marks.{IsFront}
@@ -25,8 +22,7 @@ use Rattle.spec_machine.specs.Coming.{Comes, Quietly, Tells, Stops}
 use Rattle.spec_machine.specs.Coming as coming
 use Rattle.spec_machine.specs.Standing.{engine, AreWaiting, IsStanding}
 use Rattle.cq_machine.specs.declared.machine.Machine.{Machine}
-use Rattle.cq_machine.specs.declared.names.Names.{Names}
-use Rattle.cq_machine.specs.Machines.{AreNames, IsSound, database_of, holds, now, saved, terms}
+use Rattle.cq_machine.specs.Machines.{IsSound, database_of, holds, now, saved, terms}
 use Rattle.cq_term.specs.Trees.{KnowsTerms}
 use Rattle.cq_engine.specs.declared.front.Front.{Front}
 use Rattle.cq_engine.specs.declared.front.Front.TheVariants.{Ahead, Answer, Fail, Stop}
@@ -35,24 +31,7 @@ use Rattle.cq_engine.specs.Fronts.{Answers, Ends, Halts, IsFrontOf, selects}
 use Rattle.cq_engine.specs.Seeking.{IsKept, GainsNames, StandsFor, ComesTo, IsGoing, GoesTo}
 use Rattle.cq_engine.proofs.Told.{quietly_then, told_then, ends_told, answer_told, comes_back}
 
--- ---- names that are added
-
-kept_before : (texts more : List Text) → KeepsTexts texts (texts ++ more)
-kept_before [] more i text e = cc
-kept_before (x ∷ texts) more zero text e = e
-kept_before (x ∷ texts) more (suc i) text e = kept_before texts more i text e
-
-pub texts_kept : (old new : List Text) → IsPrefix old new → KeepsTexts old new
-texts_kept old new longer i t e = subst (λ (xs : List Text). slice_get xs i ≡ Some t) (sym longer.1) (kept_before old longer.0 i t e)
-
-pub names_kept : (old new : List Text) → KeepsTexts old new → (names : Names) → AreNames old names → AreNames new names
-names_kept old new keeps names a = record {
-  truth = keeps names.truth _ a.truth;
-  not = keeps names.not _ a.not;
-  equal = keeps names.equal _ a.equal;
-  once = keeps names.once _ a.once;
-  curly = keeps names.curly _ a.curly;
-}
+-- ---- a machine that gains names
 
 pub gains_on : (a b c : Machine) → GainsNames a b → GainsNames b c → GainsNames a c
 gains_on a b c f g = record {

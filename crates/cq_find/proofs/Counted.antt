@@ -10,7 +10,7 @@ use Rattle.spec_search.specs.Turns.{Turn, Event, keeps, prunes, hands_on, escape
 use Rattle.cq_control.specs.Heights.{total}
 use Rattle.spec_machine.specs.Cells.{size}
 use Rattle.spec_machine.specs.Coming.{Quietly, at_once, after}
-use Rattle.spec_machine.specs.Standing.{Machine, IsStanding, IsCurrent, AreWaiting}
+use Rattle.spec_machine.specs.Standing.{Machine, IsStanding, IsCurrent}
 use Rattle.spec_machine.specs.Cells.{Stack, Value}
 use Rattle.spec_machine.proofs.Kept.{length-waiting}
 

@@ -1,27 +1,25 @@
 -- How an engine goes on, as the newest choices are passed and tried.
-use Rattle.std.proofs.Common.{◌≡◌, ◌<◌, ◌≤◌, ◌+◌, ℕ, suc, List, [], ◌∷◌, ◌++◌, length, map, Option, None, Some, refl, sym, ap, ◌∙◌, subst, arith}
+use Rattle.std.proofs.Common.{◌≡◌, ◌<◌, ◌≤◌, ◌+◌, ℕ, List, [], ◌∷◌, ◌++◌, length, map, Option, None, Some, sym, ap, ◌∙◌, subst, arith}
 use Rattle.std.specs.Prelude.{IfSome, IfNone}
 use Rattle.std.specs.List.{AllByRecursion}
 use Rattle.std.proofs.lemmas.List.{length-map}
 use Rattle.spec_lists.specs.Texts.{Text}
-use Rattle.spec_search.specs.Search.{Search}
 use Rattle.cq_control.specs.Heights.{total}
-use Rattle.cq_control.specs.Open.{open_choices}
 use Rattle.cq_control.proofs.Opened.{length-open}
 use Rattle.cq_linear.specs.declared.store.StoreFault.{StoreFault}
 use Rattle.cq_program.specs.Database.{Program, IsProgram}
 use Rattle.cq_world.specs.Contents.{Contents}
-use Rattle.spec_machine.specs.Cells.{size, Value, Stack}
+use Rattle.spec_machine.specs.Cells.{size, Value}
 use Rattle.spec_machine.specs.Coming.{at_once}
 use Rattle.spec_machine.specs.Standing.{engine}
 use Rattle.cq_steps.specs.declared.alternatives.Alternatives.{Alternatives}
 use Rattle.cq_steps.specs.Choices.{CanBeTried, KeepsOlder}
 use Rattle.cq_steps.specs.Worlds.{IsBranch, term_in, left_at, IsWorking}
 use Rattle.cq_steps.proofs.Arrived.{quietly_on}
-use Rattle.cq_begin.specs.Stops.{FaultStops, waiting_in}
+use Rattle.cq_begin.specs.Stops.{waiting_in}
 use Rattle.cq_begin.proofs.Back.{fault_after}
 use Rattle.cq_ways.specs.Held.{Held, HasMarks, IsOver, open_of, stack_of}
-use Rattle.cq_ways.specs.Trying.{IsSearching, ComesOver, StopsOver}
+use Rattle.cq_ways.specs.Trying.{IsSearching}
 use Rattle.cq_find.specs.Finding.{IsGoing, Reaches, AllStopFrom, AreFewer}
 use Rattle.cq_find.proofs.Counted.{in_hand, quiet_count, standing_count}
 
@@ -98,9 +96,3 @@ module _ (v : Program) where
 
   pub searching : (h : Held) → IsOver v h → IsGoing v h None → IsSearching h
   searching h o w = (v, o, w.0, w.1, w.2, w.3)
-
-  pub of_ways : (old new : Held) (current : Option ℕ) → IsOver v old → ComesOver old new current → Reaches v old None new current
-  of_ways old new current o f = f v o
-
-  pub stops_of_ways : (h : Held) (pivots : ℕ) (fault : StoreFault) → IsOver v h → StopsOver h pivots fault → AllStopFrom v h None pivots fault
-  stops_of_ways h pivots fault o f = f v o

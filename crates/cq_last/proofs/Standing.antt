@@ -1,6 +1,6 @@
 -- Rows that are left hold together with the disequations.
 use Rattle.std.proofs.Common.{inl, inr, ℕ, List, [], ◌++◌}
-use Rattle.spec_linear.specs.Solution.{Constraint, Has, Solvable}
+use Rattle.spec_linear.specs.Solution.{Constraint, Solvable}
 use Rattle.spec_linear.proofs.Lists.{alike_sym, alike_solvable}
 use Rattle.spec_linear.proofs.Denominators.{has_left, has_right}
 use Rattle.spec_projection.specs.Lists.{AreForms}

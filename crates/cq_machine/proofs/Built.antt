@@ -1,8 +1,8 @@
 -- What a machine stands for while terms are built and goals put in front.
-use Rattle.std.proofs.Common.{◌≡◌, ◌<◌, ap₂, ℕ, List, [], ◌∷◌, ◌++◌, length, length-append, Some, true, refl, sym, ap, subst, ◌∙◌, arith}
+use Rattle.std.proofs.Common.{◌≡◌, ◌<◌, ℕ, List, [], ◌∷◌, ◌++◌, length, length-append, Some, true, refl, sym, ap, subst, ◌∙◌, arith}
 use Rattle.std.proofs.lemmas.List.{get_or_push}
 use Rattle.spec_lists.specs.Texts.{Text}
-use Rattle.spec_terms.specs.Term.{Compound, one, more}
+use Rattle.spec_terms.specs.Term.{more}
 use Rattle.spec_syntax.specs.Trees.{Tree}
 use Rattle.spec_built.specs.Kinds.{is_callable}
 use Rattle.spec_branch.specs.Branch.{State, Branch, read}
@@ -10,7 +10,6 @@ use Rattle.spec_search.specs.Control.{put}
 use Rattle.spec_search.specs.Replies.{Place, goes_on}
 use Rattle.cq_control.specs.Items.{items_at}
 use Rattle.cq_program.specs.Database.{Program, as_database}
-use Rattle.cq_term.specs.Trees.{tree}
 use Rattle.cq_write.specs.Meaning.{operators}
 use Rattle.cq_world.specs.Contents.{Contents}
 use Rattle.spec_machine.specs.declared.cell.Cell.{Cell}

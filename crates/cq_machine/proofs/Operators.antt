@@ -1,13 +1,12 @@
 -- What `op(P,K,N)` comes to, by the table of the operators that hold.
-use Rattle.std.proofs.Common.{◌≡◌, List, Option, None, Some, sym, ap, ◌∙◌, subst}
+use Rattle.std.proofs.Common.{◌≡◌, List, None, sym, ap, ◌∙◌, subst}
 use Rattle.spec_lists.specs.Texts.{Text}
 use Rattle.spec_operators.specs.Operators.{Ops}
 use Rattle.spec_syntax.specs.Trees.{Tree}
 use Rattle.spec_builtins.specs.Operators.{operator_error, operators_after, operator_names}
 use Rattle.spec_search.specs.Changes.{op_row}
 use Rattle.spec_search.specs.Database.{Database}
-use Rattle.spec_search.specs.Replies.{Place, Reply, Raises, changes, unless_error}
-use Rattle.cq_built.specs.Errors.{error_tree}
+use Rattle.spec_search.specs.Replies.{Place, changes, unless_error}
 use Rattle.cq_built.specs.declared.errors.BuiltinFault.{BuiltinFault}
 use Rattle.cq_built.specs.declared.errors.BuiltinFault.TheVariants as fault
 use Rattle.cq_program.specs.Database.{Program, as_database}

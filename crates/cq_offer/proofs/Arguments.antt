@@ -15,21 +15,8 @@ use Rattle.cq_world.specs.Contents.{Contents}
 use Rattle.cq_steps.specs.Worlds.{ReadsAs}
 use Rattle.cq_steps.proofs.Added.{reads_tree}
 use Rattle.cq_steps.proofs.Disjunctions.{term_there}
+use Rattle.cq_steps.proofs.Arguments.{front, behind, inside}
 use Rattle.cq_ways.specs.Calls.{AreRead}
-
-abbrev front : Terms Text → Tree
-front (one t) = t
-front (more t ts) = t
-
-abbrev behind : Terms Text → Terms Text
-behind (one t) = one t
-behind (more t ts) = ts
-
-abbrev inside : Tree → Terms Text
-inside (Var v) = one (Var v)
-inside (Number q) = one (Number q)
-inside (Name a) = one (Name a)
-inside (Compound f ts) = ts
 
 module _ (texts : List Text) (c : Contents) (st : State) where
   abbrev ts : List HeapTerm

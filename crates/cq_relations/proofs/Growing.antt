@@ -31,12 +31,6 @@ module _ (texts : List Text) (c : Contents) (h : Terms) (terms : IsPrefix c.heap
   pub grown_terms : (lists : List (List Cell)) → Grown texts (c, lists) (with_heap h c, lists)
   grown_terms lists = grown texts c h terms images names lists lists (keeps_itself lists)
 
-pub grown_both : (texts : List Text) (a b c : Value Contents) → Grown texts a b → Grown texts b c → Grown texts a c
-grown_both texts a b c f g = record {
-  state = λ st i. g.state st (f.state st i);
-  terms = λ id t e. g.terms id t (f.terms id t e);
-  lists = keeps_on a.1 b.1 c.1 f.lists g.lists;
-}
 
 -- the same world, and more continuations
 pub grown_still : (texts : List Text) (old mid : Value Contents) (later : Contents) (lists : List (List Cell)) → Grown texts old mid → later ≡ mid.0 → KeepsLists mid.1 lists

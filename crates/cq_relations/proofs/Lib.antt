@@ -1,6 +1,6 @@
 mod Values
 mod Growing
 mod Marks
-mod Equating
+pub mod Equating
 mod Asleep
 mod Curly

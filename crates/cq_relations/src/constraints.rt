@@ -71,6 +71,7 @@ pub fn constrain(
     ensures choices { OnOk result (LeavesOneAtMost (saved_values world.old.first world.old.second.saved) choices.old
         (value world.new.first world.new.second.now) (saved_values world.new.first world.new.second.saved) choices.new) }
     ensures marked { AreMarked (saved_values world.new.first world.new.second.saved) choices.new }
+    ensures budget { world.new.first.store.pivots ≡ world.old.first.store.pivots }
 {
     equated_worlds_may_be_settled();
     match check_telling(&mut world.first.heap, atoms, constraint) {

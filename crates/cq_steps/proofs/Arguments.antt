@@ -17,15 +17,15 @@ use Rattle.cq_steps.specs.Worlds.{ReadsAs}
 use Rattle.cq_steps.proofs.Added.{reads_tree}
 use Rattle.cq_steps.proofs.Disjunctions.{term_there}
 
-abbrev front : Terms Text → Tree
+abbrev pub front : Terms Text → Tree
 front (one t) = t
 front (more t ts) = t
 
-abbrev behind : Terms Text → Terms Text
+abbrev pub behind : Terms Text → Terms Text
 behind (one t) = one t
 behind (more t ts) = ts
 
-abbrev inside : Tree → Terms Text
+abbrev pub inside : Tree → Terms Text
 inside (Var v) = one (Var v)
 inside (Number q) = one (Number q)
 inside (Name a) = one (Name a)

@@ -5,7 +5,7 @@ use Rattle.spec_syntax.specs.Trees.{Tree}
 use Rattle.spec_built.specs.Built.{compound1}
 use Rattle.spec_built.specs.Kinds.{is_callable}
 use Rattle.spec_branch.specs.Branch as branch
-use Rattle.spec_branch.specs.Branch.{State, Item, Branch, no_work, read}
+use Rattle.spec_branch.specs.Branch.{State, Item, Branch, no_work}
 use Rattle.spec_search.specs.Balls as balls
 use Rattle.spec_search.specs.Control.{put, and_row, or_row, first_items, if_then_row, if_then_items, cut_row, not_row}
 use Rattle.spec_search.specs.Replies.{Place, child, made, makes, goes_on, onward}

@@ -14,7 +14,7 @@ use Rattle.spec_terms.proofs.Substitution.{apply-identity, apply_agree, occurs_f
 use Rattle.spec_syntax.specs.Trees.{Tree}
 use Rattle.spec_told.specs.Expressions.{form_of, has_zero_divisor, is_zero_form, unary_name, unary_of, binary_name, binary_of, variable_under}
 use Rattle.spec_told.specs.Relations.{Lin, Waits, False, lin, relation_name, related_forms, row_of}
-use Rattle.spec_branch.specs.Branch.{State, Item, Sleeper, Branch, Settled, no_work, read}
+use Rattle.spec_branch.specs.Branch.{State, Item, Sleeper, Settled, no_work, read}
 use Rattle.spec_branch.specs.Alike.{no_values}
 use Rattle.spec_branch.specs.Closure.{IsMove, Moves, no_move, IsClosure}
 use Rattle.spec_branch.specs.Settling.{is_the_variable, is_bound, newly_bound, binding_equation, numeric_after, fixed_values, value_or_variable, bindings_after, NoClash, SleeperState, Sleeps, Wakes, state_of, still_sleeps, woken_item, woken, left_asleep, Settling, Settles, unified, kept, Kept, kept_branch}

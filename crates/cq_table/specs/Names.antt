@@ -1,14 +1,11 @@
 -- Built-in predicates as the definitions name them.
 use Rattle.spec_search.specs.Builtins as definition
-use Rattle.spec_search.specs.Database.{First, Last}
 use Rattle.spec_predicates.specs.Predicates.{Predicate}
 use Rattle.spec_predicates.specs.Predicates as predicate
 use Rattle.cq_builtin.specs.Rows.{comparison_of}
 use Rattle.cq_predicates.specs.Names.{as_predicate}
 use Rattle.cq_table.specs.declared.builtins.Builtin.{Builtin}
 use Rattle.cq_table.specs.declared.builtins.Builtin.TheVariants as builtin
-use Rattle.cq_table.specs.declared.builtins.Side.{Side}
-use Rattle.cq_table.specs.declared.builtins.Side.TheVariants as side
 
 -- the built-in predicate that a predicate on terms or texts is
 abbrev pub built_in : Predicate → definition.Builtin
@@ -25,10 +22,6 @@ built_in predicate.NumberCodes = definition.NumberCodes
 built_in predicate.AtomConcat = definition.AtomConcat
 built_in predicate.SubAtom = definition.SubAtom
 
-abbrev pub as_side : Side → definition.Side
-as_side side.Least = definition.Least
-as_side side.Greatest = definition.Greatest
-
 abbrev pub as_builtin : Builtin → definition.Builtin
 as_builtin builtin.True = definition.True
 as_builtin builtin.Fail = definition.Fail
@@ -39,19 +32,11 @@ as_builtin builtin.Cut = definition.Cut
 as_builtin builtin.Not = definition.Not
 as_builtin builtin.Call = definition.Call
 as_builtin builtin.Once = definition.Once
-as_builtin builtin.Catch = definition.Catch
-as_builtin builtin.Throw = definition.Throw
-as_builtin builtin.Findall = definition.Findall
 as_builtin builtin.Unify = definition.Unify
 as_builtin builtin.NotUnify = definition.NotUnify
 as_builtin (builtin.Predicate p) = built_in (as_predicate p)
 as_builtin builtin.Is = definition.Is
 as_builtin (builtin.Compare c) = definition.Compare (comparison_of c)
-as_builtin builtin.Asserta = definition.Assert First
-as_builtin builtin.Assertz = definition.Assert Last
-as_builtin builtin.Retract = definition.Retract
-as_builtin builtin.ClauseGoal = definition.ClauseGoal
-as_builtin builtin.Dynamic = definition.DynamicGoal
 as_builtin builtin.Discontiguous = definition.Discontiguous
 as_builtin builtin.Initialization = definition.Initialization
 as_builtin builtin.UseModule = definition.UseModule
@@ -59,7 +44,4 @@ as_builtin builtin.Op = definition.Op
 as_builtin (builtin.Write s) = definition.Write s
 as_builtin builtin.Newline = definition.Newline
 as_builtin builtin.Curly = definition.Curly
-as_builtin builtin.Entailed = definition.Entailed
 as_builtin builtin.Freeze = definition.Freeze
-as_builtin (builtin.Extent s) = definition.Extent (as_side s)
-as_builtin (builtin.Optimum s) = definition.Optimum (as_side s)

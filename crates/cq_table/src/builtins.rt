@@ -12,13 +12,6 @@ use cq_codes::Conversion;
 use cq_predicates::Predicate;
 use spec_writing::Style;
 
-/// The end of an expression's values.
-#[derive(Clone, Copy, Debug, PartialEq, Eq)]
-pub enum Side {
-    Least,
-    Greatest,
-}
-
 /// A built-in predicate.
 #[derive(Clone, Copy, Debug, PartialEq, Eq)]
 pub enum Builtin {
@@ -31,20 +24,12 @@ pub enum Builtin {
     Not,
     Call,
     Once,
-    Catch,
-    Throw,
-    Findall,
     Unify,
     NotUnify,
     /// A predicate on terms or texts.
     Predicate(Predicate),
     Is,
     Compare(Comparison),
-    Asserta,
-    Assertz,
-    Retract,
-    ClauseGoal,
-    Dynamic,
     Discontiguous,
     Initialization,
     UseModule,
@@ -52,12 +37,7 @@ pub enum Builtin {
     Write(Style),
     Newline,
     Curly,
-    Entailed,
     Freeze,
-    /// `sup` and `inf`.
-    Extent(Side),
-    /// `minimize` and `maximize`.
-    Optimum(Side),
 }
 
 impl Builtin {
@@ -101,7 +81,6 @@ fn of_one(name: &str) -> Option<Builtin>
         ("call", Builtin::Call),
         ("\\+", Builtin::Not),
         ("once", Builtin::Once),
-        ("throw", Builtin::Throw),
         ("var", Builtin::Predicate(Predicate::Test(TypeTest::Var))),
         (
             "nonvar",
@@ -136,19 +115,12 @@ fn of_one(name: &str) -> Option<Builtin>
             "is_list",
             Builtin::Predicate(Predicate::Test(TypeTest::List)),
         ),
-        ("asserta", Builtin::Asserta),
-        ("assertz", Builtin::Assertz),
-        ("retract", Builtin::Retract),
-        ("dynamic", Builtin::Dynamic),
         ("discontiguous", Builtin::Discontiguous),
         ("initialization", Builtin::Initialization),
         ("use_module", Builtin::UseModule),
         ("write", Builtin::Write(Style::Plain)),
         ("writeq", Builtin::Write(Style::Quoted)),
         ("{}", Builtin::Curly),
-        ("entailed", Builtin::Entailed),
-        ("minimize", Builtin::Optimum(Side::Least)),
-        ("maximize", Builtin::Optimum(Side::Greatest)),
     ];
     among(&builtins, name)
 }
@@ -211,9 +183,6 @@ fn of_two(name: &str) -> Option<Builtin>
             "number_codes",
             Builtin::Predicate(Predicate::Convert(Conversion::NumberCodes)),
         ),
-        ("clause", Builtin::ClauseGoal),
-        ("sup", Builtin::Extent(Side::Greatest)),
-        ("inf", Builtin::Extent(Side::Least)),
         ("freeze", Builtin::Freeze),
     ];
     among(&builtins, name)
@@ -225,8 +194,6 @@ fn of_three(name: &str) -> Option<Builtin>
 {
     let builtins = [
         ("call", Builtin::Call),
-        ("catch", Builtin::Catch),
-        ("findall", Builtin::Findall),
         ("functor", Builtin::Predicate(Predicate::Functor)),
         ("arg", Builtin::Predicate(Predicate::Arg)),
         ("atom_concat", Builtin::Predicate(Predicate::AtomConcat)),

@@ -3,4 +3,4 @@
 
 mod builtins;
 
-pub use builtins::{Builtin, Side};
+pub use builtins::Builtin;

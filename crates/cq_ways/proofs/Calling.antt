@@ -37,9 +37,6 @@ pub left_open : (saved more : List (Value Contents)) (choices after : List Alter
 left_open saved more choices after before now content older e r =
     r.3 ∙ ap (λ xs. (now, content) ∷ xs) (same_behind r.0 (before, alternatives.Barrier) r.1 older (sym r.2 ∙ e))
 
-pub left_choices : (choices after older : List Alternatives) (content : Alternatives) → choices ≡ alternatives.Barrier ∷ older → Replaces choices content after → after ≡ content ∷ older
-left_choices choices after older content e r = r.3 ∙ ap (λ xs. content ∷ xs) (same_behind r.0 alternatives.Barrier r.1 older (sym r.2 ∙ e))
-
 module _ (h new : Held) (longer : IsPrefix h.texts new.texts) (known : AreNamedByTerms (open_of h)) (known_now : HasNamesOfTerms h.now.0.heap) (start : Value Contents) (same : start ≡ h.now) (built : Terms)
     (q : Predicate) (args : List ℕ) (rest : ℕ) (s : Solutions)
     (gives : Gives new.texts start.0.heap built (solutions_of q (length start.0.heap.images) (trees h.texts start.0.heap.terms args)) s)

@@ -10,13 +10,6 @@ use Rattle.spec_machine.proofs.Kept.{length-last, last-older, last-all}
 use Rattle.cq_steps.specs.declared.alternatives.Alternatives.{Alternatives}
 use Rattle.cq_ways.specs.Newest.{Replaces, Renews}
 
--- the newest one is the only one that isn't among the older ones
-pub replaces : (choices after : List Alternatives) (n : ℕ) (before content : Alternatives) → length choices ≡ suc n → (newer : List Alternatives)
-    → choices ≡ newer ++ before ∷ last n choices → after ≡ newer ++ content ∷ last n choices → Replaces choices content after
-replaces choices after n before content long [] e f = (before, last n choices, e, f)
-replaces choices after n before content long (x ∷ newer) e f =
-    absurd (omega (arith, long, ap length e, length-append newer (before ∷ last n choices), length-last choices n (omega (arith, long))))
-
 get_there : (saved : List (Value Contents)) (n : ℕ) → length saved ≡ suc n → (x : Value Contents) × (slice_get saved n ≡ Some x)
 get_there [] n e = absurd (omega (arith, e))
 get_there (x ∷ []) zero e = (x, refl)
@@ -34,11 +27,6 @@ renews saved more choices after n now content marked long e r =
       ap (open_choices saved) r.2 ∙ open-top saved r.1 n g.0 r.0 many g.1,
       ap (λ s. open_choices s after) e ∙ ap (open_choices (take n saved ++ now ∷ [])) r.3 ∙ open-push (take n saved) r.1 now content,
     )
-
-pub length-taken : (saved : List (Value Contents)) (n : ℕ) (now : Value Contents) → length saved ≡ suc n → length (take n saved ++ now ∷ []) ≡ suc n
-length-taken [] n now e = absurd (omega (arith, e))
-length-taken (x ∷ xs) zero now e = refl
-length-taken (x ∷ xs) (suc n) now e = ap suc (length-taken xs n now (omega (arith, e)))
 
 -- other alternatives at the same mark
 zip_newest : (xs : List (Value Contents)) (b c : Alternatives) (cs : List Alternatives) (x : Value Contents × Alternatives) (older : List (Value Contents × Alternatives))

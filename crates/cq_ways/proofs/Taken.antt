@@ -26,9 +26,6 @@ module _ (h : Held) (works : IsSearching h) (start : Value Contents) (s : Soluti
   abbrev v : Program
   v = works.0
 
-  pub can_there : CanGoOn start.0.heap.terms s
-  can_there = (subst (Open v) was works.1.choices).0
-
   waiting : AreWaiting (IsBranch h.texts) (term_in h.texts) (map (left_at h.texts v) ((start, alternatives.Ways s rest) ∷ older)) works.5.behind
   waiting = subst (λ xs. AreWaiting (IsBranch h.texts) (term_in h.texts) (map (left_at h.texts v) xs) works.5.behind) was works.5.waiting
 

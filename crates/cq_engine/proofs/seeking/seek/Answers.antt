@@ -5,7 +5,8 @@ use Rattle.cq_write.specs.Meaning.{operators}
 use Rattle.cq_machine.specs.declared.machine.Machine.{Machine}
 use Rattle.cq_machine.specs.Machines.{database_of}
 use Rattle.cq_engine.specs.Seeking.{IsKept, GainsNames}
-use Rattle.cq_engine.proofs.Engines.{texts_kept, names_kept, sound_where, going_on, names_known, by_database}
+use Rattle.cq_machine.proofs.Interned.{texts_kept, names_kept}
+use Rattle.cq_engine.proofs.Engines.{sound_where, going_on, names_known, by_database}
 use Rattle.cq_engine.proofs.seeking.seek.Goals as goal
 use Rattle.cq_engine.proofs.seeking.seek.Goals.{After-find}
 

@@ -1,4 +1,4 @@
-use Rattle.std.proofs.Common.{◌≡◌, ℕ}
+use Rattle.std.proofs.Common.{◌≡◌}
 use Rattle.spec_lists.specs.Prefixes.{IsPrefix}
 use Rattle.cq_atoms.specs.Texts.{AreDifferent}
 use Rattle.cq_begin.specs.Stops.{waiting_in}

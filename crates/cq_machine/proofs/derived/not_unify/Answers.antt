@@ -10,8 +10,8 @@ use Rattle.spec_terms.specs.Term.{Compound, one, more, with_arguments}
 use Rattle.cq_attr.proofs.Elements.{on_err}
 use Rattle.cq_term.specs.Trees.{tree}
 use Rattle.cq_steps.proofs.Arguments.{argument_reads}
-use Rattle.cq_machine.specs.Machines.{terms, now, holds}
-use Rattle.cq_machine.proofs.Built.{selected_on, stands_then, reads_on}
+use Rattle.cq_machine.specs.Machines.{terms, now}
+use Rattle.cq_machine.proofs.Built.{selected_on, stands_then}
 use Rattle.cq_machine.proofs.Kept.{argument_is}
 use Rattle.cq_machine.proofs.Over.{reads_over_one, reads_over_two}
 use Rattle.cq_machine.proofs.derived.not_unify.Goals as goal

@@ -1,16 +1,12 @@
-use Rattle.std.proofs.Common.{◌≡◌, [], Some, codes, ap, ◌∙◌, refl}
-use Rattle.spec_built.specs.Built.{compound1, compound2}
+use Rattle.std.proofs.Common.{◌≡◌, Some, codes, ◌∙◌, refl}
 use Rattle.spec_builtins.specs.Terms as builtins
-use Rattle.spec_lists.specs.Texts.{Text}
 use Rattle.spec_search.specs.Rows.{nth}
-use Rattle.spec_syntax.specs.Trees.{Tree}
-use Rattle.spec_terms.specs.Term.{Compound, one, more, with_arguments}
+use Rattle.spec_terms.specs.Term.{more}
 use Rattle.cq_attr.proofs.Elements.{on_err}
 use Rattle.cq_term.specs.Trees.{tree}
 use Rattle.cq_steps.proofs.Arguments.{argument_reads}
 use Rattle.cq_machine.specs.Machines.{terms, now, holds}
-use Rattle.cq_machine.proofs.Built.{selected_on, stands_then, reads_on}
-use Rattle.cq_machine.proofs.Kept.{argument_is}
+use Rattle.cq_machine.proofs.Built.{selected_on, reads_on}
 use Rattle.spec_built.specs.Built.{atom}
 use Rattle.cq_steps.proofs.Done.{length-stack}
 use Rattle.cq_steps.proofs.Reading.{read_live, tree_read}

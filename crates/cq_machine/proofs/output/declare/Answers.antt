@@ -1,7 +1,6 @@
 use Rattle.std.proofs.Common.{◌≡◌}
 use Rattle.spec_search.specs.Changes.{op_row}
 use Rattle.spec_search.specs.Replies.{changes}
-use Rattle.spec_syntax.specs.Trees.{Tree}
 use Rattle.cq_write.specs.Meaning.{operators}
 use Rattle.cq_steps.specs.Calls.{IsRaised}
 use Rattle.cq_term.specs.Trees.{tree}

@@ -5,7 +5,8 @@ use Rattle.cq_program.specs.Database.{as_database}
 use Rattle.cq_write.specs.Meaning.{operators}
 use Rattle.cq_ways.specs.Held.{Held, held, IsAsBefore}
 use Rattle.cq_offer.specs.Offers.{held_by}
-use Rattle.cq_offer.proofs.Machines.{over_sound, named_there, texts_kept, names_kept, same_stands, on_err}
+use Rattle.cq_machine.proofs.Interned.{texts_kept, names_kept}
+use Rattle.cq_offer.proofs.Machines.{over_sound, named_there, same_stands, on_err}
 use Rattle.cq_offer.proofs.offering.call_on.Goals as goal
 
 pub text-requires : goal.text-requires
