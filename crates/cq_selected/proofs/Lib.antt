@@ -2,3 +2,7 @@ mod Reached
 mod Stopped
 mod Equal
 mod Called
+mod More
+mod Whole
+mod Grown
+mod Declared
