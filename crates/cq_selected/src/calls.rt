@@ -9,7 +9,7 @@ ghost use Rattle.cq_term.specs.Meaning.{at};
 ghost use Rattle.cq_term.specs.Shown.{arguments};
 ghost use Rattle.cq_term.specs.Trees.{tree};
 ghost use Rattle.cq_machine.specs.Machines.{terms, IsSound, HasSameProgram, StillStands, HasBuilt};
-ghost use Rattle.cq_machine.specs.Stepping.{row_of, LeadsTo, CanGo};
+ghost use Rattle.cq_machine.specs.Stepping.{row_of, LeadsTo, CanGo, OnRaises};
 ghost use Rattle.cq_selected.specs.Calls.{Calls, HasName, HasNoName};
 
 use cq_atoms::Atom;
@@ -32,6 +32,7 @@ pub fn call_procedure(
     requires predicate { IsOf m.old.atoms predicate (tree m.old.atoms (terms m.old) goal) }
     ensures row { IfOk result (Calls m.old m.new goal rest) }
     ensures goes { IfOk result (CanGo m.new) }
+    ensures raises { IfOk result (λ s. OnRaises s (StillStands m.old m.new)) }
     ensures sound { IsSound m.new }
     ensures program { HasSameProgram m.old m.new }
     ensures err { OnErr result (StillStands m.old m.new) }
@@ -60,6 +61,7 @@ pub fn call_with_more(m: &mut Machine, goal: TermId, rest: Continuation) -> Resu
     requires rest { rest < length m.old.world.second.now }
     ensures row { IfOk result (λ s. (height : ℕ) → LeadsTo m.old m.new goal height rest (row_of Call) s) }
     ensures goes { IfOk result (CanGo m.new) }
+    ensures raises { IfOk result (λ s. OnRaises s (StillStands m.old m.new)) }
     ensures sound { IsSound m.new }
     ensures program { HasSameProgram m.old m.new }
     ensures err { OnErr result (StillStands m.old m.new) }

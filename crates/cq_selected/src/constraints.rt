@@ -5,7 +5,7 @@ ghost use Rattle.spec_search.specs.Builtins.{Curly};
 ghost use Rattle.cq_term.specs.Meaning.{at};
 ghost use Rattle.cq_term.specs.Shown.{arguments};
 ghost use Rattle.cq_machine.specs.Machines.{terms, IsSound, HasSameProgram, StillStands};
-ghost use Rattle.cq_machine.specs.Stepping.{row_of, LeadsTo, CanGo};
+ghost use Rattle.cq_machine.specs.Stepping.{row_of, LeadsTo, CanGo, OnRaises};
 ghost use Rattle.cq_selected.specs.Stops.{IsSelectedFrom, StopsAt};
 
 use cq_begin::Begun;
@@ -31,6 +31,7 @@ pub fn constrain(
     ensures row { IfOk result (LeadsTo m.old m.new goal height rest (row_of Curly)) }
     ensures stop { IfErr result (StopsAt m.old goal height rest (row_of Curly)) }
     ensures goes { IfOk result (CanGo m.new) }
+    ensures raises { IfOk result (λ s. OnRaises s (StillStands m.old m.new)) }
     ensures sound { IsSound m.new }
     ensures program { HasSameProgram m.old m.new }
     ensures err { OnErr result (StillStands m.old m.new) }

@@ -121,3 +121,10 @@ returns-in-Settling-clause-err c =
     let new = c.constrain.new in
     stands_all m m.clauses (saved_values new.world.first new.world.second.saved) new.choices (value new.world.first new.world.second.now) refl c.in-Err.ensures.err_saved c.in-Err.ensures.err_choices
     c.in-Err.ensures.err
+
+pub returns-in-Error-clause-raises : goal.returns-in-Error-clause-raises
+returns-in-Error-clause-raises c =
+    let m = c.args.m.now in
+    let new = c.constrain.new in
+    stands_all m m.clauses (saved_values new.world.first new.world.second.saved) new.choices (value new.world.first new.world.second.now) refl c.in-Err.ensures.err_saved c.in-Err.ensures.err_choices
+    c.in-Err.ensures.err
