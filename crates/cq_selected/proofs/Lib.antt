@@ -1,4 +1,4 @@
-mod Reached
+pub mod Reached
 mod Stopped
 mod Equal
 mod Called
