@@ -103,9 +103,10 @@ fn name_of(heap: &Heap, id: TermId) -> Option<Atom>
     ensures none { IfNone result (HasNoName (at heap.now.now.terms id)) }
 {
     match heap.view(id) {
+        View::Var(_) => None,
+        View::Number(_) => None,
         View::Name(name) => Some(name),
         View::Compound(name, _) => Some(name),
-        _ => None,
     }
 }
 
