@@ -25,8 +25,8 @@ use Rattle.cq_execute.specs.Executions.{Reaches, KeepsClauses, HasSameDatabase}
 pub record IsAtGoal (m : Machine) (id height rest : ℕ) : Type 0 where
   pub sound : IsSound m
   pub selected : IsSelectedFrom m id height rest
-  pub goal : id < length (terms m)
-  pub rest : rest < length m.world.second.now
+  pub live : id < length (terms m)
+  pub there : rest < length m.world.second.now
 
 -- it calls this built-in predicate
 abbrev pub IsCallOf : Machine → ℕ → Builtin → Type 0

@@ -8,6 +8,6 @@ execute_goal-requires c =
     record {
       sound = c.requires.sound;
       selected = c.requires.selected;
-      goal = c.selected_goals_lead.ensures.there m.atoms (now m).0 c.args.goal c.requires.selected.2 s.reads.0;
-      rest = s.selected.place.continuation.there;
+      live = c.selected_goals_lead.ensures.there m.atoms (now m).0 c.args.goal c.requires.selected.2 s.reads.0;
+      there = s.selected.place.continuation.there;
     }

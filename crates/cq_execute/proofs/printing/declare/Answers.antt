@@ -17,7 +17,7 @@ returns-in-Ok c =
     let new = c.declare.new.m in
     let d = c.declare.ensures in
     set_done m new c.args.goal c.args.height c.args.rest c.requires.calls (all_but_operators m new c.requires.at.sound d.sound d.world d.choices d.atoms d.clauses)
-    c.silent.result c.silent.ensures.step c.silent.ensures.output d.sound c.requires.at.rest (λ p behind g at. c.in-Ok.ensures.row c.args.height c.args.rest p behind g at)
+    c.silent.result c.silent.ensures.step c.silent.ensures.output d.sound c.requires.at.there (λ p behind g at. c.in-Ok.ensures.row c.args.height c.args.rest p behind g at)
 
 pub returns-in-Error : goal.returns-in-Error
 returns-in-Error c =

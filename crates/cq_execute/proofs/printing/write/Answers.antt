@@ -12,7 +12,7 @@ write-requires-clause-one c = so_many (text_of c.args.m.now.atoms) (at (terms c.
 
 pub returns-in-Ok : goal.returns-in-Ok
 returns-in-Ok c =
-    text_done c.args.m.now c.args.goal c.args.height c.args.rest (Write c.args.style) c.requires.calls _ refl c.requires.at.sound c.requires.at.rest
+    text_done c.args.m.now c.args.goal c.args.height c.args.rest (Write c.args.style) c.requires.calls _ refl c.requires.at.sound c.requires.at.there
     (λ p behind g at. c.in-Ok.ensures.row c.args.height c.args.rest p behind g at)
 
 pub returns-in-Err : goal.returns-in-Err

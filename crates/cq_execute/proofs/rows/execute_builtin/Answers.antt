@@ -245,7 +245,7 @@ returns-in-True c =
     let s = c.succeed_if.result in
     quiet_done m m c.args.goal c.args.height c.args.rest (Ok s) c.quiet.result
     (stop_done m m c.args.goal c.args.height c.args.rest True (rw c.in-True.is at c.requires.calls) (Ok s) (λ p behind g at. c.succeed_if.ensures.row m c.args.goal c.args.height p behind g at) tt
-    (c.succeed_if.ensures.goes m c.requires.at.rest) (still_raised m (Ok s)) c.requires.at.sound (same_machine m) tt)
+    (c.succeed_if.ensures.goes m c.requires.at.there) (still_raised m (Ok s)) c.requires.at.sound (same_machine m) tt)
     c.quiet.ensures
 
 pub returns-in-Fail : goal.returns-in-Fail
@@ -254,7 +254,7 @@ returns-in-Fail c =
     let s = c.succeed_if-in-Fail.result in
     quiet_done m m c.args.goal c.args.height c.args.rest (Ok s) c.quiet-in-Fail.result
     (stop_done m m c.args.goal c.args.height c.args.rest Fail (rw c.in-Fail.is at c.requires.calls) (Ok s) (λ p behind g at. c.succeed_if-in-Fail.ensures.row m c.args.goal c.args.height p behind g at) tt
-    (c.succeed_if-in-Fail.ensures.goes m c.requires.at.rest) (still_raised m (Ok s)) c.requires.at.sound (same_machine m) tt)
+    (c.succeed_if-in-Fail.ensures.goes m c.requires.at.there) (still_raised m (Ok s)) c.requires.at.sound (same_machine m) tt)
     c.quiet-in-Fail.ensures
 
 pub returns-in-Cut : goal.returns-in-Cut
