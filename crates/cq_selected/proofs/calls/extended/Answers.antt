@@ -28,8 +28,8 @@ build-requires-clause-name c =
     let m = c.args.m.now in
     named_below _ (at (terms m) c.args.called) c.in-Some.name (known_at m.atoms (terms m) c.args.called c.requires.sound.names c.requires.called) c.in-Some.ensures.some
 
-pub returns-in_ok-id-clause-built : goal.returns-in_ok-id-clause-built
-returns-in_ok-id-clause-built c =
+pub returns-clause-built : goal.returns-clause-built
+returns-clause-built c =
     let m = c.args.m.now in
     let name = c.in-Some.name in
     let below = named_below _ (at (terms m) c.args.called) name (known_at m.atoms (terms m) c.args.called c.requires.sound.names c.requires.called) c.in-Some.ensures.some in

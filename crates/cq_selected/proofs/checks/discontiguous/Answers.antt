@@ -13,8 +13,8 @@ use Rattle.cq_machine.proofs.Kept.{argument_is}
 use Rattle.cq_selected.proofs.Declared.{row_own, row_of_all}
 use Rattle.cq_selected.proofs.checks.discontiguous.Goals as goal
 
-pub returns-in-None-clause-row : goal.returns-in-None-clause-row
-returns-in-None-clause-row c = λ height p behind g s.
+pub returns-in-Ok-clause-row : goal.returns-in-Ok-clause-row
+returns-in-Ok-clause-row c = λ height p behind g s.
     let m = c.args.m.now in
     let u : Tree = tree m.atoms (terms m) c.arg-declared.result in
     let a = argument_is m.atoms (now m).0 p.state c.args.goal 0 c.arg-declared.result g s.reads c.arg-declared.ensures.live c.arg-declared.ensures.arg in
