@@ -107,16 +107,16 @@ module _ (old new : Machine) (id height rest : ℕ) where
 
     raises_none : IsSelectedFrom old id height rest → ((p : Place) (g e : Tree) → row_of b p g ≡ reply.Raises e → ⊥) → (s : Step) → LeadsTo old new id height rest (row_of b) s
         → OnRaises s (StillStands old new)
-    raises_none at no (Goes k) row = tt
-    raises_none at no Back row = tt
-    raises_none at no (Raises e) row = absurd (no at.0 at.2 _ (row at.0 at.1 at.2 at.3))
-    raises_none at no (Refuses pair) row = tt
+    raises_none at never (Goes k) row = tt
+    raises_none at never Back row = tt
+    raises_none at never (Raises e) row = absurd (never at.0 at.2 _ (row at.0 at.1 at.2 at.3))
+    raises_none at never (Refuses pair) row = tt
 
     -- a row that raises no error
     pub none_raised : {E : Type 0} → IsSelectedFrom old id height rest → ((p : Place) (g e : Tree) → row_of b p g ≡ reply.Raises e → ⊥) → (r : Result Step E)
         → IfOk r (LeadsTo old new id height rest (row_of b)) → IfOk r (λ s. OnRaises s (StillStands old new))
-    none_raised at no (Ok s) row = raises_none at no s row
-    none_raised at no (Err e) row = tt
+    none_raised at never (Ok s) row = raises_none at never s row
+    none_raised at never (Err e) row = tt
 
     -- ---- rows
 

@@ -61,7 +61,8 @@ fn execute_goal(
     requires at { IsAtGoal m.old goal height rest }
     ensures { IsDone m.old m.new goal height rest result }
 {
-    match predicate_of(&m.world.first.heap, &m.atoms, goal) {
+    let world = &m.world;
+    match predicate_of(&world.first.heap, &m.atoms, goal) {
         Ok(predicate) => execute_named(m, predicate, goal, height, rest),
         Err(error) => {
             let alloc = m.world.first.heap.alloc();

@@ -1,7 +1,7 @@
 // Rows of output and of operators: the goal goes on behind itself.
 
 ghost use Rattle.cq_execute.specs.Rows.{IsAtGoal, IsCallOf, IsDone};
-ghost use Rattle.cq_table.specs.declared.builtins.Builtin.{Builtin};
+ghost use Rattle.cq_table.specs.declared.builtins.Builtin.TheVariants as table;
 
 use crate::executed::Executed;
 use crate::steps::silent;
@@ -21,7 +21,7 @@ pub(crate) fn write(
     rest: Continuation,
 ) -> Result<Executed, StoreFault>
     requires at { IsAtGoal m.old goal height rest }
-    requires calls { IsCallOf m.old goal (Builtin.Write style) }
+    requires calls { IsCallOf m.old goal (table.Write style) }
     ensures { IsDone m.old m.new goal height rest result }
 {
     match cq_machine::write(m, style, goal) {
@@ -41,7 +41,7 @@ pub(crate) fn newline(
     rest: Continuation,
 ) -> Result<Executed, StoreFault>
     requires at { IsAtGoal m.old goal height rest }
-    requires calls { IsCallOf m.old goal Builtin.Newline }
+    requires calls { IsCallOf m.old goal table.Newline }
     ensures { IsDone m.old m.new goal height rest result }
 {
     match cq_machine::newline(m) {
@@ -61,7 +61,7 @@ pub(crate) fn declare(
     rest: Continuation,
 ) -> Result<Executed, StoreFault>
     requires at { IsAtGoal m.old goal height rest }
-    requires calls { IsCallOf m.old goal Builtin.Op }
+    requires calls { IsCallOf m.old goal table.Op }
     ensures { IsDone m.old m.new goal height rest result }
 {
     let alloc = m.world.first.heap.alloc();

@@ -32,7 +32,7 @@ pub returns-in-Error-clause-row : goal.returns-in-Error-clause-row
 returns-in-Error-clause-row c = λ p behind t s.
     let m = c.args.m.now in
     let new = record m { world = c.call.new.world } in
-    quietly new c.silent.result (step.Raises c.in-Error.error) p behind (compound1 "call" t) c.silent.ensures.step c.silent.ensures.output
+    quietly new c.silent-in-Error.result (step.Raises c.in-Error.error) p behind (compound1 "call" t) c.silent-in-Error.ensures.step c.silent-in-Error.ensures.output
     (reach new p behind (compound1 "call" t) s.database (step.Raises c.in-Error.error) (call_row p t []) refl
     ((rw c.in-Error.is at c.in-Err.ensures.fault) p t s.reads ∙ ap (λ (w : Contents). Raises (error_tree m.atoms w.heap.terms c.in-Error.error)) (sym c.in-Err.ensures.world)))
 
@@ -44,7 +44,7 @@ returns-in-Ok-clause-goes c = subst (CanGo (record c.args.m.now { world = c.call
 pub returns-in-Error-clause-goes : goal.returns-in-Error-clause-goes
 returns-in-Error-clause-goes c =
     let m = c.args.m.now in
-    subst (CanGo (record m { world = c.call.new.world })) (sym c.silent.ensures.step)
+    subst (CanGo (record m { world = c.call.new.world })) (sym c.silent-in-Error.ensures.step)
     (subst (λ (w : Contents). HasCulprit m.atoms w.heap.terms c.in-Error.error) (sym c.in-Err.ensures.world) (rw c.in-Error.is at c.in-Err.ensures.culprit))
 
 pub returns-in-Ok-clause-raises : goal.returns-in-Ok-clause-raises
@@ -56,7 +56,7 @@ pub returns-in-Error-clause-raises : goal.returns-in-Error-clause-raises
 returns-in-Error-clause-raises c =
     let m = c.args.m.now in
     let new = record m { world = c.call.new.world } in
-    subst (λ (s : Step). OnRaises s (StillStands m new)) (sym c.silent.ensures.step)
+    subst (λ (s : Step). OnRaises s (StillStands m new)) (sym c.silent-in-Error.ensures.step)
     (stands_still m new (record { atoms = refl; names = refl; ops = refl; clauses = refl; budget = ap (λ (w : Contents). w.pivots) c.in-Err.ensures.world }) refl c.in-Err.ensures.saved
     (same_grown m.atoms (now m).0 (now new).0 (now m).1 (now new).1 c.in-Err.ensures.world c.in-Err.ensures.keeps))
 

@@ -3,6 +3,7 @@ use Rattle.std.specs.Prelude.{Ok, IfOk}
 use Rattle.spec_search.specs.Builtins.{True, Fail, And, Or, IfThen, Cut, Not, Once, Unify, NotUnify, Is, Compare, Discontiguous, Initialization, UseModule, Curly, Freeze}
 use Rattle.cq_atoms.specs.Texts.{text_of}
 use Rattle.cq_builtin.specs.Rows.{comparison_of}
+use Rattle.cq_linear.specs.declared.store.StoreFault.{StoreFault}
 use Rattle.cq_term.specs.Meaning.{at}
 use Rattle.cq_machine.specs.Machines.{terms}
 use Rattle.cq_machine.specs.Stepping.{row_of, LeadsTo}
@@ -236,7 +237,7 @@ returns-in-UseModule c =
     let s = c.use_module.result in
     quiet_done m m c.args.goal c.args.height c.args.rest (Ok s) c.quiet-in-UseModule.result
     (stop_done m m c.args.goal c.args.height c.args.rest UseModule (rw c.in-UseModule.is at c.requires.calls) (Ok s) (λ p behind g at. c.use_module.ensures.row c.args.height p behind g at) tt
-    c.use_module.ensures.goes (still_raised m (Ok s)) c.requires.at.sound (same_machine m) tt)
+    c.use_module.ensures.goes (still_raised {E = StoreFault} m (Ok s)) c.requires.at.sound (same_machine m) tt)
     c.quiet-in-UseModule.ensures
 
 pub returns-in-True : goal.returns-in-True
@@ -245,7 +246,7 @@ returns-in-True c =
     let s = c.succeed_if.result in
     quiet_done m m c.args.goal c.args.height c.args.rest (Ok s) c.quiet.result
     (stop_done m m c.args.goal c.args.height c.args.rest True (rw c.in-True.is at c.requires.calls) (Ok s) (λ p behind g at. c.succeed_if.ensures.row m c.args.goal c.args.height p behind g at) tt
-    (c.succeed_if.ensures.goes m c.requires.at.there) (still_raised m (Ok s)) c.requires.at.sound (same_machine m) tt)
+    (c.succeed_if.ensures.goes m c.requires.at.there) (still_raised {E = StoreFault} m (Ok s)) c.requires.at.sound (same_machine m) tt)
     c.quiet.ensures
 
 pub returns-in-Fail : goal.returns-in-Fail
@@ -254,7 +255,7 @@ returns-in-Fail c =
     let s = c.succeed_if-in-Fail.result in
     quiet_done m m c.args.goal c.args.height c.args.rest (Ok s) c.quiet-in-Fail.result
     (stop_done m m c.args.goal c.args.height c.args.rest Fail (rw c.in-Fail.is at c.requires.calls) (Ok s) (λ p behind g at. c.succeed_if-in-Fail.ensures.row m c.args.goal c.args.height p behind g at) tt
-    (c.succeed_if-in-Fail.ensures.goes m c.requires.at.there) (still_raised m (Ok s)) c.requires.at.sound (same_machine m) tt)
+    (c.succeed_if-in-Fail.ensures.goes m c.requires.at.there) (still_raised {E = StoreFault} m (Ok s)) c.requires.at.sound (same_machine m) tt)
     c.quiet-in-Fail.ensures
 
 pub returns-in-Cut : goal.returns-in-Cut
