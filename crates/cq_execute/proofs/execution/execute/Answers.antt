@@ -6,8 +6,10 @@ execute_goal-requires c =
     let m = c.args.m.now in
     let s = c.requires.selected.3 in
     record {
-      sound = c.requires.sound;
-      selected = c.requires.selected;
-      live = c.selected_goals_lead.ensures.there m.atoms (now m).0 c.args.goal c.requires.selected.2 s.reads.0;
-      there = s.selected.place.continuation.there;
+      at = record {
+        sound = c.requires.sound;
+        selected = c.requires.selected;
+        live = c.selected_goals_lead.ensures.there m.atoms (now m).0 c.args.goal c.requires.selected.2 s.reads.0;
+        there = s.selected.place.continuation.there;
+      };
     }
