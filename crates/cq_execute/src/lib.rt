@@ -1,0 +1,8 @@
+//! How an engine executes a goal: what it calls is found by its name and number of arguments, and its row is done.
+#![tactic(auto)]
+
+mod executed;
+mod execution;
+
+pub use executed::Executed;
+pub use execution::{execute, execute_call};
