@@ -41,8 +41,8 @@ pub enum Front {
     Stop(Cause),
 }
 
-/// The query stops: the machine has no branch left.
-fn halt(m: &mut Machine)
+/// The query ends: the machine has no branch left.
+pub fn halt(m: &mut Machine)
     requires { IsKept m.old }
     ensures none_left { holds m.new ≡ [] }
     ensures now { now m.new ≡ now m.old }

@@ -3,7 +3,7 @@
 ghost use Rattle.std.specs.Prelude.{IfOk, IfErr, OnErr};
 ghost use Rattle.spec_search.specs.Rows.{reply_of};
 ghost use Rattle.cq_machine.specs.Machines.{IsSound, StillStands};
-ghost use Rattle.cq_machine.specs.Stepping.{CanGo};
+ghost use Rattle.cq_machine.specs.Stepping.{CanGo, OnRaises};
 ghost use Rattle.cq_selected.specs.Stops.{IsSelectedFrom, StopsAt};
 ghost use Rattle.cq_execute.specs.Executions.{Executes, ExecutesCall, IsCallSelectedSomewhere, KeepsClauses, HasSameDatabase};
 
@@ -28,6 +28,7 @@ pub fn execute(
     ensures row { IfOk result (Executes m.old m.new goal height rest) }
     ensures stop { IfErr result (StopsAt m.old goal height rest reply_of) }
     ensures goes { IfOk result (λ x. CanGo m.new x.step) }
+    ensures raises { IfOk result (λ x. OnRaises x.step (StillStands m.old m.new)) }
     ensures sound { IsSound m.new }
     ensures program { KeepsClauses m.old m.new }
     ensures err { OnErr result (StillStands m.old m.new) }
@@ -47,6 +48,7 @@ pub fn execute_call(
     requires selected { IsCallSelectedSomewhere m.old called rest }
     ensures row { IfOk result (ExecutesCall m.old m.new called rest) }
     ensures goes { IfOk result (λ x. CanGo m.new x.step) }
+    ensures raises { IfOk result (λ x. OnRaises x.step (StillStands m.old m.new)) }
     ensures sound { IsSound m.new }
     ensures program { KeepsClauses m.old m.new }
     ensures database { HasSameDatabase m.old m.new }

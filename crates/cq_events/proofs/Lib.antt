@@ -1,0 +1,4 @@
+mod Selections
+mod Steps
+mod Catches
+mod Ended

@@ -1,0 +1,95 @@
+// A machine with a query.
+
+ghost use Rattle.std.specs.Prelude.{◌≡◌, ◌<◌, length, IfOk, OnOk, OnErr};
+ghost use Rattle.spec_search.specs.Database.{initial};
+ghost use Rattle.spec_search.specs.Search.{start};
+ghost use Rattle.cq_term.specs.Trees.{tree};
+ghost use Rattle.cq_machine.specs.Machines.{terms, database_of};
+ghost use Rattle.cq_engine.specs.Seeking.{IsKept};
+ghost use Rattle.cq_events.specs.Events.{IsIdle, IsRunning, GivesNext, GoesOn, Keeps, Stands, HasSameWorld};
+
+use crate::event::Event;
+use crate::starting::{clear, first_cell};
+use crate::turning::turn;
+use cq_control::Continuation;
+use cq_machine::Machine;
+use cq_term::TermId;
+use std::alloc::{AllocError, Global};
+
+/// A machine with a query: how many goals it selected, how many it may select, and what it goes on with, where it doesn't come back
+/// to its newest choice.
+#[derive(Drop)]
+pub struct Engine {
+    pub machine: Machine,
+    pub selected: u64,
+    pub steps: u64,
+    pub current: Option<Continuation>,
+}
+
+impl Engine {
+    /// An engine without clauses and without a query. A call of it may make as many exchanges as `pivots` says.
+    pub fn new(alloc: Global, pivots: u64) -> Result<Engine, AllocError>
+        ensures idle { IfOk result IsIdle }
+        ensures program { IfOk result (λ e. database_of e.machine ≡ initial) }
+        ensures pivots { IfOk result (λ e. e.machine.world.first.store.pivots ≡ pivots) }
+    {
+        let machine = Machine::new(alloc, pivots)?;
+        Ok(Engine {
+            machine,
+            selected: 0,
+            steps: 0,
+            current: None,
+        })
+    }
+
+    /// Ends the query, if there is one, and forgets all terms and constraints. Names, operators and clauses stay.
+    pub fn end(&mut self)
+        requires { IsKept self.old.machine }
+        ensures idle { IsIdle self.new }
+        ensures keeps { Keeps self.old self.new }
+        ensures program { database_of self.new.machine ≡ database_of self.old.machine }
+    {
+        self.current = None;
+        clear(&mut self.machine);
+    }
+
+    /// Begins a query of a term, which may select so many goals; its variables are those of the heap. An error is want of memory,
+    /// and the engine still has no query.
+    pub fn start(&mut self, goal: TermId, steps: u64) -> Result<(), AllocError>
+        requires idle { IsIdle self.old }
+        requires goal { goal < length (terms self.old.machine) }
+        ensures stands { OnOk result (Stands self.new (start (database_of self.old.machine)
+            (tree self.old.machine.atoms (terms self.old.machine) goal) (length self.old.machine.world.first.heap.now.images))) }
+        ensures running { OnOk result (IsRunning self.new) }
+        ensures steps { OnOk result (self.new.steps ≡ steps) }
+        ensures world { HasSameWorld self.old self.new }
+        ensures err { OnErr result (IsIdle self.new) }
+    {
+        let k = first_cell(&mut self.machine, goal)?;
+        self.selected = 0;
+        self.steps = steps;
+        self.current = Some(k);
+        Ok(())
+    }
+
+    /// What the query tells next. An error is want of memory: the engine then stands behind some turns that tell nothing, and
+    /// another call goes on from there. After `Fail`, `Ball` and `Stop` it is `Fail` again.
+    pub fn next(&mut self) -> Result<Event, AllocError>
+        requires { IsRunning self.old }
+        ensures event { IfOk result (GivesNext self.old self.new) }
+        ensures err { OnErr result (GoesOn self.old self.new) }
+        ensures running { IsRunning self.new }
+        ensures keeps { Keeps self.old self.new }
+    {
+        'turns: loop {
+            match turn(self) {
+                Ok(told) => {
+                    if let Some(event) = told {
+                        return Ok(event);
+                    }
+                }
+                Err(fault) => return Err(fault),
+            }
+        }
+    }
+}
