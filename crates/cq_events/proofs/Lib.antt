@@ -1,4 +1,8 @@
 mod Selections
 mod Steps
 mod Catches
+mod Raised
 mod Ended
+mod Stops
+mod Thrown
+mod Turned

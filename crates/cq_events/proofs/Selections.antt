@@ -1,5 +1,5 @@
 -- A goal in front is the one that the search selects next.
-use Rattle.std.proofs.Common.{◌≡◌, ℕ, ◌<◌, List, [], ◌∷◌, ◌++◌, Option, None, Some, refl, sym, ap, ◌∙◌, subst}
+use Rattle.std.proofs.Common.{◌≡◌, ℕ, ◌<◌, List, [], ◌∷◌, ◌++◌, length, Option, None, Some, refl, sym, ap, ◌∙◌, subst}
 use Rattle.spec_syntax.specs.Trees.{Tree}
 use Rattle.spec_built.specs.Built.{compound1}
 use Rattle.spec_branch.specs.Branch.{State, Item, Branch, read}
@@ -93,7 +93,7 @@ first_state st (b ∷ bs) = b.state
 
 -- the continuation behind the selected goal still stands for the items behind it
 pub items_still : (old new : Machine) (n rest : ℕ) (s : Search) (x : SelectsNext old n rest s) → StillStands old new
-    → AreItems (IsBranch new.atoms) (term_in new.atoms) (holds new) (now new).0 x.state (items_at new.world.second.now rest) x.items
+    → (rest < length new.world.second.now) × AreItems (IsBranch new.atoms) (term_in new.atoms) (holds new) (now new).0 x.state (items_at new.world.second.now rest) x.items
 items_still old new n rest s x still =
     let t : Search = record { database = s.database; branches = settled x.items x.state ∷ x.behind; selected = n } in
     let j = still s.database n (Some rest) t (record {
@@ -107,6 +107,8 @@ items_still old new n rest s x still =
     }) in
     let c = j.current in
     let same : settled c.0 c.1 ∷ j.behind ≡ settled x.items x.state ∷ x.behind = sym (j.branches ∙ ap (λ l. l ++ j.behind) c.2) in
-    let cells = items_at new.world.second.now rest in
-    subst (λ (items : List Item). AreItems (IsBranch new.atoms) (term_in new.atoms) (holds new) (now new).0 x.state cells items) (ap first_items same)
-    (subst (λ (st : State). AreItems (IsBranch new.atoms) (term_in new.atoms) (holds new) (now new).0 st cells c.0) (ap (first_state x.state) same) c.3.cells)
+    let cells = items_at new.world.second.now rest in (
+      c.3.there,
+      subst (λ (items : List Item). AreItems (IsBranch new.atoms) (term_in new.atoms) (holds new) (now new).0 x.state cells items) (ap first_items same)
+          (subst (λ (st : State). AreItems (IsBranch new.atoms) (term_in new.atoms) (holds new) (now new).0 st cells c.0) (ap (first_state x.state) same) c.3.cells),
+    )

@@ -61,9 +61,6 @@ pub(crate) fn execute_cell(
             }),
             Err(_) => Err(StoreFault::NoMemory),
         },
-        Cell::CutTo(_) => Err(StoreFault::NoMemory),
-        Cell::CutFail(_) => Err(StoreFault::NoMemory),
-        Cell::CatchEnd(_, _, _) => Err(StoreFault::NoMemory),
-        Cell::Collect(_, _) => Err(StoreFault::NoMemory),
+        _ => Err(StoreFault::NoMemory),
     }
 }

@@ -1,19 +1,24 @@
 // A machine with a query.
 
-ghost use Rattle.std.specs.Prelude.{◌≡◌, ◌<◌, length, IfOk, OnOk, OnErr};
+ghost use Rattle.std.specs.Prelude.{◌≡◌, ◌<◌, List, length, IfOk, OnOk, OnErr};
+ghost use Rattle.spec_lists.specs.Texts.{Text};
 ghost use Rattle.spec_search.specs.Database.{initial};
 ghost use Rattle.spec_search.specs.Search.{start};
 ghost use Rattle.cq_term.specs.Trees.{tree};
+ghost use Rattle.cq_steps.specs.Lists.{goal_cell};
 ghost use Rattle.cq_machine.specs.Machines.{terms, database_of};
 ghost use Rattle.cq_engine.specs.Seeking.{IsKept};
 ghost use Rattle.cq_events.specs.Events.{IsIdle, IsRunning, GivesNext, GoesOn, Keeps, Stands, HasSameWorld};
 
 use crate::event::Event;
-use crate::starting::{clear, first_cell};
 use crate::turning::turn;
-use cq_control::Continuation;
+use cq_control::{Choices, Continuation, Continuations};
+use cq_kinds::is_callable;
 use cq_machine::Machine;
-use cq_term::TermId;
+use cq_term::{Heap, TermId};
+use cq_trail::Both;
+use cq_world::World;
+use spec_machine::Cell;
 use std::alloc::{AllocError, Global};
 
 /// A machine with a query: how many goals it selected, how many it may select, and what it goes on with, where it doesn't come back
@@ -24,6 +29,18 @@ pub struct Engine {
     pub selected: u64,
     pub steps: u64,
     pub current: Option<Continuation>,
+}
+
+/// The cell of a query's goal.
+fn cell_of(heap: &Heap, goal: TermId) -> Cell
+    requires { goal < length heap.now.now.terms }
+    ensures { (texts : List Text) → result ≡ goal_cell texts heap.now.now.terms goal 0 }
+{
+    if is_callable(heap, goal) {
+        Cell::Goal(goal, 0)
+    } else {
+        Cell::Call(goal)
+    }
 }
 
 impl Engine {
@@ -49,8 +66,14 @@ impl Engine {
         ensures keeps { Keeps self.old self.new }
         ensures program { database_of self.new.machine ≡ database_of self.old.machine }
     {
+        let alloc = self.machine.world.first.heap.alloc();
+        let pivots = self.machine.world.first.store.pivots();
+        self.machine.world = Both {
+            first: World::new(alloc, pivots),
+            second: Continuations::new(alloc),
+        };
+        self.machine.choices = Choices::new(alloc);
         self.current = None;
-        clear(&mut self.machine);
     }
 
     /// Begins a query of a term, which may select so many goals; its variables are those of the heap. An error is want of memory,
@@ -65,7 +88,8 @@ impl Engine {
         ensures world { HasSameWorld self.old self.new }
         ensures err { OnErr result (IsIdle self.new) }
     {
-        let k = first_cell(&mut self.machine, goal)?;
+        let cell = cell_of(&self.machine.world.first.heap, goal);
+        let k = self.machine.world.second.before(cell, Continuation::done())?;
         self.selected = 0;
         self.steps = steps;
         self.current = Some(k);

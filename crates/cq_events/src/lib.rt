@@ -8,7 +8,6 @@ mod cells;
 mod engine;
 mod event;
 mod raiser;
-mod starting;
 mod turning;
 
 pub use engine::Engine;
