@@ -1,5 +1,5 @@
 -- Cells without the end of a catch.
-use Rattle.std.proofs.Common.{◌≡◌, List, ◌∷◌, Some, None, true, false, refl, sym}
+use Rattle.std.proofs.Common.{◌≡◌, ℕ, List, ◌∷◌, Option, Some, None, true, false, refl, sym}
 use Rattle.std.specs.Prelude.{is_some}
 use Rattle.std.proofs.lemmas.Bool.{false≢true}
 use Rattle.spec_machine.specs.declared.cell.Cell.{Cell}
@@ -23,3 +23,9 @@ caught (CutTo height) cs e = absurd (false≢true e)
 caught (CutFail height) cs e = absurd (false≢true e)
 caught (CatchEnd height c r) cs e = refl
 caught (Collect height t) cs e = absurd (false≢true e)
+
+pub none_caught : (cs : List Cell) → is_some (nearest_catch cs) ≡ false → nearest_catch cs ≡ None
+none_caught cs e = by (nearest_catch cs) e where
+  by : (o : Option (ℕ × ℕ × ℕ × List Cell)) → is_some o ≡ false → o ≡ None
+  by None e = refl
+  by (Some c) e = absurd (false≢true (sym e))

@@ -51,6 +51,11 @@ stands_at old new n current s a b c j =
     (subst (λ (i : ℕ). StandsFor old.machine i new.current s) (sym b)
     (subst (λ (o : Option ℕ). StandsFor old.machine n o s) (sym c) j))
 
+-- the same where it is another machine
+pub stands_same : (new : Engine) (n : ℕ) (current : Option ℕ) (s : Search) → new.selected ≡ n → new.current ≡ current → StandsFor new.machine n current s → Stands new s
+stands_same new n current s b c j =
+    subst (λ (i : ℕ). StandsFor new.machine i new.current s) (sym b) (subst (λ (o : Option ℕ). StandsFor new.machine n o s) (sym c) j)
+
 arrives_at : (old new : Engine) (current : Option ℕ) (steps : ℕ) (s : Search) → IsAt old new current → ComesTo steps old.machine (suc old.selected) current s → Arrives steps new s
 arrives_at old new current steps s i c = record {
   reached = c.reached;
@@ -126,4 +131,13 @@ stopped budgets new n cause s last h d e t = record {
   reached = s;
   quiet = at_once;
   stands = stands_ended new n (with_branches [] s) h d e refl;
+}
+
+pub runs_stopped : (first new : Engine) → HasEnded first.selected new → IsRunning first → new.steps ≡ first.steps
+    → (first_database : (s : Search) → Stands first s → s.database ≡ database_of new.machine) → IsRunning new
+runs_stopped first new h run steps d = record {
+  kept = h.kept;
+  search = with_branches [] run.search;
+  stands = stands_ended new first.selected (with_branches [] run.search) h (d run.search run.stands) run.stands.selected refl;
+  within = let a = h.selected in let b = run.within in omega (arith, a, b, steps);
 }

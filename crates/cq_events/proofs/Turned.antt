@@ -1,5 +1,6 @@
 -- What an engine gives behind quiet turns, and what it keeps.
 use Rattle.std.proofs.Common.{◌≡◌, ℕ, suc, ◌<◌, ◌≤◌, [], Option, None, Some, refl, sym, ap, ◌∙◌, subst, arith}
+use Rattle.spec_lists.specs.Prefixes.{IsPrefix}
 use Rattle.spec_lists.proofs.Prefixes.{prefix_both, prefix_same}
 use Rattle.spec_search.specs.Search.{Search}
 use Rattle.spec_stops.specs.Causes.{Budgets}
@@ -23,6 +24,25 @@ keeps_both a b c f g = record {
   atoms = prefix_both a.machine.atoms b.machine.atoms c.machine.atoms f.atoms g.atoms;
   steps = g.steps ∙ f.steps;
   pivots = g.pivots ∙ f.pivots;
+}
+
+pub keeps_none : (e : Engine) → Keeps e e
+keeps_none e = record { atoms = prefix_same e.machine.atoms e.machine.atoms refl; steps = refl; pivots = refl }
+
+-- another machine, and then no more
+pub keeps_at : (old new : Engine) (m : Machine) → KeepsClauses old.machine m → new.machine ≡ m → new.steps ≡ old.steps → Keeps old new
+keeps_at old new m k e steps = record {
+  atoms = subst (λ (x : Machine). IsPrefix old.machine.atoms x.atoms) (sym e) k.atoms;
+  steps = steps;
+  pivots = ap (λ (x : Machine). x.world.first.store.pivots) e ∙ k.budget;
+}
+
+pub keeps_gained : (old new : Engine) (m : Machine) → KeepsClauses old.machine m → GainsNames m new.machine → new.machine.world.first.store.pivots ≡ m.world.first.store.pivots
+    → new.steps ≡ old.steps → Keeps old new
+keeps_gained old new m k g pivots steps = record {
+  atoms = prefix_both old.machine.atoms m.atoms new.machine.atoms k.atoms g.atoms;
+  steps = steps;
+  pivots = pivots ∙ k.budget;
 }
 
 budgets_on : (budgets : Budgets) (old new : Engine) → Keeps old new → HasBudgets budgets old → HasBudgets budgets new

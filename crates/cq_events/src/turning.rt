@@ -101,10 +101,10 @@ fn select(e: &mut Engine, k: Continuation) -> Result<Option<Event>, AllocError>
         Ok(done) => match done.executed.step {
             Step::Goes(next) => Ok(advance(e, Some(next), done.executed.output)),
             Step::Back => Ok(advance(e, None, done.executed.output)),
-            Step::Raises(error) => {
-                let ball = throw(e, error, done.raiser, rest)?;
-                Ok(Some(ball))
-            }
+            Step::Raises(error) => match throw(e, error, done.raiser, rest) {
+                Ok(ball) => Ok(Some(ball)),
+                Err(fault) => Err(fault),
+            },
             Step::Refuses(pair) => {
                 leave(e);
                 Ok(Some(Event::Stop(Cause::Overflow(pair))))
