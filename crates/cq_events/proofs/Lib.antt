@@ -6,3 +6,4 @@ mod Ended
 mod Stops
 mod Thrown
 mod Turned
+mod Idle

@@ -16,6 +16,7 @@ use Rattle.cq_term.specs.Trees.{tree}
 use Rattle.cq_steps.specs.Worlds.{Placed}
 use Rattle.cq_machine.specs.declared.machine.Machine.{Machine}
 use Rattle.cq_machine.specs.Machines.{terms, now, holds, database_of, IsSound}
+use Rattle.cq_engine.specs.Fronts.{selects}
 use Rattle.cq_engine.specs.Seeking.{IsKept}
 use Rattle.cq_execute.specs.Executions.{Reaches}
 use Rattle.cq_events.specs.declared.cells.Done.{Done}
@@ -72,6 +73,12 @@ abbrev pub MayStop : Machine → ℕ → ℕ → StoreFault → Search → Type 
 MayStop m n rest (Overflow pair) s = IsStoppedNext m n rest (Overflow pair) s
 MayStop m n rest (Pivots x) s = IsStoppedNext m n rest (Pivots x) s
 MayStop m n rest NoMemory s = ⊤
+
+-- a goal was in front, or memory was wanted
+abbrev pub HasSelected : Cell → StoreFault → Type 0
+HasSelected c (Overflow pair) = selects c ≡ true
+HasSelected c (Pivots x) = selects c ≡ true
+HasSelected c NoMemory = ⊤
 
 -- ---- an engine then
 

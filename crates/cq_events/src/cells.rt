@@ -8,7 +8,7 @@ ghost use Rattle.cq_engine.specs.Fronts.{selects};
 ghost use Rattle.cq_engine.specs.Seeking.{IsGoing, StandsFor};
 ghost use Rattle.cq_execute.specs.Executions.{KeepsClauses, HasSameDatabase};
 ghost use Rattle.cq_events.specs.Raised.{IsNumbered};
-ghost use Rattle.cq_events.specs.Turning.{HasInFront, Reached, MayStop};
+ghost use Rattle.cq_events.specs.Turning.{HasInFront, HasSelected, Reached, MayStop};
 
 use crate::raiser::{Raiser, raiser_of};
 use cq_control::Continuation;
@@ -38,6 +38,7 @@ pub(crate) fn execute_cell(
     ensures row { IfOk result (λ d. (n : ℕ) (s : Search) → StandsFor m.old n (Some k) s → Reached m.old m.new n rest d s) }
     ensures stop { IfErr result (λ f. (n : ℕ) (s : Search) → StandsFor m.old n (Some k) s → MayStop m.old n rest f s) }
     ensures selects { IfOk result (λ d. selects cell ≡ true) }
+    ensures err_selects { IfErr result (HasSelected cell) }
     ensures goes { IfOk result (λ d. CanGo m.new d.executed.step) }
     ensures numbered { IfOk result (λ d. IsNumbered m.new.atoms d.raiser) }
     ensures raises { IfOk result (λ d. OnRaises d.executed.step (StillStands m.old m.new)) }

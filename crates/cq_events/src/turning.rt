@@ -136,7 +136,10 @@ pub(crate) fn turn(e: &mut Engine) -> Result<Option<Event>, AllocError>
         Ok(front) => match front {
             Front::Ahead(k) => {
                 e.current = Some(k);
-                select(e, k)
+                match select(e, k) {
+                    Ok(told) => Ok(told),
+                    Err(fault) => Err(fault),
+                }
             }
             Front::Answer => Ok(Some(Event::Answer)),
             Front::Fail => Ok(Some(Event::Fail)),
