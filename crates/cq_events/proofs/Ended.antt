@@ -27,11 +27,11 @@ use Rattle.cq_events.proofs.Steps.{comes_then, comes_quietly, tells_text}
 -- ---- behind quiet turns
 
 tells_then : (budgets : Budgets) (e : Engine) (s r : Search) → Quietly budgets.steps s r → (told : Told) → TellsNext budgets e told r → TellsNext budgets e told s
-tells_then budgets e s r q told t = record { next = t.next; tells = told_then q t.tells; comes = t.comes }
+tells_then budgets e s r q told t = record { next = t.next; tells = told_then q t.tells; stands = t.stands }
 
 pub gives_then : (budgets : Budgets) (e : Engine) (event : Event) (s r : Search) → Quietly budgets.steps s r → Gives budgets e event r → Gives budgets e event s
 gives_then budgets e Answer s r q g = record { state = g.state; is_state = g.is_state; tells = tells_then budgets e s r q _ g.tells }
-gives_then budgets e (Output text) s r q g = tells_then budgets e s r q _ g
+gives_then budgets e (Output text) s r q g = record { next = g.next; tells = told_then q g.tells; comes = g.comes }
 gives_then budgets e Fail s r q g = tells_then budgets e s r q _ g
 gives_then budgets e (Ball id) s r q g = record { live = g.live; tells = tells_then budgets e s r q _ g.tells }
 gives_then budgets e (Stop cause) s r q g = record {

@@ -8,17 +8,21 @@ use Rattle.spec_branch.specs.Branch.{State, Item}
 use Rattle.spec_search.specs.Control.{put}
 use Rattle.spec_search.specs.Database.{Database}
 use Rattle.spec_search.specs.Search.{settled, empty_state, start}
-use Rattle.cq_control.specs.Items.{items_at}
+use Rattle.cq_control.specs.Items.{ContinuationsValue, items_at}
+use Rattle.cq_control.specs.Open.{AreMarked}
 use Rattle.spec_machine.specs.declared.cell.Cell.{Cell}
 use Rattle.spec_machine.specs.Cells.{Fits, Value, Stack}
 use Rattle.spec_machine.specs.Standing.{engine, AreItems, IsStanding}
 use Rattle.cq_term.specs.Trees.{tree}
 use Rattle.cq_world.specs.Contents.{Contents}
 use Rattle.cq_steps.specs.Lists.{HasCells, put_cell, goal_cell}
-use Rattle.cq_steps.specs.Worlds.{IsBranch, term_in, KnowsNothing}
+use Rattle.cq_steps.specs.Choices.{AreOpen}
+use Rattle.cq_steps.specs.Worlds.{IsBranch, term_in, KnowsNothing, saved_values}
 use Rattle.cq_steps.proofs.Beginning.{begins}
 use Rattle.cq_steps.proofs.Control.{put_items}
 use Rattle.cq_steps.proofs.Reading.{tree_read}
+use Rattle.cq_machine.specs.declared.machine.Machine.{Machine}
+use Rattle.cq_machine.specs.Machines.{IsSound, saved}
 
 first_fits : (b : Bool) (t : ℕ) → Fits 0 (put_cell b t 0 ∷ [])
 first_fits true t = (omega arith, tt)
@@ -51,4 +55,18 @@ query_stands texts db c lists k id nothing live h =
         },
       );
       waiting = refl;
+    }
+
+-- other continuations over the same marks
+pub sound_over : (m : Machine) (lists : ContinuationsValue Cell) → lists.saved ≡ m.world.second.saved → IsSound m → IsSound (record m { world = record m.world { second = lists } })
+sound_over m lists e s =
+    let same : saved_values m.world.first lists.saved ≡ saved m = ap (λ (l : List (List (List Cell))). saved_values m.world.first l) e in
+    record {
+      known = s.known;
+      different = s.different;
+      names = s.names;
+      program = s.program;
+      operators_named = s.operators_named;
+      marked = subst (λ (l : List (Value Contents)). AreMarked l m.choices) (sym same) s.marked;
+      untried = subst (λ (l : List (Value Contents)). AreOpen m.clauses l m.choices) (sym same) s.untried;
     }

@@ -7,3 +7,5 @@ mod Stops
 mod Thrown
 mod Turned
 mod Idle
+mod Marks
+mod Read

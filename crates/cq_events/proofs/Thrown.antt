@@ -8,7 +8,7 @@ use Rattle.spec_search.specs.Replies.{Raises}
 use Rattle.spec_search.specs.Search.{Search}
 use Rattle.spec_search.specs.Turns.{Threw, place_of, after_ball}
 use Rattle.spec_machine.specs.Cells.{nearest_catch}
-use Rattle.spec_machine.specs.Coming.{Tells, Shows, at_once}
+use Rattle.spec_machine.specs.Coming.{Tells, Shows}
 use Rattle.spec_machine.proofs.Thrown.{uncaught}
 use Rattle.cq_built.specs.Errors.{error_tree}
 use Rattle.cq_built.specs.declared.errors.BuiltinError.{BuiltinError}
@@ -64,7 +64,7 @@ module _ (first mid new : Engine) (rest : ℕ) (e : BuiltinError) (r : Raiser) (
           next = after_ball s [];
           tells = subst (λ (t : Tree). Tells budgets s (Shows (Threw (plain_copy t))) (after_ball s [])) ball
               (tells_ball first.machine first.selected rest s y budgets less error x.reply.is free);
-          comes = record { reached = after_ball s []; quiet = at_once; stands = stands_then s j };
+          stands = stands_then s j;
         };
       }
   thrown Answer still none b = absurd b

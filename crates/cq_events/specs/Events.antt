@@ -1,6 +1,7 @@
 -- What an engine's query tells, and for which search the engine stands then.
 use Rattle.std.specs.Prelude.{◌≡◌, ◌<◌, ◌≤◌, ◌∷◌, [], ℕ, List, None, length}
 use Rattle.spec_lists.specs.Prefixes.{IsPrefix}
+use Rattle.spec_lists.specs.Texts.{Text}
 use Rattle.spec_branch.specs.Branch.{State, plain_copy}
 use Rattle.spec_search.specs.Search.{Search}
 use Rattle.spec_search.specs.Turns.{Answered, Ended, Threw, Wrote, with_branches}
@@ -58,10 +59,16 @@ pub record HasSameWorld (old new : Engine) : Type 0 where
 
 -- ---- what is told
 
--- from the search this is told next, and the search then comes quietly to one for which the engine stands
+-- from the search this is told next, and the engine stands for the search then
 pub record TellsNext (budgets : Budgets) (e : Engine) (told : Told) (s : Search) : Type 0 where
   pub next : Search
   pub tells : Tells budgets s told next
+  pub stands : Stands e next
+
+-- from the search a text is written next, and the search then comes quietly to one for which the engine stands
+pub record WritesNext (budgets : Budgets) (e : Engine) (text : Text) (s : Search) : Type 0 where
+  pub next : Search
+  pub tells : Tells budgets s (Shows (Wrote text)) next
   pub comes : Arrives budgets.steps e next
 
 -- the search answers next: the engine's world is the state of the answer's branch
@@ -87,7 +94,7 @@ pub record StopsNext (budgets : Budgets) (e : Engine) (cause : Cause) (s : Searc
 -- the event is what the search tells next
 abbrev pub Gives : Budgets → Engine → Event → Search → Type 0
 Gives budgets e Answer s = AnswersNext budgets e s
-Gives budgets e (Output text) s = TellsNext budgets e (Shows (Wrote text.items)) s
+Gives budgets e (Output text) s = WritesNext budgets e text.items s
 Gives budgets e Fail s = TellsNext budgets e (Shows Ended) s
 Gives budgets e (Ball id) s = ThrowsNext budgets e id s
 Gives budgets e (Stop cause) s = StopsNext budgets e (as_cause cause) s

@@ -1,9 +1,12 @@
 // A machine with a query.
 
-ghost use Rattle.std.specs.Prelude.{◌≡◌, ◌<◌, List, length, IfOk, OnOk, OnErr};
+ghost use Rattle.std.specs.Prelude.{◌≡◌, ◌<◌, ◌≤◌, List, length, IfOk, OnOk, OnErr};
 ghost use Rattle.spec_lists.specs.Texts.{Text};
 ghost use Rattle.spec_search.specs.Database.{initial};
 ghost use Rattle.spec_search.specs.Search.{start};
+ghost use Rattle.cq_atoms.specs.Texts.{KeepsTexts};
+ghost use Rattle.cq_ops.specs.Tables.{named};
+ghost use Rattle.cq_read.specs.Shown.{read_of, IsReadOf, IsForward, IsLiveRead};
 ghost use Rattle.cq_term.specs.Trees.{tree};
 ghost use Rattle.cq_steps.specs.Lists.{goal_cell};
 ghost use Rattle.cq_machine.specs.Machines.{terms, database_of};
@@ -15,6 +18,9 @@ use crate::turning::turn;
 use cq_control::{Choices, Continuation, Continuations};
 use cq_kinds::is_callable;
 use cq_machine::Machine;
+use cq_ops::more_names_keep_the_table;
+use cq_program::{changes_are_those_of_the_database, programs_stay_programs};
+use cq_read::{Read, read_clause};
 use cq_term::{Heap, TermId};
 use cq_trail::Both;
 use cq_world::World;
@@ -74,6 +80,28 @@ impl Engine {
         };
         self.machine.choices = Choices::new(alloc);
         self.current = None;
+    }
+
+    /// Reads what stands at a place of a text, by the operators of the engine. A clause's term and variables are then on its heap.
+    pub fn read(&mut self, text: &[u8], at: usize) -> Result<Read, AllocError>
+        requires idle { IsIdle self.old }
+        requires within { at ≤ length text.now }
+        ensures reads { IfOk result (λ read. IsReadOf (named self.new.machine.atoms self.old.machine.ops) text.now at
+            (length self.old.machine.world.first.heap.now.images) (read_of self.new.machine.atoms self.new.machine.world.first.heap.now read)) }
+        ensures forward { IfOk result (IsForward (length text.now) at) }
+        ensures live { IfOk result (IsLiveRead self.new.machine.world.first.heap.now) }
+        ensures idle { IsIdle self.new }
+        ensures names { KeepsTexts self.old.machine.atoms self.new.machine.atoms }
+        ensures program { database_of self.new.machine ≡ database_of self.old.machine }
+        ensures pivots { self.new.machine.world.first.store.pivots ≡ self.old.machine.world.first.store.pivots }
+    {
+        changes_are_those_of_the_database();
+        programs_stay_programs();
+        more_names_keep_the_table();
+        let m = &mut self.machine;
+        let read = read_clause(&mut m.world.first.heap, &mut m.atoms, &m.ops, text, at);
+        m.atoms.text(m.names.truth);
+        read
     }
 
     /// Begins a query of a term, which may select so many goals; its variables are those of the heap. An error is want of memory,

@@ -1,32 +1,25 @@
-use Rattle.std.proofs.Common.{◌≡◌, List, map, refl, sym, ap, ◌∙◌, subst}
-use Rattle.std.specs.List.{zip}
+use Rattle.std.proofs.Common.{◌≡◌, List, refl, sym, ap, ◌∙◌, subst}
 use Rattle.spec_lists.proofs.Prefixes.{prefix_within}
 use Rattle.spec_operators.specs.Operators.{Ops}
 use Rattle.spec_machine.specs.Cells.{Value}
 use Rattle.cq_program.specs.Database.{as_database}
 use Rattle.cq_write.specs.Meaning.{operators}
-use Rattle.cq_linear.specs.StoreValue.{kept}
-use Rattle.cq_term.specs.HeapValue.{HeapValue, Terms}
-use Rattle.cq_world.specs.Contents.{Contents, contents_of}
+use Rattle.cq_term.specs.HeapValue.{Terms}
+use Rattle.cq_world.specs.Contents.{Contents}
 use Rattle.cq_steps.specs.Choices.{AreOpen}
 use Rattle.cq_control.specs.Open.{AreMarked}
-use Rattle.cq_steps.specs.Worlds.{Stands, saved_values, with_heap}
-use Rattle.cq_machine.specs.declared.machine.Machine.{Machine}
+use Rattle.cq_steps.specs.Worlds.{Stands, with_heap}
 use Rattle.cq_machine.specs.Machines.{saved, now}
 use Rattle.cq_machine.proofs.Interned.{texts_kept, names_kept}
 use Rattle.cq_offer.specs.Offers.{held_by}
 use Rattle.cq_offer.proofs.Machines.{over_sound, named_there, on_err}
+use Rattle.cq_events.proofs.Marks.{marks}
 use Rattle.cq_events.proofs.balls.build_ball.Goals as goal
 
 pub text-requires : goal.text-requires
 text-requires c =
     let m = c.args.m.now in
     prefix_within m.atoms c.ball_on-built.new.atoms m.names.truth c.ball_on-built.ensures.grows.longer (named_there m.atoms m.names.truth _ c.requires.sound.known.truth)
-
--- the same marks
-marks : (m : Machine) (heap : HeapValue) → heap.saved ≡ m.world.first.heap.saved → saved_values (record m.world.first { heap = heap }) m.world.second.saved ≡ saved m
-marks m heap e =
-    ap (λ (hs : List Terms). zip (map contents_of (zip hs (zip m.world.first.attrs.saved (map (kept m.world.first.store.pivots) m.world.first.store.saved)))) m.world.second.saved) e
 
 pub returns-clause-err : goal.returns-clause-err
 returns-clause-err c =

@@ -2,7 +2,6 @@ use Rattle.std.proofs.Common.{◌≡◌, ℕ, [], Option, None, Some, refl, subs
 use Rattle.spec_search.specs.Search.{Search}
 use Rattle.spec_search.specs.Turns.{with_branches}
 use Rattle.spec_stops.specs.Causes.{Budgets}
-use Rattle.spec_machine.specs.Coming.{at_once}
 use Rattle.cq_machine.specs.declared.machine.Machine.{Machine}
 use Rattle.cq_engine.specs.Fronts.{IsFrontOf, IsAhead}
 use Rattle.cq_engine.specs.Seeking.{GainsNames, IsKept, StandsFor}
@@ -40,7 +39,7 @@ returns-in-Answer-clause-turned c = λ budgets h s j.
     record {
       state = a.state;
       is_state = a.is_state;
-      tells = record { next = a.next; tells = a.tells; comes = record { reached = a.next; quiet = at_once; stands = a.stands } };
+      tells = record { next = a.next; tells = a.tells; stands = a.stands };
     }
 
 pub returns-in-Answer-clause-running : goal.returns-in-Answer-clause-running
@@ -55,7 +54,7 @@ returns-in-Answer-clause-keeps c = keeps c.args.e.now c.look.new.m None c.look.e
 pub returns-in-Fail-clause-turned : goal.returns-in-Fail-clause-turned
 returns-in-Fail-clause-turned c = λ budgets h s j.
     let a = looked c.args.e.now c.look.new.m c.in-Ok.front front.Fail c.in-Fail.is c.in-Ok.ensures.front budgets h.steps h.pivots s j in
-    record { next = a.next; tells = a.tells; comes = record { reached = a.next; quiet = at_once; stands = a.stands } }
+    record { next = a.next; tells = a.tells; stands = a.stands }
 
 pub returns-in-Fail-clause-running : goal.returns-in-Fail-clause-running
 returns-in-Fail-clause-running c =
