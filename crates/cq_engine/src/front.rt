@@ -45,6 +45,7 @@ pub enum Front {
 pub fn halt(m: &mut Machine)
     requires { IsKept m.old }
     ensures none_left { holds m.new ≡ [] }
+    ensures atoms { m.new.atoms ≡ m.old.atoms }
     ensures now { now m.new ≡ now m.old }
     ensures kept { IsKept m.new }
     ensures program { GainsNames m.old m.new }

@@ -16,7 +16,7 @@ use Rattle.cq_control.specs.Items.{items_at}
 use Rattle.cq_term.specs.Trees.{tree}
 use Rattle.cq_steps.specs.Worlds.{IsBranch, term_in}
 use Rattle.cq_machine.specs.declared.machine.Machine.{Machine}
-use Rattle.cq_machine.specs.Machines.{terms, now, holds, database_of, StillStands}
+use Rattle.cq_machine.specs.Machines.{IsSound, terms, now, holds, database_of, StillStands}
 use Rattle.cq_execute.specs.Executions.{HasReply}
 use Rattle.cq_events.specs.declared.engine.Engine.{Engine}
 use Rattle.cq_events.specs.declared.event.Event.{Event}
@@ -44,9 +44,9 @@ module _ (first mid new : Engine) (rest : ℕ) (e : BuiltinError) (r : Raiser) (
       let count : suc s.selected ≡ mid.selected + 1 = let a = x.next.selected in omega (arith, a, same) in
       stands_ended new (mid.selected + 1) (after_ball s []) ended (x.reply.database ∙ sym program) count refl
 
-  pub thrown : (event : Event) → StillStands first.machine mid.machine → nearest_catch (items_at mid.machine.world.second.now rest) ≡ None
+  pub thrown : (event : Event) → StillStands first.machine mid.machine → nearest_catch (items_at mid.machine.world.second.now rest) ≡ None → IsSound new.machine
       → IsBall (ball_by mid.machine.atoms (terms mid.machine) e r) new.machine event → GivesNext first new event
-  thrown (Ball id) still none b = λ budgets h s j.
+  thrown (Ball id) still none sound b = λ budgets h s j.
       let x = f s j in
       let y = x.next in
       let goal = read y.state y.goal in
@@ -59,6 +59,7 @@ module _ (first mid new : Engine) (rest : ℕ) (e : BuiltinError) (r : Raiser) (
       let ball : error_ball error (indicator_of goal) ≡ tree new.machine.atoms (terms new.machine) id =
       sym (b.1 ∙ ap (λ (i : Indicator). error_ball error i) x.raiser) in
       record {
+        sound = sound;
         live = b.0;
         tells = record {
           next = after_ball s [];
@@ -67,10 +68,10 @@ module _ (first mid new : Engine) (rest : ℕ) (e : BuiltinError) (r : Raiser) (
           stands = stands_then s j;
         };
       }
-  thrown Answer still none b = absurd b
-  thrown (Output text) still none b = absurd b
-  thrown Fail still none b = absurd b
-  thrown (Stop cause) still none b = absurd b
+  thrown Answer still none sound b = absurd b
+  thrown (Output text) still none sound b = absurd b
+  thrown Fail still none sound b = absurd b
+  thrown (Stop cause) still none sound b = absurd b
 
   pub runs_thrown : IsRunning first → new.steps ≡ first.steps → IsRunning new
   runs_thrown run steps = record {

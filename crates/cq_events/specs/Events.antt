@@ -77,8 +77,9 @@ pub record AnswersNext (budgets : Budgets) (e : Engine) (s : Search) : Type 0 wh
   pub is_state : IsBranch e.machine.atoms (now e.machine).0 state
   pub tells : TellsNext budgets e (Shows (Answered state (database_of e.machine).operators)) s
 
--- a ball comes up next that nothing catches: the term, as it reads
+-- a ball comes up next that nothing catches: the term, as it reads; the names of terms are known
 pub record ThrowsNext (budgets : Budgets) (e : Engine) (id : ℕ) (s : Search) : Type 0 where
+  pub sound : IsSound e.machine
   pub live : id < length (terms e.machine)
   pub tells : TellsNext budgets e (Shows (Threw (plain_copy (tree e.machine.atoms (terms e.machine) id)))) s
 

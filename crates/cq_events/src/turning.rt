@@ -5,7 +5,7 @@ ghost use Rattle.cq_built.specs.Errors.{HasCulprit};
 ghost use Rattle.cq_control.specs.Items.{items_at};
 ghost use Rattle.spec_machine.specs.Cells.{nearest_catch};
 ghost use Rattle.cq_term.specs.Trees.{tree};
-ghost use Rattle.cq_machine.specs.Machines.{terms, IsSound, StillStands};
+ghost use Rattle.cq_machine.specs.Machines.{terms, now, IsSound, StillStands};
 ghost use Rattle.cq_engine.specs.Fronts.{HasWork};
 ghost use Rattle.cq_engine.specs.Seeking.{IsKept, GainsNames};
 ghost use Rattle.cq_events.specs.Raised.{IsNumbered, ball_by};
@@ -30,7 +30,8 @@ fn leave(e: &mut Engine)
     requires { IsKept e.old.machine }
     ensures ended { HasEnded e.old.selected e.new }
     ensures program { GainsNames e.old.machine e.new.machine }
-    ensures world { e.new.machine.world.first.heap.now ≡ e.old.machine.world.first.heap.now }
+    ensures world { now e.new.machine ≡ now e.old.machine }
+    ensures atoms { e.new.machine.atoms ≡ e.old.machine.atoms }
     ensures steps { e.new.steps ≡ e.old.steps }
     ensures budget { e.new.machine.world.first.store.pivots ≡ e.old.machine.world.first.store.pivots }
 {
@@ -69,6 +70,7 @@ fn throw(
     ensures uncaught { OnOk result (nearest_catch (items_at e.old.machine.world.second.now rest) ≡ None) }
     ensures ball { IfOk result (IsBall (ball_by e.old.machine.atoms (terms e.old.machine) error raiser) e.new.machine) }
     ensures ended { OnOk result (HasEnded (e.old.selected + 1) e.new) }
+    ensures sound { OnOk result (IsSound e.new.machine) }
     ensures err { OnErr result (StillStands e.old.machine e.new.machine) }
     ensures err_at { OnErr result (IsAsBefore e.old e.new) }
     ensures program { GainsNames e.old.machine e.new.machine }

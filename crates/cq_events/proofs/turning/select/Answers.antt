@@ -183,7 +183,7 @@ returns-in-Raises-in-Ok-clause-turned c =
     let still : StillStands e.machine m = subst (λ (t : Step). OnRaises t (StillStands e.machine m)) c.in-Raises.is c.in-Ok.ensures.raises in
     thrown e (record e { machine = m }) c.throw.new.e rest error d.raiser refl (few e k rest c.in-Some.cell c.requires.work c.in-Some.ensures.some c.in-Ok.ensures.selects)
     c.in-Raises-in-Ok.ensures.ended c.throw.ensures.program.database (raised e m k rest d error c.in-Raises.is c.requires.current c.in-Ok.ensures.row)
-    c.in-Raises-in-Ok.ball still c.in-Raises-in-Ok.ensures.uncaught c.in-Raises-in-Ok.ensures.ball
+    c.in-Raises-in-Ok.ball still c.in-Raises-in-Ok.ensures.uncaught c.in-Raises-in-Ok.ensures.sound c.in-Raises-in-Ok.ensures.ball
 
 pub returns-in-Raises-in-Ok-clause-running : goal.returns-in-Raises-in-Ok-clause-running
 returns-in-Raises-in-Ok-clause-running c =
