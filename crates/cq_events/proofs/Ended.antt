@@ -33,7 +33,7 @@ pub gives_then : (budgets : Budgets) (e : Engine) (event : Event) (s r : Search)
 gives_then budgets e Answer s r q g = record { state = g.state; is_state = g.is_state; tells = tells_then budgets e s r q _ g.tells }
 gives_then budgets e (Output text) s r q g = record { next = g.next; tells = told_then q g.tells; comes = g.comes }
 gives_then budgets e Fail s r q g = tells_then budgets e s r q _ g
-gives_then budgets e (Ball id) s r q g = record { live = g.live; tells = tells_then budgets e s r q _ g.tells }
+gives_then budgets e (Ball id) s r q g = record { sound = g.sound; live = g.live; tells = tells_then budgets e s r q _ g.tells }
 gives_then budgets e (Stop cause) s r q g = record {
   last = g.last;
   tells = told_then q g.tells;

@@ -1,5 +1,5 @@
 -- A query begins on an engine without one.
-use Rattle.std.proofs.Common.{◌≡◌, ℕ, ◌<◌, ◌≤◌, List, [], ◌∷◌, length, Bool, true, false, Some, refl, sym, ap, ◌∙◌, subst, arith}
+use Rattle.std.proofs.Common.{◌≡◌, ℕ, ◌<◌, ◌≤◌, List, [], ◌∷◌, ◌++◌, length, Bool, true, false, Some, refl, sym, ap, ◌∙◌, subst, arith}
 use Rattle.spec_lists.specs.Texts.{Text}
 use Rattle.spec_terms.proofs.Substitution.{apply-identity}
 use Rattle.spec_syntax.specs.Trees.{Tree}
@@ -22,7 +22,10 @@ use Rattle.cq_steps.proofs.Beginning.{begins}
 use Rattle.cq_steps.proofs.Control.{put_items}
 use Rattle.cq_steps.proofs.Reading.{tree_read}
 use Rattle.cq_machine.specs.declared.machine.Machine.{Machine}
-use Rattle.cq_machine.specs.Machines.{IsSound, saved}
+use Rattle.cq_machine.specs.Machines.{IsSound, terms, now, saved, database_of}
+use Rattle.cq_machine.proofs.Built.{last_cells}
+use Rattle.cq_engine.specs.Seeking.{StandsFor}
+use Rattle.cq_engine.proofs.Engines.{holds_none}
 
 first_fits : (b : Bool) (t : ℕ) → Fits 0 (put_cell b t 0 ∷ [])
 first_fits true t = (omega arith, tt)
@@ -70,3 +73,21 @@ sound_over m lists e s =
       marked = subst (λ (l : List (Value Contents)). AreMarked l m.choices) (sym same) s.marked;
       untried = subst (λ (l : List (Value Contents)). AreOpen m.clauses l m.choices) (sym same) s.untried;
     }
+
+-- the same on a machine without choices
+pub started : (m : Machine) (lists : ContinuationsValue Cell) (k id : ℕ) → KnowsNothing m.atoms (now m).0 → m.choices ≡ [] → id < length (terms m)
+    → HasCells lists.now k (goal_cell m.atoms (terms m) id 0 ∷ [])
+    → StandsFor (record m { world = record m.world { second = lists } }) 0 (Some k) (start (database_of m) (tree m.atoms (terms m) id) (length m.world.first.heap.now.images))
+started m lists k id nothing none live h =
+    let new : Machine = record m { world = record m.world { second = lists } } in
+    subst (λ (rs : Stack Contents). IsStanding (IsBranch m.atoms) (term_in m.atoms) (engine (database_of m) 0 rs (now new) (Some k))
+        (start (database_of m) (tree m.atoms (terms m) id) (length m.world.first.heap.now.images)))
+    (sym (holds_none new none)) (query_stands m.atoms (database_of m) (now m).0 lists.now k id nothing live h)
+
+-- the cell of the goal in front of nothing
+pub first_cells : (old new : List (List Cell)) (k zero_ : ℕ) (c d : Cell) → k ≡ length old → new ≡ old ++ (c ∷ items_at old zero_) ∷ [] → old ≡ [] ∷ [] → zero_ ≡ 0 → c ≡ d
+    → HasCells new k (d ∷ [])
+first_cells old new k zero_ c d number is lists none same =
+    let behind : items_at old zero_ ≡ [] = ap (λ (i : ℕ). items_at old i) none ∙ ap (λ (ls : List (List Cell)). items_at ls 0) lists in
+    let cells : c ∷ items_at old zero_ ≡ d ∷ [] = ap (λ (x : Cell). x ∷ items_at old zero_) same ∙ ap (λ (l : List Cell). d ∷ l) behind in
+    subst (HasCells new k) cells (last_cells old new k (c ∷ items_at old zero_) number is)
