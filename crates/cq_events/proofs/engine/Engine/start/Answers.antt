@@ -1,5 +1,6 @@
-use Rattle.std.proofs.Common.{[], ◌∷◌, length, Some, ap, arith}
+use Rattle.std.proofs.Common.{[], ◌∷◌, length, Some, ap, ◌∙◌, arith}
 use Rattle.spec_search.specs.Search.{start}
+use Rattle.cq_attr.proofs.Elements.{on_err}
 use Rattle.cq_term.specs.Trees.{tree}
 use Rattle.cq_steps.specs.Lists.{goal_cell}
 use Rattle.cq_machine.specs.Machines.{terms, database_of}
@@ -34,4 +35,12 @@ returns-clause-running c =
     }
 
 pub returns-in_err-k-clause-err : goal.returns-in_err-k-clause-err
-returns-in_err-k-clause-err c = ?
+returns-in_err-k-clause-err c =
+    let i = c.requires.idle in
+    on_err c.from_residual-k.result
+    (record {
+      sound = sound_over c.args.self.now.machine c.before-k.new.self c.before-k.ensures.saved i.sound;
+      nothing = i.nothing;
+      lists = c.in_err-k.ensures.err ∙ i.lists;
+      choices = i.choices;
+    })
