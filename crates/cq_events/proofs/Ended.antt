@@ -37,6 +37,7 @@ gives_then budgets e (Ball id) s r q g = record { sound = g.sound; live = g.live
 gives_then budgets e (Stop cause) s r q g = record {
   last = g.last;
   tells = told_then q g.tells;
+  database = g.database;
   reached = g.reached;
   quiet = quietly_then q g.quiet;
   stands = g.stands;
@@ -124,10 +125,11 @@ stands_ended new n s h d e b =
 
 -- the query has stopped
 pub stopped : (budgets : Budgets) (new : Engine) (n : ℕ) (cause : Cause) (s last : Search) → HasEnded n new → s.database ≡ database_of new.machine → s.selected ≡ n
-    → Tells budgets s (Stops cause) last → StopsNext budgets new cause s
-stopped budgets new n cause s last h d e t = record {
+    → Tells budgets s (Stops cause) last → last.database ≡ s.database → StopsNext budgets new cause s
+stopped budgets new n cause s last h d e t same = record {
   last = last;
   tells = t;
+  database = same ∙ d;
   reached = s;
   quiet = at_once;
   stands = stands_ended new n (with_branches [] s) h d e refl;

@@ -1,5 +1,5 @@
 -- Why a query stops where its selected goal's one child is settled.
-use Rattle.std.proofs.Common.{◌≡◌, ℕ, ◌<◌, [], ◌∷◌, true, sym, ◌∙◌, subst}
+use Rattle.std.proofs.Common.{◌≡◌, ℕ, ◌<◌, [], ◌∷◌, true, refl, sym, ◌∙◌, subst}
 use Rattle.spec_search.specs.Replies.{child, made}
 use Rattle.spec_search.specs.Search.{Search}
 use Rattle.spec_search.specs.Turns.{place_of, after_step, with_branches}
@@ -26,7 +26,8 @@ stops_for_overflow budgets m n rest pair s few x =
     let y = x.next in
     let one = x.stopped in
     (with_branches [] (after_step s (made (place_of s y.state y.items y.cut y.behind) (child y.items y.state one.work ∷ [])) y.behind),
-    row_refuses budgets s y.goal y.cut y.items y.state y.behind one.work y.look (few_here m n rest budgets.steps s y few) one.row pair one.holds)
+    row_refuses budgets s y.goal y.cut y.items y.state y.behind one.work y.look (few_here m n rest budgets.steps s y few) one.row pair one.holds,
+    refl)
 
 pub stops_for_pivots : (budgets : Budgets) (m : Machine) (n rest exchanges : ℕ) (s : Search) → n < budgets.steps → budgets.pivots ≡ m.world.first.store.pivots
     → IsStoppedNext m n rest (Pivots exchanges) s → ComesToStop budgets (why.Pivots exchanges) s
@@ -38,7 +39,8 @@ stops_for_pivots budgets m n rest exchanges s few same x =
     (last,
     subst (λ (i : ℕ). Tells budgets s (Stops (why.Pivots i)) last) count
     (row_takes budgets s y.goal y.cut y.items y.state y.behind one.work y.look (few_here m n rest budgets.steps s y few) one.row
-    (subst (λ (i : ℕ). MayTake y.state one.work i) (sym count) one.holds)))
+    (subst (λ (i : ℕ). MayTake y.state one.work i) (sym count) one.holds)),
+    refl)
 
 -- a fault that isn't want of memory
 pub may_stop : (m : Machine) (n rest : ℕ) (fault : StoreFault) (s : Search) → IsStoppedNext m n rest fault s → MayStop m n rest fault s

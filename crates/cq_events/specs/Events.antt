@@ -83,11 +83,12 @@ pub record ThrowsNext (budgets : Budgets) (e : Engine) (id : ℕ) (s : Search) :
   pub live : id < length (terms e.machine)
   pub tells : TellsNext budgets e (Shows (Threw (plain_copy (tree e.machine.atoms (terms e.machine) id)))) s
 
--- the query stops next for the cause. The engine stands for a search without branches, which has the program of one that was come
--- to quietly before.
+-- the query stops next for the cause, with the engine's program. The engine stands for a search without branches, of one that was
+-- come to quietly before.
 pub record StopsNext (budgets : Budgets) (e : Engine) (cause : Cause) (s : Search) : Type 0 where
   pub last : Search
   pub tells : Tells budgets s (Stops cause) last
+  pub database : last.database ≡ database_of e.machine
   pub reached : Search
   pub quiet : Quietly budgets.steps s reached
   pub stands : Stands e (with_branches [] reached)

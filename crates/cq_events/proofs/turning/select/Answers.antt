@@ -254,7 +254,7 @@ returns-in-Refuses-clause-turned c = λ budgets h s j.
     let less = subst (λ (n : ℕ). e.selected < n) (sym h.steps) (few e k rest c.in-Some.cell c.requires.work c.in-Some.ensures.some c.in-Ok.ensures.selects) in
     let left = c.leave-in-Refuses in
     stopped budgets left.new.e e.selected (why.Overflow c.in-Refuses.pair) s (with_branches [] s) left.ensures.ended (x.1.database ∙ sym left.ensures.program.database) x.0.selected
-    (tells_refused e.machine e.selected rest s x.0 budgets less c.in-Refuses.pair x.1.is)
+    (tells_refused e.machine e.selected rest s x.0 budgets less c.in-Refuses.pair x.1.is) refl
 
 pub returns-in-Refuses-clause-running : goal.returns-in-Refuses-clause-running
 returns-in-Refuses-clause-running c =
@@ -290,7 +290,7 @@ returns-in-Err-Overflow-clause-turned c = λ budgets h s j.
     let left = c.leave-in-Err-Overflow in
     let t = stops_for_overflow budgets e.machine e.selected rest c.in-Err-Overflow.pair s less x in
     stopped budgets left.new.e e.selected (why.Overflow c.in-Err-Overflow.pair) s t.0 left.ensures.ended
-    (x.next.database ∙ sym c.in-Err-Overflow.ensures.err_database ∙ sym left.ensures.program.database) x.next.selected t.1
+    (x.next.database ∙ sym c.in-Err-Overflow.ensures.err_database ∙ sym left.ensures.program.database) x.next.selected t.1 t.2
 
 pub returns-in-Err-Overflow-clause-running : goal.returns-in-Err-Overflow-clause-running
 returns-in-Err-Overflow-clause-running c =
@@ -319,7 +319,7 @@ returns-in-Err-Pivots-clause-turned c = λ budgets h s j.
     let left = c.leave-in-Err-Pivots in
     let t = stops_for_pivots budgets e.machine e.selected rest c.in-Err-Pivots.exchanges s less h.pivots x in
     stopped budgets left.new.e e.selected (why.Pivots c.in-Err-Pivots.exchanges) s t.0 left.ensures.ended
-    (x.next.database ∙ sym c.in-Err-Pivots.ensures.err_database ∙ sym left.ensures.program.database) x.next.selected t.1
+    (x.next.database ∙ sym c.in-Err-Pivots.ensures.err_database ∙ sym left.ensures.program.database) x.next.selected t.1 t.2
 
 pub returns-in-Err-Pivots-clause-running : goal.returns-in-Err-Pivots-clause-running
 returns-in-Err-Pivots-clause-running c =

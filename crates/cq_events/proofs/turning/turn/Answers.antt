@@ -1,4 +1,4 @@
-use Rattle.std.proofs.Common.{◌≡◌, ℕ, [], Option, None, Some, refl, subst}
+use Rattle.std.proofs.Common.{◌≡◌, ℕ, [], Option, None, Some, refl, ◌∙◌, subst}
 use Rattle.spec_search.specs.Search.{Search}
 use Rattle.spec_search.specs.Turns.{with_branches}
 use Rattle.spec_stops.specs.Causes.{Budgets}
@@ -68,7 +68,7 @@ returns-in-Fail-clause-keeps c = keeps c.args.e.now c.look.new.m None c.look.ens
 pub returns-in-Stop-clause-turned : goal.returns-in-Stop-clause-turned
 returns-in-Stop-clause-turned c = λ budgets h s j.
     let a = looked c.args.e.now c.look.new.m c.in-Ok.front (front.Stop c.in-Stop.cause) c.in-Stop.is c.in-Ok.ensures.front budgets h.steps h.pivots s j in
-    record { last = a.last; tells = told_then a.quiet a.tells; reached = a.reached; quiet = a.quiet; stands = a.stands }
+    record { last = a.last; tells = told_then a.quiet a.tells; database = a.database ∙ a.stands.database; reached = a.reached; quiet = a.quiet; stands = a.stands }
 
 pub returns-in-Stop-clause-running : goal.returns-in-Stop-clause-running
 returns-in-Stop-clause-running c =
