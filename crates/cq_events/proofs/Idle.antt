@@ -1,5 +1,6 @@
 -- A query begins on an engine without one.
-use Rattle.std.proofs.Common.{◌≡◌, ℕ, ◌<◌, ◌≤◌, List, [], ◌∷◌, ◌++◌, length, Bool, true, false, Some, refl, sym, ap, ◌∙◌, subst, arith}
+use Rattle.std.proofs.Common.{◌≡◌, ℕ, ◌<◌, ◌≤◌, List, [], ◌∷◌, ◌++◌, length, map, Bool, true, false, Some, refl, sym, ap, ◌∙◌, subst, arith}
+use Rattle.std.specs.Prelude.{reverse}
 use Rattle.spec_lists.specs.Texts.{Text}
 use Rattle.spec_terms.proofs.Substitution.{apply-identity}
 use Rattle.spec_syntax.specs.Trees.{Tree}
@@ -8,24 +9,21 @@ use Rattle.spec_branch.specs.Branch.{State, Item}
 use Rattle.spec_search.specs.Control.{put}
 use Rattle.spec_search.specs.Database.{Database}
 use Rattle.spec_search.specs.Search.{settled, empty_state, start}
-use Rattle.cq_control.specs.Items.{ContinuationsValue, items_at}
-use Rattle.cq_control.specs.Open.{AreMarked}
+use Rattle.cq_control.specs.Items.{items_at}
 use Rattle.spec_machine.specs.declared.cell.Cell.{Cell}
 use Rattle.spec_machine.specs.Cells.{Fits, Value, Stack}
 use Rattle.spec_machine.specs.Standing.{engine, AreItems, IsStanding}
 use Rattle.cq_term.specs.Trees.{tree}
 use Rattle.cq_world.specs.Contents.{Contents}
 use Rattle.cq_steps.specs.Lists.{HasCells, put_cell, goal_cell}
-use Rattle.cq_steps.specs.Choices.{AreOpen}
-use Rattle.cq_steps.specs.Worlds.{IsBranch, term_in, KnowsNothing, saved_values}
+use Rattle.cq_program.specs.Database.{Program}
+use Rattle.cq_steps.specs.declared.alternatives.Alternatives.{Alternatives}
+use Rattle.cq_steps.specs.Worlds.{IsBranch, term_in, left_at, stack, KnowsNothing, Stands}
 use Rattle.cq_steps.proofs.Beginning.{begins}
 use Rattle.cq_steps.proofs.Control.{put_items}
 use Rattle.cq_steps.proofs.Reading.{tree_read}
-use Rattle.cq_machine.specs.declared.machine.Machine.{Machine}
-use Rattle.cq_machine.specs.Machines.{IsSound, terms, now, saved, database_of}
 use Rattle.cq_machine.proofs.Built.{last_cells}
-use Rattle.cq_engine.specs.Seeking.{StandsFor}
-use Rattle.cq_engine.proofs.Engines.{holds_none}
+use Rattle.cq_engine.proofs.Engines.{zip_none}
 
 first_fits : (b : Bool) (t : ℕ) → Fits 0 (put_cell b t 0 ∷ [])
 first_fits true t = (omega arith, tt)
@@ -60,29 +58,14 @@ query_stands texts db c lists k id nothing live h =
       waiting = refl;
     }
 
--- other continuations over the same marks
-pub sound_over : (m : Machine) (lists : ContinuationsValue Cell) → lists.saved ≡ m.world.second.saved → IsSound m → IsSound (record m { world = record m.world { second = lists } })
-sound_over m lists e s =
-    let same : saved_values m.world.first lists.saved ≡ saved m = ap (λ (l : List (List (List Cell))). saved_values m.world.first l) e in
-    record {
-      known = s.known;
-      different = s.different;
-      names = s.names;
-      program = s.program;
-      operators_named = s.operators_named;
-      marked = subst (λ (l : List (Value Contents)). AreMarked l m.choices) (sym same) s.marked;
-      untried = subst (λ (l : List (Value Contents)). AreOpen m.clauses l m.choices) (sym same) s.untried;
-    }
-
--- the same on a machine without choices
-pub started : (m : Machine) (lists : ContinuationsValue Cell) (k id : ℕ) → KnowsNothing m.atoms (now m).0 → m.choices ≡ [] → id < length (terms m)
-    → HasCells lists.now k (goal_cell m.atoms (terms m) id 0 ∷ [])
-    → StandsFor (record m { world = record m.world { second = lists } }) 0 (Some k) (start (database_of m) (tree m.atoms (terms m) id) (length m.world.first.heap.now.images))
-started m lists k id nothing none live h =
-    let new : Machine = record m { world = record m.world { second = lists } } in
-    subst (λ (rs : Stack Contents). IsStanding (IsBranch m.atoms) (term_in m.atoms) (engine (database_of m) 0 rs (now new) (Some k))
-        (start (database_of m) (tree m.atoms (terms m) id) (length m.world.first.heap.now.images)))
-    (sym (holds_none new none)) (query_stands m.atoms (database_of m) (now m).0 lists.now k id nothing live h)
+-- the same where there are no choices
+pub started : (texts : List Text) (v : Program) (db : Database) (c : Contents) (lists : List (List Cell)) (saved : List (Value Contents)) (choices : List Alternatives) (k id : ℕ)
+    → KnowsNothing texts c → choices ≡ [] → id < length c.heap.terms → HasCells lists k (goal_cell texts c.heap.terms id 0 ∷ [])
+    → Stands texts v db 0 saved choices (c, lists) (Some k) (start db (tree texts c.heap.terms id) (length c.heap.images))
+started texts v db c lists saved choices k id nothing none live h =
+    let empty : stack texts v saved choices ≡ [] = ap (map (left_at texts v)) (zip_none (reverse saved) choices none) in
+    subst (λ (rs : Stack Contents). IsStanding (IsBranch texts) (term_in texts) (engine db 0 rs (c, lists) (Some k)) (start db (tree texts c.heap.terms id) (length c.heap.images))) (sym empty)
+    (query_stands texts db c lists k id nothing live h)
 
 -- the cell of the goal in front of nothing
 pub first_cells : (old new : List (List Cell)) (k zero_ : ℕ) (c d : Cell) → k ≡ length old → new ≡ old ++ (c ∷ items_at old zero_) ∷ [] → old ≡ [] ∷ [] → zero_ ≡ 0 → c ≡ d

@@ -49,6 +49,6 @@ may_stop m n rest (Pivots exchanges) s x = x
 may_stop m n rest NoMemory s x = tt
 
 pub has_selected : (c : Cell) (fault : StoreFault) → selects c ≡ true → HasSelected c fault
-has_selected c (Overflow pair) yes = yes
-has_selected c (Pivots exchanges) yes = yes
-has_selected c NoMemory yes = tt
+has_selected c (Overflow pair) e = e
+has_selected c (Pivots exchanges) e = e
+has_selected c NoMemory e = tt

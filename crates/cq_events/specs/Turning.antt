@@ -83,11 +83,11 @@ HasSelected c NoMemory = ⊤
 -- ---- an engine then
 
 -- one more goal was selected, and the engine goes on so
-pub record IsAt (old new : Engine) (current : Option ℕ) : Type 0 where
+pub record IsAt (old new : Engine) (k : Option ℕ) : Type 0 where
   pub machine : new.machine ≡ old.machine
   pub selected : new.selected ≡ suc old.selected
   pub steps : new.steps ≡ old.steps
-  pub current : new.current ≡ current
+  pub current : new.current ≡ k
 
 -- no branch is left, and so many goals were selected
 pub record HasEnded (n : ℕ) (e : Engine) : Type 0 where

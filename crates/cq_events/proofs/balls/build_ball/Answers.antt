@@ -27,7 +27,7 @@ returns-clause-err c =
     let b = c.ball_on-built in
     on_err b.result
     (λ (e : b.new.heap.now ≡ m.world.first.heap.now). λ db n current s j.
-    subst (λ (l : List (Value Contents)). Stands b.new.atoms m.clauses db n l m.choices (with_heap b.new.heap.now (now m).0, (now m).1) current s) (sym (marks m b.new.heap b.ensures.grows.saved))
+    subst (λ (l : List (Value Contents)). Stands b.new.atoms m.clauses db n l m.choices (with_heap b.new.heap.now (now m).0, (now m).1) current s) (sym (marks m.world.first b.new.heap m.world.second.saved b.ensures.grows.saved))
     (subst (λ (h : Terms). Stands b.new.atoms m.clauses db n (saved m) m.choices (with_heap h (now m).0, (now m).1) current s) (sym e)
     (c.names_may_be_added.ensures.stands b.new.atoms m.clauses (held_by m) b.ensures.grows.longer (over_sound m c.requires.sound)
     c.names_are_of_terms.ensures.choices c.names_are_of_terms.ensures.now db n current s j)))
@@ -40,7 +40,7 @@ returns-clause-sound c =
     let s = c.requires.sound in
     let longer = b.ensures.grows.longer in
     let keeps = texts_kept m.atoms b.new.atoms longer in
-    let same = marks m b.new.heap b.ensures.grows.saved in
+    let same = marks m.world.first b.new.heap m.world.second.saved b.ensures.grows.saved in
     let over = c.names_may_be_added.ensures.over b.new.atoms m.clauses (held_by m) longer (over_sound m s) in
     record {
       known = names_kept m.atoms b.new.atoms keeps m.names s.known;

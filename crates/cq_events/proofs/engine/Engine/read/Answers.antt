@@ -25,7 +25,7 @@ returns-clause-idle c =
     let s = c.requires.idle.sound in
     let keeps = r.ensures.names in
     let grown = left m.world.first.heap r.new.heap r.result r.ensures.heap in
-    let same = marks m r.new.heap grown.saved in
+    let same = marks m.world.first r.new.heap m.world.second.saved grown.saved in
     let names = r.ensures.known s.names in
     record {
       sound = record {
