@@ -1,6 +1,6 @@
 mod Selections
 mod Steps
-mod Catches
+mod CellsPassed
 mod Raised
 mod Ended
 mod Stops

@@ -49,7 +49,8 @@ pub(crate) fn execute_cell(
 {
     match cell {
         Cell::Goal(goal, height) => {
-            let raiser = raiser_of(&m.world.first.heap, &m.atoms, goal);
+            let world = &m.world;
+            let raiser = raiser_of(&world.first.heap, &m.atoms, goal);
             match execute(m, goal, height, rest) {
                 Ok(executed) => Ok(Done { executed, raiser }),
                 Err(fault) => Err(fault),

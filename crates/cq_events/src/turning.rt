@@ -14,13 +14,14 @@ ghost use Rattle.cq_events.specs.Turning.{HasEnded, IsAsBefore, IsAt, IsBall, Is
 
 use crate::balls::build_ball;
 use crate::catches::is_caught;
-use crate::cells::execute_cell;
+use crate::cells::{Done, execute_cell};
 use crate::engine::Engine;
 use crate::event::Event;
 use crate::raiser::Raiser;
 use cq_built::BuiltinError;
 use cq_control::Continuation;
 use cq_engine::{Cause, Front, halt, look};
+use cq_execute::Executed;
 use cq_linear::store::StoreFault;
 use cq_machine::Step;
 use std::alloc::AllocError;
@@ -100,18 +101,22 @@ fn select(e: &mut Engine, k: Continuation) -> Result<Option<Event>, AllocError>
         return Err(AllocError);
     };
     match execute_cell(&mut e.machine, k, cell, rest) {
-        Ok(done) => match done.executed.step {
-            Step::Goes(next) => Ok(advance(e, Some(next), done.executed.output)),
-            Step::Back => Ok(advance(e, None, done.executed.output)),
-            Step::Raises(error) => match throw(e, error, done.raiser, rest) {
-                Ok(ball) => Ok(Some(ball)),
-                Err(fault) => Err(fault),
-            },
-            Step::Refuses(pair) => {
-                leave(e);
-                Ok(Some(Event::Stop(Cause::Overflow(pair))))
+        Ok(done) => {
+            let Done { executed, raiser } = done;
+            let Executed { step, output } = executed;
+            match step {
+                Step::Goes(next) => Ok(advance(e, Some(next), output)),
+                Step::Back => Ok(advance(e, None, output)),
+                Step::Raises(error) => match throw(e, error, raiser, rest) {
+                    Ok(ball) => Ok(Some(ball)),
+                    Err(fault) => Err(fault),
+                },
+                Step::Refuses(pair) => {
+                    leave(e);
+                    Ok(Some(Event::Stop(Cause::Overflow(pair))))
+                }
             }
-        },
+        }
         Err(StoreFault::Overflow(pair)) => {
             leave(e);
             Ok(Some(Event::Stop(Cause::Overflow(pair))))

@@ -2,7 +2,7 @@ use Rattle.std.proofs.Common.{arith, ap, sym, ◌∙◌}
 use Rattle.std.specs.Prelude.{is_some}
 use Rattle.cq_control.specs.Items.{items_at}
 use Rattle.spec_machine.specs.Cells.{nearest_catch}
-use Rattle.cq_events.proofs.Catches.{passed, caught}
+use Rattle.cq_events.proofs.CellsPassed.{passed, caught}
 use Rattle.cq_events.proofs.catches.is_caught.Goals as goal
 
 pub returns-in_default : goal.returns-in_default

@@ -7,7 +7,7 @@ use Rattle.cq_world.specs.Contents.{Contents}
 use Rattle.cq_machine.specs.Machines.{terms}
 use Rattle.cq_engine.proofs.Engines.{gains_on, gains_none, kept_where, sound_where}
 use Rattle.cq_events.specs.Raised.{ball_by}
-use Rattle.cq_events.proofs.Catches.{none_caught}
+use Rattle.cq_events.proofs.CellsPassed.{none_caught}
 use Rattle.cq_events.proofs.turning.throw.Goals as goal
 
 pub returns-then-is_caught-clause-program : goal.returns-then-is_caught-clause-program
