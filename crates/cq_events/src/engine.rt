@@ -135,11 +135,10 @@ impl Engine {
     {
         'turns: loop {
             match turn(self) {
-                Ok(told) => {
-                    if let Some(event) = told {
-                        return Ok(event);
-                    }
-                }
+                Ok(told) => match told {
+                    Some(event) => return Ok(event),
+                    None => {}
+                },
                 Err(fault) => return Err(fault),
             }
         }

@@ -10,12 +10,12 @@ returns-in_default c = ap (λ cs. is_some (nearest_catch cs)) (sym c.in_default.
 
 pub returns-then-is_end_of_catch : goal.returns-then-is_end_of_catch
 returns-then-is_end_of_catch c =
-    caught c.in-Some.cell (items_at c.cells.lists.now c.in-Some.rest) (sym c.is_end_of_catch.ensures ∙ c.if-is_end_of_catch.true)
+    caught c.in-Some.cell (items_at c.args.lists.now.now c.in-Some.rest) (sym c.is_end_of_catch.ensures ∙ c.if-is_end_of_catch.true)
     ∙ ap (λ cs. is_some (nearest_catch cs)) (sym c.in-Some.ensures.some) ∙ c.cells.invariant.same
 
 pub cells-preserved : goal.cells-preserved
 cells-preserved c = record {
   there = omega (arith, c.in-Some.ensures.earlier, c.cells.invariant.there);
-  same = ap is_some (sym (passed c.in-Some.cell (items_at c.cells.lists.now c.in-Some.rest) (sym c.is_end_of_catch.ensures ∙ c.if-is_end_of_catch.false)))
+  same = ap is_some (sym (passed c.in-Some.cell (items_at c.args.lists.now.now c.in-Some.rest) (sym c.is_end_of_catch.ensures ∙ c.if-is_end_of_catch.false)))
       ∙ ap (λ cs. is_some (nearest_catch cs)) (sym c.in-Some.ensures.some) ∙ c.cells.invariant.same;
 }

@@ -1,4 +1,4 @@
-use Rattle.std.proofs.Common.{◌≡◌, ◌∷◌, List, ap, sym, subst, ◌∙◌}
+use Rattle.std.proofs.Common.{◌≡◌, ◌∷◌, List, refl, ap, sym, subst, ◌∙◌}
 use Rattle.spec_syntax.specs.Trees.{Tree}
 use Rattle.spec_built.specs.Built as built
 use Rattle.spec_branch.specs.Branch.{read}
@@ -7,7 +7,6 @@ use Rattle.spec_lists.proofs.Prefixes.{prefix_same}
 use Rattle.cq_control.specs.Items.{items_at}
 use Rattle.spec_machine.specs.declared.cell.Cell.{Cell}
 use Rattle.cq_steps.proofs.Added.{reads_tree}
-use Rattle.cq_steps.proofs.Reading.{read_live}
 use Rattle.cq_engine.specs.Fronts.{selects}
 use Rattle.cq_machine.specs.Machines.{terms, now}
 use Rattle.cq_execute.specs.Executions.{Reaches}
@@ -15,14 +14,6 @@ use Rattle.cq_events.proofs.Raised.{raised_on, numbered_on}
 use Rattle.cq_events.proofs.Selections.{goal_next, call_next}
 use Rattle.cq_events.proofs.Stops.{may_stop, has_selected}
 use Rattle.cq_events.proofs.cells.execute_cell.Goals as goal
-
-pub raiser_of-requires-clause-live : goal.raiser_of-requires-clause-live
-raiser_of-requires-clause-live c =
-    let m = c.args.m.now in
-    let w = c.requires.going in
-    let f = c.requires.front in
-    let x = goal_next m w.0 c.args.k c.args.rest w.1 w.2 f.earlier c.in-Goal.goal c.in-Goal.height (f.cells ∙ ap (λ (x : Cell). x ∷ items_at m.world.second.now c.args.rest) c.in-Goal.is) in
-    read_live m.atoms (terms m) c.in-Goal.goal (read x.0.state x.0.goal) x.1.reads.0
 
 pub execute-requires-clause-selected : goal.execute-requires-clause-selected
 execute-requires-clause-selected c =
@@ -68,17 +59,17 @@ execute_call-requires-clause-selected c =
     let x = call_next m w.0 c.args.k c.args.rest s w.2 f.earlier c.in-Call.called (f.cells ∙ ap (λ (x : Cell). x ∷ items_at m.world.second.now c.args.rest) c.in-Call.is) in
     (place_of s x.0.state x.0.items x.0.cut x.0.behind, x.0.behind, read x.0.state x.1, x.3)
 
-pub returns-in-Call-in-Ok-clause-row : goal.returns-in-Call-in-Ok-clause-row
-returns-in-Call-in-Ok-clause-row c = λ n s j.
+pub returns-in-Ok-execute_call-clause-row : goal.returns-in-Ok-execute_call-clause-row
+returns-in-Ok-execute_call-clause-row c = λ n s j.
     let m = c.args.m.now in
     let new = c.execute_call.new.m in
     let f = c.requires.front in
     let x = call_next m n c.args.k c.args.rest s j f.earlier c.in-Call.called (f.cells ∙ ap (λ (x : Cell). x ∷ items_at m.world.second.now c.args.rest) c.in-Call.is) in
-    let d = c.in-Call-in-Ok.executed in
+    let d = c.in-Ok-execute_call.executed in
     let place = place_of s x.0.state x.0.items x.0.cut x.0.behind in
     record {
       next = x.0;
-      reaches = subst (λ (t : Tree). Reaches new d.step d.output.items place x.0.behind t) x.2 (c.in-Call-in-Ok.ensures.row place x.0.behind (read x.0.state x.1) x.3);
+      reaches = subst (λ (t : Tree). Reaches new d.step d.output.items place x.0.behind t) x.2 (c.in-Ok-execute_call.ensures.row place x.0.behind (read x.0.state x.1) x.3);
       raiser = ap built.indicator_of x.2;
     }
 
@@ -93,5 +84,3 @@ returns-in-Ok-clause-selects c = ap selects c.in-Goal.is
 pub returns-in-Err-clause-err_selects : goal.returns-in-Err-clause-err_selects
 returns-in-Err-clause-err_selects c = has_selected c.args.cell c.in-Err.fault (ap selects c.in-Goal.is)
 
-pub returns-in-Call-in-Ok-clause-selects : goal.returns-in-Call-in-Ok-clause-selects
-returns-in-Call-in-Ok-clause-selects c = ap selects c.in-Call.is

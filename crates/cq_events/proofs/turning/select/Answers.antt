@@ -42,7 +42,7 @@ head_or c (x ∷ xs) = x
 
 few : (e : Engine) (k rest : ℕ) (c : Cell) → HasWork e.steps e.selected e.machine k → items_at e.machine.world.second.now k ≡ c ∷ items_at e.machine.world.second.now rest
     → selects c ≡ true → e.selected < e.steps
-few e k rest c w cells yes = let same : w.cell ≡ c = ap (head_or c) (sym w.cells ∙ cells) in w.few (ap selects same ∙ yes)
+few e k rest c w cells y = let same : w.cell ≡ c = ap (head_or c) (sym w.cells ∙ cells) in w.few (ap selects same ∙ y)
 
 -- what was reached, by the step
 abbrev ReachedBy : Machine → Machine → ℕ → ℕ → Step → Text → Search → Type 0
@@ -78,9 +78,6 @@ execute_cell-requires-clause-front c = record { earlier = c.in-Some.ensures.earl
 
 -- ---- it goes on
 
-pub advance-in-Goes-requires : goal.advance-in-Goes-requires
-advance-in-Goes-requires c = few c.args.e.now c.args.k c.in-Some.rest c.in-Some.cell c.requires.work c.in-Some.ensures.some c.in-Ok.ensures.selects
-
 pub returns-in-Goes-clause-turned : goal.returns-in-Goes-clause-turned
 returns-in-Goes-clause-turned c =
     let e = c.args.e.now in
@@ -88,10 +85,10 @@ returns-in-Goes-clause-turned c =
     let k = c.args.k in
     let rest = c.in-Some.rest in
     let d = c.in-Ok.done in
-    advanced e (record e { machine = m }) c.advance-in-Goes.new.e rest (Some c.in-Goes.next) d.executed.output.items refl c.advance-in-Goes.ensures.at
+    advanced e (record e { machine = m }) c.advance.new.e rest (Some c.in-Goes.next) d.executed.output.items refl c.advance.ensures.at
     (few e k rest c.in-Some.cell c.requires.work c.in-Some.ensures.some c.in-Ok.ensures.selects)
     (λ s j. reached_by e.machine m e.selected rest d (step.Goes c.in-Goes.next) s c.in-Goes.is (c.in-Ok.ensures.row e.selected s (at_k e k s c.requires.current j)))
-    c.advance-in-Goes.result c.advance-in-Goes.ensures.told
+    c.advance.result c.advance.ensures.told
 
 pub returns-in-Goes-clause-running : goal.returns-in-Goes-clause-running
 returns-in-Goes-clause-running c =
@@ -100,18 +97,15 @@ returns-in-Goes-clause-running c =
     let k = c.args.k in
     let rest = c.in-Some.rest in
     let d = c.in-Ok.done in
-    runs_on e (record e { machine = m }) c.advance-in-Goes.new.e rest (Some c.in-Goes.next) d.executed.output.items refl c.advance-in-Goes.ensures.at
+    runs_on e (record e { machine = m }) c.advance.new.e rest (Some c.in-Goes.next) d.executed.output.items refl c.advance.ensures.at
     (few e k rest c.in-Some.cell c.requires.work c.in-Some.ensures.some c.in-Ok.ensures.selects)
     (λ s j. reached_by e.machine m e.selected rest d (step.Goes c.in-Goes.next) s c.in-Goes.is (c.in-Ok.ensures.row e.selected s (at_k e k s c.requires.current j)))
     c.requires.running c.execute_cell.ensures.sound refl
 
 pub returns-in-Goes-clause-keeps : goal.returns-in-Goes-clause-keeps
 returns-in-Goes-clause-keeps c =
-    let at = c.advance-in-Goes.ensures.at in
-    keeps_at c.args.e.now c.advance-in-Goes.new.e c.execute_cell.new.m c.execute_cell.ensures.program at.machine at.steps
-
-pub advance-in-Back-requires : goal.advance-in-Back-requires
-advance-in-Back-requires c = few c.args.e.now c.args.k c.in-Some.rest c.in-Some.cell c.requires.work c.in-Some.ensures.some c.in-Ok.ensures.selects
+    let at = c.advance.ensures.at in
+    keeps_at c.args.e.now c.advance.new.e c.execute_cell.new.m c.execute_cell.ensures.program at.machine at.steps
 
 pub returns-in-Back-clause-turned : goal.returns-in-Back-clause-turned
 returns-in-Back-clause-turned c =
@@ -172,8 +166,8 @@ throw-requires-clause-there c =
 pub throw-requires-clause-few : goal.throw-requires-clause-few
 throw-requires-clause-few c = few c.args.e.now c.args.k c.in-Some.rest c.in-Some.cell c.requires.work c.in-Some.ensures.some c.in-Ok.ensures.selects
 
-pub returns-in-Raises-in-Ok-clause-turned : goal.returns-in-Raises-in-Ok-clause-turned
-returns-in-Raises-in-Ok-clause-turned c =
+pub returns-in-Ok-throw-clause-turned : goal.returns-in-Ok-throw-clause-turned
+returns-in-Ok-throw-clause-turned c =
     let e = c.args.e.now in
     let m = c.execute_cell.new.m in
     let k = c.args.k in
@@ -182,11 +176,11 @@ returns-in-Raises-in-Ok-clause-turned c =
     let error = c.in-Raises.error in
     let still : StillStands e.machine m = subst (λ (t : Step). OnRaises t (StillStands e.machine m)) c.in-Raises.is c.in-Ok.ensures.raises in
     thrown e (record e { machine = m }) c.throw.new.e rest error d.raiser refl (few e k rest c.in-Some.cell c.requires.work c.in-Some.ensures.some c.in-Ok.ensures.selects)
-    c.in-Raises-in-Ok.ensures.ended c.throw.ensures.program.database (raised e m k rest d error c.in-Raises.is c.requires.current c.in-Ok.ensures.row)
-    c.in-Raises-in-Ok.ball still c.in-Raises-in-Ok.ensures.uncaught c.in-Raises-in-Ok.ensures.sound c.in-Raises-in-Ok.ensures.ball
+    c.in-Ok-throw.ensures.ended c.throw.ensures.program.database (raised e m k rest d error c.in-Raises.is c.requires.current c.in-Ok.ensures.row)
+    c.in-Ok-throw.ball still c.in-Ok-throw.ensures.uncaught c.in-Ok-throw.ensures.sound c.in-Ok-throw.ensures.ball
 
-pub returns-in-Raises-in-Ok-clause-running : goal.returns-in-Raises-in-Ok-clause-running
-returns-in-Raises-in-Ok-clause-running c =
+pub returns-in-Ok-throw-clause-running : goal.returns-in-Ok-throw-clause-running
+returns-in-Ok-throw-clause-running c =
     let e = c.args.e.now in
     let m = c.execute_cell.new.m in
     let k = c.args.k in
@@ -194,12 +188,8 @@ returns-in-Raises-in-Ok-clause-running c =
     let d = c.in-Ok.done in
     let error = c.in-Raises.error in
     runs_thrown e (record e { machine = m }) c.throw.new.e rest error d.raiser refl (few e k rest c.in-Some.cell c.requires.work c.in-Some.ensures.some c.in-Ok.ensures.selects)
-    c.in-Raises-in-Ok.ensures.ended c.throw.ensures.program.database (raised e m k rest d error c.in-Raises.is c.requires.current c.in-Ok.ensures.row)
+    c.in-Ok-throw.ensures.ended c.throw.ensures.program.database (raised e m k rest d error c.in-Raises.is c.requires.current c.in-Ok.ensures.row)
     c.requires.running c.throw.ensures.steps
-
-pub returns-in-Raises-in-Ok-clause-keeps : goal.returns-in-Raises-in-Ok-clause-keeps
-returns-in-Raises-in-Ok-clause-keeps c =
-    keeps_gained c.args.e.now c.throw.new.e c.execute_cell.new.m c.execute_cell.ensures.program c.throw.ensures.program c.throw.ensures.budget c.throw.ensures.steps
 
 -- the engine still stands where the error's ball could not be built
 unthrown : (e new : Engine) (m : Machine) (rest : ℕ) (error : BuiltinError) (r : Raiser) → StillStands e.machine m → StillStands m new.machine
@@ -211,40 +201,21 @@ unthrown e new m rest error r still after program selected current f s j =
     stands_same new e.selected e.current s selected current
     (stands_still m new.machine e.selected e.current s after program (stands_still e.machine m e.selected e.current s still same j))
 
-pub returns-in-Raises-in-Err-clause-err : goal.returns-in-Raises-in-Err-clause-err
-returns-in-Raises-in-Err-clause-err c =
+pub returns-in-Raises-clause-err : goal.returns-in-Raises-clause-err
+returns-in-Raises-clause-err c =
     let e = c.args.e.now in
     let m = c.execute_cell.new.m in
     let error = c.in-Raises.error in
     let still : StillStands e.machine m = subst (λ (t : Step). OnRaises t (StillStands e.machine m)) c.in-Raises.is c.in-Ok.ensures.raises in
-    let at = c.in-Raises-in-Err.ensures.err_at in
+    let at = c.in-Err.ensures.err_at in
     goes_at_once e c.throw.new.e
-    (unthrown e c.throw.new.e m c.in-Some.rest error c.in-Ok.done.raiser still c.in-Raises-in-Err.ensures.err c.throw.ensures.program.database at.selected at.current
+    (unthrown e c.throw.new.e m c.in-Some.rest error c.in-Ok.done.raiser still c.in-Err.ensures.err c.throw.ensures.program.database at.selected at.current
     (raised e m c.args.k c.in-Some.rest c.in-Ok.done error c.in-Raises.is c.requires.current c.in-Ok.ensures.row))
-
-pub returns-in-Raises-in-Err-clause-running : goal.returns-in-Raises-in-Err-clause-running
-returns-in-Raises-in-Err-clause-running c =
-    let e = c.args.e.now in
-    let m = c.execute_cell.new.m in
-    let error = c.in-Raises.error in
-    let still : StillStands e.machine m = subst (λ (t : Step). OnRaises t (StillStands e.machine m)) c.in-Raises.is c.in-Ok.ensures.raises in
-    let at = c.in-Raises-in-Err.ensures.err_at in
-    runs_still e c.throw.new.e c.requires.running at.sound
-    (unthrown e c.throw.new.e m c.in-Some.rest error c.in-Ok.done.raiser still c.in-Raises-in-Err.ensures.err c.throw.ensures.program.database at.selected at.current
-    (raised e m c.args.k c.in-Some.rest c.in-Ok.done error c.in-Raises.is c.requires.current c.in-Ok.ensures.row))
-    at.selected c.throw.ensures.steps
-
-pub returns-in-Raises-in-Err-clause-keeps : goal.returns-in-Raises-in-Err-clause-keeps
-returns-in-Raises-in-Err-clause-keeps c =
-    keeps_gained c.args.e.now c.throw.new.e c.execute_cell.new.m c.execute_cell.ensures.program c.throw.ensures.program c.throw.ensures.budget c.throw.ensures.steps
 
 -- ---- stops
 
-pub leave-in-Refuses-requires : goal.leave-in-Refuses-requires
-leave-in-Refuses-requires c = kept_where c.execute_cell.new.m c.execute_cell.ensures.sound
-
-pub returns-in-Refuses-clause-turned : goal.returns-in-Refuses-clause-turned
-returns-in-Refuses-clause-turned c = λ budgets h s j.
+pub returns-in-Ok-clause-turned : goal.returns-in-Ok-clause-turned
+returns-in-Ok-clause-turned c = λ budgets h s j.
     let e = c.args.e.now in
     let m = c.execute_cell.new.m in
     let k = c.args.k in
@@ -252,45 +223,37 @@ returns-in-Refuses-clause-turned c = λ budgets h s j.
     let x = reached_by e.machine m e.selected rest c.in-Ok.done (step.Refuses c.in-Refuses.pair) s c.in-Refuses.is
     (c.in-Ok.ensures.row e.selected s (at_k e k s c.requires.current j)) in
     let less = subst (λ (n : ℕ). e.selected < n) (sym h.steps) (few e k rest c.in-Some.cell c.requires.work c.in-Some.ensures.some c.in-Ok.ensures.selects) in
-    let left = c.leave-in-Refuses in
+    let left = c.leave in
     stopped budgets left.new.e e.selected (why.Overflow c.in-Refuses.pair) s (with_branches [] s) left.ensures.ended (x.1.database ∙ sym left.ensures.program.database) x.0.selected
     (tells_refused e.machine e.selected rest s x.0 budgets less c.in-Refuses.pair x.1.is) refl
 
-pub returns-in-Refuses-clause-running : goal.returns-in-Refuses-clause-running
-returns-in-Refuses-clause-running c =
+pub returns-in-Ok-clause-running : goal.returns-in-Ok-clause-running
+returns-in-Ok-clause-running c =
     let e = c.args.e.now in
     let m = c.execute_cell.new.m in
-    let left = c.leave-in-Refuses in
+    let left = c.leave in
     runs_stopped e left.new.e left.ensures.ended c.requires.running left.ensures.steps
     (λ s j. let x = reached_by e.machine m e.selected c.in-Some.rest c.in-Ok.done (step.Refuses c.in-Refuses.pair) s c.in-Refuses.is
         (c.in-Ok.ensures.row e.selected s (at_k e c.args.k s c.requires.current j)) in
     x.1.database ∙ sym left.ensures.program.database)
 
-pub returns-in-Refuses-clause-keeps : goal.returns-in-Refuses-clause-keeps
-returns-in-Refuses-clause-keeps c =
-    let left = c.leave-in-Refuses in
-    keeps_gained c.args.e.now left.new.e c.execute_cell.new.m c.execute_cell.ensures.program left.ensures.program left.ensures.budget left.ensures.steps
-
 stops_so : (e : Engine) (m : Machine) (k rest : ℕ) (f : StoreFault) (g : StoreFault) → f ≡ g → e.current ≡ Some k
     → ((n : ℕ) (s : Search) → StandsFor e.machine n (Some k) s → MayStop e.machine n rest f s) → (s : Search) → Stands e s → MayStop e.machine e.selected rest g s
 stops_so e m k rest f g is at stop s j = subst (λ (x : StoreFault). MayStop e.machine e.selected rest x s) is (stop e.selected s (at_k e k s at j))
 
-pub leave-in-Err-Overflow-requires : goal.leave-in-Err-Overflow-requires
-leave-in-Err-Overflow-requires c = kept_where c.execute_cell.new.m c.execute_cell.ensures.sound
-
 pub returns-in-Err-Overflow-clause-turned : goal.returns-in-Err-Overflow-clause-turned
-returns-in-Err-Overflow-clause-turned c = λ budgets h s j.
+returns-in-Err-Overflow-clause-turned c = rw c.in-Err-Overflow.field-0-is (λ budgets h s j.
     let e = c.args.e.now in
     let m = c.execute_cell.new.m in
     let k = c.args.k in
     let rest = c.in-Some.rest in
     let x = stops_so e m k rest _ (fault.Overflow c.in-Err-Overflow.pair) c.in-Err-Overflow.field-0-is c.requires.current c.in-Err-Overflow.ensures.stop s j in
-    let yes : selects c.in-Some.cell ≡ true = subst (HasSelected c.in-Some.cell) c.in-Err-Overflow.field-0-is c.in-Err-Overflow.ensures.err_selects in
-    let less = subst (λ (n : ℕ). e.selected < n) (sym h.steps) (few e k rest c.in-Some.cell c.requires.work c.in-Some.ensures.some yes) in
+    let so : selects c.in-Some.cell ≡ true = subst (HasSelected c.in-Some.cell) c.in-Err-Overflow.field-0-is c.in-Err-Overflow.ensures.err_selects in
+    let less = subst (λ (n : ℕ). e.selected < n) (sym h.steps) (few e k rest c.in-Some.cell c.requires.work c.in-Some.ensures.some so) in
     let left = c.leave-in-Err-Overflow in
     let t = stops_for_overflow budgets e.machine e.selected rest c.in-Err-Overflow.pair s less x in
     stopped budgets left.new.e e.selected (why.Overflow c.in-Err-Overflow.pair) s t.0 left.ensures.ended
-    (x.next.database ∙ sym c.in-Err-Overflow.ensures.err_database ∙ sym left.ensures.program.database) x.next.selected t.1 t.2
+    (x.next.database ∙ sym c.in-Err-Overflow.ensures.err_database ∙ sym left.ensures.program.database) x.next.selected t.1 t.2)
 
 pub returns-in-Err-Overflow-clause-running : goal.returns-in-Err-Overflow-clause-running
 returns-in-Err-Overflow-clause-running c =
@@ -304,22 +267,19 @@ returns-in-Err-Overflow-clause-keeps c =
     let left = c.leave-in-Err-Overflow in
     keeps_gained c.args.e.now left.new.e c.execute_cell.new.m c.execute_cell.ensures.program left.ensures.program left.ensures.budget left.ensures.steps
 
-pub leave-in-Err-Pivots-requires : goal.leave-in-Err-Pivots-requires
-leave-in-Err-Pivots-requires c = kept_where c.execute_cell.new.m c.execute_cell.ensures.sound
-
 pub returns-in-Err-Pivots-clause-turned : goal.returns-in-Err-Pivots-clause-turned
-returns-in-Err-Pivots-clause-turned c = λ budgets h s j.
+returns-in-Err-Pivots-clause-turned c = rw c.in-Err-Pivots.field-0-is (λ budgets h s j.
     let e = c.args.e.now in
     let m = c.execute_cell.new.m in
     let k = c.args.k in
     let rest = c.in-Some.rest in
     let x = stops_so e m k rest _ (fault.Pivots c.in-Err-Pivots.exchanges) c.in-Err-Pivots.field-0-is c.requires.current c.in-Err-Pivots.ensures.stop s j in
-    let yes : selects c.in-Some.cell ≡ true = subst (HasSelected c.in-Some.cell) c.in-Err-Pivots.field-0-is c.in-Err-Pivots.ensures.err_selects in
-    let less = subst (λ (n : ℕ). e.selected < n) (sym h.steps) (few e k rest c.in-Some.cell c.requires.work c.in-Some.ensures.some yes) in
+    let so : selects c.in-Some.cell ≡ true = subst (HasSelected c.in-Some.cell) c.in-Err-Pivots.field-0-is c.in-Err-Pivots.ensures.err_selects in
+    let less = subst (λ (n : ℕ). e.selected < n) (sym h.steps) (few e k rest c.in-Some.cell c.requires.work c.in-Some.ensures.some so) in
     let left = c.leave-in-Err-Pivots in
     let t = stops_for_pivots budgets e.machine e.selected rest c.in-Err-Pivots.exchanges s less h.pivots x in
     stopped budgets left.new.e e.selected (why.Pivots c.in-Err-Pivots.exchanges) s t.0 left.ensures.ended
-    (x.next.database ∙ sym c.in-Err-Pivots.ensures.err_database ∙ sym left.ensures.program.database) x.next.selected t.1 t.2
+    (x.next.database ∙ sym c.in-Err-Pivots.ensures.err_database ∙ sym left.ensures.program.database) x.next.selected t.1 t.2)
 
 pub returns-in-Err-Pivots-clause-running : goal.returns-in-Err-Pivots-clause-running
 returns-in-Err-Pivots-clause-running c =
@@ -335,21 +295,10 @@ returns-in-Err-Pivots-clause-keeps c =
 
 -- ---- want of memory
 
-pub returns-in-Err-NoMemory-clause-err : goal.returns-in-Err-NoMemory-clause-err
-returns-in-Err-NoMemory-clause-err c =
+pub returns-clause-err : goal.returns-clause-err
+returns-clause-err c =
     let e = c.args.e.now in
     let m = c.execute_cell.new.m in
     goes_at_once e (record e { machine = m })
     (λ s j. stands_still e.machine m e.selected e.current s c.in-Err-NoMemory.ensures.err c.in-Err-NoMemory.ensures.err_database j)
 
-pub returns-in-Err-NoMemory-clause-running : goal.returns-in-Err-NoMemory-clause-running
-returns-in-Err-NoMemory-clause-running c =
-    let e = c.args.e.now in
-    let m = c.execute_cell.new.m in
-    runs_still e (record e { machine = m }) c.requires.running c.execute_cell.ensures.sound
-    (λ s j. stands_still e.machine m e.selected e.current s c.in-Err-NoMemory.ensures.err c.in-Err-NoMemory.ensures.err_database j) refl refl
-
-pub returns-in-Err-NoMemory-clause-keeps : goal.returns-in-Err-NoMemory-clause-keeps
-returns-in-Err-NoMemory-clause-keeps c =
-    let e = c.args.e.now in
-    keeps_at e (record e { machine = c.execute_cell.new.m }) c.execute_cell.new.m c.execute_cell.ensures.program refl refl

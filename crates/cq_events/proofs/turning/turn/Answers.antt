@@ -10,7 +10,7 @@ use Rattle.cq_engine.specs.declared.front.Front.TheVariants as front
 use Rattle.cq_engine.proofs.Told.{told_then}
 use Rattle.cq_events.specs.declared.engine.Engine.{Engine}
 use Rattle.cq_events.specs.Events.{Stands, IsRunning, Keeps, GoesOn}
-use Rattle.cq_events.proofs.Turned.{keeps_both, goes_both, turned_both}
+use Rattle.cq_events.proofs.Turned.{goes_both, turned_both}
 use Rattle.cq_events.proofs.turning.turn.Goals as goal
 
 -- ---- what was looked at
@@ -93,31 +93,19 @@ select-requires-clause-running c =
 pub select-requires-clause-work : goal.select-requires-clause-work
 select-requires-clause-work c = let e = c.args.e.now in subst (IsAhead e.steps e.selected c.look.new.m) c.in-Ahead.is c.in-Ok.ensures.ahead
 
-pub returns-in-Ahead-in-Ok-clause-turned : goal.returns-in-Ahead-in-Ok-clause-turned
-returns-in-Ahead-in-Ok-clause-turned c =
+pub returns-in-Ok-select-clause-turned : goal.returns-in-Ok-select-clause-turned
+returns-in-Ok-select-clause-turned c =
     let e = c.args.e.now in
     let m = c.look.new.m in
-    turned_both e (record e { machine = m; current = Some c.in-Ahead.k }) c.select.new.e c.in-Ahead-in-Ok.told (keeps e m (Some c.in-Ahead.k) c.look.ensures.program c.look.ensures.budget)
-    (came e m c.in-Ok.front c.in-Ahead.k c.in-Ahead.is c.in-Ok.ensures.front) refl c.in-Ahead-in-Ok.ensures.turned
+    turned_both e (record e { machine = m; current = Some c.in-Ahead.k }) c.select.new.e c.in-Ok-select.told (keeps e m (Some c.in-Ahead.k) c.look.ensures.program c.look.ensures.budget)
+    (came e m c.in-Ok.front c.in-Ahead.k c.in-Ahead.is c.in-Ok.ensures.front) refl c.in-Ok-select.ensures.turned
 
-pub returns-in-Ahead-in-Ok-clause-keeps : goal.returns-in-Ahead-in-Ok-clause-keeps
-returns-in-Ahead-in-Ok-clause-keeps c =
-    let e = c.args.e.now in
-    let m = c.look.new.m in
-    keeps_both e (record e { machine = m; current = Some c.in-Ahead.k }) c.select.new.e (keeps e m (Some c.in-Ahead.k) c.look.ensures.program c.look.ensures.budget) c.select.ensures.keeps
-
-pub returns-in-Ahead-in-Err-clause-err : goal.returns-in-Ahead-in-Err-clause-err
-returns-in-Ahead-in-Err-clause-err c =
+pub returns-in-Err-select-clause-err : goal.returns-in-Err-select-clause-err
+returns-in-Err-select-clause-err c =
     let e = c.args.e.now in
     let m = c.look.new.m in
     goes_both e (record e { machine = m; current = Some c.in-Ahead.k }) c.select.new.e (keeps e m (Some c.in-Ahead.k) c.look.ensures.program c.look.ensures.budget)
-    (came e m c.in-Ok.front c.in-Ahead.k c.in-Ahead.is c.in-Ok.ensures.front) c.in-Ahead-in-Err.ensures.err
-
-pub returns-in-Ahead-in-Err-clause-keeps : goal.returns-in-Ahead-in-Err-clause-keeps
-returns-in-Ahead-in-Err-clause-keeps c =
-    let e = c.args.e.now in
-    let m = c.look.new.m in
-    keeps_both e (record e { machine = m; current = Some c.in-Ahead.k }) c.select.new.e (keeps e m (Some c.in-Ahead.k) c.look.ensures.program c.look.ensures.budget) c.select.ensures.keeps
+    (came e m c.in-Ok.front c.in-Ahead.k c.in-Ahead.is c.in-Ok.ensures.front) c.in-Err-select.ensures.err
 
 -- ---- want of memory
 

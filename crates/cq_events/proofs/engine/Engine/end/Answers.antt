@@ -16,24 +16,24 @@ pub returns-clause-idle : goal.returns-clause-idle
 returns-clause-idle c =
     let m = c.args.self.now.machine in
     let kept = c.requires in
-    let marks = ap₂ zip c.new-first.ensures.saved c.new-second.ensures.saved in
+    let marks = ap₂ zip c.new.ensures.saved c.new-2.ensures.saved in
     record {
       sound = record {
         known = kept.known;
         different = kept.different;
-        names = subst (λ (x : Contents). KnowsTerms m.atoms x.heap.terms) (sym c.new-first.ensures.now) (no_terms m.atoms);
+        names = subst (λ (x : Contents). KnowsTerms m.atoms x.heap.terms) (sym c.new.ensures.now) (no_terms m.atoms);
         program = kept.program;
         operators_named = kept.operators_named;
-        marked = ap length marks ∙ sym (ap length c.new.ensures);
-        untried = subst (λ (cs : List Alternatives). AreOpen m.clauses (saved_values c.new-first.result c.new-second.result.saved) cs) (sym c.new.ensures)
+        marked = ap length marks ∙ sym (ap length c.new-3.ensures);
+        untried = subst (λ (cs : List Alternatives). AreOpen m.clauses (saved_values c.new.result c.new-2.result.saved) cs) (sym c.new-3.ensures)
             (subst (λ (l : List (Value Contents)). AreOpen m.clauses l []) (sym marks) tt);
       };
-      nothing = subst (KnowsNothing m.atoms) (sym c.new-first.ensures.now) (record { names = no_terms m.atoms; images = λ v l. absurd (omega (arith, l)); attrs = refl; told = refl });
-      lists = c.new-second.ensures.now;
-      choices = c.new.ensures;
+      nothing = subst (KnowsNothing m.atoms) (sym c.new.ensures.now) (record { names = no_terms m.atoms; images = λ v l. absurd (omega (arith, l)); attrs = refl; told = refl });
+      lists = c.new-2.ensures.now;
+      choices = c.new-3.ensures;
     }
 
 pub returns-clause-keeps : goal.returns-clause-keeps
 returns-clause-keeps c =
     let m = c.args.self.now.machine in
-    record { atoms = prefix_same m.atoms m.atoms refl; steps = refl; pivots = ap (λ (x : Contents). x.pivots) c.new-first.ensures.now ∙ c.pivots-pivots.ensures }
+    record { atoms = prefix_same m.atoms m.atoms refl; steps = refl; pivots = ap (λ (x : Contents). x.pivots) c.new.ensures.now ∙ c.pivots-pivots.ensures }

@@ -13,13 +13,10 @@ use Rattle.cq_machine.specs.Machines.{terms, now, database_of}
 use Rattle.cq_events.proofs.Idle.{first_cells, started}
 use Rattle.cq_events.proofs.engine.Engine.start.Goals as goal
 
-pub before-k-requires : goal.before-k-requires
-before-k-requires c = let l = ap length c.requires.idle.lists in let d = c.done.ensures in omega (arith, l, d)
-
 pub returns-clause-stands : goal.returns-clause-stands
 returns-clause-stands c =
     let m = c.args.self.now.machine in
-    let lists = c.before-k.new.self in
+    let lists = c.before-2.new.self in
     let k = c.in_ok-k.k in
     let h = first_cells m.world.second.now lists.now k c.done.result c.cell_of-cell.result (goal_cell m.atoms (terms m) c.args.goal 0) c.in_ok-k.ensures.number c.in_ok-k.ensures.now
     c.requires.idle.lists c.done.ensures (c.cell_of-cell.ensures m.atoms) in
@@ -29,9 +26,9 @@ pub returns-clause-running : goal.returns-clause-running
 returns-clause-running c =
     let m = c.args.self.now.machine in
     let sound = c.requires.idle.sound in
-    let lists = c.before-k.new.self in
+    let lists = c.before-2.new.self in
     let k = c.in_ok-k.k in
-    let same = ap (λ (l : List (List (List Cell))). saved_values m.world.first l) c.before-k.ensures.saved in
+    let same = ap (λ (l : List (List (List Cell))). saved_values m.world.first l) c.before-2.ensures.saved in
     let h = first_cells m.world.second.now lists.now k c.done.result c.cell_of-cell.result (goal_cell m.atoms (terms m) c.args.goal 0) c.in_ok-k.ensures.number c.in_ok-k.ensures.now
     c.requires.idle.lists c.done.ensures (c.cell_of-cell.ensures m.atoms) in
     record {
@@ -54,8 +51,8 @@ returns-in_err-k-clause-err c =
     let i = c.requires.idle in
     let m = c.args.self.now.machine in
     let sound = i.sound in
-    let same = ap (λ (l : List (List (List Cell))). saved_values m.world.first l) c.before-k.ensures.saved in
-    on_err c.from_residual-k.result
+    let same = ap (λ (l : List (List (List Cell))). saved_values m.world.first l) c.before-2.ensures.saved in
+    on_err c.from_residual.result
     (record {
       sound = record {
         known = sound.known;
