@@ -24,10 +24,11 @@ pub stops_for_overflow : (budgets : Budgets) (m : Machine) (n rest : ℕ) (pair 
     → ComesToStop budgets (why.Overflow pair) s
 stops_for_overflow budgets m n rest pair s few x =
     let y = x.next in
-    let one = x.stopped in
-    (with_branches [] (after_step s (made (place_of s y.state y.items y.cut y.behind) (child y.items y.state one.work ∷ [])) y.behind),
-    row_refuses budgets s y.goal y.cut y.items y.state y.behind one.work y.look (few_here m n rest budgets.steps s y few) one.row pair one.holds,
-    refl)
+    let one = x.stopped in (
+      with_branches [] (after_step s (made (place_of s y.state y.items y.cut y.behind) (child y.items y.state one.work ∷ [])) y.behind),
+      row_refuses budgets s y.goal y.cut y.items y.state y.behind one.work y.look (few_here m n rest budgets.steps s y few) one.row pair one.holds,
+      refl,
+    )
 
 pub stops_for_pivots : (budgets : Budgets) (m : Machine) (n rest exchanges : ℕ) (s : Search) → n < budgets.steps → budgets.pivots ≡ m.world.first.store.pivots
     → IsStoppedNext m n rest (Pivots exchanges) s → ComesToStop budgets (why.Pivots exchanges) s
@@ -35,12 +36,13 @@ stops_for_pivots budgets m n rest exchanges s few same x =
     let y = x.next in
     let one = x.stopped.1 in
     let last = with_branches [] (after_step s (made (place_of s y.state y.items y.cut y.behind) (child y.items y.state one.work ∷ [])) y.behind) in
-    let count : budgets.pivots ≡ exchanges = same ∙ sym x.stopped.0 in
-    (last,
-    subst (λ (i : ℕ). Tells budgets s (Stops (why.Pivots i)) last) count
-    (row_takes budgets s y.goal y.cut y.items y.state y.behind one.work y.look (few_here m n rest budgets.steps s y few) one.row
-    (subst (λ (i : ℕ). MayTake y.state one.work i) (sym count) one.holds)),
-    refl)
+    let count : budgets.pivots ≡ exchanges = same ∙ sym x.stopped.0 in (
+      last,
+      subst (λ (i : ℕ). Tells budgets s (Stops (why.Pivots i)) last) count
+          (row_takes budgets s y.goal y.cut y.items y.state y.behind one.work y.look (few_here m n rest budgets.steps s y few) one.row
+          (subst (λ (i : ℕ). MayTake y.state one.work i) (sym count) one.holds)),
+      refl,
+    )
 
 -- a fault that isn't want of memory
 pub may_stop : (m : Machine) (n rest : ℕ) (fault : StoreFault) (s : Search) → IsStoppedNext m n rest fault s → MayStop m n rest fault s

@@ -117,7 +117,11 @@ impl Engine {
         ensures err { OnErr result (IsIdle self.new) }
     {
         let cell = cell_of(&self.machine.world.first.heap, goal);
-        let k = self.machine.world.second.before(cell, Continuation::done())?;
+        let k = self
+            .machine
+            .world
+            .second
+            .before(cell, Continuation::done())?;
         self.selected = 0;
         self.steps = steps;
         self.current = Some(k);

@@ -83,4 +83,3 @@ returns-in-Ok-clause-selects c = ap selects c.in-Goal.is
 
 pub returns-in-Err-clause-err_selects : goal.returns-in-Err-clause-err_selects
 returns-in-Err-clause-err_selects c = has_selected c.args.cell c.in-Err.fault (ap selects c.in-Goal.is)
-

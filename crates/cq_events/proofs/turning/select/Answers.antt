@@ -49,9 +49,10 @@ abbrev ReachedBy : Machine → Machine → ℕ → ℕ → Step → Text → Sea
 ReachedBy old m n rest st text s = (x : SelectsNext old n rest s) × Reaches m st text (place_of s x.state x.items x.cut x.behind) x.behind (read x.state x.goal)
 
 reached_by : (old m : Machine) (n rest : ℕ) (d : Done) (st : Step) (s : Search) → d.executed.step ≡ st → Reached old m n rest d s → ReachedBy old m n rest st d.executed.output.items s
-reached_by old m n rest d st s e r =
-    (r.next,
-    subst (λ (t : Step). Reaches m t d.executed.output.items (place_of s r.next.state r.next.items r.next.cut r.next.behind) r.next.behind (read r.next.state r.next.goal)) e r.reaches)
+reached_by old m n rest d st s e r = (
+  r.next,
+  subst (λ (t : Step). Reaches m t d.executed.output.items (place_of s r.next.state r.next.items r.next.cut r.next.behind) r.next.behind (read r.next.state r.next.goal)) e r.reaches,
+)
 
 -- ---- what is in front
 
@@ -234,7 +235,7 @@ returns-in-Ok-clause-running c =
     let left = c.leave in
     runs_stopped e left.new.e left.ensures.ended c.requires.running left.ensures.steps
     (λ s j. let x = reached_by e.machine m e.selected c.in-Some.rest c.in-Ok.done (step.Refuses c.in-Refuses.pair) s c.in-Refuses.is
-        (c.in-Ok.ensures.row e.selected s (at_k e c.args.k s c.requires.current j)) in
+    (c.in-Ok.ensures.row e.selected s (at_k e c.args.k s c.requires.current j)) in
     x.1.database ∙ sym left.ensures.program.database)
 
 stops_so : (e : Engine) (m : Machine) (k rest : ℕ) (f : StoreFault) (g : StoreFault) → f ≡ g → e.current ≡ Some k
@@ -301,4 +302,3 @@ returns-clause-err c =
     let m = c.execute_cell.new.m in
     goes_at_once e (record e { machine = m })
     (λ s j. stands_still e.machine m e.selected e.current s c.in-Err-NoMemory.ensures.err c.in-Err-NoMemory.ensures.err_database j)
-
