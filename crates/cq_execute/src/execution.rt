@@ -1,17 +1,30 @@
 // The execution of a selected goal.
 
-ghost use Rattle.std.specs.Prelude.{IfOk, IfErr, OnErr};
+ghost use Rattle.std.specs.Prelude.{◌≡◌, ◌<◌, true, length, IfOk, IfErr, OnOk, OnErr};
+ghost use Rattle.spec_built.specs.Kinds.{is_callable};
+ghost use Rattle.spec_search.specs.Replies.{Place, Raises};
 ghost use Rattle.spec_search.specs.Rows.{reply_of};
-ghost use Rattle.cq_machine.specs.Machines.{IsSound, StillStands};
+ghost use Rattle.cq_built.specs.Errors.{error_tree, HasCulprit};
+ghost use Rattle.cq_declarations.specs.Clauses.{IsOf};
+ghost use Rattle.cq_term.specs.Trees.{tree, KnowsTerms};
+ghost use Rattle.cq_machine.specs.Machines.{terms, IsSound, StillStands};
 ghost use Rattle.cq_machine.specs.Stepping.{CanGo, OnRaises};
 ghost use Rattle.cq_selected.specs.Stops.{IsSelectedFrom, StopsAt};
 ghost use Rattle.cq_execute.specs.Executions.{Executes, ExecutesCall, IsCallSelectedSomewhere, KeepsClauses, HasSameDatabase};
+ghost use Rattle.cq_execute.specs.Rows.{IsAtGoal, IsDone};
 
 use crate::executed::Executed;
+use crate::rows::execute_builtin;
+use crate::steps::{quiet, silent};
+use cq_atoms::Atoms;
+use cq_built::{BuiltinError, BuiltinFault, Culprit, ValidType};
 use cq_control::Continuation;
 use cq_linear::store::StoreFault;
-use cq_machine::Machine;
-use cq_term::TermId;
+use cq_machine::{Machine, Step};
+use cq_selected::call_procedure;
+use cq_steps::selected_goals_lead;
+use cq_table::Builtin;
+use cq_term::{Heap, Pred, TermId, View};
 use std::alloc::AllocError;
 
 /// Executes the selected goal: what it calls is found by its name and number of arguments, a built-in predicate or else a user
@@ -34,7 +47,74 @@ pub fn execute(
     ensures err { OnErr result (StillStands m.old m.new) }
     ensures err_database { OnErr result (HasSameDatabase m.old m.new) }
 {
-    Err(StoreFault::NoMemory)
+    selected_goals_lead();
+    execute_goal(m, goal, height, rest)
+}
+
+/// The same, where the goal and the continuation are known to be there.
+fn execute_goal(
+    m: &mut Machine,
+    goal: TermId,
+    height: usize,
+    rest: Continuation,
+) -> Result<Executed, StoreFault>
+    requires at { IsAtGoal m.old goal height rest }
+    ensures { IsDone m.old m.new goal height rest result }
+{
+    let world = &m.world;
+    match predicate_of(&world.first.heap, &m.atoms, goal) {
+        Ok(predicate) => execute_named(m, predicate, goal, height, rest),
+        Err(error) => {
+            let alloc = m.world.first.heap.alloc();
+            Ok(silent(alloc, Step::Raises(error)))
+        }
+    }
+}
+
+/// The predicate that a goal calls, or the error that it raises, a variable or a number.
+fn predicate_of(heap: &Heap, atoms: &Atoms, goal: TermId) -> Result<Pred, BuiltinError>
+    requires live { goal < length heap.now.now.terms }
+    requires names { KnowsTerms atoms.now heap.now.now.terms }
+    ensures callable { OnOk result (is_callable (tree atoms.now heap.now.now.terms goal) ≡ true) }
+    ensures predicate { IfOk result (λ p. IsOf atoms.now p (tree atoms.now heap.now.now.terms goal)) }
+    ensures error { IfErr result (λ e. (p : Place) → reply_of p (tree atoms.now heap.now.now.terms goal) ≡ Raises (error_tree atoms.now heap.now.now.terms e)) }
+    ensures culprit { IfErr result (HasCulprit atoms.now heap.now.now.terms) }
+{
+    match heap.view(goal) {
+        View::Var(_) => Err(BuiltinError::Instantiation),
+        View::Number(_) => Err(not_callable(goal)),
+        View::Name(name) => Ok(Pred { name, arity: 0 }),
+        View::Compound(name, arity) => Ok(Pred { name, arity }),
+    }
+}
+
+/// The error of a goal that is a number.
+fn not_callable(goal: TermId) -> BuiltinError
+    ensures { result ≡ BuiltinError.Type ValidType.Callable (Culprit.Term goal) }
+{
+    BuiltinError::Type(ValidType::Callable, Culprit::Term(goal))
+}
+
+/// Executes the selected goal of a predicate.
+fn execute_named(
+    m: &mut Machine,
+    predicate: Pred,
+    goal: TermId,
+    height: usize,
+    rest: Continuation,
+) -> Result<Executed, StoreFault>
+    requires at { IsAtGoal m.old goal height rest }
+    requires callable { is_callable (tree m.old.atoms (terms m.old) goal) ≡ true }
+    requires predicate { IsOf m.old.atoms predicate (tree m.old.atoms (terms m.old) goal) }
+    ensures { IsDone m.old m.new goal height rest result }
+{
+    match Builtin::named(m.atoms.text(predicate.name), predicate.arity) {
+        Some(builtin) => execute_builtin(m, builtin, goal, height, rest),
+        None => {
+            let alloc = m.world.first.heap.alloc();
+            quiet(alloc, call_procedure(m, predicate, goal, rest))
+        }
+    }
 }
 
 /// Executes call of a term, which a construct or a goal that woke has put in front so: a cut in it sees no choice that is there
@@ -54,5 +134,13 @@ pub fn execute_call(
     ensures database { HasSameDatabase m.old m.new }
     ensures err { OnErr result (StillStands m.old m.new) }
 {
-    Err(AllocError)
+    selected_goals_lead();
+    let alloc = m.world.first.heap.alloc();
+    match cq_steps::call(&mut m.world, &m.choices, &m.atoms, called, rest) {
+        Ok(k) => Ok(silent(alloc, Step::Goes(k))),
+        Err(fault) => match fault {
+            BuiltinFault::Error(error) => Ok(silent(alloc, Step::Raises(error))),
+            BuiltinFault::NoMemory => Err(AllocError),
+        },
+    }
 }

@@ -3,6 +3,9 @@
 
 mod executed;
 mod execution;
+mod printing;
+mod rows;
+mod steps;
 
 pub use executed::Executed;
 pub use execution::{execute, execute_call};

@@ -1,0 +1,7 @@
+mod Table
+mod Reached
+mod Done
+mod Offered
+mod Passed
+mod Called
+mod Heads

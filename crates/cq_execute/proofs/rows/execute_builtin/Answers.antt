@@ -1,0 +1,291 @@
+use Rattle.std.proofs.Common.{refl}
+use Rattle.std.specs.Prelude.{Ok, IfOk}
+use Rattle.spec_search.specs.Builtins.{True, Fail, And, Or, IfThen, Cut, Not, Once, Unify, NotUnify, Is, Compare, Discontiguous, Initialization, UseModule, Curly, Freeze}
+use Rattle.cq_atoms.specs.Texts.{text_of}
+use Rattle.cq_builtin.specs.Rows.{comparison_of}
+use Rattle.cq_linear.specs.declared.store.StoreFault.{StoreFault}
+use Rattle.cq_term.specs.Meaning.{at}
+use Rattle.cq_machine.specs.Machines.{terms}
+use Rattle.cq_machine.specs.Stepping.{row_of, LeadsTo}
+use Rattle.cq_execute.proofs.Table.{so_many}
+use Rattle.cq_execute.proofs.Done.{quiet_done, row_done, stop_done, none_raised, rows_at, stops_at, same_machine, somewhere, still_raised, still_stands, freeze_none}
+use Rattle.cq_execute.proofs.rows.execute_builtin.Goals as goal
+
+pub conjunction-requires-clause-two : goal.conjunction-requires-clause-two
+conjunction-requires-clause-two c =
+    so_many (text_of c.args.m.now.atoms) (at (terms c.args.m.now) c.args.goal) And 2 (rw c.in-And.is at c.requires.calls) (λ n. refl)
+
+pub returns-in-And : goal.returns-in-And
+returns-in-And c =
+    let m = c.args.m.now in
+    let new = c.conjunction.new.m in
+    let r = c.conjunction.result in
+    let calls = rw c.in-And.is at c.requires.calls in
+    quiet_done m new c.args.goal c.args.height c.args.rest _ c.quiet-in-And.result
+    (row_done m new c.args.goal c.args.height c.args.rest And calls r c.conjunction.ensures.row c.conjunction.ensures.goes
+    (none_raised m new c.args.goal c.args.height c.args.rest And calls c.requires.at.selected (λ p g e h. cc) r c.conjunction.ensures.row)
+    c.conjunction.ensures.sound c.conjunction.ensures.program c.conjunction.ensures.err)
+    c.quiet-in-And.ensures
+
+pub disjunction-requires-clause-two : goal.disjunction-requires-clause-two
+disjunction-requires-clause-two c =
+    so_many (text_of c.args.m.now.atoms) (at (terms c.args.m.now) c.args.goal) Or 2 (rw c.in-Or.is at c.requires.calls) (λ n. refl)
+
+pub returns-in-Or : goal.returns-in-Or
+returns-in-Or c =
+    let m = c.args.m.now in
+    let new = c.disjunction.new.m in
+    let r = c.disjunction.result in
+    let calls = rw c.in-Or.is at c.requires.calls in
+    quiet_done m new c.args.goal c.args.height c.args.rest _ c.quiet-in-Or.result
+    (row_done m new c.args.goal c.args.height c.args.rest Or calls r c.disjunction.ensures.row c.disjunction.ensures.goes
+    (none_raised m new c.args.goal c.args.height c.args.rest Or calls c.requires.at.selected (λ p g e h. cc) r c.disjunction.ensures.row)
+    c.disjunction.ensures.sound c.disjunction.ensures.program c.disjunction.ensures.err)
+    c.quiet-in-Or.ensures
+
+pub if_then-requires-clause-two : goal.if_then-requires-clause-two
+if_then-requires-clause-two c =
+    so_many (text_of c.args.m.now.atoms) (at (terms c.args.m.now) c.args.goal) IfThen 2 (rw c.in-IfThen.is at c.requires.calls) (λ n. refl)
+
+pub returns-in-IfThen : goal.returns-in-IfThen
+returns-in-IfThen c =
+    let m = c.args.m.now in
+    let new = c.if_then.new.m in
+    let r = c.if_then.result in
+    let calls = rw c.in-IfThen.is at c.requires.calls in
+    quiet_done m new c.args.goal c.args.height c.args.rest _ c.quiet-in-IfThen.result
+    (row_done m new c.args.goal c.args.height c.args.rest IfThen calls r c.if_then.ensures.row c.if_then.ensures.goes
+    (none_raised m new c.args.goal c.args.height c.args.rest IfThen calls c.requires.at.selected (λ p g e h. cc) r c.if_then.ensures.row)
+    c.if_then.ensures.sound c.if_then.ensures.program c.if_then.ensures.err)
+    c.quiet-in-IfThen.ensures
+
+pub negation-requires-clause-one : goal.negation-requires-clause-one
+negation-requires-clause-one c =
+    so_many (text_of c.args.m.now.atoms) (at (terms c.args.m.now) c.args.goal) Not 1 (rw c.in-Not.is at c.requires.calls) (λ n. refl)
+
+pub returns-in-Not : goal.returns-in-Not
+returns-in-Not c =
+    let m = c.args.m.now in
+    let new = c.negation.new.m in
+    let r = c.negation.result in
+    let calls = rw c.in-Not.is at c.requires.calls in
+    quiet_done m new c.args.goal c.args.height c.args.rest _ c.quiet-in-Not.result
+    (row_done m new c.args.goal c.args.height c.args.rest Not calls r c.negation.ensures.row c.negation.ensures.goes
+    (none_raised m new c.args.goal c.args.height c.args.rest Not calls c.requires.at.selected (λ p g e h. cc) r c.negation.ensures.row)
+    c.negation.ensures.sound c.negation.ensures.program c.negation.ensures.err)
+    c.quiet-in-Not.ensures
+
+pub once-requires-clause-one : goal.once-requires-clause-one
+once-requires-clause-one c =
+    so_many (text_of c.args.m.now.atoms) (at (terms c.args.m.now) c.args.goal) Once 1 (rw c.in-Once.is at c.requires.calls) (λ n. refl)
+
+pub returns-in-Once : goal.returns-in-Once
+returns-in-Once c =
+    let m = c.args.m.now in
+    let new = c.once.new.m in
+    let r = c.once.result in
+    let calls = rw c.in-Once.is at c.requires.calls in
+    quiet_done m new c.args.goal c.args.height c.args.rest _ c.quiet-in-Once.result
+    (row_done m new c.args.goal c.args.height c.args.rest Once calls r c.once.ensures.row c.once.ensures.goes
+    (none_raised m new c.args.goal c.args.height c.args.rest Once calls c.requires.at.selected (λ p g e h. cc) r c.once.ensures.row)
+    c.once.ensures.sound c.once.ensures.program c.once.ensures.err)
+    c.quiet-in-Once.ensures
+
+pub not_unify-requires-clause-two : goal.not_unify-requires-clause-two
+not_unify-requires-clause-two c =
+    so_many (text_of c.args.m.now.atoms) (at (terms c.args.m.now) c.args.goal) NotUnify 2 (rw c.in-NotUnify.is at c.requires.calls) (λ n. refl)
+
+pub returns-in-NotUnify : goal.returns-in-NotUnify
+returns-in-NotUnify c =
+    let m = c.args.m.now in
+    let new = c.not_unify.new.m in
+    let r = c.not_unify.result in
+    let calls = rw c.in-NotUnify.is at c.requires.calls in
+    quiet_done m new c.args.goal c.args.height c.args.rest _ c.quiet-in-NotUnify.result
+    (row_done m new c.args.goal c.args.height c.args.rest NotUnify calls r c.not_unify.ensures.row c.not_unify.ensures.goes
+    (none_raised m new c.args.goal c.args.height c.args.rest NotUnify calls c.requires.at.selected (λ p g e h. cc) r c.not_unify.ensures.row)
+    c.not_unify.ensures.sound c.not_unify.ensures.program c.not_unify.ensures.err)
+    c.quiet-in-NotUnify.ensures
+
+pub initialization-requires-clause-one : goal.initialization-requires-clause-one
+initialization-requires-clause-one c =
+    so_many (text_of c.args.m.now.atoms) (at (terms c.args.m.now) c.args.goal) Initialization 1 (rw c.in-Initialization.is at c.requires.calls) (λ n. refl)
+
+pub returns-in-Initialization : goal.returns-in-Initialization
+returns-in-Initialization c =
+    let m = c.args.m.now in
+    let new = c.initialization.new.m in
+    let r = c.initialization.result in
+    let calls = rw c.in-Initialization.is at c.requires.calls in
+    quiet_done m new c.args.goal c.args.height c.args.rest _ c.quiet-in-Initialization.result
+    (row_done m new c.args.goal c.args.height c.args.rest Initialization calls r c.initialization.ensures.row c.initialization.ensures.goes
+    (none_raised m new c.args.goal c.args.height c.args.rest Initialization calls c.requires.at.selected (λ p g e h. cc) r c.initialization.ensures.row)
+    c.initialization.ensures.sound c.initialization.ensures.program c.initialization.ensures.err)
+    c.quiet-in-Initialization.ensures
+
+pub freeze-requires-clause-two : goal.freeze-requires-clause-two
+freeze-requires-clause-two c =
+    so_many (text_of c.args.m.now.atoms) (at (terms c.args.m.now) c.args.goal) Freeze 2 (rw c.in-Freeze.is at c.requires.calls) (λ n. refl)
+
+pub freeze-requires-clause-selected : goal.freeze-requires-clause-selected
+freeze-requires-clause-selected c =
+    somewhere c.args.m.now c.args.goal c.args.height c.args.rest c.requires.at.selected
+
+pub returns-in-Freeze : goal.returns-in-Freeze
+returns-in-Freeze c =
+    let m = c.args.m.now in
+    let new = c.freeze.new.m in
+    let r = c.freeze.result in
+    let calls = rw c.in-Freeze.is at c.requires.calls in
+    let row = rows_at m new c.args.goal c.args.height c.args.rest Freeze calls r c.freeze.ensures.row in
+    quiet_done m new c.args.goal c.args.height c.args.rest _ c.quiet-in-Freeze.result
+    (row_done m new c.args.goal c.args.height c.args.rest Freeze calls r row c.freeze.ensures.goes
+    (none_raised m new c.args.goal c.args.height c.args.rest Freeze calls c.requires.at.selected freeze_none r row)
+    c.freeze.ensures.sound c.freeze.ensures.program c.freeze.ensures.err)
+    c.quiet-in-Freeze.ensures
+
+pub unify-requires-clause-two : goal.unify-requires-clause-two
+unify-requires-clause-two c =
+    so_many (text_of c.args.m.now.atoms) (at (terms c.args.m.now) c.args.goal) Unify 2 (rw c.in-Unify.is at c.requires.calls) (λ n. refl)
+
+pub unify-requires-clause-selected : goal.unify-requires-clause-selected
+unify-requires-clause-selected c =
+    somewhere c.args.m.now c.args.goal c.args.height c.args.rest c.requires.at.selected
+
+pub returns-in-Unify : goal.returns-in-Unify
+returns-in-Unify c =
+    let m = c.args.m.now in
+    let new = c.unify.new.m in
+    let r = c.unify.result in
+    let calls = rw c.in-Unify.is at c.requires.calls in
+    let row = rows_at m new c.args.goal c.args.height c.args.rest Unify calls r c.unify.ensures.row in
+    quiet_done m new c.args.goal c.args.height c.args.rest r c.quiet_or_stop.result
+    (stop_done m new c.args.goal c.args.height c.args.rest Unify calls r row (stops_at m new c.args.goal c.args.height c.args.rest Unify calls r c.unify.ensures.stop) c.unify.ensures.goes
+    (none_raised m new c.args.goal c.args.height c.args.rest Unify calls c.requires.at.selected (λ p g e h. cc) r row)
+    c.unify.ensures.sound c.unify.ensures.program c.unify.ensures.err)
+    c.quiet_or_stop.ensures
+
+pub evaluate_to-requires-clause-two : goal.evaluate_to-requires-clause-two
+evaluate_to-requires-clause-two c =
+    so_many (text_of c.args.m.now.atoms) (at (terms c.args.m.now) c.args.goal) Is 2 (rw c.in-Is.is at c.requires.calls) (λ n. refl)
+
+pub evaluate_to-requires-clause-selected : goal.evaluate_to-requires-clause-selected
+evaluate_to-requires-clause-selected c =
+    somewhere c.args.m.now c.args.goal c.args.height c.args.rest c.requires.at.selected
+
+pub returns-in-Is : goal.returns-in-Is
+returns-in-Is c =
+    let m = c.args.m.now in
+    let new = c.evaluate_to.new.m in
+    let r = c.evaluate_to.result in
+    let calls = rw c.in-Is.is at c.requires.calls in
+    quiet_done m new c.args.goal c.args.height c.args.rest r c.quiet_or_stop-in-Is.result
+    (stop_done m new c.args.goal c.args.height c.args.rest Is calls r (rows_at m new c.args.goal c.args.height c.args.rest Is calls r c.evaluate_to.ensures.row) (stops_at m new c.args.goal c.args.height c.args.rest Is calls r c.evaluate_to.ensures.stop) c.evaluate_to.ensures.goes
+    c.evaluate_to.ensures.raises c.evaluate_to.ensures.sound c.evaluate_to.ensures.program c.evaluate_to.ensures.err)
+    c.quiet_or_stop-in-Is.ensures
+
+pub constrain-requires-clause-one : goal.constrain-requires-clause-one
+constrain-requires-clause-one c =
+    so_many (text_of c.args.m.now.atoms) (at (terms c.args.m.now) c.args.goal) Curly 1 (rw c.in-Curly.is at c.requires.calls) (λ n. refl)
+
+pub returns-in-Curly : goal.returns-in-Curly
+returns-in-Curly c =
+    let m = c.args.m.now in
+    let new = c.constrain.new.m in
+    let r = c.constrain.result in
+    quiet_done m new c.args.goal c.args.height c.args.rest r c.quiet_or_stop-in-Curly.result
+    (stop_done m new c.args.goal c.args.height c.args.rest Curly (rw c.in-Curly.is at c.requires.calls) r c.constrain.ensures.row c.constrain.ensures.stop c.constrain.ensures.goes
+    c.constrain.ensures.raises c.constrain.ensures.sound c.constrain.ensures.program c.constrain.ensures.err)
+    c.quiet_or_stop-in-Curly.ensures
+
+pub compare-requires-clause-two : goal.compare-requires-clause-two
+compare-requires-clause-two c =
+    so_many (text_of c.args.m.now.atoms) (at (terms c.args.m.now) c.args.goal) (Compare (comparison_of c.in-Compare.comparison)) 2 (rw c.in-Compare.is at c.requires.calls) (λ n. refl)
+
+pub returns-in-Compare : goal.returns-in-Compare
+returns-in-Compare c =
+    let m = c.args.m.now in
+    let r = c.compare.result in
+    let b = Compare (comparison_of c.in-Compare.comparison) in
+    let calls = rw c.in-Compare.is at c.requires.calls in
+    quiet_done m m c.args.goal c.args.height c.args.rest _ c.quiet-in-Compare.result
+    (row_done m m c.args.goal c.args.height c.args.rest b calls r (rows_at m m c.args.goal c.args.height c.args.rest b calls r c.compare.ensures.row) c.compare.ensures.goes
+    (still_raised m r) c.requires.at.sound (same_machine m) (still_stands m r))
+    c.quiet-in-Compare.ensures
+
+pub discontiguous-requires-clause-one : goal.discontiguous-requires-clause-one
+discontiguous-requires-clause-one c =
+    so_many (text_of c.args.m.now.atoms) (at (terms c.args.m.now) c.args.goal) Discontiguous 1 (rw c.in-Discontiguous.is at c.requires.calls) (λ n. refl)
+
+pub returns-in-Discontiguous : goal.returns-in-Discontiguous
+returns-in-Discontiguous c =
+    let m = c.args.m.now in
+    let r = c.discontiguous.result in
+    let calls = rw c.in-Discontiguous.is at c.requires.calls in
+    quiet_done m m c.args.goal c.args.height c.args.rest _ c.quiet-in-Discontiguous.result
+    (row_done m m c.args.goal c.args.height c.args.rest Discontiguous calls r (rows_at m m c.args.goal c.args.height c.args.rest Discontiguous calls r c.discontiguous.ensures.row) c.discontiguous.ensures.goes
+    (still_raised m r) c.requires.at.sound (same_machine m) (still_stands m r))
+    c.quiet-in-Discontiguous.ensures
+
+pub use_module-requires-clause-one : goal.use_module-requires-clause-one
+use_module-requires-clause-one c =
+    so_many (text_of c.args.m.now.atoms) (at (terms c.args.m.now) c.args.goal) UseModule 1 (rw c.in-UseModule.is at c.requires.calls) (λ n. refl)
+
+pub returns-in-UseModule : goal.returns-in-UseModule
+returns-in-UseModule c =
+    let m = c.args.m.now in
+    let s = c.use_module.result in
+    quiet_done m m c.args.goal c.args.height c.args.rest (Ok s) c.quiet-in-UseModule.result
+    (stop_done m m c.args.goal c.args.height c.args.rest UseModule (rw c.in-UseModule.is at c.requires.calls) (Ok s) (λ p behind g at. c.use_module.ensures.row c.args.height p behind g at) tt
+    c.use_module.ensures.goes (still_raised {E = StoreFault} m (Ok s)) c.requires.at.sound (same_machine m) tt)
+    c.quiet-in-UseModule.ensures
+
+pub returns-in-True : goal.returns-in-True
+returns-in-True c =
+    let m = c.args.m.now in
+    let s = c.succeed_if.result in
+    quiet_done m m c.args.goal c.args.height c.args.rest (Ok s) c.quiet.result
+    (stop_done m m c.args.goal c.args.height c.args.rest True (rw c.in-True.is at c.requires.calls) (Ok s) (λ p behind g at. c.succeed_if.ensures.row m c.args.goal c.args.height p behind g at) tt
+    (c.succeed_if.ensures.goes m c.requires.at.there) (still_raised {E = StoreFault} m (Ok s)) c.requires.at.sound (same_machine m) tt)
+    c.quiet.ensures
+
+pub returns-in-Fail : goal.returns-in-Fail
+returns-in-Fail c =
+    let m = c.args.m.now in
+    let s = c.succeed_if-in-Fail.result in
+    quiet_done m m c.args.goal c.args.height c.args.rest (Ok s) c.quiet-in-Fail.result
+    (stop_done m m c.args.goal c.args.height c.args.rest Fail (rw c.in-Fail.is at c.requires.calls) (Ok s) (λ p behind g at. c.succeed_if-in-Fail.ensures.row m c.args.goal c.args.height p behind g at) tt
+    (c.succeed_if-in-Fail.ensures.goes m c.requires.at.there) (still_raised {E = StoreFault} m (Ok s)) c.requires.at.sound (same_machine m) tt)
+    c.quiet-in-Fail.ensures
+
+pub returns-in-Cut : goal.returns-in-Cut
+returns-in-Cut c =
+    let m = c.args.m.now in
+    let new = c.cut.new.m in
+    let r = Ok c.cut.result in
+    let calls = rw c.in-Cut.is at c.requires.calls in
+    let row : IfOk r (LeadsTo m new c.args.goal c.args.height c.args.rest (row_of Cut)) = λ p behind g at. c.cut.ensures.row p behind c.args.goal g at in
+    quiet_done m new c.args.goal c.args.height c.args.rest r c.quiet-in-Cut.result
+    (stop_done m new c.args.goal c.args.height c.args.rest Cut calls r row tt c.cut.ensures.goes (none_raised m new c.args.goal c.args.height c.args.rest Cut calls c.requires.at.selected (λ p g e h. cc) r row)
+    c.cut.ensures.sound c.cut.ensures.program tt)
+    c.quiet-in-Cut.ensures
+
+pub call-requires-clause-calls : goal.call-requires-clause-calls
+call-requires-clause-calls c =
+    rw c.in-Call.is at c.requires.calls
+
+pub offered-requires-clause-calls : goal.offered-requires-clause-calls
+offered-requires-clause-calls c =
+    rw c.in-Predicate.is at c.requires.calls
+
+pub declare-requires-clause-calls : goal.declare-requires-clause-calls
+declare-requires-clause-calls c =
+    rw c.in-Op.is at c.requires.calls
+
+pub write-requires-clause-calls : goal.write-requires-clause-calls
+write-requires-clause-calls c =
+    rw c.in-Write.is at c.requires.calls
+
+pub newline-requires-clause-calls : goal.newline-requires-clause-calls
+newline-requires-clause-calls c =
+    rw c.in-Newline.is at c.requires.calls

@@ -1,0 +1,98 @@
+// The row of each built-in predicate.
+
+ghost use Rattle.cq_execute.specs.Rows.{IsAtGoal, IsCallOf, IsDone};
+
+use crate::executed::Executed;
+use crate::printing::{declare, newline, write};
+use crate::steps::{quiet, quiet_or_stop};
+use cq_control::Continuation;
+use cq_linear::store::StoreFault;
+use cq_machine::{
+    Machine, Step, conjunction, cut, disjunction, if_then, initialization, negation, not_unify,
+    once,
+};
+use cq_offer::{offer, rows_are_replies};
+use cq_predicates::Predicate;
+use cq_selected::{
+    call_with_more, compare, constrain, discontiguous, evaluate_to, freeze, unify, use_module,
+};
+use cq_table::Builtin;
+use cq_term::TermId;
+use spec_predicates::predicates_are_found_by_name_and_arity;
+
+/// Does the row of the built-in predicate that the selected goal calls.
+pub(crate) fn execute_builtin(
+    m: &mut Machine,
+    builtin: Builtin,
+    goal: TermId,
+    height: usize,
+    rest: Continuation,
+) -> Result<Executed, StoreFault>
+    requires at { IsAtGoal m.old goal height rest }
+    requires calls { IsCallOf m.old goal builtin }
+    ensures { IsDone m.old m.new goal height rest result }
+{
+    let alloc = m.world.first.heap.alloc();
+    match builtin {
+        Builtin::True => quiet(alloc, Ok(Step::succeed_if(true, rest))),
+        Builtin::Fail => quiet(alloc, Ok(Step::succeed_if(false, rest))),
+        Builtin::And => quiet(alloc, conjunction(m, goal, height, rest)),
+        Builtin::Or => quiet(alloc, disjunction(m, goal, height, rest)),
+        Builtin::IfThen => quiet(alloc, if_then(m, goal, height, rest)),
+        Builtin::Cut => quiet(alloc, Ok(cut(m, height, rest))),
+        Builtin::Not => quiet(alloc, negation(m, goal, height, rest)),
+        Builtin::Call => call(m, goal, height, rest),
+        Builtin::Once => quiet(alloc, once(m, goal, height, rest)),
+        Builtin::Unify => quiet_or_stop(alloc, unify(m, goal, rest)),
+        Builtin::NotUnify => quiet(alloc, not_unify(m, goal, height, rest)),
+        Builtin::Predicate(predicate) => offered(m, predicate, goal, height, rest),
+        Builtin::Is => quiet_or_stop(alloc, evaluate_to(m, goal, rest)),
+        Builtin::Compare(comparison) => quiet(alloc, compare(m, comparison, goal, rest)),
+        Builtin::Discontiguous => quiet(alloc, discontiguous(m, goal, rest)),
+        Builtin::Initialization => quiet(alloc, initialization(m, goal, height, rest)),
+        Builtin::UseModule => quiet(alloc, Ok(use_module(m, goal, rest))),
+        Builtin::Op => declare(m, goal, height, rest),
+        Builtin::Write(style) => write(m, style, goal, height, rest),
+        Builtin::Newline => newline(m, goal, height, rest),
+        Builtin::Curly => quiet_or_stop(alloc, constrain(m, goal, height, rest)),
+        Builtin::Freeze => quiet(alloc, freeze(m, goal, rest)),
+    }
+}
+
+/// `call/1` calls its argument as it is; where there are more, they are put behind its own.
+fn call(
+    m: &mut Machine,
+    goal: TermId,
+    height: usize,
+    rest: Continuation,
+) -> Result<Executed, StoreFault>
+    requires at { IsAtGoal m.old goal height rest }
+    requires calls { IsCallOf m.old goal Builtin.Call }
+    ensures { IsDone m.old m.new goal height rest result }
+{
+    let alloc = m.world.first.heap.alloc();
+    let given = m.world.first.heap.args(goal);
+    if given.len() == 1 {
+        quiet(alloc, cq_machine::call(m, goal, height, rest))
+    } else {
+        quiet(alloc, call_with_more(m, goal, rest))
+    }
+}
+
+/// A predicate on terms or texts.
+fn offered(
+    m: &mut Machine,
+    predicate: Predicate,
+    goal: TermId,
+    height: usize,
+    rest: Continuation,
+) -> Result<Executed, StoreFault>
+    requires at { IsAtGoal m.old goal height rest }
+    requires calls { IsCallOf m.old goal (Builtin.Predicate predicate) }
+    ensures { IsDone m.old m.new goal height rest result }
+{
+    rows_are_replies();
+    predicates_are_found_by_name_and_arity();
+    let alloc = m.world.first.heap.alloc();
+    quiet(alloc, offer(m, predicate, goal, rest))
+}
