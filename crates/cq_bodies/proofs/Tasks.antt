@@ -24,9 +24,9 @@ use Rattle.cq_bodies.proofs.Plain.{construct_is}
 
 -- ---- one more behind others
 
-pub after_last : (ws : List Work) (w : Work) (done : Option (List Tree)) → after_all (ws ++ w ∷ []) done ≡ after_all ws (after w done)
-after_last [] w done = refl
-after_last (v ∷ ws) w done = ap (after v) (after_last ws w done)
+pub after_last : (ws : List Work) (w : Work) (before : Option (List Tree)) → after_all (ws ++ w ∷ []) before ≡ after_all ws (after w before)
+after_last [] w before = refl
+after_last (v ∷ ws) w before = ap (after v) (after_last ws w before)
 
 nothing_after : (ws : List Work) → after_all ws None ≡ None
 nothing_after [] = refl
@@ -98,6 +98,7 @@ module _ (texts : List Text) (ts : List HeapTerm) (tasks new : List Task) (done 
   three = two ++ task.Part s.right ∷ []
 
   works_are : works texts ts new ≡ ((works texts ts tasks ++ Join (text_of texts s.name) ∷ []) ++ Part (tree texts ts s.right) ∷ []) ++ Part (tree texts ts s.left) ∷ []
+  unfolding three two
   works_are =
       works_last texts ts three new (task.Part s.left) e
       ∙ ap (λ xs. xs ++ Part (tree texts ts s.left) ∷ []) (works_last texts ts two three (task.Part s.right) refl
@@ -107,6 +108,7 @@ module _ (texts : List Text) (ts : List HeapTerm) (tasks new : List Task) (done 
   tree_is = tree_of_sides texts ts id s h.sides
 
   pub sides_wait : Turns texts ts (task.Part id) tasks done ts new done
+  unfolding three two
   sides_wait =
       let ws = works texts ts tasks in
       let f = text_of texts s.name in

@@ -1,6 +1,6 @@
 // Bodies on a heap, converted part by part.
 
-ghost use Rattle.std.specs.Prelude.{◌≡◌, ◌<◌, All, Some, codes, length, slice_get, IfOk, IfSome, IsNone, OnOk};
+ghost use Rattle.std.specs.Prelude.{◌≡◌, ◌<◌, All, Some, codes, false, length, slice_get, IfOk, IfSome, IsNone, OnOk};
 ghost use Rattle.spec_terms.specs.Term.{with_arguments};
 ghost use Rattle.spec_built.specs.Bodies.{converted_body, is_control};
 ghost use Rattle.spec_built.specs.Kinds.{is_variable};
@@ -38,7 +38,8 @@ pub fn convert_body(
     ensures grows { Grows atoms.old heap.old atoms.new heap.new }
 {
     let call = atoms.intern("call")?;
-    convert(heap, atoms, call, body)
+    let id = convert(heap, atoms, call, body)?;
+    Ok(id)
 }
 
 /// The same, with the name `call`.
@@ -118,10 +119,10 @@ fn goal_of(
     ensures grows { Grows atoms.now heap.old atoms.now heap.new }
 {
     if is_variable(heap, id) {
-        over(heap, atoms, call, &[id])
-    } else {
-        Ok(id)
+        let goal = over(heap, atoms, call, &[id])?;
+        return Ok(goal);
     }
+    Ok(id)
 }
 
 /// A name over terms.

@@ -9,7 +9,7 @@ use Rattle.spec_lists.specs.Texts.{Text}
 use Rattle.cq_words.specs.Language.{number_in}
 use Rattle.cq_words.specs.declared.run.TheConstants.{MOST}
 
-module _ {E : Type 0} (text : Text) where
+module _ (text : Text) where
   abbrev value : ℕ
   value = digits_value 10 (without_leading_plus text)
 
@@ -23,12 +23,12 @@ module _ {E : Type 0} (text : Text) where
       go true e = absurd (h (accepts-Accepts false (parser.Unsigned 1 MOST) text e))
       go false e = ap (λ b. if b then Some value else None) (sym e)
 
-  pub in_range : (n : ℕ) → ParsesUnsigned {E} 64 10 text (Ok n) → 1 ≤ n → n ≤ MOST → Some n ≡ number_in text
+  pub in_range : {E : Type 0} (n : ℕ) → ParsesUnsigned {E = E} 64 10 text (Ok n) → 1 ≤ n → n ≤ MOST → Some n ≡ number_in text
   in_range n h low high = ap (λ x. Some x) h.1 ∙ is_in (h.0.0, h.0.1, subst (λ x. 1 ≤ x) h.1 low, subst (λ x. x ≤ MOST) h.1 high)
 
-  pub out_of_range : (n : ℕ) → ParsesUnsigned {E} 64 10 text (Ok n) → (n < 1) ⊎ (MOST < n) → None ≡ number_in text
+  pub out_of_range : {E : Type 0} (n : ℕ) → ParsesUnsigned {E = E} 64 10 text (Ok n) → (n < 1) ⊎ (MOST < n) → None ≡ number_in text
   out_of_range n h (inl low) = is_out (λ k. omega (arith, h.1, k.2))
   out_of_range n h (inr high) = is_out (λ k. omega (arith, h.1, k.3))
 
-  pub no_number : (e : E) → ParsesUnsigned {E} 64 10 text (Err e) → None ≡ number_in text
+  pub no_number : {E : Type 0} (e : E) → ParsesUnsigned {E = E} 64 10 text (Err e) → None ≡ number_in text
   no_number e h = is_out (λ k. h (k.0, k.1))

@@ -59,7 +59,7 @@ is_taken words = length (fault_of command words) == 0
 
 -- what the words ask for, the program's name first; None where they are not in the language
 abbrev pub asked_by_texts : List Text → Option Asked
-asked_by_texts words = if is_taken words then option_and_then (λ p. asked_in p.1) (subcommand_of command words) else None
+asked_by_texts words = if is_taken words then option_and_then asked_in (option_map (λ p. p.1) (subcommand_of command words)) else None
 
 abbrev pub asked_by : List (String Global) → Option Asked
 asked_by words = asked_by_texts (map string_bytes words)

@@ -2,6 +2,8 @@
 #![tactic(auto)]
 
 mod run;
+#[cfg(test)]
+mod tests;
 mod words;
 
 pub use run::{ANSWERS, MOST, PIVOTS, Run, STEPS};

@@ -1,8 +1,7 @@
 // Words of the command line, by the kit's reader of command lines.
 
 ghost use Rattle.std.specs.Prelude.{◌≡◌, IfOk, IsErrOf, None, Some, [], codes, false, map, option_map, unwrap_or};
-ghost use Rattle.clap.specs.Matches.{found_of};
-ghost use Rattle.clap.specs.Simple.{app_of};
+ghost use Rattle.clap.specs.Words.{found_of, app_of, fields_of, kind_of};
 ghost use Rattle.clap.specs.Walk.{all_of, first_of, rows_of, rule_of};
 ghost use Rattle.cq_words.specs.Asked.{as_asked};
 ghost use Rattle.cq_words.specs.Language.{asked_by, asked_in, command, numbered, number_in, number_or, run};
@@ -37,22 +36,27 @@ fn numbered<'a>(alloc: Global, name: &'a str) -> Arg<'a>
     ensures rule { rule_of result ≡ numbered name.entry.now }
     ensures local { result.global ≡ false }
 {
-    Arg::new(alloc, name)
-        .long(name)
-        .action(ArgAction::Set)
-        .value_parser(ValueParser::unsigned(1, MOST))
+    let option = Arg::new(alloc, name).long(name).action(ArgAction::Set);
+    let parser = ValueParser::unsigned(1, MOST);
+    option.value_parser(parser)
 }
 
 /// The subcommand `run`.
 fn run_command<'a>(alloc: Global) -> Result<Command<'a>, AllocError>
-    ensures { IfOk result (λ c. app_of c ≡ run) }
+    ensures app { IfOk result (λ c. app_of c ≡ run) }
+    ensures local { IfOk result (λ c. (fields_of c).has_globals ≡ false) }
 {
-    let files = Arg::new(alloc, "FILE").action(ArgAction::Append);
-    Command::new(alloc, "run")
-        .arg(numbered(alloc, "steps"))?
-        .arg(numbered(alloc, "pivots"))?
-        .arg(numbered(alloc, "answers"))?
-        .arg(files)
+    let steps = numbered(alloc, "steps");
+    let pivots = numbered(alloc, "pivots");
+    let answers = numbered(alloc, "answers");
+    let file = Arg::new(alloc, "FILE");
+    let files = file.action(ArgAction::Append);
+    let bare = Command::new(alloc, "run");
+    let one = bare.arg(steps)?;
+    let two = one.arg(pivots)?;
+    let three = two.arg(answers)?;
+    let run = three.arg(files)?;
+    Ok(run)
 }
 
 /// The whole command.
@@ -60,9 +64,10 @@ fn command<'a>(alloc: Global) -> Result<Command<'a>, AllocError>
     ensures { IfOk result (λ c. app_of c ≡ command) }
 {
     let run = run_command(alloc)?;
-    Command::new(alloc, "clpq")
-        .subcommand_required(true)
-        .subcommand(run)
+    let bare = Command::new(alloc, "clpq");
+    let wanting = bare.subcommand_required(true);
+    let whole = wanting.subcommand(run)?;
+    Ok(whole)
 }
 
 /// The number that a text is; None where it is none or out of range.
@@ -89,10 +94,11 @@ fn number(matches: &ArgMatches<'_>, name: &str, default: u64) -> Option<u64>
 fn names<'a>(alloc: Global, matches: &ArgMatches<'a>) -> Result<Vec<&'a str>, AllocError>
     ensures { IfOk result (λ v. map (λ s. s.now) v.items ≡ unwrap_or (all_of (codes "FILE") (rows_of (found_of matches.now))) []) }
 {
-    match matches.get_strs("FILE") {
-        Some(names) => names.to_vec(alloc),
-        None => Ok(Vec::new(alloc)),
-    }
+    let Some(given) = matches.get_strs("FILE") else {
+        return Ok(Vec::new(alloc));
+    };
+    let names = given.to_vec(alloc)?;
+    Ok(names)
 }
 
 /// What the arguments of `run` ask for.
@@ -118,7 +124,9 @@ fn asked<'a>(alloc: Global, matches: &ArgMatches<'a>) -> Result<Option<Run<'a>>,
 }
 
 /// Why a parse fails.
-fn fault_of(error: &Error) -> WordsFault {
+fn fault_of(error: &Error) -> WordsFault
+    ensures { kind_of error.now ≡ ErrorKind.OutOfMemory → result ≡ WordsFault.NoMemory }
+{
     match error.kind() {
         ErrorKind::OutOfMemory => WordsFault::NoMemory,
         _ => WordsFault::BadWords,

@@ -2,10 +2,12 @@
 //! law of the definitions.
 #![tactic(auto)]
 
-ghost use Rattle.std.specs.Prelude.{◌≡◌, ℕ, suc, List, [], ◌++◌, Option};
+ghost use Rattle.std.specs.Prelude.{◌≡◌, ◌⊎◌, ℕ, suc, List, [], ◌++◌, Option};
 ghost use Rattle.spec_lists.specs.Texts.{Text};
 ghost use Rattle.spec_operators.specs.Operators.{Ops};
 ghost use Rattle.spec_syntax.specs.TextTokens.{VariableName};
+ghost use Rattle.spec_reading.specs.Decided.{Decided};
+ghost use Rattle.spec_reading.specs.Readings.{Read, Reads, Ended as ReadEnded};
 ghost use Rattle.spec_answers.specs.Answer.{AnswerForm};
 ghost use Rattle.spec_branch.specs.Branch.{State, Copied};
 ghost use Rattle.spec_search.specs.Search.{Search};
@@ -52,4 +54,11 @@ pub fn told_stops_are_written()
     ensures answer { (budgets : Budgets) (shelf : Text → Option (List ℕ)) (input : List ℕ) (s t : Search) (r : Reader) (st : State) (ops : Ops)
         (names : List VariableName) (n : ℕ) (cause : Cause) → Tells budgets s (Shows (Answered st ops)) t → StopsAnswer budgets names st cause
         → Runs budgets shelf input (Searching s (AQuery names n) r) (stop_text cause) a_stop (Reading t.database r) }
+{}
+
+/// What bytes decide stands in each text that begins with them, and the end of a text is its end whatever the operators are.
+pub fn readings_stand()
+    ensures settled { (ops : Ops) (bytes more : List ℕ) (at : ℕ) (r : Read) → Reads ops bytes at r → (more ≡ []) ⊎ Decided ops bytes at
+        → Reads ops (bytes ++ more) at r }
+    ensures ended { (ops other : Ops) (text : List ℕ) (at : ℕ) → Reads ops text at ReadEnded → Reads other text at ReadEnded }
 {}

@@ -1,0 +1,3 @@
+pub mod Sentences
+pub mod Events
+pub mod Progress
