@@ -1,5 +1,5 @@
 -- Steps behind steps.
-use Rattle.std.proofs.Common.{◌≡◌, ℕ, List, [], ◌++◌, Option, sym, subst, refl, append_assoc, append-nil}
+use Rattle.std.proofs.Common.{◌≡◌, ℕ, List, ◌++◌, Option, sym, subst, refl, append_assoc, append-nil}
 use Rattle.spec_lists.specs.Texts.{Text}
 use Rattle.spec_stops.specs.Causes.{Budgets}
 use Rattle.spec_transcript.specs.Session.{Session, Marks, Mark, plain_line, error_line, stop_line, marked, Runs, none, then}

@@ -6,7 +6,7 @@ use Rattle.spec_syntax.specs.TextTokens.{VariableName}
 use Rattle.spec_answers.specs.Answer.{AnswerForm}
 use Rattle.spec_branch.specs.Branch.{State, Branch, Copied}
 use Rattle.spec_limits.specs.Overflow.{Moment}
-use Rattle.spec_search.specs.Search.{Search, Answering, look_at, is_selecting}
+use Rattle.spec_search.specs.Search.{Search, Answering, look_at}
 use Rattle.spec_search.specs.Turns as turn
 use Rattle.spec_search.specs.Turns.{Event, Wrote, Answered, Threw, Ended, Turn, with_branches}
 use Rattle.spec_stops.specs.Causes.{Budgets, Cause, stop_text}
@@ -51,7 +51,7 @@ answering s t e st ops (turn.collects h k) is = cc
 answering s t e st ops (turn.steps h k) is = cc
 answering s t e st ops (turn.catches h k i) is = cc
 answering s t e st ops (turn.throws h k i) is = cc
-answering s t e st ops (turn.answers {su} {bs} h) is =
+answering s t e st ops (turn.answers {st = su} {bs = bs} h) is =
     let same : su ≡ st = cc in
     record { bs = bs; looks = subst (λ x. look_at s.branches ≡ Answering x bs) same h; is = refl }
 answering s t e st ops (turn.ends h) is = cc
@@ -68,10 +68,25 @@ module _ (budgets : Budgets) (shelf : Text → Option (List ℕ)) (input : List 
   quietly a s t who r m text runs (after {t = u} may h rest) =
       quietly a u t who r m text (subst (λ x. Writes a x m (Searching u who r)) (append-nil text) (then runs (session.turns may h))) rest
 
+  pub quiet : (s t : Search) (who : Asker) (r : Reader) → Quietly budgets.steps s t → Writes (Searching s who r) [] unmarked (Searching t who r)
+  quiet s t who r h = quietly (Searching s who r) s t who r unmarked [] none h
+
   -- a step behind quiet turns
   step_after : (s u : Search) (who : Asker) (r : Reader) (out : Text) (w : Mark) (b : Session) → Quietly budgets.steps s u
       → Step budgets shelf input (Searching u who r) out w b → Writes (Searching s who r) out (marked unmarked w) b
   step_after s u who r out w b quiet step = then (quietly (Searching s who r) s u who r unmarked [] none quiet) step
+
+  -- ---- stops
+
+  stop_step : (u : Search) (who : Asker) (r : Reader) (cause : Cause) → StopsFor budgets u cause
+      → Step budgets shelf input (Searching u who r) (stop_text cause) session.stop_line (Reading u.database r)
+  stop_step u who r cause (coming.runs_out h k) = session.runs_out h k
+  stop_step u who r cause (coming.overflows {pair} may h) = session.overflows pair may h
+  stop_step u who r cause (coming.stops may h) = session.stops cause may (due_for budgets (names_of who) u cause h)
+
+  pub stop : (s t : Search) (who : Asker) (r : Reader) (cause : Cause) → Tells budgets s (Stops cause) t
+      → Writes (Searching s who r) (stop_text cause) a_stop (Reading t.database r)
+  stop s t who r cause (coming.stops {r = u} quiet h) = step_after s u who r _ session.stop_line _ quiet (stop_step u who r cause h)
 
   -- ---- events
 
@@ -97,18 +112,6 @@ module _ (budgets : Budgets) (shelf : Text → Option (List ℕ)) (input : List 
     pub ball : (who : Asker) (r : Reader) (ball : Copied) → Tells budgets s (Shows (Threw ball)) t
         → Writes (Searching s who r) (ball_line t.database.operators ball.term) an_error (Reading t.database r)
     ball who r b (coming.shows {r = u} quiet may h new) = step_after s u who r _ session.error_line _ quiet (session.raises may h)
-
-    -- ---- stops
-
-    stop_step : (u : Search) (who : Asker) (r : Reader) (cause : Cause) → StopsFor budgets u cause
-        → Step budgets shelf input (Searching u who r) (stop_text cause) session.stop_line (Reading u.database r)
-    stop_step u who r cause (coming.runs_out h k) = session.runs_out h k
-    stop_step u who r cause (coming.overflows {pair} may h) = session.overflows pair may h
-    stop_step u who r cause (coming.stops may h) = session.stops cause may (due_for budgets (names_of who) u cause h)
-
-    pub stop : (who : Asker) (r : Reader) (cause : Cause) → Tells budgets s (Stops cause) t
-        → Writes (Searching s who r) (stop_text cause) a_stop (Reading t.database r)
-    stop who r cause (coming.stops {r = u} quiet h) = step_after s u who r _ session.stop_line _ quiet (stop_step u who r cause h)
 
     answer_due : (u : Search) (names : List VariableName) (st : State) (bs : List Branch) (cause : Cause) → look_at u.branches ≡ Answering st bs
         → StopsAnswer budgets names st cause → Due budgets (Some names) u cause

@@ -13,7 +13,7 @@ ghost use Rattle.spec_branch.specs.Branch.{State, Copied};
 ghost use Rattle.spec_search.specs.Search.{Search};
 ghost use Rattle.spec_search.specs.Turns.{Wrote, Answered, Threw, Ended};
 ghost use Rattle.spec_stops.specs.Causes.{Budgets, Cause, stop_text};
-ghost use Rattle.spec_machine.specs.Coming.{Tells, Shows, Stops};
+ghost use Rattle.spec_machine.specs.Coming.{Quietly, Tells, Shows, Stops};
 ghost use Rattle.spec_transcript.specs.Purposes.{answer_end, more_line, no_line, ball_line};
 ghost use Rattle.spec_transcript.specs.Session.{Asker, ADirective, AQuery, Reader, Session, Reading, Searching, Marks, unmarked, Runs};
 ghost use Rattle.spec_session.specs.Parts.{both, an_error, a_stop, StopsAnswer};
@@ -23,6 +23,12 @@ pub fn steps_are_joined()
     ensures { (budgets : Budgets) (shelf : Text → Option (List ℕ)) (input : List ℕ) (a b c : Session) (text more : Text) (m k : Marks)
         → Runs budgets shelf input a text m b → Runs budgets shelf input b more k c
         → Runs budgets shelf input a (text ++ more) (both m k) c }
+{}
+
+/// Turns that show nothing write nothing.
+pub fn quiet_turns_write_nothing()
+    ensures { (budgets : Budgets) (shelf : Text → Option (List ℕ)) (input : List ℕ) (s t : Search) (who : Asker) (r : Reader)
+        → Quietly budgets.steps s t → Runs budgets shelf input (Searching s who r) [] unmarked (Searching t who r) }
 {}
 
 /// Each event of a search that an engine tells is written, with the quiet turns before it.
