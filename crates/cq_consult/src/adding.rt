@@ -1,9 +1,9 @@
 // Clauses of files, added to the program.
 
-ghost use Rattle.std.specs.Prelude.{◌≡◌, ◌<◌, length, IfOk, OnErr, is_some};
+ghost use Rattle.std.specs.Prelude.{◌≡◌, ◌<◌, [], length, IfOk, OnErr};
 ghost use Rattle.spec_search.specs.Builtins.{is_built_in};
-ghost use Rattle.cq_consult.specs.Idle.{HasProgram, IsIdle, Consults, KeepsDatabase};
-ghost use Rattle.cq_machine.specs.Machines.{terms};
+ghost use Rattle.cq_consult.specs.Idle.{IsIdle, Consults, KeepsDatabase};
+ghost use Rattle.cq_machine.specs.Machines.{IsSound, terms};
 ghost use Rattle.cq_program.specs.Database.{as_indicator};
 
 use cq_bodies::convert_body;
@@ -23,7 +23,8 @@ pub fn consult(m: &mut Machine, clause: TermId) -> Result<Option<TermId>, AllocE
     requires idle { IsIdle m.old }
     requires live { clause < length (terms m.old) }
     ensures consults { IfOk result (Consults m.old clause m.new) }
-    ensures program { HasProgram m.new }
+    ensures sound { IsSound m.new }
+    ensures choices { m.new.choices ≡ [] }
     ensures err { OnErr result (KeepsDatabase m.old m.new) }
 {
     match checked(m, clause) {

@@ -4,7 +4,7 @@ use Rattle.spec_operators.specs.Operators.{Ops}
 use Rattle.spec_syntax.specs.TextTokens.{VariableName}
 use Rattle.spec_answers.specs.Answer.{AnswerForm}
 use Rattle.spec_branch.specs.Branch.{State, Copied}
-use Rattle.spec_machine.specs.Coming.{Told, Tells, Shows, Stops}
+use Rattle.spec_machine.specs.Coming.{Quietly, Told, Tells, Shows, Stops}
 use Rattle.spec_search.specs.Search.{Search}
 use Rattle.spec_search.specs.Turns as turn
 use Rattle.spec_session.specs.Parts.{StopsAnswer}
@@ -22,10 +22,12 @@ pub record TellsNext (b : Budgets) (p q : Program) (s : Search) (what : Told) : 
   pub tells : Tells b s what after
   pub program : q ≡ record p { database = after.database }
 
--- the same, and the interpreter stands for the search then
+-- the same, and the search then comes quietly to one for which the interpreter stands
 pub record GoesOn (b : Budgets) (Stands : Search → Type 0) (p q : Program) (s : Search) (what : Told) : Type 0 where
   pub next : TellsNext b p q s what
-  pub stands : Stands next.after
+  pub reached : Search
+  pub quiet : Quietly b.steps next.after reached
+  pub stands : Stands reached
 
 abbrev pub IsEvent : Budgets → (Search → Type 0) → (State → Ops → Type 0) → Program → Program → Search → Event → Type 0
 IsEvent b Stands Answers p q s (Wrote text) = GoesOn b Stands p q s (Shows (turn.Wrote text.items))
