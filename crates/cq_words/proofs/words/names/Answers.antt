@@ -1,5 +1,4 @@
-use Rattle.std.proofs.Common.{◌∙◌, [], List, ℕ, ap, map, codes, unwrap_or}
-use Rattle.std.specs.Prelude.{Option, Bor}
+use Rattle.std.proofs.Common.{◌∙◌, [], List, ℕ, ap, map, codes, unwrap_or, Bor, Option}
 use Rattle.clap.specs.Words.{found_of}
 use Rattle.clap.proofs.WalkLemmas.{raw_values-rows}
 use Rattle.cq_words.proofs.words.names.Goals as goal
