@@ -1,6 +1,12 @@
 // The transcript of some files and of the input.
 
-ghost use Rattle.std.specs.Prelude.{◌≡◌, ◌≤◌, ◌<◌, ℕ, List, [], IfOk, IfErr, IfSome, map};
+ghost use Rattle.std.specs.Prelude.{◌≡◌, ◌<◌, [], Some, IfOk, IfErr, map};
+ghost use Rattle.cq_words.specs.Asked.{Asked};
+ghost use Rattle.spec_endings.specs.Causes.{counted};
+ghost use Rattle.spec_endings.specs.Outside.{Outside, budgets_of, outside};
+ghost use Rattle.spec_search.specs.Database.{initial};
+ghost use Rattle.cq_transcript.specs.Halts.{CausedBy, Halts, IsWhole};
+ghost use Rattle.cq_transcript.specs.Progress.{marks_of};
 
 use crate::halt::{Halt, Lines};
 use crate::interpreter::{Interpreter, Source};
@@ -86,7 +92,19 @@ pub fn write_transcript<'a, P: Interpreter, F: Shelf, I: Bytes, O: Sink>(
     shelf: &mut F,
     input: &mut I,
     out: &mut O,
-) -> Result<Lines, Halt<'a>> {
+) -> Result<Lines, Halt<'a>>
+    requires some { 0 < answers }
+    requires new { P.program program.old ≡ record { database = initial; later = [] } }
+    ensures whole { IfOk result (λ lines. (o : Outside) (a : Asked) → outside (F.files shelf.old) (I.left input.old) ≡ Some o
+        → P.budgets program.old ≡ budgets_of a → a.answers ≡ answers → a.files ≡ map (λ s. s.now) files.now
+        → IsWhole o a (I.left input.new) (marks_of lines) (O.held out.old) (O.held out.new)) }
+    ensures part { IfErr result (λ halt. (o : Outside) (a : Asked) → outside (F.files shelf.old) (I.left input.old) ≡ Some o
+        → P.budgets program.old ≡ budgets_of a → a.answers ≡ answers → a.files ≡ map (λ s. s.now) files.now
+        → Halts o a (I.left input.new) halt (O.held out.old) (O.held out.new)) }
+    ensures cause { IfErr result (CausedBy
+        (counted (F.faults shelf.old) (F.refused shelf.old) (I.faults input.old) (I.taken input.old) (O.faults out.old))
+        (counted (F.faults shelf.new) (F.refused shelf.new) (I.faults input.new) (I.taken input.new) (O.faults out.new))) }
+{
     let mut lines = Lines::none();
     for name in files {
         lines = lines.and(write_file(alloc, program, name, answers, shelf, out)?);
