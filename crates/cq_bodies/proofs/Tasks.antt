@@ -7,7 +7,7 @@ use Rattle.std.proofs.lemmas.List.Elements.{All-nil, All-push, All-same, All-pop
 use Rattle.spec_lists.specs.Texts.{Text}
 use Rattle.spec_lists.specs.Prefixes.{IsPrefix}
 use Rattle.spec_lists.proofs.Prefixes.{prefix_length, prefix_same}
-use Rattle.spec_terms.specs.Term.{size}
+use Rattle.spec_terms.specs.Term.{Var, Number, Name, Compound, size}
 use Rattle.spec_syntax.specs.Trees.{Tree, binary}
 use Rattle.spec_built.specs.Bodies.{converted_body}
 use Rattle.cq_atoms.specs.Texts.{text_of}
@@ -35,6 +35,15 @@ nothing_after (w ∷ ws) = ap (after w) (nothing_after ws)
 pub weights_last : (ws : List Work) (w : Work) → weights (ws ++ w ∷ []) ≡ weights ws + weight w
 weights_last [] w = omega arith
 weights_last (v ∷ ws) w = let h = weights_last ws w in omega (arith, h)
+
+tree_weighs : (t : Tree) → 0 < size t
+tree_weighs (Var v) = omega arith
+tree_weighs (Number q) = omega arith
+tree_weighs (Name a) = omega arith
+tree_weighs (Compound f ts) = omega arith
+
+pub part_weighs : (t : Tree) → 0 < weight (Part t)
+part_weighs t = let h = tree_weighs t in omega (arith, h)
 
 size_of_binary : (f : Text) (a b : Tree) → size (binary f a b) ≡ 1 + (size a + size b)
 size_of_binary f a b = omega arith
