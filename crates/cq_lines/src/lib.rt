@@ -1,0 +1,2 @@
+//! The text of an answer.
+#![tactic(auto)]

@@ -1,0 +1,3 @@
+mod Products
+pub mod Lines
+mod Joined
