@@ -1,1 +1,5 @@
-pub mod Agreement
+mod Agreement
+mod Members
+mod Numbering
+mod RowTexts
+mod Whole

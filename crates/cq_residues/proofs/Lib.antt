@@ -1,3 +1,3 @@
-pub mod Queries
+pub mod Named
 pub mod Variables
 mod Found

@@ -39,7 +39,7 @@ pub struct Residues {
 
 /// What is left of a branch, where these are the names of a query's variables. A name that begins with `_` is no query
 /// variable's. An error is want of memory.
-pub fn residues(
+pub fn residues_of(
     heap: &Heap,
     attrs: &Attrs,
     names: &[VariableName],
