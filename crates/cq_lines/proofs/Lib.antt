@@ -1,5 +1,7 @@
 mod Agreement
 mod Members
 mod Numbering
+mod Counting
 mod RowTexts
 mod Whole
+mod Tie

@@ -1,3 +1,4 @@
 pub mod Named
 pub mod Variables
 mod Found
+pub mod Asleep

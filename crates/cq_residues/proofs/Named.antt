@@ -16,7 +16,7 @@ use Rattle.spec_answers.specs.Lines.{is_hidden}
 use Rattle.spec_answers.specs.Targets.{query_variables}
 use Rattle.cq_residues.specs.Shown.{shows_bound, shows_free, bound_in, free_in, bound_trees}
 
-abbrev if_shown : Bool → VariableName → List VariableName
+abbrev pub if_shown : Bool → VariableName → List VariableName
 if_shown b n = cond b (n ∷ []) []
 
 module _ (p q : VariableName → Bool) where
@@ -44,6 +44,12 @@ module _ (s : Subst Text) (names : List VariableName) (i : ℕ) (n : VariableNam
 
   trees_more : bound_trees s (take (i + 1) names) ≡ bound_trees s (take i names) ++ map (λ m. s m.number) (if_shown (shows_bound s n) n)
   trees_more = ap (map (λ (m : VariableName). s m.number)) bound_more ∙ map-append (λ (m : VariableName). s m.number) (bound_in s (take i names)) (if_shown (shows_bound s n) n)
+
+  pub bound_kept : false ≡ shows_bound s n → bound_in s (take i names) ≡ bound_in s (take (i + 1) names)
+  bound_kept f = sym (bound_more ∙ ap (λ b. bound_in s (take i names) ++ if_shown b n) (sym f) ∙ append-nil (bound_in s (take i names)))
+
+  pub bound_pushed : true ≡ shows_bound s n → bound_in s (take i names) ++ n ∷ [] ≡ bound_in s (take (i + 1) names)
+  bound_pushed f = sym (bound_more ∙ ap (λ b. bound_in s (take i names) ++ if_shown b n) (sym f))
 
   -- a free one, or another
   pub free_kept : false ≡ shows_free s n → free_in s (take i names) ≡ free_in s (take (i + 1) names)

@@ -2,9 +2,10 @@
 use Rattle.std.proofs.Common.{◌≡◌, ℕ, ◌+◌, ◌<◌, Bool, true, false, cond, ◌||◌, List, [], ◌∷◌, ◌++◌, length, take, get_or, map, nat_eq, refl, sym, ap, ◌∙◌, subst, inl, inr, append_assoc, append-nil}
 use Rattle.std.specs.Prelude.{fold, ◌⊎◌}
 use Rattle.std.specs.List.{list_any}
+use Rattle.std.proofs.lemmas.List.{take_more, map-append}
 use Rattle.std.proofs.lemmas.List.Folds.{list_any-append}
 use Rattle.std.proofs.lemmas.List.Sums.{fold-append}
-use Rattle.spec_lists.proofs.Tests.{nat_eq-self, nat_eq-apart}
+use Rattle.spec_lists.proofs.Tests.{nat_eq-self, nat_eq-same, nat_eq-apart}
 use Rattle.spec_linear.specs.Solution.{Has}
 use Rattle.spec_echelon.specs.Echelon.{AreDistinct}
 use Rattle.spec_terms.specs.Term.{Term, Terms, Var, Number, Name, Compound, one, more, named}
@@ -44,11 +45,11 @@ all_there (u ∷ us) vs v e = all_there us (with_variable vs u) v (still_there v
 
 there : (us vs : List ℕ) (v : ℕ) → has us v ≡ true → has (with_all vs us) v ≡ true
 there [] vs v e = let d : false ≡ true = e in cc
-there (u ∷ us) vs v e = by (nat_eq u v) refl e
+there (u ∷ us) vs v e = by (nat_eq u v) refl e (there us (with_variable vs u) v)
   where
-    by : (b : Bool) → nat_eq u v ≡ b → (b || has us v) ≡ true → has (with_all (with_variable vs u) us) v ≡ true
-    by true f e = all_there us (with_variable vs u) v (subst (λ w. has (with_variable vs u) w ≡ true) (Rattle.spec_lists.proofs.Tests.nat_eq-same u v f) (is_there vs u))
-    by false f e = there us (with_variable vs u) v e
+    by : (b : Bool) → nat_eq u v ≡ b → (b || has us v) ≡ true → (has us v ≡ true → has (with_all (with_variable vs u) us) v ≡ true) → has (with_all (with_variable vs u) us) v ≡ true
+    by true f h rest = all_there us (with_variable vs u) v (subst (λ w. has (with_variable vs u) w ≡ true) (nat_eq-same u v f) (is_there vs u))
+    by false f h rest = rest h
 
 -- ---- the variables of a term
 
@@ -75,6 +76,14 @@ module _ {A : Type 0} where
 pub all_of_term : {A B : Type 0} (f : A → B) (vs : List ℕ) (t : Term A) → with_all vs (variables t) ≡ variables_after vs (named f t)
 all_of_term f vs t = ap (with_all vs) (sym (variables_named f t)) ∙ after_all vs [] (named f t)
 
+-- the next of some variables
+pub each_more : {A : Type 0} (f : A → ℕ) (vs : List ℕ) (xs : List A) (i : ℕ) (x : A) → i < length xs → x ≡ get_or xs i x →
+    with_variable (with_all vs (map f (take i xs))) (f x) ≡ with_all vs (map f (take (i + 1) xs))
+each_more f vs xs i x l e = sym (
+    ap (λ ys. with_all vs (map f ys)) (take_more xs i x l ∙ ap (λ y. take i xs ++ y ∷ []) (sym e))
+    ∙ ap (with_all vs) (map-append f (take i xs) (x ∷ []))
+    ∙ fold-append with_variable vs (map f (take i xs)) (f x ∷ []))
+
 -- ---- each once
 
 absent : (vs : List ℕ) (v : ℕ) → (Has v vs → ⊥) → has vs v ≡ false
@@ -84,11 +93,11 @@ absent (w ∷ vs) v n = ap (λ b. b || has vs v) (nat_eq-apart w v (λ e. n (inl
 has_no : (vs : List ℕ) (v : ℕ) → has vs v ≡ false → Has v vs → ⊥
 has_no [] v e h = h
 has_no (w ∷ vs) v e (inl g) = let d : true ≡ false = ap (λ b. b || has vs v) (sym (subst (λ x. nat_eq w x ≡ true) (sym g) (nat_eq-self w))) ∙ e in cc
-has_no (w ∷ vs) v e (inr h) = by (nat_eq w v) e
+has_no (w ∷ vs) v e (inr h) = by (nat_eq w v) e (λ d. has_no vs v d h)
   where
-    by : (b : Bool) → (b || has vs v) ≡ false → ⊥
-    by true d = let n : true ≡ false = d in cc
-    by false d = has_no vs v d h
+    by : (b : Bool) → (b || has vs v) ≡ false → (has vs v ≡ false → ⊥) → ⊥
+    by true d rest = let n : true ≡ false = d in cc
+    by false d rest = rest d
 
 has_pushed : (vs : List ℕ) (x v : ℕ) → Has x (vs ++ v ∷ []) → Has x vs ⊎ (x ≡ v)
 has_pushed [] x v (inl e) = inr e
@@ -148,3 +157,12 @@ all_pushed (u ∷ us) vs d =
 
 pub all_distinct : (us : List ℕ) → AreDistinct us → with_all [] us ≡ us
 all_distinct us d = all_pushed us [] d
+
+-- variables of terms, behind those that were added first
+pub found_all : {A : Type 0} (numbers before first second third : List ℕ) (ts us ws : List (Term A)) → AreDistinct numbers → before ≡ with_all [] numbers →
+    first ≡ fold variables_after before ts → second ≡ fold variables_after first us → third ≡ fold variables_after second ws → third ≡ fold variables_after numbers (ts ++ us ++ ws)
+found_all numbers before first second third ts us ws d b e f g =
+    g
+    ∙ ap (λ vs. fold variables_after vs ws) (f ∙ ap (λ vs. fold variables_after vs us) (e ∙ ap (λ vs. fold variables_after vs ts) (b ∙ all_distinct numbers d)))
+    ∙ ap (λ vs. fold variables_after vs ws) (sym (fold-append variables_after numbers ts us))
+    ∙ sym (fold-append variables_after numbers (ts ++ us) ws)

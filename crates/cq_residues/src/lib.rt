@@ -6,13 +6,13 @@ mod queries;
 mod waiting;
 mod wanted;
 
-ghost use Rattle.std.specs.Prelude.{◌≡◌, ◌<◌, ◌++◌, All, length, map, fold, IfOk};
+ghost use Rattle.std.specs.Prelude.{◌≡◌, ◌<◌, All, List, length, map, fold, IfOk};
 ghost use Rattle.spec_lists.specs.Texts.{Text};
 ghost use Rattle.spec_terms.specs.Variables.{variables_after};
 ghost use Rattle.spec_echelon.specs.Echelon.{AreDistinct};
 ghost use Rattle.cq_term.specs.Trees.{tree};
 ghost use Rattle.cq_walk.specs.Places.{numbers_of};
-ghost use Rattle.cq_residues.specs.Shown.{all_waiting, free_in, shown_trees, AreLive};
+ghost use Rattle.cq_residues.specs.Shown.{all_waiting as all_waiting_of, free_in, shown_trees, AreLive};
 
 pub use queries::is_bound_query;
 
@@ -45,12 +45,12 @@ pub fn residues_of(
     names: &[VariableName],
 ) -> Result<Residues, AllocError>
     requires live { All (λ n. n.number < length heap.now.now.images) names.now }
-    requires waiting_live { AreLive heap.now.now (all_waiting attrs.now.now) }
+    requires waiting_live { AreLive heap.now.now (all_waiting_of attrs.now.now) }
     requires distinct { AreDistinct (map (λ n. n.number) names.now) }
     ensures free { IfOk result (λ r. (texts : List Text) → r.free.items ≡ free_in (tree texts heap.now.now.images) names.now) }
-    ensures waiting { IfOk result (λ r. r.waiting.items ≡ all_waiting attrs.now.now) }
+    ensures waiting { IfOk result (λ r. r.waiting.items ≡ all_waiting_of attrs.now.now) }
     ensures wanted { IfOk result (λ r. (texts : List Text) → numbers_of r.wanted.items
-        ≡ fold variables_after (map (λ n. n.number) (free_in (tree texts heap.now.now.images) names.now)) (shown_trees texts heap.now.now names.now (all_waiting attrs.now.now))) }
+        ≡ fold variables_after (map (λ n. n.number) (free_in (tree texts heap.now.now.images) names.now)) (shown_trees texts heap.now.now names.now (all_waiting_of attrs.now.now))) }
     ensures distinct { IfOk result (λ r. AreDistinct (numbers_of r.wanted.items)) }
 {
     let free = free_names(heap, names)?;

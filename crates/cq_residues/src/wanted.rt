@@ -73,8 +73,9 @@ fn add_constraints(
         → numbers_of found.new.keys ≡ fold variables_after (numbers_of found.old.keys) (constraint_trees texts heap.now.now waiting.now)) }
 {
     'waiting: for waits in waiting {
-        if let Susp::Delayed(term) = *waits {
-            add_variables(heap, term, found)?;
+        match *waits {
+            Susp::Delayed(term) => add_variables(heap, term, found)?,
+            Susp::Goal(_, _) => {}
         }
     }
     Ok(())
@@ -91,12 +92,37 @@ fn add_goals(
         → numbers_of found.new.keys ≡ fold variables_after (numbers_of found.old.keys) (goal_trees texts heap.now.now waiting.now)) }
 {
     'waiting: for waits in waiting {
-        if let Susp::Goal(variable, goal) = *waits {
-            add_variables(heap, heap.var_term(variable), found)?;
-            add_variables(heap, goal, found)?;
+        match *waits {
+            Susp::Goal(variable, goal) => {
+                add_variables(heap, heap.var_term(variable), found)?;
+                add_variables(heap, goal, found)?;
+            }
+            Susp::Delayed(_) => {}
         }
     }
     Ok(())
+}
+
+/// The variables that rows are wanted of, as a set.
+fn found_variables(
+    heap: &Heap,
+    names: &[VariableName],
+    free: &[VariableName],
+    waiting: &[Susp],
+) -> Result<IndexSet<VarId>, AllocError>
+    requires live { All (λ n. n.number < length heap.now.now.images) names.now }
+    requires waiting_live { AreLive heap.now.now waiting.now }
+    requires distinct { AreDistinct (map (λ n. n.number) free.now) }
+    ensures wanted { IfOk result (λ all. (texts : List Text) → numbers_of all.keys
+        ≡ fold variables_after (map (λ n. n.number) free.now) (shown_trees texts heap.now.now names.now waiting.now)) }
+    ensures distinct { IfOk result (λ all. AreDistinct (numbers_of all.keys)) }
+{
+    let mut found = IndexSet::new(heap.alloc());
+    add_free(free, &mut found)?;
+    add_bound(heap, names, &mut found)?;
+    add_constraints(heap, waiting, &mut found)?;
+    add_goals(heap, waiting, &mut found)?;
+    Ok(found)
 }
 
 /// The variables that rows are wanted of.
@@ -113,10 +139,6 @@ pub(crate) fn wanted_of(
         ≡ fold variables_after (map (λ n. n.number) free.now) (shown_trees texts heap.now.now names.now waiting.now)) }
     ensures distinct { IfOk result (λ all. AreDistinct (numbers_of all.items)) }
 {
-    let mut found = IndexSet::new(heap.alloc());
-    add_free(free, &mut found)?;
-    add_bound(heap, names, &mut found)?;
-    add_constraints(heap, waiting, &mut found)?;
-    add_goals(heap, waiting, &mut found)?;
+    let found = found_variables(heap, names, free, waiting)?;
     found.into_iter().collect(heap.alloc())
 }
