@@ -5,3 +5,4 @@ mod Counting
 mod RowTexts
 mod Whole
 mod Tie
+mod Joining

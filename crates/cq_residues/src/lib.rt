@@ -14,8 +14,6 @@ ghost use Rattle.cq_term.specs.Trees.{tree};
 ghost use Rattle.cq_walk.specs.Places.{numbers_of};
 ghost use Rattle.cq_residues.specs.Shown.{all_waiting as all_waiting_of, free_in, shown_trees, AreLive};
 
-pub use queries::is_bound_query;
-
 use crate::queries::free_names;
 use crate::waiting::all_waiting;
 use crate::wanted::wanted_of;
@@ -23,6 +21,7 @@ use cq_attr::{Attrs, Susp};
 use cq_frac::VarId;
 use cq_names::VariableName;
 use cq_term::Heap;
+pub use queries::is_bound_query;
 use std::alloc::AllocError;
 
 /// What is left of a branch.

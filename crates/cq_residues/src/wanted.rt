@@ -18,11 +18,7 @@ use indexmap::IndexSet;
 use std::alloc::AllocError;
 
 /// Adds the variables of a term that are new, by first occurrence.
-fn add_variables(
-    heap: &Heap,
-    term: TermId,
-    found: &mut IndexSet<VarId>,
-) -> Result<(), AllocError>
+fn add_variables(heap: &Heap, term: TermId, found: &mut IndexSet<VarId>) -> Result<(), AllocError>
     requires { term < length heap.now.now.terms }
     ensures { OnOk result ((texts : List Text)
         → numbers_of found.new.keys ≡ variables_after (numbers_of found.old.keys) (tree texts heap.now.now.terms term)) }
@@ -82,11 +78,7 @@ fn add_constraints(
 }
 
 /// Adds the variables of the goals that wait, each behind the variable that it waits for.
-fn add_goals(
-    heap: &Heap,
-    waiting: &[Susp],
-    found: &mut IndexSet<VarId>,
-) -> Result<(), AllocError>
+fn add_goals(heap: &Heap, waiting: &[Susp], found: &mut IndexSet<VarId>) -> Result<(), AllocError>
     requires { AreLive heap.now.now waiting.now }
     ensures { OnOk result ((texts : List Text)
         → numbers_of found.new.keys ≡ fold variables_after (numbers_of found.old.keys) (goal_trees texts heap.now.now waiting.now)) }

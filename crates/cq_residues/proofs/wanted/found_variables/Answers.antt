@@ -26,6 +26,6 @@ returns-clause-distinct c =
     let numbers = map (λ (n : VariableName). n.number) c.args.free.now in
     let start = c.in_ok-add_free.ensures ∙ ap (λ ks. with_all (numbers_of ks) numbers) c.new-found.ensures.empty in
     let all = found_all numbers (numbers_of c.add_free.new.found.keys) (numbers_of c.add_bound.new.found.keys) (numbers_of c.add_constraints.new.found.keys) (numbers_of c.add_goals.new.found.keys)
-        (bound_trees (tree texts h.images) c.args.names.now) (constraint_trees texts h c.args.waiting.now) (goal_trees texts h c.args.waiting.now)
-        c.requires.distinct start (c.in_ok-add_bound.ensures texts) (c.in_ok-add_constraints.ensures texts) (c.in_ok-add_goals.ensures texts) in
+    (bound_trees (tree texts h.images) c.args.names.now) (constraint_trees texts h c.args.waiting.now) (goal_trees texts h c.args.waiting.now)
+    c.requires.distinct start (c.in_ok-add_bound.ensures texts) (c.in_ok-add_constraints.ensures texts) (c.in_ok-add_goals.ensures texts) in
     subst AreDistinct (sym all) (distinct_terms (shown_trees texts h c.args.names.now c.args.waiting.now) numbers c.requires.distinct)
