@@ -4,5 +4,5 @@ mod Numbering
 mod Counting
 mod RowTexts
 mod Whole
-mod Tie
+mod Shows
 mod Joining
