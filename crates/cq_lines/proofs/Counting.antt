@@ -54,3 +54,6 @@ module _ (p : ℕ → Bool) (us : List ℕ) (xs : List VarId) (i : ℕ) (x : Var
       AreCounted first (us ++ filter p (numbers_of (take (i + 1) xs))) from names
   passed_by first from names fails a =
       (a.0, a.1 ∙ ap (λ ws. first ++ counted 0 ws) (sym (filtered ∙ ap (λ c. (us ++ filter p (numbers_of (take i xs))) ++ cond c (x.0 ∷ []) []) (sym fails) ∙ append-nil (us ++ filter p (numbers_of (take i xs))))))
+
+pub one_longer : (from : ℕ) (names new : List VariableName) (n : VariableName) → from ≤ length names → new ≡ names ++ n ∷ [] → from ≤ length new
+one_longer from names new n l e = omega (arith, l, ap (λ (ns : List VariableName). length ns) e, length-append names (n ∷ []))

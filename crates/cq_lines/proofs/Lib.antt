@@ -6,3 +6,4 @@ mod RowTexts
 mod Whole
 mod Shows
 mod Joining
+mod Stands

@@ -54,7 +54,7 @@ fn name_all(
     requires { from ≤ length names.old.items }
     ensures named { OnOk result ((first : List Named) (us : List ℕ) → AreCounted first us from names.old.items
         → AreCounted first (us ++ numbers_of variables.now) from names.new.items) }
-    ensures longer { from ≤ length names.new.items }
+    ensures longer { OnOk result (from ≤ length names.new.items) }
 {
     'variables: for variable in variables {
         name_next(alloc, names, from, *variable)?;
