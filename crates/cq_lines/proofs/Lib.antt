@@ -7,3 +7,4 @@ mod Whole
 mod Shows
 mod Joining
 mod Stands
+mod Answered
