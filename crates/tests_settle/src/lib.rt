@@ -4,10 +4,10 @@
 #[cfg(test)]
 mod chain;
 #[cfg(test)]
-mod choices;
-#[cfg(test)]
 mod scenes;
+#[cfg(test)]
+mod stage;
 #[cfg(test)]
 mod steps;
 #[cfg(test)]
-mod terms;
+mod undone;

@@ -1,0 +1,150 @@
+// Queries that are read into a world of which nothing is known, and texts of their terms.
+
+ghost use Rattle.std.specs.Prelude.{◌≡◌, ◌<◌, length, All, IfOk, IfSome};
+ghost use Rattle.cq_atoms.specs.Texts.{AreDifferent};
+ghost use Rattle.cq_term.specs.Trees.{KnowsTerms};
+ghost use Rattle.cq_world.specs.Rest.{IsReady};
+ghost use Rattle.cq_world.specs.Worlds.{now_of};
+
+use cq_atoms::{Atom, Atoms};
+use cq_names::VariableName;
+use cq_ops::Ops;
+use cq_read::{Read, read_clause};
+use cq_rest::new_worlds_are_ready;
+use cq_term::{Heap, TermId, View};
+use cq_world::World;
+use cq_write::{Style, write_term};
+use std::alloc::{AllocError, Global};
+use std::str;
+
+/// The names that these tests know.
+#[derive(Clone, Copy, Drop)]
+pub(crate) struct Words {
+    pub comma: Atom,
+    pub semicolon: Atom,
+    pub braces: Atom,
+    pub equal: Atom,
+    pub freeze: Atom,
+}
+
+/// What a query's terms are written by.
+#[derive(Drop)]
+pub(crate) struct Language {
+    pub atoms: Atoms,
+    pub ops: Ops,
+    pub words: Words,
+    pub names: Vec<VariableName>,
+}
+
+/// A query in a world of which nothing is known.
+#[derive(Drop)]
+pub(crate) struct Stage {
+    pub world: World,
+    pub query: TermId,
+    pub language: Language,
+}
+
+fn words_of(atoms: &mut Atoms) -> Result<Words, AllocError> {
+    Ok(Words {
+        comma: atoms.intern(",")?,
+        semicolon: atoms.intern(";")?,
+        braces: atoms.intern("{}")?,
+        equal: atoms.intern("=")?,
+        freeze: atoms.intern("freeze")?,
+    })
+}
+
+/// Reads a query. A text that is none is refused as want of memory is.
+pub(crate) fn read_query(alloc: Global, text: &str) -> Result<Stage, AllocError>
+    ensures different { IfOk result (λ s. AreDifferent s.language.atoms) }
+    ensures ready { IfOk result (λ s. IsReady s.language.atoms (now_of s.world)) }
+    ensures live { IfOk result (λ s. s.query < length s.world.heap.now.terms) }
+{
+    let mut atoms = Atoms::new(alloc);
+    let ops = Ops::standard(alloc, &mut atoms)?;
+    let words = words_of(&mut atoms)?;
+    let mut world = World::new(alloc, 1000);
+    let read = read_clause(&mut world.heap, &mut atoms, &ops, text.as_bytes(), 0)?;
+    new_worlds_are_ready();
+    let Read::Clause { term, names, .. } = read else {
+        return Err(AllocError);
+    };
+    Ok(Stage {
+        world,
+        query: term,
+        language: Language {
+            atoms,
+            ops,
+            words,
+            names,
+        },
+    })
+}
+
+/// Adds a blank and the text of a term.
+pub(crate) fn add_term(
+    heap: &Heap,
+    language: &Language,
+    term: TermId,
+    line: &mut String,
+) -> Result<(), AllocError>
+    requires live { term < length heap.now.now.terms }
+    requires names { KnowsTerms language.now.atoms heap.now.now.terms }
+{
+    let Language {
+        atoms,
+        ops,
+        names,
+        ..
+    } = language;
+    let bytes = write_term(heap, atoms, ops, term, Style::Quoted, 1200, names)?;
+    if let Ok(text) = str::from_utf8(&bytes) {
+        line.push(' ')?;
+        line.push_str(text)?;
+    }
+    Ok(())
+}
+
+/// The two sides of a term with this name.
+pub(crate) fn sides(heap: &Heap, name: Atom, term: TermId) -> Option<(TermId, TermId)>
+    requires { term < length heap.now.now.terms }
+    ensures first { IfSome result (λ p. p.0 < length heap.now.now.terms) }
+    ensures second { IfSome result (λ p. p.1 < length heap.now.now.terms) }
+{
+    let arguments = heap.args(term);
+    if heap.view(term) == View::Compound(name, 2) && arguments.len() == 2 {
+        Some((arguments[0], arguments[1]))
+    } else {
+        None
+    }
+}
+
+/// How many members a list of them may have, and one more.
+const MOST: usize = 4096;
+
+/// The members of a term that has them between this name, from left to right.
+pub(crate) fn members(heap: &Heap, name: Atom, term: TermId) -> Result<Vec<TermId>, AllocError>
+    requires { term < length heap.now.now.terms }
+    ensures { IfOk result (λ ids. All (λ id. id < length heap.now.now.terms) ids.items) }
+{
+    let mut ids = Vec::new(heap.alloc());
+    let mut rest = term;
+    for _member in 0..MOST {
+        let Some((first, behind)) = sides(heap, name, rest) else {
+            break;
+        };
+        ids.push(first)?;
+        rest = behind;
+    }
+    ids.push(rest)?;
+    Ok(ids)
+}
+
+/// The parts of the query between semicolons.
+pub(crate) fn parts_of(stage: &Stage) -> Result<Vec<TermId>, AllocError>
+    requires { stage.now.query < length stage.now.world.heap.now.terms }
+    ensures { IfOk result (λ ids. All (λ id. id < length stage.now.world.heap.now.terms) ids.items) }
+{
+    let world = &stage.world;
+    members(&world.heap, stage.language.words.semicolon, stage.query)
+}
