@@ -1,7 +1,8 @@
 // Queries that are read into a world of which nothing is known, and texts of their terms.
 
-ghost use Rattle.std.specs.Prelude.{◌≡◌, ◌<◌, length, All, IfOk, IfSome};
+ghost use Rattle.std.specs.Prelude.{◌≡◌, ◌<◌, length, All, IfOk, IfSome, OnOk};
 ghost use Rattle.cq_atoms.specs.Texts.{AreDifferent};
+ghost use Rattle.cq_read.specs.Growth.{Grows};
 ghost use Rattle.cq_term.specs.Trees.{KnowsTerms};
 ghost use Rattle.cq_world.specs.Rest.{IsReady};
 ghost use Rattle.cq_world.specs.Worlds.{now_of};
@@ -54,7 +55,26 @@ fn words_of(atoms: &mut Atoms) -> Result<Words, AllocError> {
     })
 }
 
-/// Reads a query. A text that is none is refused as want of memory is.
+/// Reads a term onto a heap. A text that is none is refused as want of memory is.
+fn read_onto(
+    heap: &mut Heap,
+    atoms: &mut Atoms,
+    ops: &Ops,
+    text: &str,
+) -> Result<(TermId, Vec<VariableName>), AllocError>
+    requires names { KnowsTerms atoms.old heap.old.now.terms }
+    ensures live { IfOk result (λ r. r.0 < length heap.new.now.terms) }
+    ensures grown { OnOk result (Grows heap.old heap.new) }
+    ensures names { OnOk result (KnowsTerms atoms.new heap.new.now.terms) }
+    ensures different { OnOk result (AreDifferent atoms.new) }
+{
+    match read_clause(heap, atoms, ops, text.as_bytes(), 0)? {
+        Read::Clause { term, names, .. } => Ok((term, names)),
+        _ => Err(AllocError),
+    }
+}
+
+/// Reads a query.
 pub(crate) fn read_query(alloc: Global, text: &str) -> Result<Stage, AllocError>
     ensures different { IfOk result (λ s. AreDifferent s.language.atoms) }
     ensures ready { IfOk result (λ s. IsReady s.language.atoms (now_of s.world)) }
@@ -64,14 +84,11 @@ pub(crate) fn read_query(alloc: Global, text: &str) -> Result<Stage, AllocError>
     let ops = Ops::standard(alloc, &mut atoms)?;
     let words = words_of(&mut atoms)?;
     let mut world = World::new(alloc, 1000);
-    let read = read_clause(&mut world.heap, &mut atoms, &ops, text.as_bytes(), 0)?;
+    let (query, names) = read_onto(&mut world.heap, &mut atoms, &ops, text)?;
     new_worlds_are_ready();
-    let Read::Clause { term, names, .. } = read else {
-        return Err(AllocError);
-    };
     Ok(Stage {
         world,
-        query: term,
+        query,
         language: Language {
             atoms,
             ops,

@@ -4,7 +4,7 @@
 ghost use Rattle.std.specs.Prelude.{◌<◌, length};
 ghost use Rattle.cq_term.specs.Trees.{KnowsTerms};
 
-use crate::outcomes::first_wrong;
+use crate::goals::first_wrong;
 use cq_atoms::Atoms;
 use cq_cexpr::{Lin, linearise};
 use cq_form::Constraint;

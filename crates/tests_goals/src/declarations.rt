@@ -3,14 +3,14 @@
 ghost use Rattle.std.specs.Prelude.{◌<◌, length};
 ghost use Rattle.cq_term.specs.Trees.{KnowsTerms};
 
-use crate::outcomes::first_wrong;
+use crate::goals::first_wrong;
 use cq_atoms::Atoms;
 use cq_declarations::{OperatorGoal, declare_operators};
 use cq_ops::Ops;
-use cq_read::{Read, read_clause};
 use cq_term::{Heap, TermId};
 use std::alloc::{AllocError, Global};
 use std::test::Fail;
+use tests_rows::read_row;
 
 /// Predicates that are declared, and modules.
 static DECLARED: [&str; 21] = [
@@ -121,15 +121,10 @@ fn set_operators(heap: &Heap, atoms: &Atoms, table: &mut Ops, goal: TermId)
 
 /// Whether foo is a postfix operator after the goal of a text.
 fn foo_is_set(alloc: Global, text: &str) -> Result<bool, AllocError> {
-    let mut heap = Heap::new(alloc);
-    let mut atoms = Atoms::new(alloc);
-    let mut table = Ops::standard(alloc, &mut atoms)?;
-    match read_clause(&mut heap, &mut atoms, &table, text.as_bytes(), 0)? {
-        Read::Clause { term, .. } => set_operators(&heap, &atoms, &mut table, term),
-        _ => return Ok(false),
-    }
-    let foo = atoms.intern("foo")?;
-    Ok(table.postfix(foo).is_some())
+    let mut row = read_row(alloc, text.as_bytes())?;
+    set_operators(&row.heap, &row.atoms, &mut row.ops, row.goal);
+    let foo = row.atoms.intern("foo")?;
+    Ok(row.ops.postfix(foo).is_some())
 }
 
 #[test]

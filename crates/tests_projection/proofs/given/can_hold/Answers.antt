@@ -1,6 +1,6 @@
 use Rattle.std.proofs.Common.{◌++◌, ap, ◌∙◌}
 use Rattle.tests_projection.proofs.Told.{then_told}
-use Rattle.tests_projection.proofs.sift.can_hold.Goals as goal
+use Rattle.tests_projection.proofs.given.can_hold.Goals as goal
 
 pub returns : goal.returns
 returns c =

@@ -37,7 +37,7 @@ enum Outcome<'a> {
     TooMany(usize, usize, usize),
 }
 
-// U, V, W, Y are 0, 1, 2, 3, and X is 4.
+// U, V, W, Y are 0, 1, 2, 3, and X and Z are 4 and 5.
 const AT_LEAST_U: Given = (Relation::Ge, &[(0, -1, 1), (4, 1, 1)], 0, 1);
 
 const AT_LEAST_V: Given = (Relation::Ge, &[(1, -1, 1), (4, 1, 1)], 0, 1);
@@ -50,6 +50,8 @@ const AT_MOST_Y: Given = (Relation::Ge, &[(3, 1, 1), (4, -1, 1)], 0, 1);
 
 const U_IS_NOT_V: Given = (Relation::Ne, &[(0, 1, 1), (1, -1, 1)], 0, 1);
 
+const AT_LEAST_ZERO: Given = (Relation::Ge, &[(4, 1, 1)], 0, 1);
+
 const ABOVE_ZERO: Given = (Relation::Gt, &[(4, 1, 1)], 0, 1);
 
 const U_ABOVE_ZERO: Given = (Relation::Gt, &[(0, 1, 1)], 0, 1);
@@ -60,7 +62,7 @@ const V_AT_LEAST_ZERO: Given = (Relation::Ge, &[(1, 1, 1)], 0, 1);
 
 const IS_U: Given = (Relation::Eq, &[(0, -1, 1), (4, 1, 1)], 0, 1);
 
-static PROJECTIONS: [Projection; 10] = [
+static PROJECTIONS: [Projection; 18] = [
     // each lower row with each upper one, the greater coefficients first
     Projection {
         told: &[AT_LEAST_U, AT_LEAST_V, AT_MOST_W, AT_MOST_Y],
@@ -178,6 +180,140 @@ static PROJECTIONS: [Projection; 10] = [
         limit: 4096,
         outcome: Outcome::Rows {
             equations: &[],
+            inequalities: &[],
+            disequations: &[],
+            kept: &[],
+        },
+    },
+    // X >= U, X >= 0, X =< V, X =< 10: what follows of the numbers alone is left out
+    Projection {
+        told: &[
+            AT_LEAST_U,
+            AT_LEAST_ZERO,
+            AT_MOST_V,
+            (Relation::Ge, &[(4, -1, 1)], 10, 1),
+        ],
+        limit: 4096,
+        outcome: Outcome::Rows {
+            equations: &[],
+            inequalities: &[
+                (&[(0, 1, 1)], "=<", 10, 1),
+                (&[(0, 1, 1), (1, -1, 1)], "=<", 0, 1),
+                (&[(1, 1, 1)], ">=", 0, 1),
+            ],
+            disequations: &[],
+            kept: &[],
+        },
+    },
+    // X > U, X =< V
+    Projection {
+        told: &[(Relation::Gt, &[(0, -1, 1), (4, 1, 1)], 0, 1), AT_MOST_V],
+        limit: 4096,
+        outcome: Outcome::Rows {
+            equations: &[],
+            inequalities: &[(&[(0, 1, 1), (1, -1, 1)], "<", 0, 1)],
+            disequations: &[],
+            kept: &[],
+        },
+    },
+    // X >= 1, X =< U, U =< 9
+    Projection {
+        told: &[
+            (Relation::Ge, &[(4, 1, 1)], -1, 1),
+            (Relation::Ge, &[(0, 1, 1), (4, -1, 1)], 0, 1),
+            (Relation::Ge, &[(0, -1, 1)], 9, 1),
+        ],
+        limit: 4096,
+        outcome: Outcome::Rows {
+            equations: &[],
+            inequalities: &[(&[(0, 1, 1)], ">=", 1, 1), (&[(0, 1, 1)], "=<", 9, 1)],
+            disequations: &[],
+            kept: &[],
+        },
+    },
+    // U + V >= 1, U - V =< 3, V =< 2: rows over variables that are asked for stay
+    Projection {
+        told: &[
+            (Relation::Ge, &[(0, 1, 1), (1, 1, 1)], -1, 1),
+            (Relation::Ge, &[(0, -1, 1), (1, 1, 1)], 3, 1),
+            (Relation::Ge, &[(1, -1, 1)], 2, 1),
+        ],
+        limit: 4096,
+        outcome: Outcome::Rows {
+            equations: &[],
+            inequalities: &[
+                (&[(0, 1, 1), (1, 1, 1)], ">=", 1, 1),
+                (&[(0, 1, 1), (1, -1, 1)], "=<", 3, 1),
+                (&[(1, 1, 1)], "=<", 2, 1),
+            ],
+            disequations: &[],
+            kept: &[],
+        },
+    },
+    // a mortgage of three periods at a hundredth: P1 = P*(1+I) - M twice, and then B + M = P2*(1+I), where U is P, V is B,
+    // W is M, X is P1 and Z is P2
+    Projection {
+        told: &[
+            (Relation::Eq, &[(0, -101, 100), (2, 1, 1), (4, 1, 1)], 0, 1),
+            (Relation::Eq, &[(2, 1, 1), (4, -101, 100), (5, 1, 1)], 0, 1),
+            (Relation::Eq, &[(1, 1, 1), (2, 1, 1), (5, -101, 100)], 0, 1),
+        ],
+        limit: 4096,
+        outcome: Outcome::Rows {
+            equations: &[(
+                0,
+                &[(1, 1000000, 1030301), (2, 3030100, 1030301)],
+                0,
+                1,
+            )],
+            inequalities: &[],
+            disequations: &[],
+            kept: &[],
+        },
+    },
+    // 0 =< X, X =< U, X =\= V: X is kept for the disequation, and so are the rows in which it stands
+    Projection {
+        told: &[
+            AT_LEAST_ZERO,
+            (Relation::Ge, &[(0, 1, 1), (4, -1, 1)], 0, 1),
+            (Relation::Ne, &[(1, 1, 1), (4, -1, 1)], 0, 1),
+        ],
+        limit: 4096,
+        outcome: Outcome::Rows {
+            equations: &[],
+            inequalities: &[
+                (&[(0, 1, 1), (4, -1, 1)], ">=", 0, 1),
+                (&[(4, 1, 1)], ">=", 0, 1),
+            ],
+            disequations: &[(&[(1, 1, 1), (4, -1, 1)], "=\\=", 0, 1)],
+            kept: &[VarId(4)],
+        },
+    },
+    // U =< X, X =< V, V =< U: inequalities entail an equation
+    Projection {
+        told: &[
+            AT_LEAST_U,
+            AT_MOST_V,
+            (Relation::Ge, &[(0, 1, 1), (1, -1, 1)], 0, 1),
+        ],
+        limit: 4096,
+        outcome: Outcome::Rows {
+            equations: &[(0, &[(1, 1, 1)], 0, 1)],
+            inequalities: &[],
+            disequations: &[],
+            kept: &[],
+        },
+    },
+    // U >= 3, V >= U + 1, V =< 4: they entail numbers
+    Projection {
+        told: &[
+            (Relation::Ge, &[(0, 1, 1)], -3, 1),
+            (Relation::Ge, &[(0, -1, 1), (1, 1, 1)], -1, 1),
+            (Relation::Ge, &[(1, -1, 1)], 4, 1),
+        ],
+        limit: 4096,
+        outcome: Outcome::Rows {
+            equations: &[(0, &[], 3, 1), (1, &[], 4, 1)],
             inequalities: &[],
             disequations: &[],
             kept: &[],

@@ -1,6 +1,6 @@
 // Constraints and expressions that are told or asked about, and what each comes to.
 
-use crate::outcomes::first_wrong;
+use crate::goals::first_wrong;
 use std::test::Fail;
 
 /// Constraints that are told: what each of their relations is, their two halves, or their first error.

@@ -7,7 +7,6 @@ ghost use Rattle.cq_goals.specs.Faults.{HasItsCulprit};
 ghost use Rattle.cq_goals.specs.Tellings.{IsLiveTelling};
 
 use crate::forms::{form_of, form_where};
-use crate::written::{ball_text, put, written};
 use cq_atoms::Atoms;
 use cq_built::BuiltinFault;
 use cq_builtin::Comparison;
@@ -23,6 +22,7 @@ use cq_goals::{
 use cq_ops::Ops;
 use cq_term::{Heap, Pred, TermId};
 use std::alloc::{AllocError, Global};
+use tests_rows::{ball_text, put, written};
 
 /// A goal of one argument.
 #[derive(Clone, Copy)]

@@ -1,6 +1,6 @@
 // Goals of arithmetic, and what each comes to.
 
-use crate::outcomes::first_wrong;
+use crate::goals::first_wrong;
 use std::test::Fail;
 
 /// Values, and the first error from the left.
