@@ -187,7 +187,7 @@ fn of_goal(
 
 /// Whether the goal with which a row begins comes to what stands behind it: the goal under each alternative, in order, with the
 /// pairs made equal, or the ball of its error.
-fn comes_to_it(alloc: Global, text: &[u8]) -> Result<bool, AllocError> {
+pub(crate) fn comes_to_it(alloc: Global, text: &[u8]) -> Result<bool, AllocError> {
     let mut row = read_row(alloc, text)?;
     let found = of_goal(&mut row.heap, &mut row.atoms, &row.ops, row.goal)?;
     Ok(is_outcome(&text[row.next..], &found))

@@ -48,7 +48,7 @@ fn of_goal(
 }
 
 /// Whether the goal with which a row begins comes to what stands behind it: what its check gives, or the ball of its error.
-fn comes_to_it(alloc: Global, text: &[u8]) -> Result<bool, AllocError> {
+pub(crate) fn comes_to_it(alloc: Global, text: &[u8]) -> Result<bool, AllocError> {
     let mut row = read_row(alloc, text)?;
     let found = of_goal(&mut row.heap, &mut row.atoms, &row.ops, row.goal)?;
     Ok(is_outcome(&text[row.next..], &found))

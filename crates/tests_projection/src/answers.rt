@@ -260,12 +260,7 @@ static PROJECTIONS: [Projection; 18] = [
         ],
         limit: 4096,
         outcome: Outcome::Rows {
-            equations: &[(
-                0,
-                &[(1, 1000000, 1030301), (2, 3030100, 1030301)],
-                0,
-                1,
-            )],
+            equations: &[(0, &[(1, 1000000, 1030301), (2, 3030100, 1030301)], 0, 1)],
             inequalities: &[],
             disequations: &[],
             kept: &[],

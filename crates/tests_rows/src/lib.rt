@@ -93,11 +93,12 @@ pub fn put(texts: &mut Vec<u8>, text: &[u8]) -> Result<(), AllocError> {
 /// More often than any stack is deep.
 pub const MANY: usize = 200_000;
 
-/// A text so many times.
-pub fn repeated(alloc: Global, text: &str) -> Result<String, AllocError> {
-    let mut whole = String::new(alloc);
+/// A text so many times between two others.
+pub fn repeated(alloc: Global, first: &str, text: &str, last: &str) -> Result<String, AllocError> {
+    let mut whole = String::from_str(alloc, first)?;
     for _time in 0..MANY {
         whole.push_str(text)?;
     }
+    whole.push_str(last)?;
     Ok(whole)
 }
