@@ -185,7 +185,29 @@ fn is_same(
     Ok(changed && after == before)
 }
 
-/// Whether it is, and goes on from there.
+/// Whether that is so behind what is told before the mark, and the world goes on from there.
+fn goes_on(
+    world: &mut World,
+    language: &Language,
+    query: TermId,
+    told: (TermId, TermId),
+    changes: (TermId, TermId),
+) -> Result<bool, StoreFault>
+    requires different { AreDifferent language.now.atoms }
+    requires ready { IsReady language.now.atoms (now_of world.old) }
+    requires query { query < length world.old.heap.now.terms }
+    requires before { told.0 < length world.old.heap.now.terms }
+    requires after { told.1 < length world.old.heap.now.terms }
+    requires first { changes.0 < length world.old.heap.now.terms }
+    requires second { changes.1 < length world.old.heap.now.terms }
+{
+    let before = leads_to(world, language, query, told.0, BEFORE)?;
+    let same = is_same(world, language, query, changes.0, changes.1)?;
+    let after = leads_to(world, language, query, told.1, AFTER)?;
+    Ok(before && same && after)
+}
+
+/// The same with the parts of a query.
 fn goes_back(
     world: &mut World,
     language: &Language,
@@ -200,10 +222,9 @@ fn goes_back(
     if parts.len() != 4 {
         return Ok(false);
     }
-    let told = leads_to(world, language, query, parts[0], BEFORE)?;
-    let same = is_same(world, language, query, parts[1], parts[2])?;
-    let last = leads_to(world, language, query, parts[3], AFTER)?;
-    Ok(told && same && last)
+    let told = (parts[0], parts[3]);
+    let changes = (parts[1], parts[2]);
+    goes_on(world, language, query, told, changes)
 }
 
 fn is_undone(alloc: Global) -> Result<bool, StoreFault> {
