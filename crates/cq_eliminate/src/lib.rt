@@ -71,7 +71,7 @@ impl From<StoreFault> for ProjectFault {
 }
 
 /// Each row's form lists its products in order, as every form does.
-fn see_forms(rows: &[Constraint])
+pub fn see_forms(rows: &[Constraint])
     ensures { AreForms rows.now }
 {
     'rows: for row in rows {

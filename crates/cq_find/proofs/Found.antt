@@ -4,6 +4,7 @@ use Rattle.std.specs.Prelude.{IfSome, IfNone}
 use Rattle.std.specs.List.{AllByRecursion}
 use Rattle.std.proofs.lemmas.List.{length-map}
 use Rattle.spec_lists.specs.Texts.{Text}
+use Rattle.spec_told.proofs.Members.{both_parts}
 use Rattle.cq_control.specs.Heights.{total}
 use Rattle.cq_control.proofs.Opened.{length-open}
 use Rattle.cq_linear.specs.declared.store.StoreFault.{StoreFault}
@@ -28,17 +29,14 @@ Opened = List (Value Contents × Alternatives)
 
 -- ---- choices that are still open
 
-all_behind : {A : Type 0} (P : A → Type 0) (xs ys : List A) → AllByRecursion P (xs ++ ys) → AllByRecursion P ys
-all_behind P [] ys a = a
-all_behind P (x ∷ xs) ys a = all_behind P xs ys a.1
-
 module _ (v : Program) where
   -- the older ones can be gone on with as before
   pub over_older : (old new : Held) → new.texts ≡ old.texts → KeepsOlder old.saved old.choices new.saved new.choices → IsOver v old → IsOver v new
   over_older old new same k o = record {
     program = subst (λ texts. IsProgram texts v) (sym same) o.program;
-    choices = all_behind (λ (c : Value Contents × Alternatives). CanBeTried v c.0.0.heap.terms c.1) k.gone (open_of new)
-        (subst (AllByRecursion (λ (c : Value Contents × Alternatives). CanBeTried v c.0.0.heap.terms c.1)) k.are o.choices);
+    choices =
+        let both = both_parts (λ (c : Value Contents × Alternatives). CanBeTried v c.0.0.heap.terms c.1) k.gone (open_of new) in
+        (both.0 (subst (AllByRecursion (λ (c : Value Contents × Alternatives). CanBeTried v c.0.0.heap.terms c.1)) k.are o.choices)).1;
   }
 
   -- ---- how many wait

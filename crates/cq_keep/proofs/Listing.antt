@@ -6,12 +6,13 @@ use Rattle.std.specs.List.{dedup}
 use Rattle.std.proofs.lemmas.List.{take_more, map-append}
 use Rattle.std.proofs.lemmas.List.Kept.{Contains-dedup_nat, Contains-from_dedup}
 use Rattle.std.proofs.lemmas.List.Sorted.{Contains-permutation, IsPermutation-sym}
-use Rattle.spec_rational.specs.Sums.{Monomial, Mentions}
 use Rattle.spec_linear.specs.Form.{variables}
 use Rattle.spec_echelon.proofs.Orders.{mentions-has}
+use Rattle.spec_projection.proofs.Eliminating.{sublist_mentions}
 use Rattle.spec_projection.proofs.Rows.{mention_either}
 use Rattle.cq_frac.specs.declared.VarId.{VarId}
 use Rattle.cq_store.specs.Told.{numbers_of}
+use Rattle.cq_store.proofs.Telling.{variables-mention}
 use Rattle.std.specs.List.Sorted.{IsStrictlyIncreasing}
 use Rattle.spec_lists.proofs.Tests.{nat_eq-same, nat_eq-other}
 use Rattle.spec_linear.specs.Solution.{Constraint, Has, SomeMentions, MentionsOnly}
@@ -174,28 +175,14 @@ numbers_reversed (v ∷ vs) =
 
 -- ---- the variables of rows
 
-has_mentions : (x : ℕ) (s : List Monomial) → Has x (variables s) → Mentions x s
-has_mentions x [] h = h
-has_mentions x (m ∷ s) (inl e) = inl e
-has_mentions x (m ∷ s) (inr h) = inr (has_mentions x s h)
-
-mention_left : (x : ℕ) (k l : List Constraint) → SomeMentions x k → SomeMentions x (k ++ l)
-mention_left x [] l h = absurd h
-mention_left x (c ∷ k) l (inl m) = inl m
-mention_left x (c ∷ k) l (inr h) = inr (mention_left x k l h)
-
-mention_right : (x : ℕ) (k l : List Constraint) → SomeMentions x l → SomeMentions x (k ++ l)
-mention_right x [] l h = h
-mention_right x (c ∷ k) l h = inr (mention_right x k l h)
-
 pub mentioned_more : (rows : List Constraint) (i : ℕ) (row : Constraint) (old new : List ℕ) → i < length rows → row ≡ get_or rows i row
     → new ≡ old ++ variables row.form.products → ((x : ℕ) → Has x old ↔ SomeMentions x (take i rows)) → (x : ℕ)
     → Has x new ↔ SomeMentions x (take (i + 1) rows)
 mentioned_more rows i row old new within at e known x =
     let one : take (i + 1) rows ≡ take i rows ++ row ∷ [] = take_more rows i row within ∙ ap (λ d. take i rows ++ d ∷ []) (sym at) in (
       (λ h. subst (SomeMentions x) (sym one) (elim (has_either x old (variables row.form.products) (subst (Has x) e h)) [
-        | inl k ↦ mention_left x (take i rows) (row ∷ []) ((known x).0 k)
-        | inr k ↦ mention_right x (take i rows) (row ∷ []) (inl (has_mentions x row.form.products k))
+        | inl k ↦ sublist_mentions (take i rows) (take i rows ++ row ∷ []) (λ c. has_left c (take i rows) (row ∷ [])) x ((known x).0 k)
+        | inr k ↦ sublist_mentions (row ∷ []) (take i rows ++ row ∷ []) (λ c. has_right c (take i rows) (row ∷ [])) x (inl (variables-mention x row.form.products k))
       ])),
       (λ m. subst (Has x) (sym e) (elim (mention_either x (take i rows) (row ∷ []) (subst (SomeMentions x) one m)) [
         | inl k ↦ has_left x old (variables row.form.products) ((known x).1 k)

@@ -28,7 +28,3 @@ no_rows_told (Ok x) told P h = tt
 no_rows_told (Err f) (of_store.Overflow p) P h = subst (λ g. IfRows g P) (sym h) tt
 no_rows_told (Err f) (of_store.Pivots n) P h = subst (λ g. IfRows g P) (sym h) tt
 no_rows_told (Err f) of_store.NoMemory P h = subst (λ g. IfRows g P) (sym h) tt
-
--- a fault that is told again as it is
-pub same_fault : {T : Type 0} (x y : ProjectFault) → ◌≡◌ {A = Result T ProjectFault} (Err x) (Err y) → x ≡ y
-same_fault x y e = cc

@@ -1,7 +1,6 @@
 -- The stops while the last rows are made, as stops while an answer is made of a list.
 use Rattle.std.proofs.Common.{◌≡◌, inl, inr, ℕ, List, [], ◌∷◌, ◌++◌, refl, ap, sym, subst, ◌∙◌, append-nil}
 use Rattle.std.specs.Prelude.{map, IsPermutation}
-use Rattle.std.specs.List.{AllByRecursion}
 use Rattle.std.proofs.lemmas.List.Sorted.{IsPermutation-append_comm, IsPermutation-trans}
 use Rattle.spec_linear.specs.Form.{Linear}
 use Rattle.spec_linear.specs.Solution.{Constraint, Has, MentionsOnly}
@@ -14,22 +13,19 @@ use Rattle.spec_projection.specs.Substitution.{put_into}
 use Rattle.spec_projection.specs.Projection.{inequalities_of, disequations_of}
 use Rattle.spec_projection.proofs.Members.{has_either, has_mapped, has_image}
 use Rattle.spec_projection.proofs.Sifted.{sublist_has, sifted_sublist}
-use Rattle.spec_limits.specs.Asked.{alone}
-use Rattle.spec_limits.specs.Overflow.{Moment, answering, OverflowDue}
-use Rattle.spec_limits.specs.Answers.{Solves, Leaves, IsAnswerList, beginning, projected, strict_again, IsAnswerRow, substituted, IsProjectionDue}
+use Rattle.spec_limits.specs.Overflow.{Moment, OverflowDue}
+use Rattle.spec_limits.specs.Answers.{Solves, Leaves, IsAnswerList, projected, strict_again, IsAnswerRow, substituted, IsProjectionDue}
 use Rattle.cq_frac.specs.declared.Pair.{Pair}
 use Rattle.cq_fourier.specs.Steps.{AreRowsOf}
 use Rattle.cq_reduce.specs.Answering.{IsRefusedAnswering, IsSpentAnswering}
+use Rattle.cq_sift.proofs.Parts.{sublist_front}
 use Rattle.cq_eliminate.specs.Eliminating.{RefusesEliminating, while_sifting, while_combining, SpendsEliminating, IsRowsDue}
 use Rattle.cq_pass.specs.Passing.{RefusesPass, SpendsPass}
+use Rattle.cq_pass.proofs.Moments.{rows_refused}
 use Rattle.cq_pass.proofs.Passes.{sifting_refused, sifting_spent, pass_refused, pass_spent}
 use Rattle.cq_last.specs.Lasting.{AreLeft}
 
 -- ---- sublists
-
-sublist_none : (l : List Constraint) → IsSublist [] l
-sublist_none [] = empty
-sublist_none (c ∷ l) = left_out (sublist_none l)
 
 sublist_through : (k f l : List Constraint) → IsSublist k f → IsSublist f l → IsSublist k l
 sublist_through _ _ _ s empty = s
@@ -47,32 +43,6 @@ nothing_of _ _ (left_out {c = c} {l = l} s) e = absurd none
   where
     none : ⊥
     none = cc
-
--- ---- moments of rows
-
--- the moment has these rows
-abbrev with_rows : List Constraint → Moment
-with_rows rows = record { stage = answering; list = []; asked = []; operations = []; rows = map (λ c. c.form) rows }
-
-module _ (targets : List ℕ) (l rows : List Constraint) (each : (c : Constraint) → Has c rows → IsAnswerRow targets l c.form) where
-  all_rows : (some : List Constraint) → ((c : Constraint) → Has c some → Has c rows) → AllByRecursion (IsAnswerRow targets l) (map (λ c. c.form) some)
-  all_rows [] h = tt
-  all_rows (c ∷ some) h = (each c (h c (inl refl)), all_rows some (λ d k. h d (inr k)))
-
-  pub rows_refused : (pair : Pair) → ((m : Moment) → AreRowsOf m rows → OverflowDue m pair) → IsRefusedAnswering targets l pair
-  rows_refused pair due = record {
-    moment = with_rows rows;
-    of_answer = record {
-      stage = refl;
-      list = [];
-      is_list = beginning [] l refl;
-      in_force = alone;
-      asked = tt;
-      rows = all_rows rows (λ c h. h);
-      operations = refl;
-    };
-    due = due (with_rows rows) (λ c h. has_image (λ d. d.form) c rows h);
-  }
 
 -- ---- the last rows
 module _ (targets kept rest : List ℕ) (l inequalities disequations : List Constraint) (a : AreLeft targets kept rest l inequalities disequations) where
@@ -101,7 +71,7 @@ module _ (targets kept rest : List ℕ) (l inequalities disequations : List Cons
   from_projection m p told chosen list t s q =
       let none : told ≡ [] = nothing_of told [] t refl in
       let order_is : IsPermutation (chosen ++ []) list = subst (λ w. IsPermutation w list) (ap (λ w. w ++ chosen) none ∙ sym (append-nil chosen)) q in
-      projected a.leaves p s (sublist_none unequal) order_is
+      projected a.leaves p s (sublist_front [] [] unequal empty) order_is
 
   pub eliminating_refused : (pair : Pair) → RefusesEliminating order inequalities pair → IsRefusedAnswering targets l pair
   eliminating_refused pair (while_sifting m p r) = sifting_refused targets l [] m (from_projection m p) pair r

@@ -12,10 +12,10 @@ ghost use Rattle.cq_eliminate.specs.declared.ProjectFault.TheVariants.{Overflow,
 ghost use Rattle.cq_eliminate.specs.Faults.{IfRows};
 ghost use Rattle.cq_last.specs.Lasting.{Stands, AreLeft, AreLast};
 
-use cq_eliminate::{ProjectFault, eliminate};
+use cq_eliminate::{ProjectFault, eliminate, see_forms};
 use cq_form::Constraint;
 use cq_frac::VarId;
-use cq_pass::{passed, see_forms};
+use cq_pass::passed;
 use cq_rows::strengthened;
 use std::alloc::Global;
 

@@ -35,6 +35,13 @@ CanGo m Back = ⊤
 CanGo m (Raises e) = HasCulprit m.atoms (terms m) e
 CanGo m (Refuses pair) = ⊤
 
+-- what holds where the goal raises an error
+abbrev pub OnRaises : Step → Type 0 → Type 0
+OnRaises (Goes k) P = ⊤
+OnRaises Back P = ⊤
+OnRaises (Raises e) P = P
+OnRaises (Refuses pair) P = ⊤
+
 -- ---- rows
 
 -- the row of a built-in predicate, by the goal as it reads

@@ -10,7 +10,7 @@ ghost use Rattle.spec_search.specs.Rows.{nth};
 ghost use Rattle.cq_term.specs.Meaning.{at};
 ghost use Rattle.cq_term.specs.Shown.{arguments};
 ghost use Rattle.cq_machine.specs.Machines.{terms, IsSound, HasSameProgram, StillStands};
-ghost use Rattle.cq_machine.specs.Stepping.{IsSelectedAt, IsStep, CanGo};
+ghost use Rattle.cq_machine.specs.Stepping.{IsSelectedAt, IsStep, CanGo, OnRaises};
 
 use crate::machine::Machine;
 use crate::step::Step;
@@ -150,6 +150,7 @@ pub fn call(
     ensures row { IfOk result (λ s. (p : Place) (behind : List Branch) (g : Tree) → IsSelectedAt m.old goal height rest p behind g
         → IsStep m.new s p behind (call_row p (nth (builtins.arguments g) 0) [])) }
     ensures goes { IfOk result (CanGo m.new) }
+    ensures raises { IfOk result (λ s. OnRaises s (StillStands m.old m.new)) }
     ensures sound { IsSound m.new }
     ensures program { HasSameProgram m.old m.new }
     ensures err { OnErr result (StillStands m.old m.new) }

@@ -1,11 +1,9 @@
 -- What a machine holds, and what a call of a predicate on terms or texts adds to it.
-use Rattle.std.specs.Prelude.{◌≡◌, ⊤}
+use Rattle.std.specs.Prelude.{◌≡◌}
 use Rattle.spec_lists.specs.Prefixes.{IsPrefix}
 use Rattle.cq_ways.specs.Held.{Held, held}
 use Rattle.cq_machine.specs.Machines.{database_of}
 use Rattle.cq_machine.specs.declared.machine.Machine.{Machine}
-use Rattle.cq_machine.specs.declared.step.Step.{Step}
-use Rattle.cq_machine.specs.declared.step.Step.TheVariants.{Goes, Back, Raises, Refuses}
 
 -- its names, its world and its choices
 abbrev pub held_by : Machine → Held
@@ -18,10 +16,3 @@ pub record HasMoreNames (old new : Machine) : Type 0 where
   pub ops : new.ops ≡ old.ops
   pub clauses : new.clauses ≡ old.clauses
   pub database : database_of new ≡ database_of old
-
--- what holds where the goal raises an error
-abbrev pub OnRaises : Step → Type 0 → Type 0
-OnRaises (Goes k) P = ⊤
-OnRaises Back P = ⊤
-OnRaises (Raises e) P = P
-OnRaises (Refuses pair) P = ⊤

@@ -12,8 +12,8 @@ ghost use Rattle.cq_term.specs.Meaning.{at};
 ghost use Rattle.cq_term.specs.Shown.{arguments};
 ghost use Rattle.cq_ways.specs.Calls.{CallLeads, CallRaises, row_of};
 ghost use Rattle.cq_machine.specs.Machines.{terms, now, IsSound, StillStands};
-ghost use Rattle.cq_machine.specs.Stepping.{IsSelectedAt, IsStep, CanGo};
-ghost use Rattle.cq_offer.specs.Offers.{held_by, HasMoreNames, OnRaises};
+ghost use Rattle.cq_machine.specs.Stepping.{IsSelectedAt, IsStep, CanGo, OnRaises};
+ghost use Rattle.cq_offer.specs.Offers.{held_by, HasMoreNames};
 
 use cq_built::BuiltinFault;
 use cq_control::Continuation;

@@ -3,7 +3,6 @@
 
 ghost use Rattle.std.specs.Prelude.{◌≡◌, ℕ, [], ◌++◌, IfOk};
 ghost use Rattle.spec_linear.specs.Solution.{Solvable};
-ghost use Rattle.spec_projection.specs.Lists.{AreForms};
 ghost use Rattle.spec_projection.specs.Irredundant.{Sifts};
 ghost use Rattle.cq_frac.specs.declared.Pair.{Pair};
 ghost use Rattle.cq_linear.specs.declared.store.StoreFault.TheVariants.{Overflow, Pivots};
@@ -14,15 +13,6 @@ use cq_linear::store::StoreFault;
 use cq_reduce::telling::holding;
 use cq_sift::sift;
 use std::alloc::Global;
-
-/// Each row's form lists its products in order, as every form does.
-pub fn see_forms(rows: &[Constraint])
-    ensures { AreForms rows.now }
-{
-    'rows: for row in rows {
-        let _products = row.form.entries();
-    }
-}
 
 /// What a pass over the rows leaves: in their order, each that follows from those kept, those behind it and those beside is
 /// dropped. No call of a store makes more than `pivots` exchanges.

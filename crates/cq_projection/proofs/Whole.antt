@@ -1,5 +1,5 @@
 -- The stages of a projection together: what is kept of a list, the last rows of it, and these arranged.
-use Rattle.std.proofs.Common.{◌≡◌, inl, inr, ℕ, ◌<◌, List, [], ◌∷◌, ◌++◌, map, refl, ap, sym, subst, ◌∙◌, arith}
+use Rattle.std.proofs.Common.{◌≡◌, ℕ, List, [], ◌∷◌, ◌++◌, map, ap, sym, subst, ◌∙◌}
 use Rattle.std.proofs.lemmas.List.{map-append}
 use Rattle.spec_rational.specs.Sums.{Mentions}
 use Rattle.spec_linear.specs.declared.Relation.TheVariants.{Eq, Ne}
@@ -10,7 +10,6 @@ use Rattle.spec_linear.proofs.Denominators.{has_left, has_right}
 use Rattle.spec_echelon.specs.Echelon.{Solved, AreDistinct}
 use Rattle.spec_projection.specs.Elimination.{IsInequality}
 use Rattle.spec_projection.specs.Lists.{AreForms}
-use Rattle.spec_projection.specs.Others.{AreAscending}
 use Rattle.spec_projection.specs.Partial.{AreInequalities, Eliminates}
 use Rattle.spec_projection.specs.Strict.{Strengthened}
 use Rattle.spec_projection.specs.Irredundant.{IsIrredundant, NoneFollows, Sifts}
@@ -18,7 +17,7 @@ use Rattle.spec_projection.specs.Projection.{Keeps, Projects, inequalities_of, d
 use Rattle.spec_projection.specs.Substitution.{put_into}
 use Rattle.spec_projection.proofs.Free.{AreForms-put_into}
 use Rattle.spec_projection.proofs.PutIn.{forms_of_inequalities}
-use Rattle.spec_projection.proofs.Members.{has_either}
+use Rattle.spec_projection.proofs.Echelons.{distinct_parts}
 use Rattle.spec_projection.proofs.Mentions.{mentioning, some_mentions}
 use Rattle.spec_projection.proofs.Sifted.{sublist_has, sifted_sublist, sifted_none, none_yet}
 use Rattle.spec_projection.proofs.Strong.{Strong, strengthened_from}
@@ -36,40 +35,17 @@ use Rattle.cq_reduce.specs.Answering.{IsRefusedAnswering}
 use Rattle.cq_store.specs.Told.{numbers_of}
 use Rattle.cq_rows.specs.Scaling.{AreDisequations}
 use Rattle.cq_sift.proofs.Parts.{solvable_part}
+use Rattle.cq_pass.proofs.Moments.{rows_refused}
 use Rattle.cq_keep.specs.declared.Kept.{Kept}
 use Rattle.cq_keep.specs.Keeping.{IsKept}
+use Rattle.cq_keep.proofs.Listing.{ascending_distinct, distinct_both}
 use Rattle.cq_last.specs.declared.LastRows.{LastRows}
 use Rattle.cq_last.specs.Lasting.{Stands, AreLeft, AreLast}
 use Rattle.cq_last.proofs.Standing as standing
-use Rattle.cq_last.proofs.Stops.{rows_refused, each_row}
+use Rattle.cq_last.proofs.Stops.{each_row}
 use Rattle.cq_arrange.specs.Arranging.{HasNoEquation, AreInequalityRows, AreDisequationRows}
 
 -- ---- distinct variables
-
-above_all : (x : ℕ) (xs : List ℕ) → AreAscending (x ∷ xs) → (y : ℕ) → Has y xs → x < y
-above_all x [] d y h = absurd h
-above_all x (z ∷ xs) d y (inl e) = subst (λ w. x < w) (sym e) d.0
-above_all x (z ∷ xs) d y (inr h) = let more = above_all z xs d.1 y h in omega (arith, d.0, more)
-
-ascending_rest : (x : ℕ) (xs : List ℕ) → AreAscending (x ∷ xs) → AreAscending xs
-ascending_rest x [] d = tt
-ascending_rest x (y ∷ xs) d = d.1
-
-ascending_distinct : (xs : List ℕ) → AreAscending xs → AreDistinct xs
-ascending_distinct [] d = tt
-ascending_distinct (x ∷ xs) d = ((λ h. let less : x < x = above_all x xs d x h in omega arith), ascending_distinct xs (ascending_rest x xs d))
-
-distinct_both : (xs ys : List ℕ) → AreDistinct xs → AreDistinct ys → ((x : ℕ) → Has x xs → Has x ys → ⊥) → AreDistinct (xs ++ ys)
-distinct_both [] ys d e n = e
-distinct_both (x ∷ xs) ys d e n = (
-  (λ h. elim (has_either x xs ys h) [ inl i ↦ d.0 i | inr i ↦ n x (inl refl) i ]),
-  distinct_both xs ys d.1 e (λ y h k. n y (inr h) k),
-)
-
-apart_in : (xs ys : List ℕ) → AreDistinct (xs ++ ys) → (x : ℕ) → Has x xs → Has x ys → ⊥
-apart_in [] ys d x h k = h
-apart_in (z ∷ xs) ys d x (inl e) k = d.0 (has_right z xs ys (subst (λ w. Has w ys) e k))
-apart_in (z ∷ xs) ys d x (inr h) k = apart_in xs ys d.1 x h k
 
 distinct_behind : (xs ys : List ℕ) → AreDistinct (xs ++ ys) → AreDistinct ys
 distinct_behind [] ys d = d
@@ -119,7 +95,7 @@ module _ (targets : List ℕ) (l : List Constraint) (k : Kept) (is : IsKept targ
   pub order_distinct : AreDistinct order
   order_distinct =
       distinct_both targets kept (distinct_behind is.leaves.front targets is.distinct) (ascending_distinct kept is.older_first)
-      (λ x t h. apart_in is.leaves.front targets is.distinct x (is.leaves.keeps.kept_only x h).0 t)
+      (λ x t h. distinct_parts is.leaves.front targets x is.distinct (is.leaves.keeps.kept_only x h).0 t)
 
   module _ (r : LastRows) (a : AreLast order k.inequalities.items k.disequations.items r) where
     strong : (c : Constraint) → Has c a.strict → Strong k.disequations.items a.remaining c

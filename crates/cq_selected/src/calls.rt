@@ -4,7 +4,7 @@ ghost use Rattle.std.specs.Prelude.{◌<◌, length, IfOk, OnErr};
 ghost use Rattle.cq_declarations.specs.Clauses.{IsOf};
 ghost use Rattle.cq_term.specs.Trees.{tree};
 ghost use Rattle.cq_machine.specs.Machines.{terms, IsSound, HasSameProgram, StillStands};
-ghost use Rattle.cq_machine.specs.Stepping.{CanGo};
+ghost use Rattle.cq_machine.specs.Stepping.{CanGo, OnRaises};
 ghost use Rattle.cq_selected.specs.Calls.{Calls};
 
 use cq_built::BuiltinError;
@@ -26,6 +26,7 @@ pub fn call_procedure(
     requires predicate { IsOf m.old.atoms predicate (tree m.old.atoms (terms m.old) goal) }
     ensures row { IfOk result (Calls m.old m.new goal rest) }
     ensures goes { IfOk result (CanGo m.new) }
+    ensures raises { IfOk result (λ s. OnRaises s (StillStands m.old m.new)) }
     ensures sound { IsSound m.new }
     ensures program { HasSameProgram m.old m.new }
     ensures err { OnErr result (StillStands m.old m.new) }

@@ -6,7 +6,7 @@ ghost use Rattle.cq_builtin.specs.Rows.{comparison_of};
 ghost use Rattle.cq_term.specs.Meaning.{at};
 ghost use Rattle.cq_term.specs.Shown.{arguments};
 ghost use Rattle.cq_machine.specs.Machines.{terms, IsSound, HasSameProgram, StillStands};
-ghost use Rattle.cq_machine.specs.Stepping.{row_of, IsSelectedSomewhere, LeadsTo, CanGo};
+ghost use Rattle.cq_machine.specs.Stepping.{row_of, IsSelectedSomewhere, LeadsTo, CanGo, OnRaises};
 ghost use Rattle.cq_selected.specs.Stops.{StopsAt};
 
 use cq_begin::Begun;
@@ -57,6 +57,7 @@ pub fn evaluate_to(m: &mut Machine, goal: TermId, rest: Continuation) -> Result<
     ensures row { IfOk result (λ s. (height : ℕ) → LeadsTo m.old m.new goal height rest (row_of Is) s) }
     ensures stop { IfErr result (λ f. (height : ℕ) → StopsAt m.old goal height rest (row_of Is) f) }
     ensures goes { IfOk result (CanGo m.new) }
+    ensures raises { IfOk result (λ s. OnRaises s (StillStands m.old m.new)) }
     ensures sound { IsSound m.new }
     ensures program { HasSameProgram m.old m.new }
     ensures err { OnErr result (StillStands m.old m.new) }

@@ -6,8 +6,11 @@ use Rattle.spec_terms.specs.Term.{Number}
 use Rattle.spec_syntax.specs.Trees.{Tree, list_tree}
 use Rattle.spec_built.specs.Built.{atom, compound1, compound2, natural, indicator, indicator_term}
 use Rattle.spec_built.specs.Errors.{instantiation, type_error, domain_error, representation_error, permission_error, existence_error, not_evaluable}
+use Rattle.spec_builtins.specs.Terms.{arguments}
+use Rattle.spec_search.specs.Builtins.{Builtin, Throw, Findall, Assert, Retract, ClauseGoal, DynamicGoal, Entailed, Extent, Optimum, Least, Greatest}
+use Rattle.spec_search.specs.Database.{First, Last}
 use Rattle.spec_search.specs.Replies.{Place, Raises}
-use Rattle.spec_search.specs.Rows.{reply_of}
+use Rattle.spec_search.specs.Rows.{builtin_reply, reply_of}
 use Rattle.spec_search.specs.Examples.{X, Y, Z, goal}
 
 -- the number -n
@@ -33,7 +36,7 @@ abbrev pub AllRaise : Place → List (Tree × Tree) → Type 0
 AllRaise p [] = ⊤
 AllRaise p (c ∷ cs) = (reply_of p c.0 ≡ Raises c.1) × AllRaise p cs
 
--- of control, throw and findall, and an unknown procedure
+-- of control, and an unknown procedure
 abbrev pub control_balls : List (Tree × Tree)
 control_balls =
     (goal "call" (X ∷ []), instantiation)
@@ -43,8 +46,6 @@ control_balls =
       type_error "callable" (compound2 "," (atom "fail") (natural 1)),
     )
     ∷ (goal "call" (natural 1 ∷ atom "a" ∷ []), type_error "callable" (natural 1))
-    ∷ (goal "throw" (X ∷ []), instantiation)
-    ∷ (goal "findall" (X ∷ atom "a" ∷ atom "b" ∷ []), type_error "list" (atom "b"))
     ∷ (goal "foo" (X ∷ []), unknown "foo" 1)
     ∷ []
 
@@ -124,41 +125,12 @@ arithmetic_balls =
     ∷ (goal "=:=" (natural 1 ∷ atom "a" ∷ []), no_function "a" 0)
     ∷ []
 
--- of goals that read and change clauses, beside a static p/1
-abbrev pub clause_balls : List (Tree × Tree)
-clause_balls =
-    (goal "asserta" (X ∷ []), instantiation)
-    ∷ (goal "assertz" (compound2 ":-" X (atom "a") ∷ []), instantiation)
-    ∷ (goal "assertz" (natural 1 ∷ []), type_error "callable" (natural 1))
-    ∷ (
-      goal "assertz" (compound2 ":-" (atom "foo") (compound2 "," (atom "bar") (natural 1)) ∷ []),
-      type_error "callable" (compound2 "," (atom "bar") (natural 1)),
-    )
-    ∷ (goal "asserta" (compound1 "p" (natural 2) ∷ []), not_changed "p" 1)
-    ∷ (goal "assertz" (compound2 "," (atom "a") (atom "b") ∷ []), not_changed "," 2)
-    ∷ (goal "retract" (X ∷ []), instantiation)
-    ∷ (goal "retract" (compound1 "p" X ∷ []), not_changed "p" 1)
-    ∷ (goal "clause" (X ∷ Y ∷ []), instantiation)
-    ∷ (goal "clause" (natural 1 ∷ Y ∷ []), type_error "callable" (natural 1))
-    ∷ (goal "clause" (compound1 "q" X ∷ natural 2 ∷ []), type_error "callable" (natural 2))
-    ∷ (goal "clause" (compound1 "p" X ∷ Y ∷ []), not_read "p" 1)
-    ∷ (goal "clause" (compound1 "write" X ∷ Y ∷ []), not_read "write" 1)
-    ∷ []
-
 -- of declarations and operators
 abbrev pub declaration_balls : List (Tree × Tree)
-declaration_balls =
-    (goal "dynamic" (X ∷ []), instantiation)
-    ∷ (goal "dynamic" (compound2 "/" (atom "foo") X ∷ []), instantiation)
-    ∷ (goal "dynamic" (atom "foo" ∷ []), type_error "predicate_indicator" (atom "foo"))
-    ∷ (
-      goal "dynamic" (compound2 "," (compound2 "/" (atom "foo") (natural 1)) (compound2 "/" (atom "write") (natural 1)) ∷ []),
-      not_changed "write" 1,
-    )
-    ∷ (
-      goal "discontiguous" (compound2 "/" (atom "foo") (atom "a") ∷ []),
-      type_error "predicate_indicator" (compound2 "/" (atom "foo") (atom "a")),
-    )
+declaration_balls = (
+  goal "discontiguous" (compound2 "/" (atom "foo") (atom "a") ∷ []),
+  type_error "predicate_indicator" (compound2 "/" (atom "foo") (atom "a")),
+)
     ∷ (goal "use_module" (X ∷ []), instantiation)
     ∷ (
       goal "use_module" (compound1 "library" (atom "clpfd") ∷ []),
@@ -177,7 +149,7 @@ declaration_balls =
     )
     ∷ []
 
--- of constraints and of questions to them
+-- of constraints
 abbrev pub constraint_balls : List (Tree × Tree)
 constraint_balls =
     (goal "{}" (X ∷ []), instantiation)
@@ -186,11 +158,50 @@ constraint_balls =
     ∷ (goal "{}" (compound2 ";" (atom "foo") Y ∷ []), type_error "constraint" (atom "foo"))
     ∷ (goal "{}" (compound2 "=" X (atom "foo") ∷ []), no_function "foo" 0)
     ∷ (goal "{}" (compound2 ">" (compound1 "foo" X) Y ∷ []), no_function "foo" 1)
-    ∷ (goal "entailed" (X ∷ []), instantiation)
-    ∷ (goal "entailed" (atom "a" ∷ []), type_error "constraint" (atom "a"))
-    ∷ (goal "entailed" (compound2 ";" X (atom "a") ∷ []), type_error "linear" (compound2 ";" X (atom "a")))
-    ∷ (goal "sup" (atom "a" ∷ X ∷ []), no_function "a" 0)
-    ∷ (goal "inf" (compound2 "f" X Y ∷ Z ∷ []), no_function "f" 2)
-    ∷ (goal "minimize" (atom "a" ∷ []), no_function "a" 0)
-    ∷ (goal "maximize" (atom "a" ∷ []), no_function "a" 0)
+    ∷ []
+
+-- ---- of predicates that no table has yet
+
+-- the row of each predicate raises the error beside its goal
+abbrev pub AllRowsRaise : Place → List (Builtin × Tree × Tree) → Type 0
+AllRowsRaise p [] = ⊤
+AllRowsRaise p (c ∷ cs) = (builtin_reply p c.0 (arguments c.1) ≡ Raises c.2) × AllRowsRaise p cs
+
+-- of throw, findall and questions to constraints, and of goals that read and change clauses, beside a static p/1
+abbrev pub row_balls : List (Builtin × Tree × Tree)
+row_balls =
+    (Throw, goal "throw" (X ∷ []), instantiation)
+    ∷ (Findall, goal "findall" (X ∷ atom "a" ∷ atom "b" ∷ []), type_error "list" (atom "b"))
+    ∷ (Assert First, goal "asserta" (X ∷ []), instantiation)
+    ∷ (Assert Last, goal "assertz" (compound2 ":-" X (atom "a") ∷ []), instantiation)
+    ∷ (Assert Last, goal "assertz" (natural 1 ∷ []), type_error "callable" (natural 1))
+    ∷ (
+      Assert Last,
+      goal "assertz" (compound2 ":-" (atom "foo") (compound2 "," (atom "bar") (natural 1)) ∷ []),
+      type_error "callable" (compound2 "," (atom "bar") (natural 1)),
+    )
+    ∷ (Assert First, goal "asserta" (compound1 "p" (natural 2) ∷ []), not_changed "p" 1)
+    ∷ (Assert Last, goal "assertz" (compound2 "," (atom "a") (atom "b") ∷ []), not_changed "," 2)
+    ∷ (Retract, goal "retract" (X ∷ []), instantiation)
+    ∷ (Retract, goal "retract" (compound1 "p" X ∷ []), not_changed "p" 1)
+    ∷ (ClauseGoal, goal "clause" (X ∷ Y ∷ []), instantiation)
+    ∷ (ClauseGoal, goal "clause" (natural 1 ∷ Y ∷ []), type_error "callable" (natural 1))
+    ∷ (ClauseGoal, goal "clause" (compound1 "q" X ∷ natural 2 ∷ []), type_error "callable" (natural 2))
+    ∷ (ClauseGoal, goal "clause" (compound1 "p" X ∷ Y ∷ []), not_read "p" 1)
+    ∷ (ClauseGoal, goal "clause" (compound1 "write" X ∷ Y ∷ []), not_read "write" 1)
+    ∷ (DynamicGoal, goal "dynamic" (X ∷ []), instantiation)
+    ∷ (DynamicGoal, goal "dynamic" (compound2 "/" (atom "foo") X ∷ []), instantiation)
+    ∷ (DynamicGoal, goal "dynamic" (atom "foo" ∷ []), type_error "predicate_indicator" (atom "foo"))
+    ∷ (
+      DynamicGoal,
+      goal "dynamic" (compound2 "," (compound2 "/" (atom "foo") (natural 1)) (compound2 "/" (atom "write") (natural 1)) ∷ []),
+      not_changed "write" 1,
+    )
+    ∷ (Entailed, goal "entailed" (X ∷ []), instantiation)
+    ∷ (Entailed, goal "entailed" (atom "a" ∷ []), type_error "constraint" (atom "a"))
+    ∷ (Entailed, goal "entailed" (compound2 ";" X (atom "a") ∷ []), type_error "linear" (compound2 ";" X (atom "a")))
+    ∷ (Extent Greatest, goal "sup" (atom "a" ∷ X ∷ []), no_function "a" 0)
+    ∷ (Extent Least, goal "inf" (compound2 "f" X Y ∷ Z ∷ []), no_function "f" 2)
+    ∷ (Optimum Least, goal "minimize" (atom "a" ∷ []), no_function "a" 0)
+    ∷ (Optimum Greatest, goal "maximize" (atom "a" ∷ []), no_function "a" 0)
     ∷ []

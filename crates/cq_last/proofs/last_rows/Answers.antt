@@ -8,9 +8,9 @@ use Rattle.cq_fourier.specs.Steps.{AreRowsOf}
 use Rattle.cq_store.specs.Told.{numbers_of}
 use Rattle.cq_sift.proofs.Parts.{solvable_part}
 use Rattle.cq_eliminate.specs.Eliminating.{IsRowsDue}
-use Rattle.cq_eliminate.proofs.Exits.{refused, if_rows}
+use Rattle.cq_eliminate.proofs.Exits.{refused, one_fault, if_rows}
 use Rattle.cq_pass.specs.Passing.{RefusesPass, SpendsPass}
-use Rattle.cq_last.proofs.Faults.{store_refused, store_spent, same_fault}
+use Rattle.cq_last.proofs.Faults.{store_refused, store_spent}
 use Rattle.cq_last.proofs.Standing.{strict_solvable, unequal_solvable}
 use Rattle.cq_last.proofs.Stops.{eliminating_refused, eliminating_spent, rows_due, strengthening_refused, unequal_refused, unequal_spent, last_refused, last_spent}
 use Rattle.cq_last.proofs.last_rows.Goals as goal
@@ -20,11 +20,11 @@ eliminate-requires-clause-solvable c = solvable_part c.args.inequalities.now (c.
 
 pub returns-in-Err-clause-overflow : goal.returns-in-Err-clause-overflow
 returns-in-Err-clause-overflow c = λ targets kept l a pair e.
-    eliminating_refused targets kept (numbers_of c.args.rest.now) l c.args.inequalities.now c.args.disequations.now a pair (c.in-Err.ensures.overflow (targets ++ kept) a.over pair (ap Err (same_fault c.in-Err.fault _ e)))
+    eliminating_refused targets kept (numbers_of c.args.rest.now) l c.args.inequalities.now c.args.disequations.now a pair (c.in-Err.ensures.overflow (targets ++ kept) a.over pair (ap Err (one_fault c.in-Err.fault _ e)))
 
 pub returns-in-Err-clause-pivots : goal.returns-in-Err-clause-pivots
 returns-in-Err-clause-pivots c = λ targets kept l a n e.
-    let spent = c.in-Err.ensures.pivots (targets ++ kept) a.over n (ap Err (same_fault c.in-Err.fault _ e)) in
+    let spent = c.in-Err.ensures.pivots (targets ++ kept) a.over n (ap Err (one_fault c.in-Err.fault _ e)) in
     (spent.0, eliminating_spent targets kept (numbers_of c.args.rest.now) l c.args.inequalities.now c.args.disequations.now a n spent.1)
 
 pub returns-in-Err-clause-limit : goal.returns-in-Err-clause-limit

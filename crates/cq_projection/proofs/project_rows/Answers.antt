@@ -6,8 +6,8 @@ use Rattle.spec_projection.specs.Partial.{AreInequalities}
 use Rattle.spec_limits.specs.Answers.{IsProjectionDue}
 use Rattle.cq_fourier.specs.Steps.{AreRowsOf}
 use Rattle.cq_store.specs.Told.{numbers_of}
-use Rattle.cq_eliminate.proofs.Exits.{refused, never_spent, no_rows_refused}
-use Rattle.cq_last.proofs.Faults.{store_refused, store_spent, no_rows_told, same_fault}
+use Rattle.cq_eliminate.proofs.Exits.{refused, never_spent, one_fault, no_rows_refused}
+use Rattle.cq_last.proofs.Faults.{store_refused, store_spent, no_rows_told}
 use Rattle.cq_rows.specs.Scaling.{AreDisequations}
 use Rattle.cq_arrange.specs.Lines.{lines_of, inequality_of, disequation_of}
 use Rattle.cq_arrange.specs.Arranging.{HasNoEquation, AreInequalityRows, AreDisequationRows}
@@ -31,11 +31,11 @@ last_rows-requires c = record { stand = stands_lent (numbers_of c.args.keep.now)
 
 pub returns-in-Err-clause-overflow : goal.returns-in-Err-clause-overflow
 returns-in-Err-clause-overflow c = λ pair e.
-    c.in-Err.ensures.overflow (numbers_of c.args.keep.now) (numbers_of c.in_ok-kept.kept.variables.items) c.args.told.now (left_lent (numbers_of c.args.keep.now) c.args.told.now c.in_ok-kept.kept c.in_ok-kept.ensures.kept c.deref.result.now c.deref-2.result.now c.deref-3.result.now c.deref.ensures.value c.deref-2.ensures.value c.deref-3.ensures.value) pair (ap Err (same_fault c.in-Err.fault _ e))
+    c.in-Err.ensures.overflow (numbers_of c.args.keep.now) (numbers_of c.in_ok-kept.kept.variables.items) c.args.told.now (left_lent (numbers_of c.args.keep.now) c.args.told.now c.in_ok-kept.kept c.in_ok-kept.ensures.kept c.deref.result.now c.deref-2.result.now c.deref-3.result.now c.deref.ensures.value c.deref-2.ensures.value c.deref-3.ensures.value) pair (ap Err (one_fault c.in-Err.fault _ e))
 
 pub returns-in-Err-clause-pivots : goal.returns-in-Err-clause-pivots
 returns-in-Err-clause-pivots c = λ n e.
-    c.in-Err.ensures.pivots (numbers_of c.args.keep.now) (numbers_of c.in_ok-kept.kept.variables.items) c.args.told.now (left_lent (numbers_of c.args.keep.now) c.args.told.now c.in_ok-kept.kept c.in_ok-kept.ensures.kept c.deref.result.now c.deref-2.result.now c.deref-3.result.now c.deref.ensures.value c.deref-2.ensures.value c.deref-3.ensures.value) n (ap Err (same_fault c.in-Err.fault _ e))
+    c.in-Err.ensures.pivots (numbers_of c.args.keep.now) (numbers_of c.in_ok-kept.kept.variables.items) c.args.told.now (left_lent (numbers_of c.args.keep.now) c.args.told.now c.in_ok-kept.kept c.in_ok-kept.ensures.kept c.deref.result.now c.deref-2.result.now c.deref-3.result.now c.deref.ensures.value c.deref-2.ensures.value c.deref-3.ensures.value) n (ap Err (one_fault c.in-Err.fault _ e))
 
 pub returns-in-Err-clause-limit : goal.returns-in-Err-clause-limit
 returns-in-Err-clause-limit c = c.in-Err.ensures.limit (numbers_of c.args.keep.now) (numbers_of c.in_ok-kept.kept.variables.items) c.args.told.now (left_lent (numbers_of c.args.keep.now) c.args.told.now c.in_ok-kept.kept c.in_ok-kept.ensures.kept c.deref.result.now c.deref-2.result.now c.deref-3.result.now c.deref.ensures.value c.deref-2.ensures.value c.deref-3.ensures.value)

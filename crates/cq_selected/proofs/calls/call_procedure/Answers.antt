@@ -1,4 +1,5 @@
 use Rattle.std.proofs.Common.{Bool, refl, sym, ap, subst, ◌∙◌}
+use Rattle.std.specs.Prelude.{Ok}
 use Rattle.spec_built.specs.Built.{Indicator}
 use Rattle.spec_built.specs.Errors.{existence_error}
 use Rattle.spec_search.specs.Replies.{Raises}
@@ -56,3 +57,10 @@ returns-in_err-found-clause-err c =
     (stands_all m c.call_procedure.new.clauses _ c.call_procedure.new.choices (value c.call_procedure.new.world.first c.call_procedure.new.world.second.now)
     c.call_procedure.ensures.clauses c.in_err-found.ensures.err_saved c.in_err-found.ensures.err
     (same_grown m.atoms (now m).0 _ (now m).1 _ c.call_procedure.ensures.world (keeps_equal (now m).1 _ c.call_procedure.ensures.lists)))
+
+pub returns-else-found-clause-raises : goal.returns-else-found-clause-raises
+returns-else-found-clause-raises c =
+    let m = c.args.m.now in
+    stands_all m c.call_procedure.new.clauses _ c.call_procedure.new.choices (value c.call_procedure.new.world.first c.call_procedure.new.world.second.now)
+    c.call_procedure.ensures.clauses (c.in_ok-found.ensures.unknown_saved (ap Ok c.if-found.false)) (c.in_ok-found.ensures.unknown (ap Ok c.if-found.false))
+    (same_grown m.atoms (now m).0 _ (now m).1 _ c.call_procedure.ensures.world (keeps_equal (now m).1 _ c.call_procedure.ensures.lists))

@@ -120,3 +120,9 @@ returns-in-Settling-clause-err c =
     let m = c.args.m.now in
     stands_parts m _ (value c.evaluate_to.new.world c.evaluate_to.new.lists.now) (ap₂ zip c.evaluate_to.ensures.saved c.evaluate_to.ensures.lists)
     (same_grown m.atoms (now m).0 _ (now m).1 _ c.in-Err.ensures.err c.evaluate_to.ensures.keeps)
+
+pub returns-in-Error-clause-raises : goal.returns-in-Error-clause-raises
+returns-in-Error-clause-raises c =
+    let m = c.args.m.now in
+    stands_parts m _ (value c.evaluate_to.new.world c.evaluate_to.new.lists.now) (ap₂ zip c.evaluate_to.ensures.saved c.evaluate_to.ensures.lists)
+    (same_grown m.atoms (now m).0 _ (now m).1 _ c.in-Err.ensures.err c.evaluate_to.ensures.keeps)
