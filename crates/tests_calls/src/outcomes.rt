@@ -8,15 +8,24 @@ ghost use Rattle.cq_walk.specs.Pairs.{IsLive};
 ghost use Rattle.cq_predicates.specs.Names.{as_predicate};
 ghost use Rattle.cq_predicates.specs.Given.{CanGoOn};
 
+use crate::arithmetic::ARITHMETIC;
+use crate::checked::{of_one, of_three, of_two};
+use crate::constraints::CONSTRAINTS;
+use crate::declarations::DECLARATIONS;
+use crate::forms::FORMS;
+use crate::terms::TERMS;
+use crate::texts::TEXTS;
+use crate::written::{ball_text, put, written};
 use cq_atoms::Atoms;
 use cq_built::Alternative;
 use cq_ops::Ops;
 use cq_predicates::{Predicate, Solutions, call};
+use cq_read::{Read, read_clause};
 use cq_term::{Heap, Newly, Pred, TermId, View};
 use cq_trail::Undo;
 use cq_unify::unify;
 use std::alloc::{AllocError, Global};
-use tests_rows::{ball_text, is_outcome, put, read_row, written};
+use std::test::Fail;
 
 /// More alternatives than any goal of the tables has.
 const MOST: usize = 100;
@@ -153,6 +162,26 @@ fn called(
     }
 }
 
+/// What a goal comes to that is no call of a predicate on terms or texts.
+fn checked(
+    heap: &mut Heap,
+    atoms: &mut Atoms,
+    ops: &Ops,
+    pred: Pred,
+    args: &[TermId],
+) -> Result<Vec<u8>, AllocError>
+    requires args { All (λ id. id < length heap.old.now.terms) args.now }
+    requires known { pred.name < length atoms.old }
+    requires names { KnowsTerms atoms.old heap.old.now.terms }
+{
+    match args.len() {
+        1 => of_one(heap, atoms, ops, pred, args[0]),
+        2 => of_two(heap, atoms, ops, pred, args[0], args[1]),
+        3 => of_three(heap, atoms, ops, pred, args),
+        _ => Ok(Vec::new(heap.alloc())),
+    }
+}
+
 /// What a term comes to as a goal.
 fn of_goal(
     heap: &mut Heap,
@@ -181,24 +210,53 @@ fn of_goal(
                 Ok(Vec::new(heap.alloc()))
             }
         }
-        None => Ok(Vec::new(heap.alloc())),
+        None => checked(heap, atoms, ops, pred, &args),
     }
 }
 
-/// Whether the goal with which a row begins comes to what stands behind it: the goal under each alternative, in order, with the
-/// pairs made equal, or the ball of its error.
+/// Whether a text is a space with the outcome behind it, which is `no` where nothing came.
+fn is_told(text: &[u8], outcome: &[u8]) -> bool {
+    let outcome = if outcome.is_empty() { b"no" } else { outcome };
+    text.len() > 0 && text[0] == b' ' && &text[1..] == outcome
+}
+
+/// Whether the goal with which a text begins comes to what stands behind it: the goal under each alternative, in order, with
+/// the pairs made equal, or what its check gives, or the ball of its error.
 pub(crate) fn comes_to_it(alloc: Global, text: &[u8]) -> Result<bool, AllocError> {
-    let mut row = read_row(alloc, text)?;
-    let found = of_goal(&mut row.heap, &mut row.atoms, &row.ops, row.goal)?;
-    Ok(is_outcome(&text[row.next..], &found))
+    let mut heap = Heap::new(alloc);
+    let mut atoms = Atoms::new(alloc);
+    let ops = Ops::standard(alloc, &mut atoms)?;
+    match read_clause(&mut heap, &mut atoms, &ops, text, 0)? {
+        Read::Clause { term, next, .. } => {
+            let found = of_goal(&mut heap, &mut atoms, &ops, term)?;
+            Ok(is_told(&text[next..], &found))
+        }
+        _ => Ok(false),
+    }
 }
 
 /// The place of the first goal that comes to something else than what stands behind it.
-pub(crate) fn first_wrong(alloc: Global, rows: &[&str]) -> Result<Option<usize>, AllocError> {
+fn first_wrong(alloc: Global, rows: &[&str]) -> Result<Option<usize>, AllocError> {
     for (place, row) in rows.iter().enumerate() {
         if !comes_to_it(alloc, row.as_bytes())? {
             return Ok(Some(place));
         }
     }
     Ok(None)
+}
+
+#[test]
+fn goals_come_to_what_the_tables_say(rt: HostRuntime) -> Result<(), Fail> {
+    let tables = [
+        TERMS.as_slice(),
+        TEXTS.as_slice(),
+        ARITHMETIC.as_slice(),
+        CONSTRAINTS.as_slice(),
+        DECLARATIONS.as_slice(),
+        FORMS.as_slice(),
+    ];
+    for rows in &tables {
+        assert_eq!(rt; first_wrong(rt.alloc(), rows)?, None);
+    }
+    Ok(())
 }
