@@ -40,16 +40,28 @@ fn chain(alloc: Global, count: usize, fixed: bool) -> Result<String, AllocError>
     format!(in alloc; "{{{links}}};{{{first}=1}}")
 }
 
-/// Whether all links wait until the first variable is fixed, and then none does and each variable has its value.
+/// Whether the query leads to these two lines.
+fn leads(alloc: Global, query: &str, waiting: &str, fixed: &str) -> Result<bool, StoreFault> {
+    let text = format!(in alloc; "{query}.")?;
+    plays(alloc, text.as_str(), &[waiting, fixed])
+}
+
+/// Whether the first of them is so, and then no link waits and each variable has its value.
+fn ends(alloc: Global, links: usize, query: &str, waiting: &str) -> Result<bool, StoreFault>
+    requires { links < 4096 }
+{
+    let end = chain(alloc, links + 1, true)?;
+    let fixed = format!(in alloc; " yes | 0 | {end}")?;
+    leads(alloc, query, waiting, fixed.as_str())
+}
+
+/// Whether all links wait until the first variable is fixed, and then none does.
 fn passes_on(alloc: Global, links: usize) -> Result<bool, StoreFault>
     requires { links < 4096 }
 {
     let query = chain(alloc, links + 1, false)?;
-    let end = chain(alloc, links + 1, true)?;
     let waiting = format!(in alloc; " yes | {links} | {query}")?;
-    let fixed = format!(in alloc; " yes | 0 | {end}")?;
-    let text = format!(in alloc; "{query}.")?;
-    plays(alloc, text.as_str(), &[waiting.as_str(), fixed.as_str()])
+    ends(alloc, links, query.as_str(), waiting.as_str())
 }
 
 #[test]

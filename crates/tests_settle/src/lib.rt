@@ -1,4 +1,4 @@
-//! Tests of settling: what no clause says of it.
+//! Tests of worlds and of settling: what no clause says of them.
 #![tactic(auto)]
 
 #[cfg(test)]
@@ -11,3 +11,5 @@ mod stage;
 mod steps;
 #[cfg(test)]
 mod undone;
+#[cfg(test)]
+mod world;
