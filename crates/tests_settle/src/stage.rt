@@ -23,7 +23,6 @@ use std::str;
 pub(crate) struct Words {
     pub comma: Atom,
     pub semicolon: Atom,
-    pub braces: Atom,
     pub equal: Atom,
     pub freeze: Atom,
 }
@@ -45,13 +44,20 @@ pub(crate) struct Stage {
     pub language: Language,
 }
 
+fn two(atoms: &mut Atoms, first: &str, second: &str) -> Result<(Atom, Atom), AllocError> {
+    let one = atoms.intern(first)?;
+    let other = atoms.intern(second)?;
+    Ok((one, other))
+}
+
 fn words_of(atoms: &mut Atoms) -> Result<Words, AllocError> {
+    let (comma, semicolon) = two(atoms, ",", ";")?;
+    let (equal, freeze) = two(atoms, "=", "freeze")?;
     Ok(Words {
-        comma: atoms.intern(",")?,
-        semicolon: atoms.intern(";")?,
-        braces: atoms.intern("{}")?,
-        equal: atoms.intern("=")?,
-        freeze: atoms.intern("freeze")?,
+        comma,
+        semicolon,
+        equal,
+        freeze,
     })
 }
 

@@ -98,14 +98,20 @@ fn add_extents(store: &mut Store, alloc: Global, text: &mut String) -> Result<()
 
 // ---- what a mark keeps
 
-/// Adds the told list, what waits, and which of the first three variables are numeric.
+/// Adds the told list and what waits.
 fn add_lists(world: &World, alloc: Global, text: &mut String) -> Result<(), StoreFault> {
     let told = world.store.told();
     let waiting = world.attrs.waiting()?;
+    *text = format!(in alloc; "{text} {told:?} {waiting:?}")?;
+    Ok(())
+}
+
+/// Adds which of the first three variables are numeric.
+fn add_numeric(world: &World, alloc: Global, text: &mut String) -> Result<(), AllocError> {
     let x = world.attrs.is_numeric(VarId(0));
     let y = world.attrs.is_numeric(VarId(1));
     let z = world.attrs.is_numeric(VarId(2));
-    *text = format!(in alloc; "{text} {told:?} {waiting:?} {x:?} {y:?} {z:?}")?;
+    *text = format!(in alloc; "{text} {x} {y} {z}")?;
     Ok(())
 }
 
@@ -119,6 +125,7 @@ fn portrait(world: &mut World, language: &Language, query: TermId) -> Result<Str
     let mut text = String::new(alloc);
     add_state(world, language, query, &mut text)?;
     add_lists(world, alloc, &mut text)?;
+    add_numeric(world, alloc, &mut text)?;
     add_extents(&mut world.store, alloc, &mut text)?;
     Ok(text)
 }
