@@ -1,6 +1,7 @@
 //! The column by which an equation is solved: one that stands in as few rows as can be, so that few are written again.
 
 ghost use Rattle.std.specs.Prelude.{◌≡◌, ◌<◌, [], ◌∷◌, length, MatchBool, IfSome};
+ghost use Rattle.cq_dict.specs.Holders.{AreTouched};
 ghost use Rattle.cq_dict.specs.Roles.{AreOverColumns, IsRow, role_at};
 ghost use Rattle.cq_level.specs.Lightest.{stands, rows_with, IsLighter, IsLightest};
 
@@ -26,8 +27,8 @@ fn stands_in(dict: &Dict, q: usize, c: Col) -> bool
     entry_at(dict.row(q), c).is_some()
 }
 
-/// In how many rows the column stands.
-fn count_rows(dict: &Dict, c: Col) -> usize
+/// In how many rows the column stands, of all quantities.
+fn count_all(dict: &Dict, c: Col) -> usize
     requires { AreOverColumns dict.now.roles }
     ensures { result ≡ rows_with c dict.now.roles }
 {
@@ -38,6 +39,35 @@ fn count_rows(dict: &Dict, c: Col) -> usize
         }
     }
     rows
+}
+
+/// In how many rows the column stands, of which it may stand in these alone.
+fn count_touched(dict: &Dict, touched: &[usize], c: Col) -> usize
+    requires table { AreOverColumns dict.now.roles }
+    requires touched { AreTouched dict.now.roles c touched.now }
+    ensures { result ≡ rows_with c dict.now.roles }
+{
+    let mut rows = 0;
+    for row in touched {
+        let q = *row;
+        prove!(q < dict.count());
+        if stands_in(dict, q, c) {
+            rows += 1;
+        }
+    }
+    rows
+}
+
+/// In how many rows the column stands. Where there is no memory for a list of these, all quantities are looked at.
+fn count_rows(dict: &Dict, c: Col) -> usize
+    requires table { AreOverColumns dict.now.roles }
+    requires there { c < length dict.now.roles }
+    ensures { result ≡ rows_with c dict.now.roles }
+{
+    match dict.touched(c) {
+        Ok(touched) => count_touched(dict, &touched, c),
+        Err(_) => count_all(dict, c),
+    }
 }
 
 /// The candidate that was found before, unless the next one stands in fewer rows.

@@ -46,6 +46,7 @@ use Rattle.cq_linear.proofs.Concluded.{crossing_falls}
 use Rattle.cq_linear.proofs.Equations.{crossed_stored}
 use Rattle.cq_linear.proofs.Stays.{open_before, number_before}
 use Rattle.cq_linear.proofs.Stops.{has_member}
+use Rattle.cq_linear.proofs.Untouched.{state}
 use Rattle.cq_tableau.proofs.Storing.{stored_solvable}
 
 -- ---- solutions go on
@@ -99,19 +100,6 @@ module _ (told : List Constraint) (names : List Name) (c : Constraint) (n : ℕ)
       apart : (k : Constraint) (b : ℕ → ℚ) → (k.relation ≡ Gt) ⊎ (k.relation ≡ Ne) → HoldsAt b k → value_at b k.form ≡ 0ℚ → ⊥
       apart k b (inl r) h e = not_pos_zero (subst IsPositive e (subst (λ t. Meets t (value_at b k.form)) r h))
       apart k b (inr r) h e = subst (λ t. Meets t (value_at b k.form)) r h e
-
--- ---- what a quantity is after an exchange
-state : (roles : List Role) (z : ℕ) → z < length roles → IsOpen roles z ⊎ ((v : ℚ) × IsNumber roles z v)
-state roles z h = let a = at_exists roles z h in role a.0 a.1
-  where
-    row : (own : Row) → IsAt roles z (Basic own) → (live : List Entry) → own.live ≡ live → IsOpen roles z ⊎ ((v : ℚ) × IsNumber roles z v)
-    row own a [] e = inr (own.constant, number_row own a e refl)
-    row own a (m ∷ rest) e = inl (open_row own m rest a e)
-
-    role : (t : Role) → IsAt roles z t → IsOpen roles z ⊎ ((v : ℚ) × IsNumber roles z v)
-    role Live a = inl (open_column a)
-    role Dropped a = inr (0ℚ, dropped_column a refl)
-    role (Basic own) a = row own a own.live refl
 
 -- ---- the column takes the row's place
 module _ (told : List Constraint) (names : List Name) (c : Constraint) (roles : List Role) (flags : List Bool) (q column : ℕ) (y : Crosses told names c roles flags q column)

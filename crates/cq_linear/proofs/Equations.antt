@@ -40,7 +40,7 @@ use Rattle.cq_simplex.specs.Dictionary.{dictionary}
 use Rattle.cq_tableau.specs.declared.names.Name.{Name}
 use Rattle.cq_tableau.specs.declared.names.Name.TheVariants.{Variable, Member}
 use Rattle.cq_tableau.specs.Asking.{AsksForm}
-use Rattle.cq_tableau.specs.Fixing.{AreOpen, AreFixedNow}
+use Rattle.cq_tableau.specs.Fixing.{AreFixedNow}
 use Rattle.cq_tableau.specs.Forms.{row_of, form_at, tableau}
 use Rattle.cq_tableau.specs.Keeps.{Keeps}
 use Rattle.cq_tableau.specs.Looked.{IsApart}
@@ -55,7 +55,7 @@ use Rattle.cq_linear.specs.Equated.{IsRowBehind, Crosses, HasNoLiveEntry, IsOver
 use Rattle.cq_linear.specs.Faced.{AllApart}
 use Rattle.cq_linear.specs.StoreValue.{MayRefuse, Only}
 use Rattle.cq_linear.proofs.Moments.{speaks_of, behind_refused}
-use Rattle.cq_linear.proofs.Stays.{not_zero_something, place_of, newly_fixed, known_before}
+use Rattle.cq_linear.proofs.Stays.{AreCandidates, not_zero_something, place_of, newly_fixed, known_before}
 
 -- ---- an elimination of a row
 module _ (old new : List Role) (r c : ℕ) (row : IsRow old r) (live : is_live old c ≡ true) (x : IsEliminated old r c new) where
@@ -141,6 +141,12 @@ module _ (told : List Constraint) (names : List Name) (c : Constraint) (roles : 
 
   pub form_here : form_at (b.stored.forms ++ c.form ∷ []) q ≡ c.form
   form_here = ap (form_at (b.stored.forms ++ c.form ∷ [])) (b.last ∙ sym b.stored.keeps.describes.size) ∙ form_last b.stored.forms c.form
+
+  pub form_of_member : (R : Relation → Type 0) (z : ℕ) (m : IsMemberOf R told names z) → form_at (b.stored.forms ++ c.form ∷ []) z ≡ m.constraint.form
+  form_of_member R z m =
+      let w = b.stored.members z m.number m.named in
+      let n : z < length b.stored.forms = subst (λ y. z < y) (b.stored.size ∙ sym b.stored.keeps.describes.size) (slice_get_within names _ _ m.named) in
+      form_more b.stored.forms c.form z n ∙ sym w.form_is ∙ ap (λ (t : Constraint). t.form) (same_Some w.constraint m.constraint (sym w.told_at ∙ m.told_at))
 
   pub flag_before : (z : ℕ) → is_restricted flags z ≡ is_restricted b.before.restricted z
   flag_before z = ap (λ g. is_restricted g z) b.flags_are ∙ flag_more b.before.restricted z
@@ -344,12 +350,12 @@ asked_behind told names q s c new_names mid n a = record {
 
 -- ---- which variables it fixes, and which pairs are due
 module _ (told : List Constraint) (names : List Name) (c : Constraint) (roles : List Role) (flags : List Bool) (q : ℕ) (b : IsRowBehind told names c roles flags q) where
-  pub joined_behind : (open_ones : List VarId) → AreOpen names roles (length names) open_ones → (number : ℕ) (new_names : List Name) → new_names ≡ names ++ Member number ∷ []
-      → (new : Quantities) (fixed_ones : List VarId) → AreFixedNow new_names new open_ones fixed_ones → IsStored (told ++ c ∷ []) new_names new
+  pub joined_behind : (open_ones : List VarId) (number : ℕ) (new_names : List Name) → new_names ≡ names ++ Member number ∷ []
+      → (new : Quantities) → AreCandidates names roles new_names new open_ones → (fixed_ones : List VarId) → AreFixedNow new_names new open_ones fixed_ones → IsStored (told ++ c ∷ []) new_names new
       → JoinsStored told c fixed_ones new_names new
-  joined_behind open_ones a number new_names names_are new fixed_ones f stored = record {
+  joined_behind open_ones number new_names names_are new a fixed_ones f stored = record {
     stored = stored;
-    newly = newly_fixed told names b.before b.stored c roles flags b.keeps open_ones fixed_ones a new_names new f stored
+    newly = newly_fixed told names b.before b.stored c roles flags b.keeps open_ones fixed_ones new_names new a f stored
         (λ x h. known_before names number x (subst (λ l. IsKnown l x) names_are h));
   }
 

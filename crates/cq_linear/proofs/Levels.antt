@@ -110,12 +110,6 @@ module _ (told : List Constraint) (names : List Name) (c : Constraint) (roles : 
         subst (λ m. IsBetween (told ++ c ∷ []) (names ++ Member m ∷ []) (record { roles = last; restricted = flags })) (sym (num ∙ add-one (length told))) between
 
     -- ---- a member falls
-    form_of_member : (R : Relation → Type 0) (z : ℕ) (m : IsMemberOf R told names z) → form_at (b.stored.forms ++ c.form ∷ []) z ≡ m.constraint.form
-    form_of_member R z m =
-        let w = b.stored.members z m.number m.named in
-        let n : z < length b.stored.forms = subst (λ y. z < y) (b.stored.size ∙ sym b.stored.keeps.describes.size) (slice_get_within names _ _ m.named) in
-        form_more b.stored.forms c.form z n ∙ sym w.form_is ∙ ap (λ (t : Constraint). t.form) (same_Some w.constraint m.constraint (sym w.told_at ∙ m.told_at))
-
     falls_by : (R : Relation → Type 0) (z : ℕ) (m : IsMemberOf R told names z) → (m.constraint.relation ≡ Gt) ⊎ (m.constraint.relation ≡ Ne)
         → IsFlat (Within (tableau last flags (b.stored.forms ++ c.form ∷ []))) (form_at (b.stored.forms ++ c.form ∷ []) z) → (number : ℕ)
         → FallsAt told (told ++ c ∷ []) (names ++ Member number ∷ []) z
@@ -125,7 +119,7 @@ module _ (told : List Constraint) (names : List Name) (c : Constraint) (roles : 
       constraint = m.constraint;
       told_at = m.told_at;
       relation_is = r;
-      flat = λ v w. ap (value_at v) (sym (form_of_member R z m)) ∙ flat v (speaks_last.sound.inside v w);
+      flat = λ v w. ap (value_at v) (sym (form_of_member told names c roles flags q b R z m)) ∙ flat v (speaks_last.sound.inside v w);
     }
 
     number_zero : (z : ℕ) → IsNumber last z 0ℚ → IsFlat (Within (tableau last flags (b.stored.forms ++ c.form ∷ []))) (form_at (b.stored.forms ++ c.form ∷ []) z)

@@ -11,6 +11,7 @@ pub mod Stops
 pub mod Refusals
 pub mod Falls
 pub mod Equations
+pub mod Untouched
 pub mod Levels
 pub mod Approach
 pub mod Against

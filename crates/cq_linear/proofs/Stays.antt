@@ -38,7 +38,8 @@ use Rattle.cq_tableau.specs.Values.{IsOpen, IsNumber, open_row, open_column, num
 use Rattle.spec_tableau.specs.Fixing.{NewlyFixed}
 use Rattle.cq_frac.specs.declared.VarId.{VarId}
 use Rattle.cq_tableau.specs.Newly.{AreNewlyFixed}
-use Rattle.cq_tableau.specs.Fixing.{AreOpen, AreFixedNow}
+use Rattle.spec_echelon.specs.Echelon.{AreDistinct}
+use Rattle.cq_tableau.specs.Fixing.{IsOpenHere, AreOpen, HasNoValue, AreFixedNow}
 use Rattle.cq_tableau.specs.Looked.{StandsAt, IsStrict, IsApart}
 use Rattle.cq_linear.specs.Faced.{HoldsAtZero, AllHold, IsNotZero, IsFace, IsOnFace}
 use Rattle.cq_tableau.specs.Raised.{IsBest}
@@ -236,12 +237,25 @@ module _ (forms : List Linear) (l : List Constraint) (roles : List Role) (flags 
       subst (λ w. Fixed l x w) (sym i)
       (subst (λ t. Fixed l x (row_of n t).constant) r (fixed (tableau roles flags forms) l k.invariant x variable_there (ap (λ t. (row_of n t).live) r)))
 
+-- open variables, among which are all that may have got a value
+pub record AreCandidates (names : List Name) (old : List Role) (new_names : List Name) (new : Quantities) (xs : List VarId) : Type 0 where
+  pub once : AreDistinct (numbers_of xs)
+  pub each : (x : ℕ) → Has x (numbers_of xs) → (n : ℕ) × (n < length names) × IsOpenHere names old n (record { 0 = x })
+  pub all : (n : ℕ) (x : VarId) → slice_get names n ≡ Some (Variable x) → Has x.0 (numbers_of xs) ⊎ (((v : ℚ) × IsNumber old n v) ⊎ HasNoValue new_names new x.0)
+
+pub all_open : (names : List Name) (old : List Role) (new_names : List Name) (new : Quantities) (xs : List VarId) → AreOpen names old (length names) xs → AreCandidates names old new_names new xs
+all_open names old new_names new xs a = record {
+  once = a.once;
+  each = a.each;
+  all = λ n x e. elim (a.all n x (slice_get_within names n _ e) e) [ inl h ↦ inl h | inr h ↦ inr (inl h) ];
+}
+
 -- those that were open and have a value now are just the newly fixed ones
 pub newly_fixed : (told : List Constraint) (names : List Name) (q : Quantities) (s : IsStored told names q) (c : Constraint) (old : List Role) (flags : List Bool)
-    → Keeps (s.forms ++ c.form ∷ []) told old flags → (open_ones fixed_ones : List VarId) → AreOpen names old (length names) open_ones → (new_names : List Name) (new : Quantities)
+    → Keeps (s.forms ++ c.form ∷ []) told old flags → (open_ones fixed_ones : List VarId) (new_names : List Name) (new : Quantities) → AreCandidates names old new_names new open_ones
     → AreFixedNow new_names new open_ones fixed_ones → IsStored (told ++ c ∷ []) new_names new
     → ((x : ℕ) → IsKnown new_names x → IsKnown names x) → AreNewlyFixed told (told ++ c ∷ []) (numbers_of fixed_ones)
-newly_fixed told names q s c old flags k open_ones fixed_ones a new_names new b after known = record {
+newly_fixed told names q s c old flags k open_ones fixed_ones new_names new a b after known = record {
   once = b.once a.once;
   each = λ x. (gained x, found x);
 }
@@ -272,9 +286,10 @@ newly_fixed told names q s c old flags k open_ones fixed_ones a new_names new b 
     ]
       where
         at_quantity : IsKnown names x → Has x (numbers_of fixed_ones)
-        at_quantity y = elim (a.all y.0 (record { 0 = x }) (slice_get_within names y.0 _ y.1) y.1) [
+        at_quantity y = elim (a.all y.0 (record { 0 = x }) y.1) [
           | inl g ↦ elim (b.all x g) [ inl h ↦ h | inr n ↦ absurd (n (told ++ c ∷ []) after f.value f.fixed) ]
-          | inr g ↦ absurd (f.not_before g.0
+          | inr (inr n) ↦ absurd (n (told ++ c ∷ []) after f.value f.fixed)
+          | inr (inl g) ↦ absurd (f.not_before g.0
               (number_before (s.forms ++ c.form ∷ []) told old flags k y.0 x (below_roles y.0 (slice_get_within names y.0 _ y.1)) (form_of_variable y.0 x y.1) g.0 g.1))
         ]
 

@@ -1,5 +1,6 @@
 -- The face where the form of a new inequality is zero.
 use Rattle.std.specs.Prelude.{◌≡◌, ◌⊎◌, ℕ, ◌<◌, List, [], ◌∷◌, ◌++◌, Bool, true, false, length, slice_set, Option, None, Some, MatchBool}
+use Rattle.std.specs.List.{Contains}
 use Rattle.spec_rational.specs.Rational.{ℚ, 0ℚ, IsPositive}
 use Rattle.spec_linear.specs.Form.{Linear}
 use Rattle.spec_linear.specs.Solution.{Constraint}
@@ -57,6 +58,10 @@ IsZeroNow roles n b = MatchBool b (IsNumber roles n 0ℚ) (IsNotZero roles n)
 -- those of disequations are not zero everywhere
 abbrev pub AllApart : List Constraint → List Name → List Role → Type 0
 AllApart told names roles = (q : ℕ) → q < length roles → IsMemberOf IsApart told names q → IsNotZero roles q
+
+-- those among these quantities are not
+abbrev pub AreApart : List Constraint → List Name → List Role → List ℕ → Type 0
+AreApart told names roles quantities = (q : ℕ) → Contains quantities q → IsMemberOf IsApart told names q → IsNotZero roles q
 
 -- one of them is zero everywhere
 abbrev pub IsFallenApart : List Constraint → List Name → List Role → ℕ → Type 0

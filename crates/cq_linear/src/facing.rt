@@ -1,12 +1,13 @@
 //! The face where the form of a new inequality is zero, which is its greatest value there.
 
 ghost use Rattle.std.specs.Prelude.{◌≡◌, ◌≤◌, ◌<◌, ℕ, length, IfOk, OnOk, MatchOption, MatchBool};
+ghost use Rattle.std.specs.List.{Contains};
 ghost use Rattle.spec_linear.specs.declared.Relation.TheVariants.{Ne};
 ghost use Rattle.cq_frac.specs.declared.Pair.{Pair};
 ghost use Rattle.cq_linear.specs.declared.store.StoreFault.TheVariants.{Overflow, Pivots};
 ghost use Rattle.cq_tableau.specs.Looked.{IsApart};
 ghost use Rattle.cq_tableau.specs.Stored.{IsMemberOf};
-ghost use Rattle.cq_linear.specs.Faced.{KeepsSome, IsFace, HoldsAtZero, AllApart, IsFallenApart, IsZeroNow, IsFaced, RefusesFace, SpendsFace};
+ghost use Rattle.cq_linear.specs.Faced.{KeepsSome, IsFace, HoldsAtZero, AllApart, AreApart, IsFallenApart, IsZeroNow, IsFaced, RefusesFace, SpendsFace};
 
 use crate::store::StoreFault;
 use cq_dict::dict::Dict;
@@ -72,6 +73,26 @@ pub fn fallen_disequation(told: &[Constraint], names: &Stack<Name>, dict: &Dict)
     ensures { MatchOption result (AllApart told.now names.now.now dict.now.roles) (IsFallenApart told.now names.now.now dict.now.roles) }
 {
     for q in 0..dict.count() {
+        if is_of_disequation(told, names, q) && is_zero_now(dict, q) {
+            return Some(q);
+        }
+    }
+    None
+}
+
+/// The same among these quantities alone.
+pub fn fallen_among(
+    told: &[Constraint],
+    names: &Stack<Name>,
+    dict: &Dict,
+    quantities: &[usize],
+) -> Option<usize>
+    requires { (q : ℕ) → Contains quantities.now q → q < length dict.now.roles }
+    ensures { MatchOption result (AreApart told.now names.now.now dict.now.roles quantities.now) (IsFallenApart told.now names.now.now dict.now.roles) }
+{
+    for n in quantities {
+        let q = *n;
+        prove!(q < dict.count());
         if is_of_disequation(told, names, q) && is_zero_now(dict, q) {
             return Some(q);
         }

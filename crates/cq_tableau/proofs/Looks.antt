@@ -33,6 +33,9 @@ use Rattle.cq_dict.specs.declared.table.Role.{Role}
 use Rattle.cq_dict.specs.declared.table.Role.TheVariants.{Live, Dropped, Basic}
 use Rattle.cq_dict.specs.Roles.{AreOverColumns, IsAt, IsRow, IsExchanged, is_live, is_dropped, is_restricted, role_at, constant_at, factor_at}
 use Rattle.cq_dict.specs.Dict.{SameMeaning}
+use Rattle.cq_dict.specs.declared.holders.Cell.{Cell}
+use Rattle.cq_dict.specs.Holders.{IsOn, AreHeld}
+use Rattle.cq_simplex.proofs.Entries.{EntryOf, entry_or_lacks}
 use Rattle.cq_dict.proofs.Roles.{at_below, at_exists, at_one, role_is, role_live, constant_is, factor_is, dropped_at, live_at}
 use Rattle.cq_simplex.specs.Dictionary.{dictionary}
 use Rattle.cq_climb.specs.Climbs.{IsCarried}
@@ -403,16 +406,35 @@ module _ (told : List Constraint) (names : List Name) (old mid new : List Role) 
 pub none_below : (told : List Constraint) (names : List Name) (old : List Role) (flags : List Bool) → StandBelow told names old old flags 0
 none_below told names old flags forms l s z h = absurd (omega (arith, h))
 
--- ---- the rows below a number leave room
+-- ---- the rows that are not on the rest of a list leave room
 module _ (roles : List Role) (flags : List Bool) (c : ℕ) where
-  pub one_leaves : (q : ℕ) → ((z : ℕ) → z < q → LeavesRoom roles flags c z) → LeavesRoom roles flags c q → (z : ℕ) → z < q + 1 → LeavesRoom roles flags c z
-  one_leaves q h k z l = elim (last z l) [ inl g ↦ h z g | inr e ↦ subst (LeavesRoom roles flags c) (sym e) k ]
-    where
-      last : (z : ℕ) → z < q + 1 → (z < q) ⊎ (z ≡ q)
-      last z l = grind arith
+  pub past_leaves : (q : ℕ) → length roles ≤ q → LeavesRoom roles flags c q
+  past_leaves q l r f = let b = at_below roles q (Basic r.0) r.1 in absurd (omega (arith, b, l))
 
-  pub all_leave : ((z : ℕ) → z < length roles → LeavesRoom roles flags c z) → (z : ℕ) → LeavesRoom roles flags c z
-  all_leave h z r f = h z (at_below roles z (Basic r.0) r.1) r f
+  abbrev pub LeavesBut : (ℕ → Type 0) → ℕ → Type 0
+  LeavesBut Rest q = IsRow roles q → is_restricted flags q ≡ true → (IsPositive (constant_at roles q) ⊎ IsNotNegative (factor_at roles q c)) ⊎ Rest q
+
+  pub but_listed : (heads : List ℕ) (cells : List Cell) → AreHeld roles heads cells → (h : ℕ) → slice_get heads c ≡ Some h → (z : ℕ) → LeavesBut (IsOn cells h) z
+  but_listed heads cells held h at z r f = of (entry_or_lacks c r.0.live)
+    where
+      of : EntryOf c r.0.live ⊎ rows.Lacks c r.0.live → (IsPositive (constant_at roles z) ⊎ IsNotNegative (factor_at roles z c)) ⊎ IsOn cells h z
+      of (inl e) =
+          let l = held.all z r.0 c r.1 (e.entry, inl e.in_list, e.of) in
+          inr (subst (λ y. IsOn cells y z) (same_Some l.0 h (sym l.1 ∙ at)) l.2)
+      of (inr n) = inl (lacking_leaves roles flags c z r.0 r.1 n r f)
+
+  pub but_less : (Rest Less : ℕ → Type 0) (i : ℕ) → ((q : ℕ) → Rest q → (q ≡ i) ⊎ Less q) → LeavesRoom roles flags c i → (z : ℕ) → LeavesBut Rest z → LeavesBut Less z
+  but_less Rest Less i s l z h r f = of (h r f)
+    where
+      one : (z ≡ i) ⊎ Less z → (IsPositive (constant_at roles z) ⊎ IsNotNegative (factor_at roles z c)) ⊎ Less z
+      one (inl e) = inl (subst (LeavesRoom roles flags c) (sym e) l r f)
+      one (inr k) = inr k
+      of : (IsPositive (constant_at roles z) ⊎ IsNotNegative (factor_at roles z c)) ⊎ Rest z → (IsPositive (constant_at roles z) ⊎ IsNotNegative (factor_at roles z c)) ⊎ Less z
+      of (inl k) = inl k
+      of (inr k) = one (s z k)
+
+  pub but_none : (Rest : ℕ → Type 0) → ((q : ℕ) → Rest q → ⊥) → (z : ℕ) → LeavesBut Rest z → LeavesRoom roles flags c z
+  but_none Rest n z h r f = elim (h r f) [ inl k ↦ k | inr k ↦ absurd (n z k) ]
 
 -- ---- the member of a name
 number_named : (o : Option Name) (i : ℕ) → number_of o ≡ i → (i ≡ 0 → ⊥) → o ≡ Some (Member i)

@@ -1,6 +1,11 @@
 -- The open variables, one by one, and those that have got a value.
 use Rattle.std.proofs.Common.{◌≡◌, ℕ, ◌+◌, ◌<◌, zero, suc, List, [], ◌∷◌, ◌++◌, length, take, get_or, Option, None, Some, ◌⊎◌, inl, inr, arith, refl, ap, sym, subst, ◌∙◌}
 use Rattle.std.specs.Prelude.{slice_get, MatchOption}
+use Rattle.std.specs.List.{Contains}
+use Rattle.std.specs.List.Sorted.{IsStrictlyIncreasing}
+use Rattle.std.proofs.lemmas.List.{get_or-take, length-take-le}
+use Rattle.std.proofs.lemmas.List.Elements.{Contains-append_left, Contains-push, Contains-push_cases}
+use Rattle.std.proofs.lemmas.List.Kept.{AllPairs-from_increasing}
 use Rattle.spec_lists.proofs.Places.{take-next}
 use Rattle.spec_rational.specs.Rational.{ℚ}
 use Rattle.spec_linear.specs.Solution.{Constraint, Has, Fixed}
@@ -12,7 +17,7 @@ use Rattle.cq_tableau.specs.declared.names.Name.{Name}
 use Rattle.cq_tableau.specs.declared.names.Name.TheVariants.{Variable}
 use Rattle.cq_tableau.specs.Stored.{IsStored}
 use Rattle.cq_tableau.specs.Values.{IsNumber}
-use Rattle.cq_tableau.specs.Fixing.{AreOnce, HasNumber, IsOpenHere, AreOpen, HasValue, HasNoValue, AreFixedNow}
+use Rattle.cq_tableau.specs.Fixing.{AreOnce, HasNumber, IsOpenHere, AreOpen, AreOpenAmong, HasValue, HasNoValue, AreFixedNow}
 use Rattle.cq_store.specs.Told.{numbers_of}
 use Rattle.cq_tableau.proofs.Drops.{has_end, has_left, has_last}
 
@@ -68,6 +73,60 @@ module _ (names : List Name) (roles : List Role) (n : ℕ) (xs : List VarId) (a 
       once = subst AreDistinct (sym (numbers-end xs x)) (distinct-end (numbers_of xs) x.0 a.once new);
       each = λ y h. one_of y (has_end (numbers_of xs) x.0 y (subst (Has y) (numbers-end xs x) h));
       all = all_of;
+    }
+
+-- ---- open variables among some quantities
+-- a number of an ascending list stands once in it
+pub fresh : (s : List ℕ) (i n : ℕ) → IsStrictlyIncreasing s → i < length s → n ≡ get_or s i n → Contains (take i s) n → ⊥
+fresh s i n r l e h =
+    let b : h.0 < i = let k = h.1 in let w = length-take-le i s (omega (arith, l)) in omega (arith, k, w) in
+    let lt : get_or s h.0 n < get_or s i n = AllPairs-from_increasing s r h.0 i n b l in
+    let f : get_or s h.0 n ≡ n = sym (get_or-take i s h.0 n b) ∙ h.2 in
+    omega (arith, lt, f, e)
+
+module _ (names : List Name) (roles : List Role) (s : List ℕ) (i : ℕ) (xs : List VarId) (a : AreOpenAmong names roles (take i s) xs) (n : ℕ) (l : i < length s) (e : n ≡ get_or s i n) where
+  one_more : (z : ℕ) → Contains (take (i + 1) s) z → Contains (take i s) z ⊎ (n ≡ z)
+  one_more z h = Contains-push_cases (take i s) n z (subst (λ t. Contains t z) (take-next s i n l e) h)
+
+  still_in : (z : ℕ) → Contains (take i s) z → Contains (take (i + 1) s) z
+  still_in z h = subst (λ t. Contains t z) (sym (take-next s i n l e)) (Contains-append_left (take i s) (n ∷ []) z h)
+
+  itself_in : Contains (take (i + 1) s) n
+  itself_in = subst (λ t. Contains t n) (sym (take-next s i n l e)) (Contains-push (take i s) n)
+
+  pub not_among : HasNumber names roles n → AreOpenAmong names roles (take (i + 1) s) xs
+  not_among h = record {
+    once = a.once;
+    each = λ x k. let r = a.each x k in (r.0, still_in r.0 r.1, r.2);
+    all = λ z x c w. elim (one_more z c) [
+      | inl g ↦ a.all z x g w
+      | inr g ↦ inr (subst (λ y. (v : ℚ) × IsNumber roles y v) g (h x (subst (λ y. slice_get names y ≡ Some (Variable x)) (sym g) w)))
+    ];
+  }
+
+  module _ (once : AreOnce names) (ascending : IsStrictlyIncreasing s) (x : VarId) (o : IsOpenHere names roles n x) where
+    not_yet : Has x.0 (numbers_of xs) → ⊥
+    not_yet h = let r = a.each x.0 h in fresh s i n ascending l e (subst (Contains (take i s)) (once r.0 n (Variable x) r.2.0 o.0) r.1)
+
+    one_among_of : (y : ℕ) → Has y (numbers_of xs) ⊎ (y ≡ x.0) → (m : ℕ) × Contains (take (i + 1) s) m × IsOpenHere names roles m (record { 0 = y })
+    one_among_of y (inl k) = let r = a.each y k in (r.0, still_in r.0 r.1, r.2)
+    one_among_of y (inr f) = (n, itself_in, subst (λ z. IsOpenHere names roles n (record { 0 = z })) (sym f) o)
+
+    all_among : (z : ℕ) (y : VarId) → Contains (take (i + 1) s) z → slice_get names z ≡ Some (Variable y) → Has y.0 (numbers_of (xs ++ x ∷ [])) ⊎ ((v : ℚ) × IsNumber roles z v)
+    all_among z y c w = elim (one_more z c) [
+      | inl g ↦ elim (a.all z y g w) [ inl k ↦ inl (subst (Has y.0) (sym (numbers-end xs x)) (has_left (numbers_of xs) x.0 y.0 k)) | inr k ↦ inr k ]
+      | inr g ↦ inl (subst (Has y.0) (sym (numbers-end xs x))
+          (subst (λ j. Has j (numbers_of xs ++ x.0 ∷ [])) (same_one y (sym o.0 ∙ subst (λ j. slice_get names j ≡ Some (Variable y)) (sym g) w)) (has_last (numbers_of xs) x.0)))
+    ]
+      where
+        same_one : (y : VarId) → Some (Variable x) ≡ Some (Variable y) → x.0 ≡ y.0
+        same_one y f = cc
+
+    pub one_among : AreOpenAmong names roles (take (i + 1) s) (xs ++ x ∷ [])
+    one_among = record {
+      once = subst AreDistinct (sym (numbers-end xs x)) (distinct-end (numbers_of xs) x.0 a.once not_yet);
+      each = λ y h. one_among_of y (has_end (numbers_of xs) x.0 y (subst (Has y) (numbers-end xs x) h));
+      all = all_among;
     }
 
 -- ---- those that have a value

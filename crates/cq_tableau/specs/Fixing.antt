@@ -1,5 +1,6 @@
 -- The variables whose value is open, and those of them that have a value afterwards.
 use Rattle.std.specs.Prelude.{◌≡◌, ◌⊎◌, ℕ, ◌<◌, List, Some, slice_get}
+use Rattle.std.specs.List.{Contains}
 use Rattle.spec_rational.specs.Rational.{ℚ}
 use Rattle.spec_linear.specs.Solution.{Constraint, Has, Fixed}
 use Rattle.spec_echelon.specs.Echelon.{AreDistinct}
@@ -29,6 +30,12 @@ pub record AreOpen (names : List Name) (roles : List Role) (count : ℕ) (xs : L
   pub once : AreDistinct (numbers_of xs)
   pub each : (x : ℕ) → Has x (numbers_of xs) → (n : ℕ) × (n < count) × IsOpenHere names roles n (record { 0 = x })
   pub all : (n : ℕ) (x : VarId) → n < count → slice_get names n ≡ Some (Variable x) → Has x.0 (numbers_of xs) ⊎ ((v : ℚ) × IsNumber roles n v)
+
+-- the open variables among those of the quantities
+pub record AreOpenAmong (names : List Name) (roles : List Role) (quantities : List ℕ) (xs : List VarId) : Type 0 where
+  pub once : AreDistinct (numbers_of xs)
+  pub each : (x : ℕ) → Has x (numbers_of xs) → (n : ℕ) × Contains quantities n × IsOpenHere names roles n (record { 0 = x })
+  pub all : (n : ℕ) (x : VarId) → Contains quantities n → slice_get names n ≡ Some (Variable x) → Has x.0 (numbers_of xs) ⊎ ((v : ℚ) × IsNumber roles n v)
 
 -- the told list gives the variable a value, whatever list is stored
 abbrev pub HasValue : List Name → Quantities → ℕ → Type 0

@@ -1,9 +1,10 @@
 //! The variables that a constraint gives a value: those that were open before and have a value after it.
 
 ghost use Rattle.std.specs.Prelude.{◌≡◌, ◌<◌, ◌≤◌, ℕ, length, Some, slice_get, IfOk, MatchOption};
+ghost use Rattle.std.specs.List.Sorted.{IsStrictlyIncreasing};
 ghost use Rattle.cq_dict.specs.DictValue.{quantities_of};
 ghost use Rattle.cq_tableau.specs.declared.names.Name.TheVariants.{Variable};
-ghost use Rattle.cq_tableau.specs.Fixing.{AreOnce, HasNumber, IsOpenHere, AreOpen, AreFixedNow};
+ghost use Rattle.cq_tableau.specs.Fixing.{AreOnce, HasNumber, IsOpenHere, AreOpen, AreOpenAmong, AreFixedNow};
 ghost use Rattle.cq_tableau.specs.Numbered.{AreNumbered};
 
 use crate::names::Name;
@@ -14,12 +15,14 @@ use cq_trail::Stack;
 use indexmap::IndexMap;
 use std::alloc::{AllocError, Global};
 
-/// The variable of the quantity, if its value is open.
+/// The variable of the quantity, if it has one and its value is open.
 fn open_variable(names: &Stack<Name>, dict: &Dict, n: usize) -> Option<VarId>
-    requires there { n < length names.now.now }
-    requires size { length names.now.now ≤ length dict.now.roles }
+    requires { length names.now.now ≤ length dict.now.roles }
     ensures { MatchOption result (HasNumber names.now.now dict.now.roles n) (λ x. IsOpenHere names.now.now dict.now.roles n x) }
 {
+    if n >= names.len() {
+        return None;
+    }
     match names.get(n) {
         Name::Variable(x) => match fixed_number(dict, n) {
             Some(_) => None,
@@ -42,6 +45,27 @@ pub fn open_variables(
     let mut found = Vec::new(alloc);
     for n in 0..names.len() {
         if let Some(x) = open_variable(names, dict, n) {
+            found.push(x)?;
+        }
+    }
+    Ok(found)
+}
+
+/// The variables whose value is open among those of the quantities, in their order.
+pub fn open_among(
+    alloc: Global,
+    names: &Stack<Name>,
+    dict: &Dict,
+    quantities: &[usize],
+) -> Result<Vec<VarId>, AllocError>
+    requires size { length names.now.now ≤ length dict.now.roles }
+    requires once { AreOnce names.now.now }
+    requires ascending { IsStrictlyIncreasing quantities.now }
+    ensures { IfOk result (λ xs. AreOpenAmong names.now.now dict.now.roles quantities.now xs.items) }
+{
+    let mut found = Vec::new(alloc);
+    for n in quantities {
+        if let Some(x) = open_variable(names, dict, *n) {
             found.push(x)?;
         }
     }

@@ -31,10 +31,12 @@ pub enum Seen {
 
 /// Whether the row has no constant above zero and falls along the column.
 fn blocks(dict: &Dict, q: usize, c: Col) -> bool
-    requires table { AreOverColumns dict.now.roles }
-    requires there { q < length dict.now.roles }
+    requires { AreOverColumns dict.now.roles }
     ensures { MatchBool result (Blocks dict.now.roles dict.now.restricted c q) (LeavesRoom dict.now.roles dict.now.restricted c q) }
 {
+    if q >= dict.count() {
+        return false;
+    }
     if !dict.is_row(q) {
         return false;
     }
@@ -50,15 +52,20 @@ fn blocks(dict: &Dict, q: usize, c: Col) -> bool
     }
 }
 
-/// A restricted row that holds the column to zero.
+/// A restricted row that holds the column to zero. Only the rows on the column's list are looked at.
 fn blocking_row(dict: &Dict, c: Col) -> Option<usize>
-    requires { AreOverColumns dict.now.roles }
+    requires table { AreOverColumns dict.now.roles }
+    requires there { c < length dict.now.roles }
     ensures { MatchOption result ((q : ℕ) → LeavesRoom dict.now.roles dict.now.restricted c q) (λ q. Blocks dict.now.roles dict.now.restricted c q) }
 {
-    for q in 0..dict.count() {
-        if blocks(dict, q, c) {
-            return Some(q);
+    let lists = dict.lists();
+    let mut list = lists.heads[c];
+    while list > 0 {
+        let cell = lists.cells[list - 1];
+        if blocks(dict, cell.row, c) {
+            return Some(cell.row);
         }
+        list = cell.older;
     }
     None
 }

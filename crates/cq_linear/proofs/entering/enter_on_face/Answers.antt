@@ -12,7 +12,7 @@ use Rattle.std.proofs.Common.{Err, add-one}
 use Rattle.cq_linear.proofs.Passed.{passed, store_spent, search_refused, spent}
 use Rattle.cq_linear.proofs.Stops.{face_refused, face_spent}
 use Rattle.cq_tableau.proofs.Storing.{numbered_member}
-use Rattle.cq_linear.proofs.Stays.{face_stored, face_between, newly_fixed, known_before}
+use Rattle.cq_linear.proofs.Stays.{face_stored, face_between, all_open, newly_fixed, known_before}
 use Rattle.cq_linear.proofs.entering.enter_on_face.Goals as goal
 
 pub fixed_now-requires-clause-numbered : goal.fixed_now-requires-clause-numbered
@@ -48,8 +48,8 @@ returns-clause-joined c =
     c.in_ok-fallen.ensures.holds all number (λ i. number) c.push.new.self.now names_are in
     record {
       stored = stored;
-      newly = newly_fixed told names f.before f.stored c.args.c.now old.roles old.restricted f.keeps c.in_ok-before.before.items c.in_ok-fixed.fixed.items c.in_ok-before.ensures
-          c.push.new.self.now new (subst (λ (s : List VarId). AreFixedNow c.push.new.self.now new s c.in_ok-fixed.fixed.items) c.deref.ensures.value c.in_ok-fixed.ensures)
+      newly = newly_fixed told names f.before f.stored c.args.c.now old.roles old.restricted f.keeps c.in_ok-before.before.items c.in_ok-fixed.fixed.items c.push.new.self.now new
+          (all_open names old.roles c.push.new.self.now new c.in_ok-before.before.items c.in_ok-before.ensures) (subst (λ (s : List VarId). AreFixedNow c.push.new.self.now new s c.in_ok-fixed.fixed.items) c.deref.ensures.value c.in_ok-fixed.ensures)
           stored (λ x h. known_before names number x (subst (λ l. IsKnown l x) names_are h));
     }
 

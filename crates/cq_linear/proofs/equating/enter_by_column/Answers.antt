@@ -11,15 +11,27 @@ use Rattle.cq_linear.proofs.Equations.{roles_size, crossing_refused}
 use Rattle.cq_linear.proofs.Passed.{refused, never_spent}
 use Rattle.cq_linear.proofs.equating.enter_by_column.Goals as goal
 
-pub open_variables-requires-clause-size : goal.open_variables-requires-clause-size
-open_variables-requires-clause-size c =
+pub touched-requires : goal.touched-requires
+touched-requires c = λ t. held_below c.args.dict.now.roles c.requires.crosses.entry.own c.args.column (t.rows c.args.q c.requires.crosses.entry.own c.requires.crosses.entry.is_row)
+    (record { quantity = c.args.column; factor = c.requires.crosses.entry.factor }, inl c.requires.crosses.entry.in_row, refl)
+
+pub open_among-requires-clause-size : goal.open_among-requires-clause-size
+open_among-requires-clause-size c =
     let b = c.requires.crosses.behind in
     let more = roles_size c.args.told.now c.args.names.now.now c.args.c.now c.args.dict.now.roles c.args.dict.now.restricted c.args.q b in
     let same = b.stored.size in
     omega arith
 
-pub open_variables-requires-clause-once : goal.open_variables-requires-clause-once
-open_variables-requires-clause-once c = c.requires.crosses.behind.stored.once
+pub open_among-requires-clause-once : goal.open_among-requires-clause-once
+open_among-requires-clause-once c = c.requires.crosses.behind.stored.once
+
+pub open_among-requires-clause-ascending : goal.open_among-requires-clause-ascending
+open_among-requires-clause-ascending c = subst IsStrictlyIncreasing (sym c.deref.ensures.value) c.in_ok-touched.ensures.ascending
+
+pub fallen_among-requires : goal.fallen_among-requires
+fallen_among-requires c = λ z h.
+    let l = c.in_ok-touched.ensures.within z (subst (λ s. Contains s z) c.deref-2.ensures.value h) in
+    subst (λ n. z < n) (sym c.in_ok-eliminate.ensures.kinds.size) l
 
 pub eliminate-requires : goal.eliminate-requires
 eliminate-requires c = c.requires.crosses.entry
@@ -40,7 +52,9 @@ conclude-requires-clause-falls c =
     let old = c.args.dict.now in
     let x = c.in_ok-eliminate.ensures in
     crossing_falls told c.args.names.now.now c.args.c.now old.roles old.restricted c.args.q c.args.column c.requires.crosses c.requires.equation c.eliminate.new.self.roles
-    x.kinds x.same x.table (length told + 1) refl c.fallen_disequation-fallen.result c.fallen_disequation-fallen.ensures
+    x.kinds x.same x.table (length told + 1) refl c.fallen_among-fallen.result
+    (found_apart told c.args.names.now.now c.args.c.now old.roles old.restricted c.args.q c.args.column c.requires.crosses c.requires.equation c.eliminate.new.self.roles
+    x.kinds x.same x.table (length told + 1) refl c.in_ok-touched.touched.items c.in_ok-touched.ensures c.fallen_among-fallen.result (found_in c))
 
 pub returns-clause-joined : goal.returns-clause-joined
 returns-clause-joined c =
@@ -49,13 +63,14 @@ returns-clause-joined c =
     let old = c.args.dict.now in
     let new = c.eliminate.new.self.roles in
     let x = c.in_ok-eliminate.ensures in
-    let fallen = c.fallen_disequation-fallen.result in
+    let fallen = c.fallen_among-fallen.result in
     let new_names = c.conclude.new.names.now in
     let last = quantities_of c.conclude.new.dict in
     joined_by c.conclude.result (IsConcluded told names (record { roles = new; restricted = old.restricted }) c.in_ok-before.before.items fallen new_names last)
     (λ fixed. JoinsStored told c.args.c.now fixed new_names last)
     (crossing_joins told names c.args.c.now old.roles old.restricted c.args.q c.args.column c.requires.crosses c.requires.equation new x.kinds x.same x.table (length told + 1) refl
-    c.in_ok-before.before.items c.in_ok-before.ensures fallen c.fallen_disequation-fallen.ensures new_names last)
+    c.in_ok-touched.touched.items c.in_ok-touched.ensures c.in_ok-before.before.items
+    (subst (λ s. AreOpenAmong names old.roles s c.in_ok-before.before.items) c.deref.ensures.value c.in_ok-before.ensures) fallen (found_in c) new_names last)
     (subst (λ (g : List Bool). IfOk c.conclude.result (λ e. IfJoined e (IsConcluded told names (record { roles = new; restricted = g }) c.in_ok-before.before.items fallen new_names last))) x.flags
     (subst (λ (s : List VarId). IfOk c.conclude.result (λ e. IfJoined e (IsConcluded told names (quantities_of c.eliminate.new.self) s fallen new_names last))) c.deref.ensures.value
     c.conclude.ensures.joined))

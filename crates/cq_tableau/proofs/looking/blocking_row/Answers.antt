@@ -1,12 +1,8 @@
-use Rattle.std.proofs.Common.{arith}
-use Rattle.cq_tableau.proofs.Looks.{one_leaves, all_leave}
+use Rattle.std.proofs.Common.{◌≡◌, ◌-◌, ℕ, Some, arith, subst, ◌⊎◌}
+use Rattle.std.specs.Prelude.{slice_get, slice_index_or}
+use Rattle.std.proofs.lemmas.Option.{slice_get-get_or}
+use Rattle.cq_dict.specs.declared.holders.Cell.{Cell}
+use Rattle.cq_dict.specs.Holders.{IsOn}
+use Rattle.cq_dict.proofs.Lists.{on_rest, none_on}
+use Rattle.cq_tableau.proofs.Looks.{but_listed, but_less, but_none}
 use Rattle.cq_tableau.proofs.looking.blocking_row.Goals as goal
-
-pub loop-q-preserved : goal.loop-q-preserved
-loop-q-preserved c =
-    one_leaves c.args.dict.now.roles c.args.dict.now.restricted c.args.c c.loop-q.q c.loop-q.invariant c.if-blocks.ensures
-
-pub returns : goal.returns
-returns c =
-    all_leave c.args.dict.now.roles c.args.dict.now.restricted c.args.c
-    (λ z h. c.loop-q.invariant z (omega (arith, h, c.loop-q-test.false, c.loop-q.auto.q-end, c.count-q-end.ensures.value)))

@@ -1,8 +1,8 @@
 use Rattle.std.proofs.Common.{◌≡◌, ◌<◌, ◌≤◌, length, take, take_all, arith, rules, ap, ◌∙◌}
 use Rattle.cq_level.specs.Lightest.{rows_with}
 use Rattle.cq_level.proofs.Lights.{rows_next}
-use Rattle.cq_level.proofs.choosing.count_rows.Goals as goal
-use Rattle.cq_level.proofs.choosing.count_rows.Goals.{then-stands_in, else-stands_in}
+use Rattle.cq_level.proofs.choosing.count_all.Goals as goal
+use Rattle.cq_level.proofs.choosing.count_all.Goals.{then-stands_in, else-stands_in}
 
 pub loop-q-preserved : goal.loop-q-preserved
 loop-q-preserved c =
