@@ -8,6 +8,7 @@ use Rattle.spec_rational.proofs.Sign.{not_pos_zero, not_both, times_inverse}
 use Rattle.spec_rational.proofs.Order.{le_refl, lt_to_le, lt_trans, lt_irrefl, cmp_ℚ-matches}
 use Rattle.spec_rational.specs.Order.{cmp_ℚ}
 use Rattle.std.specs.declared.cmp.Ordering.{Ordering}
+use Rattle.std.specs.declared.cmp.Ordering.TheVariants.{Less, Equal, Greater}
 use Rattle.std.specs.Ordering.{MatchOrdering}
 use Rattle.spec_simplex.specs.Rule.{Limits, Leaves, ratio}
 use Rattle.cq_frac.specs.declared.Operation.TheVariants.{Quotient}
@@ -45,6 +46,14 @@ opposite_quotient n f k =
   where
     other : neg_ℚ f ≡ 0ℚ → ⊥
     other e = k (ring (f ∷ []) (var 0) (minus (minus (var 0))) refl ∙ ap neg_ℚ e ∙ ring [] (minus (int (pos 0))) (int (pos 0)) refl)
+
+pub not_less_ratio : (p q : ℚ) → (cmp_ℚ p q ≡ Less → ⊥) → q ≤ℚ p
+not_less_ratio p q n = go (cmp_ℚ p q) n (cmp_ℚ-matches p q)
+  where
+    go : (o : Ordering) → (o ≡ Less → ⊥) → MatchOrdering o (p <ℚ q) (p ≡ q) (q <ℚ p) → q ≤ℚ p
+    go Less n h = absurd (n refl)
+    go Equal n h = subst (λ z. q ≤ℚ z) (sym h) (le_refl q)
+    go Greater n h = lt_to_le h
 
 -- what a comparison of two ratios tells
 pub compared : (p q : ℚ) (o : Ordering) → cmp_ℚ p q ≡ o → MatchOrdering o (p <ℚ q) (p ≡ q) (q <ℚ p)
