@@ -26,8 +26,9 @@ stand_end c roles [] q = let n = stands c (role_at roles q) in omega arith
 stand_end c roles (r ∷ rows) q =
     let a = stands c (role_at roles r) in let b = stand_in c roles rows in let d = stands c (role_at roles q) in let e = stand_end c roles rows q in omega (arith, e)
 
-pub stand_next : (c : ℕ) (roles : List Role) (rows : List ℕ) (i q : ℕ) → i < length rows → q ≡ get_or rows i q → stand_in c roles (take (i + 1) rows) ≡ stand_in c roles (take i rows) + stands c (role_at roles q)
-stand_next c roles rows i q l e = ap (stand_in c roles) (take_more rows i q l ∙ ap (λ n. take i rows ++ n ∷ []) (sym e)) ∙ stand_end c roles (take i rows) q
+pub stand_next : (c : ℕ) (roles : List Role) (rows : List ℕ) (i : ℕ) → i < length rows
+    → stand_in c roles (take (i + 1) rows) ≡ stand_in c roles (take i rows) + stands c (role_at roles (get_or rows i 0))
+stand_next c roles rows i l = ap (stand_in c roles) (take_more rows i 0 l) ∙ stand_end c roles (take i rows) (get_or rows i 0)
 
 -- each of the numbers is at least o, and each is below the next
 Rises : ℕ → List ℕ → Type 0

@@ -1,5 +1,5 @@
 -- The ratio test: which rows limit a column, and the first of them.
-use Rattle.std.proofs.Common.{◌≡◌, ℕ, ◌<◌, ◌≤◌, length, List, [], ◌∷◌, Bool, true, pos, arith, refl, ap, ap₂, sym, subst, ◌∙◌, ◌⊎◌, inl, inr, Option, Some, None}
+use Rattle.std.proofs.Common.{◌≡◌, ℕ, ◌≤◌, length, List, [], ◌∷◌, Bool, true, pos, arith, refl, ap, ap₂, sym, subst, ◌∙◌, ◌⊎◌, inl, inr, Option, Some, None}
 use Rattle.std.specs.Prelude.{MatchOption, slice_get}
 use Rattle.spec_rational.specs.Rational.{ℚ, 0ℚ, ◌*ℚ◌, ◌/ℚ◌, neg_ℚ, inv_ℚ, IsPositive, IsNotNegative, ◌≤ℚ◌, ◌<ℚ◌}
 use Rattle.spec_rational.proofs.Ring.{var, int, ◌⊕◌, ◌⊗◌, minus}
@@ -128,9 +128,9 @@ module _ (restricted : ℕ → Bool) (roles : List Role) (asked column : ℕ) wh
   precedes_on p q r (inr a) (inr b) = inr (a.0 ∙ b.0, omega (arith, a.1, b.1))
 
   -- a row that does not limit the column is none of the rest any more
-  pub first_kept : (Rest Less : ℕ → Type 0) (i : ℕ) → ((q : ℕ) → Rest q → (q ≡ i) ⊎ Less q) → (Limits restricted (dictionary roles asked) column i → ⊥) → (first : Option Limit) → First Rest first → First Less first
-  first_kept Rest Less i s n None h = λ q k. elim (s q (h q k)) [ inl e ↦ absurd (n (subst (Limits restricted (dictionary roles asked) column) e k)) | inr l ↦ l ]
-  first_kept Rest Less i s n (Some l) h = record {
+  pub first_kept : (Rest Fewer : ℕ → Type 0) (i : ℕ) → ((q : ℕ) → Rest q → (q ≡ i) ⊎ Fewer q) → (Limits restricted (dictionary roles asked) column i → ⊥) → (first : Option Limit) → First Rest first → First Fewer first
+  first_kept Rest Fewer i s n None h = λ q k. elim (s q (h q k)) [ inl e ↦ absurd (n (subst (Limits restricted (dictionary roles asked) column) e k)) | inr l ↦ l ]
+  first_kept Rest Fewer i s n (Some l) h = record {
     limits = h.limits;
     ratio_is = h.ratio_is;
     first = λ q k.
@@ -141,8 +141,8 @@ module _ (restricted : ℕ → Bool) (roles : List Role) (asked column : ℕ) wh
   }
 
   -- it does
-  module _ (Rest Less : ℕ → Type 0) (next : Limit) (s : (q : ℕ) → Rest q → (q ≡ next.row) ⊎ Less q) (limits : Limits restricted (dictionary roles asked) column next.row) (is : next.ratio ≡ ratio_at next.row) where
-    new_first : ((q : ℕ) → Limits restricted (dictionary roles asked) column q → precedes next.row q ⊎ Rest q) → LeavesOf Less restricted (dictionary roles asked) column next.row next.ratio
+  module _ (Rest Fewer : ℕ → Type 0) (next : Limit) (s : (q : ℕ) → Rest q → (q ≡ next.row) ⊎ Fewer q) (limits : Limits restricted (dictionary roles asked) column next.row) (is : next.ratio ≡ ratio_at next.row) where
+    new_first : ((q : ℕ) → Limits restricted (dictionary roles asked) column q → precedes next.row q ⊎ Rest q) → LeavesOf Fewer restricted (dictionary roles asked) column next.row next.ratio
     new_first h = record {
       limits = limits;
       ratio_is = is;
@@ -153,7 +153,7 @@ module _ (restricted : ℕ → Bool) (roles : List Role) (asked column : ℕ) wh
           ];
     }
 
-    old_first : (l : Limit) → LeavesOf Rest restricted (dictionary roles asked) column l.row l.ratio → precedes l.row next.row → LeavesOf Less restricted (dictionary roles asked) column l.row l.ratio
+    old_first : (l : Limit) → LeavesOf Rest restricted (dictionary roles asked) column l.row l.ratio → precedes l.row next.row → LeavesOf Fewer restricted (dictionary roles asked) column l.row l.ratio
     old_first l h p = record {
       limits = h.limits;
       ratio_is = h.ratio_is;
@@ -168,12 +168,12 @@ module _ (restricted : ℕ → Bool) (roles : List Role) (asked column : ℕ) wh
     near l m e f (inl a) = inl (subst (λ w. w <ℚ ratio_at m.row) e (subst (λ w. l.ratio <ℚ w) f a))
     near l m e f (inr a) = inr (sym e ∙ a.0 ∙ f, a.1)
 
-    pub first_more : (before : Option Limit) (first : Limit) → First Rest before → IsFirstOf before next first → First Less (Some first)
-    first_more None first h f = subst (λ l. LeavesOf Less restricted (dictionary roles asked) column l.row l.ratio) (sym f) (new_first (λ q k. inr (h q k)))
+    pub first_more : (before : Option Limit) (first : Limit) → First Rest before → IsFirstOf before next first → First Fewer (Some first)
+    first_more None first h f = subst (λ l. LeavesOf Fewer restricted (dictionary roles asked) column l.row l.ratio) (sym f) (new_first (λ q k. inr (h q k)))
     first_more (Some l) first h (inl f) =
-        subst (λ l. LeavesOf Less restricted (dictionary roles asked) column l.row l.ratio) (sym f.1) (old_first l h (near l next h.ratio_is is f.0))
+        subst (λ l. LeavesOf Fewer restricted (dictionary roles asked) column l.row l.ratio) (sym f.1) (old_first l h (near l next h.ratio_is is f.0))
     first_more (Some l) first h (inr f) =
-        subst (λ l. LeavesOf Less restricted (dictionary roles asked) column l.row l.ratio) (sym f.1)
+        subst (λ l. LeavesOf Fewer restricted (dictionary roles asked) column l.row l.ratio) (sym f.1)
         (new_first (λ q k. elim (h.first q k) [ inl p ↦ inl (precedes_on next.row l.row q (near next l is h.ratio_is f.0) p) | inr r ↦ inr r ]))
 
   -- nothing is left

@@ -1,6 +1,6 @@
 -- What is found in one dictionary: an answer, or the exchange that is due.
-use Rattle.std.specs.Prelude.{◌≡◌, ◌⊎◌, ℕ, ◌<◌, ◌≤◌, List, Bool, true, false, Option, Some, None, MatchOption}
-use Rattle.spec_rational.specs.Rational.{ℚ, 0ℚ, IsPositive, ◌≤ℚ◌, ◌<ℚ◌}
+use Rattle.std.specs.Prelude.{◌≡◌, ◌⊎◌, ℕ, ◌≤◌, List, Bool, true, false, Option, Some, None, MatchOption}
+use Rattle.spec_rational.specs.Rational.{ℚ, 0ℚ, IsPositive, ◌<ℚ◌}
 use Rattle.spec_simplex.specs.Dictionary.{Dictionary}
 use Rattle.spec_simplex.specs.Rule.{Raises, Enters, Limits, Leaves, IsDue, IsOptimal, IsUnlimited, IsFree, ratio}
 use Rattle.cq_frac.specs.declared.Pair.{Pair}

@@ -1,9 +1,9 @@
 //! The ratio test: which row limits a column first. Only the rows on the column's list are looked at.
 
-ghost use Rattle.std.specs.Prelude.{◌≡◌, ℕ, true, IfOk, MatchBool};
+ghost use Rattle.std.specs.Prelude.{◌≡◌, ℕ, true, IfOk};
 ghost use Rattle.cq_frac.specs.declared.Pair.{Pair};
 ghost use Rattle.cq_dict.specs.Roles.{AreOverColumns, is_live};
-ghost use Rattle.cq_simplex.specs.Turns.{IsRatio, IsLeaving, IsNearer, IsFirstOf, IsRefusedRatio, IsRefusedSome};
+ghost use Rattle.cq_simplex.specs.Turns.{IsRatio, IsLeaving, IsFirstOf, IsRefusedRatio, IsRefusedSome};
 
 use cq_dict::dict::{Col, Dict};
 use cq_frac::{Frac, Pair, quotient};
@@ -42,28 +42,21 @@ fn ratio_of(dict: &Dict, row: usize, column: Col) -> Result<Option<Frac>, Pair>
     Ok(Some(opposite.neg()))
 }
 
-/// Whether the column meets the one limit before the other: of two at once the one of the lesser number.
-fn is_nearer(limit: Limit, other: Limit) -> bool
-    ensures { MatchBool result (IsNearer limit other) (IsNearer other limit) }
-{
-    match limit.ratio.cmp(other.ratio) {
-        Ordering::Less => true,
-        Ordering::Equal => limit.row <= other.row,
-        Ordering::Greater => false,
-    }
-}
-
-/// The limit that the column meets first: the one found before, unless the next is nearer.
+/// The limit that the column meets first, of two at once that of the lesser number: the one found before, or the next.
 fn first_of(before: Option<Limit>, next: Limit) -> Limit
     ensures { IsFirstOf before next result }
 {
     match before {
-        Some(limit) => {
-            if is_nearer(limit, next) {
-                return limit;
+        Some(limit) => match limit.ratio.cmp(next.ratio) {
+            Ordering::Less => limit,
+            Ordering::Greater => next,
+            Ordering::Equal => {
+                if limit.row <= next.row {
+                    return limit;
+                }
+                next
             }
-            next
-        }
+        },
         None => next,
     }
 }
@@ -74,6 +67,8 @@ pub fn leaving(dict: &Dict, column: Col) -> Result<Option<usize>, Pair>
     ensures value { (asked : ℕ) → IfOk result (IsLeaving dict.now.roles dict.now.restricted asked column) }
     ensures overflow { (pair : Pair) → result ≡ Err pair → (asked : ℕ) → IsRefusedSome dict.now.roles dict.now.restricted asked column pair }
 {
+    // the count's contract is also what tells that the roles are a table
+    prove!(column < dict.count());
     let lists = dict.lists();
     let mut list = lists.heads[column];
     let mut first: Option<Limit> = None;

@@ -3,7 +3,8 @@ use Rattle.std.proofs.Common.{◌≡◌, ℕ, ◌+◌, ◌<◌, zero, suc, List,
 use Rattle.std.specs.Prelude.{slice_get, MatchOption}
 use Rattle.std.specs.List.{Contains}
 use Rattle.std.specs.List.Sorted.{IsStrictlyIncreasing}
-use Rattle.std.proofs.lemmas.List.{get_or-take, length-take-le}
+use Rattle.std.proofs.lemmas.Grind.{get_or_default_zero}
+use Rattle.std.proofs.lemmas.List.{get_or-take, length-take-le, take_more}
 use Rattle.std.proofs.lemmas.List.Elements.{Contains-append_left, Contains-push, Contains-push_cases}
 use Rattle.std.proofs.lemmas.List.Kept.{AllPairs-from_increasing}
 use Rattle.spec_lists.proofs.Places.{take-next}
@@ -77,22 +78,26 @@ module _ (names : List Name) (roles : List Role) (n : ℕ) (xs : List VarId) (a 
 
 -- ---- open variables among some quantities
 -- a number of an ascending list stands once in it
-pub fresh : (s : List ℕ) (i n : ℕ) → IsStrictlyIncreasing s → i < length s → n ≡ get_or s i n → Contains (take i s) n → ⊥
+fresh : (s : List ℕ) (i n : ℕ) → IsStrictlyIncreasing s → i < length s → n ≡ get_or s i 0 → Contains (take i s) n → ⊥
 fresh s i n r l e h =
     let b : h.0 < i = let k = h.1 in let w = length-take-le i s (omega (arith, l)) in omega (arith, k, w) in
     let lt : get_or s h.0 n < get_or s i n = AllPairs-from_increasing s r h.0 i n b l in
     let f : get_or s h.0 n ≡ n = sym (get_or-take i s h.0 n b) ∙ h.2 in
-    omega (arith, lt, f, e)
+    let g : get_or s i n ≡ n = get_or_default_zero s i n l ∙ sym e in
+    omega (arith, lt, f, g)
 
-module _ (names : List Name) (roles : List Role) (s : List ℕ) (i : ℕ) (xs : List VarId) (a : AreOpenAmong names roles (take i s) xs) (n : ℕ) (l : i < length s) (e : n ≡ get_or s i n) where
+module _ (names : List Name) (roles : List Role) (s : List ℕ) (i : ℕ) (xs : List VarId) (a : AreOpenAmong names roles (take i s) xs) (n : ℕ) (l : i < length s) (e : n ≡ get_or s i 0) where
+  next : take (i + 1) s ≡ take i s ++ n ∷ []
+  next = take_more s i 0 l ∙ ap (λ y. take i s ++ y ∷ []) (sym e)
+
   one_more : (z : ℕ) → Contains (take (i + 1) s) z → Contains (take i s) z ⊎ (n ≡ z)
-  one_more z h = Contains-push_cases (take i s) n z (subst (λ t. Contains t z) (take-next s i n l e) h)
+  one_more z h = Contains-push_cases (take i s) n z (subst (λ t. Contains t z) next h)
 
   still_in : (z : ℕ) → Contains (take i s) z → Contains (take (i + 1) s) z
-  still_in z h = subst (λ t. Contains t z) (sym (take-next s i n l e)) (Contains-append_left (take i s) (n ∷ []) z h)
+  still_in z h = subst (λ t. Contains t z) (sym next) (Contains-append_left (take i s) (n ∷ []) z h)
 
   itself_in : Contains (take (i + 1) s) n
-  itself_in = subst (λ t. Contains t n) (sym (take-next s i n l e)) (Contains-push (take i s) n)
+  itself_in = subst (λ t. Contains t n) (sym next) (Contains-push (take i s) n)
 
   pub not_among : HasNumber names roles n → AreOpenAmong names roles (take (i + 1) s) xs
   not_among h = record {

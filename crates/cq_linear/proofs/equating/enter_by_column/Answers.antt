@@ -1,12 +1,20 @@
-use Rattle.std.proofs.Common.{◌+◌, List, [], ◌∷◌, ◌++◌, length, Bool, Err, arith, refl, ap, sym, subst}
-use Rattle.std.specs.Prelude.{IfOk}
+use Rattle.std.proofs.Common.{◌+◌, ◌<◌, List, [], ◌∷◌, ◌++◌, length, Bool, Err, inl, arith, refl, ap, sym, subst}
+use Rattle.std.specs.Prelude.{IfOk, MatchOption}
+use Rattle.std.specs.List.{Contains}
+use Rattle.std.specs.List.Sorted.{IsStrictlyIncreasing}
+use Rattle.spec_rational.specs.Rational.{0ℚ}
 use Rattle.cq_frac.specs.declared.VarId.{VarId}
 use Rattle.cq_dict.specs.DictValue.{quantities_of}
+use Rattle.cq_dict.proofs.Held.{held_below}
 use Rattle.cq_tableau.specs.declared.names.Name.TheVariants.{Member}
-use Rattle.cq_tableau.specs.Stored.{IsBetween, JoinsStored}
+use Rattle.cq_tableau.specs.Fixing.{AreOpenAmong}
+use Rattle.cq_tableau.specs.Looked.{IsApart}
+use Rattle.cq_tableau.specs.Stored.{IsMemberOf, IsBetween, JoinsStored}
+use Rattle.cq_tableau.specs.Values.{IsNumber}
 use Rattle.cq_linear.specs.Entered.{IfJoined}
 use Rattle.cq_linear.specs.Equated.{IsConcluded}
-use Rattle.cq_linear.proofs.Concluded.{joined_by, crossing_between, crossing_falls, crossing_joins}
+use Rattle.cq_linear.specs.Faced.{AreApart}
+use Rattle.cq_linear.proofs.Concluded.{joined_by, crossing_between, crossing_falls, crossing_joins, found_apart}
 use Rattle.cq_linear.proofs.Equations.{roles_size, crossing_refused}
 use Rattle.cq_linear.proofs.Passed.{refused, never_spent}
 use Rattle.cq_linear.proofs.equating.enter_by_column.Goals as goal
@@ -54,7 +62,8 @@ conclude-requires-clause-falls c =
     crossing_falls told c.args.names.now.now c.args.c.now old.roles old.restricted c.args.q c.args.column c.requires.crosses c.requires.equation c.eliminate.new.self.roles
     x.kinds x.same x.table (length told + 1) refl c.fallen_among-fallen.result
     (found_apart told c.args.names.now.now c.args.c.now old.roles old.restricted c.args.q c.args.column c.requires.crosses c.requires.equation c.eliminate.new.self.roles
-    x.kinds x.same x.table (length told + 1) refl c.in_ok-touched.touched.items c.in_ok-touched.ensures c.fallen_among-fallen.result (found_in c))
+    x.kinds x.same x.table (length told + 1) refl c.in_ok-touched.touched.items c.in_ok-touched.ensures c.fallen_among-fallen.result (subst (λ s. MatchOption c.fallen_among-fallen.result (AreApart told c.args.names.now.now c.eliminate.new.self.roles s) (λ z. IsMemberOf IsApart told c.args.names.now.now z × IsNumber c.eliminate.new.self.roles z 0ℚ))
+    c.deref-2.ensures.value c.fallen_among-fallen.ensures))
 
 pub returns-clause-joined : goal.returns-clause-joined
 returns-clause-joined c =
@@ -70,9 +79,10 @@ returns-clause-joined c =
     (λ fixed. JoinsStored told c.args.c.now fixed new_names last)
     (crossing_joins told names c.args.c.now old.roles old.restricted c.args.q c.args.column c.requires.crosses c.requires.equation new x.kinds x.same x.table (length told + 1) refl
     c.in_ok-touched.touched.items c.in_ok-touched.ensures c.in_ok-before.before.items
-    (subst (λ s. AreOpenAmong names old.roles s c.in_ok-before.before.items) c.deref.ensures.value c.in_ok-before.ensures) fallen (found_in c) new_names last)
+    (subst (λ s. AreOpenAmong names old.roles s c.in_ok-before.before.items) c.deref.ensures.value c.in_ok-before.ensures) fallen (subst (λ s. MatchOption c.fallen_among-fallen.result (AreApart told c.args.names.now.now c.eliminate.new.self.roles s) (λ z. IsMemberOf IsApart told c.args.names.now.now z × IsNumber c.eliminate.new.self.roles z 0ℚ))
+    c.deref-2.ensures.value c.fallen_among-fallen.ensures) new_names last)
     (subst (λ (g : List Bool). IfOk c.conclude.result (λ e. IfJoined e (IsConcluded told names (record { roles = new; restricted = g }) c.in_ok-before.before.items fallen new_names last))) x.flags
-    (subst (λ (s : List VarId). IfOk c.conclude.result (λ e. IfJoined e (IsConcluded told names (quantities_of c.eliminate.new.self) s fallen new_names last))) c.deref.ensures.value
+    (subst (λ (s : List VarId). IfOk c.conclude.result (λ e. IfJoined e (IsConcluded told names (quantities_of c.eliminate.new.self) s fallen new_names last))) c.deref-3.ensures.value
     c.conclude.ensures.joined))
 
 pub returns-in_err-eliminate-clause-overflow : goal.returns-in_err-eliminate-clause-overflow

@@ -6,8 +6,8 @@ use Rattle.cq_tableau.proofs.looking.blocking_row.Given as goal
 
 abbrev pub invariant-loop-list : goal.invariant-loop-list
 invariant-loop-list l = record {
-  there : l.list ≤ length l.lists.cells;
-  all : (z : ℕ) → LeavesBut l.dict.roles l.dict.restricted l.c (IsOn l.lists.cells l.list) z;
+  there : l.list ≤ length l.lists.cells.now;
+  all : (z : ℕ) → LeavesBut l.dict.roles l.dict.restricted l.c (IsOn l.lists.cells.now l.list) z;
 }
 
 abbrev pub decreases-loop-list : goal.decreases-loop-list

@@ -1,10 +1,13 @@
-use Rattle.std.proofs.Common.{◌∙◌, sym, subst}
+use Rattle.std.proofs.Common.{◌∙◌, arith, sym, subst}
 use Rattle.spec_rational.specs.Rational.{IsPositive}
 use Rattle.cq_row.specs.Rows.{Has, Lacks, IsRowFrom, everywhere}
 use Rattle.cq_row.proofs.Shifts.{anywhere}
 use Rattle.cq_dict.specs.Roles.{is_live}
-use Rattle.cq_tableau.proofs.Looks.{column_leaves, unflagged_leaves, positive_leaves, lacking_leaves, entry_blocks}
+use Rattle.cq_tableau.proofs.Looks.{past_leaves, column_leaves, unflagged_leaves, positive_leaves, lacking_leaves, entry_blocks}
 use Rattle.cq_tableau.proofs.looking.blocks.Goals as goal
+
+pub returns-then-q-count : goal.returns-then-q-count
+returns-then-q-count c = past_leaves c.args.dict.now.roles c.args.dict.now.restricted c.args.c c.args.q (omega (arith, c.if-q-count.true, c.count.ensures.value))
 
 pub returns-then-not-is_row : goal.returns-then-not-is_row
 returns-then-not-is_row c = column_leaves c.args.dict.now.roles c.args.dict.now.restricted c.args.c c.args.q c.if-not-is_row.ensures
@@ -22,12 +25,12 @@ returns-then-is_positive c =
 pub entry_at-requires : goal.entry_at-requires
 entry_at-requires c =
     let r = c.if-not-is_row.ensures in
-    record { row = subst (IsRowFrom everywhere 0) (sym (c.row.ensures.entries r.0 r.1)) (anywhere (is_live c.args.dict.now.roles) 0 r.0.live (c.requires.table.rows c.args.q r.0 r.1).live_row) }
+    record { row = subst (IsRowFrom everywhere 0) (sym (c.row.ensures.entries r.0 r.1)) (anywhere (is_live c.args.dict.now.roles) 0 r.0.live (c.requires.rows c.args.q r.0 r.1).live_row) }
 
 pub returns-in-Some : goal.returns-in-Some
 returns-in-Some c =
     let r = c.if-not-is_row.ensures in
-    entry_blocks c.args.dict.now.roles c.args.dict.now.restricted c.args.c c.args.q r.0 r.1 c.requires.table (sym c.is_restricted.ensures ∙ c.if-not-is_restricted.false)
+    entry_blocks c.args.dict.now.roles c.args.dict.now.restricted c.args.c c.args.q r.0 r.1 c.requires (sym c.is_restricted.ensures ∙ c.if-not-is_restricted.false)
     c.is_positive.result (λ p. c.is_positive.ensures.positive.1 (subst IsPositive (sym (c.constant.ensures r.0 r.1)) p)) c.if-is_positive.false
     c.in-Some.entry (subst (Has (record { quantity = c.args.c; factor = c.in-Some.entry })) (c.row.ensures.entries r.0 r.1) c.in-Some.ensures)
     c.is_negative.result c.is_negative.ensures.negative.0 c.is_negative.ensures.otherwise
