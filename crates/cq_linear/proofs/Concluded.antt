@@ -9,7 +9,7 @@ use Rattle.spec_rational.proofs.Sign.{zero_or_not}
 use Rattle.spec_linear.specs.declared.Relation.TheVariants.{Eq}
 use Rattle.spec_linear.specs.Form.{value_at}
 use Rattle.spec_linear.specs.Solution.{Constraint, Has}
-use Rattle.spec_tableau.specs.Reach.{IsFlat, Stands}
+use Rattle.spec_tableau.specs.Reach.{IsFlat, Moves, Stands}
 use Rattle.spec_tableau.specs.Tableau.{Tableau, IsNothing, Within}
 use Rattle.spec_tableau.proofs.Written.{nothing_is}
 use Rattle.cq_frac.specs.declared.VarId.{VarId}
@@ -75,7 +75,7 @@ module _ (told : List Constraint) (names : List Name) (c : Constraint) (roles : 
   -- disequations stood before
   stood : (z : ℕ) → IsMemberOf IsApart told names z → IsNumber roles z 0ℚ → ⊥
   stood z m n =
-      let moves = subst (λ r. Stands (Within before) told r m.constraint.form) m.relation_is (y.behind.keeps.invariant.stands m.constraint (has_member told m.number m.constraint m.told_at)) in
+      let moves : Moves (Within (tableau roles flags (y.behind.stored.forms ++ c.form ∷ []))) m.constraint.form = subst (λ r. Stands (Within before) told r m.constraint.form) m.relation_is (y.behind.keeps.invariant.stands m.constraint (has_member told m.number m.constraint m.told_at)) in
       moves.apart (ap (value_at moves.at) (sym (form_of_member told names c roles flags q y.behind IsApart z m)) ∙ number_flat z n moves.at moves.inside)
 
   apart_before : (z : ℕ) → z < length roles → IsMemberOf IsApart told names z → IsNotZero roles z

@@ -288,9 +288,11 @@ newly_fixed told names q s c old flags k open_ones fixed_ones new_names new a b 
         at_quantity : IsKnown names x → Has x (numbers_of fixed_ones)
         at_quantity y = elim (a.all y.0 (record { 0 = x }) y.1) [
           | inl g ↦ elim (b.all x g) [ inl h ↦ h | inr n ↦ absurd (n (told ++ c ∷ []) after f.value f.fixed) ]
-          | inr (inr n) ↦ absurd (n (told ++ c ∷ []) after f.value f.fixed)
-          | inr (inl g) ↦ absurd (f.not_before g.0
-              (number_before (s.forms ++ c.form ∷ []) told old flags k y.0 x (below_roles y.0 (slice_get_within names y.0 _ y.1)) (form_of_variable y.0 x y.1) g.0 g.1))
+          | inr g ↦ elim g [
+            | inr n ↦ absurd (n (told ++ c ∷ []) after f.value f.fixed)
+            | inl v ↦ absurd (f.not_before v.0
+                (number_before (s.forms ++ c.form ∷ []) told old flags k y.0 x (below_roles y.0 (slice_get_within names y.0 _ y.1)) (form_of_variable y.0 x y.1) v.0 v.1))
+          ]
         ]
 
 -- a member's name makes no variable known

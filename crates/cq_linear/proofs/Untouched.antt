@@ -1,5 +1,5 @@
 -- What an exchange leaves as it is: the quantities that do not hold its column.
-use Rattle.std.proofs.Common.{◌≡◌, ℕ, ◌<◌, List, [], ◌∷◌, ◌+◌, length, true, false, ◌⊎◌, inl, inr, refl, ap, sym, subst, ◌∙◌}
+use Rattle.std.proofs.Common.{◌≡◌, ℕ, ◌<◌, List, [], ◌∷◌, ◌+◌, length, Bool, true, false, ◌⊎◌, inl, inr, refl, ap, sym, subst, ◌∙◌}
 use Rattle.std.specs.List.{Contains}
 use Rattle.spec_rational.specs.Rational.{ℚ, 0ℚ}
 use Rattle.spec_simplex.proofs.Solutions.{true_not_false}

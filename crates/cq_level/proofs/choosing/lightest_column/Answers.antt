@@ -31,8 +31,8 @@ is_restricted-requires-in-loop-m c =
     entry_below c.args.dict.now.roles c.args.dict.now.restricted c.requires.table c.args.q c.requires.row.0 c.requires.row.1 c.m-item.result
     (subst (Has c.m-item.result) e (has_at c.row-m-items.result.now c.loop-m.m-index c.m-item.result c.loop-m-test.true c.m-item.is))
 
-pub count_rows-requires-clause-there : goal.count_rows-requires-clause-there
-count_rows-requires-clause-there c =
+pub count_rows-rows-requires-clause-there : goal.count_rows-rows-requires-clause-there
+count_rows-rows-requires-clause-there c =
     let e = c.row-m-items.ensures.entries c.requires.row.0 c.requires.row.1 in
     entry_below c.args.dict.now.roles c.args.dict.now.restricted c.requires.table c.args.q c.requires.row.0 c.requires.row.1 c.m-item.result
     (subst (Has c.m-item.result) e (has_at c.row-m-items.result.now c.loop-m.m-index c.m-item.result c.loop-m-test.true c.m-item.is))

@@ -36,8 +36,8 @@ open_among-requires-clause-once c = c.requires.crosses.behind.stored.once
 pub open_among-requires-clause-ascending : goal.open_among-requires-clause-ascending
 open_among-requires-clause-ascending c = subst IsStrictlyIncreasing (sym c.deref.ensures.value) c.in_ok-touched.ensures.ascending
 
-pub fallen_among-requires : goal.fallen_among-requires
-fallen_among-requires c = λ z h.
+pub fallen_among-fallen-requires : goal.fallen_among-fallen-requires
+fallen_among-fallen-requires c = λ z h.
     let l = c.in_ok-touched.ensures.within z (subst (λ s. Contains s z) c.deref-2.ensures.value h) in
     subst (λ n. z < n) (sym c.in_ok-eliminate.ensures.kinds.size) l
 

@@ -1,0 +1,9 @@
+use Rattle.std.proofs.Common.{sym, subst}
+use Rattle.cq_dict.specs.Holders.{AreTouched}
+use Rattle.cq_level.proofs.choosing.count_rows.Goals as goal
+
+pub touched-requires : goal.touched-requires
+touched-requires c = λ t. c.requires.there
+
+pub count_touched-requires-clause-touched : goal.count_touched-requires-clause-touched
+count_touched-requires-clause-touched c = subst (AreTouched c.args.dict.now.roles c.args.c) (sym c.deref.ensures.value) c.in-Ok.ensures
