@@ -48,14 +48,17 @@ rises [] h = tt
 rises (q ∷ rows) h = (omega arith, rises_on q rows h)
 
 contains_first : (q : ℕ) (rows : List ℕ) (i : ℕ) → Contains (q ∷ rows) i → (i ≡ q) ⊎ Contains rows i
-contains_first q rows i (zero, l, e) = inl (sym e)
-contains_first q rows i (suc k, l, e) = inr (k, omega (arith, l), e)
+contains_first q rows i h = go h.0 h.1 h.2
+  where
+    go : (k : ℕ) → k < length (q ∷ rows) → get_or (q ∷ rows) k i ≡ i → (i ≡ q) ⊎ Contains rows i
+    go zero l e = inl (sym e)
+    go (suc k) l e = inr (k, omega (arith, l), e)
 
 own_first : (q : ℕ) (rows : List ℕ) → Contains (q ∷ rows) q
 own_first q rows = (zero, omega arith, refl)
 
 contains_more : (q : ℕ) (rows : List ℕ) (i : ℕ) → Contains rows i → Contains (q ∷ rows) i
-contains_more q rows i (k, l, e) = (suc k, omega (arith, l), e)
+contains_more q rows i h = let l = h.1 in (suc h.0, omega (arith, l), h.2)
 
 none_in : (i : ℕ) → Contains [] i → ⊥
 none_in i h = let l = h.1 in omega (arith, l)
@@ -87,6 +90,7 @@ same_sums f o (suc n) [] r w a = of (zero_or_not (f o))
   where
     rest : 0 ≡ sum_from (suc o) n f
     rest = same_sums f (suc o) n [] tt (λ i h. absurd (none_in i h)) (λ i l b k. a i (omega (arith, l)) (omega (arith, b)) k)
+
     of : (f o ≡ 0) ⊎ (f o ≡ 0 → ⊥) → 0 ≡ f o + sum_from (suc o) n f
     of (inl e) = omega (arith, e, rest)
     of (inr k) = absurd (none_in o (a o (omega arith) (omega arith) k))
@@ -102,16 +106,20 @@ same_sums f o (suc n) (q ∷ rows) r w a = of (equal_or_not q o)
         later : (i : ℕ) → suc o ≤ i → (i ≡ q) ⊎ Contains rows i → Contains rows i
         later i l (inl g) = absurd (omega (arith, l, g, e))
         later i l (inr h) = h
+
     there : (q ≡ o → ⊥) → f q + sum_of f rows ≡ f o + sum_from (suc o) n f
     there d = past (zero_or_not (f o))
       where
         after : suc o ≤ q
         after = let l = r.0 in omega (arith, l, d)
+
         rest : sum_of f (q ∷ rows) ≡ sum_from (suc o) n f
         rest = same_sums f (suc o) n (q ∷ rows) (after, r.1) (λ i h. let l = w i h in omega (arith, l)) (λ i l b k. a i (omega (arith, l)) (omega (arith, b)) k)
+
         past : (f o ≡ 0) ⊎ (f o ≡ 0 → ⊥) → f q + sum_of f rows ≡ f o + sum_from (suc o) n f
         past (inl e) = omega (arith, e, rest)
         past (inr k) = let l = above (suc o) (q ∷ rows) o (after, r.1) (a o (omega arith) (omega arith) k) in absurd (omega (arith, l))
+
     of : (q ≡ o) ⊎ (q ≡ o → ⊥) → f q + sum_of f rows ≡ f o + sum_from (suc o) n f
     of (inl e) = here e
     of (inr d) = there d
@@ -141,5 +149,6 @@ all_counted c roles rows t =
         of : EntryOf c own.live ⊎ Lacks c own.live → Contains rows i
         of (inl e) = t.all i own a (e.entry, inl e.in_list, e.of)
         of (inr n) = absurd (k (lacking_stands roles i c own a n))
+
     holding : (i : ℕ) → i < 0 + length roles → (stands c (role_at roles i) ≡ 0 → ⊥) → Contains rows i
     holding i l k = let x = at_exists roles i (omega (arith, l)) in in_role i x.0 x.1 k

@@ -190,6 +190,7 @@ module _ (restricted : ℕ → Bool) (roles : List Role) (asked column : ℕ) wh
       not_above : (q : ℕ) → precedes l.row q → ratio_at l.row ≤ℚ ratio_at q
       not_above q (inl a) = lt_to_le a
       not_above q (inr a) = subst (λ w. ratio_at l.row ≤ℚ w) a.0 (le_refl (ratio_at l.row))
+
       not_later : (q : ℕ) → ratio_at q ≡ ratio_at l.row → precedes l.row q → l.row ≤ q
       not_later q e (inl a) = absurd (lt_irrefl (subst (λ w. ratio_at l.row <ℚ w) e a))
       not_later q e (inr a) = a.1
