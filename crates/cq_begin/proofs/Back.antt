@@ -27,12 +27,13 @@ told_after : {budgets : Budgets} {s r t : Search} {told : Told} → Quietly budg
 told_after q (shows p may turn new) = shows (quietly_on q p) may turn new
 told_after q (coming.stops p why) = coming.stops (quietly_on q p) why
 
-stop_after : (budgets : Budgets) (cause : Cause) (s r : Search) → Quietly budgets.steps s r → ComesToStop budgets cause r → ComesToStop budgets cause s
-stop_after budgets cause s r q h = (h.0, told_after q h.1)
+stop_after : (budgets : Budgets) (cause : Cause) (s r : Search) → Quietly budgets.steps s r → r.database ≡ s.database → ComesToStop budgets cause r → ComesToStop budgets cause s
+stop_after budgets cause s r q d h = (h.0, told_after q h.1, h.2 ∙ d)
 
-pub fault_after : (old new : ℕ) (fault : StoreFault) (s : Search) → new ≡ old → ((steps : ℕ) → (r : Search) × Quietly steps s r × FaultStops new fault r) → FaultStops old fault s
-fault_after old new (Overflow pair) s e f = λ budgets b. let a = f budgets.steps in stop_after budgets (cause.Overflow pair) s a.0 a.1 (a.2 budgets (b ∙ sym e))
-fault_after old new (Pivots n) s e f = λ budgets b. let a = f budgets.steps in stop_after budgets (cause.Pivots n) s a.0 a.1 (a.2 budgets (b ∙ sym e))
+pub fault_after : (old new : ℕ) (fault : StoreFault) (s : Search) → new ≡ old
+    → ((steps : ℕ) → (r : Search) × Quietly steps s r × (r.database ≡ s.database) × FaultStops new fault r) → FaultStops old fault s
+fault_after old new (Overflow pair) s e f = λ budgets b. let a = f budgets.steps in stop_after budgets (cause.Overflow pair) s a.0 a.1 a.2 (a.3 budgets (b ∙ sym e))
+fault_after old new (Pivots n) s e f = λ budgets b. let a = f budgets.steps in stop_after budgets (cause.Pivots n) s a.0 a.1 a.2 (a.3 budgets (b ∙ sym e))
 fault_after old new NoMemory s e f = tt
 
 -- ---- the engine
@@ -57,4 +58,4 @@ module _ (texts : List Text) (v : Program) where
 
       pub stops_then : (fault : StoreFault) → new.store.pivots ≡ old.store.pivots → AllStop texts v new more after fault → AllStop texts v old lists before fault
       stops_then fault e g db n s j =
-          fault_after old.store.pivots new.store.pivots fault s e (λ steps. let a = f steps db n s j in (a.reached, a.quiet, g db n a.reached a.stands))
+          fault_after old.store.pivots new.store.pivots fault s e (λ steps. let a = f steps db n s j in (a.reached, a.quiet, a.stands.database ∙ sym j.database, g db n a.reached a.stands))

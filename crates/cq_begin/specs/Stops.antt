@@ -20,9 +20,9 @@ use Rattle.cq_steps.specs.Worlds.{value, saved_values, stack, Stands, Arrives}
 
 -- ---- stops
 
--- the search comes quietly to where the query stops for the cause
+-- the search comes quietly to where the query stops for the cause, with the database that it has
 abbrev pub ComesToStop : Budgets → Cause → Search → Type 0
-ComesToStop budgets cause s = (t : Search) × Tells budgets s (Stops cause) t
+ComesToStop budgets cause s = (t : Search) × Tells budgets s (Stops cause) t × (t.database ≡ s.database)
 
 -- The search comes quietly to where the query stops for the fault, where one maximisation may make so many exchanges. Want of
 -- memory tells nothing.

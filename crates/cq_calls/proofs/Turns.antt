@@ -1,5 +1,5 @@
 -- What an engine comes to as it begins the next clause of its newest choice.
-use Rattle.std.proofs.Common.{◌≡◌, ℕ, ◌<◌, List, [], ◌∷◌, ◌++◌, length, Option, None, Some, sym, ap, ◌∙◌, subst, arith, inl}
+use Rattle.std.proofs.Common.{◌≡◌, ℕ, ◌<◌, List, [], ◌∷◌, ◌++◌, length, Option, None, Some, refl, sym, ap, ◌∙◌, subst, arith, inl}
 use Rattle.spec_lists.specs.Texts.{Text}
 use Rattle.spec_syntax.specs.Trees.{Tree}
 use Rattle.spec_branch.specs.Branch.{Branch}
@@ -121,7 +121,7 @@ module _ (texts : List Text) (db : Database) (n : ℕ) (s : Search) (older : Sta
       -- ---- stops
 
       stops_there : (budgets : Budgets) (why : Cause) → Due budgets None s why → ComesToStop budgets why s
-      stops_there budgets why d = (_, coming.stops {r = s} {cause = why} at_once (coming.stops (inl (ap is_selecting begun.3)) d))
+      stops_there budgets why d = (_, coming.stops {r = s} {cause = why} at_once (coming.stops (inl (ap is_selecting begun.3)) d), refl)
 
       pub refused : (pair : Pair) → OfClause texts w t height k kept (λ st p. MayRefuse st p pair) → (budgets : Budgets) → ComesToStop budgets (cause.Overflow pair) s
       refused pair o budgets =

@@ -91,7 +91,7 @@ pub front_then : (budgets : Budgets) (m : Machine) (n : ℕ) (f : Front) (s r : 
 front_then budgets m n (Ahead k) s r q c = record { reached = c.reached; quiet = quietly_then q c.quiet; stands = c.stands }
 front_then budgets m n Answer s r q a = record { state = a.state; is_state = a.is_state; next = a.next; tells = told_then q a.tells; stands = a.stands }
 front_then budgets m n Fail s r q e = record { next = e.next; tells = told_then q e.tells; stands = e.stands }
-front_then budgets m n (Stop cause) s r q h = record { reached = h.reached; quiet = quietly_then q h.quiet; last = h.last; tells = h.tells; stands = h.stands }
+front_then budgets m n (Stop cause) s r q h = record { reached = h.reached; quiet = quietly_then q h.quiet; last = h.last; tells = h.tells; database = h.database; stands = h.stands }
 
 -- ---- a goal in front
 
@@ -139,7 +139,7 @@ answers_next budgets m n k s done j = record {
 pub halts_next : (budgets : Budgets) (old new : Machine) (n : ℕ) (start : Option ℕ) (s : Search) (cause : Cause) → GainsNames old new → holds new ≡ []
     → StandsFor old n start s → ComesToStop budgets cause s → Halts budgets cause new n s
 halts_next budgets old new n start s cause g none j stop =
-    record { reached = s; quiet = coming.at_once; last = stop.0; tells = stop.1; stands = none_left old new n start s g none j }
+    record { reached = s; quiet = coming.at_once; last = stop.0; tells = stop.1; database = stop.2; stands = none_left old new n start s g none j }
 
 -- ---- no choices
 
@@ -169,6 +169,7 @@ halts_out budgets old new n k rest steps cell s g none e many earlier cells fron
   last = with_branches [] s;
   tells = subst (λ (x : ℕ). Tells budgets s (Stops (Resolutions x)) (with_branches [] s)) e
       (stops_out budgets s (goal_next old.atoms (database_of old) n (holds old) (now old) k rest s j earlier cell cells front goes) (j.selected ∙ many ∙ sym e));
+  database = refl;
   stands = none_left old new n (Some k) s g none j;
 }
 

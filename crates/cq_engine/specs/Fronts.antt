@@ -44,6 +44,7 @@ pub record Halts (budgets : Budgets) (c : why.Cause) (m : Machine) (n : ℕ) (s 
   pub quiet : Quietly budgets.steps s reached
   pub last : Search
   pub tells : Tells budgets reached (Stops c) last
+  pub database : last.database ≡ reached.database
   pub stands : StandsFor m n None (with_branches [] reached)
 
 -- what the engine came to is what the search tells, if it tells something

@@ -82,7 +82,7 @@ module _ (v : Program) where
   pub stops_then : (a b : Held) (start mid : Option ℕ) (pivots budget : ℕ) (fault : StoreFault) → budget ≡ pivots → Reaches v a start b mid → AllStopFrom v b mid budget fault
       → AllStopFrom v a start pivots fault
   stops_then a b start mid pivots budget fault e f g db n s j =
-      fault_after pivots budget fault s e (λ steps. let r = f steps db n s j in (r.reached, r.quiet, g db n r.reached r.stands))
+      fault_after pivots budget fault s e (λ steps. let r = f steps db n s j in (r.reached, r.quiet, r.stands.database ∙ sym j.database, g db n r.reached r.stands))
 
   pub going_then : (a b : Held) (start mid : Option ℕ) → Reaches v a start b mid → IsGoing v a start → IsGoing v b mid
   going_then a b start mid f w = let r = f 0 w.0 w.1 w.2 w.3 in (w.0, w.1, r.reached, r.stands)

@@ -31,7 +31,6 @@ module _ (texts : List Text) (c : Contents) (h : Terms) (terms : IsPrefix c.heap
   pub grown_terms : (lists : List (List Cell)) → Grown texts (c, lists) (with_heap h c, lists)
   grown_terms lists = grown texts c h terms images names lists lists (keeps_itself lists)
 
-
 -- the same world, and more continuations
 pub grown_still : (texts : List Text) (old mid : Value Contents) (later : Contents) (lists : List (List Cell)) → Grown texts old mid → later ≡ mid.0 → KeepsLists mid.1 lists
     → Grown texts old (later, lists)

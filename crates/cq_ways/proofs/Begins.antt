@@ -260,7 +260,7 @@ module _ (old mid : Held) (w : Way) (t : IsTaken old mid w) (known : AreNamedByT
     fault_stops : (pivots : ℕ) (fault : StoreFault) → ((pair : Pair) → fault ≡ Overflow pair → (st : State) → IsBranch mid.texts mid.now.0 st → MayRefuse st (with_equations (es old mid w t)) pair)
         → ((m : ℕ) → fault ≡ Pivots m → (m ≡ pivots) × ((st : State) → IsBranch mid.texts mid.now.0 st → MayTake st (with_equations (es old mid w t)) m)) → FaultStops pivots fault s
     fault_stops pivots (Overflow pair) refused taken = λ budgets e.
-        (with_branches [] s, stops_there budgets (cause.Overflow pair) (refuses budgets s p.rest p.state (with_equations (es old mid w t)) behind pair looks (refused pair refl p.state placed.state)))
+        (with_branches [] s, stops_there budgets (cause.Overflow pair) (refuses budgets s p.rest p.state (with_equations (es old mid w t)) behind pair looks (refused pair refl p.state placed.state)), refl)
     fault_stops pivots (Pivots m) refused taken = λ budgets e.
         let k = taken m refl in
         let same : m ≡ budgets.pivots = k.0 ∙ sym e in (
@@ -268,6 +268,7 @@ module _ (old mid : Held) (w : Way) (t : IsTaken old mid w) (known : AreNamedByT
           subst (λ i. Tells budgets s (Stops (cause.Pivots i)) (with_branches [] s)) (sym same)
               (stops_there budgets (cause.Pivots budgets.pivots)
               (takes budgets s p.rest p.state (with_equations (es old mid w t)) behind looks (subst (λ i. MayTake p.state (with_equations (es old mid w t)) i) same (k.1 p.state placed.state)))),
+          refl,
         )
     fault_stops pivots NoMemory refused taken = tt
 

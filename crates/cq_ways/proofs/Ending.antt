@@ -93,7 +93,7 @@ stays_then a b c f g v o = g v (f v o)
 
 pub stops_then : (a b : Held) (pivots : ℕ) (fault : StoreFault) → StaysOver a b → ComesOver a b None → StopsOver b pivots fault → StopsOver a pivots fault
 stops_then a b pivots fault stays f g v o db n s j =
-    fault_after pivots pivots fault s refl (λ steps. let r = f v o steps db n s j in (r.reached, r.quiet, g v (stays v o) db n r.reached r.stands))
+    fault_after pivots pivots fault s refl (λ steps. let r = f v o steps db n s j in (r.reached, r.quiet, r.stands.database ∙ sym j.database, g v (stays v o) db n r.reached r.stands))
 
 -- an engine that comes back stands for some search on
 pub works_then : (a b : Held) → StaysOver a b → ComesOver a b None → IsSearching a → IsSearching b
