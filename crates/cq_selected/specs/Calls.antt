@@ -1,5 +1,6 @@
 -- What a call of a user predicate comes to.
-use Rattle.std.specs.Prelude.{◌≡◌, ℕ, List}
+use Rattle.std.specs.Prelude.{◌≡◌, ℕ, List, ⊤}
+use Rattle.spec_terms.specs.Term.{Var, Number, Name, Compound}
 use Rattle.spec_syntax.specs.Trees.{Tree}
 use Rattle.spec_built.specs.Built.{indicator_of}
 use Rattle.spec_branch.specs.Branch.{Branch}
@@ -7,6 +8,7 @@ use Rattle.spec_search.specs.Control.{user_row}
 use Rattle.spec_search.specs.Replies.{Place, Raises}
 use Rattle.cq_built.specs.Errors.{error_tree}
 use Rattle.cq_calls.specs.Calling.{CallBecomes}
+use Rattle.cq_term.specs.Meaning.{HeapTerm}
 use Rattle.cq_machine.specs.declared.machine.Machine.{Machine}
 use Rattle.cq_machine.specs.declared.step.Step.{Step}
 use Rattle.cq_machine.specs.declared.step.Step.TheVariants as step
@@ -24,3 +26,19 @@ IsCall m (step.Refuses pair) p behind goal = ⊥
 abbrev pub Calls : Machine → Machine → ℕ → ℕ → Step → Type 0
 Calls old new id rest s = (height : ℕ) (p : Place) (behind : List Branch) (goal : Tree) → IsSelectedAt old id height rest p behind goal
     → IsCall new s p behind goal
+
+-- ---- terms that are called
+
+-- the term is an atom or a compound of this name
+abbrev pub HasName : HeapTerm → ℕ → Type 0
+HasName (Var v) a = ⊥
+HasName (Number q) a = ⊥
+HasName (Name b) a = a ≡ b
+HasName (Compound b ts) a = a ≡ b
+
+-- it is neither
+abbrev pub HasNoName : HeapTerm → Type 0
+HasNoName (Var v) = ⊤
+HasNoName (Number q) = ⊤
+HasNoName (Name b) = ⊥
+HasNoName (Compound b ts) = ⊥

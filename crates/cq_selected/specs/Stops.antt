@@ -1,4 +1,4 @@
--- Why a query stops where a goal is selected.
+-- Where a goal is selected, and why a query stops there.
 use Rattle.std.specs.Prelude.{ℕ, List}
 use Rattle.spec_syntax.specs.Trees.{Tree}
 use Rattle.spec_branch.specs.Branch.{Branch}
@@ -13,3 +13,7 @@ use Rattle.cq_relations.specs.Faults.{IsStopped}
 abbrev pub StopsAt : Machine → ℕ → ℕ → ℕ → (Place → Tree → Reply) → StoreFault → Type 0
 StopsAt m id height rest row fault = (p : Place) (behind : List Branch) (goal : Tree) → IsSelectedAt m id height rest p behind goal
     → IsStopped m.world.first.store.pivots fault p (row p goal)
+
+-- the goal of the number is selected somewhere, with this continuation behind it, and a cut in it goes back to the height
+abbrev pub IsSelectedFrom : Machine → ℕ → ℕ → ℕ → Type 0
+IsSelectedFrom m id height rest = (p : Place) × (behind : List Branch) × (goal : Tree) × IsSelectedAt m id height rest p behind goal
