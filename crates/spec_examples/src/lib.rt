@@ -20,13 +20,12 @@ pub fn bindings()
         (codes "X = 'hello world'\nY = [a|T]\nZ = -(1)\nW = (a:-b)\n;\nno\n") }
     ensures order { Writes (codes "?- f(b) @> 3, a @< f(b), 1r2 @< 1.") (codes "true\n;\nno\n") }
     ensures concatenations { Writes (codes "?- atom_concat(X,Y,ab).") (codes "X = ''\nY = ab\n;\nX = a\nY = b\n;\nX = ab\nY = ''\n;\nno\n") }
-    ensures collected { Writes (codes "?- findall(X,(X=1;X=2),L).") (codes "L = [1,2]\n;\nno\n") }
 {}
 
 /// Values of expressions, and what has none.
 pub fn arithmetic()
     ensures values { Writes (codes "?- X is 7 mod -2, Y is -7//2, Z is 1/3.") (codes "X = -1\nY = -3\nZ = 1r3\n;\nno\n") }
-    ensures caught { Writes (codes "?- catch(X is foo+1,error(E,_),true).") (codes "E = type_error(evaluable,foo/0)\n;\nno\n") }
+    ensures evaluable { WritesError (codes "?- X is foo+1.") (codes "error: error(type_error(evaluable,foo/0),(is)/2)\n") }
     ensures overflow { WritesStop (codes "?- X is 170141183460469231731687303715884105727+1.") (codes "stop: overflow\n") }
 {}
 
@@ -37,10 +36,8 @@ pub fn output()
     ensures operator { Writes (codes "?- op(700,xfx,===>). ?- writeq(a===>b).") (codes "true\n;\nno\na===>btrue\n;\nno\n") }
 {}
 
-/// Balls that are caught, and one that is not.
+/// Balls that nothing catches.
 pub fn balls()
-    ensures thrown { Writes (codes "?- catch(throw(a),E,true).") (codes "E = a\n;\nno\n") }
-    ensures handed_on { Writes (codes "?- catch(catch(throw(a),b,true),X,true).") (codes "X = a\n;\nno\n") }
     ensures unknown { WritesError (codes "?- foo.") (codes "error: error(existence_error(procedure,foo/0),foo/0)\n") }
     ensures instantiation { WritesError (codes "?- atom_length(X,N).") (codes "error: error(instantiation_error,atom_length/2)\n") }
 {}
@@ -61,14 +58,10 @@ pub fn budgets()
     ensures endless { StopsAfter (codes "loop :- loop.") (codes "?- loop.") (codes "stop: resolutions\n") }
 {}
 
-/// Clauses of files, and clauses that come and go.
+/// Clauses of files.
 pub fn clauses()
     ensures cut { WritesAfter (codes "q(1). q(2). r(X) :- q(X), !.") (codes "?- r(X).") (codes "X = 1\n;\nno\n") }
     ensures opaque { WritesAfter (codes "p(1). p(2).") (codes "?- call((p(X),!)), p(Y).") (codes "X = 1\nY = 1\n;\nX = 1\nY = 2\n;\nno\n") }
-    ensures snapshot { WritesAfter (codes ":- dynamic p/1. p(1).") (codes "?- p(X), Y is X+1, assertz(p(Y)). ?- p(X).")
-        (codes "X = 1\nY = 2\n;\nno\nX = 1\n;\nX = 2\n;\nno\n") }
-    ensures changed { WritesAfter (codes ":- dynamic q/1. q(1). q(2).") (codes "?- retract(q(X)), assertz(q(9)), fail. ?- findall(X,q(X),L).")
-        (codes "no\nL = [9,9]\n;\nno\n") }
 {}
 
 /// Told constraints: one that fixes a variable, one that waits, one that a binding breaks, and one whose numbers overflow.

@@ -16,9 +16,9 @@ pub returns-clause-values : goal.returns-clause-values
 unfolding encode_utf8 chars is_utf8 first_char use_of begins_term ratio int_ℚ neg_ℚ inv_ℚ gcd ◌+ℚ◌ ◌*ℚ◌ is_bare_right is_bare_left is_bare_argument needs_quotes is_spaced infix_token pieces_at argument_pieces name_text is_apart
 returns-clause-values c = derived some_goals no_files (codes "?- X is 7 mod -2, Y is -7//2, Z is 1/3.") [] refl refl
 
-pub returns-clause-caught : goal.returns-clause-caught
+pub returns-clause-evaluable : goal.returns-clause-evaluable
 unfolding encode_utf8 chars is_utf8 first_char use_of begins_term ratio int_ℚ neg_ℚ inv_ℚ gcd ◌+ℚ◌ ◌*ℚ◌ is_bare_right is_bare_left is_bare_argument needs_quotes is_spaced infix_token pieces_at argument_pieces name_text is_apart
-returns-clause-caught c = derived some_goals no_files (codes "?- catch(X is foo+1,error(E,_),true).") [] refl refl
+returns-clause-evaluable c = derived some_goals no_files (codes "?- X is foo+1.") [] refl refl
 
 pub returns-clause-overflow : goal.returns-clause-overflow
 unfolding encode_utf8 chars is_utf8 first_char use_of begins_term ratio int_ℚ neg_ℚ inv_ℚ gcd ◌+ℚ◌ ◌*ℚ◌ is_bare_right is_bare_left is_bare_argument needs_quotes is_spaced infix_token pieces_at argument_pieces name_text is_apart

@@ -12,14 +12,6 @@ use Rattle.spec_examples.specs.Rows.{some_goals, no_files}
 use Rattle.spec_examples.proofs.Walk.{derived}
 use Rattle.spec_examples.proofs.balls.Goals as goal
 
-pub returns-clause-thrown : goal.returns-clause-thrown
-unfolding encode_utf8 chars is_utf8 first_char use_of begins_term ratio int_ℚ neg_ℚ inv_ℚ gcd ◌+ℚ◌ ◌*ℚ◌ is_bare_right is_bare_left is_bare_argument needs_quotes is_spaced infix_token pieces_at argument_pieces name_text is_apart
-returns-clause-thrown c = derived some_goals no_files (codes "?- catch(throw(a),E,true).") [] refl refl
-
-pub returns-clause-handed_on : goal.returns-clause-handed_on
-unfolding encode_utf8 chars is_utf8 first_char use_of begins_term ratio int_ℚ neg_ℚ inv_ℚ gcd ◌+ℚ◌ ◌*ℚ◌ is_bare_right is_bare_left is_bare_argument needs_quotes is_spaced infix_token pieces_at argument_pieces name_text is_apart
-returns-clause-handed_on c = derived some_goals no_files (codes "?- catch(catch(throw(a),b,true),X,true).") [] refl refl
-
 pub returns-clause-unknown : goal.returns-clause-unknown
 unfolding encode_utf8 chars is_utf8 first_char use_of begins_term ratio int_ℚ neg_ℚ inv_ℚ gcd ◌+ℚ◌ ◌*ℚ◌ is_bare_right is_bare_left is_bare_argument needs_quotes is_spaced infix_token pieces_at argument_pieces name_text is_apart
 returns-clause-unknown c = derived some_goals no_files (codes "?- foo.") [] refl refl

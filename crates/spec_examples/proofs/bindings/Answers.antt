@@ -31,7 +31,3 @@ returns-clause-order c = derived some_goals no_files (codes "?- f(b) @> 3, a @< 
 pub returns-clause-concatenations : goal.returns-clause-concatenations
 unfolding encode_utf8 chars is_utf8 first_char use_of begins_term ratio int_ℚ neg_ℚ inv_ℚ gcd ◌+ℚ◌ ◌*ℚ◌ is_bare_right is_bare_left is_bare_argument needs_quotes is_spaced infix_token pieces_at argument_pieces name_text is_apart
 returns-clause-concatenations c = derived some_goals no_files (codes "?- atom_concat(X,Y,ab).") [] refl refl
-
-pub returns-clause-collected : goal.returns-clause-collected
-unfolding encode_utf8 chars is_utf8 first_char use_of begins_term ratio int_ℚ neg_ℚ inv_ℚ gcd ◌+ℚ◌ ◌*ℚ◌ is_bare_right is_bare_left is_bare_argument needs_quotes is_spaced infix_token pieces_at argument_pieces name_text is_apart
-returns-clause-collected c = derived some_goals no_files (codes "?- findall(X,(X=1;X=2),L).") [] refl refl

@@ -19,11 +19,3 @@ returns-clause-cut c = derived some_goals (file (codes "q(1). q(2). r(X) :- q(X)
 pub returns-clause-opaque : goal.returns-clause-opaque
 unfolding encode_utf8 chars is_utf8 first_char use_of begins_term ratio int_ℚ neg_ℚ inv_ℚ gcd ◌+ℚ◌ ◌*ℚ◌ is_bare_right is_bare_left is_bare_argument needs_quotes is_spaced infix_token pieces_at argument_pieces name_text is_apart
 returns-clause-opaque c = derived some_goals (file (codes "p(1). p(2).")) (codes "?- call((p(X),!)), p(Y).") one_name refl refl
-
-pub returns-clause-snapshot : goal.returns-clause-snapshot
-unfolding encode_utf8 chars is_utf8 first_char use_of begins_term ratio int_ℚ neg_ℚ inv_ℚ gcd ◌+ℚ◌ ◌*ℚ◌ is_bare_right is_bare_left is_bare_argument needs_quotes is_spaced infix_token pieces_at argument_pieces name_text is_apart
-returns-clause-snapshot c = derived some_goals (file (codes ":- dynamic p/1. p(1).")) (codes "?- p(X), Y is X+1, assertz(p(Y)). ?- p(X).") one_name refl refl
-
-pub returns-clause-changed : goal.returns-clause-changed
-unfolding encode_utf8 chars is_utf8 first_char use_of begins_term ratio int_ℚ neg_ℚ inv_ℚ gcd ◌+ℚ◌ ◌*ℚ◌ is_bare_right is_bare_left is_bare_argument needs_quotes is_spaced infix_token pieces_at argument_pieces name_text is_apart
-returns-clause-changed c = derived some_goals (file (codes ":- dynamic q/1. q(1). q(2).")) (codes "?- retract(q(X)), assertz(q(9)), fail. ?- findall(X,q(X),L).") one_name refl refl
