@@ -1,0 +1,11 @@
+mod Agreement
+mod Members
+mod Numbering
+mod Counting
+mod RowTexts
+mod Whole
+mod Shows
+mod Joining
+mod Stands
+mod States
+mod Answered
