@@ -1,0 +1,10 @@
+//! The words of the command line: what they ask for, or that they are not in the command's language.
+#![tactic(auto)]
+
+mod run;
+#[cfg(test)]
+mod tests;
+mod words;
+
+pub use run::{ANSWERS, MOST, PIVOTS, Run, STEPS};
+pub use words::{WordsFault, read_words};
