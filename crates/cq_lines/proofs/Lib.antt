@@ -7,4 +7,5 @@ mod Whole
 mod Shows
 mod Joining
 mod Stands
+mod States
 mod Answered

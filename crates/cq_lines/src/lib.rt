@@ -55,12 +55,16 @@ pub fn answer_lines(
     ensures saved { saved_of world.new ≡ saved_of world.old }
 {
     let alloc: Global = world.heap.alloc();
+    let left = residues_of(&world.heap, &world.attrs, names)?;
     let Residues {
         free,
         waiting,
         wanted,
-    } = residues_of(&world.heap, &world.attrs, names)?;
-    let rows = project(alloc, world.store.told(), &wanted, world.store.pivots())?;
+    } = left;
+    let rows = match project(alloc, world.store.told(), &wanted, world.store.pivots()) {
+        Ok(rows) => rows,
+        Err(fault) => return Err(fault),
+    };
     let given = named_variables(alloc, free, &wanted, &rows)?;
     let writing = Writing {
         atoms,
