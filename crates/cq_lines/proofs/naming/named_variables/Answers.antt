@@ -1,6 +1,7 @@
-use Rattle.std.proofs.Common.{◌≡◌, ◌∙◌, ◌++◌, [], ℕ, List, length, drop, sym, ap, append-nil}
+use Rattle.std.proofs.Common.{◌≡◌, ◌∙◌, ◌++◌, ◌-◌, [], ℕ, List, length, take, drop, sym, ap, append-nil, arith}
 use Rattle.std.specs.Prelude.{filter}
 use Rattle.std.specs.List.{drop-map}
+use Rattle.std.proofs.lemmas.List.{length-drop, take_all}
 use Rattle.spec_answers.specs.Rows.{row_variables}
 use Rattle.cq_frac.specs.declared.VarId.{VarId}
 use Rattle.cq_walk.specs.Places.{numbers_of}
@@ -16,6 +17,7 @@ returns c =
     let rest = filter (has_variable (row_variables (rows_of c.args.rows.now))) (numbers_of c.args.rows.now.kept.items) in
     let e : from ≡ length first = c.len-from.ensures ∙ c.args.free.ok.0 in
     let a : AreCounted first [] from first = (e, sym (append-nil first)) in
+    let behind : take (length wanted - from) (drop from wanted) ≡ drop from wanted = take_all (length wanted - from) (drop from wanted) (omega (arith, length-drop from wanted)) in
     let b = c.in_ok-name_all.ensures.named first [] a in
-    let d = c.in_ok-name_kept.ensures first (numbers_of (drop from wanted)) b in
-    d.1 ∙ ap (λ us. first ++ counted 0 (us ++ rest)) (ap (λ n. numbers_of (drop n wanted)) e ∙ sym (drop-map (λ (v : VarId). v.0) (length first) wanted))
+    let d = c.in_ok-name_kept.ensures first (numbers_of (take (length wanted - from) (drop from wanted))) b in
+    d.1 ∙ ap (λ us. first ++ counted 0 (us ++ rest)) (ap numbers_of behind ∙ ap (λ n. numbers_of (drop n wanted)) e ∙ sym (drop-map (λ (v : VarId). v.0) (length first) wanted))
