@@ -1,7 +1,6 @@
 use Rattle.std.proofs.Common.{◌≡◌, ◌∙◌, ◌++◌, ◌-◌, [], ℕ, List, length, take, drop, sym, ap, append-nil, arith}
 use Rattle.std.specs.Prelude.{filter}
-use Rattle.std.specs.List.{drop-map}
-use Rattle.std.proofs.lemmas.List.{length-drop, take_all}
+use Rattle.std.proofs.lemmas.List.{drop-map, length-drop, take_all}
 use Rattle.spec_answers.specs.Rows.{row_variables}
 use Rattle.cq_frac.specs.declared.VarId.{VarId}
 use Rattle.cq_walk.specs.Places.{numbers_of}
