@@ -1,6 +1,6 @@
 -- Lines, one after another, and the line of a goal.
-use Rattle.std.proofs.Common.{◌≡◌, ℕ, ◌+◌, ◌<◌, List, [], ◌∷◌, ◌++◌, codes, length, take, map, refl, sym, ap, ap₂, ◌∙◌, subst, arith, append_assoc, append-nil}
-use Rattle.std.specs.Prelude.{All, Some, slice_get}
+use Rattle.std.proofs.Common.{◌≡◌, ℕ, ◌+◌, ◌<◌, List, [], ◌∷◌, ◌++◌, codes, length, take, map, refl, sym, ap, ap₂, ◌∙◌, subst, arith, append_assoc, append-nil, if◌then◌else◌}
+use Rattle.std.specs.Prelude.{All, Some, slice_get, Result, Ok, Err, OnOk, is_ok}
 use Rattle.std.proofs.lemmas.List.{map-append, get_or_push}
 use Rattle.std.proofs.lemmas.List.Elements.{All-get_or}
 use Rattle.spec_lists.specs.Texts.{Text}
@@ -18,6 +18,11 @@ use Rattle.cq_term.proofs.Named.{text_is}
 use Rattle.cq_printing.proofs.Lines.{lines_append}
 use Rattle.cq_residues.specs.Shown.{constraint_trees, goal_trees}
 use Rattle.cq_residues.proofs.Asleep.{constraints_more, goals_more}
+
+-- a text that a call that succeeds makes longer
+pub grown : {T E : Type 0} (r : Result T E) (new longer old : Text) → new ≡ (if is_ok r then longer else old) → OnOk r (new ≡ longer)
+grown (Ok x) new longer old e = e
+grown (Err f) new longer old e = tt
 
 -- one more line
 pub line_step : {A : Type 0} (f : A → Text) (old : Text) (xs : List A) (x : A) (text new : Text) → text ≡ old ++ lines_text (map f xs) → new ≡ text ++ (f x ++ codes "\n") →

@@ -8,7 +8,7 @@ use Rattle.cq_term.specs.Trees.{tree}
 use Rattle.cq_write.specs.Meaning.{operators}
 use Rattle.cq_write.proofs.Steps.{on_ok}
 use Rattle.cq_lines.specs.Lines.{goal_line}
-use Rattle.cq_lines.proofs.Joining.{made_tree}
+use Rattle.cq_lines.proofs.Joining.{made_tree, grown}
 use Rattle.cq_lines.proofs.lines.push_frozen.Goals as goal
 
 pub returns-clause-line : goal.returns-clause-line
@@ -24,4 +24,4 @@ returns-clause-line c =
     let trees = made ∙ ap (λ t. compound2 "freeze" t (tree texts h.terms c.args.goal)) (ap (named (text_of texts)) c.var_term-awaited.ensures.term) in
     on_ok c.extend_from_slice.result
     (λ e. e ∙ ap (λ t. t ++ codes "\n") c.in_ok-push_term.ensures ∙ append_assoc old (F (tree texts new c.in_ok-frozen.frozen)) (codes "\n") ∙ ap (λ t. old ++ (F t ++ codes "\n")) trees)
-    c.extend_from_slice.ensures.items
+    (grown c.extend_from_slice.result c.extend_from_slice.new.self.items (c.push_term.new.out.items ++ codes "\n") c.push_term.new.out.items c.extend_from_slice.ensures.items)
