@@ -18,22 +18,24 @@ counted_length k (u ∷ us) = ap suc (counted_length (suc k) us)
 pub next_counted : (first : List VariableName) (us : List ℕ) (from v : ℕ) (names new : List VariableName) → AreCounted first us from names →
     new ≡ names ++ record { name = counted_name (length names - from); number = v } ∷ [] → AreCounted first (us ++ v ∷ []) from new
 next_counted first us from v names new a e =
-    let long : length names - from ≡ 0 + length us = omega (arith, a.0, ap (λ (ns : List VariableName). length ns) a.1, length-append first (counted 0 us), counted_length 0 us) in
-    (a.0,
-    e ∙ ap₂ (λ ns n. ns ++ record { name = counted_name n; number = v } ∷ []) a.1 long
-    ∙ append_assoc first (counted 0 us) (record { name = counted_name (0 + length us); number = v } ∷ [])
-    ∙ ap (λ ns. first ++ ns) (sym (counted_push 0 us v)))
+    let long : length names - from ≡ 0 + length us = omega (arith, a.0, ap (λ (ns : List VariableName). length ns) a.1, length-append first (counted 0 us), counted_length 0 us) in (
+      a.0,
+      e ∙ ap₂ (λ ns n. ns ++ record { name = counted_name n; number = v } ∷ []) a.1 long
+          ∙ append_assoc first (counted 0 us) (record { name = counted_name (0 + length us); number = v } ∷ [])
+          ∙ ap (λ ns. first ++ ns) (sym (counted_push 0 us v)),
+    )
 
 -- all of them as far as they are named
 pub counted_more : (first : List VariableName) (us : List ℕ) (from : ℕ) (xs : List VarId) (i : ℕ) (x : VarId) (names new : List VariableName) → i < length xs → x ≡ get_or xs i x →
     AreCounted first (us ++ numbers_of (take i xs)) from names → new ≡ names ++ record { name = counted_name (length names - from); number = x.0 } ∷ [] →
     AreCounted first (us ++ numbers_of (take (i + 1) xs)) from new
 counted_more first us from xs i x names new l at a e =
-    let b = next_counted first (us ++ numbers_of (take i xs)) from x.0 names new a e in
-    (b.0,
-    b.1 ∙ ap (λ ws. first ++ counted 0 ws) (
-    append_assoc us (numbers_of (take i xs)) (x.0 ∷ [])
-    ∙ ap (λ ws. us ++ ws) (sym (map-append (λ (y : VarId). y.0) (take i xs) (x ∷ [])) ∙ ap numbers_of (sym (take_more xs i x l ∙ ap (λ y. take i xs ++ y ∷ []) (sym at))))))
+    let b = next_counted first (us ++ numbers_of (take i xs)) from x.0 names new a e in (
+      b.0,
+      b.1 ∙ ap (λ ws. first ++ counted 0 ws) (
+          append_assoc us (numbers_of (take i xs)) (x.0 ∷ [])
+          ∙ ap (λ ws. us ++ ws) (sym (map-append (λ (y : VarId). y.0) (take i xs) (x ∷ [])) ∙ ap numbers_of (sym (take_more xs i x l ∙ ap (λ y. take i xs ++ y ∷ []) (sym at))))),
+    )
 
 -- those that pass a test
 module _ (p : ℕ → Bool) (us : List ℕ) (xs : List VarId) (i : ℕ) (x : VarId) (l : i < length xs) (at : x ≡ get_or xs i x) where

@@ -58,7 +58,7 @@ module _ (name other : ℕ → Text) where
   equations_same (e ∷ es) h =
       ap₂ (λ t ts. t ∷ ts)
       (ap₂ (λ left right. related left (codes "=") right) (h e.variable (inl refl))
-          (linear_same e.form.products e.form.constant (λ v k. h v (inr (has_left (variables e.form.products) (equation_variables es) v k)))))
+      (linear_same e.form.products e.form.constant (λ v k. h v (inr (has_left (variables e.form.products) (equation_variables es) v k)))))
       (equations_same es (λ v k. h v (inr (has_right (variables e.form.products) (equation_variables es) v k))))
 
   inequalities_same : (is : List Inequality) → Agrees (inequality_variables is) → map (inequality_text name) is ≡ map (inequality_text other) is
@@ -83,7 +83,7 @@ module _ (name other : ℕ → Text) where
       let d = disequation_variables r.disequations in
       ap₂ (λ a b. a ++ b)
       (ap₂ (λ a b. a ++ b) (equations_same r.equations (λ v k. h v (has_left (e ++ i) d v (has_left e i v k))))
-          (inequalities_same r.inequalities (λ v k. h v (has_left (e ++ i) d v (has_right e i v k)))))
+      (inequalities_same r.inequalities (λ v k. h v (has_left (e ++ i) d v (has_right e i v k)))))
       (disequations_same r.disequations (λ v k. h v (has_right (e ++ i) d v k)))
 
 -- ---- the variables of rows are in their order

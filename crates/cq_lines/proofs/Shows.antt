@@ -139,7 +139,7 @@ module _ (texts : List Text) (h : Terms) (s : Subst Text) where
           AllZip (IsConstraint texts h s s) (cond (is_constraint k) (w ∷ filter (λ j. is_constraint j.susp) ws) (filter (λ j. is_constraint j.susp) ws)) ds →
           AllZip (IsSleeper texts h s s) (cond (is_goal k) (w ∷ filter (λ j. is_goal j.susp) ws) (filter (λ j. is_goal j.susp) ws)) zs →
           ((es : List Tree) (ys : List Sleeper) → AllZip (IsConstraint texts h s s) (filter (λ j. is_constraint j.susp) ws) es → AllZip (IsSleeper texts h s s) (filter (λ j. is_goal j.susp) ws) ys →
-              AreLive h (map (λ j. j.susp) ws)) → AreLive h (k ∷ map (λ j. j.susp) ws)
+          AreLive h (map (λ j. j.susp) ws)) → AreLive h (k ∷ map (λ j. j.susp) ws)
       by (susp.Delayed id) e [] zs y z rest = absurd y
       by (susp.Delayed id) e (d ∷ ds) zs y z rest = (delayed d y.0 id e, rest ds zs y.1 z)
       by (susp.Goal v id) e ds [] y z rest = absurd z

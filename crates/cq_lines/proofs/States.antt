@@ -23,8 +23,15 @@ use Rattle.cq_lines.proofs.Shows.{free_is, shown_is}
 pub free_first : (fs free : List VariableName) (ts : List Tree) (ws lent : List VarId) → free ≡ fs → numbers_of ws ≡ fold variables_after (numbers fs) ts → lent ≡ ws → length free ≤ length lent
 free_first fs free ts ws lent f e l =
     let b = begins_fold ts (numbers fs) in
-    omega (arith, ap (λ (ns : List VariableName). length ns) f, ap (λ (vs : List ℕ). length vs) (e ∙ b.1), length-append (numbers fs) b.0,
-    length-map fs (λ (n : VariableName). n.number), length-map ws (λ (v : VarId). v.0), ap (λ (vs : List VarId). length vs) l)
+    omega (
+      arith,
+      ap (λ (ns : List VariableName). length ns) f,
+      ap (λ (vs : List ℕ). length vs) (e ∙ b.1),
+      length-append (numbers fs) b.0,
+      length-map fs (λ (n : VariableName). n.number),
+      length-map ws (λ (v : VarId). v.0),
+      ap (λ (vs : List VarId). length vs) l,
+    )
 
 module _ (names : List VariableName) (st : State) (texts : List Text) (c : Contents) (ready : IsReadyAs texts c st) (live : All (λ (n : VariableName). n.number < length c.heap.images) names) where
   -- a fact of these variables and the constraints that were told
@@ -33,5 +40,5 @@ module _ (names : List VariableName) (st : State) (texts : List Text) (c : Conte
       P (numbers_of lent) told → P (wanted names st) st.linear
   at_state P ws lent told e l t p =
       let same : numbers_of lent ≡ wanted names st =
-          ap numbers_of l ∙ e ∙ ap₂ (λ (ns : List VariableName) ts. fold variables_after (numbers ns) ts) (free_is texts c st ready.stands names live) (shown_is texts c st ready.stands names live) in
+      ap numbers_of l ∙ e ∙ ap₂ (λ (ns : List VariableName) ts. fold variables_after (numbers ns) ts) (free_is texts c st ready.stands names live) (shown_is texts c st ready.stands names live) in
       subst (λ m. P (wanted names st) m) (t ∙ ready.stands.linear) (subst (λ vs. P vs told) same p)

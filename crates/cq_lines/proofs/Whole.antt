@@ -107,14 +107,14 @@ module _ (ops : Ops) (names : List VariableName) (st : State) (r : Rows) (kept :
     lines_are =
         let first = all_front IsNamed (bound_terms ++ delayed_terms) asleep_terms terms_named in
         let a = map_agree (λ n. st.bindings n.number) (binding_line ops given_names st.bindings) (λ n. n.name ++ codes " = " ++ term_text ops names st order r 699 (st.bindings n.number)) IsNamed
-            (λ n h. ap (λ t. n.name ++ codes " = " ++ t) (text_is 699 (st.bindings n.number) h)) (bound_queries names st) (all_front IsNamed bound_terms delayed_terms first) in
+        (λ n h. ap (λ t. n.name ++ codes " = " ++ t) (text_is 699 (st.bindings n.number) h)) (bound_queries names st) (all_front IsNamed bound_terms delayed_terms first) in
         let b = ap (map braced) rows_are in
         let c = map_twice (read st) (constraint_line ops given_names) st.delayed
-            ∙ map_agree (read st) (λ t. constraint_line ops given_names (read st t)) (λ t. braced (term_text ops names st order r 1200 (read st t))) IsNamed
-            (λ t h. ap braced (text_is 1200 (read st t) h)) st.delayed (all_behind IsNamed bound_terms delayed_terms first) in
+        ∙ map_agree (read st) (λ t. constraint_line ops given_names (read st t)) (λ t. braced (term_text ops names st order r 1200 (read st t))) IsNamed
+        (λ t h. ap braced (text_is 1200 (read st t) h)) st.delayed (all_behind IsNamed bound_terms delayed_terms first) in
         let d = map_twice (λ (s : Sleeper). read st (asleep_term s.asleep)) (goal_line ops given_names) st.sleepers
-            ∙ map_agree (λ (s : Sleeper). read st (asleep_term s.asleep)) (λ s. goal_line ops given_names (read st (asleep_term s.asleep))) (λ s. term_text ops names st order r 1200 (read st (asleep_term s.asleep))) IsNamed
-            (λ s h. text_is 1200 (read st (asleep_term s.asleep)) h) st.sleepers (all_behind IsNamed (bound_terms ++ delayed_terms) asleep_terms terms_named) in
+        ∙ map_agree (λ (s : Sleeper). read st (asleep_term s.asleep)) (λ s. goal_line ops given_names (read st (asleep_term s.asleep))) (λ s. term_text ops names st order r 1200 (read st (asleep_term s.asleep))) IsNamed
+        (λ s h. text_is 1200 (read st (asleep_term s.asleep)) h) st.sleepers (all_behind IsNamed (bound_terms ++ delayed_terms) asleep_terms terms_named) in
         ap₂ (λ x y. x ++ y) (ap₂ (λ x y. x ++ y) (ap₂ (λ x y. x ++ y) a b) c) d
 
   -- a text of these lines is that of an answer

@@ -89,7 +89,7 @@ fn push_bindings(
     requires known { KnowsTerms writing.now.atoms.now heap.now.now.terms }
     ensures { OnOk result (out.new.items ≡ out.old.items
         ++ lines_text (map (binding_line (operators writing.now.atoms.now writing.now.ops.now) writing.now.names.now (tree writing.now.atoms.now heap.now.now.images))
-            (bound_in (tree writing.now.atoms.now heap.now.now.images) queries.now))) }
+        (bound_in (tree writing.now.atoms.now heap.now.now.images) queries.now))) }
 {
     'queries: for named in queries {
         if is_bound_query(heap, named) {
@@ -152,7 +152,7 @@ fn push_frozen(
     requires known { KnowsTerms writing.now.atoms.now heap.old.now.terms }
     ensures line { OnOk result (out.new.items ≡ out.old.items
         ++ (goal_line (operators writing.now.atoms.now writing.now.ops.now) writing.now.names.now
-            (compound2 "freeze" (tree writing.now.atoms.now heap.old.now.images variable.0) (tree writing.now.atoms.now heap.old.now.terms goal)) ++ codes "\n")) }
+        (compound2 "freeze" (tree writing.now.atoms.now heap.old.now.images variable.0) (tree writing.now.atoms.now heap.old.now.terms goal)) ++ codes "\n")) }
     ensures saved { heap.new.saved ≡ heap.old.saved }
 {
     let awaited = heap.var_term(variable);
@@ -176,7 +176,7 @@ fn push_goal(
     requires known { KnowsTerms writing.now.atoms.now heap.old.now.terms }
     ensures line { OnOk result (out.new.items ≡ out.old.items
         ++ (goal_line (operators writing.now.atoms.now writing.now.ops.now) writing.now.names.now
-            (compound2 "freeze" (tree writing.now.atoms.now heap.old.now.images variable.0) (tree writing.now.atoms.now heap.old.now.terms goal)) ++ codes "\n")) }
+        (compound2 "freeze" (tree writing.now.atoms.now heap.old.now.images variable.0) (tree writing.now.atoms.now heap.old.now.terms goal)) ++ codes "\n")) }
     ensures now { heap.new.now ≡ heap.old.now }
     ensures saved { heap.new.saved ≡ heap.old.saved }
 {
@@ -226,8 +226,8 @@ pub(crate) fn lines_of(
     requires known { KnowsTerms writing.now.atoms.now heap.old.now.terms }
     ensures lines { IfOk result (λ text. text.items
         ≡ lines_text (or_true (lines_with (operators writing.now.atoms.now writing.now.ops.now) writing.now.names.now (name_among writing.now.names.now)
-            (tree writing.now.atoms.now heap.old.now.images) (bound_in (tree writing.now.atoms.now heap.old.now.images) queries.now) (rows_of rows.now)
-            (constraint_trees writing.now.atoms.now heap.old.now waiting.now) (goal_trees writing.now.atoms.now heap.old.now waiting.now)))) }
+        (tree writing.now.atoms.now heap.old.now.images) (bound_in (tree writing.now.atoms.now heap.old.now.images) queries.now) (rows_of rows.now)
+        (constraint_trees writing.now.atoms.now heap.old.now waiting.now) (goal_trees writing.now.atoms.now heap.old.now waiting.now)))) }
     ensures now { heap.new.now ≡ heap.old.now }
     ensures saved { heap.new.saved ≡ heap.old.saved }
 {

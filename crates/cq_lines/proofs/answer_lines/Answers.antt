@@ -37,10 +37,11 @@ returns-in-Err-clause-overflow c = λ pair e st ready.
 
 pub returns-in-Err-clause-pivots : goal.returns-in-Err-clause-pivots
 returns-in-Err-clause-pivots c = λ n e st ready.
-    let fault = c.in-Err.ensures.pivots n (ap Err (one_fault c.in-Err.fault _ e)) in
-    (fault.0 ∙ c.pivots.ensures,
-    at_state c.args.names.now st c.args.atoms.now (now_of c.args.world.now) ready c.requires.live (λ vs l. IsSpentAnswering vs l n)
-    c.in_ok-left.left.wanted.items c.deref.result.now c.told.result.now (c.in_ok-left.ensures.wanted c.args.atoms.now) c.deref.ensures.value c.told.ensures.told fault.1)
+    let fault = c.in-Err.ensures.pivots n (ap Err (one_fault c.in-Err.fault _ e)) in (
+      fault.0 ∙ c.pivots.ensures,
+      at_state c.args.names.now st c.args.atoms.now (now_of c.args.world.now) ready c.requires.live (λ vs l. IsSpentAnswering vs l n)
+          c.in_ok-left.left.wanted.items c.deref.result.now c.told.result.now (c.in_ok-left.ensures.wanted c.args.atoms.now) c.deref.ensures.value c.told.ensures.told fault.1,
+    )
 
 pub returns-in-Err-clause-limit : goal.returns-in-Err-clause-limit
 returns-in-Err-clause-limit c = λ st ready.
@@ -72,13 +73,13 @@ returns-clause-answer c = λ st ready.
     let images = tree texts w.heap.images in
     let targets = numbers_of left.wanted.items in
     let projection =
-        subst (λ l. IsProjection targets l rows) c.told.ensures.told
-        (subst (λ (vs : List VarId). IsProjection (numbers_of vs) c.told.result.now rows) c.deref.ensures.value c.in-Ok.ensures.rows) in
+    subst (λ l. IsProjection targets l rows) c.told.ensures.told
+    (subst (λ (vs : List VarId). IsProjection (numbers_of vs) c.told.result.now rows) c.deref.ensures.value c.in-Ok.ensures.rows) in
     let are_given = c.deref-3.ensures.value ∙ c.in_ok-given.ensures
-        ∙ ap (λ (vs : List VarId). left.free.items ++ counted 0 (drop (length left.free.items) (numbers_of vs) ++ filter (has_variable (row_variables (rows_of rows))) (numbers_of rows.kept.items)))
-        c.deref-2.ensures.value in
+    ∙ ap (λ (vs : List VarId). left.free.items ++ counted 0 (drop (length left.free.items) (numbers_of vs) ++ filter (has_variable (row_variables (rows_of rows))) (numbers_of rows.kept.items)))
+    c.deref-2.ensures.value in
     let is_text = c.in_ok-text.ensures.lines
-        ∙ ap (λ (ks : List Susp). lines_text (or_true (lines_with ops given (name_among given) images (bound_in images names) (rows_of rows) (constraint_trees texts w.heap ks) (goal_trees texts w.heap ks))))
-        (c.deref-4.ensures.value ∙ said.waiting) in
+    ∙ ap (λ (ks : List Susp). lines_text (or_true (lines_with ops given (name_among given) images (bound_in images names) (rows_of rows) (constraint_trees texts w.heap ks) (goal_trees texts w.heap ks))))
+    (c.deref-4.ensures.value ∙ said.waiting) in
     answered ops names st texts w ready c.requires.live rows left.free.items given targets c.in_ok-text.text.items
     (said.free texts) (said.wanted texts) said.distinct projection are_given is_text

@@ -28,10 +28,10 @@ returns-clause-lines c =
     let ms = map (constraint_line ops given) (constraint_trees w.atoms.now h c.args.waiting.now) in
     let ns = map (goal_line ops given) (goal_trees w.atoms.now h c.args.waiting.now) in
     let rows = c.in_ok-push_rows.ensures
-        ∙ ap (λ es. c.push_bindings.new.out.items ++ lines_text (map braced (row_texts (name_among given) (printed_rows es c.deref-2.result.now c.deref-3.result.now)))) c.deref.ensures.value
-        ∙ ap₂ (λ is ds. c.push_bindings.new.out.items ++ lines_text (map braced (row_texts (name_among given) (printed_rows r.equations.items is ds)))) c.deref-2.ensures.value c.deref-3.ensures.value in
+    ∙ ap (λ es. c.push_bindings.new.out.items ++ lines_text (map braced (row_texts (name_among given) (printed_rows es c.deref-2.result.now c.deref-3.result.now)))) c.deref.ensures.value
+    ∙ ap₂ (λ is ds. c.push_bindings.new.out.items ++ lines_text (map braced (row_texts (name_among given) (printed_rows r.equations.items is ds)))) c.deref-2.ensures.value c.deref-3.ensures.value in
     let all = four_kinds ks ls ms ns c.new-text.result.items c.push_bindings.new.out.items c.push_rows.new.out.items c.push_constraints.new.out.items c.push_goals.new.out.items
-        c.new-text.ensures.items c.in_ok-push_bindings.ensures rows c.in_ok-push_constraints.ensures c.in_ok-push_goals.ensures.lines in
+    c.new-text.ensures.items c.in_ok-push_bindings.ensures rows c.in_ok-push_constraints.ensures c.in_ok-push_goals.ensures.lines in
     let long = c.push_goals.new.out.ok.0 in
     elim c.if-is_empty.branch [
       | then-is_empty+in_ok-extend_from_slice b ↦
