@@ -74,9 +74,9 @@ pub on_ok : {A E : Type 0} (r : Result A E) (P Q : Type 0) → (P → Q) → OnO
 on_ok (Ok x) P Q f h = f h
 on_ok (Err e) P Q f h = h
 
-pub if_all_ok : {A E : Type 0} (r : Result A E) (P Q R S : A → Type 0) → ((x : A) → P x → Q x → R x → S x) → IfOk r P → IfOk r Q → IfOk r R → IfOk r S
-if_all_ok (Ok x) P Q R S f h k l = f x h k l
-if_all_ok (Err e) P Q R S f h k l = h
+pub if_all_ok : {A E : Type 0} (r : Result A E) (P Q R S U : A → Type 0) → ((x : A) → P x → Q x → R x → S x → U x) → IfOk r P → IfOk r Q → IfOk r R → IfOk r S → IfOk r U
+if_all_ok (Ok x) P Q R S U f h k l m = f x h k l m
+if_all_ok (Err e) P Q R S U f h k l m = h
 
 -- ---- the same for the roles of some numbers
 -- each change stands at a role that R lets become so, and each role of these numbers without a change is one that R lets be

@@ -1,6 +1,7 @@
 -- For each column a list of rows, among which are those with an entry in it.
 use Rattle.std.specs.Prelude.{◌≡◌, ◌⊎◌, ℕ, suc, ◌<◌, ◌≤◌, List, length, slice_get, Some}
 use Rattle.std.specs.List.{Contains}
+use Rattle.std.specs.List.Sorted.{IsStrictlyIncreasing}
 use Rattle.cq_trail.specs.StackValue.{StackValue}
 use Rattle.cq_trail.specs.TrailValue.{TrailValue}
 use Rattle.cq_row.specs.declared.Entry.{Entry}
@@ -15,9 +16,10 @@ use Rattle.cq_dict.specs.Roles.{IsAt}
 abbrev pub Holds : Row → ℕ → Type 0
 Holds own c = (m : Entry) × (Has m own.live ⊎ Has m own.dropped) × (m.quantity ≡ c)
 
--- the numbers: the column's own, and those of all rows that hold it
+-- the numbers, in ascending order: the column's own, and those of all rows that hold it
 pub record AreTouched (roles : List Role) (column : ℕ) (rows : List ℕ) : Type 0 where
   pub within : (r : ℕ) → Contains rows r → r < length roles
+  pub ascending : IsStrictlyIncreasing rows
   pub own : Contains rows column
   pub all : (r : ℕ) (row : Row) → IsAt roles r (Basic row) → Holds row column → Contains rows r
 

@@ -12,13 +12,13 @@ ghost use Rattle.cq_dict.specs.declared.table.Role.{Role};
 ghost use Rattle.cq_dict.specs.declared.table.Role.TheVariants.{Live, Dropped, Basic};
 ghost use Rattle.cq_dict.specs.Changes.{Changes, IsWritten};
 ghost use Rattle.cq_dict.specs.Roles.{IsAt, IsRow, AreOverColumns, is_live, is_dropped as has_dropped, is_restricted as flag_of, HasEntry, IsExchanged, IsEliminated, ChangesKind};
-ghost use Rattle.cq_dict.specs.Holders.{AreTouched};
+ghost use Rattle.cq_dict.specs.Holders.{AreHeld, AreTouched};
 ghost use Rattle.cq_dict.specs.Dict.{SameMeaning, AddsRow, DefinesLast, RefusesPivot, RefusesForm, NoPivotPair, NoFormPair};
 
 use crate::columns::Turn;
 use crate::exchange::{eliminate, exchange};
 use crate::form::expressed;
-use crate::holders::{Cell, hold_changes, hold_new, listed};
+use crate::holders::{Cell, Lists, hold_changes, hold_new, listed};
 use crate::table::{Change, Role, write};
 use cq_frac::{Frac, Refusal};
 use cq_row::Entry;
@@ -169,8 +169,18 @@ impl Dict {
         self.basic(r).constant()
     }
 
+    /// For each column the list of the rows that hold it, and maybe of others: a row may stand on a list twice.
+    pub fn lists(&self) -> Lists<'_>
+        ensures { AreHeld self.now.roles result.heads.now result.cells.now }
+    {
+        Lists {
+            heads: self.heads.as_slice(),
+            cells: self.cells.as_slice(),
+        }
+    }
+
     /// The column's own number and those of the rows that hold it, and maybe of others, in ascending order.
-    fn touched(&self, c: Col) -> Result<Vec<usize>, AllocError>
+    pub fn touched(&self, c: Col) -> Result<Vec<usize>, AllocError>
         requires { AreOverColumns self.now.roles → c < length self.now.roles }
         ensures { IfOk result (λ rows. AreTouched self.now.roles c rows.items) }
     {

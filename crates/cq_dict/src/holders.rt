@@ -4,6 +4,7 @@
 ghost use Rattle.std.specs.Prelude.{◌≡◌, ◌<◌, ℕ, length, slice_get, Some, IfOk, OnOk};
 ghost use Rattle.std.specs.Bool.{OnTrue};
 ghost use Rattle.std.specs.List.{Contains};
+ghost use Rattle.std.specs.List.Sorted.{IsStrictlyIncreasing};
 ghost use Rattle.cq_row.specs.declared.Entry.{Entry};
 ghost use Rattle.cq_row.specs.Row.{Row};
 ghost use Rattle.cq_row.specs.Rows.{everywhere, Has};
@@ -28,6 +29,13 @@ pub struct Cell {
     pub older: usize,
 }
 
+/// For each quantity the list of the rows that hold it as a column, and the cells of all lists.
+#[derive(Clone, Copy)]
+pub struct Lists<'a> {
+    pub heads: &'a [usize],
+    pub cells: &'a [Cell],
+}
+
 /// The column's own number and the rows below `count` on its list, in ascending order.
 pub fn listed(
     alloc: Global,
@@ -40,6 +48,7 @@ pub fn listed(
     requires there { column < length heads.now }
     requires column { column < count }
     ensures within { IfOk result (λ rows. (r : ℕ) → Contains rows.items r → r < count) }
+    ensures ascending { IfOk result (λ rows. IsStrictlyIncreasing rows.items) }
     ensures own { IfOk result (λ rows. Contains rows.items column) }
     ensures all { IfOk result (λ rows. (r : ℕ) → r < count → IsListed heads.now cells.now column r → Contains rows.items r) }
 {

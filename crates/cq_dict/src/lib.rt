@@ -8,7 +8,7 @@ mod columns;
 pub mod dict;
 mod exchange;
 mod form;
-mod holders;
+pub mod holders;
 pub mod table;
 
 ghost use Rattle.std.specs.Prelude.{List};

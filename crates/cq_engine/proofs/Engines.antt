@@ -150,7 +150,7 @@ drop_all (x ∷ xs) = drop_all xs
 pub last-none : {A : Type 0} (xs : List A) → last 0 xs ≡ []
 last-none xs = let e : length xs - 0 ≡ length xs = omega arith in ap (λ (n : ℕ). drop n xs) e ∙ drop_all xs
 
-zip_none : {A B : Type 0} (xs : List A) (ys : List B) → ys ≡ [] → zip xs ys ≡ []
+pub zip_none : {A B : Type 0} (xs : List A) (ys : List B) → ys ≡ [] → zip xs ys ≡ []
 zip_none [] ys e = refl
 zip_none (x ∷ xs) [] e = refl
 zip_none (x ∷ xs) (y ∷ ys) e = absurd (omega (arith, ap length e))

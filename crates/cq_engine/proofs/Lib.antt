@@ -1,2 +1,2 @@
-mod Told
-mod Engines
+pub mod Told
+pub mod Engines

@@ -41,10 +41,11 @@ pub enum Front {
     Stop(Cause),
 }
 
-/// The query stops: the machine has no branch left.
-fn halt(m: &mut Machine)
+/// The query ends: the machine has no branch left.
+pub fn halt(m: &mut Machine)
     requires { IsKept m.old }
     ensures none_left { holds m.new ≡ [] }
+    ensures atoms { m.new.atoms ≡ m.old.atoms }
     ensures now { now m.new ≡ now m.old }
     ensures kept { IsKept m.new }
     ensures program { GainsNames m.old m.new }

@@ -4,5 +4,5 @@
 mod front;
 mod seeking;
 
-pub use front::{Cause, Front, look};
+pub use front::{Cause, Front, halt, look};
 pub use seeking::seek;

@@ -21,6 +21,7 @@ use Rattle.cq_table.specs.Names.{built_in}
 use Rattle.cq_term.specs.Trees.{tree}
 use Rattle.cq_steps.proofs.Added.{reads_tree}
 use Rattle.cq_ways.specs.Calls as ways
+use Rattle.cq_ways.proofs.Leading.{made_is}
 use Rattle.cq_machine.specs.declared.machine.Machine.{Machine}
 use Rattle.cq_machine.specs.declared.step.Step.{Step}
 use Rattle.cq_machine.specs.declared.step.Step.TheVariants.{Goes, Back, Raises, Refuses}
@@ -49,13 +50,6 @@ is_predicate SubAtom = refl
 pub named_so : (g : Tree) (q : Predicate) → builtin_of (indicator_of g) ≡ Some (built_in q) → predicate_named (indicator_of g) ≡ Some q
 named_so g q e = ap (option_and_then predicate_of) e ∙ is_predicate q
 
-same_made : (m n : Made) → Makes m ≡ Makes n → m ≡ n
-same_made m n e = cc
-
-made_is : (p : Place) (goal : Tree) (s : Solutions) (m : Made) → offers p s ≡ Makes m → Children m ≡ stepped_by p goal s
-made_is p goal (Faults e) m h = cc
-made_is p goal (Offers found) m h = ap Children (sym (same_made (made p (map (alternative_child p) found)) m h))
-
 no_overflow : (p : Place) (s : Solutions) (pair : Pair) → offers p s ≡ reply.Overflows pair → ⊥
 no_overflow p (Faults e) pair h = cc
 no_overflow p (Offers found) pair h = cc
@@ -76,10 +70,10 @@ module _ (old new : Machine) (more : HasMoreNames old new) (id height rest : ℕ
     reached : Row
     reached (Goes k) l =
         continues new p behind g (at.database ∙ sym more.database) (Some k) (ways.row_of q p (arguments g)) l
-        ((called p g q (named_so g q found) at.reads.1 (Children l.made)).1 (made_is p g (solutions_of q p.state.fresh (arguments g)) l.made l.row))
+        ((called p g q (named_so g q found) at.reads.1 (Children l.made)).1 (sym (made_is p g (solutions_of q p.state.fresh (arguments g)) l.made l.row)))
     reached Back l =
         continues new p behind g (at.database ∙ sym more.database) None (ways.row_of q p (arguments g)) l
-        ((called p g q (named_so g q found) at.reads.1 (Children l.made)).1 (made_is p g (solutions_of q p.state.fresh (arguments g)) l.made l.row))
+        ((called p g q (named_so g q found) at.reads.1 (Children l.made)).1 (sym (made_is p g (solutions_of q p.state.fresh (arguments g)) l.made l.row)))
     reached (Raises e) h = record {
       is = replies p g (built_in q) found ∙ errors (built_in q) q (is_predicate q) p (arguments g) _ h;
       database = at.database ∙ sym more.database;

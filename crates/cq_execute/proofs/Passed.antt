@@ -21,6 +21,7 @@ use Rattle.cq_term.specs.Trees.{tree}
 use Rattle.cq_steps.specs.Worlds.{IsBranch, term_in, Selected}
 use Rattle.cq_steps.proofs.Branches.{branches_rest}
 use Rattle.cq_steps.proofs.Control.{goes_on_with}
+use Rattle.cq_ways.proofs.Leading.{same_made}
 use Rattle.cq_machine.specs.declared.machine.Machine.{Machine}
 use Rattle.cq_machine.specs.declared.names.Names.{Names}
 use Rattle.cq_machine.specs.declared.step.Step.{Step}
@@ -32,9 +33,6 @@ use Rattle.cq_execute.specs.Executions.{Continues, Reaches}
 use Rattle.cq_execute.specs.Rows.{IsDone}
 use Rattle.cq_execute.proofs.Reached.{quietly}
 use Rattle.cq_execute.proofs.Done.{same_machine, keeps_clauses, reply_at}
-
-same_made : (m n : Made) → Makes m ≡ Makes n → m ≡ n
-same_made m n e = cc
 
 -- the goal has done its part, with this output and the machine's program
 passes : (m : Machine) (height rest : ℕ) (p : Place) (behind : List Branch) (g : Tree) (text : Text) → Selected m.atoms (holds m) (now m) height rest p behind

@@ -1,3 +1,3 @@
 mod Arguments
-mod Errors
-mod Machines
+pub mod Errors
+pub mod Machines

@@ -1,14 +1,12 @@
 -- The row of discontiguous(P), by its declaration.
-use Rattle.std.proofs.Common.{◌≡◌, ℕ, List, [], ◌∷◌, Bool, true, false, if◌then◌else◌, Option, None, Some, map, drop, sym, ap, ap₂, ◌∙◌, subst, refl}
-use Rattle.std.specs.Prelude.{is_some}
-use Rattle.std.specs.Option.{option_map}
+use Rattle.std.proofs.Common.{◌≡◌, List, Option, None, Some, sym, ap, ap₂, ◌∙◌}
 use Rattle.spec_syntax.specs.Trees.{Tree}
 use Rattle.spec_built.specs.Built.{Indicator}
 use Rattle.spec_built.specs.Errors.{or_error}
-use Rattle.spec_builtins.specs.Clauses.{declarations, declaration_error, not_changeable}
+use Rattle.spec_builtins.specs.Clauses.{declarations, declaration_error}
 use Rattle.spec_search.specs.Builtins.{is_built_in}
 use Rattle.spec_search.specs.Changes.{discontiguous_row}
-use Rattle.spec_search.specs.Replies.{Place, Reply, Raises, goes_on, succeeds_if, unless_error}
+use Rattle.spec_search.specs.Replies.{Place, Raises, goes_on, unless_error}
 use Rattle.cq_declarations.specs.Declarations.{own_error, built_in_error}
 
 -- the errors of a declaration are looked for in turn
@@ -28,12 +26,3 @@ pub row_of_all : (p : Place) (t : Tree) (is : List Indicator) (o : Option Tree) 
     → discontiguous_row p t ≡ unless_error o (goes_on p p.rest)
 row_of_all p t is o turn own are found =
     row_by p t o (turn ∙ ap₂ (λ (x : Option Tree) (l : List Indicator). or_error x (built_in_error is_built_in l)) own (sym are) ∙ found)
-
--- ---- the first that is built in
-
-pub is_some-map : {A B : Type 0} (f : A → B) (o : Option A) → is_some (option_map f o) ≡ is_some o
-is_some-map f None = refl
-is_some-map f (Some x) = refl
-
-pub error_first : (b : Bool) (i : Indicator) (is : List Indicator) → is_built_in i ≡ b → built_in_error is_built_in (i ∷ is) ≡ if b then Some (not_changeable i) else built_in_error is_built_in is
-error_first b i is e = ap (λ (x : Bool). if x then Some (not_changeable i) else built_in_error is_built_in is) e

@@ -1,5 +1,5 @@
 -- A goal's called term with its further arguments, as a machine builds it.
-use Rattle.std.proofs.Common.{◌≡◌, ◌<◌, ℕ, List, length, map, drop, Some, refl, sym, ap, ap₂, ◌∙◌, subst}
+use Rattle.std.proofs.Common.{◌≡◌, ◌<◌, ℕ, List, length, drop, Some, refl, sym, ap₂, ◌∙◌, subst}
 use Rattle.std.specs.Prelude.{slice_get}
 use Rattle.spec_lists.specs.Texts.{Text}
 use Rattle.spec_terms.specs.Term.{Var, Number, Name, Compound}

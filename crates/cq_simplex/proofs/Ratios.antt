@@ -1,11 +1,11 @@
 -- The ratio test: which rows limit a column, and the first of them.
-use Rattle.std.proofs.Common.{◌≡◌, ℕ, ◌+◌, ◌<◌, List, [], ◌∷◌, Bool, true, pos, arith, refl, ap, ap₂, sym, subst, ◌∙◌, ◌⊎◌, inl, inr, Option, Some, None}
-use Rattle.std.specs.Prelude.{MatchOption}
+use Rattle.std.proofs.Common.{◌≡◌, ℕ, ◌≤◌, length, List, [], ◌∷◌, Bool, true, pos, arith, refl, ap, ap₂, sym, subst, ◌∙◌, ◌⊎◌, inl, inr, Option, Some, None}
+use Rattle.std.specs.Prelude.{MatchOption, slice_get}
 use Rattle.spec_rational.specs.Rational.{ℚ, 0ℚ, ◌*ℚ◌, ◌/ℚ◌, neg_ℚ, inv_ℚ, IsPositive, IsNotNegative, ◌≤ℚ◌, ◌<ℚ◌}
 use Rattle.spec_rational.proofs.Ring.{var, int, ◌⊕◌, ◌⊗◌, minus}
 use Rattle.spec_rational.proofs.Rational.{ring}
 use Rattle.spec_rational.proofs.Sign.{not_pos_zero, not_both, times_inverse}
-use Rattle.spec_rational.proofs.Order.{le_refl, lt_to_le, lt_le_trans, lt_irrefl, cmp_ℚ-matches}
+use Rattle.spec_rational.proofs.Order.{le_refl, lt_to_le, lt_trans, lt_irrefl, cmp_ℚ-matches}
 use Rattle.spec_rational.specs.Order.{cmp_ℚ}
 use Rattle.std.specs.declared.cmp.Ordering.{Ordering}
 use Rattle.std.specs.declared.cmp.Ordering.TheVariants.{Less, Equal, Greater}
@@ -24,7 +24,12 @@ use Rattle.cq_dict.specs.declared.table.Role.TheVariants.{Live, Dropped, Basic}
 use Rattle.cq_dict.specs.Roles.{IsAt, AreOverColumns, HasEntry, PivotPair, pivot_quotient, is_live, is_restricted, role_at, row_role, factor_at}
 use Rattle.cq_simplex.specs.declared.leaving.Limit.{Limit}
 use Rattle.cq_simplex.specs.Dictionary.{dictionary}
-use Rattle.cq_simplex.specs.Turns.{LeavesOf, NoneLimits, IsRefusedRatio, IsFirstOf}
+use Rattle.cq_simplex.specs.Turns.{Precedes, LeavesOf, NoneLimits, IsRefusedRatio, IsNearer, IsFirstOf}
+use Rattle.cq_dict.specs.declared.holders.Cell.{Cell}
+use Rattle.cq_dict.specs.Holders.{IsOn, AreHeld}
+use Rattle.std.proofs.lemmas.Option.{same_Some}
+use Rattle.cq_simplex.proofs.Entries.{has_entry}
+use Rattle.cq_simplex.proofs.Roles.{all_below}
 use Rattle.cq_dict.proofs.Roles.{role_is, constant_is, factor_is, row_is}
 
 negative_positive : (f : ℚ) → f <ℚ 0ℚ → IsPositive (neg_ℚ f)
@@ -49,6 +54,10 @@ not_less_ratio p q n = go (cmp_ℚ p q) n (cmp_ℚ-matches p q)
     go Less n h = absurd (n refl)
     go Equal n h = subst (λ z. q ≤ℚ z) (sym h) (le_refl q)
     go Greater n h = lt_to_le h
+
+-- what a comparison of two ratios tells
+pub compared : (p q : ℚ) (o : Ordering) → cmp_ℚ p q ≡ o → MatchOrdering o (p <ℚ q) (p ≡ q) (q <ℚ p)
+compared p q o e = subst (λ r. MatchOrdering r (p <ℚ q) (p ≡ q) (q <ℚ p)) e (cmp_ℚ-matches p q)
 
 -- ---- one row
 pub column_no_limit : (roles : List Role) (restricted : ℕ → Bool) (asked column q : ℕ) → IsAt roles q Live ⊎ IsAt roles q Dropped → Limits restricted (dictionary roles asked) column q → ⊥
@@ -88,66 +97,100 @@ module _ (roles : List Role) (flags : List Bool) (table : AreOverColumns roles) 
           refused = t.refused;
         })
 
+-- ---- a row that limits the column stands on its list
+pub limits_listed : (roles : List Role) (restricted : ℕ → Bool) (asked column q : ℕ) (heads : List ℕ) (cells : List Cell) → AreHeld roles heads cells → Limits restricted (dictionary roles asked) column q → (h : ℕ) → slice_get heads column ≡ Some h → IsOn cells h q
+limits_listed roles restricted asked column q heads cells held k h at =
+    let x = has_entry roles q column k.row (λ e. not_pos_zero (subst IsPositive (ap neg_ℚ e ∙ ring [] (minus (int (pos 0))) (int (pos 0)) refl) k.falls)) in
+    let l = held.all q x.own column x.is_row (record { quantity = column; factor = x.factor }, inl x.in_row, refl) in
+    subst (λ z. IsOn cells z q) (same_Some l.0 h (sym l.1 ∙ at)) l.2
+
+pub none_past : (roles : List Role) (restricted : ℕ → Bool) (asked column q : ℕ) → length roles ≤ q → Limits restricted (dictionary roles asked) column q → ⊥
+none_past roles restricted asked column q l k = let b = all_below roles (length roles) q k.row (omega arith) in omega (arith, b, l)
+
 -- ---- the first of the rows that limit the column
 module _ (restricted : ℕ → Bool) (roles : List Role) (asked column : ℕ) where
-  abbrev pub First : ℕ → Option Limit → Type 0
-  First i first = MatchOption first (NoneLimits i restricted (dictionary roles asked) column) (λ l. LeavesOf i restricted (dictionary roles asked) column l.row l.ratio)
-
-  last_or_before : (i q : ℕ) → q < i + 1 → (q ≡ i) ⊎ (q < i)
-  last_or_before i q h = grind arith
-
-  -- the row i does not limit the column
-  pub first_kept : (i : ℕ) (first : Option Limit) → First i first → (Limits restricted (dictionary roles asked) column i → ⊥) → First (i + 1) first
-  first_kept i None h n = λ q l k. elim (last_or_before i q l) [ inl e ↦ n (subst (Limits restricted (dictionary roles asked) column) e k) | inr b ↦ h q b k ]
-  first_kept i (Some l) h n = record {
-    limits = h.limits;
-    below = omega (arith, h.below);
-    ratio_is = h.ratio_is;
-    least_ratio = λ q b k. elim (last_or_before i q b) [ inl e ↦ absurd (n (subst (Limits restricted (dictionary roles asked) column) e k)) | inr b ↦ h.least_ratio q b k ];
-    least_number = λ q b k e. elim (last_or_before i q b) [ inl z ↦ absurd (n (subst (Limits restricted (dictionary roles asked) column) z k)) | inr b ↦ h.least_number q b k e ];
-  }
-
   abbrev ratio_at : ℕ → ℚ
   ratio_at q = ratio (dictionary roles asked) column q
 
-  -- it does
-  module _ (i : ℕ) (next : Limit) (here : next.row ≡ i) (limits : Limits restricted (dictionary roles asked) column i) (is : next.ratio ≡ ratio_at i) where
-    new_least : ((q : ℕ) → q < i → Limits restricted (dictionary roles asked) column q → ratio_at i <ℚ ratio_at q) → LeavesOf (i + 1) restricted (dictionary roles asked) column i next.ratio
-    new_least h = record {
-      limits = limits;
-      below = omega arith;
-      ratio_is = is;
-      least_ratio = λ q b k. elim (last_or_before i q b) [ inl e ↦ subst (λ z. ratio_at i ≤ℚ ratio_at z) (sym e) (le_refl (ratio_at i)) | inr b ↦ lt_to_le (h q b k) ];
-      least_number = λ q b k e. elim (last_or_before i q b) [ inl z ↦ omega (arith, z) | inr b ↦ absurd (lt_irrefl (subst (λ w. ratio_at i <ℚ w) e (h q b k))) ];
-    }
+  abbrev precedes : ℕ → ℕ → Type 0
+  precedes r q = Precedes (dictionary roles asked) column r q
 
-    old_least : (l : Limit) → LeavesOf i restricted (dictionary roles asked) column l.row l.ratio → l.ratio ≤ℚ next.ratio → LeavesOf (i + 1) restricted (dictionary roles asked) column l.row l.ratio
-    old_least l h g = record {
-      limits = h.limits;
-      below = omega (arith, h.below);
-      ratio_is = h.ratio_is;
-      least_ratio = λ q b k. elim (last_or_before i q b) [ inl e ↦ subst (λ z. ratio_at l.row ≤ℚ ratio_at z) (sym e) (subst (λ w. w ≤ℚ ratio_at i) h.ratio_is (subst (λ w. l.ratio ≤ℚ w) is g)) | inr b ↦ h.least_ratio q b k ];
-      least_number = λ q b k e. elim (last_or_before i q b) [ inl z ↦ omega (arith, z, h.below) | inr b ↦ h.least_number q b k e ];
-    }
+  abbrev pub First : (ℕ → Type 0) → Option Limit → Type 0
+  First Rest first = MatchOption first (NoneLimits Rest restricted (dictionary roles asked) column) (λ l. LeavesOf Rest restricted (dictionary roles asked) column l.row l.ratio)
 
-    pub first_more : (before : Option Limit) (first : Limit) → First i before → IsFirstOf before next first → First (i + 1) (Some first)
-    first_more None first h f =
-        subst (λ l. LeavesOf (i + 1) restricted (dictionary roles asked) column l.row l.ratio) (sym f)
-        (subst (λ r. LeavesOf (i + 1) restricted (dictionary roles asked) column r next.ratio) (sym here) (new_least (λ q b k. absurd (h q b k))))
-    first_more (Some l) first h (inl f) =
-        subst (λ l. LeavesOf (i + 1) restricted (dictionary roles asked) column l.row l.ratio) (sym f.1)
-        (subst (λ r. LeavesOf (i + 1) restricted (dictionary roles asked) column r next.ratio) (sym here)
-        (new_least (λ q b k. lt_le_trans (subst (λ w. w <ℚ ratio_at l.row) is (subst (λ w. next.ratio <ℚ w) h.ratio_is f.0)) (h.least_ratio q b k))))
-    first_more (Some l) first h (inr f) =
-        subst (λ l. LeavesOf (i + 1) restricted (dictionary roles asked) column l.row l.ratio) (sym f.1) (old_least l h f.0)
+  own_precedes : (q : ℕ) → precedes q q
+  own_precedes q = inr (refl, omega arith)
 
-  -- all rows are looked at
-  pub none_at_end : (i : ℕ) → ((q : ℕ) → Limits restricted (dictionary roles asked) column q → q < i) → First i None → (q : ℕ) → Limits restricted (dictionary roles asked) column q → ⊥
-  none_at_end i all h q k = h q (all q k) k
+  precedes_on : (p q r : ℕ) → precedes p q → precedes q r → precedes p r
+  precedes_on p q r (inl a) (inl b) = inl (lt_trans a b)
+  precedes_on p q r (inl a) (inr b) = inl (subst (λ w. ratio_at p <ℚ w) b.0 a)
+  precedes_on p q r (inr a) (inl b) = inl (subst (λ w. w <ℚ ratio_at r) (sym a.0) b)
+  precedes_on p q r (inr a) (inr b) = inr (a.0 ∙ b.0, omega (arith, a.1, b.1))
 
-  pub leaves_at_end : (i : ℕ) → ((q : ℕ) → Limits restricted (dictionary roles asked) column q → q < i) → (l : Limit) → First i (Some l) → Leaves restricted (dictionary roles asked) column l.row
-  leaves_at_end i all l h = record {
+  -- a row that does not limit the column is none of the rest any more
+  pub first_kept : (Rest Fewer : ℕ → Type 0) (i : ℕ) → ((q : ℕ) → Rest q → (q ≡ i) ⊎ Fewer q) → (Limits restricted (dictionary roles asked) column i → ⊥) → (first : Option Limit) → First Rest first → First Fewer first
+  first_kept Rest Fewer i s n None h = λ q k. elim (s q (h q k)) [ inl e ↦ absurd (n (subst (Limits restricted (dictionary roles asked) column) e k)) | inr l ↦ l ]
+  first_kept Rest Fewer i s n (Some l) h = record {
     limits = h.limits;
-    least_ratio = λ q k. h.least_ratio q (all q k) k;
-    least_number = λ q k e. h.least_number q (all q k) k e;
+    ratio_is = h.ratio_is;
+    first = λ q k.
+        elim (h.first q k) [
+          | inl p ↦ inl p
+          | inr r ↦ elim (s q r) [ inl e ↦ absurd (n (subst (Limits restricted (dictionary roles asked) column) e k)) | inr l ↦ inr l ]
+        ];
   }
+
+  -- it does
+  module _ (Rest Fewer : ℕ → Type 0) (next : Limit) (s : (q : ℕ) → Rest q → (q ≡ next.row) ⊎ Fewer q) (limits : Limits restricted (dictionary roles asked) column next.row) (is : next.ratio ≡ ratio_at next.row) where
+    new_first : ((q : ℕ) → Limits restricted (dictionary roles asked) column q → precedes next.row q ⊎ Rest q) → LeavesOf Fewer restricted (dictionary roles asked) column next.row next.ratio
+    new_first h = record {
+      limits = limits;
+      ratio_is = is;
+      first = λ q k.
+          elim (h q k) [
+            | inl p ↦ inl p
+            | inr r ↦ elim (s q r) [ inl e ↦ inl (subst (precedes next.row) (sym e) (own_precedes next.row)) | inr l ↦ inr l ]
+          ];
+    }
+
+    old_first : (l : Limit) → LeavesOf Rest restricted (dictionary roles asked) column l.row l.ratio → precedes l.row next.row → LeavesOf Fewer restricted (dictionary roles asked) column l.row l.ratio
+    old_first l h p = record {
+      limits = h.limits;
+      ratio_is = h.ratio_is;
+      first = λ q k.
+          elim (h.first q k) [
+            | inl b ↦ inl b
+            | inr r ↦ elim (s q r) [ inl e ↦ inl (subst (precedes l.row) (sym e) p) | inr b ↦ inr b ]
+          ];
+    }
+
+    near : (l m : Limit) → l.ratio ≡ ratio_at l.row → m.ratio ≡ ratio_at m.row → IsNearer l m → precedes l.row m.row
+    near l m e f (inl a) = inl (subst (λ w. w <ℚ ratio_at m.row) e (subst (λ w. l.ratio <ℚ w) f a))
+    near l m e f (inr a) = inr (sym e ∙ a.0 ∙ f, a.1)
+
+    pub first_more : (before : Option Limit) (first : Limit) → First Rest before → IsFirstOf before next first → First Fewer (Some first)
+    first_more None first h f = subst (λ l. LeavesOf Fewer restricted (dictionary roles asked) column l.row l.ratio) (sym f) (new_first (λ q k. inr (h q k)))
+    first_more (Some l) first h (inl f) =
+        subst (λ l. LeavesOf Fewer restricted (dictionary roles asked) column l.row l.ratio) (sym f.1) (old_first l h (near l next h.ratio_is is f.0))
+    first_more (Some l) first h (inr f) =
+        subst (λ l. LeavesOf Fewer restricted (dictionary roles asked) column l.row l.ratio) (sym f.1)
+        (new_first (λ q k. elim (h.first q k) [ inl p ↦ inl (precedes_on next.row l.row q (near next l is h.ratio_is f.0) p) | inr r ↦ inr r ]))
+
+  -- nothing is left
+  pub none_at_end : (Rest : ℕ → Type 0) → ((q : ℕ) → Rest q → ⊥) → First Rest None → (q : ℕ) → Limits restricted (dictionary roles asked) column q → ⊥
+  none_at_end Rest none h q k = none q (h q k)
+
+  pub leaves_at_end : (Rest : ℕ → Type 0) → ((q : ℕ) → Rest q → ⊥) → (l : Limit) → First Rest (Some l) → Leaves restricted (dictionary roles asked) column l.row
+  leaves_at_end Rest none l h = record {
+    limits = h.limits;
+    least_ratio = λ q k. elim (h.first q k) [ inl p ↦ not_above q p | inr r ↦ absurd (none q r) ];
+    least_number = λ q k e. elim (h.first q k) [ inl p ↦ not_later q e p | inr r ↦ absurd (none q r) ];
+  }
+    where
+      not_above : (q : ℕ) → precedes l.row q → ratio_at l.row ≤ℚ ratio_at q
+      not_above q (inl a) = lt_to_le a
+      not_above q (inr a) = subst (λ w. ratio_at l.row ≤ℚ w) a.0 (le_refl (ratio_at l.row))
+
+      not_later : (q : ℕ) → ratio_at q ≡ ratio_at l.row → precedes l.row q → l.row ≤ q
+      not_later q e (inl a) = absurd (lt_irrefl (subst (λ w. ratio_at l.row <ℚ w) e a))
+      not_later q e (inr a) = a.1

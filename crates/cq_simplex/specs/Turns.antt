@@ -1,6 +1,6 @@
 -- What is found in one dictionary: an answer, or the exchange that is due.
-use Rattle.std.specs.Prelude.{◌≡◌, ◌⊎◌, ℕ, ◌<◌, ◌≤◌, List, Bool, true, false, Option, Some, None, MatchOption}
-use Rattle.spec_rational.specs.Rational.{ℚ, 0ℚ, IsPositive, ◌≤ℚ◌, ◌<ℚ◌}
+use Rattle.std.specs.Prelude.{◌≡◌, ◌⊎◌, ℕ, ◌≤◌, List, Bool, true, false, Option, Some, None, MatchOption}
+use Rattle.spec_rational.specs.Rational.{ℚ, 0ℚ, IsPositive, ◌<ℚ◌}
 use Rattle.spec_simplex.specs.Dictionary.{Dictionary}
 use Rattle.spec_simplex.specs.Rule.{Raises, Enters, Limits, Leaves, IsDue, IsOptimal, IsUnlimited, IsFree, ratio}
 use Rattle.cq_frac.specs.declared.Pair.{Pair}
@@ -56,13 +56,15 @@ IsRatio roles flags asked column row found = MatchOption found
     (Limits (is_restricted flags) (dictionary roles asked) column row → ⊥)
     (λ q. Limits (is_restricted flags) (dictionary roles asked) column row × (q ≡ ratio (dictionary roles asked) column row))
 
--- of the rows below i that limit the column, this one leaves; its ratio is the number
-pub record LeavesOf (i : ℕ) (restricted : ℕ → Bool) (d : Dictionary) (c r : ℕ) (number : ℚ) : Type 0 where
+-- the column meets the row r before the row q: of two at once the one of the lesser number
+abbrev pub Precedes : Dictionary → ℕ → ℕ → ℕ → Type 0
+Precedes d c r q = (ratio d c r <ℚ ratio d c q) ⊎ ((ratio d c r ≡ ratio d c q) × (r ≤ q))
+
+-- of the rows that limit the column, but for the rest, this one leaves; its ratio is the number
+pub record LeavesOf (Rest : ℕ → Type 0) (restricted : ℕ → Bool) (d : Dictionary) (c r : ℕ) (number : ℚ) : Type 0 where
   pub limits : Limits restricted d c r
-  pub below : r < i
   pub ratio_is : number ≡ ratio d c r
-  pub least_ratio : (q : ℕ) → q < i → Limits restricted d c q → ratio d c r ≤ℚ ratio d c q
-  pub least_number : (q : ℕ) → q < i → Limits restricted d c q → ratio d c q ≡ ratio d c r → r ≤ q
+  pub first : (q : ℕ) → Limits restricted d c q → Precedes d c r q ⊎ Rest q
 
 -- the ratio of a row that limits the column is a quotient that is refused
 pub record IsRefusedRatio (roles : List Role) (flags : List Bool) (asked column row : ℕ) (pair : Pair) : Type 0 where
@@ -74,11 +76,15 @@ pub record IsRefusedRatio (roles : List Role) (flags : List Bool) (asked column 
 abbrev pub IsRefusedSome : List Role → List Bool → ℕ → ℕ → Pair → Type 0
 IsRefusedSome roles flags asked column pair = (row : ℕ) × IsRefusedRatio roles flags asked column row pair
 
--- the next limit where it is nearer, or else the one before
+-- the one limit is met before the other, or at once where its number is not greater
+abbrev pub IsNearer : Limit → Limit → Type 0
+IsNearer limit other = (limit.ratio <ℚ other.ratio) ⊎ ((limit.ratio ≡ other.ratio) × (limit.row ≤ other.row))
+
+-- the next limit, or the one before where that is nearer
 abbrev pub IsFirstOf : Option Limit → Limit → Limit → Type 0
 IsFirstOf None next first = first ≡ next
-IsFirstOf (Some limit) next first = ((next.ratio <ℚ limit.ratio) × (first ≡ next)) ⊎ ((limit.ratio ≤ℚ next.ratio) × (first ≡ limit))
+IsFirstOf (Some limit) next first = (IsNearer limit next × (first ≡ limit)) ⊎ (IsNearer next limit × (first ≡ next))
 
--- no row below i limits the column
-abbrev pub NoneLimits : ℕ → (ℕ → Bool) → Dictionary → ℕ → Type 0
-NoneLimits i restricted d c = (q : ℕ) → q < i → Limits restricted d c q → ⊥
+-- no row but those of the rest limits the column
+abbrev pub NoneLimits : (ℕ → Type 0) → (ℕ → Bool) → Dictionary → ℕ → Type 0
+NoneLimits Rest restricted d c = (q : ℕ) → Limits restricted d c q → Rest q

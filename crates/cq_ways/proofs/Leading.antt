@@ -150,10 +150,10 @@ raised texts c p s r fault.NoMemory is x = tt
 
 -- ---- the search
 
-same_made : (m n : Made) → Makes m ≡ Makes n → m ≡ n
+pub same_made : (m n : Made) → Makes m ≡ Makes n → m ≡ n
 same_made m n e = cc
 
-made_is : (p : Place) (goal : Tree) (s : Solutions) (m : Made) → offers p s ≡ Makes m → stepped_by p goal s ≡ Children m
+pub made_is : (p : Place) (goal : Tree) (s : Solutions) (m : Made) → offers p s ≡ Makes m → stepped_by p goal s ≡ Children m
 made_is p goal (Faults e) m h = cc
 made_is p goal (Offers ways) m h = ap Children (same_made (made p (map (alternative_child p) ways)) m h)
 

@@ -4,7 +4,9 @@ use Rattle.std.proofs.lemmas.List.Filters.{dedup_is}
 use Rattle.std.proofs.lemmas.List.Kept.{Contains-dedup_nat, Contains-from_dedup}
 use Rattle.std.proofs.lemmas.List.Sorted.{Contains-permutation, IsPermutation-sym}
 use Rattle.std.proofs.lemmas.Option.{slice_get-get_or}
+use Rattle.std.proofs.lemmas.Map.Keys.{IsStrictlyIncreasing-dedup}
 use Rattle.std.specs.List.{Contains}
+use Rattle.std.specs.List.Sorted.{IsStrictlyIncreasing}
 use Rattle.std.specs.Prelude.{slice_get, slice_index_or}
 use Rattle.cq_dict.specs.declared.holders.Cell.{Cell}
 use Rattle.cq_dict.specs.Holders.{IsOn}
@@ -78,6 +80,10 @@ returns-clause-within c = λ r h.
     c.loop-list.invariant.within r
     (Contains-permutation c.sort_unstable.new.self.items c.loop-list.rows.items r (IsPermutation-sym c.loop-list.rows.items c.sort_unstable.new.self.items c.sort_unstable.ensures.permutation)
     (Contains-from_dedup nat_eq c.sort_unstable.new.self.items r (subst (λ z. Contains z r) (dedup_is nat_eq _ _ c.dedup.ensures.filtered) h)))
+
+pub returns-clause-ascending : goal.returns-clause-ascending
+returns-clause-ascending c =
+    subst IsStrictlyIncreasing (sym (dedup_is nat_eq _ _ c.dedup.ensures.filtered)) (IsStrictlyIncreasing-dedup c.sort_unstable.new.self.items c.sort_unstable.ensures.sorted)
 
 pub returns-clause-own : goal.returns-clause-own
 returns-clause-own c =

@@ -1,4 +1,4 @@
-use Rattle.std.proofs.Common.{◌<◌, ◌-◌, List, ℕ, [], drop, length, sym, subst}
+use Rattle.std.proofs.Common.{◌<◌, ◌-◌, List, ℕ, drop, length, sym, subst}
 use Rattle.std.specs.Prelude.{All}
 use Rattle.std.proofs.lemmas.List.Elements.{All-nil, All-append, All-drop, All-take}
 use Rattle.cq_selected.proofs.calls.all_arguments.Goals as goal

@@ -1,4 +1,4 @@
-use Rattle.std.proofs.Common.{Some, None, refl, sym, ap, ◌∙◌}
+use Rattle.std.proofs.Common.{refl, sym, ap, ◌∙◌}
 use Rattle.spec_search.specs.Replies.{Raises}
 use Rattle.cq_steps.proofs.Arguments.{argument_reads}
 use Rattle.cq_steps.specs.Worlds.{value, saved_values, stack}

@@ -1,14 +1,18 @@
-use Rattle.std.proofs.Common.{◌≡◌, ◌∙◌, true, false, ap, sym, subst}
+use Rattle.std.proofs.Common.{◌≡◌, ◌∙◌, true, false, arith, ap, sym, subst}
 use Rattle.spec_rational.specs.Rational.{0ℚ, ◌<ℚ◌, ◌/ℚ◌}
 use Rattle.cq_frac.specs.declared.Operation.TheVariants.{Quotient}
 use Rattle.cq_frac.specs.Refused.{Tells}
 use Rattle.cq_row.specs.Rows.{Has, Lacks, IsRowFrom, everywhere}
 use Rattle.cq_row.proofs.Shifts.{anywhere}
 use Rattle.cq_dict.specs.Roles.{is_live, is_restricted}
-use Rattle.cq_simplex.proofs.Ratios.{column_no_limit, lacks_no_limit, rising_no_limit, not_zero_here, limits_here, ratio_here, refused_here}
+use Rattle.cq_simplex.proofs.Ratios.{none_past, column_no_limit, lacks_no_limit, rising_no_limit, not_zero_here, limits_here, ratio_here, refused_here}
 use Rattle.cq_simplex.proofs.Exits.{pair_kept}
 use Rattle.cq_simplex.proofs.leaving.ratio_of.Goals as goal
 use Rattle.cq_simplex.proofs.leaving.ratio_of.Goals.{then-not-is_row-via-then-not-is_row, then-not-is_row-via-else-not-is_row+then-not-is_restricted}
+
+pub returns-then-row-count-clause-value : goal.returns-then-row-count-clause-value
+returns-then-row-count-clause-value c = λ asked.
+    none_past c.args.dict.now.roles (is_restricted c.args.dict.now.restricted) asked c.args.column c.args.row (omega (arith, c.if-row-count.true, c.count.ensures.value))
 
 pub returns-then-not-is_row-clause-value : goal.returns-then-not-is_row-clause-value
 returns-then-not-is_row-clause-value c = λ asked h.

@@ -19,12 +19,13 @@ listed-requires-clause-column c =
     omega (arith, l, c.len-count.ensures)
 
 pub returns : goal.returns
-returns c = rw (← c.self.view_is) (if_all_ok c.listed.result _ _ _ _ (λ rows a b d. record {
+returns c = rw (← c.self.view_is) (if_all_ok c.listed.result _ _ _ _ _ (λ rows a s b d. record {
   within = λ r h. let l = a r h in omega (arith, l, c.len-count.ensures);
+  ascending = s;
   own = b;
   all = λ r row at k.
       let l = at_below c.self.inside.roles.now r (Basic row) at in
       d r (omega (arith, l, c.len-count.ensures))
       (subst (λ z. IsListed z c.as_slice-2.result.now c.args.c r) (sym c.as_slice.ensures)
       (subst (λ z. IsListed c.self.inside.heads.now z c.args.c r) (sym c.as_slice-2.ensures) (c.self.invariant.1.now.all r row c.args.c at k)));
-}) c.listed.ensures.within c.listed.ensures.own c.listed.ensures.all)
+}) c.listed.ensures.within c.listed.ensures.ascending c.listed.ensures.own c.listed.ensures.all)
