@@ -4,8 +4,10 @@ use Rattle.spec_lists.specs.Texts.{Text}
 use Rattle.spec_syntax.specs.Trees.{Tree}
 use Rattle.spec_branch.specs.Branch.{read, plain_copy}
 use Rattle.spec_search.specs.Search.{Search}
+use Rattle.spec_search.specs.Turns as turn
 use Rattle.spec_search.specs.Turns.{Wrote, Threw, place_of, after_step, after_ball, with_branches}
 use Rattle.spec_stops.specs.Causes.{Budgets, Cause}
+use Rattle.spec_catches.proofs.Turns.{turn_plain}
 use Rattle.spec_machine.specs.Cells.{Stack}
 use Rattle.spec_machine.specs.Coming.{Quietly, Told, Tells, Shows, Stops, at_once}
 use Rattle.spec_machine.specs.Standing.{engine, AreWaiting, IsStanding}
@@ -22,6 +24,7 @@ use Rattle.cq_events.specs.declared.event.Event.{Event}
 use Rattle.cq_events.specs.declared.event.Event.TheVariants.{Answer, Output, Fail, Ball, Stop}
 use Rattle.cq_events.specs.Events.{Stands, Arrives, IsRunning, HasBudgets, TellsNext, StopsNext, Gives, GivesNext, GoesOn}
 use Rattle.cq_events.specs.Turning.{SelectsNext, IsAt, HasEnded, IsTold, Turned}
+use Rattle.cq_events.proofs.Catches.{quietly_plain}
 use Rattle.cq_events.proofs.Steps.{comes_then, comes_quietly, tells_text}
 
 -- ---- behind quiet turns
@@ -82,7 +85,8 @@ module _ (first mid new : Engine) (rest : ℕ) (current : Option ℕ) (text : Te
         at_mid first.steps s (comes_quietly first.machine first.selected rest s x.0 mid.machine current text x.1 first.steps few e),
     let more = i.selected in omega (arith, more, same),
   )
-  advanced (Some (Output written)) t = λ budgets h s j.
+  advanced (Some (Output written)) t = (
+    λ budgets h s j.
       let x = f s j in
       let less : first.selected < budgets.steps = subst (λ (n : ℕ). first.selected < n) (sym h.steps) few in
       record {
@@ -90,7 +94,9 @@ module _ (first mid new : Engine) (rest : ℕ) (current : Option ℕ) (text : Te
         tells = subst (λ (u : Text). Tells budgets s (Shows (Wrote u)) (after_step s x.1.made x.0.behind)) (sym t.0)
             (tells_text first.machine first.selected rest s x.0 mid.machine current text x.1 budgets less t.1);
         comes = at_mid budgets.steps (after_step s x.1.made x.0.behind) (comes_then first.machine first.selected rest s x.0 mid.machine current text x.1 budgets.steps);
-      }
+      },
+    let more = i.selected in omega (arith, more, same),
+  )
   advanced (Some Answer) t = absurd t
   advanced (Some Fail) t = absurd t
   advanced (Some (Ball id)) t = absurd t
@@ -105,6 +111,8 @@ module _ (first mid new : Engine) (rest : ℕ) (current : Option ℕ) (text : Te
         kept = kept;
         search = c.reached;
         stands = c.stands;
+        no_catch = quietly_plain c.quiet
+            (turn_plain r.search (after_step r.search x.1.made x.0.behind) (Wrote x.1.made.output) (turn.steps x.0.look x.1.step) r.no_catch);
         within = let a = i.selected in let b = i.steps in omega (arith, a, b, same, steps);
       }
 
@@ -141,5 +149,6 @@ runs_stopped first new h run steps d = record {
   kept = h.kept;
   search = with_branches [] run.search;
   stands = stands_ended new first.selected (with_branches [] run.search) h (d run.search run.stands) run.stands.selected refl;
+  no_catch = tt;
   within = let a = h.selected in let b = run.within in omega (arith, a, b, steps);
 }

@@ -1,6 +1,6 @@
 mod Selections
 mod Steps
-mod CellsPassed
+mod Catches
 mod Raised
 mod Ended
 mod Stops

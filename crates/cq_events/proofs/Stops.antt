@@ -13,9 +13,7 @@ use Rattle.cq_linear.specs.declared.store.StoreFault.{StoreFault}
 use Rattle.cq_linear.specs.declared.store.StoreFault.TheVariants.{Overflow, Pivots, NoMemory}
 use Rattle.cq_settle.specs.Settled.{MayTake}
 use Rattle.cq_machine.specs.declared.machine.Machine.{Machine}
-use Rattle.spec_machine.specs.declared.cell.Cell.{Cell}
-use Rattle.cq_engine.specs.Fronts.{selects}
-use Rattle.cq_events.specs.Turning.{SelectsNext, HasSelected, IsStoppedNext, MayStop}
+use Rattle.cq_events.specs.Turning.{SelectsNext, IsStoppedNext, MayStop}
 
 few_here : (m : Machine) (n rest steps : ℕ) (s : Search) → SelectsNext m n rest s → n < steps → s.selected < steps
 few_here m n rest steps s x few = subst (λ (i : ℕ). i < steps) (sym x.selected) few
@@ -49,8 +47,3 @@ pub may_stop : (m : Machine) (n rest : ℕ) (fault : StoreFault) (s : Search) �
 may_stop m n rest (Overflow pair) s x = x
 may_stop m n rest (Pivots exchanges) s x = x
 may_stop m n rest NoMemory s x = tt
-
-pub has_selected : (c : Cell) (fault : StoreFault) → selects c ≡ true → HasSelected c fault
-has_selected c (Overflow pair) e = e
-has_selected c (Pivots exchanges) e = e
-has_selected c NoMemory e = tt

@@ -7,6 +7,7 @@ use Rattle.spec_branch.specs.Branch.{read, plain_copy}
 use Rattle.spec_search.specs.Replies.{Raises}
 use Rattle.spec_search.specs.Search.{Search}
 use Rattle.spec_search.specs.Turns.{Threw, place_of, after_ball}
+use Rattle.spec_catches.proofs.Turns.{selected_plain}
 use Rattle.spec_machine.specs.Cells.{nearest_catch}
 use Rattle.spec_machine.specs.Coming.{Tells, Shows}
 use Rattle.spec_machine.proofs.Thrown.{uncaught}
@@ -23,8 +24,9 @@ use Rattle.cq_events.specs.declared.event.Event.{Event}
 use Rattle.cq_events.specs.declared.event.Event.TheVariants.{Answer, Output, Fail, Ball, Stop}
 use Rattle.cq_events.specs.declared.raiser.Raiser.{Raiser}
 use Rattle.cq_events.specs.Raised.{ball_by, is_raised_by, raised_by}
-use Rattle.cq_events.specs.Events.{Stands, GivesNext, IsRunning}
+use Rattle.cq_events.specs.Events.{Stands, GivesNext, HasCounted, IsRunning}
 use Rattle.cq_events.specs.Turning.{SelectsNext, HasEnded, IsBall}
+use Rattle.cq_events.proofs.Catches.{none_catches}
 use Rattle.cq_events.proofs.Selections.{items_still}
 use Rattle.cq_events.proofs.Steps.{tells_ball}
 use Rattle.cq_events.proofs.Ended.{stands_ended}
@@ -44,9 +46,19 @@ module _ (first mid new : Engine) (rest : ℕ) (e : BuiltinError) (r : Raiser) (
       let count : suc s.selected ≡ mid.selected + 1 = let a = x.next.selected in omega (arith, a, same) in
       stands_ended new (mid.selected + 1) (after_ball s []) ended (x.reply.database ∙ sym program) count refl
 
-  pub thrown : (event : Event) → StillStands first.machine mid.machine → nearest_catch (items_at mid.machine.world.second.now rest) ≡ None → IsSound new.machine
-      → IsBall (ball_by mid.machine.atoms (terms mid.machine) e r) new.machine event → GivesNext first new event
-  thrown (Ball id) still none sound b = λ budgets h s j.
+  -- nothing catches it
+  free_of_catches : IsRunning first → StillStands first.machine mid.machine → nearest_catch (items_at mid.machine.world.second.now rest) ≡ None
+  free_of_catches run still =
+      let y = (f run.search run.stands).next in
+      let m = mid.machine in
+      none_catches (IsBranch m.atoms) (term_in m.atoms) (holds m) (now m).0 y.state (items_at m.world.second.now rest) y.items
+      (items_still first.machine m first.selected rest run.search y still).1
+      (selected_plain run.search y.goal y.cut y.items y.state y.behind y.look run.no_catch)
+
+  pub thrown : (event : Event) → StillStands first.machine mid.machine → IsRunning first → IsSound new.machine
+      → IsBall (ball_by mid.machine.atoms (terms mid.machine) e r) new.machine event → GivesNext first new event × HasCounted first new event
+  thrown (Ball id) still run sound b = (
+    λ budgets h s j.
       let x = f s j in
       let y = x.next in
       let goal = read y.state y.goal in
@@ -55,7 +67,7 @@ module _ (first mid new : Engine) (rest : ℕ) (e : BuiltinError) (r : Raiser) (
       let less : first.selected < budgets.steps = subst (λ (n : ℕ). first.selected < n) (sym h.steps) few in
       let cells = items_still first.machine m first.selected rest s y still in
       let free = uncaught (IsBranch m.atoms) (term_in m.atoms) (holds m) (now m).0 y.state (items_at m.world.second.now rest) y.items
-      (plain_copy (error_ball error (indicator_of goal))) y.behind cells.1 none in
+      (plain_copy (error_ball error (indicator_of goal))) y.behind cells.1 (free_of_catches run still) in
       let ball : error_ball error (indicator_of goal) ≡ tree new.machine.atoms (terms new.machine) id =
       sym (b.1 ∙ ap (λ (i : Indicator). error_ball error i) x.raiser) in
       record {
@@ -67,16 +79,19 @@ module _ (first mid new : Engine) (rest : ℕ) (e : BuiltinError) (r : Raiser) (
               (tells_ball first.machine first.selected rest s y budgets less error x.reply.is free);
           stands = stands_then s j;
         };
-      }
-  thrown Answer still none sound b = absurd b
-  thrown (Output text) still none sound b = absurd b
-  thrown Fail still none sound b = absurd b
-  thrown (Stop cause) still none sound b = absurd b
+      },
+    let one = ended.selected in omega (arith, one, same),
+  )
+  thrown Answer still run sound b = absurd b
+  thrown (Output text) still run sound b = absurd b
+  thrown Fail still run sound b = absurd b
+  thrown (Stop cause) still run sound b = absurd b
 
   pub runs_thrown : IsRunning first → new.steps ≡ first.steps → IsRunning new
   runs_thrown run steps = record {
     kept = ended.kept;
     search = after_ball run.search [];
     stands = stands_then run.search run.stands;
+    no_catch = tt;
     within = let a = ended.selected in omega (arith, a, same, few, steps);
   }

@@ -13,7 +13,8 @@ use Rattle.cq_engine.proofs.Engines.{kept_where}
 use Rattle.cq_execute.specs.Executions.{KeepsClauses}
 use Rattle.cq_events.specs.declared.engine.Engine.{Engine}
 use Rattle.cq_events.specs.declared.event.Event.{Event}
-use Rattle.cq_events.specs.Events.{Stands, Arrives, IsRunning, HasBudgets, GivesNext, GoesOn, Keeps}
+use Rattle.cq_events.specs.declared.event.Event.TheVariants.{Answer, Output, Fail, Ball, Stop}
+use Rattle.cq_events.specs.Events.{Stands, Arrives, IsRunning, HasBudgets, GivesNext, GoesOn, HasCounted, Keeps}
 use Rattle.cq_events.specs.Turning.{Turned}
 use Rattle.cq_events.proofs.Ended.{gives_then}
 
@@ -61,9 +62,17 @@ gives_both a b c event k f g = λ budgets h s j.
     let x = f s j in
     gives_then budgets c event s x.reached (subst (λ (n : ℕ). Quietly n s x.reached) (sym h.steps) x.quiet) (g budgets (budgets_on budgets a b k h) x.reached x.stands)
 
+-- one more may have been selected before
+pub counted_on : (a b c : Engine) (event : Event) → a.selected ≤ b.selected → HasCounted b c event → HasCounted a c event
+counted_on a b c Answer l h = omega (arith, l, h)
+counted_on a b c (Output text) l h = omega (arith, l, h)
+counted_on a b c Fail l h = omega (arith, l, h)
+counted_on a b c (Ball id) l h = omega (arith, l, h)
+counted_on a b c (Stop cause) l h = omega (arith, l, h)
+
 pub turned_both : (a b c : Engine) (r : Option Event) → Keeps a b → GoesOn a b → b.selected ≡ a.selected → Turned b c r → Turned a c r
 turned_both a b c None k f e t = (goes_both a b c k f t.0, let more = t.1 in omega (arith, more, e))
-turned_both a b c (Some event) k f e t = gives_both a b c event k f t
+turned_both a b c (Some event) k f e t = (gives_both a b c event k f t.0, let same : a.selected ≤ b.selected = omega (arith, e) in counted_on a b c event same t.1)
 
 -- ---- where nothing has changed for the search
 
@@ -76,5 +85,6 @@ runs_still old new r sound f e g = record {
   kept = kept_where new.machine sound;
   search = r.search;
   stands = f r.search r.stands;
+  no_catch = r.no_catch;
   within = let w = r.within in omega (arith, w, e, g);
 }

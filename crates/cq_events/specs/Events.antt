@@ -6,6 +6,7 @@ use Rattle.spec_branch.specs.Branch.{State, plain_copy}
 use Rattle.spec_search.specs.Search.{Search}
 use Rattle.spec_search.specs.Turns.{Answered, Ended, Threw, Wrote, with_branches}
 use Rattle.spec_stops.specs.Causes.{Budgets, Cause}
+use Rattle.spec_catches.specs.Catches.{HasNoCatch}
 use Rattle.spec_machine.specs.Coming.{Quietly, Told, Tells, Shows, Stops}
 use Rattle.cq_term.specs.Trees.{tree}
 use Rattle.cq_steps.specs.Worlds.{IsBranch, KnowsNothing}
@@ -24,11 +25,12 @@ Stands e s = StandsFor e.machine e.selected e.current s
 abbrev pub Arrives : ℕ → Engine → Search → Type 0
 Arrives steps e s = ComesTo steps e.machine e.selected e.current s
 
--- it stands for some search, which selected no more goals than it may
+-- it stands for some search without a catch, which selected no more goals than it may
 pub record IsRunning (e : Engine) : Type 0 where
   pub kept : IsKept e.machine
   pub search : Search
   pub stands : Stands e search
+  pub no_catch : HasNoCatch search
   pub within : e.selected ≤ e.steps
 
 -- it has no query, and nothing is known of its terms but themselves
@@ -104,6 +106,14 @@ Gives budgets e (Stop cause) s = StopsNext budgets e (as_cause cause) s
 -- the event is what each search for which the engine stood tells next
 abbrev pub GivesNext : Engine → Engine → Event → Type 0
 GivesNext old new event = (budgets : Budgets) → HasBudgets budgets old → (s : Search) → Stands old s → Gives budgets new event s
+
+-- a text is written by a goal that was selected since, and so is a ball
+abbrev pub HasCounted : Engine → Engine → Event → Type 0
+HasCounted old new Answer = old.selected ≤ new.selected
+HasCounted old new (Output text) = old.selected < new.selected
+HasCounted old new Fail = old.selected ≤ new.selected
+HasCounted old new (Ball id) = old.selected < new.selected
+HasCounted old new (Stop cause) = old.selected ≤ new.selected
 
 -- each search for which it stood comes quietly to one for which it stands now
 abbrev pub GoesOn : Engine → Engine → Type 0

@@ -1,5 +1,5 @@
 -- What the selected goal of a search comes to on an engine.
-use Rattle.std.specs.Prelude.{◌≡◌, ◌<◌, ◌≢◌, ◌∷◌, [], ℕ, suc, List, Bool, true, false, Option, Some, None, length, ⊤}
+use Rattle.std.specs.Prelude.{◌≡◌, ◌<◌, ◌≢◌, ◌∷◌, [], ℕ, suc, List, Option, Some, None, length, ⊤}
 use Rattle.spec_lists.specs.Texts.{Text}
 use Rattle.spec_syntax.specs.Trees.{Tree}
 use Rattle.spec_branch.specs.Branch.{State, Item, Branch, read}
@@ -16,7 +16,6 @@ use Rattle.cq_term.specs.Trees.{tree}
 use Rattle.cq_steps.specs.Worlds.{Placed}
 use Rattle.cq_machine.specs.declared.machine.Machine.{Machine}
 use Rattle.cq_machine.specs.Machines.{terms, now, holds, database_of, IsSound}
-use Rattle.cq_engine.specs.Fronts.{selects}
 use Rattle.cq_engine.specs.Seeking.{IsKept}
 use Rattle.cq_execute.specs.Executions.{Reaches}
 use Rattle.cq_events.specs.declared.cells.Done.{Done}
@@ -24,18 +23,18 @@ use Rattle.cq_events.specs.declared.engine.Engine.{Engine}
 use Rattle.cq_events.specs.declared.event.Event.{Event}
 use Rattle.cq_events.specs.declared.event.Event.TheVariants.{Answer, Output, Fail, Ball, Stop}
 use Rattle.cq_events.specs.Raised.{is_raised_by}
-use Rattle.cq_events.specs.Events.{GivesNext, GoesOn}
+use Rattle.cq_events.specs.Events.{GivesNext, GoesOn, HasCounted}
 
 -- ---- a goal in front
 
--- this is the end of a catch
-abbrev pub is_end : Cell → Bool
-is_end (cell.Goal t height) = false
-is_end (cell.Call t) = false
-is_end (cell.CutTo height) = false
-is_end (cell.CutFail height) = false
-is_end (cell.CatchEnd height c r) = true
-is_end (cell.Collect height t) = false
+-- this is a goal
+abbrev pub IsGoal : Cell → Type 0
+IsGoal (cell.Goal t height) = ⊤
+IsGoal (cell.Call t) = ⊤
+IsGoal (cell.CutTo height) = ⊥
+IsGoal (cell.CutFail height) = ⊥
+IsGoal (cell.CatchEnd height c r) = ⊥
+IsGoal (cell.Collect height t) = ⊥
 
 -- this cell is in front of the continuation, and this continuation behind it
 pub record HasInFront (m : Machine) (k : ℕ) (c : Cell) (rest : ℕ) : Type 0 where
@@ -74,12 +73,6 @@ MayStop m n rest (Overflow pair) s = IsStoppedNext m n rest (Overflow pair) s
 MayStop m n rest (Pivots x) s = IsStoppedNext m n rest (Pivots x) s
 MayStop m n rest NoMemory s = ⊤
 
--- a goal was in front, or memory was wanted
-abbrev pub HasSelected : Cell → StoreFault → Type 0
-HasSelected c (Overflow pair) = selects c ≡ true
-HasSelected c (Pivots x) = selects c ≡ true
-HasSelected c NoMemory = ⊤
-
 -- ---- an engine then
 
 -- one more goal was selected, and the engine goes on so
@@ -115,7 +108,7 @@ IsBall ball m (Stop cause) = ⊥
 
 -- the event is what is told next, or one more goal was selected and nothing is told yet
 abbrev pub Turned : Engine → Engine → Option Event → Type 0
-Turned old new (Some event) = GivesNext old new event
+Turned old new (Some event) = GivesNext old new event × HasCounted old new event
 Turned old new None = GoesOn old new × (old.selected < new.selected)
 
 -- as many goals were selected, and it goes on with the same

@@ -1,14 +1,13 @@
 // The goal in front is executed.
 
-ghost use Rattle.std.specs.Prelude.{◌≡◌, ◌<◌, ℕ, true, Some, length, IfOk, IfErr, OnErr};
+ghost use Rattle.std.specs.Prelude.{◌≡◌, ◌<◌, ℕ, Some, length, IfOk, IfErr, OnErr};
 ghost use Rattle.spec_search.specs.Search.{Search};
 ghost use Rattle.cq_machine.specs.Machines.{IsSound, StillStands};
 ghost use Rattle.cq_machine.specs.Stepping.{CanGo, OnRaises};
-ghost use Rattle.cq_engine.specs.Fronts.{selects};
 ghost use Rattle.cq_engine.specs.Seeking.{IsGoing, StandsFor};
 ghost use Rattle.cq_execute.specs.Executions.{KeepsClauses, HasSameDatabase};
 ghost use Rattle.cq_events.specs.Raised.{IsNumbered};
-ghost use Rattle.cq_events.specs.Turning.{HasInFront, HasSelected, Reached, MayStop};
+ghost use Rattle.cq_events.specs.Turning.{HasInFront, IsGoal, Reached, MayStop};
 
 use crate::raiser::{Raiser, raiser_of};
 use cq_control::Continuation;
@@ -24,8 +23,7 @@ pub(crate) struct Done {
     pub raiser: Raiser,
 }
 
-/// Executes the goal in front. An error is the stop of the query, while the goal's child is settled, or want of memory. No row puts
-/// the end of a catch or of a findall in a continuation.
+/// Executes the goal in front. An error is the stop of the query, while the goal's child is settled, or want of memory.
 pub(crate) fn execute_cell(
     m: &mut Machine,
     k: Continuation,
@@ -35,10 +33,9 @@ pub(crate) fn execute_cell(
     requires sound { IsSound m.old }
     requires going { IsGoing m.old (Some k) }
     requires front { HasInFront m.old k cell rest }
+    requires goal { IsGoal cell }
     ensures row { IfOk result (λ d. (n : ℕ) (s : Search) → StandsFor m.old n (Some k) s → Reached m.old m.new n rest d s) }
     ensures stop { IfErr result (λ f. (n : ℕ) (s : Search) → StandsFor m.old n (Some k) s → MayStop m.old n rest f s) }
-    ensures selects { IfOk result (λ d. selects cell ≡ true) }
-    ensures err_selects { IfErr result (HasSelected cell) }
     ensures goes { IfOk result (λ d. CanGo m.new d.executed.step) }
     ensures numbered { IfOk result (λ d. IsNumbered m.new.atoms d.raiser) }
     ensures raises { IfOk result (λ d. OnRaises d.executed.step (StillStands m.old m.new)) }
@@ -63,6 +60,6 @@ pub(crate) fn execute_cell(
             }),
             Err(_) => Err(StoreFault::NoMemory),
         },
-        _ => Err(StoreFault::NoMemory),
+        _ => unreachable!(),
     }
 }

@@ -6,12 +6,14 @@ ghost use Rattle.spec_search.specs.Database.{initial};
 ghost use Rattle.spec_search.specs.Search.{start};
 ghost use Rattle.cq_atoms.specs.Texts.{KeepsTexts};
 ghost use Rattle.cq_ops.specs.Tables.{named};
+ghost use Rattle.cq_read.specs.Feeds.{IsFed, place_behind, IsLiveFed};
+ghost use Rattle.cq_read.specs.Feeds as feeds;
 ghost use Rattle.cq_read.specs.Shown.{read_of, IsReadOf, IsForward, IsLiveRead};
 ghost use Rattle.cq_term.specs.Trees.{tree};
 ghost use Rattle.cq_steps.specs.Lists.{goal_cell};
 ghost use Rattle.cq_machine.specs.Machines.{terms, database_of};
 ghost use Rattle.cq_engine.specs.Seeking.{IsKept};
-ghost use Rattle.cq_events.specs.Events.{IsIdle, IsRunning, GivesNext, GoesOn, Keeps, Stands, HasSameWorld};
+ghost use Rattle.cq_events.specs.Events.{IsIdle, IsRunning, GivesNext, GoesOn, HasCounted, Keeps, Stands, HasSameWorld};
 
 use crate::event::Event;
 use crate::turning::turn;
@@ -20,7 +22,7 @@ use cq_kinds::is_callable;
 use cq_machine::Machine;
 use cq_ops::more_names_keep_the_table;
 use cq_program::{changes_are_those_of_the_database, programs_stay_programs};
-use cq_read::{Read, read_clause};
+use cq_read::{Fed, Feed, Read, read_clause};
 use cq_term::{Heap, TermId};
 use cq_trail::Both;
 use cq_world::World;
@@ -104,6 +106,30 @@ impl Engine {
         read
     }
 
+    /// What stands at the place of input that comes in pieces, by the operators of the engine, as `Feed::next` says.
+    pub fn read_fed(&mut self, text: &mut Feed) -> Result<Fed, AllocError>
+        requires idle { IsIdle self.old }
+        ensures fed { IfOk result (IsFed (named self.new.machine.atoms self.old.machine.ops) self.new.machine.atoms text.old
+            self.old.machine.world.first.heap.now self.new.machine.world.first.heap.now) }
+        ensures bytes { text.new.bytes ≡ text.old.bytes }
+        ensures place { text.new.place ≡ place_behind text.old.place result }
+        ensures finished { text.new.finished ≡ text.old.finished }
+        ensures forward { IfOk result (feeds.GoesOn (length text.old.bytes) text.old.place) }
+        ensures live { IfOk result (IsLiveFed self.new.machine.world.first.heap.now) }
+        ensures idle { IsIdle self.new }
+        ensures names { KeepsTexts self.old.machine.atoms self.new.machine.atoms }
+        ensures program { database_of self.new.machine ≡ database_of self.old.machine }
+        ensures pivots { self.new.machine.world.first.store.pivots ≡ self.old.machine.world.first.store.pivots }
+    {
+        changes_are_those_of_the_database();
+        programs_stay_programs();
+        more_names_keep_the_table();
+        let m = &mut self.machine;
+        let fed = text.next(&mut m.world.first.heap, &mut m.atoms, &m.ops);
+        m.atoms.text(m.names.truth);
+        fed
+    }
+
     /// Begins a query of a term, which may select so many goals; its variables are those of the heap. An error is want of memory,
     /// and the engine still has no query.
     pub fn start(&mut self, goal: TermId, steps: u64) -> Result<(), AllocError>
@@ -133,6 +159,7 @@ impl Engine {
     pub fn next(&mut self) -> Result<Event, AllocError>
         requires { IsRunning self.old }
         ensures event { IfOk result (GivesNext self.old self.new) }
+        ensures selected { IfOk result (HasCounted self.old self.new) }
         ensures err { OnErr result (GoesOn self.old self.new) }
         ensures running { IsRunning self.new }
         ensures keeps { Keeps self.old self.new }

@@ -3,7 +3,6 @@
 #![tactic(auto)]
 
 mod balls;
-mod catches;
 mod cells;
 mod engine;
 mod event;

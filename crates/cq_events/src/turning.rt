@@ -2,8 +2,6 @@
 
 ghost use Rattle.std.specs.Prelude.{◌≡◌, ◌<◌, ◌+◌, [], None, Some, length, IfOk, OnOk, OnErr};
 ghost use Rattle.cq_built.specs.Errors.{HasCulprit};
-ghost use Rattle.cq_control.specs.Items.{items_at};
-ghost use Rattle.spec_machine.specs.Cells.{nearest_catch};
 ghost use Rattle.cq_term.specs.Trees.{tree};
 ghost use Rattle.cq_machine.specs.Machines.{terms, now, IsSound, StillStands};
 ghost use Rattle.cq_engine.specs.Fronts.{HasWork};
@@ -13,7 +11,6 @@ ghost use Rattle.cq_events.specs.Events.{IsRunning, GoesOn, Keeps};
 ghost use Rattle.cq_events.specs.Turning.{HasEnded, IsAsBefore, IsAt, IsBall, IsTold, Turned};
 
 use crate::balls::build_ball;
-use crate::catches::is_caught;
 use crate::cells::{Done, execute_cell};
 use crate::engine::Engine;
 use crate::event::Event;
@@ -55,20 +52,12 @@ fn advance(e: &mut Engine, next: Option<Continuation>, output: Vec<u8>) -> Optio
     }
 }
 
-/// An error that comes up in front of this continuation ends the query, and is its ball. No row puts the end of a catch in a
-/// continuation.
-fn throw(
-    e: &mut Engine,
-    error: BuiltinError,
-    raiser: Raiser,
-    rest: Continuation,
-) -> Result<Event, AllocError>
+/// An error ends the query, and is its ball: no catch is under way.
+fn throw(e: &mut Engine, error: BuiltinError, raiser: Raiser) -> Result<Event, AllocError>
     requires sound { IsSound e.old.machine }
     requires culprit { HasCulprit e.old.machine.atoms (terms e.old.machine) error }
     requires numbered { IsNumbered e.old.machine.atoms raiser }
-    requires there { rest < length e.old.machine.world.second.now }
     requires few { e.old.selected < e.old.steps }
-    ensures uncaught { OnOk result (nearest_catch (items_at e.old.machine.world.second.now rest) ≡ None) }
     ensures ball { IfOk result (IsBall (ball_by e.old.machine.atoms (terms e.old.machine) error raiser) e.new.machine) }
     ensures ended { OnOk result (HasEnded (e.old.selected + 1) e.new) }
     ensures sound { OnOk result (IsSound e.new.machine) }
@@ -78,9 +67,6 @@ fn throw(
     ensures steps { e.new.steps ≡ e.old.steps }
     ensures budget { e.new.machine.world.first.store.pivots ≡ e.old.machine.world.first.store.pivots }
 {
-    if is_caught(&e.machine.world.second, rest) {
-        return Err(AllocError);
-    }
     let id = build_ball(&mut e.machine, error, raiser)?;
     e.selected += 1;
     leave(e);
@@ -98,7 +84,7 @@ fn select(e: &mut Engine, k: Continuation) -> Result<Option<Event>, AllocError>
     ensures keeps { Keeps e.old e.new }
 {
     let Some((cell, rest)) = e.machine.world.second.first(k) else {
-        return Err(AllocError);
+        unreachable!()
     };
     match execute_cell(&mut e.machine, k, cell, rest) {
         Ok(done) => {
@@ -107,7 +93,7 @@ fn select(e: &mut Engine, k: Continuation) -> Result<Option<Event>, AllocError>
             match step {
                 Step::Goes(next) => Ok(advance(e, Some(next), output)),
                 Step::Back => Ok(advance(e, None, output)),
-                Step::Raises(error) => match throw(e, error, raiser, rest) {
+                Step::Raises(error) => match throw(e, error, raiser) {
                     Ok(ball) => Ok(Some(ball)),
                     Err(fault) => Err(fault),
                 },

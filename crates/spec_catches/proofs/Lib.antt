@@ -1,2 +1,2 @@
 mod Rows
-mod Turns
+pub mod Turns

@@ -59,6 +59,10 @@ looked : (bs : List Branch) → AllPlain bs → IsPlainLook (look_at bs)
 looked [] h = tt
 looked (b ∷ bs) h = looked_at b.phase b.items b.state bs h.0 h.1
 
+pub selected_plain : (s : Search) (goal : Tree) (cut : ℕ) (items : List Item) (st : State) (behind : List Branch)
+    → look_at s.branches ≡ Selecting goal cut items st behind → HasNoCatch s → ArePlain items
+selected_plain s goal cut items st behind look h = let x = subst IsPlainLook look (looked s.branches h) in x.0
+
 -- ---- a branch that is kept
 
 one_in_front : (xs items : List Item) (x : SleeperState) → ArePlain (xs ++ items) → ArePlain (cons_option (woken_item x) xs ++ items)

@@ -3,16 +3,14 @@ use Rattle.spec_syntax.specs.Trees.{Tree}
 use Rattle.spec_built.specs.Built as built
 use Rattle.spec_branch.specs.Branch.{read}
 use Rattle.spec_search.specs.Turns.{place_of}
-use Rattle.spec_lists.proofs.Prefixes.{prefix_same}
 use Rattle.cq_control.specs.Items.{items_at}
 use Rattle.spec_machine.specs.declared.cell.Cell.{Cell}
 use Rattle.cq_steps.proofs.Added.{reads_tree}
-use Rattle.cq_engine.specs.Fronts.{selects}
 use Rattle.cq_machine.specs.Machines.{terms, now}
 use Rattle.cq_execute.specs.Executions.{Reaches}
 use Rattle.cq_events.proofs.Raised.{raised_on, numbered_on}
 use Rattle.cq_events.proofs.Selections.{goal_next, call_next}
-use Rattle.cq_events.proofs.Stops.{may_stop, has_selected}
+use Rattle.cq_events.proofs.Stops.{may_stop}
 use Rattle.cq_events.proofs.cells.execute_cell.Goals as goal
 
 pub execute-requires-clause-selected : goal.execute-requires-clause-selected
@@ -73,13 +71,3 @@ returns-in-Ok-execute_call-clause-row c = λ n s j.
       raiser = ap built.indicator_of x.2;
     }
 
-pub returns-in_default-clause-program : goal.returns-in_default-clause-program
-returns-in_default-clause-program c =
-    let m = c.args.m.now in
-    record { atoms = prefix_same m.atoms m.atoms refl; names = refl; clauses = refl; budget = refl }
-
-pub returns-in-Ok-clause-selects : goal.returns-in-Ok-clause-selects
-returns-in-Ok-clause-selects c = ap selects c.in-Goal.is
-
-pub returns-in-Err-clause-err_selects : goal.returns-in-Err-clause-err_selects
-returns-in-Err-clause-err_selects c = has_selected c.args.cell c.in-Err.fault (ap selects c.in-Goal.is)

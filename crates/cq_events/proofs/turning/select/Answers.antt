@@ -1,18 +1,23 @@
-use Rattle.std.proofs.Common.{◌≡◌, ◌∷◌, ◌<◌, ℕ, List, [], Option, None, Some, true, refl, sym, ap, subst, ◌∙◌}
+use Rattle.std.proofs.Common.{◌≡◌, ◌∷◌, ◌++◌, ◌<◌, ℕ, arith, List, [], Option, None, Some, true, refl, sym, ap, subst, ◌∙◌}
 use Rattle.spec_lists.specs.Texts.{Text}
-use Rattle.spec_branch.specs.Branch.{read}
+use Rattle.spec_branch.specs.Branch.{Branch, read}
 use Rattle.spec_search.specs.Search.{Search}
 use Rattle.spec_search.specs.Turns.{place_of, with_branches}
 use Rattle.spec_stops.specs.Causes as why
+use Rattle.spec_catches.specs.Catches.{AllPlain}
 use Rattle.cq_built.specs.declared.errors.BuiltinError.{BuiltinError}
 use Rattle.cq_control.specs.Items.{items_at}
 use Rattle.cq_linear.specs.declared.store.StoreFault.{StoreFault}
 use Rattle.cq_linear.specs.declared.store.StoreFault.TheVariants as fault
 use Rattle.spec_machine.specs.declared.cell.Cell.{Cell}
+use Rattle.spec_machine.specs.declared.cell.Cell.TheVariants.{Goal, Call, CutTo, CutFail, CatchEnd, Collect}
+use Rattle.spec_machine.specs.Standing.{AreItems}
+use Rattle.cq_steps.specs.Marks.{IsFront}
+use Rattle.cq_steps.specs.Worlds.{IsBranch, term_in}
 use Rattle.cq_machine.specs.declared.machine.Machine.{Machine}
 use Rattle.cq_machine.specs.declared.step.Step.{Step}
 use Rattle.cq_machine.specs.declared.step.Step.TheVariants as step
-use Rattle.cq_machine.specs.Machines.{database_of, StillStands}
+use Rattle.cq_machine.specs.Machines.{now, holds, database_of, StillStands}
 use Rattle.cq_machine.specs.Stepping.{CanGo, OnRaises}
 use Rattle.cq_engine.specs.Fronts.{HasWork, selects}
 use Rattle.cq_engine.specs.Seeking.{StandsFor}
@@ -21,14 +26,15 @@ use Rattle.cq_execute.specs.Executions.{Reaches}
 use Rattle.cq_events.specs.declared.cells.Done.{Done}
 use Rattle.cq_events.specs.declared.engine.Engine.{Engine}
 use Rattle.cq_events.specs.declared.raiser.Raiser.{Raiser}
-use Rattle.cq_events.specs.Events.{Stands}
-use Rattle.cq_events.specs.Turning.{SelectsNext, HasSelected, Reached, MayStop}
-use Rattle.cq_events.proofs.Selections.{stands_still, items_still}
+use Rattle.cq_events.specs.Events.{Stands, IsRunning}
+use Rattle.cq_events.specs.Turning.{SelectsNext, IsGoal, Reached, MayStop}
+use Rattle.cq_events.proofs.Catches.{goal_in_front}
+use Rattle.cq_events.proofs.Selections.{stands_still}
 use Rattle.cq_events.proofs.Steps.{tells_refused}
 use Rattle.cq_events.proofs.Ended.{advanced, runs_on, stopped, runs_stopped, stands_same}
 use Rattle.cq_events.proofs.Stops.{stops_for_overflow, stops_for_pivots}
 use Rattle.cq_events.proofs.Thrown.{RaisedNext, thrown, runs_thrown}
-use Rattle.cq_events.proofs.Turned.{keeps_none, keeps_at, keeps_gained, goes_at_once, runs_still}
+use Rattle.cq_events.proofs.Turned.{keeps_at, keeps_gained, goes_at_once, runs_still}
 use Rattle.cq_events.proofs.turning.select.Goals as goal
 
 -- ---- the goal in front
@@ -36,13 +42,32 @@ use Rattle.cq_events.proofs.turning.select.Goals as goal
 abbrev at_k : (e : Engine) (k : ℕ) (s : Search) → e.current ≡ Some k → Stands e s → StandsFor e.machine e.selected (Some k) s
 at_k e k s c j = subst (λ (o : Option ℕ). StandsFor e.machine e.selected o s) c j
 
+goals_are_selected : (c : Cell) → IsGoal c → selects c ≡ true
+goals_are_selected (Goal t height) g = refl
+goals_are_selected (Call t) g = refl
+goals_are_selected (CutTo height) g = absurd g
+goals_are_selected (CutFail height) g = absurd g
+goals_are_selected (CatchEnd height c r) g = absurd g
+goals_are_selected (Collect height t) g = absurd g
+
 abbrev head_or : Cell → List Cell → Cell
 head_or c [] = c
 head_or c (x ∷ xs) = x
 
-few : (e : Engine) (k rest : ℕ) (c : Cell) → HasWork e.steps e.selected e.machine k → items_at e.machine.world.second.now k ≡ c ∷ items_at e.machine.world.second.now rest
-    → selects c ≡ true → e.selected < e.steps
-few e k rest c w cells y = let same : w.cell ≡ c = ap (head_or c) (sym w.cells ∙ cells) in w.few (ap selects same ∙ y)
+module _ (e : Engine) (k rest : ℕ) (c : Cell) (run : IsRunning e) (at : e.current ≡ Some k) (w : HasWork e.steps e.selected e.machine k)
+    (cells : items_at e.machine.world.second.now k ≡ c ∷ items_at e.machine.world.second.now rest) where
+  goal_here : IsGoal c
+  goal_here =
+      let m = e.machine in
+      let j = at_k e k run.search at run.stands in
+      let current = j.current in
+      let plain = subst AllPlain (j.branches ∙ ap (λ (l : List Branch). l ++ j.behind) current.2) run.no_catch in
+      goal_in_front (IsBranch m.atoms) (term_in m.atoms) (holds m) (now m).0 current.1 c (items_at m.world.second.now rest) current.0
+      (subst (λ (cs : List Cell). AreItems (IsBranch m.atoms) (term_in m.atoms) (holds m) (now m).0 current.1 cs current.0) cells current.3.cells) plain.0
+      (subst IsFront cells w.front)
+
+  few : e.selected < e.steps
+  few = let same : w.cell ≡ c = ap (head_or c) (sym w.cells ∙ cells) in w.few (ap selects same ∙ goals_are_selected c goal_here)
 
 -- what was reached, by the step
 abbrev ReachedBy : Machine → Machine → ℕ → ℕ → Step → Text → Search → Type 0
@@ -59,12 +84,6 @@ reached_by old m n rest d st s e r = (
 pub first-requires : goal.first-requires
 first-requires c = let r = c.requires.running in (at_k c.args.e.now c.args.k r.search c.requires.current r.stands).current.3.there
 
-pub returns-in_default-clause-err : goal.returns-in_default-clause-err
-returns-in_default-clause-err c = let e = c.args.e.now in goes_at_once e e (λ s j. j)
-
-pub returns-in_default-clause-keeps : goal.returns-in_default-clause-keeps
-returns-in_default-clause-keeps c = keeps_none c.args.e.now
-
 pub execute_cell-requires-clause-sound : goal.execute_cell-requires-clause-sound
 execute_cell-requires-clause-sound c = c.requires.work.sound
 
@@ -77,6 +96,10 @@ execute_cell-requires-clause-going c =
 pub execute_cell-requires-clause-front : goal.execute_cell-requires-clause-front
 execute_cell-requires-clause-front c = record { earlier = c.in-Some.ensures.earlier; cells = c.in-Some.ensures.some }
 
+pub execute_cell-requires-clause-goal : goal.execute_cell-requires-clause-goal
+execute_cell-requires-clause-goal c =
+    goal_here c.args.e.now c.args.k c.in-Some.rest c.in-Some.cell c.requires.running c.requires.current c.requires.work c.in-Some.ensures.some
+
 -- ---- it goes on
 
 pub returns-in-Goes-clause-turned : goal.returns-in-Goes-clause-turned
@@ -87,7 +110,7 @@ returns-in-Goes-clause-turned c =
     let rest = c.in-Some.rest in
     let d = c.in-Ok.done in
     advanced e (record e { machine = m }) c.advance.new.e rest (Some c.in-Goes.next) d.executed.output.items refl c.advance.ensures.at
-    (few e k rest c.in-Some.cell c.requires.work c.in-Some.ensures.some c.in-Ok.ensures.selects)
+    (few e k rest c.in-Some.cell c.requires.running c.requires.current c.requires.work c.in-Some.ensures.some)
     (λ s j. reached_by e.machine m e.selected rest d (step.Goes c.in-Goes.next) s c.in-Goes.is (c.in-Ok.ensures.row e.selected s (at_k e k s c.requires.current j)))
     c.advance.result c.advance.ensures.told
 
@@ -99,7 +122,7 @@ returns-in-Goes-clause-running c =
     let rest = c.in-Some.rest in
     let d = c.in-Ok.done in
     runs_on e (record e { machine = m }) c.advance.new.e rest (Some c.in-Goes.next) d.executed.output.items refl c.advance.ensures.at
-    (few e k rest c.in-Some.cell c.requires.work c.in-Some.ensures.some c.in-Ok.ensures.selects)
+    (few e k rest c.in-Some.cell c.requires.running c.requires.current c.requires.work c.in-Some.ensures.some)
     (λ s j. reached_by e.machine m e.selected rest d (step.Goes c.in-Goes.next) s c.in-Goes.is (c.in-Ok.ensures.row e.selected s (at_k e k s c.requires.current j)))
     c.requires.running c.execute_cell.ensures.sound refl
 
@@ -116,7 +139,7 @@ returns-in-Back-clause-turned c =
     let rest = c.in-Some.rest in
     let d = c.in-Ok.done in
     advanced e (record e { machine = m }) c.advance-in-Back.new.e rest None d.executed.output.items refl c.advance-in-Back.ensures.at
-    (few e k rest c.in-Some.cell c.requires.work c.in-Some.ensures.some c.in-Ok.ensures.selects)
+    (few e k rest c.in-Some.cell c.requires.running c.requires.current c.requires.work c.in-Some.ensures.some)
     (λ s j. reached_by e.machine m e.selected rest d step.Back s c.in-Back.is (c.in-Ok.ensures.row e.selected s (at_k e k s c.requires.current j)))
     c.advance-in-Back.result c.advance-in-Back.ensures.told
 
@@ -128,7 +151,7 @@ returns-in-Back-clause-running c =
     let rest = c.in-Some.rest in
     let d = c.in-Ok.done in
     runs_on e (record e { machine = m }) c.advance-in-Back.new.e rest None d.executed.output.items refl c.advance-in-Back.ensures.at
-    (few e k rest c.in-Some.cell c.requires.work c.in-Some.ensures.some c.in-Ok.ensures.selects)
+    (few e k rest c.in-Some.cell c.requires.running c.requires.current c.requires.work c.in-Some.ensures.some)
     (λ s j. reached_by e.machine m e.selected rest d step.Back s c.in-Back.is (c.in-Ok.ensures.row e.selected s (at_k e k s c.requires.current j)))
     c.requires.running c.execute_cell.ensures.sound refl
 
@@ -155,17 +178,8 @@ raised e m k rest d error is at row s j =
 pub throw-requires-clause-culprit : goal.throw-requires-clause-culprit
 throw-requires-clause-culprit c = subst (CanGo c.execute_cell.new.m) c.in-Raises.is c.in-Ok.ensures.goes
 
-pub throw-requires-clause-there : goal.throw-requires-clause-there
-throw-requires-clause-there c =
-    let e = c.args.e.now in
-    let m = c.execute_cell.new.m in
-    let run = c.requires.running in
-    let r = c.in-Ok.ensures.row e.selected run.search (at_k e c.args.k run.search c.requires.current run.stands) in
-    let still : StillStands e.machine m = subst (λ (t : Step). OnRaises t (StillStands e.machine m)) c.in-Raises.is c.in-Ok.ensures.raises in
-    (items_still e.machine m e.selected c.in-Some.rest run.search r.next still).0
-
 pub throw-requires-clause-few : goal.throw-requires-clause-few
-throw-requires-clause-few c = few c.args.e.now c.args.k c.in-Some.rest c.in-Some.cell c.requires.work c.in-Some.ensures.some c.in-Ok.ensures.selects
+throw-requires-clause-few c = few c.args.e.now c.args.k c.in-Some.rest c.in-Some.cell c.requires.running c.requires.current c.requires.work c.in-Some.ensures.some
 
 pub returns-in-Ok-throw-clause-turned : goal.returns-in-Ok-throw-clause-turned
 returns-in-Ok-throw-clause-turned c =
@@ -176,9 +190,9 @@ returns-in-Ok-throw-clause-turned c =
     let d = c.in-Ok.done in
     let error = c.in-Raises.error in
     let still : StillStands e.machine m = subst (λ (t : Step). OnRaises t (StillStands e.machine m)) c.in-Raises.is c.in-Ok.ensures.raises in
-    thrown e (record e { machine = m }) c.throw.new.e rest error d.raiser refl (few e k rest c.in-Some.cell c.requires.work c.in-Some.ensures.some c.in-Ok.ensures.selects)
+    thrown e (record e { machine = m }) c.throw.new.e rest error d.raiser refl (few e k rest c.in-Some.cell c.requires.running c.requires.current c.requires.work c.in-Some.ensures.some)
     c.in-Ok-throw.ensures.ended c.throw.ensures.program.database (raised e m k rest d error c.in-Raises.is c.requires.current c.in-Ok.ensures.row)
-    c.in-Ok-throw.ball still c.in-Ok-throw.ensures.uncaught c.in-Ok-throw.ensures.sound c.in-Ok-throw.ensures.ball
+    c.in-Ok-throw.ball still c.requires.running c.in-Ok-throw.ensures.sound c.in-Ok-throw.ensures.ball
 
 pub returns-in-Ok-throw-clause-running : goal.returns-in-Ok-throw-clause-running
 returns-in-Ok-throw-clause-running c =
@@ -188,7 +202,7 @@ returns-in-Ok-throw-clause-running c =
     let rest = c.in-Some.rest in
     let d = c.in-Ok.done in
     let error = c.in-Raises.error in
-    runs_thrown e (record e { machine = m }) c.throw.new.e rest error d.raiser refl (few e k rest c.in-Some.cell c.requires.work c.in-Some.ensures.some c.in-Ok.ensures.selects)
+    runs_thrown e (record e { machine = m }) c.throw.new.e rest error d.raiser refl (few e k rest c.in-Some.cell c.requires.running c.requires.current c.requires.work c.in-Some.ensures.some)
     c.in-Ok-throw.ensures.ended c.throw.ensures.program.database (raised e m k rest d error c.in-Raises.is c.requires.current c.in-Ok.ensures.row)
     c.requires.running c.throw.ensures.steps
 
@@ -216,17 +230,20 @@ returns-in-Raises-clause-err c =
 -- ---- stops
 
 pub returns-in-Ok-clause-turned : goal.returns-in-Ok-clause-turned
-returns-in-Ok-clause-turned c = λ budgets h s j.
+returns-in-Ok-clause-turned c = (
+  λ budgets h s j.
     let e = c.args.e.now in
     let m = c.execute_cell.new.m in
     let k = c.args.k in
     let rest = c.in-Some.rest in
     let x = reached_by e.machine m e.selected rest c.in-Ok.done (step.Refuses c.in-Refuses.pair) s c.in-Refuses.is
     (c.in-Ok.ensures.row e.selected s (at_k e k s c.requires.current j)) in
-    let less = subst (λ (n : ℕ). e.selected < n) (sym h.steps) (few e k rest c.in-Some.cell c.requires.work c.in-Some.ensures.some c.in-Ok.ensures.selects) in
+    let less = subst (λ (n : ℕ). e.selected < n) (sym h.steps) (few e k rest c.in-Some.cell c.requires.running c.requires.current c.requires.work c.in-Some.ensures.some) in
     let left = c.leave in
     stopped budgets left.new.e e.selected (why.Overflow c.in-Refuses.pair) s (with_branches [] s) left.ensures.ended (x.1.database ∙ sym left.ensures.program.database) x.0.selected
-    (tells_refused e.machine e.selected rest s x.0 budgets less c.in-Refuses.pair x.1.is) refl
+    (tells_refused e.machine e.selected rest s x.0 budgets less c.in-Refuses.pair x.1.is) refl,
+  let same = c.leave.ensures.ended.selected in omega (arith, same),
+)
 
 pub returns-in-Ok-clause-running : goal.returns-in-Ok-clause-running
 returns-in-Ok-clause-running c =
@@ -243,18 +260,20 @@ stops_so : (e : Engine) (m : Machine) (k rest : ℕ) (f : StoreFault) (g : Store
 stops_so e m k rest f g is at stop s j = subst (λ (x : StoreFault). MayStop e.machine e.selected rest x s) is (stop e.selected s (at_k e k s at j))
 
 pub returns-in-Err-Overflow-clause-turned : goal.returns-in-Err-Overflow-clause-turned
-returns-in-Err-Overflow-clause-turned c = rw c.in-Err-Overflow.field-0-is (λ budgets h s j.
+returns-in-Err-Overflow-clause-turned c = (
+  rw c.in-Err-Overflow.field-0-is (λ budgets h s j.
     let e = c.args.e.now in
     let m = c.execute_cell.new.m in
     let k = c.args.k in
     let rest = c.in-Some.rest in
     let x = stops_so e m k rest _ (fault.Overflow c.in-Err-Overflow.pair) c.in-Err-Overflow.field-0-is c.requires.current c.in-Err-Overflow.ensures.stop s j in
-    let so : selects c.in-Some.cell ≡ true = subst (HasSelected c.in-Some.cell) c.in-Err-Overflow.field-0-is c.in-Err-Overflow.ensures.err_selects in
-    let less = subst (λ (n : ℕ). e.selected < n) (sym h.steps) (few e k rest c.in-Some.cell c.requires.work c.in-Some.ensures.some so) in
+    let less = subst (λ (n : ℕ). e.selected < n) (sym h.steps) (few e k rest c.in-Some.cell c.requires.running c.requires.current c.requires.work c.in-Some.ensures.some) in
     let left = c.leave-in-Err-Overflow in
     let t = stops_for_overflow budgets e.machine e.selected rest c.in-Err-Overflow.pair s less x in
     stopped budgets left.new.e e.selected (why.Overflow c.in-Err-Overflow.pair) s t.0 left.ensures.ended
-    (x.next.database ∙ sym c.in-Err-Overflow.ensures.err_database ∙ sym left.ensures.program.database) x.next.selected t.1 t.2)
+    (x.next.database ∙ sym c.in-Err-Overflow.ensures.err_database ∙ sym left.ensures.program.database) x.next.selected t.1 t.2),
+  let same = c.leave-in-Err-Overflow.ensures.ended.selected in omega (arith, same),
+)
 
 pub returns-in-Err-Overflow-clause-running : goal.returns-in-Err-Overflow-clause-running
 returns-in-Err-Overflow-clause-running c =
@@ -269,18 +288,20 @@ returns-in-Err-Overflow-clause-keeps c =
     keeps_gained c.args.e.now left.new.e c.execute_cell.new.m c.execute_cell.ensures.program left.ensures.program left.ensures.budget left.ensures.steps
 
 pub returns-in-Err-Pivots-clause-turned : goal.returns-in-Err-Pivots-clause-turned
-returns-in-Err-Pivots-clause-turned c = rw c.in-Err-Pivots.field-0-is (λ budgets h s j.
+returns-in-Err-Pivots-clause-turned c = (
+  rw c.in-Err-Pivots.field-0-is (λ budgets h s j.
     let e = c.args.e.now in
     let m = c.execute_cell.new.m in
     let k = c.args.k in
     let rest = c.in-Some.rest in
     let x = stops_so e m k rest _ (fault.Pivots c.in-Err-Pivots.exchanges) c.in-Err-Pivots.field-0-is c.requires.current c.in-Err-Pivots.ensures.stop s j in
-    let so : selects c.in-Some.cell ≡ true = subst (HasSelected c.in-Some.cell) c.in-Err-Pivots.field-0-is c.in-Err-Pivots.ensures.err_selects in
-    let less = subst (λ (n : ℕ). e.selected < n) (sym h.steps) (few e k rest c.in-Some.cell c.requires.work c.in-Some.ensures.some so) in
+    let less = subst (λ (n : ℕ). e.selected < n) (sym h.steps) (few e k rest c.in-Some.cell c.requires.running c.requires.current c.requires.work c.in-Some.ensures.some) in
     let left = c.leave-in-Err-Pivots in
     let t = stops_for_pivots budgets e.machine e.selected rest c.in-Err-Pivots.exchanges s less h.pivots x in
     stopped budgets left.new.e e.selected (why.Pivots c.in-Err-Pivots.exchanges) s t.0 left.ensures.ended
-    (x.next.database ∙ sym c.in-Err-Pivots.ensures.err_database ∙ sym left.ensures.program.database) x.next.selected t.1 t.2)
+    (x.next.database ∙ sym c.in-Err-Pivots.ensures.err_database ∙ sym left.ensures.program.database) x.next.selected t.1 t.2),
+  let same = c.leave-in-Err-Pivots.ensures.ended.selected in omega (arith, same),
+)
 
 pub returns-in-Err-Pivots-clause-running : goal.returns-in-Err-Pivots-clause-running
 returns-in-Err-Pivots-clause-running c =

@@ -1,20 +1,12 @@
 use Rattle.std.proofs.Common.{◌≡◌, ◌<◌, List, length, refl, sym, ◌∙◌, subst}
 use Rattle.spec_lists.specs.Texts.{Text}
 use Rattle.spec_machine.specs.Cells.{Value}
-use Rattle.cq_control.specs.Items.{items_at}
 use Rattle.cq_term.specs.Trees.{tree, KnowsTerms}
 use Rattle.cq_world.specs.Contents.{Contents}
 use Rattle.cq_machine.specs.Machines.{terms}
-use Rattle.cq_engine.proofs.Engines.{gains_on, gains_none, kept_where, sound_where}
+use Rattle.cq_engine.proofs.Engines.{gains_on, kept_where, sound_where}
 use Rattle.cq_events.specs.Raised.{ball_by}
-use Rattle.cq_events.proofs.CellsPassed.{none_caught}
 use Rattle.cq_events.proofs.turning.throw.Goals as goal
-
-pub returns-then-is_caught-clause-program : goal.returns-then-is_caught-clause-program
-returns-then-is_caught-clause-program c = gains_none c.args.e.now.machine
-
-pub returns-clause-uncaught : goal.returns-clause-uncaught
-returns-clause-uncaught c = none_caught (items_at c.args.e.now.machine.world.second.now c.args.rest) (sym c.is_caught.ensures ∙ c.if-is_caught.false)
 
 pub leave-requires : goal.leave-requires
 leave-requires c = kept_where c.build_ball.new.m c.build_ball.ensures.sound

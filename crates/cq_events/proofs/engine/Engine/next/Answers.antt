@@ -1,10 +1,10 @@
 use Rattle.std.proofs.Common.{arith, subst}
 use Rattle.cq_events.specs.Turning.{Turned}
-use Rattle.cq_events.proofs.Turned.{keeps_both, keeps_none, goes_both, gives_both, goes_at_once}
+use Rattle.cq_events.proofs.Turned.{keeps_both, keeps_none, goes_both, gives_both, counted_on, goes_at_once}
 use Rattle.cq_events.proofs.engine.Engine.next.Goals as goal
 
 pub turns-init : goal.turns-init
-turns-init c = let e = c.args.self.now in record { running = c.requires; goes = goes_at_once e e (λ s j. j); keeps = keeps_none e }
+turns-init c = let e = c.args.self.now in record { running = c.requires; goes = goes_at_once e e (λ s j. j); counted = omega arith; keeps = keeps_none e }
 
 pub turns-preserved : goal.turns-preserved
 turns-preserved c =
@@ -14,6 +14,7 @@ turns-preserved c =
     record {
       running = c.turn.ensures.running;
       goes = goes_both e c.turns.self c.turn.new.e i.keeps i.goes turned.0;
+      counted = let more = turned.1 in let before = i.counted in omega (arith, more, before);
       keeps = keeps_both e c.turns.self c.turn.new.e i.keeps c.turn.ensures.keeps;
     }
 
@@ -28,7 +29,13 @@ turns-smaller c =
 pub returns-in-Some-clause-event : goal.returns-in-Some-clause-event
 returns-in-Some-clause-event c =
     let i = c.turns.invariant in
-    gives_both c.args.self.now c.turns.self c.turn.new.e c.in-Some.event i.keeps i.goes (subst (Turned c.turns.self c.turn.new.e) c.in-Some.is c.in-Ok.ensures.turned)
+    let turned = subst (Turned c.turns.self c.turn.new.e) c.in-Some.is c.in-Ok.ensures.turned in
+    gives_both c.args.self.now c.turns.self c.turn.new.e c.in-Some.event i.keeps i.goes turned.0
+
+pub returns-in-Some-clause-selected : goal.returns-in-Some-clause-selected
+returns-in-Some-clause-selected c =
+    let turned = subst (Turned c.turns.self c.turn.new.e) c.in-Some.is c.in-Ok.ensures.turned in
+    counted_on c.args.self.now c.turns.self c.turn.new.e c.in-Some.event c.turns.invariant.counted turned.1
 
 pub returns-in-Some-clause-keeps : goal.returns-in-Some-clause-keeps
 returns-in-Some-clause-keeps c = keeps_both c.args.self.now c.turns.self c.turn.new.e c.turns.invariant.keeps c.turn.ensures.keeps

@@ -1,16 +1,9 @@
-use Rattle.std.proofs.Common.{List, refl, sym, ap, ◌∙◌, subst}
+use Rattle.std.proofs.Common.{ap, ◌∙◌}
 use Rattle.spec_operators.specs.Operators.{Ops}
-use Rattle.spec_machine.specs.Cells.{Value}
-use Rattle.cq_control.specs.Open.{AreMarked}
 use Rattle.cq_program.specs.Database.{as_database}
 use Rattle.cq_write.specs.Meaning.{operators}
-use Rattle.cq_world.specs.Contents.{Contents}
-use Rattle.cq_steps.specs.Choices.{AreOpen}
-use Rattle.cq_machine.specs.Machines.{now}
-use Rattle.cq_machine.proofs.Interned.{names_kept}
 use Rattle.cq_offer.proofs.Machines.{named_there}
-use Rattle.cq_events.proofs.Marks.{marks}
-use Rattle.cq_events.proofs.Read.{left, nothing_read}
+use Rattle.cq_events.proofs.Read.{left, idle_on}
 use Rattle.cq_events.proofs.engine.Engine.read.Goals as goal
 
 pub text-requires : goal.text-requires
@@ -20,27 +13,14 @@ text-requires c =
 
 pub returns-clause-idle : goal.returns-clause-idle
 returns-clause-idle c =
-    let m = c.args.self.now.machine in
+    let e = c.args.self.now in
+    let m = e.machine in
     let r = c.read_clause-read in
     let s = c.requires.idle.sound in
     let keeps = r.ensures.names in
-    let grown = left m.world.first.heap r.new.heap r.result r.ensures.heap in
-    let same = marks m.world.first r.new.heap m.world.second.saved grown.saved in
-    let names = r.ensures.known s.names in
-    record {
-      sound = record {
-        known = names_kept m.atoms r.new.atoms keeps m.names s.known;
-        different = c.text.ensures.different;
-        names = names;
-        program = c.programs_stay_programs.ensures.named m.atoms r.new.atoms keeps m.clauses s.program;
-        operators_named = c.more_names_keep_the_table.ensures.known m.atoms r.new.atoms m.ops keeps s.operators_named;
-        marked = subst (λ (l : List (Value Contents)). AreMarked l m.choices) (sym same) s.marked;
-        untried = subst (λ (l : List (Value Contents)). AreOpen m.clauses l m.choices) (sym same) s.untried;
-      };
-      nothing = nothing_read m.atoms r.new.atoms (now m).0 m.world.first.heap r.new.heap refl grown c.requires.idle.nothing names;
-      lists = c.requires.idle.lists;
-      choices = c.requires.idle.choices;
-    }
+    idle_on e r.new.heap r.new.atoms c.requires.idle (left m.world.first.heap r.new.heap r.result r.ensures.heap) keeps c.text.ensures.different (r.ensures.known s.names)
+    (c.programs_stay_programs.ensures.named m.atoms r.new.atoms keeps m.clauses s.program)
+    (c.more_names_keep_the_table.ensures.known m.atoms r.new.atoms m.ops keeps s.operators_named)
 
 pub returns-clause-program : goal.returns-clause-program
 returns-clause-program c =

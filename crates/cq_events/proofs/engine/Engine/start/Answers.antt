@@ -43,6 +43,7 @@ returns-clause-running c =
       search = start (database_of m) (tree m.atoms (terms m) c.args.goal) (length m.world.first.heap.now.images);
       stands = started m.atoms m.clauses (database_of m) (now m).0 lists.now (saved_values m.world.first lists.saved) m.choices k c.args.goal c.requires.idle.nothing c.requires.idle.choices
           c.requires.goal h;
+      no_catch = (tt, tt);
       within = omega arith;
     }
 
