@@ -64,7 +64,7 @@ selects (CutFail height) = true
 selects (CatchEnd height c r) = true
 selects (Collect height t) = false
 
--- something that is no mark is in front, and one more goal may be selected where it is one; the machine is sound
+-- something is in front, no mark, and one more goal may be selected where it is one; the machine is sound
 pub record HasWork (steps n : ℕ) (m : Machine) (k : ℕ) : Type 0 where
   pub sound : IsSound m
   pub rest : ℕ
