@@ -1,6 +1,6 @@
 // A machine with a query.
 
-ghost use Rattle.std.specs.Prelude.{◌≡◌, ◌<◌, ◌≤◌, List, length, IfOk, OnOk, OnErr};
+ghost use Rattle.std.specs.Prelude.{◌≡◌, ◌<◌, ◌≤◌, [], List, length, IfOk, OnOk, OnErr};
 ghost use Rattle.spec_lists.specs.Texts.{Text};
 ghost use Rattle.spec_search.specs.Database.{initial};
 ghost use Rattle.spec_search.specs.Search.{start};
@@ -11,7 +11,7 @@ ghost use Rattle.cq_read.specs.Feeds as feeds;
 ghost use Rattle.cq_read.specs.Shown.{read_of, IsReadOf, IsForward, IsLiveRead};
 ghost use Rattle.cq_term.specs.Trees.{tree};
 ghost use Rattle.cq_steps.specs.Lists.{goal_cell};
-ghost use Rattle.cq_machine.specs.Machines.{terms, database_of};
+ghost use Rattle.cq_machine.specs.Machines.{terms, now, database_of};
 ghost use Rattle.cq_engine.specs.Seeking.{IsKept};
 ghost use Rattle.cq_events.specs.Events.{IsIdle, IsRunning, GivesNext, GoesOn, HasCounted, Keeps, Stands, HasSameWorld};
 
@@ -71,6 +71,7 @@ impl Engine {
     pub fn end(&mut self)
         requires { IsKept self.old.machine }
         ensures idle { IsIdle self.new }
+        ensures empty { (now self.new.machine).0.heap.images ≡ [] }
         ensures keeps { Keeps self.old self.new }
         ensures program { database_of self.new.machine ≡ database_of self.old.machine }
     {

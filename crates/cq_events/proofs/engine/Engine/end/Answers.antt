@@ -33,6 +33,9 @@ returns-clause-idle c =
       choices = c.new-3.ensures;
     }
 
+pub returns-clause-empty : goal.returns-clause-empty
+returns-clause-empty c = ap (λ (x : Contents). x.heap.images) c.new.ensures.now
+
 pub returns-clause-keeps : goal.returns-clause-keeps
 returns-clause-keeps c =
     let m = c.args.self.now.machine in
