@@ -261,7 +261,7 @@ stops_so e m k rest f g is at stop s j = subst (λ (x : StoreFault). MayStop e.m
 
 pub returns-in-Err-Overflow-clause-turned : goal.returns-in-Err-Overflow-clause-turned
 returns-in-Err-Overflow-clause-turned c = (
-  rw c.in-Err-Overflow.field-0-is (λ budgets h s j.
+  λ budgets h s j.
     let e = c.args.e.now in
     let m = c.execute_cell.new.m in
     let k = c.args.k in
@@ -271,7 +271,7 @@ returns-in-Err-Overflow-clause-turned c = (
     let left = c.leave-in-Err-Overflow in
     let t = stops_for_overflow budgets e.machine e.selected rest c.in-Err-Overflow.pair s less x in
     stopped budgets left.new.e e.selected (why.Overflow c.in-Err-Overflow.pair) s t.0 left.ensures.ended
-    (x.next.database ∙ sym c.in-Err-Overflow.ensures.err_database ∙ sym left.ensures.program.database) x.next.selected t.1 t.2),
+    (x.next.database ∙ sym c.in-Err-Overflow.ensures.err_database ∙ sym left.ensures.program.database) x.next.selected t.1 t.2,
   let same = c.leave-in-Err-Overflow.ensures.ended.selected in omega (arith, same),
 )
 
@@ -289,7 +289,7 @@ returns-in-Err-Overflow-clause-keeps c =
 
 pub returns-in-Err-Pivots-clause-turned : goal.returns-in-Err-Pivots-clause-turned
 returns-in-Err-Pivots-clause-turned c = (
-  rw c.in-Err-Pivots.field-0-is (λ budgets h s j.
+  λ budgets h s j.
     let e = c.args.e.now in
     let m = c.execute_cell.new.m in
     let k = c.args.k in
@@ -299,7 +299,7 @@ returns-in-Err-Pivots-clause-turned c = (
     let left = c.leave-in-Err-Pivots in
     let t = stops_for_pivots budgets e.machine e.selected rest c.in-Err-Pivots.exchanges s less h.pivots x in
     stopped budgets left.new.e e.selected (why.Pivots c.in-Err-Pivots.exchanges) s t.0 left.ensures.ended
-    (x.next.database ∙ sym c.in-Err-Pivots.ensures.err_database ∙ sym left.ensures.program.database) x.next.selected t.1 t.2),
+    (x.next.database ∙ sym c.in-Err-Pivots.ensures.err_database ∙ sym left.ensures.program.database) x.next.selected t.1 t.2,
   let same = c.leave-in-Err-Pivots.ensures.ended.selected in omega (arith, same),
 )
 
