@@ -1,0 +1,4 @@
+pub mod Sentences
+pub mod Events
+pub mod Progress
+pub mod Halts
