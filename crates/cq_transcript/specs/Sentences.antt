@@ -12,6 +12,8 @@ use Rattle.spec_search.specs.Search.{Search}
 use Rattle.spec_transcript.specs.Purposes as purposes
 use Rattle.spec_transcript.specs.Purposes.{Purpose, purpose, once, ball_line}
 use Rattle.spec_transcript.specs.Session.{Asked, begun, names_from, refusal_ball}
+use Rattle.spec_stops.specs.Causes.{Budgets}
+use Rattle.spec_endings.specs.Outside.{most_rows}
 use Rattle.cq_read.specs.Inputs.{Input}
 use Rattle.cq_transcript.specs.declared.interpreter.Source.{Source}
 use Rattle.cq_transcript.specs.declared.interpreter.Source.TheVariants as source
@@ -26,6 +28,10 @@ as_source source.Input = purposes.Input
 pub record Program : Type 0 where
   pub database : Database
   pub later : List Asked
+
+-- budgets of so many goals, exchanges and answers
+abbrev pub budgets_within : ℕ → ℕ → ℕ → Budgets
+budgets_within steps pivots answers = record { steps = steps; pivots = pivots; answers = answers; rows = most_rows }
 
 -- this stands at the place of the input, whatever bytes come behind those that are there
 pub record IsSettled (ops : Ops) (input : Input) (r : Read) : Type 0 where

@@ -1,16 +1,17 @@
 // What the writer of a transcript asks of an interpreter.
 
-ghost use Rattle.std.specs.Prelude.{◌≡◌, ℕ, List, IfOk};
+ghost use Rattle.std.specs.Prelude.{◌≡◌, ℕ, List, [], IfOk};
 ghost use Rattle.spec_operators.specs.Operators.{Ops};
 ghost use Rattle.spec_branch.specs.Branch.{State};
+ghost use Rattle.spec_search.specs.Database.{initial};
 ghost use Rattle.spec_search.specs.Search.{Search};
 ghost use Rattle.spec_stops.specs.Causes.{Budgets};
 ghost use Rattle.spec_syntax.specs.TextTokens.{VariableName};
 ghost use Rattle.cq_transcript.specs.Events.{IsEvent, IsAnswered, TakesFrom};
-ghost use Rattle.cq_transcript.specs.Sentences.{Program, IsSentence, BeginsLater, MovesOn};
+ghost use Rattle.cq_transcript.specs.Sentences.{Program, IsSentence, BeginsLater, MovesOn, budgets_within};
 
 use cq_read::Feed;
-use std::alloc::AllocError;
+use std::alloc::{AllocError, Global};
 
 /// Where a text comes from.
 #[derive(Clone, Copy, Debug, PartialEq, Eq)]
@@ -65,7 +66,7 @@ pub enum Answered {
 }
 
 /// A program that is read clause by clause, and whose queries run one after another. An error of a call is want of memory.
-pub trait Interpreter {
+pub trait Interpreter: Sized {
     /// The program, and the goals that wait for the end of the file.
     ghost program: { Self → Program };
 
@@ -76,13 +77,19 @@ pub trait Interpreter {
     ghost stands: { Self → Search → Type 0 };
 
     /// The answer that was told last is of this state, with these operators.
-    ghost answers: { Self → State → Ops → Type 0 };
+    ghost is_answer: { Self → State → Ops → Type 0 };
 
     /// How many goals the query may still select.
     ghost left: { Self → ℕ };
 
     /// The names of the variables of the query that runs.
     ghost names: { Self → List VariableName };
+
+    /// A program without clauses. A query may select so many goals, make so many exchanges in one maximisation, and write so many
+    /// answers.
+    fn new(alloc: Global, steps: u64, pivots: u64, answers: u64) -> Result<Self, AllocError>
+        ensures program { IfOk result (λ p. program p ≡ record { database = initial; later = [] }) }
+        ensures budgets { IfOk result (λ p. budgets p ≡ budgets_within steps pivots answers) };
 
     /// Reads what stands at the place of a text. A clause of a file is added, and a directive or a query begun.
     fn read(&mut self, text: &mut Feed, source: Source) -> Result<Sentence, AllocError>
@@ -100,14 +107,14 @@ pub trait Interpreter {
     /// What the query comes to next.
     fn next(&mut self) -> Result<Event, AllocError>
         requires runs { (s : Search) × stands self.old s }
-        ensures event { IfOk result (λ e. (s : Search) → stands self.old s → IsEvent (budgets self.old) (stands self.new) (answers self.new) (program self.old) (program self.new) s e) }
+        ensures event { IfOk result (λ e. (s : Search) → stands self.old s → IsEvent (budgets self.old) (stands self.new) (is_answer self.new) (program self.old) (program self.new) s e) }
         ensures less { IfOk result (TakesFrom (left self.old) (left self.new)) }
         ensures names { names self.new ≡ names self.old }
         ensures budgets { budgets self.new ≡ budgets self.old };
 
     /// The lines of the answer that was told last.
     fn answer(&mut self) -> Result<Answered, AllocError>
-        ensures lines { IfOk result (IsAnswered (budgets self.old) (answers self.old) (names self.old)) }
+        ensures lines { IfOk result (IsAnswered (budgets self.old) (is_answer self.old) (names self.old)) }
         ensures left { left self.new ≡ left self.old }
         ensures stands { (s : Search) → stands self.old s → stands self.new s }
         ensures program { program self.new ≡ program self.old }

@@ -1,7 +1,9 @@
 //! The transcript of files and of the input, written as an interpreter tells it: each text of the input before more is read.
 #![tactic(auto)]
 
+mod files;
 mod halt;
+mod input;
 mod interpreter;
 mod reading;
 mod searching;
@@ -9,6 +11,4 @@ mod texts;
 
 pub use halt::{Halt, Lines};
 pub use interpreter::{Answered, Event, Interpreter, Sentence, Source};
-pub use reading::{Pause, write_text};
-pub use searching::{write_directive, write_query};
 pub use texts::write_transcript;
