@@ -67,8 +67,9 @@ pub record PassesLimit (b : Budgets) (o : Outside) (from : Session) (left : List
 abbrev pub Breaks : Budgets → Outside → Option (List ℕ) → Session → Halt → Option (List ℕ) → Option (List ℕ) → Type 0
 Breaks b o left from (Absent name) held now = (o.files name.now ≡ None) × ComesTo b o from name.now held now
 Breaks b o left from (TooLarge name) held now = IsTooLarge (o.files name.now) × ComesTo b o from name.now held now
-Breaks b o left from TooMuchInput held now = IfSome left (λ bytes. PassesLimit b o from bytes held now)
-Breaks b o left from Read held now = ((name : Text) × ComesTo b o from name held now) ⊎ IfSome left (λ bytes. ReadsTaken b o from bytes held now)
+Breaks b o left from TooMuchInput held now = (bytes : List ℕ) × (left ≡ Some bytes) × PassesLimit b o from bytes held now
+Breaks b o left from Read held now =
+    ((name : Text) × ComesTo b o from name held now) ⊎ ((bytes : List ℕ) × (left ≡ Some bytes) × ReadsTaken b o from bytes held now)
 Breaks b o left from Write held now = Broken b o from Write held now
 Breaks b o left from Memory held now = Broken b o from Memory held now
 

@@ -44,6 +44,7 @@ fn write_waiting<'a, P: Interpreter, O: Sink>(
     program: &mut P,
     out: &mut O,
 ) -> Result<Lines, Halt<'a>>
+    requires kept { P.kept program.old }
     ensures whole { IfOk result (λ lines. (o : Outside) (r : Reader) (ops : Ops) → r.later ≡ (P.program program.old).later → Reads ops r.bytes r.at Ended
         → Advanced (P.budgets program.old) o (Reading (P.program program.old).database r) (marks_of lines)
         (Reading (P.program program.new).database (record r { later = [] })) (O.held out.old) (O.held out.new)) }
@@ -51,6 +52,7 @@ fn write_waiting<'a, P: Interpreter, O: Sink>(
         → Broken (P.budgets program.old) o (Reading (P.program program.old).database r) halt (O.held out.old) (O.held out.new)) }
     ensures none_waits { OnOk result ((P.program program.new).later ≡ []) }
     ensures budgets { P.budgets program.new ≡ P.budgets program.old }
+    ensures kept { P.kept program.new }
     ensures cause { CountsWrites (O.faults out.old) (O.faults out.new) result }
 {
     let mut lines = Lines::none();
@@ -72,6 +74,7 @@ pub(crate) fn write_file<'a, P: Interpreter, F: Shelf, O: Sink>(
     shelf: &mut F,
     out: &mut O,
 ) -> Result<Lines, Halt<'a>>
+    requires kept { P.kept program.old }
     requires some { 0 < answers }
     requires answers { (P.budgets program.old).answers ≡ answers }
     requires none_waits { (P.program program.old).later ≡ [] }
@@ -82,6 +85,7 @@ pub(crate) fn write_file<'a, P: Interpreter, F: Shelf, O: Sink>(
         → Breaks (P.budgets program.old) o left (Opening (P.program program.old).database (name.now ∷ names)) halt (O.held out.old) (O.held out.new)) }
     ensures none_waits { OnOk result ((P.program program.new).later ≡ []) }
     ensures budgets { P.budgets program.new ≡ P.budgets program.old }
+    ensures kept { P.kept program.new }
     ensures files { F.files shelf.new ≡ F.files shelf.old }
     ensures cause { (failed taken : ℕ) → CountedBy (counted (F.faults shelf.old) (F.refused shelf.old) failed taken (O.faults out.old))
         (counted (F.faults shelf.new) (F.refused shelf.new) failed taken (O.faults out.new)) result }

@@ -56,6 +56,7 @@ pub(crate) fn write_input<'a, P: Interpreter, I: Bytes, O: Sink>(
     input: &mut I,
     out: &mut O,
 ) -> Result<Lines, Halt<'a>>
+    requires kept { P.kept program.old }
     requires some { 0 < answers }
     requires answers { (P.budgets program.old).answers ≡ answers }
     requires none_waits { (P.program program.old).later ≡ [] }

@@ -70,6 +70,9 @@ pub trait Interpreter: Sized {
     /// The program, and the goals that wait for the end of the file.
     ghost program: { Self → Program };
 
+    /// What it keeps between calls, also where memory was wanting.
+    ghost kept: { Self → Type 0 };
+
     /// What each query may spend.
     ghost budgets: { Self → Budgets };
 
@@ -89,35 +92,45 @@ pub trait Interpreter: Sized {
     /// answers.
     fn new(alloc: Global, steps: u64, pivots: u64, answers: u64) -> Result<Self, AllocError>
         ensures program { IfOk result (λ p. program p ≡ record { database = initial; later = [] }) }
-        ensures budgets { IfOk result (λ p. budgets p ≡ budgets_within steps pivots answers) };
+        ensures budgets { IfOk result (λ p. budgets p ≡ budgets_within steps pivots answers) }
+        ensures kept { IfOk result kept };
 
     /// Reads what stands at the place of a text. A clause of a file is added, and a directive or a query begun.
     fn read(&mut self, text: &mut Feed, source: Source) -> Result<Sentence, AllocError>
+        requires kept { kept self.old }
         ensures sentence { IfOk result (IsSentence (stands self.new) (names self.new) source (program self.old) text.old (program self.new) text.new) }
         ensures forward { IfOk result (MovesOn text.old text.new) }
         ensures bytes { text.new.bytes ≡ text.old.bytes }
         ensures finished { text.new.finished ≡ text.old.finished }
-        ensures budgets { budgets self.new ≡ budgets self.old };
+        ensures budgets { budgets self.new ≡ budgets self.old }
+        ensures kept { kept self.new };
 
     /// Begins the first of the goals that wait, if one does.
     fn begin_later(&mut self) -> Result<bool, AllocError>
+        requires kept { kept self.old }
         ensures begun { IfOk result (BeginsLater (stands self.new) (program self.old) (program self.new)) }
-        ensures budgets { budgets self.new ≡ budgets self.old };
+        ensures budgets { budgets self.new ≡ budgets self.old }
+        ensures kept { kept self.new };
 
     /// What the query comes to next.
     fn next(&mut self) -> Result<Event, AllocError>
+        requires kept { kept self.old }
         requires runs { (s : Search) × stands self.old s }
         ensures event { IfOk result (λ e. (s : Search) → stands self.old s → IsEvent (budgets self.old) (stands self.new) (is_answer self.new) (program self.old) (program self.new) s e) }
         ensures less { IfOk result (TakesFrom (left self.old) (left self.new)) }
         ensures names { names self.new ≡ names self.old }
-        ensures budgets { budgets self.new ≡ budgets self.old };
+        ensures budgets { budgets self.new ≡ budgets self.old }
+        ensures kept { kept self.new };
 
     /// The lines of the answer that was told last.
     fn answer(&mut self) -> Result<Answered, AllocError>
+        requires kept { kept self.old }
+        requires told { (st : State) × (ops : Ops) × is_answer self.old st ops }
         ensures lines { IfOk result (IsAnswered (budgets self.old) (is_answer self.old) (names self.old)) }
         ensures left { left self.new ≡ left self.old }
         ensures stands { (s : Search) → stands self.old s → stands self.new s }
         ensures program { program self.new ≡ program self.old }
         ensures names { names self.new ≡ names self.old }
-        ensures budgets { budgets self.new ≡ budgets self.old };
+        ensures budgets { budgets self.new ≡ budgets self.old }
+        ensures kept { kept self.new };
 }

@@ -49,6 +49,7 @@ fn write_next<'a, P: Interpreter, O: Sink>(
     answers: u64,
     out: &mut O,
 ) -> Result<Turn, Halt<'a>>
+    requires kept { P.kept program.old }
     requires some { 0 < answers }
     requires answers { (P.budgets program.old).answers ≡ answers }
     requires place { text.old.place ≤ length text.old.bytes }
@@ -61,6 +62,7 @@ fn write_next<'a, P: Interpreter, O: Sink>(
     ensures bytes { text.new.bytes ≡ text.old.bytes }
     ensures finished { text.new.finished ≡ text.old.finished }
     ensures budgets { P.budgets program.new ≡ P.budgets program.old }
+    ensures kept { P.kept program.new }
     ensures cause { CountsWrites (O.faults out.old) (O.faults out.new) result }
 {
     match program.read(text, source)? {
@@ -91,6 +93,7 @@ pub(crate) fn write_text<'a, P: Interpreter, O: Sink>(
     answers: u64,
     out: &mut O,
 ) -> Result<(Pause, Lines), Halt<'a>>
+    requires kept { P.kept program.old }
     requires some { 0 < answers }
     requires answers { (P.budgets program.old).answers ≡ answers }
     requires place { text.old.place ≤ length text.old.bytes }
@@ -103,6 +106,7 @@ pub(crate) fn write_text<'a, P: Interpreter, O: Sink>(
     ensures bytes { text.new.bytes ≡ text.old.bytes }
     ensures finished { text.new.finished ≡ text.old.finished }
     ensures budgets { P.budgets program.new ≡ P.budgets program.old }
+    ensures kept { P.kept program.new }
     ensures cause { CountsWrites (O.faults out.old) (O.faults out.new) result }
 {
     let mut lines = Lines::none();

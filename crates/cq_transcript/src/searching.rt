@@ -2,6 +2,8 @@
 
 ghost use Rattle.std.specs.Prelude.{◌≡◌, ◌<◌, None, IfOk, IfErr, OnOk};
 ghost use Rattle.spec_endings.specs.Outside.{Outside};
+ghost use Rattle.spec_operators.specs.Operators.{Ops};
+ghost use Rattle.spec_branch.specs.Branch.{State};
 ghost use Rattle.spec_search.specs.Search.{Search};
 ghost use Rattle.spec_transcript.specs.Session.{ADirective, AQuery, Reader, Reading, Searching};
 ghost use Rattle.cq_outside.specs.Bytes.{Adds, Appends, Begins};
@@ -29,6 +31,7 @@ pub(crate) fn write_directive<'a, P: Interpreter, O: Sink>(
     program: &mut P,
     out: &mut O,
 ) -> Result<Lines, Halt<'a>>
+    requires kept { P.kept program.old }
     requires runs { (s : Search) × P.stands program.old s }
     ensures whole { IfOk result (λ lines. (s : Search) → P.stands program.old s → (o : Outside) (r : Reader) → Advanced (P.budgets program.old) o
         (Searching s ADirective r) (marks_of lines) (Reading (P.program program.new).database r) (O.held out.old) (O.held out.new)) }
@@ -36,6 +39,7 @@ pub(crate) fn write_directive<'a, P: Interpreter, O: Sink>(
         → Broken (P.budgets program.old) o (Searching s ADirective r) halt (O.held out.old) (O.held out.new)) }
     ensures later { OnOk result ((P.program program.new).later ≡ (P.program program.old).later) }
     ensures budgets { P.budgets program.new ≡ P.budgets program.old }
+    ensures kept { P.kept program.new }
     ensures cause { CountsWrites (O.faults out.old) (O.faults out.new) result }
 {
     'events: loop {
@@ -55,6 +59,8 @@ fn write_answer<'a, P: Interpreter, O: Sink>(
     left: u64,
     out: &mut O,
 ) -> Result<Option<Lines>, Halt<'a>>
+    requires kept { P.kept program.old }
+    requires told { (st : State) × (ops : Ops) × P.is_answer program.old st ops }
     requires some { 0 < left }
     ensures whole { IfOk result (λ end. (s t : Search) → Answers (P.budgets program.old) (P.is_answer program.old) s t → (o : Outside) (r : Reader)
         → Advanced (P.budgets program.old) o (Searching s (AQuery (P.names program.old) left) r) (marks_behind end)
@@ -67,6 +73,7 @@ fn write_answer<'a, P: Interpreter, O: Sink>(
     ensures program { P.program program.new ≡ P.program program.old }
     ensures names { P.names program.new ≡ P.names program.old }
     ensures budgets { P.budgets program.new ≡ P.budgets program.old }
+    ensures kept { P.kept program.new }
     ensures cause { CountsWrites (O.faults out.old) (O.faults out.new) result }
 {
     match program.answer()? {
@@ -89,6 +96,7 @@ pub(crate) fn write_query<'a, P: Interpreter, O: Sink>(
     answers: u64,
     out: &mut O,
 ) -> Result<Lines, Halt<'a>>
+    requires kept { P.kept program.old }
     requires runs { (s : Search) × P.stands program.old s }
     requires some { 0 < answers }
     ensures whole { IfOk result (λ lines. (s : Search) → P.stands program.old s → (o : Outside) (r : Reader) → Advanced (P.budgets program.old) o
@@ -97,6 +105,7 @@ pub(crate) fn write_query<'a, P: Interpreter, O: Sink>(
         → Broken (P.budgets program.old) o (Searching s (AQuery (P.names program.old) answers) r) halt (O.held out.old) (O.held out.new)) }
     ensures later { OnOk result ((P.program program.new).later ≡ (P.program program.old).later) }
     ensures budgets { P.budgets program.new ≡ P.budgets program.old }
+    ensures kept { P.kept program.new }
     ensures cause { CountsWrites (O.faults out.old) (O.faults out.new) result }
 {
     let mut left = answers;

@@ -27,6 +27,7 @@ fn write_files<'a, P: Interpreter, F: Shelf, O: Sink>(
     shelf: &mut F,
     out: &mut O,
 ) -> Result<Lines, Halt<'a>>
+    requires kept { P.kept program.old }
     requires some { 0 < answers }
     requires answers { (P.budgets program.old).answers ≡ answers }
     requires none_waits { (P.program program.old).later ≡ [] }
@@ -37,6 +38,7 @@ fn write_files<'a, P: Interpreter, F: Shelf, O: Sink>(
         → Breaks (P.budgets program.old) o left (Opening (P.program program.old).database (map (λ s. s.now) files.now)) halt (O.held out.old) (O.held out.new)) }
     ensures none_waits { OnOk result ((P.program program.new).later ≡ []) }
     ensures budgets { P.budgets program.new ≡ P.budgets program.old }
+    ensures kept { P.kept program.new }
     ensures cause { (failed taken : ℕ) → CountedBy (counted (F.faults shelf.old) (F.refused shelf.old) failed taken (O.faults out.old))
         (counted (F.faults shelf.new) (F.refused shelf.new) failed taken (O.faults out.new)) result }
 {
@@ -59,6 +61,7 @@ pub fn write_transcript<'a, P: Interpreter, F: Shelf, I: Source, O: Sink>(
     input: &mut I,
     out: &mut O,
 ) -> Result<Lines, Halt<'a>>
+    requires kept { P.kept program.old }
     requires some { 0 < answers }
     requires new { P.program program.old ≡ record { database = initial; later = [] } }
     requires answers { (P.budgets program.old).answers ≡ answers }
