@@ -1,5 +1,5 @@
 -- The transcript of the input, as steps of a session.
-use Rattle.std.proofs.Common.{◌≡◌, ◌≤◌, ◌<◌, ◌+◌, ◌∙◌, ℕ, List, [], ◌∷◌, ◌++◌, length, take, drop, Bool, true, false, if◌then◌else◌, Option, Some, None, IfSome, inl, inr, refl, sym, ap, subst, append-nil, append_assoc, arith, length-append}
+use Rattle.std.proofs.Common.{◌≡◌, ◌≤◌, ◌<◌, ◌+◌, ◌∙◌, ℕ, suc, List, [], ◌∷◌, ◌++◌, length, take, drop, Bool, true, false, if◌then◌else◌, Option, Some, None, IfSome, inl, inr, refl, sym, ap, subst, append-nil, append_assoc, arith, length-append}
 use Rattle.std.proofs.lemmas.List.{take-append-drop}
 use Rattle.std.proofs.lemmas.Option.{none-some, same_Some}
 use Rattle.std.specs.Io.KnownBytes.{Consumes, IsAtEnd, Keeps}
@@ -27,7 +27,7 @@ use Rattle.cq_transcript.specs.Texts.{IsAt, StandsAt, IsPause}
 use Rattle.cq_transcript.specs.Pieces.{HasReadInput, with_bytes}
 use Rattle.cq_transcript.specs.Breaks.{Breaks, ReadsAll, ReadsTaken, PassesLimit}
 use Rattle.cq_transcript.proofs.Steps.{one_step, at_start, advanced_both, advanced_quietly, memory_here, broken_more}
-use Rattle.cq_transcript.proofs.Files.{broken_breaks}
+use Rattle.cq_transcript.proofs.Consulting.{broken_breaks}
 
 -- the transcript of the input was written up to the text's place
 pub record StandsIn (b : Budgets) (o : Outside) (from : Session) (marks : Marks) (q : Program) (text : Input) (held now : Option (List ℕ)) : Type 0 where
@@ -156,8 +156,10 @@ module _ (b : Budgets) (o : Outside) (from : Session) (m : Marks) (p : Program) 
 -- ---- the limit
 
 take_within : (xs ys : List ℕ) (room : ℕ) → take (length xs + room) (xs ++ ys) ≡ xs ++ take room ys
-take_within [] ys room = ap (λ n. take n ys) (omega arith)
-take_within (x ∷ xs) ys room = ap (λ n. take n (x ∷ (xs ++ ys))) (omega arith) ∙ ap (λ l. x ∷ l) (take_within xs ys room)
+take_within [] ys room = let e : length {A = ℕ} [] + room ≡ room = omega arith in ap (λ n. take n ys) e
+take_within (x ∷ xs) ys room =
+    let e : length (x ∷ xs) + room ≡ suc (length xs + room) = omega arith in
+    ap (λ n. take n (x ∷ (xs ++ ys))) e ∙ ap (λ l. x ∷ l) (take_within xs ys room)
 
 module _ (b : Budgets) (o : Outside) (from : Session) (m : Marks) (q : Program) (text new : Input) (held now : Option (List ℕ)) (stands : StandsIn b o from m q new held now) (piece : List ℕ) (room : ℕ)
     (has : new.bytes ≡ text.bytes ++ take room piece) (fill : length text.bytes + room ≡ SIZE_LIMIT) (large : room < length piece) where
