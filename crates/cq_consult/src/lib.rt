@@ -1,0 +1,8 @@
+//! What a clause of a text is for, and clauses of files that are added to the program of a machine without a query.
+#![tactic(auto)]
+
+mod adding;
+mod purposes;
+
+pub use adding::consult;
+pub use purposes::{Purpose, Source, purpose_of};
