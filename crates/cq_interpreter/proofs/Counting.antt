@@ -15,6 +15,9 @@ use Rattle.spec_search.specs.Steps as steps
 use Rattle.spec_search.specs.Steps.{Stepped, Ball, Children, Steps}
 use Rattle.spec_search.specs.Search.{Search, Look, Over, Settling, Moving, Collecting, Selecting, Answering, look_at, look_at_branch, look_at_items, gather, gathered_items}
 use Rattle.spec_search.specs.Turns as turn
+use Rattle.spec_stops.specs.Causes.{Budgets}
+use Rattle.spec_machine.specs.Coming.{Quietly, at_once, after, Told, Shows, Stops, Tells, shows, stops}
+use Rattle.spec_operators.specs.Operators.{Ops}
 use Rattle.spec_search.specs.Turns.{Turn, Event, place_of, older}
 use Rattle.cq_interpreter.specs.Counted.{CatchesCount, Counts, AllCount}
 use Rattle.cq_interpreter.proofs.Rows.{RepliesCount, landed_fresh, reply_counts, clauses_count}
@@ -171,3 +174,44 @@ module _ (n : ℕ) where
   turn_counts s t e (turn.throws l k j) h = tt
   turn_counts s t e (turn.answers {st} {bs} l) h = (looked s.branches (Answering st bs) h l).1
   turn_counts s t e (turn.ends l) h = h
+
+  -- ---- what is told
+
+  abbrev EventCounts : Event → Type 0
+  EventCounts (turn.Wrote text) = ⊤
+  EventCounts (turn.Answered st ops) = n ≤ st.fresh
+  EventCounts (turn.Threw ball) = ⊤
+  EventCounts turn.Ended = ⊤
+
+  event_counts : (s t : Search) (e : Event) → Turn s e t → AllCount n s.branches → EventCounts e
+  event_counts s t e (turn.keeps l k) h = tt
+  event_counts s t e (turn.prunes l k i) h = tt
+  event_counts s t e (turn.hands_on l k i j) h = tt
+  event_counts s t e (turn.escapes l k i j) h = tt
+  event_counts s t e (turn.moves l) h = tt
+  event_counts s t e (turn.collects l i) h = tt
+  event_counts s t e (turn.steps l k) h = tt
+  event_counts s t e (turn.catches l k j) h = tt
+  event_counts s t e (turn.throws l k j) h = tt
+  event_counts s t e (turn.answers {st} {bs} l) h = (looked s.branches (Answering st bs) h l).0
+  event_counts s t e (turn.ends l) h = tt
+
+  pub quietly_counts : {steps : ℕ} {s t : Search} → Quietly steps s t → AllCount n s.branches → AllCount n t.branches
+  quietly_counts at_once h = h
+  quietly_counts (after {s} {t} go first rest) h = quietly_counts rest (turn_counts s t (turn.Wrote []) first h)
+
+  pub told_counts : (b : Budgets) (s t : Search) (what : Told) → Tells b s what t → AllCount n s.branches → AllCount n t.branches
+  told_counts b s t what (shows {r} {e = e} q go last new) h = turn_counts r t e last (quietly_counts q h)
+  told_counts b s t what (stops q why) h = tt
+
+  abbrev ToldCounts : Told → Type 0
+  ToldCounts (Shows e) = EventCounts e
+  ToldCounts (Stops cause) = ⊤
+
+  answer_of : (b : Budgets) (s t : Search) (what : Told) → Tells b s what t → AllCount n s.branches → ToldCounts what
+  answer_of b s t what (shows {r} {e = e} q go last new) h = event_counts r t e last (quietly_counts q h)
+  answer_of b s t what (stops q why) h = tt
+
+  -- the state of an answer has the variables
+  pub answer_counts : (b : Budgets) (s t : Search) (st : State) (ops : Ops) → Tells b s (Shows (turn.Answered st ops)) t → AllCount n s.branches → n ≤ st.fresh
+  answer_counts b s t st ops tells h = answer_of b s t (Shows (turn.Answered st ops)) tells h

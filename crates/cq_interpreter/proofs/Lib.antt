@@ -2,3 +2,8 @@ pub mod Rows
 pub mod Counting
 pub mod Naming
 pub mod Keeping
+pub mod Wholes
+pub mod Events
+pub mod Taking
+pub mod Worlds
+pub mod Idles

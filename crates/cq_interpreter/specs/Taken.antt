@@ -4,7 +4,7 @@ use Rattle.spec_syntax.specs.TextTokens.{VariableName, Variables}
 use Rattle.spec_syntax.specs.Trees.{Tree}
 use Rattle.spec_search.specs.Changes.{consult_error, consulted}
 use Rattle.spec_search.specs.Search.{Search}
-use Rattle.spec_transcript.specs.Purposes.{Source, Purpose, Fact, Initialization, Directive, Query, purpose, once, ball_line}
+use Rattle.spec_transcript.specs.Purposes.{Purpose, Fact, Initialization, Directive, Query, once, ball_line}
 use Rattle.spec_transcript.specs.Session.{refusal_ball}
 use Rattle.cq_transcript.specs.Sentences.{Program, Begins, Asks}
 use Rattle.cq_transcript.specs.declared.interpreter.Sentence.{Sentence}
@@ -22,9 +22,13 @@ IsAdded p q t sentence.Waits = ⊥
 IsAdded p q t sentence.Directive = ⊥
 IsAdded p q t sentence.Query = ⊥
 
+-- a goal with these variables is kept behind the others
+abbrev pub IsKeptFor : Program → Program → Tree → Variables → Type 0
+IsKeptFor p q g vs = q ≡ record p { later = p.later ++ record { goal = g; variables = vs } ∷ [] }
+
 -- a clause with these variables was added or refused, kept for later, or begun, as it is meant
 abbrev pub IsTaken : (Search → Type 0) → List VariableName → Program → Program → Variables → Purpose → Sentence → Type 0
 IsTaken Stands names p q vs (Fact t) s = IsAdded p q t s
-IsTaken Stands names p q vs (Initialization g) s = (s ≡ sentence.Waits) × (q ≡ record p { later = p.later ++ record { goal = g; variables = vs } ∷ [] })
+IsTaken Stands names p q vs (Initialization g) s = (s ≡ sentence.Waits) × IsKeptFor p q g vs
 IsTaken Stands names p q vs (Directive g) s = (s ≡ sentence.Directive) × Begins Stands p.database (once g) vs × (q ≡ p)
 IsTaken Stands names p q vs (Query g) s = (s ≡ sentence.Query) × Asks Stands p.database g vs names × (q ≡ p)

@@ -5,6 +5,7 @@ use Rattle.spec_lists.specs.Texts.{Text}
 use Rattle.spec_operators.specs.Operators.{Ops}
 use Rattle.spec_terms.specs.Term.{named}
 use Rattle.spec_syntax.specs.TextTokens.{VariableName}
+use Rattle.spec_syntax.specs.Trees.{Tree}
 use Rattle.spec_branch.specs.Branch.{State}
 use Rattle.spec_search.specs.Search.{Search}
 use Rattle.spec_stops.specs.Causes.{Budgets}
@@ -12,22 +13,38 @@ use Rattle.spec_transcript.specs.Session.{Asked}
 use Rattle.cq_atoms.specs.Texts.{text_of}
 use Rattle.cq_stored.specs.StoredValue.{HaveNamesBelow}
 use Rattle.cq_term.specs.Meaning.{HeapTerm}
+use Rattle.cq_term.specs.Trees.{tree}
 use Rattle.cq_world.specs.Rest.{IsReadyAs}
-use Rattle.cq_machine.specs.Machines.{IsName, database_of, now}
+use Rattle.cq_machine.specs.Machines.{IsName, database_of, now, terms}
 use Rattle.cq_engine.specs.Seeking.{IsKept}
 use Rattle.cq_events.specs.Events.{IsRunning, Stands}
+use Rattle.cq_events.specs.declared.engine.Engine.{Engine}
 use Rattle.cq_transcript.specs.Sentences.{Program, budgets_within}
 use Rattle.cq_interpreter.specs.Counted.{AllCount}
 use Rattle.cq_interpreter.specs.Numbered.{AreNumbered}
 use Rattle.cq_interpreter.specs.declared.toplevel.Waiting.{Waiting}
 use Rattle.cq_interpreter.specs.declared.toplevel.Toplevel.{Toplevel}
 
--- the names of its engine, and the images of its variables
+-- ---- its engine
+
+-- the images of an engine's variables, and the tree of one of its terms
+abbrev pub images_of : Engine → List HeapTerm
+images_of e = e.machine.world.first.heap.now.images
+
+abbrev pub read_in : Engine → ℕ → Tree
+read_in e id = tree e.machine.atoms (terms e.machine) id
+
+-- the texts of names, the images of variables and the trees of terms
 abbrev pub texts : Toplevel → List Text
 texts t = t.engine.machine.atoms
 
 abbrev pub images : Toplevel → List HeapTerm
-images t = t.engine.machine.world.first.heap.now.images
+images t = images_of t.engine
+
+abbrev pub term_in : Toplevel → ℕ → Tree
+term_in t id = read_in t.engine id
+
+-- ---- what it is for
 
 -- a goal that waits, as the text had it
 abbrev pub asked : List Text → Waiting → Asked
