@@ -3,10 +3,9 @@ use Rattle.std.proofs.Common.{◌≡◌, ℕ, List, [], ◌∷◌, Option, None,
 use Rattle.spec_syntax.specs.Trees.{Tree}
 use Rattle.spec_branch.specs.Branch.{State, Item}
 use Rattle.spec_catches.specs.Catches.{ArePlain, HasNoCatch}
-use Rattle.spec_catches.proofs.Turns.{turn_plain, selected_plain}
+use Rattle.spec_catches.proofs.Turns.{turn_plain}
 use Rattle.spec_search.specs.Search.{Search}
-use Rattle.spec_search.specs.Turns as turn
-use Rattle.spec_search.specs.Turns.{Wrote, place_of, after_step}
+use Rattle.spec_search.specs.Turns.{Wrote}
 use Rattle.spec_stops.specs.Causes.{Budgets}
 use Rattle.spec_machine.specs.declared.cell.Cell.{Cell}
 use Rattle.spec_machine.specs.declared.cell.Cell.TheVariants.{Goal, Call, CutTo, CutFail, CatchEnd, Collect}

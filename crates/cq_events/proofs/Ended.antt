@@ -1,8 +1,7 @@
 -- What an engine tells, and for which searches it stands then.
-use Rattle.std.proofs.Common.{◌≡◌, ◌≢◌, ℕ, suc, ◌<◌, ◌≤◌, List, [], Option, None, Some, refl, sym, ap, ◌∙◌, subst, arith}
+use Rattle.std.proofs.Common.{◌≡◌, ℕ, suc, ◌<◌, [], Option, None, Some, refl, sym, ap, ◌∙◌, subst, arith}
 use Rattle.spec_lists.specs.Texts.{Text}
-use Rattle.spec_syntax.specs.Trees.{Tree}
-use Rattle.spec_branch.specs.Branch.{read, plain_copy}
+use Rattle.spec_branch.specs.Branch.{read}
 use Rattle.spec_search.specs.Search.{Search}
 use Rattle.spec_search.specs.Turns as turn
 use Rattle.spec_search.specs.Turns.{Wrote, Threw, place_of, after_step, after_ball, with_branches}
@@ -22,7 +21,7 @@ use Rattle.cq_execute.specs.Executions.{Continues}
 use Rattle.cq_events.specs.declared.engine.Engine.{Engine}
 use Rattle.cq_events.specs.declared.event.Event.{Event}
 use Rattle.cq_events.specs.declared.event.Event.TheVariants.{Answer, Output, Fail, Ball, Stop}
-use Rattle.cq_events.specs.Events.{Stands, Arrives, IsRunning, HasBudgets, TellsNext, StopsNext, Gives, GivesNext, GoesOn}
+use Rattle.cq_events.specs.Events.{Stands, Arrives, IsRunning, TellsNext, StopsNext, Gives}
 use Rattle.cq_events.specs.Turning.{SelectsNext, IsAt, HasEnded, IsTold, Turned}
 use Rattle.cq_events.proofs.Catches.{quietly_plain}
 use Rattle.cq_events.proofs.Steps.{comes_then, comes_quietly, tells_text}
@@ -87,14 +86,14 @@ module _ (first mid new : Engine) (rest : ℕ) (current : Option ℕ) (text : Te
   )
   advanced (Some (Output written)) t = (
     λ budgets h s j.
-      let x = f s j in
-      let less : first.selected < budgets.steps = subst (λ (n : ℕ). first.selected < n) (sym h.steps) few in
-      record {
-        next = after_step s x.1.made x.0.behind;
-        tells = subst (λ (u : Text). Tells budgets s (Shows (Wrote u)) (after_step s x.1.made x.0.behind)) (sym t.0)
-            (tells_text first.machine first.selected rest s x.0 mid.machine current text x.1 budgets less t.1);
-        comes = at_mid budgets.steps (after_step s x.1.made x.0.behind) (comes_then first.machine first.selected rest s x.0 mid.machine current text x.1 budgets.steps);
-      },
+        let x = f s j in
+        let less : first.selected < budgets.steps = subst (λ (n : ℕ). first.selected < n) (sym h.steps) few in
+        record {
+          next = after_step s x.1.made x.0.behind;
+          tells = subst (λ (u : Text). Tells budgets s (Shows (Wrote u)) (after_step s x.1.made x.0.behind)) (sym t.0)
+              (tells_text first.machine first.selected rest s x.0 mid.machine current text x.1 budgets less t.1);
+          comes = at_mid budgets.steps (after_step s x.1.made x.0.behind) (comes_then first.machine first.selected rest s x.0 mid.machine current text x.1 budgets.steps);
+        },
     let more = i.selected in omega (arith, more, same),
   )
   advanced (Some Answer) t = absurd t

@@ -1,11 +1,9 @@
 -- A query begins on an engine without one.
-use Rattle.std.proofs.Common.{◌≡◌, ℕ, ◌<◌, ◌≤◌, List, [], ◌∷◌, ◌++◌, length, map, Bool, true, false, Some, refl, sym, ap, ◌∙◌, subst, arith}
+use Rattle.std.proofs.Common.{◌≡◌, ℕ, ◌<◌, List, [], ◌∷◌, ◌++◌, length, map, Bool, true, false, Some, refl, sym, ap, ◌∙◌, subst, arith}
 use Rattle.std.specs.Prelude.{reverse}
 use Rattle.spec_lists.specs.Texts.{Text}
 use Rattle.spec_terms.proofs.Substitution.{apply-identity}
-use Rattle.spec_syntax.specs.Trees.{Tree}
 use Rattle.spec_built.specs.Kinds.{is_callable}
-use Rattle.spec_branch.specs.Branch.{State, Item}
 use Rattle.spec_search.specs.Control.{put}
 use Rattle.spec_search.specs.Database.{Database}
 use Rattle.spec_search.specs.Search.{settled, empty_state, start}

@@ -1,17 +1,17 @@
 -- A heap that a clause was read on knows nothing of its variables.
-use Rattle.std.proofs.Common.{◌≡◌, ◌⊎◌, inl, inr, ℕ, ◌<◌, ◌≤◌, List, length, refl, sym, ap, ◌∙◌, subst, arith}
+use Rattle.std.proofs.Common.{◌≡◌, ◌⊎◌, inl, inr, ℕ, ◌<◌, ◌≤◌, List, length, sym, ap, ◌∙◌, subst, arith}
 use Rattle.std.specs.Prelude.{Ok, Err, Result}
 use Rattle.std.specs.declared.alloc.AllocError.{AllocError}
 use Rattle.std.proofs.lemmas.Bool.{cases_lt}
 use Rattle.spec_lists.specs.Texts.{Text}
 use Rattle.spec_lists.proofs.Prefixes.{prefix_get_or, prefix_same}
 use Rattle.spec_terms.specs.Term.{Var}
-use Rattle.cq_atoms.specs.Texts.{AreDifferent, KeepsTexts}
+use Rattle.cq_atoms.specs.Texts.{AreDifferent}
 use Rattle.cq_control.specs.Open.{AreMarked}
 use Rattle.cq_ops.specs.Tables.{AreNamed}
-use Rattle.cq_program.specs.Database.{IsProgram}
+use Rattle.cq_program.specs.Database.{Program, IsProgram}
 use Rattle.cq_term.specs.HeapValue.{HeapValue, Terms}
-use Rattle.cq_term.specs.Meaning.{HeapTerm, at, blank}
+use Rattle.cq_term.specs.Meaning.{at, blank}
 use Rattle.cq_term.specs.Trees.{KnowsTerms}
 use Rattle.cq_read.specs.declared.feed.Fed.{Fed}
 use Rattle.cq_read.specs.declared.feed.Fed.TheVariants as fed
@@ -24,11 +24,10 @@ use Rattle.cq_world.specs.Contents.{Contents}
 use Rattle.spec_machine.specs.Cells.{Value}
 use Rattle.cq_steps.specs.Choices.{AreOpen}
 use Rattle.cq_steps.specs.Worlds.{KnowsNothing, with_heap}
-use Rattle.cq_machine.specs.Machines.{now}
-use Rattle.cq_machine.proofs.Interned.{names_kept}
+use Rattle.cq_steps.specs.declared.alternatives.Alternatives.{Alternatives}
+use Rattle.cq_machine.specs.Machines.{AreNames, now, saved}
 use Rattle.cq_events.specs.declared.engine.Engine.{Engine}
 use Rattle.cq_events.specs.Events.{IsIdle}
-use Rattle.cq_events.proofs.Marks.{marks}
 
 as_before : (old new : HeapValue) → IsAsBefore old new → Grows old new
 as_before old new b = record {
@@ -60,28 +59,27 @@ module _ (texts more : List Text) (c : Contents) (old new : HeapValue) (same : c
   pub nothing_read : KnowsTerms more new.now.terms → KnowsNothing more (with_heap new.now c)
   nothing_read names = record { names = names; images = λ v l. image_by v l (cases_lt v (length c.heap.images)); attrs = k.attrs; told = k.told }
 
--- an engine without a query has none on another heap, and with more names
-module _ (e : Engine) (heap : HeapValue) (atoms : List Text) where
-  abbrev pub read_on : Engine
-  read_on = record e { machine = record e.machine { world = record e.machine.world { first = record e.machine.world.first { heap = heap } }; atoms = atoms } }
-
-  pub idle_on : IsIdle e → Grows e.machine.world.first.heap heap → KeepsTexts e.machine.atoms atoms → AreDifferent atoms → KnowsTerms atoms heap.now.terms
-      → IsProgram atoms e.machine.clauses → AreNamed atoms e.machine.ops → IsIdle read_on
-  idle_on idle grown keeps different names program named =
-      let m = e.machine in
-      let s = idle.sound in
-      let same = marks m.world.first heap m.world.second.saved grown.saved in
-      record {
-        sound = record {
-          known = names_kept m.atoms atoms keeps m.names s.known;
-          different = different;
-          names = names;
-          program = program;
-          operators_named = named;
-          marked = subst (λ (l : List (Value Contents)). AreMarked l m.choices) (sym same) s.marked;
-          untried = subst (λ (l : List (Value Contents)). AreOpen m.clauses l m.choices) (sym same) s.untried;
-        };
-        nothing = nothing_read m.atoms atoms (now m).0 m.world.first.heap heap refl grown idle.nothing names;
-        lists = idle.lists;
-        choices = idle.choices;
-      }
+-- an engine without a query still has none where it has as many marks and the same choices, and nothing is known of its terms
+pub idle_on : (old new : Engine) → IsIdle old → AreNames new.machine.atoms new.machine.names → AreDifferent new.machine.atoms
+    → IsProgram new.machine.atoms new.machine.clauses → AreNamed new.machine.atoms new.machine.ops → KnowsNothing new.machine.atoms (now new.machine).0
+    → saved new.machine ≡ saved old.machine → new.machine.choices ≡ old.machine.choices → new.machine.clauses ≡ old.machine.clauses
+    → new.machine.world.second.now ≡ old.machine.world.second.now → IsIdle new
+idle_on old new idle known different program named nothing marks_same choices_same clauses_same lists_same =
+    let s = idle.sound in
+    record {
+      sound = record {
+        known = known;
+        different = different;
+        names = nothing.names;
+        program = program;
+        operators_named = named;
+        marked = subst (λ (l : List (Value Contents)). AreMarked l new.machine.choices) (sym marks_same)
+            (subst (λ (cs : List Alternatives). AreMarked (saved old.machine) cs) (sym choices_same) s.marked);
+        untried = subst (λ (v : Program). AreOpen v (saved new.machine) new.machine.choices) (sym clauses_same)
+            (subst (λ (l : List (Value Contents)). AreOpen old.machine.clauses l new.machine.choices) (sym marks_same)
+            (subst (λ (cs : List Alternatives). AreOpen old.machine.clauses (saved old.machine) cs) (sym choices_same) s.untried));
+      };
+      nothing = nothing;
+      lists = lists_same ∙ idle.lists;
+      choices = choices_same ∙ idle.choices;
+    }

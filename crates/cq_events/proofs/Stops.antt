@@ -1,5 +1,5 @@
 -- Why a query stops where its selected goal's one child is settled.
-use Rattle.std.proofs.Common.{◌≡◌, ℕ, ◌<◌, [], ◌∷◌, true, refl, sym, ◌∙◌, subst}
+use Rattle.std.proofs.Common.{◌≡◌, ℕ, ◌<◌, [], ◌∷◌, refl, sym, ◌∙◌, subst}
 use Rattle.spec_search.specs.Replies.{child, made}
 use Rattle.spec_search.specs.Search.{Search}
 use Rattle.spec_search.specs.Turns.{place_of, after_step, with_branches}

@@ -23,7 +23,7 @@ use Rattle.cq_events.specs.declared.engine.Engine.{Engine}
 use Rattle.cq_events.specs.declared.event.Event.{Event}
 use Rattle.cq_events.specs.declared.event.Event.TheVariants.{Answer, Output, Fail, Ball, Stop}
 use Rattle.cq_events.specs.declared.raiser.Raiser.{Raiser}
-use Rattle.cq_events.specs.Raised.{ball_by, is_raised_by, raised_by}
+use Rattle.cq_events.specs.Raised.{ball_by, is_raised_by}
 use Rattle.cq_events.specs.Events.{Stands, GivesNext, HasCounted, IsRunning}
 use Rattle.cq_events.specs.Turning.{SelectsNext, HasEnded, IsBall}
 use Rattle.cq_events.proofs.Catches.{none_catches}
@@ -59,27 +59,27 @@ module _ (first mid new : Engine) (rest : ℕ) (e : BuiltinError) (r : Raiser) (
       → IsBall (ball_by mid.machine.atoms (terms mid.machine) e r) new.machine event → GivesNext first new event × HasCounted first new event
   thrown (Ball id) still run sound b = (
     λ budgets h s j.
-      let x = f s j in
-      let y = x.next in
-      let goal = read y.state y.goal in
-      let m = mid.machine in
-      let error = error_tree m.atoms (terms m) e in
-      let less : first.selected < budgets.steps = subst (λ (n : ℕ). first.selected < n) (sym h.steps) few in
-      let cells = items_still first.machine m first.selected rest s y still in
-      let free = uncaught (IsBranch m.atoms) (term_in m.atoms) (holds m) (now m).0 y.state (items_at m.world.second.now rest) y.items
-      (plain_copy (error_ball error (indicator_of goal))) y.behind cells.1 (free_of_catches run still) in
-      let ball : error_ball error (indicator_of goal) ≡ tree new.machine.atoms (terms new.machine) id =
-      sym (b.1 ∙ ap (λ (i : Indicator). error_ball error i) x.raiser) in
-      record {
-        sound = sound;
-        live = b.0;
-        tells = record {
-          next = after_ball s [];
-          tells = subst (λ (t : Tree). Tells budgets s (Shows (Threw (plain_copy t))) (after_ball s [])) ball
-              (tells_ball first.machine first.selected rest s y budgets less error x.reply.is free);
-          stands = stands_then s j;
-        };
-      },
+        let x = f s j in
+        let y = x.next in
+        let goal = read y.state y.goal in
+        let m = mid.machine in
+        let error = error_tree m.atoms (terms m) e in
+        let less : first.selected < budgets.steps = subst (λ (n : ℕ). first.selected < n) (sym h.steps) few in
+        let cells = items_still first.machine m first.selected rest s y still in
+        let free = uncaught (IsBranch m.atoms) (term_in m.atoms) (holds m) (now m).0 y.state (items_at m.world.second.now rest) y.items
+        (plain_copy (error_ball error (indicator_of goal))) y.behind cells.1 (free_of_catches run still) in
+        let ball : error_ball error (indicator_of goal) ≡ tree new.machine.atoms (terms new.machine) id =
+        sym (b.1 ∙ ap (λ (i : Indicator). error_ball error i) x.raiser) in
+        record {
+          sound = sound;
+          live = b.0;
+          tells = record {
+            next = after_ball s [];
+            tells = subst (λ (t : Tree). Tells budgets s (Shows (Threw (plain_copy t))) (after_ball s [])) ball
+                (tells_ball first.machine first.selected rest s y budgets less error x.reply.is free);
+            stands = stands_then s j;
+          };
+        },
     let one = ended.selected in omega (arith, one, same),
   )
   thrown Answer still run sound b = absurd b

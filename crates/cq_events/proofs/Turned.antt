@@ -1,13 +1,13 @@
 -- What an engine gives behind quiet turns, and what it keeps.
-use Rattle.std.proofs.Common.{◌≡◌, ℕ, suc, ◌<◌, ◌≤◌, [], Option, None, Some, refl, sym, ap, ◌∙◌, subst, arith}
+use Rattle.std.proofs.Common.{◌≡◌, ℕ, ◌≤◌, Option, None, Some, refl, sym, ap, ◌∙◌, subst, arith}
 use Rattle.spec_lists.specs.Prefixes.{IsPrefix}
 use Rattle.spec_lists.proofs.Prefixes.{prefix_both, prefix_same}
 use Rattle.spec_search.specs.Search.{Search}
 use Rattle.spec_stops.specs.Causes.{Budgets}
 use Rattle.spec_machine.specs.Coming.{Quietly, at_once}
 use Rattle.cq_machine.specs.declared.machine.Machine.{Machine}
-use Rattle.cq_machine.specs.Machines.{IsSound, database_of, StillStands}
-use Rattle.cq_engine.specs.Seeking.{StandsFor, GainsNames}
+use Rattle.cq_machine.specs.Machines.{IsSound}
+use Rattle.cq_engine.specs.Seeking.{GainsNames}
 use Rattle.cq_engine.proofs.Told.{quietly_then}
 use Rattle.cq_engine.proofs.Engines.{kept_where}
 use Rattle.cq_execute.specs.Executions.{KeepsClauses}

@@ -1,5 +1,5 @@
 -- What an engine's query tells, and for which search the engine stands then.
-use Rattle.std.specs.Prelude.{◌≡◌, ◌<◌, ◌≤◌, ◌∷◌, [], ℕ, List, None, length}
+use Rattle.std.specs.Prelude.{◌≡◌, ◌<◌, ◌≤◌, ◌∷◌, [], ℕ, length}
 use Rattle.spec_lists.specs.Prefixes.{IsPrefix}
 use Rattle.spec_lists.specs.Texts.{Text}
 use Rattle.spec_branch.specs.Branch.{State, plain_copy}
@@ -10,7 +10,7 @@ use Rattle.spec_catches.specs.Catches.{HasNoCatch}
 use Rattle.spec_machine.specs.Coming.{Quietly, Told, Tells, Shows, Stops}
 use Rattle.cq_term.specs.Trees.{tree}
 use Rattle.cq_steps.specs.Worlds.{IsBranch, KnowsNothing}
-use Rattle.cq_machine.specs.Machines.{IsSound, terms, now, saved, database_of}
+use Rattle.cq_machine.specs.Machines.{IsSound, terms, now, database_of}
 use Rattle.cq_engine.specs.Fronts.{as_cause}
 use Rattle.cq_engine.specs.Seeking.{IsKept, StandsFor, ComesTo}
 use Rattle.cq_events.specs.declared.engine.Engine.{Engine}

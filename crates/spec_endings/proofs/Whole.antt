@@ -10,7 +10,7 @@ use Rattle.spec_lists.specs.Texts.{Text}
 use Rattle.spec_stops.specs.Causes.{Budgets}
 use Rattle.spec_search.specs.Database.{initial}
 use Rattle.spec_transcript.specs.Session as session
-use Rattle.spec_transcript.specs.Session.{Session, Opening, Reading, Searching, Over, Mark, plain_line, error_line, stop_line, Marks, Step, Runs, none, then}
+use Rattle.spec_transcript.specs.Session.{Session, Opening, Reading, Searching, Over, Mark, plain_line, error_line, stop_line, Marks, Step, Runs, none}
 use Rattle.spec_endings.specs.declared.status.Status.{Status}
 use Rattle.spec_endings.specs.declared.status.Status.TheVariants.{Done, Faulty, BadWords, NoFile, ReadFault, WriteFault, Stopped, NoMemory}
 use Rattle.spec_endings.specs.Outside.{Outside, budgets_of, given, within_size, Reaches, ComesToFile}
@@ -24,9 +24,9 @@ module _ (budgets : Budgets) (shelf : Text → Option (List ℕ)) (input : List 
       → (before : Text) × (out : Text) × (m : Marks) × (here : Session) × (next : Session) × Runs budgets shelf input a before m here
       × Step budgets shelf input here out stop_line next
   stop_step a b text marks none e = cc
-  stop_step a b text marks (then {text = before} {marks = m} {mark = plain_line} runs step) e = stop_step a _ before m runs e
-  stop_step a b text marks (then {text = before} {marks = m} {mark = error_line} runs step) e = stop_step a _ before m runs e
-  stop_step a b text marks (then {b = here} {c = next} {text = before} {out = out} {marks = m} {mark = stop_line} runs step) e =
+  stop_step a b text marks (session.then {text = before} {marks = m} {mark = plain_line} runs step) e = stop_step a _ before m runs e
+  stop_step a b text marks (session.then {text = before} {marks = m} {mark = error_line} runs step) e = stop_step a _ before m runs e
+  stop_step a b text marks (session.then {b = here} {c = next} {text = before} {out = out} {marks = m} {mark = stop_line} runs step) e =
       (before, out, m, here, next, runs, step)
 
   -- ---- the files that are still to come
@@ -63,7 +63,7 @@ module _ (budgets : Budgets) (shelf : Text → Option (List ℕ)) (input : List 
     all_kept : (a b : Session) (text : Text) (marks : Marks) → Runs budgets shelf input a text marks b → AllByRecursion P (files_of a)
         → AllByRecursion P (files_of b)
     all_kept a b text marks none all = all
-    all_kept a b text marks (then {b = c} {text = t} {out = out} {marks = m} {mark = w} runs step) all = kept c b out w step (all_kept a c t m runs all)
+    all_kept a b text marks (session.then {b = c} {text = t} {out = out} {marks = m} {mark = w} runs step) all = kept c b out w step (all_kept a c t m runs all)
 
 not_given : (found : Option (List ℕ)) → IsTooLarge found → is_some (within_size found) ≡ true → ⊥
 not_given None large e = large
@@ -73,37 +73,37 @@ not_given (Some bytes) large e = go (nat_le (length bytes) SIZE_LIMIT) refl e
     go true k e = omega (arith, leb-true _ _ k)
     go false k e = cc
 
-module _ (o : Outside) (left : List ℕ) (a : Asked) (text line : Text) (old new : Counts) (clear : IsClear o a old new) where
+module _ (o : Outside) (left : List ℕ) (old new : Counts) where
   -- a file that is come to is there
-  is_given : (name : Text) → ComesToFile o a name text → IsGiven o name
-  is_given name f = (all_kept (budgets_of a) (given o.files) o.input (IsGiven o) _ _ text f.marks f.runs clear.files).0
+  is_given : (a : Asked) (name text : Text) → IsClear o a old new → ComesToFile o a name text → IsGiven o name
+  is_given a name text clear f = (all_kept (budgets_of a) (given o.files) o.input (IsGiven o) _ _ text f.marks f.runs clear.files).0
 
-  no_stopped : Ends o left (Some a) Stopped text line → ⊥
-  no_stopped (ending.stopped errors small whole runs) =
+  no_stopped : (a : Asked) (text line : Text) → IsClear o a old new → Ends o left (Some a) Stopped text line → ⊥
+  no_stopped a text line clear (ending.stopped errors small whole runs) =
       let (before, out, m, here, next, reached, step) = stop_step (budgets_of a) (given o.files) o.input _ _ text _ runs.runs refl in
       clear.no_stop before out m here next reached step
 
-  no_file : Ends o left (Some a) NoFile text line → ⊥
-  no_file (ending.absent_file {name = name} absent f) =
-      let e : is_some (within_size None) ≡ true = subst (λ x. is_some (within_size x) ≡ true) absent (is_given name f) in cc
-  no_file (ending.large_file {name = name} large f) = not_given (o.files name) large (is_given name f)
-  no_file (ending.large_input {taken = taken} split large read) =
+  no_file : (a : Asked) (text line : Text) → IsClear o a old new → Ends o left (Some a) NoFile text line → ⊥
+  no_file a text line clear (ending.absent_file {name = name} absent f) =
+      let e : is_some (within_size None) ≡ true = subst (λ x. is_some (within_size x) ≡ true) absent (is_given a name text clear f) in cc
+  no_file a text line clear (ending.large_file {name = name} large f) = not_given (o.files name) large (is_given a name text clear f)
+  no_file a text line clear (ending.large_input taken split large read) =
       let size : length (taken ++ left) ≤ SIZE_LIMIT = subst (λ x. length x ≤ SIZE_LIMIT) split clear.size in
-      omega (arith, length-append taken left)
+      omega (arith, length-append taken left, size, large)
 
-  whole : (status : Status) → Ends o left (Some a) status text line → Caused status (Some a) old new → IsWhole status
-  whole Done ends caused = tt
-  whole Faulty ends caused = tt
-  whole BadWords ends caused = cc
-  whole NoFile ends caused = no_file ends
-  whole ReadFault ends (takes, inl rose) = clear.source rose
-  whole ReadFault ends (takes, inr rose) = clear.shelf rose
-  whole WriteFault ends (takes, rose) = clear.out rose
-  whole Stopped ends caused = no_stopped ends
-  whole NoMemory ends caused = tt
+  whole : (a : Asked) (text line : Text) → IsClear o a old new → (status : Status) → Ends o left (Some a) status text line → Caused status (Some a) old new → IsWhole status
+  whole a text line clear Done ends caused = tt
+  whole a text line clear Faulty ends caused = tt
+  whole a text line clear BadWords ends caused = cc
+  whole a text line clear NoFile ends caused = no_file a text line clear ends
+  whole a text line clear ReadFault ends (takes, inl rose) = clear.source rose
+  whole a text line clear ReadFault ends (takes, inr rose) = clear.shelf rose
+  whole a text line clear WriteFault ends (takes, rose) = clear.out rose
+  whole a text line clear Stopped ends caused = no_stopped a text line clear ends
+  whole a text line clear NoMemory ends caused = tt
 
 pub completeness : Completeness
-completeness o left a status text line old new ends caused clear = whole o left a text line old new clear status ends caused
+completeness o left a status text line old new ends caused clear = whole o left old new a text line clear status ends caused
 
 -- ---- lines
 
@@ -114,9 +114,9 @@ lines o left asked status text line (ending.stopped errors small whole runs) = r
 lines o left asked status text line ending.bad_words = refl
 lines o left asked status text line (ending.absent_file {name = name} absent f) = inl (name, refl)
 lines o left asked status text line (ending.large_file {name = name} large f) = inr (inl (name, refl))
-lines o left asked status text line (ending.large_input split large read) = inr (inr refl)
+lines o left asked status text line (ending.large_input taken split large read) = inr (inr refl)
 lines o left asked status text line (ending.file_fault f) = refl
-lines o left asked status text line (ending.input_fault split read) = refl
+lines o left asked status text line (ending.input_fault taken split read) = refl
 lines o left asked status text line (ending.write_fault w) = refl
 lines o left asked status text line (ending.no_memory w) = refl
 lines o left asked status text line ending.no_memory_for_words = refl

@@ -1,5 +1,5 @@
 -- How a run ends: its status, the text on `out` and the line on `err`.
-use Rattle.std.specs.Prelude.{◌≡◌, ◌⊎◌, ◌<◌, ◌≤◌, ℕ, List, [], ◌++◌, length, take, Bool, Option, Some, None, IfSome, codes, ⊤}
+use Rattle.std.specs.Prelude.{◌≡◌, ◌⊎◌, ◌<◌, ◌≤◌, ℕ, List, [], ◌++◌, length, take, Bool, true, false, Option, Some, None, IfSome, codes, ⊤}
 use Rattle.cq_outside.specs.Counts.{Rose}
 use Rattle.cq_outside.specs.Bytes.{Adds, Appends, Begins}
 use Rattle.cq_outside.specs.Files.{IsTooLarge}
@@ -71,11 +71,11 @@ pub data Ends (o : Outside) (left : List ℕ) : Option Asked → Status → Text
   large_file : {a : Asked} {name text : Text} → IsTooLarge (o.files name) → ComesToFile o a name text
       → Ends o left (Some a) NoFile text (large_line name)
   -- of all that the bytes within the limit decide the transcript is written
-  large_input : {a : Asked} {text taken : List ℕ} → o.input ≡ taken ++ left → SIZE_LIMIT < length taken
+  large_input : {a : Asked} {text : Text} (taken : List ℕ) → o.input ≡ taken ++ left → SIZE_LIMIT < length taken
       → HasReadAll o a (take SIZE_LIMIT taken) text → Ends o left (Some a) NoFile text input_line
   file_fault : {a : Asked} {name text : Text} → ComesToFile o a name text → Ends o left (Some a) ReadFault text read_line
   -- of all that the bytes decide that were taken the transcript is written
-  input_fault : {a : Asked} {text taken : List ℕ} → o.input ≡ taken ++ left → HasReadAll o a taken text
+  input_fault : {a : Asked} {text : Text} (taken : List ℕ) → o.input ≡ taken ++ left → HasReadAll o a taken text
       → Ends o left (Some a) ReadFault text read_line
   write_fault : {a : Asked} {text : Text} → HasWritten o a text → Ends o left (Some a) WriteFault text write_line
   no_memory : {a : Asked} {text : Text} → HasWritten o a text → Ends o left (Some a) NoMemory text memory_line
@@ -92,7 +92,7 @@ Gains NoFile held now text = Appends held now text
 Gains ReadFault held now text = Appends held now text
 Gains Stopped held now text = Appends held now text
 
--- what an object tells before a run and after it, and its count of faults then
+-- what an object tells before a run and after it, and its count of faults
 pub record Sinks : Type 0 where
   pub held : Option (List ℕ)
   pub now : Option (List ℕ)
@@ -106,12 +106,19 @@ sinks held now faults now_faults = record { held = held; now = now; faults = fau
 abbrev pub IsTold : Sinks → Text → Type 0
 IsTold err line = Appends err.held err.now line ⊎ (Rose err.faults err.now_faults × Adds err.held err.now (λ part. Begins part line))
 
--- A run ended so, where the outside and what is left of the input are told; what it wrote is what `out` gained, and its line is on
--- `err`.
-pub record Ended (o : Option Outside) (left : Option (List ℕ)) (asked : Option Asked) (status : Status) (held now : Option (List ℕ)) (err : Sinks) : Type 0 where
+-- a line of the status was told
+pub record Tells (status : Status) (err : Sinks) : Type 0 where
+  pub line : Text
+  pub is_line : IsLine status line
+  pub told : IsTold err line
+
+-- A run ended so, with these bytes of the input left, where the source tells them. What it wrote is what `out` gained, and the line of
+-- its cause is told.
+pub record Ended (o : Outside) (left : Option (List ℕ)) (asked : Option Asked) (status : Status) (held now : Option (List ℕ)) (err : Sinks) : Type 0 where
   pub text : Text
   pub line : Text
-  pub ends : IfSome o (λ there. IfSome left (λ bytes. Ends there bytes asked status text line))
+  pub rest : List ℕ
+  pub is_left : IfSome left (λ bytes. rest ≡ bytes)
+  pub ends : Ends o rest asked status text line
   pub written : Gains status held now text
-  pub is_line : IsLine status line
   pub told : IsTold err line

@@ -4,7 +4,7 @@ ghost use Rattle.cq_events.specs.Events.{IsRunning};
 
 use cq_engine::Cause;
 use cq_events::{Engine, Event};
-use cq_read::Read;
+use cq_read::{Fed, Feed, Read};
 use std::alloc::{AllocError, Global};
 use std::test::Fail;
 
@@ -53,6 +53,37 @@ fn events(alloc: Global, query: &str, steps: u64) -> Result<String, AllocError> 
             add_events(&mut told, &mut e)?;
         }
         _ => told.push_str("syntax")?,
+    }
+    Ok(told)
+}
+
+/// The events of the queries of input that comes in two pieces.
+fn events_of_input(alloc: Global, first: &str, second: &str) -> Result<String, AllocError> {
+    let mut told = String::new(alloc);
+    let mut e = Engine::new(alloc, 1000)?;
+    let mut input = Feed::new(alloc);
+    input.push(first.as_bytes())?;
+    match e.read_fed(&mut input)? {
+        Fed::Needs => told.push_str("needs ")?,
+        Fed::Read(_) => told.push_str("reads ")?,
+    }
+    input.push(second.as_bytes())?;
+    input.finish();
+    for _clause in 0..4 {
+        match e.read_fed(&mut input)? {
+            Fed::Read(Read::Clause { term, .. }) => {
+                e.start(term, 100)?;
+                add_events(&mut told, &mut e)?;
+                told.push(' ')?;
+                e.end();
+            }
+            Fed::Read(Read::Syntax { .. }) => told.push_str("syntax ")?,
+            Fed::Read(Read::End) => {
+                told.push_str("end")?;
+                return Ok(told);
+            }
+            Fed::Needs => told.push_str("needs ")?,
+        }
     }
     Ok(told)
 }
@@ -123,5 +154,12 @@ fn a_query_selects_so_many_goals(rt: HostRuntime) -> Result<(), Fail> {
         ("true ; true.", 3, "yes yes no"),
     ];
     assert_eq!(rt; first_wrong(rt.alloc(), &rows)?, None);
+    Ok(())
+}
+
+#[test]
+fn queries_of_input_follow_one_another(rt: HostRuntime) -> Result<(), Fail> {
+    let told = events_of_input(rt.alloc(), "write(a", ") ; X = b.\n1 1.\nfail.\n")?;
+    assert_eq!(rt; told.as_str(), "needs ayes yes no syntax no end");
     Ok(())
 }

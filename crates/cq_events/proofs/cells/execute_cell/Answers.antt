@@ -1,4 +1,4 @@
-use Rattle.std.proofs.Common.{◌≡◌, ◌∷◌, List, refl, ap, sym, subst, ◌∙◌}
+use Rattle.std.proofs.Common.{◌∷◌, ap, subst, ◌∙◌}
 use Rattle.spec_syntax.specs.Trees.{Tree}
 use Rattle.spec_built.specs.Built as built
 use Rattle.spec_branch.specs.Branch.{read}
@@ -6,7 +6,7 @@ use Rattle.spec_search.specs.Turns.{place_of}
 use Rattle.cq_control.specs.Items.{items_at}
 use Rattle.spec_machine.specs.declared.cell.Cell.{Cell}
 use Rattle.cq_steps.proofs.Added.{reads_tree}
-use Rattle.cq_machine.specs.Machines.{terms, now}
+use Rattle.cq_machine.specs.Machines.{now}
 use Rattle.cq_execute.specs.Executions.{Reaches}
 use Rattle.cq_events.proofs.Raised.{raised_on, numbered_on}
 use Rattle.cq_events.proofs.Selections.{goal_next, call_next}
@@ -70,4 +70,3 @@ returns-in-Ok-execute_call-clause-row c = λ n s j.
       reaches = subst (λ (t : Tree). Reaches new d.step d.output.items place x.0.behind t) x.2 (c.in-Ok-execute_call.ensures.row place x.0.behind (read x.0.state x.1) x.3);
       raiser = ap built.indicator_of x.2;
     }
-

@@ -1,4 +1,4 @@
-use Rattle.std.proofs.Common.{refl, ap}
+use Rattle.std.proofs.Common.{ap}
 use Rattle.spec_lists.specs.Texts.{Text}
 use Rattle.spec_lists.proofs.Prefixes.{prefix_same}
 use Rattle.spec_built.specs.Built.{indicator}

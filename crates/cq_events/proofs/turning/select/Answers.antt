@@ -21,7 +21,6 @@ use Rattle.cq_machine.specs.Machines.{now, holds, database_of, StillStands}
 use Rattle.cq_machine.specs.Stepping.{CanGo, OnRaises}
 use Rattle.cq_engine.specs.Fronts.{HasWork, selects}
 use Rattle.cq_engine.specs.Seeking.{StandsFor}
-use Rattle.cq_engine.proofs.Engines.{kept_where}
 use Rattle.cq_execute.specs.Executions.{Reaches}
 use Rattle.cq_events.specs.declared.cells.Done.{Done}
 use Rattle.cq_events.specs.declared.engine.Engine.{Engine}
@@ -34,7 +33,7 @@ use Rattle.cq_events.proofs.Steps.{tells_refused}
 use Rattle.cq_events.proofs.Ended.{advanced, runs_on, stopped, runs_stopped, stands_same}
 use Rattle.cq_events.proofs.Stops.{stops_for_overflow, stops_for_pivots}
 use Rattle.cq_events.proofs.Thrown.{RaisedNext, thrown, runs_thrown}
-use Rattle.cq_events.proofs.Turned.{keeps_at, keeps_gained, goes_at_once, runs_still}
+use Rattle.cq_events.proofs.Turned.{keeps_at, keeps_gained, goes_at_once}
 use Rattle.cq_events.proofs.turning.select.Goals as goal
 
 -- ---- the goal in front
@@ -232,16 +231,16 @@ returns-in-Raises-clause-err c =
 pub returns-in-Ok-clause-turned : goal.returns-in-Ok-clause-turned
 returns-in-Ok-clause-turned c = (
   λ budgets h s j.
-    let e = c.args.e.now in
-    let m = c.execute_cell.new.m in
-    let k = c.args.k in
-    let rest = c.in-Some.rest in
-    let x = reached_by e.machine m e.selected rest c.in-Ok.done (step.Refuses c.in-Refuses.pair) s c.in-Refuses.is
-    (c.in-Ok.ensures.row e.selected s (at_k e k s c.requires.current j)) in
-    let less = subst (λ (n : ℕ). e.selected < n) (sym h.steps) (few e k rest c.in-Some.cell c.requires.running c.requires.current c.requires.work c.in-Some.ensures.some) in
-    let left = c.leave in
-    stopped budgets left.new.e e.selected (why.Overflow c.in-Refuses.pair) s (with_branches [] s) left.ensures.ended (x.1.database ∙ sym left.ensures.program.database) x.0.selected
-    (tells_refused e.machine e.selected rest s x.0 budgets less c.in-Refuses.pair x.1.is) refl,
+      let e = c.args.e.now in
+      let m = c.execute_cell.new.m in
+      let k = c.args.k in
+      let rest = c.in-Some.rest in
+      let x = reached_by e.machine m e.selected rest c.in-Ok.done (step.Refuses c.in-Refuses.pair) s c.in-Refuses.is
+      (c.in-Ok.ensures.row e.selected s (at_k e k s c.requires.current j)) in
+      let less = subst (λ (n : ℕ). e.selected < n) (sym h.steps) (few e k rest c.in-Some.cell c.requires.running c.requires.current c.requires.work c.in-Some.ensures.some) in
+      let left = c.leave in
+      stopped budgets left.new.e e.selected (why.Overflow c.in-Refuses.pair) s (with_branches [] s) left.ensures.ended (x.1.database ∙ sym left.ensures.program.database) x.0.selected
+      (tells_refused e.machine e.selected rest s x.0 budgets less c.in-Refuses.pair x.1.is) refl,
   let same = c.leave.ensures.ended.selected in omega (arith, same),
 )
 
@@ -261,17 +260,17 @@ stops_so e m k rest f g is at stop s j = subst (λ (x : StoreFault). MayStop e.m
 
 pub returns-in-Err-Overflow-clause-turned : goal.returns-in-Err-Overflow-clause-turned
 returns-in-Err-Overflow-clause-turned c = (
-  rw c.in-Err-Overflow.field-0-is (λ budgets h s j.
-    let e = c.args.e.now in
-    let m = c.execute_cell.new.m in
-    let k = c.args.k in
-    let rest = c.in-Some.rest in
-    let x = stops_so e m k rest _ (fault.Overflow c.in-Err-Overflow.pair) c.in-Err-Overflow.field-0-is c.requires.current c.in-Err-Overflow.ensures.stop s j in
-    let less = subst (λ (n : ℕ). e.selected < n) (sym h.steps) (few e k rest c.in-Some.cell c.requires.running c.requires.current c.requires.work c.in-Some.ensures.some) in
-    let left = c.leave-in-Err-Overflow in
-    let t = stops_for_overflow budgets e.machine e.selected rest c.in-Err-Overflow.pair s less x in
-    stopped budgets left.new.e e.selected (why.Overflow c.in-Err-Overflow.pair) s t.0 left.ensures.ended
-    (x.next.database ∙ sym c.in-Err-Overflow.ensures.err_database ∙ sym left.ensures.program.database) x.next.selected t.1 t.2),
+  λ budgets h s j.
+      let e = c.args.e.now in
+      let m = c.execute_cell.new.m in
+      let k = c.args.k in
+      let rest = c.in-Some.rest in
+      let x = stops_so e m k rest _ (fault.Overflow c.in-Err-Overflow.pair) c.in-Err-Overflow.field-0-is c.requires.current c.in-Err-Overflow.ensures.stop s j in
+      let less = subst (λ (n : ℕ). e.selected < n) (sym h.steps) (few e k rest c.in-Some.cell c.requires.running c.requires.current c.requires.work c.in-Some.ensures.some) in
+      let left = c.leave-in-Err-Overflow in
+      let t = stops_for_overflow budgets e.machine e.selected rest c.in-Err-Overflow.pair s less x in
+      stopped budgets left.new.e e.selected (why.Overflow c.in-Err-Overflow.pair) s t.0 left.ensures.ended
+      (x.next.database ∙ sym c.in-Err-Overflow.ensures.err_database ∙ sym left.ensures.program.database) x.next.selected t.1 t.2,
   let same = c.leave-in-Err-Overflow.ensures.ended.selected in omega (arith, same),
 )
 
@@ -289,17 +288,17 @@ returns-in-Err-Overflow-clause-keeps c =
 
 pub returns-in-Err-Pivots-clause-turned : goal.returns-in-Err-Pivots-clause-turned
 returns-in-Err-Pivots-clause-turned c = (
-  rw c.in-Err-Pivots.field-0-is (λ budgets h s j.
-    let e = c.args.e.now in
-    let m = c.execute_cell.new.m in
-    let k = c.args.k in
-    let rest = c.in-Some.rest in
-    let x = stops_so e m k rest _ (fault.Pivots c.in-Err-Pivots.exchanges) c.in-Err-Pivots.field-0-is c.requires.current c.in-Err-Pivots.ensures.stop s j in
-    let less = subst (λ (n : ℕ). e.selected < n) (sym h.steps) (few e k rest c.in-Some.cell c.requires.running c.requires.current c.requires.work c.in-Some.ensures.some) in
-    let left = c.leave-in-Err-Pivots in
-    let t = stops_for_pivots budgets e.machine e.selected rest c.in-Err-Pivots.exchanges s less h.pivots x in
-    stopped budgets left.new.e e.selected (why.Pivots c.in-Err-Pivots.exchanges) s t.0 left.ensures.ended
-    (x.next.database ∙ sym c.in-Err-Pivots.ensures.err_database ∙ sym left.ensures.program.database) x.next.selected t.1 t.2),
+  λ budgets h s j.
+      let e = c.args.e.now in
+      let m = c.execute_cell.new.m in
+      let k = c.args.k in
+      let rest = c.in-Some.rest in
+      let x = stops_so e m k rest _ (fault.Pivots c.in-Err-Pivots.exchanges) c.in-Err-Pivots.field-0-is c.requires.current c.in-Err-Pivots.ensures.stop s j in
+      let less = subst (λ (n : ℕ). e.selected < n) (sym h.steps) (few e k rest c.in-Some.cell c.requires.running c.requires.current c.requires.work c.in-Some.ensures.some) in
+      let left = c.leave-in-Err-Pivots in
+      let t = stops_for_pivots budgets e.machine e.selected rest c.in-Err-Pivots.exchanges s less h.pivots x in
+      stopped budgets left.new.e e.selected (why.Pivots c.in-Err-Pivots.exchanges) s t.0 left.ensures.ended
+      (x.next.database ∙ sym c.in-Err-Pivots.ensures.err_database ∙ sym left.ensures.program.database) x.next.selected t.1 t.2,
   let same = c.leave-in-Err-Pivots.ensures.ended.selected in omega (arith, same),
 )
 

@@ -1,4 +1,4 @@
-use Rattle.std.proofs.Common.{◌≡◌, ◌<◌, List, length, refl, sym, ◌∙◌, subst}
+use Rattle.std.proofs.Common.{◌≡◌, ◌<◌, List, length, sym, subst}
 use Rattle.spec_lists.specs.Texts.{Text}
 use Rattle.spec_machine.specs.Cells.{Value}
 use Rattle.cq_term.specs.Trees.{tree, KnowsTerms}

@@ -1,4 +1,4 @@
-use Rattle.std.proofs.Common.{◌≡◌, ℕ, [], Option, None, Some, refl, ◌∙◌, subst}
+use Rattle.std.proofs.Common.{◌≡◌, ℕ, arith, [], Option, None, Some, refl, ◌∙◌, subst}
 use Rattle.spec_search.specs.Search.{Search}
 use Rattle.spec_search.specs.Turns.{with_branches}
 use Rattle.spec_stops.specs.Causes.{Budgets}
@@ -39,12 +39,12 @@ runs_then e m current s kept j plain r = record { kept = kept; search = s; stand
 pub returns-in-Answer-clause-turned : goal.returns-in-Answer-clause-turned
 returns-in-Answer-clause-turned c = (
   λ budgets h s j.
-    let a = looked c.args.e.now c.look.new.m c.in-Ok.front front.Answer c.in-Answer.is c.in-Ok.ensures.front budgets h.steps h.pivots s j in
-    record {
-      state = a.state;
-      is_state = a.is_state;
-      tells = record { next = a.next; tells = a.tells; stands = a.stands };
-    },
+      let a = looked c.args.e.now c.look.new.m c.in-Ok.front front.Answer c.in-Answer.is c.in-Ok.ensures.front budgets h.steps h.pivots s j in
+      record {
+        state = a.state;
+        is_state = a.is_state;
+        tells = record { next = a.next; tells = a.tells; stands = a.stands };
+      },
   omega arith,
 )
 
@@ -60,8 +60,8 @@ returns-in-Answer-clause-keeps c = keeps c.args.e.now c.look.new.m None c.look.e
 pub returns-in-Fail-clause-turned : goal.returns-in-Fail-clause-turned
 returns-in-Fail-clause-turned c = (
   λ budgets h s j.
-    let a = looked c.args.e.now c.look.new.m c.in-Ok.front front.Fail c.in-Fail.is c.in-Ok.ensures.front budgets h.steps h.pivots s j in
-    record { next = a.next; tells = a.tells; stands = a.stands },
+      let a = looked c.args.e.now c.look.new.m c.in-Ok.front front.Fail c.in-Fail.is c.in-Ok.ensures.front budgets h.steps h.pivots s j in
+      record { next = a.next; tells = a.tells; stands = a.stands },
   omega arith,
 )
 
@@ -77,8 +77,8 @@ returns-in-Fail-clause-keeps c = keeps c.args.e.now c.look.new.m None c.look.ens
 pub returns-in-Stop-clause-turned : goal.returns-in-Stop-clause-turned
 returns-in-Stop-clause-turned c = (
   λ budgets h s j.
-    let a = looked c.args.e.now c.look.new.m c.in-Ok.front (front.Stop c.in-Stop.cause) c.in-Stop.is c.in-Ok.ensures.front budgets h.steps h.pivots s j in
-    record { last = a.last; tells = told_then a.quiet a.tells; database = a.database ∙ a.stands.database; reached = a.reached; quiet = a.quiet; stands = a.stands },
+      let a = looked c.args.e.now c.look.new.m c.in-Ok.front (front.Stop c.in-Stop.cause) c.in-Stop.is c.in-Ok.ensures.front budgets h.steps h.pivots s j in
+      record { last = a.last; tells = told_then a.quiet a.tells; database = a.database ∙ a.stands.database; reached = a.reached; quiet = a.quiet; stands = a.stands },
   omega arith,
 )
 

@@ -1,4 +1,4 @@
-use Rattle.std.proofs.Common.{◌≡◌, List, [], ◌∷◌, length, refl, sym, ap, ap₂, subst, ◌∙◌, arith}
+use Rattle.std.proofs.Common.{List, [], length, refl, sym, ap, ap₂, subst, ◌∙◌, arith}
 use Rattle.std.specs.List.{zip}
 use Rattle.spec_lists.proofs.Prefixes.{prefix_same}
 use Rattle.cq_term.specs.Trees.{KnowsTerms}

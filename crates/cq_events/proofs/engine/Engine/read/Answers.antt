@@ -1,9 +1,12 @@
-use Rattle.std.proofs.Common.{ap, ◌∙◌}
+use Rattle.std.proofs.Common.{refl, ap, ◌∙◌}
 use Rattle.spec_operators.specs.Operators.{Ops}
 use Rattle.cq_program.specs.Database.{as_database}
 use Rattle.cq_write.specs.Meaning.{operators}
+use Rattle.cq_machine.specs.Machines.{now}
+use Rattle.cq_machine.proofs.Interned.{names_kept}
 use Rattle.cq_offer.proofs.Machines.{named_there}
-use Rattle.cq_events.proofs.Read.{left, idle_on}
+use Rattle.cq_events.proofs.Marks.{marks}
+use Rattle.cq_events.proofs.Read.{left, nothing_read, idle_on}
 use Rattle.cq_events.proofs.engine.Engine.read.Goals as goal
 
 pub text-requires : goal.text-requires
@@ -16,11 +19,15 @@ returns-clause-idle c =
     let e = c.args.self.now in
     let m = e.machine in
     let r = c.read_clause-read in
-    let s = c.requires.idle.sound in
+    let idle = c.requires.idle in
+    let s = idle.sound in
     let keeps = r.ensures.names in
-    idle_on e r.new.heap r.new.atoms c.requires.idle (left m.world.first.heap r.new.heap r.result r.ensures.heap) keeps c.text.ensures.different (r.ensures.known s.names)
+    let grown = left m.world.first.heap r.new.heap r.result r.ensures.heap in
+    idle_on e _ idle (names_kept m.atoms r.new.atoms keeps m.names s.known) c.text.ensures.different
     (c.programs_stay_programs.ensures.named m.atoms r.new.atoms keeps m.clauses s.program)
     (c.more_names_keep_the_table.ensures.known m.atoms r.new.atoms m.ops keeps s.operators_named)
+    (nothing_read m.atoms r.new.atoms (now m).0 m.world.first.heap r.new.heap refl grown idle.nothing (r.ensures.known s.names))
+    (marks m.world.first r.new.heap m.world.second.saved grown.saved) refl refl refl
 
 pub returns-clause-program : goal.returns-clause-program
 returns-clause-program c =

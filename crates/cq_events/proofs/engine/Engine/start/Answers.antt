@@ -1,4 +1,4 @@
-use Rattle.std.proofs.Common.{List, [], ◌∷◌, length, Some, sym, ap, subst, ◌∙◌, arith}
+use Rattle.std.proofs.Common.{List, length, sym, ap, subst, ◌∙◌, arith}
 use Rattle.spec_search.specs.Search.{start}
 use Rattle.cq_attr.proofs.Elements.{on_err}
 use Rattle.cq_term.specs.Trees.{tree}
