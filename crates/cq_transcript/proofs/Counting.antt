@@ -8,13 +8,13 @@ use Rattle.cq_transcript.specs.Breaks.{CausedBy, CountedBy}
 use Rattle.cq_transcript.specs.Progress.{CountsWrites}
 
 -- a write that failed, or want of memory
-pub writes_caused : {T : Type 0} (old new : Counts) (halt : Halt) → CountsWrites {T} old.out_faults new.out_faults (Err halt) → CausedBy old new halt
-writes_caused old new Write rose = rose
-writes_caused old new Memory same = tt
-writes_caused old new (Absent name) none = absurd none
-writes_caused old new (TooLarge name) none = absurd none
-writes_caused old new TooMuchInput none = absurd none
-writes_caused old new Read none = absurd none
+pub writes_caused : (T : Type 0) (old new : Counts) (halt : Halt) → CountsWrites {T = T} old.out_faults new.out_faults (Err halt) → CausedBy old new halt
+writes_caused T old new Write rose = rose
+writes_caused T old new Memory same = tt
+writes_caused T old new (Absent name) none = absurd none
+writes_caused T old new (TooLarge name) none = absurd none
+writes_caused T old new TooMuchInput none = absurd none
+writes_caused T old new Read none = absurd none
 
 -- counts that stayed before
 pub counted_before : {T : Type 0} (old mid new : Counts) (result : Result T Halt) → mid ≡ old → CountedBy mid new result → CountedBy old new result

@@ -7,7 +7,7 @@ use Rattle.spec_lists.specs.Texts.{Text}
 use Rattle.spec_search.specs.Database.{initial}
 use Rattle.spec_transcript.specs.Session.{Opening, Over, Marks, WrittenSoFar}
 use Rattle.spec_endings.specs.Endings as ending
-use Rattle.spec_endings.specs.Endings.{Ends, read_line}
+use Rattle.spec_endings.specs.Endings.{Ends, Gains}
 use Rattle.spec_endings.specs.Outside.{Outside, budgets_of, given, outside, ComesToFile, HasReadAll, HasWritten}
 use Rattle.cq_transcript.specs.declared.halt.Halt.{Halt}
 use Rattle.cq_transcript.specs.declared.halt.Halt.TheVariants.{Absent, TooLarge, TooMuchInput, Read, Write, Memory}
@@ -54,41 +54,38 @@ module _ (o : Outside) (a : Asked) (held now : Option (List ℕ)) where
   }
 
   -- whatever is left of the input
-  ends_anyhow : (left : Option (List ℕ)) (h : Halt) (text : Text) → ((bytes : List ℕ) → Ends o bytes (Some a) (status_of h) text (line_of h))
-      → IfSome left (λ bytes. Ends o bytes (Some a) (status_of h) text (line_of h))
-  ends_anyhow (Some bytes) h text ends = ends bytes
-  ends_anyhow None h text ends = tt
+  abbrev rest_of : Option (List ℕ) → List ℕ
+  rest_of (Some bytes) = bytes
+  rest_of None = []
+
+  is_rest : (left : Option (List ℕ)) → IfSome left (λ bytes. rest_of left ≡ bytes)
+  is_rest (Some bytes) = refl
+  is_rest None = tt
+
+  ends_anyhow : (left : Option (List ℕ)) (h : Halt) (text : Text) → ((bytes : List ℕ) → Ends o bytes (Some a) (status_of h) text (line_of h)) → Gains (status_of h) held now text
+      → Halts o a left h held now
+  ends_anyhow left h text ends gains = record { text = text; rest = rest_of left; is_left = is_rest left; ends = ends (rest_of left); written = gains }
 
   -- with these bytes left
   ends_with : (left : Option (List ℕ)) (bytes : List ℕ) (h : Halt) (text : Text) → left ≡ Some bytes → Ends o bytes (Some a) (status_of h) text (line_of h)
-      → IfSome left (λ bytes. Ends o bytes (Some a) (status_of h) text (line_of h))
-  ends_with left bytes h text is ends = subst (λ l. IfSome l (λ bytes. Ends o bytes (Some a) (status_of h) text (line_of h))) (sym is) ends
+      → Gains (status_of h) held now text → Halts o a left h held now
+  ends_with left bytes h text is ends gains = record {
+    text = text;
+    rest = bytes;
+    is_left = subst (λ l. IfSome l (λ b. bytes ≡ b)) (sym is) refl;
+    ends = ends;
+    written = gains;
+  }
 
   pub halts : (left : Option (List ℕ)) (h : Halt) → Breaks (budgets_of a) o left (Opening initial a.files) h held now → Halts o a left h held now
-  halts left (Absent name) (none, h) = record {
-    text = h.advanced.text;
-    ends = ends_anyhow left (Absent name) h.advanced.text (λ bytes. ending.absent_file none (comes name.now h));
-    written = h.advanced.written;
-  }
-  halts left (TooLarge name) (large, h) = record {
-    text = h.advanced.text;
-    ends = ends_anyhow left (TooLarge name) h.advanced.text (λ bytes. ending.large_file large (comes name.now h));
-    written = h.advanced.written;
-  }
-  halts left TooMuchInput (bytes, is, h) = record {
-    text = h.all.advanced.text;
-    ends = ends_with left bytes TooMuchInput h.all.advanced.text is (ending.large_input h.split h.large (reads (take SIZE_LIMIT h.taken) h.all));
-    written = h.all.advanced.written;
-  }
-  halts left Read (inl (name, h)) = record {
-    text = h.advanced.text;
-    ends = ends_anyhow left Read h.advanced.text (λ bytes. ending.file_fault (comes name h));
-    written = h.advanced.written;
-  }
-  halts left Read (inr (bytes, is, h)) = record {
-    text = h.all.advanced.text;
-    ends = ends_with left bytes Read h.all.advanced.text is (ending.input_fault h.split (reads h.taken h.all));
-    written = h.all.advanced.written;
-  }
-  halts left Write (text, h, w) = record { text = text; ends = ends_anyhow left Write text (λ bytes. ending.write_fault (begun text h)); written = w }
-  halts left Memory (text, h, w) = record { text = text; ends = ends_anyhow left Memory text (λ bytes. ending.no_memory (begun text h)); written = w }
+  halts left (Absent name) (none, h) =
+      ends_anyhow left (Absent name) h.advanced.text (λ bytes. ending.absent_file none (comes name.now h)) h.advanced.written
+  halts left (TooLarge name) (large, h) =
+      ends_anyhow left (TooLarge name) h.advanced.text (λ bytes. ending.large_file large (comes name.now h)) h.advanced.written
+  halts left TooMuchInput (bytes, is, h) =
+      ends_with left bytes TooMuchInput h.all.advanced.text is (ending.large_input h.taken h.split h.large (reads (take SIZE_LIMIT h.taken) h.all)) h.all.advanced.written
+  halts left Read (inl (name, h)) = ends_anyhow left Read h.advanced.text (λ bytes. ending.file_fault (comes name h)) h.advanced.written
+  halts left Read (inr (bytes, is, h)) =
+      ends_with left bytes Read h.all.advanced.text is (ending.input_fault h.taken h.split (reads h.taken h.all)) h.all.advanced.written
+  halts left Write (text, h, w) = ends_anyhow left Write text (λ bytes. ending.write_fault (begun text h)) w
+  halts left Memory (text, h, w) = ends_anyhow left Memory text (λ bytes. ending.no_memory (begun text h)) w

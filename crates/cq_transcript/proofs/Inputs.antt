@@ -1,5 +1,5 @@
 -- The transcript of the input, as steps of a session.
-use Rattle.std.proofs.Common.{◌≡◌, ◌≤◌, ◌<◌, ◌+◌, ◌∙◌, ℕ, List, [], ◌∷◌, ◌++◌, length, take, drop, Bool, true, false, if◌then◌else◌, Option, Some, None, IfSome, inl, inr, refl, sym, ap, subst, append-nil, append_assoc, arith, length-append}
+use Rattle.std.proofs.Common.{◌≡◌, ◌≤◌, ◌<◌, ◌+◌, ◌∙◌, ℕ, suc, List, [], ◌∷◌, ◌++◌, length, take, drop, Bool, true, false, if◌then◌else◌, Option, Some, None, Err, IfSome, inl, inr, refl, sym, ap, subst, append-nil, append_assoc, arith, length-append}
 use Rattle.std.proofs.lemmas.List.{take-append-drop}
 use Rattle.std.proofs.lemmas.Option.{none-some, same_Some}
 use Rattle.std.specs.Io.KnownBytes.{Consumes, IsAtEnd, Keeps}
@@ -24,10 +24,10 @@ use Rattle.cq_transcript.specs.declared.reading.Pause.TheVariants.{Needs, End}
 use Rattle.cq_transcript.specs.Sentences.{Program}
 use Rattle.cq_transcript.specs.Progress.{Advanced, Broken}
 use Rattle.cq_transcript.specs.Texts.{IsAt, StandsAt, IsPause}
-use Rattle.cq_transcript.specs.Pieces.{HasReadInput, with_bytes}
+use Rattle.cq_transcript.specs.Pieces.{CountsReads, HasReadInput, IsUnread, with_bytes}
 use Rattle.cq_transcript.specs.Breaks.{Breaks, ReadsAll, ReadsTaken, PassesLimit}
 use Rattle.cq_transcript.proofs.Steps.{one_step, at_start, advanced_both, advanced_quietly, memory_here, broken_more}
-use Rattle.cq_transcript.proofs.Files.{broken_breaks}
+use Rattle.cq_transcript.proofs.Consulting.{broken_breaks}
 
 -- the transcript of the input was written up to the text's place
 pub record StandsIn (b : Budgets) (o : Outside) (from : Session) (marks : Marks) (q : Program) (text : Input) (held now : Option (List ℕ)) : Type 0 where
@@ -52,6 +52,45 @@ pub rests : (o : Outside) (left now : Option (List ℕ)) (bytes : List ℕ) → 
 rests o left now bytes told h =
     let (rest, is, split) = rests_some o.input bytes now (subst (λ l. Consumes l now bytes) told h) in
     record { rest = rest; left = is; split = split }
+
+pub rest_at_end : (o : Outside) (left : Option (List ℕ)) (bytes : List ℕ) (r : Rests o left bytes) → IsAtEnd left → r.rest ≡ []
+rest_at_end o left bytes r at_end = subst IsAtEnd r.left at_end
+
+-- ---- what was taken
+
+pub takes_none : (left : Option (List ℕ)) (taken : ℕ) → TakesBytes left left taken taken []
+takes_none left taken = record { consumed = none left; counted = (omega arith, omega arith) }
+  where
+    none : (l : Option (List ℕ)) → Consumes l l []
+    none (Some xs) = refl
+    none None = tt
+
+pub takes_more : (left mid now : Option (List ℕ)) (taken mid_taken now_taken : ℕ) (xs ys : List ℕ) → TakesBytes left mid taken mid_taken xs → TakesBytes mid now mid_taken now_taken ys
+    → TakesBytes left now taken now_taken (xs ++ ys)
+takes_more left mid now taken mid_taken now_taken xs ys a b = record {
+  consumed = consumes_more left mid now xs ys a.consumed b.consumed;
+  counted = grind (arith, length-append, a.counted, b.counted);
+}
+
+pub room_more : (old new bytes : List ℕ) (room more limit : ℕ) → length old + room ≡ limit → length bytes + more ≡ room → new ≡ old ++ bytes → length new + more ≡ limit
+room_more old new bytes room more limit a b e = let n : length new ≡ length old + length bytes = ap length e ∙ length-append old bytes in omega (arith, n, a, b)
+
+pub place_more : (place : ℕ) (old new bytes : List ℕ) → place ≤ length old → new ≡ old ++ bytes → place ≤ length new
+place_more place old new bytes fits e = let n : length new ≡ length old + length bytes = ap length e ∙ length-append old bytes in omega (arith, n, fits)
+
+pub unfinished_yet : (P : Type 0) (a b c : Bool) → a ≡ b → b ≡ c → c ≡ false → a ≡ true → P
+unfinished_yet P a b c e f g h = let no : true ≡ false = sym h ∙ e ∙ f ∙ g in cc
+
+-- a text that isn't finished pauses where its bytes don't decide what stands next
+pub undecided_yet : (x : Pause) (q : Program) (text : Input) → IsPause x q text → text.finished ≡ false → Decided q.database.operators text.bytes text.place → ⊥
+undecided_yet Needs q text h e d = h.1 d
+undecided_yet End q text h e d = let no : true ≡ false = sym h.0 ∙ e in cc
+
+-- more was taken than there was room for
+pub split_more : (xs ys rest : List ℕ) (room : ℕ) → (xs ++ ys) ++ rest ≡ (xs ++ take room ys) ++ (drop room ys ++ rest)
+split_more xs ys rest room =
+    append_assoc xs ys rest ∙ ap (λ l. xs ++ (l ++ rest)) (sym (take-append-drop room ys)) ∙ ap (λ l. xs ++ l) (append_assoc (take room ys) (drop room ys) rest)
+    ∙ sym (append_assoc xs (take room ys) (drop room ys ++ rest))
 
 -- ---- programs alone
 
@@ -96,22 +135,26 @@ module _ (b : Budgets) (o : Outside) (from : Session) (m : Marks) (p : Program) 
   memory_wanted left = memory_here b o from (Reading p.database stands.reader) m held mid stands.advanced
 
   module _ (none : p.later ≡ []) (more : List ℕ) (split : o.input ≡ text.bytes ++ more) (whole : text.finished ≡ true → more ≡ []) where
-    pub is_at : IsAt stands.reader source.Input text p
+    is_at : IsAt stands.reader source.Input text p
     is_at = record { source = stands.source; more = more; bytes = stands.bytes ∙ split; at = stands.at; later = stands.later ∙ sym none; whole = whole }
 
-    pub text_broken : (left : Option (List ℕ)) (halt : Halt) (now : Option (List ℕ)) → Broken b o (Reading p.database stands.reader) halt mid now → Breaks b o left from halt held now
-    text_broken left halt now broken = broken_breaks b o left from halt held now (broken_more b o from (Reading p.database stands.reader) m held mid stands.advanced halt now broken)
+    pub text_breaks : (left : Option (List ℕ)) (halt : Halt) (now : Option (List ℕ)) → ((r : Reader) → IsAt r source.Input text p → Broken b o (Reading p.database r) halt mid now)
+        → Breaks b o left from halt held now
+    text_breaks left halt now part =
+        broken_breaks b o left from halt held now (broken_more b o from (Reading p.database stands.reader) m held mid stands.advanced halt now (part stands.reader is_at))
 
-    pub text_more : (k : Marks) (q : Program) (new : Input) (now : Option (List ℕ)) → q.later ≡ [] → StandsAt b o stands.reader source.Input k p q new mid now
-        → StandsIn b o from (both m k) q new held now
-    text_more k q new now nothing h = record {
-      reader = h.reader;
-      source = h.is_at.source;
-      bytes = h.bytes ∙ stands.bytes;
-      at = h.is_at.at;
-      later = h.is_at.later ∙ nothing;
-      advanced = advanced_both b o from (Reading p.database stands.reader) m held mid stands.advanced (Reading q.database h.reader) k now h.advanced;
-    }
+    pub reads_on : (k : Marks) (q : Program) (new : Input) (now : Option (List ℕ)) → q.later ≡ []
+        → ((r : Reader) → IsAt r source.Input text p → StandsAt b o r source.Input k p q new mid now) → StandsIn b o from (both m k) q new held now
+    reads_on k q new now nothing behind =
+        let h = behind stands.reader is_at in
+        record {
+          reader = h.reader;
+          source = h.is_at.source;
+          bytes = h.bytes ∙ stands.bytes;
+          at = h.is_at.at;
+          later = h.is_at.later ∙ nothing;
+          advanced = advanced_both b o from (Reading p.database stands.reader) m held mid stands.advanced (Reading q.database h.reader) k now h.advanced;
+        }
 
   -- ---- ends
 
@@ -135,6 +178,16 @@ module _ (b : Budgets) (o : Outside) (from : Session) (m : Marks) (p : Program) 
       go (Some ys) is same = (ys, is, record { taken = text.bytes; split = rest.split ∙ ap (λ l. text.bytes ++ l) (sym same); all = reads_all fits undecided })
       go None is same = absurd same
 
+  -- what stands in the way of a piece
+  pub piece_breaks : (left now_left : Option (List ℕ)) (T : Type 0) (before after : ℕ) (halt : Halt) → Rests o left text.bytes → IsUnread left now_left halt
+      → CountsReads {T = T} before after (Err halt) → text.place ≤ length text.bytes → (Decided p.database.operators text.bytes text.place → ⊥) → Breaks b o now_left from halt held mid
+  piece_breaks left now_left T before after Read rest keeps cause fits undecided = read_fails left now_left rest keeps fits undecided
+  piece_breaks left now_left T before after Memory rest keeps cause fits undecided = memory_wanted now_left
+  piece_breaks left now_left T before after Write rest keeps cause fits undecided = absurd cause
+  piece_breaks left now_left T before after (Absent name) rest keeps cause fits undecided = absurd cause
+  piece_breaks left now_left T before after (TooLarge name) rest keeps cause fits undecided = absurd cause
+  piece_breaks left now_left T before after TooMuchInput rest keeps cause fits undecided = absurd cause
+
   -- the input is at its end
   pub input_read : (left : Option (List ℕ)) → Rests o left text.bytes → IsAtEnd left → length text.bytes ≤ SIZE_LIMIT → Reads p.database.operators text.bytes text.place Ended
       → HasReadInput b o left from m held mid
@@ -156,8 +209,10 @@ module _ (b : Budgets) (o : Outside) (from : Session) (m : Marks) (p : Program) 
 -- ---- the limit
 
 take_within : (xs ys : List ℕ) (room : ℕ) → take (length xs + room) (xs ++ ys) ≡ xs ++ take room ys
-take_within [] ys room = ap (λ n. take n ys) (omega arith)
-take_within (x ∷ xs) ys room = ap (λ n. take n (x ∷ (xs ++ ys))) (omega arith) ∙ ap (λ l. x ∷ l) (take_within xs ys room)
+take_within [] ys room = let e : length {A = ℕ} [] + room ≡ room = omega arith in ap (λ n. take n ys) e
+take_within (x ∷ xs) ys room =
+    let e : length (x ∷ xs) + room ≡ suc (length xs + room) = omega arith in
+    ap (λ n. take n (x ∷ (xs ++ ys))) e ∙ ap (λ l. x ∷ l) (take_within xs ys room)
 
 module _ (b : Budgets) (o : Outside) (from : Session) (m : Marks) (q : Program) (text new : Input) (held now : Option (List ℕ)) (stands : StandsIn b o from m q new held now) (piece : List ℕ) (room : ℕ)
     (has : new.bytes ≡ text.bytes ++ take room piece) (fill : length text.bytes + room ≡ SIZE_LIMIT) (large : room < length piece) where

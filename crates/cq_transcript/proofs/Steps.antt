@@ -47,6 +47,9 @@ module _ (b : Budgets) (o : Outside) where
   pub at_start : (a : Session) (held : Option (List ℕ)) → Advanced b o a unmarked a held held
   at_start a held = record { text = []; runs = none; written = appends_nothing held }
 
+  pub nothing_yet : (a : Session) (held : Option (List ℕ)) → Broken b o a Memory held held
+  nothing_yet a held = ([], record { whole = []; more = []; marks = unmarked; here = a; runs = none; begins = refl }, appends_nothing held)
+
   module _ (a c : Session) (m : Marks) (held mid : Option (List ℕ)) (before : Advanced b o a m c held mid) where
     pub advanced_more : (d : Session) (k : Marks) (u : Text) (now : Option (List ℕ)) → RunsIn b o c u k d → Appends mid now u → Advanced b o a (both m k) d held now
     advanced_more d k u now runs written = record {

@@ -40,5 +40,7 @@ pub record IsWhole (o : Outside) (a : Asked) (left : Option (List ℕ)) (marks :
 -- it broke off so, and what was appended is what a run that ends so wrote
 pub record Halts (o : Outside) (a : Asked) (left : Option (List ℕ)) (h : Halt) (held now : Option (List ℕ)) : Type 0 where
   pub text : Text
-  pub ends : IfSome left (λ bytes. Ends o bytes (Some a) (status_of h) text (line_of h))
+  pub rest : List ℕ
+  pub is_left : IfSome left (λ bytes. rest ≡ bytes)
+  pub ends : Ends o rest (Some a) (status_of h) text (line_of h)
   pub written : Gains (status_of h) held now text

@@ -1,6 +1,8 @@
 // Why a transcript breaks off, and what kinds of lines it has.
 
-use cq_outside::{ShelfFault, SinkFailed, SourceFailed};
+ghost use Rattle.std.specs.Prelude.{◌≡◌};
+
+use cq_outside::{SinkFailed, SourceFailed};
 use std::alloc::AllocError;
 
 /// Why a transcript ends before its end.

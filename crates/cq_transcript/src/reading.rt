@@ -1,6 +1,6 @@
 // The transcript of a text, as far as its bytes decide it.
 
-ghost use Rattle.std.specs.Prelude.{◌≡◌, ◌≤◌, ◌<◌, ◌++◌, codes, length, IfOk, IfErr};
+ghost use Rattle.std.specs.Prelude.{◌≡◌, ◌≤◌, ◌<◌, length, string_bytes, IfOk, IfErr};
 ghost use Rattle.spec_endings.specs.Outside.{Outside};
 ghost use Rattle.spec_transcript.specs.Purposes.{syntax_line};
 ghost use Rattle.spec_transcript.specs.Session.{Reader, Reading};
@@ -35,7 +35,7 @@ enum Turn {
 
 /// The line of a syntax error.
 fn syntax_line(alloc: Global, at: usize) -> Result<String, AllocError>
-    ensures { IfOk result (λ line. line.bytes ≡ syntax_line at) }
+    ensures { IfOk result (λ line. string_bytes line ≡ syntax_line at) }
 {
     format!(in alloc; "error: syntax {at}\n")
 }

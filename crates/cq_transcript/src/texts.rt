@@ -39,6 +39,7 @@ fn write_files<'a, P: Interpreter, F: Shelf, O: Sink>(
     ensures none_waits { OnOk result ((P.program program.new).later ≡ []) }
     ensures budgets { P.budgets program.new ≡ P.budgets program.old }
     ensures kept { P.kept program.new }
+    ensures unread { files.now ≡ [] → shelf.new ≡ shelf.old }
     ensures cause { (failed taken : ℕ) → CountedBy (counted (F.faults shelf.old) (F.refused shelf.old) failed taken (O.faults out.old))
         (counted (F.faults shelf.new) (F.refused shelf.new) failed taken (O.faults out.new)) result }
 {

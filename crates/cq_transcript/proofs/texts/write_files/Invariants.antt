@@ -11,6 +11,7 @@ invariant-loop-name g l = record {
   advanced : (o : Outside) → g.F.Shelf.files l.fn.shelf ≡ Some o.files
       → Advanced (g.P.Interpreter.budgets l.fn.program) o (Opening (g.P.Interpreter.program l.fn.program).database (map (λ s. s.now) l.fn.files)) (marks_of l.lines)
       (Opening (g.P.Interpreter.program l.program).database (map (λ s. s.now) (drop l.name-index l.files))) (g.O.Sink.held l.fn.out) (g.O.Sink.held l.out);
+  unread : l.fn.files ≡ [] → l.shelf ≡ l.fn.shelf;
   files : g.F.Shelf.files l.shelf ≡ g.F.Shelf.files l.fn.shelf;
   none_waits : (g.P.Interpreter.program l.program).later ≡ [];
   kept : g.P.Interpreter.kept l.program;

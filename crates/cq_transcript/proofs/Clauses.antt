@@ -182,16 +182,16 @@ module _ (r : Reader) (s : Source) (p : Program) (old : Input) (at : IsAt r s ol
       (session.asks base (clause_there new (purposes.Query g) vs h)))
 
 -- one part of a text behind another
-pub stands_both : (b : Budgets) (o : Outside) (r : Reader) (s : Source) (m k : Marks) (p c q : Program) (mid new : Input) (held then now : Option (List ℕ))
-    → StandsAt b o r s m p c mid held then → ((t : Reader) → IsAt t s mid c → StandsAt b o t s k c q new then now) → StandsAt b o r s (both m k) p q new held now
-stands_both b o r s m k p c q mid new held then now first next =
-    let second = next first.reader first.is_at in
+pub stands_both : (b : Budgets) (o : Outside) (r : Reader) (s : Source) (m k : Marks) (p c q : Program) (between new : Input) (held mid now : Option (List ℕ))
+    → StandsAt b o r s m p c between held mid → ((t : Reader) → IsAt t s between c → StandsAt b o t s k c q new mid now) → StandsAt b o r s (both m k) p q new held now
+stands_both b o r s m k p c q between new held mid now first behind =
+    let second = behind first.reader first.is_at in
     record {
       reader = second.reader;
       bytes = second.bytes ∙ first.bytes;
       files = second.files ∙ first.files;
       is_at = second.is_at;
-      advanced = advanced_both b o (Reading p.database r) (Reading c.database first.reader) m held then first.advanced (Reading q.database second.reader) k now second.advanced;
+      advanced = advanced_both b o (Reading p.database r) (Reading c.database first.reader) m held mid first.advanced (Reading q.database second.reader) k now second.advanced;
       none_waits = λ e. second.none_waits e ∙ first.none_waits e;
     }
 

@@ -1,6 +1,8 @@
 -- The transcript of a file, as steps of a session.
-use Rattle.std.proofs.Common.{◌≡◌, ◌≤◌, ◌∙◌, ℕ, List, [], ◌∷◌, ◌++◌, length, take, Bool, true, false, if◌then◌else◌, Option, Some, None, Result, Ok, Err, IfSome, Vec, inl, inr, refl, sym, ap, subst, append-nil, arith}
-use Rattle.std.specs.Prelude.{nat_le}
+use Rattle.std.proofs.Common.{◌≡◌, ◌≤◌, ◌<◌, ◌+◌, ◌∙◌, ℕ, List, [], ◌∷◌, ◌++◌, length, take, drop, get_or, Bool, true, false, if◌then◌else◌, Option, Some, None, Result, Ok, Err, IfSome, Vec, inl, inr, refl, sym, ap, subst, append-nil, arith}
+use Rattle.std.specs.Prelude.{nat_le, map}
+use Rattle.std.specs.Borrow.{Bor}
+use Rattle.std.proofs.lemmas.List.{drop_more, drop_all}
 use Rattle.std.proofs.lemmas.Bool.{leb-false}
 use Rattle.std.specs.declared.alloc.Global.{Global}
 use Rattle.cq_outside.specs.Files.{Files, IsTooLarge, Loads}
@@ -196,3 +198,27 @@ module _ (b : Budgets) (o : Outside) (p : Program) (name : Text) (names : List T
         (Opening q.database stands.reader.files)
         (one_step b o (Reading q.database (record stands.reader { later = [] })) (Opening q.database stands.reader.files) [] plain_line
         (session.file_ends (ended c.database.operators q.database.operators stands.reader.bytes stands.reader.at text_ends) stands.is_at.source refl)))
+
+-- ---- files in order
+
+module _ (b : Budgets) (o : Outside) (from : Session) (fs : List (Bor Text)) (i : ℕ) (d : Bor Text) (within : i < length fs) (m : Marks) (p : Program) (held mid : Option (List ℕ))
+    (before : Advanced b o from m (Opening p.database (map (λ s. s.now) (drop i fs))) held mid) where
+  at_next : Advanced b o from m (Opening p.database ((get_or fs i d).now ∷ map (λ s. s.now) (drop (i + 1) fs))) held mid
+  at_next = subst (λ l. Advanced b o from m (Opening p.database (map (λ s. s.now) l)) held mid) (drop_more fs i d within) before
+
+  pub next_file : (k : Marks) (q : Program) (now : Option (List ℕ))
+      → ((names : List Text) → Advanced b o (Opening p.database ((get_or fs i d).now ∷ names)) k (Opening q.database names) mid now)
+      → Advanced b o from (both m k) (Opening q.database (map (λ s. s.now) (drop (i + 1) fs))) held now
+  next_file k q now file =
+      advanced_both b o from (Opening p.database ((get_or fs i d).now ∷ map (λ s. s.now) (drop (i + 1) fs))) m held mid at_next
+      (Opening q.database (map (λ s. s.now) (drop (i + 1) fs))) k now (file (map (λ s. s.now) (drop (i + 1) fs)))
+
+  pub next_breaks : (left : Option (List ℕ)) (halt : Halt) (now : Option (List ℕ))
+      → ((names : List Text) → Breaks b o left (Opening p.database ((get_or fs i d).now ∷ names)) halt mid now) → Breaks b o left from halt held now
+  next_breaks left halt now file =
+      breaks_more b o from (Opening p.database ((get_or fs i d).now ∷ map (λ s. s.now) (drop (i + 1) fs))) m held mid now at_next left halt
+      (file (map (λ s. s.now) (drop (i + 1) fs)))
+
+pub all_files : (b : Budgets) (o : Outside) (from : Session) (fs : List (Bor Text)) (i : ℕ) → length fs ≤ i → (m : Marks) (p : Program) (held now : Option (List ℕ))
+    → Advanced b o from m (Opening p.database (map (λ s. s.now) (drop i fs))) held now → Advanced b o from m (Opening p.database []) held now
+all_files b o from fs i past m p held now before = subst (λ l. Advanced b o from m (Opening p.database (map (λ s. s.now) l)) held now) (drop_all i fs past) before
