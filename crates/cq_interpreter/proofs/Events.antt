@@ -54,7 +54,7 @@ module _ (old new : Toplevel) (names : new.names.items ≡ old.names.items) (run
     counted = keeps asking.variables asking.counted;
   }
 
-  tells_at : (s : Search) (what : Told) → engine.TellsNext (budgets_of old) new.engine what s → TellsNext (budgets_of old) (program_of old) (program_of new) s what
+  abbrev tells_at : (s : Search) (what : Told) → engine.TellsNext (budgets_of old) new.engine what s → TellsNext (budgets_of old) (program_of old) (program_of new) s what
   tells_at s what t = record { after = t.next; tells = t.tells; program = program_at t.next t.stands }
 
   has_answered : (s : Search) → IsAsking old s → (a : engine.AnswersNext (budgets_of old) new.engine s) → HasAnswered new a.state (database_of new.engine.machine).operators

@@ -14,6 +14,16 @@ use Rattle.cq_stored.specs.StoredValue.{both}
 
 -- ---- numbers from 0 on
 
+one_more : (n k : ℕ) → counted_from n (suc k) ≡ counted_from n k ++ (n + k) ∷ []
+one_more n zero = (let here : n ≡ n + 0 = omega arith in ap (λ m. m ∷ []) here)
+one_more n (suc k) = (let next_ : suc n + k ≡ n + suc k = omega arith in ap (λ ms. n ∷ ms) (one_more (suc n) k ∙ ap (λ m. counted_from (suc n) k ++ m ∷ []) next_))
+
+pub counted_more : (k : ℕ) → counted_from 0 (k + 1) ≡ counted_from 0 k ++ k ∷ []
+counted_more k =
+    let e : k + 1 ≡ suc k = omega arith in
+    let z : 0 + k ≡ k = omega arith in
+    ap (counted_from 0) e ∙ one_more 0 k ∙ ap (λ n. counted_from 0 k ++ n ∷ []) z
+
 counted_length : (n k : ℕ) → length (counted_from n k) ≡ k
 counted_length n zero = refl
 counted_length n (suc k) = ap suc (counted_length (suc n) k)

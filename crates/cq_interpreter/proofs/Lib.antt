@@ -5,5 +5,5 @@ pub mod Keeping
 pub mod Wholes
 pub mod Events
 pub mod Taking
-pub mod Worlds
-pub mod Idles
+pub mod Answered
+pub mod Restoring

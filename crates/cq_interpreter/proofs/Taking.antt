@@ -19,7 +19,17 @@ use Rattle.cq_transcript.specs.Sentences.{Program, as_source, IsSettled, IsFor, 
 use Rattle.cq_transcript.specs.declared.interpreter.Source.{Source}
 use Rattle.cq_transcript.specs.declared.interpreter.Sentence.{Sentence}
 use Rattle.cq_transcript.specs.declared.interpreter.Sentence.TheVariants as sentence
-use Rattle.cq_interpreter.specs.Taken.{IsAdded, IsTaken}
+use Rattle.spec_lists.specs.Texts.{Text}
+use Rattle.cq_term.specs.HeapValue.{Terms}
+use Rattle.cq_term.specs.Trees.{tree}
+use Rattle.cq_read.specs.Names.{variables}
+use Rattle.cq_read.specs.Feeds.{place_after}
+use Rattle.cq_read.specs.Shown.{read_of, IsForward}
+use Rattle.cq_read.specs.declared.reading.Read as done
+use Rattle.cq_read.specs.declared.reading.Read.TheVariants as here
+use Rattle.cq_interpreter.specs.Numbered.{IsNumbered}
+use Rattle.cq_interpreter.specs.Taken.{IsAdded, IsTaken, IsDone}
+use Rattle.cq_interpreter.proofs.Naming.{read_numbered}
 
 -- ---- variables that are counted on from 0
 
@@ -89,3 +99,26 @@ moves old new (sentence.Refused line) h = h
 moves old new sentence.Waits h = h
 moves old new sentence.Directive h = h
 moves old new sentence.Query h = h
+
+-- ---- behind a reading
+
+pub numbered_read : (ops : Ops) (text : List ℕ) (at : ℕ) (texts : List Text) (heap : Terms) (r : done.Read) → Reads ops text at (read_of texts heap r) → IsNumbered (length heap.images) r
+numbered_read ops text at texts heap (here.Clause term names next_) h = read_numbered h
+numbered_read ops text at texts heap here.End h = tt
+numbered_read ops text at texts heap (here.Syntax error resume) h = tt
+
+module _ (Stands : Search → Type 0) (names : List VariableName) (source : Source) (p q : Program) (old new : Input) (texts : List Text) (heap : Terms) where
+  pub read_is : (r : done.Read) (s : Sentence) → IsSettled p.database.operators old (read_of texts heap r) → new.place ≡ place_after old.place r
+      → IsDone Stands names source p q (read_of texts heap r) s → IsSentence Stands names source p old q new s
+  read_is (here.Clause term vs next_) s settled place h =
+      taken Stands names source p q old new (tree texts heap.terms term) (variables vs.items heap.images)
+      (subst (λ (k : ℕ). IsSettled p.database.operators old (Clause (tree texts heap.terms term) (variables vs.items heap.images) k)) (sym place) settled) s h
+  read_is here.End s settled place h = subst (IsSentence Stands names source p old q new) (sym h.0) (settled, h.1, place)
+  read_is (here.Syntax error resume) s settled place h =
+      subst (IsSentence Stands names source p old q new) (sym h.0) (subst (λ (k : ℕ). IsSettled p.database.operators old (Syntax error k)) (sym place) settled, h.1)
+
+  pub read_moves : (r : done.Read) (s : Sentence) → IsForward (length old.bytes) old.place r → new.place ≡ place_after old.place r → IsDone Stands names source p q (read_of texts heap r) s
+      → MovesOn old new s
+  read_moves (here.Clause term vs next_) s f place h = moves old new s (omega (arith, f.0, place), omega (arith, f.1, place))
+  read_moves here.End s f place h = subst (MovesOn old new) (sym h.0) tt
+  read_moves (here.Syntax error resume) s f place h = moves old new s (omega (arith, f.2, place), omega (arith, f.3, place))

@@ -40,10 +40,11 @@ fn over_variables(heap: &mut Heap, name: Atom) -> Result<TermId, AllocError>
     let count = new_variables(heap, 1)?;
     let ids = variable_terms(heap, count)?;
     if ids.is_empty() {
-        heap.atom(name)
-    } else {
-        heap.compound(name, &ids)
+        let id = heap.atom(name)?;
+        return Ok(id);
     }
+    let id = heap.compound(name, &ids)?;
+    Ok(id)
 }
 
 /// Keeps a goal with all variables of the heap: they are the arguments of the clause's head, so that the body has them in their
@@ -58,5 +59,6 @@ pub(crate) fn kept(heap: &mut Heap, name: Atom, goal: TermId) -> Result<Clause, 
 {
     heap.view(goal);
     let head = over_variables(heap, name)?;
-    Clause::of(heap, head, goal)
+    let clause = Clause::of(heap, head, goal)?;
+    Ok(clause)
 }

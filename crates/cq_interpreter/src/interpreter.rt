@@ -5,7 +5,8 @@ use crate::queries::restored;
 use crate::toplevel::Toplevel;
 use cq_events::Engine;
 use cq_lines::answer_lines;
-use cq_read::{Fed, Feed, Read};
+use cq_ops::more_names_keep_the_table;
+use cq_read::{Fed, Feed};
 use cq_transcript::{Answered, Event, Interpreter, Sentence, Source};
 use std::alloc::{AllocError, Global};
 
@@ -37,40 +38,49 @@ impl Interpreter for Toplevel {
     }
 
     fn read(&mut self, text: &mut Feed, source: Source) -> Result<Sentence, AllocError> {
+        more_names_keep_the_table();
         self.engine.end();
         self.names.clear();
-        match self.engine.read_fed(text)? {
+        let fed = self.engine.read_fed(text)?;
+        match fed {
             Fed::Needs => Ok(Sentence::Needs),
-            Fed::Read(Read::End) => Ok(Sentence::End),
-            Fed::Read(Read::Syntax { at, .. }) => Ok(Sentence::Syntax(at)),
-            Fed::Read(Read::Clause { term, names, .. }) => self.take(source, term, names),
+            Fed::Read(read) => {
+                let sentence = self.take_read(source, read)?;
+                Ok(sentence)
+            }
         }
     }
 
     fn begin_later(&mut self) -> Result<bool, AllocError> {
         self.engine.end();
-        let Some(waiting) = self.later.pop_front() else {
-            return Ok(false);
-        };
-        let goal = restored(&mut self.engine, &waiting)?;
-        self.direct(goal)?;
-        Ok(true)
+        let first = self.later.pop_front();
+        match first {
+            None => Ok(false),
+            Some(waiting) => {
+                let goal = restored(&mut self.engine, &waiting)?;
+                self.direct(goal)?;
+                Ok(true)
+            }
+        }
     }
 
     fn next(&mut self) -> Result<Event, AllocError> {
         let event = self.engine.next()?;
-        told(&self.engine.machine, event)
+        let line = told(&self.engine.machine, event)?;
+        Ok(line)
     }
 
     fn answer(&mut self) -> Result<Answered, AllocError> {
         let machine = &mut self.engine.machine;
         let world = &mut machine.world.first;
-        answered(answer_lines(
+        let made = answer_lines(
             world,
             &machine.atoms,
             &machine.ops,
             self.freeze,
             &self.names,
-        ))
+        );
+        let written = answered(made)?;
+        Ok(written)
     }
 }

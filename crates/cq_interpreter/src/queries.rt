@@ -46,8 +46,8 @@ pub(crate) fn restored(engine: &mut Engine, waiting: &Waiting) -> Result<TermId,
     ensures kept { IsKept engine.new.machine }
 {
     let heap = &mut engine.machine.world.first.heap;
-    let (_, goal) = waiting.clause.rename(heap)?;
-    Ok(goal)
+    let ids = waiting.clause.rename(heap)?;
+    Ok(ids.1)
 }
 
 impl Toplevel {

@@ -3,19 +3,21 @@
 ghost use Rattle.std.specs.Prelude.{◌≡◌, ◌<◌, length, IfOk, OnOk};
 ghost use Rattle.spec_transcript.specs.Purposes.{purpose};
 ghost use Rattle.cq_read.specs.Names.{variables};
+ghost use Rattle.cq_read.specs.Shown.{read_of, IsLiveRead};
 ghost use Rattle.cq_machine.specs.Machines.{terms};
 ghost use Rattle.cq_consult.specs.Purposes.{as_source as as_read};
 ghost use Rattle.cq_events.specs.Events.{IsIdle};
 ghost use Rattle.cq_transcript.specs.Sentences.{as_source};
-ghost use Rattle.cq_interpreter.specs.Numbered.{AreNumbered};
-ghost use Rattle.cq_interpreter.specs.Taken.{IsAdded, IsKeptFor, IsTaken};
-ghost use Rattle.cq_interpreter.specs.Toplevels.{IsWhole, IsAsking, images, names_of, program_of, budgets_of, term_in};
+ghost use Rattle.cq_interpreter.specs.Numbered.{AreNumbered, IsNumbered};
+ghost use Rattle.cq_interpreter.specs.Taken.{IsAdded, IsKeptFor, IsTaken, IsDone};
+ghost use Rattle.cq_interpreter.specs.Toplevels.{IsWhole, IsAsking, images, texts, names_of, program_of, budgets_of, term_in};
 
 use crate::goals::kept;
 use crate::lines::ball_line;
 use crate::toplevel::{Toplevel, Waiting};
 use cq_consult::{Purpose, Source as Consulted, consult, purpose_of};
 use cq_names::VariableName;
+use cq_read::Read;
 use cq_term::TermId;
 use cq_transcript::{Sentence, Source};
 use std::alloc::AllocError;
@@ -40,9 +42,13 @@ impl Toplevel {
         ensures budgets { budgets_of self.new ≡ budgets_of self.old }
         ensures whole { IsWhole self.new }
     {
-        match consult(&mut self.engine.machine, clause)? {
+        let refused = consult(&mut self.engine.machine, clause)?;
+        match refused {
             None => Ok(Sentence::Added),
-            Some(ball) => Ok(Sentence::Refused(ball_line(&self.engine.machine, ball)?)),
+            Some(ball) => {
+                let line = ball_line(&self.engine.machine, ball)?;
+                Ok(Sentence::Refused(line))
+            }
         }
     }
 
@@ -95,6 +101,28 @@ impl Toplevel {
                 self.ask(goal, names)?;
                 Ok(Sentence::Query)
             }
+        }
+    }
+
+    /// Does what is asked for by what stands at the place of a text.
+    pub(crate) fn take_read(&mut self, source: Source, read: Read) -> Result<Sentence, AllocError>
+        requires whole { IsWhole self.old }
+        requires idle { IsIdle self.old.engine }
+        requires live { IsLiveRead self.old.engine.machine.world.first.heap.now read }
+        requires names { IsNumbered (length (images self.old)) read }
+        ensures done { IfOk result (IsDone (IsAsking self.new) (names_of self.new) source (program_of self.old) (program_of self.new)
+            (read_of (texts self.old) self.old.engine.machine.world.first.heap.now read)) }
+        ensures budgets { budgets_of self.new ≡ budgets_of self.old }
+        ensures whole { IsWhole self.new }
+    {
+        match read {
+            Read::End => Ok(Sentence::End),
+            Read::Syntax { at, resume: _ } => Ok(Sentence::Syntax(at)),
+            Read::Clause {
+                term,
+                names,
+                next: _,
+            } => self.take(source, term, names),
         }
     }
 }

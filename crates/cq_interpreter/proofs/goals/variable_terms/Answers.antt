@@ -2,8 +2,8 @@ use Rattle.std.proofs.Common.{◌≡◌, ◌<◌, ◌+◌, ◌++◌, ◌∷◌, 
 use Rattle.std.proofs.lemmas.List.{map-append}
 use Rattle.std.proofs.lemmas.List.Elements.{All-push, All-same}
 use Rattle.spec_terms.specs.Variables.{counted_from}
-use Rattle.cq_builtin.proofs.Over.{counted_more}
 use Rattle.cq_term.specs.Meaning.{at}
+use Rattle.cq_interpreter.proofs.Keeping.{counted_more}
 use Rattle.cq_interpreter.proofs.goals.variable_terms.Goals as goal
 
 pub loop-number-preserved : goal.loop-number-preserved
@@ -12,8 +12,7 @@ loop-number-preserved c =
     let us = c.args.heap.now.now.images in
     let ids = c.loop-number.ids.items in
     let pushed = c.in_ok-push.ensures.items in
-    let more : counted_from 0 (c.loop-number.number + 1) ≡ counted_from 0 c.loop-number.number ++ c.loop-number.number ∷ [] =
-    counted_more 0 c.loop-number.number ∙ ap (λ n. counted_from 0 c.loop-number.number ++ n ∷ []) (omega arith) in
+    let more = counted_more c.loop-number.number in
     record {
       live = All-same (λ id. id < length ts) c.push.new.self.items (ids ++ c.var_term.result ∷ []) pushed (All-push (λ id. id < length ts) ids c.var_term.result c.loop-number.invariant.live c.var_term.ensures.live);
       terms = ap (map (at ts)) pushed ∙ map-append (at ts) ids (c.var_term.result ∷ [])
