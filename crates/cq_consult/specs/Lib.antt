@@ -1,0 +1,2 @@
+pub mod Consulted
+pub mod Purposes

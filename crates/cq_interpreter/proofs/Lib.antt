@@ -1,0 +1,9 @@
+pub mod Rows
+pub mod Counting
+pub mod Naming
+pub mod Keeping
+pub mod Wholes
+pub mod Events
+pub mod Taking
+pub mod Answered
+pub mod Restoring

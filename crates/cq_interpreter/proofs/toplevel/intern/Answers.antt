@@ -1,0 +1,32 @@
+use Rattle.std.proofs.Common.{List, refl, sym, ap, ◌∙◌, subst}
+use Rattle.spec_operators.specs.Operators.{Ops}
+use Rattle.cq_atoms.specs.Texts.{KeepsTexts}
+use Rattle.cq_program.specs.Database.{as_database}
+use Rattle.cq_write.specs.Meaning.{operators}
+use Rattle.cq_machine.proofs.Interned.{names_kept}
+use Rattle.cq_interpreter.proofs.toplevel.intern.Goals as goal
+
+pub returns-clause-kept : goal.returns-clause-kept
+returns-clause-kept c =
+    let m = c.args.machine.now in
+    let new = c.intern.new.self in
+    let s = c.requires in
+    let keeps = subst (KeepsTexts m.atoms) (sym c.in_ok-name.ensures.texts) (c.numbers_keep_their_texts.ensures m.atoms c.args.text.now) in
+    record {
+      known = names_kept m.atoms new keeps m.names s.known;
+      different = c.intern.ensures.different;
+      program = c.programs_stay_programs.ensures.named m.atoms new keeps m.clauses s.program;
+      operators_named = c.more_names_keep_the_table.ensures.known m.atoms new m.ops keeps s.operators_named;
+      marked = s.marked;
+      untried = s.untried;
+    }
+
+pub returns-clause-program : goal.returns-clause-program
+returns-clause-program c =
+    let m = c.args.machine.now in
+    let new = c.intern.new.self in
+    let s = c.requires in
+    let keeps = subst (KeepsTexts m.atoms) (sym c.in_ok-name.ensures.texts) (c.numbers_keep_their_texts.ensures m.atoms c.args.text.now) in
+    c.changes_are_those_of_the_database.ensures.named m.atoms new keeps m.clauses s.program (operators new m.ops)
+    ∙ ap (λ (ops : Ops). as_database m.atoms ops m.clauses)
+    (c.more_names_keep_the_table.ensures.table m.atoms new m.ops (record { before = s.different; after = c.intern.ensures.different; kept = keeps }) s.operators_named)
