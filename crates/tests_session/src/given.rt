@@ -1,7 +1,9 @@
 // What a run is given, and what it is to do.
 
 use cq_outside::{MemShelf, MemSink, MemSource};
-use cq_session::{Status, run};
+use cq_interpreter::Toplevel;
+use cq_session::run;
+use spec_endings::Status;
 use std::alloc::{AllocError, Global};
 
 /// What a run is given: the words behind the program's name, files by name, and the input; the numbers of the loads, of the reads
@@ -73,6 +75,6 @@ pub(crate) fn does(alloc: Global, given: Given<'_>, wanted: Wanted<'_>) -> Resul
     let mut input = MemSource::new(alloc, given.input, given.read_fails, given.piece)?;
     let mut out = MemSink::new(alloc, given.write_fails, given.piece)?;
     let mut err = MemSink::new(alloc, &[], given.piece)?;
-    let status = run(alloc, &words, &mut shelf, &mut input, &mut out, &mut err);
+    let status = run::<Toplevel, _, _, _, _>(alloc, &words, &mut shelf, &mut input, &mut out, &mut err);
     Ok(status == wanted.status && out.bytes() == wanted.out && err.bytes() == wanted.line)
 }

@@ -1,7 +1,7 @@
 // Worked rows.
 
 use crate::given::{Given, Wanted, does, input_of};
-use cq_session::Status;
+use spec_endings::Status;
 use std::alloc::{AllocError, Global};
 use std::test::Fail;
 

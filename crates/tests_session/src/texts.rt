@@ -1,7 +1,7 @@
 // Long and deep texts, and texts that are cut off.
 
 use crate::given::{Wanted, does, done, input_of};
-use cq_session::Status;
+use spec_endings::Status;
 use std::alloc::{AllocError, Global};
 use std::test::Fail;
 
