@@ -1,1 +1,3 @@
-pub mod Purposes
+pub mod Marks
+pub mod Refused
+pub mod Added

@@ -1,32 +1,70 @@
--- Machines between two texts, which have nothing to do and know nothing but terms that were read.
-use Rattle.std.specs.Prelude.{◌≡◌, ℕ, ◌<◌, List, [], ◌∷◌, length, Option, None, Some}
+-- A file's clause that is added, or refused.
+use Rattle.std.specs.Prelude.{◌≡◌, ℕ, ◌<◌, List, length, Option, None, Some}
 use Rattle.spec_lists.specs.Prefixes.{IsPrefix}
+use Rattle.spec_lists.specs.Texts.{Text}
 use Rattle.spec_syntax.specs.Trees.{Tree}
+use Rattle.spec_builtins.specs.Clauses.{HeadBody, head_body, stored}
 use Rattle.spec_search.specs.Changes.{consult_error, consulted}
+use Rattle.spec_search.specs.Database.{Database}
 use Rattle.spec_transcript.specs.Session.{refusal_ball}
+use Rattle.cq_term.specs.Meaning.{HeapTerm}
 use Rattle.cq_term.specs.Trees.{tree}
+use Rattle.cq_term.specs.declared.names.Pred.{Pred}
+use Rattle.cq_stored.specs.StoredValue.{ClauseValue}
+use Rattle.cq_clauses.specs.ClausesValue.{Adds}
+use Rattle.cq_clauses.specs.declared.list.End.TheVariants.{Last}
+use Rattle.cq_clauses.specs.declared.procedures.Kind.TheVariants.{Static}
+use Rattle.cq_declarations.specs.Clauses.{IsOf, body_tree}
+use Rattle.cq_declarations.specs.declared.clauses.ClauseParts.{ClauseParts}
+use Rattle.cq_program.specs.Database.{Program, IsCounted, as_parts}
 use Rattle.cq_steps.specs.Worlds.{KnowsNothing}
-use Rattle.cq_machine.specs.Machines.{IsSound, database_of, now, terms}
+use Rattle.cq_machine.specs.Machines.{database_of, now, terms}
 use Rattle.cq_machine.specs.declared.machine.Machine.{Machine}
 
--- it has no query, and nothing is known of its terms but themselves
-pub record IsIdle (m : Machine) : Type 0 where
-  pub sound : IsSound m
-  pub nothing : KnowsNothing m.atoms (now m).0
-  pub lists : m.world.second.now ≡ [] ∷ []
-  pub choices : m.choices ≡ []
+-- ---- over a heap
 
--- names may have been added, and the database is the same
-pub record KeepsDatabase (old new : Machine) : Type 0 where
-  pub atoms : IsPrefix old.atoms new.atoms
-  pub names : new.names ≡ old.names
-  pub database : database_of new ≡ database_of old
-  pub budget : new.world.first.store.pivots ≡ old.world.first.store.pivots
+-- the head and the body as the definitions have them
+abbrev pub head_body_of : List Text → List HeapTerm → ClauseParts → HeadBody
+head_body_of texts ts p = record { head = tree texts ts p.head; body = body_tree texts ts p.body }
 
--- the clause was added as a file's, or it is refused and the term of the ball is on the heap
+-- a clause of this head and this body was put behind the others of its predicate, as it is stored
+pub record AddsStored (texts : List Text) (parts : HeadBody) (old new : Program) : Type 0 where
+  pub pred : Pred
+  pub clause : ClauseValue
+  pub of_head : IsOf texts pred parts.head
+  pub counted : IsCounted (length texts) clause
+  pub holds : as_parts texts clause ≡ stored parts
+  pub adds : Adds Last Static pred clause old new
+
+-- the clause is refused, and the term of the ball is on the heap
+pub record IsRefused (texts : List Text) (ts : List HeapTerm) (ball : ℕ) (clause : Tree) : Type 0 where
+  pub error : Tree
+  pub refused : consult_error clause ≡ Some error
+  pub live : ball < length ts
+  pub is_ball : tree texts ts ball ≡ refusal_ball error
+
+-- what a clause came to: it is lawful and was added, or it is refused
+abbrev pub CameTo : List Text → List HeapTerm → Tree → Program → Program → Option ℕ → Type 0
+CameTo texts ts clause old new None = (consult_error clause ≡ None) × AddsStored texts (head_body clause) old new
+CameTo texts ts clause old new (Some ball) = IsRefused texts ts ball clause × (new ≡ old)
+
+-- the same of the databases
+abbrev pub IsConsulted : List Text → List HeapTerm → Tree → Database → Database → Option ℕ → Type 0
+IsConsulted texts ts clause old new None = (consult_error clause ≡ None) × (new ≡ consulted clause old)
+IsConsulted texts ts clause old new (Some ball) = IsRefused texts ts ball clause × (new ≡ old)
+
+-- ---- in a machine
+
+-- the clause was added as a file's, or it is refused
 abbrev pub Consults : Machine → ℕ → Machine → Option ℕ → Type 0
-Consults old id new None =
-    (consult_error (tree old.atoms (terms old) id) ≡ None) × (database_of new ≡ consulted (tree old.atoms (terms old) id) (database_of old))
-Consults old id new (Some ball) =
-    (e : Tree) × (consult_error (tree old.atoms (terms old) id) ≡ Some e) × (ball < length (terms new)) × (tree new.atoms (terms new) ball ≡ refusal_ball e)
-    × (database_of new ≡ database_of old)
+Consults old id new r = IsConsulted new.atoms (terms new) (tree old.atoms (terms old) id) (database_of old) (database_of new) r
+
+-- names and terms may have been added, and all but the clauses is as it was
+pub record KeepsRest (old new : Machine) : Type 0 where
+  pub atoms : IsPrefix old.atoms new.atoms
+  pub terms : IsPrefix (terms old) (terms new)
+  pub images : new.world.first.heap.now.images ≡ old.world.first.heap.now.images
+  pub nothing : KnowsNothing old.atoms (now old).0 → KnowsNothing new.atoms (now new).0
+  pub lists : new.world.second ≡ old.world.second
+  pub choices : new.choices ≡ old.choices
+  pub pivots : new.world.first.store.pivots ≡ old.world.first.store.pivots

@@ -1,2 +1,2 @@
-pub mod Idle
+pub mod Consulted
 pub mod Purposes

@@ -2,7 +2,8 @@
 #![tactic(auto)]
 
 mod adding;
+mod consulting;
 mod purposes;
 
-pub use adding::consult;
+pub use consulting::consult;
 pub use purposes::{Purpose, Source, purpose_of};

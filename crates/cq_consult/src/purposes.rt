@@ -43,7 +43,7 @@ pub fn purpose_of(heap: &Heap, atoms: &Atoms, source: Source, clause: TermId) ->
     requires names { KnowsTerms atoms.now heap.now.now.terms }
     ensures { IsPurpose atoms.now heap.now.now.terms source clause result }
 {
-    let Some(whole) = unary(heap, clause) else {
+    let Some(whole) = unary_of(heap, clause) else {
         return unmarked(source, clause);
     };
     let mark = atoms.text(whole.name);
@@ -77,7 +77,7 @@ fn directive(heap: &Heap, atoms: &Atoms, source: Source, goal: TermId) -> Purpos
     if source == Source::Input {
         return Purpose::Directive(goal);
     }
-    let Some(inner) = unary(heap, goal) else {
+    let Some(inner) = unary_of(heap, goal) else {
         return Purpose::Directive(goal);
     };
     if atoms.text(inner.name) == "initialization" {
@@ -88,7 +88,7 @@ fn directive(heap: &Heap, atoms: &Atoms, source: Source, goal: TermId) -> Purpos
 }
 
 /// The name and the argument of a term; None where it is no compound of one argument.
-fn unary(heap: &Heap, id: TermId) -> Option<Unary>
+fn unary_of(heap: &Heap, id: TermId) -> Option<Unary>
     requires { id < length heap.now.now.terms }
     ensures some { IfSome result (IsUnary heap.now.now.terms id) }
     ensures none { IsNone result → is_unary (at heap.now.now.terms id) ≡ false }

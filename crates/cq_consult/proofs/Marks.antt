@@ -1,10 +1,10 @@
 -- What clauses are for, by their marks.
-use Rattle.std.proofs.Common.{◌≡◌, ◌≢◌, ◌∙◌, ◌<◌, ℕ, suc, Bool, true, false, Some, List, length, refl, sym, ap, subst, arith}
+use Rattle.std.proofs.Common.{◌≡◌, ◌≢◌, ◌∙◌, ℕ, Bool, true, false, refl, ap}
 use Rattle.std.specs.Prelude.{if◌then◌else◌, bytes_eq, codes}
 use Rattle.spec_lists.specs.Texts.{Text}
 use Rattle.spec_terms.specs.Term.{Var, Number, Name, Compound, one, more, count, named}
 use Rattle.spec_syntax.specs.Trees.{Tree, unary}
-use Rattle.spec_transcript.specs.Purposes.{Source, File, Input, Purpose, Directive, Initialization, Query, Fact, directive, initialization_or, unmarked, purpose}
+use Rattle.spec_transcript.specs.Purposes.{Source, File, Purpose, Directive, Initialization, Query, directive, unmarked, purpose}
 use Rattle.cq_term.specs.Meaning.{HeapTerm}
 use Rattle.cq_term.specs.Shown.{view_of}
 use Rattle.cq_term.specs.declared.view.View.TheVariants as view
@@ -13,7 +13,7 @@ use Rattle.cq_consult.specs.Purposes.{is_unary}
 -- ---- marks
 
 module _ (s : Source) (f : Text) (a : Tree) where
-  unless_query : Bool → Purpose
+  abbrev unless_query : Bool → Purpose
   unless_query b = if b then Query a else unmarked s (unary f a)
 
   pub is_directive : bytes_eq f (codes ":-") ≡ true → purpose s (unary f a) ≡ directive s a

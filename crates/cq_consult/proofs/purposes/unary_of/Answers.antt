@@ -1,8 +1,8 @@
-use Rattle.std.proofs.Common.{◌∙◌, sym, refl, arith}
+use Rattle.std.proofs.Common.{◌∙◌, sym, arith}
 use Rattle.cq_term.specs.Meaning.{at}
 use Rattle.cq_declarations.proofs.Libraries.{has_one, one_argument}
-use Rattle.cq_consult.proofs.Purposes.{not_one, no_compound}
-use Rattle.cq_consult.proofs.purposes.unary.Goals as goal
+use Rattle.cq_consult.proofs.Marks.{not_one, no_compound}
+use Rattle.cq_consult.proofs.purposes.unary_of.Goals as goal
 
 pub returns-then-arity-ne1-clause-none : goal.returns-then-arity-ne1-clause-none
 returns-then-arity-ne1-clause-none c = λ none. not_one (at c.args.heap.now.now.terms c.args.id) c.in-Compound.name c.in-Compound.arity (sym c.view.ensures.view ∙ c.in-Compound.is) c.if-arity-ne1.true
@@ -10,8 +10,8 @@ returns-then-arity-ne1-clause-none c = λ none. not_one (at c.args.heap.now.now.
 pub arg-argument-requires-clause-within : goal.arg-argument-requires-clause-within
 arg-argument-requires-clause-within c = has_one (at c.args.heap.now.now.terms c.args.id) c.in-Compound.name c.in-Compound.arity (sym c.view.ensures.view ∙ c.in-Compound.is) (omega arith)
 
-pub returns-in-Compound-clause-some : goal.returns-in-Compound-clause-some
-returns-in-Compound-clause-some c =
+pub returns-else-arity-ne1-clause-some : goal.returns-else-arity-ne1-clause-some
+returns-else-arity-ne1-clause-some c =
     let ts = c.args.heap.now.now.terms in
     record {
       live = c.arg-argument.ensures.live;
