@@ -6,6 +6,7 @@ use Rattle.spec_search.specs.Turns.{Answered, Ended, with_branches}
 use Rattle.spec_stops.specs.Causes.{Budgets}
 use Rattle.spec_stops.specs.Causes as why
 use Rattle.cq_control.specs.Items.{items_at}
+use Rattle.cq_steps.specs.Marks.{IsFront}
 use Rattle.cq_steps.specs.Worlds.{IsBranch}
 use Rattle.spec_machine.specs.declared.cell.Cell.{Cell}
 use Rattle.spec_machine.specs.declared.cell.Cell.TheVariants.{Goal, Call, CutTo, CutFail, CatchEnd, Collect}
@@ -63,13 +64,14 @@ selects (CutFail height) = true
 selects (CatchEnd height c r) = true
 selects (Collect height t) = false
 
--- something is in front, and one more goal may be selected where it is one; the machine is sound
+-- something is in front, no mark, and one more goal may be selected where it is one; the machine is sound
 pub record HasWork (steps n : ℕ) (m : Machine) (k : ℕ) : Type 0 where
   pub sound : IsSound m
   pub rest : ℕ
   pub earlier : rest < k
   pub cell : Cell
   pub cells : items_at m.world.second.now k ≡ cell ∷ items_at m.world.second.now rest
+  pub front : IsFront (items_at m.world.second.now k)
   pub few : selects cell ≡ true → n < steps
 
 abbrev pub IsAhead : ℕ → ℕ → Machine → Front → Type 0

@@ -1,5 +1,6 @@
 -- The counts that the adapters keep.
 use Rattle.std.specs.Prelude.{ℕ}
+use Rattle.cq_real.specs.declared.file_shelf.FileShelf.{FileShelf}
 use Rattle.cq_real.specs.declared.reader_source.ReaderSource.{ReaderSource}
 use Rattle.cq_real.specs.declared.writer_sink.WriterSink.{WriterSink}
 
@@ -14,3 +15,11 @@ bytes_taken s = s.taken
 -- how many writes failed
 abbrev pub write_faults : {W : Type 0} → WriterSink W → ℕ
 write_faults s = s.faults
+
+-- how many loads failed
+abbrev pub load_faults : {R F D : Type 0} → FileShelf R F D → ℕ
+load_faults s = s.faults
+
+-- how many loads were refused
+abbrev pub loads_refused : {R F D : Type 0} → FileShelf R F D → ℕ
+loads_refused s = s.refused

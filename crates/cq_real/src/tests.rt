@@ -2,7 +2,8 @@
 ghost use Rattle.std.specs.Prelude.{◌≤◌, IfOk};
 
 use crate::*;
-use cq_outside::{Sink, SinkFailed, Source, SourceFailed};
+use cq_outside::{Shelf, ShelfFault, Sink, SinkFailed, Source, SourceFailed};
+use std::alloc::{AllocError, Global};
 use std::io::{self, ErrorKind, Read, Write};
 use std::test::Fail;
 
@@ -73,5 +74,38 @@ fn a_failed_read_or_write_is_a_fault(rt: HostRuntime) -> Result<(), Fail> {
         fails: true,
     });
     assert_eq!(rt; sink.write(b"abcd"), Err(SinkFailed));
+    Ok(())
+}
+
+/// What a load of this name gives, as a text.
+fn loaded(
+    shelf: &mut FileShelf<'_, HostRuntime>,
+    alloc: Global,
+    name: &str,
+) -> Result<Vec<u8>, Fail> {
+    match shelf.load(alloc, name) {
+        Ok(bytes) => Ok(bytes),
+        Err(ShelfFault::Absent) => Ok(b"absent".to_vec(alloc)?),
+        Err(ShelfFault::TooLarge) => Ok(b"too large".to_vec(alloc)?),
+        Err(ShelfFault::Failed) => Ok(b"failed".to_vec(alloc)?),
+        Err(ShelfFault::NoMemory) => Err(Fail::from(AllocError)),
+    }
+}
+
+#[test]
+fn files_are_loaded_by_their_paths(rt: HostRuntime) -> Result<(), Fail> {
+    let alloc = rt.alloc();
+    let mut shelf = FileShelf::new(&rt);
+    for (name, given) in [
+        ("/dev/null", ""),
+        ("/dev/zero", "too large"),
+        ("/dev/no such file", "absent"),
+        ("/dev/null/inside", "absent"),
+        ("/dev/\0null", "absent"),
+        ("/dev", "failed"),
+    ] {
+        let got = loaded(&mut shelf, alloc, name)?;
+        assert_eq!(rt; got.as_slice(), given.as_bytes(), "{name}");
+    }
     Ok(())
 }

@@ -1,0 +1,11 @@
+mod Selections
+mod Steps
+mod Catches
+mod Raised
+mod Ended
+mod Stops
+mod Thrown
+mod Turned
+mod Idle
+mod Marks
+mod Read

@@ -1,0 +1,118 @@
+-- What the selected goal of a search comes to on an engine.
+use Rattle.std.specs.Prelude.{◌≡◌, ◌<◌, ◌≢◌, ◌∷◌, [], ℕ, suc, List, Option, Some, None, length, ⊤}
+use Rattle.spec_lists.specs.Texts.{Text}
+use Rattle.spec_syntax.specs.Trees.{Tree}
+use Rattle.spec_branch.specs.Branch.{State, Item, Branch, read}
+use Rattle.spec_search.specs.Rows.{reply_of}
+use Rattle.spec_search.specs.Search.{Search, look_at, Selecting}
+use Rattle.spec_search.specs.Turns.{place_of}
+use Rattle.spec_machine.specs.declared.cell.Cell.{Cell}
+use Rattle.spec_machine.specs.declared.cell.Cell.TheVariants as cell
+use Rattle.cq_control.specs.Items.{items_at}
+use Rattle.cq_linear.specs.declared.store.StoreFault.{StoreFault}
+use Rattle.cq_linear.specs.declared.store.StoreFault.TheVariants.{Overflow, Pivots, NoMemory}
+use Rattle.cq_relations.specs.Faults.{IsStopped}
+use Rattle.cq_term.specs.Trees.{tree}
+use Rattle.cq_steps.specs.Worlds.{Placed}
+use Rattle.cq_machine.specs.declared.machine.Machine.{Machine}
+use Rattle.cq_machine.specs.Machines.{terms, now, holds, database_of, IsSound}
+use Rattle.cq_engine.specs.Seeking.{IsKept}
+use Rattle.cq_execute.specs.Executions.{Reaches}
+use Rattle.cq_events.specs.declared.cells.Done.{Done}
+use Rattle.cq_events.specs.declared.engine.Engine.{Engine}
+use Rattle.cq_events.specs.declared.event.Event.{Event}
+use Rattle.cq_events.specs.declared.event.Event.TheVariants.{Answer, Output, Fail, Ball, Stop}
+use Rattle.cq_events.specs.Raised.{is_raised_by}
+use Rattle.cq_events.specs.Events.{GivesNext, GoesOn, HasCounted}
+
+-- ---- a goal in front
+
+-- this is a goal
+abbrev pub IsGoal : Cell → Type 0
+IsGoal (cell.Goal t height) = ⊤
+IsGoal (cell.Call t) = ⊤
+IsGoal (cell.CutTo height) = ⊥
+IsGoal (cell.CutFail height) = ⊥
+IsGoal (cell.CatchEnd height c r) = ⊥
+IsGoal (cell.Collect height t) = ⊥
+
+-- this cell is in front of the continuation, and this continuation behind it
+pub record HasInFront (m : Machine) (k : ℕ) (c : Cell) (rest : ℕ) : Type 0 where
+  pub earlier : rest < k
+  pub cells : items_at m.world.second.now k ≡ c ∷ items_at m.world.second.now rest
+
+-- The search selects a goal next, and so many were before: the goal, its cut height, the items and the branches behind it, and the
+-- state. The continuation stands for the items.
+pub record SelectsNext (m : Machine) (n rest : ℕ) (s : Search) : Type 0 where
+  pub goal : Tree
+  pub cut : ℕ
+  pub items : List Item
+  pub state : State
+  pub behind : List Branch
+  pub look : look_at s.branches ≡ Selecting goal cut items state behind
+  pub placed : Placed m.atoms (holds m) (now m) rest (place_of s state items cut behind) behind
+  pub database : s.database ≡ database_of m
+  pub selected : s.selected ≡ n
+
+-- the machine has come to what the goal's step makes, or its reply is an error or refuses two numbers
+pub record Reached (old new : Machine) (n rest : ℕ) (d : Done) (s : Search) : Type 0 where
+  pub next : SelectsNext old n rest s
+  pub reaches : Reaches new d.executed.step d.executed.output.items (place_of s next.state next.items next.cut next.behind) next.behind
+      (read next.state next.goal)
+  pub raiser : is_raised_by new.atoms d.raiser (read next.state next.goal)
+
+-- the goal's reply makes one child, and a stop for the fault is due while that is settled
+pub record IsStoppedNext (m : Machine) (n rest : ℕ) (fault : StoreFault) (s : Search) : Type 0 where
+  pub next : SelectsNext m n rest s
+  pub stopped : IsStopped m.world.first.store.pivots fault (place_of s next.state next.items next.cut next.behind)
+      (reply_of (place_of s next.state next.items next.cut next.behind) (read next.state next.goal))
+
+-- want of memory says nothing of the search
+abbrev pub MayStop : Machine → ℕ → ℕ → StoreFault → Search → Type 0
+MayStop m n rest (Overflow pair) s = IsStoppedNext m n rest (Overflow pair) s
+MayStop m n rest (Pivots x) s = IsStoppedNext m n rest (Pivots x) s
+MayStop m n rest NoMemory s = ⊤
+
+-- ---- an engine then
+
+-- one more goal was selected, and the engine goes on so
+pub record IsAt (old new : Engine) (k : Option ℕ) : Type 0 where
+  pub machine : new.machine ≡ old.machine
+  pub selected : new.selected ≡ suc old.selected
+  pub steps : new.steps ≡ old.steps
+  pub current : new.current ≡ k
+
+-- no branch is left, and so many goals were selected
+pub record HasEnded (n : ℕ) (e : Engine) : Type 0 where
+  pub kept : IsKept e.machine
+  pub none_left : holds e.machine ≡ []
+  pub current : e.current ≡ None
+  pub selected : e.selected ≡ n
+
+-- a text is told that is not empty
+abbrev pub IsTold : Text → Option Event → Type 0
+IsTold text None = text ≡ []
+IsTold text (Some (Output written)) = (written.items ≡ text) × (text ≢ [])
+IsTold text (Some Answer) = ⊥
+IsTold text (Some Fail) = ⊥
+IsTold text (Some (Ball id)) = ⊥
+IsTold text (Some (Stop cause)) = ⊥
+
+-- it is the event of this ball, whose term is there
+abbrev pub IsBall : Tree → Machine → Event → Type 0
+IsBall ball m (Ball id) = (id < length (terms m)) × (tree m.atoms (terms m) id ≡ ball)
+IsBall ball m Answer = ⊥
+IsBall ball m (Output written) = ⊥
+IsBall ball m Fail = ⊥
+IsBall ball m (Stop cause) = ⊥
+
+-- the event is what is told next, or one more goal was selected and nothing is told yet
+abbrev pub Turned : Engine → Engine → Option Event → Type 0
+Turned old new (Some event) = GivesNext old new event × HasCounted old new event
+Turned old new None = GoesOn old new × (old.selected < new.selected)
+
+-- as many goals were selected, and it goes on with the same
+pub record IsAsBefore (old new : Engine) : Type 0 where
+  pub sound : IsSound new.machine
+  pub selected : new.selected ≡ old.selected
+  pub current : new.current ≡ old.current

@@ -1,0 +1,19 @@
+// What a query tells.
+
+use cq_engine::Cause;
+use cq_term::TermId;
+
+/// What a query tells next.
+#[derive(Drop)]
+pub enum Event {
+    /// An answer: the world of the engine's machine is the answer's branch.
+    Answer,
+    /// A text that is written; it is not empty.
+    Output(Vec<u8>),
+    /// No branch is left.
+    Fail,
+    /// The term of an error that nothing catches; no branch is left.
+    Ball(TermId),
+    /// The query stops, and no branch is left.
+    Stop(Cause),
+}

@@ -1,0 +1,5 @@
+//! Tests of the events of a query: what no clause says of them.
+#![tactic(auto)]
+
+#[cfg(test)]
+mod events;
