@@ -1,17 +1,16 @@
 -- Clauses and errors of a text, as steps of a session.
-use Rattle.std.proofs.Common.{◌≡◌, ◌⊎◌, ◌<◌, ◌≤◌, ◌∙◌, ℕ, List, [], ◌∷◌, ◌++◌, length, Bool, true, false, if◌then◌else◌, Option, Some, None, inl, inr, refl, sym, ap, subst}
+use Rattle.std.proofs.Common.{◌≡◌, ◌≤◌, ◌∙◌, ℕ, List, [], ◌∷◌, ◌++◌, length, Bool, true, false, if◌then◌else◌, Option, Some, None, inl, inr, refl, sym, ap, subst}
 use Rattle.std.specs.Prelude.{bytes_eq, codes}
 use Rattle.cq_outside.specs.Bytes.{Adds, Appends, Begins}
 use Rattle.cq_read.specs.Inputs.{Input}
 use Rattle.spec_lists.specs.Texts.{Text}
-use Rattle.spec_reading.specs.Decided.{Decided, IsClosed}
+use Rattle.spec_reading.specs.Decided.{Decided}
 use Rattle.spec_reading.specs.Readings.{Read, Reads, Clause, Ended, Syntax}
 use Rattle.spec_reading.proofs.Decides.{decided_when_closed}
 use Rattle.spec_terms.specs.Term.{Var, Number, Name, Compound, one, more}
 use Rattle.spec_syntax.specs.TextTokens.{VariableName, Variables}
 use Rattle.spec_syntax.specs.Trees.{Tree}
 use Rattle.spec_search.specs.Changes.{consult_error, consulted}
-use Rattle.spec_search.specs.Search.{Search}
 use Rattle.spec_stops.specs.Causes.{Budgets}
 use Rattle.spec_transcript.specs.Purposes as purposes
 use Rattle.spec_transcript.specs.Purposes.{Purpose, purpose, once, ball_line, syntax_line}

@@ -1,5 +1,5 @@
 -- The transcript of a file, as steps of a session.
-use Rattle.std.proofs.Common.{◌≡◌, ◌≤◌, ◌<◌, ◌+◌, ◌∙◌, ℕ, List, [], ◌∷◌, ◌++◌, length, take, drop, get_or, Bool, true, false, if◌then◌else◌, Option, Some, None, Result, Ok, Err, IfSome, Vec, inl, inr, refl, sym, ap, subst, append-nil, arith}
+use Rattle.std.proofs.Common.{◌≡◌, ◌≤◌, ◌<◌, ◌+◌, ◌∙◌, ℕ, List, [], ◌∷◌, length, take, drop, get_or, Bool, true, false, if◌then◌else◌, Option, Some, None, Ok, Err, IfSome, Vec, inl, inr, refl, sym, ap, subst, append-nil, arith}
 use Rattle.std.specs.Prelude.{nat_le, map}
 use Rattle.std.specs.Borrow.{Bor}
 use Rattle.std.proofs.lemmas.List.{drop_more, drop_all}
@@ -26,10 +26,10 @@ use Rattle.cq_transcript.specs.declared.halt.Halt.TheVariants.{Absent, TooLarge,
 use Rattle.cq_transcript.specs.declared.interpreter.Source.TheVariants as source
 use Rattle.cq_transcript.specs.declared.reading.Pause.{Pause}
 use Rattle.cq_transcript.specs.declared.reading.Pause.TheVariants.{Needs, End}
-use Rattle.cq_transcript.specs.Sentences.{Program, Begins}
-use Rattle.cq_transcript.specs.Progress.{RunsIn, Advanced, Broken}
+use Rattle.cq_transcript.specs.Sentences.{Program}
+use Rattle.cq_transcript.specs.Progress.{Advanced, Broken}
 use Rattle.cq_transcript.specs.Texts.{IsAt, StandsAt, IsPause}
-use Rattle.cq_transcript.specs.Breaks.{Breaks, ComesTo, ReadsAll, ReadsTaken, PassesLimit, IsLoaded, IsMissing}
+use Rattle.cq_transcript.specs.Breaks.{Breaks, ComesTo, ReadsAll, ReadsTaken, PassesLimit, IsMissing}
 use Rattle.cq_transcript.proofs.Steps.{one_step, at_start, advanced_both, advanced_quietly, memory_here, broken_more, both_unmarked}
 
 -- ---- what breaks off

@@ -1,9 +1,8 @@
 -- Counts of what lies outside, as what was read and written left them.
-use Rattle.std.proofs.Common.{◌≡◌, ◌∙◌, ℕ, Result, Ok, Err, inl, inr, refl, sym, ap, subst}
-use Rattle.cq_outside.specs.Counts.{Rose}
+use Rattle.std.proofs.Common.{◌≡◌, ℕ, Result, Err, subst}
 use Rattle.cq_transcript.specs.declared.halt.Halt.{Halt}
 use Rattle.cq_transcript.specs.declared.halt.Halt.TheVariants.{Absent, TooLarge, TooMuchInput, Read, Write, Memory}
-use Rattle.spec_endings.specs.Causes.{Counts, counted}
+use Rattle.spec_endings.specs.Causes.{Counts}
 use Rattle.cq_transcript.specs.Breaks.{CausedBy, CountedBy}
 use Rattle.cq_transcript.specs.Progress.{CountsWrites}
 

@@ -1,18 +1,18 @@
 -- How a transcript ends, as how its run does.
-use Rattle.std.proofs.Common.{◌≡◌, ◌<◌, ℕ, List, [], take, Option, Some, None, IfSome, inl, inr, refl, sym, ap, subst}
+use Rattle.std.proofs.Common.{◌≡◌, ℕ, List, [], take, Option, Some, None, IfSome, inl, inr, refl, sym, ap, subst}
 use Rattle.cq_outside.specs.Files.{Files}
 use Rattle.cq_outside.specs.declared.shelf.TheConstants.{SIZE_LIMIT}
 use Rattle.cq_words.specs.Asked.{Asked}
 use Rattle.spec_lists.specs.Texts.{Text}
 use Rattle.spec_search.specs.Database.{initial}
-use Rattle.spec_transcript.specs.Session.{Opening, Over, Marks, WrittenSoFar}
+use Rattle.spec_transcript.specs.Session.{Opening}
 use Rattle.spec_endings.specs.Endings as ending
 use Rattle.spec_endings.specs.Endings.{Ends, Gains}
-use Rattle.spec_endings.specs.Outside.{Outside, budgets_of, given, outside, ComesToFile, HasReadAll, HasWritten}
+use Rattle.spec_endings.specs.Outside.{Outside, budgets_of, outside, ComesToFile, HasReadAll, HasWritten}
 use Rattle.cq_transcript.specs.declared.halt.Halt.{Halt}
 use Rattle.cq_transcript.specs.declared.halt.Halt.TheVariants.{Absent, TooLarge, TooMuchInput, Read, Write, Memory}
-use Rattle.cq_transcript.specs.Progress.{Advanced, HasBegun, Broken}
-use Rattle.cq_transcript.specs.Breaks.{Breaks, ComesTo, ReadsAll, ReadsTaken, PassesLimit}
+use Rattle.cq_transcript.specs.Progress.{HasBegun}
+use Rattle.cq_transcript.specs.Breaks.{Breaks, ComesTo, ReadsAll}
 use Rattle.cq_transcript.specs.Halts.{Halts, status_of, line_of}
 
 -- ---- the outside

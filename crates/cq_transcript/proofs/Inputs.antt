@@ -1,9 +1,7 @@
 -- The transcript of the input, as steps of a session.
-use Rattle.std.proofs.Common.{◌≡◌, ◌≤◌, ◌<◌, ◌+◌, ◌∙◌, ℕ, suc, List, [], ◌∷◌, ◌++◌, length, take, drop, Bool, true, false, if◌then◌else◌, Option, Some, None, Err, IfSome, inl, inr, refl, sym, ap, subst, append-nil, append_assoc, arith, length-append}
+use Rattle.std.proofs.Common.{◌≡◌, ◌≤◌, ◌<◌, ◌+◌, ◌∙◌, ℕ, suc, List, [], ◌∷◌, ◌++◌, length, take, drop, Bool, true, false, Option, Some, None, Err, IfSome, inr, refl, sym, ap, subst, append-nil, append_assoc, arith, length-append}
 use Rattle.std.proofs.lemmas.List.{take-append-drop}
-use Rattle.std.proofs.lemmas.Option.{none-some, same_Some}
 use Rattle.std.specs.Io.KnownBytes.{Consumes, IsAtEnd, Keeps}
-use Rattle.cq_outside.specs.Counts.{Counts, RoseBeyond}
 use Rattle.cq_outside.specs.Whole.{TakesBytes}
 use Rattle.cq_outside.specs.declared.shelf.TheConstants.{SIZE_LIMIT}
 use Rattle.cq_outside.proofs.Told.{consumes_more}
@@ -15,7 +13,7 @@ use Rattle.spec_transcript.specs.Purposes as purposes
 use Rattle.spec_transcript.specs.Session as session
 use Rattle.spec_transcript.specs.Session.{Session, Opening, Reading, Over, Marks, unmarked, plain_line, Reader, beginning}
 use Rattle.spec_session.specs.Parts.{both}
-use Rattle.spec_endings.specs.Outside.{Outside, given}
+use Rattle.spec_endings.specs.Outside.{Outside}
 use Rattle.cq_transcript.specs.declared.halt.Halt.{Halt}
 use Rattle.cq_transcript.specs.declared.halt.Halt.TheVariants.{Absent, TooLarge, TooMuchInput, Read, Write, Memory}
 use Rattle.cq_transcript.specs.declared.interpreter.Source.TheVariants as source
@@ -24,8 +22,8 @@ use Rattle.cq_transcript.specs.declared.reading.Pause.TheVariants.{Needs, End}
 use Rattle.cq_transcript.specs.Sentences.{Program}
 use Rattle.cq_transcript.specs.Progress.{Advanced, Broken}
 use Rattle.cq_transcript.specs.Texts.{IsAt, StandsAt, IsPause}
-use Rattle.cq_transcript.specs.Pieces.{CountsReads, HasReadInput, IsUnread, with_bytes}
-use Rattle.cq_transcript.specs.Breaks.{Breaks, ReadsAll, ReadsTaken, PassesLimit}
+use Rattle.cq_transcript.specs.Pieces.{CountsReads, HasReadInput, IsUnread}
+use Rattle.cq_transcript.specs.Breaks.{Breaks, ReadsAll, ReadsTaken}
 use Rattle.cq_transcript.proofs.Steps.{one_step, at_start, advanced_both, advanced_quietly, memory_here, broken_more}
 use Rattle.cq_transcript.proofs.Consulting.{broken_breaks}
 

@@ -1,6 +1,5 @@
 -- What is told of a search, as what its query writes.
-use Rattle.std.proofs.Common.{◌≡◌, ◌<◌, ◌-◌, ◌∙◌, ℕ, suc, List, [], ◌++◌, Option, Some, None, Result, Ok, Err, IfOk, OnOk, IfErr, refl, sym, ap, subst, arith}
-use Rattle.std.proofs.lemmas.Result.{IfOk-weaker}
+use Rattle.std.proofs.Common.{◌≡◌, ◌<◌, ◌-◌, ◌∙◌, ℕ, suc, List, [], ◌++◌, Option, Result, Ok, Err, IfOk, OnOk, IfErr, sym, ap, subst, arith}
 use Rattle.cq_outside.specs.Bytes.{Adds, Appends, Begins}
 use Rattle.spec_lists.specs.Texts.{Text}
 use Rattle.spec_operators.specs.Operators.{Ops}
@@ -11,7 +10,7 @@ use Rattle.spec_search.specs.Database.{Database}
 use Rattle.spec_search.specs.Search.{Search}
 use Rattle.spec_search.specs.Turns as turn
 use Rattle.spec_stops.specs.Causes.{Budgets, Cause, stop_text}
-use Rattle.spec_machine.specs.Coming.{Told, Tells, Shows, Stops}
+use Rattle.spec_machine.specs.Coming.{Shows, Stops}
 use Rattle.spec_transcript.specs.Purposes.{answer_end, more_line, no_line, ball_line}
 use Rattle.spec_transcript.specs.Session.{Asker, ADirective, AQuery, Session, Reading, Searching, Marks, unmarked, Reader}
 use Rattle.spec_session.specs.Parts.{an_error, a_stop, StopsAnswer}
@@ -20,7 +19,7 @@ use Rattle.spec_endings.specs.Outside.{Outside, given}
 use Rattle.cq_transcript.specs.Sentences.{Program}
 use Rattle.cq_transcript.specs.Events.{TellsNext, GoesOn, AnswersNext}
 use Rattle.cq_transcript.specs.Progress.{RunsIn, Advanced, Broken, marks_of}
-use Rattle.cq_transcript.specs.Searches.{Answers, HasCome, behind_answer, marks_behind}
+use Rattle.cq_transcript.specs.Searches.{Answers, HasCome}
 use Rattle.cq_transcript.specs.declared.halt.Halt.{Halt}
 use Rattle.cq_transcript.specs.declared.halt.Halt.TheVariants.{Write, Memory}
 use Rattle.cq_transcript.specs.declared.halt.Lines.{Lines}
@@ -172,7 +171,7 @@ module _ (b : Budgets) (Before Stands : Search → Type 0) (IsAnswer : State →
 
   pub comes_answering : (Later : Search → Type 0) → ((t : Search) → Stands t → Later t)
       → ((s t : Search) → Answers b IsAnswer s t → (o : Outside) (r : Reader)
-        → Advanced b o (Searching s (AQuery names left) r) unmarked (Searching t (AQuery names (left - 1)) r) mid now)
+      → Advanced b o (Searching s (AQuery names left) r) unmarked (Searching t (AQuery names (left - 1)) r) mid now)
       → HasCome b Later s who (AQuery names (left - 1)) held now
   comes_answering Later later whole = record {
     reached = e.next.after;

@@ -5,7 +5,7 @@ use Rattle.cq_outside.specs.Bytes.{Adds, Appends, Begins}
 use Rattle.cq_outside.proofs.Told.{appends_more}
 use Rattle.spec_lists.specs.Texts.{Text}
 use Rattle.spec_stops.specs.Causes.{Budgets}
-use Rattle.spec_transcript.specs.Session.{Session, Mark, plain_line, Marks, marked, unmarked, Step, none, then}
+use Rattle.spec_transcript.specs.Session.{Session, Mark, Marks, marked, unmarked, Step, none, then}
 use Rattle.spec_session.specs.Parts.{both}
 use Rattle.spec_session.proofs.Joined.{joined}
 use Rattle.spec_endings.specs.Outside.{Outside, given}

@@ -1,5 +1,5 @@
 -- Why and where the transcript of files and of the input breaks off, and what that says of counts.
-use Rattle.std.specs.Prelude.{◌≡◌, ◌⊎◌, ◌<◌, ◌≤◌, ℕ, List, [], ◌∷◌, ◌++◌, length, take, true, Option, Some, None, Ok, Err, Result, IfSome, ⊤}
+use Rattle.std.specs.Prelude.{◌≡◌, ◌⊎◌, ◌<◌, ◌≤◌, ℕ, List, ◌∷◌, ◌++◌, length, take, true, Option, Some, None, Ok, Err, Result, IfSome, ⊤}
 use Rattle.cq_outside.specs.Counts.{Rose, RoseBeyond}
 use Rattle.cq_outside.specs.Files.{Files, IsTooLarge}
 use Rattle.cq_outside.specs.declared.shelf.TheConstants.{SIZE_LIMIT}

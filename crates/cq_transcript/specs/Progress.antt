@@ -1,5 +1,5 @@
 -- How far a transcript came: the steps that were taken, and what was appended to what `out` holds.
-use Rattle.std.specs.Prelude.{◌≡◌, ◌<◌, ◌≤◌, ℕ, List, [], ◌∷◌, ◌++◌, length, true, false, Bool, Option, Some, None, Ok, Err, Result, ⊤}
+use Rattle.std.specs.Prelude.{◌≡◌, ℕ, List, ◌++◌, Option, Ok, Err, Result}
 use Rattle.cq_outside.specs.Counts.{Rose}
 use Rattle.cq_outside.specs.Bytes.{Adds, Appends}
 use Rattle.spec_lists.specs.Texts.{Text}

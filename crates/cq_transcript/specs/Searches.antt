@@ -1,5 +1,5 @@
 -- How far the search of a query or a directive came.
-use Rattle.std.specs.Prelude.{ℕ, ◌-◌, List, false, Option, Some, None}
+use Rattle.std.specs.Prelude.{ℕ, ◌-◌, List, Option, Some, None}
 use Rattle.spec_operators.specs.Operators.{Ops}
 use Rattle.spec_syntax.specs.TextTokens.{VariableName}
 use Rattle.spec_branch.specs.Branch.{State}

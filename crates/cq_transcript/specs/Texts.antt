@@ -1,5 +1,5 @@
 -- How far the transcript of a text came.
-use Rattle.std.specs.Prelude.{◌≡◌, ◌<◌, ◌≤◌, ℕ, List, [], ◌∷◌, ◌++◌, length, true, false, Bool, Option}
+use Rattle.std.specs.Prelude.{◌≡◌, ◌<◌, ℕ, List, [], ◌++◌, true, false, Option}
 use Rattle.cq_read.specs.Inputs.{Input}
 use Rattle.spec_reading.specs.Decided.{Decided}
 use Rattle.spec_reading.specs.Readings.{Reads, Ended}

@@ -1,5 +1,5 @@
 -- What a run's ending says together with the counts: where nothing stands in the way, it is whole.
-use Rattle.std.proofs.Common.{◌≡◌, ◌<◌, ◌≤◌, ℕ, List, [], ◌∷◌, ◌++◌, Bool, Option, Some, None, true, false, if◌then◌else◌, is_some, inl, inr, length, refl, sym, ap, ◌∙◌, subst, arith, length-append}
+use Rattle.std.proofs.Common.{◌≡◌, ◌≤◌, ℕ, List, [], ◌++◌, Bool, Option, Some, None, true, false, if◌then◌else◌, is_some, inl, inr, length, refl, subst, arith, length-append}
 use Rattle.std.specs.Prelude.{nat_le}
 use Rattle.std.specs.List.{AllByRecursion}
 use Rattle.std.proofs.lemmas.Bool.{leb-true}
@@ -8,12 +8,11 @@ use Rattle.cq_outside.specs.declared.shelf.TheConstants.{SIZE_LIMIT}
 use Rattle.cq_words.specs.Asked.{Asked}
 use Rattle.spec_lists.specs.Texts.{Text}
 use Rattle.spec_stops.specs.Causes.{Budgets}
-use Rattle.spec_search.specs.Database.{initial}
 use Rattle.spec_transcript.specs.Session as session
 use Rattle.spec_transcript.specs.Session.{Session, Opening, Reading, Searching, Over, Mark, plain_line, error_line, stop_line, Marks, Step, Runs, none}
 use Rattle.spec_endings.specs.declared.status.Status.{Status}
 use Rattle.spec_endings.specs.declared.status.Status.TheVariants.{Done, Faulty, BadWords, NoFile, ReadFault, WriteFault, Stopped, NoMemory}
-use Rattle.spec_endings.specs.Outside.{Outside, budgets_of, given, within_size, Reaches, ComesToFile}
+use Rattle.spec_endings.specs.Outside.{Outside, budgets_of, given, within_size, ComesToFile}
 use Rattle.spec_endings.specs.Endings as ending
 use Rattle.spec_endings.specs.Endings.{Ends, IsLine}
 use Rattle.spec_endings.specs.Causes.{Counts, Caused, Completeness, IsClear, IsGiven, IsWhole}

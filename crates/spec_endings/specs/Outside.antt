@@ -1,5 +1,5 @@
 -- What a run reads, and how far it came.
-use Rattle.std.specs.Prelude.{◌≡◌, ◌≤◌, ℕ, List, [], ◌∷◌, length, Option, Some, None, if◌then◌else◌, nat_le}
+use Rattle.std.specs.Prelude.{◌≡◌, ◌≤◌, ℕ, List, ◌∷◌, length, Option, Some, None, if◌then◌else◌, nat_le}
 use Rattle.cq_outside.specs.Files.{Files}
 use Rattle.cq_outside.specs.declared.shelf.TheConstants.{SIZE_LIMIT}
 use Rattle.cq_words.specs.Asked.{Asked}

@@ -1,4 +1,3 @@
-use Rattle.std.proofs.Common.{◌∙◌, ap, refl}
 use Rattle.std.proofs.lemmas.Result.{err_from_is_err_and}
 use Rattle.cq_transcript.proofs.Consulting.{missing_breaks, reader, reader_is_at, text_broken, text_ends, goals_broken, file_whole}
 use Rattle.cq_transcript.proofs.files.write_file.Goals as goal
@@ -21,10 +20,10 @@ returns-in_err-lines-clause-part g c =
     let held = g.O.Sink.held c.args.out.now in
     rw (p.1, p.2)
     (λ o left names told.
-        let l = rw told at c.in_ok-text.ensures.text in
-        text_broken b o from c.args.name.now names c.in_ok-text.text held l.0 l.1 l.2 c.requires.none_waits _ left _
-        (c.in_err-lines.ensures.part o (reader b o from c.args.name.now names c.in_ok-text.text held l.0 l.1 l.2 c.requires.none_waits)
-        (reader_is_at b o from c.args.name.now names c.in_ok-text.text held l.0 l.1 l.2 c.requires.none_waits)))
+    let l = rw told at c.in_ok-text.ensures.text in
+    text_broken b o from c.args.name.now names c.in_ok-text.text held l.0 l.1 l.2 c.requires.none_waits _ left _
+    (c.in_err-lines.ensures.part o (reader b o from c.args.name.now names c.in_ok-text.text held l.0 l.1 l.2 c.requires.none_waits)
+    (reader_is_at b o from c.args.name.now names c.in_ok-text.text held l.0 l.1 l.2 c.requires.none_waits)))
 
 pub returns-in_err-more-clause-part : goal.returns-in_err-more-clause-part
 returns-in_err-more-clause-part g c =
@@ -36,12 +35,12 @@ returns-in_err-more-clause-part g c =
     let part = rw e.budgets at c.in_err-more.ensures.part in
     rw (p.1, p.2)
     (λ o left names told.
-        let l = rw told at c.in_ok-text.ensures.text in
-        let at = reader_is_at b o from c.args.name.now names c.in_ok-text.text held l.0 l.1 l.2 c.requires.none_waits in
-        let stands = e.whole o (reader b o from c.args.name.now names c.in_ok-text.text held l.0 l.1 l.2 c.requires.none_waits) at in
-        goals_broken b o from c.args.name.now names c.in_ok-text.text held l.0 l.1 l.2 c.requires.none_waits _ _ _ c.write_text.new.text _ e.bytes e.finished stands e.pause _ left _
-        (part o stands.reader _ stands.is_at.later
-        (text_ends b o from c.args.name.now names c.in_ok-text.text held l.0 l.1 l.2 c.requires.none_waits _ _ _ c.write_text.new.text _ e.bytes e.finished stands e.pause)))
+    let l = rw told at c.in_ok-text.ensures.text in
+    let at = reader_is_at b o from c.args.name.now names c.in_ok-text.text held l.0 l.1 l.2 c.requires.none_waits in
+    let stands = e.whole o (reader b o from c.args.name.now names c.in_ok-text.text held l.0 l.1 l.2 c.requires.none_waits) at in
+    goals_broken b o from c.args.name.now names c.in_ok-text.text held l.0 l.1 l.2 c.requires.none_waits _ _ _ c.write_text.new.text _ e.bytes e.finished stands e.pause _ left _
+    (part o stands.reader _ stands.is_at.later
+    (text_ends b o from c.args.name.now names c.in_ok-text.text held l.0 l.1 l.2 c.requires.none_waits _ _ _ c.write_text.new.text _ e.bytes e.finished stands e.pause)))
 
 pub returns-clause-whole : goal.returns-clause-whole
 returns-clause-whole g c =
@@ -52,12 +51,12 @@ returns-clause-whole g c =
     let whole = rw e.budgets at c.in_ok-more.ensures.whole in
     rw c.and.ensures
     (λ o names told.
-        let l = rw told at c.in_ok-text.ensures.text in
-        let at = reader_is_at b o from c.args.name.now names c.in_ok-text.text held l.0 l.1 l.2 c.requires.none_waits in
-        let stands = e.whole o (reader b o from c.args.name.now names c.in_ok-text.text held l.0 l.1 l.2 c.requires.none_waits) at in
-        file_whole b o from c.args.name.now names c.in_ok-text.text held l.0 l.1 l.2 c.requires.none_waits _ _ _ c.write_text.new.text _ e.bytes e.finished stands e.pause _ (g.P.Interpreter.program c.write_waiting.new.program) _
-        (whole o stands.reader _ stands.is_at.later
-        (text_ends b o from c.args.name.now names c.in_ok-text.text held l.0 l.1 l.2 c.requires.none_waits _ _ _ c.write_text.new.text _ e.bytes e.finished stands e.pause)))
+    let l = rw told at c.in_ok-text.ensures.text in
+    let at = reader_is_at b o from c.args.name.now names c.in_ok-text.text held l.0 l.1 l.2 c.requires.none_waits in
+    let stands = e.whole o (reader b o from c.args.name.now names c.in_ok-text.text held l.0 l.1 l.2 c.requires.none_waits) at in
+    file_whole b o from c.args.name.now names c.in_ok-text.text held l.0 l.1 l.2 c.requires.none_waits _ _ _ c.write_text.new.text _ e.bytes e.finished stands e.pause _ (g.P.Interpreter.program c.write_waiting.new.program) _
+    (whole o stands.reader _ stands.is_at.later
+    (text_ends b o from c.args.name.now names c.in_ok-text.text held l.0 l.1 l.2 c.requires.none_waits _ _ _ c.write_text.new.text _ e.bytes e.finished stands e.pause)))
 
 pub returns-clause-cause : goal.returns-clause-cause
 returns-clause-cause g c = λ failed taken. rw (c.in_ok-more.ensures.cause, c.in_ok-lines.ensures.cause) (c.in_ok-text.ensures.cause failed taken (g.O.Sink.faults c.args.out.now))

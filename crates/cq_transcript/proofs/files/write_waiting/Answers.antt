@@ -1,4 +1,4 @@
-use Rattle.std.proofs.Common.{◌∙◌, ap, refl}
+use Rattle.std.proofs.Common.{◌∙◌, refl}
 use Rattle.std.proofs.lemmas.Result.{err_from_is_err_and}
 use Rattle.cq_transcript.proofs.Steps.{memory_here}
 use Rattle.cq_transcript.proofs.Consulting.{none_begun, goal_more, goal_broken}
@@ -43,5 +43,5 @@ returns-in_err-more-clause-part g c =
     let part = rw (first.budgets, i.budgets) at c.in_err-more.ensures.part in
     rw (p.1, p.2)
     (λ o r ops same ends.
-        goal_broken _ o r ops ends _ _ _ (g.P.Interpreter.program c.begin_later.new.self) _ _ (i.advanced o r ops same ends) b.0 b.1 b.3.base b.2 b.4 _ _
-        (part _ b.3.stands o (record r { later = (g.P.Interpreter.program c.begin_later.new.self).later })))
+    goal_broken _ o r ops ends _ _ _ (g.P.Interpreter.program c.begin_later.new.self) _ _ (i.advanced o r ops same ends) b.0 b.1 b.3.base b.2 b.4 _ _
+    (part _ b.3.stands o (record r { later = (g.P.Interpreter.program c.begin_later.new.self).later })))

@@ -1,7 +1,6 @@
-use Rattle.std.proofs.Common.{◌≡◌, ◌<◌, ◌≤◌, ◌∙◌, ◌++◌, take, drop, refl, sym, ap, subst, arith, length, append-nil}
+use Rattle.std.proofs.Common.{◌≡◌, ◌≤◌, ◌∙◌, ◌++◌, take, drop, refl, sym, ap, subst, arith, length, append-nil}
 use Rattle.std.proofs.lemmas.Result.{err_from_is_err_and}
 use Rattle.std.specs.Io.KnownBytes.{Consumes}
-use Rattle.cq_outside.specs.Whole.{TakesBytes}
 use Rattle.cq_outside.specs.declared.shelf.TheConstants.{SIZE_LIMIT}
 use Rattle.cq_transcript.specs.declared.input.Piece.{Piece}
 use Rattle.cq_transcript.proofs.Inputs.{rests, rest_at_end, takes_none, takes_more, room_more, place_more, unfinished_yet, undecided_yet, split_more, none_waits, opens_input, stands_in, text_breaks, reads_on, piece_breaks, input_read, limit_passed}
@@ -30,8 +29,8 @@ returns-in_err-pause-clause-part g c =
     let part = rw i.budgets at c.in_err-pause.ensures.part in
     rw (p.1, p.2)
     (λ o told.
-        let r = rests o _ _ c.pieces.text.bytes told i.taken.consumed in
-        text_breaks _ o _ _ (g.P.Interpreter.program c.pieces.program) c.pieces.text _ _ (i.stands o told) i.none_waits r.rest r.split (λ f. rest_at_end o _ _ r (i.finished f)) _ _ _ (part o))
+    let r = rests o _ _ c.pieces.text.bytes told i.taken.consumed in
+    text_breaks _ o _ _ (g.P.Interpreter.program c.pieces.program) c.pieces.text _ _ (i.stands o told) i.none_waits r.rest r.split (λ f. rest_at_end o _ _ r (i.finished f)) _ _ _ (part o))
 
 pub returns-in-End-clause-whole : goal.returns-in-End-clause-whole
 returns-in-End-clause-whole g c =
@@ -44,11 +43,11 @@ returns-in-End-clause-whole g c =
     let small : length c.write_text.new.text.bytes ≤ SIZE_LIMIT = subst (λ l. length l ≤ SIZE_LIMIT) (sym e.bytes) (omega (arith, i.room)) in
     rw c.and-lines.ensures
     (λ o told.
-        let r = rests o _ _ c.pieces.text.bytes told i.taken.consumed in
-        let s = rests o _ _ c.write_text.new.text.bytes told (subst (λ l. Consumes (g.I.Source.left c.args.input.now) (g.I.Source.left c.pieces.input) l) (sym e.bytes) i.taken.consumed) in
-        input_read _ o _ _ (g.P.Interpreter.program c.write_text.new.program) c.write_text.new.text _ _
-        (reads_on _ o _ _ (g.P.Interpreter.program c.pieces.program) c.pieces.text _ _ (i.stands o told) i.none_waits r.rest r.split (λ f. rest_at_end o _ _ r (i.finished f)) _
-        (g.P.Interpreter.program c.write_text.new.program) c.write_text.new.text _ nothing (whole o)) _ s at_end small pause.1)
+    let r = rests o _ _ c.pieces.text.bytes told i.taken.consumed in
+    let s = rests o _ _ c.write_text.new.text.bytes told (subst (λ l. Consumes (g.I.Source.left c.args.input.now) (g.I.Source.left c.pieces.input) l) (sym e.bytes) i.taken.consumed) in
+    input_read _ o _ _ (g.P.Interpreter.program c.write_text.new.program) c.write_text.new.text _ _
+    (reads_on _ o _ _ (g.P.Interpreter.program c.pieces.program) c.pieces.text _ _ (i.stands o told) i.none_waits r.rest r.split (λ f. rest_at_end o _ _ r (i.finished f)) _
+    (g.P.Interpreter.program c.write_text.new.program) c.write_text.new.text _ nothing (whole o)) _ s at_end small pause.1)
 
 pub returns-in_err-left-clause-part : goal.returns-in_err-left-clause-part
 returns-in_err-left-clause-part g c =
@@ -60,11 +59,11 @@ returns-in_err-left-clause-part g c =
     let nothing = none_waits _ (g.P.Interpreter.program c.pieces.program) (g.P.Interpreter.program c.write_text.new.program) c.pieces.text c.write_text.new.text _ _ _ whole i.none_waits in
     rw (p.1, p.2)
     (λ o told.
-        let r = rests o _ _ c.pieces.text.bytes told i.taken.consumed in
-        let s = rests o _ _ c.write_text.new.text.bytes told (subst (λ l. Consumes (g.I.Source.left c.args.input.now) (g.I.Source.left c.pieces.input) l) (sym e.bytes) i.taken.consumed) in
-        piece_breaks _ o _ _ (g.P.Interpreter.program c.write_text.new.program) c.write_text.new.text _ _
-        (reads_on _ o _ _ (g.P.Interpreter.program c.pieces.program) c.pieces.text _ _ (i.stands o told) i.none_waits r.rest r.split (λ f. rest_at_end o _ _ r (i.finished f)) _
-        (g.P.Interpreter.program c.write_text.new.program) c.write_text.new.text _ nothing (whole o)) _ _ Piece _ _ _ s c.in_err-left.ensures.unread c.in_err-left.ensures.cause e.place pause.1)
+    let r = rests o _ _ c.pieces.text.bytes told i.taken.consumed in
+    let s = rests o _ _ c.write_text.new.text.bytes told (subst (λ l. Consumes (g.I.Source.left c.args.input.now) (g.I.Source.left c.pieces.input) l) (sym e.bytes) i.taken.consumed) in
+    piece_breaks _ o _ _ (g.P.Interpreter.program c.write_text.new.program) c.write_text.new.text _ _
+    (reads_on _ o _ _ (g.P.Interpreter.program c.pieces.program) c.pieces.text _ _ (i.stands o told) i.none_waits r.rest r.split (λ f. rest_at_end o _ _ r (i.finished f)) _
+    (g.P.Interpreter.program c.write_text.new.program) c.write_text.new.text _ nothing (whole o)) _ _ Piece _ _ _ s c.in_err-left.ensures.unread c.in_err-left.ensures.cause e.place pause.1)
 
 pub pieces-preserved-in-Bytes : goal.pieces-preserved-in-Bytes
 pieces-preserved-in-Bytes g c =
@@ -133,20 +132,20 @@ returns-in_err-write_text-in-TooMuch-clause-part g c =
     let nothing = none_waits _ from mid c.pieces.text c.write_text.new.text _ _ _ whole i.none_waits in
     let piece = rw c.in-TooMuch.is at c.in_ok-left.ensures.piece in
     let bytes : c.read_piece.new.text.bytes ≡ c.pieces.text.bytes ++ take c.pieces.room piece.0 =
-        ap (λ x. x.bytes) piece.3 ∙ ap (λ l. l ++ take c.pieces.room piece.0) e.bytes in
+    ap (λ x. x.bytes) piece.3 ∙ ap (λ l. l ++ take c.pieces.room piece.0) e.bytes in
     let taken = (takes_more _ _ _ _ _ _ _ _ i.taken piece.1).consumed in
     let part = rw (e.budgets, i.budgets) at c.in_err-write_text-in-TooMuch.ensures.part in
     rw (p.1, p.2)
     (λ o told.
-        let r = rests o _ _ c.pieces.text.bytes told i.taken.consumed in
-        let t = rests o _ _ (c.pieces.text.bytes ++ piece.0) told taken in
-        let stands =
-            stands_in _ o _ _ mid c.write_text.new.text _ _
-            (reads_on _ o _ _ from c.pieces.text _ _ (i.stands o told) i.none_waits r.rest r.split (λ f. rest_at_end o _ _ r (i.finished f)) _ mid c.write_text.new.text _ nothing (whole o))
-            c.read_piece.new.text (ap (λ x. x.place) piece.3) in
-        let split = t.split ∙ split_more c.pieces.text.bytes piece.0 t.rest c.pieces.room ∙ ap (λ l. l ++ (drop c.pieces.room piece.0 ++ t.rest)) (sym bytes) in
-        text_breaks _ o _ _ mid c.read_piece.new.text _ _ stands nothing (drop c.pieces.room piece.0 ++ t.rest) split
-        (λ f. unfinished_yet _ _ _ _ (ap (λ x. x.finished) piece.3) refl pause.0 f) _ _ _ (part o))
+    let r = rests o _ _ c.pieces.text.bytes told i.taken.consumed in
+    let t = rests o _ _ (c.pieces.text.bytes ++ piece.0) told taken in
+    let stands =
+    stands_in _ o _ _ mid c.write_text.new.text _ _
+    (reads_on _ o _ _ from c.pieces.text _ _ (i.stands o told) i.none_waits r.rest r.split (λ f. rest_at_end o _ _ r (i.finished f)) _ mid c.write_text.new.text _ nothing (whole o))
+    c.read_piece.new.text (ap (λ x. x.place) piece.3) in
+    let split = t.split ∙ split_more c.pieces.text.bytes piece.0 t.rest c.pieces.room ∙ ap (λ l. l ++ (drop c.pieces.room piece.0 ++ t.rest)) (sym bytes) in
+    text_breaks _ o _ _ mid c.read_piece.new.text _ _ stands nothing (drop c.pieces.room piece.0 ++ t.rest) split
+    (λ f. unfinished_yet _ _ _ _ (ap (λ x. x.finished) piece.3) refl pause.0 f) _ _ _ (part o))
 
 pub returns-in-TooMuch-clause-part : goal.returns-in-TooMuch-clause-part
 returns-in-TooMuch-clause-part g c =
@@ -159,22 +158,22 @@ returns-in-TooMuch-clause-part g c =
     let nothing = none_waits _ from mid c.pieces.text c.write_text.new.text _ _ _ whole i.none_waits in
     let piece = rw c.in-TooMuch.is at c.in_ok-left.ensures.piece in
     let bytes : c.read_piece.new.text.bytes ≡ c.pieces.text.bytes ++ take c.pieces.room piece.0 =
-        ap (λ x. x.bytes) piece.3 ∙ ap (λ l. l ++ take c.pieces.room piece.0) e.bytes in
+    ap (λ x. x.bytes) piece.3 ∙ ap (λ l. l ++ take c.pieces.room piece.0) e.bytes in
     let taken = (takes_more _ _ _ _ _ _ _ _ i.taken piece.1).consumed in
     let second = c.in_ok-write_text-in-TooMuch.ensures in
     let behind = rw (e.budgets, i.budgets) at second.whole in
     let last = g.P.Interpreter.program c.write_text-in-TooMuch.new.program in
     let still = none_waits _ mid last c.read_piece.new.text c.write_text-in-TooMuch.new.text _ _ _ behind nothing in
     λ o told.
-        let r = rests o _ _ c.pieces.text.bytes told i.taken.consumed in
-        let t = rests o _ _ (c.pieces.text.bytes ++ piece.0) told taken in
-        let stands =
-            stands_in _ o _ _ mid c.write_text.new.text _ _
-            (reads_on _ o _ _ from c.pieces.text _ _ (i.stands o told) i.none_waits r.rest r.split (λ f. rest_at_end o _ _ r (i.finished f)) _ mid c.write_text.new.text _ nothing (whole o))
-            c.read_piece.new.text (ap (λ x. x.place) piece.3) in
-        let split = t.split ∙ split_more c.pieces.text.bytes piece.0 t.rest c.pieces.room ∙ ap (λ l. l ++ (drop c.pieces.room piece.0 ++ t.rest)) (sym bytes) in
-        limit_passed _ o _ _ last c.pieces.text c.write_text-in-TooMuch.new.text _ _
-        (reads_on _ o _ _ mid c.read_piece.new.text _ _ stands nothing (drop c.pieces.room piece.0 ++ t.rest) split
-        (λ f. unfinished_yet _ _ _ _ (ap (λ x. x.finished) piece.3) refl pause.0 f) _ last c.write_text-in-TooMuch.new.text _ still (behind o))
-        piece.0 c.pieces.room (second.bytes ∙ bytes) i.room piece.2 _ t second.place
-        (undecided_yet _ last c.write_text-in-TooMuch.new.text second.pause (second.finished ∙ ap (λ x. x.finished) piece.3 ∙ pause.0))
+    let r = rests o _ _ c.pieces.text.bytes told i.taken.consumed in
+    let t = rests o _ _ (c.pieces.text.bytes ++ piece.0) told taken in
+    let stands =
+    stands_in _ o _ _ mid c.write_text.new.text _ _
+    (reads_on _ o _ _ from c.pieces.text _ _ (i.stands o told) i.none_waits r.rest r.split (λ f. rest_at_end o _ _ r (i.finished f)) _ mid c.write_text.new.text _ nothing (whole o))
+    c.read_piece.new.text (ap (λ x. x.place) piece.3) in
+    let split = t.split ∙ split_more c.pieces.text.bytes piece.0 t.rest c.pieces.room ∙ ap (λ l. l ++ (drop c.pieces.room piece.0 ++ t.rest)) (sym bytes) in
+    limit_passed _ o _ _ last c.pieces.text c.write_text-in-TooMuch.new.text _ _
+    (reads_on _ o _ _ mid c.read_piece.new.text _ _ stands nothing (drop c.pieces.room piece.0 ++ t.rest) split
+    (λ f. unfinished_yet _ _ _ _ (ap (λ x. x.finished) piece.3) refl pause.0 f) _ last c.write_text-in-TooMuch.new.text _ still (behind o))
+    piece.0 c.pieces.room (second.bytes ∙ bytes) i.room piece.2 _ t second.place
+    (undecided_yet _ last c.write_text-in-TooMuch.new.text second.pause (second.finished ∙ ap (λ x. x.finished) piece.3 ∙ pause.0))

@@ -100,7 +100,7 @@ returns-in_err-write_directive-in-Directive-clause-part g c =
     let part = rw c.in_ok-read.ensures.budgets at c.in_err-write_directive-in-Directive.ensures.part in
     rw (p.1, p.2)
     (λ o r at. search_broken r _ _ _ at _ o (g.P.Interpreter.program c.read.new.self) c.read.new.text _ _ _
-        (directive_step r _ _ _ at _ o c.read.new.text h.0 h.1 h.3.base h.2) _ (part _ h.3.stands o (record r { at = c.read.new.text.place })))
+    (directive_step r _ _ _ at _ o c.read.new.text h.0 h.1 h.3.base h.2) _ (part _ h.3.stands o (record r { at = c.read.new.text.place })))
 
 pub returns-in_ok-write_directive-in-Directive-clause-whole :
     goal.returns-in_ok-write_directive-in-Directive-clause-whole
@@ -110,8 +110,8 @@ returns-in_ok-write_directive-in-Directive-clause-whole g c =
     let done = c.in_ok-write_directive-in-Directive.ensures in
     let whole = rw e.budgets at done.whole in
     λ o r at. searched r _ _ _ at _ o _ c.read.new.text _ _ _
-        (directive_step r _ _ _ at _ o c.read.new.text h.0 h.1 h.3.base h.2) _ e.bytes e.finished (done.later ∙ ap (λ x. x.later) h.4)
-        (whole _ h.3.stands o (record r { at = c.read.new.text.place }))
+    (directive_step r _ _ _ at _ o c.read.new.text h.0 h.1 h.3.base h.2) _ e.bytes e.finished (done.later ∙ ap (λ x. x.later) h.4)
+    (whole _ h.3.stands o (record r { at = c.read.new.text.place }))
 
 pub write_query-requires : goal.write_query-requires
 write_query-requires g c =
@@ -126,7 +126,7 @@ returns-in_err-write_query-in-Query-clause-part g c =
     let part = rw c.in_ok-read.ensures.budgets at c.in_err-write_query-in-Query.ensures.part in
     rw (p.1, p.2)
     (λ o r at. search_broken r _ _ _ at _ o (g.P.Interpreter.program c.read.new.self) c.read.new.text _ _ _
-        (query_step r _ _ _ at _ o c.read.new.text h.0 h.1 h.3.base _ _ h.2 c.requires.answers h.3.names_are) _ (part _ h.3.stands o (record r { at = c.read.new.text.place })))
+    (query_step r _ _ _ at _ o c.read.new.text h.0 h.1 h.3.base _ _ h.2 c.requires.answers h.3.names_are) _ (part _ h.3.stands o (record r { at = c.read.new.text.place })))
 
 pub returns-in_ok-write_query-in-Query-clause-whole :
     goal.returns-in_ok-write_query-in-Query-clause-whole
@@ -136,5 +136,5 @@ returns-in_ok-write_query-in-Query-clause-whole g c =
     let done = c.in_ok-write_query-in-Query.ensures in
     let whole = rw e.budgets at done.whole in
     λ o r at. searched r _ _ _ at _ o _ c.read.new.text _ _ _
-        (query_step r _ _ _ at _ o c.read.new.text h.0 h.1 h.3.base _ _ h.2 c.requires.answers h.3.names_are) _ e.bytes e.finished (done.later ∙ ap (λ x. x.later) h.4)
-        (whole _ h.3.stands o (record r { at = c.read.new.text.place }))
+    (query_step r _ _ _ at _ o c.read.new.text h.0 h.1 h.3.base _ _ h.2 c.requires.answers h.3.names_are) _ e.bytes e.finished (done.later ∙ ap (λ x. x.later) h.4)
+    (whole _ h.3.stands o (record r { at = c.read.new.text.place }))

@@ -1,6 +1,5 @@
-use Rattle.std.proofs.Common.{◌∙◌, ap, sym, refl, subst, arith}
+use Rattle.std.proofs.Common.{◌∙◌, refl}
 use Rattle.std.proofs.lemmas.Result.{err_from_is_err_and}
-use Rattle.cq_transcript.specs.Texts.{StandsAt}
 use Rattle.cq_transcript.proofs.Steps.{broken_more}
 use Rattle.cq_transcript.proofs.Clauses.{stands_at_once, stands_both}
 use Rattle.cq_transcript.proofs.reading.write_text.Goals as goal
@@ -23,8 +22,8 @@ returns-in_err-pause-clause-part g c =
     let part = rw i.budgets at c.in_err-pause.ensures.part in
     rw (p.1, p.2)
     (λ o r at.
-        let h = i.stands o r at in
-        broken_more _ o _ _ _ _ _ h.advanced _ _ (part o h.reader h.is_at))
+    let h = i.stands o r at in
+    broken_more _ o _ _ _ _ _ h.advanced _ _ (part o h.reader h.is_at))
 
 pub returns-in-Pauses-clause-whole : goal.returns-in-Pauses-clause-whole
 returns-in-Pauses-clause-whole g c =

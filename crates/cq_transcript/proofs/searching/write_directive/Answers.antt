@@ -1,4 +1,4 @@
-use Rattle.std.proofs.Common.{◌∙◌, ap, refl, arith}
+use Rattle.std.proofs.Common.{◌∙◌, ap, refl}
 use Rattle.std.proofs.lemmas.Result.{err_from_is_err_and}
 use Rattle.spec_transcript.specs.Session.{ADirective}
 use Rattle.cq_transcript.proofs.Steps.{appends_nothing}
@@ -27,8 +27,8 @@ returns-in_err-write_whole-in-Wrote-clause-part g c =
     let part = rw c.deref.ensures.value at c.in_err-write_whole-in-Wrote.ensures.part in
     rw (p.1, p.2)
     (λ s stands o r.
-        let h = i.came s stands in
-        breaks_writing _ _ _ _ _ s ADirective ADirective _ _ h c.in-Wrote.text.items _ (event h.reached h.stands) part o r)
+    let h = i.came s stands in
+    breaks_writing _ _ _ _ _ s ADirective ADirective _ _ h c.in-Wrote.text.items _ (event h.reached h.stands) part o r)
 
 pub events-preserved : goal.events-preserved
 events-preserved g c =
@@ -50,8 +50,8 @@ returns-in-Answer-clause-whole g c =
     let event = rw (c.in-Answer.is, i.budgets) at c.in_ok-text.ensures.event in
     rw c.none.ensures
     (λ s stands o r.
-        let h = i.came s stands in
-        ended _ _ _ ADirective ADirective _ _ _ i.came _ _ _ (ends_succeeding _ _ _ _ _ _ event) s stands o r (appends_nothing _))
+    let h = i.came s stands in
+    ended _ _ _ ADirective ADirective _ _ _ i.came _ _ _ (ends_succeeding _ _ _ _ _ _ event) s stands o r (appends_nothing _))
 
 pub returns-in-Fail-clause-whole : goal.returns-in-Fail-clause-whole
 returns-in-Fail-clause-whole g c =

@@ -1,8 +1,6 @@
-use Rattle.std.proofs.Common.{◌-◌, ◌∙◌, sym, subst, ap, refl, arith}
+use Rattle.std.proofs.Common.{◌∙◌, ap, refl, arith}
 use Rattle.std.proofs.lemmas.Result.{err_from_is_err_and}
 use Rattle.spec_transcript.specs.Session.{AQuery}
-use Rattle.cq_transcript.specs.Searches.{HasCome}
-use Rattle.cq_transcript.proofs.Counting.{writes_before}
 use Rattle.cq_transcript.proofs.Searches.{comes_at_once, comes_writing, breaks_writing, ends_failing, ends_raising, ends_stopping, finished, unfinished, wants_memory, comes_answering, ends_answering, breaks_answering}
 use Rattle.cq_transcript.proofs.searching.write_query.Goals as goal
 
@@ -36,8 +34,8 @@ returns-in_err-write_whole-in-Wrote-clause-part g c =
     let part = rw c.deref.ensures.value at c.in_err-write_whole-in-Wrote.ensures.part in
     rw (p.1, p.2)
     (λ s stands o r.
-        let h = i.came s stands in
-        breaks_writing _ _ _ _ _ s (AQuery (g.P.Interpreter.names c.args.program.now) c.args.answers) (AQuery (g.P.Interpreter.names c.events.program) c.events.left) _ _ h c.in-Wrote.text.items _ (event h.reached h.stands) part o r)
+    let h = i.came s stands in
+    breaks_writing _ _ _ _ _ s (AQuery (g.P.Interpreter.names c.args.program.now) c.args.answers) (AQuery (g.P.Interpreter.names c.events.program) c.events.left) _ _ h c.in-Wrote.text.items _ (event h.reached h.stands) part o r)
 
 pub events-preserved-in-Wrote : goal.events-preserved-in-Wrote
 events-preserved-in-Wrote g c =
@@ -73,8 +71,8 @@ returns-in_err-lines-in-Answer-clause-part g c =
     let part = rw (c.in_ok-text.ensures.budgets, i.budgets, c.in_ok-text.ensures.names) at c.in_err-lines-in-Answer.ensures.part in
     rw (p.1, p.2)
     (λ s stands o r.
-        let h = i.came s stands in
-        breaks_answering _ _ _ _ _ _ s (AQuery (g.P.Interpreter.names c.args.program.now) c.args.answers) _ _ _ _ _ h (event h.reached h.stands) _ part o r)
+    let h = i.came s stands in
+    breaks_answering _ _ _ _ _ _ s (AQuery (g.P.Interpreter.names c.args.program.now) c.args.answers) _ _ _ _ _ h (event h.reached h.stands) _ part o r)
 
 pub returns-in-Some-clause-whole : goal.returns-in-Some-clause-whole
 returns-in-Some-clause-whole g c =
@@ -83,8 +81,8 @@ returns-in-Some-clause-whole g c =
     let whole = rw (c.in-Some.is, c.in_ok-text.ensures.budgets, i.budgets, c.in_ok-text.ensures.names) at c.in_ok-lines-in-Answer.ensures.whole in
     rw c.in_ok-lines-in-Answer.ensures.program
     (λ s stands o r.
-        let h = i.came s stands in
-        ends_answering _ _ _ _ _ _ s (AQuery (g.P.Interpreter.names c.args.program.now) c.args.answers) _ _ _ _ _ h (event h.reached h.stands) _ whole o r)
+    let h = i.came s stands in
+    ends_answering _ _ _ _ _ _ s (AQuery (g.P.Interpreter.names c.args.program.now) c.args.answers) _ _ _ _ _ h (event h.reached h.stands) _ whole o r)
 
 pub events-preserved : goal.events-preserved
 events-preserved g c =

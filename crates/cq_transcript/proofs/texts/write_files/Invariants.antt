@@ -1,4 +1,4 @@
-use Rattle.std.proofs.Common.{◌≡◌, [], List, ℕ, drop, map, Some}
+use Rattle.std.proofs.Common.{◌≡◌, [], ℕ, drop, map, Some}
 use Rattle.spec_transcript.specs.Session.{Opening}
 use Rattle.spec_endings.specs.Causes.{counted}
 use Rattle.spec_endings.specs.Outside.{Outside}

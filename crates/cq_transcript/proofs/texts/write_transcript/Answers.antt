@@ -10,8 +10,8 @@ returns-in_err-before-clause-part g c =
     let part = c.in_err-before.ensures.part in
     rw (p.1, p.2)
     (λ o a told budgets files.
-        let broken = part o (g.I.Source.left c.args.input.now) (told_files _ _ o told) in
-        halts o a _ _ _ _ (rw (budgets, c.requires.new, ← files) at broken))
+    let broken = part o (g.I.Source.left c.args.input.now) (told_files _ _ o told) in
+    halts o a _ _ _ _ (rw (budgets, c.requires.new, ← files) at broken))
 
 pub returns-in_err-before-clause-cause : goal.returns-in_err-before-clause-cause
 returns-in_err-before-clause-cause g c =
@@ -25,8 +25,8 @@ returns-in_err-behind-clause-part g c =
     let part = rw e.budgets at c.in_err-behind.ensures.part in
     rw (p.1, p.2)
     (λ o a told budgets files.
-        let broken = breaks_more _ o _ _ _ _ _ _ (e.whole o (told_files _ _ o told)) _ _ (part o (told_input _ _ o told)) in
-        halts o a _ _ _ _ (rw (budgets, c.requires.new, ← files) at broken))
+    let broken = breaks_more _ o _ _ _ _ _ _ (e.whole o (told_files _ _ o told)) _ _ (part o (told_input _ _ o told)) in
+    halts o a _ _ _ _ (rw (budgets, c.requires.new, ← files) at broken))
 
 pub returns-in_err-behind-clause-cause : goal.returns-in_err-behind-clause-cause
 returns-in_err-behind-clause-cause g c =
@@ -41,6 +41,6 @@ returns-clause-whole g c =
     let whole = rw e.budgets at c.in_ok-behind.ensures.whole in
     rw c.and.ensures
     (λ o a told budgets files.
-        let input = whole o (told_input _ _ o told) in
-        let advanced = advanced_both _ o _ _ _ _ _ (e.whole o (told_files _ _ o told)) _ _ _ input.advanced in
-        record { database = input.database; advanced = rw (budgets, c.requires.new, ← files) at advanced; size = input.size; read = input.read })
+    let input = whole o (told_input _ _ o told) in
+    let advanced = advanced_both _ o _ _ _ _ _ (e.whole o (told_files _ _ o told)) _ _ _ input.advanced in
+    record { database = input.database; advanced = rw (budgets, c.requires.new, ← files) at advanced; size = input.size; read = input.read })
