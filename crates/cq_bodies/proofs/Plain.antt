@@ -4,7 +4,6 @@ use Rattle.std.specs.Prelude.{if◌then◌else◌}
 use Rattle.spec_lists.specs.Texts.{Text}
 use Rattle.spec_terms.specs.Term.{Var, Number, Name, Compound, one, more, named}
 use Rattle.spec_syntax.specs.Trees.{Tree, binary}
-use Rattle.spec_built.specs.Built.{compound1}
 use Rattle.spec_built.specs.Bodies.{converted_body, is_control}
 use Rattle.spec_built.specs.Kinds.{is_variable}
 use Rattle.cq_term.specs.Meaning.{HeapTerm}
@@ -24,9 +23,3 @@ module _ (g : ℕ → Text) where
   other_is (Compound f (one t)) e n = refl
   other_is (Compound f (more t (one u))) e n = cc
   other_is (Compound f (more t (more u us))) e n = refl
-
-pub variable_is : (t : Tree) → is_variable t ≡ true → converted_body t ≡ compound1 "call" t
-variable_is (Var v) e = refl
-variable_is (Number q) e = cc
-variable_is (Name a) e = cc
-variable_is (Compound f ts) e = cc

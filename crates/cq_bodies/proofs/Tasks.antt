@@ -1,9 +1,9 @@
 -- Tasks that are done one after another, the last first.
-use Rattle.std.proofs.Common.{◌≡◌, ◌∙◌, ℕ, ◌+◌, ◌*◌, ◌<◌, Bool, true, false, List, [], ◌∷◌, ◌++◌, map, reverse, length, All, Option, Some, None, refl, sym, ap, ap₂, arith, subst}
+use Rattle.std.proofs.Common.{◌≡◌, ◌∙◌, ℕ, ◌+◌, ◌<◌, Bool, true, false, List, [], ◌∷◌, ◌++◌, reverse, length, All, Option, Some, None, refl, sym, ap, ap₂, arith}
 use Rattle.std.specs.Prelude.{nat_lt}
 use Rattle.std.proofs.lemmas.Bool.{ltb-true, ltb-false}
 use Rattle.std.proofs.lemmas.List.{map-append, reverse-append, length-reverse, length-map}
-use Rattle.std.proofs.lemmas.List.Elements.{All-nil, All-push, All-same, All-pop, All-head, All-tail, All-weaker}
+use Rattle.std.proofs.lemmas.List.Elements.{All-push, All-same, All-pop, All-head, All-tail, All-weaker}
 use Rattle.spec_lists.specs.Texts.{Text}
 use Rattle.spec_lists.specs.Prefixes.{IsPrefix}
 use Rattle.spec_lists.proofs.Prefixes.{prefix_length, prefix_same}
@@ -146,23 +146,12 @@ module _ (texts : List Text) (ts : List HeapTerm) (tasks new : List Task) (done 
 -- ---- the loop
 
 module _ (texts : List Text) (ts : List HeapTerm) (whole : Tree) where
-  pub starts : (id : ℕ) (tasks : List Task) (done : List ℕ) → id < length ts → tasks ≡ task.Part id ∷ [] → done ≡ [] → whole ≡ converted_body (tree texts ts id)
-      → IsUnderWay texts ts whole tasks done
-  starts id tasks done live t d is = record {
-    leads = ap₂ (λ xs ys. after_all (works texts ts xs) (Some (done_trees texts ts ys))) t d ∙ ap (λ x. Some (x ∷ [])) (sym is);
-    tasks_live = All-same (IsLiveTask texts ts) tasks (task.Part id ∷ []) t (All-push (IsLiveTask texts ts) [] (task.Part id) (All-nil (IsLiveTask texts ts)) live);
-    done_live = All-same (λ x. x < length ts) done [] d (All-nil (λ x. x < length ts));
-  }
-
   module _ (tasks old : List Task) (done : List ℕ) (t : Task) (h : IsUnderWay texts ts whole tasks done) (n : tasks ≡ old ++ t ∷ []) where
     popped : All (IsLiveTask texts ts) old × IsLiveTask texts ts t
     popped = All-pop (IsLiveTask texts ts) tasks old (Some t) n h.tasks_live
 
     pub old_live : All (IsLiveTask texts ts) old
     old_live = popped.0
-
-    pub task_live : IsLiveTask texts ts t
-    task_live = popped.1
 
     leads : after_all (works texts ts old) (after (work_of texts ts t) (Some (done_trees texts ts done))) ≡ Some (whole ∷ [])
     leads =
@@ -207,12 +196,3 @@ module _ (texts : List Text) (ts : List HeapTerm) (whole : Tree) where
           let stuck : None ≡ Some (whole ∷ []) =
           sym (nothing_after (works texts ts old)) ∙ ap (after_all (works texts ts old)) (sym none) ∙ leads tasks old done (task.Join name) h n in
           cc
-
-  pub ends : (tasks : List Task) (done rest : List ℕ) (id : ℕ) → IsUnderWay texts ts whole tasks done → length tasks ≡ 0 → done ≡ rest ++ id ∷ [] → tree texts ts id ≡ whole
-  ends [] done rest id h n e = let k : Some (tree texts ts id ∷ done_trees texts ts rest) ≡ Some (whole ∷ []) = ap Some (sym (done_last texts ts rest done id e)) ∙ h.leads in cc
-  ends (t ∷ tasks) done rest id h n e = absurd (omega (arith, n))
-
-  pub some_done : (tasks : List Task) (done : List ℕ) → IsUnderWay texts ts whole tasks done → length tasks ≡ 0 → 0 < length done
-  some_done [] [] h n = let k : Some [] ≡ Some (whole ∷ []) = h.leads in cc
-  some_done [] (d ∷ done) h n = omega arith
-  some_done (t ∷ tasks) done h n = absurd (omega (arith, n))

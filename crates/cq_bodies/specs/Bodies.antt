@@ -1,9 +1,10 @@
 -- A body that is converted part by part.
-use Rattle.std.specs.Prelude.{◌≡◌, ℕ, ◌+◌, ◌*◌, ◌<◌, List, [], ◌∷◌, map, reverse, length, All, Option, Some, None, true, ⊤}
+use Rattle.std.specs.Prelude.{◌≡◌, ℕ, ◌+◌, ◌*◌, ◌<◌, List, [], ◌∷◌, map, reverse, length, All, Option, Some, None, true, false, ⊤}
 use Rattle.spec_lists.specs.Texts.{Text}
 use Rattle.spec_terms.specs.Term.{size}
 use Rattle.spec_syntax.specs.Trees.{Tree, binary}
 use Rattle.spec_built.specs.Bodies.{converted_body, is_control}
+use Rattle.spec_built.specs.Kinds.{is_variable}
 use Rattle.cq_atoms.specs.Texts.{text_of}
 use Rattle.cq_term.specs.Meaning.{HeapTerm}
 use Rattle.cq_term.specs.Trees.{tree, trees}
@@ -17,6 +18,10 @@ pub record IsConstruct (texts : List Text) (ts : List HeapTerm) (id : ℕ) (s : 
   pub sides : HasSides ts id s
   pub control : is_control (text_of texts s.name) ≡ true
   pub known : s.name < length texts
+
+-- but for a variable, it is stored as it is
+abbrev pub IsPlain : Tree → Type 0
+IsPlain t = is_variable t ≡ false → converted_body t ≡ t
 
 -- ---- what is still to be done
 

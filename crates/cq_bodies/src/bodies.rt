@@ -1,13 +1,12 @@
 // Bodies on a heap, converted part by part.
 
-ghost use Rattle.std.specs.Prelude.{◌≡◌, ◌<◌, All, Some, codes, false, length, slice_get, IfOk, IfSome, IsNone, OnOk};
+ghost use Rattle.std.specs.Prelude.{◌≡◌, ◌<◌, All, Some, codes, length, slice_get, IfOk, IfSome, IsNone, OnOk};
 ghost use Rattle.spec_terms.specs.Term.{with_arguments};
 ghost use Rattle.spec_built.specs.Bodies.{converted_body, is_control};
-ghost use Rattle.spec_built.specs.Kinds.{is_variable};
 ghost use Rattle.cq_atoms.specs.Texts.{text_of};
 ghost use Rattle.cq_term.specs.Trees.{tree, trees, KnowsTerms};
 ghost use Rattle.cq_built.specs.Growing.{Grows};
-ghost use Rattle.cq_bodies.specs.Bodies.{IsConstruct, IsLiveTask, CanJoin, Turns};
+ghost use Rattle.cq_bodies.specs.Bodies.{IsConstruct, IsPlain, IsLiveTask, CanJoin, Turns};
 
 use cq_atoms::Atoms;
 use cq_kinds::is_variable;
@@ -99,7 +98,7 @@ fn goal_of(heap: &mut Heap, atoms: &Atoms, call: Atom, id: TermId) -> Result<Ter
     requires live { id < length heap.old.now.terms }
     requires names { KnowsTerms atoms.now heap.old.now.terms }
     requires call { slice_get atoms.now call ≡ Some (codes "call") }
-    requires plain { is_variable (tree atoms.now heap.old.now.terms id) ≡ false → converted_body (tree atoms.now heap.old.now.terms id) ≡ tree atoms.now heap.old.now.terms id }
+    requires plain { IsPlain (tree atoms.now heap.old.now.terms id) }
     ensures live { IfOk result (λ goal. goal < length heap.new.now.terms) }
     ensures converted { IfOk result (λ goal. tree atoms.now heap.new.now.terms goal ≡ converted_body (tree atoms.now heap.old.now.terms id)) }
     ensures grows { Grows atoms.now heap.old atoms.now heap.new }
@@ -129,8 +128,7 @@ fn construct_of(heap: &Heap, atoms: &Atoms, id: TermId) -> Option<Sides>
     requires live { id < length heap.now.now.terms }
     requires names { KnowsTerms atoms.now heap.now.now.terms }
     ensures some { IfSome result (IsConstruct atoms.now heap.now.now.terms id) }
-    ensures none { IsNone result → is_variable (tree atoms.now heap.now.now.terms id) ≡ false
-        → converted_body (tree atoms.now heap.now.now.terms id) ≡ tree atoms.now heap.now.now.terms id }
+    ensures none { IsNone result → IsPlain (tree atoms.now heap.now.now.terms id) }
 {
     let sides = sides_of(heap, id)?;
     if is_control(atoms.text(sides.name)) {

@@ -1,3 +1,3 @@
-pub mod Marks
+pub mod Unary
 pub mod Refused
 pub mod Added

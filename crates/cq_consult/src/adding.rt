@@ -24,8 +24,9 @@ use cq_table::Builtin;
 use cq_term::{Heap, Pred, TermId};
 use std::alloc::AllocError;
 
-/// Adds a clause, or builds the term of the ball where it is refused. An error is want of memory; names and terms may then stay.
-pub(crate) fn add_clause(
+/// Adds a clause behind the others of its predicate, as `consult` does, where no machine is at hand. An error is want of memory; names
+/// and terms may then stay.
+pub fn add_clause(
     heap: &mut Heap,
     atoms: &mut Atoms,
     clauses: &mut Clauses<ProgramClause>,

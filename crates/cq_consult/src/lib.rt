@@ -5,5 +5,6 @@ mod adding;
 mod consulting;
 mod purposes;
 
+pub use adding::add_clause;
 pub use consulting::consult;
 pub use purposes::{Purpose, Source, purpose_of};

@@ -1,5 +1,5 @@
 -- What is written of an answer whose lines were made, or where a fault came.
-use Rattle.std.proofs.Common.{◌≡◌, ℕ, List, refl, sym, subst, Result, Ok, Err}
+use Rattle.std.proofs.Common.{◌≡◌, ℕ, refl, sym, subst, Result, Ok, Err}
 use Rattle.std.specs.Prelude.{Vec, IfOk, IfErr}
 use Rattle.std.specs.declared.alloc.Global.{Global}
 use Rattle.spec_operators.specs.Operators.{Ops}
@@ -31,7 +31,7 @@ module _ (t : Toplevel) (made : Result (Vec ℕ Global) ProjectFault)
     (lines_of : IfOk made (λ text. (st : State) → IsReadyIn t st → AnswerForm (database_of t.engine.machine).operators (names_of t) st text.items))
     (refused : (pair : Pair) → made ≡ Err (Overflow pair) → (st : State) → IsReadyIn t st → IsRefusedAnswering (wanted (names_of t) st) st.linear pair)
     (spent : (n : ℕ) → made ≡ Err (Pivots n) → (st : State) → IsReadyIn t st
-        → (n ≡ t.engine.machine.world.first.store.pivots) × IsSpentAnswering (wanted (names_of t) st) st.linear n)
+    → (n ≡ t.engine.machine.world.first.store.pivots) × IsSpentAnswering (wanted (names_of t) st) st.linear n)
     (limit : IfErr made (λ fault. (st : State) → IsReadyIn t st → IfRows fault (IsProjectionDue (wanted (names_of t) st) st.linear 4096))) where
   written_as : (r : Result (Vec ℕ Global) ProjectFault) → made ≡ r → (a : Answered) → IsWritten r a → IsAnswered (budgets_of t) (HasAnswered t) (names_of t) a
   written_as (Ok text) e (answered.Lines lines) w =

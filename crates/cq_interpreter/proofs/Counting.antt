@@ -1,5 +1,5 @@
 -- Turns keep the variables of all branches.
-use Rattle.std.proofs.Common.{◌≡◌, ℕ, zero, suc, ◌≤◌, ◌-◌, List, [], ◌∷◌, ◌++◌, length, drop, Bool, true, false, cond, eqb, Option, Some, None, refl, sym, subst, arith}
+use Rattle.std.proofs.Common.{◌≡◌, ℕ, zero, suc, ◌≤◌, ◌-◌, List, [], ◌∷◌, ◌++◌, length, drop, Bool, true, false, cond, eqb, Option, Some, None, subst}
 use Rattle.std.specs.Prelude.{⊤}
 use Rattle.std.specs.List.{cons_option}
 use Rattle.spec_lists.specs.Texts.{Text}
@@ -9,8 +9,7 @@ use Rattle.spec_branch.specs.Branch.{read, State, Sleeper, Copied, Item, Goal, C
 use Rattle.spec_branch.specs.Settling as settling
 use Rattle.spec_branch.specs.Settling.{SleeperState, Sleeps, Wakes, state_of, woken_item, woken, Outcome, Kept, Pruned, SettlesUnified, Settles, bindings_after}
 use Rattle.spec_search.specs.Balls.{handed, last}
-use Rattle.spec_search.specs.Replies.{Place, Made, Makes, WithCopy, IfEntailed, WithExtent}
-use Rattle.spec_search.specs.Rows.{reply_of}
+use Rattle.spec_search.specs.Replies.{Place}
 use Rattle.spec_search.specs.Steps as steps
 use Rattle.spec_search.specs.Steps.{Stepped, Ball, Children, Steps}
 use Rattle.spec_search.specs.Search.{Search, Look, Over, Settling, Moving, Collecting, Selecting, Answering, look_at, look_at_branch, look_at_items, gather, gathered_items}

@@ -1,20 +1,17 @@
 -- What an engine tells is what its interpreter tells.
-use Rattle.std.proofs.Common.{◌≡◌, ℕ, ◌+◌, ◌-◌, ◌<◌, ◌≤◌, List, [], ◌∷◌, ◌++◌, length, map, refl, sym, ap, ◌∙◌, subst, arith}
-use Rattle.std.specs.Prelude.{⊤, All}
+use Rattle.std.proofs.Common.{◌≡◌, ℕ, ◌<◌, List, length, map, refl, sym, ap, ◌∙◌, subst, arith}
+use Rattle.std.specs.Prelude.{All}
 use Rattle.std.proofs.lemmas.List.Elements.{All-weaker}
 use Rattle.spec_echelon.specs.Echelon.{AreDistinct}
-use Rattle.spec_lists.specs.Texts.{Text}
-use Rattle.spec_operators.specs.Operators.{Ops}
 use Rattle.spec_terms.specs.VariableName.{VariableName}
-use Rattle.spec_branch.specs.Branch.{State, plain_copy}
+use Rattle.spec_branch.specs.Branch.{plain_copy}
 use Rattle.spec_search.specs.Database.{Database}
 use Rattle.spec_search.specs.Search.{Search}
-use Rattle.spec_search.specs.Turns as turn
-use Rattle.spec_stops.specs.Causes.{Budgets, stop_text}
-use Rattle.spec_machine.specs.Coming.{Told, Shows}
+use Rattle.spec_stops.specs.Causes.{Budgets}
+use Rattle.spec_machine.specs.Coming.{Told}
 use Rattle.spec_transcript.specs.Purposes.{ball_line}
 use Rattle.cq_term.specs.Trees.{tree}
-use Rattle.cq_machine.specs.Machines.{database_of, now, terms}
+use Rattle.cq_machine.specs.Machines.{database_of, terms}
 use Rattle.cq_engine.specs.Fronts.{as_cause}
 use Rattle.cq_events.specs.Events as engine
 use Rattle.cq_events.specs.Events.{IsRunning, HasBudgets, Stands, Gives, GivesNext, HasCounted}
@@ -22,13 +19,12 @@ use Rattle.cq_events.specs.declared.engine.Engine.{Engine}
 use Rattle.cq_events.specs.declared.event.Event as events
 use Rattle.cq_events.specs.declared.event.Event.TheVariants as told
 use Rattle.cq_transcript.specs.Events.{TellsNext, IsEvent, TakesFrom}
-use Rattle.cq_transcript.specs.Sentences.{Program}
 use Rattle.cq_transcript.specs.declared.interpreter.Event.{Event}
 use Rattle.cq_transcript.specs.declared.interpreter.Event.TheVariants as event
 use Rattle.cq_interpreter.specs.Counted.{AllCount}
 use Rattle.cq_interpreter.specs.Numbered.{AreNumbered}
 use Rattle.cq_interpreter.specs.Told.{HasTerm, IsTold}
-use Rattle.cq_interpreter.specs.Toplevels.{texts, images, program_of, budgets_of, left_of, IsAsking, HasAnswered}
+use Rattle.cq_interpreter.specs.Toplevels.{images, program_of, budgets_of, left_of, IsAsking, HasAnswered}
 use Rattle.cq_interpreter.specs.declared.toplevel.Toplevel.{Toplevel}
 use Rattle.cq_interpreter.proofs.Counting.{told_counts, quietly_counts, answer_counts}
 use Rattle.cq_interpreter.proofs.Naming.{all_below, distinct}
@@ -94,9 +90,11 @@ module _ (old new : Toplevel) (names : new.names.items ≡ old.names.items) (run
   is_event s asking told.Fail g f t =
       subst (IsEvent (budgets_of old) (IsAsking new) (HasAnswered new) (program_of old) (program_of new) s) (sym t) (tells_at s _ g)
   is_event s asking (told.Ball id) g (event.Ball line) t =
-      let m = new.engine.machine in
-      (plain_copy (tree m.atoms (terms m) id), tells_at s _ g.tells,
-      t ∙ ap (λ (d : Database). ball_line d.operators (tree m.atoms (terms m) id)) (sym g.tells.stands.database))
+      let m = new.engine.machine in (
+        plain_copy (tree m.atoms (terms m) id),
+        tells_at s _ g.tells,
+        t ∙ ap (λ (d : Database). ball_line d.operators (tree m.atoms (terms m) id)) (sym g.tells.stands.database),
+      )
   is_event s asking (told.Ball id) g (event.Wrote text) t = absurd t
   is_event s asking (told.Ball id) g event.Answer t = absurd t
   is_event s asking (told.Ball id) g event.Fail t = absurd t

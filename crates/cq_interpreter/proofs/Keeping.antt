@@ -1,12 +1,12 @@
 -- A goal that is kept behind all variables has the variables that it had.
-use Rattle.std.proofs.Common.{◌≡◌, ℕ, zero, suc, ◌+◌, ◌<◌, ◌≤◌, List, [], ◌∷◌, ◌++◌, map, length, get_or, Bool, true, false, cond, eqb, refl, sym, ap, ◌∙◌, arith, inl, inr, append_assoc}
+use Rattle.std.proofs.Common.{◌≡◌, ℕ, zero, suc, ◌+◌, ◌<◌, List, [], ◌∷◌, ◌++◌, map, length, get_or, true, false, cond, eqb, refl, ap, ◌∙◌, arith, inl, inr, append_assoc}
 use Rattle.std.specs.Prelude.{⊤, ◌==◌}
 use Rattle.std.specs.List.{list_any, position_or_len}
 use Rattle.std.proofs.lemmas.Bool.{eq-eqb, ne_eqb}
 use Rattle.std.proofs.lemmas.List.Folds.{list_any_at}
 use Rattle.std.proofs.lemmas.List.Sums.{position_or_len_is}
-use Rattle.spec_terms.specs.Term.{Terms, Subst, Var, Number, Name, Compound, one, more, Occurs, OccursIn, apply, identity, terms_of, with_arguments}
-use Rattle.spec_terms.specs.Variables.{with_variable, variables_after, variables_in, variables, numbered_from, renamed_from, counted_from}
+use Rattle.spec_terms.specs.Term.{Terms, Var, Number, Name, Compound, one, more, Occurs, OccursIn, apply, identity, terms_of, with_arguments}
+use Rattle.spec_terms.specs.Variables.{variables_after, variables_in, variables, numbered_from, renamed_from, counted_from}
 use Rattle.spec_terms.proofs.Substitution.{apply_agree, apply-identity}
 use Rattle.cq_term.specs.Meaning.{HeapTerm}
 use Rattle.cq_unify.specs.Copied.{unbound_from}

@@ -1,5 +1,5 @@
 -- The names of a clause are numbered in the order in which they are read.
-use Rattle.std.proofs.Common.{◌≡◌, ◌⊎◌, inl, inr, ℕ, suc, ◌+◌, ◌<◌, ◌≤◌, List, [], ◌∷◌, ◌++◌, map, length, Bool, true, false, Option, Some, None, cond, codes, bytes_eq, refl, arith}
+use Rattle.std.proofs.Common.{inl, inr, ℕ, suc, ◌+◌, ◌<◌, ◌≤◌, List, [], ◌∷◌, ◌++◌, map, Bool, true, false, Option, Some, None, cond, codes, bytes_eq, arith}
 use Rattle.std.specs.Prelude.{⊤, All}
 use Rattle.std.proofs.lemmas.List.Elements.{All-nil, All-cons}
 use Rattle.spec_echelon.specs.Echelon.{AreDistinct}
@@ -11,7 +11,6 @@ use Rattle.spec_grammar.specs.Tokens as lexical
 use Rattle.spec_grammar.specs.Tokens.{bytes_of}
 use Rattle.spec_operators.specs.Operators.{Ops}
 use Rattle.spec_syntax.specs.Tokens.{Token}
-use Rattle.spec_syntax.specs.Trees.{Tree}
 use Rattle.spec_syntax.specs.TextTokens.{VariableName, Variables, known, with_name, with_variable, variables_after}
 use Rattle.spec_reading.specs.Later.{name_later}
 use Rattle.spec_reading.specs.Readings as readings

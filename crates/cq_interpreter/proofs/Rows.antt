@@ -1,5 +1,5 @@
 -- What a selected goal comes to has as many variables as its branch.
-use Rattle.std.proofs.Common.{◌≡◌, ℕ, ◌+◌, ◌≤◌, List, [], ◌∷◌, map, length, Bool, true, false, Option, Some, None, if◌then◌else◌, codes, bytes_eq, ◌||◌, ◌==◌, arith}
+use Rattle.std.proofs.Common.{ℕ, ◌+◌, ◌≤◌, List, [], ◌∷◌, map, length, Bool, true, false, Option, Some, None, if◌then◌else◌, codes, bytes_eq, ◌||◌, ◌==◌, arith}
 use Rattle.std.specs.Prelude.{⊤, drop}
 use Rattle.std.specs.List.{list_any}
 use Rattle.spec_rational.specs.Rational.{ℚ}

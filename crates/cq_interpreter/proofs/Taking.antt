@@ -1,21 +1,19 @@
 -- What is read where the heap has no variable.
-use Rattle.std.proofs.Common.{◌≡◌, ◌⊎◌, ℕ, ◌+◌, List, [], ◌∷◌, length, map, true, refl, sym, ap, ◌∙◌, subst, arith}
-use Rattle.std.specs.Prelude.{⊤, Some, None}
+use Rattle.std.proofs.Common.{◌≡◌, ℕ, ◌+◌, List, [], ◌∷◌, length, map, refl, sym, ap, ◌∙◌, subst, arith}
 use Rattle.spec_operators.specs.Operators.{Ops}
 use Rattle.spec_terms.specs.Term.{Var, identity}
 use Rattle.spec_terms.proofs.Substitution.{apply_agree, apply-identity}
 use Rattle.spec_syntax.specs.TextTokens.{VariableName, Variables}
 use Rattle.spec_syntax.specs.Trees.{Tree}
-use Rattle.spec_reading.specs.Decided.{Decided}
 use Rattle.spec_reading.specs.Later.{tree_later, name_later, variables_later, read_later}
 use Rattle.spec_reading.specs.Readings.{Read, Clause, Ended, Syntax, Reads}
 use Rattle.spec_search.specs.Database.{Database}
 use Rattle.spec_search.specs.Search.{Search, start}
 use Rattle.spec_transcript.specs.Purposes.{Purpose, Fact, Initialization, Directive, Query, purpose}
-use Rattle.spec_transcript.specs.Session.{begun, names_from}
+use Rattle.spec_transcript.specs.Session.{begun}
 use Rattle.cq_read.specs.Inputs.{Input}
 use Rattle.cq_read.specs.Shown.{IsReadOf}
-use Rattle.cq_transcript.specs.Sentences.{Program, as_source, IsSettled, IsFor, Begins, Asks, IsSentence, Moved, MovesOn}
+use Rattle.cq_transcript.specs.Sentences.{Program, as_source, IsSettled, IsFor, Begins, Asks, IsSentence}
 use Rattle.cq_transcript.specs.declared.interpreter.Source.{Source}
 use Rattle.cq_transcript.specs.declared.interpreter.Sentence.{Sentence}
 use Rattle.cq_transcript.specs.declared.interpreter.Sentence.TheVariants as sentence
@@ -24,7 +22,7 @@ use Rattle.cq_term.specs.HeapValue.{Terms}
 use Rattle.cq_term.specs.Trees.{tree}
 use Rattle.cq_read.specs.Names.{variables}
 use Rattle.cq_read.specs.Feeds.{place_after}
-use Rattle.cq_read.specs.Shown.{read_of, IsForward}
+use Rattle.cq_read.specs.Shown.{read_of}
 use Rattle.cq_read.specs.declared.reading.Read as done
 use Rattle.cq_read.specs.declared.reading.Read.TheVariants as here
 use Rattle.cq_interpreter.specs.Numbered.{IsNumbered}
@@ -90,16 +88,6 @@ module _ (Stands : Search → Type 0) (names : List VariableName) (s : Source) (
   pub taken : (r : Sentence) → IsTaken Stands names p q vs (purpose (as_source s) t) r → IsSentence Stands names s p old q new r
   taken r h = taken_for (purpose (as_source s) t) refl r h
 
-pub moves : (old new : Input) (r : Sentence) → Moved old new → MovesOn old new r
-moves old new sentence.Needs h = tt
-moves old new sentence.End h = tt
-moves old new (sentence.Syntax at) h = h
-moves old new sentence.Added h = h
-moves old new (sentence.Refused line) h = h
-moves old new sentence.Waits h = h
-moves old new sentence.Directive h = h
-moves old new sentence.Query h = h
-
 -- ---- behind a reading
 
 pub numbered_read : (ops : Ops) (text : List ℕ) (at : ℕ) (texts : List Text) (heap : Terms) (r : done.Read) → Reads ops text at (read_of texts heap r) → IsNumbered (length heap.images) r
@@ -116,9 +104,3 @@ module _ (Stands : Search → Type 0) (names : List VariableName) (source : Sour
   read_is here.End s settled place h = subst (IsSentence Stands names source p old q new) (sym h.0) (settled, h.1, place)
   read_is (here.Syntax error resume) s settled place h =
       subst (IsSentence Stands names source p old q new) (sym h.0) (subst (λ (k : ℕ). IsSettled p.database.operators old (Syntax error k)) (sym place) settled, h.1)
-
-  pub read_moves : (r : done.Read) (s : Sentence) → IsForward (length old.bytes) old.place r → new.place ≡ place_after old.place r → IsDone Stands names source p q (read_of texts heap r) s
-      → MovesOn old new s
-  read_moves (here.Clause term vs next_) s f place h = moves old new s (omega (arith, f.0, place), omega (arith, f.1, place))
-  read_moves here.End s f place h = subst (MovesOn old new) (sym h.0) tt
-  read_moves (here.Syntax error resume) s f place h = moves old new s (omega (arith, f.2, place), omega (arith, f.3, place))

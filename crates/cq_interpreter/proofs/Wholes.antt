@@ -4,7 +4,6 @@ use Rattle.std.specs.Prelude.{All, Some, slice_get, codes}
 use Rattle.std.proofs.lemmas.List.Elements.{All-head, All-tail, All-weaker}
 use Rattle.spec_lists.specs.Texts.{Text}
 use Rattle.spec_syntax.specs.Trees.{Tree}
-use Rattle.spec_transcript.specs.Session.{Asked}
 use Rattle.cq_atoms.specs.Texts.{text_of, KeepsTexts}
 use Rattle.cq_built.proofs.Trees.{named_alike, name_known}
 use Rattle.cq_write.proofs.Steps.{text_there}

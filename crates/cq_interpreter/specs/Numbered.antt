@@ -1,5 +1,5 @@
 -- Names whose variables are numbered in their order.
-use Rattle.std.specs.Prelude.{ℕ, suc, ◌<◌, ◌≤◌, List, [], ◌∷◌, ⊤}
+use Rattle.std.specs.Prelude.{ℕ, suc, ◌≤◌, List, [], ◌∷◌, ⊤}
 use Rattle.spec_terms.specs.VariableName.{VariableName}
 use Rattle.cq_read.specs.declared.reading.Read.{Read}
 use Rattle.cq_read.specs.declared.reading.Read.TheVariants as read

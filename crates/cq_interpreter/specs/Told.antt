@@ -1,5 +1,5 @@
 -- What an engine tells, and what is written of it.
-use Rattle.std.specs.Prelude.{◌≡◌, ◌<◌, ℕ, List, length, Result, Ok, Err, Vec, ⊤}
+use Rattle.std.specs.Prelude.{◌≡◌, ◌<◌, ℕ, length, Result, Ok, Err, Vec, ⊤}
 use Rattle.std.specs.declared.alloc.Global.{Global}
 use Rattle.spec_stops.specs.Causes as why
 use Rattle.spec_stops.specs.Causes.{Cause, stop_text}

@@ -27,12 +27,7 @@ impl Interpreter for Toplevel {
 
     ghost names = { names_of };
 
-    fn new(
-        alloc: Global,
-        steps: u64,
-        pivots: u64,
-        answers: u64,
-    ) -> Result<Toplevel, AllocError> {
+    fn new(alloc: Global, steps: u64, pivots: u64, answers: u64) -> Result<Toplevel, AllocError> {
         let engine = Engine::new(alloc, pivots)?;
         Toplevel::over(alloc, engine, steps, answers)
     }

@@ -1,4 +1,3 @@
-use Rattle.std.proofs.Common.{◌≡◌}
 use Rattle.spec_built.specs.Bodies.{converted_body}
 use Rattle.cq_built.specs.Growing.{Grows}
 use Rattle.cq_term.specs.Trees.{tree, KnowsTerms}

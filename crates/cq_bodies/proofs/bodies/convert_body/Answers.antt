@@ -1,10 +1,9 @@
-use Rattle.std.proofs.Common.{◌∙◌, ap, refl, codes, arith}
-use Rattle.spec_lists.specs.Prefixes.{IsPrefix}
+use Rattle.std.proofs.Common.{◌∙◌, ap, refl, codes}
 use Rattle.spec_lists.proofs.Prefixes.{prefix_same}
 use Rattle.spec_built.specs.Bodies.{converted_body}
-use Rattle.cq_built.specs.Growing.{Grows}
-use Rattle.cq_built.proofs.Growing.{grows_both, grows_names, known_longer, longer_by_text}
+use Rattle.cq_built.proofs.Growing.{known_longer, longer_by_text}
 use Rattle.cq_built.proofs.Trees.{tree_kept}
+use Rattle.cq_bodies.proofs.Named.{grows_behind_name}
 use Rattle.cq_bodies.proofs.bodies.convert_body.Goals as goal
 
 pub convert-requires-clause-names : goal.convert-requires-clause-names
@@ -13,11 +12,7 @@ convert-requires-clause-names c =
 
 pub returns-in_err-id-clause-grows : goal.returns-in_err-id-clause-grows
 returns-in_err-id-clause-grows c =
-    let texts = c.args.atoms.now in
-    let more = c.intern.new.self in
-    let named : Grows texts c.args.heap.now more c.args.heap.now =
-    grows_names texts more c.args.heap.now c.args.heap.now (longer_by_text texts more (codes "call") c.in_ok-call.ensures.texts) refl refl (omega arith) in
-    grows_both texts more more c.args.heap.now c.args.heap.now c.convert.new.heap named c.in_err-id.ensures.grows
+    grows_behind_name c.args.atoms.now c.intern.new.self (codes "call") c.in_ok-call.ensures.texts c.intern.new.self c.args.heap.now c.convert.new.heap c.in_err-id.ensures.grows
 
 pub returns-clause-converted : goal.returns-clause-converted
 returns-clause-converted c =
@@ -29,8 +24,4 @@ returns-clause-converted c =
 
 pub returns-clause-grows : goal.returns-clause-grows
 returns-clause-grows c =
-    let texts = c.args.atoms.now in
-    let more = c.intern.new.self in
-    let named : Grows texts c.args.heap.now more c.args.heap.now =
-    grows_names texts more c.args.heap.now c.args.heap.now (longer_by_text texts more (codes "call") c.in_ok-call.ensures.texts) refl refl (omega arith) in
-    grows_both texts more more c.args.heap.now c.args.heap.now c.convert.new.heap named c.in_ok-id.ensures.grows
+    grows_behind_name c.args.atoms.now c.intern.new.self (codes "call") c.in_ok-call.ensures.texts c.intern.new.self c.args.heap.now c.convert.new.heap c.in_ok-id.ensures.grows

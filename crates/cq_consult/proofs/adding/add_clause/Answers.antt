@@ -7,8 +7,9 @@ use Rattle.spec_builtins.specs.Clauses.{HeadBody, head_body}
 use Rattle.spec_search.specs.Changes.{consult_error}
 use Rattle.cq_term.proofs.Named.{text_is}
 use Rattle.cq_built.specs.Errors.{error_tree}
-use Rattle.cq_built.proofs.Growing.{known_longer, longer_by_text, grows_both, grows_names}
+use Rattle.cq_built.proofs.Growing.{known_longer, longer_by_text, grows_names}
 use Rattle.cq_built.proofs.Trees.{tree_kept, name_known}
+use Rattle.cq_bodies.proofs.Named.{grows_by_name, grows_behind_name}
 use Rattle.cq_consult.specs.Consulted.{AddsStored}
 use Rattle.cq_consult.proofs.adding.add_clause.Goals as goal
 
@@ -38,19 +39,11 @@ returns-in_ok-add-in-Ok-clause-came c =
 
 pub returns-in_ok-add-in-Ok-clause-grows : goal.returns-in_ok-add-in-Ok-clause-grows
 returns-in_ok-add-in-Ok-clause-grows c =
-    let texts = c.args.atoms.now in
-    let named = c.intern.new.self in
-    let heap = c.args.heap.now in
-    let longer = longer_by_text texts named (codes "assertz") c.in_ok-name.ensures.texts in
-    grows_both texts named c.add.new.atoms heap heap c.add.new.heap (grows_names texts named heap heap longer refl refl (omega arith)) c.in_ok-add-in-Ok.ensures.grows
+    grows_behind_name c.args.atoms.now c.intern.new.self (codes "assertz") c.in_ok-name.ensures.texts c.add.new.atoms c.args.heap.now c.add.new.heap c.in_ok-add-in-Ok.ensures.grows
 
 pub returns-in_err-add-in-Ok-clause-grows : goal.returns-in_err-add-in-Ok-clause-grows
 returns-in_err-add-in-Ok-clause-grows c =
-    let texts = c.args.atoms.now in
-    let named = c.intern.new.self in
-    let heap = c.args.heap.now in
-    let longer = longer_by_text texts named (codes "assertz") c.in_ok-name.ensures.texts in
-    grows_both texts named c.add.new.atoms heap heap c.add.new.heap (grows_names texts named heap heap longer refl refl (omega arith)) c.in_err-add-in-Ok.ensures.grows
+    grows_behind_name c.args.atoms.now c.intern.new.self (codes "assertz") c.in_ok-name.ensures.texts c.add.new.atoms c.args.heap.now c.add.new.heap c.in_err-add-in-Ok.ensures.grows
 
 pub ball-requires-clause-goal : goal.ball-requires-clause-goal
 ball-requires-clause-goal c = name_known c.intern.new.self c.in_ok-name.name (codes "assertz") c.in_ok-name.ensures.number
@@ -74,25 +67,15 @@ returns-in_ok-id-in-Error-clause-came c =
 
 pub returns-in_ok-id-in-Error-clause-grows : goal.returns-in_ok-id-in-Error-clause-grows
 returns-in_ok-id-in-Error-clause-grows c =
-    let texts = c.args.atoms.now in
-    let named = c.intern.new.self in
-    let heap = c.args.heap.now in
-    let longer = longer_by_text texts named (codes "assertz") c.in_ok-name.ensures.texts in
-    grows_both texts named c.ball.new.atoms heap heap c.ball.new.heap (grows_names texts named heap heap longer refl refl (omega arith)) c.in_ok-id-in-Error.ensures.grows
+    grows_behind_name c.args.atoms.now c.intern.new.self (codes "assertz") c.in_ok-name.ensures.texts c.ball.new.atoms c.args.heap.now c.ball.new.heap c.in_ok-id-in-Error.ensures.grows
 
 pub returns-in_err-id-in-Error-clause-grows : goal.returns-in_err-id-in-Error-clause-grows
 returns-in_err-id-in-Error-clause-grows c =
-    let texts = c.args.atoms.now in
-    let named = c.intern.new.self in
-    let heap = c.args.heap.now in
-    let longer = longer_by_text texts named (codes "assertz") c.in_ok-name.ensures.texts in
-    grows_both texts named c.ball.new.atoms heap heap c.ball.new.heap (grows_names texts named heap heap longer refl refl (omega arith)) c.in_err-id-in-Error.ensures.grows
+    grows_behind_name c.args.atoms.now c.intern.new.self (codes "assertz") c.in_ok-name.ensures.texts c.ball.new.atoms c.args.heap.now c.ball.new.heap c.in_err-id-in-Error.ensures.grows
 
 pub returns-in-NoMemory-clause-grows : goal.returns-in-NoMemory-clause-grows
 returns-in-NoMemory-clause-grows c =
-    let texts = c.args.atoms.now in
-    let heap = c.args.heap.now in
-    grows_names texts c.intern.new.self heap heap (longer_by_text texts c.intern.new.self (codes "assertz") c.in_ok-name.ensures.texts) refl refl (omega arith)
+    grows_by_name c.args.atoms.now c.intern.new.self (codes "assertz") c.in_ok-name.ensures.texts c.args.heap.now
 
 pub returns-in_err-name-clause-grows : goal.returns-in_err-name-clause-grows
 returns-in_err-name-clause-grows c =

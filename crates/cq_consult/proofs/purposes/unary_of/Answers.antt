@@ -1,7 +1,7 @@
 use Rattle.std.proofs.Common.{◌∙◌, sym, arith}
 use Rattle.cq_term.specs.Meaning.{at}
 use Rattle.cq_declarations.proofs.Libraries.{has_one, one_argument}
-use Rattle.cq_consult.proofs.Marks.{not_one, no_compound}
+use Rattle.cq_consult.proofs.Unary.{not_one, no_compound}
 use Rattle.cq_consult.proofs.purposes.unary_of.Goals as goal
 
 pub returns-then-arity-ne1-clause-none : goal.returns-then-arity-ne1-clause-none

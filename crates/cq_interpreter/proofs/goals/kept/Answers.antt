@@ -1,5 +1,4 @@
-use Rattle.std.proofs.Common.{◌≡◌, ◌<◌, ◌∙◌, ℕ, List, length, refl, sym, ap, ap₂, subst}
-use Rattle.spec_lists.specs.Texts.{Text}
+use Rattle.std.proofs.Common.{◌≡◌, ◌<◌, ◌∙◌, ℕ, length, sym, ap, ap₂, subst}
 use Rattle.spec_lists.proofs.Prefixes.{prefix_get_or}
 use Rattle.spec_terms.specs.Term.{Occurs, with_arguments}
 use Rattle.spec_terms.specs.Variables.{variables, renamed_from}

@@ -1,6 +1,6 @@
-use Rattle.std.proofs.Common.{◌≡◌, ◌<◌, ◌∙◌, ◌∷◌, List, [], length, map, refl, sym, ap, arith}
+use Rattle.std.proofs.Common.{◌≡◌, ◌∙◌, length, map, ap, arith}
 use Rattle.spec_terms.specs.Term.{with_arguments}
-use Rattle.cq_term.specs.Meaning.{HeapTerm, at}
+use Rattle.cq_term.specs.Meaning.{at}
 use Rattle.cq_unify.specs.Copied.{unbound_from}
 use Rattle.cq_stored.proofs.Built.{last_at}
 use Rattle.cq_interpreter.proofs.Restoring.{the_variables}

@@ -1,4 +1,4 @@
-use Rattle.std.proofs.Common.{List, refl, sym, ap, ◌∙◌, subst}
+use Rattle.std.proofs.Common.{sym, ap, ◌∙◌, subst}
 use Rattle.spec_operators.specs.Operators.{Ops}
 use Rattle.cq_atoms.specs.Texts.{KeepsTexts}
 use Rattle.cq_program.specs.Database.{as_database}

@@ -1,5 +1,4 @@
-use Rattle.std.proofs.Common.{◌≡◌, ◌∷◌, ◌+◌, List, length, map, refl, sym, ap, ◌∙◌, subst}
-use Rattle.spec_search.specs.Database.{Database}
+use Rattle.std.proofs.Common.{◌≡◌, ◌∷◌, length, map, refl, sym, ap, ◌∙◌, subst}
 use Rattle.spec_search.specs.Search.{start}
 use Rattle.spec_transcript.specs.Purposes.{once}
 use Rattle.spec_transcript.specs.Session.{Asked}
@@ -56,7 +55,10 @@ returns-in_ok-direct-in-Some-clause-begun c =
     same_database e.machine c.restored.new.engine.machine c.restored.ensures.same ∙ c.end.ensures.program in
     let g = c.in_ok-goal-in-Some.ensures.restored ∙ ap (λ (x : Asked). tree_later n x.goal) (asked_stays (texts t) e.machine.atoms early w below) in
     let others = all_asked_stay (texts t) c.restored.new.engine.machine.atoms (keeps d) rest (rest_below t w rest c.in-Some.ensures.items c.requires.kept) in
-    let program : program_of (without_first d) ≡ record (program_of t) { later = map (asked (texts t)) rest } = λ i. record { database = db i; later = others i } in
-    (asked (texts t) w, map (asked (texts t)) rest, ap (map (asked (texts t))) c.in-Some.ensures.items,
-    record { base = n; stands = subst (IsAsking c.direct.new.self) (λ i. start (db i) (once (g i)) (c.in_ok-goal-in-Some.ensures.images i)) c.in_ok-direct-in-Some.ensures.asking },
-    c.direct.ensures.program ∙ program)
+    let program : program_of (without_first d) ≡ record (program_of t) { later = map (asked (texts t)) rest } = λ i. record { database = db i; later = others i } in (
+      asked (texts t) w,
+      map (asked (texts t)) rest,
+      ap (map (asked (texts t))) c.in-Some.ensures.items,
+      record { base = n; stands = subst (IsAsking c.direct.new.self) (λ i. start (db i) (once (g i)) (c.in_ok-goal-in-Some.ensures.images i)) c.in_ok-direct-in-Some.ensures.asking },
+      c.direct.ensures.program ∙ program,
+    )

@@ -1,6 +1,6 @@
 use Rattle.std.proofs.Common.{refl, ◌∙◌}
 use Rattle.cq_machine.proofs.Interned.{texts_kept}
-use Rattle.cq_interpreter.specs.Toplevels.{texts, budgets_of, IsWhole}
+use Rattle.cq_interpreter.specs.Toplevels.{texts, budgets_of}
 use Rattle.cq_interpreter.specs.declared.toplevel.Toplevel.{Toplevel}
 use Rattle.cq_interpreter.proofs.Events.{its_budgets, is_event, term_there}
 use Rattle.cq_interpreter.proofs.Wholes.{goals_kept, whole_kept}
@@ -18,8 +18,8 @@ returns-clause-event c =
     let u : Toplevel = record t { engine = c.next.new.self } in
     let keeps = c.next.ensures.keeps in
     λ s asking. is_event t u refl c.next.ensures.running (keeps.steps ∙ asking.steps)
-        (goals_kept t u c.requires.kept (texts_kept (texts t) (texts u) keeps.atoms) refl) s asking c.in_ok-event.event
-        (c.in_ok-event.ensures.event (budgets_of t) (its_budgets t s asking) s asking.stands) c.in_ok-line.line c.in_ok-line.ensures
+    (goals_kept t u c.requires.kept (texts_kept (texts t) (texts u) keeps.atoms) refl) s asking c.in_ok-event.event
+    (c.in_ok-event.ensures.event (budgets_of t) (its_budgets t s asking) s asking.stands) c.in_ok-line.line c.in_ok-line.ensures
 
 pub returns-clause-kept : goal.returns-clause-kept
 returns-clause-kept c =

@@ -4,7 +4,6 @@ use Rattle.spec_search.specs.Database.{Database}
 use Rattle.cq_atoms.specs.Texts.{KeepsTexts}
 use Rattle.cq_ops.specs.Tables.{named}
 use Rattle.cq_machine.proofs.Interned.{texts_kept}
-use Rattle.cq_machine.specs.Machines.{database_of}
 use Rattle.cq_engine.proofs.Engines.{kept_where}
 use Rattle.spec_reading.specs.Decided.{Decided}
 use Rattle.spec_reading.specs.Readings.{Reads}
@@ -93,9 +92,12 @@ returns-in-Needs-clause-sentence c =
     let a = (goal.at.returns-in-Needs-clause-sentence c).After-read_fed in
     let text = c.args.text.now in
     let m = c.read_fed.new.self.machine in
-    let k = subst (IsFed (named m.atoms c.end.new.self.machine.ops) m.atoms text c.end.new.self.machine.world.first.heap.now m.world.first.heap.now) c.in-Needs.is c.in_ok-fed.ensures.fed in
-    (k.0, λ decided. k.1 (subst (λ (o : Ops). Decided o text.bytes text.place) (sym (operators_same a)) decided), program a,
-    c.in_ok-fed.ensures.place ∙ ap (λ (f : Fed). place_behind text.place (Ok f)) c.in-Needs.is)
+    let k = subst (IsFed (named m.atoms c.end.new.self.machine.ops) m.atoms text c.end.new.self.machine.world.first.heap.now m.world.first.heap.now) c.in-Needs.is c.in_ok-fed.ensures.fed in (
+      k.0,
+      λ decided. k.1 (subst (λ (o : Ops). Decided o text.bytes text.place) (sym (operators_same a)) decided),
+      program a,
+      c.in_ok-fed.ensures.place ∙ ap (λ (f : Fed). place_behind text.place (Ok f)) c.in-Needs.is,
+    )
 
 pub returns-in_ok-sentence-in-Read-clause-sentence : goal.returns-in_ok-sentence-in-Read-clause-sentence
 returns-in_ok-sentence-in-Read-clause-sentence c =

@@ -41,6 +41,9 @@ pub returns-in_ok-line-in-Some-clause-added : goal.returns-in_ok-line-in-Some-cl
 returns-in_ok-line-in-Some-clause-added c =
     let t = c.args.self.now in
     let d = (goal.at.returns-in_ok-line-in-Some-clause-added c).After-consult in
-    let k = subst (Consults t.engine.machine c.args.clause c.consult.new.m) c.in-Some.is c.in_ok-refused.ensures.consults in
-    (k.0.error, k.0.refused, c.in_ok-line-in-Some.ensures ∙ (λ i. ball_line (k.1 i).operators (k.0.is_ball i)),
-    program_kept t (after d) c.requires.whole (texts_kept (texts t) (texts (after d)) c.consult.ensures.rest.atoms) refl k.1)
+    let k = subst (Consults t.engine.machine c.args.clause c.consult.new.m) c.in-Some.is c.in_ok-refused.ensures.consults in (
+      k.0.error,
+      k.0.refused,
+      c.in_ok-line-in-Some.ensures ∙ (λ i. ball_line (k.1 i).operators (k.0.is_ball i)),
+      program_kept t (after d) c.requires.whole (texts_kept (texts t) (texts (after d)) c.consult.ensures.rest.atoms) refl k.1,
+    )
