@@ -1,7 +1,7 @@
 // What a run is given, and what it is to do.
 
-use cq_outside::{MemShelf, MemSink, MemSource};
 use cq_interpreter::Toplevel;
+use cq_outside::{MemShelf, MemSink, MemSource};
 use cq_session::run;
 use spec_endings::Status;
 use std::alloc::{AllocError, Global};
@@ -69,12 +69,18 @@ fn shelf_of(alloc: Global, files: &[(&str, &[u8])], fails: &[u64]) -> Result<Mem
 }
 
 /// Whether a run of what is given does what is wanted.
-pub(crate) fn does(alloc: Global, given: Given<'_>, wanted: Wanted<'_>) -> Result<bool, AllocError> {
+pub(crate) fn does(
+    alloc: Global,
+    given: Given<'_>,
+    wanted: Wanted<'_>,
+) -> Result<bool, AllocError> {
     let words = words_of(alloc, given.words)?;
     let mut shelf = shelf_of(alloc, given.files, given.load_fails)?;
     let mut input = MemSource::new(alloc, given.input, given.read_fails, given.piece)?;
     let mut out = MemSink::new(alloc, given.write_fails, given.piece)?;
     let mut err = MemSink::new(alloc, &[], given.piece)?;
-    let status = run::<Toplevel, _, _, _, _>(alloc, &words, &mut shelf, &mut input, &mut out, &mut err);
+    let status = run::<Toplevel, _, _, _, _>(
+        alloc, &words, &mut shelf, &mut input, &mut out, &mut err,
+    );
     Ok(status == wanted.status && out.bytes() == wanted.out && err.bytes() == wanted.line)
 }

@@ -81,7 +81,11 @@ fn first_nested(alloc: Global, depth: usize) -> Result<Option<usize>, AllocError
     ];
     for (i, (begins, opens, inner, closes)) in texts.iter().enumerate() {
         let text = nested(alloc, begins, opens, inner, closes, depth)?;
-        if !does(alloc, input_of(&["run"], text.as_bytes()), done(b"true\n;\nno\n"))? {
+        if !does(
+            alloc,
+            input_of(&["run"], text.as_bytes()),
+            done(b"true\n;\nno\n"),
+        )? {
             return Ok(Some(i));
         }
     }
