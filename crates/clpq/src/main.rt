@@ -1,9 +1,10 @@
-//! The program `clpq`: runs the command of its words over the standard streams.
+//! The program `clpq`: runs the command of its words over the system's files and the standard streams.
 #![tactic(auto)]
 
-use cq_outside::SteadyShelf;
-use cq_real::{ReaderSource, WriterSink};
-use cq_session::{WordsFault, run, run_without_words};
+use cq_interpreter::Toplevel;
+use cq_real::{FileShelf, ReaderSource, WriterSink};
+use cq_session::{run, run_without_words};
+use cq_words::WordsFault;
 use std::io::ErrorKind;
 use std::process::ExitCode;
 use std::{env, io};
@@ -17,21 +18,21 @@ fn words(rt: &HostRuntime) -> io::Result<Vec<String>> {
     Ok(words)
 }
 
-/// Why there are no words, from the system's error.
+/// Why there are no words, from the system's error: a word that is no text is none of the command's language.
 fn words_fault(error: &io::Error) -> WordsFault {
     match error.kind() {
         ErrorKind::OutOfMemory => WordsFault::NoMemory,
-        _ => WordsFault::NotText,
+        _ => WordsFault::BadWords,
     }
 }
 
 fn main(rt: HostRuntime) -> ExitCode {
     let mut err = WriterSink::new(rt.stderr());
     let status = match words(&rt) {
-        Ok(words) => run(
+        Ok(words) => run::<Toplevel, _, _, _, _>(
             rt.alloc(),
             &words,
-            &mut SteadyShelf::new(rt.alloc()),
+            &mut FileShelf::new(&rt),
             &mut ReaderSource::new(rt.stdin()),
             &mut WriterSink::new(rt.stdout()),
             &mut err,

@@ -1,3 +1,3 @@
-pub mod Whole
-pub mod Steps
-pub mod Endings
+pub mod Asked
+pub mod Lines
+pub mod Outcomes

@@ -1,3 +1,1 @@
-pub mod Words
-pub mod Outcome
-pub mod Progress
+pub mod Outcomes

@@ -1,9 +1,0 @@
-use Rattle.std.proofs.Common.{arith}
-use Rattle.std.proofs.lemmas.Grind.{common_steps}
-use Rattle.spec_equations.specs.Answer.{name_among}
-use Rattle.cq_project.specs.Rows.{monomial_of}
-use Rattle.cq_answer.proofs.Sums.{product_is}
-use Rattle.cq_answer.proofs.rows.push_product.Goals as goal
-
-pub returns : goal.returns
-returns c = rw (product_is (name_among c.args.names.now) (monomial_of c.args.product)) (grind (arith, common_steps))

@@ -1,3 +1,0 @@
-pub mod Values
-pub mod Lines
-pub mod Coefficient

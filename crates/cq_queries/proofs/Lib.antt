@@ -1,5 +1,0 @@
-pub mod Lookups
-pub mod Names
-pub mod Numerals
-pub mod Pieces
-pub mod Steps

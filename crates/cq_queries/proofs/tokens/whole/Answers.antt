@@ -1,8 +1,0 @@
-use Rattle.cq_queries.proofs.Numerals.{is_taken, is_whole}
-use Rattle.cq_queries.proofs.tokens.whole.Goals as goal
-
-pub unwrap-requires : goal.unwrap-requires
-unwrap-requires c = is_taken c.args.value c.new.result c.requires c.new.ensures.zero.0 (λ e. (c.new.ensures.overflow.0 e).1)
-
-pub returns : goal.returns
-returns c = is_whole c.args.value c.new.result c.unwrap.result c.requires c.new.ensures.value c.unwrap.ensures

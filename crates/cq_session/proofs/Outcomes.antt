@@ -1,0 +1,148 @@
+-- What a run shows of the outside, by how it ended.
+use Rattle.std.proofs.Common.{◌≡◌, ◌≤◌, ℕ, List, [], length, Bool, true, false, Option, Some, None, refl, sym, ap, subst, append-nil, inl, inr}
+use Rattle.std.specs.Prelude.{IfSome}
+use Rattle.cq_outside.specs.Bytes.{Appends}
+use Rattle.cq_outside.specs.declared.shelf.TheConstants.{SIZE_LIMIT}
+use Rattle.cq_words.specs.Asked.{Asked}
+use Rattle.cq_words.specs.declared.words.WordsFault.{WordsFault}
+use Rattle.cq_words.specs.declared.words.WordsFault.TheVariants as words_fault
+use Rattle.cq_transcript.specs.Halts.{Halts, IsWhole}
+use Rattle.cq_transcript.specs.Progress.{marks_of}
+use Rattle.cq_transcript.specs.declared.halt.Halt.TheVariants.{Memory}
+use Rattle.cq_transcript.specs.declared.halt.Halt.TheVariants as halt
+use Rattle.cq_transcript.specs.declared.halt.Lines.{Lines}
+use Rattle.spec_lists.specs.Texts.{Text}
+use Rattle.spec_transcript.specs.Session.{Opening, none}
+use Rattle.spec_search.specs.Database.{initial}
+use Rattle.spec_endings.specs.Causes.{Caused, Completeness, Counts, IsClear}
+use Rattle.spec_endings.specs.Causes as causes
+use Rattle.spec_endings.specs.Endings.{Ended, Ends, Gains, IsLine, IsTold, Sinks, Tells, memory_line, words_line}
+use Rattle.spec_endings.specs.Endings as endings
+use Rattle.spec_endings.specs.Outside.{Outside, HasWritten, Transcribes}
+use Rattle.spec_endings.specs.declared.status.Status.{Status}
+use Rattle.spec_endings.specs.declared.status.Status.TheVariants as status
+use Rattle.cq_session.specs.Outcomes.{Shows, fault_ending, line_of, status_of, whole_status}
+use Rattle.cq_session.specs.declared.ending.Ending.{Ending}
+use Rattle.cq_session.specs.declared.ending.Ending.TheVariants.{Whole, BadWords, Broken}
+
+-- ---- nothing was written
+
+appends_none : (held : Option (List ℕ)) → Appends held held []
+appends_none (Some h) = ap Some (sym (append-nil h))
+appends_none None = refl
+
+abbrev rest_of : Option (List ℕ) → List ℕ
+rest_of (Some bytes) = bytes
+rest_of None = []
+
+rest_is : (left : Option (List ℕ)) → IfSome left (λ bytes. rest_of left ≡ bytes)
+rest_is (Some bytes) = refl
+rest_is None = tt
+
+module _ (o : Outside) (left held : Option (List ℕ)) where
+  nothing_written : (a : Asked) → HasWritten o a []
+  nothing_written a = record { whole = []; more = []; marks = _; here = Opening initial a.files; runs = none; begins = refl }
+
+  pub no_memory_at_first : (a : Asked) → Halts o a left Memory held held
+  no_memory_at_first a = record { text = []; rest = rest_of left; is_left = rest_is left; ends = endings.no_memory (nothing_written a); written = appends_none held }
+
+  no_memory : (asked : Option Asked) → Ends o (rest_of left) asked status.NoMemory [] memory_line
+  no_memory (Some a) = endings.no_memory (nothing_written a)
+  no_memory None = endings.no_memory_for_words
+
+  fault_shows : (asked : Option Asked) (f : WordsFault) → (f ≡ words_fault.BadWords → asked ≡ None) → Shows o left asked (fault_ending f) held held
+  fault_shows asked words_fault.BadWords h = record {
+    text = [];
+    rest = rest_of left;
+    is_left = rest_is left;
+    ends = subst (λ a. Ends o (rest_of left) a status.BadWords [] words_line) (sym (h refl)) endings.bad_words;
+    written = appends_none held;
+  }
+  fault_shows asked words_fault.NoMemory h =
+      record { text = []; rest = rest_of left; is_left = rest_is left; ends = no_memory asked; written = appends_none held }
+
+  pub without_words_shows : (asked : Option Asked) (f : WordsFault) (e : Ending) → e ≡ fault_ending f → (f ≡ words_fault.BadWords → asked ≡ None)
+      → Shows o left asked e held held
+  without_words_shows asked f e is h = subst (λ x. Shows o left asked x held held) (sym is) (fault_shows asked f h)
+
+-- ---- a transcript
+
+none_left : (left : Option (List ℕ)) → IfSome left (λ bytes. bytes ≡ []) → IfSome left (λ bytes. [] ≡ bytes)
+none_left (Some bytes) h = sym h
+none_left None h = tt
+
+whole_gains : (faulty stopped : Bool) (held now : Option (List ℕ)) (text : Text) → Appends held now text → Gains (whole_status faulty stopped) held now text
+whole_gains true true held now text h = h
+whole_gains false true held now text h = h
+whole_gains true false held now text h = h
+whole_gains false false held now text h = h
+
+module _ (o : Outside) (a : Asked) (left held now : Option (List ℕ)) where
+  whole_ends : (faulty stopped : Bool) (text : Text) → length o.input ≤ SIZE_LIMIT → Transcribes o a text (record { faulty = faulty; stopped = stopped })
+      → Ends o [] (Some a) (whole_status faulty stopped) text []
+  whole_ends true true text size t = endings.stopped true size refl t
+  whole_ends false true text size t = endings.stopped false size refl t
+  whole_ends true false text size t = endings.faulty size refl t
+  whole_ends false false text size t = endings.done size refl t
+
+  whole_shows_some : (lines : Lines) → IsWhole o a left (marks_of lines) held now → Shows o left (Some a) (Whole lines) held now
+  whole_shows_some lines w = record {
+    text = w.advanced.text;
+    rest = [];
+    is_left = none_left left w.read;
+    ends = whole_ends lines.faulty lines.stopped w.advanced.text w.size (record { last = w.database; runs = w.advanced.runs });
+    written = whole_gains lines.faulty lines.stopped held now w.advanced.text w.advanced.written;
+  }
+
+  pub whole_shows : (asked : Option Asked) → asked ≡ Some a → (lines : Lines) → IsWhole o a left (marks_of lines) held now → Shows o left asked (Whole lines) held now
+  whole_shows asked is lines w = subst (λ x. Shows o left x (Whole lines) held now) (sym is) (whole_shows_some lines w)
+
+-- ---- what is told, and completeness
+
+whole_line : (faulty stopped : Bool) → IsLine (whole_status faulty stopped) []
+whole_line true true = refl
+whole_line false true = refl
+whole_line true false = refl
+whole_line false false = refl
+
+pub line_is : (e : Ending) → IsLine (status_of e) (line_of e)
+line_is (Whole lines) = whole_line lines.faulty lines.stopped
+line_is BadWords = refl
+line_is (Broken (halt.Absent name)) = inl (name.now, refl)
+line_is (Broken (halt.TooLarge name)) = inr (inl (name.now, refl))
+line_is (Broken halt.TooMuchInput) = inr (inr refl)
+line_is (Broken halt.Read) = refl
+line_is (Broken halt.Write) = refl
+line_is (Broken halt.Memory) = refl
+
+module _ (e : Ending) (s : Status) (is : s ≡ status_of e) where
+  pub tells : (err : Sinks) → IsTold err (line_of e) → Tells s err
+  tells err h = record { line = line_of e; is_line = subst (λ x. IsLine x (line_of e)) (sym is) (line_is e); told = h }
+
+  pub ended : (o : Outside) (left : Option (List ℕ)) (asked : Option Asked) (held now : Option (List ℕ)) (err : Sinks)
+      → IsTold err (line_of e) → Shows o left asked e held now → Ended o left asked s held now err
+  ended o left asked held now err told h = record {
+    text = h.text;
+    line = line_of e;
+    rest = h.rest;
+    is_left = h.is_left;
+    ends = subst (λ x. Ends o h.rest asked x h.text (line_of e)) (sym is) h.ends;
+    written = subst (λ x. Gains x held now h.text) (sym is) h.written;
+    told = told;
+  }
+
+  pub complete : (o : Outside) (left : Option (List ℕ)) (asked : Option Asked) (held now : Option (List ℕ)) (before behind : Counts) → Completeness
+      → Caused (status_of e) asked before behind → Shows o left asked e held now → IfSome asked (λ a. IsClear o a before behind → causes.IsWhole s)
+  complete o left (Some a) held now before behind law caused h = λ clear.
+      subst causes.IsWhole (sym is) (law o h.rest a (status_of e) h.text (line_of e) before behind h.ends caused clear)
+  complete o left None held now before behind law caused h = tt
+
+-- ---- options
+
+pub if_some : {A : Type 0} (x : Option A) (P Q : A → Type 0) → ((a : A) → P a → Q a) → IfSome x P → IfSome x Q
+if_some (Some a) P Q f h = f a h
+if_some None P Q f h = tt
+
+pub if_some_all : {A : Type 0} (x : Option A) (P : A → Type 0) → ((a : A) → P a) → IfSome x P
+if_some_all (Some a) P f = f a
+if_some_all None P f = tt

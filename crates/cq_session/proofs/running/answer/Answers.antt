@@ -1,0 +1,17 @@
+use Rattle.std.proofs.Common.{Err, ap}
+use Rattle.cq_words.specs.Asked.{as_asked}
+use Rattle.cq_words.specs.Language.{asked_by}
+use Rattle.cq_session.proofs.Asked.{may_answer}
+use Rattle.cq_session.proofs.Outcomes.{if_some, if_some_all, whole_shows, without_words_shows}
+use Rattle.cq_session.proofs.running.answer.Goals as goal
+
+pub returns-in-Err-clause-shows : goal.returns-in-Err-clause-shows
+returns-in-Err-clause-shows g c = if_some_all _ _ (λ o. without_words_shows o _ _ (asked_by c.args.words.now) c.in-Err.fault c.without_words.result
+    c.without_words.ensures (λ e. c.in-Err.ensures.refused (ap (λ f. Err f) e)))
+
+pub transcribe-requires : goal.transcribe-requires
+transcribe-requires g c = may_answer c.args.words.now (as_asked c.in-Ok.asked) c.in-Ok.ensures.asked
+
+pub returns-in-Ok-transcribe-clause-shows : goal.returns-in-Ok-transcribe-clause-shows
+returns-in-Ok-transcribe-clause-shows g c = if_some _ _ _ (λ o h. whole_shows o (as_asked c.in-Ok.asked) _ _ _ (asked_by c.args.words.now) c.in-Ok.ensures.asked
+    c.in-Ok-transcribe.lines h) c.in-Ok-transcribe.ensures.whole
