@@ -121,7 +121,11 @@ fn built_in_goals(rt: HostRuntime) -> Result<(), Fail> {
         ("1 < 2 ; 2 < 1.", 100, "yes no"),
         ("write(a), fail ; write(b), nl.", 100, "ab\nyes no"),
         ("write(''), write(c).", 100, "cyes no"),
-        ("op(700, xfx, ===>), writeq(===>(a, b)).", 100, "a===>byes no"),
+        (
+            "op(700, xfx, ===>), writeq(===>(a, b)).",
+            100,
+            "a===>byes no",
+        ),
     ];
     assert_eq!(rt; first_wrong(rt.alloc(), &rows)?, None);
     Ok(())
