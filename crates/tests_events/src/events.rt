@@ -1,6 +1,7 @@
 // Queries of built-in predicates, and the events that they tell.
 
-ghost use Rattle.cq_events.specs.Events.{IsRunning};
+ghost use Rattle.std.specs.Prelude.{◌≡◌, OnOk};
+ghost use Rattle.cq_events.specs.Events.{IsIdle, IsRunning};
 
 use cq_engine::Cause;
 use cq_events::{Engine, Event};
@@ -11,6 +12,7 @@ use std::test::Fail;
 /// The events of an engine's query as a text, as far as the first twenty.
 fn add_events(told: &mut String, e: &mut Engine) -> Result<(), AllocError>
     requires { IsRunning e.old }
+    ensures { OnOk result (IsRunning e.new) }
 {
     for _event in 0..20 {
         match e.next()? {
@@ -57,34 +59,58 @@ fn events(alloc: Global, query: &str, steps: u64) -> Result<String, AllocError> 
     Ok(told)
 }
 
+/// The events of the query that stands next in input, or what stands there; false at the input's end.
+fn add_next(told: &mut String, e: &mut Engine, input: &mut Feed) -> Result<bool, AllocError>
+    requires { IsIdle e.old }
+    ensures idle { OnOk result (IsIdle e.new) }
+    ensures finished { OnOk result (input.new.finished ≡ input.old.finished) }
+{
+    match e.read_fed(input)? {
+        Fed::Read(Read::Clause { term, .. }) => {
+            e.start(term, 100)?;
+            add_events(told, e)?;
+            e.end();
+            told.push(' ')?;
+            Ok(true)
+        }
+        Fed::Read(Read::Syntax { .. }) => {
+            told.push_str("syntax ")?;
+            Ok(true)
+        }
+        Fed::Read(Read::End) => {
+            told.push_str("end")?;
+            Ok(false)
+        }
+        Fed::Needs => {
+            told.push_str("needs ")?;
+            Ok(false)
+        }
+    }
+}
+
+/// The events of the queries of finished input, as far as the first four.
+fn add_input(told: &mut String, e: &mut Engine, input: &mut Feed) -> Result<(), AllocError>
+    requires { IsIdle e.old }
+{
+    for _clause in 0..4 {
+        let is_more = add_next(told, e, input)?;
+        if !is_more {
+            return Ok(());
+        }
+    }
+    Ok(())
+}
+
 /// The events of the queries of input that comes in two pieces.
 fn events_of_input(alloc: Global, first: &str, second: &str) -> Result<String, AllocError> {
     let mut told = String::new(alloc);
     let mut e = Engine::new(alloc, 1000)?;
     let mut input = Feed::new(alloc);
     input.push(first.as_bytes())?;
-    match e.read_fed(&mut input)? {
-        Fed::Needs => told.push_str("needs ")?,
-        Fed::Read(_) => told.push_str("reads ")?,
-    }
+    add_next(&mut told, &mut e, &mut input)?;
     input.push(second.as_bytes())?;
     input.finish();
-    for _clause in 0..4 {
-        match e.read_fed(&mut input)? {
-            Fed::Read(Read::Clause { term, .. }) => {
-                e.start(term, 100)?;
-                add_events(&mut told, &mut e)?;
-                told.push(' ')?;
-                e.end();
-            }
-            Fed::Read(Read::Syntax { .. }) => told.push_str("syntax ")?,
-            Fed::Read(Read::End) => {
-                told.push_str("end")?;
-                return Ok(told);
-            }
-            Fed::Needs => told.push_str("needs ")?,
-        }
-    }
+    add_input(&mut told, &mut e, &mut input)?;
     Ok(told)
 }
 
@@ -121,7 +147,11 @@ fn built_in_goals(rt: HostRuntime) -> Result<(), Fail> {
         ("1 < 2 ; 2 < 1.", 100, "yes no"),
         ("write(a), fail ; write(b), nl.", 100, "ab\nyes no"),
         ("write(''), write(c).", 100, "cyes no"),
-        ("op(700, xfx, ===>), writeq(===>(a, b)).", 100, "a===>byes no"),
+        (
+            "op(700, xfx, ===>), writeq(===>(a, b)).",
+            100,
+            "a===>byes no",
+        ),
     ];
     assert_eq!(rt; first_wrong(rt.alloc(), &rows)?, None);
     Ok(())
