@@ -15,7 +15,7 @@ type Row = (
     &'static [u8],
 );
 
-#[rustfmt::skip]
+#[rattlefmt::skip]
 static ROWS: [Row; 85] = [
     (
         &["run"],
