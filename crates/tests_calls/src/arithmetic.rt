@@ -1,10 +1,7 @@
 // Goals of arithmetic, and what each comes to.
 
-use crate::outcomes::first_wrong;
-use std::test::Fail;
-
-/// Values, and the first error from the left.
-static VALUES: [&str; 45] = [
+pub(crate) static ARITHMETIC: [&str; 63] = [
+    // values, and the first error from the left
     "X is 7 mod -2. -1",
     "Y is -7//2. -3",
     "Z is 1/3. 1r3",
@@ -50,16 +47,7 @@ static VALUES: [&str; 45] = [
     "X is 1/170141183460469231731687303715884105727/2. overflow",
     "X is 170141183460469231731687303715884105727+1+Y. overflow",
     "X is Y+(170141183460469231731687303715884105727+1). error(instantiation_error,(is)/2)",
-];
-
-#[test]
-fn values_and_their_errors(rt: HostRuntime) -> Result<(), Fail> {
-    assert_eq!(rt; first_wrong(rt.alloc(), &VALUES)?, None);
-    Ok(())
-}
-
-/// Comparisons, of which the left expression is evaluated first.
-static COMPARED: [&str; 18] = [
+    // comparisons, of which the left expression is evaluated first
     "1 =:= 2r2. true",
     "1 =:= 2. false",
     "1 =\\= 2. true",
@@ -79,9 +67,3 @@ static COMPARED: [&str; 18] = [
     "1/0 > X. error(evaluation_error(zero_divisor),(>)/2)",
     "170141183460469231731687303715884105727+1 >= X. overflow",
 ];
-
-#[test]
-fn values_are_compared(rt: HostRuntime) -> Result<(), Fail> {
-    assert_eq!(rt; first_wrong(rt.alloc(), &COMPARED)?, None);
-    Ok(())
-}

@@ -4,7 +4,6 @@ ghost use Rattle.std.specs.Prelude.{◌≡◌, ◌<◌, ◌≤◌, All, length, 
 ghost use Rattle.cq_term.specs.Trees.{KnowsTerms};
 ghost use Rattle.cq_built.specs.Errors.{CanBeRaised};
 ghost use Rattle.cq_goals.specs.Faults.{HasItsCulprit};
-ghost use Rattle.cq_goals.specs.Tellings.{IsLiveTelling};
 
 use crate::forms::{form_of, form_where};
 use crate::written::{ball_text, put, written};
@@ -141,22 +140,6 @@ fn halves_text(
     Ok(text)
 }
 
-/// The relations of a constraint, or its halves.
-fn telling_text(
-    heap: &Heap,
-    atoms: &Atoms,
-    ops: &Ops,
-    telling: &Telling,
-) -> Result<Vec<u8>, AllocError>
-    requires live { IsLiveTelling heap.now.now.terms telling.now }
-    requires names { KnowsTerms atoms.now heap.now.now.terms }
-{
-    match telling {
-        Telling::Members(members) => relations_text(heap, atoms, ops, members),
-        Telling::Halves(left, right) => halves_text(heap, atoms, ops, *left, *right),
-    }
-}
-
 /// A constraint that is told.
 fn told(
     heap: &mut Heap,
@@ -170,7 +153,8 @@ fn told(
     requires names { KnowsTerms atoms.old heap.old.now.terms }
 {
     match check_telling(heap, atoms, constraint) {
-        Ok(telling) => telling_text(heap, atoms, ops, &telling),
+        Ok(Telling::Members(members)) => relations_text(heap, atoms, ops, &members),
+        Ok(Telling::Halves(left, right)) => halves_text(heap, atoms, ops, left, right),
         Err(fault) => ball_text(heap, atoms, ops, goal, fault),
     }
 }

@@ -1,10 +1,7 @@
 // Constraints and expressions that are told or asked about, and what each comes to.
 
-use crate::outcomes::first_wrong;
-use std::test::Fail;
-
-/// Constraints that are told: what each of their relations is, their two halves, or their first error.
-static TOLD: [&str; 30] = [
+pub(crate) static CONSTRAINTS: [&str; 48] = [
+    // constraints that are told: what each of their relations is, their two halves, or their first error
     "{X=<1}. _1=<1 linear",
     "{X=:=1,X=\\=2,X>3,X>=4,X<5}. _1=:=1 linear; _1=\\=2 linear; _1>3 linear; _1>=4 linear; _1<5 linear",
     "{X=Y*(Z-Z+2)-Y/3+pow(Y,1)+3^2}. _1=_2*(_3-_3+2)-_2/3+pow(_2,1)+3^2 linear",
@@ -35,16 +32,7 @@ static TOLD: [&str; 30] = [
     "{X=7//2}. error(type_error(evaluable,(//)/2),{}/1)",
     "{X=1;Y<sign(X)}. error(type_error(evaluable,sign/1),{}/1)",
     "{X=foo,Y}. error(type_error(evaluable,foo/0),{}/1)",
-];
-
-#[test]
-fn constraints_are_told(rt: HostRuntime) -> Result<(), Fail> {
-    assert_eq!(rt; first_wrong(rt.alloc(), &TOLD)?, None);
-    Ok(())
-}
-
-/// Constraints and expressions that are asked about.
-static ASKED: [&str; 18] = [
+    // constraints and expressions that are asked about
     "entailed((X=1,Y>=X)). _1=1 linear; _1>=_2 linear",
     "entailed(X*Y=1). _1*_2=1 waits",
     "entailed(X=1/0). _1=1/0 false",
@@ -64,9 +52,3 @@ static ASKED: [&str; 18] = [
     "maximize(1). lawful",
     "maximize(X+foo). error(type_error(evaluable,foo/0),maximize/1)",
 ];
-
-#[test]
-fn constraints_and_expressions_are_asked_about(rt: HostRuntime) -> Result<(), Fail> {
-    assert_eq!(rt; first_wrong(rt.alloc(), &ASKED)?, None);
-    Ok(())
-}

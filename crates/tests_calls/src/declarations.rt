@@ -3,7 +3,6 @@
 ghost use Rattle.std.specs.Prelude.{◌<◌, length};
 ghost use Rattle.cq_term.specs.Trees.{KnowsTerms};
 
-use crate::outcomes::first_wrong;
 use cq_atoms::Atoms;
 use cq_declarations::{OperatorGoal, declare_operators};
 use cq_ops::Ops;
@@ -12,8 +11,8 @@ use cq_term::{Heap, TermId};
 use std::alloc::{AllocError, Global};
 use std::test::Fail;
 
-/// Predicates that are declared, and modules.
-static DECLARED: [&str; 21] = [
+pub(crate) static DECLARATIONS: [&str; 61] = [
+    // predicates that are declared, and modules
     "dynamic foo/1. declared; foo",
     "dynamic((foo/1,bar/2)). declared; foo; bar",
     "dynamic([foo/0,bar/1000000]). declared; foo; bar",
@@ -35,16 +34,7 @@ static DECLARED: [&str; 21] = [
     "use_module(library(lists)). error(domain_error(library,library(lists)),use_module/1)",
     "use_module(module(clpq)). error(domain_error(library,module(clpq)),use_module/1)",
     "use_module(clpq). error(domain_error(library,clpq),use_module/1)",
-];
-
-#[test]
-fn predicates_are_declared(rt: HostRuntime) -> Result<(), Fail> {
-    assert_eq!(rt; first_wrong(rt.alloc(), &DECLARED)?, None);
-    Ok(())
-}
-
-/// Clauses that are added, removed or read.
-static CLAUSES: [&str; 18] = [
+    // clauses that are added, removed or read
     "asserta(foo). fact",
     "asserta((:-foo)). fact",
     "assertz((foo(X):-X,(a->b;c))). rule",
@@ -63,16 +53,7 @@ static CLAUSES: [&str; 18] = [
     "clause(X,1). error(instantiation_error,clause/2)",
     "clause(1,2). error(type_error(callable,1),clause/2)",
     "clause(foo,1). error(type_error(callable,1),clause/2)",
-];
-
-#[test]
-fn clauses_are_checked(rt: HostRuntime) -> Result<(), Fail> {
-    assert_eq!(rt; first_wrong(rt.alloc(), &CLAUSES)?, None);
-    Ok(())
-}
-
-/// Operators that are set, and the errors in their order.
-static OPERATORS: [&str; 22] = [
+    // operators that are set, and the errors in their order
     "op(700,xfx,foo). lawful",
     "op(0,yfx,[+,-]). lawful",
     "op(0,xf,+). lawful",
@@ -96,12 +77,6 @@ static OPERATORS: [&str; 22] = [
     "op(0,xfx,[]). error(permission_error(create,operator,[]),op/3)",
     "op(700,xf,[foo,+]). error(permission_error(create,operator,+),op/3)",
 ];
-
-#[test]
-fn operators_are_set(rt: HostRuntime) -> Result<(), Fail> {
-    assert_eq!(rt; first_wrong(rt.alloc(), &OPERATORS)?, None);
-    Ok(())
-}
 
 /// Sets the operators of a goal in a table.
 fn set_operators(heap: &Heap, atoms: &Atoms, table: &mut Ops, goal: TermId)

@@ -4,7 +4,6 @@
 ghost use Rattle.std.specs.Prelude.{◌<◌, length};
 ghost use Rattle.cq_term.specs.Trees.{KnowsTerms};
 
-use crate::outcomes::first_wrong;
 use cq_atoms::Atoms;
 use cq_cexpr::{Lin, linearise};
 use cq_form::Constraint;
@@ -12,7 +11,6 @@ use cq_frac::{Refusal, VarId};
 use cq_term::{Heap, Newly, TermId};
 use cq_unify::unify;
 use std::alloc::{AllocError, Global};
-use std::test::Fail;
 
 fn constraint_text(alloc: Global, found: &Constraint) -> Result<String, AllocError> {
     let mut text = format!(in alloc; "{:?}", found.relation)?;
@@ -79,8 +77,8 @@ pub(crate) fn form_where(
     form_of(heap, atoms, term)
 }
 
-/// Relations, sums and differences, and signs.
-static SUMS: [&str; 12] = [
+pub(crate) static FORMS: [&str; 58] = [
+    // relations, sums and differences, and signs
     "linear(X+Y-3=2*X). Eq -1*0 1*1 -3",
     "linear(X=:=1). Eq 1*0 -1",
     "linear(X=\\=Y). Ne 1*0 -1*1 0",
@@ -93,10 +91,7 @@ static SUMS: [&str; 12] = [
     "linear(X=X). Eq 0",
     "linear(abs(-(3))=X). Eq -1*0 3",
     "linear(abs(X)=1). waits 0",
-];
-
-/// Products and quotients.
-static PRODUCTS: [&str; 16] = [
+    // products and quotients
     "linear(X*Y=1). waits 0 1",
     "linear((X-X+2)*Y=4). Eq 2*1 -4",
     "linear(Y*(X-X)=4). Eq -4",
@@ -113,10 +108,7 @@ static PRODUCTS: [&str; 16] = [
     "linear(1/(0/X)=1). waits 0",
     "linear(f(X,Y,Z),f(X,Y,Z),Z*Y=Z*X). waits 2 1 0",
     "linear(F,5,F*Y<Z*Y). waits 1 2",
-];
-
-/// Powers, the lesser and the greater of two numbers, and terms that are no relations of expressions.
-static OTHERS: [&str; 21] = [
+    // powers, the lesser and the greater of two numbers, and terms that are no relations of expressions
     "linear((-2r3)^3=X). Eq -1*0 -8r27",
     "linear(pow(0,0)=X). Eq -1*0 1",
     "linear(pow(X,0)=Y). Eq -1*1 1",
@@ -138,10 +130,7 @@ static OTHERS: [&str; 21] = [
     "linear(=(X)). waits 0",
     "linear(X). waits 0",
     "linear(1). waits",
-];
-
-/// Pairs that an operation refuses.
-static OVERFLOWS: [&str; 9] = [
+    // pairs that an operation refuses
     "linear(170141183460469231731687303715884105727+1=X). Sum 170141183460469231731687303715884105727 1",
     "linear(-170141183460469231731687303715884105727*X-X=Y). Difference -170141183460469231731687303715884105727 1",
     "linear(170141183460469231731687303715884105727*X*2=Y). Product 170141183460469231731687303715884105727 2",
@@ -152,12 +141,3 @@ static OVERFLOWS: [&str; 9] = [
     "linear(170141183460469231731687303715884105727= -1). Difference 170141183460469231731687303715884105727 -1",
     "linear(1< -170141183460469231731687303715884105727). Difference -170141183460469231731687303715884105727 1",
 ];
-
-#[test]
-fn terms_are_what_the_tables_say(rt: HostRuntime) -> Result<(), Fail> {
-    assert_eq!(rt; first_wrong(rt.alloc(), &SUMS)?, None);
-    assert_eq!(rt; first_wrong(rt.alloc(), &PRODUCTS)?, None);
-    assert_eq!(rt; first_wrong(rt.alloc(), &OTHERS)?, None);
-    assert_eq!(rt; first_wrong(rt.alloc(), &OVERFLOWS)?, None);
-    Ok(())
-}

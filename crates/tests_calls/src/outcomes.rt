@@ -8,7 +8,13 @@ ghost use Rattle.cq_walk.specs.Pairs.{IsLive};
 ghost use Rattle.cq_predicates.specs.Names.{as_predicate};
 ghost use Rattle.cq_predicates.specs.Given.{CanGoOn};
 
+use crate::arithmetic::ARITHMETIC;
 use crate::checked::{of_one, of_three, of_two};
+use crate::constraints::CONSTRAINTS;
+use crate::declarations::DECLARATIONS;
+use crate::forms::FORMS;
+use crate::terms::TERMS;
+use crate::texts::TEXTS;
 use crate::written::{ball_text, put, written};
 use cq_atoms::Atoms;
 use cq_built::Alternative;
@@ -19,6 +25,7 @@ use cq_term::{Heap, Newly, Pred, TermId, View};
 use cq_trail::Undo;
 use cq_unify::unify;
 use std::alloc::{AllocError, Global};
+use std::test::Fail;
 
 /// More alternatives than any goal of the tables has.
 const MOST: usize = 100;
@@ -215,7 +222,7 @@ fn is_told(text: &[u8], outcome: &[u8]) -> bool {
 
 /// Whether the goal with which a text begins comes to what stands behind it: the goal under each alternative, in order, with
 /// the pairs made equal, or what its check gives, or the ball of its error.
-fn comes_to_it(alloc: Global, text: &[u8]) -> Result<bool, AllocError> {
+pub(crate) fn comes_to_it(alloc: Global, text: &[u8]) -> Result<bool, AllocError> {
     let mut heap = Heap::new(alloc);
     let mut atoms = Atoms::new(alloc);
     let ops = Ops::standard(alloc, &mut atoms)?;
@@ -229,11 +236,27 @@ fn comes_to_it(alloc: Global, text: &[u8]) -> Result<bool, AllocError> {
 }
 
 /// The place of the first goal that comes to something else than what stands behind it.
-pub(crate) fn first_wrong(alloc: Global, rows: &[&str]) -> Result<Option<usize>, AllocError> {
+fn first_wrong(alloc: Global, rows: &[&str]) -> Result<Option<usize>, AllocError> {
     for (place, row) in rows.iter().enumerate() {
         if !comes_to_it(alloc, row.as_bytes())? {
             return Ok(Some(place));
         }
     }
     Ok(None)
+}
+
+#[test]
+fn goals_come_to_what_the_tables_say(rt: HostRuntime) -> Result<(), Fail> {
+    let tables = [
+        TERMS.as_slice(),
+        TEXTS.as_slice(),
+        ARITHMETIC.as_slice(),
+        CONSTRAINTS.as_slice(),
+        DECLARATIONS.as_slice(),
+        FORMS.as_slice(),
+    ];
+    for rows in &tables {
+        assert_eq!(rt; first_wrong(rt.alloc(), rows)?, None);
+    }
+    Ok(())
 }

@@ -1,10 +1,7 @@
 // Goals of the predicates that test, compare, take apart, build and copy terms, and what each comes to.
 
-use crate::outcomes::first_wrong;
-use std::test::Fail;
-
-/// Each test of a term, and a term that fails it.
-static TESTS: [&str; 22] = [
+pub(crate) static TERMS: [&str; 107] = [
+    // each test of a term, and a term that fails it
     "var(X). var(_1)",
     "var(a). no",
     "nonvar(a). nonvar(a)",
@@ -27,16 +24,7 @@ static TESTS: [&str; 22] = [
     "is_list([a,B]). is_list([a,_1])",
     "is_list([a|B]). no",
     "is_list([a|b]). no",
-];
-
-#[test]
-fn terms_are_tested(rt: HostRuntime) -> Result<(), Fail> {
-    assert_eq!(rt; first_wrong(rt.alloc(), &TESTS)?, None);
-    Ok(())
-}
-
-/// Each comparison: variables stand before numbers, these before atoms, these before compounds, of which the shorter stand first.
-static COMPARISONS: [&str; 23] = [
+    // each comparison: variables stand before numbers, these before atoms, these before compounds, of which the shorter stand first
     "f(X,a) == f(X,a). f(_1,a)==f(_1,a)",
     "X == Y. no",
     "X \\== Y. _1\\==_2",
@@ -60,16 +48,7 @@ static COMPARISONS: [&str; 23] = [
     "a @>= a. a@>=a",
     "a @>= X. a@>=_1",
     "2 @>= 5r2. no",
-];
-
-#[test]
-fn terms_are_compared(rt: HostRuntime) -> Result<(), Fail> {
-    assert_eq!(rt; first_wrong(rt.alloc(), &COMPARISONS)?, None);
-    Ok(())
-}
-
-/// functor(T,N,A) in each direction and arg(N,T,A), and their errors in their order.
-static PARTS: [&str; 36] = [
+    // functor(T,N,A) in each direction and arg(N,T,A), and their errors in their order
     "functor(foo(a,B),N,A). functor(foo(a,_1),foo,2)",
     "functor([a|T],N,A). functor([a|_1],'.',2)",
     "functor(a,N,A). functor(a,a,0)",
@@ -106,16 +85,7 @@ static PARTS: [&str; 36] = [
     "arg(1r2,f(a),A). error(type_error(integer,1r2),arg/3)",
     "arg(-1,b,A). error(type_error(compound,b),arg/3)",
     "arg(-1,f(a),A). error(domain_error(not_less_than_zero,-1),arg/3)",
-];
-
-#[test]
-fn parts_of_terms(rt: HostRuntime) -> Result<(), Fail> {
-    assert_eq!(rt; first_wrong(rt.alloc(), &PARTS)?, None);
-    Ok(())
-}
-
-/// T =.. L in both directions, with its errors in their order, and copies: their variables are new, shared as the term's.
-static BUILT: [&str; 26] = [
+    // t =.. L in both directions, with its errors in their order, and copies: their variables are new, shared as the term's
     "foo(a,B) =.. L. foo(a,_1)=..[foo,a,_1]",
     "foo =.. L. foo=..[foo]",
     "1r2 =.. L. 1r2=..[1r2]",
@@ -143,9 +113,3 @@ static BUILT: [&str; 26] = [
     "copy_term(f(a),C). copy_term(f(a),f(a))",
     "copy_term(a,b). no",
 ];
-
-#[test]
-fn terms_are_built(rt: HostRuntime) -> Result<(), Fail> {
-    assert_eq!(rt; first_wrong(rt.alloc(), &BUILT)?, None);
-    Ok(())
-}

@@ -1,10 +1,7 @@
 // Goals of the predicates on texts, and what each comes to.
 
-use crate::outcomes::first_wrong;
-use std::test::Fail;
-
-/// Lengths count characters.
-static LENGTHS: [&str; 13] = [
+pub(crate) static TEXTS: [&str; 110] = [
+    // lengths count characters
     "atom_length('',N). atom_length('',0)",
     "atom_length([],N). atom_length([],2)",
     "atom_length(aé,N). atom_length(aé,2)",
@@ -18,16 +15,7 @@ static LENGTHS: [&str; 13] = [
     "atom_length(a,b). error(type_error(integer,b),atom_length/2)",
     "atom_length(a,1r2). error(type_error(integer,1r2),atom_length/2)",
     "atom_length(a,-1). error(domain_error(not_less_than_zero,-1),atom_length/2)",
-];
-
-#[test]
-fn texts_are_measured(rt: HostRuntime) -> Result<(), Fail> {
-    assert_eq!(rt; first_wrong(rt.alloc(), &LENGTHS)?, None);
-    Ok(())
-}
-
-/// Atoms and their characters or codes.
-static SPELLINGS: [&str; 34] = [
+    // atoms and their characters or codes
     "atom_chars(aé,L). atom_chars(aé,[a,é])",
     "atom_chars('',L). atom_chars('',[])",
     "atom_chars(ab,[X|T]). atom_chars(ab,[a,b])",
@@ -62,16 +50,7 @@ static SPELLINGS: [&str; 34] = [
     "char_code(C,a). error(type_error(integer,a),char_code/2)",
     "char_code(a,1r2). error(type_error(integer,1r2),char_code/2)",
     "char_code(C,55296). error(representation_error(character_code),char_code/2)",
-];
-
-#[test]
-fn texts_are_spelled(rt: HostRuntime) -> Result<(), Fail> {
-    assert_eq!(rt; first_wrong(rt.alloc(), &SPELLINGS)?, None);
-    Ok(())
-}
-
-/// Numbers and the codes of their texts, up to those of the greatest size.
-static NUMERALS: [&str; 30] = [
+    // numbers and the codes of their texts, up to those of the greatest size
     "number_codes(N,\" -12\"). number_codes(-12,[32,45,49,50])",
     "number_codes(N,\"2r4\"). number_codes(1r2,[50,114,52])",
     "number_codes(N,\"0xF\"). number_codes(15,[48,120,70])",
@@ -102,16 +81,7 @@ static NUMERALS: [&str; 30] = [
     "number_codes(N,[49,'1']). error(instantiation_error,number_codes/2)",
     "number_codes(a,L). error(type_error(number,a),number_codes/2)",
     "number_codes(f(1),[49,a]). error(type_error(number,f(1)),number_codes/2)",
-];
-
-#[test]
-fn numbers_are_spelled(rt: HostRuntime) -> Result<(), Fail> {
-    assert_eq!(rt; first_wrong(rt.alloc(), &NUMERALS)?, None);
-    Ok(())
-}
-
-/// Texts that are joined, and splits by the growing length of the first text.
-static JOINED: [&str; 14] = [
+    // texts that are joined, and splits by the growing length of the first text
     "atom_concat(aé,b,C). atom_concat(aé,b,aéb)",
     "atom_concat(a,b,ab). atom_concat(a,b,ab)",
     "atom_concat(a,b,ac). no",
@@ -126,16 +96,7 @@ static JOINED: [&str; 14] = [
     "atom_concat(A,B,2). error(type_error(atom,2),atom_concat/3)",
     "atom_concat(A,b,C). error(instantiation_error,atom_concat/3)",
     "atom_concat(a,B,C). error(instantiation_error,atom_concat/3)",
-];
-
-#[test]
-fn texts_are_joined_and_split(rt: HostRuntime) -> Result<(), Fail> {
-    assert_eq!(rt; first_wrong(rt.alloc(), &JOINED)?, None);
-    Ok(())
-}
-
-/// Parts of a text by where they begin, then by their length, counted in characters.
-static PARTS: [&str; 19] = [
+    // parts of a text by where they begin, then by their length, counted in characters
     "sub_atom(aé,B,L,R,S). sub_atom(aé,0,0,2,''); sub_atom(aé,0,1,1,a); sub_atom(aé,0,2,0,aé); sub_atom(aé,1,0,1,''); sub_atom(aé,1,1,0,é); sub_atom(aé,2,0,0,'')",
     "sub_atom('',B,L,R,S). sub_atom('',0,0,0,'')",
     "sub_atom(aéb,1,1,R,S). sub_atom(aéb,1,1,1,é)",
@@ -156,9 +117,3 @@ static PARTS: [&str; 19] = [
     "sub_atom(ab,B,l,r,S). error(type_error(integer,l),sub_atom/5)",
     "sub_atom(ab,B,L,1r2,S). error(type_error(integer,1r2),sub_atom/5)",
 ];
-
-#[test]
-fn texts_have_parts(rt: HostRuntime) -> Result<(), Fail> {
-    assert_eq!(rt; first_wrong(rt.alloc(), &PARTS)?, None);
-    Ok(())
-}

@@ -1,16 +1,13 @@
 // Variables eliminated from lists of inequalities, worked by hand.
 
-ghost use Rattle.std.specs.Prelude.{IfOk, IfSome, IsTrue};
-ghost use Rattle.spec_linear.specs.Solution.{Solvable};
+ghost use Rattle.std.specs.Prelude.{IsTrue};
 ghost use Rattle.spec_projection.specs.Elimination.{IsInequality};
 ghost use Rattle.spec_projection.specs.Partial.{AreInequalities};
 
-use crate::given::{Given, are_given, rows};
-use crate::sift::can_hold;
+use crate::given::{Given, are_given, holding};
 use cq_eliminate::{ProjectFault, eliminate};
 use cq_form::Constraint;
 use cq_frac::VarId;
-use cq_linear::store::StoreFault;
 use spec_linear::Relation;
 use std::alloc::Global;
 use std::test::Fail;
@@ -138,17 +135,6 @@ fn are_inequalities(rows: &[Constraint]) -> bool
         return false;
     }
     true
-}
-
-/// The rows, where they can hold.
-fn holding(alloc: Global, given: &[Given]) -> Result<Option<Vec<Constraint>>, StoreFault>
-    ensures { IfOk result (λ found. IfSome found (λ rows. Solvable rows.items)) }
-{
-    let rows = rows(alloc, given)?;
-    if !can_hold(alloc, &[], &rows)? {
-        return Ok(None);
-    }
-    Ok(Some(rows))
 }
 
 /// What comes of the rows without the variables, where they are inequalities that can hold.

@@ -1,6 +1,6 @@
 // Rows by their numbers.
 
-ghost use Rattle.std.specs.Prelude.{◌≡◌, ◌++◌, IfOk, IsTrue};
+ghost use Rattle.std.specs.Prelude.{◌≡◌, ◌++◌, IfOk, IfSome, IsTrue};
 ghost use Rattle.spec_linear.specs.Solution.{Solvable};
 
 use cq_form::{Constraint, Form};
@@ -12,7 +12,7 @@ use std::alloc::{AllocError, Global};
 // A relation, variables with numerator and denominator of their coefficients, and those of the constant.
 pub(crate) type Given<'a> = (Relation, &'a [(usize, i128, i128)], i128, i128);
 
-pub(crate) fn number(n: i128, d: i128) -> Frac {
+fn number(n: i128, d: i128) -> Frac {
     Frac::new(n, d).unwrap_or(Frac::zero())
 }
 
@@ -72,4 +72,30 @@ pub(crate) fn tells(store: &mut Store, rows: &[Constraint]) -> Result<bool, Stor
     }
     let _told = store.told();
     Ok(true)
+}
+
+/// Whether the rows can hold together with what is told.
+pub(crate) fn can_hold(
+    alloc: Global,
+    told: &[Constraint],
+    rows: &[Constraint],
+) -> Result<bool, StoreFault>
+    ensures { IfOk result (λ yes. IsTrue yes → Solvable (told.now ++ rows.now)) }
+{
+    let mut store = Store::new(alloc, 1000);
+    if !tells(&mut store, told)? {
+        return Ok(false);
+    }
+    tells(&mut store, rows)
+}
+
+/// The rows, where they can hold.
+pub(crate) fn holding(alloc: Global, given: &[Given]) -> Result<Option<Vec<Constraint>>, StoreFault>
+    ensures { IfOk result (λ found. IfSome found (λ rows. Solvable rows.items)) }
+{
+    let rows = rows(alloc, given)?;
+    if !can_hold(alloc, &[], &rows)? {
+        return Ok(None);
+    }
+    Ok(Some(rows))
 }

@@ -1,9 +1,8 @@
 // Passes over rows worked by hand.
 
-ghost use Rattle.std.specs.Prelude.{◌≡◌, ◌++◌, IfOk, IfSome, IsTrue};
-ghost use Rattle.spec_linear.specs.Solution.{Solvable};
+ghost use Rattle.std.specs.Prelude.{◌≡◌, IfOk, IfSome};
 
-use crate::given::{Given, are_given, rows, tells};
+use crate::given::{Given, are_given, can_hold, rows, tells};
 use cq_form::Constraint;
 use cq_linear::store::{Store, StoreFault};
 use cq_sift::sift;
@@ -96,21 +95,6 @@ static PASSES: [Pass; 9] = [
         kept: &[AT_MOST_NINE, ABOVE],
     },
 ];
-
-/// Whether the rows can hold together with what is told.
-pub(crate) fn can_hold(
-    alloc: Global,
-    told: &[Constraint],
-    rows: &[Constraint],
-) -> Result<bool, StoreFault>
-    ensures { IfOk result (λ yes. IsTrue yes → Solvable (told.now ++ rows.now)) }
-{
-    let mut store = Store::new(alloc, 1000);
-    if !tells(&mut store, told)? {
-        return Ok(false);
-    }
-    tells(&mut store, rows)
-}
 
 /// A store that was told the rows, if they can hold.
 fn store_of(alloc: Global, told: &[Constraint]) -> Result<Option<Store>, StoreFault>

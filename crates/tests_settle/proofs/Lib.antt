@@ -1,1 +1,3 @@
+mod Ascending
 mod Blank
+pub mod Marks

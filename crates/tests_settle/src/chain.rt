@@ -1,145 +1,71 @@
 // Products that wait for each other, a thousand deep.
 
-ghost use Rattle.std.specs.Prelude.{◌≡◌, ◌≤◌, ◌<◌, length, All, IfOk};
-ghost use Rattle.cq_term.specs.Trees.{KnowsTerms};
-ghost use Rattle.cq_world.specs.Rest.{IsReady};
-ghost use Rattle.cq_world.specs.Worlds.{now_of};
+ghost use Rattle.std.specs.Prelude.{◌<◌};
 
-use crate::steps::{tell, tell_one, waits};
-use crate::terms::{blank_world, make_number, pair};
-use cq_atoms::Atoms;
-use cq_frac::{Frac, VarId};
-use cq_rest::new_worlds_are_ready;
-use cq_term::{Heap, TermId, View};
-use cq_world::World;
+use crate::scenes::plays;
+use cq_linear::store::StoreFault;
 use std::alloc::{AllocError, Global};
 use std::test::Fail;
 
+/// A variable of the chain, or the value that it gets: one and two in turn.
+fn variable(alloc: Global, number: usize, fixed: bool) -> Result<String, AllocError> {
+    if !fixed {
+        format!(in alloc; "X{number}")
+    } else if number % 2 == 0 {
+        String::from_str(alloc, "1")
+    } else {
+        String::from_str(alloc, "2")
+    }
+}
+
 /// That a variable times the one before it is two.
-fn link(
-    heap: &mut Heap,
-    atoms: &mut Atoms,
-    variable: usize,
-    two: TermId,
-) -> Result<TermId, AllocError>
-    requires names { KnowsTerms atoms.old heap.old.now.terms }
-    requires younger { 0 < variable }
-    requires variable { variable < length heap.old.now.images }
-    requires two { two < length heap.old.now.terms }
-    ensures live { IfOk result (λ id. id < length heap.new.now.terms) }
-    ensures more { length heap.old.now.terms ≤ length heap.new.now.terms }
-    ensures images { heap.new.now.images ≡ heap.old.now.images }
-    ensures saved { heap.new.saved ≡ heap.old.saved }
-    ensures names { KnowsTerms atoms.new heap.new.now.terms }
+fn link(alloc: Global, number: usize, fixed: bool) -> Result<String, AllocError>
+    requires { 0 < number }
 {
-    let before = heap.var_term(VarId(variable - 1));
-    let this = heap.var_term(VarId(variable));
-    let product = pair(heap, atoms, "*", before, this)?;
-    pair(heap, atoms, "=", product, two)
+    let before = variable(alloc, number - 1, fixed)?;
+    let this = variable(alloc, number, fixed)?;
+    format!(in alloc; "{before}*{this}=2")
 }
 
-/// Such links of so many variables.
-fn links_of(
-    heap: &mut Heap,
-    atoms: &mut Atoms,
-    count: usize,
-    two: TermId,
-) -> Result<Vec<TermId>, AllocError>
-    requires names { KnowsTerms atoms.old heap.old.now.terms }
-    requires variables { count ≤ length heap.old.now.images }
-    requires two { two < length heap.old.now.terms }
-    ensures live { IfOk result (λ ids. All (λ id. id < length heap.new.now.terms) ids.items) }
-    ensures more { length heap.old.now.terms ≤ length heap.new.now.terms }
-    ensures images { heap.new.now.images ≡ heap.old.now.images }
-    ensures saved { heap.new.saved ≡ heap.old.saved }
-    ensures names { KnowsTerms atoms.new heap.new.now.terms }
-{
-    let mut links = Vec::new(heap.alloc());
-    for variable in 1..count {
-        links.push(link(heap, atoms, variable, two)?)?;
-    }
-    Ok(links)
-}
-
-/// That the oldest variable is one.
-fn start_of(heap: &mut Heap, atoms: &mut Atoms) -> Result<TermId, AllocError>
-    requires names { KnowsTerms atoms.old heap.old.now.terms }
-    requires variables { 0 < length heap.old.now.images }
-    ensures live { IfOk result (λ id. id < length heap.new.now.terms) }
-    ensures more { length heap.old.now.terms ≤ length heap.new.now.terms }
-    ensures images { heap.new.now.images ≡ heap.old.now.images }
-    ensures saved { heap.new.saved ≡ heap.old.saved }
-    ensures names { KnowsTerms atoms.new heap.new.now.terms }
-{
-    let one = make_number(heap, atoms, 1, 1)?;
-    let oldest = heap.var_term(VarId(0));
-    pair(heap, atoms, "=", oldest, one)
-}
-
-/// The links, and what fixes the first of them.
-#[derive(Drop)]
-struct Chain {
-    links: Vec<TermId>,
-    start: TermId,
-}
-
-fn chain_of(heap: &mut Heap, atoms: &mut Atoms, count: usize) -> Result<Chain, AllocError>
-    requires names { KnowsTerms atoms.old heap.old.now.terms }
-    requires some { 0 < count }
-    requires variables { count ≤ length heap.old.now.images }
-    ensures links { IfOk result (λ c. All (λ id. id < length heap.new.now.terms) c.links.items) }
-    ensures start { IfOk result (λ c. c.start < length heap.new.now.terms) }
-    ensures images { heap.new.now.images ≡ heap.old.now.images }
-    ensures saved { heap.new.saved ≡ heap.old.saved }
-    ensures names { KnowsTerms atoms.new heap.new.now.terms }
-{
-    let start = start_of(heap, atoms)?;
-    let two = make_number(heap, atoms, 2, 1)?;
-    let links = links_of(heap, atoms, count, two)?;
-    Ok(Chain { links, start })
-}
-
-/// Whether the variables are one and two in turn.
-fn alternate(heap: &Heap, count: usize) -> bool
-    requires { count ≤ length heap.now.now.images }
-{
-    for v in 0..count {
-        let wanted = if v % 2 == 0 { 1 } else { 2 };
-        if heap.view(heap.var_term(VarId(v))) != View::Number(Frac::from(wanted)) {
-            return false;
+/// Links of so many variables, and then what fixes the first.
+fn chain(alloc: Global, count: usize, fixed: bool) -> Result<String, AllocError> {
+    let mut links = String::new(alloc);
+    for number in 1..count {
+        if number > 1 {
+            links.push(',')?;
         }
+        links.push_str(link(alloc, number, fixed)?.as_str())?;
     }
-    true
+    let first = variable(alloc, 0, fixed)?;
+    format!(in alloc; "{{{links}}};{{{first}=1}}")
 }
 
-/// Whether all links wait, until the first is fixed; then none does, and each variable has its value.
-fn runs(world: &mut World, atoms: &Atoms, chain: Chain, count: usize) -> Result<bool, Fail>
-    requires ready { IsReady atoms.now (now_of world.old) }
-    requires some { 0 < count }
-    requires variables { count ≤ length world.old.heap.now.images }
-    requires links { All (λ id. id < length world.old.heap.now.terms) chain.links.items }
-    requires start { chain.start < length world.old.heap.now.terms }
-{
-    let Chain { links, start } = chain;
-    let mut woken = Vec::new(world.heap.alloc());
-    let told = tell(world, atoms, links, &mut woken)?;
-    let waited = waits(world, count - 1)?;
-    let fixed = tell_one(world, atoms, start, &mut woken)?;
-    Ok(told && waited && fixed && waits(world, 0)? && alternate(&world.heap, count))
+/// Whether the query leads to these two lines.
+fn leads(alloc: Global, query: &str, waiting: &str, fixed: &str) -> Result<bool, StoreFault> {
+    let text = format!(in alloc; "{query}.")?;
+    plays(alloc, text.as_str(), &[waiting, fixed])
 }
 
-fn is_passed_on(alloc: Global, count: usize) -> Result<bool, Fail>
-    requires { 0 < count }
+/// Whether the first of them is so, and then no link waits and each variable has its value.
+fn ends(alloc: Global, links: usize, query: &str, waiting: &str) -> Result<bool, StoreFault>
+    requires { links < 4096 }
 {
-    let mut world = blank_world(alloc, count)?;
-    let mut atoms = Atoms::new(alloc);
-    let chain = chain_of(&mut world.heap, &mut atoms, count)?;
-    new_worlds_are_ready();
-    runs(&mut world, &atoms, chain, count)
+    let end = chain(alloc, links + 1, true)?;
+    let fixed = format!(in alloc; " yes | 0 | {end}")?;
+    leads(alloc, query, waiting, fixed.as_str())
+}
+
+/// Whether all links wait until the first variable is fixed, and then none does.
+fn passes_on(alloc: Global, links: usize) -> Result<bool, StoreFault>
+    requires { links < 4096 }
+{
+    let query = chain(alloc, links + 1, false)?;
+    let waiting = format!(in alloc; " yes | {links} | {query}")?;
+    ends(alloc, links, query.as_str(), waiting.as_str())
 }
 
 #[test]
 fn a_value_is_passed_on_a_thousand_times(rt: HostRuntime) -> Result<(), Fail> {
-    assert!(rt; is_passed_on(rt.alloc(), 1001)?);
+    assert!(rt; passes_on(rt.alloc(), 1000)?);
     Ok(())
 }

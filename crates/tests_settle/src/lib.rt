@@ -1,13 +1,17 @@
-//! Tests of settling: what no clause says of it.
+//! Tests of worlds, of settling and of answers' lines: what no clause says of them.
 #![tactic(auto)]
 
 #[cfg(test)]
-mod chain;
+mod answers;
 #[cfg(test)]
-mod choices;
+mod chain;
 #[cfg(test)]
 mod scenes;
 #[cfg(test)]
+mod stage;
+#[cfg(test)]
 mod steps;
 #[cfg(test)]
-mod terms;
+mod undone;
+#[cfg(test)]
+mod world;

@@ -1,15 +1,14 @@
-// Steps of a branch over worlds made by hand: tellings, equations, goals that sleep, each with its settling.
+// The goals of a query, one after another, each with its settling, and a line that says what became of them.
 
-ghost use Rattle.std.specs.Prelude.{◌≡◌, ◌≤◌, ◌<◌, ◌∷◌, [], length, All, IsTrue, IfOk, OnOk, MatchBool};
+ghost use Rattle.std.specs.Prelude.{◌≡◌, ◌<◌, length, All, IsTrue, IfOk, OnOk, MatchBool};
 ghost use Rattle.cq_atoms.specs.Texts.{AreDifferent};
 ghost use Rattle.cq_settle.specs.Called.{SomeIsCalled};
-ghost use Rattle.cq_settle.specs.Settled.{KeepsMarks};
+ghost use Rattle.cq_term.specs.Trees.{KnowsTerms};
 ghost use Rattle.cq_world.specs.Rest.{IsReady};
-ghost use Rattle.cq_world.specs.Worlds.{now_of};
+ghost use Rattle.cq_world.specs.Worlds.{now_of, saved_of};
 ghost use Rattle.tests_settle.specs.Next.{IsNext};
-ghost use Rattle.tests_settle.specs.declared.steps.Step.{Step};
 
-use cq_atoms::{Atom, Atoms};
+use crate::stage::{Language, add_term, members, sides};
 use cq_attr::Susp;
 use cq_linear::store::StoreFault;
 use cq_rest::{
@@ -18,71 +17,75 @@ use cq_rest::{
 };
 use cq_settle::{Settled, Work, settle};
 use cq_term::{Heap, Newly, TermId, View};
+use cq_trail::Undo;
 use cq_walk::Pair;
 use cq_world::World;
-use std::alloc::{AllocError, Global};
+use std::alloc::AllocError;
 
-/// What is done with a term: it is told, its two arguments are made equal, or its second one sleeps until the first is no
-/// variable.
-#[derive(Clone, Copy)]
-pub(crate) enum Way {
-    Telling,
-    Equating,
-    Sleeping,
-}
-
-#[derive(Clone, Copy)]
-pub(crate) struct Step {
-    pub way: Way,
-    pub term: TermId,
-}
-
-/// The names of goals that wake are told behind the others.
-fn note(heap: &Heap, goals: &[TermId], woken: &mut Vec<Atom>) -> Result<(), AllocError>
-    requires { All (λ id. id < length heap.now.now.terms) goals.now }
+/// Adds the goals that woke.
+fn add_goals(
+    heap: &Heap,
+    language: &Language,
+    goals: &[TermId],
+    line: &mut String,
+) -> Result<(), AllocError>
+    requires live { All (λ id. id < length heap.now.now.terms) goals.now }
+    requires names { KnowsTerms language.now.atoms heap.now.now.terms }
 {
     for &goal in goals {
-        match heap.view(goal) {
-            View::Name(name) | View::Compound(name, _) => woken.push(name)?,
-            View::Var(_) | View::Number(_) => {}
-        }
+        add_term(heap, language, goal, line)?;
     }
     Ok(())
 }
 
-/// Whether the branch is kept.
+/// Whether the branch is kept. The line says so, and which goals woke.
 fn settle_called(
     world: &mut World,
-    atoms: &Atoms,
+    language: &Language,
     work: Work,
-    woken: &mut Vec<Atom>,
+    line: &mut String,
 ) -> Result<bool, StoreFault>
-    requires { SomeIsCalled atoms.now (now_of world.old) work.newly work.told.items work.rows.items }
-    ensures kept { IfOk result (λ kept. MatchBool kept (IsNext atoms.now world.old world.new) (now_of world.new ≡ now_of world.old)) }
-    ensures marks { KeepsMarks world.old world.new }
+    requires { SomeIsCalled language.now.atoms (now_of world.old) work.newly work.told.items work.rows.items }
+    ensures kept { IfOk result (λ kept. MatchBool kept (IsNext language.now.atoms world.old world.new) (now_of world.new ≡ now_of world.old)) }
+    ensures saved { OnOk result (saved_of world.new ≡ saved_of world.old) }
 {
     kept_worlds_are_ready();
-    match settle(world, atoms, work) {
-        Ok(Settled::Woken(goals)) => {
-            note(&world.heap, &goals, woken)?;
+    match settle(world, &language.atoms, work)? {
+        Settled::Woken(goals) => {
+            line.push_str(" yes")?;
+            add_goals(&world.heap, language, &goals, line)?;
             Ok(true)
         }
-        Ok(Settled::Pruned) => Ok(false),
-        Err(fault) => Err(fault),
+        Settled::Pruned => {
+            line.push_str(" no")?;
+            Ok(false)
+        }
     }
 }
 
-/// Whether the branch is kept where the constraints are told together.
-pub(crate) fn tell(
+/// The constraints between the braces of a goal.
+fn constraints_of(heap: &Heap, language: &Language, goal: TermId) -> Result<Vec<TermId>, AllocError>
+    requires { goal < length heap.now.now.terms }
+    ensures { IfOk result (λ ids. All (λ id. id < length heap.now.now.terms) ids.items) }
+{
+    let arguments = heap.args(goal);
+    if arguments.len() == 1 {
+        members(heap, language.words.comma, arguments[0])
+    } else {
+        Err(AllocError)
+    }
+}
+
+/// The constraints are told together.
+fn tell(
     world: &mut World,
-    atoms: &Atoms,
+    language: &Language,
     told: Vec<TermId>,
-    woken: &mut Vec<Atom>,
+    line: &mut String,
 ) -> Result<bool, StoreFault>
-    requires ready { IsReady atoms.now (now_of world.old) }
+    requires ready { IsReady language.now.atoms (now_of world.old) }
     requires live { All (λ id. id < length world.old.heap.now.terms) told.items }
-    ensures next { OnOk result (IsNext atoms.now world.old world.new) }
-    ensures marks { KeepsMarks world.old world.new }
+    ensures next { OnOk result (IsNext language.now.atoms world.old world.new) }
 {
     look_at_told(&world.heap, &told);
     constraints_may_be_told();
@@ -92,53 +95,30 @@ pub(crate) fn tell(
         told,
         rows: Vec::new(alloc),
     };
-    settle_called(world, atoms, work, woken)
-}
-
-fn alone(alloc: Global, term: TermId) -> Result<Vec<TermId>, AllocError>
-    ensures { IfOk result (λ ids. ids.items ≡ term ∷ []) }
-{
-    let mut ids = Vec::new(alloc);
-    ids.push(term)?;
-    Ok(ids)
-}
-
-/// The same of one constraint.
-pub(crate) fn tell_one(
-    world: &mut World,
-    atoms: &Atoms,
-    term: TermId,
-    woken: &mut Vec<Atom>,
-) -> Result<bool, StoreFault>
-    requires ready { IsReady atoms.now (now_of world.old) }
-    requires live { term < length world.old.heap.now.terms }
-    ensures next { OnOk result (IsNext atoms.now world.old world.new) }
-    ensures marks { OnOk result (KeepsMarks world.old world.new) }
-{
-    let told = alone(world.heap.alloc(), term)?;
-    tell(world, atoms, told, woken)
+    settle_called(world, language, work, line)
 }
 
 /// Whether the branch is kept where the terms are made equal. Where it isn't, the terms may have been made equal.
-pub(crate) fn equate(
+fn equate(
     world: &mut World,
-    atoms: &Atoms,
+    language: &Language,
     left: TermId,
     right: TermId,
-    woken: &mut Vec<Atom>,
+    line: &mut String,
 ) -> Result<bool, StoreFault>
-    requires different { AreDifferent atoms.now }
-    requires ready { IsReady atoms.now (now_of world.old) }
+    requires different { AreDifferent language.now.atoms }
+    requires ready { IsReady language.now.atoms (now_of world.old) }
     requires left { left < length world.old.heap.now.terms }
     requires right { right < length world.old.heap.now.terms }
-    ensures next { IfOk result (λ kept. IsTrue kept → IsNext atoms.now world.old world.new) }
-    ensures marks { OnOk result (KeepsMarks world.old world.new) }
+    ensures next { IfOk result (λ kept. IsTrue kept → IsNext language.now.atoms world.old world.new) }
+    ensures saved { OnOk result (saved_of world.new ≡ saved_of world.old) }
 {
     let pairs = [Pair { left, right }];
     look_at_pairs(&world.heap, &pairs);
     kept_worlds_are_ready();
     equated_worlds_may_be_settled();
     let Some(newly) = cq_rest::equate(&mut world.heap, &pairs)? else {
+        line.push_str(" no")?;
         return Ok(false);
     };
     let alloc = world.heap.alloc();
@@ -147,78 +127,126 @@ pub(crate) fn equate(
         told: Vec::new(alloc),
         rows: Vec::new(alloc),
     };
-    settle_called(world, atoms, work, woken)
+    settle_called(world, language, work, line)
 }
 
-/// The goal sleeps on the variable. Where that is none any more, it wakes at once.
-pub(crate) fn sleep(
+/// The terms are made equal. Where the branch isn't kept, the world is as it was.
+fn try_equal(
     world: &mut World,
-    atoms: &Atoms,
+    language: &Language,
+    left: TermId,
+    right: TermId,
+    line: &mut String,
+) -> Result<bool, StoreFault>
+    requires different { AreDifferent language.now.atoms }
+    requires ready { IsReady language.now.atoms (now_of world.old) }
+    requires left { left < length world.old.heap.now.terms }
+    requires right { right < length world.old.heap.now.terms }
+    ensures next { OnOk result (IsNext language.now.atoms world.old world.new) }
+{
+    let start = world.mark()?;
+    if equate(world, language, left, right, line)? {
+        world.forget(start);
+        return Ok(true);
+    }
+    world.undo(start);
+    Ok(false)
+}
+
+/// The goal sleeps on the variable. It is none, and wakes at once, where that has got a value.
+fn sleep(
+    world: &mut World,
+    language: &Language,
     variable: TermId,
     goal: TermId,
-    woken: &mut Vec<Atom>,
-) -> Result<(), AllocError>
-    requires ready { IsReady atoms.now (now_of world.old) }
+    line: &mut String,
+) -> Result<bool, StoreFault>
+    requires ready { IsReady language.now.atoms (now_of world.old) }
     requires variable { variable < length world.old.heap.now.terms }
     requires goal { goal < length world.old.heap.now.terms }
-    ensures next { OnOk result (IsNext atoms.now world.old world.new) }
-    ensures marks { OnOk result (KeepsMarks world.old world.new) }
+    ensures next { OnOk result (IsNext language.now.atoms world.old world.new) }
 {
     look_at(&world.heap, goal);
     goals_may_be_put_to_sleep();
-    match world.heap.view(variable) {
-        View::Var(unbound) => {
-            world.attrs.suspend(&[unbound], Susp::Goal(unbound, goal))?;
-            Ok(())
-        }
-        View::Number(_) | View::Name(_) | View::Compound(_, _) => {
-            note(&world.heap, &[goal], woken)
-        }
+    line.push_str(" yes")?;
+    if let View::Var(unbound) = world.heap.view(variable) {
+        world.attrs.suspend(&[unbound], Susp::Goal(unbound, goal))?;
+        return Ok(true);
     }
+    Ok(false)
 }
 
-/// The two arguments of a term that has two.
-fn arguments_of(heap: &Heap, term: TermId) -> Result<(TermId, TermId), AllocError>
-    requires { term < length heap.now.now.terms }
-    ensures first { IfOk result (λ p. p.0 < length heap.now.now.terms) }
-    ensures second { IfOk result (λ p. p.1 < length heap.now.now.terms) }
-{
-    let arguments = heap.args(term);
-    if arguments.len() == 2 {
-        Ok((arguments[0], arguments[1]))
-    } else {
-        Err(AllocError)
-    }
-}
-
-/// Whether the branch is kept. Where it isn't, something of the step may be left.
-pub(crate) fn take_step(
+/// Takes a goal: constraints in braces, terms that are made equal, or a goal that is put to sleep.
+fn take(
     world: &mut World,
-    atoms: &Atoms,
-    step: Step,
-    woken: &mut Vec<Atom>,
+    language: &Language,
+    goal: TermId,
+    line: &mut String,
 ) -> Result<bool, StoreFault>
-    requires different { AreDifferent atoms.now }
-    requires ready { IsReady atoms.now (now_of world.old) }
-    requires live { step.term < length world.old.heap.now.terms }
-    ensures next { IfOk result (λ kept. IsTrue kept → IsNext atoms.now world.old world.new) }
-    ensures marks { OnOk result (KeepsMarks world.old world.new) }
+    requires different { AreDifferent language.now.atoms }
+    requires ready { IsReady language.now.atoms (now_of world.old) }
+    requires live { goal < length world.old.heap.now.terms }
+    ensures next { OnOk result (IsNext language.now.atoms world.old world.new) }
 {
-    match step.way {
-        Way::Telling => tell_one(world, atoms, step.term, woken),
-        Way::Equating => {
-            let (left, right) = arguments_of(&world.heap, step.term)?;
-            equate(world, atoms, left, right, woken)
-        }
-        Way::Sleeping => {
-            let (variable, goal) = arguments_of(&world.heap, step.term)?;
-            sleep(world, atoms, variable, goal, woken)?;
-            Ok(true)
-        }
+    if let Some((left, right)) = sides(&world.heap, language.words.equal, goal) {
+        return try_equal(world, language, left, right, line);
     }
+    if let Some((variable, asleep)) = sides(&world.heap, language.words.freeze, goal) {
+        return sleep(world, language, variable, asleep, line);
+    }
+    let told = constraints_of(&world.heap, language, goal)?;
+    tell(world, language, told, line)
 }
 
-/// Whether so many constraints and goals wait.
-pub(crate) fn waits(world: &World, count: usize) -> Result<bool, AllocError> {
-    Ok(world.attrs.waiting()?.len() == count)
+/// Takes the goals.
+#[tactic(auto, using(crate::proofs::Marks::next_next))]
+fn take_all(
+    world: &mut World,
+    language: &Language,
+    goals: &[TermId],
+    line: &mut String,
+) -> Result<(), StoreFault>
+    requires different { AreDifferent language.now.atoms }
+    requires ready { IsReady language.now.atoms (now_of world.old) }
+    requires live { All (λ id. id < length world.old.heap.now.terms) goals.now }
+    ensures next { OnOk result (IsNext language.now.atoms world.old world.new) }
+{
+    for &goal in goals {
+        take(world, language, goal, line)?;
+    }
+    Ok(())
+}
+
+/// Takes the goals of a conjunction, and says what became of each.
+pub(crate) fn run(
+    world: &mut World,
+    language: &Language,
+    goals: TermId,
+) -> Result<String, StoreFault>
+    requires different { AreDifferent language.now.atoms }
+    requires ready { IsReady language.now.atoms (now_of world.old) }
+    requires live { goals < length world.old.heap.now.terms }
+    ensures next { OnOk result (IsNext language.now.atoms world.old world.new) }
+{
+    let mut line = String::new(world.heap.alloc());
+    let each = members(&world.heap, language.words.comma, goals)?;
+    take_all(world, language, &each, &mut line)?;
+    Ok(line)
+}
+
+/// Adds how much waits, and how the query reads.
+pub(crate) fn add_state(
+    world: &World,
+    language: &Language,
+    query: TermId,
+    line: &mut String,
+) -> Result<(), StoreFault>
+    requires ready { IsReady language.now.atoms (now_of world.now) }
+    requires live { query < length world.now.heap.now.terms }
+{
+    kept_worlds_are_ready();
+    let count = world.attrs.waiting()?.len();
+    *line = format!(in world.heap.alloc(); "{line} | {count} |")?;
+    add_term(&world.heap, language, query, line)?;
+    Ok(())
 }

@@ -1,4 +1,4 @@
-//! Tests of the crates of terms, walks, unification and order: what no clause says of them.
+//! Tests of the crates of terms, walks, unification, order and resolution: what no clause says of them.
 #![tactic(auto)]
 
 #[cfg(test)]
@@ -11,6 +11,8 @@ mod built;
 mod names;
 #[cfg(test)]
 mod order;
+#[cfg(test)]
+mod resolve;
 #[cfg(test)]
 mod term;
 #[cfg(test)]

@@ -7,7 +7,7 @@ use Rattle.tests_settle.proofs.steps.equate.Goals as goal
 
 pub settle_called-requires : goal.settle_called-requires
 settle_called-requires c =
-    let texts = c.args.atoms.now in
+    let texts = c.args.language.now.atoms in
     let old = now_of c.args.world.now in
     let h = c.equate.new.heap.now in
     let told = subst (λ (ids : List ℕ). All (MayBeTold old.heap) ids) (sym c.new.ensures.items) (All-nil (MayBeTold old.heap)) in
