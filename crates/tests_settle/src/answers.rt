@@ -7,7 +7,7 @@ ghost use Rattle.cq_world.specs.Rest.{IsReady};
 ghost use Rattle.cq_world.specs.Worlds.{now_of};
 ghost use Rattle.spec_echelon.specs.Echelon.{AreDistinct};
 
-use crate::stage::{Language, Stage, read_query};
+use crate::stage::{Language, read_query};
 use crate::steps::run;
 use cq_eliminate::ProjectFault;
 use cq_lines::answer_lines;
@@ -128,47 +128,31 @@ fn leads_to(
     Ok(lines.as_slice() == wanted.as_bytes())
 }
 
-/// Whether the query's answer has these lines.
-fn answers(alloc: Global, text: &str, wanted: &str) -> Result<bool, ProjectFault> {
-    let Stage {
-        mut world,
-        query,
-        language,
-    } = read_query(alloc, text)?;
-    leads_to(&mut world, &language, query, wanted)
-}
-
-/// Whether that is so where `freeze` is an operator.
-fn answers_with_operator(alloc: Global, text: &str, wanted: &str) -> Result<bool, ProjectFault> {
-    let Stage {
-        mut world,
-        query,
-        mut language,
-    } = read_query(alloc, text)?;
-    let freeze = language.words.freeze;
-    if language
-        .ops
-        .set(&language.atoms, 700, "xfx", freeze)
-        .is_err()
-    {
-        return Ok(false);
-    }
-    leads_to(&mut world, &language, query, wanted)
+/// Whether the query's answer has these lines, where this name is an operator too.
+fn answers(
+    alloc: Global,
+    text: &str,
+    infix: Option<&str>,
+    wanted: &str,
+) -> Result<bool, ProjectFault> {
+    let mut stage = read_query(alloc, text, infix)?;
+    leads_to(&mut stage.world, &stage.language, stage.query, wanted)
 }
 
 #[test]
 fn answers_have_the_lines_that_were_worked_by_hand(rt: HostRuntime) -> Result<(), Fail> {
     for (text, wanted) in &ANSWERS {
-        assert!(rt; answers(rt.alloc(), *text, *wanted)?, "{text}");
+        assert!(rt; answers(rt.alloc(), *text, None, *wanted)?, "{text}");
     }
     Ok(())
 }
 
 #[test]
 fn suspended_goals_are_written_by_the_operators(rt: HostRuntime) -> Result<(), Fail> {
-    let holds = answers_with_operator(
+    let holds = answers(
         rt.alloc(),
         "freeze(X,g(Y)), freeze(Y,(a:-b)), Z=f(freeze(_A,_B)).",
+        Some("freeze"),
         "Z = f(_1 freeze _2)\nX freeze g(Y)\nY freeze (a:-b)\n",
     )?;
     assert!(rt; holds);

@@ -243,7 +243,7 @@ fn goes_on(
 
 /// Whether the query leads to what the lines say.
 pub(crate) fn plays(alloc: Global, text: &str, wanted: &[&str]) -> Result<bool, StoreFault> {
-    let mut stage = read_query(alloc, text)?;
+    let mut stage = read_query(alloc, text, None)?;
     let parts = parts_of(&stage)?;
     goes_on(
         &mut stage.world,

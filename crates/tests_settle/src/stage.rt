@@ -1,6 +1,6 @@
 // Queries that are read into a world of which nothing is known, and texts of their terms.
 
-ghost use Rattle.std.specs.Prelude.{◌≡◌, ◌<◌, ◌≤◌, Some, All, IsTrue, codes, length, map, slice_get, IfOk, IfSome, OnOk};
+ghost use Rattle.std.specs.Prelude.{◌≡◌, ◌<◌, ◌≤◌, ◌+◌, ◌^◌, Some, All, IsTrue, codes, length, map, slice_get, IfOk, IfSome, OnOk};
 ghost use Rattle.spec_echelon.specs.Echelon.{AreDistinct};
 ghost use Rattle.cq_atoms.specs.Texts.{AreDifferent, KeepsTexts};
 ghost use Rattle.cq_read.specs.Growth.{Grows};
@@ -120,8 +120,24 @@ fn read_onto(
     Err(AllocError)
 }
 
-/// Reads a query.
-pub(crate) fn read_query(alloc: Global, text: &str) -> Result<Stage, AllocError>
+/// The operators at the start, and one between operands more where a name is given.
+fn operators(alloc: Global, atoms: &mut Atoms, infix: Option<&str>) -> Result<Ops, AllocError> {
+    let mut ops = Ops::standard(alloc, atoms)?;
+    if let Some(name) = infix {
+        let operator = atoms.intern(name)?;
+        if ops.set(atoms, 700, "xfx", operator).is_err() {
+            return Err(AllocError);
+        }
+    }
+    Ok(ops)
+}
+
+/// Reads a query, where this name is an operator too.
+pub(crate) fn read_query(
+    alloc: Global,
+    text: &str,
+    infix: Option<&str>,
+) -> Result<Stage, AllocError>
     ensures different { IfOk result (λ s. AreDifferent s.language.atoms) }
     ensures ready { IfOk result (λ s. IsReady s.language.atoms (now_of s.world)) }
     ensures live { IfOk result (λ s. s.query < length s.world.heap.now.terms) }
@@ -130,7 +146,7 @@ pub(crate) fn read_query(alloc: Global, text: &str) -> Result<Stage, AllocError>
     ensures distinct { IfOk result (λ s. AreDistinct (map (λ n. n.number) s.language.names.items)) }
 {
     let mut atoms = Atoms::new(alloc);
-    let ops = Ops::standard(alloc, &mut atoms)?;
+    let ops = operators(alloc, &mut atoms, infix)?;
     let words = words_of(&mut atoms)?;
     let mut world = World::new(alloc, 1000);
     let (query, names) = read_onto(&mut world.heap, &mut atoms, &ops, text)?;

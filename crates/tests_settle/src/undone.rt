@@ -235,7 +235,7 @@ fn goes_back(
 }
 
 fn is_undone(alloc: Global) -> Result<bool, StoreFault> {
-    let mut stage = read_query(alloc, QUERY)?;
+    let mut stage = read_query(alloc, QUERY, None)?;
     let parts = parts_of(&stage)?;
     goes_back(&mut stage.world, &stage.language, stage.query, &parts)
 }
