@@ -1,11 +1,14 @@
 // Queries of built-in predicates, and the events that they tell.
 
-ghost use Rattle.std.specs.Prelude.{◌≡◌, OnOk};
+ghost use Rattle.std.specs.Prelude.{◌≡◌, ◌<◌, length, OnOk};
+ghost use Rattle.cq_machine.specs.Machines.{terms};
+ghost use Rattle.cq_read.specs.Shown.{IsLiveRead};
 ghost use Rattle.cq_events.specs.Events.{IsIdle, IsRunning};
 
 use cq_engine::Cause;
 use cq_events::{Engine, Event};
 use cq_read::{Fed, Feed, Read};
+use cq_term::TermId;
 use std::alloc::{AllocError, Global};
 use std::test::Fail;
 
@@ -59,27 +62,50 @@ fn events(alloc: Global, query: &str, steps: u64) -> Result<String, AllocError> 
     Ok(told)
 }
 
-/// The events of the query that stands next in input, or what stands there; false at the input's end.
+/// The events of a query of the term, which may select a hundred goals; the engine has none then.
+fn add_query(told: &mut String, e: &mut Engine, term: TermId) -> Result<(), AllocError>
+    requires idle { IsIdle e.old }
+    requires live { term < length (terms e.old.machine) }
+    ensures { OnOk result (IsIdle e.new) }
+{
+    e.start(term, 100)?;
+    add_events(told, e)?;
+    e.end();
+    told.push(' ')
+}
+
+/// The events of the query that was read, or what was read in its stead; false at the end.
+fn add_read(told: &mut String, e: &mut Engine, read: Read) -> Result<bool, AllocError>
+    requires idle { IsIdle e.old }
+    requires live { IsLiveRead e.old.machine.world.first.heap.now read }
+    ensures { OnOk result (IsIdle e.new) }
+{
+    match read {
+        Read::Clause { term, .. } => {
+            add_query(told, e, term)?;
+            Ok(true)
+        }
+        Read::Syntax { .. } => {
+            told.push_str("syntax ")?;
+            Ok(true)
+        }
+        Read::End => {
+            told.push_str("end")?;
+            Ok(false)
+        }
+    }
+}
+
+/// The events of the query that stands next in input, or what stands there; false where no query does.
 fn add_next(told: &mut String, e: &mut Engine, input: &mut Feed) -> Result<bool, AllocError>
     requires { IsIdle e.old }
     ensures idle { OnOk result (IsIdle e.new) }
     ensures finished { OnOk result (input.new.finished ≡ input.old.finished) }
 {
     match e.read_fed(input)? {
-        Fed::Read(Read::Clause { term, .. }) => {
-            e.start(term, 100)?;
-            add_events(told, e)?;
-            e.end();
-            told.push(' ')?;
-            Ok(true)
-        }
-        Fed::Read(Read::Syntax { .. }) => {
-            told.push_str("syntax ")?;
-            Ok(true)
-        }
-        Fed::Read(Read::End) => {
-            told.push_str("end")?;
-            Ok(false)
+        Fed::Read(read) => {
+            let is_more = add_read(told, e, read)?;
+            Ok(is_more)
         }
         Fed::Needs => {
             told.push_str("needs ")?;
