@@ -21,7 +21,7 @@ static OF_FILES: [&str; 10] = [
     ":-initialization(a). initialization a",
     ":-initialization(a),b. directive (initialization a),b",
     "?-a. query a",
-    "?-(:-a). query :-a",
+    "?- (:-a). query :-a",
     "a. fact a",
     "a:-b. fact a:-b",
     "initialization(a). fact initialization a",
