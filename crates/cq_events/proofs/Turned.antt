@@ -78,13 +78,3 @@ turned_both a b c (Some event) k f e t = (gives_both a b c event k f t.0, let sa
 
 pub goes_at_once : (old new : Engine) → ((s : Search) → Stands old s → Stands new s) → GoesOn old new
 goes_at_once old new f = λ s j. record { reached = s; quiet = at_once; stands = f s j }
-
-pub runs_still : (old new : Engine) → IsRunning old → IsSound new.machine → ((s : Search) → Stands old s → Stands new s) → new.selected ≡ old.selected → new.steps ≡ old.steps
-    → IsRunning new
-runs_still old new r sound f e g = record {
-  kept = kept_where new.machine sound;
-  search = r.search;
-  stands = f r.search r.stands;
-  no_catch = r.no_catch;
-  within = let w = r.within in omega (arith, w, e, g);
-}

@@ -120,9 +120,3 @@ module _ (texts : List Text) (ts : List HeapTerm) (id : ℕ) (s : Sides) (h : Ha
         goes_to_both p texts ts old new (error_for p (tree texts ts id)) (size (at ts id)) (part.Expression s.left) (part.Expression s.right) n
         (ap (error_for p) whole_is ∙ error_of_relation (text_of texts s.name) (tree texts ts s.left) (tree texts ts s.right) p r.as_disjunction r.as_conjunction r.as_relation)
         h.left h.right (size_of_sides ts id s h)
-
-  pub relation_refused : (p : Purpose) → IsRole (text_of texts s.name) role.Other → error_for p (tree texts ts id) ≡ Some (type_error "constraint" (tree texts ts id))
-  relation_refused p r =
-      ap (error_for p) whole_is
-      ∙ error_of_other (text_of texts s.name) (tree texts ts s.left) (tree texts ts s.right) p r.as_disjunction r.as_conjunction r.as_relation
-      ∙ ap (λ t. Some (type_error "constraint" t)) (sym whole_is)

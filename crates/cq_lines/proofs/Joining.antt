@@ -60,12 +60,6 @@ module _ (ts new : List HeapTerm) (f a b id : ℕ) (is : id ≡ length ts) (push
       ap (named (text_of texts)) made_is
       ∙ ap (λ t. Compound t (more (tree texts ts a) (one (tree texts ts b)))) (text_is texts f (codes "freeze") e)
 
-  pub made_names : (n : ℕ) → f < n → All (HasNamesBelow n) ts → a < length ts → b < length ts → HasNamesBelow n (at new id)
-  made_names n small all la lb = subst (HasNamesBelow n) (sym made_is) (small, (All-get_or (HasNamesBelow n) ts a blank la all, All-get_or (HasNamesBelow n) ts b blank lb all))
-
-  pub made_live : id < length new
-  made_live = let e : length new ≡ length ts + 1 = ap (λ (us : List HeapTerm). length us) pushed ∙ Rattle.std.proofs.Common.length-append ts (with_arguments f (map (at ts) (a ∷ b ∷ [])) ∷ []) in omega (arith, e, is)
-
 -- ---- all lines
 
 -- four kinds of lines, one kind behind the other

@@ -38,15 +38,6 @@ adds_named es fs count k name named is_name new inserted =
     ∙ ap (λ b. if b then names_of es else names_of es ++ record { name = name; number = count } ∷ []) is_named)
     ∙ sym (new_variable before name new)
 
--- a bare `_` leaves the names
-pub adds_bare : (before : Variables) (name : List ℕ) → false ≡ not (bytes_eq name (codes "_")) → with_names (before.count + 1) before.names ≡ with_variable before name
-adds_bare before name bare =
-    let is_bare = is_so (bytes_eq name (codes "_")) bare in
-    let one : before.count + 1 ≡ suc before.count = omega arith in
-    ap (λ n. with_names n before.names) one
-    ∙ ap (with_names (suc before.count)) (ap (λ b. if b then before.names else before.names ++ record { name = name; number = before.count } ∷ []) is_bare)
-    ∙ sym (new_variable before name (known_bare before name is_bare))
-
 -- the number of a name is that of an unbound variable
 number_unbound : (images : List HeapTerm) (names : List VariableName) (name : List ℕ) (n : ℕ) → AreUnbound images names → number_of names name ≡ Some n → IsUnbound images n
 number_unbound images [] name n all e = cc

@@ -132,11 +132,6 @@ module _ {A : Type 0} where
   distinct_terms [] vs d = d
   distinct_terms (t ∷ ts) vs d = distinct_terms ts (variables_after vs t) (distinct_after vs t d)
 
-has_in_front : (vs us : List ℕ) (x : ℕ) → Has x vs → Has x (vs ++ us)
-has_in_front [] us x h = absurd h
-has_in_front (v ∷ vs) us x (inl e) = inl e
-has_in_front (v ∷ vs) us x (inr h) = inr (has_in_front vs us x h)
-
 has_behind : (vs us : List ℕ) (x : ℕ) → Has x us → Has x (vs ++ us)
 has_behind [] us x h = h
 has_behind (v ∷ vs) us x h = inr (has_behind vs us x h)

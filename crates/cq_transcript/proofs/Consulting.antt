@@ -1,13 +1,10 @@
 -- The transcript of a file, as steps of a session.
-use Rattle.std.proofs.Common.{◌≡◌, ◌≤◌, ◌<◌, ◌+◌, ◌∙◌, ℕ, List, [], ◌∷◌, length, take, drop, get_or, Bool, true, false, if◌then◌else◌, Option, Some, None, Ok, Err, IfSome, Vec, inl, inr, refl, sym, ap, subst, append-nil, arith}
-use Rattle.std.specs.Prelude.{nat_le, map}
+use Rattle.std.proofs.Common.{◌≡◌, ◌≤◌, ◌<◌, ◌+◌, ◌∙◌, ℕ, List, [], ◌∷◌, length, take, drop, get_or, true, false, Option, Some, inl, inr, refl, sym, ap, subst, append-nil}
+use Rattle.std.specs.Prelude.{map}
 use Rattle.std.specs.Borrow.{Bor}
 use Rattle.std.proofs.lemmas.List.{drop_more, drop_all}
-use Rattle.std.proofs.lemmas.Bool.{leb-false}
-use Rattle.std.specs.declared.alloc.Global.{Global}
-use Rattle.cq_outside.specs.Files.{Files, IsTooLarge, Loads}
+use Rattle.cq_outside.specs.Files.{IsTooLarge}
 use Rattle.cq_outside.specs.declared.shelf.TheConstants.{SIZE_LIMIT}
-use Rattle.cq_outside.specs.declared.shelf.ShelfFault.TheVariants as fault
 use Rattle.cq_read.specs.Inputs.{Input}
 use Rattle.spec_lists.specs.Texts.{Text}
 use Rattle.spec_operators.specs.Operators.{Ops}
@@ -20,7 +17,7 @@ use Rattle.spec_transcript.specs.Session as session
 use Rattle.spec_transcript.specs.Session.{Asked, ADirective, Session, Opening, Reading, Searching, Marks, unmarked, plain_line, Reader, beginning, begun}
 use Rattle.spec_session.specs.Parts.{both}
 use Rattle.spec_session.proofs.Stand.{ended}
-use Rattle.spec_endings.specs.Outside.{Outside, given, within_size}
+use Rattle.spec_endings.specs.Outside.{Outside, given}
 use Rattle.cq_transcript.specs.declared.halt.Halt.{Halt}
 use Rattle.cq_transcript.specs.declared.halt.Halt.TheVariants.{Absent, TooLarge, TooMuchInput, Read, Write, Memory}
 use Rattle.cq_transcript.specs.declared.interpreter.Source.TheVariants as source
@@ -79,22 +76,6 @@ module _ (b : Budgets) (o : Outside) (a c : Session) (m : Marks) (held mid now :
   breaks_more left Memory h = broken_more b o a c m held mid before Memory now h
 
 -- ---- loads
-
-pub loaded_whole : (files : Option Files) (name : Text) (bytes : Vec ℕ Global) → Loads files name (Ok bytes) → IfSome files (λ there. given there name ≡ Some bytes.items)
-loaded_whole None name bytes h = tt
-loaded_whole (Some files) name bytes (is, small) = ap within_size is ∙ go (nat_le (length bytes.items) SIZE_LIMIT) refl
-  where
-    go : (c : Bool) → nat_le (length bytes.items) SIZE_LIMIT ≡ c → (if c then Some bytes.items else None) ≡ Some bytes.items
-    go true e = refl
-    go false e = absurd (omega (arith, leb-false _ _ e, small))
-
-pub absent_missing : (files : Option Files) (name : Text) → Loads files name (Err fault.Absent) → IfSome files (λ there. there name ≡ None)
-absent_missing None name h = tt
-absent_missing (Some files) name h = h
-
-pub large_missing : (files : Option Files) (name : Text) → Loads files name (Err fault.TooLarge) → IfSome files (λ there. IsTooLarge (there name))
-large_missing None name h = tt
-large_missing (Some files) name h = h
 
 -- a file that isn't given is where the transcript breaks off
 pub missing_breaks : (b : Budgets) (o : Outside) (left : Option (List ℕ)) (p : Program) (name : Text) (names : List Text) (halt : Halt) (held : Option (List ℕ))
