@@ -1,0 +1,13 @@
+//! Tests of runs over files, an input and sinks in memory: what no clause says of them.
+#![tactic(auto)]
+
+#[cfg(test)]
+mod commands;
+#[cfg(test)]
+mod failing;
+#[cfg(test)]
+mod given;
+#[cfg(test)]
+mod rows;
+#[cfg(test)]
+mod texts;
