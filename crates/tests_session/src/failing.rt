@@ -52,12 +52,6 @@ fn first_write(alloc: Global) -> Result<Option<usize>, AllocError> {
     Ok(None)
 }
 
-#[test]
-fn a_sink_that_fails_at_any_write_holds_what_came_before(rt: HostRuntime) -> Result<(), Fail> {
-    assert_eq!(rt; first_write(rt.alloc())?, None);
-    Ok(())
-}
-
 /// The place of the first read after whose failure a run doesn't end as it should. The first query is decided by the blank behind
 /// its full stop, the seventh byte, and the second is not.
 fn first_read(alloc: Global) -> Result<Option<usize>, AllocError> {
@@ -73,12 +67,6 @@ fn first_read(alloc: Global) -> Result<Option<usize>, AllocError> {
         }
     }
     Ok(None)
-}
-
-#[test]
-fn what_was_decided_before_a_read_that_fails_is_written(rt: HostRuntime) -> Result<(), Fail> {
-    assert_eq!(rt; first_read(rt.alloc())?, None);
-    Ok(())
 }
 
 /// The place of the first load after whose failure a run doesn't end as it should: the files before are consulted, and no later one
@@ -102,7 +90,9 @@ fn first_load(alloc: Global) -> Result<Option<usize>, AllocError> {
 }
 
 #[test]
-fn a_load_that_fails_ends_the_run(rt: HostRuntime) -> Result<(), Fail> {
+fn a_fault_ends_a_run_behind_what_came_before(rt: HostRuntime) -> Result<(), Fail> {
+    assert_eq!(rt; first_write(rt.alloc())?, None);
+    assert_eq!(rt; first_read(rt.alloc())?, None);
     assert_eq!(rt; first_load(rt.alloc())?, None);
     Ok(())
 }

@@ -42,12 +42,6 @@ static LINEAR: [Row; 19] = [
     ("?- {X>0}, \\+ X=2.", "no\n"),
 ];
 
-#[test]
-fn linear_constraints_are_answered(rt: HostRuntime) -> Result<(), Fail> {
-    assert_eq!(rt; first_wrong(rt.alloc(), &LINEAR, Status::Done)?, None);
-    Ok(())
-}
-
 /// Branches, constraints that wait, and goals that sleep.
 static WAITING: [Row; 17] = [
     (
@@ -93,12 +87,6 @@ static WAITING: [Row; 17] = [
     ("?- X=f(X).", "no\n"),
 ];
 
-#[test]
-fn branches_and_what_waits_are_answered(rt: HostRuntime) -> Result<(), Fail> {
-    assert_eq!(rt; first_wrong(rt.alloc(), &WAITING, Status::Done)?, None);
-    Ok(())
-}
-
 /// Goals on terms and texts, and what is written.
 static GOALS: [Row; 11] = [
     ("?- write(a).", "atrue\n;\nno\n"),
@@ -132,12 +120,6 @@ static GOALS: [Row; 11] = [
     ),
 ];
 
-#[test]
-fn goals_on_terms_and_texts_are_answered(rt: HostRuntime) -> Result<(), Fail> {
-    assert_eq!(rt; first_wrong(rt.alloc(), &GOALS, Status::Done)?, None);
-    Ok(())
-}
-
 /// Errors, which later queries survive.
 static FAULTY: [Row; 7] = [
     ("?- {X = ", "error: syntax 8\n"),
@@ -157,12 +139,6 @@ static FAULTY: [Row; 7] = [
         "error: error(instantiation_error,atom_length/2)\n",
     ),
 ];
-
-#[test]
-fn errors_are_told(rt: HostRuntime) -> Result<(), Fail> {
-    assert_eq!(rt; first_wrong(rt.alloc(), &FAULTY, Status::Faulty)?, None);
-    Ok(())
-}
 
 /// Numbers up to the greatest.
 static WIDE: [Row; 2] = [
@@ -201,8 +177,17 @@ static TOO_WIDE: [Row; 5] = [
 ];
 
 #[test]
-fn numbers_past_the_greatest_stop_their_query(rt: HostRuntime) -> Result<(), Fail> {
+fn queries_are_answered(rt: HostRuntime) -> Result<(), Fail> {
+    assert_eq!(rt; first_wrong(rt.alloc(), &LINEAR, Status::Done)?, None);
+    assert_eq!(rt; first_wrong(rt.alloc(), &WAITING, Status::Done)?, None);
+    assert_eq!(rt; first_wrong(rt.alloc(), &GOALS, Status::Done)?, None);
     assert_eq!(rt; first_wrong(rt.alloc(), &WIDE, Status::Done)?, None);
+    Ok(())
+}
+
+#[test]
+fn errors_and_stops_are_told(rt: HostRuntime) -> Result<(), Fail> {
+    assert_eq!(rt; first_wrong(rt.alloc(), &FAULTY, Status::Faulty)?, None);
     assert_eq!(rt; first_wrong(rt.alloc(), &TOO_WIDE, Status::Stopped)?, None);
     Ok(())
 }

@@ -19,13 +19,8 @@ fn first_beginning(alloc: Global) -> Result<Option<usize>, AllocError> {
 }
 
 #[test]
-fn each_beginning_of_a_query_is_an_error_at_its_end(rt: HostRuntime) -> Result<(), Fail> {
+fn texts_that_are_cut_off_and_bytes_that_are_none_are_errors(rt: HostRuntime) -> Result<(), Fail> {
     assert_eq!(rt; first_beginning(rt.alloc())?, None);
-    Ok(())
-}
-
-#[test]
-fn a_byte_that_begins_no_character_is_an_error_at_its_place(rt: HostRuntime) -> Result<(), Fail> {
     let wanted = written("error: syntax 7\n", Status::Faulty);
     assert!(rt; does_either_way(rt.alloc(), input_of(&["run"], b"?- X = \xff."), wanted)?);
     Ok(())
@@ -59,67 +54,56 @@ fn an_input_past_the_greatest_length_is_too_large(rt: HostRuntime) -> Result<(),
 /// How deep terms and goals are nested.
 const DEPTH: usize = 50_000;
 
-/// A query of what stands between so many pieces of text on each side, behind a beginning.
-fn nested(
-    alloc: Global,
-    begins: &str,
-    around: (&str, &str),
-    inner: &str,
-) -> Result<String, AllocError> {
+/// Where a query begins, what opens on each level, what stands inside, and what closes each level.
+type Nested = (&'static str, &'static str, &'static str, &'static str);
+
+/// The text of a query.
+fn nested(alloc: Global, (begins, opens, inner, closes): Nested) -> Result<String, AllocError> {
     let mut text = String::from_str(alloc, begins)?;
     for _ in 0..DEPTH {
-        text.push_str(around.0)?;
+        text.push_str(opens)?;
     }
     text.push_str(inner)?;
     for _ in 0..DEPTH {
-        text.push_str(around.1)?;
+        text.push_str(closes)?;
     }
     text.push('.')?;
     Ok(text)
 }
 
-/// Whether a query holds, and binds nothing.
-fn holds(alloc: Global, query: &str) -> Result<bool, AllocError> {
-    let wanted = written("true\n;\nno\n", Status::Done);
-    does(alloc, input_of(&["run"], query.as_bytes()), wanted)
-}
-
-/// The place of the first goal, nested deep, that doesn't hold.
-fn first_goal(alloc: Global, around: &[(&str, &str)]) -> Result<Option<usize>, AllocError> {
-    for (i, around) in around.iter().enumerate() {
-        let query = nested(alloc, "", *around, "true")?;
-        if !holds(alloc, &query)? {
+/// The place of the first query that doesn't hold.
+fn first_nested(alloc: Global, queries: &[Nested]) -> Result<Option<usize>, AllocError> {
+    for (i, query) in queries.iter().enumerate() {
+        let text = nested(alloc, *query)?;
+        let wanted = written("true\n;\nno\n", Status::Done);
+        if !does(alloc, input_of(&["run"], text.as_bytes()), wanted)? {
             return Ok(Some(i));
         }
     }
     Ok(None)
 }
+
+static GOALS: [Nested; 4] = [
+    ("", "(", "true", ")"),
+    ("", "\\+ \\+ ", "true", ""),
+    ("", "true, ", "true", ""),
+    ("", "call(", "true", ")"),
+];
 
 #[test]
 fn deep_goals_hold(rt: HostRuntime) -> Result<(), Fail> {
-    let around = [("(", ")"), ("\\+ \\+ ", ""), ("true, ", ""), ("call(", ")")];
-    assert_eq!(rt; first_goal(rt.alloc(), &around)?, None);
+    assert_eq!(rt; first_nested(rt.alloc(), &GOALS)?, None);
     Ok(())
 }
 
-/// The place of the first term, nested deep, that is not read and bound.
-fn first_term(alloc: Global, around: &[(&str, &str)]) -> Result<Option<usize>, AllocError> {
-    for (i, around) in around.iter().enumerate() {
-        let query = nested(alloc, "_ = ", *around, "x")?;
-        if !holds(alloc, &query)? {
-            return Ok(Some(i));
-        }
-    }
-    Ok(None)
-}
+static TERMS: [Nested; 3] = [
+    ("_ = ", "f(", "x", ")"),
+    ("_ = ", "[x, ", "x", "]"),
+    ("_ = [", "x, ", "x]", ""),
+];
 
 #[test]
 fn deep_terms_and_long_lists_are_read(rt: HostRuntime) -> Result<(), Fail> {
-    let list = nested(rt.alloc(), "_ = [", ("x,", ""), "x]")?;
-    assert!(rt; holds(rt.alloc(), &list)?);
-    assert_eq!(rt;
-        first_term(rt.alloc(), &[("f(", ")"), ("[x, ", "]")])?,
-        None
-    );
+    assert_eq!(rt; first_nested(rt.alloc(), &TERMS)?, None);
     Ok(())
 }
