@@ -29,12 +29,6 @@ static TESTS: [&str; 22] = [
     "is_list([a|b]). no",
 ];
 
-#[test]
-fn terms_are_tested(rt: HostRuntime) -> Result<(), Fail> {
-    assert_eq!(rt; first_wrong(rt.alloc(), &TESTS)?, None);
-    Ok(())
-}
-
 /// Each comparison: variables stand before numbers, these before atoms, these before compounds, of which the shorter stand first.
 static COMPARISONS: [&str; 23] = [
     "f(X,a) == f(X,a). f(_1,a)==f(_1,a)",
@@ -61,12 +55,6 @@ static COMPARISONS: [&str; 23] = [
     "a @>= X. a@>=_1",
     "2 @>= 5r2. no",
 ];
-
-#[test]
-fn terms_are_compared(rt: HostRuntime) -> Result<(), Fail> {
-    assert_eq!(rt; first_wrong(rt.alloc(), &COMPARISONS)?, None);
-    Ok(())
-}
 
 /// functor(T,N,A) in each direction and arg(N,T,A), and their errors in their order.
 static PARTS: [&str; 36] = [
@@ -108,12 +96,6 @@ static PARTS: [&str; 36] = [
     "arg(-1,f(a),A). error(domain_error(not_less_than_zero,-1),arg/3)",
 ];
 
-#[test]
-fn parts_of_terms(rt: HostRuntime) -> Result<(), Fail> {
-    assert_eq!(rt; first_wrong(rt.alloc(), &PARTS)?, None);
-    Ok(())
-}
-
 /// T =.. L in both directions, with its errors in their order, and copies: their variables are new, shared as the term's.
 static BUILT: [&str; 26] = [
     "foo(a,B) =.. L. foo(a,_1)=..[foo,a,_1]",
@@ -145,7 +127,10 @@ static BUILT: [&str; 26] = [
 ];
 
 #[test]
-fn terms_are_built(rt: HostRuntime) -> Result<(), Fail> {
+fn goals_on_terms_come_to_what_the_tables_say(rt: HostRuntime) -> Result<(), Fail> {
+    assert_eq!(rt; first_wrong(rt.alloc(), &TESTS)?, None);
+    assert_eq!(rt; first_wrong(rt.alloc(), &COMPARISONS)?, None);
+    assert_eq!(rt; first_wrong(rt.alloc(), &PARTS)?, None);
     assert_eq!(rt; first_wrong(rt.alloc(), &BUILT)?, None);
     Ok(())
 }

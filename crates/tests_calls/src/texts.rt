@@ -20,12 +20,6 @@ static LENGTHS: [&str; 13] = [
     "atom_length(a,-1). error(domain_error(not_less_than_zero,-1),atom_length/2)",
 ];
 
-#[test]
-fn texts_are_measured(rt: HostRuntime) -> Result<(), Fail> {
-    assert_eq!(rt; first_wrong(rt.alloc(), &LENGTHS)?, None);
-    Ok(())
-}
-
 /// Atoms and their characters or codes.
 static SPELLINGS: [&str; 34] = [
     "atom_chars(aé,L). atom_chars(aé,[a,é])",
@@ -64,12 +58,6 @@ static SPELLINGS: [&str; 34] = [
     "char_code(C,55296). error(representation_error(character_code),char_code/2)",
 ];
 
-#[test]
-fn texts_are_spelled(rt: HostRuntime) -> Result<(), Fail> {
-    assert_eq!(rt; first_wrong(rt.alloc(), &SPELLINGS)?, None);
-    Ok(())
-}
-
 /// Numbers and the codes of their texts, up to those of the greatest size.
 static NUMERALS: [&str; 30] = [
     "number_codes(N,\" -12\"). number_codes(-12,[32,45,49,50])",
@@ -104,12 +92,6 @@ static NUMERALS: [&str; 30] = [
     "number_codes(f(1),[49,a]). error(type_error(number,f(1)),number_codes/2)",
 ];
 
-#[test]
-fn numbers_are_spelled(rt: HostRuntime) -> Result<(), Fail> {
-    assert_eq!(rt; first_wrong(rt.alloc(), &NUMERALS)?, None);
-    Ok(())
-}
-
 /// Texts that are joined, and splits by the growing length of the first text.
 static JOINED: [&str; 14] = [
     "atom_concat(aé,b,C). atom_concat(aé,b,aéb)",
@@ -127,12 +109,6 @@ static JOINED: [&str; 14] = [
     "atom_concat(A,b,C). error(instantiation_error,atom_concat/3)",
     "atom_concat(a,B,C). error(instantiation_error,atom_concat/3)",
 ];
-
-#[test]
-fn texts_are_joined_and_split(rt: HostRuntime) -> Result<(), Fail> {
-    assert_eq!(rt; first_wrong(rt.alloc(), &JOINED)?, None);
-    Ok(())
-}
 
 /// Parts of a text by where they begin, then by their length, counted in characters.
 static PARTS: [&str; 19] = [
@@ -158,7 +134,11 @@ static PARTS: [&str; 19] = [
 ];
 
 #[test]
-fn texts_have_parts(rt: HostRuntime) -> Result<(), Fail> {
+fn goals_on_texts_come_to_what_the_tables_say(rt: HostRuntime) -> Result<(), Fail> {
+    assert_eq!(rt; first_wrong(rt.alloc(), &LENGTHS)?, None);
+    assert_eq!(rt; first_wrong(rt.alloc(), &SPELLINGS)?, None);
+    assert_eq!(rt; first_wrong(rt.alloc(), &NUMERALS)?, None);
+    assert_eq!(rt; first_wrong(rt.alloc(), &JOINED)?, None);
     assert_eq!(rt; first_wrong(rt.alloc(), &PARTS)?, None);
     Ok(())
 }
