@@ -1,4 +1,4 @@
-//! Tests of settling: what no clause says of it.
+//! Tests of worlds and of settling: what no clause says of them.
 #![tactic(auto)]
 
 #[cfg(test)]
@@ -11,3 +11,5 @@ mod scenes;
 mod steps;
 #[cfg(test)]
 mod terms;
+#[cfg(test)]
+mod world;

@@ -197,12 +197,6 @@ fn first_wrong(alloc: Global) -> Result<Option<usize>, Fail> {
     Ok(None)
 }
 
-#[test]
-fn equations_fix_what_they_leave_no_choice(rt: HostRuntime) -> Result<(), Fail> {
-    assert_eq!(rt; first_wrong(rt.alloc())?, None);
-    Ok(())
-}
-
 /// Whether the variable is the constant and one product of another variable.
 fn is_row(
     store: &Store,
@@ -240,7 +234,10 @@ fn is_solved_for(alloc: Global) -> Result<bool, Fail> {
 }
 
 #[test]
-fn the_first_variable_in_the_order_is_solved_for(rt: HostRuntime) -> Result<(), Fail> {
+fn equations_fix_what_they_leave_no_choice_and_are_solved_in_order(
+    rt: HostRuntime,
+) -> Result<(), Fail> {
+    assert_eq!(rt; first_wrong(rt.alloc())?, None);
     assert!(rt; is_solved_for(rt.alloc())?);
     Ok(())
 }

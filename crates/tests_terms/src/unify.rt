@@ -92,13 +92,6 @@ fn equal_or_as_they_are(alloc: Global, f: Atom) -> Result<bool, AllocError> {
     Ok(clash && equal)
 }
 
-#[test]
-fn terms_become_equal_or_stay_as_they_are(rt: HostRuntime) -> Result<(), Fail> {
-    let f = f_named(rt.alloc())?;
-    assert!(rt; equal_or_as_they_are(rt.alloc(), f)?);
-    Ok(())
-}
-
 /// Two lists of variables, each of the first one younger than its partner, and the first variable of the first list.
 #[derive(Clone, Copy)]
 struct Lists {
@@ -142,13 +135,6 @@ fn is_a_chain(alloc: Global, f: Atom) -> Result<bool, AllocError> {
     let mut heap = Heap::new(alloc);
     let mut newly = Newly::new(alloc);
     become_a_chain(&mut heap, &mut newly, f)
-}
-
-#[test]
-fn deep_terms_unify_into_a_long_chain(rt: HostRuntime) -> Result<(), Fail> {
-    let f = f_named(rt.alloc())?;
-    assert!(rt; is_a_chain(rt.alloc(), f)?);
-    Ok(())
 }
 
 /// f(Y, f(X, Y)), where X is the older variable.
@@ -214,8 +200,10 @@ fn have_new_variables(alloc: Global, f: Atom) -> Result<bool, AllocError> {
 }
 
 #[test]
-fn copies_have_new_variables_in_the_order_of_the_term(rt: HostRuntime) -> Result<(), Fail> {
+fn terms_become_equal_and_are_copied(rt: HostRuntime) -> Result<(), Fail> {
     let f = f_named(rt.alloc())?;
+    assert!(rt; equal_or_as_they_are(rt.alloc(), f)?);
+    assert!(rt; is_a_chain(rt.alloc(), f)?);
     assert!(rt; have_new_variables(rt.alloc(), f)?);
     Ok(())
 }
