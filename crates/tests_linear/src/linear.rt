@@ -409,6 +409,12 @@ fn first_wrong(alloc: Global) -> Result<Option<usize>, Fail> {
     Ok(None)
 }
 
+#[test]
+fn lists_are_kept_refused_and_asked_about(rt: HostRuntime) -> Result<(), Fail> {
+    assert_eq!(rt; first_wrong(rt.alloc())?, None);
+    Ok(())
+}
+
 /// x0 >= 0, x0 + x1 = 3, x1 =\= 2
 static TOLD: [Step; 3] = [
     Step::Keeps(Relation::Ge, &[(1, 0)], 0, 0),
@@ -477,6 +483,12 @@ fn is_as_before(alloc: Global) -> Result<bool, Fail> {
     Ok(stays && leaves_three(&store))
 }
 
+#[test]
+fn what_is_undone_is_as_before(rt: HostRuntime) -> Result<(), Fail> {
+    assert!(rt; is_as_before(rt.alloc())?);
+    Ok(())
+}
+
 /// x0 >= 0, x1 = 0, x2 =\= 0, x3 > 0: two inequalities
 static MIXED: [(Relation, Products); 4] = [
     (Relation::Ge, &[(1, 0)]),
@@ -524,9 +536,7 @@ fn enough_for(alloc: Global) -> Result<[Option<u64>; 4], Fail> {
 }
 
 #[test]
-fn lists_are_kept_refused_asked_about_and_undone(rt: HostRuntime) -> Result<(), Fail> {
-    assert_eq!(rt; first_wrong(rt.alloc())?, None);
-    assert!(rt; is_as_before(rt.alloc())?);
+fn enough_is_a_power_of_two(rt: HostRuntime) -> Result<(), Fail> {
     let wanted = [Some(2), Some(8), Some(9_223_372_036_854_775_808), None];
     assert!(rt; enough_for(rt.alloc())? == wanted);
     Ok(())

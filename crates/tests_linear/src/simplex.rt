@@ -145,6 +145,12 @@ fn first_wrong(alloc: Global, cases: &[Case], climbs: bool) -> Result<Option<usi
     Ok(None)
 }
 
+#[test]
+fn rows_have_their_maxima(rt: HostRuntime) -> Result<(), Fail> {
+    assert_eq!(rt; first_wrong(rt.alloc(), &CASES, false)?, None);
+    Ok(())
+}
+
 // Of the two columns the second gains 8 and the first 4. On the box one exchange of the climb and one of the search are not enough.
 // On Beale's example the climb takes two exchanges, where the search by itself takes six.
 static CLIMBS: [Case; 10] = [
@@ -161,8 +167,7 @@ static CLIMBS: [Case; 10] = [
 ];
 
 #[test]
-fn rows_have_their_maxima(rt: HostRuntime) -> Result<(), Fail> {
-    assert_eq!(rt; first_wrong(rt.alloc(), &CASES, false)?, None);
+fn rows_that_climb_have_their_maxima(rt: HostRuntime) -> Result<(), Fail> {
     assert_eq!(rt; first_wrong(rt.alloc(), &CLIMBS, true)?, None);
     Ok(())
 }

@@ -139,6 +139,12 @@ fn first_past_limits(alloc: Global) -> Result<Option<usize>, AllocError> {
     Ok(None)
 }
 
+#[test]
+fn operations_end_at_the_limits(rt: HostRuntime) -> Result<(), Fail> {
+    assert_eq!(rt; first_past_limits(rt.alloc())?, None);
+    Ok(())
+}
+
 static FRACTIONS: [((i128, i128), &str); 17] = [
     ((i128::MIN, i128::MIN), "1"),
     ((i128::MIN, 1), "a number past 128 bits"),
@@ -166,6 +172,12 @@ fn first_other_fraction(alloc: Global) -> Result<Option<usize>, AllocError> {
         }
     }
     Ok(None)
+}
+
+#[test]
+fn every_two_numbers_make_a_fraction_or_a_fault(rt: HostRuntime) -> Result<(), Fail> {
+    assert_eq!(rt; first_other_fraction(rt.alloc())?, None);
+    Ok(())
 }
 
 /// The number, or the pair that is refused; nothing of a quotient by zero.
@@ -241,9 +253,7 @@ fn first_other_refusal(alloc: Global) -> Result<Option<usize>, AllocError> {
 }
 
 #[test]
-fn fractions_and_their_refusals_are_exact(rt: HostRuntime) -> Result<(), Fail> {
-    assert_eq!(rt; first_past_limits(rt.alloc())?, None);
-    assert_eq!(rt; first_other_fraction(rt.alloc())?, None);
+fn a_refusal_tells_its_pair(rt: HostRuntime) -> Result<(), Fail> {
     assert_eq!(rt; first_other_refusal(rt.alloc())?, None);
     Ok(())
 }

@@ -132,6 +132,12 @@ fn first_unlike(alloc: Global) -> Result<Option<usize>, AllocError> {
     Ok(None)
 }
 
+#[test]
+fn goes_back_to_whole_copies(rt: HostRuntime) -> Result<(), Fail> {
+    assert_eq!(rt; first_unlike(rt.alloc())?, None);
+    Ok(())
+}
+
 /// Whether what was pushed behind a mark is gone once that is undone.
 fn is_cut_off(stack: &mut Stack<u32>) -> Result<bool, AllocError> {
     let m = stack.mark()?;
@@ -159,8 +165,7 @@ fn grows_and_goes_back(alloc: Global) -> Result<bool, AllocError> {
 }
 
 #[test]
-fn lists_go_back_to_what_they_were(rt: HostRuntime) -> Result<(), Fail> {
-    assert_eq!(rt; first_unlike(rt.alloc())?, None);
+fn a_list_that_grew_is_cut_off(rt: HostRuntime) -> Result<(), Fail> {
     assert!(rt; grows_and_goes_back(rt.alloc())?);
     Ok(())
 }

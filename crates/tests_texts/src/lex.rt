@@ -485,6 +485,12 @@ fn characters_and_quotes_end_where_they_close(rt: HostRuntime) -> Result<(), Fai
     Ok(())
 }
 
+#[test]
+fn terms_are_cut_into_tokens(rt: HostRuntime) -> Result<(), Fail> {
+    assert_eq!(rt; misread(rt.alloc(), &LISTINGS)?, None);
+    Ok(())
+}
+
 /// Texts with the number or the text that their first token means.
 static VALUES: [Row; 52] = [
     (b"0", "number 0"),
@@ -579,8 +585,7 @@ fn mistaken(alloc: Global) -> Result<Option<usize>, AllocError> {
 }
 
 #[test]
-fn terms_are_cut_into_tokens_with_their_values(rt: HostRuntime) -> Result<(), Fail> {
-    assert_eq!(rt; misread(rt.alloc(), &LISTINGS)?, None);
+fn numerals_and_quotes_have_their_values(rt: HostRuntime) -> Result<(), Fail> {
     assert_eq!(rt; mistaken(rt.alloc())?, None);
     Ok(())
 }

@@ -136,6 +136,12 @@ fn first_wrong(alloc: Global) -> Result<Option<usize>, AllocError> {
     Ok(None)
 }
 
+#[test]
+fn places_have_what_stands_there(rt: HostRuntime) -> Result<(), Fail> {
+    assert_eq!(rt; first_wrong(rt.alloc())?, None);
+    Ok(())
+}
+
 /// What was read, as far as these tests compare it.
 #[derive(Clone, Copy, Debug, PartialEq, Eq)]
 enum Outcome {
@@ -278,6 +284,12 @@ fn first_unlike(alloc: Global) -> Result<Option<usize>, AllocError> {
     Ok(None)
 }
 
+#[test]
+fn pieces_read_as_the_whole_text(rt: HostRuntime) -> Result<(), Fail> {
+    assert_eq!(rt; first_unlike(rt.alloc())?, None);
+    Ok(())
+}
+
 /// Whether the feed's next answer is a clause that ends at a place.
 fn reads_clause(
     feed: &mut Feed,
@@ -347,9 +359,7 @@ fn waits_for_what_follows(alloc: Global) -> Result<bool, AllocError> {
 }
 
 #[test]
-fn texts_are_read_whole_and_in_pieces(rt: HostRuntime) -> Result<(), Fail> {
-    assert_eq!(rt; first_wrong(rt.alloc())?, None);
-    assert_eq!(rt; first_unlike(rt.alloc())?, None);
+fn a_final_full_stop_waits_for_what_follows(rt: HostRuntime) -> Result<(), Fail> {
     assert!(rt; waits_for_what_follows(rt.alloc())?);
     Ok(())
 }
