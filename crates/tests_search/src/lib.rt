@@ -1,5 +1,5 @@
-//! Tests of the crates of a search: choices, continuations, stored clauses, programs, clauses of files and rows of control. What no
-//! clause says of them.
+//! Tests of the crates of a search: choices, continuations, stored clauses, programs and clauses of files. What no clause says
+//! of them.
 #![tactic(auto)]
 
 #[cfg(test)]
@@ -18,10 +18,6 @@ mod names;
 mod program;
 #[cfg(test)]
 mod purposes;
-#[cfg(test)]
-mod rows;
-#[cfg(test)]
-mod searching;
 #[cfg(test)]
 mod stored;
 #[cfg(test)]

@@ -43,7 +43,7 @@ static LINEAR: [Row; 19] = [
 ];
 
 /// Branches, constraints that wait, and goals that sleep.
-static WAITING: [Row; 17] = [
+static WAITING: [Row; 19] = [
     (
         "?- {X>=0}, ({X=<1} ; {X>=2}).",
         "{X>=0}\n{X=<1}\n;\n{X>=2}\n;\nno\n",
@@ -51,6 +51,15 @@ static WAITING: [Row; 17] = [
     (
         "?- {X>=0}, ({X=<0} ; {X=\\=0}).",
         "X = 0\n;\n{X>0}\n;\nno\n",
+    ),
+    (
+        "?- {X>=0}, ({X=<0} ; {X=\\=0} ; {X=0}).",
+        "X = 0\n;\n{X>0}\n;\nX = 0\n;\nno\n",
+    ),
+    (
+        "?- {_X+_Y=_Z, _X>=0, _Y>=0}, ({_Z=0} ; {_X=1} ; _Z=1 ; {_Z=<0}), \
+         (var(_X) -> A=free ; A=_X), (var(_Y) -> B=free ; B=_Y), (var(_Z) -> C=free ; C=_Z).",
+        "A = 0\nB = 0\nC = 0\n;\nA = 1\nB = free\nC = free\n;\nA = free\nB = free\nC = 1\n;\nA = 0\nB = 0\nC = 0\n;\nno\n",
     ),
     (
         "?- {(X=1;X=2), Y=X+1}.",
@@ -88,7 +97,14 @@ static WAITING: [Row; 17] = [
 ];
 
 /// Goals on terms and texts, and what is written.
-static GOALS: [Row; 11] = [
+static GOALS: [Row; 15] = [
+    ("?- write(a), write(b).", "abtrue\n;\nno\n"),
+    (
+        "?- ( ( X=1 ; X=2 ) -> ( Y=a ; Y=b ) ).",
+        "X = 1\nY = a\n;\nX = 1\nY = b\n;\nno\n",
+    ),
+    ("?- \\+ (write(a), fail), write(b).", "abtrue\n;\nno\n"),
+    ("?- \\+ write(a), write(b).", "ano\n"),
     ("?- write(a).", "atrue\n;\nno\n"),
     (
         "?- X is 7 mod -2, Y is -7//2, Z is 1/3.",

@@ -107,3 +107,23 @@ fn deep_terms_and_long_lists_are_read(rt: HostRuntime) -> Result<(), Fail> {
     assert_eq!(rt; first_nested(rt.alloc(), &TERMS)?, None);
     Ok(())
 }
+
+/// That each of a thousand products of neighbours is two, and then that the first variable is one.
+fn chained(alloc: Global) -> Result<String, AllocError> {
+    let mut text = String::from_str(alloc, "?- {")?;
+    for next in 1..1000_usize {
+        let before = next - 1;
+        let link = format!(in alloc; "_X{before}*_X{next}=2, ")?;
+        text.push_str(&link)?;
+    }
+    text.push_str("_X999*X=2}, {_X0=1}.")?;
+    Ok(text)
+}
+
+#[test]
+fn a_value_is_passed_on_a_thousand_times(rt: HostRuntime) -> Result<(), Fail> {
+    let text = chained(rt.alloc())?;
+    let wanted = written("X = 1\n;\nno\n", Status::Done);
+    assert!(rt; does(rt.alloc(), input_of(&["run"], text.as_bytes()), wanted)?);
+    Ok(())
+}

@@ -4,7 +4,7 @@ use Rattle.cq_linear.specs.StoreValue.{kept}
 use Rattle.cq_world.specs.Worlds.{saved_of, now_of}
 use Rattle.cq_world.specs.declared.world.World.{World}
 use Rattle.cq_world.proofs.Parts.{length-at_marks}
-use Rattle.tests_settle.proofs.world.goes_back.Goals as goal
+use Rattle.tests_world.proofs.world.goes_back.Goals as goal
 
 -- a world has as many marks as its terms
 as_many : (w : World) → length (saved_of w) ≡ length w.heap.saved
