@@ -96,6 +96,34 @@ static WAITING: [Row; 19] = [
     ("?- X=f(X).", "no\n"),
 ];
 
+/// Lists over variables that are named and one that isn't: it is taken away by an equation, eliminated, or kept for a disequation.
+static PROJECTED: [Row; 9] = [
+    // each lower row with each upper one, the greater coefficients first
+    (
+        "?- {_X>=U, _X>=V, _X=<W, _X=<Y}.",
+        "{U-Y=<0}\n{U-W=<0}\n{V-Y=<0}\n{V-W=<0}\n;\nno\n",
+    ),
+    // the row that is left beside a disequation is strict, and turned by a negative coefficient
+    ("?- {U=<_X, _X=<V, U=\\=V}.", "{U-V<0}\n;\nno\n"),
+    ("?- {U>=_X, V=<_X, U=\\=V}.", "{U-V>0}\n;\nno\n"),
+    // the strict row follows together with the disequation
+    (
+        "?- {U>=0, V>=0, U+V>0, U=\\=V}.",
+        "{U>=0}\n{V>=0}\n{U-V=\\=0}\n;\nno\n",
+    ),
+    // it is kept for the disequation
+    (
+        "?- {-3*U+6*_X+3=\\=0, _X>0}.",
+        "{_1>0}\n{U-2*_1=\\=1}\n;\nno\n",
+    ),
+    ("?- {_X=6-U-V, _X>0}.", "{U+V<6}\n;\nno\n"),
+    ("?- {U+V+W=6}.", "{U= -V-W+6}\n;\nno\n"),
+    // of equal rows the strict one is left
+    ("?- {U>=0, U>0}.", "{U>0}\n;\nno\n"),
+    // the disequation loses its variables
+    ("?- {_X=U, _X-U=\\=1}.", "true\n;\nno\n"),
+];
+
 /// Goals on terms and texts, and what is written.
 static GOALS: [Row; 15] = [
     ("?- write(a), write(b).", "abtrue\n;\nno\n"),
@@ -196,6 +224,7 @@ static TOO_WIDE: [Row; 5] = [
 fn queries_are_answered(rt: HostRuntime) -> Result<(), Fail> {
     assert_eq!(rt; first_wrong(rt.alloc(), &LINEAR, Status::Done)?, None);
     assert_eq!(rt; first_wrong(rt.alloc(), &WAITING, Status::Done)?, None);
+    assert_eq!(rt; first_wrong(rt.alloc(), &PROJECTED, Status::Done)?, None);
     assert_eq!(rt; first_wrong(rt.alloc(), &GOALS, Status::Done)?, None);
     assert_eq!(rt; first_wrong(rt.alloc(), &WIDE, Status::Done)?, None);
     Ok(())
