@@ -110,10 +110,10 @@ module _ (texts : List Text) (c : Contents) (kept : ClauseValue) (known : HaveNa
     su = with_new kept.variables st
 
     module _ (p : Pending) (work : IsWork texts mid su (head_and c.heap kept goal ∷ []) [] [] p) where
-      call : CallsFor texts mid then_ told [] [] su p
+      abbrev call : CallsFor texts mid then_ told [] [] su p
       call = each su p (ready_mid texts c kept known st ready) work
 
-      pub unifier : Subst Text
+      abbrev pub unifier : Subst Text
       unifier = call.unifier
 
       k : IsCalled texts (with_heap then_ c) told [] [] su p unifier

@@ -226,7 +226,7 @@ module _ (texts : List Text) (c : Contents) (kept : ClauseValue) (known : HaveNa
     work : IsWork texts (with_heap (renamed c.heap kept) c) su (head_and c.heap kept id ∷ []) [] [] (clause_work p goal cl)
     work = clause_is_work texts c kept known moves id works choices lists height rest p goal cl call
 
-    u : Subst Text
+    abbrev u : Subst Text
     u = unifier texts c kept known h id body told r names each p.state call.place.state.ready (clause_work p goal cl) work
 
     is_called : IsCalled texts e told [] [] su (clause_work p goal cl) u

@@ -41,7 +41,9 @@ counted_below n (suc k) (suc i) v l e = let m = counted_below (suc n) k i v (ome
 -- they are numbered from 0 on
 pub numbered_below : (c : ClauseValue) → variables (both c.head c.body) ≡ counted_from 0 c.variables → (v : ℕ) → Occurs v (both c.head c.body) → v < c.variables
 numbered_below c e v o =
-    let k = subst (λ (vs : List ℕ). Contains vs v) e (occurs_listed (both c.head c.body) v o) in counted_below 0 c.variables k.0 v k.1 k.2
+    let k = subst (λ (vs : List ℕ). Contains vs v) e (occurs_listed (both c.head c.body) v o) in
+    let below = counted_below 0 c.variables k.0 v k.1 k.2 in
+    omega (arith, below)
 
 -- ---- the heap with the clause's terms
 
