@@ -10,14 +10,12 @@ ghost use Rattle.cq_control.specs.Items.{items_at};
 ghost use Rattle.cq_frac.specs.declared.Pair.{Pair};
 ghost use Rattle.cq_linear.specs.declared.store.StoreFault.TheVariants.{Overflow, Pivots};
 ghost use Rattle.cq_program.specs.Database.{IsCounted};
-ghost use Rattle.cq_stored.specs.Pattern.{IsNamedBelow};
-ghost use Rattle.cq_term.specs.Meaning.{HeapTerm};
 ghost use Rattle.cq_term.specs.Names.{HasNamesBelow};
 ghost use Rattle.cq_term.specs.Shown.{view_of};
 ghost use Rattle.cq_world.specs.Rest.{IsReady};
 ghost use Rattle.cq_world.specs.Worlds.{now_of, saved_of, room_of};
 ghost use Rattle.cq_settle.specs.Settled.{MayRefuse, MayTake, KeepsMarks};
-ghost use Rattle.cq_steps.specs.Lists.{HasCells, KeepsLists, put_cell};
+ghost use Rattle.cq_steps.specs.Lists.{HasCells, KeepsLists};
 ghost use Rattle.cq_steps.specs.Worlds.{value};
 ghost use Rattle.cq_begin.specs.Begun.{IfGoes, IfPruned};
 ghost use Rattle.cq_begin.specs.Calls.{body_cells, ClauseComes, OfClause};
@@ -145,11 +143,15 @@ fn body_before(
     ensures keeps { KeepsLists lists.old.now lists.new.now }
     ensures saved { lists.new.saved ≡ lists.old.saved }
 {
-    let shown = body_shown(clause);
-    if is_true(shown, atoms) {
+    if is_true(clause, atoms) {
         return Ok(rest);
     }
-    let k = lists.before(cell_of(shown, body, height), rest)?;
+    let cell = if is_callable(clause) {
+        Cell::Goal(body, height)
+    } else {
+        Cell::Call(body)
+    };
+    let k = lists.before(cell, rest)?;
     Ok(k)
 }
 
@@ -160,23 +162,23 @@ fn body_shown(clause: &Clause) -> View
     clause.body()[0]
 }
 
-/// Whether a term that shows this is the atom `true`.
-fn is_true(shown: View, atoms: &Atoms) -> bool
-    requires { IsNamedBelow (length atoms.now) shown }
-    ensures { (t : HeapTerm) → view_of t ≡ shown → result ≡ is_atom "true" (named (text_of atoms.now) t) }
+/// Whether the body of a clause is the atom `true`.
+fn is_true(clause: &Clause, atoms: &Atoms) -> bool
+    requires { HasNamesBelow (length atoms.now) clause.now.body }
+    ensures { result ≡ is_atom "true" (named (text_of atoms.now) clause.now.body) }
 {
-    match shown {
+    match body_shown(clause) {
         View::Name(name) => atoms.text(name) == "true",
         View::Var(_) | View::Number(_) | View::Compound(_, _) => false,
     }
 }
 
-/// The cell of a body that shows this.
-fn cell_of(shown: View, body: TermId, height: usize) -> Cell
-    ensures { (texts : List Text) (t : HeapTerm) → view_of t ≡ shown → result ≡ put_cell (is_callable (named (text_of texts) t)) body height }
+/// Whether the body of a clause is an atom or a compound.
+fn is_callable(clause: &Clause) -> bool
+    ensures { (texts : List Text) → result ≡ is_callable (named (text_of texts) clause.now.body) }
 {
-    match shown {
-        View::Name(_) | View::Compound(_, _) => Cell::Goal(body, height),
-        View::Var(_) | View::Number(_) => Cell::Call(body),
+    match body_shown(clause) {
+        View::Name(_) | View::Compound(_, _) => true,
+        View::Var(_) | View::Number(_) => false,
     }
 }
