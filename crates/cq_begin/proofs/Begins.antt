@@ -1,5 +1,5 @@
 -- A branch that was begun, by what its settling made of the world.
-use Rattle.std.proofs.Common.{◌≡◌, ◌<◌, ◌≤◌, ℕ, List, [], ◌++◌, length, Option, Some, sym, ap, subst, arith}
+use Rattle.std.proofs.Common.{◌≡◌, ◌<◌, ◌≤◌, ℕ, List, [], ◌++◌, length, Option, sym, ap, subst, arith}
 use Rattle.std.specs.Prelude.{⊤, All, IfOk, Ok, Err}
 use Rattle.std.specs.declared.result.Result.{Result}
 use Rattle.std.proofs.lemmas.List.{length-map}
@@ -9,7 +9,6 @@ use Rattle.spec_linear.specs.Solution.{Constraint, Fixes}
 use Rattle.spec_lists.specs.Texts.{Text}
 use Rattle.spec_terms.specs.Term.{Subst, apply}
 use Rattle.spec_terms.specs.Unifier.{IsUnifier, HasNoUnifier, read_under}
-use Rattle.spec_syntax.specs.Trees.{Tree}
 use Rattle.spec_branch.specs.Branch.{State, Item, Pending, Branch, read}
 use Rattle.spec_branch.specs.Settling.{Settles, no_unifier, unified, SettlesUnified, clash, no_solution, kept, Outcome, Kept, kept_branch, bindings_after, woken, Clash}
 use Rattle.spec_branch.specs.Settling as outcome
@@ -32,7 +31,7 @@ use Rattle.cq_rest.specs.Ready.{MayBeTold, with_terms}
 use Rattle.cq_steps.specs.Worlds.{IsBranch, term_in}
 use Rattle.cq_begin.specs.declared.beginning.Begun.{Begun}
 use Rattle.cq_begin.specs.declared.beginning.Begun.TheVariants.{Goes, Pruned}
-use Rattle.cq_begin.specs.Begun.{calls, IfGoes, IfPruned, HasWoken, IsPlacedAs, IsBegun, OfWork, GoesOn, Prunes}
+use Rattle.cq_begin.specs.Begun.{calls, IfGoes, IfPruned, HasWoken, IsBegun, OfWork, GoesOn, Prunes}
 use Rattle.cq_steps.proofs.Added.{tree_is}
 use Rattle.cq_steps.proofs.Reading.{read_live, tree_read}
 use Rattle.cq_begin.proofs.Woken.{woken_calls, calls_fit, calls_are}

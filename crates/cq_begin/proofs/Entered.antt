@@ -18,7 +18,6 @@ use Rattle.cq_stored.specs.StoredValue.{ClauseValue, HaveNamesBelow}
 use Rattle.cq_stored.specs.Building.{moved_by}
 use Rattle.cq_term.specs.HeapValue.{Terms}
 use Rattle.cq_term.specs.Trees.{tree, KnowsTerms}
-use Rattle.cq_walk.specs.declared.pairs.Pair.{Pair}
 use Rattle.cq_world.specs.Contents.{Contents}
 use Rattle.cq_world.specs.Rest.{IsReadyAs}
 use Rattle.cq_world.specs.Standing.{Stands, AreRead, IsConstraint, IsSleeper, constraints, goals}

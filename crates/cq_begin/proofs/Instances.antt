@@ -29,7 +29,6 @@ use Rattle.cq_stored.specs.StoredValue.{ClauseValue, HaveNamesBelow}
 use Rattle.cq_term.specs.HeapValue.{Terms}
 use Rattle.cq_term.specs.Meaning.{HeapTerm}
 use Rattle.cq_term.specs.Trees.{tree, KnowsTerms}
-use Rattle.cq_walk.specs.declared.pairs.Pair.{Pair}
 use Rattle.cq_world.specs.Contents.{Contents}
 use Rattle.cq_world.specs.Rest.{IsReadyAs}
 use Rattle.spec_machine.specs.declared.cell.Cell.{Cell}

@@ -6,7 +6,7 @@ use Rattle.std.proofs.lemmas.List.{length-map, get_or_append_left}
 use Rattle.std.proofs.lemmas.List.Elements.{All-cons, All-nil, All-get_or, All-from_get_or, All-map, All-push}
 use Rattle.spec_lists.specs.Prefixes.{IsPrefix}
 use Rattle.spec_lists.proofs.Prefixes.{prefix_get_or, prefix_within}
-use Rattle.spec_terms.specs.Term.{Subst, Var, Occurs, apply}
+use Rattle.spec_terms.specs.Term.{Subst, Occurs, apply}
 use Rattle.spec_terms.specs.Unifier.{Equation, IsUnifier, HasNoUnifier}
 use Rattle.spec_terms.specs.Variables.{counted_from, variables}
 use Rattle.spec_terms.proofs.Listed.{occurs_listed}
@@ -28,7 +28,7 @@ use Rattle.cq_unify.specs.Copied.{unbound_from}
 use Rattle.cq_unify.specs.Unified.{in_turn}
 use Rattle.cq_unify.proofs.Places.{variables_now}
 use Rattle.cq_unify.proofs.Unbound.{at-map}
-use Rattle.cq_walk.specs.Pairs.{IsLive, equations}
+use Rattle.cq_walk.specs.Pairs.{equations}
 use Rattle.cq_walk.specs.declared.pairs.Pair.{Pair}
 
 -- ---- the clause's variables

@@ -1,8 +1,7 @@
 use Rattle.std.proofs.Common.{◌++◌, [], ◌∷◌, ℕ, List, Ok, length, refl, sym, ap, ◌∙◌, subst, arith}
-use Rattle.std.specs.Prelude.{All}
 use Rattle.spec_linear.specs.Solution.{Constraint}
 use Rattle.cq_frac.specs.declared.VarId.{VarId}
-use Rattle.cq_resolve.specs.Resolved.{Resolved, Resolves}
+use Rattle.cq_resolve.specs.Resolved.{Resolved}
 use Rattle.cq_settle.specs.Called.{SomeIsCalled}
 use Rattle.cq_settle.specs.Settled.{MayRefuse, MayTake}
 use Rattle.cq_rest.specs.Equal.{work_of}
@@ -42,7 +41,7 @@ returns-in_default-clause-comes c =
     let kept = c.args.clause.now in
     let within = numbered_below kept c.requires.clause.numbered in
     none_comes c.args.atoms.now (now_of c.args.world.now) kept c.requires.clause.below (moves k) c.args.goal (works k) c.args.lists.now.now c.args.lists.now.now c.args.height c.args.rest
-    (now_of c.args.world.now)
+    (with_heap c.resolve.new.heap.now (now_of c.args.world.now))
     (λ st p w. c.equated_worlds_may_be_settled.ensures.none c.args.atoms.now (with_heap (renamed old kept) (now_of c.args.world.now)) (head_and old kept c.args.goal ∷ []) [] [] st p c.requires.different
     (names_mid c.args.atoms.now (now_of c.args.world.now) kept c.requires.clause.below c.requires.ready.0 c.requires.ready.1)
     (pairs_live (renamed old kept) (head_and old kept c.args.goal ∷ []) (pair_may old kept within c.args.goal c.look_at.ensures.told))
@@ -73,7 +72,6 @@ each c = λ st p r w.
 
 pub proceed-requires-clause-called : goal.proceed-requires-clause-called
 proceed-requires-clause-called c =
-    let k = (goal.at.proceed-requires-clause-called c).After-resolve in
     let old = c.args.world.now.heap.now in
     let kept = c.args.clause.now in
     let h = c.resolve.new.heap.now in
