@@ -109,24 +109,21 @@ pub is_found : (texts : List Text) (table : Builtins) (p : Pred) → AreBuiltins
     → option_map as_builtin (entry table p) ≡ builtin_of (indicator (text_of texts p.name) p.arity)
 is_found texts table p are different known = by (entry table p) refl
   where
-    abbrev name : Text
-    name = text_of texts p.name
-
-    named : slice_get texts p.name ≡ Some name
+    named : slice_get texts p.name ≡ Some (text_of texts p.name)
     named = slice_get-get_or texts p.name [] known
 
-    none : (o : Option definition.Builtin) → builtin_of (indicator name p.arity) ≡ o → entry table p ≡ None → None ≡ o
+    none : (o : Option definition.Builtin) → builtin_of (indicator (text_of texts p.name) p.arity) ≡ o → entry table p ≡ None → None ≡ o
     none None e h = refl
     none (Some b) e h =
-        let k = are.all p.arity name (ap is_some e) in
-        let there : is_some (entry table p) ≡ true = ap (λ a. is_some (entry table (record { name = a; arity = p.arity }))) (different p.name k.number name named k.named) ∙ k.there in
+        let k = are.all p.arity (text_of texts p.name) (ap is_some e) in
+        let there : is_some (entry table p) ≡ true = ap (λ a. is_some (entry table (record { name = a; arity = p.arity }))) (different p.name k.number (text_of texts p.name) named k.named) ∙ k.there in
         absurd (never (entry table p) h there)
 
-    by : (o : Option Builtin) → entry table p ≡ o → option_map as_builtin o ≡ builtin_of (indicator name p.arity)
-    by None e = none (builtin_of (indicator name p.arity)) refl e
+    by : (o : Option Builtin) → entry table p ≡ o → option_map as_builtin o ≡ builtin_of (indicator (text_of texts p.name) p.arity)
+    by None e = none (builtin_of (indicator (text_of texts p.name) p.arity)) refl e
     by (Some b) e =
         let r = are.right p b e in
-        let same : name ≡ r.name = some_one name r.name (sym named ∙ r.named) in
+        let same : text_of texts p.name ≡ r.name = some_one (text_of texts p.name) r.name (sym named ∙ r.named) in
         sym (ap (λ t. builtin_of (indicator t p.arity)) same ∙ r.is)
       where
         some_one : (x y : Text) → Some x ≡ Some y → x ≡ y
