@@ -1,5 +1,5 @@
-use Rattle.std.proofs.Common.{[], refl, arith}
-use Rattle.cq_table.proofs.Table.{are_rows, none_other}
+use Rattle.std.proofs.Common.{arith}
+use Rattle.cq_table.proofs.Table.{none_other}
 use Rattle.cq_table.proofs.builtins.rows.Goals as goal
 
 pub returns-in_default : goal.returns-in_default

@@ -1,6 +1,5 @@
-use Rattle.std.proofs.Common.{List, ap, sym, subst}
+use Rattle.std.proofs.Common.{ap, sym, subst}
 use Rattle.std.specs.Map.{lookup}
-use Rattle.spec_lists.specs.Texts.{Text}
 use Rattle.cq_atoms.specs.Texts.{KeepsTexts}
 use Rattle.cq_clauses.specs.Database.{same_pred}
 use Rattle.cq_table.proofs.Entries.{gains_names, gains_entry, has_entry}

@@ -15,11 +15,13 @@ loop-name-preserved c =
     let g = c.put.ensures.gains in
     let n = c.args.arity in
     let rows = c.rows-name-items.result.now in
-    let P = λ (row : Bor Text × Builtin). HasEntry c.put.new.atoms c.put.new.self row.0.now n in
-    (gains_then _ _ _ _ _ _ c.loop-name.invariant.0 g, c.put.ensures.different,
-    AllWithin-more P rows 0 c.loop-name.name-index
-    (λ k d low l. g.entries _ n (c.loop-name.invariant.2 k d low l))
-    (λ d. subst P (get_or_default rows c.loop-name.name-index _ d (omega arith)) c.in_ok-put.ensures.there))
+    let P = λ (row : Bor Text × Builtin). HasEntry c.put.new.atoms c.put.new.self row.0.now n in (
+      gains_then _ _ _ _ _ _ c.loop-name.invariant.0 g,
+      c.put.ensures.different,
+      AllWithin-more P rows 0 c.loop-name.name-index
+          (λ k d low l. g.entries _ n (c.loop-name.invariant.2 k d low l))
+          (λ d. subst P (get_or_default rows c.loop-name.name-index _ d (omega arith)) c.in_ok-put.ensures.there),
+    )
 
 pub returns-clause-all : goal.returns-clause-all
 returns-clause-all c =

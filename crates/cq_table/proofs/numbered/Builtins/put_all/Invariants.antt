@@ -1,9 +1,8 @@
-use Rattle.std.proofs.Common.{◌≡◌, Bor, List}
+use Rattle.std.proofs.Common.{Bor}
 use Rattle.std.specs.List.{AllWithin}
 use Rattle.spec_lists.specs.Texts.{Text}
 use Rattle.cq_atoms.specs.Texts.{AreDifferent}
 use Rattle.cq_table.specs.Numbered.{Gains, HasEntry}
-use Rattle.cq_table.specs.Rows.{AreRows}
 use Rattle.cq_table.specs.declared.builtins.Builtin.{Builtin}
 use Rattle.cq_table.proofs.numbered.Builtins.put_all.Given as goal
 
