@@ -40,10 +40,10 @@ pub fn not_unify(
 {
     let left = m.world.first.heap.arg(goal, 0);
     let right = m.world.first.heap.arg(goal, 1);
-    let name = m.names.equal;
-    let equal = build(m, name, &[left, right])?;
-    let name = m.names.not;
-    let negated = build(m, name, &[equal])?;
+    let equality = m.names.equal;
+    let negation = m.names.not;
+    let equal = build(m, equality, &[left, right])?;
+    let negated = build(m, negation, &[equal])?;
     let step = put(m, negated, height, rest)?;
     Ok(step)
 }
