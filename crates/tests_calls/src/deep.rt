@@ -4,7 +4,7 @@ use crate::outcomes::comes_to_it;
 use std::alloc::{AllocError, Global};
 use std::test::Fail;
 
-const MANY: usize = 100_000;
+const MANY: usize = 50_000;
 
 /// Adds a text, and then another one so many times.
 fn add(row: &mut String, first: &str, text: &str) -> Result<(), AllocError> {
@@ -91,7 +91,7 @@ fn add_sum(row: &mut String, term: &str) -> Result<(), AllocError> {
 fn is_linear(alloc: Global) -> Result<bool, AllocError> {
     let mut row = String::from_str(alloc, "linear(X=")?;
     add_sum(&mut row, "X")?;
-    row.push_str("). Eq -200000")?;
+    row.push_str("). Eq -100000")?;
     comes_to_it(alloc, row.as_bytes())
 }
 
@@ -109,7 +109,7 @@ fn is_told(alloc: Global) -> Result<bool, AllocError> {
 fn has_value(alloc: Global) -> Result<bool, AllocError> {
     let mut row = String::from_str(alloc, "X is ")?;
     add_sum(&mut row, "1")?;
-    row.push_str(". 200001")?;
+    row.push_str(". 100001")?;
     comes_to_it(alloc, row.as_bytes())
 }
 
