@@ -7,7 +7,7 @@ use Rattle.spec_lists.specs.Texts.{Text}
 use Rattle.spec_reading.specs.Decided.{Decided}
 use Rattle.spec_search.specs.Database.{Database, initial}
 use Rattle.spec_stops.specs.Causes.{Budgets}
-use Rattle.spec_transcript.specs.Purposes.{Input}
+use Rattle.spec_transcript.specs.declared.Source.TheVariants.{Input}
 use Rattle.spec_transcript.specs.Session as session
 use Rattle.spec_transcript.specs.Session.{Session, Opening, Reading, Reader, Marks, Runs}
 

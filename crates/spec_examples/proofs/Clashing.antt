@@ -23,7 +23,7 @@ use Rattle.spec_branch.specs.Alike.{no_values}
 use Rattle.spec_search.specs.Database.{initial}
 use Rattle.spec_search.specs.Search.{Search, empty_state}
 use Rattle.spec_search.specs.Turns as turn
-use Rattle.spec_transcript.specs.Purposes.{Input}
+use Rattle.spec_transcript.specs.declared.Source.TheVariants.{Input}
 use Rattle.spec_transcript.specs.Session as session
 use Rattle.spec_transcript.specs.Session.{Reader, AQuery, Opening, Searching, plain_line}
 use Rattle.spec_lists.specs.Texts.{Text}

@@ -22,7 +22,7 @@ use Rattle.spec_stops.specs.Causes.{Overflow, stop_text}
 use Rattle.spec_stops.specs.Operands.{relation_operands}
 use Rattle.spec_stops.specs.Settlings.{IsListOf, IsSettlingMoment}
 use Rattle.spec_stops.specs.Due.{Due, overflow, settles}
-use Rattle.spec_transcript.specs.Purposes.{Input}
+use Rattle.spec_transcript.specs.declared.Source.TheVariants.{Input}
 use Rattle.spec_transcript.specs.Session as session
 use Rattle.spec_transcript.specs.Session.{Reader, AQuery, Opening, Reading, stop_line}
 use Rattle.spec_lists.specs.Texts.{Text}

@@ -295,12 +295,12 @@ fn deep(heap: &mut Heap, newly: &mut Newly, f: Atom) -> Result<bool, AllocError>
     Ok(found.is_some())
 }
 
-/// Whether no variable of the goal was bound, either.
-fn binds_nothing(alloc: Global, f: Atom) -> Result<bool, AllocError> {
+/// Whether the clause's variable alone was bound.
+fn binds_its_own(alloc: Global, f: Atom) -> Result<bool, AllocError> {
     let mut heap = Heap::new(alloc);
     let mut newly = Newly::new(alloc);
     let found = deep(&mut heap, &mut newly, f)?;
-    Ok(found && newly.as_slice().is_empty())
+    Ok(found && newly.as_slice().len() == 1)
 }
 
 fn named(alloc: Global) -> Result<Atom, AllocError> {
@@ -310,6 +310,6 @@ fn named(alloc: Global) -> Result<Atom, AllocError> {
 #[test]
 fn depth_needs_no_stack(rt: HostRuntime) -> Result<(), Fail> {
     let f = named(rt.alloc())?;
-    assert!(rt; binds_nothing(rt.alloc(), f)?);
+    assert!(rt; binds_its_own(rt.alloc(), f)?);
     Ok(())
 }
