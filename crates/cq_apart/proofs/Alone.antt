@@ -1,6 +1,6 @@
 -- A row that bounds a variable from a side from which none of the others does follows from none of them: its opposite
 -- bounds the variable from the other side alone.
-use Rattle.std.proofs.Common.{◌≡◌, inl, inr, ℕ, List, [], ◌∷◌, ◌++◌, pos, refl, ap, sym, subst, ◌∙◌}
+use Rattle.std.proofs.Common.{◌≡◌, inl, inr, ℕ, List, [], ◌∷◌, pos, refl, ap, sym, subst, ◌∙◌}
 use Rattle.spec_rational.specs.Rational.{ℚ, 0ℚ, neg_ℚ, IsPositive}
 use Rattle.spec_rational.specs.Sums.{unit, factor_of}
 use Rattle.spec_rational.proofs.Ring.{var, int, minus}

@@ -1,25 +1,25 @@
 -- Rows without x that none of some rows follows from stay so beside combinations of the others: each combination follows
 -- from rows in which x stands.
-use Rattle.std.proofs.Common.{◌≡◌, ◌⊎◌, inl, inr, ℕ, List, [], ◌∷◌, ◌++◌, Bool, true, false, cond, pos, refl, ap, sym, subst, ◌∙◌}
+use Rattle.std.proofs.Common.{◌≡◌, ◌⊎◌, inl, inr, ℕ, List, [], ◌∷◌, ◌++◌, Bool, true, false, cond, length, take, drop, pos, refl, ap, ap₂, sym, subst, ◌∙◌}
 use Rattle.std.specs.Prelude.{filter}
-use Rattle.std.proofs.lemmas.List.Elements.{filter-append}
+use Rattle.std.proofs.Math.Seq.{take-append_seam, drop-append_seam}
 use Rattle.spec_rational.specs.Rational.{ℚ, 0ℚ, IsPositive, neg_ℚ}
 use Rattle.spec_rational.proofs.Sign.{not_pos_zero}
 use Rattle.spec_rational.proofs.Ring.{int, minus}
 use Rattle.spec_rational.proofs.Rational.{ring}
 use Rattle.spec_lists.proofs.Places.{nothing_within}
 use Rattle.spec_linear.specs.Form.{is_zero, changed_at}
-use Rattle.spec_linear.specs.Solution.{Constraint, HoldsAt, Satisfies, Entails, Equivalent, Has}
+use Rattle.spec_linear.specs.Solution.{Constraint, Satisfies, Entails, Has}
 use Rattle.spec_linear.proofs.Denominators.{has_left, has_right, satisfies_agrees}
 use Rattle.spec_linear.proofs.Lists.{entails_same, alike_trans}
 use Rattle.spec_inequalities.proofs.Far.{member_satisfied}
 use Rattle.spec_projection.specs.Elimination.{coefficient, lower_rows, upper_rows, other_rows, combinations, eliminated}
-use Rattle.spec_projection.specs.Irredundant.{IsIrredundant, IsSublist, IsIrredundantSublist, NoneFollows, Sifts}
+use Rattle.spec_projection.specs.Irredundant.{IsIrredundant, IsIrredundantSublist, NoneFollows, Sifts}
 use Rattle.spec_projection.specs.Partial.{AreInequalities}
 use Rattle.spec_projection.proofs.Members.{satisfies_all, has_either, alike_refl, alike_swapped}
 use Rattle.spec_projection.proofs.Projected.{changed_to_itself}
 use Rattle.spec_projection.proofs.Sifted.{sublist_has, none_yet, sifted_sublist, sifted_alike, sifted_none}
-use Rattle.spec_projection.proofs.Splits.{Before, Behind, split, entails_members}
+use Rattle.spec_projection.proofs.Splits.{split, entails_members}
 use Rattle.spec_projection.proofs.Step.{Pair, has_pair, pair_has, lower_is, upper_is, other_is, has_lower, has_upper, from_value}
 use Rattle.cq_sift.proofs.Parts.{sublist_all, sublist_both}
 use Rattle.cq_eliminate.specs.Eliminating.{IsLeftBeside}
@@ -161,3 +161,30 @@ module _ (x : ℕ) (rows : List Constraint) (i : AreInequalities rows) where
             (alike_trans (left ++ old) (new ++ old) (old ++ new) s.same (alike_swapped new old));
         irredundant = both_stand irredundant left (sublist_has left new s.sublist) s.none;
       }
+
+-- ---- the two parts of the rows without x
+
+-- where they are parted
+module _ (x : ℕ) (rows fewer : List Constraint) (at : ℕ) (is : fewer ≡ eliminated x rows) (others : at ≡ length (other_rows x rows)) where
+  pub old_rows : (old : List Constraint) → old ≡ take at fewer → old ≡ other_rows x rows
+  old_rows old e = e ∙ ap₂ (λ n l. take n l) others is ∙ take-append_seam (other_rows x rows) (combinations x (lower_rows x rows) (upper_rows x rows))
+
+  pub new_rows : (new : List Constraint) → new ≡ drop at fewer → new ≡ combinations x (lower_rows x rows) (upper_rows x rows)
+  new_rows new e = e ∙ ap₂ (λ n l. drop n l) others is ∙ drop-append_seam (other_rows x rows) (combinations x (lower_rows x rows) (upper_rows x rows))
+
+module _ (x : ℕ) (rows old new : List Constraint) (old_is : old ≡ other_rows x rows) (new_is : new ≡ combinations x (lower_rows x rows) (upper_rows x rows)) where
+  pub both_parts : old ++ new ≡ eliminated x rows
+  both_parts = ap₂ (λ k l. k ++ l) old_is new_is
+
+  pub old_inequalities : AreInequalities (eliminated x rows) → AreInequalities old
+  old_inequalities i c h = i c (subst (Has c) both_parts (has_left c old new h))
+
+  pub new_inequalities : AreInequalities (eliminated x rows) → AreInequalities new
+  new_inequalities i c h = i c (subst (Has c) both_parts (has_right c old new h))
+
+  pub left_together : AreInequalities rows → IsIrredundant rows → (left : List Constraint) → IsLeftBeside old new left
+      → IsIrredundantSublist (old ++ left) (eliminated x rows)
+  left_together i irredundant left s =
+      subst (λ k. IsIrredundantSublist (k ++ left) (eliminated x rows)) (sym old_is)
+      (left_with x rows i irredundant left
+      (subst (λ k. IsLeftBeside k (combinations x (lower_rows x rows) (upper_rows x rows)) left) old_is (subst (λ m. IsLeftBeside old m left) new_is s)))
