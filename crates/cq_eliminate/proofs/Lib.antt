@@ -1,3 +1,5 @@
 pub mod Exits
+pub mod Fresh
 pub mod Standing
 pub mod Steps
+pub mod Stops

@@ -7,7 +7,7 @@ use Rattle.spec_linear.proofs.Lists.{alike_solvable, alike_sym}
 use Rattle.spec_projection.specs.Targets.{SameOn}
 use Rattle.spec_projection.specs.Lists.{AreForms}
 use Rattle.spec_projection.specs.Elimination.{eliminated}
-use Rattle.spec_projection.specs.Irredundant.{IsIrredundantSublist}
+use Rattle.spec_projection.specs.Irredundant.{IsIrredundant, IsIrredundantSublist}
 use Rattle.spec_projection.specs.Partial.{AreInequalities, IsNext, IsPartial, first, next, before}
 use Rattle.spec_projection.proofs.Members.{has_either}
 use Rattle.spec_projection.proofs.Sifted.{sublist_has}
@@ -39,6 +39,7 @@ pub record AreLeft (others : List ℕ) (start m : List Constraint) : Type 0 wher
   pub forms : AreForms m
   pub inequalities : AreInequalities m
   pub solvable : Solvable m
+  pub irredundant : IsIrredundant m
   pub mentions : (y : ℕ) → SomeMentions y m → SomeMentions y start
   pub partial : (targets : List ℕ) → AreOver targets others start → IsPartial targets start m
 
@@ -51,6 +52,7 @@ module _ (others : List ℕ) (start : List Constraint) where
         forms = λ c h. f c (has c h);
         inequalities = λ c h. i c (has c h);
         solvable = alike_solvable start m (alike_sym m start k.same) s;
+        irredundant = k.irredundant;
         mentions = sublist_mentions m start has;
         partial = λ targets o. first k;
       }
@@ -76,6 +78,7 @@ module _ (others : List ℕ) (start : List Constraint) where
             forms = λ c h. AreForms-eliminated x m a.forms c (has c h);
             inequalities = λ c h. AreInequalities-eliminated x m a.inequalities c (has c h);
             solvable = alike_solvable (eliminated x m) k (alike_sym k (eliminated x m) s.same) (solvable_without x m a.inequalities a.solvable);
+            irredundant = s.irredundant;
             mentions = λ y h. a.mentions y (no_variable_joins x y m a.forms (sublist_mentions k (eliminated x m) has y h));
             partial = λ targets o. next (a.partial targets o) (is_next targets o) s;
           }

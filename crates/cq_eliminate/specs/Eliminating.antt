@@ -1,7 +1,8 @@
 -- Stops while variables are eliminated one after the other.
 use Rattle.std.specs.Prelude.{◌≡◌, ℕ, ◌+◌, ◌*◌, ◌<◌, List, [], ◌++◌, length}
-use Rattle.spec_linear.specs.Solution.{Constraint, MentionsOnly}
+use Rattle.spec_linear.specs.Solution.{Constraint, Equivalent, MentionsOnly}
 use Rattle.spec_projection.specs.Elimination.{lower_rows, upper_rows, other_rows, eliminated}
+use Rattle.spec_projection.specs.Irredundant.{IsSublist, NoneFollows}
 use Rattle.spec_projection.specs.Partial.{IsPartial, IsPartialProjection, RowsDue}
 use Rattle.spec_limits.specs.Overflow.{Moment, OverflowDue}
 use Rattle.cq_frac.specs.declared.Pair.{Pair}
@@ -15,6 +16,12 @@ pub record AreOver (targets others : List ℕ) (l : List Constraint) : Type 0 wh
   pub all : MentionsOnly (others ++ targets) l
 
 -- ---- one variable
+
+-- some of the new rows, which say beside the others what all of them say there, and of which none follows
+pub record IsLeftBeside (beside new left : List Constraint) : Type 0 where
+  pub sublist : IsSublist left new
+  pub same : Equivalent (left ++ beside) (new ++ beside)
+  pub none : NoneFollows left beside
 
 -- the pair is refused while x is eliminated from the rows, or while redundant ones of those that are left are dropped
 pub data RefusesStep (x : ℕ) (m : List Constraint) (pair : Pair) : Type 0 where

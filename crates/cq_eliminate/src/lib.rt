@@ -2,25 +2,28 @@
 //! between: the next is always the one with the fewest pairs of a lower and an upper row.
 #![tactic(auto)]
 
-ghost use Rattle.std.specs.Prelude.{◌≡◌, ℕ, List, [], IfOk, IfErr};
+ghost use Rattle.std.specs.Prelude.{◌≡◌, ℕ, List, [], ◌++◌, IfOk, IfErr, OnOk};
 ghost use Rattle.spec_linear.specs.Solution.{Solvable, MentionsOnly};
 ghost use Rattle.spec_projection.specs.Lists.{AreForms};
 ghost use Rattle.spec_projection.specs.Elimination.{eliminated as eliminated_from};
-ghost use Rattle.spec_projection.specs.Irredundant.{IsIrredundantSublist};
+ghost use Rattle.spec_projection.specs.Irredundant.{IsIrredundant, IsIrredundantSublist};
 ghost use Rattle.spec_projection.specs.Partial.{AreInequalities, IsPartial};
 ghost use Rattle.cq_frac.specs.declared.Pair.{Pair};
 ghost use Rattle.cq_store.specs.Told.{numbers_of};
 ghost use Rattle.cq_fourier.specs.Next.{Counts};
 ghost use Rattle.cq_sift.specs.Sifting.{RefusesSifting, SpendsSifting};
+ghost use Rattle.cq_pass.specs.Passing.{RefusesPass, SpendsPass};
 ghost use Rattle.cq_eliminate.specs.declared.ProjectFault.TheVariants.{Overflow, Pivots, NoMemory};
 ghost use Rattle.cq_eliminate.specs.Faults.{IsFaultOf, fault_of, IfRows};
-ghost use Rattle.cq_eliminate.specs.Eliminating.{AreOver, RefusesStep, SpendsStep, RefusesEliminating, SpendsEliminating, IsLimitPassed, IsRowsDue};
+ghost use Rattle.cq_eliminate.specs.Eliminating.{AreOver, IsLeftBeside, RefusesStep, SpendsStep, RefusesEliminating, SpendsEliminating, IsLimitPassed, IsRowsDue};
 
+use cq_apart::stand_apart;
 use cq_form::Constraint;
 use cq_fourier::eliminated;
 use cq_fourier::next::{Elimination, next_of};
 use cq_frac::{Pair, Refusal, VarId};
 use cq_linear::store::{Store, StoreFault};
+use cq_pass::passed;
 use cq_sift::sift;
 use std::alloc::{AllocError, Global};
 use thiserror::Error;
@@ -94,8 +97,40 @@ fn irredundant(
     sift(alloc, &mut store, rows)
 }
 
+/// What is left of new rows beside others, so that none follows from the rest and those beside. No store is made where each
+/// bounds a variable from a side from which no other row does.
+fn left_beside(
+    alloc: Global,
+    beside: &[Constraint],
+    new: Vec<Constraint>,
+    pivots: u64,
+) -> Result<Vec<Constraint>, StoreFault>
+    requires solvable { Solvable (beside.now ++ new.items) }
+    requires inequalities { AreInequalities new.items }
+    requires inequalities_beside { AreInequalities beside.now }
+    ensures left { IfOk result (λ left. IsLeftBeside beside.now new.items left.items) }
+    ensures overflow { (pair : Pair) → result ≡ Err (StoreFault.Overflow pair) → RefusesPass beside.now new.items pair }
+    ensures pivots { (n : ℕ) → result ≡ Err (StoreFault.Pivots n) → (n ≡ pivots) × SpendsPass beside.now new.items n }
+{
+    if stand_apart(&new, beside) {
+        return Ok(new);
+    }
+    passed(alloc, beside, &new, pivots)
+}
+
+/// Appends the rows.
+fn append(rows: &mut Vec<Constraint>, more: Vec<Constraint>) -> Result<(), AllocError>
+    ensures { OnOk result (rows.new.items ≡ rows.old.items ++ more.items) }
+{
+    'more: for row in more {
+        rows.push(row)?;
+    }
+    Ok(())
+}
+
 /// The rows without the variable, none of them redundant; `Rows` where there would be more than the limit before
-/// redundant ones are dropped.
+/// redundant ones are dropped. The rows in which it does not stand are irredundant still, beside combinations of the others,
+/// and only these are gone through.
 fn step(
     alloc: Global,
     rows: Vec<Constraint>,
@@ -106,6 +141,7 @@ fn step(
     requires counts { Counts rows.items next }
     requires solvable { Solvable rows.items }
     requires inequalities { AreInequalities rows.items }
+    requires irredundant { IsIrredundant rows.items }
     ensures sublist { IfOk result (λ left. IsIrredundantSublist left.items (eliminated_from next.variable.0 rows.items)) }
     ensures overflow { (pair : Pair) → result ≡ Err (Overflow pair) → RefusesStep next.variable.0 rows.items pair }
     ensures pivots { (n : ℕ) → result ≡ Err (Pivots n) → (n ≡ pivots) × SpendsStep next.variable.0 rows.items n }
@@ -114,11 +150,14 @@ fn step(
     if next.rows() > u128::from(limit) {
         return Err(ProjectFault::Rows(next.lower, next.upper, next.others, rows));
     }
-    let fewer = eliminated(alloc, &rows, next.variable)?;
-    match irredundant(alloc, &fewer, pivots) {
-        Ok(left) => Ok(left),
-        Err(fault) => Err(ProjectFault::from(fault)),
-    }
+    let mut fewer = eliminated(alloc, &rows, next.variable)?;
+    let new = fewer.split_off(next.others)?;
+    let left = match left_beside(alloc, &fewer, new, pivots) {
+        Ok(left) => left,
+        Err(fault) => return Err(ProjectFault::from(fault)),
+    };
+    append(&mut fewer, left)?;
+    Ok(fewer)
 }
 
 /// The rows without these variables: the next of them is eliminated and redundant rows are dropped, until none is left.

@@ -107,7 +107,8 @@ fn execute_named(
     requires predicate { IsOf m.old.atoms predicate (tree m.old.atoms (terms m.old) goal) }
     ensures { IsDone m.old m.new goal height rest result }
 {
-    match m.names.builtins.get(predicate) {
+    let Pred { name, arity } = predicate;
+    match m.names.builtins.get(Pred { name, arity }) {
         Some(builtin) => execute_builtin(m, builtin, goal, height, rest),
         None => {
             let alloc = m.world.first.heap.alloc();
