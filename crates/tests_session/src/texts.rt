@@ -127,22 +127,3 @@ fn a_value_is_passed_on_a_thousand_times(rt: HostRuntime) -> Result<(), Fail> {
     assert!(rt; does(rt.alloc(), input_of(&["run"], text.as_bytes()), wanted)?);
     Ok(())
 }
-
-/// A variable with sixty-five lower and sixty-four upper rows: these are 4,160 pairs.
-fn between(alloc: Global) -> Result<String, AllocError> {
-    let mut text = String::from_str(alloc, "?- {")?;
-    for number in 1..65 {
-        let rows = format!(in alloc; "L{number}=<_X, _X=<U{number}, ")?;
-        text.push_str(&rows)?;
-    }
-    text.push_str("L=<_X}.")?;
-    Ok(text)
-}
-
-#[test]
-fn too_many_rows_of_an_answer_stop_its_query(rt: HostRuntime) -> Result<(), Fail> {
-    let text = between(rt.alloc())?;
-    let wanted = written("stop: projection\n", Status::Stopped);
-    assert!(rt; does(rt.alloc(), input_of(&["run"], text.as_bytes()), wanted)?);
-    Ok(())
-}
