@@ -215,7 +215,7 @@ fn is_told(text: &[u8], outcome: &[u8]) -> bool {
 
 /// Whether the goal with which a text begins comes to what stands behind it: the goal under each alternative, in order, with
 /// the pairs made equal, or what its check gives, or the ball of its error.
-fn comes_to_it(alloc: Global, text: &[u8]) -> Result<bool, AllocError> {
+pub(crate) fn comes_to_it(alloc: Global, text: &[u8]) -> Result<bool, AllocError> {
     let mut heap = Heap::new(alloc);
     let mut atoms = Atoms::new(alloc);
     let ops = Ops::standard(alloc, &mut atoms)?;
