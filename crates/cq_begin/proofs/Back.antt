@@ -9,15 +9,13 @@ use Rattle.cq_control.specs.Open.{open_choices}
 use Rattle.cq_linear.specs.declared.store.StoreFault.{StoreFault}
 use Rattle.cq_linear.specs.declared.store.StoreFault.TheVariants.{Overflow, Pivots, NoMemory}
 use Rattle.cq_program.specs.Database.{Program}
-use Rattle.cq_world.specs.Contents.{Contents}
 use Rattle.cq_world.specs.declared.world.World.{World}
 use Rattle.spec_machine.specs.declared.cell.Cell.{Cell}
-use Rattle.spec_machine.specs.Cells.{Stack, Value}
 use Rattle.spec_machine.specs.Coming.{Quietly, Told, Tells, shows, Comes}
 use Rattle.spec_machine.specs.Coming as coming
 use Rattle.spec_machine.specs.Standing.{engine, IsStanding}
 use Rattle.cq_steps.specs.declared.alternatives.Alternatives.{Alternatives}
-use Rattle.cq_steps.specs.Worlds.{IsBranch, term_in, value, saved_values, stack, left_at}
+use Rattle.cq_steps.specs.Worlds.{IsBranch, term_in, value, saved_values, left_at}
 use Rattle.cq_steps.proofs.Arrived.{quietly_on, comes_on, comes_at_once}
 use Rattle.cq_begin.specs.Stops.{ComesToStop, FaultStops, IsBack, ComesOn, AllStop}
 

@@ -1,5 +1,5 @@
 -- A branch that was begun, by what its settling made of the world.
-use Rattle.std.proofs.Common.{◌≡◌, ◌<◌, ◌≤◌, ℕ, List, [], ◌++◌, length, Option, Some, sym, ap, subst, arith}
+use Rattle.std.proofs.Common.{◌≡◌, ◌<◌, ◌≤◌, ℕ, List, [], ◌++◌, length, Option, sym, ap, subst, arith}
 use Rattle.std.specs.Prelude.{⊤, All, IfOk, Ok, Err}
 use Rattle.std.specs.declared.result.Result.{Result}
 use Rattle.std.proofs.lemmas.List.{length-map}
@@ -8,15 +8,14 @@ use Rattle.spec_rational.specs.Rational.{ℚ}
 use Rattle.spec_linear.specs.Solution.{Constraint, Fixes}
 use Rattle.spec_lists.specs.Texts.{Text}
 use Rattle.spec_terms.specs.Term.{Subst, apply}
-use Rattle.spec_terms.specs.Unifier.{HasNoUnifier, read_under}
-use Rattle.spec_syntax.specs.Trees.{Tree}
+use Rattle.spec_terms.specs.Unifier.{IsUnifier, HasNoUnifier, read_under}
 use Rattle.spec_branch.specs.Branch.{State, Item, Pending, Branch, read}
 use Rattle.spec_branch.specs.Settling.{Settles, no_unifier, unified, SettlesUnified, clash, no_solution, kept, Outcome, Kept, kept_branch, bindings_after, woken, Clash}
 use Rattle.spec_branch.specs.Settling as outcome
 use Rattle.cq_control.specs.Items.{items_at}
 use Rattle.cq_frac.specs.declared.VarId.{VarId}
 use Rattle.cq_linear.specs.declared.store.StoreFault.{StoreFault}
-use Rattle.cq_settle.specs.Called.{OfCalls}
+use Rattle.cq_settle.specs.Called.{IsCalled, OfCalls, bound_state}
 use Rattle.cq_settle.specs.Settled.{IsPruned, woken_goals}
 use Rattle.cq_term.specs.HeapValue.{Terms}
 use Rattle.cq_walk.specs.Pairs.{IsLive}
@@ -25,14 +24,14 @@ use Rattle.cq_world.specs.Contents.{Contents}
 use Rattle.cq_world.specs.Rest.{IsReadyAs}
 use Rattle.spec_machine.specs.declared.cell.Cell.{Cell}
 use Rattle.spec_machine.specs.Cells.{Fits, Stack}
-use Rattle.spec_machine.specs.Standing.{AreItems}
+use Rattle.spec_machine.specs.Standing.{AreItems, KeepsReading}
 use Rattle.spec_machine.proofs.Kept.{items_read_on}
 use Rattle.cq_rest.specs.Equal.{MayBeEqual, AllEqual, IsWork, CallsFor}
 use Rattle.cq_rest.specs.Ready.{MayBeTold, with_terms}
 use Rattle.cq_steps.specs.Worlds.{IsBranch, term_in}
 use Rattle.cq_begin.specs.declared.beginning.Begun.{Begun}
 use Rattle.cq_begin.specs.declared.beginning.Begun.TheVariants.{Goes, Pruned}
-use Rattle.cq_begin.specs.Begun.{calls, IfGoes, IfPruned, HasWoken, IsPlacedAs, IsBegun, OfWork, GoesOn, Prunes}
+use Rattle.cq_begin.specs.Begun.{calls, IfGoes, IfPruned, HasWoken, IsBegun, OfWork, GoesOn, Prunes}
 use Rattle.cq_steps.proofs.Added.{tree_is}
 use Rattle.cq_steps.proofs.Reading.{read_live, tree_read}
 use Rattle.cq_begin.proofs.Woken.{woken_calls, calls_fit, calls_are}
@@ -51,14 +50,12 @@ kept_fixes items st p u o (kept n j s fixed fixes) = (fixed, fixes)
 
 -- ---- the branch is kept
 
-module _ (texts : List Text) (choices : Stack Contents) (c : Contents) (h : Terms) (d : Contents) (lists later : List (List Cell)) (rest k : ℕ)
-    (newly : List VarId) (told : List ℕ) (rows : List Constraint) (items : List Item) (st : State) (p : Pending)
-    (place : IsPlacedAs texts choices (c, lists) rest items st) (call : CallsFor texts c h newly told rows st p)
-    (shorter : length c.heap.terms ≤ length h.terms)
-    (w : HasWoken texts (with_terms c h) d lists later rest k st p call.unifier) where
-  abbrev u : Subst Text
-  u = call.unifier
-
+-- a settled world, in which the cells of a continuation are read under the unified bindings
+module _ (texts : List Text) (choices : Stack Contents) (c e d : Contents) (lists later : List (List Cell)) (rest k : ℕ) (items : List Item) (st : State) (p : Pending)
+    (u : Subst Text) (unifies : IsUnifier (read_under st.bindings p.equations) u)
+    (reads : KeepsReading (term_in texts) c st e (bound_state st u)) (fits : Fits (length choices) (items_at lists rest))
+    (cells : AreItems (IsBranch texts) (term_in texts) choices e (bound_state st u) (items_at lists rest) items)
+    (w : HasWoken texts e d lists later rest k st p u) where
   abbrev after : Subst Text
   after = bindings_after st p u w.kept.fixed
 
@@ -76,40 +73,37 @@ module _ (texts : List Text) (choices : Stack Contents) (c : Contents) (h : Term
       let f = kept_fixes [] st p u (Kept (branch_then [])) (w.kept.settles []) in
       record { ready = w.kept.ready; fixed = f.0; fixes = subst (λ (l : List Constraint). Fixes l f.0) (sym w.kept.ready.stands.linear) f.1 }
 
-  reads_on : (id : ℕ) (t : Tree) → term_in texts c id ≡ Some (read st t) → term_in texts d id ≡ Some (read su t)
-  reads_on id t e =
-      let l = read_live texts c.heap.terms id (read st t) e in
-      let mid : id < length h.terms = omega (arith, l, shorter) in
-      let live : id < length d.heap.terms = omega (arith, mid, w.kept.live) in
-      tree_read texts d.heap.terms id (read su t) live (w.kept.reads id t mid (call.reads id t l (tree_is texts c.heap.terms id (read st t) e)))
+  reads_on : KeepsReading (term_in texts) e (bound_state st u) d su
+  reads_on id t x =
+      let l = read_live texts e.heap.terms id (read (bound_state st u) t) x in
+      let live : id < length d.heap.terms = omega (arith, l, w.kept.live) in
+      tree_read texts d.heap.terms id (read su t) live (w.kept.reads id t l (tree_is texts e.heap.terms id (read (bound_state st u) t) x))
 
   cells_are : AreItems (IsBranch texts) (term_in texts) choices d su (calls w.goals ++ items_at lists rest) left
   cells_are =
       subst (λ (is : List Item). AreItems (IsBranch texts) (term_in texts) choices d su (calls w.goals ++ items_at lists rest) (is ++ items)) (sym (woken_calls after st.sleepers))
       (calls_are texts choices d su w.goals (woken_goals after st.sleepers) (items_at lists rest) items w.kept.goals_live w.kept.woken
-      (items_read_on (IsBranch texts) (term_in texts) choices c st d su reads_on (items_at lists rest) items place.cells))
+      (items_read_on (IsBranch texts) (term_in texts) choices e (bound_state st u) d su reads_on (items_at lists rest) items cells))
 
   pub begun : IsBegun texts choices (c, lists) (d, later) k items st p
   begun = record {
     left = left;
     state = su;
-    settles = unified u call.called.unifier (w.kept.settles items);
+    settles = unified u unifies (w.kept.settles items);
     continuation = record {
       there = w.cells.there;
-      fits = subst (Fits (length choices)) (sym w.cells.are) (calls_fit (length choices) w.goals (items_at lists rest) place.fits);
+      fits = subst (Fits (length choices)) (sym w.cells.are) (calls_fit (length choices) w.goals (items_at lists rest) fits);
       state = is_branch;
       cells = subst (λ (cs : List Cell). AreItems (IsBranch texts) (term_in texts) choices d su cs left) (sym w.cells.are) cells_are;
     };
-    reads = reads_on;
+    reads = λ id t x. reads_on id t (reads id t x);
   }
 
 -- ---- it is pruned
 
-pub pruned_by : (texts : List Text) (c : Contents) (h : Terms) (newly : List VarId) (told : List ℕ) (rows : List Constraint) (st : State) (p : Pending)
-    → OfCalls texts (with_terms c h) newly told rows IsPruned → CallsFor texts c h newly told rows st p → Prunes st p
-pruned_by texts c h newly told rows st p o call =
-    let q = o st p call.unifier call.called in
-    (q.0, λ items. unified call.unifier call.called.unifier (q.1 items))
+pub pruned_by : (texts : List Text) (c : Contents) (newly : List VarId) (told : List ℕ) (rows : List Constraint) (st : State) (p : Pending) (u : Subst Text)
+    → OfCalls texts c newly told rows IsPruned → IsCalled texts c newly told rows st p u → Prunes st p
+pruned_by texts c newly told rows st p u o call = let q = o st p u call in (q.0, λ items. unified u call.unifier (q.1 items))
 
 pub pruned_at_once : (st : State) (p : Pending) → HasNoUnifier (read_under st.bindings p.equations) → Prunes st p
 pruned_at_once st p none = (Clash, λ items. no_unifier none)
@@ -125,14 +119,22 @@ module _ (texts : List Text) (c : Contents) (h : Terms) (pairs : List Pair) (new
   as_long : length c.heap.terms ≤ length h.terms
   as_long = omega (arith, ap length equal.terms, length-map c.heap.terms (apply equal.unifier))
 
+  reads_bound : (st : State) (p : Pending) (call : CallsFor texts c h newly told [] st p) → KeepsReading (term_in texts) c st (with_terms c h) (bound_state st call.unifier)
+  reads_bound st p call id t x =
+      let l = read_live texts c.heap.terms id (read st t) x in
+      tree_read texts h.terms id (read (bound_state st call.unifier) t) (omega (arith, l, as_long)) (call.reads id t l (tree_is texts c.heap.terms id (read st t) x))
+
   pub all_go_on : (d : Contents) (lists later : List (List Cell)) (rest k : ℕ) → OfCalls texts (with_terms c h) newly told [] (HasWoken texts (with_terms c h) d lists later rest k)
       → GoesOn texts (c, lists) (d, later) pairs told rest k
   all_go_on d lists later rest k o choices items st p place w =
       let call = for_each st p place.state.ready w in
-      begun texts choices c h d lists later rest k newly told [] items st p place call as_long (o st p call.unifier call.called)
+      let reads = reads_bound st p call in
+      begun texts choices c (with_terms c h) d lists later rest k items st p call.unifier call.called.unifier reads place.fits
+      (items_read_on (IsBranch texts) (term_in texts) choices c st (with_terms c h) (bound_state st call.unifier) reads (items_at lists rest) items place.cells)
+      (o st p call.unifier call.called)
 
   pub all_pruned : OfCalls texts (with_terms c h) newly told [] IsPruned → OfWork texts c pairs told Prunes
-  all_pruned o st p r w = pruned_by texts c h newly told [] st p o (for_each st p r w)
+  all_pruned o st p r w = let call = for_each st p r w in pruned_by texts (with_terms c h) newly told [] st p call.unifier o call.called
 
   module _ (rows : List Constraint) (none : rows ≡ []) where
     without_rows : (P : State → Pending → Subst Text → Type 0) → OfCalls texts (with_terms c h) newly told rows P → OfCalls texts (with_terms c h) newly told [] P

@@ -1,10 +1,11 @@
--- A clause of a call that was put under new variables, as work of the world with those.
-use Rattle.std.proofs.Common.{◌≡◌, ◌<◌, ◌≤◌, ℕ, List, [], ◌∷◌, ◌++◌, length, Bool, true, false, Some, refl, sym, ap, ap₂, ◌∙◌, subst}
+-- A clause of a call that was resolved with the goal, as work of the world with the clause's variables.
+use Rattle.std.proofs.Common.{◌≡◌, ◌≤◌, ℕ, List, [], ◌∷◌, length, Bool, true, false, Some, refl, sym, ap, ap₂, ◌∙◌, subst}
 use Rattle.std.specs.Prelude.{if◌then◌else◌, None, IfOk, Ok, Err}
 use Rattle.std.specs.declared.result.Result.{Result}
-use Rattle.spec_lists.specs.Prefixes.{IsPrefix}
+use Rattle.spec_linear.specs.Solution.{Constraint}
 use Rattle.spec_lists.specs.Texts.{Text}
-use Rattle.spec_terms.specs.Term.{apply, named}
+use Rattle.spec_terms.specs.Term.{Subst, Var, Number, Name, Compound, apply, named}
+use Rattle.spec_terms.specs.Unifier.{HasNoUnifier, read_under}
 use Rattle.spec_syntax.specs.Trees.{Tree}
 use Rattle.spec_built.specs.Built.{is_atom}
 use Rattle.spec_built.specs.Kinds.{is_callable}
@@ -13,135 +14,153 @@ use Rattle.spec_builtins.specs.Clauses.{HeadBody, counted_on, variable_count}
 use Rattle.spec_branch.specs.Branch.{State, Item, Branch, Pending, read}
 use Rattle.spec_search.specs.Control.{put, instance, body_items, clause_items, clause_state, clause_work}
 use Rattle.spec_search.specs.Database.{Clause}
-use Rattle.spec_search.specs.Replies.{Place, with_new, with_equations}
+use Rattle.spec_search.specs.Replies.{Place, with_new}
 use Rattle.spec_search.specs.Search.{Search, look_at, Settling}
 use Rattle.cq_atoms.specs.Texts.{text_of}
 use Rattle.cq_control.specs.Items.{items_at}
+use Rattle.cq_frac.specs.declared.VarId.{VarId}
 use Rattle.cq_linear.specs.declared.store.StoreFault.{StoreFault}
 use Rattle.cq_program.specs.Database.{as_parts}
+use Rattle.cq_resolve.specs.Resolved.{Resolved}
+use Rattle.cq_settle.specs.Called.{IsCalled, OfCalls, bound_state}
+use Rattle.cq_settle.specs.Settled.{IsPruned}
 use Rattle.cq_stored.specs.Building.{moved_by}
-use Rattle.cq_stored.specs.StoredValue.{ClauseValue}
+use Rattle.cq_stored.specs.StoredValue.{ClauseValue, HaveNamesBelow}
 use Rattle.cq_term.specs.HeapValue.{Terms}
-use Rattle.cq_term.specs.Meaning.{HeapTerm, at}
+use Rattle.cq_term.specs.Meaning.{HeapTerm}
 use Rattle.cq_term.specs.Trees.{tree, KnowsTerms}
-use Rattle.cq_unify.specs.Copied.{unbound_from}
-use Rattle.cq_walk.specs.declared.pairs.Pair.{Pair}
 use Rattle.cq_world.specs.Contents.{Contents}
 use Rattle.cq_world.specs.Rest.{IsReadyAs}
 use Rattle.spec_machine.specs.declared.cell.Cell.{Cell}
-use Rattle.spec_machine.specs.Cells.{Fits, Value, Stack}
-use Rattle.spec_machine.specs.Standing.{AreItems, engine, AreWaiting}
+use Rattle.spec_machine.specs.Cells.{Fits, Value, Stack, below}
+use Rattle.spec_machine.specs.Standing.{AreItems, KeepsReading, engine, AreWaiting}
 use Rattle.spec_machine.specs.Coming.{Comes}
 use Rattle.spec_machine.proofs.Kept.{fits_more, items_read_on}
 use Rattle.spec_machine.proofs.Made.{child_kept, child_pruned}
-use Rattle.cq_rest.specs.Equal.{IsWork, work_of}
+use Rattle.cq_rest.specs.Equal.{IsWork}
 use Rattle.cq_steps.specs.Lists.{HasCells, put_cell}
 use Rattle.cq_steps.specs.Worlds.{IsBranch, term_in, with_heap}
-use Rattle.cq_steps.proofs.Control.{put_items}
+use Rattle.cq_steps.proofs.Added.{tree_is}
+use Rattle.cq_steps.proofs.Reading.{read_live, tree_read}
 use Rattle.cq_begin.specs.declared.beginning.Begun.{Begun}
 use Rattle.cq_begin.specs.declared.beginning.Begun.TheVariants.{Goes, Pruned}
-use Rattle.cq_begin.specs.Begun.{IfGoes, IfPruned, OfWork, IsPlacedAs, IsBegun, GoesOn, Prunes}
+use Rattle.cq_begin.specs.Begun.{IfGoes, IfPruned, HasWoken, IsBegun, Prunes}
 use Rattle.cq_begin.specs.Calls.{body_cells, IsCallOf, OfClause, ClauseComes}
-use Rattle.cq_begin.proofs.Newer.{branch_more, read_still}
-use Rattle.cq_steps.proofs.Added.{tree_is}
-use Rattle.cq_steps.proofs.Reading.{tree_read}
+use Rattle.cq_begin.proofs.Begins.{CallsForEach, begun, pruned_by, pruned_at_once}
+use Rattle.cq_begin.proofs.Entered.{Works, ready_mid, unifier, entered, reads_entered, body_entered}
+use Rattle.cq_begin.proofs.Renamed.{renamed, head_and, same_at, head_at, unified}
 
 put_fits : (n t height : ℕ) (b : Bool) (cs : List Cell) → height ≤ n → Fits height cs → Fits n (put_cell b t height ∷ cs)
 put_fits n t height true cs l f = (l, f)
 put_fits n t height false cs l f = fits_more height n cs l f
 
-module _ (texts : List Text) (choices : Stack Contents) (c : Contents) (h : Terms) (lists later : List (List Cell)) (id head body height rest behind : ℕ) (kept : ClauseValue)
-    (p : Place) (goal : Tree) (cl : Clause) (call : IsCallOf texts choices (c, lists) id height rest kept p goal cl)
-    (terms : IsPrefix c.heap.terms h.terms) (images : h.images ≡ c.heap.images ++ unbound_from (length c.heap.images) kept.variables) (names : KnowsTerms texts h.terms)
-    (head_is : at h.terms head ≡ apply (moved_by (length c.heap.images)) kept.head) (body_is : at h.terms body ≡ apply (moved_by (length c.heap.images)) kept.body)
-    (moved : (n : ℕ) → counted_on n (as_parts texts kept) ≡ record { head = named (text_of texts) (apply (moved_by n) kept.head); body = named (text_of texts) (apply (moved_by n) kept.body) })
-    (count : variable_count (as_parts texts kept) ≡ kept.variables) where
-  abbrev m : Contents
-  m = with_heap h c
+-- a test of the body is one of the body under other variables
+true_moved : (n : ℕ) (f : ℕ → Text) (t : HeapTerm) → is_atom "true" (named f (apply (moved_by n) t)) ≡ is_atom "true" (named f t)
+true_moved n f (Var v) = refl
+true_moved n f (Number q) = refl
+true_moved n f (Name a) = refl
+true_moved n f (Compound a ts) = refl
 
-  abbrev pair : Pair
-  pair = record { left = id; right = head }
+callable_moved : (n : ℕ) (f : ℕ → Text) (t : HeapTerm) → is_callable (named f (apply (moved_by n) t)) ≡ is_callable (named f t)
+callable_moved n f (Var v) = refl
+callable_moved n f (Number q) = refl
+callable_moved n f (Name a) = refl
+callable_moved n f (Compound a ts) = refl
 
-  -- ---- the instance
+-- a body in front of others, where the state reads it as the world does
+module _ (texts : List Text) (choices : Stack Contents) (w : Contents) (st : State) (id height : ℕ) (cs : List Cell) (more : List Item)
+    (are : AreItems (IsBranch texts) (term_in texts) choices w st cs more) where
+  body_are : (t : Tree) → term_in texts w id ≡ Some (read st t)
+      → AreItems (IsBranch texts) (term_in texts) choices w st (put_cell (is_callable t) id height ∷ cs) (put t (below choices height) ∷ more)
+  body_are (Var v) e = (Var v, below choices height, more, refl, e, are)
+  body_are (Number q) e = (Number q, below choices height, more, refl, e, are)
+  body_are (Name a) e = (Name a, more, refl, e, are)
+  body_are (Compound a ts) e = (Compound a ts, more, refl, e, are)
 
-  counted : variable_count cl.parts ≡ kept.variables
-  counted = ap variable_count call.parts ∙ count
+-- ---- the place of a call, and the work of its clause
 
-  instance_is : instance p cl ≡ record { head = tree texts h.terms head; body = tree texts h.terms body }
-  instance_is =
-      ap₂ (λ (n : ℕ) (parts : HeadBody). counted_on n parts) (sym call.place.state.ready.stands.fresh) call.parts
-      ∙ moved (length c.heap.images)
-      ∙ sym (ap₂ (λ (x y : HeapTerm). record { head = named (text_of texts) x; body = named (text_of texts) y }) head_is body_is)
+-- what puts a clause under variables, and counts them
+abbrev pub Moves : List Text → ClauseValue → Type 0
+Moves texts kept = ((n : ℕ) → counted_on n (as_parts texts kept)
+    ≡ record { head = named (text_of texts) (apply (moved_by n) kept.head); body = named (text_of texts) (apply (moved_by n) kept.body) })
+    × (variable_count (as_parts texts kept) ≡ kept.variables)
 
-  goal_is : tree texts h.terms id ≡ goal
-  goal_is = tree_is texts h.terms id goal (read_still texts c h kept.variables terms images names id goal call.reads)
-
-  -- ---- the world with the new variables
-
-  state_is : clause_state p cl ≡ with_new kept.variables p.state
-  state_is = ap (λ (n : ℕ). with_new n p.state) counted
+module _ (texts : List Text) (c : Contents) (kept : ClauseValue) (known : HaveNamesBelow (length texts) kept) (moves : Moves texts kept) (id : ℕ) (works : Works texts c kept id)
+    (choices : Stack Contents) (lists : List (List Cell)) (height rest : ℕ) (p : Place) (goal : Tree) (cl : Clause)
+    (call : IsCallOf texts choices (c, lists) id height rest kept p goal cl) where
+  abbrev mid : Contents
+  mid = with_heap (renamed c.heap kept) c
 
   abbrev st : State
   st = with_new kept.variables p.state
 
-  new_branch : IsBranch texts m st
-  new_branch = branch_more texts c h kept.variables terms images names p.state call.place.state
+  abbrev ready : IsReadyAs texts c p.state
+  ready = call.place.state.ready
 
-  pub clause_ready : IsReadyAs texts m (clause_state p cl)
-  clause_ready = subst (IsReadyAs texts m) (sym state_is) new_branch.ready
+  abbrev body_then : Tree
+  body_then = named (text_of texts) (apply (moved_by (length c.heap.images)) kept.body)
 
-  -- ---- the work
+  state_is : clause_state p cl ≡ st
+  state_is = ap (λ (n : ℕ). with_new n p.state) (ap variable_count call.parts ∙ moves.1)
 
-  pub clause_is_work : IsWork texts m st (pair ∷ []) [] [] (work_of texts m (pair ∷ []) [] []) → IsWork texts m (clause_state p cl) (pair ∷ []) [] [] (clause_work p goal cl)
-  clause_is_work w =
-      subst (λ (x : State). IsWork texts m x (pair ∷ []) [] [] (clause_work p goal cl)) (sym state_is)
-      (subst (λ (x : Pending). IsWork texts m st (pair ∷ []) [] [] x)
-      (ap₂ (λ (x y : Tree). with_equations ((x ≐ y) ∷ [])) goal_is (sym (ap (λ (b : HeadBody). b.head) instance_is))) w)
+  instance_is : instance p cl ≡ record { head = named (text_of texts) (apply (moved_by (length c.heap.images)) kept.head); body = body_then }
+  instance_is = ap₂ (λ (n : ℕ) (parts : HeadBody). counted_on n parts) (sym ready.stands.fresh) call.parts ∙ moves.0 (length c.heap.images)
 
-  -- ---- the continuation
+  left_is : tree texts mid.heap.terms id ≡ goal
+  left_is = ap (named (text_of texts)) (same_at c.heap kept id (read_live texts c.heap.terms id goal call.reads)) ∙ tree_is texts c.heap.terms id goal call.reads
 
-  module _ (cells : HasCells later behind (body_cells texts h.terms body height (items_at lists rest))) (reads_itself : read st (tree texts h.terms body) ≡ tree texts h.terms body)
-      (there : body < length h.terms) where
-    abbrev term : Tree
-    term = tree texts h.terms body
+  right_is : tree texts mid.heap.terms (length c.heap.terms) ≡ (instance p cl).head
+  right_is = ap (named (text_of texts)) (head_at c.heap kept) ∙ sym (ap (λ (b : HeadBody). b.head) instance_is)
 
-    rest_are : AreItems (IsBranch texts) (term_in texts) choices m st (items_at lists rest) p.rest
-    rest_are = items_read_on (IsBranch texts) (term_in texts) choices c p.state m st
-        (λ i t e. read_still texts c h kept.variables terms images names i (read p.state t) e) (items_at lists rest) p.rest call.place.cells
+  pub clause_is_work : IsWork texts mid st (head_and c.heap kept id ∷ []) [] [] (clause_work p goal cl)
+  clause_is_work = record {
+    pairs_are = ap (read_under st.bindings) (sym (ap₂ (λ (x y : Tree). (x ≐ y) ∷ []) left_is right_is))
+        ∙ (works st (ready_mid texts c kept known p.state ready)).pairs_are;
+    told_are = refl;
+    rows_are = refl;
+  }
 
-    rest_fits : Fits (length choices) (items_at lists rest)
-    rest_fits = fits_more height (length choices) (items_at lists rest) call.within call.fits
+  pub of_clause_state : (P : State → Pending → Type 0) → P st (clause_work p goal cl) → P (clause_state p cl) (clause_work p goal cl)
+  of_clause_state P o = subst (λ (x : State). P x (clause_work p goal cl)) (sym state_is) o
+
+  -- ---- the continuation, once the goal and the head are equal
+
+  module _ (e : Contents) (u : Subst Text) (later : List (List Cell)) (body behind : ℕ) (reads : KeepsReading (term_in texts) c p.state e (bound_state st u))
+      (body_reads : term_in texts e body ≡ Some (read (bound_state st u) body_then))
+      (cells : HasCells later behind (body_cells (named (text_of texts) kept.body) body height (items_at lists rest))) where
+    rest_are : AreItems (IsBranch texts) (term_in texts) choices e (bound_state st u) (items_at lists rest) p.rest
+    rest_are = items_read_on (IsBranch texts) (term_in texts) choices c p.state e (bound_state st u) reads (items_at lists rest) p.rest call.place.cells
 
     abbrev cells_by : Bool → List Cell
-    cells_by b = if b then items_at lists rest else put_cell (is_callable term) body height ∷ items_at lists rest
+    cells_by b = if b then items_at lists rest else put_cell (is_callable body_then) body height ∷ items_at lists rest
 
     abbrev items_by : Bool → List Item
-    items_by b = if b then p.rest else put term p.height ∷ p.rest
+    items_by b = if b then p.rest else put body_then p.height ∷ p.rest
 
-    are_by : (b : Bool) → AreItems (IsBranch texts) (term_in texts) choices m st (cells_by b) (items_by b)
+    are_by : (b : Bool) → AreItems (IsBranch texts) (term_in texts) choices e (bound_state st u) (cells_by b) (items_by b)
     are_by true = rest_are
-    are_by false = subst (λ (n : ℕ). AreItems (IsBranch texts) (term_in texts) choices m st (cells_by false) (put term n ∷ p.rest)) (sym call.goes_back)
-        (put_items (IsBranch texts) (term_in texts) choices m st body height term (items_at lists rest) p.rest (tree_read texts h.terms body term there refl, reads_itself) rest_are)
+    are_by false = subst (λ (n : ℕ). AreItems (IsBranch texts) (term_in texts) choices e (bound_state st u) (cells_by false) (put body_then n ∷ p.rest)) (sym call.goes_back)
+        (body_are texts choices e (bound_state st u) body height (items_at lists rest) p.rest rest_are body_then body_reads)
 
     fit_by : (b : Bool) → Fits (length choices) (cells_by b)
-    fit_by true = rest_fits
-    fit_by false = put_fits (length choices) body height (is_callable term) (items_at lists rest) call.within call.fits
+    fit_by true = fits_more height (length choices) (items_at lists rest) call.within call.fits
+    fit_by false = put_fits (length choices) body height (is_callable body_then) (items_at lists rest) call.within call.fits
 
-    items_are : clause_items p cl ≡ items_by (is_atom "true" term)
+    cells_are : items_at later behind ≡ cells_by (is_atom "true" body_then)
+    cells_are = cells.are
+        ∙ ap₂ (λ (a b : Bool). if a then items_at lists rest else put_cell b body height ∷ items_at lists rest)
+        (sym (true_moved (length c.heap.images) (text_of texts) kept.body)) (sym (callable_moved (length c.heap.images) (text_of texts) kept.body))
+
+    items_are : clause_items p cl ≡ items_by (is_atom "true" body_then)
     items_are = ap (λ (b : HeadBody). body_items p b.body) instance_is
 
-    placed : IsPlacedAs texts choices (m, later) behind (items_by (is_atom "true" term)) st
-    placed = record {
-      there = cells.there;
-      fits = subst (Fits (length choices)) (sym cells.are) (fit_by (is_atom "true" term));
-      state = new_branch;
-      cells = subst (λ (cs : List Cell). AreItems (IsBranch texts) (term_in texts) choices m st cs (items_by (is_atom "true" term))) (sym cells.are) (are_by (is_atom "true" term));
-    }
+    pub clause_fits : Fits (length choices) (items_at later behind)
+    clause_fits = subst (Fits (length choices)) (sym cells_are) (fit_by (is_atom "true" body_then))
 
-    pub clause_placed : IsPlacedAs texts choices (m, later) behind (clause_items p cl) (clause_state p cl)
-    clause_placed =
-        subst (λ (x : State). IsPlacedAs texts choices (m, later) behind (clause_items p cl) x) (sym state_is)
-        (subst (λ (is : List Item). IsPlacedAs texts choices (m, later) behind is st) (sym items_are) placed)
+    pub clause_cells : AreItems (IsBranch texts) (term_in texts) choices e (bound_state st u) (items_at later behind) (clause_items p cl)
+    clause_cells =
+        subst (λ (cs : List Cell). AreItems (IsBranch texts) (term_in texts) choices e (bound_state st u) cs (clause_items p cl)) (sym cells_are)
+        (subst (λ (is : List Item). AreItems (IsBranch texts) (term_in texts) choices e (bound_state st u) (cells_by (is_atom "true" body_then)) is) (sym items_are) (are_by (is_atom "true" body_then)))
 
 -- ---- what becomes of it
 
@@ -180,57 +199,79 @@ pub pruned_any : (texts : List Text) (old now later : Value Contents) (id height
 pruned_any texts old now later id height rest kept h choices p goal cl call steps s behind looks waiting =
     comes_any texts choices now later steps s (h choices p goal cl call steps s behind looks waiting)
 
-first_same : (t u : Tree) → t ∷ [] ≡ u ∷ [] → t ≡ u
-first_same t u e = cc
+-- nothing makes the goal and the head equal
+pub none_comes : (texts : List Text) (c : Contents) (kept : ClauseValue) (known : HaveNamesBelow (length texts) kept) (moves : Moves texts kept) (id : ℕ) (works : Works texts c kept id)
+    (lists later : List (List Cell)) (height rest : ℕ) (d : Contents)
+    → ((st : State) (p : Pending) → IsWork texts (with_heap (renamed c.heap kept) c) st (head_and c.heap kept id ∷ []) [] [] p → HasNoUnifier (read_under st.bindings p.equations))
+    → ClauseComes texts (c, lists) (d, later) id height rest kept Pruned
+none_comes texts c kept known moves id works lists later height rest d none choices p goal cl call steps s behind looks waiting =
+    let st : State = with_new kept.variables p.state in
+    let w = clause_is_work texts c kept known moves id works choices lists height rest p goal cl call in
+    clause_goes_back texts choices (d, later) steps s p goal cl behind looks waiting
+    (of_clause_state texts c kept known moves id works choices lists height rest p goal cl call Prunes (pruned_at_once st (clause_work p goal cl) (none st (clause_work p goal cl) w)))
 
-module _ (texts : List Text) (c : Contents) (h : Terms) (lists later : List (List Cell)) (id head body height rest behind : ℕ) (kept : ClauseValue)
-    (terms : IsPrefix c.heap.terms h.terms) (images : h.images ≡ c.heap.images ++ unbound_from (length c.heap.images) kept.variables) (names : KnowsTerms texts h.terms)
-    (head_is : at h.terms head ≡ apply (moved_by (length c.heap.images)) kept.head) (body_is : at h.terms body ≡ apply (moved_by (length c.heap.images)) kept.body)
-    (moved : (n : ℕ) → counted_on n (as_parts texts kept) ≡ record { head = named (text_of texts) (apply (moved_by n) kept.head); body = named (text_of texts) (apply (moved_by n) kept.body) })
-    (count : variable_count (as_parts texts kept) ≡ kept.variables)
-    (cells : HasCells later behind (body_cells texts h.terms body height (items_at lists rest))) (there : body < length h.terms)
-    (pair : Pair) (pair_is : pair ≡ record { left = id; right = head })
-    (works : (st : State) → IsReadyAs texts (with_heap h c) st → IsWork texts (with_heap h c) st (pair ∷ []) [] [] (work_of texts (with_heap h c) (pair ∷ []) [] []))
-    (told : (st : State) → IsReadyAs texts (with_heap h c) st → IsWork texts (with_heap h c) st [] (body ∷ []) [] (work_of texts (with_heap h c) [] (body ∷ []) [])) where
+-- they were made equal, and the body goes in front
+module _ (texts : List Text) (c : Contents) (kept : ClauseValue) (known : HaveNamesBelow (length texts) kept) (moves : Moves texts kept) (id : ℕ) (works : Works texts c kept id)
+    (h : Terms) (body : ℕ) (told : List VarId) (r : Resolved c.heap h kept id body told) (names : KnowsTerms texts h.terms)
+    (each : CallsForEach texts (with_heap (renamed c.heap kept) c) (unified c.heap kept h id body told r) (head_and c.heap kept id ∷ []) told [])
+    (lists later : List (List Cell)) (height rest behind : ℕ) (cells : HasCells later behind (body_cells (named (text_of texts) kept.body) body height (items_at lists rest))) where
+  abbrev e : Contents
+  e = with_heap h c
+
   module _ (choices : Stack Contents) (p : Place) (goal : Tree) (cl : Clause) (call : IsCallOf texts choices (c, lists) id height rest kept p goal cl) where
-    abbrev st_then : State
-    st_then = with_new kept.variables p.state
+    abbrev su : State
+    su = with_new kept.variables p.state
 
-    ready_then : IsReadyAs texts (with_heap h c) st_then
-    ready_then = (branch_more texts c h kept.variables terms images names p.state call.place.state).ready
+    work : IsWork texts (with_heap (renamed c.heap kept) c) su (head_and c.heap kept id ∷ []) [] [] (clause_work p goal cl)
+    work = clause_is_work texts c kept known moves id works choices lists height rest p goal cl call
 
-    reads : read st_then (tree texts h.terms body) ≡ tree texts h.terms body
-    reads = first_same (read st_then (tree texts h.terms body)) (tree texts h.terms body) (told st_then ready_then).told_are
+    abbrev u : Subst Text
+    u = unifier texts c kept known h id body told r names each p.state call.place.state.ready (clause_work p goal cl) work
 
-    placed_then : IsPlacedAs texts choices (with_heap h c, later) behind (clause_items p cl) (clause_state p cl)
-    placed_then = clause_placed texts choices c h lists later id head body height rest behind kept p goal cl call terms images names head_is body_is moved count cells reads there
+    is_called : IsCalled texts e told [] [] su (clause_work p goal cl) u
+    is_called = entered texts c kept known h id body told r names each p.state call.place.state.ready (clause_work p goal cl) work
 
-    ready_still : IsReadyAs texts (with_heap h c) (clause_state p cl)
-    ready_still = clause_ready texts choices c h lists later id head body height rest behind kept p goal cl call terms images names head_is body_is moved count
+    reads : KeepsReading (term_in texts) c p.state e (bound_state su u)
+    reads = reads_entered texts c kept known h id body told r names each p.state call.place.state.ready (clause_work p goal cl) work
 
-    work_then : IsWork texts (with_heap h c) (clause_state p cl) (pair ∷ []) [] [] (clause_work p goal cl)
-    work_then =
-        subst (λ (q : Pair). IsWork texts (with_heap h c) (clause_state p cl) (q ∷ []) [] [] (clause_work p goal cl)) (sym pair_is)
-        (clause_is_work texts choices c h lists later id head body height rest behind kept p goal cl call terms images names head_is body_is moved count
-        (subst (λ (q : Pair). IsWork texts (with_heap h c) st_then (q ∷ []) [] [] (work_of texts (with_heap h c) (q ∷ []) [] [])) pair_is (works st_then ready_then)))
+    body_reads : term_in texts e body ≡ Some (read (bound_state su u) (named (text_of texts) (apply (moved_by (length c.heap.images)) kept.body)))
+    body_reads = tree_read texts h.terms body (read (bound_state su u) (named (text_of texts) (apply (moved_by (length c.heap.images)) kept.body))) r.live
+        (body_entered texts c kept known h id body told r names each p.state call.place.state.ready (clause_work p goal cl) work works)
 
-  module _ (d : Contents) (last : List (List Cell)) where
-    comes_by : (b : Begun) → IfGoes b (GoesOn texts (with_heap h c, later) (d, last) (pair ∷ []) [] behind) → IfPruned b (OfWork texts (with_heap h c) (pair ∷ []) [] Prunes)
-        → ClauseComes texts (c, lists) (d, last) id height rest kept b
-    comes_by (Goes k) g q choices p goal cl call steps s bs looks waiting =
-        clause_comes texts choices (d, last) steps s p goal cl bs looks waiting (with_heap h c, later) k
-        (g choices (clause_items p cl) (clause_state p cl) (clause_work p goal cl) (placed_then choices p goal cl call) (work_then choices p goal cl call))
-    comes_by Pruned g q choices p goal cl call steps s bs looks waiting =
-        clause_goes_back texts choices (d, last) steps s p goal cl bs looks waiting
-        (q (clause_state p cl) (clause_work p goal cl) (ready_still choices p goal cl call) (work_then choices p goal cl call))
+    begun_then : (d : Contents) (last : List (List Cell)) (k : ℕ) → HasWoken texts e d later last behind k su (clause_work p goal cl) u
+        → IsBegun texts choices (c, later) (d, last) k (clause_items p cl) su (clause_work p goal cl)
+    begun_then d last k w =
+        begun texts choices c e d later last behind k (clause_items p cl) su (clause_work p goal cl) u is_called.unifier reads
+        (clause_fits texts c kept known moves id works choices lists height rest p goal cl call e u later body behind reads body_reads cells)
+        (clause_cells texts c kept known moves id works choices lists height rest p goal cl call e u later body behind reads body_reads cells) w
 
-    pub comes_ok : (none : List ℕ) → none ≡ [] → (result : Result Begun StoreFault) → IfOk result (λ b. IfGoes b (GoesOn texts (with_heap h c, later) (d, last) (pair ∷ []) none behind))
-        → IfOk result (λ b. IfPruned b (OfWork texts (with_heap h c) (pair ∷ []) none Prunes)) → IfOk result (ClauseComes texts (c, lists) (d, last) id height rest kept)
-    comes_ok none e (Ok b) g q =
-        comes_by b (subst (λ (l : List ℕ). IfGoes b (GoesOn texts (with_heap h c, later) (d, last) (pair ∷ []) l behind)) e g)
-        (subst (λ (l : List ℕ). IfPruned b (OfWork texts (with_heap h c) (pair ∷ []) l Prunes)) e q)
-    comes_ok none e (Err f) g q = tt
+    at_state : (P : State → Pending → Type 0) → P su (clause_work p goal cl) → P (clause_state p cl) (clause_work p goal cl)
+    at_state P o = of_clause_state texts c kept known moves id works choices lists height rest p goal cl call P o
 
-  pub of_clause : (none : List ℕ) → none ≡ [] → (P : State → Pending → Type 0) → OfWork texts (with_heap h c) (pair ∷ []) none P → OfClause texts (c, lists) id height rest kept P
-  of_clause none e P o choices p goal cl call =
-      subst (λ (l : List ℕ). OfWork texts (with_heap h c) (pair ∷ []) l P) e o (clause_state p cl) (clause_work p goal cl) (ready_still choices p goal cl call) (work_then choices p goal cl call)
+  -- what a settling says of each call it says of each such clause
+  module _ (ids : List ℕ) (none : ids ≡ []) (rows : List Constraint) (no_rows : rows ≡ []) where
+    without : (P : State → Pending → Subst Text → Type 0) → OfCalls texts e told ids rows P → OfCalls texts e told [] [] P
+    without P o = subst (λ (l : List ℕ). OfCalls texts e told l [] P) none (subst (λ (l : List Constraint). OfCalls texts e told ids l P) no_rows o)
+
+    pub of_clause : (P : State → Pending → Type 0) → OfCalls texts e told ids rows (λ st p v. P st p) → OfClause texts (c, lists) id height rest kept P
+    of_clause P o choices p goal cl call =
+        at_state choices p goal cl call P
+        (without (λ x q v. P x q) o (with_new kept.variables p.state) (clause_work p goal cl) (u choices p goal cl call) (is_called choices p goal cl call))
+
+    module _ (d : Contents) (last : List (List Cell)) where
+      comes_by : (b : Begun) → IfGoes b (λ k. OfCalls texts e told ids rows (HasWoken texts e d later last behind k)) → IfPruned b (OfCalls texts e told ids rows IsPruned)
+          → ClauseComes texts (c, lists) (d, last) id height rest kept b
+      comes_by (Goes k) g q choices p goal cl call steps s bs looks waiting =
+          clause_comes texts choices (d, last) steps s p goal cl bs looks waiting (c, later) k
+          (at_state choices p goal cl call (λ x q. IsBegun texts choices (c, later) (d, last) k (clause_items p cl) x q)
+          (begun_then choices p goal cl call d last k (without (HasWoken texts e d later last behind k) g
+          (with_new kept.variables p.state) (clause_work p goal cl) (u choices p goal cl call) (is_called choices p goal cl call))))
+      comes_by Pruned g q choices p goal cl call steps s bs looks waiting =
+          clause_goes_back texts choices (d, last) steps s p goal cl bs looks waiting
+          (at_state choices p goal cl call Prunes
+          (pruned_by texts e told [] [] (with_new kept.variables p.state) (clause_work p goal cl) (u choices p goal cl call) (without IsPruned q) (is_called choices p goal cl call)))
+
+      pub comes_ok : (result : Result Begun StoreFault) → IfOk result (λ b. IfGoes b (λ k. OfCalls texts e told ids rows (HasWoken texts e d later last behind k)))
+          → IfOk result (λ b. IfPruned b (OfCalls texts e told ids rows IsPruned)) → IfOk result (ClauseComes texts (c, lists) (d, last) id height rest kept)
+      comes_ok (Ok b) g q = comes_by b g q
+      comes_ok (Err f) g q = tt

@@ -4,5 +4,7 @@ mod Leading
 mod Marks
 pub mod Newer
 pub mod Stopping
+mod Renamed
+mod Entered
 mod Instances
 pub mod Back

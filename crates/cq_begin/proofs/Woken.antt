@@ -1,8 +1,7 @@
 -- Goals that woke, in front of what a continuation has to do.
-use Rattle.std.proofs.Common.{◌≡◌, ◌<◌, ℕ, List, [], ◌∷◌, ◌++◌, length, map, refl, ap, ◌∙◌, append_assoc}
+use Rattle.std.proofs.Common.{◌≡◌, ◌<◌, ℕ, List, [], ◌∷◌, ◌++◌, length, map, refl, ap}
 use Rattle.std.specs.Prelude.{All}
 use Rattle.std.specs.List.{cons_option}
-use Rattle.std.proofs.lemmas.List.{map-append}
 use Rattle.std.proofs.lemmas.List.Elements.{All-head, All-tail}
 use Rattle.spec_lists.specs.Texts.{Text}
 use Rattle.spec_terms.specs.Term.{Subst}
@@ -15,7 +14,6 @@ use Rattle.cq_settle.specs.Settled.{woken_goal, woken_goals}
 use Rattle.cq_term.specs.Trees.{tree, trees}
 use Rattle.cq_world.specs.Contents.{Contents}
 use Rattle.spec_machine.specs.declared.cell.Cell.{Cell}
-use Rattle.spec_machine.specs.declared.cell.Cell.TheVariants.{Call}
 use Rattle.spec_machine.specs.Cells.{Fits, Stack}
 use Rattle.spec_machine.specs.Standing.{AreItems}
 use Rattle.cq_steps.specs.Worlds.{IsBranch, term_in}

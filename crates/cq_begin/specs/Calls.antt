@@ -3,6 +3,7 @@ use Rattle.std.specs.Prelude.{◌≡◌, ℕ, ◌≤◌, List, ◌∷◌, length
 use Rattle.spec_lists.specs.Texts.{Text}
 use Rattle.spec_syntax.specs.Trees.{Tree}
 use Rattle.spec_built.specs.Built.{is_atom}
+use Rattle.spec_built.specs.Kinds.{is_callable}
 use Rattle.spec_branch.specs.Branch.{State, Branch, Pending}
 use Rattle.spec_search.specs.Control.{clause_items, clause_state, clause_work}
 use Rattle.spec_search.specs.Database.{Clause}
@@ -11,21 +12,19 @@ use Rattle.spec_search.specs.Search.{Search, look_at, Settling}
 use Rattle.cq_control.specs.Items.{items_at}
 use Rattle.cq_program.specs.Database.{as_parts}
 use Rattle.cq_stored.specs.StoredValue.{ClauseValue}
-use Rattle.cq_term.specs.Meaning.{HeapTerm}
-use Rattle.cq_term.specs.Trees.{tree}
 use Rattle.cq_world.specs.Contents.{Contents}
 use Rattle.spec_machine.specs.declared.cell.Cell.{Cell}
 use Rattle.spec_machine.specs.Cells.{Fits, Value, Stack, below}
 use Rattle.spec_machine.specs.Standing.{engine, AreWaiting}
 use Rattle.spec_machine.specs.Coming as coming
-use Rattle.cq_steps.specs.Lists.{goal_cell}
+use Rattle.cq_steps.specs.Lists.{put_cell}
 use Rattle.cq_steps.specs.Worlds.{IsBranch, term_in}
 use Rattle.cq_begin.specs.declared.beginning.Begun.{Begun}
 use Rattle.cq_begin.specs.Begun.{IsPlacedAs, goes_to}
 
--- a clause's body in front of others; the body `true` is none
-abbrev pub body_cells : List Text → List HeapTerm → ℕ → ℕ → List Cell → List Cell
-body_cells texts ts id height cs = if is_atom "true" (tree texts ts id) then cs else goal_cell texts ts id height ∷ cs
+-- a clause's body, of this number, in front of others; the body `true` is none
+abbrev pub body_cells : Tree → ℕ → ℕ → List Cell → List Cell
+body_cells t id height cs = if is_atom "true" t then cs else put_cell (is_callable t) id height ∷ cs
 
 -- At the place the goal of a number calls the clause, which is kept so. A cut in its body goes back to the height of the choices.
 pub record IsCallOf (texts : List Text) (choices : Stack Contents) (now : Value Contents) (id height rest : ℕ) (kept : ClauseValue) (p : Place) (goal : Tree)

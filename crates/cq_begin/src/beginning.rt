@@ -88,7 +88,7 @@ pub fn begin(
 }
 
 /// The same, but for what was done before the branch was pruned, or before an error.
-pub(crate) fn run(
+fn run(
     world: &mut World,
     lists: &mut Continuations<Cell>,
     atoms: &Atoms,
@@ -122,7 +122,7 @@ pub(crate) fn run(
 }
 
 /// Settles a world in which terms were made equal, and puts the goals that woke in front of a continuation.
-fn proceed(
+pub(crate) fn proceed(
     world: &mut World,
     lists: &mut Continuations<Cell>,
     atoms: &Atoms,

@@ -1,13 +1,17 @@
 // The beginning of a clause of a call.
 
-ghost use Rattle.std.specs.Prelude.{◌≡◌, ◌<◌, ◌≤◌, ◌∷◌, [], ℕ, length, IfOk, OnErr};
+ghost use Rattle.std.specs.Prelude.{◌≡◌, ◌<◌, ◌≤◌, ℕ, List, length, IfOk, OnErr};
+ghost use Rattle.spec_lists.specs.Texts.{Text};
+ghost use Rattle.spec_terms.specs.Term.{named};
 ghost use Rattle.spec_built.specs.Built.{is_atom};
-ghost use Rattle.cq_atoms.specs.Texts.{AreDifferent};
+ghost use Rattle.spec_built.specs.Kinds.{is_callable};
+ghost use Rattle.cq_atoms.specs.Texts.{AreDifferent, text_of};
 ghost use Rattle.cq_control.specs.Items.{items_at};
 ghost use Rattle.cq_frac.specs.declared.Pair.{Pair};
 ghost use Rattle.cq_linear.specs.declared.store.StoreFault.TheVariants.{Overflow, Pivots};
 ghost use Rattle.cq_program.specs.Database.{IsCounted};
-ghost use Rattle.cq_term.specs.Trees.{tree, KnowsTerms};
+ghost use Rattle.cq_term.specs.Names.{HasNamesBelow};
+ghost use Rattle.cq_term.specs.Shown.{view_of};
 ghost use Rattle.cq_world.specs.Rest.{IsReady};
 ghost use Rattle.cq_world.specs.Worlds.{now_of, saved_of, room_of};
 ghost use Rattle.cq_settle.specs.Settled.{MayRefuse, MayTake, KeepsMarks};
@@ -16,21 +20,22 @@ ghost use Rattle.cq_steps.specs.Worlds.{value};
 ghost use Rattle.cq_begin.specs.Begun.{IfGoes, IfPruned};
 ghost use Rattle.cq_begin.specs.Calls.{body_cells, ClauseComes, OfClause};
 
-use crate::beginning::{Begun, run};
+use crate::beginning::{Begun, proceed};
 use cq_atoms::Atoms;
 use cq_control::{Continuation, Continuations};
-use cq_kinds::is_callable;
 use cq_linear::store::StoreFault;
 use cq_program::clauses_are_counted;
-use cq_rest::{equated_worlds_may_be_settled, look_at, look_at_pairs};
+use cq_resolve::resolve;
+use cq_rest::{equated_worlds_may_be_settled, look_at};
+use cq_settle::Work;
 use cq_stored::Clause;
-use cq_term::{Heap, TermId, View};
+use cq_term::{Newly, TermId, View};
 use cq_trail::Undo;
 use cq_world::World;
 use spec_machine::Cell;
 use std::alloc::AllocError;
 
-/// A call begins one of its clauses: under new variables its head is made equal to the goal, the world is settled, and its body
+/// A call begins one of its clauses: its head, under new variables, is made equal to the goal, the world is settled, and its body
 /// goes in front of the continuation, behind the goals that woke. A cut in the body goes back to the height. Where the head
 /// can't be made equal, or the constraints have no solution then, and after an error, the world is as at the call.
 pub fn begin_clause(
@@ -111,38 +116,37 @@ fn try_clause(
 {
     clauses_are_counted();
     equated_worlds_may_be_settled();
-    let (head, body) = clause.rename(&mut world.heap)?;
-    look_at(&world.heap, body);
-    let behind = body_before(&world.heap, lists, atoms, body, height, rest)?;
-    let pairs = [cq_walk::Pair {
-        left: goal,
-        right: head,
-    }];
-    look_at_pairs(&world.heap, &pairs);
+    look_at(&world.heap, goal);
+    let mut newly = Newly::new(world.heap.alloc());
+    let Some(body) = resolve(clause, &mut world.heap, &mut newly, goal)? else {
+        return Ok(Begun::Pruned);
+    };
+    let behind = body_before(clause, lists, atoms, body, height, rest)?;
     let told = Vec::new(world.heap.alloc());
-    run(world, lists, atoms, &pairs, told, behind)
+    let rows = Vec::new(world.heap.alloc());
+    proceed(world, lists, atoms, Work { newly, told, rows }, behind)
 }
 
-/// The body of a clause in front of a continuation; the body `true` adds nothing.
+/// The body of a clause in front of a continuation; the body `true` adds nothing. A variable as the body is called, whatever
+/// it was made equal to.
 fn body_before(
-    heap: &Heap,
+    clause: &Clause,
     lists: &mut Continuations<Cell>,
     atoms: &Atoms,
     body: TermId,
     height: usize,
     rest: Continuation,
 ) -> Result<Continuation, AllocError>
-    requires body { body < length heap.now.now.terms }
-    requires names { KnowsTerms atoms.now heap.now.now.terms }
+    requires names { HasNamesBelow (length atoms.now) clause.now.body }
     requires rest { rest < length lists.old.now }
-    ensures cells { IfOk result (λ k. HasCells lists.new.now k (body_cells atoms.now heap.now.now.terms body height (items_at lists.old.now rest))) }
+    ensures cells { IfOk result (λ k. HasCells lists.new.now k (body_cells (named (text_of atoms.now) clause.now.body) body height (items_at lists.old.now rest))) }
     ensures keeps { KeepsLists lists.old.now lists.new.now }
     ensures saved { lists.new.saved ≡ lists.old.saved }
 {
-    if is_true(heap, atoms, body) {
+    if is_true(clause, atoms) {
         return Ok(rest);
     }
-    let cell = if is_callable(heap, body) {
+    let cell = if is_callable(clause) {
         Cell::Goal(body, height)
     } else {
         Cell::Call(body)
@@ -151,14 +155,30 @@ fn body_before(
     Ok(k)
 }
 
-/// Whether a term is the atom `true`.
-fn is_true(heap: &Heap, atoms: &Atoms, id: TermId) -> bool
-    requires live { id < length heap.now.now.terms }
-    requires names { KnowsTerms atoms.now heap.now.now.terms }
-    ensures { result ≡ is_atom "true" (tree atoms.now heap.now.now.terms id) }
+/// What the body of a clause shows at its head.
+fn body_shown(clause: &Clause) -> View
+    ensures { result ≡ view_of clause.now.body }
 {
-    match heap.view(id) {
+    clause.body()[0]
+}
+
+/// Whether the body of a clause is the atom `true`.
+fn is_true(clause: &Clause, atoms: &Atoms) -> bool
+    requires { HasNamesBelow (length atoms.now) clause.now.body }
+    ensures { result ≡ is_atom "true" (named (text_of atoms.now) clause.now.body) }
+{
+    match body_shown(clause) {
         View::Name(name) => atoms.text(name) == "true",
-        _ => false,
+        View::Var(_) | View::Number(_) | View::Compound(_, _) => false,
+    }
+}
+
+/// Whether the body of a clause is an atom or a compound.
+fn is_callable(clause: &Clause) -> bool
+    ensures { (texts : List Text) → result ≡ is_callable (named (text_of texts) clause.now.body) }
+{
+    match body_shown(clause) {
+        View::Name(_) | View::Compound(_, _) => true,
+        View::Var(_) | View::Number(_) => false,
     }
 }

@@ -13,7 +13,6 @@ use Rattle.spec_search.specs.Replies.{Place, Made, Makes, made, onward, outputs,
 use Rattle.spec_search.specs.Rows.{reply_of}
 use Rattle.spec_search.specs.Steps as steps
 use Rattle.spec_search.specs.Turns.{older}
-use Rattle.cq_atoms.specs.Texts.{AreDifferent}
 use Rattle.cq_built.specs.Errors.{error_tree, HasCulprit}
 use Rattle.cq_built.specs.declared.errors.BuiltinError.{BuiltinError}
 use Rattle.cq_linear.specs.declared.store.StoreFault.TheVariants.{NoMemory}
@@ -23,10 +22,9 @@ use Rattle.cq_steps.proofs.Branches.{branches_rest}
 use Rattle.cq_steps.proofs.Control.{goes_on_with}
 use Rattle.cq_ways.proofs.Leading.{same_made}
 use Rattle.cq_machine.specs.declared.machine.Machine.{Machine}
-use Rattle.cq_machine.specs.declared.names.Names.{Names}
 use Rattle.cq_machine.specs.declared.step.Step.{Step}
 use Rattle.cq_machine.specs.declared.step.Step.TheVariants.{Goes, Raises}
-use Rattle.cq_machine.specs.Machines.{terms, now, holds, database_of, AreNames, IsSound, StillStands}
+use Rattle.cq_machine.specs.Machines.{terms, now, holds, database_of, IsSound, StillStands}
 use Rattle.cq_machine.specs.Stepping.{row_of, IsSelectedAt, CanGo, OnRaises}
 use Rattle.cq_execute.specs.declared.executed.Executed.{Executed}
 use Rattle.cq_execute.specs.Executions.{Continues, Reaches}
@@ -85,21 +83,9 @@ nothing_done m id height rest sound = record {
 
 -- ---- operators
 
-names_one : (texts : List Text) → AreDifferent texts → (a b : Names) → AreNames texts a → AreNames texts b → a ≡ b
-names_one texts d a b x y = λ i. record {
-  truth = d a.truth b.truth _ x.truth y.truth i;
-  not = d a.not b.not _ x.not y.not i;
-  equal = d a.equal b.equal _ x.equal y.equal i;
-  once = d a.once b.once _ x.once y.once i;
-  curly = d a.curly b.curly _ x.curly y.curly i;
-}
-
 -- A machine of which the operators may be other ones.
-module _ (old new : Machine) (before : IsSound old) (sound : IsSound new) (world : new.world ≡ old.world) (choices : new.choices ≡ old.choices) (atoms : new.atoms ≡ old.atoms)
+module _ (old new : Machine) (world : new.world ≡ old.world) (choices : new.choices ≡ old.choices) (atoms : new.atoms ≡ old.atoms) (names : new.names ≡ old.names)
     (clauses : new.clauses ≡ old.clauses) where
-  names : new.names ≡ old.names
-  names = names_one old.atoms before.different new.names old.names (subst (λ (a : List Text). AreNames a new.names) atoms sound.known) before.known
-
   -- it is the same but for them
   pub all_but_operators : new ≡ record old { ops = new.ops }
   all_but_operators = λ i. record { world = world i; choices = choices i; atoms = atoms i; names = names i; ops = new.ops; clauses = clauses i }

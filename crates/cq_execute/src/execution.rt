@@ -23,7 +23,6 @@ use cq_linear::store::StoreFault;
 use cq_machine::{Machine, Step};
 use cq_selected::call_procedure;
 use cq_steps::selected_goals_lead;
-use cq_table::Builtin;
 use cq_term::{Heap, Pred, TermId, View};
 use std::alloc::AllocError;
 
@@ -108,7 +107,7 @@ fn execute_named(
     requires predicate { IsOf m.old.atoms predicate (tree m.old.atoms (terms m.old) goal) }
     ensures { IsDone m.old m.new goal height rest result }
 {
-    match Builtin::named(m.atoms.text(predicate.name), predicate.arity) {
+    match m.names.builtins.get(predicate) {
         Some(builtin) => execute_builtin(m, builtin, goal, height, rest),
         None => {
             let alloc = m.world.first.heap.alloc();

@@ -6,6 +6,7 @@ use Rattle.spec_lists.specs.Prefixes.{IsPrefix}
 use Rattle.spec_lists.specs.Texts.{Text}
 use Rattle.cq_atoms.specs.Texts.{AreDifferent, KeepsTexts, with_text}
 use Rattle.cq_ops.specs.Tables.{GainsNames}
+use Rattle.cq_table.proofs.Entries.{builtins_kept}
 use Rattle.cq_machine.specs.Machines.{AreNames}
 use Rattle.cq_machine.specs.declared.names.Names.{Names}
 
@@ -36,4 +37,5 @@ names_kept old new keeps names a = record {
   equal = keeps names.equal _ a.equal;
   once = keeps names.once _ a.once;
   curly = keeps names.curly _ a.curly;
+  builtins = builtins_kept old new keeps names.builtins a.builtins;
 }

@@ -15,6 +15,7 @@ use Rattle.cq_write.specs.Meaning.{operators}
 use Rattle.spec_machine.specs.Cells.{Value, Stack}
 use Rattle.spec_machine.specs.Standing.{engine, IsStanding}
 use Rattle.cq_steps.specs.Choices.{AreOpen}
+use Rattle.cq_table.specs.Numbered.{AreBuiltins}
 use Rattle.cq_steps.specs.Worlds.{IsBranch, term_in, value, saved_values, stack, Grown}
 use Rattle.cq_machine.specs.declared.machine.Machine.{Machine}
 use Rattle.cq_machine.specs.declared.names.Names.{Names}
@@ -48,6 +49,7 @@ pub record AreNames (texts : List Text) (names : Names) : Type 0 where
   pub equal : IsName texts names.equal "="
   pub once : IsName texts names.once "once"
   pub curly : IsName texts names.curly "{}"
+  pub builtins : AreBuiltins texts names.builtins
 
 -- what a machine keeps
 pub record IsSound (m : Machine) : Type 0 where

@@ -40,9 +40,10 @@ pub fn not_unify(
 {
     let left = m.world.first.heap.arg(goal, 0);
     let right = m.world.first.heap.arg(goal, 1);
-    let names = m.names;
-    let equal = build(m, names.equal, &[left, right])?;
-    let negated = build(m, names.not, &[equal])?;
+    let equality = m.names.equal;
+    let negation = m.names.not;
+    let equal = build(m, equality, &[left, right])?;
+    let negated = build(m, negation, &[equal])?;
     let step = put(m, negated, height, rest)?;
     Ok(step)
 }
@@ -66,8 +67,8 @@ pub fn initialization(
     ensures err { OnErr result (StillStands m.old m.new) }
 {
     let inside = m.world.first.heap.arg(goal, 0);
-    let names = m.names;
-    let once = build(m, names.once, &[inside])?;
+    let name = m.names.once;
+    let once = build(m, name, &[inside])?;
     let step = put(m, once, height, rest)?;
     Ok(step)
 }
@@ -91,8 +92,8 @@ pub fn once(
     ensures err { OnErr result (StillStands m.old m.new) }
 {
     let inside = m.world.first.heap.arg(goal, 0);
-    let names = m.names;
-    let truth = build(m, names.truth, &[])?;
+    let name = m.names.truth;
+    let truth = build(m, name, &[])?;
     let k = cq_steps::once(&mut m.world, &m.choices, inside, truth, height, rest)?;
     Ok(Step::Goes(k))
 }

@@ -26,7 +26,7 @@ pub struct Machine {
     pub choices: Choices<Alternatives>,
     /// The names of the terms.
     pub atoms: Atoms,
-    /// Those among them that rows put in front.
+    /// Those among them that it knows.
     pub names: Names,
     /// The operators by which goals read and write.
     pub ops: Ops,
@@ -50,7 +50,7 @@ impl Machine {
         more_names_keep_the_table();
         let mut atoms = Atoms::new(alloc);
         let ops = Ops::standard(alloc, &mut atoms)?;
-        let names = Names::new(&mut atoms)?;
+        let names = Names::new(alloc, &mut atoms)?;
         let first = World::new(alloc, pivots);
         let second = Continuations::new(alloc);
         Ok(Machine {

@@ -1,14 +1,15 @@
-// Names of goals that rows put in front.
+// The names that an engine knows.
 
 ghost use Rattle.std.specs.Prelude.{◌≡◌, Some, slice_get, IfOk};
 ghost use Rattle.cq_ops.specs.Tables.{GainsNames};
 ghost use Rattle.cq_machine.specs.Machines.{AreNames};
 
 use cq_atoms::{Atom, Atoms, numbers_keep_their_texts};
-use std::alloc::AllocError;
+use cq_table::Builtins;
+use std::alloc::{AllocError, Global};
 
-/// The names of goals that rows put in front.
-#[derive(Clone, Copy, Debug)]
+/// The names of goals that rows put in front, and those of the built-in predicates.
+#[derive(Drop)]
 pub struct Names {
     /// `true`
     pub truth: Atom,
@@ -20,12 +21,14 @@ pub struct Names {
     pub once: Atom,
     /// `{}`
     pub curly: Atom,
+    /// What is built in, by the numbers of its names.
+    pub builtins: Builtins,
 }
 
 impl Names {
     /// Finds or gives the numbers of these names.
     #[tactic(auto, using(crate::proofs::Interned::gains_then))]
-    pub(crate) fn new(atoms: &mut Atoms) -> Result<Names, AllocError>
+    pub(crate) fn new(alloc: Global, atoms: &mut Atoms) -> Result<Names, AllocError>
         ensures names { IfOk result (AreNames atoms.new) }
         ensures gains { GainsNames atoms.old atoms.new }
     {
@@ -34,12 +37,14 @@ impl Names {
         let equal = numbered(atoms, "=")?;
         let once = numbered(atoms, "once")?;
         let curly = numbered(atoms, "{}")?;
+        let builtins = Builtins::new(alloc, atoms)?;
         Ok(Names {
             truth,
             not,
             equal,
             once,
             curly,
+            builtins,
         })
     }
 }

@@ -66,6 +66,7 @@ pub fn declare(m: &mut Machine, goal: TermId) -> Result<(), BuiltinFault>
     ensures world { m.new.world ≡ m.old.world }
     ensures choices { m.new.choices ≡ m.old.choices }
     ensures atoms { m.new.atoms ≡ m.old.atoms }
+    ensures names { m.new.names ≡ m.old.names }
     ensures clauses { m.new.clauses ≡ m.old.clauses }
     ensures err { OnErr result (m.new.ops ≡ m.old.ops) }
 {

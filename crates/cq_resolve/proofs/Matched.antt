@@ -206,7 +206,7 @@ module _ (c : Call) (head : List View) (first : ℕ) (now : HeapTerms) (after : 
     less_left : length rest ≡ length (read (drop next head))
     less_left = omega (arith, some_left, ap length parts)
 
-    module _ (new : HeapTerms) (later : List VarId) (told : List VarId) (more_met : ℕ) (h : Joined c.base now new (at now.terms g) (apply (image_of c.base (in_turn m.bindings)) p) told) (listed : later ≡ after ++ told) (le : met ≤ more_met) (known : (v : ℕ) → Occurs v p → v < more_met) where
+    module _ (new : HeapTerms) (later : List VarId) (told : List VarId) (more_met : ℕ) (h : Joined now new (at now.terms g) (apply (image_of c.base (in_turn m.bindings)) p) told) (listed : later ≡ after ++ told) (le : met ≤ more_met) (known : (v : ℕ) → Occurs v p → v < more_met) where
       abbrev u : Subst ℕ
       u = in_turn h.bindings
 

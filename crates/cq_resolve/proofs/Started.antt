@@ -86,8 +86,7 @@ module _ (old mid : Terms) (count first : ℕ) (hs : List View) (goal : ℕ) (be
         terms = ([], sym (map-identity mid.terms) ∙ sym (append-nil (map (apply identity) mid.terms)));
         images = sym (map-identity mid.images);
         in_order = refl;
-        told_bound = λ v c. absurd (omega (arith, c.1));
-        all_told = λ v lt h. absurd (h.1 h.0);
+        newly = λ v. (λ c. absurd (omega (arith, c.1)), λ h. absurd (h.1 h.0));
         once = λ i j d lt within. absurd (omega arith);
       };
       solving = solving_start (equal (at old.terms goal) (apply (moved_by (length old.images)) (term_of hs))) (at old.terms goal) (apply (moved_by (length old.images)) (term_of hs))
@@ -102,9 +101,6 @@ module _ (old mid : Terms) (count first : ℕ) (hs : List View) (goal : ℕ) (be
     abbrev s : Subst ℕ
     s = in_turn m.bindings
 
-    image_then : (v : ℕ) → v < length old.images → at mid.images v ≡ at old.images v
-    image_then v lt = ap (λ us. at us v) images ∙ get_or_append_left old.images (unbound_from (length old.images) count) blank v lt
-
     pub resolved_end : Resolved old new (record { head = term_of hs; body = term_of bs; variables = count }) goal id m.told
     resolved_end = record {
       bindings = m.bindings;
@@ -116,15 +112,12 @@ module _ (old mid : Terms) (count first : ℕ) (hs : List View) (goal : ℕ) (be
       body = built ∙ term_now the_call hs first m.begun now.images s m.bound.images (term_of bs) (pattern_below count bs body)
           ∙ apply-followed_by (moved_by (length old.images)) s (term_of bs);
       in_order = m.bound.in_order;
-      newly = λ v lt. (
+      newly = λ v. (
         λ d. (
-            let h = m.bound.told_bound v d in
-            ((lt, sym (image_then v.0 lt) ∙ h.0.1), λ u. h.1 (subst (λ us. IsUnbound us v.0) same u))
+            let h = (m.bound.newly v).0 d in
+            (subst (λ us. IsUnbound us v.0) images h.0, λ u. h.1 (subst (λ us. IsUnbound us v.0) same u))
             ),
-        λ h. m.bound.all_told v lt (
-          (omega (arith, lt, ap length images, length-append old.images (unbound_from (length old.images) count)), image_then v.0 lt ∙ h.0.1),
-          λ u. h.1 (subst (λ us. IsUnbound us v.0) (sym same) u),
-        ),
+        λ h. (m.bound.newly v).1 (subst (λ us. IsUnbound us v.0) (sym images) h.0, λ u. h.1 (subst (λ us. IsUnbound us v.0) (sym same) u)),
       );
       once = m.bound.once;
     }

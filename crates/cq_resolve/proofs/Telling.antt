@@ -22,7 +22,6 @@ use Rattle.cq_unify.specs.Unified.{Binding, in_turn, variables_of, IsNewlyBound,
 use Rattle.spec_lists.specs.Prefixes.{IsPrefix}
 use Rattle.cq_unify.proofs.Progress.{map-identity, same_variable}
 use Rattle.cq_unify.proofs.Unbound.{at-map, variable_from}
-use Rattle.cq_resolve.specs.Resolved.{older}
 use Rattle.cq_resolve.specs.Joined.{Joined, equal, CanMeet}
 use Rattle.cq_resolve.specs.Matching.{Call, Bound}
 use Rattle.cq_resolve.proofs.Unifying.{variable_by}
@@ -57,20 +56,19 @@ pairs_append (x ∷ xs) ys f g n (suc i) (suc j) d lt within =
     pairs_append xs ys (λ p q e o w. f (suc p) (suc q) e (omega arith) (omega arith)) g (λ p q c e. n p q (suc c.0, omega (arith, c.1), c.2) e) i j d (omega arith) (omega arith)
 
 -- ---- one step
-pub joined_unified : (base : ℕ) (old new : Terms) (a b : ℕ) (told : List VarId) → Unified old new a b told → Joined base old new (at old.terms a) (at old.terms b) told
-joined_unified base old new a b told h = record {
+pub joined_unified : (old new : Terms) (a b : ℕ) (told : List VarId) → Unified old new a b told → Joined old new (at old.terms a) (at old.terms b) told
+joined_unified old new a b told h = record {
   bindings = h.bindings;
   unifier = h.unifier;
   terms = ([], h.terms ∙ sym (append-nil (map (apply (in_turn h.bindings)) old.terms)));
   images = h.images;
-  in_order = ap (older base) h.in_order;
-  told_bound = λ v c. (h.newly v).0 c;
-  all_told = λ v lt c. (h.newly v).1 c;
+  in_order = h.in_order;
+  newly = h.newly;
   once = h.once;
 }
 
-pub joined_same : (base : ℕ) (heap : Terms) (a b : HeapTerm) → a ≡ b → Joined base heap heap a b []
-joined_same base heap a b e = record {
+pub joined_same : (heap : Terms) (a b : HeapTerm) → a ≡ b → Joined heap heap a b []
+joined_same heap a b e = record {
   bindings = [];
   unifier = record {
     unifies = (ap (apply identity) e, tt);
@@ -80,17 +78,16 @@ joined_same base heap a b e = record {
   terms = ([], sym (map-identity heap.terms) ∙ sym (append-nil (map (apply identity) heap.terms)));
   images = sym (map-identity heap.images);
   in_order = refl;
-  told_bound = λ v c. absurd (omega (arith, c.1));
-  all_told = λ v lt c. absurd (c.1 c.0);
+  newly = λ v. (λ c. absurd (omega (arith, c.1)), λ c. absurd (c.1 c.0));
   once = λ i j d lt within. absurd (omega arith);
 }
 
-pub joined_as : (base : ℕ) (old new : Terms) (a b x y : HeapTerm) (told : List VarId) → a ≡ x → b ≡ y → Joined base old new a b told → Joined base old new x y told
-joined_as base old new a b x y told p q h = subst (λ (t : HeapTerm). Joined base old new t y told) p (subst (λ (t : HeapTerm). Joined base old new a t told) q h)
+pub joined_as : (old new : Terms) (a b x y : HeapTerm) (told : List VarId) → a ≡ x → b ≡ y → Joined old new a b told → Joined old new x y told
+joined_as old new a b x y told p q h = subst (λ (t : HeapTerm). Joined old new t y told) p (subst (λ (t : HeapTerm). Joined old new a t told) q h)
 
 -- the terms may be larger than they were, and either side may be the left one
-pub joined_larger : (base : ℕ) (old mid new : Terms) (a b : HeapTerm) (told : List VarId) → IsPrefix old.terms mid.terms → mid.images ≡ old.images → Joined base mid new a b told → Joined base old new a b told
-joined_larger base old mid new a b told p e h =
+pub joined_larger : (old mid new : Terms) (a b : HeapTerm) (told : List VarId) → IsPrefix old.terms mid.terms → mid.images ≡ old.images → Joined mid new a b told → Joined old new a b told
+joined_larger old mid new a b told p e h =
     let s : Subst ℕ = in_turn h.bindings in
     record {
       bindings = h.bindings;
@@ -101,13 +98,15 @@ joined_larger base old mid new a b told p e h =
       );
       images = h.images ∙ ap (map (apply s)) e;
       in_order = h.in_order;
-      told_bound = λ v c. (let k = h.told_bound v c in (subst (λ us. IsUnbound us v.0) e k.0, k.1));
-      all_told = λ v lt k. h.all_told v lt (subst (λ us. IsUnbound us v.0) (sym e) k.0, k.1);
+      newly = λ v. (
+        λ c. (let k = (h.newly v).0 c in (subst (λ us. IsUnbound us v.0) e k.0, k.1)),
+        λ k. (h.newly v).1 (subst (λ us. IsUnbound us v.0) (sym e) k.0, k.1),
+      );
       once = h.once;
     }
 
-pub joined_other_way : (base : ℕ) (old new : Terms) (a b : HeapTerm) (told : List VarId) → Joined base old new a b told → Joined base old new b a told
-joined_other_way base old new a b told h = record {
+pub joined_other_way : (old new : Terms) (a b : HeapTerm) (told : List VarId) → Joined old new a b told → Joined old new b a told
+joined_other_way old new a b told h = record {
   bindings = h.bindings;
   unifier = record {
     unifies = (sym h.unifier.unifies.0, tt);
@@ -117,12 +116,11 @@ joined_other_way base old new a b told h = record {
   terms = h.terms;
   images = h.images;
   in_order = h.in_order;
-  told_bound = h.told_bound;
-  all_told = h.all_told;
+  newly = h.newly;
   once = h.once;
 }
 
--- one variable is bound
+-- one variable is bound, and told
 module _ (old new : Terms) (v : VarId) (t : ℕ) (can : CanMeet old v t) (terms : new.terms ≡ map (apply (single v.0 (at old.terms t))) old.terms) (images : new.images ≡ map (apply (single v.0 (at old.terms t))) old.images) where
   abbrev term : HeapTerm
   term = at old.terms t
@@ -171,33 +169,17 @@ module _ (old new : Terms) (v : VarId) (t : ℕ) (can : CanMeet old v t) (terms 
   contains_one : (x : VarId) → Contains (v ∷ []) x → v ≡ x
   contains_one x c = elim (Contains-push_cases [] v x c) [ inl h ↦ absurd (omega (arith, h.1)) | inr e ↦ e ]
 
-  -- and told
-  pub joined_told : (base : ℕ) → Joined base old new (Var v.0) term (v ∷ [])
-  joined_told base = record {
+  pub joined_told : Joined old new (Var v.0) term (v ∷ [])
+  joined_told = record {
     bindings = made;
     unifier = one_unifier;
     terms = larger;
     images = images ∙ one_map old.images;
     in_order = refl;
-    told_bound = λ x c. subst (IsNewlyBound old new) (contains_one x c) (can.unbound, bound_now);
-    all_told = λ x lt h. subst (Contains (v ∷ [])) (only_one x h) (Contains-push [] v);
-    once = λ i j d lt within. absurd (omega arith);
-  }
-
-  not_older : (b : Bool) → (b ≡ true → ⊥) → cond b (v ∷ []) [] ≡ []
-  not_older true n = absurd (n refl)
-  not_older false n = refl
-
-  -- or it is none of the older ones, and isn't told
-  pub joined_quietly : (base : ℕ) → (nat_lt v.0 base ≡ true → ⊥) → base ≤ v.0 → Joined base old new (Var v.0) term []
-  joined_quietly base young le = record {
-    bindings = made;
-    unifier = one_unifier;
-    terms = larger;
-    images = images ∙ one_map old.images;
-    in_order = sym (not_older (nat_lt v.0 base) young);
-    told_bound = λ x c. absurd (omega (arith, c.1));
-    all_told = λ x lt h. (let e : v.0 ≡ x.0 = ap (λ (y : VarId). y.0) (only_one x h) in absurd (omega (arith, e, lt, le)));
+    newly = λ x. (
+      λ c. subst (IsNewlyBound old new) (contains_one x c) (can.unbound, bound_now),
+      λ h. subst (Contains (v ∷ [])) (only_one x h) (Contains-push [] v),
+    );
     once = λ i j d lt within. absurd (omega arith);
   }
 
@@ -225,9 +207,6 @@ pub ok_true : (b : Bool) → ◌≡◌ {A = Result Bool AllocError} (Ok b) (Ok t
 ok_true true e = refl
 ok_true false e = cc
 
-pub not_less : (v base : ℕ) → base ≤ v → nat_lt v base ≡ true → ⊥
-not_less v base le e = grind arith
-
 -- ---- a step after others
 is_that : (t : HeapTerm) (v : ℕ) → (t ≡ Var v) ⊎ (t ≡ Var v → ⊥)
 is_that (Var w) v = elim (cases_eq w v) [ inl e ↦ inl (ap (λ x. Var x) e) | inr n ↦ inr (λ e. let q : w ≡ v = cc in n q) ]
@@ -238,7 +217,7 @@ is_that (Compound f ts) v = inr (λ e. cc)
 pub unbound_or_not : (us : List HeapTerm) (v : ℕ) → v < length us → IsUnbound us v ⊎ (IsUnbound us v → ⊥)
 unbound_or_not us v lt = elim (is_that (at us v) v) [ inl e ↦ inl (lt, e) | inr n ↦ inr (λ h. n h.1) ]
 
-module _ (c : Call) (now new : Terms) (bs : List Binding) (told more : List VarId) (a b : HeapTerm) (p : Bound c now bs told) (h : Joined c.base now new a b more)
+module _ (c : Call) (now new : Terms) (bs : List Binding) (told more : List VarId) (a b : HeapTerm) (p : Bound c now bs told) (h : Joined now new a b more)
     (oldest : (v w : ℕ) → in_turn bs v ≡ Var w → w ≤ v)
     (back_now : (v : ℕ) → IsUnbound now.images v → IsUnbound c.start.images v)
     (back_new : (v : ℕ) → IsUnbound new.images v → IsUnbound c.start.images v) where
@@ -257,18 +236,18 @@ module _ (c : Call) (now new : Terms) (bs : List Binding) (told more : List VarI
 
   told_then : (v : VarId) → Contains (told ++ more) v → IsNewlyBound c.start new v
   told_then v d = elim (Contains-append_cases told more v d) [
-    | inl k ↦ (let q = p.told_bound v k in (q.0, λ u. q.1 (before_step v.0 u)))
-    | inr k ↦ (let q = h.told_bound v k in (back_now v.0 q.0, q.1))
+    | inl k ↦ (let q = (p.newly v).0 k in (q.0, λ u. q.1 (before_step v.0 u)))
+    | inr k ↦ (let q = (h.newly v).0 k in (back_now v.0 q.0, q.1))
   ]
 
-  all_then : (v : VarId) → v.0 < c.base → IsNewlyBound c.start new v → Contains (told ++ more) v
-  all_then v lt q = elim (unbound_or_not now.images v.0 (omega (arith, q.0.0, ap length p.images, length-map c.start.images (apply (in_turn bs))))) [
-    | inl u ↦ Contains-append_right told more v (h.all_told v lt (u, q.1))
-    | inr n ↦ Contains-append_left told more v (p.all_told v lt (q.0, n))
+  all_then : (v : VarId) → IsNewlyBound c.start new v → Contains (told ++ more) v
+  all_then v q = elim (unbound_or_not now.images v.0 (omega (arith, q.0.0, ap length p.images, length-map c.start.images (apply (in_turn bs))))) [
+    | inl u ↦ Contains-append_right told more v ((h.newly v).1 (u, q.1))
+    | inr n ↦ Contains-append_left told more v ((p.newly v).1 (q.0, n))
   ]
 
   apart : (x y : VarId) → Contains told x → Contains more y → x ≢ y
-  apart x y d e q = (p.told_bound x d).1 (subst (λ (z : VarId). IsUnbound now.images z.0) (sym q) (h.told_bound y e).0)
+  apart x y d e q = ((p.newly x).0 d).1 (subst (λ (z : VarId). IsUnbound now.images z.0) (sym q) ((h.newly y).0 e).0)
 
   once_then : AllPairs ◌≢◌ (told ++ more)
   once_then = pairs_append told more p.once h.once apart
@@ -284,9 +263,7 @@ module _ (c : Call) (now new : Terms) (bs : List Binding) (told more : List VarI
               ∙ ap (λ ts. ts ++ (map (apply s) p.terms.0 ++ h.terms.0)) (map-append_turns bs h.bindings c.start.terms),
         );
         images = h.images ∙ ap (map (apply s)) p.images ∙ map-append_turns bs h.bindings c.start.images;
-        in_order = filter-append (λ (v : VarId). nat_lt v.0 c.base) told more ∙ (λ i. p.in_order i ++ h.in_order i)
-            ∙ sym (filter-append (λ (v : VarId). nat_lt v.0 c.base) (variables_of bs) (variables_of h.bindings)) ∙ ap (older c.base) (sym (map-append (λ (x : Binding). x.variable) bs h.bindings));
-        told_bound = told_then;
-        all_told = all_then;
+        in_order = (λ i. p.in_order i ++ h.in_order i) ∙ sym (map-append (λ (x : Binding). x.variable) bs h.bindings);
+        newly = λ v. (told_then v, all_then v);
         once = once_then;
       }

@@ -1,5 +1,5 @@
 -- One step of a match: a term of the goal and a part of the head are made equal.
-use Rattle.std.specs.Prelude.{◌≡◌, ◌≢◌, ℕ, ◌<◌, List, [], ◌∷◌, ◌++◌, map, Contains}
+use Rattle.std.specs.Prelude.{◌≡◌, ◌≢◌, ◌↔◌, ℕ, ◌<◌, List, [], ◌∷◌, ◌++◌, map, Contains}
 use Rattle.std.specs.List.{AllPairs}
 use Rattle.spec_terms.specs.Term.{Subst, Var, Occurs, apply}
 use Rattle.spec_terms.specs.Unifier.{Equation, IsUnifier}
@@ -9,20 +9,18 @@ use Rattle.cq_term.specs.HeapValue.{Terms}
 use Rattle.cq_term.specs.Shown.{IsUnbound}
 use Rattle.cq_unify.specs.Unified.{Binding, in_turn, variables_of, IsNewlyBound}
 use Rattle.spec_lists.specs.Prefixes.{IsPrefix}
-use Rattle.cq_resolve.specs.Resolved.{older}
 
 abbrev pub equal : HeapTerm → HeapTerm → List (Equation ℕ)
 equal a b = record { left = a; right = b } ∷ []
 
--- all terms are read under the unifier of the two; variables from the base on need not be told
-pub record Joined (base : ℕ) (old new : Terms) (a b : HeapTerm) (told : List VarId) : Type 0 where
+-- all terms are read under the unifier of the two, which bindings of these variables make in turn
+pub record Joined (old new : Terms) (a b : HeapTerm) (told : List VarId) : Type 0 where
   pub bindings : List Binding
   pub unifier : IsUnifier (equal a b) (in_turn bindings)
   pub terms : IsPrefix (map (apply (in_turn bindings)) old.terms) new.terms
   pub images : new.images ≡ map (apply (in_turn bindings)) old.images
-  pub in_order : older base told ≡ older base (variables_of bindings)
-  pub told_bound : (v : VarId) → Contains told v → IsNewlyBound old new v
-  pub all_told : (v : VarId) → v.0 < base → IsNewlyBound old new v → Contains told v
+  pub in_order : told ≡ variables_of bindings
+  pub newly : (v : VarId) → Contains told v ↔ IsNewlyBound old new v
   pub once : AllPairs ◌≢◌ told
 
 -- nothing makes the two equal
@@ -36,5 +34,5 @@ pub record CanMeet (heap : Terms) (v : VarId) (t : ℕ) : Type 0 where
   pub older : (w : ℕ) → at heap.terms t ≡ Var w → w < v.0
 
 -- what was told before, and then what a step told that made the term of an id and the other term equal
-abbrev pub Joins : ℕ → Terms → Terms → ℕ → HeapTerm → List VarId → List VarId → Type 0
-Joins base old new a t before after = (more : List VarId) × (after ≡ before ++ more) × Joined base old new (at old.terms a) t more
+abbrev pub Joins : Terms → Terms → ℕ → HeapTerm → List VarId → List VarId → Type 0
+Joins old new a t before after = (more : List VarId) × (after ≡ before ++ more) × Joined old new (at old.terms a) t more

@@ -1,5 +1,5 @@
 -- A head on its way along a goal.
-use Rattle.std.specs.Prelude.{◌≡◌, ◌≢◌, ℕ, ◌+◌, ◌<◌, ◌≤◌, ◌^◌, List, [], ◌∷◌, ◌++◌, map, reverse, drop, length, All, Contains}
+use Rattle.std.specs.Prelude.{◌≡◌, ◌≢◌, ◌↔◌, ℕ, ◌+◌, ◌<◌, ◌≤◌, ◌^◌, List, [], ◌∷◌, ◌++◌, map, reverse, drop, length, All, Contains}
 use Rattle.std.specs.List.{AllPairs}
 use Rattle.spec_terms.specs.Term.{Subst, Var, Occurs, apply, followed_by}
 use Rattle.spec_terms.specs.Unifier.{Equation, Equates}
@@ -12,7 +12,6 @@ use Rattle.cq_unify.specs.Unified.{Binding, in_turn, variables_of, IsNewlyBound}
 use Rattle.spec_lists.specs.Prefixes.{IsPrefix}
 use Rattle.cq_walk.specs.Pairs.{pairwise}
 use Rattle.cq_stored.specs.Pattern.{read, AreHeads}
-use Rattle.cq_resolve.specs.Resolved.{older}
 use Rattle.cq_resolve.specs.declared.matching.Walk.{Walk}
 
 -- the number of the first of the clause's variables on the heap, how many there are, the heap once these were made, the
@@ -54,9 +53,8 @@ pub record Solving (goal : List (Equation ℕ)) (s : Subst ℕ) (rest : List (Eq
 pub record Bound (c : Call) (now : Terms) (bindings : List Binding) (told : List VarId) : Type 0 where
   pub terms : IsPrefix (map (apply (in_turn bindings)) c.start.terms) now.terms
   pub images : now.images ≡ map (apply (in_turn bindings)) c.start.images
-  pub in_order : older c.base told ≡ older c.base (variables_of bindings)
-  pub told_bound : (v : VarId) → Contains told v → IsNewlyBound c.start now v
-  pub all_told : (v : VarId) → v.0 < c.base → IsNewlyBound c.start now v → Contains told v
+  pub in_order : told ≡ variables_of bindings
+  pub newly : (v : VarId) → Contains told v ↔ IsNewlyBound c.start now v
   pub once : AllPairs ◌≢◌ told
 
 -- the terms of the goal that are left, the last one first

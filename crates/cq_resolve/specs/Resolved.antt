@@ -1,6 +1,6 @@
 -- What it means that a goal was resolved with a clause.
-use Rattle.std.specs.Prelude.{◌≡◌, ◌≢◌, ◌↔◌, ℕ, ◌<◌, List, [], ◌∷◌, ◌++◌, map, length, Contains, nat_lt}
-use Rattle.std.specs.List.{AllPairs, filter}
+use Rattle.std.specs.Prelude.{◌≡◌, ◌≢◌, ◌↔◌, ℕ, ◌<◌, List, [], ◌∷◌, ◌++◌, map, length, Contains}
+use Rattle.std.specs.List.{AllPairs}
 use Rattle.spec_terms.specs.Term.{apply}
 use Rattle.spec_terms.specs.Unifier.{Equation, IsUnifier}
 use Rattle.cq_frac.specs.declared.VarId.{VarId}
@@ -16,22 +16,21 @@ use Rattle.cq_stored.specs.StoredValue.{ClauseValue}
 abbrev pub call : Terms → ClauseValue → ℕ → List (Equation ℕ)
 call heap c goal = record { left = at heap.terms goal; right = apply (moved_by (length heap.images)) c.head } ∷ []
 
--- those of the variables that are older than the n-th
-abbrev pub older : ℕ → List VarId → List VarId
-older n vs = filter (λ (v : VarId). nat_lt v.0 n) vs
+-- a heap with so many more variables
+abbrev pub with_variables : Terms → ℕ → Terms
+with_variables heap n = record heap { images = heap.images ++ unbound_from (length heap.images) n }
 
--- all terms are read under the unifier of the two, which bindings make in turn; the clause's variables are there, and
--- the term of its body
+-- all terms are read under the unifier of the two, which bindings of these variables make in turn; the clause's variables
+-- are there, and the term of its body
 pub record Resolved (old new : Terms) (c : ClauseValue) (goal id : ℕ) (told : List VarId) : Type 0 where
   pub bindings : List Binding
   pub unifier : IsUnifier (call old c goal) (in_turn bindings)
   pub terms : IsPrefix (map (apply (in_turn bindings)) old.terms) new.terms
-  pub images : new.images ≡ map (apply (in_turn bindings)) (old.images ++ unbound_from (length old.images) c.variables)
+  pub images : new.images ≡ map (apply (in_turn bindings)) (with_variables old c.variables).images
   pub live : id < length new.terms
   pub body : at new.terms id ≡ apply (in_turn bindings) (apply (moved_by (length old.images)) c.body)
-  -- the older variables that were bound are told in order, each once; of the clause's own some are
-  pub in_order : older (length old.images) told ≡ older (length old.images) (variables_of bindings)
-  pub newly : (v : VarId) → v.0 < length old.images → Contains told v ↔ IsNewlyBound old new v
+  pub in_order : told ≡ variables_of bindings
+  pub newly : (v : VarId) → Contains told v ↔ IsNewlyBound (with_variables old c.variables) new v
   pub once : AllPairs ◌≢◌ told
 
 -- what was told before, and then what the resolution told

@@ -26,8 +26,7 @@ pub(crate) fn join_variable(
     requires there { variable.0 < length heap.old.now.images }
     requires live { goal < length heap.old.now.terms }
     requires new { is_new ≡ true → CanMeet heap.old.now variable goal }
-    ensures joined { result ≡ Ok true → (base : ℕ) → (is_new ≡ true → base ≤ variable.0)
-        → Joins base heap.old.now heap.new.now goal (at heap.old.now.images variable.0) newly.old newly.new }
+    ensures joined { result ≡ Ok true → Joins heap.old.now heap.new.now goal (at heap.old.now.images variable.0) newly.old newly.new }
     ensures clash { result ≡ Ok false → Clash (at heap.old.now.terms goal) (at heap.old.now.images variable.0) }
     ensures told { (more : List VarId) × (newly.new ≡ newly.old ++ more) }
     ensures names { (n : ℕ) → KeepsNames n heap.old.now heap.new.now }
@@ -36,6 +35,7 @@ pub(crate) fn join_variable(
 {
     if is_new {
         heap.bind(variable, goal)?;
+        newly.push(variable)?;
         Ok(true)
     } else {
         let met = heap.var_term(variable);
@@ -47,7 +47,7 @@ pub(crate) fn join_variable(
 fn join_terms(heap: &mut Heap, newly: &mut Newly, a: TermId, b: TermId) -> Result<bool, AllocError>
     requires a { a < length heap.old.now.terms }
     requires b { b < length heap.old.now.terms }
-    ensures joined { result ≡ Ok true → (base : ℕ) → Joins base heap.old.now heap.new.now a (at heap.old.now.terms b) newly.old newly.new }
+    ensures joined { result ≡ Ok true → Joins heap.old.now heap.new.now a (at heap.old.now.terms b) newly.old newly.new }
     ensures clash { result ≡ Ok false → Clash (at heap.old.now.terms a) (at heap.old.now.terms b) }
     ensures told { (more : List VarId) × (newly.new ≡ newly.old ++ more) }
     ensures names { (n : ℕ) → KeepsNames n heap.old.now heap.new.now }
@@ -65,7 +65,7 @@ pub(crate) fn join_number(
     goal: TermId,
 ) -> Result<bool, AllocError>
     requires { goal < length heap.old.now.terms }
-    ensures joined { result ≡ Ok true → (base : ℕ) → Joins base heap.old.now heap.new.now goal (Number number) newly.old newly.new }
+    ensures joined { result ≡ Ok true → Joins heap.old.now heap.new.now goal (Number number) newly.old newly.new }
     ensures clash { result ≡ Ok false → Clash (at heap.old.now.terms goal) (Number number) }
     ensures told { (more : List VarId) × (newly.new ≡ newly.old ++ more) }
     ensures names { (n : ℕ) → KeepsNames n heap.old.now heap.new.now }
@@ -92,7 +92,7 @@ pub(crate) fn join_name(
     goal: TermId,
 ) -> Result<bool, AllocError>
     requires { goal < length heap.old.now.terms }
-    ensures joined { result ≡ Ok true → (base : ℕ) → Joins base heap.old.now heap.new.now goal (Name name) newly.old newly.new }
+    ensures joined { result ≡ Ok true → Joins heap.old.now heap.new.now goal (Name name) newly.old newly.new }
     ensures clash { result ≡ Ok false → Clash (at heap.old.now.terms goal) (Name name) }
     ensures told { (more : List VarId) × (newly.new ≡ newly.old ++ more) }
     ensures names { (n : ℕ) → name < n → KeepsNames n heap.old.now heap.new.now }
@@ -121,8 +121,8 @@ pub(crate) fn join_built(
 ) -> Result<bool, AllocError>
     requires live { goal < length heap.old.now.terms }
     requires part { (count : ℕ) × IsPattern count part.now × AreThere heap.old.now.images first count }
-    ensures joined { result ≡ Ok true → (base : ℕ)
-        → Joins base heap.old.now heap.new.now goal (apply (image_from heap.old.now.images first) (term_of part.now)) newly.old newly.new }
+    ensures joined { result ≡ Ok true
+        → Joins heap.old.now heap.new.now goal (apply (image_from heap.old.now.images first) (term_of part.now)) newly.old newly.new }
     ensures clash { result ≡ Ok false → Clash (at heap.old.now.terms goal) (apply (image_from heap.old.now.images first) (term_of part.now)) }
     ensures told { (more : List VarId) × (newly.new ≡ newly.old ++ more) }
     ensures names { OnOk result ((n : ℕ) → All (IsNamedBelow n) part.now → KeepsNames n heap.old.now heap.new.now) }

@@ -19,8 +19,7 @@ use std::alloc::AllocError;
 /// Makes a goal and the head of a clause equal, whose variables are new ones of the heap, and gives the body; or says
 /// that nothing makes them equal. The head is walked along the goal: it is built only where the goal has an unbound
 /// variable, and the body once the head was matched. A variable of the clause needs no occurs check where it is first
-/// met. Of the variables that get bound those that are older than the clause's are told to `newly` in the order of
-/// their bindings.
+/// met. The variables that get bound, those of the clause too, are told to `newly` in the order of their bindings.
 pub fn resolve(
     clause: &Clause,
     heap: &mut Heap,

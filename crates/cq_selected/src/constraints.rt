@@ -37,12 +37,12 @@ pub fn constrain(
     ensures err { OnErr result (StillStands m.old m.new) }
 {
     let constraint = m.world.first.heap.arg(goal, 0);
-    let names = m.names;
+    let curly = m.names.curly;
     match cq_relations::constrain(
         &mut m.world,
         &mut m.choices,
         &m.atoms,
-        names.curly,
+        curly,
         constraint,
         height,
         rest,

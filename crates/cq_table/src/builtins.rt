@@ -1,11 +1,12 @@
 // The built-in predicates, by name and number of arguments.
 
-ghost use Rattle.std.specs.Prelude.{◌≡◌, bytes_eq};
+ghost use Rattle.std.specs.Prelude.{◌≡◌};
 ghost use Rattle.std.specs.Option.{option_map};
 ghost use Rattle.spec_built.specs.Built.{indicator};
 ghost use Rattle.spec_search.specs.Builtins.{builtin_of};
 ghost use Rattle.cq_table.specs.Found.{IsFirst};
 ghost use Rattle.cq_table.specs.Names.{as_builtin};
+ghost use Rattle.cq_table.specs.Rows.{AreRows, is_named};
 
 use cq_builtin::{Comparison, TypeTest};
 use cq_codes::Conversion;
@@ -40,44 +41,53 @@ pub enum Builtin {
     Freeze,
 }
 
+/// A built-in predicate and its name.
+pub(crate) type Row = (&'static str, Builtin);
+
 impl Builtin {
     /// The built-in predicate of a name with so many arguments, if there is one.
     pub fn named(name: &str, arity: usize) -> Option<Builtin>
         ensures { option_map as_builtin result ≡ builtin_of (indicator name.now arity) }
     {
-        match arity {
-            0 => of_none(name),
-            1 => of_one(name),
-            2 => of_two(name),
-            3 => of_three(name),
-            4 => of_four(name),
-            5 => of_five(name),
-            6 => of_six(name),
-            7 => of_seven(name),
-            8 => of_eight(name),
-            _ => None,
-        }
+        among(rows(arity), name)
     }
 }
 
-/// The built-in predicate without arguments.
-fn of_none(name: &str) -> Option<Builtin>
-    ensures { option_map as_builtin result ≡ builtin_of (indicator name.now 0) }
+/// The built-in predicates with so many arguments.
+pub(crate) fn rows(arity: usize) -> &'static [Row]
+    ensures { AreRows arity result.now }
 {
-    let builtins = [
+    match arity {
+        0 => of_none(),
+        1 => of_one(),
+        2 => of_two(),
+        3 => of_three(),
+        4 => of_four(),
+        5 => of_five(),
+        6 => of_six(),
+        7 => of_seven(),
+        8 => of_eight(),
+        _ => &[],
+    }
+}
+
+/// Those without arguments.
+fn of_none() -> &'static [Row]
+    ensures { AreRows 0 result.now }
+{
+    &[
         ("true", Builtin::True),
         ("fail", Builtin::Fail),
         ("!", Builtin::Cut),
         ("nl", Builtin::Newline),
-    ];
-    among(&builtins, name)
+    ]
 }
 
-/// The built-in predicate of one argument.
-fn of_one(name: &str) -> Option<Builtin>
-    ensures { option_map as_builtin result ≡ builtin_of (indicator name.now 1) }
+/// Those with one argument.
+fn of_one() -> &'static [Row]
+    ensures { AreRows 1 result.now }
 {
-    let builtins = [
+    &[
         ("call", Builtin::Call),
         ("\\+", Builtin::Not),
         ("once", Builtin::Once),
@@ -121,15 +131,14 @@ fn of_one(name: &str) -> Option<Builtin>
         ("write", Builtin::Write(Style::Plain)),
         ("writeq", Builtin::Write(Style::Quoted)),
         ("{}", Builtin::Curly),
-    ];
-    among(&builtins, name)
+    ]
 }
 
-/// The built-in predicate of two arguments.
-fn of_two(name: &str) -> Option<Builtin>
-    ensures { option_map as_builtin result ≡ builtin_of (indicator name.now 2) }
+/// Those with two arguments.
+fn of_two() -> &'static [Row]
+    ensures { AreRows 2 result.now }
 {
-    let builtins = [
+    &[
         (",", Builtin::And),
         (";", Builtin::Or),
         ("->", Builtin::IfThen),
@@ -184,68 +193,65 @@ fn of_two(name: &str) -> Option<Builtin>
             Builtin::Predicate(Predicate::Convert(Conversion::NumberCodes)),
         ),
         ("freeze", Builtin::Freeze),
-    ];
-    among(&builtins, name)
+    ]
 }
 
-/// The built-in predicate of three arguments.
-fn of_three(name: &str) -> Option<Builtin>
-    ensures { option_map as_builtin result ≡ builtin_of (indicator name.now 3) }
+/// Those with three arguments.
+fn of_three() -> &'static [Row]
+    ensures { AreRows 3 result.now }
 {
-    let builtins = [
+    &[
         ("call", Builtin::Call),
         ("functor", Builtin::Predicate(Predicate::Functor)),
         ("arg", Builtin::Predicate(Predicate::Arg)),
         ("atom_concat", Builtin::Predicate(Predicate::AtomConcat)),
         ("op", Builtin::Op),
-    ];
-    among(&builtins, name)
+    ]
 }
 
-/// The built-in predicate of four arguments.
-fn of_four(name: &str) -> Option<Builtin>
-    ensures { option_map as_builtin result ≡ builtin_of (indicator name.now 4) }
+/// Those with four arguments.
+fn of_four() -> &'static [Row]
+    ensures { AreRows 4 result.now }
 {
-    among(&[("call", Builtin::Call)], name)
+    &[("call", Builtin::Call)]
 }
 
-/// The built-in predicate of five arguments.
-fn of_five(name: &str) -> Option<Builtin>
-    ensures { option_map as_builtin result ≡ builtin_of (indicator name.now 5) }
+/// Those with five arguments.
+fn of_five() -> &'static [Row]
+    ensures { AreRows 5 result.now }
 {
-    let builtins = [
+    &[
         ("call", Builtin::Call),
         ("sub_atom", Builtin::Predicate(Predicate::SubAtom)),
-    ];
-    among(&builtins, name)
+    ]
 }
 
-/// The built-in predicate of six arguments.
-fn of_six(name: &str) -> Option<Builtin>
-    ensures { option_map as_builtin result ≡ builtin_of (indicator name.now 6) }
+/// Those with six arguments.
+fn of_six() -> &'static [Row]
+    ensures { AreRows 6 result.now }
 {
-    among(&[("call", Builtin::Call)], name)
+    &[("call", Builtin::Call)]
 }
 
-/// The built-in predicate of seven arguments.
-fn of_seven(name: &str) -> Option<Builtin>
-    ensures { option_map as_builtin result ≡ builtin_of (indicator name.now 7) }
+/// Those with seven arguments.
+fn of_seven() -> &'static [Row]
+    ensures { AreRows 7 result.now }
 {
-    among(&[("call", Builtin::Call)], name)
+    &[("call", Builtin::Call)]
 }
 
-/// The built-in predicate of eight arguments.
-fn of_eight(name: &str) -> Option<Builtin>
-    ensures { option_map as_builtin result ≡ builtin_of (indicator name.now 8) }
+/// Those with eight arguments.
+fn of_eight() -> &'static [Row]
+    ensures { AreRows 8 result.now }
 {
-    among(&[("call", Builtin::Call)], name)
+    &[("call", Builtin::Call)]
 }
 
 /// The first that has this name.
-fn among(named: &[(&str, Builtin)], name: &str) -> Option<Builtin>
-    ensures { IsFirst (λ row. bytes_eq row.0.now name.now) (λ row. row.1) named.now result }
+fn among(rows: &[Row], name: &str) -> Option<Builtin>
+    ensures { IsFirst (is_named name.now) (λ row. row.1) rows.now result }
 {
-    for (other, builtin) in named {
+    for (other, builtin) in rows {
         if *other == name {
             return Some(*builtin);
         }

@@ -2,5 +2,7 @@
 #![tactic(auto)]
 
 mod builtins;
+mod numbered;
 
 pub use builtins::Builtin;
+pub use numbered::Builtins;

@@ -1,10 +1,8 @@
-use Rattle.std.proofs.Common.{◌≡◌, Option, Some, None, ap, sym, ◌∙◌}
+use Rattle.std.proofs.Common.{◌≡◌, None, ap, sym, ◌∙◌}
 use Rattle.std.specs.Option.{option_map}
-use Rattle.spec_lists.specs.Texts.{Text}
-use Rattle.spec_built.specs.Built.{indicator, indicator_of}
+use Rattle.spec_built.specs.Built.{indicator_of}
 use Rattle.spec_search.specs.Builtins.{builtin_of}
 use Rattle.cq_table.specs.Names.{as_builtin}
-use Rattle.cq_table.specs.declared.builtins.Builtin.{Builtin}
 use Rattle.cq_term.specs.Trees.{tree}
 use Rattle.cq_machine.specs.Machines.{terms}
 use Rattle.cq_execute.proofs.Called.{call_done}
@@ -13,15 +11,15 @@ use Rattle.cq_execute.proofs.execution.execute_named.Goals as goal
 
 pub execute_builtin-requires-clause-calls : goal.execute_builtin-requires-clause-calls
 execute_builtin-requires-clause-calls c =
-    ap builtin_of (sym c.requires.predicate.indicator ∙ ap (λ (t : Text). indicator t c.args.predicate.arity) (sym c.text.ensures.value))
-    ∙ sym c.named.ensures ∙ ap (option_map as_builtin) c.in-Some.is
+    let s = c.requires.at.sound in
+    ap builtin_of (sym c.requires.predicate.indicator) ∙ sym (c.get.ensures c.args.m.now.atoms s.known.builtins s.different c.requires.predicate.known) ∙ ap (option_map as_builtin) c.in-Some.is
 
 pub returns-in-None : goal.returns-in-None
 returns-in-None c =
     let m = c.args.m.now in
+    let s = c.requires.at.sound in
     let none : builtin_of (indicator_of (tree m.atoms (terms m) c.args.goal)) ≡ None =
-    ap builtin_of (sym c.requires.predicate.indicator ∙ ap (λ (t : Text). indicator t c.args.predicate.arity) (sym c.text.ensures.value))
-    ∙ sym c.named.ensures ∙ ap (option_map as_builtin) c.in-None.is in
+    ap builtin_of (sym c.requires.predicate.indicator) ∙ sym (c.get.ensures m.atoms s.known.builtins s.different c.requires.predicate.known) ∙ ap (option_map as_builtin) c.in-None.is in
     quiet_done m c.call_procedure.new.m c.args.goal c.args.height c.args.rest _ c.quiet.result
     (call_done m c.call_procedure.new.m c.args.goal c.args.height c.args.rest c.requires.callable none c.call_procedure.result c.call_procedure.ensures.row c.call_procedure.ensures.goes
     c.call_procedure.ensures.raises c.call_procedure.ensures.sound c.call_procedure.ensures.program c.call_procedure.ensures.err)

@@ -16,7 +16,7 @@ returns-in-Ok c =
     let m = c.args.m.now in
     let new = c.declare.new.m in
     let d = c.declare.ensures in
-    set_done m new c.args.goal c.args.height c.args.rest c.requires.calls (all_but_operators m new c.requires.at.sound d.sound d.world d.choices d.atoms d.clauses)
+    set_done m new c.args.goal c.args.height c.args.rest c.requires.calls (all_but_operators m new d.world d.choices d.atoms d.names d.clauses)
     c.silent.result c.silent.ensures.step c.silent.ensures.output d.sound c.requires.at.there (λ p behind g at. c.in-Ok.ensures.row c.args.height c.args.rest p behind g at)
 
 pub returns-in-Error : goal.returns-in-Error
@@ -25,7 +25,7 @@ returns-in-Error c =
     let new = c.declare.new.m in
     let d = c.declare.ensures in
     still_done m new c.args.goal c.args.height c.args.rest c.silent-in-Error.result c.in-Error.error
-    (all_of_it m new c.requires.at.sound d.sound d.world d.choices d.atoms d.clauses c.in-Err.ensures.err) c.silent-in-Error.ensures.step c.requires.at.sound
+    (all_of_it m new d.world d.choices d.atoms d.names d.clauses c.in-Err.ensures.err) c.silent-in-Error.ensures.step c.requires.at.sound
     (rw c.in-Error.is at c.in-Err.ensures.culprit)
     (λ p behind g at. reply_at m m c.args.goal c.args.height c.args.rest Op c.requires.calls p behind g at
     ∙ (rw c.in-Error.is at c.in-Err.ensures.fault) c.args.height c.args.rest p behind g at)
@@ -36,4 +36,4 @@ returns-in-NoMemory c =
     let new = c.declare.new.m in
     let d = c.declare.ensures in
     nothing_still_done m new c.args.goal c.args.height c.args.rest
-    (all_of_it m new c.requires.at.sound d.sound d.world d.choices d.atoms d.clauses c.in-Err.ensures.err) c.requires.at.sound
+    (all_of_it m new d.world d.choices d.atoms d.names d.clauses c.in-Err.ensures.err) c.requires.at.sound

@@ -11,8 +11,8 @@ use Rattle.cq_resolve.proofs.Telling.{joined_as, joined_larger}
 use Rattle.cq_resolve.proofs.joining.join_built.Goals as goal
 
 pub returns-clause-joined : goal.returns-clause-joined
-returns-clause-joined c = λ e base.
-    let h = c.join_terms.ensures.joined e base in
+returns-clause-joined c = λ e.
+    let h = c.join_terms.ensures.joined e in
     let old = c.args.heap.now.now in
     let mid = c.build.new.heap.now in
     let new = c.join_terms.new.heap.now in
@@ -20,8 +20,8 @@ returns-clause-joined c = λ e base.
     let right = apply (image_from old.images c.args.first) (term_of c.args.part.now) in (
       h.0,
       h.1,
-      joined_larger base old mid new left right h.0 c.in_ok-built.ensures.terms c.in_ok-built.ensures.images
-          (joined_as base mid new (at mid.terms c.args.goal) (at mid.terms c.in_ok-built.built) left right h.0 (prefix_get_or old.terms mid.terms c.args.goal blank c.in_ok-built.ensures.terms c.requires.live) c.in_ok-built.ensures.built h.2),
+      joined_larger old mid new left right h.0 c.in_ok-built.ensures.terms c.in_ok-built.ensures.images
+          (joined_as mid new (at mid.terms c.args.goal) (at mid.terms c.in_ok-built.built) left right h.0 (prefix_get_or old.terms mid.terms c.args.goal blank c.in_ok-built.ensures.terms c.requires.live) c.in_ok-built.ensures.built h.2),
     )
 
 on_any : (P : Type 0) (r : Result Bool AllocError) → P → OnOk r P

@@ -18,7 +18,7 @@ pub bind-requires-clause-unbound : goal.bind-requires-clause-unbound
 bind-requires-clause-unbound c = (unbound (goal.at.bind-requires-clause-unbound c).In_ok-id-in-Var).unbound
 
 pub returns-in_ok-push-in-Var-clause-joined : goal.returns-in_ok-push-in-Var-clause-joined
-returns-in_ok-push-in-Var-clause-joined c = λ e base.
+returns-in_ok-push-in-Var-clause-joined c = λ e.
     let k = (goal.at.returns-in_ok-push-in-Var-clause-joined c).In_ok-id-in-Var in
     let old = c.args.heap.now.now in
     let mid = c.number.new.self.now in
@@ -26,19 +26,19 @@ returns-in_ok-push-in-Var-clause-joined c = λ e base.
     let shown = shown_variable (at old.terms c.args.goal) c.in-Var.variable (sym c.in-Var.ensures.view) in
     let term = last_at old.terms mid.terms (Number c.args.number) c.in_ok-id-in-Var.id c.in_ok-id-in-Var.ensures.terms c.in_ok-id-in-Var.ensures.id in
     let told = c.in-Var.variable ∷ [] in
-    let h = joined_told mid new c.in-Var.variable c.in_ok-id-in-Var.id (unbound k) c.in_ok-bind-in-Var.ensures.terms c.in_ok-bind-in-Var.ensures.images base in (
+    let h = joined_told mid new c.in-Var.variable c.in_ok-id-in-Var.id (unbound k) c.in_ok-bind-in-Var.ensures.terms c.in_ok-bind-in-Var.ensures.images in (
       told,
       c.in_ok-push-in-Var.ensures.ok,
-      joined_larger base old mid new (at old.terms c.args.goal) (Number c.args.number) told (Number c.args.number ∷ [], c.in_ok-id-in-Var.ensures.terms) c.in_ok-id-in-Var.ensures.images
-          (joined_as base mid new (Var c.in-Var.variable.0) (at mid.terms c.in_ok-id-in-Var.id) (at old.terms c.args.goal) (Number c.args.number) told (sym shown) term h),
+      joined_larger old mid new (at old.terms c.args.goal) (Number c.args.number) told (Number c.args.number ∷ [], c.in_ok-id-in-Var.ensures.terms) c.in_ok-id-in-Var.ensures.images
+          (joined_as mid new (Var c.in-Var.variable.0) (at mid.terms c.in_ok-id-in-Var.id) (at old.terms c.args.goal) (Number c.args.number) told (sym shown) term h),
     )
 
 pub returns-in-Number-clause-joined : goal.returns-in-Number-clause-joined
-returns-in-Number-clause-joined c = λ e base.
+returns-in-Number-clause-joined c = λ e.
     let old = c.args.heap.now.now in
     let shown = shown_number (at old.terms c.args.goal) c.in-Number.shown (sym c.in-Number.ensures.view) in
     let same : c.in-Number.shown ≡ c.args.number = c.eq.ensures.same.0 (rw (ok_true c.eq.result e) (search rules)) in
-    ([], sym (append-nil c.args.newly.now), joined_same base old (at old.terms c.args.goal) (Number c.args.number) (shown ∙ ap (λ q. Number q) same))
+    ([], sym (append-nil c.args.newly.now), joined_same old (at old.terms c.args.goal) (Number c.args.number) (shown ∙ ap (λ q. Number q) same))
 
 pub returns-in_err-push-in-Var-clause-names : goal.returns-in_err-push-in-Var-clause-names
 returns-in_err-push-in-Var-clause-names c = λ n all.

@@ -32,10 +32,10 @@ returns-clause-matched c = λ e k m.
     let new = c.join_built.new.heap.now in
     let t = term_of (drop place head) in
     let slice = take (end - place) (drop place head) in
-    let h = c.join_built.ensures.joined e k.base in
+    let h = c.join_built.ensures.joined e in
     let right = ap (apply (image_from old.images c.args.first)) (part_term head place end c.end_of-end.ensures) ∙ part_now k c.args.head.now c.args.first c.args.heap.now.now c.args.newly.now c.args.walk.now.place c.args.walk.now.met c.args.walk.now.goals.items c.args.goal m t (part_below k.count head place end m.begun.fits c.end_of-end.ensures) in
     matching_join k c.args.head.now c.args.first c.args.heap.now.now c.args.newly.now c.args.walk.now.place c.args.walk.now.met c.args.walk.now.goals.items c.args.goal m t end (parts_at head place end (some_at k c.args.head.now c.args.first c.args.heap.now.now c.args.newly.now c.args.walk.now.place c.args.walk.now.met c.args.walk.now.goals.items c.args.goal m) c.end_of-end.ensures.rest) new c.join_built.new.newly h.0 c.met_after-walk.result
-    (joined_as k.base old new (at old.terms c.args.goal) (apply (image_from old.images c.args.first) (term_of slice)) (at old.terms c.args.goal) _ h.0 refl right h.2)
+    (joined_as old new (at old.terms c.args.goal) (apply (image_from old.images c.args.first) (term_of slice)) (at old.terms c.args.goal) _ h.0 refl right h.2)
     h.1 c.met_after-walk.ensures.more (below_term c.met_after-walk.result t (subst (HaveBelow c.met_after-walk.result) (part_is head place end c.end_of-end.ensures) c.met_after-walk.ensures.below))
 
 pub returns-clause-none : goal.returns-clause-none

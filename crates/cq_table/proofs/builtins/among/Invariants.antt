@@ -3,4 +3,4 @@ use Rattle.cq_table.proofs.builtins.among.Given as goal
 
 abbrev pub invariant-loop-other : goal.invariant-loop-other
 invariant-loop-other l =
-    find (λ row. bytes_eq row.0.now l.name) l.named ≡ find (λ row. bytes_eq row.0.now l.name) (drop l.other-index l.named)
+    find (λ row. bytes_eq row.0.now l.name) l.rows ≡ find (λ row. bytes_eq row.0.now l.name) (drop l.other-index l.rows)

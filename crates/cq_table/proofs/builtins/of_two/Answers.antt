@@ -1,9 +1,6 @@
-use Rattle.std.proofs.Common.{Bor, ℕ, List, refl}
-use Rattle.cq_table.specs.declared.builtins.Builtin.{Builtin}
-use Rattle.cq_table.proofs.Table.{found}
+use Rattle.std.proofs.Common.{refl}
+use Rattle.cq_table.proofs.Table.{are_rows}
 use Rattle.cq_table.proofs.builtins.of_two.Goals as goal
 
 pub returns : goal.returns
-returns c =
-    found (Bor (List ℕ) × Builtin) (λ row. row.0.now) (λ row. row.1) 2 c.args.name.now _ _ c.among.ensures
-    (refl, (refl, (refl, (refl, (refl, (refl, (refl, (refl, (refl, (refl, (refl, (refl, (refl, (refl, (refl, (refl, (refl, (refl, (refl, (refl, (refl, (refl, (refl, (refl, (refl, (refl, (refl, tt))))))))))))))))))))))))))) refl
+returns c = are_rows 2 _ (refl, (refl, (refl, (refl, (refl, (refl, (refl, (refl, (refl, (refl, (refl, (refl, (refl, (refl, (refl, (refl, (refl, (refl, (refl, (refl, (refl, (refl, (refl, (refl, (refl, (refl, (refl, tt))))))))))))))))))))))))))) refl

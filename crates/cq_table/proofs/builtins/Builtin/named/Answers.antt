@@ -1,6 +1,5 @@
-use Rattle.std.proofs.Common.{arith}
-use Rattle.cq_table.proofs.Table.{none_other}
+use Rattle.cq_table.proofs.Table.{found}
 use Rattle.cq_table.proofs.builtins.Builtin.named.Goals as goal
 
-pub returns-in_default : goal.returns-in_default
-returns-in_default c = none_other c.args.name.now c.args.arity (omega arith)
+pub returns : goal.returns
+returns c = found c.args.arity c.args.name.now c.among.result c.rows.result.now c.rows.ensures c.among.ensures
