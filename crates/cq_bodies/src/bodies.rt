@@ -116,7 +116,8 @@ fn over(heap: &mut Heap, atoms: &Atoms, name: Atom, args: &[TermId]) -> Result<T
     requires live { All (λ i. i < length heap.old.now.terms) args.now }
     requires name { name < length atoms.now }
     ensures live { IfOk result (λ id. id < length heap.new.now.terms) }
-    ensures built { IfOk result (λ id. tree atoms.now heap.new.now.terms id ≡ with_arguments (text_of atoms.now name) (trees atoms.now heap.old.now.terms args.now)) }
+    ensures built { IfOk result (λ id. tree atoms.now heap.new.now.terms id
+        ≡ with_arguments (text_of atoms.now name) (trees atoms.now heap.old.now.terms args.now)) }
     ensures grows { Grows atoms.now heap.old atoms.now heap.new }
 {
     let id = heap.compound(name, args)?;

@@ -1,16 +1,18 @@
 -- Walks through every change.
-use Rattle.std.proofs.Common.{◌≡◌, ℕ, suc, ◌<◌, ◌≤◌, Bool, cond, List, [], ◌∷◌, ◌++◌, length, filter, Option, Some, None, refl, ap, ap₂, ◌∙◌, arith}
+use Rattle.std.proofs.Common.{◌≡◌, ℕ, suc, ◌<◌, ◌≤◌, Bool, cond, List, [], ◌∷◌, ◌++◌, length, filter, Option, Some, None, refl, ap, ap₂, ◌∙◌, subst, arith}
 use Rattle.std.specs.Prelude.{All}
+use Rattle.std.proofs.lemmas.List.Elements.{All-nil, All-cons, All-filter}
 use Rattle.cq_clauses.specs.declared.key.Key.{Key}
 use Rattle.cq_clauses.specs.declared.procedures.Procedure.{Procedure}
 use Rattle.cq_clauses.specs.declared.procedures.Place.{Place}
 use Rattle.cq_clauses.specs.declared.procedures.Snapshot.{Snapshot}
+use Rattle.cq_clauses.specs.declared.walk.Walk.{Walk}
 use Rattle.cq_clauses.specs.ClausesValue.{ClausesValue}
 use Rattle.cq_clauses.specs.Keys.{may_match}
 use Rattle.cq_clauses.specs.Selected.{key_at, matching}
 use Rattle.cq_clauses.specs.Snapshots.{IsSnapshot, KeepsSnapshots, seen}
 use Rattle.cq_clauses.specs.Stored.{IsStore}
-use Rattle.cq_clauses.specs.Walks.{left_ahead, KeepsReading}
+use Rattle.cq_clauses.specs.Walks.{left, left_ahead, IsWalk, KeepsReading}
 use Rattle.cq_clauses.proofs.Indexing.{key_before}
 use Rattle.cq_clauses.proofs.Removed.{all_known}
 
@@ -45,3 +47,22 @@ matching_alike key_of contents contents' content places ps s pushed count store 
 matching_alike key_of contents contents' content places ps s pushed count store is (Some k) =
     filter_alike (λ n. may_match k (key_at key_of contents' n)) (λ n. may_match k (key_at key_of contents n)) (length places) (seen s ps) (all_known places ps s store is)
     (λ n l. ap (λ cs. may_match k (key_at key_of cs n)) pushed ∙ ap (may_match k) (key_before key_of contents content n (omega (arith, l, count))))
+
+-- what a walk has left was added
+module _ {C : Type 0} (key_of : C → Option Key) (v : ClausesValue C) (places : List Place) (count : length places ≡ length v.contents) (store : IsStore places v.procedures) where
+  abbrev AreKnown : List ℕ → Type 0
+  AreKnown ns = All (λ n. n < length v.contents) ns
+
+  matching_known : (key : Option Key) (ns : List ℕ) → AreKnown ns → AreKnown (matching (key_at key_of v.contents) key ns)
+  matching_known None ns known = known
+  matching_known (Some k) ns known = All-filter (λ n. may_match k (key_at key_of v.contents n)) (λ n. n < length v.contents) ns known
+
+  ahead_known : (key : Option Key) (ahead : Option (ℕ × Snapshot)) → ((r : ℕ × Snapshot) → ahead ≡ Some r → IsSnapshot r.1 v.procedures)
+      → ((r : ℕ × Snapshot) → ahead ≡ Some r → r.0 < length v.contents) → AreKnown (left_ahead (key_at key_of v.contents) key ahead v.procedures)
+  ahead_known key None taken known = All-nil (λ n. n < length v.contents)
+  ahead_known key (Some r) taken known =
+      All-cons (λ n. n < length v.contents) r.0 (matching (key_at key_of v.contents) key (seen r.1 v.procedures)) (known r refl)
+      (matching_known key (seen r.1 v.procedures) (subst (λ m. All (λ n. n < m) (seen r.1 v.procedures)) count (all_known places v.procedures r.1 store (taken r refl))))
+
+  pub left_known : (w : Walk) → IsWalk w v → AreKnown (left key_of w v)
+  left_known w is = ahead_known w.key w.ahead is.taken is.known

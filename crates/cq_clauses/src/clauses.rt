@@ -221,6 +221,13 @@ impl<C: Keyed + Drop> Clauses<C> {
         Some(clause)
     }
 
+    /// The clauses that a walk has left are among those that were added.
+    pub fn walks_are_known(&self)
+        ensures { (w : Walk) → IsWalk w self.now → All (λ n. n < length self.now.contents) (left C.key_of w self.now) }
+    {
+        let _procedures = &self.procedures;
+    }
+
     fn next_with(&self, snapshot: Snapshot, key: &Key) -> Option<(ClauseNo, Snapshot)>
         requires { IsSnapshot snapshot self.now.procedures }
         ensures none { IfNone result (seen_matching C.key_of (Some key.now) snapshot self.now ≡ []) }

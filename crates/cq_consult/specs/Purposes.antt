@@ -5,15 +5,10 @@ use Rattle.spec_lists.specs.Texts.{Text}
 use Rattle.spec_transcript.specs.Purposes as purposes
 use Rattle.cq_term.specs.Meaning.{HeapTerm, at}
 use Rattle.cq_term.specs.Trees.{tree}
-use Rattle.cq_consult.specs.declared.purposes.Source.{Source}
-use Rattle.cq_consult.specs.declared.purposes.Source.TheVariants as source
+use Rattle.spec_transcript.specs.declared.Source.{Source}
 use Rattle.cq_consult.specs.declared.purposes.Unary.{Unary}
 use Rattle.cq_consult.specs.declared.purposes.Purpose.{Purpose}
 use Rattle.cq_consult.specs.declared.purposes.Purpose.TheVariants as purpose
-
-abbrev pub as_source : Source → purposes.Source
-as_source source.File = purposes.File
-as_source source.Input = purposes.Input
 
 abbrev pub as_purpose : List Text → List HeapTerm → Purpose → purposes.Purpose
 as_purpose texts ts (purpose.Directive id) = purposes.Directive (tree texts ts id)
@@ -30,7 +25,7 @@ term_of (purpose.Fact id) = id
 
 -- the clause is for this, and its term is there
 pub record IsPurpose (texts : List Text) (ts : List HeapTerm) (s : Source) (id : ℕ) (p : Purpose) : Type 0 where
-  pub is : as_purpose texts ts p ≡ purposes.purpose (as_source s) (tree texts ts id)
+  pub is : as_purpose texts ts p ≡ purposes.purpose s (tree texts ts id)
   pub live : term_of p < length ts
 
 -- ---- a name over one argument

@@ -7,4 +7,4 @@ mod purposes;
 
 pub use adding::add_clause;
 pub use consulting::consult;
-pub use purposes::{Purpose, Source, purpose_of};
+pub use purposes::{Purpose, purpose_of};

@@ -4,18 +4,12 @@ ghost use Rattle.std.specs.Prelude.{◌≡◌, ◌<◌, List, false, length, IfS
 ghost use Rattle.spec_lists.specs.Texts.{Text};
 ghost use Rattle.spec_transcript.specs.Purposes as purposes;
 ghost use Rattle.cq_term.specs.Trees.{tree, KnowsTerms};
-ghost use Rattle.cq_consult.specs.Purposes.{IsPurpose, IsUnary, is_unary, as_purpose, as_source, term_of};
+ghost use Rattle.cq_consult.specs.Purposes.{IsPurpose, IsUnary, is_unary, as_purpose, term_of};
 ghost use Rattle.cq_term.specs.Meaning.{HeapTerm, at};
 
 use cq_atoms::Atoms;
 use cq_term::{Atom, Heap, TermId, View};
-
-/// Where a text comes from.
-#[derive(Clone, Copy, Debug, PartialEq, Eq)]
-pub enum Source {
-    File,
-    Input,
-}
+use spec_transcript::Source;
 
 /// What a clause is for, with its term.
 #[derive(Clone, Copy, Debug)]
@@ -58,7 +52,7 @@ pub fn purpose_of(heap: &Heap, atoms: &Atoms, source: Source, clause: TermId) ->
 
 /// A clause that is neither a directive nor marked as a query.
 fn unmarked(source: Source, clause: TermId) -> Purpose
-    ensures is { (texts : List Text) (ts : List HeapTerm) → as_purpose texts ts result ≡ purposes.unmarked (as_source source) (tree texts ts clause) }
+    ensures is { (texts : List Text) (ts : List HeapTerm) → as_purpose texts ts result ≡ purposes.unmarked source (tree texts ts clause) }
     ensures term { term_of result ≡ clause }
 {
     match source {
@@ -71,7 +65,7 @@ fn unmarked(source: Source, clause: TermId) -> Purpose
 fn directive(heap: &Heap, atoms: &Atoms, source: Source, goal: TermId) -> Purpose
     requires live { goal < length heap.now.now.terms }
     requires names { KnowsTerms atoms.now heap.now.now.terms }
-    ensures is { as_purpose atoms.now heap.now.now.terms result ≡ purposes.directive (as_source source) (tree atoms.now heap.now.now.terms goal) }
+    ensures is { as_purpose atoms.now heap.now.now.terms result ≡ purposes.directive source (tree atoms.now heap.now.now.terms goal) }
     ensures live { term_of result < length heap.now.now.terms }
 {
     if source == Source::Input {

@@ -13,8 +13,8 @@ use Rattle.spec_transcript.specs.Purposes.{Purpose, Fact, Initialization, Direct
 use Rattle.spec_transcript.specs.Session.{begun}
 use Rattle.cq_read.specs.Inputs.{Input}
 use Rattle.cq_read.specs.Shown.{IsReadOf}
-use Rattle.cq_transcript.specs.Sentences.{Program, as_source, IsSettled, IsFor, Begins, Asks, IsSentence}
-use Rattle.cq_transcript.specs.declared.interpreter.Source.{Source}
+use Rattle.cq_transcript.specs.Sentences.{Program, IsSettled, IsFor, Begins, Asks, IsSentence}
+use Rattle.spec_transcript.specs.declared.Source.{Source}
 use Rattle.cq_transcript.specs.declared.interpreter.Sentence.{Sentence}
 use Rattle.cq_transcript.specs.declared.interpreter.Sentence.TheVariants as sentence
 use Rattle.spec_lists.specs.Texts.{Text}
@@ -66,10 +66,10 @@ asks_here Stands db g vs names h e = record { base = 0; stands = subst Stands (b
 
 module _ (Stands : Search → Type 0) (names : List VariableName) (s : Source) (p q : Program) (old new : Input) (t : Tree) (vs : Variables)
     (settled : IsSettled p.database.operators old (Clause t vs new.place)) where
-  for_what : (what : Purpose) → purpose (as_source s) t ≡ what → IsFor p.database s old new what vs
+  for_what : (what : Purpose) → purpose s t ≡ what → IsFor p.database s old new what vs
   for_what what e = record { term = t; settled = settled; purpose_is = e }
 
-  added : (u : Tree) → purpose (as_source s) t ≡ Fact u → (r : Sentence) → IsAdded p q u r → IsSentence Stands names s p old q new r
+  added : (u : Tree) → purpose s t ≡ Fact u → (r : Sentence) → IsAdded p q u r → IsSentence Stands names s p old q new r
   added u e sentence.Added h = (u, vs, for_what (Fact u) e, h.0, h.1)
   added u e (sentence.Refused line) h = (u, h.0, vs, for_what (Fact u) e, h.1, h.2, h.3)
   added u e sentence.Needs h = absurd h
@@ -79,14 +79,14 @@ module _ (Stands : Search → Type 0) (names : List VariableName) (s : Source) (
   added u e sentence.Directive h = absurd h
   added u e sentence.Query h = absurd h
 
-  taken_for : (what : Purpose) → purpose (as_source s) t ≡ what → (r : Sentence) → IsTaken Stands names p q vs what r → IsSentence Stands names s p old q new r
+  taken_for : (what : Purpose) → purpose s t ≡ what → (r : Sentence) → IsTaken Stands names p q vs what r → IsSentence Stands names s p old q new r
   taken_for (Fact u) e r h = added u e r h
   taken_for (Initialization g) e r h = subst (IsSentence Stands names s p old q new) (sym h.0) (g, vs, for_what (Initialization g) e, h.1)
   taken_for (Directive g) e r h = subst (IsSentence Stands names s p old q new) (sym h.0) (g, vs, for_what (Directive g) e, h.1, h.2)
   taken_for (Query g) e r h = subst (IsSentence Stands names s p old q new) (sym h.0) (g, vs, for_what (Query g) e, h.1, h.2)
 
-  pub taken : (r : Sentence) → IsTaken Stands names p q vs (purpose (as_source s) t) r → IsSentence Stands names s p old q new r
-  taken r h = taken_for (purpose (as_source s) t) refl r h
+  pub taken : (r : Sentence) → IsTaken Stands names p q vs (purpose s t) r → IsSentence Stands names s p old q new r
+  taken r h = taken_for (purpose s t) refl r h
 
 -- ---- behind a reading
 

@@ -7,8 +7,8 @@ use Rattle.spec_search.specs.Search.{Search}
 use Rattle.spec_reading.specs.Readings.{Read, Clause, Ended, Syntax}
 use Rattle.spec_transcript.specs.Purposes.{Purpose, purpose, Fact, Initialization, Directive, Query, once, ball_line}
 use Rattle.spec_transcript.specs.Session.{refusal_ball}
-use Rattle.cq_transcript.specs.Sentences.{Program, as_source, Begins, Asks}
-use Rattle.cq_transcript.specs.declared.interpreter.Source.{Source}
+use Rattle.cq_transcript.specs.Sentences.{Program, Begins, Asks}
+use Rattle.spec_transcript.specs.declared.Source.{Source}
 use Rattle.cq_transcript.specs.declared.interpreter.Sentence.{Sentence}
 use Rattle.cq_transcript.specs.declared.interpreter.Sentence.TheVariants as sentence
 
@@ -37,6 +37,6 @@ IsTaken Stands names p q vs (Query g) s = (s ≡ sentence.Query) × Asks Stands 
 
 -- what is done where this was read
 abbrev pub IsDone : (Search → Type 0) → List VariableName → Source → Program → Program → Read → Sentence → Type 0
-IsDone Stands names source p q (Clause t vs next) s = IsTaken Stands names p q vs (purpose (as_source source) t) s
+IsDone Stands names source p q (Clause t vs next) s = IsTaken Stands names p q vs (purpose source t) s
 IsDone Stands names source p q Ended s = (s ≡ sentence.End) × (q ≡ p)
 IsDone Stands names source p q (Syntax at resume) s = (s ≡ sentence.Syntax at) × (q ≡ p)

@@ -7,7 +7,8 @@ use cq_events::Engine;
 use cq_lines::answer_lines;
 use cq_ops::more_names_keep_the_table;
 use cq_read::{Fed, Feed};
-use cq_transcript::{Answered, Event, Interpreter, Sentence, Source};
+use cq_transcript::{Answered, Event, Interpreter, Sentence};
+use spec_transcript::Source;
 use std::alloc::{AllocError, Global};
 
 impl Interpreter for Toplevel {

@@ -5,9 +5,7 @@ ghost use Rattle.spec_transcript.specs.Purposes.{purpose};
 ghost use Rattle.cq_read.specs.Names.{variables};
 ghost use Rattle.cq_read.specs.Shown.{read_of, IsLiveRead};
 ghost use Rattle.cq_machine.specs.Machines.{terms};
-ghost use Rattle.cq_consult.specs.Purposes.{as_source as as_read};
 ghost use Rattle.cq_events.specs.Events.{IsIdle};
-ghost use Rattle.cq_transcript.specs.Sentences.{as_source};
 ghost use Rattle.cq_interpreter.specs.Numbered.{AreNumbered, IsNumbered};
 ghost use Rattle.cq_interpreter.specs.Taken.{IsAdded, IsKeptFor, IsTaken, IsDone};
 ghost use Rattle.cq_interpreter.specs.Toplevels.{IsWhole, IsAsking, images, texts, names_of, program_of, budgets_of, term_in};
@@ -15,22 +13,13 @@ ghost use Rattle.cq_interpreter.specs.Toplevels.{IsWhole, IsAsking, images, text
 use crate::goals::kept;
 use crate::lines::ball_line;
 use crate::toplevel::{Toplevel, Waiting};
-use cq_consult::{Purpose, Source as Consulted, consult, purpose_of};
+use cq_consult::{Purpose, consult, purpose_of};
 use cq_names::VariableName;
 use cq_read::Read;
 use cq_term::TermId;
-use cq_transcript::{Sentence, Source};
+use cq_transcript::Sentence;
+use spec_transcript::Source;
 use std::alloc::AllocError;
-
-/// The same source.
-fn consulted(source: Source) -> Consulted
-    ensures { as_read result ≡ as_source source }
-{
-    match source {
-        Source::File => Consulted::File,
-        Source::Input => Consulted::Input,
-    }
-}
 
 impl Toplevel {
     /// Adds a clause of a file, or gives the line of its refusal.
@@ -81,13 +70,13 @@ impl Toplevel {
         requires live { clause < length (terms self.old.engine.machine) }
         requires names { AreNumbered 0 names.items (length (images self.old)) }
         ensures taken { IfOk result (IsTaken (IsAsking self.new) (names_of self.new) (program_of self.old) (program_of self.new)
-            (variables names.items (images self.old)) (purpose (as_source source) (term_in self.old clause))) }
+            (variables names.items (images self.old)) (purpose source (term_in self.old clause))) }
         ensures budgets { budgets_of self.new ≡ budgets_of self.old }
         ensures whole { IsWhole self.new }
     {
         let machine = &self.engine.machine;
         let heap = &machine.world.first.heap;
-        match purpose_of(heap, &machine.atoms, consulted(source), clause) {
+        match purpose_of(heap, &machine.atoms, source, clause) {
             Purpose::Fact(clause) => self.add(clause),
             Purpose::Initialization(goal) => {
                 self.wait(goal, names)?;

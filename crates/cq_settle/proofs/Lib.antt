@@ -1,6 +1,6 @@
-mod Bound
+pub mod Bound
 mod Ends
-mod Operands
+pub mod Operands
 mod Moments
 mod Values
 mod Zips

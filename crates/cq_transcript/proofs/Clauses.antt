@@ -21,9 +21,9 @@ use Rattle.spec_session.proofs.Stand.{settled}
 use Rattle.spec_endings.specs.Outside.{Outside, given}
 use Rattle.cq_transcript.specs.declared.halt.Halt.{Halt}
 use Rattle.cq_transcript.specs.declared.halt.Halt.TheVariants.{Write}
-use Rattle.cq_transcript.specs.declared.interpreter.Source.{Source}
-use Rattle.cq_transcript.specs.declared.interpreter.Source.TheVariants as source
-use Rattle.cq_transcript.specs.Sentences.{Program, as_source, IsSettled, IsFor}
+use Rattle.spec_transcript.specs.declared.Source.{Source}
+use Rattle.spec_transcript.specs.declared.Source.TheVariants as source
+use Rattle.cq_transcript.specs.Sentences.{Program, IsSettled, IsFor}
 use Rattle.cq_transcript.specs.Progress.{RunsIn, Advanced, Broken}
 use Rattle.cq_transcript.specs.Texts.{IsAt, StandsAt}
 use Rattle.cq_transcript.proofs.Steps.{one_step, at_start, advanced_more, advanced_both, advanced_quietly, broken_more, write_fails, both_unmarked}
@@ -43,7 +43,7 @@ directs true c t u g e = cc
 directs false true t u g e = cc
 directs false false t u g e = cc
 
-pub never_waits : (t g : Tree) → purpose purposes.Input t ≡ purposes.Initialization g → ⊥
+pub never_waits : (t g : Tree) → purpose source.Input t ≡ purposes.Initialization g → ⊥
 never_waits (Compound f (one t)) g e = directs (bytes_eq f (codes ":-")) (bytes_eq f (codes "?-")) t (Compound f (one t)) g e
 never_waits (Compound f (more t ts)) g e = cc
 never_waits (Var v) g e = cc
@@ -110,7 +110,7 @@ module _ (r : Reader) (s : Source) (p : Program) (old : Input) (at : IsAt r s ol
         → q ≡ record p { later = p.later ++ record { goal = g; variables = vs } ∷ [] } → StandsAt b o r s unmarked p q new held held
     waits g vs is same =
         stands_on b o q new bytes finished unmarked held held
-        (λ e. absurd (never_waits is.term g (subst (λ x. purpose (as_source x) is.term ≡ purposes.Initialization g) e is.purpose_is)))
+        (λ e. absurd (never_waits is.term g (subst (λ x. purpose x is.term ≡ purposes.Initialization g) e is.purpose_is)))
         (subst (λ x. Advanced b o (Reading p.database r) unmarked (Reading x.database (record r { at = new.place; later = x.later })) held held) (sym same)
         (subst (λ l. Advanced b o (Reading p.database r) unmarked (Reading p.database (record r { at = new.place; later = l ++ record { goal = g; variables = vs } ∷ [] })) held held) at.later
         (advanced_quietly b o (Reading p.database r) (Reading p.database r) unmarked held held (at_start b o (Reading p.database r) held) _

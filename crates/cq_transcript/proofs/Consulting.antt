@@ -11,7 +11,6 @@ use Rattle.spec_operators.specs.Operators.{Ops}
 use Rattle.spec_reading.specs.Readings.{Reads, Ended}
 use Rattle.spec_search.specs.Search.{Search}
 use Rattle.spec_stops.specs.Causes.{Budgets}
-use Rattle.spec_transcript.specs.Purposes as purposes
 use Rattle.spec_transcript.specs.Purposes.{once}
 use Rattle.spec_transcript.specs.Session as session
 use Rattle.spec_transcript.specs.Session.{Asked, ADirective, Session, Opening, Reading, Searching, Marks, unmarked, plain_line, Reader, beginning, begun}
@@ -20,7 +19,7 @@ use Rattle.spec_session.proofs.Stand.{ended}
 use Rattle.spec_endings.specs.Outside.{Outside, given}
 use Rattle.cq_transcript.specs.declared.halt.Halt.{Halt}
 use Rattle.cq_transcript.specs.declared.halt.Halt.TheVariants.{Absent, TooLarge, TooMuchInput, Read, Write, Memory}
-use Rattle.cq_transcript.specs.declared.interpreter.Source.TheVariants as source
+use Rattle.spec_transcript.specs.declared.Source.TheVariants as source
 use Rattle.cq_transcript.specs.declared.reading.Pause.{Pause}
 use Rattle.cq_transcript.specs.declared.reading.Pause.TheVariants.{Needs, End}
 use Rattle.cq_transcript.specs.Sentences.{Program}
@@ -131,7 +130,7 @@ module _ (b : Budgets) (o : Outside) (r : Reader) (ops : Ops) (ends : Reads ops 
 module _ (b : Budgets) (o : Outside) (p : Program) (name : Text) (names : List Text) (text : Input) (held : Option (List ℕ))
     (loaded : given o.files name ≡ Some text.bytes) (place : text.place ≡ 0) (finished : text.finished ≡ true) (none : p.later ≡ []) where
   abbrev pub reader : Reader
-  reader = beginning purposes.File text.bytes names
+  reader = beginning source.File text.bytes names
 
   pub reader_is_at : IsAt reader source.File text p
   reader_is_at = record { source = refl; more = []; bytes = sym (append-nil text.bytes); at = sym place; later = sym none; whole = λ f. refl }

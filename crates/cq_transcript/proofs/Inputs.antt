@@ -9,14 +9,13 @@ use Rattle.cq_read.specs.Inputs.{Input}
 use Rattle.spec_reading.specs.Decided.{Decided}
 use Rattle.spec_reading.specs.Readings.{Reads, Ended}
 use Rattle.spec_stops.specs.Causes.{Budgets}
-use Rattle.spec_transcript.specs.Purposes as purposes
 use Rattle.spec_transcript.specs.Session as session
 use Rattle.spec_transcript.specs.Session.{Session, Opening, Reading, Over, Marks, unmarked, plain_line, Reader, beginning}
 use Rattle.spec_session.specs.Parts.{both}
 use Rattle.spec_endings.specs.Outside.{Outside}
 use Rattle.cq_transcript.specs.declared.halt.Halt.{Halt}
 use Rattle.cq_transcript.specs.declared.halt.Halt.TheVariants.{Absent, TooLarge, TooMuchInput, Read, Write, Memory}
-use Rattle.cq_transcript.specs.declared.interpreter.Source.TheVariants as source
+use Rattle.spec_transcript.specs.declared.Source.TheVariants as source
 use Rattle.cq_transcript.specs.declared.reading.Pause.{Pause}
 use Rattle.cq_transcript.specs.declared.reading.Pause.TheVariants.{Needs, End}
 use Rattle.cq_transcript.specs.Sentences.{Program}
@@ -30,7 +29,7 @@ use Rattle.cq_transcript.proofs.Consulting.{broken_breaks}
 -- the transcript of the input was written up to the text's place
 pub record StandsIn (b : Budgets) (o : Outside) (from : Session) (marks : Marks) (q : Program) (text : Input) (held now : Option (List ℕ)) : Type 0 where
   pub reader : Reader
-  pub source : reader.source ≡ purposes.Input
+  pub source : reader.source ≡ source.Input
   pub bytes : reader.bytes ≡ o.input
   pub at : reader.at ≡ text.place
   pub later : reader.later ≡ []
@@ -96,7 +95,7 @@ split_more xs ys rest room =
 pub none_waits : (b : Budgets) (p q : Program) (old new : Input) (marks : Marks) (held now : Option (List ℕ))
     → ((o : Outside) (r : Reader) → IsAt r source.Input old p → StandsAt b o r source.Input marks p q new held now) → p.later ≡ [] → q.later ≡ []
 none_waits b p q old new marks held now h none =
-    let r : Reader = record { source = purposes.Input; bytes = old.bytes; at = old.place; later = p.later; files = [] } in
+    let r : Reader = record { source = source.Input; bytes = old.bytes; at = old.place; later = p.later; files = [] } in
     let there : IsAt r source.Input old p = record { source = refl; more = []; bytes = sym (append-nil old.bytes); at = refl; later = refl; whole = λ f. refl } in
     let o : Outside = record { files = λ name. None; input = [] } in
     (h o r there).none_waits refl ∙ none
@@ -106,15 +105,15 @@ none_waits b p q old new marks held now h none =
 module _ (b : Budgets) (o : Outside) (p : Program) (held : Option (List ℕ)) where
   pub opens_input : (text : Input) → text.place ≡ 0 → StandsIn b o (Opening p.database []) unmarked p text held held
   opens_input text place = record {
-    reader = beginning purposes.Input o.input [];
+    reader = beginning source.Input o.input [];
     source = refl;
     bytes = refl;
     at = sym place;
     later = refl;
     advanced =
         advanced_quietly b o (Opening p.database []) (Opening p.database []) unmarked held held (at_start b o (Opening p.database []) held)
-        (Reading p.database (beginning purposes.Input o.input []))
-        (one_step b o (Opening p.database []) (Reading p.database (beginning purposes.Input o.input [])) [] plain_line session.opens_input);
+        (Reading p.database (beginning source.Input o.input []))
+        (one_step b o (Opening p.database []) (Reading p.database (beginning source.Input o.input [])) [] plain_line session.opens_input);
   }
 
 module _ (b : Budgets) (o : Outside) (from : Session) (m : Marks) (p : Program) (text : Input) (held mid : Option (List ℕ)) (stands : StandsIn b o from m p text held mid) where

@@ -8,7 +8,7 @@ use Rattle.spec_lists.specs.Texts.{Text}
 use Rattle.spec_reading.specs.Decided.{Decided}
 use Rattle.spec_search.specs.Database.{Database}
 use Rattle.spec_stops.specs.Causes.{Budgets}
-use Rattle.spec_transcript.specs.Purposes as purposes
+use Rattle.spec_transcript.specs.declared.Source.TheVariants as source
 use Rattle.spec_transcript.specs.Session.{Session, Opening, Reading, Reader, Marks}
 use Rattle.spec_endings.specs.Causes.{Counts}
 use Rattle.spec_endings.specs.Outside.{Outside, given}
@@ -44,7 +44,7 @@ pub record ComesTo (b : Budgets) (o : Outside) (from : Session) (name : Text) (h
 pub record ReadsAll (b : Budgets) (o : Outside) (from : Session) (bytes : List ℕ) (held now : Option (List ℕ)) : Type 0 where
   pub database : Database
   pub reader : Reader
-  pub is_input : reader.source ≡ purposes.Input
+  pub is_input : reader.source ≡ source.Input
   pub within : reader.at ≤ length bytes
   pub undecided : Decided database.operators bytes reader.at → ⊥
   pub marks : Marks

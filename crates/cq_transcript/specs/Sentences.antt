@@ -14,14 +14,9 @@ use Rattle.spec_transcript.specs.Session.{Asked, begun, names_from, refusal_ball
 use Rattle.spec_stops.specs.Causes.{Budgets}
 use Rattle.spec_endings.specs.Outside.{most_rows}
 use Rattle.cq_read.specs.Inputs.{Input}
-use Rattle.cq_transcript.specs.declared.interpreter.Source.{Source}
-use Rattle.cq_transcript.specs.declared.interpreter.Source.TheVariants as source
+use Rattle.spec_transcript.specs.declared.Source.{Source}
 use Rattle.cq_transcript.specs.declared.interpreter.Sentence.{Sentence}
 use Rattle.cq_transcript.specs.declared.interpreter.Sentence.TheVariants as sentence
-
-abbrev pub as_source : Source → purposes.Source
-as_source source.File = purposes.File
-as_source source.Input = purposes.Input
 
 -- what a program is between two texts: its database, and the goals that wait for the end of the file
 pub record Program : Type 0 where
@@ -41,7 +36,7 @@ pub record IsSettled (ops : Ops) (input : Input) (r : Read) : Type 0 where
 pub record IsFor (db : Database) (s : Source) (old new : Input) (what : Purpose) (variables : Variables) : Type 0 where
   pub term : Tree
   pub settled : IsSettled db.operators old (Clause term variables new.place)
-  pub purpose_is : purpose (as_source s) term ≡ what
+  pub purpose_is : purpose s term ≡ what
 
 -- the interpreter stands for the search of a goal, whose variables are counted on from some number
 pub record Begins (Stands : Search → Type 0) (db : Database) (goal : Tree) (variables : Variables) : Type 0 where

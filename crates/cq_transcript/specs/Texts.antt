@@ -6,10 +6,10 @@ use Rattle.spec_reading.specs.Readings.{Reads, Ended}
 use Rattle.spec_stops.specs.Causes.{Budgets}
 use Rattle.spec_transcript.specs.Session.{Reading, Marks, unmarked, Reader}
 use Rattle.spec_endings.specs.Outside.{Outside}
-use Rattle.cq_transcript.specs.Sentences.{Program, as_source}
+use Rattle.cq_transcript.specs.Sentences.{Program}
 use Rattle.cq_transcript.specs.Progress.{Advanced, marks_of}
-use Rattle.cq_transcript.specs.declared.interpreter.Source.{Source}
-use Rattle.cq_transcript.specs.declared.interpreter.Source.TheVariants as source
+use Rattle.spec_transcript.specs.declared.Source.{Source}
+use Rattle.spec_transcript.specs.declared.Source.TheVariants as source
 use Rattle.cq_transcript.specs.declared.reading.Pause.{Pause}
 use Rattle.cq_transcript.specs.declared.reading.Pause.TheVariants.{Needs, End}
 use Rattle.cq_transcript.specs.declared.reading.Turn.{Turn}
@@ -17,7 +17,7 @@ use Rattle.cq_transcript.specs.declared.reading.Turn.TheVariants.{Goes, Pauses}
 
 -- the reader stands where the input does: the bytes are the beginning of its text, and the whole of it once no more come
 pub record IsAt (r : Reader) (s : Source) (input : Input) (p : Program) : Type 0 where
-  pub source : r.source ≡ as_source s
+  pub source : r.source ≡ s
   pub more : List ℕ
   pub bytes : r.bytes ≡ input.bytes ++ more
   pub at : r.at ≡ input.place

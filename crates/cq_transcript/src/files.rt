@@ -11,11 +11,12 @@ ghost use Rattle.cq_transcript.specs.Breaks.{Breaks, CountedBy, IsLoaded, IsMiss
 ghost use Rattle.cq_transcript.specs.Progress.{Advanced, Broken, CountsWrites, marks_of};
 
 use crate::halt::{Halt, Lines};
-use crate::interpreter::{Interpreter, Source};
+use crate::interpreter::Interpreter;
 use crate::reading::write_text;
 use crate::searching::write_directive;
 use cq_outside::{Shelf, ShelfFault, Sink};
 use cq_read::Feed;
+use spec_transcript::Source;
 use std::alloc::Global;
 
 /// Loads a file as a text to be read.

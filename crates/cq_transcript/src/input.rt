@@ -9,10 +9,11 @@ ghost use Rattle.cq_transcript.specs.Pieces.{CountsReads, HasReadInput, IsPiece,
 ghost use Rattle.cq_transcript.specs.Progress.{marks_of};
 
 use crate::halt::{Halt, Lines};
-use crate::interpreter::{Interpreter, Source};
+use crate::interpreter::Interpreter;
 use crate::reading::{Pause, write_text};
 use cq_outside::{SIZE_LIMIT, Sink, Source as Bytes};
 use cq_read::Feed;
+use spec_transcript::Source;
 use std::alloc::Global;
 
 /// What was read of the input.

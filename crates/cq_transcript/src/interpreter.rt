@@ -11,14 +11,8 @@ ghost use Rattle.cq_transcript.specs.Events.{IsEvent, IsAnswered, TakesFrom};
 ghost use Rattle.cq_transcript.specs.Sentences.{Program, IsSentence, BeginsLater, MovesOn, budgets_within};
 
 use cq_read::Feed;
+use spec_transcript::Source;
 use std::alloc::{AllocError, Global};
-
-/// Where a text comes from.
-#[derive(Clone, Copy, Debug, PartialEq, Eq)]
-pub enum Source {
-    File,
-    Input,
-}
 
 /// What was read of a text.
 #[derive(Debug, Drop)]

@@ -10,5 +10,5 @@ mod searching;
 mod texts;
 
 pub use halt::{Halt, Lines};
-pub use interpreter::{Answered, Event, Interpreter, Sentence, Source};
+pub use interpreter::{Answered, Event, Interpreter, Sentence};
 pub use texts::write_transcript;

@@ -8,10 +8,11 @@ ghost use Rattle.cq_transcript.specs.Progress.{Broken, CountsWrites, marks_of};
 ghost use Rattle.cq_transcript.specs.Texts.{IsAt, IsPause, IsTurn, StandsAt, marks_in};
 
 use crate::halt::{Halt, Lines};
-use crate::interpreter::{Interpreter, Sentence, Source};
+use crate::interpreter::{Interpreter, Sentence};
 use crate::searching::{write_directive, write_query};
 use cq_outside::{Sink, write_whole};
 use cq_read::Feed;
+use spec_transcript::Source;
 use std::alloc::{AllocError, Global};
 use std::fmt::Write;
 

@@ -30,7 +30,9 @@ use Rattle.spec_search.specs.Search.{Search, Look, look_at, is_selecting, gather
 use Rattle.spec_search.specs.Turns as turn
 use Rattle.spec_search.specs.Turns.{Turn, place_of, after_removal, after_step, after_ball, with_branches}
 use Rattle.spec_stops.specs.Causes.{Budgets, Resolutions, Overflow, stop_text}
-use Rattle.spec_transcript.specs.Purposes.{Source, File, Input, Purpose, Directive, Initialization, Query, Fact, purpose, once, answer_end, no_line, more_line, ball_line, syntax_line}
+use Rattle.spec_transcript.specs.declared.Source.{Source}
+use Rattle.spec_transcript.specs.declared.Source.TheVariants.{File, Input}
+use Rattle.spec_transcript.specs.Purposes.{Purpose, Directive, Initialization, Query, Fact, purpose, once, answer_end, no_line, more_line, ball_line, syntax_line}
 use Rattle.spec_transcript.specs.Session as session
 use Rattle.spec_transcript.specs.Session.{Asked, Reader, beginning, Asker, ADirective, AQuery, Session, Opening, Reading, Searching, Over, Mark, plain_line, error_line, stop_line, Marks, unmarked, marked, begun, names_from, MayGo, refusal_ball, Step, Runs, none, then, Transcript}
 use Rattle.spec_examples.proofs.Read.{At, found, not_found, read_at}

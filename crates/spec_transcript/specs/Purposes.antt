@@ -7,10 +7,8 @@ use Rattle.spec_syntax.specs.Trees.{Tree}
 use Rattle.spec_writing.specs.Numbers.{whole_text}
 use Rattle.spec_writing.specs.Written.{writeq}
 use Rattle.spec_built.specs.Built.{compound1}
-
--- a file, or the input
-pub data Source : Type 0 where
-  File Input : Source
+use Rattle.spec_transcript.specs.declared.Source.{Source}
+use Rattle.spec_transcript.specs.declared.Source.TheVariants.{File, Input}
 
 -- what a clause of a text asks for: a directive, a goal that runs after the file, a query, or a clause to be added
 pub data Purpose : Type 0 where

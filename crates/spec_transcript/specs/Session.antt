@@ -18,7 +18,9 @@ use Rattle.spec_search.specs.Search.{Search, start, look_at, is_selecting}
 use Rattle.spec_search.specs.Turns.{Wrote, Answered, Threw, Ended, Turn, Refuses}
 use Rattle.spec_stops.specs.Causes.{Budgets, Cause, Resolutions, Overflow, stop_text}
 use Rattle.spec_stops.specs.Due.{Due}
-use Rattle.spec_transcript.specs.Purposes.{Source, File, Input, Purpose, Directive, Initialization, Query, Fact, purpose, once, answer_end, no_line, more_line, ball_line, syntax_line}
+use Rattle.spec_transcript.specs.declared.Source.{Source}
+use Rattle.spec_transcript.specs.declared.Source.TheVariants.{File, Input}
+use Rattle.spec_transcript.specs.Purposes.{Purpose, Directive, Initialization, Query, Fact, purpose, once, answer_end, no_line, more_line, ball_line, syntax_line}
 
 -- ---- where a session stands
 

@@ -1,5 +1,5 @@
-//! The transcript of some files and the input. No code: each function has an empty body, and its contract is a law of the
-//! definitions.
+//! The transcript of some files and the input. Definitions and a plain type of theirs; the functions here have empty bodies: each
+//! contract is a law of the definitions.
 #![tactic(auto)]
 
 ghost use Rattle.std.specs.Prelude.{◌≡◌, ℕ, ◌<◌, List, ◌++◌, Option, true};
@@ -9,6 +9,13 @@ ghost use Rattle.spec_search.specs.Search.{Search, look_at, is_selecting};
 ghost use Rattle.spec_search.specs.Turns.{Refuses};
 ghost use Rattle.spec_stops.specs.Causes.{Budgets, Resolutions, stop_text};
 ghost use Rattle.spec_transcript.specs.Session.{Asker, Reader, Session, Searching, Mark, stop_line, Marks, Step, Transcript, WrittenSoFar};
+
+/// Where a text comes from.
+#[derive(Clone, Copy, Debug, PartialEq, Eq)]
+pub enum Source {
+    File,
+    Input,
+}
 
 /// Where a query has selected its goals and would select another, it stops with `stop: resolutions`, and nothing else
 /// can happen.

@@ -6,10 +6,11 @@ ghost use Rattle.cq_consult.specs.Purposes.{term_of};
 
 use crate::texts::{is_told, written};
 use cq_atoms::Atoms;
-use cq_consult::{Purpose, Source, purpose_of};
+use cq_consult::{Purpose, purpose_of};
 use cq_ops::Ops;
 use cq_read::{Read, read_clause};
 use cq_term::{Heap, TermId};
+use spec_transcript::Source;
 use std::alloc::{AllocError, Global};
 use std::test::Fail;
 
