@@ -146,3 +146,42 @@ fn too_many_rows_of_an_answer_stop_its_query(rt: HostRuntime) -> Result<(), Fail
     assert!(rt; does(rt.alloc(), input_of(&["run"], text.as_bytes()), wanted)?);
     Ok(())
 }
+
+/// A variable with eleven lower and ten upper rows.
+fn crossing(alloc: Global) -> Result<String, AllocError> {
+    let mut text = String::from_str(alloc, "?- {")?;
+    for number in 1..12 {
+        let row = format!(in alloc; "L{number}=<_X, ")?;
+        text.push_str(&row)?;
+    }
+    for number in 1..10 {
+        let row = format!(in alloc; "_X=<U{number}, ")?;
+        text.push_str(&row)?;
+    }
+    text.push_str("_X=<U10}.")?;
+    Ok(text)
+}
+
+/// The rows without it: each lower one with each upper one, the greater coefficients first.
+fn crossed(alloc: Global) -> Result<String, AllocError> {
+    let mut text = String::new(alloc);
+    for lower in 1..12 {
+        for upper in (1..11).rev() {
+            let row = format!(in alloc; "L{lower}-U{upper}=<0")?;
+            text.push('{')?;
+            text.push_str(&row)?;
+            text.push_str("}\n")?;
+        }
+    }
+    text.push_str(";\nno\n")?;
+    Ok(text)
+}
+
+#[test]
+fn an_answer_has_a_row_for_each_pair(rt: HostRuntime) -> Result<(), Fail> {
+    let text = crossing(rt.alloc())?;
+    let out = crossed(rt.alloc())?;
+    let wanted = written(&out, Status::Done);
+    assert!(rt; does(rt.alloc(), input_of(&["run"], text.as_bytes()), wanted)?);
+    Ok(())
+}
