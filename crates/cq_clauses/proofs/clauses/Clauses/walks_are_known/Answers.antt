@@ -1,4 +1,4 @@
-use Rattle.std.proofs.Common.{◌≡◌, length, map, sym, ◌∙◌}
+use Rattle.std.proofs.Common.{map, sym, ◌∙◌}
 use Rattle.std.proofs.lemmas.List.{length-map}
 use Rattle.cq_clauses.specs.ClausesValue.{ClausesValue}
 use Rattle.cq_clauses.specs.declared.clauses.Stored.{Stored}
