@@ -18,7 +18,7 @@ use Rattle.cq_clauses.specs.Lists.{Entry, ListValue}
 use Rattle.cq_clauses.specs.Changes.{there, went, no_clauses, list_with, list_without}
 use Rattle.cq_clauses.specs.Database.{added, first_changed}
 use Rattle.cq_clauses.specs.Indexes.{IsIndex, HasGrown, HasPut}
-use Rattle.cq_clauses.specs.Procedures.{is_of, clause_added_to, with_clause, made_dynamic, with_dynamic, StandsAt, IsAt, clause_taken}
+use Rattle.cq_clauses.specs.Procedures.{is_of, clause_added_to, with_clause, made_dynamic, with_dynamic, with_all_dynamic, StandsAt, IsAt, clause_taken}
 use Rattle.cq_clauses.specs.Selected.{key_at, keys_in}
 use Rattle.cq_clauses.specs.Stored.{IsStore, AreIndexes, IsHeld}
 use Rattle.cq_clauses.proofs.Places.{is_store_pushed, is_store_taken, is_store_dynamic}
@@ -228,3 +228,9 @@ module _ (places : List Place) (key : ℕ → Option Key) (indexes : List (Optio
 
   pub kept_dynamic : (pred : Pred) → after ≡ with_dynamic pred ps → IsHeld places key indexes after
   kept_dynamic pred made = subst (IsHeld places key indexes) (sym made) (record { store = is_store_dynamic places ps pred is.store; by_key = indexes_dynamic key indexes ps is.by_key pred })
+
+pub kept_all_dynamic : (places : List Place) (key : ℕ → Option Key) (indexes : List (Option Index)) (preds : List Pred) (ps after : List Procedure) → IsHeld places key indexes ps
+    → after ≡ with_all_dynamic preds ps → IsHeld places key indexes after
+kept_all_dynamic places key indexes [] ps after is made = subst (IsHeld places key indexes) (sym made) is
+kept_all_dynamic places key indexes (pred ∷ preds) ps after is made =
+    kept_all_dynamic places key indexes preds (with_dynamic pred ps) after (kept_dynamic places key indexes ps (with_dynamic pred ps) is pred refl) made

@@ -20,15 +20,12 @@ use Rattle.cq_clauses.specs.Lists.{Entry, ListValue, present}
 use Rattle.cq_clauses.specs.Changes.{there, no_clauses, list_with, list_without}
 use Rattle.cq_clauses.specs.Windows.{IsWindow, seen_in}
 use Rattle.cq_clauses.specs.Database.{ProcedureNow, now_of, database, same_pred, first_changed, kind_of, clauses_of, procedure_of}
-use Rattle.cq_clauses.specs.Procedures.{is_of, clause_added_to, with_clause, made_dynamic, with_dynamic, StandsAt, IsAt, IsPlace, clause_taken}
+use Rattle.cq_clauses.specs.Procedures.{pred_of, is_of, clause_added_to, with_clause, made_dynamic, with_dynamic, with_all_dynamic, StandsAt, IsAt, IsPlace, clause_taken}
 use Rattle.cq_clauses.specs.Snapshots.{seen, seen_part, seen_through, IsPart, IsSnapshot, KeepsSnapshots}
 use Rattle.cq_clauses.proofs.Listed.{seen_front, window_front, seen_back, window_back, seen_removed, window_removed}
 use Rattle.cq_atoms.proofs.Places.{list_any-map}
 use Rattle.cq_clauses.proofs.Writes.{got_here, got_still, got_last}
 use Rattle.cq_clauses.proofs.Found.{changed_still, changed_at, changed_none, find_at, find_none, find-map}
-
-abbrev pred_of : Procedure → Pred
-pred_of p = p.pred
 
 -- ---- the numbers by predicate
 
@@ -138,6 +135,13 @@ became_set ps at p q stood follows i x got = elim (got_still ps at p q i x stood
   | inl same ↦ record { after = x; stands = same; follows = follows_same x.clauses }
   | inr here ↦ record { after = q; stands = here.0; follows = subst (λ (z : Procedure). Follows z.clauses q.clauses) here.1 follows }
 ]
+
+pub keeps_all_dynamic : (preds : List Pred) (ps : List Procedure) → KeepsSnapshots ps (with_all_dynamic preds ps)
+keeps_all_dynamic [] ps = record { taken = λ s is. is; seen = λ s is. refl }
+keeps_all_dynamic (pred ∷ preds) ps =
+    let first = keeps_with_dynamic pred ps in
+    let others = keeps_all_dynamic preds (with_dynamic pred ps) in
+    record { taken = λ s is. others.taken s (first.taken s is); seen = λ s is. others.seen s (first.taken s is) ∙ first.seen s is }
 
 pub keeps_set : (ps : List Procedure) (at : ℕ) (p q : Procedure) → slice_get ps at ≡ Some p → Follows p.clauses q.clauses → KeepsSnapshots ps (set ps at q)
 keeps_set ps at p q stood follows = keeps ps (set ps at q) (became_set ps at p q stood follows)

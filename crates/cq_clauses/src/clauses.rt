@@ -1,7 +1,7 @@
 // The clauses of a program, with what each holds.
 
 ghost use Rattle.std.specs.Prelude.{◌≡◌, ◌<◌, ◌≤◌, [], ◌∷◌, All, length, slice_get, Some, IfSome, IfNone, IfOk, OnOk, OnErr};
-ghost use Rattle.cq_clauses.specs.ClausesValue.{Adds, Declares, Removes};
+ghost use Rattle.cq_clauses.specs.ClausesValue.{Adds, Declares, DeclaresAll, Removes};
 ghost use Rattle.cq_clauses.specs.Database.{database, kind_of, clauses_of};
 ghost use Rattle.cq_clauses.specs.Keys.{may_match as matches};
 ghost use Rattle.cq_clauses.specs.Selected.{key_at, matching};
@@ -132,7 +132,17 @@ impl<C: Keyed + Drop> Clauses<C> {
         ensures reading { KeepsReading C.key_of self.old self.new }
         ensures err { OnErr result (self.new ≡ self.old) }
     {
-        self.procedures.declare_dynamic(pred)?;
+        self.declare_all_dynamic(&[pred])
+    }
+
+    /// Lets the program change the procedures of these predicates, which are made where there are none: all of them, or none
+    /// after an error.
+    pub fn declare_all_dynamic(&mut self, preds: &[Pred]) -> Result<(), AllocError>
+        ensures declared { OnOk result (DeclaresAll preds.now self.old self.new) }
+        ensures reading { KeepsReading C.key_of self.old self.new }
+        ensures err { OnErr result (self.new ≡ self.old) }
+    {
+        self.procedures.declare_dynamic(preds)?;
         Ok(())
     }
 
