@@ -5,6 +5,7 @@ use Rattle.std.specs.List.{AllByRecursion}
 use Rattle.spec_rational.specs.Rational.{ℚ}
 use Rattle.spec_linear.specs.Form.{Linear, negated_form}
 use Rattle.spec_linear.specs.Solution.{Constraint, Fixes, Has}
+use Rattle.spec_inequalities.specs.Weak.{at_least_zero}
 use Rattle.spec_limits.specs.Overflow.{Moment, Operands, settling}
 use Rattle.spec_limits.specs.Asked.{IsAsked, IsInForce}
 use Rattle.spec_syntax.specs.Trees.{Tree}
@@ -22,6 +23,9 @@ JoinsNothing c = ⊥
 pub data AsksAbout (fixed : ℕ → Option ℚ) : Reply → Constraint → Type 0 where
   member : {ms : List Tree} {b : Branch} {c : Constraint} (m : Tree) → Has m ms → lin fixed m ≡ Is c
       → AsksAbout fixed (IfEntailed ms b) c
+  -- how far an expression reaches is looked for as if it were asked whether the expression is not below zero
+  reaches : {side : Side} {e : Tree} {f : ℚ → Branch} {g : Linear} → lin_expression fixed e ≡ Is g
+      → AsksAbout fixed (WithExtent side e f) (at_least_zero g)
 
 -- the form of the expression that the goal asks the extent of, and its negative
 pub data AsksExtent (fixed : ℕ → Option ℚ) : Reply → Linear → Type 0 where
