@@ -1,0 +1,3 @@
+mod Showing
+mod Refused
+mod Declared

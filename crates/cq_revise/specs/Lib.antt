@@ -1,0 +1,2 @@
+pub mod Revised
+pub mod Permissions
