@@ -13,7 +13,7 @@ ghost use Rattle.cq_revise.specs.Revised.{KeepsShowing};
 /// Choices leave the same to try over a program in which each walk goes on to show the same clauses, as it does through each change
 /// (`cq_revise::walks_outlast_changes`). So they stand for the same branches.
 pub fn choices_outlast_changes()
-    ensures open { (old new : Program) → KeepsShowing old new → (saved : List (Value Contents)) (choices : List Alternatives)
+    ensures tried { (old new : Program) → KeepsShowing old new → (saved : List (Value Contents)) (choices : List Alternatives)
         → AreOpen old saved choices → AreOpen new saved choices }
     ensures same { (old new : Program) → KeepsShowing old new → (texts : List Text) (saved : List (Value Contents)) (choices : List Alternatives)
         → AreOpen old saved choices → stack texts new saved choices ≡ stack texts old saved choices }

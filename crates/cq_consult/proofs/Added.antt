@@ -14,10 +14,13 @@ use Rattle.cq_world.specs.Contents.{Contents}
 use Rattle.spec_machine.specs.Cells.{Value}
 use Rattle.cq_steps.specs.Choices.{AreOpen, CanBeTried}
 use Rattle.cq_steps.specs.declared.alternatives.Alternatives.{Alternatives}
-use Rattle.cq_consult.specs.Consulted.{AddsStored, CameTo, IsConsulted}
+use Rattle.cq_clauses.specs.declared.list.End.TheVariants.{Last}
+use Rattle.cq_clauses.specs.declared.procedures.Kind.TheVariants.{Static}
+use Rattle.cq_revise.specs.Revised.{AddsStored}
+use Rattle.cq_consult.specs.Consulted.{CameTo, IsConsulted}
 
 -- a program stays one
-module _ (texts : List Text) (ts : List HeapTerm) (clause : Tree) (old new : Program) (was : IsProgram texts old) (added : AddsStored texts (head_body clause) old new → IsProgram texts new) where
+module _ (texts : List Text) (ts : List HeapTerm) (clause : Tree) (old new : Program) (was : IsProgram texts old) (added : AddsStored Last Static texts (head_body clause) old new → IsProgram texts new) where
   pub still_program : (r : Result (Option ℕ) AllocError) → IfOk r (CameTo texts ts clause old new) → OnErr r (new ≡ old) → IsProgram texts new
   still_program (Ok None) h e = added h.1
   still_program (Ok (Some ball)) h e = subst (IsProgram texts) (sym h.1) was
@@ -25,7 +28,7 @@ module _ (texts : List Text) (ts : List HeapTerm) (clause : Tree) (old new : Pro
 
 -- what is so of the clauses is so of the database
 module _ (old new : Program) (db after : Database) (same : new ≡ old → after ≡ db) where
-  pub consults : (texts : List Text) (ts : List HeapTerm) (clause : Tree) → (AddsStored texts (head_body clause) old new → after ≡ consulted clause db)
+  pub consults : (texts : List Text) (ts : List HeapTerm) (clause : Tree) → (AddsStored Last Static texts (head_body clause) old new → after ≡ consulted clause db)
       → (r : Option ℕ) → CameTo texts ts clause old new r → IsConsulted texts ts clause db after r
   consults texts ts clause added None h = (h.0, added h.1)
   consults texts ts clause added (Some ball) h = (h.0, same h.1)

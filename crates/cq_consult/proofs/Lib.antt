@@ -1,3 +1,2 @@
 pub mod Unary
-pub mod Refused
 pub mod Added

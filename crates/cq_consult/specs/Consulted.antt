@@ -3,38 +3,21 @@ use Rattle.std.specs.Prelude.{◌≡◌, ℕ, ◌<◌, List, length, Option, Non
 use Rattle.spec_lists.specs.Prefixes.{IsPrefix}
 use Rattle.spec_lists.specs.Texts.{Text}
 use Rattle.spec_syntax.specs.Trees.{Tree}
-use Rattle.spec_builtins.specs.Clauses.{HeadBody, head_body, stored}
+use Rattle.spec_builtins.specs.Clauses.{head_body}
 use Rattle.spec_search.specs.Changes.{consult_error, consulted}
 use Rattle.spec_search.specs.Database.{Database}
 use Rattle.spec_transcript.specs.Session.{refusal_ball}
 use Rattle.cq_term.specs.Meaning.{HeapTerm}
 use Rattle.cq_term.specs.Trees.{tree}
-use Rattle.cq_term.specs.declared.names.Pred.{Pred}
-use Rattle.cq_stored.specs.StoredValue.{ClauseValue}
-use Rattle.cq_clauses.specs.ClausesValue.{Adds}
 use Rattle.cq_clauses.specs.declared.list.End.TheVariants.{Last}
 use Rattle.cq_clauses.specs.declared.procedures.Kind.TheVariants.{Static}
-use Rattle.cq_declarations.specs.Clauses.{IsOf, body_tree}
-use Rattle.cq_declarations.specs.declared.clauses.ClauseParts.{ClauseParts}
-use Rattle.cq_program.specs.Database.{Program, IsCounted, as_parts}
+use Rattle.cq_program.specs.Database.{Program}
+use Rattle.cq_revise.specs.Revised.{AddsStored}
 use Rattle.cq_steps.specs.Worlds.{KnowsNothing}
 use Rattle.cq_machine.specs.Machines.{database_of, now, terms}
 use Rattle.cq_machine.specs.declared.machine.Machine.{Machine}
 
 -- ---- over a heap
-
--- the head and the body as the definitions have them
-abbrev pub head_body_of : List Text → List HeapTerm → ClauseParts → HeadBody
-head_body_of texts ts p = record { head = tree texts ts p.head; body = body_tree texts ts p.body }
-
--- a clause of this head and this body was put behind the others of its predicate, as it is stored
-pub record AddsStored (texts : List Text) (parts : HeadBody) (old new : Program) : Type 0 where
-  pub pred : Pred
-  pub clause : ClauseValue
-  pub of_head : IsOf texts pred parts.head
-  pub counted : IsCounted (length texts) clause
-  pub holds : as_parts texts clause ≡ stored parts
-  pub adds : Adds Last Static pred clause old new
 
 -- the clause is refused, and the term of the ball is on the heap
 pub record IsRefused (texts : List Text) (ts : List HeapTerm) (ball : ℕ) (clause : Tree) : Type 0 where
@@ -45,7 +28,7 @@ pub record IsRefused (texts : List Text) (ts : List HeapTerm) (ball : ℕ) (clau
 
 -- what a clause came to: it is lawful and was added, or it is refused
 abbrev pub CameTo : List Text → List HeapTerm → Tree → Program → Program → Option ℕ → Type 0
-CameTo texts ts clause old new None = (consult_error clause ≡ None) × AddsStored texts (head_body clause) old new
+CameTo texts ts clause old new None = (consult_error clause ≡ None) × AddsStored Last Static texts (head_body clause) old new
 CameTo texts ts clause old new (Some ball) = IsRefused texts ts ball clause × (new ≡ old)
 
 -- the same of the databases

@@ -1,3 +1,3 @@
 mod Showing
-mod Refused
+pub mod Refused
 mod Declared

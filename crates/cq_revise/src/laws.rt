@@ -22,7 +22,7 @@ pub fn walks_outlast_changes()
         → KeepsShowing old new }
     ensures removed { (n : ℕ) (old new : Program) → Removes n old new → KeepsReading clause_key old new → KeepsShowing old new }
     ensures declared { (pred : Pred) (old new : Program) → Declares pred old new → KeepsReading clause_key old new → KeepsShowing old new }
-    ensures then { (old mid new : Program) → KeepsShowing old mid → KeepsShowing mid new → KeepsShowing old new }
+    ensures further { (old mid new : Program) → KeepsShowing old mid → KeepsShowing mid new → KeepsShowing old new }
 {
     calls_read_the_database();
 }

@@ -10,7 +10,9 @@ use Rattle.cq_built.specs.Errors.{error_tree}
 use Rattle.cq_built.proofs.Growing.{known_longer, longer_by_text, grows_names}
 use Rattle.cq_built.proofs.Trees.{tree_kept, name_known}
 use Rattle.cq_bodies.proofs.Named.{grows_by_name, grows_behind_name}
-use Rattle.cq_consult.specs.Consulted.{AddsStored}
+use Rattle.cq_clauses.specs.declared.list.End.TheVariants.{Last}
+use Rattle.cq_clauses.specs.declared.procedures.Kind.TheVariants.{Static}
+use Rattle.cq_revise.specs.Revised.{AddsStored}
 use Rattle.cq_consult.proofs.adding.add_clause.Goals as goal
 
 pub check-requires-clause-names : goal.check-requires-clause-names
@@ -33,7 +35,7 @@ returns-in_ok-add-in-Ok-clause-came c =
     let longer = longer_by_text texts named (codes "assertz") c.in_ok-name.ensures.texts in
     let same = tree_kept texts named ts ts longer (prefix_same ts ts refl) c.requires.names c.args.clause c.requires.live in (
       ap consult_error (sym same) ∙ c.in-Ok.ensures.lawful,
-      subst (λ (parts : HeadBody). AddsStored c.add.new.atoms parts c.args.clauses.now c.add.new.clauses) (sym c.in-Ok.ensures.parts.are ∙ ap head_body same)
+      subst (λ (parts : HeadBody). AddsStored Last Static c.add.new.atoms parts c.args.clauses.now c.add.new.clauses) (sym c.in-Ok.ensures.parts.are ∙ ap head_body same)
           c.in_ok-add-in-Ok.ensures.added,
     )
 
