@@ -1,4 +1,5 @@
 mod Outlasting
 mod Behind
 mod Stored
+mod Dynamic
 mod Changed

@@ -43,7 +43,7 @@ module _ (own : Option Tree) (closed : Indicator → Bool) (refusal : Indicator 
 
 -- ---- procedures that are not open
 
-kind_is_static : Option Kind → Bool
+abbrev kind_is_static : Option Kind → Bool
 kind_is_static None = false
 kind_is_static (Some k) = is_static_kind k
 
