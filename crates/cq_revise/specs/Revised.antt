@@ -20,6 +20,9 @@ use Rattle.cq_declarations.specs.Clauses.{IsOf, body_tree}
 use Rattle.cq_declarations.specs.declared.clauses.ClauseParts.{ClauseParts}
 use Rattle.cq_program.specs.Database.{Program, IsProgram, IsCounted, as_parts, as_clause, as_database, as_indicator}
 use Rattle.cq_program.specs.Keys.{key_of}
+use Rattle.cq_clauses.specs.declared.list.End.TheVariants as places
+use Rattle.cq_revise.specs.declared.adding.End as own
+use Rattle.cq_revise.specs.declared.adding.End.TheVariants as ends
 
 -- the key by which calls look for a clause
 abbrev pub clause_key : ClauseValue → Option Key
@@ -35,6 +38,11 @@ pub record KeepsShowing (old new : Program) : Type 0 where
   pub same : (texts : List Text) (w : Walk) → IsWalk w old → shown texts w new ≡ shown texts w old
 
 -- ---- clauses that are added
+
+-- the end as the clauses have it
+abbrev pub place : own.End → End
+place ends.First = places.First
+place ends.Last = places.Last
 
 -- the head and the body as the definitions have them
 abbrev pub head_body_of : List Text → List HeapTerm → ClauseParts → HeadBody

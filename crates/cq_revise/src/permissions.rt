@@ -74,7 +74,8 @@ pub fn check_readable(
 {
     match check_clause_goal(heap, atoms, head, body) {
         Ok(predicate) => {
-            if is_private(atoms, clauses, predicate) {
+            let asked = predicate;
+            if is_private(atoms, clauses, asked) {
                 return Err(refused(Permission::AccessPrivateProcedure, predicate));
             }
             Ok(predicate)

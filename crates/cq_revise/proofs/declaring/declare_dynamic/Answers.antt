@@ -1,13 +1,9 @@
-use Rattle.std.proofs.Common.{◌≡◌, ◌++◌, [], ◌∷◌, List, take, sym, ap, subst, ◌∙◌}
+use Rattle.std.proofs.Common.{◌≡◌, ◌+◌, ◌++◌, [], ◌∷◌, List, suc, take, sym, ap, subst, ◌∙◌, arith}
 use Rattle.std.proofs.Math.Seq.{take-suc}
 use Rattle.cq_term.specs.declared.names.Pred.{Pred}
-use Rattle.cq_program.specs.Database.{Program}
 use Rattle.cq_revise.specs.Revised.{HasDeclared}
-use Rattle.cq_revise.proofs.Declared.{none_declared, one_more}
+use Rattle.cq_revise.proofs.Declared.{one_more}
 use Rattle.cq_revise.proofs.declaring.declare_dynamic.Goals as goal
-
-pub loop-predicate-init : goal.loop-predicate-init
-loop-predicate-init c = none_declared c.args.clauses.now
 
 pub loop-predicate-preserved : goal.loop-predicate-preserved
 loop-predicate-preserved c =
@@ -16,8 +12,9 @@ loop-predicate-preserved c =
     let pred = c.predicate-item.result in
     let mid = c.loop-predicate.clauses in
     let new = c.declare_dynamic.new.self in
+    let more : i + 1 ≡ suc i = omega arith in
     let next : take (i + 1) preds ≡ take i preds ++ pred ∷ [] =
-    take-suc preds i pred c.loop-predicate-test.true ∙ ap (λ (p : Pred). take i preds ++ p ∷ []) (sym c.predicate-item.is) in
+    ap (λ k. take k preds) more ∙ take-suc preds i pred c.loop-predicate-test.true ∙ ap (λ (p : Pred). take i preds ++ p ∷ []) (sym c.predicate-item.is) in
     subst (λ (ps : List Pred). HasDeclared ps c.args.clauses.now new) (sym next)
     (one_more c.args.clauses.now mid new (take i preds) pred c.in_ok-declare_dynamic.ensures.declared
     (c.walks_outlast_changes.ensures.declared pred mid new c.in_ok-declare_dynamic.ensures.declared c.declare_dynamic.ensures.reading)
