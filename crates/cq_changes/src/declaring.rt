@@ -38,7 +38,8 @@ pub fn declare_dynamic(
     ensures err { OnErr result (HasDeclaredSome m.old m.new) }
 {
     let declared = m.world.first.heap.arg(goal, 0);
-    match check_declared(&m.world.first.heap, &m.atoms, declared) {
+    let world = &m.world;
+    match check_declared(&world.first.heap, &m.atoms, declared) {
         Ok(predicates) => {
             declare_all(m, &predicates)?;
             Ok(Step::Goes(rest))

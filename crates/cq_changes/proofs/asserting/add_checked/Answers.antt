@@ -6,13 +6,12 @@ use Rattle.spec_operators.specs.Operators.{Ops}
 use Rattle.spec_search.specs.Database.{Database, Dynamic, clause_added}
 use Rattle.spec_machine.specs.Cells.{Value, Stack}
 use Rattle.spec_machine.specs.Standing.{engine, IsStanding}
-use Rattle.cq_attr.proofs.Elements.{on_err}
 use Rattle.cq_clauses.specs.declared.procedures.Kind.TheVariants as kind
 use Rattle.cq_control.specs.Open.{AreMarked}
 use Rattle.cq_linear.specs.StoreValue.{kept}
 use Rattle.cq_program.specs.Database.{Program, as_database, as_end}
 use Rattle.cq_steps.specs.Choices.{AreOpen}
-use Rattle.cq_steps.specs.Worlds.{IsBranch, term_in, stack}
+use Rattle.cq_steps.specs.Worlds.{IsBranch, term_in, stack, with_heap}
 use Rattle.cq_term.specs.HeapValue.{Terms}
 use Rattle.cq_world.specs.Contents.{Contents, contents_of}
 use Rattle.cq_write.specs.Meaning.{operators}
@@ -20,7 +19,7 @@ use Rattle.cq_machine.specs.Machines.{terms, now, saved}
 use Rattle.cq_machine.proofs.Built.{lists_same}
 use Rattle.cq_machine.proofs.Interned.{texts_kept, names_kept}
 use Rattle.cq_offer.specs.Offers.{held_by}
-use Rattle.cq_offer.proofs.Machines.{over_sound, named_there}
+use Rattle.cq_offer.proofs.Machines.{over_sound, named_there, on_err}
 use Rattle.cq_revise.specs.Revised.{head_body_of, place, AddsStored}
 use Rattle.cq_changes.proofs.Stored.{still_program, on_ok}
 use Rattle.cq_changes.proofs.asserting.add_checked.Goals as goal
@@ -74,12 +73,13 @@ returns-clause-stands c = λ db n current s j.
     c.names_are_of_terms.ensures.now db n current s j in
     let grown = c.more_may_be_built.ensures.terms more (now m).0 d.new.heap.now d.ensures.grows.terms d.ensures.grows.images (d.ensures.grows.names sound.names)
     (now m).1 (now m).1 (lists_same (now m).1) in
-    let built = c.more_may_be_built.ensures.stands more db n (stack more m.clauses (saved m) m.choices) _ _ grown current s named in
+    let after : Value Contents = (with_heap d.new.heap.now (now m).0, (now m).1) in
+    let built = c.more_may_be_built.ensures.stands more db n (stack more m.clauses (saved m) m.choices) (now m) after grown current s named in
     let marks = ap (λ (hs : List Terms). zip (map contents_of (zip hs (zip m.world.first.attrs.saved (map (kept m.world.first.store.pivots) m.world.first.store.saved)))) m.world.second.saved)
     d.ensures.grows.saved in
     let same = c.choices_outlast_changes.ensures.same m.clauses d.new.clauses d.ensures.showing more (saved m) m.choices sound.untried in
-    subst (λ (l : List (Value Contents)). IsStanding (IsBranch more) (term_in more) (engine db n (stack more d.new.clauses l m.choices) _ current) s) (sym marks)
-    (subst (λ (x : Stack Contents). IsStanding (IsBranch more) (term_in more) (engine db n x _ current) s) (sym same) built)
+    subst (λ (l : List (Value Contents)). IsStanding (IsBranch more) (term_in more) (engine db n (stack more d.new.clauses l m.choices) after current) s) (sym marks)
+    (subst (λ (x : Stack Contents). IsStanding (IsBranch more) (term_in more) (engine db n x after current) s) (sym same) built)
 
 pub returns-clause-sound : goal.returns-clause-sound
 returns-clause-sound c =

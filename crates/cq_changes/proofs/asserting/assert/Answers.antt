@@ -9,6 +9,7 @@ use Rattle.cq_machine.specs.Machines.{terms, now, database_of}
 use Rattle.cq_machine.proofs.Kept.{argument_is}
 use Rattle.cq_revise.specs.Revised.{head_body_of, place}
 use Rattle.cq_changes.proofs.Behind.{goes_on_behind}
+use Rattle.cq_changes.proofs.Stored.{all_kept}
 use Rattle.cq_changes.proofs.Changed.{assert_adds, assert_raises}
 use Rattle.cq_changes.proofs.asserting.assert.Goals as goal
 
@@ -34,3 +35,9 @@ returns-in-Error-clause-row c = λ height p behind g s.
     let a = argument_is m.atoms (now m).0 p.state c.args.goal 0 c.arg-clause.result g s.reads c.arg-clause.ensures.live c.arg-clause.ensures.arg in
     ap (assert_row p e) (sym a)
     ∙ assert_raises p (database_of m) s.database t e (error_tree m.atoms (terms m) c.in-Error.error) ((rw c.in-Error.is at c.in-Err.ensures.fault) (operators m.atoms m.ops))
+
+pub returns-in-Error-clause-keeps : goal.returns-in-Error-clause-keeps
+returns-in-Error-clause-keeps c = all_kept c.args.m.now
+
+pub returns-in-NoMemory-clause-keeps : goal.returns-in-NoMemory-clause-keeps
+returns-in-NoMemory-clause-keeps c = all_kept c.args.m.now

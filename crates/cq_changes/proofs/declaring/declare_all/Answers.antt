@@ -2,7 +2,6 @@ use Rattle.std.proofs.Common.{◌≡◌, ◌<◌, List, length, map, refl, sym, 
 use Rattle.spec_lists.proofs.Prefixes.{prefix_same}
 use Rattle.spec_machine.specs.Cells.{Stack}
 use Rattle.spec_machine.specs.Standing.{engine, IsStanding}
-use Rattle.cq_attr.proofs.Elements.{on_err}
 use Rattle.cq_built.specs.Errors.{indicator_of}
 use Rattle.cq_program.specs.Database.{Program}
 use Rattle.cq_revise.specs.Revised.{HasDeclared, HasDeclaredFirst}
@@ -11,6 +10,7 @@ use Rattle.cq_term.specs.declared.names.Pred.{Pred}
 use Rattle.cq_world.specs.Contents.{Contents}
 use Rattle.cq_write.specs.Meaning.{operators}
 use Rattle.cq_machine.specs.Machines.{now, saved}
+use Rattle.cq_offer.proofs.Machines.{on_err}
 use Rattle.cq_changes.proofs.Stored.{on_ok}
 use Rattle.cq_changes.proofs.Dynamic.{declared_anyway, first_known}
 use Rattle.cq_changes.proofs.declaring.declare_all.Goals as goal

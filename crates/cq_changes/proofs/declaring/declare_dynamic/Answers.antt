@@ -7,6 +7,7 @@ use Rattle.cq_term.specs.Trees.{tree}
 use Rattle.cq_machine.specs.Machines.{terms, now, database_of}
 use Rattle.cq_machine.proofs.Kept.{argument_is}
 use Rattle.cq_changes.proofs.Behind.{goes_on_behind}
+use Rattle.cq_changes.proofs.Stored.{all_kept}
 use Rattle.cq_changes.proofs.Changed.{dynamic_declares, dynamic_raises}
 use Rattle.cq_changes.proofs.declaring.declare_dynamic.Goals as goal
 
@@ -30,3 +31,9 @@ returns-in-Error-clause-row c = λ height p behind g s.
     let t : Tree = tree m.atoms (terms m) c.arg-declared.result in
     let a = argument_is m.atoms (now m).0 p.state c.args.goal 0 c.arg-declared.result g s.reads c.arg-declared.ensures.live c.arg-declared.ensures.arg in
     ap (dynamic_row p) (sym a) ∙ dynamic_raises p (database_of m) s.database t (error_tree m.atoms (terms m) c.in-Error.error) (rw c.in-Error.is at c.in-Err.ensures.fault)
+
+pub returns-in-Error-clause-keeps : goal.returns-in-Error-clause-keeps
+returns-in-Error-clause-keeps c = all_kept c.args.m.now
+
+pub returns-in-NoMemory-clause-keeps : goal.returns-in-NoMemory-clause-keeps
+returns-in-NoMemory-clause-keeps c = all_kept c.args.m.now
