@@ -1,9 +1,8 @@
-use Rattle.std.proofs.Common.{◌≡◌, ◌<◌, List, length, map, refl, sym, subst}
+use Rattle.std.proofs.Common.{◌<◌, length, map, take, refl, sym, subst}
 use Rattle.spec_lists.proofs.Prefixes.{prefix_same}
 use Rattle.spec_machine.specs.Cells.{Stack}
 use Rattle.spec_machine.specs.Standing.{engine, IsStanding}
-use Rattle.cq_built.specs.Errors.{indicator_of}
-use Rattle.cq_program.specs.Database.{Program}
+use Rattle.cq_program.specs.Database.{as_indicator}
 use Rattle.cq_revise.specs.Revised.{HasDeclared, HasDeclaredFirst}
 use Rattle.cq_steps.specs.Worlds.{IsBranch, term_in}
 use Rattle.cq_term.specs.declared.names.Pred.{Pred}
@@ -29,7 +28,7 @@ returns-clause-err c =
     let d = c.declare_dynamic in
     on_err d.result
     (λ (h : HasDeclaredFirst c.args.predicates.now m.clauses d.new.clauses).
-    (_, h.1.database m.atoms (operators m.atoms m.ops) c.requires.sound.different c.requires.sound.program
+    (map (as_indicator m.atoms) (take h.0 c.args.predicates.now), h.1.database m.atoms (operators m.atoms m.ops) c.requires.sound.different c.requires.sound.program
     (first_known (λ (p : Pred). p.name < length m.atoms) h.0 c.args.predicates.now c.requires.known)))
     d.ensures.err
 
