@@ -23,7 +23,7 @@ use Rattle.cq_goals.specs.declared.checks.Part.TheVariants as part
 use Rattle.cq_goals.specs.declared.checks.Role.TheVariants as role
 use Rattle.cq_goals.specs.Checking.{error_for, part_error, part_id, IsLivePart, waiting_error, waiting_size, GoesOn, IsUnderWay, IsRole}
 use Rattle.cq_goals.proofs.Errors.{or_error-assoc, or_error-none}
-use Rattle.cq_goals.proofs.Heads.{error_of_conjunction, error_of_disjunction, error_of_relation, error_of_other}
+use Rattle.cq_goals.proofs.Heads.{error_of_conjunction, error_of_disjunction, error_of_relation}
 
 module _ (p : Purpose) (texts : List Text) (ts : List HeapTerm) where
   pub waits_last : (ws : List Part) (w : Part) → waiting_error p texts ts (ws ++ w ∷ []) ≡ or_error (part_error p texts ts w) (waiting_error p texts ts ws)

@@ -63,9 +63,6 @@ module _ (f : Text) (a b : Tree) where
   pub error_of_relation : (p : Purpose) → is_disjunction f ≡ false → is_conjunction f ≡ false → is_some (relation_name f) ≡ true → error_for p (binary f a b) ≡ or_error (expression_error a) (expression_error b)
   error_of_relation p d c r = unjoined p d c ∙ ap (λ x. if x then or_error (expression_error a) (expression_error b) else Some (type_error "constraint" (binary f a b))) r
 
-  pub error_of_other : (p : Purpose) → is_disjunction f ≡ false → is_conjunction f ≡ false → is_some (relation_name f) ≡ false → error_for p (binary f a b) ≡ Some (type_error "constraint" (binary f a b))
-  error_of_other p d c r = unjoined p d c ∙ ap (λ x. if x then or_error (expression_error a) (expression_error b) else Some (type_error "constraint" (binary f a b))) r
-
 -- ---- terms without two sides
 module _ (g : ℕ → Text) where
   pub unbound_constraint : (p : Purpose) (t : HeapTerm) (v : _) → view_of t ≡ view.Var v → error_for p (named g t) ≡ Some instantiation

@@ -30,9 +30,5 @@ pub is_not : (b : Bool) → true ≡ not b → false ≡ b
 is_not true e = sym e
 is_not false e = refl
 
-pub is_so : (b : Bool) → false ≡ not b → true ≡ b
-is_so true e = refl
-is_so false e = sym e
-
 abbrev pub with_names : ℕ → List VariableName → Variables
 with_names count names = record { names = names; count = count }

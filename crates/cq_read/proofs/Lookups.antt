@@ -7,15 +7,12 @@ use Rattle.spec_syntax.specs.TextTokens.{VariableName, Variables, number_of, kno
 use Rattle.cq_term.specs.Meaning.{HeapTerm}
 use Rattle.cq_term.specs.Shown.{IsUnbound}
 use Rattle.cq_names.specs.Names.{names_of}
-use Rattle.cq_names.proofs.Lookups.{inserts, is_not, is_so, with_names}
+use Rattle.cq_names.proofs.Lookups.{inserts, is_not, with_names}
 use Rattle.cq_read.specs.Names.{variables, AreUnbound}
 
 -- a name that is not bare is known by the names
 pub known_named : (vs : Variables) (name : List ℕ) → false ≡ bytes_eq name (codes "_") → known vs name ≡ number_of vs.names name
 known_named vs name e = ap (λ b. if b then None else number_of vs.names name) (sym e)
-
-pub known_bare : (vs : Variables) (name : List ℕ) → true ≡ bytes_eq name (codes "_") → known vs name ≡ None
-known_bare vs name e = ap (λ b. if b then None else number_of vs.names name) (sym e)
 
 -- what the variables are with a new one
 new_variable : (vs : Variables) (name : List ℕ) → known vs name ≡ None → with_variable vs name ≡ record { names = with_name vs name; count = suc vs.count }

@@ -1,5 +1,6 @@
 -- Built-in predicates as the definitions name them.
 use Rattle.spec_search.specs.Builtins as definition
+use Rattle.spec_search.specs.Database.{First, Last}
 use Rattle.spec_predicates.specs.Predicates.{Predicate}
 use Rattle.spec_predicates.specs.Predicates as predicate
 use Rattle.cq_builtin.specs.Rows.{comparison_of}
@@ -37,6 +38,9 @@ as_builtin builtin.NotUnify = definition.NotUnify
 as_builtin (builtin.Predicate p) = built_in (as_predicate p)
 as_builtin builtin.Is = definition.Is
 as_builtin (builtin.Compare c) = definition.Compare (comparison_of c)
+as_builtin builtin.Asserta = definition.Assert First
+as_builtin builtin.Assertz = definition.Assert Last
+as_builtin builtin.Dynamic = definition.DynamicGoal
 as_builtin builtin.Discontiguous = definition.Discontiguous
 as_builtin builtin.Initialization = definition.Initialization
 as_builtin builtin.UseModule = definition.UseModule
@@ -45,3 +49,8 @@ as_builtin (builtin.Write s) = definition.Write s
 as_builtin builtin.Newline = definition.Newline
 as_builtin builtin.Curly = definition.Curly
 as_builtin builtin.Freeze = definition.Freeze
+as_builtin builtin.Entailed = definition.Entailed
+as_builtin builtin.Sup = definition.Extent definition.Greatest
+as_builtin builtin.Inf = definition.Extent definition.Least
+as_builtin builtin.Maximize = definition.Optimum definition.Greatest
+as_builtin builtin.Minimize = definition.Optimum definition.Least

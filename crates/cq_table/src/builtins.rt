@@ -31,6 +31,9 @@ pub enum Builtin {
     Predicate(Predicate),
     Is,
     Compare(Comparison),
+    Asserta,
+    Assertz,
+    Dynamic,
     Discontiguous,
     Initialization,
     UseModule,
@@ -39,6 +42,11 @@ pub enum Builtin {
     Newline,
     Curly,
     Freeze,
+    Entailed,
+    Sup,
+    Inf,
+    Maximize,
+    Minimize,
 }
 
 /// A built-in predicate and its name.
@@ -125,12 +133,18 @@ fn of_one() -> &'static [Row]
             "is_list",
             Builtin::Predicate(Predicate::Test(TypeTest::List)),
         ),
+        ("asserta", Builtin::Asserta),
+        ("assertz", Builtin::Assertz),
+        ("dynamic", Builtin::Dynamic),
         ("discontiguous", Builtin::Discontiguous),
         ("initialization", Builtin::Initialization),
         ("use_module", Builtin::UseModule),
         ("write", Builtin::Write(Style::Plain)),
         ("writeq", Builtin::Write(Style::Quoted)),
         ("{}", Builtin::Curly),
+        ("entailed", Builtin::Entailed),
+        ("maximize", Builtin::Maximize),
+        ("minimize", Builtin::Minimize),
     ]
 }
 
@@ -193,6 +207,8 @@ fn of_two() -> &'static [Row]
             Builtin::Predicate(Predicate::Convert(Conversion::NumberCodes)),
         ),
         ("freeze", Builtin::Freeze),
+        ("sup", Builtin::Sup),
+        ("inf", Builtin::Inf),
     ]
 }
 
