@@ -1,0 +1,5 @@
+mod Bound
+mod Binding
+mod Listed
+mod Moments
+mod Answered

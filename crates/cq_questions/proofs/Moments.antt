@@ -1,0 +1,187 @@
+-- The moments of questions.
+use Rattle.std.proofs.Common.{◌≡◌, ℕ, List, [], ◌∷◌, ◌++◌, Option, refl, sym, ◌∙◌, subst, inl, inr, ◌⊎◌}
+use Rattle.std.specs.Prelude.{flat_map}
+use Rattle.std.specs.List.{AllByRecursion}
+use Rattle.spec_rational.specs.Rational.{ℚ}
+use Rattle.spec_linear.specs.Form.{Linear}
+use Rattle.spec_linear.specs.Solution.{Constraint, Has, Fixes}
+use Rattle.spec_inequalities.specs.Weak.{at_least_zero}
+use Rattle.spec_limits.specs.Asked.{IsAsked, of_member, of_joining, of_question, of_variable, negated, IsInForce, alone, while_joining, while_asked, while_asked_unequal, NoQuestion}
+use Rattle.spec_limits.specs.Later.{HasAll, in_place_of}
+use Rattle.spec_limits.specs.Overflow.{Operands, Moment, settling}
+use Rattle.spec_limits.proofs.Later.{overflow_stays, chain_stays}
+use Rattle.spec_syntax.specs.Trees.{Tree}
+use Rattle.spec_told.specs.Relations.{Is, lin, lin_expression}
+use Rattle.spec_branch.specs.Branch.{State, Branch}
+use Rattle.spec_search.specs.Replies.{IfEntailed}
+use Rattle.spec_stops.specs.Operands.{relation_operands, expression_operands}
+use Rattle.spec_stops.specs.Questions.{JoinsNothing, AsksAbout, AsksExtent, member, IsQuestionMoment}
+use Rattle.cq_cexpr.specs.Overflows.{ComesFrom}
+use Rattle.cq_frac.specs.declared.Pair.{Pair}
+use Rattle.cq_linear.specs.StoreValue.{IsCallList, in_force, joined, IsCallMoment, MayRefuse, MayTake, Only}
+use Rattle.cq_linear.specs.declared.store.StoreFault.{StoreFault}
+use Rattle.cq_linear.specs.declared.store.StoreFault.TheVariants as store
+use Rattle.cq_questions.specs.Stops.{RefusesIn, TakesIn, IsDueIn, AsksMembers, IsAtLeastZero, AsksReach}
+
+-- ---- what one constraint is asked for, others are
+
+module _ (l : List Constraint) (P Q : Constraint → Type 0) (more : (c : Constraint) → P c → Q c) where
+  asked_more : {f : Linear} → IsAsked l NoQuestion P f → IsAsked l JoinsNothing Q f
+  asked_more (of_member c h) = of_member c h
+  asked_more (of_joining c h) = absurd h
+  asked_more (of_question c h) = of_question c (more c h)
+  asked_more (of_variable x) = of_variable x
+  asked_more (negated f h) = negated f (asked_more h)
+
+  in_force_more : {m : List Constraint} → IsInForce l NoQuestion P m → IsInForce l JoinsNothing Q m
+  in_force_more alone = alone
+  in_force_more (while_joining f g h e) = absurd h
+  in_force_more (while_asked c h) = while_asked c (more c h)
+  in_force_more (while_asked_unequal f g h e) = while_asked_unequal f g (more _ h) e
+
+  list_more : {m : List Constraint} → IsCallList l NoQuestion P m → IsInForce l JoinsNothing Q m
+  list_more (in_force h) = in_force_more h
+  list_more (joined c h) = absurd h
+
+  all_more : (fs : List Linear) → AllByRecursion (IsAsked l NoQuestion P) fs → AllByRecursion (IsAsked l JoinsNothing Q) fs
+  all_more [] h = tt
+  all_more (f ∷ fs) h = (asked_more h.0, all_more fs h.1)
+
+-- ---- a call's moment, with the operations of terms
+
+nothing_among : {A : Type 0} (xs ys : List A) → xs ≡ [] → (x : A) → Has x xs → Has x ys
+nothing_among [] ys e x h = absurd h
+nothing_among (y ∷ xs) ys e x h = cc
+
+has_all : (l : List Constraint) (P : Constraint → Type 0) (m : Moment) (operations : List Operands) → IsCallMoment l NoQuestion P m → HasAll m settling operations []
+has_all l P m operations k = record {
+  answers = λ e. sym k.stage ∙ e;
+  each_operation = nothing_among m.operations operations k.operations;
+  each_row = nothing_among m.rows [] k.rows;
+}
+
+-- ---- members
+
+in_left : {A : Type 0} (x : A) (xs ys : List A) → Has x xs → Has x (xs ++ ys)
+in_left x [] ys h = absurd h
+in_left x (z ∷ zs) ys (inl e) = inl e
+in_left x (z ∷ zs) ys (inr h) = inr (in_left x zs ys h)
+
+in_right : {A : Type 0} (x : A) (xs ys : List A) → Has x ys → Has x (xs ++ ys)
+in_right x [] ys h = h
+in_right x (z ∷ zs) ys h = inr (in_right x zs ys h)
+
+in_pieces : (f : Tree → List Operands) (ts : List Tree) (t : Tree) → Has t ts → (o : Operands) → Has o (f t) → Has o (flat_map f ts)
+in_pieces f [] t h o i = absurd h
+in_pieces f (x ∷ ts) t (inl e) o i = in_left o (f x) (flat_map f ts) (subst (λ (y : Tree). Has o (f y)) e i)
+in_pieces f (x ∷ ts) t (inr h) o i = in_right o (f x) (flat_map f ts) (in_pieces f ts t h o i)
+
+module _ (l : List Constraint) (fixed : ℕ → Option ℚ) (fixes : Fixes l fixed) (st : State) (same : st.linear ≡ l) (ts : List Tree) where
+  fixes_there : Fixes st.linear fixed
+  fixes_there = subst (λ (k : List Constraint). Fixes k fixed) (sym same) fixes
+
+  abbrev operations : List Operands
+  operations = flat_map (relation_operands fixed) ts
+
+  abbrev of_terms : Moment
+  of_terms = record { stage = settling; list = st.linear; asked = []; operations = operations; rows = [] }
+
+  -- an operation of a member refuses the pair
+  pub member_refuses : (t : Tree) → Has t ts → (pair : Pair) → ComesFrom (relation_operands fixed t) pair → RefusesIn (AsksMembers st ts) pair
+  member_refuses t h pair r = record {
+    moment = of_terms;
+    is = λ b. record { stage = refl; fixed = fixed; fixes = fixes_there; in_force = alone; asked = tt; operations = refl; rows = refl };
+    due = r of_terms (in_pieces (relation_operands fixed) ts t h);
+  }
+
+  module _ (t : Tree) (h : Has t ts) (c : Constraint) (e : lin fixed t ≡ Is c) where
+    asks : (b : Branch) (d : Constraint) → Only c d → AsksAbout fixed (IfEntailed ts b) d
+    asks b d k = subst (AsksAbout fixed (IfEntailed ts b)) (sym k) (member t h e)
+
+    all_asked : (b : Branch) (m : List Constraint) (fs : List Linear) → AllByRecursion (IsAsked m NoQuestion (Only c)) fs → AllByRecursion (λ f. IsAsked m JoinsNothing (AsksAbout fixed (IfEntailed ts b)) f ⊎ AsksExtent fixed (IfEntailed ts b) f) fs
+    all_asked b m [] a = tt
+    all_asked b m (f ∷ fs) a = (inl (asked_more m (Only c) (AsksAbout fixed (IfEntailed ts b)) (asks b) a.0), all_asked b m fs a.1)
+
+    is_moment : (m : Moment) → IsCallMoment l NoQuestion (Only c) m → AsksMembers st ts (in_place_of m settling operations [])
+    is_moment m k = λ b. record {
+      stage = refl;
+      fixed = fixed;
+      fixes = fixes_there;
+      in_force = subst (λ (j : List Constraint). IsInForce j JoinsNothing (AsksAbout fixed (IfEntailed ts b)) m.list) (sym same)
+          (list_more l (Only c) (AsksAbout fixed (IfEntailed ts b)) (asks b) k.list);
+      asked = all_asked b m.list m.asked k.asked;
+      operations = refl;
+      rows = refl;
+    }
+
+    -- so does an operation while a member is asked about
+    question_refuses : (pair : Pair) → MayRefuse l NoQuestion (Only c) pair → RefusesIn (AsksMembers st ts) pair
+    question_refuses pair r = record {
+      moment = in_place_of r.moment settling operations [];
+      is = is_moment r.moment r.of_call;
+      due = overflow_stays r.moment settling operations [] (has_all l (Only c) r.moment operations r.of_call) pair r.due;
+    }
+
+    question_takes : (n : ℕ) → MayTake l NoQuestion (Only c) n → TakesIn (AsksMembers st ts) n
+    question_takes n r = record {
+      moment = in_place_of r.moment settling operations [];
+      is = is_moment r.moment r.of_call;
+      chain = chain_stays r.moment settling operations [] n r.chain;
+    }
+
+  pub question_due : (pivots : ℕ) (f : StoreFault)
+      → ((pair : Pair) → f ≡ store.Overflow pair → (t : Tree) × (c : Constraint) × Has t ts × (lin fixed t ≡ Is c) × MayRefuse l NoQuestion (Only c) pair)
+      → ((n : ℕ) → f ≡ store.Pivots n → (n ≡ pivots) × ((t : Tree) × (c : Constraint) × Has t ts × (lin fixed t ≡ Is c) × MayTake l NoQuestion (Only c) n))
+      → IsDueIn (AsksMembers st ts) pivots f
+  question_due pivots (store.Overflow pair) refuses takes = (let r = refuses pair refl in question_refuses r.0 r.2 r.1 r.3 pair r.4)
+  question_due pivots (store.Pivots n) refuses takes = (let r = takes n refl in (r.0, question_takes r.1.0 r.1.2 r.1.1 r.1.3 n r.1.4))
+  question_due pivots store.NoMemory refuses takes = tt
+
+-- ---- extents
+
+module _ (l : List Constraint) (fixed : ℕ → Option ℚ) (fixes : Fixes l fixed) (st : State) (same : st.linear ≡ l) (e : Tree) where
+  fixes_here : Fixes st.linear fixed
+  fixes_here = subst (λ (k : List Constraint). Fixes k fixed) (sym same) fixes
+
+  abbrev of_expression : Moment
+  of_expression = record { stage = settling; list = st.linear; asked = []; operations = expression_operands fixed e; rows = [] }
+
+  pub expression_refuses : (pair : Pair) → ComesFrom (expression_operands fixed e) pair → RefusesIn (AsksReach st e) pair
+  expression_refuses pair r = record {
+    moment = of_expression;
+    is = record { stage = refl; fixed = fixed; fixes = fixes_here; in_force = alone; asked = tt; operations = refl; rows = refl };
+    due = r of_expression (λ o h. h);
+  }
+
+  module _ (form : Linear) (is : lin_expression fixed e ≡ Is form) where
+    about : (d : Constraint) → Only (at_least_zero form) d → IsAtLeastZero fixed e d
+    about d k = (form, is, k)
+
+    is_reach : (m : Moment) → IsCallMoment l NoQuestion (Only (at_least_zero form)) m → AsksReach st e (in_place_of m settling (expression_operands fixed e) [])
+    is_reach m k = record {
+      stage = refl;
+      fixed = fixed;
+      fixes = fixes_here;
+      in_force = subst (λ (j : List Constraint). IsInForce j JoinsNothing (IsAtLeastZero fixed e) m.list) (sym same)
+          (list_more l (Only (at_least_zero form)) (IsAtLeastZero fixed e) about k.list);
+      asked = all_more m.list (Only (at_least_zero form)) (IsAtLeastZero fixed e) about m.asked k.asked;
+      operations = refl;
+      rows = refl;
+    }
+
+    pub reach_due : (pivots : ℕ) (f : StoreFault) → ((pair : Pair) → f ≡ store.Overflow pair → MayRefuse l NoQuestion (Only (at_least_zero form)) pair)
+        → ((n : ℕ) → f ≡ store.Pivots n → (n ≡ pivots) × MayTake l NoQuestion (Only (at_least_zero form)) n) → IsDueIn (AsksReach st e) pivots f
+    reach_due pivots (store.Overflow pair) refuses takes =
+        let r = refuses pair refl in
+        record {
+          moment = in_place_of r.moment settling (expression_operands fixed e) [];
+          is = is_reach r.moment r.of_call;
+          due = overflow_stays r.moment settling (expression_operands fixed e) [] (has_all l (Only (at_least_zero form)) r.moment (expression_operands fixed e) r.of_call) pair r.due;
+        }
+    reach_due pivots (store.Pivots n) refuses takes =
+        let t = takes n refl in
+        let r = t.1 in (
+          t.0,
+          record { moment = in_place_of r.moment settling (expression_operands fixed e) []; is = is_reach r.moment r.of_call; chain = chain_stays r.moment settling (expression_operands fixed e) [] n r.chain },
+        )
+    reach_due pivots store.NoMemory refuses takes = tt

@@ -1,0 +1,4 @@
+pub mod Values
+pub mod Members
+pub mod Extents
+pub mod Stops

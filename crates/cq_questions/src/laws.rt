@@ -1,0 +1,53 @@
+// What answers to questions, and their stops, are in a search.
+
+ghost use Rattle.std.specs.Prelude.{◌≡◌, [], ◌∷◌, ℕ, List, None};
+ghost use Rattle.spec_rational.specs.Rational.{ℚ};
+ghost use Rattle.spec_built.specs.Errors.{type_error};
+ghost use Rattle.spec_syntax.specs.Trees.{Tree};
+ghost use Rattle.spec_told.specs.Relations.{Waits, False, lin_expression};
+ghost use Rattle.spec_branch.specs.Branch.{State, Item, Branch, read};
+ghost use Rattle.spec_search.specs.Builtins.{Side};
+ghost use Rattle.spec_search.specs.Replies.{Place, IfEntailed, WithExtent};
+ghost use Rattle.spec_search.specs.Rows.{reply_of};
+ghost use Rattle.spec_search.specs.Search.{Search, look_at, Selecting};
+ghost use Rattle.spec_search.specs.Steps.{Steps, ball_of, children};
+ghost use Rattle.spec_search.specs.Turns.{place_of};
+ghost use Rattle.spec_stops.specs.Causes.{Budgets, Overflow, Pivots};
+ghost use Rattle.spec_stops.specs.Due.{Due};
+ghost use Rattle.cq_frac.specs.declared.Pair.{Pair};
+ghost use Rattle.cq_linear.specs.declared.store.Extent.TheVariants.{Value, Unbounded};
+ghost use Rattle.cq_questions.specs.Extents.{Reaches};
+ghost use Rattle.cq_questions.specs.Members.{AreEntailed, IsOneBroken, IsFirstWaiting};
+ghost use Rattle.cq_questions.specs.Stops.{AsksMembers, RefusesIn, TakesIn};
+ghost use Rattle.cq_questions.specs.Values.{WithValues};
+
+/// The step of a goal whose reply is a question, by the answer: its child, no child, or its ball.
+pub fn answers_are_steps()
+    ensures entailed { (p : Place) (goal : Tree) (ms : List Tree) (b : Branch) → reply_of p goal ≡ IfEntailed ms b
+        → WithValues p.state.linear (λ fixed. AreEntailed p.state.linear fixed ms) → Steps p goal (children p (b ∷ [])) }
+    ensures broken { (p : Place) (goal : Tree) (ms : List Tree) (b : Branch) → reply_of p goal ≡ IfEntailed ms b
+        → WithValues p.state.linear (λ fixed. IsOneBroken p.state.linear fixed ms) → Steps p goal (children p []) }
+    ensures not_linear { (p : Place) (goal : Tree) (ms : List Tree) (b : Branch) (m : Tree) → reply_of p goal ≡ IfEntailed ms b
+        → WithValues p.state.linear (λ fixed. IsFirstWaiting fixed ms m) → Steps p goal (ball_of goal (type_error "linear" m)) }
+    ensures extent { (p : Place) (goal : Tree) (side : Side) (e : Tree) (f : ℚ → Branch) (q : ℚ) → reply_of p goal ≡ WithExtent side e f
+        → WithValues p.state.linear (λ fixed. Reaches side p.state.linear fixed e (Value q)) → Steps p goal (children p (f q ∷ [])) }
+    ensures unbounded { (p : Place) (goal : Tree) (side : Side) (e : Tree) (f : ℚ → Branch) → reply_of p goal ≡ WithExtent side e f
+        → WithValues p.state.linear (λ fixed. Reaches side p.state.linear fixed e Unbounded) → Steps p goal (children p []) }
+    ensures falsehood { (p : Place) (goal : Tree) (side : Side) (e : Tree) (f : ℚ → Branch) → reply_of p goal ≡ WithExtent side e f
+        → WithValues p.state.linear (λ fixed. lin_expression fixed e ≡ False) → Steps p goal (children p []) }
+    ensures waits { (p : Place) (goal : Tree) (side : Side) (e : Tree) (f : ℚ → Branch) → reply_of p goal ≡ WithExtent side e f
+        → WithValues p.state.linear (λ fixed. lin_expression fixed e ≡ Waits) → Steps p goal (ball_of goal (type_error "linear" e)) }
+{}
+
+/// Where it is asked whether members are entailed, an operation that is due in a moment of the question and refuses its pair may
+/// stop the query, and so may exchanges past the budget.
+pub fn questions_stop()
+    ensures overflow { (budgets : Budgets) (s : Search) (goal : Tree) (cut : ℕ) (items : List Item) (st : State) (behind : List Branch)
+        (ms : List Tree) (b : Branch) (pair : Pair) → look_at s.branches ≡ Selecting goal cut items st behind
+        → reply_of (place_of s st items cut behind) (read st goal) ≡ IfEntailed ms b → RefusesIn (AsksMembers st ms) pair
+        → Due budgets None s (Overflow pair) }
+    ensures pivots { (budgets : Budgets) (s : Search) (goal : Tree) (cut : ℕ) (items : List Item) (st : State) (behind : List Branch)
+        (ms : List Tree) (b : Branch) → look_at s.branches ≡ Selecting goal cut items st behind
+        → reply_of (place_of s st items cut behind) (read st goal) ≡ IfEntailed ms b → TakesIn (AsksMembers st ms) budgets.pivots
+        → Due budgets None s (Pivots budgets.pivots) }
+{}

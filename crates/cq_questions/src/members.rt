@@ -1,0 +1,66 @@
+// The members of a constraint that is asked about, as linear constraints.
+
+ghost use Rattle.std.specs.Prelude.{◌≡◌, ◌<◌, ◌≤◌, ◌∷◌, [], ◌++◌, List, length, map, find, None, IfOk, OnOk, OnErr};
+ghost use Rattle.spec_linear.specs.Solution.{Has};
+ghost use Rattle.spec_syntax.specs.Trees.{Tree};
+ghost use Rattle.spec_told.specs.Relations.{lin};
+ghost use Rattle.spec_search.specs.Steps.{is_not_linear};
+ghost use Rattle.spec_stops.specs.Operands.{relation_operands};
+ghost use Rattle.cq_cexpr.specs.Overflows.{ComesFrom};
+ghost use Rattle.cq_frac.specs.declared.Pair.{Pair};
+ghost use Rattle.cq_sides.specs.Splitting.{AreLive};
+ghost use Rattle.cq_term.specs.Trees.{tree, trees, KnowsTerms};
+ghost use Rattle.cq_questions.specs.Members.{lin_of, IsFound};
+ghost use Rattle.cq_questions.specs.Values.{AtValues};
+
+use crate::terms::relation_now;
+use cq_atoms::Atoms;
+use cq_cexpr::Lin;
+use cq_form::Constraint;
+use cq_frac::Refusal;
+use cq_linear::store::Store;
+use cq_term::{Heap, TermId};
+
+/// A member that doesn't wait.
+#[derive(Debug, Drop)]
+pub(crate) enum Member {
+    Linear(Constraint),
+    /// A divisor in it is zero.
+    False,
+}
+
+/// What the members of a constraint are.
+#[derive(Debug, Drop)]
+pub(crate) enum Found {
+    /// None of them waits.
+    All(Vec<Member>),
+    /// The first one that waits.
+    Waits(TermId),
+}
+
+/// What the members are under the values that the told list fixes. The heap is as at the call.
+pub(crate) fn members_now(
+    heap: &mut Heap,
+    store: &Store,
+    atoms: &Atoms,
+    members: &[TermId],
+) -> Result<Found, Refusal>
+    requires live { AreLive heap.old.now.terms members.now }
+    requires names { KnowsTerms atoms.now heap.old.now.terms }
+    ensures found { IfOk result (λ r. AtValues store.now.told (λ fixed. IsFound atoms.now heap.old.now.terms fixed members.now r)) }
+    ensures overflow { (pair : Pair) → result ≡ Err (Refusal.Overflow pair) → AtValues store.now.told
+        (λ fixed. (m : Tree) × Has m (trees atoms.now heap.old.now.terms members.now) × ComesFrom (relation_operands fixed m) pair) }
+    ensures heap { heap.new.now ≡ heap.old.now }
+    ensures saved { heap.new.saved ≡ heap.old.saved }
+    ensures room { heap.old.room ≤ heap.new.room }
+{
+    let mut found = Vec::new(heap.alloc());
+    for &member in members {
+        match relation_now(heap, store, atoms, member)? {
+            Lin::Linear(constraint) => found.push(Member::Linear(constraint))?,
+            Lin::False => found.push(Member::False)?,
+            Lin::Waits(_) => return Ok(Found::Waits(member)),
+        }
+    }
+    Ok(Found::All(found))
+}
