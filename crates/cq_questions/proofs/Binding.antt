@@ -19,8 +19,8 @@ use Rattle.cq_term.specs.Names.{HasNamesBelow}
 use Rattle.cq_term.specs.Trees.{tree}
 use Rattle.cq_term.proofs.Known.{names_substituted}
 use Rattle.cq_term.proofs.Meanings.{at-append, at-map}
+use Rattle.cq_settle.specs.Underway.{valued}
 use Rattle.cq_questions.specs.Values.{IsValued, IsFree}
-use Rattle.cq_questions.proofs.Bound.{values}
 
 -- ---- one after another
 
@@ -53,7 +53,7 @@ single_left v u w q false e o = (o, e)
 
 -- a variable that is fixed is read as its value in any case
 single_read : (fixed : ℕ → Option ℚ) (texts : List Text) (v w : ℕ) (q : ℚ) → fixed v ≡ Some q → (b : Bool) → (v == w) ≡ b
-    → apply (values fixed) (named (text_of texts) (cond b (Number q) (Var w))) ≡ values fixed w
+    → apply (valued fixed) (named (text_of texts) (cond b (Number q) (Var w))) ≡ valued fixed w
 single_read fixed texts v w q f true e =
     ap (λ (o : Option ℚ). value_or_variable o w) (sym f ∙ ap fixed (nat_eq-same v w e))
 single_read fixed texts v w q f false e = refl
@@ -94,10 +94,10 @@ module _ (l : List Constraint) (old made new : Heap) (id v n : ℕ) (q : ℚ) (l
     images = ap length new_images ∙ length-map made.images (apply (single v (at made.terms n))) ∙ ap length made_images;
     same = λ texts fixed f.
         let g = text_of texts in
-        ap (λ (t : HeapTerm). apply (values fixed) (named g t)) term_is
-        ∙ ap (apply (values fixed)) (named-apply g (single v (Number q)) (at old.terms id))
-        ∙ sym (apply-followed_by (λ w. named g (single v (Number q) w)) (values fixed) (tree texts old.terms id))
-        ∙ apply_agree (followed_by (λ w. named g (single v (Number q) w)) (values fixed)) (values fixed) (tree texts old.terms id)
+        ap (λ (t : HeapTerm). apply (valued fixed) (named g t)) term_is
+        ∙ ap (apply (valued fixed)) (named-apply g (single v (Number q)) (at old.terms id))
+        ∙ sym (apply-followed_by (λ w. named g (single v (Number q) w)) (valued fixed) (tree texts old.terms id))
+        ∙ apply_agree (followed_by (λ w. named g (single v (Number q) w)) (valued fixed)) (valued fixed) (tree texts old.terms id)
         (λ w o. single_read fixed texts v w q (f.complete v q is_fixed) (v == w) refl);
     fewer = λ w o. (left w o).0;
   }
@@ -123,11 +123,11 @@ mutual
   all_named f v (more t ts) (inr o) = inr (all_named f v ts o)
 
 pub all_valued : (l : List Constraint) (old new : Heap) (id : ℕ) → IsValued l old new id → ((v : ℕ) → Contains (variables (at old.terms id)) v → IsFree l new id v)
-    → (texts : List Text) (fixed : ℕ → Option ℚ) → Fixes l fixed → tree texts new.terms id ≡ apply (values fixed) (tree texts old.terms id)
+    → (texts : List Text) (fixed : ℕ → Option ℚ) → Fixes l fixed → tree texts new.terms id ≡ apply (valued fixed) (tree texts old.terms id)
 all_valued l old new id x free texts fixed f =
     let u = tree texts new.terms id in
-    let same : apply (values fixed) u ≡ apply identity u =
-    apply_agree (values fixed) identity u (λ v o.
+    let same : apply (valued fixed) u ≡ apply identity u =
+    apply_agree (valued fixed) identity u (λ v o.
     let i = occurs_named (text_of texts) v (at new.terms id) o in
     ap (λ (p : Option ℚ). value_or_variable p v) (free v (occurs_listed (at old.terms id) v (x.fewer v i)) fixed f i)) in
     sym (same ∙ apply-identity u) ∙ x.same texts fixed f

@@ -4,7 +4,7 @@ use Rattle.spec_rational.specs.Rational.{ℚ}
 use Rattle.spec_linear.specs.Solution.{Constraint, Fixes}
 use Rattle.spec_lists.specs.Texts.{Text}
 use Rattle.spec_terms.specs.Term.{Occurs, apply}
-use Rattle.spec_branch.specs.Settling.{value_or_variable}
+use Rattle.cq_settle.specs.Underway.{valued}
 use Rattle.cq_term.specs.HeapValue.{Terms}
 use Rattle.cq_term.specs.Meaning.{at}
 use Rattle.cq_term.specs.Trees.{tree}
@@ -23,8 +23,8 @@ pub record WithValues (l : List Constraint) (P : (ℕ → Option ℚ) → Type 0
 pub record IsValued (l : List Constraint) (old new : Terms) (id : ℕ) : Type 0 where
   pub live : id < length new.terms
   pub images : length new.images ≡ length old.images
-  pub same : (texts : List Text) → AtValues l (λ fixed. apply (λ v. value_or_variable (fixed v) v) (tree texts new.terms id)
-      ≡ apply (λ v. value_or_variable (fixed v) v) (tree texts old.terms id))
+  pub same : (texts : List Text) → AtValues l (λ fixed. apply (valued fixed) (tree texts new.terms id)
+      ≡ apply (valued fixed) (tree texts old.terms id))
   pub fewer : (v : ℕ) → Occurs v (at new.terms id) → Occurs v (at old.terms id)
 
 -- the variable stands in the term only if the list doesn't fix it

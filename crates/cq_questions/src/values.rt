@@ -5,7 +5,7 @@ ghost use Rattle.spec_rational.specs.Rational.{ℚ};
 ghost use Rattle.spec_linear.specs.Solution.{Fixes};
 ghost use Rattle.spec_lists.specs.Texts.{Text};
 ghost use Rattle.spec_terms.specs.Term.{Var, Occurs, apply};
-ghost use Rattle.spec_branch.specs.Settling.{value_or_variable};
+ghost use Rattle.cq_settle.specs.Underway.{valued};
 ghost use Rattle.cq_term.specs.Meaning.{at};
 ghost use Rattle.cq_term.specs.Names.{HasNamesBelow};
 ghost use Rattle.cq_term.specs.Trees.{tree};
@@ -29,7 +29,7 @@ pub(crate) fn bind_values(heap: &mut Heap, store: &Store, term: TermId) -> Resul
     requires { term < length heap.old.now.terms }
     ensures live { OnOk result (term < length heap.new.now.terms) }
     ensures values { OnOk result ((texts : List Text) → AtValues store.now.told (λ fixed. tree texts heap.new.now.terms term
-        ≡ apply (λ v. value_or_variable (fixed v) v) (tree texts heap.old.now.terms term))) }
+        ≡ apply (valued fixed) (tree texts heap.old.now.terms term))) }
     ensures names { OnOk result ((n : ℕ) → HasNamesBelow n (at heap.old.now.terms term) → HasNamesBelow n (at heap.new.now.terms term)) }
     ensures saved { heap.new.saved ≡ heap.old.saved }
     ensures room { heap.old.room ≤ heap.new.room }

@@ -1,0 +1,13 @@
+//! The rows of goals that ask the linear constraints, by the arguments of the selected goal: whether constraints are entailed,
+//! how far an expression reaches, and what is told of that.
+#![tactic(auto)]
+
+mod entailment;
+mod extents;
+mod optima;
+mod telling;
+mod values;
+
+pub use entailment::entailed;
+pub use extents::extent;
+pub use optima::optimum;

@@ -1,0 +1,91 @@
+// The value of an expression at a side, as a goal asks for it.
+
+ghost use Rattle.std.specs.Prelude.{◌≡◌, ◌<◌, length, IfOk, IfErr};
+ghost use Rattle.spec_search.specs.Replies.{Place};
+ghost use Rattle.spec_syntax.specs.Trees.{Tree};
+ghost use Rattle.cq_questions.specs.Extents.{side_of, IsReach};
+ghost use Rattle.cq_questions.specs.Stops.{AtStates, AsksReach, IsDueIn};
+ghost use Rattle.cq_questions.specs.Values.{AtValues};
+ghost use Rattle.cq_steps.specs.Worlds.{IsBranch, ReadsAs};
+ghost use Rattle.cq_term.specs.Trees.{tree};
+ghost use Rattle.cq_machine.specs.Machines.{terms, now, IsSound};
+ghost use Rattle.cq_optima.specs.Asked.{IsValued, IsValueIn, HasCulpritOf, StopsReach};
+ghost use Rattle.cq_optima.specs.Machines.{IsUnchanged};
+
+use cq_built::{BuiltinError, BuiltinFault, Culprit, ValidType};
+use cq_frac::Frac;
+use cq_goals::check_expression;
+use cq_linear::store::{Extent, StoreFault};
+use cq_machine::Machine;
+use cq_questions::{Reach, Side, reach};
+use cq_term::TermId;
+
+/// What was found of an expression.
+#[derive(Clone, Copy, Debug)]
+pub(crate) enum Valued {
+    /// Its value at the side.
+    Value(Frac),
+    /// It has none there: it is unbounded, or a divisor in it is zero.
+    Nothing,
+    /// The goal that asks raises an error.
+    Raises(BuiltinError),
+}
+
+/// The error of a goal that asks about a term that waits for its variables.
+pub(crate) fn not_linear(term: TermId) -> BuiltinError
+    ensures { result ≡ BuiltinError.Type ValidType.Linear (Culprit.Term term) }
+{
+    BuiltinError::Type(ValidType::Linear, Culprit::Term(term))
+}
+
+/// The value of an expression at a side, which is checked first.
+pub(crate) fn value_at(
+    m: &mut Machine,
+    side: Side,
+    expression: TermId,
+) -> Result<Valued, StoreFault>
+    requires sound { IsSound m.old }
+    requires expression { expression < length (terms m.old) }
+    ensures valued { IfOk result (λ v. (p : Place) (e : Tree) → IsBranch m.old.atoms (now m.old).0 p.state
+        → ReadsAs m.old.atoms (now m.old).0 p.state expression e → IsValued m.old.atoms (terms m.old) (side_of side) p e v) }
+    ensures culprit { IfOk result (HasCulpritOf m.old.atoms (terms m.old)) }
+    ensures stop { IfErr result (λ f. (p : Place) (e : Tree) → IsBranch m.old.atoms (now m.old).0 p.state
+        → ReadsAs m.old.atoms (now m.old).0 p.state expression e → StopsReach m.old.world.first.store.pivots p e f) }
+    ensures unchanged { IsUnchanged m.old m.new }
+    ensures sound { IsSound m.new }
+{
+    match check_expression(&m.world.first.heap, &m.atoms, expression) {
+        Ok(()) => match ask_reach(m, side, expression) {
+            Ok(Reach::Linear(extent)) => Ok(value_in(extent)),
+            Ok(Reach::Waits) => Ok(Valued::Raises(not_linear(expression))),
+            Ok(Reach::False) => Ok(Valued::Nothing),
+            Err(fault) => Err(fault),
+        },
+        Err(BuiltinFault::Error(error)) => Ok(Valued::Raises(error)),
+        Err(BuiltinFault::NoMemory) => Err(StoreFault::NoMemory),
+    }
+}
+
+/// The value of an extent.
+fn value_in(extent: Extent) -> Valued
+    ensures { IsValueIn extent result }
+{
+    match extent {
+        Extent::Value(value) => Valued::Value(value),
+        Extent::Unbounded => Valued::Nothing,
+    }
+}
+
+/// How far an expression reaches in the machine's world.
+fn ask_reach(m: &mut Machine, side: Side, expression: TermId) -> Result<Reach, StoreFault>
+    requires sound { IsSound m.old }
+    requires expression { expression < length (terms m.old) }
+    ensures reach { IfOk result (λ r. AtValues m.old.world.first.store.told (λ fixed. IsReach (side_of side) m.old.world.first.store.told fixed
+        (tree m.old.atoms (terms m.old) expression) r)) }
+    ensures stop { IfErr result (λ f. AtStates m.old.world.first.store.told
+        (λ st. IsDueIn (AsksReach st (tree m.old.atoms (terms m.old) expression)) m.old.world.first.store.pivots f)) }
+    ensures unchanged { IsUnchanged m.old m.new }
+    ensures sound { IsSound m.new }
+{
+    reach(&mut m.world.first, &m.atoms, side, expression)
+}
