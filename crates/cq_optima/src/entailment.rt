@@ -47,13 +47,17 @@ pub fn entailed(m: &mut Machine, goal: TermId, rest: Continuation) -> Result<Ste
     let constraint = m.world.first.heap.arg(goal, 0);
     match check_question(&m.world.first.heap, &m.atoms, constraint) {
         Ok(members) => match ask_members(m, &members) {
-            Ok(Entailment::Entailed) => Ok(Step::succeed_if(true, rest)),
-            Ok(Entailment::Broken) => Ok(Step::succeed_if(false, rest)),
-            Ok(Entailment::Waits(member)) => Ok(Step::Raises(not_linear(member))),
+            Ok(answer) => match answer {
+                Entailment::Entailed => Ok(Step::succeed_if(true, rest)),
+                Entailment::Broken => Ok(Step::succeed_if(false, rest)),
+                Entailment::Waits(member) => Ok(Step::Raises(not_linear(member))),
+            },
             Err(fault) => Err(fault),
         },
-        Err(BuiltinFault::Error(error)) => Ok(Step::Raises(error)),
-        Err(BuiltinFault::NoMemory) => Err(StoreFault::NoMemory),
+        Err(fault) => match fault {
+            BuiltinFault::Error(error) => Ok(Step::Raises(error)),
+            BuiltinFault::NoMemory => Err(StoreFault::NoMemory),
+        },
     }
 }
 

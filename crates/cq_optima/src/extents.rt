@@ -49,12 +49,14 @@ pub fn extent(
     let expression = m.world.first.heap.arg(goal, 0);
     let result = m.world.first.heap.arg(goal, 1);
     match value_at(m, side, expression) {
-        Ok(Valued::Value(value)) => {
+        Ok(found) => match found {
+            Valued::Value(value) => {
             let number = build_number(m, value)?;
             make_equal(m, result, number, rest)
         }
-        Ok(Valued::Nothing) => Ok(Step::succeed_if(false, rest)),
-        Ok(Valued::Raises(error)) => Ok(Step::Raises(error)),
+            Valued::Nothing => Ok(Step::succeed_if(false, rest)),
+            Valued::Raises(error) => Ok(Step::Raises(error)),
+        },
         Err(fault) => Err(fault),
     }
 }

@@ -50,14 +50,16 @@ pub fn optimum(
 {
     let expression = m.world.first.heap.arg(goal, 0);
     match value_at(m, side, expression) {
-        Ok(Valued::Value(value)) => {
+        Ok(found) => match found {
+            Valued::Value(value) => {
             let number = build_number(m, value)?;
             let names = m.names;
             let relation = build(m, names.equal, &[expression, number])?;
             tell_one(m, relation, rest)
         }
-        Ok(Valued::Nothing) => Ok(Step::succeed_if(false, rest)),
-        Ok(Valued::Raises(error)) => Ok(Step::Raises(error)),
+            Valued::Nothing => Ok(Step::succeed_if(false, rest)),
+            Valued::Raises(error) => Ok(Step::Raises(error)),
+        },
         Err(fault) => Err(fault),
     }
 }

@@ -62,8 +62,10 @@ pub(crate) fn make_equal(
     }];
     let world = &mut m.world;
     match cq_begin::unify(&mut world.first, &mut world.second, &m.atoms, &pairs, rest) {
-        Ok(Begun::Goes(first)) => Ok(Step::Goes(first)),
-        Ok(Begun::Pruned) => Ok(Step::Back),
+        Ok(begun) => match begun {
+            Begun::Goes(first) => Ok(Step::Goes(first)),
+            Begun::Pruned => Ok(Step::Back),
+        },
         Err(fault) => Err(fault),
     }
 }
@@ -91,8 +93,10 @@ pub(crate) fn tell_one(
     let told = vec![in m.world.first.heap.alloc(); relation]?;
     let world = &mut m.world;
     match cq_begin::tell(&mut world.first, &mut world.second, &m.atoms, told, rest) {
-        Ok(Begun::Goes(first)) => Ok(Step::Goes(first)),
-        Ok(Begun::Pruned) => Ok(Step::Back),
+        Ok(begun) => match begun {
+            Begun::Goes(first) => Ok(Step::Goes(first)),
+            Begun::Pruned => Ok(Step::Back),
+        },
         Err(fault) => Err(fault),
     }
 }

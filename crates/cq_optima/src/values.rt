@@ -17,7 +17,7 @@ use cq_frac::Frac;
 use cq_goals::check_expression;
 use cq_linear::store::{Extent, StoreFault};
 use cq_machine::Machine;
-use cq_questions::{Reach, Side, reach};
+use cq_questions::{Reach, Side, reach_of};
 use cq_term::TermId;
 
 /// What was found of an expression.
@@ -56,13 +56,17 @@ pub(crate) fn value_at(
 {
     match check_expression(&m.world.first.heap, &m.atoms, expression) {
         Ok(()) => match ask_reach(m, side, expression) {
-            Ok(Reach::Linear(extent)) => Ok(value_in(extent)),
-            Ok(Reach::Waits) => Ok(Valued::Raises(not_linear(expression))),
-            Ok(Reach::False) => Ok(Valued::Nothing),
+            Ok(found) => match found {
+                Reach::Linear(extent) => Ok(value_in(extent)),
+                Reach::Waits => Ok(Valued::Raises(not_linear(expression))),
+                Reach::False => Ok(Valued::Nothing),
+            },
             Err(fault) => Err(fault),
         },
-        Err(BuiltinFault::Error(error)) => Ok(Valued::Raises(error)),
-        Err(BuiltinFault::NoMemory) => Err(StoreFault::NoMemory),
+        Err(fault) => match fault {
+            BuiltinFault::Error(error) => Ok(Valued::Raises(error)),
+            BuiltinFault::NoMemory => Err(StoreFault::NoMemory),
+        },
     }
 }
 
@@ -87,5 +91,5 @@ fn ask_reach(m: &mut Machine, side: Side, expression: TermId) -> Result<Reach, S
     ensures unchanged { IsUnchanged m.old m.new }
     ensures sound { IsSound m.new }
 {
-    reach(&mut m.world.first, &m.atoms, side, expression)
+    reach_of(&mut m.world.first, &m.atoms, side, expression)
 }

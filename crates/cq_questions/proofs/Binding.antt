@@ -1,7 +1,8 @@
 -- Variables of a term that are bound to fixed values, one after another.
-use Rattle.std.proofs.Common.{◌≡◌, ◌<◌, ℕ, ◌+◌, List, [], ◌∷◌, ◌++◌, map, length, Bool, true, false, cond, Option, None, Some, refl, sym, ap, ap₂, ◌∙◌, subst, inl, inr, arith}
+use Rattle.std.proofs.Common.{◌≡◌, ◌<◌, ℕ, ◌+◌, List, [], ◌∷◌, ◌++◌, map, length, take, get_or, Bool, true, false, cond, Option, None, Some, refl, sym, ap, ap₂, ◌∙◌, subst, inl, inr, ◌⊎◌, arith}
 use Rattle.std.specs.Prelude.{Contains, ◌==◌, MatchOption}
-use Rattle.std.proofs.lemmas.List.{length-append, length-map}
+use Rattle.std.proofs.lemmas.List.{length-append, length-map, map-append, take_more}
+use Rattle.std.proofs.lemmas.List.Elements.{Contains-push_cases}
 use Rattle.spec_rational.specs.Rational.{ℚ}
 use Rattle.spec_linear.specs.Solution.{Constraint, Fixed, Fixes}
 use Rattle.spec_lists.specs.Texts.{Text}
@@ -13,12 +14,14 @@ use Rattle.spec_terms.proofs.Substitution.{apply-identity, apply-followed_by, ap
 use Rattle.spec_syntax.specs.Trees.{Tree}
 use Rattle.spec_branch.specs.Settling.{value_or_variable}
 use Rattle.cq_atoms.specs.Texts.{text_of}
+use Rattle.cq_frac.specs.declared.VarId.{VarId}
 use Rattle.cq_term.specs.HeapValue.{Terms as Heap}
 use Rattle.cq_term.specs.Meaning.{HeapTerm, at}
 use Rattle.cq_term.specs.Names.{HasNamesBelow}
 use Rattle.cq_term.specs.Trees.{tree}
 use Rattle.cq_term.proofs.Known.{names_substituted}
 use Rattle.cq_term.proofs.Meanings.{at-append, at-map}
+use Rattle.cq_walk.specs.Places.{numbers_of}
 use Rattle.cq_settle.specs.Underway.{valued}
 use Rattle.cq_questions.specs.Values.{IsValued, IsFree}
 
@@ -39,6 +42,19 @@ module _ (l : List Constraint) where
 
   pub free_then : (b c : Heap) (id v : ℕ) → IsFree l b id v → IsValued l b c id → IsFree l c id v
   free_then b c id v free x = λ fixed f o. free fixed f (x.fewer v o)
+
+-- one variable more
+pub free_more : (l : List Constraint) (b c : Heap) (id : ℕ) (vs : List VarId) (i : ℕ) (d : VarId) → i < length vs
+    → ((v : ℕ) → Contains (numbers_of (take i vs)) v → IsFree l b id v) → IsValued l b c id → IsFree l c id (get_or vs i d).0
+    → (v : ℕ) → Contains (numbers_of (take (i + 1) vs)) v → IsFree l c id v
+free_more l b c id vs i d within before x here v h =
+    let e : numbers_of (take (i + 1) vs) ≡ numbers_of (take i vs) ++ (get_or vs i d).0 ∷ [] =
+    ap numbers_of (take_more vs i d within) ∙ map-append (λ (w : VarId). w.0) (take i vs) (get_or vs i d ∷ []) in
+    go (Contains-push_cases (numbers_of (take i vs)) (get_or vs i d).0 v (subst (λ (ns : List ℕ). Contains ns v) e h))
+  where
+    go : Contains (numbers_of (take i vs)) v ⊎ ((get_or vs i d).0 ≡ v) → IsFree l c id v
+    go (inl k) = free_then l b c id v (before v k) x
+    go (inr k) = subst (λ (w : ℕ). IsFree l c id w) k here
 
 -- ---- one value
 

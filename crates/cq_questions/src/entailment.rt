@@ -1,7 +1,6 @@
 // Whether the linear constraints of a world entail the members of a constraint.
 
-ghost use Rattle.std.specs.Prelude.{◌≡◌, ◌≤◌, ℕ, Any, All, Contains, List, length, IfOk, IfErr, MatchBool};
-ghost use Rattle.spec_linear.specs.Solution.{Constraint, Fixes};
+ghost use Rattle.std.specs.Prelude.{◌≡◌, ◌≤◌, ◌∷◌, [], ℕ, Any, All, IfOk, IfErr, MatchBool};
 ghost use Rattle.spec_limits.specs.Asked.{NoQuestion};
 ghost use Rattle.spec_search.specs.Steps.{IsEntailed, IsBroken};
 ghost use Rattle.cq_frac.specs.declared.Pair.{Pair};
@@ -50,15 +49,26 @@ pub fn entailed(
     ensures room { room_of world.old ≤ room_of world.new }
 {
     values_are_fixed(&world.store);
-    match members_now(&mut world.heap, &world.store, atoms, members)? {
-        Found::Waits(member) => Ok(Entailment::Waits(member)),
-        Found::All(found) => {
-            if all_entailed(&mut world.store, &found)? {
-                Ok(Entailment::Entailed)
-            } else {
-                Ok(Entailment::Broken)
-            }
-        }
+    match members_now(&mut world.heap, &world.store, atoms, members) {
+        Ok(found) => match found {
+            Found::Waits(member) => Ok(Entailment::Waits(member)),
+            Found::All(all) => match all_entailed(&mut world.store, &all) {
+                Ok(yes) => Ok(if_all(yes)),
+                Err(fault) => Err(fault),
+            },
+        },
+        Err(refusal) => Err(StoreFault::from(refusal)),
+    }
+}
+
+/// The answer where no member waits.
+fn if_all(entailed: bool) -> Entailment
+    ensures { MatchBool entailed (result ≡ Entailment.Entailed) (result ≡ Entailment.Broken) }
+{
+    if entailed {
+        Entailment::Entailed
+    } else {
+        Entailment::Broken
     }
 }
 

@@ -41,7 +41,7 @@ pub enum Reach {
 
 /// How far an expression reaches at a side on the solutions of a world's linear constraints, where the variables that they fix
 /// have their values. The world is as at the call.
-pub fn reach(
+pub fn reach_of(
     world: &mut World,
     atoms: &Atoms,
     side: Side,
@@ -58,13 +58,16 @@ pub fn reach(
     ensures room { room_of world.old ≤ room_of world.new }
 {
     values_are_fixed(&world.store);
-    match expression_now(&mut world.heap, &world.store, atoms, expression)? {
-        LinExpression::Waits => Ok(Reach::Waits),
-        LinExpression::False => Ok(Reach::False),
-        LinExpression::Linear(form) => {
-            let extent = extent_of(&mut world.store, side, &form)?;
-            Ok(Reach::Linear(extent))
-        }
+    match expression_now(&mut world.heap, &world.store, atoms, expression) {
+        Ok(found) => match found {
+            LinExpression::Waits => Ok(Reach::Waits),
+            LinExpression::False => Ok(Reach::False),
+            LinExpression::Linear(form) => match extent_of(&mut world.store, side, &form) {
+                Ok(extent) => Ok(Reach::Linear(extent)),
+                Err(fault) => Err(fault),
+            },
+        },
+        Err(refusal) => Err(StoreFault::from(refusal)),
     }
 }
 

@@ -10,5 +10,5 @@ mod terms;
 mod values;
 
 pub use entailment::{Entailment, entailed};
-pub use extents::{Reach, Side, reach};
+pub use extents::{Reach, Side, reach_of};
 pub use laws::{answers_are_steps, questions_stop};

@@ -1,15 +1,15 @@
 // The members of a constraint that is asked about, as linear constraints.
 
-ghost use Rattle.std.specs.Prelude.{◌≡◌, ◌<◌, ◌≤◌, ◌∷◌, [], ◌++◌, List, length, map, find, None, IfOk, OnOk, OnErr};
+ghost use Rattle.std.specs.Prelude.{◌≡◌, ◌≤◌, IfOk, IfSome, IfNone};
 ghost use Rattle.spec_linear.specs.Solution.{Has};
 ghost use Rattle.spec_syntax.specs.Trees.{Tree};
-ghost use Rattle.spec_told.specs.Relations.{lin};
-ghost use Rattle.spec_search.specs.Steps.{is_not_linear};
+ghost use Rattle.spec_told.specs.Relations.{Waits};
 ghost use Rattle.spec_stops.specs.Operands.{relation_operands};
+ghost use Rattle.cq_cexpr.specs.Found.{constraint_of};
 ghost use Rattle.cq_cexpr.specs.Overflows.{ComesFrom};
 ghost use Rattle.cq_frac.specs.declared.Pair.{Pair};
 ghost use Rattle.cq_sides.specs.Splitting.{AreLive};
-ghost use Rattle.cq_term.specs.Trees.{tree, trees, KnowsTerms};
+ghost use Rattle.cq_term.specs.Trees.{trees, KnowsTerms};
 ghost use Rattle.cq_questions.specs.Members.{lin_of, IsFound};
 ghost use Rattle.cq_questions.specs.Values.{AtValues};
 
@@ -56,11 +56,25 @@ pub(crate) fn members_now(
 {
     let mut found = Vec::new(heap.alloc());
     for &member in members {
-        match relation_now(heap, store, atoms, member)? {
-            Lin::Linear(constraint) => found.push(Member::Linear(constraint))?,
-            Lin::False => found.push(Member::False)?,
-            Lin::Waits(_) => return Ok(Found::Waits(member)),
+        match relation_now(heap, store, atoms, member) {
+            Ok(relation) => match member_of(relation) {
+                Some(next) => found.push(next)?,
+                None => return Ok(Found::Waits(member)),
+            },
+            Err(refusal) => return Err(refusal),
         }
     }
     Ok(Found::All(found))
+}
+
+/// The relation as a member, unless it waits.
+fn member_of(relation: Lin) -> Option<Member>
+    ensures some { IfSome result (λ m. constraint_of relation ≡ lin_of m) }
+    ensures none { IfNone result (constraint_of relation ≡ Waits) }
+{
+    match relation {
+        Lin::Linear(constraint) => Some(Member::Linear(constraint)),
+        Lin::False => Some(Member::False),
+        Lin::Waits(_) => None,
+    }
 }

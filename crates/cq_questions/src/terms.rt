@@ -9,7 +9,7 @@ ghost use Rattle.cq_frac.specs.declared.Pair.{Pair};
 ghost use Rattle.cq_term.specs.Trees.{tree, KnowsTerms};
 ghost use Rattle.cq_questions.specs.Values.{AtValues};
 
-use crate::values::{bind_values, values_are_fixed};
+use crate::values::bind_values;
 use cq_atoms::Atoms;
 use cq_cexpr::{Lin, LinExpression, linearise, linearise_expression};
 use cq_frac::Refusal;
@@ -55,8 +55,10 @@ fn relation_with_values(
     ensures room { heap.old.room ≤ heap.new.room }
 {
     bind_values(heap, store, term)?;
-    let relation = linearise(heap, atoms, term)?;
-    Ok(relation)
+    match linearise(heap, atoms, term) {
+        Ok(relation) => Ok(relation),
+        Err(refusal) => Err(refusal),
+    }
 }
 
 /// What an expression is under the values that the told list fixes. The heap is as at the call.
@@ -97,6 +99,8 @@ fn expression_with_values(
     ensures room { heap.old.room ≤ heap.new.room }
 {
     bind_values(heap, store, term)?;
-    let expression = linearise_expression(heap, atoms, term)?;
-    Ok(expression)
+    match linearise_expression(heap, atoms, term) {
+        Ok(expression) => Ok(expression),
+        Err(refusal) => Err(refusal),
+    }
 }

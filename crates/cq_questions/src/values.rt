@@ -1,6 +1,6 @@
 // Variables of a term that are bound to the values that the linear constraints fix.
 
-ghost use Rattle.std.specs.Prelude.{◌≡◌, ◌<◌, ◌≤◌, ℕ, List, Option, length, OnOk, MatchBool};
+ghost use Rattle.std.specs.Prelude.{◌≡◌, ◌<◌, ◌≤◌, ℕ, List, All, Contains, Option, length, OnOk, MatchBool};
 ghost use Rattle.spec_rational.specs.Rational.{ℚ};
 ghost use Rattle.spec_linear.specs.Solution.{Fixes};
 ghost use Rattle.spec_lists.specs.Texts.{Text};
@@ -9,6 +9,7 @@ ghost use Rattle.cq_settle.specs.Underway.{valued};
 ghost use Rattle.cq_term.specs.Meaning.{at};
 ghost use Rattle.cq_term.specs.Names.{HasNamesBelow};
 ghost use Rattle.cq_term.specs.Trees.{tree};
+ghost use Rattle.cq_walk.specs.Places.{numbers_of};
 ghost use Rattle.cq_questions.specs.Values.{AtValues, IsValued, IsFree};
 
 use cq_frac::VarId;
@@ -35,7 +36,26 @@ pub(crate) fn bind_values(heap: &mut Heap, store: &Store, term: TermId) -> Resul
     ensures room { heap.old.room ≤ heap.new.room }
 {
     let variables = vars_of(heap, term)?;
-    for &variable in &variables {
+    bind_each(heap, store, &variables, term)?;
+    Ok(())
+}
+
+/// Binds each of the variables to the value that the told list fixes, if there is one and the variable is unbound.
+fn bind_each(
+    heap: &mut Heap,
+    store: &Store,
+    variables: &[VarId],
+    term: TermId,
+) -> Result<(), AllocError>
+    requires live { term < length heap.old.now.terms }
+    requires there { All (λ v. v.0 < length heap.old.now.images) variables.now }
+    ensures valued { OnOk result (IsValued store.now.told heap.old.now heap.new.now term) }
+    ensures free { OnOk result ((v : ℕ) → Contains (numbers_of variables.now) v → IsFree store.now.told heap.new.now term v) }
+    ensures names { OnOk result ((n : ℕ) → HasNamesBelow n (at heap.old.now.terms term) → HasNamesBelow n (at heap.new.now.terms term)) }
+    ensures saved { heap.new.saved ≡ heap.old.saved }
+    ensures room { heap.old.room ≤ heap.new.room }
+{
+    for &variable in variables {
         bind_value(heap, store, variable, term)?;
     }
     Ok(())

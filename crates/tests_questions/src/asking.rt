@@ -8,7 +8,7 @@ use cq_cexpr::{Lin, linearise};
 use cq_goals::{Telling, check_question, check_telling};
 use cq_linear::store::Extent;
 use cq_ops::Ops;
-use cq_questions::{Entailment, Reach, Side, entailed, reach};
+use cq_questions::{Entailment, Reach, Side, entailed, reach_of};
 use cq_read::{Read, read_clause};
 use cq_term::{TermId, View};
 use cq_world::World;
@@ -87,8 +87,8 @@ fn answer(
     let alloc = world.heap.alloc();
     match name {
         "entailed" => entailed_text(world, atoms, asked),
-        "sup" => Ok(reach_text(alloc, reach(world, atoms, Side::Greatest, asked)?)?),
-        _ => Ok(reach_text(alloc, reach(world, atoms, Side::Least, asked)?)?),
+        "sup" => Ok(reach_text(alloc, reach_of(world, atoms, Side::Greatest, asked)?)?),
+        _ => Ok(reach_text(alloc, reach_of(world, atoms, Side::Least, asked)?)?),
     }
 }
 

@@ -1,0 +1,27 @@
+use Rattle.std.proofs.Common.{List, length, ap, subst, ◌∙◌}
+use Rattle.spec_limits.specs.Overflow.{Operands}
+use Rattle.spec_syntax.specs.Trees.{Tree}
+use Rattle.spec_told.specs.Relations.{lin}
+use Rattle.spec_branch.specs.Alike.{no_values}
+use Rattle.spec_stops.specs.Operands.{relation_operands}
+use Rattle.cq_cexpr.specs.Overflows.{ComesFrom}
+use Rattle.cq_term.specs.Meaning.{blank}
+use Rattle.cq_term.specs.Trees.{tree}
+use Rattle.cq_settle.proofs.Bound.{lin_same}
+use Rattle.cq_settle.proofs.Operands.{relation_same}
+use Rattle.cq_questions.proofs.terms.relation_with_values.Goals as goal
+
+pub linearise-requires-clause-names : goal.linearise-requires-clause-names
+linearise-requires-clause-names c = c.in_ok-bind_values.ensures.names (length c.args.atoms.now) (c.requires.names c.args.term blank c.requires.live)
+
+pub returns-in-Ok-clause-lin : goal.returns-in-Ok-clause-lin
+returns-in-Ok-clause-lin c = λ fixed f.
+    c.in-Ok.ensures.lin ∙ ap (λ (t : Tree). lin no_values t) (c.in_ok-bind_values.ensures.values c.args.atoms.now fixed f)
+    ∙ lin_same fixed (tree c.args.atoms.now c.args.heap.now.now.terms c.args.term)
+
+pub returns-in-Err-clause-overflow : goal.returns-in-Err-clause-overflow
+returns-in-Err-clause-overflow c = λ pair e fixed f.
+    subst (λ (o : List Operands). ComesFrom o pair)
+    (ap (λ (t : Tree). relation_operands no_values t) (c.in_ok-bind_values.ensures.values c.args.atoms.now fixed f)
+    ∙ relation_same fixed (tree c.args.atoms.now c.args.heap.now.now.terms c.args.term))
+    (c.linearise.ensures.overflow pair (c.in-Err.is ∙ e))
