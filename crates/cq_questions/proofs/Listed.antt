@@ -1,6 +1,6 @@
 -- Members as they are found, one after another, and what a list says of them.
-use Rattle.std.proofs.Common.{◌≡◌, ◌<◌, ℕ, zero, suc, ◌+◌, List, [], ◌∷◌, ◌++◌, map, length, take, get_or, Bool, false, cond, Option, None, Some, refl, sym, ap, ap₂, ◌∙◌, subst, inl, inr, arith}
-use Rattle.std.specs.Prelude.{find, All, Any, Contains}
+use Rattle.std.proofs.Common.{◌≡◌, ◌<◌, ℕ, zero, suc, ◌+◌, List, [], ◌∷◌, ◌++◌, map, length, take, get_or, Bool, true, false, cond, Option, None, Some, refl, sym, ap, ap₂, ◌∙◌, subst, inl, inr, arith}
+use Rattle.std.specs.Prelude.{find, All, Any, Contains, MatchBool}
 use Rattle.std.specs.List.{AllByRecursion}
 use Rattle.std.proofs.lemmas.List.{map-append, take_more}
 use Rattle.std.proofs.lemmas.List.Elements.{recursion_from_All}
@@ -14,7 +14,9 @@ use Rattle.cq_term.specs.Meaning.{HeapTerm}
 use Rattle.cq_term.specs.Trees.{tree, trees}
 use Rattle.cq_questions.specs.declared.members.Member.{Member}
 use Rattle.cq_questions.specs.declared.members.Member.TheVariants as member
-use Rattle.cq_questions.specs.Members.{lin_of, AreEntailed, IsOneBroken}
+use Rattle.cq_questions.specs.declared.entailment.Entailment.{Entailment}
+use Rattle.cq_questions.specs.declared.entailment.Entailment.TheVariants as entailment
+use Rattle.cq_questions.specs.Members.{lin_of, AreEntailed, IsOneBroken, IsAnswer}
 
 waits_not : (m : Member) → waits (lin_of m) ≡ false
 waits_not (member.Linear c) = refl
@@ -98,6 +100,13 @@ module _ (fixed : ℕ → Option ℚ) where
 
   pub asked_term : (ts : List Tree) (ms : List Member) → AreFound fixed ts ms → (c : Constraint) → Contains ms (member.Linear c) → (t : Tree) × Has t ts × (lin fixed t ≡ Is c)
   asked_term ts ms e c h = (let u = term_of ts ms e h.0 (member.Linear c) h.1 in (u.0, u.1, u.2 ∙ ap lin_of h.2))
+
+-- the answer where no member waits
+pub answer_of : (texts : List Text) (us : List HeapTerm) (l : List Constraint) (fixed : ℕ → Option ℚ) (ts : List Tree) (ms : List Member) → AreFound fixed ts ms
+    → (yes : Bool) (r : Entailment) → MatchBool yes (All (λ m. IsEntailed l (lin_of m)) ms) (Any (λ m. IsBroken l (lin_of m)) ms)
+    → MatchBool yes (r ≡ entailment.Entailed) (r ≡ entailment.Broken) → IsAnswer texts us l fixed ts r
+answer_of texts us l fixed ts ms found true r h e = subst (λ (x : Entailment). IsAnswer texts us l fixed ts x) (sym e) (are_entailed fixed l ts ms found h)
+answer_of texts us l fixed ts ms found false r h e = subst (λ (x : Entailment). IsAnswer texts us l fixed ts x) (sym e) (one_broken fixed l ts ms found h)
 
 -- a term of the list
 pub has_tree : (texts : List Text) (us : List HeapTerm) (ids : List ℕ) (i d : ℕ) → i < length ids → Has (tree texts us (get_or ids i d)) (trees texts us ids)

@@ -21,6 +21,12 @@ use Rattle.cq_frac.specs.declared.Pair.{Pair}
 use Rattle.cq_linear.specs.StoreValue.{IsCallList, in_force, joined, IsCallMoment, MayRefuse, MayTake, Only}
 use Rattle.cq_linear.specs.declared.store.StoreFault.{StoreFault}
 use Rattle.cq_linear.specs.declared.store.StoreFault.TheVariants as store
+use Rattle.cq_linear.specs.Faults.{IsFaultOf}
+use Rattle.cq_frac.specs.declared.Refusal.{Refusal}
+use Rattle.cq_frac.specs.declared.Refusal.TheVariants as refusal
+use Rattle.cq_questions.specs.declared.members.Member.{Member}
+use Rattle.cq_questions.specs.Members.{AsksOne}
+use Rattle.cq_questions.proofs.Listed.{AreFound, asked_term}
 use Rattle.cq_questions.specs.Stops.{RefusesIn, TakesIn, IsDueIn, AsksMembers, IsAtLeastZero, AsksReach}
 
 -- ---- what one constraint is asked for, others are
@@ -136,6 +142,23 @@ module _ (l : List Constraint) (fixed : ℕ → Option ℚ) (fixes : Fixes l fix
   question_due pivots (store.Overflow pair) refuses takes = (let r = refuses pair refl in question_refuses r.0 r.2 r.1 r.3 pair r.4)
   question_due pivots (store.Pivots n) refuses takes = (let r = takes n refl in (r.0, question_takes r.1.0 r.1.2 r.1.1 r.1.3 n r.1.4))
   question_due pivots store.NoMemory refuses takes = tt
+
+  -- a member as it was found
+  pub asked_due : (ms : List Member) → AreFound fixed ts ms → (pivots : ℕ) (f : StoreFault)
+      → ((pair : Pair) → f ≡ store.Overflow pair → AsksOne ms (λ c. MayRefuse l NoQuestion (Only c) pair))
+      → ((n : ℕ) → f ≡ store.Pivots n → (n ≡ pivots) × AsksOne ms (λ c. MayTake l NoQuestion (Only c) n)) → IsDueIn (AsksMembers st ts) pivots f
+  asked_due ms found pivots f refuses takes =
+      question_due pivots f
+      (λ pair e. (let a = refuses pair e in
+          let t = asked_term fixed ts ms found a.constraint a.among in (t.0, a.constraint, t.1, t.2, a.holds)))
+      (λ n e. (let a = takes n e in
+          let t = asked_term fixed ts ms found a.1.constraint a.1.among in (a.0, (t.0, a.1.constraint, t.1, t.2, a.1.holds))))
+
+-- ---- refusals of terms, as faults of the store
+
+pub refusal_due : (P : Moment → Type 0) (pivots : ℕ) (r : Refusal) (f : StoreFault) → IsFaultOf r f → ((pair : Pair) → r ≡ refusal.Overflow pair → RefusesIn P pair) → IsDueIn P pivots f
+refusal_due P pivots (refusal.Overflow pair) f e h = subst (λ (x : StoreFault). IsDueIn P pivots x) (sym e) (h pair refl)
+refusal_due P pivots refusal.NoMemory f e h = subst (λ (x : StoreFault). IsDueIn P pivots x) (sym e) tt
 
 -- ---- extents
 
