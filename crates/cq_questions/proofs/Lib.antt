@@ -3,3 +3,4 @@ mod Binding
 mod Listed
 mod Moments
 mod Answered
+mod Undone

@@ -1,0 +1,36 @@
+use Rattle.std.proofs.Common.{◌≡◌, subst}
+use Rattle.std.specs.Prelude.{IfOk}
+use Rattle.spec_told.specs.Relations.{lin_expression}
+use Rattle.spec_stops.specs.Operands.{expression_operands}
+use Rattle.cq_cexpr.specs.Found.{expression_of}
+use Rattle.cq_cexpr.specs.Overflows.{ComesFrom}
+use Rattle.cq_term.specs.HeapValue.{Terms}
+use Rattle.cq_term.specs.Trees.{tree}
+use Rattle.cq_questions.specs.Values.{AtValues}
+use Rattle.cq_questions.proofs.Undone.{undone_now, undone_saved, undone_room}
+use Rattle.cq_questions.proofs.terms.expression_now.Goals as goal
+
+pub returns-clause-heap : goal.returns-clause-heap
+returns-clause-heap c =
+    undone_now c.args.heap.now c.mark.new.self c.expression_with_values-expression.new.heap c.undo.new.self c.in_ok-start.start.number c.in_ok-start.ensures.mark c.in_ok-start.ensures.saved
+    c.expression_with_values-expression.ensures.saved c.undo.ensures.now
+
+pub returns-clause-saved : goal.returns-clause-saved
+returns-clause-saved c =
+    undone_saved c.args.heap.now c.mark.new.self c.expression_with_values-expression.new.heap c.undo.new.self c.in_ok-start.start.number c.in_ok-start.ensures.mark c.in_ok-start.ensures.saved
+    c.expression_with_values-expression.ensures.saved c.undo.ensures.saved
+
+pub returns-clause-room : goal.returns-clause-room
+returns-clause-room c =
+    undone_room c.args.heap.now c.mark.new.self c.expression_with_values-expression.new.heap c.undo.new.self c.in_ok-start.start.number c.in_ok-start.ensures.mark c.in_ok-start.ensures.saved
+    c.expression_with_values-expression.ensures.saved c.in_ok-start.ensures.room c.expression_with_values-expression.ensures.room c.undo.ensures.room
+
+pub returns-clause-lin : goal.returns-clause-lin
+returns-clause-lin c =
+    subst (λ (h : Terms). IfOk c.expression_with_values-expression.result (λ r. AtValues c.args.store.now.told (λ fixed. expression_of r ≡ lin_expression fixed (tree c.args.atoms.now h.terms c.args.term))))
+    c.mark.ensures.now c.expression_with_values-expression.ensures.lin
+
+pub returns-clause-overflow : goal.returns-clause-overflow
+returns-clause-overflow c = λ pair e.
+    subst (λ (h : Terms). AtValues c.args.store.now.told (λ fixed. ComesFrom (expression_operands fixed (tree c.args.atoms.now h.terms c.args.term)) pair))
+    c.mark.ensures.now (c.expression_with_values-expression.ensures.overflow pair e)
