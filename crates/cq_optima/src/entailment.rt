@@ -25,6 +25,7 @@ use cq_goals::check_question;
 use cq_linear::store::StoreFault;
 use cq_machine::{Machine, Step};
 use cq_questions::Entailment;
+use cq_steps::goals_succeed_or_fail;
 use cq_term::TermId;
 
 /// `entailed(C)`.
@@ -44,12 +45,13 @@ pub fn entailed(m: &mut Machine, goal: TermId, rest: Continuation) -> Result<Ste
     ensures program { HasSameProgram m.old m.new }
     ensures err { OnErr result (StillStands m.old m.new) }
 {
+    goals_succeed_or_fail();
     let constraint = m.world.first.heap.arg(goal, 0);
     match check_question(&m.world.first.heap, &m.atoms, constraint) {
         Ok(members) => match ask_members(m, &members) {
             Ok(answer) => match answer {
-                Entailment::Entailed => Ok(Step::succeed_if(true, rest)),
-                Entailment::Broken => Ok(Step::succeed_if(false, rest)),
+                Entailment::Entailed => Ok(Step::Goes(rest)),
+                Entailment::Broken => Ok(Step::Back),
                 Entailment::Waits(member) => Ok(Step::Raises(not_linear(member))),
             },
             Err(fault) => Err(fault),

@@ -21,6 +21,7 @@ use cq_control::Continuation;
 use cq_linear::store::StoreFault;
 use cq_machine::{Machine, Step};
 use cq_questions::Side;
+use cq_steps::goals_succeed_or_fail;
 use cq_term::TermId;
 
 /// `sup(E,S)` and `inf(E,I)`: the value of E at the side is made equal to the other argument.
@@ -46,6 +47,7 @@ pub fn extent(
     ensures program { HasSameProgram m.old m.new }
     ensures err { OnErr result (StillStands m.old m.new) }
 {
+    goals_succeed_or_fail();
     let expression = m.world.first.heap.arg(goal, 0);
     let result = m.world.first.heap.arg(goal, 1);
     match value_at(m, side, expression) {
@@ -54,7 +56,7 @@ pub fn extent(
             let number = build_number(m, value)?;
             make_equal(m, result, number, rest)
         }
-            Valued::Nothing => Ok(Step::succeed_if(false, rest)),
+            Valued::Nothing => Ok(Step::Back),
             Valued::Raises(error) => Ok(Step::Raises(error)),
         },
         Err(fault) => Err(fault),

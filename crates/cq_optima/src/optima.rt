@@ -22,6 +22,7 @@ use cq_control::Continuation;
 use cq_linear::store::StoreFault;
 use cq_machine::{Machine, Step, build};
 use cq_questions::Side;
+use cq_steps::goals_succeed_or_fail;
 use cq_term::TermId;
 
 /// `minimize(E)` and `maximize(E)`: that E has its value at the side is told.
@@ -48,6 +49,7 @@ pub fn optimum(
     ensures program { HasSameProgram m.old m.new }
     ensures err { OnErr result (StillStands m.old m.new) }
 {
+    goals_succeed_or_fail();
     let expression = m.world.first.heap.arg(goal, 0);
     match value_at(m, side, expression) {
         Ok(found) => match found {
@@ -57,7 +59,7 @@ pub fn optimum(
             let relation = build(m, names.equal, &[expression, number])?;
             tell_one(m, relation, rest)
         }
-            Valued::Nothing => Ok(Step::succeed_if(false, rest)),
+            Valued::Nothing => Ok(Step::Back),
             Valued::Raises(error) => Ok(Step::Raises(error)),
         },
         Err(fault) => Err(fault),
