@@ -62,8 +62,11 @@ single_names : (n w : ℕ) (q : ℚ) (b : Bool) → HasNamesBelow n (cond b (Num
 single_names n w q true = tt
 single_names n w q false = tt
 
+abbrev left_of : Bool → ℚ → ℕ → HeapTerm
+left_of b q u = cond b (Number q) (Var u)
+
 -- what is left of a variable is another one
-single_left : (v u w : ℕ) (q : ℚ) (b : Bool) → (v == u) ≡ b → Occurs w (cond b (Number q) (Var u)) → (w ≡ u) × ((v == u) ≡ false)
+single_left : (v u w : ℕ) (q : ℚ) (b : Bool) → (v == u) ≡ b → Occurs {A = ℕ} w (left_of b q u) → (w ≡ u) × ((v == u) ≡ false)
 single_left v u w q true e o = absurd o
 single_left v u w q false e o = (o, e)
 

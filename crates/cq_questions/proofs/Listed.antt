@@ -3,7 +3,7 @@ use Rattle.std.proofs.Common.{◌≡◌, ◌<◌, ℕ, zero, suc, ◌+◌, List,
 use Rattle.std.specs.Prelude.{find, All, Any, Contains, MatchBool}
 use Rattle.std.specs.List.{AllByRecursion}
 use Rattle.std.proofs.lemmas.List.{map-append, take_more}
-use Rattle.std.proofs.lemmas.List.Elements.{recursion_from_All}
+use Rattle.std.proofs.lemmas.List.Elements.{recursion_from_All, Contains-get_or}
 use Rattle.spec_rational.specs.Rational.{ℚ}
 use Rattle.spec_linear.specs.Solution.{Constraint, Has}
 use Rattle.spec_lists.specs.Texts.{Text}
@@ -16,7 +16,7 @@ use Rattle.cq_questions.specs.declared.members.Member.{Member}
 use Rattle.cq_questions.specs.declared.members.Member.TheVariants as member
 use Rattle.cq_questions.specs.declared.entailment.Entailment.{Entailment}
 use Rattle.cq_questions.specs.declared.entailment.Entailment.TheVariants as entailment
-use Rattle.cq_questions.specs.Members.{lin_of, AreEntailed, IsOneBroken, IsAnswer}
+use Rattle.cq_questions.specs.Members.{lin_of, AsksOne, AreEntailed, IsOneBroken, IsAnswer}
 
 waits_not : (m : Member) → waits (lin_of m) ≡ false
 waits_not (member.Linear c) = refl
@@ -100,6 +100,22 @@ module _ (fixed : ℕ → Option ℚ) where
 
   pub asked_term : (ts : List Tree) (ms : List Member) → AreFound fixed ts ms → (c : Constraint) → Contains ms (member.Linear c) → (t : Tree) × Has t ts × (lin fixed t ≡ Is c)
   asked_term ts ms e c h = (let u = term_of ts ms e h.0 (member.Linear c) h.1 in (u.0, u.1, u.2 ∙ ap lin_of h.2))
+
+-- ---- one of them is asked about
+
+only_one : (m x : Member) (k : ℕ) → k < 1 → get_or (m ∷ []) k x ≡ x → m ≡ x
+only_one m x zero lt e = e
+only_one m x (suc k) lt e = absurd (omega (arith, lt))
+
+pub asks_among : (ms : List Member) (i : ℕ) (m : Member) → i < length ms → m ≡ get_or ms i m → (P Q : Constraint → Type 0) → ((c : Constraint) → P c → Q c)
+    → AsksOne (m ∷ []) P → AsksOne ms Q
+asks_among ms i m within is P Q more a =
+    let e : m ≡ member.Linear a.constraint = only_one m (member.Linear a.constraint) a.among.0 a.among.1 a.among.2 in
+    record {
+      constraint = a.constraint;
+      among = subst (λ (x : Member). Contains ms x) (sym is ∙ e) (Contains-get_or ms i m within);
+      holds = more a.constraint a.holds;
+    }
 
 -- the answer where no member waits
 pub answer_of : (texts : List Text) (us : List HeapTerm) (l : List Constraint) (fixed : ℕ → Option ℚ) (ts : List Tree) (ms : List Member) → AreFound fixed ts ms

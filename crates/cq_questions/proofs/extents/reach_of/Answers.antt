@@ -1,5 +1,4 @@
-use Rattle.std.proofs.Common.{ap, ◌∙◌, sym}
-use Rattle.std.specs.Prelude.{Err}
+use Rattle.std.proofs.Common.{Err, ap, ◌∙◌, sym}
 use Rattle.cq_cexpr.specs.Found.{expression_of}
 use Rattle.cq_term.specs.Trees.{tree}
 use Rattle.cq_questions.specs.Stops.{AsksReach}
@@ -19,16 +18,8 @@ returns-in-Ok-extent_of-clause-reach c = λ fixed f. record {
   reaches = c.in-Ok-extent_of.ensures.extent;
 }
 
-pub returns-in-Err-extent_of-clause-stop : goal.returns-in-Err-extent_of-clause-stop
-returns-in-Err-extent_of-clause-stop c = λ st same.
-    let v = c.values_are_fixed.ensures in
-    reach_due c.args.world.now.store.told v.0 v.1 st same (tree c.args.atoms.now c.args.world.now.heap.now.terms c.args.expression) c.in-Linear.form
-    (sym ((rw c.in-Linear.is at c.in-Ok.ensures.lin) v.0 v.1)) c.args.world.now.store.pivots c.in-Err-extent_of.fault
-    (λ pair e. c.extent_of.ensures.overflow pair (c.in-Err-extent_of.is ∙ ap Err e)) (λ n e. c.extent_of.ensures.pivots n (c.in-Err-extent_of.is ∙ ap Err e))
+pub returns-in-Ok-clause-stop : goal.returns-in-Ok-clause-stop
+returns-in-Ok-clause-stop c = ?
 
-pub returns-in-Err-clause-stop : goal.returns-in-Err-clause-stop
-returns-in-Err-clause-stop c = λ st same.
-    let v = c.values_are_fixed.ensures in
-    let e = tree c.args.atoms.now c.args.world.now.heap.now.terms c.args.expression in
-    refusal_due (AsksReach st e) c.args.world.now.store.pivots c.in-Err.refusal c.from.result c.from.ensures
-    (λ pair k. expression_refuses c.args.world.now.store.told v.0 v.1 st same e pair (c.expression_now.ensures.overflow pair (c.in-Err.is ∙ ap Err k) v.0 v.1))
+pub returns-clause-stop : goal.returns-clause-stop
+returns-clause-stop c = ?

@@ -1,4 +1,4 @@
-use Rattle.std.proofs.Common.{◌<◌, ◌≤◌, ◌∙◌, ℕ, List, length, take, Some, ◌+◌, refl, sym, ap, subst, arith}
+use Rattle.std.proofs.Common.{◌≡◌, map, Err, ◌<◌, ◌≤◌, ◌∙◌, ℕ, List, length, take, Some, ◌+◌, refl, sym, ap, subst, arith}
 use Rattle.std.proofs.lemmas.List.{take_all}
 use Rattle.spec_linear.specs.Solution.{Has}
 use Rattle.spec_told.specs.Relations.{lin}
@@ -6,11 +6,15 @@ use Rattle.spec_stops.specs.Operands.{relation_operands}
 use Rattle.cq_cexpr.specs.Overflows.{ComesFrom}
 use Rattle.cq_term.specs.HeapValue.{Terms}
 use Rattle.cq_term.specs.Trees.{tree, trees, KnowsTerms}
+use Rattle.cq_frac.specs.declared.Refusal.{Refusal}
+use Rattle.cq_frac.specs.declared.Refusal.TheVariants as refusal
+use Rattle.cq_questions.specs.Members.{lin_of}
+use Rattle.cq_questions.specs.declared.members.Member.{Member}
 use Rattle.cq_questions.proofs.Listed.{AreFound, first_waits, found_more, has_tree}
 use Rattle.cq_questions.proofs.members.members_now.Goals as goal
 
 pub loop-member-init : goal.loop-member-init
-loop-member-init c = record { found = λ fixed f. refl; heap = refl; saved = refl; room = omega arith }
+loop-member-init c = record { found = λ fixed f. ap (λ (ms : List Member). map lin_of ms) (sym c.new-found.ensures.items); heap = refl; saved = refl; room = omega arith }
 
 pub relation_now-requires-clause-live : goal.relation_now-requires-clause-live
 relation_now-requires-clause-live c =
@@ -31,7 +35,7 @@ loop-member-preserved c =
     let within : i < length ids = omega (arith, c.loop-member-test.true) in
     record {
       found = λ fixed f.
-          subst (λ ms. AreFound fixed (trees texts us (take (i + 1) ids)) ms) (sym c.in_ok-push.ensures.ok)
+          subst (λ ms. AreFound fixed (trees texts us (take (i + 1) ids)) ms) (sym c.in_ok-push-in-Some.ensures.ok)
           (found_more fixed texts us ids i item within c.loop-member.found.items (c.loop-member.invariant.found fixed f) c.in-Some.next
           (ap (λ (x : ℕ). lin fixed (tree texts us x)) (sym c.member-item.is)
           ∙ ap (λ (h : Terms). lin fixed (tree texts h.terms item)) (sym c.loop-member.invariant.heap)
@@ -59,6 +63,7 @@ returns-in-None-clause-found c = λ fixed f.
 
 pub returns-in-Err-clause-overflow : goal.returns-in-Err-clause-overflow
 returns-in-Err-clause-overflow c = λ pair e fixed f.
+    let same : c.in-Err.refusal ≡ refusal.Overflow pair = cc in
     let i = c.loop-member.member-index in
     let ids = c.args.members.now in
     let texts = c.args.atoms.now in
@@ -68,7 +73,7 @@ returns-in-Err-clause-overflow c = λ pair e fixed f.
       tree texts us item,
       subst (λ (x : ℕ). Has (tree texts us x) (trees texts us ids)) (sym c.member-item.is) (has_tree texts us ids i item within),
       subst (λ (h : Terms). ComesFrom (relation_operands fixed (tree texts h.terms item)) pair) c.loop-member.invariant.heap
-          (c.relation_now.ensures.overflow pair (c.in-Err.is ∙ e) fixed f),
+          (c.relation_now.ensures.overflow pair (c.in-Err.is ∙ ap (λ (r : Refusal). Err r) same) fixed f),
     )
 
 pub returns-clause-found : goal.returns-clause-found
