@@ -35,7 +35,7 @@ loop-member-preserved c =
     let within : i < length ids = omega (arith, c.loop-member-test.true) in
     record {
       found = λ fixed f.
-          subst (λ ms. AreFound fixed (trees texts us (take (i + 1) ids)) ms) (sym c.in_ok-push-in-Some.ensures.ok)
+          subst (λ ms. AreFound fixed (trees texts us (take (i + 1) ids)) ms) (sym c.in_ok-push-in-Some.ensures.items)
           (found_more fixed texts us ids i item within c.loop-member.found.items (c.loop-member.invariant.found fixed f) c.in-Some.next
           (ap (λ (x : ℕ). lin fixed (tree texts us x)) (sym c.member-item.is)
           ∙ ap (λ (h : Terms). lin fixed (tree texts h.terms item)) (sym c.loop-member.invariant.heap)
