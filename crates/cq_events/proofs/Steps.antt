@@ -7,10 +7,10 @@ use Rattle.spec_built.specs.Built.{indicator_of}
 use Rattle.spec_built.specs.Errors.{error_ball}
 use Rattle.spec_branch.specs.Branch.{plain_copy, read}
 use Rattle.spec_search.specs.Balls.{handed}
-use Rattle.spec_search.specs.Replies.{Raises, Overflows, Place}
+use Rattle.spec_search.specs.Replies.{Overflows, Place}
 use Rattle.spec_search.specs.Rows.{reply_of}
 use Rattle.spec_search.specs.Search.{Search}
-use Rattle.spec_search.specs.Steps as step
+use Rattle.spec_search.specs.Steps.{Steps, ball_of}
 use Rattle.spec_search.specs.Turns as turn
 use Rattle.spec_search.specs.Turns.{Turn, Event, Wrote, Answered, Threw, Ended, place_of, after_step, after_ball, with_branches}
 use Rattle.spec_stops.specs.Causes.{Budgets, Overflow}
@@ -74,8 +74,8 @@ module _ (old : Machine) (n rest : ℕ) (s : Search) (x : SelectsNext old n rest
   pub tells_ball : (budgets : Budgets) → n < budgets.steps → (e : Tree) → reply_of place goal ≡ Raises e
       → handed (plain_copy (error_ball e (indicator_of goal))) x.items x.behind ≡ None
       → Tells budgets s (Shows (Threw (plain_copy (error_ball e (indicator_of goal))))) (after_ball s [])
-  tells_ball budgets few e row none =
-      shows at_once (may budgets.steps few) (turn.throws x.look (step.raises row) none) (λ w. let yes : false ≡ true = ap is_written w in absurd (false≢true yes))
+  tells_ball budgets few e raises none =
+      shows at_once (may budgets.steps few) (turn.throws x.look raises none) (λ w. let yes : false ≡ true = ap is_written w in absurd (false≢true yes))
 
   -- a pair that is refused
   pub tells_refused : (budgets : Budgets) → n < budgets.steps → (pair : Pair) → reply_of place goal ≡ Overflows pair

@@ -1,46 +1,54 @@
--- Why a query stops where its selected goal's one child is settled.
-use Rattle.std.proofs.Common.{◌≡◌, ℕ, ◌<◌, [], ◌∷◌, refl, sym, ◌∙◌, subst}
-use Rattle.spec_search.specs.Replies.{child, made}
+-- Why a query stops where it selects a goal.
+use Rattle.std.proofs.Common.{◌≡◌, ℕ, ◌<◌, ◌∷◌, None, refl, inl, inr, sym, ◌∙◌, subst}
+use Rattle.spec_limits.specs.Chains.{IsBlandChain}
+use Rattle.spec_limits.specs.Overflow.{Moment}
+use Rattle.spec_syntax.specs.Trees.{Tree}
+use Rattle.spec_branch.specs.Branch.{read}
+use Rattle.spec_search.specs.Replies.{Place, child, made}
 use Rattle.spec_search.specs.Search.{Search}
+use Rattle.spec_search.specs.Turns as turn
 use Rattle.spec_search.specs.Turns.{place_of, after_step, with_branches}
-use Rattle.spec_stops.specs.Causes.{Budgets}
+use Rattle.spec_stops.specs.Causes.{Budgets, Cause}
 use Rattle.spec_stops.specs.Causes as why
-use Rattle.spec_machine.specs.Coming.{Tells, Stops}
+use Rattle.spec_stops.specs.Due as due
+use Rattle.spec_stops.specs.Due.{Due, IsMoment}
+use Rattle.spec_machine.specs.Coming.{MayGo, at_once, after}
+use Rattle.spec_machine.specs.Coming as coming
 use Rattle.cq_begin.specs.Stops.{ComesToStop}
-use Rattle.cq_begin.proofs.Stopping.{row_refuses, row_takes}
 use Rattle.cq_frac.specs.declared.Pair.{Pair}
 use Rattle.cq_linear.specs.declared.store.StoreFault.{StoreFault}
 use Rattle.cq_linear.specs.declared.store.StoreFault.TheVariants.{Overflow, Pivots, NoMemory}
-use Rattle.cq_settle.specs.Settled.{MayTake}
 use Rattle.cq_machine.specs.declared.machine.Machine.{Machine}
+use Rattle.cq_execute.specs.Stops.{IsGoalMoment, asks, settles, IsStop, overflow, pivots}
 use Rattle.cq_events.specs.Turning.{SelectsNext, IsStoppedNext, MayStop}
 
-few_here : (m : Machine) (n rest steps : ℕ) (s : Search) → SelectsNext m n rest s → n < steps → s.selected < steps
-few_here m n rest steps s x few = subst (λ (i : ℕ). i < steps) (sym x.selected) few
+module _ (budgets : Budgets) (old : Machine) (n rest : ℕ) (s : Search) (few : n < budgets.steps) (x : SelectsNext old n rest s) where
+  abbrev place : Place
+  place = place_of s x.state x.items x.cut x.behind
 
-pub stops_for_overflow : (budgets : Budgets) (m : Machine) (n rest : ℕ) (pair : Pair) (s : Search) → n < budgets.steps → IsStoppedNext m n rest (Overflow pair) s
-    → ComesToStop budgets (why.Overflow pair) s
-stops_for_overflow budgets m n rest pair s few x =
-    let y = x.next in
-    let one = x.stopped in (
-      with_branches [] (after_step s (made (place_of s y.state y.items y.cut y.behind) (child y.items y.state one.work ∷ [])) y.behind),
-      row_refuses budgets s y.goal y.cut y.items y.state y.behind one.work y.look (few_here m n rest budgets.steps s y few) one.row pair one.holds,
-      refl,
-    )
+  abbrev goal : Tree
+  goal = read x.state x.goal
 
-pub stops_for_pivots : (budgets : Budgets) (m : Machine) (n rest exchanges : ℕ) (s : Search) → n < budgets.steps → budgets.pivots ≡ m.world.first.store.pivots
-    → IsStoppedNext m n rest (Pivots exchanges) s → ComesToStop budgets (why.Pivots exchanges) s
-stops_for_pivots budgets m n rest exchanges s few same x =
-    let y = x.next in
-    let one = x.stopped.1 in
-    let last = with_branches [] (after_step s (made (place_of s y.state y.items y.cut y.behind) (child y.items y.state one.work ∷ [])) y.behind) in
-    let count : budgets.pivots ≡ exchanges = same ∙ sym x.stopped.0 in (
-      last,
-      subst (λ (i : ℕ). Tells budgets s (Stops (why.Pivots i)) last) count
-          (row_takes budgets s y.goal y.cut y.items y.state y.behind one.work y.look (few_here m n rest budgets.steps s y few) one.row
-          (subst (λ (i : ℕ). MayTake y.state one.work i) (sym count) one.holds)),
-      refl,
-    )
+  may : MayGo budgets.steps s
+  may = inr (subst (λ (i : ℕ). i < budgets.steps) (sym x.selected) few)
+
+  -- a moment of the goal is one of its turn, or of the turn in which its first child is settled
+  comes : {cause : Cause} {moment : Moment} → ((t : Search) → IsMoment None t moment → Due budgets None t cause) → IsGoalMoment place goal moment → ComesToStop budgets cause s
+  comes f (asks q) = (with_branches [] s, coming.stops at_once (coming.stops may (f s (due.asks x.look q))), refl)
+  comes f (settles {items} {st} {work} {more} step q) =
+      let then_ = after_step s (made place (child items st work ∷ more)) x.behind in (
+        with_branches [] then_,
+        coming.stops {r = then_} (after may (turn.steps x.look step) at_once) (coming.stops (inl refl) (f then_ (due.settles refl q))),
+        refl,
+      )
+
+  pub stops_for_overflow : (budget : ℕ) (pair : Pair) → IsStop budget place goal (Overflow pair) → ComesToStop budgets (why.Overflow pair) s
+  stops_for_overflow budget pair (overflow g d) = comes (λ t i. due.overflow i d) g
+
+  pub stops_for_pivots : (budget exchanges : ℕ) → budgets.pivots ≡ budget → IsStop budget place goal (Pivots exchanges) → ComesToStop budgets (why.Pivots exchanges) s
+  stops_for_pivots budget exchanges e (pivots {m} g chain) =
+      subst (λ (i : ℕ). ComesToStop budgets (why.Pivots i) s) e
+      (comes (λ t i. due.pivots i (subst (λ (k : ℕ). IsBlandChain m k) (sym e) chain)) g)
 
 -- a fault that isn't want of memory
 pub may_stop : (m : Machine) (n rest : ℕ) (fault : StoreFault) (s : Search) → IsStoppedNext m n rest fault s → MayStop m n rest fault s

@@ -4,8 +4,8 @@ use Rattle.spec_syntax.specs.Trees.{Tree}
 use Rattle.spec_built.specs.Built.{Indicator, indicator_of}
 use Rattle.spec_built.specs.Errors.{error_ball}
 use Rattle.spec_branch.specs.Branch.{read, plain_copy}
-use Rattle.spec_search.specs.Replies.{Raises}
 use Rattle.spec_search.specs.Search.{Search}
+use Rattle.spec_search.specs.Steps.{ball_of}
 use Rattle.spec_search.specs.Turns.{Threw, place_of, after_ball}
 use Rattle.spec_catches.proofs.Turns.{selected_plain}
 use Rattle.spec_machine.specs.Cells.{nearest_catch}
@@ -18,7 +18,7 @@ use Rattle.cq_term.specs.Trees.{tree}
 use Rattle.cq_steps.specs.Worlds.{IsBranch, term_in}
 use Rattle.cq_machine.specs.declared.machine.Machine.{Machine}
 use Rattle.cq_machine.specs.Machines.{IsSound, terms, now, holds, database_of, StillStands}
-use Rattle.cq_execute.specs.Executions.{HasReply}
+use Rattle.cq_execute.specs.Executions.{HasStep}
 use Rattle.cq_events.specs.declared.engine.Engine.{Engine}
 use Rattle.cq_events.specs.declared.event.Event.{Event}
 use Rattle.cq_events.specs.declared.event.Event.TheVariants.{Answer, Output, Fail, Ball, Stop}
@@ -34,7 +34,8 @@ use Rattle.cq_events.proofs.Ended.{stands_ended}
 -- the goal that is selected raises the error
 pub record RaisedNext (old m : Machine) (n rest : ℕ) (e : BuiltinError) (r : Raiser) (s : Search) : Type 0 where
   pub next : SelectsNext old n rest s
-  pub reply : HasReply m (place_of s next.state next.items next.cut next.behind) (read next.state next.goal) (Raises (error_tree m.atoms (terms m) e))
+  pub raises : HasStep m (place_of s next.state next.items next.cut next.behind) (read next.state next.goal)
+      (ball_of (read next.state next.goal) (error_tree m.atoms (terms m) e))
   pub raiser : is_raised_by m.atoms r (read next.state next.goal)
 
 module _ (first mid new : Engine) (rest : ℕ) (e : BuiltinError) (r : Raiser) (same : mid.selected ≡ first.selected) (few : first.selected < first.steps)
@@ -44,7 +45,7 @@ module _ (first mid new : Engine) (rest : ℕ) (e : BuiltinError) (r : Raiser) (
   stands_then s j =
       let x = f s j in
       let count : suc s.selected ≡ mid.selected + 1 = let a = x.next.selected in omega (arith, a, same) in
-      stands_ended new (mid.selected + 1) (after_ball s []) ended (x.reply.database ∙ sym program) count refl
+      stands_ended new (mid.selected + 1) (after_ball s []) ended (x.raises.database ∙ sym program) count refl
 
   -- nothing catches it
   free_of_catches : IsRunning first → StillStands first.machine mid.machine → nearest_catch (items_at mid.machine.world.second.now rest) ≡ None
@@ -76,7 +77,7 @@ module _ (first mid new : Engine) (rest : ℕ) (e : BuiltinError) (r : Raiser) (
           tells = record {
             next = after_ball s [];
             tells = subst (λ (t : Tree). Tells budgets s (Shows (Threw (plain_copy t))) (after_ball s [])) ball
-                (tells_ball first.machine first.selected rest s y budgets less error x.reply.is free);
+                (tells_ball first.machine first.selected rest s y budgets less error x.raises.step free);
             stands = stands_then s j;
           };
         },

@@ -10,7 +10,7 @@ use Rattle.cq_machine.specs.Machines.{IsSound}
 use Rattle.cq_engine.specs.Seeking.{GainsNames}
 use Rattle.cq_engine.proofs.Told.{quietly_then}
 use Rattle.cq_engine.proofs.Engines.{kept_where}
-use Rattle.cq_execute.specs.Executions.{KeepsClauses}
+use Rattle.cq_execute.specs.Executions.{KeepsWalks}
 use Rattle.cq_events.specs.declared.engine.Engine.{Engine}
 use Rattle.cq_events.specs.declared.event.Event.{Event}
 use Rattle.cq_events.specs.declared.event.Event.TheVariants.{Answer, Output, Fail, Ball, Stop}
@@ -31,14 +31,14 @@ pub keeps_none : (e : Engine) → Keeps e e
 keeps_none e = record { atoms = prefix_same e.machine.atoms e.machine.atoms refl; steps = refl; pivots = refl }
 
 -- another machine, and then no more
-pub keeps_at : (old new : Engine) (m : Machine) → KeepsClauses old.machine m → new.machine ≡ m → new.steps ≡ old.steps → Keeps old new
+pub keeps_at : (old new : Engine) (m : Machine) → KeepsWalks old.machine m → new.machine ≡ m → new.steps ≡ old.steps → Keeps old new
 keeps_at old new m k e steps = record {
   atoms = subst (λ (x : Machine). IsPrefix old.machine.atoms x.atoms) (sym e) k.atoms;
   steps = steps;
   pivots = ap (λ (x : Machine). x.world.first.store.pivots) e ∙ k.budget;
 }
 
-pub keeps_gained : (old new : Engine) (m : Machine) → KeepsClauses old.machine m → GainsNames m new.machine → new.machine.world.first.store.pivots ≡ m.world.first.store.pivots
+pub keeps_gained : (old new : Engine) (m : Machine) → KeepsWalks old.machine m → GainsNames m new.machine → new.machine.world.first.store.pivots ≡ m.world.first.store.pivots
     → new.steps ≡ old.steps → Keeps old new
 keeps_gained old new m k g pivots steps = record {
   atoms = prefix_both old.machine.atoms m.atoms new.machine.atoms k.atoms g.atoms;

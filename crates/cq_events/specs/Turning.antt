@@ -3,7 +3,6 @@ use Rattle.std.specs.Prelude.{◌≡◌, ◌<◌, ◌≢◌, ◌∷◌, [], ℕ,
 use Rattle.spec_lists.specs.Texts.{Text}
 use Rattle.spec_syntax.specs.Trees.{Tree}
 use Rattle.spec_branch.specs.Branch.{State, Item, Branch, read}
-use Rattle.spec_search.specs.Rows.{reply_of}
 use Rattle.spec_search.specs.Search.{Search, look_at, Selecting}
 use Rattle.spec_search.specs.Turns.{place_of}
 use Rattle.spec_machine.specs.declared.cell.Cell.{Cell}
@@ -11,13 +10,13 @@ use Rattle.spec_machine.specs.declared.cell.Cell.TheVariants as cell
 use Rattle.cq_control.specs.Items.{items_at}
 use Rattle.cq_linear.specs.declared.store.StoreFault.{StoreFault}
 use Rattle.cq_linear.specs.declared.store.StoreFault.TheVariants.{Overflow, Pivots, NoMemory}
-use Rattle.cq_relations.specs.Faults.{IsStopped}
 use Rattle.cq_term.specs.Trees.{tree}
 use Rattle.cq_steps.specs.Worlds.{Placed}
 use Rattle.cq_machine.specs.declared.machine.Machine.{Machine}
 use Rattle.cq_machine.specs.Machines.{terms, now, holds, database_of, IsSound}
 use Rattle.cq_engine.specs.Seeking.{IsKept}
 use Rattle.cq_execute.specs.Executions.{Reaches}
+use Rattle.cq_execute.specs.Stops.{IsStop}
 use Rattle.cq_events.specs.declared.cells.Done.{Done}
 use Rattle.cq_events.specs.declared.engine.Engine.{Engine}
 use Rattle.cq_events.specs.declared.event.Event.{Event}
@@ -54,18 +53,17 @@ pub record SelectsNext (m : Machine) (n rest : ℕ) (s : Search) : Type 0 where
   pub database : s.database ≡ database_of m
   pub selected : s.selected ≡ n
 
--- the machine has come to what the goal's step makes, or its reply is an error or refuses two numbers
+-- the machine has come to what the goal's step makes; or that is the ball of an error, or the goal's reply refuses two numbers
 pub record Reached (old new : Machine) (n rest : ℕ) (d : Done) (s : Search) : Type 0 where
   pub next : SelectsNext old n rest s
   pub reaches : Reaches new d.executed.step d.executed.output.items (place_of s next.state next.items next.cut next.behind) next.behind
       (read next.state next.goal)
   pub raiser : is_raised_by new.atoms d.raiser (read next.state next.goal)
 
--- the goal's reply makes one child, and a stop for the fault is due while that is settled
+-- a moment of the goal is why there is this fault
 pub record IsStoppedNext (m : Machine) (n rest : ℕ) (fault : StoreFault) (s : Search) : Type 0 where
   pub next : SelectsNext m n rest s
-  pub stopped : IsStopped m.world.first.store.pivots fault (place_of s next.state next.items next.cut next.behind)
-      (reply_of (place_of s next.state next.items next.cut next.behind) (read next.state next.goal))
+  pub stopped : IsStop m.world.first.store.pivots (place_of s next.state next.items next.cut next.behind) (read next.state next.goal) fault
 
 -- want of memory says nothing of the search
 abbrev pub MayStop : Machine → ℕ → ℕ → StoreFault → Search → Type 0

@@ -5,7 +5,7 @@ ghost use Rattle.spec_search.specs.Search.{Search};
 ghost use Rattle.cq_machine.specs.Machines.{IsSound, StillStands};
 ghost use Rattle.cq_machine.specs.Stepping.{CanGo, OnRaises};
 ghost use Rattle.cq_engine.specs.Seeking.{IsGoing, StandsFor};
-ghost use Rattle.cq_execute.specs.Executions.{KeepsClauses, HasSameDatabase};
+ghost use Rattle.cq_execute.specs.Executions.{KeepsWalks, HasSameDatabase};
 ghost use Rattle.cq_events.specs.Raised.{IsNumbered};
 ghost use Rattle.cq_events.specs.Turning.{HasInFront, IsGoal, Reached, MayStop};
 
@@ -23,7 +23,7 @@ pub(crate) struct Done {
     pub raiser: Raiser,
 }
 
-/// Executes the goal in front. An error is the stop of the query, while the goal's child is settled, or want of memory.
+/// Executes the goal in front. An error is the stop of the query, or want of memory.
 pub(crate) fn execute_cell(
     m: &mut Machine,
     k: Continuation,
@@ -40,7 +40,7 @@ pub(crate) fn execute_cell(
     ensures numbered { IfOk result (λ d. IsNumbered m.new.atoms d.raiser) }
     ensures raises { IfOk result (λ d. OnRaises d.executed.step (StillStands m.old m.new)) }
     ensures sound { IsSound m.new }
-    ensures program { KeepsClauses m.old m.new }
+    ensures program { KeepsWalks m.old m.new }
     ensures err { OnErr result (StillStands m.old m.new) }
     ensures err_database { OnErr result (HasSameDatabase m.old m.new) }
 {

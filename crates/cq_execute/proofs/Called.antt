@@ -23,7 +23,8 @@ use Rattle.cq_machine.specs.Machines.{terms, now, IsSound, HasSameProgram, Still
 use Rattle.cq_machine.specs.Stepping.{IsSelectedAt, CanGo, OnRaises}
 use Rattle.cq_selected.specs.Calls.{Calls}
 use Rattle.cq_execute.specs.Rows.{IsRowDone, as_stop}
-use Rattle.cq_execute.proofs.Done.{same_database, keeps_clauses}
+use Rattle.cq_execute.specs.Stops.{no_memory}
+use Rattle.cq_execute.proofs.Done.{same_database, keeps_program}
 use Rattle.cq_execute.proofs.Reached.{user_replies, reach_call}
 
 module _ (old new : Machine) (id height rest : ℕ) (callable : is_callable (tree old.atoms (terms old) id) ≡ true)
@@ -42,17 +43,17 @@ module _ (old new : Machine) (id height rest : ℕ) (callable : is_callable (tre
     goes = goes;
     raises = raises;
     sound = sound;
-    program = keeps_clauses old new same;
+    program = keeps_program old new same;
     err = tt;
     err_database = tt;
   }
   call_done (Err e) row goes raises sound same err = record {
     row = tt;
-    stop = λ p behind g at. tt;
+    stop = λ p behind g at. no_memory;
     goes = tt;
     raises = tt;
     sound = sound;
-    program = keeps_clauses old new same;
+    program = keeps_program old new same;
     err = err;
     err_database = same_database old new same;
   }

@@ -23,7 +23,7 @@ use Rattle.cq_term.specs.Shown as shown
 use Rattle.cq_term.specs.Trees.{tree}
 use Rattle.cq_write.specs.Meaning.{operators}
 use Rattle.cq_steps.proofs.Added.{reads_tree}
-use Rattle.cq_relations.specs.Faults.{IsStopped}
+use Rattle.cq_revise.specs.Revised.{KeepsShowing}
 use Rattle.cq_machine.specs.declared.machine.Machine.{Machine}
 use Rattle.cq_machine.specs.declared.step.Step.{Step}
 use Rattle.cq_machine.specs.declared.step.Step.TheVariants.{Goes, Back, Raises, Refuses}
@@ -31,18 +31,30 @@ use Rattle.cq_machine.specs.Machines.{terms, now, database_of, IsSound, HasSameP
 use Rattle.cq_machine.specs.Stepping.{row_of, IsStep, IsSelectedAt, IsSelectedSomewhere, LeadsTo, CanGo, OnRaises}
 use Rattle.cq_selected.specs.Stops.{IsSelectedFrom, StopsAt}
 use Rattle.cq_execute.specs.declared.executed.Executed.{Executed}
-use Rattle.cq_execute.specs.Executions.{KeepsClauses, HasSameDatabase}
+use Rattle.cq_execute.specs.Executions.{KeepsClauses, KeepsWalks, HasSameDatabase}
 use Rattle.cq_execute.specs.Rows.{IsRowDone, IsDone, IsQuiet, as_stop}
+use Rattle.cq_execute.specs.Stops.{IsStop, StopsThere, no_memory}
 use Rattle.cq_execute.proofs.Table.{none_behind}
 use Rattle.cq_execute.proofs.Reached.{replies, reach, quietly}
+use Rattle.cq_execute.proofs.Stopped.{stop_of_row}
 
 -- ---- the program
 
 pub same_database : (old new : Machine) → HasSameProgram old new → HasSameDatabase old new
 same_database old new e = λ i. as_database (e.atoms i) (operators (e.atoms i) (e.ops i)) (e.clauses i)
 
-pub keeps_clauses : (old new : Machine) → HasSameProgram old new → KeepsClauses old new
-keeps_clauses old new e = record { atoms = prefix_same old.atoms new.atoms e.atoms; names = e.names; clauses = e.clauses; budget = e.budget }
+-- the same clauses are shown by walks as before
+pub keeps_walks : (old new : Machine) → KeepsClauses old new → KeepsWalks old new
+keeps_walks old new k = record {
+  atoms = k.atoms;
+  names = k.names;
+  showing = subst (KeepsShowing old.clauses) (sym k.clauses) (record { begun = λ w i. i; same = λ texts w i. refl });
+  budget = k.budget;
+}
+
+pub keeps_program : (old new : Machine) → HasSameProgram old new → KeepsWalks old new
+keeps_program old new e =
+    keeps_walks old new (record { atoms = prefix_same old.atoms new.atoms e.atoms; names = e.names; clauses = e.clauses; budget = e.budget })
 
 pub same_machine : (m : Machine) → HasSameProgram m m
 same_machine m = record { atoms = refl; names = refl; ops = refl; clauses = refl; budget = refl }
@@ -81,7 +93,7 @@ module _ (old new : Machine) (id height rest : ℕ) where
   quiet_done (Err e) (Ok x) d i = absurd i
   quiet_done (Err e) (Err f) d i = record {
     row = tt;
-    stop = λ p behind g at. subst (λ (h : StoreFault). IsStopped old.world.first.store.pivots h p (reply_of p g)) (sym i) (d.stop p behind g at);
+    stop = λ p behind g at. subst (λ (h : StoreFault). IsStop old.world.first.store.pivots p g h) (sym i) (d.stop p behind g at);
     goes = tt;
     raises = tt;
     sound = d.sound;
@@ -129,17 +141,17 @@ module _ (old new : Machine) (id height rest : ℕ) where
       goes = goes;
       raises = raises;
       sound = sound;
-      program = keeps_clauses old new same;
+      program = keeps_program old new same;
       err = tt;
       err_database = tt;
     }
     stop_done (Err f) row stop goes raises sound same err = record {
       row = tt;
-      stop = λ p behind g at. subst (λ (r : Reply). IsStopped old.world.first.store.pivots f p r) (sym (reply_at p behind g at)) (stop p behind g at);
+      stop = λ p behind g at. stop_of_row old.world.first.store.pivots f p g (row_of b p g) (reply_at p behind g at) (stop p behind g at);
       goes = tt;
       raises = tt;
       sound = sound;
-      program = keeps_clauses old new same;
+      program = keeps_program old new same;
       err = err;
       err_database = same_database old new same;
     }

@@ -1,7 +1,10 @@
 mod Table
 mod Reached
+mod Stopped
 mod Done
 mod Offered
 mod Passed
 mod Called
+mod Changed
+mod Asked
 mod Heads

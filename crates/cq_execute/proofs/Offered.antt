@@ -15,6 +15,7 @@ use Rattle.spec_search.specs.Replies as reply
 use Rattle.spec_search.specs.Replies.{Place, Made, Makes, made, offers, alternative_child}
 use Rattle.spec_search.specs.Rows.{reply_of, builtin_reply}
 use Rattle.spec_search.specs.Steps.{Children}
+use Rattle.cq_built.specs.Errors.{error_tree}
 use Rattle.cq_frac.specs.declared.Pair.{Pair}
 use Rattle.cq_linear.specs.declared.store.StoreFault.{StoreFault}
 use Rattle.cq_table.specs.Names.{built_in}
@@ -30,7 +31,9 @@ use Rattle.cq_machine.specs.Stepping.{IsSelectedAt, IsStep, CanGo, OnRaises}
 use Rattle.cq_offer.specs.Offers.{HasMoreNames}
 use Rattle.cq_execute.specs.Executions.{Reaches}
 use Rattle.cq_execute.specs.Rows.{IsRowDone, as_stop}
-use Rattle.cq_execute.proofs.Reached.{replies, continues}
+use Rattle.cq_execute.specs.Stops.{no_memory}
+use Rattle.cq_execute.proofs.Reached.{replies, continues, raised}
+use Rattle.cq_execute.proofs.Done.{keeps_walks}
 
 -- the built-in predicate that it is
 pub is_predicate : (q : Predicate) → predicate_of (built_in q) ≡ Some q
@@ -74,10 +77,9 @@ module _ (old new : Machine) (more : HasMoreNames old new) (id height rest : ℕ
     reached Back l =
         continues new p behind g (at.database ∙ sym more.database) None (ways.row_of q p (arguments g)) l
         ((called p g q (named_so g q found) at.reads.1 (Children l.made)).1 (sym (made_is p g (solutions_of q p.state.fresh (arguments g)) l.made l.row)))
-    reached (Raises e) h = record {
-      is = replies p g (built_in q) found ∙ errors (built_in q) q (is_predicate q) p (arguments g) _ h;
-      database = at.database ∙ sym more.database;
-    }
+    reached (Raises e) h =
+        raised new p behind g (at.database ∙ sym more.database) (error_tree new.atoms (terms new) e)
+        (replies p g (built_in q) found ∙ errors (built_in q) q (is_predicate q) p (arguments g) (error_tree new.atoms (terms new) e) h)
     reached (Refuses pair) h = absurd (no_overflow p (solutions_of q p.state.fresh (arguments g)) pair h)
 
   abbrev RowOf : Step → Type 0
@@ -91,17 +93,17 @@ module _ (old new : Machine) (more : HasMoreNames old new) (id height rest : ℕ
     goes = goes;
     raises = raises;
     sound = sound;
-    program = record { atoms = more.atoms; names = more.names; clauses = more.clauses; budget = budget };
+    program = keeps_walks old new (record { atoms = more.atoms; names = more.names; clauses = more.clauses; budget = budget });
     err = tt;
     err_database = tt;
   }
   offer_done (Err e) row goes raises sound budget err = record {
     row = tt;
-    stop = λ p behind g at. tt;
+    stop = λ p behind g at. no_memory;
     goes = tt;
     raises = tt;
     sound = sound;
-    program = record { atoms = more.atoms; names = more.names; clauses = more.clauses; budget = budget };
+    program = keeps_walks old new (record { atoms = more.atoms; names = more.names; clauses = more.clauses; budget = budget });
     err = err;
     err_database = more.database;
   }

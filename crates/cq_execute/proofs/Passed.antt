@@ -29,8 +29,9 @@ use Rattle.cq_machine.specs.Stepping.{row_of, IsSelectedAt, CanGo, OnRaises}
 use Rattle.cq_execute.specs.declared.executed.Executed.{Executed}
 use Rattle.cq_execute.specs.Executions.{Continues, Reaches}
 use Rattle.cq_execute.specs.Rows.{IsDone}
-use Rattle.cq_execute.proofs.Reached.{quietly}
-use Rattle.cq_execute.proofs.Done.{same_machine, keeps_clauses, reply_at}
+use Rattle.cq_execute.specs.Stops.{no_memory}
+use Rattle.cq_execute.proofs.Reached.{quietly, raised}
+use Rattle.cq_execute.proofs.Done.{same_machine, keeps_walks, keeps_program, reply_at}
 
 -- the goal has done its part, with this output and the machine's program
 passes : (m : Machine) (height rest : ℕ) (p : Place) (behind : List Branch) (g : Tree) (text : Text) → Selected m.atoms (holds m) (now m) height rest p behind
@@ -63,7 +64,7 @@ text_done m id height rest b calls x e sound there row = record {
   goes = subst (CanGo m) (sym e) there;
   raises = subst (λ (s : Step). OnRaises s (StillStands m m)) (sym e) tt;
   sound = sound;
-  program = keeps_clauses m m (same_machine m);
+  program = keeps_program m m (same_machine m);
   err = tt;
   err_database = tt;
 }
@@ -72,11 +73,11 @@ text_done m id height rest b calls x e sound there row = record {
 pub nothing_done : (m : Machine) (id height rest : ℕ) → IsSound m → IsDone m m id height rest (Err NoMemory)
 nothing_done m id height rest sound = record {
   row = tt;
-  stop = λ p behind g at. tt;
+  stop = λ p behind g at. no_memory;
   goes = tt;
   raises = tt;
   sound = sound;
-  program = keeps_clauses m m (same_machine m);
+  program = keeps_program m m (same_machine m);
   err = λ db n current s j. j;
   err_database = refl;
 }
@@ -109,7 +110,7 @@ set_done old new id height rest calls is x e quiet sound there row =
       goes = subst (CanGo low) (sym e) there;
       raises = subst (λ (s : Step). OnRaises s (StillStands old low)) (sym e) tt;
       sound = subst IsSound is sound;
-      program = record { atoms = prefix_same old.atoms old.atoms refl; names = refl; clauses = refl; budget = refl };
+      program = keeps_walks old low (record { atoms = prefix_same old.atoms old.atoms refl; names = refl; clauses = refl; budget = refl });
       err = tt;
       err_database = tt;
     })
@@ -121,12 +122,12 @@ pub raise_done : (m : Machine) (id height rest : ℕ) (x : Executed) (e : Builti
     → ((p : Place) (behind : List Branch) (g : Tree) → IsSelectedAt m id height rest p behind g → reply_of p g ≡ reply.Raises (error_tree m.atoms (terms m) e))
     → IsDone m m id height rest (Ok x)
 raise_done m id height rest x e is sound culprit row = record {
-  row = λ p behind g at. subst (λ (s : Step). Reaches m s x.output.items p behind g) (sym is) (record { is = row p behind g at; database = at.database });
+  row = λ p behind g at. subst (λ (s : Step). Reaches m s x.output.items p behind g) (sym is) (raised m p behind g at.database (error_tree m.atoms (terms m) e) (row p behind g at));
   stop = tt;
   goes = subst (CanGo m) (sym is) culprit;
   raises = subst (λ (s : Step). OnRaises s (StillStands m m)) (sym is) (λ db n current s j. j);
   sound = sound;
-  program = keeps_clauses m m (same_machine m);
+  program = keeps_program m m (same_machine m);
   err = tt;
   err_database = tt;
 }

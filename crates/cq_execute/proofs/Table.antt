@@ -30,6 +30,8 @@ takes builtin.Unify n = n == 2
 takes builtin.NotUnify n = n == 2
 takes builtin.Is n = n == 2
 takes (builtin.Compare c) n = n == 2
+takes (builtin.Assert e) n = n == 1
+takes builtin.DynamicGoal n = n == 1
 takes builtin.Discontiguous n = n == 1
 takes builtin.Initialization n = n == 1
 takes builtin.UseModule n = n == 1
@@ -37,6 +39,9 @@ takes builtin.Op n = n == 3
 takes (builtin.Write s) n = n == 1
 takes builtin.Curly n = n == 1
 takes builtin.Freeze n = n == 2
+takes builtin.Entailed n = n == 1
+takes (builtin.Extent s) n = n == 2
+takes (builtin.Optimum s) n = n == 1
 takes b n = true
 
 abbrev row_takes : Row → Bool

@@ -9,12 +9,13 @@ use Rattle.spec_search.specs.Replies as reply
 use Rattle.spec_search.specs.Replies.{Place, Made, Reply}
 use Rattle.spec_search.specs.Rows.{reply_of}
 use Rattle.spec_search.specs.Search.{Search}
-use Rattle.spec_search.specs.Steps.{Steps, Children}
+use Rattle.spec_search.specs.Steps.{Stepped, Steps, Children, ball_of}
 use Rattle.spec_search.specs.Turns.{older}
 use Rattle.spec_machine.specs.Coming.{Comes}
 use Rattle.spec_machine.specs.Standing.{engine}
 use Rattle.cq_built.specs.Errors.{error_tree}
 use Rattle.cq_steps.specs.Worlds.{IsBranch, term_in, ReadsAs, Placed}
+use Rattle.cq_revise.specs.Revised.{KeepsShowing}
 use Rattle.cq_machine.specs.declared.machine.Machine.{Machine}
 use Rattle.cq_machine.specs.declared.step.Step.{Step}
 use Rattle.cq_machine.specs.declared.step.Step.TheVariants.{Goes, Back, Raises, Refuses}
@@ -33,17 +34,22 @@ pub record Continues (m : Machine) (current : Option ℕ) (text : Text) (p : Pla
   pub comes : (steps : ℕ) (s : Search) → s.database ≡ database_of m → s.branches ≡ made.children ++ older made.keeps behind
       → Comes (IsBranch m.atoms) (term_in m.atoms) steps (engine (database_of m) s.selected (holds m) (now m) current) s
 
+-- the goal steps so, and the machine has the program of the place
+pub record HasStep (m : Machine) (p : Place) (goal : Tree) (s : Stepped) : Type 0 where
+  pub step : Steps p goal s
+  pub database : p.database ≡ database_of m
+
 -- the goal's reply is this one, and the machine has the program of the place
 pub record HasReply (m : Machine) (p : Place) (goal : Tree) (r : Reply) : Type 0 where
   pub is : reply_of p goal ≡ r
   pub database : p.database ≡ database_of m
 
--- the machine has come to what the goal's step makes, with this output, or the goal's reply is an error or two numbers that are
--- refused
+-- the machine has come to what the goal's step makes, with this output; or the goal's step is the ball of an error, or its reply two
+-- numbers that are refused
 abbrev pub Reaches : Machine → Step → Text → Place → List Branch → Tree → Type 0
 Reaches m (Goes k) text p behind goal = Continues m (Some k) text p behind goal
 Reaches m Back text p behind goal = Continues m None text p behind goal
-Reaches m (Raises e) text p behind goal = HasReply m p goal (reply.Raises (error_tree m.atoms (terms m) e))
+Reaches m (Raises e) text p behind goal = HasStep m p goal (ball_of goal (error_tree m.atoms (terms m) e))
 Reaches m (Refuses pair) text p behind goal = HasReply m p goal (reply.Overflows pair)
 
 -- wherever the goal of the number is selected so, the machine has come to what it comes to there
@@ -77,6 +83,13 @@ pub record KeepsClauses (old new : Machine) : Type 0 where
   pub clauses : new.clauses ≡ old.clauses
   pub budget : new.world.first.store.pivots ≡ old.world.first.store.pivots
 
--- after an error the operators are the same, too
+-- names may have been added, and walks through the clauses of a call go on to show the same
+pub record KeepsWalks (old new : Machine) : Type 0 where
+  pub atoms : IsPrefix old.atoms new.atoms
+  pub names : new.names ≡ old.names
+  pub showing : KeepsShowing old.clauses new.clauses
+  pub budget : new.world.first.store.pivots ≡ old.world.first.store.pivots
+
+-- its clauses and its operators are the same
 abbrev pub HasSameDatabase : Machine → Machine → Type 0
 HasSameDatabase old new = database_of new ≡ database_of old

@@ -7,7 +7,6 @@ use Rattle.spec_built.specs.Built.{indicator_of}
 use Rattle.spec_branch.specs.Branch.{Branch}
 use Rattle.spec_search.specs.Builtins.{builtin_of}
 use Rattle.spec_search.specs.Replies.{Place}
-use Rattle.spec_search.specs.Rows.{reply_of}
 use Rattle.cq_linear.specs.declared.store.StoreFault.{StoreFault}
 use Rattle.cq_linear.specs.declared.store.StoreFault.TheVariants.{NoMemory}
 use Rattle.cq_table.specs.Names.{as_builtin}
@@ -17,9 +16,10 @@ use Rattle.cq_machine.specs.declared.machine.Machine.{Machine}
 use Rattle.cq_machine.specs.declared.step.Step.{Step}
 use Rattle.cq_machine.specs.Machines.{terms, IsSound, StillStands}
 use Rattle.cq_machine.specs.Stepping.{IsSelectedAt, CanGo, OnRaises}
-use Rattle.cq_selected.specs.Stops.{IsSelectedFrom, StopsAt}
+use Rattle.cq_selected.specs.Stops.{IsSelectedFrom}
 use Rattle.cq_execute.specs.declared.executed.Executed.{Executed}
-use Rattle.cq_execute.specs.Executions.{Reaches, KeepsClauses, HasSameDatabase}
+use Rattle.cq_execute.specs.Executions.{Reaches, KeepsWalks, HasSameDatabase}
+use Rattle.cq_execute.specs.Stops.{StopsThere}
 
 -- the goal of the number is selected on a sound machine
 pub record IsAtGoal (m : Machine) (id height rest : ℕ) : Type 0 where
@@ -35,11 +35,11 @@ IsCallOf m id b = builtin_of (indicator_of (tree m.atoms (terms m) id)) ≡ Some
 -- Its row was done, with this result, of which one function tells what the goal comes to, and another the output.
 pub record IsDoneBy {A : Type 0} (step : A → Step) (text : A → Text) (old new : Machine) (id height rest : ℕ) (r : Result A StoreFault) : Type 0 where
   pub row : IfOk r (λ a. (p : Place) (behind : List Branch) (goal : Tree) → IsSelectedAt old id height rest p behind goal → Reaches new (step a) (text a) p behind goal)
-  pub stop : IfErr r (StopsAt old id height rest reply_of)
+  pub stop : IfErr r (StopsThere old id height rest)
   pub goes : IfOk r (λ a. CanGo new (step a))
   pub raises : IfOk r (λ a. OnRaises (step a) (StillStands old new))
   pub sound : IsSound new
-  pub program : KeepsClauses old new
+  pub program : KeepsWalks old new
   pub err : OnErr r (StillStands old new)
   pub err_database : OnErr r (HasSameDatabase old new)
 

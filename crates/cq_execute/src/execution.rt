@@ -9,9 +9,10 @@ ghost use Rattle.cq_declarations.specs.Clauses.{IsOf};
 ghost use Rattle.cq_term.specs.Trees.{tree, KnowsTerms};
 ghost use Rattle.cq_machine.specs.Machines.{terms, IsSound, StillStands};
 ghost use Rattle.cq_machine.specs.Stepping.{CanGo, OnRaises};
-ghost use Rattle.cq_selected.specs.Stops.{IsSelectedFrom, StopsAt};
-ghost use Rattle.cq_execute.specs.Executions.{Executes, ExecutesCall, IsCallSelectedSomewhere, KeepsClauses, HasSameDatabase};
+ghost use Rattle.cq_selected.specs.Stops.{IsSelectedFrom};
+ghost use Rattle.cq_execute.specs.Executions.{Executes, ExecutesCall, IsCallSelectedSomewhere, KeepsClauses, KeepsWalks, HasSameDatabase};
 ghost use Rattle.cq_execute.specs.Rows.{IsAtGoal, IsDone};
+ghost use Rattle.cq_execute.specs.Stops.{StopsThere};
 
 use crate::executed::Executed;
 use crate::rows::execute_builtin;
@@ -27,8 +28,7 @@ use cq_term::{Heap, Pred, TermId, View};
 use std::alloc::AllocError;
 
 /// Executes the selected goal: what it calls is found by its name and number of arguments, a built-in predicate or else a user
-/// procedure. A cut in it goes back to the height. An error is the stop of the query, while the goal's child is settled, or want
-/// of memory.
+/// procedure. A cut in it goes back to the height. An error is the stop of the query, or want of memory.
 pub fn execute(
     m: &mut Machine,
     goal: TermId,
@@ -38,11 +38,11 @@ pub fn execute(
     requires sound { IsSound m.old }
     requires selected { IsSelectedFrom m.old goal height rest }
     ensures row { IfOk result (Executes m.old m.new goal height rest) }
-    ensures stop { IfErr result (StopsAt m.old goal height rest reply_of) }
+    ensures stop { IfErr result (StopsThere m.old goal height rest) }
     ensures goes { IfOk result (λ x. CanGo m.new x.step) }
     ensures raises { IfOk result (λ x. OnRaises x.step (StillStands m.old m.new)) }
     ensures sound { IsSound m.new }
-    ensures program { KeepsClauses m.old m.new }
+    ensures program { KeepsWalks m.old m.new }
     ensures err { OnErr result (StillStands m.old m.new) }
     ensures err_database { OnErr result (HasSameDatabase m.old m.new) }
 {

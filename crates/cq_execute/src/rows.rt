@@ -5,6 +5,8 @@ ghost use Rattle.cq_execute.specs.Rows.{IsAtGoal, IsCallOf, IsDone};
 use crate::executed::Executed;
 use crate::printing::{declare, newline, write};
 use crate::steps::{quiet, quiet_or_stop};
+use cq_changes::{assert, declare_dynamic};
+use cq_clauses::End;
 use cq_control::Continuation;
 use cq_linear::store::StoreFault;
 use cq_machine::{
@@ -12,7 +14,9 @@ use cq_machine::{
     once,
 };
 use cq_offer::{offer, rows_are_replies};
+use cq_optima::{entailed, extent, optimum};
 use cq_predicates::Predicate;
+use cq_questions::Side;
 use cq_selected::{
     call_with_more, compare, constrain, discontiguous, evaluate_to, freeze, unify, use_module,
 };
@@ -48,6 +52,9 @@ pub(crate) fn execute_builtin(
         Builtin::Predicate(predicate) => offered(m, predicate, goal, height, rest),
         Builtin::Is => quiet_or_stop(alloc, evaluate_to(m, goal, rest)),
         Builtin::Compare(comparison) => quiet(alloc, compare(m, comparison, goal, rest)),
+        Builtin::Asserta => quiet(alloc, assert(m, End::First, goal, rest)),
+        Builtin::Assertz => quiet(alloc, assert(m, End::Last, goal, rest)),
+        Builtin::Dynamic => quiet(alloc, declare_dynamic(m, goal, rest)),
         Builtin::Discontiguous => quiet(alloc, discontiguous(m, goal, rest)),
         Builtin::Initialization => quiet(alloc, initialization(m, goal, height, rest)),
         Builtin::UseModule => quiet(alloc, Ok(use_module(m, goal, rest))),
@@ -56,6 +63,11 @@ pub(crate) fn execute_builtin(
         Builtin::Newline => newline(m, goal, height, rest),
         Builtin::Curly => quiet_or_stop(alloc, constrain(m, goal, height, rest)),
         Builtin::Freeze => quiet(alloc, freeze(m, goal, rest)),
+        Builtin::Entailed => quiet_or_stop(alloc, entailed(m, goal, rest)),
+        Builtin::Sup => quiet_or_stop(alloc, extent(m, Side::Greatest, goal, rest)),
+        Builtin::Inf => quiet_or_stop(alloc, extent(m, Side::Least, goal, rest)),
+        Builtin::Maximize => quiet_or_stop(alloc, optimum(m, Side::Greatest, goal, rest)),
+        Builtin::Minimize => quiet_or_stop(alloc, optimum(m, Side::Least, goal, rest)),
     }
 }
 

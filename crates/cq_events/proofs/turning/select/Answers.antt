@@ -170,7 +170,7 @@ raised e m k rest d error is at row s j =
     let x = r.next in
     record {
       next = x;
-      reply = subst (λ (t : Step). Reaches m t d.executed.output.items (place_of s x.state x.items x.cut x.behind) x.behind (read x.state x.goal)) is r.reaches;
+      raises = subst (λ (t : Step). Reaches m t d.executed.output.items (place_of s x.state x.items x.cut x.behind) x.behind (read x.state x.goal)) is r.reaches;
       raiser = r.raiser;
     }
 
@@ -211,7 +211,7 @@ unthrown : (e new : Engine) (m : Machine) (rest : ℕ) (error : BuiltinError) (r
     → ((s : Search) → Stands e s → RaisedNext e.machine m e.selected rest error r s) → (s : Search) → Stands e s → Stands new s
 unthrown e new m rest error r still after program selected current f s j =
     let x = f s j in
-    let same : database_of m ≡ database_of e.machine = sym x.reply.database ∙ x.next.database in
+    let same : database_of m ≡ database_of e.machine = sym x.raises.database ∙ x.next.database in
     stands_same new e.selected e.current s selected current
     (stands_still m new.machine e.selected e.current s after program (stands_still e.machine m e.selected e.current s still same j))
 
@@ -268,7 +268,7 @@ returns-in-Err-Overflow-clause-turned c = (
       let x = stops_so e m k rest _ (fault.Overflow c.in-Err-Overflow.pair) c.in-Err-Overflow.field-0-is c.requires.current c.in-Err-Overflow.ensures.stop s j in
       let less = subst (λ (n : ℕ). e.selected < n) (sym h.steps) (few e k rest c.in-Some.cell c.requires.running c.requires.current c.requires.work c.in-Some.ensures.some) in
       let left = c.leave-in-Err-Overflow in
-      let t = stops_for_overflow budgets e.machine e.selected rest c.in-Err-Overflow.pair s less x in
+      let t = stops_for_overflow budgets e.machine e.selected rest s less x.next e.machine.world.first.store.pivots c.in-Err-Overflow.pair x.stopped in
       stopped budgets left.new.e e.selected (why.Overflow c.in-Err-Overflow.pair) s t.0 left.ensures.ended
       (x.next.database ∙ sym c.in-Err-Overflow.ensures.err_database ∙ sym left.ensures.program.database) x.next.selected t.1 t.2,
   let same = c.leave-in-Err-Overflow.ensures.ended.selected in omega (arith, same),
@@ -296,7 +296,7 @@ returns-in-Err-Pivots-clause-turned c = (
       let x = stops_so e m k rest _ (fault.Pivots c.in-Err-Pivots.exchanges) c.in-Err-Pivots.field-0-is c.requires.current c.in-Err-Pivots.ensures.stop s j in
       let less = subst (λ (n : ℕ). e.selected < n) (sym h.steps) (few e k rest c.in-Some.cell c.requires.running c.requires.current c.requires.work c.in-Some.ensures.some) in
       let left = c.leave-in-Err-Pivots in
-      let t = stops_for_pivots budgets e.machine e.selected rest c.in-Err-Pivots.exchanges s less h.pivots x in
+      let t = stops_for_pivots budgets e.machine e.selected rest s less x.next e.machine.world.first.store.pivots c.in-Err-Pivots.exchanges h.pivots x.stopped in
       stopped budgets left.new.e e.selected (why.Pivots c.in-Err-Pivots.exchanges) s t.0 left.ensures.ended
       (x.next.database ∙ sym c.in-Err-Pivots.ensures.err_database ∙ sym left.ensures.program.database) x.next.selected t.1 t.2,
   let same = c.leave-in-Err-Pivots.ensures.ended.selected in omega (arith, same),

@@ -1,6 +1,7 @@
 use Rattle.std.proofs.Common.{refl}
 use Rattle.std.specs.Prelude.{Ok, IfOk}
-use Rattle.spec_search.specs.Builtins.{True, Fail, And, Or, IfThen, Cut, Not, Once, Unify, NotUnify, Is, Compare, Discontiguous, Initialization, UseModule, Curly, Freeze}
+use Rattle.spec_search.specs.Builtins.{Least, Greatest, True, Fail, And, Or, IfThen, Cut, Not, Once, Unify, NotUnify, Is, Compare, Assert, DynamicGoal, Discontiguous, Initialization, UseModule, Curly, Entailed, Freeze, Extent, Optimum}
+use Rattle.spec_search.specs.Database.{First, Last}
 use Rattle.cq_atoms.specs.Texts.{text_of}
 use Rattle.cq_builtin.specs.Rows.{comparison_of}
 use Rattle.cq_linear.specs.declared.store.StoreFault.{StoreFault}
@@ -9,6 +10,8 @@ use Rattle.cq_machine.specs.Machines.{terms}
 use Rattle.cq_machine.specs.Stepping.{row_of, LeadsTo}
 use Rattle.cq_execute.proofs.Table.{so_many}
 use Rattle.cq_execute.proofs.Done.{quiet_done, row_done, stop_done, none_raised, rows_at, stops_at, same_machine, somewhere, still_raised, still_stands, freeze_none}
+use Rattle.cq_execute.proofs.Changed.{change_done}
+use Rattle.cq_execute.proofs.Asked.{ask_done}
 use Rattle.cq_execute.proofs.rows.execute_builtin.Goals as goal
 
 pub conjunction-requires-clause-two : goal.conjunction-requires-clause-two
@@ -269,6 +272,135 @@ returns-in-Cut c =
     (stop_done m new c.args.goal c.args.height c.args.rest Cut calls r row tt c.cut.ensures.goes (none_raised m new c.args.goal c.args.height c.args.rest Cut calls c.requires.at.selected (λ p g e h. cc) r row)
     c.cut.ensures.sound c.cut.ensures.program tt)
     c.quiet-in-Cut.ensures
+
+pub assert-requires-clause-one : goal.assert-requires-clause-one
+assert-requires-clause-one c =
+    so_many (text_of c.args.m.now.atoms) (at (terms c.args.m.now) c.args.goal) (Assert First) 1 (rw c.in-Asserta.is at c.requires.calls) (λ n. refl)
+
+pub returns-in-Asserta : goal.returns-in-Asserta
+returns-in-Asserta c =
+    let m = c.args.m.now in
+    let new = c.assert.new.m in
+    let d = c.assert.ensures in
+    quiet_done m new c.args.goal c.args.height c.args.rest _ c.quiet-in-Asserta.result
+    (change_done m new c.args.goal c.args.height c.args.rest (Assert First) (rw c.in-Asserta.is at c.requires.calls) c.assert.result d.row d.goes d.raises d.stands d.sound d.keeps d.err)
+    c.quiet-in-Asserta.ensures
+
+pub assert-in-Assertz-requires-clause-one : goal.assert-in-Assertz-requires-clause-one
+assert-in-Assertz-requires-clause-one c =
+    so_many (text_of c.args.m.now.atoms) (at (terms c.args.m.now) c.args.goal) (Assert Last) 1 (rw c.in-Assertz.is at c.requires.calls) (λ n. refl)
+
+pub returns-in-Assertz : goal.returns-in-Assertz
+returns-in-Assertz c =
+    let m = c.args.m.now in
+    let new = c.assert-in-Assertz.new.m in
+    let d = c.assert-in-Assertz.ensures in
+    quiet_done m new c.args.goal c.args.height c.args.rest _ c.quiet-in-Assertz.result
+    (change_done m new c.args.goal c.args.height c.args.rest (Assert Last) (rw c.in-Assertz.is at c.requires.calls) c.assert-in-Assertz.result d.row d.goes d.raises d.stands d.sound d.keeps d.err)
+    c.quiet-in-Assertz.ensures
+
+pub declare_dynamic-requires-clause-one : goal.declare_dynamic-requires-clause-one
+declare_dynamic-requires-clause-one c =
+    so_many (text_of c.args.m.now.atoms) (at (terms c.args.m.now) c.args.goal) DynamicGoal 1 (rw c.in-Dynamic.is at c.requires.calls) (λ n. refl)
+
+pub returns-in-Dynamic : goal.returns-in-Dynamic
+returns-in-Dynamic c =
+    let m = c.args.m.now in
+    let new = c.declare_dynamic.new.m in
+    let d = c.declare_dynamic.ensures in
+    quiet_done m new c.args.goal c.args.height c.args.rest _ c.quiet-in-Dynamic.result
+    (change_done m new c.args.goal c.args.height c.args.rest DynamicGoal (rw c.in-Dynamic.is at c.requires.calls) c.declare_dynamic.result d.row d.goes d.raises d.stands d.sound d.keeps d.err)
+    c.quiet-in-Dynamic.ensures
+
+pub entailed-requires-clause-one : goal.entailed-requires-clause-one
+entailed-requires-clause-one c =
+    so_many (text_of c.args.m.now.atoms) (at (terms c.args.m.now) c.args.goal) Entailed 1 (rw c.in-Entailed.is at c.requires.calls) (λ n. refl)
+
+pub entailed-requires-clause-selected : goal.entailed-requires-clause-selected
+entailed-requires-clause-selected c =
+    somewhere c.args.m.now c.args.goal c.args.height c.args.rest c.requires.at.selected
+
+pub returns-in-Entailed : goal.returns-in-Entailed
+returns-in-Entailed c =
+    let m = c.args.m.now in
+    let new = c.entailed.new.m in
+    let r = c.entailed.result in
+    let d = c.entailed.ensures in
+    quiet_done m new c.args.goal c.args.height c.args.rest r c.quiet_or_stop-in-Entailed.result
+    (ask_done m new c.args.goal c.args.height c.args.rest Entailed (rw c.in-Entailed.is at c.requires.calls) r d.row d.stop d.goes d.raises d.sound d.program d.err)
+    c.quiet_or_stop-in-Entailed.ensures
+
+pub extent-requires-clause-two : goal.extent-requires-clause-two
+extent-requires-clause-two c =
+    so_many (text_of c.args.m.now.atoms) (at (terms c.args.m.now) c.args.goal) (Extent Greatest) 2 (rw c.in-Sup.is at c.requires.calls) (λ n. refl)
+
+pub extent-requires-clause-selected : goal.extent-requires-clause-selected
+extent-requires-clause-selected c =
+    somewhere c.args.m.now c.args.goal c.args.height c.args.rest c.requires.at.selected
+
+pub returns-in-Sup : goal.returns-in-Sup
+returns-in-Sup c =
+    let m = c.args.m.now in
+    let new = c.extent.new.m in
+    let r = c.extent.result in
+    let d = c.extent.ensures in
+    quiet_done m new c.args.goal c.args.height c.args.rest r c.quiet_or_stop-in-Sup.result
+    (ask_done m new c.args.goal c.args.height c.args.rest (Extent Greatest) (rw c.in-Sup.is at c.requires.calls) r d.row d.stop d.goes d.raises d.sound d.program d.err)
+    c.quiet_or_stop-in-Sup.ensures
+
+pub extent-in-Inf-requires-clause-two : goal.extent-in-Inf-requires-clause-two
+extent-in-Inf-requires-clause-two c =
+    so_many (text_of c.args.m.now.atoms) (at (terms c.args.m.now) c.args.goal) (Extent Least) 2 (rw c.in-Inf.is at c.requires.calls) (λ n. refl)
+
+pub extent-in-Inf-requires-clause-selected : goal.extent-in-Inf-requires-clause-selected
+extent-in-Inf-requires-clause-selected c =
+    somewhere c.args.m.now c.args.goal c.args.height c.args.rest c.requires.at.selected
+
+pub returns-in-Inf : goal.returns-in-Inf
+returns-in-Inf c =
+    let m = c.args.m.now in
+    let new = c.extent-in-Inf.new.m in
+    let r = c.extent-in-Inf.result in
+    let d = c.extent-in-Inf.ensures in
+    quiet_done m new c.args.goal c.args.height c.args.rest r c.quiet_or_stop-in-Inf.result
+    (ask_done m new c.args.goal c.args.height c.args.rest (Extent Least) (rw c.in-Inf.is at c.requires.calls) r d.row d.stop d.goes d.raises d.sound d.program d.err)
+    c.quiet_or_stop-in-Inf.ensures
+
+pub optimum-requires-clause-one : goal.optimum-requires-clause-one
+optimum-requires-clause-one c =
+    so_many (text_of c.args.m.now.atoms) (at (terms c.args.m.now) c.args.goal) (Optimum Greatest) 1 (rw c.in-Maximize.is at c.requires.calls) (λ n. refl)
+
+pub optimum-requires-clause-selected : goal.optimum-requires-clause-selected
+optimum-requires-clause-selected c =
+    somewhere c.args.m.now c.args.goal c.args.height c.args.rest c.requires.at.selected
+
+pub returns-in-Maximize : goal.returns-in-Maximize
+returns-in-Maximize c =
+    let m = c.args.m.now in
+    let new = c.optimum.new.m in
+    let r = c.optimum.result in
+    let d = c.optimum.ensures in
+    quiet_done m new c.args.goal c.args.height c.args.rest r c.quiet_or_stop-in-Maximize.result
+    (ask_done m new c.args.goal c.args.height c.args.rest (Optimum Greatest) (rw c.in-Maximize.is at c.requires.calls) r d.row d.stop d.goes d.raises d.sound d.program d.err)
+    c.quiet_or_stop-in-Maximize.ensures
+
+pub optimum-in-Minimize-requires-clause-one : goal.optimum-in-Minimize-requires-clause-one
+optimum-in-Minimize-requires-clause-one c =
+    so_many (text_of c.args.m.now.atoms) (at (terms c.args.m.now) c.args.goal) (Optimum Least) 1 (rw c.in-Minimize.is at c.requires.calls) (λ n. refl)
+
+pub optimum-in-Minimize-requires-clause-selected : goal.optimum-in-Minimize-requires-clause-selected
+optimum-in-Minimize-requires-clause-selected c =
+    somewhere c.args.m.now c.args.goal c.args.height c.args.rest c.requires.at.selected
+
+pub returns-in-Minimize : goal.returns-in-Minimize
+returns-in-Minimize c =
+    let m = c.args.m.now in
+    let new = c.optimum-in-Minimize.new.m in
+    let r = c.optimum-in-Minimize.result in
+    let d = c.optimum-in-Minimize.ensures in
+    quiet_done m new c.args.goal c.args.height c.args.rest r c.quiet_or_stop-in-Minimize.result
+    (ask_done m new c.args.goal c.args.height c.args.rest (Optimum Least) (rw c.in-Minimize.is at c.requires.calls) r d.row d.stop d.goes d.raises d.sound d.program d.err)
+    c.quiet_or_stop-in-Minimize.ensures
 
 pub call-requires-clause-calls : goal.call-requires-clause-calls
 call-requires-clause-calls c =
