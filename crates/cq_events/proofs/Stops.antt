@@ -1,5 +1,5 @@
 -- Why a query stops where it selects a goal.
-use Rattle.std.proofs.Common.{◌≡◌, ℕ, ◌<◌, ◌∷◌, None, refl, inl, inr, sym, ◌∙◌, subst}
+use Rattle.std.proofs.Common.{◌≡◌, ℕ, ◌<◌, [], ◌∷◌, None, refl, inl, inr, sym, ◌∙◌, subst}
 use Rattle.spec_limits.specs.Chains.{IsBlandChain}
 use Rattle.spec_limits.specs.Overflow.{Moment}
 use Rattle.spec_syntax.specs.Trees.{Tree}
@@ -33,9 +33,9 @@ module _ (budgets : Budgets) (old : Machine) (n rest : ℕ) (s : Search) (few : 
   may = inr (subst (λ (i : ℕ). i < budgets.steps) (sym x.selected) few)
 
   -- a moment of the goal is one of its turn, or of the turn in which its first child is settled
-  comes : {cause : Cause} {moment : Moment} → ((t : Search) → IsMoment None t moment → Due budgets None t cause) → IsGoalMoment place goal moment → ComesToStop budgets cause s
-  comes f (asks q) = (with_branches [] s, coming.stops at_once (coming.stops may (f s (due.asks x.look q))), refl)
-  comes f (settles {items} {st} {work} {more} step q) =
+  comes : {cause : Cause} {moment : Moment} → IsGoalMoment place goal moment → ((t : Search) → IsMoment None t moment → Due budgets None t cause) → ComesToStop budgets cause s
+  comes (asks q) f = (with_branches [] s, coming.stops at_once (coming.stops may (f s (due.asks x.look q))), refl)
+  comes (settles {items} {st} {work} {more} step q) f =
       let then_ = after_step s (made place (child items st work ∷ more)) x.behind in (
         with_branches [] then_,
         coming.stops {r = then_} (after may (turn.steps x.look step) at_once) (coming.stops (inl refl) (f then_ (due.settles refl q))),
@@ -43,12 +43,12 @@ module _ (budgets : Budgets) (old : Machine) (n rest : ℕ) (s : Search) (few : 
       )
 
   pub stops_for_overflow : (budget : ℕ) (pair : Pair) → IsStop budget place goal (Overflow pair) → ComesToStop budgets (why.Overflow pair) s
-  stops_for_overflow budget pair (overflow g d) = comes (λ t i. due.overflow i d) g
+  stops_for_overflow budget pair (overflow g d) = comes g (λ t i. due.overflow i d)
 
   pub stops_for_pivots : (budget exchanges : ℕ) → budgets.pivots ≡ budget → IsStop budget place goal (Pivots exchanges) → ComesToStop budgets (why.Pivots exchanges) s
   stops_for_pivots budget exchanges e (pivots {m} g chain) =
       subst (λ (i : ℕ). ComesToStop budgets (why.Pivots i) s) e
-      (comes (λ t i. due.pivots i (subst (λ (k : ℕ). IsBlandChain m k) (sym e) chain)) g)
+      (comes g (λ t i. due.pivots i (subst (λ (k : ℕ). IsBlandChain m k) (sym e) chain)))
 
 -- a fault that isn't want of memory
 pub may_stop : (m : Machine) (n rest : ℕ) (fault : StoreFault) (s : Search) → IsStoppedNext m n rest fault s → MayStop m n rest fault s
