@@ -44,7 +44,13 @@ pub fn add(
     walks_outlast_changes();
     clauses.walks_are_known();
     let clause = stored_clause(heap, atoms, checked.parts)?;
-    put(clauses, checked.predicate, ProgramClause::new(clause), end, kind)?;
+    put(
+        clauses,
+        checked.predicate,
+        ProgramClause::new(clause),
+        end,
+        kind,
+    )?;
     Ok(())
 }
 

@@ -20,11 +20,7 @@ use cq_term::{Heap, Pred, TermId};
 use std::alloc::AllocError;
 
 /// The predicates that `dynamic(TERM)` or `discontiguous(TERM)` declares, in order, or the error of the goal.
-pub fn check_declared(
-    heap: &Heap,
-    atoms: &Atoms,
-    term: TermId,
-) -> Result<Vec<Pred>, BuiltinFault>
+pub fn check_declared(heap: &Heap, atoms: &Atoms, term: TermId) -> Result<Vec<Pred>, BuiltinFault>
     requires live { term < length heap.now.now.terms }
     requires names { KnowsTerms atoms.now heap.now.now.terms }
     ensures lawful { OnOk result (declaration_error is_built_in (tree atoms.now heap.now.now.terms term) ≡ None) }
