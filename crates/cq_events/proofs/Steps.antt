@@ -71,7 +71,7 @@ module _ (old : Machine) (n rest : ℕ) (s : Search) (x : SelectsNext old n rest
     tells_text budgets few some = shows at_once (may budgets.steps few) made (λ e. some (ap text_of_event e))
 
   -- an error that nothing catches
-  pub tells_ball : (budgets : Budgets) → n < budgets.steps → (e : Tree) → reply_of place goal ≡ Raises e
+  pub tells_ball : (budgets : Budgets) → n < budgets.steps → (e : Tree) → Steps place goal (ball_of goal e)
       → handed (plain_copy (error_ball e (indicator_of goal))) x.items x.behind ≡ None
       → Tells budgets s (Shows (Threw (plain_copy (error_ball e (indicator_of goal))))) (after_ball s [])
   tells_ball budgets few e raises none =
