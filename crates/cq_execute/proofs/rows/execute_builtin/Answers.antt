@@ -286,8 +286,8 @@ returns-in-Asserta c =
     (change_done m new c.args.goal c.args.height c.args.rest (Assert First) (rw c.in-Asserta.is at c.requires.calls) c.assert.result d.row d.goes d.raises d.stands d.sound d.keeps d.err)
     c.quiet-in-Asserta.ensures
 
-pub assert-in-Assertz-requires-clause-one : goal.assert-in-Assertz-requires-clause-one
-assert-in-Assertz-requires-clause-one c =
+pub assert-requires-in-Assertz-clause-one : goal.assert-requires-in-Assertz-clause-one
+assert-requires-in-Assertz-clause-one c =
     so_many (text_of c.args.m.now.atoms) (at (terms c.args.m.now) c.args.goal) (Assert Last) 1 (rw c.in-Assertz.is at c.requires.calls) (λ n. refl)
 
 pub returns-in-Assertz : goal.returns-in-Assertz
@@ -348,12 +348,12 @@ returns-in-Sup c =
     (ask_done m new c.args.goal c.args.height c.args.rest (Extent Greatest) (rw c.in-Sup.is at c.requires.calls) r d.row d.stop d.goes d.raises d.sound d.program d.err)
     c.quiet_or_stop-in-Sup.ensures
 
-pub extent-in-Inf-requires-clause-two : goal.extent-in-Inf-requires-clause-two
-extent-in-Inf-requires-clause-two c =
+pub extent-requires-in-Inf-clause-two : goal.extent-requires-in-Inf-clause-two
+extent-requires-in-Inf-clause-two c =
     so_many (text_of c.args.m.now.atoms) (at (terms c.args.m.now) c.args.goal) (Extent Least) 2 (rw c.in-Inf.is at c.requires.calls) (λ n. refl)
 
-pub extent-in-Inf-requires-clause-selected : goal.extent-in-Inf-requires-clause-selected
-extent-in-Inf-requires-clause-selected c =
+pub extent-requires-in-Inf-clause-selected : goal.extent-requires-in-Inf-clause-selected
+extent-requires-in-Inf-clause-selected c =
     somewhere c.args.m.now c.args.goal c.args.height c.args.rest c.requires.at.selected
 
 pub returns-in-Inf : goal.returns-in-Inf
@@ -384,12 +384,12 @@ returns-in-Maximize c =
     (ask_done m new c.args.goal c.args.height c.args.rest (Optimum Greatest) (rw c.in-Maximize.is at c.requires.calls) r d.row d.stop d.goes d.raises d.sound d.program d.err)
     c.quiet_or_stop-in-Maximize.ensures
 
-pub optimum-in-Minimize-requires-clause-one : goal.optimum-in-Minimize-requires-clause-one
-optimum-in-Minimize-requires-clause-one c =
+pub optimum-requires-in-Minimize-clause-one : goal.optimum-requires-in-Minimize-clause-one
+optimum-requires-in-Minimize-clause-one c =
     so_many (text_of c.args.m.now.atoms) (at (terms c.args.m.now) c.args.goal) (Optimum Least) 1 (rw c.in-Minimize.is at c.requires.calls) (λ n. refl)
 
-pub optimum-in-Minimize-requires-clause-selected : goal.optimum-in-Minimize-requires-clause-selected
-optimum-in-Minimize-requires-clause-selected c =
+pub optimum-requires-in-Minimize-clause-selected : goal.optimum-requires-in-Minimize-clause-selected
+optimum-requires-in-Minimize-clause-selected c =
     somewhere c.args.m.now c.args.goal c.args.height c.args.rest c.requires.at.selected
 
 pub returns-in-Minimize : goal.returns-in-Minimize
