@@ -1,5 +1,5 @@
 -- Predicates that are declared: why they are refused, and what making all of them dynamic is.
-use Rattle.std.proofs.Common.{◌≡◌, ◌<◌, ℕ, List, [], ◌∷◌, length, map, Option, Some, None, refl, sym, ap, ap₂, subst, ◌∙◌}
+use Rattle.std.proofs.Common.{◌≡◌, ◌<◌, ℕ, List, [], ◌∷◌, length, map, Option, None, refl, sym, ap, ap₂, subst, ◌∙◌}
 use Rattle.std.specs.Prelude.{All, fold}
 use Rattle.std.proofs.lemmas.List.Elements.{All-head, All-tail}
 use Rattle.spec_lists.specs.Texts.{Text}
@@ -10,7 +10,6 @@ use Rattle.spec_built.specs.Errors.{or_error}
 use Rattle.spec_builtins.specs.Clauses.{declarations, declaration_error}
 use Rattle.spec_search.specs.Builtins.{is_built_in}
 use Rattle.spec_search.specs.Database.{Database, all_declared, declared_dynamic}
-use Rattle.cq_atoms.specs.Texts.{AreDifferent}
 use Rattle.cq_term.specs.Meaning.{HeapTerm}
 use Rattle.cq_term.specs.declared.names.Pred.{Pred}
 use Rattle.cq_built.specs.declared.errors.BuiltinFault.{BuiltinFault}
