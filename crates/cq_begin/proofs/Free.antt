@@ -4,16 +4,12 @@ use Rattle.std.specs.Prelude.{Contains, Option, false}
 use Rattle.spec_linear.specs.Solution.{Solvable, Fixes}
 use Rattle.spec_lists.specs.Texts.{Text}
 use Rattle.spec_rational.specs.Rational.{ℚ}
-use Rattle.spec_terms.specs.Term.{Subst}
-use Rattle.spec_branch.specs.Branch.{State, Pending}
 use Rattle.cq_attr.specs.Attributes.{Attributes, is_numeric, IsWokenBy}
 use Rattle.cq_attr.proofs.Elements.{contains_none}
-use Rattle.cq_control.specs.Items.{items_at}
 use Rattle.cq_frac.specs.declared.VarId.{VarId}
 use Rattle.cq_settle.specs.Called.{OfCalls}
 use Rattle.cq_settle.specs.Steps.{IsIdle}
 use Rattle.cq_settle.proofs.Idle.{idle_kept}
-use Rattle.cq_steps.specs.Lists.{HasCells}
 use Rattle.cq_walk.specs.Places.{numbers_of}
 use Rattle.cq_world.specs.Contents.{Contents}
 use Rattle.spec_machine.specs.declared.cell.Cell.{Cell}

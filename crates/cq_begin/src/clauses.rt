@@ -77,8 +77,8 @@ pub fn begin_clause(
     }
 }
 
-/// The same, but for what is to be settled: None, with nothing changed, where something is. Then nothing can fail behind the
-/// head, and the heap alone is marked.
+/// The same where nothing is to be settled once the head is made equal: then nothing can fail any more, and the heap alone is
+/// marked. None, with nothing changed, where something is.
 fn begin_free(
     world: &mut World,
     lists: &mut Continuations<Cell>,
@@ -118,7 +118,7 @@ fn begin_free(
     }
 }
 
-/// A clause is begun behind a mark of the whole world.
+/// The same behind a mark of the whole world, whatever is to be settled.
 fn begin_marked(
     world: &mut World,
     lists: &mut Continuations<Cell>,

@@ -1,2 +1,0 @@
-use Rattle.std.proofs.Common.{sym, subst}
-use Rattle.cq_begin.proofs.clauses.begin_clause.Goals as goal
