@@ -1,5 +1,6 @@
 mod Woken
 mod Begins
+mod Free
 mod Leading
 mod Marks
 pub mod Newer

@@ -1,3 +1,4 @@
 pub mod Begun
+pub mod Entries
 pub mod Calls
 pub mod Stops

@@ -1,6 +1,6 @@
 // The beginning of a clause of a call.
 
-ghost use Rattle.std.specs.Prelude.{◌≡◌, ◌<◌, ◌≤◌, ℕ, List, length, IfOk, OnErr};
+ghost use Rattle.std.specs.Prelude.{◌≡◌, ◌<◌, ◌≤◌, ℕ, List, length, IfOk, OnErr, IfSome, IfNone, IsOk};
 ghost use Rattle.spec_lists.specs.Texts.{Text};
 ghost use Rattle.spec_terms.specs.Term.{named};
 ghost use Rattle.spec_built.specs.Built.{is_atom};
@@ -21,6 +21,7 @@ ghost use Rattle.cq_begin.specs.Begun.{IfGoes, IfPruned};
 ghost use Rattle.cq_begin.specs.Calls.{body_cells, ClauseComes, OfClause};
 
 use crate::beginning::{Begun, proceed};
+use crate::entering::{Entry, enter};
 use cq_atoms::Atoms;
 use cq_control::{Continuation, Continuations};
 use cq_linear::store::StoreFault;
@@ -59,6 +60,82 @@ pub fn begin_clause(
     ensures err { OnErr result (now_of world.new ≡ now_of world.old) }
 
     // A stop is due while the branch is settled.
+    ensures overflow { (pair : Pair) → result ≡ Err (Overflow pair)
+        → OfClause atoms.now (value world.old lists.old.now) goal height rest clause.now (λ st p. MayRefuse st p pair) }
+    ensures pivots { (n : ℕ) → result ≡ Err (Pivots n) → (n ≡ world.old.store.pivots)
+        × OfClause atoms.now (value world.old lists.old.now) goal height rest clause.now (λ st p. MayTake st p n) }
+    ensures there { IfOk result (λ b. IfGoes b (λ k. k < length lists.new.now)) }
+    ensures keeps { KeepsLists lists.old.now lists.new.now }
+    ensures lists { lists.new.saved ≡ lists.old.saved }
+    ensures saved { saved_of world.new ≡ saved_of world.old }
+    ensures budget { world.new.store.pivots ≡ world.old.store.pivots }
+    ensures room { room_of world.old ≤ room_of world.new }
+{
+    match begin_free(world, lists, atoms, clause, goal, height, rest)? {
+        Some(begun) => Ok(begun),
+        None => begin_marked(world, lists, atoms, clause, goal, height, rest),
+    }
+}
+
+/// The same where nothing is to be settled once the head is made equal: then nothing can fail any more, and the heap alone is
+/// marked. None, with nothing changed, where something is.
+fn begin_free(
+    world: &mut World,
+    lists: &mut Continuations<Cell>,
+    atoms: &Atoms,
+    clause: &Clause,
+    goal: TermId,
+    height: usize,
+    rest: Continuation,
+) -> Result<Option<Begun>, AllocError>
+    requires ready { IsReady atoms.now (now_of world.old) }
+    requires different { AreDifferent atoms.now }
+    requires clause { IsCounted (length atoms.now) clause.now }
+    requires goal { goal < length world.old.heap.now.terms }
+    requires rest { rest < length lists.old.now }
+    ensures comes { IfOk result (λ o. IfSome o (ClauseComes atoms.now (value world.old lists.old.now) (value world.new lists.new.now) goal height rest clause.now)) }
+    ensures unchanged { IfOk result (λ o. IfSome o (λ b. IfPruned b (now_of world.new ≡ now_of world.old))) }
+    ensures none { IfOk result (λ o. IfNone o (value world.new lists.new.now ≡ value world.old lists.old.now)) }
+    ensures err { OnErr result (now_of world.new ≡ now_of world.old) }
+    ensures there { IfOk result (λ o. IfSome o (λ b. IfGoes b (λ k. k < length lists.new.now))) }
+    ensures keeps { KeepsLists lists.old.now lists.new.now }
+    ensures lists { lists.new.saved ≡ lists.old.saved }
+    ensures marks { KeepsMarks world.old world.new }
+{
+    clauses_are_counted();
+    equated_worlds_may_be_settled();
+    look_at(&world.heap, goal);
+    let _told = world.store.told();
+    lists.reserve_cells(1)?;
+    let mut newly = Newly::new(world.heap.alloc());
+    match enter(clause, &mut world.heap, &world.attrs, &mut newly, goal)? {
+        Entry::Body(body) => {
+            let behind = body_before(clause, lists, atoms, body, height, rest).unwrap();
+            Ok(Some(Begun::Goes(behind)))
+        }
+        Entry::Clash => Ok(Some(Begun::Pruned)),
+        Entry::Unsettled => Ok(None),
+    }
+}
+
+/// The same behind a mark of the whole world, whatever is to be settled.
+fn begin_marked(
+    world: &mut World,
+    lists: &mut Continuations<Cell>,
+    atoms: &Atoms,
+    clause: &Clause,
+    goal: TermId,
+    height: usize,
+    rest: Continuation,
+) -> Result<Begun, StoreFault>
+    requires ready { IsReady atoms.now (now_of world.old) }
+    requires different { AreDifferent atoms.now }
+    requires clause { IsCounted (length atoms.now) clause.now }
+    requires goal { goal < length world.old.heap.now.terms }
+    requires rest { rest < length lists.old.now }
+    ensures comes { IfOk result (ClauseComes atoms.now (value world.old lists.old.now) (value world.new lists.new.now) goal height rest clause.now) }
+    ensures unchanged { IfOk result (λ b. IfPruned b (now_of world.new ≡ now_of world.old)) }
+    ensures err { OnErr result (now_of world.new ≡ now_of world.old) }
     ensures overflow { (pair : Pair) → result ≡ Err (Overflow pair)
         → OfClause atoms.now (value world.old lists.old.now) goal height rest clause.now (λ st p. MayRefuse st p pair) }
     ensures pivots { (n : ℕ) → result ≡ Err (Pivots n) → (n ≡ world.old.store.pivots)
@@ -142,6 +219,7 @@ fn body_before(
     ensures cells { IfOk result (λ k. HasCells lists.new.now k (body_cells (named (text_of atoms.now) clause.now.body) body height (items_at lists.old.now rest))) }
     ensures keeps { KeepsLists lists.old.now lists.new.now }
     ensures saved { lists.new.saved ≡ lists.old.saved }
+    ensures prepared { 0 < lists.old.ready → IsOk result }
 {
     if is_true(clause, atoms) {
         return Ok(rest);

@@ -4,6 +4,7 @@
 
 mod beginning;
 mod clauses;
+mod entering;
 mod laws;
 mod rows;
 mod waking;

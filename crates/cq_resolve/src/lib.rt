@@ -6,4 +6,4 @@ mod matching;
 mod parts;
 mod resolution;
 
-pub use resolution::resolve;
+pub use resolution::{resolve, resolve_unmarked};

@@ -40,12 +40,14 @@ pub(crate) fn match_head(
     ensures saved { heap.new.saved ≡ heap.old.saved }
     ensures room { heap.old.room ≤ heap.new.room }
 {
-    let goals = vec![in heap.alloc(); goal]?;
     let mut walk = Walk {
         place: 0,
         met: 0,
-        goals,
+        goals: Vec::new(heap.alloc()),
     };
+    if !step(heap, newly, head, first, goal, &mut walk)? {
+        return Ok(false);
+    }
     while let Some(next) = walk.goals.pop() {
         if !step(heap, newly, head, first, next, &mut walk)? {
             return Ok(false);

@@ -41,7 +41,7 @@ pub fn resolve(
     heap.reserve(1)?;
     let start = heap.mark().unwrap();
     let told = newly.as_slice().len();
-    let outcome = solve(clause, heap, newly, goal);
+    let outcome = resolve_unmarked(clause, heap, newly, goal);
     if let Ok(Some(_)) = outcome {
         heap.forget(start);
     } else {
@@ -51,8 +51,9 @@ pub fn resolve(
     outcome
 }
 
-/// The same, but for what was made, bound and told before a clash, or before memory ran out.
-fn solve(
+/// The same, but for what was made, bound and told before a clash, or before memory ran out: the caller marks the heap, and
+/// undoes.
+pub fn resolve_unmarked(
     clause: &Clause,
     heap: &mut Heap,
     newly: &mut Newly,

@@ -28,7 +28,7 @@ mod Binding
 mod Start
 mod Begin
 mod Ways
-mod Idle
+pub mod Idle
 mod Watch
 mod Waking
 mod Again

@@ -1,7 +1,6 @@
 use Rattle.std.proofs.Common.{◌≡◌, ◌∙◌, List, map, refl, sym, ap, subst}
 use Rattle.std.specs.List.{zip}
 use Rattle.spec_lists.proofs.Prefixes.{prefix_within}
-use Rattle.spec_lists.specs.Texts.{Text}
 use Rattle.spec_operators.specs.Operators.{Ops}
 use Rattle.spec_search.specs.Database.{Database, Dynamic, clause_added}
 use Rattle.spec_machine.specs.Cells.{Value, Stack}

@@ -5,7 +5,7 @@ use Rattle.cq_begin.specs.declared.beginning.Begun.TheVariants.{Goes, Pruned}
 use Rattle.cq_begin.specs.Calls.{ClauseComes}
 use Rattle.cq_begin.proofs.Instances.{pruned_any}
 use Rattle.cq_begin.proofs.Marks.{went_back}
-use Rattle.cq_begin.proofs.clauses.begin_clause.Goals as goal
+use Rattle.cq_begin.proofs.clauses.begin_marked.Goals as goal
 
 pub returns-in-Goes-clause-comes : goal.returns-in-Goes-clause-comes
 returns-in-Goes-clause-comes c =

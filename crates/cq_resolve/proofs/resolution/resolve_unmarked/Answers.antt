@@ -7,8 +7,8 @@ use Rattle.cq_stored.proofs.Named.{named_pattern}
 use Rattle.cq_resolve.specs.Matching.{Call, Matching}
 use Rattle.cq_resolve.specs.Resolved.{Resolved, call}
 use Rattle.cq_resolve.proofs.Started.{ok_is, ok_some, the_call, matching_start, resolved_end, still_there}
-use Rattle.cq_resolve.proofs.resolution.solve.Goals as goal
-use Rattle.cq_resolve.proofs.resolution.solve.Goals.{After-head}
+use Rattle.cq_resolve.proofs.resolution.resolve_unmarked.Goals as goal
+use Rattle.cq_resolve.proofs.resolution.resolve_unmarked.Goals.{After-head}
 
 abbrev the_call_of : After-head → Call
 the_call_of c = the_call c.args.heap.now.now c.new_variables.new.heap.now c.variables.result c.in_ok-first.first c.head.result.now c.args.goal c.args.newly.now
