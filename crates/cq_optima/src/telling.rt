@@ -20,7 +20,7 @@ use cq_linear::store::StoreFault;
 use cq_machine::{Machine, Step, build};
 use cq_term::TermId;
 use cq_walk::Pair;
-use std::alloc::AllocError;
+use std::alloc::{AllocError, Global};
 
 /// The term is made equal to the value, and the world settled.
 pub(crate) fn equal_to(
@@ -133,6 +133,14 @@ fn make_equal(
     }
 }
 
+/// A list of one term.
+fn only(alloc: Global, term: TermId) -> Result<Vec<TermId>, AllocError>
+    ensures { IfOk result (λ list. list.items ≡ term ∷ []) }
+{
+    let list = vec![in alloc; term]?;
+    Ok(list)
+}
+
 /// The relation is told, and the world settled.
 fn tell_one(m: &mut Machine, relation: TermId, rest: Continuation) -> Result<Step, StoreFault>
     requires sound { IsSound m.old }
@@ -149,7 +157,7 @@ fn tell_one(m: &mut Machine, relation: TermId, rest: Continuation) -> Result<Ste
     ensures program { HasSameProgram m.old m.new }
     ensures err { OnErr result (StillStands m.old m.new) }
 {
-    let told = vec![in m.world.first.heap.alloc(); relation]?;
+    let told = only(m.world.first.heap.alloc(), relation)?;
     let world = &mut m.world;
     match cq_begin::tell(&mut world.first, &mut world.second, &m.atoms, told, rest) {
         Ok(begun) => match begun {
