@@ -1,5 +1,5 @@
 -- Why a query stops where it selects a goal.
-use Rattle.std.proofs.Common.{◌≡◌, ℕ, ◌<◌, [], ◌∷◌, None, refl, inl, inr, sym, ◌∙◌, subst}
+use Rattle.std.proofs.Common.{◌≡◌, ℕ, ◌<◌, [], ◌∷◌, None, refl, inl, inr, sym, subst}
 use Rattle.spec_limits.specs.Chains.{IsBlandChain}
 use Rattle.spec_limits.specs.Overflow.{Moment}
 use Rattle.spec_syntax.specs.Trees.{Tree}

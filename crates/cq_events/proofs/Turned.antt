@@ -6,15 +6,13 @@ use Rattle.spec_search.specs.Search.{Search}
 use Rattle.spec_stops.specs.Causes.{Budgets}
 use Rattle.spec_machine.specs.Coming.{Quietly, at_once}
 use Rattle.cq_machine.specs.declared.machine.Machine.{Machine}
-use Rattle.cq_machine.specs.Machines.{IsSound}
 use Rattle.cq_engine.specs.Seeking.{GainsNames}
 use Rattle.cq_engine.proofs.Told.{quietly_then}
-use Rattle.cq_engine.proofs.Engines.{kept_where}
 use Rattle.cq_execute.specs.Executions.{KeepsWalks}
 use Rattle.cq_events.specs.declared.engine.Engine.{Engine}
 use Rattle.cq_events.specs.declared.event.Event.{Event}
 use Rattle.cq_events.specs.declared.event.Event.TheVariants.{Answer, Output, Fail, Ball, Stop}
-use Rattle.cq_events.specs.Events.{Stands, Arrives, IsRunning, HasBudgets, GivesNext, GoesOn, HasCounted, Keeps}
+use Rattle.cq_events.specs.Events.{Stands, Arrives, HasBudgets, GivesNext, GoesOn, HasCounted, Keeps}
 use Rattle.cq_events.specs.Turning.{Turned}
 use Rattle.cq_events.proofs.Ended.{gives_then}
 

@@ -17,7 +17,7 @@ use Rattle.cq_machine.specs.declared.machine.Machine.{Machine}
 use Rattle.cq_machine.specs.declared.step.Step.{Step}
 use Rattle.cq_machine.specs.declared.step.Step.TheVariants.{Goes, Back, Raises, Refuses}
 use Rattle.cq_machine.specs.Machines.{terms, database_of, IsSound, HasSameProgram, StillStands}
-use Rattle.cq_machine.specs.Stepping.{row_of, IsSelectedAt, CanGo, OnRaises}
+use Rattle.cq_machine.specs.Stepping.{row_of, CanGo, OnRaises}
 use Rattle.cq_questions.specs.Stops.{TakesIn}
 use Rattle.cq_settle.specs.Settled.{MayTake}
 use Rattle.cq_optima.specs.Asked.{Takes, TakesStep, StepsToOne, IsStoppedAt, StopsStep}

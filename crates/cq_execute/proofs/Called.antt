@@ -1,20 +1,15 @@
 -- A term that is called, and a goal of a user predicate.
-use Rattle.std.proofs.Common.{◌≡◌, ℕ, List, [], ◌∷◌, true, Option, Some, None, refl, sym, ap, ◌∙◌, subst}
+use Rattle.std.proofs.Common.{◌≡◌, ℕ, List, true, None, sym, ◌∙◌, subst}
 use Rattle.std.specs.Prelude.{Ok, Err, IfOk, OnErr}
-use Rattle.std.specs.Option.{option_map}
 use Rattle.std.specs.declared.result.Result.{Result}
 use Rattle.spec_syntax.specs.Trees.{Tree}
-use Rattle.spec_built.specs.Built.{indicator, indicator_of}
+use Rattle.spec_built.specs.Built.{indicator_of}
 use Rattle.spec_built.specs.Kinds.{is_callable}
 use Rattle.spec_branch.specs.Branch.{Branch}
 use Rattle.spec_search.specs.Builtins.{builtin_of}
 use Rattle.spec_search.specs.Control.{user_row}
 use Rattle.spec_search.specs.Replies.{Place}
 use Rattle.spec_search.specs.Rows.{reply_of}
-use Rattle.cq_declarations.specs.Clauses.{IsOf}
-use Rattle.cq_linear.specs.declared.store.StoreFault.{StoreFault}
-use Rattle.cq_table.specs.Names.{as_builtin}
-use Rattle.cq_table.specs.declared.builtins.Builtin.{Builtin}
 use Rattle.cq_term.specs.Trees.{tree}
 use Rattle.cq_steps.proofs.Added.{reads_tree}
 use Rattle.cq_machine.specs.declared.machine.Machine.{Machine}

@@ -1,5 +1,5 @@
 -- A row that was done, for the goal that calls its built-in predicate.
-use Rattle.std.proofs.Common.{◌≡◌, ℕ, List, [], length, drop, Some, refl, sym, ap, ◌∙◌, subst}
+use Rattle.std.proofs.Common.{◌≡◌, ℕ, List, [], length, drop, Some, refl, sym, ◌∙◌, subst}
 use Rattle.std.specs.Prelude.{Ok, Err, IfOk, IfErr, OnErr}
 use Rattle.std.specs.declared.result.Result.{Result}
 use Rattle.spec_lists.proofs.Prefixes.{prefix_same}
@@ -27,13 +27,13 @@ use Rattle.cq_revise.specs.Revised.{KeepsShowing}
 use Rattle.cq_machine.specs.declared.machine.Machine.{Machine}
 use Rattle.cq_machine.specs.declared.step.Step.{Step}
 use Rattle.cq_machine.specs.declared.step.Step.TheVariants.{Goes, Back, Raises, Refuses}
-use Rattle.cq_machine.specs.Machines.{terms, now, database_of, IsSound, HasSameProgram, StillStands}
+use Rattle.cq_machine.specs.Machines.{terms, now, IsSound, HasSameProgram, StillStands}
 use Rattle.cq_machine.specs.Stepping.{row_of, IsStep, IsSelectedAt, IsSelectedSomewhere, LeadsTo, CanGo, OnRaises}
 use Rattle.cq_selected.specs.Stops.{IsSelectedFrom, StopsAt}
 use Rattle.cq_execute.specs.declared.executed.Executed.{Executed}
 use Rattle.cq_execute.specs.Executions.{KeepsClauses, KeepsWalks, HasSameDatabase}
 use Rattle.cq_execute.specs.Rows.{IsRowDone, IsDone, IsQuiet, as_stop}
-use Rattle.cq_execute.specs.Stops.{IsStop, StopsThere, no_memory}
+use Rattle.cq_execute.specs.Stops.{IsStop}
 use Rattle.cq_execute.proofs.Table.{none_behind}
 use Rattle.cq_execute.proofs.Reached.{replies, reach, quietly}
 use Rattle.cq_execute.proofs.Stopped.{stop_of_row}

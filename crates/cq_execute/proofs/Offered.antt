@@ -1,5 +1,5 @@
 -- The row of a predicate on terms or texts, for the goal that calls it.
-use Rattle.std.proofs.Common.{◌≡◌, ℕ, List, [], map, Some, None, refl, sym, ap, ◌∙◌, subst}
+use Rattle.std.proofs.Common.{◌≡◌, ℕ, List, [], Some, None, refl, sym, ap, ◌∙◌, subst}
 use Rattle.std.specs.Prelude.{Ok, Err, IfOk, OnErr, option_and_then}
 use Rattle.std.specs.declared.result.Result.{Result}
 use Rattle.spec_syntax.specs.Trees.{Tree}
@@ -7,17 +7,16 @@ use Rattle.spec_built.specs.Built.{indicator_of}
 use Rattle.spec_builtins.specs.Alternatives.{Solutions, Faults, Offers}
 use Rattle.spec_builtins.specs.Terms.{arguments}
 use Rattle.spec_branch.specs.Branch.{Branch}
-use Rattle.spec_predicates.specs.Calls.{solutions_of, stepped_by}
+use Rattle.spec_predicates.specs.Calls.{solutions_of}
 use Rattle.spec_predicates.specs.Predicates.{Predicate, Order, Test, AtomList, Functor, Arg, Univ, CopyTerm, AtomLength, CharCode, NumberCodes, AtomConcat, SubAtom, predicate_of, predicate_named}
 use Rattle.spec_predicates.proofs.Stepping.{called}
 use Rattle.spec_search.specs.Builtins.{Builtin, builtin_of}
 use Rattle.spec_search.specs.Replies as reply
 use Rattle.spec_search.specs.Replies.{Place, Made, Makes, made, offers, alternative_child}
-use Rattle.spec_search.specs.Rows.{reply_of, builtin_reply}
+use Rattle.spec_search.specs.Rows.{builtin_reply}
 use Rattle.spec_search.specs.Steps.{Children}
 use Rattle.cq_built.specs.Errors.{error_tree}
 use Rattle.cq_frac.specs.declared.Pair.{Pair}
-use Rattle.cq_linear.specs.declared.store.StoreFault.{StoreFault}
 use Rattle.cq_table.specs.Names.{built_in}
 use Rattle.cq_term.specs.Trees.{tree}
 use Rattle.cq_steps.proofs.Added.{reads_tree}

@@ -1,5 +1,5 @@
 -- Goals that go on behind themselves, with output or other operators.
-use Rattle.std.proofs.Common.{◌≡◌, ◌<◌, ℕ, List, [], ◌∷◌, ◌++◌, length, Some, refl, sym, ap, ◌∙◌, subst}
+use Rattle.std.proofs.Common.{◌≡◌, ◌<◌, ℕ, List, [], ◌++◌, length, Some, refl, sym, ap, ◌∙◌, subst}
 use Rattle.std.specs.Prelude.{Ok, Err}
 use Rattle.spec_lists.proofs.Prefixes.{prefix_same}
 use Rattle.spec_lists.specs.Texts.{Text}

@@ -5,11 +5,10 @@ use Rattle.spec_search.specs.Control.{call_row}
 use Rattle.spec_search.specs.Replies.{Raises}
 use Rattle.cq_built.specs.Errors.{error_tree, HasCulprit}
 use Rattle.cq_world.specs.Contents.{Contents}
-use Rattle.cq_steps.specs.Worlds.{value, saved_values}
 use Rattle.cq_steps.proofs.Done.{length-stack}
 use Rattle.cq_machine.specs.declared.step.Step.{Step}
 use Rattle.cq_machine.specs.declared.step.Step.TheVariants as step
-use Rattle.cq_machine.specs.Machines.{terms, now, saved, holds, StillStands}
+use Rattle.cq_machine.specs.Machines.{now, saved, holds, StillStands}
 use Rattle.cq_machine.specs.Stepping.{CanGo, OnRaises}
 use Rattle.cq_machine.proofs.Built.{stands_still}
 use Rattle.cq_machine.proofs.Kept.{leads_over}

@@ -6,7 +6,7 @@ use Rattle.cq_term.specs.Meaning.{at}
 use Rattle.cq_term.specs.Shown.{arguments}
 use Rattle.cq_machine.specs.Machines.{terms}
 use Rattle.cq_execute.proofs.Table.{some_of_call}
-use Rattle.cq_execute.proofs.Done.{quiet_done, row_done, none_raised, rows_at, call_alone}
+use Rattle.cq_execute.proofs.Done.{quiet_done, row_done, rows_at, call_alone}
 use Rattle.cq_execute.proofs.rows.call.Goals as goal
 
 pub call-requires-clause-one : goal.call-requires-clause-one

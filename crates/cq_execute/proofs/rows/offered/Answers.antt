@@ -1,4 +1,4 @@
-use Rattle.std.proofs.Common.{sym, ap, ◌∙◌}
+use Rattle.std.proofs.Common.{◌∙◌}
 use Rattle.spec_built.specs.Built.{indicator_of}
 use Rattle.cq_atoms.specs.Texts.{text_of}
 use Rattle.cq_predicates.specs.Names.{as_predicate}
