@@ -25,8 +25,8 @@ returns-in-Entailed-clause-row c = λ height p behind g s e.
     let b = s.selected.place.continuation.state in
     let r = argument_is m.atoms (now m).0 p.state c.args.goal 0 c.arg-constraint.result g s.reads c.arg-constraint.ensures.live c.arg-constraint.ensures.arg in
     let lawful : question_error a ≡ None = ap question_error (sym r) ∙ c.in-Ok.ensures.lawful in
-    let ms : List Tree = trees m.atoms (terms m) c.in-Ok.members.items in
-    let same : ms ≡ members a = c.in-Ok.ensures.members ∙ ap members r in
+    let ms : List Tree = trees m.atoms (terms m) c.deref.result.now in
+    let same : ms ≡ members a = ap (λ (ids : List ℕ). trees m.atoms (terms m) ids) c.deref.ensures.value ∙ c.in-Ok.ensures.members ∙ ap members r in
     let mid = c.ask_members.new.m in
     steps_on mid (Some c.args.rest) p behind g (onward p)
     (unchanged_leads m mid (Some c.args.rest) p behind (makes p (onward p)) c.ask_members.ensures.unchanged
@@ -40,8 +40,8 @@ returns-in-Broken-clause-row c = λ height p behind g s e.
     let b = s.selected.place.continuation.state in
     let r = argument_is m.atoms (now m).0 p.state c.args.goal 0 c.arg-constraint.result g s.reads c.arg-constraint.ensures.live c.arg-constraint.ensures.arg in
     let lawful : question_error a ≡ None = ap question_error (sym r) ∙ c.in-Ok.ensures.lawful in
-    let ms : List Tree = trees m.atoms (terms m) c.in-Ok.members.items in
-    let same : ms ≡ members a = c.in-Ok.ensures.members ∙ ap members r in
+    let ms : List Tree = trees m.atoms (terms m) c.deref.result.now in
+    let same : ms ≡ members a = ap (λ (ids : List ℕ). trees m.atoms (terms m) ids) c.deref.ensures.value ∙ c.in-Ok.ensures.members ∙ ap members r in
     let mid = c.ask_members.new.m in
     steps_on mid None p behind g []
     (unchanged_leads m mid None p behind (makes p []) c.ask_members.ensures.unchanged
@@ -55,8 +55,8 @@ returns-in-Ok-ask_members-clause-row c = λ height p behind g s e.
     let b = s.selected.place.continuation.state in
     let r = argument_is m.atoms (now m).0 p.state c.args.goal 0 c.arg-constraint.result g s.reads c.arg-constraint.ensures.live c.arg-constraint.ensures.arg in
     let lawful : question_error a ≡ None = ap question_error (sym r) ∙ c.in-Ok.ensures.lawful in
-    let ms : List Tree = trees m.atoms (terms m) c.in-Ok.members.items in
-    let same : ms ≡ members a = c.in-Ok.ensures.members ∙ ap members r in
+    let ms : List Tree = trees m.atoms (terms m) c.deref.result.now in
+    let same : ms ≡ members a = ap (λ (ids : List ℕ). trees m.atoms (terms m) ids) c.deref.ensures.value ∙ c.in-Ok.ensures.members ∙ ap members r in
     let mid = c.ask_members.new.m in
     let id = c.in-Waits.member in
     subst (λ (x : BuiltinError). Steps p g (ball_of g (error_tree mid.atoms (terms mid) x))) (sym c.not_linear.ensures)
@@ -71,8 +71,8 @@ returns-in-Ok-clause-stop c = λ height p behind g s e.
     let b = s.selected.place.continuation.state in
     let r = argument_is m.atoms (now m).0 p.state c.args.goal 0 c.arg-constraint.result g s.reads c.arg-constraint.ensures.live c.arg-constraint.ensures.arg in
     let lawful : question_error a ≡ None = ap question_error (sym r) ∙ c.in-Ok.ensures.lawful in
-    let ms : List Tree = trees m.atoms (terms m) c.in-Ok.members.items in
-    let same : ms ≡ members a = c.in-Ok.ensures.members ∙ ap members r in
+    let ms : List Tree = trees m.atoms (terms m) c.deref.result.now in
+    let same : ms ≡ members a = ap (λ (ids : List ℕ). trees m.atoms (terms m) ids) c.deref.ensures.value ∙ c.in-Ok.ensures.members ∙ ap members r in
     members_stop m.atoms (now m).0 p b g a e lawful ms same m.world.first.store.pivots c.in-Err-ask_members.fault c.in-Err-ask_members.ensures.stop
 
 pub returns-in-Error-clause-row : goal.returns-in-Error-clause-row

@@ -1,11 +1,11 @@
-use Rattle.std.proofs.Common.{◌≡◌, ℕ, List, [], ◌∷◌, None, sym, ◌∙◌, subst}
+use Rattle.std.proofs.Common.{◌≡◌, [], ◌∷◌, None, sym, ◌∙◌, subst}
 use Rattle.spec_rational.specs.Rational.{ℚ}
 use Rattle.spec_builtins.specs.Terms as builtins
 use Rattle.spec_builtins.specs.Alternatives.{◌≐◌}
 use Rattle.spec_branch.specs.Branch.{Branch}
 use Rattle.spec_search.specs.Builtins.{Extent}
-use Rattle.spec_search.specs.Replies.{Place, child, makes, with_equations}
-use Rattle.spec_search.specs.Rows.{nth, reply_of}
+use Rattle.spec_search.specs.Replies.{child, makes, with_equations}
+use Rattle.spec_search.specs.Rows.{nth}
 use Rattle.spec_search.specs.Steps.{Steps, children}
 use Rattle.spec_syntax.specs.Trees.{Tree}
 use Rattle.spec_terms.specs.Term.{Number}
@@ -13,7 +13,7 @@ use Rattle.cq_questions.specs.Extents.{side_of}
 use Rattle.cq_term.specs.Trees.{tree}
 use Rattle.cq_steps.proofs.Arguments.{argument_reads}
 use Rattle.cq_machine.specs.Machines.{terms, now, holds}
-use Rattle.cq_machine.specs.Stepping.{row_of, IsSelectedAt}
+use Rattle.cq_machine.specs.Stepping.{row_of}
 use Rattle.cq_machine.proofs.Kept.{argument_is}
 use Rattle.cq_optima.proofs.Asked.{steps_on}
 use Rattle.cq_optima.proofs.Children.{value_takes, value_stops}
@@ -28,11 +28,11 @@ returns-in-Value-clause-row c =
     let t : Tree = tree mid.atoms (terms mid) c.arg-value.result in
     value_takes m mid c.equal_to.new.m c.value_at.ensures.unchanged c.args.goal c.args.rest (row_of (Extent (side_of c.args.side))) (with_equations ((t ≐ Number q) ∷ []))
     (λ height p behind g s e. (let same : t ≡ nth (builtins.arguments g) 1 =
-        tree_on m mid (unchanged_built m mid c.value_at.ensures.unchanged) c.arg-value.result c.arg-value.ensures.live
-        ∙ argument_is m.atoms (now m).0 p.state c.args.goal 1 c.arg-value.result g s.reads c.arg-value.ensures.live c.arg-value.ensures.arg in
-        let re = argument_reads m.atoms (now m).0 p.state c.args.goal 0 c.arg-expression.result g s.reads c.arg-expression.ensures.live c.arg-expression.ensures.arg in
-        subst (λ (x : Tree). Steps p g (children p (child p.rest p.state (with_equations ((x ≐ Number q) ∷ [])) ∷ []))) (sym same)
-        ((rw c.in-Value.is at c.in-Ok.ensures.valued) p g (nth (builtins.arguments g) 0) (λ (q : ℚ). child p.rest p.state (with_equations ((nth (builtins.arguments g) 1 ≐ Number q) ∷ []))) s.selected.place.continuation.state re e)))
+    tree_on m mid (unchanged_built m mid c.value_at.ensures.unchanged) c.arg-value.result c.arg-value.ensures.live
+    ∙ argument_is m.atoms (now m).0 p.state c.args.goal 1 c.arg-value.result g s.reads c.arg-value.ensures.live c.arg-value.ensures.arg in
+    let re = argument_reads m.atoms (now m).0 p.state c.args.goal 0 c.arg-expression.result g s.reads c.arg-expression.ensures.live c.arg-expression.ensures.arg in
+    subst (λ (x : Tree). Steps p g (children p (child p.rest p.state (with_equations ((x ≐ Number q) ∷ [])) ∷ []))) (sym same)
+    ((rw c.in-Value.is at c.in-Ok.ensures.valued) p g (nth (builtins.arguments g) 0) (λ (q : ℚ). child p.rest p.state (with_equations ((nth (builtins.arguments g) 1 ≐ Number q) ∷ []))) s.selected.place.continuation.state re e)))
     c.equal_to.result c.equal_to.ensures.row
 
 pub returns-in-Value-clause-stop : goal.returns-in-Value-clause-stop
@@ -43,11 +43,11 @@ returns-in-Value-clause-stop c =
     let t : Tree = tree mid.atoms (terms mid) c.arg-value.result in
     value_stops m mid c.equal_to.new.m c.value_at.ensures.unchanged c.args.goal c.args.rest (row_of (Extent (side_of c.args.side))) (with_equations ((t ≐ Number q) ∷ []))
     (λ height p behind g s e. (let same : t ≡ nth (builtins.arguments g) 1 =
-        tree_on m mid (unchanged_built m mid c.value_at.ensures.unchanged) c.arg-value.result c.arg-value.ensures.live
-        ∙ argument_is m.atoms (now m).0 p.state c.args.goal 1 c.arg-value.result g s.reads c.arg-value.ensures.live c.arg-value.ensures.arg in
-        let re = argument_reads m.atoms (now m).0 p.state c.args.goal 0 c.arg-expression.result g s.reads c.arg-expression.ensures.live c.arg-expression.ensures.arg in
-        subst (λ (x : Tree). Steps p g (children p (child p.rest p.state (with_equations ((x ≐ Number q) ∷ [])) ∷ []))) (sym same)
-        ((rw c.in-Value.is at c.in-Ok.ensures.valued) p g (nth (builtins.arguments g) 0) (λ (q : ℚ). child p.rest p.state (with_equations ((nth (builtins.arguments g) 1 ≐ Number q) ∷ []))) s.selected.place.continuation.state re e)))
+    tree_on m mid (unchanged_built m mid c.value_at.ensures.unchanged) c.arg-value.result c.arg-value.ensures.live
+    ∙ argument_is m.atoms (now m).0 p.state c.args.goal 1 c.arg-value.result g s.reads c.arg-value.ensures.live c.arg-value.ensures.arg in
+    let re = argument_reads m.atoms (now m).0 p.state c.args.goal 0 c.arg-expression.result g s.reads c.arg-expression.ensures.live c.arg-expression.ensures.arg in
+    subst (λ (x : Tree). Steps p g (children p (child p.rest p.state (with_equations ((x ≐ Number q) ∷ [])) ∷ []))) (sym same)
+    ((rw c.in-Value.is at c.in-Ok.ensures.valued) p g (nth (builtins.arguments g) 0) (λ (q : ℚ). child p.rest p.state (with_equations ((nth (builtins.arguments g) 1 ≐ Number q) ∷ []))) s.selected.place.continuation.state re e)))
     c.equal_to.result c.equal_to.ensures.stop
 
 pub returns-in-Nothing-clause-row : goal.returns-in-Nothing-clause-row
