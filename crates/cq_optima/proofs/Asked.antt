@@ -1,5 +1,5 @@
 -- What the answers of a machine's world say of the goal that asks.
-use Rattle.std.proofs.Common.{◌≡◌, ◌<◌, ℕ, List, [], ◌∷◌, length, Option, None, Some, refl, sym, ap, ◌∙◌, subst, inl, inr}
+use Rattle.std.proofs.Common.{◌≡◌, ℕ, List, [], Option, None, Some, sym, ap, ◌∙◌, subst, inl}
 use Rattle.spec_rational.specs.Rational.{ℚ}
 use Rattle.spec_linear.specs.Solution.{Constraint, Fixes}
 use Rattle.spec_lists.specs.Texts.{Text}
@@ -24,7 +24,6 @@ use Rattle.cq_questions.specs.Members.{AreEntailed, IsOneBroken, IsFirstWaiting}
 use Rattle.cq_questions.specs.Stops.{AtStates, IsDueIn, MembersStop, ExtentStops}
 use Rattle.cq_questions.specs.Values.{AtValues, WithValues}
 use Rattle.cq_questions.proofs.Answered.{entailed_step, broken_step, not_linear_step, extent_step, unbounded_step, false_step, waits_step, members_due, extent_due}
-use Rattle.cq_term.specs.Meaning.{HeapTerm}
 use Rattle.cq_term.specs.Trees.{tree}
 use Rattle.cq_world.specs.Contents.{Contents}
 use Rattle.cq_steps.specs.Worlds.{IsBranch, Leads}

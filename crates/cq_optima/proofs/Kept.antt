@@ -1,5 +1,5 @@
 -- What a machine keeps where it is asked, where terms are built, and where a child is settled.
-use Rattle.std.proofs.Common.{◌≡◌, ◌<◌, ℕ, List, ◌++◌, Option, Some, refl, sym, ◌∙◌, subst}
+use Rattle.std.proofs.Common.{◌≡◌, ◌<◌, ℕ, List, ◌++◌, length, Option, Some, refl, sym, ◌∙◌, subst}
 use Rattle.spec_lists.specs.Texts.{Text}
 use Rattle.spec_syntax.specs.Trees.{Tree}
 use Rattle.spec_branch.specs.Branch.{Branch}

@@ -17,7 +17,6 @@ use Rattle.cq_begin.proofs.Stopping.{refuses, takes}
 use Rattle.cq_frac.specs.declared.Pair.{Pair}
 use Rattle.cq_linear.specs.declared.store.StoreFault.TheVariants as fault
 use Rattle.cq_questions.proofs.Answered.{overflow_due, pivots_due}
-use Rattle.cq_settle.specs.Settled.{MayTake}
 use Rattle.cq_optima.specs.Asked.{IsStoppedAt}
 
 module _ (budgets : Budgets) (s : Search) (goal : Tree) (cut : ℕ) (items : List Item) (st : State) (behind : List Branch)

@@ -10,8 +10,8 @@ use Rattle.spec_search.specs.Replies.{Place, WithExtent, child, makes, unless_er
 use Rattle.spec_search.specs.Rows.{reply_of}
 use Rattle.spec_search.specs.Steps.{Steps, children, ball_of}
 use Rattle.cq_built.specs.Errors.{error_tree, HasCulprit}
-use Rattle.cq_built.specs.declared.errors.BuiltinError.TheVariants.{Type}
-use Rattle.cq_built.specs.declared.errors.Culprit.TheVariants.{Term}
+use Rattle.cq_built.specs.declared.errors.BuiltinError.TheVariants as error
+use Rattle.cq_built.specs.declared.errors.Culprit.TheVariants as culprit
 use Rattle.cq_built.specs.declared.errors.ValidType.TheVariants as type
 use Rattle.cq_linear.specs.declared.store.Extent.{Extent}
 use Rattle.cq_linear.specs.declared.store.Extent.TheVariants as extent
@@ -55,7 +55,7 @@ value_in extent.Unbounded = valued.Nothing
 -- how far the expression of a number reaches, as what is found of it
 abbrev pub valued_by : ℕ → Reach → Valued
 valued_by id (reach.Linear e) = value_in e
-valued_by id reach.Waits = valued.Raises (Type type.Linear (Term id))
+valued_by id reach.Waits = valued.Raises (error.Type type.Linear (culprit.Term id))
 valued_by id reach.False = valued.Nothing
 
 -- ---- one child

@@ -41,7 +41,8 @@ pub fn entailed(m: &mut Machine, goal: TermId, rest: Continuation) -> Result<Ste
 {
     goals_succeed_or_fail();
     let constraint = m.world.first.heap.arg(goal, 0);
-    match check_question(&m.world.first.heap, &m.atoms, constraint) {
+    let world = &m.world;
+    match check_question(&world.first.heap, &m.atoms, constraint) {
         Ok(members) => match ask_members(m, &members) {
             Ok(answer) => match answer {
                 Entailment::Entailed => Ok(Step::Goes(rest)),

@@ -20,7 +20,7 @@ use cq_questions::{Reach, Side, reach_of};
 use cq_term::TermId;
 
 /// What was found of an expression.
-#[derive(Clone, Copy, Debug)]
+#[derive(Clone, Copy)]
 pub(crate) enum Valued {
     /// Its value at the side.
     Value(Frac),
@@ -51,7 +51,8 @@ pub(crate) fn value_at(
     ensures unchanged { IsUnchanged m.old m.new }
     ensures sound { IsSound m.new }
 {
-    match check_expression(&m.world.first.heap, &m.atoms, expression) {
+    let world = &m.world;
+    match check_expression(&world.first.heap, &m.atoms, expression) {
         Ok(()) => match ask_reach(m, side, expression) {
             Ok(found) => Ok(valued_by(expression, found)),
             Err(fault) => Err(fault),

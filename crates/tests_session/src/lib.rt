@@ -10,6 +10,8 @@ mod failing;
 #[cfg(test)]
 mod given;
 #[cfg(test)]
+mod optima;
+#[cfg(test)]
 mod rows;
 #[cfg(test)]
 mod texts;
