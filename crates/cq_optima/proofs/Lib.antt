@@ -1,1 +1,4 @@
-mod Asked
+pub mod Kept
+pub mod Asked
+pub mod Children
+pub mod Stopping

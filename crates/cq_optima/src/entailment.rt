@@ -1,21 +1,17 @@
 // The row of a goal that asks whether constraints are entailed.
 
-ghost use Rattle.std.specs.Prelude.{◌≡◌, ◌<◌, ℕ, List, length, IfOk, IfErr, OnErr};
-ghost use Rattle.spec_builtins.specs.Terms as builtins;
-ghost use Rattle.spec_branch.specs.Branch.{Branch};
-ghost use Rattle.spec_search.specs.Replies.{Place};
-ghost use Rattle.spec_search.specs.Rows.{nth};
-ghost use Rattle.spec_syntax.specs.Trees.{Tree};
+ghost use Rattle.std.specs.Prelude.{◌≡◌, ◌<◌, length, IfOk, IfErr, OnErr};
+ghost use Rattle.spec_search.specs.Builtins.{Entailed};
 ghost use Rattle.cq_questions.specs.Members.{IsAnswer};
-ghost use Rattle.cq_questions.specs.Stops.{AtStates, AsksMembers, IsDueIn};
+ghost use Rattle.cq_questions.specs.Stops.{AtStates, MembersStop};
 ghost use Rattle.cq_questions.specs.Values.{AtValues};
 ghost use Rattle.cq_sides.specs.Splitting.{AreLive};
 ghost use Rattle.cq_term.specs.Meaning.{at};
 ghost use Rattle.cq_term.specs.Shown.{arguments};
 ghost use Rattle.cq_term.specs.Trees.{trees};
 ghost use Rattle.cq_machine.specs.Machines.{terms, IsSound, HasSameProgram, StillStands};
-ghost use Rattle.cq_machine.specs.Stepping.{IsSelectedAt, IsSelectedSomewhere, CanGo, OnRaises};
-ghost use Rattle.cq_optima.specs.Asked.{IsEntailedStep, StopsEntailed};
+ghost use Rattle.cq_machine.specs.Stepping.{row_of, IsSelectedSomewhere, CanGo, OnRaises};
+ghost use Rattle.cq_optima.specs.Asked.{TakesStep, StopsStep};
 ghost use Rattle.cq_optima.specs.Machines.{IsUnchanged};
 
 use crate::values::not_linear;
@@ -35,10 +31,8 @@ pub fn entailed(m: &mut Machine, goal: TermId, rest: Continuation) -> Result<Ste
     requires goal { goal < length (terms m.old) }
     requires one { length (arguments (at (terms m.old) goal)) ≡ 1 }
     requires rest { rest < length m.old.world.second.now }
-    ensures row { IfOk result (λ s. (height : ℕ) (p : Place) (behind : List Branch) (g : Tree) → IsSelectedAt m.old goal height rest p behind g
-        → IsEntailedStep m.new p behind (nth (builtins.arguments g) 0) s) }
-    ensures stop { IfErr result (λ f. (height : ℕ) (p : Place) (behind : List Branch) (g : Tree) → IsSelectedAt m.old goal height rest p behind g
-        → StopsEntailed m.old.world.first.store.pivots p (nth (builtins.arguments g) 0) f) }
+    ensures row { IfOk result (TakesStep m.old m.new goal rest (row_of Entailed)) }
+    ensures stop { IfErr result (StopsStep m.old goal rest (row_of Entailed)) }
     ensures goes { IfOk result (CanGo m.new) }
     ensures raises { IfOk result (λ s. OnRaises s (StillStands m.old m.new)) }
     ensures sound { IsSound m.new }
@@ -47,7 +41,8 @@ pub fn entailed(m: &mut Machine, goal: TermId, rest: Continuation) -> Result<Ste
 {
     goals_succeed_or_fail();
     let constraint = m.world.first.heap.arg(goal, 0);
-    match check_question(&m.world.first.heap, &m.atoms, constraint) {
+    let world = &m.world;
+    match check_question(&world.first.heap, &m.atoms, constraint) {
         Ok(members) => match ask_members(m, &members) {
             Ok(answer) => match answer {
                 Entailment::Entailed => Ok(Step::Goes(rest)),
@@ -70,7 +65,7 @@ fn ask_members(m: &mut Machine, members: &[TermId]) -> Result<Entailment, StoreF
     ensures answer { IfOk result (λ r. AtValues m.old.world.first.store.told (λ fixed. IsAnswer m.old.atoms (terms m.old) m.old.world.first.store.told fixed
         (trees m.old.atoms (terms m.old) members.now) r)) }
     ensures stop { IfErr result (λ f. AtStates m.old.world.first.store.told
-        (λ st. IsDueIn (AsksMembers st (trees m.old.atoms (terms m.old) members.now)) m.old.world.first.store.pivots f)) }
+        (λ st. MembersStop m.old.world.first.store.pivots st (trees m.old.atoms (terms m.old) members.now) f)) }
     ensures unchanged { IsUnchanged m.old m.new }
     ensures sound { IsSound m.new }
 {

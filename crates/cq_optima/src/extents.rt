@@ -1,21 +1,15 @@
-// The row of a goal that asks how far an expression reaches.
+// The rows of goals that ask how far an expression reaches, and of those that tell that it has its least or greatest value.
 
-ghost use Rattle.std.specs.Prelude.{◌≡◌, ◌<◌, ◌∷◌, [], ℕ, List, length, IfOk, IfErr, OnErr};
-ghost use Rattle.spec_builtins.specs.Alternatives.{◌≐◌};
-ghost use Rattle.spec_builtins.specs.Terms as builtins;
-ghost use Rattle.spec_branch.specs.Branch.{Branch};
-ghost use Rattle.spec_search.specs.Replies.{Place, with_equations};
-ghost use Rattle.spec_search.specs.Rows.{nth};
-ghost use Rattle.spec_syntax.specs.Trees.{Tree};
-ghost use Rattle.spec_terms.specs.Term.{Number};
+ghost use Rattle.std.specs.Prelude.{◌≡◌, ◌<◌, length, IfOk, IfErr, OnErr};
+ghost use Rattle.spec_search.specs.Builtins.{Extent, Optimum};
 ghost use Rattle.cq_questions.specs.Extents.{side_of};
 ghost use Rattle.cq_term.specs.Meaning.{at};
 ghost use Rattle.cq_term.specs.Shown.{arguments};
 ghost use Rattle.cq_machine.specs.Machines.{terms, IsSound, HasSameProgram, StillStands};
-ghost use Rattle.cq_machine.specs.Stepping.{IsSelectedAt, IsSelectedSomewhere, CanGo, OnRaises};
-ghost use Rattle.cq_optima.specs.Asked.{IsExtentStep, StopsExtent};
+ghost use Rattle.cq_machine.specs.Stepping.{row_of, IsSelectedSomewhere, CanGo, OnRaises};
+ghost use Rattle.cq_optima.specs.Asked.{TakesStep, StopsStep};
 
-use crate::telling::{build_number, make_equal};
+use crate::telling::{equal_to, tell_value};
 use crate::values::{Valued, value_at};
 use cq_control::Continuation;
 use cq_linear::store::StoreFault;
@@ -36,11 +30,8 @@ pub fn extent(
     requires goal { goal < length (terms m.old) }
     requires two { length (arguments (at (terms m.old) goal)) ≡ 2 }
     requires rest { rest < length m.old.world.second.now }
-    ensures row { IfOk result (λ s. (height : ℕ) (p : Place) (behind : List Branch) (g : Tree) → IsSelectedAt m.old goal height rest p behind g
-        → IsExtentStep m.new p behind (side_of side) (nth (builtins.arguments g) 0) (λ q. with_equations ((nth (builtins.arguments g) 1 ≐ Number q) ∷ [])) s) }
-    ensures stop { IfErr result (λ f. (height : ℕ) (p : Place) (behind : List Branch) (g : Tree) → IsSelectedAt m.old goal height rest p behind g
-        → StopsExtent m.old.world.first.store.pivots p (side_of side) (nth (builtins.arguments g) 0)
-        (λ q. with_equations ((nth (builtins.arguments g) 1 ≐ Number q) ∷ [])) f) }
+    ensures row { IfOk result (TakesStep m.old m.new goal rest (row_of (Extent (side_of side)))) }
+    ensures stop { IfErr result (StopsStep m.old goal rest (row_of (Extent (side_of side)))) }
     ensures goes { IfOk result (CanGo m.new) }
     ensures raises { IfOk result (λ s. OnRaises s (StillStands m.old m.new)) }
     ensures sound { IsSound m.new }
@@ -49,13 +40,42 @@ pub fn extent(
 {
     goals_succeed_or_fail();
     let expression = m.world.first.heap.arg(goal, 0);
-    let result = m.world.first.heap.arg(goal, 1);
+    let value = m.world.first.heap.arg(goal, 1);
     match value_at(m, side, expression) {
         Ok(found) => match found {
-            Valued::Value(value) => {
-            let number = build_number(m, value)?;
-            make_equal(m, result, number, rest)
-        }
+            Valued::Value(number) => equal_to(m, value, number, rest),
+            Valued::Nothing => Ok(Step::Back),
+            Valued::Raises(error) => Ok(Step::Raises(error)),
+        },
+        Err(fault) => Err(fault),
+    }
+}
+
+/// `minimize(E)` and `maximize(E)`: that E has its value at the side is told.
+pub fn optimum(
+    m: &mut Machine,
+    side: Side,
+    goal: TermId,
+    rest: Continuation,
+) -> Result<Step, StoreFault>
+    requires sound { IsSound m.old }
+    requires selected { IsSelectedSomewhere m.old goal rest }
+    requires goal { goal < length (terms m.old) }
+    requires one { length (arguments (at (terms m.old) goal)) ≡ 1 }
+    requires rest { rest < length m.old.world.second.now }
+    ensures row { IfOk result (TakesStep m.old m.new goal rest (row_of (Optimum (side_of side)))) }
+    ensures stop { IfErr result (StopsStep m.old goal rest (row_of (Optimum (side_of side)))) }
+    ensures goes { IfOk result (CanGo m.new) }
+    ensures raises { IfOk result (λ s. OnRaises s (StillStands m.old m.new)) }
+    ensures sound { IsSound m.new }
+    ensures program { HasSameProgram m.old m.new }
+    ensures err { OnErr result (StillStands m.old m.new) }
+{
+    goals_succeed_or_fail();
+    let expression = m.world.first.heap.arg(goal, 0);
+    match value_at(m, side, expression) {
+        Ok(found) => match found {
+            Valued::Value(number) => tell_value(m, expression, number, rest),
             Valued::Nothing => Ok(Step::Back),
             Valued::Raises(error) => Ok(Step::Raises(error)),
         },

@@ -4,10 +4,10 @@
 
 mod entailment;
 mod extents;
-mod optima;
+mod laws;
 mod telling;
 mod values;
 
 pub use entailment::entailed;
-pub use extents::extent;
-pub use optima::optimum;
+pub use extents::{extent, optimum};
+pub use laws::goals_stop;

@@ -1,15 +1,14 @@
 // The value of an expression at a side, as a goal asks for it.
 
 ghost use Rattle.std.specs.Prelude.{◌≡◌, ◌<◌, length, IfOk, IfErr};
-ghost use Rattle.spec_search.specs.Replies.{Place};
-ghost use Rattle.spec_syntax.specs.Trees.{Tree};
 ghost use Rattle.cq_questions.specs.Extents.{side_of, IsReach};
-ghost use Rattle.cq_questions.specs.Stops.{AtStates, AsksReach, IsDueIn};
+ghost use Rattle.cq_questions.specs.Stops.{AtStates, ExtentStops};
 ghost use Rattle.cq_questions.specs.Values.{AtValues};
-ghost use Rattle.cq_steps.specs.Worlds.{IsBranch, ReadsAs};
 ghost use Rattle.cq_term.specs.Trees.{tree};
-ghost use Rattle.cq_machine.specs.Machines.{terms, now, IsSound};
-ghost use Rattle.cq_optima.specs.Asked.{IsValued, IsValueIn, HasCulpritOf, StopsReach};
+ghost use Rattle.cq_machine.specs.Machines.{terms, IsSound};
+ghost use Rattle.cq_optima.specs.Asked.{IsStoppedAt};
+ghost use Rattle.cq_optima.specs.Found.{AtExtents, IsFoundAt, HasCulpritOf};
+ghost use Rattle.cq_optima.specs.Found as found;
 ghost use Rattle.cq_optima.specs.Machines.{IsUnchanged};
 
 use cq_built::{BuiltinError, BuiltinFault, Culprit, ValidType};
@@ -21,7 +20,7 @@ use cq_questions::{Reach, Side, reach_of};
 use cq_term::TermId;
 
 /// What was found of an expression.
-#[derive(Clone, Copy, Debug)]
+#[derive(Clone, Copy)]
 pub(crate) enum Valued {
     /// Its value at the side.
     Value(Frac),
@@ -46,21 +45,16 @@ pub(crate) fn value_at(
 ) -> Result<Valued, StoreFault>
     requires sound { IsSound m.old }
     requires expression { expression < length (terms m.old) }
-    ensures valued { IfOk result (λ v. (p : Place) (e : Tree) → IsBranch m.old.atoms (now m.old).0 p.state
-        → ReadsAs m.old.atoms (now m.old).0 p.state expression e → IsValued m.old.atoms (terms m.old) (side_of side) p e v) }
+    ensures valued { IfOk result (λ v. AtExtents m.old (side_of side) expression (IsFoundAt m.old.atoms (terms m.old) v)) }
     ensures culprit { IfOk result (HasCulpritOf m.old.atoms (terms m.old)) }
-    ensures stop { IfErr result (λ f. (p : Place) (e : Tree) → IsBranch m.old.atoms (now m.old).0 p.state
-        → ReadsAs m.old.atoms (now m.old).0 p.state expression e → StopsReach m.old.world.first.store.pivots p e f) }
+    ensures stop { IfErr result (λ f. AtExtents m.old (side_of side) expression (λ p goal next. IsStoppedAt m.old.world.first.store.pivots f p goal)) }
     ensures unchanged { IsUnchanged m.old m.new }
     ensures sound { IsSound m.new }
 {
-    match check_expression(&m.world.first.heap, &m.atoms, expression) {
+    let world = &m.world;
+    match check_expression(&world.first.heap, &m.atoms, expression) {
         Ok(()) => match ask_reach(m, side, expression) {
-            Ok(found) => match found {
-                Reach::Linear(extent) => Ok(value_in(extent)),
-                Reach::Waits => Ok(Valued::Raises(not_linear(expression))),
-                Reach::False => Ok(Valued::Nothing),
-            },
+            Ok(found) => Ok(valued_by(expression, found)),
             Err(fault) => Err(fault),
         },
         Err(fault) => match fault {
@@ -70,9 +64,20 @@ pub(crate) fn value_at(
     }
 }
 
+/// What is found of an expression that reaches so far.
+fn valued_by(expression: TermId, reach: Reach) -> Valued
+    ensures { result ≡ found.valued_by expression reach }
+{
+    match reach {
+        Reach::Linear(extent) => value_in(extent),
+        Reach::Waits => Valued::Raises(not_linear(expression)),
+        Reach::False => Valued::Nothing,
+    }
+}
+
 /// The value of an extent.
 fn value_in(extent: Extent) -> Valued
-    ensures { IsValueIn extent result }
+    ensures { result ≡ found.value_in extent }
 {
     match extent {
         Extent::Value(value) => Valued::Value(value),
@@ -87,7 +92,7 @@ fn ask_reach(m: &mut Machine, side: Side, expression: TermId) -> Result<Reach, S
     ensures reach { IfOk result (λ r. AtValues m.old.world.first.store.told (λ fixed. IsReach (side_of side) m.old.world.first.store.told fixed
         (tree m.old.atoms (terms m.old) expression) r)) }
     ensures stop { IfErr result (λ f. AtStates m.old.world.first.store.told
-        (λ st. IsDueIn (AsksReach st (tree m.old.atoms (terms m.old) expression)) m.old.world.first.store.pivots f)) }
+        (λ st. ExtentStops m.old.world.first.store.pivots st (side_of side) (tree m.old.atoms (terms m.old) expression) f)) }
     ensures unchanged { IsUnchanged m.old m.new }
     ensures sound { IsSound m.new }
 {

@@ -6,7 +6,7 @@ use Rattle.spec_built.specs.Errors.{type_error}
 use Rattle.spec_syntax.specs.Trees.{Tree}
 use Rattle.spec_told.specs.Relations.{Waits, False, lin_expression}
 use Rattle.spec_branch.specs.Branch.{State, Item, Branch, read}
-use Rattle.spec_search.specs.Builtins.{Side, Least, Greatest}
+use Rattle.spec_search.specs.Builtins.{Side}
 use Rattle.spec_search.specs.Replies.{Place, Reply, IfEntailed, WithExtent}
 use Rattle.spec_search.specs.Rows.{reply_of}
 use Rattle.spec_search.specs.Search.{Search, look_at, Selecting}

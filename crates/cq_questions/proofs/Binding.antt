@@ -7,11 +7,10 @@ use Rattle.spec_rational.specs.Rational.{ℚ}
 use Rattle.spec_linear.specs.Solution.{Constraint, Fixed, Fixes}
 use Rattle.spec_lists.specs.Texts.{Text}
 use Rattle.spec_lists.proofs.Tests.{nat_eq-same, nat_eq-self}
-use Rattle.spec_terms.specs.Term.{Terms, Subst, Var, Number, Name, Compound, one, more, Occurs, OccursIn, apply, followed_by, identity, single, named, named_all}
+use Rattle.spec_terms.specs.Term.{Terms, Var, Number, Name, Compound, one, more, Occurs, OccursIn, apply, followed_by, identity, single, named, named_all}
 use Rattle.spec_terms.specs.Variables.{variables}
 use Rattle.spec_terms.proofs.Listed.{occurs_listed}
 use Rattle.spec_terms.proofs.Substitution.{apply-identity, apply-followed_by, apply_agree, named-apply, occurs_from}
-use Rattle.spec_syntax.specs.Trees.{Tree}
 use Rattle.spec_branch.specs.Settling.{value_or_variable}
 use Rattle.cq_atoms.specs.Texts.{text_of}
 use Rattle.cq_frac.specs.declared.VarId.{VarId}

@@ -2,5 +2,5 @@ mod Bound
 mod Binding
 mod Listed
 mod Moments
-mod Answered
+pub mod Answered
 mod Undone

@@ -1,6 +1,7 @@
 use Rattle.std.proofs.Common.{refl, ap}
 use Rattle.std.specs.List.{zip}
 use Rattle.cq_world.specs.Contents.{Contents}
+use Rattle.cq_optima.proofs.Kept.{unchanged_sound}
 use Rattle.cq_optima.proofs.values.ask_reach.Goals as goal
 
 pub returns-clause-unchanged : goal.returns-clause-unchanged
@@ -13,3 +14,6 @@ returns-clause-unchanged c =
       saved = ap (λ l. zip l m.world.second.saved) c.reach_of.ensures.saved;
       now = ap (λ (w : Contents). (w, m.world.second.now)) c.reach_of.ensures.unchanged;
     }
+
+pub returns-clause-sound : goal.returns-clause-sound
+returns-clause-sound c = unchanged_sound c.args.m.now _ c.requires.sound (returns-clause-unchanged c)

@@ -1,4 +1,4 @@
-use Rattle.std.proofs.Common.{Err, List, ap, ◌∙◌, sym, subst}
+use Rattle.std.proofs.Common.{Err, List, ap, ◌∙◌, subst}
 use Rattle.std.specs.Prelude.{All, Any, MatchBool}
 use Rattle.spec_search.specs.Steps.{IsEntailed, IsBroken}
 use Rattle.spec_limits.specs.Asked.{NoQuestion}
