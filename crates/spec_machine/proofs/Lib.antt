@@ -2,3 +2,4 @@ pub mod Kept
 pub mod Passed
 pub mod Made
 pub mod Thrown
+pub mod Gathered

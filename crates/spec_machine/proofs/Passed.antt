@@ -1,10 +1,11 @@
 -- Marks that are passed, choices that are come back to, and goals that are selected.
-use Rattle.std.proofs.Common.{inl, ◌≡◌, ℕ, ◌<◌, List, [], ◌∷◌, ◌++◌, length, Option, None, Some, refl, sym, ap, ◌∙◌, subst, map, arith}
+use Rattle.std.proofs.Common.{inl, ◌≡◌, Bool, ℕ, ◌<◌, List, [], ◌∷◌, ◌++◌, length, Option, None, Some, refl, sym, ap, ◌∙◌, subst, map, arith}
 use Rattle.spec_syntax.specs.Trees.{Tree}
 use Rattle.spec_branch.specs.Branch.{State, Item, Branch, no_work, read}
 use Rattle.spec_search.specs.Database.{Database, Clause}
 use Rattle.spec_builtins.specs.Alternatives.{Alternative}
 use Rattle.spec_search.specs.Replies.{Place, child, alternative_child, with_new, with_equations}
+use Rattle.spec_search.specs.Changes.{clause_match}
 use Rattle.spec_search.specs.Control.{clause_child, clause_items, clause_state, clause_work}
 use Rattle.spec_search.specs.Balls as balls
 use Rattle.spec_search.specs.Search.{Search, is_selecting, settled, Settling, Selecting, look_at}
@@ -14,9 +15,10 @@ use Rattle.cq_control.specs.Items.{items_at}
 use Rattle.cq_control.specs.Open.{last}
 use Rattle.spec_machine.specs.declared.cell.Cell.{Cell}
 use Rattle.spec_machine.specs.declared.cell.Cell.TheVariants.{Goal, CutTo, CutFail, CatchEnd}
-use Rattle.spec_machine.specs.Cells.{Fits, One, Clauses, Ways, Value, Stack, below}
-use Rattle.spec_machine.specs.Standing.{engine, AreItems, IsPlace, AreWaiting, IsStanding}
+use Rattle.spec_machine.specs.Cells.{Fits, One, Clauses, Ways, Caught, Matches, Value, Stack, below}
+use Rattle.spec_machine.specs.Standing.{engine, removed_by, AreItems, IsPlace, AreWaiting, IsStanding}
 use Rattle.spec_machine.specs.Coming.{at_once, after, Comes, Rest}
+use Rattle.spec_machine.specs.Trying.{TakesBall, ComparesClause}
 use Rattle.spec_machine.proofs.Kept.{length-last, fits_more, items_last, length-waiting, waiting-last}
 
 module _ {W : Type 0} (IsState : W → State → Type 0) (term : W → ℕ → Option Tree) where
@@ -103,7 +105,7 @@ module _ {W : Type 0} (IsState : W → State → Type 0) (term : W → ℕ → O
                 there = behind_there;
                 fits = fits_more h (length rs) (items_at now.1 next) (omega (arith, f.1.0)) f.1.1;
                 state = j.current.3.state;
-                cells = f.0.11;
+                cells = f.0.13;
               },
             );
             waiting = j.waiting;
@@ -171,3 +173,43 @@ module _ {W : Type 0} (IsState : W → State → Type 0) (term : W → ℕ → O
         let is : s.branches ≡ alternative_child own.0 way ∷ (left ++ j.waiting.1) =
         j.branches ∙ ap (λ l. l ++ j.behind) j.current ∙ j.waiting.2 ∙ ap (λ l. l ++ j.waiting.1) own.1 in
         (own.0, left ++ j.waiting.1, ap look_at is, own.2, (left, j.waiting.1, refl, (own.0, refl, own.2), j.waiting.4))
+
+    -- a catch takes a ball: the branch that it saved is settled
+    pub ball_taken : (ball : Tree) (c r k : ℕ) → IsStanding IsState term (engine db n ((v, Caught ball c r k) ∷ older) now None) s
+        → TakesBall IsState term older v ball c r k s
+    ball_taken ball c r k j =
+        let own = j.waiting.3 in
+        let is : s.branches ≡ balls.caught_branch own.2 own.1 own.3 own.4 own.0 ∷ j.waiting.1 =
+        j.branches ∙ ap (λ l. l ++ j.behind) j.current ∙ j.waiting.2 ∙ ap (λ l. l ++ j.waiting.1) own.5 in
+        record {
+          items = own.0;
+          state = own.1;
+          ball = own.2;
+          catcher = own.3;
+          recovery = own.4;
+          behind = j.waiting.1;
+          look = ap look_at is;
+          is_stored = own.6;
+          reads_catcher = own.7;
+          reads_recovery = own.8;
+          continuation = own.9;
+          waiting = j.waiting.4;
+        }
+
+    -- the next clause is compared with the one asked for: its branch is settled, and the others wait
+    pub clause_compared : (t : ℕ) (removes : Bool) (c : Clause) (cs : List Clause) (k : ℕ)
+        → IsStanding IsState term (engine db n ((v, Matches t removes (c ∷ cs) k) ∷ older) now None) s → ComparesClause IsState term older v t removes c cs k s
+    clause_compared t removes c cs k j =
+        let own = j.waiting.3 in
+        let left = map (clause_match own.0 (removed_by removes) own.1) cs in
+        let is : s.branches ≡ clause_match own.0 (removed_by removes) own.1 c ∷ (left ++ j.waiting.1) =
+        j.branches ∙ ap (λ l. l ++ j.behind) j.current ∙ j.waiting.2 ∙ ap (λ l. l ++ j.waiting.1) own.2 in
+        record {
+          place = own.0;
+          asked = own.1;
+          behind = left ++ j.waiting.1;
+          look = ap look_at is;
+          reads = own.3;
+          is_place = own.4;
+          waiting = (left, j.waiting.1, refl, (own.0, own.1, refl, own.3, own.4), j.waiting.4);
+        }

@@ -1,0 +1,47 @@
+-- How a ball comes up on an engine, and where it goes.
+use Rattle.std.specs.Prelude.{◌≡◌, ℕ, List, [], ◌∷◌, Option, Some, None}
+use Rattle.spec_lists.specs.Texts.{Text}
+use Rattle.spec_syntax.specs.Trees.{Tree}
+use Rattle.spec_branch.specs.Branch.{State, Item, Branch, Copied}
+use Rattle.spec_search.specs.Balls.{handed}
+use Rattle.cq_program.specs.Database.{Program}
+use Rattle.cq_stored.specs.StoredValue.{StoredValue}
+use Rattle.cq_world.specs.Contents.{Contents}
+use Rattle.spec_machine.specs.Cells.{Value, Stack}
+use Rattle.spec_machine.specs.Standing.{IsContinuation, AreWaiting, IsStoredAs}
+use Rattle.cq_steps.specs.declared.alternatives.Alternatives.{Alternatives}
+use Rattle.cq_steps.specs.declared.alternatives.Alternatives.TheVariants.{Caught}
+use Rattle.cq_steps.specs.Stored.{stored_tree}
+use Rattle.cq_steps.specs.Worlds.{IsBranch, term_in, stack}
+
+-- A ball comes up in front of these items, with these branches behind: the continuation stands for the items.
+pub record ComesUp (texts : List Text) (choices : Stack Contents) (now : Value Contents) (from : ℕ) (items : List Item) (st : State) (behind : List Branch)
+    : Type 0 where
+  pub continuation : IsContinuation (IsBranch texts) (term_in texts) choices now from items st
+  pub waiting : AreWaiting (IsBranch texts) (term_in texts) choices behind
+
+-- one comes up somewhere
+abbrev pub ComesUpSomewhere : List (Value Contents) → List Alternatives → Value Contents → ℕ → Type 0
+ComesUpSomewhere saved choices now from = (texts : List Text) × (v : Program) × (items : List Item) × (st : State) × (behind : List Branch)
+    × ComesUp texts (stack texts v saved choices) now from items st behind
+
+-- the ball is handed to a catch: the choices stand for the branches then
+pub record IsCaughtBy (texts : List Text) (choices : Stack Contents) (ball : Copied) (items : List Item) (behind : List Branch) : Type 0 where
+  pub next : List Branch
+  pub handed_on : handed ball items behind ≡ Some next
+  pub waiting : AreWaiting (IsBranch texts) (term_in texts) choices next
+
+-- wherever the ball, which is stored so, came up before, it is handed to a catch
+abbrev pub Catches : List (Value Contents) → List Alternatives → Value Contents → ℕ → StoredValue → List (Value Contents) → List Alternatives → Type 0
+Catches saved choices now from stored more after = (texts : List Text) (v : Program) (items : List Item) (st : State) (behind : List Branch) (ball : Copied)
+    → ComesUp texts (stack texts v saved choices) now from items st behind → IsStoredAs ball (stored_tree texts stored)
+    → IsCaughtBy texts (stack texts v more after) ball items behind
+
+-- wherever a ball comes up, nothing catches it
+abbrev pub Misses : List (Value Contents) → List Alternatives → Value Contents → ℕ → Type 0
+Misses saved choices now from = (texts : List Text) (v : Program) (items : List Item) (st : State) (behind : List Branch) (ball : Copied)
+    → ComesUp texts (stack texts v saved choices) now from items st behind → handed ball items behind ≡ None
+
+-- the newest choice is a catch that has a ball
+abbrev pub HasBall : List Alternatives → Type 0
+HasBall choices = (ball : StoredValue) × (c : ℕ) × (r : ℕ) × (k : ℕ) × (older : List Alternatives) × (choices ≡ Caught ball c r k ∷ older)

@@ -1,0 +1,125 @@
+// A catch that has a ball.
+
+ghost use Rattle.std.specs.Prelude.{◌≡◌, ◌<◌, ◌≤◌, ◌∷◌, [], ℕ, length, None, IfOk, IfErr, OnOk, OnErr};
+ghost use Rattle.cq_atoms.specs.Texts.{AreDifferent};
+ghost use Rattle.cq_ways.specs.Held.{held, HasMarks, StaysOver};
+ghost use Rattle.cq_ways.specs.Trying.{IsSearching, ComesOver, StopsOver};
+ghost use Rattle.cq_balls.specs.Balls.{HasBall};
+ghost use Rattle.cq_balls.specs.Taking.{TakesTo, IsGone};
+
+use crate::handing::hand;
+use cq_atoms::Atoms;
+use cq_begin::{Begun, begin};
+use cq_control::{Choices, Continuation, Continuations};
+use cq_linear::store::StoreFault;
+use cq_rest::{equated_worlds_may_be_settled, look_at_pairs};
+use cq_steps::{Alternatives, Searching};
+use cq_stored::StoredTerm;
+use cq_term::TermId;
+use cq_walk::Pair;
+use cq_world::World;
+use spec_machine::Cell;
+
+/// What became of a ball that a catch has.
+#[derive(Drop)]
+pub enum Taken {
+    /// The catch took it: its recovery is called in front of this continuation.
+    Goes(Continuation),
+    /// Another catch has it.
+    HandedOn,
+    /// Nothing catches it. No choice is left.
+    Escaped(StoredTerm),
+}
+
+/// Comes back to the newest choice, which is a catch that has a ball: the branch that it saved is settled with the ball and the
+/// catcher. Where it is kept, the choice is gone; where it is pruned, the ball goes on outwards. After an error the choice still has
+/// the ball.
+pub fn try_caught(
+    world: &mut Searching,
+    choices: &mut Choices<Alternatives>,
+    atoms: &Atoms,
+) -> Result<Taken, StoreFault>
+    requires different { AreDifferent atoms.now }
+    requires marked { HasMarks (held atoms.now world.old.first world.old.second choices.old) }
+    requires newest { HasBall choices.old }
+    requires works { IsSearching (held atoms.now world.old.first world.old.second choices.old) }
+    ensures comes { IfOk result (TakesTo (held atoms.now world.old.first world.old.second choices.old)
+        (held atoms.now world.new.first world.new.second choices.new)) }
+    ensures gone { IfOk result (IsGone (held atoms.now world.new.first world.new.second choices.new)) }
+    ensures fewer { OnOk result (length choices.new < length choices.old) }
+    ensures err { OnErr result (ComesOver (held atoms.now world.old.first world.old.second choices.old)
+        (held atoms.now world.new.first world.new.second choices.new) None) }
+    ensures stops { IfErr result (StopsOver (held atoms.now world.old.first world.old.second choices.old) world.old.first.store.pivots) }
+    ensures over { StaysOver (held atoms.now world.old.first world.old.second choices.old)
+        (held atoms.now world.new.first world.new.second choices.new) }
+    ensures budget { world.new.first.store.pivots ≡ world.old.first.store.pivots }
+    ensures marked { HasMarks (held atoms.now world.new.first world.new.second choices.new) }
+{
+    let Alternatives::Caught(ball, catcher, recovery, rest) =
+        choices.retry(world, Alternatives::Barrier)
+    else {
+        unreachable!();
+    };
+    match begin_caught(
+        &mut world.first,
+        &mut world.second,
+        atoms,
+        &ball,
+        catcher,
+        recovery,
+        rest,
+    ) {
+        Ok(begun) => {
+            let newest = choices.height() - 1;
+            choices.cut(world, newest);
+            match begun {
+                Begun::Goes(first) => Ok(Taken::Goes(first)),
+                Begun::Pruned => Ok(hand_on(world, choices, ball, rest)),
+            }
+        }
+        Err(fault) => {
+            let newest = choices.height() - 1;
+            choices.replace_at(newest, Alternatives::Caught(ball, catcher, recovery, rest));
+            Err(fault)
+        }
+    }
+}
+
+/// The ball goes on outwards. Where nothing catches it, no choice is left.
+fn hand_on(
+    world: &mut Searching,
+    choices: &mut Choices<Alternatives>,
+    ball: StoredTerm,
+    from: Continuation,
+) -> Taken
+{
+    match hand(world, choices, ball, from) {
+        None => Taken::HandedOn,
+        Some(ball) => {
+            choices.cut(world, 0);
+            Taken::Escaped(ball)
+        }
+    }
+}
+
+/// Begins the branch of a catch that has a ball.
+fn begin_caught(
+    world: &mut World,
+    lists: &mut Continuations<Cell>,
+    atoms: &Atoms,
+    ball: &StoredTerm,
+    catcher: TermId,
+    recovery: TermId,
+    rest: Continuation,
+) -> Result<Begun, StoreFault> {
+    equated_worlds_may_be_settled();
+    let recovered = lists.before(Cell::Call(recovery), rest)?;
+    let copy = ball.restore(&mut world.heap)?;
+    let pairs = [Pair {
+        left: catcher,
+        right: copy,
+    }];
+    look_at_pairs(&world.heap, &pairs);
+    let told = Vec::new(world.heap.alloc());
+    begin(world, lists, atoms, &pairs, told, recovered)
+}
