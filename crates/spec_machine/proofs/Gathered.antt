@@ -1,8 +1,9 @@
 -- A findall's list is made, and one more copy is gathered for it.
-use Rattle.std.proofs.Common.{inl, ◌≡◌, ◌<◌, ◌≤◌, ◌+◌, ◌-◌, ℕ, zero, suc, List, [], ◌∷◌, ◌++◌, length, length-append, Bool, true, false, Option, None, Some, refl, sym, ap, ◌∙◌, subst, drop, arith}
+use Rattle.std.proofs.Common.{inl, ◌≡◌, ◌<◌, ◌≤◌, ◌+◌, ◌-◌, ℕ, zero, suc, List, [], ◌∷◌, ◌++◌, length, length-append, Bool, true, false, Option, None, Some, refl, sym, ap, ◌∙◌, subst, drop, append_assoc, arith}
 use Rattle.std.specs.Prelude.{if◌then◌else◌, ◌==◌}
 use Rattle.std.specs.List.{AllZip}
 use Rattle.std.proofs.lemmas.List.{drop_at}
+use Rattle.spec_lists.proofs.Tests.{nat_eq-self, nat_eq-apart}
 use Rattle.spec_terms.specs.Variables.{renamed_from}
 use Rattle.spec_syntax.specs.Trees.{Tree}
 use Rattle.spec_branch.specs.Branch as branch
@@ -49,33 +50,26 @@ alike_last v l j copies more newer older h =
     (alike_drop v l j copies more older (length (newer ++ gathering v l copies j ∷ older) - h) newer)
 
 -- the oldest so many are those behind
-pub last-behind : {A : Type 0} (newer older : List A) → last (length older) (newer ++ older) ≡ older
+last-behind : {A : Type 0} (newer older : List A) → last (length older) (newer ++ older) ≡ older
 last-behind newer older =
     let e : length (newer ++ older) - length older ≡ length newer = omega (arith, length-append newer older) in
     ap (λ (m : ℕ). drop m (newer ++ older)) e ∙ drop_at newer older (length newer) refl
 
+pub last-under : {A : Type 0} (newer : List A) (x : A) (older : List A) → last (length older) (newer ++ x ∷ older) ≡ older
+last-under newer x older = ap (last (length older)) (sym (append_assoc newer (x ∷ []) older)) ∙ last-behind (newer ++ x ∷ []) older
+
 -- ---- a copy more among the branches
-
-other_place : (m n : ℕ) → m < n → (n == m) ≡ false
-other_place zero zero le = absurd (omega (arith, le))
-other_place zero (suc n) le = refl
-other_place (suc m) zero le = absurd (omega (arith, le))
-other_place (suc m) (suc n) le = other_place m n (omega (arith, le))
-
-same_place : (n : ℕ) → (n == n) ≡ true
-same_place zero = refl
-same_place (suc n) = same_place n
 
 gather_past : (k : ℕ) (c : Copied) (own behind : List Branch) → k < length behind → gather k c (own ++ behind) ≡ own ++ gather k c behind
 gather_past k c [] behind le = refl
 gather_past k c (b ∷ own) behind le =
     ap (λ (found : Bool). if found then record b { items = gathered_items c b.items } ∷ (own ++ behind) else b ∷ gather k c (own ++ behind))
-    (other_place k (length (own ++ behind)) (omega (arith, le, length-append own behind)))
+    (nat_eq-apart (length (own ++ behind)) k (λ e. absurd (omega (arith, e, le, length-append own behind))))
     ∙ ap (λ bs. b ∷ bs) (gather_past k c own behind le)
 
 gather_here : (c : Copied) (b : Branch) (bs : List Branch) → gather (length bs) c (b ∷ bs) ≡ record b { items = gathered_items c b.items } ∷ bs
 gather_here c b bs =
-    ap (λ (found : Bool). if found then record b { items = gathered_items c b.items } ∷ bs else b ∷ gather (length bs) c bs) (same_place (length bs))
+    ap (λ (found : Bool). if found then record b { items = gathered_items c b.items } ∷ bs else b ∷ gather (length bs) c bs) (nat_eq-self (length bs))
 
 one_stored : (copies : List Copied) (stored : List Tree) (c : Copied) (t : Tree) → AllZip IsStoredAs copies stored → IsStoredAs c t
     → AllZip IsStoredAs (copies ++ c ∷ []) (stored ++ t ∷ [])
@@ -185,7 +179,7 @@ module _ {W : Type 0} (IsState : W → State → Type 0) (term : W → ℕ → O
       let c : Copied = plain_copy (read i.current.1 f.0) in
       let same : Some (read i.current.1 f.0) ≡ Some x = sym f.4 ∙ reads in
       let stored : IsStoredAs c (renamed_from 0 x) = record { plain = refl; renamed = ap (renamed_from 0) (let y : x ≡ read i.current.1 f.0 = cc in y) } in
-      let at : below rs (length older) ≡ total size older = ap (total size) (last-behind (newer ++ gathering v l copies j ∷ []) older) in
+      let at : below rs (length older) ≡ total size older = ap (total size) (last-under newer (gathering v l copies j) older) in
       let bs = gather (below rs (length older)) c i.behind in
       record {
         reached = with_branches bs s;

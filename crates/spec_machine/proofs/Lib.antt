@@ -3,3 +3,4 @@ pub mod Passed
 pub mod Made
 pub mod Thrown
 pub mod Gathered
+pub mod Landed

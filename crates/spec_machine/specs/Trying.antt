@@ -1,7 +1,9 @@
 -- The branch that a search settles next, as an engine comes back to a choice.
 use Rattle.std.specs.Prelude.{◌≡◌, ℕ, ◌+◌, List, [], ◌∷◌, length, Bool, Option, Some}
 use Rattle.std.specs.List.{AllZip}
-use Rattle.spec_terms.specs.Variables.{variables, renamed_from}
+use Rattle.spec_lists.specs.Texts.{Text}
+use Rattle.spec_terms.specs.Term.{Subst, Var, apply}
+use Rattle.spec_terms.specs.Variables.{variables}
 use Rattle.spec_syntax.specs.Trees.{Tree, list_tree}
 use Rattle.spec_builtins.specs.Alternatives.{◌≐◌}
 use Rattle.spec_builtins.specs.Clauses.{HeadBody, rule, counted_on}
@@ -16,10 +18,14 @@ use Rattle.spec_machine.specs.Standing.{IsStoredAs, removed_by, IsContinuation, 
 
 -- ---- stored copies that are put into a state
 
+-- each variable with a number that is so much greater
+abbrev pub moved_on : ℕ → Subst Text
+moved_on n v = Var (n + v)
+
 -- with their variables numbered on from n, one after another
 abbrev pub placed : ℕ → List Tree → List Tree
 placed n [] = []
-placed n (t ∷ ts) = renamed_from n t ∷ placed (n + length (variables t)) ts
+placed n (t ∷ ts) = apply (moved_on n) t ∷ placed (n + length (variables t)) ts
 
 -- how many variables they have
 abbrev pub variables_of : List Tree → ℕ

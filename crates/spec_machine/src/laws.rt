@@ -1,6 +1,6 @@
 // What an engine may do while it stands for a search, and for which search it stands then.
 
-ghost use Rattle.std.specs.Prelude.{◌≡◌, ◌<◌, ◌≤◌, ◌∷◌, ◌++◌, [], ℕ, List, Bool, Option, None, Some, length};
+ghost use Rattle.std.specs.Prelude.{◌≡◌, ◌<◌, ◌≤◌, ◌∷◌, ◌++◌, [], ℕ, suc, List, Bool, Option, None, Some, length};
 ghost use Rattle.std.specs.List.{AllZip};
 ghost use Rattle.spec_lists.specs.Texts.{Text};
 ghost use Rattle.spec_syntax.specs.Trees.{Tree};
@@ -67,7 +67,8 @@ pub fn standing_stays<R: StateWorlds>()
         → IsContinuation (R.is_state more) (R.term more) choices now k items st }
 {}
 
-/// A mark in front is passed: a cut to a height keeps the choices below it, and the end of a catch keeps all.
+/// A mark in front is passed: a cut to a height keeps the choices below it. The end of a catch keeps all, and needs the catch's own
+/// choice no more where that is the newest.
 pub fn marks_are_passed<R: StateWorlds>()
     ensures cut { (texts : List Text) (steps : ℕ) (db : Database) (n : ℕ) (choices : Stack R.World) (now : Value R.World) (k rest : ℕ) (s : Search)
         → IsStanding (R.is_state texts) (R.term texts) (engine db n choices now (Some k)) s → rest < k
@@ -81,6 +82,10 @@ pub fn marks_are_passed<R: StateWorlds>()
         → IsStanding (R.is_state texts) (R.term texts) (engine db n choices now (Some k)) s → rest < k
         → (height catcher recovery : ℕ) → items_at now.1 k ≡ CatchEnd height catcher recovery ∷ items_at now.1 rest
         → Comes (R.is_state texts) (R.term texts) steps (engine db n choices now (Some rest)) s }
+    ensures end_cuts { (texts : List Text) (steps : ℕ) (db : Database) (n : ℕ) (choices : Stack R.World) (now : Value R.World) (k rest : ℕ) (s : Search)
+        → IsStanding (R.is_state texts) (R.term texts) (engine db n choices now (Some k)) s → rest < k
+        → (height catcher recovery : ℕ) → items_at now.1 k ≡ CatchEnd height catcher recovery ∷ items_at now.1 rest → length choices ≡ suc height
+        → Comes (R.is_state texts) (R.term texts) steps (engine db n (last height choices) now (Some rest)) s }
 {}
 
 /// A goal in front is the one that the search selects, as it reads, with the continuation behind it for the items behind it.
