@@ -1,18 +1,19 @@
 -- How a ball comes up on an engine, and where it goes.
 use Rattle.std.specs.Prelude.{◌≡◌, ℕ, List, [], ◌∷◌, Option, Some, None}
 use Rattle.spec_lists.specs.Texts.{Text}
-use Rattle.spec_syntax.specs.Trees.{Tree}
 use Rattle.spec_branch.specs.Branch.{State, Item, Branch, Copied}
 use Rattle.spec_search.specs.Balls.{handed}
 use Rattle.cq_program.specs.Database.{Program}
 use Rattle.cq_stored.specs.StoredValue.{StoredValue}
 use Rattle.cq_world.specs.Contents.{Contents}
-use Rattle.spec_machine.specs.Cells.{Value, Stack}
+use Rattle.spec_machine.specs.declared.cell.Cell.{Cell}
+use Rattle.spec_machine.specs.Cells.{Value, Stack, catch_at, nearest_catch}
 use Rattle.spec_machine.specs.Standing.{IsContinuation, AreWaiting, IsStoredAs}
 use Rattle.cq_steps.specs.declared.alternatives.Alternatives.{Alternatives}
 use Rattle.cq_steps.specs.declared.alternatives.Alternatives.TheVariants.{Caught}
 use Rattle.cq_steps.specs.Stored.{stored_tree}
 use Rattle.cq_steps.specs.Worlds.{IsBranch, term_in, stack}
+use Rattle.cq_balls.specs.declared.handing.End.{End}
 
 -- A ball comes up in front of these items, with these branches behind: the continuation stands for the items.
 pub record ComesUp (texts : List Text) (choices : Stack Contents) (now : Value Contents) (from : ℕ) (items : List Item) (st : State) (behind : List Branch)
@@ -45,3 +46,11 @@ Misses saved choices now from = (texts : List Text) (v : Program) (items : List 
 -- the newest choice is a catch that has a ball
 abbrev pub HasBall : List Alternatives → Type 0
 HasBall choices = (ball : StoredValue) × (c : ℕ) × (r : ℕ) × (k : ℕ) × (older : List Alternatives) × (choices ≡ Caught ball c r k ∷ older)
+
+-- the choice with so many older ones keeps the world of a catch's call
+abbrev pub HasCatch : List (Value Contents) → List Alternatives → ℕ → Type 0
+HasCatch saved choices height = (texts : List Text) × (v : Program) × (call : Value Contents × ℕ) × (catch_at (stack texts v saved choices) height ≡ Some call)
+
+-- this is the nearest end of a catch in the cells
+abbrev pub IsNearest : List Cell → End → Type 0
+IsNearest cells e = (behind : List Cell) × (nearest_catch cells ≡ Some (e.height, e.catcher, e.recovery, behind))

@@ -1,2 +1,1 @@
 pub mod Balls
-pub mod Taking

@@ -1,20 +1,22 @@
 // A ball goes to the nearest catch outwards.
 
-ghost use Rattle.std.specs.Prelude.{◌≡◌, ◌<◌, ◌≤◌, ℕ, List, Option, None, Some, length, IfOk, IfSome, OnOk, OnErr, IfNone, false, true};
-ghost use Rattle.std.specs.List.{AllZip};
+ghost use Rattle.std.specs.Prelude.{◌≡◌, ◌≢◌, ◌<◌, ◌≤◌, ◌∷◌, ℕ, List, None, Some, Ok, length, false, true, IfNone, IfSome};
 ghost use Rattle.spec_lists.specs.Texts.{Text};
 ghost use Rattle.spec_branch.specs.Branch.{State, Item, Branch, plain_copy};
-ghost use Rattle.spec_search.specs.Balls.{handed};
-ghost use Rattle.cq_control.specs.Open.{AreMarked};
+ghost use Rattle.cq_control.specs.Items.{items_at};
+ghost use Rattle.cq_control.specs.Open.{AreMarked, last};
 ghost use Rattle.cq_program.specs.Database.{Program};
 ghost use Rattle.cq_term.specs.Trees.{tree, KnowsTerms};
+ghost use Rattle.cq_world.specs.Contents.{Contents};
 ghost use Rattle.cq_world.specs.Worlds.{now_of};
+ghost use Rattle.spec_machine.specs.declared.cell.Cell.{Cell};
+ghost use Rattle.spec_machine.specs.Cells.{Caught, Value, catch_at, nearest_catch};
 ghost use Rattle.cq_steps.specs.Choices.{AreOpen};
-ghost use Rattle.cq_steps.specs.Stored.{IsCountedTerm};
+ghost use Rattle.cq_steps.specs.Stored.{IsCountedTerm, stored_tree};
 ghost use Rattle.cq_steps.specs.Worlds.{value, saved_values, stack};
-ghost use Rattle.cq_balls.specs.Balls.{ComesUp, ComesUpSomewhere, IsCaughtBy, Catches, Misses, HasBall};
+ghost use Rattle.cq_balls.specs.Balls.{ComesUp, ComesUpSomewhere, IsCaughtBy, Catches, Misses, HasBall, HasCatch, IsNearest};
 
-use cq_control::{Choices, Continuation};
+use cq_control::{Choices, Continuation, Continuations};
 use cq_steps::{Alternatives, Searching};
 use cq_stored::StoredTerm;
 use cq_term::TermId;
@@ -49,9 +51,9 @@ pub fn hand(
     ensures marked { AreMarked (saved_values world.new.first world.new.second.saved) choices.new }
     ensures budget { world.new.first.store.pivots ≡ world.old.first.store.pivots }
 {
-    match nearest(world, from) {
+    match nearest(&world.second, from) {
         Some(end) => {
-            give(world, choices, ball, &end);
+            give(world, choices, ball, end);
             None
         }
         None => Some(ball),
@@ -66,24 +68,77 @@ struct End {
     recovery: TermId,
 }
 
+/// The end of a catch that a cell is.
+fn end_of(cell: Cell) -> Option<End>
+    ensures some { IfSome result (λ e. (cs : List Cell) → nearest_catch (cell ∷ cs) ≡ Some (e.height, e.catcher, e.recovery, cs)) }
+    ensures none { IfNone result ((cs : List Cell) → nearest_catch (cell ∷ cs) ≡ nearest_catch cs) }
+{
+    match cell {
+        Cell::CatchEnd(height, catcher, recovery) => Some(End {
+            height,
+            catcher,
+            recovery,
+        }),
+        Cell::Goal(_, _) => None,
+        Cell::Call(_) => None,
+        Cell::CutTo(_) => None,
+        Cell::CutFail(_) => None,
+        Cell::Collect(_, _) => None,
+    }
+}
+
 /// The nearest end of a catch in a continuation.
-fn nearest(world: &Searching, from: Continuation) -> Option<End>
-    requires { from < length world.now.second.now }
-    ensures some { IfSome result (IsNearest (items_at world.now.second.now from)) }
-    ensures none { IfNone result (nearest_catch (items_at world.now.second.now from) ≡ None) }
+fn nearest(lists: &Continuations<Cell>, from: Continuation) -> Option<End>
+    requires { from < length lists.now.now }
+    ensures some { IfSome result (IsNearest (items_at lists.now.now from)) }
+    ensures none { IfNone result (nearest_catch (items_at lists.now.now from) ≡ None) }
 {
     let mut next = from;
-    while let Some((cell, rest)) = world.second.first(next) {
-        if let Cell::CatchEnd(height, catcher, recovery) = cell {
-            return Some(End {
-                height,
-                catcher,
-                recovery,
-            });
+    while let Some((cell, rest)) = lists.first(next) {
+        if let Some(end) = end_of(cell) {
+            return Some(end);
         }
         next = rest;
     }
     None
+}
+
+/// The catch of an end has a ball: the newer choices are cut, and the world goes back to the catch's call.
+fn give(
+    world: &mut Searching,
+    choices: &mut Choices<Alternatives>,
+    ball: StoredTerm,
+    end: End,
+)
+    requires marked { AreMarked (saved_values world.old.first world.old.second.saved) choices.old }
+    requires catch { HasCatch (saved_values world.old.first world.old.second.saved) choices.old end.height }
+    ensures given { (texts : List Text) (v : Program) (call : Value Contents × ℕ)
+        → catch_at (stack texts v (saved_values world.old.first world.old.second.saved) choices.old) end.height ≡ Some call
+        → stack texts v (saved_values world.new.first world.new.second.saved) choices.new
+        ≡ (call.0, Caught (stored_tree texts ball) end.catcher end.recovery call.1)
+        ∷ last end.height (stack texts v (saved_values world.old.first world.old.second.saved) choices.old) }
+    ensures newest { HasBall choices.new }
+    ensures no_more { length choices.new ≤ length choices.old }
+    ensures open { (texts : List Text) (v : Program) → IsCountedTerm (length texts) ball
+        → AreOpen texts v (saved_values world.old.first world.old.second.saved) choices.old
+        → AreOpen texts v (saved_values world.new.first world.new.second.saved) choices.new }
+    ensures marked { AreMarked (saved_values world.new.first world.new.second.saved) choices.new }
+    ensures budget { world.new.first.store.pivots ≡ world.old.first.store.pivots }
+{
+    let all = choices.height();
+    if end.height >= all {
+        unreachable!();
+    }
+    choices.cut(world, end.height + 1);
+    let Some(newest) = choices.top() else {
+        unreachable!();
+    };
+    let Alternatives::Catches(behind) = newest else {
+        unreachable!();
+    };
+    let rest = *behind;
+    let given = Alternatives::Caught(ball, end.catcher, end.recovery, rest);
+    choices.retry(world, given);
 }
 
 /// A ball that a goal raises is copied, and handed to the nearest catch behind a continuation. False where nothing catches it; then,

@@ -11,7 +11,7 @@ use Rattle.cq_steps.specs.Stored.{IsCountedTerm}
 use Rattle.cq_steps.specs.Worlds.{Stands}
 use Rattle.cq_begin.specs.Stops.{waiting_in}
 use Rattle.cq_ways.specs.Held.{Held, stack_of}
-use Rattle.cq_balls.specs.Taking.{Escapes}
+use Rattle.cq_saved.specs.Taking.{Escapes}
 use Rattle.cq_matching.specs.Matching.{Reaches}
 use Rattle.cq_find.specs.declared.finding.Next.{Next}
 use Rattle.cq_find.specs.declared.finding.Next.TheVariants as next

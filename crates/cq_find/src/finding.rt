@@ -9,14 +9,13 @@ ghost use Rattle.cq_matching.specs.Matching.{IsGoing, Reaches, AllStop};
 ghost use Rattle.cq_find.specs.Finding.{NextIs, FoundIs};
 
 use cq_atoms::Atoms;
-use cq_balls::{Taken, try_caught};
 use cq_calls::try_clauses;
 use cq_clauses::Clauses;
 use cq_control::{Choices, Continuation};
-use cq_gather::try_gathered;
 use cq_linear::store::StoreFault;
 use cq_matching::try_matches;
 use cq_program::ProgramClause;
+use cq_saved::{Taken, try_caught, try_gathered};
 use cq_steps::{Alternatives, Searching, find_front};
 use cq_stored::StoredTerm;
 use cq_ways::try_ways;

@@ -1,8 +1,6 @@
-//! Findall: its copies are gathered, and the list of them is made.
+//! Copies that a findall gathers.
 #![tactic(auto)]
 
 mod collecting;
-mod listing;
 
 pub use collecting::collect;
-pub use listing::try_gathered;

@@ -5,10 +5,10 @@ ghost use Rattle.cq_atoms.specs.Texts.{AreDifferent};
 ghost use Rattle.cq_ways.specs.Held.{held, HasMarks, StaysOver};
 ghost use Rattle.cq_ways.specs.Trying.{IsSearching, ComesOver, StopsOver};
 ghost use Rattle.cq_balls.specs.Balls.{HasBall};
-ghost use Rattle.cq_balls.specs.Taking.{TakesTo, IsGone};
+ghost use Rattle.cq_saved.specs.Taking.{TakesTo, IsGone};
 
-use crate::handing::hand;
 use cq_atoms::Atoms;
+use cq_balls::hand;
 use cq_begin::{Begun, begin};
 use cq_control::{Choices, Continuation, Continuations};
 use cq_linear::store::StoreFault;

@@ -13,8 +13,8 @@ use Rattle.cq_steps.specs.Stored.{IsCountedTerm, stored_tree}
 use Rattle.cq_steps.specs.Worlds.{Stands}
 use Rattle.cq_ways.specs.Held.{Held, IsOver}
 use Rattle.cq_ways.specs.Trying.{ComesOver}
-use Rattle.cq_balls.specs.declared.taking.Taken.{Taken}
-use Rattle.cq_balls.specs.declared.taking.Taken.TheVariants as taken
+use Rattle.cq_saved.specs.declared.taking.Taken.{Taken}
+use Rattle.cq_saved.specs.declared.taking.Taken.TheVariants as taken
 
 -- From the search a ball that nothing catches is told next, which is stored so. The engine stands for the search then: no branch is
 -- left.

@@ -17,6 +17,7 @@ use cq_steps::{Alternatives, Searching};
 use cq_stored::StoredTerm;
 use cq_term::{Heap, TermId};
 use cq_walk::Pair;
+use cq_ways::names_are_of_terms;
 use cq_world::World;
 use spec_machine::Cell;
 use std::alloc::AllocError;
@@ -45,6 +46,7 @@ pub fn try_gathered(
     ensures budget { world.new.first.store.pivots ≡ world.old.first.store.pivots }
     ensures marked { HasMarks (held atoms.new world.new.first world.new.second choices.new) }
 {
+    names_are_of_terms(world, choices);
     let Alternatives::Gathers(third, copies, rest) = choices.retry(world, Alternatives::Barrier)
     else {
         unreachable!();

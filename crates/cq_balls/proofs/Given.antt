@@ -1,0 +1,92 @@
+-- A catch has a ball.
+use Rattle.std.proofs.Common.{◌≡◌, ◌<◌, ◌≤◌, ◌-◌, ℕ, zero, suc, List, [], ◌∷◌, length, map, drop, Option, None, Some, refl, sym, ap, ◌∙◌, subst, arith}
+use Rattle.std.specs.List.{AllByRecursion}
+use Rattle.std.proofs.lemmas.List.{length-map}
+use Rattle.std.proofs.lemmas.Option.{same_Some, none-some}
+use Rattle.spec_lists.specs.Texts.{Text}
+use Rattle.cq_control.specs.Open.{AreMarked, last, open_choices}
+use Rattle.cq_program.specs.Database.{Program}
+use Rattle.cq_stored.specs.StoredValue.{StoredValue}
+use Rattle.cq_term.specs.Meaning.{HeapTerm}
+use Rattle.cq_world.specs.Contents.{Contents}
+use Rattle.spec_machine.specs.Cells.{as_catch, top_catch, catch_at, Value, Stack}
+use Rattle.spec_machine.specs.Cells as left
+use Rattle.spec_machine.proofs.Kept.{last-last, last-older, last-all, length-last}
+use Rattle.cq_steps.specs.Choices.{AreOpen, CanBeTried}
+use Rattle.cq_steps.specs.Stored.{IsCountedTerm, stored_tree}
+use Rattle.cq_steps.specs.Worlds.{stack, left_at, left_of}
+use Rattle.cq_steps.specs.declared.alternatives.Alternatives.{Alternatives}
+use Rattle.cq_steps.specs.declared.alternatives.Alternatives.TheVariants as alternatives
+use Rattle.cq_steps.proofs.Done.{stack_cut, length-stack}
+use Rattle.cq_balls.specs.Balls.{HasCatch}
+
+abbrev pub Opened : Type 0
+Opened = List (Value Contents × Alternatives)
+
+-- a catch for the definitions is a catch
+catch_is : (texts : List Text) (v : Program) (w : Value Contents) (ts : List HeapTerm) (a : Alternatives) (call : Value Contents × ℕ) → as_catch w (left_of texts v ts a) ≡ Some call
+    → (a ≡ alternatives.Catches call.1) × (w ≡ call.0)
+catch_is texts v w ts (alternatives.One k) call e = absurd (none-some call e)
+catch_is texts v w ts (alternatives.Clauses t walk k) call e = absurd (none-some call e)
+catch_is texts v w ts (alternatives.Ways s k) call e = absurd (none-some call e)
+catch_is texts v w ts alternatives.Barrier call e = absurd (none-some call e)
+catch_is texts v w ts (alternatives.Catches k) call e =
+    let same = same_Some (w, k) call e in
+    (ap (λ (c : Value Contents × ℕ). alternatives.Catches c.1) same, ap (λ (c : Value Contents × ℕ). c.0) same)
+catch_is texts v w ts (alternatives.Caught ball c r k) call e = absurd (none-some call e)
+catch_is texts v w ts (alternatives.Gathers l copies j) call e = absurd (none-some call e)
+catch_is texts v w ts (alternatives.Matches t walk removes k) call e = absurd (none-some call e)
+
+top_within : {W : Type 0} (rs : Stack W) (height : ℕ) (call : Value W × ℕ) → catch_at rs height ≡ Some call → height < length rs → length (last (suc height) rs) ≡ suc height
+top_within rs height call e l = length-last rs (suc height) (omega (arith, l))
+
+-- the newest of the choices that are left once the newer ones are cut
+module _ (saved fewer : List (Value Contents)) (choices left : List Alternatives) (height : ℕ) (x : Value Contents) (a : Alternatives) (older : Opened)
+    (cut : open_choices fewer left ≡ last (suc height) (open_choices saved choices)) (is : open_choices fewer left ≡ (x, a) ∷ older) where
+  module _ (texts : List Text) (v : Program) where
+    top_is : last (suc height) (stack texts v saved choices) ≡ left_at texts v (x, a) ∷ map (left_at texts v) older
+    top_is = sym (stack_cut texts v saved fewer choices left (suc height) cut) ∙ ap (map (left_at texts v)) is
+
+    pub newest_is : (call : Value Contents × ℕ) → catch_at (stack texts v saved choices) height ≡ Some call → (a ≡ alternatives.Catches call.1) × (x ≡ call.0)
+    newest_is call e = catch_is texts v x x.0.heap.terms a call (sym (ap top_catch top_is) ∙ e)
+
+    older_is : height < length (stack texts v saved choices) → last height (stack texts v saved choices) ≡ map (left_at texts v) older
+    older_is l =
+        let rs = stack texts v saved choices in
+        let long : suc (length older) ≡ suc height = ap suc (sym (length-map older (left_at texts v))) ∙ sym (ap length top_is) ∙ length-last rs (suc height) (omega (arith, l)) in
+        let many : length (map (left_at texts v) older) ≡ height = length-map older (left_at texts v) ∙ omega (arith, long) in
+        sym (last-last rs height (suc height) (omega arith)) ∙ ap (last height) top_is
+        ∙ last-older (left_at texts v (x, a)) (map (left_at texts v) older) height (omega (arith, many)) ∙ last-all (map (left_at texts v) older) height (omega (arith, many))
+
+    -- the choice has the ball
+    pub given_is : (call : Value Contents × ℕ) (more : List (Value Contents)) (after : List Alternatives) (ball : StoredValue) (c r k : ℕ)
+        → height < length (stack texts v saved choices) → catch_at (stack texts v saved choices) height ≡ Some call → a ≡ alternatives.Catches k
+        → open_choices more after ≡ (x, alternatives.Caught ball c r k) ∷ older
+        → stack texts v more after ≡ (call.0, left.Caught (stored_tree texts ball) c r call.1) ∷ last height (stack texts v saved choices)
+    given_is call more after ball c r k l e was now =
+        let n = newest_is call e in
+        let same : k ≡ call.1 = behind (sym was ∙ n.0) in
+        ap (map (left_at texts v)) now
+        ∙ ap (λ (o : Stack Contents). (x, left.Caught (stored_tree texts ball) c r k) ∷ o) (sym (older_is l))
+        ∙ ap (λ (w : Value Contents). (w, left.Caught (stored_tree texts ball) c r k) ∷ last height (stack texts v saved choices)) n.1
+        ∙ ap (λ (m : ℕ). (call.0, left.Caught (stored_tree texts ball) c r m) ∷ last height (stack texts v saved choices)) same
+      where
+        behind : {i j : ℕ} → alternatives.Catches i ≡ alternatives.Catches j → i ≡ j
+        behind f = cc
+
+    -- it and the older ones can be gone on with
+    pub open_given : (more : List (Value Contents)) (after : List Alternatives) (ball : StoredValue) (c r k : ℕ) → IsCountedTerm (length texts) ball
+        → open_choices more after ≡ (x, alternatives.Caught ball c r k) ∷ older → AreOpen texts v saved choices → AreOpen texts v more after
+    open_given more after ball c r k counted now o =
+        let Each : Opened → Type 0 = AllByRecursion (λ (d : Value Contents × Alternatives). CanBeTried texts v d.0.0.heap.terms d.1) in
+        subst Each (sym now) (counted, (subst Each (sym cut ∙ is) (open_last (suc height) (open_choices saved choices) o)).1)
+      where
+        open_drop : (n : ℕ) (xs : Opened) → AllByRecursion (λ (d : Value Contents × Alternatives). CanBeTried texts v d.0.0.heap.terms d.1) xs
+            → AllByRecursion (λ (d : Value Contents × Alternatives). CanBeTried texts v d.0.0.heap.terms d.1) (drop n xs)
+        open_drop zero xs k = k
+        open_drop (suc n) [] k = k
+        open_drop (suc n) (d ∷ xs) k = open_drop n xs k.1
+
+        open_last : (n : ℕ) (xs : Opened) → AllByRecursion (λ (d : Value Contents × Alternatives). CanBeTried texts v d.0.0.heap.terms d.1) xs
+            → AllByRecursion (λ (d : Value Contents × Alternatives). CanBeTried texts v d.0.0.heap.terms d.1) (last n xs)
+        open_last n xs k = open_drop (length xs - n) xs k
