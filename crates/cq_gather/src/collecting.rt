@@ -10,7 +10,7 @@ ghost use Rattle.cq_program.specs.Database.{Program};
 ghost use Rattle.cq_term.specs.Trees.{KnowsTerms};
 ghost use Rattle.cq_steps.specs.Choices.{AreOpen};
 ghost use Rattle.cq_steps.specs.Worlds.{value, saved_values, Stands, IsWorking, Arrives};
-ghost use Rattle.cq_gather.specs.Gathering.{IsMark};
+ghost use Rattle.cq_gather.specs.Gathering.{IsMark, GathersThere, GathersMore};
 
 use cq_control::{Choices, Continuation};
 use cq_steps::{Alternatives, Searching};
@@ -44,6 +44,19 @@ pub fn collect(
         unreachable!();
     };
     let copy = StoredTerm::of(&world.first.heap, template)?;
+    gather_at(choices, height, copy)
+}
+
+/// One more copy is gathered in the choice with so many older ones.
+fn gather_at(
+    choices: &mut Choices<Alternatives>,
+    height: usize,
+    copy: StoredTerm,
+) -> Result<(), AllocError>
+    requires { GathersThere choices.old height }
+    ensures ok { OnOk result (GathersMore choices.old height copy choices.new) }
+    ensures err { OnErr result (choices.new ≡ choices.old) }
+{
     let Alternatives::Gathers(list, mut copies, rest) =
         choices.replace_at(height, Alternatives::Barrier)
     else {

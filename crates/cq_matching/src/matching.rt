@@ -1,10 +1,22 @@
 // Clauses are compared with one that is asked for.
 
-ghost use Rattle.std.specs.Prelude.{◌≡◌, ◌<◌, None, IfNone, IfOk, IfErr, OnOk, OnErr, length};
+ghost use Rattle.std.specs.Prelude.{◌≡◌, ◌<◌, ℕ, List, None, IfOk, IfErr, OnOk, OnErr, length};
+ghost use Rattle.spec_lists.specs.Texts.{Text};
+ghost use Rattle.spec_builtins.specs.Clauses.{HeadBody, rule};
 ghost use Rattle.cq_atoms.specs.Texts.{AreDifferent};
+ghost use Rattle.cq_begin.specs.Begun.{IfGoes, IfPruned, Prunes};
 ghost use Rattle.cq_begin.specs.Stops.{waiting_in};
+ghost use Rattle.cq_frac.specs.declared.Pair.{Pair};
+ghost use Rattle.cq_linear.specs.declared.store.StoreFault.TheVariants.{Overflow, Pivots};
+ghost use Rattle.cq_program.specs.Database.{IsCounted};
+ghost use Rattle.cq_settle.specs.Settled.{MayRefuse, MayTake};
+ghost use Rattle.cq_term.specs.Trees.{tree};
+ghost use Rattle.cq_world.specs.Rest.{IsReady};
+ghost use Rattle.cq_world.specs.Worlds.{now_of, saved_of};
+ghost use Rattle.cq_steps.specs.Lists.{KeepsLists};
+ghost use Rattle.cq_steps.specs.Worlds.{value};
 ghost use Rattle.cq_ways.specs.Held.{held, stack_of, HasMarks, IsOver};
-ghost use Rattle.cq_matching.specs.Matching.{HasMatches, IsGoing, Reaches, AllStop};
+ghost use Rattle.cq_matching.specs.Matching.{HasMatches, IsGoing, Reaches, AllStop, MatchGoes, OfMatch};
 
 use cq_atoms::Atoms;
 use cq_begin::{Begun, begin};
@@ -127,7 +139,8 @@ fn compare_next(
     }
 }
 
-/// Begins the branch of a clause that is compared with the one asked for.
+/// Begins the branch of a clause that is compared with the one asked for. Where it is pruned, and after an error, terms may have been
+/// added to the world.
 fn begin_match(
     world: &mut World,
     lists: &mut Continuations<Cell>,
@@ -135,7 +148,27 @@ fn begin_match(
     clause: &Clause,
     asked: TermId,
     rest: Continuation,
-) -> Result<Begun, StoreFault> {
+) -> Result<Begun, StoreFault>
+    requires ready { IsReady atoms.now (now_of world.old) }
+    requires different { AreDifferent atoms.now }
+    requires clause { IsCounted (length atoms.now) clause.now }
+    requires asked { asked < length world.old.heap.now.terms }
+    requires rule { (texts : List Text) × (c : HeadBody) × (tree texts world.old.heap.now.terms asked ≡ rule c) }
+    requires rest { rest < length lists.old.now }
+    ensures goes { IfOk result (λ b. IfGoes b (MatchGoes atoms.now (value world.old lists.old.now) (value world.new lists.new.now) asked rest clause.now)) }
+    ensures pruned { IfOk result (λ b. IfPruned b (OfMatch atoms.now (value world.old lists.old.now) asked rest clause.now Prunes)) }
+
+    // A stop is due while the branch is settled.
+    ensures overflow { (pair : Pair) → result ≡ Err (Overflow pair)
+        → OfMatch atoms.now (value world.old lists.old.now) asked rest clause.now (λ st p. MayRefuse st p pair) }
+    ensures pivots { (n : ℕ) → result ≡ Err (Pivots n) → (n ≡ world.old.store.pivots)
+        × OfMatch atoms.now (value world.old lists.old.now) asked rest clause.now (λ st p. MayTake st p n) }
+    ensures there { IfOk result (λ b. IfGoes b (λ k. k < length lists.new.now)) }
+    ensures keeps { KeepsLists lists.old.now lists.new.now }
+    ensures lists { lists.new.saved ≡ lists.old.saved }
+    ensures saved { saved_of world.new ≡ saved_of world.old }
+    ensures budget { world.new.store.pivots ≡ world.old.store.pivots }
+{
     clauses_are_counted();
     equated_worlds_may_be_settled();
     let there = rule_of(&mut world.heap, clause, asked)?;

@@ -1,11 +1,25 @@
 // The list of what a findall gathered.
 
-ghost use Rattle.std.specs.Prelude.{◌≡◌, ◌<◌, ◌≤◌, ℕ, length, None, IfOk, IfErr, OnOk, OnErr};
+ghost use Rattle.std.specs.Prelude.{◌≡◌, ◌<◌, ◌≤◌, ◌++◌, ℕ, List, All, length, None, IfOk, IfErr, OnOk, OnErr};
 ghost use Rattle.spec_lists.specs.Prefixes.{IsPrefix};
+ghost use Rattle.spec_lists.specs.Texts.{Text};
 ghost use Rattle.cq_atoms.specs.Texts.{AreDifferent};
+ghost use Rattle.cq_frac.specs.declared.Pair.{Pair};
+ghost use Rattle.cq_linear.specs.declared.store.StoreFault.TheVariants.{Overflow, Pivots};
+ghost use Rattle.cq_settle.specs.Settled.{MayRefuse, MayTake};
+ghost use Rattle.cq_term.specs.Names.{KeepsNames};
+ghost use Rattle.cq_term.specs.Trees.{trees};
+ghost use Rattle.cq_unify.specs.Copied.{unbound_from};
+ghost use Rattle.cq_world.specs.Rest.{IsReady};
+ghost use Rattle.cq_world.specs.Worlds.{now_of, saved_of};
+ghost use Rattle.spec_machine.specs.Trying.{placed, variables_of};
+ghost use Rattle.cq_steps.specs.Lists.{KeepsLists};
+ghost use Rattle.cq_steps.specs.Stored.{IsCountedTerm, stored_trees};
+ghost use Rattle.cq_steps.specs.Worlds.{value};
+ghost use Rattle.cq_begin.specs.Begun.{IfGoes, IfPruned, Prunes};
 ghost use Rattle.cq_ways.specs.Held.{held, HasMarks, StaysOver};
 ghost use Rattle.cq_ways.specs.Trying.{IsSearching, ComesOver, StopsOver};
-ghost use Rattle.cq_gather.specs.Gathering.{HasGathered};
+ghost use Rattle.cq_saved.specs.Listing.{HasGathered, ListGoes, OfList};
 
 use cq_atoms::Atoms;
 use cq_begin::{Begun, begin};
@@ -83,7 +97,27 @@ fn begin_list(
     third: TermId,
     copies: &[StoredTerm],
     rest: Continuation,
-) -> Result<Begun, StoreFault> {
+) -> Result<Begun, StoreFault>
+    requires ready { IsReady atoms.old (now_of world.old) }
+    requires different { AreDifferent atoms.old }
+    requires third { third < length world.old.heap.now.terms }
+    requires copies { All (IsCountedTerm (length atoms.old)) copies.now }
+    requires rest { rest < length lists.old.now }
+    ensures goes { IfOk result (λ b. IfGoes b (ListGoes atoms.new (value world.old lists.old.now) (value world.new lists.new.now) third copies.now rest)) }
+    ensures pruned { IfOk result (λ b. IfPruned b (OfList atoms.new (now_of world.old) third copies.now Prunes)) }
+
+    // A stop is due while the branch is settled.
+    ensures overflow { (pair : Pair) → result ≡ Err (Overflow pair) → OfList atoms.new (now_of world.old) third copies.now (λ st p. MayRefuse st p pair) }
+    ensures pivots { (n : ℕ) → result ≡ Err (Pivots n)
+        → (n ≡ world.old.store.pivots) × OfList atoms.new (now_of world.old) third copies.now (λ st p. MayTake st p n) }
+    ensures there { IfOk result (λ b. IfGoes b (λ k. k < length lists.new.now)) }
+    ensures keeps { KeepsLists lists.old.now lists.new.now }
+    ensures lists { lists.new.saved ≡ lists.old.saved }
+    ensures saved { saved_of world.new ≡ saved_of world.old }
+    ensures different { AreDifferent atoms.new }
+    ensures longer { IsPrefix atoms.old atoms.new }
+    ensures budget { world.new.store.pivots ≡ world.old.store.pivots }
+{
     equated_worlds_may_be_settled();
     let elements = restored(&mut world.heap, copies)?;
     let all = list(&mut world.heap, atoms, &elements)?;
@@ -97,7 +131,18 @@ fn begin_list(
 }
 
 /// The copies under new variables, one after another.
-fn restored(heap: &mut Heap, copies: &[StoredTerm]) -> Result<Vec<TermId>, AllocError> {
+fn restored(heap: &mut Heap, copies: &[StoredTerm]) -> Result<Vec<TermId>, AllocError>
+    ensures live { IfOk result (λ ids. All (λ id. id < length heap.new.now.terms) ids.items) }
+    ensures placed { IfOk result (λ ids. (texts : List Text)
+        → All (IsCountedTerm (length texts)) copies.now
+        → trees texts heap.new.now.terms ids.items ≡ placed (length heap.old.now.images) (stored_trees texts copies.now)) }
+    ensures terms { OnOk result (IsPrefix heap.old.now.terms heap.new.now.terms) }
+    ensures images { OnOk result ((texts : List Text) → All (IsCountedTerm (length texts)) copies.now → heap.new.now.images
+        ≡ heap.old.now.images ++ unbound_from (length heap.old.now.images) (variables_of (stored_trees texts copies.now))) }
+    ensures names { (n : ℕ) → All (IsCountedTerm n) copies.now → KeepsNames n heap.old.now heap.new.now }
+    ensures saved { heap.new.saved ≡ heap.old.saved }
+    ensures room { heap.old.room ≤ heap.new.room }
+{
     let mut elements = Vec::new(heap.alloc());
     for copy in copies {
         elements.push(copy.restore(heap)?)?;

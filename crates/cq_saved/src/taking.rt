@@ -1,11 +1,26 @@
 // A catch that has a ball.
 
-ghost use Rattle.std.specs.Prelude.{◌≡◌, ◌<◌, ◌≤◌, ◌∷◌, [], ℕ, length, None, IfOk, IfErr, OnOk, OnErr};
+ghost use Rattle.std.specs.Prelude.{◌≡◌, ◌≢◌, ◌<◌, ◌≤◌, [], ℕ, List, length, None, IfOk, IfErr, OnOk, OnErr};
+ghost use Rattle.spec_lists.specs.Texts.{Text};
 ghost use Rattle.cq_atoms.specs.Texts.{AreDifferent};
+ghost use Rattle.cq_control.specs.Open.{AreMarked};
+ghost use Rattle.cq_frac.specs.declared.Pair.{Pair};
+ghost use Rattle.cq_linear.specs.declared.store.StoreFault.TheVariants.{Overflow, Pivots};
+ghost use Rattle.cq_program.specs.Database.{Program};
+ghost use Rattle.cq_settle.specs.Settled.{MayRefuse, MayTake};
+ghost use Rattle.cq_stored.specs.StoredValue.{StoredValue};
+ghost use Rattle.cq_world.specs.Rest.{IsReady};
+ghost use Rattle.cq_world.specs.Worlds.{now_of, saved_of};
+ghost use Rattle.cq_steps.specs.Choices.{AreOpen};
+ghost use Rattle.cq_steps.specs.Lists.{KeepsLists};
+ghost use Rattle.cq_steps.specs.Stored.{IsCountedTerm};
+ghost use Rattle.cq_steps.specs.Worlds.{value, saved_values};
+ghost use Rattle.cq_begin.specs.Begun.{IfGoes, IfPruned, Prunes};
 ghost use Rattle.cq_ways.specs.Held.{held, HasMarks, StaysOver};
 ghost use Rattle.cq_ways.specs.Trying.{IsSearching, ComesOver, StopsOver};
-ghost use Rattle.cq_balls.specs.Balls.{HasBall};
-ghost use Rattle.cq_saved.specs.Taking.{TakesTo, IsGone};
+ghost use Rattle.cq_balls.specs.Balls.{ComesUpSomewhere, Catches, Misses, HasBall};
+ghost use Rattle.cq_saved.specs.Taking.{TakesTo, IsGone, BallGoes, OfBall, CarriesBall};
+ghost use Rattle.cq_saved.specs.declared.taking.Taken.TheVariants.{Goes, HandedOn, Escaped};
 
 use cq_atoms::Atoms;
 use cq_balls::hand;
@@ -92,6 +107,20 @@ fn hand_on(
     ball: StoredTerm,
     from: Continuation,
 ) -> Taken
+    requires marked { AreMarked (saved_values world.old.first world.old.second.saved) choices.old }
+    requires comes_up { ComesUpSomewhere (saved_values world.old.first world.old.second.saved) choices.old
+        (value world.old.first world.old.second.now) from }
+    ensures caught { result ≡ HandedOn → Catches (saved_values world.old.first world.old.second.saved) choices.old
+        (value world.old.first world.old.second.now) from ball (saved_values world.new.first world.new.second.saved) choices.new }
+    ensures escaped { (b : StoredValue) → result ≡ Escaped b → (b ≡ ball) × (choices.new ≡ [])
+        × Misses (saved_values world.old.first world.old.second.saved) choices.old (value world.old.first world.old.second.now) from }
+    ensures goes { (k : ℕ) → result ≢ Goes k }
+    ensures no_more { length choices.new ≤ length choices.old }
+    ensures open { (texts : List Text) (v : Program) → IsCountedTerm (length texts) ball
+        → AreOpen texts v (saved_values world.old.first world.old.second.saved) choices.old
+        → AreOpen texts v (saved_values world.new.first world.new.second.saved) choices.new }
+    ensures marked { AreMarked (saved_values world.new.first world.new.second.saved) choices.new }
+    ensures budget { world.new.first.store.pivots ≡ world.old.first.store.pivots }
 {
     match hand(world, choices, ball, from) {
         None => Taken::HandedOn,
@@ -111,7 +140,29 @@ fn begin_caught(
     catcher: TermId,
     recovery: TermId,
     rest: Continuation,
-) -> Result<Begun, StoreFault> {
+) -> Result<Begun, StoreFault>
+    requires ready { IsReady atoms.now (now_of world.old) }
+    requires different { AreDifferent atoms.now }
+    requires ball { IsCountedTerm (length atoms.now) ball.now }
+    requires catcher { catcher < length world.old.heap.now.terms }
+    requires rest { rest < length lists.old.now }
+    ensures goes { IfOk result (λ b. IfGoes b (BallGoes atoms.now (value world.old lists.old.now) (value world.new lists.new.now)
+        ball.now catcher recovery rest)) }
+    ensures pruned { IfOk result (λ b. IfPruned b (OfBall atoms.now (now_of world.old) ball.now catcher Prunes)) }
+    ensures carries { IfOk result (λ b. IfPruned b (CarriesBall atoms.now (value world.old lists.old.now) (value world.new lists.new.now)
+        ball.now rest)) }
+
+    // A stop is due while the branch is settled.
+    ensures overflow { (pair : Pair) → result ≡ Err (Overflow pair)
+        → OfBall atoms.now (now_of world.old) ball.now catcher (λ st p. MayRefuse st p pair) }
+    ensures pivots { (n : ℕ) → result ≡ Err (Pivots n) → (n ≡ world.old.store.pivots)
+        × OfBall atoms.now (now_of world.old) ball.now catcher (λ st p. MayTake st p n) }
+    ensures there { IfOk result (λ b. IfGoes b (λ k. k < length lists.new.now)) }
+    ensures keeps { KeepsLists lists.old.now lists.new.now }
+    ensures lists { lists.new.saved ≡ lists.old.saved }
+    ensures saved { saved_of world.new ≡ saved_of world.old }
+    ensures budget { world.new.store.pivots ≡ world.old.store.pivots }
+{
     equated_worlds_may_be_settled();
     let recovered = lists.before(Cell::Call(recovery), rest)?;
     let copy = ball.restore(&mut world.heap)?;

@@ -53,9 +53,12 @@ pub struct Gathered {
 
 impl Model for Gathered {
     ghost use Rattle.std.specs.Prelude.{List};
-    ghost use Rattle.cq_stored.specs.StoredValue.{StoredValue};
+    ghost use Rattle.std.specs.Coded.{coded_list};
+    ghost use Rattle.cq_stored.specs.StoredValue.{StoredValue, stored_code};
 
     ghost Value = { List StoredValue };
+
+    ghost coded = { coded_list stored_code };
 
     ghost view = { λ gathered. gathered.copies.items };
 }

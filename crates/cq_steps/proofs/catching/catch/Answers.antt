@@ -17,7 +17,7 @@ returns-clause-row c = λ texts v height p behind g f r s rg rf rr.
     catch_done texts v (now_of first) old new height c.args.rest p behind (saved_values first c.args.world.now.second.saved)
     (saved_values c.push.new.world.first c.push.new.world.second.saved) c.args.choices.now c.push.new.self (value c.push.new.world.first c.push.new.world.second.now)
     c.requires.marked s (keeps_on old mid new c.in_ok-end.ensures.keeps c.in_ok-all.ensures.keeps) c.in_ok-push.ensures.now
-    c.in_ok-all.all c.height.result c.args.goal c.args.catcher c.args.recovery g f r c.height.ensures
+    c.in_ok-all.all c.height-top.result c.args.goal c.args.catcher c.args.recovery g f r c.height-top.ensures
     (has_more mid new c.in_ok-end.end c.in_ok-all.all _ _ c.in_ok-end.ensures.cells c.in_ok-all.ensures.cells)
     (c.in_ok-push.ensures.open ∙ ap (λ l. ((now_of first, new), Catches c.args.rest) ∷ open_choices (saved_values first l) c.args.choices.now) saved) rg rf rr
 

@@ -19,7 +19,7 @@ returns-clause-row c = λ v height p behind t g l s rt rg rl.
     findall_done texts v (now_of first) old new height c.args.rest p behind (saved_values first c.args.world.now.second.saved)
     (saved_values c.push.new.world.first c.push.new.world.second.saved) c.args.choices.now c.push.new.self (value c.push.new.world.first c.push.new.world.second.now)
     c.requires.marked s (keeps_on old mid new c.in_ok-end.ensures.keeps c.in_ok-all.ensures.keeps) c.in_ok-push.ensures.now
-    c.in_ok-all.all c.height.result c.args.template c.args.goal c.args.list t g l c.height.ensures
+    c.in_ok-all.all c.height-top.result c.args.template c.args.goal c.args.list t g l c.height-top.ensures
     (has_more mid new c.in_ok-end.end c.in_ok-all.all _ _ c.in_ok-end.ensures.cells c.in_ok-all.ensures.cells)
     (c.in_ok-push.ensures.open ∙ ap (λ x. ((now_of first, new), Gathers c.args.list [] c.args.rest) ∷ open_choices (saved_values first x) c.args.choices.now) saved) rt rg rl
     (may_be texts (now_of first) p.state c.args.list l rl)
