@@ -22,7 +22,7 @@ use Rattle.spec_machine.proofs.Thrown.{caught, ball_waits, uncaught}
 use Rattle.cq_steps.specs.Stored.{IsCountedTerm, stored_tree}
 use Rattle.cq_steps.specs.Worlds.{IsBranch, term_in, stack}
 use Rattle.cq_steps.specs.declared.alternatives.Alternatives.{Alternatives}
-use Rattle.cq_balls.specs.Balls.{ComesUp, ComesUpSomewhere, IsCaughtBy, Catches, Misses, HasCatch, IsNearest}
+use Rattle.cq_balls.specs.Balls.{ComesUp, ComesUpSomewhere, IsCaughtBy, HandsBall, Misses, HasCatch, IsNearest}
 use Rattle.cq_balls.specs.declared.handing.End.{End}
 
 module _ (saved : List (Value Contents)) (choices : List Alternatives) (now : Value Contents) (from : ℕ) where
@@ -38,7 +38,7 @@ module _ (saved : List (Value Contents)) (choices : List Alternatives) (now : Va
   pub catches_it : (e : End) → IsNearest (items_at now.1 from) e → (stored : StoredValue) (more : List (Value Contents)) (after : List Alternatives)
       → ((texts : List Text) (v : Program) (call : Value Contents × ℕ) → catch_at (stack texts v saved choices) e.height ≡ Some call
       → stack texts v more after ≡ (call.0, left.Caught (stored_tree texts stored) e.catcher e.recovery call.1) ∷ last e.height (stack texts v saved choices))
-      → Catches saved choices now from stored more after
+      → HandsBall saved choices now from stored more after
   catches_it e near stored more after given = λ texts v items st behind ball c kept.
       let b = ball_waits (IsBranch texts) (term_in texts) (stack texts v saved choices) now from items st ball (stored_tree texts stored) behind
       (e.height, e.catcher, e.recovery, near.0) c.continuation c.waiting near.1 kept in

@@ -33,8 +33,8 @@ pub record IsCaughtBy (texts : List Text) (choices : Stack Contents) (ball : Cop
   pub waiting : AreWaiting (IsBranch texts) (term_in texts) choices next
 
 -- wherever the ball, which is stored so, came up before, it is handed to a catch
-abbrev pub Catches : List (Value Contents) → List Alternatives → Value Contents → ℕ → StoredValue → List (Value Contents) → List Alternatives → Type 0
-Catches saved choices now from stored more after = (texts : List Text) (v : Program) (items : List Item) (st : State) (behind : List Branch) (ball : Copied)
+abbrev pub HandsBall : List (Value Contents) → List Alternatives → Value Contents → ℕ → StoredValue → List (Value Contents) → List Alternatives → Type 0
+HandsBall saved choices now from stored more after = (texts : List Text) (v : Program) (items : List Item) (st : State) (behind : List Branch) (ball : Copied)
     → ComesUp texts (stack texts v saved choices) now from items st behind → IsStoredAs ball (stored_tree texts stored)
     → IsCaughtBy texts (stack texts v more after) ball items behind
 

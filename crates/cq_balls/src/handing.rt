@@ -14,7 +14,7 @@ ghost use Rattle.spec_machine.specs.Cells.{Caught, Value, catch_at, nearest_catc
 ghost use Rattle.cq_steps.specs.Choices.{AreOpen};
 ghost use Rattle.cq_steps.specs.Stored.{IsCountedTerm, stored_tree};
 ghost use Rattle.cq_steps.specs.Worlds.{value, saved_values, stack};
-ghost use Rattle.cq_balls.specs.Balls.{ComesUp, ComesUpSomewhere, IsCaughtBy, Catches, Misses, HasBall, HasCatch, IsNearest};
+ghost use Rattle.cq_balls.specs.Balls.{ComesUp, ComesUpSomewhere, IsCaughtBy, HandsBall, Misses, HasBall, HasCatch, IsNearest};
 
 use cq_control::{Choices, Continuation, Continuations};
 use cq_steps::{Alternatives, Searching};
@@ -34,7 +34,7 @@ pub fn hand(
     requires marked { AreMarked (saved_values world.old.first world.old.second.saved) choices.old }
     requires comes_up { ComesUpSomewhere (saved_values world.old.first world.old.second.saved) choices.old
         (value world.old.first world.old.second.now) from }
-    ensures caught { IfNone result (Catches (saved_values world.old.first world.old.second.saved) choices.old
+    ensures caught { IfNone result (HandsBall (saved_values world.old.first world.old.second.saved) choices.old
         (value world.old.first world.old.second.now) from ball (saved_values world.new.first world.new.second.saved) choices.new) }
     ensures newest { IfNone result (HasBall choices.new) }
     ensures no_more { length choices.new ≤ length choices.old }

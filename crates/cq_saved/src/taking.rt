@@ -18,7 +18,7 @@ ghost use Rattle.cq_steps.specs.Worlds.{value, saved_values};
 ghost use Rattle.cq_begin.specs.Begun.{IfGoes, IfPruned, Prunes};
 ghost use Rattle.cq_ways.specs.Held.{held, HasMarks, StaysOver};
 ghost use Rattle.cq_ways.specs.Trying.{IsSearching, ComesOver, StopsOver};
-ghost use Rattle.cq_balls.specs.Balls.{ComesUpSomewhere, Catches, Misses, HasBall};
+ghost use Rattle.cq_balls.specs.Balls.{ComesUpSomewhere, HandsBall, Misses, HasBall};
 ghost use Rattle.cq_saved.specs.Taking.{TakesTo, IsGone, BallGoes, OfBall, CarriesBall};
 ghost use Rattle.cq_saved.specs.declared.taking.Taken.TheVariants.{Goes, HandedOn, Escaped};
 
@@ -110,7 +110,7 @@ fn hand_on(
     requires marked { AreMarked (saved_values world.old.first world.old.second.saved) choices.old }
     requires comes_up { ComesUpSomewhere (saved_values world.old.first world.old.second.saved) choices.old
         (value world.old.first world.old.second.now) from }
-    ensures caught { result ≡ HandedOn → Catches (saved_values world.old.first world.old.second.saved) choices.old
+    ensures caught { result ≡ HandedOn → HandsBall (saved_values world.old.first world.old.second.saved) choices.old
         (value world.old.first world.old.second.now) from ball (saved_values world.new.first world.new.second.saved) choices.new }
     ensures escaped { (b : StoredValue) → result ≡ Escaped b → (b ≡ ball) × (choices.new ≡ [])
         × Misses (saved_values world.old.first world.old.second.saved) choices.old (value world.old.first world.old.second.now) from }
