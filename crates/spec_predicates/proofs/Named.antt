@@ -14,7 +14,7 @@ abbrev IsFound : Row → Type 0
 IsFound r = builtin_of r.indicator ≡ Some r.builtin
 
 all_found : AllByRecursion IsFound built
-all_found =
+all_found = (refl, (refl, (refl, (refl, (refl, (refl, (refl, (refl, tt))))))))
     (refl, (refl, (refl, (refl, (refl, (refl, (refl, (refl, (refl, (refl, (refl, (refl, (refl, (refl, (refl, (refl, (refl, (refl, (refl, (refl, (refl, (refl, (refl, (refl, (refl, (refl, (refl, (refl, (refl, (refl, (refl, (refl, (refl, (refl, (refl, (refl, (refl, (refl, (refl, (refl, (refl, (refl, (refl, (refl, (refl, (refl, (refl, (refl, (refl, (refl, (refl, (refl, (refl, (refl, (refl, (refl, (refl, (refl, (refl, (refl, (refl, tt)))))))))))))))))))))))))))))))))))))))))))))))))))))))))))))
 
 pub once : (r : Row) → Contains built r → builtin_of r.indicator ≡ Some r.builtin
