@@ -1,0 +1,3 @@
+pub mod Moved
+pub mod Recovered
+pub mod Handing
