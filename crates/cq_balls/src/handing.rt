@@ -104,12 +104,7 @@ fn nearest(lists: &Continuations<Cell>, from: Continuation) -> Option<End>
 }
 
 /// The catch of an end has a ball: the newer choices are cut, and the world goes back to the catch's call.
-fn give(
-    world: &mut Searching,
-    choices: &mut Choices<Alternatives>,
-    ball: StoredTerm,
-    end: End,
-)
+fn give(world: &mut Searching, choices: &mut Choices<Alternatives>, ball: StoredTerm, end: End)
     requires marked { AreMarked (saved_values world.old.first world.old.second.saved) choices.old }
     requires within { end.height < length choices.old }
     requires catch { HasCatch (saved_values world.old.first world.old.second.saved) choices.old end.height }

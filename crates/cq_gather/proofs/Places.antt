@@ -14,7 +14,7 @@ module _ {A : Type 0} where
   pub around : (h : ℕ) (xs : List A) → h < length xs → (newer : List A) × (x : A) × (xs ≡ newer ++ x ∷ last h xs) × (length (last h xs) ≡ h)
   around h [] l = absurd (omega (arith, l))
   around h (x ∷ xs) l = elim (cases_lt h (length xs)) [
-    inl further ↦ (let r = around h xs further in let e = last-older x xs h (omega (arith, further)) in
+    | inl further ↦ (let r = around h xs further in let e = last-older x xs h (omega (arith, further)) in
         (x ∷ r.0, r.1, ap (λ ys. x ∷ ys) r.2 ∙ ap (λ ys. x ∷ (r.0 ++ r.1 ∷ ys)) (sym e), ap length e ∙ r.3))
     | inr here ↦ (let n : length xs ≡ h = omega (arith, l, here) in
         let e : last h (x ∷ xs) ≡ xs = last-older x xs h (omega (arith, n)) ∙ last-all xs h (omega (arith, n)) in

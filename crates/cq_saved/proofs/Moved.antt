@@ -1,5 +1,5 @@
 -- A copy under new variables of a world.
-use Rattle.std.proofs.Common.{◌≡◌, ◌+◌, ◌<◌, ℕ, zero, suc, List, [], ◌∷◌, length, refl, sym, ap, ◌∙◌, arith}
+use Rattle.std.proofs.Common.{◌≡◌, ◌+◌, ◌≤◌, ℕ, zero, suc, List, [], ◌∷◌, length, refl, sym, ap, ◌∙◌, arith}
 use Rattle.spec_lists.specs.Texts.{Text}
 use Rattle.spec_terms.specs.Term.{Subst, Var, apply, named}
 use Rattle.spec_terms.specs.Variables.{variables, counted_from}
@@ -19,9 +19,9 @@ use Rattle.spec_machine.proofs.Landed.{copies_landed}
 use Rattle.cq_steps.specs.Stored.{IsCountedTerm, stored_tree}
 
 -- a term over variables that are not in use reads as itself
-pub reads_itself : (st : State) (n : ℕ) (t : Tree) → IsReadThrough st → n ≡ st.fresh → apply st.bindings (apply (moved_on n) t) ≡ apply (moved_on n) t
-reads_itself st n t r e =
-    sym (apply-followed_by (moved_on n) st.bindings t) ∙ apply_agree _ (moved_on n) t (λ v o. r.beyond (n + v) (omega (arith, e)))
+pub reads_itself : (st : State) (n : ℕ) (t : Tree) → IsReadThrough st → st.fresh ≤ n → apply st.bindings (apply (moved_on n) t) ≡ apply (moved_on n) t
+reads_itself st n t r le =
+    sym (apply-followed_by (moved_on n) st.bindings t) ∙ apply_agree _ (moved_on n) t (λ v o. r.beyond (n + v) (omega (arith, le)))
 
 -- with texts in the places of names
 pub moved_named : (f : ℕ → Text) (n : ℕ) (t : HeapTerm) → named f (apply (moved_by n) t) ≡ apply (moved_on n) (named f t)

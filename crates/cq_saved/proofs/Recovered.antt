@@ -1,5 +1,5 @@
 -- The branch of a catch that has a ball, in a world to which the ball was added under new variables.
-use Rattle.std.proofs.Common.{◌≡◌, ◌<◌, ℕ, List, [], ◌∷◌, ◌++◌, length, Some, refl, sym, ap, ap₂, ◌∙◌, subst, arith, map}
+use Rattle.std.proofs.Common.{◌≡◌, ◌<◌, ◌≤◌, ℕ, List, [], ◌∷◌, ◌++◌, length, Some, refl, sym, ap, ap₂, ◌∙◌, subst, arith, map}
 use Rattle.spec_lists.specs.Prefixes.{IsPrefix}
 use Rattle.spec_lists.specs.Texts.{Text}
 use Rattle.spec_terms.specs.Term.{apply, named}
@@ -106,7 +106,7 @@ module _ (texts : List Text) (c : Contents) (s : StoredValue) (counted : IsCount
     right_is : apply st.bindings (landed_term st ball) ≡ tree texts h.terms copy
     right_is =
         ap (apply st.bindings) (landed_as texts (length texts) s counted st ball stored)
-        ∙ reads_itself st st.fresh (stored_tree texts s) r.rests.read_through refl
+        ∙ reads_itself st st.fresh (stored_tree texts s) r.rests.read_through (omega arith)
         ∙ ap (λ (m : ℕ). apply (moved_on m) (stored_tree texts s)) (sym r.stands.fresh)
         ∙ sym (ap (λ (t : HeapTerm). named (text_of texts) t) moved ∙ moved_named (text_of texts) (length c.heap.images) s.term)
 
