@@ -1,5 +1,7 @@
 -- Lists around the element with so many behind it.
-use Rattle.std.proofs.Common.{◌≡◌, ◌<◌, ◌+◌, ℕ, suc, List, [], ◌∷◌, ◌++◌, length, length-append, refl, sym, ap, ◌∙◌, subst, arith, inl, inr}
+use Rattle.std.proofs.Common.{◌≡◌, ◌<◌, ℕ, List, [], ◌∷◌, ◌++◌, length, length-append, refl, sym, ap, ◌∙◌, arith, inl, inr}
+use Rattle.std.specs.Prelude.{Ok, Err, OnOk, OnErr}
+use Rattle.std.specs.declared.result.Result.{Result}
 use Rattle.std.proofs.lemmas.Bool.{cases_lt}
 use Rattle.cq_control.specs.Open.{last}
 use Rattle.cq_steps.specs.declared.alternatives.Alternatives.{Alternatives}
@@ -104,3 +106,13 @@ same_many old new height copy g =
     let h = g.0 in
     let n = length-append h.newer (Gathers h.list (h.copies ++ copy ∷ []) h.rest ∷ h.older) in
     omega (arith, ap length g.1, ap length h.are, n, length-append h.newer (Gathers h.list h.copies h.rest ∷ h.older))
+
+-- ---- what holds by what a call returned
+
+pub on_ok : {A E P Q : Type 0} (r : Result A E) → (P → Q) → OnOk r P → OnOk r Q
+on_ok (Ok x) f p = f p
+on_ok (Err e) f p = p
+
+pub on_both : {A E P Q R : Type 0} (r : Result A E) → (P → R) → (Q → R) → OnOk r P → OnErr r Q → R
+on_both (Ok x) f g p q = f p
+on_both (Err e) f g p q = g q

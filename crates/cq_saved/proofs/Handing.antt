@@ -1,5 +1,5 @@
 -- What an engine comes to from a catch that has a ball.
-use Rattle.std.proofs.Common.{inl, ◌≡◌, ◌<◌, ℕ, List, [], ◌∷◌, ◌++◌, length, map, Option, None, Some, refl, sym, ap, ◌∙◌, subst}
+use Rattle.std.proofs.Common.{inl, ◌≡◌, ◌≢◌, ◌<◌, ℕ, List, [], ◌∷◌, ◌++◌, length, map, Option, None, Some, refl, sym, ap, ◌∙◌, subst}
 use Rattle.std.specs.Prelude.{reverse}
 use Rattle.std.specs.List.{zip}
 use Rattle.spec_lists.proofs.Prefixes.{prefix_same}
@@ -44,7 +44,9 @@ use Rattle.cq_ways.specs.Held.{Held, IsOver, StaysOver, open_of}
 use Rattle.cq_ways.specs.Trying.{IsSearching, ComesOver, StopsOver}
 use Rattle.cq_ways.proofs.Ending.{Open, over_with}
 use Rattle.cq_balls.specs.Balls.{ComesUp, ComesUpSomewhere, IsCaughtBy, HandsBall, Misses}
-use Rattle.cq_saved.specs.Taking.{EscapesOver, Escapes, IsBallAt, BallGoes, OfBall, CarriesBall}
+use Rattle.cq_saved.specs.Taking.{TakesTo, IsGone, EscapesOver, Escapes, IsBallAt, BallGoes, OfBall, CarriesBall}
+use Rattle.cq_saved.specs.declared.taking.Taken.{Taken}
+use Rattle.cq_saved.specs.declared.taking.Taken.TheVariants as taken
 
 no_pairs : (xs : List (Value Contents)) → zip xs (let none : List Alternatives = [] in none) ≡ []
 no_pairs [] = refl
@@ -229,3 +231,16 @@ module _ (old : Held) (start : Value Contents) (s : StoredValue) (c r rest : ℕ
       → StaysOver old (record { texts = old.texts; saved = more; choices = after; now = later })
   stays_handed saved more choices after later left opens v o =
       record { program = o.program; choices = opens old.texts v (open_there v o).0 (subst (Open old.texts v) (sym left) (open_there v o).1) }
+
+-- ---- what became of the ball
+
+pub takes_to : (old new : Held) (r : Taken) → ((k : ℕ) → r ≢ taken.Goes k) → (r ≡ taken.HandedOn → ComesOver old new None)
+    → ((b : StoredValue) → r ≡ taken.Escaped b → EscapesOver old new b) → TakesTo old new r
+takes_to old new (taken.Goes k) goes on out = absurd (goes k refl)
+takes_to old new taken.HandedOn goes on out = on refl
+takes_to old new (taken.Escaped b) goes on out = out b refl
+
+pub is_gone : (new : Held) (r : Taken) → ((b : StoredValue) → r ≡ taken.Escaped b → IsCountedTerm (length new.texts) b × (new.choices ≡ [])) → IsGone new r
+is_gone new (taken.Goes k) out = tt
+is_gone new taken.HandedOn out = tt
+is_gone new (taken.Escaped b) out = out b refl
