@@ -1,8 +1,8 @@
 -- A ball that comes up is handed to the nearest catch.
-use Rattle.std.proofs.Common.{◌≡◌, ℕ, List, ◌∷◌, length, None, Some, refl, sym, ap, ◌∙◌, subst}
+use Rattle.std.proofs.Common.{◌≡◌, ℕ, List, ◌∷◌, None, Some, sym, subst}
 use Rattle.spec_lists.specs.Texts.{Text}
 use Rattle.spec_terms.specs.Term.{Var}
-use Rattle.spec_branch.specs.Branch.{State, Item, Branch, Copied, plain_copy}
+use Rattle.spec_branch.specs.Branch.{plain_copy}
 use Rattle.cq_control.specs.Items.{items_at}
 use Rattle.cq_control.specs.Open.{last}
 use Rattle.cq_program.specs.Database.{Program}
@@ -10,12 +10,12 @@ use Rattle.cq_stored.specs.StoredValue.{StoredValue}
 use Rattle.cq_world.specs.Contents.{Contents}
 use Rattle.spec_machine.specs.Cells.{Value, Stack, catch_at, nearest_catch}
 use Rattle.spec_machine.specs.Cells as left
-use Rattle.spec_machine.specs.Standing.{AreWaiting, IsStoredAs}
+use Rattle.spec_machine.specs.Standing.{AreWaiting}
 use Rattle.spec_machine.proofs.Thrown.{caught, ball_waits, uncaught}
 use Rattle.cq_steps.specs.Stored.{stored_tree}
 use Rattle.cq_steps.specs.Worlds.{IsBranch, term_in, stack}
 use Rattle.cq_steps.specs.declared.alternatives.Alternatives.{Alternatives}
-use Rattle.cq_balls.specs.Balls.{ComesUp, ComesUpSomewhere, IsCaughtBy, HandsBall, Misses, HasCatch, IsNearest}
+use Rattle.cq_balls.specs.Balls.{ComesUpSomewhere, HandsBall, Misses, HasCatch, IsNearest}
 use Rattle.cq_balls.specs.declared.handing.End.{End}
 
 module _ (saved : List (Value Contents)) (choices : List Alternatives) (now : Value Contents) (from : ℕ) where
