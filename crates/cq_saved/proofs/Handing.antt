@@ -207,18 +207,18 @@ module _ (old : Held) (start : Value Contents) (s : StoredValue) (c r rest : ℕ
         let k = taking w.0 w.2 w.3 w.4 w.5 in
         (old.texts, w.0, k.items, st w.0 w.2 w.3 w.4 w.5, k.behind, up_there w.0 w.2 w.3 w.4 w.5 carries)
 
-    module _ (prunes : OfBall old.texts start.0 s c Prunes) (carries : CarriesBall old.texts start now s rest) (more : List (Value Contents)) (after : List Alternatives)
+    module _ (prunes : OfBall old.texts start.0 s c Prunes) (carries : CarriesBall old.texts start now s rest) (more : List (Value Contents)) (others : List Alternatives)
         (later : Value Contents) where
-      pub hands_on : HandsBall saved choices now rest s more after → ComesOver old (record { texts = old.texts; saved = more; choices = after; now = later }) None
+      pub hands_on : HandsBall saved choices now rest s more others → ComesOver old (record { texts = old.texts; saved = more; choices = others; now = later }) None
       hands_on hands v o steps db n t j =
           let k = taking v db n t j in
-          handed_on v db n t j prunes steps later (stack old.texts v more after)
+          handed_on v db n t j prunes steps later (stack old.texts v more others)
           (hands old.texts v k.items (st v db n t j) k.behind k.ball (up_there v db n t j carries) k.is_stored)
 
-      pub escapes_all : Misses saved choices now rest → after ≡ [] → EscapesOver old (record { texts = old.texts; saved = more; choices = after; now = later }) s
+      pub escapes_all : Misses saved choices now rest → others ≡ [] → EscapesOver old (record { texts = old.texts; saved = more; choices = others; now = later }) s
       escapes_all misses none budgets v o db n t j =
           let k = taking v db n t j in
-          escapes v db n t j prunes budgets (record { texts = old.texts; saved = more; choices = after; now = later }) refl (none_open more after none)
+          escapes v db n t j prunes budgets (record { texts = old.texts; saved = more; choices = others; now = later }) refl (none_open more others none)
           (misses old.texts v k.items (st v db n t j) k.behind k.ball (up_there v db n t j carries))
 
   pub query_stops : (pivots : ℕ) (fault : StoreFault) → ((pair : Pair) → fault ≡ Overflow pair → OfBall old.texts start.0 s c (λ su q. MayRefuse su q pair))
@@ -226,10 +226,10 @@ module _ (old : Held) (start : Value Contents) (s : StoredValue) (c r rest : ℕ
   query_stops pivots fault refused taken v o db n t j = stopped v db n t j pivots fault refused taken
 
   -- the ball is handed on, or it escapes
-  pub stays_handed : (saved more : List (Value Contents)) (choices after : List Alternatives) (later : Value Contents) → open_choices saved choices ≡ older
-      → ((texts : List Text) (v : Program) → IsCountedTerm (length texts) s → AreOpen texts v saved choices → AreOpen texts v more after)
-      → StaysOver old (record { texts = old.texts; saved = more; choices = after; now = later })
-  stays_handed saved more choices after later left opens v o =
+  pub stays_handed : (saved more : List (Value Contents)) (choices others : List Alternatives) (later : Value Contents) → open_choices saved choices ≡ older
+      → ((texts : List Text) (v : Program) → IsCountedTerm (length texts) s → AreOpen texts v saved choices → AreOpen texts v more others)
+      → StaysOver old (record { texts = old.texts; saved = more; choices = others; now = later })
+  stays_handed saved more choices others later left opens v o =
       record { program = o.program; choices = opens old.texts v (open_there v o).0 (subst (Open old.texts v) (sym left) (open_there v o).1) }
 
 -- ---- what became of the ball

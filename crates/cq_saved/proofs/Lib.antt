@@ -4,3 +4,6 @@ pub mod Handing
 pub mod Listed
 pub mod Gathering
 pub mod Restored
+pub mod Newest
+pub mod Settled
+pub mod Known

@@ -6,7 +6,7 @@ use Rattle.std.proofs.lemmas.List.Elements.{All-head, All-tail, All-push}
 use Rattle.spec_lists.specs.Prefixes.{IsPrefix}
 use Rattle.spec_lists.proofs.Prefixes.{prefix_get_or, prefix_all_within}
 use Rattle.spec_lists.specs.Texts.{Text}
-use Rattle.spec_terms.specs.Term.{apply, named}
+use Rattle.spec_terms.specs.Term.{Var, apply, named}
 use Rattle.spec_terms.specs.Variables.{variables, counted_from}
 use Rattle.spec_syntax.specs.Trees.{Tree}
 use Rattle.cq_atoms.specs.Texts.{text_of}
@@ -43,7 +43,9 @@ counted-append n (suc a) b =
     ap (λ (m : ℕ). n ∷ (counted_from (suc n) a ++ counted_from m b)) e ∙ ap (λ (vs : List ℕ). n ∷ vs) (counted-append (suc n) a b) ∙ ap (counted_from n) f
 
 unbound-append : (n a b : ℕ) → unbound_from n a ++ unbound_from (n + a) b ≡ unbound_from n (a + b)
-unbound-append n a b = sym (map-append _ (counted_from n a) (counted_from (n + a) b)) ∙ ap (λ (vs : List ℕ). map _ vs) (counted-append n a b)
+unbound-append n a b =
+    let f : ℕ → HeapTerm = λ v. Var v in
+    sym (map-append f (counted_from n a) (counted_from (n + a) b)) ∙ ap (λ (vs : List ℕ). map f vs) (counted-append n a b)
 
 -- ---- one more copy
 

@@ -32,7 +32,6 @@ use cq_rest::{equated_worlds_may_be_settled, look_at_pairs};
 use cq_steps::{Alternatives, Searching};
 use cq_stored::StoredTerm;
 use cq_term::{Heap, TermId};
-use cq_walk::Pair;
 use cq_ways::names_are_of_terms;
 use cq_world::World;
 use spec_machine::Cell;
@@ -124,7 +123,7 @@ fn begin_list(
     world.heap.names_are_of_terms();
     let elements = restored(&mut world.heap, copies)?;
     let all = list_of(&mut world.heap, atoms, &elements)?;
-    let pairs = [Pair {
+    let pairs = [cq_walk::Pair {
         left: third,
         right: all,
     }];

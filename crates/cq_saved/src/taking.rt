@@ -33,7 +33,6 @@ use cq_rest::{equated_worlds_may_be_settled, look_at_pairs};
 use cq_steps::{Alternatives, Searching};
 use cq_stored::StoredTerm;
 use cq_term::TermId;
-use cq_walk::Pair;
 use cq_world::World;
 use spec_machine::Cell;
 use std::alloc::AllocError;
@@ -170,7 +169,7 @@ fn begin_caught(
     equated_worlds_may_be_settled();
     let recovered = call_before(lists, recovery, rest)?;
     let copy = ball.restore(&mut world.heap)?;
-    let pairs = [Pair {
+    let pairs = [cq_walk::Pair {
         left: catcher,
         right: copy,
     }];
