@@ -1,4 +1,4 @@
-use Rattle.std.proofs.Common.{◌≡◌, ◌∷◌, ◌-◌, ℕ, List, Some, None, length, refl, sym, ap, ◌∙◌, subst, arith}
+use Rattle.std.proofs.Common.{◌≡◌, List, length, sym, ap, ◌∙◌, subst}
 use Rattle.std.specs.Prelude.{All, Err}
 use Rattle.std.specs.List.{zip}
 use Rattle.spec_branch.specs.Branch.{State, Pending}
@@ -10,7 +10,7 @@ use Rattle.cq_world.specs.Contents.{Contents}
 use Rattle.spec_machine.specs.Cells.{Value}
 use Rattle.cq_steps.specs.Stored.{IsCountedTerm}
 use Rattle.cq_steps.specs.Worlds.{value, saved_values}
-use Rattle.cq_steps.specs.declared.alternatives.Alternatives.TheVariants.{Barrier, Gathers}
+use Rattle.cq_steps.specs.declared.alternatives.Alternatives.TheVariants.{Gathers}
 use Rattle.cq_steps.proofs.Budgets.{same_budget}
 use Rattle.cq_ways.specs.Held.{Held, held}
 use Rattle.cq_ways.proofs.Ending.{comes_same, over_same}

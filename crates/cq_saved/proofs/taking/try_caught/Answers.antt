@@ -1,4 +1,4 @@
-use Rattle.std.proofs.Common.{◌≡◌, ◌∷◌, ◌-◌, ℕ, List, Some, None, length, refl, sym, ap, ◌∙◌, subst, arith}
+use Rattle.std.proofs.Common.{◌≡◌, List, refl, sym, ap, ◌∙◌, subst}
 use Rattle.std.specs.Prelude.{Err}
 use Rattle.std.specs.List.{zip}
 use Rattle.spec_lists.proofs.Prefixes.{prefix_same}
@@ -6,15 +6,14 @@ use Rattle.cq_control.specs.Open.{open_choices}
 use Rattle.cq_stored.specs.StoredValue.{StoredValue}
 use Rattle.cq_world.specs.Contents.{Contents}
 use Rattle.spec_machine.specs.Cells.{Value}
-use Rattle.cq_steps.specs.Stored.{IsCountedTerm}
 use Rattle.cq_steps.specs.Worlds.{value, saved_values}
-use Rattle.cq_steps.specs.declared.alternatives.Alternatives.TheVariants.{Barrier, Caught}
+use Rattle.cq_steps.specs.declared.alternatives.Alternatives.TheVariants.{Caught}
 use Rattle.cq_steps.proofs.Budgets.{same_budget}
 use Rattle.cq_ways.specs.Held.{Held, held}
 use Rattle.cq_ways.proofs.Ending.{over_same}
 use Rattle.cq_saved.specs.Taking.{EscapesOver, BallGoes, CarriesBall}
 use Rattle.cq_saved.proofs.Handing.{counted_there, ready_there, catcher_there, rest_there, goes_on, stays_left, somewhere, hands_on, escapes_all, query_stops, stays_handed, takes_to}
-use Rattle.cq_saved.proofs.Newest.{taken_off, fewer_left, put_back, still_there, marked_still}
+use Rattle.cq_saved.proofs.Newest.{taken_off, put_back, still_there, marked_still}
 use Rattle.cq_saved.proofs.taking.try_caught.Goals as goal
 
 pub begin_caught-requires-clause-ready : goal.begin_caught-requires-clause-ready
