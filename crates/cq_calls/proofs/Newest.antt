@@ -146,10 +146,10 @@ pub marked_same : (w z : World) (l m : List (List (List Cell))) (choices : List 
     → AreMarked (saved_values w l) choices → AreMarked (saved_values z m) choices
 marked_same w z l m choices e f g = ap₂ (λ (x : List Contents) (y : List (List (List Cell))). length (zip x y)) e f ∙ g
 
-pub open_still : (v : Program) (saved more : List (Value Contents)) (choices after : List Alternatives) → open_choices more after ≡ open_choices saved choices
-    → AreOpen v saved choices → AreOpen v more after
-open_still v saved more choices after e a =
-    subst (λ (o : Opened). AllByRecursion (λ (c : Value Contents × Alternatives). CanBeTried v c.0.0.heap.terms c.1) o) (sym e) a
+pub open_still : (texts : List Text) (v : Program) (saved more : List (Value Contents)) (choices after : List Alternatives) → open_choices more after ≡ open_choices saved choices
+    → AreOpen texts v saved choices → AreOpen texts v more after
+open_still texts v saved more choices after e a =
+    subst (λ (o : Opened). AllByRecursion (λ (c : Value Contents × Alternatives). CanBeTried texts v c.0.0.heap.terms c.1) o) (sym e) a
 
 -- ---- the searches for which the engine stands
 
@@ -257,15 +257,15 @@ module _ (texts : List Text) (v : Program) (saved : List (Value Contents)) (choi
   -- ---- the choices that are open
 
   abbrev Each : Opened → Type 0
-  Each o = AllByRecursion (λ (c : Value Contents × Alternatives). CanBeTried v c.0.0.heap.terms c.1) o
+  Each o = AllByRecursion (λ (c : Value Contents × Alternatives). CanBeTried texts v c.0.0.heap.terms c.1) o
 
-  pub is_walk : AreOpen v saved choices → IsWalk walk v
+  pub is_walk : AreOpen texts v saved choices → IsWalk walk v
   is_walk a = (subst Each was a).0
 
-  pub open_left : (fewer : List (Value Contents)) (after : List Alternatives) (rest : Walk) → IsWalk rest v → AreOpen v saved choices
-      → AreLeft t rest k w others (open_choices fewer after) → AreOpen v fewer after
+  pub open_left : (fewer : List (Value Contents)) (after : List Alternatives) (rest : Walk) → IsWalk rest v → AreOpen texts v saved choices
+      → AreLeft t rest k w others (open_choices fewer after) → AreOpen texts v fewer after
   open_left fewer after rest i a (inl l) = subst Each (sym l.1) (subst Each was a).1
   open_left fewer after rest i a (inr e) = subst Each (sym e) (i, (subst Each was a).1)
 
-  pub open_past : (fewer : List (Value Contents)) (after : List Alternatives) → AreOpen v saved choices → open_choices fewer after ≡ others → AreOpen v fewer after
+  pub open_past : (fewer : List (Value Contents)) (after : List Alternatives) → AreOpen texts v saved choices → open_choices fewer after ≡ others → AreOpen texts v fewer after
   open_past fewer after a e = subst Each (sym e) (subst Each was a).1

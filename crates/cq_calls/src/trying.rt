@@ -42,7 +42,7 @@ pub fn try_clauses(
     requires different { AreDifferent atoms.now }
     requires program { IsProgram atoms.now clauses.now }
     requires marked { AreMarked (saved_values world.old.first world.old.second.saved) choices.old }
-    requires open { AreOpen clauses.now (saved_values world.old.first world.old.second.saved) choices.old }
+    requires open { AreOpen atoms.now clauses.now (saved_values world.old.first world.old.second.saved) choices.old }
     requires newest { IsOfCall choices.old }
     requires works { IsBack atoms.now clauses.now world.old.first world.old.second choices.old }
     ensures comes { IfOk result (ComesOn atoms.now clauses.now world.old.first world.old.second choices.old
@@ -54,7 +54,7 @@ pub fn try_clauses(
     ensures fewer { OnOk result (still_waiting atoms.now clauses.now world.new.first world.new.second choices.new
         < still_waiting atoms.now clauses.now world.old.first world.old.second choices.old) }
     ensures marked { AreMarked (saved_values world.new.first world.new.second.saved) choices.new }
-    ensures open { AreOpen clauses.now (saved_values world.new.first world.new.second.saved) choices.new }
+    ensures open { AreOpen atoms.now clauses.now (saved_values world.new.first world.new.second.saved) choices.new }
     ensures budget { world.new.first.store.pivots ≡ world.old.first.store.pivots }
 {
     let Some(newest) = choices.top() else {
@@ -91,7 +91,7 @@ fn try_clause(
     requires different { AreDifferent atoms.now }
     requires program { IsProgram atoms.now clauses.now }
     requires marked { AreMarked (saved_values world.old.first world.old.second.saved) choices.old }
-    requires open { AreOpen clauses.now (saved_values world.old.first world.old.second.saved) choices.old }
+    requires open { AreOpen atoms.now clauses.now (saved_values world.old.first world.old.second.saved) choices.old }
     requires newest { HasLeft goal walk rest choices.old }
     requires works { IsBack atoms.now clauses.now world.old.first world.old.second choices.old }
     ensures comes { IfOk result (λ t. ComesOn atoms.now clauses.now world.old.first world.old.second choices.old
@@ -103,7 +103,7 @@ fn try_clause(
     ensures fewer { OnOk result (still_waiting atoms.now clauses.now world.new.first world.new.second choices.new
         < still_waiting atoms.now clauses.now world.old.first world.old.second choices.old) }
     ensures marked { AreMarked (saved_values world.new.first world.new.second.saved) choices.new }
-    ensures open { AreOpen clauses.now (saved_values world.new.first world.new.second.saved) choices.new }
+    ensures open { AreOpen atoms.now clauses.now (saved_values world.new.first world.new.second.saved) choices.new }
     ensures budget { world.new.first.store.pivots ≡ world.old.first.store.pivots }
 {
     let mut left = walk;

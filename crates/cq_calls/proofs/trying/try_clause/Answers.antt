@@ -293,7 +293,7 @@ returns-in-Err-clause-marked c =
 pub returns-in-Err-clause-open : goal.returns-in-Err-clause-open
 returns-in-Err-clause-open c =
     let r = (goal.at.returns-in-Err-clause-open c).After-retry in
-    open_still c.args.clauses.now (before r) (saved_values c.begin_clause.new.world c.begin_clause.new.lists.saved) c.args.choices.now c.retry.new.self
+    open_still c.args.atoms.now c.args.clauses.now (before r) (saved_values c.begin_clause.new.world c.begin_clause.new.lists.saved) c.args.choices.now c.retry.new.self
     (open_same c.retry.new.world.first c.begin_clause.new.world c.retry.new.world.second.saved c.begin_clause.new.lists.saved c.retry.new.self _ c.in-Err.ensures.saved c.in-Err.ensures.lists
     (still r) ∙ sym (was r)) c.requires.open
 

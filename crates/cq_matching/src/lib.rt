@@ -1,0 +1,8 @@
+//! Clauses that are compared with one that is asked for, by `clause` and `retract`.
+#![tactic(auto)]
+
+mod asking;
+mod matching;
+
+pub use asking::ask;
+pub use matching::try_matches;

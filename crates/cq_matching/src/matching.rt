@@ -1,0 +1,191 @@
+// Clauses are compared with one that is asked for.
+
+ghost use Rattle.std.specs.Prelude.{◌≡◌, ◌<◌, ℕ, List, None, IfOk, IfErr, OnOk, OnErr, length};
+ghost use Rattle.spec_lists.specs.Texts.{Text};
+ghost use Rattle.spec_builtins.specs.Clauses.{HeadBody, rule};
+ghost use Rattle.cq_atoms.specs.Texts.{AreDifferent};
+ghost use Rattle.cq_begin.specs.Begun.{IfGoes, IfPruned, Prunes};
+ghost use Rattle.cq_begin.specs.Stops.{waiting_in};
+ghost use Rattle.cq_frac.specs.declared.Pair.{Pair};
+ghost use Rattle.cq_linear.specs.declared.store.StoreFault.TheVariants.{Overflow, Pivots};
+ghost use Rattle.cq_program.specs.Database.{IsCounted};
+ghost use Rattle.cq_settle.specs.Settled.{MayRefuse, MayTake};
+ghost use Rattle.cq_term.specs.Trees.{tree};
+ghost use Rattle.cq_world.specs.Rest.{IsReady};
+ghost use Rattle.cq_world.specs.Worlds.{now_of, saved_of};
+ghost use Rattle.cq_steps.specs.Lists.{KeepsLists};
+ghost use Rattle.cq_steps.specs.Worlds.{value};
+ghost use Rattle.cq_ways.specs.Held.{held, stack_of, HasMarks, IsOver};
+ghost use Rattle.cq_matching.specs.Matching.{HasMatches, IsGoing, Reaches, AllStop, MatchGoes, OfMatch};
+
+use cq_atoms::Atoms;
+use cq_begin::{Begun, begin};
+use cq_clauses::{Clauses, Walk};
+use cq_control::{Choices, Continuation, Continuations};
+use cq_linear::store::StoreFault;
+use cq_program::{ProgramClause, clauses_are_counted};
+use cq_rest::{equated_worlds_may_be_settled, look_at_pairs};
+use cq_steps::{Alternatives, Searching, Untried};
+use cq_stored::Clause;
+use cq_term::{Heap, TermId, View};
+use cq_walk::Pair;
+use cq_world::World;
+use spec_machine::Cell;
+use std::alloc::AllocError;
+
+/// What became of the next clause.
+#[derive(Clone, Copy)]
+enum Compared {
+    /// Its branch is kept, and goes on with this continuation.
+    Goes(Continuation),
+    /// Its branch is pruned, and these clauses are left.
+    Pruned(Walk),
+    /// There was none, and the choice is gone.
+    Ended,
+}
+
+/// The engine comes back to its newest choice, whose clauses are compared with one that is asked for, in order, up to one whose
+/// branch is kept: the engine goes on with that, and the clause is removed where clauses are. None where there is none, and the
+/// choice is gone. After an error no clause is removed, and the choice still has the clause that was compared, and those behind it.
+pub fn try_matches(
+    world: &mut Searching,
+    choices: &mut Choices<Alternatives>,
+    atoms: &Atoms,
+    clauses: &mut Clauses<ProgramClause>,
+) -> Result<Option<Continuation>, StoreFault>
+    requires different { AreDifferent atoms.now }
+    requires over { IsOver clauses.old (held atoms.now world.old.first world.old.second choices.old) }
+    requires marked { HasMarks (held atoms.now world.old.first world.old.second choices.old) }
+    requires newest { HasMatches choices.old }
+    requires works { IsGoing clauses.old (held atoms.now world.old.first world.old.second choices.old) None }
+    ensures comes { IfOk result (Reaches clauses.old (held atoms.now world.old.first world.old.second choices.old) None
+        clauses.new (held atoms.now world.new.first world.new.second choices.new)) }
+    ensures err { OnErr result (Reaches clauses.old (held atoms.now world.old.first world.old.second choices.old) None
+        clauses.new (held atoms.now world.new.first world.new.second choices.new) None) }
+    ensures stops { IfErr result (AllStop clauses.old (held atoms.now world.old.first world.old.second choices.old) None
+        clauses.new (held atoms.now world.new.first world.new.second choices.new) world.old.first.store.pivots) }
+    ensures fewer { OnOk result (waiting_in (stack_of clauses.new (held atoms.now world.new.first world.new.second choices.new))
+        < waiting_in (stack_of clauses.old (held atoms.now world.old.first world.old.second choices.old))) }
+    ensures kept { OnErr result (clauses.new ≡ clauses.old) }
+    ensures over { IsOver clauses.new (held atoms.now world.new.first world.new.second choices.new) }
+    ensures marked { HasMarks (held atoms.now world.new.first world.new.second choices.new) }
+    ensures budget { world.new.first.store.pivots ≡ world.old.first.store.pivots }
+{
+    let Some(newest) = choices.top() else {
+        unreachable!();
+    };
+    let Alternatives::Matches(rule, untried, removing, behind) = newest else {
+        unreachable!();
+    };
+    let asked = *rule;
+    let removes = *removing;
+    let rest = *behind;
+    let mut walk = untried.walk();
+    'clauses: loop {
+        match compare_next(world, choices, atoms, clauses, asked, walk, removes, rest) {
+            Ok(compared) => match compared {
+                Compared::Goes(first) => return Ok(Some(first)),
+                Compared::Pruned(left) => walk = left,
+                Compared::Ended => return Ok(None),
+            },
+            Err(fault) => return Err(fault),
+        }
+    }
+}
+
+/// Compares the next clause.
+fn compare_next(
+    world: &mut Searching,
+    choices: &mut Choices<Alternatives>,
+    atoms: &Atoms,
+    clauses: &mut Clauses<ProgramClause>,
+    asked: TermId,
+    walk: Walk,
+    removes: bool,
+    rest: Continuation,
+) -> Result<Compared, StoreFault> {
+    let mut left = walk;
+    let Some(number) = clauses.step(&mut left) else {
+        choices.back(world);
+        return Ok(Compared::Ended);
+    };
+    choices.retry(
+        world,
+        Alternatives::Matches(asked, Untried::new(walk), removes, rest),
+    );
+    let clause = clauses.content(number).clause();
+    let begun = begin_match(
+        &mut world.first,
+        &mut world.second,
+        atoms,
+        clause,
+        asked,
+        rest,
+    )?;
+    let newest = choices.height() - 1;
+    let others = Alternatives::Matches(asked, Untried::new(left), removes, rest);
+    choices.replace_at(newest, others);
+    match begun {
+        Begun::Goes(first) => {
+            if removes {
+                clauses.remove(number);
+            }
+            if left.is_empty() {
+                choices.cut(world, newest);
+            }
+            Ok(Compared::Goes(first))
+        }
+        Begun::Pruned => Ok(Compared::Pruned(left)),
+    }
+}
+
+/// Begins the branch of a clause that is compared with the one asked for. Where it is pruned, and after an error, terms may have been
+/// added to the world.
+fn begin_match(
+    world: &mut World,
+    lists: &mut Continuations<Cell>,
+    atoms: &Atoms,
+    clause: &Clause,
+    asked: TermId,
+    rest: Continuation,
+) -> Result<Begun, StoreFault>
+    requires ready { IsReady atoms.now (now_of world.old) }
+    requires different { AreDifferent atoms.now }
+    requires clause { IsCounted (length atoms.now) clause.now }
+    requires asked { asked < length world.old.heap.now.terms }
+    requires rule { (texts : List Text) × (c : HeadBody) × (tree texts world.old.heap.now.terms asked ≡ rule c) }
+    requires rest { rest < length lists.old.now }
+    ensures goes { IfOk result (λ b. IfGoes b (MatchGoes atoms.now (value world.old lists.old.now) (value world.new lists.new.now) asked rest clause.now)) }
+    ensures pruned { IfOk result (λ b. IfPruned b (OfMatch atoms.now (value world.old lists.old.now) asked rest clause.now Prunes)) }
+
+    // A stop is due while the branch is settled.
+    ensures overflow { (pair : Pair) → result ≡ Err (Overflow pair)
+        → OfMatch atoms.now (value world.old lists.old.now) asked rest clause.now (λ st p. MayRefuse st p pair) }
+    ensures pivots { (n : ℕ) → result ≡ Err (Pivots n) → (n ≡ world.old.store.pivots)
+        × OfMatch atoms.now (value world.old lists.old.now) asked rest clause.now (λ st p. MayTake st p n) }
+    ensures there { IfOk result (λ b. IfGoes b (λ k. k < length lists.new.now)) }
+    ensures keeps { KeepsLists lists.old.now lists.new.now }
+    ensures lists { lists.new.saved ≡ lists.old.saved }
+    ensures saved { saved_of world.new ≡ saved_of world.old }
+    ensures budget { world.new.store.pivots ≡ world.old.store.pivots }
+{
+    clauses_are_counted();
+    equated_worlds_may_be_settled();
+    let there = rule_of(&mut world.heap, clause, asked)?;
+    let pairs = [Pair {
+        left: asked,
+        right: there,
+    }];
+    look_at_pairs(&world.heap, &pairs);
+    let told = Vec::new(world.heap.alloc());
+    begin(world, lists, atoms, &pairs, told, rest)
+}
+
+/// The term of a clause under new variables, by the name of the one that is asked for.
+fn rule_of(heap: &mut Heap, clause: &Clause, asked: TermId) -> Result<TermId, AllocError> {
+    let View::Compound(name, _) = heap.view(asked) else {
+        unreachable!();
+    };
+    let (head, body) = clause.rename(heap)?;
+    heap.compound(name, &[head, body])
+}
