@@ -1,0 +1,6 @@
+mod Ruled
+mod Comparing
+mod Newest
+pub mod Outlasting
+mod Reached
+mod Asked
