@@ -135,11 +135,18 @@ module _ (texts : List Text) (db : Database) (n : ℕ) (s : Search) (older : Sta
 
       -- ---- it is pruned
 
+      pruned_over : (choices : Stack Contents) → IsComparedAt texts choices w t k kept p next.asked c → AreWaiting (IsBranch texts) (term_in texts) choices next.behind
+          → OfMatch texts w t k kept Prunes → (new : Value Contents) (steps : ℕ) → Came steps db choices new None
+      pruned_over choices at waiting o new steps =
+          let q = o choices p next.asked c removes at in
+          child_pruned (IsBranch texts) (term_in texts) steps db n choices new s p.rest (clause_state p c) work next.behind j.database j.selected next.look refl
+          q.0 (q.1 p.rest) waiting
+
       pub pruned_with : OfMatch texts w t k kept Prunes → (new : Value Contents) (steps : ℕ) → Came steps db stays new None
-      pruned_with o new steps =
-          let q = o stays p next.asked c removes with_others in
-          child_pruned (IsBranch texts) (term_in texts) steps db n stays new s p.rest (clause_state p c) work next.behind j.database j.selected next.look refl
-          q.0 (q.1 p.rest) next.waiting
+      pruned_with o new steps = pruned_over stays with_others next.waiting o new steps
+
+      pub pruned_last : OfMatch texts w t k kept Prunes → (new : Value Contents) (steps : ℕ) → cs ≡ [] → Came steps db older new None
+      pruned_last o new steps none = pruned_over older last_one (older_wait none) o new steps
 
       -- ---- stops
 

@@ -1,6 +1,7 @@
+mod Terms
 mod Ruled
 mod Comparing
 mod Newest
 pub mod Outlasting
-mod Reached
+pub mod Reached
 mod Asked

@@ -30,7 +30,7 @@ use Rattle.cq_begin.specs.Begun.{Prunes}
 use Rattle.cq_begin.specs.Stops.{FaultStops, waiting_in}
 use Rattle.cq_calls.proofs.Left.{Opened, AreLeft, numbers_left, content_is, none_left}
 use Rattle.cq_matching.specs.Matching.{MatchGoes, OfMatch}
-use Rattle.cq_matching.proofs.Comparing.{ComesBackTo, ready, asked_there, asked_is, rest_there, kept_with, kept_last, pruned_with, refused, taken, came_past}
+use Rattle.cq_matching.proofs.Comparing.{ComesBackTo, ready, asked_there, asked_is, rest_there, kept_with, kept_last, pruned_with, pruned_last, refused, taken, came_past}
 
 module _ (texts : List Text) (v : Program) (saved : List (Value Contents)) (choices : List Alternatives) (now w : Value Contents) (t : ℕ) (removes : Bool) (k : ℕ) (walk : Walk)
     (others : Opened) (was : open_choices saved choices ≡ (w, alternatives.Matches t walk removes k) ∷ others) where
@@ -111,8 +111,11 @@ module _ (texts : List Text) (v : Program) (saved : List (Value Contents)) (choi
 
         -- it is pruned, and the others are left
         pub arrives_pruned : OfMatch texts w t k kept Prunes → (fewer : List (Value Contents)) (after : List Alternatives) (later : Value Contents) (steps : ℕ)
-            → open_choices fewer after ≡ (w, left_content) ∷ others → Arrives steps texts v db m fewer after later None s
-        arrives_pruned o fewer after later steps e =
+            → AreLeft left_content rest w others (open_choices fewer after) → Arrives steps texts v db m fewer after later None s
+        arrives_pruned o fewer after later steps (inl l) =
+            subst (λ st. Comes (IsBranch texts) (term_in texts) steps (engine db m st later None) s) (sym (ap (map (left_at texts v)) l.1))
+            (pruned_last texts db m s older now w t removes k first others_left back kept parts o later steps (ap clauses (none_left v rest l.0)))
+        arrives_pruned o fewer after later steps (inr e) =
             subst (λ st. Comes (IsBranch texts) (term_in texts) steps (engine db m st later None) s) (sym (ap (map (left_at texts v)) e))
             (pruned_with texts db m s older now w t removes k first others_left back kept parts o later steps)
 

@@ -91,7 +91,6 @@ pub fn try_matches(
     ensures kept { OnErr result (clauses.new ≡ clauses.old) }
     ensures over { IsOver clauses.new (held atoms.now world.new.first world.new.second choices.new) }
     ensures marked { HasMarks (held atoms.now world.new.first world.new.second choices.new) }
-    ensures showing { KeepsShowing clauses.old clauses.new }
     ensures budget { world.new.first.store.pivots ≡ world.old.first.store.pivots }
 {
     let Some(newest) = choices.top() else {
@@ -124,13 +123,13 @@ fn settle_removal(clauses: &mut Clauses<ProgramClause>, number: ClauseNo, remove
     ensures program { (texts : List Text) → IsProgram texts clauses.old → IsProgram texts clauses.new }
     ensures showing { KeepsShowing clauses.old clauses.new }
 {
-    walks_outlast_changes();
-    if !removes {
-        return;
-    }
     changes_are_those_of_the_database();
     programs_stay_programs();
-    clauses.remove(number);
+    walks_outlast_changes();
+    if removes {
+        clauses.remove(number);
+        return;
+    }
 }
 
 /// Compares the clauses of the newest choice in order, up to one whose branch is kept.

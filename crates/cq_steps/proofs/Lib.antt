@@ -17,3 +17,4 @@ pub mod Budgets
 pub mod Saving
 pub mod Listed
 pub mod Counted
+pub mod Copied

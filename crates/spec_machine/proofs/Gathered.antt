@@ -148,9 +148,9 @@ module _ {W : Type 0} (IsState : W → State → Type 0) (term : W → ℕ → O
         branches_more v l j copies (copies ++ stored ∷ []) newer older d.0 d.1 a.0 a.3,
         waiting_more v l j copies c stored s newer older a.1 a.4,
       ) where
-    further : (newer : Stack W) → total size older < total size (newer ++ gathering v l copies j ∷ older)
-    further [] = omega arith
-    further (e ∷ newer) = omega (arith, further newer)
+        further : (newer : Stack W) → total size older < total size (newer ++ gathering v l copies j ∷ older)
+        further [] = omega arith
+        further (e ∷ newer) = omega (arith, further newer)
 
   -- ---- the mark of a findall in front
 
