@@ -114,6 +114,8 @@ fn try_clause(
     choices.retry(world, Alternatives::Clauses(goal, Untried::new(walk), rest));
     let clause = clauses.content(number).clause();
     let height = choices.height() - 1;
+    let untried = Untried::new(left);
+    let others = Alternatives::Clauses(goal, untried, rest);
     match begin_clause(
         &mut world.first,
         &mut world.second,
@@ -125,12 +127,10 @@ fn try_clause(
     ) {
         Ok(begun) => match begun {
             Begun::Goes(first) => {
-                let others = Alternatives::Clauses(goal, Untried::new(left), rest);
                 leave_untried(world, choices, left, others);
                 Ok(Tried::Goes(first))
             }
             Begun::Pruned => {
-                let others = Alternatives::Clauses(goal, Untried::new(left), rest);
                 choices.replace_at(height, others);
                 Ok(Tried::Pruned(left))
             }

@@ -214,6 +214,8 @@ fn compare_next(
         Alternatives::Matches(asked, Untried::new(walk), removes, rest),
     );
     let clause = clauses.content(number).clause();
+    let untried = Untried::new(left);
+    let others = Alternatives::Matches(asked, untried, removes, rest);
     match begin_match(
         &mut world.first,
         &mut world.second,
@@ -224,7 +226,6 @@ fn compare_next(
     ) {
         Ok(begun) => match begun {
             Begun::Goes(first) => {
-                let others = Alternatives::Matches(asked, Untried::new(left), removes, rest);
                 leave_untried(world, choices, left, others);
                 Ok(Compared::Goes(Matched {
                     clause: number,
@@ -233,7 +234,6 @@ fn compare_next(
             }
             Begun::Pruned => {
                 let newest = choices.height() - 1;
-                let others = Alternatives::Matches(asked, Untried::new(left), removes, rest);
                 choices.replace_at(newest, others);
                 Ok(Compared::Pruned(left))
             }

@@ -171,7 +171,7 @@ left_by : (c : After-leave_untried)
     (open_choices (saved_values c.leave_untried.new.world.first c.leave_untried.new.world.second.saved) c.leave_untried.new.choices)
 left_by c =
     subst (λ (x : Walk). Leaves (Matches c.args.asked x c.args.removes c.args.rest) c.step.new.walk (open_choices (saved_values c.begin_match.new.world c.begin_match.new.lists.saved) c.retry.new.self)
-    (open_choices (saved_values c.leave_untried.new.world.first c.leave_untried.new.world.second.saved) c.leave_untried.new.choices)) c.new-in-Goes.ensures c.leave_untried.ensures.leaves
+    (open_choices (saved_values c.leave_untried.new.world.first c.leave_untried.new.world.second.saved) c.leave_untried.new.choices)) c.new-untried.ensures c.leave_untried.ensures.leaves
 
 pub returns-in-Goes-clause-comes : goal.returns-in-Goes-clause-comes
 returns-in-Goes-clause-comes c = λ steps db n s j.
@@ -212,9 +212,9 @@ returns-in-Goes-clause-budget c =
 put_back : (c : After-replace_at) → c.replace_at.new.self ≡ Matches c.args.asked c.step.new.walk c.args.removes c.args.rest ∷ c.retry.ensures.contents.0
 put_back c =
     changed_newest c.replace_at.ensures.0 c.retry.new.self c.replace_at.new.self c.retry.ensures.contents.0 (Matches c.args.asked c.new.result c.args.removes c.args.rest) c.replace_at.result
-    (Matches c.args.asked c.new-in-Pruned.result c.args.removes c.args.rest) (c.height-newest.result - 1) c.retry.ensures.contents.2
+    (Matches c.args.asked c.new-untried.result c.args.removes c.args.rest) (c.height-newest.result - 1) c.retry.ensures.contents.2
     (omega (arith, c.height-newest.ensures, ap length c.retry.ensures.contents.2)) c.replace_at.ensures.1 c.replace_at.ensures.2
-    ∙ ap (λ (x : Walk). Matches c.args.asked x c.args.removes c.args.rest ∷ c.retry.ensures.contents.0) c.new-in-Pruned.ensures
+    ∙ ap (λ (x : Walk). Matches c.args.asked x c.args.removes c.args.rest ∷ c.retry.ensures.contents.0) c.new-untried.ensures
 
 leaves_others : (c : After-replace_at) → AreMarked (saved_values c.begin_match.new.world c.begin_match.new.lists.saved) c.retry.new.self
     → Leaves (Matches c.args.asked c.step.new.walk c.args.removes c.args.rest) c.step.new.walk (open_choices (saved_values c.begin_match.new.world c.begin_match.new.lists.saved) c.retry.new.self)
