@@ -256,7 +256,7 @@ fn begin_match(
     requires different { AreDifferent atoms.now }
     requires clause { IsCounted (length atoms.now) clause.now }
     requires asked { asked < length world.old.heap.now.terms }
-    requires rule { (c : HeadBody) × (tree atoms.now world.old.heap.now.terms asked ≡ rule c) }
+    requires reads { (c : HeadBody) × (tree atoms.now world.old.heap.now.terms asked ≡ rule c) }
     requires rest { rest < length lists.old.now }
     ensures goes { IfOk result (λ b. IfGoes b (MatchGoes atoms.now (value world.old lists.old.now) (value world.new lists.new.now) asked rest clause.now)) }
     ensures pruned { IfOk result (λ b. IfPruned b (OfMatch atoms.now (value world.old lists.old.now) asked rest clause.now Prunes)) }
@@ -287,9 +287,9 @@ fn begin_match(
 /// The term of a clause under new variables, by the name of the one that is asked for.
 fn rule_of(heap: &mut Heap, clause: &Clause, asked: TermId) -> Result<TermId, AllocError>
     requires asked { asked < length heap.old.now.terms }
-    requires rule { (texts : List Text) × (c : HeadBody) × (tree texts heap.old.now.terms asked ≡ rule c) }
+    requires reads { (texts : List Text) × (c : HeadBody) × (tree texts heap.old.now.terms asked ≡ rule c) }
     ensures there { IfOk result (λ id. id < length heap.new.now.terms) }
-    ensures rule { IfOk result (λ id. (texts : List Text) (c : HeadBody) → tree texts heap.old.now.terms asked ≡ rule c
+    ensures reads { IfOk result (λ id. (texts : List Text) (c : HeadBody) → tree texts heap.old.now.terms asked ≡ rule c
         → tree texts heap.new.now.terms id ≡ rule (moved_parts texts (length heap.old.now.images) clause.now)) }
     ensures terms { OnOk result (IsPrefix heap.old.now.terms heap.new.now.terms) }
     ensures images { OnOk result (heap.new.now.images ≡ heap.old.now.images ++ unbound_from (length heap.old.now.images) clause.now.variables) }

@@ -45,19 +45,19 @@ works c st r =
 pub returns-clause-goes : goal.returns-clause-goes
 returns-clause-goes c =
     goes_ok c.args.atoms.now (now_of c.args.world.now) c.rule_of.new.heap.now c.args.clause.now c.args.asked c.in_ok-there.there c.in_ok-there.ensures.terms c.in_ok-there.ensures.images (names c)
-    (moves c) (λ a e. c.in_ok-there.ensures.rule c.args.atoms.now a e) (works c) c.args.lists.now.now c.args.rest c.new-told.result.items c.new-told.ensures.items
+    (moves c) (λ a e. c.in_ok-there.ensures.reads c.args.atoms.now a e) (works c) c.args.lists.now.now c.args.rest c.new-told.result.items c.new-told.ensures.items
     (now_of c.begin.new.world) c.begin.new.lists.now c.begin.result c.begin.ensures.goes
 
 pub returns-clause-pruned : goal.returns-clause-pruned
 returns-clause-pruned c =
     pruned_ok c.args.atoms.now (now_of c.args.world.now) c.rule_of.new.heap.now c.args.clause.now c.args.asked c.in_ok-there.there c.in_ok-there.ensures.terms c.in_ok-there.ensures.images (names c)
-    (moves c) (λ a e. c.in_ok-there.ensures.rule c.args.atoms.now a e) (works c) c.args.lists.now.now c.args.rest c.new-told.result.items c.new-told.ensures.items
+    (moves c) (λ a e. c.in_ok-there.ensures.reads c.args.atoms.now a e) (works c) c.args.lists.now.now c.args.rest c.new-told.result.items c.new-told.ensures.items
     c.begin.result c.begin.ensures.pruned
 
 pub returns-clause-overflow : goal.returns-clause-overflow
 returns-clause-overflow c = λ pair e.
     of_match c.args.atoms.now (now_of c.args.world.now) c.rule_of.new.heap.now c.args.clause.now c.args.asked c.in_ok-there.there c.in_ok-there.ensures.terms c.in_ok-there.ensures.images (names c)
-    (moves c) (λ a f. c.in_ok-there.ensures.rule c.args.atoms.now a f) (works c) c.args.lists.now.now c.args.rest c.new-told.result.items c.new-told.ensures.items
+    (moves c) (λ a f. c.in_ok-there.ensures.reads c.args.atoms.now a f) (works c) c.args.lists.now.now c.args.rest c.new-told.result.items c.new-told.ensures.items
     (λ st p. MayRefuse st p pair) (c.begin.ensures.overflow pair e)
 
 pub returns-clause-pivots : goal.returns-clause-pivots
@@ -65,7 +65,7 @@ returns-clause-pivots c = λ n e.
     let o = c.begin.ensures.pivots n e in (
       o.0,
       of_match c.args.atoms.now (now_of c.args.world.now) c.rule_of.new.heap.now c.args.clause.now c.args.asked c.in_ok-there.there c.in_ok-there.ensures.terms c.in_ok-there.ensures.images
-          (names c) (moves c) (λ a f. c.in_ok-there.ensures.rule c.args.atoms.now a f) (works c) c.args.lists.now.now c.args.rest c.new-told.result.items c.new-told.ensures.items
+          (names c) (moves c) (λ a f. c.in_ok-there.ensures.reads c.args.atoms.now a f) (works c) c.args.lists.now.now c.args.rest c.new-told.result.items c.new-told.ensures.items
           (λ st p. MayTake st p n) o.1,
     )
 

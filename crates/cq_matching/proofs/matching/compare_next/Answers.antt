@@ -137,9 +137,9 @@ begin_match-requires-clause-asked c =
     begins_asked c.args.atoms.now c.args.clauses.now (before r) c.args.choices.now (now r) (back r) c.args.asked c.args.removes c.args.rest c.args.walk (others r) (was r)
     c.step.new.walk c.in-Some.number c.in-Some.ensures.some j.0 j.1 j.2 j.3
 
-pub begin_match-requires-clause-rule : goal.begin_match-requires-clause-rule
-begin_match-requires-clause-rule c =
-    let r = (goal.at.begin_match-requires-clause-rule c).After-retry in
+pub begin_match-requires-clause-reads : goal.begin_match-requires-clause-reads
+begin_match-requires-clause-reads c =
+    let r = (goal.at.begin_match-requires-clause-reads c).After-retry in
     let j = c.requires.works in
     begins_rule c.args.atoms.now c.args.clauses.now (before r) c.args.choices.now (now r) (back r) c.args.asked c.args.removes c.args.rest c.args.walk (others r) (was r)
     c.step.new.walk c.in-Some.number c.in-Some.ensures.some j.0 j.1 j.2 j.3
