@@ -4,6 +4,7 @@ use Rattle.std.specs.Prelude.{OnErr, Ok, Err}
 use Rattle.std.specs.declared.result.Result.{Result}
 use Rattle.std.specs.List.{AllByRecursion}
 use Rattle.spec_lists.specs.Prefixes.{IsPrefix}
+use Rattle.spec_lists.specs.Texts.{Text}
 use Rattle.spec_search.specs.Replies.{alternative_child}
 use Rattle.cq_linear.specs.declared.store.StoreFault.{StoreFault}
 use Rattle.cq_predicates.specs.Given.{over, ways_left}
