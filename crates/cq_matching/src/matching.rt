@@ -42,7 +42,6 @@ use cq_revise::walks_outlast_changes;
 use cq_steps::{Alternatives, Searching, Untried};
 use cq_stored::Clause;
 use cq_term::{Heap, TermId, View};
-use cq_walk::Pair;
 use cq_world::World;
 use spec_machine::Cell;
 use std::alloc::AllocError;
@@ -275,7 +274,7 @@ fn begin_match(
     clauses_are_counted();
     equated_worlds_may_be_settled();
     let there = rule_of(&mut world.heap, clause, asked)?;
-    let pairs = [Pair {
+    let pairs = [cq_walk::Pair {
         left: asked,
         right: there,
     }];

@@ -21,27 +21,27 @@ compare_all-requires-clause-newest c =
 pub compare_all-requires-clause-works : goal.compare_all-requires-clause-works
 compare_all-requires-clause-works c = let w = c.requires.works in (as_database c.args.atoms.now w.0 c.args.clauses.now, w.1, w.2, w.3)
 
-pub returns-in-Some-clause-comes : goal.returns-in-Some-clause-comes
-returns-in-Some-clause-comes c = λ steps ops n s j.
+pub returns-in-Some-found-clause-comes : goal.returns-in-Some-found-clause-comes
+returns-in-Some-found-clause-comes c = λ steps ops n s j.
     let texts = c.args.atoms.now in
     let v = c.args.clauses.now in
     let db = as_database texts ops v in
     let world = c.compare_all.new.world in
     let done = c.in-Ok.ensures in
     arrives_over texts v c.settle_removal.new.clauses c.settle_removal.ensures.showing (saved_values world.first world.second.saved) c.compare_all.new.choices done.open
-    steps (if c.in-Matches.removing then clause_removed c.in-Some-in-Ok.matched.clause db else db) (as_database texts ops c.settle_removal.new.clauses) n (value world.first world.second.now)
-    (Some c.in-Some-in-Ok.matched.first) s (c.settle_removal.ensures.database texts ops) ((rw c.in-Some-in-Ok.is at done.comes) steps db n s j)
+    steps (if c.in-Matches.removing then clause_removed c.in-Some-found.matched.clause db else db) (as_database texts ops c.settle_removal.new.clauses) n (value world.first world.second.now)
+    (Some c.in-Some-found.matched.first) s (c.settle_removal.ensures.database texts ops) ((rw c.in-Some-found.is at done.comes) steps db n s j)
 
-pub returns-in-Some-clause-fewer : goal.returns-in-Some-clause-fewer
-returns-in-Some-clause-fewer c =
+pub returns-in-Some-found-clause-fewer : goal.returns-in-Some-found-clause-fewer
+returns-in-Some-found-clause-fewer c =
     let world = c.compare_all.new.world in
     let done = c.in-Ok.ensures in
     let same = ap waiting_in (same_stack c.args.atoms.now c.args.clauses.now c.settle_removal.new.clauses c.settle_removal.ensures.showing
     (saved_values world.first world.second.saved) c.compare_all.new.choices done.open) in
     omega (arith, same, done.fewer)
 
-pub returns-in-Some-clause-over : goal.returns-in-Some-clause-over
-returns-in-Some-clause-over c =
+pub returns-in-Some-found-clause-over : goal.returns-in-Some-found-clause-over
+returns-in-Some-found-clause-over c =
     let world = c.compare_all.new.world in
     record {
       program = c.settle_removal.ensures.program c.args.atoms.now c.requires.over.program;
