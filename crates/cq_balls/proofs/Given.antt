@@ -1,7 +1,8 @@
 -- A catch has a ball.
-use Rattle.std.proofs.Common.{◌≡◌, ◌<◌, ◌≤◌, ◌-◌, ℕ, zero, suc, List, [], ◌∷◌, length, map, drop, Option, None, Some, refl, sym, ap, ◌∙◌, subst, arith}
-use Rattle.std.specs.List.{AllByRecursion}
-use Rattle.std.proofs.lemmas.List.{length-map}
+use Rattle.std.proofs.Common.{◌≡◌, ◌<◌, ◌+◌, ℕ, suc, List, [], ◌∷◌, length, map, Some, refl, sym, ap, ◌∙◌, arith}
+use Rattle.std.specs.Prelude.{reverse}
+use Rattle.std.specs.List.{zip}
+use Rattle.std.proofs.lemmas.List.{length-map, length-reverse}
 use Rattle.std.proofs.lemmas.Option.{same_Some, none-some}
 use Rattle.spec_lists.specs.Texts.{Text}
 use Rattle.cq_control.specs.Open.{AreMarked, last, open_choices}
@@ -12,8 +13,7 @@ use Rattle.cq_world.specs.Contents.{Contents}
 use Rattle.spec_machine.specs.Cells.{as_catch, top_catch, catch_at, Value, Stack}
 use Rattle.spec_machine.specs.Cells as left
 use Rattle.spec_machine.proofs.Kept.{last-last, last-older, last-all, length-last}
-use Rattle.cq_steps.specs.Choices.{AreOpen, CanBeTried}
-use Rattle.cq_steps.specs.Stored.{IsCountedTerm, stored_tree}
+use Rattle.cq_steps.specs.Stored.{stored_tree}
 use Rattle.cq_steps.specs.Worlds.{stack, left_at, left_of}
 use Rattle.cq_steps.specs.declared.alternatives.Alternatives.{Alternatives}
 use Rattle.cq_steps.specs.declared.alternatives.Alternatives.TheVariants as alternatives
@@ -37,15 +37,24 @@ catch_is texts v w ts (alternatives.Caught ball c r k) call e = absurd (none-som
 catch_is texts v w ts (alternatives.Gathers l copies j) call e = absurd (none-some call e)
 catch_is texts v w ts (alternatives.Matches t walk removes k) call e = absurd (none-some call e)
 
-top_within : {W : Type 0} (rs : Stack W) (height : ℕ) (call : Value W × ℕ) → catch_at rs height ≡ Some call → height < length rs → length (last (suc height) rs) ≡ suc height
-top_within rs height call e l = length-last rs (suc height) (omega (arith, l))
+-- of what is open the newest is of the newest choice
+zip_newest : (xs : List (Value Contents)) (a : Alternatives) (others : List Alternatives) → length xs ≡ suc (length others)
+    → (x : Value Contents) × (older : Opened) × (zip xs (a ∷ others) ≡ (x, a) ∷ older)
+zip_newest [] a others e = absurd (omega (arith, e))
+zip_newest (x ∷ xs) a others e = (x, zip xs others, refl)
+
+pub open_newest : (saved : List (Value Contents)) (choices : List Alternatives) (a : Alternatives) (others : List Alternatives) → AreMarked saved choices → choices ≡ a ∷ others
+    → (x : Value Contents) × (older : Opened) × (open_choices saved choices ≡ (x, a) ∷ older)
+open_newest saved choices a others marked is =
+    let z = zip_newest (reverse saved) a others (length-reverse saved ∙ marked ∙ ap length is) in
+    (z.0, z.1, ap (open_choices saved) is ∙ z.2)
 
 -- the newest of the choices that are left once the newer ones are cut
-module _ (saved fewer : List (Value Contents)) (choices left : List Alternatives) (height : ℕ) (x : Value Contents) (a : Alternatives) (older : Opened)
-    (cut : open_choices fewer left ≡ last (suc height) (open_choices saved choices)) (is : open_choices fewer left ≡ (x, a) ∷ older) where
+module _ (saved fewer : List (Value Contents)) (choices fewest : List Alternatives) (height : ℕ) (x : Value Contents) (a : Alternatives) (older : Opened)
+    (cut : open_choices fewer fewest ≡ last (suc height) (open_choices saved choices)) (is : open_choices fewer fewest ≡ (x, a) ∷ older) where
   module _ (texts : List Text) (v : Program) where
     top_is : last (suc height) (stack texts v saved choices) ≡ left_at texts v (x, a) ∷ map (left_at texts v) older
-    top_is = sym (stack_cut texts v saved fewer choices left (suc height) cut) ∙ ap (map (left_at texts v)) is
+    top_is = sym (stack_cut texts v saved fewer choices fewest (suc height) cut) ∙ ap (map (left_at texts v)) is
 
     pub newest_is : (call : Value Contents × ℕ) → catch_at (stack texts v saved choices) height ≡ Some call → (a ≡ alternatives.Catches call.1) × (x ≡ call.0)
     newest_is call e = catch_is texts v x x.0.heap.terms a call (sym (ap top_catch top_is) ∙ e)
@@ -74,19 +83,25 @@ module _ (saved fewer : List (Value Contents)) (choices left : List Alternatives
         behind : {i j : ℕ} → alternatives.Catches i ≡ alternatives.Catches j → i ≡ j
         behind f = cc
 
-    -- it and the older ones can be gone on with
-    pub open_given : (more : List (Value Contents)) (after : List Alternatives) (ball : StoredValue) (c r k : ℕ) → IsCountedTerm (length texts) ball
-        → open_choices more after ≡ (x, alternatives.Caught ball c r k) ∷ older → AreOpen texts v saved choices → AreOpen texts v more after
-    open_given more after ball c r k counted now o =
-        let Each : Opened → Type 0 = AllByRecursion (λ (d : Value Contents × Alternatives). CanBeTried texts v d.0.0.heap.terms d.1) in
-        subst Each (sym now) (counted, (subst Each (sym cut ∙ is) (open_last (suc height) (open_choices saved choices) o)).1)
-      where
-        open_drop : (n : ℕ) (xs : Opened) → AllByRecursion (λ (d : Value Contents × Alternatives). CanBeTried texts v d.0.0.heap.terms d.1) xs
-            → AllByRecursion (λ (d : Value Contents × Alternatives). CanBeTried texts v d.0.0.heap.terms d.1) (drop n xs)
-        open_drop zero xs k = k
-        open_drop (suc n) [] k = k
-        open_drop (suc n) (d ∷ xs) k = open_drop n xs k.1
+-- the height of code as a number of choices
+cut_to : (saved fewer : List (Value Contents)) (choices fewest : List Alternatives) (height : ℕ) → open_choices fewer fewest ≡ last (height + 1) (open_choices saved choices)
+    → open_choices fewer fewest ≡ last (suc height) (open_choices saved choices)
+cut_to saved fewer choices fewest height cut = (let e : height + 1 ≡ suc height = omega arith in cut ∙ ap (λ (n : ℕ). last n (open_choices saved choices)) e)
 
-        open_last : (n : ℕ) (xs : Opened) → AllByRecursion (λ (d : Value Contents × Alternatives). CanBeTried texts v d.0.0.heap.terms d.1) xs
-            → AllByRecursion (λ (d : Value Contents × Alternatives). CanBeTried texts v d.0.0.heap.terms d.1) (last n xs)
-        open_last n xs k = open_drop (length xs - n) xs k
+-- the newest of those that are left is a catch
+pub newest_catch : (saved fewer : List (Value Contents)) (choices fewest : List Alternatives) (height : ℕ) (a : Alternatives) (others : List Alternatives)
+    → AreMarked fewer fewest → fewest ≡ a ∷ others → open_choices fewer fewest ≡ last (height + 1) (open_choices saved choices) → HasCatch saved choices height
+    → (k : ℕ) × (a ≡ alternatives.Catches k)
+newest_catch saved fewer choices fewest height a others marked is cut h =
+    let o = open_newest fewer fewest a others marked is in
+    (h.2.1, (newest_is saved fewer choices fewest height o.0 a o.1 (cut_to saved fewer choices fewest height cut) o.2 h.0 h.1 h.2 h.3).0)
+
+-- it has the ball then
+pub catch_given : (saved fewer more : List (Value Contents)) (choices fewest after : List Alternatives) (height : ℕ) (x : Value Contents) (a : Alternatives) (older : Opened)
+    (ball : StoredValue) (c r k : ℕ) → AreMarked saved choices → height < length choices → open_choices fewer fewest ≡ last (height + 1) (open_choices saved choices)
+    → open_choices fewer fewest ≡ (x, a) ∷ older → open_choices more after ≡ (x, alternatives.Caught ball c r k) ∷ older → a ≡ alternatives.Catches k
+    → (texts : List Text) (v : Program) (call : Value Contents × ℕ) → catch_at (stack texts v saved choices) height ≡ Some call
+    → stack texts v more after ≡ (call.0, left.Caught (stored_tree texts ball) c r call.1) ∷ last height (stack texts v saved choices)
+catch_given saved fewer more choices fewest after height x a older ball c r k marked there cut is now was texts v call e =
+    given_is saved fewer choices fewest height x a older (cut_to saved fewer choices fewest height cut) is texts v call more after ball c r k
+    (omega (arith, there, length-stack texts v saved choices marked)) e was now

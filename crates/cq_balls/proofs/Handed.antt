@@ -1,28 +1,21 @@
 -- A ball that comes up is handed to the nearest catch.
-use Rattle.std.proofs.Common.{◌≡◌, ℕ, List, ◌∷◌, length, None, Some, refl, sym, ap, ◌∙◌, subst}
+use Rattle.std.proofs.Common.{◌≡◌, ℕ, List, ◌∷◌, None, Some, sym, subst}
 use Rattle.spec_lists.specs.Texts.{Text}
 use Rattle.spec_terms.specs.Term.{Var}
-use Rattle.spec_terms.specs.Variables.{variables, renamed_from, counted_from}
-use Rattle.spec_terms.proofs.Listed.{variables-renamed_from}
-use Rattle.spec_terms.proofs.RenamedVariables.{renamed_named}
-use Rattle.spec_branch.specs.Branch.{State, Item, Branch, Copied, plain_copy}
-use Rattle.cq_atoms.specs.Texts.{text_of}
+use Rattle.spec_branch.specs.Branch.{plain_copy}
 use Rattle.cq_control.specs.Items.{items_at}
 use Rattle.cq_control.specs.Open.{last}
 use Rattle.cq_program.specs.Database.{Program}
 use Rattle.cq_stored.specs.StoredValue.{StoredValue}
-use Rattle.cq_term.specs.Meaning.{HeapTerm, at}
-use Rattle.cq_term.specs.Names.{HasNamesBelow}
-use Rattle.cq_term.specs.Trees.{tree}
 use Rattle.cq_world.specs.Contents.{Contents}
 use Rattle.spec_machine.specs.Cells.{Value, Stack, catch_at, nearest_catch}
 use Rattle.spec_machine.specs.Cells as left
-use Rattle.spec_machine.specs.Standing.{AreWaiting, IsStoredAs}
+use Rattle.spec_machine.specs.Standing.{AreWaiting}
 use Rattle.spec_machine.proofs.Thrown.{caught, ball_waits, uncaught}
-use Rattle.cq_steps.specs.Stored.{IsCountedTerm, stored_tree}
+use Rattle.cq_steps.specs.Stored.{stored_tree}
 use Rattle.cq_steps.specs.Worlds.{IsBranch, term_in, stack}
 use Rattle.cq_steps.specs.declared.alternatives.Alternatives.{Alternatives}
-use Rattle.cq_balls.specs.Balls.{ComesUp, ComesUpSomewhere, IsCaughtBy, HandsBall, Misses, HasCatch, IsNearest}
+use Rattle.cq_balls.specs.Balls.{ComesUpSomewhere, HandsBall, Misses, HasCatch, IsNearest}
 use Rattle.cq_balls.specs.declared.handing.End.{End}
 
 module _ (saved : List (Value Contents)) (choices : List Alternatives) (now : Value Contents) (from : ℕ) where
@@ -52,17 +45,3 @@ module _ (saved : List (Value Contents)) (choices : List Alternatives) (now : Va
   pub misses_it : nearest_catch (items_at now.1 from) ≡ None → Misses saved choices now from
   misses_it none = λ texts v items st behind ball c.
       uncaught (IsBranch texts) (term_in texts) (stack texts v saved choices) now.0 st (items_at now.1 from) items ball behind c.continuation.cells none
-
--- ---- a copy of a term
-
-pub copy_stored : (texts : List Text) (ts : List HeapTerm) (id : ℕ) (copy : StoredValue) → copy.term ≡ renamed_from 0 (at ts id)
-    → IsStoredAs (plain_copy (tree texts ts id)) (stored_tree texts copy)
-copy_stored texts ts id copy renamed = record {
-  plain = refl;
-  renamed = ap (λ (u : HeapTerm). stored_tree texts (record { term = u; variables = 0 })) renamed ∙ renamed_named (text_of texts) 0 (at ts id);
-}
-
-pub copy_counted : (names : ℕ) (t : HeapTerm) (copy : StoredValue) → copy.term ≡ renamed_from 0 t → copy.variables ≡ length (variables t) → HasNamesBelow names copy.term
-    → IsCountedTerm names copy
-copy_counted names t copy renamed count below =
-    record { below = below; numbered = ap variables renamed ∙ variables-renamed_from 0 t ∙ ap (counted_from 0) (sym count) }

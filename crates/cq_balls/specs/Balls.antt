@@ -1,5 +1,5 @@
 -- How a ball comes up on an engine, and where it goes.
-use Rattle.std.specs.Prelude.{◌≡◌, ℕ, List, [], ◌∷◌, Option, Some, None}
+use Rattle.std.specs.Prelude.{◌≡◌, ℕ, List, ◌∷◌, Some, None}
 use Rattle.spec_lists.specs.Texts.{Text}
 use Rattle.spec_branch.specs.Branch.{State, Item, Branch, Copied}
 use Rattle.spec_search.specs.Balls.{handed}

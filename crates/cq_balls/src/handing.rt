@@ -94,7 +94,7 @@ fn nearest(lists: &Continuations<Cell>, from: Continuation) -> Option<End>
     ensures none { IfNone result (nearest_catch (items_at lists.now.now from) ≡ None) }
 {
     let mut next = from;
-    while let Some((cell, rest)) = lists.first(next) {
+    'cells: while let Some((cell, rest)) = lists.first(next) {
         if let Some(end) = end_of(cell) {
             return Some(end);
         }
@@ -104,13 +104,9 @@ fn nearest(lists: &Continuations<Cell>, from: Continuation) -> Option<End>
 }
 
 /// The catch of an end has a ball: the newer choices are cut, and the world goes back to the catch's call.
-fn give(
-    world: &mut Searching,
-    choices: &mut Choices<Alternatives>,
-    ball: StoredTerm,
-    end: End,
-)
+fn give(world: &mut Searching, choices: &mut Choices<Alternatives>, ball: StoredTerm, end: End)
     requires marked { AreMarked (saved_values world.old.first world.old.second.saved) choices.old }
+    requires within { end.height < length choices.old }
     requires catch { HasCatch (saved_values world.old.first world.old.second.saved) choices.old end.height }
     ensures given { (texts : List Text) (v : Program) (call : Value Contents × ℕ)
         → catch_at (stack texts v (saved_values world.old.first world.old.second.saved) choices.old) end.height ≡ Some call

@@ -1,5 +1,5 @@
 -- One more copy at a choice that gathers.
-use Rattle.std.proofs.Common.{◌≡◌, ◌<◌, ◌+◌, ◌-◌, ℕ, suc, List, [], ◌∷◌, ◌++◌, length, length-append, map, drop, Option, None, Some, refl, sym, ap, ap₂, ◌∙◌, subst, arith}
+use Rattle.std.proofs.Common.{◌≡◌, ◌<◌, ◌-◌, ℕ, suc, List, [], ◌∷◌, ◌++◌, length, length-append, map, drop, None, Some, refl, sym, ap, ◌∙◌, subst, arith}
 use Rattle.std.proofs.lemmas.List.{drop_at, length-map, map-append}
 use Rattle.spec_lists.specs.Texts.{Text}
 use Rattle.spec_terms.specs.Variables.{renamed_from}
@@ -9,7 +9,7 @@ use Rattle.spec_search.specs.Database.{Database}
 use Rattle.spec_search.specs.Search.{Search}
 use Rattle.cq_atoms.specs.Texts.{text_of}
 use Rattle.cq_control.specs.Items.{items_at}
-use Rattle.cq_control.specs.Open.{AreMarked, last, open_choices}
+use Rattle.cq_control.specs.Open.{last, open_choices}
 use Rattle.cq_program.specs.Database.{Program}
 use Rattle.cq_stored.specs.StoredValue.{StoredValue}
 use Rattle.cq_term.specs.Meaning.{HeapTerm, at}
@@ -20,11 +20,11 @@ use Rattle.spec_machine.specs.Cells.{Left, IsGathering, TopGathers, GathersAt, V
 use Rattle.spec_machine.specs.Cells as left
 use Rattle.spec_machine.specs.Standing.{engine, IsStanding}
 use Rattle.spec_machine.specs.Coming.{Comes}
-use Rattle.spec_machine.proofs.Gathered.{last-under, collects_there, copy_gathered}
+use Rattle.spec_machine.proofs.Gathered.{collects_there, copy_gathered}
 use Rattle.cq_steps.specs.declared.alternatives.Alternatives.{Alternatives}
 use Rattle.cq_steps.specs.declared.alternatives.Alternatives.TheVariants as alternatives
 use Rattle.cq_steps.specs.Stored.{stored_tree, stored_trees}
-use Rattle.cq_steps.specs.Worlds.{IsBranch, term_in, stack, left_at, left_of, Stands, IsWorking, Arrives}
+use Rattle.cq_steps.specs.Worlds.{IsBranch, term_in, stack, left_at, left_of, Stands, Arrives}
 use Rattle.cq_steps.proofs.Disjunctions.{term_there}
 
 abbrev pub Opened : Type 0

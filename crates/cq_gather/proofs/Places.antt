@@ -1,5 +1,7 @@
 -- Lists around the element with so many behind it.
-use Rattle.std.proofs.Common.{◌≡◌, ◌<◌, ◌+◌, ℕ, suc, List, [], ◌∷◌, ◌++◌, length, length-append, refl, sym, ap, ◌∙◌, subst, arith, inl, inr}
+use Rattle.std.proofs.Common.{◌≡◌, ◌<◌, ℕ, List, [], ◌∷◌, ◌++◌, length, length-append, refl, sym, ap, ◌∙◌, arith, inl, inr}
+use Rattle.std.specs.Prelude.{Ok, Err, OnOk, OnErr}
+use Rattle.std.specs.declared.result.Result.{Result}
 use Rattle.std.proofs.lemmas.Bool.{cases_lt}
 use Rattle.cq_control.specs.Open.{last}
 use Rattle.cq_steps.specs.declared.alternatives.Alternatives.{Alternatives}
@@ -14,7 +16,7 @@ module _ {A : Type 0} where
   pub around : (h : ℕ) (xs : List A) → h < length xs → (newer : List A) × (x : A) × (xs ≡ newer ++ x ∷ last h xs) × (length (last h xs) ≡ h)
   around h [] l = absurd (omega (arith, l))
   around h (x ∷ xs) l = elim (cases_lt h (length xs)) [
-    inl further ↦ (let r = around h xs further in let e = last-older x xs h (omega (arith, further)) in
+    | inl further ↦ (let r = around h xs further in let e = last-older x xs h (omega (arith, further)) in
         (x ∷ r.0, r.1, ap (λ ys. x ∷ ys) r.2 ∙ ap (λ ys. x ∷ (r.0 ++ r.1 ∷ ys)) (sym e), ap length e ∙ r.3))
     | inr here ↦ (let n : length xs ≡ h = omega (arith, l, here) in
         let e : last h (x ∷ xs) ≡ xs = last-older x xs h (omega (arith, n)) ∙ last-all xs h (omega (arith, n)) in
@@ -41,13 +43,24 @@ module _ {A : Type 0} where
       let h : x ≡ y = head_same x y (xs ++ a ∷ s) (ys ++ b ∷ t) e in
       (ap (λ z. z ∷ xs) h ∙ ap (λ zs. y ∷ zs) r.0, r.1, r.2)
 
+-- the older ones are those behind it
+behind_there : (choices : List Alternatives) (height : ℕ) (g : GathersThere choices height) → last height choices ≡ g.older
+behind_there choices height g =
+    ap (last height) g.are ∙ ap (λ (n : ℕ). last n (g.newer ++ Gathers g.list g.copies g.rest ∷ g.older)) (sym g.below)
+    ∙ last-under g.newer (Gathers g.list g.copies g.rest) g.older
+
+pub as_many : (choices : List Alternatives) (height : ℕ) → GathersThere choices height → length (last height choices) ≡ height
+as_many choices height g = ap length (behind_there choices height g) ∙ g.below
+
+pub within : (choices : List Alternatives) (height : ℕ) → GathersThere choices height → height < length choices
+within choices height g =
+    omega (arith, ap length g.are, length-append g.newer (Gathers g.list g.copies g.rest ∷ g.older), g.below)
+
 -- what is there gathers
 pub found_there : (choices : List Alternatives) (height : ℕ) (g : GathersThere choices height) (newer : List Alternatives) (x : Alternatives)
     → choices ≡ newer ++ x ∷ last height choices → x ≡ Gathers g.list g.copies g.rest
 found_there choices height g newer x e =
-    let behind : last height choices ≡ g.older = ap (last height) g.are ∙ ap (λ (n : ℕ). last n (g.newer ++ Gathers g.list g.copies g.rest ∷ g.older)) (sym g.below)
-    ∙ last-under g.newer (Gathers g.list g.copies g.rest) g.older in
-    (same_front newer g.newer x (Gathers g.list g.copies g.rest) (last height choices) g.older (sym e ∙ g.are) (ap length behind)).1
+    (same_front newer g.newer x (Gathers g.list g.copies g.rest) (last height choices) g.older (sym e ∙ g.are) (ap length (behind_there choices height g))).1
 
 -- two replacements there: the last of them is left
 pub replaced_twice : (old mid new : List Alternatives) (height : ℕ) (first second : List Alternatives) (x y a b : Alternatives)
@@ -58,3 +71,48 @@ replaced_twice old mid new height first second x y a b was is long then now =
     ∙ last-under first a (last height old) in
     let same = same_front second first y a (last height mid) (last height old) (sym then ∙ is) (ap length behind) in
     now ∙ ap (λ (xs : List Alternatives). xs ++ b ∷ last height mid) same.0 ∙ ap (λ (xs : List Alternatives). first ++ b ∷ xs) behind
+
+-- ---- what is there is taken out, and put back
+
+module _ (old mid new : List Alternatives) (height : ℕ) (first second : List Alternatives) (x y a b : Alternatives) (there : GathersThere old height)
+    (was : old ≡ first ++ x ∷ last height old) (out : mid ≡ first ++ a ∷ last height old)
+    (again : mid ≡ second ++ y ∷ last height mid) (is : new ≡ second ++ b ∷ last height mid) where
+  put : new ≡ first ++ b ∷ last height old
+  put = replaced_twice old mid new height first second x y a b was out (as_many old height there) again is
+
+  -- with one more copy
+  pub gathers_more : (list rest : ℕ) (copies more : List StoredValue) (copy : StoredValue) → x ≡ Gathers list copies rest → b ≡ Gathers list more rest
+      → more ≡ copies ++ copy ∷ [] → GathersMore old height copy new
+  gathers_more list rest copies more copy held holds one = (
+    record {
+      newer = first;
+      older = last height old;
+      list = list;
+      copies = copies;
+      rest = rest;
+      are = was ∙ ap (λ (z : Alternatives). first ++ z ∷ last height old) held;
+      below = as_many old height there;
+    },
+    put ∙ ap (λ (z : Alternatives). first ++ z ∷ last height old) (holds ∙ ap (λ (cs : List StoredValue). Gathers list cs rest) one),
+  )
+
+  -- as it was
+  pub as_before : b ≡ x → new ≡ old
+  as_before same = put ∙ ap (λ (z : Alternatives). first ++ z ∷ last height old) same ∙ sym was
+
+-- there are as many choices as before
+pub same_many : (old new : List Alternatives) (height : ℕ) (copy : StoredValue) → GathersMore old height copy new → length new ≡ length old
+same_many old new height copy g =
+    let h = g.0 in
+    let n = length-append h.newer (Gathers h.list (h.copies ++ copy ∷ []) h.rest ∷ h.older) in
+    omega (arith, ap length g.1, ap length h.are, n, length-append h.newer (Gathers h.list h.copies h.rest ∷ h.older))
+
+-- ---- what holds by what a call returned
+
+pub on_ok : {A E P Q : Type 0} (r : Result A E) → (P → Q) → OnOk r P → OnOk r Q
+on_ok (Ok x) f p = f p
+on_ok (Err e) f p = p
+
+pub on_both : {A E P Q R : Type 0} (r : Result A E) → (P → R) → (Q → R) → OnOk r P → OnErr r Q → R
+on_both (Ok x) f g p q = f p
+on_both (Err e) f g p q = g q

@@ -57,9 +57,10 @@ fn gather_at(
     ensures ok { OnOk result (GathersMore choices.old height copy choices.new) }
     ensures err { OnErr result (choices.new ≡ choices.old) }
 {
-    let Alternatives::Gathers(list, mut copies, rest) =
-        choices.replace_at(height, Alternatives::Barrier)
-    else {
+    let Alternatives::Gathers(list, mut copies, rest) = choices.replace_at(
+        height,
+        Alternatives::Barrier,
+    ) else {
         unreachable!();
     };
     let pushed = copies.push(copy);

@@ -3,19 +3,21 @@
 ghost use Rattle.std.specs.Prelude.{◌≡◌, ◌<◌, ◌≤◌, ◌++◌, ℕ, List, All, length, None, IfOk, IfErr, OnOk, OnErr};
 ghost use Rattle.spec_lists.specs.Prefixes.{IsPrefix};
 ghost use Rattle.spec_lists.specs.Texts.{Text};
+ghost use Rattle.spec_syntax.specs.Trees.{list_tree};
+ghost use Rattle.spec_branch.specs.Branch.{State};
 ghost use Rattle.cq_atoms.specs.Texts.{AreDifferent};
+ghost use Rattle.cq_built.specs.Growing.{Grows};
 ghost use Rattle.cq_frac.specs.declared.Pair.{Pair};
 ghost use Rattle.cq_linear.specs.declared.store.StoreFault.TheVariants.{Overflow, Pivots};
 ghost use Rattle.cq_settle.specs.Settled.{MayRefuse, MayTake};
 ghost use Rattle.cq_term.specs.Names.{KeepsNames};
-ghost use Rattle.cq_term.specs.Trees.{trees};
+ghost use Rattle.cq_term.specs.Trees.{tree, trees, KnowsTerms};
 ghost use Rattle.cq_unify.specs.Copied.{unbound_from};
-ghost use Rattle.cq_world.specs.Rest.{IsReady};
 ghost use Rattle.cq_world.specs.Worlds.{now_of, saved_of};
 ghost use Rattle.spec_machine.specs.Trying.{placed, variables_of};
 ghost use Rattle.cq_steps.specs.Lists.{KeepsLists};
 ghost use Rattle.cq_steps.specs.Stored.{IsCountedTerm, stored_trees};
-ghost use Rattle.cq_steps.specs.Worlds.{value};
+ghost use Rattle.cq_steps.specs.Worlds.{value, IsBranch};
 ghost use Rattle.cq_begin.specs.Begun.{IfGoes, IfPruned, Prunes};
 ghost use Rattle.cq_ways.specs.Held.{held, HasMarks, StaysOver};
 ghost use Rattle.cq_ways.specs.Trying.{IsSearching, ComesOver, StopsOver};
@@ -30,7 +32,6 @@ use cq_rest::{equated_worlds_may_be_settled, look_at_pairs};
 use cq_steps::{Alternatives, Searching};
 use cq_stored::StoredTerm;
 use cq_term::{Heap, TermId};
-use cq_walk::Pair;
 use cq_ways::names_are_of_terms;
 use cq_world::World;
 use spec_machine::Cell;
@@ -98,7 +99,7 @@ fn begin_list(
     copies: &[StoredTerm],
     rest: Continuation,
 ) -> Result<Begun, StoreFault>
-    requires ready { IsReady atoms.old (now_of world.old) }
+    requires branch { (st : State) × IsBranch atoms.old (now_of world.old) st }
     requires different { AreDifferent atoms.old }
     requires third { third < length world.old.heap.now.terms }
     requires copies { All (IsCountedTerm (length atoms.old)) copies.now }
@@ -119,15 +120,31 @@ fn begin_list(
     ensures budget { world.new.store.pivots ≡ world.old.store.pivots }
 {
     equated_worlds_may_be_settled();
+    world.heap.names_are_of_terms();
     let elements = restored(&mut world.heap, copies)?;
-    let all = list(&mut world.heap, atoms, &elements)?;
-    let pairs = [Pair {
+    let all = list_of(&mut world.heap, atoms, &elements)?;
+    let pairs = [cq_walk::Pair {
         left: third,
         right: all,
     }];
     look_at_pairs(&world.heap, &pairs);
     let told = Vec::new(world.heap.alloc());
     begin(world, lists, atoms, &pairs, told, rest)
+}
+
+/// The list of these terms. The text of a name that is known shows that names have different texts.
+fn list_of(heap: &mut Heap, atoms: &mut Atoms, elements: &[TermId]) -> Result<TermId, AllocError>
+    requires live { All (λ id. id < length heap.old.now.terms) elements.now }
+    requires names { KnowsTerms atoms.old heap.old.now.terms }
+    ensures live { IfOk result (λ id. id < length heap.new.now.terms) }
+    ensures built { IfOk result (λ id. tree atoms.new heap.new.now.terms id ≡ list_tree (trees atoms.new heap.old.now.terms elements.now)) }
+    ensures grows { Grows atoms.old heap.old atoms.new heap.new }
+    ensures different { AreDifferent atoms.new }
+{
+    let known = atoms.intern("[]")?;
+    let built = list(heap, atoms, elements);
+    let _text = atoms.text(known);
+    built
 }
 
 /// The copies under new variables, one after another.

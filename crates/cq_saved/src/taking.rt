@@ -1,8 +1,9 @@
 // A catch that has a ball.
 
-ghost use Rattle.std.specs.Prelude.{◌≡◌, ◌≢◌, ◌<◌, ◌≤◌, [], ℕ, List, length, None, IfOk, IfErr, OnOk, OnErr};
+ghost use Rattle.std.specs.Prelude.{◌≡◌, ◌≢◌, ◌<◌, ◌≤◌, ◌∷◌, [], ℕ, List, length, None, IfOk, IfErr, OnOk, OnErr};
 ghost use Rattle.spec_lists.specs.Texts.{Text};
 ghost use Rattle.cq_atoms.specs.Texts.{AreDifferent};
+ghost use Rattle.cq_control.specs.Items.{items_at};
 ghost use Rattle.cq_control.specs.Open.{AreMarked};
 ghost use Rattle.cq_frac.specs.declared.Pair.{Pair};
 ghost use Rattle.cq_linear.specs.declared.store.StoreFault.TheVariants.{Overflow, Pivots};
@@ -11,8 +12,9 @@ ghost use Rattle.cq_settle.specs.Settled.{MayRefuse, MayTake};
 ghost use Rattle.cq_stored.specs.StoredValue.{StoredValue};
 ghost use Rattle.cq_world.specs.Rest.{IsReady};
 ghost use Rattle.cq_world.specs.Worlds.{now_of, saved_of};
+ghost use Rattle.spec_machine.specs.declared.cell.Cell.TheVariants.{Call};
 ghost use Rattle.cq_steps.specs.Choices.{AreOpen};
-ghost use Rattle.cq_steps.specs.Lists.{KeepsLists};
+ghost use Rattle.cq_steps.specs.Lists.{HasCells, KeepsLists};
 ghost use Rattle.cq_steps.specs.Stored.{IsCountedTerm};
 ghost use Rattle.cq_steps.specs.Worlds.{value, saved_values};
 ghost use Rattle.cq_begin.specs.Begun.{IfGoes, IfPruned, Prunes};
@@ -31,9 +33,9 @@ use cq_rest::{equated_worlds_may_be_settled, look_at_pairs};
 use cq_steps::{Alternatives, Searching};
 use cq_stored::StoredTerm;
 use cq_term::TermId;
-use cq_walk::Pair;
 use cq_world::World;
 use spec_machine::Cell;
+use std::alloc::AllocError;
 
 /// What became of a ball that a catch has.
 #[derive(Drop)]
@@ -70,9 +72,10 @@ pub fn try_caught(
     ensures budget { world.new.first.store.pivots ≡ world.old.first.store.pivots }
     ensures marked { HasMarks (held atoms.now world.new.first world.new.second choices.new) }
 {
-    let Alternatives::Caught(ball, catcher, recovery, rest) =
-        choices.retry(world, Alternatives::Barrier)
-    else {
+    let Alternatives::Caught(ball, catcher, recovery, rest) = choices.retry(
+        world,
+        Alternatives::Barrier,
+    ) else {
         unreachable!();
     };
     match begin_caught(
@@ -164,13 +167,28 @@ fn begin_caught(
     ensures budget { world.new.store.pivots ≡ world.old.store.pivots }
 {
     equated_worlds_may_be_settled();
-    let recovered = lists.before(Cell::Call(recovery), rest)?;
+    let recovered = call_before(lists, recovery, rest)?;
     let copy = ball.restore(&mut world.heap)?;
-    let pairs = [Pair {
+    let pairs = [cq_walk::Pair {
         left: catcher,
         right: copy,
     }];
     look_at_pairs(&world.heap, &pairs);
     let told = Vec::new(world.heap.alloc());
     begin(world, lists, atoms, &pairs, told, recovered)
+}
+
+/// `call` of a term in front of a continuation.
+fn call_before(
+    lists: &mut Continuations<Cell>,
+    goal: TermId,
+    rest: Continuation,
+) -> Result<Continuation, AllocError>
+    requires { rest < length lists.old.now }
+    ensures cells { IfOk result (λ k. HasCells lists.new.now k (Call goal ∷ items_at lists.old.now rest)) }
+    ensures keeps { KeepsLists lists.old.now lists.new.now }
+    ensures saved { lists.new.saved ≡ lists.old.saved }
+{
+    let k = lists.before(Cell::Call(goal), rest)?;
+    Ok(k)
 }

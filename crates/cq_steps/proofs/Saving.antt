@@ -58,23 +58,29 @@ module _ {W : Type 0} (IsState : W → State → Type 0) (term : W → ℕ → O
   catch_becomes k goal catcher recovery g c r rg rc rr k_there e =
       let after = pushed (Catches rest) in
       goes_on_with IsState term rests after (w, lists) k p behind (call_of g ∷ branch.CatchEnd p.height p.state c r ∷ p.rest)
-      (built IsState term after w lists k _ _ p.state k_there e (omega arith, s.place.continuation.fits) s.place.continuation.state
-      (g, 0, _, refl, reads goal g rg, (
-        ((w, lists), rest),
-        p.state,
-        c,
-        r,
-        p.rest,
-        ap (λ (h : ℕ). branch.CatchEnd h p.state c r ∷ p.rest) (sym (all (Catches rest))),
-        ap top_catch (last-all after (suc (length choices)) (omega arith)),
-        there,
-        same,
-        s.place.continuation.state,
-        reads catcher c rc,
-        reads recovery r rr,
-        rest_items (Catches rest),
-        rest_items (Catches rest),
-      )))
+      (built IsState term after w lists k _ _ p.state k_there e (omega arith, s.place.continuation.fits) s.place.continuation.state (
+        g,
+        0,
+        _,
+        refl,
+        reads goal g rg,
+        (
+          ((w, lists), rest),
+          p.state,
+          c,
+          r,
+          p.rest,
+          ap (λ (h : ℕ). branch.CatchEnd h p.state c r ∷ p.rest) (sym (all (Catches rest))),
+          ap top_catch (last-all after (suc (length choices)) (omega arith)),
+          there,
+          same,
+          s.place.continuation.state,
+          reads catcher c rc,
+          reads recovery r rr,
+          rest_items (Catches rest),
+          rest_items (Catches rest),
+        ),
+      ))
       ([], behind, refl, refl, s.waiting)
 
   pub findall_becomes : (k template goal list : ℕ) (t g l : Tree) → Reads IsState term w p.state template t → Reads IsState term w p.state goal g
@@ -92,16 +98,21 @@ module _ {W : Type 0} (IsState : W → State → Type 0) (term : W → ℕ → O
         output = refl;
         comes = λ steps q d b. child_kept IsState term steps p.database q.selected after (w, lists) k q items p.state no_work (own ∷ behind) d refl
             (ap look_at b) refl items p.state (rests w p.state items s.place.continuation.state)
-            (built IsState term after w lists k _ _ p.state k_there e (omega arith, s.place.continuation.fits) s.place.continuation.state
-            (g, 0, _, refl, reads goal g rg, (
-              t,
-              p.rest,
-              ap (λ (h : ℕ). branch.Collect h t ∷ p.rest) (sym (all (Gathers list [] rest))),
-              subst TopGathers (sym (last-all after (suc (length choices)) (omega arith))) tt,
-              reads template t rt,
-              rest_items (Gathers list [] rest),
-            )))
-            (
+            (built IsState term after w lists k _ _ p.state k_there e (omega arith, s.place.continuation.fits) s.place.continuation.state (
+              g,
+              0,
+              _,
+              refl,
+              reads goal g rg,
+              (
+                t,
+                p.rest,
+                ap (λ (h : ℕ). branch.Collect h t ∷ p.rest) (sym (all (Gathers list [] rest))),
+                subst TopGathers (sym (last-all after (suc (length choices)) (omega arith))) tt,
+                reads template t rt,
+                rest_items (Gathers list [] rest),
+              ),
+            )) (
               own ∷ [],
               behind,
               refl,

@@ -75,10 +75,7 @@ pub fn findall(
     ensures err_saved { OnErr result (saved_values world.new.first world.new.second.saved ≡ saved_values world.old.first world.old.second.saved) }
 {
     if !may_be_list(&world.first.heap, atoms, list)? {
-        return Err(BuiltinFault::Error(BuiltinError::Type(
-            ValidType::List,
-            Culprit::Term(list),
-        )));
+        return Err(BuiltinFault::Error(BuiltinError::Type(ValidType::List, Culprit::Term(list))));
     }
     let top = choices.height();
     let end = cell_before(&mut world.second, Cell::Collect(top, template), rest)?;
