@@ -2,7 +2,7 @@ use Rattle.std.proofs.Common.{◌∙◌, refl, Some, None, arith}
 use Rattle.spec_lists.proofs.Prefixes.{prefix_both, prefix_same}
 use Rattle.cq_program.specs.Database.{as_database}
 use Rattle.cq_ways.specs.Held.{held}
-use Rattle.cq_find.proofs.Found.{over_older, no_more, reaches_at_once, reaches_then, stops_then, throws_then, going_then, working}
+use Rattle.cq_find.proofs.Going.{over_older, no_more, reaches_at_once, reaches_then, stops_then, throws_then, going_then, working}
 use Rattle.cq_find.proofs.finding.find.Goals as goal
 
 pub choices-init : goal.choices-init

@@ -3,7 +3,7 @@ use Rattle.std.specs.Prelude.{IfSome, IfNone}
 use Rattle.cq_program.specs.Database.{as_database}
 use Rattle.cq_matching.proofs.Reached.{stop_with}
 use Rattle.cq_ways.specs.Held.{held}
-use Rattle.cq_find.proofs.Found.{reaches_at_once, reaches_over, stops_over, throws_over, fewer_left}
+use Rattle.cq_find.proofs.Going.{reaches_at_once, reaches_over, stops_over, throws_over, fewer_left}
 use Rattle.cq_find.proofs.finding.try_newest.Goals as goal
 
 -- the choice is gone
