@@ -1,15 +1,15 @@
 -- What an engine comes to from a catch that has a ball.
-use Rattle.std.proofs.Common.{inl, ◌≡◌, ◌≢◌, ◌<◌, ℕ, List, [], ◌∷◌, ◌++◌, length, map, Option, None, Some, refl, sym, ap, ◌∙◌, subst}
+use Rattle.std.proofs.Common.{inl, ◌≡◌, ◌≢◌, ◌<◌, ℕ, List, [], ◌∷◌, length, map, None, Some, refl, sym, ap, ◌∙◌, subst}
 use Rattle.std.specs.Prelude.{reverse}
 use Rattle.std.specs.List.{zip}
 use Rattle.spec_lists.proofs.Prefixes.{prefix_same}
 use Rattle.spec_lists.specs.Texts.{Text}
-use Rattle.spec_branch.specs.Branch.{State, Item, Branch, Copied, Pending}
+use Rattle.spec_branch.specs.Branch.{State, Item, Copied, Pending}
 use Rattle.spec_search.specs.Balls.{caught_work, handed}
 use Rattle.spec_search.specs.Control.{call_of}
 use Rattle.spec_search.specs.Database.{Database}
 use Rattle.spec_search.specs.Replies.{landed}
-use Rattle.spec_search.specs.Search.{Search, is_selecting, look_at, Settling}
+use Rattle.spec_search.specs.Search.{Search, is_selecting}
 use Rattle.spec_search.specs.Turns as turn
 use Rattle.spec_search.specs.Turns.{with_branches}
 use Rattle.spec_stops.specs.Causes.{Budgets, Cause}

@@ -1,5 +1,5 @@
 -- The branch of a findall's list, in a world to which the copies were added under new variables, and the list of them.
-use Rattle.std.proofs.Common.{◌≡◌, ◌<◌, ◌≤◌, ◌+◌, ℕ, List, [], ◌∷◌, ◌++◌, length, Some, refl, sym, ap, ap₂, ◌∙◌, subst, arith, map}
+use Rattle.std.proofs.Common.{◌≡◌, ◌≤◌, ◌+◌, ℕ, List, [], ◌∷◌, ◌++◌, length, Some, refl, sym, ap, ap₂, ◌∙◌, subst, arith, map}
 use Rattle.std.specs.List.{AllZip}
 use Rattle.spec_lists.specs.Prefixes.{IsPrefix}
 use Rattle.spec_lists.specs.Texts.{Text}
@@ -7,9 +7,9 @@ use Rattle.spec_terms.specs.Term.{apply}
 use Rattle.spec_terms.specs.Variables.{variables}
 use Rattle.spec_syntax.specs.Trees.{Tree, cell, list_tree}
 use Rattle.spec_builtins.specs.Alternatives.{◌≐◌}
-use Rattle.spec_branch.specs.Branch.{State, Item, Copied, Pending, read}
+use Rattle.spec_branch.specs.Branch.{State, Copied, Pending, read}
 use Rattle.spec_search.specs.Replies.{landed, with_new}
-use Rattle.cq_begin.specs.Begun.{IsPlacedAs, IsBegun, GoesOn, OfWork}
+use Rattle.cq_begin.specs.Begun.{IsBegun, GoesOn, OfWork}
 use Rattle.cq_begin.proofs.Newer.{ready_more, read_still}
 use Rattle.cq_rest.specs.Equal.{IsWork}
 use Rattle.cq_stored.specs.StoredValue.{StoredValue}
@@ -20,7 +20,7 @@ use Rattle.cq_walk.specs.declared.pairs.Pair.{Pair}
 use Rattle.cq_world.specs.Contents.{Contents}
 use Rattle.cq_world.specs.Rest.{IsReadThrough, IsReadyAs}
 use Rattle.spec_machine.specs.declared.cell.Cell.{Cell}
-use Rattle.spec_machine.specs.Cells.{Value, Stack}
+use Rattle.spec_machine.specs.Cells.{Value}
 use Rattle.spec_machine.specs.Standing.{IsStoredAs}
 use Rattle.spec_machine.specs.Trying.{placed, variables_of, list_work, IsLanded}
 use Rattle.spec_machine.proofs.Landed.{copies_landed}

@@ -1,7 +1,7 @@
 -- A copy under new variables of a world.
 use Rattle.std.proofs.Common.{◌≡◌, ◌+◌, ◌≤◌, ℕ, zero, suc, List, [], ◌∷◌, length, refl, sym, ap, ◌∙◌, arith}
 use Rattle.spec_lists.specs.Texts.{Text}
-use Rattle.spec_terms.specs.Term.{Subst, Var, apply, named}
+use Rattle.spec_terms.specs.Term.{apply, named}
 use Rattle.spec_terms.specs.Variables.{variables, counted_from}
 use Rattle.spec_terms.proofs.RenamedVariables.{variables_named}
 use Rattle.spec_terms.proofs.Substitution.{apply-followed_by, apply_agree, named-apply}

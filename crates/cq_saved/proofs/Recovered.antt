@@ -1,9 +1,8 @@
 -- The branch of a catch that has a ball, in a world to which the ball was added under new variables.
-use Rattle.std.proofs.Common.{◌≡◌, ◌<◌, ◌≤◌, ℕ, List, [], ◌∷◌, ◌++◌, length, Some, refl, sym, ap, ap₂, ◌∙◌, subst, arith, map}
+use Rattle.std.proofs.Common.{◌≡◌, ℕ, List, [], ◌∷◌, ◌++◌, length, Some, refl, sym, ap, ap₂, ◌∙◌, subst, arith, map}
 use Rattle.spec_lists.specs.Prefixes.{IsPrefix}
 use Rattle.spec_lists.specs.Texts.{Text}
 use Rattle.spec_terms.specs.Term.{apply, named}
-use Rattle.spec_terms.specs.Unifier.{Equation}
 use Rattle.spec_syntax.specs.Trees.{Tree}
 use Rattle.spec_builtins.specs.Alternatives.{◌≐◌}
 use Rattle.spec_branch.specs.Branch.{State, Item, Copied, Pending, read}
@@ -35,7 +34,7 @@ use Rattle.cq_steps.specs.Lists.{HasCells, KeepsLists}
 use Rattle.cq_steps.specs.Stored.{IsCountedTerm, stored_tree}
 use Rattle.cq_steps.specs.Worlds.{IsBranch, term_in, with_heap}
 use Rattle.cq_steps.proofs.Added.{tree_is}
-use Rattle.cq_saved.specs.Taking.{IsBallAt, BallGoes, OfBall, CarriesBall}
+use Rattle.cq_saved.specs.Taking.{BallGoes, OfBall, CarriesBall}
 use Rattle.cq_saved.proofs.Moved.{reads_itself, moved_named, landed_state, landed_as, no_rows, none_told}
 
 -- ---- a world with more terms and so many more variables

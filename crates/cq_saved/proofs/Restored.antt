@@ -1,5 +1,5 @@
 -- Copies that are put on a heap under new variables, one after another.
-use Rattle.std.proofs.Common.{◌≡◌, ◌<◌, ◌≤◌, ◌+◌, ℕ, zero, suc, List, [], ◌∷◌, ◌++◌, length, map, refl, sym, ap, ap₂, ◌∙◌, subst, arith, append_assoc, length-append}
+use Rattle.std.proofs.Common.{◌≡◌, ◌<◌, ◌+◌, ℕ, zero, suc, List, [], ◌∷◌, ◌++◌, length, map, refl, sym, ap, ap₂, ◌∙◌, arith, append_assoc}
 use Rattle.std.specs.Prelude.{All}
 use Rattle.std.proofs.lemmas.List.{map-append}
 use Rattle.std.proofs.lemmas.List.Elements.{All-head, All-tail, All-push}
@@ -14,7 +14,6 @@ use Rattle.cq_stored.specs.Building.{moved_by}
 use Rattle.cq_stored.specs.StoredValue.{StoredValue}
 use Rattle.cq_term.specs.HeapValue.{Terms}
 use Rattle.cq_term.specs.Meaning.{HeapTerm, at, blank}
-use Rattle.cq_term.specs.Names.{HasNamesBelow, KeepsNames}
 use Rattle.cq_term.specs.Trees.{tree, trees}
 use Rattle.cq_unify.specs.Copied.{unbound_from}
 use Rattle.cq_unify.proofs.Places.{variables_now}

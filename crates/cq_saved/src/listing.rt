@@ -62,7 +62,7 @@ pub fn try_gathered(
     ensures marked { HasMarks (held atoms.new world.new.first world.new.second choices.new) }
 {
     names_are_of_terms(world, choices);
-    let Alternatives::Gathers(third, copies, rest) = choices.retry(world, Alternatives::Barrier)
+    let Alternatives::Gathers(third, gathered, rest) = choices.retry(world, Alternatives::Barrier)
     else {
         unreachable!();
     };
@@ -71,7 +71,7 @@ pub fn try_gathered(
         &mut world.second,
         atoms,
         third,
-        copies.copies(),
+        gathered.copies(),
         rest,
     ) {
         Ok(begun) => {
@@ -84,7 +84,7 @@ pub fn try_gathered(
         }
         Err(fault) => {
             let newest = choices.height() - 1;
-            choices.replace_at(newest, Alternatives::Gathers(third, copies, rest));
+            choices.replace_at(newest, Alternatives::Gathers(third, gathered, rest));
             Err(fault)
         }
     }

@@ -1,9 +1,8 @@
-use Rattle.std.proofs.Common.{◌≡◌, [], ◌∷◌, ◌++◌, ℕ, List, length, sym, ap, ◌∙◌, subst}
-use Rattle.std.specs.Prelude.{All}
+use Rattle.std.proofs.Common.{[], ℕ, List, length, ap, ◌∙◌}
 use Rattle.spec_lists.proofs.Prefixes.{prefix_both}
 use Rattle.spec_branch.specs.Branch.{State, Pending}
 use Rattle.spec_search.specs.Replies.{with_new}
-use Rattle.spec_syntax.specs.Trees.{Tree, list_tree}
+use Rattle.spec_syntax.specs.Trees.{list_tree}
 use Rattle.cq_begin.specs.Begun.{GoesOn, OfWork, Prunes}
 use Rattle.cq_settle.specs.Settled.{MayRefuse, MayTake}
 use Rattle.cq_term.specs.Trees.{trees}

@@ -1,4 +1,4 @@
-use Rattle.std.proofs.Common.{◌≡◌, [], ◌∷◌, ℕ, ap, ◌∙◌}
+use Rattle.std.proofs.Common.{◌≡◌, []}
 use Rattle.std.specs.Prelude.{length}
 use Rattle.spec_branch.specs.Branch.{State, Pending}
 use Rattle.spec_search.specs.Replies.{with_new}
@@ -18,9 +18,10 @@ begin-requires-clause-ready c =
     let old = now_of c.args.world.now in
     let h = c.restore.new.heap.now in
     let r = c.in_ok-copy.ensures in
-    let names = c.restore.ensures.names (length texts) c.requires.ball.below in
-    (with_new c.args.ball.now.variables c.requires.ready.0,
-    ready_now texts old c.args.ball.now c.requires.ball h c.in_ok-copy.copy c.args.catcher r.moved r.terms r.images names c.requires.ready.0 c.requires.ready.1)
+    let names = c.restore.ensures.names (length texts) c.requires.ball.below in (
+      with_new c.args.ball.now.variables c.requires.ready.0,
+      ready_now texts old c.args.ball.now c.requires.ball h c.in_ok-copy.copy c.args.catcher r.moved r.terms r.images names c.requires.ready.0 c.requires.ready.1,
+    )
 
 pub returns-clause-goes : goal.returns-clause-goes
 returns-clause-goes c =
