@@ -1,2 +1,2 @@
 mod Counted
-mod Found
+mod Going

@@ -18,7 +18,7 @@ use cq_program::ProgramClause;
 use cq_saved::{Taken, try_caught, try_gathered};
 use cq_steps::{Alternatives, Searching, find_front};
 use cq_stored::StoredTerm;
-use cq_ways::try_ways;
+use cq_ways::{names_may_be_added, try_ways};
 
 /// Where a search goes on from its newest choice.
 #[derive(Drop)]
@@ -67,6 +67,7 @@ fn try_newest(
     ensures budget { world.new.first.store.pivots ≡ world.old.first.store.pivots }
     ensures marked { HasMarks (held atoms.new world.new.first world.new.second choices.new) }
 {
+    names_may_be_added();
     let Some(newest) = choices.top() else {
         return Ok(Next::Over);
     };
@@ -80,7 +81,11 @@ fn try_newest(
             Err(fault) => Err(fault),
         },
         Alternatives::Caught(_, _, _, _) => match try_caught(world, choices, atoms) {
-            Ok(taken) => Ok(next_of(taken)),
+            Ok(taken) => match taken {
+                Taken::Goes(first) => Ok(Next::Goes(Some(first))),
+                Taken::HandedOn => Ok(Next::Goes(None)),
+                Taken::Escaped(ball) => Ok(Next::Escaped(ball)),
+            },
             Err(fault) => Err(fault),
         },
         Alternatives::Gathers(_, _, _) => match try_gathered(world, choices, atoms) {
@@ -92,15 +97,6 @@ fn try_newest(
             Err(fault) => Err(fault),
         },
         _ => unreachable!(),
-    }
-}
-
-/// Where a search goes on, by what became of a ball.
-fn next_of(taken: Taken) -> Next {
-    match taken {
-        Taken::Goes(first) => Next::Goes(Some(first)),
-        Taken::HandedOn => Next::Goes(None),
-        Taken::Escaped(ball) => Next::Escaped(ball),
     }
 }
 

@@ -45,7 +45,8 @@ pub fn ask(
     ensures err_saved { OnErr result (saved_values world.new.first world.new.second.saved ≡ saved_values world.old.first world.old.second.saved) }
 {
     calls_read_the_database();
-    let untried = Untried::new(clauses.walk(pred, None));
+    let walk = clauses.walk(pred, None);
+    let untried = Untried::new(walk);
     choices.push(world, Alternatives::Matches(asked, untried, removes, rest))?;
     Ok(())
 }

@@ -2,7 +2,9 @@
 #![tactic(auto)]
 
 mod asking;
+mod laws;
 mod matching;
 
 pub use asking::ask;
+pub use laws::choices_outlast_changes;
 pub use matching::try_matches;
