@@ -1,4 +1,3 @@
-mod Outlasting
 mod Behind
 mod Stored
 mod Changed

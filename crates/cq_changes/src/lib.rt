@@ -4,8 +4,6 @@
 
 mod asserting;
 mod declaring;
-mod laws;
 
 pub use asserting::assert;
 pub use declaring::declare_dynamic;
-pub use laws::choices_outlast_changes;
