@@ -25,21 +25,18 @@ use Rattle.cq_machine.specs.declared.machine.Machine.{Machine}
 use Rattle.cq_machine.specs.Machines.{IsSound, database_of, holds, now, saved, terms}
 use Rattle.cq_term.specs.Trees.{KnowsTerms}
 use Rattle.cq_engine.specs.declared.front.Front.{Front}
-use Rattle.cq_engine.specs.declared.front.Front.TheVariants.{Ahead, Answer, Fail, Stop}
-use Rattle.cq_begin.specs.Stops.{ComesToStop}
+use Rattle.cq_engine.specs.declared.front.Front.TheVariants.{Ahead, Answer, Fail, Escapes, Stop}
 use Rattle.cq_engine.specs.Fronts.{Answers, Ends, Halts, IsFrontOf, selects}
-use Rattle.cq_engine.specs.Seeking.{IsKept, GainsNames, StandsFor, ComesTo, IsGoing, GoesTo}
+use Rattle.cq_engine.specs.Seeking.{IsKept, GainsNames, KeepsNames, StandsFor, ComesTo, IsGoing, GoesTo}
 use Rattle.cq_engine.proofs.Told.{quietly_then, told_then, ends_told, answer_told, comes_back}
 
 -- ---- a machine that gains names
 
-pub gains_on : (a b c : Machine) → GainsNames a b → GainsNames b c → GainsNames a c
-gains_on a b c f g = record {
+pub keeps_on : (a b c : Machine) → KeepsNames a b → GainsNames b c → KeepsNames a c
+keeps_on a b c f g = record {
   atoms = prefix_both a.atoms b.atoms c.atoms f.atoms g.atoms;
   names = g.names ∙ f.names;
   ops = g.ops ∙ f.ops;
-  clauses = g.clauses ∙ f.clauses;
-  database = g.database ∙ f.database;
 }
 
 -- ---- a machine that goes on
@@ -91,6 +88,7 @@ pub front_then : (budgets : Budgets) (m : Machine) (n : ℕ) (f : Front) (s r : 
 front_then budgets m n (Ahead k) s r q c = record { reached = c.reached; quiet = quietly_then q c.quiet; stands = c.stands }
 front_then budgets m n Answer s r q a = record { state = a.state; is_state = a.is_state; next = a.next; tells = told_then q a.tells; stands = a.stands }
 front_then budgets m n Fail s r q e = record { next = e.next; tells = told_then q e.tells; stands = e.stands }
+front_then budgets m n (Escapes ball) s r q e = record { ball = e.ball; is_stored = e.is_stored; next = e.next; tells = told_then q e.tells; stands = e.stands }
 front_then budgets m n (Stop cause) s r q h = record { reached = h.reached; quiet = quietly_then q h.quiet; last = h.last; tells = h.tells; database = h.database; stands = h.stands }
 
 -- ---- a goal in front
@@ -108,13 +106,6 @@ module _ (texts : List Text) (db : Database) (n : ℕ) (choices : Stack Contents
 pub stops_out : (budgets : Budgets) (s : Search) → is_selecting (look_at s.branches) ≡ true → s.selected ≡ budgets.steps
     → Tells budgets s (Stops (Resolutions budgets.steps)) (with_branches [] s)
 stops_out budgets s next many = coming.stops coming.at_once (coming.runs_out next many)
-
--- ---- the same database
-
-pub by_database : (old new : Machine) (steps n : ℕ) (current : Option ℕ) (s : Search) → database_of new ≡ database_of old
-    → Comes (IsBranch new.atoms) (term_in new.atoms) steps (engine (database_of old) n (holds new) (now new) current) s → ComesTo steps new n current s
-by_database old new steps n current s e a =
-    subst (λ (db : Database). Comes (IsBranch new.atoms) (term_in new.atoms) steps (engine db n (holds new) (now new) current) s) (sym e) a
 
 -- with no choice and nothing to go on with, no branch is left
 pub ends_next : (budgets : Budgets) (m : Machine) (n : ℕ) (s : Search) → holds m ≡ [] → StandsFor m n None s → Ends budgets m n s
@@ -134,12 +125,6 @@ answers_next budgets m n k s done j = record {
   tells = answer_told (IsBranch m.atoms) (term_in m.atoms) budgets (database_of m) n (now m) s (holds m) k j done;
   stands = comes_back (IsBranch m.atoms) (term_in m.atoms) budgets (database_of m) n (now m) s (holds m) k j done;
 }
-
--- a query that stops for a fault
-pub halts_next : (budgets : Budgets) (old new : Machine) (n : ℕ) (start : Option ℕ) (s : Search) (cause : Cause) → GainsNames old new → holds new ≡ []
-    → StandsFor old n start s → ComesToStop budgets cause s → Halts budgets cause new n s
-halts_next budgets old new n start s cause g none j stop =
-    record { reached = s; quiet = coming.at_once; last = stop.0; tells = stop.1; database = stop.2; stands = none_left old new n start s g none j }
 
 -- ---- no choices
 

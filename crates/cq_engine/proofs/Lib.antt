@@ -1,2 +1,2 @@
-pub mod Told
-pub mod Engines
+mod Halted
+mod Sought

@@ -1,5 +1,5 @@
 -- What an engine tells before a goal is selected.
-use Rattle.std.specs.Prelude.{◌≡◌, ◌<◌, ℕ, [], ◌∷◌, Bool, true, false, None, Some, ⊤}
+use Rattle.std.specs.Prelude.{◌≡◌, ◌<◌, ℕ, [], ◌∷◌, length, Bool, true, false, None, Some, ⊤}
 use Rattle.spec_branch.specs.Branch.{State}
 use Rattle.spec_search.specs.Search.{Search}
 use Rattle.spec_search.specs.Turns.{Answered, Ended, with_branches}
@@ -7,6 +7,7 @@ use Rattle.spec_stops.specs.Causes.{Budgets}
 use Rattle.spec_stops.specs.Causes as why
 use Rattle.cq_control.specs.Items.{items_at}
 use Rattle.cq_steps.specs.Marks.{IsFront}
+use Rattle.cq_steps.specs.Stored.{IsCountedTerm}
 use Rattle.cq_steps.specs.Worlds.{IsBranch}
 use Rattle.spec_machine.specs.declared.cell.Cell.{Cell}
 use Rattle.spec_machine.specs.declared.cell.Cell.TheVariants.{Goal, Call, CutTo, CutFail, CatchEnd, Collect}
@@ -16,8 +17,8 @@ use Rattle.cq_machine.specs.Machines.{IsSound, database_of, now}
 use Rattle.cq_engine.specs.declared.front.Cause.{Cause}
 use Rattle.cq_engine.specs.declared.front.Cause.TheVariants as cause
 use Rattle.cq_engine.specs.declared.front.Front.{Front}
-use Rattle.cq_engine.specs.declared.front.Front.TheVariants.{Ahead, Answer, Fail, Stop}
-use Rattle.cq_engine.specs.Seeking.{StandsFor, ComesTo}
+use Rattle.cq_engine.specs.declared.front.Front.TheVariants.{Ahead, Answer, Fail, Escapes, Stop}
+use Rattle.cq_engine.specs.Seeking.{StandsFor, ComesTo, Throws}
 
 abbrev pub as_cause : Cause → why.Cause
 as_cause (cause.Resolutions n) = why.Resolutions n
@@ -53,6 +54,7 @@ abbrev pub IsFrontOf : Budgets → Machine → ℕ → Front → Search → Type
 IsFrontOf budgets m n (Ahead k) s = ComesTo budgets.steps m n (Some k) s
 IsFrontOf budgets m n Answer s = Answers budgets m n s
 IsFrontOf budgets m n Fail s = Ends budgets m n s
+IsFrontOf budgets m n (Escapes ball) s = Throws budgets m n ball s
 IsFrontOf budgets m n (Stop c) s = Halts budgets (as_cause c) m n s
 
 -- a goal is selected where this is in front
@@ -64,7 +66,7 @@ selects (CutFail height) = true
 selects (CatchEnd height c r) = true
 selects (Collect height t) = false
 
--- something is in front, no mark, and one more goal may be selected where it is one; the machine is sound
+-- something is in front, no mark but that of a findall, and one more goal may be selected where it is one; the machine is sound
 pub record HasWork (steps n : ℕ) (m : Machine) (k : ℕ) : Type 0 where
   pub sound : IsSound m
   pub rest : ℕ
@@ -78,4 +80,5 @@ abbrev pub IsAhead : ℕ → ℕ → Machine → Front → Type 0
 IsAhead steps n m (Ahead k) = HasWork steps n m k
 IsAhead steps n m Answer = ⊤
 IsAhead steps n m Fail = ⊤
+IsAhead steps n m (Escapes ball) = IsCountedTerm (length m.atoms) ball
 IsAhead steps n m (Stop c) = ⊤

@@ -7,13 +7,15 @@ ghost use Rattle.cq_control.specs.Items.{items_at};
 ghost use Rattle.cq_machine.specs.Machines.{IsSound, holds, now};
 ghost use Rattle.cq_steps.specs.Marks.{IsFront};
 ghost use Rattle.cq_engine.specs.Fronts.{IsAhead, IsFrontOf, selects};
-ghost use Rattle.cq_engine.specs.Seeking.{IsKept, IsGoing, GoesTo, StandsFor, GainsNames};
+ghost use Rattle.cq_engine.specs.Seeking.{IsKept, IsGoing, GoesTo, StandsFor, GainsNames, KeepsNames};
 
 use crate::seeking::seek;
 use cq_control::Continuation;
+use cq_find::Found;
 use cq_frac::Pair;
 use cq_linear::store::StoreFault;
 use cq_machine::Machine;
+use cq_stored::StoredTerm;
 use spec_machine::Cell;
 use std::alloc::AllocError;
 
@@ -29,7 +31,7 @@ pub enum Cause {
 }
 
 /// What an engine comes to before it selects a goal.
-#[derive(Clone, Copy, Debug)]
+#[derive(Drop)]
 pub enum Front {
     /// A goal that may be selected, or the end of a findall's goal, is in front of this continuation.
     Ahead(Continuation),
@@ -37,6 +39,8 @@ pub enum Front {
     Answer,
     /// No branch is left.
     Fail,
+    /// A ball that a catch doesn't take, and nothing else catches. No branch is left.
+    Escapes(StoredTerm),
     /// The query stops.
     Stop(Cause),
 }
@@ -105,7 +109,8 @@ fn at_front(m: &mut Machine, selected: u64, steps: u64, k: Continuation) -> Fron
 }
 
 /// An engine that selected so many goals, of which it may select `steps`, goes on to the next one, or to what the query tells
-/// before. An error is want of memory: the engine then comes back to its newest choice, and another call goes on from there.
+/// before; clauses that a goal removes are gone then. An error is want of memory: the engine then comes back to its newest choice, and
+/// another call goes on from there.
 pub fn look(
     m: &mut Machine,
     selected: u64,
@@ -120,12 +125,15 @@ pub fn look(
     ensures ahead { IfOk result (IsAhead steps selected m.new) }
     ensures err { OnErr result (GoesTo m.old start m.new None) }
     ensures kept { IsKept m.new }
-    ensures program { GainsNames m.old m.new }
+    ensures program { KeepsNames m.old m.new }
     ensures budget { m.new.world.first.store.pivots ≡ m.old.world.first.store.pivots }
 {
     match seek(m, start) {
-        Ok(Some(k)) => Ok(at_front(m, selected, steps, k)),
-        Ok(None) => Ok(Front::Fail),
+        Ok(found) => match found {
+            Found::Front(k) => Ok(at_front(m, selected, steps, k)),
+            Found::Escaped(ball) => Ok(Front::Escapes(ball)),
+            Found::Over => Ok(Front::Fail),
+        },
         Err(StoreFault::Overflow(pair)) => {
             halt(m);
             Ok(Front::Stop(Cause::Overflow(pair)))

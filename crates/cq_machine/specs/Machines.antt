@@ -49,6 +49,7 @@ pub record AreNames (texts : List Text) (names : Names) : Type 0 where
   pub equal : IsName texts names.equal "="
   pub once : IsName texts names.once "once"
   pub curly : IsName texts names.curly "{}"
+  pub rule : IsName texts names.rule ":-"
   pub builtins : AreBuiltins texts names.builtins
 
 -- what a machine keeps
