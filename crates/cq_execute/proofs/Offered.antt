@@ -56,6 +56,10 @@ no_overflow : (p : Place) (s : Solutions) (pair : Pair) → offers p s ≡ reply
 no_overflow p (Faults e) pair h = cc
 no_overflow p (Offers found) pair h = cc
 
+no_throw : (p : Place) (s : Solutions) (t : Tree) → offers p s ≡ reply.Throws t → ⊥
+no_throw p (Faults e) t h = cc
+no_throw p (Offers found) t h = cc
+
 -- an error of the row is the reply
 abbrev pub RaiseErrors : Type 0
 RaiseErrors = (b : Builtin) (q : Predicate) → predicate_of b ≡ Some q → (p : Place) (ts : List Tree) (e : Tree) → ways.row_of q p ts ≡ reply.Raises e → builtin_reply p b ts ≡ reply.Raises e
