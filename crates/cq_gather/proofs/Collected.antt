@@ -16,7 +16,7 @@ use Rattle.cq_term.specs.Meaning.{HeapTerm, at}
 use Rattle.cq_term.specs.Trees.{tree}
 use Rattle.cq_world.specs.Contents.{Contents}
 use Rattle.spec_machine.specs.declared.cell.Cell.TheVariants.{Collect}
-use Rattle.spec_machine.specs.Cells.{Left, IsGathering, TopGathers, GathersAt, Value, Stack}
+use Rattle.spec_machine.specs.Cells.{IsGathering, TopGathers, GathersAt, Value, Stack}
 use Rattle.spec_machine.specs.Cells as left
 use Rattle.spec_machine.specs.Standing.{engine, IsStanding}
 use Rattle.spec_machine.specs.Coming.{Comes}

@@ -14,8 +14,7 @@ use Rattle.cq_program.specs.Database.{Program}
 use Rattle.cq_stored.specs.StoredValue.{StoredValue}
 use Rattle.cq_term.specs.Meaning.{at}
 use Rattle.cq_world.specs.Contents.{Contents}
-use Rattle.spec_machine.specs.declared.cell.Cell.{Cell}
-use Rattle.spec_machine.specs.declared.cell.Cell.TheVariants.{Goal, Call, CutTo, CutFail, CatchEnd, Collect}
+use Rattle.spec_machine.specs.declared.cell.Cell.TheVariants.{Collect}
 use Rattle.spec_machine.specs.Cells.{GathersAt, Value}
 use Rattle.cq_steps.specs.Choices.{AreOpen, CanBeTried}
 use Rattle.cq_steps.specs.Stored.{IsCountedTerm}
@@ -24,26 +23,9 @@ use Rattle.cq_steps.specs.declared.alternatives.Alternatives.{Alternatives}
 use Rattle.cq_steps.specs.declared.alternatives.Alternatives.TheVariants.{Gathers}
 use Rattle.cq_steps.proofs.Done.{length-stack}
 use Rattle.cq_steps.proofs.Reading.{read_live}
-use Rattle.cq_gather.specs.Gathering.{IsMark, GathersThere, GathersMore}
+use Rattle.cq_gather.specs.Gathering.{GathersThere, GathersMore}
 use Rattle.cq_gather.proofs.Collected.{Opened, gathers_there, gathered_there, mark_there}
 use Rattle.cq_gather.proofs.Places.{around}
-
--- ---- the cell in front
-
--- one is there
-pub no_mark : (cells : List Cell) → cells ≡ [] → IsMark cells → ⊥
-no_mark cells e m = subst IsMark e m
-
-pub mark_is : (cells : List Cell) (cell : Cell) (rest : List Cell) → cells ≡ cell ∷ rest → IsMark cells → (height : ℕ) × (template : ℕ) × (cell ≡ Collect height template)
-mark_is cells cell rest e m = is cell (subst IsMark e m)
-  where
-    is : (c : Cell) → IsMark (c ∷ rest) → (height : ℕ) × (template : ℕ) × (c ≡ Collect height template)
-    is (Goal t cut) k = absurd k
-    is (Call t) k = absurd k
-    is (CutTo h) k = absurd k
-    is (CutFail h) k = absurd k
-    is (CatchEnd h c r) k = absurd k
-    is (Collect h t) k = (h, t, refl)
 
 module _ (saved : List (Value Contents)) (choices : List Alternatives) (now : Value Contents) (k rest height template : ℕ) (marked : AreMarked saved choices)
     (front : items_at now.1 k ≡ Collect height template ∷ items_at now.1 rest) where

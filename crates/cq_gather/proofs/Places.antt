@@ -52,10 +52,6 @@ behind_there choices height g =
 pub as_many : (choices : List Alternatives) (height : ℕ) → GathersThere choices height → length (last height choices) ≡ height
 as_many choices height g = ap length (behind_there choices height g) ∙ g.below
 
-pub within : (choices : List Alternatives) (height : ℕ) → GathersThere choices height → height < length choices
-within choices height g =
-    omega (arith, ap length g.are, length-append g.newer (Gathers g.list g.copies g.rest ∷ g.older), g.below)
-
 -- what is there gathers
 pub found_there : (choices : List Alternatives) (height : ℕ) (g : GathersThere choices height) (newer : List Alternatives) (x : Alternatives)
     → choices ≡ newer ++ x ∷ last height choices → x ≡ Gathers g.list g.copies g.rest
@@ -99,13 +95,6 @@ module _ (old mid new : List Alternatives) (height : ℕ) (first second : List A
   -- as it was
   pub as_before : b ≡ x → new ≡ old
   as_before same = put ∙ ap (λ (z : Alternatives). first ++ z ∷ last height old) same ∙ sym was
-
--- there are as many choices as before
-pub same_many : (old new : List Alternatives) (height : ℕ) (copy : StoredValue) → GathersMore old height copy new → length new ≡ length old
-same_many old new height copy g =
-    let h = g.0 in
-    let n = length-append h.newer (Gathers h.list (h.copies ++ copy ∷ []) h.rest ∷ h.older) in
-    omega (arith, ap length g.1, ap length h.are, n, length-append h.newer (Gathers h.list h.copies h.rest ∷ h.older))
 
 -- ---- what holds by what a call returned
 

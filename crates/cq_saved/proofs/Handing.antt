@@ -44,7 +44,7 @@ use Rattle.cq_ways.specs.Held.{Held, IsOver, StaysOver, open_of}
 use Rattle.cq_ways.specs.Trying.{IsSearching, ComesOver, StopsOver}
 use Rattle.cq_ways.proofs.Ending.{Open, over_with}
 use Rattle.cq_balls.specs.Balls.{ComesUp, ComesUpSomewhere, IsCaughtBy, HandsBall, Misses}
-use Rattle.cq_saved.specs.Taking.{TakesTo, IsGone, EscapesOver, Escapes, IsBallAt, BallGoes, OfBall, CarriesBall}
+use Rattle.cq_saved.specs.Taking.{TakesTo, EscapesOver, Escapes, IsBallAt, BallGoes, OfBall, CarriesBall}
 use Rattle.cq_saved.specs.declared.taking.Taken.{Taken}
 use Rattle.cq_saved.specs.declared.taking.Taken.TheVariants as taken
 
@@ -239,8 +239,3 @@ pub takes_to : (old new : Held) (r : Taken) → ((k : ℕ) → r ≢ taken.Goes 
 takes_to old new (taken.Goes k) goes on out = absurd (goes k refl)
 takes_to old new taken.HandedOn goes on out = on refl
 takes_to old new (taken.Escaped b) goes on out = out b refl
-
-pub is_gone : (new : Held) (r : Taken) → ((b : StoredValue) → r ≡ taken.Escaped b → IsCountedTerm (length new.texts) b × (new.choices ≡ [])) → IsGone new r
-is_gone new (taken.Goes k) out = tt
-is_gone new taken.HandedOn out = tt
-is_gone new (taken.Escaped b) out = out b refl

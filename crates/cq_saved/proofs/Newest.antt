@@ -1,5 +1,5 @@
 -- The newest choice, which stands for no branch while the branch that it saved is settled.
-use Rattle.std.proofs.Common.{◌≡◌, ◌<◌, ◌-◌, ℕ, suc, List, [], ◌∷◌, ◌++◌, length, map, drop, None, refl, sym, ap, ◌∙◌, subst, arith, length-append}
+use Rattle.std.proofs.Common.{◌≡◌, ◌-◌, ℕ, suc, List, [], ◌∷◌, ◌++◌, length, map, drop, None, refl, sym, ap, ◌∙◌, subst, arith, length-append}
 use Rattle.cq_control.specs.Open.{AreMarked, last, open_choices}
 use Rattle.cq_world.specs.Contents.{Contents}
 use Rattle.spec_machine.specs.Cells.{Value}
@@ -38,11 +38,6 @@ module _ (choices : List Alternatives) (content : Alternatives) (others : List A
   taken_off n fewer after e marked cut =
       let one : n - 1 ≡ length others = omega (arith, e, many) in
       cut ∙ ap (λ (m : ℕ). last m (open_choices saved choices)) one ∙ older_ones saved choices (length others) (start, Barrier) older marked many opened
-
-  pub fewer_left : (n : ℕ) (after : List Alternatives) → n ≡ length choices → after ≡ last (n - 1) choices → length after < length choices
-  fewer_left n after e cut =
-      let one : n - 1 ≡ length others = omega (arith, e, many) in
-      omega (arith, ap length cut, ap (λ (m : ℕ). length (last m choices)) one, length-last choices (length others) (omega (arith, many)), many)
 
   -- it has its contents again
   pub put_back : (n : ℕ) (newer after : List Alternatives) (x : Alternatives) → n ≡ length choices → choices ≡ newer ++ x ∷ last (n - 1) choices

@@ -1,12 +1,12 @@
 -- The rows of catch and of findall: a choice that keeps the world of a call, and one that gathers.
-use Rattle.std.proofs.Common.{◌≡◌, ℕ, suc, ◌<◌, ◌≤◌, List, [], ◌∷◌, length, Option, None, Some, Bool, true, ◌||◌, refl, sym, ap, ◌∙◌, subst, map, arith}
+use Rattle.std.proofs.Common.{◌≡◌, ℕ, suc, ◌<◌, List, [], ◌∷◌, length, Option, Some, Bool, true, ◌||◌, refl, sym, ap, ◌∙◌, subst, map, arith}
 use Rattle.std.specs.Prelude.{if◌then◌else◌}
 use Rattle.spec_lists.specs.Texts.{Text}
 use Rattle.spec_syntax.specs.Trees.{Tree}
 use Rattle.spec_built.specs.Kinds.{is_list, is_partial}
 use Rattle.spec_built.specs.Errors.{type_error}
 use Rattle.spec_branch.specs.Branch as branch
-use Rattle.spec_branch.specs.Branch.{State, Item, Branch, no_work, read}
+use Rattle.spec_branch.specs.Branch.{State, Branch, no_work, read}
 use Rattle.spec_search.specs.Control.{call_of, catch_row, findall_row}
 use Rattle.spec_search.specs.Replies.{Place, Raises, child, made, makes}
 use Rattle.spec_search.specs.Search.{look_at}
@@ -17,12 +17,11 @@ use Rattle.cq_program.specs.Database.{Program}
 use Rattle.cq_world.specs.Contents.{Contents}
 use Rattle.spec_machine.specs.declared.cell.Cell.{Cell}
 use Rattle.spec_machine.specs.declared.cell.Cell.TheVariants.{Call, CatchEnd, Collect}
-use Rattle.spec_machine.specs.Cells.{Fits, Left, Catches, Gathers, size, Value, Stack, below, top_catch, TopGathers}
-use Rattle.spec_machine.specs.Standing.{AreItems, IsContinuation}
+use Rattle.spec_machine.specs.Cells.{Left, Catches, Gathers, size, Value, Stack, below, top_catch, TopGathers}
+use Rattle.spec_machine.specs.Standing.{AreItems}
 use Rattle.spec_machine.specs.Coming.{Rest}
 use Rattle.spec_machine.proofs.Kept.{items_older, last-all, last-older}
 use Rattle.spec_machine.proofs.Made.{child_kept}
-use Rattle.cq_steps.specs.Choices.{LeavesAlso}
 use Rattle.cq_steps.specs.declared.alternatives.Alternatives.{Alternatives}
 use Rattle.cq_steps.specs.declared.alternatives.Alternatives.TheVariants as alternatives
 use Rattle.cq_steps.specs.Lists.{HasCells, KeepsLists}

@@ -1,6 +1,6 @@
 -- A findall's list is made, and one more copy is gathered for it.
-use Rattle.std.proofs.Common.{inl, ◌≡◌, ◌<◌, ◌≤◌, ◌+◌, ◌-◌, ℕ, zero, suc, List, [], ◌∷◌, ◌++◌, length, length-append, Bool, true, false, Option, None, Some, refl, sym, ap, ◌∙◌, subst, drop, append_assoc, arith}
-use Rattle.std.specs.Prelude.{if◌then◌else◌, ◌==◌}
+use Rattle.std.proofs.Common.{inl, ◌≡◌, ◌<◌, ◌+◌, ◌-◌, ℕ, zero, suc, List, [], ◌∷◌, ◌++◌, length, length-append, Bool, Option, None, Some, refl, sym, ap, ◌∙◌, subst, drop, append_assoc, arith}
+use Rattle.std.specs.Prelude.{if◌then◌else◌}
 use Rattle.std.specs.List.{AllZip}
 use Rattle.std.proofs.lemmas.List.{drop_at}
 use Rattle.spec_lists.proofs.Tests.{nat_eq-self, nat_eq-apart}
@@ -10,7 +10,7 @@ use Rattle.spec_branch.specs.Branch as branch
 use Rattle.spec_branch.specs.Branch.{State, Item, Branch, Copied, no_work, plain_copy, read}
 use Rattle.spec_search.specs.Database.{Database}
 use Rattle.spec_search.specs.Replies.{child, landed}
-use Rattle.spec_search.specs.Search.{Search, Settling, Collecting, is_selecting, look_at, settled, gather, gathered_items, list_child}
+use Rattle.spec_search.specs.Search.{Search, Collecting, is_selecting, look_at, settled, gather, gathered_items, list_child}
 use Rattle.spec_search.specs.Turns as turn
 use Rattle.spec_search.specs.Turns.{with_branches}
 use Rattle.cq_control.specs.Heights.{total}
@@ -19,10 +19,10 @@ use Rattle.cq_control.specs.Open.{last}
 use Rattle.spec_machine.specs.declared.cell.Cell.{Cell}
 use Rattle.spec_machine.specs.declared.cell.Cell.TheVariants.{Collect}
 use Rattle.spec_machine.specs.Cells.{Fits, Left, One, Clauses, Ways, Barrier, Catches, Caught, Gathers, Matches, size, Value, Stack, below, GathersAt}
-use Rattle.spec_machine.specs.Standing.{engine, IsStoredAs, AreItems, IsContinuation, IsPlace, AreBranches, AreWaiting, IsStanding}
+use Rattle.spec_machine.specs.Standing.{engine, IsStoredAs, AreItems, IsContinuation, AreBranches, AreWaiting, IsStanding}
 use Rattle.spec_machine.specs.Coming.{Quietly, at_once, after, Comes, Rest}
 use Rattle.spec_machine.specs.Trying.{MakesList}
-use Rattle.spec_machine.proofs.Kept.{Alike, items_same, length-waiting, last-all}
+use Rattle.spec_machine.proofs.Kept.{Alike, items_same, length-waiting}
 
 -- ---- one choice that gathers more
 

@@ -1,5 +1,5 @@
 -- Copies that are put into a state.
-use Rattle.std.proofs.Common.{◌≡◌, ◌+◌, ℕ, zero, suc, List, [], ◌∷◌, ◌++◌, length, map, Bool, true, false, ◌||◌, refl, sym, ap, ap₂, ◌∙◌, subst, zero-add, append-nil, arith}
+use Rattle.std.proofs.Common.{◌≡◌, ◌+◌, ℕ, zero, suc, List, [], ◌∷◌, ◌++◌, length, map, Bool, true, false, ◌||◌, refl, sym, ap, ap₂, ◌∙◌, zero-add, arith}
 use Rattle.std.specs.List.{AllZip}
 use Rattle.spec_terms.specs.Term.{Var, apply}
 use Rattle.spec_terms.specs.Variables.{variables, numbered_from, renamed_from, counted_from}

@@ -9,7 +9,7 @@ use Rattle.spec_search.specs.Rows.{reply_of}
 use Rattle.spec_search.specs.Steps as step
 use Rattle.spec_search.specs.Search.{Search, is_selecting, settled, Settling, Selecting, look_at}
 use Rattle.spec_search.specs.Turns as turn
-use Rattle.spec_search.specs.Turns.{Turn, Wrote, with_branches, place_of, older, after_step, after_removal}
+use Rattle.spec_search.specs.Turns.{Turn, Wrote, with_branches, place_of, after_step, after_removal}
 use Rattle.spec_machine.specs.Cells.{One, Value, Stack}
 use Rattle.spec_machine.specs.Standing.{engine, IsContinuation, AreWaiting}
 use Rattle.spec_machine.specs.Coming.{at_once, after, Comes}

@@ -11,7 +11,7 @@ use Rattle.spec_search.specs.Control.{clause_child, clause_items, clause_state, 
 use Rattle.spec_search.specs.Balls as balls
 use Rattle.spec_search.specs.Search.{Search, is_selecting, settled, Settling, Selecting, look_at}
 use Rattle.spec_search.specs.Turns as turn
-use Rattle.spec_search.specs.Turns.{Turn, with_branches, place_of, after_step}
+use Rattle.spec_search.specs.Turns.{with_branches, place_of}
 use Rattle.cq_control.specs.Items.{items_at}
 use Rattle.cq_control.specs.Open.{last}
 use Rattle.spec_machine.specs.declared.cell.Cell.{Cell}
