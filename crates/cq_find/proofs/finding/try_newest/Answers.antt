@@ -24,24 +24,24 @@ returns-in_default-clause-over c = c.requires.over
 
 -- ---- a call
 
-pub returns-in-Ok-try_clauses-clause-next : goal.returns-in-Ok-try_clauses-clause-next
-returns-in-Ok-try_clauses-clause-next c =
-    let done = c.in-Ok-try_clauses.ensures in
+pub returns-in-Ok-clause-next : goal.returns-in-Ok-clause-next
+returns-in-Ok-clause-next c =
+    let done = c.in-Ok.ensures in
     (λ steps ops n s j. done.comes steps (as_database c.args.atoms.now ops c.args.clauses.now) n s j, done.fewer)
 
-pub returns-in-Ok-try_clauses-clause-over : goal.returns-in-Ok-try_clauses-clause-over
-returns-in-Ok-try_clauses-clause-over c = record { program = c.requires.over.program; choices = c.in-Ok-try_clauses.ensures.open }
+pub returns-in-Ok-clause-over : goal.returns-in-Ok-clause-over
+returns-in-Ok-clause-over c = record { program = c.requires.over.program; choices = c.in-Ok.ensures.open }
 
-pub returns-in-Err-try_clauses-clause-err : goal.returns-in-Err-try_clauses-clause-err
-returns-in-Err-try_clauses-clause-err c = λ steps ops n s j. c.in-Err-try_clauses.ensures.err steps (as_database c.args.atoms.now ops c.args.clauses.now) n s j
+pub returns-in-Err-clause-err : goal.returns-in-Err-clause-err
+returns-in-Err-clause-err c = λ steps ops n s j. c.in-Err.ensures.err steps (as_database c.args.atoms.now ops c.args.clauses.now) n s j
 
-pub returns-in-Err-try_clauses-clause-stops : goal.returns-in-Err-try_clauses-clause-stops
-returns-in-Err-try_clauses-clause-stops c = λ ops n s j.
+pub returns-in-Err-clause-stops : goal.returns-in-Err-clause-stops
+returns-in-Err-clause-stops c = λ ops n s j.
     let db = as_database c.args.atoms.now ops c.args.clauses.now in
-    stop_with c.args.world.now.first.store.pivots c.in-Err-try_clauses.fault db s j.database (c.in-Err-try_clauses.ensures.stops db n s j)
+    stop_with c.args.world.now.first.store.pivots c.in-Err.fault db s j.database (c.in-Err.ensures.stops db n s j)
 
-pub returns-in-Err-try_clauses-clause-over : goal.returns-in-Err-try_clauses-clause-over
-returns-in-Err-try_clauses-clause-over c = record { program = c.requires.over.program; choices = c.in-Err-try_clauses.ensures.open }
+pub returns-in-Err-clause-over : goal.returns-in-Err-clause-over
+returns-in-Err-clause-over c = record { program = c.requires.over.program; choices = c.in-Err.ensures.open }
 
 -- ---- a predicate
 
