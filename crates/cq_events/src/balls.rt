@@ -1,4 +1,4 @@
-// The term of an error that nothing catches.
+// The term of an error.
 
 ghost use Rattle.std.specs.Prelude.{◌≡◌, ◌<◌, length, IfOk, OnErr};
 ghost use Rattle.cq_built.specs.Errors.{HasCulprit};
