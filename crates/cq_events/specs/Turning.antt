@@ -92,6 +92,10 @@ IsTold text (Some (Stop cause)) = ⊥
 
 -- ---- balls
 
+-- a ball comes up in front of the continuation: this stands for some items, in front of some branches
+abbrev pub ComesUpOn : Machine → ℕ → Type 0
+ComesUpOn m from = (items : List Item) × (st : State) × (behind : List Branch) × ComesUp m.atoms (holds m) (now m) from items st behind
+
 -- Wherever the ball came up in front of the continuation a catch has it now, and the engine comes back to that; one more goal was selected.
 pub record IsCaught (old new : Engine) (ball : Tree) (from : ℕ) : Type 0 where
   pub caught : (items : List Item) (st : State) (behind : List Branch) → ComesUp old.machine.atoms (holds old.machine) (now old.machine) from items st behind

@@ -3,13 +3,12 @@
 ghost use Rattle.std.specs.Prelude.{◌≡◌, ◌<◌, [], None, Some, length, IfOk, OnErr};
 ghost use Rattle.cq_built.specs.Errors.{HasCulprit};
 ghost use Rattle.cq_term.specs.Trees.{tree};
-ghost use Rattle.cq_balls.specs.Balls.{ComesUpSomewhere};
-ghost use Rattle.cq_machine.specs.Machines.{terms, now, saved, IsSound, StillStands};
+ghost use Rattle.cq_machine.specs.Machines.{terms, now, IsSound, StillStands};
 ghost use Rattle.cq_engine.specs.Fronts.{HasWork};
 ghost use Rattle.cq_engine.specs.Seeking.{IsKept, GainsNames};
 ghost use Rattle.cq_events.specs.Raised.{IsNumbered, ball_by};
 ghost use Rattle.cq_events.specs.Events.{IsRunning, GoesOn, Keeps};
-ghost use Rattle.cq_events.specs.Turning.{HasEnded, IsAsBefore, IsAt, IsRaised, IsThrown, IsTold, Turned};
+ghost use Rattle.cq_events.specs.Turning.{ComesUpOn, HasEnded, IsAsBefore, IsAt, IsRaised, IsThrown, IsTold, Turned};
 
 use crate::balls::build_ball;
 use crate::cells::{Done, execute_cell};
@@ -65,7 +64,7 @@ fn throw(
 ) -> Result<Option<Event>, AllocError>
     requires sound { IsSound e.old.machine }
     requires ball { ball < length (terms e.old.machine) }
-    requires comes_up { ComesUpSomewhere (saved e.old.machine) e.old.machine.choices (now e.old.machine) from }
+    requires comes_up { ComesUpOn e.old.machine from }
     requires few { e.old.selected < e.old.steps }
     ensures thrown { IfOk result (IsThrown e.old e.new (tree e.old.machine.atoms (terms e.old.machine) ball) from) }
     ensures err { OnErr result (e.new ≡ e.old) }
@@ -100,7 +99,7 @@ fn raise(
     requires sound { IsSound e.old.machine }
     requires culprit { HasCulprit e.old.machine.atoms (terms e.old.machine) error }
     requires numbered { IsNumbered e.old.machine.atoms raiser }
-    requires comes_up { ComesUpSomewhere (saved e.old.machine) e.old.machine.choices (now e.old.machine) from }
+    requires comes_up { ComesUpOn e.old.machine from }
     requires few { e.old.selected < e.old.steps }
     ensures thrown { IfOk result (IsRaised e.old e.new (ball_by e.old.machine.atoms (terms e.old.machine) error raiser) from) }
     ensures err { OnErr result (StillStands e.old.machine e.new.machine) }

@@ -23,7 +23,7 @@ use Rattle.cq_transcript.specs.declared.interpreter.Event.{Event}
 use Rattle.cq_transcript.specs.declared.interpreter.Event.TheVariants as event
 use Rattle.cq_interpreter.specs.Counted.{AllCount}
 use Rattle.cq_interpreter.specs.Numbered.{AreNumbered}
-use Rattle.cq_interpreter.specs.Told.{HasTerm, IsTold}
+use Rattle.cq_interpreter.specs.Told.{HasBall, IsTold}
 use Rattle.cq_interpreter.specs.Toplevels.{images, program_of, budgets_of, left_of, IsAsking, HasAnswered}
 use Rattle.cq_interpreter.specs.declared.toplevel.Toplevel.{Toplevel}
 use Rattle.cq_interpreter.proofs.Counting.{told_counts, quietly_counts, answer_counts}
@@ -89,16 +89,17 @@ module _ (old new : Toplevel) (names : new.names.items ≡ old.names.items) (run
       })
   is_event s asking told.Fail g f t =
       subst (IsEvent (budgets_of old) (IsAsking new) (HasAnswered new) (program_of old) (program_of new) s) (sym t) (tells_at s _ g)
-  is_event s asking (told.Ball id) g (event.Ball line) t =
+  is_event s asking (told.Ball stored) g (event.Ball line) t =
       let m = new.engine.machine in (
-        plain_copy (tree m.atoms (terms m) id),
+        g.ball,
         tells_at s _ g.tells,
-        t ∙ ap (λ (d : Database). ball_line d.operators (tree m.atoms (terms m) id)) (sym g.tells.stands.database),
+        t ∙ ap (ball_line (database_of m).operators) g.is_stored.renamed ∙ line_of_renamed (database_of m).operators g.ball.term
+            ∙ ap (λ (d : Database). ball_line d.operators g.ball.term) (sym g.tells.stands.database),
       )
-  is_event s asking (told.Ball id) g (event.Wrote text) t = absurd t
-  is_event s asking (told.Ball id) g event.Answer t = absurd t
-  is_event s asking (told.Ball id) g event.Fail t = absurd t
-  is_event s asking (told.Ball id) g (event.Stop line) t = absurd t
+  is_event s asking (told.Ball stored) g (event.Wrote text) t = absurd t
+  is_event s asking (told.Ball stored) g event.Answer t = absurd t
+  is_event s asking (told.Ball stored) g event.Fail t = absurd t
+  is_event s asking (told.Ball stored) g (event.Stop line) t = absurd t
   is_event s asking (told.Stop cause) g (event.Stop line) t =
       (as_cause cause, record { after = g.last; tells = g.tells; program = λ i. record { database = sym g.database i; later = goals i } }, t)
   is_event s asking (told.Stop cause) g (event.Wrote text) t = absurd t
@@ -111,21 +112,21 @@ module _ (old new : Toplevel) (names : new.names.items ≡ old.names.items) (run
   takes (told.Output text) h same f t = (let within = running.within in subst (TakesFrom (left_of old) (left_of new)) (sym t) (omega (arith, h, same, within)))
   takes told.Answer h same f t = subst (TakesFrom (left_of old) (left_of new)) (sym t) (omega (arith, h, same))
   takes told.Fail h same f t = subst (TakesFrom (left_of old) (left_of new)) (sym t) tt
-  takes (told.Ball id) h same (event.Ball line) t = tt
-  takes (told.Ball id) h same (event.Wrote text) t = absurd t
-  takes (told.Ball id) h same event.Answer t = absurd t
-  takes (told.Ball id) h same event.Fail t = absurd t
-  takes (told.Ball id) h same (event.Stop line) t = absurd t
+  takes (told.Ball stored) h same (event.Ball line) t = tt
+  takes (told.Ball stored) h same (event.Wrote text) t = absurd t
+  takes (told.Ball stored) h same event.Answer t = absurd t
+  takes (told.Ball stored) h same event.Fail t = absurd t
+  takes (told.Ball stored) h same (event.Stop line) t = absurd t
   takes (told.Stop cause) h same (event.Stop line) t = tt
   takes (told.Stop cause) h same (event.Wrote text) t = absurd t
   takes (told.Stop cause) h same event.Answer t = absurd t
   takes (told.Stop cause) h same event.Fail t = absurd t
   takes (told.Stop cause) h same (event.Ball line) t = absurd t
 
--- the term of a ball that is told is there
-pub term_there : (b : Budgets) (e : Engine) (s : Search) (what : events.Event) → Gives b e what s → HasTerm e.machine what
-term_there b e s (told.Ball id) g = (g.live, g.sound.names)
-term_there b e s told.Answer g = tt
-term_there b e s (told.Output text) g = tt
-term_there b e s told.Fail g = tt
-term_there b e s (told.Stop cause) g = tt
+-- the names of a ball that is told have texts
+pub ball_there : (b : Budgets) (e : Engine) (s : Search) (what : events.Event) → Gives b e what s → HasBall e.machine what
+ball_there b e s (told.Ball stored) g = g.counted.below
+ball_there b e s told.Answer g = tt
+ball_there b e s (told.Output text) g = tt
+ball_there b e s told.Fail g = tt
+ball_there b e s (told.Stop cause) g = tt
