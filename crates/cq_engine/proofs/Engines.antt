@@ -34,6 +34,15 @@ use Rattle.cq_engine.proofs.Told.{quietly_then, told_then, ends_told, answer_tol
 
 -- ---- a machine that gains names
 
+pub gains_on : (a b c : Machine) → GainsNames a b → GainsNames b c → GainsNames a c
+gains_on a b c f g = record {
+  atoms = prefix_both a.atoms b.atoms c.atoms f.atoms g.atoms;
+  names = g.names ∙ f.names;
+  ops = g.ops ∙ f.ops;
+  clauses = g.clauses ∙ f.clauses;
+  database = g.database ∙ f.database;
+}
+
 pub keeps_on : (a b c : Machine) → KeepsNames a b → GainsNames b c → KeepsNames a c
 keeps_on a b c f g = record {
   atoms = prefix_both a.atoms b.atoms c.atoms f.atoms g.atoms;

@@ -61,14 +61,6 @@ IsFrontOf budgets m n Fail s = Ends budgets m n s
 IsFrontOf budgets m n (Escapes ball) s = Throws budgets m n ball s
 IsFrontOf budgets m n (Stop c) s = Halts budgets (as_cause c) m n s
 
--- what it goes on with there
-abbrev pub goes_on : Front → Option ℕ
-goes_on (Ahead k) = Some k
-goes_on Answer = None
-goes_on Fail = None
-goes_on (Escapes ball) = None
-goes_on (Stop c) = None
-
 -- this is a goal
 abbrev pub IsGoal : Cell → Type 0
 IsGoal (Goal t height) = ⊤

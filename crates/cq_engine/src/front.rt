@@ -8,7 +8,7 @@ ghost use Rattle.cq_control.specs.Items.{items_at};
 ghost use Rattle.cq_gather.specs.Gathering.{IsMark};
 ghost use Rattle.cq_machine.specs.Machines.{IsSound, holds, now};
 ghost use Rattle.cq_steps.specs.Marks.{IsFront};
-ghost use Rattle.cq_engine.specs.Fronts.{ComesNext, IsAhead, IsFrontOf, IsGoal, goes_on, left_on};
+ghost use Rattle.cq_engine.specs.Fronts.{ComesNext, IsAhead, IsFrontOf, IsGoal, left_on};
 ghost use Rattle.cq_engine.specs.Seeking.{IsKept, IsGoing, GoesTo, StandsFor, GainsNames, KeepsNames};
 
 use crate::seeking::seek;
@@ -171,8 +171,8 @@ fn gather(m: &mut Machine, k: Continuation) -> Result<(), AllocError>
 }
 
 /// An engine that selected so many goals, of which it may select `steps`, goes on to the next one, or to what the query tells
-/// before; copies are gathered at the marks of findalls, and clauses that a goal removes are gone then. An error is want of memory, and
-/// another call goes on from where the engine is then.
+/// before; copies are gathered at the marks of findalls, and clauses that a goal removes are gone then. An error is want of memory:
+/// another call goes on with what `current` is then.
 pub fn look(
     m: &mut Machine,
     selected: u64,
@@ -185,7 +185,6 @@ pub fn look(
     ensures front { IfOk result (λ f. (budgets : Budgets) → budgets.steps ≡ steps → budgets.pivots ≡ m.old.world.first.store.pivots
         → (s : Search) → StandsFor m.old selected current.old s → IsFrontOf budgets m.new selected f s) }
     ensures ahead { IfOk result (IsAhead steps selected m.new) }
-    ensures current { IfOk result (λ f. current.new ≡ goes_on f) }
     ensures err { OnErr result (GoesTo m.old current.old m.new current.new) }
     ensures kept { IsKept m.new }
     ensures program { KeepsNames m.old m.new }
@@ -196,10 +195,7 @@ pub fn look(
         *current = None;
         match look_once(m, selected, steps, start) {
             Ok(next) => match next {
-                Next::Told(front) => {
-                    *current = goes_on(&front);
-                    return Ok(front);
-                }
+                Next::Told(front) => return Ok(front),
                 Next::Mark(k) => {
                     *current = Some(k);
                     gather(m, k)?;
@@ -208,18 +204,5 @@ pub fn look(
             },
             Err(fault) => return Err(fault),
         }
-    }
-}
-
-/// What an engine goes on with there: with the goal in front, or it comes back to its newest choice.
-fn goes_on(front: &Front) -> Option<Continuation>
-    ensures { result ≡ goes_on front.now }
-{
-    match front {
-        Front::Ahead(k) => Some(*k),
-        Front::Answer => None,
-        Front::Fail => None,
-        Front::Escapes(_) => None,
-        Front::Stop(_) => None,
     }
 }

@@ -167,17 +167,25 @@ pub(crate) fn turn(e: &mut Engine) -> Result<Option<Event>, AllocError>
     ensures running { IsRunning e.new }
     ensures keeps { Keeps e.old e.new }
 {
-    match look(&mut e.machine, e.selected, e.steps, &mut e.current) {
+    let mut current = e.current;
+    e.current = None;
+    match look(&mut e.machine, e.selected, e.steps, &mut current) {
         Ok(front) => match front {
-            Front::Ahead(k) => match select(e, k) {
-                Ok(told) => Ok(told),
-                Err(fault) => Err(fault),
-            },
+            Front::Ahead(k) => {
+                e.current = Some(k);
+                match select(e, k) {
+                    Ok(told) => Ok(told),
+                    Err(fault) => Err(fault),
+                }
+            }
             Front::Answer => Ok(Some(Event::Answer)),
             Front::Fail => Ok(Some(Event::Fail)),
             Front::Escapes(ball) => Ok(Some(Event::Ball(ball))),
             Front::Stop(cause) => Ok(Some(Event::Stop(cause))),
         },
-        Err(fault) => Err(fault),
+        Err(fault) => {
+            e.current = current;
+            Err(fault)
+        }
     }
 }
