@@ -4,14 +4,13 @@ use Rattle.std.specs.Prelude.{All}
 use Rattle.std.proofs.lemmas.List.Elements.{All-weaker}
 use Rattle.spec_echelon.specs.Echelon.{AreDistinct}
 use Rattle.spec_terms.specs.VariableName.{VariableName}
-use Rattle.spec_branch.specs.Branch.{plain_copy}
 use Rattle.spec_search.specs.Database.{Database}
 use Rattle.spec_search.specs.Search.{Search}
 use Rattle.spec_stops.specs.Causes.{Budgets}
 use Rattle.spec_machine.specs.Coming.{Told}
 use Rattle.spec_transcript.specs.Purposes.{ball_line}
-use Rattle.cq_term.specs.Trees.{tree}
-use Rattle.cq_machine.specs.Machines.{database_of, terms}
+use Rattle.cq_interpreter.proofs.Renumbered.{line_of_renamed}
+use Rattle.cq_machine.specs.Machines.{database_of}
 use Rattle.cq_engine.specs.Fronts.{as_cause}
 use Rattle.cq_events.specs.Events as engine
 use Rattle.cq_events.specs.Events.{IsRunning, HasBudgets, Stands, Gives, GivesNext, HasCounted}
