@@ -1,3 +1,4 @@
 mod Behind
 mod Stored
 mod Changed
+mod Asked

@@ -40,7 +40,8 @@ fn body_of(m: &mut Machine, body: Option<TermId>) -> Result<TermId, AllocError>
         Some(body) => Ok(body),
         None => {
             let name = m.names.truth;
-            build(m, name, &[])
+            let truth = build(m, name, &[])?;
+            Ok(truth)
         }
     }
 }
