@@ -50,6 +50,12 @@ keeps_on a b c f g = record {
   ops = g.ops ∙ f.ops;
 }
 
+pub keeps_both : (a b c : Machine) → KeepsNames a b → KeepsNames b c → KeepsNames a c
+keeps_both a b c f g = record { atoms = prefix_both a.atoms b.atoms c.atoms f.atoms g.atoms; names = g.names ∙ f.names; ops = g.ops ∙ f.ops }
+
+pub keeps_none : (m : Machine) → KeepsNames m m
+keeps_none m = record { atoms = prefix_same m.atoms m.atoms refl; names = refl; ops = refl }
+
 -- ---- a machine that goes on
 
 -- the terms of its world are known

@@ -39,10 +39,12 @@ module _ (old new : Machine) (start : Option ℕ) (same : operators new.atoms ne
   found_over kept w (found.Front k) h =
       let goes = goes_over (Some k) h.0 in
       (goes, h.1, sound_where new kept (names_known new k (going_on old new start (Some k) goes w)))
-  found_over kept w (found.Escaped ball) h =
-      (λ budgets n s j.
-      subst (λ (o : Ops). Escapes budgets new.clauses (held_on new) ball (as_database new.atoms o new.clauses) n s) (sym same) (h.0 budgets (operators old.atoms old.ops) n s j),
-      h.1, holds_none new h.2)
+  found_over kept w (found.Escaped ball) h = (
+    λ budgets n s j.
+        subst (λ (o : Ops). Escapes budgets new.clauses (held_on new) ball (as_database new.atoms o new.clauses) n s) (sym same) (h.0 budgets (operators old.atoms old.ops) n s j),
+    h.1,
+    holds_none new h.2,
+  )
   found_over kept w found.Over h = (goes_over None h.0, holds_none new h.1)
 
   pub all_found : IsKept new → IsGoing old start → (r : Result Found StoreFault) → IfOk r (FoundIs old.clauses (held_on old) start new.clauses (held_on new)) → IfOk r (FindsOn old start new)

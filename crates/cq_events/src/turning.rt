@@ -57,11 +57,7 @@ fn advance(e: &mut Engine, next: Option<Continuation>, output: Vec<u8>) -> Optio
 
 /// A ball comes up in front of a continuation, where one more goal was selected. The nearest catch has it then, and the engine comes back
 /// to that; where nothing catches it, it is told, and no branch is left. After want of memory nothing has changed.
-fn throw(
-    e: &mut Engine,
-    ball: TermId,
-    from: Continuation,
-) -> Result<Option<Event>, AllocError>
+fn throw(e: &mut Engine, ball: TermId, from: Continuation) -> Result<Option<Event>, AllocError>
     requires sound { IsSound e.old.machine }
     requires ball { ball < length (terms e.old.machine) }
     requires comes_up { ComesUpOn e.old.machine from }

@@ -26,7 +26,12 @@ pub(crate) fn ball_line(machine: &Machine, ball: TermId) -> Result<Vec<u8>, Allo
     requires names { KnowsTerms machine.now.atoms (terms machine.now) }
     ensures { IfOk result (λ line. line.items ≡ ball_line (database_of machine.now).operators (tree machine.now.atoms (terms machine.now) ball)) }
 {
-    line_on(&machine.world.first.heap, &machine.atoms, &machine.ops, ball)
+    line_on(
+        &machine.world.first.heap,
+        &machine.atoms,
+        &machine.ops,
+        ball,
+    )
 }
 
 /// The line of a ball that nothing catches, as it is stored.

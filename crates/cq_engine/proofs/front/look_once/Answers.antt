@@ -29,29 +29,32 @@ returns-in-Escaped-clause-next c =
 
 pub returns-in-Over-clause-next : goal.returns-in-Over-clause-next
 returns-in-Over-clause-next c =
-    let f = rw c.in-Over.is at c.in-Ok.ensures.found in
-    (λ budgets e b s j.
-    look_front budgets c.args.m.now c.seek.new.m c.seek.new.m c.args.selected c.args.start None Fail s f.0
-    (λ r k. ends_next budgets c.seek.new.m c.args.selected r f.1 k) j,
-    tt)
+    let f = rw c.in-Over.is at c.in-Ok.ensures.found in (
+      λ budgets e b s j.
+          look_front budgets c.args.m.now c.seek.new.m c.seek.new.m c.args.selected c.args.start None Fail s f.0
+          (λ r k. ends_next budgets c.seek.new.m c.args.selected r f.1 k) j,
+      tt,
+    )
 
 pub returns-in-Err-Overflow-clause-next : goal.returns-in-Err-Overflow-clause-next
-returns-in-Err-Overflow-clause-next c =
-    (λ budgets e b s j.
-    halts_next budgets c.seek.new.m c.halt.new.m c.args.selected s (why.Overflow c.in-Err-Overflow.pair) tt c.halt.ensures.program c.halt.ensures.none_left j.selected
-    ((rw c.in-Err-Overflow.field-0-is at c.in-Err-Overflow.ensures.stops) c.args.selected s j (selecting_none budgets) b),
-    tt)
+returns-in-Err-Overflow-clause-next c = (
+  λ budgets e b s j.
+      halts_next budgets c.seek.new.m c.halt.new.m c.args.selected s (why.Overflow c.in-Err-Overflow.pair) tt c.halt.ensures.program c.halt.ensures.none_left j.selected
+      ((rw c.in-Err-Overflow.field-0-is at c.in-Err-Overflow.ensures.stops) c.args.selected s j (selecting_none budgets) b),
+  tt,
+)
 
 pub returns-in-Err-Overflow-clause-program : goal.returns-in-Err-Overflow-clause-program
 returns-in-Err-Overflow-clause-program c = keeps_on c.args.m.now c.seek.new.m c.halt.new.m c.seek.ensures.program c.halt.ensures.program
 
 pub returns-in-Err-Pivots-clause-next : goal.returns-in-Err-Pivots-clause-next
-returns-in-Err-Pivots-clause-next c =
-    (λ budgets e b s j.
-    halts_next budgets c.seek.new.m c.halt-in-Err-Pivots.new.m c.args.selected s (why.Pivots c.in-Err-Pivots.exchanges) tt c.halt-in-Err-Pivots.ensures.program
-    c.halt-in-Err-Pivots.ensures.none_left j.selected
-    ((rw c.in-Err-Pivots.field-0-is at c.in-Err-Pivots.ensures.stops) c.args.selected s j (selecting_none budgets) b),
-    tt)
+returns-in-Err-Pivots-clause-next c = (
+  λ budgets e b s j.
+      halts_next budgets c.seek.new.m c.halt-in-Err-Pivots.new.m c.args.selected s (why.Pivots c.in-Err-Pivots.exchanges) tt c.halt-in-Err-Pivots.ensures.program
+      c.halt-in-Err-Pivots.ensures.none_left j.selected
+      ((rw c.in-Err-Pivots.field-0-is at c.in-Err-Pivots.ensures.stops) c.args.selected s j (selecting_none budgets) b),
+  tt,
+)
 
 pub returns-in-Err-Pivots-clause-program : goal.returns-in-Err-Pivots-clause-program
 returns-in-Err-Pivots-clause-program c = keeps_on c.args.m.now c.seek.new.m c.halt-in-Err-Pivots.new.m c.seek.ensures.program c.halt-in-Err-Pivots.ensures.program

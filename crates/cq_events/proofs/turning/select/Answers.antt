@@ -173,9 +173,12 @@ module _ (e : Engine) (m : Machine) (k rest : ℕ) (d : Done) (at : e.current �
 up_behind : (e : Engine) (m : Machine) (k rest : ℕ) (d : Done) → IsRunning e → e.current ≡ Some k → StillStands e.machine m
     → ((n : ℕ) (s : Search) → StandsFor e.machine n (Some k) s → Reached e.machine m n rest d s) → ComesUpOn m rest
 up_behind e m k rest d run at still row =
-    let x = (row e.selected run.search (at_k e k run.search at run.stands)).next in
-    (x.items, x.state, x.behind,
-    up_still e.machine m still rest x.items x.state x.behind (record { continuation = x.placed.0.continuation; waiting = x.placed.1 }))
+    let x = (row e.selected run.search (at_k e k run.search at run.stands)).next in (
+      x.items,
+      x.state,
+      x.behind,
+      up_still e.machine m still rest x.items x.state x.behind (record { continuation = x.placed.0.continuation; waiting = x.placed.1 }),
+    )
 
 still_by : (e : Engine) (m : Machine) (s t : Step) → s ≡ t → OnRaises s (StillStands e.machine m) → OnRaises t (StillStands e.machine m)
 still_by e m s t is h = subst (λ (u : Step). OnRaises u (StillStands e.machine m)) is h

@@ -1,10 +1,7 @@
-use Rattle.std.proofs.Common.{◌≡◌, Bool, true, false, sym, ap, ◌∙◌}
-use Rattle.spec_terms.specs.Term.{Var, Number, Name, Compound}
+use Rattle.std.proofs.Common.{◌≡◌, sym, ap, ◌∙◌, subst}
 use Rattle.spec_syntax.specs.Trees.{Tree}
-use Rattle.spec_built.specs.Errors.{instantiation}
-use Rattle.spec_built.specs.Kinds.{is_variable}
+use Rattle.spec_branch.specs.Branch.{read}
 use Rattle.spec_search.specs.Control.{throw_row}
-use Rattle.spec_search.specs.Replies.{Place, Raises, Throws}
 use Rattle.cq_term.specs.Trees.{tree}
 use Rattle.cq_steps.proofs.Arguments.{argument_reads}
 use Rattle.cq_machine.specs.Machines.{terms, now}
@@ -25,5 +22,5 @@ returns-else-is_variable-clause-row c = λ height rest p behind g s.
     let r = argument_reads m.atoms (now m).0 p.state c.args.goal 0 c.arg-ball.result g s.reads c.arg-ball.ensures.live c.arg-ball.ensures.arg in
     record {
       is = ap (throw_row p) (sym a) ∙ throws_other p (tree m.atoms (terms m) c.arg-ball.result) (sym (c.is_variable.ensures m.atoms) ∙ c.if-is_variable.false);
-      reads = rw a at r.1;
+      reads = subst (λ (t : Tree). read p.state t ≡ t) (sym a) r.1;
     }
