@@ -1,5 +1,5 @@
 -- What an engine tells is what its interpreter tells.
-use Rattle.std.proofs.Common.{◌≡◌, ℕ, ◌<◌, List, length, map, refl, sym, ap, ◌∙◌, subst, arith}
+use Rattle.std.proofs.Common.{◌≡◌, ℕ, ◌<◌, ◌++◌, List, codes, length, map, refl, sym, ap, ◌∙◌, subst, arith}
 use Rattle.std.specs.Prelude.{All}
 use Rattle.std.proofs.lemmas.List.Elements.{All-weaker}
 use Rattle.spec_echelon.specs.Echelon.{AreDistinct}
@@ -9,7 +9,12 @@ use Rattle.spec_search.specs.Search.{Search}
 use Rattle.spec_stops.specs.Causes.{Budgets}
 use Rattle.spec_machine.specs.Coming.{Told}
 use Rattle.spec_transcript.specs.Purposes.{ball_line}
-use Rattle.cq_interpreter.proofs.Renumbered.{line_of_renamed}
+use Rattle.spec_lists.specs.Texts.{Text}
+use Rattle.spec_operators.specs.Operators.{Ops}
+use Rattle.spec_renumbered.proofs.Names.{written_same}
+use Rattle.spec_syntax.specs.Trees.{Tree}
+use Rattle.spec_terms.specs.Variables.{renamed_from}
+use Rattle.spec_writing.specs.declared.Style.TheVariants.{Quoted}
 use Rattle.cq_machine.specs.Machines.{database_of}
 use Rattle.cq_engine.specs.Fronts.{as_cause}
 use Rattle.cq_events.specs.Events as engine
@@ -27,6 +32,10 @@ use Rattle.cq_interpreter.specs.Toplevels.{images, program_of, budgets_of, left_
 use Rattle.cq_interpreter.specs.declared.toplevel.Toplevel.{Toplevel}
 use Rattle.cq_interpreter.proofs.Counting.{told_counts, quietly_counts, answer_counts}
 use Rattle.cq_interpreter.proofs.Naming.{all_below, distinct}
+
+-- the line of a ball says nothing of the numbers of its variables
+line_of_renamed : (ops : Ops) (t : Tree) → ball_line ops (renamed_from 0 t) ≡ ball_line ops t
+line_of_renamed ops t = ap (λ (x : Text). codes "error: " ++ x ++ codes "\n") (written_same Quoted ops 1200 t)
 
 pub its_budgets : (t : Toplevel) (s : Search) → IsAsking t s → HasBudgets (budgets_of t) t.engine
 its_budgets t s asking = record { steps = sym asking.steps; pivots = refl }

@@ -1,2 +1,2 @@
 mod Pieces
-mod Names
+pub mod Names

@@ -84,15 +84,16 @@ place_counted n (suc k) zero l = rw (eq-eqb n (n + 0) (omega arith)) refl
 place_counted n (suc k) (suc m) l =
     let differs : n == n + suc m ≡ false = ne_eqb n (n + suc m) (λ e. omega (arith, e)) in
     let shifted : n + suc m ≡ suc n + m = omega arith in
-    rw differs (ap suc (ap (λ (i : ℕ). position_or_len (λ w. w == i) (counted_from (suc n) k)) shifted ∙ place_counted (suc n) k m (omega (arith, l))))
+    let next : 1 + position_or_len (λ w. w == n + suc m) (counted_from (suc n) k) ≡ suc (position_or_len (λ w. w == n + suc m) (counted_from (suc n) k)) = omega arith in
+    rw differs (next ∙ ap suc (ap (λ (i : ℕ). position_or_len (λ w. w == i) (counted_from (suc n) k)) shifted ∙ place_counted (suc n) k m (omega (arith, l))))
 
 place_within : (v : ℕ) (vs : List ℕ) → position_or_len (λ w. w == v) vs ≤ length vs
 place_within v [] = omega arith
-place_within v (x ∷ vs) = go (x == v) (place_within v vs)
+place_within v (x ∷ vs) = go (x == v) refl (place_within v vs)
   where
-    go : (b : Bool) → position_or_len (λ w. w == v) vs ≤ length vs → cond b 0 (suc (position_or_len (λ w. w == v) vs)) ≤ suc (length vs)
-    go true l = omega arith
-    go false l = omega (arith, l)
+    go : (b : Bool) → (x == v) ≡ b → position_or_len (λ w. w == v) vs ≤ length vs → position_or_len (λ w. w == v) (x ∷ vs) ≤ suc (length vs)
+    go true e l = rw e (omega arith)
+    go false e l = rw e (omega (arith, l))
 
 none_named : (vs : List ℕ) → filter (is_unnamed []) vs ≡ vs
 none_named [] = refl

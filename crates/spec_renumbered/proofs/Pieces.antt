@@ -232,8 +232,8 @@ module _ (f : ℕ → ℕ) where
       ∙ placed_others ops place (Compound g (more a (one b))) (infix_pieces ops (ops.infixed g) g a b ps qs)
 
   mutual
+    unfolding pieces_at argument_pieces
     pub pieces_others : (ops : Ops) (place : Place) (t : Tree) → pieces_at ops place (apply other t) ≡ others (pieces_at ops place t)
-    unfolding pieces_at
     pieces_others ops place (Var v) = placed_others ops place (Var v) (piece (Variable v) ∷ [])
     pieces_others ops place (Number q) =
         ap (placed ops place (Number q)) (numbers_stay (is_negative q) q) ∙ placed_others ops place (Number q) (number_pieces (is_negative q) q)
@@ -259,7 +259,6 @@ module _ (f : ℕ → ℕ) where
         ∙ placed_others ops place (Compound g (more a (more b cs))) (functional g whole)
 
     arguments_others : (ops : Ops) (ts : Terms Text) → argument_pieces ops (apply_all other ts) ≡ others (argument_pieces ops ts)
-    unfolding pieces_at argument_pieces
     arguments_others ops (one a) = ap (as_argument ops (apply other a)) (pieces_others ops Alone a) ∙ as_others ops a (pieces_at ops Alone a)
     arguments_others ops (more a ts) =
         let ps = pieces_at ops Alone a in
