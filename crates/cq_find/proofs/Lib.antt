@@ -1,2 +1,2 @@
-mod Counted
+pub mod Counted
 mod Going

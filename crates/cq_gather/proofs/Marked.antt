@@ -1,5 +1,5 @@
 -- The mark of a findall in front: the choice at its height gathers one more copy.
-use Rattle.std.proofs.Common.{◌≡◌, ◌<◌, ℕ, List, [], ◌∷◌, ◌++◌, length, None, Some, refl, sym, ap, ◌∙◌, subst, arith}
+use Rattle.std.proofs.Common.{◌≡◌, ◌<◌, ◌+◌, ℕ, List, [], ◌∷◌, ◌++◌, length, map, None, Some, refl, sym, ap, ◌∙◌, subst, arith}
 use Rattle.std.specs.Prelude.{All}
 use Rattle.std.specs.List.{AllByRecursion}
 use Rattle.std.proofs.lemmas.List.Elements.{All-push}
@@ -7,6 +7,7 @@ use Rattle.spec_lists.specs.Texts.{Text}
 use Rattle.spec_terms.specs.Variables.{renamed_from}
 use Rattle.spec_search.specs.Database.{Database}
 use Rattle.spec_search.specs.Search.{Search}
+use Rattle.cq_control.specs.Heights.{total}
 use Rattle.cq_control.specs.Items.{items_at}
 use Rattle.cq_control.specs.Open.{AreMarked, last, open_choices}
 use Rattle.cq_control.proofs.Opened.{open-around}
@@ -15,10 +16,10 @@ use Rattle.cq_stored.specs.StoredValue.{StoredValue}
 use Rattle.cq_term.specs.Meaning.{at}
 use Rattle.cq_world.specs.Contents.{Contents}
 use Rattle.spec_machine.specs.declared.cell.Cell.TheVariants.{Collect}
-use Rattle.spec_machine.specs.Cells.{GathersAt, Value}
+use Rattle.spec_machine.specs.Cells.{GathersAt, Value, size}
 use Rattle.cq_steps.specs.Choices.{AreOpen, CanBeTried}
 use Rattle.cq_steps.specs.Stored.{IsCountedTerm}
-use Rattle.cq_steps.specs.Worlds.{stack, Stands, IsWorking, Arrives}
+use Rattle.cq_steps.specs.Worlds.{stack, left_at, left_of, Stands, IsWorking, Arrives}
 use Rattle.cq_steps.specs.declared.alternatives.Alternatives.{Alternatives}
 use Rattle.cq_steps.specs.declared.alternatives.Alternatives.TheVariants.{Gathers}
 use Rattle.cq_steps.proofs.Done.{length-stack}
@@ -88,3 +89,22 @@ module _ (texts : List Text) (v : Program) where
       let more : All (IsCountedTerm (length texts)) h.copies → All (IsCountedTerm (length texts)) (h.copies ++ copy ∷ []) =
       λ all. All-push (IsCountedTerm (length texts)) h.copies copy all counted in
       subst Each (sym g.1) (subst Open (sym (a.4 y)) (open_other a.0 a.1 a.2 x y more was))
+
+-- ---- choices stand for as many branches
+
+module _ (texts : List Text) (v : Program) where
+  total_other : (front below : Opened) (value : Value Contents) (x y : Alternatives) → size (left_of texts v value.0.heap.terms x) ≡ size (left_of texts v value.0.heap.terms y)
+      → total size (map (left_at texts v) (front ++ (value, x) ∷ below)) ≡ total size (map (left_at texts v) (front ++ (value, y) ∷ below))
+  total_other [] below value x y e = ap (λ (n : ℕ). n + total size (map (left_at texts v) below)) e
+  total_other (d ∷ front) below value x y e = ap (λ (n : ℕ). size (left_of texts v d.0.0.heap.terms d.1) + n) (total_other front below value x y e)
+
+  pub total_gathered : (saved : List (Value Contents)) (choices after : List Alternatives) (height : ℕ) (copy : StoredValue) → AreMarked saved choices
+      → GathersMore choices height copy after → total size (stack texts v saved after) ≡ total size (stack texts v saved choices)
+  total_gathered saved choices after height copy marked g =
+      let h = g.0 in
+      let x = Gathers h.list h.copies h.rest in
+      let y = Gathers h.list (h.copies ++ copy ∷ []) h.rest in
+      let a = open-around saved h.newer h.older x (marked ∙ ap length h.are) in
+      let count : List Alternatives → ℕ = λ cs. total size (stack texts v saved cs) in
+      let opened : Opened → ℕ = λ os. total size (map (left_at texts v) os) in
+      ap count g.1 ∙ ap opened (a.4 y) ∙ total_other a.0 a.1 a.2 y x refl ∙ ap opened (sym (a.4 x)) ∙ ap count (sym h.are)

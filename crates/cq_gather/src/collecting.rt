@@ -4,12 +4,14 @@ ghost use Rattle.std.specs.Prelude.{◌≡◌, ℕ, List, None, Some, OnOk, OnEr
 ghost use Rattle.spec_lists.specs.Texts.{Text};
 ghost use Rattle.spec_search.specs.Database.{Database};
 ghost use Rattle.spec_search.specs.Search.{Search};
+ghost use Rattle.cq_control.specs.Heights.{total};
 ghost use Rattle.cq_control.specs.Items.{items_at};
 ghost use Rattle.cq_control.specs.Open.{AreMarked};
+ghost use Rattle.spec_machine.specs.Cells.{size};
 ghost use Rattle.cq_program.specs.Database.{Program};
 ghost use Rattle.cq_term.specs.Trees.{KnowsTerms};
 ghost use Rattle.cq_steps.specs.Choices.{AreOpen};
-ghost use Rattle.cq_steps.specs.Worlds.{value, saved_values, Stands, IsWorking, Arrives};
+ghost use Rattle.cq_steps.specs.Worlds.{value, saved_values, stack, Stands, IsWorking, Arrives};
 ghost use Rattle.cq_gather.specs.Gathering.{IsMark, GathersThere, GathersMore};
 
 use cq_control::{Choices, Continuation};
@@ -31,6 +33,9 @@ pub fn collect(
     ensures comes { OnOk result ((steps : ℕ) (texts : List Text) (v : Program) (db : Database) (n : ℕ) (s : Search)
         → Stands texts v db n (saved_values world.now.first world.now.second.saved) choices.old (value world.now.first world.now.second.now) (Some front) s
         → Arrives steps texts v db n (saved_values world.now.first world.now.second.saved) choices.new (value world.now.first world.now.second.now) None s) }
+    ensures as_many { OnOk result ((texts : List Text) (v : Program)
+        → total size (stack texts v (saved_values world.now.first world.now.second.saved) choices.new)
+        ≡ total size (stack texts v (saved_values world.now.first world.now.second.saved) choices.old)) }
     ensures err { OnErr result (choices.new ≡ choices.old) }
     ensures open { (texts : List Text) (v : Program) → KnowsTerms texts world.now.first.heap.now.terms
         → AreOpen texts v (saved_values world.now.first world.now.second.saved) choices.old

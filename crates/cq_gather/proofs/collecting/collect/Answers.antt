@@ -4,7 +4,7 @@ use Rattle.cq_steps.specs.Choices.{AreOpen}
 use Rattle.cq_steps.specs.Worlds.{value, saved_values}
 use Rattle.cq_steps.specs.declared.alternatives.Alternatives.{Alternatives}
 use Rattle.cq_steps.proofs.Copied.{copy_counted}
-use Rattle.cq_gather.proofs.Marked.{template_there, gathers_at_mark, collects, open_gathered}
+use Rattle.cq_gather.proofs.Marked.{template_there, gathers_at_mark, collects, open_gathered, total_gathered}
 use Rattle.cq_gather.proofs.Places.{on_ok, on_both}
 use Rattle.cq_gather.proofs.collecting.collect.Goals as goal
 
@@ -36,3 +36,10 @@ returns-clause-open c = λ texts v known o.
     on_both c.gather_at.result
     (λ g. open_gathered texts v saved c.args.choices.now c.gather_at.new.choices c.in-Collect.height c.in_ok-copy.copy c.requires.marked g counted o)
     (λ e. subst (λ (cs : List Alternatives). AreOpen texts v saved cs) (sym e) o) c.gather_at.ensures.ok c.gather_at.ensures.err
+
+pub returns-clause-as_many : goal.returns-clause-as_many
+returns-clause-as_many c =
+    let saved = saved_values c.args.world.now.first c.args.world.now.second.saved in
+    on_ok c.gather_at.result
+    (λ g texts v. total_gathered texts v saved c.args.choices.now c.gather_at.new.choices c.in-Collect.height c.in_ok-copy.copy c.requires.marked g)
+    c.gather_at.ensures.ok
