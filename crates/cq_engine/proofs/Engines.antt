@@ -10,6 +10,8 @@ use Rattle.spec_search.specs.Turns.{with_branches}
 use Rattle.spec_stops.specs.Causes.{Budgets, Cause, Resolutions}
 use Rattle.cq_control.specs.Items.{items_at}
 use Rattle.cq_control.specs.Open.{last}
+use Rattle.cq_gather.specs.Gathering.{IsMark}
+use Rattle.cq_steps.specs.Marks.{IsFront}
 use Rattle.cq_steps.specs.Worlds.{IsBranch, term_in, left_at}
 use Rattle.cq_steps.proofs.Selected.{goal_selected, call_selected}
 use Rattle.cq_world.specs.Contents.{Contents}
@@ -120,6 +122,9 @@ module _ (texts : List Text) (db : Database) (n : ℕ) (choices : Stack Contents
   goal_next (CatchEnd height c r) e g = absurd g
   goal_next (Collect height t) e g = absurd g
 
+pub mark_next : (cs cells : List Cell) (cell : Cell) → cs ≡ cell ∷ cells → (IsFront (cell ∷ cells) → IsMark (cell ∷ cells)) → IsFront cs → IsMark cs
+mark_next cs cells cell e f front = subst IsMark (sym e) (f (subst IsFront e front))
+
 pub stops_out : (budgets : Budgets) (s : Search) → is_selecting (look_at s.branches) ≡ true → s.selected ≡ budgets.steps
     → Tells budgets s (Stops (Resolutions budgets.steps)) (with_branches [] s)
 stops_out budgets s next many = coming.stops coming.at_once (coming.runs_out next many)
@@ -194,7 +199,7 @@ pub next_then : (old mid new : Machine) (start current : Option ℕ) (steps n : 
     → ComesNext mid current steps n new x → ComesNext old start steps n new x
 next_then old mid new start current steps n (Told f) e g h =
     (λ budgets a b s j. look_front budgets old mid new n start current f s g (λ r k. h.0 budgets a (b ∙ sym e) r k) j, h.1)
-next_then old mid new start current steps n (Mark k) e g h = (goes_then old mid new start current (Some k) g h.0, h.1)
+next_then old mid new start current steps n (Mark k) e g h = (goes_then old mid new start current (Some k) g h.0, h.1, h.2)
 
 -- ---- how many branches are left
 
@@ -203,7 +208,7 @@ module _ (m : Machine) (n : ℕ) (current : Option ℕ) (s : Search) (j : Stands
   left_is = standing_count (IsBranch m.atoms) (term_in m.atoms) (engine (database_of m) n (holds m) (now m) current) s j ∙ by_current current
     where
       by_current : (k : Option ℕ) → in_hand k + total size (holds m) ≡ left_on m k
-      by_current None = refl
+      by_current None = omega arith
       by_current (Some k) = omega arith
 
 -- where no goal is selected none is added

@@ -1,5 +1,6 @@
 use Rattle.std.proofs.Common.{Some}
-use Rattle.cq_engine.proofs.Engines.{kept_where, answers_next, halts_out, gains_none, comes_at_once}
+use Rattle.cq_control.specs.Items.{items_at}
+use Rattle.cq_engine.proofs.Engines.{kept_where, answers_next, halts_out, gains_none, comes_at_once, mark_next}
 use Rattle.cq_engine.proofs.front.at_front.Goals as goal
 
 pub first-requires : goal.first-requires
@@ -14,11 +15,12 @@ returns-in_default-clause-kept c = kept_where c.args.m.now c.requires.sound
 pub returns-in_default-clause-program : goal.returns-in_default-clause-program
 returns-in_default-clause-program c = gains_none c.args.m.now
 
-pub returns-then-is_goal-clause-next : goal.returns-then-is_goal-clause-next
-returns-then-is_goal-clause-next c = (
+pub returns-then-not-is_goal-clause-next : goal.returns-then-not-is_goal-clause-next
+returns-then-not-is_goal-clause-next c = (
   λ steps n s j. comes_at_once c.args.m.now steps n (Some c.args.k) s j,
   c.requires.sound,
-  rw c.in-Some.ensures.some at c.is_goal.ensures.mark c.if-is_goal.false _ (rw c.in-Some.ensures.some at c.requires.front),
+  mark_next (items_at c.args.m.now.world.second.now c.args.k) (items_at c.args.m.now.world.second.now c.in-Some._rest) c.in-Some.cell c.in-Some.ensures.some
+  (c.is_goal.ensures.mark c.if-not-is_goal.true (items_at c.args.m.now.world.second.now c.in-Some._rest)) c.requires.front,
 )
 
 pub halt-requires : goal.halt-requires
@@ -28,7 +30,7 @@ pub returns-then-is_spent-clause-next : goal.returns-then-is_spent-clause-next
 returns-then-is_spent-clause-next c = (
   λ budgets e b s j.
       halts_out budgets c.args.m.now c.halt.new.m c.args.selected c.args.k c.in-Some._rest c.args.steps c.in-Some.cell s c.halt.ensures.program c.halt.ensures.none_left e
-      (c.is_spent.ensures.spent c.if-is_spent.true) c.in-Some.ensures.earlier c.in-Some.ensures.some (c.is_goal.ensures.goal c.if-is_goal.true) j,
+      (c.is_spent.ensures.spent c.if-is_spent.true) c.in-Some.ensures.earlier c.in-Some.ensures.some (c.is_goal.ensures.goal c.if-not-is_goal.false) j,
   tt,
 )
 
@@ -41,7 +43,7 @@ returns-clause-next c = (
     earlier = c.in-Some.ensures.earlier;
     cell = c.in-Some.cell;
     cells = c.in-Some.ensures.some;
-    goal = c.is_goal.ensures.goal c.if-is_goal.true;
+    goal = c.is_goal.ensures.goal c.if-not-is_goal.false;
     few = c.is_spent.ensures.few c.if-is_spent.false;
   },
 )

@@ -30,7 +30,7 @@ marks-preserved c =
     let mid = c.look_once.new.m in
     let new = c.gather.new.m in
     let comes = (rw c.in-Mark.is at c.in-Ok.ensures.next).0 in
-    let last = goes_then c.marks.m mid new c.marks.current (Some c.in-Mark.k) None comes c.in_ok-gather.ensures.comes in
+    let last = goes_then c.marks.m mid new c.marks.current (Some c.in-Mark.k) None comes c.in_ok-gather-in-Mark.ensures.comes in
     record {
       kept = c.gather.ensures.kept;
       works = going_on c.marks.m new c.marks.current None last i.works;
@@ -43,7 +43,7 @@ pub marks-smaller : goal.marks-smaller
 marks-smaller c =
     let comes = (rw c.in-Mark.is at c.in-Ok.ensures.next).0 in
     let less = left_less c.marks.m c.look_once.new.m c.marks.current (Some c.in-Mark.k) comes c.marks.invariant.works in
-    let fewer = c.in_ok-gather.ensures.fewer in
+    let fewer = c.in_ok-gather-in-Mark.ensures.fewer in
     omega (arith, less, fewer)
 
 pub returns-in-Told-clause-front : goal.returns-in-Told-clause-front
@@ -65,14 +65,14 @@ returns-in-Err-clause-err c =
 pub returns-in-Err-clause-program : goal.returns-in-Err-clause-program
 returns-in-Err-clause-program c = keeps_both c.args.m.now c.marks.m c.look_once.new.m c.marks.invariant.program c.look_once.ensures.program
 
-pub returns-in_err-gather-clause-err : goal.returns-in_err-gather-clause-err
-returns-in_err-gather-clause-err c =
+pub returns-in_err-gather-in-Mark-clause-err : goal.returns-in_err-gather-in-Mark-clause-err
+returns-in_err-gather-in-Mark-clause-err c =
     let mid = c.look_once.new.m in
     let comes = (rw c.in-Mark.is at c.in-Ok.ensures.next).0 in
     goes_then c.args.m.now c.marks.m c.gather.new.m c.args.current.now c.marks.current (Some c.in-Mark.k) c.marks.invariant.goes
-    (goes_then c.marks.m mid c.gather.new.m c.marks.current (Some c.in-Mark.k) (Some c.in-Mark.k) comes c.in_err-gather.ensures.err)
+    (goes_then c.marks.m mid c.gather.new.m c.marks.current (Some c.in-Mark.k) (Some c.in-Mark.k) comes c.in_err-gather-in-Mark.ensures.err)
 
-pub returns-in_err-gather-clause-program : goal.returns-in_err-gather-clause-program
-returns-in_err-gather-clause-program c =
+pub returns-in_err-gather-in-Mark-clause-program : goal.returns-in_err-gather-in-Mark-clause-program
+returns-in_err-gather-in-Mark-clause-program c =
     keeps_both c.args.m.now c.marks.m c.gather.new.m c.marks.invariant.program
     (keeps_on c.marks.m c.look_once.new.m c.gather.new.m c.look_once.ensures.program c.gather.ensures.program)
