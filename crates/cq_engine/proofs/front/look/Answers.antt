@@ -1,6 +1,13 @@
 use Rattle.std.proofs.Common.{Some, None, refl, sym, arith, ◌∙◌}
+use Rattle.std.specs.Prelude.{Ok, Err, OnErr}
+use Rattle.std.specs.declared.result.Result.{Result}
 use Rattle.cq_engine.proofs.Engines.{going_on, goes_then, keeps_on, keeps_both, keeps_none, comes_at_once, look_front, left_less}
 use Rattle.cq_engine.proofs.front.look.Goals as goal
+
+-- what holds at all holds of each result
+on_any : {A E P : Type 0} (r : Result A E) → P → OnErr r P
+on_any (Ok x) p = tt
+on_any (Err e) p = p
 
 pub marks-init : goal.marks-init
 marks-init c =
@@ -69,8 +76,9 @@ pub returns-in_err-gather-in-Mark-clause-err : goal.returns-in_err-gather-in-Mar
 returns-in_err-gather-in-Mark-clause-err c =
     let mid = c.look_once.new.m in
     let comes = (rw c.in-Mark.is at c.in-Ok.ensures.next).0 in
-    goes_then c.args.m.now c.marks.m c.gather.new.m c.args.current.now c.marks.current (Some c.in-Mark.k) c.marks.invariant.goes
-    (goes_then c.marks.m mid c.gather.new.m c.marks.current (Some c.in-Mark.k) (Some c.in-Mark.k) comes c.in_err-gather-in-Mark.ensures.err)
+    on_any c.from_residual.result
+    (goes_then c.args.m.now c.marks.m c.gather.new.m c.args.current.now c.marks.current (Some c.in-Mark.k) c.marks.invariant.goes
+    (goes_then c.marks.m mid c.gather.new.m c.marks.current (Some c.in-Mark.k) (Some c.in-Mark.k) comes c.in_err-gather-in-Mark.ensures.err))
 
 pub returns-in_err-gather-in-Mark-clause-program : goal.returns-in_err-gather-in-Mark-clause-program
 returns-in_err-gather-in-Mark-clause-program c =
