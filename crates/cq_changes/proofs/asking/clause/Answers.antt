@@ -27,7 +27,7 @@ returns-in_ok-ask_for-in-Ok-clause-row c = λ height p behind g s.
     (argument_is m.atoms (now m).0 p.state c.args.goal 0 c.arg-head.result g s.reads c.arg-head.ensures.live c.arg-head.ensures.arg)
     (argument_is m.atoms (now m).0 p.state c.args.goal 1 c.arg-body.result g s.reads c.arg-body.ensures.live c.arg-body.ensures.arg) in
     subst (λ (r : Reply). Leads new.atoms (holds new) (now new) None p behind r) row
-    (c.in_ok-ask_for-in-Ok.ensures.row c.args.goal height p behind g (record { head = h; body = b }) q c.in_ok-asked.ensures.built c.in-Ok.ensures.predicate)
+    (c.in_ok-ask_for-in-Ok.ensures.row c.args.goal height p behind g (record { head = h; body = b }) q c.in_ok-asked-in-Ok.ensures.built c.in-Ok.ensures.predicate)
 
 pub returns-in-Err-clause-row : goal.returns-in-Err-clause-row
 returns-in-Err-clause-row c = λ height p behind g s.

@@ -26,7 +26,7 @@ returns-in_ok-ask_for-in-Ok-clause-row c = λ height p behind g s.
     let row : answers p true h ≡ retract_row p _ =
     retract_asks p (database_of m) s.database t h (c.in-Ok.ensures.lawful (operators m.atoms m.ops)) c.in-Ok.ensures.parts.are ∙ ap (retract_row p) a in
     subst (λ (r : Reply). Leads new.atoms (holds new) (now new) None p behind r) row
-    (c.in_ok-ask_for-in-Ok.ensures.row c.args.goal height p behind g h q c.in_ok-asked.ensures.built c.in-Ok.ensures.predicate)
+    (c.in_ok-ask_for-in-Ok.ensures.row c.args.goal height p behind g h q c.in_ok-asked-in-Ok.ensures.built c.in-Ok.ensures.predicate)
 
 pub returns-in-Error-clause-row : goal.returns-in-Error-clause-row
 returns-in-Error-clause-row c = λ height p behind g s.
