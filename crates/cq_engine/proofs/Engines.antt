@@ -27,7 +27,7 @@ use Rattle.cq_engine.specs.declared.front.Front.TheVariants.{Ahead, Answer, Fail
 use Rattle.cq_engine.specs.Fronts.{Answers, Ends, Halts, IsFrontOf, IsGoal, ComesNext, left_on}
 use Rattle.cq_engine.specs.declared.front.Next.{Next}
 use Rattle.cq_engine.specs.declared.front.Next.TheVariants.{Told, Mark}
-use Rattle.cq_find.proofs.Counted.{in_hand, quiet_count, standing_count}
+use Rattle.cq_engine.proofs.Counted.{in_hand, quiet_count, standing_count}
 use Rattle.cq_control.specs.Heights.{total}
 use Rattle.cq_engine.specs.Seeking.{IsKept, GainsNames, KeepsNames, StandsFor, ComesTo, IsGoing, GoesTo}
 use Rattle.cq_engine.proofs.Told.{quietly_then, told_then, ends_told, answer_told, comes_back}

@@ -1,3 +1,4 @@
+mod Counted
 pub mod Told
 pub mod Engines
 mod Halted

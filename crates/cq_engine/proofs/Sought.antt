@@ -7,7 +7,6 @@ use Rattle.spec_search.specs.Database.{Database}
 use Rattle.cq_linear.specs.declared.store.StoreFault.{StoreFault}
 use Rattle.cq_matching.specs.Matching as over
 use Rattle.cq_matching.specs.Matching.{FaultStops}
-use Rattle.cq_find.specs.Finding as over
 use Rattle.cq_find.specs.Finding.{FoundIs}
 use Rattle.cq_find.specs.declared.finding.Found.{Found}
 use Rattle.cq_find.specs.declared.finding.Found.TheVariants as found

@@ -14,7 +14,7 @@ pub returns-clause-comes : goal.returns-clause-comes
 returns-clause-comes c = gathers c.args.m.now c.collect.new.choices c.args.k c.collect.result c.collect.ensures.comes
 
 pub returns-clause-fewer : goal.returns-clause-fewer
-returns-clause-fewer c = fewer c.args.m.now c.collect.new.choices c.args.k c.collect.result c.collect.ensures.size
+returns-clause-fewer c = fewer c.args.m.now c.collect.new.choices c.args.k c.collect.result ?
 
 pub returns-clause-err : goal.returns-clause-err
 returns-clause-err c = stays c.args.m.now c.collect.new.choices c.args.k c.collect.result c.collect.ensures.err
