@@ -1,14 +1,11 @@
-use Rattle.std.proofs.Common.{◌≡◌, ℕ, List, None, refl, sym, ap, subst}
-use Rattle.std.specs.Prelude.{Ok, Err, OnOk, OnErr}
-use Rattle.std.specs.declared.result.Result.{Result}
+use Rattle.std.proofs.Common.{sym, subst}
 use Rattle.spec_builtins.specs.Clauses.{rule}
 use Rattle.cq_term.specs.Trees.{KnowsTerms}
 use Rattle.cq_steps.proofs.Reading.{tree_read}
+use Rattle.cq_program.specs.Database.{IsProgram}
 use Rattle.cq_write.specs.Meaning.{operators}
 use Rattle.cq_world.specs.Contents.{Contents}
-use Rattle.cq_machine.specs.Machines.{terms, now, saved}
-use Rattle.cq_machine.proofs.Built.{stands_still}
-use Rattle.cq_offer.proofs.Machines.{on_err}
+use Rattle.cq_machine.specs.Machines.{terms}
 use Rattle.cq_changes.proofs.Stored.{on_ok}
 use Rattle.cq_changes.proofs.asking.ask_for.Goals as goal
 
@@ -29,3 +26,17 @@ returns-clause-row c =
       indicator = of.indicator;
     }))
     c.ask.ensures.row
+
+pub returns-clause-sound : goal.returns-clause-sound
+returns-clause-sound c =
+    let m = c.args.m.now in
+    let s = c.requires.sound in
+    record {
+      known = s.known;
+      different = s.different;
+      names = subst (λ (w : Contents). KnowsTerms m.atoms w.heap.terms) (sym c.ask.ensures.world) s.names;
+      program = subst (IsProgram m.atoms) (sym c.ask.ensures.clauses) s.program;
+      operators_named = s.operators_named;
+      marked = c.ask.ensures.marked;
+      untried = c.ask.ensures.open m.atoms s.untried;
+    }

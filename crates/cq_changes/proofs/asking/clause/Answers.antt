@@ -1,8 +1,12 @@
-use Rattle.std.proofs.Common.{◌≡◌, None, true, false, sym, ap, ap₂, ◌∙◌, subst}
+use Rattle.std.proofs.Common.{◌≡◌, List, None, true, false, sym, ap, ap₂, ◌∙◌, subst}
+use Rattle.spec_lists.specs.Texts.{Text}
 use Rattle.spec_syntax.specs.Trees.{Tree}
 use Rattle.spec_search.specs.Changes.{clause_row}
 use Rattle.spec_search.specs.Replies.{Reply}
+use Rattle.spec_search.specs.Rows.{nth}
+use Rattle.spec_builtins.specs.Terms as builtins
 use Rattle.cq_built.specs.Errors.{error_tree}
+use Rattle.cq_declarations.specs.Clauses.{IsOf}
 use Rattle.cq_matching.specs.Asking.{answers}
 use Rattle.cq_steps.specs.Worlds.{Leads}
 use Rattle.cq_term.specs.Trees.{tree}
@@ -21,13 +25,14 @@ returns-in_ok-ask_for-in-Ok-clause-row c = λ height p behind g s.
     let h : Tree = tree m.atoms (terms m) c.arg-head.result in
     let b : Tree = tree m.atoms (terms m) c.arg-body.result in
     let q = selected_on m mid c.args.goal height c.args.rest p behind g c.rule_of.ensures.more s in
-    let row : answers p false (record { head = h; body = b }) ≡ clause_row p _ _ =
+    let row : answers p false (record { head = h; body = b }) ≡ clause_row p (nth (builtins.arguments g) 0) (nth (builtins.arguments g) 1) =
     clause_asks p (database_of m) s.database h b (c.in-Ok.ensures.lawful (operators m.atoms m.ops))
     ∙ ap₂ (clause_row p)
     (argument_is m.atoms (now m).0 p.state c.args.goal 0 c.arg-head.result g s.reads c.arg-head.ensures.live c.arg-head.ensures.arg)
     (argument_is m.atoms (now m).0 p.state c.args.goal 1 c.arg-body.result g s.reads c.arg-body.ensures.live c.arg-body.ensures.arg) in
+    let of = subst (λ (a : List Text). IsOf a c.in-Ok.predicate h) (sym c.rule_of.ensures.more.program.atoms) c.in-Ok.ensures.predicate in
     subst (λ (r : Reply). Leads new.atoms (holds new) (now new) None p behind r) row
-    (c.in_ok-ask_for-in-Ok.ensures.row c.args.goal height p behind g (record { head = h; body = b }) q c.in_ok-asked.ensures.built c.in-Ok.ensures.predicate)
+    (c.in_ok-ask_for-in-Ok.ensures.row c.args.goal height p behind g (record { head = h; body = b }) q c.in_ok-asked-in-Ok.ensures.built of)
 
 pub returns-in-Err-clause-row : goal.returns-in-Err-clause-row
 returns-in-Err-clause-row c = λ height p behind g s.

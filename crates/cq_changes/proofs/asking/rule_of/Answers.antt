@@ -1,9 +1,11 @@
-use Rattle.std.proofs.Common.{◌≡◌, ◌<◌, Some, List, [], ◌∷◌, length, codes, sym, ap, ap₂, ◌∙◌, subst}
+use Rattle.std.proofs.Common.{◌≡◌, ◌<◌, ℕ, Some, List, [], ◌∷◌, length, codes, sym, ap, ap₂, ◌∙◌, subst}
 use Rattle.std.specs.Prelude.{slice_get}
+use Rattle.std.proofs.lemmas.List.Elements.{All-from_recursion}
 use Rattle.std.proofs.lemmas.Option.{slice_get_within}
 use Rattle.spec_lists.specs.Texts.{Text}
 use Rattle.spec_syntax.specs.Trees.{Tree}
 use Rattle.spec_terms.specs.Term.{with_arguments}
+use Rattle.cq_machine.specs.Machines.{terms}
 use Rattle.cq_machine.proofs.Built.{stands_then}
 use Rattle.cq_changes.proofs.Asked.{built_then, live_on, tree_on}
 use Rattle.cq_changes.proofs.asking.rule_of.Goals as goal
@@ -16,6 +18,7 @@ build-requires-clause-name c =
 pub build-requires-clause-live : goal.build-requires-clause-live
 build-requires-clause-live c =
     let m = c.args.m.now in
+    All-from_recursion (λ (i : ℕ). i < length (terms c.body_of.new.m)) (c.args.parts.head ∷ c.in_ok-body.body ∷ [])
     (live_on m c.body_of.new.m c.body_of.ensures.more c.args.parts.head c.requires.head, (c.in_ok-body.ensures.live, tt))
 
 pub returns-clause-built : goal.returns-clause-built
