@@ -42,8 +42,10 @@ sound_kept old new s same names marks choices = record {
   program = subst (λ (a : List Text). IsProgram a new.clauses) (sym same.atoms) (subst (IsProgram old.atoms) (sym same.clauses) s.program);
   operators_named = subst (λ (a : List Text). AreNamed a new.ops) (sym same.atoms) (subst (AreNamed old.atoms) (sym same.ops) s.operators_named);
   marked = subst (λ (l : List (Value Contents)). AreMarked l new.choices) (sym marks) (subst (λ (cs : List Alternatives). AreMarked (saved old) cs) (sym choices) s.marked);
-  untried = subst (λ (v : Program). AreOpen v (saved new) new.choices) (sym same.clauses)
-      (subst (λ (l : List (Value Contents)). AreOpen old.clauses l new.choices) (sym marks) (subst (λ (cs : List Alternatives). AreOpen old.clauses (saved old) cs) (sym choices) s.untried));
+  untried = subst (λ (a : List Text). AreOpen a new.clauses (saved new) new.choices) (sym same.atoms)
+      (subst (λ (v : Program). AreOpen old.atoms v (saved new) new.choices) (sym same.clauses)
+      (subst (λ (l : List (Value Contents)). AreOpen old.atoms old.clauses l new.choices) (sym marks)
+      (subst (λ (cs : List Alternatives). AreOpen old.atoms old.clauses (saved old) cs) (sym choices) s.untried)));
 }
 
 pub program_then : (old mid new : Machine) → HasSameProgram old mid → HasSameProgram mid new → HasSameProgram old new

@@ -1,0 +1,34 @@
+-- The third argument of findall on a heap.
+use Rattle.std.proofs.Common.{◌≡◌, ℕ, List, [], ◌∷◌, Bool, true, false, ◌||◌, sym, ap, ◌∙◌}
+use Rattle.std.specs.Prelude.{if◌then◌else◌}
+use Rattle.spec_lists.specs.Texts.{Text}
+use Rattle.spec_syntax.specs.Trees.{Tree}
+use Rattle.spec_built.specs.Errors.{type_error}
+use Rattle.spec_built.specs.Kinds.{is_list, is_partial}
+use Rattle.spec_branch.specs.Branch.{State, Collect, Gathered, no_work}
+use Rattle.spec_search.specs.Control.{call_of, findall_row}
+use Rattle.spec_search.specs.Replies.{Place, Raises, child, makes}
+use Rattle.cq_term.specs.Trees.{tree}
+use Rattle.cq_world.specs.Contents.{Contents}
+use Rattle.cq_steps.specs.Worlds.{ReadsAs}
+use Rattle.cq_steps.proofs.Added.{reads_tree}
+
+-- a list, or a partial one
+abbrev pub may_be_list : Tree → Bool
+may_be_list t = is_partial t || is_list t
+
+pub may_be : (texts : List Text) (w : Contents) (st : State) (id : ℕ) (l : Tree) → ReadsAs texts w st id l → may_be_list (tree texts w.heap.terms id) ≡ true
+    → may_be_list l ≡ true
+may_be texts w st id l r e = ap may_be_list (sym (reads_tree texts w st id l r)) ∙ e
+
+-- another term is an error
+row_raises : (p : Place) (t g l : Tree) → may_be_list l ≡ false → findall_row p t g l ≡ Raises (type_error "list" l)
+row_raises p t g l e =
+    ap (λ (b : Bool). if b
+    then makes p (child (call_of g ∷ Collect p.height t ∷ p.rest) p.state no_work ∷ child (Gathered l [] ∷ p.rest) p.state no_work ∷ [])
+    else Raises (type_error "list" l)) e
+
+pub list_raised : (texts : List Text) (w : Contents) (p : Place) (id : ℕ) (t g l : Tree) → ReadsAs texts w p.state id l
+    → may_be_list (tree texts w.heap.terms id) ≡ false → findall_row p t g l ≡ Raises (type_error "list" (tree texts w.heap.terms id))
+list_raised texts w p id t g l r e =
+    ap (findall_row p t g) (sym (reads_tree texts w p.state id l r)) ∙ row_raises p t g (tree texts w.heap.terms id) e
