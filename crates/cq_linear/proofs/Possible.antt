@@ -1,7 +1,7 @@
 -- Whether a constraint can join, by what its form is at the weak solutions.
 use Rattle.std.proofs.Common.{◌≡◌, ℕ, List, [], ◌∷◌, ◌++◌, Bool, true, false, inl, inr, pos, refl, ap, subst, ◌∙◌}
 use Rattle.std.proofs.Math.Bool.{not}
-use Rattle.std.specs.Prelude.{IfOk, MatchBool, Result, Ok}
+use Rattle.std.specs.Prelude.{MatchBool}
 use Rattle.spec_rational.specs.Rational.{ℚ, 0ℚ, neg_ℚ, ◌≤ℚ◌, ◌<ℚ◌}
 use Rattle.spec_rational.proofs.Order.{lt_irrefl, lt_trans, lt_le_trans, lt_le_false, le_trans, pos_to_lt, nonneg_to_le}
 use Rattle.spec_rational.proofs.Ring.{int, minus}

@@ -1,4 +1,4 @@
-use Rattle.std.proofs.Common.{◌≡◌, ◌+◌, [], ◌∷◌, ◌++◌, Err, length, ap, refl, subst}
+use Rattle.std.proofs.Common.{◌+◌, [], ◌∷◌, ◌++◌, Err, length, ap, refl, subst}
 use Rattle.spec_linear.specs.Solution.{Constraint}
 use Rattle.spec_limits.specs.Asked.{NoQuestion, of_joining}
 use Rattle.cq_dict.specs.DictValue.{quantities_of}

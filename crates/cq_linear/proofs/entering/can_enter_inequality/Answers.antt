@@ -1,19 +1,14 @@
-use Rattle.std.proofs.Common.{◌≡◌, ◌+◌, List, [], ◌∷◌, ◌++◌, Bool, Err, length, ap, refl, subst, sym, ◌∙◌}
+use Rattle.std.proofs.Common.{◌≡◌, ◌+◌, List, [], ◌∷◌, ◌++◌, Bool, Err, length, ap, refl, subst, sym}
 use Rattle.std.specs.Prelude.{MatchBool}
 use Rattle.spec_rational.specs.Rational.{0ℚ}
 use Rattle.spec_linear.specs.declared.Relation.TheVariants.{Ge}
 use Rattle.spec_linear.specs.Solution.{Constraint}
 use Rattle.spec_limits.specs.Asked.{NoQuestion, of_joining}
 use Rattle.cq_row.specs.declared.Entry.{Entry}
-use Rattle.cq_row.specs.Row.{Row}
-use Rattle.cq_dict.specs.declared.table.Role.TheVariants.{Basic}
 use Rattle.cq_dict.specs.DictValue.{quantities_of}
-use Rattle.cq_dict.specs.Roles.{IsAt}
-use Rattle.cq_tableau.specs.declared.names.Name.{Name}
 use Rattle.cq_tableau.specs.declared.names.Name.TheVariants.{Member}
 use Rattle.cq_tableau.specs.Raised.{IsBest, IsRaised}
 use Rattle.cq_tableau.specs.Refuted.{IsTooSmall}
-use Rattle.cq_tableau.specs.Restored.{IsRestoredCertificate}
 use Rattle.cq_tableau.proofs.Storing.{asked_row, stored_solvable}
 use Rattle.cq_linear.specs.Faced.{IsOnFace}
 use Rattle.cq_linear.specs.StoreValue.{MayRefuse, Only}

@@ -1,13 +1,11 @@
-use Rattle.std.proofs.Common.{◌≡◌, ℕ, List, Err, ap, refl, subst}
+use Rattle.std.proofs.Common.{List, Err, ap, refl, subst}
 use Rattle.std.specs.Prelude.{IfSome}
-use Rattle.spec_rational.specs.Rational.{0ℚ}
 use Rattle.spec_linear.specs.Form.{IsForm, negated_form}
 use Rattle.spec_linear.specs.Solution.{Constraint}
 use Rattle.spec_limits.specs.Asked.{NoQuestion}
 use Rattle.cq_dict.specs.DictValue.{quantities_of}
 use Rattle.cq_tableau.specs.Stored.{IsPlaced}
 use Rattle.cq_linear.specs.declared.equating.Approached.{Approached}
-use Rattle.cq_linear.specs.declared.store.StoreFault.TheVariants.{Pivots}
 use Rattle.cq_row.specs.declared.Entry.{Entry}
 use Rattle.cq_linear.specs.Alone.{IsPlaceBehind}
 use Rattle.cq_linear.proofs.Alone.{new_if}

@@ -1,8 +1,7 @@
 use Rattle.std.proofs.Common.{◌≡◌, ◌-◌, ◌<◌, suc, length, Some, arith, subst}
-use Rattle.std.specs.Prelude.{MatchBool, slice_get, slice_index_or}
+use Rattle.std.specs.Prelude.{slice_get, slice_index_or}
 use Rattle.std.proofs.lemmas.Option.{slice_get-get_or}
 use Rattle.cq_dict.specs.declared.holders.Cell.{Cell}
-use Rattle.cq_tableau.specs.Looked.{Blocks, LeavesRoom}
 use Rattle.cq_tableau.proofs.Blocking.{OthersLeave, first_leave, rest_leave, all_leave_room}
 use Rattle.cq_tableau.proofs.looking.blocking_row.Goals as goal
 

@@ -1,5 +1,5 @@
 -- The rows that are not on the rest of the list leave room.
-use Rattle.std.proofs.Common.{ℕ, ◌≤◌, length}
+use Rattle.std.proofs.Common.{◌≤◌, length}
 use Rattle.cq_tableau.proofs.Blocking.{OthersLeave}
 use Rattle.cq_tableau.proofs.looking.blocking_row.Given as goal
 
