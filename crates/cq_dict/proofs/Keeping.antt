@@ -3,7 +3,6 @@ use Rattle.std.proofs.Common.{◌≡◌, ℕ, List, [], ◌∷◌, length, Bool,
 use Rattle.spec_rational.specs.Rational.{ℚ, 0ℚ, ◌+ℚ◌, ◌-ℚ◌, ◌*ℚ◌}
 use Rattle.spec_rational.proofs.Ring.{var, int, ◌⊕◌, ◌⊗◌, minus}
 use Rattle.spec_rational.proofs.Rational.{ring}
-use Rattle.cq_trail.specs.TrailValue.{TrailValue}
 use Rattle.cq_row.specs.declared.Entry.{Entry}
 use Rattle.cq_row.specs.Row.{Row}
 use Rattle.cq_row.specs.Rows.{sum_at, IsRowFrom, everywhere, Has, Lacks, except, unit}
@@ -16,11 +15,10 @@ use Rattle.cq_dict.specs.declared.holders.Cell.{Cell}
 use Rattle.cq_dict.specs.declared.table.Change.{Change}
 use Rattle.cq_dict.specs.declared.table.Role.{Role}
 use Rattle.cq_dict.specs.declared.table.Role.TheVariants.{Live, Dropped, Basic}
-use Rattle.cq_dict.specs.Changes.{Changes, Covers, IsWritten, kind_of, IsTurnedRow, Turned}
+use Rattle.cq_dict.specs.Changes.{Covers, IsWritten, kind_of, IsTurnedRow, Turned}
 use Rattle.cq_dict.specs.Holders.{Holds, HoldsNoMore, AreHeld}
 use Rattle.cq_dict.specs.Roles.{IsAt, AreOverColumns, is_live, is_dropped}
 use Rattle.cq_dict.proofs.Held.{held_written}
-use Rattle.cq_dict.proofs.Moves.{also_cases}
 use Rattle.cq_dict.proofs.Roles.{equal_or_not}
 
 -- ---- lists of entries
