@@ -3,7 +3,6 @@ use Rattle.std.proofs.Common.{◌≡◌, ℕ, List, ◌++◌, ap, ◌∙◌}
 use Rattle.spec_branch.specs.Branch.{Branch}
 use Rattle.spec_search.specs.Replies.{Place, Made, made, onward}
 use Rattle.spec_search.specs.Turns.{older}
-use Rattle.spec_machine.specs.Coming.{Comes}
 use Rattle.cq_steps.specs.Worlds.{IsBranch, term_in, Selected}
 use Rattle.cq_steps.proofs.Branches.{branches_rest}
 use Rattle.cq_steps.proofs.Control.{goes_on_with}

@@ -1,6 +1,5 @@
 -- The rows of goals that change clauses, by the database of the machine.
-use Rattle.std.proofs.Common.{◌≡◌, List, [], ◌∷◌, Option, None, Some, sym, ap, ap₂, ◌∙◌}
-use Rattle.spec_lists.specs.Texts.{Text}
+use Rattle.std.proofs.Common.{◌≡◌, List, Option, None, Some, sym, ap, ap₂, ◌∙◌}
 use Rattle.spec_syntax.specs.Trees.{Tree}
 use Rattle.spec_built.specs.Built.{Indicator}
 use Rattle.spec_builtins.specs.Clauses.{HeadBody, head_body, declarations, declaration_error}

@@ -1,5 +1,4 @@
 mod Outlasting
 mod Behind
 mod Stored
-mod Dynamic
 mod Changed

@@ -2,9 +2,7 @@
 use Rattle.std.specs.Prelude.{◌≡◌, ℕ, List, ◌++◌, Some}
 use Rattle.spec_lists.specs.Prefixes.{IsPrefix}
 use Rattle.spec_syntax.specs.Trees.{Tree}
-use Rattle.spec_built.specs.Built.{Indicator}
 use Rattle.spec_branch.specs.Branch.{Branch}
-use Rattle.spec_search.specs.Database.{all_declared}
 use Rattle.spec_search.specs.Replies as reply
 use Rattle.spec_search.specs.Replies.{Place, Reply, changes, onward}
 use Rattle.spec_search.specs.Search.{Search}
@@ -49,7 +47,3 @@ pub record KeepsAllButClauses (old new : Machine) : Type 0 where
   pub ops : new.ops ≡ old.ops
   pub showing : KeepsShowing old.clauses new.clauses
   pub budget : new.world.first.store.pivots ≡ old.world.first.store.pivots
-
--- some procedures were made dynamic
-abbrev pub HasDeclaredSome : Machine → Machine → Type 0
-HasDeclaredSome old new = (is : List Indicator) × (database_of new ≡ all_declared is (database_of old))

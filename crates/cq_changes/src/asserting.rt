@@ -10,18 +10,18 @@ ghost use Rattle.cq_term.specs.Shown.{arguments};
 ghost use Rattle.cq_term.specs.Trees.{tree};
 ghost use Rattle.cq_machine.specs.Machines.{terms, database_of, IsSound, StillStands};
 ghost use Rattle.cq_machine.specs.Stepping.{row_of, CanGo, OnRaises};
-ghost use Rattle.cq_revise.specs.Revised.{head_body_of, place};
+ghost use Rattle.cq_revise.specs.Revised.{head_body_of};
 ghost use Rattle.cq_changes.specs.Changing.{ChangesTo, KeepsAllButClauses};
 
 use crate::laws::choices_outlast_changes;
 use cq_built::BuiltinFault;
-use cq_clauses::Kind;
+use cq_clauses::{End, Kind};
 use cq_control::Continuation;
 use cq_declarations::CheckedClause;
 use cq_machine::{Machine, Step};
 use cq_ops::more_names_keep_the_table;
 use cq_program::{changes_are_those_of_the_database, programs_stay_programs};
-use cq_revise::{End, check_change};
+use cq_revise::check_change;
 use cq_steps::more_may_be_built;
 use cq_term::TermId;
 use cq_ways::{names_are_of_terms, names_may_be_added};
@@ -39,7 +39,7 @@ pub fn assert(
     requires goal { goal < length (terms m.old) }
     requires one { length (arguments (at (terms m.old) goal)) ≡ 1 }
     requires rest { rest < length m.old.world.second.now }
-    ensures row { IfOk result (ChangesTo m.old m.new goal rest (row_of (Assert (as_end (place end))))) }
+    ensures row { IfOk result (ChangesTo m.old m.new goal rest (row_of (Assert (as_end end)))) }
     ensures goes { IfOk result (CanGo m.new) }
     ensures raises { IfOk result (λ s. OnRaises s (m.new ≡ m.old)) }
     ensures stands { StillStands m.old m.new }
@@ -68,7 +68,7 @@ fn add_checked(m: &mut Machine, checked: CheckedClause, end: End) -> Result<(), 
     requires body { IfSome checked.parts.body (λ b. b < length (terms m.old)) }
     requires predicate { IsOf m.old.atoms checked.predicate (tree m.old.atoms (terms m.old) checked.parts.head) }
     ensures added { OnOk result (database_of m.new
-        ≡ clause_added (as_end (place end)) Dynamic (head_body_of m.old.atoms (terms m.old) checked.parts) (database_of m.old)) }
+        ≡ clause_added (as_end end) Dynamic (head_body_of m.old.atoms (terms m.old) checked.parts) (database_of m.old)) }
     ensures stands { StillStands m.old m.new }
     ensures sound { IsSound m.new }
     ensures keeps { KeepsAllButClauses m.old m.new }

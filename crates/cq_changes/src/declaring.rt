@@ -8,7 +8,7 @@ ghost use Rattle.cq_term.specs.Meaning.{at};
 ghost use Rattle.cq_term.specs.Shown.{arguments};
 ghost use Rattle.cq_machine.specs.Machines.{terms, database_of, IsSound, StillStands};
 ghost use Rattle.cq_machine.specs.Stepping.{row_of, CanGo, OnRaises};
-ghost use Rattle.cq_changes.specs.Changing.{ChangesTo, HasDeclaredSome, KeepsAllButClauses};
+ghost use Rattle.cq_changes.specs.Changing.{ChangesTo, KeepsAllButClauses};
 
 use crate::laws::choices_outlast_changes;
 use cq_built::BuiltinFault;
@@ -18,8 +18,8 @@ use cq_revise::check_declared;
 use cq_term::{Pred, TermId};
 use std::alloc::AllocError;
 
-/// `dynamic(P)`: the procedures of the predicates are made dynamic, and keep their clauses. An error is want of memory; the first of
-/// them may then be dynamic.
+/// `dynamic(P)`: the procedures of the predicates are made dynamic, and keep their clauses. An error is want of memory; none of them
+/// was then changed.
 pub fn declare_dynamic(
     m: &mut Machine,
     goal: TermId,
@@ -35,7 +35,7 @@ pub fn declare_dynamic(
     ensures stands { StillStands m.old m.new }
     ensures sound { IsSound m.new }
     ensures keeps { KeepsAllButClauses m.old m.new }
-    ensures err { OnErr result (HasDeclaredSome m.old m.new) }
+    ensures err { OnErr result (database_of m.new ≡ database_of m.old) }
 {
     let declared = m.world.first.heap.arg(goal, 0);
     let world = &m.world;
@@ -60,7 +60,7 @@ fn declare_all(m: &mut Machine, predicates: &[Pred]) -> Result<(), AllocError>
     ensures sound { IsSound m.new }
     ensures keeps { KeepsAllButClauses m.old m.new }
     ensures lists { m.new.world.second ≡ m.old.world.second }
-    ensures err { OnErr result (HasDeclaredSome m.old m.new) }
+    ensures err { OnErr result (database_of m.new ≡ database_of m.old) }
 {
     choices_outlast_changes();
     cq_revise::declare_dynamic(&mut m.clauses, predicates)

@@ -11,10 +11,10 @@ ghost use Rattle.cq_consult.specs.Consulted.{CameTo};
 
 use cq_atoms::Atoms;
 use cq_built::{BuiltinError, BuiltinFault, Culprit, Permission, ball};
-use cq_clauses::{Clauses, Kind};
+use cq_clauses::{Clauses, End, Kind};
 use cq_declarations::{CheckedClause, check_clause};
 use cq_program::ProgramClause;
-use cq_revise::{End, add, is_built_in};
+use cq_revise::{add, is_built_in};
 use cq_term::{Heap, Pred, TermId};
 use std::alloc::AllocError;
 

@@ -19,9 +19,10 @@ use Rattle.spec_stops.specs.Due.{Due}
 use Rattle.spec_stops.specs.Questions.{IsQuestionMoment}
 use Rattle.cq_frac.specs.declared.Pair.{Pair}
 use Rattle.cq_linear.specs.declared.store.Extent.TheVariants.{Value, Unbounded}
+use Rattle.cq_linear.specs.declared.store.StoreFault.{StoreFault}
 use Rattle.cq_questions.specs.Extents.{Reaches}
 use Rattle.cq_questions.specs.Members.{AreEntailed, IsOneBroken, IsFirstWaiting}
-use Rattle.cq_questions.specs.Stops.{AsksMembers, RefusesIn, TakesIn}
+use Rattle.cq_questions.specs.Stops.{RefusesIn, TakesIn, IsDueIn, MembersStop, ExtentStops}
 use Rattle.cq_questions.specs.Values.{WithValues}
 
 module _ (p : Place) (goal : Tree) where
@@ -48,13 +49,23 @@ module _ (p : Place) (goal : Tree) where
     pub waits_step : WithValues p.state.linear (λ fixed. lin_expression fixed e ≡ Waits) → Steps p goal (ball_of goal (type_error "linear" e))
     waits_step w = step.expression_waits w.fixed r w.fixes w.holds
 
-module _ (budgets : Budgets) (s : Search) (goal : Tree) (cut : ℕ) (items : List Item) (st : State) (behind : List Branch) (ms : List Tree) (b : Branch)
-    (look : look_at s.branches ≡ Selecting goal cut items st behind) (r : reply_of (place_of s st items cut behind) (read st goal) ≡ IfEntailed ms b) where
-  asks : (m : Moment) → AsksMembers st ms m → due.IsMoment None s m
-  asks m k = due.asks look (subst (λ (x : Reply). IsQuestionMoment st x m) (sym r) (k b))
+-- ---- stops
 
-  pub overflow_due : (pair : Pair) → RefusesIn (AsksMembers st ms) pair → Due budgets None s (Overflow pair)
-  overflow_due pair k = due.overflow (asks k.moment k.is) k.due
+pub members_due : (p : Place) (goal : Tree) (ms : List Tree) (b : Branch) (n : ℕ) (f : StoreFault) → reply_of p goal ≡ IfEntailed ms b → MembersStop n p.state ms f
+    → IsDueIn (IsQuestionMoment p.state (reply_of p goal)) n f
+members_due p goal ms b n f r h = subst (λ (x : Reply). IsDueIn (IsQuestionMoment p.state x) n f) (sym r) (h b)
 
-  pub pivots_due : TakesIn (AsksMembers st ms) budgets.pivots → Due budgets None s (Pivots budgets.pivots)
-  pivots_due k = due.pivots (asks k.moment k.is) k.chain
+pub extent_due : (p : Place) (goal : Tree) (side : Side) (e : Tree) (next : ℚ → Branch) (n : ℕ) (f : StoreFault) → reply_of p goal ≡ WithExtent side e next
+    → ExtentStops n p.state side e f → IsDueIn (IsQuestionMoment p.state (reply_of p goal)) n f
+extent_due p goal side e next n f r h = subst (λ (x : Reply). IsDueIn (IsQuestionMoment p.state x) n f) (sym r) (h next)
+
+module _ (budgets : Budgets) (s : Search) (goal : Tree) (cut : ℕ) (items : List Item) (st : State) (behind : List Branch)
+    (look : look_at s.branches ≡ Selecting goal cut items st behind) where
+  abbrev asks : Moment → Type 0
+  asks = IsQuestionMoment st (reply_of (place_of s st items cut behind) (read st goal))
+
+  pub overflow_due : (pair : Pair) → RefusesIn asks pair → Due budgets None s (Overflow pair)
+  overflow_due pair k = due.overflow (due.asks look k.is) k.due
+
+  pub pivots_due : TakesIn asks budgets.pivots → Due budgets None s (Pivots budgets.pivots)
+  pivots_due k = due.pivots (due.asks look k.is) k.chain

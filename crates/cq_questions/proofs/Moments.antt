@@ -11,11 +11,12 @@ use Rattle.spec_limits.specs.Later.{HasAll, in_place_of}
 use Rattle.spec_limits.specs.Overflow.{Operands, Moment, settling}
 use Rattle.spec_limits.proofs.Later.{overflow_stays, chain_stays}
 use Rattle.spec_syntax.specs.Trees.{Tree}
-use Rattle.spec_told.specs.Relations.{Is, lin, lin_expression}
+use Rattle.spec_told.specs.Relations.{Is, lin_expression}
 use Rattle.spec_branch.specs.Branch.{State, Branch}
-use Rattle.spec_search.specs.Replies.{IfEntailed}
+use Rattle.spec_search.specs.Builtins.{Side}
+use Rattle.spec_search.specs.Replies.{Reply, IfEntailed, WithExtent}
 use Rattle.spec_stops.specs.Operands.{relation_operands, expression_operands}
-use Rattle.spec_stops.specs.Questions.{JoinsNothing, AsksAbout, AsksExtent, member, IsQuestionMoment}
+use Rattle.spec_stops.specs.Questions.{JoinsNothing, AsksAbout, AsksExtent, member, reaches, asked_operands, IsQuestionMoment}
 use Rattle.cq_cexpr.specs.Overflows.{ComesFrom}
 use Rattle.cq_frac.specs.declared.Pair.{Pair}
 use Rattle.cq_linear.specs.StoreValue.{IsCallList, in_force, joined, IsCallMoment, MayRefuse, MayTake, Only}
@@ -27,7 +28,7 @@ use Rattle.cq_frac.specs.declared.Refusal.TheVariants as refusal
 use Rattle.cq_questions.specs.declared.members.Member.{Member}
 use Rattle.cq_questions.specs.Members.{AsksOne}
 use Rattle.cq_questions.proofs.Listed.{AreFound, asked_term}
-use Rattle.cq_questions.specs.Stops.{RefusesIn, TakesIn, IsDueIn, AsksMembers, IsAtLeastZero, AsksReach}
+use Rattle.cq_questions.specs.Stops.{RefusesIn, TakesIn, IsDueIn}
 
 -- ---- what one constraint is asked for, others are
 
@@ -49,10 +50,6 @@ module _ (l : List Constraint) (P Q : Constraint → Type 0) (more : (c : Constr
   list_more (in_force h) = in_force_more h
   list_more (joined c h) = absurd h
 
-  all_more : (fs : List Linear) → AllByRecursion (IsAsked l NoQuestion P) fs → AllByRecursion (IsAsked l JoinsNothing Q) fs
-  all_more [] h = tt
-  all_more (f ∷ fs) h = (asked_more h.0, all_more fs h.1)
-
 -- ---- a call's moment, with the operations of terms
 
 nothing_among : {A : Type 0} (xs ys : List A) → xs ≡ [] → (x : A) → Has x xs → Has x ys
@@ -65,6 +62,60 @@ has_all l P m operations k = record {
   each_operation = nothing_among m.operations operations k.operations;
   each_row = nothing_among m.rows [] k.rows;
 }
+
+-- ---- the moments of a reply, with the values that the state's list fixes
+
+module _ (l : List Constraint) (fixed : ℕ → Option ℚ) (fixes : Fixes l fixed) (st : State) (same : st.linear ≡ l) (r : Reply) where
+  fixes_there : Fixes st.linear fixed
+  fixes_there = subst (λ (k : List Constraint). Fixes k fixed) (sym same) fixes
+
+  abbrev operations : List Operands
+  operations = asked_operands fixed r
+
+  abbrev of_terms : Moment
+  of_terms = record { stage = settling; list = st.linear; asked = []; operations = operations; rows = [] }
+
+  -- some operation of the terms that are asked about refuses the pair
+  pub term_refuses : (some : List Operands) → ((o : Operands) → Has o some → Has o operations) → (pair : Pair) → ComesFrom some pair → RefusesIn (IsQuestionMoment st r) pair
+  term_refuses some among pair h = record {
+    moment = of_terms;
+    is = record { stage = refl; fixed = fixed; fixes = fixes_there; in_force = alone; asked = tt; operations = refl; rows = refl };
+    due = h of_terms among;
+  }
+
+  module _ (c : Constraint) (about : AsksAbout fixed r c) where
+    asks : (d : Constraint) → Only c d → AsksAbout fixed r d
+    asks d k = subst (AsksAbout fixed r) (sym k) about
+
+    all_asked : (m : List Constraint) (fs : List Linear) → AllByRecursion (IsAsked m NoQuestion (Only c)) fs → AllByRecursion (λ f. IsAsked m JoinsNothing (AsksAbout fixed r) f ⊎ AsksExtent fixed r f) fs
+    all_asked m [] a = tt
+    all_asked m (f ∷ fs) a = (inl (asked_more m (Only c) (AsksAbout fixed r) asks a.0), all_asked m fs a.1)
+
+    is_moment : (m : Moment) → IsCallMoment l NoQuestion (Only c) m → IsQuestionMoment st r (in_place_of m settling operations [])
+    is_moment m k = record {
+      stage = refl;
+      fixed = fixed;
+      fixes = fixes_there;
+      in_force = subst (λ (j : List Constraint). IsInForce j JoinsNothing (AsksAbout fixed r) m.list) (sym same) (list_more l (Only c) (AsksAbout fixed r) asks k.list);
+      asked = all_asked m.list m.asked k.asked;
+      operations = refl;
+      rows = refl;
+    }
+
+    -- so does an operation while the constraint is asked about
+    pub question_refuses : (pair : Pair) → MayRefuse l NoQuestion (Only c) pair → RefusesIn (IsQuestionMoment st r) pair
+    question_refuses pair h = record {
+      moment = in_place_of h.moment settling operations [];
+      is = is_moment h.moment h.of_call;
+      due = overflow_stays h.moment settling operations [] (has_all l (Only c) h.moment operations h.of_call) pair h.due;
+    }
+
+    pub question_takes : (n : ℕ) → MayTake l NoQuestion (Only c) n → TakesIn (IsQuestionMoment st r) n
+    question_takes n h = record {
+      moment = in_place_of h.moment settling operations [];
+      is = is_moment h.moment h.of_call;
+      chain = chain_stays h.moment settling operations [] n h.chain;
+    }
 
 -- ---- members
 
@@ -82,77 +133,27 @@ in_pieces f [] t h o i = absurd h
 in_pieces f (x ∷ ts) t (inl e) o i = in_left o (f x) (flat_map f ts) (subst (λ (y : Tree). Has o (f y)) e i)
 in_pieces f (x ∷ ts) t (inr h) o i = in_right o (f x) (flat_map f ts) (in_pieces f ts t h o i)
 
-module _ (l : List Constraint) (fixed : ℕ → Option ℚ) (fixes : Fixes l fixed) (st : State) (same : st.linear ≡ l) (ts : List Tree) where
-  fixes_there : Fixes st.linear fixed
-  fixes_there = subst (λ (k : List Constraint). Fixes k fixed) (sym same) fixes
-
-  abbrev operations : List Operands
-  operations = flat_map (relation_operands fixed) ts
-
-  abbrev of_terms : Moment
-  of_terms = record { stage = settling; list = st.linear; asked = []; operations = operations; rows = [] }
-
+module _ (l : List Constraint) (fixed : ℕ → Option ℚ) (fixes : Fixes l fixed) (st : State) (same : st.linear ≡ l) (ts : List Tree) (b : Branch) where
   -- an operation of a member refuses the pair
-  pub member_refuses : (t : Tree) → Has t ts → (pair : Pair) → ComesFrom (relation_operands fixed t) pair → RefusesIn (AsksMembers st ts) pair
-  member_refuses t h pair r = record {
-    moment = of_terms;
-    is = λ b. record { stage = refl; fixed = fixed; fixes = fixes_there; in_force = alone; asked = tt; operations = refl; rows = refl };
-    due = r of_terms (in_pieces (relation_operands fixed) ts t h);
-  }
-
-  module _ (t : Tree) (h : Has t ts) (c : Constraint) (e : lin fixed t ≡ Is c) where
-    asks : (b : Branch) (d : Constraint) → Only c d → AsksAbout fixed (IfEntailed ts b) d
-    asks b d k = subst (AsksAbout fixed (IfEntailed ts b)) (sym k) (member t h e)
-
-    all_asked : (b : Branch) (m : List Constraint) (fs : List Linear) → AllByRecursion (IsAsked m NoQuestion (Only c)) fs → AllByRecursion (λ f. IsAsked m JoinsNothing (AsksAbout fixed (IfEntailed ts b)) f ⊎ AsksExtent fixed (IfEntailed ts b) f) fs
-    all_asked b m [] a = tt
-    all_asked b m (f ∷ fs) a = (inl (asked_more m (Only c) (AsksAbout fixed (IfEntailed ts b)) (asks b) a.0), all_asked b m fs a.1)
-
-    is_moment : (m : Moment) → IsCallMoment l NoQuestion (Only c) m → AsksMembers st ts (in_place_of m settling operations [])
-    is_moment m k = λ b. record {
-      stage = refl;
-      fixed = fixed;
-      fixes = fixes_there;
-      in_force = subst (λ (j : List Constraint). IsInForce j JoinsNothing (AsksAbout fixed (IfEntailed ts b)) m.list) (sym same)
-          (list_more l (Only c) (AsksAbout fixed (IfEntailed ts b)) (asks b) k.list);
-      asked = all_asked b m.list m.asked k.asked;
-      operations = refl;
-      rows = refl;
-    }
-
-    -- so does an operation while a member is asked about
-    question_refuses : (pair : Pair) → MayRefuse l NoQuestion (Only c) pair → RefusesIn (AsksMembers st ts) pair
-    question_refuses pair r = record {
-      moment = in_place_of r.moment settling operations [];
-      is = is_moment r.moment r.of_call;
-      due = overflow_stays r.moment settling operations [] (has_all l (Only c) r.moment operations r.of_call) pair r.due;
-    }
-
-    question_takes : (n : ℕ) → MayTake l NoQuestion (Only c) n → TakesIn (AsksMembers st ts) n
-    question_takes n r = record {
-      moment = in_place_of r.moment settling operations [];
-      is = is_moment r.moment r.of_call;
-      chain = chain_stays r.moment settling operations [] n r.chain;
-    }
-
-  pub question_due : (pivots : ℕ) (f : StoreFault)
-      → ((pair : Pair) → f ≡ store.Overflow pair → (t : Tree) × (c : Constraint) × Has t ts × (lin fixed t ≡ Is c) × MayRefuse l NoQuestion (Only c) pair)
-      → ((n : ℕ) → f ≡ store.Pivots n → (n ≡ pivots) × ((t : Tree) × (c : Constraint) × Has t ts × (lin fixed t ≡ Is c) × MayTake l NoQuestion (Only c) n))
-      → IsDueIn (AsksMembers st ts) pivots f
-  question_due pivots (store.Overflow pair) refuses takes = (let r = refuses pair refl in question_refuses r.0 r.2 r.1 r.3 pair r.4)
-  question_due pivots (store.Pivots n) refuses takes = (let r = takes n refl in (r.0, question_takes r.1.0 r.1.2 r.1.1 r.1.3 n r.1.4))
-  question_due pivots store.NoMemory refuses takes = tt
+  pub member_refuses : (t : Tree) → Has t ts → (pair : Pair) → ComesFrom (relation_operands fixed t) pair → RefusesIn (IsQuestionMoment st (IfEntailed ts b)) pair
+  member_refuses t h pair k =
+      term_refuses l fixed fixes st same (IfEntailed ts b) (relation_operands fixed t) (in_pieces (relation_operands fixed) ts t h) pair k
 
   -- a member as it was found
   pub asked_due : (ms : List Member) → AreFound fixed ts ms → (pivots : ℕ) (f : StoreFault)
       → ((pair : Pair) → f ≡ store.Overflow pair → AsksOne ms (λ c. MayRefuse l NoQuestion (Only c) pair))
-      → ((n : ℕ) → f ≡ store.Pivots n → (n ≡ pivots) × AsksOne ms (λ c. MayTake l NoQuestion (Only c) n)) → IsDueIn (AsksMembers st ts) pivots f
-  asked_due ms found pivots f refuses takes =
-      question_due pivots f
-      (λ pair e. (let a = refuses pair e in
-          let t = asked_term fixed ts ms found a.constraint a.among in (t.0, a.constraint, t.1, t.2, a.holds)))
-      (λ n e. (let a = takes n e in
-          let t = asked_term fixed ts ms found a.1.constraint a.1.among in (a.0, (t.0, a.1.constraint, t.1, t.2, a.1.holds))))
+      → ((n : ℕ) → f ≡ store.Pivots n → (n ≡ pivots) × AsksOne ms (λ c. MayTake l NoQuestion (Only c) n)) → IsDueIn (IsQuestionMoment st (IfEntailed ts b)) pivots f
+  asked_due ms found pivots (store.Overflow pair) refuses takes =
+      let a = refuses pair refl in
+      let t = asked_term fixed ts ms found a.constraint a.among in
+      question_refuses l fixed fixes st same (IfEntailed ts b) a.constraint (member t.0 t.1 t.2) pair a.holds
+  asked_due ms found pivots (store.Pivots n) refuses takes =
+      let a = takes n refl in
+      let t = asked_term fixed ts ms found a.1.constraint a.1.among in (
+        a.0,
+        question_takes l fixed fixes st same (IfEntailed ts b) a.1.constraint (member t.0 t.1 t.2) n a.1.holds,
+      )
+  asked_due ms found pivots store.NoMemory refuses takes = tt
 
 -- ---- refusals of terms, as faults of the store
 
@@ -162,49 +163,19 @@ refusal_due P pivots refusal.NoMemory f e h = subst (λ (x : StoreFault). IsDueI
 
 -- ---- extents
 
-module _ (l : List Constraint) (fixed : ℕ → Option ℚ) (fixes : Fixes l fixed) (st : State) (same : st.linear ≡ l) (e : Tree) where
-  fixes_here : Fixes st.linear fixed
-  fixes_here = subst (λ (k : List Constraint). Fixes k fixed) (sym same) fixes
-
-  abbrev of_expression : Moment
-  of_expression = record { stage = settling; list = st.linear; asked = []; operations = expression_operands fixed e; rows = [] }
-
-  pub expression_refuses : (pair : Pair) → ComesFrom (expression_operands fixed e) pair → RefusesIn (AsksReach st e) pair
-  expression_refuses pair r = record {
-    moment = of_expression;
-    is = record { stage = refl; fixed = fixed; fixes = fixes_here; in_force = alone; asked = tt; operations = refl; rows = refl };
-    due = r of_expression (λ o h. h);
-  }
+module _ (l : List Constraint) (fixed : ℕ → Option ℚ) (fixes : Fixes l fixed) (st : State) (same : st.linear ≡ l) (side : Side) (e : Tree) (next : ℚ → Branch) where
+  pub expression_refuses : (pair : Pair) → ComesFrom (expression_operands fixed e) pair → RefusesIn (IsQuestionMoment st (WithExtent side e next)) pair
+  expression_refuses pair k = term_refuses l fixed fixes st same (WithExtent side e next) (expression_operands fixed e) (λ o h. h) pair k
 
   module _ (form : Linear) (is : lin_expression fixed e ≡ Is form) where
-    about : (d : Constraint) → Only (at_least_zero form) d → IsAtLeastZero fixed e d
-    about d k = (form, is, k)
-
-    is_reach : (m : Moment) → IsCallMoment l NoQuestion (Only (at_least_zero form)) m → AsksReach st e (in_place_of m settling (expression_operands fixed e) [])
-    is_reach m k = record {
-      stage = refl;
-      fixed = fixed;
-      fixes = fixes_here;
-      in_force = subst (λ (j : List Constraint). IsInForce j JoinsNothing (IsAtLeastZero fixed e) m.list) (sym same)
-          (list_more l (Only (at_least_zero form)) (IsAtLeastZero fixed e) about k.list);
-      asked = all_more m.list (Only (at_least_zero form)) (IsAtLeastZero fixed e) about m.asked k.asked;
-      operations = refl;
-      rows = refl;
-    }
+    -- it is asked whether the form is not below zero
+    about : AsksAbout fixed (WithExtent side e next) (at_least_zero form)
+    about = reaches is
 
     pub reach_due : (pivots : ℕ) (f : StoreFault) → ((pair : Pair) → f ≡ store.Overflow pair → MayRefuse l NoQuestion (Only (at_least_zero form)) pair)
-        → ((n : ℕ) → f ≡ store.Pivots n → (n ≡ pivots) × MayTake l NoQuestion (Only (at_least_zero form)) n) → IsDueIn (AsksReach st e) pivots f
+        → ((n : ℕ) → f ≡ store.Pivots n → (n ≡ pivots) × MayTake l NoQuestion (Only (at_least_zero form)) n) → IsDueIn (IsQuestionMoment st (WithExtent side e next)) pivots f
     reach_due pivots (store.Overflow pair) refuses takes =
-        let r = refuses pair refl in
-        record {
-          moment = in_place_of r.moment settling (expression_operands fixed e) [];
-          is = is_reach r.moment r.of_call;
-          due = overflow_stays r.moment settling (expression_operands fixed e) [] (has_all l (Only (at_least_zero form)) r.moment (expression_operands fixed e) r.of_call) pair r.due;
-        }
+        question_refuses l fixed fixes st same (WithExtent side e next) (at_least_zero form) about pair (refuses pair refl)
     reach_due pivots (store.Pivots n) refuses takes =
-        let t = takes n refl in
-        let r = t.1 in (
-          t.0,
-          record { moment = in_place_of r.moment settling (expression_operands fixed e) []; is = is_reach r.moment r.of_call; chain = chain_stays r.moment settling (expression_operands fixed e) [] n r.chain },
-        )
+        let t = takes n refl in (t.0, question_takes l fixed fixes st same (WithExtent side e next) (at_least_zero form) about n t.1)
     reach_due pivots store.NoMemory refuses takes = tt

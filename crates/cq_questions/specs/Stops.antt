@@ -1,19 +1,14 @@
 -- Why a question to the linear constraints stops.
-use Rattle.std.specs.Prelude.{◌≡◌, ℕ, List, [], Option, ⊤}
-use Rattle.std.specs.List.{AllByRecursion}
+use Rattle.std.specs.Prelude.{◌≡◌, ℕ, List, ⊤}
 use Rattle.spec_rational.specs.Rational.{ℚ}
-use Rattle.spec_linear.specs.Form.{Linear}
-use Rattle.spec_linear.specs.Solution.{Constraint, Fixes}
-use Rattle.spec_inequalities.specs.Weak.{at_least_zero}
-use Rattle.spec_limits.specs.Asked.{IsAsked, IsInForce}
+use Rattle.spec_linear.specs.Solution.{Constraint}
 use Rattle.spec_limits.specs.Chains.{IsBlandChain}
-use Rattle.spec_limits.specs.Overflow.{Moment, OverflowDue, settling}
+use Rattle.spec_limits.specs.Overflow.{Moment, OverflowDue}
 use Rattle.spec_syntax.specs.Trees.{Tree}
-use Rattle.spec_told.specs.Relations.{Is, lin_expression}
 use Rattle.spec_branch.specs.Branch.{State, Branch}
-use Rattle.spec_search.specs.Replies.{IfEntailed}
-use Rattle.spec_stops.specs.Operands.{expression_operands}
-use Rattle.spec_stops.specs.Questions.{JoinsNothing, IsQuestionMoment}
+use Rattle.spec_search.specs.Builtins.{Side}
+use Rattle.spec_search.specs.Replies.{IfEntailed, WithExtent}
+use Rattle.spec_stops.specs.Questions.{IsQuestionMoment}
 use Rattle.cq_frac.specs.declared.Pair.{Pair}
 use Rattle.cq_linear.specs.declared.store.StoreFault.{StoreFault}
 use Rattle.cq_linear.specs.declared.store.StoreFault.TheVariants.{Overflow, Pivots, NoMemory}
@@ -36,28 +31,14 @@ IsDueIn P pivots (Overflow pair) = RefusesIn P pair
 IsDueIn P pivots (Pivots n) = (n ≡ pivots) × TakesIn P n
 IsDueIn P pivots NoMemory = ⊤
 
--- what holds of each state with this list, and the values that the list fixes
+-- what holds of each state with this list
 abbrev pub AtStates : List Constraint → (State → Type 0) → Type 0
 AtStates l P = (st : State) → st.linear ≡ l → P st
 
--- the moments of a goal that asks whether these members are entailed
-abbrev pub AsksMembers : State → List Tree → Moment → Type 0
-AsksMembers st ms m = (b : Branch) → IsQuestionMoment st (IfEntailed ms b) m
+-- a moment of a goal in this state that asks whether these members are entailed is why there is this fault, whatever its child
+abbrev pub MembersStop : ℕ → State → List Tree → StoreFault → Type 0
+MembersStop pivots st ms f = (b : Branch) → IsDueIn (IsQuestionMoment st (IfEntailed ms b)) pivots f
 
--- ---- how far an expression reaches
-
--- the constraint that the expression is not below zero
-abbrev pub IsAtLeastZero : (ℕ → Option ℚ) → Tree → Constraint → Type 0
-IsAtLeastZero fixed e c = (form : Linear) × (lin_expression fixed e ≡ Is form) × (c ≡ at_least_zero form)
-
--- A moment of a goal in this state that asks how far the expression reaches: as where it is asked whether the expression is not
--- below zero.
-pub record AsksReach (st : State) (e : Tree) (m : Moment) : Type 0 where
-  pub stage : m.stage ≡ settling
-  pub fixed : ℕ → Option ℚ
-  pub fixes : Fixes st.linear fixed
-  pub in_force : IsInForce st.linear JoinsNothing (IsAtLeastZero fixed e) m.list
-  pub asked : AllByRecursion (IsAsked m.list JoinsNothing (IsAtLeastZero fixed e)) m.asked
-  pub operations : m.operations ≡ expression_operands fixed e
-  -- no row of an answer is divided
-  pub rows : m.rows ≡ []
+-- so is a moment of one that asks for the extent of the expression
+abbrev pub ExtentStops : ℕ → State → Side → Tree → StoreFault → Type 0
+ExtentStops pivots st side e f = (next : ℚ → Branch) → IsDueIn (IsQuestionMoment st (WithExtent side e next)) pivots f

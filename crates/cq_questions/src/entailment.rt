@@ -10,7 +10,7 @@ ghost use Rattle.cq_sides.specs.Splitting.{AreLive};
 ghost use Rattle.cq_term.specs.Trees.{trees, KnowsTerms};
 ghost use Rattle.cq_world.specs.Worlds.{now_of, saved_of, room_of};
 ghost use Rattle.cq_questions.specs.Members.{lin_of, IsAnswer, AsksOne};
-ghost use Rattle.cq_questions.specs.Stops.{AtStates, AsksMembers, IsDueIn};
+ghost use Rattle.cq_questions.specs.Stops.{AtStates, MembersStop};
 ghost use Rattle.cq_questions.specs.Values.{AtValues};
 
 use crate::members::{Found, Member, members_now};
@@ -43,7 +43,7 @@ pub fn entailed(
     ensures answer { IfOk result (λ r. AtValues world.old.store.told (λ fixed. IsAnswer atoms.now world.old.heap.now.terms world.old.store.told fixed
         (trees atoms.now world.old.heap.now.terms members.now) r)) }
     ensures stop { IfErr result (λ f. AtStates world.old.store.told
-        (λ st. IsDueIn (AsksMembers st (trees atoms.now world.old.heap.now.terms members.now)) world.old.store.pivots f)) }
+        (λ st. MembersStop world.old.store.pivots st (trees atoms.now world.old.heap.now.terms members.now) f)) }
     ensures unchanged { now_of world.new ≡ now_of world.old }
     ensures saved { saved_of world.new ≡ saved_of world.old }
     ensures room { room_of world.old ≤ room_of world.new }

@@ -9,7 +9,7 @@ ghost use Rattle.cq_linear.specs.declared.store.StoreFault.TheVariants.{Overflow
 ghost use Rattle.cq_term.specs.Trees.{tree, KnowsTerms};
 ghost use Rattle.cq_world.specs.Worlds.{now_of, saved_of, room_of};
 ghost use Rattle.cq_questions.specs.Extents.{side_of, IsExtentAt, IsReach};
-ghost use Rattle.cq_questions.specs.Stops.{AtStates, AsksReach, IsDueIn};
+ghost use Rattle.cq_questions.specs.Stops.{AtStates, ExtentStops};
 ghost use Rattle.cq_questions.specs.Values.{AtValues};
 
 use crate::terms::expression_now;
@@ -52,7 +52,7 @@ pub fn reach_of(
     ensures reach { IfOk result (λ r. AtValues world.old.store.told (λ fixed. IsReach (side_of side) world.old.store.told fixed
         (tree atoms.now world.old.heap.now.terms expression) r)) }
     ensures stop { IfErr result (λ f. AtStates world.old.store.told
-        (λ st. IsDueIn (AsksReach st (tree atoms.now world.old.heap.now.terms expression)) world.old.store.pivots f)) }
+        (λ st. ExtentStops world.old.store.pivots st (side_of side) (tree atoms.now world.old.heap.now.terms expression) f)) }
     ensures unchanged { now_of world.new ≡ now_of world.old }
     ensures saved { saved_of world.new ≡ saved_of world.old }
     ensures room { room_of world.old ≤ room_of world.new }

@@ -14,11 +14,13 @@ ghost use Rattle.spec_search.specs.Steps.{Steps, ball_of, children};
 ghost use Rattle.spec_search.specs.Turns.{place_of};
 ghost use Rattle.spec_stops.specs.Causes.{Budgets, Overflow, Pivots};
 ghost use Rattle.spec_stops.specs.Due.{Due};
+ghost use Rattle.spec_stops.specs.Questions.{IsQuestionMoment};
 ghost use Rattle.cq_frac.specs.declared.Pair.{Pair};
 ghost use Rattle.cq_linear.specs.declared.store.Extent.TheVariants.{Value, Unbounded};
+ghost use Rattle.cq_linear.specs.declared.store.StoreFault.{StoreFault};
 ghost use Rattle.cq_questions.specs.Extents.{Reaches};
 ghost use Rattle.cq_questions.specs.Members.{AreEntailed, IsOneBroken, IsFirstWaiting};
-ghost use Rattle.cq_questions.specs.Stops.{AsksMembers, RefusesIn, TakesIn};
+ghost use Rattle.cq_questions.specs.Stops.{RefusesIn, TakesIn, IsDueIn, MembersStop, ExtentStops};
 ghost use Rattle.cq_questions.specs.Values.{WithValues};
 
 /// The step of a goal whose reply is a question, by the answer: its child, no child, or its ball.
@@ -39,15 +41,19 @@ pub fn answers_are_steps()
         → WithValues p.state.linear (λ fixed. lin_expression fixed e ≡ Waits) → Steps p goal (ball_of goal (type_error "linear" e)) }
 {}
 
-/// Where it is asked whether members are entailed, an operation that is due in a moment of the question and refuses its pair may
-/// stop the query, and so may exchanges past the budget.
+/// A question's stop is due in a moment of its goal. An operation that is due there and refuses its pair may stop the query, and so
+/// may exchanges past the budget.
 pub fn questions_stop()
-    ensures overflow { (budgets : Budgets) (s : Search) (goal : Tree) (cut : ℕ) (items : List Item) (st : State) (behind : List Branch)
-        (ms : List Tree) (b : Branch) (pair : Pair) → look_at s.branches ≡ Selecting goal cut items st behind
-        → reply_of (place_of s st items cut behind) (read st goal) ≡ IfEntailed ms b → RefusesIn (AsksMembers st ms) pair
+    ensures members { (p : Place) (goal : Tree) (ms : List Tree) (b : Branch) (n : ℕ) (f : StoreFault) → reply_of p goal ≡ IfEntailed ms b
+        → MembersStop n p.state ms f → IsDueIn (IsQuestionMoment p.state (reply_of p goal)) n f }
+    ensures extent { (p : Place) (goal : Tree) (side : Side) (e : Tree) (next : ℚ → Branch) (n : ℕ) (f : StoreFault)
+        → reply_of p goal ≡ WithExtent side e next → ExtentStops n p.state side e f → IsDueIn (IsQuestionMoment p.state (reply_of p goal)) n f }
+    ensures overflow { (budgets : Budgets) (s : Search) (goal : Tree) (cut : ℕ) (items : List Item) (st : State) (behind : List Branch) (pair : Pair)
+        → look_at s.branches ≡ Selecting goal cut items st behind
+        → RefusesIn (IsQuestionMoment st (reply_of (place_of s st items cut behind) (read st goal))) pair
         → Due budgets None s (Overflow pair) }
     ensures pivots { (budgets : Budgets) (s : Search) (goal : Tree) (cut : ℕ) (items : List Item) (st : State) (behind : List Branch)
-        (ms : List Tree) (b : Branch) → look_at s.branches ≡ Selecting goal cut items st behind
-        → reply_of (place_of s st items cut behind) (read st goal) ≡ IfEntailed ms b → TakesIn (AsksMembers st ms) budgets.pivots
+        → look_at s.branches ≡ Selecting goal cut items st behind
+        → TakesIn (IsQuestionMoment st (reply_of (place_of s st items cut behind) (read st goal))) budgets.pivots
         → Due budgets None s (Pivots budgets.pivots) }
 {}

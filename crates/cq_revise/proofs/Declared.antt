@@ -1,9 +1,7 @@
--- Predicates that are declared: why they are refused, and that they are made dynamic one after another.
-use Rattle.std.proofs.Common.{◌≡◌, ◌<◌, ◌++◌, List, [], ◌∷◌, length, map, Option, Some, None, refl, sym, ap, ap₂, ◌∙◌}
-use Rattle.std.specs.Prelude.{All}
-use Rattle.std.proofs.lemmas.List.{map-append}
-use Rattle.std.proofs.lemmas.List.Elements.{All-nil, All-cons, All-head, All-tail}
-use Rattle.std.proofs.lemmas.List.Sums.{fold-append}
+-- Predicates that are declared: why they are refused, and what making all of them dynamic is.
+use Rattle.std.proofs.Common.{◌≡◌, ◌<◌, ℕ, List, [], ◌∷◌, length, map, Option, None, refl, sym, ap, ap₂, subst, ◌∙◌}
+use Rattle.std.specs.Prelude.{All, fold}
+use Rattle.std.proofs.lemmas.List.Elements.{All-head, All-tail}
 use Rattle.spec_lists.specs.Texts.{Text}
 use Rattle.spec_operators.specs.Operators.{Ops}
 use Rattle.spec_syntax.specs.Trees.{Tree}
@@ -12,17 +10,18 @@ use Rattle.spec_built.specs.Errors.{or_error}
 use Rattle.spec_builtins.specs.Clauses.{declarations, declaration_error}
 use Rattle.spec_search.specs.Builtins.{is_built_in}
 use Rattle.spec_search.specs.Database.{Database, all_declared, declared_dynamic}
-use Rattle.cq_atoms.specs.Texts.{AreDifferent}
 use Rattle.cq_term.specs.Meaning.{HeapTerm}
 use Rattle.cq_term.specs.declared.names.Pred.{Pred}
 use Rattle.cq_built.specs.declared.errors.BuiltinFault.{BuiltinFault}
 use Rattle.cq_built.specs.declared.errors.BuiltinFault.TheVariants as builtin_fault
 use Rattle.cq_sides.specs.Faults.{IsFound}
-use Rattle.cq_clauses.specs.ClausesValue.{Declares}
+use Rattle.cq_clauses.specs.ClausesValue.{Declares, DeclaresAll}
+use Rattle.cq_clauses.specs.Database as clauses
+use Rattle.cq_clauses.specs.Database.{ProcedureNow, database}
+use Rattle.cq_clauses.specs.Procedures.{with_dynamic}
+use Rattle.cq_clauses.proofs.Removed.{database_dynamic}
 use Rattle.cq_declarations.specs.Declarations.{own_error, built_in_error}
-use Rattle.cq_program.specs.Database.{Program, IsProgram, as_database, as_indicator}
-use Rattle.cq_revise.specs.Revised.{KeepsShowing, HasDeclared}
-use Rattle.cq_revise.proofs.Showing.{showing_same, showing_then}
+use Rattle.cq_program.specs.Database.{Program, IsProgram, IsCounted, IsKnown, as_database, as_indicator, as_procedure}
 
 -- ---- errors in turn
 
@@ -37,36 +36,52 @@ module _ (t : Tree) (turn : declaration_error is_built_in t ≡ or_error (own_er
 
 -- ---- one after another
 
-pub none_declared : (v : Program) → HasDeclared [] v v
-none_declared v = record { database = λ texts ops different whole known. refl; program = λ texts whole known. whole; showing = showing_same v }
+-- the program in which the first of them is dynamic
+abbrev first_made : Pred → Program → Program
+first_made pred v = record { contents = v.contents; procedures = with_dynamic pred v.procedures }
 
-abbrev AreKnown : List Text → List Pred → Type 0
-AreKnown texts ps = All (λ (p : Pred). p.name < length texts) ps
+first_declares : (pred : Pred) (v : Program) → Declares pred v (first_made pred v)
+first_declares pred v = record { contents = refl; database = database_dynamic pred v.procedures }
 
-module _ (texts : List Text) (pred : Pred) where
-  known_before : (preds : List Pred) → AreKnown texts (preds ++ pred ∷ []) → AreKnown texts preds
-  known_before [] h = All-nil (λ (p : Pred). p.name < length texts)
-  known_before (p ∷ preds) h =
-      let P = λ (q : Pred). q.name < length texts in
-      All-cons P p preds (All-head P p (preds ++ pred ∷ []) h) (known_before preds (All-tail P p (preds ++ pred ∷ []) h))
+-- from there the others are made dynamic
+others_declare : (pred : Pred) (preds : List Pred) (old new : Program) → DeclaresAll (pred ∷ preds) old new → DeclaresAll preds (first_made pred old) new
+others_declare pred preds old new all = record {
+  contents = all.contents;
+  database = all.database
+      ∙ ap (λ (db : List ProcedureNow). fold (λ (ps : List ProcedureNow) (p : Pred). clauses.declared_dynamic p ps) db preds) (sym (database_dynamic pred old.procedures));
+}
 
-  known_last : (preds : List Pred) → AreKnown texts (preds ++ pred ∷ []) → pred.name < length texts
-  known_last [] h = All-head (λ (p : Pred). p.name < length texts) pred [] h
-  known_last (p ∷ preds) h = known_last preds (All-tail (λ (q : Pred). q.name < length texts) p (preds ++ pred ∷ []) h)
+module _ (texts : List Text) where
+  abbrev AreKnown : List Pred → Type 0
+  AreKnown ps = All (λ (p : Pred). p.name < length texts) ps
 
-module _ (old mid new : Program) (preds : List Pred) (pred : Pred) (declares : Declares pred mid new) (showing : KeepsShowing mid new)
-    (database : (texts : List Text) (ops : Ops) (p : Pred) (a b : Program) → AreDifferent texts → IsProgram texts a → p.name < length texts → Declares p a b
-    → as_database texts ops b ≡ declared_dynamic (as_database texts ops a) (as_indicator texts p))
-    (program : (texts : List Text) (p : Pred) (a b : Program) → IsProgram texts a → p.name < length texts → Declares p a b → IsProgram texts b) where
-  pub one_more : HasDeclared preds old mid → HasDeclared (preds ++ pred ∷ []) old new
-  one_more h = record {
-    database = λ texts ops different whole known.
-        let before = known_before texts pred preds known in
-        let is = as_indicator texts in
-        database texts ops pred mid new different (h.program texts whole before) (known_last texts pred preds known) declares
-        ∙ ap (λ (db : Database). declared_dynamic db (is pred)) (h.database texts ops different whole before)
-        ∙ sym (fold-append declared_dynamic (as_database texts ops old) (map is preds) (is pred ∷ []))
-        ∙ sym (ap (λ (l : List Indicator). all_declared l (as_database texts ops old)) (map-append is preds (pred ∷ [])));
-    program = λ texts whole known. program texts pred mid new (h.program texts whole (known_before texts pred preds known)) (known_last texts pred preds known) declares;
-    showing = showing_then old mid new h.showing showing;
+  same_program : (old new : Program) → DeclaresAll [] old new → IsProgram texts old → IsProgram texts new
+  same_program old new all was = record {
+    contents = subst (All (IsCounted (length texts))) (sym all.contents) was.contents;
+    procedures = subst (λ (n : ℕ). All (IsKnown (length texts) n) (database new.procedures)) (sym (ap length all.contents))
+        (subst (All (IsKnown (length texts) (length old.contents))) (sym all.database) was.procedures);
   }
+
+  module _ (program : (p : Pred) (a b : Program) → IsProgram texts a → p.name < length texts → Declares p a b → IsProgram texts b) where
+    after_first : (pred : Pred) (preds : List Pred) (old : Program) → IsProgram texts old → AreKnown (pred ∷ preds) → IsProgram texts (first_made pred old)
+    after_first pred preds old was known =
+        program pred old (first_made pred old) was (All-head (λ (p : Pred). p.name < length texts) pred preds known) (first_declares pred old)
+
+    pub all_programs : (preds : List Pred) (old new : Program) → DeclaresAll preds old new → IsProgram texts old → AreKnown preds → IsProgram texts new
+    all_programs [] old new all was known = same_program old new all was
+    all_programs (pred ∷ preds) old new all was known =
+        all_programs preds (first_made pred old) new (others_declare pred preds old new all) (after_first pred preds old was known)
+        (All-tail (λ (p : Pred). p.name < length texts) pred preds known)
+
+    module _ (ops : Ops) (database : (p : Pred) (a b : Program) → IsProgram texts a → p.name < length texts → Declares p a b
+        → as_database texts ops b ≡ declared_dynamic (as_database texts ops a) (as_indicator texts p)) where
+      pub all_databases : (preds : List Pred) (old new : Program) → DeclaresAll preds old new → IsProgram texts old → AreKnown preds
+          → as_database texts ops new ≡ all_declared (map (as_indicator texts) preds) (as_database texts ops old)
+      all_databases [] old new all was known =
+          λ i. record { procedures = map (as_procedure texts (all.contents i)) (all.database i); operators = ops; next_clause = length (all.contents i) }
+      all_databases (pred ∷ preds) old new all was known =
+          let P = λ (p : Pred). p.name < length texts in
+          let mid = first_made pred old in
+          all_databases preds mid new (others_declare pred preds old new all) (after_first pred preds old was known) (All-tail P pred preds known)
+          ∙ ap (λ (db : Database). all_declared (map (as_indicator texts) preds) db)
+          (database pred old mid was (All-head P pred preds known) (first_declares pred old))

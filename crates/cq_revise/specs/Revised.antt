@@ -1,5 +1,5 @@
 -- A program as goals and files change it.
-use Rattle.std.specs.Prelude.{◌≡◌, ℕ, ◌<◌, List, map, take, length, All}
+use Rattle.std.specs.Prelude.{◌≡◌, ◌<◌, List, map, length, All}
 use Rattle.std.specs.declared.option.Option.{Option}
 use Rattle.spec_lists.specs.Texts.{Text}
 use Rattle.spec_operators.specs.Operators.{Ops}
@@ -20,9 +20,6 @@ use Rattle.cq_declarations.specs.Clauses.{IsOf, body_tree}
 use Rattle.cq_declarations.specs.declared.clauses.ClauseParts.{ClauseParts}
 use Rattle.cq_program.specs.Database.{Program, IsProgram, IsCounted, as_parts, as_clause, as_database, as_indicator}
 use Rattle.cq_program.specs.Keys.{key_of}
-use Rattle.cq_clauses.specs.declared.list.End.TheVariants as places
-use Rattle.cq_revise.specs.declared.adding.End as own
-use Rattle.cq_revise.specs.declared.adding.End.TheVariants as ends
 
 -- the key by which calls look for a clause
 abbrev pub clause_key : ClauseValue → Option Key
@@ -39,11 +36,6 @@ pub record KeepsShowing (old new : Program) : Type 0 where
 
 -- ---- clauses that are added
 
--- the end as the clauses have it
-abbrev pub place : own.End → End
-place ends.First = places.First
-place ends.Last = places.Last
-
 -- the head and the body as the definitions have them
 abbrev pub head_body_of : List Text → List HeapTerm → ClauseParts → HeadBody
 head_body_of texts ts p = record { head = tree texts ts p.head; body = body_tree texts ts p.body }
@@ -59,13 +51,8 @@ pub record AddsStored (end : End) (kind : Kind) (texts : List Text) (parts : Hea
 
 -- ---- procedures that are made dynamic
 
--- the procedures of these predicates were made dynamic, one after another
+-- the procedures of these predicates were made dynamic
 pub record HasDeclared (preds : List Pred) (old new : Program) : Type 0 where
   pub database : (texts : List Text) (ops : Ops) → AreDifferent texts → IsProgram texts old → All (λ p. p.name < length texts) preds
       → as_database texts ops new ≡ all_declared (map (as_indicator texts) preds) (as_database texts ops old)
   pub program : (texts : List Text) → IsProgram texts old → All (λ p. p.name < length texts) preds → IsProgram texts new
-  pub showing : KeepsShowing old new
-
--- so were those of the first of them
-abbrev pub HasDeclaredFirst : List Pred → Program → Program → Type 0
-HasDeclaredFirst preds old new = (k : ℕ) × HasDeclared (take k preds) old new

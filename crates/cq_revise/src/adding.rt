@@ -9,25 +9,18 @@ ghost use Rattle.cq_clauses.specs.ClausesValue.{Adds};
 ghost use Rattle.cq_clauses.specs.Walks.{KeepsReading};
 ghost use Rattle.cq_declarations.specs.Clauses.{IsOf, body_tree};
 ghost use Rattle.cq_program.specs.Database.{IsCounted, as_parts};
-ghost use Rattle.cq_revise.specs.Revised.{clause_key, head_body_of, place, AddsStored, KeepsShowing};
+ghost use Rattle.cq_revise.specs.Revised.{clause_key, head_body_of, AddsStored, KeepsShowing};
 
 use crate::laws::walks_outlast_changes;
 use cq_atoms::Atoms;
 use cq_bodies::convert_body;
 use cq_built::atom;
-use cq_clauses::{Clauses, Kind};
+use cq_clauses::{Clauses, End, Kind};
 use cq_declarations::{CheckedClause, ClauseParts};
 use cq_program::{ProgramClause, clauses_are_counted};
 use cq_stored::Clause;
 use cq_term::{Heap, Pred, TermId};
 use std::alloc::AllocError;
-
-/// The end of a procedure's clauses at which one is added.
-#[derive(Clone, Copy, Debug, PartialEq, Eq)]
-pub enum End {
-    First,
-    Last,
-}
 
 /// Adds a clause that is lawful at an end of the clauses of its predicate; a procedure that it makes is of this kind. An error is
 /// want of memory; names and terms may then stay.
@@ -43,7 +36,7 @@ pub fn add(
     requires body { IfSome checked.parts.body (λ b. b < length heap.old.now.terms) }
     requires names { KnowsTerms atoms.old heap.old.now.terms }
     requires predicate { IsOf atoms.old checked.predicate (tree atoms.old heap.old.now.terms checked.parts.head) }
-    ensures added { OnOk result (AddsStored (place end) kind atoms.new (head_body_of atoms.old heap.old.now.terms checked.parts) clauses.old clauses.new) }
+    ensures added { OnOk result (AddsStored end kind atoms.new (head_body_of atoms.old heap.old.now.terms checked.parts) clauses.old clauses.new) }
     ensures showing { KeepsShowing clauses.old clauses.new }
     ensures grows { Grows atoms.old heap.old atoms.new heap.new }
     ensures err { OnErr result (clauses.new ≡ clauses.old) }
@@ -51,7 +44,13 @@ pub fn add(
     walks_outlast_changes();
     clauses.walks_are_known();
     let clause = stored_clause(heap, atoms, checked.parts)?;
-    put(clauses, checked.predicate, ProgramClause::new(clause), end, kind)?;
+    put(
+        clauses,
+        checked.predicate,
+        ProgramClause::new(clause),
+        end,
+        kind,
+    )?;
     Ok(())
 }
 
@@ -63,7 +62,7 @@ fn put(
     end: End,
     kind: Kind,
 ) -> Result<(), AllocError>
-    ensures added { OnOk result (Adds (place end) kind predicate clause clauses.old clauses.new) }
+    ensures added { OnOk result (Adds end kind predicate clause clauses.old clauses.new) }
     ensures reading { KeepsReading clause_key clauses.old clauses.new }
     ensures err { OnErr result (clauses.new ≡ clauses.old) }
 {

@@ -7,7 +7,7 @@ ghost use Rattle.cq_term.specs.Trees.{tree, KnowsTerms};
 ghost use Rattle.cq_built.specs.Errors.{indicator_of, CanBeRaised};
 ghost use Rattle.cq_sides.specs.Faults.{IsFound};
 ghost use Rattle.cq_declarations.specs.Declarations.{built_in_error};
-ghost use Rattle.cq_revise.specs.Revised.{HasDeclared, HasDeclaredFirst};
+ghost use Rattle.cq_revise.specs.Revised.{HasDeclared, KeepsShowing};
 
 use crate::laws::walks_outlast_changes;
 use crate::permissions::{is_built_in, refused};
@@ -20,11 +20,7 @@ use cq_term::{Heap, Pred, TermId};
 use std::alloc::AllocError;
 
 /// The predicates that `dynamic(TERM)` or `discontiguous(TERM)` declares, in order, or the error of the goal.
-pub fn check_declared(
-    heap: &Heap,
-    atoms: &Atoms,
-    term: TermId,
-) -> Result<Vec<Pred>, BuiltinFault>
+pub fn check_declared(heap: &Heap, atoms: &Atoms, term: TermId) -> Result<Vec<Pred>, BuiltinFault>
     requires live { term < length heap.now.now.terms }
     requires names { KnowsTerms atoms.now heap.now.now.terms }
     ensures lawful { OnOk result (declaration_error is_built_in (tree atoms.now heap.now.now.terms term) ≡ None) }
@@ -61,21 +57,18 @@ fn first_built_in(atoms: &Atoms, predicates: &[Pred]) -> Option<Pred>
     None
 }
 
-/// Makes the procedures of these predicates dynamic, one after another. An error is want of memory; the first of them may then be
-/// dynamic.
+/// Makes the procedures of these predicates dynamic: all of them, or none after an error, which is want of memory.
 pub fn declare_dynamic(
     clauses: &mut Clauses<ProgramClause>,
     predicates: &[Pred],
 ) -> Result<(), AllocError>
     ensures declared { OnOk result (HasDeclared predicates.now clauses.old clauses.new) }
-    ensures err { OnErr result (HasDeclaredFirst predicates.now clauses.old clauses.new) }
+    ensures showing { KeepsShowing clauses.old clauses.new }
+    ensures err { OnErr result (clauses.new ≡ clauses.old) }
 {
     walks_outlast_changes();
     changes_are_those_of_the_database();
     programs_stay_programs();
-    for predicate in predicates {
-        let declared = *predicate;
-        clauses.declare_dynamic(declared)?;
-    }
+    clauses.declare_all_dynamic(predicates)?;
     Ok(())
 }

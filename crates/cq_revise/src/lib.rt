@@ -7,7 +7,7 @@ mod declaring;
 mod laws;
 mod permissions;
 
-pub use adding::{End, add};
+pub use adding::add;
 pub use declaring::{check_declared, declare_dynamic};
 pub use laws::walks_outlast_changes;
 pub use permissions::{check_change, check_readable, is_built_in};

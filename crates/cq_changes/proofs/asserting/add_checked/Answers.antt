@@ -1,7 +1,6 @@
 use Rattle.std.proofs.Common.{◌≡◌, ◌∙◌, List, map, refl, sym, ap, subst}
 use Rattle.std.specs.List.{zip}
 use Rattle.spec_lists.proofs.Prefixes.{prefix_within}
-use Rattle.spec_lists.specs.Texts.{Text}
 use Rattle.spec_operators.specs.Operators.{Ops}
 use Rattle.spec_search.specs.Database.{Database, Dynamic, clause_added}
 use Rattle.spec_machine.specs.Cells.{Value, Stack}
@@ -9,7 +8,7 @@ use Rattle.spec_machine.specs.Standing.{engine, IsStanding}
 use Rattle.cq_clauses.specs.declared.procedures.Kind.TheVariants as kind
 use Rattle.cq_control.specs.Open.{AreMarked}
 use Rattle.cq_linear.specs.StoreValue.{kept}
-use Rattle.cq_program.specs.Database.{Program, as_database, as_end}
+use Rattle.cq_program.specs.Database.{Program, IsProgram, as_database, as_end}
 use Rattle.cq_steps.specs.Choices.{AreOpen}
 use Rattle.cq_steps.specs.Worlds.{IsBranch, term_in, stack, with_heap}
 use Rattle.cq_term.specs.HeapValue.{Terms}
@@ -20,8 +19,8 @@ use Rattle.cq_machine.proofs.Built.{lists_same}
 use Rattle.cq_machine.proofs.Interned.{texts_kept, names_kept}
 use Rattle.cq_offer.specs.Offers.{held_by}
 use Rattle.cq_offer.proofs.Machines.{over_sound, named_there, on_err}
-use Rattle.cq_revise.specs.Revised.{head_body_of, place, AddsStored}
-use Rattle.cq_changes.proofs.Stored.{still_program, on_ok}
+use Rattle.cq_revise.specs.Revised.{head_body_of, AddsStored}
+use Rattle.cq_changes.proofs.Stored.{either_way, on_ok}
 use Rattle.cq_changes.proofs.asserting.add_checked.Goals as goal
 
 pub text-requires : goal.text-requires
@@ -43,10 +42,10 @@ returns-clause-added c =
     ∙ ap (λ (o : Ops). as_database m.atoms o m.clauses)
     (c.more_names_keep_the_table.ensures.table m.atoms more m.ops (record { before = s.different; after = c.text.ensures.different; kept = keeps }) s.operators_named) in
     on_ok d.result
-    (λ (a : AddsStored (place c.args.end) kind.Dynamic more parts m.clauses d.new.clauses).
-    c.changes_are_those_of_the_database.ensures.added more ops c.text.ensures.different (place c.args.end) kind.Dynamic a.pred a.clause parts m.clauses d.new.clauses
+    (λ (a : AddsStored c.args.end kind.Dynamic more parts m.clauses d.new.clauses).
+    c.changes_are_those_of_the_database.ensures.added more ops c.text.ensures.different c.args.end kind.Dynamic a.pred a.clause parts m.clauses d.new.clauses
     (c.programs_stay_programs.ensures.named m.atoms more keeps m.clauses s.program) a.of_head.known a.of_head.indicator a.holds a.adds
-    ∙ ap (λ (db : Database). clause_added (as_end (place c.args.end)) Dynamic parts db) same)
+    ∙ ap (λ (db : Database). clause_added (as_end c.args.end) Dynamic parts db) same)
     d.ensures.added
 
 pub returns-clause-err : goal.returns-clause-err
@@ -96,8 +95,8 @@ returns-clause-sound c =
       known = names_kept m.atoms more keeps m.names s.known;
       different = c.text.ensures.different;
       names = d.ensures.grows.names s.names;
-      program = still_program more m.clauses d.new.clauses (AddsStored (place c.args.end) kind.Dynamic more parts m.clauses d.new.clauses) was
-          (λ a. c.programs_stay_programs.ensures.added more (place c.args.end) kind.Dynamic a.pred a.clause m.clauses d.new.clauses was a.of_head.known a.counted a.adds)
+      program = either_way (IsProgram more) m.clauses d.new.clauses (AddsStored c.args.end kind.Dynamic more parts m.clauses d.new.clauses) was
+          (λ a. c.programs_stay_programs.ensures.added more c.args.end kind.Dynamic a.pred a.clause m.clauses d.new.clauses was a.of_head.known a.counted a.adds)
           d.result d.ensures.added d.ensures.err;
       operators_named = c.more_names_keep_the_table.ensures.known m.atoms more m.ops keeps s.operators_named;
       marked = subst (λ (l : List (Value Contents)). AreMarked l m.choices) (sym marks) s.marked;

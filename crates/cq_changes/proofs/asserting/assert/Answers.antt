@@ -1,4 +1,4 @@
-use Rattle.std.proofs.Common.{◌≡◌, None, Some, sym, ap, ◌∙◌}
+use Rattle.std.proofs.Common.{sym, ap, ◌∙◌}
 use Rattle.spec_syntax.specs.Trees.{Tree}
 use Rattle.spec_search.specs.Changes.{assert_row}
 use Rattle.cq_built.specs.Errors.{error_tree}
@@ -7,7 +7,7 @@ use Rattle.cq_term.specs.Trees.{tree}
 use Rattle.cq_write.specs.Meaning.{operators}
 use Rattle.cq_machine.specs.Machines.{terms, now, database_of}
 use Rattle.cq_machine.proofs.Kept.{argument_is}
-use Rattle.cq_revise.specs.Revised.{head_body_of, place}
+use Rattle.cq_revise.specs.Revised.{head_body_of}
 use Rattle.cq_changes.proofs.Behind.{goes_on_behind}
 use Rattle.cq_changes.proofs.Stored.{all_kept}
 use Rattle.cq_changes.proofs.Changed.{assert_adds, assert_raises}
@@ -18,7 +18,7 @@ returns-in_ok-add_checked-in-Ok-clause-row c = λ height p behind g s.
     let m = c.args.m.now in
     let new = c.add_checked.new.m in
     let t : Tree = tree m.atoms (terms m) c.arg-clause.result in
-    let e = as_end (place c.args.end) in
+    let e = as_end c.args.end in
     let a = argument_is m.atoms (now m).0 p.state c.args.goal 0 c.arg-clause.result g s.reads c.arg-clause.ensures.live c.arg-clause.ensures.arg in
     record {
       row = ap (assert_row p e) (sym a)
@@ -31,7 +31,7 @@ pub returns-in-Error-clause-row : goal.returns-in-Error-clause-row
 returns-in-Error-clause-row c = λ height p behind g s.
     let m = c.args.m.now in
     let t : Tree = tree m.atoms (terms m) c.arg-clause.result in
-    let e = as_end (place c.args.end) in
+    let e = as_end c.args.end in
     let a = argument_is m.atoms (now m).0 p.state c.args.goal 0 c.arg-clause.result g s.reads c.arg-clause.ensures.live c.arg-clause.ensures.arg in
     ap (assert_row p e) (sym a)
     ∙ assert_raises p (database_of m) s.database t e (error_tree m.atoms (terms m) c.in-Error.error) ((rw c.in-Error.is at c.in-Err.ensures.fault) (operators m.atoms m.ops))

@@ -1,17 +1,15 @@
-use Rattle.std.proofs.Common.{◌<◌, length, map, take, refl, sym, subst}
+use Rattle.std.proofs.Common.{◌≡◌, refl, sym, ap, subst}
 use Rattle.spec_lists.proofs.Prefixes.{prefix_same}
 use Rattle.spec_machine.specs.Cells.{Stack}
 use Rattle.spec_machine.specs.Standing.{engine, IsStanding}
-use Rattle.cq_program.specs.Database.{as_indicator}
-use Rattle.cq_revise.specs.Revised.{HasDeclared, HasDeclaredFirst}
+use Rattle.cq_program.specs.Database.{Program, IsProgram, as_database}
+use Rattle.cq_revise.specs.Revised.{HasDeclared}
 use Rattle.cq_steps.specs.Worlds.{IsBranch, term_in}
-use Rattle.cq_term.specs.declared.names.Pred.{Pred}
 use Rattle.cq_world.specs.Contents.{Contents}
 use Rattle.cq_write.specs.Meaning.{operators}
 use Rattle.cq_machine.specs.Machines.{now, saved}
 use Rattle.cq_offer.proofs.Machines.{on_err}
-use Rattle.cq_changes.proofs.Stored.{on_ok}
-use Rattle.cq_changes.proofs.Dynamic.{declared_anyway, first_known}
+use Rattle.cq_changes.proofs.Stored.{either_way, on_ok}
 use Rattle.cq_changes.proofs.declaring.declare_all.Goals as goal
 
 pub returns-clause-declared : goal.returns-clause-declared
@@ -26,18 +24,13 @@ pub returns-clause-err : goal.returns-clause-err
 returns-clause-err c =
     let m = c.args.m.now in
     let d = c.declare_dynamic in
-    on_err d.result
-    (λ (h : HasDeclaredFirst c.args.predicates.now m.clauses d.new.clauses).
-    (map (as_indicator m.atoms) (take h.0 c.args.predicates.now), h.1.database m.atoms (operators m.atoms m.ops) c.requires.sound.different c.requires.sound.program
-    (first_known (λ (p : Pred). p.name < length m.atoms) h.0 c.args.predicates.now c.requires.known)))
-    d.ensures.err
+    on_err d.result (λ (e : ◌≡◌ {A = Program} d.new.clauses m.clauses). ap (as_database m.atoms (operators m.atoms m.ops)) e) d.ensures.err
 
 pub returns-clause-stands : goal.returns-clause-stands
 returns-clause-stands c = λ db n current s j.
     let m = c.args.m.now in
     let d = c.declare_dynamic in
-    let some = declared_anyway (λ (p : Pred). p.name < length m.atoms) c.args.predicates.now m.clauses d.new.clauses c.requires.known d.result d.ensures.declared d.ensures.err in
-    let same = c.choices_outlast_changes.ensures.same m.clauses d.new.clauses some.2.showing m.atoms (saved m) m.choices c.requires.sound.untried in
+    let same = c.choices_outlast_changes.ensures.same m.clauses d.new.clauses d.ensures.showing m.atoms (saved m) m.choices c.requires.sound.untried in
     subst (λ (x : Stack Contents). IsStanding (IsBranch m.atoms) (term_in m.atoms) (engine db n x (now m) current) s) (sym same) j
 
 pub returns-clause-sound : goal.returns-clause-sound
@@ -45,20 +38,18 @@ returns-clause-sound c =
     let m = c.args.m.now in
     let d = c.declare_dynamic in
     let s = c.requires.sound in
-    let some = declared_anyway (λ (p : Pred). p.name < length m.atoms) c.args.predicates.now m.clauses d.new.clauses c.requires.known d.result d.ensures.declared d.ensures.err in
     record {
       known = s.known;
       different = s.different;
       names = s.names;
-      program = some.2.program m.atoms s.program some.1;
+      program = either_way (IsProgram m.atoms) m.clauses d.new.clauses (HasDeclared c.args.predicates.now m.clauses d.new.clauses) s.program
+          (λ h. h.program m.atoms s.program c.requires.known) d.result d.ensures.declared d.ensures.err;
       operators_named = s.operators_named;
       marked = s.marked;
-      untried = c.choices_outlast_changes.ensures.tried m.clauses d.new.clauses some.2.showing (saved m) m.choices s.untried;
+      untried = c.choices_outlast_changes.ensures.tried m.clauses d.new.clauses d.ensures.showing (saved m) m.choices s.untried;
     }
 
 pub returns-clause-keeps : goal.returns-clause-keeps
 returns-clause-keeps c =
     let m = c.args.m.now in
-    let d = c.declare_dynamic in
-    let some = declared_anyway (λ (p : Pred). p.name < length m.atoms) c.args.predicates.now m.clauses d.new.clauses c.requires.known d.result d.ensures.declared d.ensures.err in
-    record { atoms = prefix_same m.atoms m.atoms refl; names = refl; ops = refl; showing = some.2.showing; budget = refl }
+    record { atoms = prefix_same m.atoms m.atoms refl; names = refl; ops = refl; showing = c.declare_dynamic.ensures.showing; budget = refl }

@@ -1,4 +1,4 @@
-use Rattle.std.proofs.Common.{◌≡◌, map, None, Some, sym, ap, ◌∙◌}
+use Rattle.std.proofs.Common.{◌≡◌, map, sym, ap, ◌∙◌}
 use Rattle.spec_syntax.specs.Trees.{Tree}
 use Rattle.spec_builtins.specs.Clauses.{declarations}
 use Rattle.spec_search.specs.Changes.{dynamic_row}

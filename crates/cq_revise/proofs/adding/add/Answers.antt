@@ -3,7 +3,7 @@ use Rattle.spec_lists.proofs.Prefixes.{prefix_within}
 use Rattle.cq_built.proofs.Trees.{indicator_kept}
 use Rattle.cq_stored.specs.StoredValue.{ClauseValue}
 use Rattle.cq_program.specs.Database.{IsCounted, as_parts}
-use Rattle.cq_revise.specs.Revised.{place, KeepsShowing}
+use Rattle.cq_revise.specs.Revised.{KeepsShowing}
 use Rattle.cq_revise.proofs.adding.add.Goals as goal
 
 pub returns-clause-added : goal.returns-clause-added
@@ -26,7 +26,7 @@ returns-clause-added c =
 
 pub returns-clause-showing : goal.returns-clause-showing
 returns-clause-showing c =
-    c.walks_outlast_changes.ensures.added (place c.args.end) c.args.kind c.args.checked.predicate c.new.result c.args.clauses.now c.put.new.clauses c.in_ok-put.ensures.added
+    c.walks_outlast_changes.ensures.added c.args.end c.args.kind c.args.checked.predicate c.new.result c.args.clauses.now c.put.new.clauses c.in_ok-put.ensures.added
     c.put.ensures.reading c.walks_are_known.ensures
 
 pub returns-in_err-put-clause-showing : goal.returns-in_err-put-clause-showing

@@ -1,21 +1,27 @@
-use Rattle.std.proofs.Common.{◌≡◌, ◌+◌, ◌++◌, [], ◌∷◌, List, suc, take, sym, ap, subst, ◌∙◌, arith}
-use Rattle.std.proofs.Math.Seq.{take-suc}
-use Rattle.cq_term.specs.declared.names.Pred.{Pred}
-use Rattle.cq_revise.specs.Revised.{HasDeclared}
-use Rattle.cq_revise.proofs.Declared.{one_more}
+use Rattle.std.proofs.Common.{sym, subst}
+use Rattle.cq_revise.specs.Revised.{KeepsShowing}
+use Rattle.cq_revise.proofs.Declared.{all_programs, all_databases}
 use Rattle.cq_revise.proofs.declaring.declare_dynamic.Goals as goal
 
-pub loop-predicate-preserved : goal.loop-predicate-preserved
-loop-predicate-preserved c =
+pub returns-clause-declared : goal.returns-clause-declared
+returns-clause-declared c =
     let preds = c.args.predicates.now in
-    let i = c.loop-predicate.predicate-index in
-    let pred = c.predicate-item.result in
-    let mid = c.loop-predicate.clauses in
-    let new = c.declare_dynamic.new.self in
-    let more : i + 1 ≡ suc i = omega arith in
-    let next : take (i + 1) preds ≡ take i preds ++ pred ∷ [] =
-    ap (λ k. take k preds) more ∙ take-suc preds i pred c.loop-predicate-test.true ∙ ap (λ (p : Pred). take i preds ++ p ∷ []) (sym c.predicate-item.is) in
-    subst (λ (ps : List Pred). HasDeclared ps c.args.clauses.now new) (sym next)
-    (one_more c.args.clauses.now mid new (take i preds) pred c.in_ok-declare_dynamic.ensures.declared
-    (c.walks_outlast_changes.ensures.declared pred mid new c.in_ok-declare_dynamic.ensures.declared c.declare_dynamic.ensures.reading)
-    c.changes_are_those_of_the_database.ensures.declared c.programs_stay_programs.ensures.declared c.loop-predicate.invariant)
+    let old = c.args.clauses.now in
+    let new = c.declare_all_dynamic.new.self in
+    let all = c.in_ok-declare_all_dynamic.ensures.declared in
+    let change = c.changes_are_those_of_the_database.ensures in
+    let stay = c.programs_stay_programs.ensures in
+    record {
+      database = λ texts ops different was known.
+          all_databases texts (stay.declared texts) ops (λ p a b program within declares. change.declared texts ops p a b different program within declares) preds old new all was known;
+      program = λ texts was known. all_programs texts (stay.declared texts) preds old new all was known;
+    }
+
+pub returns-clause-showing : goal.returns-clause-showing
+returns-clause-showing c =
+    c.walks_outlast_changes.ensures.all_declared c.args.predicates.now c.args.clauses.now c.declare_all_dynamic.new.self c.in_ok-declare_all_dynamic.ensures.declared
+    c.declare_all_dynamic.ensures.reading
+
+pub returns-in_err-declare_all_dynamic-clause-showing : goal.returns-in_err-declare_all_dynamic-clause-showing
+returns-in_err-declare_all_dynamic-clause-showing c =
+    subst (KeepsShowing c.args.clauses.now) (sym c.in_err-declare_all_dynamic.ensures.err) (c.walks_outlast_changes.ensures.same c.args.clauses.now)
