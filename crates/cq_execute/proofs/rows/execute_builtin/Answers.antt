@@ -1,6 +1,6 @@
 use Rattle.std.proofs.Common.{refl}
 use Rattle.std.specs.Prelude.{Ok, IfOk}
-use Rattle.spec_search.specs.Builtins.{Least, Greatest, True, Fail, And, Or, IfThen, Cut, Not, Once, Unify, NotUnify, Is, Compare, Assert, DynamicGoal, Discontiguous, Initialization, UseModule, Curly, Entailed, Freeze, Extent, Optimum}
+use Rattle.spec_search.specs.Builtins.{Least, Greatest, True, Fail, And, Or, IfThen, Cut, Not, Once, Catch, Throw, Findall, Unify, NotUnify, Is, Compare, Assert, Retract, ClauseGoal, DynamicGoal, Discontiguous, Initialization, UseModule, Curly, Entailed, Freeze, Extent, Optimum}
 use Rattle.spec_search.specs.Database.{First, Last}
 use Rattle.cq_atoms.specs.Texts.{text_of}
 use Rattle.cq_builtin.specs.Rows.{comparison_of}
@@ -421,3 +421,79 @@ write-requires-clause-calls c =
 pub newline-requires-clause-calls : goal.newline-requires-clause-calls
 newline-requires-clause-calls c =
     rw c.in-Newline.is at c.requires.calls
+
+-- ---- balls, findall and clauses that are asked for
+
+pub catch-requires-clause-three : goal.catch-requires-clause-three
+catch-requires-clause-three c =
+    so_many (text_of c.args.m.now.atoms) (at (terms c.args.m.now) c.args.goal) Catch 3 (rw c.in-Catch.is at c.requires.calls) (λ n. refl)
+
+pub returns-in-Catch : goal.returns-in-Catch
+returns-in-Catch c =
+    let m = c.args.m.now in
+    let new = c.catch.new.m in
+    let r = c.catch.result in
+    let calls = rw c.in-Catch.is at c.requires.calls in
+    quiet_done m new c.args.goal c.args.height c.args.rest _ c.quiet-in-Catch.result
+    (row_done m new c.args.goal c.args.height c.args.rest Catch calls r c.catch.ensures.row c.catch.ensures.goes
+    (none_raised m new c.args.goal c.args.height c.args.rest Catch calls c.requires.at.selected (λ p g e h. cc) (λ p g t h. cc) r c.catch.ensures.row)
+    c.catch.ensures.sound c.catch.ensures.program c.catch.ensures.err)
+    c.quiet-in-Catch.ensures
+
+pub throw-requires-clause-one : goal.throw-requires-clause-one
+throw-requires-clause-one c =
+    so_many (text_of c.args.m.now.atoms) (at (terms c.args.m.now) c.args.goal) Throw 1 (rw c.in-Throw.is at c.requires.calls) (λ n. refl)
+
+pub returns-in-Throw : goal.returns-in-Throw
+returns-in-Throw c =
+    let m = c.args.m.now in
+    let s = c.throw.result in
+    quiet_done m m c.args.goal c.args.height c.args.rest (Ok s) c.quiet-in-Throw.result
+    (stop_done m m c.args.goal c.args.height c.args.rest Throw (rw c.in-Throw.is at c.requires.calls) (Ok s) (λ p behind g at. c.throw.ensures.row c.args.height c.args.rest p behind g at) tt
+    c.throw.ensures.goes (still_raised {E = StoreFault} m (Ok s)) c.requires.at.sound (same_machine m) tt)
+    c.quiet-in-Throw.ensures
+
+pub findall-requires-clause-three : goal.findall-requires-clause-three
+findall-requires-clause-three c =
+    so_many (text_of c.args.m.now.atoms) (at (terms c.args.m.now) c.args.goal) Findall 3 (rw c.in-Findall.is at c.requires.calls) (λ n. refl)
+
+pub returns-in-Findall : goal.returns-in-Findall
+returns-in-Findall c =
+    let m = c.args.m.now in
+    let new = c.findall.new.m in
+    let r = c.findall.result in
+    let calls = rw c.in-Findall.is at c.requires.calls in
+    quiet_done m new c.args.goal c.args.height c.args.rest _ c.quiet-in-Findall.result
+    (row_done m new c.args.goal c.args.height c.args.rest Findall calls r c.findall.ensures.row c.findall.ensures.goes c.findall.ensures.raises
+    c.findall.ensures.sound c.findall.ensures.program c.findall.ensures.err)
+    c.quiet-in-Findall.ensures
+
+pub retract-requires-clause-one : goal.retract-requires-clause-one
+retract-requires-clause-one c =
+    so_many (text_of c.args.m.now.atoms) (at (terms c.args.m.now) c.args.goal) Retract 1 (rw c.in-Retract.is at c.requires.calls) (λ n. refl)
+
+pub returns-in-Retract : goal.returns-in-Retract
+returns-in-Retract c =
+    let m = c.args.m.now in
+    let new = c.retract.new.m in
+    let r = c.retract.result in
+    let calls = rw c.in-Retract.is at c.requires.calls in
+    quiet_done m new c.args.goal c.args.height c.args.rest _ c.quiet-in-Retract.result
+    (row_done m new c.args.goal c.args.height c.args.rest Retract calls r (rows_at m new c.args.goal c.args.height c.args.rest Retract calls r c.retract.ensures.row)
+    c.retract.ensures.goes c.retract.ensures.raises c.retract.ensures.sound c.retract.ensures.program c.retract.ensures.err)
+    c.quiet-in-Retract.ensures
+
+pub clause-requires-clause-two : goal.clause-requires-clause-two
+clause-requires-clause-two c =
+    so_many (text_of c.args.m.now.atoms) (at (terms c.args.m.now) c.args.goal) ClauseGoal 2 (rw c.in-Clause.is at c.requires.calls) (λ n. refl)
+
+pub returns-in-Clause : goal.returns-in-Clause
+returns-in-Clause c =
+    let m = c.args.m.now in
+    let new = c.clause.new.m in
+    let r = c.clause.result in
+    let calls = rw c.in-Clause.is at c.requires.calls in
+    quiet_done m new c.args.goal c.args.height c.args.rest _ c.quiet-in-Clause.result
+    (row_done m new c.args.goal c.args.height c.args.rest ClauseGoal calls r (rows_at m new c.args.goal c.args.height c.args.rest ClauseGoal calls r c.clause.ensures.row)
+    c.clause.ensures.goes c.clause.ensures.raises c.clause.ensures.sound c.clause.ensures.program c.clause.ensures.err)
+    c.quiet-in-Clause.ensures
