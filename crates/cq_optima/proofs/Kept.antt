@@ -48,15 +48,6 @@ sound_kept old new s same names marks choices = record {
       (subst (λ (cs : List Alternatives). AreOpen old.atoms old.clauses (saved old) cs) (sym choices) s.untried)));
 }
 
-pub program_then : (old mid new : Machine) → HasSameProgram old mid → HasSameProgram mid new → HasSameProgram old new
-program_then old mid new p q = record {
-  atoms = q.atoms ∙ p.atoms;
-  names = q.names ∙ p.names;
-  ops = q.ops ∙ p.ops;
-  clauses = q.clauses ∙ p.clauses;
-  budget = q.budget ∙ p.budget;
-}
-
 -- ---- a machine that was asked
 
 -- nothing was added
@@ -88,10 +79,6 @@ pub unchanged_ball : (old new : Machine) (p : Place) (g : Tree) (e : BuiltinErro
 unchanged_ball old new p g e u h =
     subst (λ (a : List Text). Steps p g (ball_of g (error_tree a (terms new) e))) (sym u.program.atoms)
     (subst (λ (v : Value Contents). Steps p g (ball_of g (error_tree old.atoms v.0.heap.terms e))) (sym u.now) h)
-
-pub unchanged_culprit : (old new : Machine) (e : BuiltinError) → IsUnchanged old new → HasCulprit old.atoms (terms old) e → HasCulprit new.atoms (terms new) e
-unchanged_culprit old new e u h =
-    subst (λ (a : List Text). HasCulprit a (terms new) e) (sym u.program.atoms) (subst (λ (v : Value Contents). HasCulprit old.atoms v.0.heap.terms e) (sym u.now) h)
 
 -- ---- a machine that has built terms
 

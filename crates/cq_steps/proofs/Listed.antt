@@ -27,8 +27,3 @@ row_raises p t g l e =
     ap (λ (b : Bool). if b
     then makes p (child (call_of g ∷ Collect p.height t ∷ p.rest) p.state no_work ∷ child (Gathered l [] ∷ p.rest) p.state no_work ∷ [])
     else Raises (type_error "list" l)) e
-
-pub list_raised : (texts : List Text) (w : Contents) (p : Place) (id : ℕ) (t g l : Tree) → ReadsAs texts w p.state id l
-    → may_be_list (tree texts w.heap.terms id) ≡ false → findall_row p t g l ≡ Raises (type_error "list" (tree texts w.heap.terms id))
-list_raised texts w p id t g l r e =
-    ap (findall_row p t g) (sym (reads_tree texts w p.state id l r)) ∙ row_raises p t g (tree texts w.heap.terms id) e
