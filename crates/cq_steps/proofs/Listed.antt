@@ -20,10 +20,3 @@ may_be_list t = is_partial t || is_list t
 pub may_be : (texts : List Text) (w : Contents) (st : State) (id : ℕ) (l : Tree) → ReadsAs texts w st id l → may_be_list (tree texts w.heap.terms id) ≡ true
     → may_be_list l ≡ true
 may_be texts w st id l r e = ap may_be_list (sym (reads_tree texts w st id l r)) ∙ e
-
--- another term is an error
-row_raises : (p : Place) (t g l : Tree) → may_be_list l ≡ false → findall_row p t g l ≡ Raises (type_error "list" l)
-row_raises p t g l e =
-    ap (λ (b : Bool). if b
-    then makes p (child (call_of g ∷ Collect p.height t ∷ p.rest) p.state no_work ∷ child (Gathered l [] ∷ p.rest) p.state no_work ∷ [])
-    else Raises (type_error "list" l)) e
