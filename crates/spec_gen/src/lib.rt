@@ -1,0 +1,23 @@
+//! The query that `gen` asks, and the line that it writes. No code: each function has an empty body, and its contract is a law of
+//! the definitions, or what they say of an example.
+#![tactic(auto)]
+
+ghost use Rattle.std.specs.Prelude.{◌≡◌, ℕ, suc, ◌<◌, pos};
+ghost use Rattle.spec_rational.specs.Rational.{int_ℚ};
+ghost use Rattle.spec_gen.specs.Query.{IsLeastValue, constraints, gap, last, least};
+
+/// Where the query's constraints are met, its last variable is 1 and the gaps at least, and somewhere it is that.
+pub fn the_last_variable_has_a_least_value()
+    ensures { (k : ℕ) → k < 200 → IsLeastValue (constraints (suc k)) (last (suc k)) (int_ℚ (pos (least k))) }
+{}
+
+/// Gaps, and the least values of the last variables of 1, 7, 10, 14 and 200.
+pub fn least_values()
+    ensures second { gap 2 ≡ 5 }
+    ensures seventh { gap 7 ≡ 1 }
+    ensures one { least 0 ≡ 1 }
+    ensures seven { least 6 ≡ 20 }
+    ensures ten { least 9 ≡ 30 }
+    ensures fourteen { least 13 ≡ 41 }
+    ensures two_hundred { least 199 ≡ 600 }
+{}
