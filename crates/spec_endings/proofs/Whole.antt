@@ -133,4 +133,4 @@ lines o left asked status text line (ending.input_fault taken split read) = refl
 lines o left asked status text line (ending.write_fault w) = refl
 lines o left asked status text line (ending.no_memory w) = refl
 lines o left asked status text line ending.no_memory_for_words = refl
-lines o left asked status text line (ending.generates {n = n} unread ends) = gen_lines n status text line ends
+lines o left asked status text line (ending.generates {n = n} ends) = gen_lines n status text line ends

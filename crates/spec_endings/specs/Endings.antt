@@ -61,9 +61,7 @@ pub data Ends (o : Outside) (left : List ℕ) : Option Task → Status → Text 
   write_fault : {a : Asked} {text : Text} → HasWritten o a text → Ends o left (Some (ToRun a)) WriteFault text write_line
   no_memory : {a : Asked} {text : Text} → HasWritten o a text → Ends o left (Some (ToRun a)) NoMemory text memory_line
   no_memory_for_words : Ends o left None NoMemory [] memory_line
-  -- nothing of the input is read
-  generates : {n : ℕ} {status : Status} {text line : Text} → left ≡ o.input → GenEnds n status text line
-      → Ends o left (Some (ToGen n)) status text line
+  generates : {n : ℕ} {status : Status} {text line : Text} → GenEnds n status text line → Ends o left (Some (ToGen n)) status text line
 
 -- what `out` gained at this status: after a failed write it may tell no more
 abbrev pub Gains : Status → Option (List ℕ) → Option (List ℕ) → Text → Type 0
