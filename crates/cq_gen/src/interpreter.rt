@@ -1,6 +1,6 @@
 // What `gen` asks of an interpreter.
 
-ghost use Rattle.std.specs.Prelude.{◌≡◌, ◌<◌, IfOk, OnOk};
+ghost use Rattle.std.specs.Prelude.{◌≡◌, ◌<◌, ◌≤◌, IfOk, OnOk};
 ghost use Rattle.spec_operators.specs.Operators.{Ops};
 ghost use Rattle.spec_branch.specs.Branch.{State};
 ghost use Rattle.spec_search.specs.Search.{start};
@@ -14,9 +14,10 @@ use std::alloc::AllocError;
 /// An interpreter that is asked the query of a number. An error of a call is want of memory.
 pub trait Examined: Interpreter {
     /// Begins the query of a number, of which V alone has a name.
-    fn ask(&mut self, number: u64) -> Result<(), AllocError>
+    fn examine(&mut self, number: u64) -> Result<(), AllocError>
         requires kept { Self.kept self.old }
         requires some { 0 < number }
+        requires few { number ≤ 200 }
         ensures stands { OnOk result (Self.stands self.new (start (Self.program self.old).database (query number) (variables number))) }
         ensures names { OnOk result (Self.names self.new ≡ gen_names number) }
         ensures budgets { Self.budgets self.new ≡ Self.budgets self.old }

@@ -1,5 +1,5 @@
--- A query that words ask for may write an answer, and the number that they ask for is not 0.
-use Rattle.std.proofs.Common.{◌≡◌, ◌<◌, ℕ, List, Bool, true, false, Option, Some, None, refl, ap, arith, option_map, if◌then◌else◌}
+-- A query that words ask for may write an answer, and a number that they ask for is in its range.
+use Rattle.std.proofs.Common.{◌≡◌, ◌<◌, ◌≤◌, ℕ, List, Bool, true, false, Option, Some, None, refl, ap, arith, option_map, if◌then◌else◌}
 use Rattle.std.proofs.lemmas.Option.{none-some, same_Some}
 use Rattle.std.specs.Prelude.{bytes_eq, map, String, option_and_then, string_bytes, unwrap_or, codes, []}
 use Rattle.std.specs.Str.Parse.{digits_value, without_leading_plus}
@@ -14,24 +14,24 @@ use Rattle.cq_words.specs.Asked.{Asked, Task, ToRun, ToGen}
 use Rattle.cq_words.specs.Language.{asked_by, asked_in, asked_of, command, gen_in, is_taken, number_or, number_to, task_in}
 use Rattle.cq_words.specs.declared.run.TheConstants.{GREATEST, MOST, STEPS, PIVOTS, ANSWERS}
 
-number_positive : (most : ℕ) (text : Text) (n : ℕ) → number_to most text ≡ Some n → 0 < n
-number_positive most text n = go (is_unsigned_in 1 most text) refl
+number_between : (most : ℕ) (text : Text) (n : ℕ) → number_to most text ≡ Some n → (0 < n) × (n ≤ most)
+number_between most text n = go (is_unsigned_in 1 most text) refl
   where
     v : ℕ
     v = digits_value 10 (without_leading_plus text)
 
-    go : (b : Bool) → is_unsigned_in 1 most text ≡ b → (if b then Some v else None) ≡ Some n → 0 < n
+    go : (b : Bool) → is_unsigned_in 1 most text ≡ b → (if b then Some v else None) ≡ Some n → (0 < n) × (n ≤ most)
     go true e h = let i = accepts-Accepts false (parser.Unsigned 1 most) text e in
-        let s = same_Some v n h in omega (arith, i.2, s)
+        let s = same_Some v n h in (omega (arith, i.2, s), omega (arith, i.3, s))
     go false e h = absurd (none-some n h)
 
 answers_positive : (given : Option Text) (n : ℕ) → number_or ANSWERS given ≡ Some n → 0 < n
 answers_positive None n h = let s = same_Some ANSWERS n h in omega (arith, s)
-answers_positive (Some text) n h = number_positive MOST text n h
+answers_positive (Some text) n h = (number_between MOST text n h).0
 
-gen_positive : (given : Option Text) (n : ℕ) → option_and_then (number_to GREATEST) given ≡ Some n → 0 < n
-gen_positive None n h = absurd (none-some n h)
-gen_positive (Some text) n h = number_positive GREATEST text n h
+gen_between : (given : Option Text) (n : ℕ) → option_and_then (number_to GREATEST) given ≡ Some n → (0 < n) × (n ≤ GREATEST)
+gen_between None n h = absurd (none-some n h)
+gen_between (Some text) n h = number_between GREATEST text n h
 
 third : (s p n : Option ℕ) (names : List Text) (a : Asked) → asked_of s p n names ≡ Some a → n ≡ Some a.answers
 third (Some s) (Some p) (Some n) names a h = ap (option_map (λ x. x.answers)) h
@@ -74,12 +74,12 @@ module _ (name : Text) (rows : List Row) where
       go false true h = absurd (no_run (gen_in rows) a h)
       go false false h = absurd (none-some (ToRun a) h)
 
-  gen_number : (n : ℕ) → task_in name rows ≡ Some (ToGen n) → 0 < n
+  gen_number : (n : ℕ) → task_in name rows ≡ Some (ToGen n) → (0 < n) × (n ≤ GREATEST)
   gen_number n = go (bytes_eq name (codes "run")) (bytes_eq name (codes "gen"))
     where
-      go : (r g : Bool) → (if r then option_map ToRun (asked_in rows) else if g then option_map ToGen (gen_in rows) else None) ≡ Some (ToGen n) → 0 < n
+      go : (r g : Bool) → (if r then option_map ToRun (asked_in rows) else if g then option_map ToGen (gen_in rows) else None) ≡ Some (ToGen n) → (0 < n) × (n ≤ GREATEST)
       go true g h = absurd (no_gen (asked_in rows) n h)
-      go false true h = gen_positive (first_of (codes "N") rows) n (gen_is (gen_in rows) n h)
+      go false true h = gen_between (first_of (codes "N") rows) n (gen_is (gen_in rows) n h)
       go false false h = absurd (none-some (ToGen n) h)
 
 -- what holds of each task of a subcommand's arguments holds of what words ask for
@@ -98,16 +98,17 @@ by_words words P each t = taken (is_taken (map string_bytes words))
     taken true h = in_found found h
     taken false h = absurd (none-some t h)
 
-abbrev IsPositive : Task → Type 0
-IsPositive (ToRun a) = 0 < a.answers
-IsPositive (ToGen n) = 0 < n
+-- so many answers may come, or the number is in range
+abbrev IsInRange : Task → Type 0
+IsInRange (ToRun a) = 0 < a.answers
+IsInRange (ToGen n) = (0 < n) × (n ≤ GREATEST)
 
-positive : (name : Text) (rows : List Row) (t : Task) → task_in name rows ≡ Some t → IsPositive t
-positive name rows (ToRun a) h = run_answers name rows a h
-positive name rows (ToGen n) h = gen_number name rows n h
+in_range : (name : Text) (rows : List Row) (t : Task) → task_in name rows ≡ Some t → IsInRange t
+in_range name rows (ToRun a) h = run_answers name rows a h
+in_range name rows (ToGen n) h = gen_number name rows n h
 
 pub may_answer : (words : List (String Global)) (a : Asked) → asked_by words ≡ Some (ToRun a) → 0 < a.answers
-may_answer words a h = by_words words IsPositive positive (ToRun a) h
+may_answer words a h = by_words words IsInRange in_range (ToRun a) h
 
-pub may_generate : (words : List (String Global)) (n : ℕ) → asked_by words ≡ Some (ToGen n) → 0 < n
-may_generate words n h = by_words words IsPositive positive (ToGen n) h
+pub may_generate : (words : List (String Global)) (n : ℕ) → asked_by words ≡ Some (ToGen n) → (0 < n) × (n ≤ GREATEST)
+may_generate words n h = by_words words IsInRange in_range (ToGen n) h

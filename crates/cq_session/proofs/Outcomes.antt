@@ -1,6 +1,6 @@
 -- What a run shows of the outside, by how it ended.
 use Rattle.std.proofs.Common.{◌≡◌, ◌≤◌, ℕ, List, [], length, Bool, true, false, Option, Some, None, refl, sym, ap, subst, append-nil, inl, inr}
-use Rattle.std.specs.Prelude.{IfSome, MatchResult, Result, Ok, Err}
+use Rattle.std.specs.Prelude.{IfSome, Err}
 use Rattle.cq_outside.specs.Bytes.{Adds, Appends, Begins}
 use Rattle.cq_outside.specs.declared.shelf.TheConstants.{SIZE_LIMIT}
 use Rattle.cq_words.specs.Asked.{Asked, Task, ToRun, ToGen}
@@ -207,27 +207,24 @@ gen_ended n e s is held now err told h = record {
   told = told;
 }
 
--- what a halt of a line says of the count of faults
-pub gen_caused : (n absent refused failed taken before after : ℕ) (result : Result Lines Halt) (e : Ending) → CountsWrites before after result
-    → MatchResult result (λ lines. e ≡ Whole lines) (λ h. e ≡ Broken h)
-    → Caused (status_of e) (Some (ToGen n)) (counted absent refused failed taken before) (counted absent refused failed taken after)
-gen_caused n absent refused failed taken before after (Ok lines) e counts is =
-    subst (λ x. Caused (status_of x) (Some (ToGen n)) (counted absent refused failed taken before) (counted absent refused failed taken after)) (sym is)
-    (by_lines lines.faulty lines.stopped)
-  where
-    by_lines : (faulty stopped : Bool) → Caused (whole_status faulty stopped) (Some (ToGen n)) (counted absent refused failed taken before) (counted absent refused failed taken after)
-    by_lines true true = refl
-    by_lines false true = refl
-    by_lines true false = refl
-    by_lines false false = refl
-gen_caused n absent refused failed taken before after (Err halt.Write) e counts is =
-    subst (λ x. Caused (status_of x) (Some (ToGen n)) (counted absent refused failed taken before) (counted absent refused failed taken after)) (sym is) (refl, counts)
-gen_caused n absent refused failed taken before after (Err Memory) e counts is =
-    subst (λ x. Caused (status_of x) (Some (ToGen n)) (counted absent refused failed taken before) (counted absent refused failed taken after)) (sym is) tt
-gen_caused n absent refused failed taken before after (Err (halt.Absent name)) e counts is = absurd counts
-gen_caused n absent refused failed taken before after (Err (halt.TooLarge name)) e counts is = absurd counts
-gen_caused n absent refused failed taken before after (Err halt.TooMuchInput) e counts is = absurd counts
-gen_caused n absent refused failed taken before after (Err halt.Read) e counts is = absurd counts
+-- what the status of a line says of the counts, of which a write that failed made one rise
+module _ (n absent refused failed taken before after : ℕ) where
+  abbrev IsCaused : Status → Type 0
+  IsCaused s = Caused s (Some (ToGen n)) (counted absent refused failed taken before) (counted absent refused failed taken after)
+
+  pub whole_caused : (faulty stopped : Bool) → IsCaused (whole_status faulty stopped)
+  whole_caused true true = refl
+  whole_caused false true = refl
+  whole_caused true false = refl
+  whole_caused false false = refl
+
+  pub broken_caused : (h : Halt) → CountsWrites {Lines} before after (Err h) → IsCaused (status_of (Broken h))
+  broken_caused halt.Write counts = (refl, counts)
+  broken_caused Memory counts = tt
+  broken_caused (halt.Absent name) counts = absurd counts
+  broken_caused (halt.TooLarge name) counts = absurd counts
+  broken_caused halt.TooMuchInput counts = absurd counts
+  broken_caused halt.Read counts = absurd counts
 
 pub gen_complete : (n : ℕ) (e : Ending) (s : Status) → s ≡ status_of e → (held now : Option (List ℕ)) (before behind : Counts) → GenCompleteness
     → Caused (status_of e) (Some (ToGen n)) before behind → GenShows n e held now → IsGenClear n before.out_faults behind.out_faults → causes.IsWhole s

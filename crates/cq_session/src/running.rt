@@ -1,6 +1,6 @@
 // A run of the command.
 
-ghost use Rattle.std.specs.Prelude.{◌≡◌, ◌<◌, ℕ, [], None, Some, IfOk, IfErr, IfSome};
+ghost use Rattle.std.specs.Prelude.{◌≡◌, ◌<◌, ◌≤◌, ℕ, [], None, Some, IfOk, IfErr, IfSome};
 ghost use Rattle.cq_words.specs.Asked.{ToGen, as_asked};
 ghost use Rattle.cq_words.specs.Language.{asked_by};
 ghost use Rattle.cq_transcript.specs.Breaks.{CausedBy};
@@ -55,7 +55,8 @@ fn transcribe<'a, P: Interpreter + Drop, F: Shelf, I: Source, O: Sink>(
 
 /// Writes the line of a number's query.
 fn generate<'a, P: Examined + Drop, O: Sink>(alloc: Global, number: u64, out: &mut O) -> Ending<'a>
-    requires { 0 < number }
+    requires some { 0 < number }
+    requires few { number ≤ 200 }
     ensures shows { GenShows number result (O.held out.old) (O.held out.new) }
     ensures cause { (absent refused failed taken : ℕ) → Caused (status_of result) (Some (ToGen number))
         (counted absent refused failed taken (O.faults out.old)) (counted absent refused failed taken (O.faults out.new)) }

@@ -8,7 +8,7 @@ use Rattle.cq_gen.proofs.writing.asked.Goals as goal
 pub returns-clause-stands : goal.returns-clause-stands
 returns-clause-stands g c =
     subst (λ (p : Program). g.P.Interpreter.stands _ (start p.database (query c.args.number) (variables c.args.number))) c.in_ok-program.ensures.program
-    c.in_ok-ask.ensures.stands
+    c.in_ok-examine.ensures.stands
 
 pub returns-clause-budgets : goal.returns-clause-budgets
-returns-clause-budgets g c = c.in_ok-ask.ensures.budgets ∙ c.in_ok-program.ensures.budgets
+returns-clause-budgets g c = c.in_ok-examine.ensures.budgets ∙ c.in_ok-program.ensures.budgets

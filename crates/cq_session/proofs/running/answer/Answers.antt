@@ -19,7 +19,9 @@ returns-in-Ok-transcribe-clause-shows g c = if_some _ _ _ (λ o h. whole_shows o
 -- ---- a number
 
 pub generate-requires : goal.generate-requires
-generate-requires g c = may_generate c.args.words.now c.in-Gen.number (rw c.in-Gen.is at c.in-Ok.ensures.asked)
+generate-requires g c =
+    let h = may_generate c.args.words.now c.in-Gen.number (rw c.in-Gen.is at c.in-Ok.ensures.asked) in
+    record { some = h.0; few = h.1 }
 
 pub returns-in-Gen-clause-shows : goal.returns-in-Gen-clause-shows
 returns-in-Gen-clause-shows g c = if_some_all _ _ (λ o. gen_shows o _ c.in-Gen.number (asked_by c.args.words.now) (rw c.in-Gen.is at c.in-Ok.ensures.asked) _ _ _ c.generate.ensures.shows)
