@@ -5,7 +5,7 @@ use Rattle.std.specs.declared.alloc.Global.{Global}
 use Rattle.spec_lists.specs.Texts.{Text}
 use Rattle.clap.specs.Faults.{fault_of}
 use Rattle.clap.specs.Kinds.{Kinds}
-use Rattle.clap.specs.Simple.{App, Shape, new_app, new_rule, subcommand_of, with_rule, with_subcommand}
+use Rattle.clap.specs.Simple.{App, new_app, new_rule, subcommand_of, with_rule, with_subcommand}
 use Rattle.clap.specs.ValueTests.{is_unsigned_in}
 use Rattle.clap.specs.Walk.{Row, Rule, all_of, first_of}
 use Rattle.clap.specs.declared.builder.action.ArgAction.TheVariants.{Set, Append}
