@@ -2,13 +2,21 @@
 //! the definitions, or what they say of an example.
 #![tactic(auto)]
 
-ghost use Rattle.std.specs.Prelude.{◌≡◌, ℕ, suc, ◌<◌, pos};
+ghost use Rattle.std.specs.Prelude.{◌≡◌, ℕ, suc, ◌<◌, [], ◌∷◌, ◌++◌, None, pos};
 ghost use Rattle.spec_rational.specs.Rational.{int_ℚ};
-ghost use Rattle.spec_gen.specs.Query.{IsLeastValue, constraints, gap, last, least};
+ghost use Rattle.spec_told.specs.Checks.{constraint_error, halves, members};
+ghost use Rattle.spec_gen.specs.Query.{IsLeastValue, constraints, gap, last, least, lowers, upper, uppers};
 
 /// Where the query's constraints are met, its last variable is 1 and the gaps at least, and somewhere it is that.
 pub fn the_last_variable_has_a_least_value()
     ensures { (k : ℕ) → k < 200 → IsLeastValue (constraints (suc k)) (last (suc k)) (int_ℚ (pos (least k))) }
+{}
+
+/// The query's constraints are told as they are: none is an error, no disjunction splits them, and these are they, in order.
+pub fn the_constraints_are_told()
+    ensures right { (k : ℕ) → constraint_error (constraints (suc k)) ≡ None }
+    ensures whole { (k : ℕ) → halves (constraints (suc k)) ≡ None }
+    ensures each { (k : ℕ) → members (constraints (suc k)) ≡ lowers 0 (suc k) ++ (uppers 0 k ++ upper k ∷ []) }
 {}
 
 /// Gaps, and the least values of the last variables of 1, 7, 10, 14 and 200.
