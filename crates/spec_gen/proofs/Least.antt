@@ -70,7 +70,7 @@ least_small (suc k) =
     let g = gap_small (suc (suc k)) in
     omega (arith, h, g)
 
-abbrev here : ℕ → ℚ
+abbrev pub here : ℕ → ℚ
 here k = whole (least k)
 
 lower_met : (k : ℕ) → IsMetAt here (lower k)
@@ -97,9 +97,9 @@ bound_last a k m =
     let e : 0 + k ≡ k = omega arith in
     subst (λ j. whole (least j) ≤ℚ a j) e (bound_from a (before (uppers 0 k) (upper k)) k 0 m.0 m.1)
 
+pub here_met : (k : ℕ) → k < 200 → IsMetAt here (constraints (suc k))
+here_met k small =
+    lowers_met (suc k) 0 (before (uppers 0 k) (upper k)) (uppers_met k 0 (upper k) (omega (arith, small)) (upper_met k small))
+
 pub least_value : (k : ℕ) → k < 200 → IsLeastValue (constraints (suc k)) (last (suc k)) (whole (least k))
-least_value k small = record {
-  bound = λ a m. bound_last a k m;
-  reached =
-      (here, lowers_met (suc k) 0 (before (uppers 0 k) (upper k)) (uppers_met k 0 (upper k) (omega (arith, small)) (upper_met k small)), refl);
-}
+least_value k small = record { bound = λ a m. bound_last a k m; reached = (here, here_met k small, refl) }

@@ -1,2 +1,4 @@
 pub mod Least
 pub mod Told
+pub mod Bound
+pub mod Courses

@@ -2,8 +2,12 @@
 //! the definitions, or what they say of an example.
 #![tactic(auto)]
 
-ghost use Rattle.std.specs.Prelude.{◌≡◌, ℕ, suc, ◌<◌, [], ◌∷◌, ◌++◌, None, pos};
-ghost use Rattle.spec_rational.specs.Rational.{int_ℚ};
+ghost use Rattle.std.specs.Prelude.{◌≡◌, ◌↔◌, ℕ, suc, ◌<◌, List, [], ◌∷◌, ◌++◌, None, Some, pos};
+ghost use Rattle.spec_rational.specs.Rational.{ℚ, int_ℚ};
+ghost use Rattle.spec_linear.specs.Solution.{Constraint, Point, Solves, number};
+ghost use Rattle.spec_syntax.specs.Trees.{Tree};
+ghost use Rattle.spec_told.specs.Values.{IsMetAt, value_of};
+ghost use Rattle.spec_search.specs.Asked.{IsGreatestLowerBound};
 ghost use Rattle.spec_told.specs.Checks.{constraint_error, halves, members};
 ghost use Rattle.spec_gen.specs.Query.{IsLeastValue, constraints, gap, last, least, lowers, upper, uppers};
 
@@ -17,6 +21,13 @@ pub fn the_constraints_are_told()
     ensures right { (k : ℕ) → constraint_error (constraints (suc k)) ≡ None }
     ensures whole { (k : ℕ) → halves (constraints (suc k)) ≡ None }
     ensures each { (k : ℕ) → members (constraints (suc k)) ≡ lowers 0 (suc k) ++ (uppers 0 k ++ upper k ∷ []) }
+{}
+
+/// Where some constraints have the solutions of the query's, and an expression has the value of its last variable, its greatest lower
+/// bound is that least value.
+pub fn the_bound_is_the_least_value()
+    ensures { (k : ℕ) → k < 200 → (l : List Constraint) (e : Tree) (q : ℚ) → ((p : Point) → Solves p l ↔ IsMetAt (number p) (constraints (suc k)))
+        → ((p : Point) → Solves p l → value_of (number p) e ≡ Some (number p k)) → IsGreatestLowerBound l e q → q ≡ int_ℚ (pos (least k)) }
 {}
 
 /// Gaps, and the least values of the last variables of 1, 7, 10, 14 and 200.
