@@ -2,3 +2,4 @@ pub mod Least
 pub mod Told
 pub mod Bound
 pub mod Courses
+pub mod Beginning
