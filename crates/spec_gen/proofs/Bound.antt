@@ -11,10 +11,10 @@ use Rattle.spec_gen.specs.Query.{constraints, least}
 use Rattle.spec_gen.proofs.Least.{here_met, least_value}
 
 -- each variable is its least value
-abbrev there : Point
+abbrev pub there : Point
 there = record { denominator = 1; positive = omega arith; numerator = λ x. pos (least x) }
 
-met_there : (k : ℕ) → k < 200 → IsMetAt (number there) (constraints (suc k))
+pub met_there : (k : ℕ) → k < 200 → IsMetAt (number there) (constraints (suc k))
 unfolding int_ℚ
 met_there k small = here_met k small
 

@@ -3,3 +3,4 @@ pub mod Told
 pub mod Bound
 pub mod Courses
 pub mod Beginning
+pub mod Telling
