@@ -74,8 +74,8 @@ module _ (old : Machine) (n rest : ℕ) (s : Search) (x : SelectsNext old n rest
   pub tells_ball : (budgets : Budgets) → n < budgets.steps → (e : Tree) → Steps place goal (ball_of goal e)
       → handed (plain_copy (error_ball e (indicator_of goal))) x.items x.behind ≡ None
       → Tells budgets s (Shows (Threw (plain_copy (error_ball e (indicator_of goal))))) (after_ball s [])
-  tells_ball budgets few e raises none =
-      shows at_once (may budgets.steps few) (turn.throws x.look raises none) (λ w. let yes : false ≡ true = ap is_written w in absurd (false≢true yes))
+  tells_ball budgets few e up none =
+      shows at_once (may budgets.steps few) (turn.throws x.look up none) (λ w. let yes : false ≡ true = ap is_written w in absurd (false≢true yes))
 
   -- a pair that is refused
   pub tells_refused : (budgets : Budgets) → n < budgets.steps → (pair : Pair) → reply_of place goal ≡ Overflows pair
