@@ -38,7 +38,9 @@ use Rattle.cq_steps.specs.Worlds.{IsBranch, term_in, stack, left_at}
 use Rattle.cq_steps.specs.declared.alternatives.Alternatives.{Alternatives}
 use Rattle.cq_steps.specs.declared.alternatives.Alternatives.TheVariants as alternatives
 use Rattle.cq_steps.proofs.Added.{reads_tree}
-use Rattle.cq_calls.specs.Calling.{IsCalledAt, CallBecomes}
+use Rattle.cq_calls.specs.Calling.{IsCalledAt, CallBecomes, WouldStand, WouldWork, WouldCome}
+use Rattle.cq_calls.proofs.Left.{numbers_left}
+use Rattle.cq_calls.proofs.Waiting.{one_more_open}
 
 -- ---- the procedure
 
@@ -83,24 +85,46 @@ module _ (texts : List Text) (v : Program) (saved : List (Value Contents)) (choi
   abbrev some : List ℕ
   some = matching (key_at (λ (d : ClauseValue). key_of d.head) v.contents) (key_of (at now.0.heap.terms id)) all
 
-  module _ (kind : search.Kind) (found : option_map (λ q. q.kind) procedure ≡ Some kind) (clauses_are : snapshot procedure ≡ map clause all)
-      (selects : IsSelection p (named (text_of texts) (at now.0.heap.terms id)) (map clause all) (map clause some))
-      (walk : Walk) (tried : left (λ (d : ClauseValue). key_of d.head) walk v ≡ some) (more : List (Value Contents)) (after : List Alternatives)
-      (pushed : open_choices more after ≡ (now, alternatives.Clauses id walk rest) ∷ open_choices saved choices) where
-    stack_is : stack texts v more after ≡ (now, Clauses id (map clause some) rest) ∷ stack texts v saved choices
-    stack_is = ap (map (left_at texts v)) pushed ∙ ap (λ (ns : List ℕ). (now, Clauses id (map clause ns) rest) ∷ stack texts v saved choices) tried
+  -- ---- the clauses that a walk leaves of it
+
+  module _ (walk : Walk) (tried : numbers_left v walk ≡ some) where
+    stack_is : stack texts v (saved ++ now ∷ []) (alternatives.Clauses id walk rest ∷ choices) ≡ (now, Clauses id (map clause some) rest) ∷ stack texts v saved choices
+    stack_is =
+        ap (map (left_at texts v)) (one_more_open saved choices now (alternatives.Clauses id walk rest))
+        ∙ ap (λ (ns : List ℕ). (now, Clauses id (map clause ns) rest) ∷ stack texts v saved choices) tried
 
     waits : AreWaiting (IsBranch texts) (term_in texts) ((now, Clauses id (map clause some) rest) ∷ stack texts v saved choices) (map (clause_child p g) (map clause some) ++ behind)
     waits = (map (clause_child p g) (map clause some), behind, refl, (p, g, refl, c.reads.0, c.place.0), c.place.1)
 
-    pub becomes : CallBecomes texts (stack texts v more after) p behind g
-    becomes = record {
-      all = map clause all;
-      some = map clause some;
-      row = row_is ∙ known_row (indicator_of g) procedure kind (map clause all) found clauses_are;
-      selection = subst (λ (t : Tree). IsSelection p t (map clause all) (map clause some)) (reads_tree texts now.0 p.state id g c.reads) selects;
+    -- it would stand for a search with their branches in front
+    would_stand : (s : Search) → s.database ≡ p.database → s.branches ≡ map (clause_child p g) (map clause some) ++ behind
+        → WouldStand texts v saved choices now id walk rest p.database s.selected s
+    would_stand s d b = record {
+      database = d;
+      selected = refl;
+      first = [];
+      behind = map (clause_child p g) (map clause some) ++ behind;
+      branches = b;
+      current = refl;
       waiting = subst (λ st. AreWaiting (IsBranch texts) (term_in texts) st (map (clause_child p g) (map clause some) ++ behind)) (sym stack_is) waits;
     }
+
+    pub would_work : WouldWork texts v saved choices now id walk rest
+    would_work =
+        let s : Search = record { database = p.database; branches = map (clause_child p g) (map clause some) ++ behind; selected = 0 } in
+        (p.database, 0, s, would_stand s refl refl)
+
+    module _ (kind : search.Kind) (found : option_map (λ q. q.kind) procedure ≡ Some kind) (clauses_are : snapshot procedure ≡ map clause all)
+        (selects : IsSelection p (named (text_of texts) (at now.0.heap.terms id)) (map clause all) (map clause some)) where
+      pub becomes : (more : List (Value Contents)) (after : List Alternatives) (later : Value Contents) (current : Option ℕ)
+          → WouldCome texts v saved choices now id walk rest more after later current → CallBecomes texts (stack texts v more after) later current p behind g
+      becomes more after later current comes = record {
+        all = map clause all;
+        some = map clause some;
+        row = row_is ∙ known_row (indicator_of g) procedure kind (map clause all) found clauses_are;
+        selection = subst (λ (t : Tree). IsSelection p t (map clause all) (map clause some)) (reads_tree texts now.0 p.state id g c.reads) selects;
+        comes = λ steps s d b. comes steps p.database s.selected s (would_stand s d b);
+      }
 
 -- ---- the search
 

@@ -1,0 +1,87 @@
+-- The clauses of a call, which would wait as one more choice.
+use Rattle.std.proofs.Common.{◌≡◌, ℕ, ◌<◌, List, [], ◌∷◌, ◌++◌, length, map, Option, None, Some, refl, sym, ap, ◌∙◌, subst, arith, reverse}
+use Rattle.std.specs.List.{zip}
+use Rattle.std.proofs.lemmas.List.{reverse-append}
+use Rattle.spec_lists.specs.Texts.{Text}
+use Rattle.spec_syntax.specs.Trees.{Tree}
+use Rattle.spec_branch.specs.Branch.{Branch}
+use Rattle.spec_search.specs.Database.{Database}
+use Rattle.spec_search.specs.Replies.{Place}
+use Rattle.spec_search.specs.Search.{Search}
+use Rattle.cq_clauses.specs.declared.walk.Walk.{Walk}
+use Rattle.cq_control.specs.Open.{open_choices}
+use Rattle.cq_program.specs.Database.{Program}
+use Rattle.cq_world.specs.Contents.{Contents}
+use Rattle.cq_world.specs.Rest.{IsReady}
+use Rattle.spec_machine.specs.Cells.{Clauses, Stack, Value}
+use Rattle.spec_machine.specs.Standing.{engine, IsPlace, AreWaiting, IsStanding}
+use Rattle.cq_steps.specs.Choices.{LeavesAlso}
+use Rattle.cq_steps.specs.Worlds.{IsBranch, term_in, clauses_left, stack, left_at, Arrives, Grown}
+use Rattle.cq_steps.specs.declared.alternatives.Alternatives.{Alternatives}
+use Rattle.cq_steps.specs.declared.alternatives.Alternatives.TheVariants as alternatives
+use Rattle.cq_steps.proofs.Arrived.{comes_at_once}
+use Rattle.cq_steps.proofs.Reading.{read_live}
+use Rattle.cq_steps.proofs.Selected.{continuation_grown}
+use Rattle.cq_calls.specs.Calling.{WouldStand, WouldCome}
+
+-- one more choice, over a mark of this world
+pub one_more_open : (saved : List (Value Contents)) (choices : List Alternatives) (now : Value Contents) (c : Alternatives)
+    → open_choices (saved ++ now ∷ []) (c ∷ choices) ≡ (now, c) ∷ open_choices saved choices
+one_more_open saved choices now c = ap (λ (vs : List (Value Contents)). zip vs (c ∷ choices)) (reverse-append saved (now ∷ []))
+
+-- it goes on in a state of its world
+pub ready_ahead : (texts : List Text) (v : Program) (db : Database) (n steps k : ℕ) (s : Search) (more : List (Value Contents)) (after : List Alternatives) (later : Value Contents)
+    → Arrives steps texts v db n more after later (Some k) s → IsReady texts later.0
+ready_ahead texts v db n steps k s more after later a = (a.stands.current.1, a.stands.current.3.state.ready)
+
+module _ (texts : List Text) (v : Program) (saved : List (Value Contents)) (choices : List Alternatives) (now : Value Contents) (t k : ℕ) (walk : Walk) where
+  abbrev older : Stack Contents
+  older = stack texts v saved choices
+
+  abbrev one_more : Stack Contents
+  one_more = (now, Clauses t (clauses_left texts v walk) k) ∷ older
+
+  stack_is : stack texts v (saved ++ now ∷ []) (alternatives.Clauses t walk k ∷ choices) ≡ one_more
+  stack_is = ap (map (left_at texts v)) (one_more_open saved choices now (alternatives.Clauses t walk k))
+
+  module _ (db : Database) (n : ℕ) (s : Search) (j : WouldStand texts v saved choices now t walk k db n s) where
+    waiting : AreWaiting (IsBranch texts) (term_in texts) one_more j.behind
+    waiting = subst (λ st. AreWaiting (IsBranch texts) (term_in texts) st j.behind) stack_is j.waiting
+
+    pub place : (p : Place) × IsPlace (IsBranch texts) (term_in texts) older now k p
+    place = (waiting.3.0, waiting.3.4)
+
+    pub is_ready : IsReady texts now.0
+    is_ready = (place.0.state, place.1.continuation.state.ready)
+
+    pub goal_there : t < length now.0.heap.terms
+    goal_there = read_live texts now.0.heap.terms t waiting.3.1 waiting.3.3
+
+    pub rest_there : k < length now.1
+    rest_there = place.1.continuation.there
+
+    -- so it is in a world in which more was built
+    grown_waiting : (grown : Value Contents) → Grown texts now grown → AreWaiting (IsBranch texts) (term_in texts) ((grown, Clauses t (clauses_left texts v walk) k) ∷ older) j.behind
+    grown_waiting grown g =
+        (waiting.0, waiting.1, waiting.2, (waiting.3.0, waiting.3.1, waiting.3.2, g.terms t waiting.3.1 waiting.3.3, record {
+          continuation = continuation_grown (IsBranch texts) (term_in texts) older now grown g k place.0.rest place.0.state place.1.continuation;
+          height = place.1.height;
+        }), waiting.4)
+
+    grown_stands : (grown : Value Contents) → Grown texts now grown → (more : List (Value Contents)) (after : List Alternatives) (later : Value Contents)
+        → LeavesAlso saved choices grown (alternatives.Clauses t walk k) more after
+        → IsStanding (IsBranch texts) (term_in texts) (engine db n (stack texts v more after) later None) s
+    grown_stands grown g more after later l = record {
+      database = j.database;
+      selected = j.selected;
+      first = j.first;
+      behind = j.behind;
+      branches = j.branches;
+      current = j.current;
+      waiting = subst (λ st. AreWaiting (IsBranch texts) (term_in texts) st j.behind) (sym (ap (map (left_at texts v)) l)) (grown_waiting grown g);
+    }
+
+  -- once they wait it stands for the same
+  pub waits_come : (grown : Value Contents) → Grown texts now grown → (more : List (Value Contents)) (after : List Alternatives) (later : Value Contents)
+      → LeavesAlso saved choices grown (alternatives.Clauses t walk k) more after → WouldCome texts v saved choices now t walk k more after later None
+  waits_come grown g more after later l steps db n s j = comes_at_once (IsBranch texts) (term_in texts) steps _ s (grown_stands db n s j grown g more after later l)
