@@ -1,7 +1,8 @@
 -- The clauses of a call, which would wait as one more choice.
 use Rattle.std.proofs.Common.{◌≡◌, ℕ, ◌<◌, List, [], ◌∷◌, ◌++◌, length, map, Option, None, Some, refl, sym, ap, ◌∙◌, subst, arith, reverse}
+use Rattle.std.specs.Prelude.{slice_get}
 use Rattle.std.specs.List.{zip}
-use Rattle.std.proofs.lemmas.List.{reverse-append}
+use Rattle.std.proofs.lemmas.List.{length-map, reverse-append}
 use Rattle.spec_lists.specs.Texts.{Text}
 use Rattle.spec_syntax.specs.Trees.{Tree}
 use Rattle.spec_branch.specs.Branch.{Branch}
@@ -9,25 +10,39 @@ use Rattle.spec_search.specs.Database.{Database}
 use Rattle.spec_search.specs.Replies.{Place}
 use Rattle.spec_search.specs.Search.{Search}
 use Rattle.cq_clauses.specs.declared.walk.Walk.{Walk}
-use Rattle.cq_control.specs.Open.{open_choices}
-use Rattle.cq_program.specs.Database.{Program}
+use Rattle.cq_control.specs.Open.{AreMarked, open_choices}
+use Rattle.cq_program.specs.Database.{Program, as_clause}
+use Rattle.cq_stored.specs.StoredValue.{ClauseValue}
 use Rattle.cq_world.specs.Contents.{Contents}
 use Rattle.cq_world.specs.Rest.{IsReady}
+use Rattle.spec_machine.specs.declared.cell.Cell.{Cell}
 use Rattle.spec_machine.specs.Cells.{Clauses, Stack, Value}
+use Rattle.spec_machine.specs.Coming.{Comes}
 use Rattle.spec_machine.specs.Standing.{engine, IsPlace, AreWaiting, IsStanding}
 use Rattle.cq_steps.specs.Choices.{LeavesAlso}
+use Rattle.cq_steps.specs.Lists.{KeepsLists}
 use Rattle.cq_steps.specs.Worlds.{IsBranch, term_in, clauses_left, stack, left_at, Arrives, Grown}
 use Rattle.cq_steps.specs.declared.alternatives.Alternatives.{Alternatives}
 use Rattle.cq_steps.specs.declared.alternatives.Alternatives.TheVariants as alternatives
 use Rattle.cq_steps.proofs.Arrived.{comes_at_once}
 use Rattle.cq_steps.proofs.Reading.{read_live}
 use Rattle.cq_steps.proofs.Selected.{continuation_grown}
-use Rattle.cq_calls.specs.Calling.{WouldStand, WouldCome}
+use Rattle.cq_begin.specs.declared.beginning.Begun.{Begun}
+use Rattle.cq_begin.specs.Begun.{goes_to}
+use Rattle.cq_begin.specs.Calls.{ClauseComes}
+use Rattle.cq_calls.specs.Calling.{LeavesOnly, WouldStand, WouldCome}
+use Rattle.cq_calls.proofs.Left.{content_is, length-opened}
+use Rattle.cq_calls.proofs.Turns.{ComesBackTo, comes_without}
 
 -- one more choice, over a mark of this world
 pub one_more_open : (saved : List (Value Contents)) (choices : List Alternatives) (now : Value Contents) (c : Alternatives)
     → open_choices (saved ++ now ∷ []) (c ∷ choices) ≡ (now, c) ∷ open_choices saved choices
 one_more_open saved choices now c = ap (λ (vs : List (Value Contents)). zip vs (c ∷ choices)) (reverse-append saved (now ∷ []))
+
+-- the same world, and more continuations
+pub same_grown : (texts : List Text) (old later : Contents) (lists more : List (List Cell)) → later ≡ old → KeepsLists lists more → Grown texts (old, lists) (later, more)
+same_grown texts old later lists more e keeps =
+    subst (λ (c : Contents). Grown texts (old, lists) (c, more)) (sym e) (record { state = λ st i. i; terms = λ id t r. r; lists = keeps })
 
 -- it goes on in a state of its world
 pub ready_ahead : (texts : List Text) (v : Program) (db : Database) (n steps k : ℕ) (s : Search) (more : List (Value Contents)) (after : List Alternatives) (later : Value Contents)
@@ -85,3 +100,24 @@ module _ (texts : List Text) (v : Program) (saved : List (Value Contents)) (choi
   pub waits_come : (grown : Value Contents) → Grown texts now grown → (more : List (Value Contents)) (after : List Alternatives) (later : Value Contents)
       → LeavesAlso saved choices grown (alternatives.Clauses t walk k) more after → WouldCome texts v saved choices now t walk k more after later None
   waits_come grown g more after later l steps db n s j = comes_at_once (IsBranch texts) (term_in texts) steps _ s (grown_stands db n s j grown g more after later l)
+
+  -- ---- its only clause
+
+  module _ (n : ℕ) (only : LeavesOnly v walk n) (marked : AreMarked saved choices) where
+    back_to : (db : Database) (m : ℕ) (s : Search) → WouldStand texts v saved choices now t walk k db m s
+        → ComesBackTo texts db m s older now now t k (as_clause texts v.contents n ∷ [])
+    back_to db m s j =
+        subst (λ st. IsStanding (IsBranch texts) (term_in texts) (engine db m st now None) s)
+        (stack_is ∙ ap (λ (ns : List ℕ). (now, Clauses t (map (as_clause texts v.contents) ns) k) ∷ older) only) j
+
+    high_stack : (height : ℕ) → height ≡ length choices → height ≡ length older
+    high_stack height high = high ∙ sym (length-map (open_choices saved choices) (left_at texts v) ∙ length-opened saved choices marked)
+
+    -- it begins with no choice
+    pub only_comes : (kept : ClauseValue) → slice_get v.contents n ≡ Some kept → (height : ℕ) → height ≡ length choices → (later : Value Contents) (b : Begun)
+        → ClauseComes texts now later t height k kept b → (more : List (Value Contents)) → more ≡ saved
+        → WouldCome texts v saved choices now t walk k more choices later (goes_to b)
+    only_comes kept got height high later b comes more same steps db m s j =
+        subst (λ (l : List (Value Contents)). Comes (IsBranch texts) (term_in texts) steps (engine db m (stack texts v l choices) later (goes_to b)) s) (sym same)
+        (comes_without texts db m s older now now t k (as_clause texts v.contents n) [] (back_to db m s j) height (high_stack height high) kept
+        (content_is texts v n kept got) later b comes steps refl)

@@ -12,8 +12,11 @@ use Rattle.spec_search.specs.Replies.{Place, Raises, Calls}
 use Rattle.spec_search.specs.Search.{Search}
 use Rattle.spec_search.specs.Steps.{IsSelection}
 use Rattle.cq_atoms.specs.Texts.{AreDifferent}
+use Rattle.cq_clauses.specs.Walks.{left}
 use Rattle.cq_clauses.specs.declared.walk.Walk.{Walk}
 use Rattle.cq_program.specs.Database.{Program, IsProgram, as_database, as_indicator}
+use Rattle.cq_program.specs.Keys.{key_of}
+use Rattle.cq_stored.specs.StoredValue.{ClauseValue}
 use Rattle.cq_term.specs.declared.names.Pred.{Pred}
 use Rattle.cq_world.specs.Contents.{Contents}
 use Rattle.spec_machine.specs.Cells.{Value, Stack}
@@ -65,6 +68,10 @@ IfCalledGoes Back P = ⊤
 IfCalledGoes Unknown P = ⊤
 
 -- ---- the clauses of a call
+
+-- the walk leaves this clause alone
+abbrev pub LeavesOnly : Program → Walk → ℕ → Type 0
+LeavesOnly v walk n = left (λ (c : ClauseValue). key_of c.head) walk v ≡ n ∷ []
 
 -- The engine would stand for the search where it came back to one more choice, of these clauses of a call in this world.
 abbrev pub WouldStand : List Text → Program → List (Value Contents) → List Alternatives → Value Contents → ℕ → Walk → ℕ → Database → ℕ → Search → Type 0

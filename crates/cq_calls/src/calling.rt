@@ -15,11 +15,11 @@ ghost use Rattle.cq_steps.specs.Choices.{AreOpen, LeavesAlso};
 ghost use Rattle.cq_steps.specs.Lists.{KeepsLists};
 ghost use Rattle.cq_steps.specs.Worlds.{value, saved_values, stack};
 ghost use Rattle.cq_steps.specs.declared.alternatives.Alternatives.TheVariants as alternatives;
-ghost use Rattle.cq_calls.specs.Calling.{IsCalled, IsCalledAt, HasCalled, IfCalledGoes, WouldWork, WouldCome};
+ghost use Rattle.cq_calls.specs.Calling.{IsCalled, IsCalledAt, HasCalled, IfCalledGoes, LeavesOnly, WouldWork, WouldCome};
 
 use cq_atoms::Atoms;
 use cq_begin::{Begun, begin_clause};
-use cq_clauses::{Clauses, Walk};
+use cq_clauses::{ClauseNo, Clauses, Walk};
 use cq_control::{Choices, Continuation};
 use cq_program::{ProgramClause, calls_read_the_database, goal_key, walks_select_clauses};
 use cq_steps::{Alternatives, Searching, Untried};
@@ -81,7 +81,8 @@ pub fn call_procedure(
     }
     walks_select_clauses();
     let walk = clauses.walk(pred, goal_key(&world.first.heap, goal));
-    match call_clauses(world, choices, atoms, clauses, goal, walk, rest)? {
+    let next = call_clauses(world, choices, atoms, clauses, goal, walk, rest)?;
+    match next {
         Some(first) => Ok(Called::Goes(first)),
         None => Ok(Called::Back),
     }
@@ -122,10 +123,47 @@ fn call_clauses(
     let Some(number) = clauses.step(&mut left) else {
         return Ok(None);
     };
-    if !left.is_empty() {
+    if left.is_empty() {
+        begin_only(world, choices, atoms, clauses, number, goal, walk, rest)
+    } else {
         wait(world, choices, goal, walk, rest)?;
-        return Ok(None);
+        Ok(None)
     }
+}
+
+/// The branch of a call's only clause begins, with no choice. At a fault the clause waits, and the engine comes to the fault again as
+/// it comes back.
+fn begin_only(
+    world: &mut Searching,
+    choices: &mut Choices<Alternatives>,
+    atoms: &Atoms,
+    clauses: &Clauses<ProgramClause>,
+    number: ClauseNo,
+    goal: TermId,
+    walk: Walk,
+    rest: Continuation,
+) -> Result<Option<Continuation>, AllocError>
+    requires different { AreDifferent atoms.now }
+    requires program { IsProgram atoms.now clauses.now }
+    requires known { number < length clauses.now.contents }
+    requires only { LeavesOnly clauses.now walk number }
+    requires marked { AreMarked (saved_values world.old.first world.old.second.saved) choices.old }
+    requires works { WouldWork atoms.now clauses.now (saved_values world.old.first world.old.second.saved) choices.old
+        (value world.old.first world.old.second.now) goal walk rest }
+    ensures comes { IfOk result (WouldCome atoms.now clauses.now (saved_values world.old.first world.old.second.saved) choices.old
+        (value world.old.first world.old.second.now) goal walk rest
+        (saved_values world.new.first world.new.second.saved) choices.new (value world.new.first world.new.second.now)) }
+    ensures there { IfOk result (λ o. IfSome o (λ k. k < length world.new.second.now)) }
+    ensures ready { IsReady atoms.now (now_of world.new.first) }
+    ensures lists { KeepsLists world.old.second.now world.new.second.now }
+    ensures marked { AreMarked (saved_values world.new.first world.new.second.saved) choices.new }
+    ensures open { IsWalk walk clauses.now → AreOpen atoms.now clauses.now (saved_values world.old.first world.old.second.saved) choices.old
+        → AreOpen atoms.now clauses.now (saved_values world.new.first world.new.second.saved) choices.new }
+    ensures budget { world.new.first.store.pivots ≡ world.old.first.store.pivots }
+    ensures err { OnErr result (choices.new ≡ choices.old) }
+    ensures err_saved { OnErr result (saved_values world.new.first world.new.second.saved ≡ saved_values world.old.first world.old.second.saved) }
+    ensures err_world { OnErr result (now_of world.new.first ≡ now_of world.old.first) }
+{
     let clause = clauses.content(number).clause();
     let height = choices.height();
     match begin_clause(
@@ -141,7 +179,6 @@ fn call_clauses(
             Begun::Goes(first) => Ok(Some(first)),
             Begun::Pruned => Ok(None),
         },
-        // The engine comes back to the clause, and to the fault.
         Err(_) => {
             wait(world, choices, goal, walk, rest)?;
             Ok(None)

@@ -39,7 +39,7 @@ pub fn call_procedure(
     ensures err { OnErr result (StillStands m.old m.new) }
 {
     let called = predicate;
-    match cq_calls::call_procedure(
+    let found = cq_calls::call_procedure(
         &mut m.world,
         &mut m.choices,
         &m.atoms,
@@ -47,7 +47,8 @@ pub fn call_procedure(
         called,
         goal,
         rest,
-    )? {
+    )?;
+    match found {
         Called::Goes(k) => Ok(Step::Goes(k)),
         Called::Back => Ok(Step::Back),
         Called::Unknown => Ok(Step::Raises(BuiltinError::UnknownProcedure(predicate))),

@@ -1,0 +1,105 @@
+use Rattle.std.proofs.Common.{◌≡◌, List, length, Some, refl, sym, ap, ap₂, ◌∙◌, subst}
+use Rattle.std.specs.Prelude.{slice_get}
+use Rattle.std.specs.List.{zip}
+use Rattle.cq_control.specs.Items.{ContinuationsValue}
+use Rattle.cq_program.specs.Database.{IsCounted}
+use Rattle.cq_stored.specs.StoredValue.{ClauseValue}
+use Rattle.cq_world.specs.Contents.{Contents}
+use Rattle.cq_world.specs.Rest.{IsReady}
+use Rattle.cq_world.specs.declared.world.World.{World}
+use Rattle.spec_machine.specs.declared.cell.Cell.{Cell}
+use Rattle.spec_machine.specs.Cells.{Value}
+use Rattle.cq_steps.specs.Choices.{AreOpen}
+use Rattle.cq_steps.specs.Worlds.{saved_values, value}
+use Rattle.cq_begin.specs.declared.beginning.Begun.TheVariants.{Goes, Pruned}
+use Rattle.cq_calls.proofs.Left.{of_content, marked_same}
+use Rattle.cq_calls.proofs.Waiting.{is_ready, goal_there, rest_there, only_comes, ready_ahead, waits_come, same_grown}
+use Rattle.cq_calls.proofs.calling.begin_only.Goals as goal
+use Rattle.cq_calls.proofs.calling.begin_only.Goals.{After-clause-clause}
+
+kept_is : (c : After-clause-clause) → slice_get c.args.clauses.now.contents c.args.number ≡ Some c.clause-clause.result.now
+kept_is c = c.content.ensures ∙ ap (λ (x : ClauseValue). Some x) (sym c.clause-clause.ensures)
+
+pub begin_clause-requires-clause-ready : goal.begin_clause-requires-clause-ready
+begin_clause-requires-clause-ready c =
+    let j = c.requires.works in
+    is_ready c.args.atoms.now c.args.clauses.now (saved_values c.args.world.now.first c.args.world.now.second.saved) c.args.choices.now
+    (value c.args.world.now.first c.args.world.now.second.now) c.args.goal c.args.rest c.args.walk j.0 j.1 j.2 j.3
+
+pub begin_clause-requires-clause-goal : goal.begin_clause-requires-clause-goal
+begin_clause-requires-clause-goal c =
+    let j = c.requires.works in
+    goal_there c.args.atoms.now c.args.clauses.now (saved_values c.args.world.now.first c.args.world.now.second.saved) c.args.choices.now
+    (value c.args.world.now.first c.args.world.now.second.now) c.args.goal c.args.rest c.args.walk j.0 j.1 j.2 j.3
+
+pub begin_clause-requires-clause-rest : goal.begin_clause-requires-clause-rest
+begin_clause-requires-clause-rest c =
+    let j = c.requires.works in
+    rest_there c.args.atoms.now c.args.clauses.now (saved_values c.args.world.now.first c.args.world.now.second.saved) c.args.choices.now
+    (value c.args.world.now.first c.args.world.now.second.now) c.args.goal c.args.rest c.args.walk j.0 j.1 j.2 j.3
+
+pub begin_clause-requires-clause-clause : goal.begin_clause-requires-clause-clause
+begin_clause-requires-clause-clause c =
+    of_content (IsCounted (length c.args.atoms.now)) c.args.clauses.now.contents c.args.number c.clause-clause.result.now c.requires.program.contents c.requires.known
+    (kept_is (goal.at.begin_clause-requires-clause-clause c).After-clause-clause)
+
+-- ---- its branch is kept
+
+pub returns-in-Goes-clause-comes : goal.returns-in-Goes-clause-comes
+returns-in-Goes-clause-comes c =
+    only_comes c.args.atoms.now c.args.clauses.now (saved_values c.args.world.now.first c.args.world.now.second.saved) c.args.choices.now
+    (value c.args.world.now.first c.args.world.now.second.now) c.args.goal c.args.rest c.args.walk c.args.number c.requires.only c.requires.marked
+    c.clause-clause.result.now (kept_is (goal.at.returns-in-Goes-clause-comes c).After-clause-clause) c.height-height.result c.height-height.ensures
+    (value c.begin_clause.new.world c.begin_clause.new.lists.now) (Goes c.in-Goes.first) (rw c.in-Goes.is at c.in-Ok.ensures.comes)
+    (saved_values c.begin_clause.new.world c.begin_clause.new.lists.saved)
+    (ap₂ (λ (x : List Contents) (y : List (List (List Cell))). zip x y) c.in-Ok.ensures.saved c.in-Ok.ensures.lists)
+
+pub returns-in-Goes-clause-ready : goal.returns-in-Goes-clause-ready
+returns-in-Goes-clause-ready c =
+    let j = c.requires.works in
+    ready_ahead c.args.atoms.now c.args.clauses.now j.0 j.1 0 c.in-Goes.first j.2 (saved_values c.begin_clause.new.world c.begin_clause.new.lists.saved) c.args.choices.now
+    (value c.begin_clause.new.world c.begin_clause.new.lists.now)
+    (only_comes c.args.atoms.now c.args.clauses.now (saved_values c.args.world.now.first c.args.world.now.second.saved) c.args.choices.now
+    (value c.args.world.now.first c.args.world.now.second.now) c.args.goal c.args.rest c.args.walk c.args.number c.requires.only c.requires.marked
+    c.clause-clause.result.now (kept_is (goal.at.returns-in-Goes-clause-ready c).After-clause-clause) c.height-height.result c.height-height.ensures
+    (value c.begin_clause.new.world c.begin_clause.new.lists.now) (Goes c.in-Goes.first) (rw c.in-Goes.is at c.in-Ok.ensures.comes)
+    (saved_values c.begin_clause.new.world c.begin_clause.new.lists.saved)
+    (ap₂ (λ (x : List Contents) (y : List (List (List Cell))). zip x y) c.in-Ok.ensures.saved c.in-Ok.ensures.lists) 0 j.0 j.1 j.2 j.3)
+
+pub returns-in-Goes-clause-marked : goal.returns-in-Goes-clause-marked
+returns-in-Goes-clause-marked c =
+    marked_same c.args.world.now.first c.begin_clause.new.world c.args.world.now.second.saved c.begin_clause.new.lists.saved c.args.choices.now c.in-Ok.ensures.saved c.in-Ok.ensures.lists
+    c.requires.marked
+
+pub returns-in-Goes-clause-open : goal.returns-in-Goes-clause-open
+returns-in-Goes-clause-open c = λ i o.
+    subst (λ (l : List (Value Contents)). AreOpen c.args.atoms.now c.args.clauses.now l c.args.choices.now)
+    (sym (ap₂ (λ (x : List Contents) (y : List (List (List Cell))). zip x y) c.in-Ok.ensures.saved c.in-Ok.ensures.lists)) o
+
+-- ---- it is pruned
+
+pub returns-in-Pruned-clause-comes : goal.returns-in-Pruned-clause-comes
+returns-in-Pruned-clause-comes c =
+    only_comes c.args.atoms.now c.args.clauses.now (saved_values c.args.world.now.first c.args.world.now.second.saved) c.args.choices.now
+    (value c.args.world.now.first c.args.world.now.second.now) c.args.goal c.args.rest c.args.walk c.args.number c.requires.only c.requires.marked
+    c.clause-clause.result.now (kept_is (goal.at.returns-in-Pruned-clause-comes c).After-clause-clause) c.height-height.result c.height-height.ensures
+    (value c.begin_clause.new.world c.begin_clause.new.lists.now) Pruned (rw c.in-Pruned.is at c.in-Ok.ensures.comes)
+    (saved_values c.begin_clause.new.world c.begin_clause.new.lists.saved)
+    (ap₂ (λ (x : List Contents) (y : List (List (List Cell))). zip x y) c.in-Ok.ensures.saved c.in-Ok.ensures.lists)
+
+pub returns-in-Pruned-clause-ready : goal.returns-in-Pruned-clause-ready
+returns-in-Pruned-clause-ready c =
+    let j = c.requires.works in
+    subst (λ (w : Contents). IsReady c.args.atoms.now w) (sym (rw c.in-Pruned.is at c.in-Ok.ensures.unchanged))
+    (is_ready c.args.atoms.now c.args.clauses.now (saved_values c.args.world.now.first c.args.world.now.second.saved) c.args.choices.now
+    (value c.args.world.now.first c.args.world.now.second.now) c.args.goal c.args.rest c.args.walk j.0 j.1 j.2 j.3)
+
+pub returns-in-Pruned-clause-marked : goal.returns-in-Pruned-clause-marked
+returns-in-Pruned-clause-marked c =
+    marked_same c.args.world.now.first c.begin_clause.new.world c.args.world.now.second.saved c.begin_clause.new.lists.saved c.args.choices.now c.in-Ok.ensures.saved c.in-Ok.ensures.lists
+    c.requires.marked
+
+pub returns-in-Pruned-clause-open : goal.returns-in-Pruned-clause-open
+returns-in-Pruned-clause-open c = λ i o.
+    subst (λ (l : List (Value Contents)). AreOpen c.args.atoms.now c.args.clauses.now l c.args.choices.now)
+    (sym (ap₂ (λ (x : List Contents) (y : List (List (List Cell))). zip x y) c.in-Ok.ensures.saved c.in-Ok.ensures.lists)) o
