@@ -1,7 +1,7 @@
 -- The clauses of a call, which would wait as one more choice.
 use Rattle.std.proofs.Common.{◌≡◌, ℕ, ◌<◌, List, [], ◌∷◌, ◌++◌, length, map, Option, None, Some, refl, sym, ap, ◌∙◌, subst, arith, reverse}
 use Rattle.std.specs.Prelude.{slice_get}
-use Rattle.std.specs.List.{zip}
+use Rattle.std.specs.List.{AllByRecursion, zip}
 use Rattle.std.proofs.lemmas.List.{length-map, reverse-append}
 use Rattle.spec_lists.specs.Texts.{Text}
 use Rattle.spec_syntax.specs.Trees.{Tree}
@@ -9,6 +9,7 @@ use Rattle.spec_branch.specs.Branch.{Branch}
 use Rattle.spec_search.specs.Database.{Database}
 use Rattle.spec_search.specs.Replies.{Place}
 use Rattle.spec_search.specs.Search.{Search}
+use Rattle.cq_clauses.specs.Walks.{IsWalk}
 use Rattle.cq_clauses.specs.declared.walk.Walk.{Walk}
 use Rattle.cq_control.specs.Open.{AreMarked, open_choices}
 use Rattle.cq_program.specs.Database.{Program, as_clause}
@@ -19,7 +20,7 @@ use Rattle.spec_machine.specs.declared.cell.Cell.{Cell}
 use Rattle.spec_machine.specs.Cells.{Clauses, Stack, Value}
 use Rattle.spec_machine.specs.Coming.{Comes}
 use Rattle.spec_machine.specs.Standing.{engine, IsPlace, AreWaiting, IsStanding}
-use Rattle.cq_steps.specs.Choices.{LeavesAlso}
+use Rattle.cq_steps.specs.Choices.{AreOpen, CanBeTried, LeavesAlso}
 use Rattle.cq_steps.specs.Lists.{KeepsLists}
 use Rattle.cq_steps.specs.Worlds.{IsBranch, term_in, clauses_left, stack, left_at, Arrives, Grown}
 use Rattle.cq_steps.specs.declared.alternatives.Alternatives.{Alternatives}
@@ -31,7 +32,8 @@ use Rattle.cq_begin.specs.declared.beginning.Begun.{Begun}
 use Rattle.cq_begin.specs.Begun.{goes_to}
 use Rattle.cq_begin.specs.Calls.{ClauseComes}
 use Rattle.cq_calls.specs.Calling.{LeavesOnly, WouldStand, WouldCome}
-use Rattle.cq_calls.proofs.Left.{content_is, length-opened}
+use Rattle.cq_calls.proofs.Left.{content_is, length-opened, numbers_left}
+use Rattle.cq_calls.proofs.Newest.{arrives_past}
 use Rattle.cq_calls.proofs.Turns.{ComesBackTo, comes_without}
 
 -- one more choice, over a mark of this world
@@ -43,6 +45,16 @@ one_more_open saved choices now c = ap (λ (vs : List (Value Contents)). zip vs 
 pub same_grown : (texts : List Text) (old later : Contents) (lists more : List (List Cell)) → later ≡ old → KeepsLists lists more → Grown texts (old, lists) (later, more)
 same_grown texts old later lists more e keeps =
     subst (λ (c : Contents). Grown texts (old, lists) (c, more)) (sym e) (record { state = λ st i. i; terms = λ id t r. r; lists = keeps })
+
+pub keeps_all : (lists : List (List Cell)) → KeepsLists lists lists
+keeps_all lists = record { more = omega arith; same = λ k l. refl }
+
+-- the choices are open that were, and the clauses of a walk
+pub opens_also : (texts : List Text) (v : Program) (saved : List (Value Contents)) (choices : List Alternatives) (t k : ℕ) (walk : Walk) (now : Value Contents)
+    (more : List (Value Contents)) (after : List Alternatives) → LeavesAlso saved choices now (alternatives.Clauses t walk k) more after → IsWalk walk v → AreOpen texts v saved choices
+    → AreOpen texts v more after
+opens_also texts v saved choices t k walk now more after l i a =
+    subst (AllByRecursion (λ (c : Value Contents × Alternatives). CanBeTried texts v c.0.0.heap.terms c.1)) (sym l) (i, a)
 
 -- it goes on in a state of its world
 pub ready_ahead : (texts : List Text) (v : Program) (db : Database) (n steps k : ℕ) (s : Search) (more : List (Value Contents)) (after : List Alternatives) (later : Value Contents)
@@ -100,6 +112,12 @@ module _ (texts : List Text) (v : Program) (saved : List (Value Contents)) (choi
   pub waits_come : (grown : Value Contents) → Grown texts now grown → (more : List (Value Contents)) (after : List Alternatives) (later : Value Contents)
       → LeavesAlso saved choices grown (alternatives.Clauses t walk k) more after → WouldCome texts v saved choices now t walk k more after later None
   waits_come grown g more after later l steps db n s j = comes_at_once (IsBranch texts) (term_in texts) steps _ s (grown_stands db n s j grown g more after later l)
+
+  -- there is none
+  pub none_comes : numbers_left v walk ≡ [] → WouldCome texts v saved choices now t walk k saved choices now None
+  none_comes none steps db n s j =
+      arrives_past texts v (saved ++ now ∷ []) (alternatives.Clauses t walk k ∷ choices) now now t k walk (open_choices saved choices)
+      (one_more_open saved choices now (alternatives.Clauses t walk k)) db n s saved choices now steps none refl j
 
   -- ---- its only clause
 

@@ -1,19 +1,18 @@
 use Rattle.std.proofs.Common.{◌≡◌, List, length, Some, refl, sym, ap, ap₂, ◌∙◌, subst}
 use Rattle.std.specs.Prelude.{slice_get}
 use Rattle.std.specs.List.{zip}
-use Rattle.cq_control.specs.Items.{ContinuationsValue}
 use Rattle.cq_program.specs.Database.{IsCounted}
 use Rattle.cq_stored.specs.StoredValue.{ClauseValue}
 use Rattle.cq_world.specs.Contents.{Contents}
 use Rattle.cq_world.specs.Rest.{IsReady}
-use Rattle.cq_world.specs.declared.world.World.{World}
 use Rattle.spec_machine.specs.declared.cell.Cell.{Cell}
 use Rattle.spec_machine.specs.Cells.{Value}
-use Rattle.cq_steps.specs.Choices.{AreOpen}
+use Rattle.cq_steps.specs.Choices.{AreOpen, LeavesAlso}
 use Rattle.cq_steps.specs.Worlds.{saved_values, value}
+use Rattle.cq_steps.specs.declared.alternatives.Alternatives.TheVariants.{Clauses}
 use Rattle.cq_begin.specs.declared.beginning.Begun.TheVariants.{Goes, Pruned}
 use Rattle.cq_calls.proofs.Left.{of_content, marked_same}
-use Rattle.cq_calls.proofs.Waiting.{is_ready, goal_there, rest_there, only_comes, ready_ahead, waits_come, same_grown}
+use Rattle.cq_calls.proofs.Waiting.{is_ready, goal_there, rest_there, only_comes, ready_ahead, waits_come, opens_also, same_grown}
 use Rattle.cq_calls.proofs.calling.begin_only.Goals as goal
 use Rattle.cq_calls.proofs.calling.begin_only.Goals.{After-clause-clause}
 
@@ -103,3 +102,31 @@ pub returns-in-Pruned-clause-open : goal.returns-in-Pruned-clause-open
 returns-in-Pruned-clause-open c = λ i o.
     subst (λ (l : List (Value Contents)). AreOpen c.args.atoms.now c.args.clauses.now l c.args.choices.now)
     (sym (ap₂ (λ (x : List Contents) (y : List (List (List Cell))). zip x y) c.in-Ok.ensures.saved c.in-Ok.ensures.lists)) o
+
+-- ---- at a fault the clause waits
+
+pub returns-in-Err-clause-comes : goal.returns-in-Err-clause-comes
+returns-in-Err-clause-comes c =
+    let now = value c.args.world.now.first c.args.world.now.second.now in
+    let mid = value c.begin_clause.new.world c.begin_clause.new.lists.now in
+    let more = saved_values c.wait.new.world.first c.wait.new.world.second.saved in
+    waits_come c.args.atoms.now c.args.clauses.now (saved_values c.args.world.now.first c.args.world.now.second.saved) c.args.choices.now
+    now c.args.goal c.args.rest c.args.walk mid (same_grown c.args.atoms.now now.0 mid.0 now.1 mid.1 c.in-Err.ensures.err c.in-Err.ensures.keeps)
+    more c.wait.new.choices (value c.wait.new.world.first c.wait.new.world.second.now)
+    (subst (λ (l : List (Value Contents)). LeavesAlso l c.args.choices.now mid (Clauses c.args.goal c.args.walk c.args.rest) more c.wait.new.choices)
+    (ap₂ (λ (x : List Contents) (y : List (List (List Cell))). zip x y) c.in-Err.ensures.saved c.in-Err.ensures.lists) c.in_ok-wait.ensures.waits)
+
+pub returns-in-Err-clause-ready : goal.returns-in-Err-clause-ready
+returns-in-Err-clause-ready c =
+    let j = c.requires.works in
+    subst (λ (w : Contents). IsReady c.args.atoms.now w) (sym (c.wait.ensures.world ∙ c.in-Err.ensures.err))
+    (is_ready c.args.atoms.now c.args.clauses.now (saved_values c.args.world.now.first c.args.world.now.second.saved) c.args.choices.now
+    (value c.args.world.now.first c.args.world.now.second.now) c.args.goal c.args.rest c.args.walk j.0 j.1 j.2 j.3)
+
+pub returns-in-Err-clause-open : goal.returns-in-Err-clause-open
+returns-in-Err-clause-open c = λ i o.
+    let same = ap₂ (λ (x : List Contents) (y : List (List (List Cell))). zip x y) c.in-Err.ensures.saved c.in-Err.ensures.lists in
+    opens_also c.args.atoms.now c.args.clauses.now (saved_values c.begin_clause.new.world c.begin_clause.new.lists.saved) c.args.choices.now
+    c.args.goal c.args.rest c.args.walk (value c.begin_clause.new.world c.begin_clause.new.lists.now)
+    (saved_values c.wait.new.world.first c.wait.new.world.second.saved) c.wait.new.choices c.in_ok-wait.ensures.waits i
+    (subst (λ (l : List (Value Contents)). AreOpen c.args.atoms.now c.args.clauses.now l c.args.choices.now) (sym same) o)
