@@ -32,7 +32,7 @@ use Rattle.cq_term.specs.Meaning.{at}
 use Rattle.cq_term.specs.declared.names.Pred.{Pred}
 use Rattle.cq_world.specs.Contents.{Contents}
 use Rattle.spec_machine.specs.Cells.{Clauses, Stack, Value}
-use Rattle.spec_machine.specs.Coming.{after, at_once, Comes}
+use Rattle.spec_machine.specs.Coming.{after, Comes}
 use Rattle.spec_machine.specs.Standing.{engine, AreWaiting}
 use Rattle.cq_steps.specs.Worlds.{IsBranch, term_in, stack, left_at}
 use Rattle.cq_steps.specs.declared.alternatives.Alternatives.{Alternatives}
@@ -130,23 +130,16 @@ module _ (texts : List Text) (v : Program) (saved : List (Value Contents)) (choi
 
 pub calls_come : (texts : List Text) (steps : ℕ) (s : Search) (goal : Tree) (cut : ℕ) (items : List Item) (st : State) (behind : List Branch)
     → look_at s.branches ≡ Selecting goal cut items st behind → s.selected < steps
-    → (all some : List Clause) → reply_of (place_of s st items cut behind) (read st goal) ≡ Calls all
-    → IsSelection (place_of s st items cut behind) (read st goal) all some → (choices : Stack Contents) (now : Value Contents)
-    → AreWaiting (IsBranch texts) (term_in texts) choices (map (clause_child (place_of s st items cut behind) (read st goal)) some ++ behind)
-    → Comes (IsBranch texts) (term_in texts) steps (engine s.database (suc s.selected) choices now None) s
-calls_come texts steps s goal cut items st behind look few every tried row selection choices now waiting =
+    → reply_of (place_of s st items cut behind) (read st goal) ≡ user_row (place_of s st items cut behind) (indicator_of (read st goal))
+    → (choices : Stack Contents) (now : Value Contents) (current : Option ℕ)
+    → CallBecomes texts choices now current (place_of s st items cut behind) behind (read st goal)
+    → Comes (IsBranch texts) (term_in texts) steps (engine s.database (suc s.selected) choices now current) s
+calls_come texts steps s goal cut items st behind look few reply choices now current c =
     let p = place_of s st items cut behind in
-    let m = made p (map (clause_child p (read st goal)) tried) in
+    let m = made p (map (clause_child p (read st goal)) c.some) in
+    let d = c.comes steps (after_step s m behind) refl refl in
     record {
-      reached = after_step s m behind;
-      quiet = after (inr few) (turn.steps {m = m} look (step.calls row selection)) at_once;
-      stands = record {
-        database = refl;
-        selected = refl;
-        first = [];
-        behind = map (clause_child p (read st goal)) tried ++ behind;
-        branches = refl;
-        current = refl;
-        waiting = waiting;
-      };
+      reached = d.reached;
+      quiet = after (inr few) (turn.steps {m = m} look (step.calls (reply ∙ c.row) c.selection)) d.quiet;
+      stands = d.stands;
     }
