@@ -20,7 +20,7 @@ returns-then-not-is_goal-clause-next c = (
   λ steps n s j. comes_at_once c.args.m.now steps n (Some c.args.k) s j,
   c.requires.sound,
   mark_next (items_at c.args.m.now.world.second.now c.args.k) (items_at c.args.m.now.world.second.now c.in-Some._rest) c.in-Some.cell c.in-Some.ensures.some
-  (c.is_goal.ensures.mark c.if-not-is_goal.true (items_at c.args.m.now.world.second.now c.in-Some._rest)) c.requires.front,
+      (c.is_goal.ensures.mark c.if-not-is_goal.true (items_at c.args.m.now.world.second.now c.in-Some._rest)) c.requires.front,
 )
 
 pub halt-requires : goal.halt-requires
