@@ -2,4 +2,4 @@ mod Turns
 pub mod Left
 mod Newest
 mod Called
-mod Waiting
+pub mod Waiting

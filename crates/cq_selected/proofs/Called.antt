@@ -29,7 +29,3 @@ called_at m pred id height rest p behind g sound o s = record {
   name = o.known;
   indicator = o.indicator ∙ ap indicator_of (reads_tree m.atoms (now m).0 p.state id g s.reads);
 }
-
--- equal lists keep what each has to do
-pub keeps_equal : (lists more : List (List Cell)) → more ≡ lists → KeepsLists lists more
-keeps_equal lists more e = record { more = omega (arith, ap length e); same = λ k l. ap (λ ls. items_at ls k) e }

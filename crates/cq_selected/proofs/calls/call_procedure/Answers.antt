@@ -7,7 +7,8 @@ use Rattle.cq_attr.proofs.Elements.{on_err}
 use Rattle.cq_steps.specs.Worlds.{value}
 use Rattle.cq_machine.specs.Machines.{now}
 use Rattle.cq_selected.proofs.Called.{called_at}
-use Rattle.cq_selected.proofs.Reached.{same_grown, sound_still, stands_all}
+use Rattle.cq_calls.proofs.Waiting.{same_grown}
+use Rattle.cq_selected.proofs.Reached.{sound_still, stands_all}
 use Rattle.cq_selected.proofs.calls.call_procedure.Goals as goal
 
 pub call_procedure-requires-clause-called : goal.call_procedure-requires-clause-called
