@@ -1,12 +1,11 @@
 -- What a selected goal's step tells, and for which search an engine stands then.
-use Rattle.std.proofs.Common.{inr, ◌≡◌, ◌≢◌, ℕ, suc, ◌<◌, [], Option, None, Bool, true, false, refl, sym, ap, subst}
+use Rattle.std.proofs.Common.{inr, ◌≡◌, ◌≢◌, ℕ, suc, ◌<◌, [], Option, Bool, true, false, refl, sym, ap, subst}
 use Rattle.spec_lists.specs.Texts.{Text}
 use Rattle.spec_syntax.specs.Trees.{Tree}
 use Rattle.spec_branch.specs.Branch.{read}
 use Rattle.spec_search.specs.Replies.{Overflows, Place}
 use Rattle.spec_search.specs.Rows.{reply_of}
 use Rattle.spec_search.specs.Search.{Search}
-use Rattle.spec_search.specs.Steps.{Steps}
 use Rattle.spec_search.specs.Turns as turn
 use Rattle.spec_search.specs.Turns.{Turn, Event, Wrote, Answered, Threw, Ended, place_of, after_step, with_branches}
 use Rattle.spec_stops.specs.Causes.{Budgets, Overflow}

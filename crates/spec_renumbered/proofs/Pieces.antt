@@ -1,8 +1,8 @@
 -- The pieces of a term whose variables have other numbers.
-use Rattle.std.proofs.Common.{◌≡◌, ℕ, Bool, true, false, not, cond, ◌&&◌, ◌||◌, ◌==◌, List, [], ◌∷◌, ◌++◌, codes, map, length, Option, Some, None, refl, sym, ap, ap₂, subst, ◌∙◌}
+use Rattle.std.proofs.Common.{◌≡◌, ℕ, Bool, true, false, not, ◌&&◌, List, [], ◌∷◌, ◌++◌, codes, map, Option, Some, None, refl, sym, ap, ap₂, ◌∙◌}
 use Rattle.std.specs.Prelude.{bytes_eq, nat_le, nat_lt, if◌then◌else◌}
 use Rattle.std.proofs.lemmas.List.{map-append}
-use Rattle.spec_rational.specs.Rational.{ℚ, neg_ℚ}
+use Rattle.spec_rational.specs.Rational.{ℚ}
 use Rattle.spec_operators.specs.declared.OpDef.{OpDef}
 use Rattle.spec_operators.specs.Operators.{Ops, left_most, right_most}
 use Rattle.spec_lists.specs.Texts.{Text}
@@ -233,6 +233,7 @@ module _ (f : ℕ → ℕ) where
 
   mutual
     unfolding pieces_at argument_pieces
+
     pub pieces_others : (ops : Ops) (place : Place) (t : Tree) → pieces_at ops place (apply other t) ≡ others (pieces_at ops place t)
     pieces_others ops place (Var v) = placed_others ops place (Var v) (piece (Variable v) ∷ [])
     pieces_others ops place (Number q) =

@@ -288,7 +288,7 @@ returns-in-Throws-clause-err c =
     let same = same_by e m c.in-Some.rest (tree m.atoms (terms m) c.in-Throws.ball) c.requires.running
     (throws_next e m c.args.k c.in-Some.rest c.in-Ok.done c.requires.current c.in-Ok.ensures.row c.in-Throws.ball c.in-Throws.is) in
     goes_at_once e c.throw.new.e
-    (λ s j. subst (λ (x : Engine). Stands x s) (sym c.in-Err.ensures.err) (stands_still e.machine m e.selected e.current s still same j))
+    (λ s j. subst (λ (x : Engine). Stands x s) (sym c.in-Err-throw.ensures.err) (stands_still e.machine m e.selected e.current s still same j))
 
 -- ---- stops
 
@@ -333,8 +333,9 @@ returns-in-Err-Overflow-clause-turned c = (
       let less = subst (λ (n : ℕ). e.selected < n) (sym h.steps) c.requires.work.few in
       let left = c.leave-in-Err-Overflow in
       let t = stops_for_overflow budgets e.machine e.selected rest s less x.next e.machine.world.first.store.pivots c.in-Err-Overflow.pair x.stopped in
-      stopped budgets left.new.e e.selected (why.Overflow c.in-Err-Overflow.pair) s t.0 left.ensures.ended
-      (x.next.database ∙ sym c.in-Err-Overflow.ensures.err_database ∙ sym left.ensures.program.database) x.next.selected t.1 t.2,
+      rw c.in-Err-Overflow.field-0-is
+      (stopped budgets left.new.e e.selected (why.Overflow c.in-Err-Overflow.pair) s t.0 left.ensures.ended
+      (x.next.database ∙ sym c.in-Err-Overflow.ensures.err_database ∙ sym left.ensures.program.database) x.next.selected t.1 t.2),
   let same = c.leave-in-Err-Overflow.ensures.ended.selected in omega (arith, same),
 )
 
@@ -361,8 +362,9 @@ returns-in-Err-Pivots-clause-turned c = (
       let less = subst (λ (n : ℕ). e.selected < n) (sym h.steps) c.requires.work.few in
       let left = c.leave-in-Err-Pivots in
       let t = stops_for_pivots budgets e.machine e.selected rest s less x.next e.machine.world.first.store.pivots c.in-Err-Pivots.exchanges h.pivots x.stopped in
-      stopped budgets left.new.e e.selected (why.Pivots c.in-Err-Pivots.exchanges) s t.0 left.ensures.ended
-      (x.next.database ∙ sym c.in-Err-Pivots.ensures.err_database ∙ sym left.ensures.program.database) x.next.selected t.1 t.2,
+      rw c.in-Err-Pivots.field-0-is
+      (stopped budgets left.new.e e.selected (why.Pivots c.in-Err-Pivots.exchanges) s t.0 left.ensures.ended
+      (x.next.database ∙ sym c.in-Err-Pivots.ensures.err_database ∙ sym left.ensures.program.database) x.next.selected t.1 t.2),
   let same = c.leave-in-Err-Pivots.ensures.ended.selected in omega (arith, same),
 )
 

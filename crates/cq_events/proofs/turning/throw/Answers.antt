@@ -1,12 +1,17 @@
-use Rattle.std.proofs.Common.{◌≡◌, refl, ap, ◌∙◌}
+use Rattle.std.proofs.Common.{◌≡◌, ◌+◌, ℕ, suc, List, length, refl, sym, subst, arith}
+use Rattle.spec_lists.specs.Texts.{Text}
 use Rattle.spec_lists.proofs.Prefixes.{prefix_same}
 use Rattle.spec_branch.specs.Branch.{plain_copy}
 use Rattle.cq_term.specs.Trees.{tree}
+use Rattle.spec_machine.specs.Standing.{IsStoredAs}
+use Rattle.cq_stored.specs.StoredValue.{StoredValue}
+use Rattle.cq_steps.specs.Stored.{IsCountedTerm, stored_tree}
 use Rattle.cq_steps.proofs.Copied.{copy_stored, copy_counted}
-use Rattle.cq_machine.specs.Machines.{terms, now, saved}
+use Rattle.cq_machine.specs.Machines.{terms}
 use Rattle.cq_machine.specs.declared.machine.Machine.{Machine}
 use Rattle.cq_engine.specs.Seeking.{IsKept, GainsNames}
 use Rattle.cq_events.specs.declared.engine.Engine.{Engine}
+use Rattle.cq_events.specs.Turning.{HasEnded}
 use Rattle.cq_events.proofs.turning.throw.Goals as goal
 use Rattle.cq_events.proofs.turning.throw.Goals.{After-hand-missed}
 
@@ -40,16 +45,24 @@ hand-missed-requires-clause-comes_up c =
 pub leave-requires : goal.leave-requires
 leave-requires c = keeps (goal.at.leave-requires c).After-hand-missed
 
+ended_next : (n : ℕ) (e : Engine) → HasEnded (n + 1) e → HasEnded (suc n) e
+ended_next n e h = let next : n + 1 ≡ suc n = omega arith in subst (λ (i : ℕ). HasEnded i e) next h
+
 pub returns-in-Some-clause-thrown : goal.returns-in-Some-clause-thrown
 returns-in-Some-clause-thrown c =
     let m = c.args.e.now.machine in
     let copy = c.in_ok-copy in
+    let ball = plain_copy (tree m.atoms (terms m) c.args.ball) in
+    let same : c.in-Some.ball ≡ copy.copy = rw c.in-Some.is at c.hand-missed.ensures.same in
+    let atoms = sym c.leave.ensures.atoms in
     record {
-      missed = λ items st behind up. (rw c.in-Some.is at c.hand-missed.ensures.missed) m.atoms m.clauses items st behind (plain_copy (tree m.atoms (terms m) c.args.ball)) up;
-      is_stored = rw (sym (rw c.in-Some.is at c.hand-missed.ensures.same)) at copy_stored m.atoms (terms m) c.args.ball copy.copy copy.ensures.renamed;
-      counted = rw (sym (rw c.in-Some.is at c.hand-missed.ensures.same)) at
-          copy_counted m.atoms (terms m) c.args.ball copy.copy c.requires.sound.names c.requires.ball copy.ensures.renamed copy.ensures.variables copy.ensures.names;
-      ended = c.leave.ensures.ended;
+      missed = λ items st behind up. (rw c.in-Some.is at c.hand-missed.ensures.missed) m.atoms m.clauses items st behind ball up;
+      is_stored = subst (λ (texts : List Text). IsStoredAs ball (stored_tree texts c.in-Some.ball)) atoms
+          (subst (λ (s : StoredValue). IsStoredAs ball (stored_tree m.atoms s)) (sym same) (copy_stored m.atoms (terms m) c.args.ball copy.copy copy.ensures.renamed));
+      counted = subst (λ (texts : List Text). IsCountedTerm (length texts) c.in-Some.ball) atoms
+          (subst (IsCountedTerm (length m.atoms)) (sym same)
+          (copy_counted m.atoms (terms m) c.args.ball copy.copy c.requires.sound.names c.requires.ball copy.ensures.renamed copy.ensures.variables copy.ensures.names));
+      ended = ended_next c.args.e.now.selected c.leave.new.e c.leave.ensures.ended;
     }
 
 pub returns-in-None-clause-thrown : goal.returns-in-None-clause-thrown
@@ -59,7 +72,7 @@ returns-in-None-clause-thrown c =
     record {
       caught = λ items st behind up. (rw c.in-None.is at c.hand-missed.ensures.caught) m.atoms m.clauses items st behind (plain_copy (tree m.atoms (terms m) c.args.ball)) up
           (copy_stored m.atoms (terms m) c.args.ball copy.copy copy.ensures.renamed);
-      selected = refl;
+      selected = omega arith;
       current = refl;
     }
 

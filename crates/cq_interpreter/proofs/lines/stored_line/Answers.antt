@@ -1,4 +1,5 @@
 use Rattle.std.proofs.Common.{◌≡◌, ℕ, ◌+◌, length, sym, ap, ◌∙◌, subst, arith}
+use Rattle.std.specs.Prelude.{IfOk}
 use Rattle.spec_terms.specs.Term.{Subst, Var, apply, named}
 use Rattle.spec_terms.proofs.Substitution.{apply-identity}
 use Rattle.spec_transcript.specs.Purposes.{ball_line}
@@ -26,5 +27,8 @@ is_ball c = restored c.args.ball.now.term _ _ (ap length c.new-heap.ensures.imag
 pub line_on-requires-clause-names : goal.line_on-requires-clause-names
 line_on-requires-clause-names c = subst (HasNamesBelow (length c.args.machine.now.atoms)) (sym (is_ball (goal.at.line_on-requires-clause-names c).In_ok-id)) c.requires
 
-pub returns-clause : goal.returns-clause
-returns-clause c = c.line_on.ensures
+pub returns : goal.returns
+returns c =
+    let m = c.args.machine.now in
+    subst (λ (t : HeapTerm). IfOk c.line_on.result (λ line. line.items ≡ ball_line (operators m.atoms m.ops) (named (text_of m.atoms) t)))
+    (is_ball (goal.at.returns c).In_ok-id) c.line_on.ensures
