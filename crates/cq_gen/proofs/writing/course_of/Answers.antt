@@ -1,0 +1,14 @@
+use Rattle.std.proofs.Common.{Result, Ok, Err, IfOk}
+use Rattle.std.specs.declared.alloc.AllocError.{AllocError}
+use Rattle.spec_gen.specs.Outcome.{gen_search}
+use Rattle.cq_gen.specs.declared.course.Course.{Course}
+use Rattle.cq_gen.proofs.Courses.{of_all}
+use Rattle.cq_gen.proofs.writing.course_of.Goals as goal
+
+pub course-requires : goal.course-requires
+course-requires g c =
+    let h = c.in_ok-program.ensures in
+    record { kept = h.kept; runs = (gen_search c.args.number, h.stands); named = h.names; budgets = h.budgets }
+
+pub returns : goal.returns
+returns g c = of_all c.course.result _ _ _ c.in_ok-program.ensures.stands c.course.ensures
