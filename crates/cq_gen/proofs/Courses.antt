@@ -70,19 +70,20 @@ module _ (n : ℕ) (Before : Search → Type 0) (k : ℕ) (text : Text) (s : Sea
 
   module _ (Stands : Search → Type 0) (IsAnswer : State → Ops → Type 0) (e : AnswersNext gen_budgets Stands IsAnswer p q h.reached) (value : Text)
       (is : value ≡ value_text n e.ops e.state) where
-    pub counts_answering : suc k < gen_budgets.answers → HasCounted n Stands (suc k) value s
-    counts_answering few = record {
-      reached = e.next.after;
-      stands = e.stands;
-      from = λ line stopped more.
-          h.from line stopped (answering n line stopped k text h.reached e.next.after e.state e.ops few e.next.tells
-          (subst (λ t. GenFrom gen_budgets n line stopped (suc k) t e.next.after) is more));
-    }
+    module _ (m : ℕ) (next : m ≡ suc k) where
+      pub counts_answering : suc k < gen_budgets.answers → HasCounted n Stands m value s
+      counts_answering few = subst (λ (j : ℕ). HasCounted n Stands j value s) (sym next) (record {
+        reached = e.next.after;
+        stands = e.stands;
+        from = λ line stopped more.
+            h.from line stopped (answering n line stopped k text h.reached e.next.after e.state e.ops few e.next.tells
+            (subst (λ t. GenFrom gen_budgets n line stopped (suc k) t e.next.after) is more));
+      })
 
-    pub ends_answering : (line : Text) → suc k ≡ gen_budgets.answers → line ≡ gen_line n value (suc k) → GenFrom gen_budgets n line false 0 [] s
-    ends_answering line last e_line =
-        h.from line false (answering_last n line false k text h.reached e.next.after e.state e.ops last e.next.tells
-        (e_line ∙ ap (λ t. gen_line n t (suc k)) is) refl)
+      pub ends_answering : (line : Text) → suc k ≡ gen_budgets.answers → line ≡ gen_line n value m → GenFrom gen_budgets n line false 0 [] s
+      ends_answering line last e_line =
+          h.from line false (answering_last n line false k text h.reached e.next.after e.state e.ops last e.next.tells
+          (e_line ∙ (λ j. gen_line n (is j) (next j))) refl)
 
   pub ends_failing : (line : Text) → TellsNext gen_budgets p q h.reached (Shows turn.Ended) → line ≡ gen_line n text k → GenFrom gen_budgets n line false 0 [] s
   ends_failing line e is = h.from line false (failing n line false k text h.reached e.after e.tells is refl)

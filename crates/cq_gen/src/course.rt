@@ -46,7 +46,7 @@ fn stopping(alloc: Global, text: &[u8]) -> Result<Course, AllocError>
 }
 
 /// Runs the query that was begun to its end, or to the last answer that is allowed. What its goals write is not shown.
-pub(crate) fn course<P: Examined>(
+pub(crate) fn run_query<P: Examined>(
     alloc: Global,
     program: &mut P,
     number: u64,
@@ -60,9 +60,8 @@ pub(crate) fn course<P: Examined>(
     let mut answers = 0;
     let mut value = Vec::new(alloc);
     'events: loop {
-        let event = program.next()?;
-        match event {
-            Event::Wrote(_) => {}
+        match program.next()? {
+            Event::Wrote(_text) => {}
             Event::Answer => {
                 value = program.value(number)?;
                 answers += 1;
@@ -71,7 +70,7 @@ pub(crate) fn course<P: Examined>(
                 }
             }
             Event::Fail => return over(alloc, number, &value, answers),
-            Event::Ball(_) => return over(alloc, number, &value, answers),
+            Event::Ball(_line) => return over(alloc, number, &value, answers),
             Event::Stop(line) => return stopping(alloc, line),
         }
     }

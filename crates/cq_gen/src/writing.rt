@@ -6,7 +6,7 @@ ghost use Rattle.cq_transcript.specs.Progress.{CountsWrites};
 ghost use Rattle.cq_gen.specs.Counting.{gen_names};
 ghost use Rattle.cq_gen.specs.Writing.{HasWritten, IsBroken};
 
-use crate::course::{ANSWERS, Course, course};
+use crate::course::{ANSWERS, Course, run_query};
 use crate::interpreter::Examined;
 use cq_outside::{Sink, write_whole};
 use cq_transcript::{Halt, Lines};
@@ -36,7 +36,7 @@ fn course_of<P: Examined + Drop>(alloc: Global, number: u64) -> Result<Course, A
     ensures { IfOk result (λ c. GenWrites number c.line.items c.stopped) }
 {
     let mut program = asked::<P>(alloc, number)?;
-    course(alloc, &mut program, number)
+    run_query(alloc, &mut program, number)
 }
 
 /// The kinds of the line.

@@ -5,10 +5,10 @@ use Rattle.cq_gen.specs.declared.course.Course.{Course}
 use Rattle.cq_gen.proofs.Courses.{of_all}
 use Rattle.cq_gen.proofs.writing.course_of.Goals as goal
 
-pub course-requires : goal.course-requires
-course-requires g c =
+pub run_query-requires : goal.run_query-requires
+run_query-requires g c =
     let h = c.in_ok-program.ensures in
     record { kept = h.kept; runs = (gen_search c.args.number, h.stands); named = h.names; budgets = h.budgets }
 
 pub returns : goal.returns
-returns g c = of_all c.course.result _ _ _ c.in_ok-program.ensures.stands c.course.ensures
+returns g c = of_all c.run_query.result _ _ _ c.in_ok-program.ensures.stands c.run_query.ensures

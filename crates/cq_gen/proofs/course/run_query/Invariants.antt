@@ -2,7 +2,7 @@ use Rattle.std.proofs.Common.{◌≡◌, ◌<◌, ◌+◌, ◌-◌}
 use Rattle.spec_search.specs.Search.{Search}
 use Rattle.spec_gen.specs.Outcome.{gen_budgets}
 use Rattle.cq_gen.specs.Counting.{HasCounted, gen_names}
-use Rattle.cq_gen.proofs.course.course.Given as goal
+use Rattle.cq_gen.proofs.course.run_query.Given as goal
 
 -- each search has come to one for which the program stands, by fewer answers than are allowed
 abbrev pub invariant-events : goal.invariant-events
