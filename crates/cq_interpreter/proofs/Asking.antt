@@ -20,16 +20,6 @@ use Rattle.cq_engine.proofs.Engines.{zip_none}
 use Rattle.cq_events.specs.declared.engine.Engine.{Engine}
 use Rattle.cq_events.specs.Events.{IsIdle}
 
-pub of_sound : (m : Machine) → IsSound m → IsKept m
-of_sound m s = record {
-  known = s.known;
-  different = s.different;
-  program = s.program;
-  operators_named = s.operators_named;
-  marked = s.marked;
-  untried = s.untried;
-}
-
 -- with as many marks, and the same choices, of which there are none
 pub kept_on : (old new : Machine) → IsSound old → old.choices ≡ [] → AreNames new.atoms new.names → AreDifferent new.atoms → IsProgram new.atoms new.clauses
     → AreNamed new.atoms new.ops → saved new ≡ saved old → new.choices ≡ old.choices → IsKept new

@@ -1,4 +1,5 @@
 use Rattle.std.proofs.Common.{◌≡◌, ◌∙◌, ◌+◌, length, suc, refl, ap, arith}
+use Rattle.spec_lists.proofs.Prefixes.{prefix_same}
 use Rattle.spec_operators.specs.Operators.{Ops}
 use Rattle.cq_atoms.specs.Texts.{KeepsTexts}
 use Rattle.cq_built.proofs.Trees.{name_known}
@@ -32,6 +33,9 @@ returns-in_err-new_variables-clause-kept c =
     let s = c.requires.idle.sound in
     kept_on m _ s c.requires.idle.choices s.known s.different s.program s.operators_named
     (marks m.world.first c.new_variables.new.heap m.world.second.saved c.new_variables.ensures.saved) refl
+
+pub returns-in_err-new_variables-clause-atoms : goal.returns-in_err-new_variables-clause-atoms
+returns-in_err-new_variables-clause-atoms c = prefix_same c.args.engine.now.machine.atoms _ refl
 
 pub query-built-requires : goal.query-built-requires
 query-built-requires c =

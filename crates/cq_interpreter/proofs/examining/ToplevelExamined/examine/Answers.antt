@@ -1,13 +1,14 @@
 use Rattle.std.proofs.Common.{◌≡◌, ◌∙◌, OnOk, length, refl, sym, ap, arith, subst}
 use Rattle.spec_lists.proofs.Prefixes.{prefix_both}
-use Rattle.spec_search.specs.Search.{start}
+use Rattle.spec_search.specs.Search.{Search, start}
 use Rattle.spec_syntax.specs.TextTokens.{VariableName}
 use Rattle.std.specs.Prelude.{List}
 use Rattle.cq_machine.proofs.Interned.{texts_kept}
+use Rattle.cq_engine.proofs.Engines.{kept_where}
 use Rattle.cq_transcript.specs.Sentences.{budgets_within}
 use Rattle.cq_interpreter.specs.Numbered.{AreNumbered}
-use Rattle.cq_interpreter.specs.Toplevels.{texts, images_of, IsAsking, IsWhole}
-use Rattle.cq_interpreter.proofs.Asking.{of_sound}
+use Rattle.cq_interpreter.specs.Toplevels.{texts, images_of, IsAsking}
+use Rattle.cq_interpreter.specs.declared.toplevel.Toplevel.{Toplevel}
 use Rattle.cq_interpreter.proofs.Wholes.{whole_kept}
 use Rattle.cq_interpreter.proofs.examining.ToplevelExamined.examine.Goals as goal
 
@@ -17,7 +18,8 @@ pub returns-in_err-names-clause-kept : goal.returns-in_err-names-clause-kept
 returns-in_err-names-clause-kept c =
     let t = c.args.self.now in
     let e = c.end in
-    whole_kept t _ c.requires.kept (texts_kept (texts t) e.new.self.machine.atoms e.ensures.keeps.atoms) refl (of_sound e.new.self.machine e.ensures.idle.sound) refl
+    let u : Toplevel = record t { engine = e.new.self } in
+    whole_kept t u c.requires.kept (texts_kept (texts t) (texts u) e.ensures.keeps.atoms) refl (kept_where e.new.self.machine e.ensures.idle.sound) refl
 
 pub returns-in_err-names-clause-budgets : goal.returns-in_err-names-clause-budgets
 returns-in_err-names-clause-budgets c =
@@ -31,9 +33,8 @@ returns-in_err-goal-clause-kept c =
     let t = c.args.self.now in
     let e = c.end in
     let q = c.query_on in
-    whole_kept t _ c.requires.kept
-    (texts_kept (texts t) q.new.engine.machine.atoms (prefix_both (texts t) e.new.self.machine.atoms q.new.engine.machine.atoms e.ensures.keeps.atoms q.ensures.atoms))
-    refl q.ensures.kept refl
+    let u : Toplevel = record t { engine = q.new.engine } in
+    whole_kept t u c.requires.kept (texts_kept (texts t) (texts u) (prefix_both (texts t) e.new.self.machine.atoms (texts u) e.ensures.keeps.atoms q.ensures.atoms)) refl q.ensures.kept refl
 
 pub returns-in_err-goal-clause-budgets : goal.returns-in_err-goal-clause-budgets
 returns-in_err-goal-clause-budgets c =
@@ -48,9 +49,9 @@ ask-requires c =
     let e = c.end in
     let q = c.query_on in
     let count = c.in_ok-goal.ensures.images in
+    let u : Toplevel = record t { engine = q.new.engine } in
     record {
-      whole = whole_kept t _ c.requires.kept
-          (texts_kept (texts t) q.new.engine.machine.atoms (prefix_both (texts t) e.new.self.machine.atoms q.new.engine.machine.atoms e.ensures.keeps.atoms q.ensures.atoms))
+      whole = whole_kept t u c.requires.kept (texts_kept (texts t) (texts u) (prefix_both (texts t) e.new.self.machine.atoms (texts u) e.ensures.keeps.atoms q.ensures.atoms))
           refl q.ensures.kept refl;
       idle = c.in_ok-goal.ensures.idle;
       live = c.in_ok-goal.ensures.live;
@@ -60,7 +61,7 @@ ask-requires c =
 pub returns-clause-stands : goal.returns-clause-stands
 returns-clause-stands c =
     let q = c.query_on in
-    subst (λ s. OnOk c.ask.result (IsAsking c.ask.new.self s))
+    subst (λ (s : Search). OnOk c.ask.result (IsAsking c.ask.new.self s))
     (λ i. start ((q.ensures.program ∙ c.end.ensures.program) i) (c.in_ok-goal.ensures.built i) (c.in_ok-goal.ensures.images i)) c.ask.ensures.asking
 
 pub returns-clause-names : goal.returns-clause-names

@@ -3,9 +3,12 @@ use Rattle.std.specs.Prelude.{Vec, ℕ}
 use Rattle.std.specs.declared.alloc.AllocError.{AllocError}
 use Rattle.std.specs.declared.alloc.Global.{Global}
 use Rattle.spec_lists.specs.Texts.{Text}
+use Rattle.spec_operators.specs.Operators.{Ops}
+use Rattle.spec_branch.specs.Branch.{State}
+use Rattle.spec_gen.specs.Outcome.{value_text}
 use Rattle.cq_built.proofs.Trees.{known_at}
 use Rattle.cq_machine.specs.Machines.{terms}
-use Rattle.cq_interpreter.specs.Toplevels.{texts}
+use Rattle.cq_interpreter.specs.Toplevels.{texts, HasAnswered}
 use Rattle.cq_interpreter.proofs.Valued.{there, is_value}
 use Rattle.cq_interpreter.proofs.examining.ToplevelExamined.value.Goals as goal
 
@@ -26,5 +29,5 @@ write_term-requires c =
 pub returns : goal.returns
 returns c =
     let t = c.args.self.now in
-    of_text c.write_term.result _ _ c.write_term.ensures
+    of_text c.write_term.result _ (λ (text : Text). (st : State) (ops : Ops) → HasAnswered t st ops → text ≡ value_text c.args.number ops st) c.write_term.ensures
     (λ text written st ops answered. is_value t c.args.number c.requires.named st ops answered c.var_term.result c.var_term.ensures.term text written)
