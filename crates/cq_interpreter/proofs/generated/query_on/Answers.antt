@@ -77,6 +77,9 @@ returns-clause-program c =
     ∙ ap (λ (ops : Ops). as_database m.atoms ops m.clauses)
     (c.more_names_keep_the_table.ensures.table m.atoms q.new.atoms m.ops (record { before = s.different; after = c.text.ensures.different; kept = keeps }) s.operators_named)
 
+pub returns-clause-atoms : goal.returns-clause-atoms
+returns-clause-atoms c = c.query-built.ensures.grows.longer
+
 pub returns-clause-images : goal.returns-clause-images
 returns-clause-images c =
     let d = (goal.at.returns-clause-images c).In_ok-new_variables in

@@ -1,4 +1,4 @@
-use Rattle.std.proofs.Common.{◌≡◌, ◌∙◌, OnOk, length, refl, sym, ap, arith, subst}
+use Rattle.std.proofs.Common.{◌≡◌, ◌∙◌, ◌≤◌, OnOk, suc, length, refl, sym, ap, arith, subst}
 use Rattle.spec_lists.proofs.Prefixes.{prefix_both}
 use Rattle.spec_search.specs.Search.{Search, start}
 use Rattle.spec_syntax.specs.TextTokens.{VariableName}
@@ -48,14 +48,16 @@ ask-requires c =
     let t = c.args.self.now in
     let e = c.end in
     let q = c.query_on in
-    let count = c.in_ok-goal.ensures.images in
+    let count : length (images_of q.new.engine) ≡ suc c.args.number = c.in_ok-goal.ensures.images in
+    let low : 0 ≤ c.args.number = omega arith in
+    let high : suc c.args.number ≤ length (images_of q.new.engine) = omega (arith, count) in
     let u : Toplevel = record t { engine = q.new.engine } in
     record {
       whole = whole_kept t u c.requires.kept (texts_kept (texts t) (texts u) (prefix_both (texts t) e.new.self.machine.atoms (texts u) e.ensures.keeps.atoms q.ensures.atoms))
           refl q.ensures.kept refl;
       idle = c.in_ok-goal.ensures.idle;
       live = c.in_ok-goal.ensures.live;
-      names = subst (λ (ns : List VariableName). AreNumbered 0 ns (length (images_of q.new.engine))) (sym c.in_ok-names.ensures) (omega arith, omega (arith, count));
+      names = subst (λ (ns : List VariableName). AreNumbered 0 ns (length (images_of q.new.engine))) (sym c.in_ok-names.ensures) (low, high);
     }
 
 pub returns-clause-stands : goal.returns-clause-stands
