@@ -1,4 +1,4 @@
-use Rattle.std.proofs.Common.{◌≡◌, ◌∙◌, [], add-one, arith}
+use Rattle.std.proofs.Common.{◌≡◌, ◌∙◌, ◌<◌, suc, [], add-one, arith}
 use Rattle.spec_search.specs.Search.{Search}
 use Rattle.spec_gen.specs.Outcome.{GenFrom, gen_budgets}
 use Rattle.cq_gen.proofs.Courses.{counts_none, counts_writing, counts_answering, ends_answering, ends_failing, ends_raising, ends_stopping, made}
@@ -44,12 +44,13 @@ pub events-preserved : goal.events-preserved
 events-preserved g c =
     let i = c.events.invariant in
     let event = rw (c.in-Answer.is, i.budgets) at c.in_ok-_text.ensures.event in
+    let few : suc c.events.answers < 10 = omega (arith, i.few, c.if-answers-eq-ANSWERS.false) in
     record {
       came = λ s stands.
           let j = i.came s stands in
           let e = event j.reached j.stands in
-          counts_answering _ _ _ _ s j _ _ _ _ e _ (c.in_ok-value-in-Answer.ensures e.state e.ops e.answers) _ (add-one c.events.answers) (omega (arith, i.few, c.if-answers-eq-ANSWERS.false));
-      few = omega (arith, i.few, c.if-answers-eq-ANSWERS.false);
+          counts_answering _ _ _ _ s j _ _ _ _ e _ (c.in_ok-value-in-Answer.ensures e.state e.ops e.answers) _ (add-one c.events.answers) few;
+      few = omega (arith, few);
       named = c.in_ok-_text.ensures.names ∙ i.named;
       kept = c.in_ok-_text.ensures.kept;
       budgets = c.in_ok-_text.ensures.budgets ∙ i.budgets;
@@ -59,12 +60,13 @@ pub returns-then-answers-eq-ANSWERS : goal.returns-then-answers-eq-ANSWERS
 returns-then-answers-eq-ANSWERS g c =
     let i = c.events.invariant in
     let event = rw (c.in-Answer.is, i.budgets) at c.in_ok-_text.ensures.event in
+    let last : suc c.events.answers ≡ 10 = omega (arith, c.if-answers-eq-ANSWERS.true) in
     made c.over.result _ _ (λ line stopped. (s : Search) → g.P.Interpreter.stands c.args.program.now s → GenFrom gen_budgets c.args.number line stopped 0 [] s)
     c.over.ensures.line c.over.ensures.stopped
     (λ line is s stands.
     let j = i.came s stands in
     let e = event j.reached j.stands in
-    ends_answering _ _ _ _ s j _ _ _ _ e _ (c.in_ok-value-in-Answer.ensures e.state e.ops e.answers) _ (add-one c.events.answers) line (omega (arith, c.if-answers-eq-ANSWERS.true)) (rw c.deref.ensures.value at is))
+    ends_answering _ _ _ _ s j _ _ _ _ e _ (c.in_ok-value-in-Answer.ensures e.state e.ops e.answers) _ (add-one c.events.answers) line last (rw c.deref.ensures.value at is))
 
 pub returns-in-Fail : goal.returns-in-Fail
 returns-in-Fail g c =
