@@ -9,11 +9,12 @@ use Rattle.cq_words.specs.declared.words.WordsFault.TheVariants as words_fault
 use Rattle.cq_transcript.specs.Halts.{Halts, IsWhole}
 use Rattle.cq_transcript.specs.Progress.{CountsWrites, marks_of}
 use Rattle.cq_transcript.specs.declared.halt.Halt.{Halt}
-use Rattle.cq_gen.specs.Writing.{HasWritten, IsBroken}
-use Rattle.spec_gen.specs.Outcome.{GenWrites}
 use Rattle.cq_transcript.specs.declared.halt.Halt.TheVariants.{Memory}
 use Rattle.cq_transcript.specs.declared.halt.Halt.TheVariants as halt
 use Rattle.cq_transcript.specs.declared.halt.Lines.{Lines}
+use Rattle.cq_gen.specs.Writing as writing
+use Rattle.cq_gen.specs.Writing.{IsBroken}
+use Rattle.spec_gen.specs.Outcome.{GenWrites}
 use Rattle.spec_lists.specs.Texts.{Text}
 use Rattle.spec_transcript.specs.Session.{Opening, none}
 use Rattle.spec_search.specs.Database.{initial}
@@ -156,7 +157,7 @@ module _ (n : ℕ) (held now : Option (List ℕ)) where
       → GenShows n (Whole lines) held now
   same_lines lines e h = subst (λ b. GenShows n (Whole (record { faulty = b; stopped = lines.stopped })) held now) (sym e) h
 
-  pub gen_whole : (lines : Lines) → HasWritten n held now lines → GenShows n (Whole lines) held now
+  pub gen_whole : (lines : Lines) → writing.HasWritten n held now lines → GenShows n (Whole lines) held now
   gen_whole lines w = same_lines lines w.no_error (record {
     text = w.line;
     ends = whole_generates lines.stopped w.line w.writes;
@@ -209,7 +210,7 @@ gen_ended n e s is held now err told h = record {
 
 -- what the status of a line says of the counts, of which a write that failed made one rise
 module _ (n absent refused failed taken before after : ℕ) where
-  abbrev IsCaused : Status → Type 0
+  abbrev pub IsCaused : Status → Type 0
   IsCaused s = Caused s (Some (ToGen n)) (counted absent refused failed taken before) (counted absent refused failed taken after)
 
   pub whole_caused : (faulty stopped : Bool) → IsCaused (whole_status faulty stopped)
@@ -218,7 +219,7 @@ module _ (n absent refused failed taken before after : ℕ) where
   whole_caused true false = refl
   whole_caused false false = refl
 
-  pub broken_caused : (h : Halt) → CountsWrites {Lines} before after (Err h) → IsCaused (status_of (Broken h))
+  pub broken_caused : (h : Halt) → CountsWrites {T = Lines} before after (Err h) → IsCaused (status_of (Broken h))
   broken_caused halt.Write counts = (refl, counts)
   broken_caused Memory counts = tt
   broken_caused (halt.Absent name) counts = absurd counts
@@ -227,9 +228,11 @@ module _ (n absent refused failed taken before after : ℕ) where
   broken_caused halt.Read counts = absurd counts
 
 pub gen_complete : (n : ℕ) (e : Ending) (s : Status) → s ≡ status_of e → (held now : Option (List ℕ)) (before behind : Counts) → GenCompleteness
-    → Caused (status_of e) (Some (ToGen n)) before behind → GenShows n e held now → IsGenClear n before.out_faults behind.out_faults → causes.IsWhole s
-gen_complete n e s is held now before behind law caused h clear =
-    subst causes.IsWhole (sym is) (law n (status_of e) h.text (line_of e) before behind h.ends caused clear)
+    → (asked : Option Task) → asked ≡ Some (ToGen n) → Caused (status_of e) asked before behind → GenShows n e held now
+    → IsGenClear n before.out_faults behind.out_faults → causes.IsWhole s
+gen_complete n e s is held now before behind law asked generates caused h clear =
+    let caused_so : Caused (status_of e) (Some (ToGen n)) before behind = subst (λ a. Caused (status_of e) a before behind) generates caused in
+    subst causes.IsWhole (sym is) (law n (status_of e) h.text (line_of e) before behind h.ends caused_so clear)
 
 -- ---- options
 

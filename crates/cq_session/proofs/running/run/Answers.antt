@@ -18,5 +18,5 @@ returns-clause-generates g c = λ n asked. gen_ended n _ c.status_of.result c.st
 
 pub returns-clause-generates_whole : goal.returns-clause-generates_whole
 returns-clause-generates_whole g c = λ n asked clear.
-    gen_complete n _ c.status_of.result c.status_of.ensures _ _ _ _ c.completeness_follows.ensures.generated (rw asked at c.answer-how.ensures.cause)
-    (c.answer-how.ensures.generates n asked) clear
+    gen_complete n _ c.status_of.result c.status_of.ensures _ _ _ _ c.completeness_follows.ensures.generated (asked_by c.args.words.now) asked
+    c.answer-how.ensures.cause (c.answer-how.ensures.generates n asked) clear
