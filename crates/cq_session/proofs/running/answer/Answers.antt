@@ -23,8 +23,8 @@ generate-requires g c =
     let h = may_generate c.args.words.now c.in-Gen.number (rw c.in-Gen.is at c.in-Ok.ensures.asked) in
     record { some = h.0; few = h.1 }
 
-pub returns-in-Gen-clause-shows : goal.returns-in-Gen-clause-shows
-returns-in-Gen-clause-shows g c = if_some_all _ _ (λ o. gen_shows o _ c.in-Gen.number (asked_by c.args.words.now) (rw c.in-Gen.is at c.in-Ok.ensures.asked) _ _ _ c.generate.ensures.shows)
+pub returns-clause-shows : goal.returns-clause-shows
+returns-clause-shows g c = if_some_all _ _ (λ o. gen_shows o _ c.in-Gen.number (asked_by c.args.words.now) (rw c.in-Gen.is at c.in-Ok.ensures.asked) _ _ _ c.generate.ensures.shows)
 
 pub returns-in-Err-clause-generates : goal.returns-in-Err-clause-generates
 returns-in-Err-clause-generates g c = λ n asked. gen_without_words n _ c.in-Err.fault c.without_words.result c.without_words.ensures
