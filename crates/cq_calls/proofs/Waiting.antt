@@ -81,11 +81,22 @@ module _ (texts : List Text) (v : Program) (saved : List (Value Contents)) (choi
 
     -- so it is in a world in which more was built
     grown_waiting : (grown : Value Contents) → Grown texts now grown → AreWaiting (IsBranch texts) (term_in texts) ((grown, Clauses t (clauses_left texts v walk) k) ∷ older) j.behind
-    grown_waiting grown g =
-        (waiting.0, waiting.1, waiting.2, (waiting.3.0, waiting.3.1, waiting.3.2, g.terms t waiting.3.1 waiting.3.3, record {
+    grown_waiting grown g = (
+      waiting.0,
+      waiting.1,
+      waiting.2,
+      (
+        waiting.3.0,
+        waiting.3.1,
+        waiting.3.2,
+        g.terms t waiting.3.1 waiting.3.3,
+        record {
           continuation = continuation_grown (IsBranch texts) (term_in texts) older now grown g k place.0.rest place.0.state place.1.continuation;
           height = place.1.height;
-        }), waiting.4)
+        },
+      ),
+      waiting.4,
+    )
 
     grown_stands : (grown : Value Contents) → Grown texts now grown → (more : List (Value Contents)) (after : List Alternatives) (later : Value Contents)
         → LeavesAlso saved choices grown (alternatives.Clauses t walk k) more after

@@ -1,6 +1,7 @@
 use Rattle.std.proofs.Common.{◌≡◌, List, length, Some, refl, sym, ap, ap₂, ◌∙◌, subst}
 use Rattle.std.specs.Prelude.{slice_get}
 use Rattle.std.specs.List.{zip}
+use Rattle.cq_attr.proofs.Elements.{on_err}
 use Rattle.cq_program.specs.Database.{IsCounted}
 use Rattle.cq_stored.specs.StoredValue.{ClauseValue}
 use Rattle.cq_world.specs.Contents.{Contents}
@@ -11,6 +12,7 @@ use Rattle.cq_steps.specs.Worlds.{saved_values, value}
 use Rattle.cq_steps.specs.declared.alternatives.Alternatives.{Alternatives}
 use Rattle.cq_steps.specs.declared.alternatives.Alternatives.TheVariants.{Clauses}
 use Rattle.cq_begin.specs.declared.beginning.Begun.TheVariants.{Goes, Pruned}
+use Rattle.cq_calls.specs.Calling.{IsStill}
 use Rattle.cq_calls.proofs.Left.{of_content, marked_same}
 use Rattle.cq_calls.proofs.Waiting.{only_comes, waits_come, opens_also, same_grown, keeps_on}
 use Rattle.cq_calls.proofs.calling.begin_only.Goals as goal
@@ -45,6 +47,9 @@ returns-in-Goes-clause-open c = λ o.
     subst (λ (l : List (Value Contents)). AreOpen c.args.atoms.now c.args.clauses.now l c.args.choices.now)
     (sym (ap₂ (λ (x : List Contents) (y : List (List (List Cell))). zip x y) c.in-Ok.ensures.saved c.in-Ok.ensures.lists)) o
 
+pub returns-in-Goes-clause-there : goal.returns-in-Goes-clause-there
+returns-in-Goes-clause-there c = rw c.in-Goes.is at c.in-Ok.ensures.there
+
 -- ---- it is pruned
 
 pub returns-in-Pruned-clause-comes : goal.returns-in-Pruned-clause-comes
@@ -71,8 +76,8 @@ returns-in-Pruned-clause-back c = rw c.in-Pruned.is at c.in-Ok.ensures.unchanged
 
 -- ---- at a fault the clause waits
 
-pub wait-requires-in-Err : goal.wait-requires-in-Err
-wait-requires-in-Err c =
+pub wait-requires : goal.wait-requires
+wait-requires c =
     marked_same c.args.world.now.first c.begin_clause.new.world c.args.world.now.second.saved c.begin_clause.new.lists.saved c.args.choices.now c.in-Err.ensures.saved c.in-Err.ensures.lists
     c.requires.marked
 
@@ -105,12 +110,15 @@ pub returns-in_err-wait-clause-budget : goal.returns-in_err-wait-clause-budget
 returns-in_err-wait-clause-budget c = ap (λ (w : Contents). w.pivots) c.wait.ensures.world ∙ c.in-Err.ensures.budget
 
 pub returns-in_err-wait-clause-err : goal.returns-in_err-wait-clause-err
-returns-in_err-wait-clause-err c = record {
-  choices = c.in_err-wait.ensures.err;
-  saved = c.in_err-wait.ensures.err_saved ∙ ap₂ (λ (x : List Contents) (y : List (List (List Cell))). zip x y) c.in-Err.ensures.saved c.in-Err.ensures.lists;
-  world = c.wait.ensures.world ∙ c.in-Err.ensures.err;
-  lists = keeps_on c.args.world.now.second.now c.begin_clause.new.lists.now c.wait.new.world.second.now c.in-Err.ensures.keeps c.wait.ensures.lists;
-}
+returns-in_err-wait-clause-err c =
+    let still : IsStill c.args.world.now.first c.wait.new.world.first c.args.world.now.second c.wait.new.world.second c.args.choices.now c.wait.new.choices =
+    record {
+      choices = c.in_err-wait.ensures.err;
+      saved = c.in_err-wait.ensures.err_saved ∙ ap₂ (λ (x : List Contents) (y : List (List (List Cell))). zip x y) c.in-Err.ensures.saved c.in-Err.ensures.lists;
+      world = c.wait.ensures.world ∙ c.in-Err.ensures.err;
+      lists = keeps_on c.args.world.now.second.now c.begin_clause.new.lists.now c.wait.new.world.second.now c.in-Err.ensures.keeps c.wait.ensures.lists;
+    } in
+    on_err c.from_residual.result still
 
 pub returns-in_err-wait-clause-open : goal.returns-in_err-wait-clause-open
 returns-in_err-wait-clause-open c = λ o.

@@ -1,10 +1,12 @@
 use Rattle.std.proofs.Common.{◌≡◌, ◌∷◌, ℕ, List, refl, sym, ap, ◌∙◌, subst}
+use Rattle.cq_attr.proofs.Elements.{on_err}
 use Rattle.cq_clauses.specs.Walks.{HasNoneLeft}
 use Rattle.cq_world.specs.Contents.{Contents}
 use Rattle.spec_machine.specs.Cells.{Value}
 use Rattle.cq_steps.specs.Choices.{AreOpen}
 use Rattle.cq_steps.specs.Worlds.{saved_values, value}
 use Rattle.cq_steps.specs.declared.alternatives.Alternatives.{Alternatives}
+use Rattle.cq_calls.specs.Calling.{IsStill}
 use Rattle.cq_calls.proofs.Left.{none_left}
 use Rattle.cq_calls.proofs.Waiting.{none_comes, waits_come, opens_also, same_grown, keeps_all, keeps_same}
 use Rattle.cq_calls.proofs.calling.call_clauses.Goals as goal
@@ -40,12 +42,15 @@ pub returns-else-is_empty-clause-budget : goal.returns-else-is_empty-clause-budg
 returns-else-is_empty-clause-budget c = ap (λ (w : Contents). w.pivots) c.wait.ensures.world
 
 pub returns-in_err-wait-clause-err : goal.returns-in_err-wait-clause-err
-returns-in_err-wait-clause-err c = record {
-  choices = c.in_err-wait.ensures.err;
-  saved = c.in_err-wait.ensures.err_saved;
-  world = c.wait.ensures.world;
-  lists = keeps_same c.args.world.now.second.now c.wait.new.world.second.now c.wait.ensures.lists;
-}
+returns-in_err-wait-clause-err c =
+    let still : IsStill c.args.world.now.first c.wait.new.world.first c.args.world.now.second c.wait.new.world.second c.args.choices.now c.wait.new.choices =
+    record {
+      choices = c.in_err-wait.ensures.err;
+      saved = c.in_err-wait.ensures.err_saved;
+      world = c.wait.ensures.world;
+      lists = keeps_same c.args.world.now.second.now c.wait.new.world.second.now c.wait.ensures.lists;
+    } in
+    on_err c.from_residual.result still
 
 pub returns-in_err-wait-clause-budget : goal.returns-in_err-wait-clause-budget
 returns-in_err-wait-clause-budget c = ap (λ (w : Contents). w.pivots) c.wait.ensures.world

@@ -5,6 +5,7 @@ use Rattle.spec_branch.specs.Branch.{Branch}
 use Rattle.spec_search.specs.Control.{user_row}
 use Rattle.spec_search.specs.Replies.{Place, Calls}
 use Rattle.spec_built.specs.Built.{indicator_of}
+use Rattle.cq_attr.proofs.Elements.{on_err}
 use Rattle.cq_clauses.specs.Database.{clauses_of, database, kind_of}
 use Rattle.cq_clauses.specs.Selected.{key_at, matching}
 use Rattle.cq_clauses.specs.Walks.{HasNoneLeft, IsWalk}
@@ -100,11 +101,11 @@ returns-then-is_none-clause-unknown c = λ e. record { choices = refl; saved = r
 no_clause : (c : After-is_empty) → c.is_empty.result ≡ true → numbers_left c.args.clauses.now c.walk-walk.result ≡ []
 no_clause c e = none_left c.args.clauses.now c.walk-walk.result (subst (λ b. HasNoneLeft b c.walk-walk.result) e c.is_empty.ensures)
 
-pub returns-else-is_none-clause-row : goal.returns-else-is_none-clause-row
-returns-else-is_none-clause-row c = λ p behind g i.
-    let n = (goal.at.returns-else-is_none-clause-row c).After-is_none in
-    let w = (goal.at.returns-else-is_none-clause-row c).After-walk-walk in
-    let e = (goal.at.returns-else-is_none-clause-row c).After-is_empty in
+pub returns-then-is_empty-clause-row : goal.returns-then-is_empty-clause-row
+returns-then-is_empty-clause-row c = λ p behind g i.
+    let n = (goal.at.returns-then-is_empty-clause-row c).After-is_none in
+    let w = (goal.at.returns-then-is_empty-clause-row c).After-walk-walk in
+    let e = (goal.at.returns-then-is_empty-clause-row c).After-is_empty in
     let kind = some_known c.status_of.result c.is_none.result c.is_none.ensures c.if-is_none.false in
     row_of w p behind g i
     (known c.args.atoms.now c.args.clauses.now (before w) c.args.choices.now (now w) c.args.pred c.args.goal c.args.rest p behind g i (as_kind kind.0)
@@ -152,6 +153,15 @@ returns-in-None-clause-row c = λ p behind g i.
     (saved_values c.call_clauses.new.world.first c.call_clauses.new.world.second.saved) c.call_clauses.new.choices
     (value c.call_clauses.new.world.first c.call_clauses.new.world.second.now) None (rw c.in-None.is at c.in_ok-next.ensures.comes)
 
+pub returns-in-Some-clause-there : goal.returns-in-Some-clause-there
+returns-in-Some-clause-there c = rw c.in-Some.is at c.in_ok-next.ensures.there
+
+pub returns-in-None-clause-back : goal.returns-in-None-clause-back
+returns-in-None-clause-back c = λ e. rw c.in-None.is at c.in_ok-next.ensures.back
+
+pub returns-in_err-next-clause-err : goal.returns-in_err-next-clause-err
+returns-in_err-next-clause-err c = on_err c.from_residual.result c.in_err-next.ensures.err
+
 -- ---- the choices that are open
 
 open_then : (c : After-walk-walk) (more : List (Value Contents)) (after : List Alternatives)
@@ -163,9 +173,9 @@ pub returns-then-is_none-clause-open : goal.returns-then-is_none-clause-open
 returns-then-is_none-clause-open c =
     open_then (goal.at.returns-then-is_none-clause-open c).After-walk-walk (saved_values c.args.world.now.first c.args.world.now.second.saved) c.args.choices.now (λ o. o)
 
-pub returns-else-is_none-clause-open : goal.returns-else-is_none-clause-open
-returns-else-is_none-clause-open c =
-    open_then (goal.at.returns-else-is_none-clause-open c).After-walk-walk (saved_values c.args.world.now.first c.args.world.now.second.saved) c.args.choices.now (λ o. o)
+pub returns-then-is_empty-clause-open : goal.returns-then-is_empty-clause-open
+returns-then-is_empty-clause-open c =
+    open_then (goal.at.returns-then-is_empty-clause-open c).After-walk-walk (saved_values c.args.world.now.first c.args.world.now.second.saved) c.args.choices.now (λ o. o)
 
 pub returns-in-Some-clause-open : goal.returns-in-Some-clause-open
 returns-in-Some-clause-open c =
