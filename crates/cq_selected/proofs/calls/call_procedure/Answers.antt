@@ -36,6 +36,9 @@ returns-in-Unknown-clause-row c = λ height p behind g s.
     let at = called_at c.args.m.now c.args.predicate c.args.goal height c.args.rest p behind g c.requires.sound c.requires.predicate s in
     (rw c.in-Unknown.is at c.in_ok-found.ensures.row) p behind g at ∙ ap (λ (i : Indicator). Raises (existence_error i)) (sym at.indicator)
 
+pub returns-in-Goes-clause-goes : goal.returns-in-Goes-clause-goes
+returns-in-Goes-clause-goes c = rw c.in-Goes.is at c.in_ok-found.ensures.there
+
 -- ---- the machine is sound
 
 pub returns-in-Goes-clause-sound : goal.returns-in-Goes-clause-sound
