@@ -11,18 +11,19 @@ use Rattle.spec_search.specs.Replies.{Place}
 use Rattle.spec_search.specs.Search.{Search}
 use Rattle.cq_clauses.specs.Walks.{IsWalk}
 use Rattle.cq_clauses.specs.declared.walk.Walk.{Walk}
-use Rattle.cq_control.specs.Items.{items_at}
+use Rattle.cq_control.specs.Items.{ContinuationsValue, items_at}
 use Rattle.cq_control.specs.Open.{AreMarked, open_choices}
 use Rattle.cq_program.specs.Database.{Program, as_clause}
 use Rattle.cq_stored.specs.StoredValue.{ClauseValue}
 use Rattle.cq_world.specs.Contents.{Contents}
+use Rattle.cq_world.specs.declared.world.World.{World}
 use Rattle.spec_machine.specs.declared.cell.Cell.{Cell}
 use Rattle.spec_machine.specs.Cells.{Clauses, Stack, Value}
 use Rattle.spec_machine.specs.Coming.{Comes}
 use Rattle.spec_machine.specs.Standing.{engine, IsPlace, AreWaiting, IsStanding}
 use Rattle.cq_steps.specs.Choices.{AreOpen, CanBeTried, LeavesAlso}
 use Rattle.cq_steps.specs.Lists.{KeepsLists}
-use Rattle.cq_steps.specs.Worlds.{IsBranch, term_in, clauses_left, stack, left_at, Arrives, Grown}
+use Rattle.cq_steps.specs.Worlds.{IsBranch, term_in, value, saved_values, clauses_left, stack, left_at, Grown}
 use Rattle.cq_steps.specs.declared.alternatives.Alternatives.{Alternatives}
 use Rattle.cq_steps.specs.declared.alternatives.Alternatives.TheVariants as alternatives
 use Rattle.cq_steps.proofs.Arrived.{comes_at_once}
@@ -30,6 +31,7 @@ use Rattle.cq_steps.proofs.Selected.{continuation_grown}
 use Rattle.cq_begin.specs.declared.beginning.Begun.{Begun}
 use Rattle.cq_begin.specs.Begun.{goes_to}
 use Rattle.cq_begin.specs.Calls.{ClauseComes}
+use Rattle.cq_begin.specs.Stops.{ComesOn}
 use Rattle.cq_calls.specs.Calling.{LeavesOnly, WouldStand, WouldCome}
 use Rattle.cq_calls.proofs.Left.{content_is, length-opened, numbers_left}
 use Rattle.cq_calls.proofs.Newest.{arrives_past}
@@ -54,6 +56,9 @@ keeps_same lists more e = record { more = omega (arith, ap length e); same = λ 
 
 pub keeps_on : (lists more last : List (List Cell)) → KeepsLists lists more → last ≡ more → KeepsLists lists last
 keeps_on lists more last k e = subst (KeepsLists lists) (sym e) k
+
+pub keeps_both : (lists more last : List (List Cell)) → KeepsLists lists more → KeepsLists more last → KeepsLists lists last
+keeps_both lists more last a b = record { more = omega (arith, a.more, b.more); same = λ k l. b.same k (omega (arith, a.more, l)) ∙ a.same k l }
 
 -- the choices are open that were, and the clauses of a walk
 pub opens_also : (texts : List Text) (v : Program) (saved : List (Value Contents)) (choices : List Alternatives) (t k : ℕ) (walk : Walk) (now : Value Contents)
@@ -81,22 +86,11 @@ module _ (texts : List Text) (v : Program) (saved : List (Value Contents)) (choi
 
     -- so it is in a world in which more was built
     grown_waiting : (grown : Value Contents) → Grown texts now grown → AreWaiting (IsBranch texts) (term_in texts) ((grown, Clauses t (clauses_left texts v walk) k) ∷ older) j.behind
-    grown_waiting grown g = (
-      waiting.0,
-      waiting.1,
-      waiting.2,
-      (
-        waiting.3.0,
-        waiting.3.1,
-        waiting.3.2,
-        g.terms t waiting.3.1 waiting.3.3,
-        record {
+    grown_waiting grown g =
+        (waiting.0, waiting.1, waiting.2, (waiting.3.0, waiting.3.1, waiting.3.2, g.terms t waiting.3.1 waiting.3.3, record {
           continuation = continuation_grown (IsBranch texts) (term_in texts) older now grown g k place.0.rest place.0.state place.1.continuation;
           height = place.1.height;
-        },
-      ),
-      waiting.4,
-    )
+        }), waiting.4)
 
     grown_stands : (grown : Value Contents) → Grown texts now grown → (more : List (Value Contents)) (after : List Alternatives) (later : Value Contents)
         → LeavesAlso saved choices grown (alternatives.Clauses t walk k) more after
@@ -115,6 +109,14 @@ module _ (texts : List Text) (v : Program) (saved : List (Value Contents)) (choi
   pub waits_come : (grown : Value Contents) → Grown texts now grown → (more : List (Value Contents)) (after : List Alternatives) (later : Value Contents)
       → LeavesAlso saved choices grown (alternatives.Clauses t walk k) more after → WouldCome texts v saved choices now t walk k more after later None
   waits_come grown g more after later l steps db n s j = comes_at_once (IsBranch texts) (term_in texts) steps _ s (grown_stands db n s j grown g more after later l)
+
+  -- as they are tried where they wait, it comes to the same
+  pub waited_come : (w : World) (lists : ContinuationsValue Cell) (after : List Alternatives)
+      → LeavesAlso saved choices now (alternatives.Clauses t walk k) (saved_values w lists.saved) after
+      → (new : World) (more : ContinuationsValue Cell) (left : List Alternatives) (current : Option ℕ) → ComesOn texts v w lists after new more left current
+      → WouldCome texts v saved choices now t walk k (saved_values new more.saved) left (value new more.now) current
+  waited_come w lists after l new more left current g steps db n s j =
+      g steps db n s (grown_stands db n s j now (same_grown texts now.0 now.0 now.1 now.1 refl (keeps_all now.1)) (saved_values w lists.saved) after (value w lists.now) l)
 
   -- there is none
   pub none_comes : numbers_left v walk ≡ [] → WouldCome texts v saved choices now t walk k saved choices now None
@@ -140,5 +142,5 @@ module _ (texts : List Text) (v : Program) (saved : List (Value Contents)) (choi
         → WouldCome texts v saved choices now t walk k more choices later (goes_to b)
     only_comes kept got height high later b comes more same steps db m s j =
         subst (λ (l : List (Value Contents)). Comes (IsBranch texts) (term_in texts) steps (engine db m (stack texts v l choices) later (goes_to b)) s) (sym same)
-        (comes_without texts db m s older now now t k (as_clause texts v.contents n) [] (back_to db m s j) height (high_stack height high) kept
+        (comes_without texts db m s older now now t k (as_clause texts v.contents n) [] (back_to db m s j) now (same_grown texts now.0 now.0 now.1 now.1 refl (keeps_all now.1)) height (high_stack height high) kept
         (content_is texts v n kept got) later b comes steps refl)

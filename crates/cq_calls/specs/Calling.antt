@@ -81,6 +81,11 @@ pub record IsStill (old new : World) (lists more : ContinuationsValue Cell) (bef
 abbrev pub LeavesOnly : Program → Walk → ℕ → Type 0
 LeavesOnly v walk n = left (λ (c : ClauseValue). key_of c.head) walk v ≡ n ∷ []
 
+-- the walk leaves this clause first, and behind it those of another
+abbrev pub LeavesFirst : Program → Walk → ℕ → Walk → Type 0
+LeavesFirst v walk n behind =
+    left (λ (c : ClauseValue). key_of c.head) walk v ≡ n ∷ left (λ (c : ClauseValue). key_of c.head) behind v
+
 -- The engine would stand for the search where it came back to one more choice, of these clauses of a call in this world.
 abbrev pub WouldStand : List Text → Program → List (Value Contents) → List Alternatives → Value Contents → ℕ → Walk → ℕ → Database → ℕ → Search → Type 0
 WouldStand texts v saved choices now id walk rest db n s = Stands texts v db n (saved ++ now ∷ []) (alternatives.Clauses id walk rest ∷ choices) now None s

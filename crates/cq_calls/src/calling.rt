@@ -1,6 +1,6 @@
 // How a call of a user predicate begins.
 
-ghost use Rattle.std.specs.Prelude.{◌≡◌, ◌<◌, List, length, Ok, IfOk, IfSome, IfNone, OnOk, OnErr};
+ghost use Rattle.std.specs.Prelude.{◌≡◌, ◌<◌, ◌∷◌, List, length, Ok, IfOk, IfSome, IfNone, OnOk, OnErr};
 ghost use Rattle.spec_lists.specs.Texts.{Text};
 ghost use Rattle.spec_syntax.specs.Trees.{Tree};
 ghost use Rattle.spec_branch.specs.Branch.{Branch};
@@ -14,8 +14,9 @@ ghost use Rattle.cq_world.specs.Worlds.{now_of};
 ghost use Rattle.cq_steps.specs.Choices.{AreOpen, LeavesAlso};
 ghost use Rattle.cq_steps.specs.Worlds.{value, saved_values, stack};
 ghost use Rattle.cq_steps.specs.declared.alternatives.Alternatives.TheVariants as alternatives;
-ghost use Rattle.cq_calls.specs.Calling.{IsCalledAt, HasCalled, IfCalledGoes, IsStill, LeavesOnly, WouldCome};
+ghost use Rattle.cq_calls.specs.Calling.{IsCalledAt, HasCalled, IfCalledGoes, IsStill, LeavesFirst, LeavesOnly, WouldCome};
 
+use crate::trying::try_from;
 use cq_atoms::Atoms;
 use cq_begin::{Begun, begin_clause};
 use cq_clauses::{ClauseNo, Clauses, Walk};
@@ -36,9 +37,9 @@ pub enum Called {
     Unknown,
 }
 
-/// A goal calls the procedure of its indicator. Where one clause alone may match it, the clause's branch begins at once, with no
-/// choice and no mark of the world; several wait as one choice, to which the engine comes back at once. After want of memory, and
-/// where there is no such procedure, the choices are as they were.
+/// A goal calls the procedure of its indicator. The clauses that may match it are tried at once, in order, up to one whose
+/// branch is kept: one alone with no choice and no mark of the world, several as one choice. After want of memory, and where there is
+/// no such procedure, the choices are as they were.
 pub fn call_procedure(
     world: &mut Searching,
     choices: &mut Choices<Alternatives>,
@@ -89,8 +90,8 @@ pub fn call_procedure(
     }
 }
 
-/// The clauses of a call: a branch of the only one begins, and several wait as one choice. What the engine goes on with; None where
-/// it comes back to its newest choice. After want of memory the choices are as they were.
+/// The clauses of a call are tried. What the engine goes on with; None where it comes back to its newest choice. After want of memory
+/// the choices are as they were.
 fn call_clauses(
     world: &mut Searching,
     choices: &mut Choices<Alternatives>,
@@ -125,8 +126,48 @@ fn call_clauses(
     if left.is_empty() {
         begin_only(world, choices, atoms, clauses, number, goal, walk, rest)
     } else {
-        wait(world, choices, goal, walk, rest)?;
-        Ok(None)
+        begin_several(world, choices, atoms, clauses, number, goal, walk, left, rest)
+    }
+}
+
+/// The clauses of a call wait, and are tried from the first one on, up to one whose branch is kept. At a fault the engine comes to
+/// the fault again as it comes back.
+fn begin_several(
+    world: &mut Searching,
+    choices: &mut Choices<Alternatives>,
+    atoms: &Atoms,
+    clauses: &Clauses<ProgramClause>,
+    first: ClauseNo,
+    goal: TermId,
+    walk: Walk,
+    behind: Walk,
+    rest: Continuation,
+) -> Result<Option<Continuation>, AllocError>
+    requires ready { IsReady atoms.now (now_of world.old.first) }
+    requires different { AreDifferent atoms.now }
+    requires program { IsProgram atoms.now clauses.now }
+    requires goal { goal < length world.old.first.heap.now.terms }
+    requires walk { IsWalk walk clauses.now }
+    requires behind { IsWalk behind clauses.now }
+    requires known { first < length clauses.now.contents }
+    requires next { LeavesFirst clauses.now walk first behind }
+    requires rest { rest < length world.old.second.now }
+    requires marked { AreMarked (saved_values world.old.first world.old.second.saved) choices.old }
+    ensures comes { IfOk result (WouldCome atoms.now clauses.now (saved_values world.old.first world.old.second.saved) choices.old
+        (value world.old.first world.old.second.now) goal walk rest
+        (saved_values world.new.first world.new.second.saved) choices.new (value world.new.first world.new.second.now)) }
+    ensures there { IfOk result (λ o. IfSome o (λ k. k < length world.new.second.now)) }
+    ensures marked { AreMarked (saved_values world.new.first world.new.second.saved) choices.new }
+    ensures open { AreOpen atoms.now clauses.now (saved_values world.old.first world.old.second.saved) choices.old
+        → AreOpen atoms.now clauses.now (saved_values world.new.first world.new.second.saved) choices.new }
+    ensures budget { world.new.first.store.pivots ≡ world.old.first.store.pivots }
+    ensures back { IfOk result (λ o. IfNone o (now_of world.new.first ≡ now_of world.old.first)) }
+    ensures err { OnErr result (IsStill world.old.first world.new.first world.old.second world.new.second choices.old choices.new) }
+{
+    wait(world, choices, goal, walk, rest)?;
+    match try_from(world, choices, atoms, clauses, first, goal, behind, rest) {
+        Ok(next) => Ok(next),
+        Err(_) => Ok(None),
     }
 }
 
@@ -196,6 +237,7 @@ fn wait(
     ensures waits { OnOk result (LeavesAlso (saved_values world.old.first world.old.second.saved) choices.old
         (value world.old.first world.old.second.now) (alternatives.Clauses goal walk rest)
         (saved_values world.new.first world.new.second.saved) choices.new) }
+    ensures contents { OnOk result (choices.new ≡ alternatives.Clauses goal walk rest ∷ choices.old) }
     ensures world { now_of world.new.first ≡ now_of world.old.first }
     ensures lists { world.new.second.now ≡ world.old.second.now }
     ensures marked { AreMarked (saved_values world.new.first world.new.second.saved) choices.new }
