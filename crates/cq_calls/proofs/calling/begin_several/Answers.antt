@@ -3,6 +3,7 @@ use Rattle.std.specs.Prelude.{IfNone}
 use Rattle.cq_attr.proofs.Elements.{on_err}
 use Rattle.cq_world.specs.Contents.{Contents}
 use Rattle.cq_world.specs.Rest.{IsReady}
+use Rattle.cq_world.specs.Worlds.{now_of}
 use Rattle.spec_machine.specs.Cells.{Value}
 use Rattle.spec_machine.specs.declared.cell.Cell.{Cell}
 use Rattle.cq_control.specs.Open.{open_choices}
@@ -41,9 +42,9 @@ try_from-requires-clause-next c = record {
 -- ---- what it comes to
 
 -- what was said of the world before
-back_before : {old mid new : Contents} (o : Option ℕ) → IfNone o (new ≡ mid) → mid ≡ old → IfNone o (new ≡ old)
-back_before None a b = a ∙ b
-back_before (Some k) a b = tt
+back_before : (old mid new : Contents) (o : Option ℕ) → IfNone o (new ≡ mid) → mid ≡ old → IfNone o (new ≡ old)
+back_before old mid new None a b = a ∙ b
+back_before old mid new (Some k) a b = tt
 
 pub returns-in-Ok-clause-comes : goal.returns-in-Ok-clause-comes
 returns-in-Ok-clause-comes c =
@@ -61,7 +62,7 @@ pub returns-in-Err-clause-back : goal.returns-in-Err-clause-back
 returns-in-Err-clause-back c = c.in-Err.ensures.err_world ∙ c.wait.ensures.world
 
 pub returns-in-Ok-clause-back : goal.returns-in-Ok-clause-back
-returns-in-Ok-clause-back c = back_before c.in-Ok.next c.in-Ok.ensures.back c.wait.ensures.world
+returns-in-Ok-clause-back c = back_before (now_of c.args.world.now.first) (now_of c.wait.new.world.first) (now_of c.try_from.new.world.first) c.in-Ok.next c.in-Ok.ensures.back c.wait.ensures.world
 
 -- ---- the choices that are open
 

@@ -98,7 +98,8 @@ module _ (c : After-back) (t : IsTrying c.args.goal c.clauses.left c.args.rest (
       c.back.ensures.none c.back.ensures.contents c.back.ensures.open t.newest
 
   goes_back : later ≡ t.back
-  goes_back = ap (λ (x : Value Contents × Alternatives). x.0) (same-first (later, newest) (t.back, newest) _ t.others (sym went_past ∙ t.goes_back))
+  goes_back = ap (λ (x : Value Contents × Alternatives). x.0) (same-first (later, newest) (t.back, newest)
+      (open_choices (saved_values c.back.new.world.first c.back.new.world.second.saved) c.back.new.self) t.others (sym went_past ∙ t.goes_back))
 
 pub returns-in_default-clause-comes : goal.returns-in_default-clause-comes
 returns-in_default-clause-comes c =
