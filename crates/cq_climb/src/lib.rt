@@ -25,15 +25,15 @@ use std::cmp::Ordering;
 
 /// An exchange by which the asked row rises, and by how much.
 #[derive(Clone, Copy, Debug)]
-struct Rise {
-    leaving: usize,
-    entering: Col,
-    gain: Frac,
+pub struct Rise {
+    pub leaving: usize,
+    pub entering: Col,
+    pub gain: Frac,
 }
 
 /// By how much a row rises in which a column has the factor, where it enters and the other row leaves; None where a number is
 /// refused.
-fn gain_of(dict: &Dict, factor: Frac, column: Col, limit: usize) -> Option<Frac>
+pub fn gain_of(dict: &Dict, factor: Frac, column: Col, limit: usize) -> Option<Frac>
     requires table { AreOverColumns dict.now.roles }
     requires limits { Limits (is_restricted dict.now.restricted) (dictionary dict.now.roles 0) column limit }
     ensures { IfSome result (λ g. g ≡ factor *ℚ ratio (dictionary dict.now.roles 0) column limit) }
@@ -70,7 +70,7 @@ fn rise_of(dict: &Dict, row: usize, entry: Entry) -> Option<Rise>
 }
 
 /// The exchange that was found before, unless the row rises more by the next one.
-fn higher(before: Option<Rise>, next: Rise) -> Rise
+pub fn higher(before: Option<Rise>, next: Rise) -> Rise
     ensures { IsHigher before next result }
 {
     match before {

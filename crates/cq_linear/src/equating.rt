@@ -318,7 +318,8 @@ fn first_column(dict: &Dict, q: usize) -> Option<Col>
     Some(row[0].quantity)
 }
 
-/// Enters an equation whose row is zero.
+/// Enters an equation whose row is zero. Where it mentions a variable of which the told list says nothing, of this quantity, and has an
+/// unrestricted column, no other is looked at.
 fn enter_zero(
     alloc: Global,
     pivots: u64,
@@ -328,11 +329,13 @@ fn enter_zero(
     told: &[Constraint],
     c: &Constraint,
     q: usize,
+    new: Option<usize>,
 ) -> Result<Entered, StoreFault>
     requires equation { c.now.relation ≡ Eq }
     requires numbered { AreNumbered names.old.now numbers.now.entries }
     requires behind { IsRowBehind told.now names.old.now c.now dict.old.roles dict.old.restricted q }
     requires zero { constant_at dict.old.roles q ≡ 0ℚ }
+    requires new { IfSome new (IsNewIn told.now names.old.now c.now) }
     ensures joined { IsJoined result told.now c.now names.new.now (quantities_of dict.new) }
     ensures refuted { IsRefuted result told.now c.now }
     ensures overflow { (pair : Pair) → result ≡ Err (Overflow pair) → MayRefuse told.now (Only c.now) NoQuestion pair }
@@ -345,7 +348,9 @@ fn enter_zero(
     ensures dict_room { dict.old.room ≤ dict.new.room }
 {
     if let Some(column) = lightest_column(dict, q) {
-        return enter_by_column(alloc, pivots, numbers, names, dict, told, c, q, column);
+        return enter_crossing(
+            alloc, pivots, numbers, names, dict, told, c, q, column, new,
+        );
     }
     match first_column(dict, q) {
         Some(column) => enter_by_level(alloc, pivots, numbers, names, dict, told, c, q, column),
@@ -502,7 +507,7 @@ pub fn enter_equation(
     match approach(dict, &places, c.form.constant(), pivots) {
         Ok(Approached::Zero(q)) => {
             dict.forget(start);
-            enter_zero(alloc, pivots, numbers, names, dict, told, c, q)
+            enter_zero(alloc, pivots, numbers, names, dict, told, c, q, new)
         }
         Ok(Approached::Crossing(q, column)) => {
             dict.forget(start);
@@ -553,7 +558,7 @@ pub fn can_enter_equation(
     let new = new_place(&places, known);
     match approach(dict, &places, c.form.constant(), pivots)? {
         Approached::Zero(q) => {
-            let entered = enter_zero(alloc, pivots, numbers, names, dict, told, c, q)?;
+            let entered = enter_zero(alloc, pivots, numbers, names, dict, told, c, q, new)?;
             Ok(has_joined(entered))
         }
         Approached::Crossing(q, column) => {
