@@ -25,8 +25,8 @@ fn slope(factor: Frac, up: bool) -> Frac
     factor.neg()
 }
 
-/// The exchange by which the column enters, along which the row comes nearer to zero by this factor; None where it comes no nearer by it, or a
-/// number is refused.
+/// The exchange by which the column enters, along which the row comes nearer to zero by this factor; None where no row limits the
+/// column, or a number is refused.
 fn nearing_by(dict: &Dict, q: usize, up: bool, factor: Frac, column: Col) -> Option<Rise>
     requires table { AreOverColumns dict.now.roles }
     requires row { IsRow dict.now.roles q }
@@ -39,14 +39,11 @@ fn nearing_by(dict: &Dict, q: usize, up: bool, factor: Frac, column: Col) -> Opt
         return None;
     };
     let gain = gain_of(dict, factor, column, limit)?;
-    if gain.is_positive() {
-        return Some(Rise {
-            leaving: limit,
-            entering: column,
-            gain,
-        });
-    }
-    None
+    Some(Rise {
+        leaving: limit,
+        entering: column,
+        gain,
+    })
 }
 
 /// The exchange by which the row comes nearest to zero, of those whose numbers are not refused; None also where the row has an

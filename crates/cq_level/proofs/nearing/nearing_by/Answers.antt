@@ -10,8 +10,8 @@ pub gain_of-requires-clause-limits : goal.gain_of-requires-clause-limits
 gain_of-requires-clause-limits c =
     (subst (IsLeaving c.args.dict.now.roles c.args.dict.now.restricted 0 c.args.column) c.in-Ok-Some.field-0-is (c.in-Ok-Some.ensures.value 0)).limits
 
-pub returns-then-is_positive : goal.returns-then-is_positive
-returns-then-is_positive c = record {
+pub returns : goal.returns
+returns c = record {
   none = c.requires.none;
   raises = c.requires.raises;
   leaves = seen_leaves c.args.dict.now.roles c.args.q c.args.dict.now.restricted c.requires.free c.args.up c.args.column c.in-Ok-Some.limit
