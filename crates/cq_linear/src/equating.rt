@@ -27,7 +27,7 @@ ghost use Rattle.cq_linear.specs.Fallen.{FallsAt};
 use crate::entering::{Entered, has_joined};
 use crate::facing::fallen_disequation;
 use crate::falling::fallen_certificate;
-use crate::solving::{enter_by_new, new_place};
+use crate::solving::{enter_by_new, free_column_of, new_place};
 use crate::store::StoreFault;
 use cq_dict::dict::{Col, Dict};
 use cq_form::{Cert, Constraint, Form};
@@ -318,8 +318,7 @@ fn first_column(dict: &Dict, q: usize) -> Option<Col>
     Some(row[0].quantity)
 }
 
-/// Enters an equation whose row is zero. Where it mentions a variable of which the told list says nothing, of this quantity, and has an
-/// unrestricted column, no other is looked at.
+/// Enters an equation whose row is zero.
 fn enter_zero(
     alloc: Global,
     pivots: u64,
@@ -329,13 +328,11 @@ fn enter_zero(
     told: &[Constraint],
     c: &Constraint,
     q: usize,
-    new: Option<usize>,
 ) -> Result<Entered, StoreFault>
     requires equation { c.now.relation ≡ Eq }
     requires numbered { AreNumbered names.old.now numbers.now.entries }
     requires behind { IsRowBehind told.now names.old.now c.now dict.old.roles dict.old.restricted q }
     requires zero { constant_at dict.old.roles q ≡ 0ℚ }
-    requires new { IfSome new (IsNewIn told.now names.old.now c.now) }
     ensures joined { IsJoined result told.now c.now names.new.now (quantities_of dict.new) }
     ensures refuted { IsRefuted result told.now c.now }
     ensures overflow { (pair : Pair) → result ≡ Err (Overflow pair) → MayRefuse told.now (Only c.now) NoQuestion pair }
@@ -348,9 +345,7 @@ fn enter_zero(
     ensures dict_room { dict.old.room ≤ dict.new.room }
 {
     if let Some(column) = lightest_column(dict, q) {
-        return enter_crossing(
-            alloc, pivots, numbers, names, dict, told, c, q, column, new,
-        );
+        return enter_by_column(alloc, pivots, numbers, names, dict, told, c, q, column);
     }
     match first_column(dict, q) {
         Some(column) => enter_by_level(alloc, pivots, numbers, names, dict, told, c, q, column),
@@ -448,10 +443,13 @@ fn above_certificate(
 }
 
 /// Makes a row of a form over the quantities, and brings it to zero, or to where it can cross zero, or shows that it can't be zero.
+///
+/// It can cross by the quantity of a new variable wherever it stands.
 fn approach(
     dict: &mut Dict,
     places: &[Entry],
     constant: Frac,
+    new: Option<usize>,
     pivots: u64,
 ) -> Result<Approached, SimplexFault>
     requires { IsToJoinSome (quantities_of dict.old) places.now constant }
@@ -464,6 +462,9 @@ fn approach(
         → (n ≡ pivots) × OfJoining (quantities_of dict.old) places.now constant (λ told names c. MayTake told (Only c) NoQuestion n) }
 {
     let q = dict.add_row(places, constant, false)?;
+    if let Some(column) = free_column_of(dict, q, new) {
+        return Ok(Approached::Crossing(q, column));
+    }
     match level(dict, q, pivots)? {
         Levelled::Level => Ok(Approached::Zero(q)),
         Levelled::Crossing(column) => Ok(Approached::Crossing(q, column)),
@@ -504,10 +505,10 @@ pub fn enter_equation(
     let places = place(numbers, names, dict, alloc, &c.form)?;
     let new = new_place(&places, known);
     let start = dict.mark()?;
-    match approach(dict, &places, c.form.constant(), pivots) {
+    match approach(dict, &places, c.form.constant(), new, pivots) {
         Ok(Approached::Zero(q)) => {
             dict.forget(start);
-            enter_zero(alloc, pivots, numbers, names, dict, told, c, q, new)
+            enter_zero(alloc, pivots, numbers, names, dict, told, c, q)
         }
         Ok(Approached::Crossing(q, column)) => {
             dict.forget(start);
@@ -556,9 +557,9 @@ pub fn can_enter_equation(
     let known = names.len();
     let places = place(numbers, names, dict, alloc, &c.form)?;
     let new = new_place(&places, known);
-    match approach(dict, &places, c.form.constant(), pivots)? {
+    match approach(dict, &places, c.form.constant(), new, pivots)? {
         Approached::Zero(q) => {
-            let entered = enter_zero(alloc, pivots, numbers, names, dict, told, c, q, new)?;
+            let entered = enter_zero(alloc, pivots, numbers, names, dict, told, c, q)?;
             Ok(has_joined(entered))
         }
         Approached::Crossing(q, column) => {

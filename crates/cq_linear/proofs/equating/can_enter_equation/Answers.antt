@@ -82,16 +82,6 @@ enter_crossing-requires-clause-crosses c =
     c.in_ok-q.ensures.approached in
     subst (λ (z : Constraint). Crosses told names z new.roles new.restricted c.in-Crossing.q c.in-Crossing.column) c.c.view_is (a told names k j)
 
-pub enter_zero-requires-clause-new : goal.enter_zero-requires-clause-new
-enter_zero-requires-clause-new c =
-    let told = c.args.told.now in
-    let names = c.place.new.names.now in
-    let p = c.in_ok-places.ensures in
-    new_if told c.args.names.now.now (quantities_of c.args.dict.now) c.requires.stored names p.grows (p.stored told c.requires.stored).once c.args.c.now c.in_ok-places.places.items
-    (subst (λ (z : Constraint). IsPlaced names z.form.products c.in_ok-places.places.items) c.c.view_is p.placed)
-    (subst (λ (z : Constraint). IsForm z.form) c.c.view_is p.in_order) c.len-known.result c.len-known.ensures c.new_place-new.result
-    (subst (λ (s : List Entry). IfSome c.new_place-new.result (IsPlaceBehind c.len-known.result s)) c.deref.ensures.value c.new_place-new.ensures)
-
 pub enter_crossing-requires-clause-new : goal.enter_crossing-requires-clause-new
 enter_crossing-requires-clause-new c =
     let told = c.args.told.now in

@@ -155,17 +155,6 @@ returns-clause-pivots c = λ n e.
     let o = c.in-Err.ensures.pivots n (ap Err f) in
     (o.0, subst (λ (z : Constraint). MayTake told (Only z) NoQuestion n) c.c.view_is (o.1 told names k j))
 
-pub enter_zero-requires-clause-new : goal.enter_zero-requires-clause-new
-enter_zero-requires-clause-new c =
-    let told = c.args.told.now in
-    let names = c.place.new.names.now in
-    let k : Constraint = record { relation = c.c.inside.relation; form = c.c.inside.form } in
-    let p = c.in_ok-places.ensures in
-    new_if told c.args.names.now.now (quantities_of c.args.dict.now) c.requires.stored names p.grows (p.stored told c.requires.stored).once c.args.c.now c.in_ok-places.places.items
-    (subst (λ (z : Constraint). IsPlaced names z.form.products c.in_ok-places.places.items) c.c.view_is p.placed)
-    (subst (λ (z : Constraint). IsForm z.form) c.c.view_is p.in_order) c.len-known.result c.len-known.ensures c.new_place-new.result
-    (subst (λ (s : List Entry). IfSome c.new_place-new.result (IsPlaceBehind c.len-known.result s)) c.deref.ensures.value c.new_place-new.ensures)
-
 pub enter_crossing-requires-clause-new : goal.enter_crossing-requires-clause-new
 enter_crossing-requires-clause-new c =
     let told = c.args.told.now in

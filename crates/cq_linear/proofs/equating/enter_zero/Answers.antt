@@ -12,8 +12,8 @@ lightest_column-requires-clause-table c = c.requires.behind.keeps.table
 pub lightest_column-requires-clause-row : goal.lightest_column-requires-clause-row
 lightest_column-requires-clause-row c = c.requires.behind.row
 
-pub enter_crossing-requires-clause-crosses : goal.enter_crossing-requires-clause-crosses
-enter_crossing-requires-clause-crosses c =
+pub enter_by_column-requires-clause-crosses : goal.enter_by_column-requires-clause-crosses
+enter_by_column-requires-clause-crosses c =
     let roles = c.args.dict.now.roles in
     let flags = c.args.dict.now.restricted in
     free_crosses c.args.told.now c.args.names.now.now c.args.c.now roles flags c.args.q c.requires.behind c.in-Some.column
