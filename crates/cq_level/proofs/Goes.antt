@@ -28,16 +28,17 @@ use Rattle.cq_simplex.proofs.Entries.{factor_of, has_entry, raises_is, first_ent
 use Rattle.cq_simplex.proofs.Steps.{begins, step}
 use Rattle.cq_simplex.proofs.Roles.{dropped_after}
 use Rattle.cq_climb.specs.Climbs.{IsCarried}
-use Rattle.cq_climb.proofs.Climbing.{stays_carried, carried_on}
+use Rattle.cq_climb.proofs.Climbing.{stays_carried, carried_on, carried_further}
 use Rattle.cq_tableau.specs.Raised.{HasNoFreeColumn}
-use Rattle.cq_tableau.proofs.Tied.{entry_live}
+use Rattle.cq_tableau.proofs.Tied.{entry_live, carried_invariant}
+use Rattle.cq_tableau.proofs.Looks.{carried_speaks}
 use Rattle.cq_level.specs.Turned.{opposite_row, turned, towards, slope_of}
 use Rattle.cq_level.specs.Levelled.{IsOff, IsPassed, IsNext, IsNearing, CrossesBy, CrossesAt, StaysRow, StaysOff, GoesOn, IsGone, IsClimbed, NoneNearer, IsShort, IsLevelled, RefusesLevel, SpendsLevel}
 use Rattle.cq_level.specs.declared.levelling.Levelled.{Levelled}
 use Rattle.cq_level.specs.declared.levelling.Step.TheVariants.{Ends, Exchange}
 use Rattle.cq_level.specs.declared.levelling.Levelled.TheVariants.{Level, Crossing, Short}
 use Rattle.cq_level.proofs.Turned.{turned_at, turned_table, turned_same, turned_exchanged, turned_live, turned_row, turned_is_row, feasible_turned, feasible_back, own_constant, own_factor, leaves_turned, none_limits_turned, limits_there, limits_back}
-use Rattle.cq_level.proofs.Passing.{free_at, unlimited_at, passed_at, exchange_keeps}
+use Rattle.cq_level.proofs.Passing.{free_at, unlimited_at, passed_at}
 
 -- ---- the roles in which the row is to rise
 module _ (roles : List Role) (q : ℕ) where
@@ -158,6 +159,23 @@ stays_here q roles flags row = record { keeps = λ forms l k. k; dropped = λ c.
 pub stays_further : (q : ℕ) (a b c : List Role) (flags : List Bool) → StaysRow q a flags b → StaysRow q b flags c → StaysRow q a flags c
 stays_further q a b c flags x y = record { keeps = λ forms l k. y.keeps forms l (x.keeps forms l k); dropped = λ z. y.dropped z ∙ x.dropped z; row = y.row }
 
+-- a dictionary of the same solutions keeps what was kept
+pub carried_stays : (q : ℕ) (old : List Role) (flags : List Bool) (new : List Role) → IsCarried old flags q new → StaysRow q old flags new
+carried_stays q old flags new r = record {
+  keeps = λ forms l k.
+      let s = carried_speaks old new flags q r forms l
+      (record { table = k.table; size = k.size; describes = k.describes; sound = k.invariant.sound; dropped = k.dropped }) in
+      record {
+        table = s.table;
+        size = s.size;
+        describes = s.describes;
+        invariant = carried_invariant old new flags forms l q k.size k.describes k.invariant r;
+        dropped = s.dropped;
+      };
+  dropped = r.dropped;
+  row = r.asked_row;
+}
+
 -- the row and the column of an exchange
 pub nearing_there : (q : ℕ) (up : Bool) (old : List Role) (flags : List Bool) → is_restricted flags q ≡ false → (r c : ℕ) → IsNearing old flags q up r c → HasEntry old r c
 nearing_there q up old flags free r c n =
@@ -196,30 +214,34 @@ module _ (q : ℕ) (up : Bool) (old : List Role) (flags : List Bool) (row : IsRo
   seen_exchanged true = x
   seen_exchanged false = turned_exchanged old new q r c x
 
-  carried : IsCarried (towards up old q) flags q (towards up new q)
-  carried =
+  seen_carried : IsCarried (towards up old q) flags q (towards up new q)
+  seen_carried =
       carried_on flags q (towards up old q) c r n.raises n.leaves (towards up old q) (towards up new q)
       (stays_carried flags q (towards up old q) (seen_table old q up row table) (seen_row old q up row) feasible)
       (seen_same up) (seen_exchanged up) (seen_table new q up new_row new_table)
 
   new_feasible : IsFeasible (is_restricted flags) (dictionary new q)
-  new_feasible = own_feasible new q flags free up carried.feasible
+  new_feasible = own_feasible new q flags free up seen_carried.feasible
+
+  carried : IsCarried old flags q new
+  carried = record {
+    table = new_table;
+    size = x.size;
+    same = same;
+    dropped = λ z. dropped_after old new r c leaving_row column_live x z;
+    asked_row = new_row;
+    feasible = new_feasible;
+  }
 
   pub stays_after : StaysRow q old flags new
-  stays_after = record {
-    keeps = exchange_keeps old flags r c leaving_row column_live new x same new_table q new_feasible;
-    dropped = λ z. dropped_after old new r c leaving_row column_live x z;
-    row = new_row;
-  }
+  stays_after = carried_stays q old flags new carried
 
   pub goes_on : IsOff up new q → GoesOn q up old flags r c new
   goes_on o = record {
     same = seen_same up;
     exchanged = seen_exchanged up;
     table = seen_table new q up new_row new_table;
-    own_table = new_table;
-    feasible = new_feasible;
-    stays = stays_after;
+    carried = carried;
     off = o;
   }
 
@@ -300,11 +322,11 @@ one_further q up flags old n mid new r c reached due g =
     step flags q (towards up old q) n (towards up mid q) (towards up new q) reached c r due g.same g.exchanged g.table
 
 -- the budget is spent
-pub spent_level : (q : ℕ) (up : Bool) (flags : List Bool) (old : List Role) → IsRow old q → (n : ℕ) (mid : List Role) → IsReached flags q (towards up old q) n (towards up mid q)
+pub spent_level : (q : ℕ) (up : Bool) (flags : List Bool) (old : List Role) → IsCarried old flags q old → (n : ℕ) (mid : List Role) → IsReached flags q (towards up old q) n (towards up mid q)
     → IsOff up mid q → (r c : ℕ) → IsDue (is_restricted flags) (dictionary (towards up mid q) q) c r → SpendsLevel q old flags n
-spent_level q up flags old row n mid reached off r c due = record {
+spent_level q up flags old carried n mid reached off r c due = record {
   from = old;
-  stays = stays_here q old flags row;
+  carried = carried;
   up = up;
   last = towards up mid q;
   spent = record { reached = reached; column = c; row = r; due = due; short = λ e. lt_to_le off };
@@ -314,21 +336,19 @@ spent_level q up flags old row n mid reached off r c due = record {
 pub climbed_on : (q : ℕ) (up : Bool) (old mid : List Role) (flags : List Bool) → StaysOff q up old flags mid → (r c : ℕ) (new : List Role) → GoesOn q up mid flags r c new
     → StaysOff q up old flags new
 climbed_on q up old mid flags s r c new g = record {
-  table = g.own_table;
-  feasible = g.feasible;
-  stays = stays_further q old mid new flags s.stays g.stays;
+  carried = carried_further old flags q mid s.carried new g.carried;
   off = g.off;
 }
 
 pub climbed_there : (q : ℕ) (up : Bool) (old mid : List Role) (flags : List Bool) → StaysOff q up old flags mid → (new : List Role) (l : Levelled) → IsLevelled q mid flags new l
     → IsClimbed q up old flags new (Some l)
-climbed_there q up old mid flags s new l h = stays_on q old mid flags s.stays new l h
+climbed_there q up old mid flags s new l h = stays_on q old mid flags (carried_stays q old flags mid s.carried) new l h
 
 pub refused_further : (q : ℕ) (old mid : List Role) (flags : List Bool) → StaysRow q old flags mid → (pair : Pair) → RefusesLevel q mid flags pair → RefusesLevel q old flags pair
 refused_further q old mid flags s pair r = record { roles = r.roles; stays = stays_further q old mid r.roles flags s r.stays; refuses = r.refuses }
 
-pub spent_further : (q : ℕ) (old mid : List Role) (flags : List Bool) → StaysRow q old flags mid → (n : ℕ) → SpendsLevel q mid flags n → SpendsLevel q old flags n
-spent_further q old mid flags s n p = record { from = p.from; stays = stays_further q old mid p.from flags s p.stays; up = p.up; last = p.last; spent = p.spent }
+pub spent_further : (q : ℕ) (old mid : List Role) (flags : List Bool) → IsCarried old flags q mid → (n : ℕ) → SpendsLevel q mid flags n → SpendsLevel q old flags n
+spent_further q old mid flags r n p = record { from = p.from; carried = carried_further old flags q mid r p.from p.carried; up = p.up; last = p.last; spent = p.spent }
 
 -- ---- a column by which the row comes nearer
 module _ (roles : List Role) (flags : List Bool) (q : ℕ) (row : IsRow roles q) (table : AreOverColumns roles) (up : Bool) where

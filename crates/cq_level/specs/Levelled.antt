@@ -3,7 +3,6 @@ use Rattle.std.specs.Prelude.{◌≡◌, ◌⊎◌, ℕ, List, Bool, true, false
 use Rattle.spec_rational.specs.Rational.{ℚ, 0ℚ, neg_ℚ, IsPositive, ◌<ℚ◌}
 use Rattle.spec_linear.specs.Form.{Linear, negated_form}
 use Rattle.spec_linear.specs.Solution.{Constraint}
-use Rattle.spec_simplex.specs.Dictionary.{IsFeasible}
 use Rattle.spec_simplex.specs.Rule.{Raises, Leaves, IsDue, IsUnlimited, IsFree}
 use Rattle.spec_tableau.specs.Reach.{Rises}
 use Rattle.spec_tableau.specs.Tableau.{HasFeasibleNumbers}
@@ -16,6 +15,7 @@ use Rattle.cq_dict.specs.declared.table.Role.{Role}
 use Rattle.cq_dict.specs.declared.table.Role.TheVariants.{Basic}
 use Rattle.cq_dict.specs.Roles.{IsAt, IsRow, AreOverColumns, HasEntry, IsExchanged, IsEliminated, PivotPair, is_restricted, constant_at}
 use Rattle.cq_dict.specs.Dict.{SameMeaning}
+use Rattle.cq_climb.specs.Climbs.{IsCarried}
 use Rattle.cq_simplex.specs.declared.Aim.TheVariants.{Positive}
 use Rattle.cq_simplex.specs.Answers.{AreSpent}
 use Rattle.cq_simplex.specs.Dictionary.{dictionary}
@@ -109,9 +109,7 @@ pub record GoesOn (q : ℕ) (up : Bool) (old : List Role) (flags : List Bool) (r
   pub same : SameMeaning (towards up old q) (towards up new q)
   pub exchanged : IsExchanged (towards up old q) r c (towards up new q)
   pub table : AreOverColumns (towards up new q)
-  pub own_table : AreOverColumns new
-  pub feasible : IsFeasible (is_restricted flags) (dictionary new q)
-  pub stays : StaysRow q old flags new
+  pub carried : IsCarried old flags q new
   pub off : IsOff up new q
 
 -- what an exchange came to: the row is off zero still, or it is zero, or the exchange is not made, since the row passes zero by it
@@ -121,11 +119,9 @@ IsGone q up old flags r c new (Some Level) = StaysRow q old flags new × (consta
 IsGone q up old flags r c new (Some (Crossing d)) = StaysRow q old flags new × CrossesAt new flags q d
 IsGone q up old flags r c new (Some Short) = ⊥
 
--- the row is off zero still, and a search may begin
+-- the row is off zero still, in a feasible dictionary of the same solutions
 pub record StaysOff (q : ℕ) (up : Bool) (old : List Role) (flags : List Bool) (new : List Role) : Type 0 where
-  pub table : AreOverColumns new
-  pub feasible : IsFeasible (is_restricted flags) (dictionary new q)
-  pub stays : StaysRow q old flags new
+  pub carried : IsCarried old flags q new
   pub off : IsOff up new q
 
 -- what a climb came to
@@ -140,10 +136,11 @@ pub record RefusesLevel (q : ℕ) (old : List Role) (flags : List Bool) (pair : 
   pub stays : StaysRow q old flags roles
   pub refuses : RefusesSome roles pair
 
--- where the row has come to, so many exchanges are made for it, or for its negative, and another is due
+-- from some feasible dictionary of the same solutions so many exchanges are made by the rule for the row, or for its negative, and another
+-- is due
 pub record SpendsLevel (q : ℕ) (old : List Role) (flags : List Bool) (n : ℕ) : Type 0 where
   pub from : List Role
-  pub stays : StaysRow q old flags from
+  pub carried : IsCarried old flags q from
   pub up : Bool
   pub last : List Role
   pub spent : AreSpent (towards up from q) flags q Positive n last

@@ -37,6 +37,7 @@ use Rattle.cq_tableau.proofs.Tied.{linked, searchable, flag_below, optimal_of}
 use Rattle.cq_tableau.proofs.Steps.{form_more, form_last, met_agrees}
 use Rattle.cq_level.specs.Turned.{opposite_row, turned, towards}
 use Rattle.cq_level.specs.Levelled.{StaysRow, CrossesAt, RefusesLevel, SpendsLevel, HoldBelow, HoldAbove, IsShort}
+use Rattle.cq_level.proofs.Goes.{carried_stays}
 use Rattle.cq_level.proofs.Turned.{turned_at, turned_length, turned_dropped, turned_other, turned_is_row, turned_table, flipped, flipped_own, flipped_other, met_turned, met_back}
 use Rattle.cq_linear.specs.Equated.{IsRowBehind, Crosses, StaysBelow, IsToJoin}
 use Rattle.cq_linear.specs.StoreValue.{MayRefuse, MayTake, Only}
@@ -279,7 +280,7 @@ module _ (told : List Constraint) (names : List Name) (c : Constraint) (roles : 
 -- ---- where the search ends
 pub level_spent : (told : List Constraint) (names : List Name) (c : Constraint) (roles : List Role) (flags : List Bool) (q : ℕ) → IsRowBehind told names c roles flags q
     → (n : ℕ) → SpendsLevel q roles flags n → MayTake told (Only c) NoQuestion n
-level_spent told names c roles flags q b n p = spent_here told names c p.from flags q (moved_behind told names c roles flags q b p.from p.stays) n p.up p.last p.spent
+level_spent told names c roles flags q b n p = spent_here told names c p.from flags q (moved_behind told names c roles flags q b p.from (carried_stays q roles flags p.from p.carried)) n p.up p.last p.spent
 
 -- ---- a constraint that is to join, where its form is placed
 pub joining : (told : List Constraint) (names : List Name) (c : Constraint) (before now : Quantities) → now ≡ before → IsStored told names before

@@ -1,9 +1,10 @@
 use Rattle.std.proofs.Common.{◌≡◌, ℕ, List, Bool, arith, ap, sym, subst, ◌∙◌}
 use Rattle.cq_dict.specs.Roles.{is_restricted}
 use Rattle.cq_simplex.specs.declared.SimplexFault.TheVariants.{Pivots}
+use Rattle.cq_climb.proofs.Climbing.{stays_carried}
 use Rattle.cq_level.specs.Levelled.{GoesOn, IsGone, IsNext, IsLevelled, SpendsLevel}
 use Rattle.cq_level.specs.declared.levelling.Step.TheVariants.{Exchange}
-use Rattle.cq_level.proofs.Goes.{begins_here, due_nears, ended, stays_on, stays_further, gone_so_far, one_further, spent_level, same_fault}
+use Rattle.cq_level.proofs.Goes.{begins_here, carried_stays, due_nears, ended, stays_on, stays_further, gone_so_far, one_further, spent_level, same_fault}
 use Rattle.cq_level.proofs.levelling.approach.Goals as goal
 
 pub loop-init : goal.loop-init
@@ -46,8 +47,9 @@ loop-preserved c =
       flags = x.flags ∙ i.flags;
       saved = x.saved ∙ i.saved;
       room = omega (arith, x.room, i.room);
-      table = g.own_table;
-      stays = stays_further c.args.q c.args.dict.now.roles c.loop.dict.roles c.exchange.new.dict.roles c.args.dict.now.restricted i.stays g.stays;
+      table = g.carried.table;
+      stays = stays_further c.args.q c.args.dict.now.roles c.loop.dict.roles c.exchange.new.dict.roles c.args.dict.now.restricted i.stays
+          (carried_stays c.args.q c.loop.dict.roles c.args.dict.now.restricted c.exchange.new.dict.roles g.carried);
       off = g.off;
       reached = one_further c.args.q c.args.up c.args.dict.now.restricted c.args.dict.now.roles c.loop.counter c.loop.dict.roles c.exchange.new.dict.roles row column i.reached next.1 g;
     }
@@ -69,7 +71,8 @@ returns-in-Exchange-2-clause-pivots c = λ n e.
     (subst (IsNext c.loop.dict.roles c.loop.dict.restricted c.args.q c.args.up) c.in-Exchange-2.is c.in_ok-levelled-2.ensures.next) in (
       sym same,
       subst (SpendsLevel c.args.q c.args.dict.now.roles c.args.dict.now.restricted) (all ∙ same)
-          (spent_level c.args.q c.args.up c.args.dict.now.restricted c.args.dict.now.roles c.requires.row c.loop.counter c.loop.dict.roles i.reached i.off c.in-Exchange-2.field-0 c.in-Exchange-2.field-1 x.1),
+          (spent_level c.args.q c.args.up c.args.dict.now.restricted c.args.dict.now.roles
+          (stays_carried c.args.dict.now.restricted c.args.q c.args.dict.now.roles c.requires.table c.requires.row c.requires.feasible) c.loop.counter c.loop.dict.roles i.reached i.off c.in-Exchange-2.field-0 c.in-Exchange-2.field-1 x.1),
     )
   where
     same_pivots : (m n : ℕ) → Pivots m ≡ Pivots n → m ≡ n

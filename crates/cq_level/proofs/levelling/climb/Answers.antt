@@ -3,8 +3,9 @@ use Rattle.spec_simplex.specs.Dictionary.{IsFeasible}
 use Rattle.cq_dict.specs.declared.table.Role.{Role}
 use Rattle.cq_dict.specs.Roles.{is_restricted}
 use Rattle.cq_simplex.specs.Dictionary.{dictionary}
+use Rattle.cq_climb.proofs.Climbing.{stays_carried}
 use Rattle.cq_level.specs.Levelled.{IsGone, IsLevelled, StaysOff}
-use Rattle.cq_level.proofs.Goes.{stays_here, gone_so_far, climbed_on, climbed_there, seen_feasible}
+use Rattle.cq_level.proofs.Goes.{gone_so_far, climbed_on, climbed_there, seen_feasible}
 use Rattle.cq_level.proofs.levelling.climb.Goals as goal
 
 pub loop-init : goal.loop-init
@@ -13,18 +14,16 @@ loop-init c = record {
   saved = refl;
   room = omega arith;
   climbed = record {
-    table = c.requires.table;
-    feasible = c.requires.feasible;
-    stays = stays_here c.args.q c.args.dict.now.roles c.args.dict.now.restricted c.requires.row;
+    carried = stays_carried c.args.dict.now.restricted c.args.q c.args.dict.now.roles c.requires.table c.requires.row c.requires.feasible;
     off = c.requires.off;
   };
 }
 
 pub nearest-requires-clause-table : goal.nearest-requires-clause-table
-nearest-requires-clause-table c = c.loop.invariant.climbed.table
+nearest-requires-clause-table c = c.loop.invariant.climbed.carried.table
 
 pub nearest-requires-clause-row : goal.nearest-requires-clause-row
-nearest-requires-clause-row c = c.loop.invariant.climbed.stays.row
+nearest-requires-clause-row c = c.loop.invariant.climbed.carried.asked_row
 
 pub nearest-requires-clause-free : goal.nearest-requires-clause-free
 nearest-requires-clause-free c = ap (λ f. is_restricted f c.args.q) c.loop.invariant.flags ∙ c.requires.free
@@ -33,7 +32,7 @@ pub returns-in_default-clause-climbed : goal.returns-in_default-clause-climbed
 returns-in_default-clause-climbed c = c.loop.invariant.climbed
 
 pub exchange-requires-clause-asked : goal.exchange-requires-clause-asked
-exchange-requires-clause-asked c = c.loop.invariant.climbed.stays.row
+exchange-requires-clause-asked c = c.loop.invariant.climbed.carried.asked_row
 
 pub exchange-requires-clause-free : goal.exchange-requires-clause-free
 exchange-requires-clause-free c = ap (λ f. is_restricted f c.args.q) c.loop.invariant.flags ∙ c.requires.free
@@ -44,10 +43,10 @@ exchange-requires-clause-off c = c.loop.invariant.climbed.off
 pub exchange-requires-clause-feasible : goal.exchange-requires-clause-feasible
 exchange-requires-clause-feasible c =
     seen_feasible c.loop.dict.roles c.args.q c.loop.dict.restricted (ap (λ f. is_restricted f c.args.q) c.loop.invariant.flags ∙ c.requires.free) c.args.up
-    (subst (λ (f : List Bool). IsFeasible (is_restricted f) (dictionary c.loop.dict.roles c.args.q)) (sym c.loop.invariant.flags) c.loop.invariant.climbed.feasible)
+    (subst (λ (f : List Bool). IsFeasible (is_restricted f) (dictionary c.loop.dict.roles c.args.q)) (sym c.loop.invariant.flags) c.loop.invariant.climbed.carried.feasible)
 
 pub exchange-requires-clause-table : goal.exchange-requires-clause-table
-exchange-requires-clause-table c = c.loop.invariant.climbed.table
+exchange-requires-clause-table c = c.loop.invariant.climbed.carried.table
 
 pub returns-in-Ok-Some-clause-climbed : goal.returns-in-Ok-Some-clause-climbed
 returns-in-Ok-Some-clause-climbed c =

@@ -6,7 +6,7 @@ use Rattle.cq_dict.proofs.Roles.{at_below}
 use Rattle.cq_simplex.specs.Dictionary.{dictionary}
 use Rattle.cq_tableau.proofs.Passed.{search_passed, search_spent}
 use Rattle.cq_level.specs.Levelled.{IsLevelled, IsClimbed, RefusesLevel, SpendsLevel}
-use Rattle.cq_level.proofs.Goes.{stays_here, stays_on, refused_further, spent_further, zero_is, is_off}
+use Rattle.cq_level.proofs.Goes.{stays_here, carried_stays, stays_on, refused_further, spent_further, zero_is, is_off}
 use Rattle.cq_level.proofs.levelling.level.Goals as goal
 
 pub prove-unreachable-requires : goal.prove-unreachable-requires
@@ -29,7 +29,7 @@ returns-in-Some-clause-levelled c =
 
 pub approach-requires-clause-row : goal.approach-requires-clause-row
 approach-requires-clause-row c =
-    (subst (IsClimbed c.args.q c.is_negative-up.result c.args.dict.now.roles c.args.dict.now.restricted c.climb.new.dict.roles) c.in_default.is c.in_ok-levelled.ensures.climbed).stays.row
+    (subst (IsClimbed c.args.q c.is_negative-up.result c.args.dict.now.roles c.args.dict.now.restricted c.climb.new.dict.roles) c.in_default.is c.in_ok-levelled.ensures.climbed).carried.asked_row
 
 pub approach-requires-clause-free : goal.approach-requires-clause-free
 approach-requires-clause-free c = subst (λ (f : List Bool). is_restricted f c.args.q ≡ false) (sym c.in_ok-levelled.ensures.flags) c.requires.free
@@ -41,18 +41,18 @@ approach-requires-clause-off c =
 pub approach-requires-clause-feasible : goal.approach-requires-clause-feasible
 approach-requires-clause-feasible c =
     subst (λ (f : List Bool). IsFeasible (is_restricted f) (dictionary c.climb.new.dict.roles c.args.q)) (sym c.in_ok-levelled.ensures.flags)
-    (subst (IsClimbed c.args.q c.is_negative-up.result c.args.dict.now.roles c.args.dict.now.restricted c.climb.new.dict.roles) c.in_default.is c.in_ok-levelled.ensures.climbed).feasible
+    (subst (IsClimbed c.args.q c.is_negative-up.result c.args.dict.now.roles c.args.dict.now.restricted c.climb.new.dict.roles) c.in_default.is c.in_ok-levelled.ensures.climbed).carried.feasible
 
 pub approach-requires-clause-table : goal.approach-requires-clause-table
 approach-requires-clause-table c =
-    (subst (IsClimbed c.args.q c.is_negative-up.result c.args.dict.now.roles c.args.dict.now.restricted c.climb.new.dict.roles) c.in_default.is c.in_ok-levelled.ensures.climbed).table
+    (subst (IsClimbed c.args.q c.is_negative-up.result c.args.dict.now.roles c.args.dict.now.restricted c.climb.new.dict.roles) c.in_default.is c.in_ok-levelled.ensures.climbed).carried.table
 
 pub returns-clause-levelled : goal.returns-clause-levelled
 returns-clause-levelled c =
     let old = c.args.dict.now in
     let mid = c.climb.new.dict in
     let s = subst (IsClimbed c.args.q c.is_negative-up.result old.roles old.restricted mid.roles) c.in_default.is c.in_ok-levelled.ensures.climbed in
-    stays_on c.args.q old.roles mid.roles old.restricted s.stays c.approach.new.dict.roles c.in_ok-found.found
+    stays_on c.args.q old.roles mid.roles old.restricted (carried_stays c.args.q old.roles old.restricted mid.roles s.carried) c.approach.new.dict.roles c.in_ok-found.found
     (subst (λ (f : List Bool). IsLevelled c.args.q mid.roles f c.approach.new.dict.roles c.in_ok-found.found) c.in_ok-levelled.ensures.flags c.in_ok-found.ensures.levelled)
 
 pub returns-in_err-found-clause-overflow : goal.returns-in_err-found-clause-overflow
@@ -61,7 +61,7 @@ returns-in_err-found-clause-overflow c = λ pair e.
     let mid = c.climb.new.dict in
     let s = subst (IsClimbed c.args.q c.is_negative-up.result old.roles old.restricted mid.roles) c.in_default.is c.in_ok-levelled.ensures.climbed in
     let f = search_passed c.from_residual-in_err-found.result c.in_err-found.field-0.0 pair c.from_residual-in_err-found.ensures.1 e in
-    refused_further c.args.q old.roles mid.roles old.restricted s.stays pair
+    refused_further c.args.q old.roles mid.roles old.restricted (carried_stays c.args.q old.roles old.restricted mid.roles s.carried) pair
     (subst (λ (g : List Bool). RefusesLevel c.args.q mid.roles g pair) c.in_ok-levelled.ensures.flags (c.in_err-found.ensures.overflow pair (ap Err f)))
 
 pub returns-in_err-found-clause-pivots : goal.returns-in_err-found-clause-pivots
@@ -71,4 +71,4 @@ returns-in_err-found-clause-pivots c = λ n e.
     let s = subst (IsClimbed c.args.q c.is_negative-up.result old.roles old.restricted mid.roles) c.in_default.is c.in_ok-levelled.ensures.climbed in
     let f = search_spent c.from_residual-in_err-found.result c.in_err-found.field-0.0 n c.from_residual-in_err-found.ensures.1 e in
     let o = c.in_err-found.ensures.pivots n (ap Err f) in
-    (o.0, spent_further c.args.q old.roles mid.roles old.restricted s.stays n (subst (λ (g : List Bool). SpendsLevel c.args.q mid.roles g n) c.in_ok-levelled.ensures.flags o.1))
+    (o.0, spent_further c.args.q old.roles mid.roles old.restricted s.carried n (subst (λ (g : List Bool). SpendsLevel c.args.q mid.roles g n) c.in_ok-levelled.ensures.flags o.1))
