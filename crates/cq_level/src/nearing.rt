@@ -1,9 +1,8 @@
 //! The exchange by which a row comes nearest to zero.
 
-ghost use Rattle.std.specs.Prelude.{◌≡◌, false, true, IfSome};
-ghost use Rattle.spec_rational.specs.Rational.{ℚ};
+ghost use Rattle.std.specs.Prelude.{◌≡◌, false, IfSome};
 ghost use Rattle.spec_simplex.specs.Rule.{Raises};
-ghost use Rattle.cq_dict.specs.Roles.{AreOverColumns, IsRow, is_live, is_restricted};
+ghost use Rattle.cq_dict.specs.Roles.{AreOverColumns, IsRow, is_restricted};
 ghost use Rattle.cq_simplex.specs.Dictionary.{dictionary};
 ghost use Rattle.cq_tableau.specs.Raised.{HasNoFreeColumn};
 ghost use Rattle.cq_level.specs.Turned.{slope_of, towards};
