@@ -21,7 +21,7 @@ use Rattle.cq_begin.specs.Stops.{ComesToStop, FaultStops, IsBack, ComesOn, AllSt
 
 -- ---- stops behind quiet turns
 
-told_after : {budgets : Budgets} {s r t : Search} {told : Told} → Quietly budgets.steps s r → Tells budgets r told t → Tells budgets s told t
+pub told_after : {budgets : Budgets} {s r t : Search} {told : Told} → Quietly budgets.steps s r → Tells budgets r told t → Tells budgets s told t
 told_after q (shows p may turn new) = shows (quietly_on q p) may turn new
 told_after q (coming.stops p why) = coming.stops (quietly_on q p) why
 

@@ -1,3 +1,4 @@
 mod Turns
+pub mod Left
 mod Newest
 mod Called

@@ -23,7 +23,7 @@ use Rattle.spec_machine.specs.Cells.{Fits, Clauses, Stack, Value, size}
 use Rattle.spec_machine.specs.Coming.{at_once, Comes}
 use Rattle.spec_machine.specs.Coming as coming
 use Rattle.spec_machine.specs.Standing.{engine, IsPlace, AreWaiting, IsStanding}
-use Rattle.spec_machine.proofs.Kept.{fits_more, items_older, last-older, last-all}
+use Rattle.spec_machine.proofs.Kept.{fits_more, items_older, last-all}
 use Rattle.spec_machine.proofs.Passed.{clause_begun}
 use Rattle.cq_steps.specs.Worlds.{IsBranch, term_in}
 use Rattle.cq_steps.proofs.Reading.{read_live}
@@ -32,10 +32,7 @@ use Rattle.cq_begin.specs.Begun.{goes_to}
 use Rattle.cq_begin.specs.Calls.{IsCallOf, OfClause, ClauseComes}
 use Rattle.cq_begin.specs.Stops.{ComesToStop}
 use Rattle.cq_begin.proofs.Stopping.{refuses, takes}
-
--- the choices below the newest are those that are older than it
-pub older-all : {A : Type 0} (x : A) (xs : List A) → last (length xs) (x ∷ xs) ≡ xs
-older-all x xs = last-older x xs (length xs) (omega arith) ∙ last-all xs (length xs) (omega arith)
+use Rattle.cq_calls.proofs.Left.{older-all}
 
 module _ (texts : List Text) (db : Database) (n : ℕ) (s : Search) (older : Stack Contents) (now w : Value Contents) (t k : ℕ) where
   -- the engine comes back to a choice that has these clauses to try

@@ -21,11 +21,11 @@ IsOfCall choices = (goal : ℕ) × (walk : Walk) × (rest : ℕ) × HasLeft goal
 abbrev pub IsGone : List Alternatives → List Alternatives → Type 0
 IsGone old new = (c : Alternatives) × (old ≡ c ∷ new)
 
--- Of the newest choice's clauses these are left to try. Without any the choice is gone.
-pub data Leaves (goal : ℕ) (walk : Walk) (rest : ℕ) (old new : List (Value Contents × Alternatives)) : Type 0 where
-  gone : {c : Value Contents × Alternatives} → HasNoneLeft true walk → old ≡ c ∷ new → Leaves goal walk rest old new
+-- The newest choice leaves this to try, by the clauses that the walk leaves. Without any the choice is gone.
+pub data Leaves (content : Alternatives) (walk : Walk) (old new : List (Value Contents × Alternatives)) : Type 0 where
+  gone : {c : Value Contents × Alternatives} → HasNoneLeft true walk → old ≡ c ∷ new → Leaves content walk old new
   stays : {c : Value Contents × Alternatives} {older : List (Value Contents × Alternatives)} → old ≡ c ∷ older
-      → new ≡ (c.0, Clauses goal walk rest) ∷ older → Leaves goal walk rest old new
+      → new ≡ (c.0, content) ∷ older → Leaves content walk old new
 
 -- ---- a clause that was tried
 

@@ -31,7 +31,6 @@ pub fn call_procedure(
 ) -> Result<bool, AllocError>
     requires goal { goal < length world.old.first.heap.now.terms }
     requires marked { AreMarked (saved_values world.old.first world.old.second.saved) choices.old }
-    requires open { AreOpen clauses.old (saved_values world.old.first world.old.second.saved) choices.old }
     ensures row { IfOk result (λ found. (texts : List Text) (p : Place) (behind : List Branch) (g : Tree)
         → IsCalledAt texts clauses.old (stack texts clauses.old (saved_values world.old.first world.old.second.saved) choices.old)
         (value world.old.first world.old.second.now) pred goal rest p behind g
@@ -40,7 +39,8 @@ pub fn call_procedure(
     ensures lists { world.new.second.now ≡ world.old.second.now }
     ensures clauses { clauses.new ≡ clauses.old }
     ensures marked { AreMarked (saved_values world.new.first world.new.second.saved) choices.new }
-    ensures open { AreOpen clauses.new (saved_values world.new.first world.new.second.saved) choices.new }
+    ensures open { (texts : List Text) → AreOpen texts clauses.old (saved_values world.old.first world.old.second.saved) choices.old
+        → AreOpen texts clauses.new (saved_values world.new.first world.new.second.saved) choices.new }
     ensures unknown { result ≡ Ok false → choices.new ≡ choices.old }
     ensures unknown_saved { result ≡ Ok false
         → saved_values world.new.first world.new.second.saved ≡ saved_values world.old.first world.old.second.saved }

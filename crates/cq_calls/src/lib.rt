@@ -7,4 +7,4 @@ mod trying;
 
 pub use calling::call_procedure;
 pub use laws::called_goals_come_back;
-pub use trying::try_clauses;
+pub use trying::{leave_untried, try_clauses};

@@ -1,6 +1,6 @@
 // The clauses of a call, tried in order.
 
-ghost use Rattle.std.specs.Prelude.{◌≡◌, ◌<◌, None, IfNone, IfOk, IfErr, OnOk, OnErr};
+ghost use Rattle.std.specs.Prelude.{◌≡◌, ◌<◌, None, length, IfNone, IfOk, IfErr, OnOk, OnErr};
 ghost use Rattle.cq_atoms.specs.Texts.{AreDifferent};
 ghost use Rattle.cq_begin.specs.Stops.{IsBack, ComesOn, AllStop, still_waiting};
 ghost use Rattle.cq_calls.specs.Trying.{HasLeft, IsGone, IsOfCall, IsTried, Leaves, goes_on};
@@ -42,7 +42,7 @@ pub fn try_clauses(
     requires different { AreDifferent atoms.now }
     requires program { IsProgram atoms.now clauses.now }
     requires marked { AreMarked (saved_values world.old.first world.old.second.saved) choices.old }
-    requires open { AreOpen clauses.now (saved_values world.old.first world.old.second.saved) choices.old }
+    requires open { AreOpen atoms.now clauses.now (saved_values world.old.first world.old.second.saved) choices.old }
     requires newest { IsOfCall choices.old }
     requires works { IsBack atoms.now clauses.now world.old.first world.old.second choices.old }
     ensures comes { IfOk result (ComesOn atoms.now clauses.now world.old.first world.old.second choices.old
@@ -54,7 +54,7 @@ pub fn try_clauses(
     ensures fewer { OnOk result (still_waiting atoms.now clauses.now world.new.first world.new.second choices.new
         < still_waiting atoms.now clauses.now world.old.first world.old.second choices.old) }
     ensures marked { AreMarked (saved_values world.new.first world.new.second.saved) choices.new }
-    ensures open { AreOpen clauses.now (saved_values world.new.first world.new.second.saved) choices.new }
+    ensures open { AreOpen atoms.now clauses.now (saved_values world.new.first world.new.second.saved) choices.new }
     ensures budget { world.new.first.store.pivots ≡ world.old.first.store.pivots }
 {
     let Some(newest) = choices.top() else {
@@ -91,7 +91,7 @@ fn try_clause(
     requires different { AreDifferent atoms.now }
     requires program { IsProgram atoms.now clauses.now }
     requires marked { AreMarked (saved_values world.old.first world.old.second.saved) choices.old }
-    requires open { AreOpen clauses.now (saved_values world.old.first world.old.second.saved) choices.old }
+    requires open { AreOpen atoms.now clauses.now (saved_values world.old.first world.old.second.saved) choices.old }
     requires newest { HasLeft goal walk rest choices.old }
     requires works { IsBack atoms.now clauses.now world.old.first world.old.second choices.old }
     ensures comes { IfOk result (λ t. ComesOn atoms.now clauses.now world.old.first world.old.second choices.old
@@ -103,7 +103,7 @@ fn try_clause(
     ensures fewer { OnOk result (still_waiting atoms.now clauses.now world.new.first world.new.second choices.new
         < still_waiting atoms.now clauses.now world.old.first world.old.second choices.old) }
     ensures marked { AreMarked (saved_values world.new.first world.new.second.saved) choices.new }
-    ensures open { AreOpen clauses.now (saved_values world.new.first world.new.second.saved) choices.new }
+    ensures open { AreOpen atoms.now clauses.now (saved_values world.new.first world.new.second.saved) choices.new }
     ensures budget { world.new.first.store.pivots ≡ world.old.first.store.pivots }
 {
     let mut left = walk;
@@ -114,6 +114,8 @@ fn try_clause(
     choices.retry(world, Alternatives::Clauses(goal, Untried::new(walk), rest));
     let clause = clauses.content(number).clause();
     let height = choices.height() - 1;
+    let untried = Untried::new(left);
+    let others = Alternatives::Clauses(goal, untried, rest);
     match begin_clause(
         &mut world.first,
         &mut world.second,
@@ -125,11 +127,10 @@ fn try_clause(
     ) {
         Ok(begun) => match begun {
             Begun::Goes(first) => {
-                leave_untried(world, choices, goal, left, rest);
+                leave_untried(world, choices, left, others);
                 Ok(Tried::Goes(first))
             }
             Begun::Pruned => {
-                let others = Alternatives::Clauses(goal, Untried::new(left), rest);
                 choices.replace_at(height, others);
                 Ok(Tried::Pruned(left))
             }
@@ -138,27 +139,25 @@ fn try_clause(
     }
 }
 
-/// Leaves the newest choice the clauses of its call that were not tried; without any it is gone.
-fn leave_untried(
+/// Leaves the newest choice this to try, by the clauses that a walk leaves; without any it is gone.
+pub fn leave_untried(
     world: &mut Searching,
     choices: &mut Choices<Alternatives>,
-    goal: TermId,
     left: Walk,
-    rest: Continuation,
+    others: Alternatives,
 )
     requires marked { AreMarked (saved_values world.old.first world.old.second.saved) choices.old }
-    requires newest { IsOfCall choices.old }
-    ensures leaves { Leaves goal left rest (open_choices (saved_values world.old.first world.old.second.saved) choices.old)
+    requires some { 0 < length choices.old }
+    ensures leaves { Leaves others left (open_choices (saved_values world.old.first world.old.second.saved) choices.old)
         (open_choices (saved_values world.new.first world.new.second.saved) choices.new) }
     ensures first { now_of world.new.first ≡ now_of world.old.first }
     ensures lists { world.new.second.now ≡ world.old.second.now }
     ensures marked { AreMarked (saved_values world.new.first world.new.second.saved) choices.new }
 {
-    let height = choices.height() - 1;
+    let newest = choices.height() - 1;
     if left.is_empty() {
-        choices.cut(world, height);
+        choices.cut(world, newest);
     } else {
-        let others = Alternatives::Clauses(goal, Untried::new(left), rest);
-        choices.replace_at(height, others);
+        choices.replace_at(newest, others);
     }
 }

@@ -1,4 +1,4 @@
-mod Outlasting
 mod Behind
 mod Stored
 mod Changed
+mod Asked

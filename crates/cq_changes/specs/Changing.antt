@@ -12,9 +12,9 @@ use Rattle.cq_built.specs.Errors.{error_tree}
 use Rattle.cq_steps.specs.Worlds.{IsBranch, term_in}
 use Rattle.cq_machine.specs.declared.machine.Machine.{Machine}
 use Rattle.cq_machine.specs.declared.step.Step.{Step}
-use Rattle.cq_machine.specs.declared.step.Step.TheVariants.{Goes, Back, Raises, Refuses}
+use Rattle.cq_machine.specs.declared.step.Step.TheVariants.{Goes, Back, Raises, Throws, Refuses}
 use Rattle.cq_machine.specs.Machines.{terms, now, holds, database_of}
-use Rattle.cq_machine.specs.Stepping.{IsSelectedAt}
+use Rattle.cq_machine.specs.Stepping.{IsSelectedAt, LeadsTo}
 use Rattle.cq_revise.specs.Revised.{KeepsShowing}
 
 -- from each search with this machine's database in which the goal's child stands in front of the branches behind it, the machine
@@ -33,12 +33,17 @@ abbrev pub IsChange : Machine → Step → Place → List Branch → Reply → T
 IsChange m (Goes k) p behind r = HasChanged m k p behind r
 IsChange m Back p behind r = ⊥
 IsChange m (Raises e) p behind r = r ≡ reply.Raises (error_tree m.atoms (terms m) e)
+IsChange m (Throws id) p behind r = ⊥
 IsChange m (Refuses pair) p behind r = ⊥
 
 -- wherever the goal of the number is selected, with this continuation behind it, the machine has come to what its row says there
 abbrev pub ChangesTo : Machine → Machine → ℕ → ℕ → (Place → Tree → Reply) → Step → Type 0
 ChangesTo old new id rest row s = (height : ℕ) (p : Place) (behind : List Branch) (goal : Tree) → IsSelectedAt old id height rest p behind goal
     → IsChange new s p behind (row p goal)
+
+-- the same of a goal that goes on or raises as any other, and changes no clause at once
+abbrev pub AsksFor : Machine → Machine → ℕ → ℕ → (Place → Tree → Reply) → Step → Type 0
+AsksFor old new id rest row s = (height : ℕ) → LeadsTo old new id height rest row s
 
 -- names may have been added; walks go on to show the same clauses, and the rest of the program is the same
 pub record KeepsAllButClauses (old new : Machine) : Type 0 where

@@ -13,12 +13,12 @@ ghost use Rattle.cq_machine.specs.Stepping.{row_of, CanGo, OnRaises};
 ghost use Rattle.cq_revise.specs.Revised.{head_body_of};
 ghost use Rattle.cq_changes.specs.Changing.{ChangesTo, KeepsAllButClauses};
 
-use crate::laws::choices_outlast_changes;
 use cq_built::BuiltinFault;
 use cq_clauses::{End, Kind};
 use cq_control::Continuation;
 use cq_declarations::CheckedClause;
 use cq_machine::{Machine, Step};
+use cq_matching::choices_outlast_changes;
 use cq_ops::more_names_keep_the_table;
 use cq_program::{changes_are_those_of_the_database, programs_stay_programs};
 use cq_revise::check_change;

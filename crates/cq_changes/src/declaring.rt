@@ -10,10 +10,10 @@ ghost use Rattle.cq_machine.specs.Machines.{terms, database_of, IsSound, StillSt
 ghost use Rattle.cq_machine.specs.Stepping.{row_of, CanGo, OnRaises};
 ghost use Rattle.cq_changes.specs.Changing.{ChangesTo, KeepsAllButClauses};
 
-use crate::laws::choices_outlast_changes;
 use cq_built::BuiltinFault;
 use cq_control::Continuation;
 use cq_machine::{Machine, Step};
+use cq_matching::choices_outlast_changes;
 use cq_revise::check_declared;
 use cq_term::{Pred, TermId};
 use std::alloc::AllocError;

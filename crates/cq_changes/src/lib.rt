@@ -1,11 +1,11 @@
-//! The rows of goals that change the clauses of a program: clauses that are added, and procedures that are made dynamic. Choices that
-//! stand go on to try what they had left.
+//! The rows of goals that change or read the clauses of a program: clauses that are added, removed or asked for, and procedures that
+//! are made dynamic. Choices that stand go on to try what they had left.
 #![tactic(auto)]
 
+mod asking;
 mod asserting;
 mod declaring;
-mod laws;
 
+pub use asking::{clause, retract};
 pub use asserting::assert;
 pub use declaring::declare_dynamic;
-pub use laws::choices_outlast_changes;

@@ -209,10 +209,10 @@ impl<C: Keyed + Drop> Clauses<C> {
         ensures opened { IsWalk result self.old }
         ensures left { left C.key_of result self.old ≡ matching (key_at C.key_of self.old.contents) key (clauses_of pred (database self.old.procedures)) }
     {
-        if key.is_some() {
-            self.index(&pred);
-        }
         let snapshot = self.snapshot(pred);
+        if key.is_some() {
+            self.index(&snapshot);
+        }
         let ahead = self.next_matching(snapshot, key);
         Walk { key, ahead }
     }
@@ -274,12 +274,13 @@ impl<C: Keyed + Drop> Clauses<C> {
         }
     }
 
-    /// Makes an index of the predicate's clauses by their keys, where there are more than a few and none was made. If memory
-    /// is out there is none, and calls go through all clauses.
-    fn index(&mut self, pred: &Pred)
+    /// Makes an index of the clauses of a snapshot's procedure by their keys, where there are more than a few and none was
+    /// made. If memory is out there is none, and calls go through all clauses.
+    fn index(&mut self, snapshot: &Snapshot)
+        requires { IsSnapshot snapshot.now self.old.procedures }
         ensures { self.new ≡ self.old }
     {
-        let Some(procedure) = self.procedures.find(pred) else {
+        let Some((procedure, _)) = self.procedures.start(snapshot) else {
             return;
         };
         if self.procedures.clauses(procedure).len() <= FEW

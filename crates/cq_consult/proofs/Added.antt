@@ -38,9 +38,9 @@ module _ (old new : Program) (db after : Database) (same : new ≡ old → after
   same_on_err (Err fault) e = same e
 
 -- no choice leaves anything to try
-pub none_open : (v : Program) (saved : List (Value Contents)) (choices : List Alternatives) → choices ≡ [] → AreOpen v saved choices
-none_open v saved choices e = subst (AreOpen v saved) (sym e) (empty (reverse saved))
+pub none_open : (texts : List Text) (v : Program) (saved : List (Value Contents)) (choices : List Alternatives) → choices ≡ [] → AreOpen texts v saved choices
+none_open texts v saved choices e = subst (AreOpen texts v saved) (sym e) (empty (reverse saved))
   where
-    empty : (xs : List (Value Contents)) → AllByRecursion (λ (c : Value Contents × Alternatives). CanBeTried v c.0.0.heap.terms c.1) (zip xs [])
+    empty : (xs : List (Value Contents)) → AllByRecursion (λ (c : Value Contents × Alternatives). CanBeTried texts v c.0.0.heap.terms c.1) (zip xs [])
     empty [] = tt
     empty (x ∷ xs) = tt

@@ -13,3 +13,4 @@ pub mod Lists
 pub mod Entries
 pub mod Held
 pub mod Others
+pub mod Keeping

@@ -8,8 +8,10 @@ use Rattle.cq_row.specs.declared.Entry.{Entry}
 use Rattle.cq_row.specs.Row.{Row}
 use Rattle.cq_row.specs.Rows.{Has}
 use Rattle.cq_dict.specs.declared.holders.Cell.{Cell}
+use Rattle.cq_dict.specs.declared.table.Change.{Change}
 use Rattle.cq_dict.specs.declared.table.Role.{Role}
 use Rattle.cq_dict.specs.declared.table.Role.TheVariants.{Basic}
+use Rattle.cq_dict.specs.Changes.{Changes}
 use Rattle.cq_dict.specs.Roles.{IsAt}
 
 -- the row has an entry in the column, live or dropped
@@ -22,6 +24,10 @@ pub record AreTouched (roles : List Role) (column : ℕ) (rows : List ℕ) : Typ
   pub ascending : IsStrictlyIncreasing rows
   pub own : Contains rows column
   pub all : (r : ℕ) (row : Row) → IsAt roles r (Basic row) → Holds row column → Contains rows r
+
+-- each new row holds columns alone that the row in its place holds
+abbrev pub HoldsNoMore : List Role → List Change → Type 0
+HoldsNoMore roles changes = (d : Change) (own : Row) (c : ℕ) → Changes d changes → d.role ≡ Basic own → Holds own c → (o : Row) × IsAt roles d.at (Basic o) × Holds o c
 
 -- ---- lists of cells: a list is the number of its newest cell, counted from 1, or 0
 

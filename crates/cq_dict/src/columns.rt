@@ -7,7 +7,7 @@ ghost use Rattle.cq_row.specs.Numbers.{IsOver, IsDropped, IsRestored};
 ghost use Rattle.cq_dict.specs.declared.table.Change.{Change};
 ghost use Rattle.cq_dict.specs.declared.table.Role.{Role};
 ghost use Rattle.cq_dict.specs.declared.table.Role.TheVariants.{Basic};
-ghost use Rattle.cq_dict.specs.Holders.{AreTouched};
+ghost use Rattle.cq_dict.specs.Holders.{AreTouched, HoldsNoMore};
 ghost use Rattle.cq_dict.specs.Roles.{AreOverColumns};
 ghost use Rattle.cq_dict.specs.Changes.{Changes, IsWritten, had, kind_of, IsTurnedRow, LacksOther, Turned, AreTurned, Turns};
 
@@ -107,6 +107,7 @@ impl Turn {
         requires column { had self roles.now column ≡ true }
         ensures within { IfOk result (λ changes. (c : Change) → Changes c changes.items → c.at < length roles.now) }
         ensures turns { IfOk result (λ changes. (new : List Role) → IsWritten roles.now changes.items new → Turns self roles.now column new) }
+        ensures held { IfOk result (λ changes. HoldsNoMore roles.now changes.items) }
     {
         let mut changes = Vec::new(alloc);
         for row in rows {

@@ -12,7 +12,7 @@ ghost use Rattle.cq_dict.specs.declared.table.Role.{Role};
 ghost use Rattle.cq_dict.specs.declared.table.Role.TheVariants.{Live, Dropped, Basic};
 ghost use Rattle.cq_dict.specs.Changes.{Changes, IsWritten};
 ghost use Rattle.cq_dict.specs.Roles.{IsAt, IsRow, AreOverColumns, is_live, is_dropped as has_dropped, is_restricted as flag_of, HasEntry, IsExchanged, IsEliminated, ChangesKind};
-ghost use Rattle.cq_dict.specs.Holders.{AreHeld, AreTouched};
+ghost use Rattle.cq_dict.specs.Holders.{AreHeld, AreTouched, HoldsNoMore};
 ghost use Rattle.cq_dict.specs.Dict.{SameMeaning, AddsRow, DefinesLast, RefusesPivot, RefusesForm, NoPivotPair, NoFormPair};
 
 use crate::columns::Turn;
@@ -245,6 +245,21 @@ impl Dict {
         Ok(())
     }
 
+    /// Writes the new roles, all or none, where no row holds a column anew, so that the lists stay.
+    fn rewrite(&mut self, changes: Vec<Change>) -> Result<(), AllocError>
+        requires within { (c : Change) → Changes c changes.items → c.at < length self.old.roles }
+        requires table { (new : List Role) → IsWritten self.old.roles changes.items new → AreOverColumns new }
+        requires held { HoldsNoMore self.old.roles changes.items }
+        ensures written { OnOk result (IsWritten self.old.roles changes.items self.new.roles) }
+        ensures flags { self.new.restricted ≡ self.old.restricted }
+        ensures saved { self.new.saved ≡ self.old.saved }
+        ensures room { self.old.room ≤ self.new.room }
+        ensures err { OnErr result (self.new.roles ≡ self.old.roles) }
+    {
+        write(&mut self.roles, changes)?;
+        Ok(())
+    }
+
     /// Makes a new quantity, which is a live column.
     pub fn add_column(&mut self, restricted: bool) -> Result<Col, AllocError>
         ensures number { IfOk result (λ c. c ≡ length self.old.roles) }
@@ -357,7 +372,7 @@ impl Dict {
     {
         let rows = self.touched(c)?;
         let changes = Turn::Dropping.changes(self.alloc, self.roles(), &rows, c)?;
-        self.write(changes)?;
+        self.rewrite(changes)?;
         Ok(())
     }
 
@@ -374,7 +389,7 @@ impl Dict {
     {
         let rows = self.touched(c)?;
         let changes = Turn::Restoring.changes(self.alloc, self.roles(), &rows, c)?;
-        self.write(changes)?;
+        self.rewrite(changes)?;
         Ok(())
     }
 }

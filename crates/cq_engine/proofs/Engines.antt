@@ -1,8 +1,7 @@
 -- What a machine keeps and stands for as names are added, and what it comes to behind quiet turns.
-use Rattle.std.proofs.Common.{◌≡◌, ℕ, ◌<◌, ◌-◌, length, map, drop, arith, List, [], ◌∷◌, ◌++◌, true, false, Option, None, Some, refl, sym, ap, ◌∙◌, subst}
+use Rattle.std.proofs.Common.{◌≡◌, ℕ, ◌<◌, ◌≤◌, ◌+◌, ◌-◌, length, map, drop, arith, List, [], ◌∷◌, ◌++◌, true, false, Option, None, Some, refl, sym, ap, ◌∙◌, subst}
 use Rattle.std.specs.Prelude.{reverse}
 use Rattle.std.specs.List.{zip}
-use Rattle.std.proofs.lemmas.Bool.{false≢true}
 use Rattle.spec_lists.proofs.Prefixes.{prefix_both, prefix_same}
 use Rattle.spec_lists.specs.Texts.{Text}
 use Rattle.spec_search.specs.Database.{Database}
@@ -11,13 +10,14 @@ use Rattle.spec_search.specs.Turns.{with_branches}
 use Rattle.spec_stops.specs.Causes.{Budgets, Cause, Resolutions}
 use Rattle.cq_control.specs.Items.{items_at}
 use Rattle.cq_control.specs.Open.{last}
+use Rattle.cq_gather.specs.Gathering.{IsMark}
 use Rattle.cq_steps.specs.Marks.{IsFront}
 use Rattle.cq_steps.specs.Worlds.{IsBranch, term_in, left_at}
 use Rattle.cq_steps.proofs.Selected.{goal_selected, call_selected}
 use Rattle.cq_world.specs.Contents.{Contents}
 use Rattle.spec_machine.specs.declared.cell.Cell.{Cell}
 use Rattle.spec_machine.specs.declared.cell.Cell.TheVariants.{Goal, Call, CutTo, CutFail, CatchEnd, Collect}
-use Rattle.spec_machine.specs.Cells.{Value, Stack}
+use Rattle.spec_machine.specs.Cells.{Value, Stack, size}
 use Rattle.spec_machine.specs.Coming.{Comes, Quietly, Tells, Stops}
 use Rattle.spec_machine.specs.Coming as coming
 use Rattle.spec_machine.specs.Standing.{engine, AreWaiting, IsStanding}
@@ -25,10 +25,13 @@ use Rattle.cq_machine.specs.declared.machine.Machine.{Machine}
 use Rattle.cq_machine.specs.Machines.{IsSound, database_of, holds, now, saved, terms}
 use Rattle.cq_term.specs.Trees.{KnowsTerms}
 use Rattle.cq_engine.specs.declared.front.Front.{Front}
-use Rattle.cq_engine.specs.declared.front.Front.TheVariants.{Ahead, Answer, Fail, Stop}
-use Rattle.cq_begin.specs.Stops.{ComesToStop}
-use Rattle.cq_engine.specs.Fronts.{Answers, Ends, Halts, IsFrontOf, selects}
-use Rattle.cq_engine.specs.Seeking.{IsKept, GainsNames, StandsFor, ComesTo, IsGoing, GoesTo}
+use Rattle.cq_engine.specs.declared.front.Front.TheVariants.{Ahead, Answer, Fail, Escapes, Stop}
+use Rattle.cq_engine.specs.Fronts.{Answers, Ends, Halts, IsFrontOf, IsGoal, ComesNext, left_on}
+use Rattle.cq_engine.specs.declared.front.Next.{Next}
+use Rattle.cq_engine.specs.declared.front.Next.TheVariants.{Told, Mark}
+use Rattle.cq_find.proofs.Counted.{in_hand, quiet_count, standing_count}
+use Rattle.cq_control.specs.Heights.{total}
+use Rattle.cq_engine.specs.Seeking.{IsKept, GainsNames, KeepsNames, StandsFor, ComesTo, IsGoing, GoesTo}
 use Rattle.cq_engine.proofs.Told.{quietly_then, told_then, ends_told, answer_told, comes_back}
 
 -- ---- a machine that gains names
@@ -41,6 +44,19 @@ gains_on a b c f g = record {
   clauses = g.clauses ∙ f.clauses;
   database = g.database ∙ f.database;
 }
+
+pub keeps_on : (a b c : Machine) → KeepsNames a b → GainsNames b c → KeepsNames a c
+keeps_on a b c f g = record {
+  atoms = prefix_both a.atoms b.atoms c.atoms f.atoms g.atoms;
+  names = g.names ∙ f.names;
+  ops = g.ops ∙ f.ops;
+}
+
+pub keeps_both : (a b c : Machine) → KeepsNames a b → KeepsNames b c → KeepsNames a c
+keeps_both a b c f g = record { atoms = prefix_both a.atoms b.atoms c.atoms f.atoms g.atoms; names = g.names ∙ f.names; ops = g.ops ∙ f.ops }
+
+pub keeps_none : (m : Machine) → KeepsNames m m
+keeps_none m = record { atoms = prefix_same m.atoms m.atoms refl; names = refl; ops = refl }
 
 -- ---- a machine that goes on
 
@@ -91,30 +107,27 @@ pub front_then : (budgets : Budgets) (m : Machine) (n : ℕ) (f : Front) (s r : 
 front_then budgets m n (Ahead k) s r q c = record { reached = c.reached; quiet = quietly_then q c.quiet; stands = c.stands }
 front_then budgets m n Answer s r q a = record { state = a.state; is_state = a.is_state; next = a.next; tells = told_then q a.tells; stands = a.stands }
 front_then budgets m n Fail s r q e = record { next = e.next; tells = told_then q e.tells; stands = e.stands }
+front_then budgets m n (Escapes ball) s r q e = record { ball = e.ball; is_stored = e.is_stored; next = e.next; tells = told_then q e.tells; stands = e.stands }
 front_then budgets m n (Stop cause) s r q h = record { reached = h.reached; quiet = quietly_then q h.quiet; last = h.last; tells = h.tells; database = h.database; stands = h.stands }
 
 -- ---- a goal in front
 
 module _ (texts : List Text) (db : Database) (n : ℕ) (choices : Stack Contents) (now : Value Contents) (k rest : ℕ) (s : Search)
     (j : IsStanding (IsBranch texts) (term_in texts) (engine db n choices now (Some k)) s) (earlier : rest < k) where
-  pub goal_next : (cell : Cell) → items_at now.1 k ≡ cell ∷ items_at now.1 rest → IsFront (items_at now.1 k) → selects cell ≡ true → is_selecting (look_at s.branches) ≡ true
-  goal_next (Goal t height) e f y = ap is_selecting (goal_selected (IsBranch texts) (term_in texts) db n choices now k rest s j earlier t height e).0.selects
-  goal_next (Call t) e f y = ap is_selecting (call_selected (IsBranch texts) (term_in texts) db n choices now k rest s j earlier t e).0.selects
-  goal_next (CutTo height) e f y = absurd (subst IsFront e f)
-  goal_next (CutFail height) e f y = absurd (subst IsFront e f)
-  goal_next (CatchEnd height c r) e f y = absurd (subst IsFront e f)
-  goal_next (Collect height t) e f y = absurd (false≢true y)
+  pub goal_next : (cell : Cell) → items_at now.1 k ≡ cell ∷ items_at now.1 rest → IsGoal cell → is_selecting (look_at s.branches) ≡ true
+  goal_next (Goal t height) e g = ap is_selecting (goal_selected (IsBranch texts) (term_in texts) db n choices now k rest s j earlier t height e).0.selects
+  goal_next (Call t) e g = ap is_selecting (call_selected (IsBranch texts) (term_in texts) db n choices now k rest s j earlier t e).0.selects
+  goal_next (CutTo height) e g = absurd g
+  goal_next (CutFail height) e g = absurd g
+  goal_next (CatchEnd height c r) e g = absurd g
+  goal_next (Collect height t) e g = absurd g
+
+pub mark_next : (cs cells : List Cell) (cell : Cell) → cs ≡ cell ∷ cells → (IsFront (cell ∷ cells) → IsMark (cell ∷ cells)) → IsFront cs → IsMark cs
+mark_next cs cells cell e f front = subst IsMark (sym e) (f (subst IsFront e front))
 
 pub stops_out : (budgets : Budgets) (s : Search) → is_selecting (look_at s.branches) ≡ true → s.selected ≡ budgets.steps
     → Tells budgets s (Stops (Resolutions budgets.steps)) (with_branches [] s)
 stops_out budgets s next many = coming.stops coming.at_once (coming.runs_out next many)
-
--- ---- the same database
-
-pub by_database : (old new : Machine) (steps n : ℕ) (current : Option ℕ) (s : Search) → database_of new ≡ database_of old
-    → Comes (IsBranch new.atoms) (term_in new.atoms) steps (engine (database_of old) n (holds new) (now new) current) s → ComesTo steps new n current s
-by_database old new steps n current s e a =
-    subst (λ (db : Database). Comes (IsBranch new.atoms) (term_in new.atoms) steps (engine db n (holds new) (now new) current) s) (sym e) a
 
 -- with no choice and nothing to go on with, no branch is left
 pub ends_next : (budgets : Budgets) (m : Machine) (n : ℕ) (s : Search) → holds m ≡ [] → StandsFor m n None s → Ends budgets m n s
@@ -134,12 +147,6 @@ answers_next budgets m n k s done j = record {
   tells = answer_told (IsBranch m.atoms) (term_in m.atoms) budgets (database_of m) n (now m) s (holds m) k j done;
   stands = comes_back (IsBranch m.atoms) (term_in m.atoms) budgets (database_of m) n (now m) s (holds m) k j done;
 }
-
--- a query that stops for a fault
-pub halts_next : (budgets : Budgets) (old new : Machine) (n : ℕ) (start : Option ℕ) (s : Search) (cause : Cause) → GainsNames old new → holds new ≡ []
-    → StandsFor old n start s → ComesToStop budgets cause s → Halts budgets cause new n s
-halts_next budgets old new n start s cause g none j stop =
-    record { reached = s; quiet = coming.at_once; last = stop.0; tells = stop.1; database = stop.2; stands = none_left old new n start s g none j }
 
 -- ---- no choices
 
@@ -161,23 +168,54 @@ holds_none m e = ap (map (left_at m.atoms m.clauses)) (zip_none (reverse (saved 
 -- ---- what is in front
 
 pub halts_out : (budgets : Budgets) (old new : Machine) (n k rest steps : ℕ) (cell : Cell) (s : Search) → GainsNames old new → holds new ≡ [] → budgets.steps ≡ steps
-    → n ≡ steps → rest < k → items_at old.world.second.now k ≡ cell ∷ items_at old.world.second.now rest → IsFront (items_at old.world.second.now k) → selects cell ≡ true
+    → n ≡ steps → rest < k → items_at old.world.second.now k ≡ cell ∷ items_at old.world.second.now rest → IsGoal cell
     → StandsFor old n (Some k) s → Halts budgets (Resolutions steps) new n s
-halts_out budgets old new n k rest steps cell s g none e many earlier cells front goes j = record {
+halts_out budgets old new n k rest steps cell s g none e many earlier cells goal j = record {
   reached = s;
   quiet = coming.at_once;
   last = with_branches [] s;
   tells = subst (λ (x : ℕ). Tells budgets s (Stops (Resolutions x)) (with_branches [] s)) e
-      (stops_out budgets s (goal_next old.atoms (database_of old) n (holds old) (now old) k rest s j earlier cell cells front goes) (j.selected ∙ many ∙ sym e));
+      (stops_out budgets s (goal_next old.atoms (database_of old) n (holds old) (now old) k rest s j earlier cell cells goal) (j.selected ∙ many ∙ sym e));
   database = refl;
   stands = none_left old new n (Some k) s g none j;
 }
+
+-- ---- one thing after another
+
+pub goes_then : (a b c : Machine) (start mid current : Option ℕ) → GoesTo a start b mid → GoesTo b mid c current → GoesTo a start c current
+goes_then a b c start mid current f g = λ steps n s j.
+    let x = f steps n s j in
+    let y = g steps n x.reached x.stands in
+    record { reached = y.reached; quiet = quietly_then x.quiet y.quiet; stands = y.stands }
 
 pub look_front : (budgets : Budgets) (old mid new : Machine) (n : ℕ) (start current : Option ℕ) (f : Front) (s : Search) → GoesTo old start mid current
     → ((r : Search) → StandsFor mid n current r → IsFrontOf budgets new n f r) → StandsFor old n start s → IsFrontOf budgets new n f s
 look_front budgets old mid new n start current f s g h j =
     let c = g budgets.steps n s j in
     front_then budgets new n f s c.reached c.quiet (h c.reached c.stands)
+
+-- the next thing behind that
+pub next_then : (old mid new : Machine) (start current : Option ℕ) (steps n : ℕ) (x : Next) → mid.world.first.store.pivots ≡ old.world.first.store.pivots → GoesTo old start mid current
+    → ComesNext mid current steps n new x → ComesNext old start steps n new x
+next_then old mid new start current steps n (Told f) e g h =
+    (λ budgets a b s j. look_front budgets old mid new n start current f s g (λ r k. h.0 budgets a (b ∙ sym e) r k) j, h.1)
+next_then old mid new start current steps n (Mark k) e g h = (goes_then old mid new start current (Some k) g h.0, h.1, h.2)
+
+-- ---- how many branches are left
+
+module _ (m : Machine) (n : ℕ) (current : Option ℕ) (s : Search) (j : StandsFor m n current s) where
+  pub left_is : length s.branches ≡ left_on m current
+  left_is = standing_count (IsBranch m.atoms) (term_in m.atoms) (engine (database_of m) n (holds m) (now m) current) s j ∙ by_current current
+    where
+      by_current : (k : Option ℕ) → in_hand k + total size (holds m) ≡ left_on m k
+      by_current None = omega arith
+      by_current (Some k) = omega arith
+
+-- where no goal is selected none is added
+pub left_less : (old new : Machine) (start current : Option ℕ) → GoesTo old start new current → IsGoing old start → left_on new current ≤ left_on old start
+left_less old new start current f w =
+    let c = f 0 w.0 w.1 w.2 in
+    omega (arith, quiet_count c.quiet, left_is old w.0 start w.1 w.2, left_is new w.0 current c.reached c.stands)
 
 pub gains_none : (m : Machine) → GainsNames m m
 gains_none m = record { atoms = prefix_same m.atoms m.atoms refl; names = refl; ops = refl; clauses = refl; database = refl }

@@ -1,2 +1,5 @@
 pub mod Told
 pub mod Engines
+mod Halted
+mod Sought
+mod Gathered

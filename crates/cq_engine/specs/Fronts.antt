@@ -1,23 +1,28 @@
 -- What an engine tells before a goal is selected.
-use Rattle.std.specs.Prelude.{◌≡◌, ◌<◌, ℕ, [], ◌∷◌, Bool, true, false, None, Some, ⊤}
+use Rattle.std.specs.Prelude.{◌≡◌, ◌<◌, ℕ, suc, [], ◌∷◌, length, Option, None, Some, ⊤}
 use Rattle.spec_branch.specs.Branch.{State}
 use Rattle.spec_search.specs.Search.{Search}
 use Rattle.spec_search.specs.Turns.{Answered, Ended, with_branches}
 use Rattle.spec_stops.specs.Causes.{Budgets}
 use Rattle.spec_stops.specs.Causes as why
 use Rattle.cq_control.specs.Items.{items_at}
-use Rattle.cq_steps.specs.Marks.{IsFront}
+use Rattle.cq_control.specs.Heights.{total}
+use Rattle.cq_gather.specs.Gathering.{IsMark}
+use Rattle.cq_steps.specs.Stored.{IsCountedTerm}
 use Rattle.cq_steps.specs.Worlds.{IsBranch}
 use Rattle.spec_machine.specs.declared.cell.Cell.{Cell}
 use Rattle.spec_machine.specs.declared.cell.Cell.TheVariants.{Goal, Call, CutTo, CutFail, CatchEnd, Collect}
+use Rattle.spec_machine.specs.Cells.{size}
 use Rattle.spec_machine.specs.Coming.{Quietly, Tells, Shows, Stops}
 use Rattle.cq_machine.specs.declared.machine.Machine.{Machine}
-use Rattle.cq_machine.specs.Machines.{IsSound, database_of, now}
+use Rattle.cq_machine.specs.Machines.{IsSound, database_of, holds, now}
 use Rattle.cq_engine.specs.declared.front.Cause.{Cause}
 use Rattle.cq_engine.specs.declared.front.Cause.TheVariants as cause
 use Rattle.cq_engine.specs.declared.front.Front.{Front}
-use Rattle.cq_engine.specs.declared.front.Front.TheVariants.{Ahead, Answer, Fail, Stop}
-use Rattle.cq_engine.specs.Seeking.{StandsFor, ComesTo}
+use Rattle.cq_engine.specs.declared.front.Front.TheVariants.{Ahead, Answer, Fail, Escapes, Stop}
+use Rattle.cq_engine.specs.declared.front.Next.{Next}
+use Rattle.cq_engine.specs.declared.front.Next.TheVariants.{Told, Mark}
+use Rattle.cq_engine.specs.Seeking.{StandsFor, ComesTo, GoesTo, Throws}
 
 abbrev pub as_cause : Cause → why.Cause
 as_cause (cause.Resolutions n) = why.Resolutions n
@@ -53,29 +58,43 @@ abbrev pub IsFrontOf : Budgets → Machine → ℕ → Front → Search → Type
 IsFrontOf budgets m n (Ahead k) s = ComesTo budgets.steps m n (Some k) s
 IsFrontOf budgets m n Answer s = Answers budgets m n s
 IsFrontOf budgets m n Fail s = Ends budgets m n s
+IsFrontOf budgets m n (Escapes ball) s = Throws budgets m n ball s
 IsFrontOf budgets m n (Stop c) s = Halts budgets (as_cause c) m n s
 
--- a goal is selected where this is in front
-abbrev pub selects : Cell → Bool
-selects (Goal t height) = true
-selects (Call t) = true
-selects (CutTo height) = true
-selects (CutFail height) = true
-selects (CatchEnd height c r) = true
-selects (Collect height t) = false
+-- this is a goal
+abbrev pub IsGoal : Cell → Type 0
+IsGoal (Goal t height) = ⊤
+IsGoal (Call t) = ⊤
+IsGoal (CutTo height) = ⊥
+IsGoal (CutFail height) = ⊥
+IsGoal (CatchEnd height c r) = ⊥
+IsGoal (Collect height t) = ⊥
 
--- something is in front, no mark, and one more goal may be selected where it is one; the machine is sound
+-- a goal is in front, which may be selected; the machine is sound
 pub record HasWork (steps n : ℕ) (m : Machine) (k : ℕ) : Type 0 where
   pub sound : IsSound m
   pub rest : ℕ
   pub earlier : rest < k
   pub cell : Cell
   pub cells : items_at m.world.second.now k ≡ cell ∷ items_at m.world.second.now rest
-  pub front : IsFront (items_at m.world.second.now k)
-  pub few : selects cell ≡ true → n < steps
+  pub goal : IsGoal cell
+  pub few : n < steps
 
 abbrev pub IsAhead : ℕ → ℕ → Machine → Front → Type 0
 IsAhead steps n m (Ahead k) = HasWork steps n m k
 IsAhead steps n m Answer = ⊤
 IsAhead steps n m Fail = ⊤
+IsAhead steps n m (Escapes ball) = IsCountedTerm (length m.atoms) ball
 IsAhead steps n m (Stop c) = ⊤
+
+-- what it comes to at once: what the search tells, or the mark of a findall
+abbrev pub ComesNext : Machine → Option ℕ → ℕ → ℕ → Machine → Next → Type 0
+ComesNext old start steps n new (Told f) =
+    ((budgets : Budgets) → budgets.steps ≡ steps → budgets.pivots ≡ old.world.first.store.pivots → (s : Search) → StandsFor old n start s
+    → IsFrontOf budgets new n f s) × IsAhead steps n new f
+ComesNext old start steps n new (Mark k) = GoesTo old start new (Some k) × IsSound new × IsMark (items_at new.world.second.now k)
+
+-- how many branches it stands for
+abbrev pub left_on : Machine → Option ℕ → ℕ
+left_on m None = total size (holds m)
+left_on m (Some k) = suc (total size (holds m))

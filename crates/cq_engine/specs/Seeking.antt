@@ -1,19 +1,28 @@
 -- A machine as an engine that stands for searches.
-use Rattle.std.specs.Prelude.{◌≡◌, ℕ, Option}
+use Rattle.std.specs.Prelude.{◌≡◌, ℕ, [], length, Option, None, Some}
 use Rattle.spec_lists.specs.Prefixes.{IsPrefix}
 use Rattle.spec_search.specs.Search.{Search}
+use Rattle.spec_stops.specs.Causes.{Budgets}
 use Rattle.cq_atoms.specs.Texts.{AreDifferent}
-use Rattle.cq_begin.specs.Stops.{FaultStops}
+use Rattle.cq_control.specs.Items.{items_at}
 use Rattle.cq_control.specs.Open.{AreMarked}
 use Rattle.cq_linear.specs.declared.store.StoreFault.{StoreFault}
 use Rattle.cq_ops.specs.Tables.{AreNamed}
 use Rattle.cq_program.specs.Database.{IsProgram}
+use Rattle.cq_stored.specs.StoredValue.{StoredValue}
 use Rattle.spec_machine.specs.Coming.{Comes}
 use Rattle.spec_machine.specs.Standing.{engine, IsStanding}
 use Rattle.cq_steps.specs.Choices.{AreOpen}
+use Rattle.cq_steps.specs.Marks.{IsFront}
+use Rattle.cq_steps.specs.Stored.{IsCountedTerm}
 use Rattle.cq_steps.specs.Worlds.{IsBranch, term_in}
+use Rattle.cq_ways.specs.Held.{Held, held}
+use Rattle.cq_saved.specs.Taking.{Escapes}
+use Rattle.cq_matching.specs.Matching.{FaultStops}
+use Rattle.cq_find.specs.declared.finding.Found.{Found}
+use Rattle.cq_find.specs.declared.finding.Found.TheVariants.{Front, Escaped, Over}
 use Rattle.cq_machine.specs.declared.machine.Machine.{Machine}
-use Rattle.cq_machine.specs.Machines.{AreNames, database_of, holds, now, saved}
+use Rattle.cq_machine.specs.Machines.{AreNames, IsSound, database_of, holds, now, saved}
 
 -- what a machine keeps also where it comes back, and nothing is known of the terms of its world
 pub record IsKept (m : Machine) : Type 0 where
@@ -22,7 +31,7 @@ pub record IsKept (m : Machine) : Type 0 where
   pub program : IsProgram m.atoms m.clauses
   pub operators_named : AreNamed m.atoms m.ops
   pub marked : AreMarked (saved m) m.choices
-  pub untried : AreOpen m.clauses (saved m) m.choices
+  pub untried : AreOpen m.atoms m.clauses (saved m) m.choices
 
 -- names may have been added, and the program is the same
 pub record GainsNames (old new : Machine) : Type 0 where
@@ -31,6 +40,16 @@ pub record GainsNames (old new : Machine) : Type 0 where
   pub ops : new.ops ≡ old.ops
   pub clauses : new.clauses ≡ old.clauses
   pub database : database_of new ≡ database_of old
+
+-- names may have been added, and the operators are the same; clauses may be others
+pub record KeepsNames (old new : Machine) : Type 0 where
+  pub atoms : IsPrefix old.atoms new.atoms
+  pub names : new.names ≡ old.names
+  pub ops : new.ops ≡ old.ops
+
+-- what it holds
+abbrev pub held_on : Machine → Held
+held_on m = held m.atoms m.world.first m.world.second m.choices
 
 -- with so many goals selected, it stands for the search, going on so
 abbrev pub StandsFor : Machine → ℕ → Option ℕ → Search → Type 0
@@ -48,6 +67,22 @@ ComesTo steps m n current s = Comes (IsBranch m.atoms) (term_in m.atoms) steps (
 abbrev pub GoesTo : Machine → Option ℕ → Machine → Option ℕ → Type 0
 GoesTo old start new current = (steps n : ℕ) (s : Search) → StandsFor old n start s → ComesTo steps new n current s
 
--- each search for which it stands comes quietly to where its query stops for the fault
-abbrev pub AllStop : Machine → Option ℕ → StoreFault → Type 0
-AllStop m current fault = (n : ℕ) (s : Search) → StandsFor m n current s → FaultStops m.world.first.store.pivots fault s
+-- each search for which it stood comes quietly to where its query stops for the fault, with the machine's program then
+abbrev pub AllStop : Machine → Option ℕ → Machine → StoreFault → Type 0
+AllStop old start new fault = (n : ℕ) (s : Search) → StandsFor old n start s
+    → FaultStops old.world.first.store.pivots fault (database_of new) s
+
+-- From the search a ball that nothing catches is told next, which is stored so. The machine, with so many goals selected, stands for
+-- the search then.
+abbrev pub Throws : Budgets → Machine → ℕ → StoredValue → Search → Type 0
+Throws budgets m n stored s = Escapes budgets m.clauses (held_on m) stored (database_of m) n s
+
+-- each search for which it stood tells the ball so
+abbrev pub ThrowsFrom : Machine → Option ℕ → Machine → StoredValue → Type 0
+ThrowsFrom old start new stored = (budgets : Budgets) (n : ℕ) (s : Search) → StandsFor old n start s → Throws budgets new n stored s
+
+-- what it comes to: something in front of a continuation, a ball that nothing catches, or no branch is left
+abbrev pub FindsOn : Machine → Option ℕ → Machine → Found → Type 0
+FindsOn old start new (Front k) = GoesTo old start new (Some k) × IsFront (items_at new.world.second.now k) × IsSound new
+FindsOn old start new (Escaped ball) = ThrowsFrom old start new ball × IsCountedTerm (length new.atoms) ball × (holds new ≡ [])
+FindsOn old start new Over = GoesTo old start new None × (holds new ≡ [])

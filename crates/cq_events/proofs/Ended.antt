@@ -3,10 +3,8 @@ use Rattle.std.proofs.Common.{◌≡◌, ℕ, suc, ◌<◌, [], Option, None, So
 use Rattle.spec_lists.specs.Texts.{Text}
 use Rattle.spec_branch.specs.Branch.{read}
 use Rattle.spec_search.specs.Search.{Search}
-use Rattle.spec_search.specs.Turns as turn
-use Rattle.spec_search.specs.Turns.{Wrote, Threw, place_of, after_step, after_ball, with_branches}
+use Rattle.spec_search.specs.Turns.{Wrote, place_of, after_step, with_branches}
 use Rattle.spec_stops.specs.Causes.{Budgets, Cause}
-use Rattle.spec_catches.proofs.Turns.{turn_plain}
 use Rattle.spec_machine.specs.Cells.{Stack}
 use Rattle.spec_machine.specs.Coming.{Quietly, Told, Tells, Shows, Stops, at_once}
 use Rattle.spec_machine.specs.Standing.{engine, AreWaiting, IsStanding}
@@ -23,7 +21,6 @@ use Rattle.cq_events.specs.declared.event.Event.{Event}
 use Rattle.cq_events.specs.declared.event.Event.TheVariants.{Answer, Output, Fail, Ball, Stop}
 use Rattle.cq_events.specs.Events.{Stands, Arrives, IsRunning, TellsNext, StopsNext, Gives}
 use Rattle.cq_events.specs.Turning.{SelectsNext, IsAt, HasEnded, IsTold, Turned}
-use Rattle.cq_events.proofs.Catches.{quietly_plain}
 use Rattle.cq_events.proofs.Steps.{comes_then, comes_quietly, tells_text}
 
 -- ---- behind quiet turns
@@ -35,7 +32,7 @@ pub gives_then : (budgets : Budgets) (e : Engine) (event : Event) (s r : Search)
 gives_then budgets e Answer s r q g = record { state = g.state; is_state = g.is_state; tells = tells_then budgets e s r q _ g.tells }
 gives_then budgets e (Output text) s r q g = record { next = g.next; tells = told_then q g.tells; comes = g.comes }
 gives_then budgets e Fail s r q g = tells_then budgets e s r q _ g
-gives_then budgets e (Ball id) s r q g = record { sound = g.sound; live = g.live; tells = tells_then budgets e s r q _ g.tells }
+gives_then budgets e (Ball stored) s r q g = record { counted = g.counted; ball = g.ball; is_stored = g.is_stored; tells = tells_then budgets e s r q _ g.tells }
 gives_then budgets e (Stop cause) s r q g = record {
   last = g.last;
   tells = told_then q g.tells;
@@ -98,7 +95,7 @@ module _ (first mid new : Engine) (rest : ℕ) (current : Option ℕ) (text : Te
   )
   advanced (Some Answer) t = absurd t
   advanced (Some Fail) t = absurd t
-  advanced (Some (Ball id)) t = absurd t
+  advanced (Some (Ball stored)) t = absurd t
   advanced (Some (Stop cause)) t = absurd t
 
   pub runs_on : IsRunning first → IsSound mid.machine → mid.steps ≡ first.steps → IsRunning new
@@ -110,8 +107,6 @@ module _ (first mid new : Engine) (rest : ℕ) (current : Option ℕ) (text : Te
         kept = kept;
         search = c.reached;
         stands = c.stands;
-        no_catch = quietly_plain c.quiet
-            (turn_plain r.search (after_step r.search x.1.made x.0.behind) (Wrote x.1.made.output) (turn.steps x.0.look x.1.step) r.no_catch);
         within = let a = i.selected in let b = i.steps in omega (arith, a, b, same, steps);
       }
 
@@ -148,6 +143,5 @@ runs_stopped first new h run steps d = record {
   kept = h.kept;
   search = with_branches [] run.search;
   stands = stands_ended new first.selected (with_branches [] run.search) h (d run.search run.stands) run.stands.selected refl;
-  no_catch = tt;
   within = let a = h.selected in let b = run.within in omega (arith, a, b, steps);
 }

@@ -1,6 +1,5 @@
 mod Selections
 mod Steps
-mod Catches
 mod Raised
 mod Ended
 mod Stops

@@ -1,6 +1,7 @@
 -- A heap that a clause was read on knows nothing of its variables.
 use Rattle.std.proofs.Common.{◌≡◌, ◌⊎◌, inl, inr, ℕ, ◌<◌, ◌≤◌, List, length, sym, ap, ◌∙◌, subst, arith}
-use Rattle.std.specs.Prelude.{Ok, Err, Result}
+use Rattle.std.specs.Prelude.{Ok, Err, Result, reverse}
+use Rattle.std.specs.List.{AllByRecursion}
 use Rattle.std.specs.declared.alloc.AllocError.{AllocError}
 use Rattle.std.proofs.lemmas.Bool.{cases_lt}
 use Rattle.spec_lists.specs.Texts.{Text}
@@ -9,7 +10,7 @@ use Rattle.spec_terms.specs.Term.{Var}
 use Rattle.cq_atoms.specs.Texts.{AreDifferent}
 use Rattle.cq_control.specs.Open.{AreMarked}
 use Rattle.cq_ops.specs.Tables.{AreNamed}
-use Rattle.cq_program.specs.Database.{Program, IsProgram}
+use Rattle.cq_program.specs.Database.{IsProgram}
 use Rattle.cq_term.specs.HeapValue.{HeapValue, Terms}
 use Rattle.cq_term.specs.Meaning.{at, blank}
 use Rattle.cq_term.specs.Trees.{KnowsTerms}
@@ -22,10 +23,11 @@ use Rattle.cq_read.specs.Shown.{Leaves}
 use Rattle.cq_read.specs.Feeds.{LeavesFed}
 use Rattle.cq_world.specs.Contents.{Contents}
 use Rattle.spec_machine.specs.Cells.{Value}
-use Rattle.cq_steps.specs.Choices.{AreOpen}
+use Rattle.cq_steps.specs.Choices.{CanBeTried}
 use Rattle.cq_steps.specs.Worlds.{KnowsNothing, with_heap}
 use Rattle.cq_steps.specs.declared.alternatives.Alternatives.{Alternatives}
 use Rattle.cq_machine.specs.Machines.{AreNames, now, saved}
+use Rattle.cq_engine.proofs.Engines.{zip_none}
 use Rattle.cq_events.specs.declared.engine.Engine.{Engine}
 use Rattle.cq_events.specs.Events.{IsIdle}
 
@@ -62,9 +64,8 @@ module _ (texts more : List Text) (c : Contents) (old new : HeapValue) (same : c
 -- an engine without a query still has none where it has as many marks and the same choices, and nothing is known of its terms
 pub idle_on : (old new : Engine) → IsIdle old → AreNames new.machine.atoms new.machine.names → AreDifferent new.machine.atoms
     → IsProgram new.machine.atoms new.machine.clauses → AreNamed new.machine.atoms new.machine.ops → KnowsNothing new.machine.atoms (now new.machine).0
-    → saved new.machine ≡ saved old.machine → new.machine.choices ≡ old.machine.choices → new.machine.clauses ≡ old.machine.clauses
-    → new.machine.world.second.now ≡ old.machine.world.second.now → IsIdle new
-idle_on old new idle known different program named nothing marks_same choices_same clauses_same lists_same =
+    → saved new.machine ≡ saved old.machine → new.machine.choices ≡ old.machine.choices → new.machine.world.second.now ≡ old.machine.world.second.now → IsIdle new
+idle_on old new idle known different program named nothing marks_same choices_same lists_same =
     let s = idle.sound in
     record {
       sound = record {
@@ -75,9 +76,8 @@ idle_on old new idle known different program named nothing marks_same choices_sa
         operators_named = named;
         marked = subst (λ (l : List (Value Contents)). AreMarked l new.machine.choices) (sym marks_same)
             (subst (λ (cs : List Alternatives). AreMarked (saved old.machine) cs) (sym choices_same) s.marked);
-        untried = subst (λ (v : Program). AreOpen v (saved new.machine) new.machine.choices) (sym clauses_same)
-            (subst (λ (l : List (Value Contents)). AreOpen old.machine.clauses l new.machine.choices) (sym marks_same)
-            (subst (λ (cs : List Alternatives). AreOpen old.machine.clauses (saved old.machine) cs) (sym choices_same) s.untried));
+        untried = subst (AllByRecursion (λ (c : Value Contents × Alternatives). CanBeTried new.machine.atoms new.machine.clauses c.0.0.heap.terms c.1))
+            (sym (zip_none (reverse (saved new.machine)) new.machine.choices (choices_same ∙ idle.choices))) tt;
       };
       nothing = nothing;
       lists = lists_same ∙ idle.lists;

@@ -1,5 +1,5 @@
 -- A goal in front is the one that the search selects next.
-use Rattle.std.proofs.Common.{◌≡◌, ℕ, ◌<◌, List, [], ◌∷◌, ◌++◌, length, Option, Some, refl, sym, ap, ◌∙◌, subst}
+use Rattle.std.proofs.Common.{◌≡◌, ℕ, ◌<◌, List, [], ◌∷◌, ◌++◌, Option, Some, refl, sym, ap, ◌∙◌, subst}
 use Rattle.spec_syntax.specs.Trees.{Tree}
 use Rattle.spec_built.specs.Built.{compound1}
 use Rattle.spec_branch.specs.Branch.{State, Item, Branch, read}
@@ -7,7 +7,8 @@ use Rattle.spec_search.specs.Search.{Search, settled}
 use Rattle.spec_search.specs.Turns.{place_of}
 use Rattle.cq_control.specs.Items.{items_at}
 use Rattle.spec_machine.specs.declared.cell.Cell.TheVariants.{Goal, Call}
-use Rattle.spec_machine.specs.Standing.{AreItems}
+use Rattle.spec_machine.specs.Standing.{IsContinuation, AreWaiting}
+use Rattle.cq_balls.specs.Balls.{ComesUp}
 use Rattle.cq_steps.specs.Worlds.{IsBranch, term_in}
 use Rattle.cq_steps.proofs.Beginning.{reads_again}
 use Rattle.cq_steps.proofs.Selected.{goal_selected, call_selected}
@@ -91,24 +92,28 @@ abbrev first_state : State → List Branch → State
 first_state st [] = st
 first_state st (b ∷ bs) = b.state
 
--- the continuation behind the selected goal still stands for the items behind it
-pub items_still : (old new : Machine) (n rest : ℕ) (s : Search) (x : SelectsNext old n rest s) → StillStands old new
-    → (rest < length new.world.second.now) × AreItems (IsBranch new.atoms) (term_in new.atoms) (holds new) (now new).0 x.state (items_at new.world.second.now rest) x.items
-items_still old new n rest s x still =
-    let t : Search = record { database = s.database; branches = settled x.items x.state ∷ x.behind; selected = n } in
-    let j = still s.database n (Some rest) t (record {
+abbrev others : List Branch → List Branch
+others [] = []
+others (b ∷ bs) = bs
+
+-- a continuation still stands for its items, in front of the same branches
+pub up_still : (old new : Machine) → StillStands old new → (from : ℕ) (items : List Item) (st : State) (behind : List Branch)
+    → ComesUp old.atoms (holds old) (now old) from items st behind → ComesUp new.atoms (holds new) (now new) from items st behind
+up_still old new still from items st behind up =
+    let t : Search = record { database = database_of old; branches = settled items st ∷ behind; selected = 0 } in
+    let j = still (database_of old) 0 (Some from) t (record {
       database = refl;
       selected = refl;
-      first = settled x.items x.state ∷ [];
-      behind = x.behind;
+      first = settled items st ∷ [];
+      behind = behind;
       branches = refl;
-      current = (x.items, x.state, refl, x.placed.0.continuation);
-      waiting = x.placed.1;
+      current = (items, st, refl, up.continuation);
+      waiting = up.waiting;
     }) in
     let c = j.current in
-    let same : settled c.0 c.1 ∷ j.behind ≡ settled x.items x.state ∷ x.behind = sym (j.branches ∙ ap (λ l. l ++ j.behind) c.2) in
-    let cells = items_at new.world.second.now rest in (
-      c.3.there,
-      subst (λ (items : List Item). AreItems (IsBranch new.atoms) (term_in new.atoms) (holds new) (now new).0 x.state cells items) (ap first_items same)
-          (subst (λ (st : State). AreItems (IsBranch new.atoms) (term_in new.atoms) (holds new) (now new).0 st cells c.0) (ap (first_state x.state) same) c.3.cells),
-    )
+    let same : settled c.0 c.1 ∷ j.behind ≡ settled items st ∷ behind = sym (j.branches ∙ ap (λ l. l ++ j.behind) c.2) in
+    record {
+      continuation = subst (λ (is : List Item). IsContinuation (IsBranch new.atoms) (term_in new.atoms) (holds new) (now new) from is st) (ap first_items same)
+          (subst (λ (su : State). IsContinuation (IsBranch new.atoms) (term_in new.atoms) (holds new) (now new) from c.0 su) (ap (first_state st) same) c.3);
+      waiting = subst (AreWaiting (IsBranch new.atoms) (term_in new.atoms) (holds new)) (ap others same) j.waiting;
+    }

@@ -1,18 +1,13 @@
 -- What a selected goal's step tells, and for which search an engine stands then.
-use Rattle.std.proofs.Common.{inr, ◌≡◌, ◌≢◌, ℕ, suc, ◌<◌, [], Option, None, Bool, true, false, refl, sym, ap, subst}
-use Rattle.std.proofs.lemmas.Bool.{false≢true}
+use Rattle.std.proofs.Common.{inr, ◌≡◌, ◌≢◌, ℕ, suc, ◌<◌, [], Option, Bool, true, false, refl, sym, ap, subst}
 use Rattle.spec_lists.specs.Texts.{Text}
 use Rattle.spec_syntax.specs.Trees.{Tree}
-use Rattle.spec_built.specs.Built.{indicator_of}
-use Rattle.spec_built.specs.Errors.{error_ball}
-use Rattle.spec_branch.specs.Branch.{plain_copy, read}
-use Rattle.spec_search.specs.Balls.{handed}
+use Rattle.spec_branch.specs.Branch.{read}
 use Rattle.spec_search.specs.Replies.{Overflows, Place}
 use Rattle.spec_search.specs.Rows.{reply_of}
 use Rattle.spec_search.specs.Search.{Search}
-use Rattle.spec_search.specs.Steps.{Steps, ball_of}
 use Rattle.spec_search.specs.Turns as turn
-use Rattle.spec_search.specs.Turns.{Turn, Event, Wrote, Answered, Threw, Ended, place_of, after_step, after_ball, with_branches}
+use Rattle.spec_search.specs.Turns.{Turn, Event, Wrote, Answered, Threw, Ended, place_of, after_step, with_branches}
 use Rattle.spec_stops.specs.Causes.{Budgets, Overflow}
 use Rattle.spec_machine.specs.Coming.{MayGo, at_once, after, shows, Comes, Tells, Shows, Stops}
 use Rattle.spec_machine.specs.Coming as coming
@@ -31,7 +26,7 @@ text_of_event (Answered st ops) = []
 text_of_event (Threw ball) = []
 text_of_event Ended = []
 
-abbrev is_written : Event → Bool
+abbrev pub is_written : Event → Bool
 is_written (Wrote text) = true
 is_written (Answered st ops) = false
 is_written (Threw ball) = false
@@ -69,13 +64,6 @@ module _ (old : Machine) (n rest : ℕ) (s : Search) (x : SelectsNext old n rest
     -- with one
     pub tells_text : (budgets : Budgets) → n < budgets.steps → text ≢ [] → Tells budgets s (Shows (Wrote text)) (after_step s k.made x.behind)
     tells_text budgets few some = shows at_once (may budgets.steps few) made (λ e. some (ap text_of_event e))
-
-  -- an error that nothing catches
-  pub tells_ball : (budgets : Budgets) → n < budgets.steps → (e : Tree) → Steps place goal (ball_of goal e)
-      → handed (plain_copy (error_ball e (indicator_of goal))) x.items x.behind ≡ None
-      → Tells budgets s (Shows (Threw (plain_copy (error_ball e (indicator_of goal))))) (after_ball s [])
-  tells_ball budgets few e raises none =
-      shows at_once (may budgets.steps few) (turn.throws x.look raises none) (λ w. let yes : false ≡ true = ap is_written w in absurd (false≢true yes))
 
   -- a pair that is refused
   pub tells_refused : (budgets : Budgets) → n < budgets.steps → (pair : Pair) → reply_of place goal ≡ Overflows pair

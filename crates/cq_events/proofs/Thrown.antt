@@ -1,98 +1,107 @@
--- An error that nothing catches is told.
-use Rattle.std.proofs.Common.{◌≡◌, ℕ, suc, ◌<◌, ◌+◌, [], None, refl, sym, ap, ◌∙◌, subst, arith}
+-- A ball that a goal raises goes to a catch, or is told.
+use Rattle.std.proofs.Common.{inr, ◌≡◌, ℕ, suc, ◌<◌, [], Option, None, Some, false, true, refl, sym, ap, ◌∙◌, subst, arith}
+use Rattle.std.proofs.lemmas.Bool.{false≢true}
 use Rattle.spec_syntax.specs.Trees.{Tree}
-use Rattle.spec_built.specs.Built.{Indicator, indicator_of}
-use Rattle.spec_built.specs.Errors.{error_ball}
 use Rattle.spec_branch.specs.Branch.{read, plain_copy}
 use Rattle.spec_search.specs.Search.{Search}
-use Rattle.spec_search.specs.Steps.{ball_of}
-use Rattle.spec_search.specs.Turns.{Threw, place_of, after_ball}
-use Rattle.spec_catches.proofs.Turns.{selected_plain}
-use Rattle.spec_machine.specs.Cells.{nearest_catch}
-use Rattle.spec_machine.specs.Coming.{Tells, Shows}
-use Rattle.spec_machine.proofs.Thrown.{uncaught}
-use Rattle.cq_built.specs.Errors.{error_tree}
-use Rattle.cq_built.specs.declared.errors.BuiltinError.{BuiltinError}
-use Rattle.cq_control.specs.Items.{items_at}
-use Rattle.cq_term.specs.Trees.{tree}
-use Rattle.cq_steps.specs.Worlds.{IsBranch, term_in}
+use Rattle.spec_search.specs.Steps.{Ball}
+use Rattle.spec_search.specs.Turns as turn
+use Rattle.spec_search.specs.Turns.{place_of, after_ball}
+use Rattle.spec_stops.specs.Causes.{Budgets}
+use Rattle.spec_machine.specs.Coming.{MayGo, at_once, after, shows}
+use Rattle.cq_balls.specs.Balls.{ComesUp}
+use Rattle.cq_stored.specs.StoredValue.{StoredValue}
 use Rattle.cq_machine.specs.declared.machine.Machine.{Machine}
-use Rattle.cq_machine.specs.Machines.{IsSound, terms, now, holds, database_of, StillStands}
+use Rattle.cq_machine.specs.Machines.{now, holds, database_of, StillStands}
+use Rattle.cq_engine.specs.Seeking.{IsKept}
 use Rattle.cq_execute.specs.Executions.{HasStep}
 use Rattle.cq_events.specs.declared.engine.Engine.{Engine}
 use Rattle.cq_events.specs.declared.event.Event.{Event}
-use Rattle.cq_events.specs.declared.event.Event.TheVariants.{Answer, Output, Fail, Ball, Stop}
-use Rattle.cq_events.specs.declared.raiser.Raiser.{Raiser}
-use Rattle.cq_events.specs.Raised.{ball_by, is_raised_by}
-use Rattle.cq_events.specs.Events.{Stands, GivesNext, HasCounted, IsRunning}
-use Rattle.cq_events.specs.Turning.{SelectsNext, HasEnded, IsBall}
-use Rattle.cq_events.proofs.Catches.{none_catches}
-use Rattle.cq_events.proofs.Selections.{items_still}
-use Rattle.cq_events.proofs.Steps.{tells_ball}
-use Rattle.cq_events.proofs.Ended.{stands_ended}
+use Rattle.cq_events.specs.declared.event.Event.TheVariants as event
+use Rattle.cq_events.specs.Events.{Stands, Arrives, HasBudgets, ThrowsNext, IsRunning}
+use Rattle.cq_events.specs.Turning.{SelectsNext, IsCaught, IsMissed, IsThrown, Turned}
+use Rattle.cq_events.proofs.Selections.{up_still}
+use Rattle.cq_events.proofs.Steps.{is_written}
+use Rattle.cq_events.proofs.Ended.{stands_same, stands_ended}
 
--- the goal that is selected raises the error
-pub record RaisedNext (old m : Machine) (n rest : ℕ) (e : BuiltinError) (r : Raiser) (s : Search) : Type 0 where
+-- the step of the goal that is selected is the ball
+pub record BallNext (old m : Machine) (n rest : ℕ) (ball : Tree) (s : Search) : Type 0 where
   pub next : SelectsNext old n rest s
-  pub raises : HasStep m (place_of s next.state next.items next.cut next.behind) (read next.state next.goal)
-      (ball_of (read next.state next.goal) (error_tree m.atoms (terms m) e))
-  pub raiser : is_raised_by m.atoms r (read next.state next.goal)
+  pub step : HasStep m (place_of s next.state next.items next.cut next.behind) (read next.state next.goal) (Ball (plain_copy ball))
 
-module _ (first mid new : Engine) (rest : ℕ) (e : BuiltinError) (r : Raiser) (same : mid.selected ≡ first.selected) (few : first.selected < first.steps)
-    (ended : HasEnded (mid.selected + 1) new) (program : database_of new.machine ≡ database_of mid.machine)
-    (f : (s : Search) → Stands first s → RaisedNext first.machine mid.machine first.selected rest e r s) where
-  stands_then : (s : Search) → Stands first s → Stands new (after_ball s [])
-  stands_then s j =
+module _ (first mid new : Engine) (rest : ℕ) (ball : Tree) (same : mid.selected ≡ first.selected) (few : first.selected < first.steps)
+    (still : StillStands first.machine mid.machine) (program : database_of new.machine ≡ database_of mid.machine)
+    (f : (s : Search) → Stands first s → BallNext first.machine mid.machine first.selected rest ball s) where
+  may : (steps : ℕ) (s : Search) → s.selected ≡ first.selected → first.selected < steps → MayGo steps s
+  may steps s e less = inr (subst (λ (i : ℕ). i < steps) (sym e) less)
+
+  comes_up : (s : Search) (x : BallNext first.machine mid.machine first.selected rest ball s)
+      → ComesUp mid.machine.atoms (holds mid.machine) (now mid.machine) rest x.next.items x.next.state x.next.behind
+  comes_up s x =
+      up_still first.machine mid.machine still rest x.next.items x.next.state x.next.behind (record { continuation = x.next.placed.0.continuation; waiting = x.next.placed.1 })
+
+  count : (s : Search) → s.selected ≡ first.selected → suc s.selected ≡ suc mid.selected
+  count s e = ap suc (e ∙ sym same)
+
+  caught_turn : IsCaught mid new ball rest → (s : Search) → Stands first s → Arrives first.steps new s
+  caught_turn c s j =
       let x = f s j in
-      let count : suc s.selected ≡ mid.selected + 1 = let a = x.next.selected in omega (arith, a, same) in
-      stands_ended new (mid.selected + 1) (after_ball s []) ended (x.raises.database ∙ sym program) count refl
+      let y = x.next in
+      let k = c.caught y.items y.state y.behind (comes_up s x) in
+      let t = after_ball s k.next in
+      record {
+        reached = t;
+        quiet = after (may first.steps s y.selected few) (turn.catches y.look x.step.step k.handed_on) at_once;
+        stands = stands_same new (suc mid.selected) None t c.selected c.current (record {
+          database = x.step.database ∙ sym program;
+          selected = count s y.selected;
+          first = [];
+          behind = k.next;
+          branches = refl;
+          current = refl;
+          waiting = k.waiting;
+        });
+      }
 
-  -- nothing catches it
-  free_of_catches : IsRunning first → StillStands first.machine mid.machine → nearest_catch (items_at mid.machine.world.second.now rest) ≡ None
-  free_of_catches run still =
-      let y = (f run.search run.stands).next in
-      let m = mid.machine in
-      none_catches (IsBranch m.atoms) (term_in m.atoms) (holds m) (now m).0 y.state (items_at m.world.second.now rest) y.items
-      (items_still first.machine m first.selected rest run.search y still).1
-      (selected_plain run.search y.goal y.cut y.items y.state y.behind y.look run.no_catch)
+  missed_turn : (stored : StoredValue) → IsMissed mid new ball rest stored → (budgets : Budgets) → HasBudgets budgets first → (s : Search) → Stands first s
+      → ThrowsNext budgets new stored s
+  missed_turn stored i budgets h s j =
+      let x = f s j in
+      let y = x.next in
+      let less = subst (λ (n : ℕ). first.selected < n) (sym h.steps) few in
+      record {
+        counted = i.counted;
+        ball = plain_copy ball;
+        is_stored = i.is_stored;
+        tells = record {
+          next = after_ball s [];
+          tells = shows at_once (may budgets.steps s y.selected less) (turn.throws y.look x.step.step (i.missed y.items y.state y.behind (comes_up s x)))
+              (λ w. let yes : false ≡ true = ap is_written w in absurd (false≢true yes));
+          stands = stands_ended new (suc mid.selected) (after_ball s []) i.ended (x.step.database ∙ sym program) (count s y.selected) refl;
+        };
+      }
 
-  pub thrown : (event : Event) → StillStands first.machine mid.machine → IsRunning first → IsSound new.machine
-      → IsBall (ball_by mid.machine.atoms (terms mid.machine) e r) new.machine event → GivesNext first new event × HasCounted first new event
-  thrown (Ball id) still run sound b = (
-    λ budgets h s j.
-        let x = f s j in
-        let y = x.next in
-        let goal = read y.state y.goal in
-        let m = mid.machine in
-        let error = error_tree m.atoms (terms m) e in
-        let less : first.selected < budgets.steps = subst (λ (n : ℕ). first.selected < n) (sym h.steps) few in
-        let cells = items_still first.machine m first.selected rest s y still in
-        let free = uncaught (IsBranch m.atoms) (term_in m.atoms) (holds m) (now m).0 y.state (items_at m.world.second.now rest) y.items
-        (plain_copy (error_ball error (indicator_of goal))) y.behind cells.1 (free_of_catches run still) in
-        let ball : error_ball error (indicator_of goal) ≡ tree new.machine.atoms (terms new.machine) id =
-        sym (b.1 ∙ ap (λ (i : Indicator). error_ball error i) x.raiser) in
-        record {
-          sound = sound;
-          live = b.0;
-          tells = record {
-            next = after_ball s [];
-            tells = subst (λ (t : Tree). Tells budgets s (Shows (Threw (plain_copy t))) (after_ball s [])) ball
-                (tells_ball first.machine first.selected rest s y budgets less error x.raises.step free);
-            stands = stands_then s j;
-          };
-        },
-    let one = ended.selected in omega (arith, one, same),
-  )
-  thrown Answer still run sound b = absurd b
-  thrown (Output text) still run sound b = absurd b
-  thrown Fail still run sound b = absurd b
-  thrown (Stop cause) still run sound b = absurd b
+  pub thrown : (r : Option Event) → IsThrown mid new ball rest r → Turned first new r
+  thrown None c = (λ s j. caught_turn c s j, let more = c.selected in omega (arith, more, same))
+  thrown (Some (event.Ball stored)) i = (λ budgets h s j. missed_turn stored i budgets h s j, let more = i.ended.selected in omega (arith, more, same))
+  thrown (Some event.Answer) b = absurd b
+  thrown (Some (event.Output text)) b = absurd b
+  thrown (Some event.Fail) b = absurd b
+  thrown (Some (event.Stop cause)) b = absurd b
 
-  pub runs_thrown : IsRunning first → new.steps ≡ first.steps → IsRunning new
-  runs_thrown run steps = record {
-    kept = ended.kept;
-    search = after_ball run.search [];
-    stands = stands_then run.search run.stands;
-    no_catch = tt;
-    within = let a = ended.selected in omega (arith, a, same, few, steps);
-  }
+  pub runs_thrown : IsRunning first → IsKept new.machine → new.steps ≡ first.steps → (r : Option Event) → IsThrown mid new ball rest r → IsRunning new
+  runs_thrown run kept steps None c =
+      let a = caught_turn c run.search run.stands in
+      record { kept = kept; search = a.reached; stands = a.stands; within = let more = c.selected in omega (arith, more, same, few, steps) }
+  runs_thrown run kept steps (Some (event.Ball stored)) i =
+      let x = f run.search run.stands in
+      record {
+        kept = kept;
+        search = after_ball run.search [];
+        stands = stands_ended new (suc mid.selected) (after_ball run.search []) i.ended (x.step.database ∙ sym program) (count run.search x.next.selected) refl;
+        within = let more = i.ended.selected in omega (arith, more, same, few, steps);
+      }
+  runs_thrown run kept steps (Some event.Answer) b = absurd b
+  runs_thrown run kept steps (Some (event.Output text)) b = absurd b
+  runs_thrown run kept steps (Some event.Fail) b = absurd b
+  runs_thrown run kept steps (Some (event.Stop cause)) b = absurd b

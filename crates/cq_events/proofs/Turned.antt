@@ -65,7 +65,7 @@ pub counted_on : (a b c : Engine) (event : Event) → a.selected ≤ b.selected 
 counted_on a b c Answer l h = omega (arith, l, h)
 counted_on a b c (Output text) l h = omega (arith, l, h)
 counted_on a b c Fail l h = omega (arith, l, h)
-counted_on a b c (Ball id) l h = omega (arith, l, h)
+counted_on a b c (Ball stored) l h = omega (arith, l, h)
 counted_on a b c (Stop cause) l h = omega (arith, l, h)
 
 pub turned_both : (a b c : Engine) (r : Option Event) → Keeps a b → GoesOn a b → b.selected ≡ a.selected → Turned b c r → Turned a c r

@@ -2,15 +2,16 @@
 use Rattle.std.specs.Prelude.{◌≡◌, ◌<◌, ◌≤◌, ◌∷◌, [], ℕ, length}
 use Rattle.spec_lists.specs.Prefixes.{IsPrefix}
 use Rattle.spec_lists.specs.Texts.{Text}
-use Rattle.spec_branch.specs.Branch.{State, plain_copy}
+use Rattle.spec_branch.specs.Branch.{State, Copied}
 use Rattle.spec_search.specs.Search.{Search}
 use Rattle.spec_search.specs.Turns.{Answered, Ended, Threw, Wrote, with_branches}
 use Rattle.spec_stops.specs.Causes.{Budgets, Cause}
-use Rattle.spec_catches.specs.Catches.{HasNoCatch}
 use Rattle.spec_machine.specs.Coming.{Quietly, Told, Tells, Shows, Stops}
-use Rattle.cq_term.specs.Trees.{tree}
+use Rattle.spec_machine.specs.Standing.{IsStoredAs}
+use Rattle.cq_stored.specs.StoredValue.{StoredValue}
+use Rattle.cq_steps.specs.Stored.{IsCountedTerm, stored_tree}
 use Rattle.cq_steps.specs.Worlds.{IsBranch, KnowsNothing}
-use Rattle.cq_machine.specs.Machines.{IsSound, terms, now, database_of}
+use Rattle.cq_machine.specs.Machines.{IsSound, now, database_of}
 use Rattle.cq_engine.specs.Fronts.{as_cause}
 use Rattle.cq_engine.specs.Seeking.{IsKept, StandsFor, ComesTo}
 use Rattle.cq_events.specs.declared.engine.Engine.{Engine}
@@ -25,12 +26,11 @@ Stands e s = StandsFor e.machine e.selected e.current s
 abbrev pub Arrives : ℕ → Engine → Search → Type 0
 Arrives steps e s = ComesTo steps e.machine e.selected e.current s
 
--- it stands for some search without a catch, which selected no more goals than it may
+-- it stands for some search, which selected no more goals than it may
 pub record IsRunning (e : Engine) : Type 0 where
   pub kept : IsKept e.machine
   pub search : Search
   pub stands : Stands e search
-  pub no_catch : HasNoCatch search
   pub within : e.selected ≤ e.steps
 
 -- it has no query, and nothing is known of its terms but themselves
@@ -79,11 +79,12 @@ pub record AnswersNext (budgets : Budgets) (e : Engine) (s : Search) : Type 0 wh
   pub is_state : IsBranch e.machine.atoms (now e.machine).0 state
   pub tells : TellsNext budgets e (Shows (Answered state (database_of e.machine).operators)) s
 
--- a ball comes up next that nothing catches: the term, as it reads; the names of terms are known
-pub record ThrowsNext (budgets : Budgets) (e : Engine) (id : ℕ) (s : Search) : Type 0 where
-  pub sound : IsSound e.machine
-  pub live : id < length (terms e.machine)
-  pub tells : TellsNext budgets e (Shows (Threw (plain_copy (tree e.machine.atoms (terms e.machine) id)))) s
+-- a ball comes up next that nothing catches, which is stored so; its names have texts
+pub record ThrowsNext (budgets : Budgets) (e : Engine) (stored : StoredValue) (s : Search) : Type 0 where
+  pub counted : IsCountedTerm (length e.machine.atoms) stored
+  pub ball : Copied
+  pub is_stored : IsStoredAs ball (stored_tree e.machine.atoms stored)
+  pub tells : TellsNext budgets e (Shows (Threw ball)) s
 
 -- the query stops next for the cause, with the engine's program. The engine stands for a search without branches, of one that was
 -- come to quietly before.
@@ -100,19 +101,19 @@ abbrev pub Gives : Budgets → Engine → Event → Search → Type 0
 Gives budgets e Answer s = AnswersNext budgets e s
 Gives budgets e (Output text) s = WritesNext budgets e text.items s
 Gives budgets e Fail s = TellsNext budgets e (Shows Ended) s
-Gives budgets e (Ball id) s = ThrowsNext budgets e id s
+Gives budgets e (Ball stored) s = ThrowsNext budgets e stored s
 Gives budgets e (Stop cause) s = StopsNext budgets e (as_cause cause) s
 
 -- the event is what each search for which the engine stood tells next
 abbrev pub GivesNext : Engine → Engine → Event → Type 0
 GivesNext old new event = (budgets : Budgets) → HasBudgets budgets old → (s : Search) → Stands old s → Gives budgets new event s
 
--- a text is written by a goal that was selected since, and so is a ball
+-- a text is written by a goal that was selected since
 abbrev pub HasCounted : Engine → Engine → Event → Type 0
 HasCounted old new Answer = old.selected ≤ new.selected
 HasCounted old new (Output text) = old.selected < new.selected
 HasCounted old new Fail = old.selected ≤ new.selected
-HasCounted old new (Ball id) = old.selected < new.selected
+HasCounted old new (Ball stored) = old.selected ≤ new.selected
 HasCounted old new (Stop cause) = old.selected ≤ new.selected
 
 -- each search for which it stood comes quietly to one for which it stands now

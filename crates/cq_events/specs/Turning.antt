@@ -2,18 +2,21 @@
 use Rattle.std.specs.Prelude.{◌≡◌, ◌<◌, ◌≢◌, ◌∷◌, [], ℕ, suc, List, Option, Some, None, length, ⊤}
 use Rattle.spec_lists.specs.Texts.{Text}
 use Rattle.spec_syntax.specs.Trees.{Tree}
-use Rattle.spec_branch.specs.Branch.{State, Item, Branch, read}
+use Rattle.spec_branch.specs.Branch.{State, Item, Branch, plain_copy, read}
+use Rattle.spec_search.specs.Balls.{handed}
 use Rattle.spec_search.specs.Search.{Search, look_at, Selecting}
 use Rattle.spec_search.specs.Turns.{place_of}
 use Rattle.spec_machine.specs.declared.cell.Cell.{Cell}
-use Rattle.spec_machine.specs.declared.cell.Cell.TheVariants as cell
+use Rattle.spec_machine.specs.Standing.{IsStoredAs}
+use Rattle.cq_balls.specs.Balls.{ComesUp, IsCaughtBy}
 use Rattle.cq_control.specs.Items.{items_at}
 use Rattle.cq_linear.specs.declared.store.StoreFault.{StoreFault}
 use Rattle.cq_linear.specs.declared.store.StoreFault.TheVariants.{Overflow, Pivots, NoMemory}
-use Rattle.cq_term.specs.Trees.{tree}
+use Rattle.cq_stored.specs.StoredValue.{StoredValue}
+use Rattle.cq_steps.specs.Stored.{IsCountedTerm, stored_tree}
 use Rattle.cq_steps.specs.Worlds.{Placed}
 use Rattle.cq_machine.specs.declared.machine.Machine.{Machine}
-use Rattle.cq_machine.specs.Machines.{terms, now, holds, database_of, IsSound}
+use Rattle.cq_machine.specs.Machines.{now, holds, database_of, IsSound, StillStands}
 use Rattle.cq_engine.specs.Seeking.{IsKept}
 use Rattle.cq_execute.specs.Executions.{Reaches}
 use Rattle.cq_execute.specs.Stops.{IsStop}
@@ -25,15 +28,6 @@ use Rattle.cq_events.specs.Raised.{is_raised_by}
 use Rattle.cq_events.specs.Events.{GivesNext, GoesOn, HasCounted}
 
 -- ---- a goal in front
-
--- this is a goal
-abbrev pub IsGoal : Cell → Type 0
-IsGoal (cell.Goal t height) = ⊤
-IsGoal (cell.Call t) = ⊤
-IsGoal (cell.CutTo height) = ⊥
-IsGoal (cell.CutFail height) = ⊥
-IsGoal (cell.CatchEnd height c r) = ⊥
-IsGoal (cell.Collect height t) = ⊥
 
 -- this cell is in front of the continuation, and this continuation behind it
 pub record HasInFront (m : Machine) (k : ℕ) (c : Cell) (rest : ℕ) : Type 0 where
@@ -93,16 +87,46 @@ IsTold text None = text ≡ []
 IsTold text (Some (Output written)) = (written.items ≡ text) × (text ≢ [])
 IsTold text (Some Answer) = ⊥
 IsTold text (Some Fail) = ⊥
-IsTold text (Some (Ball id)) = ⊥
+IsTold text (Some (Ball stored)) = ⊥
 IsTold text (Some (Stop cause)) = ⊥
 
--- it is the event of this ball, whose term is there
-abbrev pub IsBall : Tree → Machine → Event → Type 0
-IsBall ball m (Ball id) = (id < length (terms m)) × (tree m.atoms (terms m) id ≡ ball)
-IsBall ball m Answer = ⊥
-IsBall ball m (Output written) = ⊥
-IsBall ball m Fail = ⊥
-IsBall ball m (Stop cause) = ⊥
+-- ---- balls
+
+-- a ball comes up in front of the continuation: this stands for some items, in front of some branches
+abbrev pub ComesUpOn : Machine → ℕ → Type 0
+ComesUpOn m from = (items : List Item) × (st : State) × (behind : List Branch) × ComesUp m.atoms (holds m) (now m) from items st behind
+
+-- Wherever the ball came up in front of the continuation a catch has it now, and the engine comes back to that; one more goal was selected.
+pub record IsCaught (old new : Engine) (ball : Tree) (from : ℕ) : Type 0 where
+  pub caught : (items : List Item) (st : State) (behind : List Branch) → ComesUp old.machine.atoms (holds old.machine) (now old.machine) from items st behind
+      → IsCaughtBy new.machine.atoms (holds new.machine) (plain_copy ball) items behind
+  pub selected : new.selected ≡ suc old.selected
+  pub current : new.current ≡ None
+
+-- Nothing catches it; it is stored so, its names have texts, and no branch is left.
+pub record IsMissed (old new : Engine) (ball : Tree) (from : ℕ) (stored : StoredValue) : Type 0 where
+  pub missed : (items : List Item) (st : State) (behind : List Branch) → ComesUp old.machine.atoms (holds old.machine) (now old.machine) from items st behind
+      → handed (plain_copy ball) items behind ≡ None
+  pub is_stored : IsStoredAs (plain_copy ball) (stored_tree new.machine.atoms stored)
+  pub counted : IsCountedTerm (length new.machine.atoms) stored
+  pub ended : HasEnded (suc old.selected) new
+
+-- a catch has the ball, or it is told
+abbrev pub IsThrown : Engine → Engine → Tree → ℕ → Option Event → Type 0
+IsThrown old new ball from None = IsCaught old new ball from
+IsThrown old new ball from (Some (Ball stored)) = IsMissed old new ball from stored
+IsThrown old new ball from (Some Answer) = ⊥
+IsThrown old new ball from (Some (Output written)) = ⊥
+IsThrown old new ball from (Some Fail) = ⊥
+IsThrown old new ball from (Some (Stop cause)) = ⊥
+
+-- The same where names and terms were added before: an engine that stands for what it stood for has thrown it.
+pub record IsRaised (old new : Engine) (ball : Tree) (from : ℕ) (told : Option Event) : Type 0 where
+  pub mid : Engine
+  pub still : StillStands old.machine mid.machine
+  pub database : database_of mid.machine ≡ database_of old.machine
+  pub selected : mid.selected ≡ old.selected
+  pub thrown : IsThrown mid new ball from told
 
 -- the event is what is told next, or one more goal was selected and nothing is told yet
 abbrev pub Turned : Engine → Engine → Option Event → Type 0

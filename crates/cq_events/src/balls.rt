@@ -1,4 +1,4 @@
-// The term of an error that nothing catches.
+// The term of an error.
 
 ghost use Rattle.std.specs.Prelude.{◌≡◌, ◌<◌, length, IfOk, OnErr};
 ghost use Rattle.cq_built.specs.Errors.{HasCulprit};
@@ -13,6 +13,7 @@ use cq_atoms::Atoms;
 use cq_built::{BuiltinError, ball};
 use cq_machine::Machine;
 use cq_ops::more_names_keep_the_table;
+use cq_steps::more_may_be_built;
 use cq_term::{Heap, TermId};
 use cq_ways::{names_are_of_terms, names_may_be_added};
 use std::alloc::AllocError;
@@ -50,13 +51,14 @@ pub(crate) fn build_ball(
     requires numbered { IsNumbered m.old.atoms raiser }
     ensures live { IfOk result (λ id. id < length (terms m.new)) }
     ensures built { IfOk result (λ id. tree m.new.atoms (terms m.new) id ≡ ball_by m.old.atoms (terms m.old) error raiser) }
-    ensures err { OnErr result (StillStands m.old m.new) }
+    ensures stands { StillStands m.old m.new }
     ensures sound { IsSound m.new }
     ensures program { GainsNames m.old m.new }
     ensures budget { m.new.world.first.store.pivots ≡ m.old.world.first.store.pivots }
 {
     names_may_be_added();
     more_names_keep_the_table();
+    more_may_be_built();
     names_are_of_terms(&m.world, &m.choices);
     let built = ball_on(&mut m.world.first.heap, &mut m.atoms, error, raiser);
     m.atoms.text(m.names.truth);

@@ -7,7 +7,8 @@ ghost use Rattle.cq_machine.specs.Stepping.{CanGo, OnRaises};
 ghost use Rattle.cq_engine.specs.Seeking.{IsGoing, StandsFor};
 ghost use Rattle.cq_execute.specs.Executions.{KeepsWalks, HasSameDatabase};
 ghost use Rattle.cq_events.specs.Raised.{IsNumbered};
-ghost use Rattle.cq_events.specs.Turning.{HasInFront, IsGoal, Reached, MayStop};
+ghost use Rattle.cq_engine.specs.Fronts.{IsGoal};
+ghost use Rattle.cq_events.specs.Turning.{HasInFront, Reached, MayStop};
 
 use crate::raiser::{Raiser, raiser_of};
 use cq_control::Continuation;

@@ -1,7 +1,7 @@
 // What a query tells.
 
 use cq_engine::Cause;
-use cq_term::TermId;
+use cq_stored::StoredTerm;
 
 /// What a query tells next.
 #[derive(Drop)]
@@ -12,8 +12,8 @@ pub enum Event {
     Output(Vec<u8>),
     /// No branch is left.
     Fail,
-    /// The term of an error that nothing catches; no branch is left.
-    Ball(TermId),
+    /// A ball that nothing catches, as it is stored; no branch is left.
+    Ball(StoredTerm),
     /// The query stops, and no branch is left.
     Stop(Cause),
 }

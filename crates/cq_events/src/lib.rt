@@ -1,4 +1,4 @@
-//! The events of a query on a machine, one after another: texts that it writes, answers, an error that nothing catches, and its
+//! The events of a query on a machine, one after another: texts that it writes, answers, a ball that nothing catches, and its
 //! end. `Engine::start` begins a query, `Engine::next` gives what the query tells next.
 #![tactic(auto)]
 

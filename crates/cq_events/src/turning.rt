@@ -1,6 +1,6 @@
 // A turn that selects a goal.
 
-ghost use Rattle.std.specs.Prelude.{◌≡◌, ◌<◌, ◌+◌, [], None, Some, length, IfOk, OnOk, OnErr};
+ghost use Rattle.std.specs.Prelude.{◌≡◌, ◌<◌, [], None, Some, length, IfOk, OnErr};
 ghost use Rattle.cq_built.specs.Errors.{HasCulprit};
 ghost use Rattle.cq_term.specs.Trees.{tree};
 ghost use Rattle.cq_machine.specs.Machines.{terms, now, IsSound, StillStands};
@@ -8,19 +8,22 @@ ghost use Rattle.cq_engine.specs.Fronts.{HasWork};
 ghost use Rattle.cq_engine.specs.Seeking.{IsKept, GainsNames};
 ghost use Rattle.cq_events.specs.Raised.{IsNumbered, ball_by};
 ghost use Rattle.cq_events.specs.Events.{IsRunning, GoesOn, Keeps};
-ghost use Rattle.cq_events.specs.Turning.{HasEnded, IsAsBefore, IsAt, IsBall, IsTold, Turned};
+ghost use Rattle.cq_events.specs.Turning.{ComesUpOn, HasEnded, IsAsBefore, IsAt, IsRaised, IsThrown, IsTold, Turned};
 
 use crate::balls::build_ball;
 use crate::cells::{Done, execute_cell};
 use crate::engine::Engine;
 use crate::event::Event;
 use crate::raiser::Raiser;
+use cq_balls::hand;
 use cq_built::BuiltinError;
 use cq_control::Continuation;
 use cq_engine::{Cause, Front, halt, look};
 use cq_execute::Executed;
 use cq_linear::store::StoreFault;
 use cq_machine::Step;
+use cq_stored::StoredTerm;
+use cq_term::TermId;
 use std::alloc::AllocError;
 
 /// No branch is left.
@@ -52,25 +55,58 @@ fn advance(e: &mut Engine, next: Option<Continuation>, output: Vec<u8>) -> Optio
     }
 }
 
-/// An error ends the query, and is its ball: no catch is under way.
-fn throw(e: &mut Engine, error: BuiltinError, raiser: Raiser) -> Result<Event, AllocError>
+/// A ball comes up in front of a continuation, where one more goal was selected. The nearest catch has it then, and the engine comes back
+/// to that; where nothing catches it, it is told, and no branch is left. After want of memory nothing has changed.
+fn throw(e: &mut Engine, ball: TermId, from: Continuation) -> Result<Option<Event>, AllocError>
     requires sound { IsSound e.old.machine }
-    requires culprit { HasCulprit e.old.machine.atoms (terms e.old.machine) error }
-    requires numbered { IsNumbered e.old.machine.atoms raiser }
+    requires ball { ball < length (terms e.old.machine) }
+    requires comes_up { ComesUpOn e.old.machine from }
     requires few { e.old.selected < e.old.steps }
-    ensures ball { IfOk result (IsBall (ball_by e.old.machine.atoms (terms e.old.machine) error raiser) e.new.machine) }
-    ensures ended { OnOk result (HasEnded (e.old.selected + 1) e.new) }
-    ensures sound { OnOk result (IsSound e.new.machine) }
-    ensures err { OnErr result (StillStands e.old.machine e.new.machine) }
-    ensures err_at { OnErr result (IsAsBefore e.old e.new) }
+    ensures thrown { IfOk result (IsThrown e.old e.new (tree e.old.machine.atoms (terms e.old.machine) ball) from) }
+    ensures err { OnErr result (e.new ≡ e.old) }
+    ensures kept { IsKept e.new.machine }
     ensures program { GainsNames e.old.machine e.new.machine }
     ensures steps { e.new.steps ≡ e.old.steps }
     ensures budget { e.new.machine.world.first.store.pivots ≡ e.old.machine.world.first.store.pivots }
 {
-    let id = build_ball(&mut e.machine, error, raiser)?;
+    let m = &mut e.machine;
+    let copy = StoredTerm::of(&m.world.first.heap, ball)?;
+    let missed = hand(&mut m.world, &mut m.choices, copy, from);
     e.selected += 1;
-    leave(e);
-    Ok(Event::Ball(id))
+    match missed {
+        Some(ball) => {
+            leave(e);
+            Ok(Some(Event::Ball(ball)))
+        }
+        None => {
+            e.current = None;
+            Ok(None)
+        }
+    }
+}
+
+/// A goal raises an error, of which the ball comes up. After want of memory names and terms may stay.
+fn raise(
+    e: &mut Engine,
+    error: BuiltinError,
+    raiser: Raiser,
+    from: Continuation,
+) -> Result<Option<Event>, AllocError>
+    requires sound { IsSound e.old.machine }
+    requires culprit { HasCulprit e.old.machine.atoms (terms e.old.machine) error }
+    requires numbered { IsNumbered e.old.machine.atoms raiser }
+    requires comes_up { ComesUpOn e.old.machine from }
+    requires few { e.old.selected < e.old.steps }
+    ensures thrown { IfOk result (IsRaised e.old e.new (ball_by e.old.machine.atoms (terms e.old.machine) error raiser) from) }
+    ensures err { OnErr result (StillStands e.old.machine e.new.machine) }
+    ensures err_at { OnErr result (IsAsBefore e.old e.new) }
+    ensures kept { IsKept e.new.machine }
+    ensures program { GainsNames e.old.machine e.new.machine }
+    ensures steps { e.new.steps ≡ e.old.steps }
+    ensures budget { e.new.machine.world.first.store.pivots ≡ e.old.machine.world.first.store.pivots }
+{
+    let ball = build_ball(&mut e.machine, error, raiser)?;
+    throw(e, ball, from)
 }
 
 /// Selects the goal in front of what the engine goes on with.
@@ -93,8 +129,12 @@ fn select(e: &mut Engine, k: Continuation) -> Result<Option<Event>, AllocError>
             match step {
                 Step::Goes(next) => Ok(advance(e, Some(next), output)),
                 Step::Back => Ok(advance(e, None, output)),
-                Step::Raises(error) => match throw(e, error, raiser) {
-                    Ok(ball) => Ok(Some(ball)),
+                Step::Raises(error) => match raise(e, error, raiser, rest) {
+                    Ok(told) => Ok(told),
+                    Err(fault) => Err(fault),
+                },
+                Step::Throws(ball) => match throw(e, ball, rest) {
+                    Ok(told) => Ok(told),
                     Err(fault) => Err(fault),
                 },
                 Step::Refuses(pair) => {
@@ -123,9 +163,9 @@ pub(crate) fn turn(e: &mut Engine) -> Result<Option<Event>, AllocError>
     ensures running { IsRunning e.new }
     ensures keeps { Keeps e.old e.new }
 {
-    let start = e.current;
+    let mut current = e.current;
     e.current = None;
-    match look(&mut e.machine, e.selected, e.steps, start) {
+    match look(&mut e.machine, e.selected, e.steps, &mut current) {
         Ok(front) => match front {
             Front::Ahead(k) => {
                 e.current = Some(k);
@@ -136,8 +176,12 @@ pub(crate) fn turn(e: &mut Engine) -> Result<Option<Event>, AllocError>
             }
             Front::Answer => Ok(Some(Event::Answer)),
             Front::Fail => Ok(Some(Event::Fail)),
+            Front::Escapes(ball) => Ok(Some(Event::Ball(ball))),
             Front::Stop(cause) => Ok(Some(Event::Stop(cause))),
         },
-        Err(fault) => Err(fault),
+        Err(fault) => {
+            e.current = current;
+            Err(fault)
+        }
     }
 }

@@ -15,7 +15,7 @@ use Rattle.cq_linear.specs.declared.store.StoreFault.TheVariants.{Overflow, Pivo
 use Rattle.cq_term.specs.Trees.{tree}
 use Rattle.cq_machine.specs.declared.machine.Machine.{Machine}
 use Rattle.cq_machine.specs.declared.step.Step.{Step}
-use Rattle.cq_machine.specs.declared.step.Step.TheVariants.{Goes, Back, Raises, Refuses}
+use Rattle.cq_machine.specs.declared.step.Step.TheVariants.{Goes, Back, Raises, Throws, Refuses}
 use Rattle.cq_machine.specs.Machines.{terms, database_of, IsSound, HasSameProgram, StillStands}
 use Rattle.cq_machine.specs.Stepping.{row_of, CanGo, OnRaises}
 use Rattle.cq_questions.specs.Stops.{TakesIn}
@@ -33,6 +33,7 @@ taken : (m : Machine) (p : Place) (behind : List Branch) (g : Tree) → p.databa
 taken m p behind g d (Goes k) x = continues m p behind g d (Some k) x.reply x.leads x.step
 taken m p behind g d Back x = continues m p behind g d None x.reply x.leads x.step
 taken m p behind g d (Raises e) x = record { step = x; database = d }
+taken m p behind g d (Throws id) x = absurd x
 taken m p behind g d (Refuses pair) x = absurd x
 
 -- ---- stops

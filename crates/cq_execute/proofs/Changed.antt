@@ -13,7 +13,7 @@ use Rattle.cq_built.specs.Errors.{error_tree}
 use Rattle.cq_term.specs.Trees.{tree}
 use Rattle.cq_machine.specs.declared.machine.Machine.{Machine}
 use Rattle.cq_machine.specs.declared.step.Step.{Step}
-use Rattle.cq_machine.specs.declared.step.Step.TheVariants.{Goes, Back, Raises, Refuses}
+use Rattle.cq_machine.specs.declared.step.Step.TheVariants.{Goes, Back, Raises, Throws, Refuses}
 use Rattle.cq_machine.specs.Machines.{terms, database_of, IsSound, StillStands}
 use Rattle.cq_machine.specs.Stepping.{row_of, IsSelectedAt, CanGo, OnRaises}
 use Rattle.cq_changes.specs.Changing.{IsChange, ChangesTo, KeepsAllButClauses}
@@ -31,6 +31,7 @@ on_raises : (s : Step) (P Q : Type 0) → (P → Q) → OnRaises s P → OnRaise
 on_raises (Goes k) P Q f h = tt
 on_raises Back P Q f h = tt
 on_raises (Raises e) P Q f h = f h
+on_raises (Throws id) P Q f h = f h
 on_raises (Refuses pair) P Q f h = tt
 
 module _ (old new : Machine) (id height rest : ℕ) (b : Builtin) (calls : builtin_of (indicator_of (tree old.atoms (terms old) id)) ≡ Some b) where
@@ -48,6 +49,7 @@ module _ (old new : Machine) (id height rest : ℕ) (b : Builtin) (calls : built
     }
     changed Back same c = absurd c
     changed (Raises e) same c = raised new p behind g (at.database ∙ sym same) (error_tree new.atoms (terms new) e) (reply ∙ c)
+    changed (Throws id) same c = absurd c
     changed (Refuses pair) same c = absurd c
 
   pub change_done : {E : Type 0} (r : Result Step E) → IfOk r (ChangesTo old new id rest (row_of b)) → IfOk r (CanGo new)

@@ -26,7 +26,7 @@ use Rattle.cq_steps.proofs.Added.{reads_tree}
 use Rattle.cq_revise.specs.Revised.{KeepsShowing}
 use Rattle.cq_machine.specs.declared.machine.Machine.{Machine}
 use Rattle.cq_machine.specs.declared.step.Step.{Step}
-use Rattle.cq_machine.specs.declared.step.Step.TheVariants.{Goes, Back, Raises, Refuses}
+use Rattle.cq_machine.specs.declared.step.Step.TheVariants.{Goes, Back, Raises, Throws, Refuses}
 use Rattle.cq_machine.specs.Machines.{terms, now, IsSound, HasSameProgram, StillStands}
 use Rattle.cq_machine.specs.Stepping.{row_of, IsStep, IsSelectedAt, IsSelectedSomewhere, LeadsTo, CanGo, OnRaises}
 use Rattle.cq_selected.specs.Stops.{IsSelectedFrom, StopsAt}
@@ -64,6 +64,7 @@ pub still_raised : {E : Type 0} (m : Machine) (r : Result Step E) → IfOk r (λ
 still_raised m (Ok (Goes k)) = tt
 still_raised m (Ok Back) = tt
 still_raised m (Ok (Raises e)) = λ db n current s j. j
+still_raised m (Ok (Throws id)) = λ db n current s j. j
 still_raised m (Ok (Refuses pair)) = tt
 still_raised m (Err e) = tt
 
@@ -117,18 +118,21 @@ module _ (old new : Machine) (id height rest : ℕ) where
 
     -- ---- errors
 
-    raises_none : IsSelectedFrom old id height rest → ((p : Place) (g e : Tree) → row_of b p g ≡ reply.Raises e → ⊥) → (s : Step) → LeadsTo old new id height rest (row_of b) s
+    raises_none : IsSelectedFrom old id height rest → ((p : Place) (g e : Tree) → row_of b p g ≡ reply.Raises e → ⊥)
+        → ((p : Place) (g t : Tree) → row_of b p g ≡ reply.Throws t → ⊥) → (s : Step) → LeadsTo old new id height rest (row_of b) s
         → OnRaises s (StillStands old new)
-    raises_none at never (Goes k) row = tt
-    raises_none at never Back row = tt
-    raises_none at never (Raises e) row = absurd (never at.0 at.2 _ (row at.0 at.1 at.2 at.3))
-    raises_none at never (Refuses pair) row = tt
+    raises_none at never none (Goes k) row = tt
+    raises_none at never none Back row = tt
+    raises_none at never none (Raises e) row = absurd (never at.0 at.2 _ (row at.0 at.1 at.2 at.3))
+    raises_none at never none (Throws id) row = absurd (none at.0 at.2 _ (row at.0 at.1 at.2 at.3).is)
+    raises_none at never none (Refuses pair) row = tt
 
-    -- a row that raises no error
-    pub none_raised : {E : Type 0} → IsSelectedFrom old id height rest → ((p : Place) (g e : Tree) → row_of b p g ≡ reply.Raises e → ⊥) → (r : Result Step E)
+    -- a row that raises no error, and throws nothing
+    pub none_raised : {E : Type 0} → IsSelectedFrom old id height rest → ((p : Place) (g e : Tree) → row_of b p g ≡ reply.Raises e → ⊥)
+        → ((p : Place) (g t : Tree) → row_of b p g ≡ reply.Throws t → ⊥) → (r : Result Step E)
         → IfOk r (LeadsTo old new id height rest (row_of b)) → IfOk r (λ s. OnRaises s (StillStands old new))
-    none_raised at never (Ok s) row = raises_none at never s row
-    none_raised at never (Err e) row = tt
+    none_raised at never none (Ok s) row = raises_none at never none s row
+    none_raised at never none (Err e) row = tt
 
     -- ---- rows
 
@@ -173,6 +177,16 @@ by_first p (Compound f ts) g e h = cc
 -- freeze raises no error
 pub freeze_none : (p : Place) (g e : Tree) → row_of builtin.Freeze p g ≡ reply.Raises e → ⊥
 freeze_none p g e h = by_first p _ _ e h
+
+thrown_first : (p : Place) (x g t : Tree) → freeze_row p x g ≡ reply.Throws t → ⊥
+thrown_first p (Var v) g t h = cc
+thrown_first p (Number q) g t h = cc
+thrown_first p (Name a) g t h = cc
+thrown_first p (Compound f ts) g t h = cc
+
+-- and throws nothing
+pub freeze_throws : (p : Place) (g t : Tree) → row_of builtin.Freeze p g ≡ reply.Throws t → ⊥
+freeze_throws p g t h = thrown_first p _ _ t h
 
 -- call of one argument is that of it alone
 pub call_alone : {E : Type 0} (old new : Machine) (id height rest : ℕ) (r : Result Step E) → length (shown.arguments (meaning.at (terms old) id)) ≡ 1

@@ -24,7 +24,7 @@ use Rattle.cq_ways.specs.Calls as ways
 use Rattle.cq_ways.proofs.Leading.{made_is}
 use Rattle.cq_machine.specs.declared.machine.Machine.{Machine}
 use Rattle.cq_machine.specs.declared.step.Step.{Step}
-use Rattle.cq_machine.specs.declared.step.Step.TheVariants.{Goes, Back, Raises, Refuses}
+use Rattle.cq_machine.specs.declared.step.Step.TheVariants.{Goes, Back, Raises, Throws, Refuses}
 use Rattle.cq_machine.specs.Machines.{terms, now, IsSound, StillStands}
 use Rattle.cq_machine.specs.Stepping.{IsSelectedAt, IsStep, CanGo, OnRaises}
 use Rattle.cq_offer.specs.Offers.{HasMoreNames}
@@ -56,6 +56,10 @@ no_overflow : (p : Place) (s : Solutions) (pair : Pair) → offers p s ≡ reply
 no_overflow p (Faults e) pair h = cc
 no_overflow p (Offers found) pair h = cc
 
+no_throw : (p : Place) (s : Solutions) (t : Tree) → offers p s ≡ reply.Throws t → ⊥
+no_throw p (Faults e) t h = cc
+no_throw p (Offers found) t h = cc
+
 -- an error of the row is the reply
 abbrev pub RaiseErrors : Type 0
 RaiseErrors = (b : Builtin) (q : Predicate) → predicate_of b ≡ Some q → (p : Place) (ts : List Tree) (e : Tree) → ways.row_of q p ts ≡ reply.Raises e → builtin_reply p b ts ≡ reply.Raises e
@@ -79,6 +83,7 @@ module _ (old new : Machine) (more : HasMoreNames old new) (id height rest : ℕ
     reached (Raises e) h =
         raised new p behind g (at.database ∙ sym more.database) (error_tree new.atoms (terms new) e)
         (replies p g (built_in q) found ∙ errors (built_in q) q (is_predicate q) p (arguments g) (error_tree new.atoms (terms new) e) h)
+    reached (Throws id) h = absurd (no_throw p (solutions_of q p.state.fresh (arguments g)) _ h.is)
     reached (Refuses pair) h = absurd (no_overflow p (solutions_of q p.state.fresh (arguments g)) pair h)
 
   abbrev RowOf : Step → Type 0

@@ -6,7 +6,7 @@ use Rattle.spec_syntax.specs.Trees.{Tree}
 use Rattle.spec_built.specs.Built.{indicator_of}
 use Rattle.spec_built.specs.Kinds.{is_callable}
 use Rattle.spec_builtins.specs.Terms.{arguments}
-use Rattle.spec_branch.specs.Branch.{Branch}
+use Rattle.spec_branch.specs.Branch.{Branch, plain_copy, read}
 use Rattle.spec_search.specs.Builtins.{Builtin, builtin_of}
 use Rattle.spec_search.specs.Control.{clause_child, user_row}
 use Rattle.spec_search.specs.Database.{Database}
@@ -14,15 +14,16 @@ use Rattle.spec_search.specs.Replies as reply
 use Rattle.spec_search.specs.Replies.{Place, Reply, made}
 use Rattle.spec_search.specs.Rows.{reply_of, reply_by, builtin_reply}
 use Rattle.spec_search.specs.Steps as steps
-use Rattle.spec_search.specs.Steps.{Steps, Children, ball_of}
+use Rattle.spec_search.specs.Steps.{Steps, Ball, Children, ball_of}
 use Rattle.spec_machine.specs.Coming.{at_once, Comes}
 use Rattle.spec_machine.specs.Standing.{engine}
 use Rattle.cq_built.specs.Errors.{error_tree}
 use Rattle.cq_calls.specs.Calling.{CallBecomes}
 use Rattle.cq_steps.specs.Worlds.{IsBranch, term_in, Leads}
+use Rattle.cq_term.specs.Trees.{tree}
 use Rattle.cq_machine.specs.declared.machine.Machine.{Machine}
 use Rattle.cq_machine.specs.declared.step.Step.{Step}
-use Rattle.cq_machine.specs.declared.step.Step.TheVariants.{Goes, Back, Raises, Refuses}
+use Rattle.cq_machine.specs.declared.step.Step.TheVariants.{Goes, Back, Raises, Throws, Refuses}
 use Rattle.cq_machine.specs.Machines.{terms, now, holds, database_of}
 use Rattle.cq_machine.specs.Stepping.{IsStep}
 use Rattle.cq_selected.specs.Calls.{IsCall}
@@ -61,10 +62,15 @@ module _ (m : Machine) (p : Place) (behind : List Branch) (g : Tree) (d : p.data
   pub raised : (e : Tree) → reply_of p g ≡ reply.Raises e → HasStep m p g (ball_of g e)
   raised e h = record { step = steps.raises h; database = d }
 
+  -- it throws a term, which reads as itself
+  thrown : (t : Tree) → reply_of p g ≡ reply.Throws t → read p.state t ≡ t → HasStep m p g (Ball (plain_copy t))
+  thrown t h r = record { step = steps.throws h (ap plain_copy (sym r)); database = d }
+
   pub reach : (s : Step) (r : Reply) → reply_of p g ≡ r → IsStep m s p behind r → Reaches m s [] p behind g
   reach (Goes k) r e l = continues (Some k) r l (steps.makes (e ∙ l.row))
   reach Back r e l = continues None r l (steps.makes (e ∙ l.row))
   reach (Raises x) r e h = raised (error_tree m.atoms (terms m) x) (e ∙ h)
+  reach (Throws id) r e h = thrown (tree m.atoms (terms m) id) (e ∙ h.is) h.reads
   reach (Refuses pair) r e h = record { is = e ∙ h; database = d }
 
   -- the clauses of a call wait
@@ -93,6 +99,7 @@ module _ (m : Machine) (p : Place) (behind : List Branch) (g : Tree) (d : p.data
   reach_call (Goes k) e c = absurd c
   reach_call Back e c = called e c
   reach_call (Raises x) e h = raised (error_tree m.atoms (terms m) x) (e ∙ h)
+  reach_call (Throws id) e c = absurd c
   reach_call (Refuses pair) e c = absurd c
 
 -- a step that shows nothing

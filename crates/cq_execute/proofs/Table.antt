@@ -26,11 +26,16 @@ takes builtin.IfThen n = n == 2
 takes builtin.Not n = n == 1
 takes builtin.Call n = not (n == 0)
 takes builtin.Once n = n == 1
+takes builtin.Catch n = n == 3
+takes builtin.Throw n = n == 1
+takes builtin.Findall n = n == 3
 takes builtin.Unify n = n == 2
 takes builtin.NotUnify n = n == 2
 takes builtin.Is n = n == 2
 takes (builtin.Compare c) n = n == 2
 takes (builtin.Assert e) n = n == 1
+takes builtin.Retract n = n == 1
+takes builtin.ClauseGoal n = n == 2
 takes builtin.DynamicGoal n = n == 1
 takes builtin.Discontiguous n = n == 1
 takes builtin.Initialization n = n == 1

@@ -4,21 +4,22 @@ use Rattle.spec_lists.specs.Prefixes.{IsPrefix}
 use Rattle.spec_lists.specs.Texts.{Text}
 use Rattle.spec_syntax.specs.Trees.{Tree}
 use Rattle.spec_built.specs.Built.{compound1}
-use Rattle.spec_branch.specs.Branch.{Branch}
+use Rattle.spec_branch.specs.Branch.{Branch, plain_copy}
 use Rattle.spec_search.specs.Replies as reply
 use Rattle.spec_search.specs.Replies.{Place, Made, Reply}
 use Rattle.spec_search.specs.Rows.{reply_of}
 use Rattle.spec_search.specs.Search.{Search}
-use Rattle.spec_search.specs.Steps.{Stepped, Steps, Children, ball_of}
+use Rattle.spec_search.specs.Steps.{Stepped, Steps, Ball, Children, ball_of}
 use Rattle.spec_search.specs.Turns.{older}
 use Rattle.spec_machine.specs.Coming.{Comes}
 use Rattle.spec_machine.specs.Standing.{engine}
 use Rattle.cq_built.specs.Errors.{error_tree}
 use Rattle.cq_steps.specs.Worlds.{IsBranch, term_in, ReadsAs, Placed}
+use Rattle.cq_term.specs.Trees.{tree}
 use Rattle.cq_revise.specs.Revised.{KeepsShowing}
 use Rattle.cq_machine.specs.declared.machine.Machine.{Machine}
 use Rattle.cq_machine.specs.declared.step.Step.{Step}
-use Rattle.cq_machine.specs.declared.step.Step.TheVariants.{Goes, Back, Raises, Refuses}
+use Rattle.cq_machine.specs.declared.step.Step.TheVariants.{Goes, Back, Raises, Throws, Refuses}
 use Rattle.cq_machine.specs.Machines.{terms, now, holds, database_of}
 use Rattle.cq_machine.specs.Stepping.{IsSelectedAt}
 use Rattle.cq_execute.specs.declared.executed.Executed.{Executed}
@@ -44,12 +45,13 @@ pub record HasReply (m : Machine) (p : Place) (goal : Tree) (r : Reply) : Type 0
   pub is : reply_of p goal ≡ r
   pub database : p.database ≡ database_of m
 
--- the machine has come to what the goal's step makes, with this output; or the goal's step is the ball of an error, or its reply two
--- numbers that are refused
+-- the machine has come to what the goal's step makes, with this output; or the goal's step is the ball of an error or of the term of a
+-- number, or its reply two numbers that are refused
 abbrev pub Reaches : Machine → Step → Text → Place → List Branch → Tree → Type 0
 Reaches m (Goes k) text p behind goal = Continues m (Some k) text p behind goal
 Reaches m Back text p behind goal = Continues m None text p behind goal
 Reaches m (Raises e) text p behind goal = HasStep m p goal (ball_of goal (error_tree m.atoms (terms m) e))
+Reaches m (Throws id) text p behind goal = HasStep m p goal (Ball (plain_copy (tree m.atoms (terms m) id)))
 Reaches m (Refuses pair) text p behind goal = HasReply m p goal (reply.Overflows pair)
 
 -- wherever the goal of the number is selected so, the machine has come to what it comes to there

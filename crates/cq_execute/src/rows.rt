@@ -5,13 +5,13 @@ ghost use Rattle.cq_execute.specs.Rows.{IsAtGoal, IsCallOf, IsDone};
 use crate::executed::Executed;
 use crate::printing::{declare, newline, write};
 use crate::steps::{quiet, quiet_or_stop};
-use cq_changes::{assert, declare_dynamic};
+use cq_changes::{assert, clause, declare_dynamic, retract};
 use cq_clauses::End;
 use cq_control::Continuation;
 use cq_linear::store::StoreFault;
 use cq_machine::{
-    Machine, Step, conjunction, cut, disjunction, if_then, initialization, negation, not_unify,
-    once,
+    Machine, Step, catch, conjunction, cut, disjunction, findall, if_then, initialization,
+    negation, not_unify, once, throw,
 };
 use cq_offer::{offer, rows_are_replies};
 use cq_optima::{entailed, extent, optimum};
@@ -47,6 +47,9 @@ pub(crate) fn execute_builtin(
         Builtin::Not => quiet(alloc, negation(m, goal, height, rest)),
         Builtin::Call => call(m, goal, height, rest),
         Builtin::Once => quiet(alloc, once(m, goal, height, rest)),
+        Builtin::Catch => quiet(alloc, catch(m, goal, height, rest)),
+        Builtin::Throw => quiet(alloc, Ok(throw(m, goal))),
+        Builtin::Findall => quiet(alloc, findall(m, goal, height, rest)),
         Builtin::Unify => quiet_or_stop(alloc, unify(m, goal, rest)),
         Builtin::NotUnify => quiet(alloc, not_unify(m, goal, height, rest)),
         Builtin::Predicate(predicate) => offered(m, predicate, goal, height, rest),
@@ -54,6 +57,8 @@ pub(crate) fn execute_builtin(
         Builtin::Compare(comparison) => quiet(alloc, compare(m, comparison, goal, rest)),
         Builtin::Asserta => quiet(alloc, assert(m, End::First, goal, rest)),
         Builtin::Assertz => quiet(alloc, assert(m, End::Last, goal, rest)),
+        Builtin::Retract => quiet(alloc, retract(m, goal, rest)),
+        Builtin::Clause => quiet(alloc, clause(m, goal, rest)),
         Builtin::Dynamic => quiet(alloc, declare_dynamic(m, goal, rest)),
         Builtin::Discontiguous => quiet(alloc, discontiguous(m, goal, rest)),
         Builtin::Initialization => quiet(alloc, initialization(m, goal, height, rest)),

@@ -1,2 +1,2 @@
-mod Counted
-mod Found
+pub mod Counted
+mod Going

@@ -1,46 +1,45 @@
 -- What an engine comes to as it goes on to a goal in front.
-use Rattle.std.specs.Prelude.{ℕ, ◌<◌, Option, None, ⊤}
-use Rattle.spec_search.specs.Database.{Database}
+use Rattle.std.specs.Prelude.{◌≡◌, ℕ, ◌<◌, List, [], length, Option, None, Some}
+use Rattle.spec_operators.specs.Operators.{Ops}
 use Rattle.spec_search.specs.Search.{Search}
-use Rattle.cq_linear.specs.declared.store.StoreFault.{StoreFault}
-use Rattle.cq_program.specs.Database.{Program}
-use Rattle.cq_steps.specs.Worlds.{Stands, Arrives}
-use Rattle.cq_begin.specs.Stops.{FaultStops, waiting_in}
+use Rattle.spec_stops.specs.Causes.{Budgets}
+use Rattle.cq_control.specs.Items.{items_at}
+use Rattle.cq_program.specs.Database.{Program, as_database}
+use Rattle.cq_stored.specs.StoredValue.{StoredValue}
+use Rattle.cq_steps.specs.Marks.{IsFront}
+use Rattle.cq_steps.specs.Stored.{IsCountedTerm}
+use Rattle.cq_steps.specs.Worlds.{Stands}
+use Rattle.cq_begin.specs.Stops.{waiting_in}
 use Rattle.cq_ways.specs.Held.{Held, stack_of}
+use Rattle.cq_saved.specs.Taking.{Escapes}
+use Rattle.cq_matching.specs.Matching.{Reaches}
 use Rattle.cq_find.specs.declared.finding.Next.{Next}
-use Rattle.cq_find.specs.declared.finding.Next.TheVariants.{Goes, Over}
+use Rattle.cq_find.specs.declared.finding.Next.TheVariants as next
+use Rattle.cq_find.specs.declared.finding.Next.TheVariants.{Goes}
+use Rattle.cq_find.specs.declared.finding.Found.{Found}
+use Rattle.cq_find.specs.declared.finding.Found.TheVariants as found
+use Rattle.cq_find.specs.declared.finding.Found.TheVariants.{Front}
 
--- the engine, which goes on so, stands for some search
-abbrev pub IsGoing : Program → Held → Option ℕ → Type 0
-IsGoing v h current = (db : Database) × (n : ℕ) × (s : Search) × Stands h.texts v db n h.saved h.choices h.now current s
+-- the choices stand for fewer branches, or are fewer and stand for no more
+abbrev pub AreFewer : Program → Held → Program → Held → Type 0
+AreFewer v old w new = waiting_in (stack_of w new) < waiting_in (stack_of v old)
 
--- each search for which it stood comes quietly to one for which it stands now
-abbrev pub Reaches : Program → Held → Option ℕ → Held → Option ℕ → Type 0
-Reaches v old start new current = (steps : ℕ) (db : Database) (n : ℕ) (s : Search) → Stands old.texts v db n old.saved old.choices old.now start s
-    → Arrives steps new.texts v db n new.saved new.choices new.now current s
-
--- each search for which it stands comes quietly to where its query stops for the fault
-abbrev pub AllStopFrom : Program → Held → Option ℕ → ℕ → StoreFault → Type 0
-AllStopFrom v h current pivots fault =
-    (db : Database) (n : ℕ) (s : Search) → Stands h.texts v db n h.saved h.choices h.now current s → FaultStops pivots fault s
+-- each search for which it stood tells a ball next that nothing catches, which is stored so; the engine stands for the search then
+abbrev pub ThrowsFrom : Program → Held → Option ℕ → Program → Held → StoredValue → Type 0
+ThrowsFrom v old start w new stored = (budgets : Budgets) (ops : Ops) (n : ℕ) (s : Search)
+    → Stands old.texts v (as_database old.texts ops v) n old.saved old.choices old.now start s
+    → Escapes budgets w new stored (as_database new.texts ops w) n s
 
 -- ---- the newest choice
 
--- what the engine goes on with
-abbrev pub goes_to : Next → Option ℕ
-goes_to (Goes k) = k
-goes_to Over = None
+-- what the engine comes to from there
+abbrev pub NextIs : Program → Held → Program → Held → Next → Type 0
+NextIs v old w new (Goes k) = Reaches v old None w new k × AreFewer v old w new
+NextIs v old w new (next.Escaped ball) = ThrowsFrom v old None w new ball × IsCountedTerm (length new.texts) ball × (new.choices ≡ [])
+NextIs v old w new next.Over = Reaches v old None w new None × (new.choices ≡ [])
 
--- a fact, where it goes on
-abbrev pub IfGoes : Next → Type 0 → Type 0
-IfGoes (Goes k) P = P
-IfGoes Over P = ⊤
-
--- a fact, where no choice is left
-abbrev pub IfOver : Next → Type 0 → Type 0
-IfOver (Goes k) P = ⊤
-IfOver Over P = P
-
--- the choices stand for fewer branches, or are fewer and stand for no more
-abbrev pub AreFewer : Program → Held → Held → Type 0
-AreFewer v old new = waiting_in (stack_of v new) < waiting_in (stack_of v old)
+-- what it comes to at last: something in front of a continuation, or no branch is left
+abbrev pub FoundIs : Program → Held → Option ℕ → Program → Held → Found → Type 0
+FoundIs v old start w new (Front k) = Reaches v old start w new (Some k) × IsFront (items_at new.now.1 k)
+FoundIs v old start w new (found.Escaped ball) = ThrowsFrom v old start w new ball × IsCountedTerm (length new.texts) ball × (new.choices ≡ [])
+FoundIs v old start w new found.Over = Reaches v old start w new None × (new.choices ≡ [])

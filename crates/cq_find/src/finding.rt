@@ -1,58 +1,73 @@
 // A goal in front is found.
 
-ghost use Rattle.std.specs.Prelude.{◌≡◌, ◌<◌, [], None, IfNone, IfOk, IfErr, IfSome, OnErr};
+ghost use Rattle.std.specs.Prelude.{◌≡◌, None, IfOk, IfErr, OnErr};
 ghost use Rattle.spec_lists.specs.Prefixes.{IsPrefix};
 ghost use Rattle.cq_atoms.specs.Texts.{AreDifferent};
-ghost use Rattle.cq_control.specs.Items.{items_at};
-ghost use Rattle.cq_steps.specs.Marks.{IsFront, IsCall};
+ghost use Rattle.cq_steps.specs.Marks.{IsCall};
 ghost use Rattle.cq_ways.specs.Held.{held, HasMarks, IsOver};
-ghost use Rattle.cq_find.specs.Finding.{IsGoing, Reaches, AllStopFrom, AreFewer, IfGoes, IfOver, goes_to};
+ghost use Rattle.cq_matching.specs.Matching.{IsGoing, Reaches, AllStop};
+ghost use Rattle.cq_find.specs.Finding.{NextIs, FoundIs};
 
 use cq_atoms::Atoms;
 use cq_calls::try_clauses;
 use cq_clauses::Clauses;
 use cq_control::{Choices, Continuation};
 use cq_linear::store::StoreFault;
+use cq_matching::try_matches;
 use cq_program::ProgramClause;
+use cq_saved::{Taken, try_caught, try_gathered};
 use cq_steps::{Alternatives, Searching, find_front};
-use cq_ways::try_ways;
+use cq_stored::StoredTerm;
+use cq_ways::{names_may_be_added, try_ways};
 
 /// Where a search goes on from its newest choice.
-#[derive(Clone, Copy)]
+#[derive(Drop)]
 enum Next {
     /// With the branch of this continuation; without one it comes back to the choice that is the newest then.
     Goes(Option<Continuation>),
+    /// A ball that nothing catches ends it.
+    Escaped(StoredTerm),
     /// No choice is left.
     Over,
 }
 
-/// Tries what the newest choice leaves, which is a call's clauses or a predicate's alternatives, if there is a choice.
+/// What a search comes to before it selects a goal.
+#[derive(Drop)]
+pub enum Found {
+    /// A goal is in front of this continuation, or the mark of a findall, or nothing is left to do.
+    Front(Continuation),
+    /// A ball that nothing catches. No branch is left.
+    Escaped(StoredTerm),
+    /// No branch is left.
+    Over,
+}
+
+/// Tries what the newest choice leaves, if there is a choice. After an error what was being tried is still there, and no clause is
+/// removed.
 fn try_newest(
     world: &mut Searching,
     choices: &mut Choices<Alternatives>,
     atoms: &mut Atoms,
-    clauses: &Clauses<ProgramClause>,
+    clauses: &mut Clauses<ProgramClause>,
 ) -> Result<Next, StoreFault>
     requires different { AreDifferent atoms.old }
-    requires over { IsOver clauses.now (held atoms.old world.old.first world.old.second choices.old) }
+    requires over { IsOver clauses.old (held atoms.old world.old.first world.old.second choices.old) }
     requires marked { HasMarks (held atoms.old world.old.first world.old.second choices.old) }
     requires newest { IsCall choices.old }
-    requires works { IsGoing clauses.now (held atoms.old world.old.first world.old.second choices.old) None }
-    ensures comes { IfOk result (λ next. Reaches clauses.now (held atoms.old world.old.first world.old.second choices.old) None
-        (held atoms.new world.new.first world.new.second choices.new) (goes_to next)) }
-    ensures err { OnErr result (Reaches clauses.now (held atoms.old world.old.first world.old.second choices.old) None
-        (held atoms.new world.new.first world.new.second choices.new) None) }
-    ensures stops { IfErr result (AllStopFrom clauses.now (held atoms.old world.old.first world.old.second choices.old) None
-        world.old.first.store.pivots) }
-    ensures none_left { IfOk result (λ next. IfOver next (choices.new ≡ [])) }
-    ensures fewer { IfOk result (λ next. IfGoes next (AreFewer clauses.now (held atoms.old world.old.first world.old.second choices.old)
-        (held atoms.new world.new.first world.new.second choices.new))) }
-    ensures over { IsOver clauses.now (held atoms.new world.new.first world.new.second choices.new) }
+    requires works { IsGoing clauses.old (held atoms.old world.old.first world.old.second choices.old) None }
+    ensures next { IfOk result (NextIs clauses.old (held atoms.old world.old.first world.old.second choices.old)
+        clauses.new (held atoms.new world.new.first world.new.second choices.new)) }
+    ensures err { OnErr result (Reaches clauses.old (held atoms.old world.old.first world.old.second choices.old) None
+        clauses.new (held atoms.new world.new.first world.new.second choices.new) None) }
+    ensures stops { IfErr result (AllStop clauses.old (held atoms.old world.old.first world.old.second choices.old) None
+        clauses.new (held atoms.new world.new.first world.new.second choices.new) world.old.first.store.pivots) }
+    ensures over { IsOver clauses.new (held atoms.new world.new.first world.new.second choices.new) }
     ensures different { AreDifferent atoms.new }
     ensures longer { IsPrefix atoms.old atoms.new }
     ensures budget { world.new.first.store.pivots ≡ world.old.first.store.pivots }
     ensures marked { HasMarks (held atoms.new world.new.first world.new.second choices.new) }
 {
+    names_may_be_added();
     let Some(newest) = choices.top() else {
         return Ok(Next::Over);
     };
@@ -65,33 +80,47 @@ fn try_newest(
             Ok(next) => Ok(Next::Goes(next)),
             Err(fault) => Err(fault),
         },
+        Alternatives::Caught(_, _, _, _) => match try_caught(world, choices, atoms) {
+            Ok(taken) => match taken {
+                Taken::Goes(first) => Ok(Next::Goes(Some(first))),
+                Taken::HandedOn => Ok(Next::Goes(None)),
+                Taken::Escaped(ball) => Ok(Next::Escaped(ball)),
+            },
+            Err(fault) => Err(fault),
+        },
+        Alternatives::Gathers(_, _, _) => match try_gathered(world, choices, atoms) {
+            Ok(next) => Ok(Next::Goes(next)),
+            Err(fault) => Err(fault),
+        },
+        Alternatives::Matches(_, _, _, _) => match try_matches(world, choices, atoms, clauses) {
+            Ok(next) => Ok(Next::Goes(next)),
+            Err(fault) => Err(fault),
+        },
         _ => unreachable!(),
     }
 }
 
-/// An engine goes on to where a goal is in front or nothing is left to do; None where no branch is left. Marks in front are
-/// passed, and choices are come back to. After an error the engine is one that comes back to its newest choice: what was being
-/// tried is still there, so that another call goes on to it.
+/// An engine goes on to where a goal is in front, or the mark of a findall, or nothing is left to do. Marks in front are passed, and
+/// choices are come back to: a clause that a goal removes is gone then. After an error the engine is one that comes back to its newest
+/// choice: what was being tried is still there, so that another call goes on to it.
 pub fn find(
     world: &mut Searching,
     choices: &mut Choices<Alternatives>,
     atoms: &mut Atoms,
-    clauses: &Clauses<ProgramClause>,
+    clauses: &mut Clauses<ProgramClause>,
     start: Option<Continuation>,
-) -> Result<Option<Continuation>, StoreFault>
+) -> Result<Found, StoreFault>
     requires different { AreDifferent atoms.old }
-    requires over { IsOver clauses.now (held atoms.old world.old.first world.old.second choices.old) }
+    requires over { IsOver clauses.old (held atoms.old world.old.first world.old.second choices.old) }
     requires marked { HasMarks (held atoms.old world.old.first world.old.second choices.old) }
-    requires works { IsGoing clauses.now (held atoms.old world.old.first world.old.second choices.old) start }
-    ensures comes { IfOk result (Reaches clauses.now (held atoms.old world.old.first world.old.second choices.old) start
-        (held atoms.new world.new.first world.new.second choices.new)) }
-    ensures err { OnErr result (Reaches clauses.now (held atoms.old world.old.first world.old.second choices.old) start
-        (held atoms.new world.new.first world.new.second choices.new) None) }
-    ensures stops { IfErr result (AllStopFrom clauses.now (held atoms.old world.old.first world.old.second choices.old) start
-        world.old.first.store.pivots) }
-    ensures front { IfOk result (λ o. IfSome o (λ k. IsFront (items_at world.new.second.now k))) }
-    ensures none_left { IfOk result (λ o. IfNone o (choices.new ≡ [])) }
-    ensures over { IsOver clauses.now (held atoms.new world.new.first world.new.second choices.new) }
+    requires works { IsGoing clauses.old (held atoms.old world.old.first world.old.second choices.old) start }
+    ensures found { IfOk result (FoundIs clauses.old (held atoms.old world.old.first world.old.second choices.old) start
+        clauses.new (held atoms.new world.new.first world.new.second choices.new)) }
+    ensures err { OnErr result (Reaches clauses.old (held atoms.old world.old.first world.old.second choices.old) start
+        clauses.new (held atoms.new world.new.first world.new.second choices.new) None) }
+    ensures stops { IfErr result (AllStop clauses.old (held atoms.old world.old.first world.old.second choices.old) start
+        clauses.new (held atoms.new world.new.first world.new.second choices.new) world.old.first.store.pivots) }
+    ensures over { IsOver clauses.new (held atoms.new world.new.first world.new.second choices.new) }
     ensures different { AreDifferent atoms.new }
     ensures longer { IsPrefix atoms.old atoms.new }
     ensures budget { world.new.first.store.pivots ≡ world.old.first.store.pivots }
@@ -100,11 +129,14 @@ pub fn find(
     let mut current = start;
     'choices: loop {
         if let Some(front) = find_front(world, choices, current) {
-            return Ok(Some(front));
+            return Ok(Found::Front(front));
         }
         match try_newest(world, choices, atoms, clauses) {
-            Ok(Next::Goes(next)) => current = next,
-            Ok(Next::Over) => return Ok(None),
+            Ok(next) => match next {
+                Next::Goes(next) => current = next,
+                Next::Escaped(ball) => return Ok(Found::Escaped(ball)),
+                Next::Over => return Ok(Found::Over),
+            },
             Err(fault) => return Err(fault),
         }
     }

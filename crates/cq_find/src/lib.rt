@@ -3,4 +3,4 @@
 
 mod finding;
 
-pub use finding::find;
+pub use finding::{Found, find};

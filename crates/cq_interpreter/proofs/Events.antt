@@ -1,17 +1,21 @@
 -- What an engine tells is what its interpreter tells.
-use Rattle.std.proofs.Common.{◌≡◌, ℕ, ◌<◌, List, length, map, refl, sym, ap, ◌∙◌, subst, arith}
+use Rattle.std.proofs.Common.{◌≡◌, ℕ, ◌<◌, ◌++◌, List, codes, length, map, refl, sym, ap, ◌∙◌, subst, arith}
 use Rattle.std.specs.Prelude.{All}
 use Rattle.std.proofs.lemmas.List.Elements.{All-weaker}
 use Rattle.spec_echelon.specs.Echelon.{AreDistinct}
 use Rattle.spec_terms.specs.VariableName.{VariableName}
-use Rattle.spec_branch.specs.Branch.{plain_copy}
 use Rattle.spec_search.specs.Database.{Database}
 use Rattle.spec_search.specs.Search.{Search}
 use Rattle.spec_stops.specs.Causes.{Budgets}
 use Rattle.spec_machine.specs.Coming.{Told}
 use Rattle.spec_transcript.specs.Purposes.{ball_line}
-use Rattle.cq_term.specs.Trees.{tree}
-use Rattle.cq_machine.specs.Machines.{database_of, terms}
+use Rattle.spec_lists.specs.Texts.{Text}
+use Rattle.spec_operators.specs.Operators.{Ops}
+use Rattle.spec_renumbered.proofs.Names.{written_same}
+use Rattle.spec_syntax.specs.Trees.{Tree}
+use Rattle.spec_terms.specs.Variables.{renamed_from}
+use Rattle.spec_writing.specs.declared.Style.TheVariants.{Quoted}
+use Rattle.cq_machine.specs.Machines.{database_of}
 use Rattle.cq_engine.specs.Fronts.{as_cause}
 use Rattle.cq_events.specs.Events as engine
 use Rattle.cq_events.specs.Events.{IsRunning, HasBudgets, Stands, Gives, GivesNext, HasCounted}
@@ -23,11 +27,15 @@ use Rattle.cq_transcript.specs.declared.interpreter.Event.{Event}
 use Rattle.cq_transcript.specs.declared.interpreter.Event.TheVariants as event
 use Rattle.cq_interpreter.specs.Counted.{AllCount}
 use Rattle.cq_interpreter.specs.Numbered.{AreNumbered}
-use Rattle.cq_interpreter.specs.Told.{HasTerm, IsTold}
+use Rattle.cq_interpreter.specs.Told.{HasBall, IsTold}
 use Rattle.cq_interpreter.specs.Toplevels.{images, program_of, budgets_of, left_of, IsAsking, HasAnswered}
 use Rattle.cq_interpreter.specs.declared.toplevel.Toplevel.{Toplevel}
 use Rattle.cq_interpreter.proofs.Counting.{told_counts, quietly_counts, answer_counts}
 use Rattle.cq_interpreter.proofs.Naming.{all_below, distinct}
+
+-- the line of a ball says nothing of the numbers of its variables
+line_of_renamed : (ops : Ops) (t : Tree) → ball_line ops (renamed_from 0 t) ≡ ball_line ops t
+line_of_renamed ops t = ap (λ (x : Text). codes "error: " ++ x ++ codes "\n") (written_same Quoted ops 1200 t)
 
 pub its_budgets : (t : Toplevel) (s : Search) → IsAsking t s → HasBudgets (budgets_of t) t.engine
 its_budgets t s asking = record { steps = sym asking.steps; pivots = refl }
@@ -89,16 +97,17 @@ module _ (old new : Toplevel) (names : new.names.items ≡ old.names.items) (run
       })
   is_event s asking told.Fail g f t =
       subst (IsEvent (budgets_of old) (IsAsking new) (HasAnswered new) (program_of old) (program_of new) s) (sym t) (tells_at s _ g)
-  is_event s asking (told.Ball id) g (event.Ball line) t =
+  is_event s asking (told.Ball stored) g (event.Ball line) t =
       let m = new.engine.machine in (
-        plain_copy (tree m.atoms (terms m) id),
+        g.ball,
         tells_at s _ g.tells,
-        t ∙ ap (λ (d : Database). ball_line d.operators (tree m.atoms (terms m) id)) (sym g.tells.stands.database),
+        t ∙ ap (ball_line (database_of m).operators) g.is_stored.renamed ∙ line_of_renamed (database_of m).operators g.ball.term
+            ∙ ap (λ (d : Database). ball_line d.operators g.ball.term) (sym g.tells.stands.database),
       )
-  is_event s asking (told.Ball id) g (event.Wrote text) t = absurd t
-  is_event s asking (told.Ball id) g event.Answer t = absurd t
-  is_event s asking (told.Ball id) g event.Fail t = absurd t
-  is_event s asking (told.Ball id) g (event.Stop line) t = absurd t
+  is_event s asking (told.Ball stored) g (event.Wrote text) t = absurd t
+  is_event s asking (told.Ball stored) g event.Answer t = absurd t
+  is_event s asking (told.Ball stored) g event.Fail t = absurd t
+  is_event s asking (told.Ball stored) g (event.Stop line) t = absurd t
   is_event s asking (told.Stop cause) g (event.Stop line) t =
       (as_cause cause, record { after = g.last; tells = g.tells; program = λ i. record { database = sym g.database i; later = goals i } }, t)
   is_event s asking (told.Stop cause) g (event.Wrote text) t = absurd t
@@ -111,21 +120,21 @@ module _ (old new : Toplevel) (names : new.names.items ≡ old.names.items) (run
   takes (told.Output text) h same f t = (let within = running.within in subst (TakesFrom (left_of old) (left_of new)) (sym t) (omega (arith, h, same, within)))
   takes told.Answer h same f t = subst (TakesFrom (left_of old) (left_of new)) (sym t) (omega (arith, h, same))
   takes told.Fail h same f t = subst (TakesFrom (left_of old) (left_of new)) (sym t) tt
-  takes (told.Ball id) h same (event.Ball line) t = tt
-  takes (told.Ball id) h same (event.Wrote text) t = absurd t
-  takes (told.Ball id) h same event.Answer t = absurd t
-  takes (told.Ball id) h same event.Fail t = absurd t
-  takes (told.Ball id) h same (event.Stop line) t = absurd t
+  takes (told.Ball stored) h same (event.Ball line) t = tt
+  takes (told.Ball stored) h same (event.Wrote text) t = absurd t
+  takes (told.Ball stored) h same event.Answer t = absurd t
+  takes (told.Ball stored) h same event.Fail t = absurd t
+  takes (told.Ball stored) h same (event.Stop line) t = absurd t
   takes (told.Stop cause) h same (event.Stop line) t = tt
   takes (told.Stop cause) h same (event.Wrote text) t = absurd t
   takes (told.Stop cause) h same event.Answer t = absurd t
   takes (told.Stop cause) h same event.Fail t = absurd t
   takes (told.Stop cause) h same (event.Ball line) t = absurd t
 
--- the term of a ball that is told is there
-pub term_there : (b : Budgets) (e : Engine) (s : Search) (what : events.Event) → Gives b e what s → HasTerm e.machine what
-term_there b e s (told.Ball id) g = (g.live, g.sound.names)
-term_there b e s told.Answer g = tt
-term_there b e s (told.Output text) g = tt
-term_there b e s told.Fail g = tt
-term_there b e s (told.Stop cause) g = tt
+-- the names of a ball that is told have texts
+pub ball_there : (b : Budgets) (e : Engine) (s : Search) (what : events.Event) → Gives b e what s → HasBall e.machine what
+ball_there b e s (told.Ball stored) g = g.counted.below
+ball_there b e s told.Answer g = tt
+ball_there b e s (told.Output text) g = tt
+ball_there b e s told.Fail g = tt
+ball_there b e s (told.Stop cause) g = tt

@@ -7,3 +7,5 @@ pub mod Events
 pub mod Taking
 pub mod Answered
 pub mod Restoring
+pub mod Asking
+pub mod Valued

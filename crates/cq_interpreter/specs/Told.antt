@@ -1,14 +1,15 @@
 -- What an engine tells, and what is written of it.
-use Rattle.std.specs.Prelude.{◌≡◌, ◌<◌, ℕ, length, Result, Ok, Err, Vec, ⊤}
+use Rattle.std.specs.Prelude.{◌≡◌, ℕ, length, Result, Ok, Err, Vec, ⊤}
 use Rattle.std.specs.declared.alloc.Global.{Global}
 use Rattle.spec_stops.specs.Causes as why
 use Rattle.spec_stops.specs.Causes.{Cause, stop_text}
 use Rattle.spec_transcript.specs.Purposes.{ball_line}
-use Rattle.cq_term.specs.Trees.{tree, KnowsTerms}
+use Rattle.cq_steps.specs.Stored.{stored_tree}
+use Rattle.cq_term.specs.Names.{HasNamesBelow}
 use Rattle.cq_eliminate.specs.declared.ProjectFault.{ProjectFault}
 use Rattle.cq_eliminate.specs.declared.ProjectFault.TheVariants.{Overflow, Pivots, Rows, NoMemory}
 use Rattle.cq_machine.specs.declared.machine.Machine.{Machine}
-use Rattle.cq_machine.specs.Machines.{terms, database_of}
+use Rattle.cq_machine.specs.Machines.{database_of}
 use Rattle.cq_engine.specs.Fronts.{as_cause}
 use Rattle.cq_events.specs.declared.event.Event as events
 use Rattle.cq_events.specs.declared.event.Event.TheVariants as told
@@ -17,21 +18,21 @@ use Rattle.cq_transcript.specs.declared.interpreter.Answered.TheVariants as answ
 use Rattle.cq_transcript.specs.declared.interpreter.Event.{Event}
 use Rattle.cq_transcript.specs.declared.interpreter.Event.TheVariants as event
 
--- the term of a ball is there, with names that are known
-abbrev pub HasTerm : Machine → events.Event → Type 0
-HasTerm m (told.Ball id) = (id < length (terms m)) × KnowsTerms m.atoms (terms m)
-HasTerm m told.Answer = ⊤
-HasTerm m (told.Output text) = ⊤
-HasTerm m told.Fail = ⊤
-HasTerm m (told.Stop cause) = ⊤
+-- the names of a ball have texts
+abbrev pub HasBall : Machine → events.Event → Type 0
+HasBall m (told.Ball stored) = HasNamesBelow (length m.atoms) stored.term
+HasBall m told.Answer = ⊤
+HasBall m (told.Output text) = ⊤
+HasBall m told.Fail = ⊤
+HasBall m (told.Stop cause) = ⊤
 
 -- it is the same, with the line of a ball or a stop
 abbrev pub IsTold : Machine → events.Event → Event → Type 0
 IsTold m (told.Output text) e = e ≡ event.Wrote text
 IsTold m told.Answer e = e ≡ event.Answer
 IsTold m told.Fail e = e ≡ event.Fail
-IsTold m (told.Ball id) (event.Ball line) = line.items ≡ ball_line (database_of m).operators (tree m.atoms (terms m) id)
-IsTold m (told.Ball id) e = ⊥
+IsTold m (told.Ball stored) (event.Ball line) = line.items ≡ ball_line (database_of m).operators (stored_tree m.atoms stored)
+IsTold m (told.Ball stored) e = ⊥
 IsTold m (told.Stop cause) (event.Stop line) = line.now ≡ stop_text (as_cause cause)
 IsTold m (told.Stop cause) e = ⊥
 

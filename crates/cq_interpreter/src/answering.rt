@@ -1,9 +1,9 @@
 // What a query tells, with the lines that are written beside answers.
 
 ghost use Rattle.std.specs.Prelude.{IfOk};
-ghost use Rattle.cq_interpreter.specs.Told.{HasTerm, IsTold, IsWritten};
+ghost use Rattle.cq_interpreter.specs.Told.{HasBall, IsTold, IsWritten};
 
-use crate::lines::{ball_line, stop_line};
+use crate::lines::{stop_line, stored_line};
 use cq_eliminate::ProjectFault;
 use cq_events::Event as Told;
 use cq_machine::Machine;
@@ -12,14 +12,14 @@ use std::alloc::AllocError;
 
 /// What an engine told, with its line.
 pub(crate) fn told(machine: &Machine, event: Told) -> Result<Event, AllocError>
-    requires { HasTerm machine.now event }
+    requires { HasBall machine.now event }
     ensures { IfOk result (IsTold machine.now event) }
 {
     match event {
         Told::Output(text) => Ok(Event::Wrote(text)),
         Told::Answer => Ok(Event::Answer),
         Told::Fail => Ok(Event::Fail),
-        Told::Ball(ball) => Ok(Event::Ball(ball_line(machine, ball)?)),
+        Told::Ball(ball) => Ok(Event::Ball(stored_line(machine, &ball)?)),
         Told::Stop(cause) => Ok(Event::Stop(stop_line(cause))),
     }
 }

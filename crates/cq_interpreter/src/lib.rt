@@ -2,6 +2,8 @@
 #![tactic(auto)]
 
 mod answering;
+mod examining;
+mod generated;
 mod goals;
 mod interpreter;
 mod lines;

@@ -11,6 +11,7 @@ use cq_names::VariableName;
 use cq_ops::more_names_keep_the_table;
 use cq_program::{changes_are_those_of_the_database, programs_stay_programs};
 use cq_stored::Clause;
+use cq_ways::names_may_be_added;
 use std::alloc::{AllocError, Global};
 use std::collections::VecDeque;
 
@@ -46,6 +47,7 @@ fn intern(machine: &mut Machine, text: &str) -> Result<Atom, AllocError>
     changes_are_those_of_the_database();
     programs_stay_programs();
     more_names_keep_the_table();
+    names_may_be_added();
     let name = machine.atoms.intern(text)?;
     Ok(name)
 }

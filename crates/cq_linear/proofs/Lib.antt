@@ -19,3 +19,4 @@ pub mod Concluded
 pub mod Alone
 pub mod Valued
 pub mod Spent
+pub mod Possible

@@ -8,7 +8,7 @@ use Rattle.spec_rational.proofs.Rational.{ring}
 use Rattle.spec_rational.proofs.Order.{le_refl}
 use Rattle.spec_linear.specs.declared.Relation.TheVariants.{Gt, Ne}
 use Rattle.spec_linear.specs.Form.{Linear, value_at, negated_form}
-use Rattle.spec_linear.specs.Solution.{Constraint, Satisfies}
+use Rattle.spec_linear.specs.Solution.{Constraint, Satisfies, Unsolvable}
 use Rattle.spec_linear.proofs.Values.{value_at-negated_form}
 use Rattle.spec_inequalities.specs.Certificate.{member, Refutes}
 use Rattle.spec_inequalities.specs.Weak.{weak}
@@ -41,6 +41,7 @@ use Rattle.cq_tableau.proofs.Tied.{maximum}
 use Rattle.cq_tableau.proofs.Weights.{weighs, form_weighs, inequality_falls, disequation_falls}
 use Rattle.cq_linear.specs.StoreValue.{IsCallList, in_force, joined, MayRefuse, MayTake, Only}
 use Rattle.cq_linear.proofs.Moments.{between_of, speaks_of, asked_form_refused, asked_refused, asked_spent}
+use Rattle.cq_linear.proofs.Possible.{too_small_never}
 use Rattle.cq_linear.proofs.Stops.{has_member}
 
 -- ---- what is asked
@@ -181,6 +182,13 @@ module _ (told : List Constraint) (names : List Name) (q : Quantities) (s : IsSt
       (subst (λ f. IsGreatest told f v)
       (form_here told new_names a.before there c a.entries a.placed mid.roles a.row a.defines a.table mid.restricted a.flags n a.number) best) small (length told + 1) refl cert
       (subst (λ y. IsRestoredCertificate new_names y new new_flags (length told + 1) cert) a.number x)
+
+  -- it can't join
+  pub best_never : IsInequality c.relation → IsTooSmall c.relation v → Unsolvable (told ++ c ∷ [])
+  best_never i small =
+      too_small_never told c i v
+      (subst (λ f. IsGreatest told f v)
+      (form_here told new_names a.before there c a.entries a.placed mid.roles a.row a.defines a.table mid.restricted a.flags n a.number) best) small
 
   form_knows : (x : ℕ) → Mentions x c.form.products → IsKnown new_names x
   form_knows x m = placed_known new_names c.form.products a.entries a.placed x m

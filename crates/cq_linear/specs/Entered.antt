@@ -1,7 +1,7 @@
 -- What entering a constraint came to.
-use Rattle.std.specs.Prelude.{ℕ, List, [], ◌∷◌, ◌++◌, ⊤, Result, IfOk}
+use Rattle.std.specs.Prelude.{ℕ, List, [], ◌∷◌, ◌++◌, ⊤, Bool, Result, IfOk, MatchBool}
 use Rattle.spec_rational.specs.Rational.{ℚ}
-use Rattle.spec_linear.specs.Solution.{Constraint}
+use Rattle.spec_linear.specs.Solution.{Constraint, Solvable, Unsolvable}
 use Rattle.spec_inequalities.specs.Certificate.{Refutes}
 use Rattle.cq_frac.specs.declared.VarId.{VarId}
 use Rattle.cq_dict.specs.Roles.{Quantities}
@@ -28,3 +28,7 @@ IsJoined result told c names q = IfOk result (λ e. IfJoined e (λ fixed. JoinsS
 -- of one that contradicts the told list, the certificate shows so
 abbrev pub IsRefuted : Result Entered StoreFault → List Constraint → Constraint → Type 0
 IsRefuted result told c = IfOk result (λ e. IfContradiction e (λ cert. Refutes cert (told ++ c ∷ [])))
+
+-- what a test tells whether the constraint can hold together with the told list
+abbrev pub CanJoin : List Constraint → Constraint → Bool → Type 0
+CanJoin told c joins = MatchBool joins (Solvable (told ++ c ∷ [])) (Unsolvable (told ++ c ∷ []))

@@ -1,8 +1,8 @@
 //! The steps of telling a constraint. Where one of them is refused, the store is left between marks, to be undone.
 
-ghost use Rattle.std.specs.Prelude.{◌≡◌, ◌≤◌, ℕ, [], ◌∷◌, ◌++◌, IfOk, MatchBool};
+ghost use Rattle.std.specs.Prelude.{◌≡◌, ◌≤◌, ℕ, List, [], ◌∷◌, ◌++◌, IfOk, MatchBool};
 ghost use Rattle.spec_linear.specs.declared.Relation.TheVariants.{Ne};
-ghost use Rattle.spec_linear.specs.Solution.{Solvable, Unsolvable};
+ghost use Rattle.spec_linear.specs.Solution.{Constraint, Solvable, Unsolvable};
 ghost use Rattle.spec_limits.specs.Asked.{NoQuestion};
 ghost use Rattle.spec_projection.specs.Elimination.{IsInequality};
 ghost use Rattle.spec_lists.specs.Prefixes.{IsPrefix};
@@ -10,13 +10,17 @@ ghost use Rattle.cq_frac.specs.declared.Pair.{Pair};
 ghost use Rattle.cq_linear.specs.declared.store.StoreFault.TheVariants.{Overflow, Pivots};
 ghost use Rattle.cq_linear.specs.StoreValue.{MayRefuse, MayTake, Only};
 ghost use Rattle.cq_dict.specs.DictValue.{quantities_of};
-ghost use Rattle.cq_linear.specs.Entered.{IfJoined, IsJoined, IsRefuted};
+ghost use Rattle.cq_dict.specs.Roles.{Quantities};
+ghost use Rattle.cq_tableau.specs.declared.names.Name.{Name};
+ghost use Rattle.cq_linear.specs.Entered.{IfJoined, IfContradiction, IsJoined, IsRefuted, CanJoin};
+ghost use Rattle.cq_linear.specs.Questions.{OfStored};
 ghost use Rattle.cq_linear.specs.Faced.{IsOnFace};
-ghost use Rattle.cq_tableau.specs.Stored.{IsStored};
+ghost use Rattle.cq_tableau.specs.Stored.{IsStored, JoinsStored};
+ghost use Rattle.spec_inequalities.specs.Certificate.{Refutes};
 ghost use Rattle.cq_tableau.specs.Numbered.{AreNumbered};
 
 use crate::asking::{ask, is_zero};
-use crate::equating::enter_equation;
+use crate::equating::{can_enter_equation, enter_equation};
 use crate::facing::face;
 use crate::falling::fallen_certificate;
 use crate::store::StoreFault;
@@ -253,6 +257,110 @@ pub fn enter(
     }
 }
 
+/// Whether a constraint joined, by what entering it came to.
+pub fn has_joined(entered: Entered) -> bool
+    ensures { (told : List Constraint) (c : Constraint) (names : List Name) (q : Quantities) → IfJoined entered (λ fixed. JoinsStored told c fixed names q)
+        → IfContradiction entered (λ cert. Refutes cert (told ++ c ∷ [])) → CanJoin told c result }
+{
+    match entered {
+        Entered::Joined(_) => true,
+        Entered::Contradiction(_) => false,
+    }
+}
+
+/// Whether an inequality can join. No certificate is sought where its form stays too small.
+fn can_enter_inequality(
+    alloc: Global,
+    pivots: u64,
+    numbers: &mut IndexMap<VarId, usize>,
+    names: &mut Stack<Name>,
+    dict: &mut Dict,
+    told: &[Constraint],
+    c: &Constraint,
+) -> Result<bool, StoreFault>
+    requires inequality { IsInequality c.now.relation }
+    requires numbered { AreNumbered names.old.now numbers.old.entries }
+    requires stored { IsStored told.now names.old.now (quantities_of dict.old) }
+    ensures solvable { IfOk result (CanJoin told.now c.now) }
+    ensures overflow { (pair : Pair) → result ≡ Err (Overflow pair) → MayRefuse told.now (Only c.now) NoQuestion pair }
+    ensures pivots { (n : ℕ) → result ≡ Err (Pivots n) → (n ≡ pivots) × MayTake told.now (Only c.now) NoQuestion n }
+    ensures grows { IsPrefix names.old.now names.new.now }
+    ensures numbered { AreNumbered names.new.now numbers.new.entries }
+    ensures names_saved { names.new.saved ≡ names.old.saved }
+    ensures names_room { names.old.room ≤ names.new.room }
+    ensures dict_saved { dict.new.saved ≡ dict.old.saved }
+    ensures dict_room { dict.old.room ≤ dict.new.room }
+{
+    let q = ask(alloc, numbers, names, dict, &c.form)?;
+    match raise(dict, alloc, q, pivots)? {
+        Raised::Rises => Ok(true),
+        Raised::Best(highest, columns) => {
+            if is_refused(c.relation, highest) {
+                return Ok(false);
+            }
+            let entered = enter_on_face(alloc, pivots, numbers, names, dict, told, c, q, &columns)?;
+            Ok(has_joined(entered))
+        }
+    }
+}
+
+/// Whether a disequation can join: it can't just where its form is zero. No certificate is sought then.
+fn can_enter_disequation(
+    alloc: Global,
+    numbers: &mut IndexMap<VarId, usize>,
+    names: &mut Stack<Name>,
+    dict: &mut Dict,
+    c: &Constraint,
+) -> Result<bool, StoreFault>
+    requires disequation { c.now.relation ≡ Ne }
+    requires numbered { AreNumbered names.old.now numbers.old.entries }
+    requires stored { (told : List Constraint) × IsStored told names.old.now (quantities_of dict.old) }
+    ensures solvable { IfOk result (λ yes. OfStored names.old.now (quantities_of dict.old) (λ told. CanJoin told c.now yes)) }
+    ensures overflow { (pair : Pair) → result ≡ Err (Overflow pair)
+        → OfStored names.old.now (quantities_of dict.old) (λ told. MayRefuse told (Only c.now) NoQuestion pair) }
+    ensures pivots { (n : ℕ) → result ≡ Err (Pivots n) → ⊥ }
+    ensures grows { IsPrefix names.old.now names.new.now }
+    ensures numbered { AreNumbered names.new.now numbers.new.entries }
+    ensures names_saved { names.new.saved ≡ names.old.saved }
+    ensures names_room { names.old.room ≤ names.new.room }
+    ensures dict_saved { dict.new.saved ≡ dict.old.saved }
+    ensures dict_room { dict.old.room ≤ dict.new.room }
+{
+    let q = ask(alloc, numbers, names, dict, &c.form)?;
+    Ok(!is_zero(dict, q))
+}
+
+/// Whether a constraint of any relation can join.
+fn can_enter_behind(
+    alloc: Global,
+    pivots: u64,
+    numbers: &mut IndexMap<VarId, usize>,
+    names: &mut Stack<Name>,
+    dict: &mut Dict,
+    told: &[Constraint],
+    c: &Constraint,
+) -> Result<bool, StoreFault>
+    requires numbered { AreNumbered names.old.now numbers.old.entries }
+    requires stored { IsStored told.now names.old.now (quantities_of dict.old) }
+    ensures solvable { IfOk result (CanJoin told.now c.now) }
+    ensures overflow { (pair : Pair) → result ≡ Err (Overflow pair) → MayRefuse told.now (Only c.now) NoQuestion pair }
+    ensures pivots { (n : ℕ) → result ≡ Err (Pivots n) → (n ≡ pivots) × MayTake told.now (Only c.now) NoQuestion n }
+    ensures grows { IsPrefix names.old.now names.new.now }
+    ensures numbered { AreNumbered names.new.now numbers.new.entries }
+    ensures names_saved { names.new.saved ≡ names.old.saved }
+    ensures names_room { names.old.room ≤ names.new.room }
+    ensures dict_saved { dict.new.saved ≡ dict.old.saved }
+    ensures dict_room { dict.old.room ≤ dict.new.room }
+{
+    match c.relation {
+        Relation::Ge | Relation::Gt => can_enter_inequality(
+            alloc, pivots, numbers, names, dict, told, c,
+        ),
+        Relation::Ne => can_enter_disequation(alloc, numbers, names, dict, c),
+        Relation::Eq => can_enter_equation(alloc, pivots, numbers, names, dict, told, c),
+    }
+}
+
 /// Whether the constraint can join. What is held is left changed, to be undone.
 pub fn can_enter(
     alloc: Global,
@@ -275,9 +383,15 @@ pub fn can_enter(
     ensures dict_saved { held.new.second.second.saved ≡ held.old.second.second.saved }
     ensures dict_room { held.old.second.second.room ≤ held.new.second.second.room }
 {
-    match enter(alloc, pivots, numbers, held, c) {
-        Ok(Entered::Joined(_)) => Ok(true),
-        Ok(Entered::Contradiction(_)) => Ok(false),
-        Err(fault) => Err(fault),
-    }
+    let told = held.first.as_slice();
+    let quantities = &mut held.second;
+    can_enter_behind(
+        alloc,
+        pivots,
+        numbers,
+        &mut quantities.first,
+        &mut quantities.second,
+        told,
+        &c,
+    )
 }

@@ -19,12 +19,12 @@ ghost use Rattle.cq_tableau.specs.Looked.{SpeaksOfSome, LooksOn, RefusesLook, Sp
 ghost use Rattle.cq_tableau.specs.Stored.{IsKnown, IsStored, IsBetween};
 ghost use Rattle.cq_linear.specs.declared.store.StoreFault.TheVariants.{Overflow, Pivots};
 ghost use Rattle.cq_linear.specs.Alone.{IsNewIn};
-ghost use Rattle.cq_linear.specs.Entered.{IfJoined, IsJoined, IsRefuted};
+ghost use Rattle.cq_linear.specs.Entered.{IfJoined, IsJoined, IsRefuted, CanJoin};
 ghost use Rattle.cq_linear.specs.Equated.{IsRowBehind, Crosses, IsLevelRow, HasNoLiveEntry, IsHeldBy, IsHeldColumn, StayNumbered, IsConcluded, IsFound, StaysBelow, IsToJoinSome, OfJoining, IsApproached, IsOppositeCertificate};
 ghost use Rattle.cq_linear.specs.StoreValue.{MayRefuse, MayTake, Only};
 ghost use Rattle.cq_linear.specs.Fallen.{FallsAt};
 
-use crate::entering::Entered;
+use crate::entering::{Entered, has_joined};
 use crate::facing::fallen_disequation;
 use crate::falling::fallen_certificate;
 use crate::solving::{enter_by_new, new_place};
@@ -522,5 +522,47 @@ pub fn enter_equation(
             dict.undo(start);
             Err(StoreFault::from(fault))
         }
+    }
+}
+
+/// Whether an equation can join. No certificate is sought where its form can't be zero.
+pub fn can_enter_equation(
+    alloc: Global,
+    pivots: u64,
+    numbers: &mut IndexMap<VarId, usize>,
+    names: &mut Stack<Name>,
+    dict: &mut Dict,
+    told: &[Constraint],
+    c: &Constraint,
+) -> Result<bool, StoreFault>
+    requires equation { c.now.relation ≡ Eq }
+    requires numbered { AreNumbered names.old.now numbers.old.entries }
+    requires stored { IsStored told.now names.old.now (quantities_of dict.old) }
+    ensures solvable { IfOk result (CanJoin told.now c.now) }
+    ensures overflow { (pair : Pair) → result ≡ Err (Overflow pair) → MayRefuse told.now (Only c.now) NoQuestion pair }
+    ensures pivots { (n : ℕ) → result ≡ Err (Pivots n) → (n ≡ pivots) × MayTake told.now (Only c.now) NoQuestion n }
+    ensures grows { IsPrefix names.old.now names.new.now }
+    ensures numbered { AreNumbered names.new.now numbers.new.entries }
+    ensures names_saved { names.new.saved ≡ names.old.saved }
+    ensures names_room { names.old.room ≤ names.new.room }
+    ensures dict_saved { dict.new.saved ≡ dict.old.saved }
+    ensures dict_room { dict.old.room ≤ dict.new.room }
+{
+    let known = names.len();
+    let places = place(numbers, names, dict, alloc, &c.form)?;
+    let new = new_place(&places, known);
+    match approach(dict, &places, c.form.constant(), pivots)? {
+        Approached::Zero(q) => {
+            let entered = enter_zero(alloc, pivots, numbers, names, dict, told, c, q)?;
+            Ok(has_joined(entered))
+        }
+        Approached::Crossing(q, column) => {
+            let entered = enter_crossing(
+                alloc, pivots, numbers, names, dict, told, c, q, column, new,
+            )?;
+            Ok(has_joined(entered))
+        }
+        Approached::Below => Ok(false),
+        Approached::Above => Ok(false),
     }
 }

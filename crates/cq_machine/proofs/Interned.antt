@@ -37,5 +37,6 @@ names_kept old new keeps names a = record {
   equal = keeps names.equal _ a.equal;
   once = keeps names.once _ a.once;
   curly = keeps names.curly _ a.curly;
+  rule = keeps names.rule _ a.rule;
   builtins = builtins_kept old new keeps names.builtins a.builtins;
 }

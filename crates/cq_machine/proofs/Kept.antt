@@ -26,18 +26,18 @@ pub leads_over : (texts : List Text) (v : Program) (saved more : List (Value Con
     (behind : List Branch) (r : Reply) → more ≡ saved → Leads texts (stack texts v saved choices) now current p behind r → Leads texts (stack texts v more choices) now current p behind r
 leads_over texts v saved more choices now current p behind r e l = subst (λ s. Leads texts (stack texts v s choices) now current p behind r) (sym e) l
 
-abbrev Tried : Program → Value Contents × Alternatives → Type 0
-Tried v c = CanBeTried v c.0.0.heap.terms c.1
+abbrev Tried : List Text → Program → Value Contents × Alternatives → Type 0
+Tried texts v c = CanBeTried texts v c.0.0.heap.terms c.1
 
-all_behind : (v : Program) (gone left : List (Value Contents × Alternatives)) → AllByRecursion (Tried v) (gone ++ left) → AllByRecursion (Tried v) left
-all_behind v [] left all = all
-all_behind v (c ∷ gone) left all = all_behind v gone left all.1
+all_behind : (texts : List Text) (v : Program) (gone left : List (Value Contents × Alternatives)) → AllByRecursion (Tried texts v) (gone ++ left) → AllByRecursion (Tried texts v) left
+all_behind texts v [] left all = all
+all_behind texts v (c ∷ gone) left all = all_behind texts v gone left all.1
 
 -- the older choices can still be gone on with
-pub older_open : (v : Program) (saved fewer : List (Value Contents)) (choices left : List Alternatives) → AreOpen v saved choices → KeepsOlder saved choices fewer left
-    → AreOpen v fewer left
-older_open v saved fewer choices left all k =
-    all_behind v k.gone (open_choices fewer left) (subst (λ cs. AllByRecursion (Tried v) cs) k.are all)
+pub older_open : (texts : List Text) (v : Program) (saved fewer : List (Value Contents)) (choices left : List Alternatives) → AreOpen texts v saved choices
+    → KeepsOlder saved choices fewer left → AreOpen texts v fewer left
+older_open texts v saved fewer choices left all k =
+    all_behind texts v k.gone (open_choices fewer left) (subst (λ cs. AllByRecursion (Tried texts v) cs) k.are all)
 
 -- an argument of a term that reads as itself is that of the term
 pub argument_is : (texts : List Text) (w : Contents) (st : State) (id i k : ℕ) (t : Tree) → ReadsAs texts w st id t → k < length w.heap.terms

@@ -3,3 +3,4 @@ pub mod Built
 mod Operators
 pub mod Over
 pub mod Interned
+mod Thrown

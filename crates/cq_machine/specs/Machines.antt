@@ -49,6 +49,7 @@ pub record AreNames (texts : List Text) (names : Names) : Type 0 where
   pub equal : IsName texts names.equal "="
   pub once : IsName texts names.once "once"
   pub curly : IsName texts names.curly "{}"
+  pub rule : IsName texts names.rule ":-"
   pub builtins : AreBuiltins texts names.builtins
 
 -- what a machine keeps
@@ -59,7 +60,7 @@ pub record IsSound (m : Machine) : Type 0 where
   pub program : IsProgram m.atoms m.clauses
   pub operators_named : AreNamed m.atoms m.ops
   pub marked : AreMarked (saved m) m.choices
-  pub untried : AreOpen m.clauses (saved m) m.choices
+  pub untried : AreOpen m.atoms m.clauses (saved m) m.choices
 
 -- names, operators, clauses and how many exchanges a call may make are the same
 pub record HasSameProgram (old new : Machine) : Type 0 where

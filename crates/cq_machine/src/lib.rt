@@ -2,6 +2,7 @@
 #![tactic(auto)]
 
 mod building;
+mod catching;
 mod control;
 mod derived;
 mod machine;
@@ -10,6 +11,7 @@ mod output;
 mod step;
 
 pub use building::{build, put};
+pub use catching::{catch, findall, throw};
 pub use control::{call, conjunction, cut, disjunction, if_then, negation};
 pub use derived::{initialization, not_unify, once};
 pub use machine::Machine;

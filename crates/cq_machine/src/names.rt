@@ -8,7 +8,7 @@ use cq_atoms::{Atom, Atoms, numbers_keep_their_texts};
 use cq_table::Builtins;
 use std::alloc::{AllocError, Global};
 
-/// The names of goals that rows put in front, and those of the built-in predicates.
+/// The names of goals and clauses that rows build, and those of the built-in predicates.
 #[derive(Drop)]
 pub struct Names {
     /// `true`
@@ -21,6 +21,8 @@ pub struct Names {
     pub once: Atom,
     /// `{}`
     pub curly: Atom,
+    /// `:-`
+    pub rule: Atom,
     /// What is built in, by the numbers of its names.
     pub builtins: Builtins,
 }
@@ -37,6 +39,7 @@ impl Names {
         let equal = numbered(atoms, "=")?;
         let once = numbered(atoms, "once")?;
         let curly = numbered(atoms, "{}")?;
+        let rule = numbered(atoms, ":-")?;
         let builtins = Builtins::new(alloc, atoms)?;
         Ok(Names {
             truth,
@@ -44,6 +47,7 @@ impl Names {
             equal,
             once,
             curly,
+            rule,
             builtins,
         })
     }

@@ -11,6 +11,7 @@ use cq_built::BuiltinError;
 use cq_control::Continuation;
 use cq_frac::Pair;
 use cq_steps::goals_succeed_or_fail;
+use cq_term::TermId;
 
 /// What a selected goal comes to.
 #[derive(Clone, Copy, Debug)]
@@ -21,6 +22,8 @@ pub enum Step {
     Back,
     /// The goal raises an error.
     Raises(BuiltinError),
+    /// The goal throws a copy of the term.
+    Throws(TermId),
     /// The arithmetic of the goal refuses two numbers.
     Refuses(Pair),
 }

@@ -12,7 +12,7 @@ use Rattle.cq_linear.specs.declared.store.StoreFault.{StoreFault}
 use Rattle.cq_linear.specs.declared.store.StoreFault.TheVariants as fault
 use Rattle.cq_machine.specs.declared.machine.Machine.{Machine}
 use Rattle.cq_machine.specs.declared.step.Step.{Step}
-use Rattle.cq_machine.specs.declared.step.Step.TheVariants.{Goes, Back, Raises, Refuses}
+use Rattle.cq_machine.specs.declared.step.Step.TheVariants.{Goes, Back, Raises, Throws, Refuses}
 use Rattle.cq_machine.specs.Machines.{HasBuilt, StillStands}
 use Rattle.cq_machine.specs.Stepping.{IsSelectedAt}
 use Rattle.cq_machine.proofs.Built.{stands_on, stands_then}
@@ -27,6 +27,7 @@ module _ (p : Place) (g : Tree) (work : Pending) (h : Steps p g (children p (chi
   child_takes m behind (Goes k) l = steps_on m (Some k) p behind g (child p.rest p.state work ∷ []) l h
   child_takes m behind Back l = steps_on m None p behind g (child p.rest p.state work ∷ []) l h
   child_takes m behind (Raises e) l = absurd l
+  child_takes m behind (Throws id) l = absurd l
   child_takes m behind (Refuses pair) l = absurd l
 
   pub child_stops : (n : ℕ) (f : StoreFault) → StopsChild n p work f → IsStoppedAt n f p g

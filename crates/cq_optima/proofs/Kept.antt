@@ -42,17 +42,10 @@ sound_kept old new s same names marks choices = record {
   program = subst (λ (a : List Text). IsProgram a new.clauses) (sym same.atoms) (subst (IsProgram old.atoms) (sym same.clauses) s.program);
   operators_named = subst (λ (a : List Text). AreNamed a new.ops) (sym same.atoms) (subst (AreNamed old.atoms) (sym same.ops) s.operators_named);
   marked = subst (λ (l : List (Value Contents)). AreMarked l new.choices) (sym marks) (subst (λ (cs : List Alternatives). AreMarked (saved old) cs) (sym choices) s.marked);
-  untried = subst (λ (v : Program). AreOpen v (saved new) new.choices) (sym same.clauses)
-      (subst (λ (l : List (Value Contents)). AreOpen old.clauses l new.choices) (sym marks) (subst (λ (cs : List Alternatives). AreOpen old.clauses (saved old) cs) (sym choices) s.untried));
-}
-
-pub program_then : (old mid new : Machine) → HasSameProgram old mid → HasSameProgram mid new → HasSameProgram old new
-program_then old mid new p q = record {
-  atoms = q.atoms ∙ p.atoms;
-  names = q.names ∙ p.names;
-  ops = q.ops ∙ p.ops;
-  clauses = q.clauses ∙ p.clauses;
-  budget = q.budget ∙ p.budget;
+  untried = subst (λ (a : List Text). AreOpen a new.clauses (saved new) new.choices) (sym same.atoms)
+      (subst (λ (v : Program). AreOpen old.atoms v (saved new) new.choices) (sym same.clauses)
+      (subst (λ (l : List (Value Contents)). AreOpen old.atoms old.clauses l new.choices) (sym marks)
+      (subst (λ (cs : List Alternatives). AreOpen old.atoms old.clauses (saved old) cs) (sym choices) s.untried)));
 }
 
 -- ---- a machine that was asked
@@ -86,10 +79,6 @@ pub unchanged_ball : (old new : Machine) (p : Place) (g : Tree) (e : BuiltinErro
 unchanged_ball old new p g e u h =
     subst (λ (a : List Text). Steps p g (ball_of g (error_tree a (terms new) e))) (sym u.program.atoms)
     (subst (λ (v : Value Contents). Steps p g (ball_of g (error_tree old.atoms v.0.heap.terms e))) (sym u.now) h)
-
-pub unchanged_culprit : (old new : Machine) (e : BuiltinError) → IsUnchanged old new → HasCulprit old.atoms (terms old) e → HasCulprit new.atoms (terms new) e
-unchanged_culprit old new e u h =
-    subst (λ (a : List Text). HasCulprit a (terms new) e) (sym u.program.atoms) (subst (λ (v : Value Contents). HasCulprit old.atoms v.0.heap.terms e) (sym u.now) h)
 
 -- ---- a machine that has built terms
 

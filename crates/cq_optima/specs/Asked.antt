@@ -14,7 +14,7 @@ use Rattle.cq_settle.specs.Settled.{MayRefuse, MayTake}
 use Rattle.cq_steps.specs.Worlds.{Leads}
 use Rattle.cq_machine.specs.declared.machine.Machine.{Machine}
 use Rattle.cq_machine.specs.declared.step.Step.{Step}
-use Rattle.cq_machine.specs.declared.step.Step.TheVariants.{Goes, Back, Raises, Refuses}
+use Rattle.cq_machine.specs.declared.step.Step.TheVariants.{Goes, Back, Raises, Throws, Refuses}
 use Rattle.cq_machine.specs.Machines.{terms, now, holds}
 use Rattle.cq_machine.specs.Stepping.{IsSelectedAt}
 
@@ -31,6 +31,7 @@ abbrev pub Takes : Machine → Step → Place → List Branch → Tree → Type 
 Takes m (Goes k) p behind goal = StepsOn m (Some k) p behind goal
 Takes m Back p behind goal = StepsOn m None p behind goal
 Takes m (Raises e) p behind goal = Steps p goal (ball_of goal (error_tree m.atoms (terms m) e))
+Takes m (Throws id) p behind goal = ⊥
 Takes m (Refuses pair) p behind goal = ⊥
 
 -- wherever the goal of the number is selected, and this is its row, the machine has come to its step

@@ -24,7 +24,7 @@ use Rattle.cq_steps.specs.Worlds.{IsBranch, ReadsAs, Leads}
 use Rattle.cq_term.specs.Meaning.{HeapTerm}
 use Rattle.cq_machine.specs.declared.machine.Machine.{Machine}
 use Rattle.cq_machine.specs.declared.step.Step.{Step}
-use Rattle.cq_machine.specs.declared.step.Step.TheVariants.{Goes, Back, Raises, Refuses}
+use Rattle.cq_machine.specs.declared.step.Step.TheVariants.{Goes, Back, Raises, Throws, Refuses}
 use Rattle.cq_machine.specs.Machines.{now, holds}
 use Rattle.cq_optima.specs.declared.values.Valued.{Valued}
 use Rattle.cq_optima.specs.declared.values.Valued.TheVariants as valued
@@ -65,6 +65,7 @@ abbrev pub IsChildStep : Machine → Place → List Branch → Pending → Step 
 IsChildStep m p behind work (Goes k) = Leads m.atoms (holds m) (now m) (Some k) p behind (makes p (child p.rest p.state work ∷ []))
 IsChildStep m p behind work Back = Leads m.atoms (holds m) (now m) None p behind (makes p (child p.rest p.state work ∷ []))
 IsChildStep m p behind work (Raises e) = ⊥
+IsChildStep m p behind work (Throws id) = ⊥
 IsChildStep m p behind work (Refuses pair) = ⊥
 
 -- why the query stops while it is settled
@@ -78,4 +79,5 @@ abbrev pub RaisesNothing : Step → Type 0
 RaisesNothing (Goes k) = ⊤
 RaisesNothing Back = ⊤
 RaisesNothing (Raises e) = ⊥
+RaisesNothing (Throws id) = ⊥
 RaisesNothing (Refuses pair) = ⊥

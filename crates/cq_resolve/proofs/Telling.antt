@@ -1,10 +1,10 @@
 -- What one step binds and tells, and what it adds to what was bound before.
-use Rattle.std.proofs.Common.{◌≡◌, ◌≢◌, ℕ, zero, suc, ◌<◌, ◌≤◌, List, [], ◌∷◌, ◌++◌, length, get_or, Bool, true, false, cond, refl, sym, ap, ◌∙◌, arith, map, inl, inr, subst, append-nil, append_assoc}
-use Rattle.std.specs.Prelude.{◌⊎◌, Contains, nat_lt}
+use Rattle.std.proofs.Common.{◌≡◌, ◌≢◌, ℕ, zero, suc, ◌<◌, ◌≤◌, List, [], ◌∷◌, ◌++◌, length, get_or, Bool, true, false, refl, sym, ap, ◌∙◌, arith, map, inl, inr, subst, append-nil, append_assoc}
+use Rattle.std.specs.Prelude.{◌⊎◌, Contains}
 use Rattle.std.specs.List.{AllPairs}
 use Rattle.std.proofs.lemmas.Bool.{cases_eq}
 use Rattle.std.proofs.lemmas.List.{length-map, map-append}
-use Rattle.std.proofs.lemmas.List.Elements.{Contains-append_left, Contains-append_right, Contains-append_cases, Contains-get_or, Contains-push, Contains-push_cases, filter-append}
+use Rattle.std.proofs.lemmas.List.Elements.{Contains-append_left, Contains-append_right, Contains-append_cases, Contains-get_or, Contains-push, Contains-push_cases}
 use Rattle.spec_terms.specs.Term.{Subst, Var, Number, Name, Compound, apply, identity, single, followed_by, Occurs}
 use Rattle.spec_terms.specs.Unifier.{IsUnifier}
 use Rattle.spec_terms.proofs.Substitution.{apply-identity, apply-followed_by, apply_agree, apply-single_absent, apply-single_instance, single_same, single_other}
@@ -18,7 +18,7 @@ use Rattle.spec_rational.specs.Rational.{ℚ}
 use Rattle.std.specs.Prelude.{Ok}
 use Rattle.std.specs.declared.result.Result.{Result}
 use Rattle.std.specs.declared.alloc.AllocError.{AllocError}
-use Rattle.cq_unify.specs.Unified.{Binding, in_turn, variables_of, IsNewlyBound, Unified}
+use Rattle.cq_unify.specs.Unified.{Binding, in_turn, IsNewlyBound, Unified}
 use Rattle.spec_lists.specs.Prefixes.{IsPrefix}
 use Rattle.cq_unify.proofs.Progress.{map-identity, same_variable}
 use Rattle.cq_unify.proofs.Unbound.{at-map, variable_from}

@@ -74,14 +74,16 @@ module _ (texts : List Text) (old new : Value Contents) (g : Grown texts old new
 
 -- ---- choices
 
-abbrev Tried : Program → Value Contents × Alternatives → Type 0
-Tried v c = CanBeTried v c.0.0.heap.terms c.1
+abbrev Tried : List Text → Program → Value Contents × Alternatives → Type 0
+Tried texts v c = CanBeTried texts v c.0.0.heap.terms c.1
 
 -- the same choices, or one more
-pub open_left : (v : Program) (marks : List (Value Contents)) (choices : List Alternatives) (now : Value Contents) (more : List (Value Contents)) (after : List Alternatives)
-    → LeavesOneAtMost marks choices now more after → AreOpen v marks choices → AreOpen v more after
-open_left v marks choices now more after (inl e) o = subst (λ (cs : List (Value Contents × Alternatives)). AllByRecursion (Tried v) cs) (sym e) o
-open_left v marks choices now more after (inr (k, e)) o = subst (λ (cs : List (Value Contents × Alternatives)). AllByRecursion (Tried v) cs) (sym e) (tt, o)
+pub open_left : (texts : List Text) (v : Program) (marks : List (Value Contents)) (choices : List Alternatives) (now : Value Contents) (more : List (Value Contents)) (after : List Alternatives)
+    → LeavesOneAtMost marks choices now more after → AreOpen texts v marks choices → AreOpen texts v more after
+open_left texts v marks choices now more after (inl e) o = subst (λ (cs : List (Value Contents × Alternatives)). AllByRecursion (Tried texts v) cs) (sym e) o
+open_left texts v marks choices now more after (inr (k, e)) o = subst (λ (cs : List (Value Contents × Alternatives)). AllByRecursion (Tried texts v) cs) (sym e) (tt, o)
 
-pub open_same : (v : Program) (marks more : List (Value Contents)) (choices after : List Alternatives) → more ≡ marks → after ≡ choices → AreOpen v marks choices → AreOpen v more after
-open_same v marks more choices after e f o = subst (λ (cs : List Alternatives). AreOpen v more cs) (sym f) (subst (λ (l : List (Value Contents)). AreOpen v l choices) (sym e) o)
+pub open_same : (texts : List Text) (v : Program) (marks more : List (Value Contents)) (choices after : List Alternatives) → more ≡ marks → after ≡ choices
+    → AreOpen texts v marks choices → AreOpen texts v more after
+open_same texts v marks more choices after e f o =
+    subst (λ (cs : List Alternatives). AreOpen texts v more cs) (sym f) (subst (λ (l : List (Value Contents)). AreOpen texts v l choices) (sym e) o)

@@ -46,7 +46,7 @@ same_grown texts old later lists more e keeps =
 -- ---- a sound machine
 
 pub sound_still : (old new : Machine) → IsSound old → HasSameProgram old new → KnowsTerms old.atoms (terms new) → AreMarked (saved new) new.choices
-    → AreOpen new.clauses (saved new) new.choices → IsSound new
+    → AreOpen old.atoms new.clauses (saved new) new.choices → IsSound new
 sound_still old new s same names marked untried = record {
   known = subst (λ (a : List Text). AreNames a new.names) (sym same.atoms) (subst (AreNames old.atoms) (sym same.names) s.known);
   different = subst AreDifferent (sym same.atoms) s.different;
@@ -54,12 +54,13 @@ sound_still old new s same names marked untried = record {
   program = subst (λ (a : List Text). IsProgram a new.clauses) (sym same.atoms) (subst (IsProgram old.atoms) (sym same.clauses) s.program);
   operators_named = subst (λ (a : List Text). AreNamed a new.ops) (sym same.atoms) (subst (AreNamed old.atoms) (sym same.ops) s.operators_named);
   marked = marked;
-  untried = untried;
+  untried = subst (λ (a : List Text). AreOpen a new.clauses (saved new) new.choices) (sym same.atoms) untried;
 }
 
 -- the same choices over the same marks
-pub open_still : (v : Program) (marks more : List (Value Contents)) (choices : List Alternatives) → more ≡ marks → AreOpen v marks choices → AreOpen v more choices
-open_still v marks more choices e o = subst (λ (l : List (Value Contents)). AreOpen v l choices) (sym e) o
+pub open_still : (texts : List Text) (v : Program) (marks more : List (Value Contents)) (choices : List Alternatives) → more ≡ marks → AreOpen texts v marks choices
+    → AreOpen texts v more choices
+open_still texts v marks more choices e o = subst (λ (l : List (Value Contents)). AreOpen texts v l choices) (sym e) o
 
 pub marked_still : (marks more : List (Value Contents)) (choices : List Alternatives) → more ≡ marks → AreMarked marks choices → AreMarked more choices
 marked_still marks more choices e o = subst (λ (l : List (Value Contents)). AreMarked l choices) (sym e) o

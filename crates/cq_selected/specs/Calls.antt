@@ -20,6 +20,7 @@ abbrev pub IsCall : Machine → Step → Place → List Branch → Tree → Type
 IsCall m step.Back p behind goal = CallBecomes m.atoms (holds m) p behind goal
 IsCall m (step.Raises e) p behind goal = user_row p (indicator_of goal) ≡ Raises (error_tree m.atoms (terms m) e)
 IsCall m (step.Goes k) p behind goal = ⊥
+IsCall m (step.Throws id) p behind goal = ⊥
 IsCall m (step.Refuses pair) p behind goal = ⊥
 
 -- so it is wherever the goal is selected with this continuation behind it

@@ -1,12 +1,13 @@
 -- How a run of the command ended: its status, its line, and what it shows of the outside.
-use Rattle.std.specs.Prelude.{◌≡◌, ℕ, List, [], Bool, true, false, Option, IfSome}
-use Rattle.cq_words.specs.Asked.{Asked}
+use Rattle.std.specs.Prelude.{◌≡◌, ℕ, List, [], Bool, true, false, Option, IfSome, ⊤}
+use Rattle.cq_words.specs.Asked.{Asked, Task, ToRun, ToGen}
 use Rattle.cq_words.specs.declared.words.WordsFault.{WordsFault}
 use Rattle.cq_words.specs.declared.words.WordsFault.TheVariants as words_fault
 use Rattle.cq_transcript.specs.Halts as halts
 use Rattle.cq_transcript.specs.declared.halt.Halt.TheVariants.{Memory}
 use Rattle.spec_lists.specs.Texts.{Text}
 use Rattle.spec_endings.specs.Endings.{Ends, Gains, words_line}
+use Rattle.spec_endings.specs.Generated.{GenEnds}
 use Rattle.spec_endings.specs.Outside.{Outside}
 use Rattle.spec_endings.specs.declared.status.Status.{Status}
 use Rattle.spec_endings.specs.declared.status.Status.TheVariants as status
@@ -35,9 +36,25 @@ line_of BadWords = words_line
 line_of (Broken halt) = halts.line_of halt
 
 -- of the outside: a run that ends so leaves so much of the input, and writes what `out` gained
-pub record Shows (o : Outside) (left : Option (List ℕ)) (asked : Option Asked) (e : Ending) (held now : Option (List ℕ)) : Type 0 where
+pub record Shows (o : Outside) (left : Option (List ℕ)) (asked : Option Task) (e : Ending) (held now : Option (List ℕ)) : Type 0 where
   pub text : Text
   pub rest : List ℕ
   pub is_left : IfSome left (λ bytes. rest ≡ bytes)
   pub ends : Ends o rest asked (status_of e) text (line_of e)
   pub written : Gains (status_of e) held now text
+
+-- of a number's query: a run of `gen` that ends so writes what `out` gained
+pub record GenShows (n : ℕ) (e : Ending) (held now : Option (List ℕ)) : Type 0 where
+  pub text : Text
+  pub ends : GenEnds n (status_of e) text (line_of e)
+  pub written : Gains (status_of e) held now text
+
+-- no file is asked for
+abbrev pub NamesNoFile : Task → Type 0
+NamesNoFile (ToRun a) = a.files ≡ []
+NamesNoFile (ToGen n) = ⊤
+
+-- where a transcript is asked for, this holds
+abbrev pub IfRun : Task → (Asked → Type 0) → Type 0
+IfRun (ToRun a) P = P a
+IfRun (ToGen n) P = ⊤

@@ -1,20 +1,22 @@
 // A run of the command.
 
-ghost use Rattle.std.specs.Prelude.{◌≡◌, ◌<◌, [], None, IfOk, IfErr, IfSome};
-ghost use Rattle.cq_words.specs.Asked.{as_asked};
+ghost use Rattle.std.specs.Prelude.{◌≡◌, ◌<◌, ◌≤◌, ℕ, [], None, Some, IfOk, IfErr, IfSome};
+ghost use Rattle.cq_words.specs.Asked.{ToGen, as_asked};
 ghost use Rattle.cq_words.specs.Language.{asked_by};
 ghost use Rattle.cq_transcript.specs.Breaks.{CausedBy};
 ghost use Rattle.cq_transcript.specs.Halts.{Halts, IsWhole as IsWholeTranscript};
 ghost use Rattle.cq_transcript.specs.Progress.{marks_of};
 ghost use Rattle.spec_endings.specs.Causes.{Caused, IsClear, IsWhole, counted};
-ghost use Rattle.spec_endings.specs.Endings.{Ended, Tells, sinks};
+ghost use Rattle.spec_endings.specs.Endings.{Ended, GenEnded, Tells, sinks};
+ghost use Rattle.spec_endings.specs.Generated.{IsGenClear};
 ghost use Rattle.spec_endings.specs.Outside.{outside};
-ghost use Rattle.cq_session.specs.Outcomes.{Shows, fault_ending, status_of};
+ghost use Rattle.cq_session.specs.Outcomes.{GenShows, IfRun, NamesNoFile, Shows, fault_ending, status_of};
 
 use crate::ending::{Ending, status_of, tell, without_words};
+use cq_gen::{Examined, write_gen};
 use cq_outside::{Shelf, Sink, Source};
 use cq_transcript::{Halt, Interpreter, Lines, write_transcript};
-use cq_words::{Run, WordsFault, read_words};
+use cq_words::{Run, Task, WordsFault, read_words};
 use spec_endings::{Status, completeness_follows};
 use std::alloc::Global;
 
@@ -51,8 +53,22 @@ fn transcribe<'a, P: Interpreter + Drop, F: Shelf, I: Source, O: Sink>(
     )
 }
 
+/// Writes the line of a number's query.
+fn generate<'a, P: Examined + Drop, O: Sink>(alloc: Global, number: u64, out: &mut O) -> Ending<'a>
+    requires some { 0 < number }
+    requires few { number ≤ 200 }
+    ensures shows { GenShows number result (O.held out.old) (O.held out.new) }
+    ensures cause { (absent refused failed taken : ℕ) → Caused (status_of result) (Some (ToGen number))
+        (counted absent refused failed taken (O.faults out.old)) (counted absent refused failed taken (O.faults out.new)) }
+{
+    match write_gen::<P, O>(alloc, number, out) {
+        Ok(lines) => Ending::Whole(lines),
+        Err(halt) => Ending::Broken(halt),
+    }
+}
+
 /// Does what the words ask for.
-fn answer<'a, P: Interpreter + Drop, F: Shelf, I: Source, O: Sink>(
+fn answer<'a, P: Examined + Drop, F: Shelf, I: Source, O: Sink>(
     alloc: Global,
     words: &'a [String],
     shelf: &mut F,
@@ -64,22 +80,27 @@ fn answer<'a, P: Interpreter + Drop, F: Shelf, I: Source, O: Sink>(
         (counted (F.faults shelf.old) (F.refused shelf.old) (I.faults input.old) (I.taken input.old) (O.faults out.old))
         (counted (F.faults shelf.new) (F.refused shelf.new) (I.faults input.new) (I.taken input.new) (O.faults out.new)) }
     ensures unread { asked_by words.now ≡ None → (shelf.new ≡ shelf.old) × (input.new ≡ input.old) × (out.new ≡ out.old) }
-    ensures unasked { IfSome (asked_by words.now) (λ a. a.files ≡ [] → shelf.new ≡ shelf.old) }
+    ensures unasked { IfSome (asked_by words.now) (λ t. NamesNoFile t → shelf.new ≡ shelf.old) }
+    ensures generates { (n : ℕ) → asked_by words.now ≡ Some (ToGen n) → GenShows n result (O.held out.old) (O.held out.new) }
+    ensures alone { (n : ℕ) → asked_by words.now ≡ Some (ToGen n) → (shelf.new ≡ shelf.old) × (input.new ≡ input.old) }
 {
-    let asked = match read_words(alloc, words) {
-        Ok(asked) => asked,
+    let task = match read_words(alloc, words) {
+        Ok(task) => task,
         Err(fault) => return without_words(fault),
     };
-    match transcribe::<P, F, I, O>(alloc, &asked, shelf, input, out) {
-        Ok(lines) => Ending::Whole(lines),
-        Err(halt) => Ending::Broken(halt),
+    match task {
+        Task::Run(asked) => match transcribe::<P, F, I, O>(alloc, &asked, shelf, input, out) {
+            Ok(lines) => Ending::Whole(lines),
+            Err(halt) => Ending::Broken(halt),
+        },
+        Task::Gen(number) => generate::<P, O>(alloc, number, out),
     }
 }
 
 /// Runs the command that the words ask for, the program's name first: `run` consults files and answers the queries of the input, by
-/// an interpreter of this type, and writes their transcript to `out`. A status that has a line writes it to `err`; a fault of `err` is
-/// passed over.
-pub fn run<P: Interpreter + Drop, F: Shelf, I: Source, O: Sink, E: Sink>(
+/// an interpreter of this type, and writes their transcript to `out`; `gen` asks an interpreter of this type the query of a number, and
+/// writes its line. A status that has a line writes it to `err`; a fault of `err` is passed over.
+pub fn run<P: Examined + Drop, F: Shelf, I: Source, O: Sink, E: Sink>(
     alloc: Global,
     words: &[String],
     shelf: &mut F,
@@ -100,13 +121,19 @@ pub fn run<P: Interpreter + Drop, F: Shelf, I: Source, O: Sink, E: Sink>(
 
     // Words outside the command's language read and write nothing, and without a file's name the shelf is not asked.
     ensures unread { asked_by words.now ≡ None → (shelf.new ≡ shelf.old) × (input.new ≡ input.old) × (out.new ≡ out.old) }
-    ensures unasked { IfSome (asked_by words.now) (λ a. a.files ≡ [] → shelf.new ≡ shelf.old) }
+    ensures unasked { IfSome (asked_by words.now) (λ t. NamesNoFile t → shelf.new ≡ shelf.old) }
 
     // Where nothing stands in the way, the transcript is whole, unless memory is wanting.
-    ensures complete { IfSome (outside (F.files shelf.old) (I.left input.old)) (λ o. IfSome (asked_by words.now) (λ a. IsClear o a
+    ensures complete { IfSome (outside (F.files shelf.old) (I.left input.old)) (λ o. IfSome (asked_by words.now) (λ t. IfRun t (λ a. IsClear o a
         (counted (F.faults shelf.old) (F.refused shelf.old) (I.faults input.old) (I.taken input.old) (O.faults out.old))
         (counted (F.faults shelf.new) (F.refused shelf.new) (I.faults input.new) (I.taken input.new) (O.faults out.new))
-        → IsWhole result)) }
+        → IsWhole result))) }
+
+    // What `gen` writes is its one line, or a beginning of it; it reads nothing; and its line is whole where nothing stands in its way.
+    ensures generates { (n : ℕ) → asked_by words.now ≡ Some (ToGen n) → GenEnded n result (O.held out.old) (O.held out.new)
+        (sinks (E.held err.old) (E.held err.new) (E.faults err.old) (E.faults err.new)) }
+    ensures alone { (n : ℕ) → asked_by words.now ≡ Some (ToGen n) → (shelf.new ≡ shelf.old) × (input.new ≡ input.old) }
+    ensures generates_whole { (n : ℕ) → asked_by words.now ≡ Some (ToGen n) → IsGenClear n (O.faults out.old) (O.faults out.new) → IsWhole result }
 {
     completeness_follows();
     let how = answer::<P, F, I, O>(alloc, words, shelf, input, out);

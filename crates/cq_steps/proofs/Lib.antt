@@ -14,3 +14,7 @@ pub mod Reading
 pub mod Disjunctions
 pub mod Arguments
 pub mod Budgets
+pub mod Saving
+pub mod Listed
+pub mod Counted
+pub mod Copied

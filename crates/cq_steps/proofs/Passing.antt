@@ -1,6 +1,7 @@
 -- Marks that are passed and choices that are come back to, over the choices of the code.
-use Rattle.std.proofs.Common.{◌≡◌, ℕ, ◌<◌, List, ◌∷◌, ◌++◌, length, Option, None, Some, sym, ap, ◌∙◌, subst, map}
+use Rattle.std.proofs.Common.{◌≡◌, ℕ, ◌<◌, List, [], ◌∷◌, ◌++◌, length, Option, None, Some, sym, ap, ◌∙◌, subst, map}
 use Rattle.spec_lists.specs.Texts.{Text}
+use Rattle.spec_branch.specs.Branch.{Branch}
 use Rattle.spec_search.specs.Database.{Database}
 use Rattle.spec_search.specs.Search.{Search}
 use Rattle.cq_control.specs.Items.{items_at}
@@ -8,8 +9,8 @@ use Rattle.cq_control.specs.Open.{last, open_choices}
 use Rattle.cq_program.specs.Database.{Program}
 use Rattle.cq_world.specs.Contents.{Contents}
 use Rattle.spec_machine.specs.declared.cell.Cell.TheVariants.{CutTo, CutFail, CatchEnd}
-use Rattle.spec_machine.specs.Cells.{Barrier, Value, Stack}
-use Rattle.spec_machine.specs.Standing.{engine, IsStanding}
+use Rattle.spec_machine.specs.Cells.{Left, Barrier, Catches, Value, Stack}
+use Rattle.spec_machine.specs.Standing.{engine, AreBranches, IsStanding}
 use Rattle.spec_machine.specs.Coming.{Comes}
 use Rattle.spec_machine.proofs.Passed.{cut_passed, fail_passed, end_passed, one_begun}
 use Rattle.cq_steps.specs.declared.alternatives.Alternatives.{Alternatives}
@@ -55,24 +56,32 @@ module _ (steps : ℕ) (texts : List Text) (v : Program) (db : Database) (n : �
       (λ t j. one_begun (IsBranch texts) (term_in texts) steps db n (stack texts v fewer left) back now t (branches_rest texts) k
       (subst (λ st. Standing now st t) (ap (map (left_at texts v)) e) j))
 
+  -- a choice that stands for no branch is passed
+  passed_over : (older : Stack Contents) (w now : Value Contents) (left : Left) (t : Search) → ((bs : List Branch) → AreBranches (IsBranch texts) (term_in texts) older w left bs → bs ≡ [])
+      → IsStanding (IsBranch texts) (term_in texts) (engine db n ((w, left) ∷ older) now None) t → IsStanding (IsBranch texts) (term_in texts) (engine db n older w None) t
+  passed_over older w now left t none j = record {
+    database = j.database;
+    selected = j.selected;
+    first = j.first;
+    behind = j.waiting.1;
+    branches = j.branches ∙ ap (λ l. j.first ++ l) (j.waiting.2 ∙ ap (λ l. l ++ j.waiting.1) (none j.waiting.0 j.waiting.3));
+    current = j.current;
+    waiting = j.waiting.4;
+  }
+
   pub barrier_on : (saved fewer : List (Value Contents)) (choices left : List Alternatives) (now back : Value Contents)
       → open_choices saved choices ≡ (back, alternatives.Barrier) ∷ open_choices fewer left
       → Arrives steps texts v db n saved choices now None s → Arrives steps texts v db n fewer left back None s
   barrier_on saved fewer choices left now back e a = comes_on (IsBranch texts) (term_in texts) steps _ _ s a
-      (λ t j. comes_at_once (IsBranch texts) (term_in texts) steps _ t (past_barrier (stack texts v fewer left) back now t (subst (λ st. Standing now st t) (ap (map (left_at texts v)) e) j)))
-    where
-      -- a choice that stands for no branch is passed
-      past_barrier : (older : Stack Contents) (w now : Value Contents) (t : Search) → IsStanding (IsBranch texts) (term_in texts) (engine db n ((w, Barrier) ∷ older) now None) t
-          → IsStanding (IsBranch texts) (term_in texts) (engine db n older w None) t
-      past_barrier older w now t j = record {
-        database = j.database;
-        selected = j.selected;
-        first = j.first;
-        behind = j.waiting.1;
-        branches = j.branches ∙ ap (λ l. j.first ++ l) (j.waiting.2 ∙ ap (λ l. l ++ j.waiting.1) j.waiting.3);
-        current = j.current;
-        waiting = j.waiting.4;
-      }
+      (λ t j. comes_at_once (IsBranch texts) (term_in texts) steps _ t
+      (passed_over (stack texts v fewer left) back now Barrier t (λ bs b. b) (subst (λ st. Standing now st t) (ap (map (left_at texts v)) e) j)))
+
+  pub catch_on : (saved fewer : List (Value Contents)) (choices left : List Alternatives) (now back : Value Contents) (k : ℕ)
+      → open_choices saved choices ≡ (back, alternatives.Catches k) ∷ open_choices fewer left
+      → Arrives steps texts v db n saved choices now None s → Arrives steps texts v db n fewer left back None s
+  catch_on saved fewer choices left now back k e a = comes_on (IsBranch texts) (term_in texts) steps _ _ s a
+      (λ t j. comes_at_once (IsBranch texts) (term_in texts) steps _ t
+      (passed_over (stack texts v fewer left) back now (Catches k) t (λ bs b. b) (subst (λ st. Standing now st t) (ap (map (left_at texts v)) e) j)))
 
 -- ---- searches for which an engine stands
 

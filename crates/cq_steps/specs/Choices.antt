@@ -1,6 +1,7 @@
 -- Which choices are open after a step, each with the value of the world that it goes back to.
-use Rattle.std.specs.Prelude.{◌≡◌, ℕ, List, ◌∷◌, ◌++◌, ⊤}
+use Rattle.std.specs.Prelude.{◌≡◌, ℕ, List, ◌∷◌, ◌++◌, All, length, ⊤}
 use Rattle.std.specs.List.{AllByRecursion}
+use Rattle.spec_lists.specs.Texts.{Text}
 use Rattle.cq_clauses.specs.Walks.{IsWalk}
 use Rattle.cq_control.specs.Open.{open_choices}
 use Rattle.cq_predicates.specs.Given.{CanGoOn}
@@ -11,6 +12,11 @@ use Rattle.spec_machine.specs.Cells.{Value}
 use Rattle.cq_steps.specs.declared.alternatives.Alternatives.{Alternatives}
 use Rattle.cq_steps.specs.declared.alternatives.Alternatives.TheVariants as alternatives
 use Rattle.cq_steps.specs.declared.alternatives.Alternatives.TheVariants.{One}
+use Rattle.cq_steps.specs.Stored.{IsCountedTerm}
+
+-- those of before, and one more that leaves this to try in this world
+abbrev pub LeavesAlso : List (Value Contents) → List Alternatives → Value Contents → Alternatives → List (Value Contents) → List Alternatives → Type 0
+LeavesAlso saved choices now content more after = open_choices more after ≡ (now, content) ∷ open_choices saved choices
 
 -- those of before, and one more that goes on with a continuation in this world
 abbrev pub LeavesMore : List (Value Contents) → List Alternatives → Value Contents → List (Value Contents) → List Alternatives → Type 0
@@ -21,13 +27,19 @@ pub record KeepsOlder (saved : List (Value Contents)) (choices : List Alternativ
   pub gone : List (Value Contents × Alternatives)
   pub are : open_choices saved choices ≡ gone ++ open_choices fewer left
 
--- the clauses and the alternatives that are left can be gone on with, over the program and the terms of the choice's world
-abbrev pub CanBeTried : Program → List HeapTerm → Alternatives → Type 0
-CanBeTried v ts (alternatives.One k) = ⊤
-CanBeTried v ts (alternatives.Clauses t walk k) = IsWalk walk v
-CanBeTried v ts (alternatives.Ways s k) = CanGoOn ts s
-CanBeTried v ts alternatives.Barrier = ⊤
+-- the clauses and the alternatives that are left can be gone on with, over the program and the terms of the choice's world, and
+-- the names of what is stored have texts
+abbrev pub CanBeTried : List Text → Program → List HeapTerm → Alternatives → Type 0
+CanBeTried texts v ts (alternatives.One k) = ⊤
+CanBeTried texts v ts (alternatives.Clauses t walk k) = IsWalk walk v
+CanBeTried texts v ts (alternatives.Ways s k) = CanGoOn ts s
+CanBeTried texts v ts alternatives.Barrier = ⊤
+CanBeTried texts v ts (alternatives.Catches k) = ⊤
+CanBeTried texts v ts (alternatives.Caught ball c r k) = IsCountedTerm (length texts) ball
+CanBeTried texts v ts (alternatives.Gathers t copies k) = All (IsCountedTerm (length texts)) copies
+CanBeTried texts v ts (alternatives.Matches t walk removes k) = IsWalk walk v
 
 -- so can those of each choice
-abbrev pub AreOpen : Program → List (Value Contents) → List Alternatives → Type 0
-AreOpen v saved choices = AllByRecursion (λ (c : Value Contents × Alternatives). CanBeTried v c.0.0.heap.terms c.1) (open_choices saved choices)
+abbrev pub AreOpen : List Text → Program → List (Value Contents) → List Alternatives → Type 0
+AreOpen texts v saved choices =
+    AllByRecursion (λ (c : Value Contents × Alternatives). CanBeTried texts v c.0.0.heap.terms c.1) (open_choices saved choices)

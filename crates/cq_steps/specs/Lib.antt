@@ -1,4 +1,5 @@
 pub mod Lists
+pub mod Stored
 pub mod Choices
 pub mod Selecting
 pub mod Worlds

@@ -31,20 +31,24 @@ IsPast front.Clear k cells = IsFront cells
 IsPast (front.Passed rest) k cells = rest < k
 IsPast front.Back k cells = ⊤
 
--- the clauses of a call or the alternatives of a predicate are left to try first, or nothing is
+-- what is left to try first makes a world of its own, as the clauses of a call, or nothing is left
 abbrev pub IsCall : List Alternatives → Type 0
 IsCall [] = ⊤
 IsCall (alternatives.One k ∷ choices) = ⊥
 IsCall (alternatives.Clauses t walk k ∷ choices) = ⊤
 IsCall (alternatives.Ways s k ∷ choices) = ⊤
 IsCall (alternatives.Barrier ∷ choices) = ⊥
+IsCall (alternatives.Catches k ∷ choices) = ⊥
+IsCall (alternatives.Caught ball c r k ∷ choices) = ⊤
+IsCall (alternatives.Gathers t copies k ∷ choices) = ⊤
+IsCall (alternatives.Matches t walk removes k ∷ choices) = ⊤
 
 -- what the engine goes on with
 abbrev pub came_to : Came → Option ℕ
 came_to (came.Back k) = k
 came_to came.Call = None
 
--- a choice is gone, or a call's is the newest
+-- a choice is gone, or the newest is to be tried
 abbrev pub HasComeBack : Came → List Alternatives → List Alternatives → Type 0
 HasComeBack (came.Back k) old new = length new < length old
 HasComeBack came.Call old new = IsCall new

@@ -8,7 +8,7 @@ use Rattle.spec_lists.specs.Texts.{Text}
 use Rattle.spec_terms.specs.Term.{Var, named}
 use Rattle.spec_syntax.specs.Trees.{Tree}
 use Rattle.spec_branch.specs.Branch.{State, Branch}
-use Rattle.spec_search.specs.Database.{Database}
+use Rattle.spec_search.specs.Database.{Database, Clause}
 use Rattle.spec_search.specs.Replies.{Place, Reply}
 use Rattle.spec_search.specs.Search.{Search}
 use Rattle.cq_atoms.specs.Texts.{text_of}
@@ -23,16 +23,18 @@ use Rattle.cq_world.specs.declared.world.World.{World}
 use Rattle.cq_program.specs.Database.{Program, as_clause}
 use Rattle.cq_program.specs.Keys.{key_of}
 use Rattle.cq_clauses.specs.Walks.{left}
+use Rattle.cq_clauses.specs.declared.walk.Walk.{Walk}
 use Rattle.cq_predicates.specs.Given.{over, ways_left}
 use Rattle.cq_stored.specs.StoredValue.{ClauseValue}
 use Rattle.cq_control.specs.Open.{open_choices}
 use Rattle.spec_machine.specs.declared.cell.Cell.{Cell}
-use Rattle.spec_machine.specs.Cells.{Left, One, Clauses, Ways, Barrier, Value, Stack}
+use Rattle.spec_machine.specs.Cells.{Left, One, Clauses, Ways, Barrier, Catches, Caught, Gathers, Matches, Value, Stack}
 use Rattle.spec_machine.specs.Standing.{engine, IsPlace, AreWaiting, IsStanding}
 use Rattle.spec_machine.specs.Coming.{Comes}
 use Rattle.cq_steps.specs.declared.alternatives.Alternatives.{Alternatives}
 use Rattle.cq_steps.specs.declared.alternatives.Alternatives.TheVariants as alternatives
 use Rattle.cq_steps.specs.Selecting.{Reads, IsSelected, Becomes, HasGrown}
+use Rattle.cq_steps.specs.Stored.{stored_tree, stored_trees}
 
 -- ---- worlds
 
@@ -60,12 +62,20 @@ saved_values w saved = zip (saved_of w) saved
 
 -- ---- choices
 
+-- the clauses that a walk leaves
+abbrev pub clauses_left : List Text → Program → Walk → List Clause
+clauses_left texts v walk = map (as_clause texts v.contents) (left (λ (c : ClauseValue). key_of c.head) walk v)
+
 -- what a choice leaves to try, by the clauses of the program and the terms of its world, in which an alternative has no new variables
 abbrev pub left_of : List Text → Program → List HeapTerm → Alternatives → Left
 left_of texts v ts (alternatives.One k) = One k
-left_of texts v ts (alternatives.Clauses t walk k) = Clauses t (map (as_clause texts v.contents) (left (λ (c : ClauseValue). key_of c.head) walk v)) k
+left_of texts v ts (alternatives.Clauses t walk k) = Clauses t (clauses_left texts v walk) k
 left_of texts v ts (alternatives.Ways s k) = Ways (map (over 0) (ways_left texts ts s)) k
 left_of texts v ts alternatives.Barrier = Barrier
+left_of texts v ts (alternatives.Catches k) = Catches k
+left_of texts v ts (alternatives.Caught ball c r k) = Caught (stored_tree texts ball) c r k
+left_of texts v ts (alternatives.Gathers t copies k) = Gathers t (stored_trees texts copies) k
+left_of texts v ts (alternatives.Matches t walk removes k) = Matches t removes (clauses_left texts v walk) k
 
 abbrev pub left_at : List Text → Program → Value Contents × Alternatives → Value Contents × Left
 left_at texts v c = (c.0, left_of texts v c.0.0.heap.terms c.1)

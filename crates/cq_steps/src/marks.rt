@@ -31,7 +31,7 @@ enum Front {
 enum Came {
     /// To a continuation, or past a choice of no branch.
     Back(Option<Continuation>),
-    /// The clauses of a call are to be tried, or no choice is left.
+    /// What the newest choice leaves is to be tried, or no choice is left.
     Call,
 }
 
@@ -119,7 +119,7 @@ fn pass_from(
     }
 }
 
-/// Comes back to the newest choice, unless that is of a call.
+/// Comes back to the newest choice, unless what that leaves is to be tried.
 fn come_back(world: &mut Searching, choices: &mut Choices<Alternatives>) -> Came
     requires marked { AreMarked (saved_values world.old.first world.old.second.saved) choices.old }
     ensures marked { AreMarked (saved_values world.new.first world.new.second.saved) choices.new }
@@ -144,12 +144,19 @@ fn come_back(world: &mut Searching, choices: &mut Choices<Alternatives>) -> Came
             choices.back(world);
             Came::Back(None)
         }
+        Alternatives::Catches(_) => {
+            choices.back(world);
+            Came::Back(None)
+        }
         Alternatives::Clauses(_, _, _) => Came::Call,
         Alternatives::Ways(_, _) => Came::Call,
+        Alternatives::Caught(_, _, _, _) => Came::Call,
+        Alternatives::Gathers(_, _, _) => Came::Call,
+        Alternatives::Matches(_, _, _, _) => Came::Call,
     }
 }
 
-/// Goes on to where a goal is in front, nothing is left to do, the clauses of a call are to be tried, or no choice is left.
+/// Goes on to where a goal is in front, nothing is left to do, what a choice leaves is to be tried, or no choice is left.
 pub fn find_front(
     world: &mut Searching,
     choices: &mut Choices<Alternatives>,

@@ -25,6 +25,9 @@ pub enum Builtin {
     Not,
     Call,
     Once,
+    Catch,
+    Throw,
+    Findall,
     Unify,
     NotUnify,
     /// A predicate on terms or texts.
@@ -33,6 +36,8 @@ pub enum Builtin {
     Compare(Comparison),
     Asserta,
     Assertz,
+    Retract,
+    Clause,
     Dynamic,
     Discontiguous,
     Initialization,
@@ -99,6 +104,7 @@ fn of_one() -> &'static [Row]
         ("call", Builtin::Call),
         ("\\+", Builtin::Not),
         ("once", Builtin::Once),
+        ("throw", Builtin::Throw),
         ("var", Builtin::Predicate(Predicate::Test(TypeTest::Var))),
         (
             "nonvar",
@@ -135,6 +141,7 @@ fn of_one() -> &'static [Row]
         ),
         ("asserta", Builtin::Asserta),
         ("assertz", Builtin::Assertz),
+        ("retract", Builtin::Retract),
         ("dynamic", Builtin::Dynamic),
         ("discontiguous", Builtin::Discontiguous),
         ("initialization", Builtin::Initialization),
@@ -206,6 +213,7 @@ fn of_two() -> &'static [Row]
             "number_codes",
             Builtin::Predicate(Predicate::Convert(Conversion::NumberCodes)),
         ),
+        ("clause", Builtin::Clause),
         ("freeze", Builtin::Freeze),
         ("sup", Builtin::Sup),
         ("inf", Builtin::Inf),
@@ -218,6 +226,8 @@ fn of_three() -> &'static [Row]
 {
     &[
         ("call", Builtin::Call),
+        ("catch", Builtin::Catch),
+        ("findall", Builtin::Findall),
         ("functor", Builtin::Predicate(Predicate::Functor)),
         ("arg", Builtin::Predicate(Predicate::Arg)),
         ("atom_concat", Builtin::Predicate(Predicate::AtomConcat)),

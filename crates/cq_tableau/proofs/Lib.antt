@@ -16,3 +16,4 @@ pub mod Shortened
 pub mod Passed
 pub mod Restores
 pub mod Weights
+pub mod Blocking

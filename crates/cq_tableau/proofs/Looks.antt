@@ -403,17 +403,6 @@ module _ (told : List Constraint) (names : List Name) (old mid new : List Role) 
 pub none_below : (told : List Constraint) (names : List Name) (old : List Role) (flags : List Bool) → StandBelow told names old old flags 0
 none_below told names old flags forms l s z h = absurd (omega (arith, h))
 
--- ---- the rows below a number leave room
-module _ (roles : List Role) (flags : List Bool) (c : ℕ) where
-  pub one_leaves : (q : ℕ) → ((z : ℕ) → z < q → LeavesRoom roles flags c z) → LeavesRoom roles flags c q → (z : ℕ) → z < q + 1 → LeavesRoom roles flags c z
-  one_leaves q h k z l = elim (last z l) [ inl g ↦ h z g | inr e ↦ subst (LeavesRoom roles flags c) (sym e) k ]
-    where
-      last : (z : ℕ) → z < q + 1 → (z < q) ⊎ (z ≡ q)
-      last z l = grind arith
-
-  pub all_leave : ((z : ℕ) → z < length roles → LeavesRoom roles flags c z) → (z : ℕ) → LeavesRoom roles flags c z
-  all_leave h z r f = h z (at_below roles z (Basic r.0) r.1) r f
-
 -- ---- the member of a name
 number_named : (o : Option Name) (i : ℕ) → number_of o ≡ i → (i ≡ 0 → ⊥) → o ≡ Some (Member i)
 number_named None i e n = absurd (n (sym e))

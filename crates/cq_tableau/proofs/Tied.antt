@@ -27,14 +27,13 @@ use Rattle.cq_climb.specs.Climbs.{IsCarried}
 use Rattle.cq_simplex.specs.Answers.{IsSolution, IsMaximum, AreMultipliers, RisesWithoutEnd}
 use Rattle.spec_tableau.specs.Reach.{Rises, IsGreatest}
 use Rattle.spec_tableau.specs.Tableau.{numbers, AllIn, right_side, MeetsRows, IsShaped, Linked, Sound, IsOptimal, Changed, IsFeasible, HasFeasibleNumbers, Invariant}
-use Rattle.spec_tableau.specs.Entries.{entries}
 use Rattle.spec_tableau.proofs.Extent.{Grows}
 use Rattle.spec_rational.proofs.Order.{lt_to_pos}
 use Rattle.spec_rational.proofs.Sign.{pos_nonneg, nonneg_zero}
 use Rattle.spec_tableau.proofs.Written.{not_in, solves_weak, restricted_nonneg, rises_by_constant}
 use Rattle.spec_lists.proofs.Tests.{nat_eq-sym}
 use Rattle.cq_form.specs.Entries.{products_of}
-use Rattle.cq_tableau.specs.Forms.{row_of, form_at, tableau, Describes, certified}
+use Rattle.cq_tableau.specs.Forms.{row_of, form_at, tableau, Describes}
 
 same_sum : (x : ℕ → ℚ) (s : List Entry) → sums.sum_at x (products_of s) ≡ rows.sum_at x s
 same_sum x [] = refl

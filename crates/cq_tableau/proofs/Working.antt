@@ -11,12 +11,11 @@ use Rattle.spec_rational.proofs.Sign.{one_not_zero, pos_nonneg}
 use Rattle.spec_linear.specs.declared.Relation.{Relation}
 use Rattle.spec_linear.specs.declared.Relation.TheVariants.{Eq, Gt, Ge, Ne}
 use Rattle.spec_linear.specs.Form.{Linear, IsForm, value_at, variable_form}
-use Rattle.spec_linear.specs.Solution.{Constraint, equal_zero, Has, number, Satisfies, SomeMentions}
+use Rattle.spec_linear.specs.Solution.{Constraint, Has, number, Satisfies, SomeMentions}
 use Rattle.spec_linear.proofs.Denominators.{has_left, has_right}
 use Rattle.spec_linear.proofs.Points.{solves_same}
 use Rattle.spec_inequalities.specs.Certificate as of_list
 use Rattle.spec_inequalities.specs.Weak.{weak, with_weak}
-use Rattle.spec_inequalities.proofs.Far.{weak_member}
 use Rattle.spec_projection.specs.Elimination.{IsInequality}
 use Rattle.spec_tableau.specs.Tableau.{AllIn, Within, Chosen, Held, Sound, IsWritten as IsWrittenTableau, numbers}
 use Rattle.spec_tableau.proofs.Written.{within_is, not_in}
@@ -38,7 +37,6 @@ use Rattle.cq_store.proofs.Dictionary as of_quantities
 use Rattle.cq_store.proofs.Dictionary.{sum_same, sum_zero, sum_plus, pick_one, has_either}
 use Rattle.cq_store.proofs.Feasible.{all_zero, zero_of, turned}
 use Rattle.cq_store.proofs.Causes.{at_work, not_both, form_pairs, pivot_pairs}
-use Rattle.spec_simplex.proofs.Solutions.{true_not_false}
 use Rattle.spec_projection.specs.Interior.{is_equation}
 use Rattle.cq_tableau.specs.declared.names.Name.{Name}
 use Rattle.cq_tableau.specs.declared.names.Name.TheVariants.{Variable, Member}

@@ -50,15 +50,31 @@ fn blocks(dict: &Dict, q: usize, c: Col) -> bool
     }
 }
 
-/// A restricted row that holds the column to zero.
-fn blocking_row(dict: &Dict, c: Col) -> Option<usize>
+/// The same of any number, of which there may be no quantity.
+fn is_blocking(dict: &Dict, q: usize, c: Col) -> bool
     requires { AreOverColumns dict.now.roles }
+    ensures { MatchBool result (Blocks dict.now.roles dict.now.restricted c q) (LeavesRoom dict.now.roles dict.now.restricted c q) }
+{
+    if q >= dict.count() {
+        return false;
+    }
+    blocks(dict, q, c)
+}
+
+/// A restricted row that holds the column to zero. Only the rows on the column's list are looked at.
+fn blocking_row(dict: &Dict, c: Col) -> Option<usize>
+    requires table { AreOverColumns dict.now.roles }
+    requires there { c < length dict.now.roles }
     ensures { MatchOption result ((q : ℕ) → LeavesRoom dict.now.roles dict.now.restricted c q) (λ q. Blocks dict.now.roles dict.now.restricted c q) }
 {
-    for q in 0..dict.count() {
-        if blocks(dict, q, c) {
-            return Some(q);
+    let lists = dict.lists();
+    let mut list = lists.heads[c];
+    while list > 0 {
+        let cell = lists.cells[list - 1];
+        if is_blocking(dict, cell.row, c) {
+            return Some(cell.row);
         }
+        list = cell.older;
     }
     None
 }

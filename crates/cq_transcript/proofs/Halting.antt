@@ -2,7 +2,7 @@
 use Rattle.std.proofs.Common.{◌≡◌, ℕ, List, [], take, Option, Some, None, IfSome, inl, inr, refl, sym, ap, subst}
 use Rattle.cq_outside.specs.Files.{Files}
 use Rattle.cq_outside.specs.declared.shelf.TheConstants.{SIZE_LIMIT}
-use Rattle.cq_words.specs.Asked.{Asked}
+use Rattle.cq_words.specs.Asked.{Asked, ToRun}
 use Rattle.spec_lists.specs.Texts.{Text}
 use Rattle.spec_search.specs.Database.{initial}
 use Rattle.spec_transcript.specs.Session.{Opening}
@@ -62,12 +62,12 @@ module _ (o : Outside) (a : Asked) (held now : Option (List ℕ)) where
   is_rest (Some bytes) = refl
   is_rest None = tt
 
-  ends_anyhow : (left : Option (List ℕ)) (h : Halt) (text : Text) → ((bytes : List ℕ) → Ends o bytes (Some a) (status_of h) text (line_of h)) → Gains (status_of h) held now text
+  ends_anyhow : (left : Option (List ℕ)) (h : Halt) (text : Text) → ((bytes : List ℕ) → Ends o bytes (Some (ToRun a)) (status_of h) text (line_of h)) → Gains (status_of h) held now text
       → Halts o a left h held now
   ends_anyhow left h text ends gains = record { text = text; rest = rest_of left; is_left = is_rest left; ends = ends (rest_of left); written = gains }
 
   -- with these bytes left
-  ends_with : (left : Option (List ℕ)) (bytes : List ℕ) (h : Halt) (text : Text) → left ≡ Some bytes → Ends o bytes (Some a) (status_of h) text (line_of h)
+  ends_with : (left : Option (List ℕ)) (bytes : List ℕ) (h : Halt) (text : Text) → left ≡ Some bytes → Ends o bytes (Some (ToRun a)) (status_of h) text (line_of h)
       → Gains (status_of h) held now text → Halts o a left h held now
   ends_with left bytes h text is ends gains = record {
     text = text;

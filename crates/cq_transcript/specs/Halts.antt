@@ -1,7 +1,7 @@
 -- How a transcript of files and of the input ends, whole or broken off.
 use Rattle.std.specs.Prelude.{◌≡◌, ◌≤◌, ℕ, List, [], length, Option, Some, IfSome}
 use Rattle.cq_outside.specs.declared.shelf.TheConstants.{SIZE_LIMIT}
-use Rattle.cq_words.specs.Asked.{Asked}
+use Rattle.cq_words.specs.Asked.{Asked, ToRun}
 use Rattle.spec_endings.specs.Endings.{Ends, Gains, absent_line, large_line, input_line, read_line, write_line, memory_line}
 use Rattle.spec_endings.specs.Outside.{Outside, budgets_of}
 use Rattle.spec_endings.specs.declared.status.Status.{Status}
@@ -42,5 +42,5 @@ pub record Halts (o : Outside) (a : Asked) (left : Option (List ℕ)) (h : Halt)
   pub text : Text
   pub rest : List ℕ
   pub is_left : IfSome left (λ bytes. rest ≡ bytes)
-  pub ends : Ends o rest (Some a) (status_of h) text (line_of h)
+  pub ends : Ends o rest (Some (ToRun a)) (status_of h) text (line_of h)
   pub written : Gains (status_of h) held now text

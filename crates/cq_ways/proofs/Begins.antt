@@ -112,13 +112,13 @@ module _ (old mid : Held) (w : Way) (t : IsTaken old mid w) where
   older v = map (left_at more v) t.older
 
 module _ (old mid : Held) (w : Way) (t : IsTaken old mid w) (known : AreNamedByTerms (open_of mid)) (v : Program) (o : IsOver v old) where
-  open_there : Open v ((t.start, alternatives.Ways t.before w.rest) ∷ t.older)
-  open_there = subst (Open v) t.was o.choices
+  open_there : Open old.texts v ((t.start, alternatives.Ways t.before w.rest) ∷ t.older)
+  open_there = subst (Open old.texts v) t.was o.choices
 
   known_there : AreNamedByTerms ((t.start, alternatives.Ways t.before w.rest) ∷ t.older)
   known_there = subst AreNamedByTerms t.is known
 
-  older_open : Open v t.older
+  older_open : Open old.texts v t.older
   older_open = open_there.1
 
   module _ (db : Database) (n : ℕ) (s : Search) (j : Stands old.texts v db n old.saved old.choices old.now None s) where

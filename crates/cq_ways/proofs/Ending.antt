@@ -4,6 +4,7 @@ use Rattle.std.specs.Prelude.{OnErr, Ok, Err}
 use Rattle.std.specs.declared.result.Result.{Result}
 use Rattle.std.specs.List.{AllByRecursion}
 use Rattle.spec_lists.specs.Prefixes.{IsPrefix}
+use Rattle.spec_lists.specs.Texts.{Text}
 use Rattle.spec_search.specs.Replies.{alternative_child}
 use Rattle.cq_linear.specs.declared.store.StoreFault.{StoreFault}
 use Rattle.cq_predicates.specs.Given.{over, ways_left}
@@ -18,19 +19,20 @@ use Rattle.cq_steps.specs.declared.alternatives.Alternatives.TheVariants as alte
 use Rattle.cq_steps.specs.Choices.{CanBeTried}
 use Rattle.cq_steps.specs.Worlds.{IsBranch, term_in, left_at}
 use Rattle.cq_steps.proofs.Arrived.{quietly_on}
+use Rattle.cq_steps.proofs.Counted.{open_more}
 use Rattle.cq_begin.proofs.Back.{fault_after}
 use Rattle.cq_ways.specs.Held.{Held, IsOver, StaysOver, AreNamedByTerms, open_of}
 use Rattle.cq_ways.specs.Trying.{IsSearching, ComesOver, StopsOver}
 use Rattle.cq_ways.proofs.Stacked.{program_more, waits_more, back_more}
 
-abbrev pub Open : Program → List (Value Contents × Alternatives) → Type 0
-Open v xs = AllByRecursion (λ (c : Value Contents × Alternatives). CanBeTried v c.0.0.heap.terms c.1) xs
+abbrev pub Open : List Text → Program → List (Value Contents × Alternatives) → Type 0
+Open texts v xs = AllByRecursion (λ (c : Value Contents × Alternatives). CanBeTried texts v c.0.0.heap.terms c.1) xs
 
 -- ---- an engine whose choices are these
 
-pub over_with : (old new : Held) (v : Program) → IsOver v old → IsPrefix old.texts new.texts → (xs : List (Value Contents × Alternatives)) → open_of new ≡ xs → Open v xs
+pub over_with : (old new : Held) (v : Program) → IsOver v old → IsPrefix old.texts new.texts → (xs : List (Value Contents × Alternatives)) → open_of new ≡ xs → Open old.texts v xs
     → IsOver v new
-over_with old new v o longer xs e can = record { program = program_more new.texts v old longer o; choices = subst (Open v) (sym e) can }
+over_with old new v o longer xs e can = record { program = program_more new.texts v old longer o; choices = subst (Open new.texts v) (sym e) (open_more old.texts new.texts longer v xs can) }
 
 -- nothing but names has changed
 pub over_same : (old new : Held) (v : Program) → IsOver v old → IsPrefix old.texts new.texts → open_of new ≡ open_of old → IsOver v new
@@ -58,7 +60,7 @@ comes_same old new known longer e v o steps db n s j =
 module _ (old new : Held) (longer : IsPrefix old.texts new.texts) (start : Value Contents) (s : Solutions) (rest : ℕ) (older : List (Value Contents × Alternatives))
     (was : open_of old ≡ (start, alternatives.Ways s rest) ∷ older) (is : open_of new ≡ older) where
   pub over_ended : StaysOver old new
-  over_ended v o = over_with old new v o longer older is (subst (Open v) was o.choices).1
+  over_ended v o = over_with old new v o longer older is (subst (Open old.texts v) was o.choices).1
 
   pub comes_ended : AreNamedByTerms (open_of old) → ways_left old.texts start.0.heap.terms s ≡ [] → ComesOver old new None
   comes_ended known none v o steps db n t j =
@@ -76,7 +78,7 @@ module _ (old new : Held) (longer : IsPrefix old.texts new.texts) (start : Value
           branches = j.branches ∙ ap (λ bs. j.first ++ bs) (w.2 ∙ ap (λ bs. bs ++ w.1) own);
           current = j.current;
           waiting = subst (λ xs. AreWaiting (IsBranch new.texts) (term_in new.texts) (map (left_at new.texts v) xs) w.1) (sym is)
-              (waits_more texts new.texts longer v o.program older (subst (Open v) was o.choices).1 (subst AreNamedByTerms was known).1 w.1 w.4);
+              (waits_more texts new.texts longer v o.program older (subst (Open old.texts v) was o.choices).1 (subst AreNamedByTerms was known).1 w.1 w.4);
         };
       }
 

@@ -31,14 +31,14 @@ use Rattle.cq_predicates.specs.declared.solutions.Solutions.{Solutions}
 use Rattle.cq_predicates.proofs.Staying.{ways_kept}
 use Rattle.cq_program.specs.Database.{Program, IsProgram, IsCounted, IsKnown, as_clause, as_parts, as_procedure, as_kind, as_database, content_at}
 use Rattle.cq_program.specs.Keys.{key_of}
-use Rattle.cq_stored.specs.StoredValue.{ClauseValue}
+use Rattle.cq_stored.specs.StoredValue.{ClauseValue, StoredValue}
 use Rattle.cq_term.specs.HeapValue.{HeapValue, Terms}
 use Rattle.cq_term.specs.Meaning.{blank}
 use Rattle.cq_term.specs.Names.{HasNamesOfTerms}
 use Rattle.cq_term.specs.Trees.{KnowsTerms}
 use Rattle.cq_term.proofs.Known.{names_more}
 use Rattle.cq_world.specs.Contents.{Contents}
-use Rattle.spec_machine.specs.Cells.{Left, Clauses, Ways, Value, Stack}
+use Rattle.spec_machine.specs.Cells.{Left, Clauses, Ways, Caught, Gathers, Matches, Value, Stack}
 use Rattle.spec_machine.specs.Standing.{engine, AreBranches, AreWaiting, IsPlace, IsStanding}
 use Rattle.cq_steps.specs.declared.alternatives.Alternatives.{Alternatives}
 use Rattle.cq_steps.specs.declared.alternatives.Alternatives.TheVariants as alternatives
@@ -46,6 +46,8 @@ use Rattle.cq_steps.specs.Choices.{CanBeTried}
 use Rattle.cq_steps.specs.Worlds.{IsBranch, term_in, left_of, left_at, stack, Stands}
 use Rattle.cq_ways.specs.Held.{Held, IsOver, AreNamedByTerms, open_of}
 use Rattle.cq_ways.proofs.Named.{branch_named, term_named, known_more}
+use Rattle.cq_steps.proofs.Counted.{open_more}
+use Rattle.cq_steps.specs.Stored.{IsCountedTerm, stored_tree, stored_trees}
 use Rattle.cq_ways.proofs.Reread.{waiting_known, place_known, current_known}
 
 abbrev IsNamed : Contents → Type 0
@@ -168,9 +170,20 @@ module _ (texts more : List Text) (longer : IsPrefix texts more) where
     clauses_same : (w : Walk) → IsWalk w v → SameClauses (left (λ (c : ClauseValue). key_of c.head) w v)
     clauses_same w is = elim (cases_lt 0 (length texts)) [ inl some ↦ clauses_any some (left (λ (c : ClauseValue). key_of c.head) w v) | inr no_name ↦ without_names no_name w is ]
 
+    -- ---- terms that are stored
+
+    stored_named : (s : StoredValue) → IsCountedTerm (length texts) s → stored_tree more s ≡ stored_tree texts s
+    stored_named s k = named_alike (length texts) (text_of more) (text_of texts) text_kept s.term k.below
+
+    all_stored_named : (copies : List StoredValue) → All (IsCountedTerm (length texts)) copies → stored_trees more copies ≡ stored_trees texts copies
+    all_stored_named [] k = refl
+    all_stored_named (s ∷ copies) k =
+        ap₂ (λ t ts. t ∷ ts) (stored_named s (All-head (IsCountedTerm (length texts)) s copies k))
+        (all_stored_named copies (All-tail (IsCountedTerm (length texts)) s copies k))
+
     -- ---- all of them
 
-    left_same : (older : Stack Contents) (w : Value Contents) (a : Alternatives) (bs : List Branch) → CanBeTried v w.0.heap.terms a
+    left_same : (older : Stack Contents) (w : Value Contents) (a : Alternatives) (bs : List Branch) → CanBeTried texts v w.0.heap.terms a
         → AreBranches (IsBranch texts) (term_in texts) older w (left_of texts v w.0.heap.terms a) bs
         → left_of more v w.0.heap.terms a ≡ left_of texts v w.0.heap.terms a
     left_same older w (alternatives.One k) bs can are = refl
@@ -178,9 +191,13 @@ module _ (texts more : List Text) (longer : IsPrefix texts more) where
     left_same older w (alternatives.Ways s k) bs can are =
         ap (λ ws. Ways (map (over 0) ws) k) (ways_named w.0.heap are.2.continuation.state.ready.stands.names s can)
     left_same older w alternatives.Barrier bs can are = refl
+    left_same older w (alternatives.Catches k) bs can are = refl
+    left_same older w (alternatives.Caught ball c r k) bs can are = ap (λ t. Caught t c r k) (stored_named ball can)
+    left_same older w (alternatives.Gathers t copies k) bs can are = ap (λ ts. Gathers t ts k) (all_stored_named copies can)
+    left_same older w (alternatives.Matches t walk removes k) bs can are = ap (λ cs. Matches t removes cs k) (clauses_same walk can)
 
     abbrev Open : List (Value Contents × Alternatives) → Type 0
-    Open xs = AllByRecursion (λ (c : Value Contents × Alternatives). CanBeTried v c.0.0.heap.terms c.1) xs
+    Open xs = AllByRecursion (λ (c : Value Contents × Alternatives). CanBeTried texts v c.0.0.heap.terms c.1) xs
 
     pub same_choices : (xs : List (Value Contents × Alternatives)) → Open xs → (bs : List Branch)
         → AreWaiting (IsBranch texts) (term_in texts) (map (left_at texts v) xs) bs → map (left_at more v) xs ≡ map (left_at texts v) xs
@@ -234,7 +251,7 @@ module _ (more : List Text) (v : Program) (h : Held) (longer : IsPrefix h.texts 
   }
 
   pub over_more : IsOver v (record h { texts = more })
-  over_more = record { program = program_more; choices = o.choices }
+  over_more = record { program = program_more; choices = open_more h.texts more longer v (open_of h) o.choices }
 
   pub same_stack : (behind : List Branch) → AreWaiting (IsBranch h.texts) (term_in h.texts) (stack h.texts v h.saved h.choices) behind
       → stack more v h.saved h.choices ≡ stack h.texts v h.saved h.choices

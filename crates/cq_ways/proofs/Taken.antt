@@ -51,17 +51,17 @@ module _ (h : Held) (works : IsSearching h) (start : Value Contents) (s : Soluti
 pub over_barrier : (old new : Held) → IsPrefix old.texts new.texts → (start : Value Contents) (s : Solutions) (rest : ℕ) (older : List (Value Contents × Alternatives))
     → open_of old ≡ (start, alternatives.Ways s rest) ∷ older → open_of new ≡ (start, alternatives.Barrier) ∷ older → StaysOver old new
 over_barrier old new longer start s rest older was is v o =
-    over_with old new v o longer ((start, alternatives.Barrier) ∷ older) is (tt, (subst (Open v) was o.choices).1)
+    over_with old new v o longer ((start, alternatives.Barrier) ∷ older) is (tt, (subst (Open old.texts v) was o.choices).1)
 
 -- the choice has other alternatives left
 pub over_left : (old new : Held) → IsPrefix old.texts new.texts → (start : Value Contents) (s left : Solutions) (rest : ℕ) (older : List (Value Contents × Alternatives))
     → open_of old ≡ (start, alternatives.Ways s rest) ∷ older → open_of new ≡ (start, alternatives.Ways left rest) ∷ older → CanGoOn start.0.heap.terms left → StaysOver old new
 over_left old new longer start s left rest older was is can v o =
-    over_with old new v o longer ((start, alternatives.Ways left rest) ∷ older) is (can, (subst (Open v) was o.choices).1)
+    over_with old new v o longer ((start, alternatives.Ways left rest) ∷ older) is (can, (subst (Open old.texts v) was o.choices).1)
 
 -- it goes back to a world to which terms were added
 pub over_built : (old new : Held) → IsPrefix old.texts new.texts → (start : Value Contents) (s left : Solutions) (rest : ℕ) (older : List (Value Contents × Alternatives))
     → open_of old ≡ (start, alternatives.Ways s rest) ∷ older → (now : Value Contents) → open_of new ≡ (now, alternatives.Ways left rest) ∷ older
     → CanGoOn now.0.heap.terms left → StaysOver old new
 over_built old new longer start s left rest older was now is can v o =
-    over_with old new v o longer ((now, alternatives.Ways left rest) ∷ older) is (can, (subst (Open v) was o.choices).1)
+    over_with old new v o longer ((now, alternatives.Ways left rest) ∷ older) is (can, (subst (Open old.texts v) was o.choices).1)

@@ -44,7 +44,7 @@ AreNamedByTerms xs = AllByRecursion (λ (c : Value Contents × Alternatives). Ha
 -- the names are those of the program, and each choice can be gone on with
 pub record IsOver (v : Program) (h : Held) : Type 0 where
   pub program : IsProgram h.texts v
-  pub choices : AreOpen v h.saved h.choices
+  pub choices : AreOpen h.texts v h.saved h.choices
 
 -- nothing has changed but names that may have been added
 pub record IsAsBefore (old new : Held) : Type 0 where

@@ -91,6 +91,10 @@ count_left texts x (alternatives.One k) = 0
 count_left texts x (alternatives.Clauses t walk k) = 0
 count_left texts x (alternatives.Ways s k) = length (ways_left texts x.0.heap.terms s)
 count_left texts x alternatives.Barrier = 0
+count_left texts x (alternatives.Catches k) = 0
+count_left texts x (alternatives.Caught ball c r k) = 0
+count_left texts x (alternatives.Gathers t copies k) = 0
+count_left texts x (alternatives.Matches t walk removes k) = 0
 
 abbrev pub newest_count : List Text → List (Value Contents × Alternatives) → ℕ
 newest_count texts [] = 0

@@ -47,7 +47,7 @@ pub fn names_may_be_added()
     ensures term { (texts more : List Text) → IsPrefix texts more → (c : Contents) (st : State) → IsBranch texts c st
         → (id : ℕ) (t : Tree) → term_in texts c id ≡ Some t → term_in more c id ≡ Some t }
     ensures choices { (texts more : List Text) → IsPrefix texts more → (v : Program) → IsProgram texts v
-        → (saved : List (Value Contents)) (choices : List Alternatives) → AreOpen v saved choices
+        → (saved : List (Value Contents)) (choices : List Alternatives) → AreOpen texts v saved choices
         → (behind : List Branch) → AreWaiting (IsBranch texts) (term_in texts) (stack texts v saved choices) behind
         → stack more v saved choices ≡ stack texts v saved choices }
     ensures stands { (more : List Text) (v : Program) (h : Held) → IsPrefix h.texts more → IsOver v h

@@ -6,5 +6,5 @@ mod run;
 mod tests;
 mod words;
 
-pub use run::{ANSWERS, MOST, PIVOTS, Run, STEPS};
+pub use run::{ANSWERS, GREATEST, MOST, PIVOTS, Run, STEPS, Task};
 pub use words::{WordsFault, read_words};

@@ -1,4 +1,4 @@
-// What the command `run` is asked to do.
+// What the commands `run` and `gen` are asked to do.
 
 /// The most that the number of an option may be. The least is 1.
 pub const MOST: u64 = 1_000_000_000;
@@ -23,4 +23,16 @@ pub struct Run<'a> {
     pub answers: u64,
     /// The names of the files, in the order in which they are consulted.
     pub files: Vec<&'a str>,
+}
+
+/// The greatest number that `gen` takes. The least is 1.
+pub const GREATEST: u64 = 200;
+
+/// What the words of a command line ask for.
+#[derive(Debug, Drop)]
+pub enum Task<'a> {
+    /// The transcript of files and of the input.
+    Run(Run<'a>),
+    /// The line of the query for this number.
+    Gen(u64),
 }

@@ -1,5 +1,5 @@
 // Words of command lines, and what they ask for.
-use crate::{ANSWERS, PIVOTS, STEPS, WordsFault, read_words};
+use crate::{ANSWERS, PIVOTS, STEPS, Task, WordsFault, read_words};
 use std::alloc::{AllocError, Global};
 use std::test::Fail;
 
@@ -41,7 +41,16 @@ static TAKEN: [Taken; 8] = [
     ),
 ];
 
-static REFUSED: [&[&str]; 13] = [
+/// The words behind the program's name, and the number that `gen` is given.
+static GENERATED: [(&[&str], u64); 5] = [
+    (&["gen", "1"], 1),
+    (&["gen", "200"], 200),
+    (&["gen", "+07"], 7),
+    (&["gen", "--", "14"], 14),
+    (&["gen", "0200"], 200),
+];
+
+static REFUSED: [&[&str]; 21] = [
     &[],
     &["walk"],
     &["help"],
@@ -55,6 +64,14 @@ static REFUSED: [&[&str]; 13] = [
     &["run", "--steps", "1", "--steps", "2"],
     &["run", "--nodes", "1"],
     &["run", "-s"],
+    &["gen"],
+    &["gen", "0"],
+    &["gen", "201"],
+    &["gen", "-1"],
+    &["gen", "x"],
+    &["gen", "1", "2"],
+    &["gen", "--steps", "5", "1"],
+    &["gen", "--help"],
 ];
 
 fn words(alloc: Global, behind: &[&str]) -> Result<Vec<String>, AllocError> {
@@ -70,11 +87,23 @@ fn words(alloc: Global, behind: &[&str]) -> Result<Vec<String>, AllocError> {
 fn takes_the_command(rt: HostRuntime) -> Result<(), Fail> {
     for row in TAKEN.as_slice() {
         let words = words(rt.alloc(), row.0)?;
-        let Ok(run) = read_words(rt.alloc(), &words) else {
-            return Err("words that are refused".into());
+        let Ok(Task::Run(run)) = read_words(rt.alloc(), &words) else {
+            return Err("words that are refused, or no run".into());
         };
         assert!(rt; run.steps == row.1 && run.pivots == row.2 && run.answers == row.3);
         assert!(rt; run.files.as_slice() == row.4);
+    }
+    Ok(())
+}
+
+#[test]
+fn takes_a_number(rt: HostRuntime) -> Result<(), Fail> {
+    for row in GENERATED.as_slice() {
+        let words = words(rt.alloc(), row.0)?;
+        let Ok(Task::Gen(number)) = read_words(rt.alloc(), &words) else {
+            return Err("words that are refused, or no number".into());
+        };
+        assert!(rt; number == row.1);
     }
     Ok(())
 }

@@ -1,12 +1,16 @@
 -- What a run's ending says together with the counts: where nothing stands in the way, it is whole.
-use Rattle.std.proofs.Common.{◌≡◌, ◌≤◌, ℕ, List, [], ◌++◌, Bool, Option, Some, None, true, false, if◌then◌else◌, is_some, inl, inr, length, refl, subst, arith, length-append}
+use Rattle.std.proofs.Common.{◌≡◌, ◌<◌, ◌≤◌, ℕ, suc, List, [], ◌++◌, Bool, Option, Some, None, true, false, if◌then◌else◌, is_some, inl, inr, length, refl, subst, arith, length-append}
 use Rattle.std.specs.Prelude.{nat_le}
 use Rattle.std.specs.List.{AllByRecursion}
 use Rattle.std.proofs.lemmas.Bool.{leb-true}
 use Rattle.cq_outside.specs.Files.{IsTooLarge}
 use Rattle.cq_outside.specs.declared.shelf.TheConstants.{SIZE_LIMIT}
-use Rattle.cq_words.specs.Asked.{Asked}
+use Rattle.cq_words.specs.Asked.{Asked, Task, ToRun}
 use Rattle.spec_lists.specs.Texts.{Text}
+use Rattle.spec_writing.specs.Numbers.{whole_text}
+use Rattle.spec_gen.specs.Outcome.{gen_line}
+use Rattle.spec_gen.specs.Query.{least}
+use Rattle.spec_gen.proofs.Whole.{whole_line}
 use Rattle.spec_stops.specs.Causes.{Budgets}
 use Rattle.spec_transcript.specs.Session as session
 use Rattle.spec_transcript.specs.Session.{Session, Opening, Reading, Searching, Over, Mark, plain_line, error_line, stop_line, Marks, Step, Runs, none}
@@ -15,7 +19,9 @@ use Rattle.spec_endings.specs.declared.status.Status.TheVariants.{Done, Faulty, 
 use Rattle.spec_endings.specs.Outside.{Outside, budgets_of, given, within_size, ComesToFile}
 use Rattle.spec_endings.specs.Endings as ending
 use Rattle.spec_endings.specs.Endings.{Ends, IsLine}
-use Rattle.spec_endings.specs.Causes.{Counts, Caused, Completeness, IsClear, IsGiven, IsWhole}
+use Rattle.spec_endings.specs.Causes.{Counts, Caused, Completeness, GenCompleteness, IsClear, IsGiven, IsWhole}
+use Rattle.spec_endings.specs.Generated as generated
+use Rattle.spec_endings.specs.Generated.{GenEnds}
 
 module _ (budgets : Budgets) (shelf : Text → Option (List ℕ)) (input : List ℕ) where
   -- a stop among the marks was written by some step
@@ -77,12 +83,12 @@ module _ (o : Outside) (left : List ℕ) (old new : Counts) where
   is_given : (a : Asked) (name text : Text) → IsClear o a old new → ComesToFile o a name text → IsGiven o name
   is_given a name text clear f = (all_kept (budgets_of a) (given o.files) o.input (IsGiven o) _ _ text f.marks f.runs clear.files).0
 
-  no_stopped : (a : Asked) (text line : Text) → IsClear o a old new → Ends o left (Some a) Stopped text line → ⊥
+  no_stopped : (a : Asked) (text line : Text) → IsClear o a old new → Ends o left (Some (ToRun a)) Stopped text line → ⊥
   no_stopped a text line clear (ending.stopped errors small whole runs) =
       let (before, out, m, here, next, reached, step) = stop_step (budgets_of a) (given o.files) o.input _ _ text _ runs.runs refl in
       clear.no_stop before out m here next reached step
 
-  no_file : (a : Asked) (text line : Text) → IsClear o a old new → Ends o left (Some a) NoFile text line → ⊥
+  no_file : (a : Asked) (text line : Text) → IsClear o a old new → Ends o left (Some (ToRun a)) NoFile text line → ⊥
   no_file a text line clear (ending.absent_file {name = name} absent f) =
       let e : is_some (within_size None) ≡ true = subst (λ x. is_some (within_size x) ≡ true) absent (is_given a name text clear f) in cc
   no_file a text line clear (ending.large_file {name = name} large f) = not_given (o.files name) large (is_given a name text clear f)
@@ -90,7 +96,7 @@ module _ (o : Outside) (left : List ℕ) (old new : Counts) where
       let size : length (taken ++ left) ≤ SIZE_LIMIT = subst (λ x. length x ≤ SIZE_LIMIT) split clear.size in
       omega (arith, length-append taken left, size, large)
 
-  whole : (a : Asked) (text line : Text) → IsClear o a old new → (status : Status) → Ends o left (Some a) status text line → Caused status (Some a) old new → IsWhole status
+  whole : (a : Asked) (text line : Text) → IsClear o a old new → (status : Status) → Ends o left (Some (ToRun a)) status text line → Caused status (Some (ToRun a)) old new → IsWhole status
   whole a text line clear Done ends caused = tt
   whole a text line clear Faulty ends caused = tt
   whole a text line clear BadWords ends caused = cc
@@ -104,9 +110,21 @@ module _ (o : Outside) (left : List ℕ) (old new : Counts) where
 pub completeness : Completeness
 completeness o left a status text line old new ends caused clear = whole o left old new a text line clear status ends caused
 
+pub gen_completeness : GenCompleteness
+gen_completeness n status text line old new (generated.done writes) caused clear = tt
+gen_completeness n status text line old new (generated.stopped {line = written} writes) caused clear = clear.no_stop written writes
+gen_completeness n status text line old new (generated.write_fault stops writes begins) caused clear = clear.out caused.1
+gen_completeness n status text line old new generated.no_memory caused clear = tt
+
 -- ---- lines
 
-pub lines : (o : Outside) (left : List ℕ) (asked : Option Asked) (status : Status) (text line : Text) → Ends o left asked status text line → IsLine status line
+gen_lines : (n : ℕ) (status : Status) (text line : Text) → GenEnds n status text line → IsLine status line
+gen_lines n status text line (generated.done writes) = refl
+gen_lines n status text line (generated.stopped writes) = refl
+gen_lines n status text line (generated.write_fault stops writes begins) = refl
+gen_lines n status text line generated.no_memory = refl
+
+pub lines : (o : Outside) (left : List ℕ) (asked : Option Task) (status : Status) (text line : Text) → Ends o left asked status text line → IsLine status line
 lines o left asked status text line (ending.done small whole runs) = refl
 lines o left asked status text line (ending.faulty small whole runs) = refl
 lines o left asked status text line (ending.stopped errors small whole runs) = refl
@@ -119,3 +137,7 @@ lines o left asked status text line (ending.input_fault taken split read) = refl
 lines o left asked status text line (ending.write_fault w) = refl
 lines o left asked status text line (ending.no_memory w) = refl
 lines o left asked status text line ending.no_memory_for_words = refl
+lines o left asked status text line (ending.generates {n = n} ends) = gen_lines n status text line ends
+
+pub done_line : (k : ℕ) → k < 200 → (text line : Text) → GenEnds (suc k) Done text line → text ≡ gen_line (suc k) (whole_text (least k)) 1
+done_line k small text line (generated.done writes) = whole_line k small text writes

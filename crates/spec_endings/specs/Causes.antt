@@ -3,11 +3,12 @@ use Rattle.std.specs.Prelude.{◌≡◌, ◌⊎◌, ◌≤◌, ℕ, List, length
 use Rattle.std.specs.List.{AllByRecursion}
 use Rattle.cq_outside.specs.Counts.{Rose, RoseBeyond}
 use Rattle.cq_outside.specs.declared.shelf.TheConstants.{SIZE_LIMIT}
-use Rattle.cq_words.specs.Asked.{Asked}
+use Rattle.cq_words.specs.Asked.{Asked, Task, ToRun, ToGen}
 use Rattle.spec_lists.specs.Texts.{Text}
 use Rattle.spec_transcript.specs.Session.{Session, Marks, stop_line, Step}
 use Rattle.spec_endings.specs.declared.status.Status.{Status}
 use Rattle.spec_endings.specs.declared.status.Status.TheVariants.{Done, Faulty, BadWords, NoFile, ReadFault, WriteFault, Stopped, NoMemory}
+use Rattle.spec_endings.specs.Generated.{GenEnds, IsGenClear}
 use Rattle.spec_endings.specs.Outside.{Outside, budgets_of, given, Reaches}
 use Rattle.spec_endings.specs.Endings.{Ends}
 
@@ -25,11 +26,11 @@ counted absent refused failed taken unwritten =
     record { shelf_faults = absent; shelf_refused = refused; source_faults = failed; source_taken = taken; out_faults = unwritten }
 
 -- the words are in the language
-abbrev pub TakesWords : Option Asked → Type 0
+abbrev pub TakesWords : Option Task → Type 0
 TakesWords asked = is_some asked ≡ true
 
 -- what each status says of the words and of the counts before and after the run
-abbrev pub Caused : Status → Option Asked → Counts → Counts → Type 0
+abbrev pub Caused : Status → Option Task → Counts → Counts → Type 0
 Caused Done asked old new = TakesWords asked
 Caused Faulty asked old new = TakesWords asked
 Caused BadWords asked old new = asked ≡ None
@@ -71,4 +72,9 @@ IsWhole NoMemory = ⊤
 -- the law that completeness follows from how the run ended and what its status says of the counts
 abbrev pub Completeness : Type 0
 Completeness = (o : Outside) (left : List ℕ) (a : Asked) (status : Status) (text line : Text) (old new : Counts)
-    → Ends o left (Some a) status text line → Caused status (Some a) old new → IsClear o a old new → IsWhole status
+    → Ends o left (Some (ToRun a)) status text line → Caused status (Some (ToRun a)) old new → IsClear o a old new → IsWhole status
+
+-- the same of `gen`
+abbrev pub GenCompleteness : Type 0
+GenCompleteness = (n : ℕ) (status : Status) (text line : Text) (old new : Counts) → GenEnds n status text line → Caused status (Some (ToGen n)) old new
+    → IsGenClear n old.out_faults new.out_faults → IsWhole status

@@ -1,13 +1,15 @@
 -- How a run ends: its status, the text on `out` and the line on `err`.
-use Rattle.std.specs.Prelude.{◌≡◌, ◌⊎◌, ◌<◌, ◌≤◌, ℕ, List, [], ◌++◌, length, take, Bool, true, false, Option, Some, None, IfSome, codes}
+use Rattle.std.specs.Prelude.{◌≡◌, ◌⊎◌, ◌<◌, ◌≤◌, ℕ, List, [], ◌++◌, length, take, Bool, true, false, Option, Some, None, IfSome}
 use Rattle.cq_outside.specs.Counts.{Rose}
 use Rattle.cq_outside.specs.Bytes.{Adds, Appends, Begins}
 use Rattle.cq_outside.specs.Files.{IsTooLarge}
 use Rattle.cq_outside.specs.declared.shelf.TheConstants.{SIZE_LIMIT}
-use Rattle.cq_words.specs.Asked.{Asked}
+use Rattle.cq_words.specs.Asked.{Asked, Task, ToRun, ToGen}
 use Rattle.spec_lists.specs.Texts.{Text}
 use Rattle.spec_endings.specs.declared.status.Status.{Status}
 use Rattle.spec_endings.specs.declared.status.Status.TheVariants.{Done, Faulty, BadWords, NoFile, ReadFault, WriteFault, Stopped, NoMemory}
+use Rattle.spec_endings.specs.Generated.{GenEnds}
+pub use Rattle.spec_endings.specs.Lines.{words_line, absent_line, large_line, input_line, read_line, write_line, memory_line}
 use Rattle.spec_endings.specs.Outside.{Outside, Transcribes, HasWritten, ComesToFile, HasReadAll}
 
 -- the exit status of the program
@@ -22,27 +24,6 @@ number_of Stopped = 6
 number_of NoMemory = 7
 
 -- ---- lines
-
-abbrev pub words_line : Text
-words_line = codes "clpq: bad command line\n"
-
-abbrev pub absent_line : Text → Text
-absent_line name = codes "clpq: no file " ++ name ++ codes "\n"
-
-abbrev pub large_line : Text → Text
-large_line name = codes "clpq: too large " ++ name ++ codes "\n"
-
-abbrev pub input_line : Text
-input_line = codes "clpq: too large input\n"
-
-abbrev pub read_line : Text
-read_line = codes "clpq: read failed\n"
-
-abbrev pub write_line : Text
-write_line = codes "clpq: write failed\n"
-
-abbrev pub memory_line : Text
-memory_line = codes "clpq: out of memory\n"
 
 -- the line of a status, whatever is told
 abbrev pub IsLine : Status → Text → Type 0
@@ -59,27 +40,28 @@ IsLine NoMemory line = line ≡ memory_line
 
 -- How a run ends, for what its words ask for, with these bytes of the input left: its status, what it wrote, and its line. One
 -- transcript shows all three.
-pub data Ends (o : Outside) (left : List ℕ) : Option Asked → Status → Text → Text → Type 0 where
+pub data Ends (o : Outside) (left : List ℕ) : Option Task → Status → Text → Text → Type 0 where
   done : {a : Asked} {text : Text} → length o.input ≤ SIZE_LIMIT → left ≡ [] → Transcribes o a text (record { faulty = false; stopped = false })
-      → Ends o left (Some a) Done text []
+      → Ends o left (Some (ToRun a)) Done text []
   faulty : {a : Asked} {text : Text} → length o.input ≤ SIZE_LIMIT → left ≡ [] → Transcribes o a text (record { faulty = true; stopped = false })
-      → Ends o left (Some a) Faulty text []
+      → Ends o left (Some (ToRun a)) Faulty text []
   stopped : {a : Asked} {text : Text} (errors : Bool) → length o.input ≤ SIZE_LIMIT → left ≡ []
-      → Transcribes o a text (record { faulty = errors; stopped = true }) → Ends o left (Some a) Stopped text []
+      → Transcribes o a text (record { faulty = errors; stopped = true }) → Ends o left (Some (ToRun a)) Stopped text []
   bad_words : Ends o left None BadWords [] words_line
-  absent_file : {a : Asked} {name text : Text} → o.files name ≡ None → ComesToFile o a name text → Ends o left (Some a) NoFile text (absent_line name)
+  absent_file : {a : Asked} {name text : Text} → o.files name ≡ None → ComesToFile o a name text → Ends o left (Some (ToRun a)) NoFile text (absent_line name)
   large_file : {a : Asked} {name text : Text} → IsTooLarge (o.files name) → ComesToFile o a name text
-      → Ends o left (Some a) NoFile text (large_line name)
+      → Ends o left (Some (ToRun a)) NoFile text (large_line name)
   -- of all that the bytes within the limit decide the transcript is written
   large_input : {a : Asked} {text : Text} (taken : List ℕ) → o.input ≡ taken ++ left → SIZE_LIMIT < length taken
-      → HasReadAll o a (take SIZE_LIMIT taken) text → Ends o left (Some a) NoFile text input_line
-  file_fault : {a : Asked} {name text : Text} → ComesToFile o a name text → Ends o left (Some a) ReadFault text read_line
+      → HasReadAll o a (take SIZE_LIMIT taken) text → Ends o left (Some (ToRun a)) NoFile text input_line
+  file_fault : {a : Asked} {name text : Text} → ComesToFile o a name text → Ends o left (Some (ToRun a)) ReadFault text read_line
   -- of all that the bytes decide that were taken the transcript is written
   input_fault : {a : Asked} {text : Text} (taken : List ℕ) → o.input ≡ taken ++ left → HasReadAll o a taken text
-      → Ends o left (Some a) ReadFault text read_line
-  write_fault : {a : Asked} {text : Text} → HasWritten o a text → Ends o left (Some a) WriteFault text write_line
-  no_memory : {a : Asked} {text : Text} → HasWritten o a text → Ends o left (Some a) NoMemory text memory_line
+      → Ends o left (Some (ToRun a)) ReadFault text read_line
+  write_fault : {a : Asked} {text : Text} → HasWritten o a text → Ends o left (Some (ToRun a)) WriteFault text write_line
+  no_memory : {a : Asked} {text : Text} → HasWritten o a text → Ends o left (Some (ToRun a)) NoMemory text memory_line
   no_memory_for_words : Ends o left None NoMemory [] memory_line
+  generates : {n : ℕ} {status : Status} {text line : Text} → GenEnds n status text line → Ends o left (Some (ToGen n)) status text line
 
 -- what `out` gained at this status: after a failed write it may tell no more
 abbrev pub Gains : Status → Option (List ℕ) → Option (List ℕ) → Text → Type 0
@@ -114,11 +96,19 @@ pub record Tells (status : Status) (err : Sinks) : Type 0 where
 
 -- A run ended so, with these bytes of the input left, where the source tells them. What it wrote is what `out` gained, and the line of
 -- its cause is told.
-pub record Ended (o : Outside) (left : Option (List ℕ)) (asked : Option Asked) (status : Status) (held now : Option (List ℕ)) (err : Sinks) : Type 0 where
+pub record Ended (o : Outside) (left : Option (List ℕ)) (asked : Option Task) (status : Status) (held now : Option (List ℕ)) (err : Sinks) : Type 0 where
   pub text : Text
   pub line : Text
   pub rest : List ℕ
   pub is_left : IfSome left (λ bytes. rest ≡ bytes)
   pub ends : Ends o rest asked status text line
+  pub written : Gains status held now text
+  pub told : IsTold err line
+
+-- a run of `gen` ended so: what it wrote is what `out` gained, and the line of its cause is told
+pub record GenEnded (n : ℕ) (status : Status) (held now : Option (List ℕ)) (err : Sinks) : Type 0 where
+  pub text : Text
+  pub line : Text
+  pub ends : GenEnds n status text line
   pub written : Gains status held now text
   pub told : IsTold err line

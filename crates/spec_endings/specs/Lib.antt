@@ -1,3 +1,5 @@
 pub mod Outside
+pub mod Lines
+pub mod Generated
 pub mod Endings
 pub mod Causes

@@ -5,5 +5,5 @@
 mod laws;
 mod status;
 
-pub use laws::{completeness_follows, statuses_have_their_lines};
+pub use laws::{a_line_tells_the_least_value, completeness_follows, statuses_have_their_lines};
 pub use status::Status;

@@ -4,6 +4,7 @@ use Rattle.std.proofs.lemmas.List.{drop_at, length-map}
 use Rattle.spec_syntax.specs.Trees.{Tree}
 use Rattle.spec_branch.specs.Branch as branch
 use Rattle.spec_branch.specs.Branch.{State, Item, Branch}
+use Rattle.spec_search.specs.Changes.{clause_match}
 use Rattle.spec_search.specs.Replies.{Place, alternative_child}
 use Rattle.spec_search.specs.Control.{clause_child}
 use Rattle.spec_search.specs.Balls as balls
@@ -12,8 +13,8 @@ use Rattle.cq_control.specs.Items.{items_at}
 use Rattle.cq_control.specs.Open.{last}
 use Rattle.spec_machine.specs.declared.cell.Cell.{Cell}
 use Rattle.spec_machine.specs.declared.cell.Cell.TheVariants.{Goal, Call, CutTo, CutFail, CatchEnd, Collect}
-use Rattle.spec_machine.specs.Cells.{Fits, Left, One, Clauses, Ways, Barrier, Gathers, size, Value, Stack, below, top_world}
-use Rattle.spec_machine.specs.Standing.{AreItems, IsContinuation, IsPlace, AreBranches, AreWaiting, KeepsReading, ReadsOn}
+use Rattle.spec_machine.specs.Cells.{Fits, Left, One, Clauses, Ways, Barrier, Catches, Caught, Gathers, Matches, size, Value, Stack, below, top_catch, TopGathers}
+use Rattle.spec_machine.specs.Standing.{removed_by, AreItems, IsContinuation, IsPlace, AreBranches, AreWaiting, KeepsReading, ReadsOn}
 
 -- ---- the oldest ones
 
@@ -56,61 +57,73 @@ fits_more n m (CutFail h ∷ cs) le f = (omega (arith, f.0), f.1)
 fits_more n m (CatchEnd h c r ∷ cs) le f = (omega (arith, f.0), f.1)
 fits_more n m (Collect h t ∷ cs) le f = (omega (arith, f.0), f.1)
 
+-- choices that tell cells the same: they stand for as many branches, the newest one is the same catch, and gathers if the other does
+pub record Alike {W : Type 0} (rs ss : Stack W) : Type 0 where
+  pub branches : total size rs ≡ total size ss
+  pub catches : top_catch rs ≡ top_catch ss
+  pub gathers : TopGathers rs → TopGathers ss
+
+pub alike_same : {W : Type 0} (rs ss : Stack W) → rs ≡ ss → Alike rs ss
+alike_same rs ss e = record { branches = ap (total size) e; catches = ap top_catch e; gathers = subst TopGathers e }
+
 module _ {W : Type 0} (IsState : W → State → Type 0) (term : W → ℕ → Option Tree) where
-  -- over choices that agree as far as the cells speak of them
-  pub items_same : (rs ss : Stack W) (n : ℕ) → ((h : ℕ) → h ≤ n → last h rs ≡ last h ss) → (w : W) (st : State) (cs : List Cell) (items : List Item)
+  -- over choices that are alike as far as the cells speak of them
+  pub items_same : (rs ss : Stack W) (n : ℕ) → ((h : ℕ) → h ≤ n → Alike (last h rs) (last h ss)) → (w : W) (st : State) (cs : List Cell) (items : List Item)
       → Fits n cs → AreItems IsState term rs w st cs items → AreItems IsState term ss w st cs items
   items_same rs ss n same w st [] items f a = a
   items_same rs ss n same w st (Goal t cut ∷ cs) items f a = (
     a.0,
     a.1,
-    a.2 ∙ ap (λ (k : ℕ). branch.Goal a.0 k ∷ a.1) (ap (total size) (same cut f.0)),
+    a.2 ∙ ap (λ (k : ℕ). branch.Goal a.0 k ∷ a.1) (same cut f.0).branches,
     a.3,
     items_same rs ss cut (λ h le. same h (omega (arith, le, f.0))) w st cs a.1 f.1 a.4,
   )
   items_same rs ss n same w st (Call t ∷ cs) items f a = (a.0, a.1, a.2, a.3, a.4, items_same rs ss n same w st cs a.2 f a.5)
   items_same rs ss n same w st (CutTo k ∷ cs) items f a = (
     a.0,
-    a.1 ∙ ap (λ (m : ℕ). branch.CutTo m ∷ a.0) (ap (total size) (same k f.0)),
+    a.1 ∙ ap (λ (m : ℕ). branch.CutTo m ∷ a.0) (same k f.0).branches,
     items_same rs ss k (λ h le. same h (omega (arith, le, f.0))) w st cs a.0 f.1 a.2,
   )
   items_same rs ss n same w st (CutFail k ∷ cs) items f a = (
     a.0,
-    a.1 ∙ ap (λ (m : ℕ). branch.CutFail m ∷ a.0) (ap (total size) (same k f.0)),
+    a.1 ∙ ap (λ (m : ℕ). branch.CutFail m ∷ a.0) (same k f.0).branches,
     items_same rs ss k (λ h le. same h (omega (arith, le, f.0))) w st cs a.0 f.1 a.2,
   )
   items_same rs ss n same w st (CatchEnd k c r ∷ cs) items f a =
-      let below_k : (h : ℕ) → h ≤ k → last h rs ≡ last h ss = λ h le. same h (omega (arith, le, f.0)) in (
+      let below_k : (h : ℕ) → h ≤ k → Alike (last h rs) (last h ss) = λ h le. same h (omega (arith, le, f.0)) in (
         a.0,
         a.1,
         a.2,
         a.3,
         a.4,
-        a.5 ∙ ap (λ (m : ℕ). branch.CatchEnd m a.1 a.2 a.3 ∷ a.4) (ap (total size) (same k (omega (arith, f.0)))),
-        sym (ap top_world (same (suc k) (omega (arith, f.0)))) ∙ a.6,
+        a.5 ∙ ap (λ (m : ℕ). branch.CatchEnd m a.1 a.2 a.3 ∷ a.4) (same k (omega (arith, f.0))).branches,
+        sym (same (suc k) (omega (arith, f.0))).catches ∙ a.6,
         a.7,
         a.8,
         a.9,
-        items_same rs ss k below_k a.0 a.1 cs a.4 f.1 a.10,
-        items_same rs ss k below_k w st cs a.4 f.1 a.11,
+        a.10,
+        a.11,
+        items_same rs ss k below_k a.0.0.0 a.1 cs a.4 f.1 a.12,
+        items_same rs ss k below_k w st cs a.4 f.1 a.13,
       )
   items_same rs ss n same w st (Collect k t ∷ cs) items f a = (
     a.0,
     a.1,
-    a.2 ∙ ap (λ (m : ℕ). branch.Collect m a.0 ∷ a.1) (ap (total size) (same k (omega (arith, f.0)))),
-    a.3,
-    items_same rs ss k (λ h le. same h (omega (arith, le, f.0))) w st cs a.1 f.1 a.4,
+    a.2 ∙ ap (λ (m : ℕ). branch.Collect m a.0 ∷ a.1) (same k (omega (arith, f.0))).branches,
+    (same (suc k) (omega (arith, f.0))).gathers a.3,
+    a.4,
+    items_same rs ss k (λ h le. same h (omega (arith, le, f.0))) w st cs a.1 f.1 a.5,
   )
 
   -- under a choice more
   pub items_older : (c : Value W × Left) (rs : Stack W) (w : W) (st : State) (cs : List Cell) (items : List Item)
       → Fits (length rs) cs → AreItems IsState term rs w st cs items → AreItems IsState term (c ∷ rs) w st cs items
-  items_older c rs w st cs items f a = items_same rs (c ∷ rs) (length rs) (λ h le. sym (last-older c rs h le)) w st cs items f a
+  items_older c rs w st cs items f a = items_same rs (c ∷ rs) (length rs) (λ h le. alike_same _ _ (sym (last-older c rs h le))) w st cs items f a
 
   -- under the choices below a height
   pub items_last : (rs : Stack W) (k : ℕ) (w : W) (st : State) (cs : List Cell) (items : List Item)
       → Fits k cs → AreItems IsState term rs w st cs items → AreItems IsState term (last k rs) w st cs items
-  items_last rs k w st cs items f a = items_same rs (last k rs) k (λ h le. sym (last-last rs h k le)) w st cs items f a
+  items_last rs k w st cs items f a = items_same rs (last k rs) k (λ h le. alike_same _ _ (sym (last-last rs h k le))) w st cs items f a
 
   -- in a world and a state in which all terms are read on
   pub items_read_on : (rs : Stack W) (w : W) (st : State) (v : W) (su : State) → KeepsReading term w st v su → (cs : List Cell) (items : List Item)
@@ -121,8 +134,8 @@ module _ {W : Type 0} (IsState : W → State → Type 0) (term : W → ℕ → O
   items_read_on rs w st v su f (CutTo k ∷ cs) items a = (a.0, a.1, items_read_on rs w st v su f cs a.0 a.2)
   items_read_on rs w st v su f (CutFail k ∷ cs) items a = (a.0, a.1, items_read_on rs w st v su f cs a.0 a.2)
   items_read_on rs w st v su f (CatchEnd k c r ∷ cs) items a =
-      (a.0, a.1, a.2, a.3, a.4, a.5, a.6, a.7, a.8, a.9, a.10, items_read_on rs w st v su f cs a.4 a.11)
-  items_read_on rs w st v su f (Collect k t ∷ cs) items a = (a.0, a.1, a.2, f t a.0 a.3, items_read_on rs w st v su f cs a.1 a.4)
+      (a.0, a.1, a.2, a.3, a.4, a.5, a.6, a.7, a.8, a.9, a.10, a.11, a.12, items_read_on rs w st v su f cs a.4 a.13)
+  items_read_on rs w st v su f (Collect k t ∷ cs) items a = (a.0, a.1, a.2, a.3, f t a.0 a.4, items_read_on rs w st v su f cs a.1 a.5)
 
   -- ---- how many branches there are
 
@@ -131,7 +144,10 @@ module _ {W : Type 0} (IsState : W → State → Type 0) (term : W → ℕ → O
   length-branches older v (Clauses t cs k) bs a = ap length a.2 ∙ length-map cs (clause_child a.0 a.1)
   length-branches older v (Ways ways k) bs a = ap length a.1 ∙ length-map ways (alternative_child a.0)
   length-branches older v Barrier bs a = ap length a
-  length-branches older v (Gathers t cs k) bs a = ap length a.3
+  length-branches older v (Catches k) bs a = ap length a
+  length-branches older v (Caught ball c r k) bs a = ap length a.5
+  length-branches older v (Gathers t copies k) bs a = ap length a.4
+  length-branches older v (Matches t removes cs k) bs a = ap length a.2 ∙ length-map cs (clause_match a.0 (removed_by removes) a.1)
 
   pub length-waiting : (rs : Stack W) (bs : List Branch) → AreWaiting IsState term rs bs → length bs ≡ total size rs
   length-waiting [] bs a = ap length a
@@ -165,7 +181,7 @@ module _ {W : Type 0} (IsState IsOther : W → State → Type 0) (term other : W
   items_reread rs w st i (CutTo k ∷ cs) items a = (a.0, a.1, items_reread rs w st i cs a.0 a.2)
   items_reread rs w st i (CutFail k ∷ cs) items a = (a.0, a.1, items_reread rs w st i cs a.0 a.2)
   items_reread rs w st i (CatchEnd k c r ∷ cs) items a =
-      let o = on a.0 a.1 a.7 in (
+      let o = on a.0.0.0 a.1 a.9 in (
         a.0,
         a.1,
         a.2,
@@ -173,13 +189,15 @@ module _ {W : Type 0} (IsState IsOther : W → State → Type 0) (term other : W
         a.4,
         a.5,
         a.6,
+        a.7,
+        a.8,
         o.0,
-        o.1 c _ a.8,
-        o.1 r _ a.9,
-        items_reread rs a.0 a.1 a.7 cs a.4 a.10,
-        items_reread rs w st i cs a.4 a.11,
+        o.1 c _ a.10,
+        o.1 r _ a.11,
+        items_reread rs a.0.0.0 a.1 a.9 cs a.4 a.12,
+        items_reread rs w st i cs a.4 a.13,
       )
-  items_reread rs w st i (Collect k t ∷ cs) items a = (a.0, a.1, a.2, (on w st i).1 t _ a.3, items_reread rs w st i cs a.1 a.4)
+  items_reread rs w st i (Collect k t ∷ cs) items a = (a.0, a.1, a.2, a.3, (on w st i).1 t _ a.4, items_reread rs w st i cs a.1 a.5)
 
   pub continuation_reread : (rs : Stack W) (v : Value W) (k : ℕ) (items : List Item) (st : State)
       → IsContinuation IsState term rs v k items st → IsContinuation IsOther other rs v k items st
@@ -200,8 +218,14 @@ module _ {W : Type 0} (IsState IsOther : W → State → Type 0) (term other : W
       (a.0, a.1, a.2, (on v.0 a.0.state a.4.continuation.state).1 t a.1 a.3, place_reread older v k a.0 a.4)
   branches_reread older v (Ways ways k) bs a = (a.0, a.1, place_reread older v k a.0 a.2)
   branches_reread older v Barrier bs a = a
-  branches_reread older v (Gathers t cs k) bs a =
-      (a.0, a.1, a.2, a.3, (on v.0 a.1 a.5.state).1 t _ a.4, continuation_reread older v k a.0 a.1 a.5)
+  branches_reread older v (Catches k) bs a = a
+  branches_reread older v (Caught ball c r k) bs a =
+      let o = on v.0 a.1 a.9.state in
+      (a.0, a.1, a.2, a.3, a.4, a.5, a.6, o.1 c _ a.7, o.1 r _ a.8, continuation_reread older v k a.0 a.1 a.9)
+  branches_reread older v (Gathers t copies k) bs a =
+      (a.0, a.1, a.2, a.3, a.4, a.5, (on v.0 a.1 a.7.state).1 t _ a.6, continuation_reread older v k a.0 a.1 a.7)
+  branches_reread older v (Matches t removes cs k) bs a =
+      (a.0, a.1, a.2, (on v.0 a.0.state a.4.continuation.state).1 t _ a.3, place_reread older v k a.0 a.4)
 
   pub waiting_reread : (rs : Stack W) (bs : List Branch) → AreWaiting IsState term rs bs → AreWaiting IsOther other rs bs
   waiting_reread [] bs a = a

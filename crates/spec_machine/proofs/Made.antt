@@ -3,13 +3,13 @@ use Rattle.std.proofs.Common.{inl, ◌≡◌, ℕ, List, [], ◌∷◌, Option, 
 use Rattle.spec_syntax.specs.Trees.{Tree}
 use Rattle.spec_branch.specs.Branch.{State, Item, Branch, Pending, no_work, read}
 use Rattle.spec_branch.specs.Settling.{Settles, Kept, Pruned, Why}
-use Rattle.spec_search.specs.Database.{Database}
+use Rattle.spec_search.specs.Database.{Database, clause_removed}
 use Rattle.spec_search.specs.Replies.{Makes, Made, child}
 use Rattle.spec_search.specs.Rows.{reply_of}
 use Rattle.spec_search.specs.Steps as step
 use Rattle.spec_search.specs.Search.{Search, is_selecting, settled, Settling, Selecting, look_at}
 use Rattle.spec_search.specs.Turns as turn
-use Rattle.spec_search.specs.Turns.{Turn, Wrote, with_branches, place_of, older, after_step, after_removal}
+use Rattle.spec_search.specs.Turns.{Turn, Wrote, with_branches, place_of, after_step, after_removal}
 use Rattle.spec_machine.specs.Cells.{One, Value, Stack}
 use Rattle.spec_machine.specs.Standing.{engine, IsContinuation, AreWaiting}
 use Rattle.spec_machine.specs.Coming.{at_once, after, Comes}
@@ -31,6 +31,25 @@ module _ {W : Type 0} (IsState : W → State → Type 0) (term : W → ℕ → O
     quiet = after (inl (ap is_selecting look)) (turn.keeps look keep) at_once;
     stands = record {
       database = ap (λ (o : Option ℕ). after_removal o s.database) none ∙ d;
+      selected = e;
+      first = settled items' st' ∷ [];
+      behind = behind;
+      branches = refl;
+      current = (items', st', refl, cont);
+      waiting = wait;
+    };
+  }
+
+  -- the same, where a clause is removed then
+  pub child_removes : (steps : ℕ) (db : Database) (n : ℕ) (rs : Stack W) (now : Value W) (k : ℕ) (s : Search) (items : List Item) (st : State) (p : Pending) (behind : List Branch)
+      → s.database ≡ db → s.selected ≡ n → look_at s.branches ≡ Settling items st p behind → (m : ℕ) → p.removes ≡ Some m
+      → (items' : List Item) (st' : State) → Settles items st p (Kept (settled items' st')) → IsContinuation IsState term rs now k items' st' → AreWaiting IsState term rs behind
+      → Comes IsState term steps (engine (clause_removed m db) n rs now (Some k)) s
+  child_removes steps db n rs now k s items st p behind d e look m some items' st' keep cont wait = record {
+    reached = record s { database = after_removal p.removes s.database; branches = settled items' st' ∷ behind };
+    quiet = after (inl (ap is_selecting look)) (turn.keeps look keep) at_once;
+    stands = record {
+      database = ap (λ (o : Option ℕ). after_removal o s.database) some ∙ ap (clause_removed m) d;
       selected = e;
       first = settled items' st' ∷ [];
       behind = behind;

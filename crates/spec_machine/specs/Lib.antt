@@ -1,3 +1,4 @@
 pub mod Cells
 pub mod Standing
 pub mod Coming
+pub mod Trying

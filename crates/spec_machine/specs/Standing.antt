@@ -1,10 +1,14 @@
 -- How an engine stands for a search: its choices hold branches that are not made yet.
-use Rattle.std.specs.Prelude.{◌≡◌, ℕ, ◌<◌, List, [], ◌∷◌, ◌++◌, map, length, Option, Some, None}
+use Rattle.std.specs.Prelude.{◌≡◌, ℕ, ◌<◌, List, [], ◌∷◌, ◌++◌, map, length, Bool, true, false, Option, Some, None}
+use Rattle.std.specs.List.{AllZip}
+use Rattle.spec_terms.specs.Variables.{renamed_from}
 use Rattle.spec_syntax.specs.Trees.{Tree}
 use Rattle.spec_built.specs.Built.{compound1}
+use Rattle.spec_builtins.specs.Clauses.{HeadBody, rule}
 use Rattle.spec_branch.specs.Branch as branch
-use Rattle.spec_branch.specs.Branch.{State, Item, Branch, Copied, no_work, read}
-use Rattle.spec_search.specs.Database.{Database}
+use Rattle.spec_branch.specs.Branch.{State, Item, Branch, Copied, no_work, plain_copy, read}
+use Rattle.spec_search.specs.Changes.{clause_match}
+use Rattle.spec_search.specs.Database.{Database, Clause}
 use Rattle.spec_search.specs.Replies.{Place, child, alternative_child}
 use Rattle.spec_search.specs.Control.{clause_child}
 use Rattle.spec_search.specs.Balls as balls
@@ -14,7 +18,7 @@ use Rattle.cq_control.specs.Heights.{total}
 use Rattle.cq_control.specs.Items.{items_at}
 use Rattle.spec_machine.specs.declared.cell.Cell.{Cell}
 use Rattle.spec_machine.specs.declared.cell.Cell.TheVariants.{Goal, Call, CutTo, CutFail, CatchEnd, Collect}
-use Rattle.spec_machine.specs.Cells.{Fits, Left, One, Clauses, Ways, Barrier, Gathers, size, Value, Stack, below, world_at}
+use Rattle.spec_machine.specs.Cells.{Fits, Left, One, Clauses, Ways, Barrier, Catches, Caught, Gathers, Matches, size, Value, Stack, below, catch_at, GathersAt}
 
 -- an engine: the database, how many goals were selected, the choices, the world and the continuations now, and the
 -- continuation that it goes on with, if it doesn't come back
@@ -28,10 +32,21 @@ pub record Machine (W : Type 0) : Type 0 where
 abbrev pub engine : {W : Type 0} → Database → ℕ → Stack W → Value W → Option ℕ → Machine W
 engine db n choices now k = record { database = db; selected = n; choices = choices; now = now; current = k }
 
+-- the copy carries nothing, and is stored as this: its term, with the variables numbered from 0 on by first occurrence
+pub record IsStoredAs (c : Copied) (stored : Tree) : Type 0 where
+  pub plain : c ≡ plain_copy c.term
+  pub renamed : stored ≡ renamed_from 0 c.term
+
+-- the clause that is removed once the branch is kept, if clauses are
+abbrev pub removed_by : Bool → Clause → Option ℕ
+removed_by true c = Some c.number
+removed_by false c = None
+
 -- Over worlds that are states of branches, and that read some numbers as terms.
 module _ {W : Type 0} (IsState : W → State → Type 0) (term : W → ℕ → Option Tree) where
   -- The cells stand for these items of a branch, over these choices. A term of the branch reads in its state as the world
-  -- reads the term of the cell. What is behind the end of a catch reads so in the state of its call, too: a ball goes on there.
+  -- reads the term of the cell. What is behind the end of a catch reads so in the state of its call, too, which the choice at its
+  -- height keeps, with the continuation of these cells: a ball goes on there. At the height of a findall's mark a choice gathers.
   abbrev pub AreItems : Stack W → W → State → List Cell → List Item → Type 0
   AreItems choices w st [] items = items ≡ []
   AreItems choices w st (Goal t cut ∷ cs) items =
@@ -45,14 +60,14 @@ module _ {W : Type 0} (IsState : W → State → Type 0) (term : W → ℕ → O
   AreItems choices w st (CutFail h ∷ cs) items =
       (more : List Item) × (items ≡ branch.CutFail (below choices h) ∷ more) × AreItems choices w st cs more
   AreItems choices w st (CatchEnd h c r ∷ cs) items =
-      (v : W) × (saved : State) × (catcher : Tree) × (recovery : Tree) × (more : List Item)
+      (call : Value W × ℕ) × (saved : State) × (catcher : Tree) × (recovery : Tree) × (more : List Item)
       × (items ≡ branch.CatchEnd (below choices h) saved catcher recovery ∷ more)
-      × (world_at choices h ≡ Some v) × IsState v saved
-      × (term v c ≡ Some (read saved catcher)) × (term v r ≡ Some (read saved recovery))
-      × AreItems choices v saved cs more × AreItems choices w st cs more
+      × (catch_at choices h ≡ Some call) × (call.1 < length call.0.1) × (items_at call.0.1 call.1 ≡ cs) × IsState call.0.0 saved
+      × (term call.0.0 c ≡ Some (read saved catcher)) × (term call.0.0 r ≡ Some (read saved recovery))
+      × AreItems choices call.0.0 saved cs more × AreItems choices w st cs more
   AreItems choices w st (Collect h t ∷ cs) items =
       (template : Tree) × (more : List Item) × (items ≡ branch.Collect (below choices h) template ∷ more)
-      × (term w t ≡ Some (read st template)) × AreItems choices w st cs more
+      × GathersAt choices h × (term w t ≡ Some (read st template)) × AreItems choices w st cs more
 
   -- The continuation of this number stands for these items in this state: its cells speak of choices that are there.
   pub record IsContinuation (choices : Stack W) (v : Value W) (k : ℕ) (items : List Item) (st : State) : Type 0 where
@@ -74,9 +89,18 @@ module _ {W : Type 0} (IsState : W → State → Type 0) (term : W → ℕ → O
       (p : Place) × (goal : Tree) × (bs ≡ map (clause_child p goal) cs) × (term v.0 t ≡ Some goal) × IsPlace older v k p
   AreBranches older v (Ways ways k) bs = (p : Place) × (bs ≡ map (alternative_child p) ways) × IsPlace older v k p
   AreBranches older v Barrier bs = bs ≡ []
-  AreBranches older v (Gathers t cs k) bs =
-      (items : List Item) × (st : State) × (list : Tree) × (bs ≡ child (branch.Gathered list cs ∷ items) st no_work ∷ [])
+  AreBranches older v (Catches k) bs = bs ≡ []
+  AreBranches older v (Caught stored c r k) bs =
+      (items : List Item) × (st : State) × (ball : Copied) × (catcher : Tree) × (recovery : Tree)
+      × (bs ≡ caught_branch ball st catcher recovery items ∷ []) × IsStoredAs ball stored
+      × (term v.0 c ≡ Some (read st catcher)) × (term v.0 r ≡ Some (read st recovery)) × IsContinuation older v k items st
+  AreBranches older v (Gathers t stored k) bs =
+      (items : List Item) × (st : State) × (list : Tree) × (copies : List Copied)
+      × (bs ≡ child (branch.Gathered list copies ∷ items) st no_work ∷ []) × AllZip IsStoredAs copies stored
       × (term v.0 t ≡ Some (read st list)) × IsContinuation older v k items st
+  AreBranches older v (Matches t removes cs k) bs =
+      (p : Place) × (asked : HeadBody) × (bs ≡ map (clause_match p (removed_by removes) asked) cs) × (term v.0 t ≡ Some (rule asked))
+      × IsPlace older v k p
 
   -- what the choices stand for, those of the newest first
   abbrev pub AreWaiting : Stack W → List Branch → Type 0
@@ -100,19 +124,22 @@ module _ {W : Type 0} (IsState : W → State → Type 0) (term : W → ℕ → O
     pub waiting : AreWaiting m.choices behind
 
   -- A ball that comes up in front of these items is handed to the end of a catch, of this height, with these two other arguments
-  -- and these cells behind it: to the branch that the catch saved, in the world that the choice at the height keeps.
+  -- and these cells behind it: to the branch that the catch saved, in the world that the choice at the height keeps, with the
+  -- continuation of these cells.
   pub record IsHanded (choices : Stack W) (ball : Copied) (items : List Item) (behind : List Branch) (c : ℕ × ℕ × ℕ × List Cell) : Type 0 where
-    pub world : W
+    pub call : Value W × ℕ
     pub saved : State
     pub catcher : Tree
     pub recovery : Tree
     pub left : List Item
     pub is : handed ball items behind ≡ Some (caught_branch ball saved catcher recovery left ∷ balls.last (below choices c.0) behind)
-    pub kept : world_at choices c.0 ≡ Some world
-    pub state : IsState world saved
-    pub reads_catcher : term world c.1 ≡ Some (read saved catcher)
-    pub reads_recovery : term world c.2 ≡ Some (read saved recovery)
-    pub cells : AreItems choices world saved c.3 left
+    pub kept : catch_at choices c.0 ≡ Some call
+    pub there : call.1 < length call.0.1
+    pub behind_it : items_at call.0.1 call.1 ≡ c.3
+    pub state : IsState call.0.0 saved
+    pub reads_catcher : term call.0.0 c.1 ≡ Some (read saved catcher)
+    pub reads_recovery : term call.0.0 c.2 ≡ Some (read saved recovery)
+    pub cells : AreItems choices call.0.0 saved c.3 left
 
 -- ---- changes of a world
 

@@ -1,6 +1,7 @@
 // What an engine may do while it stands for a search, and for which search it stands then.
 
-ghost use Rattle.std.specs.Prelude.{◌≡◌, ◌<◌, ◌≤◌, ◌∷◌, [], ℕ, List, Option, None, Some, length};
+ghost use Rattle.std.specs.Prelude.{◌≡◌, ◌<◌, ◌≤◌, ◌∷◌, ◌++◌, [], ℕ, suc, List, Bool, Option, None, Some, length};
+ghost use Rattle.std.specs.List.{AllZip};
 ghost use Rattle.spec_lists.specs.Texts.{Text};
 ghost use Rattle.spec_syntax.specs.Trees.{Tree};
 ghost use Rattle.spec_branch.specs.Branch.{State, Item, Branch, Copied, Pending, no_work, read};
@@ -9,19 +10,23 @@ ghost use Rattle.spec_built.specs.Bodies.{as_goal};
 ghost use Rattle.spec_search.specs.Balls as balls;
 ghost use Rattle.spec_search.specs.Balls.{handed};
 ghost use Rattle.spec_search.specs.Control.{clause_items, clause_state, clause_work};
-ghost use Rattle.spec_search.specs.Database.{Database, Clause};
+ghost use Rattle.spec_search.specs.Database.{Database, Clause, clause_removed};
+ghost use Rattle.spec_terms.specs.Variables.{renamed_from};
 ghost use Rattle.spec_builtins.specs.Alternatives.{Alternative};
-ghost use Rattle.spec_search.specs.Replies.{Place, Made, Makes, child, with_new, with_equations};
+ghost use Rattle.spec_search.specs.Replies.{Place, Made, Makes, child, landed, with_new, with_equations};
 ghost use Rattle.spec_search.specs.Rows.{reply_of};
 ghost use Rattle.spec_search.specs.Search.{Search, settled, empty_state, start, look_at, Answering, Over, Selecting, Settling};
 ghost use Rattle.spec_search.specs.Turns.{Turn, Wrote, place_of, after_step};
 ghost use Rattle.cq_control.specs.Items.{items_at};
 ghost use Rattle.cq_control.specs.Open.{last};
 ghost use Rattle.spec_machine.specs.declared.cell.Cell.{Cell};
-ghost use Rattle.spec_machine.specs.declared.cell.Cell.TheVariants.{Goal, CutTo, CutFail, CatchEnd};
-ghost use Rattle.spec_machine.specs.Cells.{Fits, Left, One, Clauses, Ways, Barrier, Value, Stack, below, nearest_catch};
-ghost use Rattle.spec_machine.specs.Standing.{engine, AreItems, AreWaiting, IsContinuation, IsHanded, IsPlace, IsStanding, KeepsReading, ReadsOn};
-ghost use Rattle.spec_machine.specs.Coming.{Comes};
+ghost use Rattle.spec_machine.specs.declared.cell.Cell.TheVariants.{Goal, CutTo, CutFail, CatchEnd, Collect};
+ghost use Rattle.spec_machine.specs.Cells.{Fits, Left, One, Clauses, Ways, Barrier, Catches, Caught, Gathers, Matches, Value, Stack, below, catch_at};
+ghost use Rattle.spec_machine.specs.Cells.{GathersAt, nearest_catch};
+ghost use Rattle.spec_machine.specs.Standing.{engine, AreItems, AreWaiting, IsContinuation, IsHanded, IsPlace, IsStanding, IsStoredAs};
+ghost use Rattle.spec_machine.specs.Standing.{KeepsReading, ReadsOn};
+ghost use Rattle.spec_machine.specs.Coming.{Comes, Quietly};
+ghost use Rattle.spec_machine.specs.Trying.{ComparesClause, IsLanded, MakesList, TakesBall};
 
 /// Worlds that an engine keeps, where names have these texts: of which branches they are the states, and as which terms they
 /// read numbers.
@@ -62,7 +67,8 @@ pub fn standing_stays<R: StateWorlds>()
         → IsContinuation (R.is_state more) (R.term more) choices now k items st }
 {}
 
-/// A mark in front is passed: a cut to a height keeps the choices below it, and the end of a catch keeps all.
+/// A mark in front is passed: a cut to a height keeps the choices below it. The end of a catch keeps all, and needs the catch's own
+/// choice no more where that is the newest.
 pub fn marks_are_passed<R: StateWorlds>()
     ensures cut { (texts : List Text) (steps : ℕ) (db : Database) (n : ℕ) (choices : Stack R.World) (now : Value R.World) (k rest : ℕ) (s : Search)
         → IsStanding (R.is_state texts) (R.term texts) (engine db n choices now (Some k)) s → rest < k
@@ -76,6 +82,10 @@ pub fn marks_are_passed<R: StateWorlds>()
         → IsStanding (R.is_state texts) (R.term texts) (engine db n choices now (Some k)) s → rest < k
         → (height catcher recovery : ℕ) → items_at now.1 k ≡ CatchEnd height catcher recovery ∷ items_at now.1 rest
         → Comes (R.is_state texts) (R.term texts) steps (engine db n choices now (Some rest)) s }
+    ensures end_cuts { (texts : List Text) (steps : ℕ) (db : Database) (n : ℕ) (choices : Stack R.World) (now : Value R.World) (k rest : ℕ) (s : Search)
+        → IsStanding (R.is_state texts) (R.term texts) (engine db n choices now (Some k)) s → rest < k
+        → (height catcher recovery : ℕ) → items_at now.1 k ≡ CatchEnd height catcher recovery ∷ items_at now.1 rest → length choices ≡ suc height
+        → Comes (R.is_state texts) (R.term texts) steps (engine db n (last height choices) now (Some rest)) s }
 {}
 
 /// A goal in front is the one that the search selects, as it reads, with the continuation behind it for the items behind it.
@@ -92,7 +102,8 @@ pub fn goals_are_selected<R: StateWorlds>()
 {}
 
 /// The first branch is settled: where it is kept, the engine goes on with a continuation that stands for it, and where it is
-/// pruned, the engine comes back. A branch that waits with no work to do is a choice of its continuation.
+/// pruned, the engine comes back. A clause that the branch removes is gone once it is kept. A branch that waits with no work to do
+/// is a choice of its continuation.
 pub fn children_are_settled<R: StateWorlds>()
     ensures kept { (texts : List Text) (steps : ℕ) (db : Database) (n : ℕ) (choices : Stack R.World) (now : Value R.World) (k : ℕ) (s : Search)
         (items : List Item) (st : State) (p : Pending) (behind : List Branch) → s.database ≡ db → s.selected ≡ n
@@ -100,6 +111,12 @@ pub fn children_are_settled<R: StateWorlds>()
         → (left : List Item) (su : State) → Settles items st p (Kept (settled left su))
         → IsContinuation (R.is_state texts) (R.term texts) choices now k left su → AreWaiting (R.is_state texts) (R.term texts) choices behind
         → Comes (R.is_state texts) (R.term texts) steps (engine db n choices now (Some k)) s }
+    ensures removed { (texts : List Text) (steps : ℕ) (db : Database) (n : ℕ) (choices : Stack R.World) (now : Value R.World) (k : ℕ) (s : Search)
+        (items : List Item) (st : State) (p : Pending) (behind : List Branch) → s.database ≡ db → s.selected ≡ n
+        → look_at s.branches ≡ Settling items st p behind → (m : ℕ) → p.removes ≡ Some m
+        → (left : List Item) (su : State) → Settles items st p (Kept (settled left su))
+        → IsContinuation (R.is_state texts) (R.term texts) choices now k left su → AreWaiting (R.is_state texts) (R.term texts) choices behind
+        → Comes (R.is_state texts) (R.term texts) steps (engine (clause_removed m db) n choices now (Some k)) s }
     ensures pruned { (texts : List Text) (steps : ℕ) (db : Database) (n : ℕ) (choices : Stack R.World) (now : Value R.World) (s : Search)
         (items : List Item) (st : State) (p : Pending) (behind : List Branch) → s.database ≡ db → s.selected ≡ n
         → look_at s.branches ≡ Settling items st p behind → p.ball ≡ None → (why : Why) → Settles items st p (Pruned why)
@@ -139,6 +156,45 @@ pub fn choices_are_come_back_to<R: StateWorlds>()
     ensures ways_ended { (texts : List Text) (older : Stack R.World) (v : Value R.World) (k : ℕ) (branches : List Branch)
         → AreWaiting (R.is_state texts) (R.term texts) ((v, Ways [] k) ∷ older) branches
         → AreWaiting (R.is_state texts) (R.term texts) older branches }
+    ensures catches { (texts : List Text) (db : Database) (n : ℕ) (older : Stack R.World) (v now : Value R.World) (s : Search) (k : ℕ)
+        → IsStanding (R.is_state texts) (R.term texts) (engine db n ((v, Catches k) ∷ older) now None) s
+        → IsStanding (R.is_state texts) (R.term texts) (engine db n older v None) s }
+    ensures caught { (texts : List Text) (db : Database) (n : ℕ) (older : Stack R.World) (v now : Value R.World) (s : Search) (ball : Tree) (c r k : ℕ)
+        → IsStanding (R.is_state texts) (R.term texts) (engine db n ((v, Caught ball c r k) ∷ older) now None) s
+        → TakesBall (R.is_state texts) (R.term texts) older v ball c r k s }
+    ensures gathers { (texts : List Text) (steps : ℕ) (db : Database) (n : ℕ) (older : Stack R.World) (v now : Value R.World) (s : Search) (t : ℕ)
+        (copies : List Tree) (k : ℕ)
+        → ((w : R.World) (st : State) (items : List Item) → R.is_state texts w st → Settles items st no_work (Kept (settled items st)))
+        → IsStanding (R.is_state texts) (R.term texts) (engine db n ((v, Gathers t copies k) ∷ older) now None) s
+        → (r : Search) × Quietly steps s r × (r.database ≡ db) × (r.selected ≡ n) × MakesList (R.is_state texts) (R.term texts) older v t copies k r }
+    ensures matches { (texts : List Text) (db : Database) (n : ℕ) (older : Stack R.World) (v now : Value R.World) (s : Search) (t : ℕ) (removes : Bool)
+        (c : Clause) (cs : List Clause) (k : ℕ)
+        → IsStanding (R.is_state texts) (R.term texts) (engine db n ((v, Matches t removes (c ∷ cs) k) ∷ older) now None) s
+        → ComparesClause (R.is_state texts) (R.term texts) older v t removes c cs k s }
+    ensures matches_ended { (texts : List Text) (older : Stack R.World) (v : Value R.World) (t : ℕ) (removes : Bool) (k : ℕ) (branches : List Branch)
+        → AreWaiting (R.is_state texts) (R.term texts) ((v, Matches t removes [] k) ∷ older) branches
+        → AreWaiting (R.is_state texts) (R.term texts) older branches }
+{}
+
+/// Copies that are put into a state are there under the next variables, one after another, and nothing is to be told of them.
+pub fn copies_are_landed()
+    ensures { (st : State) (copies : List Copied) (stored : List Tree) → AllZip IsStoredAs copies stored → IsLanded st stored (landed st copies) }
+{}
+
+/// Where the mark of a findall is in front, the choice at its height gathers, and one more copy is added there: that of the
+/// template as it reads. Then the engine comes back.
+pub fn copies_are_gathered<R: StateWorlds>()
+    ensures gathers { (texts : List Text) (db : Database) (n : ℕ) (choices : Stack R.World) (now : Value R.World) (k rest : ℕ) (s : Search)
+        → IsStanding (R.is_state texts) (R.term texts) (engine db n choices now (Some k)) s
+        → (height t : ℕ) → items_at now.1 k ≡ Collect height t ∷ items_at now.1 rest
+        → (height < length choices) × GathersAt choices height × ((x : Tree) × (R.term texts now.0 t ≡ Some x)) }
+    ensures comes { (texts : List Text) (steps : ℕ) (db : Database) (n : ℕ) (newer older : Stack R.World) (v now : Value R.World) (k rest : ℕ)
+        (s : Search) (l j : ℕ) (copies : List Tree)
+        → IsStanding (R.is_state texts) (R.term texts) (engine db n (newer ++ (v, Gathers l copies j) ∷ older) now (Some k)) s
+        → (t : ℕ) → items_at now.1 k ≡ Collect (length older) t ∷ items_at now.1 rest
+        → (x : Tree) → R.term texts now.0 t ≡ Some x
+        → Comes (R.is_state texts) (R.term texts) steps
+        (engine db n (newer ++ (v, Gathers l (copies ++ renamed_from 0 x ∷ []) j) ∷ older) now None) s }
 {}
 
 /// With nothing left to do the search answers, and the world is its branch; with no choice left, and nothing to go on with, no
@@ -160,8 +216,8 @@ pub fn queries_begin<R: StateWorlds>()
         → IsStanding (R.is_state texts) (R.term texts) (engine db 0 [] now (Some k)) (start db query n) }
 {}
 
-/// A ball is handed to the nearest end of a catch, whose choice keeps the world of the catch's call; where there is none,
-/// nothing catches it.
+/// A ball is handed to the nearest end of a catch, whose choice keeps the world of the catch's call: the newer choices are cut, and
+/// that one has the ball. Where there is none, nothing catches it.
 pub fn balls_are_handed<R: StateWorlds>()
     ensures fits { (n : ℕ) (cells : List Cell) (c : ℕ × ℕ × ℕ × List Cell) → Fits n cells → nearest_catch cells ≡ Some c
         → (c.0 < n) × Fits c.0 c.3 }
@@ -169,6 +225,12 @@ pub fn balls_are_handed<R: StateWorlds>()
         (ball : Copied) (behind : List Branch) (c : ℕ × ℕ × ℕ × List Cell)
         → AreItems (R.is_state texts) (R.term texts) choices w st cells items → nearest_catch cells ≡ Some c
         → IsHanded (R.is_state texts) (R.term texts) choices ball items behind c }
+    ensures waits { (texts : List Text) (choices : Stack R.World) (now : Value R.World) (k : ℕ) (items : List Item) (st : State) (ball : Copied)
+        (stored : Tree) (behind : List Branch) (c : ℕ × ℕ × ℕ × List Cell)
+        → IsContinuation (R.is_state texts) (R.term texts) choices now k items st → AreWaiting (R.is_state texts) (R.term texts) choices behind
+        → nearest_catch (items_at now.1 k) ≡ Some c → IsStoredAs ball stored
+        → (call : Value R.World × ℕ) × (catch_at choices c.0 ≡ Some call) × (next : List Branch) × (handed ball items behind ≡ Some next)
+        × AreWaiting (R.is_state texts) (R.term texts) ((call.0, Caught stored c.1 c.2 call.1) ∷ last c.0 choices) next }
     ensures uncaught { (texts : List Text) (choices : Stack R.World) (w : R.World) (st : State) (cells : List Cell) (items : List Item)
         (ball : Copied) (behind : List Branch)
         → AreItems (R.is_state texts) (R.term texts) choices w st cells items → nearest_catch cells ≡ None

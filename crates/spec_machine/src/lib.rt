@@ -9,5 +9,6 @@ mod laws;
 pub use cell::Cell;
 pub use laws::{
     StateWorlds, balls_are_handed, children_are_settled, choices_are_come_back_to,
-    goals_are_selected, marks_are_passed, queries_begin, searches_end, standing_stays,
+    copies_are_gathered, copies_are_landed, goals_are_selected, marks_are_passed, queries_begin,
+    searches_end, standing_stays,
 };

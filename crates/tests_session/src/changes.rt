@@ -1,12 +1,8 @@
 // Worked rows of goals that change the clauses of a program.
 
-use crate::given::{Given, does_either_way, input_of, written};
+use crate::given::{Row, first_wrong};
 use spec_endings::Status;
-use std::alloc::{AllocError, Global};
 use std::test::Fail;
-
-/// The text of a file `prog.pl`, the input, and what is written.
-type Row = (&'static str, &'static str, &'static str);
 
 /// The order of clauses, and what a clause holds.
 static ADDED: [Row; 9] = [
@@ -240,20 +236,6 @@ static MISDECLARED: [Row; 8] = [
         "error: error(permission_error(modify,static_procedure,write/1),(dynamic)/1)\nerror: error(existence_error(procedure,p/1),p/1)\n",
     ),
 ];
-
-/// The place of the first row that a run does otherwise.
-fn first_wrong(alloc: Global, rows: &[Row], status: Status) -> Result<Option<usize>, AllocError> {
-    for (i, (text, input, out)) in rows.iter().enumerate() {
-        let given = Given {
-            files: &[("prog.pl", text)],
-            ..input_of(&["run", "prog.pl"], input.as_bytes())
-        };
-        if !does_either_way(alloc, given, written(out, status))? {
-            return Ok(Some(i));
-        }
-    }
-    Ok(None)
-}
 
 #[test]
 fn clauses_are_added_and_procedures_declared(rt: HostRuntime) -> Result<(), Fail> {

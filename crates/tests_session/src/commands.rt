@@ -169,6 +169,32 @@ static FILED: [Row; 13] = [
     ),
 ];
 
+/// Lines of numbers. The input is not read, whatever it is.
+static GENERATED: [Row; 4] = [
+    (&["gen", "1"], "", "", "n=1 inf=1 answers=1\n", Status::Done),
+    (
+        &["gen", "7"],
+        "",
+        "?- foo.",
+        "n=7 inf=20 answers=1\n",
+        Status::Done,
+    ),
+    (
+        &["gen", "10"],
+        "",
+        "",
+        "n=10 inf=30 answers=1\n",
+        Status::Done,
+    ),
+    (
+        &["gen", "14"],
+        "",
+        "",
+        "n=14 inf=41 answers=1\n",
+        Status::Done,
+    ),
+];
+
 /// The place of the first row that a run does otherwise.
 fn first_wrong(alloc: Global, rows: &[Row]) -> Result<Option<usize>, AllocError> {
     for (i, (words, text, input, out, status)) in rows.iter().enumerate() {
@@ -187,6 +213,15 @@ fn first_wrong(alloc: Global, rows: &[Row]) -> Result<Option<usize>, AllocError>
 fn limits_are_kept_and_clauses_of_files_called(rt: HostRuntime) -> Result<(), Fail> {
     assert_eq!(rt; first_wrong(rt.alloc(), &LIMITED)?, None);
     assert_eq!(rt; first_wrong(rt.alloc(), &FILED)?, None);
+    Ok(())
+}
+
+#[test]
+fn numbers_have_their_lines(rt: HostRuntime) -> Result<(), Fail> {
+    assert_eq!(rt; first_wrong(rt.alloc(), &GENERATED)?, None);
+    let bad = told(Status::BadWords, "clpq: bad command line\n");
+    assert!(rt; does_either_way(rt.alloc(), input_of(&["gen", "0"], b""), bad)?);
+    assert!(rt; does_either_way(rt.alloc(), input_of(&["gen", "201"], b""), bad)?);
     Ok(())
 }
 

@@ -2,6 +2,8 @@
 #![tactic(auto)]
 
 #[cfg(test)]
+mod balls;
+#[cfg(test)]
 mod changes;
 #[cfg(test)]
 mod commands;
@@ -10,7 +12,11 @@ mod failing;
 #[cfg(test)]
 mod given;
 #[cfg(test)]
+mod lists;
+#[cfg(test)]
 mod optima;
+#[cfg(test)]
+mod removed;
 #[cfg(test)]
 mod rows;
 #[cfg(test)]

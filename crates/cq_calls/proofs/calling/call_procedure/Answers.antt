@@ -1,4 +1,5 @@
 use Rattle.std.proofs.Common.{◌∷◌, Option, sym, ap, ◌∙◌, subst}
+use Rattle.std.specs.List.{AllByRecursion}
 use Rattle.std.specs.Option.{option_map}
 use Rattle.cq_clauses.specs.Database.{clauses_of, database}
 use Rattle.cq_clauses.specs.Selected.{key_at, matching}
@@ -9,7 +10,11 @@ use Rattle.cq_program.specs.Database.{Program, as_kind}
 use Rattle.cq_program.specs.Keys.{key_of}
 use Rattle.cq_stored.specs.StoredValue.{ClauseValue}
 use Rattle.cq_term.specs.Meaning.{at, blank}
+use Rattle.cq_world.specs.Contents.{Contents}
+use Rattle.spec_machine.specs.Cells.{Value}
+use Rattle.cq_steps.specs.Choices.{AreOpen, CanBeTried}
 use Rattle.cq_steps.specs.Worlds.{saved_values, stack, value}
+use Rattle.cq_steps.specs.declared.alternatives.Alternatives.{Alternatives}
 use Rattle.cq_steps.specs.declared.alternatives.Alternatives.TheVariants.{Clauses}
 use Rattle.cq_calls.specs.Calling.{CallBecomes}
 use Rattle.cq_calls.proofs.Called.{raises, becomes, none_known, some_known}
@@ -41,3 +46,13 @@ returns-clause-row c = λ texts p behind g i.
     (c.walk-walk.ensures.left ∙ ap (λ (k : Option Key). matching (key_at (λ (d : ClauseValue). key_of d.head) v.contents) k called) c.goal_key.ensures)
     more c.push.new.self
     (c.in_ok-push.ensures.open ∙ ap (λ (w : Walk). (now, Clauses c.args.goal w c.args.rest) ∷ open_choices saved c.args.choices.now) c.new-untried.ensures))
+
+pub returns-clause-open : goal.returns-clause-open
+returns-clause-open c = λ texts o.
+    let saved = saved_values c.args.world.now.first c.args.world.now.second.saved in
+    let now = value c.args.world.now.first c.args.world.now.second.now in
+    let more = saved_values c.push.new.world.first c.push.new.world.second.saved in
+    subst (λ (u : Program). AreOpen texts u more c.push.new.self) (sym c.walk-walk.ensures.same)
+    (subst (AllByRecursion (λ (x : Value Contents × Alternatives). CanBeTried texts c.args.clauses.now x.0.0.heap.terms x.1))
+    (sym (c.in_ok-push.ensures.open ∙ ap (λ (w : Walk). (now, Clauses c.args.goal w c.args.rest) ∷ open_choices saved c.args.choices.now) c.new-untried.ensures))
+    (c.walk-walk.ensures.opened, o))

@@ -1,4 +1,4 @@
-use Rattle.std.proofs.Common.{◌≡◌, ◌∷◌, List, ◌-◌, length, Some, refl, sym, ap, ap₂, ◌∙◌, arith}
+use Rattle.std.proofs.Common.{◌≡◌, ◌∷◌, List, ◌-◌, length, Some, refl, sym, ap, ap₂, ◌∙◌, arith, subst}
 use Rattle.std.specs.Prelude.{slice_get, Err}
 use Rattle.cq_clauses.specs.declared.walk.Walk.{Walk}
 use Rattle.cq_control.specs.Items.{ContinuationsValue}
@@ -19,9 +19,10 @@ use Rattle.cq_steps.proofs.Older.{newest_gone}
 use Rattle.cq_begin.specs.declared.beginning.Begun.TheVariants.{Goes, Pruned}
 use Rattle.cq_begin.proofs.Back.{back_still}
 use Rattle.cq_calls.specs.Trying.{Leaves}
-use Rattle.cq_calls.proofs.Newest.{Opened, AreLeft, opened_is, is_walk, same-first, open_same, marked_same, arrives_past, fewer_past, open_past, begins_ready, begins_goal, begins_rest, of_content, length-opened, are_left, arrives_left, fewer_wait, open_left, open_still, fault_stops, put_newest, changed_newest}
+use Rattle.cq_calls.proofs.Left.{Opened, AreLeft, opened_is, same-first, open_same, marked_same, of_content, length-opened, are_left, open_still, put_newest, changed_newest}
+use Rattle.cq_calls.proofs.Newest.{is_walk, arrives_past, fewer_past, open_past, begins_ready, begins_goal, begins_rest, arrives_left, fewer_wait, open_left, fault_stops}
 use Rattle.cq_calls.proofs.trying.try_clause.Goals as goal
-use Rattle.cq_calls.proofs.trying.try_clause.Goals.{After-back, After-retry, After-height-height, After-clause-clause, After-replace_at}
+use Rattle.cq_calls.proofs.trying.try_clause.Goals.{After-back, After-retry, After-height-height, After-clause-clause, After-leave_untried, After-replace_at}
 
 pub step-requires : goal.step-requires
 step-requires c =
@@ -110,9 +111,10 @@ same_exchanges c =
 module _ (c : After-retry) where
   -- what is left of the choice, over a world with the same marks
   left_then : (w : World) (lists : ContinuationsValue Cell) → saved_of w ≡ saved_of c.retry.new.world.first → lists.saved ≡ c.retry.new.world.second.saved → (left : Walk) (o : Opened)
-      → Leaves c.args.goal left c.args.rest (open_choices (saved_values w lists.saved) c.retry.new.self) o → AreLeft c.args.goal left c.args.rest (back c) (others c) o
+      → Leaves (Clauses c.args.goal left c.args.rest) left (open_choices (saved_values w lists.saved) c.retry.new.self) o
+      → AreLeft (Clauses c.args.goal left c.args.rest) left (back c) (others c) o
   left_then w lists e f left o l =
-      are_left c.args.goal left c.args.rest (back c) (Clauses c.args.goal c.args.walk c.args.rest) (others c) (open_choices (saved_values w lists.saved) c.retry.new.self) o
+      are_left (Clauses c.args.goal left c.args.rest) left (back c) (Clauses c.args.goal c.args.walk c.args.rest) (others c) (open_choices (saved_values w lists.saved) c.retry.new.self) o
       (open_same c.retry.new.world.first w c.retry.new.world.second.saved lists.saved c.retry.new.self _ e f (still c)) l
 
   marked_then : (w : World) (lists : ContinuationsValue Cell) → saved_of w ≡ saved_of c.retry.new.world.first → lists.saved ≡ c.retry.new.world.second.saved
@@ -165,8 +167,16 @@ pub leave_untried-requires-clause-marked : goal.leave_untried-requires-clause-ma
 leave_untried-requires-clause-marked c =
     marked_then (goal.at.leave_untried-requires-clause-marked c).After-retry c.begin_clause.new.world c.begin_clause.new.lists c.in-Ok.ensures.saved c.in-Ok.ensures.lists
 
-pub leave_untried-requires-clause-newest : goal.leave_untried-requires-clause-newest
-leave_untried-requires-clause-newest c = (c.args.goal, c.new.result, c.args.rest, (c.retry.ensures.contents.0, c.retry.ensures.contents.2))
+pub leave_untried-requires-clause-some : goal.leave_untried-requires-clause-some
+leave_untried-requires-clause-some c = omega (arith, ap length c.retry.ensures.contents.2)
+
+-- what is left, by the walk
+left_by : (c : After-leave_untried)
+    → Leaves (Clauses c.args.goal c.step.new.walk c.args.rest) c.step.new.walk (open_choices (saved_values c.begin_clause.new.world c.begin_clause.new.lists.saved) c.retry.new.self)
+    (open_choices (saved_values c.leave_untried.new.world.first c.leave_untried.new.world.second.saved) c.leave_untried.new.choices)
+left_by c =
+    subst (λ (x : Walk). Leaves (Clauses c.args.goal x c.args.rest) c.step.new.walk (open_choices (saved_values c.begin_clause.new.world c.begin_clause.new.lists.saved) c.retry.new.self)
+    (open_choices (saved_values c.leave_untried.new.world.first c.leave_untried.new.world.second.saved) c.leave_untried.new.choices)) c.new-untried.ensures c.leave_untried.ensures.leaves
 
 pub returns-in-Goes-clause-comes : goal.returns-in-Goes-clause-comes
 returns-in-Goes-clause-comes c = λ steps db n s j.
@@ -179,7 +189,7 @@ returns-in-Goes-clause-comes c = λ steps db n s j.
     (ap₂ (λ (x : Contents) (l : List (List Cell)). (x, l)) c.leave_untried.ensures.first c.leave_untried.ensures.lists) (Goes c.in-Goes.first) (rw c.in-Goes.is at c.in-Ok.ensures.comes)
     fewer c.leave_untried.new.choices steps
     (left_then r c.begin_clause.new.world c.begin_clause.new.lists c.in-Ok.ensures.saved c.in-Ok.ensures.lists c.step.new.walk (open_choices fewer c.leave_untried.new.choices)
-    c.leave_untried.ensures.leaves)
+    (left_by (goal.at.returns-in-Goes-clause-comes c).After-leave_untried))
 
 pub returns-in-Goes-clause-fewer : goal.returns-in-Goes-clause-fewer
 returns-in-Goes-clause-fewer c =
@@ -188,7 +198,7 @@ returns-in-Goes-clause-fewer c =
     fewer_wait c.args.atoms.now c.args.clauses.now (before r) c.args.choices.now (now r) (back r) c.args.goal c.args.rest c.args.walk (others r) (was r)
     c.step.new.walk c.in-Some.number c.in-Some.ensures.some fewer c.leave_untried.new.choices
     (left_then r c.begin_clause.new.world c.begin_clause.new.lists c.in-Ok.ensures.saved c.in-Ok.ensures.lists c.step.new.walk (open_choices fewer c.leave_untried.new.choices)
-    c.leave_untried.ensures.leaves)
+    (left_by (goal.at.returns-in-Goes-clause-fewer c).After-leave_untried))
 
 pub returns-in-Goes-clause-open : goal.returns-in-Goes-clause-open
 returns-in-Goes-clause-open c =
@@ -197,7 +207,7 @@ returns-in-Goes-clause-open c =
     open_left c.args.atoms.now c.args.clauses.now (before r) c.args.choices.now (now r) (back r) c.args.goal c.args.rest c.args.walk (others r) (was r)
     fewer c.leave_untried.new.choices c.step.new.walk c.in-Some.ensures.opened c.requires.open
     (left_then r c.begin_clause.new.world c.begin_clause.new.lists c.in-Ok.ensures.saved c.in-Ok.ensures.lists c.step.new.walk (open_choices fewer c.leave_untried.new.choices)
-    c.leave_untried.ensures.leaves)
+    (left_by (goal.at.returns-in-Goes-clause-open c).After-leave_untried))
 
 pub returns-in-Goes-clause-budget : goal.returns-in-Goes-clause-budget
 returns-in-Goes-clause-budget c =
@@ -208,15 +218,15 @@ returns-in-Goes-clause-budget c =
 put_back : (c : After-replace_at) → c.replace_at.new.self ≡ Clauses c.args.goal c.step.new.walk c.args.rest ∷ c.retry.ensures.contents.0
 put_back c =
     changed_newest c.replace_at.ensures.0 c.retry.new.self c.replace_at.new.self c.retry.ensures.contents.0 (Clauses c.args.goal c.new.result c.args.rest) c.replace_at.result
-    (Clauses c.args.goal c.new-in-Pruned.result c.args.rest) (c.height-height.result - 1) c.retry.ensures.contents.2
+    (Clauses c.args.goal c.new-untried.result c.args.rest) (c.height-height.result - 1) c.retry.ensures.contents.2
     (omega (arith, c.height-height.ensures, ap length c.retry.ensures.contents.2)) c.replace_at.ensures.1 c.replace_at.ensures.2
-    ∙ ap (λ (x : Walk). Clauses c.args.goal x c.args.rest ∷ c.retry.ensures.contents.0) c.new-in-Pruned.ensures
+    ∙ ap (λ (x : Walk). Clauses c.args.goal x c.args.rest ∷ c.retry.ensures.contents.0) c.new-untried.ensures
 
 leaves_others : (c : After-replace_at) → AreMarked (saved_values c.begin_clause.new.world c.begin_clause.new.lists.saved) c.retry.new.self
-    → Leaves c.args.goal c.step.new.walk c.args.rest (open_choices (saved_values c.begin_clause.new.world c.begin_clause.new.lists.saved) c.retry.new.self)
+    → Leaves (Clauses c.args.goal c.step.new.walk c.args.rest) c.step.new.walk (open_choices (saved_values c.begin_clause.new.world c.begin_clause.new.lists.saved) c.retry.new.self)
     (open_choices (saved_values c.begin_clause.new.world c.begin_clause.new.lists.saved) c.replace_at.new.self)
 leaves_others c marked =
-    put_newest c.args.goal c.step.new.walk c.args.rest (saved_values c.begin_clause.new.world c.begin_clause.new.lists.saved) c.retry.new.self c.replace_at.new.self
+    put_newest (Clauses c.args.goal c.step.new.walk c.args.rest) c.step.new.walk (saved_values c.begin_clause.new.world c.begin_clause.new.lists.saved) c.retry.new.self c.replace_at.new.self
     c.retry.ensures.contents.0 (Clauses c.args.goal c.new.result c.args.rest) marked c.retry.ensures.contents.2 (put_back c)
 
 pub returns-in-Pruned-clause-comes : goal.returns-in-Pruned-clause-comes
@@ -293,7 +303,7 @@ returns-in-Err-clause-marked c =
 pub returns-in-Err-clause-open : goal.returns-in-Err-clause-open
 returns-in-Err-clause-open c =
     let r = (goal.at.returns-in-Err-clause-open c).After-retry in
-    open_still c.args.clauses.now (before r) (saved_values c.begin_clause.new.world c.begin_clause.new.lists.saved) c.args.choices.now c.retry.new.self
+    open_still c.args.atoms.now c.args.clauses.now (before r) (saved_values c.begin_clause.new.world c.begin_clause.new.lists.saved) c.args.choices.now c.retry.new.self
     (open_same c.retry.new.world.first c.begin_clause.new.world c.retry.new.world.second.saved c.begin_clause.new.lists.saved c.retry.new.self _ c.in-Err.ensures.saved c.in-Err.ensures.lists
     (still r) ∙ sym (was r)) c.requires.open
 

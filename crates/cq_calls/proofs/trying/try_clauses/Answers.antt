@@ -3,7 +3,7 @@ use Rattle.cq_clauses.specs.declared.walk.Walk.{Walk}
 use Rattle.cq_steps.specs.declared.alternatives.Alternatives.{Alternatives}
 use Rattle.cq_steps.specs.declared.alternatives.Alternatives.TheVariants.{Clauses}
 use Rattle.cq_begin.proofs.Back.{back_still, still_back, comes_then, stops_then}
-use Rattle.cq_calls.proofs.Newest.{newest_on, gone_on}
+use Rattle.cq_calls.proofs.Left.{newest_on, gone_on}
 use Rattle.cq_calls.proofs.trying.try_clauses.Goals as goal
 
 pub clauses-init : goal.clauses-init

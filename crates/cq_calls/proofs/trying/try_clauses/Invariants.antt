@@ -13,7 +13,7 @@ invariant-clauses l =
     record {
       newest : (c : Alternatives) × (older : List Alternatives) × (l.fn.choices ≡ c ∷ older) × (l.choices ≡ Clauses l.goal l.walk l.rest ∷ older);
       marked : AreMarked (saved_values l.world.first l.world.second.saved) l.choices;
-      are_open : AreOpen l.fn.clauses (saved_values l.world.first l.world.second.saved) l.choices;
+      are_open : AreOpen l.fn.atoms l.fn.clauses (saved_values l.world.first l.world.second.saved) l.choices;
       comes : ComesOn l.fn.atoms l.fn.clauses l.fn.world.first l.fn.world.second l.fn.choices l.world.first l.world.second l.choices None;
       waiting : still_waiting l.fn.atoms l.fn.clauses l.world.first l.world.second l.choices ≤ still_waiting l.fn.atoms l.fn.clauses l.fn.world.first l.fn.world.second l.fn.choices;
       budget : l.world.first.store.pivots ≡ l.fn.world.first.store.pivots;

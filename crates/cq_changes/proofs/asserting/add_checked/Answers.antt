@@ -76,7 +76,8 @@ returns-clause-stands c = λ db n current s j.
     let built = c.more_may_be_built.ensures.stands more db n (stack more m.clauses (saved m) m.choices) (now m) after grown current s named in
     let marks = ap (λ (hs : List Terms). zip (map contents_of (zip hs (zip m.world.first.attrs.saved (map (kept m.world.first.store.pivots) m.world.first.store.saved)))) m.world.second.saved)
     d.ensures.grows.saved in
-    let same = c.choices_outlast_changes.ensures.same m.clauses d.new.clauses d.ensures.showing more (saved m) m.choices sound.untried in
+    let still = (c.names_may_be_added.ensures.over more m.clauses (held_by m) d.ensures.grows.longer (over_sound m sound)).choices in
+    let same = c.choices_outlast_changes.ensures.same more m.clauses d.new.clauses d.ensures.showing (saved m) m.choices still in
     subst (λ (l : List (Value Contents)). IsStanding (IsBranch more) (term_in more) (engine db n (stack more d.new.clauses l m.choices) after current) s) (sym marks)
     (subst (λ (x : Stack Contents). IsStanding (IsBranch more) (term_in more) (engine db n x after current) s) (sym same) built)
 
@@ -100,8 +101,9 @@ returns-clause-sound c =
           d.result d.ensures.added d.ensures.err;
       operators_named = c.more_names_keep_the_table.ensures.known m.atoms more m.ops keeps s.operators_named;
       marked = subst (λ (l : List (Value Contents)). AreMarked l m.choices) (sym marks) s.marked;
-      untried = subst (λ (l : List (Value Contents)). AreOpen d.new.clauses l m.choices) (sym marks)
-          (c.choices_outlast_changes.ensures.tried m.clauses d.new.clauses d.ensures.showing (saved m) m.choices s.untried);
+      untried = subst (λ (l : List (Value Contents)). AreOpen more d.new.clauses l m.choices) (sym marks)
+          (c.choices_outlast_changes.ensures.tried more m.clauses d.new.clauses d.ensures.showing (saved m) m.choices
+          (c.names_may_be_added.ensures.over more m.clauses (held_by m) d.ensures.grows.longer (over_sound m s)).choices);
     }
 
 pub returns-clause-keeps : goal.returns-clause-keeps

@@ -30,7 +30,7 @@ pub returns-clause-stands : goal.returns-clause-stands
 returns-clause-stands c = λ db n current s j.
     let m = c.args.m.now in
     let d = c.declare_dynamic in
-    let same = c.choices_outlast_changes.ensures.same m.clauses d.new.clauses d.ensures.showing m.atoms (saved m) m.choices c.requires.sound.untried in
+    let same = c.choices_outlast_changes.ensures.same m.atoms m.clauses d.new.clauses d.ensures.showing (saved m) m.choices c.requires.sound.untried in
     subst (λ (x : Stack Contents). IsStanding (IsBranch m.atoms) (term_in m.atoms) (engine db n x (now m) current) s) (sym same) j
 
 pub returns-clause-sound : goal.returns-clause-sound
@@ -46,7 +46,7 @@ returns-clause-sound c =
           (λ h. h.program m.atoms s.program c.requires.known) d.result d.ensures.declared d.ensures.err;
       operators_named = s.operators_named;
       marked = s.marked;
-      untried = c.choices_outlast_changes.ensures.tried m.clauses d.new.clauses d.ensures.showing (saved m) m.choices s.untried;
+      untried = c.choices_outlast_changes.ensures.tried m.atoms m.clauses d.new.clauses d.ensures.showing (saved m) m.choices s.untried;
     }
 
 pub returns-clause-keeps : goal.returns-clause-keeps

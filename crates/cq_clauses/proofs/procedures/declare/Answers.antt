@@ -1,9 +1,8 @@
-use Rattle.std.proofs.Common.{◌≡◌, ◌<◌, ◌++◌, [], ◌∷◌, length, position, slice_get, false, Some, refl, ap, ◌∙◌, arith}
+use Rattle.std.proofs.Common.{◌≡◌, ◌<◌, ◌++◌, [], ◌∷◌, length, position, false, refl, ap, ◌∙◌, arith}
 use Rattle.std.specs.List.{list_any}
 use Rattle.std.proofs.lemmas.List.{length-map}
 use Rattle.cq_term.specs.declared.names.Pred.{Pred}
 use Rattle.cq_clauses.specs.declared.procedures.Kind.TheVariants.{Dynamic}
-use Rattle.cq_clauses.specs.declared.procedures.Procedure.{Procedure}
 use Rattle.cq_clauses.specs.Database.{same_pred}
 use Rattle.cq_clauses.specs.Procedures.{pred_of, is_of, made_dynamic}
 use Rattle.cq_atoms.proofs.Places.{list_any-map}

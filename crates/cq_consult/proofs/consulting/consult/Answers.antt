@@ -82,7 +82,7 @@ returns-clause-sound c =
       operators_named = c.more_names_keep_the_table.ensures.known m.atoms more m.ops keeps s.operators_named;
       marked = subst (λ (l : List (Value Contents)). AreMarked l m.choices)
           (sym (ap (λ (hs : List Terms). zip (map contents_of (zip hs (zip m.world.first.attrs.saved (map (kept m.world.first.store.pivots) m.world.first.store.saved)))) m.world.second.saved) d.ensures.grows.saved)) s.marked;
-      untried = none_open d.new.clauses (zip (map contents_of (zip d.new.heap.saved (zip m.world.first.attrs.saved (map (kept m.world.first.store.pivots) m.world.first.store.saved)))) m.world.second.saved)
+      untried = none_open more d.new.clauses (zip (map contents_of (zip d.new.heap.saved (zip m.world.first.attrs.saved (map (kept m.world.first.store.pivots) m.world.first.store.saved)))) m.world.second.saved)
           m.choices c.requires.choices;
     }
 

@@ -25,7 +25,7 @@ returns-clause-kept c =
       program = c.requires.program;
       operators_named = c.requires.operators_named;
       marked = c.cut.ensures.marked;
-      untried = subst (AllByRecursion (λ (x : Value Contents × Alternatives). CanBeTried m.clauses x.0.0.heap.terms x.1))
+      untried = subst (AllByRecursion (λ (x : Value Contents × Alternatives). CanBeTried m.atoms m.clauses x.0.0.heap.terms x.1))
           (sym (c.cut.ensures.open ∙ last-none (open_choices (saved m) m.choices))) tt;
     }
 

@@ -1,18 +1,18 @@
-use Rattle.std.proofs.Common.{◌≡◌, List, refl, sym, ap, ◌∙◌, subst}
+use Rattle.std.proofs.Common.{List, refl, sym, ap, ◌∙◌, subst}
 use Rattle.spec_lists.proofs.Prefixes.{prefix_within}
 use Rattle.spec_operators.specs.Operators.{Ops}
 use Rattle.spec_machine.specs.Cells.{Value}
 use Rattle.cq_program.specs.Database.{as_database}
 use Rattle.cq_write.specs.Meaning.{operators}
-use Rattle.cq_term.specs.HeapValue.{Terms}
 use Rattle.cq_world.specs.Contents.{Contents}
 use Rattle.cq_steps.specs.Choices.{AreOpen}
 use Rattle.cq_control.specs.Open.{AreMarked}
-use Rattle.cq_steps.specs.Worlds.{Stands, with_heap}
+use Rattle.cq_steps.specs.Worlds.{Stands, stack, with_heap}
 use Rattle.cq_machine.specs.Machines.{saved, now}
+use Rattle.cq_machine.proofs.Built.{lists_same}
 use Rattle.cq_machine.proofs.Interned.{texts_kept, names_kept}
 use Rattle.cq_offer.specs.Offers.{held_by}
-use Rattle.cq_offer.proofs.Machines.{over_sound, named_there, on_err}
+use Rattle.cq_offer.proofs.Machines.{over_sound, named_there}
 use Rattle.cq_events.proofs.Marks.{marks}
 use Rattle.cq_events.proofs.balls.build_ball.Goals as goal
 
@@ -21,17 +21,19 @@ text-requires c =
     let m = c.args.m.now in
     prefix_within m.atoms c.ball_on-built.new.atoms m.names.truth c.ball_on-built.ensures.grows.longer (named_there m.atoms m.names.truth _ c.requires.sound.known.truth)
 
-pub returns-clause-err : goal.returns-clause-err
-returns-clause-err c =
+pub returns-clause-stands : goal.returns-clause-stands
+returns-clause-stands c = λ db n current s j.
     let m = c.args.m.now in
     let b = c.ball_on-built in
-    on_err b.result
-    (λ (e : b.new.heap.now ≡ m.world.first.heap.now). λ db n current s j.
-    subst (λ (l : List (Value Contents)). Stands b.new.atoms m.clauses db n l m.choices (with_heap b.new.heap.now (now m).0, (now m).1) current s) (sym (marks m.world.first b.new.heap m.world.second.saved b.ensures.grows.saved))
-    (subst (λ (h : Terms). Stands b.new.atoms m.clauses db n (saved m) m.choices (with_heap h (now m).0, (now m).1) current s) (sym e)
-    (c.names_may_be_added.ensures.stands b.new.atoms m.clauses (held_by m) b.ensures.grows.longer (over_sound m c.requires.sound)
-    c.names_are_of_terms.ensures.choices c.names_are_of_terms.ensures.now db n current s j)))
-    b.ensures.err
+    let more = b.new.atoms in
+    let sound = c.requires.sound in
+    let named = c.names_may_be_added.ensures.stands more m.clauses (held_by m) b.ensures.grows.longer (over_sound m sound)
+    c.names_are_of_terms.ensures.choices c.names_are_of_terms.ensures.now db n current s j in
+    let grown = c.more_may_be_built.ensures.terms more (now m).0 b.new.heap.now b.ensures.grows.terms b.ensures.grows.images (b.ensures.grows.names sound.names)
+    (now m).1 (now m).1 (lists_same (now m).1) in
+    let after : Value Contents = (with_heap b.new.heap.now (now m).0, (now m).1) in
+    subst (λ (l : List (Value Contents)). Stands more m.clauses db n l m.choices after current s) (sym (marks m.world.first b.new.heap m.world.second.saved b.ensures.grows.saved))
+    (c.more_may_be_built.ensures.stands more db n (stack more m.clauses (saved m) m.choices) (now m) after grown current s named)
 
 pub returns-clause-sound : goal.returns-clause-sound
 returns-clause-sound c =
@@ -49,7 +51,7 @@ returns-clause-sound c =
       program = over.program;
       operators_named = c.more_names_keep_the_table.ensures.known m.atoms b.new.atoms m.ops keeps s.operators_named;
       marked = subst (λ (l : List (Value Contents)). AreMarked l m.choices) (sym same) s.marked;
-      untried = subst (λ (l : List (Value Contents)). AreOpen m.clauses l m.choices) (sym same) s.untried;
+      untried = subst (λ (l : List (Value Contents)). AreOpen b.new.atoms m.clauses l m.choices) (sym same) over.choices;
     }
 
 pub returns-clause-program : goal.returns-clause-program

@@ -1,38 +1,39 @@
-use Rattle.std.proofs.Common.{◌≡◌, ◌∷◌, ◌++◌, ◌<◌, ℕ, arith, List, [], Option, None, Some, true, refl, sym, ap, subst, ◌∙◌}
+use Rattle.std.proofs.Common.{◌≡◌, ◌∷◌, ◌<◌, ℕ, arith, List, [], Option, None, Some, refl, sym, ap, subst, ◌∙◌}
 use Rattle.spec_lists.specs.Texts.{Text}
-use Rattle.spec_branch.specs.Branch.{Branch, read}
+use Rattle.spec_syntax.specs.Trees.{Tree}
+use Rattle.spec_built.specs.Built.{Indicator}
+use Rattle.spec_built.specs.Errors.{error_ball}
+use Rattle.spec_branch.specs.Branch.{plain_copy, read}
+use Rattle.spec_search.specs.Steps.{Steps, Ball}
+use Rattle.cq_built.specs.Errors.{error_tree}
+use Rattle.cq_term.specs.Trees.{tree}
 use Rattle.spec_search.specs.Search.{Search}
 use Rattle.spec_search.specs.Turns.{place_of, with_branches}
 use Rattle.spec_stops.specs.Causes as why
-use Rattle.spec_catches.specs.Catches.{AllPlain}
 use Rattle.cq_built.specs.declared.errors.BuiltinError.{BuiltinError}
 use Rattle.cq_control.specs.Items.{items_at}
 use Rattle.cq_linear.specs.declared.store.StoreFault.{StoreFault}
 use Rattle.cq_linear.specs.declared.store.StoreFault.TheVariants as fault
 use Rattle.spec_machine.specs.declared.cell.Cell.{Cell}
-use Rattle.spec_machine.specs.declared.cell.Cell.TheVariants.{Goal, Call, CutTo, CutFail, CatchEnd, Collect}
-use Rattle.spec_machine.specs.Standing.{AreItems}
-use Rattle.cq_steps.specs.Marks.{IsFront}
-use Rattle.cq_steps.specs.Worlds.{IsBranch, term_in}
 use Rattle.cq_machine.specs.declared.machine.Machine.{Machine}
 use Rattle.cq_machine.specs.declared.step.Step.{Step}
 use Rattle.cq_machine.specs.declared.step.Step.TheVariants as step
-use Rattle.cq_machine.specs.Machines.{now, holds, database_of, StillStands}
+use Rattle.cq_machine.specs.Machines.{terms, database_of, StillStands}
+use Rattle.cq_machine.proofs.Built.{stands_then}
 use Rattle.cq_machine.specs.Stepping.{CanGo, OnRaises}
-use Rattle.cq_engine.specs.Fronts.{HasWork, selects}
+use Rattle.cq_engine.specs.Fronts.{HasWork, IsGoal}
 use Rattle.cq_engine.specs.Seeking.{StandsFor}
 use Rattle.cq_execute.specs.Executions.{Reaches}
 use Rattle.cq_events.specs.declared.cells.Done.{Done}
 use Rattle.cq_events.specs.declared.engine.Engine.{Engine}
-use Rattle.cq_events.specs.declared.raiser.Raiser.{Raiser}
+use Rattle.cq_events.specs.Raised.{ball_by}
 use Rattle.cq_events.specs.Events.{Stands, IsRunning}
-use Rattle.cq_events.specs.Turning.{SelectsNext, IsGoal, Reached, MayStop}
-use Rattle.cq_events.proofs.Catches.{goal_in_front}
-use Rattle.cq_events.proofs.Selections.{stands_still}
+use Rattle.cq_events.specs.Turning.{SelectsNext, ComesUpOn, Reached, MayStop}
+use Rattle.cq_events.proofs.Selections.{stands_still, up_still}
 use Rattle.cq_events.proofs.Steps.{tells_refused}
 use Rattle.cq_events.proofs.Ended.{advanced, runs_on, stopped, runs_stopped, stands_same}
 use Rattle.cq_events.proofs.Stops.{stops_for_overflow, stops_for_pivots}
-use Rattle.cq_events.proofs.Thrown.{RaisedNext, thrown, runs_thrown}
+use Rattle.cq_events.proofs.Thrown.{BallNext, thrown, runs_thrown}
 use Rattle.cq_events.proofs.Turned.{keeps_at, keeps_gained, goes_at_once}
 use Rattle.cq_events.proofs.turning.select.Goals as goal
 
@@ -41,32 +42,13 @@ use Rattle.cq_events.proofs.turning.select.Goals as goal
 abbrev at_k : (e : Engine) (k : ℕ) (s : Search) → e.current ≡ Some k → Stands e s → StandsFor e.machine e.selected (Some k) s
 at_k e k s c j = subst (λ (o : Option ℕ). StandsFor e.machine e.selected o s) c j
 
-goals_are_selected : (c : Cell) → IsGoal c → selects c ≡ true
-goals_are_selected (Goal t height) g = refl
-goals_are_selected (Call t) g = refl
-goals_are_selected (CutTo height) g = absurd g
-goals_are_selected (CutFail height) g = absurd g
-goals_are_selected (CatchEnd height c r) g = absurd g
-goals_are_selected (Collect height t) g = absurd g
-
 abbrev head_or : Cell → List Cell → Cell
 head_or c [] = c
 head_or c (x ∷ xs) = x
 
-module _ (e : Engine) (k rest : ℕ) (c : Cell) (run : IsRunning e) (at : e.current ≡ Some k) (w : HasWork e.steps e.selected e.machine k)
-    (cells : items_at e.machine.world.second.now k ≡ c ∷ items_at e.machine.world.second.now rest) where
-  goal_here : IsGoal c
-  goal_here =
-      let m = e.machine in
-      let j = at_k e k run.search at run.stands in
-      let current = j.current in
-      let plain = subst AllPlain (j.branches ∙ ap (λ (l : List Branch). l ++ j.behind) current.2) run.no_catch in
-      goal_in_front (IsBranch m.atoms) (term_in m.atoms) (holds m) (now m).0 current.1 c (items_at m.world.second.now rest) current.0
-      (subst (λ (cs : List Cell). AreItems (IsBranch m.atoms) (term_in m.atoms) (holds m) (now m).0 current.1 cs current.0) cells current.3.cells) plain.0
-      (subst IsFront cells w.front)
-
-  few : e.selected < e.steps
-  few = let same : w.cell ≡ c = ap (head_or c) (sym w.cells ∙ cells) in w.few (ap selects same ∙ goals_are_selected c goal_here)
+goal_here : (e : Engine) (k rest : ℕ) (c : Cell) (w : HasWork e.steps e.selected e.machine k)
+    → items_at e.machine.world.second.now k ≡ c ∷ items_at e.machine.world.second.now rest → IsGoal c
+goal_here e k rest c w cells = let same : w.cell ≡ c = ap (head_or c) (sym w.cells ∙ cells) in subst IsGoal same w.goal
 
 -- what was reached, by the step
 abbrev ReachedBy : Machine → Machine → ℕ → ℕ → Step → Text → Search → Type 0
@@ -97,7 +79,7 @@ execute_cell-requires-clause-front c = record { earlier = c.in-Some.ensures.earl
 
 pub execute_cell-requires-clause-goal : goal.execute_cell-requires-clause-goal
 execute_cell-requires-clause-goal c =
-    goal_here c.args.e.now c.args.k c.in-Some.rest c.in-Some.cell c.requires.running c.requires.current c.requires.work c.in-Some.ensures.some
+    goal_here c.args.e.now c.args.k c.in-Some.rest c.in-Some.cell c.requires.work c.in-Some.ensures.some
 
 -- ---- it goes on
 
@@ -109,7 +91,7 @@ returns-in-Goes-clause-turned c =
     let rest = c.in-Some.rest in
     let d = c.in-Ok.done in
     advanced e (record e { machine = m }) c.advance.new.e rest (Some c.in-Goes.next) d.executed.output.items refl c.advance.ensures.at
-    (few e k rest c.in-Some.cell c.requires.running c.requires.current c.requires.work c.in-Some.ensures.some)
+    c.requires.work.few
     (λ s j. reached_by e.machine m e.selected rest d (step.Goes c.in-Goes.next) s c.in-Goes.is (c.in-Ok.ensures.row e.selected s (at_k e k s c.requires.current j)))
     c.advance.result c.advance.ensures.told
 
@@ -121,7 +103,7 @@ returns-in-Goes-clause-running c =
     let rest = c.in-Some.rest in
     let d = c.in-Ok.done in
     runs_on e (record e { machine = m }) c.advance.new.e rest (Some c.in-Goes.next) d.executed.output.items refl c.advance.ensures.at
-    (few e k rest c.in-Some.cell c.requires.running c.requires.current c.requires.work c.in-Some.ensures.some)
+    c.requires.work.few
     (λ s j. reached_by e.machine m e.selected rest d (step.Goes c.in-Goes.next) s c.in-Goes.is (c.in-Ok.ensures.row e.selected s (at_k e k s c.requires.current j)))
     c.requires.running c.execute_cell.ensures.sound refl
 
@@ -138,7 +120,7 @@ returns-in-Back-clause-turned c =
     let rest = c.in-Some.rest in
     let d = c.in-Ok.done in
     advanced e (record e { machine = m }) c.advance-in-Back.new.e rest None d.executed.output.items refl c.advance-in-Back.ensures.at
-    (few e k rest c.in-Some.cell c.requires.running c.requires.current c.requires.work c.in-Some.ensures.some)
+    c.requires.work.few
     (λ s j. reached_by e.machine m e.selected rest d step.Back s c.in-Back.is (c.in-Ok.ensures.row e.selected s (at_k e k s c.requires.current j)))
     c.advance-in-Back.result c.advance-in-Back.ensures.told
 
@@ -150,7 +132,7 @@ returns-in-Back-clause-running c =
     let rest = c.in-Some.rest in
     let d = c.in-Ok.done in
     runs_on e (record e { machine = m }) c.advance-in-Back.new.e rest None d.executed.output.items refl c.advance-in-Back.ensures.at
-    (few e k rest c.in-Some.cell c.requires.running c.requires.current c.requires.work c.in-Some.ensures.some)
+    c.requires.work.few
     (λ s j. reached_by e.machine m e.selected rest d step.Back s c.in-Back.is (c.in-Ok.ensures.row e.selected s (at_k e k s c.requires.current j)))
     c.requires.running c.execute_cell.ensures.sound refl
 
@@ -159,72 +141,154 @@ returns-in-Back-clause-keeps c =
     let at = c.advance-in-Back.ensures.at in
     keeps_at c.args.e.now c.advance-in-Back.new.e c.execute_cell.new.m c.execute_cell.ensures.program at.machine at.steps
 
--- ---- an error
+-- ---- balls
 
--- the error is that of the goal's row
-raised : (e : Engine) (m : Machine) (k rest : ℕ) (d : Done) (error : BuiltinError) → d.executed.step ≡ step.Raises error → e.current ≡ Some k
-    → ((n : ℕ) (s : Search) → StandsFor e.machine n (Some k) s → Reached e.machine m n rest d s)
-    → (s : Search) → Stands e s → RaisedNext e.machine m e.selected rest error d.raiser s
-raised e m k rest d error is at row s j =
-    let r = row e.selected s (at_k e k s at j) in
-    let x = r.next in
-    record {
-      next = x;
-      raises = subst (λ (t : Step). Reaches m t d.executed.output.items (place_of s x.state x.items x.cut x.behind) x.behind (read x.state x.goal)) is r.reaches;
-      raiser = r.raiser;
-    }
+-- the machine and what was reached there
+module _ (e : Engine) (m : Machine) (k rest : ℕ) (d : Done) (at : e.current ≡ Some k)
+    (row : (n : ℕ) (s : Search) → StandsFor e.machine n (Some k) s → Reached e.machine m n rest d s) where
+  -- the term that the goal throws
+  throws_next : (id : ℕ) → d.executed.step ≡ step.Throws id → (s : Search) → Stands e s
+      → BallNext e.machine m e.selected rest (tree m.atoms (terms m) id) s
+  throws_next id is s j =
+      let x = reached_by e.machine m e.selected rest d (step.Throws id) s is (row e.selected s (at_k e k s at j)) in
+      record { next = x.0; step = x.1 }
 
-pub throw-requires-clause-culprit : goal.throw-requires-clause-culprit
-throw-requires-clause-culprit c = subst (CanGo c.execute_cell.new.m) c.in-Raises.is c.in-Ok.ensures.goes
+  -- the ball of the error that it raises, on a machine that stands for the same
+  raises_next : (mid : Machine) (error : BuiltinError) → d.executed.step ≡ step.Raises error → database_of mid ≡ database_of m → (s : Search) → Stands e s
+      → BallNext e.machine mid e.selected rest (ball_by m.atoms (terms m) error d.raiser) s
+  raises_next mid error is same s j =
+      let r = row e.selected s (at_k e k s at j) in
+      let x = r.next in
+      let raised = subst (λ (t : Step). Reaches m t d.executed.output.items (place_of s x.state x.items x.cut x.behind) x.behind (read x.state x.goal)) is r.reaches in
+      record {
+        next = x;
+        step = record {
+          step = subst (λ (i : Indicator). Steps (place_of s x.state x.items x.cut x.behind) (read x.state x.goal) (Ball (plain_copy (error_ball (error_tree m.atoms (terms m) error) i))))
+              (sym r.raiser) raised.step;
+          database = raised.database ∙ sym same;
+        };
+      }
 
-pub throw-requires-clause-few : goal.throw-requires-clause-few
-throw-requires-clause-few c = few c.args.e.now c.args.k c.in-Some.rest c.in-Some.cell c.requires.running c.requires.current c.requires.work c.in-Some.ensures.some
+-- a ball comes up in front of the continuation behind the goal
+up_behind : (e : Engine) (m : Machine) (k rest : ℕ) (d : Done) → IsRunning e → e.current ≡ Some k → StillStands e.machine m
+    → ((n : ℕ) (s : Search) → StandsFor e.machine n (Some k) s → Reached e.machine m n rest d s) → ComesUpOn m rest
+up_behind e m k rest d run at still row =
+    let x = (row e.selected run.search (at_k e k run.search at run.stands)).next in (
+      x.items,
+      x.state,
+      x.behind,
+      up_still e.machine m still rest x.items x.state x.behind (record { continuation = x.placed.0.continuation; waiting = x.placed.1 }),
+    )
 
-pub returns-in-Ok-throw-clause-turned : goal.returns-in-Ok-throw-clause-turned
-returns-in-Ok-throw-clause-turned c =
+still_by : (e : Engine) (m : Machine) (s t : Step) → s ≡ t → OnRaises s (StillStands e.machine m) → OnRaises t (StillStands e.machine m)
+still_by e m s t is h = subst (λ (u : Step). OnRaises u (StillStands e.machine m)) is h
+
+pub raise-requires-clause-culprit : goal.raise-requires-clause-culprit
+raise-requires-clause-culprit c = subst (CanGo c.execute_cell.new.m) c.in-Raises.is c.in-Ok.ensures.goes
+
+pub raise-requires-clause-comes_up : goal.raise-requires-clause-comes_up
+raise-requires-clause-comes_up c =
     let e = c.args.e.now in
     let m = c.execute_cell.new.m in
-    let k = c.args.k in
-    let rest = c.in-Some.rest in
-    let d = c.in-Ok.done in
-    let error = c.in-Raises.error in
-    let still : StillStands e.machine m = subst (λ (t : Step). OnRaises t (StillStands e.machine m)) c.in-Raises.is c.in-Ok.ensures.raises in
-    thrown e (record e { machine = m }) c.throw.new.e rest error d.raiser refl (few e k rest c.in-Some.cell c.requires.running c.requires.current c.requires.work c.in-Some.ensures.some)
-    c.in-Ok-throw.ensures.ended c.throw.ensures.program.database (raised e m k rest d error c.in-Raises.is c.requires.current c.in-Ok.ensures.row)
-    c.in-Ok-throw.ball still c.requires.running c.in-Ok-throw.ensures.sound c.in-Ok-throw.ensures.ball
+    up_behind e m c.args.k c.in-Some.rest c.in-Ok.done c.requires.running c.requires.current
+    (still_by e m c.in-Ok.done.executed.step (step.Raises c.in-Raises.error) c.in-Raises.is c.in-Ok.ensures.raises) c.in-Ok.ensures.row
 
-pub returns-in-Ok-throw-clause-running : goal.returns-in-Ok-throw-clause-running
-returns-in-Ok-throw-clause-running c =
+pub raise-requires-clause-few : goal.raise-requires-clause-few
+raise-requires-clause-few c = c.requires.work.few
+
+pub returns-in-Ok-raise-clause-turned : goal.returns-in-Ok-raise-clause-turned
+returns-in-Ok-raise-clause-turned c =
     let e = c.args.e.now in
     let m = c.execute_cell.new.m in
-    let k = c.args.k in
-    let rest = c.in-Some.rest in
-    let d = c.in-Ok.done in
-    let error = c.in-Raises.error in
-    runs_thrown e (record e { machine = m }) c.throw.new.e rest error d.raiser refl (few e k rest c.in-Some.cell c.requires.running c.requires.current c.requires.work c.in-Some.ensures.some)
-    c.in-Ok-throw.ensures.ended c.throw.ensures.program.database (raised e m k rest d error c.in-Raises.is c.requires.current c.in-Ok.ensures.row)
-    c.requires.running c.throw.ensures.steps
+    let still : StillStands e.machine m = still_by e m c.in-Ok.done.executed.step (step.Raises c.in-Raises.error) c.in-Raises.is c.in-Ok.ensures.raises in
+    let r = c.in-Ok-raise.ensures.thrown in
+    thrown e r.mid c.raise.new.e c.in-Some.rest (ball_by m.atoms (terms m) c.in-Raises.error c.in-Ok.done.raiser) r.selected c.requires.work.few
+    (stands_then e.machine m r.mid.machine still r.still) (c.raise.ensures.program.database ∙ sym r.database)
+    (raises_next e m c.args.k c.in-Some.rest c.in-Ok.done c.requires.current c.in-Ok.ensures.row r.mid.machine c.in-Raises.error c.in-Raises.is r.database)
+    c.in-Ok-raise.told r.thrown
+
+pub returns-in-Ok-raise-clause-running : goal.returns-in-Ok-raise-clause-running
+returns-in-Ok-raise-clause-running c =
+    let e = c.args.e.now in
+    let m = c.execute_cell.new.m in
+    let still : StillStands e.machine m = still_by e m c.in-Ok.done.executed.step (step.Raises c.in-Raises.error) c.in-Raises.is c.in-Ok.ensures.raises in
+    let r = c.in-Ok-raise.ensures.thrown in
+    runs_thrown e r.mid c.raise.new.e c.in-Some.rest (ball_by m.atoms (terms m) c.in-Raises.error c.in-Ok.done.raiser) r.selected c.requires.work.few
+    (stands_then e.machine m r.mid.machine still r.still) (c.raise.ensures.program.database ∙ sym r.database)
+    (raises_next e m c.args.k c.in-Some.rest c.in-Ok.done c.requires.current c.in-Ok.ensures.row r.mid.machine c.in-Raises.error c.in-Raises.is r.database)
+    c.requires.running c.raise.ensures.kept c.raise.ensures.steps c.in-Ok-raise.told r.thrown
+
+pub returns-in-Raises-clause-keeps : goal.returns-in-Raises-clause-keeps
+returns-in-Raises-clause-keeps c =
+    keeps_gained c.args.e.now c.raise.new.e c.execute_cell.new.m c.execute_cell.ensures.program c.raise.ensures.program c.raise.ensures.budget c.raise.ensures.steps
 
 -- the engine still stands where the error's ball could not be built
-unthrown : (e new : Engine) (m : Machine) (rest : ℕ) (error : BuiltinError) (r : Raiser) → StillStands e.machine m → StillStands m new.machine
-    → database_of new.machine ≡ database_of m → new.selected ≡ e.selected → new.current ≡ e.current
-    → ((s : Search) → Stands e s → RaisedNext e.machine m e.selected rest error r s) → (s : Search) → Stands e s → Stands new s
-unthrown e new m rest error r still after program selected current f s j =
-    let x = f s j in
-    let same : database_of m ≡ database_of e.machine = sym x.raises.database ∙ x.next.database in
+unthrown : (e new : Engine) (m : Machine) → StillStands e.machine m → StillStands m new.machine → database_of new.machine ≡ database_of e.machine
+    → new.selected ≡ e.selected → new.current ≡ e.current → (s : Search) → Stands e s → Stands new s
+unthrown e new m still after same selected current s j =
     stands_same new e.selected e.current s selected current
-    (stands_still m new.machine e.selected e.current s after program (stands_still e.machine m e.selected e.current s still same j))
+    (stands_still e.machine new.machine e.selected e.current s (stands_then e.machine m new.machine still after) same j)
+
+-- a goal that raises or throws changes no database
+same_by : (e : Engine) (m : Machine) (rest : ℕ) (ball : Tree) (run : IsRunning e) → ((s : Search) → Stands e s → BallNext e.machine m e.selected rest ball s)
+    → database_of m ≡ database_of e.machine
+same_by e m rest ball run f = let x = f run.search run.stands in sym x.step.database ∙ x.next.database
 
 pub returns-in-Raises-clause-err : goal.returns-in-Raises-clause-err
 returns-in-Raises-clause-err c =
     let e = c.args.e.now in
     let m = c.execute_cell.new.m in
-    let error = c.in-Raises.error in
-    let still : StillStands e.machine m = subst (λ (t : Step). OnRaises t (StillStands e.machine m)) c.in-Raises.is c.in-Ok.ensures.raises in
+    let still : StillStands e.machine m = still_by e m c.in-Ok.done.executed.step (step.Raises c.in-Raises.error) c.in-Raises.is c.in-Ok.ensures.raises in
     let at = c.in-Err.ensures.err_at in
+    let same = same_by e m c.in-Some.rest (ball_by m.atoms (terms m) c.in-Raises.error c.in-Ok.done.raiser) c.requires.running
+    (raises_next e m c.args.k c.in-Some.rest c.in-Ok.done c.requires.current c.in-Ok.ensures.row m c.in-Raises.error c.in-Raises.is refl) in
+    goes_at_once e c.raise.new.e
+    (unthrown e c.raise.new.e m still c.in-Err.ensures.err (c.raise.ensures.program.database ∙ same) at.selected at.current)
+
+pub throw-requires-clause-ball : goal.throw-requires-clause-ball
+throw-requires-clause-ball c = subst (CanGo c.execute_cell.new.m) c.in-Throws.is c.in-Ok.ensures.goes
+
+pub throw-requires-clause-comes_up : goal.throw-requires-clause-comes_up
+throw-requires-clause-comes_up c =
+    let e = c.args.e.now in
+    let m = c.execute_cell.new.m in
+    up_behind e m c.args.k c.in-Some.rest c.in-Ok.done c.requires.running c.requires.current
+    (still_by e m c.in-Ok.done.executed.step (step.Throws c.in-Throws.ball) c.in-Throws.is c.in-Ok.ensures.raises) c.in-Ok.ensures.row
+
+pub throw-requires-clause-few : goal.throw-requires-clause-few
+throw-requires-clause-few c = c.requires.work.few
+
+pub returns-in-Ok-throw-clause-turned : goal.returns-in-Ok-throw-clause-turned
+returns-in-Ok-throw-clause-turned c =
+    let e = c.args.e.now in
+    let m = c.execute_cell.new.m in
+    let still : StillStands e.machine m = still_by e m c.in-Ok.done.executed.step (step.Throws c.in-Throws.ball) c.in-Throws.is c.in-Ok.ensures.raises in
+    thrown e (record e { machine = m }) c.throw.new.e c.in-Some.rest (tree m.atoms (terms m) c.in-Throws.ball) refl c.requires.work.few still c.throw.ensures.program.database
+    (throws_next e m c.args.k c.in-Some.rest c.in-Ok.done c.requires.current c.in-Ok.ensures.row c.in-Throws.ball c.in-Throws.is)
+    c.in-Ok-throw.told c.in-Ok-throw.ensures.thrown
+
+pub returns-in-Ok-throw-clause-running : goal.returns-in-Ok-throw-clause-running
+returns-in-Ok-throw-clause-running c =
+    let e = c.args.e.now in
+    let m = c.execute_cell.new.m in
+    let still : StillStands e.machine m = still_by e m c.in-Ok.done.executed.step (step.Throws c.in-Throws.ball) c.in-Throws.is c.in-Ok.ensures.raises in
+    runs_thrown e (record e { machine = m }) c.throw.new.e c.in-Some.rest (tree m.atoms (terms m) c.in-Throws.ball) refl c.requires.work.few still c.throw.ensures.program.database
+    (throws_next e m c.args.k c.in-Some.rest c.in-Ok.done c.requires.current c.in-Ok.ensures.row c.in-Throws.ball c.in-Throws.is)
+    c.requires.running c.throw.ensures.kept c.throw.ensures.steps c.in-Ok-throw.told c.in-Ok-throw.ensures.thrown
+
+pub returns-in-Throws-clause-keeps : goal.returns-in-Throws-clause-keeps
+returns-in-Throws-clause-keeps c =
+    keeps_gained c.args.e.now c.throw.new.e c.execute_cell.new.m c.execute_cell.ensures.program c.throw.ensures.program c.throw.ensures.budget c.throw.ensures.steps
+
+pub returns-in-Throws-clause-err : goal.returns-in-Throws-clause-err
+returns-in-Throws-clause-err c =
+    let e = c.args.e.now in
+    let m = c.execute_cell.new.m in
+    let still : StillStands e.machine m = still_by e m c.in-Ok.done.executed.step (step.Throws c.in-Throws.ball) c.in-Throws.is c.in-Ok.ensures.raises in
+    let same = same_by e m c.in-Some.rest (tree m.atoms (terms m) c.in-Throws.ball) c.requires.running
+    (throws_next e m c.args.k c.in-Some.rest c.in-Ok.done c.requires.current c.in-Ok.ensures.row c.in-Throws.ball c.in-Throws.is) in
     goes_at_once e c.throw.new.e
-    (unthrown e c.throw.new.e m c.in-Some.rest error c.in-Ok.done.raiser still c.in-Err.ensures.err c.throw.ensures.program.database at.selected at.current
-    (raised e m c.args.k c.in-Some.rest c.in-Ok.done error c.in-Raises.is c.requires.current c.in-Ok.ensures.row))
+    (λ s j. subst (λ (x : Engine). Stands x s) (sym c.in-Err-throw.ensures.err) (stands_still e.machine m e.selected e.current s still same j))
 
 -- ---- stops
 
@@ -237,7 +301,7 @@ returns-in-Ok-clause-turned c = (
       let rest = c.in-Some.rest in
       let x = reached_by e.machine m e.selected rest c.in-Ok.done (step.Refuses c.in-Refuses.pair) s c.in-Refuses.is
       (c.in-Ok.ensures.row e.selected s (at_k e k s c.requires.current j)) in
-      let less = subst (λ (n : ℕ). e.selected < n) (sym h.steps) (few e k rest c.in-Some.cell c.requires.running c.requires.current c.requires.work c.in-Some.ensures.some) in
+      let less = subst (λ (n : ℕ). e.selected < n) (sym h.steps) c.requires.work.few in
       let left = c.leave in
       stopped budgets left.new.e e.selected (why.Overflow c.in-Refuses.pair) s (with_branches [] s) left.ensures.ended (x.1.database ∙ sym left.ensures.program.database) x.0.selected
       (tells_refused e.machine e.selected rest s x.0 budgets less c.in-Refuses.pair x.1.is) refl,
@@ -266,11 +330,12 @@ returns-in-Err-Overflow-clause-turned c = (
       let k = c.args.k in
       let rest = c.in-Some.rest in
       let x = stops_so e m k rest _ (fault.Overflow c.in-Err-Overflow.pair) c.in-Err-Overflow.field-0-is c.requires.current c.in-Err-Overflow.ensures.stop s j in
-      let less = subst (λ (n : ℕ). e.selected < n) (sym h.steps) (few e k rest c.in-Some.cell c.requires.running c.requires.current c.requires.work c.in-Some.ensures.some) in
+      let less = subst (λ (n : ℕ). e.selected < n) (sym h.steps) c.requires.work.few in
       let left = c.leave-in-Err-Overflow in
       let t = stops_for_overflow budgets e.machine e.selected rest s less x.next e.machine.world.first.store.pivots c.in-Err-Overflow.pair x.stopped in
-      stopped budgets left.new.e e.selected (why.Overflow c.in-Err-Overflow.pair) s t.0 left.ensures.ended
-      (x.next.database ∙ sym c.in-Err-Overflow.ensures.err_database ∙ sym left.ensures.program.database) x.next.selected t.1 t.2,
+      rw c.in-Err-Overflow.field-0-is
+      (stopped budgets left.new.e e.selected (why.Overflow c.in-Err-Overflow.pair) s t.0 left.ensures.ended
+      (x.next.database ∙ sym c.in-Err-Overflow.ensures.err_database ∙ sym left.ensures.program.database) x.next.selected t.1 t.2),
   let same = c.leave-in-Err-Overflow.ensures.ended.selected in omega (arith, same),
 )
 
@@ -294,11 +359,12 @@ returns-in-Err-Pivots-clause-turned c = (
       let k = c.args.k in
       let rest = c.in-Some.rest in
       let x = stops_so e m k rest _ (fault.Pivots c.in-Err-Pivots.exchanges) c.in-Err-Pivots.field-0-is c.requires.current c.in-Err-Pivots.ensures.stop s j in
-      let less = subst (λ (n : ℕ). e.selected < n) (sym h.steps) (few e k rest c.in-Some.cell c.requires.running c.requires.current c.requires.work c.in-Some.ensures.some) in
+      let less = subst (λ (n : ℕ). e.selected < n) (sym h.steps) c.requires.work.few in
       let left = c.leave-in-Err-Pivots in
       let t = stops_for_pivots budgets e.machine e.selected rest s less x.next e.machine.world.first.store.pivots c.in-Err-Pivots.exchanges h.pivots x.stopped in
-      stopped budgets left.new.e e.selected (why.Pivots c.in-Err-Pivots.exchanges) s t.0 left.ensures.ended
-      (x.next.database ∙ sym c.in-Err-Pivots.ensures.err_database ∙ sym left.ensures.program.database) x.next.selected t.1 t.2,
+      rw c.in-Err-Pivots.field-0-is
+      (stopped budgets left.new.e e.selected (why.Pivots c.in-Err-Pivots.exchanges) s t.0 left.ensures.ended
+      (x.next.database ∙ sym c.in-Err-Pivots.ensures.err_database ∙ sym left.ensures.program.database) x.next.selected t.1 t.2),
   let same = c.leave-in-Err-Pivots.ensures.ended.selected in omega (arith, same),
 )
 

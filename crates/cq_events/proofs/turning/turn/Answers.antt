@@ -2,16 +2,14 @@ use Rattle.std.proofs.Common.{◌≡◌, ℕ, arith, [], Option, None, Some, ref
 use Rattle.spec_search.specs.Search.{Search}
 use Rattle.spec_search.specs.Turns.{with_branches}
 use Rattle.spec_stops.specs.Causes.{Budgets}
-use Rattle.spec_catches.specs.Catches.{HasNoCatch}
 use Rattle.cq_machine.specs.declared.machine.Machine.{Machine}
 use Rattle.cq_engine.specs.Fronts.{IsFrontOf, IsAhead}
-use Rattle.cq_engine.specs.Seeking.{GainsNames, IsKept, StandsFor}
+use Rattle.cq_engine.specs.Seeking.{KeepsNames, IsKept, StandsFor}
 use Rattle.cq_engine.specs.declared.front.Front.{Front}
 use Rattle.cq_engine.specs.declared.front.Front.TheVariants as front
 use Rattle.cq_engine.proofs.Told.{told_then}
 use Rattle.cq_events.specs.declared.engine.Engine.{Engine}
 use Rattle.cq_events.specs.Events.{Stands, IsRunning, Keeps, GoesOn}
-use Rattle.cq_events.proofs.Catches.{quietly_plain, tells_plain}
 use Rattle.cq_events.proofs.Turned.{goes_both, turned_both}
 use Rattle.cq_events.proofs.turning.turn.Goals as goal
 
@@ -27,12 +25,12 @@ Looked e m f = (budgets : Budgets) → budgets.steps ≡ e.steps → budgets.piv
 looked : (e : Engine) (m : Machine) (f g : Front) → f ≡ g → Looked e m f → Looked e m g
 looked e m f g is l = subst (Looked e m) is l
 
-keeps : (e : Engine) (m : Machine) (k : Option ℕ) → GainsNames e.machine m → m.world.first.store.pivots ≡ e.machine.world.first.store.pivots → Keeps e (record e { machine = m; current = k })
+keeps : (e : Engine) (m : Machine) (k : Option ℕ) → KeepsNames e.machine m → m.world.first.store.pivots ≡ e.machine.world.first.store.pivots → Keeps e (record e { machine = m; current = k })
 keeps e m k g pivots = record { atoms = g.atoms; steps = refl; pivots = pivots }
 
-runs_then : (e : Engine) (m : Machine) (current : Option ℕ) (s : Search) → IsKept m → StandsFor m e.selected current s → HasNoCatch s → IsRunning e
+runs_then : (e : Engine) (m : Machine) (current : Option ℕ) (s : Search) → IsKept m → StandsFor m e.selected current s → IsRunning e
     → IsRunning (record e { machine = m; current = current })
-runs_then e m current s kept j plain r = record { kept = kept; search = s; stands = j; no_catch = plain; within = r.within }
+runs_then e m current s kept j r = record { kept = kept; search = s; stands = j; within = r.within }
 
 -- ---- an event
 
@@ -52,7 +50,7 @@ pub returns-in-Answer-clause-running : goal.returns-in-Answer-clause-running
 returns-in-Answer-clause-running c =
     let e = c.args.e.now in
     let a = looked e c.look.new.m c.in-Ok.front front.Answer c.in-Answer.is c.in-Ok.ensures.front (its e) refl refl c.requires.search c.requires.stands in
-    runs_then e c.look.new.m None a.next c.look.ensures.kept a.stands (tells_plain a.tells c.requires.no_catch) c.requires
+    runs_then e c.look.new.m None a.next c.look.ensures.kept a.stands c.requires
 
 pub returns-in-Answer-clause-keeps : goal.returns-in-Answer-clause-keeps
 returns-in-Answer-clause-keeps c = keeps c.args.e.now c.look.new.m None c.look.ensures.program c.look.ensures.budget
@@ -69,7 +67,7 @@ pub returns-in-Fail-clause-running : goal.returns-in-Fail-clause-running
 returns-in-Fail-clause-running c =
     let e = c.args.e.now in
     let a = looked e c.look.new.m c.in-Ok.front front.Fail c.in-Fail.is c.in-Ok.ensures.front (its e) refl refl c.requires.search c.requires.stands in
-    runs_then e c.look.new.m None a.next c.look.ensures.kept a.stands (tells_plain a.tells c.requires.no_catch) c.requires
+    runs_then e c.look.new.m None a.next c.look.ensures.kept a.stands c.requires
 
 pub returns-in-Fail-clause-keeps : goal.returns-in-Fail-clause-keeps
 returns-in-Fail-clause-keeps c = keeps c.args.e.now c.look.new.m None c.look.ensures.program c.look.ensures.budget
@@ -86,10 +84,33 @@ pub returns-in-Stop-clause-running : goal.returns-in-Stop-clause-running
 returns-in-Stop-clause-running c =
     let e = c.args.e.now in
     let a = looked e c.look.new.m c.in-Ok.front (front.Stop c.in-Stop.cause) c.in-Stop.is c.in-Ok.ensures.front (its e) refl refl c.requires.search c.requires.stands in
-    runs_then e c.look.new.m None (with_branches [] a.reached) c.look.ensures.kept a.stands tt c.requires
+    runs_then e c.look.new.m None (with_branches [] a.reached) c.look.ensures.kept a.stands c.requires
 
 pub returns-in-Stop-clause-keeps : goal.returns-in-Stop-clause-keeps
 returns-in-Stop-clause-keeps c = keeps c.args.e.now c.look.new.m None c.look.ensures.program c.look.ensures.budget
+
+pub returns-in-Escapes-clause-turned : goal.returns-in-Escapes-clause-turned
+returns-in-Escapes-clause-turned c = (
+  λ budgets h s j.
+      let e = c.args.e.now in
+      let a = looked e c.look.new.m c.in-Ok.front (front.Escapes c.in-Escapes.ball) c.in-Escapes.is c.in-Ok.ensures.front budgets h.steps h.pivots s j in
+      record {
+        counted = subst (IsAhead e.steps e.selected c.look.new.m) c.in-Escapes.is c.in-Ok.ensures.ahead;
+        ball = a.ball;
+        is_stored = a.is_stored;
+        tells = record { next = a.next; tells = a.tells; stands = a.stands };
+      },
+  omega arith,
+)
+
+pub returns-in-Escapes-clause-running : goal.returns-in-Escapes-clause-running
+returns-in-Escapes-clause-running c =
+    let e = c.args.e.now in
+    let a = looked e c.look.new.m c.in-Ok.front (front.Escapes c.in-Escapes.ball) c.in-Escapes.is c.in-Ok.ensures.front (its e) refl refl c.requires.search c.requires.stands in
+    runs_then e c.look.new.m None a.next c.look.ensures.kept a.stands c.requires
+
+pub returns-in-Escapes-clause-keeps : goal.returns-in-Escapes-clause-keeps
+returns-in-Escapes-clause-keeps c = keeps c.args.e.now c.look.new.m None c.look.ensures.program c.look.ensures.budget
 
 -- ---- a goal in front
 
@@ -100,7 +121,7 @@ pub select-requires-clause-running : goal.select-requires-clause-running
 select-requires-clause-running c =
     let e = c.args.e.now in
     let a = came e c.look.new.m c.in-Ok.front c.in-Ahead.k c.in-Ahead.is c.in-Ok.ensures.front c.requires.search c.requires.stands in
-    runs_then e c.look.new.m (Some c.in-Ahead.k) a.reached c.look.ensures.kept a.stands (quietly_plain a.quiet c.requires.no_catch) c.requires
+    runs_then e c.look.new.m (Some c.in-Ahead.k) a.reached c.look.ensures.kept a.stands c.requires
 
 pub select-requires-clause-work : goal.select-requires-clause-work
 select-requires-clause-work c = let e = c.args.e.now in subst (IsAhead e.steps e.selected c.look.new.m) c.in-Ahead.is c.in-Ok.ensures.ahead
@@ -131,7 +152,7 @@ pub returns-in-Err-clause-running : goal.returns-in-Err-clause-running
 returns-in-Err-clause-running c =
     let e = c.args.e.now in
     let a = c.in-Err.ensures.err e.steps e.selected c.requires.search c.requires.stands in
-    runs_then e c.look.new.m None a.reached c.look.ensures.kept a.stands (quietly_plain a.quiet c.requires.no_catch) c.requires
+    runs_then e c.look.new.m c.look.new.current a.reached c.look.ensures.kept a.stands c.requires
 
 pub returns-in-Err-clause-keeps : goal.returns-in-Err-clause-keeps
-returns-in-Err-clause-keeps c = keeps c.args.e.now c.look.new.m None c.look.ensures.program c.look.ensures.budget
+returns-in-Err-clause-keeps c = keeps c.args.e.now c.look.new.m c.look.new.current c.look.ensures.program c.look.ensures.budget

@@ -71,7 +71,7 @@ returns-in-Ok-clause-sound c =
     let m = c.args.m.now in
     sound_still m _ c.requires.sound (record { atoms = refl; names = refl; ops = refl; clauses = refl; budget = ap (λ (w : Contents). w.pivots) c.in-Ok.ensures.world })
     (names_same m.atoms (now m).0 _ c.requires.sound.names c.in-Ok.ensures.world)
-    (marked_still (saved m) _ m.choices c.in-Ok.ensures.saved c.requires.sound.marked) (open_still m.clauses (saved m) _ m.choices c.in-Ok.ensures.saved c.requires.sound.untried)
+    (marked_still (saved m) _ m.choices c.in-Ok.ensures.saved c.requires.sound.marked) (open_still m.atoms m.clauses (saved m) _ m.choices c.in-Ok.ensures.saved c.requires.sound.untried)
 
 pub returns-in-Ok-clause-program : goal.returns-in-Ok-clause-program
 returns-in-Ok-clause-program c =
@@ -83,7 +83,7 @@ returns-in-Error-clause-sound c =
     let m = c.args.m.now in
     sound_still m _ c.requires.sound (record { atoms = refl; names = refl; ops = refl; clauses = refl; budget = ap (λ (w : Contents). w.pivots) c.in-Err.ensures.world })
     (names_same m.atoms (now m).0 _ c.requires.sound.names c.in-Err.ensures.world)
-    (marked_still (saved m) _ m.choices c.in-Err.ensures.saved c.requires.sound.marked) (open_still m.clauses (saved m) _ m.choices c.in-Err.ensures.saved c.requires.sound.untried)
+    (marked_still (saved m) _ m.choices c.in-Err.ensures.saved c.requires.sound.marked) (open_still m.atoms m.clauses (saved m) _ m.choices c.in-Err.ensures.saved c.requires.sound.untried)
 
 pub returns-in-Error-clause-program : goal.returns-in-Error-clause-program
 returns-in-Error-clause-program c =
@@ -95,7 +95,7 @@ returns-in-NoMemory-clause-sound c =
     let m = c.args.m.now in
     sound_still m _ c.requires.sound (record { atoms = refl; names = refl; ops = refl; clauses = refl; budget = ap (λ (w : Contents). w.pivots) c.in-Err.ensures.world })
     (names_same m.atoms (now m).0 _ c.requires.sound.names c.in-Err.ensures.world)
-    (marked_still (saved m) _ m.choices c.in-Err.ensures.saved c.requires.sound.marked) (open_still m.clauses (saved m) _ m.choices c.in-Err.ensures.saved c.requires.sound.untried)
+    (marked_still (saved m) _ m.choices c.in-Err.ensures.saved c.requires.sound.marked) (open_still m.atoms m.clauses (saved m) _ m.choices c.in-Err.ensures.saved c.requires.sound.untried)
 
 pub returns-in-NoMemory-clause-program : goal.returns-in-NoMemory-clause-program
 returns-in-NoMemory-clause-program c =

@@ -1,6 +1,6 @@
 use Rattle.std.proofs.Common.{refl}
 use Rattle.std.specs.Prelude.{Ok, IfOk}
-use Rattle.spec_search.specs.Builtins.{Least, Greatest, True, Fail, And, Or, IfThen, Cut, Not, Once, Unify, NotUnify, Is, Compare, Assert, DynamicGoal, Discontiguous, Initialization, UseModule, Curly, Entailed, Freeze, Extent, Optimum}
+use Rattle.spec_search.specs.Builtins.{Least, Greatest, True, Fail, And, Or, IfThen, Cut, Not, Once, Catch, Throw, Findall, Unify, NotUnify, Is, Compare, Assert, Retract, ClauseGoal, DynamicGoal, Discontiguous, Initialization, UseModule, Curly, Entailed, Freeze, Extent, Optimum}
 use Rattle.spec_search.specs.Database.{First, Last}
 use Rattle.cq_atoms.specs.Texts.{text_of}
 use Rattle.cq_builtin.specs.Rows.{comparison_of}
@@ -9,7 +9,7 @@ use Rattle.cq_term.specs.Meaning.{at}
 use Rattle.cq_machine.specs.Machines.{terms}
 use Rattle.cq_machine.specs.Stepping.{row_of, LeadsTo}
 use Rattle.cq_execute.proofs.Table.{so_many}
-use Rattle.cq_execute.proofs.Done.{quiet_done, row_done, stop_done, none_raised, rows_at, stops_at, same_machine, somewhere, still_raised, still_stands, freeze_none}
+use Rattle.cq_execute.proofs.Done.{quiet_done, row_done, stop_done, none_raised, rows_at, stops_at, same_machine, somewhere, still_raised, still_stands, freeze_none, freeze_throws}
 use Rattle.cq_execute.proofs.Changed.{change_done}
 use Rattle.cq_execute.proofs.Asked.{ask_done}
 use Rattle.cq_execute.proofs.rows.execute_builtin.Goals as goal
@@ -26,7 +26,7 @@ returns-in-And c =
     let calls = rw c.in-And.is at c.requires.calls in
     quiet_done m new c.args.goal c.args.height c.args.rest _ c.quiet-in-And.result
     (row_done m new c.args.goal c.args.height c.args.rest And calls r c.conjunction.ensures.row c.conjunction.ensures.goes
-    (none_raised m new c.args.goal c.args.height c.args.rest And calls c.requires.at.selected (λ p g e h. cc) r c.conjunction.ensures.row)
+    (none_raised m new c.args.goal c.args.height c.args.rest And calls c.requires.at.selected (λ p g e h. cc) (λ p g t h. cc) r c.conjunction.ensures.row)
     c.conjunction.ensures.sound c.conjunction.ensures.program c.conjunction.ensures.err)
     c.quiet-in-And.ensures
 
@@ -42,7 +42,7 @@ returns-in-Or c =
     let calls = rw c.in-Or.is at c.requires.calls in
     quiet_done m new c.args.goal c.args.height c.args.rest _ c.quiet-in-Or.result
     (row_done m new c.args.goal c.args.height c.args.rest Or calls r c.disjunction.ensures.row c.disjunction.ensures.goes
-    (none_raised m new c.args.goal c.args.height c.args.rest Or calls c.requires.at.selected (λ p g e h. cc) r c.disjunction.ensures.row)
+    (none_raised m new c.args.goal c.args.height c.args.rest Or calls c.requires.at.selected (λ p g e h. cc) (λ p g t h. cc) r c.disjunction.ensures.row)
     c.disjunction.ensures.sound c.disjunction.ensures.program c.disjunction.ensures.err)
     c.quiet-in-Or.ensures
 
@@ -58,7 +58,7 @@ returns-in-IfThen c =
     let calls = rw c.in-IfThen.is at c.requires.calls in
     quiet_done m new c.args.goal c.args.height c.args.rest _ c.quiet-in-IfThen.result
     (row_done m new c.args.goal c.args.height c.args.rest IfThen calls r c.if_then.ensures.row c.if_then.ensures.goes
-    (none_raised m new c.args.goal c.args.height c.args.rest IfThen calls c.requires.at.selected (λ p g e h. cc) r c.if_then.ensures.row)
+    (none_raised m new c.args.goal c.args.height c.args.rest IfThen calls c.requires.at.selected (λ p g e h. cc) (λ p g t h. cc) r c.if_then.ensures.row)
     c.if_then.ensures.sound c.if_then.ensures.program c.if_then.ensures.err)
     c.quiet-in-IfThen.ensures
 
@@ -74,7 +74,7 @@ returns-in-Not c =
     let calls = rw c.in-Not.is at c.requires.calls in
     quiet_done m new c.args.goal c.args.height c.args.rest _ c.quiet-in-Not.result
     (row_done m new c.args.goal c.args.height c.args.rest Not calls r c.negation.ensures.row c.negation.ensures.goes
-    (none_raised m new c.args.goal c.args.height c.args.rest Not calls c.requires.at.selected (λ p g e h. cc) r c.negation.ensures.row)
+    (none_raised m new c.args.goal c.args.height c.args.rest Not calls c.requires.at.selected (λ p g e h. cc) (λ p g t h. cc) r c.negation.ensures.row)
     c.negation.ensures.sound c.negation.ensures.program c.negation.ensures.err)
     c.quiet-in-Not.ensures
 
@@ -90,7 +90,7 @@ returns-in-Once c =
     let calls = rw c.in-Once.is at c.requires.calls in
     quiet_done m new c.args.goal c.args.height c.args.rest _ c.quiet-in-Once.result
     (row_done m new c.args.goal c.args.height c.args.rest Once calls r c.once.ensures.row c.once.ensures.goes
-    (none_raised m new c.args.goal c.args.height c.args.rest Once calls c.requires.at.selected (λ p g e h. cc) r c.once.ensures.row)
+    (none_raised m new c.args.goal c.args.height c.args.rest Once calls c.requires.at.selected (λ p g e h. cc) (λ p g t h. cc) r c.once.ensures.row)
     c.once.ensures.sound c.once.ensures.program c.once.ensures.err)
     c.quiet-in-Once.ensures
 
@@ -106,7 +106,7 @@ returns-in-NotUnify c =
     let calls = rw c.in-NotUnify.is at c.requires.calls in
     quiet_done m new c.args.goal c.args.height c.args.rest _ c.quiet-in-NotUnify.result
     (row_done m new c.args.goal c.args.height c.args.rest NotUnify calls r c.not_unify.ensures.row c.not_unify.ensures.goes
-    (none_raised m new c.args.goal c.args.height c.args.rest NotUnify calls c.requires.at.selected (λ p g e h. cc) r c.not_unify.ensures.row)
+    (none_raised m new c.args.goal c.args.height c.args.rest NotUnify calls c.requires.at.selected (λ p g e h. cc) (λ p g t h. cc) r c.not_unify.ensures.row)
     c.not_unify.ensures.sound c.not_unify.ensures.program c.not_unify.ensures.err)
     c.quiet-in-NotUnify.ensures
 
@@ -122,7 +122,7 @@ returns-in-Initialization c =
     let calls = rw c.in-Initialization.is at c.requires.calls in
     quiet_done m new c.args.goal c.args.height c.args.rest _ c.quiet-in-Initialization.result
     (row_done m new c.args.goal c.args.height c.args.rest Initialization calls r c.initialization.ensures.row c.initialization.ensures.goes
-    (none_raised m new c.args.goal c.args.height c.args.rest Initialization calls c.requires.at.selected (λ p g e h. cc) r c.initialization.ensures.row)
+    (none_raised m new c.args.goal c.args.height c.args.rest Initialization calls c.requires.at.selected (λ p g e h. cc) (λ p g t h. cc) r c.initialization.ensures.row)
     c.initialization.ensures.sound c.initialization.ensures.program c.initialization.ensures.err)
     c.quiet-in-Initialization.ensures
 
@@ -143,7 +143,7 @@ returns-in-Freeze c =
     let row = rows_at m new c.args.goal c.args.height c.args.rest Freeze calls r c.freeze.ensures.row in
     quiet_done m new c.args.goal c.args.height c.args.rest _ c.quiet-in-Freeze.result
     (row_done m new c.args.goal c.args.height c.args.rest Freeze calls r row c.freeze.ensures.goes
-    (none_raised m new c.args.goal c.args.height c.args.rest Freeze calls c.requires.at.selected freeze_none r row)
+    (none_raised m new c.args.goal c.args.height c.args.rest Freeze calls c.requires.at.selected freeze_none freeze_throws r row)
     c.freeze.ensures.sound c.freeze.ensures.program c.freeze.ensures.err)
     c.quiet-in-Freeze.ensures
 
@@ -164,7 +164,7 @@ returns-in-Unify c =
     let row = rows_at m new c.args.goal c.args.height c.args.rest Unify calls r c.unify.ensures.row in
     quiet_done m new c.args.goal c.args.height c.args.rest r c.quiet_or_stop.result
     (stop_done m new c.args.goal c.args.height c.args.rest Unify calls r row (stops_at m new c.args.goal c.args.height c.args.rest Unify calls r c.unify.ensures.stop) c.unify.ensures.goes
-    (none_raised m new c.args.goal c.args.height c.args.rest Unify calls c.requires.at.selected (λ p g e h. cc) r row)
+    (none_raised m new c.args.goal c.args.height c.args.rest Unify calls c.requires.at.selected (λ p g e h. cc) (λ p g t h. cc) r row)
     c.unify.ensures.sound c.unify.ensures.program c.unify.ensures.err)
     c.quiet_or_stop.ensures
 
@@ -269,7 +269,7 @@ returns-in-Cut c =
     let calls = rw c.in-Cut.is at c.requires.calls in
     let row : IfOk r (LeadsTo m new c.args.goal c.args.height c.args.rest (row_of Cut)) = λ p behind g at. c.cut.ensures.row p behind c.args.goal g at in
     quiet_done m new c.args.goal c.args.height c.args.rest r c.quiet-in-Cut.result
-    (stop_done m new c.args.goal c.args.height c.args.rest Cut calls r row tt c.cut.ensures.goes (none_raised m new c.args.goal c.args.height c.args.rest Cut calls c.requires.at.selected (λ p g e h. cc) r row)
+    (stop_done m new c.args.goal c.args.height c.args.rest Cut calls r row tt c.cut.ensures.goes (none_raised m new c.args.goal c.args.height c.args.rest Cut calls c.requires.at.selected (λ p g e h. cc) (λ p g t h. cc) r row)
     c.cut.ensures.sound c.cut.ensures.program tt)
     c.quiet-in-Cut.ensures
 
@@ -421,3 +421,79 @@ write-requires-clause-calls c =
 pub newline-requires-clause-calls : goal.newline-requires-clause-calls
 newline-requires-clause-calls c =
     rw c.in-Newline.is at c.requires.calls
+
+-- ---- balls, findall and clauses that are asked for
+
+pub catch-requires-clause-three : goal.catch-requires-clause-three
+catch-requires-clause-three c =
+    so_many (text_of c.args.m.now.atoms) (at (terms c.args.m.now) c.args.goal) Catch 3 (rw c.in-Catch.is at c.requires.calls) (λ n. refl)
+
+pub returns-in-Catch : goal.returns-in-Catch
+returns-in-Catch c =
+    let m = c.args.m.now in
+    let new = c.catch.new.m in
+    let r = c.catch.result in
+    let calls = rw c.in-Catch.is at c.requires.calls in
+    quiet_done m new c.args.goal c.args.height c.args.rest _ c.quiet-in-Catch.result
+    (row_done m new c.args.goal c.args.height c.args.rest Catch calls r c.catch.ensures.row c.catch.ensures.goes
+    (none_raised m new c.args.goal c.args.height c.args.rest Catch calls c.requires.at.selected (λ p g e h. cc) (λ p g t h. cc) r c.catch.ensures.row)
+    c.catch.ensures.sound c.catch.ensures.program c.catch.ensures.err)
+    c.quiet-in-Catch.ensures
+
+pub throw-requires-clause-one : goal.throw-requires-clause-one
+throw-requires-clause-one c =
+    so_many (text_of c.args.m.now.atoms) (at (terms c.args.m.now) c.args.goal) Throw 1 (rw c.in-Throw.is at c.requires.calls) (λ n. refl)
+
+pub returns-in-Throw : goal.returns-in-Throw
+returns-in-Throw c =
+    let m = c.args.m.now in
+    let s = c.throw.result in
+    quiet_done m m c.args.goal c.args.height c.args.rest (Ok s) c.quiet-in-Throw.result
+    (stop_done m m c.args.goal c.args.height c.args.rest Throw (rw c.in-Throw.is at c.requires.calls) (Ok s) (λ p behind g at. c.throw.ensures.row c.args.height c.args.rest p behind g at) tt
+    c.throw.ensures.goes (still_raised {E = StoreFault} m (Ok s)) c.requires.at.sound (same_machine m) tt)
+    c.quiet-in-Throw.ensures
+
+pub findall-requires-clause-three : goal.findall-requires-clause-three
+findall-requires-clause-three c =
+    so_many (text_of c.args.m.now.atoms) (at (terms c.args.m.now) c.args.goal) Findall 3 (rw c.in-Findall.is at c.requires.calls) (λ n. refl)
+
+pub returns-in-Findall : goal.returns-in-Findall
+returns-in-Findall c =
+    let m = c.args.m.now in
+    let new = c.findall.new.m in
+    let r = c.findall.result in
+    let calls = rw c.in-Findall.is at c.requires.calls in
+    quiet_done m new c.args.goal c.args.height c.args.rest _ c.quiet-in-Findall.result
+    (row_done m new c.args.goal c.args.height c.args.rest Findall calls r c.findall.ensures.row c.findall.ensures.goes c.findall.ensures.raises
+    c.findall.ensures.sound c.findall.ensures.program c.findall.ensures.err)
+    c.quiet-in-Findall.ensures
+
+pub retract-requires-clause-one : goal.retract-requires-clause-one
+retract-requires-clause-one c =
+    so_many (text_of c.args.m.now.atoms) (at (terms c.args.m.now) c.args.goal) Retract 1 (rw c.in-Retract.is at c.requires.calls) (λ n. refl)
+
+pub returns-in-Retract : goal.returns-in-Retract
+returns-in-Retract c =
+    let m = c.args.m.now in
+    let new = c.retract.new.m in
+    let r = c.retract.result in
+    let calls = rw c.in-Retract.is at c.requires.calls in
+    quiet_done m new c.args.goal c.args.height c.args.rest _ c.quiet-in-Retract.result
+    (row_done m new c.args.goal c.args.height c.args.rest Retract calls r (rows_at m new c.args.goal c.args.height c.args.rest Retract calls r c.retract.ensures.row)
+    c.retract.ensures.goes c.retract.ensures.raises c.retract.ensures.sound c.retract.ensures.program c.retract.ensures.err)
+    c.quiet-in-Retract.ensures
+
+pub clause-requires-clause-two : goal.clause-requires-clause-two
+clause-requires-clause-two c =
+    so_many (text_of c.args.m.now.atoms) (at (terms c.args.m.now) c.args.goal) ClauseGoal 2 (rw c.in-Clause.is at c.requires.calls) (λ n. refl)
+
+pub returns-in-Clause : goal.returns-in-Clause
+returns-in-Clause c =
+    let m = c.args.m.now in
+    let new = c.clause.new.m in
+    let r = c.clause.result in
+    let calls = rw c.in-Clause.is at c.requires.calls in
+    quiet_done m new c.args.goal c.args.height c.args.rest _ c.quiet-in-Clause.result
+    (row_done m new c.args.goal c.args.height c.args.rest ClauseGoal calls r (rows_at m new c.args.goal c.args.height c.args.rest ClauseGoal calls r c.clause.ensures.row)
+    c.clause.ensures.goes c.clause.ensures.raises c.clause.ensures.sound c.clause.ensures.program c.clause.ensures.err)
+    c.quiet-in-Clause.ensures

@@ -2,21 +2,21 @@ use Rattle.std.proofs.Common.{◌≡◌}
 use Rattle.spec_lists.specs.Prefixes.{IsPrefix}
 use Rattle.cq_atoms.specs.Texts.{AreDifferent}
 use Rattle.cq_begin.specs.Stops.{waiting_in}
+use Rattle.cq_matching.specs.Matching.{Reaches}
 use Rattle.cq_ways.specs.Held.{held, HasMarks, IsOver, stack_of}
-use Rattle.cq_find.specs.Finding.{Reaches}
 use Rattle.cq_find.proofs.finding.find.Given as goal
 
 abbrev pub invariant-choices : goal.invariant-choices
 invariant-choices l =
     record {
       different : AreDifferent l.atoms;
-      over : IsOver l.fn.clauses (held l.atoms l.world.first l.world.second l.choices);
+      over : IsOver l.clauses (held l.atoms l.world.first l.world.second l.choices);
       marked : HasMarks (held l.atoms l.world.first l.world.second l.choices);
       comes : Reaches l.fn.clauses (held l.fn.atoms l.fn.world.first l.fn.world.second l.fn.choices) l.fn.start
-          (held l.atoms l.world.first l.world.second l.choices) l.current;
+          l.clauses (held l.atoms l.world.first l.world.second l.choices) l.current;
       longer : IsPrefix l.fn.atoms l.atoms;
       budget : l.world.first.store.pivots ≡ l.fn.world.first.store.pivots;
     }
 
 abbrev pub decreases-choices : goal.decreases-choices
-decreases-choices l = waiting_in (stack_of l.fn.clauses (held l.atoms l.world.first l.world.second l.choices))
+decreases-choices l = waiting_in (stack_of l.clauses (held l.atoms l.world.first l.world.second l.choices))

@@ -33,7 +33,7 @@ returns-clause-idle c =
         program = s.program;
         operators_named = s.operators_named;
         marked = subst (λ (l : List (Value Contents)). AreMarked l m.choices) (sym same) s.marked;
-        untried = subst (λ (l : List (Value Contents)). AreOpen m.clauses l m.choices) (sym same) s.untried;
+        untried = subst (λ (l : List (Value Contents)). AreOpen m.atoms m.clauses l m.choices) (sym same) s.untried;
       };
       nothing = record {
         names = names;

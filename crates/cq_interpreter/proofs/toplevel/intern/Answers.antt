@@ -3,6 +3,8 @@ use Rattle.spec_operators.specs.Operators.{Ops}
 use Rattle.cq_atoms.specs.Texts.{KeepsTexts}
 use Rattle.cq_program.specs.Database.{as_database}
 use Rattle.cq_write.specs.Meaning.{operators}
+use Rattle.cq_built.proofs.Growing.{longer_by_text}
+use Rattle.cq_engine.specs.Seeking.{held_on}
 use Rattle.cq_machine.proofs.Interned.{names_kept}
 use Rattle.cq_interpreter.proofs.toplevel.intern.Goals as goal
 
@@ -18,7 +20,8 @@ returns-clause-kept c =
       program = c.programs_stay_programs.ensures.named m.atoms new keeps m.clauses s.program;
       operators_named = c.more_names_keep_the_table.ensures.known m.atoms new m.ops keeps s.operators_named;
       marked = s.marked;
-      untried = s.untried;
+      untried = (c.names_may_be_added.ensures.over new m.clauses (held_on m) (longer_by_text m.atoms new c.args.text.now c.in_ok-name.ensures.texts)
+          (record { program = s.program; choices = s.untried })).choices;
     }
 
 pub returns-clause-program : goal.returns-clause-program

@@ -1,18 +1,16 @@
-use Rattle.std.proofs.Common.{[], ◌∷◌, ◌++◌}
-use Rattle.cq_dict.specs.DictValue.{quantities_of}
-use Rattle.cq_store.proofs.Gained.{moved_err}
-use Rattle.cq_linear.specs.declared.store.StoreFault.TheVariants.{Pivots}
-use Rattle.cq_linear.proofs.Entries.{joined_solvable, refuted_unsolvable}
+use Rattle.std.proofs.Common.{List, subst}
+use Rattle.std.specs.Prelude.{IfOk}
+use Rattle.spec_linear.specs.Solution.{Constraint}
+use Rattle.spec_limits.specs.Asked.{NoQuestion}
+use Rattle.cq_linear.specs.Entered.{CanJoin}
+use Rattle.cq_linear.specs.StoreValue.{MayTake, Only}
 use Rattle.cq_linear.proofs.entering.can_enter.Goals as goal
 
-pub returns-in-Ok-Joined-clause-solvable : goal.returns-in-Ok-Joined-clause-solvable
-returns-in-Ok-Joined-clause-solvable c =
-    joined_solvable c.args.held.now.first.now c.args.c c.enter.new.held.second.first.now (quantities_of c.enter.new.held.second.second) c.in-Ok-Joined.field-0 _ c.in-Ok-Joined.field-0-is
-    c.in-Ok-Joined.ensures.joined
-
-pub returns-in-Ok-Contradiction-clause-solvable : goal.returns-in-Ok-Contradiction-clause-solvable
-returns-in-Ok-Contradiction-clause-solvable c =
-    refuted_unsolvable (c.args.held.now.first.now ++ c.args.c ∷ []) c.in-Ok-Contradiction.field-0 _ c.in-Ok-Contradiction.field-0-is c.in-Ok-Contradiction.ensures.refuted
+pub returns-clause-solvable : goal.returns-clause-solvable
+returns-clause-solvable c =
+    subst (λ (l : List Constraint). IfOk c.can_enter_behind.result (CanJoin l c.args.c)) c.as_slice-told.ensures c.can_enter_behind.ensures.solvable
 
 pub returns-clause-pivots : goal.returns-clause-pivots
-returns-clause-pivots c = λ n e. c.in-Err.ensures.pivots n (moved_err c.in-Err.fault (Pivots n) e)
+returns-clause-pivots c = λ n e.
+    let o = c.can_enter_behind.ensures.pivots n e in
+    (o.0, subst (λ (l : List Constraint). MayTake l (Only c.args.c) NoQuestion n) c.as_slice-told.ensures o.1)

@@ -14,5 +14,5 @@ returns-clause-sound c =
       program = c.requires.sound.program;
       operators_named = c.requires.sound.operators_named;
       marked = c.cut.ensures.marked;
-      untried = older_open m.clauses (saved m) _ m.choices _ c.requires.sound.untried c.cut.ensures.older;
+      untried = older_open m.atoms m.clauses (saved m) _ m.choices _ c.requires.sound.untried c.cut.ensures.older;
     }

@@ -34,21 +34,21 @@ returns-then-found-clause-sound c =
     let m = c.args.m.now in
     sound_still m _ c.requires.sound
     (record { atoms = refl; names = refl; ops = refl; clauses = c.call_procedure.ensures.clauses; budget = ap (λ (w : Contents). w.pivots) c.call_procedure.ensures.world })
-    (names_same m.atoms (now m).0 _ c.requires.sound.names c.call_procedure.ensures.world) c.call_procedure.ensures.marked c.call_procedure.ensures.open
+    (names_same m.atoms (now m).0 _ c.requires.sound.names c.call_procedure.ensures.world) c.call_procedure.ensures.marked (c.call_procedure.ensures.open m.atoms c.requires.sound.untried)
 
 pub returns-else-found-clause-sound : goal.returns-else-found-clause-sound
 returns-else-found-clause-sound c =
     let m = c.args.m.now in
     sound_still m _ c.requires.sound
     (record { atoms = refl; names = refl; ops = refl; clauses = c.call_procedure.ensures.clauses; budget = ap (λ (w : Contents). w.pivots) c.call_procedure.ensures.world })
-    (names_same m.atoms (now m).0 _ c.requires.sound.names c.call_procedure.ensures.world) c.call_procedure.ensures.marked c.call_procedure.ensures.open
+    (names_same m.atoms (now m).0 _ c.requires.sound.names c.call_procedure.ensures.world) c.call_procedure.ensures.marked (c.call_procedure.ensures.open m.atoms c.requires.sound.untried)
 
 pub returns-in_err-found-clause-sound : goal.returns-in_err-found-clause-sound
 returns-in_err-found-clause-sound c =
     let m = c.args.m.now in
     sound_still m _ c.requires.sound
     (record { atoms = refl; names = refl; ops = refl; clauses = c.call_procedure.ensures.clauses; budget = ap (λ (w : Contents). w.pivots) c.call_procedure.ensures.world })
-    (names_same m.atoms (now m).0 _ c.requires.sound.names c.call_procedure.ensures.world) c.call_procedure.ensures.marked c.call_procedure.ensures.open
+    (names_same m.atoms (now m).0 _ c.requires.sound.names c.call_procedure.ensures.world) c.call_procedure.ensures.marked (c.call_procedure.ensures.open m.atoms c.requires.sound.untried)
 
 pub returns-in_err-found-clause-err : goal.returns-in_err-found-clause-err
 returns-in_err-found-clause-err c =

@@ -60,21 +60,21 @@ returns-in-Ok-clause-sound c =
     let mid = c.extended.new.m in
     sound_still mid _ c.extended.ensures.sound (record { atoms = refl; names = refl; ops = refl; clauses = refl; budget = ap (λ (w : Contents). w.pivots) c.in-Ok.ensures.world })
     (names_same mid.atoms (now mid).0 _ c.extended.ensures.sound.names c.in-Ok.ensures.world)
-    (marked_still (saved mid) _ mid.choices c.in-Ok.ensures.saved c.extended.ensures.sound.marked) (open_still mid.clauses (saved mid) _ mid.choices c.in-Ok.ensures.saved c.extended.ensures.sound.untried)
+    (marked_still (saved mid) _ mid.choices c.in-Ok.ensures.saved c.extended.ensures.sound.marked) (open_still mid.atoms mid.clauses (saved mid) _ mid.choices c.in-Ok.ensures.saved c.extended.ensures.sound.untried)
 
 pub returns-in-Err-Error-clause-sound : goal.returns-in-Err-Error-clause-sound
 returns-in-Err-Error-clause-sound c =
     let mid = c.extended.new.m in
     sound_still mid _ c.extended.ensures.sound (record { atoms = refl; names = refl; ops = refl; clauses = refl; budget = ap (λ (w : Contents). w.pivots) c.in-Err-Error.ensures.world })
     (names_same mid.atoms (now mid).0 _ c.extended.ensures.sound.names c.in-Err-Error.ensures.world)
-    (marked_still (saved mid) _ mid.choices c.in-Err-Error.ensures.saved c.extended.ensures.sound.marked) (open_still mid.clauses (saved mid) _ mid.choices c.in-Err-Error.ensures.saved c.extended.ensures.sound.untried)
+    (marked_still (saved mid) _ mid.choices c.in-Err-Error.ensures.saved c.extended.ensures.sound.marked) (open_still mid.atoms mid.clauses (saved mid) _ mid.choices c.in-Err-Error.ensures.saved c.extended.ensures.sound.untried)
 
 pub returns-in-Err-NoMemory-clause-sound : goal.returns-in-Err-NoMemory-clause-sound
 returns-in-Err-NoMemory-clause-sound c =
     let mid = c.extended.new.m in
     sound_still mid _ c.extended.ensures.sound (record { atoms = refl; names = refl; ops = refl; clauses = refl; budget = ap (λ (w : Contents). w.pivots) c.in-Err-NoMemory.ensures.world })
     (names_same mid.atoms (now mid).0 _ c.extended.ensures.sound.names c.in-Err-NoMemory.ensures.world)
-    (marked_still (saved mid) _ mid.choices c.in-Err-NoMemory.ensures.saved c.extended.ensures.sound.marked) (open_still mid.clauses (saved mid) _ mid.choices c.in-Err-NoMemory.ensures.saved c.extended.ensures.sound.untried)
+    (marked_still (saved mid) _ mid.choices c.in-Err-NoMemory.ensures.saved c.extended.ensures.sound.marked) (open_still mid.atoms mid.clauses (saved mid) _ mid.choices c.in-Err-NoMemory.ensures.saved c.extended.ensures.sound.untried)
 
 pub returns-in-Err-Error-clause-raises : goal.returns-in-Err-Error-clause-raises
 returns-in-Err-Error-clause-raises c =

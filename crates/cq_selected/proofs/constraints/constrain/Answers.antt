@@ -60,7 +60,7 @@ returns-in-Goes-clause-sound c =
     sound_still m _ c.requires.sound (record { atoms = refl; names = refl; ops = refl; clauses = refl; budget = c.constrain.ensures.budget })
     (names_ahead m.atoms (stack m.atoms m.clauses marks new.choices) (value new.world.first new.world.second.now) c.in-Goes.first s.0 s.1 _
     ((rw c.in-Goes.is at c.in-Ok.ensures.row) m.clauses s.0 s.1 _ s.3.selected r))
-    c.constrain.ensures.marked (open_left m.clauses (saved m) m.choices (value new.world.first new.world.second.now) marks new.choices c.in-Ok.ensures.choices c.requires.sound.untried)
+    c.constrain.ensures.marked (open_left m.atoms m.clauses (saved m) m.choices (value new.world.first new.world.second.now) marks new.choices c.in-Ok.ensures.choices c.requires.sound.untried)
 
 pub returns-in-Pruned-clause-sound : goal.returns-in-Pruned-clause-sound
 returns-in-Pruned-clause-sound c =
@@ -70,7 +70,7 @@ returns-in-Pruned-clause-sound c =
     let marks = saved_values new.world.first new.world.second.saved in
     sound_still m _ c.requires.sound (record { atoms = refl; names = refl; ops = refl; clauses = refl; budget = c.constrain.ensures.budget })
     (names_grown m.atoms (now m) (value new.world.first new.world.second.now) (rw c.in-Pruned.is at c.in-Ok.ensures.unchanged) s.0.state s.3.selected.place.continuation.state)
-    c.constrain.ensures.marked (open_left m.clauses (saved m) m.choices (value new.world.first new.world.second.now) marks new.choices c.in-Ok.ensures.choices c.requires.sound.untried)
+    c.constrain.ensures.marked (open_left m.atoms m.clauses (saved m) m.choices (value new.world.first new.world.second.now) marks new.choices c.in-Ok.ensures.choices c.requires.sound.untried)
 
 pub returns-in-Error-clause-sound : goal.returns-in-Error-clause-sound
 returns-in-Error-clause-sound c =
@@ -79,7 +79,7 @@ returns-in-Error-clause-sound c =
     let new = c.constrain.new in
     sound_still m _ c.requires.sound (record { atoms = refl; names = refl; ops = refl; clauses = refl; budget = c.constrain.ensures.budget })
     (names_grown m.atoms (now m) (value new.world.first new.world.second.now) c.in-Err.ensures.err s.0.state s.3.selected.place.continuation.state)
-    c.constrain.ensures.marked (open_same m.clauses (saved m) (saved_values new.world.first new.world.second.saved) m.choices new.choices c.in-Err.ensures.err_saved c.in-Err.ensures.err_choices c.requires.sound.untried)
+    c.constrain.ensures.marked (open_same m.atoms m.clauses (saved m) (saved_values new.world.first new.world.second.saved) m.choices new.choices c.in-Err.ensures.err_saved c.in-Err.ensures.err_choices c.requires.sound.untried)
 
 pub returns-in-Overflow-clause-sound : goal.returns-in-Overflow-clause-sound
 returns-in-Overflow-clause-sound c =
@@ -88,7 +88,7 @@ returns-in-Overflow-clause-sound c =
     let new = c.constrain.new in
     sound_still m _ c.requires.sound (record { atoms = refl; names = refl; ops = refl; clauses = refl; budget = c.constrain.ensures.budget })
     (names_grown m.atoms (now m) (value new.world.first new.world.second.now) c.in-Err.ensures.err s.0.state s.3.selected.place.continuation.state)
-    c.constrain.ensures.marked (open_same m.clauses (saved m) (saved_values new.world.first new.world.second.saved) m.choices new.choices c.in-Err.ensures.err_saved c.in-Err.ensures.err_choices c.requires.sound.untried)
+    c.constrain.ensures.marked (open_same m.atoms m.clauses (saved m) (saved_values new.world.first new.world.second.saved) m.choices new.choices c.in-Err.ensures.err_saved c.in-Err.ensures.err_choices c.requires.sound.untried)
 
 pub returns-in-NoMemory-clause-sound : goal.returns-in-NoMemory-clause-sound
 returns-in-NoMemory-clause-sound c =
@@ -97,7 +97,7 @@ returns-in-NoMemory-clause-sound c =
     let new = c.constrain.new in
     sound_still m _ c.requires.sound (record { atoms = refl; names = refl; ops = refl; clauses = refl; budget = c.constrain.ensures.budget })
     (names_grown m.atoms (now m) (value new.world.first new.world.second.now) c.in-Err.ensures.err s.0.state s.3.selected.place.continuation.state)
-    c.constrain.ensures.marked (open_same m.clauses (saved m) (saved_values new.world.first new.world.second.saved) m.choices new.choices c.in-Err.ensures.err_saved c.in-Err.ensures.err_choices c.requires.sound.untried)
+    c.constrain.ensures.marked (open_same m.atoms m.clauses (saved m) (saved_values new.world.first new.world.second.saved) m.choices new.choices c.in-Err.ensures.err_saved c.in-Err.ensures.err_choices c.requires.sound.untried)
 
 pub returns-in-Settling-clause-sound : goal.returns-in-Settling-clause-sound
 returns-in-Settling-clause-sound c =
@@ -106,7 +106,7 @@ returns-in-Settling-clause-sound c =
     let new = c.constrain.new in
     sound_still m _ c.requires.sound (record { atoms = refl; names = refl; ops = refl; clauses = refl; budget = c.constrain.ensures.budget })
     (names_grown m.atoms (now m) (value new.world.first new.world.second.now) c.in-Err.ensures.err s.0.state s.3.selected.place.continuation.state)
-    c.constrain.ensures.marked (open_same m.clauses (saved m) (saved_values new.world.first new.world.second.saved) m.choices new.choices c.in-Err.ensures.err_saved c.in-Err.ensures.err_choices c.requires.sound.untried)
+    c.constrain.ensures.marked (open_same m.atoms m.clauses (saved m) (saved_values new.world.first new.world.second.saved) m.choices new.choices c.in-Err.ensures.err_saved c.in-Err.ensures.err_choices c.requires.sound.untried)
 
 pub returns-in-NoMemory-clause-err : goal.returns-in-NoMemory-clause-err
 returns-in-NoMemory-clause-err c =

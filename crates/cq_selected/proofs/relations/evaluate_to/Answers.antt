@@ -40,7 +40,7 @@ returns-in-Goes-clause-sound c =
     let marks = ap₂ zip c.evaluate_to.ensures.saved c.evaluate_to.ensures.lists in
     sound_still m _ c.requires.sound (record { atoms = refl; names = refl; ops = refl; clauses = refl; budget = c.evaluate_to.ensures.budget })
     (names_ahead m.atoms (holds m) (value c.evaluate_to.new.world c.evaluate_to.new.lists.now) c.in-Goes.first s.1 s.2 _ ((rw c.in-Goes.is at c.in-Ok.ensures.row) (holds m) s.1 s.2 _ _ (s.4.selected.place, s.4.selected.waiting) rx re))
-    (marked_still (saved m) _ m.choices marks c.requires.sound.marked) (open_still m.clauses (saved m) _ m.choices marks c.requires.sound.untried)
+    (marked_still (saved m) _ m.choices marks c.requires.sound.marked) (open_still m.atoms m.clauses (saved m) _ m.choices marks c.requires.sound.untried)
 
 pub returns-in-Pruned-clause-sound : goal.returns-in-Pruned-clause-sound
 returns-in-Pruned-clause-sound c =
@@ -48,7 +48,7 @@ returns-in-Pruned-clause-sound c =
     let marks = ap₂ zip c.evaluate_to.ensures.saved c.evaluate_to.ensures.lists in
     sound_still m _ c.requires.sound (record { atoms = refl; names = refl; ops = refl; clauses = refl; budget = c.evaluate_to.ensures.budget })
     (names_same m.atoms (now m).0 _ c.requires.sound.names (rw c.in-Pruned.is at c.in-Ok.ensures.unchanged))
-    (marked_still (saved m) _ m.choices marks c.requires.sound.marked) (open_still m.clauses (saved m) _ m.choices marks c.requires.sound.untried)
+    (marked_still (saved m) _ m.choices marks c.requires.sound.marked) (open_still m.atoms m.clauses (saved m) _ m.choices marks c.requires.sound.untried)
 
 pub returns-in-Error-clause-sound : goal.returns-in-Error-clause-sound
 returns-in-Error-clause-sound c =
@@ -56,7 +56,7 @@ returns-in-Error-clause-sound c =
     let marks = ap₂ zip c.evaluate_to.ensures.saved c.evaluate_to.ensures.lists in
     sound_still m _ c.requires.sound (record { atoms = refl; names = refl; ops = refl; clauses = refl; budget = c.evaluate_to.ensures.budget })
     (names_same m.atoms (now m).0 _ c.requires.sound.names c.in-Err.ensures.err)
-    (marked_still (saved m) _ m.choices marks c.requires.sound.marked) (open_still m.clauses (saved m) _ m.choices marks c.requires.sound.untried)
+    (marked_still (saved m) _ m.choices marks c.requires.sound.marked) (open_still m.atoms m.clauses (saved m) _ m.choices marks c.requires.sound.untried)
 
 pub returns-in-Overflow-clause-sound : goal.returns-in-Overflow-clause-sound
 returns-in-Overflow-clause-sound c =
@@ -64,7 +64,7 @@ returns-in-Overflow-clause-sound c =
     let marks = ap₂ zip c.evaluate_to.ensures.saved c.evaluate_to.ensures.lists in
     sound_still m _ c.requires.sound (record { atoms = refl; names = refl; ops = refl; clauses = refl; budget = c.evaluate_to.ensures.budget })
     (names_same m.atoms (now m).0 _ c.requires.sound.names c.in-Err.ensures.err)
-    (marked_still (saved m) _ m.choices marks c.requires.sound.marked) (open_still m.clauses (saved m) _ m.choices marks c.requires.sound.untried)
+    (marked_still (saved m) _ m.choices marks c.requires.sound.marked) (open_still m.atoms m.clauses (saved m) _ m.choices marks c.requires.sound.untried)
 
 pub returns-in-NoMemory-clause-sound : goal.returns-in-NoMemory-clause-sound
 returns-in-NoMemory-clause-sound c =
@@ -72,7 +72,7 @@ returns-in-NoMemory-clause-sound c =
     let marks = ap₂ zip c.evaluate_to.ensures.saved c.evaluate_to.ensures.lists in
     sound_still m _ c.requires.sound (record { atoms = refl; names = refl; ops = refl; clauses = refl; budget = c.evaluate_to.ensures.budget })
     (names_same m.atoms (now m).0 _ c.requires.sound.names c.in-Err.ensures.err)
-    (marked_still (saved m) _ m.choices marks c.requires.sound.marked) (open_still m.clauses (saved m) _ m.choices marks c.requires.sound.untried)
+    (marked_still (saved m) _ m.choices marks c.requires.sound.marked) (open_still m.atoms m.clauses (saved m) _ m.choices marks c.requires.sound.untried)
 
 pub returns-in-Settling-clause-sound : goal.returns-in-Settling-clause-sound
 returns-in-Settling-clause-sound c =
@@ -80,7 +80,7 @@ returns-in-Settling-clause-sound c =
     let marks = ap₂ zip c.evaluate_to.ensures.saved c.evaluate_to.ensures.lists in
     sound_still m _ c.requires.sound (record { atoms = refl; names = refl; ops = refl; clauses = refl; budget = c.evaluate_to.ensures.budget })
     (names_same m.atoms (now m).0 _ c.requires.sound.names c.in-Err.ensures.err)
-    (marked_still (saved m) _ m.choices marks c.requires.sound.marked) (open_still m.clauses (saved m) _ m.choices marks c.requires.sound.untried)
+    (marked_still (saved m) _ m.choices marks c.requires.sound.marked) (open_still m.atoms m.clauses (saved m) _ m.choices marks c.requires.sound.untried)
 
 pub returns-in-Error-clause-row : goal.returns-in-Error-clause-row
 returns-in-Error-clause-row c = λ height p behind g s.

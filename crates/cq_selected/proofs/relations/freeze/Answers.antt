@@ -27,7 +27,7 @@ returns-clause-sound c =
     let marks = ap₂ zip c.freeze.ensures.saved c.freeze.ensures.lists in
     sound_still m _ c.requires.sound (record { atoms = refl; names = refl; ops = refl; clauses = refl; budget = c.freeze.ensures.budget })
     (names_ahead m.atoms (holds m) _ c.in_ok-k.k s.1 s.2 _ (c.in_ok-k.ensures.row m.atoms (holds m) s.1 s.2 _ _ (s.4.selected.place, s.4.selected.waiting) rx re))
-    (marked_still (saved m) _ m.choices marks c.requires.sound.marked) (open_still m.clauses (saved m) _ m.choices marks c.requires.sound.untried)
+    (marked_still (saved m) _ m.choices marks c.requires.sound.marked) (open_still m.atoms m.clauses (saved m) _ m.choices marks c.requires.sound.untried)
 
 pub returns-in_err-k-clause-sound : goal.returns-in_err-k-clause-sound
 returns-in_err-k-clause-sound c =
@@ -35,7 +35,7 @@ returns-in_err-k-clause-sound c =
     let marks = ap₂ zip c.freeze.ensures.saved c.freeze.ensures.lists in
     sound_still m _ c.requires.sound (record { atoms = refl; names = refl; ops = refl; clauses = refl; budget = c.freeze.ensures.budget })
     (names_same m.atoms (now m).0 _ c.requires.sound.names c.in_err-k.ensures.err)
-    (marked_still (saved m) _ m.choices marks c.requires.sound.marked) (open_still m.clauses (saved m) _ m.choices marks c.requires.sound.untried)
+    (marked_still (saved m) _ m.choices marks c.requires.sound.marked) (open_still m.atoms m.clauses (saved m) _ m.choices marks c.requires.sound.untried)
 
 pub returns-in_err-k-clause-err : goal.returns-in_err-k-clause-err
 returns-in_err-k-clause-err c =

@@ -31,7 +31,7 @@ returns-in-Goes-clause-sound c =
     let marks = ap₂ zip c.unify.ensures.saved c.unify.ensures.lists in
     sound_still m _ c.requires.sound (record { atoms = refl; names = refl; ops = refl; clauses = refl; budget = c.unify.ensures.budget })
     (names_ahead m.atoms (holds m) (value c.unify.new.world c.unify.new.lists.now) c.in-Goes.first s.1 s.2 _ ((rw c.in-Goes.is at c.in-Ok.ensures.row) (holds m) s.1 s.2 (s.4.selected.place, s.4.selected.waiting)))
-    (marked_still (saved m) _ m.choices marks c.requires.sound.marked) (open_still m.clauses (saved m) _ m.choices marks c.requires.sound.untried)
+    (marked_still (saved m) _ m.choices marks c.requires.sound.marked) (open_still m.atoms m.clauses (saved m) _ m.choices marks c.requires.sound.untried)
 
 pub returns-in-Pruned-clause-row : goal.returns-in-Pruned-clause-row
 returns-in-Pruned-clause-row c = λ height p behind g s.
@@ -48,7 +48,7 @@ returns-in-Pruned-clause-sound c =
     let marks = ap₂ zip c.unify.ensures.saved c.unify.ensures.lists in
     sound_still m _ c.requires.sound (record { atoms = refl; names = refl; ops = refl; clauses = refl; budget = c.unify.ensures.budget })
     (names_same m.atoms (now m).0 _ c.requires.sound.names (rw c.in-Pruned.is at c.in-Ok.ensures.unchanged))
-    (marked_still (saved m) _ m.choices marks c.requires.sound.marked) (open_still m.clauses (saved m) _ m.choices marks c.requires.sound.untried)
+    (marked_still (saved m) _ m.choices marks c.requires.sound.marked) (open_still m.atoms m.clauses (saved m) _ m.choices marks c.requires.sound.untried)
 
 pub returns-in-Err-clause-stop : goal.returns-in-Err-clause-stop
 returns-in-Err-clause-stop c = λ height p behind g s.
@@ -64,7 +64,7 @@ returns-in-Err-clause-sound c =
     let marks = ap₂ zip c.unify.ensures.saved c.unify.ensures.lists in
     sound_still m _ c.requires.sound (record { atoms = refl; names = refl; ops = refl; clauses = refl; budget = c.unify.ensures.budget })
     (names_same m.atoms (now m).0 _ c.requires.sound.names c.in-Err.ensures.err)
-    (marked_still (saved m) _ m.choices marks c.requires.sound.marked) (open_still m.clauses (saved m) _ m.choices marks c.requires.sound.untried)
+    (marked_still (saved m) _ m.choices marks c.requires.sound.marked) (open_still m.atoms m.clauses (saved m) _ m.choices marks c.requires.sound.untried)
 
 pub returns-in-Err-clause-err : goal.returns-in-Err-clause-err
 returns-in-Err-clause-err c =

@@ -1,5 +1,5 @@
 use Rattle.cq_words.specs.Language.{asked_by}
-use Rattle.cq_session.proofs.Outcomes.{complete, ended, if_some, tells}
+use Rattle.cq_session.proofs.Outcomes.{complete, ended, gen_complete, gen_ended, if_some, tells}
 use Rattle.cq_session.proofs.running.run.Goals as goal
 
 pub returns-clause-text : goal.returns-clause-text
@@ -11,4 +11,12 @@ returns-clause-line g c = tells _ c.status_of.result c.status_of.ensures _ c.tel
 
 pub returns-clause-complete : goal.returns-clause-complete
 returns-clause-complete g c = if_some _ _ _ (λ o h. complete _ c.status_of.result c.status_of.ensures o _ (asked_by c.args.words.now) _ _ _ _
-    c.completeness_follows.ensures c.answer-how.ensures.cause h) c.answer-how.ensures.shows
+    c.completeness_follows.ensures.run c.answer-how.ensures.cause h) c.answer-how.ensures.shows
+
+pub returns-clause-generates : goal.returns-clause-generates
+returns-clause-generates g c = λ n asked. gen_ended n _ c.status_of.result c.status_of.ensures _ _ _ c.tell.ensures (c.answer-how.ensures.generates n asked)
+
+pub returns-clause-generates_whole : goal.returns-clause-generates_whole
+returns-clause-generates_whole g c = λ n asked clear.
+    gen_complete n _ c.status_of.result c.status_of.ensures _ _ _ _ c.completeness_follows.ensures.generated (asked_by c.args.words.now) asked
+    c.answer-how.ensures.cause (c.answer-how.ensures.generates n asked) clear

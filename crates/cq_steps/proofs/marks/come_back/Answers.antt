@@ -1,11 +1,11 @@
 use Rattle.std.proofs.Common.{◌≡◌, ◌∷◌, ◌∙◌, None, ap}
 use Rattle.cq_control.specs.Open.{open_choices}
 use Rattle.cq_steps.specs.declared.alternatives.Alternatives.{Alternatives}
-use Rattle.cq_steps.specs.declared.alternatives.Alternatives.TheVariants.{One, Barrier}
+use Rattle.cq_steps.specs.declared.alternatives.Alternatives.TheVariants.{One, Barrier, Catches}
 use Rattle.cq_steps.specs.Worlds.{value, saved_values}
 use Rattle.cq_steps.proofs.Budgets.{same_budget}
 use Rattle.cq_steps.proofs.Older.{newest_gone, older_next}
-use Rattle.cq_steps.proofs.Passing.{here, one_on, barrier_on}
+use Rattle.cq_steps.proofs.Passing.{here, one_on, barrier_on, catch_on}
 use Rattle.cq_steps.proofs.marks.come_back.Goals as goal
 
 pub returns-in-One-clause-arrives : goal.returns-in-One-clause-arrives
@@ -81,3 +81,47 @@ returns-in-Barrier-clause-budget c =
     (newest_gone c.back-in-Barrier.result c.args.choices.now c.back-in-Barrier.new.self c.in-Some.ensures.some.0 Barrier
     (λ (x : Alternatives). open_choices saved c.args.choices.now ≡ (back, x) ∷ open_choices fewer c.back-in-Barrier.new.self) c.back-in-Barrier.ensures.none c.back-in-Barrier.ensures.contents c.back-in-Barrier.ensures.open
     (c.in-Some.ensures.some.1 ∙ ap (λ x. x ∷ c.in-Some.ensures.some.0) c.in-Barrier.is))
+
+pub returns-in-Caught-clause-arrives : goal.returns-in-Caught-clause-arrives
+returns-in-Caught-clause-arrives c = λ steps texts v db n s j.
+    here steps texts v db n s (saved_values c.args.world.now.first c.args.world.now.second.saved) c.args.choices.now (value c.args.world.now.first c.args.world.now.second.now) None j
+
+pub returns-in-Gathers-clause-arrives : goal.returns-in-Gathers-clause-arrives
+returns-in-Gathers-clause-arrives c = λ steps texts v db n s j.
+    here steps texts v db n s (saved_values c.args.world.now.first c.args.world.now.second.saved) c.args.choices.now (value c.args.world.now.first c.args.world.now.second.now) None j
+
+pub returns-in-Matches-clause-arrives : goal.returns-in-Matches-clause-arrives
+returns-in-Matches-clause-arrives c = λ steps texts v db n s j.
+    here steps texts v db n s (saved_values c.args.world.now.first c.args.world.now.second.saved) c.args.choices.now (value c.args.world.now.first c.args.world.now.second.now) None j
+
+pub returns-in-Catches-clause-arrives : goal.returns-in-Catches-clause-arrives
+returns-in-Catches-clause-arrives c = λ steps texts v db n s j.
+    let now = value c.args.world.now.first c.args.world.now.second.now in
+    let saved = saved_values c.args.world.now.first c.args.world.now.second.saved in
+    let back = value c.back-in-Catches.new.world.first c.back-in-Catches.new.world.second.now in
+    let fewer = saved_values c.back-in-Catches.new.world.first c.back-in-Catches.new.world.second.saved in
+    catch_on steps texts v db n s saved fewer c.args.choices.now c.back-in-Catches.new.self now back c.in-Catches.field-0
+    (newest_gone c.back-in-Catches.result c.args.choices.now c.back-in-Catches.new.self c.in-Some.ensures.some.0 (Catches c.in-Catches.field-0)
+    (λ (x : Alternatives). open_choices saved c.args.choices.now ≡ (back, x) ∷ open_choices fewer c.back-in-Catches.new.self) c.back-in-Catches.ensures.none
+    c.back-in-Catches.ensures.contents c.back-in-Catches.ensures.open (c.in-Some.ensures.some.1 ∙ ap (λ x. x ∷ c.in-Some.ensures.some.0) c.in-Catches.is))
+    (here steps texts v db n s saved c.args.choices.now now None j)
+
+pub returns-in-Catches-clause-older : goal.returns-in-Catches-clause-older
+returns-in-Catches-clause-older c =
+    let saved = saved_values c.args.world.now.first c.args.world.now.second.saved in
+    let back = value c.back-in-Catches.new.world.first c.back-in-Catches.new.world.second.now in
+    let fewer = saved_values c.back-in-Catches.new.world.first c.back-in-Catches.new.world.second.saved in
+    older_next (back, Catches c.in-Catches.field-0) saved fewer c.args.choices.now c.back-in-Catches.new.self
+    (newest_gone c.back-in-Catches.result c.args.choices.now c.back-in-Catches.new.self c.in-Some.ensures.some.0 (Catches c.in-Catches.field-0)
+    (λ (x : Alternatives). open_choices saved c.args.choices.now ≡ (back, x) ∷ open_choices fewer c.back-in-Catches.new.self) c.back-in-Catches.ensures.none
+    c.back-in-Catches.ensures.contents c.back-in-Catches.ensures.open (c.in-Some.ensures.some.1 ∙ ap (λ x. x ∷ c.in-Some.ensures.some.0) c.in-Catches.is))
+
+pub returns-in-Catches-clause-budget : goal.returns-in-Catches-clause-budget
+returns-in-Catches-clause-budget c =
+    let saved = saved_values c.args.world.now.first c.args.world.now.second.saved in
+    let back = value c.back-in-Catches.new.world.first c.back-in-Catches.new.world.second.now in
+    let fewer = saved_values c.back-in-Catches.new.world.first c.back-in-Catches.new.world.second.saved in
+    same_budget c.args.world.now.first c.args.world.now.second.saved c.args.choices.now back (Catches c.in-Catches.field-0) (open_choices fewer c.back-in-Catches.new.self)
+    (newest_gone c.back-in-Catches.result c.args.choices.now c.back-in-Catches.new.self c.in-Some.ensures.some.0 (Catches c.in-Catches.field-0)
+    (λ (x : Alternatives). open_choices saved c.args.choices.now ≡ (back, x) ∷ open_choices fewer c.back-in-Catches.new.self) c.back-in-Catches.ensures.none
+    c.back-in-Catches.ensures.contents c.back-in-Catches.ensures.open (c.in-Some.ensures.some.1 ∙ ap (λ x. x ∷ c.in-Some.ensures.some.0) c.in-Catches.is))

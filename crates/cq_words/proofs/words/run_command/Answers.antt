@@ -1,5 +1,5 @@
-use Rattle.std.proofs.Common.{◌≡◌, ◌∙◌, Some, codes, ap, ap₂}
-use Rattle.clap.specs.Simple.{new_rule, with_rule}
+use Rattle.std.proofs.Common.{◌≡◌, ◌∙◌, Some, ap, ap₂}
+use Rattle.clap.specs.Simple.{with_rule}
 use Rattle.clap.specs.Walk.{Rule, rule_of}
 use Rattle.clap.specs.declared.builder.action.ArgAction.TheVariants.{Append}
 use Rattle.cq_words.specs.Language.{files}

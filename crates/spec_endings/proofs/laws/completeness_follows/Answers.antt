@@ -1,5 +1,5 @@
-use Rattle.spec_endings.proofs.Whole.{completeness}
+use Rattle.spec_endings.proofs.Whole.{completeness, gen_completeness}
 use Rattle.spec_endings.proofs.laws.completeness_follows.Goals as goal
 
 pub returns : goal.returns
-returns c = completeness
+returns c = record { run = completeness; generated = gen_completeness }

@@ -1,4 +1,4 @@
-use Rattle.spec_machine.proofs.Made.{child_kept, child_pruned, choice_waits}
+use Rattle.spec_machine.proofs.Made.{child_kept, child_removes, child_pruned, choice_waits}
 use Rattle.spec_machine.proofs.laws.children_are_settled.Goals as goal
 
 pub returns-clause-kept : goal.returns-clause-kept
@@ -9,3 +9,6 @@ returns-clause-pruned g c = λ texts. child_pruned (g.R.StateWorlds.is_state tex
 
 pub returns-clause-waits : goal.returns-clause-waits
 returns-clause-waits g c = λ texts. choice_waits (g.R.StateWorlds.is_state texts) (g.R.StateWorlds.term texts)
+
+pub returns-clause-removed : goal.returns-clause-removed
+returns-clause-removed g c = λ texts. child_removes (g.R.StateWorlds.is_state texts) (g.R.StateWorlds.term texts)

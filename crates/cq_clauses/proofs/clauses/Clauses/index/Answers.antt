@@ -1,5 +1,6 @@
 use Rattle.std.proofs.Common.{◌≡◌, Some, sym, subst}
 use Rattle.std.specs.Prelude.{slice_get}
+use Rattle.std.proofs.lemmas.Option.{slice_get_within}
 use Rattle.cq_clauses.specs.declared.procedures.Procedure.{Procedure}
 use Rattle.cq_clauses.specs.ClausesValue.{ClausesValue}
 use Rattle.cq_clauses.specs.Indexes.{IsIndex}
@@ -13,5 +14,5 @@ invariant_of-self g c =
     (sym c.self.view_is) c.in-Ok.ensures in
     record {
       store = c.self.invariant.store;
-      by_key = indexes_put _ c.self.inside.indexes.list.items c.self.inside.procedures c.self.invariant.by_key c.put.new.self.list.items c.in-Some.procedure c.in-Ok.index c.in-Some.ensures.within c.put.ensures made;
+      by_key = indexes_put _ c.self.inside.indexes.list.items c.self.inside.procedures c.self.invariant.by_key c.put.new.self.list.items c.in-Some.procedure c.in-Ok.index (slice_get_within c.self.inside.procedures c.in-Some.procedure c.in-Some.ensures.procedure c.in-Some.ensures.stands) c.put.ensures made;
     }

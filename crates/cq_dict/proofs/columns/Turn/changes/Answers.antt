@@ -8,6 +8,7 @@ use Rattle.cq_dict.specs.Roles.{IsAt, is_live, is_dropped}
 use Rattle.cq_dict.specs.Changes.{Covers, Turned}
 use Rattle.cq_dict.proofs.Others.{these_all, others_turned}
 use Rattle.cq_dict.proofs.Roles.{at_index}
+use Rattle.cq_dict.proofs.Keeping.{turned_hold}
 use Rattle.cq_dict.proofs.Turned.{lacks_other, turns}
 use Rattle.cq_dict.proofs.Written.{CoversThese, these_start, these_more, these_kept, take_one, covers_within}
 use Rattle.cq_dict.proofs.columns.Turn.changes.Goals as goal
@@ -71,3 +72,8 @@ pub returns-clause-turns : goal.returns-clause-turns
 returns-clause-turns c =
     let k = goal.at.returns-clause-turns c in
     turns c.args.self c.args.roles.now c.args.column c.requires.table c.loop-row.changes.items c.requires.column (all k.After-loop-row)
+
+pub returns-clause-held : goal.returns-clause-held
+returns-clause-held c =
+    let k = goal.at.returns-clause-held c in
+    turned_hold c.args.self c.args.roles.now c.args.column c.requires.table c.loop-row.changes.items (all k.After-loop-row)

@@ -25,8 +25,8 @@ returns-clause-idle c =
         program = kept.program;
         operators_named = kept.operators_named;
         marked = ap length marks ∙ sym (ap length c.new-3.ensures);
-        untried = subst (λ (cs : List Alternatives). AreOpen m.clauses (saved_values c.new.result c.new-2.result.saved) cs) (sym c.new-3.ensures)
-            (subst (λ (l : List (Value Contents)). AreOpen m.clauses l []) (sym marks) tt);
+        untried = subst (λ (cs : List Alternatives). AreOpen m.atoms m.clauses (saved_values c.new.result c.new-2.result.saved) cs) (sym c.new-3.ensures)
+            (subst (λ (l : List (Value Contents)). AreOpen m.atoms m.clauses l []) (sym marks) tt);
       };
       nothing = subst (KnowsNothing m.atoms) (sym c.new.ensures.now) (record { names = no_terms m.atoms; images = λ v l. absurd (omega (arith, l)); attrs = refl; told = refl });
       lists = c.new-2.ensures.now;

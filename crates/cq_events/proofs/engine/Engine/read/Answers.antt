@@ -27,7 +27,7 @@ returns-clause-idle c =
     (c.programs_stay_programs.ensures.named m.atoms r.new.atoms keeps m.clauses s.program)
     (c.more_names_keep_the_table.ensures.known m.atoms r.new.atoms m.ops keeps s.operators_named)
     (nothing_read m.atoms r.new.atoms (now m).0 m.world.first.heap r.new.heap refl grown idle.nothing (r.ensures.known s.names))
-    (marks m.world.first r.new.heap m.world.second.saved grown.saved) refl refl refl
+    (marks m.world.first r.new.heap m.world.second.saved grown.saved) refl refl
 
 pub returns-clause-program : goal.returns-clause-program
 returns-clause-program c =

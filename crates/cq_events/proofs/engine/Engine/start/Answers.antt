@@ -38,12 +38,11 @@ returns-clause-running c =
         program = sound.program;
         operators_named = sound.operators_named;
         marked = subst (λ (l : List (Value Contents)). AreMarked l m.choices) (sym same) sound.marked;
-        untried = subst (λ (l : List (Value Contents)). AreOpen m.clauses l m.choices) (sym same) sound.untried;
+        untried = subst (λ (l : List (Value Contents)). AreOpen m.atoms m.clauses l m.choices) (sym same) sound.untried;
       };
       search = start (database_of m) (tree m.atoms (terms m) c.args.goal) (length m.world.first.heap.now.images);
       stands = started m.atoms m.clauses (database_of m) (now m).0 lists.now (saved_values m.world.first lists.saved) m.choices k c.args.goal c.requires.idle.nothing c.requires.idle.choices
           c.requires.goal h;
-      no_catch = (tt, tt);
       within = omega arith;
     }
 
@@ -62,7 +61,7 @@ returns-in_err-k-clause-err c =
         program = sound.program;
         operators_named = sound.operators_named;
         marked = subst (λ (l : List (Value Contents)). AreMarked l m.choices) (sym same) sound.marked;
-        untried = subst (λ (l : List (Value Contents)). AreOpen m.clauses l m.choices) (sym same) sound.untried;
+        untried = subst (λ (l : List (Value Contents)). AreOpen m.atoms m.clauses l m.choices) (sym same) sound.untried;
       };
       nothing = i.nothing;
       lists = c.in_err-k.ensures.err ∙ i.lists;

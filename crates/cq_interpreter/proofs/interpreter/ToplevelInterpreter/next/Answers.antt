@@ -2,7 +2,7 @@ use Rattle.std.proofs.Common.{refl, ◌∙◌}
 use Rattle.cq_machine.proofs.Interned.{texts_kept}
 use Rattle.cq_interpreter.specs.Toplevels.{texts, budgets_of}
 use Rattle.cq_interpreter.specs.declared.toplevel.Toplevel.{Toplevel}
-use Rattle.cq_interpreter.proofs.Events.{its_budgets, is_event, term_there}
+use Rattle.cq_interpreter.proofs.Events.{its_budgets, is_event, ball_there}
 use Rattle.cq_interpreter.proofs.Wholes.{goals_kept, whole_kept}
 use Rattle.cq_interpreter.proofs.interpreter.ToplevelInterpreter.next.Goals as goal
 
@@ -10,7 +10,7 @@ pub told-requires : goal.told-requires
 told-requires c =
     let t = c.args.self.now in
     let asking = c.requires.runs.1 in
-    term_there (budgets_of t) c.next.new.self c.requires.runs.0 c.in_ok-event.event (c.in_ok-event.ensures.event (budgets_of t) (its_budgets t c.requires.runs.0 asking) c.requires.runs.0 asking.stands)
+    ball_there (budgets_of t) c.next.new.self c.requires.runs.0 c.in_ok-event.event (c.in_ok-event.ensures.event (budgets_of t) (its_budgets t c.requires.runs.0 asking) c.requires.runs.0 asking.stands)
 
 pub returns-clause-event : goal.returns-clause-event
 returns-clause-event c =

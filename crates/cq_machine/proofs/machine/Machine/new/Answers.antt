@@ -27,7 +27,7 @@ returns-clause-sound c =
       program = c.programs_stay_programs.ensures.none texts v c.new-3.ensures.contents c.new-3.ensures.database;
       operators_named = c.more_names_keep_the_table.ensures.known c.standard.new.atoms texts c.in_ok-ops.ops c.new.ensures.gains.kept c.in_ok-ops.ensures.known;
       marked = ap length marks ∙ sym (ap length c.new-2.ensures);
-      untried = subst (λ (cs : List Alternatives). AreOpen v (saved_values c.new-first.result c.new-second.result.saved) cs) (sym c.new-2.ensures) (subst (λ (l : List (Value Contents)). AreOpen v l []) (sym marks) tt);
+      untried = subst (λ (cs : List Alternatives). AreOpen texts v (saved_values c.new-first.result c.new-second.result.saved) cs) (sym c.new-2.ensures) (subst (λ (l : List (Value Contents)). AreOpen texts v l []) (sym marks) tt);
     }
 
 pub returns-clause-program : goal.returns-clause-program

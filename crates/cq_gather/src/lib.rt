@@ -1,0 +1,6 @@
+//! Copies that a findall gathers.
+#![tactic(auto)]
+
+mod collecting;
+
+pub use collecting::collect;

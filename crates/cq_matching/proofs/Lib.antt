@@ -1,0 +1,7 @@
+mod Terms
+mod Ruled
+mod Comparing
+mod Newest
+pub mod Outlasting
+pub mod Reached
+mod Asked
