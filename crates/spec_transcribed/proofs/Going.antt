@@ -14,15 +14,15 @@ use Rattle.spec_search.specs.Turns.{Turn, Event, Wrote, Answered}
 use Rattle.spec_stops.specs.Causes.{Budgets}
 use Rattle.spec_transcript.specs.declared.Source.{Source}
 use Rattle.spec_transcript.specs.declared.Source.TheVariants.{File, Input}
-use Rattle.spec_transcript.specs.Purposes.{Purpose}
+use Rattle.spec_transcript.specs.Purposes.{Purpose, Directive, Initialization, Query, Fact, once}
 use Rattle.spec_transcript.specs.Session as session
-use Rattle.spec_transcript.specs.Session.{Reader, beginning, Asker, ADirective, AQuery, Session, Opening, Reading, Searching, Over, Stands, begun, Mark, Marks, unmarked, MayGo, Step, Runs, Transcript}
+use Rattle.spec_transcript.specs.Session.{Reader, beginning, Asker, ADirective, AQuery, Session, Opening, Reading, Searching, Over, Stands, begun, names_from, Mark, Marks, unmarked, MayGo, Step, Runs, Transcript}
 use Rattle.spec_progress.specs.Sound.{AreSound}
 use Rattle.spec_progress.proofs.Turning.{turn_sound}
 use Rattle.spec_progress.proofs.Progress.{start_sound}
 use Rattle.spec_transcribed.specs.Existing.{AreThere, AnswersHaveForms, IsAsking, IsReadySearch, IsReadyReader, IsReady}
 use Rattle.spec_transcribed.proofs.Numbered.{clause_numbered}
-use Rattle.spec_transcribed.proofs.Kinds.{Kinds, quiet, selects, answered, threw, ended, kind_of}
+use Rattle.spec_transcribed.proofs.Effects.{Kinds, quiet, selects, answered, threw, ended, kind_of}
 use Rattle.spec_transcribed.proofs.Searching.{search_ends}
 use Rattle.spec_transcribed.proofs.Reading.{Comes, behind, text_read, left_of, all_read}
 
@@ -56,23 +56,23 @@ module _ (budgets : Budgets) (shelf : Text → Option (List ℕ)) (input : List 
   step_ready a b out mark (session.opens_file h) ready = record { within = omega arith; files = ready.1 }
   step_ready a b out mark session.opens_input ready = record { within = omega arith; files = tt }
   step_ready a b out mark (session.initializes {db = db} {a = g} base h e) ready =
-      (begins db _ base g.variables ADirective tt, record { within = ready.within; files = ready.files })
+      (begins db (once g.goal) base g.variables ADirective tt, record { within = ready.within; files = ready.files })
   step_ready a b out mark (session.file_ends h e d) ready = ready.files
   step_ready a b out mark (session.input_ends h e d) ready = tt
   step_ready a b out mark (session.syntax {db = db} {r = r} {at = at} {resume = to} h) ready =
       record { within = (moves_on db.operators r.bytes r.at (Syntax at to) ready.within h).3; files = ready.files }
   step_ready a b out mark (session.directs {db = db} {r = r} {g = g} {vs = vs} {next = to} base h) ready =
-      (begins db _ base vs ADirective tt, record { within = behind_clause db r _ vs to ready h; files = ready.files })
-  step_ready a b out mark (session.waits {db = db} {r = r} {vs = vs} {next = to} h) ready =
-      record { within = behind_clause db r _ vs to ready h; files = ready.files }
+      (begins db (once g) base vs ADirective tt, record { within = behind_clause db r (Directive g) vs to ready h; files = ready.files })
+  step_ready a b out mark (session.waits {db = db} {r = r} {g = g} {vs = vs} {next = to} h) ready =
+      record { within = behind_clause db r (Initialization g) vs to ready h; files = ready.files }
   step_ready a b out mark (session.asks {db = db} {r = r} {g = g} {vs = vs} {next = to} base h) ready = (
-    begins db g base vs _ (some_answer, clause_numbered db.operators r.bytes r.at base h.term vs to h.reads),
-    record { within = behind_clause db r _ vs to ready h; files = ready.files },
+    begins db g base vs (AQuery (names_from base vs) budgets.answers) (some_answer, clause_numbered db.operators r.bytes r.at base h.term vs to h.reads),
+    record { within = behind_clause db r (Query g) vs to ready h; files = ready.files },
   )
-  step_ready a b out mark (session.adds {db = db} {r = r} {vs = vs} {next = to} h e) ready =
-      record { within = behind_clause db r _ vs to ready h; files = ready.files }
-  step_ready a b out mark (session.refuses {db = db} {r = r} {vs = vs} {next = to} h e) ready =
-      record { within = behind_clause db r _ vs to ready h; files = ready.files }
+  step_ready a b out mark (session.adds {db = db} {r = r} {t = t} {vs = vs} {next = to} h e) ready =
+      record { within = behind_clause db r (Fact t) vs to ready h; files = ready.files }
+  step_ready a b out mark (session.refuses {db = db} {r = r} {t = t} {vs = vs} {next = to} h e) ready =
+      record { within = behind_clause db r (Fact t) vs to ready h; files = ready.files }
   step_ready a b out mark (session.turns {s = s} {t = t} {who = who} {text = text} m h) ready = (
     record {
       sound = turn_sound s ready.0.sound t (Wrote text) h;

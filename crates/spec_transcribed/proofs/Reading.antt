@@ -105,7 +105,7 @@ module _ (budgets : Budgets) (shelf : Text → Option (List ℕ)) (input : List 
           close File e d = (db, onward budgets shelf input first forms (Reading db r) (Opening db r.files) _ _ here (session.file_ends h e d))
           close Input e d = (db, onward budgets shelf input first forms (Reading db r) (Over db) _ _ here (session.input_ends h e d))
 
-          by : (as : List Asked) → r.later ≡ as → IsRead r.source r.files
+          by : (goals : List Asked) → r.later ≡ goals → IsRead r.source r.files
           by [] d = close r.source refl d
           by (a ∷ more) d =
               searched (begun db (once a.goal) 0 a.variables) ADirective (record r { later = more }) refl refl inside

@@ -1,5 +1,5 @@
 -- Each search of a session comes to an end within its budgets.
-use Rattle.std.proofs.Common.{◌≡◌, ◌⊎◌, inl, inr, ℕ, suc, zero, ◌+◌, ◌<◌, ◌≤◌, List, ◌++◌, Bool, true, false, Option, arith, refl, sym, subst, ◌∙◌}
+use Rattle.std.proofs.Common.{◌≡◌, ◌⊎◌, inl, inr, ℕ, suc, zero, ◌+◌, ◌<◌, ◌≤◌, List, [], ◌++◌, Bool, true, false, Option, arith, refl, sym, subst, ◌∙◌}
 use Rattle.std.proofs.lemmas.Bool.{cases_eq}
 use Rattle.cq_frac.specs.declared.Pair.{Pair}
 use Rattle.spec_lists.specs.Texts.{Text}
@@ -19,7 +19,7 @@ use Rattle.spec_progress.specs.Sound.{IsSoundState, AreSound}
 use Rattle.spec_progress.proofs.Turning.{IsSoundLook, look_sound, turn_sound}
 use Rattle.spec_progress.proofs.Progress.{GoesOn, goes_on}
 use Rattle.spec_transcribed.specs.Existing.{IsAsking, IsReadySearch, AnswersHaveForms}
-use Rattle.spec_transcribed.proofs.Kinds.{Kinds, quiet, selects, answered, threw, ended, kind_of}
+use Rattle.spec_transcribed.proofs.Effects.{Kinds, quiet, selects, answered, threw, ended, kind_of}
 
 -- how many answers may still be written
 abbrev answers_left : Asker → ℕ
