@@ -1,14 +1,14 @@
 -- A solvable list has rows in the form of an answer over any targets, and so each answer has a text.
-use Rattle.std.proofs.Common.{◌≡◌, ◌≢◌, ◌⊎◌, inl, inr, ℕ, ◌<◌, ◌≤◌, List, [], ◌∷◌, ◌++◌, map, arith, append_assoc, refl, ap, sym, subst, ◌∙◌}
+use Rattle.std.proofs.Common.{◌≡◌, ◌⊎◌, inl, inr, ℕ, ◌<◌, List, ◌∷◌, ◌++◌, map, arith, append_assoc, refl, ap, sym, subst, ◌∙◌}
 use Rattle.spec_lists.specs.Texts.{Text}
 use Rattle.spec_linear.specs.declared.Relation.{Relation}
 use Rattle.spec_linear.specs.declared.Relation.TheVariants.{Eq, Gt, Ge, Ne}
 use Rattle.spec_linear.specs.Form.{IsForm}
-use Rattle.spec_linear.specs.Solution.{Constraint, Point, Solves, Solvable, Entails, Has, SomeMentions, MentionsOnly}
+use Rattle.spec_linear.specs.Solution.{Constraint, Solvable, Has, SomeMentions, MentionsOnly}
 use Rattle.spec_linear.proofs.Lists.{solves_append}
 use Rattle.spec_linear.proofs.Targets.{same_solvable}
 use Rattle.spec_linear.proofs.Denominators.{has_left, has_right}
-use Rattle.spec_echelon.specs.Echelon.{AreDistinct, Solved, equations}
+use Rattle.spec_echelon.specs.Echelon.{AreDistinct, equations}
 use Rattle.spec_operators.specs.Operators.{Ops}
 use Rattle.spec_syntax.specs.TextTokens.{VariableName}
 use Rattle.spec_projection.specs.Lists.{AreForms}
@@ -33,7 +33,6 @@ use Rattle.spec_answers.specs.Targets.{wanted}
 use Rattle.spec_answers.specs.Answer.{AnswerForm, answer_lines}
 use Rattle.spec_branch.specs.Branch.{State}
 use Rattle.cq_arrange.specs.Lines.{inequality_of, disequation_of}
-use Rattle.cq_arrange.specs.Arranging.{AreInequalityRows, AreDisequationRows}
 use Rattle.cq_arrange.proofs.Joined.{inequality_rows, disequation_rows}
 use Rattle.spec_answered.proofs.Numbers.{Falling, falling, Rising, rising, distinct_both, above_all, below_all}
 use Rattle.spec_answered.proofs.Wanted.{wanted_distinct}
@@ -179,11 +178,11 @@ module _ (targets : List ℕ) (l : List Constraint) (targets_distinct : AreDisti
   finished : AreDistinct (targets ++ kept.listed) → HasRows targets l
   finished d =
       let a = arranged (targets ++ kept.listed) d p.rows (irredundant_front p.rows p.unequal both_irredundant) (solvable_front p.rows p.unequal both_solvable) rows_forms
-          (λ c h e. no_equation c.relation (rows_inequalities c h) e)
-          (λ x m. both_over x (mentioned_in x p.rows (p.rows ++ p.unequal) (λ c h. has_left c p.rows p.unequal h) m)) in
+      (λ c h e. no_equation c.relation (rows_inequalities c h) e)
+      (λ x m. both_over x (mentioned_in x p.rows (p.rows ++ p.unequal) (λ c h. has_left c p.rows p.unequal h) m)) in
       let b = arranged (targets ++ kept.listed) d p.unequal (irredundant_behind p.rows p.unequal both_irredundant) (solvable_behind p.rows p.unequal both_solvable) unequal_forms
-          (λ c h e. (let f : Ne ≡ Eq = sym (unequal_relations c h) ∙ e in cc))
-          (λ x m. both_over x (mentioned_in x p.unequal (p.rows ++ p.unequal) (λ c h. has_right c p.rows p.unequal h) m)) in
+      (λ c h e. (let f : Ne ≡ Eq = sym (unequal_relations c h) ∙ e in cc))
+      (λ x m. both_over x (mentioned_in x p.unequal (p.rows ++ p.unequal) (λ c h. has_right c p.rows p.unequal h) m)) in
       let i = inequality_rows (targets ++ kept.listed) p.rows a.0 a.1 rows_inequalities in
       let u = disequation_rows (targets ++ kept.listed) p.unequal b.0 b.1 unequal_relations in
       let q = projects_moved targets projection.kept kept.listed to_kept kept.is p (map inequality (map inequality_of a.0)) (map disequation (map disequation_of b.0)) i.arranged u.arranged in
@@ -211,14 +210,16 @@ module _ (targets : List ℕ) (l : List Constraint) (targets_distinct : AreDisti
 pub answer_exists : (ops : Ops) (names : List VariableName) (st : State) → AreDistinct (map (λ n. n.number) names) → AreForms st.linear → Solvable st.linear
     → (text : Text) × AnswerForm ops names st text
 answer_exists ops names st d forms solvable =
-    let r = rows_exist (wanted names st) st.linear (wanted_distinct names st d) forms solvable in
-    (lines_text (or_true (answer_lines ops names st (wanted names st ++ r.kept) r.rows)), record {
-      front = r.front;
-      others = r.others;
-      kept = r.kept;
-      older_first = r.older_first;
-      rows = r.rows;
-      keeps = r.keeps;
-      form = r.form;
-      lines = refl;
-    })
+    let r = rows_exist (wanted names st) st.linear (wanted_distinct names st d) forms solvable in (
+      lines_text (or_true (answer_lines ops names st (wanted names st ++ r.kept) r.rows)),
+      record {
+        front = r.front;
+        others = r.others;
+        kept = r.kept;
+        older_first = r.older_first;
+        rows = r.rows;
+        keeps = r.keeps;
+        form = r.form;
+        lines = refl;
+      },
+    )

@@ -1,9 +1,8 @@
 -- Irredundant rows are scaled and sorted.
-use Rattle.std.proofs.Common.{◌≡◌, ◌≢◌, ◌⊎◌, inl, inr, ℕ, List, [], ◌∷◌, ◌++◌, map, append-nil, append_assoc, refl, ap, sym, subst, ◌∙◌}
+use Rattle.std.proofs.Common.{◌≡◌, ◌≢◌, inl, ℕ, List, [], ◌∷◌, ◌++◌, map, append-nil, append_assoc, refl, ap, sym, subst, ◌∙◌}
 use Rattle.spec_rational.specs.Rational.{ℚ, ◌+ℚ◌}
-use Rattle.spec_rational.specs.Sums.{Mentions, sum_at}
+use Rattle.spec_rational.specs.Sums.{sum_at}
 use Rattle.spec_linear.specs.declared.Relation.TheVariants.{Eq}
-use Rattle.spec_linear.specs.Form.{IsForm}
 use Rattle.spec_linear.specs.Solution.{Constraint, Meets, HoldsAt, Solvable, Entails, Has, MentionsOnly, number}
 use Rattle.spec_linear.proofs.Points.{solves_same}
 use Rattle.spec_linear.proofs.Lists.{member_holds}
@@ -18,7 +17,7 @@ use Rattle.spec_projection.proofs.Mentions.{some_mentions}
 use Rattle.spec_projection.proofs.Strong.{scaled_alike}
 use Rattle.spec_projection.proofs.Arranged.{HasSource, source}
 use Rattle.cq_arrange.specs.Lines.{Line, said}
-use Rattle.cq_arrange.specs.Arranging.{Prints, IsLine}
+use Rattle.cq_arrange.specs.Arranging.{Prints}
 use Rattle.cq_arrange.proofs.Joined.{Arranged, none_arranged, scaled_line, one_more}
 use Rattle.spec_answered.proofs.Lines.{joins}
 use Rattle.spec_answered.proofs.Printing.{row_printed}

@@ -1,9 +1,9 @@
 -- Of two printed lines one comes first, or they are the same; and a line has its place among others.
-use Rattle.std.proofs.Common.{◌≡◌, ◌≢◌, ◌⊎◌, inl, inr, ℕ, List, [], ◌∷◌, ◌++◌, refl, ap, sym}
+use Rattle.std.proofs.Common.{◌≡◌, ◌≢◌, inl, inr, ℕ, List, [], ◌∷◌, refl, ap}
 use Rattle.std.specs.declared.cmp.Ordering.{Ordering}
 use Rattle.std.specs.declared.cmp.Ordering.TheVariants.{Less, Equal, Greater}
 use Rattle.std.specs.Ordering.{MatchOrdering, ordering_then, nat_cmp}
-use Rattle.spec_rational.specs.Rational.{ℚ, 0ℚ, ◌<ℚ◌}
+use Rattle.spec_rational.specs.Rational.{0ℚ, ◌<ℚ◌}
 use Rattle.spec_rational.specs.Order.{cmp_ℚ}
 use Rattle.spec_rational.specs.Sums.{Monomial}
 use Rattle.spec_rational.proofs.Order.{cmp_ℚ-matches}
@@ -12,7 +12,7 @@ use Rattle.spec_linear.specs.Solution.{Has}
 use Rattle.spec_echelon.specs.Echelon.{AreDistinct}
 use Rattle.spec_answers.specs.Forms.{Before}
 use Rattle.cq_arrange.specs.Lines.{Line, rank_of}
-use Rattle.cq_arrange.specs.Arranging.{IsPlaced, IsLine, first_factor, LineBefore, LastBefore, BeforeFirst, JoinsAt}
+use Rattle.cq_arrange.specs.Arranging.{IsPlaced, IsLine, first_factor, LineBefore, LastBefore, JoinsAt}
 use Rattle.cq_arrange.proofs.Comparing.{Compares, behind_first, compares_end, greater_first, lesser_behind, both_zero, both_lead}
 use Rattle.cq_arrange.proofs.Lines.{Compared, compared_lines}
 
@@ -45,8 +45,10 @@ pub line_order : (order : List ℕ) (k l : Line) → AreDistinct order → IsLin
 line_order order k l d p q = go (products_order order k.products l.products d p q)
   where
     go : (o : Ordering) × MatchOrdering o (Before order k.products l.products ⊥) (k.products ≡ l.products) (Before order l.products k.products ⊥) → (o : Ordering) × Compared order k l o
-    go h = (ordering_then h.0 (ordering_then (nat_cmp (rank_of k.comparison) (rank_of l.comparison)) (cmp_ℚ k.bound l.bound)),
-        compared_lines order k l h.0 (ordering_then (nat_cmp (rank_of k.comparison) (rank_of l.comparison)) (cmp_ℚ k.bound l.bound)) h.1 refl)
+    go h = (
+      ordering_then h.0 (ordering_then (nat_cmp (rank_of k.comparison) (rank_of l.comparison)) (cmp_ℚ k.bound l.bound)),
+      compared_lines order k l h.0 (ordering_then (nat_cmp (rank_of k.comparison) (rank_of l.comparison)) (cmp_ℚ k.bound l.bound)) h.1 refl,
+    )
 
 -- behind a first line that comes before it
 behind_one : (order : List ℕ) (k l : Line) (front : List Line) → LineBefore order k l → LastBefore order front l → LastBefore order (k ∷ front) l
@@ -63,14 +65,17 @@ joins order d (k ∷ lines) ps l p n =
     go (line_order order l k d p (ps k (inl refl))) (joins order d lines (λ m h. ps m (inr h)) l p (λ h. n (inr h)))
   where
     further : LineBefore order k l → Joins order lines l → Joins order (k ∷ lines) l
-    further h j = (k ∷ j.0, record {
-      front = k ∷ j.1.front;
-      back = j.1.back;
-      old_is = ap (λ w. k ∷ w) j.1.old_is;
-      new_is = ap (λ w. k ∷ w) j.1.new_is;
-      behind_last = behind_one order k l j.1.front h j.1.behind_last;
-      before_first = j.1.before_first;
-    })
+    further h j = (
+      k ∷ j.0,
+      record {
+        front = k ∷ j.1.front;
+        back = j.1.back;
+        old_is = ap (λ w. k ∷ w) j.1.old_is;
+        new_is = ap (λ w. k ∷ w) j.1.new_is;
+        behind_last = behind_one order k l j.1.front h j.1.behind_last;
+        before_first = j.1.before_first;
+      },
+    )
 
     by : (o : Ordering) → Compared order l k o → Joins order lines l → Joins order (k ∷ lines) l
     by Less h j = (l ∷ k ∷ lines, record { front = []; back = k ∷ lines; old_is = refl; new_is = refl; behind_last = tt; before_first = h })

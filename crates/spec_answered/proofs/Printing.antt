@@ -1,16 +1,14 @@
 -- Each row that is no equation and has a variable is printed by a line.
-use Rattle.std.proofs.Common.{◌≡◌, ◌≢◌, ◌⊎◌, inl, inr, ℕ, List, [], ◌∷◌, Bool, true, false, map, refl, ap, sym, subst, ◌∙◌}
+use Rattle.std.proofs.Common.{◌≡◌, ◌≢◌, ℕ, List, [], ◌∷◌, Bool, true, false, map, refl, ap, sym, subst, ◌∙◌}
 use Rattle.std.specs.Prelude.{MatchBool}
-use Rattle.spec_rational.specs.Rational.{ℚ, 0ℚ, ◌*ℚ◌, ◌/ℚ◌, neg_ℚ, inv_ℚ, IsPositive}
+use Rattle.spec_rational.specs.Rational.{ℚ, ◌*ℚ◌, ◌/ℚ◌, neg_ℚ, inv_ℚ, IsPositive}
 use Rattle.spec_rational.specs.Sums.{Monomial, Mentions, sum_at}
 use Rattle.spec_rational.proofs.Sign.{Sign, is_zero, is_pos, is_neg, sign}
 use Rattle.spec_linear.specs.declared.Relation.TheVariants.{Eq}
-use Rattle.spec_linear.specs.Form.{Linear, IsForm}
-use Rattle.spec_linear.specs.Solution.{Constraint, Has, MentionsOnly}
+use Rattle.spec_linear.specs.Form.{IsForm}
+use Rattle.spec_linear.specs.Solution.{Constraint, Has}
 use Rattle.spec_echelon.specs.Echelon.{AreDistinct}
-use Rattle.spec_projection.specs.Strict.{IsMultiple}
-use Rattle.spec_answers.specs.Forms.{IsScaled}
-use Rattle.cq_arrange.specs.Lines.{Line, said_by, comparison_by}
+use Rattle.cq_arrange.specs.Lines.{Line, comparison_by}
 use Rattle.cq_arrange.specs.Arranging.{picked, over_lead, IsPlaced, Prints}
 use Rattle.cq_arrange.proofs.Picked.{picked_placed, picked_sum, form_picked, over_sum, over_first}
 use Rattle.cq_arrange.proofs.Lines.{line_multiple}

@@ -4,7 +4,6 @@ use Rattle.std.specs.Prelude.{filter, fold, ◌==◌}
 use Rattle.std.specs.List.{list_any}
 use Rattle.spec_linear.specs.Solution.{Has}
 use Rattle.spec_echelon.specs.Echelon.{AreDistinct}
-use Rattle.spec_lists.specs.Texts.{Text}
 use Rattle.spec_lists.proofs.Tests.{nat_eq-other, neither_is}
 use Rattle.spec_terms.specs.Term.{Term, Terms, Var, Number, Name, Compound, one, more}
 use Rattle.spec_terms.specs.Variables.{with_variable, variables_after, variables_in}

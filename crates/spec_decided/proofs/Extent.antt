@@ -8,7 +8,7 @@ use Rattle.spec_linear.specs.Form.{Linear, value_at, constant_form, negated_form
 use Rattle.spec_linear.specs.Solution.{Constraint, Point, number, Solves, Solvable, Unsolvable, Satisfies, equal_zero}
 use Rattle.spec_linear.proofs.Points.{solves_same}
 use Rattle.spec_linear.proofs.Denominators.{solvable_same}
-use Rattle.spec_inequalities.specs.Weak.{above_zero, weak}
+use Rattle.spec_inequalities.specs.Weak.{above_zero}
 use Rattle.spec_inequalities.proofs.Together.{less_is, reached_above}
 use Rattle.spec_inequalities.proofs.Far.{weak_satisfied}
 use Rattle.spec_extremes.specs.Extremes.{Exceeds, IsSupremum, IsUnbounded, IsInfimum}
@@ -58,11 +58,14 @@ module _ (l : List Constraint) (f : Linear) (solvable : Solvable l) where
     solvable = solvable;
     more = λ r. (let x = beyond r q in exceeds r x.0 x.1 (g x.0 x.2));
   })
-  extent_by q s (up_to b h u v) = inl (b, record {
-    solvable = solvable;
-    bound = bounded b u;
-    least = λ r k. approached q b r s v k;
-  })
+  extent_by q s (up_to b h u v) = inl (
+    b,
+    record {
+      solvable = solvable;
+      bound = bounded b u;
+      least = λ r k. approached q b r s v k;
+    },
+  )
 
   pub extent : HasExtent l f
   extent = extent_by known.0 known.1 (upwards (z l f) (value_rows l f) (value_rows_are l f) known.0 known.1)

@@ -1,7 +1,7 @@
 -- What a list of constraints entails, and which values it fixes, is decided; and there is a map of all fixed values.
-use Rattle.std.proofs.Common.{◌≡◌, ◌⊎◌, inl, inr, ℕ, List, [], ◌∷◌, Option, Some, None, refl, sym, ap, subst}
+use Rattle.std.proofs.Common.{◌≡◌, ◌⊎◌, inl, inr, ℕ, List, ◌∷◌, Option, Some, None, sym, ap, subst}
 use Rattle.spec_rational.specs.Rational.{ℚ}
-use Rattle.spec_linear.specs.Solution.{Constraint, number, Holds, Solvable, Unsolvable, Fixed, Fixes, Entails, equal_to}
+use Rattle.spec_linear.specs.Solution.{Constraint, number, Solvable, Unsolvable, Fixed, Fixes, Entails, equal_to}
 use Rattle.spec_linear.proofs.Lists.{fixed_is_entailed, fixed_once}
 use Rattle.spec_linear.proofs.Points.{holds_same}
 use Rattle.spec_inequalities.specs.Opposite.{opposite}

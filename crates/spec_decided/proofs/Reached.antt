@@ -1,7 +1,7 @@
 -- The values that a form has where a list holds weakly are those at which some rows of one variable hold.
-use Rattle.std.proofs.Common.{◌≡◌, ◌⊎◌, inl, inr, ℕ, suc, ◌+◌, ◌<◌, List, [], ◌∷◌, arith, pos, refl, ap, sym, subst, ◌∙◌}
+use Rattle.std.proofs.Common.{◌≡◌, inl, inr, ℕ, suc, ◌+◌, ◌<◌, List, [], ◌∷◌, arith, pos, refl, ap, sym, subst, ◌∙◌}
 use Rattle.spec_rational.specs.Rational.{ℚ, 0ℚ, ◌+ℚ◌, ◌-ℚ◌, ◌*ℚ◌, neg_ℚ, IsNotNegative}
-use Rattle.spec_rational.specs.Sums.{Monomial, Mentions, sum_at}
+use Rattle.spec_rational.specs.Sums.{Monomial, Mentions}
 use Rattle.spec_rational.proofs.Ring.{var, int, ◌⊕◌, minus}
 use Rattle.spec_rational.proofs.Rational.{ring}
 use Rattle.spec_rational.proofs.Sign.{Sign, is_zero, is_pos, is_neg, sign, nonneg_zero, not_both}
@@ -9,16 +9,15 @@ use Rattle.spec_rational.proofs.Sums.{sum_at-agrees}
 use Rattle.spec_linear.specs.declared.Relation.{Relation}
 use Rattle.spec_linear.specs.declared.Relation.TheVariants.{Eq, Gt, Ge, Ne}
 use Rattle.spec_linear.specs.Form.{Linear, value_at, variable_form, negated_form, difference_form, changed_at}
-use Rattle.spec_linear.specs.Solution.{Constraint, Meets, HoldsAt, Satisfies, Has, SomeMentions}
+use Rattle.spec_linear.specs.Solution.{Constraint, Meets, Satisfies, Has, SomeMentions}
 use Rattle.spec_linear.proofs.Values.{value_at-variable_form, value_at-negated_form, value_at-difference_form}
 use Rattle.spec_linear.proofs.Denominators.{satisfies_agrees}
 use Rattle.spec_inequalities.specs.Weak.{at_least_zero, with_weak, weak}
-use Rattle.spec_inequalities.proofs.Far.{member_satisfied}
 use Rattle.spec_projection.specs.Elimination.{IsInequality, coefficient}
 use Rattle.spec_projection.specs.Partial.{AreInequalities}
 use Rattle.spec_projection.proofs.Projected.{changed_elsewhere, changed_here}
 use Rattle.spec_decided.proofs.Alone.{Left, left, all_variables, covers_all, line}
-use Rattle.spec_decided.proofs.Upwards.{AtValue, AllAt}
+use Rattle.spec_decided.proofs.Upwards.{AllAt}
 
 -- ---- the weak list as inequalities alone, each equation as two
 
@@ -206,6 +205,6 @@ module _ (l : List Constraint) (f : Linear) where
         b.0,
         from_weakly b.0 l b.2.1.1,
         ring (b.0 z ∷ value_at b.0 f ∷ []) (var 1) (var 0 ⊕ minus (var 0 ⊕ minus (var 1))) refl
-        ∙ ap (λ w. b.0 z -ℚ w) (sym (value_at-difference b.0) ∙ e)
-        ∙ ring (b.0 z ∷ []) (var 0 ⊕ minus (int (pos 0))) (var 0) refl ∙ b.1,
+            ∙ ap (λ w. b.0 z -ℚ w) (sym (value_at-difference b.0) ∙ e)
+            ∙ ring (b.0 z ∷ []) (var 0 ⊕ minus (int (pos 0))) (var 0) refl ∙ b.1,
       )

@@ -8,7 +8,7 @@ use Rattle.spec_rational.proofs.Sign.{pos_add, nonneg_add, pos_mul, nonneg_mul, 
 use Rattle.spec_rational.proofs.Order.{le_refl, lt_trans, lt_le_trans, lt_or_le}
 use Rattle.spec_linear.specs.declared.Relation.{Relation}
 use Rattle.spec_linear.specs.declared.Relation.TheVariants.{Eq, Gt, Ge, Ne}
-use Rattle.spec_linear.specs.Solution.{Constraint, Meets, Has}
+use Rattle.spec_linear.specs.Solution.{Constraint, Meets}
 use Rattle.spec_projection.specs.Elimination.{IsInequality, coefficient}
 use Rattle.spec_projection.specs.Partial.{AreInequalities}
 use Rattle.spec_projection.proofs.Between.{meets_positive, meets_weakly}

@@ -1,11 +1,11 @@
 -- Each sound search has a next turn, or the arithmetic of its selected goal refuses two numbers.
-use Rattle.std.proofs.Common.{◌≡◌, ◌⊎◌, inl, inr, ℕ, List, [], ◌∷◌, Option, Some, None, Bool, false, true, pos, refl}
+use Rattle.std.proofs.Common.{◌≡◌, ◌⊎◌, inl, inr, ℕ, List, [], Option, Some, None, pos, refl}
 use Rattle.cq_frac.specs.declared.Pair.{Pair}
-use Rattle.spec_linear.specs.Solution.{Constraint, Solvable}
+use Rattle.spec_linear.specs.Solution.{Solvable}
 use Rattle.spec_linear.proofs.Points.{all_at}
 use Rattle.spec_syntax.specs.Trees.{Tree}
 use Rattle.spec_branch.specs.Branch.{State, Copied, Item, Branch, Pending, read}
-use Rattle.spec_branch.specs.Settling.{Settles, Outcome, Kept, Pruned, Why}
+use Rattle.spec_branch.specs.Settling.{Settles, Outcome, Kept, Pruned}
 use Rattle.spec_search.specs.Database.{Database}
 use Rattle.spec_search.specs.Replies as reply
 use Rattle.spec_search.specs.Rows.{reply_of}

@@ -12,7 +12,7 @@ use Rattle.spec_syntax.specs.Trees.{Tree}
 use Rattle.spec_built.specs.Built.{atom, compound1, compound2, Indicator, indicator_of, is_atom}
 use Rattle.spec_built.specs.Kinds.{is_list, is_partial}
 use Rattle.spec_built.specs.Bodies.{is_body}
-use Rattle.spec_builtins.specs.Alternatives.{◌≐◌, Solutions, Faults, Offers, Alternative, Comparison, allows}
+use Rattle.spec_builtins.specs.Alternatives.{◌≐◌, Solutions, Faults, Offers, Comparison, allows}
 use Rattle.spec_builtins.specs.Clauses.{HeadBody, variable_count, head_body, first_error, error_if, clause_goal_error, not_readable, declaration_error, declarations, use_module_error}
 use Rattle.spec_builtins.specs.Operators.{operator_error, operator_names, operators_after}
 use Rattle.spec_writing.specs.Written.{text_within}

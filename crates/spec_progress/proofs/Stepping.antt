@@ -1,11 +1,11 @@
 -- Each selected goal has a step where its constraints have a solution, or its arithmetic refuses two numbers.
-use Rattle.std.proofs.Common.{◌≡◌, ◌⊎◌, inl, inr, ℕ, List, [], ◌∷◌, Option, Some, None, Bool, true, false, cond, refl, sym, ap, ◌∙◌}
-use Rattle.std.specs.Prelude.{find, ⊤}
+use Rattle.std.proofs.Common.{◌≡◌, ◌⊎◌, inl, inr, ℕ, List, [], ◌∷◌, Option, Some, None, Bool, true, false, cond, refl, ap, ◌∙◌}
+use Rattle.std.specs.Prelude.{find}
 use Rattle.spec_rational.specs.Rational.{ℚ}
 use Rattle.cq_frac.specs.declared.Pair.{Pair}
 use Rattle.spec_linear.specs.Form.{Linear, negated_form}
-use Rattle.spec_linear.specs.Solution.{Constraint, Solvable, Fixes, Entails, Has}
-use Rattle.spec_extremes.specs.Extremes.{Leaves, IsInfimum, IsUnbounded}
+use Rattle.spec_linear.specs.Solution.{Constraint, Solvable, Fixes, Has}
+use Rattle.spec_extremes.specs.Extremes.{IsInfimum, IsUnbounded}
 use Rattle.spec_syntax.specs.Trees.{Tree}
 use Rattle.spec_told.specs.Relations.{Lin, Is, Waits, False, lin, lin_expression}
 use Rattle.spec_branch.specs.Branch.{Branch}

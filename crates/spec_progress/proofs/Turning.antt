@@ -1,5 +1,5 @@
 -- Each turn of a sound search leads to a sound one.
-use Rattle.std.proofs.Common.{◌≡◌, ℕ, zero, suc, ◌-◌, List, [], ◌∷◌, ◌++◌, length, drop, map, Option, Some, None, Bool, true, false, cond, eqb, refl, sym, ap, subst}
+use Rattle.std.proofs.Common.{◌≡◌, ℕ, zero, suc, ◌-◌, List, [], ◌∷◌, ◌++◌, length, drop, Option, Some, None, Bool, true, false, cond, eqb, refl, sym, ap, subst}
 use Rattle.std.specs.Prelude.{⊤}
 use Rattle.std.specs.List.{cons_option, AllByRecursion}
 use Rattle.spec_linear.specs.Solution.{Constraint, Solvable}
@@ -9,9 +9,8 @@ use Rattle.spec_terms.specs.Term.{Subst}
 use Rattle.spec_syntax.specs.Trees.{Tree, list_tree}
 use Rattle.spec_builtins.specs.Alternatives.{◌≐◌}
 use Rattle.spec_branch.specs.Branch.{State, Sleeper, Copied, Item, Goal, CutTo, CutFail, CatchEnd, Collect, Gathered, Branch, Pending, Phase, Settled, Unsettled, read, no_work}
-use Rattle.spec_branch.specs.Settling.{SleeperState, Sleeps, Wakes, state_of, woken_item, woken, bindings_after, kept_branch, Settles, unified, SettlesUnified, kept, Kept}
-use Rattle.spec_search.specs.Database.{Clause}
-use Rattle.spec_search.specs.Replies.{Place, Made, landed, landed_term, Raises, Throws, WithCopy, Makes, IfEntailed, WithExtent}
+use Rattle.spec_branch.specs.Settling.{SleeperState, Sleeps, Wakes, state_of, woken_item, woken, bindings_after, Settles, unified, SettlesUnified, kept, Kept}
+use Rattle.spec_search.specs.Replies.{Place, landed}
 use Rattle.spec_search.specs.Rows.{reply_of}
 use Rattle.spec_search.specs.Steps.{Steps, Stepped, Ball, Children, raises, throws, copies, makes, calls, not_linear, entailed, not_entailed, expression_waits, expression_false, extent, no_extent}
 use Rattle.spec_search.specs.Balls.{handed, caught_branch, caught_work, last}
@@ -138,8 +137,8 @@ items_sound (CatchEnd k su c r ∷ is) st bs i h s b = rest_sound is st bs i.1 h
 items_sound (Collect k t ∷ is) st bs i h s b = b
 items_sound (Gathered t cs ∷ is) st bs i h s b = (
   child_sound is (landed st cs).state
-  (record no_work { equations = (t ≐ list_tree (landed st cs).terms) ∷ []; rows = (landed st cs).rows; told = (landed st cs).told })
-  i.1 (landed_sound st cs h) (landed_rows st cs i.0) tt,
+      (record no_work { equations = (t ≐ list_tree (landed st cs).terms) ∷ []; rows = (landed st cs).rows; told = (landed st cs).told })
+      i.1 (landed_sound st cs h) (landed_rows st cs i.0) tt,
   b,
 )
 

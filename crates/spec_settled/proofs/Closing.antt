@@ -1,13 +1,13 @@
 -- From any list of linear constraints and any waiting terms some moves lead to a closure.
-use Rattle.std.proofs.Common.{◌≡◌, ◌⊎◌, inl, inr, ℕ, suc, zero, ◌+◌, ◌<◌, length, List, [], ◌∷◌, ◌++◌, Option, Some, None, arith, refl, ap, sym, subst, ◌∙◌}
+use Rattle.std.proofs.Common.{◌≡◌, ◌⊎◌, inl, inr, ℕ, suc, zero, ◌<◌, length, List, [], ◌∷◌, ◌++◌, Option, Some, None, arith, refl, ap, sym, subst, ◌∙◌}
 use Rattle.std.proofs.lemmas.List.{length-append}
 use Rattle.spec_rational.specs.Rational.{ℚ}
-use Rattle.spec_linear.specs.Solution.{Constraint, Solvable, Unsolvable, Fixes, Has}
+use Rattle.spec_linear.specs.Solution.{Constraint, Solvable, Unsolvable, Has}
 use Rattle.spec_lists.specs.Texts.{Text}
 use Rattle.spec_terms.specs.Term.{Subst, apply}
 use Rattle.spec_syntax.specs.Trees.{Tree}
-use Rattle.spec_told.specs.Relations.{Lin, lin, row_of, IsLin}
-use Rattle.spec_branch.specs.Closure.{IsMove, Moves, no_move, move, IsClosure}
+use Rattle.spec_told.specs.Relations.{lin, row_of}
+use Rattle.spec_branch.specs.Closure.{IsMove, no_move, move, IsClosure}
 use Rattle.spec_branch.proofs.Waiting.{one_map}
 use Rattle.spec_projection.proofs.Decision.{decided}
 use Rattle.spec_decided.proofs.Fixing.{values_fixed, values_fixed_are}
@@ -91,7 +91,7 @@ module _ (s : Subst Text) where
   closes_within : (n : ℕ) (l : List Constraint) (w : List Tree) → length w < n → Closes l w
   closes_within zero l w h = absurd (omega (arith, h))
   closes_within (suc n) l w h = go (decided l)
-    (λ g. closes_within n (l ++ g.row ∷ []) (g.before ++ g.after) (let k : length (g.before ++ g.after) < length w = shorter (values_fixed l) w g in omega (arith, h, k)))
+      (λ g. closes_within n (l ++ g.row ∷ []) (g.before ++ g.after) (let k : length (g.before ++ g.after) < length w = shorter (values_fixed l) w g in omega (arith, h, k)))
     where
       by : Solvable l → ((g : Goes (values_fixed l) w) → Closes (l ++ g.row ∷ []) (g.before ++ g.after)) → Goes (values_fixed l) w ⊎ AllWait (values_fixed l) w → Closes l w
       by solvable rest (inl g) = behind l w solvable g (rest g)

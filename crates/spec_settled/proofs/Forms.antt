@@ -1,10 +1,10 @@
 -- The linear constraints of a branch list their products in order, also once it has settled.
-use Rattle.std.proofs.Common.{◌≡◌, ◌⊎◌, inl, inr, ℕ, suc, zero, List, [], ◌∷◌, ◌++◌, Bool, true, false, cond, Option, Some, None, map, arith, refl, ap, sym, subst, ◌∙◌}
+use Rattle.std.proofs.Common.{◌≡◌, inl, inr, ℕ, suc, zero, List, [], ◌∷◌, ◌++◌, Bool, true, false, cond, Option, Some, None, map, arith, refl, ap, sym, subst, ◌∙◌}
 use Rattle.std.specs.Prelude.{IsPermutation, All, ◌||◌}
 use Rattle.std.proofs.lemmas.List.Sorted.{All-permutation, IsPermutation-sym}
 use Rattle.spec_rational.specs.Rational.{ℚ, 1ℚ}
 use Rattle.spec_linear.specs.Form.{Linear, IsForm, variable_form}
-use Rattle.spec_linear.specs.Solution.{Constraint, Has, false_constraint}
+use Rattle.spec_linear.specs.Solution.{Constraint, false_constraint}
 use Rattle.spec_linear.proofs.Ordered.{IsForm-constant_form, IsForm-variable_form, IsForm-difference_form}
 use Rattle.spec_projection.specs.Lists.{AreForms}
 use Rattle.spec_projection.proofs.Members.{has_either, has_mapped}
@@ -12,7 +12,7 @@ use Rattle.spec_lists.specs.Texts.{Text}
 use Rattle.spec_terms.specs.Term.{Subst, Var, Number, Name, Compound, one, more, apply, followed_by}
 use Rattle.spec_syntax.specs.Trees.{Tree}
 use Rattle.spec_told.specs.Expressions.{form_of, has_zero_divisor}
-use Rattle.spec_told.specs.Relations.{RelationName, Equals, Differs, Greater, GreaterOrEqual, Lesser, LesserOrEqual, relation_name, related, Lin, Is, Waits, False, related_forms, lin, row_of}
+use Rattle.spec_told.specs.Relations.{RelationName, Equals, Differs, Greater, GreaterOrEqual, Lesser, LesserOrEqual, relation_name, related, Lin, False, related_forms, lin, row_of}
 use Rattle.spec_told.proofs.Kept.{GoodOption, form_good}
 use Rattle.spec_branch.specs.Branch.{State, Item, Pending, Branch}
 use Rattle.spec_branch.specs.Closure.{IsMove, Moves, no_move, move}

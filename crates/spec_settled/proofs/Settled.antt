@@ -5,9 +5,9 @@ use Rattle.std.proofs.lemmas.List.Sorted.{IsPermutation-refl}
 use Rattle.spec_linear.specs.Solution.{Constraint, Solvable, Unsolvable}
 use Rattle.spec_lists.specs.Texts.{Text}
 use Rattle.spec_terms.specs.Term.{Subst, followed_by}
-use Rattle.spec_terms.specs.Unifier.{IsUnifier, HasNoUnifier, read_under}
+use Rattle.spec_terms.specs.Unifier.{IsUnifier, read_under}
 use Rattle.spec_branch.specs.Branch.{State, Item, Pending}
-use Rattle.spec_branch.specs.Settling.{Clashes, NoClash, is_no_number, newly_bound, binding_equation, Settling, Settles, no_unifier, unified, SettlesUnified, clash, no_solution, kept, kept_branch, Outcome, Kept, Pruned, Clash, NoSolution}
+use Rattle.spec_branch.specs.Settling.{Clashes, NoClash, is_no_number, newly_bound, binding_equation, Settling, Settles, no_unifier, unified, clash, no_solution, kept, kept_branch, Outcome, Kept, Pruned, Clash, NoSolution}
 use Rattle.spec_projection.proofs.Decision.{decided}
 use Rattle.spec_decided.proofs.Fixing.{values_fixed, values_fixed_are}
 use Rattle.spec_unified.proofs.Bindings.{IsUnified}

@@ -1,8 +1,8 @@
 -- The variables that stand in pairs of terms, and how much the pairs weigh.
-use Rattle.std.proofs.Common.{◌≡◌, ◌⊎◌, inl, inr, ℕ, suc, ◌+◌, ◌<◌, ◌≤◌, length, List, [], ◌∷◌, ◌++◌, Bool, true, false, cond, arith, refl, ap, sym, subst, ◌∙◌}
+use Rattle.std.proofs.Common.{◌≡◌, ◌⊎◌, inl, inr, ℕ, suc, ◌+◌, ◌<◌, ◌≤◌, length, List, [], ◌∷◌, ◌++◌, cond, arith, ap, sym, subst, ◌∙◌}
 use Rattle.std.specs.Prelude.{◌==◌}
 use Rattle.std.proofs.lemmas.Bool.{cases_eq, eq-eqb, ne_eqb}
-use Rattle.spec_terms.specs.Term.{Term, Terms, Var, Number, Name, Compound, one, more, Subst, apply, single, Occurs, OccursIn}
+use Rattle.spec_terms.specs.Term.{Term, Terms, Var, Number, Name, Compound, one, more, apply, single, Occurs, OccursIn}
 use Rattle.spec_terms.specs.Unifier.{Equation, read_under}
 use Rattle.spec_terms.proofs.Substitution.{occurs_from, single_same, single_other}
 

@@ -1,7 +1,7 @@
 -- Steps of unification: pairs that say the same, and a variable that is bound.
 use Rattle.std.proofs.Common.{◌≡◌, ◌⊎◌, inl, inr, ℕ, ◌≤◌, List, [], ◌∷◌, arith, refl, ap, sym, ◌∙◌}
 use Rattle.std.proofs.lemmas.Bool.{cases_eq}
-use Rattle.spec_terms.specs.Term.{Term, Var, Subst, apply, identity, single, followed_by, Occurs}
+use Rattle.spec_terms.specs.Term.{Term, Var, Subst, identity, single, followed_by, Occurs}
 use Rattle.spec_terms.specs.Unifier.{Equation, Equates, IsUnifier, HasNoUnifier, read_under}
 use Rattle.spec_terms.proofs.Substitution.{single_same, single_other, apply-single_absent, apply-single_instance}
 use Rattle.spec_terms.proofs.Unifiers.{unified_both, not_later}

@@ -1,5 +1,5 @@
 -- Any pairs of terms have a unifier that keeps the oldest variables, or none (Robinson 1965).
-use Rattle.std.proofs.Common.{◌≡◌, ◌⊎◌, inl, inr, ℕ, suc, zero, ◌+◌, ◌<◌, ◌≤◌, length, List, [], ◌∷◌, arith, refl, ap, ap₂, sym, subst, ◌∙◌}
+use Rattle.std.proofs.Common.{◌≡◌, ◌⊎◌, inl, inr, ℕ, suc, zero, ◌+◌, ◌<◌, ◌≤◌, length, List, [], ◌∷◌, arith, refl, ap, ap₂, sym, subst}
 use Rattle.std.proofs.lemmas.Bool.{cases_eq}
 use Rattle.std.specs.declared.cmp.Ordering.{Ordering}
 use Rattle.std.specs.declared.cmp.Ordering.TheVariants.{Less, Equal, Greater}
@@ -9,9 +9,9 @@ use Rattle.spec_rational.specs.Order.{cmp_ℚ}
 use Rattle.spec_rational.proofs.Order.{cmp_ℚ-matches, lt_irrefl}
 use Rattle.spec_lists.specs.Texts.{Text}
 use Rattle.spec_terms.specs.Term.{Term, Terms, Var, Number, Name, Compound, one, more, Subst, apply, apply_all, single, Occurs}
-use Rattle.spec_terms.specs.Unifier.{Equation, Equates, read_under}
+use Rattle.spec_terms.specs.Unifier.{Equation, read_under}
 use Rattle.spec_terms.proofs.Substitution.{occurs_clash}
-use Rattle.spec_unified.proofs.Among.{Among, removed, removed_shorter, pair, Within, occurs_or_not, all_listed, all_within, bound_within, weight, total_weight, weight_positive, left_weight}
+use Rattle.spec_unified.proofs.Among.{removed, removed_shorter, pair, Within, occurs_or_not, all_listed, all_within, bound_within, weight, weight_positive, left_weight}
 use Rattle.spec_unified.proofs.Bindings.{IsUnified, no_pairs, as_well, turned, bound}
 
 -- ---- the same numbers, the same texts
