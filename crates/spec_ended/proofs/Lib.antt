@@ -1,3 +1,0 @@
-pub mod GenLine
-pub mod AnswersAllowed
-pub mod Opened
