@@ -47,7 +47,7 @@ module _ (budgets : Budgets) (shelf : Text → Option (List ℕ)) (input : List 
           → (d : Database) (g : Tree) (b : ℕ) (vs : Variables) → s ≡ begun d g b vs → IsAsking who → Comes (Searching s who q) → IsRead r.source r.files
       searched s who q e f i l d g b vs same asking c =
           let t = search_ends budgets shelf input first forms q (begun d g b vs) who (record { sound = start_sound d (tree_later b g) (b + vs.count); within = omega arith; asking = asking })
-              (subst (λ x. Comes (Searching x who q)) same c) in
+          (subst (λ x. Comes (Searching x who q)) same c) in
           subst (λ x. IsRead r.source x) f (subst (λ x. IsRead x q.files) e (rest t.0 q i l t.1))
 
       -- ---- a clause
