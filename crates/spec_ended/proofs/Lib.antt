@@ -1,0 +1,3 @@
+pub mod GenLine
+pub mod AnswersAllowed
+pub mod Opened
