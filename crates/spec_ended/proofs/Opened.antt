@@ -1,9 +1,9 @@
 -- Each command line has an ending that comes of its words, the files and the input alone.
-use Rattle.std.proofs.Common.{◌≡◌, ◌⊎◌, inl, inr, ℕ, suc, ◌<◌, ◌≤◌, length, List, [], ◌∷◌, ◌++◌, Bool, true, false, cond, Option, Some, None, take, drop, append-nil, arith, refl, ap, sym, subst, ◌∙◌}
+use Rattle.std.proofs.Common.{◌≡◌, ℕ, suc, ◌<◌, ◌≤◌, length, List, [], ◌∷◌, Bool, true, false, cond, Option, Some, None, take, drop, append-nil, arith, refl, ap, sym, subst, ◌∙◌}
 use Rattle.std.specs.Prelude.{nat_le}
 use Rattle.std.proofs.lemmas.List.{take-append-drop}
 use Rattle.std.proofs.lemmas.Bool.Decides.{nat_tests}
-use Rattle.cq_outside.specs.Files.{Files, IsTooLarge}
+use Rattle.cq_outside.specs.Files.{IsTooLarge}
 use Rattle.cq_outside.specs.declared.shelf.TheConstants.{SIZE_LIMIT}
 use Rattle.cq_words.specs.Asked.{Asked, Task, ToRun, ToGen}
 use Rattle.cq_words.specs.Language.{asked_by_texts}
