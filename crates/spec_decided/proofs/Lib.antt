@@ -1,0 +1,5 @@
+pub mod Fixing
+pub mod Alone
+pub mod Upwards
+pub mod Reached
+pub mod Extent

@@ -1,0 +1,4 @@
+pub mod GenLine
+pub mod AnswersAllowed
+pub mod AsFar
+pub mod Opened

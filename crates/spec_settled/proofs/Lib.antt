@@ -1,0 +1,4 @@
+pub mod Closing
+pub mod Settled
+pub mod Bounds
+pub mod Forms
