@@ -1,5 +1,5 @@
 -- Each input has a transcript, and what is written so far begins one.
-use Rattle.std.proofs.Common.{◌≡◌, ℕ, ◌<◌, List, [], ◌++◌, Option, append-nil, append_assoc, sym, ap, subst, ◌∙◌}
+use Rattle.std.proofs.Common.{ℕ, ◌<◌, List, ◌++◌, Option, append-nil, append_assoc, sym, ap, subst, ◌∙◌}
 use Rattle.spec_lists.specs.Texts.{Text}
 use Rattle.spec_search.specs.Database.{initial}
 use Rattle.spec_stops.specs.Causes.{Budgets}

@@ -1,6 +1,5 @@
 -- What a turn does for the end of its search: it makes it lighter, selects a goal, shows an answer or a ball, or ends it.
-use Rattle.std.proofs.Common.{◌≡◌, ℕ, suc, ◌<◌, List, [], ◌∷◌, Bool, true, false, cond, eqb, refl, ap}
-use Rattle.std.specs.Prelude.{if◌then◌else◌, ◌==◌}
+use Rattle.std.proofs.Common.{◌≡◌, ℕ, suc, ◌<◌, List, [], ◌∷◌, Bool, true, cond, refl, ap}
 use Rattle.spec_lists.specs.Texts.{Text}
 use Rattle.spec_lists.proofs.Tests.{nat_eq-self}
 use Rattle.spec_operators.specs.Operators.{Ops}
@@ -8,7 +7,7 @@ use Rattle.spec_branch.specs.Branch.{State, Copied, Branch}
 use Rattle.spec_search.specs.Search.{Search, Answering, look_at, is_selecting}
 use Rattle.spec_search.specs.Turns as turn
 use Rattle.spec_search.specs.Turns.{Turn, Event, Wrote, Answered, Threw, Ended}
-use Rattle.spec_runs.specs.Runs.{Mark, marks}
+use Rattle.spec_runs.specs.Runs.{marks}
 use Rattle.spec_runs.specs.Weight.{weight}
 use Rattle.spec_runs.proofs.Lighter.{lighter}
 

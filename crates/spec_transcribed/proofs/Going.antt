@@ -1,23 +1,22 @@
 -- Each session that some steps lead to is ready, and each that is ready is carried on to an end.
-use Rattle.std.proofs.Common.{◌≡◌, ◌⊎◌, inl, inr, ℕ, suc, zero, ◌+◌, ◌<◌, ◌≤◌, length, List, [], ◌∷◌, ◌++◌, Bool, true, false, Option, Some, None, arith, refl, sym, ap, subst, ◌∙◌}
+use Rattle.std.proofs.Common.{◌≡◌, inl, inr, ℕ, suc, ◌+◌, ◌<◌, ◌≤◌, length, List, [], true, false, Option, arith, refl, sym, ◌∙◌}
 use Rattle.spec_lists.specs.Texts.{Text}
 use Rattle.spec_operators.specs.Operators.{Ops}
 use Rattle.spec_syntax.specs.Trees.{Tree}
-use Rattle.spec_syntax.specs.TextTokens.{VariableName, Variables}
-use Rattle.spec_reading.specs.Readings.{Clause, Syntax, Reads}
+use Rattle.spec_syntax.specs.TextTokens.{Variables}
+use Rattle.spec_reading.specs.Readings.{Clause, Syntax}
 use Rattle.spec_reading.specs.Later.{tree_later}
 use Rattle.spec_reading.proofs.Onward.{moves_on}
 use Rattle.spec_branch.specs.Branch.{State}
 use Rattle.spec_search.specs.Database.{Database, initial}
-use Rattle.spec_search.specs.Search.{Search, is_selecting, look_at}
-use Rattle.spec_search.specs.Turns.{Turn, Event, Wrote, Answered}
+use Rattle.spec_search.specs.Search.{Search}
+use Rattle.spec_search.specs.Turns.{Event, Wrote, Answered}
 use Rattle.spec_stops.specs.Causes.{Budgets}
 use Rattle.spec_transcript.specs.declared.Source.{Source}
 use Rattle.spec_transcript.specs.declared.Source.TheVariants.{File, Input}
 use Rattle.spec_transcript.specs.Purposes.{Purpose, Directive, Initialization, Query, Fact, once}
 use Rattle.spec_transcript.specs.Session as session
 use Rattle.spec_transcript.specs.Session.{Reader, beginning, Asker, ADirective, AQuery, Session, Opening, Reading, Searching, Over, Stands, begun, names_from, Mark, Marks, unmarked, MayGo, Step, Runs, Transcript}
-use Rattle.spec_progress.specs.Sound.{AreSound}
 use Rattle.spec_progress.proofs.Turning.{turn_sound}
 use Rattle.spec_progress.proofs.Progress.{start_sound}
 use Rattle.spec_transcribed.specs.Existing.{AreThere, AnswersHaveForms, IsAsking, IsReadySearch, IsReadyReader, IsReady}

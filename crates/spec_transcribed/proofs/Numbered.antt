@@ -11,7 +11,7 @@ use Rattle.spec_grammar.specs.Tokens as lexical
 use Rattle.spec_grammar.specs.Tokens.{bytes_of}
 use Rattle.spec_syntax.specs.Tokens.{Token}
 use Rattle.spec_syntax.specs.Trees.{Tree}
-use Rattle.spec_syntax.specs.TextTokens.{VariableName, Variables, no_variables, known, with_name, with_variable, variables_after}
+use Rattle.spec_syntax.specs.TextTokens.{VariableName, Variables, known, with_name, with_variable, variables_after}
 use Rattle.spec_reading.specs.Readings.{AreTokens, none, next, Read, Clause, Reads, ended, clause, refused, fault, cut}
 use Rattle.spec_reading.specs.Later.{name_later, variables_later}
 use Rattle.spec_transcribed.specs.Existing.{AreNumbered}

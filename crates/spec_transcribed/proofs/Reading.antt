@@ -1,5 +1,5 @@
 -- Each text of a session is read to its end, and so are all files and the input.
-use Rattle.std.proofs.Common.{◌≡◌, ◌⊎◌, inl, inr, ℕ, suc, zero, ◌+◌, ◌-◌, ◌<◌, ◌≤◌, length, List, [], ◌∷◌, ◌++◌, Option, Some, None, arith, refl, ap, sym, subst}
+use Rattle.std.proofs.Common.{◌≡◌, ℕ, suc, zero, ◌+◌, ◌-◌, ◌<◌, ◌≤◌, length, List, [], ◌∷◌, ◌++◌, Option, Some, None, arith, refl, ap, subst}
 use Rattle.std.proofs.lemmas.List.{length-append}
 use Rattle.spec_lists.specs.Texts.{Text}
 use Rattle.spec_syntax.specs.Trees.{Tree}
@@ -8,7 +8,7 @@ use Rattle.spec_reading.specs.Readings.{Read, Clause, Ended, Syntax, Reads}
 use Rattle.spec_reading.specs.Laws.{MovesOn}
 use Rattle.spec_reading.specs.Later.{tree_later}
 use Rattle.spec_reading.proofs.Onward.{some_reading, moves_on}
-use Rattle.spec_search.specs.Database.{Database, initial}
+use Rattle.spec_search.specs.Database.{Database}
 use Rattle.spec_search.specs.Changes.{consult_error, consulted}
 use Rattle.spec_search.specs.Search.{Search}
 use Rattle.spec_stops.specs.Causes.{Budgets}
@@ -47,7 +47,7 @@ module _ (budgets : Budgets) (shelf : Text → Option (List ℕ)) (input : List 
           → (d : Database) (g : Tree) (b : ℕ) (vs : Variables) → s ≡ begun d g b vs → IsAsking who → Comes (Searching s who q) → IsRead r.source r.files
       searched s who q e f i l d g b vs same asking c =
           let t = search_ends budgets shelf input first forms q (begun d g b vs) who (record { sound = start_sound d (tree_later b g) (b + vs.count); within = omega arith; asking = asking })
-              (subst (λ x. Comes (Searching x who q)) same c) in
+          (subst (λ x. Comes (Searching x who q)) same c) in
           subst (λ x. IsRead r.source x) f (subst (λ x. IsRead x q.files) e (rest t.0 q i l t.1))
 
       -- ---- a clause

@@ -1,21 +1,16 @@
 -- Each search of a session comes to an end within its budgets.
 use Rattle.std.proofs.Common.{◌≡◌, ◌⊎◌, inl, inr, ℕ, suc, zero, ◌+◌, ◌<◌, ◌≤◌, List, [], ◌++◌, Bool, true, false, Option, arith, refl, sym, subst, ◌∙◌}
 use Rattle.std.proofs.lemmas.Bool.{cases_eq}
-use Rattle.cq_frac.specs.declared.Pair.{Pair}
 use Rattle.spec_lists.specs.Texts.{Text}
-use Rattle.spec_linear.specs.Solution.{Solvable}
 use Rattle.spec_operators.specs.Operators.{Ops}
-use Rattle.spec_syntax.specs.TextTokens.{VariableName}
-use Rattle.spec_answers.specs.Answer.{AnswerForm}
-use Rattle.spec_branch.specs.Branch.{State, Branch, Copied}
+use Rattle.spec_branch.specs.Branch.{State, Branch}
 use Rattle.spec_search.specs.Database.{Database}
 use Rattle.spec_search.specs.Search.{Search, Answering, look_at, is_selecting}
-use Rattle.spec_search.specs.Turns.{Turn, Event, Wrote, Answered, Threw, Ended, Refuses}
+use Rattle.spec_search.specs.Turns.{Turn, Event, Wrote, Answered}
 use Rattle.spec_stops.specs.Causes.{Budgets}
 use Rattle.spec_transcript.specs.Session as session
 use Rattle.spec_transcript.specs.Session.{Asker, ADirective, AQuery, Reader, Session, Reading, Searching, Mark, Marks, marked, MayGo, Step, Runs}
 use Rattle.spec_runs.specs.Weight.{weight}
-use Rattle.spec_progress.specs.Sound.{IsSoundState, AreSound}
 use Rattle.spec_progress.proofs.Turning.{IsSoundLook, look_sound, turn_sound}
 use Rattle.spec_progress.proofs.Progress.{GoesOn, goes_on}
 use Rattle.spec_transcribed.specs.Existing.{IsAsking, IsReadySearch, AnswersHaveForms}
