@@ -1,3 +1,4 @@
 pub mod GenLine
 pub mod AnswersAllowed
+pub mod AsFar
 pub mod Opened
