@@ -1,15 +1,15 @@
 -- Words that ask for a run allow an answer.
-use Rattle.std.proofs.Common.{◌≡◌, ℕ, ◌<◌, ◌≤◌, List, [], ◌∷◌, Bool, true, false, cond, ◌&&◌, Option, Some, None, arith, refl, ap, sym, subst}
-use Rattle.std.specs.Prelude.{bytes_eq, codes, nat_le, option_map, option_and_then, unwrap_or, if◌then◌else◌}
+use Rattle.std.proofs.Common.{◌≡◌, ℕ, ◌<◌, ◌≤◌, List, [], Bool, true, false, cond, ◌&&◌, Option, Some, None, arith, refl, ap, subst}
+use Rattle.std.specs.Prelude.{bytes_eq, codes, option_map, option_and_then, unwrap_or}
 use Rattle.std.specs.Str.Parse.{digits_value, without_leading_plus}
 use Rattle.spec_lists.specs.Texts.{Text}
 use Rattle.spec_lists.proofs.Tests.{true_le}
 use Rattle.clap.specs.Simple.{subcommand_of}
 use Rattle.clap.specs.ValueTests.{is_unsigned_in}
 use Rattle.clap.specs.Walk.{Row, all_of, first_of}
-use Rattle.cq_words.specs.Asked.{Asked, Task, ToRun, ToGen}
+use Rattle.cq_words.specs.Asked.{Asked, ToRun, ToGen}
 use Rattle.cq_words.specs.Language.{command, number_to, number_or, asked_of, asked_in, gen_in, task_in, is_taken, asked_by_texts}
-use Rattle.cq_words.specs.declared.run.TheConstants.{MOST, STEPS, PIVOTS, ANSWERS, GREATEST}
+use Rattle.cq_words.specs.declared.run.TheConstants.{MOST, STEPS, PIVOTS, ANSWERS}
 
 third_holds : (a b c d : Bool) → (a && (b && (c && d))) ≡ true → c ≡ true
 third_holds true true true d e = refl

@@ -1,5 +1,5 @@
 -- An input is read as far as its first bytes decide it.
-use Rattle.std.proofs.Common.{◌≡◌, ◌⊎◌, inl, inr, ℕ, suc, zero, ◌+◌, ◌-◌, ◌<◌, ◌≤◌, length, List, [], ◌∷◌, ◌++◌, Bool, true, false, Option, Some, None, ◌↔◌, append-nil, arith, refl, ap, sym, subst, ◌∙◌}
+use Rattle.std.proofs.Common.{◌≡◌, ◌⊎◌, inl, inr, ℕ, suc, zero, ◌+◌, ◌-◌, ◌<◌, ◌≤◌, length, List, [], ◌∷◌, ◌++◌, Bool, true, false, Option, Some, None, ◌↔◌, append-nil, arith, refl, sym, subst}
 use Rattle.std.specs.Prelude.{nat_lt}
 use Rattle.std.proofs.lemmas.Bool.Decides.{nat_tests}
 use Rattle.spec_lists.specs.Texts.{Text}
@@ -16,8 +16,7 @@ use Rattle.spec_reading.proofs.Decides.{decided_when_closed}
 use Rattle.spec_search.specs.Database.{Database}
 use Rattle.spec_search.specs.Changes.{consult_error, consulted}
 use Rattle.spec_stops.specs.Causes.{Budgets}
-use Rattle.spec_transcript.specs.declared.Source.{Source}
-use Rattle.spec_transcript.specs.declared.Source.TheVariants.{File, Input}
+use Rattle.spec_transcript.specs.declared.Source.TheVariants.{Input}
 use Rattle.spec_transcript.specs.Purposes.{Purpose, Directive, Initialization, Query, Fact, purpose, once}
 use Rattle.spec_transcript.specs.Session as session
 use Rattle.spec_transcript.specs.Session.{Reader, Asker, ADirective, AQuery, Session, Reading, Searching, Stands, begun, names_from}

@@ -1,9 +1,9 @@
 -- Each command line has an ending that comes of its words, the files and the input alone.
-use Rattle.std.proofs.Common.{◌≡◌, ◌⊎◌, inl, inr, ℕ, suc, ◌<◌, ◌≤◌, length, List, [], ◌∷◌, ◌++◌, Bool, true, false, cond, Option, Some, None, take, drop, append-nil, arith, refl, ap, sym, subst, ◌∙◌}
+use Rattle.std.proofs.Common.{◌≡◌, ℕ, suc, ◌<◌, ◌≤◌, length, List, [], ◌∷◌, Bool, true, false, cond, Option, Some, None, take, drop, append-nil, arith, refl, ap, sym, subst, ◌∙◌}
 use Rattle.std.specs.Prelude.{nat_le}
 use Rattle.std.proofs.lemmas.List.{take-append-drop}
 use Rattle.std.proofs.lemmas.Bool.Decides.{nat_tests}
-use Rattle.cq_outside.specs.Files.{Files, IsTooLarge}
+use Rattle.cq_outside.specs.Files.{IsTooLarge}
 use Rattle.cq_outside.specs.declared.shelf.TheConstants.{SIZE_LIMIT}
 use Rattle.cq_words.specs.Asked.{Asked, Task, ToRun, ToGen}
 use Rattle.cq_words.specs.Language.{asked_by_texts}
@@ -71,23 +71,28 @@ module _ (o : Outside) (a : Asked) (some_answer : 0 < a.answers) where
   input_whole : length o.input ≤ SIZE_LIMIT → (db : Database) → Here (Reading db (beginning Input o.input [])) → RunEnds
   input_whole size db h =
       let r = text_read (budgets_of a) (given o.files) o.input first forms some_answer (suc (left_of (budgets_of a) (given o.files) o.input first forms some_answer (beginning Input o.input []))) db
-          (beginning Input o.input []) (omega arith) (omega arith) h in
+      (beginning Input o.input []) (omega arith) (omega arith) h in
       whole size r.1.0 r.1.1.faulty r.1.1.stopped (record { last = r.0; runs = r.1.2 })
 
   input_large : SIZE_LIMIT < length o.input → (db : Database) → Here (Reading db (beginning Input o.input [])) → RunEnds
   input_large size db h =
       let r = read_so_far (budgets_of a) (given o.files) o.input first forms some_answer (take SIZE_LIMIT o.input) (drop SIZE_LIMIT o.input) db (beginning Input o.input []) refl
-          (sym (take-append-drop SIZE_LIMIT o.input)) (omega arith) h in
-      (NoFile, r.comes.0, input_line, large_input o.input (sym (append-nil o.input)) size
-          (record {
-            database = r.database;
-            reader = r.reader;
-            is_input = r.is_input;
-            within = r.within;
-            undecided = r.undecided;
-            marks = r.comes.1;
-            runs = r.comes.2;
-          }), tt)
+      (sym (take-append-drop SIZE_LIMIT o.input)) (omega arith) h in (
+        NoFile,
+        r.comes.0,
+        input_line,
+        large_input o.input (sym (append-nil o.input)) size
+            (record {
+              database = r.database;
+              reader = r.reader;
+              is_input = r.is_input;
+              within = r.within;
+              undecided = r.undecided;
+              marks = r.comes.1;
+              runs = r.comes.2;
+            }),
+        tt,
+      )
 
   input_read : (db : Database) → Here (Reading db (beginning Input o.input [])) → RunEnds
   input_read db h = by (nat_le (length o.input) SIZE_LIMIT) refl
@@ -104,8 +109,8 @@ module _ (o : Outside) (a : Asked) (some_answer : 0 < a.answers) where
       by None e rest = not_given name names db e h
       by (Some bytes) e rest =
           let r = text_read (budgets_of a) (given o.files) o.input first forms some_answer (suc (left_of (budgets_of a) (given o.files) o.input first forms some_answer (beginning File bytes names))) db
-              (beginning File bytes names) (omega arith) (omega arith)
-              (onward (budgets_of a) (given o.files) o.input first forms (Opening db (name ∷ names)) (Reading db (beginning File bytes names)) _ _ h (session.opens_file e)) in
+          (beginning File bytes names) (omega arith) (omega arith)
+          (onward (budgets_of a) (given o.files) o.input first forms (Opening db (name ∷ names)) (Reading db (beginning File bytes names)) _ _ h (session.opens_file e)) in
           rest r.0 r.1
 
   pub run_ends : RunEnds
