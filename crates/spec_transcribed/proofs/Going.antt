@@ -23,7 +23,8 @@ use Rattle.spec_transcribed.specs.Existing.{AreThere, AnswersHaveForms, IsAsking
 use Rattle.spec_transcribed.proofs.Numbered.{clause_numbered}
 use Rattle.spec_transcribed.proofs.Effects.{Kinds, quiet, selects, answered, threw, ended, kind_of}
 use Rattle.spec_transcribed.proofs.Searching.{search_ends}
-use Rattle.spec_transcribed.proofs.Reading.{Comes, behind, text_read, left_of, all_read}
+use Rattle.spec_transcribed.proofs.Clauses.{Comes}
+use Rattle.spec_transcribed.proofs.Reading.{behind, text_read, left_of, all_read}
 
 -- ---- steps
 
