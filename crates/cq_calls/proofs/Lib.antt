@@ -2,3 +2,4 @@ mod Turns
 pub mod Left
 mod Newest
 mod Called
+pub mod Waiting

@@ -36,13 +36,6 @@ names_ahead texts choices now k p behind r l =
 pub names_same : (texts : List Text) (old later : Contents) → KnowsTerms texts old.heap.terms → later ≡ old → KnowsTerms texts later.heap.terms
 names_same texts old later known e = subst (λ (c : Contents). KnowsTerms texts c.heap.terms) (sym e) known
 
--- ---- what was built
-
--- the same world, and more continuations
-pub same_grown : (texts : List Text) (old later : Contents) (lists more : List (List Cell)) → later ≡ old → KeepsLists lists more → Grown texts (old, lists) (later, more)
-same_grown texts old later lists more e keeps =
-    subst (λ (c : Contents). Grown texts (old, lists) (c, more)) (sym e) (record { state = λ st i. i; terms = λ id t r. r; lists = keeps })
-
 -- ---- a sound machine
 
 pub sound_still : (old new : Machine) → IsSound old → HasSameProgram old new → KnowsTerms old.atoms (terms new) → AreMarked (saved new) new.choices

@@ -1,5 +1,5 @@
 use Rattle.cq_calls.proofs.Called.{calls_come}
-use Rattle.cq_calls.proofs.laws.called_goals_come_back.Goals as goal
+use Rattle.cq_calls.proofs.laws.called_goals_come_on.Goals as goal
 
 pub returns : goal.returns
 returns c = calls_come
