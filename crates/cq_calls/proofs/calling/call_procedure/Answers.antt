@@ -20,7 +20,7 @@ use Rattle.cq_steps.specs.Choices.{AreOpen}
 use Rattle.cq_steps.specs.Worlds.{saved_values, stack, value}
 use Rattle.cq_steps.specs.declared.alternatives.Alternatives.{Alternatives}
 use Rattle.cq_calls.specs.Calling.{CallBecomes, IsCalledAt, WouldCome}
-use Rattle.cq_calls.proofs.Called.{raises, known, some_left, becomes, none_known, some_known}
+use Rattle.cq_calls.proofs.CalledClauses.{raises, known, some_left, becomes, none_known, some_known}
 use Rattle.cq_calls.proofs.Left.{numbers_left, none_left}
 use Rattle.cq_calls.proofs.Waiting.{keeps_all, none_comes}
 use Rattle.cq_calls.proofs.calling.call_procedure.Goals as goal

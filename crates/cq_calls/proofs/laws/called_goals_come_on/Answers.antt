@@ -1,4 +1,4 @@
-use Rattle.cq_calls.proofs.Called.{calls_come}
+use Rattle.cq_calls.proofs.CalledClauses.{calls_come}
 use Rattle.cq_calls.proofs.laws.called_goals_come_on.Goals as goal
 
 pub returns : goal.returns
