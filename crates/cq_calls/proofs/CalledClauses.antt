@@ -26,7 +26,6 @@ use Rattle.cq_clauses.specs.Selected.{key_at, matching}
 use Rattle.cq_clauses.specs.Walks.{HasNoneLeft}
 use Rattle.cq_clauses.specs.declared.key.Key.{Key}
 use Rattle.cq_clauses.specs.declared.walk.Walk.{Walk}
-use Rattle.cq_control.specs.Open.{open_choices}
 use Rattle.cq_program.specs.Database.{Program, as_clause, as_database, as_indicator}
 use Rattle.cq_program.specs.Keys.{key_of}
 use Rattle.cq_stored.specs.StoredValue.{ClauseValue}
@@ -139,9 +138,9 @@ module _ (texts : List Text) (v : Program) (saved : List (Value Contents)) (choi
 
     module _ (row : user_row p (indicator_of g) ≡ Calls (map clause all))
         (selects : IsSelection p (named (text_of texts) (at now.0.heap.terms id)) (map clause all) (map clause some)) where
-      pub becomes : (more : List (Value Contents)) (after : List Alternatives) (later : Value Contents) (current : Option ℕ)
-          → WouldCome texts v saved choices now id walk rest more after later current → CallBecomes texts (stack texts v more after) later current p behind g
-      becomes more after later current comes = record {
+      pub becomes : (more : List (Value Contents)) (left : List Alternatives) (later : Value Contents) (current : Option ℕ)
+          → WouldCome texts v saved choices now id walk rest more left later current → CallBecomes texts (stack texts v more left) later current p behind g
+      becomes more left later current comes = record {
         all = map clause all;
         some = map clause some;
         row = row;

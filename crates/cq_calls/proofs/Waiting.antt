@@ -1,13 +1,10 @@
 -- The clauses of a call, which would wait as one more choice.
-use Rattle.std.proofs.Common.{◌≡◌, ℕ, ◌<◌, List, [], ◌∷◌, ◌++◌, length, map, Option, None, Some, refl, sym, ap, ◌∙◌, subst, arith, reverse}
+use Rattle.std.proofs.Common.{◌≡◌, ℕ, List, [], ◌∷◌, ◌++◌, length, map, Option, None, Some, refl, sym, ap, ◌∙◌, subst, arith, reverse}
 use Rattle.std.specs.Prelude.{slice_get}
 use Rattle.std.specs.List.{AllByRecursion, zip}
 use Rattle.std.proofs.lemmas.List.{length-map, reverse-append}
 use Rattle.spec_lists.specs.Texts.{Text}
-use Rattle.spec_syntax.specs.Trees.{Tree}
-use Rattle.spec_branch.specs.Branch.{Branch}
 use Rattle.spec_search.specs.Database.{Database}
-use Rattle.spec_search.specs.Replies.{Place}
 use Rattle.spec_search.specs.Search.{Search}
 use Rattle.cq_clauses.specs.Walks.{IsWalk}
 use Rattle.cq_clauses.specs.declared.walk.Walk.{Walk}
@@ -20,7 +17,7 @@ use Rattle.cq_world.specs.declared.world.World.{World}
 use Rattle.spec_machine.specs.declared.cell.Cell.{Cell}
 use Rattle.spec_machine.specs.Cells.{Clauses, Stack, Value}
 use Rattle.spec_machine.specs.Coming.{Comes}
-use Rattle.spec_machine.specs.Standing.{engine, IsPlace, AreWaiting, IsStanding}
+use Rattle.spec_machine.specs.Standing.{engine, AreWaiting, IsStanding}
 use Rattle.cq_steps.specs.Choices.{AreOpen, CanBeTried, LeavesAlso}
 use Rattle.cq_steps.specs.Lists.{KeepsLists}
 use Rattle.cq_steps.specs.Worlds.{IsBranch, term_in, value, saved_values, clauses_left, stack, left_at, Grown}
@@ -81,16 +78,24 @@ module _ (texts : List Text) (v : Program) (saved : List (Value Contents)) (choi
     waiting : AreWaiting (IsBranch texts) (term_in texts) one_more j.behind
     waiting = subst (λ st. AreWaiting (IsBranch texts) (term_in texts) st j.behind) stack_is j.waiting
 
-    place : (p : Place) × IsPlace (IsBranch texts) (term_in texts) older now k p
-    place = (waiting.3.0, waiting.3.4)
-
     -- so it is in a world in which more was built
     grown_waiting : (grown : Value Contents) → Grown texts now grown → AreWaiting (IsBranch texts) (term_in texts) ((grown, Clauses t (clauses_left texts v walk) k) ∷ older) j.behind
-    grown_waiting grown g =
-        (waiting.0, waiting.1, waiting.2, (waiting.3.0, waiting.3.1, waiting.3.2, g.terms t waiting.3.1 waiting.3.3, record {
-          continuation = continuation_grown (IsBranch texts) (term_in texts) older now grown g k place.0.rest place.0.state place.1.continuation;
-          height = place.1.height;
-        }), waiting.4)
+    grown_waiting grown g = (
+      waiting.0,
+      waiting.1,
+      waiting.2,
+      (
+        waiting.3.0,
+        waiting.3.1,
+        waiting.3.2,
+        g.terms t waiting.3.1 waiting.3.3,
+        record {
+          continuation = continuation_grown (IsBranch texts) (term_in texts) older now grown g k waiting.3.0.rest waiting.3.0.state waiting.3.4.continuation;
+          height = waiting.3.4.height;
+        },
+      ),
+      waiting.4,
+    )
 
     grown_stands : (grown : Value Contents) → Grown texts now grown → (more : List (Value Contents)) (after : List Alternatives) (later : Value Contents)
         → LeavesAlso saved choices grown (alternatives.Clauses t walk k) more after

@@ -69,11 +69,11 @@ IfCalledGoes Back P = ⊤
 IfCalledGoes Unknown P = ⊤
 
 -- The choices and the world are as they were; more continuations may be there.
-pub record IsStill (old new : World) (lists more : ContinuationsValue Cell) (before after : List Alternatives) : Type 0 where
+pub record IsStill (old new : World) (earlier later : ContinuationsValue Cell) (before after : List Alternatives) : Type 0 where
   pub choices : after ≡ before
-  pub saved : saved_values new more.saved ≡ saved_values old lists.saved
+  pub saved : saved_values new later.saved ≡ saved_values old earlier.saved
   pub world : now_of new ≡ now_of old
-  pub lists : KeepsLists lists.now more.now
+  pub lists : KeepsLists earlier.now later.now
 
 -- ---- the clauses of a call
 

@@ -126,7 +126,9 @@ fn call_clauses(
     if left.is_empty() {
         begin_only(world, choices, atoms, clauses, number, goal, walk, rest)
     } else {
-        begin_several(world, choices, atoms, clauses, number, goal, walk, left, rest)
+        begin_several(
+            world, choices, atoms, clauses, number, goal, walk, left, rest,
+        )
     }
 }
 

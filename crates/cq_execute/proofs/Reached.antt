@@ -15,7 +15,7 @@ use Rattle.spec_search.specs.Replies.{Place, Reply, made}
 use Rattle.spec_search.specs.Rows.{reply_of, reply_by, builtin_reply}
 use Rattle.spec_search.specs.Steps as steps
 use Rattle.spec_search.specs.Steps.{Steps, Ball, Children, ball_of}
-use Rattle.spec_machine.specs.Coming.{at_once, Comes}
+use Rattle.spec_machine.specs.Coming.{Comes}
 use Rattle.spec_machine.specs.Standing.{engine}
 use Rattle.cq_built.specs.Errors.{error_tree}
 use Rattle.cq_calls.specs.Calling.{CallBecomes}

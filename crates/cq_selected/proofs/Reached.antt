@@ -12,11 +12,9 @@ use Rattle.cq_ops.specs.Tables.{AreNamed}
 use Rattle.cq_program.specs.Database.{Program, IsProgram}
 use Rattle.cq_term.specs.Trees.{KnowsTerms}
 use Rattle.cq_world.specs.Contents.{Contents}
-use Rattle.spec_machine.specs.declared.cell.Cell.{Cell}
 use Rattle.spec_machine.specs.Cells.{Value, Stack}
 use Rattle.spec_machine.specs.Standing.{engine, IsStanding}
 use Rattle.cq_steps.specs.Choices.{AreOpen}
-use Rattle.cq_steps.specs.Lists.{KeepsLists}
 use Rattle.cq_steps.specs.Worlds.{IsBranch, term_in, stack, Leads, Grown}
 use Rattle.cq_steps.proofs.Selected.{standing_grown}
 use Rattle.cq_steps.specs.declared.alternatives.Alternatives.{Alternatives}

@@ -20,8 +20,8 @@ use cq_machine::{Machine, Step, build};
 use cq_term::{Heap, Pred, TermId, View};
 use std::alloc::AllocError;
 
-/// A goal calls a user predicate: the machine goes on with the only clause that may match it, or comes back, to several as a choice.
-/// It is an error of the goal that there is no such procedure.
+/// A goal calls a user predicate: the machine goes on with the first clause whose branch is kept, with the others as a choice, or
+/// comes back. It is an error of the goal that there is no such procedure.
 pub fn call_procedure(
     m: &mut Machine,
     predicate: Pred,

@@ -1,4 +1,4 @@
-use Rattle.std.proofs.Common.{◌≡◌, List, length, Some, refl, sym, ap, ap₂, ◌∙◌, subst}
+use Rattle.std.proofs.Common.{◌≡◌, List, length, Some, sym, ap, ap₂, ◌∙◌, subst}
 use Rattle.std.specs.Prelude.{slice_get}
 use Rattle.std.specs.List.{zip}
 use Rattle.cq_attr.proofs.Elements.{on_err}
@@ -81,8 +81,8 @@ wait-requires c =
     marked_same c.args.world.now.first c.begin_clause.new.world c.args.world.now.second.saved c.begin_clause.new.lists.saved c.args.choices.now c.in-Err.ensures.saved c.in-Err.ensures.lists
     c.requires.marked
 
-pub returns-in-Err-clause-comes : goal.returns-in-Err-clause-comes
-returns-in-Err-clause-comes c =
+pub returns-in_ok-wait-in-Err-clause-comes : goal.returns-in_ok-wait-in-Err-clause-comes
+returns-in_ok-wait-in-Err-clause-comes c =
     let now = value c.args.world.now.first c.args.world.now.second.now in
     let mid = value c.begin_clause.new.world c.begin_clause.new.lists.now in
     let more = saved_values c.wait.new.world.first c.wait.new.world.second.saved in
@@ -90,38 +90,38 @@ returns-in-Err-clause-comes c =
     now c.args.goal c.args.rest c.args.walk mid (same_grown c.args.atoms.now now.0 mid.0 now.1 mid.1 c.in-Err.ensures.err c.in-Err.ensures.keeps)
     more c.wait.new.choices (value c.wait.new.world.first c.wait.new.world.second.now)
     (subst (λ (l : List (Value Contents)). LeavesAlso l c.args.choices.now mid (Clauses c.args.goal c.args.walk c.args.rest) more c.wait.new.choices)
-    (ap₂ (λ (x : List Contents) (y : List (List (List Cell))). zip x y) c.in-Err.ensures.saved c.in-Err.ensures.lists) c.in_ok-wait.ensures.waits)
+    (ap₂ (λ (x : List Contents) (y : List (List (List Cell))). zip x y) c.in-Err.ensures.saved c.in-Err.ensures.lists) c.in_ok-wait-in-Err.ensures.waits)
 
-pub returns-in-Err-clause-open : goal.returns-in-Err-clause-open
-returns-in-Err-clause-open c = λ o.
+pub returns-in_ok-wait-in-Err-clause-open : goal.returns-in_ok-wait-in-Err-clause-open
+returns-in_ok-wait-in-Err-clause-open c = λ o.
     let same = ap₂ (λ (x : List Contents) (y : List (List (List Cell))). zip x y) c.in-Err.ensures.saved c.in-Err.ensures.lists in
     opens_also c.args.atoms.now c.args.clauses.now (saved_values c.begin_clause.new.world c.begin_clause.new.lists.saved) c.args.choices.now
     c.args.goal c.args.rest c.args.walk (value c.begin_clause.new.world c.begin_clause.new.lists.now)
-    (saved_values c.wait.new.world.first c.wait.new.world.second.saved) c.wait.new.choices c.in_ok-wait.ensures.waits c.requires.walk
+    (saved_values c.wait.new.world.first c.wait.new.world.second.saved) c.wait.new.choices c.in_ok-wait-in-Err.ensures.waits c.requires.walk
     (subst (λ (l : List (Value Contents)). AreOpen c.args.atoms.now c.args.clauses.now l c.args.choices.now) (sym same) o)
 
-pub returns-in-Err-clause-budget : goal.returns-in-Err-clause-budget
-returns-in-Err-clause-budget c = ap (λ (w : Contents). w.pivots) c.wait.ensures.world ∙ c.in-Err.ensures.budget
+pub returns-in_ok-wait-in-Err-clause-budget : goal.returns-in_ok-wait-in-Err-clause-budget
+returns-in_ok-wait-in-Err-clause-budget c = ap (λ (w : Contents). w.pivots) c.wait.ensures.world ∙ c.in-Err.ensures.budget
 
-pub returns-in-Err-clause-back : goal.returns-in-Err-clause-back
-returns-in-Err-clause-back c = c.wait.ensures.world ∙ c.in-Err.ensures.err
+pub returns-in_ok-wait-in-Err-clause-back : goal.returns-in_ok-wait-in-Err-clause-back
+returns-in_ok-wait-in-Err-clause-back c = c.wait.ensures.world ∙ c.in-Err.ensures.err
 
-pub returns-in_err-wait-clause-budget : goal.returns-in_err-wait-clause-budget
-returns-in_err-wait-clause-budget c = ap (λ (w : Contents). w.pivots) c.wait.ensures.world ∙ c.in-Err.ensures.budget
+pub returns-in_err-wait-in-Err-clause-budget : goal.returns-in_err-wait-in-Err-clause-budget
+returns-in_err-wait-in-Err-clause-budget c = ap (λ (w : Contents). w.pivots) c.wait.ensures.world ∙ c.in-Err.ensures.budget
 
-pub returns-in_err-wait-clause-err : goal.returns-in_err-wait-clause-err
-returns-in_err-wait-clause-err c =
+pub returns-in_err-wait-in-Err-clause-err : goal.returns-in_err-wait-in-Err-clause-err
+returns-in_err-wait-in-Err-clause-err c =
     let still : IsStill c.args.world.now.first c.wait.new.world.first c.args.world.now.second c.wait.new.world.second c.args.choices.now c.wait.new.choices =
     record {
-      choices = c.in_err-wait.ensures.err;
-      saved = c.in_err-wait.ensures.err_saved ∙ ap₂ (λ (x : List Contents) (y : List (List (List Cell))). zip x y) c.in-Err.ensures.saved c.in-Err.ensures.lists;
+      choices = c.in_err-wait-in-Err.ensures.err;
+      saved = c.in_err-wait-in-Err.ensures.err_saved ∙ ap₂ (λ (x : List Contents) (y : List (List (List Cell))). zip x y) c.in-Err.ensures.saved c.in-Err.ensures.lists;
       world = c.wait.ensures.world ∙ c.in-Err.ensures.err;
       lists = keeps_on c.args.world.now.second.now c.begin_clause.new.lists.now c.wait.new.world.second.now c.in-Err.ensures.keeps c.wait.ensures.lists;
     } in
     on_err c.from_residual.result still
 
-pub returns-in_err-wait-clause-open : goal.returns-in_err-wait-clause-open
-returns-in_err-wait-clause-open c = λ o.
-    subst (λ (cs : List Alternatives). AreOpen c.args.atoms.now c.args.clauses.now (saved_values c.wait.new.world.first c.wait.new.world.second.saved) cs) (sym c.in_err-wait.ensures.err)
+pub returns-in_err-wait-in-Err-clause-open : goal.returns-in_err-wait-in-Err-clause-open
+returns-in_err-wait-in-Err-clause-open c = λ o.
+    subst (λ (cs : List Alternatives). AreOpen c.args.atoms.now c.args.clauses.now (saved_values c.wait.new.world.first c.wait.new.world.second.saved) cs) (sym c.in_err-wait-in-Err.ensures.err)
     (subst (λ (l : List (Value Contents)). AreOpen c.args.atoms.now c.args.clauses.now l c.args.choices.now)
-    (sym (c.in_err-wait.ensures.err_saved ∙ ap₂ (λ (x : List Contents) (y : List (List (List Cell))). zip x y) c.in-Err.ensures.saved c.in-Err.ensures.lists)) o)
+    (sym (c.in_err-wait-in-Err.ensures.err_saved ∙ ap₂ (λ (x : List Contents) (y : List (List (List Cell))). zip x y) c.in-Err.ensures.saved c.in-Err.ensures.lists)) o)

@@ -1,4 +1,4 @@
-use Rattle.std.proofs.Common.{◌≡◌, ◌∷◌, ℕ, List, ap, ◌∙◌, subst}
+use Rattle.std.proofs.Common.{◌∷◌, ℕ, List, ap, ◌∙◌, subst}
 use Rattle.cq_clauses.specs.Walks.{HasNoneLeft}
 use Rattle.cq_steps.specs.Worlds.{saved_values, value}
 use Rattle.cq_calls.proofs.Left.{none_left}

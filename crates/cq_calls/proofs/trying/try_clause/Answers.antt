@@ -184,8 +184,7 @@ returns-in-Pruned-clause-left c =
 
 pub returns-in-Pruned-clause-others : goal.returns-in-Pruned-clause-others
 returns-in-Pruned-clause-others c =
-    let t = c.requires.next.trying in
-    (
+    let t = c.requires.next.trying in (
       Clauses c.args.goal c.requires.next.walk c.args.rest,
       Clauses c.args.goal c.args.left c.args.rest,
       t.older,

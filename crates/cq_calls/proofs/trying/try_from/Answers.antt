@@ -1,4 +1,4 @@
-use Rattle.std.proofs.Common.{◌≡◌, ◌<◌, ◌∷◌, List, length, Some, None, refl, sym, ap, ◌∙◌, subst, arith}
+use Rattle.std.proofs.Common.{◌≡◌, ◌<◌, ◌∷◌, length, Some, None, refl, sym, ap, ◌∙◌, subst, arith}
 use Rattle.cq_control.specs.Open.{open_choices}
 use Rattle.cq_world.specs.Contents.{Contents}
 use Rattle.cq_world.specs.Rest.{IsReady}
@@ -10,7 +10,7 @@ use Rattle.cq_steps.proofs.Budgets.{same_budget}
 use Rattle.cq_steps.proofs.Older.{newest_gone}
 use Rattle.cq_begin.specs.Stops.{ComesOn}
 use Rattle.cq_begin.proofs.Back.{back_still, comes_then, stops_then}
-use Rattle.cq_calls.specs.Trying.{IsTrying, KeepsOthers}
+use Rattle.cq_calls.specs.Trying.{IsTrying}
 use Rattle.cq_calls.proofs.Left.{same-first, gone_past, others_on}
 use Rattle.cq_calls.proofs.Newest.{arrives_past, fewer_past, open_past}
 use Rattle.cq_calls.proofs.Waiting.{keeps_all, keeps_both}
@@ -117,9 +117,11 @@ pub returns-in_default-clause-gone : goal.returns-in_default-clause-gone
 returns-in_default-clause-gone c =
     let t = rw c.in-Pruned.is at c.in-Ok.ensures.left in
     let newest = Clauses c.args.goal c.clauses.left c.args.rest in
-    gone_past
-    (newest, newest_gone c.back.result c.try_clause.new.choices c.back.new.self t.older newest (λ (x : Alternatives). c.try_clause.new.choices ≡ x ∷ c.back.new.self)
-    c.back.ensures.none c.back.ensures.contents c.back.ensures.contents t.newest)
+    gone_past (
+      newest,
+      newest_gone c.back.result c.try_clause.new.choices c.back.new.self t.older newest (λ (x : Alternatives). c.try_clause.new.choices ≡ x ∷ c.back.new.self)
+          c.back.ensures.none c.back.ensures.contents c.back.ensures.contents t.newest,
+    )
     (others_on (rw c.in-Pruned.is at c.in-Ok.ensures.others) c.clauses.invariant.others)
 
 pub returns-in_default-clause-fewer : goal.returns-in_default-clause-fewer
