@@ -140,7 +140,7 @@ pub(crate) fn try_from(
     let mut number = first;
     let mut left = behind;
     'clauses: loop {
-        match try_clause(world, choices, atoms, clauses, number, goal, left, rest) {
+        match try_clause(world, choices, atoms, clauses, number, goal, &left, rest) {
             Ok(begun) => match begun {
                 Begun::Goes(branch) => return Ok(Some(branch)),
                 Begun::Pruned => {
@@ -165,7 +165,7 @@ fn try_clause(
     clauses: &Clauses<ProgramClause>,
     number: ClauseNo,
     goal: TermId,
-    left: Walk,
+    left: &Walk,
     rest: Continuation,
 ) -> Result<Begun, StoreFault>
     requires ready { IsReady atoms.now (now_of world.old.first) }
@@ -175,7 +175,7 @@ fn try_clause(
     requires goal { goal < length world.old.first.heap.now.terms }
     requires rest { rest < length world.old.second.now }
     requires marked { AreMarked (saved_values world.old.first world.old.second.saved) choices.old }
-    requires next { IsNext clauses.now goal number left rest (saved_values world.old.first world.old.second.saved) choices.old
+    requires next { IsNext clauses.now goal number left.now rest (saved_values world.old.first world.old.second.saved) choices.old
         (value world.old.first world.old.second.now) }
     ensures comes { IfOk result (λ b. ComesOn atoms.now clauses.now world.old.first world.old.second choices.old
         world.new.first world.new.second choices.new (goes_to b)) }
@@ -183,7 +183,7 @@ fn try_clause(
         world.new.first world.new.second choices.new None) }
     ensures stops { IfErr result (AllStop atoms.now clauses.now world.old.first world.old.second choices.old) }
     ensures there { IfOk result (λ b. IfGoes b (λ k. k < length world.new.second.now)) }
-    ensures left { IfOk result (λ b. IfPruned b (IsTrying goal left rest (saved_values world.new.first world.new.second.saved) choices.new
+    ensures left { IfOk result (λ b. IfPruned b (IsTrying goal left.now rest (saved_values world.new.first world.new.second.saved) choices.new
         (value world.new.first world.new.second.now))) }
     ensures others { IfOk result (λ b. IfPruned b (KeepsOthers choices.old choices.new)) }
     ensures fewer { OnOk result (still_waiting atoms.now clauses.now world.new.first world.new.second choices.new
@@ -198,7 +198,7 @@ fn try_clause(
 {
     let clause = clauses.content(number).clause();
     let height = choices.height() - 1;
-    let untried = Untried::new(left);
+    let untried = Untried::new(*left);
     let others = Alternatives::Clauses(goal, untried, rest);
     match begin_clause(
         &mut world.first,
@@ -211,7 +211,7 @@ fn try_clause(
     ) {
         Ok(begun) => match begun {
             Begun::Goes(first) => {
-                leave_untried(world, choices, left, others);
+                leave_untried(world, choices, *left, others);
                 Ok(Begun::Goes(first))
             }
             Begun::Pruned => {

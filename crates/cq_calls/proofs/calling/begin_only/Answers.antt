@@ -77,9 +77,10 @@ returns-in-Pruned-clause-back c = rw c.in-Pruned.is at c.in-Ok.ensures.unchanged
 -- ---- at a fault the clause waits
 
 pub wait-requires : goal.wait-requires
-wait-requires c =
-    marked_same c.args.world.now.first c.begin_clause.new.world c.args.world.now.second.saved c.begin_clause.new.lists.saved c.args.choices.now c.in-Err.ensures.saved c.in-Err.ensures.lists
-    c.requires.marked
+wait-requires c = record {
+  marked = marked_same c.args.world.now.first c.begin_clause.new.world c.args.world.now.second.saved c.begin_clause.new.lists.saved c.args.choices.now c.in-Err.ensures.saved
+      c.in-Err.ensures.lists c.requires.marked;
+}
 
 pub returns-in_ok-wait-in-Err-clause-comes : goal.returns-in_ok-wait-in-Err-clause-comes
 returns-in_ok-wait-in-Err-clause-comes c =

@@ -47,10 +47,10 @@ grown c = (let t = c.requires.next.trying in same_grown c.args.atoms.now t.back.
 module _ (c : After-clause-clause) where
   -- what is left of the choice, over a world with the same marks
   left_then : (w : World) (lists : ContinuationsValue Cell) → saved_of w ≡ saved_of c.args.world.now.first → lists.saved ≡ c.args.world.now.second.saved → (o : Opened)
-      → Leaves (Clauses c.args.goal c.args.left c.args.rest) c.args.left (open_choices (saved_values w lists.saved) c.args.choices.now) o
-      → AreLeft (Clauses c.args.goal c.args.left c.args.rest) c.args.left (back c) (others c) o
+      → Leaves (Clauses c.args.goal c.args.left.now c.args.rest) c.args.left.now (open_choices (saved_values w lists.saved) c.args.choices.now) o
+      → AreLeft (Clauses c.args.goal c.args.left.now c.args.rest) c.args.left.now (back c) (others c) o
   left_then w lists e f o l =
-      are_left (Clauses c.args.goal c.args.left c.args.rest) c.args.left (back c) (Clauses c.args.goal (walk c) c.args.rest) (others c)
+      are_left (Clauses c.args.goal c.args.left.now c.args.rest) c.args.left.now (back c) (Clauses c.args.goal (walk c) c.args.rest) (others c)
       (open_choices (saved_values w lists.saved) c.args.choices.now) o
       (open_same c.args.world.now.first w c.args.world.now.second.saved lists.saved c.args.choices.now _ e f (was c)) l
 
@@ -59,7 +59,7 @@ module _ (c : After-clause-clause) where
   marked_then w lists e f = marked_same c.args.world.now.first w c.args.world.now.second.saved lists.saved c.args.choices.now e f c.requires.marked
 
 pub overflow_sub-height : goal.overflow_sub-height
-overflow_sub-height c = omega (arith, ap length c.requires.next.trying.newest)
+overflow_sub-height c = omega (arith, c.height-height.ensures, ap length c.requires.next.trying.newest)
 
 high : (c : After-height-height) → c.height-height.result - 1 ≡ length c.requires.next.trying.others
 high c =
@@ -90,10 +90,10 @@ leave_untried-requires-clause-some c = omega (arith, ap length c.requires.next.t
 
 -- what is left, by the walk
 left_by : (c : After-leave_untried)
-    → Leaves (Clauses c.args.goal c.args.left c.args.rest) c.args.left (open_choices (saved_values c.begin_clause.new.world c.begin_clause.new.lists.saved) c.args.choices.now)
+    → Leaves (Clauses c.args.goal c.args.left.now c.args.rest) c.args.left.now (open_choices (saved_values c.begin_clause.new.world c.begin_clause.new.lists.saved) c.args.choices.now)
     (open_choices (saved_values c.leave_untried.new.world.first c.leave_untried.new.world.second.saved) c.leave_untried.new.choices)
 left_by c =
-    subst (λ (x : Walk). Leaves (Clauses c.args.goal x c.args.rest) c.args.left (open_choices (saved_values c.begin_clause.new.world c.begin_clause.new.lists.saved) c.args.choices.now)
+    subst (λ (x : Walk). Leaves (Clauses c.args.goal x c.args.rest) c.args.left.now (open_choices (saved_values c.begin_clause.new.world c.begin_clause.new.lists.saved) c.args.choices.now)
     (open_choices (saved_values c.leave_untried.new.world.first c.leave_untried.new.world.second.saved) c.leave_untried.new.choices)) c.new-untried.ensures c.leave_untried.ensures.leaves
 
 pub returns-in-Goes-clause-comes : goal.returns-in-Goes-clause-comes
@@ -101,7 +101,7 @@ returns-in-Goes-clause-comes c = λ steps db n s j.
     let r = (goal.at.returns-in-Goes-clause-comes c).After-clause-clause in
     let fewer = saved_values c.leave_untried.new.world.first c.leave_untried.new.world.second.saved in
     arrives_left c.args.atoms.now c.args.clauses.now (before r) c.args.choices.now (now r) (back r) c.args.goal c.args.rest (walk r) (others r) (was r)
-    c.args.left c.args.number c.requires.next.next db n s j (now r) (grown r) c.clause-clause.result.now (kept_is (goal.at.returns-in-Goes-clause-comes c).After-clause-clause)
+    c.args.left.now c.args.number c.requires.next.next db n s j (now r) (grown r) c.clause-clause.result.now (kept_is (goal.at.returns-in-Goes-clause-comes c).After-clause-clause)
     (c.height-height.result - 1) (high (goal.at.returns-in-Goes-clause-comes c).After-height-height)
     (value c.begin_clause.new.world c.begin_clause.new.lists.now) (value c.leave_untried.new.world.first c.leave_untried.new.world.second.now)
     (ap₂ (λ (x : Contents) (l : List (List Cell)). (x, l)) c.leave_untried.ensures.first c.leave_untried.ensures.lists) (Goes c.in-Goes.first) (rw c.in-Goes.is at c.in-Ok.ensures.comes)
@@ -114,7 +114,7 @@ returns-in-Goes-clause-fewer c =
     let r = (goal.at.returns-in-Goes-clause-fewer c).After-clause-clause in
     let fewer = saved_values c.leave_untried.new.world.first c.leave_untried.new.world.second.saved in
     fewer_wait c.args.atoms.now c.args.clauses.now (before r) c.args.choices.now (now r) (back r) c.args.goal c.args.rest (walk r) (others r) (was r)
-    c.args.left c.args.number c.requires.next.next fewer c.leave_untried.new.choices
+    c.args.left.now c.args.number c.requires.next.next fewer c.leave_untried.new.choices
     (left_then r c.begin_clause.new.world c.begin_clause.new.lists c.in-Ok.ensures.saved c.in-Ok.ensures.lists (open_choices fewer c.leave_untried.new.choices)
     (left_by (goal.at.returns-in-Goes-clause-fewer c).After-leave_untried))
 
@@ -123,7 +123,7 @@ returns-in-Goes-clause-open c = λ o.
     let r = (goal.at.returns-in-Goes-clause-open c).After-clause-clause in
     let fewer = saved_values c.leave_untried.new.world.first c.leave_untried.new.world.second.saved in
     open_left c.args.atoms.now c.args.clauses.now (before r) c.args.choices.now (now r) (back r) c.args.goal c.args.rest (walk r) (others r) (was r)
-    fewer c.leave_untried.new.choices c.args.left c.requires.next.opened o
+    fewer c.leave_untried.new.choices c.args.left.now c.requires.next.opened o
     (left_then r c.begin_clause.new.world c.begin_clause.new.lists c.in-Ok.ensures.saved c.in-Ok.ensures.lists (open_choices fewer c.leave_untried.new.choices)
     (left_by (goal.at.returns-in-Goes-clause-open c).After-leave_untried))
 
@@ -140,7 +140,7 @@ returns-in-Goes-clause-lists c =
 
 -- ---- it is pruned
 
-put_back : (c : After-replace_at) → c.replace_at.new.self ≡ Clauses c.args.goal c.args.left c.args.rest ∷ c.requires.next.trying.older
+put_back : (c : After-replace_at) → c.replace_at.new.self ≡ Clauses c.args.goal c.args.left.now c.args.rest ∷ c.requires.next.trying.older
 put_back c =
     changed_newest c.replace_at.ensures.0 c.args.choices.now c.replace_at.new.self c.requires.next.trying.older (Clauses c.args.goal c.requires.next.walk c.args.rest) c.replace_at.result
     (Clauses c.args.goal c.new-untried.result c.args.rest) (c.height-height.result - 1) c.requires.next.trying.newest
@@ -149,11 +149,11 @@ put_back c =
 
 left_open : (c : After-replace_at) → saved_of c.begin_clause.new.world ≡ saved_of c.args.world.now.first → c.begin_clause.new.lists.saved ≡ c.args.world.now.second.saved
     → open_choices (saved_values c.begin_clause.new.world c.begin_clause.new.lists.saved) c.replace_at.new.self
-    ≡ (c.requires.next.trying.back, Clauses c.args.goal c.args.left c.args.rest) ∷ c.requires.next.trying.others
+    ≡ (c.requires.next.trying.back, Clauses c.args.goal c.args.left.now c.args.rest) ∷ c.requires.next.trying.others
 left_open c e f =
     let t = c.requires.next.trying in
     replaced (saved_values c.begin_clause.new.world c.begin_clause.new.lists.saved) c.args.choices.now c.replace_at.new.self t.older
-    (Clauses c.args.goal c.requires.next.walk c.args.rest) (Clauses c.args.goal c.args.left c.args.rest) t.back t.others t.newest (put_back c)
+    (Clauses c.args.goal c.requires.next.walk c.args.rest) (Clauses c.args.goal c.args.left.now c.args.rest) t.back t.others t.newest (put_back c)
     (open_same c.args.world.now.first c.begin_clause.new.world c.args.world.now.second.saved c.begin_clause.new.lists.saved c.args.choices.now _ e f t.goes_back)
 
 pub returns-in-Pruned-clause-comes : goal.returns-in-Pruned-clause-comes
@@ -163,7 +163,7 @@ returns-in-Pruned-clause-comes c = λ steps db n s j.
     let saved = saved_values c.begin_clause.new.world c.begin_clause.new.lists.saved in
     let later = value c.begin_clause.new.world c.begin_clause.new.lists.now in
     arrives_left c.args.atoms.now c.args.clauses.now (before r) c.args.choices.now (now r) (back r) c.args.goal c.args.rest (walk r) (others r) (was r)
-    c.args.left c.args.number c.requires.next.next db n s j (now r) (grown r) c.clause-clause.result.now (kept_is (goal.at.returns-in-Pruned-clause-comes c).After-clause-clause)
+    c.args.left.now c.args.number c.requires.next.next db n s j (now r) (grown r) c.clause-clause.result.now (kept_is (goal.at.returns-in-Pruned-clause-comes c).After-clause-clause)
     (c.height-height.result - 1) (high (goal.at.returns-in-Pruned-clause-comes c).After-height-height) later later refl Pruned (rw c.in-Pruned.is at c.in-Ok.ensures.comes)
     saved c.replace_at.new.self steps
     (inr (left_open x c.in-Ok.ensures.saved c.in-Ok.ensures.lists))
@@ -186,7 +186,7 @@ pub returns-in-Pruned-clause-others : goal.returns-in-Pruned-clause-others
 returns-in-Pruned-clause-others c =
     let t = c.requires.next.trying in (
       Clauses c.args.goal c.requires.next.walk c.args.rest,
-      Clauses c.args.goal c.args.left c.args.rest,
+      Clauses c.args.goal c.args.left.now c.args.rest,
       t.older,
       t.newest,
       put_back (goal.at.returns-in-Pruned-clause-others c).After-replace_at,
@@ -201,7 +201,7 @@ returns-in-Pruned-clause-fewer c =
     let x = (goal.at.returns-in-Pruned-clause-fewer c).After-replace_at in
     let saved = saved_values c.begin_clause.new.world c.begin_clause.new.lists.saved in
     fewer_wait c.args.atoms.now c.args.clauses.now (before r) c.args.choices.now (now r) (back r) c.args.goal c.args.rest (walk r) (others r) (was r)
-    c.args.left c.args.number c.requires.next.next saved c.replace_at.new.self
+    c.args.left.now c.args.number c.requires.next.next saved c.replace_at.new.self
     (inr (left_open x c.in-Ok.ensures.saved c.in-Ok.ensures.lists))
 
 pub returns-in-Pruned-clause-marked : goal.returns-in-Pruned-clause-marked
@@ -216,7 +216,7 @@ returns-in-Pruned-clause-open c = λ o.
     let x = (goal.at.returns-in-Pruned-clause-open c).After-replace_at in
     let saved = saved_values c.begin_clause.new.world c.begin_clause.new.lists.saved in
     open_left c.args.atoms.now c.args.clauses.now (before r) c.args.choices.now (now r) (back r) c.args.goal c.args.rest (walk r) (others r) (was r)
-    saved c.replace_at.new.self c.args.left c.requires.next.opened o
+    saved c.replace_at.new.self c.args.left.now c.requires.next.opened o
     (inr (left_open x c.in-Ok.ensures.saved c.in-Ok.ensures.lists))
 
 pub returns-in-Pruned-clause-budget : goal.returns-in-Pruned-clause-budget
@@ -234,7 +234,7 @@ pub returns-in-Err-clause-stops : goal.returns-in-Err-clause-stops
 returns-in-Err-clause-stops c = λ db n s j.
     let r = (goal.at.returns-in-Err-clause-stops c).After-clause-clause in
     fault_stops c.args.atoms.now c.args.clauses.now (before r) c.args.choices.now (now r) (back r) c.args.goal c.args.rest (walk r) (others r) (was r)
-    c.args.left c.args.number c.requires.next.next db n s j (now r) (grown r) c.clause-clause.result.now (kept_is (goal.at.returns-in-Err-clause-stops c).After-clause-clause)
+    c.args.left.now c.args.number c.requires.next.next db n s j (now r) (grown r) c.clause-clause.result.now (kept_is (goal.at.returns-in-Err-clause-stops c).After-clause-clause)
     (c.height-height.result - 1) (high (goal.at.returns-in-Err-clause-stops c).After-height-height)
     c.in-Err.fault c.args.world.now.first.store.pivots c.args.world.now.first.store.pivots refl
     (λ pair e. c.in-Err.ensures.overflow pair (ap (λ (f : StoreFault). Err f) e)) (λ m e. c.in-Err.ensures.pivots m (ap (λ (f : StoreFault). Err f) e))

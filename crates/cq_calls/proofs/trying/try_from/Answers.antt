@@ -51,6 +51,12 @@ returns-in-Goes-clause-comes c =
     comes_then c.args.atoms.now c.args.clauses.now c.args.world.now.first c.clauses.world.first c.args.world.now.second c.clauses.world.second c.args.choices.now c.clauses.choices
     c.clauses.invariant.comes c.try_clause.new.world.first c.try_clause.new.world.second c.try_clause.new.choices (Some c.in-Goes.branch) (rw c.in-Goes.is at c.in-Ok.ensures.comes)
 
+pub returns-in-Goes-clause-there : goal.returns-in-Goes-clause-there
+returns-in-Goes-clause-there c = rw c.in-Goes.is at c.in-Ok.ensures.there
+
+pub returns-in-Goes-clause-open : goal.returns-in-Goes-clause-open
+returns-in-Goes-clause-open c = λ o. c.in-Ok.ensures.open (c.clauses.invariant.are_open o)
+
 -- ---- it is pruned
 
 -- the choices of before, once it is
@@ -168,3 +174,9 @@ pub returns-in-Err-clause-stops : goal.returns-in-Err-clause-stops
 returns-in-Err-clause-stops c =
     stops_then c.args.atoms.now c.args.clauses.now c.args.world.now.first c.clauses.world.first c.args.world.now.second c.clauses.world.second c.args.choices.now c.clauses.choices
     c.clauses.invariant.comes c.in-Err.fault c.clauses.invariant.budget c.in-Err.ensures.stops
+
+pub returns-in-Err-clause-open : goal.returns-in-Err-clause-open
+returns-in-Err-clause-open c = λ o. c.in-Err.ensures.open (c.clauses.invariant.are_open o)
+
+pub returns-in-Err-clause-err_world : goal.returns-in-Err-clause-err_world
+returns-in-Err-clause-err_world c = c.in-Err.ensures.err_world ∙ c.clauses.invariant.world
