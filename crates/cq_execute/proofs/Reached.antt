@@ -1,5 +1,5 @@
 -- What a step says of the goal that was selected.
-use Rattle.std.proofs.Common.{◌≡◌, ℕ, List, [], ◌++◌, map, true, Option, Some, None, refl, sym, ap, ◌∙◌, subst}
+use Rattle.std.proofs.Common.{◌≡◌, ℕ, List, [], map, true, Option, Some, None, refl, sym, ap, ◌∙◌, subst}
 use Rattle.spec_lists.specs.Texts.{Text}
 use Rattle.spec_terms.specs.Term.{Var, Number, Name, Compound}
 use Rattle.spec_syntax.specs.Trees.{Tree}
