@@ -16,13 +16,13 @@ loop-variable-preserved c =
     let at : i < length c.as_slice-newly.result.now = omega (arith, c.loop-variable-test.true) in
     one_more c.args.world.now.attrs.now c.as_slice-newly.result.now i d at c.loop-variable.invariant (sym c.is_numeric.ensures ∙ c.if-is_numeric.false)
 
-pub returns-then-is_empty-3-clause-idle : goal.returns-then-is_empty-3-clause-idle
-returns-then-is_empty-3-clause-idle c = λ e.
+pub returns-then-is_empty-clause-idle : goal.returns-then-is_empty-clause-idle
+returns-then-is_empty-clause-idle c = λ e.
     let vs = c.as_slice-newly.result.now in
     nothing_bound (now_of c.args.world.now) c.args.work.now.newly vs c.args.work.now.told.items c.args.work.now.rows.items
     (empty_list c.args.work.now.told.items (vec_len c.args.work.now.told) c.is_empty.result (omega (arith, c.args.work.now.told.ok.0)) c.is_empty.ensures c.if-not-is_empty.false)
     (empty_list c.args.work.now.rows.items (vec_len c.args.work.now.rows) c.is_empty-2.result (omega (arith, c.args.work.now.rows.ok.0)) c.is_empty-2.ensures c.if-not-is_empty-2.false) c.as_slice-newly.ensures
-    (empty_list vs (length vs) c.is_empty-3.result refl c.is_empty-3.ensures c.if-is_empty-3.true)
+    (empty_list vs (length vs) c.is_empty-3.result refl c.is_empty-3.ensures c.if-is_empty.true)
 
 pub returns-clause-idle : goal.returns-clause-idle
 returns-clause-idle c = λ e.
