@@ -27,7 +27,7 @@ ghost use Rattle.cq_linear.specs.Fallen.{FallsAt};
 use crate::entering::{Entered, has_joined};
 use crate::facing::fallen_disequation;
 use crate::falling::fallen_certificate;
-use crate::solving::{enter_by_new, new_place};
+use crate::solving::{enter_by_new, free_column_of, new_place};
 use crate::store::StoreFault;
 use cq_dict::dict::{Col, Dict};
 use cq_form::{Cert, Constraint, Form};
@@ -443,10 +443,13 @@ fn above_certificate(
 }
 
 /// Makes a row of a form over the quantities, and brings it to zero, or to where it can cross zero, or shows that it can't be zero.
+///
+/// It can cross by the quantity of a new variable wherever it stands.
 fn approach(
     dict: &mut Dict,
     places: &[Entry],
     constant: Frac,
+    new: Option<usize>,
     pivots: u64,
 ) -> Result<Approached, SimplexFault>
     requires { IsToJoinSome (quantities_of dict.old) places.now constant }
@@ -459,6 +462,9 @@ fn approach(
         → (n ≡ pivots) × OfJoining (quantities_of dict.old) places.now constant (λ told names c. MayTake told (Only c) NoQuestion n) }
 {
     let q = dict.add_row(places, constant, false)?;
+    if let Some(column) = free_column_of(dict, q, new) {
+        return Ok(Approached::Crossing(q, column));
+    }
     match level(dict, q, pivots)? {
         Levelled::Level => Ok(Approached::Zero(q)),
         Levelled::Crossing(column) => Ok(Approached::Crossing(q, column)),
@@ -499,7 +505,7 @@ pub fn enter_equation(
     let places = place(numbers, names, dict, alloc, &c.form)?;
     let new = new_place(&places, known);
     let start = dict.mark()?;
-    match approach(dict, &places, c.form.constant(), pivots) {
+    match approach(dict, &places, c.form.constant(), new, pivots) {
         Ok(Approached::Zero(q)) => {
             dict.forget(start);
             enter_zero(alloc, pivots, numbers, names, dict, told, c, q)
@@ -551,7 +557,7 @@ pub fn can_enter_equation(
     let known = names.len();
     let places = place(numbers, names, dict, alloc, &c.form)?;
     let new = new_place(&places, known);
-    match approach(dict, &places, c.form.constant(), pivots)? {
+    match approach(dict, &places, c.form.constant(), new, pivots)? {
         Approached::Zero(q) => {
             let entered = enter_zero(alloc, pivots, numbers, names, dict, told, c, q)?;
             Ok(has_joined(entered))
