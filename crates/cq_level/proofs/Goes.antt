@@ -1,5 +1,5 @@
 -- The steps of a row towards zero.
-use Rattle.std.proofs.Common.{◌≡◌, ℕ, zero, suc, ◌+◌, ◌<◌, ◌≤◌, List, [], ◌∷◌, length, get_or, take, Bool, true, false, inl, inr, Some, Result, Err, pos, arith, refl, ap, sym, subst, ◌∙◌}
+use Rattle.std.proofs.Common.{◌≡◌, ℕ, zero, suc, ◌+◌, ◌<◌, ◌≤◌, List, [], ◌∷◌, length, get_or, take, Bool, true, false, inl, inr, Option, None, Some, is_some, Result, Err, pos, arith, refl, ap, sym, subst, ◌∙◌}
 use Rattle.std.specs.Prelude.{◌↔◌}
 use Rattle.spec_rational.specs.Rational.{ℚ, 0ℚ, neg_ℚ, IsPositive, IsNotNegative, ◌<ℚ◌, ◌≤ℚ◌}
 use Rattle.spec_rational.proofs.Ring.{var, int, ◌⊕◌, minus}
@@ -24,6 +24,7 @@ use Rattle.cq_simplex.specs.declared.SimplexFault.{SimplexFault}
 use Rattle.cq_simplex.specs.declared.SimplexFault.TheVariants.{Overflow}
 use Rattle.cq_simplex.specs.Answers.{IsFaultOf}
 use Rattle.cq_simplex.specs.Dictionary.{dictionary, IsReached}
+use Rattle.cq_simplex.specs.Turns.{IsFreeColumn}
 use Rattle.cq_simplex.proofs.Entries.{factor_of, has_entry, raises_is, first_enters, none_raises}
 use Rattle.cq_simplex.proofs.Steps.{begins, step}
 use Rattle.cq_simplex.proofs.Roles.{dropped_after}
@@ -351,6 +352,10 @@ pub spent_further : (q : ℕ) (old mid : List Role) (flags : List Bool) → IsCa
 spent_further q old mid flags r n p = record { from = p.from; carried = carried_further old flags q mid r p.from p.carried; up = p.up; last = p.last; spent = p.spent }
 
 -- ---- a column by which the row comes nearer
+pub none_is_free : (roles : List Role) (flags : List Bool) (q : ℕ) (found : Option ℕ) → IsFreeColumn roles flags q found → is_some found ≡ false → HasNoFreeColumn roles flags q
+none_is_free roles flags q None h e = h
+none_is_free roles flags q (Some c) h e = (let k : ⊥ = cc in absurd k)
+
 module _ (roles : List Role) (flags : List Bool) (q : ℕ) (row : IsRow roles q) (table : AreOverColumns roles) (up : Bool) where
   pub slope_raises : (m : Entry) → rows.Has m row.0.live → IsPositive (slope_of up m.factor) → is_restricted flags m.quantity ≡ true
       → Raises (is_restricted flags) (dictionary (towards up roles q) q) m.quantity

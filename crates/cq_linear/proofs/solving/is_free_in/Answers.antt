@@ -19,8 +19,8 @@ is_restricted-requires c =
     entry_below c.args.dict.now.roles c.args.dict.now.restricted c.requires.table c.args.q own c.requires.row.1 (record { quantity = c.args.n; factor = c.in-Some.field-0 })
     (subst (Has (record { quantity = c.args.n; factor = c.in-Some.field-0 })) (c.row.ensures.entries own c.requires.row.1) c.in-Some.ensures)
 
-pub returns-in-Some : goal.returns-in-Some
-returns-in-Some c = λ t.
+pub returns-else-is_restricted : goal.returns-else-is_restricted
+returns-else-is_restricted c = λ t.
     let own = c.requires.row.0 in
     free_is c.args.dict.now.roles c.args.dict.now.restricted c.requires.table c.args.q own c.requires.row.1 (record { quantity = c.args.n; factor = c.in-Some.field-0 })
     (subst (Has (record { quantity = c.args.n; factor = c.in-Some.field-0 })) (c.row.ensures.entries own c.requires.row.1) c.in-Some.ensures)
