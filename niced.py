@@ -7,14 +7,18 @@ def want(pid,cwd,cmd):
     low=[x for x in read(f'{S}/LOW').split() if x]
     crit=[x for x in read(f'{S}/CRIT').split() if x]
     if 'niced.py' in cmd: return -19
-    if cmd.startswith('/root/.pyenv') and ('plainbin/rt' in cmd or 'memobin/rt' in cmd): return -18
+    if 'seed.py' in cmd: return -4
+    if 'pybin/rt' in cmd or (cmd.startswith('/root/.pyenv') and ('plainbin/rt' in cmd or 'memobin/rt' in cmd)): return -18
     if cmd.startswith('/root/.pyenv') and ' ci' in cmd and '/rt' in cmd: return -12
     m=re.match(r'/work/s/(h_\w+)',cwd)
     if m:
         v=read(f'{S}/nice_{m[1]}').strip()
-        return int(v) if v else 10
+        return int(v) if v else 19
     if cwd.startswith('/tmp/rt-edit-'):
         return int(read(f'{S}/EDITNICE').strip() or -5)
+    m3=re.match(r'/tmp/rt-copy-(\d+)-',cwd)
+    if m3 and m3[1] in read(f'{S}/LOWPIDS').split():
+        return int(read(f'{S}/LOWNICE').strip() or 0)
     m=re.match(r'/tmp/rt-copy-\d+-[^/]*/repo/crates/(\w+)',cwd) or re.match(r'/work/s/(?:gate|libs)\w*/crates/(\w+)',cwd)
     if m:
         if m[1] in crit: return -15
