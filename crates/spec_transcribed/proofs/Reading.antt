@@ -10,7 +10,7 @@ use Rattle.spec_transcript.specs.declared.Source.{Source}
 use Rattle.spec_transcript.specs.declared.Source.TheVariants.{File, Input}
 use Rattle.spec_transcript.specs.Purposes.{once}
 use Rattle.spec_transcript.specs.Session as session
-use Rattle.spec_transcript.specs.Session.{Asked, Reader, beginning, Asker, ADirective, AQuery, Session, Opening, Reading, Searching, Over, Stands, begun, names_from, Marks, unmarked, Transcript}
+use Rattle.spec_transcript.specs.Session.{Asked, Reader, beginning, ADirective, Session, Opening, Reading, Searching, Over, begun}
 use Rattle.spec_transcribed.specs.Existing.{AreThere, AnswersHaveForms}
 use Rattle.spec_transcribed.proofs.Searching.{onward}
 use Rattle.spec_transcribed.proofs.Clauses.{Comes, IsLater, searched, clause_read, error_read}

@@ -1,7 +1,6 @@
-use Rattle.std.proofs.Common.{◌∷◌, List, sym, subst}
+use Rattle.std.proofs.Common.{sym, subst}
 use Rattle.cq_control.specs.Items.{items_at}
 use Rattle.cq_steps.specs.Marks.{IsFront}
-use Rattle.spec_machine.specs.declared.cell.Cell.{Cell}
 use Rattle.cq_engine.proofs.front.is_at_front.Goals as goal
 
 pub returns-in-Some : goal.returns-in-Some
