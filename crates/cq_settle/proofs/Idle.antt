@@ -1,6 +1,6 @@
 -- A settling with nothing to do.
 use Rattle.std.proofs.Common.{◌≡◌, ◌<◌, ℕ, ◌+◌, List, [], ◌∷◌, ◌++◌, map, length, take, get_or, Bool, true, false, cond, Option, None, refl, sym, ap, ap₂, ◌∙◌, subst, inl, inr, arith, ◌||◌}
-use Rattle.std.specs.Prelude.{Contains, All, filter, not, ◌&&◌, ◌==◌}
+use Rattle.std.specs.Prelude.{Contains, All, filter, not, ◌&&◌, ◌==◌, if◌then◌else◌}
 use Rattle.std.specs.List.{AllZip, list_any, filter_map, cons_option}
 use Rattle.std.proofs.lemmas.Bool.{true≢false}
 use Rattle.std.proofs.lemmas.List.{take_more}
