@@ -112,8 +112,14 @@ impl Attrs {
         ensures err { OnErr result ((n : ℕ) × IsWokenBy self.now.now (numbers_of newly.now) n) }
     {
         let mut found = Vec::new(self.alloc);
+        if self.slots.is_empty() {
+            return Ok(found);
+        }
         for variable in newly {
             find_awake(&self.watchers, &self.slots, *variable, &mut found)?;
+        }
+        if found.len() < 2 {
+            return Ok(found);
         }
         found.sort_unstable();
         found.dedup();
