@@ -3,11 +3,12 @@ use Rattle.std.proofs.Common.{◌≡◌, ℕ, zero, suc, ◌+◌, List, [], ◌�
 use Rattle.std.proofs.lemmas.List.{length-map}
 use Rattle.spec_terms.specs.Term.{Var}
 use Rattle.cq_term.specs.Meaning.{HeapTerm, at}
-use Rattle.cq_term.specs.Layout.{Contents, IsMarked, terms_at, meant, with_vars}
+use Rattle.cq_term.specs.Layout.{Contents, IsMarked, terms_at, meant, with_var, with_vars}
 use Rattle.cq_term.specs.Shown.{variables_from}
+use Rattle.cq_term.specs.declared.lists.Cell.TheVariants as cell
 use Rattle.cq_term.specs.declared.heap.Place.{Place}
 use Rattle.cq_term.proofs.Cells.{meant_var, images_with_var}
-use Rattle.cq_term.proofs.Marks.{marked_var, saved_var}
+use Rattle.cq_term.proofs.Marks.{same_contents, marked_var, saved_var}
 
 variables_from-more : (n k : ℕ) → variables_from n (suc k) ≡ variables_from n k ++ Var (n + k) ∷ []
 variables_from-more n zero = (let e : n ≡ n + 0 = omega arith in ap (λ m. Var m ∷ []) e)
@@ -24,6 +25,13 @@ next_variable ts us new n k m before number last =
 bound_vars : (x : Contents) (n : ℕ) → length (with_vars n x).bound ≡ length x.bound + n
 bound_vars x zero = omega arith
 bound_vars x (suc n) = omega (arith, bound_vars x n, length-append (with_vars n x).bound (None ∷ []))
+
+-- the lists after the pushes of one more variable
+pub one_more_var : (x y first : Contents) (k m : ℕ) → x ≡ with_vars k first → y.cells ≡ x.cells ++ cell.Var (length x.bound) ∷ [] → y.wide ≡ x.wide → y.args ≡ x.args →
+    y.vars ≡ x.vars ++ length x.cells ∷ [] → y.bound ≡ x.bound ++ None ∷ [] → y.order ≡ x.order → m ≡ suc k → y ≡ with_vars m first
+one_more_var x y first k m before a b c d e f next =
+    let step : y ≡ with_var x = same_contents a b c d e f in
+    step ∙ ap with_var before ∙ ap (λ n. with_vars n first) (sym next)
 
 module _ (x : Contents) (marks : List Place) (is : IsMarked x marks) where
   marked_vars : (n : ℕ) → IsMarked (with_vars n x) marks

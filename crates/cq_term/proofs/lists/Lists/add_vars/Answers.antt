@@ -1,7 +1,8 @@
-use Rattle.std.proofs.Common.{◌≡◌, ◌+◌, ◌∙◌, ◌++◌, ◌∷◌, [], suc, ap, sym, refl, arith}
-use Rattle.cq_term.specs.Layout.{contents, with_var, with_vars}
+use Rattle.std.proofs.Common.{◌≡◌, ◌+◌, ◌∙◌, ◌++◌, ◌∷◌, [], suc, ap, refl, arith}
+use Rattle.cq_term.specs.Layout.{contents, with_vars}
 use Rattle.cq_term.specs.declared.lists.Cell.TheVariants as cell
 use Rattle.cq_term.proofs.Marks.{same_contents}
+use Rattle.cq_term.proofs.Variables.{one_more_var}
 use Rattle.cq_term.proofs.lists.Lists.add_vars.Goals as goal
 
 pub loop-made-init : goal.loop-made-init
@@ -15,16 +16,13 @@ loop-made-init c = record {
 pub loop-made-preserved : goal.loop-made-preserved
 loop-made-preserved c =
     let before = c.loop-made.self in
-    let next : suc c.loop-made._made ≡ c.loop-made._made + 1 = omega arith in
     record {
-      contents = same_contents
+      contents = one_more_var (contents before) _ (contents c.args.self.now) c.loop-made._made (c.loop-made._made + 1) c.loop-made.invariant.contents
           (c.push_reserved.ensures.items ∙ ap (λ n. before.cells.items ++ cell.Var n ∷ []) (c.len-variable.ensures ∙ before.bound.ok.0))
           refl refl
           (c.push_reserved-2.ensures.items ∙ ap (λ n. before.vars.items ++ n ∷ []) (c.new.ensures ∙ c.len-id.ensures ∙ before.cells.ok.0))
           c.push_reserved-3.ensures.items
-          refl
-          ∙ ap with_var c.loop-made.invariant.contents
-          ∙ ap (λ n. with_vars n (contents c.args.self.now)) next;
+          refl (omega arith);
       cells = omega (arith, c.loop-made.invariant.cells, c.push_reserved.ensures.len, c.push_reserved.ensures.capacity, c.loop-made.auto._made-end);
       vars = omega (arith, c.loop-made.invariant.vars, c.push_reserved-2.ensures.len, c.push_reserved-2.ensures.capacity, c.loop-made.auto._made-end);
       bound = omega (arith, c.loop-made.invariant.bound, c.push_reserved-3.ensures.len, c.push_reserved-3.ensures.capacity, c.loop-made.auto._made-end);
