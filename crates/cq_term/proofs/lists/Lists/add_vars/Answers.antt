@@ -20,12 +20,12 @@ loop-made-preserved c =
       contents = one_more_var (contents before) _ (contents c.args.self.now) c.loop-made._made (c.loop-made._made + 1) c.loop-made.invariant.contents
           (c.push_reserved.ensures.items ∙ ap (λ n. before.cells.items ++ cell.Var n ∷ []) (c.len-variable.ensures ∙ before.bound.ok.0))
           refl refl
-          (c.push_reserved-2.ensures.items ∙ ap (λ n. before.vars.items ++ n ∷ []) (c.new.ensures ∙ c.len-id.ensures ∙ before.cells.ok.0))
-          c.push_reserved-3.ensures.items
+          (c.push_reserved-in-loop-made.ensures.items ∙ ap (λ n. before.vars.items ++ n ∷ []) (c.new.ensures ∙ c.len-id.ensures ∙ before.cells.ok.0))
+          c.push_reserved-in-loop-made-2.ensures.items
           refl (omega arith);
       cells = omega (arith, c.loop-made.invariant.cells, c.push_reserved.ensures.len, c.push_reserved.ensures.capacity, c.loop-made.auto._made-end);
-      vars = omega (arith, c.loop-made.invariant.vars, c.push_reserved-2.ensures.len, c.push_reserved-2.ensures.capacity, c.loop-made.auto._made-end);
-      bound = omega (arith, c.loop-made.invariant.bound, c.push_reserved-3.ensures.len, c.push_reserved-3.ensures.capacity, c.loop-made.auto._made-end);
+      vars = omega (arith, c.loop-made.invariant.vars, c.push_reserved-in-loop-made.ensures.len, c.push_reserved-in-loop-made.ensures.capacity, c.loop-made.auto._made-end);
+      bound = omega (arith, c.loop-made.invariant.bound, c.push_reserved-in-loop-made-2.ensures.len, c.push_reserved-in-loop-made-2.ensures.capacity, c.loop-made.auto._made-end);
     }
 
 pub returns-clause-first : goal.returns-clause-first
