@@ -7,3 +7,4 @@ pub mod Marks
 pub mod Known
 pub mod Named
 pub mod Images
+pub mod Variables

@@ -5,7 +5,7 @@ use Rattle.spec_lists.specs.Prefixes.{IsPrefix}
 use Rattle.cq_term.specs.Names.{HasNamesBelow}
 use Rattle.cq_stored.specs.Pattern.{read, IsNamedBelow}
 use Rattle.cq_stored.specs.Building.{image_from}
-use Rattle.cq_stored.proofs.building.build.Given as goal
+use Rattle.cq_stored.proofs.building.build_in.Given as goal
 
 abbrev pub invariant-loop-i : goal.invariant-loop-i
 invariant-loop-i l = record {
