@@ -24,7 +24,7 @@ use Rattle.cq_dict.specs.Dict.{SameMeaning}
 use Rattle.cq_dict.specs.Holders.{AreTouched}
 use Rattle.cq_dict.proofs.Free.{same_numbers}
 use Rattle.cq_dict.proofs.Held.{contains_or_not}
-use Rattle.cq_dict.proofs.Roles.{at_below, live_at, dropped_at, role_live, role_dropped, role_is, row_on}
+use Rattle.cq_dict.proofs.Roles.{at_below, dropped_at, role_is, live_on, dropped_on, row_on}
 use Rattle.cq_tableau.specs.declared.names.Name.{Name}
 use Rattle.cq_tableau.specs.declared.names.Name.TheVariants.{Variable}
 use Rattle.cq_tableau.specs.Fixing.{AreOpenAmong}
@@ -93,11 +93,11 @@ module _ (old new : List Role) (r c : ℕ) (entry : HasEntry old r c) (x : IsEli
 
   pub open_still : IsOpen old z → IsOpen new z
   open_still (open_row own m rest at e) = let now = row_now (own, at) in open_row now.0 m rest now.1 ((numbers_stay own at).live ∙ e)
-  open_still (open_column at) = open_column (role_live new z (kind.live ∙ live_at old z Live at))
+  open_still (open_column at) = open_column (live_on old new z kind at)
 
   number_still : (v : ℚ) → IsNumber old z v → IsNumber new z v
   number_still v (number_row own at e i) = let now = row_now (own, at) in number_row now.0 now.1 ((numbers_stay own at).live ∙ e) (i ∙ sym (numbers_stay own at).constant)
-  number_still v (dropped_column at i) = dropped_column (role_dropped new z (kind.dropped ∙ dropped_at old z Dropped at)) i
+  number_still v (dropped_column at i) = dropped_column (dropped_on old new z kind at) i
 
   pub not_zero_still : IsNotZero old z → IsNotZero new z
   not_zero_still (inl h) = inl (open_still h)
