@@ -1,6 +1,6 @@
 -- An elimination leaves the rows that do not hold its column as they are: no variable of theirs gets a value, and no disequation of
 -- theirs falls.
-use Rattle.std.proofs.Common.{◌≡◌, ℕ, zero, suc, ◌+◌, ◌<◌, List, [], ◌∷◌, ◌++◌, length, Bool, true, Option, None, Some, ◌⊎◌, inl, inr, arith, refl, ap, sym, subst, ◌∙◌}
+use Rattle.std.proofs.Common.{◌≡◌, ℕ, ◌+◌, ◌<◌, List, [], ◌∷◌, ◌++◌, length, Bool, true, Option, None, Some, ◌⊎◌, inl, inr, arith, refl, ap, sym, subst, ◌∙◌}
 use Rattle.std.specs.Prelude.{slice_get, slice_index, MatchOption}
 use Rattle.std.specs.List.{Contains}
 use Rattle.std.proofs.lemmas.List.{get_or_default}
@@ -18,7 +18,7 @@ use Rattle.cq_row.specs.declared.Entry.{Entry}
 use Rattle.cq_row.specs.Row.{Row}
 use Rattle.cq_row.specs.Rows.{Has, IsRowFrom}
 use Rattle.cq_dict.specs.declared.table.Role.{Role}
-use Rattle.cq_dict.specs.declared.table.Role.TheVariants.{Live, Dropped, Basic}
+use Rattle.cq_dict.specs.declared.table.Role.TheVariants.{Dropped, Basic}
 use Rattle.cq_dict.specs.Roles.{IsAt, IsRow, AreOverColumns, HasEntry, IsOfOneKind, IsEliminated, SameNumbers, is_live, is_dropped}
 use Rattle.cq_dict.specs.Dict.{SameMeaning}
 use Rattle.cq_dict.specs.Holders.{AreTouched}
@@ -36,6 +36,7 @@ use Rattle.cq_tableau.proofs.Tied.{entry_live}
 use Rattle.cq_tableau.proofs.Steps.{form_more}
 use Rattle.cq_linear.specs.Equated.{IsRowBehind}
 use Rattle.cq_linear.specs.Faced.{IsNotZero, AllApart, AllApartAmong}
+use Rattle.cq_linear.proofs.Alone.{state}
 use Rattle.cq_linear.proofs.Equations.{live_still, still_dropped, roles_size}
 use Rattle.cq_linear.proofs.Stays.{Covers}
 use Rattle.cq_linear.proofs.Stops.{has_member}
@@ -103,24 +104,6 @@ module _ (old new : List Role) (r c : ℕ) (entry : HasEntry old r c) (x : IsEli
   not_zero_still (inl h) = inl (open_still h)
   not_zero_still (inr h) = inr (h.0, number_still h.0 h.1, h.2)
 
--- ---- each quantity is open, or has a value
-role_here : (roles : List Role) (n : ℕ) → n < length roles → (t : Role) × IsAt roles n t
-role_here [] n l = absurd (omega (arith, l))
-role_here (t ∷ roles) zero l = (t, refl)
-role_here (t ∷ roles) (suc n) l = role_here roles n (omega (arith, l))
-
-by_live : (roles : List Role) (n : ℕ) (own : Row) → IsAt roles n (Basic own) → (s : List Entry) → own.live ≡ s → IsOpen roles n ⊎ ((v : ℚ) × IsNumber roles n v)
-by_live roles n own at [] e = inr (own.constant, number_row own at e refl)
-by_live roles n own at (m ∷ rest) e = inl (open_row own m rest at e)
-
-by_role : (roles : List Role) (n : ℕ) (t : Role) → IsAt roles n t → IsOpen roles n ⊎ ((v : ℚ) × IsNumber roles n v)
-by_role roles n Live at = inl (open_column at)
-by_role roles n Dropped at = inr (0ℚ, dropped_column at refl)
-by_role roles n (Basic own) at = by_live roles n own at own.live refl
-
-open_or_number : (roles : List Role) (n : ℕ) → n < length roles → IsOpen roles n ⊎ ((v : ℚ) × IsNumber roles n v)
-open_or_number roles n l = let t = role_here roles n l in by_role roles n t.0 t.1
-
 -- ---- the disequations stand before
 module _ (told : List Constraint) (names : List Name) (c : Constraint) (roles : List Role) (flags : List Bool) (q : ℕ) (b : IsRowBehind told names c roles flags q) where
   number_flat : (z : ℕ) (v : ℚ) → IsNumber roles z v → v ≡ 0ℚ → IsFlat (Within (tableau roles flags (b.stored.forms ++ c.form ∷ []))) (form_at (b.stored.forms ++ c.form ∷ []) z)
@@ -138,7 +121,7 @@ module _ (told : List Constraint) (names : List Name) (c : Constraint) (roles : 
       form_more b.stored.forms c.form z (member_below z m) ∙ sym w.form_is ∙ ap (λ (t : Constraint). t.form) (same_Some w.constraint m.constraint (sym w.told_at ∙ m.told_at))
 
   pub apart_before : (z : ℕ) → IsMemberOf IsApart told names z → IsNotZero roles z
-  apart_before z m = elim (open_or_number roles z below_roles) [
+  apart_before z m = elim (state roles z below_roles) [
     | inl o ↦ inl o
     | inr n ↦ inr (n.0, n.1, λ e. moving.apart (ap (value_at moving.at) (sym (member_form z m)) ∙ number_flat z n.0 n.1 e moving.at moving.inside))
   ]
@@ -197,7 +180,7 @@ module _ (told : List Constraint) (names : List Name) (c : Constraint) (roles : 
             | inl g ↦ inl g
             | inr g ↦ inr (inl (g.0, subst (λ i. IsNumber roles i g.0) p.2 g.1))
           ]
-      | inr k ↦ elim (open_or_number roles n (below_roles n l)) [
+      | inr k ↦ elim (state roles n (below_roles n l)) [
         | inl o ↦ inr (inr (open_still roles new q column entry x same b.keeps.table table touched t n k o))
         | inr v ↦ inr (inl v)
       ]
