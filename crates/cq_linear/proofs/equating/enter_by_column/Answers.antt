@@ -44,8 +44,8 @@ open_among-requires-clause-ascending c = subst IsStrictlyIncreasing (sym c.deref
 pub eliminate-requires : goal.eliminate-requires
 eliminate-requires c = c.requires.crosses.entry
 
-pub fallen_among-requires : goal.fallen_among-requires
-fallen_among-requires c = λ r h.
+pub fallen_among-fallen-requires : goal.fallen_among-fallen-requires
+fallen_among-fallen-requires c = λ r h.
     let x = c.in_ok-eliminate.ensures.kinds.size in
     let l = c.in_ok-rows.ensures.within r (subst (λ (s : List ℕ). Contains s r) c.deref-2.ensures.value h) in
     omega (arith, x, l)
