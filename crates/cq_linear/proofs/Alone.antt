@@ -100,8 +100,8 @@ module _ (told : List Constraint) (names : List Name) (c : Constraint) (n : ℕ)
       apart k b (inl r) h e = not_pos_zero (subst IsPositive e (subst (λ t. Meets t (value_at b k.form)) r h))
       apart k b (inr r) h e = subst (λ t. Meets t (value_at b k.form)) r h e
 
--- ---- what a quantity is after an exchange
-state : (roles : List Role) (z : ℕ) → z < length roles → IsOpen roles z ⊎ ((v : ℚ) × IsNumber roles z v)
+-- ---- what a quantity is
+pub state : (roles : List Role) (z : ℕ) → z < length roles → IsOpen roles z ⊎ ((v : ℚ) × IsNumber roles z v)
 state roles z h = let a = at_exists roles z h in role a.0 a.1
   where
     row : (own : Row) → IsAt roles z (Basic own) → (live : List Entry) → own.live ≡ live → IsOpen roles z ⊎ ((v : ℚ) × IsNumber roles z v)

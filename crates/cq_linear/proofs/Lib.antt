@@ -20,3 +20,4 @@ pub mod Alone
 pub mod Valued
 pub mod Spent
 pub mod Possible
+pub mod Untouched

@@ -1,5 +1,5 @@
 -- The face where the form of a new inequality is zero.
-use Rattle.std.specs.Prelude.{◌≡◌, ◌⊎◌, ℕ, ◌<◌, List, [], ◌∷◌, ◌++◌, Bool, true, false, length, slice_set, Option, None, Some, MatchBool}
+use Rattle.std.specs.Prelude.{◌≡◌, ◌⊎◌, ℕ, ◌<◌, List, [], ◌∷◌, ◌++◌, Bool, true, false, length, slice_index, slice_set, Option, None, Some, MatchBool}
 use Rattle.spec_rational.specs.Rational.{ℚ, 0ℚ, IsPositive}
 use Rattle.spec_linear.specs.Form.{Linear}
 use Rattle.spec_linear.specs.Solution.{Constraint}
@@ -57,6 +57,11 @@ IsZeroNow roles n b = MatchBool b (IsNumber roles n 0ℚ) (IsNotZero roles n)
 -- those of disequations are not zero everywhere
 abbrev pub AllApart : List Constraint → List Name → List Role → Type 0
 AllApart told names roles = (q : ℕ) → q < length roles → IsMemberOf IsApart told names q → IsNotZero roles q
+
+-- those of disequations, of the quantities of these numbers, are not zero everywhere
+abbrev pub AllApartAmong : List ℕ → List Constraint → List Name → List Role → Type 0
+AllApartAmong rows told names roles =
+    (k : ℕ) → k < length rows → IsMemberOf IsApart told names (slice_index rows k) → IsNotZero roles (slice_index rows k)
 
 -- one of them is zero everywhere
 abbrev pub IsFallenApart : List Constraint → List Name → List Role → ℕ → Type 0

@@ -25,7 +25,7 @@ ghost use Rattle.cq_linear.specs.StoreValue.{MayRefuse, MayTake, Only};
 ghost use Rattle.cq_linear.specs.Fallen.{FallsAt};
 
 use crate::entering::{Entered, has_joined};
-use crate::facing::fallen_disequation;
+use crate::facing::{fallen_among, fallen_disequation};
 use crate::falling::fallen_certificate;
 use crate::solving::{enter_by_new, free_column_of, new_place};
 use crate::store::StoreFault;
@@ -36,7 +36,7 @@ use cq_level::choosing::lightest_column;
 use cq_level::levelling::{Levelled, level};
 use cq_row::Entry;
 use cq_simplex::SimplexFault;
-use cq_tableau::fixing::{fixed_now, open_variables};
+use cq_tableau::fixing::{fixed_now, open_among, open_variables};
 use cq_tableau::looking::look_again;
 use cq_tableau::names::Name;
 use cq_tableau::negating::negated;
@@ -99,7 +99,7 @@ fn conclude(
 }
 
 /// Enters an equation by a column that may take its row's place: the equation's own quantity is a dropped column then. As the form has
-/// values above and below zero, no inequality comes to be zero by it.
+/// values above and below zero, no inequality comes to be zero by it. Only the rows that hold the column change: no other is looked at.
 fn enter_by_column(
     alloc: Global,
     pivots: u64,
@@ -125,9 +125,10 @@ fn enter_by_column(
     ensures dict_saved { dict.new.saved ≡ dict.old.saved }
     ensures dict_room { dict.old.room ≤ dict.new.room }
 {
-    let before = open_variables(alloc, names, dict)?;
+    let rows = dict.touched(column)?;
+    let before = open_among(alloc, names, dict, &rows)?;
     dict.eliminate(q, column)?;
-    let fallen = fallen_disequation(told, names, dict);
+    let fallen = fallen_among(told, names, dict, &rows);
     conclude(
         alloc, pivots, numbers, names, dict, told, c, &before, fallen,
     )

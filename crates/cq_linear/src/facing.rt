@@ -1,12 +1,13 @@
 //! The face where the form of a new inequality is zero, which is its greatest value there.
 
 ghost use Rattle.std.specs.Prelude.{◌≡◌, ◌≤◌, ◌<◌, ℕ, length, IfOk, OnOk, MatchOption, MatchBool};
+ghost use Rattle.std.specs.List.{Contains};
 ghost use Rattle.spec_linear.specs.declared.Relation.TheVariants.{Ne};
 ghost use Rattle.cq_frac.specs.declared.Pair.{Pair};
 ghost use Rattle.cq_linear.specs.declared.store.StoreFault.TheVariants.{Overflow, Pivots};
 ghost use Rattle.cq_tableau.specs.Looked.{IsApart};
 ghost use Rattle.cq_tableau.specs.Stored.{IsMemberOf};
-ghost use Rattle.cq_linear.specs.Faced.{KeepsSome, IsFace, HoldsAtZero, AllApart, IsFallenApart, IsZeroNow, IsFaced, RefusesFace, SpendsFace};
+ghost use Rattle.cq_linear.specs.Faced.{KeepsSome, IsFace, HoldsAtZero, AllApart, AllApartAmong, IsFallenApart, IsZeroNow, IsFaced, RefusesFace, SpendsFace};
 
 use crate::store::StoreFault;
 use cq_dict::dict::Dict;
@@ -74,6 +75,24 @@ pub fn fallen_disequation(told: &[Constraint], names: &Stack<Name>, dict: &Dict)
     for q in 0..dict.count() {
         if is_of_disequation(told, names, q) && is_zero_now(dict, q) {
             return Some(q);
+        }
+    }
+    None
+}
+
+/// Such a quantity, of those of these numbers.
+pub fn fallen_among(
+    told: &[Constraint],
+    names: &Stack<Name>,
+    dict: &Dict,
+    rows: &[usize],
+) -> Option<usize>
+    requires { (r : ℕ) → Contains rows.now r → r < length dict.now.roles }
+    ensures { MatchOption result (AllApartAmong rows.now told.now names.now.now dict.now.roles) (IsFallenApart told.now names.now.now dict.now.roles) }
+{
+    for q in rows {
+        if is_of_disequation(told, names, *q) && is_zero_now(dict, *q) {
+            return Some(*q);
         }
     }
     None
