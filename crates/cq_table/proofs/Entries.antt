@@ -1,9 +1,8 @@
 -- Built-in predicates in lists by the numbers of their names.
-use Rattle.std.proofs.Common.{◌≡◌, ℕ, suc, ◌+◌, ◌<◌, ◌≤◌, arith, List, [], ◌∷◌, ◌++◌, length, Bool, true, false, cond, ◌==◌, Bor, Option, Some, None, find, nat_lt, refl, sym, ap, subst, ◌∙◌, inl, inr, ◌⊎◌, set}
+use Rattle.std.proofs.Common.{◌≡◌, ℕ, zero, suc, ◌<◌, ◌≤◌, arith, List, [], ◌∷◌, ◌++◌, length, Bool, true, false, cond, ◌==◌, Bor, Option, Some, None, find, refl, sym, ap, subst, ◌∙◌, inl, inr, ◌⊎◌, set}
 use Rattle.std.specs.Prelude.{All, is_some, slice_get, slice_index_or}
 use Rattle.std.specs.Option.{option_map}
 use Rattle.std.specs.Cmp.Lexicographic.{bytes_decides}
-use Rattle.std.proofs.lemmas.Bool.Decides.{nat_tests}
 use Rattle.std.proofs.lemmas.List.{get_or_past, get_or-set_same, get_or-set_other}
 use Rattle.std.proofs.lemmas.List.Elements.{recursion_from_All}
 use Rattle.std.proofs.lemmas.Option.{slice_get-get_or, none-some, same_Some}
@@ -36,23 +35,12 @@ put_at old mid number b within same k = go (k == number) refl
         (get_or-set_same mid number (Some b) None within)
     go false e = get_or-set_other mid number k (Some b) None (nat_eq-other k number e) ∙ same k
 
--- places behind the end that are filled with nothing
-pub widened : (old mid : List (Option Builtin)) (n : ℕ) → length mid ≡ n
-    → ((k : ℕ) (d : Option Builtin) → k < n → k < length old → slice_index_or mid k d ≡ slice_index_or old k d)
-    → ((k : ℕ) (d : Option Builtin) → length old ≤ k → k < n → slice_index_or mid k d ≡ None) → length old < n
-    → (k : ℕ) → slice_index_or mid k None ≡ slice_index_or old k None
-widened old mid n size front behind more k = go (nat_lt k (length old)) refl (nat_lt k n) refl
-  where
-    go : (s : Bool) → nat_lt k (length old) ≡ s → (t : Bool) → nat_lt k n ≡ t → slice_index_or mid k None ≡ slice_index_or old k None
-    go true e t f = front k None (grind (arith, nat_tests)) (grind (arith, nat_tests))
-    go false e true f = behind k None (grind (arith, nat_tests)) (grind (arith, nat_tests)) ∙ sym (get_or_past old k None (grind (arith, nat_tests)))
-    go false e false f = get_or_past mid k None (grind (arith, nat_tests)) ∙ sym (get_or_past old k None (grind (arith, nat_tests)))
-
--- where nothing stands, the list has ended
-ended : {A : Type 0} (xs : List A) (i : ℕ) → slice_get xs i ≡ None → length xs ≤ i
-ended [] i e = omega arith
-ended (x ∷ xs) 0 e = absurd (none-some x (sym e))
-ended (x ∷ xs) (suc i) e = let h = ended xs i e in omega (arith, h)
+-- nothing that is put at the end
+pub pushed_none : (xs : List (Option Builtin)) (k : ℕ) → slice_index_or (xs ++ None ∷ []) k None ≡ slice_index_or xs k None
+pushed_none [] zero = refl
+pushed_none [] (suc k) = refl
+pushed_none (x ∷ xs) zero = refl
+pushed_none (x ∷ xs) (suc k) = pushed_none xs k
 
 -- ---- more names
 
@@ -69,7 +57,7 @@ with_kept old new keeps n entries a = record {
 }
 
 pub builtins_kept : (old new : List Text) → KeepsTexts old new → (table : Builtins) → AreBuiltins old table → AreBuiltins new table
-builtins_kept old new keeps table a = record { size = a.size; with = λ n entries e. with_kept old new keeps n entries (a.with n entries e) }
+builtins_kept old new keeps table a = record { size = a.size; lists = λ n entries e. with_kept old new keeps n entries (a.lists n entries e) }
 
 -- ---- one more entry
 
@@ -121,6 +109,9 @@ has_all texts entries n rows are all name h = by (find (is_named name) rows) ref
         (recursion_from_All (λ (row : Bor Text × Builtin). HasEntry texts entries row.0.now) rows all) x e in
         subst (HasEntry texts entries) ((bytes_decides x.0.now name).0 f.1) f.0
 
+pub none_by_arity : (texts : List Text) (by_arity : List Entries) → by_arity ≡ [] → AreByArity texts by_arity
+none_by_arity texts by_arity none n found e = absurd (none-some found (subst (λ (xs : List Entries). slice_get xs n ≡ Some found) none e))
+
 -- one number of arguments after the other
 pub by_arity_more : (old new : List Text) (by_arity : List Entries) (entries : Entries) → KeepsTexts old new → AreByArity old by_arity → AreWith new (length by_arity) entries
     → AreByArity new (by_arity ++ entries ∷ [])
@@ -155,11 +146,11 @@ module _ (texts : List Text) (different : AreDifferent texts) (n number : ℕ) (
           sym (ap (λ t. builtin_of (indicator t n)) same ∙ r.is)
 
   -- with more arguments there is none
-  pub none_found : (by_arity : List Entries) → length by_arity ≡ 9 → slice_get by_arity n ≡ None → None ≡ builtin_of (indicator (text_of texts number) n)
-  none_found by_arity size e = by (builtin_of (indicator (text_of texts number) n)) refl
+  pub none_found : (by_arity : List Entries) → 9 ≤ length by_arity → length by_arity ≤ n → None ≡ builtin_of (indicator (text_of texts number) n)
+  none_found by_arity size more = by (builtin_of (indicator (text_of texts number) n)) refl
     where
       past : 9 ≤ n
-      past = let h = ended by_arity n e in omega (arith, h, size)
+      past = omega (arith, more, size)
 
       by : (o : Option definition.Builtin) → builtin_of (indicator (text_of texts number) n) ≡ o → None ≡ o
       by None f = refl

@@ -1,5 +1,5 @@
 -- The built-in predicates by the numbers of their names.
-use Rattle.std.specs.Prelude.{◌≡◌, ℕ, List, Some, length, is_some, true, slice_get}
+use Rattle.std.specs.Prelude.{◌≡◌, ◌≤◌, ℕ, List, Some, length, is_some, true, slice_get}
 use Rattle.spec_lists.specs.Texts.{Text}
 use Rattle.spec_built.specs.Built.{indicator}
 use Rattle.spec_search.specs.Builtins.{builtin_of, is_built_in}
@@ -35,5 +35,5 @@ AreByArity texts by_arity = (n : ℕ) (entries : Entries) → slice_get by_arity
 
 -- the table has the built-in predicates, which have at most eight arguments, and nothing else
 pub record AreBuiltins (texts : List Text) (table : Builtins) : Type 0 where
-  pub size : length table.by_arity.items ≡ 9
-  pub with : AreByArity texts table.by_arity.items
+  pub size : 9 ≤ length table.by_arity.items
+  pub lists : AreByArity texts table.by_arity.items

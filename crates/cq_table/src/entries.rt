@@ -1,7 +1,6 @@
 // Built-in predicates by number.
 
-ghost use Rattle.std.specs.Prelude.{◌≡◌, ℕ, ◌≤◌, [], Some, ◌==◌, cond, OnOk};
-ghost use Rattle.std.specs.Vec.{vec_len};
+ghost use Rattle.std.specs.Prelude.{◌≡◌, ℕ, [], Some, ◌==◌, cond, OnOk};
 ghost use Rattle.cq_table.specs.Entries.{entry};
 
 use crate::builtins::Builtin;
@@ -27,32 +26,20 @@ impl Entries {
     pub(crate) fn get(&self, number: usize) -> Option<Builtin>
         ensures { result ≡ entry self.now number }
     {
-        if number < self.builtins.len() {
-            self.builtins[number]
-        } else {
-            None
+        if number >= self.builtins.len() {
+            return None;
         }
+        self.builtins[number]
     }
 
     /// Puts a built-in predicate at a number.
     pub(crate) fn put(&mut self, number: usize, builtin: Builtin) -> Result<(), AllocError>
         ensures { OnOk result ((k : ℕ) → entry self.new k ≡ cond (k == number) (Some builtin) (entry self.old k)) }
     {
-        let width = number.checked_add(1).ok_or(AllocError)?;
-        self.widen(width)?;
-        self.builtins[number] = Some(builtin);
-        Ok(())
-    }
-
-    /// Makes room for so many numbers.
-    fn widen(&mut self, width: usize) -> Result<(), AllocError>
-        ensures same { (k : ℕ) → entry self.new k ≡ entry self.old k }
-        ensures wide { OnOk result (width ≤ vec_len self.new.builtins) }
-    {
-        if width <= self.builtins.len() {
-            return Ok(());
+        while self.builtins.len() <= number {
+            self.builtins.push(None)?;
         }
-        self.builtins.resize(width, None)?;
+        self.builtins[number] = Some(builtin);
         Ok(())
     }
 }

@@ -42,17 +42,19 @@ impl Builtins {
         ensures { (texts : List Text) → AreBuiltins texts self.now → AreDifferent texts → pred.name < length texts
             → option_map as_builtin result ≡ builtin_of (indicator (text_of texts pred.name) pred.arity) }
     {
-        match self.by_arity.get(pred.arity) {
-            Some(entries) => entries.get(pred.name.index()),
-            None => None,
+        let Pred { name, arity } = pred;
+        if arity >= self.by_arity.len() {
+            return None;
         }
+        let number = name.index();
+        self.by_arity[arity].get(number)
     }
 }
 
 /// Those with so many arguments; their names are given numbers.
 fn entries_with(alloc: Global, atoms: &mut Atoms, arity: usize) -> Result<Entries, AllocError>
     requires different { AreDifferent atoms.old }
-    ensures with { IfOk result (AreWith atoms.new arity) }
+    ensures entries { IfOk result (AreWith atoms.new arity) }
     ensures kept { KeepsTexts atoms.old atoms.new }
     ensures different { AreDifferent atoms.new }
 {

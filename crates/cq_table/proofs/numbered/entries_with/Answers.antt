@@ -1,5 +1,5 @@
-use Rattle.std.proofs.Common.{◌≡◌, Bor, length, sym, subst, arith}
-use Rattle.std.specs.Prelude.{Some, slice_get}
+use Rattle.std.proofs.Common.{Bor, length, ap, subst, ◌∙◌, arith}
+use Rattle.std.specs.Prelude.{slice_get}
 use Rattle.std.proofs.lemmas.List.{get_or_default}
 use Rattle.std.proofs.lemmas.List.Elements.{AllWithin-more, AllWithin-upto, All-from_all_within}
 use Rattle.spec_lists.specs.Texts.{Text}
@@ -7,6 +7,9 @@ use Rattle.cq_table.specs.Numbered.{HasEntry}
 use Rattle.cq_table.specs.declared.builtins.Builtin.{Builtin}
 use Rattle.cq_table.proofs.Entries.{right_put, entry_put, has_put, none_right, has_all}
 use Rattle.cq_table.proofs.numbered.entries_with.Goals as goal
+
+pub loop-name-init : goal.loop-name-init
+loop-name-init c = ((λ x text e. e), c.requires.different, none_right _ c.args.arity _ c.new-entries.ensures, λ x d low l. absurd (omega (arith, l)))
 
 pub loop-name-preserved : goal.loop-name-preserved
 loop-name-preserved c =
@@ -16,24 +19,23 @@ loop-name-preserved c =
     let before = c.loop-name.entries in
     let after = c.put.new.self in
     let n = c.args.arity in
+    let k = c.loop-name.name-index in
     let number = c.index.result in
     let keeps = c.number_of.ensures.kept in
     let put = c.in_ok-put.ensures in
     let rows = c.rows-name-items.result.now in
     let P = λ (row : Bor Text × Builtin). HasEntry new after row.0.now in
-    let row = λ (d : Bor Text × Builtin). get_or_default rows c.loop-name.name-index _ d (omega arith) in (
-      (λ k text e. keeps k text (i.0 k text e)),
+    let named = ap (slice_get new) c.index.ensures ∙ c.in_ok-number.ensures.number in (
+      (λ x text e. keeps x text (i.0 x text e)),
       c.number_of.ensures.different,
-      right_put old new n before after number _ keeps put
-          (record { name = _; named = subst (λ k. slice_get new k ≡ Some _) (sym c.index.ensures) c.in_ok-number.ensures.number; is = c.rows-name-items.ensures.right c.loop-name.name-index _ (omega arith) })
-          i.2,
-      AllWithin-more P rows 0 c.loop-name.name-index
-          (λ k d low l. entry_put old new n before after number _ keeps put _ (i.3 k d low l))
-          (λ d. subst P (row d) (has_put old new n before after number _ keeps put _ (subst (λ k. slice_get new k ≡ Some _) (sym c.index.ensures) c.in_ok-number.ensures.number))),
+      right_put old new n before after number _ keeps put (record { name = _; named = named; is = c.rows-name-items.ensures.right k _ (omega arith) }) i.2,
+      AllWithin-more P rows 0 k
+          (λ x d low l. entry_put old new n before after number _ keeps put _ (i.3 x d low l))
+          (λ d. subst P (get_or_default rows k _ d (omega arith)) (has_put old new n before after number _ keeps put _ named)),
     )
 
-pub returns-clause-with : goal.returns-clause-with
-returns-clause-with c =
+pub returns-clause-entries : goal.returns-clause-entries
+returns-clause-entries c =
     let rows = c.rows-name-items.result.now in
     let P = λ (row : Bor Text × Builtin). HasEntry c.loop-name.atoms c.loop-name.entries row.0.now in
     record {
