@@ -18,7 +18,7 @@ use Rattle.cq_table.specs.Names.{as_builtin}
 use Rattle.cq_table.specs.Numbered.{HasEntry, IsRight, AreRight, AreWith, AreByArity, AreBuiltins}
 use Rattle.cq_table.specs.Rows.{AreRows, is_named}
 use Rattle.cq_table.specs.declared.builtins.Builtin.{Builtin}
-use Rattle.cq_table.specs.declared.entries.Entries.{Entries}
+use Rattle.cq_table.specs.declared.listed.Entries.{Entries}
 use Rattle.cq_table.specs.declared.numbered.Builtins.{Builtins}
 use Rattle.cq_table.proofs.Table.{found_passes, never, none_other}
 

@@ -1,7 +1,7 @@
 -- Built-in predicates by number.
 use Rattle.std.specs.Prelude.{ℕ, Option, None, slice_index_or}
 use Rattle.cq_table.specs.declared.builtins.Builtin.{Builtin}
-use Rattle.cq_table.specs.declared.entries.Entries.{Entries}
+use Rattle.cq_table.specs.declared.listed.Entries.{Entries}
 
 -- what is at the number
 abbrev pub entry : Entries → ℕ → Option Builtin

@@ -6,7 +6,7 @@ use Rattle.spec_search.specs.Builtins.{builtin_of, is_built_in}
 use Rattle.cq_table.specs.Entries.{entry}
 use Rattle.cq_table.specs.Names.{as_builtin}
 use Rattle.cq_table.specs.declared.builtins.Builtin.{Builtin}
-use Rattle.cq_table.specs.declared.entries.Entries.{Entries}
+use Rattle.cq_table.specs.declared.listed.Entries.{Entries}
 use Rattle.cq_table.specs.declared.numbered.Builtins.{Builtins}
 
 -- there is something at the number of this name

@@ -2,7 +2,7 @@
 #![tactic(auto)]
 
 mod builtins;
-mod entries;
+mod listed;
 mod numbered;
 
 pub use builtins::Builtin;

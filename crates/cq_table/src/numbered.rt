@@ -10,7 +10,7 @@ ghost use Rattle.cq_table.specs.Names.{as_builtin};
 ghost use Rattle.cq_table.specs.Numbered.{AreBuiltins, AreWith};
 
 use crate::builtins::{Builtin, rows};
-use crate::entries::Entries;
+use crate::listed::Entries;
 use cq_atoms::{Atom, Atoms, numbers_keep_their_texts};
 use cq_term::Pred;
 use std::alloc::{AllocError, Global};

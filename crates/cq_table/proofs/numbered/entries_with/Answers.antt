@@ -9,7 +9,7 @@ use Rattle.cq_table.proofs.Entries.{right_put, entry_put, has_put, none_right, h
 use Rattle.cq_table.proofs.numbered.entries_with.Goals as goal
 
 pub loop-name-init : goal.loop-name-init
-loop-name-init c = ((λ x text e. e), c.requires.different, none_right _ c.args.arity _ c.new-entries.ensures, λ x d low l. absurd (omega (arith, l)))
+loop-name-init c = ((λ x text e. e), c.requires.different, none_right c.args.atoms.now c.args.arity c.new-entries.result c.new-entries.ensures, λ x d low l. absurd (omega (arith, l)))
 
 pub loop-name-preserved : goal.loop-name-preserved
 loop-name-preserved c =

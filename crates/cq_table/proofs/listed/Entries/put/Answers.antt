@@ -2,7 +2,7 @@ use Rattle.std.proofs.Common.{◌<◌, ap, ◌∙◌, length, List, Option, None
 use Rattle.std.specs.Prelude.{slice_index_or}
 use Rattle.cq_table.specs.declared.builtins.Builtin.{Builtin}
 use Rattle.cq_table.proofs.Entries.{pushed_none, put_at}
-use Rattle.cq_table.proofs.entries.Entries.put.Goals as goal
+use Rattle.cq_table.proofs.listed.Entries.put.Goals as goal
 
 pub loop-self-preserved : goal.loop-self-preserved
 loop-self-preserved c = λ k.
