@@ -1,12 +1,20 @@
 -- The parts of attributes at their marks.
-use Rattle.std.proofs.Common.{◌≡◌, ℕ, List, [], ◌∷◌, ◌++◌, take, Some, inl, inr, subst, sym}
+use Rattle.std.proofs.Common.{◌≡◌, ℕ, List, [], ◌∷◌, ◌++◌, take, Some, inl, inr, subst, sym, arith}
 use Rattle.std.specs.Prelude.{slice_get}
+use Rattle.std.proofs.lemmas.Option.{none-some}
 use Rattle.spec_lists.proofs.Places.{get_push, get_take}
 use Rattle.cq_attr.specs.Layout.{Parts, HaveSlots, AreParts}
 
 -- the same parts
 pub slots_same : (new parts : Parts) → new ≡ parts → HaveSlots parts.1.0 parts.1.1 → HaveSlots new.1.0 new.1.1
 slots_same new parts e now = subst (λ (p : Parts). HaveSlots p.1.0 p.1.1) (sym e) now
+
+-- nothing is numeric, and nothing waits
+pub empty_parts : (parts : Parts) → parts ≡ ([], ([], [])) → (saved : List Parts) → saved ≡ [] → AreParts parts saved
+empty_parts parts e saved f = record {
+  now = slots_same parts ([], ([], [])) e (λ k d l. absurd (omega (arith, l)));
+  marks = λ k p g. absurd (none-some p (subst (λ l. slice_get l k ≡ Some p) f g));
+}
 
 module _ (parts : Parts) (saved : List Parts) (are : AreParts parts saved) where
   -- a change under the same marks

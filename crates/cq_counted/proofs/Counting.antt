@@ -50,11 +50,11 @@ module _ {V : Type 0} where
       ∙ ap (λ j. take j (counted own n now)) (sym at)
 
   -- the value's own marks from a place on end, and the counted ones
-  pub own_take : (own : List V) (n : ℕ) (now : V) (m : ℕ) (then : V) → m < length own → counted (take m own) m then ≡ take m (counted own n now)
-  own_take own n now m then low =
+  pub own_take : (own : List V) (n : ℕ) (now : V) (m : ℕ) (v : V) → m < length own → counted (take m own) m v ≡ take m (counted own n now)
+  own_take own n now m v low =
       let all : m ≤ length (take m own) = omega (arith, low, length-take m own) in
       let within : m ≤ length own = omega (arith, low) in
-      counted_all (take m own) m then all ∙ sym (take-append-le m own (replicate (n - length own) now) within)
+      counted_all (take m own) m v all ∙ sym (take-append-le m own (replicate (n - length own) now) within)
 
   -- what a counted mark keeps
   pub counted_at : (own : List V) (n : ℕ) (now : V) (m : ℕ) → length own ≤ m → m < n → slice_get (counted own n now) m ≡ Some now
@@ -67,8 +67,8 @@ module _ {V : Type 0} where
       (sym (ap (λ j. get_or (counted own n now) j now) at ∙ get_or-append-add own (replicate k now) (m - length own) now ∙ get_or-replicate k (m - length own) now now within))
 
   -- what the value's own mark keeps
-  pub own_at : (own : List V) (n : ℕ) (now : V) (m : ℕ) (then : V) → slice_get own m ≡ Some then → slice_get (counted own n now) m ≡ Some then
-  own_at own n now m then e = get_kept own (replicate (n - length own) now) m then e
+  pub own_at : (own : List V) (n : ℕ) (now : V) (m : ℕ) (v : V) → slice_get own m ≡ Some v → slice_get (counted own n now) m ≡ Some v
+  own_at own n now m v e = get_kept own (replicate (n - length own) now) m v e
 
   -- a change under the same marks, each of which is the value's own
   pub counted_changed : (own : List V) (n : ℕ) → n ≤ length own → (new : List V) → new ≡ own → (now : V) → counted new n now ≡ own

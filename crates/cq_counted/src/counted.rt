@@ -1,7 +1,7 @@
 // A value whose marks are only counted until it is to change.
 
 ghost use Rattle.cq_counted.specs.Counting.{counted, countable};
-ghost use Rattle.std.specs.Prelude.{◌≡◌, ◌+◌, ◌≤◌, ◌++◌, [], ◌∷◌, List, length, IfOk, OnOk, OnErr};
+ghost use Rattle.std.specs.Prelude.{◌≡◌, ◌+◌, ◌^◌, ◌<◌, ◌≤◌, ◌++◌, [], ◌∷◌, List, length, IfOk, OnOk, OnErr};
 
 use cq_trail::{Mark, Undo};
 use std::alloc::AllocError;
@@ -18,6 +18,7 @@ pub struct Counted<T: Undo> {
     pub own: usize,
     pub ghost own_marks: { own ≡ length (T.saved inner) },
     pub ghost within: { own ≤ marks },
+    pub ghost fits: { marks < 2 ^ 64 },
 }
 
 impl<T: Undo> Counted<T> {

@@ -1,6 +1,6 @@
 use Rattle.std.proofs.Common.{◌≡◌, ◌<◌, ◌≤◌, length, ap, ◌∙◌, arith}
 use Rattle.cq_counted.specs.Counting.{counted}
-use Rattle.cq_counted.proofs.Counting.{length-counted, own_at, own_take, counted_at, counted_take}
+use Rattle.cq_counted.proofs.Counting.{length-counted, own_take, counted_take}
 use Rattle.cq_counted.proofs.counted.CountedUndo.forget.Goals as goal
 
 pub returns-clause-saved : goal.returns-clause-saved
@@ -15,7 +15,7 @@ pub returns-clause-room : goal.returns-clause-room
 returns-clause-room g c =
     let s = c.args.self.now in
     let few : length (g.T.Undo.saved s.inner) ≤ s.marks = omega (arith, s.own_marks, s.within) in
-    omega (arith, length-counted (g.T.Undo.saved s.inner) s.marks (g.T.Undo.now s.inner) few)
+    omega (arith, s.fits, length-counted (g.T.Undo.saved s.inner) s.marks (g.T.Undo.now s.inner) few)
 
 pub returns-else-m-self-clause-saved : goal.returns-else-m-self-clause-saved
 returns-else-m-self-clause-saved g c =
@@ -30,4 +30,4 @@ pub returns-else-m-self-clause-room : goal.returns-else-m-self-clause-room
 returns-else-m-self-clause-room g c =
     let s = c.args.self.now in
     let few : length (g.T.Undo.saved s.inner) ≤ s.marks = omega (arith, s.own_marks, s.within) in
-    omega (arith, length-counted (g.T.Undo.saved s.inner) s.marks (g.T.Undo.now s.inner) few)
+    omega (arith, s.fits, length-counted (g.T.Undo.saved s.inner) s.marks (g.T.Undo.now s.inner) few)

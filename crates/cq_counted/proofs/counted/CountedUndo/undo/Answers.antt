@@ -15,7 +15,7 @@ pub returns-clause-room : goal.returns-clause-room
 returns-clause-room g c =
     let s = c.args.self.now in
     let few : length (g.T.Undo.saved s.inner) ≤ s.marks = omega (arith, s.own_marks, s.within) in
-    omega (arith, length-counted (g.T.Undo.saved s.inner) s.marks (g.T.Undo.now s.inner) few)
+    omega (arith, s.fits, length-counted (g.T.Undo.saved s.inner) s.marks (g.T.Undo.now s.inner) few)
 
 pub returns-else-m-self-clause-saved : goal.returns-else-m-self-clause-saved
 returns-else-m-self-clause-saved g c =
@@ -30,7 +30,7 @@ pub returns-else-m-self-clause-room : goal.returns-else-m-self-clause-room
 returns-else-m-self-clause-room g c =
     let s = c.args.self.now in
     let few : length (g.T.Undo.saved s.inner) ≤ s.marks = omega (arith, s.own_marks, s.within) in
-    omega (arith, length-counted (g.T.Undo.saved s.inner) s.marks (g.T.Undo.now s.inner) few)
+    omega (arith, s.fits, length-counted (g.T.Undo.saved s.inner) s.marks (g.T.Undo.now s.inner) few)
 
 pub returns-clause-now : goal.returns-clause-now
 returns-clause-now g c =
