@@ -76,7 +76,7 @@ impl Attrs {
         if self.parts.inner.first.contains(variable) {
             return Ok(());
         }
-        self.parts.open()?;
+        self.parts.put_marks()?;
         self.parts.inner.first.extend(&[variable], ())?;
         Ok(())
     }
@@ -97,7 +97,7 @@ impl Attrs {
         ensures saved { self.new.saved ≡ self.old.saved }
         ensures room { self.old.room ≤ self.new.room }
     {
-        self.parts.open()?;
+        self.parts.put_marks()?;
         let waiting = &mut self.parts.inner.second;
         let number = waiting.second.len();
         waiting.second.reserve_places(1)?;
@@ -115,7 +115,7 @@ impl Attrs {
         ensures saved { self.new.saved ≡ self.old.saved }
         ensures room { self.old.room ≤ self.new.room }
     {
-        self.parts.open()?;
+        self.parts.put_marks()?;
         let watchers = &mut self.parts.inner.second.first;
         watchers.extend(variables, number.index())?;
         Ok(())
@@ -147,7 +147,7 @@ impl Attrs {
         ensures saved { self.new.saved ≡ self.old.saved }
         ensures room { self.old.room ≤ self.new.room }
     {
-        self.parts.open()?;
+        self.parts.put_marks()?;
         let slots = &mut self.parts.inner.second.second;
         let susp = slots.get(number.index()).susp;
         slots.set(number.index(), Slot { susp, waits: false })?;

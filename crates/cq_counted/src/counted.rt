@@ -7,7 +7,7 @@ use cq_trail::{Mark, Undo};
 use std::alloc::AllocError;
 
 /// A value whose newest marks are only counted: they all keep what the value is now. `mark` takes constant time and no
-/// memory. The value is changed through its field, once `open` has put the counted marks on it; so memory may run out
+/// memory. The value is changed through its field, once `put_marks` has put the counted marks on it; so memory may run out
 /// at the first change behind marks, and not at the marks.
 #[derive(Drop)]
 pub struct Counted<T: Undo> {
@@ -23,8 +23,8 @@ pub struct Counted<T: Undo> {
 
 impl<T: Undo> Counted<T> {
     /// Puts the counted marks on the value, which can then be changed. Fails for want of memory, with each mark as it was.
-    pub fn open(&mut self) -> Result<(), AllocError>
-        ensures open { OnOk result (T.saved self.new.inner ≡ counted (T.saved self.old.inner) self.old.marks (T.now self.old.inner)) }
+    pub fn put_marks(&mut self) -> Result<(), AllocError>
+        ensures put { OnOk result (T.saved self.new.inner ≡ counted (T.saved self.old.inner) self.old.marks (T.now self.old.inner)) }
         ensures now { T.now self.new.inner ≡ T.now self.old.inner }
         ensures marks { self.new.marks ≡ self.old.marks }
         ensures saved { counted (T.saved self.new.inner) self.new.marks (T.now self.new.inner) ≡ counted (T.saved self.old.inner) self.old.marks (T.now self.old.inner) }
@@ -41,7 +41,7 @@ impl<T: Undo> Counted<T> {
     /// mark as it was.
     pub fn begin(&mut self) -> Result<Mark, AllocError>
         ensures mark { IfOk result (λ m. m.number ≡ length (counted (T.saved self.old.inner) self.old.marks (T.now self.old.inner))) }
-        ensures open { OnOk result (T.saved self.new.inner ≡ counted (T.saved self.old.inner) self.old.marks (T.now self.old.inner) ++ T.now self.old.inner ∷ []) }
+        ensures put { OnOk result (T.saved self.new.inner ≡ counted (T.saved self.old.inner) self.old.marks (T.now self.old.inner) ++ T.now self.old.inner ∷ []) }
         ensures all { OnOk result (self.new.marks ≤ length (T.saved self.new.inner)) }
         ensures now { T.now self.new.inner ≡ T.now self.old.inner }
         ensures room { countable self.old.marks ≤ countable self.new.marks + 1 }
@@ -49,7 +49,7 @@ impl<T: Undo> Counted<T> {
         ensures err_room { OnErr result (countable self.old.marks ≤ countable self.new.marks) }
     {
         let m = self.mark()?;
-        match self.open() {
+        match self.put_marks() {
             Ok(()) => Ok(m),
             Err(e) => {
                 self.forget(m);

@@ -15,27 +15,27 @@ returns-then-contains-clause-ok c =
     (sym c.contains.ensures ∙ c.if-contains.true))
 
 pub invariant_of-self-2 : goal.invariant_of-self-2
-invariant_of-self-2 c = parts_changed _ _ c.self.invariant _ (slots_same _ _ c.open.ensures.now c.self.invariant.now) _
-    (counted_changed _ _ c.in_ok-open.ensures.all _
-    (ap (λ s. zip s (zip c.open.new.self.inner.second.first.saved c.open.new.self.inner.second.second.saved)) c.extend.ensures.saved) _
-    ∙ c.in_ok-open.ensures.open)
+invariant_of-self-2 c = parts_changed _ _ c.self.invariant _ (slots_same _ _ c.put_marks.ensures.now c.self.invariant.now) _
+    (counted_changed _ _ c.in_ok-put_marks.ensures.all _
+    (ap (λ s. zip s (zip c.put_marks.new.self.inner.second.first.saved c.put_marks.new.self.inner.second.second.saved)) c.extend.ensures.saved) _
+    ∙ c.in_ok-put_marks.ensures.put)
 
 pub returns-clause-ok : goal.returns-clause-ok
 returns-clause-ok c =
     rw (← c.self.view_is, c.in_ok-extend.ensures.ok)
-    (ap (λ (p : Parts). attributes_of (p.0 ++ (c.args.variable.0, tt) ∷ []) p.1.0 p.1.1) c.open.ensures.now
+    (ap (λ (p : Parts). attributes_of (p.0 ++ (c.args.variable.0, tt) ∷ []) p.1.0 p.1.1) c.put_marks.ensures.now
     ∙ attributes_marked c.self.inside.parts.inner.first.now c.self.inside.parts.inner.second.first.now c.self.inside.parts.inner.second.second.now c.args.variable.0
     (sym c.contains.ensures ∙ c.if-contains.false))
 
 pub returns-clause-saved : goal.returns-clause-saved
 returns-clause-saved c = rw (← c.self.view_is)
     (ap (map attributes_by)
-    (counted_changed _ _ c.in_ok-open.ensures.all _
-    (ap (λ s. zip s (zip c.open.new.self.inner.second.first.saved c.open.new.self.inner.second.second.saved)) c.extend.ensures.saved) _
-    ∙ c.in_ok-open.ensures.open))
+    (counted_changed _ _ c.in_ok-put_marks.ensures.all _
+    (ap (λ s. zip s (zip c.put_marks.new.self.inner.second.first.saved c.put_marks.new.self.inner.second.second.saved)) c.extend.ensures.saved) _
+    ∙ c.in_ok-put_marks.ensures.put))
 
-pub returns-in_err-open-clause-again : goal.returns-in_err-open-clause-again
-returns-in_err-open-clause-again c =
+pub returns-in_err-put_marks-clause-again : goal.returns-in_err-put_marks-clause-again
+returns-in_err-put_marks-clause-again c =
     let first : ℕ × Unit {0} → ℕ = λ n. n.0 in
     let e : is_numeric c.args.self.now.now c.args.variable.0 ≡ false =
     rw (← c.self.view_is) (any_of_map (λ w. w == c.args.variable.0) first c.self.inside.parts.inner.first.now ∙ sym c.contains.ensures ∙ c.if-contains.false) in

@@ -11,34 +11,34 @@ use Rattle.cq_attr.proofs.attrs.Attrs.take.Goals as goal
 pub get-requires : goal.get-requires
 get-requires c =
     let old = number_within c.self.inside.parts.inner.second.second.now c.self.inside.parts.inner.second.first.now c.args.number (rw (← c.self.view_is) at c.requires) in
-    let same : length c.open.new.self.inner.second.second.now ≡ length c.self.inside.parts.inner.second.second.now = ap (λ (p : Parts). length p.1.1) c.open.ensures.now in
+    let same : length c.put_marks.new.self.inner.second.second.now ≡ length c.self.inside.parts.inner.second.second.now = ap (λ (p : Parts). length p.1.1) c.put_marks.ensures.now in
     omega (arith, c.index.ensures, old, same)
 
 pub set-requires : goal.set-requires
 set-requires c =
     let old = number_within c.self.inside.parts.inner.second.second.now c.self.inside.parts.inner.second.first.now c.args.number (rw (← c.self.view_is) at c.requires) in
-    let same : length c.open.new.self.inner.second.second.now ≡ length c.self.inside.parts.inner.second.second.now = ap (λ (p : Parts). length p.1.1) c.open.ensures.now in
+    let same : length c.put_marks.new.self.inner.second.second.now ≡ length c.self.inside.parts.inner.second.second.now = ap (λ (p : Parts). length p.1.1) c.put_marks.ensures.now in
     omega (arith, c.index-2.ensures, old, same)
 
 pub invariant_of-self-2 : goal.invariant_of-self-2
 invariant_of-self-2 c =
-    let ss = c.open.new.self.inner.second.second.now in
-    let ws = c.open.new.self.inner.second.first.now in
-    let have : HaveSlots ws ss = slots_same _ _ c.open.ensures.now c.self.invariant.now in
+    let ss = c.put_marks.new.self.inner.second.second.now in
+    let ws = c.put_marks.new.self.inner.second.first.now in
+    let have : HaveSlots ws ss = slots_same _ _ c.put_marks.ensures.now c.self.invariant.now in
     parts_changed _ _ c.self.invariant _ (rw c.in_ok-set.ensures.ok (have_taken ws ss _ _ have)) _
-    (counted_changed _ _ c.in_ok-open.ensures.all _
-    (ap (λ ss. zip c.open.new.self.inner.first.saved (zip c.open.new.self.inner.second.first.saved ss)) c.set.ensures.saved) _
-    ∙ c.in_ok-open.ensures.open)
+    (counted_changed _ _ c.in_ok-put_marks.ensures.all _
+    (ap (λ ss. zip c.put_marks.new.self.inner.first.saved (zip c.put_marks.new.self.inner.second.first.saved ss)) c.set.ensures.saved) _
+    ∙ c.in_ok-put_marks.ensures.put)
 
 pub returns-clause-ok : goal.returns-clause-ok
 returns-clause-ok c =
     rw (← c.self.view_is, c.in_ok-set.ensures.ok, c.index-2.ensures)
-    (attributes_taken c.open.new.self.inner.first.now c.open.new.self.inner.second.first.now c.open.new.self.inner.second.second.now c.args.number c.get.result.now.susp
-    ∙ ap (λ (p : Parts). without (attributes_by p) c.args.number) c.open.ensures.now)
+    (attributes_taken c.put_marks.new.self.inner.first.now c.put_marks.new.self.inner.second.first.now c.put_marks.new.self.inner.second.second.now c.args.number c.get.result.now.susp
+    ∙ ap (λ (p : Parts). without (attributes_by p) c.args.number) c.put_marks.ensures.now)
 
 pub returns-clause-saved : goal.returns-clause-saved
 returns-clause-saved c = rw (← c.self.view_is)
     (ap (map attributes_by)
-    (counted_changed _ _ c.in_ok-open.ensures.all _
-    (ap (λ ss. zip c.open.new.self.inner.first.saved (zip c.open.new.self.inner.second.first.saved ss)) c.set.ensures.saved) _
-    ∙ c.in_ok-open.ensures.open))
+    (counted_changed _ _ c.in_ok-put_marks.ensures.all _
+    (ap (λ ss. zip c.put_marks.new.self.inner.first.saved (zip c.put_marks.new.self.inner.second.first.saved ss)) c.set.ensures.saved) _
+    ∙ c.in_ok-put_marks.ensures.put))

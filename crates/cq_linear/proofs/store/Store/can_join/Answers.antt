@@ -27,7 +27,7 @@ returns-clause-told c =
     c.can_enter-joins.new.numbers.entries c.can_enter-joins.ensures.numbered
     _ (counted_changed _ _ c.in_ok-start.ensures.all (zip c.can_enter-joins.new.held.first.saved (zip c.can_enter-joins.new.held.second.first.saved c.can_enter-joins.new.held.second.second.saved))
     (ap₂ (λ a b. zip a b) c.can_enter-joins.ensures.told_saved (ap₂ (λ a b. zip a b) c.can_enter-joins.ensures.names_saved c.can_enter-joins.ensures.dict_saved)) (c.can_enter-joins.new.held.first.now, (c.can_enter-joins.new.held.second.first.now, quantities_of c.can_enter-joins.new.held.second.second))
-    ∙ c.in_ok-start.ensures.open)
+    ∙ c.in_ok-start.ensures.put)
     _ _ c.undo.ensures.saved c.undo.ensures.now)
     ∙ ap (λ (z : StoreValue). z.told) c.self.view_is
 
@@ -38,7 +38,7 @@ invariant_of-self-2 c =
     c.can_enter-joins.new.numbers.entries c.can_enter-joins.ensures.numbered
     _ (counted_changed _ _ c.in_ok-start.ensures.all (zip c.can_enter-joins.new.held.first.saved (zip c.can_enter-joins.new.held.second.first.saved c.can_enter-joins.new.held.second.second.saved))
     (ap₂ (λ a b. zip a b) c.can_enter-joins.ensures.told_saved (ap₂ (λ a b. zip a b) c.can_enter-joins.ensures.names_saved c.can_enter-joins.ensures.dict_saved)) (c.can_enter-joins.new.held.first.now, (c.can_enter-joins.new.held.second.first.now, quantities_of c.can_enter-joins.new.held.second.second))
-    ∙ c.in_ok-start.ensures.open)
+    ∙ c.in_ok-start.ensures.put)
     _ _ c.undo.ensures.saved c.undo.ensures.now
 
 pub returns-clause-solvable : goal.returns-clause-solvable
@@ -56,7 +56,7 @@ returns-clause-saved c =
     c.can_enter-joins.ensures.numbered
     _ (counted_changed _ _ c.in_ok-start.ensures.all (zip c.can_enter-joins.new.held.first.saved (zip c.can_enter-joins.new.held.second.first.saved c.can_enter-joins.new.held.second.second.saved))
     (ap₂ (λ a b. zip a b) c.can_enter-joins.ensures.told_saved (ap₂ (λ a b. zip a b) c.can_enter-joins.ensures.names_saved c.can_enter-joins.ensures.dict_saved)) (c.can_enter-joins.new.held.first.now, (c.can_enter-joins.new.held.second.first.now, quantities_of c.can_enter-joins.new.held.second.second))
-    ∙ c.in_ok-start.ensures.open)
+    ∙ c.in_ok-start.ensures.put)
     (c.can_enter-joins.new.held.first.now, (c.can_enter-joins.new.held.second.first.now, quantities_of c.can_enter-joins.new.held.second.second)) _ c.undo.ensures.saved))
 
 pub returns-clause-room : goal.returns-clause-room
@@ -65,5 +65,5 @@ returns-clause-room c =
     (room_kept _ _ c.in_ok-start.start.number c.in_ok-start.ensures.mark
     _ (counted_changed _ _ c.in_ok-start.ensures.all (zip c.can_enter-joins.new.held.first.saved (zip c.can_enter-joins.new.held.second.first.saved c.can_enter-joins.new.held.second.second.saved))
     (ap₂ (λ a b. zip a b) c.can_enter-joins.ensures.told_saved (ap₂ (λ a b. zip a b) c.can_enter-joins.ensures.names_saved c.can_enter-joins.ensures.dict_saved)) (c.can_enter-joins.new.held.first.now, (c.can_enter-joins.new.held.second.first.now, quantities_of c.can_enter-joins.new.held.second.second))
-    ∙ c.in_ok-start.ensures.open)
+    ∙ c.in_ok-start.ensures.put)
     _ _ _ c.begin.ensures.room c.undo.ensures.room)

@@ -27,7 +27,7 @@ returns-clause-told c =
     c.reach-extent.ensures.numbered
     _ (counted_changed _ _ c.in_ok-start.ensures.all (zip c.begin.new.self.inner.first.saved (zip c.reach-extent.new.names.saved c.reach-extent.new.dict.saved))
     (ap (λ z. zip c.begin.new.self.inner.first.saved z) (ap₂ (λ a b. zip a b) c.reach-extent.ensures.names_saved c.reach-extent.ensures.dict_saved)) (c.begin.new.self.inner.first.now, (c.reach-extent.new.names.now, quantities_of c.reach-extent.new.dict))
-    ∙ c.in_ok-start.ensures.open)
+    ∙ c.in_ok-start.ensures.put)
     _ _ c.undo.ensures.saved c.undo.ensures.now)
     ∙ ap (λ (z : StoreValue). z.told) c.self.view_is
 
@@ -40,7 +40,7 @@ returns-clause-saved c =
     c.reach-extent.ensures.numbered
     _ (counted_changed _ _ c.in_ok-start.ensures.all (zip c.begin.new.self.inner.first.saved (zip c.reach-extent.new.names.saved c.reach-extent.new.dict.saved))
     (ap (λ z. zip c.begin.new.self.inner.first.saved z) (ap₂ (λ a b. zip a b) c.reach-extent.ensures.names_saved c.reach-extent.ensures.dict_saved)) (c.begin.new.self.inner.first.now, (c.reach-extent.new.names.now, quantities_of c.reach-extent.new.dict))
-    ∙ c.in_ok-start.ensures.open)
+    ∙ c.in_ok-start.ensures.put)
     (c.begin.new.self.inner.first.now, (c.reach-extent.new.names.now, quantities_of c.reach-extent.new.dict)) _ c.undo.ensures.saved))
 
 pub returns-clause-room : goal.returns-clause-room
@@ -49,5 +49,5 @@ returns-clause-room c =
     (room_kept _ _ c.in_ok-start.start.number c.in_ok-start.ensures.mark
     _ (counted_changed _ _ c.in_ok-start.ensures.all (zip c.begin.new.self.inner.first.saved (zip c.reach-extent.new.names.saved c.reach-extent.new.dict.saved))
     (ap (λ z. zip c.begin.new.self.inner.first.saved z) (ap₂ (λ a b. zip a b) c.reach-extent.ensures.names_saved c.reach-extent.ensures.dict_saved)) (c.begin.new.self.inner.first.now, (c.reach-extent.new.names.now, quantities_of c.reach-extent.new.dict))
-    ∙ c.in_ok-start.ensures.open)
+    ∙ c.in_ok-start.ensures.put)
     _ _ _ c.begin.ensures.room c.undo.ensures.room)

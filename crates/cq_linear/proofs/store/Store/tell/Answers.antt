@@ -30,7 +30,7 @@ invariant_of-self-in-Ok-Joined c =
     c.enter.ensures.numbered
     _ (counted_changed _ _ c.in_ok-start.ensures.all (zip c.enter.new.held.first.saved (zip c.enter.new.held.second.first.saved c.enter.new.held.second.second.saved))
     (ap₂ (λ a b. zip a b) c.enter.ensures.told_saved (ap₂ (λ a b. zip a b) c.enter.ensures.names_saved c.enter.ensures.dict_saved)) (c.enter.new.held.first.now, (c.enter.new.held.second.first.now, quantities_of c.enter.new.held.second.second))
-    ∙ c.in_ok-start.ensures.open)
+    ∙ c.in_ok-start.ensures.put)
     _ _ c.forget.ensures.saved c.forget.ensures.now
     (subst (λ l. IsStored l c.enter.new.held.second.first.now (quantities_of c.enter.new.held.second.second)) (sym t) j.stored)
 
@@ -41,7 +41,7 @@ invariant_of-self-in-Ok-Contradiction c =
     c.enter.ensures.numbered
     _ (counted_changed _ _ c.in_ok-start.ensures.all (zip c.enter.new.held.first.saved (zip c.enter.new.held.second.first.saved c.enter.new.held.second.second.saved))
     (ap₂ (λ a b. zip a b) c.enter.ensures.told_saved (ap₂ (λ a b. zip a b) c.enter.ensures.names_saved c.enter.ensures.dict_saved)) (c.enter.new.held.first.now, (c.enter.new.held.second.first.now, quantities_of c.enter.new.held.second.second))
-    ∙ c.in_ok-start.ensures.open)
+    ∙ c.in_ok-start.ensures.put)
     _ _ c.undo.ensures.saved c.undo.ensures.now
 
 pub invariant_of-self-in-Err : goal.invariant_of-self-in-Err
@@ -51,7 +51,7 @@ invariant_of-self-in-Err c =
     c.enter.ensures.numbered
     _ (counted_changed _ _ c.in_ok-start.ensures.all (zip c.enter.new.held.first.saved (zip c.enter.new.held.second.first.saved c.enter.new.held.second.second.saved))
     (ap₂ (λ a b. zip a b) c.enter.ensures.told_saved (ap₂ (λ a b. zip a b) c.enter.ensures.names_saved c.enter.ensures.dict_saved)) (c.enter.new.held.first.now, (c.enter.new.held.second.first.now, quantities_of c.enter.new.held.second.second))
-    ∙ c.in_ok-start.ensures.open)
+    ∙ c.in_ok-start.ensures.put)
     _ _ c.undo-in-Err.ensures.saved c.undo-in-Err.ensures.now
 
 undone_told : (c : After-undo) → c.undo.new.self.inner.first.now ≡ c.args.self.now.told
@@ -62,7 +62,7 @@ undone_told c =
     c.enter.ensures.numbered
     _ (counted_changed _ _ c.in_ok-start.ensures.all (zip c.enter.new.held.first.saved (zip c.enter.new.held.second.first.saved c.enter.new.held.second.second.saved))
     (ap₂ (λ a b. zip a b) c.enter.ensures.told_saved (ap₂ (λ a b. zip a b) c.enter.ensures.names_saved c.enter.ensures.dict_saved)) (c.enter.new.held.first.now, (c.enter.new.held.second.first.now, quantities_of c.enter.new.held.second.second))
-    ∙ c.in_ok-start.ensures.open)
+    ∙ c.in_ok-start.ensures.put)
     _ _ c.undo.ensures.saved c.undo.ensures.now)
     ∙ ap (λ (z : StoreValue). z.told) c.self.view_is
 
@@ -95,7 +95,7 @@ returns-in-Err-clause-err c =
     c.enter.ensures.numbered
     _ (counted_changed _ _ c.in_ok-start.ensures.all (zip c.enter.new.held.first.saved (zip c.enter.new.held.second.first.saved c.enter.new.held.second.second.saved))
     (ap₂ (λ a b. zip a b) c.enter.ensures.told_saved (ap₂ (λ a b. zip a b) c.enter.ensures.names_saved c.enter.ensures.dict_saved)) (c.enter.new.held.first.now, (c.enter.new.held.second.first.now, quantities_of c.enter.new.held.second.second))
-    ∙ c.in_ok-start.ensures.open)
+    ∙ c.in_ok-start.ensures.put)
     _ _ c.undo-in-Err.ensures.saved c.undo-in-Err.ensures.now)
     ∙ ap (λ (z : StoreValue). z.told) c.self.view_is
 
@@ -121,7 +121,7 @@ returns-in-Ok-Joined-clause-saved c =
     c.enter.ensures.numbered
     _ (counted_changed _ _ c.in_ok-start.ensures.all (zip c.enter.new.held.first.saved (zip c.enter.new.held.second.first.saved c.enter.new.held.second.second.saved))
     (ap₂ (λ a b. zip a b) c.enter.ensures.told_saved (ap₂ (λ a b. zip a b) c.enter.ensures.names_saved c.enter.ensures.dict_saved)) (c.enter.new.held.first.now, (c.enter.new.held.second.first.now, quantities_of c.enter.new.held.second.second))
-    ∙ c.in_ok-start.ensures.open)
+    ∙ c.in_ok-start.ensures.put)
     (c.enter.new.held.first.now, (c.enter.new.held.second.first.now, quantities_of c.enter.new.held.second.second)) _ c.forget.ensures.saved))
 
 pub returns-in-Ok-Joined-clause-room : goal.returns-in-Ok-Joined-clause-room
@@ -130,7 +130,7 @@ returns-in-Ok-Joined-clause-room c =
     (room_kept _ _ c.in_ok-start.start.number c.in_ok-start.ensures.mark
     _ (counted_changed _ _ c.in_ok-start.ensures.all (zip c.enter.new.held.first.saved (zip c.enter.new.held.second.first.saved c.enter.new.held.second.second.saved))
     (ap₂ (λ a b. zip a b) c.enter.ensures.told_saved (ap₂ (λ a b. zip a b) c.enter.ensures.names_saved c.enter.ensures.dict_saved)) (c.enter.new.held.first.now, (c.enter.new.held.second.first.now, quantities_of c.enter.new.held.second.second))
-    ∙ c.in_ok-start.ensures.open)
+    ∙ c.in_ok-start.ensures.put)
     _ _ _ c.begin.ensures.room c.forget.ensures.room)
 
 pub returns-in-Ok-Contradiction-clause-saved : goal.returns-in-Ok-Contradiction-clause-saved
@@ -142,7 +142,7 @@ returns-in-Ok-Contradiction-clause-saved c =
     c.enter.ensures.numbered
     _ (counted_changed _ _ c.in_ok-start.ensures.all (zip c.enter.new.held.first.saved (zip c.enter.new.held.second.first.saved c.enter.new.held.second.second.saved))
     (ap₂ (λ a b. zip a b) c.enter.ensures.told_saved (ap₂ (λ a b. zip a b) c.enter.ensures.names_saved c.enter.ensures.dict_saved)) (c.enter.new.held.first.now, (c.enter.new.held.second.first.now, quantities_of c.enter.new.held.second.second))
-    ∙ c.in_ok-start.ensures.open)
+    ∙ c.in_ok-start.ensures.put)
     (c.enter.new.held.first.now, (c.enter.new.held.second.first.now, quantities_of c.enter.new.held.second.second)) _ c.undo.ensures.saved))
 
 pub returns-in-Ok-Contradiction-clause-room : goal.returns-in-Ok-Contradiction-clause-room
@@ -151,7 +151,7 @@ returns-in-Ok-Contradiction-clause-room c =
     (room_kept _ _ c.in_ok-start.start.number c.in_ok-start.ensures.mark
     _ (counted_changed _ _ c.in_ok-start.ensures.all (zip c.enter.new.held.first.saved (zip c.enter.new.held.second.first.saved c.enter.new.held.second.second.saved))
     (ap₂ (λ a b. zip a b) c.enter.ensures.told_saved (ap₂ (λ a b. zip a b) c.enter.ensures.names_saved c.enter.ensures.dict_saved)) (c.enter.new.held.first.now, (c.enter.new.held.second.first.now, quantities_of c.enter.new.held.second.second))
-    ∙ c.in_ok-start.ensures.open)
+    ∙ c.in_ok-start.ensures.put)
     _ _ _ c.begin.ensures.room c.undo.ensures.room)
 
 pub returns-in-Err-clause-saved : goal.returns-in-Err-clause-saved
@@ -163,7 +163,7 @@ returns-in-Err-clause-saved c =
     c.enter.ensures.numbered
     _ (counted_changed _ _ c.in_ok-start.ensures.all (zip c.enter.new.held.first.saved (zip c.enter.new.held.second.first.saved c.enter.new.held.second.second.saved))
     (ap₂ (λ a b. zip a b) c.enter.ensures.told_saved (ap₂ (λ a b. zip a b) c.enter.ensures.names_saved c.enter.ensures.dict_saved)) (c.enter.new.held.first.now, (c.enter.new.held.second.first.now, quantities_of c.enter.new.held.second.second))
-    ∙ c.in_ok-start.ensures.open)
+    ∙ c.in_ok-start.ensures.put)
     (c.enter.new.held.first.now, (c.enter.new.held.second.first.now, quantities_of c.enter.new.held.second.second)) _ c.undo-in-Err.ensures.saved))
 
 pub returns-in-Err-clause-room : goal.returns-in-Err-clause-room
@@ -172,5 +172,5 @@ returns-in-Err-clause-room c =
     (room_kept _ _ c.in_ok-start.start.number c.in_ok-start.ensures.mark
     _ (counted_changed _ _ c.in_ok-start.ensures.all (zip c.enter.new.held.first.saved (zip c.enter.new.held.second.first.saved c.enter.new.held.second.second.saved))
     (ap₂ (λ a b. zip a b) c.enter.ensures.told_saved (ap₂ (λ a b. zip a b) c.enter.ensures.names_saved c.enter.ensures.dict_saved)) (c.enter.new.held.first.now, (c.enter.new.held.second.first.now, quantities_of c.enter.new.held.second.second))
-    ∙ c.in_ok-start.ensures.open)
+    ∙ c.in_ok-start.ensures.put)
     _ _ _ c.begin.ensures.room c.undo-in-Err.ensures.room)

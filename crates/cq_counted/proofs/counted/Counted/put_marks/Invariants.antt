@@ -1,6 +1,6 @@
 use Rattle.std.proofs.Common.{◌≡◌, ◌-◌}
 use Rattle.cq_counted.specs.Counting.{counted}
-use Rattle.cq_counted.proofs.counted.Counted.open.Given as goal
+use Rattle.cq_counted.proofs.counted.Counted.put_marks.Given as goal
 
 abbrev pub invariant-loop-self : goal.invariant-loop-self
 invariant-loop-self g l =
