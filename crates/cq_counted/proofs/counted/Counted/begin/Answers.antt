@@ -1,4 +1,4 @@
-use Rattle.std.proofs.Common.{◌≡◌, ◌++◌, [], ◌∷◌, ◌+◌, length, take, ap, ◌∙◌, arith, length-append}
+use Rattle.std.proofs.Common.{◌++◌, [], ◌∷◌, length, take, ap, ◌∙◌, arith, length-append}
 use Rattle.std.proofs.Math.Seq.{take-append_seam}
 use Rattle.cq_counted.specs.Counting.{counted}
 use Rattle.cq_counted.proofs.counted.Counted.begin.Goals as goal

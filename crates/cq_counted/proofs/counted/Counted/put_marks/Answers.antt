@@ -12,8 +12,8 @@ loop-self-preserved g c =
       now = c.mark.ensures.now ∙ c.loop-self.invariant.now;
       marks = c.loop-self.invariant.marks;
       saved = ap₂ (λ s v. counted s n v) c.in_ok-mark.ensures.saved c.mark.ensures.now
-      ∙ counted_own own n (g.T.Undo.now c.loop-self.self.inner) few
-      ∙ c.loop-self.invariant.saved;
+          ∙ counted_own own n (g.T.Undo.now c.loop-self.self.inner) few
+          ∙ c.loop-self.invariant.saved;
     }
 
 pub returns-in_err-mark-clause-saved : goal.returns-in_err-mark-clause-saved
