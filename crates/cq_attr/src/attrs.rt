@@ -129,9 +129,9 @@ impl Attrs {
         ensures ascending { IfOk result (λ ns. Ascends ns.items) }
         ensures err { OnErr result ((n : ℕ) × IsWokenBy self.now.now (numbers_of newly.now) n) }
     {
-        let waiting = &self.parts.inner.second;
         let mut found = Vec::new(self.alloc);
         for variable in newly {
+            let waiting = &self.parts.inner.second;
             find_awake(&waiting.first, &waiting.second, *variable, &mut found)?;
         }
         found.sort_unstable();
@@ -169,8 +169,8 @@ impl Attrs {
         ensures err { OnErr result (0 < length self.now.now.waiting) }
     {
         let mut numbers = Vec::new(self.alloc);
-        let slots = self.parts.inner.second.second.as_slice();
-        for (number, slot) in slots.iter().enumerate() {
+        let slots = &self.parts.inner.second.second;
+        for (number, slot) in slots.as_slice().iter().enumerate() {
             if slot.waits {
                 numbers.push(SuspNo::new(number))?;
             }
