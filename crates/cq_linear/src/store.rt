@@ -114,7 +114,7 @@ impl Model for Store {
       pivots = s.pivots;
       told = s.held.inner.first.now;
       saved = map (λ h. h.0) (counted (zip s.held.inner.first.saved (zip s.held.inner.second.first.saved s.held.inner.second.second.saved)) s.held.marks
-        (s.held.inner.first.now, (s.held.inner.second.first.now, quantities_of s.held.inner.second.second)));
+          (s.held.inner.first.now, (s.held.inner.second.first.now, quantities_of s.held.inner.second.second)));
       room = countable s.held.marks;
     } };
 
