@@ -130,7 +130,7 @@ impl Attrs {
         ensures err { OnErr result ((n : ℕ) × IsWokenBy self.now.now (numbers_of newly.now) n) }
     {
         let mut found = Vec::new(self.alloc);
-        if self.slots.is_empty() {
+        if self.parts.inner.second.second.is_empty() {
             return Ok(found);
         }
         for variable in newly {

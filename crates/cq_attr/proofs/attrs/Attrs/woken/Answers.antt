@@ -27,7 +27,7 @@ returns-then-is_empty-clause-ascending c = ascends_short c.new-found.result.item
 
 pub returns-then-is_empty-clause-all : goal.returns-then-is_empty-clause-all
 returns-then-is_empty-clause-all c = λ n h.
-    absurd (none_woken c.self.inside.numeric.now c.self.inside.watchers.now c.self.inside.slots.now (numbers_of c.args.newly.now) n (c.is_empty.ensures.0 c.if-is_empty.true) (rw (← c.self.view_is) at h))
+    absurd (none_woken c.self.inside.parts.inner.first.now c.self.inside.parts.inner.second.first.now c.self.inside.parts.inner.second.second.now (numbers_of c.args.newly.now) n (c.is_empty.ensures.0 c.if-is_empty.true) (rw (← c.self.view_is) at h))
 
 pub loop-variable-preserved : goal.loop-variable-preserved
 loop-variable-preserved c =
@@ -41,15 +41,15 @@ pub returns-then-len-lt2-clause-woken : goal.returns-then-len-lt2-clause-woken
 returns-then-len-lt2-clause-woken c = λ n h.
     let vs = c.args.newly.now in
     let all : length vs ≤ c.loop-variable.variable-index = omega (arith, c.loop-variable-test.false) in
-    let found : Found c.self.inside.watchers.now c.self.inside.slots.now vs c.loop-variable.found.items = rw (take_all c.loop-variable.variable-index vs all) at c.loop-variable.invariant in
-    rw (← c.self.view_is) (woken_from c.self.inside.watchers.now c.self.inside.slots.now vs c.self.inside.numeric.now c.loop-variable.found.items found n h)
+    let found : Found c.self.inside.parts.inner.second.first.now c.self.inside.parts.inner.second.second.now vs c.loop-variable.found.items = rw (take_all c.loop-variable.variable-index vs all) at c.loop-variable.invariant in
+    rw (← c.self.view_is) (woken_from c.self.inside.parts.inner.second.first.now c.self.inside.parts.inner.second.second.now vs c.self.inside.parts.inner.first.now c.loop-variable.found.items found n h)
 
 pub returns-then-len-lt2-clause-all : goal.returns-then-len-lt2-clause-all
 returns-then-len-lt2-clause-all c = λ n h.
     let vs = c.args.newly.now in
     let all : length vs ≤ c.loop-variable.variable-index = omega (arith, c.loop-variable-test.false) in
-    let found : Found c.self.inside.watchers.now c.self.inside.slots.now vs c.loop-variable.found.items = rw (take_all c.loop-variable.variable-index vs all) at c.loop-variable.invariant in
-    found_woken c.self.inside.watchers.now c.self.inside.slots.now vs c.self.inside.numeric.now c.loop-variable.found.items found n (rw (← c.self.view_is) at h)
+    let found : Found c.self.inside.parts.inner.second.first.now c.self.inside.parts.inner.second.second.now vs c.loop-variable.found.items = rw (take_all c.loop-variable.variable-index vs all) at c.loop-variable.invariant in
+    found_woken c.self.inside.parts.inner.second.first.now c.self.inside.parts.inner.second.second.now vs c.self.inside.parts.inner.first.now c.loop-variable.found.items found n (rw (← c.self.view_is) at h)
 
 pub returns-then-len-lt2-clause-ascending : goal.returns-then-len-lt2-clause-ascending
 returns-then-len-lt2-clause-ascending c = ascends_short c.loop-variable.found.items (omega (arith, c.if-len-lt2.true, c.len.ensures, c.loop-variable.found.ok.0))
