@@ -1,7 +1,7 @@
 -- A term that reads as a rule.
 use Rattle.std.proofs.Common.{◌≡◌, ℕ}
 use Rattle.spec_lists.specs.Texts.{Text}
-use Rattle.spec_terms.specs.Term.{Var, Number, Name, Compound, one, named}
+use Rattle.spec_terms.specs.Term.{Var, Number, Name, Compound, named}
 use Rattle.spec_builtins.specs.Clauses.{HeadBody, rule}
 use Rattle.cq_term.specs.Meaning.{HeapTerm}
 use Rattle.cq_term.specs.Shown.{view_of}

@@ -1,4 +1,4 @@
-use Rattle.std.proofs.Common.{◌≡◌, ◌∙◌, ◌++◌, ◌∷◌, [], length, IfOk, subst, rules}
+use Rattle.std.proofs.Common.{◌≡◌, ◌++◌, ◌∷◌, [], length, IfOk, subst, rules}
 use Rattle.spec_terms.specs.Unifier.{HasNoUnifier}
 use Rattle.spec_lists.proofs.Places.{newest}
 use Rattle.cq_term.specs.HeapValue.{Terms}

@@ -1,4 +1,4 @@
-use Rattle.std.proofs.Common.{◌∙◌, ap, sym, subst, length, arith, ◌≡◌, ◌<◌}
+use Rattle.std.proofs.Common.{◌∙◌, ap, sym, subst, length, arith, ◌<◌}
 use Rattle.std.specs.Prelude.{All}
 use Rattle.spec_lists.specs.Prefixes.{IsPrefix}
 use Rattle.spec_terms.specs.Term.{apply}

@@ -1,4 +1,4 @@
-use Rattle.std.proofs.Common.{◌≡◌, ◌++◌, ◌∙◌, map, ap, length, ◌<◌, arith}
+use Rattle.std.proofs.Common.{◌≡◌, ◌∙◌, map, ap, length, ◌<◌, arith}
 use Rattle.std.specs.List.{zip}
 use Rattle.cq_counted.proofs.Counting.{counted_changed}
 use Rattle.cq_walk.specs.Places.{numbers_of}

@@ -17,7 +17,7 @@ use Rattle.cq_linear.specs.declared.store.StoreFault.TheVariants.{Pivots}
 use Rattle.cq_linear.specs.StoreValue.{MayTake, Only}
 use Rattle.cq_linear.proofs.Spent.{not_spent}
 use Rattle.cq_linear.proofs.store.Store.tell.Goals as goal
-use Rattle.cq_linear.proofs.store.Store.tell.Goals.{After-forget, After-undo, After-undo-in-Err}
+use Rattle.cq_linear.proofs.store.Store.tell.Goals.{After-undo}
 
 pub invariant_of-self-in-Ok-Joined : goal.invariant_of-self-in-Ok-Joined
 invariant_of-self-in-Ok-Joined c =

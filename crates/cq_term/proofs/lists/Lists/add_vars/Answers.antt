@@ -1,4 +1,4 @@
-use Rattle.std.proofs.Common.{◌≡◌, ◌+◌, ◌∙◌, ◌++◌, ◌∷◌, [], suc, ap, refl, arith}
+use Rattle.std.proofs.Common.{◌≡◌, ◌+◌, ◌∙◌, ◌++◌, ◌∷◌, [], ap, refl, arith}
 use Rattle.cq_term.specs.Layout.{contents, with_vars}
 use Rattle.cq_term.specs.declared.lists.Cell.TheVariants as cell
 use Rattle.cq_term.proofs.Marks.{same_contents}
