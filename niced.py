@@ -60,4 +60,4 @@ while True:
                     if os.getpriority(os.PRIO_PROCESS,int(t))!=w:
                         os.setpriority(os.PRIO_PROCESS,int(t),w)
         except OSError: pass
-    time.sleep(1.5)
+    time.sleep(6)

@@ -8,7 +8,7 @@ for l in open(f'{root}/crates.txt'):
 def used(n):
     names=set()
     for dp,_,fs in os.walk(f'{root}/crates/{n}'):
-        if '/out' in dp or '/must-fail' in dp: continue
+        if dp.startswith(f'{root}/crates/{n}/out') or '/must-fail' in dp: continue
         for f in fs:
             t=open(os.path.join(dp,f),errors='replace').read()
             if f.endswith('.rt'):
