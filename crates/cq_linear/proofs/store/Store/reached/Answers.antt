@@ -9,7 +9,7 @@ use Rattle.cq_tableau.specs.declared.names.Name.{Name}
 use Rattle.cq_linear.specs.Questions.{SpendsQuestion}
 use Rattle.cq_linear.specs.Held.{AreStored}
 use Rattle.cq_linear.specs.StoreValue.{StoreValue}
-use Rattle.cq_linear.proofs.Holding.{last_undone, left_same, room_kept}
+use Rattle.cq_linear.proofs.Holding.{held_undone, last_undone, left_same, room_kept}
 use Rattle.cq_linear.proofs.store.Store.reached.Goals as goal
 
 pub returns-clause-pivots : goal.returns-clause-pivots
@@ -30,6 +30,16 @@ returns-clause-told c =
     ∙ c.in_ok-start.ensures.put)
     _ _ c.undo.ensures.saved c.undo.ensures.now)
     ∙ ap (λ (z : StoreValue). z.told) c.self.view_is
+
+pub invariant_of-self-2 : goal.invariant_of-self-2
+invariant_of-self-2 c =
+    held_undone _ _ _ c.self.invariant c.in_ok-start.start.number c.in_ok-start.ensures.mark _ c.begin.ensures.now
+    (c.begin.new.self.inner.first.now, (c.reach-extent.new.names.now, quantities_of c.reach-extent.new.dict)) c.reach-extent.ensures.grows c.reach-extent.new.numbers.entries
+    c.reach-extent.ensures.numbered
+    _ (counted_changed _ _ c.in_ok-start.ensures.all (zip c.begin.new.self.inner.first.saved (zip c.reach-extent.new.names.saved c.reach-extent.new.dict.saved))
+    (ap (λ z. zip c.begin.new.self.inner.first.saved z) (ap₂ (λ a b. zip a b) c.reach-extent.ensures.names_saved c.reach-extent.ensures.dict_saved)) (c.begin.new.self.inner.first.now, (c.reach-extent.new.names.now, quantities_of c.reach-extent.new.dict))
+    ∙ c.in_ok-start.ensures.put)
+    _ _ c.undo.ensures.saved c.undo.ensures.now
 
 pub returns-clause-saved : goal.returns-clause-saved
 returns-clause-saved c =
