@@ -14,7 +14,7 @@ ghost use Rattle.cq_level.specs.Levelled.{IsOff, IsSloping, IsNext, IsNearing, I
 use crate::choosing::lightest_column;
 use crate::nearing::nearest;
 use cq_dict::dict::{Col, Dict};
-use cq_frac::{Frac, Pair};
+use cq_frac::Frac;
 use cq_simplex::SimplexFault;
 use cq_simplex::leaving::leaving;
 use cq_simplex::rising::entering;
@@ -66,14 +66,15 @@ fn sloping(dict: &Dict, q: usize, up: bool) -> Option<Col>
 }
 
 /// What is to be done next for the row, which is to rise, or to fall.
-fn next_step(dict: &Dict, q: usize, up: bool) -> Result<Step, Pair>
+fn next_step(dict: &Dict, q: usize, up: bool) -> Result<Step, SimplexFault>
     requires table { AreOverColumns dict.now.roles }
     requires row { IsRow dict.now.roles q }
     requires free { is_restricted dict.now.restricted q ≡ false }
     ensures next { IfOk result (λ n. IsNext dict.now.roles dict.now.restricted q up n) }
-    ensures overflow { (pair : Pair) → result ≡ Err pair → RefusesSome dict.now.roles pair }
+    ensures overflow { (pair : Pair) → result ≡ Err (Overflow pair) → RefusesSome dict.now.roles pair }
+    ensures pivots { (n : ℕ) → result ≡ Err (Pivots n) → ⊥ }
 {
-    if let Some(free) = lightest_column(dict, q) {
+    if let Some(free) = lightest_column(dict, q)? {
         return Ok(Step::Ends(Levelled::Crossing(free)));
     }
     let Some(column) = sloping(dict, q, up) else {

@@ -40,7 +40,7 @@ use Rattle.cq_tableau.specs.Stored.{IsStored, IsPlaced, JoinsStored}
 use Rattle.cq_tableau.specs.Values.{IsOpen, IsNumber, open_row, open_column, number_row, dropped_column}
 use Rattle.cq_linear.specs.Alone.{IsNewIn, IsAloneFixed, IsPlaceBehind}
 use Rattle.cq_linear.specs.Equated.{Crosses}
-use Rattle.cq_linear.specs.Faced.{AllApart, IsNotZero}
+use Rattle.cq_face.specs.Faced.{AllApart, IsNotZero}
 use Rattle.cq_linear.specs.Fallen.{FallsAt}
 use Rattle.cq_linear.proofs.Concluded.{crossing_falls}
 use Rattle.cq_linear.proofs.Equations.{crossed_stored}

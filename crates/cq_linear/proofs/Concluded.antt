@@ -20,7 +20,7 @@ use Rattle.cq_linear.specs.declared.entering.Entered.TheVariants.{Joined, Contra
 use Rattle.cq_linear.specs.declared.store.StoreFault.{StoreFault}
 use Rattle.cq_linear.specs.Entered.{IfJoined}
 use Rattle.cq_linear.specs.Equated.{Crosses, IsLevelRow, IsConcluded, IsFound}
-use Rattle.cq_linear.specs.Faced.{AllApart}
+use Rattle.cq_face.specs.Faced.{AllApart}
 use Rattle.cq_linear.specs.Fallen.{FallsAt}
 use Rattle.cq_linear.proofs.Stays.{Covers, covers_all}
 use Rattle.cq_linear.proofs.Equations.{crossed_stored, joined_behind}

@@ -52,7 +52,7 @@ use Rattle.cq_tableau.proofs.Steps.{unchanged, dropped_more, flag_more, form_mor
 use Rattle.cq_tableau.proofs.Joined.{written, free_entry}
 use Rattle.cq_tableau.proofs.Storing.{keeps_last, member_by, known_or_not, placed_known, asked_kept, asked_row}
 use Rattle.cq_linear.specs.Equated.{IsRowBehind, Crosses, HasNoLiveEntry, IsOverEquations}
-use Rattle.cq_linear.specs.Faced.{AllApart}
+use Rattle.cq_face.specs.Faced.{AllApart}
 use Rattle.cq_linear.specs.StoreValue.{MayRefuse, Only}
 use Rattle.cq_linear.proofs.Moments.{speaks_of, behind_refused}
 use Rattle.cq_linear.proofs.Stays.{not_zero_something, place_of, Covers, newly_fixed, named_before}

@@ -1,4 +1,3 @@
-pub mod Faces
 pub mod Stays
 pub mod Holding
 pub mod Moments

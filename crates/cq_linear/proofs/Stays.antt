@@ -41,7 +41,7 @@ use Rattle.spec_echelon.specs.Echelon.{AreDistinct}
 use Rattle.cq_tableau.specs.Newly.{AreNewlyFixed}
 use Rattle.cq_tableau.specs.Fixing.{IsOpenHere, AreOpen, AreFixedNow}
 use Rattle.cq_tableau.specs.Looked.{StandsAt, IsStrict, IsApart}
-use Rattle.cq_linear.specs.Faced.{HoldsAtZero, AllHold, IsNotZero, IsFace, IsOnFace}
+use Rattle.cq_face.specs.Faced.{HoldsAtZero, AllHold, IsNotZero, IsFace, IsOnFace}
 use Rattle.cq_tableau.specs.Raised.{IsBest}
 use Rattle.cq_tableau.proofs.Certified.{greatest_constant}
 use Rattle.cq_tableau.proofs.Tied.{factor_same, entry_not_zero}

@@ -1,6 +1,6 @@
 -- An elimination leaves the rows that do not hold its column as they are: no variable of theirs gets a value, and no disequation of
 -- theirs falls.
-use Rattle.std.proofs.Common.{◌≡◌, ℕ, ◌+◌, ◌<◌, List, [], ◌∷◌, ◌++◌, length, Bool, true, Option, None, Some, ◌⊎◌, inl, inr, arith, refl, ap, sym, subst, ◌∙◌}
+use Rattle.std.proofs.Common.{◌≡◌, ℕ, ◌+◌, List, [], ◌∷◌, ◌++◌, length, Bool, true, Option, None, Some, inl, inr, arith, refl, ap, sym, subst, ◌∙◌}
 use Rattle.std.specs.Prelude.{slice_get, slice_index, MatchOption}
 use Rattle.std.specs.List.{Contains}
 use Rattle.std.proofs.lemmas.List.{get_or_default}
@@ -35,7 +35,7 @@ use Rattle.cq_tableau.specs.Values.{IsOpen, IsNumber, open_row, open_column, num
 use Rattle.cq_tableau.proofs.Tied.{entry_live}
 use Rattle.cq_tableau.proofs.Steps.{form_more}
 use Rattle.cq_linear.specs.Equated.{IsRowBehind}
-use Rattle.cq_linear.specs.Faced.{IsNotZero, AllApart, AllApartAmong}
+use Rattle.cq_face.specs.Faced.{IsNotZero, AllApart, AllApartAmong}
 use Rattle.cq_linear.proofs.Alone.{state}
 use Rattle.cq_linear.proofs.Equations.{live_still, still_dropped, roles_size}
 use Rattle.cq_linear.proofs.Stays.{Covers}
@@ -134,19 +134,6 @@ module _ (told : List Constraint) (names : List Name) (c : Constraint) (roles : 
       moving =
           subst (λ (r : Relation). Stands (Within (tableau roles flags (b.stored.forms ++ c.form ∷ []))) told r m.constraint.form) m.relation_is
           (b.keeps.invariant.stands m.constraint (has_member told m.number m.constraint m.told_at))
-
--- the disequations of the places below a number are apart
-pub one_apart_more : (rows : List ℕ) (told : List Constraint) (names : List Name) (roles : List Role) (i : ℕ)
-    → ((k : ℕ) → k < i → IsMemberOf IsApart told names (slice_index rows k) → IsNotZero roles (slice_index rows k))
-    → (IsMemberOf IsApart told names (slice_index rows i) → IsNotZero roles (slice_index rows i))
-    → (k : ℕ) → k < i + 1 → IsMemberOf IsApart told names (slice_index rows k) → IsNotZero roles (slice_index rows k)
-one_apart_more rows told names roles i h n k l m = elim (last k l) [
-  | inl g ↦ h k g m
-  | inr e ↦ subst (λ y. IsNotZero roles (slice_index rows y)) (sym e) (n (subst (λ y. IsMemberOf IsApart told names (slice_index rows y)) e m))
-]
-  where
-    last : (k : ℕ) → k < i + 1 → (k < i) ⊎ (k ≡ i)
-    last k l = grind arith
 
 -- what a list contains stands at a place
 place_in : (rows : List ℕ) (z : ℕ) → Contains rows z → (k : ℕ) × (k < length rows) × (slice_index rows k ≡ z)

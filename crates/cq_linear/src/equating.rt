@@ -25,11 +25,11 @@ ghost use Rattle.cq_linear.specs.StoreValue.{MayRefuse, MayTake, Only};
 ghost use Rattle.cq_linear.specs.Fallen.{FallsAt};
 
 use crate::entering::{Entered, has_joined};
-use crate::facing::{fallen_among, fallen_disequation};
 use crate::falling::fallen_certificate;
 use crate::solving::{enter_by_new, free_column_of, new_place};
 use crate::store::StoreFault;
 use cq_dict::dict::{Col, Dict};
+use cq_face::facing::{fallen_among, fallen_disequation};
 use cq_form::{Cert, Constraint, Form};
 use cq_frac::{Frac, VarId};
 use cq_level::choosing::lightest_column;
@@ -345,7 +345,7 @@ fn enter_zero(
     ensures dict_saved { dict.new.saved ≡ dict.old.saved }
     ensures dict_room { dict.old.room ≤ dict.new.room }
 {
-    if let Some(column) = lightest_column(dict, q) {
+    if let Some(column) = lightest_column(dict, q)? {
         return enter_by_column(alloc, pivots, numbers, names, dict, told, c, q, column);
     }
     match first_column(dict, q) {

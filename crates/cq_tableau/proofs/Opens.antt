@@ -72,7 +72,7 @@ module _ (at : ℕ → ℕ) (names : List Name) (roles : List Role) (n : ℕ) (x
     }
 
 -- ascending numbers are apart
-rises : (rows : List ℕ) → IsStrictlyIncreasing rows → (k d : ℕ) → k + d + 1 < length rows → slice_index rows k < slice_index rows (k + d + 1)
+pub rises : (rows : List ℕ) → IsStrictlyIncreasing rows → (k d : ℕ) → k + d + 1 < length rows → slice_index rows k < slice_index rows (k + d + 1)
 rises rows h k zero l = subst (λ i. slice_index rows k < slice_index rows i) (omega arith) (h k (omega (arith, l)))
 rises rows h k (suc d) l =
     let first = rises rows h k d (omega (arith, l)) in

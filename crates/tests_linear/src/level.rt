@@ -150,7 +150,7 @@ fn rows_are_levelled(rt: HostRuntime) -> Result<(), Fail> {
 fn lightest(alloc: Global, problem: &Problem) -> Result<Option<usize>, Fail> {
     let (dict, row) = made(alloc, problem)?;
     if row < dict.count() && dict.is_row(row) {
-        return Ok(lightest_column(&dict, row));
+        return Ok(lightest_column(&dict, row)?);
     }
     Ok(None)
 }

@@ -3,14 +3,14 @@ use Rattle.std.specs.Prelude.{slice_get}
 use Rattle.cq_frac.specs.declared.VarId.{VarId}
 use Rattle.cq_dict.specs.DictValue.{quantities_of}
 use Rattle.cq_tableau.specs.declared.names.Name.TheVariants.{Variable, Member}
-use Rattle.cq_linear.specs.Faced.{IsFaced}
+use Rattle.cq_face.specs.Faced.{IsFaced}
 use Rattle.cq_tableau.specs.declared.names.Name.{Name}
 use Rattle.cq_tableau.specs.Stored.{IsBetween}
 use Rattle.cq_linear.specs.Fallen.{FallsAt}
 use Rattle.cq_linear.proofs.Falls.{fallen_falls}
 use Rattle.cq_tableau.specs.Fixing.{AreFixedNow}
 use Rattle.std.proofs.Common.{Err, add-one}
-use Rattle.cq_linear.proofs.Passed.{passed, store_spent, search_refused, spent}
+use Rattle.cq_linear.proofs.Passed.{search_refused, spent}
 use Rattle.cq_linear.proofs.Stops.{face_refused, face_spent}
 use Rattle.cq_tableau.proofs.Storing.{numbered_member}
 use Rattle.cq_linear.proofs.Stays.{face_stored, face_between, covers_all, newly_fixed, named_before}
@@ -56,13 +56,13 @@ returns-clause-joined c =
 
 pub returns-in_err-fallen-clause-overflow : goal.returns-in_err-fallen-clause-overflow
 returns-in_err-fallen-clause-overflow c = λ pair e.
-    let f = passed c.from_residual-in_err-fallen.result c.in_err-fallen.field-0.0 pair c.from_residual-in_err-fallen.ensures.1 e in
+    let f = search_refused c.from_residual-in_err-fallen.result c.in_err-fallen.field-0.0 pair c.from_residual-in_err-fallen.ensures.1 e in
     face_refused c.args.told.now c.args.names.now.now c.args.c.now c.args.dict.now.roles c.args.dict.now.restricted c.args.q c.args.columns.now c.requires.on_face pair
     (c.in_err-fallen.ensures.overflow pair (ap Err f))
 
 pub returns-in_err-fallen-clause-pivots : goal.returns-in_err-fallen-clause-pivots
 returns-in_err-fallen-clause-pivots c = λ n e.
-    let f = store_spent c.from_residual-in_err-fallen.result c.in_err-fallen.field-0.0 n c.from_residual-in_err-fallen.ensures.1 e in
+    let f = spent c.from_residual-in_err-fallen.result c.in_err-fallen.field-0.0 n c.from_residual-in_err-fallen.ensures.1 e in
     let o = c.in_err-fallen.ensures.pivots n (ap Err f) in (
       o.0,
       face_spent c.args.told.now c.args.names.now.now c.args.c.now c.args.dict.now.roles c.args.dict.now.restricted c.args.q c.args.columns.now c.requires.on_face n o.1,

@@ -14,7 +14,7 @@ use Rattle.cq_tableau.specs.Stored.{IsMemberOf, IsBetween, JoinsStored}
 use Rattle.cq_tableau.specs.Values.{IsNumber}
 use Rattle.cq_linear.specs.Entered.{IfJoined}
 use Rattle.cq_linear.specs.Equated.{IsConcluded}
-use Rattle.cq_linear.specs.Faced.{AllApart, AllApartAmong}
+use Rattle.cq_face.specs.Faced.{AllApart, AllApartAmong}
 use Rattle.cq_linear.proofs.Concluded.{joined_by, crossing_between, crossing_falls, crossing_joins}
 use Rattle.cq_linear.proofs.Equations.{roles_size, crossing_refused}
 use Rattle.cq_linear.proofs.Levels.{crossing_live}

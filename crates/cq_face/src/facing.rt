@@ -4,15 +4,15 @@ ghost use Rattle.std.specs.Prelude.{◌≡◌, ◌≤◌, ◌<◌, ℕ, length, 
 ghost use Rattle.std.specs.List.{Contains};
 ghost use Rattle.spec_linear.specs.declared.Relation.TheVariants.{Ne};
 ghost use Rattle.cq_frac.specs.declared.Pair.{Pair};
-ghost use Rattle.cq_linear.specs.declared.store.StoreFault.TheVariants.{Overflow, Pivots};
+ghost use Rattle.cq_simplex.specs.declared.SimplexFault.TheVariants.{Overflow, Pivots};
 ghost use Rattle.cq_tableau.specs.Looked.{IsApart};
 ghost use Rattle.cq_tableau.specs.Stored.{IsMemberOf};
-ghost use Rattle.cq_linear.specs.Faced.{KeepsSome, IsFace, HoldsAtZero, AllApart, AllApartAmong, IsFallenApart, IsZeroNow, IsFaced, RefusesFace, SpendsFace};
+ghost use Rattle.cq_face.specs.Faced.{KeepsSome, IsFace, HoldsAtZero, AllApart, AllApartAmong, IsFallenApart, IsZeroNow, IsFaced, RefusesFace, SpendsFace};
 
-use crate::store::StoreFault;
 use cq_dict::dict::Dict;
 use cq_form::Constraint;
 use cq_row::Entry;
+use cq_simplex::SimplexFault;
 use cq_tableau::dropping::drop_all;
 use cq_tableau::looking::look_again;
 use cq_tableau::names::Name;
@@ -108,7 +108,7 @@ pub fn face(
     dict: &mut Dict,
     q: usize,
     columns: &[Entry],
-) -> Result<Option<usize>, StoreFault>
+) -> Result<Option<usize>, SimplexFault>
     requires keeps { KeepsSome dict.old.roles dict.old.restricted }
     requires face { IsFace dict.old.roles dict.old.restricted q columns.now }
     ensures holds { OnOk result (HoldsAtZero q dict.old.roles dict.old.restricted dict.new.roles dict.new.restricted) }

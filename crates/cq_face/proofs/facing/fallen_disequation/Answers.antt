@@ -1,7 +1,7 @@
 use Rattle.std.proofs.Common.{arith}
-use Rattle.cq_linear.proofs.Faces.{one_apart}
-use Rattle.cq_linear.proofs.facing.fallen_disequation.Goals as goal
-use Rattle.cq_linear.proofs.facing.fallen_disequation.Goals.{else-is_of_disequation-via-then-is_of_disequation+else-is_zero_now, else-is_of_disequation-via-else-is_of_disequation}
+use Rattle.cq_face.proofs.Faces.{one_apart}
+use Rattle.cq_face.proofs.facing.fallen_disequation.Goals as goal
+use Rattle.cq_face.proofs.facing.fallen_disequation.Goals.{else-is_of_disequation-via-then-is_of_disequation+else-is_zero_now, else-is_of_disequation-via-else-is_of_disequation}
 
 pub returns-then-is_zero_now : goal.returns-then-is_zero_now
 returns-then-is_zero_now c = (c.if-is_of_disequation.ensures, c.if-is_zero_now.ensures)

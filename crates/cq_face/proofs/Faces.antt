@@ -1,6 +1,6 @@
 -- What holds where a quantity is held to zero, its greatest value.
 use Rattle.std.proofs.Common.{◌≡◌, ℕ, ◌<◌, List, [], ◌∷◌, length, Bool, true, false, ◌⊎◌, inl, inr, ◌↔◌, ◌+◌, Option, None, Some, arith, refl, ap, sym, subst, ◌∙◌}
-use Rattle.std.specs.Prelude.{slice_set, MatchOption}
+use Rattle.std.specs.Prelude.{slice_index, slice_set, MatchOption}
 use Rattle.std.proofs.lemmas.List.{length-set}
 use Rattle.spec_rational.specs.Rational.{ℚ, 0ℚ, IsNotNegative}
 use Rattle.spec_rational.proofs.Sign.{nonneg_zero}
@@ -27,7 +27,7 @@ use Rattle.cq_tableau.specs.declared.names.Name.{Name}
 use Rattle.cq_tableau.specs.Stored.{IsMemberOf}
 use Rattle.cq_tableau.specs.Values.{IsNumber}
 use Rattle.cq_tableau.specs.Looked.{LooksOn, SpeaksOfSome, IsFlatAt, IsStrict, IsApart, IsFallen, AllStand}
-use Rattle.cq_linear.specs.Faced.{KeepsSome, IsFace, HoldsAtZero, IsNotZero, IsZeroNow, AllApart, AllHold, HasFallen, strict_fallen, apart_fallen, IsFaced}
+use Rattle.cq_face.specs.Faced.{KeepsSome, IsFace, HoldsAtZero, IsNotZero, IsZeroNow, AllApart, AllHold, HasFallen, strict_fallen, apart_fallen, IsFaced}
 use Rattle.cq_tableau.proofs.Tied.{linked, optimal_of}
 use Rattle.cq_tableau.proofs.Steps.{restricted, flag_only, flag_still}
 use Rattle.cq_tableau.proofs.Looks.{drop_speaks, columns_zero, row_flat, flat_further, quantities-negated}
@@ -188,3 +188,16 @@ module _ (q : ℕ) (old : List Role) (flags : List Bool) (mid : List Role) (mid_
       subst (λ g. AllHold told names q old flags new g) (sym e)
       (record { stand = λ forms l k z r. a forms (at_least_zero (form_at forms q) ∷ l) (h.speaks forms l k) z r; apart = m })
   disequations_faced told names (Some z) a m = apart_fallen m.0 m.1
+
+-- the disequations of the places below a number are apart
+pub one_apart_more : (rows : List ℕ) (told : List Constraint) (names : List Name) (roles : List Role) (i : ℕ)
+    → ((k : ℕ) → k < i → IsMemberOf IsApart told names (slice_index rows k) → IsNotZero roles (slice_index rows k))
+    → (IsMemberOf IsApart told names (slice_index rows i) → IsNotZero roles (slice_index rows i))
+    → (k : ℕ) → k < i + 1 → IsMemberOf IsApart told names (slice_index rows k) → IsNotZero roles (slice_index rows k)
+one_apart_more rows told names roles i h n k l m = elim (last k l) [
+  | inl g ↦ h k g m
+  | inr e ↦ subst (λ y. IsNotZero roles (slice_index rows y)) (sym e) (n (subst (λ y. IsMemberOf IsApart told names (slice_index rows y)) e m))
+]
+  where
+    last : (k : ℕ) → k < i + 1 → (k < i) ⊎ (k ≡ i)
+    last k l = grind arith

@@ -1,9 +1,9 @@
 use Rattle.std.proofs.Common.{◌<◌, length, arith}
 use Rattle.std.specs.Prelude.{slice_index}
 use Rattle.std.proofs.lemmas.List.Elements.{Contains-get_or}
-use Rattle.cq_linear.proofs.Untouched.{one_apart_more}
-use Rattle.cq_linear.proofs.facing.fallen_among.Goals as goal
-use Rattle.cq_linear.proofs.facing.fallen_among.Goals.{else-is_of_disequation-via-then-is_of_disequation+else-is_zero_now, else-is_of_disequation-via-else-is_of_disequation}
+use Rattle.cq_face.proofs.Faces.{one_apart_more}
+use Rattle.cq_face.proofs.facing.fallen_among.Goals as goal
+use Rattle.cq_face.proofs.facing.fallen_among.Goals.{else-is_of_disequation-via-then-is_of_disequation+else-is_zero_now, else-is_of_disequation-via-else-is_of_disequation}
 
 pub is_zero_now-requires : goal.is_zero_now-requires
 is_zero_now-requires c =

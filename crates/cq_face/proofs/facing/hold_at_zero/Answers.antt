@@ -1,8 +1,8 @@
 use Rattle.std.proofs.Common.{◌<◌, true, ap, sym, subst, ◌∙◌, arith}
 use Rattle.std.specs.Prelude.{slice_set}
-use Rattle.cq_linear.specs.Faced.{HoldsAtZero}
-use Rattle.cq_linear.proofs.Faces.{face_live, face_there, holds_at_zero}
-use Rattle.cq_linear.proofs.facing.hold_at_zero.Goals as goal
+use Rattle.cq_face.specs.Faced.{HoldsAtZero}
+use Rattle.cq_face.proofs.Faces.{face_live, face_there, holds_at_zero}
+use Rattle.cq_face.proofs.facing.hold_at_zero.Goals as goal
 
 pub prove-unreachable-requires : goal.prove-unreachable-requires
 prove-unreachable-requires c =
