@@ -1,6 +1,6 @@
 // Terms of a heap that are built from patterns over new variables.
 
-ghost use Rattle.std.specs.Prelude.{◌≡◌, ◌<◌, ◌≤◌, ◌++◌, [], ℕ, List, length, map, take, drop, reverse, All, IfOk, OnOk, OnErr};
+ghost use Rattle.std.specs.Prelude.{◌≡◌, ◌<◌, ◌≤◌, ◌++◌, [], ℕ, List, length, map, reverse, All, IfOk, OnOk, OnErr};
 ghost use Rattle.spec_lists.specs.Prefixes.{IsPrefix};
 ghost use Rattle.spec_terms.specs.Term.{apply};
 ghost use Rattle.cq_term.specs.Names.{KeepsNames};
@@ -115,17 +115,8 @@ fn add_compound(
     ensures room { heap.old.room ≤ heap.new.room }
 {
     let first = built.len() - arity;
-    reverse_from(built, first);
-    let whole = heap.compound(name, &built[first..])?;
+    let whole = heap.compound_reversed(name, &built[first..])?;
     built.truncate(first);
     built.push(whole)?;
     Ok(())
-}
-
-/// Reverses the ids from a place on.
-fn reverse_from(ids: &mut Vec<TermId>, first: usize)
-    requires { first ≤ length ids.old.items }
-    ensures { ids.new.items ≡ take first ids.old.items ++ reverse (drop first ids.old.items) }
-{
-    ids[first..].reverse();
 }

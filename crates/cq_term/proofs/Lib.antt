@@ -8,3 +8,4 @@ pub mod Known
 pub mod Named
 pub mod Images
 pub mod Variables
+pub mod Reversed

@@ -1,6 +1,6 @@
 // A heap of terms: cells that stay as they were built, and the variables' bindings beside them.
 
-ghost use Rattle.std.specs.Prelude.{List, ℕ, ◌≡◌, ◌<◌, ◌≤◌, ◌^◌, ◌++◌, [], ◌∷◌, map, length, All, slice_get, Some, IfOk, OnOk, OnErr, IsTrue};
+ghost use Rattle.std.specs.Prelude.{List, ℕ, ◌≡◌, ◌<◌, ◌≤◌, ◌^◌, ◌++◌, [], ◌∷◌, map, length, reverse, All, slice_get, Some, IfOk, OnOk, OnErr, IsTrue};
 ghost use Rattle.spec_terms.specs.Term.{Var, Number, Name, Occurs, with_arguments, apply, single};
 ghost use Rattle.spec_rational.specs.Rational.{int_ℚ};
 ghost use Rattle.cq_term.specs.Meaning.{at};
@@ -8,7 +8,7 @@ ghost use Rattle.cq_term.specs.Ground.{IsGround};
 ghost use Rattle.cq_term.specs.Names.{HasNamesOfTerms};
 ghost use Rattle.cq_term.specs.Shown.{view_of, arguments, variables_from, IsUnbound};
 
-use crate::lists::{Binding, Cell, Lists, unbind, word};
+use crate::lists::{Binding, Cell, Lists, push_reversed, unbind, word};
 use crate::names::{Newly, TermId};
 use crate::view::View;
 use cq_atoms::Atom;
@@ -178,6 +178,36 @@ impl Heap {
             start,
         };
         self.lists.cells.push(cell).unwrap();
+        Ok(TermId::new(id))
+    }
+
+    /// The same of arguments of which the last stands first.
+    pub fn compound_reversed(&mut self, name: Atom, args: &[TermId]) -> Result<TermId, AllocError>
+        requires some { 0 < length args.now }
+        requires live { All (λ i. i < length self.old.now.terms) args.now }
+        ensures id { IfOk result (λ id. id ≡ length self.old.now.terms) }
+        ensures terms { OnOk result (self.new.now.terms ≡ self.old.now.terms ++ with_arguments name (map (at self.old.now.terms) (reverse args.now)) ∷ []) }
+        ensures images { OnOk result (self.new.now.images ≡ self.old.now.images) }
+        ensures saved { self.new.saved ≡ self.old.saved }
+        ensures room { self.old.room ≤ self.new.room }
+        ensures err { OnErr result (self.new.now ≡ self.old.now) }
+    {
+        let Ok(count) = u32::try_from(args.len()) else {
+            return Err(AllocError);
+        };
+        let id = self.lists.cells.len();
+        let ground = self.are_ground(args);
+        let start = self.lists.args.len();
+        self.lists.cells.reserve(1)?;
+        self.lists.args.reserve(args.len())?;
+        push_reversed(&mut self.lists.args, args);
+        let cell = Cell::Compound {
+            ground,
+            count,
+            name,
+            start,
+        };
+        self.lists.cells.push_reserved(cell);
         Ok(TermId::new(id))
     }
 

@@ -1,6 +1,6 @@
 // The lists that a heap is made of: cells of one small size, and beside them what has no room there.
 
-ghost use Rattle.std.specs.Prelude.{ℕ, ◌≡◌, ◌≤◌, ◌<◌, length, take, drop, slice_get, Some, IfSome, IfOk, OnOk, OnErr};
+ghost use Rattle.std.specs.Prelude.{ℕ, ◌≡◌, ◌≤◌, ◌<◌, ◌+◌, ◌++◌, length, take, drop, reverse, slice_get, vec_len, vec_capacity, Some, IfSome, IfOk, OnOk, OnErr};
 ghost use Rattle.spec_rational.specs.Rational.{int_ℚ};
 ghost use Rattle.cq_term.specs.Layout.{IsWhole, Leads, contents, restored, with_vars};
 
@@ -98,6 +98,16 @@ pub(crate) fn word(number: Frac) -> Option<i64>
         i64::try_from(numerator).ok()
     } else {
         None
+    }
+}
+
+/// Puts ids behind a list that has room for them, the last one first.
+pub(crate) fn push_reversed(list: &mut Vec<TermId>, ids: &[TermId])
+    requires { vec_len list.old + length ids.now ≤ vec_capacity list.old }
+    ensures { list.new.items ≡ list.old.items ++ reverse ids.now }
+{
+    for i in (0..ids.len()).rev() {
+        list.push_reserved(ids[i]);
     }
 }
 
