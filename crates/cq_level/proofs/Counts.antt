@@ -112,8 +112,8 @@ module _ (roles : List Role) (c : ℕ) (rows : List ℕ) (t : AreTouched roles c
   all_counted k n h i =
       i.count
       ∙ sym (none_until i.end (length roles) i.within (omega arith) (λ z a b o.
-          let at = get_or_default rows o.0 0 z o.1 ∙ o.2 in
-          let l = o.1 in
-          let y = i.before o.0 (omega (arith, l, h)) l in
-          omega (arith, at, y, a)))
+      let at = get_or_default rows o.0 0 z o.1 ∙ o.2 in
+      let l = o.1 in
+      let y = i.before o.0 (omega (arith, l, h)) l in
+      omega (arith, at, y, a)))
       ∙ ap (rows_with c) (take_all (length roles) roles (omega arith))
