@@ -1,4 +1,4 @@
-use Rattle.std.proofs.Common.{◌≡◌, ◌+◌, ◌<◌, length, arith, ap, sym, subst}
+use Rattle.std.proofs.Common.{◌+◌, ◌<◌, length, arith, subst}
 use Rattle.std.specs.Prelude.{slice_index}
 use Rattle.std.proofs.lemmas.List.Elements.{Contains-get_or}
 use Rattle.cq_level.proofs.Counts.{IsCounted, none_counted, one_counted, all_counted}

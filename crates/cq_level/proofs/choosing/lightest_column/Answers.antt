@@ -5,7 +5,7 @@ use Rattle.cq_dict.specs.Roles.{is_restricted}
 use Rattle.cq_simplex.proofs.Entries.{entry_below}
 use Rattle.cq_level.proofs.Lights.{AreLightest, IsLightestOf, restricted_next, free_next, lightest_of, none_lightest, only_lightest, only_restricted}
 use Rattle.cq_level.proofs.choosing.lightest_column.Goals as goal
-use Rattle.cq_level.proofs.choosing.lightest_column.Goals.{then-not-is_restricted, else-not-is_restricted}
+use Rattle.cq_level.proofs.choosing.lightest_column.Goals.{then-not-is_restricted+in_ok-rows, else-not-is_restricted}
 
 pub is_restricted-requires : goal.is_restricted-requires
 is_restricted-requires c =
@@ -44,7 +44,7 @@ loop-m-preserved c =
     let items = c.row-m-items.result.now in
     let m = c.m-item.result in
     elim c.if-not-is_restricted.branch [
-      | then-not-is_restricted w ↦
+      | then-not-is_restricted+in_ok-rows w ↦
           let f : is_restricted flags m.quantity ≡ false = sym c.is_restricted-in-loop-m.ensures ∙ w.if-not-is_restricted.true in
           subst (AreLightest roles flags (take (c.loop-m.m-index + 1) items)) (sym w.found-is)
           (free_next roles flags items c.loop-m.m-index m c.loop-m-test.true c.m-item.is f (record { column = m.quantity; rows = w.in_ok-rows.rows }) refl w.in_ok-rows.ensures
