@@ -25,6 +25,15 @@ impl Model for Atom {
     ghost inverse = { λ n. record { number = n } };
 }
 
+impl Atom {
+    /// The number, for lists by name.
+    pub fn index(self) -> usize
+        ensures { result ≡ self }
+    {
+        self.number
+    }
+}
+
 /// The names that were given so far. Contracts see the list of their texts, by number.
 #[derive(Drop)]
 pub struct Atoms {

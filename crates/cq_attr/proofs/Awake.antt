@@ -10,10 +10,10 @@ use Rattle.cq_frac.specs.declared.VarId.{VarId}
 use Rattle.cq_walk.specs.Places.{numbers_of}
 use Rattle.cq_attr.specs.declared.susp.Slot.{Slot}
 use Rattle.cq_attr.specs.NotesValue.{behind_newest, IsNoteAt}
-use Rattle.cq_attr.specs.Attributes.{IsWokenBy}
+use Rattle.cq_attr.specs.Attributes.{IsWokenBy, Ascends}
 use Rattle.cq_attr.specs.Layout.{NumericNotes, Watchers, IsAwake, attributes_of}
 use Rattle.cq_attr.proofs.Newest.{newest_le, newest_above, newest_is}
-use Rattle.cq_attr.proofs.Elements.{get_taken, contains_here, contains_later}
+use Rattle.cq_attr.proofs.Elements.{get_taken, contains_here, contains_later, contains_none}
 use Rattle.cq_attr.proofs.Numbers.{awake_waits, waits_awake}
 
 -- the variable's notes from the place on were visited: what they lead to was found beside what there was at the start
@@ -145,3 +145,11 @@ module _ (ws : Watchers) (ss : List Slot) (vs : List VarId) where
   pub woken_by : (ns : NumericNotes) (i : ℕ) (d : VarId) (n : ℕ) → i < length vs → IsAwake ws ss (get_or vs i d).0 n → IsWokenBy (attributes_of ns ws ss) (numbers_of vs) n
   woken_by ns i d n within a =
       record { variable = (get_or vs i d).0; is_new = contains_number vs i d within; waits_for = awake_waits ns ws ss (get_or vs i d).0 n a }
+
+-- nothing is woken where nothing was ever suspended
+pub none_woken : (ns : NumericNotes) (ws : Watchers) (ss : List Slot) (vs : List ℕ) (n : ℕ) → length ss ≡ 0 → IsWokenBy (attributes_of ns ws ss) vs n → ⊥
+none_woken ns ws [] vs n none h = contains_none h.waits_for.waiting h.waits_for.waits
+none_woken ns ws (s ∷ ss) vs n none h = omega (arith, none)
+
+pub ascends_short : (ns : List ℕ) → length ns < 2 → Ascends ns
+ascends_short ns short i j d before within = absurd (omega (arith, short, before, within))

@@ -28,6 +28,12 @@ have_suspended ws ss vs s have =
     let longer = length-append ss (s ∷ []) in
     have_noted ws (ss ++ s ∷ []) vs (length ss) (All-weaker P Q (λ w h. omega (arith, h, longer)) ws have) (omega (arith, longer))
 
+pub have_taken : (ws : Watchers) (ss : List Slot) (m : ℕ) (s : Slot) → HaveSlots ws ss → HaveSlots ws (set ss m s)
+have_taken ws ss m s have =
+    let P : ℕ × ℕ → Type 0 = λ w. w.1 < length ss in
+    let Q : ℕ × ℕ → Type 0 = λ w. w.1 < length (set ss m s) in
+    All-weaker P Q (λ w h. omega (arith, h, length-set ss m s)) ws have
+
 -- ---- attributes
 
 module _ (ns : NumericNotes) (ws : Watchers) (ss : List Slot) where

@@ -1,6 +1,7 @@
 -- How attributes are kept: notes that variables are numeric, notes of what waits for them, and the slots by number.
-use Rattle.std.specs.Prelude.{◌≡◌, ℕ, suc, ◌<◌, ◌==◌, min, List, [], ◌∷◌, map, length, All, true, Option, None, Some, slice_get, if◌then◌else◌}
+use Rattle.std.specs.Prelude.{◌≡◌, ℕ, suc, ◌<◌, ◌==◌, List, [], ◌∷◌, map, length, All, true, Option, None, Some, slice_get, if◌then◌else◌}
 use Rattle.std.specs.List.{filter_map, zip}
+use Rattle.cq_counted.specs.Counting.{counted, countable}
 use Rattle.cq_trail.specs.TrailValue.{TrailValue}
 use Rattle.cq_attr.specs.NotesValue.{NotesValue}
 use Rattle.cq_attr.specs.Attributes.{Waiting, Attributes, AttrsValue}
@@ -31,26 +32,34 @@ waiting_from n (s ∷ ss) ws = if s.waits then waiting_at n s ws ∷ waiting_fro
 abbrev pub attributes_of : NumericNotes → Watchers → List Slot → Attributes
 attributes_of ns ws ss = record { numeric = map (λ n. n.0) ns; waiting = waiting_from 0 ss ws; next = length ss }
 
-abbrev pub attributes_by : NumericNotes × (Watchers × List Slot) → Attributes
+abbrev pub Parts : Type 0
+Parts = NumericNotes × (Watchers × List Slot)
+
+abbrev pub attributes_by : Parts → Attributes
 attributes_by p = attributes_of p.0 p.1.0 p.1.1
 
-abbrev pub attrs_value : NotesValue (Unit {0}) → NotesValue ℕ → TrailValue Slot → AttrsValue
-attrs_value ns ws ss = record {
-  now = attributes_of ns.now ws.now ss.now;
-  saved = map attributes_by (zip ns.saved (zip ws.saved ss.saved));
-  room = min ns.room (min ws.room ss.room);
+abbrev pub parts_of : NotesValue (Unit {0}) → NotesValue ℕ → TrailValue Slot → Parts
+parts_of ns ws ss = (ns.now, (ws.now, ss.now))
+
+-- the parts at the live marks, which are so many
+abbrev pub parts_saved : NotesValue (Unit {0}) → NotesValue ℕ → TrailValue Slot → ℕ → List Parts
+parts_saved ns ws ss n = counted (zip ns.saved (zip ws.saved ss.saved)) n (parts_of ns ws ss)
+
+abbrev pub attrs_value : NotesValue (Unit {0}) → NotesValue ℕ → TrailValue Slot → ℕ → AttrsValue
+attrs_value ns ws ss n = record {
+  now = attributes_by (parts_of ns ws ss);
+  saved = map attributes_by (parts_saved ns ws ss n);
+  room = countable n;
 }
 
 -- each watcher's number has a slot
 abbrev pub HaveSlots : Watchers → List Slot → Type 0
 HaveSlots ws ss = All (λ w. w.1 < length ss) ws
 
--- the same marks are live in all parts, and now and at each mark the watchers' numbers have slots
-pub record AreParts (ws : Watchers) (ss : List Slot) (numeric : List NumericNotes) (watchers : List Watchers) (slots : List (List Slot)) : Type 0 where
-  pub now : HaveSlots ws ss
-  pub watchers_together : length watchers ≡ length numeric
-  pub slots_together : length slots ≡ length numeric
-  pub marks : (k : ℕ) (w : Watchers) (s : List Slot) → slice_get watchers k ≡ Some w → slice_get slots k ≡ Some s → HaveSlots w s
+-- now and at each mark the watchers' numbers have slots
+pub record AreParts (parts : Parts) (saved : List Parts) : Type 0 where
+  pub now : HaveSlots parts.1.0 parts.1.1
+  pub marks : (k : ℕ) (p : Parts) → slice_get saved k ≡ Some p → HaveSlots p.1.0 p.1.1
 
 -- a variable's note leads to a number that still waits
 pub record IsAwake (ws : Watchers) (ss : List Slot) (v n : ℕ) : Type 0 where

@@ -7,21 +7,22 @@ ghost use Rattle.cq_attr.specs.Layout.{HaveSlots, IsAwake};
 
 use crate::notes::Notes;
 use crate::susp::{Slot, Susp, SuspNo};
+use cq_counted::Counted;
 use cq_frac::VarId;
-use cq_trail::{Mark, Trail, Undo};
+use cq_trail::{Both, Mark, Trail, Undo};
 use std::alloc::{AllocError, Global};
 use std::marker::Model;
 
-/// Which variables are numeric, and what waits for which variables, by ascending number. `mark` takes constant time,
-/// `undo` the time of the changes since.
+/// The numeric variables; the numbers that are to be looked at once a variable is bound, where those that no longer wait
+/// stand too; and what was suspended, by number.
+type Parts = Both<Notes<()>, Both<Notes<usize>, Trail<Slot>>>;
+
+/// Which variables are numeric, and what waits for which variables, by ascending number. `mark` takes constant time and no
+/// memory, `undo` the time of the changes since. The first change behind marks takes the time of these marks, and memory
+/// may run out there.
 #[derive(Drop)]
 pub struct Attrs {
-    /// The numeric variables.
-    numeric: Notes<()>,
-    /// The numbers that are to be looked at once a variable is bound. Those that no longer wait stand there too.
-    watchers: Notes<usize>,
-    /// What was suspended, by number.
-    slots: Trail<Slot>,
+    parts: Counted<Parts>,
     alloc: Global,
 }
 
@@ -30,11 +31,13 @@ impl Model for Attrs {
 
     ghost Value = { AttrsValue };
 
-    ghost use Rattle.cq_attr.specs.Layout.{attrs_value, AreParts};
+    ghost use Rattle.cq_attr.specs.Layout.{parts_of, parts_saved, attrs_value, AreParts};
 
-    ghost view = { λ a. attrs_value a.numeric a.watchers a.slots };
+    ghost view = { λ a. attrs_value a.parts.inner.first a.parts.inner.second.first a.parts.inner.second.second a.parts.marks };
 
-    ghost invariant = { λ a. AreParts a.watchers.now a.slots.now a.numeric.saved a.watchers.saved a.slots.saved };
+    ghost invariant = { λ a.
+        AreParts (parts_of a.parts.inner.first a.parts.inner.second.first a.parts.inner.second.second)
+        (parts_saved a.parts.inner.first a.parts.inner.second.first a.parts.inner.second.second a.parts.marks) };
 }
 
 impl Attrs {
@@ -43,10 +46,20 @@ impl Attrs {
         ensures now { result.now ≡ nothing }
         ensures saved { result.saved ≡ [] }
     {
+        let waiting = Both {
+            first: Notes::new(alloc),
+            second: Trail::new(alloc),
+        };
+        let parts = Both {
+            first: Notes::new(alloc),
+            second: waiting,
+        };
         Attrs {
-            numeric: Notes::new(alloc),
-            watchers: Notes::new(alloc),
-            slots: Trail::new(alloc),
+            parts: Counted {
+                inner: parts,
+                marks: 0,
+                own: 0,
+            },
             alloc,
         }
     }
@@ -60,10 +73,11 @@ impl Attrs {
         ensures saved { self.new.saved ≡ self.old.saved }
         ensures room { self.old.room ≤ self.new.room }
     {
-        if self.numeric.contains(variable) {
+        if self.parts.inner.first.contains(variable) {
             return Ok(());
         }
-        self.numeric.extend(&[variable], ())?;
+        self.parts.put_marks()?;
+        self.parts.inner.first.extend(&[variable], ())?;
         Ok(())
     }
 
@@ -71,7 +85,7 @@ impl Attrs {
     pub fn is_numeric(&self, variable: VarId) -> bool
         ensures { result ≡ is_numeric self.now.now variable.0 }
     {
-        self.numeric.contains(variable)
+        self.parts.inner.first.contains(variable)
     }
 
     /// Lets a goal or a constraint wait for the variables, behind all that waits. Fails for want of memory, with
@@ -83,10 +97,12 @@ impl Attrs {
         ensures saved { self.new.saved ≡ self.old.saved }
         ensures room { self.old.room ≤ self.new.room }
     {
-        let number = self.slots.len();
-        self.slots.reserve_places(1)?;
-        self.watchers.extend(variables, number)?;
-        self.slots.push(Slot { susp, waits: true }).unwrap();
+        self.parts.put_marks()?;
+        let waiting = &mut self.parts.inner.second;
+        let number = waiting.second.len();
+        waiting.second.reserve_places(1)?;
+        waiting.first.extend(variables, number)?;
+        waiting.second.push(Slot { susp, waits: true }).unwrap();
         Ok(SuspNo::new(number))
     }
 
@@ -99,7 +115,9 @@ impl Attrs {
         ensures saved { self.new.saved ≡ self.old.saved }
         ensures room { self.old.room ≤ self.new.room }
     {
-        self.watchers.extend(variables, number.index())?;
+        self.parts.put_marks()?;
+        let watchers = &mut self.parts.inner.second.first;
+        watchers.extend(variables, number.index())?;
         Ok(())
     }
 
@@ -112,8 +130,15 @@ impl Attrs {
         ensures err { OnErr result ((n : ℕ) × IsWokenBy self.now.now (numbers_of newly.now) n) }
     {
         let mut found = Vec::new(self.alloc);
+        if self.parts.inner.second.second.is_empty() {
+            return Ok(found);
+        }
         for variable in newly {
-            find_awake(&self.watchers, &self.slots, *variable, &mut found)?;
+            let waiting = &self.parts.inner.second;
+            find_awake(&waiting.first, &waiting.second, *variable, &mut found)?;
+        }
+        if found.len() < 2 {
+            return Ok(found);
         }
         found.sort_unstable();
         found.dedup();
@@ -128,9 +153,10 @@ impl Attrs {
         ensures saved { self.new.saved ≡ self.old.saved }
         ensures room { self.old.room ≤ self.new.room }
     {
-        let susp = self.slots.get(number.index()).susp;
-        let taken = Slot { susp, waits: false };
-        self.slots.set(number.index(), taken)?;
+        self.parts.put_marks()?;
+        let slots = &mut self.parts.inner.second.second;
+        let susp = slots.get(number.index()).susp;
+        slots.set(number.index(), Slot { susp, waits: false })?;
         Ok(())
     }
 
@@ -139,7 +165,8 @@ impl Attrs {
         requires { Contains (numbers self.now.now.waiting) number }
         ensures { find self.now.now.waiting number ≡ Some result.now }
     {
-        &self.slots.get(number.index()).susp
+        let slots = &self.parts.inner.second.second;
+        &slots.get(number.index()).susp
     }
 
     /// The numbers that wait, ascending. Fails for want of memory, and only where one waits.
@@ -148,7 +175,8 @@ impl Attrs {
         ensures err { OnErr result (0 < length self.now.now.waiting) }
     {
         let mut numbers = Vec::new(self.alloc);
-        for (number, slot) in self.slots.as_slice().iter().enumerate() {
+        let slots = &self.parts.inner.second.second;
+        for (number, slot) in slots.as_slice().iter().enumerate() {
             if slot.waits {
                 numbers.push(SuspNo::new(number))?;
             }
@@ -161,7 +189,7 @@ impl Attrs {
         ensures ascending { Ascends (numbers self.now.now.waiting) }
         ensures below { All (λ n. n < self.now.now.next) (numbers self.now.now.waiting) }
     {
-        let _ = &self.slots;
+        let _ = &self.parts;
     }
 }
 
@@ -201,33 +229,24 @@ impl Undo for Attrs {
     ghost room = { λ a. a.room };
 
     fn mark(&mut self) -> Result<Mark, AllocError> {
-        self.reserve(1)?;
-        let m = self.numeric.mark().unwrap();
-        self.watchers.mark().unwrap();
-        self.slots.mark().unwrap();
+        let m = self.parts.mark()?;
         Ok(m)
     }
 
     fn undo(&mut self, m: Mark) {
-        self.numeric.undo(m);
-        self.watchers.undo(m);
-        self.slots.undo(m);
+        self.parts.undo(m);
     }
 
     fn forget(&mut self, m: Mark) {
-        self.numeric.forget(m);
-        self.watchers.forget(m);
-        self.slots.forget(m);
+        self.parts.forget(m);
     }
 
     fn reserve(&mut self, n: usize) -> Result<(), AllocError> {
-        self.numeric.reserve(n)?;
-        self.watchers.reserve(n)?;
-        self.slots.reserve(n)
+        self.parts.reserve(n)?;
+        Ok(())
     }
 
     fn spare(&self) -> usize {
-        let watchers = self.watchers.spare().min(self.slots.spare());
-        self.numeric.spare().min(watchers)
+        self.parts.spare()
     }
 }

@@ -1,10 +1,16 @@
--- What the head of a clause comes to at a goal.
+-- What the head of a clause comes to at a goal, and pairs of terms that are made equal.
 use Rattle.std.specs.Prelude.{◌≡◌, ℕ, List, Contains, false, ⊤}
 use Rattle.cq_attr.specs.Attributes.{Attributes, is_numeric, IsWokenBy}
 use Rattle.cq_frac.specs.declared.VarId.{VarId}
+use Rattle.cq_rest.specs.Equal.{AllEqual}
+use Rattle.cq_term.specs.HeapValue.{Terms}
+use Rattle.cq_term.specs.Names.{KeepsNames}
 use Rattle.cq_walk.specs.Places.{numbers_of}
+use Rattle.cq_walk.specs.declared.pairs.Pair.{Pair}
 use Rattle.cq_begin.specs.declared.entering.Entry.{Entry}
 use Rattle.cq_begin.specs.declared.entering.Entry.TheVariants.{Body, Clash, Unsettled}
+use Rattle.cq_begin.specs.declared.equal.Equated.{Equated}
+use Rattle.cq_begin.specs.declared.equal.Equated.TheVariants as equated
 
 -- a fact of the body, where nothing is to be settled
 abbrev pub IfBody : Entry → (ℕ → Type 0) → Type 0
@@ -22,3 +28,24 @@ IfClash Unsettled P = ⊤
 pub record IsFree (a : Attributes) (newly : List VarId) : Type 0 where
   pub numeric : (v : ℕ) → Contains (numbers_of newly) v → is_numeric a v ≡ false
   pub awaited : (n : ℕ) → IsWokenBy a (numbers_of newly) n → ⊥
+
+-- ---- pairs of terms
+
+-- a fact, where they were made equal
+abbrev pub IfEqual : Equated → Type 0 → Type 0
+IfEqual equated.Equal P = P
+IfEqual equated.Apart P = ⊤
+IfEqual equated.Unsettled P = ⊤
+
+-- a fact, where nothing makes them equal
+abbrev pub IfApart : Equated → Type 0 → Type 0
+IfApart equated.Equal P = ⊤
+IfApart equated.Apart P = P
+IfApart equated.Unsettled P = ⊤
+
+-- They were made equal, and nothing is to be settled. Names below a number stay so.
+pub record AreFree (old new : Terms) (a : Attributes) (pairs : List Pair) : Type 0 where
+  pub newly : List VarId
+  pub equal : AllEqual old new pairs newly
+  pub free : IsFree a newly
+  pub names : (n : ℕ) → KeepsNames n old new

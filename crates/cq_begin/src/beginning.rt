@@ -1,6 +1,6 @@
 // The beginning of a branch.
 
-ghost use Rattle.std.specs.Prelude.{◌≡◌, ◌<◌, ◌≤◌, ℕ, All, length, IfOk, OnErr};
+ghost use Rattle.std.specs.Prelude.{◌≡◌, ◌<◌, ◌≤◌, ℕ, [], All, length, IfOk, OnErr};
 ghost use Rattle.cq_atoms.specs.Texts.{AreDifferent};
 ghost use Rattle.cq_frac.specs.declared.Pair.{Pair};
 ghost use Rattle.cq_linear.specs.declared.store.StoreFault.TheVariants.{Overflow, Pivots};
@@ -14,6 +14,7 @@ ghost use Rattle.cq_steps.specs.Lists.{KeepsLists};
 ghost use Rattle.cq_steps.specs.Worlds.{value};
 ghost use Rattle.cq_begin.specs.Begun.{IfGoes, IfPruned, HasWoken, GoesOn, OfWork, Prunes};
 
+use crate::equal::{Equated, equate_free};
 use crate::waking::wake;
 use cq_atoms::Atoms;
 use cq_control::{Continuation, Continuations};
@@ -57,6 +58,85 @@ pub fn begin(
     ensures unchanged { IfOk result (λ b. IfPruned b (now_of world.new ≡ now_of world.old)) }
     ensures err { OnErr result (now_of world.new ≡ now_of world.old) }
 
+    ensures overflow { (pair : Pair) → result ≡ Err (Overflow pair)
+        → OfWork atoms.now (now_of world.old) pairs.now told.items (λ st p. MayRefuse st p pair) }
+    ensures pivots { (n : ℕ) → result ≡ Err (Pivots n)
+        → (n ≡ world.old.store.pivots) × OfWork atoms.now (now_of world.old) pairs.now told.items (λ st p. MayTake st p n) }
+    ensures there { IfOk result (λ b. IfGoes b (λ k. k < length lists.new.now)) }
+    ensures keeps { KeepsLists lists.old.now lists.new.now }
+    ensures lists { lists.new.saved ≡ lists.old.saved }
+    ensures saved { saved_of world.new ≡ saved_of world.old }
+    ensures budget { world.new.store.pivots ≡ world.old.store.pivots }
+    ensures room { room_of world.old ≤ room_of world.new }
+{
+    if told.is_empty() {
+        begin_untold(world, lists, atoms, pairs, told, rest)
+    } else {
+        begin_marked(world, lists, atoms, pairs, told, rest)
+    }
+}
+
+/// The same where nothing is told. Where nothing is to be settled once the pairs are equal, nothing can fail any more, and the heap
+/// alone is marked.
+fn begin_untold(
+    world: &mut World,
+    lists: &mut Continuations<Cell>,
+    atoms: &Atoms,
+    pairs: &[cq_walk::Pair],
+    told: Vec<TermId>,
+    rest: Continuation,
+) -> Result<Begun, StoreFault>
+    requires ready { IsReady atoms.now (now_of world.old) }
+    requires different { AreDifferent atoms.now }
+    requires pairs { All (MayBeEqual world.old.heap.now) pairs.now }
+    requires told { All (MayBeTold world.old.heap.now) told.items }
+    requires none { told.items ≡ [] }
+    requires rest { rest < length lists.old.now }
+    ensures goes { IfOk result (λ b. IfGoes b (GoesOn atoms.now (value world.old lists.old.now) (value world.new lists.new.now)
+        pairs.now told.items rest)) }
+    ensures pruned { IfOk result (λ b. IfPruned b (OfWork atoms.now (now_of world.old) pairs.now told.items Prunes)) }
+    ensures unchanged { IfOk result (λ b. IfPruned b (now_of world.new ≡ now_of world.old)) }
+    ensures err { OnErr result (now_of world.new ≡ now_of world.old) }
+    ensures overflow { (pair : Pair) → result ≡ Err (Overflow pair)
+        → OfWork atoms.now (now_of world.old) pairs.now told.items (λ st p. MayRefuse st p pair) }
+    ensures pivots { (n : ℕ) → result ≡ Err (Pivots n)
+        → (n ≡ world.old.store.pivots) × OfWork atoms.now (now_of world.old) pairs.now told.items (λ st p. MayTake st p n) }
+    ensures there { IfOk result (λ b. IfGoes b (λ k. k < length lists.new.now)) }
+    ensures keeps { KeepsLists lists.old.now lists.new.now }
+    ensures lists { lists.new.saved ≡ lists.old.saved }
+    ensures saved { saved_of world.new ≡ saved_of world.old }
+    ensures budget { world.new.store.pivots ≡ world.old.store.pivots }
+    ensures room { room_of world.old ≤ room_of world.new }
+{
+    equated_worlds_may_be_settled();
+    let _told = world.store.told();
+    let equated = equate_free(&mut world.heap, &world.attrs, pairs)?;
+    match equated {
+        Equated::Equal => Ok(Begun::Goes(rest)),
+        Equated::Apart => Ok(Begun::Pruned),
+        Equated::Unsettled => begin_marked(world, lists, atoms, pairs, told, rest),
+    }
+}
+
+/// The same behind a mark of the whole world, whatever is to be settled.
+fn begin_marked(
+    world: &mut World,
+    lists: &mut Continuations<Cell>,
+    atoms: &Atoms,
+    pairs: &[cq_walk::Pair],
+    told: Vec<TermId>,
+    rest: Continuation,
+) -> Result<Begun, StoreFault>
+    requires ready { IsReady atoms.now (now_of world.old) }
+    requires different { AreDifferent atoms.now }
+    requires pairs { All (MayBeEqual world.old.heap.now) pairs.now }
+    requires told { All (MayBeTold world.old.heap.now) told.items }
+    requires rest { rest < length lists.old.now }
+    ensures goes { IfOk result (λ b. IfGoes b (GoesOn atoms.now (value world.old lists.old.now) (value world.new lists.new.now)
+        pairs.now told.items rest)) }
+    ensures pruned { IfOk result (λ b. IfPruned b (OfWork atoms.now (now_of world.old) pairs.now told.items Prunes)) }
+    ensures unchanged { IfOk result (λ b. IfPruned b (now_of world.new ≡ now_of world.old)) }
+    ensures err { OnErr result (now_of world.new ≡ now_of world.old) }
     ensures overflow { (pair : Pair) → result ≡ Err (Overflow pair)
         → OfWork atoms.now (now_of world.old) pairs.now told.items (λ st p. MayRefuse st p pair) }
     ensures pivots { (n : ℕ) → result ≡ Err (Pivots n)

@@ -107,8 +107,10 @@ fn begin_free(
     look_at(&world.heap, goal);
     let _told = world.store.told();
     lists.reserve_cells(1)?;
-    let mut newly = Newly::new(world.heap.alloc());
-    match enter(clause, &mut world.heap, &world.attrs, &mut newly, goal)? {
+    let mut newly = world.heap.spare_newly();
+    let entry = enter(clause, &mut world.heap, &world.attrs, &mut newly, goal)?;
+    world.heap.keep_newly(newly);
+    match entry {
         Entry::Body(body) => {
             let behind = body_before(clause, lists, atoms, body, height, rest).unwrap();
             Ok(Some(Begun::Goes(behind)))

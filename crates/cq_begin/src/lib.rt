@@ -5,6 +5,7 @@
 mod beginning;
 mod clauses;
 mod entering;
+mod equal;
 mod laws;
 mod rows;
 mod waking;

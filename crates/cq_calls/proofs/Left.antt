@@ -23,7 +23,7 @@ use Rattle.spec_machine.proofs.Kept.{last-older, last-all}
 use Rattle.cq_steps.specs.Choices.{AreOpen, CanBeTried}
 use Rattle.cq_steps.specs.Worlds.{saved_values}
 use Rattle.cq_steps.specs.declared.alternatives.Alternatives.{Alternatives}
-use Rattle.cq_calls.specs.Trying.{IsGone, Leaves, gone, stays}
+use Rattle.cq_calls.specs.Trying.{IsGone, KeepsOthers, Leaves, gone, stays}
 
 -- the choices below the newest are those that are older than it
 pub older-all : {A : Type 0} (x : A) (xs : List A) → last (length xs) (x ∷ xs) ≡ xs
@@ -64,6 +64,13 @@ newest_on {x = x} {y = y} a b = (b.0, b.1, b.2, a.3 ∙ ap (λ (l : List Alterna
 pub gone_on : {first old new : List Alternatives} {x : Alternatives} → IsGone old new → (c : Alternatives) × (older : List Alternatives) × (first ≡ c ∷ older) × (old ≡ x ∷ older)
     → IsGone first new
 gone_on {new = new} {x = x} a b = (b.0, b.2 ∙ ap (λ (l : List Alternatives). b.0 ∷ l) (sym (same-others a.0 x new b.1 (sym a.1 ∙ b.3))))
+
+-- the same where it is not said how the newest was changed
+pub others_on : {first old new : List Alternatives} → KeepsOthers old new → KeepsOthers first old → KeepsOthers first new
+others_on {new = new} a b = (b.0, a.1, b.2, b.3, a.4 ∙ ap (λ (l : List Alternatives). a.1 ∷ l) (same-others a.0 b.1 a.2 b.2 (sym a.3 ∙ b.4)))
+
+pub gone_past : {first old new : List Alternatives} → IsGone old new → KeepsOthers first old → IsGone first new
+gone_past {new = new} a b = (b.0, b.3 ∙ ap (λ (l : List Alternatives). b.0 ∷ l) (sym (same-others a.0 b.1 new b.2 (sym a.1 ∙ b.4))))
 
 -- ---- what is left of the newest choice
 
@@ -111,6 +118,18 @@ put_newest content rest saved old new xs x marked e f =
     subst (λ (l : List Alternatives). Leaves content rest (open_choices saved l) (open_choices saved new)) (sym e)
     (subst (λ (l : List Alternatives). Leaves content rest (open_choices saved (x ∷ xs)) (open_choices saved l)) (sym f)
     (put_there content rest (reverse saved) x xs (omega (arith, length-reverse saved, marked, ap length e))))
+
+-- the same over the world that it goes back to
+pub replaced : (saved : List (Value Contents)) (old new xs : List Alternatives) (x content : Alternatives) (w : Value Contents) (others : Opened) → old ≡ x ∷ xs → new ≡ content ∷ xs
+    → open_choices saved old ≡ (w, x) ∷ others → open_choices saved new ≡ (w, content) ∷ others
+replaced saved old new xs x content w others e f was =
+    ap (λ (l : List Alternatives). open_choices saved l) f ∙ replaced_in (reverse saved) (sym (ap (λ (l : List Alternatives). open_choices saved l) e) ∙ was)
+  where
+    replaced_in : (vs : List (Value Contents)) → zip vs (x ∷ xs) ≡ (w, x) ∷ others → zip vs (content ∷ xs) ≡ (w, content) ∷ others
+    replaced_in [] h = cc
+    replaced_in (v ∷ vs) h =
+        let first : v ≡ w = ap (λ p. p.0) (same-first (v, x) (w, x) (zip vs xs) others h) in
+        ap₂ (λ (z : Value Contents) (l : Opened). (z, content) ∷ l) first (same-others (v, x) (w, x) (zip vs xs) others h)
 
 pub length-opened : (saved : List (Value Contents)) (choices : List Alternatives) → AreMarked saved choices → length (open_choices saved choices) ≡ length choices
 length-opened saved choices m = omega (arith, length-zip (reverse saved) choices, length-reverse saved, m)

@@ -1,4 +1,5 @@
 mod Turns
 pub mod Left
 mod Newest
-mod Called
+mod CalledClauses
+pub mod Waiting

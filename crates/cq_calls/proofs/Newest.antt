@@ -21,7 +21,7 @@ use Rattle.spec_machine.specs.Cells.{Clauses, Stack, Value}
 use Rattle.spec_machine.specs.Coming.{Comes}
 use Rattle.spec_machine.specs.Standing.{engine, IsStanding}
 use Rattle.cq_steps.specs.Choices.{AreOpen, CanBeTried}
-use Rattle.cq_steps.specs.Worlds.{IsBranch, term_in, Stands, Arrives, stack, left_at}
+use Rattle.cq_steps.specs.Worlds.{IsBranch, term_in, Stands, Arrives, Grown, stack, left_at}
 use Rattle.cq_steps.specs.declared.alternatives.Alternatives.{Alternatives}
 use Rattle.cq_steps.specs.declared.alternatives.Alternatives.TheVariants as alternatives
 use Rattle.cq_steps.proofs.Arrived.{comes_at_once}
@@ -81,7 +81,7 @@ module _ (texts : List Text) (v : Program) (saved : List (Value Contents)) (choi
       pub begins_rest : k < length w.1
       begins_rest = rest_there texts db m s older now w t k first others_left back
 
-      module _ (kept : ClauseValue) (got : slice_get v.contents n ≡ Some kept) (height : ℕ) (high : height ≡ length others) where
+      module _ (cur : Value Contents) (grown : Grown texts w cur) (kept : ClauseValue) (got : slice_get v.contents n ≡ Some kept) (height : ℕ) (high : height ≡ length others) where
         parts : first.parts ≡ as_parts texts kept
         parts = content_is texts v n kept got
 
@@ -89,7 +89,7 @@ module _ (texts : List Text) (v : Program) (saved : List (Value Contents)) (choi
         high_stack = high ∙ sym (length-map others (left_at texts v))
 
         -- what becomes of it, with the choices that are left
-        module _ (new later : Value Contents) (same : later ≡ new) (b : Begun) (comes : ClauseComes texts w new t height k kept b) (fewer : List (Value Contents))
+        module _ (new later : Value Contents) (same : later ≡ new) (b : Begun) (comes : ClauseComes texts cur new t height k kept b) (fewer : List (Value Contents))
             (after : List Alternatives) (steps : ℕ) where
           abbrev Came : Stack Contents → Type 0
           Came st = Comes (IsBranch texts) (term_in texts) steps (engine db m st later (goes_to b)) s
@@ -100,20 +100,20 @@ module _ (texts : List Text) (v : Program) (saved : List (Value Contents)) (choi
           pub arrives_left : AreLeft (alternatives.Clauses t rest k) rest w others (open_choices fewer after) → Arrives steps texts v db m fewer after later (goes_to b) s
           arrives_left (inl l) =
               subst Came (sym (ap (map (left_at texts v)) l.1))
-              (came_later older (comes_without texts db m s older now w t k first others_left back height high_stack kept parts new b comes steps
+              (came_later older (comes_without texts db m s older now w t k first others_left back cur grown height high_stack kept parts new b comes steps
               (ap clauses (none_left v rest l.0))))
           arrives_left (inr e) =
               subst Came (sym (ap (map (left_at texts v)) e))
-              (came_later ((w, Clauses t others_left k) ∷ older) (comes_with_others texts db m s older now w t k first others_left back height high_stack kept parts new b comes steps))
+              (came_later ((w, Clauses t others_left k) ∷ older) (comes_with_others texts db m s older now w t k first others_left back cur grown height high_stack kept parts new b comes steps))
 
         -- why the query stops while it is settled
         pub fault_stops : (why : StoreFault) (budget pivots : ℕ) → budget ≡ pivots
-            → ((pair : Pair) → why ≡ fault.Overflow pair → OfClause texts w t height k kept (λ st p. MayRefuse st p pair))
-            → ((x : ℕ) → why ≡ fault.Pivots x → (x ≡ budget) × OfClause texts w t height k kept (λ st p. MayTake st p x)) → FaultStops pivots why s
+            → ((pair : Pair) → why ≡ fault.Overflow pair → OfClause texts cur t height k kept (λ st p. MayRefuse st p pair))
+            → ((x : ℕ) → why ≡ fault.Pivots x → (x ≡ budget) × OfClause texts cur t height k kept (λ st p. MayTake st p x)) → FaultStops pivots why s
         fault_stops (fault.Overflow pair) budget pivots e o q = λ budgets b.
-            refused texts db m s older now w t k first others_left back height high_stack kept parts pair (o pair refl) budgets
+            refused texts db m s older now w t k first others_left back cur grown height high_stack kept parts pair (o pair refl) budgets
         fault_stops (fault.Pivots x) budget pivots e o q = λ budgets b.
-            taken texts db m s older now w t k first others_left back height high_stack kept parts x (q x refl).1 budgets (b ∙ sym e ∙ sym (q x refl).0)
+            taken texts db m s older now w t k first others_left back cur grown height high_stack kept parts x (q x refl).1 budgets (b ∙ sym e ∙ sym (q x refl).0)
         fault_stops fault.NoMemory budget pivots e o q = tt
 
     -- fewer branches and choices wait

@@ -25,10 +25,11 @@ use Rattle.spec_machine.specs.Coming as coming
 use Rattle.spec_machine.specs.Standing.{engine, IsPlace, AreWaiting, IsStanding}
 use Rattle.spec_machine.proofs.Kept.{fits_more, items_older, last-all}
 use Rattle.spec_machine.proofs.Passed.{clause_begun}
-use Rattle.cq_steps.specs.Worlds.{IsBranch, term_in}
+use Rattle.cq_steps.specs.Worlds.{IsBranch, term_in, Grown}
 use Rattle.cq_steps.proofs.Reading.{read_live}
+use Rattle.cq_steps.proofs.Selected.{continuation_grown}
 use Rattle.cq_begin.specs.declared.beginning.Begun.{Begun}
-use Rattle.cq_begin.specs.Begun.{goes_to}
+use Rattle.cq_begin.specs.Begun.{IsPlacedAs, goes_to}
 use Rattle.cq_begin.specs.Calls.{IsCallOf, OfClause, ClauseComes}
 use Rattle.cq_begin.specs.Stops.{ComesToStop}
 use Rattle.cq_begin.proofs.Stopping.{refuses, takes}
@@ -60,18 +61,25 @@ module _ (texts : List Text) (db : Database) (n : ℕ) (s : Search) (older : Sta
     pub rest_there : k < length w.1
     rest_there = place.continuation.there
 
-    module _ (height : ℕ) (high : height ≡ length older) (kept : ClauseValue) (parts : c.parts ≡ as_parts texts kept) where
-      fits : Fits height (items_at w.1 k)
-      fits = subst (λ (m : ℕ). Fits m (items_at w.1 k)) (sym high) place.continuation.fits
+    -- in a world with more continuations it is begun from the choice's world all the same
+    module _ (cur : Value Contents) (grown : Grown texts w cur) (height : ℕ) (high : height ≡ length older) (kept : ClauseValue) (parts : c.parts ≡ as_parts texts kept) where
+      continued : IsPlacedAs texts older cur k begun.0.rest begun.0.state
+      continued = continuation_grown (IsBranch texts) (term_in texts) older w cur grown k begun.0.rest begun.0.state place.continuation
+
+      reads : term_in texts cur.0 t ≡ Some begun.1
+      reads = grown.terms t begun.1 begun.4
+
+      fits : Fits height (items_at cur.1 k)
+      fits = subst (λ (m : ℕ). Fits m (items_at cur.1 k)) (sym high) continued.fits
 
       -- over the choices that are left where it was the last
-      call_gone : IsCallOf texts older w t height k kept begun.0 begun.1 c
+      call_gone : IsCallOf texts older cur t height k kept begun.0 begun.1 c
       call_gone = record {
-        place = place.continuation;
+        place = continued;
         within = omega (arith, high);
         goes_back = place.height ∙ sym (ap (λ (l : Stack Contents). total size l) (ap (λ (m : ℕ). last m older) high ∙ last-all older (length older) (omega arith)));
         fits = fits;
-        reads = begun.4;
+        reads = reads;
         parts = parts;
       }
 
@@ -79,19 +87,19 @@ module _ (texts : List Text) (db : Database) (n : ℕ) (s : Search) (older : Sta
       stays = (w, Clauses t cs k) ∷ older
 
       -- over those where its choice has the others left
-      call_stays : IsCallOf texts stays w t height k kept begun.0 begun.1 c
+      call_stays : IsCallOf texts stays cur t height k kept begun.0 begun.1 c
       call_stays = record {
         place = record {
-          there = place.continuation.there;
-          fits = fits_more (length older) (length stays) (items_at w.1 k) (omega arith) place.continuation.fits;
-          state = place.continuation.state;
-          cells = items_older (IsBranch texts) (term_in texts) (w, Clauses t cs k) older w.0 begun.0.state (items_at w.1 k) begun.0.rest place.continuation.fits
-              place.continuation.cells;
+          there = continued.there;
+          fits = fits_more (length older) (length stays) (items_at cur.1 k) (omega arith) continued.fits;
+          state = continued.state;
+          cells = items_older (IsBranch texts) (term_in texts) (w, Clauses t cs k) older cur.0 begun.0.state (items_at cur.1 k) begun.0.rest continued.fits
+              continued.cells;
         };
         within = omega (arith, high);
         goes_back = place.height ∙ sym (ap (λ (l : Stack Contents). total size l) (ap (λ (m : ℕ). last m stays) high ∙ older-all (w, Clauses t cs k) older));
         fits = fits;
-        reads = begun.4;
+        reads = reads;
         parts = parts;
       }
 
@@ -104,7 +112,7 @@ module _ (texts : List Text) (db : Database) (n : ℕ) (s : Search) (older : Sta
           subst (λ (d : Database). Comes (IsBranch texts) (term_in texts) steps (engine d n choices new current) s) j.database
           (subst (λ (m : ℕ). Comes (IsBranch texts) (term_in texts) steps (engine s.database m choices new current) s) j.selected a)
 
-      module _ (new : Value Contents) (b : Begun) (comes : ClauseComes texts w new t height k kept b) (steps : ℕ) where
+      module _ (new : Value Contents) (b : Begun) (comes : ClauseComes texts cur new t height k kept b) (steps : ℕ) where
         pub comes_with_others : Came steps stays new (goes_to b)
         comes_with_others = same_engine steps stays new (goes_to b) (comes stays begun.0 begun.1 c call_stays steps s begun.2 begun.3 begun.6)
 
@@ -120,12 +128,12 @@ module _ (texts : List Text) (db : Database) (n : ℕ) (s : Search) (older : Sta
       stops_there : (budgets : Budgets) (why : Cause) → Due budgets None s why → ComesToStop budgets why s
       stops_there budgets why d = (_, coming.stops {r = s} {cause = why} at_once (coming.stops (inl (ap is_selecting begun.3)) d), refl)
 
-      pub refused : (pair : Pair) → OfClause texts w t height k kept (λ st p. MayRefuse st p pair) → (budgets : Budgets) → ComesToStop budgets (cause.Overflow pair) s
+      pub refused : (pair : Pair) → OfClause texts cur t height k kept (λ st p. MayRefuse st p pair) → (budgets : Budgets) → ComesToStop budgets (cause.Overflow pair) s
       refused pair o budgets =
           stops_there budgets (cause.Overflow pair)
           (refuses budgets s (clause_items begun.0 c) (clause_state begun.0 c) (clause_work begun.0 begun.1 c) begun.2 pair begun.3 (o older begun.0 begun.1 c call_gone))
 
-      pub taken : (m : ℕ) → OfClause texts w t height k kept (λ st p. MayTake st p m) → (budgets : Budgets) → budgets.pivots ≡ m → ComesToStop budgets (cause.Pivots m) s
+      pub taken : (m : ℕ) → OfClause texts cur t height k kept (λ st p. MayTake st p m) → (budgets : Budgets) → budgets.pivots ≡ m → ComesToStop budgets (cause.Pivots m) s
       taken m o budgets e =
           let many = subst (λ (x : ℕ). MayTake (clause_state begun.0 c) (clause_work begun.0 begun.1 c) x) (sym e) (o older begun.0 begun.1 c call_gone) in
           subst (λ (x : ℕ). ComesToStop budgets (cause.Pivots x) s) e

@@ -1,5 +1,5 @@
 -- What a goal that calls a user predicate becomes.
-use Rattle.std.specs.Prelude.{◌≡◌, ◌<◌, ℕ, List, ◌++◌, length, map, Bool, true, false}
+use Rattle.std.specs.Prelude.{◌≡◌, ◌<◌, ℕ, List, [], ◌∷◌, ◌++◌, length, map, Option, Some, None, ⊤}
 use Rattle.spec_lists.specs.Texts.{Text}
 use Rattle.spec_operators.specs.Operators.{Ops}
 use Rattle.spec_syntax.specs.Trees.{Tree}
@@ -7,16 +7,31 @@ use Rattle.spec_built.specs.Built.{indicator_of}
 use Rattle.spec_built.specs.Errors.{existence_error}
 use Rattle.spec_branch.specs.Branch.{Branch}
 use Rattle.spec_search.specs.Control.{clause_child, user_row}
-use Rattle.spec_search.specs.Database.{Clause}
+use Rattle.spec_search.specs.Database.{Clause, Database}
 use Rattle.spec_search.specs.Replies.{Place, Raises, Calls}
+use Rattle.spec_search.specs.Search.{Search}
 use Rattle.spec_search.specs.Steps.{IsSelection}
 use Rattle.cq_atoms.specs.Texts.{AreDifferent}
+use Rattle.cq_clauses.specs.Walks.{left}
+use Rattle.cq_clauses.specs.declared.walk.Walk.{Walk}
+use Rattle.cq_control.specs.Items.{ContinuationsValue}
 use Rattle.cq_program.specs.Database.{Program, IsProgram, as_database, as_indicator}
+use Rattle.cq_program.specs.Keys.{key_of}
+use Rattle.cq_stored.specs.StoredValue.{ClauseValue}
 use Rattle.cq_term.specs.declared.names.Pred.{Pred}
 use Rattle.cq_world.specs.Contents.{Contents}
+use Rattle.cq_world.specs.Worlds.{now_of}
+use Rattle.cq_world.specs.declared.world.World.{World}
+use Rattle.spec_machine.specs.declared.cell.Cell.{Cell}
 use Rattle.spec_machine.specs.Cells.{Value, Stack}
-use Rattle.spec_machine.specs.Standing.{AreWaiting}
-use Rattle.cq_steps.specs.Worlds.{IsBranch, term_in, ReadsAs, Placed}
+use Rattle.spec_machine.specs.Coming.{Comes}
+use Rattle.spec_machine.specs.Standing.{engine}
+use Rattle.cq_steps.specs.Lists.{KeepsLists}
+use Rattle.cq_steps.specs.Worlds.{IsBranch, term_in, saved_values, ReadsAs, Placed, Stands, Arrives}
+use Rattle.cq_steps.specs.declared.alternatives.Alternatives.{Alternatives}
+use Rattle.cq_steps.specs.declared.alternatives.Alternatives.TheVariants as alternatives
+use Rattle.cq_calls.specs.declared.calling.Called.{Called}
+use Rattle.cq_calls.specs.declared.calling.Called.TheVariants.{Goes, Back, Unknown}
 
 -- At the place the goal of a number calls the predicate: the place's database is that of the clauses, by names with these texts.
 pub record IsCalledAt (texts : List Text) (v : Program) (choices : Stack Contents) (now : Value Contents) (pred : Pred) (id rest : ℕ)
@@ -30,15 +45,53 @@ pub record IsCalledAt (texts : List Text) (v : Program) (choices : Stack Content
   pub name : pred.name < length texts
   pub indicator : as_indicator texts pred ≡ indicator_of goal
 
--- The goal's row calls clauses, of which some are tried: their branches wait in front of those that were there.
-pub record CallBecomes (texts : List Text) (choices : Stack Contents) (p : Place) (behind : List Branch) (goal : Tree) : Type 0 where
+-- The goal's row calls clauses, of which some are tried. From each search in which their branches stand in front of those that were
+-- there the engine comes quietly to stand for one. It goes on with the continuation, if it doesn't come back.
+pub record CallBecomes (texts : List Text) (choices : Stack Contents) (now : Value Contents) (current : Option ℕ) (p : Place) (behind : List Branch)
+    (goal : Tree) : Type 0 where
   pub all : List Clause
   pub some : List Clause
   pub row : user_row p (indicator_of goal) ≡ Calls all
   pub selection : IsSelection p goal all some
-  pub waiting : AreWaiting (IsBranch texts) (term_in texts) choices (map (clause_child p goal) some ++ behind)
+  pub comes : (steps : ℕ) (s : Search) → s.database ≡ p.database → s.branches ≡ map (clause_child p goal) some ++ behind
+      → Comes (IsBranch texts) (term_in texts) steps (engine p.database s.selected choices now current) s
 
--- the call's clauses wait, or there is no such procedure
-abbrev pub HasCalled : Bool → List Text → Stack Contents → Place → List Branch → Tree → Type 0
-HasCalled true texts choices p behind goal = CallBecomes texts choices p behind goal
-HasCalled false texts choices p behind goal = user_row p (indicator_of goal) ≡ Raises (existence_error (indicator_of goal))
+-- the call's clauses are tried, or there is no such procedure
+abbrev pub HasCalled : Called → List Text → Stack Contents → Value Contents → Place → List Branch → Tree → Type 0
+HasCalled (Goes k) texts choices now p behind goal = CallBecomes texts choices now (Some k) p behind goal
+HasCalled Back texts choices now p behind goal = CallBecomes texts choices now None p behind goal
+HasCalled Unknown texts choices now p behind goal = user_row p (indicator_of goal) ≡ Raises (existence_error (indicator_of goal))
+
+-- a fact of the continuation that the engine goes on with
+abbrev pub IfCalledGoes : Called → (ℕ → Type 0) → Type 0
+IfCalledGoes (Goes k) P = P k
+IfCalledGoes Back P = ⊤
+IfCalledGoes Unknown P = ⊤
+
+-- The choices and the world are as they were; more continuations may be there.
+pub record IsStill (old new : World) (earlier later : ContinuationsValue Cell) (before after : List Alternatives) : Type 0 where
+  pub choices : after ≡ before
+  pub saved : saved_values new later.saved ≡ saved_values old earlier.saved
+  pub world : now_of new ≡ now_of old
+  pub lists : KeepsLists earlier.now later.now
+
+-- ---- the clauses of a call
+
+-- the walk leaves this clause alone
+abbrev pub LeavesOnly : Program → Walk → ℕ → Type 0
+LeavesOnly v walk n = left (λ (c : ClauseValue). key_of c.head) walk v ≡ n ∷ []
+
+-- the walk leaves this clause first, and behind it those of another
+abbrev pub LeavesFirst : Program → Walk → ℕ → Walk → Type 0
+LeavesFirst v walk n behind =
+    left (λ (c : ClauseValue). key_of c.head) walk v ≡ n ∷ left (λ (c : ClauseValue). key_of c.head) behind v
+
+-- The engine would stand for the search where it came back to one more choice, of these clauses of a call in this world.
+abbrev pub WouldStand : List Text → Program → List (Value Contents) → List Alternatives → Value Contents → ℕ → Walk → ℕ → Database → ℕ → Search → Type 0
+WouldStand texts v saved choices now id walk rest db n s = Stands texts v db n (saved ++ now ∷ []) (alternatives.Clauses id walk rest ∷ choices) now None s
+
+-- each such search comes quietly to one for which an engine stands that has these choices and goes on with the continuation
+abbrev pub WouldCome : List Text → Program → List (Value Contents) → List Alternatives → Value Contents → ℕ → Walk → ℕ
+    → List (Value Contents) → List Alternatives → Value Contents → Option ℕ → Type 0
+WouldCome texts v saved choices now id walk rest more after later current = (steps : ℕ) (db : Database) (n : ℕ) (s : Search)
+    → WouldStand texts v saved choices now id walk rest db n s → Arrives steps texts v db n more after later current s

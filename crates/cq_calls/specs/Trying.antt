@@ -1,13 +1,15 @@
 -- What becomes of the newest choice as the clauses of its call are tried.
-use Rattle.std.specs.Prelude.{◌≡◌, ℕ, List, ◌∷◌, true, Option, Some, None, ⊤}
-use Rattle.cq_clauses.specs.Walks.{HasNoneLeft}
+use Rattle.std.specs.Prelude.{◌≡◌, ℕ, List, ◌∷◌, true}
+use Rattle.cq_clauses.specs.Walks.{HasNoneLeft, IsWalk}
 use Rattle.cq_clauses.specs.declared.walk.Walk.{Walk}
+use Rattle.cq_control.specs.Open.{open_choices}
+use Rattle.cq_program.specs.Database.{Program}
 use Rattle.cq_world.specs.Contents.{Contents}
 use Rattle.spec_machine.specs.Cells.{Value}
 use Rattle.cq_steps.specs.declared.alternatives.Alternatives.{Alternatives}
 use Rattle.cq_steps.specs.declared.alternatives.Alternatives.TheVariants.{Clauses}
-use Rattle.cq_calls.specs.declared.trying.Tried.{Tried}
-use Rattle.cq_calls.specs.declared.trying.Tried.TheVariants.{Goes, Pruned, Ended}
+use Rattle.cq_steps.specs.Lists.{KeepsLists}
+use Rattle.cq_calls.specs.Calling.{LeavesFirst}
 
 -- the newest choice has these clauses of a call left to try
 abbrev pub HasLeft : ℕ → Walk → ℕ → List Alternatives → Type 0
@@ -27,17 +29,27 @@ pub data Leaves (content : Alternatives) (walk : Walk) (old new : List (Value Co
   stays : {c : Value Contents × Alternatives} {older : List (Value Contents × Alternatives)} → old ≡ c ∷ older
       → new ≡ (c.0, content) ∷ older → Leaves content walk old new
 
--- ---- a clause that was tried
+-- ---- a clause that is tried
 
--- what the engine goes on with, if it doesn't come back
-abbrev pub goes_on : Tried → Option ℕ
-goes_on (Goes k) = Some k
-goes_on (Pruned walk) = None
-goes_on Ended = None
+-- The newest choice has these clauses of a call left to try, and the world is the one that it goes back to; more continuations may
+-- be there.
+pub record IsTrying (goal : ℕ) (walk : Walk) (rest : ℕ) (saved : List (Value Contents)) (choices : List Alternatives) (now : Value Contents) : Type 0 where
+  pub older : List Alternatives
+  pub newest : choices ≡ Clauses goal walk rest ∷ older
+  pub back : Value Contents
+  pub others : List (Value Contents × Alternatives)
+  pub goes_back : open_choices saved choices ≡ (back, Clauses goal walk rest) ∷ others
+  pub world : now.0 ≡ back.0
+  pub lists : KeepsLists back.1 now.1
 
--- where a branch is pruned the choice has the clauses that are left, and where there was none it is gone
-abbrev pub IsTried : ℕ → ℕ → List Alternatives → List Alternatives → Tried → Type 0
-IsTried goal rest old new (Goes k) = ⊤
-IsTried goal rest old new (Pruned walk) =
-    (c : Alternatives) × (older : List Alternatives) × (old ≡ c ∷ older) × (new ≡ Clauses goal walk rest ∷ older)
-IsTried goal rest old new Ended = IsGone old new
+-- so it is, and the next clause is this one, with these behind it
+pub record IsNext (v : Program) (goal n : ℕ) (behind : Walk) (rest : ℕ) (saved : List (Value Contents)) (choices : List Alternatives) (now : Value Contents)
+    : Type 0 where
+  pub walk : Walk
+  pub trying : IsTrying goal walk rest saved choices now
+  pub next : LeavesFirst v walk n behind
+  pub opened : IsWalk behind v
+
+-- the newest choice was changed, and no other
+abbrev pub KeepsOthers : List Alternatives → List Alternatives → Type 0
+KeepsOthers old new = (c : Alternatives) × (d : Alternatives) × (older : List Alternatives) × (old ≡ c ∷ older) × (new ≡ d ∷ older)

@@ -5,6 +5,6 @@ mod calling;
 mod laws;
 mod trying;
 
-pub use calling::call_procedure;
-pub use laws::called_goals_come_back;
+pub use calling::{Called, call_procedure};
+pub use laws::called_goals_come_on;
 pub use trying::{leave_untried, try_clauses};

@@ -1,34 +1,26 @@
 // The clauses of a call, tried in order.
 
-ghost use Rattle.std.specs.Prelude.{◌≡◌, ◌<◌, None, length, IfNone, IfOk, IfErr, OnOk, OnErr};
+ghost use Rattle.std.specs.Prelude.{◌≡◌, ◌<◌, None, length, IfNone, IfSome, IfOk, IfErr, OnOk, OnErr};
 ghost use Rattle.cq_atoms.specs.Texts.{AreDifferent};
+ghost use Rattle.cq_begin.specs.Begun.{IfGoes, IfPruned, goes_to};
 ghost use Rattle.cq_begin.specs.Stops.{IsBack, ComesOn, AllStop, still_waiting};
-ghost use Rattle.cq_calls.specs.Trying.{HasLeft, IsGone, IsOfCall, IsTried, Leaves, goes_on};
+ghost use Rattle.cq_calls.specs.Trying.{HasLeft, IsGone, IsNext, IsOfCall, IsTrying, KeepsOthers, Leaves};
 ghost use Rattle.cq_control.specs.Open.{AreMarked, open_choices};
 ghost use Rattle.cq_program.specs.Database.{IsProgram};
 ghost use Rattle.cq_steps.specs.Choices.{AreOpen};
-ghost use Rattle.cq_steps.specs.Worlds.{saved_values};
+ghost use Rattle.cq_steps.specs.Lists.{KeepsLists};
+ghost use Rattle.cq_steps.specs.Worlds.{saved_values, value};
+ghost use Rattle.cq_world.specs.Rest.{IsReady};
 ghost use Rattle.cq_world.specs.Worlds.{now_of};
 
 use cq_atoms::Atoms;
 use cq_begin::{Begun, begin_clause};
-use cq_clauses::{Clauses, Walk};
+use cq_clauses::{ClauseNo, Clauses, Walk};
 use cq_control::{Choices, Continuation};
 use cq_linear::store::StoreFault;
 use cq_program::ProgramClause;
 use cq_steps::{Alternatives, Searching, Untried};
 use cq_term::TermId;
-
-/// What became of the next clause of a call.
-#[derive(Clone, Copy)]
-enum Tried {
-    /// Its branch is kept, and goes on with this continuation.
-    Goes(Continuation),
-    /// Its branch is pruned, and these clauses are left.
-    Pruned(Walk),
-    /// There was none, and the choice is gone.
-    Ended,
-}
 
 /// The engine comes back to its newest choice, which is of a call: its clauses are tried in order, up to one whose branch is
 /// kept. The engine goes on with that branch; None where there is none. The choice is gone once no clause is left. After an
@@ -65,21 +57,12 @@ pub fn try_clauses(
     };
     let goal = *called;
     let rest = *behind;
-    let mut walk = untried.walk();
-    'clauses: loop {
-        match try_clause(world, choices, atoms, clauses, goal, walk, rest) {
-            Ok(tried) => match tried {
-                Tried::Goes(first) => return Ok(Some(first)),
-                Tried::Pruned(left) => walk = left,
-                Tried::Ended => return Ok(None),
-            },
-            Err(fault) => return Err(fault),
-        }
-    }
+    let walk = untried.walk();
+    come_back(world, choices, atoms, clauses, goal, walk, rest)
 }
 
-/// Tries the next clause of the newest choice's call.
-fn try_clause(
+/// The same, where it is known what the choice leaves.
+fn come_back(
     world: &mut Searching,
     choices: &mut Choices<Alternatives>,
     atoms: &Atoms,
@@ -87,19 +70,19 @@ fn try_clause(
     goal: TermId,
     walk: Walk,
     rest: Continuation,
-) -> Result<Tried, StoreFault>
+) -> Result<Option<Continuation>, StoreFault>
     requires different { AreDifferent atoms.now }
     requires program { IsProgram atoms.now clauses.now }
     requires marked { AreMarked (saved_values world.old.first world.old.second.saved) choices.old }
     requires open { AreOpen atoms.now clauses.now (saved_values world.old.first world.old.second.saved) choices.old }
     requires newest { HasLeft goal walk rest choices.old }
     requires works { IsBack atoms.now clauses.now world.old.first world.old.second choices.old }
-    ensures comes { IfOk result (λ t. ComesOn atoms.now clauses.now world.old.first world.old.second choices.old
-        world.new.first world.new.second choices.new (goes_on t)) }
+    ensures comes { IfOk result (ComesOn atoms.now clauses.now world.old.first world.old.second choices.old
+        world.new.first world.new.second choices.new) }
     ensures err { OnErr result (ComesOn atoms.now clauses.now world.old.first world.old.second choices.old
         world.new.first world.new.second choices.new None) }
     ensures stops { IfErr result (AllStop atoms.now clauses.now world.old.first world.old.second choices.old) }
-    ensures left { IfOk result (IsTried goal rest choices.old choices.new) }
+    ensures gone { IfOk result (λ k. IfNone k (IsGone choices.old choices.new)) }
     ensures fewer { OnOk result (still_waiting atoms.now clauses.now world.new.first world.new.second choices.new
         < still_waiting atoms.now clauses.now world.old.first world.old.second choices.old) }
     ensures marked { AreMarked (saved_values world.new.first world.new.second.saved) choices.new }
@@ -109,12 +92,113 @@ fn try_clause(
     let mut left = walk;
     let Some(number) = clauses.step(&mut left) else {
         choices.back(world);
-        return Ok(Tried::Ended);
+        return Ok(None);
     };
     choices.retry(world, Alternatives::Clauses(goal, Untried::new(walk), rest));
+    try_from(world, choices, atoms, clauses, number, goal, left, rest)
+}
+
+/// Tries the clauses of the newest choice's call in order, from this one on, in the world that the choice goes back to, up to one
+/// whose branch is kept.
+pub(crate) fn try_from(
+    world: &mut Searching,
+    choices: &mut Choices<Alternatives>,
+    atoms: &Atoms,
+    clauses: &Clauses<ProgramClause>,
+    first: ClauseNo,
+    goal: TermId,
+    behind: Walk,
+    rest: Continuation,
+) -> Result<Option<Continuation>, StoreFault>
+    requires ready { IsReady atoms.now (now_of world.old.first) }
+    requires different { AreDifferent atoms.now }
+    requires program { IsProgram atoms.now clauses.now }
+    requires known { first < length clauses.now.contents }
+    requires goal { goal < length world.old.first.heap.now.terms }
+    requires rest { rest < length world.old.second.now }
+    requires marked { AreMarked (saved_values world.old.first world.old.second.saved) choices.old }
+    requires next { IsNext clauses.now goal first behind rest (saved_values world.old.first world.old.second.saved) choices.old
+        (value world.old.first world.old.second.now) }
+    ensures comes { IfOk result (ComesOn atoms.now clauses.now world.old.first world.old.second choices.old
+        world.new.first world.new.second choices.new) }
+    ensures err { OnErr result (ComesOn atoms.now clauses.now world.old.first world.old.second choices.old
+        world.new.first world.new.second choices.new None) }
+    ensures stops { IfErr result (AllStop atoms.now clauses.now world.old.first world.old.second choices.old) }
+    ensures there { IfOk result (λ o. IfSome o (λ k. k < length world.new.second.now)) }
+    ensures gone { IfOk result (λ k. IfNone k (IsGone choices.old choices.new)) }
+    ensures fewer { OnOk result (still_waiting atoms.now clauses.now world.new.first world.new.second choices.new
+        < still_waiting atoms.now clauses.now world.old.first world.old.second choices.old) }
+    ensures marked { AreMarked (saved_values world.new.first world.new.second.saved) choices.new }
+    ensures open { AreOpen atoms.now clauses.now (saved_values world.old.first world.old.second.saved) choices.old
+        → AreOpen atoms.now clauses.now (saved_values world.new.first world.new.second.saved) choices.new }
+    ensures budget { world.new.first.store.pivots ≡ world.old.first.store.pivots }
+
+    // Where no branch is kept the world is as it was.
+    ensures back { IfOk result (λ k. IfNone k (now_of world.new.first ≡ now_of world.old.first)) }
+    ensures err_world { OnErr result (now_of world.new.first ≡ now_of world.old.first) }
+{
+    let mut number = first;
+    let mut left = behind;
+    'clauses: loop {
+        match try_clause(world, choices, atoms, clauses, number, goal, &left, rest) {
+            Ok(begun) => match begun {
+                Begun::Goes(branch) => return Ok(Some(branch)),
+                Begun::Pruned => {
+                    let Some(next) = clauses.step(&mut left) else {
+                        choices.back(world);
+                        return Ok(None);
+                    };
+                    number = next;
+                }
+            },
+            Err(fault) => return Err(fault),
+        }
+    }
+}
+
+/// Tries the next clause of the newest choice's call, in the world that the choice goes back to. The choice is left the clauses
+/// behind it, and without any is gone once the branch is kept. After an error it has this clause, too.
+fn try_clause(
+    world: &mut Searching,
+    choices: &mut Choices<Alternatives>,
+    atoms: &Atoms,
+    clauses: &Clauses<ProgramClause>,
+    number: ClauseNo,
+    goal: TermId,
+    left: &Walk,
+    rest: Continuation,
+) -> Result<Begun, StoreFault>
+    requires ready { IsReady atoms.now (now_of world.old.first) }
+    requires different { AreDifferent atoms.now }
+    requires program { IsProgram atoms.now clauses.now }
+    requires known { number < length clauses.now.contents }
+    requires goal { goal < length world.old.first.heap.now.terms }
+    requires rest { rest < length world.old.second.now }
+    requires marked { AreMarked (saved_values world.old.first world.old.second.saved) choices.old }
+    requires next { IsNext clauses.now goal number left.now rest (saved_values world.old.first world.old.second.saved) choices.old
+        (value world.old.first world.old.second.now) }
+    ensures comes { IfOk result (λ b. ComesOn atoms.now clauses.now world.old.first world.old.second choices.old
+        world.new.first world.new.second choices.new (goes_to b)) }
+    ensures err { OnErr result (ComesOn atoms.now clauses.now world.old.first world.old.second choices.old
+        world.new.first world.new.second choices.new None) }
+    ensures stops { IfErr result (AllStop atoms.now clauses.now world.old.first world.old.second choices.old) }
+    ensures there { IfOk result (λ b. IfGoes b (λ k. k < length world.new.second.now)) }
+    ensures left { IfOk result (λ b. IfPruned b (IsTrying goal left.now rest (saved_values world.new.first world.new.second.saved) choices.new
+        (value world.new.first world.new.second.now))) }
+    ensures others { IfOk result (λ b. IfPruned b (KeepsOthers choices.old choices.new)) }
+    ensures fewer { OnOk result (still_waiting atoms.now clauses.now world.new.first world.new.second choices.new
+        < still_waiting atoms.now clauses.now world.old.first world.old.second choices.old) }
+    ensures marked { AreMarked (saved_values world.new.first world.new.second.saved) choices.new }
+    ensures open { AreOpen atoms.now clauses.now (saved_values world.old.first world.old.second.saved) choices.old
+        → AreOpen atoms.now clauses.now (saved_values world.new.first world.new.second.saved) choices.new }
+    ensures budget { world.new.first.store.pivots ≡ world.old.first.store.pivots }
+    ensures lists { KeepsLists world.old.second.now world.new.second.now }
+    ensures back { IfOk result (λ b. IfPruned b (now_of world.new.first ≡ now_of world.old.first)) }
+    ensures err_world { OnErr result (now_of world.new.first ≡ now_of world.old.first) }
+{
     let clause = clauses.content(number).clause();
     let height = choices.height() - 1;
-    let untried = Untried::new(left);
+    let untried = Untried::new(*left);
     let others = Alternatives::Clauses(goal, untried, rest);
     match begin_clause(
         &mut world.first,
@@ -127,12 +211,12 @@ fn try_clause(
     ) {
         Ok(begun) => match begun {
             Begun::Goes(first) => {
-                leave_untried(world, choices, left, others);
-                Ok(Tried::Goes(first))
+                leave_untried(world, choices, *left, others);
+                Ok(Begun::Goes(first))
             }
             Begun::Pruned => {
                 choices.replace_at(height, others);
-                Ok(Tried::Pruned(left))
+                Ok(Begun::Pruned)
             }
         },
         Err(fault) => Err(fault),

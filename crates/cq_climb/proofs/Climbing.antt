@@ -5,7 +5,7 @@ use Rattle.spec_rational.proofs.Ring.{int, minus}
 use Rattle.spec_rational.proofs.Rational.{ring}
 use Rattle.spec_rational.proofs.Sign.{not_pos_zero, not_both, pos_nonneg}
 use Rattle.spec_simplex.specs.Dictionary.{IsDictionary, Satisfies, AreEquivalent, IsFeasible}
-use Rattle.spec_simplex.specs.Rule.{Exchanged}
+use Rattle.spec_simplex.specs.Rule.{Exchanged, Raises, Leaves}
 use Rattle.spec_simplex.proofs.Solutions.{true_not_false}
 use Rattle.cq_dict.specs.declared.table.Role.{Role}
 use Rattle.cq_dict.specs.declared.table.Role.TheVariants.{Live}
@@ -22,8 +22,7 @@ use Rattle.cq_simplex.proofs.Roles.{dropped_after}
 use Rattle.cq_simplex.proofs.Columns.{is_dictionary}
 use Rattle.cq_simplex.proofs.Entries.{has_entry}
 use Rattle.cq_simplex.proofs.Steps.{carried}
-use Rattle.cq_climb.specs.declared.Rise.{Rise}
-use Rattle.cq_climb.specs.Climbs.{IsCarried, IsRise}
+use Rattle.cq_climb.specs.Climbs.{IsCarried}
 use Rattle.cq_climb.proofs.Rising.{feasible_still, not_lower}
 
 pub record Climbing (asked : ℕ) (old now : DictValue) : Type 0 where
@@ -44,37 +43,39 @@ stays_carried flags asked roles t r f = record {
   feasible = f;
 }
 
-module _ (flags : List Bool) (asked : ℕ) (now : List Role) (rise : Rise) (is : IsRise now flags asked rise) where
-  pub rise_entry : HasEntry now rise.leaving rise.entering
+-- a column that raises the row, and the row that limits it first
+module _ (flags : List Bool) (asked : ℕ) (now : List Role) (entering leaving : ℕ) (raises : Raises (is_restricted flags) (dictionary now asked) entering)
+    (leaves : Leaves (is_restricted flags) (dictionary now asked) entering leaving) where
+  pub rise_entry : HasEntry now leaving entering
   rise_entry =
-      has_entry now rise.leaving rise.entering is.leaves.limits.row
-      (λ e. not_pos_zero (subst IsPositive (ap neg_ℚ e ∙ ring [] (minus (int (pos 0))) (int (pos 0)) refl) is.leaves.limits.falls))
+      has_entry now leaving entering leaves.limits.row
+      (λ e. not_pos_zero (subst IsPositive (ap neg_ℚ e ∙ ring [] (minus (int (pos 0))) (int (pos 0)) refl) leaves.limits.falls))
 
-  module _ (old new : List Role) (h : IsCarried old flags asked now) (same : SameMeaning now new) (x : IsExchanged now rise.leaving rise.entering new) (t : AreOverColumns new) where
-    column : is_live now rise.entering ≡ true
-    column = is.raises.column
+  module _ (old new : List Role) (h : IsCarried old flags asked now) (same : SameMeaning now new) (x : IsExchanged now leaving entering new) (t : AreOverColumns new) where
+    column : is_live now entering ≡ true
+    column = raises.column
 
-    not_leaving : asked ≡ rise.leaving → ⊥
+    not_leaving : asked ≡ leaving → ⊥
     not_leaving e =
-        not_both (subst (λ q. IsPositive (factor_at now q rise.entering)) e is.raises.coefficient) (pos_nonneg is.leaves.limits.falls)
+        not_both (subst (λ q. IsPositive (factor_at now q entering)) e raises.coefficient) (pos_nonneg leaves.limits.falls)
 
-    not_entering : asked ≡ rise.entering → ⊥
+    not_entering : asked ≡ entering → ⊥
     not_entering e =
-        true_not_false (is_row now rise.entering) (subst (λ q. is_row now q ≡ true) e (is_row_of now asked h.asked_row)) (live_is_no_row now rise.entering column)
+        true_not_false (is_row now entering) (subst (λ q. is_row now q ≡ true) e (is_row_of now asked h.asked_row)) (live_is_no_row now entering column)
 
     asked_after : IsRow new asked
     asked_after = row_on now new asked (x.others asked not_leaving not_entering) h.asked_row
 
-    leaving_row : IsRow now rise.leaving
-    leaving_row = let f = found now rise.leaving is.leaves.limits.row in (f.row, f.at)
+    leaving_row : IsRow now leaving
+    leaving_row = let f = found now leaving leaves.limits.row in (f.row, f.at)
 
     dropped_now : (q : ℕ) → is_dropped new q ≡ is_dropped now q
-    dropped_now = dropped_after now new rise.leaving rise.entering leaving_row column x
+    dropped_now = dropped_after now new leaving entering leaving_row column x
 
-    exchanged : Exchanged (dictionary now asked) rise.entering rise.leaving (dictionary new asked)
+    exchanged : Exchanged (dictionary now asked) entering leaving (dictionary new asked)
     exchanged = record {
-      row = is_row_of new rise.entering x.enters;
-      column = live_at new rise.leaving Live x.leaves;
+      row = is_row_of new entering x.enters;
+      column = live_at new leaving Live x.leaves;
       other_rows = λ q k l. (x.others q l k).row;
       other_columns = λ q k l. (x.others q l k).live;
     }
@@ -95,8 +96,8 @@ module _ (flags : List Bool) (asked : ℕ) (now : List Role) (rise : Rise) (is :
 
     feasible_after : IsFeasible (is_restricted flags) (dictionary new asked)
     feasible_after =
-        feasible_still (length now) (is_restricted flags) (dictionary now asked) (dictionary new asked) dictionary_now dictionary_new alike rise.entering rise.leaving
-        column is.raises.flag is.leaves exchanged h.feasible
+        feasible_still (length now) (is_restricted flags) (dictionary now asked) (dictionary new asked) dictionary_now dictionary_new alike entering leaving
+        column raises.flag leaves exchanged h.feasible
 
     pub carried_on : IsCarried old flags asked new
     carried_on = record {
@@ -110,8 +111,8 @@ module _ (flags : List Bool) (asked : ℕ) (now : List Role) (rise : Rise) (is :
 
     pub rises_on : constant_at now asked ≤ℚ constant_at new asked
     rises_on =
-        not_lower (length now) (is_restricted flags) (dictionary now asked) (dictionary new asked) dictionary_now dictionary_new alike rise.entering rise.leaving
-        column is.raises.flag is.leaves exchanged is.raises.coefficient feasible_after
+        not_lower (length now) (is_restricted flags) (dictionary now asked) (dictionary new asked) dictionary_now dictionary_new alike entering leaving
+        column raises.flag leaves exchanged raises.coefficient feasible_after
 
 -- ---- what the search finds in carried roles it finds in the old ones
 module _ (old : List Role) (flags : List Bool) (asked : ℕ) (mid : List Role) (h : IsCarried old flags asked mid) where

@@ -1,6 +1,6 @@
 -- What a climb keeps, and the exchanges that it makes.
 use Rattle.std.specs.Prelude.{◌≡◌, ◌⊎◌, ℕ, List, length, Bool, Option, Some, None}
-use Rattle.spec_rational.specs.Rational.{IsPositive, ◌*ℚ◌, ◌≤ℚ◌, ◌<ℚ◌}
+use Rattle.spec_rational.specs.Rational.{◌*ℚ◌, ◌≤ℚ◌, ◌<ℚ◌}
 use Rattle.spec_simplex.specs.Dictionary.{IsFeasible}
 use Rattle.spec_simplex.specs.Rule.{Raises, Leaves, ratio}
 use Rattle.cq_dict.specs.declared.table.Role.{Role}
@@ -26,12 +26,11 @@ pub record IsSpentAfter (roles : List Role) (flags : List Bool) (asked : ℕ) (a
   pub carried : IsCarried roles flags asked from
   pub spent : AreSpent from flags asked aim budget new
 
--- the column raises the row, this row limits it first, and the asked row rises by the gain
+-- the column raises the row, this row limits it first, and the asked row rises by the gain, if it is not zero
 pub record IsRise (roles : List Role) (flags : List Bool) (asked : ℕ) (r : Rise) : Type 0 where
   pub raises : Raises (is_restricted flags) (dictionary roles asked) r.entering
   pub leaves : Leaves (is_restricted flags) (dictionary roles asked) r.entering r.leaving
   pub gain : r.gain ≡ factor_at roles asked r.entering *ℚ ratio (dictionary roles asked) r.entering r.leaving
-  pub rises : IsPositive r.gain
 
 -- the exchange found before, or the next one where the gain is greater
 abbrev pub IsHigher : Option Rise → Rise → Rise → Type 0

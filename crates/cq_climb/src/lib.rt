@@ -1,5 +1,6 @@
-//! A climb before the search by the rule of the least numbers: exchanges by the greatest gain, as long as the asked row rises by
-//! each (Dantzig 1963). The search goes on from where the climb ends, and its rule proves the end.
+//! A climb before the search by the rule of the least numbers: exchanges by the greatest gain (Dantzig 1963), and where no column
+//! raises the asked row at once by the first that raises it, which is the rule's. The search goes on from where the climb ends, and
+//! its rule proves the end.
 #![tactic(auto)]
 
 ghost use Rattle.std.specs.Prelude.{◌≡◌, ◌≤◌, ◌^◌, ℕ, length, true, IsTrue, IfSome, IfOk};
@@ -25,15 +26,15 @@ use std::cmp::Ordering;
 
 /// An exchange by which the asked row rises, and by how much.
 #[derive(Clone, Copy, Debug)]
-struct Rise {
-    leaving: usize,
-    entering: Col,
-    gain: Frac,
+pub struct Rise {
+    pub leaving: usize,
+    pub entering: Col,
+    pub gain: Frac,
 }
 
 /// By how much a row rises in which a column has the factor, where it enters and the other row leaves; None where a number is
 /// refused.
-fn gain_of(dict: &Dict, factor: Frac, column: Col, limit: usize) -> Option<Frac>
+pub fn gain_of(dict: &Dict, factor: Frac, column: Col, limit: usize) -> Option<Frac>
     requires table { AreOverColumns dict.now.roles }
     requires limits { Limits (is_restricted dict.now.restricted) (dictionary dict.now.roles 0) column limit }
     ensures { IfSome result (λ g. g ≡ factor *ℚ ratio (dictionary dict.now.roles 0) column limit) }
@@ -48,7 +49,7 @@ fn gain_of(dict: &Dict, factor: Frac, column: Col, limit: usize) -> Option<Frac>
     Some(gain)
 }
 
-/// The exchange by which the column of an entry enters, if the row rises by it.
+/// The exchange by which the column of an entry enters, and by how much the row rises by it.
 fn rise_of(dict: &Dict, row: usize, entry: Entry) -> Option<Rise>
     requires table { AreOverColumns dict.now.roles }
     requires raises { Raises (is_restricted dict.now.restricted) (dictionary dict.now.roles row) entry.quantity }
@@ -59,18 +60,15 @@ fn rise_of(dict: &Dict, row: usize, entry: Entry) -> Option<Rise>
         return None;
     };
     let gain = gain_of(dict, entry.factor, entry.quantity, limit)?;
-    if gain.is_positive() {
-        return Some(Rise {
-            leaving: limit,
-            entering: entry.quantity,
-            gain,
-        });
-    }
-    None
+    Some(Rise {
+        leaving: limit,
+        entering: entry.quantity,
+        gain,
+    })
 }
 
 /// The exchange that was found before, unless the row rises more by the next one.
-fn higher(before: Option<Rise>, next: Rise) -> Rise
+pub fn higher(before: Option<Rise>, next: Rise) -> Rise
     ensures { IsHigher before next result }
 {
     match before {
@@ -84,7 +82,7 @@ fn higher(before: Option<Rise>, next: Rise) -> Rise
     }
 }
 
-/// The exchange by which the row rises most, of those whose numbers are not refused.
+/// The exchange by which the row rises most, of those whose numbers are not refused; the first of several.
 fn best_rise(dict: &Dict, row: usize) -> Option<Rise>
     requires table { AreOverColumns dict.now.roles }
     requires row { IsRow dict.now.roles row }
@@ -111,7 +109,8 @@ fn is_enough(aim: Aim, value: Frac) -> bool
     }
 }
 
-/// Raises the row of a feasible dictionary by `exchanges` exchanges at most, until the aim is reached or no exchange raises it.
+/// Raises the row of a feasible dictionary by `exchanges` exchanges at most, until the aim is reached or no column raises it. An exchange
+/// may leave it as high as it is: a climb that ended there would leave most of a degenerate problem to the rule of the least numbers.
 ///
 /// An exchange whose numbers are refused is not made, and ends the climb. A row with an unrestricted column rises without end by
 /// that, and stays where it is.

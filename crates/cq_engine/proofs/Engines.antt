@@ -1,5 +1,5 @@
 -- What a machine keeps and stands for as names are added, and what it comes to behind quiet turns.
-use Rattle.std.proofs.Common.{◌≡◌, ℕ, ◌<◌, ◌≤◌, ◌+◌, ◌-◌, length, map, drop, arith, List, [], ◌∷◌, ◌++◌, true, false, Option, None, Some, refl, sym, ap, ◌∙◌, subst}
+use Rattle.std.proofs.Common.{◌≡◌, ℕ, ◌<◌, ◌≤◌, ◌+◌, ◌-◌, length, map, drop, arith, List, [], ◌∷◌, true, Option, None, Some, refl, sym, ap, ◌∙◌, subst}
 use Rattle.std.specs.Prelude.{reverse}
 use Rattle.std.specs.List.{zip}
 use Rattle.spec_lists.proofs.Prefixes.{prefix_both, prefix_same}
@@ -7,7 +7,7 @@ use Rattle.spec_lists.specs.Texts.{Text}
 use Rattle.spec_search.specs.Database.{Database}
 use Rattle.spec_search.specs.Search.{Search, look_at, is_selecting}
 use Rattle.spec_search.specs.Turns.{with_branches}
-use Rattle.spec_stops.specs.Causes.{Budgets, Cause, Resolutions}
+use Rattle.spec_stops.specs.Causes.{Budgets, Resolutions}
 use Rattle.cq_control.specs.Items.{items_at}
 use Rattle.cq_control.specs.Open.{last}
 use Rattle.cq_gather.specs.Gathering.{IsMark}
@@ -18,7 +18,7 @@ use Rattle.cq_world.specs.Contents.{Contents}
 use Rattle.spec_machine.specs.declared.cell.Cell.{Cell}
 use Rattle.spec_machine.specs.declared.cell.Cell.TheVariants.{Goal, Call, CutTo, CutFail, CatchEnd, Collect}
 use Rattle.spec_machine.specs.Cells.{Value, Stack, size}
-use Rattle.spec_machine.specs.Coming.{Comes, Quietly, Tells, Stops}
+use Rattle.spec_machine.specs.Coming.{Quietly, Tells, Stops}
 use Rattle.spec_machine.specs.Coming as coming
 use Rattle.spec_machine.specs.Standing.{engine, AreWaiting, IsStanding}
 use Rattle.cq_machine.specs.declared.machine.Machine.{Machine}

@@ -1,5 +1,5 @@
 -- A machine at the mark of a findall.
-use Rattle.std.proofs.Common.{◌≡◌, ◌<◌, ℕ, List, Option, None, Some, refl, sym, subst, arith}
+use Rattle.std.proofs.Common.{◌≡◌, ◌<◌, ℕ, List, None, Some, sym, subst, arith}
 use Rattle.std.specs.Prelude.{Ok, Err, OnOk, OnErr}
 use Rattle.std.specs.declared.result.Result.{Result}
 use Rattle.spec_lists.specs.Texts.{Text}

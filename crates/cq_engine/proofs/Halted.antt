@@ -1,5 +1,5 @@
 -- A query that stops for a fault: the search that its engine stands for then, and its program.
-use Rattle.std.proofs.Common.{inl, inr, ◌≡◌, ℕ, [], None, refl, sym, ap, ◌∙◌, subst, arith, false, true}
+use Rattle.std.proofs.Common.{inl, inr, ◌≡◌, ℕ, [], None, refl, sym, ap, ◌∙◌, subst, arith, false}
 use Rattle.std.specs.Prelude.{⊤}
 use Rattle.spec_search.specs.Search.{Search, look_at, is_selecting}
 use Rattle.spec_search.specs.Turns.{Turn, Event, keeps, prunes, hands_on, escapes, moves, collects, steps, catches, throws, answers, ends, with_branches}

@@ -18,7 +18,7 @@ use Rattle.spec_machine.specs.Coming.{Comes}
 use Rattle.spec_machine.specs.Standing.{engine}
 use Rattle.cq_machine.specs.declared.machine.Machine.{Machine}
 use Rattle.cq_machine.specs.Machines.{holds, now}
-use Rattle.cq_engine.specs.Seeking.{IsKept, IsGoing, GoesTo, AllStop, ThrowsFrom, FindsOn, held_on}
+use Rattle.cq_engine.specs.Seeking.{IsKept, IsGoing, GoesTo, AllStop, FindsOn, held_on}
 use Rattle.cq_engine.proofs.Engines.{sound_where, going_on, names_known, holds_none}
 
 pub going_over : (m : Machine) (start : Option ℕ) → IsGoing m start → over.IsGoing m.clauses (held_on m) start

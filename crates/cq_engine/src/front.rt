@@ -1,6 +1,6 @@
 // What an engine comes to before a goal is selected.
 
-ghost use Rattle.std.specs.Prelude.{◌≡◌, ◌<◌, ◌≤◌, ◌∷◌, [], List, true, false, Some, None, IfOk, OnOk, OnErr};
+ghost use Rattle.std.specs.Prelude.{◌≡◌, ◌<◌, ◌≤◌, ◌∷◌, [], List, length, true, false, Some, None, IfOk, OnOk, OnErr};
 ghost use Rattle.spec_machine.specs.declared.cell.Cell.{Cell};
 ghost use Rattle.spec_search.specs.Search.{Search};
 ghost use Rattle.spec_stops.specs.Causes.{Budgets};
@@ -118,9 +118,58 @@ fn at_front(m: &mut Machine, selected: u64, steps: u64, k: Continuation) -> Next
     Next::Told(Front::Ahead(k))
 }
 
+/// Whether a goal is in front, or the mark of a findall.
+fn is_clear(cell: Cell) -> bool
+    ensures { result ≡ true → (cells : List Cell) → IsFront (cell ∷ cells) }
+{
+    match cell {
+        Cell::Goal(_, _) => true,
+        Cell::Call(_) => true,
+        Cell::CutTo(_) => false,
+        Cell::CutFail(_) => false,
+        Cell::CatchEnd(_, _, _) => false,
+        Cell::Collect(_, _) => true,
+    }
+}
+
+/// Whether no mark but that of a findall is in front of a continuation.
+fn is_at_front(m: &Machine, k: Continuation) -> bool
+    requires { k < length m.now.world.second.now }
+    ensures { result ≡ true → IsFront (items_at m.now.world.second.now k) }
+{
+    match m.world.second.first(k) {
+        Some((cell, _rest)) => is_clear(cell),
+        None => true,
+    }
+}
+
 /// An engine that selected so many goals, of which it may select `steps`, goes on to the next one, to the mark of a findall, or to
 /// what the query tells before. An error is want of memory: the engine then comes back to its newest choice.
 fn look_once(
+    m: &mut Machine,
+    selected: u64,
+    steps: u64,
+    start: Option<Continuation>,
+) -> Result<Next, AllocError>
+    requires kept { IsKept m.old }
+    requires works { IsGoing m.old start }
+    requires within { selected ≤ steps }
+    ensures next { IfOk result (ComesNext m.old start steps selected m.new) }
+    ensures err { OnErr result (GoesTo m.old start m.new None) }
+    ensures kept { IsKept m.new }
+    ensures program { KeepsNames m.old m.new }
+    ensures budget { m.new.world.first.store.pivots ≡ m.old.world.first.store.pivots }
+{
+    if let Some(k) = start {
+        if is_at_front(m, k) {
+            return Ok(at_front(m, selected, steps, k));
+        }
+    }
+    look_behind(m, selected, steps, start)
+}
+
+/// The same past marks that are in front, and through choices.
+fn look_behind(
     m: &mut Machine,
     selected: u64,
     steps: u64,

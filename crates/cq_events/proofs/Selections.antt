@@ -1,13 +1,17 @@
 -- A goal in front is the one that the search selects next.
-use Rattle.std.proofs.Common.{◌≡◌, ℕ, ◌<◌, List, [], ◌∷◌, ◌++◌, Option, Some, refl, sym, ap, ◌∙◌, subst}
+use Rattle.std.proofs.Common.{◌≡◌, ℕ, ◌<◌, List, [], ◌∷◌, ◌++◌, Option, Some, true, false, refl, sym, ap, ap₂, ◌∙◌, subst}
+use Rattle.std.proofs.lemmas.Bool.{false≢true}
 use Rattle.spec_syntax.specs.Trees.{Tree}
 use Rattle.spec_built.specs.Built.{compound1}
+use Rattle.spec_branch.specs.Branch as branch
 use Rattle.spec_branch.specs.Branch.{State, Item, Branch, read}
-use Rattle.spec_search.specs.Search.{Search, settled}
+use Rattle.spec_search.specs.Search.{Search, Look, Selecting, is_selecting, look_at, look_at_items, settled}
 use Rattle.spec_search.specs.Turns.{place_of}
 use Rattle.cq_control.specs.Items.{items_at}
-use Rattle.spec_machine.specs.declared.cell.Cell.TheVariants.{Goal, Call}
-use Rattle.spec_machine.specs.Standing.{IsContinuation, AreWaiting}
+use Rattle.spec_machine.specs.declared.cell.Cell.{Cell}
+use Rattle.spec_machine.specs.declared.cell.Cell.TheVariants.{Goal, Call, CutTo, CutFail, CatchEnd, Collect}
+use Rattle.spec_machine.specs.Cells.{below}
+use Rattle.spec_machine.specs.Standing.{IsContinuation, AreItems, AreWaiting}
 use Rattle.cq_balls.specs.Balls.{ComesUp}
 use Rattle.cq_steps.specs.Worlds.{IsBranch, term_in}
 use Rattle.cq_steps.proofs.Beginning.{reads_again}
@@ -15,9 +19,10 @@ use Rattle.cq_steps.proofs.Selected.{goal_selected, call_selected}
 use Rattle.cq_machine.specs.declared.machine.Machine.{Machine}
 use Rattle.cq_machine.specs.Machines.{now, holds, database_of, StillStands}
 use Rattle.cq_machine.specs.Stepping.{IsSelectedAt}
+use Rattle.cq_engine.specs.Fronts.{IsGoal}
 use Rattle.cq_engine.specs.Seeking.{StandsFor}
 use Rattle.cq_execute.specs.Executions.{IsCallSelected}
-use Rattle.cq_events.specs.Turning.{SelectsNext}
+use Rattle.cq_events.specs.Turning.{HasGoal, SelectsNext}
 
 -- ---- what is in front
 
@@ -70,6 +75,41 @@ module _ (m : Machine) (n k rest : ℕ) (s : Search) (j : StandsFor m n (Some k)
           database = j.database;
         },
       )
+
+-- ---- which goal is in front
+
+-- a search selects one goal next
+pub same_goal : (l : Look) (t u : Tree) (cut height : ℕ) (items more : List Item) (st su : State) (behind older : List Branch)
+    → l ≡ Selecting t cut items st behind → l ≡ Selecting u height more su older → read st t ≡ read su u
+same_goal l t u cut height items more st su behind older e f = (let states : st ≡ su = cc in let goals : t ≡ u = cc in ap₂ read states goals)
+
+abbrev head_or : Cell → List Cell → Cell
+head_or c [] = c
+head_or c (x ∷ xs) = x
+
+pub goal_here : (m : Machine) (k rest : ℕ) (c : Cell) (h : HasGoal m k) → items_at m.world.second.now k ≡ c ∷ items_at m.world.second.now rest → IsGoal c
+goal_here m k rest c h cells = let same : h.cell ≡ c = ap (head_or c) (sym h.cells ∙ cells) in subst IsGoal same h.goal
+
+-- where the search selects one, one is in front
+module _ (m : Machine) (n k : ℕ) (s : Search) (j : StandsFor m n (Some k) s) (t : Tree) (cut : ℕ) (more : List Item) (st : State) (behind : List Branch)
+    (look : look_at s.branches ≡ Selecting t cut more st behind) where
+  not_goal : (items : List Item) → j.current.0 ≡ items → is_selecting (look_at_items items j.current.1 j.behind) ≡ false → ⊥
+  not_goal items e f =
+      let looked : look_at s.branches ≡ look_at_items j.current.0 j.current.1 j.behind = ap look_at (j.branches ∙ ap (λ l. l ++ j.behind) j.current.2) in
+      let no : false ≡ true = sym f ∙ ap (λ l. is_selecting (look_at_items l j.current.1 j.behind)) (sym e) ∙ ap is_selecting (sym looked ∙ look) in
+      false≢true no
+
+  pub goal_in_front : HasGoal m k
+  goal_in_front = by (items_at m.world.second.now k) refl j.current.3.cells
+    where
+      by : (cs : List Cell) → items_at m.world.second.now k ≡ cs → AreItems (IsBranch m.atoms) (term_in m.atoms) (holds m) (now m).0 j.current.1 cs j.current.0 → HasGoal m k
+      by [] e a = absurd (not_goal [] a refl)
+      by (Goal id height ∷ cs) e a = record { cell = Goal id height; behind = cs; cells = e; goal = tt }
+      by (Call id ∷ cs) e a = record { cell = Call id; behind = cs; cells = e; goal = tt }
+      by (CutTo h ∷ cs) e a = absurd (not_goal (branch.CutTo (below (holds m) h) ∷ a.0) a.1 refl)
+      by (CutFail h ∷ cs) e a = absurd (not_goal (branch.CutFail (below (holds m) h) ∷ a.0) a.1 refl)
+      by (CatchEnd h c r ∷ cs) e a = absurd (not_goal (branch.CatchEnd (below (holds m) h) a.1 a.2 a.3 ∷ a.4) a.5 refl)
+      by (Collect h id ∷ cs) e a = absurd (not_goal (branch.Collect (below (holds m) h) a.0 ∷ a.1) a.2 refl)
 
 -- ---- where a machine still stands
 

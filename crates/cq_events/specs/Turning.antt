@@ -17,14 +17,16 @@ use Rattle.cq_steps.specs.Stored.{IsCountedTerm, stored_tree}
 use Rattle.cq_steps.specs.Worlds.{Placed}
 use Rattle.cq_machine.specs.declared.machine.Machine.{Machine}
 use Rattle.cq_machine.specs.Machines.{now, holds, database_of, IsSound, StillStands}
-use Rattle.cq_engine.specs.Seeking.{IsKept}
+use Rattle.cq_engine.specs.Fronts.{IsGoal}
+use Rattle.cq_engine.specs.Seeking.{IsKept, StandsFor}
 use Rattle.cq_execute.specs.Executions.{Reaches}
+use Rattle.cq_execute.specs.declared.executed.Executed.{Executed}
 use Rattle.cq_execute.specs.Stops.{IsStop}
-use Rattle.cq_events.specs.declared.cells.Done.{Done}
 use Rattle.cq_events.specs.declared.engine.Engine.{Engine}
 use Rattle.cq_events.specs.declared.event.Event.{Event}
 use Rattle.cq_events.specs.declared.event.Event.TheVariants.{Answer, Output, Fail, Ball, Stop}
 use Rattle.cq_events.specs.Raised.{is_raised_by}
+use Rattle.cq_events.specs.declared.raiser.Raiser.{Raiser}
 use Rattle.cq_events.specs.Events.{GivesNext, GoesOn, HasCounted}
 
 -- ---- a goal in front
@@ -47,12 +49,22 @@ pub record SelectsNext (m : Machine) (n rest : ℕ) (s : Search) : Type 0 where
   pub database : s.database ≡ database_of m
   pub selected : s.selected ≡ n
 
+-- a goal is in front of the continuation
+pub record HasGoal (m : Machine) (k : ℕ) : Type 0 where
+  pub cell : Cell
+  pub behind : List Cell
+  pub cells : items_at m.world.second.now k ≡ cell ∷ behind
+  pub goal : IsGoal cell
+
+-- it names the goal that is selected next by each search for which the machine stands
+abbrev pub NamesNext : Machine → ℕ → Raiser → Type 0
+NamesNext m k r = (n : ℕ) (s : Search) → StandsFor m n (Some k) s → (goal : Tree) (cut : ℕ) (items : List Item) (st : State) (behind : List Branch)
+    → look_at s.branches ≡ Selecting goal cut items st behind → is_raised_by m.atoms r (read st goal)
+
 -- the machine has come to what the goal's step makes; or that is the ball of an error, or the goal's reply refuses two numbers
-pub record Reached (old new : Machine) (n rest : ℕ) (d : Done) (s : Search) : Type 0 where
+pub record Reached (old new : Machine) (n rest : ℕ) (x : Executed) (s : Search) : Type 0 where
   pub next : SelectsNext old n rest s
-  pub reaches : Reaches new d.executed.step d.executed.output.items (place_of s next.state next.items next.cut next.behind) next.behind
-      (read next.state next.goal)
-  pub raiser : is_raised_by new.atoms d.raiser (read next.state next.goal)
+  pub reaches : Reaches new x.step x.output.items (place_of s next.state next.items next.cut next.behind) next.behind (read next.state next.goal)
 
 -- a moment of the goal is why there is this fault
 pub record IsStoppedNext (m : Machine) (n rest : ℕ) (fault : StoreFault) (s : Search) : Type 0 where

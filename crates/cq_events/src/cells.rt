@@ -1,4 +1,4 @@
-// The goal in front is executed.
+// The goal in front is executed, and named where it raises an error.
 
 ghost use Rattle.std.specs.Prelude.{◌≡◌, ◌<◌, ℕ, Some, length, IfOk, IfErr, OnErr};
 ghost use Rattle.spec_search.specs.Search.{Search};
@@ -8,7 +8,7 @@ ghost use Rattle.cq_engine.specs.Seeking.{IsGoing, StandsFor};
 ghost use Rattle.cq_execute.specs.Executions.{KeepsWalks, HasSameDatabase};
 ghost use Rattle.cq_events.specs.Raised.{IsNumbered};
 ghost use Rattle.cq_engine.specs.Fronts.{IsGoal};
-ghost use Rattle.cq_events.specs.Turning.{HasInFront, Reached, MayStop};
+ghost use Rattle.cq_events.specs.Turning.{HasGoal, HasInFront, NamesNext, Reached, MayStop};
 
 use crate::raiser::{Raiser, raiser_of};
 use cq_control::Continuation;
@@ -17,50 +17,65 @@ use cq_linear::store::StoreFault;
 use cq_machine::Machine;
 use spec_machine::Cell;
 
-/// What a selected goal came to, and how an error names it.
-#[derive(Drop)]
-pub(crate) struct Done {
-    pub executed: Executed,
-    pub raiser: Raiser,
-}
-
 /// Executes the goal in front. An error is the stop of the query, or want of memory.
 pub(crate) fn execute_cell(
     m: &mut Machine,
     k: Continuation,
     cell: Cell,
     rest: Continuation,
-) -> Result<Done, StoreFault>
+) -> Result<Executed, StoreFault>
     requires sound { IsSound m.old }
     requires going { IsGoing m.old (Some k) }
     requires front { HasInFront m.old k cell rest }
     requires goal { IsGoal cell }
-    ensures row { IfOk result (λ d. (n : ℕ) (s : Search) → StandsFor m.old n (Some k) s → Reached m.old m.new n rest d s) }
+    ensures row { IfOk result (λ x. (n : ℕ) (s : Search) → StandsFor m.old n (Some k) s → Reached m.old m.new n rest x s) }
     ensures stop { IfErr result (λ f. (n : ℕ) (s : Search) → StandsFor m.old n (Some k) s → MayStop m.old n rest f s) }
-    ensures goes { IfOk result (λ d. CanGo m.new d.executed.step) }
-    ensures numbered { IfOk result (λ d. IsNumbered m.new.atoms d.raiser) }
-    ensures raises { IfOk result (λ d. OnRaises d.executed.step (StillStands m.old m.new)) }
+    ensures goes { IfOk result (λ x. CanGo m.new x.step) }
+    ensures raises { IfOk result (λ x. OnRaises x.step (StillStands m.old m.new)) }
     ensures sound { IsSound m.new }
     ensures program { KeepsWalks m.old m.new }
     ensures err { OnErr result (StillStands m.old m.new) }
     ensures err_database { OnErr result (HasSameDatabase m.old m.new) }
 {
     match cell {
-        Cell::Goal(goal, height) => {
-            let world = &m.world;
-            let raiser = raiser_of(&world.first.heap, &m.atoms, goal);
-            match execute(m, goal, height, rest) {
-                Ok(executed) => Ok(Done { executed, raiser }),
-                Err(fault) => Err(fault),
-            }
-        }
+        Cell::Goal(goal, height) => match execute(m, goal, height, rest) {
+            Ok(executed) => Ok(executed),
+            Err(fault) => Err(fault),
+        },
         Cell::Call(called) => match execute_call(m, called, rest) {
-            Ok(executed) => Ok(Done {
-                executed,
-                raiser: Raiser::Caller,
-            }),
+            Ok(executed) => Ok(executed),
             Err(_) => Err(StoreFault::NoMemory),
         },
+        _ => unreachable!(),
+    }
+}
+
+/// How an error names the goal in front. A goal that raised one is there still.
+pub(crate) fn raiser_before(m: &Machine, k: Continuation) -> Raiser
+    requires sound { IsSound m.now }
+    requires going { IsGoing m.now (Some k) }
+    requires goal { HasGoal m.now k }
+    ensures names { NamesNext m.now k result }
+    ensures numbered { IsNumbered m.now.atoms result }
+{
+    let Some((cell, rest)) = m.world.second.first(k) else {
+        unreachable!()
+    };
+    raiser_in(m, k, cell, rest)
+}
+
+/// How an error names the goal of a cell, which is in front of a continuation.
+fn raiser_in(m: &Machine, k: Continuation, cell: Cell, rest: Continuation) -> Raiser
+    requires sound { IsSound m.now }
+    requires going { IsGoing m.now (Some k) }
+    requires front { HasInFront m.now k cell rest }
+    requires goal { IsGoal cell }
+    ensures names { NamesNext m.now k result }
+    ensures numbered { IsNumbered m.now.atoms result }
+{
+    match cell {
+        Cell::Goal(goal, _) => raiser_of(&m.world.first.heap, &m.atoms, goal),
+        Cell::Call(_) => Raiser::Caller,
         _ => unreachable!(),
     }
 }

@@ -11,7 +11,7 @@ ghost use Rattle.cq_events.specs.Events.{IsRunning, GoesOn, Keeps};
 ghost use Rattle.cq_events.specs.Turning.{ComesUpOn, HasEnded, IsAsBefore, IsAt, IsRaised, IsThrown, IsTold, Turned};
 
 use crate::balls::build_ball;
-use crate::cells::{Done, execute_cell};
+use crate::cells::{execute_cell, raiser_before};
 use crate::engine::Engine;
 use crate::event::Event;
 use crate::raiser::Raiser;
@@ -123,16 +123,18 @@ fn select(e: &mut Engine, k: Continuation) -> Result<Option<Event>, AllocError>
         unreachable!()
     };
     match execute_cell(&mut e.machine, k, cell, rest) {
-        Ok(done) => {
-            let Done { executed, raiser } = done;
+        Ok(executed) => {
             let Executed { step, output } = executed;
             match step {
                 Step::Goes(next) => Ok(advance(e, Some(next), output)),
                 Step::Back => Ok(advance(e, None, output)),
-                Step::Raises(error) => match raise(e, error, raiser, rest) {
-                    Ok(told) => Ok(told),
-                    Err(fault) => Err(fault),
-                },
+                Step::Raises(error) => {
+                    let raiser = raiser_before(&e.machine, k);
+                    match raise(e, error, raiser, rest) {
+                        Ok(told) => Ok(told),
+                        Err(fault) => Err(fault),
+                    }
+                }
                 Step::Throws(ball) => match throw(e, ball, rest) {
                     Ok(told) => Ok(told),
                     Err(fault) => Err(fault),

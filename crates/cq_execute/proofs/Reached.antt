@@ -1,5 +1,5 @@
 -- What a step says of the goal that was selected.
-use Rattle.std.proofs.Common.{◌≡◌, ℕ, List, [], ◌++◌, map, true, Option, Some, None, refl, sym, ap, ◌∙◌, subst}
+use Rattle.std.proofs.Common.{◌≡◌, ℕ, List, [], map, true, Option, Some, None, refl, sym, ap, ◌∙◌, subst}
 use Rattle.spec_lists.specs.Texts.{Text}
 use Rattle.spec_terms.specs.Term.{Var, Number, Name, Compound}
 use Rattle.spec_syntax.specs.Trees.{Tree}
@@ -15,7 +15,7 @@ use Rattle.spec_search.specs.Replies.{Place, Reply, made}
 use Rattle.spec_search.specs.Rows.{reply_of, reply_by, builtin_reply}
 use Rattle.spec_search.specs.Steps as steps
 use Rattle.spec_search.specs.Steps.{Steps, Ball, Children, ball_of}
-use Rattle.spec_machine.specs.Coming.{at_once, Comes}
+use Rattle.spec_machine.specs.Coming.{Comes}
 use Rattle.spec_machine.specs.Standing.{engine}
 use Rattle.cq_built.specs.Errors.{error_tree}
 use Rattle.cq_calls.specs.Calling.{CallBecomes}
@@ -73,31 +73,20 @@ module _ (m : Machine) (p : Place) (behind : List Branch) (g : Tree) (d : p.data
   reach (Throws id) r e h = thrown (tree m.atoms (terms m) id) (e ∙ h.is) h.reads
   reach (Refuses pair) r e h = record { is = e ∙ h; database = d }
 
-  -- the clauses of a call wait
-  called : reply_of p g ≡ user_row p (indicator_of g) → CallBecomes m.atoms (holds m) p behind g → Continues m None [] p behind g
-  called e c = record {
+  -- the clauses of a call are tried
+  called : (current : Option ℕ) → reply_of p g ≡ user_row p (indicator_of g) → CallBecomes m.atoms (holds m) (now m) current p behind g → Continues m current [] p behind g
+  called current e c = record {
     made = made p (map (clause_child p g) c.some);
     step = steps.calls (e ∙ c.row) c.selection;
     database = d;
     output = refl;
-    comes = λ steps s f b. record {
-      reached = s;
-      quiet = at_once;
-      stands = record {
-        database = f;
-        selected = refl;
-        first = [];
-        behind = map (clause_child p g) c.some ++ behind;
-        branches = b;
-        current = refl;
-        waiting = c.waiting;
-      };
-    };
+    comes = λ steps s f b. subst (λ (db : Database). Comes (IsBranch m.atoms) (term_in m.atoms) steps (engine db s.selected (holds m) (now m) current) s) d
+        (c.comes steps s (f ∙ sym d) b);
   }
 
   pub reach_call : (s : Step) → reply_of p g ≡ user_row p (indicator_of g) → IsCall m s p behind g → Reaches m s [] p behind g
-  reach_call (Goes k) e c = absurd c
-  reach_call Back e c = called e c
+  reach_call (Goes k) e c = called (Some k) e c
+  reach_call Back e c = called None e c
   reach_call (Raises x) e h = raised (error_tree m.atoms (terms m) x) (e ∙ h)
   reach_call (Throws id) e c = absurd c
   reach_call (Refuses pair) e c = absurd c

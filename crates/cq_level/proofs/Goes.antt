@@ -1,5 +1,5 @@
 -- The steps of a row towards zero.
-use Rattle.std.proofs.Common.{◌≡◌, ℕ, zero, suc, ◌+◌, ◌<◌, ◌≤◌, List, [], ◌∷◌, length, get_or, take, Bool, true, false, inl, inr, Some, Result, Err, pos, arith, refl, ap, sym, subst, ◌∙◌}
+use Rattle.std.proofs.Common.{◌≡◌, ℕ, zero, suc, ◌+◌, ◌<◌, ◌≤◌, List, [], ◌∷◌, length, get_or, take, Bool, true, false, inl, inr, Option, None, Some, is_some, Result, Err, pos, arith, refl, ap, sym, subst, ◌∙◌}
 use Rattle.std.specs.Prelude.{◌↔◌}
 use Rattle.spec_rational.specs.Rational.{ℚ, 0ℚ, neg_ℚ, IsPositive, IsNotNegative, ◌<ℚ◌, ◌≤ℚ◌}
 use Rattle.spec_rational.proofs.Ring.{var, int, ◌⊕◌, minus}
@@ -24,18 +24,22 @@ use Rattle.cq_simplex.specs.declared.SimplexFault.{SimplexFault}
 use Rattle.cq_simplex.specs.declared.SimplexFault.TheVariants.{Overflow}
 use Rattle.cq_simplex.specs.Answers.{IsFaultOf}
 use Rattle.cq_simplex.specs.Dictionary.{dictionary, IsReached}
-use Rattle.cq_simplex.proofs.Entries.{factor_of, has_entry, first_enters, none_raises}
+use Rattle.cq_simplex.specs.Turns.{IsFreeColumn}
+use Rattle.cq_simplex.proofs.Entries.{factor_of, has_entry, raises_is, first_enters, none_raises}
 use Rattle.cq_simplex.proofs.Steps.{begins, step}
 use Rattle.cq_simplex.proofs.Roles.{dropped_after}
+use Rattle.cq_climb.specs.Climbs.{IsCarried}
+use Rattle.cq_climb.proofs.Climbing.{stays_carried, carried_on, carried_further}
 use Rattle.cq_tableau.specs.Raised.{HasNoFreeColumn}
-use Rattle.cq_tableau.proofs.Tied.{entry_live}
-use Rattle.cq_level.specs.Turned.{opposite_row, turned, towards}
-use Rattle.cq_level.specs.Levelled.{IsOff, IsPassed, IsNext, CrossesBy, CrossesAt, StaysRow, GoesOn, IsGone, NoneNearer, IsShort, IsLevelled, SpendsLevel}
+use Rattle.cq_tableau.proofs.Tied.{entry_live, carried_invariant}
+use Rattle.cq_tableau.proofs.Looks.{carried_speaks}
+use Rattle.cq_level.specs.Turned.{opposite_row, turned, towards, slope_of}
+use Rattle.cq_level.specs.Levelled.{IsOff, IsPassed, IsNext, IsNearing, CrossesBy, CrossesAt, StaysRow, StaysOff, GoesOn, IsGone, IsClimbed, NoneNearer, IsShort, IsLevelled, RefusesLevel, SpendsLevel}
 use Rattle.cq_level.specs.declared.levelling.Levelled.{Levelled}
 use Rattle.cq_level.specs.declared.levelling.Step.TheVariants.{Ends, Exchange}
 use Rattle.cq_level.specs.declared.levelling.Levelled.TheVariants.{Level, Crossing, Short}
 use Rattle.cq_level.proofs.Turned.{turned_at, turned_table, turned_same, turned_exchanged, turned_live, turned_row, turned_is_row, feasible_turned, feasible_back, own_constant, own_factor, leaves_turned, none_limits_turned, limits_there, limits_back}
-use Rattle.cq_level.proofs.Passing.{free_at, unlimited_at, passed_at, exchange_keeps}
+use Rattle.cq_level.proofs.Passing.{free_at, unlimited_at, passed_at}
 
 -- ---- the roles in which the row is to rise
 module _ (roles : List Role) (q : ℕ) where
@@ -156,29 +160,49 @@ stays_here q roles flags row = record { keeps = λ forms l k. k; dropped = λ c.
 pub stays_further : (q : ℕ) (a b c : List Role) (flags : List Bool) → StaysRow q a flags b → StaysRow q b flags c → StaysRow q a flags c
 stays_further q a b c flags x y = record { keeps = λ forms l k. y.keeps forms l (x.keeps forms l k); dropped = λ z. y.dropped z ∙ x.dropped z; row = y.row }
 
--- the row and the column that are due
-pub due_there : (q : ℕ) (up : Bool) (old : List Role) (flags : List Bool) → is_restricted flags q ≡ false → (r c : ℕ)
-    → IsDue (is_restricted flags) (dictionary (towards up old q) q) c r → HasEntry old r c
-due_there q up old flags free r c due =
-    let l = limits_own old q flags free up c r due.leaves.limits in
+-- a dictionary of the same solutions keeps what was kept
+pub carried_stays : (q : ℕ) (old : List Role) (flags : List Bool) (new : List Role) → IsCarried old flags q new → StaysRow q old flags new
+carried_stays q old flags new r = record {
+  keeps = λ forms l k.
+      let s = carried_speaks old new flags q r forms l
+      (record { table = k.table; size = k.size; describes = k.describes; sound = k.invariant.sound; dropped = k.dropped }) in
+      record {
+        table = s.table;
+        size = s.size;
+        describes = s.describes;
+        invariant = carried_invariant old new flags forms l q k.size k.describes k.invariant r;
+        dropped = s.dropped;
+      };
+  dropped = r.dropped;
+  row = r.asked_row;
+}
+
+-- the row and the column of an exchange
+pub nearing_there : (q : ℕ) (up : Bool) (old : List Role) (flags : List Bool) → is_restricted flags q ≡ false → (r c : ℕ) → IsNearing old flags q up r c → HasEntry old r c
+nearing_there q up old flags free r c n =
+    let l = limits_own old q flags free up c r n.leaves.limits in
     has_entry old r c l.row (λ e. not_pos_zero (subst IsPositive (ap neg_ℚ e ∙ ring [] (minus (int (pos 0))) (int (pos 0)) refl) l.falls))
 
--- ---- an exchange that is due
+-- by what is due next the row comes nearer
+pub due_nears : (q : ℕ) (up : Bool) (old : List Role) (flags : List Bool) (r c : ℕ) → IsNext old flags q up (Exchange r c) → IsNearing old flags q up r c
+due_nears q up old flags r c n = record { none = n.0; raises = n.1.enters.raises; leaves = n.1.leaves }
+
+-- ---- an exchange by which the row comes nearer
 module _ (q : ℕ) (up : Bool) (old : List Role) (flags : List Bool) (row : IsRow old q) (free : is_restricted flags q ≡ false) (off : IsOff up old q)
     (feasible : IsFeasible (is_restricted flags) (dictionary (towards up old q) q)) (table : AreOverColumns old) (r c : ℕ)
-    (due : IsDue (is_restricted flags) (dictionary (towards up old q) q) c r) (new : List Role) (x : IsExchanged old r c new) (same : SameMeaning old new)
+    (n : IsNearing old flags q up r c) (new : List Role) (x : IsExchanged old r c new) (same : SameMeaning old new)
     (new_table : AreOverColumns new) where
   column_live : is_live old c ≡ true
-  column_live = sym (seen_live old q up c) ∙ due.enters.raises.column
+  column_live = sym (seen_live old q up c) ∙ n.raises.column
 
   leaving_row : IsRow old r
-  leaving_row = let f = found old r (sym (seen_is_row old q up r) ∙ due.leaves.limits.row) in (f.row, f.at)
+  leaving_row = let f = found old r (sym (seen_is_row old q up r) ∙ n.leaves.limits.row) in (f.row, f.at)
 
   not_leaving : q ≡ r → ⊥
-  not_leaving e = let k = subst (λ y. is_restricted flags y ≡ false) e free in let f = due.leaves.limits.flag in cc
+  not_leaving e = let k = subst (λ y. is_restricted flags y ≡ false) e free in let f = n.leaves.limits.flag in cc
 
   not_entering : q ≡ c → ⊥
-  not_entering e = let k = subst (λ y. is_row old y ≡ true) e (is_row_of old q row) in let n = live_is_no_row old c column_live in cc
+  not_entering e = let k = subst (λ y. is_row old y ≡ true) e (is_row_of old q row) in let m = live_is_no_row old c column_live in cc
 
   pub new_row : IsRow new q
   new_row = row_on old new q (x.others q not_leaving not_entering) row
@@ -191,38 +215,41 @@ module _ (q : ℕ) (up : Bool) (old : List Role) (flags : List Bool) (row : IsRo
   seen_exchanged true = x
   seen_exchanged false = turned_exchanged old new q r c x
 
-  reached : IsReached flags q (towards up old q) 1 (towards up new q)
-  reached =
-      step flags q (towards up old q) 0 (towards up old q) (towards up new q) (begins flags q (towards up old q) (seen_table old q up row table) (seen_row old q up row) feasible) c r due
+  seen_carried : IsCarried (towards up old q) flags q (towards up new q)
+  seen_carried =
+      carried_on flags q (towards up old q) c r n.raises n.leaves (towards up old q) (towards up new q)
+      (stays_carried flags q (towards up old q) (seen_table old q up row table) (seen_row old q up row) feasible)
       (seen_same up) (seen_exchanged up) (seen_table new q up new_row new_table)
 
   new_feasible : IsFeasible (is_restricted flags) (dictionary new q)
-  new_feasible = own_feasible new q flags free up reached.feasible
+  new_feasible = own_feasible new q flags free up seen_carried.feasible
 
-  pub stays_after : StaysRow q old flags new
-  stays_after = record {
-    keeps = exchange_keeps old flags r c leaving_row column_live new x same new_table q new_feasible;
+  carried : IsCarried old flags q new
+  carried = record {
+    table = new_table;
+    size = x.size;
+    same = same;
     dropped = λ z. dropped_after old new r c leaving_row column_live x z;
-    row = new_row;
+    asked_row = new_row;
+    feasible = new_feasible;
   }
 
-  pub goes_on : IsOff up new q → GoesOn q up old flags new
+  pub stays_after : StaysRow q old flags new
+  stays_after = carried_stays q old flags new carried
+
+  pub goes_on : IsOff up new q → GoesOn q up old flags r c new
   goes_on o = record {
-    row = r;
-    column = c;
-    due = due;
     same = seen_same up;
     exchanged = seen_exchanged up;
     table = seen_table new q up new_row new_table;
-    own_table = new_table;
-    stays = stays_after;
+    carried = carried;
     off = o;
   }
 
   -- the row has passed zero
-  pub crosses_instead : HasNoFreeColumn old flags q → IsPositive (constant_at (towards up new q) q) → CrossesAt old flags q c
-  crosses_instead none p =
-      passed_at old flags q row up free off c due.enters.raises.coefficient column_live none r leaving_row new x same new_table new_row new_feasible p
+  pub crosses_instead : IsPositive (constant_at (towards up new q) q) → CrossesAt old flags q c
+  crosses_instead p =
+      passed_at old flags q row up free off c n.raises.coefficient column_live n.none r leaving_row new x same new_table new_row new_feasible p
 
 -- ---- on which side of zero a number is
 below_zero : {a : ℚ} → IsPositive (neg_ℚ a) → a <ℚ 0ℚ
@@ -284,24 +311,63 @@ ended q up old flags row table free off Level h = absurd h
 ended q up old flags row table free off (Crossing c) h = (stays_here q old flags row, crosses_by old flags q row up free off c h)
 ended q up old flags row table free off Short h = (stays_here q old flags row, short_at old flags q row table up off h)
 
-pub gone_so_far : (q : ℕ) (up : Bool) (old : List Role) (flags : List Bool) (new : List Role) (l : Levelled) → IsGone q up old flags new (Some l) → IsLevelled q old flags new l
-gone_so_far q up old flags new Level h = h
-gone_so_far q up old flags new (Crossing c) h = h
-gone_so_far q up old flags new Short h = absurd h
+pub gone_so_far : (q : ℕ) (up : Bool) (old : List Role) (flags : List Bool) (r c : ℕ) (new : List Role) (l : Levelled) → IsGone q up old flags r c new (Some l) → IsLevelled q old flags new l
+gone_so_far q up old flags r c new Level h = h
+gone_so_far q up old flags r c new (Crossing d) h = h
+gone_so_far q up old flags r c new Short h = absurd h
 
 -- one exchange more
-pub one_further : (q : ℕ) (up : Bool) (flags : List Bool) (old : List Role) (n : ℕ) (mid new : List Role) → IsReached flags q (towards up old q) n (towards up mid q)
-    → GoesOn q up mid flags new → IsReached flags q (towards up old q) (n + 1) (towards up new q)
-one_further q up flags old n mid new r g = step flags q (towards up old q) n (towards up mid q) (towards up new q) r g.column g.row g.due g.same g.exchanged g.table
+pub one_further : (q : ℕ) (up : Bool) (flags : List Bool) (old : List Role) (n : ℕ) (mid new : List Role) (r c : ℕ) → IsReached flags q (towards up old q) n (towards up mid q)
+    → IsDue (is_restricted flags) (dictionary (towards up mid q) q) c r → GoesOn q up mid flags r c new → IsReached flags q (towards up old q) (n + 1) (towards up new q)
+one_further q up flags old n mid new r c reached due g =
+    step flags q (towards up old q) n (towards up mid q) (towards up new q) reached c r due g.same g.exchanged g.table
 
 -- the budget is spent
-pub spent_level : (q : ℕ) (up : Bool) (flags : List Bool) (old : List Role) (n : ℕ) (mid : List Role) → IsReached flags q (towards up old q) n (towards up mid q) → IsOff up mid q
-    → (r c : ℕ) → IsDue (is_restricted flags) (dictionary (towards up mid q) q) c r → SpendsLevel q old flags n
-spent_level q up flags old n mid reached off r c due = record {
+pub spent_level : (q : ℕ) (up : Bool) (flags : List Bool) (old : List Role) → IsCarried old flags q old → (n : ℕ) (mid : List Role) → IsReached flags q (towards up old q) n (towards up mid q)
+    → IsOff up mid q → (r c : ℕ) → IsDue (is_restricted flags) (dictionary (towards up mid q) q) c r → SpendsLevel q old flags n
+spent_level q up flags old carried n mid reached off r c due = record {
+  from = old;
+  carried = carried;
   up = up;
   last = towards up mid q;
   spent = record { reached = reached; column = c; row = r; due = due; short = λ e. lt_to_le off };
 }
+
+-- ---- a climb, and the search from where it ends
+pub climbed_on : (q : ℕ) (up : Bool) (old mid : List Role) (flags : List Bool) → StaysOff q up old flags mid → (r c : ℕ) (new : List Role) → GoesOn q up mid flags r c new
+    → StaysOff q up old flags new
+climbed_on q up old mid flags s r c new g = record {
+  carried = carried_further old flags q mid s.carried new g.carried;
+  off = g.off;
+}
+
+pub climbed_there : (q : ℕ) (up : Bool) (old mid : List Role) (flags : List Bool) → StaysOff q up old flags mid → (new : List Role) (l : Levelled) → IsLevelled q mid flags new l
+    → IsClimbed q up old flags new (Some l)
+climbed_there q up old mid flags s new l h = stays_on q old mid flags (carried_stays q old flags mid s.carried) new l h
+
+pub refused_further : (q : ℕ) (old mid : List Role) (flags : List Bool) → StaysRow q old flags mid → (pair : Pair) → RefusesLevel q mid flags pair → RefusesLevel q old flags pair
+refused_further q old mid flags s pair r = record { roles = r.roles; stays = stays_further q old mid r.roles flags s r.stays; refuses = r.refuses }
+
+pub spent_further : (q : ℕ) (old mid : List Role) (flags : List Bool) → IsCarried old flags q mid → (n : ℕ) → SpendsLevel q mid flags n → SpendsLevel q old flags n
+spent_further q old mid flags r n p = record { from = p.from; carried = carried_further old flags q mid r p.from p.carried; up = p.up; last = p.last; spent = p.spent }
+
+-- ---- a column by which the row comes nearer
+pub none_is_free : (roles : List Role) (flags : List Bool) (q : ℕ) (found : Option ℕ) → IsFreeColumn roles flags q found → is_some found ≡ false → HasNoFreeColumn roles flags q
+none_is_free roles flags q None h e = h
+none_is_free roles flags q (Some c) h e = (let k : ⊥ = cc in absurd k)
+
+module _ (roles : List Role) (flags : List Bool) (q : ℕ) (row : IsRow roles q) (table : AreOverColumns roles) (up : Bool) where
+  pub slope_raises : (m : Entry) → rows.Has m row.0.live → IsPositive (slope_of up m.factor) → is_restricted flags m.quantity ≡ true
+      → Raises (is_restricted flags) (dictionary (towards up roles q) q) m.quantity
+  slope_raises m h p f = go up p
+    where
+      go : (b : Bool) → IsPositive (slope_of b m.factor) → Raises (is_restricted flags) (dictionary (towards b roles q) q) m.quantity
+      go true p = raises_is roles flags table q row.0 row.1 m h (p, f)
+      go false p = record {
+        column = seen_live roles q false m.quantity ∙ entry_live (is_live roles) 0 row.0.live (table.rows q row.0 row.1).live_row m h;
+        flag = f;
+        coefficient = subst IsPositive (ap neg_ℚ (sym (factor_of roles flags table q row.0 row.1 m h)) ∙ sym (own_factor roles q row.0 row.1 m.quantity)) p;
+      }
 
 -- ---- what is to be done next
 module _ (roles : List Role) (flags : List Bool) (q : ℕ) (up : Bool) (free : is_restricted flags q ≡ false) (none : HasNoFreeColumn roles flags q) (c : ℕ)
@@ -391,3 +457,10 @@ begins_here q up d row free off f table = record {
   off = off;
   reached = begins d.restricted q (towards up d.roles q) (seen_table d.roles q up row table) (seen_row d.roles q up row) (seen_feasible d.roles q d.restricted free up f);
 }
+
+-- what the exchanges of a climb keep
+pub record Climbs (q : ℕ) (up : Bool) (old now : DictValue) : Type 0 where
+  pub flags : now.restricted ≡ old.restricted
+  pub saved : now.saved ≡ old.saved
+  pub room : old.room ≤ now.room
+  pub climbed : StaysOff q up old.roles old.restricted now.roles

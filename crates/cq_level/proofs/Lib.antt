@@ -3,3 +3,4 @@ pub mod Crossing
 pub mod Passing
 pub mod Goes
 pub mod Lights
+pub mod Counts

@@ -44,7 +44,7 @@ module _ (roles : List Role) (q c : ℕ) where
     entry_stands : (f : Entry) → Has f own.live → f.quantity ≡ c → stands c (role_at roles q) ≡ 1
     entry_stands f h e = ap (stands c) (role_is roles q (Basic own) at) ∙ ap (λ b. choose b 1 0) (has_its_column c own.live f h e)
 
-    lacking_stands : Lacks c own.live → stands c (role_at roles q) ≡ 0
+    pub lacking_stands : Lacks c own.live → stands c (role_at roles q) ≡ 0
     lacking_stands l = ap (stands c) (role_is roles q (Basic own) at) ∙ ap (λ b. choose b 1 0) (lacks_column c own.live l)
 
     -- what is found at the column

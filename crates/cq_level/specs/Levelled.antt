@@ -3,7 +3,7 @@ use Rattle.std.specs.Prelude.{◌≡◌, ◌⊎◌, ℕ, List, Bool, true, false
 use Rattle.spec_rational.specs.Rational.{ℚ, 0ℚ, neg_ℚ, IsPositive, ◌<ℚ◌}
 use Rattle.spec_linear.specs.Form.{Linear, negated_form}
 use Rattle.spec_linear.specs.Solution.{Constraint}
-use Rattle.spec_simplex.specs.Rule.{Raises, IsDue, IsUnlimited, IsFree}
+use Rattle.spec_simplex.specs.Rule.{Raises, Leaves, IsDue, IsUnlimited, IsFree}
 use Rattle.spec_tableau.specs.Reach.{Rises}
 use Rattle.spec_tableau.specs.Tableau.{HasFeasibleNumbers}
 use Rattle.cq_frac.specs.declared.Pair.{Pair}
@@ -15,6 +15,7 @@ use Rattle.cq_dict.specs.declared.table.Role.{Role}
 use Rattle.cq_dict.specs.declared.table.Role.TheVariants.{Basic}
 use Rattle.cq_dict.specs.Roles.{IsAt, IsRow, AreOverColumns, HasEntry, IsExchanged, IsEliminated, PivotPair, is_restricted, constant_at}
 use Rattle.cq_dict.specs.Dict.{SameMeaning}
+use Rattle.cq_climb.specs.Climbs.{IsCarried}
 use Rattle.cq_simplex.specs.declared.Aim.TheVariants.{Positive}
 use Rattle.cq_simplex.specs.Answers.{AreSpent}
 use Rattle.cq_simplex.specs.Dictionary.{dictionary}
@@ -60,6 +61,12 @@ IsNext roles flags q up (Ends Short) = NoneNearer roles flags q up
 IsNext roles flags q up (Exchange r c) =
     HasNoFreeColumn roles flags q × IsDue (is_restricted flags) (dictionary (towards up roles q) q) c r
 
+-- the row has no unrestricted column, this column brings it nearer to zero, and this row limits the column first
+pub record IsNearing (roles : List Role) (flags : List Bool) (q : ℕ) (up : Bool) (r c : ℕ) : Type 0 where
+  pub none : HasNoFreeColumn roles flags q
+  pub raises : Raises (is_restricted flags) (dictionary (towards up roles q) q) c
+  pub leaves : Leaves (is_restricted flags) (dictionary (towards up roles q) q) c r
+
 -- an operation of an exchange refuses the pair
 pub record RefusesSome (roles : List Role) (pair : Pair) : Type 0 where
   pub row : ℕ
@@ -97,24 +104,30 @@ IsLevelled q old flags new Level = StaysRow q old flags new × (constant_at new 
 IsLevelled q old flags new (Crossing c) = StaysRow q old flags new × CrossesAt new flags q c
 IsLevelled q old flags new Short = StaysRow q old flags new × IsShort new flags q
 
--- an exchange of the rule is made, and the row is off zero still
-pub record GoesOn (q : ℕ) (up : Bool) (old : List Role) (flags : List Bool) (new : List Role) : Type 0 where
-  pub row : ℕ
-  pub column : ℕ
-  pub due : IsDue (is_restricted flags) (dictionary (towards up old q) q) column row
+-- the two are exchanged, and the row is off zero still
+pub record GoesOn (q : ℕ) (up : Bool) (old : List Role) (flags : List Bool) (r c : ℕ) (new : List Role) : Type 0 where
   pub same : SameMeaning (towards up old q) (towards up new q)
-  pub exchanged : IsExchanged (towards up old q) row column (towards up new q)
+  pub exchanged : IsExchanged (towards up old q) r c (towards up new q)
   pub table : AreOverColumns (towards up new q)
-  pub own_table : AreOverColumns new
-  pub stays : StaysRow q old flags new
+  pub carried : IsCarried old flags q new
   pub off : IsOff up new q
 
 -- what an exchange came to: the row is off zero still, or it is zero, or the exchange is not made, since the row passes zero by it
-abbrev pub IsGone : ℕ → Bool → List Role → List Bool → List Role → Option Levelled → Type 0
-IsGone q up old flags new None = GoesOn q up old flags new
-IsGone q up old flags new (Some Level) = StaysRow q old flags new × (constant_at new q ≡ 0ℚ)
-IsGone q up old flags new (Some (Crossing c)) = StaysRow q old flags new × CrossesAt new flags q c
-IsGone q up old flags new (Some Short) = ⊥
+abbrev pub IsGone : ℕ → Bool → List Role → List Bool → ℕ → ℕ → List Role → Option Levelled → Type 0
+IsGone q up old flags r c new None = GoesOn q up old flags r c new
+IsGone q up old flags r c new (Some Level) = StaysRow q old flags new × (constant_at new q ≡ 0ℚ)
+IsGone q up old flags r c new (Some (Crossing d)) = StaysRow q old flags new × CrossesAt new flags q d
+IsGone q up old flags r c new (Some Short) = ⊥
+
+-- the row is off zero still, in a feasible dictionary of the same solutions
+pub record StaysOff (q : ℕ) (up : Bool) (old : List Role) (flags : List Bool) (new : List Role) : Type 0 where
+  pub carried : IsCarried old flags q new
+  pub off : IsOff up new q
+
+-- what a climb came to
+abbrev pub IsClimbed : ℕ → Bool → List Role → List Bool → List Role → Option Levelled → Type 0
+IsClimbed q up old flags new None = StaysOff q up old flags new
+IsClimbed q up old flags new (Some l) = IsLevelled q old flags new l
 
 -- ---- stops
 -- an operation of an exchange refuses the pair, where the row has come to
@@ -123,8 +136,11 @@ pub record RefusesLevel (q : ℕ) (old : List Role) (flags : List Bool) (pair : 
   pub stays : StaysRow q old flags roles
   pub refuses : RefusesSome roles pair
 
--- so many exchanges are made for the row, or for its negative, and another is due
+-- from some feasible dictionary of the same solutions so many exchanges are made by the rule for the row, or for its negative, and another
+-- is due
 pub record SpendsLevel (q : ℕ) (old : List Role) (flags : List Bool) (n : ℕ) : Type 0 where
+  pub from : List Role
+  pub carried : IsCarried old flags q from
   pub up : Bool
   pub last : List Role
-  pub spent : AreSpent (towards up old q) flags q Positive n last
+  pub spent : AreSpent (towards up from q) flags q Positive n last

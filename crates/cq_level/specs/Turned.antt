@@ -1,6 +1,6 @@
 -- A row with the opposite sign: what the dictionary would be, if the row's quantity were its negative.
 use Rattle.std.specs.Prelude.{ℕ, zero, suc, List, [], ◌∷◌, Bool, true, false}
-use Rattle.spec_rational.specs.Rational.{neg_ℚ}
+use Rattle.spec_rational.specs.Rational.{ℚ, neg_ℚ}
 use Rattle.cq_row.specs.Row.{Row}
 use Rattle.cq_row.specs.Rows.{negated}
 use Rattle.cq_dict.specs.declared.table.Role.{Role}
@@ -24,3 +24,8 @@ turned (t ∷ ts) (suc q) = t ∷ turned ts q
 abbrev pub towards : Bool → List Role → ℕ → List Role
 towards true roles q = roles
 towards false roles q = turned roles q
+
+-- the factor by which q then changes along a column
+abbrev pub slope_of : Bool → ℚ → ℚ
+slope_of true factor = factor
+slope_of false factor = neg_ℚ factor

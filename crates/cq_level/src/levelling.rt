@@ -1,23 +1,25 @@
-//! The simplex method towards zero: exchanges by the rule of the least numbers raise a row that is below zero, and lower one
-//! that is above, until it is zero, or a column is found by which it passes zero.
+//! The simplex method towards zero: exchanges raise a row that is below zero, and lower one that is above, until it is zero, or a
+//! column is found by which it passes zero. The first exchanges are those of the greatest gain, and the rule of the least numbers
+//! goes on from there, which proves the end.
 
-ghost use Rattle.std.specs.Prelude.{◌≡◌, ◌≤◌, ℕ, false, IfOk};
+ghost use Rattle.std.specs.Prelude.{◌≡◌, ◌≤◌, ℕ, false, IfOk, OnErr};
 ghost use Rattle.spec_simplex.specs.Dictionary.{IsFeasible};
 ghost use Rattle.cq_frac.specs.declared.Pair.{Pair};
 ghost use Rattle.cq_dict.specs.Roles.{IsRow, AreOverColumns, is_restricted};
 ghost use Rattle.cq_simplex.specs.declared.SimplexFault.TheVariants.{Overflow, Pivots};
 ghost use Rattle.cq_simplex.specs.Dictionary.{dictionary};
-ghost use Rattle.cq_level.specs.declared.levelling.Step.TheVariants.{Exchange};
 ghost use Rattle.cq_level.specs.Turned.{towards};
-ghost use Rattle.cq_level.specs.Levelled.{IsOff, IsSloping, IsNext, IsPassed, IsGone, IsLevelled, RefusesSome, RefusesLevel, SpendsLevel};
+ghost use Rattle.cq_level.specs.Levelled.{IsOff, IsSloping, IsNext, IsNearing, IsPassed, IsGone, IsClimbed, IsLevelled, RefusesSome, RefusesLevel, SpendsLevel};
 
 use crate::choosing::lightest_column;
+use crate::nearing::nearest;
 use cq_dict::dict::{Col, Dict};
-use cq_frac::{Frac, Pair};
+use cq_frac::Frac;
 use cq_simplex::SimplexFault;
 use cq_simplex::leaving::leaving;
 use cq_simplex::rising::entering;
 use cq_trail::Undo;
+use std::alloc::AllocError;
 
 /// What became of a row that is to be zero.
 #[derive(Clone, Copy, Debug)]
@@ -64,14 +66,15 @@ fn sloping(dict: &Dict, q: usize, up: bool) -> Option<Col>
 }
 
 /// What is to be done next for the row, which is to rise, or to fall.
-fn next_step(dict: &Dict, q: usize, up: bool) -> Result<Step, Pair>
+fn next_step(dict: &Dict, q: usize, up: bool) -> Result<Step, SimplexFault>
     requires table { AreOverColumns dict.now.roles }
     requires row { IsRow dict.now.roles q }
     requires free { is_restricted dict.now.restricted q ≡ false }
     ensures next { IfOk result (λ n. IsNext dict.now.roles dict.now.restricted q up n) }
-    ensures overflow { (pair : Pair) → result ≡ Err pair → RefusesSome dict.now.roles pair }
+    ensures overflow { (pair : Pair) → result ≡ Err (Overflow pair) → RefusesSome dict.now.roles pair }
+    ensures pivots { (n : ℕ) → result ≡ Err (Pivots n) → ⊥ }
 {
-    if let Some(free) = lightest_column(dict, q) {
+    if let Some(free) = lightest_column(dict, q)? {
         return Ok(Step::Ends(Levelled::Crossing(free)));
     }
     let Some(column) = sloping(dict, q, up) else {
@@ -108,8 +111,9 @@ fn exchange(
     requires off { IsOff up dict.old.roles q }
     requires feasible { IsFeasible (is_restricted dict.old.restricted) (dictionary (towards up dict.old.roles q) q) }
     requires table { AreOverColumns dict.old.roles }
-    requires due { IsNext dict.old.roles dict.old.restricted q up (Exchange row column) }
-    ensures gone { IfOk result (λ o. IsGone q up dict.old.roles dict.old.restricted dict.new.roles o) }
+    requires nearing { IsNearing dict.old.roles dict.old.restricted q up row column }
+    ensures gone { IfOk result (λ o. IsGone q up dict.old.roles dict.old.restricted row column dict.new.roles o) }
+    ensures err { OnErr result (dict.new.roles ≡ dict.old.roles) }
     ensures flags { dict.new.restricted ≡ dict.old.restricted }
     ensures saved { dict.new.saved ≡ dict.old.saved }
     ensures room { dict.old.room ≤ dict.new.room }
@@ -131,6 +135,39 @@ fn exchange(
     dict.forget(start);
     if dict.constant(q).is_zero() {
         return Ok(Some(Levelled::Level));
+    }
+    Ok(None)
+}
+
+/// Brings a row that is off zero nearer to it, each time by the greatest gain (Dantzig 1963), with so many exchanges at most.
+///
+/// None where it is off zero still. An exchange whose numbers are refused is not made, and ends the climb.
+fn climb(
+    dict: &mut Dict,
+    q: usize,
+    up: bool,
+    exchanges: u64,
+) -> Result<Option<Levelled>, AllocError>
+    requires row { IsRow dict.old.roles q }
+    requires free { is_restricted dict.old.restricted q ≡ false }
+    requires off { IsOff up dict.old.roles q }
+    requires feasible { IsFeasible (is_restricted dict.old.restricted) (dictionary dict.old.roles q) }
+    requires table { AreOverColumns dict.old.roles }
+    ensures climbed { IfOk result (λ o. IsClimbed q up dict.old.roles dict.old.restricted dict.new.roles o) }
+    ensures flags { dict.new.restricted ≡ dict.old.restricted }
+    ensures saved { dict.new.saved ≡ dict.old.saved }
+    ensures room { dict.old.room ≤ dict.new.room }
+{
+    for _ in 0..exchanges {
+        let Some(rise) = nearest(dict, q, up) else {
+            return Ok(None);
+        };
+        match exchange(dict, q, up, rise.leaving, rise.entering) {
+            Ok(Some(levelled)) => return Ok(Some(levelled)),
+            Ok(None) => {}
+            Err(SimplexFault::NoMemory) => return Err(AllocError),
+            Err(_) => return Ok(None),
+        }
     }
     Ok(None)
 }
@@ -165,7 +202,7 @@ fn approach(dict: &mut Dict, q: usize, up: bool, pivots: u64) -> Result<Levelled
     }
 }
 
-/// Brings the row to zero, or to where it can cross zero, with `pivots` exchanges at most.
+/// Brings the row to zero, or to where it can cross zero: by a climb of `pivots` exchanges at most, and then by as many of the rule.
 ///
 /// After a fault the exchanges that were made stay: the caller undoes them.
 pub fn level(dict: &mut Dict, q: usize, pivots: u64) -> Result<Levelled, SimplexFault>
@@ -185,5 +222,10 @@ pub fn level(dict: &mut Dict, q: usize, pivots: u64) -> Result<Levelled, Simplex
     if number.is_zero() {
         return Ok(Levelled::Level);
     }
-    approach(dict, q, number.is_negative(), pivots)
+    let up = number.is_negative();
+    if let Some(levelled) = climb(dict, q, up, pivots)? {
+        return Ok(levelled);
+    }
+    let found = approach(dict, q, up, pivots)?;
+    Ok(found)
 }

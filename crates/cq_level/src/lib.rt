@@ -3,3 +3,4 @@
 
 pub mod choosing;
 pub mod levelling;
+mod nearing;

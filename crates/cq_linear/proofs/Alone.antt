@@ -40,7 +40,7 @@ use Rattle.cq_tableau.specs.Stored.{IsStored, IsPlaced, JoinsStored}
 use Rattle.cq_tableau.specs.Values.{IsOpen, IsNumber, open_row, open_column, number_row, dropped_column}
 use Rattle.cq_linear.specs.Alone.{IsNewIn, IsAloneFixed, IsPlaceBehind}
 use Rattle.cq_linear.specs.Equated.{Crosses}
-use Rattle.cq_linear.specs.Faced.{AllApart, IsNotZero}
+use Rattle.cq_face.specs.Faced.{AllApart, IsNotZero}
 use Rattle.cq_linear.specs.Fallen.{FallsAt}
 use Rattle.cq_linear.proofs.Concluded.{crossing_falls}
 use Rattle.cq_linear.proofs.Equations.{crossed_stored}
@@ -100,8 +100,8 @@ module _ (told : List Constraint) (names : List Name) (c : Constraint) (n : ℕ)
       apart k b (inl r) h e = not_pos_zero (subst IsPositive e (subst (λ t. Meets t (value_at b k.form)) r h))
       apart k b (inr r) h e = subst (λ t. Meets t (value_at b k.form)) r h e
 
--- ---- what a quantity is after an exchange
-state : (roles : List Role) (z : ℕ) → z < length roles → IsOpen roles z ⊎ ((v : ℚ) × IsNumber roles z v)
+-- ---- what a quantity is
+pub state : (roles : List Role) (z : ℕ) → z < length roles → IsOpen roles z ⊎ ((v : ℚ) × IsNumber roles z v)
 state roles z h = let a = at_exists roles z h in role a.0 a.1
   where
     row : (own : Row) → IsAt roles z (Basic own) → (live : List Entry) → own.live ≡ live → IsOpen roles z ⊎ ((v : ℚ) × IsNumber roles z v)

@@ -37,6 +37,7 @@ use Rattle.cq_tableau.proofs.Tied.{linked, searchable, flag_below, optimal_of}
 use Rattle.cq_tableau.proofs.Steps.{form_more, form_last, met_agrees}
 use Rattle.cq_level.specs.Turned.{opposite_row, turned, towards}
 use Rattle.cq_level.specs.Levelled.{StaysRow, CrossesAt, RefusesLevel, SpendsLevel, HoldBelow, HoldAbove, IsShort}
+use Rattle.cq_level.proofs.Goes.{carried_stays}
 use Rattle.cq_level.proofs.Turned.{turned_at, turned_length, turned_dropped, turned_other, turned_is_row, turned_table, flipped, flipped_own, flipped_other, met_turned, met_back}
 use Rattle.cq_linear.specs.Equated.{IsRowBehind, Crosses, StaysBelow, IsToJoin}
 use Rattle.cq_linear.specs.StoreValue.{MayRefuse, MayTake, Only}
@@ -221,19 +222,19 @@ module _ (told : List Constraint) (names : List Name) (c : Constraint) (roles : 
         dropped = λ k h e v w. b.keeps.dropped k h e v (λ z d n. ap (value_at v) (sym (dropped_form z d)) ∙ w z (turned_dropped roles q z ∙ d) n);
       }
 
-  pub level_spent : (n : ℕ) → SpendsLevel q roles flags n → MayTake told (Only c) NoQuestion n
-  level_spent n p = go p.up p.spent
+  pub spent_here : (n : ℕ) (up : Bool) (last : List Role) → AreSpent (towards up roles q) flags q Positive n last → MayTake told (Only c) NoQuestion n
+  spent_here n up last spent = go up spent
     where
-      go : (up : Bool) → AreSpent (towards up roles q) flags q Positive n p.last → MayTake told (Only c) NoQuestion n
+      go : (up : Bool) → AreSpent (towards up roles q) flags q Positive n last → MayTake told (Only c) NoQuestion n
       go true t =
           behind_spent told names b.before b.stored c.form (Only c) NoQuestion (of_joining c refl) b.knows roles flags b.flags_are
-          (speaks_of (b.stored.forms ++ c.form ∷ []) told roles flags b.keeps) (subst (IsRow roles) b.last b.row) Positive n p.last
-          (subst (λ z. AreSpent roles flags z Positive n p.last) b.last t)
+          (speaks_of (b.stored.forms ++ c.form ∷ []) told roles flags b.keeps) (subst (IsRow roles) b.last b.row) Positive n last
+          (subst (λ z. AreSpent roles flags z Positive n last) b.last t)
       go false t =
           behind_spent told names b.before b.stored (negated_form c.form) (Only c) NoQuestion (negated c.form (of_joining c refl))
           (λ x m. b.knows x (negated_mentions x c.form.products m)) (turned roles q) flags b.flags_are opposite_speaks
-          (subst (IsRow (turned roles q)) b.last (turned_is_row roles q q b.row)) Positive n p.last
-          (subst (λ z. AreSpent (turned roles q) flags z Positive n p.last) b.last t)
+          (subst (IsRow (turned roles q)) b.last (turned_is_row roles q q b.row)) Positive n last
+          (subst (λ z. AreSpent (turned roles q) flags z Positive n last) b.last t)
 
   -- ---- where it is short of zero
   low_not_high : (k : ℚ) → k <ℚ 0ℚ → IsPositive k → ⊥
@@ -275,6 +276,11 @@ module _ (told : List Constraint) (names : List Name) (c : Constraint) (roles : 
 
     pub short_below : IsShort roles flags q → (IsPositive own.constant → ⊥) → StaysBelow told c.form
     short_below h n = elim (h own at) [ inl s ↦ held_below s | inr s ↦ absurd (n s.0) ]
+
+-- ---- where the search ends
+pub level_spent : (told : List Constraint) (names : List Name) (c : Constraint) (roles : List Role) (flags : List Bool) (q : ℕ) → IsRowBehind told names c roles flags q
+    → (n : ℕ) → SpendsLevel q roles flags n → MayTake told (Only c) NoQuestion n
+level_spent told names c roles flags q b n p = spent_here told names c p.from flags q (moved_behind told names c roles flags q b p.from (carried_stays q roles flags p.from p.carried)) n p.up p.last p.spent
 
 -- ---- a constraint that is to join, where its form is placed
 pub joining : (told : List Constraint) (names : List Name) (c : Constraint) (before now : Quantities) → now ≡ before → IsStored told names before

@@ -20,8 +20,9 @@ use Rattle.cq_linear.specs.declared.entering.Entered.TheVariants.{Joined, Contra
 use Rattle.cq_linear.specs.declared.store.StoreFault.{StoreFault}
 use Rattle.cq_linear.specs.Entered.{IfJoined}
 use Rattle.cq_linear.specs.Equated.{Crosses, IsLevelRow, IsConcluded, IsFound}
-use Rattle.cq_linear.specs.Faced.{AllApart}
+use Rattle.cq_face.specs.Faced.{AllApart}
 use Rattle.cq_linear.specs.Fallen.{FallsAt}
+use Rattle.cq_linear.proofs.Stays.{Covers, covers_all}
 use Rattle.cq_linear.proofs.Equations.{crossed_stored, joined_behind}
 use Rattle.cq_linear.proofs.Levels.{crossing_live, level_live, level_feasible, between_numbered, strict_falls, apart_falls, level_stored}
 
@@ -45,13 +46,14 @@ module _ (told : List Constraint) (names : List Name) (c : Constraint) (roles : 
       apart_falls told names c roles flags q column y.behind i (crossing_live told names c roles flags q column y) new x same table (y.feasible new x same table)
       new (looks_same new flags) z h.0 h.1 number
 
-  pub crossing_joins : (open_ones : List VarId) → AreOpen names roles (length names) open_ones → (fallen : Option ℕ)
+  pub crossing_joins : (open_ones : List VarId) → Covers names roles new open_ones → (fallen : Option ℕ)
       → MatchOption fallen (AllApart told names new) (λ z. IsMemberOf IsApart told names z × IsNumber new z 0ℚ) → (new_names : List Name) (last : Quantities) (fixed : List VarId)
       → IsConcluded told names (record { roles = new; restricted = flags }) open_ones fallen new_names last fixed → JoinsStored told c fixed new_names last
   crossing_joins open_ones a fallen h new_names last fixed k =
       let apart = subst (λ o. MatchOption o (AllApart told names new) (λ z. IsMemberOf IsApart told names z × IsNumber new z 0ℚ)) k.none h in
       let s = crossed_stored told names c roles flags q column y i new x same table apart (length told + 1) (λ j. length told + 1) new_names k.named in
-      joined_behind told names c roles flags q y.behind open_ones a (length told + 1) new_names k.named last fixed k.fixed_now (subst (IsStored (told ++ c ∷ []) new_names) (sym k.same) s)
+      joined_behind told names c roles flags q y.behind open_ones (length told + 1) new_names k.named last
+      (subst (λ (p : Quantities). Covers names roles p.roles open_ones) (sym k.same) a) fixed k.fixed_now (subst (IsStored (told ++ c ∷ []) new_names) (sym k.same) s)
 
 -- ---- by a column of a row that is zero
 module _ (told : List Constraint) (names : List Name) (c : Constraint) (roles : List Role) (flags : List Bool) (q column : ℕ) (y : IsLevelRow told names c roles flags q column)
@@ -78,7 +80,8 @@ module _ (told : List Constraint) (names : List Name) (c : Constraint) (roles : 
       let all = subst (IsFound told names new last flags) k.none h in
       let t = level_stored told names c roles flags q column y.behind i (level_live told names c roles flags q column y) new x same table
       (level_feasible told names c roles flags q column y new x same table) last s all.0 all.1 (length told + 1) (λ j. length told + 1) new_names k.named in
-      joined_behind told names c roles flags q y.behind open_ones a (length told + 1) new_names k.named now fixed k.fixed_now (subst (IsStored (told ++ c ∷ []) new_names) (sym k.same) t)
+      joined_behind told names c roles flags q y.behind open_ones (length told + 1) new_names k.named now (covers_all names roles now.roles open_ones a) fixed k.fixed_now
+      (subst (IsStored (told ++ c ∷ []) new_names) (sym k.same) t)
 
 -- ---- what a look found
 pub found_of : (told : List Constraint) (names : List Name) (old new : List Role) (flags : List Bool) (found : Option ℕ) → AllStand told names old new flags

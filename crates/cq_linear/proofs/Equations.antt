@@ -40,7 +40,7 @@ use Rattle.cq_simplex.specs.Dictionary.{dictionary}
 use Rattle.cq_tableau.specs.declared.names.Name.{Name}
 use Rattle.cq_tableau.specs.declared.names.Name.TheVariants.{Variable, Member}
 use Rattle.cq_tableau.specs.Asking.{AsksForm}
-use Rattle.cq_tableau.specs.Fixing.{AreOpen, AreFixedNow}
+use Rattle.cq_tableau.specs.Fixing.{AreFixedNow}
 use Rattle.cq_tableau.specs.Forms.{row_of, form_at, tableau}
 use Rattle.cq_tableau.specs.Keeps.{Keeps}
 use Rattle.cq_tableau.specs.Looked.{IsApart}
@@ -52,10 +52,10 @@ use Rattle.cq_tableau.proofs.Steps.{unchanged, dropped_more, flag_more, form_mor
 use Rattle.cq_tableau.proofs.Joined.{written, free_entry}
 use Rattle.cq_tableau.proofs.Storing.{keeps_last, member_by, known_or_not, placed_known, asked_kept, asked_row}
 use Rattle.cq_linear.specs.Equated.{IsRowBehind, Crosses, HasNoLiveEntry, IsOverEquations}
-use Rattle.cq_linear.specs.Faced.{AllApart}
+use Rattle.cq_face.specs.Faced.{AllApart}
 use Rattle.cq_linear.specs.StoreValue.{MayRefuse, Only}
 use Rattle.cq_linear.proofs.Moments.{speaks_of, behind_refused}
-use Rattle.cq_linear.proofs.Stays.{not_zero_something, place_of, newly_fixed, known_before}
+use Rattle.cq_linear.proofs.Stays.{not_zero_something, place_of, Covers, newly_fixed, named_before}
 
 -- ---- an elimination of a row
 module _ (old new : List Role) (r c : ℕ) (row : IsRow old r) (live : is_live old c ≡ true) (x : IsEliminated old r c new) where
@@ -344,13 +344,13 @@ asked_behind told names q s c new_names mid n a = record {
 
 -- ---- which variables it fixes, and which pairs are due
 module _ (told : List Constraint) (names : List Name) (c : Constraint) (roles : List Role) (flags : List Bool) (q : ℕ) (b : IsRowBehind told names c roles flags q) where
-  pub joined_behind : (open_ones : List VarId) → AreOpen names roles (length names) open_ones → (number : ℕ) (new_names : List Name) → new_names ≡ names ++ Member number ∷ []
-      → (new : Quantities) (fixed_ones : List VarId) → AreFixedNow new_names new open_ones fixed_ones → IsStored (told ++ c ∷ []) new_names new
-      → JoinsStored told c fixed_ones new_names new
-  joined_behind open_ones a number new_names names_are new fixed_ones f stored = record {
+  pub joined_behind : (open_ones : List VarId) (number : ℕ) (new_names : List Name) → new_names ≡ names ++ Member number ∷ []
+      → (new : Quantities) → Covers names roles new.roles open_ones → (fixed_ones : List VarId) → AreFixedNow new_names new open_ones fixed_ones
+      → IsStored (told ++ c ∷ []) new_names new → JoinsStored told c fixed_ones new_names new
+  joined_behind open_ones number new_names names_are new a fixed_ones f stored = record {
     stored = stored;
-    newly = newly_fixed told names b.before b.stored c roles flags b.keeps open_ones fixed_ones a new_names new f stored
-        (λ x h. known_before names number x (subst (λ l. IsKnown l x) names_are h));
+    newly = newly_fixed told names b.before b.stored c roles flags b.keeps open_ones fixed_ones new_names new a f stored
+        (λ n x h. named_before names number n x (subst (λ l. slice_get l n ≡ Some (Variable (record { 0 = x }))) names_are h));
   }
 
   pub crossing_refused : (r column : ℕ) (pair : Pair) → RefusesPivot roles r column pair → MayRefuse told (Only c) NoQuestion pair

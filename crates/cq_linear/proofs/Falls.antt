@@ -33,7 +33,7 @@ use Rattle.cq_tableau.specs.Looked.{IsStrict, IsApart}
 use Rattle.cq_tableau.proofs.Steps.{form_more, unchanged, dropped_more}
 use Rattle.cq_tableau.proofs.Joined.{written}
 use Rattle.cq_tableau.proofs.Storing.{asked_kept, row_flag, form_here, member_by, placed_known, told_more, last_told}
-use Rattle.cq_linear.specs.Faced.{HoldsAtZero, HasFallen, strict_fallen, apart_fallen, IsOnFace}
+use Rattle.cq_face.specs.Faced.{HoldsAtZero, HasFallen, strict_fallen, apart_fallen, IsOnFace}
 use Rattle.cq_linear.specs.Fallen.{FallsAt}
 use Rattle.cq_linear.proofs.Stays.{face_speaks}
 

@@ -1,5 +1,5 @@
 -- A call between a mark and its end keeps what the store holds.
-use Rattle.std.proofs.Common.{◌≡◌, ℕ, ◌<◌, ◌≤◌, List, [], ◌∷◌, ◌++◌, length, take, inl, inr, arith, ap, sym, subst, ◌∙◌}
+use Rattle.std.proofs.Common.{◌≡◌, ℕ, ◌+◌, ◌-◌, ◌<◌, ◌≤◌, List, [], ◌∷◌, ◌++◌, length, take, inl, inr, arith, ap, sym, subst, ◌∙◌, length-append}
 use Rattle.std.specs.Prelude.{slice_get, Some}
 use Rattle.std.proofs.Math.Seq.{take-append_seam}
 use Rattle.std.proofs.lemmas.Option.{none-some, slice_get_within}
@@ -18,6 +18,11 @@ use Rattle.cq_tableau.proofs.Storing.{empty_stored}
 -- the first names are found as before
 numbered_before : (names more : List Name) → IsPrefix names more → (entries : List (VarId × ℕ)) → AreNumbered more entries → AreNumbered names entries
 numbered_before names more p entries h n x e = h n x (subst (λ l. slice_get l n ≡ Some (Variable x)) (sym p.1) (get_kept names p.0 n (Variable x) e))
+
+-- a mark was made and ended, so there is room for as many marks as before
+pub room_kept : {X : Type 0} (saved : List X) (now : X) (n : ℕ) → n ≡ length saved → (all : List X) → all ≡ saved ++ now ∷ []
+    → (before between after : ℕ) → before ≤ between + 1 → between + (length all - n) ≤ after → before ≤ after
+room_kept saved now n at all all_are before between after made ended = omega (arith, at, ap length all_are, length-append saved (now ∷ []), made, ended)
 
 -- nothing is held yet
 pub empty_held : (h : List Constraint × (List Name × Quantities)) → h ≡ ([], ([], record { roles = []; restricted = [] })) → (entries : List (VarId × ℕ))
@@ -49,7 +54,7 @@ module _ (now : List Constraint × (List Name × Quantities)) (saved : List (Lis
       (entered : List Constraint × (List Name × Quantities)) (grows : IsPrefix marked.1.0 entered.1.0) (found : List (VarId × ℕ)) (num : AreNumbered entered.1.0 found)
       (all : List (List Constraint × (List Name × Quantities))) (all_are : all ≡ saved ++ now ∷ []) (last : List Constraint × (List Name × Quantities))
       (left : List (List Constraint × (List Name × Quantities))) (left_are : left ≡ take n all) where
-    left_same : left ≡ saved
+    pub left_same : left ≡ saved
     left_same = left_are ∙ ap (λ m. take m all) at ∙ ap (take (length saved)) all_are ∙ take-append_seam saved (now ∷ [])
 
     grown : IsPrefix now.1.0 entered.1.0

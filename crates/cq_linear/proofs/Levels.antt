@@ -39,7 +39,7 @@ use Rattle.cq_tableau.proofs.Steps.{form_more}
 use Rattle.cq_tableau.proofs.Joined.{written, over_restricted}
 use Rattle.cq_linear.specs.Equated.{IsRowBehind, Crosses, IsLevelRow}
 use Rattle.cq_linear.specs.Fallen.{FallsAt}
-use Rattle.cq_linear.specs.Faced.{AllApart}
+use Rattle.cq_face.specs.Faced.{AllApart}
 use Rattle.cq_linear.specs.StoreValue.{MayRefuse, MayTake, Only, joined}
 use Rattle.cq_linear.proofs.Equations.{eliminated, gone, still_dropped, only_dropped, form_here, front_is, unflagged, flag_before, quantity, is_member, moves_within, stored_behind, stored_by, factor_there}
 use Rattle.cq_linear.proofs.Moments.{exchange_refused, exchanges_spent}

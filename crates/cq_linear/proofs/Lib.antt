@@ -1,4 +1,3 @@
-pub mod Faces
 pub mod Stays
 pub mod Holding
 pub mod Moments
@@ -20,3 +19,4 @@ pub mod Alone
 pub mod Valued
 pub mod Spent
 pub mod Possible
+pub mod Untouched

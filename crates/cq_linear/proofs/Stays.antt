@@ -37,10 +37,11 @@ use Rattle.cq_tableau.specs.Stored.{IsKnown, IsMemberOf, IsStored, IsStoredBy, I
 use Rattle.cq_tableau.specs.Values.{IsOpen, IsNumber, open_row, open_column, number_row, dropped_column}
 use Rattle.spec_tableau.specs.Fixing.{NewlyFixed}
 use Rattle.cq_frac.specs.declared.VarId.{VarId}
+use Rattle.spec_echelon.specs.Echelon.{AreDistinct}
 use Rattle.cq_tableau.specs.Newly.{AreNewlyFixed}
-use Rattle.cq_tableau.specs.Fixing.{AreOpen, AreFixedNow}
+use Rattle.cq_tableau.specs.Fixing.{IsOpenHere, AreOpen, AreFixedNow}
 use Rattle.cq_tableau.specs.Looked.{StandsAt, IsStrict, IsApart}
-use Rattle.cq_linear.specs.Faced.{HoldsAtZero, AllHold, IsNotZero, IsFace, IsOnFace}
+use Rattle.cq_face.specs.Faced.{HoldsAtZero, AllHold, IsNotZero, IsFace, IsOnFace}
 use Rattle.cq_tableau.specs.Raised.{IsBest}
 use Rattle.cq_tableau.proofs.Certified.{greatest_constant}
 use Rattle.cq_tableau.proofs.Tied.{factor_same, entry_not_zero}
@@ -236,12 +237,27 @@ module _ (forms : List Linear) (l : List Constraint) (roles : List Role) (flags 
       subst (λ w. Fixed l x w) (sym i)
       (subst (λ t. Fixed l x (row_of n t).constant) r (fixed (tableau roles flags forms) l k.invariant x variable_there (ap (λ t. (row_of n t).live) r)))
 
+-- open variables, among which is each that may have got a value: every other one had one before, or is open now
+pub record Covers (names : List Name) (old new : List Role) (xs : List VarId) : Type 0 where
+  pub once : AreDistinct (numbers_of xs)
+  pub each : (x : ℕ) → Has x (numbers_of xs) → (n : ℕ) × (n < length names) × IsOpenHere names old n (record { 0 = x })
+  pub all : (n : ℕ) (x : VarId) → n < length names → slice_get names n ≡ Some (Variable x) → Has x.0 (numbers_of xs) ⊎ (((v : ℚ) × IsNumber old n v) ⊎ IsOpen new n)
+
+-- all open variables are such
+pub covers_all : (names : List Name) (old new : List Role) (xs : List VarId) → AreOpen names old (length names) xs → Covers names old new xs
+covers_all names old new xs a = record {
+  once = a.once;
+  each = a.each;
+  all = λ n x l e. elim (a.all n x l e) [ inl h ↦ inl h | inr v ↦ inr (inl v) ];
+}
+
 -- those that were open and have a value now are just the newly fixed ones
 pub newly_fixed : (told : List Constraint) (names : List Name) (q : Quantities) (s : IsStored told names q) (c : Constraint) (old : List Role) (flags : List Bool)
-    → Keeps (s.forms ++ c.form ∷ []) told old flags → (open_ones fixed_ones : List VarId) → AreOpen names old (length names) open_ones → (new_names : List Name) (new : Quantities)
+    → Keeps (s.forms ++ c.form ∷ []) told old flags → (open_ones fixed_ones : List VarId) (new_names : List Name) (new : Quantities) → Covers names old new.roles open_ones
     → AreFixedNow new_names new open_ones fixed_ones → IsStored (told ++ c ∷ []) new_names new
-    → ((x : ℕ) → IsKnown new_names x → IsKnown names x) → AreNewlyFixed told (told ++ c ∷ []) (numbers_of fixed_ones)
-newly_fixed told names q s c old flags k open_ones fixed_ones a new_names new b after known = record {
+    → ((n x : ℕ) → slice_get new_names n ≡ Some (Variable (record { 0 = x })) → slice_get names n ≡ Some (Variable (record { 0 = x })))
+    → AreNewlyFixed told (told ++ c ∷ []) (numbers_of fixed_ones)
+newly_fixed told names q s c old flags k open_ones fixed_ones new_names new a b after named = record {
   once = b.once a.once;
   each = λ x. (gained x, found x);
 }
@@ -267,23 +283,27 @@ newly_fixed told names q s c old flags k open_ones fixed_ones a new_names new b 
 
     found : (x : ℕ) → NewlyFixed told (told ++ c ∷ []) x → Has x (numbers_of fixed_ones)
     found x f = elim (known_or_not new_names x) [
-      | inl y ↦ at_quantity (known x y)
+      | inl y ↦ at_quantity y.0 y.1 (named y.0 x y.1)
       | inr n ↦ absurd (unknown_not_fixed (told ++ c ∷ []) new_names new after x n f.value f.fixed)
     ]
       where
-        at_quantity : IsKnown names x → Has x (numbers_of fixed_ones)
-        at_quantity y = elim (a.all y.0 (record { 0 = x }) (slice_get_within names y.0 _ y.1) y.1) [
-          | inl g ↦ elim (b.all x g) [ inl h ↦ h | inr n ↦ absurd (n (told ++ c ∷ []) after f.value f.fixed) ]
-          | inr g ↦ absurd (f.not_before g.0
-              (number_before (s.forms ++ c.form ∷ []) told old flags k y.0 x (below_roles y.0 (slice_get_within names y.0 _ y.1)) (form_of_variable y.0 x y.1) g.0 g.1))
+        at_quantity : (n : ℕ) → slice_get new_names n ≡ Some (Variable (record { 0 = x })) → slice_get names n ≡ Some (Variable (record { 0 = x })) → Has x (numbers_of fixed_ones)
+        at_quantity n w e = elim (a.all n (record { 0 = x }) (slice_get_within names n _ e) e) [
+          | inl g ↦ elim (b.all x g) [ inl h ↦ h | inr m ↦ absurd (m (told ++ c ∷ []) after f.value f.fixed) ]
+          | inr h ↦ elim h [
+            | inl g ↦ absurd (f.not_before g.0
+                (number_before (s.forms ++ c.form ∷ []) told old flags k n x (below_roles n (slice_get_within names n _ e)) (form_of_variable n x e) g.0 g.1))
+            | inr o ↦ absurd (open_before after.forms (told ++ c ∷ []) new.roles new.restricted after.keeps n x
+                (subst (λ m. n < m) after.size (slice_get_within new_names n _ w)) (after.variables n (record { 0 = x }) w) o f.value f.fixed)
+          ]
         ]
 
 -- a member's name makes no variable known
-pub known_before : (names : List Name) (i x : ℕ) → IsKnown (names ++ Member i ∷ []) x → IsKnown names x
-known_before names i x h = elim (get_push names (Member i) h.0 (Variable (record { 0 = x })) h.1) [ inl k ↦ (h.0, k) | inr k ↦ no_variable i x k.1 ]
+pub named_before : (names : List Name) (i n x : ℕ) → slice_get (names ++ Member i ∷ []) n ≡ Some (Variable (record { 0 = x })) → slice_get names n ≡ Some (Variable (record { 0 = x }))
+named_before names i n x h = elim (get_push names (Member i) n (Variable (record { 0 = x })) h) [ inl k ↦ k | inr k ↦ no_variable k.1 ]
   where
-    no_variable : (i x : ℕ) → Member i ≡ Variable (record { 0 = x }) → IsKnown names x
-    no_variable i x e = cc
+    no_variable : Member i ≡ Variable (record { 0 = x }) → slice_get names n ≡ Some (Variable (record { 0 = x }))
+    no_variable e = cc
 
 -- the row whose greatest value is zero
 pub on_face : (told : List Constraint) (names : List Name) (q : Quantities) (s : IsStored told names q) (c : Constraint) (new_names : List Name) (mid : Quantities) (n : ℕ)

@@ -15,9 +15,9 @@ use Rattle.cq_tableau.specs.declared.names.Name.{Name}
 use Rattle.cq_tableau.specs.declared.names.Name.TheVariants.{Variable, Member}
 use Rattle.cq_tableau.specs.Stored.{IsKnown, IsBetween}
 use Rattle.cq_linear.specs.StoreValue.{MayRefuse, MayTake, Only, joined}
-use Rattle.cq_linear.specs.Faced.{HoldsAtZero, RefusesFace, SpendsFace, IsOnFace}
+use Rattle.cq_face.specs.Faced.{HoldsAtZero, RefusesFace, SpendsFace, IsOnFace}
 use Rattle.cq_row.specs.declared.Entry.{Entry}
-use Rattle.cq_linear.proofs.Faces.{holds_further}
+use Rattle.cq_face.proofs.Faces.{holds_further}
 use Rattle.cq_linear.proofs.Stays.{face_between}
 use Rattle.cq_linear.proofs.Moments.{exchange_refused, exchanges_spent}
 

@@ -27,7 +27,7 @@ use Rattle.cq_tableau.specs.Stored.{IsKnown, IsMemberOf, IsStored, IsPlaced}
 use Rattle.cq_tableau.specs.Values.{IsNumber}
 use Rattle.cq_linear.specs.declared.equating.Approached.{Approached}
 use Rattle.cq_linear.specs.declared.equating.Approached.TheVariants.{Zero, Crossing, Below, Above}
-use Rattle.cq_linear.specs.Faced.{AllApart}
+use Rattle.cq_face.specs.Faced.{AllApart}
 
 -- the constraint's form is the row of number q, behind what is stored for the told list
 pub record IsRowBehind (told : List Constraint) (names : List Name) (c : Constraint) (roles : List Role) (flags : List Bool) (q : ℕ) : Type 0 where

@@ -25,18 +25,18 @@ ghost use Rattle.cq_linear.specs.StoreValue.{MayRefuse, MayTake, Only};
 ghost use Rattle.cq_linear.specs.Fallen.{FallsAt};
 
 use crate::entering::{Entered, has_joined};
-use crate::facing::fallen_disequation;
 use crate::falling::fallen_certificate;
-use crate::solving::{enter_by_new, new_place};
+use crate::solving::{enter_by_new, free_column_of, new_place};
 use crate::store::StoreFault;
 use cq_dict::dict::{Col, Dict};
+use cq_face::facing::{fallen_among, fallen_disequation};
 use cq_form::{Cert, Constraint, Form};
 use cq_frac::{Frac, VarId};
 use cq_level::choosing::lightest_column;
 use cq_level::levelling::{Levelled, level};
 use cq_row::Entry;
 use cq_simplex::SimplexFault;
-use cq_tableau::fixing::{fixed_now, open_variables};
+use cq_tableau::fixing::{fixed_now, open_among, open_variables};
 use cq_tableau::looking::look_again;
 use cq_tableau::names::Name;
 use cq_tableau::negating::negated;
@@ -99,7 +99,7 @@ fn conclude(
 }
 
 /// Enters an equation by a column that may take its row's place: the equation's own quantity is a dropped column then. As the form has
-/// values above and below zero, no inequality comes to be zero by it.
+/// values above and below zero, no inequality comes to be zero by it. Only the rows that hold the column change: no other is looked at.
 fn enter_by_column(
     alloc: Global,
     pivots: u64,
@@ -125,9 +125,10 @@ fn enter_by_column(
     ensures dict_saved { dict.new.saved ≡ dict.old.saved }
     ensures dict_room { dict.old.room ≤ dict.new.room }
 {
-    let before = open_variables(alloc, names, dict)?;
+    let rows = dict.touched(column)?;
+    let before = open_among(alloc, names, dict, &rows)?;
     dict.eliminate(q, column)?;
-    let fallen = fallen_disequation(told, names, dict);
+    let fallen = fallen_among(told, names, dict, &rows);
     conclude(
         alloc, pivots, numbers, names, dict, told, c, &before, fallen,
     )
@@ -344,7 +345,7 @@ fn enter_zero(
     ensures dict_saved { dict.new.saved ≡ dict.old.saved }
     ensures dict_room { dict.old.room ≤ dict.new.room }
 {
-    if let Some(column) = lightest_column(dict, q) {
+    if let Some(column) = lightest_column(dict, q)? {
         return enter_by_column(alloc, pivots, numbers, names, dict, told, c, q, column);
     }
     match first_column(dict, q) {
@@ -443,10 +444,13 @@ fn above_certificate(
 }
 
 /// Makes a row of a form over the quantities, and brings it to zero, or to where it can cross zero, or shows that it can't be zero.
+///
+/// It can cross by the quantity of a new variable wherever it stands.
 fn approach(
     dict: &mut Dict,
     places: &[Entry],
     constant: Frac,
+    new: Option<usize>,
     pivots: u64,
 ) -> Result<Approached, SimplexFault>
     requires { IsToJoinSome (quantities_of dict.old) places.now constant }
@@ -459,6 +463,9 @@ fn approach(
         → (n ≡ pivots) × OfJoining (quantities_of dict.old) places.now constant (λ told names c. MayTake told (Only c) NoQuestion n) }
 {
     let q = dict.add_row(places, constant, false)?;
+    if let Some(column) = free_column_of(dict, q, new) {
+        return Ok(Approached::Crossing(q, column));
+    }
     match level(dict, q, pivots)? {
         Levelled::Level => Ok(Approached::Zero(q)),
         Levelled::Crossing(column) => Ok(Approached::Crossing(q, column)),
@@ -499,7 +506,7 @@ pub fn enter_equation(
     let places = place(numbers, names, dict, alloc, &c.form)?;
     let new = new_place(&places, known);
     let start = dict.mark()?;
-    match approach(dict, &places, c.form.constant(), pivots) {
+    match approach(dict, &places, c.form.constant(), new, pivots) {
         Ok(Approached::Zero(q)) => {
             dict.forget(start);
             enter_zero(alloc, pivots, numbers, names, dict, told, c, q)
@@ -551,7 +558,7 @@ pub fn can_enter_equation(
     let known = names.len();
     let places = place(numbers, names, dict, alloc, &c.form)?;
     let new = new_place(&places, known);
-    match approach(dict, &places, c.form.constant(), pivots)? {
+    match approach(dict, &places, c.form.constant(), new, pivots)? {
         Approached::Zero(q) => {
             let entered = enter_zero(alloc, pivots, numbers, names, dict, told, c, q)?;
             Ok(has_joined(entered))

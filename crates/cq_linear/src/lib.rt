@@ -5,7 +5,6 @@ pub mod asking;
 pub mod budgets;
 pub mod entering;
 pub mod equating;
-pub mod facing;
 pub mod falling;
 pub mod reaching;
 pub mod solving;

@@ -1,12 +1,15 @@
 //! Equations that mention a variable of which the told list says nothing. Each solution of the list goes on to such an equation, so
 //! that no other variable gets a value by it and no member falls: nothing else is looked at.
 
-ghost use Rattle.std.specs.Prelude.{◌≡◌, ◌<◌, ◌≤◌, ℕ, length, IfOk, IfSome};
+ghost use Rattle.std.specs.Prelude.{◌≡◌, ◌<◌, ◌≤◌, ℕ, length, IfOk, IfSome, IsTrue};
 ghost use Rattle.spec_linear.specs.declared.Relation.TheVariants.{Eq};
 ghost use Rattle.spec_limits.specs.Asked.{NoQuestion};
 ghost use Rattle.spec_lists.specs.Prefixes.{IsPrefix};
 ghost use Rattle.cq_frac.specs.declared.Pair.{Pair};
+ghost use Rattle.spec_simplex.specs.Rule.{IsFree};
 ghost use Rattle.cq_dict.specs.DictValue.{quantities_of};
+ghost use Rattle.cq_dict.specs.Roles.{AreOverColumns, IsRow, is_restricted};
+ghost use Rattle.cq_simplex.specs.Dictionary.{dictionary};
 ghost use Rattle.cq_linear.specs.declared.store.StoreFault.TheVariants.{Overflow, Pivots};
 ghost use Rattle.cq_linear.specs.Alone.{IsAloneFixed, IsNewIn, IsPlaceBehind};
 ghost use Rattle.cq_linear.specs.Entered.{IsJoined, IsRefuted};
@@ -18,7 +21,7 @@ use crate::store::StoreFault;
 use cq_dict::dict::{Col, Dict};
 use cq_form::Constraint;
 use cq_frac::VarId;
-use cq_row::Entry;
+use cq_row::{Entry, entry_at};
 use cq_tableau::names::Name;
 use cq_tableau::values::fixed_number;
 use cq_trail::Stack;
@@ -34,6 +37,40 @@ pub fn new_place(places: &[Entry], known: usize) -> Option<usize>
         }
     }
     None
+}
+
+/// Whether the quantity is an unrestricted column of the row.
+fn is_free_in(dict: &Dict, q: usize, n: usize) -> bool
+    requires table { AreOverColumns dict.now.roles }
+    requires row { IsRow dict.now.roles q }
+    ensures { IsTrue result → IsFree (is_restricted dict.now.restricted) (dictionary dict.now.roles q) n }
+{
+    match entry_at(dict.row(q), n) {
+        Some(_) => {
+            if dict.is_restricted(n) {
+                return false;
+            }
+            true
+        }
+        None => false,
+    }
+}
+
+/// The quantity of this number, if there is one and it is an unrestricted column of the row.
+pub fn free_column_of(dict: &Dict, q: usize, number: Option<usize>) -> Option<Col>
+    requires table { AreOverColumns dict.now.roles }
+    requires row { IsRow dict.now.roles q }
+    ensures { IfSome result (IsFree (is_restricted dict.now.restricted) (dictionary dict.now.roles q)) }
+{
+    match number {
+        Some(n) => {
+            if is_free_in(dict, q, n) {
+                return Some(n);
+            }
+            None
+        }
+        None => None,
+    }
 }
 
 /// The variable of the quantity, if it has a value.

@@ -18,6 +18,7 @@ ghost use Rattle.cq_linear.specs.StoreValue.{IfKept, IfUnsolvable, IsExtent, IsD
 
 use crate::entering::{Entered, Held, can_enter, enter};
 use crate::reaching::reach;
+use cq_counted::Counted;
 use cq_dict::dict::Dict;
 use cq_form::{Cert, Constraint, Form};
 use cq_frac::{Frac, Pair, Refusal, VarId};
@@ -89,18 +90,20 @@ impl From<SimplexFault> for StoreFault {
     }
 }
 
-/// Linear constraints that hold together.
+/// Linear constraints that hold together. `mark` takes constant time and no memory; the first call behind marks that tells
+/// or asks takes the time of these marks, and memory may run out there.
 #[derive(Drop)]
 pub struct Store {
     alloc: Global,
     pivots: u64,
     numbers: IndexMap<VarId, usize>,
-    held: Held,
+    held: Counted<Held>,
 }
 
 impl Model for Store {
-    ghost use Rattle.std.specs.Prelude.{map, min};
+    ghost use Rattle.std.specs.Prelude.{map};
     ghost use Rattle.std.specs.List.{zip};
+    ghost use Rattle.cq_counted.specs.Counting.{counted, countable};
     ghost use Rattle.cq_dict.specs.DictValue.{quantities_of};
     ghost use Rattle.cq_linear.specs.Held.{IsHeld};
     ghost use Rattle.cq_linear.specs.StoreValue.{StoreValue};
@@ -109,14 +112,16 @@ impl Model for Store {
 
     ghost view = { λ s. record {
       pivots = s.pivots;
-      told = s.held.first.now;
-      saved = map (λ h. h.0) (zip s.held.first.saved (zip s.held.second.first.saved s.held.second.second.saved));
-      room = min s.held.first.room (min s.held.second.first.room s.held.second.second.room);
+      told = s.held.inner.first.now;
+      saved = map (λ h. h.0) (counted (zip s.held.inner.first.saved (zip s.held.inner.second.first.saved s.held.inner.second.second.saved)) s.held.marks
+          (s.held.inner.first.now, (s.held.inner.second.first.now, quantities_of s.held.inner.second.second)));
+      room = countable s.held.marks;
     } };
 
     ghost invariant = { λ s.
-        IsHeld (s.held.first.now, (s.held.second.first.now, quantities_of s.held.second.second))
-        (zip s.held.first.saved (zip s.held.second.first.saved s.held.second.second.saved)) s.numbers.entries };
+        IsHeld (s.held.inner.first.now, (s.held.inner.second.first.now, quantities_of s.held.inner.second.second))
+        (counted (zip s.held.inner.first.saved (zip s.held.inner.second.first.saved s.held.inner.second.second.saved)) s.held.marks
+        (s.held.inner.first.now, (s.held.inner.second.first.now, quantities_of s.held.inner.second.second))) s.numbers.entries };
 }
 
 impl Store {
@@ -130,13 +135,18 @@ impl Store {
             first: Stack::new(alloc),
             second: Dict::new(alloc),
         };
+        let held = Both {
+            first: Stack::new(alloc),
+            second: quantities,
+        };
         Store {
             alloc,
             pivots,
             numbers: IndexMap::new(alloc),
-            held: Both {
-                first: Stack::new(alloc),
-                second: quantities,
+            held: Counted {
+                inner: held,
+                marks: 0,
+                own: 0,
             },
         }
     }
@@ -154,7 +164,7 @@ impl Store {
         ensures solvable { Solvable self.now.told }
         ensures fixes { (fixed : ℕ → Option ℚ) × Fixes self.now.told fixed }
     {
-        self.held.first.as_slice()
+        self.held.inner.first.as_slice()
     }
 
     /// The value that the told list gives the variable.
@@ -162,7 +172,8 @@ impl Store {
         ensures { MatchOption result ((q : ℚ) → Fixed self.now.told x.0 q → ⊥) (λ q. Fixed self.now.told x.0 q) }
     {
         let Store { numbers, held, .. } = self;
-        value_of(numbers, &held.second.first, &held.second.second, x)
+        let quantities = &held.inner.second;
+        value_of(numbers, &quantities.first, &quantities.second, x)
     }
 
     /// Tells the constraint. After an error, and where it can't hold, the store is as at the call.
@@ -178,12 +189,12 @@ impl Store {
         ensures room { self.old.room ≤ self.new.room }
         ensures budget { self.new.pivots ≡ self.old.pivots }
     {
-        let start = self.held.mark()?;
+        let start = self.held.begin()?;
         match enter(
             self.alloc,
             self.pivots,
             &mut self.numbers,
-            &mut self.held,
+            &mut self.held.inner,
             c,
         ) {
             Ok(Entered::Joined(fixed)) => {
@@ -211,12 +222,12 @@ impl Store {
         ensures room { self.old.room ≤ self.new.room }
         ensures budget { self.new.pivots ≡ self.old.pivots }
     {
-        let start = self.held.mark()?;
+        let start = self.held.begin()?;
         let joins = can_enter(
             self.alloc,
             self.pivots,
             &mut self.numbers,
-            &mut self.held,
+            &mut self.held.inner,
             c,
         );
         self.held.undo(start);
@@ -251,8 +262,8 @@ impl Store {
         ensures room { self.old.room ≤ self.new.room }
         ensures budget { self.new.pivots ≡ self.old.pivots }
     {
-        let start = self.held.mark()?;
-        let quantities = &mut self.held.second;
+        let start = self.held.begin()?;
+        let quantities = &mut self.held.inner.second;
         let extent = reach(
             self.alloc,
             self.pivots,

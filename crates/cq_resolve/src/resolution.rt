@@ -68,8 +68,7 @@ pub fn resolve_unmarked(
     ensures saved { heap.new.saved ≡ heap.old.saved }
     ensures room { heap.old.room ≤ heap.new.room }
 {
-    // The view shows that the goal's variables are unbound.
-    let _shown = heap.view(goal);
+    heap.variables_are_unbound();
     let first = new_variables(heap, clause.variables())?;
     if match_head(heap, newly, clause.head(), first, goal)? {
         let body = build(heap, clause.body(), first)?;

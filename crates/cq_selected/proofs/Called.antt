@@ -1,18 +1,20 @@
 -- A goal that calls a user predicate.
-use Rattle.std.proofs.Common.{◌≡◌, ℕ, List, length, ap, ◌∙◌, arith}
+use Rattle.std.proofs.Common.{ℕ, List, ◌++◌, map, Some, refl, ap, ◌∙◌}
 use Rattle.spec_syntax.specs.Trees.{Tree}
 use Rattle.spec_built.specs.Built.{indicator_of}
 use Rattle.spec_branch.specs.Branch.{Branch}
+use Rattle.spec_lists.specs.Texts.{Text}
+use Rattle.spec_search.specs.Control.{clause_child}
 use Rattle.spec_search.specs.Replies.{Place}
-use Rattle.cq_control.specs.Items.{items_at}
+use Rattle.spec_search.specs.Search.{Search}
 use Rattle.cq_declarations.specs.Clauses.{IsOf}
-use Rattle.cq_term.specs.Trees.{tree}
+use Rattle.cq_term.specs.Trees.{KnowsTerms, tree}
 use Rattle.cq_term.specs.declared.names.Pred.{Pred}
 use Rattle.cq_write.specs.Meaning.{operators}
-use Rattle.spec_machine.specs.declared.cell.Cell.{Cell}
-use Rattle.cq_steps.specs.Lists.{KeepsLists}
+use Rattle.cq_world.specs.Contents.{Contents}
+use Rattle.spec_machine.specs.Cells.{Stack, Value}
 use Rattle.cq_steps.proofs.Added.{reads_tree}
-use Rattle.cq_calls.specs.Calling.{IsCalledAt}
+use Rattle.cq_calls.specs.Calling.{CallBecomes, IsCalledAt}
 use Rattle.cq_machine.specs.declared.machine.Machine.{Machine}
 use Rattle.cq_machine.specs.Machines.{terms, now, holds, IsSound}
 use Rattle.cq_machine.specs.Stepping.{IsSelectedAt}
@@ -30,6 +32,9 @@ called_at m pred id height rest p behind g sound o s = record {
   indicator = o.indicator ∙ ap indicator_of (reads_tree m.atoms (now m).0 p.state id g s.reads);
 }
 
--- equal lists keep what each has to do
-pub keeps_equal : (lists more : List (List Cell)) → more ≡ lists → KeepsLists lists more
-keeps_equal lists more e = record { more = omega (arith, ap length e); same = λ k l. ap (λ ls. items_at ls k) e }
+-- where it goes on with a clause, the names of the terms are known
+pub names_called : (texts : List Text) (choices : Stack Contents) (now : Value Contents) (k : ℕ) (p : Place) (behind : List Branch) (g : Tree)
+    → CallBecomes texts choices now (Some k) p behind g → KnowsTerms texts now.0.heap.terms
+names_called texts choices now k p behind g b =
+    let s : Search = record { database = p.database; branches = map (clause_child p g) b.some ++ behind; selected = 0 } in
+    (b.comes 0 s refl refl).stands.current.3.state.ready.stands.names

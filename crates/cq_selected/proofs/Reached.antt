@@ -12,11 +12,9 @@ use Rattle.cq_ops.specs.Tables.{AreNamed}
 use Rattle.cq_program.specs.Database.{Program, IsProgram}
 use Rattle.cq_term.specs.Trees.{KnowsTerms}
 use Rattle.cq_world.specs.Contents.{Contents}
-use Rattle.spec_machine.specs.declared.cell.Cell.{Cell}
 use Rattle.spec_machine.specs.Cells.{Value, Stack}
 use Rattle.spec_machine.specs.Standing.{engine, IsStanding}
 use Rattle.cq_steps.specs.Choices.{AreOpen}
-use Rattle.cq_steps.specs.Lists.{KeepsLists}
 use Rattle.cq_steps.specs.Worlds.{IsBranch, term_in, stack, Leads, Grown}
 use Rattle.cq_steps.proofs.Selected.{standing_grown}
 use Rattle.cq_steps.specs.declared.alternatives.Alternatives.{Alternatives}
@@ -35,13 +33,6 @@ names_ahead texts choices now k p behind r l =
 
 pub names_same : (texts : List Text) (old later : Contents) → KnowsTerms texts old.heap.terms → later ≡ old → KnowsTerms texts later.heap.terms
 names_same texts old later known e = subst (λ (c : Contents). KnowsTerms texts c.heap.terms) (sym e) known
-
--- ---- what was built
-
--- the same world, and more continuations
-pub same_grown : (texts : List Text) (old later : Contents) (lists more : List (List Cell)) → later ≡ old → KeepsLists lists more → Grown texts (old, lists) (later, more)
-same_grown texts old later lists more e keeps =
-    subst (λ (c : Contents). Grown texts (old, lists) (c, more)) (sym e) (record { state = λ st i. i; terms = λ id t r. r; lists = keeps })
 
 -- ---- a sound machine
 

@@ -24,7 +24,7 @@ use Rattle.cq_machine.specs.Machines.{terms, now, HasBuilt}
 use Rattle.cq_machine.proofs.Built.{lists_same}
 use Rattle.cq_selected.specs.Calls.{HasName, HasNoName}
 use Rattle.cq_selected.proofs.More.{whole_reads}
-use Rattle.cq_selected.proofs.Reached.{same_grown}
+use Rattle.cq_calls.proofs.Waiting.{same_grown}
 
 pub named_below : (n : ℕ) (h : HeapTerm) (a : ℕ) → HasNamesBelow n h → HasName h a → a < n
 named_below n (Var v) a b e = absurd e

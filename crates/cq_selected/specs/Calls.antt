@@ -1,5 +1,5 @@
 -- What a call of a user predicate comes to.
-use Rattle.std.specs.Prelude.{◌≡◌, ℕ, List, ⊤}
+use Rattle.std.specs.Prelude.{◌≡◌, ℕ, List, Some, None, ⊤}
 use Rattle.spec_terms.specs.Term.{Var, Number, Name, Compound}
 use Rattle.spec_syntax.specs.Trees.{Tree}
 use Rattle.spec_built.specs.Built.{indicator_of}
@@ -12,14 +12,14 @@ use Rattle.cq_term.specs.Meaning.{HeapTerm}
 use Rattle.cq_machine.specs.declared.machine.Machine.{Machine}
 use Rattle.cq_machine.specs.declared.step.Step.{Step}
 use Rattle.cq_machine.specs.declared.step.Step.TheVariants as step
-use Rattle.cq_machine.specs.Machines.{terms, holds}
+use Rattle.cq_machine.specs.Machines.{terms, now, holds}
 use Rattle.cq_machine.specs.Stepping.{IsSelectedAt}
 
--- the machine comes back to the clauses of the goal's procedure, or there is no such procedure
+-- the machine tries the clauses of the goal's procedure, or there is no such procedure
 abbrev pub IsCall : Machine → Step → Place → List Branch → Tree → Type 0
-IsCall m step.Back p behind goal = CallBecomes m.atoms (holds m) p behind goal
+IsCall m (step.Goes k) p behind goal = CallBecomes m.atoms (holds m) (now m) (Some k) p behind goal
+IsCall m step.Back p behind goal = CallBecomes m.atoms (holds m) (now m) None p behind goal
 IsCall m (step.Raises e) p behind goal = user_row p (indicator_of goal) ≡ Raises (error_tree m.atoms (terms m) e)
-IsCall m (step.Goes k) p behind goal = ⊥
 IsCall m (step.Throws id) p behind goal = ⊥
 IsCall m (step.Refuses pair) p behind goal = ⊥
 

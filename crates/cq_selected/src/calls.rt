@@ -9,18 +9,19 @@ ghost use Rattle.cq_term.specs.Meaning.{at};
 ghost use Rattle.cq_term.specs.Shown.{arguments};
 ghost use Rattle.cq_term.specs.Trees.{tree};
 ghost use Rattle.cq_machine.specs.Machines.{terms, IsSound, HasSameProgram, StillStands, HasBuilt};
-ghost use Rattle.cq_machine.specs.Stepping.{row_of, LeadsTo, CanGo, OnRaises};
+ghost use Rattle.cq_machine.specs.Stepping.{row_of, IsSelectedSomewhere, LeadsTo, CanGo, OnRaises};
 ghost use Rattle.cq_selected.specs.Calls.{Calls, HasName, HasNoName};
 
 use cq_atoms::Atom;
 use cq_built::{BuiltinError, BuiltinFault};
+use cq_calls::Called;
 use cq_control::Continuation;
 use cq_machine::{Machine, Step, build};
 use cq_term::{Heap, Pred, TermId, View};
 use std::alloc::AllocError;
 
-/// A goal calls a user predicate: the machine comes back to the clauses that may match it, also where there is one or none. It is
-/// an error of the goal that there is no such procedure.
+/// A goal calls a user predicate: the machine goes on with the first clause whose branch is kept, with the others as a choice, or
+/// comes back. It is an error of the goal that there is no such procedure.
 pub fn call_procedure(
     m: &mut Machine,
     predicate: Pred,
@@ -28,6 +29,7 @@ pub fn call_procedure(
     rest: Continuation,
 ) -> Result<Step, AllocError>
     requires sound { IsSound m.old }
+    requires selected { IsSelectedSomewhere m.old goal rest }
     requires goal { goal < length (terms m.old) }
     requires predicate { IsOf m.old.atoms predicate (tree m.old.atoms (terms m.old) goal) }
     ensures row { IfOk result (Calls m.old m.new goal rest) }
@@ -41,15 +43,16 @@ pub fn call_procedure(
     let found = cq_calls::call_procedure(
         &mut m.world,
         &mut m.choices,
+        &m.atoms,
         &mut m.clauses,
         called,
         goal,
         rest,
     )?;
-    if found {
-        Ok(Step::Back)
-    } else {
-        Ok(Step::Raises(BuiltinError::UnknownProcedure(predicate)))
+    match found {
+        Called::Goes(k) => Ok(Step::Goes(k)),
+        Called::Back => Ok(Step::Back),
+        Called::Unknown => Ok(Step::Raises(BuiltinError::UnknownProcedure(predicate))),
     }
 }
 

@@ -73,6 +73,12 @@ is_idle_then c newly vs told rows e f i numeric ns none woken = record {
   awaited = λ n h. contains_none n (subst (λ (ms : List ℕ). Contains ms n) none (woken n (subst (λ (us : List VarId). IsWokenBy c.attrs (numbers_of us) n) (sym i) h)));
 }
 
+-- no variable was bound
+pub nothing_bound : (c : Contents) (newly vs : List VarId) (told : List ℕ) (rows : List Constraint) → told ≡ [] → rows ≡ [] → vs ≡ newly → vs ≡ [] → IsIdle c newly told rows
+nothing_bound c newly vs told rows e f i z =
+    let no : (v : ℕ) → Contains (numbers_of vs) v → ⊥ = λ v h. contains_none v (subst (λ (us : List VarId). Contains (numbers_of us) v) z h) in
+    is_idle_then c newly vs told rows e f i (λ v h. absurd (no v h)) [] refl (λ n h. absurd (no h.variable h.is_new))
+
 none_kept : (test : ℕ → Bool) (xs : List ℕ) → ((x : ℕ) → Contains xs x → test x ≡ false) → filter test xs ≡ []
 none_kept test [] f = refl
 none_kept test (x ∷ xs) f =

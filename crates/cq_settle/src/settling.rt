@@ -91,6 +91,9 @@ fn is_idle(world: &World, work: &Work) -> Result<bool, AllocError>
         return Ok(false);
     }
     let newly = work.newly.as_slice();
+    if newly.is_empty() {
+        return Ok(true);
+    }
     for &variable in newly {
         if world.attrs.is_numeric(variable) {
             return Ok(false);

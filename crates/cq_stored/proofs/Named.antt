@@ -1,10 +1,11 @@
 -- Names below a count: of the heads of a term, and of the terms of a heap.
-use Rattle.std.proofs.Common.{◌≡◌, ℕ, ◌<◌, List, [], ◌∷◌, ◌++◌, length, map, get_or, sym, ◌∙◌, subst, arith, append_assoc, append-nil}
+use Rattle.std.proofs.Common.{◌≡◌, ℕ, zero, suc, ◌<◌, List, [], ◌∷◌, ◌++◌, length, map, get_or, sym, ◌∙◌, subst, arith, append_assoc, append-nil}
 use Rattle.std.specs.Prelude.{All}
-use Rattle.std.proofs.lemmas.List.Elements.{All-cons, All-push, All-same, All-map}
+use Rattle.std.proofs.lemmas.List.Elements.{All-append, All-cons, All-push, All-same, All-map}
 use Rattle.spec_terms.specs.Term.{Terms, Var, Number, Name, Compound, one, more, count, with_arguments}
 use Rattle.cq_term.specs.Meaning.{HeapTerm, at, blank}
 use Rattle.cq_term.specs.Names.{HasNamesBelow, HaveNamesBelow}
+use Rattle.cq_term.specs.Shown.{variables_from}
 use Rattle.cq_term.proofs.Known.{names_over}
 use Rattle.cq_term.specs.declared.view.View.{View}
 use Rattle.cq_term.specs.declared.view.View.TheVariants as view
@@ -29,6 +30,18 @@ mutual
 pub named_pattern : (n count : ℕ) (hs : List View) → IsPattern count hs → HasNamesBelow n (term_of hs) → All (IsNamedBelow n) hs
 named_pattern n count hs p h =
     subst (All (IsNamedBelow n)) (append-nil (heads (term_of hs)) ∙ pattern_heads count hs p) (named_heads n (term_of hs) [] h (none_named n))
+
+pub named_same : (n : ℕ) (ts us : List HeapTerm) → us ≡ ts → All (HasNamesBelow n) ts → All (HasNamesBelow n) us
+named_same n ts us e all = All-same (HasNamesBelow n) us ts e all
+
+-- variables have no names
+named_variables : (n k count : ℕ) → All (HasNamesBelow n) (variables_from k count)
+named_variables n k zero = λ j d lt. absurd (omega arith)
+named_variables n k (suc count) = All-cons (HasNamesBelow n) (Var k) (variables_from (suc k) count) tt (named_variables n (suc k) count)
+
+pub named_more : (n : ℕ) (ts us : List HeapTerm) (k count : ℕ) → us ≡ ts ++ variables_from k count → All (HasNamesBelow n) ts → All (HasNamesBelow n) us
+named_more n ts us k count e all =
+    named_same n (ts ++ variables_from k count) us e (All-append (HasNamesBelow n) ts (variables_from k count) all (named_variables n k count))
 
 -- one more term on a heap
 pub named_push : (n : ℕ) (ts us : List HeapTerm) (t : HeapTerm) → us ≡ ts ++ t ∷ [] → HasNamesBelow n t → All (HasNamesBelow n) ts → All (HasNamesBelow n) us

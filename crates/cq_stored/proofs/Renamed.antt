@@ -1,5 +1,5 @@
 -- A pattern's variables as the new variables of a heap.
-use Rattle.std.proofs.Common.{◌≡◌, ℕ, zero, suc, ◌+◌, ◌<◌, List, [], ◌∷◌, ◌++◌, length, refl, ap, sym, ◌∙◌, arith}
+use Rattle.std.proofs.Common.{◌≡◌, ℕ, zero, suc, ◌+◌, ◌<◌, List, [], ◌∷◌, ◌++◌, length, ap, ◌∙◌, refl, arith}
 use Rattle.spec_terms.specs.Term.{Var, apply}
 use Rattle.spec_terms.proofs.Substitution.{apply_agree}
 use Rattle.cq_term.specs.Meaning.{HeapTerm, at}
@@ -9,10 +9,6 @@ use Rattle.cq_unify.proofs.Places.{at-unbound_from}
 use Rattle.cq_stored.specs.Pattern.{IsPattern, term_of}
 use Rattle.cq_stored.specs.Building.{moved_by, image_from}
 use Rattle.cq_stored.proofs.Reading.{pattern_below}
-use Rattle.cq_stored.proofs.Built.{last_at}
-
-pub new_number : (ts us : List HeapTerm) (id n m : ℕ) → us ≡ ts ++ Var n ∷ [] → id ≡ length ts → at us id ≡ Var m → m ≡ n
-new_number ts us id n m e last is = (let h : ◌≡◌ {A = HeapTerm} (Var m) (Var n) = sym is ∙ last_at ts us (Var n) id e last in cc)
 
 at_past : (xs us : List HeapTerm) (n k : ℕ) → n ≡ length xs + k → at (xs ++ us) n ≡ at us k
 at_past [] us n k e = (let q : n ≡ k = omega arith in ap (at us) q)

@@ -1,8 +1,8 @@
 // Terms of a heap that are built from patterns over new variables.
 
-ghost use Rattle.std.specs.Prelude.{◌≡◌, ◌<◌, ◌≤◌, ◌++◌, ℕ, List, length, map, take, drop, reverse, All, IfOk, OnOk, OnErr};
+ghost use Rattle.std.specs.Prelude.{◌≡◌, ◌<◌, ◌≤◌, ◌++◌, [], ℕ, List, length, map, reverse, All, IfOk, OnOk, OnErr};
 ghost use Rattle.spec_lists.specs.Prefixes.{IsPrefix};
-ghost use Rattle.spec_terms.specs.Term.{Var, apply};
+ghost use Rattle.spec_terms.specs.Term.{apply};
 ghost use Rattle.cq_term.specs.Names.{KeepsNames};
 ghost use Rattle.cq_term.specs.Meaning.{HeapTerm, at};
 ghost use Rattle.cq_term.specs.declared.view.View.TheVariants.{Compound};
@@ -15,7 +15,7 @@ use cq_term::{Atom, Heap, TermId, View};
 use std::alloc::AllocError;
 
 /// Makes so many variables, the oldest first, and says which number the first has, if there is one. An error is want of
-/// memory; those that were made by then stay on the heap, until a mark is undone.
+/// memory.
 pub fn new_variables(heap: &mut Heap, count: usize) -> Result<usize, AllocError>
     ensures first { IfOk result (λ first. 0 < count → first ≡ length heap.old.now.images) }
     ensures there { IfOk result (λ first. AreThere heap.new.now.images first count) }
@@ -29,24 +29,8 @@ pub fn new_variables(heap: &mut Heap, count: usize) -> Result<usize, AllocError>
     if count == 0 {
         return Ok(0);
     }
-    for _variable in 0..count - 1 {
-        heap.new_var()?;
-    }
-    let youngest = heap.new_var()?;
-    let number = number_of(heap, youngest);
-    Ok(number - (count - 1))
-}
-
-/// The number of an unbound variable.
-fn number_of(heap: &Heap, id: TermId) -> usize
-    requires live { id < length heap.now.now.terms }
-    requires variable { (v : ℕ) × (at heap.now.now.terms id ≡ Var v) }
-    ensures { at heap.now.now.terms id ≡ Var result }
-{
-    match heap.view(id) {
-        View::Var(variable) => variable.0,
-        _ => unreachable!(),
-    }
+    let first = heap.new_vars(count)?;
+    Ok(first)
 }
 
 /// Builds the term of a pattern, where the heap's variables from the first one on take the places of the pattern's. An
@@ -61,9 +45,31 @@ pub fn build(heap: &mut Heap, pattern: &[View], first: usize) -> Result<TermId, 
     ensures saved { heap.new.saved ≡ heap.old.saved }
     ensures room { heap.old.room ≤ heap.new.room }
 {
-    let mut built = Vec::new(heap.alloc());
+    let mut built = heap.spare_list();
+    let whole = build_in(heap, pattern, first, &mut built)?;
+    heap.keep_list(built);
+    Ok(whole)
+}
+
+/// Builds the term of a pattern, with an empty list for the parts that are still to be put into others.
+fn build_in(
+    heap: &mut Heap,
+    pattern: &[View],
+    first: usize,
+    built: &mut Vec<TermId>,
+) -> Result<TermId, AllocError>
+    requires pattern { (count : ℕ) × IsPattern count pattern.now × AreThere heap.old.now.images first count }
+    requires empty { built.old.items ≡ [] }
+    ensures live { IfOk result (λ id. id < length heap.new.now.terms) }
+    ensures built { IfOk result (λ id. at heap.new.now.terms id ≡ apply (image_from heap.old.now.images first) (term_of pattern.now)) }
+    ensures terms { IsPrefix heap.old.now.terms heap.new.now.terms }
+    ensures images { heap.new.now.images ≡ heap.old.now.images }
+    ensures names { (n : ℕ) → All (IsNamedBelow n) pattern.now → KeepsNames n heap.old.now heap.new.now }
+    ensures saved { heap.new.saved ≡ heap.old.saved }
+    ensures room { heap.old.room ≤ heap.new.room }
+{
     for i in (0..pattern.len()).rev() {
-        add(heap, pattern[i], first, &mut built)?;
+        add(heap, pattern[i], first, built)?;
     }
     Ok(built.pop().unwrap())
 }
@@ -109,17 +115,8 @@ fn add_compound(
     ensures room { heap.old.room ≤ heap.new.room }
 {
     let first = built.len() - arity;
-    reverse_from(built, first);
-    let whole = heap.compound(name, &built[first..])?;
+    let whole = heap.compound_reversed(name, &built[first..])?;
     built.truncate(first);
     built.push(whole)?;
     Ok(())
-}
-
-/// Reverses the ids from a place on.
-fn reverse_from(ids: &mut Vec<TermId>, first: usize)
-    requires { first ≤ length ids.old.items }
-    ensures { ids.new.items ≡ take first ids.old.items ++ reverse (drop first ids.old.items) }
-{
-    ids[first..].reverse();
 }

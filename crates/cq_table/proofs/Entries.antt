@@ -1,150 +1,157 @@
--- Built-in predicates in a table by the numbers of their names.
-use Rattle.std.proofs.Common.{◌≡◌, ℕ, ◌+◌, ◌<◌, ◌≤◌, arith, List, [], length, Bool, true, false, cond, ◌==◌, ◌&&◌, Bor, Option, Some, None, find, nat_le, refl, sym, ap, subst, ◌∙◌}
-use Rattle.std.specs.Prelude.{All, is_some, slice_get}
+-- Built-in predicates in lists by the numbers of their names.
+use Rattle.std.proofs.Common.{◌≡◌, ℕ, zero, suc, ◌<◌, ◌≤◌, arith, List, [], ◌∷◌, ◌++◌, length, Bool, true, false, cond, ◌==◌, Bor, Option, Some, None, find, refl, sym, ap, subst, ◌∙◌, inl, inr, ◌⊎◌, set}
+use Rattle.std.specs.Prelude.{All, is_some, slice_get, slice_index_or}
 use Rattle.std.specs.Option.{option_map}
 use Rattle.std.specs.Cmp.Lexicographic.{bytes_decides}
-use Rattle.std.proofs.lemmas.Bool.Decides.{nat_tests}
+use Rattle.std.proofs.lemmas.List.{get_or_past, get_or-set_same, get_or-set_other}
 use Rattle.std.proofs.lemmas.List.Elements.{recursion_from_All}
-use Rattle.std.proofs.lemmas.Option.{slice_get-get_or}
+use Rattle.std.proofs.lemmas.Option.{slice_get-get_or, none-some, same_Some}
 use Rattle.spec_lists.specs.Texts.{Text}
-use Rattle.spec_lists.proofs.Tests.{nat_eq-self, nat_eq-same, nat_eq-other, true_le, both_are}
+use Rattle.spec_lists.proofs.Places.{get_push}
+use Rattle.spec_lists.proofs.Tests.{nat_eq-self, nat_eq-same, nat_eq-other}
 use Rattle.cq_atoms.specs.Texts.{AreDifferent, KeepsTexts, text_of}
-use Rattle.cq_term.specs.declared.names.Pred.{Pred}
 use Rattle.spec_built.specs.Built.{indicator}
 use Rattle.spec_search.specs.Builtins as definition
 use Rattle.spec_search.specs.Builtins.{builtin_of, is_built_in}
-use Rattle.cq_clauses.specs.Database.{same_pred}
+use Rattle.cq_table.specs.Entries.{entry}
 use Rattle.cq_table.specs.Names.{as_builtin}
-use Rattle.cq_table.specs.Numbered.{entry, HasEntry, IsRight, AreRight, HasAll, AreBuiltins, Gains}
+use Rattle.cq_table.specs.Numbered.{HasEntry, IsRight, AreRight, AreWith, AreByArity, AreBuiltins}
 use Rattle.cq_table.specs.Rows.{AreRows, is_named}
 use Rattle.cq_table.specs.declared.builtins.Builtin.{Builtin}
+use Rattle.cq_table.specs.declared.listed.Entries.{Entries}
 use Rattle.cq_table.specs.declared.numbered.Builtins.{Builtins}
 use Rattle.cq_table.proofs.Table.{found_passes, never, none_other}
 
+-- ---- places of a list
+
+-- an element that is put within a list
+pub put_at : (old mid : List (Option Builtin)) (number : ℕ) (b : Builtin) → number < length mid → ((k : ℕ) → slice_index_or mid k None ≡ slice_index_or old k None)
+    → (k : ℕ) → slice_index_or (set mid number (Some b)) k None ≡ cond (k == number) (Some b) (slice_index_or old k None)
+put_at old mid number b within same k = go (k == number) refl
+  where
+    go : (t : Bool) → (k == number) ≡ t → slice_index_or (set mid number (Some b)) k None ≡ cond t (Some b) (slice_index_or old k None)
+    go true e =
+        subst (λ i. slice_index_or (set mid number (Some b)) i None ≡ Some b) (sym (nat_eq-same k number e))
+        (get_or-set_same mid number (Some b) None within)
+    go false e = get_or-set_other mid number k (Some b) None (nat_eq-other k number e) ∙ same k
+
+-- nothing that is put at the end
+pub pushed_none : (xs : List (Option Builtin)) (k : ℕ) → slice_index_or (xs ++ None ∷ []) k None ≡ slice_index_or xs k None
+pushed_none [] zero = refl
+pushed_none [] (suc k) = refl
+pushed_none (x ∷ xs) zero = refl
+pushed_none (x ∷ xs) (suc k) = pushed_none xs k
+
 -- ---- more names
 
-right_kept : (old new : List Text) → KeepsTexts old new → (table : Builtins) → AreRight old table → AreRight new table
-right_kept old new keeps table right = λ p b e. let r = right p b e in record { name = r.name; named = keeps p.name r.name r.named; is = r.is }
+right_kept : (old new : List Text) → KeepsTexts old new → (n : ℕ) (entries : Entries) → AreRight old n entries → AreRight new n entries
+right_kept old new keeps n entries right = λ number b e. let r = right number b e in record { name = r.name; named = keeps number r.name r.named; is = r.is }
 
-entry_kept : (old new : List Text) → KeepsTexts old new → (table : Builtins) (name : Text) (n : ℕ) → HasEntry old table name n → HasEntry new table name n
-entry_kept old new keeps table name n h = record { number = h.number; named = keeps h.number name h.named; there = h.there }
+entry_kept : (old new : List Text) → KeepsTexts old new → (entries : Entries) (name : Text) → HasEntry old entries name → HasEntry new entries name
+entry_kept old new keeps entries name h = record { number = h.number; named = keeps h.number name h.named; there = h.there }
+
+with_kept : (old new : List Text) → KeepsTexts old new → (n : ℕ) (entries : Entries) → AreWith old n entries → AreWith new n entries
+with_kept old new keeps n entries a = record {
+  right = right_kept old new keeps n entries a.right;
+  all = λ name h. entry_kept old new keeps entries name (a.all name h);
+}
 
 pub builtins_kept : (old new : List Text) → KeepsTexts old new → (table : Builtins) → AreBuiltins old table → AreBuiltins new table
-builtins_kept old new keeps table a = record { right = right_kept old new keeps table a.right; all = λ n name h. entry_kept old new keeps table name n (a.all n name h) }
-
--- the same entries
-pub gains_names : (old new : List Text) (before after : Builtins) → KeepsTexts old new → ((p : Pred) → entry after p ≡ entry before p) → Gains old before new after
-gains_names old new before after keeps same = record {
-  texts = keeps;
-  right = λ right p b e. right_kept old new keeps before right p b (sym (same p) ∙ e);
-  entries = λ name n h.
-      let k = entry_kept old new keeps before name n h in
-      record { number = k.number; named = k.named; there = ap is_some (same (record { name = k.number; arity = n })) ∙ k.there };
-}
-
-pub gains_then : (old mid new : List Text) (first next last : Builtins) → Gains old first mid next → Gains mid next new last → Gains old first new last
-gains_then old mid new first next last g h = record {
-  texts = λ i text e. h.texts i text (g.texts i text e);
-  right = λ right. h.right (g.right right);
-  entries = λ name n e. h.entries name n (g.entries name n e);
-}
+builtins_kept old new keeps table a = record { size = a.size; lists = λ n entries e. with_kept old new keeps n entries (a.lists n entries e) }
 
 -- ---- one more entry
 
-module _ (old new : List Text) (before after : Builtins) (p : Pred) (b : Builtin) (keeps : KeepsTexts old new)
-    (put : (q : Pred) → entry after q ≡ cond (same_pred p q) (Some b) (entry before q)) where
-  pub gains_entry : IsRight new p b → Gains old before new after
-  gains_entry is = record { texts = keeps; right = right; entries = entries }
+module _ (old new : List Text) (n : ℕ) (before after : Entries) (number : ℕ) (b : Builtin) (keeps : KeepsTexts old new)
+    (put : (k : ℕ) → entry after k ≡ cond (k == number) (Some b) (entry before k)) where
+  pub right_put : IsRight new n number b → AreRight old n before → AreRight new n after
+  right_put is all k c e = go (k == number) refl (sym (put k) ∙ e)
     where
-      right : AreRight old before → AreRight new after
-      right all q c e = go (same_pred p q) refl (sym (put q) ∙ e)
-        where
-          go : (t : Bool) → same_pred p q ≡ t → cond t (Some b) (entry before q) ≡ Some c → IsRight new q c
-          go true k h =
-              let both = both_are (p.name == q.name) (p.arity == q.arity) k in
-              let same : b ≡ c = cc in
-              record {
-                name = is.name;
-                named = ap (slice_get new) (sym (nat_eq-same p.name q.name both.0)) ∙ is.named;
-                is = ap (λ n. builtin_of (indicator is.name n)) (sym (nat_eq-same p.arity q.arity both.1)) ∙ is.is ∙ ap (λ x. Some (as_builtin x)) same;
-              }
-          go false k h = right_kept old new keeps before all q c h
+      go : (t : Bool) → (k == number) ≡ t → cond t (Some b) (entry before k) ≡ Some c → IsRight new n k c
+      go true f h =
+          let same : b ≡ c = same_Some b c h in
+          record {
+            name = is.name;
+            named = ap (slice_get new) (nat_eq-same k number f) ∙ is.named;
+            is = is.is ∙ ap (λ x. Some (as_builtin x)) same;
+          }
+      go false f h = right_kept old new keeps n before all k c h
 
-      more : (t : Bool) (o : Option Builtin) → is_some o ≡ true → is_some (cond t (Some b) o) ≡ true
-      more true o h = refl
-      more false o h = h
+  more : (t : Bool) (o : Option Builtin) → is_some o ≡ true → is_some (cond t (Some b) o) ≡ true
+  more true o h = refl
+  more false o h = h
 
-      entries : (name : Text) (n : ℕ) → HasEntry old before name n → HasEntry new after name n
-      entries name n h =
-          let q : Pred = record { name = h.number; arity = n } in
-          record { number = h.number; named = keeps h.number name h.named; there = ap is_some (put q) ∙ more (same_pred p q) (entry before q) h.there }
+  pub entry_put : (name : Text) → HasEntry old before name → HasEntry new after name
+  entry_put name h =
+      record { number = h.number; named = keeps h.number name h.named; there = ap is_some (put h.number) ∙ more (h.number == number) (entry before h.number) h.there }
 
-  pub has_entry : (name : Text) → slice_get new p.name ≡ Some name → HasEntry new after name p.arity
-  has_entry name named = record {
-    number = p.name;
+  pub has_put : (name : Text) → slice_get new number ≡ Some name → HasEntry new after name
+  has_put name named = record {
+    number = number;
     named = named;
-    there = ap is_some (put p ∙ ap (λ t. cond t (Some b) (entry before p)) (same (p.name == p.name) (p.arity == p.arity) (nat_eq-self p.name) (nat_eq-self p.arity)));
+    there = ap is_some (put number ∙ ap (λ t. cond t (Some b) (entry before number)) (nat_eq-self number));
   }
-    where
-      same : (s t : Bool) → s ≡ true → t ≡ true → (s && t) ≡ true
-      same true t e f = f
-      same false t e f = cc
 
 -- ---- all of some number of arguments
 
-pub has_all : (texts : List Text) (table : Builtins) (n : ℕ) (rows : List (Bor Text × Builtin)) → AreRows n rows → All (λ (row : Bor Text × Builtin). HasEntry texts table row.0.now n) rows
-    → HasAll texts table n
-has_all texts table n rows are all name h = by (find (is_named name) rows) refl
+pub none_right : (texts : List Text) (n : ℕ) (entries : Entries) → entries.builtins.items ≡ [] → AreRight texts n entries
+none_right texts n entries none = λ k b e.
+    let empty : slice_index_or entries.builtins.items k None ≡ None = ap (λ (xs : List (Option Builtin)). slice_index_or xs k None) none ∙ get_or_past [] k None (omega arith) in
+    absurd (none-some b (sym empty ∙ e))
+
+pub has_all : (texts : List Text) (entries : Entries) (n : ℕ) (rows : List (Bor Text × Builtin)) → AreRows n rows → All (λ (row : Bor Text × Builtin). HasEntry texts entries row.0.now) rows
+    → (name : Text) → is_built_in (indicator name n) ≡ true → HasEntry texts entries name
+has_all texts entries n rows are all name h = by (find (is_named name) rows) refl
   where
-    by : (o : Option (Bor Text × Builtin)) → find (is_named name) rows ≡ o → HasEntry texts table name n
+    by : (o : Option (Bor Text × Builtin)) → find (is_named name) rows ≡ o → HasEntry texts entries name
     by None e = absurd (never (find (is_named name) rows) e (are.all name h))
     by (Some x) e =
-        let f = found_passes (λ (row : Bor Text × Builtin). HasEntry texts table row.0.now n) (is_named name) rows
-        (recursion_from_All (λ (row : Bor Text × Builtin). HasEntry texts table row.0.now n) rows all) x e in
-        subst (λ t. HasEntry texts table t n) ((bytes_decides x.0.now name).0 f.1) f.0
+        let f = found_passes (λ (row : Bor Text × Builtin). HasEntry texts entries row.0.now) (is_named name) rows
+        (recursion_from_All (λ (row : Bor Text × Builtin). HasEntry texts entries row.0.now) rows all) x e in
+        subst (HasEntry texts entries) ((bytes_decides x.0.now name).0 f.1) f.0
+
+pub none_by_arity : (texts : List Text) (by_arity : List Entries) → by_arity ≡ [] → AreByArity texts by_arity
+none_by_arity texts by_arity none n found e = absurd (none-some found (subst (λ (xs : List Entries). slice_get xs n ≡ Some found) none e))
+
+-- one number of arguments after the other
+pub by_arity_more : (old new : List Text) (by_arity : List Entries) (entries : Entries) → KeepsTexts old new → AreByArity old by_arity → AreWith new (length by_arity) entries
+    → AreByArity new (by_arity ++ entries ∷ [])
+by_arity_more old new by_arity entries keeps all last n found e = go (get_push by_arity entries n found e)
+  where
+    go : (slice_get by_arity n ≡ Some found) ⊎ ((n ≡ length by_arity) × (entries ≡ found)) → AreWith new n found
+    go (inl h) = with_kept old new keeps n found (all n found h)
+    go (inr h) = subst (AreWith new n) h.1 (subst (λ (k : ℕ). AreWith new k entries) (sym h.0) last)
 
 -- ---- what is found
 
-pub is_found : (texts : List Text) (table : Builtins) (p : Pred) → AreBuiltins texts table → AreDifferent texts → p.name < length texts
-    → option_map as_builtin (entry table p) ≡ builtin_of (indicator (text_of texts p.name) p.arity)
-is_found texts table p are different known = by (entry table p) refl
-  where
-    named : slice_get texts p.name ≡ Some (text_of texts p.name)
-    named = slice_get-get_or texts p.name [] known
+-- whichever is built in, of those that are right and all
+module _ (texts : List Text) (different : AreDifferent texts) (n number : ℕ) (known : number < length texts) where
+  named : slice_get texts number ≡ Some (text_of texts number)
+  named = slice_get-get_or texts number [] known
 
-    none : (o : Option definition.Builtin) → builtin_of (indicator (text_of texts p.name) p.arity) ≡ o → entry table p ≡ None → None ≡ o
-    none None e h = refl
-    none (Some b) e h =
-        let k = are.all p.arity (text_of texts p.name) (ap is_some e) in
-        let there : is_some (entry table p) ≡ true = ap (λ a. is_some (entry table (record { name = a; arity = p.arity }))) (different p.name k.number (text_of texts p.name) named k.named) ∙ k.there in
-        absurd (never (entry table p) h there)
+  pub is_found : (entries : Entries) → AreWith texts n entries → option_map as_builtin (entry entries number) ≡ builtin_of (indicator (text_of texts number) n)
+  is_found entries are = by (entry entries number) refl
+    where
+      none : (o : Option definition.Builtin) → builtin_of (indicator (text_of texts number) n) ≡ o → entry entries number ≡ None → None ≡ o
+      none None e h = refl
+      none (Some b) e h =
+          let k = are.all (text_of texts number) (ap is_some e) in
+          let there : is_some (entry entries number) ≡ true = ap (λ a. is_some (entry entries a)) (different number k.number (text_of texts number) named k.named) ∙ k.there in
+          absurd (never (entry entries number) h there)
 
-    by : (o : Option Builtin) → entry table p ≡ o → option_map as_builtin o ≡ builtin_of (indicator (text_of texts p.name) p.arity)
-    by None e = none (builtin_of (indicator (text_of texts p.name) p.arity)) refl e
-    by (Some b) e =
-        let r = are.right p b e in
-        let same : text_of texts p.name ≡ r.name = some_one (text_of texts p.name) r.name (sym named ∙ r.named) in
-        sym (ap (λ t. builtin_of (indicator t p.arity)) same ∙ r.is)
-      where
-        some_one : (x y : Text) → Some x ≡ Some y → x ≡ y
-        some_one x y h = cc
+      by : (o : Option Builtin) → entry entries number ≡ o → option_map as_builtin o ≡ builtin_of (indicator (text_of texts number) n)
+      by None e = none (builtin_of (indicator (text_of texts number) n)) refl e
+      by (Some b) e =
+          let r = are.right number b e in
+          let same : text_of texts number ≡ r.name = same_Some (text_of texts number) r.name (sym named ∙ r.named) in
+          sym (ap (λ t. builtin_of (indicator t n)) same ∙ r.is)
 
--- ---- one number of arguments after the other
+  -- with more arguments there is none
+  pub none_found : (by_arity : List Entries) → 9 ≤ length by_arity → length by_arity ≤ n → None ≡ builtin_of (indicator (text_of texts number) n)
+  none_found by_arity size more = by (builtin_of (indicator (text_of texts number) n)) refl
+    where
+      past : 9 ≤ n
+      past = omega (arith, more, size)
 
-pub all_more : (old new : List Text) (before after : Builtins) (k : ℕ) → Gains old before new after → ((n : ℕ) → n < k → HasAll old before n) → HasAll new after k
-    → (n : ℕ) → n < k + 1 → HasAll new after n
-all_more old new before after k gains all last n l name h = go (n == k) refl
-  where
-    go : (b : Bool) → (n == k) ≡ b → HasEntry new after name n
-    go true e = (let same : n ≡ k = nat_eq-same n k e in subst (HasEntry new after name) (sym same) (last name (subst (λ m. is_built_in (indicator name m) ≡ true) same h)))
-    go false e = gains.entries name n (all n (omega (arith, l, apart)) name h)
-      where
-        apart : n ≡ k → ⊥
-        apart = nat_eq-other n k e
-
-pub all_below : (texts : List Text) (table : Builtins) (k : ℕ) → 9 ≤ k → ((n : ℕ) → n < k → HasAll texts table n) → (n : ℕ) → HasAll texts table n
-all_below texts table k enough all n name h = go (nat_le 9 n) refl
-  where
-    go : (b : Bool) → nat_le 9 n ≡ b → HasEntry texts table name n
-    go true e = absurd (none_other name n (true_le 9 n e) h)
-    go false e = all n (grind (arith, nat_tests)) name h
+      by : (o : Option definition.Builtin) → builtin_of (indicator (text_of texts number) n) ≡ o → None ≡ o
+      by None f = refl
+      by (Some b) f = absurd (none_other (text_of texts number) n past (ap is_some f))

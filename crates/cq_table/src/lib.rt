@@ -2,6 +2,7 @@
 #![tactic(auto)]
 
 mod builtins;
+mod listed;
 mod numbered;
 
 pub use builtins::Builtin;

@@ -1,24 +1,24 @@
 // The built-in predicates by the numbers of their names.
 
-ghost use Rattle.std.specs.Prelude.{◌≡◌, ◌<◌, List, Some, slice_get, length, IfOk, OnOk};
+ghost use Rattle.std.specs.Prelude.{◌≡◌, ◌<◌, List, Some, slice_get, length, IfOk};
 ghost use Rattle.std.specs.Option.{option_map};
 ghost use Rattle.spec_lists.specs.Texts.{Text};
 ghost use Rattle.cq_atoms.specs.Texts.{AreDifferent, KeepsTexts, text_of};
 ghost use Rattle.spec_built.specs.Built.{indicator};
 ghost use Rattle.spec_search.specs.Builtins.{builtin_of};
 ghost use Rattle.cq_table.specs.Names.{as_builtin};
-ghost use Rattle.cq_table.specs.Numbered.{AreBuiltins, Gains, HasAll, HasEntry};
+ghost use Rattle.cq_table.specs.Numbered.{AreBuiltins, AreWith};
 
 use crate::builtins::{Builtin, rows};
-use cq_atoms::{Atoms, numbers_keep_their_texts};
+use crate::listed::Entries;
+use cq_atoms::{Atom, Atoms, numbers_keep_their_texts};
 use cq_term::Pred;
 use std::alloc::{AllocError, Global};
-use std::collections::HashMap;
 
-/// The built-in predicates by the numbers of their names, so that none is looked for by its text.
+/// The built-in predicates by the numbers of their names, so that none is looked for by its text: a list for each number of arguments.
 #[derive(Drop)]
 pub struct Builtins {
-    entries: HashMap<Pred, Builtin>,
+    by_arity: Vec<Entries>,
 }
 
 impl Builtins {
@@ -29,13 +29,12 @@ impl Builtins {
         ensures kept { KeepsTexts atoms.old atoms.new }
         ensures different { AreDifferent atoms.new }
     {
-        let mut builtins = Builtins {
-            entries: HashMap::new(alloc),
-        };
+        let mut by_arity = Vec::new(alloc);
         for arity in 0..9 {
-            builtins.put_all(atoms, arity)?;
+            let entries = entries_with(alloc, atoms, arity)?;
+            by_arity.push(entries)?;
         }
-        Ok(builtins)
+        Ok(Builtins { by_arity })
     }
 
     /// What a predicate is, if it is built in.
@@ -43,38 +42,37 @@ impl Builtins {
         ensures { (texts : List Text) → AreBuiltins texts self.now → AreDifferent texts → pred.name < length texts
             → option_map as_builtin result ≡ builtin_of (indicator (text_of texts pred.name) pred.arity) }
     {
-        self.entries.get(&pred).copied()
-    }
-
-    /// Puts in those with so many arguments.
-    fn put_all(&mut self, atoms: &mut Atoms, arity: usize) -> Result<(), AllocError>
-        requires different { AreDifferent atoms.old }
-        ensures gains { Gains atoms.old self.old atoms.new self.new }
-        ensures all { OnOk result (HasAll atoms.new self.new arity) }
-        ensures different { AreDifferent atoms.new }
-    {
-        for (name, builtin) in rows(arity) {
-            self.put(atoms, name, arity, *builtin)?;
+        let Pred { name, arity } = pred;
+        if arity >= self.by_arity.len() {
+            return None;
         }
-        Ok(())
+        let number = name.index();
+        self.by_arity[arity].get(number)
     }
+}
 
-    /// Puts in one.
-    fn put(
-        &mut self,
-        atoms: &mut Atoms,
-        name: &str,
-        arity: usize,
-        builtin: Builtin,
-    ) -> Result<(), AllocError>
-        requires right { builtin_of (indicator name.now arity) ≡ Some (as_builtin builtin) }
-        ensures gains { Gains atoms.old self.old atoms.new self.new }
-        ensures there { OnOk result (HasEntry atoms.new self.new name.now arity) }
-        ensures different { AreDifferent atoms.new }
-    {
-        numbers_keep_their_texts();
-        let name = atoms.intern(name)?;
-        self.entries.insert(Pred { name, arity }, builtin)?;
-        Ok(())
+/// Those with so many arguments; their names are given numbers.
+fn entries_with(alloc: Global, atoms: &mut Atoms, arity: usize) -> Result<Entries, AllocError>
+    requires different { AreDifferent atoms.old }
+    ensures entries { IfOk result (AreWith atoms.new arity) }
+    ensures kept { KeepsTexts atoms.old atoms.new }
+    ensures different { AreDifferent atoms.new }
+{
+    let mut entries = Entries::new(alloc);
+    for (name, builtin) in rows(arity) {
+        let number = number_of(atoms, name)?;
+        entries.put(number.index(), *builtin)?;
     }
+    Ok(entries)
+}
+
+/// The number of a name, which it may be given here.
+fn number_of(atoms: &mut Atoms, name: &str) -> Result<Atom, AllocError>
+    ensures number { IfOk result (λ atom. slice_get atoms.new atom ≡ Some name.now) }
+    ensures kept { KeepsTexts atoms.old atoms.new }
+    ensures different { AreDifferent atoms.new }
+{
+    numbers_keep_their_texts();
+    let number = atoms.intern(name)?;
+    Ok(number)
 }

@@ -1,6 +1,7 @@
 -- The open variables, one by one, and those that have got a value.
-use Rattle.std.proofs.Common.{◌≡◌, ℕ, ◌+◌, ◌<◌, zero, suc, List, [], ◌∷◌, ◌++◌, length, take, get_or, Option, None, Some, ◌⊎◌, inl, inr, arith, refl, ap, sym, subst, ◌∙◌}
-use Rattle.std.specs.Prelude.{slice_get, MatchOption}
+use Rattle.std.proofs.Common.{◌≡◌, ℕ, ◌+◌, ◌-◌, ◌<◌, zero, suc, List, [], ◌∷◌, ◌++◌, length, take, get_or, Option, None, Some, ◌⊎◌, inl, inr, arith, refl, ap, sym, subst, ◌∙◌}
+use Rattle.std.specs.Prelude.{slice_get, slice_index, MatchOption}
+use Rattle.std.specs.List.Sorted.{IsStrictlyIncreasing}
 use Rattle.spec_lists.proofs.Places.{take-next}
 use Rattle.spec_rational.specs.Rational.{ℚ}
 use Rattle.spec_linear.specs.Solution.{Constraint, Has, Fixed}
@@ -12,7 +13,7 @@ use Rattle.cq_tableau.specs.declared.names.Name.{Name}
 use Rattle.cq_tableau.specs.declared.names.Name.TheVariants.{Variable}
 use Rattle.cq_tableau.specs.Stored.{IsStored}
 use Rattle.cq_tableau.specs.Values.{IsNumber}
-use Rattle.cq_tableau.specs.Fixing.{AreOnce, HasNumber, IsOpenHere, AreOpen, HasValue, HasNoValue, AreFixedNow}
+use Rattle.cq_tableau.specs.Fixing.{AreOnce, HasNumber, IsOpenHere, AreOpenAt, HasValue, HasNoValue, AreFixedNow}
 use Rattle.cq_store.specs.Told.{numbers_of}
 use Rattle.cq_tableau.proofs.Drops.{has_end, has_left, has_last}
 
@@ -25,7 +26,7 @@ distinct-end [] x d n = ((λ h. h), tt)
 distinct-end (y ∷ s) x d n = ((λ h. elim (has_end s x y h) [ inl k ↦ d.0 k | inr e ↦ n (inl (sym e)) ]), distinct-end s x d.1 (λ h. n (inr h)))
 
 -- ---- open variables
-module _ (names : List Name) (roles : List Role) (n : ℕ) (xs : List VarId) (a : AreOpen names roles n xs) where
+module _ (at : ℕ → ℕ) (names : List Name) (roles : List Role) (n : ℕ) (xs : List VarId) (a : AreOpenAt at names roles n xs) where
   last : (z : ℕ) → z < n + 1 → (z < n) ⊎ (z ≡ n)
   last z l = grind arith
 
@@ -35,40 +36,55 @@ module _ (names : List Name) (roles : List Role) (n : ℕ) (xs : List VarId) (a 
   here : n < n + 1
   here = grind arith
 
-  pub not_open : HasNumber names roles n → AreOpen names roles (n + 1) xs
+  pub not_open : HasNumber names roles (at n) → AreOpenAt at names roles (n + 1) xs
   not_open h = record {
     once = a.once;
     each = λ x k. let r = a.each x k in (r.0, below r.0 r.1, r.2);
     all = λ z x l e. elim (last z l) [
       | inl g ↦ a.all z x g e
-      | inr g ↦ inr (subst (λ y. (v : ℚ) × IsNumber roles y v) (sym g) (h x (subst (λ y. slice_get names y ≡ Some (Variable x)) g e)))
+      | inr g ↦ inr (subst (λ y. (v : ℚ) × IsNumber roles (at y) v) (sym g) (h x (subst (λ y. slice_get names (at y) ≡ Some (Variable x)) g e)))
     ];
   }
 
-  module _ (once : AreOnce names) (x : VarId) (o : IsOpenHere names roles n x) where
+  module _ (once : AreOnce names) (apart : (k : ℕ) → k < n → at k ≡ at n → ⊥) (x : VarId) (o : IsOpenHere names roles (at n) x) where
     new : Has x.0 (numbers_of xs) → ⊥
-    new h = let r = a.each x.0 h in let e = once r.0 n (Variable x) r.2.0 o.0 in let l = r.1 in absurd (omega (arith, e, l))
+    new h = let r = a.each x.0 h in apart r.0 r.1 (once (at r.0) (at n) (Variable x) r.2.0 o.0)
 
-    one_of : (y : ℕ) → Has y (numbers_of xs) ⊎ (y ≡ x.0) → (m : ℕ) × (m < n + 1) × IsOpenHere names roles m (record { 0 = y })
+    one_of : (y : ℕ) → Has y (numbers_of xs) ⊎ (y ≡ x.0) → (m : ℕ) × (m < n + 1) × IsOpenHere names roles (at m) (record { 0 = y })
     one_of y (inl k) = let r = a.each y k in (r.0, below r.0 r.1, r.2)
-    one_of y (inr e) = (n, here, subst (λ z. IsOpenHere names roles n (record { 0 = z })) (sym e) o)
+    one_of y (inr e) = (n, here, subst (λ z. IsOpenHere names roles (at n) (record { 0 = z })) (sym e) o)
 
-    all_of : (z : ℕ) (y : VarId) → z < n + 1 → slice_get names z ≡ Some (Variable y) → Has y.0 (numbers_of (xs ++ x ∷ [])) ⊎ ((v : ℚ) × IsNumber roles z v)
+    all_of : (z : ℕ) (y : VarId) → z < n + 1 → slice_get names (at z) ≡ Some (Variable y) → Has y.0 (numbers_of (xs ++ x ∷ [])) ⊎ ((v : ℚ) × IsNumber roles (at z) v)
     all_of z y l e = elim (last z l) [
       | inl g ↦ elim (a.all z y g e) [ inl k ↦ inl (subst (Has y.0) (sym (numbers-end xs x)) (has_left (numbers_of xs) x.0 y.0 k)) | inr k ↦ inr k ]
       | inr g ↦ inl (subst (Has y.0) (sym (numbers-end xs x))
-          (subst (λ i. Has i (numbers_of xs ++ x.0 ∷ [])) (same y (sym o.0 ∙ subst (λ i. slice_get names i ≡ Some (Variable y)) g e)) (has_last (numbers_of xs) x.0)))
+          (subst (λ i. Has i (numbers_of xs ++ x.0 ∷ [])) (same y (sym o.0 ∙ subst (λ i. slice_get names (at i) ≡ Some (Variable y)) g e)) (has_last (numbers_of xs) x.0)))
     ]
       where
         same : (y : VarId) → Some (Variable x) ≡ Some (Variable y) → x.0 ≡ y.0
         same y e = cc
 
-    pub one_open : AreOpen names roles (n + 1) (xs ++ x ∷ [])
+    pub one_open : AreOpenAt at names roles (n + 1) (xs ++ x ∷ [])
     one_open = record {
       once = subst AreDistinct (sym (numbers-end xs x)) (distinct-end (numbers_of xs) x.0 a.once new);
       each = λ y h. one_of y (has_end (numbers_of xs) x.0 y (subst (Has y) (numbers-end xs x) h));
       all = all_of;
     }
+
+-- ascending numbers are apart
+pub rises : (rows : List ℕ) → IsStrictlyIncreasing rows → (k d : ℕ) → k + d + 1 < length rows → slice_index rows k < slice_index rows (k + d + 1)
+rises rows h k zero l = subst (λ i. slice_index rows k < slice_index rows i) (omega arith) (h k (omega (arith, l)))
+rises rows h k (suc d) l =
+    let first = rises rows h k d (omega (arith, l)) in
+    let next = h (k + d + 1) (omega (arith, l)) in
+    let same : k + d + 1 + 1 ≡ k + suc d + 1 = omega arith in
+    subst (λ i. slice_index rows k < slice_index rows i) same (omega (arith, first, next))
+
+pub ascending_apart : (rows : List ℕ) → IsStrictlyIncreasing rows → (n : ℕ) → n < length rows → (k : ℕ) → k < n → slice_index rows k ≡ slice_index rows n → ⊥
+ascending_apart rows h n l k m e =
+    let same : k + (n - (k + 1)) + 1 ≡ n = omega (arith, m) in
+    let g = subst (λ i. slice_index rows k < slice_index rows i) same (rises rows h k (n - (k + 1)) (omega (arith, same, l))) in
+    omega (arith, g, e)
 
 -- ---- those that have a value
 module _ (names : List Name) (q : Quantities) (before xs : List VarId) (a : AreFixedNow names q before xs) (x : VarId) where

@@ -1,5 +1,5 @@
 -- The variables whose value is open, and those of them that have a value afterwards.
-use Rattle.std.specs.Prelude.{◌≡◌, ◌⊎◌, ℕ, ◌<◌, List, Some, slice_get}
+use Rattle.std.specs.Prelude.{◌≡◌, ◌⊎◌, ℕ, ◌<◌, List, Some, slice_get, slice_index}
 use Rattle.spec_rational.specs.Rational.{ℚ}
 use Rattle.spec_linear.specs.Solution.{Constraint, Has, Fixed}
 use Rattle.spec_echelon.specs.Echelon.{AreDistinct}
@@ -24,11 +24,19 @@ HasNumber names roles n = (x : VarId) → slice_get names n ≡ Some (Variable x
 abbrev pub IsOpenHere : List Name → List Role → ℕ → VarId → Type 0
 IsOpenHere names roles n x = (slice_get names n ≡ Some (Variable x)) × IsOpen roles n
 
--- the open variables of the quantities below a number
-pub record AreOpen (names : List Name) (roles : List Role) (count : ℕ) (xs : List VarId) : Type 0 where
+-- the open variables of the quantities at the places below a number
+pub record AreOpenAt (at : ℕ → ℕ) (names : List Name) (roles : List Role) (count : ℕ) (xs : List VarId) : Type 0 where
   pub once : AreDistinct (numbers_of xs)
-  pub each : (x : ℕ) → Has x (numbers_of xs) → (n : ℕ) × (n < count) × IsOpenHere names roles n (record { 0 = x })
-  pub all : (n : ℕ) (x : VarId) → n < count → slice_get names n ≡ Some (Variable x) → Has x.0 (numbers_of xs) ⊎ ((v : ℚ) × IsNumber roles n v)
+  pub each : (x : ℕ) → Has x (numbers_of xs) → (k : ℕ) × (k < count) × IsOpenHere names roles (at k) (record { 0 = x })
+  pub all : (k : ℕ) (x : VarId) → k < count → slice_get names (at k) ≡ Some (Variable x) → Has x.0 (numbers_of xs) ⊎ ((v : ℚ) × IsNumber roles (at k) v)
+
+-- those of the quantities below a number
+abbrev pub AreOpen : List Name → List Role → ℕ → List VarId → Type 0
+AreOpen names roles count xs = AreOpenAt (λ n. n) names roles count xs
+
+-- those of so many of the quantities of these numbers
+abbrev pub AreOpenAmong : List ℕ → List Name → List Role → ℕ → List VarId → Type 0
+AreOpenAmong rows names roles count xs = AreOpenAt (slice_index rows) names roles count xs
 
 -- the told list gives the variable a value, whatever list is stored
 abbrev pub HasValue : List Name → Quantities → ℕ → Type 0

@@ -1,9 +1,10 @@
 //! The variables that a constraint gives a value: those that were open before and have a value after it.
 
 ghost use Rattle.std.specs.Prelude.{◌≡◌, ◌<◌, ◌≤◌, ℕ, length, Some, slice_get, IfOk, MatchOption};
+ghost use Rattle.std.specs.List.Sorted.{IsStrictlyIncreasing};
 ghost use Rattle.cq_dict.specs.DictValue.{quantities_of};
 ghost use Rattle.cq_tableau.specs.declared.names.Name.TheVariants.{Variable};
-ghost use Rattle.cq_tableau.specs.Fixing.{AreOnce, HasNumber, IsOpenHere, AreOpen, AreFixedNow};
+ghost use Rattle.cq_tableau.specs.Fixing.{AreOnce, HasNumber, IsOpenHere, AreOpen, AreOpenAmong, AreFixedNow};
 ghost use Rattle.cq_tableau.specs.Numbered.{AreNumbered};
 
 use crate::names::Name;
@@ -42,6 +43,38 @@ pub fn open_variables(
     let mut found = Vec::new(alloc);
     for n in 0..names.len() {
         if let Some(x) = open_variable(names, dict, n) {
+            found.push(x)?;
+        }
+    }
+    Ok(found)
+}
+
+/// The variable of the quantity, if it is one's and its value is open. A quantity without a name is no variable's.
+fn open_if_named(names: &Stack<Name>, dict: &Dict, n: usize) -> Option<VarId>
+    requires size { length names.now.now ≤ length dict.now.roles }
+    ensures { MatchOption result (HasNumber names.now.now dict.now.roles n) (λ x. IsOpenHere names.now.now dict.now.roles n x) }
+{
+    if n < names.len() {
+        return open_variable(names, dict, n);
+    }
+    None
+}
+
+/// The variables whose value is open, of the quantities of these numbers, in their order.
+pub fn open_among(
+    alloc: Global,
+    names: &Stack<Name>,
+    dict: &Dict,
+    rows: &[usize],
+) -> Result<Vec<VarId>, AllocError>
+    requires size { length names.now.now ≤ length dict.now.roles }
+    requires once { AreOnce names.now.now }
+    requires ascending { IsStrictlyIncreasing rows.now }
+    ensures { IfOk result (λ xs. AreOpenAmong rows.now names.now.now dict.now.roles (length rows.now) xs.items) }
+{
+    let mut found = Vec::new(alloc);
+    for n in rows {
+        if let Some(x) = open_if_named(names, dict, *n) {
             found.push(x)?;
         }
     }

@@ -10,7 +10,7 @@ use Rattle.cq_term.specs.Built.{Built}
 use Rattle.cq_term.specs.Built as built
 use Rattle.cq_term.specs.Meaning.{HeapTerm, at, blank, raw_cell, meanings}
 use Rattle.cq_term.specs.Rep.{Fits, IsHeap}
-use Rattle.cq_term.specs.Layout.{Contents, read, all_built, meant, IsKept, IsClosed, IsWhole, Leads}
+use Rattle.cq_term.specs.Layout.{Contents, with_var, read, all_built, meant, IsKept, IsClosed, IsWhole, Leads}
 use Rattle.cq_term.specs.Ground.{IsGround}
 use Rattle.cq_term.specs.declared.lists.Cell.{Cell}
 use Rattle.cq_term.specs.declared.lists.Cell.TheVariants as cell
@@ -127,9 +127,6 @@ module _ (x : Contents) (whole : IsWhole x) (wide : List ℚ) (args : List ℕ) 
       heap = subst (λ (l : List Built). IsHeap l x.vars x.bound x.order) (sym built_cell) (is_heap_cell (all_built x) x.vars x.bound x.order b whole.heap fits plain);
       closed = λ i d h g. subst (λ (l : List HeapTerm). IsGround (at l i)) (sym meant_cell) (closed_cells (raw_cell (meant x) b) closed i d h g);
     }
-
-abbrev pub with_var : Contents → Contents
-with_var x = record { cells = x.cells ++ cell.Var (length x.bound) ∷ []; wide = x.wide; args = x.args; vars = x.vars ++ length x.cells ∷ []; bound = x.bound ++ None ∷ []; order = x.order }
 
 module _ (x : Contents) (whole : IsWhole x) where
   built_var : all_built (with_var x) ≡ all_built x ++ built.Var (length x.bound) ∷ []

@@ -7,3 +7,5 @@ pub mod Marks
 pub mod Known
 pub mod Named
 pub mod Images
+pub mod Variables
+pub mod Reversed

@@ -12,7 +12,7 @@ use Rattle.cq_term.specs.Built.{Built}
 use Rattle.cq_term.specs.Built as built
 use Rattle.cq_term.specs.Meaning.{HeapTerm, at, raw_cell}
 use Rattle.cq_term.specs.Rep.{Fits, AllBelow, target}
-use Rattle.cq_term.specs.Layout.{Contents, IsWhole, IsMarked, IsWithin, IsEarlier, contents_at, terms_at, terms_of, unbinding, restored, read, all_built, meant, IsKept, IsClosed, Leads}
+use Rattle.cq_term.specs.Layout.{Contents, with_var, IsWhole, IsMarked, IsWithin, IsEarlier, contents_at, terms_at, terms_of, unbinding, restored, read, all_built, meant, IsKept, IsClosed, Leads}
 use Rattle.cq_term.specs.Ground.{IsGround}
 use Rattle.cq_term.specs.declared.lists.Cell.{Cell}
 use Rattle.cq_term.specs.declared.lists.Binding.{Binding}
@@ -21,7 +21,7 @@ use Rattle.cq_term.specs.declared.lists.Cell.TheVariants as cell
 use Rattle.cq_term.proofs.Meanings.{length-meanings}
 use Rattle.cq_term.proofs.Arguments.{absent_with_arguments}
 use Rattle.cq_term.proofs.Kept.{all_to_below, var_unbound}
-use Rattle.cq_term.proofs.Cells.{Longer, longer_same, longer_wide, longer_args, read_new, with_cell, with_var, with_binding, whole_cell, meant_cell, images_more, whole_var, whole_binding, whole_new}
+use Rattle.cq_term.proofs.Cells.{Longer, longer_same, longer_wide, longer_args, read_new, with_cell, with_binding, whole_cell, meant_cell, images_more, whole_var, whole_binding, whole_new}
 use Rattle.spec_lists.proofs.Places.{get-drop, get_push, get_take, map_same}
 
 -- each binding is of a variable that is there
@@ -40,7 +40,7 @@ unbind_last bs b m bound le =
     ∙ restore_last (map unbinding bs) (b.variable, None) m bound (rw length-map le)
     ∙ ap (λ (l : List (ℕ × Option ℕ)). restore l (set bound b.variable None)) (drop-map unbinding m bs)
 
-same_contents : {x y : Contents} → x.cells ≡ y.cells → x.wide ≡ y.wide → x.args ≡ y.args → x.vars ≡ y.vars → x.bound ≡ y.bound → x.order ≡ y.order → x ≡ y
+pub same_contents : {x y : Contents} → x.cells ≡ y.cells → x.wide ≡ y.wide → x.args ≡ y.args → x.vars ≡ y.vars → x.bound ≡ y.bound → x.order ≡ y.order → x ≡ y
 same_contents a b c d e f = λ i. record { cells = a i; wide = b i; args = c i; vars = d i; bound = e i; order = f i }
 
 -- a change after which each mark has what it had

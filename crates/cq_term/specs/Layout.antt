@@ -1,5 +1,5 @@
 -- How a heap lies in its lists, and what it keeps true now and at each mark.
-use Rattle.std.specs.Prelude.{◌≡◌, ℕ, ◌+◌, ◌<◌, ◌≤◌, List, map, take, drop, slice_index_or, slice_get, length, None, Some, IsTrue, ⊤}
+use Rattle.std.specs.Prelude.{◌≡◌, ℕ, zero, suc, ◌+◌, ◌<◌, ◌≤◌, List, [], ◌∷◌, ◌++◌, map, take, drop, slice_index_or, slice_get, length, None, Some, IsTrue, ⊤}
 use Rattle.std.specs.declared.option.Option.{Option}
 use Rattle.spec_rational.specs.Rational.{ℚ, int_ℚ, 0ℚ}
 use Rattle.cq_trail.specs.Log.{restore}
@@ -26,6 +26,14 @@ pub record Contents : Type 0 where
 
 abbrev pub contents : Lists → Contents
 contents l = record { cells = l.cells.items; wide = l.wide.items; args = l.args.items; vars = l.vars.items; bound = l.bound.items; order = l.order.items }
+
+-- with one more variable, which is the youngest and unbound
+abbrev pub with_var : Contents → Contents
+with_var x = record { cells = x.cells ++ cell.Var (length x.bound) ∷ []; wide = x.wide; args = x.args; vars = x.vars ++ length x.cells ∷ []; bound = x.bound ++ None ∷ []; order = x.order }
+
+abbrev pub with_vars : ℕ → Contents → Contents
+with_vars zero x = x
+with_vars (suc n) x = with_var (with_vars n x)
 
 -- what a cell was built as, by the wide numbers and the arguments beside it
 abbrev pub read : List ℚ → List ℕ → Cell → Built

@@ -1,15 +1,15 @@
 // A heap of terms: cells that stay as they were built, and the variables' bindings beside them.
 
-ghost use Rattle.std.specs.Prelude.{List, ℕ, ◌≡◌, ◌<◌, ◌≤◌, ◌++◌, [], ◌∷◌, map, length, All, slice_get, Some, IfOk, OnOk, OnErr, IsTrue};
+ghost use Rattle.std.specs.Prelude.{List, ℕ, ◌≡◌, ◌<◌, ◌≤◌, ◌^◌, ◌++◌, [], ◌∷◌, map, length, reverse, All, slice_get, Some, IfOk, OnOk, OnErr, IsTrue};
 ghost use Rattle.spec_terms.specs.Term.{Var, Number, Name, Occurs, with_arguments, apply, single};
 ghost use Rattle.spec_rational.specs.Rational.{int_ℚ};
 ghost use Rattle.cq_term.specs.Meaning.{at};
 ghost use Rattle.cq_term.specs.Ground.{IsGround};
 ghost use Rattle.cq_term.specs.Names.{HasNamesOfTerms};
-ghost use Rattle.cq_term.specs.Shown.{view_of, arguments, IsUnbound};
+ghost use Rattle.cq_term.specs.Shown.{view_of, arguments, variables_from, IsUnbound};
 
-use crate::lists::{Binding, Cell, Lists, unbind, word};
-use crate::names::TermId;
+use crate::lists::{Binding, Cell, Lists, push_reversed, unbind, word};
+use crate::names::{Newly, TermId};
 use crate::view::View;
 use cq_atoms::Atom;
 use cq_frac::{Frac, VarId};
@@ -27,14 +27,23 @@ struct Place {
     order: usize,
 }
 
+/// Lists that are done with, for their memory.
+#[derive(Drop)]
+struct Spare {
+    lists: Vec<Vec<TermId>>,
+    newly: Option<Newly>,
+}
+
 /// Finite terms by number, over variables that can be bound. Each id means one term, read through the bindings.
 /// A term takes a cell of 24 bytes, and a compound 8 more for each argument. `mark` takes constant time, `undo` the
-/// time of the bindings made since, and `forget` leaves nothing of the mark behind.
+/// time of the bindings made since, and `forget` leaves nothing of the mark behind. It lends empty lists too, whose memory
+/// was had before.
 #[derive(Drop)]
 pub struct Heap {
     lists: Lists,
     /// The live marks, the oldest first.
     marks: Vec<Place>,
+    spare: Spare,
     alloc: Global,
 }
 
@@ -74,6 +83,10 @@ impl Heap {
                 order: Vec::new(alloc),
             },
             marks: Vec::new(alloc),
+            spare: Spare {
+                lists: Vec::new(alloc),
+                newly: None,
+            },
             alloc,
         }
     }
@@ -168,6 +181,36 @@ impl Heap {
         Ok(TermId::new(id))
     }
 
+    /// The same of arguments of which the last stands first.
+    pub fn compound_reversed(&mut self, name: Atom, args: &[TermId]) -> Result<TermId, AllocError>
+        requires some { 0 < length args.now }
+        requires live { All (λ i. i < length self.old.now.terms) args.now }
+        ensures id { IfOk result (λ id. id ≡ length self.old.now.terms) }
+        ensures terms { OnOk result (self.new.now.terms ≡ self.old.now.terms ++ with_arguments name (map (at self.old.now.terms) (reverse args.now)) ∷ []) }
+        ensures images { OnOk result (self.new.now.images ≡ self.old.now.images) }
+        ensures saved { self.new.saved ≡ self.old.saved }
+        ensures room { self.old.room ≤ self.new.room }
+        ensures err { OnErr result (self.new.now ≡ self.old.now) }
+    {
+        let Ok(count) = u32::try_from(args.len()) else {
+            return Err(AllocError);
+        };
+        let id = self.lists.cells.len();
+        let ground = self.are_ground(args);
+        let start = self.lists.args.len();
+        self.lists.cells.reserve(1)?;
+        self.lists.args.reserve(args.len())?;
+        push_reversed(&mut self.lists.args, args);
+        let cell = Cell::Compound {
+            ground,
+            count,
+            name,
+            start,
+        };
+        self.lists.cells.push_reserved(cell);
+        Ok(TermId::new(id))
+    }
+
     /// Makes the youngest variable.
     pub fn new_var(&mut self) -> Result<TermId, AllocError>
         ensures id { IfOk result (λ id. id ≡ length self.old.now.terms) }
@@ -185,6 +228,21 @@ impl Heap {
         self.lists.vars.push(TermId::new(id)).unwrap();
         self.lists.bound.push(None).unwrap();
         Ok(TermId::new(id))
+    }
+
+    /// Makes so many variables, the oldest first, and says which number the first has. Fails for want of memory, with every
+    /// term as it was.
+    pub fn new_vars(&mut self, count: usize) -> Result<usize, AllocError>
+        ensures first { IfOk result (λ first. first ≡ length self.old.now.images) }
+        ensures few { OnOk result (length self.new.now.images < 2 ^ 64) }
+        ensures terms { OnOk result (self.new.now.terms ≡ self.old.now.terms ++ variables_from (length self.old.now.images) count) }
+        ensures images { OnOk result (self.new.now.images ≡ self.old.now.images ++ variables_from (length self.old.now.images) count) }
+        ensures saved { self.new.saved ≡ self.old.saved }
+        ensures room { self.old.room ≤ self.new.room }
+        ensures err { OnErr result (self.new.now ≡ self.old.now) }
+    {
+        let first = self.lists.add_vars(count)?;
+        Ok(first)
     }
 
     /// Binds an unbound variable to a term in which it doesn't stand: each live term is then read with that term in
@@ -299,6 +357,55 @@ impl Heap {
         ensures saved { All HasNamesOfTerms self.now.saved }
     {
         let _lists = &self.lists;
+    }
+
+    /// A variable that stands in a term is unbound.
+    pub fn variables_are_unbound(&self)
+        ensures { (id v : ℕ) → Occurs v (at self.now.now.terms id) → IsUnbound self.now.now.images v }
+    {
+        let _lists = &self.lists;
+    }
+
+    /// An empty list, with the memory of one that was kept, if there is one.
+    pub fn spare_list(&mut self) -> Vec<TermId>
+        ensures empty { result.items ≡ [] }
+        ensures same { self.new ≡ self.old }
+    {
+        match self.spare.lists.pop() {
+            Some(mut list) => {
+                list.clear();
+                list
+            }
+            None => Vec::new(self.alloc),
+        }
+    }
+
+    /// Keeps a list that is done with, for its memory. Where there is no memory to note it in, it is dropped.
+    pub fn keep_list(&mut self, list: Vec<TermId>)
+        ensures { self.new ≡ self.old }
+    {
+        let _ = self.spare.lists.push(list);
+    }
+
+    /// An empty list of variables, with the memory of the one that was kept, if there is one.
+    pub fn spare_newly(&mut self) -> Newly
+        ensures empty { result ≡ [] }
+        ensures same { self.new ≡ self.old }
+    {
+        match self.spare.newly.take() {
+            Some(mut newly) => {
+                newly.truncate(0);
+                newly
+            }
+            None => Newly::new(self.alloc),
+        }
+    }
+
+    /// Keeps a list of variables that is done with, for its memory, in place of the one that was kept.
+    pub fn keep_newly(&mut self, newly: Newly)
+        ensures { self.new ≡ self.old }
+    {
+        self.spare.newly = Some(newly);
     }
 }
 

@@ -1,12 +1,13 @@
 // The lists that a heap is made of: cells of one small size, and beside them what has no room there.
 
-ghost use Rattle.std.specs.Prelude.{ℕ, ◌≡◌, ◌≤◌, ◌<◌, length, take, drop, slice_get, Some, IfSome};
+ghost use Rattle.std.specs.Prelude.{ℕ, ◌≡◌, ◌≤◌, ◌<◌, ◌+◌, ◌++◌, length, take, drop, reverse, slice_get, vec_len, vec_capacity, Some, IfSome, IfOk, OnOk, OnErr};
 ghost use Rattle.spec_rational.specs.Rational.{int_ℚ};
-ghost use Rattle.cq_term.specs.Layout.{IsWhole, Leads, contents, restored};
+ghost use Rattle.cq_term.specs.Layout.{IsWhole, Leads, contents, restored, with_vars};
 
 use crate::names::TermId;
 use cq_atoms::Atom;
 use cq_frac::Frac;
+use std::alloc::AllocError;
 
 /// What was built: a variable, a number, a name, or a name over terms that were built before.
 #[derive(Clone, Copy, Debug)]
@@ -66,6 +67,26 @@ impl Lists {
         }
         end
     }
+
+    /// Makes so many variables, and says which number the first has. Fails for want of memory, with every list as it was.
+    pub fn add_vars(&mut self, count: usize) -> Result<usize, AllocError>
+        ensures first { IfOk result (λ first. first ≡ length self.old.bound.items) }
+        ensures ok { OnOk result (contents self.new ≡ with_vars count (contents self.old)) }
+        ensures err { OnErr result (contents self.new ≡ contents self.old) }
+    {
+        let first = self.bound.len();
+        self.cells.reserve(count)?;
+        self.vars.reserve(count)?;
+        self.bound.reserve(count)?;
+        for _made in 0..count {
+            let id = self.cells.len();
+            let variable = self.bound.len();
+            self.cells.push_reserved(Cell::Var(variable));
+            self.vars.push_reserved(TermId::new(id));
+            self.bound.push_reserved(None);
+        }
+        Ok(first)
+    }
 }
 
 /// The number as one word, where it is whole and fits.
@@ -77,6 +98,16 @@ pub(crate) fn word(number: Frac) -> Option<i64>
         i64::try_from(numerator).ok()
     } else {
         None
+    }
+}
+
+/// Puts ids behind a list that has room for them, the last one first.
+pub(crate) fn push_reversed(list: &mut Vec<TermId>, ids: &[TermId])
+    requires { vec_len list.old + length ids.now ≤ vec_capacity list.old }
+    ensures { list.new.items ≡ list.old.items ++ reverse ids.now }
+{
+    for i in (0..ids.len()).rev() {
+        list.push_reserved(ids[i]);
     }
 }
 

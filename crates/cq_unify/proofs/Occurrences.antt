@@ -1,17 +1,21 @@
 -- Whether a variable stands in one of the terms that are still to be visited.
-use Rattle.std.proofs.Common.{◌≡◌, ◌≢◌, ℕ, ◌<◌, List, [], ◌∷◌, ◌++◌, length, map, reverse, Some, refl, ap, sym, ◌∙◌, subst, inl, inr}
-use Rattle.std.specs.Prelude.{All, ◌↔◌, ◌⊎◌}
-use Rattle.std.proofs.lemmas.List.{reverse-append}
-use Rattle.std.proofs.lemmas.List.Elements.{All-append, All-same, All-pop}
+use Rattle.std.proofs.Common.{◌≡◌, ◌≢◌, ℕ, zero, suc, ◌+◌, ◌<◌, List, [], ◌∷◌, ◌++◌, length, map, take, get_or, reverse, Some, refl, ap, sym, ◌∙◌, subst, inl, inr, arith}
+use Rattle.std.specs.Prelude.{All, ◌↔◌, ◌⊎◌, slice_get}
+use Rattle.std.proofs.lemmas.List.{reverse-append, take_more}
+use Rattle.std.proofs.lemmas.List.Elements.{All-append, All-push, All-same, All-pop}
+use Rattle.std.proofs.lemmas.Option.{none-some, same_Some}
 use Rattle.spec_rational.specs.Rational.{ℚ}
-use Rattle.spec_terms.specs.Term.{Var, Number, Name, Compound, one, more, list_of, Occurs, OccursIn, Terms}
+use Rattle.spec_terms.specs.Term.{Var, Number, Name, Compound, one, more, list_of, Occurs, OccursIn, Terms, with_arguments}
 use Rattle.cq_term.specs.Meaning.{HeapTerm, at}
 use Rattle.cq_term.specs.Shown.{view_of, arguments}
 use Rattle.cq_term.specs.declared.view.View.{View}
 use Rattle.cq_term.specs.declared.view.View.TheVariants as view
+use Rattle.cq_term.proofs.Arguments.{absent_with_arguments, with_arguments-list_of}
+use Rattle.cq_term.proofs.Kept.{arg_is}
 use Rattle.cq_frac.specs.declared.VarId.{VarId}
 use Rattle.cq_walk.specs.Arguments.{PushesArguments}
 use Rattle.cq_walk.proofs.Arguments.{terms_pop, terms_push}
+use Rattle.cq_unify.specs.Work.{HasInnerCompound}
 
 -- the variable stands in one of the terms
 abbrev pub StandsAmong : ℕ → List HeapTerm → Type 0
@@ -117,3 +121,41 @@ not_in_constant (Number p) v shown h e o = o
 not_in_constant (Name b) v shown h e o = o
 not_in_constant (Var x) v shown h e o = elim h [ inl k ↦ (let d = k.1 in cc) | inr k ↦ (let d = k.1 in cc) ]
 not_in_constant (Compound g us) v shown h e o = elim h [ inl k ↦ (let d = k.1 in cc) | inr k ↦ (let d = k.1 in cc) ]
+
+-- ---- arguments of a compound that are looked at at their heads
+abbrev pub IsAbsent : List HeapTerm → ℕ → ℕ → Type 0
+IsAbsent ts v id = Occurs v (at ts id) → ⊥
+
+stands_in_list : (v : ℕ) (us : Terms ℕ) (u : HeapTerm) (i : ℕ) → slice_get (list_of us) i ≡ Some u → Occurs v u → OccursIn v us
+stands_in_list v (one t) u zero e o = subst (Occurs v) (sym (same_Some t u e)) o
+stands_in_list v (one t) u (suc i) e o = absurd (none-some u e)
+stands_in_list v (more t us) u zero e o = inl (subst (Occurs v) (sym (same_Some t u e)) o)
+stands_in_list v (more t us) u (suc i) e o = inr (stands_in_list v us u i e o)
+
+stands_in_argument : (v : ℕ) (t u : HeapTerm) (i : ℕ) → slice_get (arguments t) i ≡ Some u → Occurs v u → Occurs v t
+stands_in_argument v (Compound g us) u i e o = stands_in_list v us u i e o
+stands_in_argument v (Var x) u i e o = absurd (none-some u e)
+stands_in_argument v (Number x) u i e o = absurd (none-some u e)
+stands_in_argument v (Name x) u i e o = absurd (none-some u e)
+
+-- the arguments by their ids
+module _ (ts : List HeapTerm) (v : ℕ) (t : HeapTerm) (ids : List ℕ) (all : map (at ts) ids ≡ arguments t) where
+  module _ (i id : ℕ) (within : i < length ids) (is : id ≡ get_or ids i id) where
+    stands_here : slice_get (arguments t) i ≡ Some (at ts id)
+    stands_here = arg_is ts (arguments t) ids i id (sym all) within is
+
+    pub flat_found : at ts id ≡ Var v → Occurs v t
+    flat_found e = stands_in_argument v t (at ts id) i stands_here (subst (Occurs v) (sym e) refl)
+
+    pub flat_compound : (f n : ℕ) → view_of (at ts id) ≡ view.Compound f n → HasInnerCompound t
+    flat_compound f n e = record { place = i; argument = at ts id; stands = stands_here; name = f; arity = n; shown = e }
+
+    pub flat_past : All (IsAbsent ts v) (take i ids) → IsAbsent ts v id → All (IsAbsent ts v) (take (i + 1) ids)
+    flat_past before absent =
+        All-same (IsAbsent ts v) (take (i + 1) ids) (take i ids ++ id ∷ []) (take_more ids i id within ∙ ap (λ k. take i ids ++ k ∷ []) (sym is)) (All-push (IsAbsent ts v) (take i ids) id before absent)
+
+pub flat_absent : (ts : List HeapTerm) (v : ℕ) (t : HeapTerm) (ids : List ℕ) → map (at ts) ids ≡ arguments t → 0 < length (arguments t) → All (IsAbsent ts v) ids → Occurs v t → ⊥
+flat_absent ts v (Compound g us) ids all some absent o = absent_with_arguments ts g ids v absent (subst (Occurs v) (sym (ap (with_arguments g) all ∙ with_arguments-list_of g us)) o)
+flat_absent ts v (Var x) ids all some absent o = absurd (omega arith)
+flat_absent ts v (Number x) ids all some absent o = o
+flat_absent ts v (Name x) ids all some absent o = o

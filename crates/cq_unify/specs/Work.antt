@@ -1,11 +1,12 @@
 -- The work of a unification that is left: pairs of ids, seen as equations.
-use Rattle.std.specs.Prelude.{◌≡◌, ◌↔◌, ℕ, ◌<◌, List, length, map, All}
+use Rattle.std.specs.Prelude.{◌≡◌, ◌↔◌, ℕ, ◌<◌, List, length, map, All, slice_get, Some}
 use Rattle.spec_terms.specs.Term.{Subst, Var, Occurs, apply, single}
 use Rattle.spec_terms.specs.Unifier.{Equates, HasNoUnifier}
 use Rattle.cq_frac.specs.declared.VarId.{VarId}
-use Rattle.cq_term.specs.Meaning.{at}
+use Rattle.cq_term.specs.Meaning.{HeapTerm, at}
 use Rattle.cq_term.specs.HeapValue.{Terms}
-use Rattle.cq_term.specs.Shown.{IsUnbound}
+use Rattle.cq_term.specs.Shown.{view_of, arguments, IsUnbound}
+use Rattle.cq_term.specs.declared.view.View.TheVariants as view
 use Rattle.cq_walk.specs.Pairs.{IsLive, equations, HaveSameFunctor}
 use Rattle.cq_walk.specs.declared.pairs.Pair.{Pair}
 use Rattle.cq_unify.specs.declared.pairs.Demand.{Demand}
@@ -25,6 +26,15 @@ pub record IsBound (old new : Terms) (v : VarId) (t : ℕ) : Type 0 where
   pub apart : Occurs v.0 (at old.terms t) → ⊥
   pub terms : new.terms ≡ map (apply (single v.0 (at old.terms t))) old.terms
   pub images : new.images ≡ map (apply (single v.0 (at old.terms t))) old.images
+
+-- an argument of the term is a compound
+pub record HasInnerCompound (t : HeapTerm) : Type 0 where
+  pub place : ℕ
+  pub argument : HeapTerm
+  pub stands : slice_get (arguments t) place ≡ Some argument
+  pub name : ℕ
+  pub arity : ℕ
+  pub shown : view_of argument ≡ view.Compound name arity
 
 -- the substitution makes the two equal
 abbrev pub Joins : Subst ℕ → Terms → ℕ → ℕ → Type 0

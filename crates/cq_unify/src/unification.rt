@@ -19,8 +19,8 @@ use std::alloc::AllocError;
 
 /// Makes two terms equal by binding variables, or says that nothing does. Each variable is bound to a term in which
 /// it doesn't stand, and of two variables the younger to the older. The variables that get bound are told to `newly`
-/// in the order of their bindings. (Robinson 1965, with bindings in place of substituted terms.) Only two compounds
-/// take memory beside that for the bindings.
+/// in the order of their bindings. (Robinson 1965, with bindings in place of substituted terms.) Only two compounds,
+/// and a compound inside one that a variable is to become, take memory beside that for the bindings.
 pub fn unify(heap: &mut Heap, newly: &mut Newly, a: TermId, b: TermId) -> Result<bool, AllocError>
     requires a { a < length heap.old.now.terms }
     requires b { b < length heap.old.now.terms }

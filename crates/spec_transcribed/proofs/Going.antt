@@ -16,14 +16,15 @@ use Rattle.spec_transcript.specs.declared.Source.{Source}
 use Rattle.spec_transcript.specs.declared.Source.TheVariants.{File, Input}
 use Rattle.spec_transcript.specs.Purposes.{Purpose, Directive, Initialization, Query, Fact, once}
 use Rattle.spec_transcript.specs.Session as session
-use Rattle.spec_transcript.specs.Session.{Reader, beginning, Asker, ADirective, AQuery, Session, Opening, Reading, Searching, Over, Stands, begun, names_from, Mark, Marks, unmarked, MayGo, Step, Runs, Transcript}
+use Rattle.spec_transcript.specs.Session.{Reader, Asker, ADirective, AQuery, Session, Opening, Reading, Searching, Over, Stands, begun, names_from, Mark, Marks, unmarked, MayGo, Step, Runs, Transcript}
 use Rattle.spec_progress.proofs.Turning.{turn_sound}
 use Rattle.spec_progress.proofs.Progress.{start_sound}
 use Rattle.spec_transcribed.specs.Existing.{AreThere, AnswersHaveForms, IsAsking, IsReadySearch, IsReadyReader, IsReady}
 use Rattle.spec_transcribed.proofs.Numbered.{clause_numbered}
 use Rattle.spec_transcribed.proofs.Effects.{Kinds, quiet, selects, answered, threw, ended, kind_of}
 use Rattle.spec_transcribed.proofs.Searching.{search_ends}
-use Rattle.spec_transcribed.proofs.Reading.{Comes, behind, text_read, left_of, all_read}
+use Rattle.spec_transcribed.proofs.Clauses.{Comes}
+use Rattle.spec_transcribed.proofs.Reading.{behind, text_read, left_of, all_read}
 
 -- ---- steps
 

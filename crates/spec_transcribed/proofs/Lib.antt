@@ -1,5 +1,6 @@
 pub mod Numbered
 pub mod Effects
 pub mod Searching
+pub mod Clauses
 pub mod Reading
 pub mod Going

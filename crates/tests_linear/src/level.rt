@@ -79,19 +79,29 @@ const LARGE: Problem = Problem {
     asked: (&[(0, 1, 2)], -1),
 };
 
-static CASES: [(&Problem, u64, &str); 13] = [
+// By the second column alone it comes to zero.
+const FURTHER: Problem = Problem {
+    restricted_columns: 2,
+    free_columns: 0,
+    rows: &[(&[(0, -1, 1)], 1), (&[(1, -1, 1)], 5)],
+    asked: (&[(0, 1, 1), (1, 1, 1)], -5),
+};
+
+// A search may make so many exchanges, after a climb of as many.
+static CASES: [(&Problem, u64, &str); 14] = [
     (&AT_ZERO, 0, "level"),
     (&FREE_COLUMN, 0, "crossing by 1"),
     (&RISES, 0, "crossing by 0"),
     (&FALLS, 0, "crossing by 0"),
     (&COMES_UP, 0, "0 pivots and no end"),
     (&COMES_UP, 1, "level"),
-    (&COMES_DOWN, 1, "1 pivots and no end"),
-    (&COMES_DOWN, 2, "level"),
+    (&COMES_DOWN, 0, "0 pivots and no end"),
+    (&COMES_DOWN, 1, "level"),
+    (&FURTHER, 1, "level"),
     (&PASSES, 1, "crossing by 0"),
     (&STAYS_BELOW, 0, "short"),
-    (&STAYS_ABOVE, 1, "1 pivots and no end"),
-    (&STAYS_ABOVE, 2, "short"),
+    (&STAYS_ABOVE, 0, "0 pivots and no end"),
+    (&STAYS_ABOVE, 1, "short"),
     (&LARGE, 1, "a number past 128 bits"),
 ];
 
@@ -140,7 +150,7 @@ fn rows_are_levelled(rt: HostRuntime) -> Result<(), Fail> {
 fn lightest(alloc: Global, problem: &Problem) -> Result<Option<usize>, Fail> {
     let (dict, row) = made(alloc, problem)?;
     if row < dict.count() && dict.is_row(row) {
-        return Ok(lightest_column(&dict, row));
+        return Ok(lightest_column(&dict, row)?);
     }
     Ok(None)
 }

@@ -177,3 +177,40 @@ fn marks_find_their_room(rt: HostRuntime) -> Result<(), Fail> {
     assert!(rt; keeps_a_variable(rt.alloc())?);
     Ok(())
 }
+
+/// A compound over two numbers of which the last is given first.
+fn reads_reversed(heap: &mut Heap, name: Atom) -> Result<bool, AllocError> {
+    let one = heap.number(Frac::one())?;
+    let zero = heap.number(Frac::zero())?;
+    let whole = heap.compound_reversed(name, &[zero, one])?;
+    Ok(heap.view(whole) == View::Compound(name, 2) && heap.args(whole) == [one, zero].as_slice())
+}
+
+/// Whether variables that are made in one go follow those of before.
+fn makes_several(heap: &mut Heap) -> Result<bool, AllocError> {
+    let none = heap.new_vars(0)?;
+    let first = heap.new_vars(3)?;
+    let next = heap.new_vars(1)?;
+    Ok(none == 0 && first == 0 && next == 3)
+}
+
+/// Whether lists that were kept come back empty.
+fn lends_lists(heap: &mut Heap) -> Result<bool, AllocError> {
+    let mut list = heap.spare_list();
+    let term = heap.new_var()?;
+    list.push(term)?;
+    heap.keep_list(list);
+    let mut newly = heap.spare_newly();
+    newly.push(VarId(3))?;
+    heap.keep_newly(newly);
+    Ok(heap.spare_list().is_empty() && heap.spare_newly().as_slice().is_empty())
+}
+
+#[test]
+fn terms_are_built_in_one_go(rt: HostRuntime) -> Result<(), Fail> {
+    let name = f_named(rt.alloc())?;
+    assert!(rt; reads_reversed(&mut Heap::new(rt.alloc()), name)?);
+    assert!(rt; makes_several(&mut Heap::new(rt.alloc()))?);
+    assert!(rt; lends_lists(&mut Heap::new(rt.alloc()))?);
+    Ok(())
+}

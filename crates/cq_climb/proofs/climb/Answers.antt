@@ -19,7 +19,7 @@ loop-init c = record {
 }
 
 pub pivot-requires : goal.pivot-requires
-pivot-requires c = rise_entry c.loop.dict.restricted c.args.row c.loop.dict.roles c.in-Some.rise c.in-Some.ensures
+pivot-requires c = rise_entry c.loop.dict.restricted c.args.row c.loop.dict.roles c.in-Some.rise.entering c.in-Some.rise.leaving c.in-Some.ensures.raises c.in-Some.ensures.leaves
 
 pub loop-preserved : goal.loop-preserved
 loop-preserved c =
@@ -31,9 +31,9 @@ loop-preserved c =
       flags = x.flags ∙ c.loop.invariant.flags;
       saved = x.saved ∙ c.loop.invariant.saved;
       room = omega (arith, x.room, c.loop.invariant.room);
-      carried = carried_on old.restricted c.args.row c.loop.dict.roles c.in-Some.rise is old.roles c.pivot.new.self.roles carried x.same x.kinds x.table;
+      carried = carried_on old.restricted c.args.row c.loop.dict.roles c.in-Some.rise.entering c.in-Some.rise.leaving is.raises is.leaves old.roles c.pivot.new.self.roles carried x.same x.kinds x.table;
       higher = le_trans c.loop.invariant.higher
-          (rises_on old.restricted c.args.row c.loop.dict.roles c.in-Some.rise is old.roles c.pivot.new.self.roles carried x.same x.kinds x.table);
+          (rises_on old.restricted c.args.row c.loop.dict.roles c.in-Some.rise.entering c.in-Some.rise.leaving is.raises is.leaves old.roles c.pivot.new.self.roles carried x.same x.kinds x.table);
     }
 
 pub returns-then-is_some-clause-higher : goal.returns-then-is_some-clause-higher

@@ -1,4 +1,4 @@
-use Rattle.std.proofs.Common.{ℕ, List, [], ◌∷◌, ◌<◌, ◌≡◌, ◌-◌, length, refl, ap, ◌∙◌, arith, subst}
+use Rattle.std.proofs.Common.{List, [], ◌∷◌, ◌<◌, ◌≡◌, ◌-◌, length, refl, ap, arith, subst}
 use Rattle.cq_clauses.specs.Walks.{HasNoneLeft}
 use Rattle.cq_control.specs.Open.{open_choices}
 use Rattle.cq_steps.specs.Worlds.{saved_values}

@@ -1,4 +1,4 @@
-use Rattle.std.proofs.Common.{◌≡◌, ◌∷◌, List, ◌-◌, length, Some, refl, sym, ap, ap₂, ◌∙◌, arith, subst}
+use Rattle.std.proofs.Common.{◌≡◌, ◌<◌, ◌∷◌, List, ◌-◌, length, Some, inr, refl, sym, ap, ap₂, ◌∙◌, arith, subst}
 use Rattle.std.specs.Prelude.{slice_get, Err}
 use Rattle.cq_clauses.specs.declared.walk.Walk.{Walk}
 use Rattle.cq_control.specs.Items.{ContinuationsValue}
@@ -11,301 +11,243 @@ use Rattle.cq_world.specs.Worlds.{saved_of}
 use Rattle.cq_world.specs.declared.world.World.{World}
 use Rattle.spec_machine.specs.declared.cell.Cell.{Cell}
 use Rattle.spec_machine.specs.Cells.{Value}
-use Rattle.cq_steps.specs.Worlds.{saved_values, value}
-use Rattle.cq_steps.specs.declared.alternatives.Alternatives.{Alternatives}
+use Rattle.cq_steps.specs.Worlds.{Grown, saved_values, value}
 use Rattle.cq_steps.specs.declared.alternatives.Alternatives.TheVariants.{Clauses}
-use Rattle.cq_steps.proofs.Budgets.{same_budget}
-use Rattle.cq_steps.proofs.Older.{newest_gone}
 use Rattle.cq_begin.specs.declared.beginning.Begun.TheVariants.{Goes, Pruned}
 use Rattle.cq_begin.proofs.Back.{back_still}
 use Rattle.cq_calls.specs.Trying.{Leaves}
-use Rattle.cq_calls.proofs.Left.{Opened, AreLeft, opened_is, same-first, open_same, marked_same, of_content, length-opened, are_left, open_still, put_newest, changed_newest}
-use Rattle.cq_calls.proofs.Newest.{is_walk, arrives_past, fewer_past, open_past, begins_ready, begins_goal, begins_rest, arrives_left, fewer_wait, open_left, fault_stops}
+use Rattle.cq_calls.proofs.Left.{Opened, AreLeft, open_same, marked_same, of_content, length-opened, are_left, open_still, replaced, changed_newest}
+use Rattle.cq_calls.proofs.Newest.{arrives_left, fewer_wait, open_left, fault_stops}
+use Rattle.cq_calls.proofs.Waiting.{same_grown, keeps_on, keeps_both}
 use Rattle.cq_calls.proofs.trying.try_clause.Goals as goal
-use Rattle.cq_calls.proofs.trying.try_clause.Goals.{After-back, After-retry, After-height-height, After-clause-clause, After-leave_untried, After-replace_at}
+use Rattle.cq_calls.proofs.trying.try_clause.Goals.{After-height-height, After-clause-clause, After-leave_untried, After-replace_at}
 
-pub step-requires : goal.step-requires
-step-requires c =
-    let saved = saved_values c.args.world.now.first c.args.world.now.second.saved in
-    let o = opened_is saved c.args.choices.now c.requires.newest.0 (Clauses c.args.goal c.args.walk c.args.rest) c.requires.marked c.requires.newest.1 in
-    is_walk c.args.atoms.now c.args.clauses.now saved c.args.choices.now (value c.args.world.now.first c.args.world.now.second.now) o.0 c.args.goal c.args.rest c.args.walk o.1 o.2 c.requires.open
-
--- ---- no clause is left
-
-went_past : (c : After-back) → open_choices (saved_values c.args.world.now.first c.args.world.now.second.saved) c.args.choices.now
-    ≡ (value c.back.new.world.first c.back.new.world.second.now, Clauses c.args.goal c.args.walk c.args.rest)
-    ∷ open_choices (saved_values c.back.new.world.first c.back.new.world.second.saved) c.back.new.self
-went_past c =
-    newest_gone c.back.result c.args.choices.now c.back.new.self c.requires.newest.0 (Clauses c.args.goal c.args.walk c.args.rest)
-    (λ (x : Alternatives). open_choices (saved_values c.args.world.now.first c.args.world.now.second.saved) c.args.choices.now
-    ≡ (value c.back.new.world.first c.back.new.world.second.now, x) ∷ open_choices (saved_values c.back.new.world.first c.back.new.world.second.saved) c.back.new.self)
-    c.back.ensures.none c.back.ensures.contents c.back.ensures.open c.requires.newest.1
-
-pub returns-in_default-clause-comes : goal.returns-in_default-clause-comes
-returns-in_default-clause-comes c = λ steps db n s j.
-    let later = value c.back.new.world.first c.back.new.world.second.now in
-    let fewer = saved_values c.back.new.world.first c.back.new.world.second.saved in
-    arrives_past c.args.atoms.now c.args.clauses.now (saved_values c.args.world.now.first c.args.world.now.second.saved) c.args.choices.now
-    (value c.args.world.now.first c.args.world.now.second.now) later c.args.goal c.args.rest c.args.walk (open_choices fewer c.back.new.self)
-    (went_past (goal.at.returns-in_default-clause-comes c).After-back) db n s fewer c.back.new.self later steps c.in_default.ensures.none refl j
-
-pub returns-in_default-clause-left : goal.returns-in_default-clause-left
-returns-in_default-clause-left c =
-    let newest = Clauses c.args.goal c.args.walk c.args.rest in (
-      newest,
-      newest_gone c.back.result c.args.choices.now c.back.new.self c.requires.newest.0 newest (λ (x : Alternatives). c.args.choices.now ≡ x ∷ c.back.new.self)
-          c.back.ensures.none c.back.ensures.contents c.back.ensures.contents c.requires.newest.1,
-    )
-
-pub returns-in_default-clause-fewer : goal.returns-in_default-clause-fewer
-returns-in_default-clause-fewer c =
-    let later = value c.back.new.world.first c.back.new.world.second.now in
-    let fewer = saved_values c.back.new.world.first c.back.new.world.second.saved in
-    fewer_past c.args.atoms.now c.args.clauses.now (saved_values c.args.world.now.first c.args.world.now.second.saved) c.args.choices.now
-    (value c.args.world.now.first c.args.world.now.second.now) later c.args.goal c.args.rest c.args.walk (open_choices fewer c.back.new.self)
-    (went_past (goal.at.returns-in_default-clause-fewer c).After-back) fewer c.back.new.self c.in_default.ensures.none refl
-
-pub returns-in_default-clause-open : goal.returns-in_default-clause-open
-returns-in_default-clause-open c =
-    let later = value c.back.new.world.first c.back.new.world.second.now in
-    let fewer = saved_values c.back.new.world.first c.back.new.world.second.saved in
-    open_past c.args.atoms.now c.args.clauses.now (saved_values c.args.world.now.first c.args.world.now.second.saved) c.args.choices.now
-    (value c.args.world.now.first c.args.world.now.second.now) later c.args.goal c.args.rest c.args.walk (open_choices fewer c.back.new.self)
-    (went_past (goal.at.returns-in_default-clause-open c).After-back) fewer c.back.new.self c.requires.open refl
-
-pub returns-in_default-clause-budget : goal.returns-in_default-clause-budget
-returns-in_default-clause-budget c =
-    same_budget c.args.world.now.first c.args.world.now.second.saved c.args.choices.now (value c.back.new.world.first c.back.new.world.second.now)
-    (Clauses c.args.goal c.args.walk c.args.rest) (open_choices (saved_values c.back.new.world.first c.back.new.world.second.saved) c.back.new.self)
-    (went_past (goal.at.returns-in_default-clause-budget c).After-back)
-
--- ---- the next clause is begun
-
-abbrev before : (c : After-retry) → List (Value Contents)
+abbrev before : (c : After-clause-clause) → List (Value Contents)
 before c = saved_values c.args.world.now.first c.args.world.now.second.saved
 
-abbrev now : (c : After-retry) → Value Contents
+abbrev now : (c : After-clause-clause) → Value Contents
 now c = value c.args.world.now.first c.args.world.now.second.now
 
-abbrev back : (c : After-retry) → Value Contents
-back c = value c.retry.new.world.first c.retry.new.world.second.now
+-- what the choice goes back to
+abbrev back : (c : After-clause-clause) → Value Contents
+back c = c.requires.next.trying.back
 
-abbrev others : (c : After-retry) → Opened
-others c = c.retry.ensures.open.0
+abbrev others : (c : After-clause-clause) → Opened
+others c = c.requires.next.trying.others
 
--- the world goes back to that of the choice, which stays
-was : (c : After-retry) → open_choices (before c) c.args.choices.now ≡ (back c, Clauses c.args.goal c.args.walk c.args.rest) ∷ others c
-was c =
-    c.retry.ensures.open.1
-    ∙ ap (λ (x : Alternatives). (back c, x) ∷ others c)
-    (same-first c.retry.result (Clauses c.args.goal c.args.walk c.args.rest) c.retry.ensures.contents.0 c.requires.newest.0 (sym c.retry.ensures.contents.1 ∙ c.requires.newest.1))
+abbrev walk : (c : After-clause-clause) → Walk
+walk c = c.requires.next.walk
 
-still : (c : After-retry) → open_choices (saved_values c.retry.new.world.first c.retry.new.world.second.saved) c.retry.new.self
-    ≡ (back c, Clauses c.args.goal c.args.walk c.args.rest) ∷ others c
-still c = c.retry.ensures.open.2 ∙ ap (λ (x : Walk). (back c, Clauses c.args.goal x c.args.rest) ∷ others c) c.new.ensures
+was : (c : After-clause-clause) → open_choices (before c) c.args.choices.now ≡ (back c, Clauses c.args.goal (walk c) c.args.rest) ∷ others c
+was c = c.requires.next.trying.goes_back
 
-same_exchanges : (c : After-retry) → c.retry.new.world.first.store.pivots ≡ c.args.world.now.first.store.pivots
-same_exchanges c =
-    same_budget c.args.world.now.first c.args.world.now.second.saved c.args.choices.now (back c) (Clauses c.args.goal c.args.walk c.args.rest) (others c) (was c)
+grown : (c : After-clause-clause) → Grown c.args.atoms.now (back c) (now c)
+grown c = (let t = c.requires.next.trying in same_grown c.args.atoms.now t.back.0 (now c).0 t.back.1 (now c).1 t.world t.lists)
 
-module _ (c : After-retry) where
+module _ (c : After-clause-clause) where
   -- what is left of the choice, over a world with the same marks
-  left_then : (w : World) (lists : ContinuationsValue Cell) → saved_of w ≡ saved_of c.retry.new.world.first → lists.saved ≡ c.retry.new.world.second.saved → (left : Walk) (o : Opened)
-      → Leaves (Clauses c.args.goal left c.args.rest) left (open_choices (saved_values w lists.saved) c.retry.new.self) o
-      → AreLeft (Clauses c.args.goal left c.args.rest) left (back c) (others c) o
-  left_then w lists e f left o l =
-      are_left (Clauses c.args.goal left c.args.rest) left (back c) (Clauses c.args.goal c.args.walk c.args.rest) (others c) (open_choices (saved_values w lists.saved) c.retry.new.self) o
-      (open_same c.retry.new.world.first w c.retry.new.world.second.saved lists.saved c.retry.new.self _ e f (still c)) l
+  left_then : (w : World) (lists : ContinuationsValue Cell) → saved_of w ≡ saved_of c.args.world.now.first → lists.saved ≡ c.args.world.now.second.saved → (o : Opened)
+      → Leaves (Clauses c.args.goal c.args.left.now c.args.rest) c.args.left.now (open_choices (saved_values w lists.saved) c.args.choices.now) o
+      → AreLeft (Clauses c.args.goal c.args.left.now c.args.rest) c.args.left.now (back c) (others c) o
+  left_then w lists e f o l =
+      are_left (Clauses c.args.goal c.args.left.now c.args.rest) c.args.left.now (back c) (Clauses c.args.goal (walk c) c.args.rest) (others c)
+      (open_choices (saved_values w lists.saved) c.args.choices.now) o
+      (open_same c.args.world.now.first w c.args.world.now.second.saved lists.saved c.args.choices.now _ e f (was c)) l
 
-  marked_then : (w : World) (lists : ContinuationsValue Cell) → saved_of w ≡ saved_of c.retry.new.world.first → lists.saved ≡ c.retry.new.world.second.saved
-      → AreMarked (saved_values w lists.saved) c.retry.new.self
-  marked_then w lists e f = marked_same c.retry.new.world.first w c.retry.new.world.second.saved lists.saved c.retry.new.self e f c.retry.ensures.marked
+  marked_then : (w : World) (lists : ContinuationsValue Cell) → saved_of w ≡ saved_of c.args.world.now.first → lists.saved ≡ c.args.world.now.second.saved
+      → AreMarked (saved_values w lists.saved) c.args.choices.now
+  marked_then w lists e f = marked_same c.args.world.now.first w c.args.world.now.second.saved lists.saved c.args.choices.now e f c.requires.marked
 
-high : (c : After-height-height) → c.height-height.result - 1 ≡ length c.retry.ensures.open.0
+pub overflow_sub-height : goal.overflow_sub-height
+overflow_sub-height c = omega (arith, c.height-height.ensures, ap length c.requires.next.trying.newest)
+
+high : (c : After-height-height) → c.height-height.result - 1 ≡ length c.requires.next.trying.others
 high c =
     omega (
       arith,
       c.height-height.ensures,
-      ap length c.retry.ensures.contents.2,
-      ap length c.retry.ensures.contents.1,
-      ap length c.retry.ensures.open.1,
+      ap length c.requires.next.trying.newest,
+      ap length c.requires.next.trying.goes_back,
       length-opened (saved_values c.args.world.now.first c.args.world.now.second.saved) c.args.choices.now c.requires.marked,
     )
 
-kept_is : (c : After-clause-clause) → slice_get c.args.clauses.now.contents c.in-Some.number ≡ Some c.clause-clause.result.now
+kept_is : (c : After-clause-clause) → slice_get c.args.clauses.now.contents c.args.number ≡ Some c.clause-clause.result.now
 kept_is c = c.content.ensures ∙ ap (λ (x : ClauseValue). Some x) (sym c.clause-clause.ensures)
-
-pub begin_clause-requires-clause-ready : goal.begin_clause-requires-clause-ready
-begin_clause-requires-clause-ready c =
-    let r = (goal.at.begin_clause-requires-clause-ready c).After-retry in
-    let j = c.requires.works in
-    begins_ready c.args.atoms.now c.args.clauses.now (before r) c.args.choices.now (now r) (back r) c.args.goal c.args.rest c.args.walk (others r) (was r)
-    c.step.new.walk c.in-Some.number c.in-Some.ensures.some j.0 j.1 j.2 j.3
-
-pub begin_clause-requires-clause-goal : goal.begin_clause-requires-clause-goal
-begin_clause-requires-clause-goal c =
-    let r = (goal.at.begin_clause-requires-clause-goal c).After-retry in
-    let j = c.requires.works in
-    begins_goal c.args.atoms.now c.args.clauses.now (before r) c.args.choices.now (now r) (back r) c.args.goal c.args.rest c.args.walk (others r) (was r)
-    c.step.new.walk c.in-Some.number c.in-Some.ensures.some j.0 j.1 j.2 j.3
-
-pub begin_clause-requires-clause-rest : goal.begin_clause-requires-clause-rest
-begin_clause-requires-clause-rest c =
-    let r = (goal.at.begin_clause-requires-clause-rest c).After-retry in
-    let j = c.requires.works in
-    begins_rest c.args.atoms.now c.args.clauses.now (before r) c.args.choices.now (now r) (back r) c.args.goal c.args.rest c.args.walk (others r) (was r)
-    c.step.new.walk c.in-Some.number c.in-Some.ensures.some j.0 j.1 j.2 j.3
 
 pub begin_clause-requires-clause-clause : goal.begin_clause-requires-clause-clause
 begin_clause-requires-clause-clause c =
-    of_content (IsCounted (length c.args.atoms.now)) c.args.clauses.now.contents c.in-Some.number c.clause-clause.result.now c.requires.program.contents c.in-Some.ensures.known
+    of_content (IsCounted (length c.args.atoms.now)) c.args.clauses.now.contents c.args.number c.clause-clause.result.now c.requires.program.contents c.requires.known
     (kept_is (goal.at.begin_clause-requires-clause-clause c).After-clause-clause)
 
 -- ---- its branch is kept
 
 pub leave_untried-requires-clause-marked : goal.leave_untried-requires-clause-marked
 leave_untried-requires-clause-marked c =
-    marked_then (goal.at.leave_untried-requires-clause-marked c).After-retry c.begin_clause.new.world c.begin_clause.new.lists c.in-Ok.ensures.saved c.in-Ok.ensures.lists
+    marked_then (goal.at.leave_untried-requires-clause-marked c).After-clause-clause c.begin_clause.new.world c.begin_clause.new.lists c.in-Ok.ensures.saved c.in-Ok.ensures.lists
 
 pub leave_untried-requires-clause-some : goal.leave_untried-requires-clause-some
-leave_untried-requires-clause-some c = omega (arith, ap length c.retry.ensures.contents.2)
+leave_untried-requires-clause-some c = omega (arith, ap length c.requires.next.trying.newest)
 
 -- what is left, by the walk
 left_by : (c : After-leave_untried)
-    → Leaves (Clauses c.args.goal c.step.new.walk c.args.rest) c.step.new.walk (open_choices (saved_values c.begin_clause.new.world c.begin_clause.new.lists.saved) c.retry.new.self)
+    → Leaves (Clauses c.args.goal c.args.left.now c.args.rest) c.args.left.now (open_choices (saved_values c.begin_clause.new.world c.begin_clause.new.lists.saved) c.args.choices.now)
     (open_choices (saved_values c.leave_untried.new.world.first c.leave_untried.new.world.second.saved) c.leave_untried.new.choices)
 left_by c =
-    subst (λ (x : Walk). Leaves (Clauses c.args.goal x c.args.rest) c.step.new.walk (open_choices (saved_values c.begin_clause.new.world c.begin_clause.new.lists.saved) c.retry.new.self)
+    subst (λ (x : Walk). Leaves (Clauses c.args.goal x c.args.rest) c.args.left.now (open_choices (saved_values c.begin_clause.new.world c.begin_clause.new.lists.saved) c.args.choices.now)
     (open_choices (saved_values c.leave_untried.new.world.first c.leave_untried.new.world.second.saved) c.leave_untried.new.choices)) c.new-untried.ensures c.leave_untried.ensures.leaves
 
 pub returns-in-Goes-clause-comes : goal.returns-in-Goes-clause-comes
 returns-in-Goes-clause-comes c = λ steps db n s j.
-    let r = (goal.at.returns-in-Goes-clause-comes c).After-retry in
+    let r = (goal.at.returns-in-Goes-clause-comes c).After-clause-clause in
     let fewer = saved_values c.leave_untried.new.world.first c.leave_untried.new.world.second.saved in
-    arrives_left c.args.atoms.now c.args.clauses.now (before r) c.args.choices.now (now r) (back r) c.args.goal c.args.rest c.args.walk (others r) (was r)
-    c.step.new.walk c.in-Some.number c.in-Some.ensures.some db n s j c.clause-clause.result.now (kept_is (goal.at.returns-in-Goes-clause-comes c).After-clause-clause)
+    arrives_left c.args.atoms.now c.args.clauses.now (before r) c.args.choices.now (now r) (back r) c.args.goal c.args.rest (walk r) (others r) (was r)
+    c.args.left.now c.args.number c.requires.next.next db n s j (now r) (grown r) c.clause-clause.result.now (kept_is (goal.at.returns-in-Goes-clause-comes c).After-clause-clause)
     (c.height-height.result - 1) (high (goal.at.returns-in-Goes-clause-comes c).After-height-height)
     (value c.begin_clause.new.world c.begin_clause.new.lists.now) (value c.leave_untried.new.world.first c.leave_untried.new.world.second.now)
     (ap₂ (λ (x : Contents) (l : List (List Cell)). (x, l)) c.leave_untried.ensures.first c.leave_untried.ensures.lists) (Goes c.in-Goes.first) (rw c.in-Goes.is at c.in-Ok.ensures.comes)
     fewer c.leave_untried.new.choices steps
-    (left_then r c.begin_clause.new.world c.begin_clause.new.lists c.in-Ok.ensures.saved c.in-Ok.ensures.lists c.step.new.walk (open_choices fewer c.leave_untried.new.choices)
+    (left_then r c.begin_clause.new.world c.begin_clause.new.lists c.in-Ok.ensures.saved c.in-Ok.ensures.lists (open_choices fewer c.leave_untried.new.choices)
     (left_by (goal.at.returns-in-Goes-clause-comes c).After-leave_untried))
 
 pub returns-in-Goes-clause-fewer : goal.returns-in-Goes-clause-fewer
 returns-in-Goes-clause-fewer c =
-    let r = (goal.at.returns-in-Goes-clause-fewer c).After-retry in
+    let r = (goal.at.returns-in-Goes-clause-fewer c).After-clause-clause in
     let fewer = saved_values c.leave_untried.new.world.first c.leave_untried.new.world.second.saved in
-    fewer_wait c.args.atoms.now c.args.clauses.now (before r) c.args.choices.now (now r) (back r) c.args.goal c.args.rest c.args.walk (others r) (was r)
-    c.step.new.walk c.in-Some.number c.in-Some.ensures.some fewer c.leave_untried.new.choices
-    (left_then r c.begin_clause.new.world c.begin_clause.new.lists c.in-Ok.ensures.saved c.in-Ok.ensures.lists c.step.new.walk (open_choices fewer c.leave_untried.new.choices)
+    fewer_wait c.args.atoms.now c.args.clauses.now (before r) c.args.choices.now (now r) (back r) c.args.goal c.args.rest (walk r) (others r) (was r)
+    c.args.left.now c.args.number c.requires.next.next fewer c.leave_untried.new.choices
+    (left_then r c.begin_clause.new.world c.begin_clause.new.lists c.in-Ok.ensures.saved c.in-Ok.ensures.lists (open_choices fewer c.leave_untried.new.choices)
     (left_by (goal.at.returns-in-Goes-clause-fewer c).After-leave_untried))
 
 pub returns-in-Goes-clause-open : goal.returns-in-Goes-clause-open
-returns-in-Goes-clause-open c =
-    let r = (goal.at.returns-in-Goes-clause-open c).After-retry in
+returns-in-Goes-clause-open c = λ o.
+    let r = (goal.at.returns-in-Goes-clause-open c).After-clause-clause in
     let fewer = saved_values c.leave_untried.new.world.first c.leave_untried.new.world.second.saved in
-    open_left c.args.atoms.now c.args.clauses.now (before r) c.args.choices.now (now r) (back r) c.args.goal c.args.rest c.args.walk (others r) (was r)
-    fewer c.leave_untried.new.choices c.step.new.walk c.in-Some.ensures.opened c.requires.open
-    (left_then r c.begin_clause.new.world c.begin_clause.new.lists c.in-Ok.ensures.saved c.in-Ok.ensures.lists c.step.new.walk (open_choices fewer c.leave_untried.new.choices)
+    open_left c.args.atoms.now c.args.clauses.now (before r) c.args.choices.now (now r) (back r) c.args.goal c.args.rest (walk r) (others r) (was r)
+    fewer c.leave_untried.new.choices c.args.left.now c.requires.next.opened o
+    (left_then r c.begin_clause.new.world c.begin_clause.new.lists c.in-Ok.ensures.saved c.in-Ok.ensures.lists (open_choices fewer c.leave_untried.new.choices)
     (left_by (goal.at.returns-in-Goes-clause-open c).After-leave_untried))
 
 pub returns-in-Goes-clause-budget : goal.returns-in-Goes-clause-budget
 returns-in-Goes-clause-budget c =
-    ap (λ (x : Contents). x.pivots) c.leave_untried.ensures.first ∙ c.in-Ok.ensures.budget ∙ same_exchanges (goal.at.returns-in-Goes-clause-budget c).After-retry
+    ap (λ (x : Contents). x.pivots) c.leave_untried.ensures.first ∙ c.in-Ok.ensures.budget
+
+pub returns-in-Goes-clause-there : goal.returns-in-Goes-clause-there
+returns-in-Goes-clause-there c = subst (λ (ls : List (List Cell)). c.in-Goes.first < length ls) (sym c.leave_untried.ensures.lists) (rw c.in-Goes.is at c.in-Ok.ensures.there)
+
+pub returns-in-Goes-clause-lists : goal.returns-in-Goes-clause-lists
+returns-in-Goes-clause-lists c =
+    keeps_on c.args.world.now.second.now c.begin_clause.new.lists.now c.leave_untried.new.world.second.now c.in-Ok.ensures.keeps c.leave_untried.ensures.lists
 
 -- ---- it is pruned
 
-put_back : (c : After-replace_at) → c.replace_at.new.self ≡ Clauses c.args.goal c.step.new.walk c.args.rest ∷ c.retry.ensures.contents.0
+put_back : (c : After-replace_at) → c.replace_at.new.self ≡ Clauses c.args.goal c.args.left.now c.args.rest ∷ c.requires.next.trying.older
 put_back c =
-    changed_newest c.replace_at.ensures.0 c.retry.new.self c.replace_at.new.self c.retry.ensures.contents.0 (Clauses c.args.goal c.new.result c.args.rest) c.replace_at.result
-    (Clauses c.args.goal c.new-untried.result c.args.rest) (c.height-height.result - 1) c.retry.ensures.contents.2
-    (omega (arith, c.height-height.ensures, ap length c.retry.ensures.contents.2)) c.replace_at.ensures.1 c.replace_at.ensures.2
-    ∙ ap (λ (x : Walk). Clauses c.args.goal x c.args.rest ∷ c.retry.ensures.contents.0) c.new-untried.ensures
+    changed_newest c.replace_at.ensures.0 c.args.choices.now c.replace_at.new.self c.requires.next.trying.older (Clauses c.args.goal c.requires.next.walk c.args.rest) c.replace_at.result
+    (Clauses c.args.goal c.new-untried.result c.args.rest) (c.height-height.result - 1) c.requires.next.trying.newest
+    (omega (arith, c.height-height.ensures, ap length c.requires.next.trying.newest)) c.replace_at.ensures.1 c.replace_at.ensures.2
+    ∙ ap (λ (x : Walk). Clauses c.args.goal x c.args.rest ∷ c.requires.next.trying.older) c.new-untried.ensures
 
-leaves_others : (c : After-replace_at) → AreMarked (saved_values c.begin_clause.new.world c.begin_clause.new.lists.saved) c.retry.new.self
-    → Leaves (Clauses c.args.goal c.step.new.walk c.args.rest) c.step.new.walk (open_choices (saved_values c.begin_clause.new.world c.begin_clause.new.lists.saved) c.retry.new.self)
-    (open_choices (saved_values c.begin_clause.new.world c.begin_clause.new.lists.saved) c.replace_at.new.self)
-leaves_others c marked =
-    put_newest (Clauses c.args.goal c.step.new.walk c.args.rest) c.step.new.walk (saved_values c.begin_clause.new.world c.begin_clause.new.lists.saved) c.retry.new.self c.replace_at.new.self
-    c.retry.ensures.contents.0 (Clauses c.args.goal c.new.result c.args.rest) marked c.retry.ensures.contents.2 (put_back c)
+left_open : (c : After-replace_at) → saved_of c.begin_clause.new.world ≡ saved_of c.args.world.now.first → c.begin_clause.new.lists.saved ≡ c.args.world.now.second.saved
+    → open_choices (saved_values c.begin_clause.new.world c.begin_clause.new.lists.saved) c.replace_at.new.self
+    ≡ (c.requires.next.trying.back, Clauses c.args.goal c.args.left.now c.args.rest) ∷ c.requires.next.trying.others
+left_open c e f =
+    let t = c.requires.next.trying in
+    replaced (saved_values c.begin_clause.new.world c.begin_clause.new.lists.saved) c.args.choices.now c.replace_at.new.self t.older
+    (Clauses c.args.goal c.requires.next.walk c.args.rest) (Clauses c.args.goal c.args.left.now c.args.rest) t.back t.others t.newest (put_back c)
+    (open_same c.args.world.now.first c.begin_clause.new.world c.args.world.now.second.saved c.begin_clause.new.lists.saved c.args.choices.now _ e f t.goes_back)
 
 pub returns-in-Pruned-clause-comes : goal.returns-in-Pruned-clause-comes
 returns-in-Pruned-clause-comes c = λ steps db n s j.
-    let r = (goal.at.returns-in-Pruned-clause-comes c).After-retry in
+    let r = (goal.at.returns-in-Pruned-clause-comes c).After-clause-clause in
     let x = (goal.at.returns-in-Pruned-clause-comes c).After-replace_at in
     let saved = saved_values c.begin_clause.new.world c.begin_clause.new.lists.saved in
-    let marked = marked_then r c.begin_clause.new.world c.begin_clause.new.lists c.in-Ok.ensures.saved c.in-Ok.ensures.lists in
     let later = value c.begin_clause.new.world c.begin_clause.new.lists.now in
-    arrives_left c.args.atoms.now c.args.clauses.now (before r) c.args.choices.now (now r) (back r) c.args.goal c.args.rest c.args.walk (others r) (was r)
-    c.step.new.walk c.in-Some.number c.in-Some.ensures.some db n s j c.clause-clause.result.now (kept_is (goal.at.returns-in-Pruned-clause-comes c).After-clause-clause)
+    arrives_left c.args.atoms.now c.args.clauses.now (before r) c.args.choices.now (now r) (back r) c.args.goal c.args.rest (walk r) (others r) (was r)
+    c.args.left.now c.args.number c.requires.next.next db n s j (now r) (grown r) c.clause-clause.result.now (kept_is (goal.at.returns-in-Pruned-clause-comes c).After-clause-clause)
     (c.height-height.result - 1) (high (goal.at.returns-in-Pruned-clause-comes c).After-height-height) later later refl Pruned (rw c.in-Pruned.is at c.in-Ok.ensures.comes)
     saved c.replace_at.new.self steps
-    (left_then r c.begin_clause.new.world c.begin_clause.new.lists c.in-Ok.ensures.saved c.in-Ok.ensures.lists c.step.new.walk (open_choices saved c.replace_at.new.self)
-    (leaves_others x marked))
+    (inr (left_open x c.in-Ok.ensures.saved c.in-Ok.ensures.lists))
 
 pub returns-in-Pruned-clause-left : goal.returns-in-Pruned-clause-left
 returns-in-Pruned-clause-left c =
-    (c.retry.result, c.retry.ensures.contents.0, c.retry.ensures.contents.1, put_back (goal.at.returns-in-Pruned-clause-left c).After-replace_at)
+    let t = c.requires.next.trying in
+    let x = (goal.at.returns-in-Pruned-clause-left c).After-replace_at in
+    record {
+      older = t.older;
+      newest = put_back x;
+      back = t.back;
+      others = t.others;
+      goes_back = left_open x c.in-Ok.ensures.saved c.in-Ok.ensures.lists;
+      world = (rw c.in-Pruned.is at c.in-Ok.ensures.unchanged) ∙ t.world;
+      lists = keeps_both t.back.1 c.args.world.now.second.now c.begin_clause.new.lists.now t.lists c.in-Ok.ensures.keeps;
+    }
+
+pub returns-in-Pruned-clause-others : goal.returns-in-Pruned-clause-others
+returns-in-Pruned-clause-others c =
+    let t = c.requires.next.trying in (
+      Clauses c.args.goal c.requires.next.walk c.args.rest,
+      Clauses c.args.goal c.args.left.now c.args.rest,
+      t.older,
+      t.newest,
+      put_back (goal.at.returns-in-Pruned-clause-others c).After-replace_at,
+    )
+
+pub returns-in-Pruned-clause-back : goal.returns-in-Pruned-clause-back
+returns-in-Pruned-clause-back c = rw c.in-Pruned.is at c.in-Ok.ensures.unchanged
 
 pub returns-in-Pruned-clause-fewer : goal.returns-in-Pruned-clause-fewer
 returns-in-Pruned-clause-fewer c =
-    let r = (goal.at.returns-in-Pruned-clause-fewer c).After-retry in
+    let r = (goal.at.returns-in-Pruned-clause-fewer c).After-clause-clause in
     let x = (goal.at.returns-in-Pruned-clause-fewer c).After-replace_at in
     let saved = saved_values c.begin_clause.new.world c.begin_clause.new.lists.saved in
-    let marked = marked_then r c.begin_clause.new.world c.begin_clause.new.lists c.in-Ok.ensures.saved c.in-Ok.ensures.lists in
-    fewer_wait c.args.atoms.now c.args.clauses.now (before r) c.args.choices.now (now r) (back r) c.args.goal c.args.rest c.args.walk (others r) (was r)
-    c.step.new.walk c.in-Some.number c.in-Some.ensures.some saved c.replace_at.new.self
-    (left_then r c.begin_clause.new.world c.begin_clause.new.lists c.in-Ok.ensures.saved c.in-Ok.ensures.lists c.step.new.walk (open_choices saved c.replace_at.new.self)
-    (leaves_others x marked))
+    fewer_wait c.args.atoms.now c.args.clauses.now (before r) c.args.choices.now (now r) (back r) c.args.goal c.args.rest (walk r) (others r) (was r)
+    c.args.left.now c.args.number c.requires.next.next saved c.replace_at.new.self
+    (inr (left_open x c.in-Ok.ensures.saved c.in-Ok.ensures.lists))
 
 pub returns-in-Pruned-clause-marked : goal.returns-in-Pruned-clause-marked
 returns-in-Pruned-clause-marked c =
-    let r = (goal.at.returns-in-Pruned-clause-marked c).After-retry in
+    let r = (goal.at.returns-in-Pruned-clause-marked c).After-clause-clause in
     marked_then r c.begin_clause.new.world c.begin_clause.new.lists c.in-Ok.ensures.saved c.in-Ok.ensures.lists
-    ∙ ap length c.retry.ensures.contents.2 ∙ sym (ap length (put_back (goal.at.returns-in-Pruned-clause-marked c).After-replace_at))
+    ∙ ap length c.requires.next.trying.newest ∙ sym (ap length (put_back (goal.at.returns-in-Pruned-clause-marked c).After-replace_at))
 
 pub returns-in-Pruned-clause-open : goal.returns-in-Pruned-clause-open
-returns-in-Pruned-clause-open c =
-    let r = (goal.at.returns-in-Pruned-clause-open c).After-retry in
+returns-in-Pruned-clause-open c = λ o.
+    let r = (goal.at.returns-in-Pruned-clause-open c).After-clause-clause in
     let x = (goal.at.returns-in-Pruned-clause-open c).After-replace_at in
     let saved = saved_values c.begin_clause.new.world c.begin_clause.new.lists.saved in
-    let marked = marked_then r c.begin_clause.new.world c.begin_clause.new.lists c.in-Ok.ensures.saved c.in-Ok.ensures.lists in
-    open_left c.args.atoms.now c.args.clauses.now (before r) c.args.choices.now (now r) (back r) c.args.goal c.args.rest c.args.walk (others r) (was r)
-    saved c.replace_at.new.self c.step.new.walk c.in-Some.ensures.opened c.requires.open
-    (left_then r c.begin_clause.new.world c.begin_clause.new.lists c.in-Ok.ensures.saved c.in-Ok.ensures.lists c.step.new.walk (open_choices saved c.replace_at.new.self)
-    (leaves_others x marked))
+    open_left c.args.atoms.now c.args.clauses.now (before r) c.args.choices.now (now r) (back r) c.args.goal c.args.rest (walk r) (others r) (was r)
+    saved c.replace_at.new.self c.args.left.now c.requires.next.opened o
+    (inr (left_open x c.in-Ok.ensures.saved c.in-Ok.ensures.lists))
 
 pub returns-in-Pruned-clause-budget : goal.returns-in-Pruned-clause-budget
-returns-in-Pruned-clause-budget c = c.in-Ok.ensures.budget ∙ same_exchanges (goal.at.returns-in-Pruned-clause-budget c).After-retry
+returns-in-Pruned-clause-budget c = c.in-Ok.ensures.budget
 
 -- ---- an error
 
 pub returns-in-Err-clause-err : goal.returns-in-Err-clause-err
 returns-in-Err-clause-err c =
-    let r = (goal.at.returns-in-Err-clause-err c).After-retry in
-    back_still c.args.atoms.now c.args.clauses.now c.args.world.now.first c.begin_clause.new.world c.args.world.now.second c.begin_clause.new.lists c.args.choices.now c.retry.new.self
-    (open_same c.retry.new.world.first c.begin_clause.new.world c.retry.new.world.second.saved c.begin_clause.new.lists.saved c.retry.new.self _ c.in-Err.ensures.saved c.in-Err.ensures.lists
-    (still r) ∙ sym (was r))
+    let r = (goal.at.returns-in-Err-clause-err c).After-clause-clause in
+    back_still c.args.atoms.now c.args.clauses.now c.args.world.now.first c.begin_clause.new.world c.args.world.now.second c.begin_clause.new.lists c.args.choices.now c.args.choices.now
+    (open_same c.args.world.now.first c.begin_clause.new.world c.args.world.now.second.saved c.begin_clause.new.lists.saved c.args.choices.now _ c.in-Err.ensures.saved c.in-Err.ensures.lists refl)
 
 pub returns-in-Err-clause-stops : goal.returns-in-Err-clause-stops
 returns-in-Err-clause-stops c = λ db n s j.
-    let r = (goal.at.returns-in-Err-clause-stops c).After-retry in
-    fault_stops c.args.atoms.now c.args.clauses.now (before r) c.args.choices.now (now r) (back r) c.args.goal c.args.rest c.args.walk (others r) (was r)
-    c.step.new.walk c.in-Some.number c.in-Some.ensures.some db n s j c.clause-clause.result.now (kept_is (goal.at.returns-in-Err-clause-stops c).After-clause-clause)
+    let r = (goal.at.returns-in-Err-clause-stops c).After-clause-clause in
+    fault_stops c.args.atoms.now c.args.clauses.now (before r) c.args.choices.now (now r) (back r) c.args.goal c.args.rest (walk r) (others r) (was r)
+    c.args.left.now c.args.number c.requires.next.next db n s j (now r) (grown r) c.clause-clause.result.now (kept_is (goal.at.returns-in-Err-clause-stops c).After-clause-clause)
     (c.height-height.result - 1) (high (goal.at.returns-in-Err-clause-stops c).After-height-height)
-    c.in-Err.fault c.retry.new.world.first.store.pivots c.args.world.now.first.store.pivots (same_exchanges r)
+    c.in-Err.fault c.args.world.now.first.store.pivots c.args.world.now.first.store.pivots refl
     (λ pair e. c.in-Err.ensures.overflow pair (ap (λ (f : StoreFault). Err f) e)) (λ m e. c.in-Err.ensures.pivots m (ap (λ (f : StoreFault). Err f) e))
 
 pub returns-in-Err-clause-marked : goal.returns-in-Err-clause-marked
 returns-in-Err-clause-marked c =
-    marked_then (goal.at.returns-in-Err-clause-marked c).After-retry c.begin_clause.new.world c.begin_clause.new.lists c.in-Err.ensures.saved c.in-Err.ensures.lists
+    marked_then (goal.at.returns-in-Err-clause-marked c).After-clause-clause c.begin_clause.new.world c.begin_clause.new.lists c.in-Err.ensures.saved c.in-Err.ensures.lists
 
 pub returns-in-Err-clause-open : goal.returns-in-Err-clause-open
-returns-in-Err-clause-open c =
-    let r = (goal.at.returns-in-Err-clause-open c).After-retry in
-    open_still c.args.atoms.now c.args.clauses.now (before r) (saved_values c.begin_clause.new.world c.begin_clause.new.lists.saved) c.args.choices.now c.retry.new.self
-    (open_same c.retry.new.world.first c.begin_clause.new.world c.retry.new.world.second.saved c.begin_clause.new.lists.saved c.retry.new.self _ c.in-Err.ensures.saved c.in-Err.ensures.lists
-    (still r) ∙ sym (was r)) c.requires.open
+returns-in-Err-clause-open c = λ o.
+    let r = (goal.at.returns-in-Err-clause-open c).After-clause-clause in
+    open_still c.args.atoms.now c.args.clauses.now (before r) (saved_values c.begin_clause.new.world c.begin_clause.new.lists.saved) c.args.choices.now c.args.choices.now
+    (open_same c.args.world.now.first c.begin_clause.new.world c.args.world.now.second.saved c.begin_clause.new.lists.saved c.args.choices.now _ c.in-Err.ensures.saved c.in-Err.ensures.lists refl) o
 
 pub returns-in-Err-clause-budget : goal.returns-in-Err-clause-budget
-returns-in-Err-clause-budget c = c.in-Err.ensures.budget ∙ same_exchanges (goal.at.returns-in-Err-clause-budget c).After-retry
+returns-in-Err-clause-budget c = c.in-Err.ensures.budget

@@ -1,60 +1,23 @@
-use Rattle.std.proofs.Common.{Some, None}
-use Rattle.spec_stops.specs.Causes as why
-use Rattle.cq_engine.proofs.Engines.{keeps_on, going_on, ends_next, next_then, look_front}
-use Rattle.cq_engine.proofs.Halted.{halts_next, selecting_none}
-use Rattle.cq_engine.specs.declared.front.Front.TheVariants.{Fail}
+use Rattle.std.proofs.Common.{ℕ, Option, sym, subst}
+use Rattle.cq_engine.specs.Fronts.{ComesNext}
+use Rattle.cq_engine.proofs.Engines.{keeps_none, keeps_on, names_known, sound_where}
 use Rattle.cq_engine.proofs.front.look_once.Goals as goal
 
-pub at_front-requires-clause-sound : goal.at_front-requires-clause-sound
-at_front-requires-clause-sound c = (rw c.in-Front.is at c.in-Ok.ensures.found).2
+pub is_at_front-requires : goal.is_at_front-requires
+is_at_front-requires c = (rw c.in-Some.is at c.requires.works).2.current.3.there
 
-pub at_front-requires-clause-front : goal.at_front-requires-clause-front
-at_front-requires-clause-front c = (rw c.in-Front.is at c.in-Ok.ensures.found).1
+pub at_front-requires-clause-sound : goal.at_front-requires-clause-sound
+at_front-requires-clause-sound c = sound_where c.args.m.now c.requires.kept (names_known c.args.m.now c.in-Some.k (rw c.in-Some.is at c.requires.works))
 
 pub at_front-requires-clause-works : goal.at_front-requires-clause-works
-at_front-requires-clause-works c = going_on c.args.m.now c.seek.new.m c.args.start (Some c.in-Front.k) (rw c.in-Front.is at c.in-Ok.ensures.found).0 c.requires.works
+at_front-requires-clause-works c = rw c.in-Some.is at c.requires.works
 
-pub returns-in-Front-clause-next : goal.returns-in-Front-clause-next
-returns-in-Front-clause-next c =
-    next_then c.args.m.now c.seek.new.m c.at_front.new.m c.args.start (Some c.in-Front.k) c.args.steps c.args.selected c.at_front.result c.seek.ensures.budget
-    (rw c.in-Front.is at c.in-Ok.ensures.found).0 c.at_front.ensures.next
+pub at_front-requires-clause-front : goal.at_front-requires-clause-front
+at_front-requires-clause-front c = c.is_at_front.ensures c.if-is_at_front.true
 
-pub returns-in-Front-clause-program : goal.returns-in-Front-clause-program
-returns-in-Front-clause-program c = keeps_on c.args.m.now c.seek.new.m c.at_front.new.m c.seek.ensures.program c.at_front.ensures.program
+pub returns-then-is_at_front-clause-next : goal.returns-then-is_at_front-clause-next
+returns-then-is_at_front-clause-next c =
+    subst (λ (o : Option ℕ). ComesNext c.args.m.now o c.args.steps c.args.selected c.at_front.new.m c.at_front.result) (sym c.in-Some.is) c.at_front.ensures.next
 
-pub returns-in-Escaped-clause-next : goal.returns-in-Escaped-clause-next
-returns-in-Escaped-clause-next c =
-    let f = rw c.in-Escaped.is at c.in-Ok.ensures.found in
-    (λ budgets e b s j. f.0 budgets c.args.selected s j, f.1)
-
-pub returns-in-Over-clause-next : goal.returns-in-Over-clause-next
-returns-in-Over-clause-next c =
-    let f = rw c.in-Over.is at c.in-Ok.ensures.found in (
-      λ budgets e b s j.
-          look_front budgets c.args.m.now c.seek.new.m c.seek.new.m c.args.selected c.args.start None Fail s f.0
-          (λ r k. ends_next budgets c.seek.new.m c.args.selected r f.1 k) j,
-      tt,
-    )
-
-pub returns-in-Err-Overflow-clause-next : goal.returns-in-Err-Overflow-clause-next
-returns-in-Err-Overflow-clause-next c = (
-  λ budgets e b s j.
-      halts_next budgets c.seek.new.m c.halt.new.m c.args.selected s (why.Overflow c.in-Err-Overflow.pair) tt c.halt.ensures.program c.halt.ensures.none_left j.selected
-      ((rw c.in-Err-Overflow.field-0-is at c.in-Err-Overflow.ensures.stops) c.args.selected s j (selecting_none budgets) b),
-  tt,
-)
-
-pub returns-in-Err-Overflow-clause-program : goal.returns-in-Err-Overflow-clause-program
-returns-in-Err-Overflow-clause-program c = keeps_on c.args.m.now c.seek.new.m c.halt.new.m c.seek.ensures.program c.halt.ensures.program
-
-pub returns-in-Err-Pivots-clause-next : goal.returns-in-Err-Pivots-clause-next
-returns-in-Err-Pivots-clause-next c = (
-  λ budgets e b s j.
-      halts_next budgets c.seek.new.m c.halt-in-Err-Pivots.new.m c.args.selected s (why.Pivots c.in-Err-Pivots.exchanges) tt c.halt-in-Err-Pivots.ensures.program
-      c.halt-in-Err-Pivots.ensures.none_left j.selected
-      ((rw c.in-Err-Pivots.field-0-is at c.in-Err-Pivots.ensures.stops) c.args.selected s j (selecting_none budgets) b),
-  tt,
-)
-
-pub returns-in-Err-Pivots-clause-program : goal.returns-in-Err-Pivots-clause-program
-returns-in-Err-Pivots-clause-program c = keeps_on c.args.m.now c.seek.new.m c.halt-in-Err-Pivots.new.m c.seek.ensures.program c.halt-in-Err-Pivots.ensures.program
+pub returns-then-is_at_front-clause-program : goal.returns-then-is_at_front-clause-program
+returns-then-is_at_front-clause-program c = keeps_on c.args.m.now c.args.m.now c.at_front.new.m (keeps_none c.args.m.now) c.at_front.ensures.program

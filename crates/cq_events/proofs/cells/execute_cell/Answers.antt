@@ -1,14 +1,10 @@
 use Rattle.std.proofs.Common.{◌∷◌, ap, subst, ◌∙◌}
 use Rattle.spec_syntax.specs.Trees.{Tree}
-use Rattle.spec_built.specs.Built as built
 use Rattle.spec_branch.specs.Branch.{read}
 use Rattle.spec_search.specs.Turns.{place_of}
 use Rattle.cq_control.specs.Items.{items_at}
 use Rattle.spec_machine.specs.declared.cell.Cell.{Cell}
-use Rattle.cq_steps.proofs.Added.{reads_tree}
-use Rattle.cq_machine.specs.Machines.{now}
 use Rattle.cq_execute.specs.Executions.{Reaches}
-use Rattle.cq_events.proofs.Raised.{raised_on, numbered_on}
 use Rattle.cq_events.proofs.Selections.{goal_next, call_next}
 use Rattle.cq_events.proofs.Stops.{may_stop}
 use Rattle.cq_events.proofs.cells.execute_cell.Goals as goal
@@ -25,20 +21,10 @@ execute-requires-clause-selected c =
 pub returns-in-Ok-clause-row : goal.returns-in-Ok-clause-row
 returns-in-Ok-clause-row c = λ n s j.
     let m = c.args.m.now in
-    let new = c.execute.new.m in
     let f = c.requires.front in
     let x = goal_next m n c.args.k c.args.rest s j f.earlier c.in-Goal.goal c.in-Goal.height (f.cells ∙ ap (λ (x : Cell). x ∷ items_at m.world.second.now c.args.rest) c.in-Goal.is) in
     let g = read x.0.state x.0.goal in
-    record {
-      next = x.0;
-      reaches = c.in-Ok.ensures.row (place_of s x.0.state x.0.items x.0.cut x.0.behind) x.0.behind g x.1;
-      raiser = raised_on m.atoms new.atoms c.raiser_of-raiser.result c.execute.ensures.program.atoms c.raiser_of-raiser.ensures.numbered
-          ∙ c.raiser_of-raiser.ensures.raised ∙ ap built.indicator_of (reads_tree m.atoms (now m).0 x.0.state c.in-Goal.goal g x.1.reads);
-    }
-
-pub returns-in-Ok-clause-numbered : goal.returns-in-Ok-clause-numbered
-returns-in-Ok-clause-numbered c =
-    numbered_on c.args.m.now.atoms c.execute.new.m.atoms c.raiser_of-raiser.result c.execute.ensures.program.atoms c.raiser_of-raiser.ensures.numbered
+    record { next = x.0; reaches = c.in-Ok.ensures.row (place_of s x.0.state x.0.items x.0.cut x.0.behind) x.0.behind g x.1 }
 
 pub returns-in-Err-clause-stop : goal.returns-in-Err-clause-stop
 returns-in-Err-clause-stop c = λ n s j.
@@ -68,5 +54,4 @@ returns-in-Ok-execute_call-clause-row c = λ n s j.
     record {
       next = x.0;
       reaches = subst (λ (t : Tree). Reaches new d.step d.output.items place x.0.behind t) x.2 (c.in-Ok-execute_call.ensures.row place x.0.behind (read x.0.state x.1) x.3);
-      raiser = ap built.indicator_of x.2;
     }

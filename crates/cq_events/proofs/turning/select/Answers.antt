@@ -24,12 +24,13 @@ use Rattle.cq_machine.specs.Stepping.{CanGo, OnRaises}
 use Rattle.cq_engine.specs.Fronts.{HasWork, IsGoal}
 use Rattle.cq_engine.specs.Seeking.{StandsFor}
 use Rattle.cq_execute.specs.Executions.{Reaches}
-use Rattle.cq_events.specs.declared.cells.Done.{Done}
+use Rattle.cq_execute.specs.declared.executed.Executed.{Executed}
 use Rattle.cq_events.specs.declared.engine.Engine.{Engine}
 use Rattle.cq_events.specs.Raised.{ball_by}
 use Rattle.cq_events.specs.Events.{Stands, IsRunning}
-use Rattle.cq_events.specs.Turning.{SelectsNext, ComesUpOn, Reached, MayStop}
-use Rattle.cq_events.proofs.Selections.{stands_still, up_still}
+use Rattle.cq_events.specs.declared.raiser.Raiser.{Raiser}
+use Rattle.cq_events.specs.Turning.{SelectsNext, ComesUpOn, NamesNext, Reached, MayStop}
+use Rattle.cq_events.proofs.Selections.{goal_in_front, stands_still, up_still}
 use Rattle.cq_events.proofs.Steps.{tells_refused}
 use Rattle.cq_events.proofs.Ended.{advanced, runs_on, stopped, runs_stopped, stands_same}
 use Rattle.cq_events.proofs.Stops.{stops_for_overflow, stops_for_pivots}
@@ -54,10 +55,10 @@ goal_here e k rest c w cells = let same : w.cell ≡ c = ap (head_or c) (sym w.c
 abbrev ReachedBy : Machine → Machine → ℕ → ℕ → Step → Text → Search → Type 0
 ReachedBy old m n rest st text s = (x : SelectsNext old n rest s) × Reaches m st text (place_of s x.state x.items x.cut x.behind) x.behind (read x.state x.goal)
 
-reached_by : (old m : Machine) (n rest : ℕ) (d : Done) (st : Step) (s : Search) → d.executed.step ≡ st → Reached old m n rest d s → ReachedBy old m n rest st d.executed.output.items s
+reached_by : (old m : Machine) (n rest : ℕ) (d : Executed) (st : Step) (s : Search) → d.step ≡ st → Reached old m n rest d s → ReachedBy old m n rest st d.output.items s
 reached_by old m n rest d st s e r = (
   r.next,
-  subst (λ (t : Step). Reaches m t d.executed.output.items (place_of s r.next.state r.next.items r.next.cut r.next.behind) r.next.behind (read r.next.state r.next.goal)) e r.reaches,
+  subst (λ (t : Step). Reaches m t d.output.items (place_of s r.next.state r.next.items r.next.cut r.next.behind) r.next.behind (read r.next.state r.next.goal)) e r.reaches,
 )
 
 -- ---- what is in front
@@ -89,8 +90,8 @@ returns-in-Goes-clause-turned c =
     let m = c.execute_cell.new.m in
     let k = c.args.k in
     let rest = c.in-Some.rest in
-    let d = c.in-Ok.done in
-    advanced e (record e { machine = m }) c.advance.new.e rest (Some c.in-Goes.next) d.executed.output.items refl c.advance.ensures.at
+    let d = c.in-Ok.executed in
+    advanced e (record e { machine = m }) c.advance.new.e rest (Some c.in-Goes.next) d.output.items refl c.advance.ensures.at
     c.requires.work.few
     (λ s j. reached_by e.machine m e.selected rest d (step.Goes c.in-Goes.next) s c.in-Goes.is (c.in-Ok.ensures.row e.selected s (at_k e k s c.requires.current j)))
     c.advance.result c.advance.ensures.told
@@ -101,8 +102,8 @@ returns-in-Goes-clause-running c =
     let m = c.execute_cell.new.m in
     let k = c.args.k in
     let rest = c.in-Some.rest in
-    let d = c.in-Ok.done in
-    runs_on e (record e { machine = m }) c.advance.new.e rest (Some c.in-Goes.next) d.executed.output.items refl c.advance.ensures.at
+    let d = c.in-Ok.executed in
+    runs_on e (record e { machine = m }) c.advance.new.e rest (Some c.in-Goes.next) d.output.items refl c.advance.ensures.at
     c.requires.work.few
     (λ s j. reached_by e.machine m e.selected rest d (step.Goes c.in-Goes.next) s c.in-Goes.is (c.in-Ok.ensures.row e.selected s (at_k e k s c.requires.current j)))
     c.requires.running c.execute_cell.ensures.sound refl
@@ -118,8 +119,8 @@ returns-in-Back-clause-turned c =
     let m = c.execute_cell.new.m in
     let k = c.args.k in
     let rest = c.in-Some.rest in
-    let d = c.in-Ok.done in
-    advanced e (record e { machine = m }) c.advance-in-Back.new.e rest None d.executed.output.items refl c.advance-in-Back.ensures.at
+    let d = c.in-Ok.executed in
+    advanced e (record e { machine = m }) c.advance-in-Back.new.e rest None d.output.items refl c.advance-in-Back.ensures.at
     c.requires.work.few
     (λ s j. reached_by e.machine m e.selected rest d step.Back s c.in-Back.is (c.in-Ok.ensures.row e.selected s (at_k e k s c.requires.current j)))
     c.advance-in-Back.result c.advance-in-Back.ensures.told
@@ -130,8 +131,8 @@ returns-in-Back-clause-running c =
     let m = c.execute_cell.new.m in
     let k = c.args.k in
     let rest = c.in-Some.rest in
-    let d = c.in-Ok.done in
-    runs_on e (record e { machine = m }) c.advance-in-Back.new.e rest None d.executed.output.items refl c.advance-in-Back.ensures.at
+    let d = c.in-Ok.executed in
+    runs_on e (record e { machine = m }) c.advance-in-Back.new.e rest None d.output.items refl c.advance-in-Back.ensures.at
     c.requires.work.few
     (λ s j. reached_by e.machine m e.selected rest d step.Back s c.in-Back.is (c.in-Ok.ensures.row e.selected s (at_k e k s c.requires.current j)))
     c.requires.running c.execute_cell.ensures.sound refl
@@ -144,33 +145,39 @@ returns-in-Back-clause-keeps c =
 -- ---- balls
 
 -- the machine and what was reached there
-module _ (e : Engine) (m : Machine) (k rest : ℕ) (d : Done) (at : e.current ≡ Some k)
+module _ (e : Engine) (m : Machine) (k rest : ℕ) (d : Executed) (at : e.current ≡ Some k)
     (row : (n : ℕ) (s : Search) → StandsFor e.machine n (Some k) s → Reached e.machine m n rest d s) where
   -- the term that the goal throws
-  throws_next : (id : ℕ) → d.executed.step ≡ step.Throws id → (s : Search) → Stands e s
+  throws_next : (id : ℕ) → d.step ≡ step.Throws id → (s : Search) → Stands e s
       → BallNext e.machine m e.selected rest (tree m.atoms (terms m) id) s
   throws_next id is s j =
       let x = reached_by e.machine m e.selected rest d (step.Throws id) s is (row e.selected s (at_k e k s at j)) in
       record { next = x.0; step = x.1 }
 
-  -- the ball of the error that it raises, on a machine that stands for the same
-  raises_next : (mid : Machine) (error : BuiltinError) → d.executed.step ≡ step.Raises error → database_of mid ≡ database_of m → (s : Search) → Stands e s
-      → BallNext e.machine mid e.selected rest (ball_by m.atoms (terms m) error d.raiser) s
-  raises_next mid error is same s j =
-      let r = row e.selected s (at_k e k s at j) in
-      let x = r.next in
-      let raised = subst (λ (t : Step). Reaches m t d.executed.output.items (place_of s x.state x.items x.cut x.behind) x.behind (read x.state x.goal)) is r.reaches in
-      record {
-        next = x;
-        step = record {
-          step = subst (λ (i : Indicator). Steps (place_of s x.state x.items x.cut x.behind) (read x.state x.goal) (Ball (plain_copy (error_ball (error_tree m.atoms (terms m) error) i))))
-              (sym r.raiser) raised.step;
-          database = raised.database ∙ sym same;
-        };
-      }
+  module _ (error : BuiltinError) (is : d.step ≡ step.Raises error) (still : StillStands e.machine m) where
+    -- the machine stands for the same searches, with the same continuation
+    stands_now : (s : Search) → Stands e s → StandsFor m e.selected (Some k) s
+    stands_now s j =
+        let x = reached_by e.machine m e.selected rest d (step.Raises error) s is (row e.selected s (at_k e k s at j)) in
+        stands_still e.machine m e.selected (Some k) s still (sym x.1.database ∙ x.0.database) (at_k e k s at j)
+
+    -- the ball of the error that the goal raises, on a machine that stands for the same
+    raises_next : (mid : Machine) (raiser : Raiser) → NamesNext m k raiser → database_of mid ≡ database_of m → (s : Search) → Stands e s
+        → BallNext e.machine mid e.selected rest (ball_by m.atoms (terms m) error raiser) s
+    raises_next mid raiser names same s j =
+        let r = reached_by e.machine m e.selected rest d (step.Raises error) s is (row e.selected s (at_k e k s at j)) in
+        let x = r.0 in
+        record {
+          next = x;
+          step = record {
+            step = subst (λ (i : Indicator). Steps (place_of s x.state x.items x.cut x.behind) (read x.state x.goal) (Ball (plain_copy (error_ball (error_tree m.atoms (terms m) error) i))))
+                (sym (names e.selected s (stands_now s j) x.goal x.cut x.items x.state x.behind x.look)) r.1.step;
+            database = r.1.database ∙ sym same;
+          };
+        }
 
 -- a ball comes up in front of the continuation behind the goal
-up_behind : (e : Engine) (m : Machine) (k rest : ℕ) (d : Done) → IsRunning e → e.current ≡ Some k → StillStands e.machine m
+up_behind : (e : Engine) (m : Machine) (k rest : ℕ) (d : Executed) → IsRunning e → e.current ≡ Some k → StillStands e.machine m
     → ((n : ℕ) (s : Search) → StandsFor e.machine n (Some k) s → Reached e.machine m n rest d s) → ComesUpOn m rest
 up_behind e m k rest d run at still row =
     let x = (row e.selected run.search (at_k e k run.search at run.stands)).next in (
@@ -183,6 +190,26 @@ up_behind e m k rest d run at still row =
 still_by : (e : Engine) (m : Machine) (s t : Step) → s ≡ t → OnRaises s (StillStands e.machine m) → OnRaises t (StillStands e.machine m)
 still_by e m s t is h = subst (λ (u : Step). OnRaises u (StillStands e.machine m)) is h
 
+pub raiser_before-raiser-requires-clause-going : goal.raiser_before-raiser-requires-clause-going
+raiser_before-raiser-requires-clause-going c =
+    let e = c.args.e.now in
+    let m = c.execute_cell.new.m in
+    let still : StillStands e.machine m = still_by e m c.in-Ok.executed.step (step.Raises c.in-Raises.error) c.in-Raises.is c.in-Ok.ensures.raises in
+    let run = c.requires.running in
+    (e.selected, run.search, stands_now e m c.args.k c.in-Some.rest c.in-Ok.executed c.requires.current c.in-Ok.ensures.row c.in-Raises.error c.in-Raises.is still run.search run.stands)
+
+pub raiser_before-raiser-requires-clause-goal : goal.raiser_before-raiser-requires-clause-goal
+raiser_before-raiser-requires-clause-goal c =
+    let e = c.args.e.now in
+    let m = c.execute_cell.new.m in
+    let k = c.args.k in
+    let still : StillStands e.machine m = still_by e m c.in-Ok.executed.step (step.Raises c.in-Raises.error) c.in-Raises.is c.in-Ok.ensures.raises in
+    let run = c.requires.running in
+    let x = (c.in-Ok.ensures.row e.selected run.search (at_k e k run.search c.requires.current run.stands)).next in
+    goal_in_front m e.selected k run.search
+    (stands_now e m k c.in-Some.rest c.in-Ok.executed c.requires.current c.in-Ok.ensures.row c.in-Raises.error c.in-Raises.is still run.search run.stands)
+    x.goal x.cut x.items x.state x.behind x.look
+
 pub raise-requires-clause-culprit : goal.raise-requires-clause-culprit
 raise-requires-clause-culprit c = subst (CanGo c.execute_cell.new.m) c.in-Raises.is c.in-Ok.ensures.goes
 
@@ -190,8 +217,8 @@ pub raise-requires-clause-comes_up : goal.raise-requires-clause-comes_up
 raise-requires-clause-comes_up c =
     let e = c.args.e.now in
     let m = c.execute_cell.new.m in
-    up_behind e m c.args.k c.in-Some.rest c.in-Ok.done c.requires.running c.requires.current
-    (still_by e m c.in-Ok.done.executed.step (step.Raises c.in-Raises.error) c.in-Raises.is c.in-Ok.ensures.raises) c.in-Ok.ensures.row
+    up_behind e m c.args.k c.in-Some.rest c.in-Ok.executed c.requires.running c.requires.current
+    (still_by e m c.in-Ok.executed.step (step.Raises c.in-Raises.error) c.in-Raises.is c.in-Ok.ensures.raises) c.in-Ok.ensures.row
 
 pub raise-requires-clause-few : goal.raise-requires-clause-few
 raise-requires-clause-few c = c.requires.work.few
@@ -200,22 +227,24 @@ pub returns-in-Ok-raise-clause-turned : goal.returns-in-Ok-raise-clause-turned
 returns-in-Ok-raise-clause-turned c =
     let e = c.args.e.now in
     let m = c.execute_cell.new.m in
-    let still : StillStands e.machine m = still_by e m c.in-Ok.done.executed.step (step.Raises c.in-Raises.error) c.in-Raises.is c.in-Ok.ensures.raises in
+    let still : StillStands e.machine m = still_by e m c.in-Ok.executed.step (step.Raises c.in-Raises.error) c.in-Raises.is c.in-Ok.ensures.raises in
     let r = c.in-Ok-raise.ensures.thrown in
-    thrown e r.mid c.raise.new.e c.in-Some.rest (ball_by m.atoms (terms m) c.in-Raises.error c.in-Ok.done.raiser) r.selected c.requires.work.few
+    thrown e r.mid c.raise.new.e c.in-Some.rest (ball_by m.atoms (terms m) c.in-Raises.error c.raiser_before-raiser.result) r.selected c.requires.work.few
     (stands_then e.machine m r.mid.machine still r.still) (c.raise.ensures.program.database ∙ sym r.database)
-    (raises_next e m c.args.k c.in-Some.rest c.in-Ok.done c.requires.current c.in-Ok.ensures.row r.mid.machine c.in-Raises.error c.in-Raises.is r.database)
+    (raises_next e m c.args.k c.in-Some.rest c.in-Ok.executed c.requires.current c.in-Ok.ensures.row c.in-Raises.error c.in-Raises.is still r.mid.machine c.raiser_before-raiser.result
+    c.raiser_before-raiser.ensures.names r.database)
     c.in-Ok-raise.told r.thrown
 
 pub returns-in-Ok-raise-clause-running : goal.returns-in-Ok-raise-clause-running
 returns-in-Ok-raise-clause-running c =
     let e = c.args.e.now in
     let m = c.execute_cell.new.m in
-    let still : StillStands e.machine m = still_by e m c.in-Ok.done.executed.step (step.Raises c.in-Raises.error) c.in-Raises.is c.in-Ok.ensures.raises in
+    let still : StillStands e.machine m = still_by e m c.in-Ok.executed.step (step.Raises c.in-Raises.error) c.in-Raises.is c.in-Ok.ensures.raises in
     let r = c.in-Ok-raise.ensures.thrown in
-    runs_thrown e r.mid c.raise.new.e c.in-Some.rest (ball_by m.atoms (terms m) c.in-Raises.error c.in-Ok.done.raiser) r.selected c.requires.work.few
+    runs_thrown e r.mid c.raise.new.e c.in-Some.rest (ball_by m.atoms (terms m) c.in-Raises.error c.raiser_before-raiser.result) r.selected c.requires.work.few
     (stands_then e.machine m r.mid.machine still r.still) (c.raise.ensures.program.database ∙ sym r.database)
-    (raises_next e m c.args.k c.in-Some.rest c.in-Ok.done c.requires.current c.in-Ok.ensures.row r.mid.machine c.in-Raises.error c.in-Raises.is r.database)
+    (raises_next e m c.args.k c.in-Some.rest c.in-Ok.executed c.requires.current c.in-Ok.ensures.row c.in-Raises.error c.in-Raises.is still r.mid.machine c.raiser_before-raiser.result
+    c.raiser_before-raiser.ensures.names r.database)
     c.requires.running c.raise.ensures.kept c.raise.ensures.steps c.in-Ok-raise.told r.thrown
 
 pub returns-in-Raises-clause-keeps : goal.returns-in-Raises-clause-keeps
@@ -238,10 +267,11 @@ pub returns-in-Raises-clause-err : goal.returns-in-Raises-clause-err
 returns-in-Raises-clause-err c =
     let e = c.args.e.now in
     let m = c.execute_cell.new.m in
-    let still : StillStands e.machine m = still_by e m c.in-Ok.done.executed.step (step.Raises c.in-Raises.error) c.in-Raises.is c.in-Ok.ensures.raises in
+    let still : StillStands e.machine m = still_by e m c.in-Ok.executed.step (step.Raises c.in-Raises.error) c.in-Raises.is c.in-Ok.ensures.raises in
     let at = c.in-Err.ensures.err_at in
-    let same = same_by e m c.in-Some.rest (ball_by m.atoms (terms m) c.in-Raises.error c.in-Ok.done.raiser) c.requires.running
-    (raises_next e m c.args.k c.in-Some.rest c.in-Ok.done c.requires.current c.in-Ok.ensures.row m c.in-Raises.error c.in-Raises.is refl) in
+    let same = same_by e m c.in-Some.rest (ball_by m.atoms (terms m) c.in-Raises.error c.raiser_before-raiser.result) c.requires.running
+    (raises_next e m c.args.k c.in-Some.rest c.in-Ok.executed c.requires.current c.in-Ok.ensures.row c.in-Raises.error c.in-Raises.is still m c.raiser_before-raiser.result
+    c.raiser_before-raiser.ensures.names refl) in
     goes_at_once e c.raise.new.e
     (unthrown e c.raise.new.e m still c.in-Err.ensures.err (c.raise.ensures.program.database ∙ same) at.selected at.current)
 
@@ -252,8 +282,8 @@ pub throw-requires-clause-comes_up : goal.throw-requires-clause-comes_up
 throw-requires-clause-comes_up c =
     let e = c.args.e.now in
     let m = c.execute_cell.new.m in
-    up_behind e m c.args.k c.in-Some.rest c.in-Ok.done c.requires.running c.requires.current
-    (still_by e m c.in-Ok.done.executed.step (step.Throws c.in-Throws.ball) c.in-Throws.is c.in-Ok.ensures.raises) c.in-Ok.ensures.row
+    up_behind e m c.args.k c.in-Some.rest c.in-Ok.executed c.requires.running c.requires.current
+    (still_by e m c.in-Ok.executed.step (step.Throws c.in-Throws.ball) c.in-Throws.is c.in-Ok.ensures.raises) c.in-Ok.ensures.row
 
 pub throw-requires-clause-few : goal.throw-requires-clause-few
 throw-requires-clause-few c = c.requires.work.few
@@ -262,18 +292,18 @@ pub returns-in-Ok-throw-clause-turned : goal.returns-in-Ok-throw-clause-turned
 returns-in-Ok-throw-clause-turned c =
     let e = c.args.e.now in
     let m = c.execute_cell.new.m in
-    let still : StillStands e.machine m = still_by e m c.in-Ok.done.executed.step (step.Throws c.in-Throws.ball) c.in-Throws.is c.in-Ok.ensures.raises in
+    let still : StillStands e.machine m = still_by e m c.in-Ok.executed.step (step.Throws c.in-Throws.ball) c.in-Throws.is c.in-Ok.ensures.raises in
     thrown e (record e { machine = m }) c.throw.new.e c.in-Some.rest (tree m.atoms (terms m) c.in-Throws.ball) refl c.requires.work.few still c.throw.ensures.program.database
-    (throws_next e m c.args.k c.in-Some.rest c.in-Ok.done c.requires.current c.in-Ok.ensures.row c.in-Throws.ball c.in-Throws.is)
+    (throws_next e m c.args.k c.in-Some.rest c.in-Ok.executed c.requires.current c.in-Ok.ensures.row c.in-Throws.ball c.in-Throws.is)
     c.in-Ok-throw.told c.in-Ok-throw.ensures.thrown
 
 pub returns-in-Ok-throw-clause-running : goal.returns-in-Ok-throw-clause-running
 returns-in-Ok-throw-clause-running c =
     let e = c.args.e.now in
     let m = c.execute_cell.new.m in
-    let still : StillStands e.machine m = still_by e m c.in-Ok.done.executed.step (step.Throws c.in-Throws.ball) c.in-Throws.is c.in-Ok.ensures.raises in
+    let still : StillStands e.machine m = still_by e m c.in-Ok.executed.step (step.Throws c.in-Throws.ball) c.in-Throws.is c.in-Ok.ensures.raises in
     runs_thrown e (record e { machine = m }) c.throw.new.e c.in-Some.rest (tree m.atoms (terms m) c.in-Throws.ball) refl c.requires.work.few still c.throw.ensures.program.database
-    (throws_next e m c.args.k c.in-Some.rest c.in-Ok.done c.requires.current c.in-Ok.ensures.row c.in-Throws.ball c.in-Throws.is)
+    (throws_next e m c.args.k c.in-Some.rest c.in-Ok.executed c.requires.current c.in-Ok.ensures.row c.in-Throws.ball c.in-Throws.is)
     c.requires.running c.throw.ensures.kept c.throw.ensures.steps c.in-Ok-throw.told c.in-Ok-throw.ensures.thrown
 
 pub returns-in-Throws-clause-keeps : goal.returns-in-Throws-clause-keeps
@@ -284,9 +314,9 @@ pub returns-in-Throws-clause-err : goal.returns-in-Throws-clause-err
 returns-in-Throws-clause-err c =
     let e = c.args.e.now in
     let m = c.execute_cell.new.m in
-    let still : StillStands e.machine m = still_by e m c.in-Ok.done.executed.step (step.Throws c.in-Throws.ball) c.in-Throws.is c.in-Ok.ensures.raises in
+    let still : StillStands e.machine m = still_by e m c.in-Ok.executed.step (step.Throws c.in-Throws.ball) c.in-Throws.is c.in-Ok.ensures.raises in
     let same = same_by e m c.in-Some.rest (tree m.atoms (terms m) c.in-Throws.ball) c.requires.running
-    (throws_next e m c.args.k c.in-Some.rest c.in-Ok.done c.requires.current c.in-Ok.ensures.row c.in-Throws.ball c.in-Throws.is) in
+    (throws_next e m c.args.k c.in-Some.rest c.in-Ok.executed c.requires.current c.in-Ok.ensures.row c.in-Throws.ball c.in-Throws.is) in
     goes_at_once e c.throw.new.e
     (λ s j. subst (λ (x : Engine). Stands x s) (sym c.in-Err-throw.ensures.err) (stands_still e.machine m e.selected e.current s still same j))
 
@@ -299,7 +329,7 @@ returns-in-Ok-clause-turned c = (
       let m = c.execute_cell.new.m in
       let k = c.args.k in
       let rest = c.in-Some.rest in
-      let x = reached_by e.machine m e.selected rest c.in-Ok.done (step.Refuses c.in-Refuses.pair) s c.in-Refuses.is
+      let x = reached_by e.machine m e.selected rest c.in-Ok.executed (step.Refuses c.in-Refuses.pair) s c.in-Refuses.is
       (c.in-Ok.ensures.row e.selected s (at_k e k s c.requires.current j)) in
       let less = subst (λ (n : ℕ). e.selected < n) (sym h.steps) c.requires.work.few in
       let left = c.leave in
@@ -314,7 +344,7 @@ returns-in-Ok-clause-running c =
     let m = c.execute_cell.new.m in
     let left = c.leave in
     runs_stopped e left.new.e left.ensures.ended c.requires.running left.ensures.steps
-    (λ s j. let x = reached_by e.machine m e.selected c.in-Some.rest c.in-Ok.done (step.Refuses c.in-Refuses.pair) s c.in-Refuses.is
+    (λ s j. let x = reached_by e.machine m e.selected c.in-Some.rest c.in-Ok.executed (step.Refuses c.in-Refuses.pair) s c.in-Refuses.is
     (c.in-Ok.ensures.row e.selected s (at_k e c.args.k s c.requires.current j)) in
     x.1.database ∙ sym left.ensures.program.database)
 

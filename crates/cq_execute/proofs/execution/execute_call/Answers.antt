@@ -12,7 +12,8 @@ use Rattle.cq_machine.specs.Machines.{now, saved, holds, StillStands}
 use Rattle.cq_machine.specs.Stepping.{CanGo, OnRaises}
 use Rattle.cq_machine.proofs.Built.{stands_still}
 use Rattle.cq_machine.proofs.Kept.{leads_over}
-use Rattle.cq_selected.proofs.Reached.{names_same, same_grown, sound_still, marked_still, open_still}
+use Rattle.cq_calls.proofs.Waiting.{same_grown}
+use Rattle.cq_selected.proofs.Reached.{names_same, sound_still, marked_still, open_still}
 use Rattle.cq_execute.proofs.Reached.{reach, quietly}
 use Rattle.cq_execute.proofs.execution.execute_call.Goals as goal
 

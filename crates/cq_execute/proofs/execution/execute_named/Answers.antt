@@ -6,13 +6,16 @@ use Rattle.cq_table.specs.Names.{as_builtin}
 use Rattle.cq_term.specs.Trees.{tree}
 use Rattle.cq_machine.specs.Machines.{terms}
 use Rattle.cq_execute.proofs.Called.{call_done}
-use Rattle.cq_execute.proofs.Done.{quiet_done}
+use Rattle.cq_execute.proofs.Done.{quiet_done, somewhere}
 use Rattle.cq_execute.proofs.execution.execute_named.Goals as goal
 
 pub execute_builtin-requires-clause-calls : goal.execute_builtin-requires-clause-calls
 execute_builtin-requires-clause-calls c =
     let s = c.requires.at.sound in
     ap builtin_of (sym c.requires.predicate.indicator) ∙ sym (c.get.ensures c.args.m.now.atoms s.known.builtins s.different c.requires.predicate.known) ∙ ap (option_map as_builtin) c.in-Some.is
+
+pub call_procedure-requires-clause-selected : goal.call_procedure-requires-clause-selected
+call_procedure-requires-clause-selected c = somewhere c.args.m.now c.args.goal c.args.height c.args.rest c.requires.at.selected
 
 pub returns-in-None : goal.returns-in-None
 returns-in-None c =

@@ -5,7 +5,7 @@ use Rattle.cq_dict.specs.Roles.{is_restricted}
 use Rattle.cq_simplex.proofs.Entries.{entry_below}
 use Rattle.cq_level.proofs.Lights.{AreLightest, IsLightestOf, restricted_next, free_next, lightest_of, none_lightest, only_lightest, only_restricted}
 use Rattle.cq_level.proofs.choosing.lightest_column.Goals as goal
-use Rattle.cq_level.proofs.choosing.lightest_column.Goals.{then-not-is_restricted, else-not-is_restricted}
+use Rattle.cq_level.proofs.choosing.lightest_column.Goals.{then-not-is_restricted+in_ok-rows, else-not-is_restricted}
 
 pub is_restricted-requires : goal.is_restricted-requires
 is_restricted-requires c =
@@ -31,6 +31,12 @@ is_restricted-requires-in-loop-m c =
     entry_below c.args.dict.now.roles c.args.dict.now.restricted c.requires.table c.args.q c.requires.row.0 c.requires.row.1 c.m-item.result
     (subst (Has c.m-item.result) e (has_at c.row-m-items.result.now c.loop-m.m-index c.m-item.result c.loop-m-test.true c.m-item.is))
 
+pub count_rows-requires-clause-there : goal.count_rows-requires-clause-there
+count_rows-requires-clause-there c =
+    let e = c.row-m-items.ensures.entries c.requires.row.0 c.requires.row.1 in
+    entry_below c.args.dict.now.roles c.args.dict.now.restricted c.requires.table c.args.q c.requires.row.0 c.requires.row.1 c.m-item.result
+    (subst (Has c.m-item.result) e (has_at c.row-m-items.result.now c.loop-m.m-index c.m-item.result c.loop-m-test.true c.m-item.is))
+
 pub loop-m-preserved : goal.loop-m-preserved
 loop-m-preserved c =
     let roles = c.args.dict.now.roles in
@@ -38,10 +44,10 @@ loop-m-preserved c =
     let items = c.row-m-items.result.now in
     let m = c.m-item.result in
     elim c.if-not-is_restricted.branch [
-      | then-not-is_restricted w ↦
+      | then-not-is_restricted+in_ok-rows w ↦
           let f : is_restricted flags m.quantity ≡ false = sym c.is_restricted-in-loop-m.ensures ∙ w.if-not-is_restricted.true in
           subst (AreLightest roles flags (take (c.loop-m.m-index + 1) items)) (sym w.found-is)
-          (free_next roles flags items c.loop-m.m-index m c.loop-m-test.true c.m-item.is f (record { column = m.quantity; rows = w.count_rows-rows.result }) refl w.count_rows-rows.ensures
+          (free_next roles flags items c.loop-m.m-index m c.loop-m-test.true c.m-item.is f (record { column = m.quantity; rows = w.in_ok-rows.rows }) refl w.in_ok-rows.ensures
           c.loop-m.found c.loop-m.invariant w.lighter.result w.lighter.ensures)
       | else-not-is_restricted w ↦
           let f : is_restricted flags m.quantity ≡ true = sym c.is_restricted-in-loop-m.ensures ∙ w.if-not-is_restricted.false in

@@ -7,7 +7,7 @@ use Rattle.cq_dict.specs.Dict.{SameMeaning, RefusesPivot}
 use Rattle.cq_dict.specs.Roles.{Quantities, IsAt, IsRow, HasEntry, IsExchanged}
 use Rattle.cq_simplex.specs.declared.SimplexFault.TheVariants.{Overflow}
 use Rattle.cq_level.specs.Levelled.{StaysRow, CrossesAt, GoesOn}
-use Rattle.cq_level.proofs.Goes.{due_there, new_row, stays_here, stays_after, goes_on, crosses_instead, has_passed, not_passed, zero_is, refusal_of, same_fault}
+use Rattle.cq_level.proofs.Goes.{nearing_there, new_row, stays_here, stays_after, goes_on, crosses_instead, has_passed, not_passed, zero_is, refusal_of, same_fault}
 use Rattle.cq_level.proofs.levelling.exchange.Goals as goal
 
 -- what a mark and an undo leave
@@ -20,11 +20,16 @@ flags_are e = ap (λ (z : Quantities). z.restricted) e
 pub pivot-requires : goal.pivot-requires
 pivot-requires c =
     subst (λ (r : List Role). HasEntry r c.args.row c.args.column) (sym (roles_are c.mark.ensures.now))
-    (due_there c.args.q c.args.up c.args.dict.now.roles c.args.dict.now.restricted c.requires.free c.args.row c.args.column c.requires.due.1)
+    (nearing_there c.args.q c.args.up c.args.dict.now.roles c.args.dict.now.restricted c.requires.free c.args.row c.args.column c.requires.nearing)
 
 pub returns-in-Err-clause-flags : goal.returns-in-Err-clause-flags
 returns-in-Err-clause-flags c =
     flags_are (newest c.args.dict.now.saved (quantities_of c.args.dict.now) c.in_ok-start.start.number c.in_ok-start.ensures.mark c.pivot.new.self.saved
+    (c.in-Err.ensures.saved ∙ c.in_ok-start.ensures.saved) (quantities_of c.undo.new.self) c.undo.ensures.now)
+
+pub returns-in-Err-clause-err : goal.returns-in-Err-clause-err
+returns-in-Err-clause-err c =
+    roles_are (newest c.args.dict.now.saved (quantities_of c.args.dict.now) c.in_ok-start.start.number c.in_ok-start.ensures.mark c.pivot.new.self.saved
     (c.in-Err.ensures.saved ∙ c.in_ok-start.ensures.saved) (quantities_of c.undo.new.self) c.undo.ensures.now)
 
 pub returns-in-Err-clause-overflow : goal.returns-in-Err-clause-overflow
@@ -37,7 +42,7 @@ pub constant-requires : goal.constant-requires
 constant-requires c =
     let old = c.args.dict.now.roles in
     let s = roles_are c.mark.ensures.now in
-    new_row c.args.q c.args.up old c.args.dict.now.restricted c.requires.asked c.requires.free c.requires.off c.requires.feasible c.requires.table c.args.row c.args.column c.requires.due.1
+    new_row c.args.q c.args.up old c.args.dict.now.restricted c.requires.asked c.requires.free c.requires.off c.requires.feasible c.requires.table c.args.row c.args.column c.requires.nearing
     c.pivot.new.self.roles (subst (λ (r : List Role). IsExchanged r c.args.row c.args.column c.pivot.new.self.roles) s c.in-Ok.ensures.kinds)
     (subst (λ (r : List Role). SameMeaning r c.pivot.new.self.roles) s c.in-Ok.ensures.same) c.in-Ok.ensures.table
 
@@ -48,14 +53,14 @@ returns-then-has_passed-clause-gone c =
     let s = roles_are c.mark.ensures.now in
     let x = subst (λ (r : List Role). IsExchanged r c.args.row c.args.column c.pivot.new.self.roles) s c.in-Ok.ensures.kinds in
     let m = subst (λ (r : List Role). SameMeaning r c.pivot.new.self.roles) s c.in-Ok.ensures.same in
-    let row = new_row c.args.q c.args.up old flags c.requires.asked c.requires.free c.requires.off c.requires.feasible c.requires.table c.args.row c.args.column c.requires.due.1
+    let row = new_row c.args.q c.args.up old flags c.requires.asked c.requires.free c.requires.off c.requires.feasible c.requires.table c.args.row c.args.column c.requires.nearing
     c.pivot.new.self.roles x m c.in-Ok.ensures.table in
     let back = roles_are (newest c.args.dict.now.saved (quantities_of c.args.dict.now) c.in_ok-start.start.number c.in_ok-start.ensures.mark c.pivot.new.self.saved
     (c.in-Ok.ensures.saved ∙ c.in_ok-start.ensures.saved) (quantities_of c.undo-then-has_passed.new.self) c.undo-then-has_passed.ensures.now) in (
       subst (λ (r : List Role). StaysRow c.args.q old flags r) (sym back) (stays_here c.args.q old flags c.requires.asked),
       subst (λ (r : List Role). CrossesAt r flags c.args.q c.args.column) (sym back)
-          (crosses_instead c.args.q c.args.up old flags c.requires.asked c.requires.free c.requires.off c.requires.feasible c.requires.table c.args.row c.args.column c.requires.due.1
-          c.pivot.new.self.roles x m c.in-Ok.ensures.table c.requires.due.0
+          (crosses_instead c.args.q c.args.up old flags c.requires.asked c.requires.free c.requires.off c.requires.feasible c.requires.table c.args.row c.args.column c.requires.nearing
+          c.pivot.new.self.roles x m c.in-Ok.ensures.table
           (has_passed c.pivot.new.self.roles c.args.q row c.constant.result (λ own at. c.constant.ensures own at) c.args.up c.has_passed.result c.has_passed.ensures c.if-has_passed.true)),
     )
 
@@ -69,7 +74,7 @@ constant-requires-2 c =
     let old = c.args.dict.now.roles in
     let s = roles_are c.mark.ensures.now in
     subst (λ (r : List Role). IsRow r c.args.q) (sym (roles_are c.forget.ensures.now))
-    (new_row c.args.q c.args.up old c.args.dict.now.restricted c.requires.asked c.requires.free c.requires.off c.requires.feasible c.requires.table c.args.row c.args.column c.requires.due.1
+    (new_row c.args.q c.args.up old c.args.dict.now.restricted c.requires.asked c.requires.free c.requires.off c.requires.feasible c.requires.table c.args.row c.args.column c.requires.nearing
     c.pivot.new.self.roles (subst (λ (r : List Role). IsExchanged r c.args.row c.args.column c.pivot.new.self.roles) s c.in-Ok.ensures.kinds)
     (subst (λ (r : List Role). SameMeaning r c.pivot.new.self.roles) s c.in-Ok.ensures.same) c.in-Ok.ensures.table)
 
@@ -81,7 +86,7 @@ returns-then-is_zero-clause-gone c =
     let x = subst (λ (r : List Role). IsExchanged r c.args.row c.args.column c.pivot.new.self.roles) s c.in-Ok.ensures.kinds in
     let m = subst (λ (r : List Role). SameMeaning r c.pivot.new.self.roles) s c.in-Ok.ensures.same in
     let g = roles_are c.forget.ensures.now in
-    let stays = stays_after c.args.q c.args.up old flags c.requires.asked c.requires.free c.requires.off c.requires.feasible c.requires.table c.args.row c.args.column c.requires.due.1
+    let stays = stays_after c.args.q c.args.up old flags c.requires.asked c.requires.free c.requires.off c.requires.feasible c.requires.table c.args.row c.args.column c.requires.nearing
     c.pivot.new.self.roles x m c.in-Ok.ensures.table in
     let row : IsRow c.forget.new.self.roles c.args.q = subst (λ (r : List Role). IsRow r c.args.q) (sym g) stays.row in (
       subst (λ (r : List Role). StaysRow c.args.q old flags r) (sym g) stays,
@@ -96,13 +101,13 @@ returns-clause-gone c =
     let x = subst (λ (r : List Role). IsExchanged r c.args.row c.args.column c.pivot.new.self.roles) s c.in-Ok.ensures.kinds in
     let m = subst (λ (r : List Role). SameMeaning r c.pivot.new.self.roles) s c.in-Ok.ensures.same in
     let g = roles_are c.forget.ensures.now in
-    let row = new_row c.args.q c.args.up old flags c.requires.asked c.requires.free c.requires.off c.requires.feasible c.requires.table c.args.row c.args.column c.requires.due.1
+    let row = new_row c.args.q c.args.up old flags c.requires.asked c.requires.free c.requires.off c.requires.feasible c.requires.table c.args.row c.args.column c.requires.nearing
     c.pivot.new.self.roles x m c.in-Ok.ensures.table in
     let row_2 : IsRow c.forget.new.self.roles c.args.q = subst (λ (r : List Role). IsRow r c.args.q) (sym g) row in
     let n : c.constant.result ≡ c.constant-2.result = c.constant.ensures row.0 row.1
     ∙ sym (c.constant-2.ensures row.0 (subst (λ (r : List Role). IsAt r c.args.q (Basic row.0)) (sym g) row.1)) in
-    subst (λ (r : List Role). GoesOn c.args.q c.args.up old flags r) (sym g)
-    (goes_on c.args.q c.args.up old flags c.requires.asked c.requires.free c.requires.off c.requires.feasible c.requires.table c.args.row c.args.column c.requires.due.1
+    subst (λ (r : List Role). GoesOn c.args.q c.args.up old flags c.args.row c.args.column r) (sym g)
+    (goes_on c.args.q c.args.up old flags c.requires.asked c.requires.free c.requires.off c.requires.feasible c.requires.table c.args.row c.args.column c.requires.nearing
     c.pivot.new.self.roles x m c.in-Ok.ensures.table
     (not_passed c.pivot.new.self.roles c.args.q row c.constant.result (λ own at. c.constant.ensures own at) c.args.up c.has_passed.result c.has_passed.ensures c.if-has_passed.false
     (λ z. let k = c.is_zero.ensures.1 (sym n ∙ z) in let f = c.if-is_zero.false in cc)))

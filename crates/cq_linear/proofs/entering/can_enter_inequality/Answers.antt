@@ -10,7 +10,7 @@ use Rattle.cq_tableau.specs.declared.names.Name.TheVariants.{Member}
 use Rattle.cq_tableau.specs.Raised.{IsBest, IsRaised}
 use Rattle.cq_tableau.specs.Refuted.{IsTooSmall}
 use Rattle.cq_tableau.proofs.Storing.{asked_row, stored_solvable}
-use Rattle.cq_linear.specs.Faced.{IsOnFace}
+use Rattle.cq_face.specs.Faced.{IsOnFace}
 use Rattle.cq_linear.specs.StoreValue.{MayRefuse, Only}
 use Rattle.cq_linear.proofs.Asked.{asked_of, risen_joins}
 use Rattle.cq_linear.proofs.Extents.{asked_feasible}

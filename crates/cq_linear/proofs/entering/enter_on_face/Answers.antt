@@ -1,18 +1,19 @@
-use Rattle.std.proofs.Common.{◌≡◌, ◌∙◌, ◌+◌, List, [], ◌∷◌, ◌++◌, length, ap, sym, subst}
+use Rattle.std.proofs.Common.{◌≡◌, ◌∙◌, ◌+◌, List, [], ◌∷◌, ◌++◌, length, Some, ap, sym, subst}
+use Rattle.std.specs.Prelude.{slice_get}
 use Rattle.cq_frac.specs.declared.VarId.{VarId}
 use Rattle.cq_dict.specs.DictValue.{quantities_of}
-use Rattle.cq_tableau.specs.declared.names.Name.TheVariants.{Member}
-use Rattle.cq_linear.specs.Faced.{IsFaced}
+use Rattle.cq_tableau.specs.declared.names.Name.TheVariants.{Variable, Member}
+use Rattle.cq_face.specs.Faced.{IsFaced}
 use Rattle.cq_tableau.specs.declared.names.Name.{Name}
-use Rattle.cq_tableau.specs.Stored.{IsKnown, IsBetween}
+use Rattle.cq_tableau.specs.Stored.{IsBetween}
 use Rattle.cq_linear.specs.Fallen.{FallsAt}
 use Rattle.cq_linear.proofs.Falls.{fallen_falls}
 use Rattle.cq_tableau.specs.Fixing.{AreFixedNow}
 use Rattle.std.proofs.Common.{Err, add-one}
-use Rattle.cq_linear.proofs.Passed.{passed, store_spent, search_refused, spent}
+use Rattle.cq_linear.proofs.Passed.{search_refused, spent}
 use Rattle.cq_linear.proofs.Stops.{face_refused, face_spent}
 use Rattle.cq_tableau.proofs.Storing.{numbered_member}
-use Rattle.cq_linear.proofs.Stays.{face_stored, face_between, newly_fixed, known_before}
+use Rattle.cq_linear.proofs.Stays.{face_stored, face_between, covers_all, newly_fixed, named_before}
 use Rattle.cq_linear.proofs.entering.enter_on_face.Goals as goal
 
 pub fixed_now-requires-clause-numbered : goal.fixed_now-requires-clause-numbered
@@ -48,20 +49,20 @@ returns-clause-joined c =
     c.in_ok-fallen.ensures.holds all number (λ i. number) c.push.new.self.now names_are in
     record {
       stored = stored;
-      newly = newly_fixed told names f.before f.stored c.args.c.now old.roles old.restricted f.keeps c.in_ok-before.before.items c.in_ok-fixed.fixed.items c.in_ok-before.ensures
-          c.push.new.self.now new (subst (λ (s : List VarId). AreFixedNow c.push.new.self.now new s c.in_ok-fixed.fixed.items) c.deref.ensures.value c.in_ok-fixed.ensures)
-          stored (λ x h. known_before names number x (subst (λ l. IsKnown l x) names_are h));
+      newly = newly_fixed told names f.before f.stored c.args.c.now old.roles old.restricted f.keeps c.in_ok-before.before.items c.in_ok-fixed.fixed.items
+          c.push.new.self.now new (covers_all names old.roles new.roles c.in_ok-before.before.items c.in_ok-before.ensures) (subst (λ (s : List VarId). AreFixedNow c.push.new.self.now new s c.in_ok-fixed.fixed.items) c.deref.ensures.value c.in_ok-fixed.ensures)
+          stored (λ n x h. named_before names number n x (subst (λ l. slice_get l n ≡ Some (Variable (record { 0 = x }))) names_are h));
     }
 
 pub returns-in_err-fallen-clause-overflow : goal.returns-in_err-fallen-clause-overflow
 returns-in_err-fallen-clause-overflow c = λ pair e.
-    let f = passed c.from_residual-in_err-fallen.result c.in_err-fallen.field-0.0 pair c.from_residual-in_err-fallen.ensures.1 e in
+    let f = search_refused c.from_residual-in_err-fallen.result c.in_err-fallen.field-0.0 pair c.from_residual-in_err-fallen.ensures.1 e in
     face_refused c.args.told.now c.args.names.now.now c.args.c.now c.args.dict.now.roles c.args.dict.now.restricted c.args.q c.args.columns.now c.requires.on_face pair
     (c.in_err-fallen.ensures.overflow pair (ap Err f))
 
 pub returns-in_err-fallen-clause-pivots : goal.returns-in_err-fallen-clause-pivots
 returns-in_err-fallen-clause-pivots c = λ n e.
-    let f = store_spent c.from_residual-in_err-fallen.result c.in_err-fallen.field-0.0 n c.from_residual-in_err-fallen.ensures.1 e in
+    let f = spent c.from_residual-in_err-fallen.result c.in_err-fallen.field-0.0 n c.from_residual-in_err-fallen.ensures.1 e in
     let o = c.in_err-fallen.ensures.pivots n (ap Err f) in (
       o.0,
       face_spent c.args.told.now c.args.names.now.now c.args.c.now c.args.dict.now.roles c.args.dict.now.restricted c.args.q c.args.columns.now c.requires.on_face n o.1,

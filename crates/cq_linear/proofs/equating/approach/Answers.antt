@@ -6,13 +6,29 @@ use Rattle.cq_tableau.proofs.Passed.{searched, never_searched, search_passed, se
 use Rattle.cq_tableau.proofs.Storing.{entries_below}
 use Rattle.cq_linear.specs.Equated.{IsRowBehind, Crosses}
 use Rattle.cq_linear.proofs.Approach.{row_feasible, moved_behind, crosses_there, level_refused, level_spent, short_above, short_below, joining_behind, joining_refused}
-use Rattle.cq_linear.proofs.Equations.{unflagged}
+use Rattle.cq_linear.proofs.Equations.{unflagged, free_crosses}
 use Rattle.cq_linear.proofs.equating.approach.Goals as goal
 
 pub add_row-requires : goal.add_row-requires
 add_row-requires c =
     let s = c.requires in
     entries_below s.told s.names (quantities_of c.args.dict.now) s.joins.stored s.constraint.form c.args.places.now s.joins.placed
+
+pub free_column_of-requires-clause-row : goal.free_column_of-requires-clause-row
+free_column_of-requires-clause-row c =
+    let s = c.requires in
+    let x = c.in_ok-q.ensures in
+    (joining_behind s.told s.names s.constraint (quantities_of c.args.dict.now) c.args.places.now c.args.constant s.joins (quantities_of c.add_row.new.self)
+    x.roles x.value x.table x.flags c.in_ok-q.q x.number).row
+
+-- by a new variable's quantity
+pub returns-in-Some-clause-approached : goal.returns-in-Some-clause-approached
+returns-in-Some-clause-approached c = λ told names k j.
+    let x = c.in_ok-q.ensures in
+    let mid = c.add_row.new.self in
+    let q = c.in_ok-q.q in
+    let b = joining_behind told names k (quantities_of c.args.dict.now) c.args.places.now c.args.constant j (quantities_of mid) x.roles x.value x.table x.flags q x.number in
+    free_crosses told names k mid.roles mid.restricted q b c.in-Some.column c.in-Some.ensures
 
 pub level-requires-clause-row : goal.level-requires-clause-row
 level-requires-clause-row c =

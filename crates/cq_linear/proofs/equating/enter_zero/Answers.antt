@@ -17,7 +17,7 @@ enter_by_column-requires-clause-crosses c =
     let roles = c.args.dict.now.roles in
     let flags = c.args.dict.now.restricted in
     free_crosses c.args.told.now c.args.names.now.now c.args.c.now roles flags c.args.q c.requires.behind c.in-Some.column
-    (subst (IsLightest roles flags c.args.q) c.in-Some.is c.lightest_column.ensures).0
+    (subst (IsLightest roles flags c.args.q) c.in-Some.is c.in_ok-column.ensures).0
 
 pub first_column-requires : goal.first_column-requires
 first_column-requires c = record { row = c.requires.behind.row }
@@ -29,7 +29,7 @@ enter_by_level-requires-clause-level c =
     record {
       behind = c.requires.behind;
       zero = c.requires.zero;
-      none = subst (IsLightest roles flags c.args.q) c.in_default.is c.lightest_column.ensures;
+      none = subst (IsLightest roles flags c.args.q) c.in_default.is c.in_ok-column.ensures;
       entry = subst (λ (o : Option ℕ). MatchOption o (HasNoLiveEntry roles c.args.q) (λ k. HasEntry roles c.args.q k)) c.in-Some-first_column.is c.first_column.ensures;
     }
 

@@ -1,44 +1,48 @@
-use Rattle.std.proofs.Common.{◌∙◌, ◌++◌, ◌∷◌, [], List, ℕ, ap, sym, subst, append_assoc, arith, true, false}
+use Rattle.std.proofs.Common.{◌≡◌, ◌∙◌, ◌++◌, ◌∷◌, [], List, ℕ, ap, sym, subst, arith}
+use Rattle.std.specs.Prelude.{All}
+use Rattle.cq_frac.specs.declared.VarId.{VarId}
+use Rattle.cq_term.specs.HeapValue.{HeapValue}
+use Rattle.cq_term.specs.Names.{HasNamesBelow}
+use Rattle.cq_term.specs.declared.view.View.{View}
 use Rattle.cq_resolve.specs.Matching.{Call, Matching}
-use Rattle.cq_resolve.proofs.Started.{nil_of, ok_is}
 use Rattle.cq_resolve.proofs.matching.match_head.Goals as goal
-use Rattle.cq_resolve.proofs.matching.match_head.Goals.{After-step-in-Some}
 
-here : (c : After-step-in-Some) → (k : Call) → Matching k c.args.head.now c.args.first c.args.heap.now.now c.args.newly.now 0 0 (c.args.goal ∷ []) →
-    Matching k c.args.head.now c.args.first c.loop-next.heap.now c.loop-next.newly c.loop-next.walk.place c.loop-next.walk.met (c.pop.new.self.items ++ c.in-Some.next ∷ [])
-here c k m = subst (λ (gs : List ℕ). Matching k c.args.head.now c.args.first c.loop-next.heap.now c.loop-next.newly c.loop-next.walk.place c.loop-next.walk.met gs) c.in-Some.ensures.items (c.loop-next.invariant.matching k m)
+-- the match begins with an empty list that the heap gave
+begun_with : (k : Call) (head : List View) (first : ℕ) (old now : HeapValue) (newly : List VarId) (id : ℕ) (goals : List ℕ) → now ≡ old → goals ≡ [] →
+    Matching k head first old.now newly 0 0 (id ∷ []) → Matching k head first now.now newly 0 0 (goals ++ id ∷ [])
+begun_with k head first old now newly id goals same empty m =
+    subst (λ (h : HeapValue). Matching k head first h.now newly 0 0 (goals ++ id ∷ [])) (sym same) (subst (λ (gs : List ℕ). Matching k head first old.now newly 0 0 (gs ++ id ∷ [])) (sym empty) m)
 
-pub returns-then-not-branch-clause-none : goal.returns-then-not-branch-clause-none
-returns-then-not-branch-clause-none c = λ e k m.
-    c.in_ok-step.ensures.none (ok_is c.in_ok-step.field-0 false c.if-not-branch.true) k
-    (subst (λ (gs : List ℕ). Matching k c.args.head.now c.args.first c.args.heap.now.now c.args.newly.now 0 0 (gs ++ c.args.goal ∷ [])) (sym c.new.ensures.items) m)
-
-pub returns-then-not-branch-2-clause-none : goal.returns-then-not-branch-2-clause-none
-returns-then-not-branch-2-clause-none c = λ e k m.
-    c.in_ok-step-2.ensures.none (ok_is c.in_ok-step-2.field-0 false c.if-not-branch-2.true) k (here (goal.at.returns-then-not-branch-2-clause-none c).After-step-in-Some k m)
-
-pub loop-next-preserved : goal.loop-next-preserved
-loop-next-preserved c =
-    let ok = ok_is c.in_ok-step-2.field-0 true c.if-not-branch-2.false in
-    record {
-      matching = λ k m. c.in_ok-step-2.ensures.matched ok k (here (goal.at.loop-next-preserved c).After-step-in-Some k m);
-      within = c.in_ok-step-2.ensures.within ok;
-      told = (
-        c.loop-next.invariant.told.0 ++ c.step-in-Some.ensures.told.0,
-        c.step-in-Some.ensures.told.1 ∙ ap (λ vs. vs ++ c.step-in-Some.ensures.told.0) c.loop-next.invariant.told.1 ∙ append_assoc c.args.newly.now c.loop-next.invariant.told.0 c.step-in-Some.ensures.told.0,
-      );
-      names = λ n head all. c.in_ok-step-2.ensures.names n head (c.loop-next.invariant.names n head all);
-      saved = c.step-in-Some.ensures.saved ∙ c.loop-next.invariant.saved;
-      room = omega (arith, c.step-in-Some.ensures.room, c.loop-next.invariant.room);
-    }
-
-pub returns-clause-matched : goal.returns-clause-matched
-returns-clause-matched c = λ e k m. (
-  c.loop-next.walk.place,
-  c.loop-next.walk.met,
-  subst (λ (gs : List ℕ). Matching k c.args.head.now c.args.first c.loop-next.heap.now c.loop-next.newly c.loop-next.walk.place c.loop-next.walk.met gs)
-      (nil_of c.loop-next.walk.goals.items (let n = c.in_default.ensures.cases in sym c.loop-next.walk.goals.ok.0 ∙ n.0)) (c.loop-next.invariant.matching k m),
+pub match_from-requires : goal.match_from-requires
+match_from-requires c = (
+  c.requires.0,
+  begun_with c.requires.0 c.args.head.now c.args.first c.args.heap.now c.spare_list.new.self c.args.newly.now c.args.goal c.spare_list.result.items c.spare_list.ensures.same c.spare_list.ensures.empty c.requires.1,
 )
 
-pub returns-then-not-branch-2-clause-names : goal.returns-then-not-branch-2-clause-names
-returns-then-not-branch-2-clause-names c = λ n head all. c.in_ok-step-2.ensures.names n head (c.loop-next.invariant.names n head all)
+pub returns-clause-matched : goal.returns-clause-matched
+returns-clause-matched c = λ e k m.
+    let h = c.in_ok-matched.ensures.matched e k
+    (begun_with k c.args.head.now c.args.first c.args.heap.now c.spare_list.new.self c.args.newly.now c.args.goal c.spare_list.result.items c.spare_list.ensures.same c.spare_list.ensures.empty m) in
+    (h.0, h.1, subst (λ (v : HeapValue). Matching k c.args.head.now c.args.first v.now c.match_from.new.newly h.0 h.1 []) (sym c.keep_list.ensures) h.2)
+
+pub returns-clause-none : goal.returns-clause-none
+returns-clause-none c = λ e k m.
+    c.in_ok-matched.ensures.none e k
+    (begun_with k c.args.head.now c.args.first c.args.heap.now c.spare_list.new.self c.args.newly.now c.args.goal c.spare_list.result.items c.spare_list.ensures.same c.spare_list.ensures.empty m)
+
+pub returns-clause-names : goal.returns-clause-names
+returns-clause-names c = λ n head all.
+    subst (λ (v : HeapValue). All (HasNamesBelow n) v.now.terms) (sym c.keep_list.ensures)
+    (c.in_ok-matched.ensures.names n head (subst (λ (v : HeapValue). All (HasNamesBelow n) v.now.terms) (sym c.spare_list.ensures.same) all))
+
+pub returns-clause-saved : goal.returns-clause-saved
+returns-clause-saved c = ap (λ (v : HeapValue). v.saved) c.keep_list.ensures ∙ c.match_from.ensures.saved ∙ ap (λ (v : HeapValue). v.saved) c.spare_list.ensures.same
+
+pub returns-clause-room : goal.returns-clause-room
+returns-clause-room c = omega (arith, c.match_from.ensures.room, ap (λ (v : HeapValue). v.room) c.keep_list.ensures, ap (λ (v : HeapValue). v.room) c.spare_list.ensures.same)
+
+pub returns-in_err-matched-clause-saved : goal.returns-in_err-matched-clause-saved
+returns-in_err-matched-clause-saved c = c.match_from.ensures.saved ∙ ap (λ (v : HeapValue). v.saved) c.spare_list.ensures.same
+
+pub returns-in_err-matched-clause-room : goal.returns-in_err-matched-clause-room
+returns-in_err-matched-clause-room c = omega (arith, c.match_from.ensures.room, ap (λ (v : HeapValue). v.room) c.spare_list.ensures.same)

@@ -19,7 +19,7 @@ pattern c = subst (λ (n : ℕ). IsPattern n c.head.result.now) (sym c.variables
 start : (c : After-head) → Matching (the_call_of c) c.head.result.now c.in_ok-first.first c.new_variables.new.heap.now c.args.newly.now 0 0 (c.args.goal ∷ [])
 start c =
     matching_start c.args.heap.now.now c.new_variables.new.heap.now c.variables.result c.in_ok-first.first c.head.result.now c.args.goal c.args.newly.now
-    (pattern c) (omega arith) c.in_ok-first.ensures.first c.in_ok-first.ensures.there c.in_ok-first.ensures.terms c.in_ok-first.ensures.images c.requires c.view-shown.ensures.inside
+    (pattern c) (omega arith) c.in_ok-first.ensures.first c.in_ok-first.ensures.there c.in_ok-first.ensures.terms c.in_ok-first.ensures.images c.requires (c.variables_are_unbound.ensures c.args.goal)
 
 pub match_head-requires : goal.match_head-requires
 match_head-requires c = (let k = (goal.at.match_head-requires c).After-head in (the_call_of k, start k))

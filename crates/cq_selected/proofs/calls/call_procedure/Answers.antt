@@ -1,66 +1,94 @@
-use Rattle.std.proofs.Common.{Bool, refl, sym, ap, subst, ◌∙◌}
+use Rattle.std.proofs.Common.{refl, sym, ap, ◌∙◌}
 use Rattle.std.specs.Prelude.{Ok}
 use Rattle.spec_built.specs.Built.{Indicator}
 use Rattle.spec_built.specs.Errors.{existence_error}
 use Rattle.spec_search.specs.Replies.{Raises}
 use Rattle.cq_attr.proofs.Elements.{on_err}
-use Rattle.cq_world.specs.Contents.{Contents}
-use Rattle.cq_steps.specs.Worlds.{value, saved_values, stack}
-use Rattle.cq_calls.specs.Calling.{HasCalled}
+use Rattle.cq_steps.specs.Worlds.{value}
+use Rattle.cq_calls.proofs.Waiting.{same_grown}
 use Rattle.cq_machine.specs.Machines.{now}
-use Rattle.cq_selected.proofs.Called.{called_at, keeps_equal}
-use Rattle.cq_selected.proofs.Reached.{names_same, same_grown, sound_still, stands_all}
+use Rattle.cq_selected.proofs.Called.{called_at, names_called}
+use Rattle.cq_selected.proofs.Reached.{names_same, sound_still, stands_all}
 use Rattle.cq_selected.proofs.calls.call_procedure.Goals as goal
 
-pub returns-then-found-clause-row : goal.returns-then-found-clause-row
-returns-then-found-clause-row c = λ height p behind g s.
-    let m = c.args.m.now in
-    let new = c.call_procedure.new in
-    let at = called_at m c.args.predicate c.args.goal height c.args.rest p behind g c.requires.sound c.requires.predicate s in
-    subst (λ (b : Bool). HasCalled b m.atoms (stack m.atoms new.clauses (saved_values new.world.first new.world.second.saved) new.choices) p behind g) c.if-found.true
-    (c.in_ok-found.ensures.row m.atoms p behind g at)
+-- ---- where it is selected
 
-pub returns-else-found-clause-row : goal.returns-else-found-clause-row
-returns-else-found-clause-row c = λ height p behind g s.
-    let m = c.args.m.now in
-    let new = c.call_procedure.new in
-    let at = called_at m c.args.predicate c.args.goal height c.args.rest p behind g c.requires.sound c.requires.predicate s in
-    subst (λ (b : Bool). HasCalled b m.atoms (stack m.atoms new.clauses (saved_values new.world.first new.world.second.saved) new.choices) p behind g) c.if-found.false
-    (c.in_ok-found.ensures.row m.atoms p behind g at)
-    ∙ ap (λ (i : Indicator). Raises (existence_error i)) (sym at.indicator)
+pub call_procedure-requires-clause-ready : goal.call_procedure-requires-clause-ready
+call_procedure-requires-clause-ready c = (let s = c.requires.selected in (s.1.state, s.4.selected.place.continuation.state.ready))
 
-pub returns-then-found-clause-sound : goal.returns-then-found-clause-sound
-returns-then-found-clause-sound c =
+pub call_procedure-requires-clause-rest : goal.call_procedure-requires-clause-rest
+call_procedure-requires-clause-rest c = c.requires.selected.4.selected.place.continuation.there
+
+-- ---- its row
+
+pub returns-in-Goes-clause-row : goal.returns-in-Goes-clause-row
+returns-in-Goes-clause-row c = λ height p behind g s.
+    (rw c.in-Goes.is at c.in_ok-found.ensures.row) p behind g
+    (called_at c.args.m.now c.args.predicate c.args.goal height c.args.rest p behind g c.requires.sound c.requires.predicate s)
+
+pub returns-in-Back-clause-row : goal.returns-in-Back-clause-row
+returns-in-Back-clause-row c = λ height p behind g s.
+    (rw c.in-Back.is at c.in_ok-found.ensures.row) p behind g
+    (called_at c.args.m.now c.args.predicate c.args.goal height c.args.rest p behind g c.requires.sound c.requires.predicate s)
+
+pub returns-in-Unknown-clause-row : goal.returns-in-Unknown-clause-row
+returns-in-Unknown-clause-row c = λ height p behind g s.
+    let at = called_at c.args.m.now c.args.predicate c.args.goal height c.args.rest p behind g c.requires.sound c.requires.predicate s in
+    (rw c.in-Unknown.is at c.in_ok-found.ensures.row) p behind g at ∙ ap (λ (i : Indicator). Raises (existence_error i)) (sym at.indicator)
+
+pub returns-in-Goes-clause-goes : goal.returns-in-Goes-clause-goes
+returns-in-Goes-clause-goes c = rw c.in-Goes.is at c.in_ok-found.ensures.there
+
+-- ---- the machine is sound
+
+pub returns-in-Goes-clause-sound : goal.returns-in-Goes-clause-sound
+returns-in-Goes-clause-sound c =
+    let m = c.args.m.now in
+    let s = c.requires.selected in
+    sound_still m _ c.requires.sound
+    (record { atoms = refl; names = refl; ops = refl; clauses = c.call_procedure.ensures.clauses; budget = c.call_procedure.ensures.budget })
+    (names_called m.atoms _ (value c.call_procedure.new.world.first c.call_procedure.new.world.second.now) c.in-Goes.k s.1 s.2 s.3
+    ((rw c.in-Goes.is at c.in_ok-found.ensures.row) s.1 s.2 s.3
+    (called_at m c.args.predicate c.args.goal s.0 c.args.rest s.1 s.2 s.3 c.requires.sound c.requires.predicate s.4)))
+    c.call_procedure.ensures.marked (c.call_procedure.ensures.open c.requires.sound.untried)
+
+pub returns-in-Back-clause-sound : goal.returns-in-Back-clause-sound
+returns-in-Back-clause-sound c =
     let m = c.args.m.now in
     sound_still m _ c.requires.sound
-    (record { atoms = refl; names = refl; ops = refl; clauses = c.call_procedure.ensures.clauses; budget = ap (λ (w : Contents). w.pivots) c.call_procedure.ensures.world })
-    (names_same m.atoms (now m).0 _ c.requires.sound.names c.call_procedure.ensures.world) c.call_procedure.ensures.marked (c.call_procedure.ensures.open m.atoms c.requires.sound.untried)
+    (record { atoms = refl; names = refl; ops = refl; clauses = c.call_procedure.ensures.clauses; budget = c.call_procedure.ensures.budget })
+    (names_same m.atoms (now m).0 _ c.requires.sound.names (c.in_ok-found.ensures.back (ap Ok c.in-Back.is)))
+    c.call_procedure.ensures.marked (c.call_procedure.ensures.open c.requires.sound.untried)
 
-pub returns-else-found-clause-sound : goal.returns-else-found-clause-sound
-returns-else-found-clause-sound c =
+pub returns-in-Unknown-clause-sound : goal.returns-in-Unknown-clause-sound
+returns-in-Unknown-clause-sound c =
     let m = c.args.m.now in
     sound_still m _ c.requires.sound
-    (record { atoms = refl; names = refl; ops = refl; clauses = c.call_procedure.ensures.clauses; budget = ap (λ (w : Contents). w.pivots) c.call_procedure.ensures.world })
-    (names_same m.atoms (now m).0 _ c.requires.sound.names c.call_procedure.ensures.world) c.call_procedure.ensures.marked (c.call_procedure.ensures.open m.atoms c.requires.sound.untried)
+    (record { atoms = refl; names = refl; ops = refl; clauses = c.call_procedure.ensures.clauses; budget = c.call_procedure.ensures.budget })
+    (names_same m.atoms (now m).0 _ c.requires.sound.names (c.in_ok-found.ensures.unknown (ap Ok c.in-Unknown.is)).world)
+    c.call_procedure.ensures.marked (c.call_procedure.ensures.open c.requires.sound.untried)
 
 pub returns-in_err-found-clause-sound : goal.returns-in_err-found-clause-sound
 returns-in_err-found-clause-sound c =
     let m = c.args.m.now in
     sound_still m _ c.requires.sound
-    (record { atoms = refl; names = refl; ops = refl; clauses = c.call_procedure.ensures.clauses; budget = ap (λ (w : Contents). w.pivots) c.call_procedure.ensures.world })
-    (names_same m.atoms (now m).0 _ c.requires.sound.names c.call_procedure.ensures.world) c.call_procedure.ensures.marked (c.call_procedure.ensures.open m.atoms c.requires.sound.untried)
+    (record { atoms = refl; names = refl; ops = refl; clauses = c.call_procedure.ensures.clauses; budget = c.call_procedure.ensures.budget })
+    (names_same m.atoms (now m).0 _ c.requires.sound.names c.in_err-found.ensures.err.world)
+    c.call_procedure.ensures.marked (c.call_procedure.ensures.open c.requires.sound.untried)
+
+-- ---- it stands for what it stood for
 
 pub returns-in_err-found-clause-err : goal.returns-in_err-found-clause-err
 returns-in_err-found-clause-err c =
     let m = c.args.m.now in
+    let still = c.in_err-found.ensures.err in
     on_err c.from_residual.result
     (stands_all m c.call_procedure.new.clauses _ c.call_procedure.new.choices (value c.call_procedure.new.world.first c.call_procedure.new.world.second.now)
-    c.call_procedure.ensures.clauses c.in_err-found.ensures.err_saved c.in_err-found.ensures.err
-    (same_grown m.atoms (now m).0 _ (now m).1 _ c.call_procedure.ensures.world (keeps_equal (now m).1 _ c.call_procedure.ensures.lists)))
+    c.call_procedure.ensures.clauses still.saved still.choices (same_grown m.atoms (now m).0 _ (now m).1 _ still.world still.lists))
 
-pub returns-else-found-clause-raises : goal.returns-else-found-clause-raises
-returns-else-found-clause-raises c =
+pub returns-in-Unknown-clause-raises : goal.returns-in-Unknown-clause-raises
+returns-in-Unknown-clause-raises c =
     let m = c.args.m.now in
+    let still = c.in_ok-found.ensures.unknown (ap Ok c.in-Unknown.is) in
     stands_all m c.call_procedure.new.clauses _ c.call_procedure.new.choices (value c.call_procedure.new.world.first c.call_procedure.new.world.second.now)
-    c.call_procedure.ensures.clauses (c.in_ok-found.ensures.unknown_saved (ap Ok c.if-found.false)) (c.in_ok-found.ensures.unknown (ap Ok c.if-found.false))
-    (same_grown m.atoms (now m).0 _ (now m).1 _ c.call_procedure.ensures.world (keeps_equal (now m).1 _ c.call_procedure.ensures.lists))
+    c.call_procedure.ensures.clauses still.saved still.choices (same_grown m.atoms (now m).0 _ (now m).1 _ still.world still.lists)

@@ -16,7 +16,8 @@ use Rattle.cq_machine.proofs.Built.{selected_on, stands_still, stands_then}
 use Rattle.cq_machine.proofs.Kept.{leads_over}
 use Rattle.cq_selected.proofs.More.{call_again}
 use Rattle.cq_selected.proofs.Whole.{whole_is}
-use Rattle.cq_selected.proofs.Reached.{names_same, same_grown, sound_still, marked_still, open_still}
+use Rattle.cq_calls.proofs.Waiting.{same_grown}
+use Rattle.cq_selected.proofs.Reached.{names_same, sound_still, marked_still, open_still}
 use Rattle.cq_selected.proofs.calls.call_with_more.Goals as goal
 
 pub returns-in_err-whole-clause-err : goal.returns-in_err-whole-clause-err

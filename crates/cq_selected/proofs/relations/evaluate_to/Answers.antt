@@ -9,7 +9,8 @@ use Rattle.cq_steps.specs.Worlds.{value}
 use Rattle.cq_machine.specs.Machines.{now, saved, holds}
 use Rattle.cq_machine.specs.Stepping.{row_of}
 use Rattle.cq_machine.proofs.Kept.{leads_over}
-use Rattle.cq_selected.proofs.Reached.{names_ahead, names_same, same_grown, stands_parts, sound_still, open_still, marked_still}
+use Rattle.cq_calls.proofs.Waiting.{same_grown}
+use Rattle.cq_selected.proofs.Reached.{names_ahead, names_same, stands_parts, sound_still, open_still, marked_still}
 use Rattle.cq_selected.proofs.relations.evaluate_to.Goals as goal
 
 pub evaluate_to-requires-clause-ready : goal.evaluate_to-requires-clause-ready

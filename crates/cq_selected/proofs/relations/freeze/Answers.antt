@@ -7,7 +7,8 @@ use Rattle.cq_steps.specs.Worlds.{value}
 use Rattle.cq_machine.specs.Machines.{now, saved, holds}
 use Rattle.cq_machine.specs.Stepping.{row_of}
 use Rattle.cq_machine.proofs.Kept.{leads_over}
-use Rattle.cq_selected.proofs.Reached.{names_ahead, names_same, same_grown, sound_still, open_still, marked_still, stands_parts}
+use Rattle.cq_calls.proofs.Waiting.{same_grown}
+use Rattle.cq_selected.proofs.Reached.{names_ahead, names_same, sound_still, open_still, marked_still, stands_parts}
 use Rattle.cq_selected.proofs.relations.freeze.Goals as goal
 
 pub returns-clause-row : goal.returns-clause-row

@@ -10,7 +10,8 @@ use Rattle.cq_machine.specs.Stepping.{row_of}
 use Rattle.cq_machine.proofs.Kept.{leads_over}
 use Rattle.cq_selected.proofs.Equal.{unify_row}
 use Rattle.cq_selected.proofs.Stopped.{stopped_by}
-use Rattle.cq_selected.proofs.Reached.{names_ahead, names_same, same_grown, stands_parts, sound_still, open_still, marked_still}
+use Rattle.cq_calls.proofs.Waiting.{same_grown}
+use Rattle.cq_selected.proofs.Reached.{names_ahead, names_same, stands_parts, sound_still, open_still, marked_still}
 use Rattle.cq_selected.proofs.relations.unify.Goals as goal
 
 pub unify-requires-clause-ready : goal.unify-requires-clause-ready

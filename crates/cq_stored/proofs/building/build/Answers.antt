@@ -1,42 +1,64 @@
-use Rattle.std.proofs.Common.{◌≡◌, ◌-◌, ◌∙◌, length, map, reverse, drop, ap, sym, subst, arith}
-use Rattle.std.proofs.lemmas.List.{length-map, length-reverse}
+use Rattle.std.proofs.Common.{◌∙◌, ap, sym, subst, length, arith, ◌<◌}
+use Rattle.std.specs.Prelude.{All}
+use Rattle.spec_lists.specs.Prefixes.{IsPrefix}
 use Rattle.spec_terms.specs.Term.{apply}
+use Rattle.cq_term.specs.HeapValue.{HeapValue}
 use Rattle.cq_term.specs.Meaning.{at}
-use Rattle.std.proofs.lemmas.List.Elements.{All-get_or}
-use Rattle.spec_lists.proofs.Prefixes.{prefix_both}
-use Rattle.cq_stored.specs.Pattern.{IsHead, IsNamedBelow, put, read}
+use Rattle.cq_term.specs.Names.{HasNamesBelow}
+use Rattle.cq_stored.specs.Pattern.{term_of}
 use Rattle.cq_stored.specs.Building.{AreThere, image_from}
-use Rattle.cq_stored.proofs.Reading.{head_fits}
 use Rattle.cq_stored.proofs.building.build.Goals as goal
 
-pub add-requires-clause-head : goal.add-requires-clause-head
-add-requires-clause-head c =
-    let long : length (read (drop c.loop-i.i c.args.pattern.now)) ≡ length c.loop-i.built.items =
-    sym (length-map (read (drop c.loop-i.i c.args.pattern.now)) (apply (image_from c.args.heap.now.now.images c.args.first))) ∙ ap length (sym c.loop-i.invariant.built)
-    ∙ length-map (reverse c.loop-i.built.items) (at c.loop-i.heap.now.terms) ∙ length-reverse c.loop-i.built.items in (
-      c.requires.0,
-      subst (IsHead c.requires.0 c.index-pattern-i.result) long
-          (head_fits c.requires.0 c.args.pattern.now c.requires.1.fits c.loop-i.i (c.loop-i.i - 1) c.index-pattern-i.result (omega arith) c.loop-i.auto.i c.index-pattern-i.is).0,
-      subst (λ us. AreThere us c.args.first c.requires.0) (sym c.loop-i.invariant.images) c.requires.2,
-    )
+pub build_in-requires-clause-pattern : goal.build_in-requires-clause-pattern
+build_in-requires-clause-pattern c = (
+  c.requires.0,
+  c.requires.1,
+  subst (λ (h : HeapValue). AreThere h.now.images c.args.first c.requires.0) (sym c.spare_list-built.ensures.same) c.requires.2,
+)
 
-pub loop-i-preserved : goal.loop-i-preserved
-loop-i-preserved c =
-    let pattern = c.args.pattern.now in
-    let first = c.args.first in
-    let head = c.index-pattern-i.result in
-    let images = c.loop-i.invariant.images in
-    let rest = read (drop c.loop-i.i pattern) in
-    let fits = head_fits c.requires.0 pattern c.requires.1.fits c.loop-i.i (c.loop-i.i - 1) head (omega arith) c.loop-i.auto.i c.index-pattern-i.is in
-    record {
-      live = c.in_ok-add.ensures.live;
-      built = c.in_ok-add.ensures.built rest (c.loop-i.invariant.built ∙ ap (λ us. map (apply (image_from us first)) rest) (sym images))
-          ∙ ap (λ us. map (apply (image_from us first)) (put head rest)) images
-          ∙ ap (λ hs. map (apply (image_from c.args.heap.now.now.images first)) (read hs)) (sym fits.1);
-      terms = prefix_both c.args.heap.now.now.terms c.loop-i.heap.now.terms c.add.new.heap.now.terms c.loop-i.invariant.terms c.in_ok-add.ensures.terms;
-      images = c.in_ok-add.ensures.images ∙ images;
-      names = λ n all old. c.in_ok-add.ensures.names n
-          (subst (IsNamedBelow n) (sym c.index-pattern-i.is) (All-get_or (IsNamedBelow n) pattern (c.loop-i.i - 1) head (omega (arith, c.loop-i.auto.i)) all)) (c.loop-i.invariant.names n all old);
-      saved = c.in_ok-add.ensures.saved ∙ c.loop-i.invariant.saved;
-      room = omega (arith, c.in_ok-add.ensures.room, c.loop-i.invariant.room);
-    }
+pub build_in-requires-clause-empty : goal.build_in-requires-clause-empty
+build_in-requires-clause-empty c = c.spare_list-built.ensures.empty
+
+pub returns-clause-live : goal.returns-clause-live
+returns-clause-live c = subst (λ (h : HeapValue). c.in_ok-whole.whole < length h.now.terms) (sym c.keep_list.ensures) c.in_ok-whole.ensures.live
+
+pub returns-clause-built : goal.returns-clause-built
+returns-clause-built c =
+    ap (λ (h : HeapValue). at h.now.terms c.in_ok-whole.whole) c.keep_list.ensures
+    ∙ c.in_ok-whole.ensures.built
+    ∙ ap (λ (h : HeapValue). apply (image_from h.now.images c.args.first) (term_of c.args.pattern.now)) c.spare_list-built.ensures.same
+
+pub returns-clause-terms : goal.returns-clause-terms
+returns-clause-terms c =
+    subst (λ (h : HeapValue). IsPrefix c.args.heap.now.now.terms h.now.terms) (sym c.keep_list.ensures)
+    (subst (λ (h : HeapValue). IsPrefix h.now.terms c.build_in.new.heap.now.terms) c.spare_list-built.ensures.same c.build_in.ensures.terms)
+
+pub returns-clause-images : goal.returns-clause-images
+returns-clause-images c =
+    ap (λ (h : HeapValue). h.now.images) c.keep_list.ensures ∙ c.build_in.ensures.images ∙ ap (λ (h : HeapValue). h.now.images) c.spare_list-built.ensures.same
+
+pub returns-clause-names : goal.returns-clause-names
+returns-clause-names c = λ n named all.
+    subst (λ (h : HeapValue). All (HasNamesBelow n) h.now.terms) (sym c.keep_list.ensures)
+    (c.build_in.ensures.names n named (subst (λ (h : HeapValue). All (HasNamesBelow n) h.now.terms) (sym c.spare_list-built.ensures.same) all))
+
+pub returns-clause-saved : goal.returns-clause-saved
+returns-clause-saved c = ap (λ (h : HeapValue). h.saved) c.keep_list.ensures ∙ c.build_in.ensures.saved ∙ ap (λ (h : HeapValue). h.saved) c.spare_list-built.ensures.same
+
+pub returns-clause-room : goal.returns-clause-room
+returns-clause-room c = omega (arith, c.build_in.ensures.room, ap (λ (h : HeapValue). h.room) c.keep_list.ensures, ap (λ (h : HeapValue). h.room) c.spare_list-built.ensures.same)
+
+pub returns-in_err-whole-clause-terms : goal.returns-in_err-whole-clause-terms
+returns-in_err-whole-clause-terms c = subst (λ (h : HeapValue). IsPrefix h.now.terms c.build_in.new.heap.now.terms) c.spare_list-built.ensures.same c.build_in.ensures.terms
+
+pub returns-in_err-whole-clause-images : goal.returns-in_err-whole-clause-images
+returns-in_err-whole-clause-images c = c.build_in.ensures.images ∙ ap (λ (h : HeapValue). h.now.images) c.spare_list-built.ensures.same
+
+pub returns-in_err-whole-clause-names : goal.returns-in_err-whole-clause-names
+returns-in_err-whole-clause-names c = λ n named all. c.build_in.ensures.names n named (subst (λ (h : HeapValue). All (HasNamesBelow n) h.now.terms) (sym c.spare_list-built.ensures.same) all)
+
+pub returns-in_err-whole-clause-saved : goal.returns-in_err-whole-clause-saved
+returns-in_err-whole-clause-saved c = c.build_in.ensures.saved ∙ ap (λ (h : HeapValue). h.saved) c.spare_list-built.ensures.same
+
+pub returns-in_err-whole-clause-room : goal.returns-in_err-whole-clause-room
+returns-in_err-whole-clause-room c = omega (arith, c.build_in.ensures.room, ap (λ (h : HeapValue). h.room) c.spare_list-built.ensures.same)

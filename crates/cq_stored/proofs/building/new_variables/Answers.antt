@@ -1,69 +1,42 @@
-use Rattle.std.proofs.Common.{◌≡◌, ◌+◌, ◌++◌, ◌∙◌, suc, length, arith}
-use Rattle.spec_terms.specs.Term.{Var}
-use Rattle.spec_lists.proofs.Prefixes.{prefix_push}
-use Rattle.cq_unify.specs.Copied.{unbound_from}
-use Rattle.cq_unify.proofs.Places.{variables_now, images_more}
-use Rattle.cq_stored.proofs.Built.{last_at}
-use Rattle.cq_stored.proofs.Named.{named_push}
-use Rattle.cq_stored.proofs.Renamed.{new_number}
+use Rattle.std.proofs.Common.{◌∙◌, [], ℕ, ap, sym, length, arith, append-nil}
+use Rattle.std.specs.Prelude.{Ok, Err, OnErr}
+use Rattle.std.specs.declared.result.Result.{Result}
+use Rattle.std.specs.declared.alloc.AllocError.{AllocError}
+use Rattle.cq_term.specs.HeapValue.{Terms}
+use Rattle.cq_term.specs.Shown.{variables_from}
+use Rattle.spec_lists.proofs.Prefixes.{prefix_same}
+use Rattle.cq_unify.proofs.Places.{variables_now}
+use Rattle.cq_stored.specs.Building.{HasSomeNew}
+use Rattle.cq_stored.proofs.Named.{named_more, named_same}
 use Rattle.cq_stored.proofs.building.new_variables.Goals as goal
-use Rattle.cq_stored.proofs.building.new_variables.Goals.{After-number_of-number}
 
-pub loop-variable-preserved : goal.loop-variable-preserved
-loop-variable-preserved c =
-    let old = c.args.heap.now.now in
-    let now = c.loop-variable.heap.now in
-    let new = c.new_var.new.self.now in
-    let next : c.loop-variable._variable + 1 ≡ suc c.loop-variable._variable = omega arith in
-    record {
-      terms = prefix_push old.terms now.terms new.terms (Var (length now.images)) c.loop-variable.invariant.terms c.in_ok-new_var.ensures.terms;
-      images = images_more old.images now.images new.images c.loop-variable._variable (c.loop-variable._variable + 1) c.loop-variable.invariant.images c.in_ok-new_var.ensures.images next;
-      names = λ n all. named_push n now.terms new.terms (Var (length now.images)) c.in_ok-new_var.ensures.terms tt (c.loop-variable.invariant.names n all);
-      saved = c.new_var.ensures.saved ∙ c.loop-variable.invariant.saved;
-      room = omega (arith, c.new_var.ensures.room, c.loop-variable.invariant.room);
-    }
+pub returns-in_err-first-clause-terms : goal.returns-in_err-first-clause-terms
+returns-in_err-first-clause-terms c = prefix_same c.args.heap.now.now.terms c.new_vars.new.self.now.terms (ap (λ (t : Terms). t.terms) c.in_err-first.ensures.err)
 
-module _ (c : After-number_of-number) where
-  passed : c.args.count ≡ suc c.loop-variable._variable
-  passed = omega (arith, c.if-count-eq0.false, c.loop-variable-test.false, c.loop-variable.auto._variable-end)
+on_err : (r : Result ℕ AllocError) (P : Type 0) → P → OnErr r P
+on_err (Ok n) P p = tt
+on_err (Err e) P p = p
 
-  number_is : c.number_of-number.result ≡ length c.args.heap.now.now.images + c.loop-variable._variable
-  number_is =
-      new_number c.loop-variable.heap.now.terms c.new_var-2.new.self.now.terms c.in_ok-youngest.youngest (length c.loop-variable.heap.now.images) c.number_of-number.result
-      c.in_ok-youngest.ensures.terms c.in_ok-youngest.ensures.id c.number_of-number.ensures
-      ∙ variables_now c.args.heap.now.now.images c.loop-variable.heap.now.images c.loop-variable._variable c.loop-variable.invariant.images
+pub returns-in_err-first-clause-err : goal.returns-in_err-first-clause-err
+returns-in_err-first-clause-err c = on_err c.from_residual.result (HasSomeNew c.args.count c.args.heap.now.now.images c.new_vars.new.self.now.images) (record {
+  made = 0;
+  fewer = omega (arith, c.if-count-eq0.false);
+  images = ap (λ (t : Terms). t.images) c.in_err-first.ensures.err ∙ sym (append-nil c.args.heap.now.now.images);
+})
 
-  images_are : c.new_var-2.new.self.now.images ≡ c.args.heap.now.now.images ++ unbound_from (length c.args.heap.now.now.images) c.args.count
-  images_are =
-      images_more c.args.heap.now.now.images c.loop-variable.heap.now.images c.new_var-2.new.self.now.images c.loop-variable._variable c.args.count
-      c.loop-variable.invariant.images c.in_ok-youngest.ensures.images passed
-
-pub number_of-number-requires-clause-variable : goal.number_of-number-requires-clause-variable
-number_of-number-requires-clause-variable c =
-    let now = c.loop-variable.heap.now in (
-      length now.images,
-      last_at now.terms c.new_var-2.new.self.now.terms (Var (length now.images)) c.in_ok-youngest.youngest c.in_ok-youngest.ensures.terms c.in_ok-youngest.ensures.id,
-    )
-
-pub overflow_sub-result-2 : goal.overflow_sub-result-2
-overflow_sub-result-2 c = (let k = (goal.at.overflow_sub-result-2 c).After-number_of-number in omega (arith, passed k, number_is k))
-
-pub returns-clause-first : goal.returns-clause-first
-returns-clause-first c = (let k = (goal.at.returns-clause-first c).After-number_of-number in λ some. omega (arith, passed k, number_is k))
+pub returns-in_err-first-clause-names : goal.returns-in_err-first-clause-names
+returns-in_err-first-clause-names c = λ n all. named_same n c.args.heap.now.now.terms c.new_vars.new.self.now.terms (ap (λ (t : Terms). t.terms) c.in_err-first.ensures.err) all
 
 pub returns-clause-there : goal.returns-clause-there
 returns-clause-there c =
-    let k = (goal.at.returns-clause-there c).After-number_of-number in
-    let long = variables_now c.args.heap.now.now.images c.new_var-2.new.self.now.images c.args.count (images_are k) in
+    let long = variables_now c.args.heap.now.now.images c.new_vars.new.self.now.images c.args.count c.in_ok-first.ensures.images in
     record {
-      there = omega (arith, passed k, number_is k, long);
-      fits = omega (arith, passed k, number_is k, c.number_of-number.type_inv);
+      there = omega (arith, c.in_ok-first.ensures.first, long);
+      fits = omega (arith, c.in_ok-first.ensures.first, c.in_ok-first.ensures.few, long);
     }
 
-pub returns-clause-images : goal.returns-clause-images
-returns-clause-images c = images_are (goal.at.returns-clause-images c).After-number_of-number
+pub returns-clause-terms : goal.returns-clause-terms
+returns-clause-terms c = (variables_from (length c.args.heap.now.now.images) c.args.count, c.in_ok-first.ensures.terms)
 
 pub returns-clause-names : goal.returns-clause-names
-returns-clause-names c = λ n all.
-    let now = c.loop-variable.heap.now in
-    named_push n now.terms c.new_var-2.new.self.now.terms (Var (length now.images)) c.in_ok-youngest.ensures.terms tt (c.loop-variable.invariant.names n all)
+returns-clause-names c = λ n all. named_more n c.args.heap.now.now.terms c.new_vars.new.self.now.terms (length c.args.heap.now.now.images) c.args.count c.in_ok-first.ensures.terms all

@@ -6,12 +6,12 @@ use Rattle.cq_attr.proofs.Numbers.{slot_of, number_within}
 use Rattle.cq_attr.proofs.attrs.Attrs.susp.Goals as goal
 
 pub get-requires : goal.get-requires
-get-requires c = omega (arith, c.index.ensures, number_within c.self.inside.slots.now c.self.inside.watchers.now c.args.number (rw (← c.self.view_is) at c.requires))
+get-requires c = omega (arith, c.index.ensures, number_within c.self.inside.parts.inner.second.second.now c.self.inside.parts.inner.second.first.now c.args.number (rw (← c.self.view_is) at c.requires))
 
 pub returns : goal.returns
 returns c =
-    let ss = c.self.inside.slots.now in
-    let ws = c.self.inside.watchers.now in
+    let ss = c.self.inside.parts.inner.second.second.now in
+    let ws = c.self.inside.parts.inner.second.first.now in
     let m = c.args.number in
     let s = c.get.result.now in
     let h = slot_of ss ws m (rw (← c.self.view_is) at c.requires) in

@@ -12,12 +12,12 @@ use Rattle.cq_attr.proofs.attrs.Attrs.waiting.Goals.{then-slot+in_ok-push, else-
 
 pub returns-in_err-push-clause-err : goal.returns-in_err-push-clause-err
 returns-in_err-push-clause-err c =
-    let ss = c.self.inside.slots.now in
+    let ss = c.self.inside.parts.inner.second.second.now in
     let i = c.loop-number.number in
     let within : i < length c.as_slice-slot-items.result.now = omega (arith, c.loop-number-test.true) in
     let here = slice_get_read c.as_slice-slot-items.result.now (length c.as_slice-slot-items.result.now) i c.slot-item.result refl within c.slot-item.is in
     let there : slice_get ss i ≡ Some c.slot-item.result = ap (λ xs. slice_get xs i) (sym c.as_slice-slot-items.ensures) ∙ here in
-    let some = contains_waiting 0 ss c.self.inside.watchers.now i c.slot-item.result there c.if-slot.true in
+    let some = contains_waiting 0 ss c.self.inside.parts.inner.second.first.now i c.slot-item.result there c.if-slot.true in
     on_err c.from_residual.result (rw (← c.self.view_is) (omega (arith, some.1)))
 
 pub loop-number-preserved : goal.loop-number-preserved
@@ -39,4 +39,4 @@ returns-clause-ok c =
     rw (← c.self.view_is)
     (c.loop-number.invariant
     ∙ ap (λ xs. numbers (waiting_from 0 xs [])) (take_all c.loop-number.number ss all ∙ c.as_slice-slot-items.ensures)
-    ∙ numbers_alone 0 c.self.inside.slots.now [] c.self.inside.watchers.now)
+    ∙ numbers_alone 0 c.self.inside.parts.inner.second.second.now [] c.self.inside.parts.inner.second.first.now)

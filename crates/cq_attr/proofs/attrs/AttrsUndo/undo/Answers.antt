@@ -1,42 +1,22 @@
-use Rattle.std.proofs.Common.{arith}
-use Rattle.cq_attr.proofs.Parts.{length-saved, parts_taken, saved_take, saved_at}
+use Rattle.std.proofs.Common.{map, ap, sym, ◌∙◌}
+use Rattle.std.proofs.lemmas.Option.{slice_get-map}
+use Rattle.std.specs.List.{take-map}
+use Rattle.std.specs.Option.{option_map}
+use Rattle.cq_attr.specs.Layout.{attributes_by, parts_saved}
+use Rattle.cq_attr.proofs.Parts.{parts_taken}
 use Rattle.cq_attr.proofs.attrs.AttrsUndo.undo.Goals as goal
 
-pub undo-requires : goal.undo-requires
-undo-requires c =
-    let k = length-saved c.self.inside.watchers.now c.self.inside.slots.now c.self.inside.numeric.saved c.self.inside.watchers.saved c.self.inside.slots.saved c.self.invariant in
-    let h = rw (← c.self.view_is) at c.requires in
-    omega (arith, h, k)
-
-pub undo-requires-2 : goal.undo-requires-2
-undo-requires-2 c =
-    let k = length-saved c.self.inside.watchers.now c.self.inside.slots.now c.self.inside.numeric.saved c.self.inside.watchers.saved c.self.inside.slots.saved c.self.invariant in
-    let h = rw (← c.self.view_is) at c.requires in
-    omega (arith, h, k, c.self.invariant.watchers_together)
-
-pub undo-requires-3 : goal.undo-requires-3
-undo-requires-3 c =
-    let k = length-saved c.self.inside.watchers.now c.self.inside.slots.now c.self.inside.numeric.saved c.self.inside.watchers.saved c.self.inside.slots.saved c.self.invariant in
-    let h = rw (← c.self.view_is) at c.requires in
-    omega (arith, h, k, c.self.invariant.slots_together)
-
-pub returns-clause-saved : goal.returns-clause-saved
-returns-clause-saved c =
-    rw (← c.self.view_is, c.undo.ensures.saved, c.undo-2.ensures.saved, c.undo-3.ensures.saved)
-    (saved_take c.args.m.number c.self.inside.numeric.saved c.self.inside.watchers.saved c.self.inside.slots.saved)
-
-pub returns-clause-room : goal.returns-clause-room
-returns-clause-room c =
-    let k = length-saved c.self.inside.watchers.now c.self.inside.slots.now c.self.inside.numeric.saved c.self.inside.watchers.saved c.self.inside.slots.saved c.self.invariant in
-    rw (← c.self.view_is) (omega (arith, k, c.self.invariant.watchers_together, c.self.invariant.slots_together, c.undo.ensures.room, c.undo-2.ensures.room, c.undo-3.ensures.room))
-
 pub invariant_of-self : goal.invariant_of-self
-invariant_of-self c =
-    rw (c.undo.ensures.saved, c.undo-2.ensures.saved, c.undo-3.ensures.saved)
-    (parts_taken c.self.inside.watchers.now c.self.inside.slots.now c.self.inside.numeric.saved c.self.inside.watchers.saved c.self.inside.slots.saved c.self.invariant c.args.m.number _ _
-    (c.self.invariant.marks c.args.m.number _ _ c.undo-2.ensures.now c.undo-3.ensures.now))
+invariant_of-self c = parts_taken _ _ c.self.invariant c.args.m.number _ (c.self.invariant.marks c.args.m.number _ c.undo.ensures.now) _ c.undo.ensures.saved
 
 pub returns-clause-now : goal.returns-clause-now
 returns-clause-now c =
-    rw (← c.self.view_is)
-    (saved_at c.args.m.number c.self.inside.numeric.saved c.self.inside.watchers.saved c.self.inside.slots.saved _ _ _ c.undo.ensures.now c.undo-2.ensures.now c.undo-3.ensures.now)
+    let p = c.self.inside.parts in
+    let all = parts_saved p.inner.first p.inner.second.first p.inner.second.second p.marks in
+    rw (← c.self.view_is) (slice_get-map attributes_by all c.args.m.number ∙ ap (option_map attributes_by) c.undo.ensures.now)
+
+pub returns-clause-saved : goal.returns-clause-saved
+returns-clause-saved c =
+    let p = c.self.inside.parts in
+    let all = parts_saved p.inner.first p.inner.second.first p.inner.second.second p.marks in
+    rw (← c.self.view_is) (ap (map attributes_by) c.undo.ensures.saved ∙ sym (take-map attributes_by c.args.m.number all))

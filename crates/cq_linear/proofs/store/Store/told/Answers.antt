@@ -6,9 +6,9 @@ use Rattle.cq_linear.proofs.store.Store.told.Goals as goal
 pub returns-clause-solvable : goal.returns-clause-solvable
 returns-clause-solvable c =
     rw (← c.self.view_is)
-    (stored_solvable c.self.inside.held.first.now c.self.inside.held.second.first.now (quantities_of c.self.inside.held.second.second) c.self.invariant.stored)
+    (stored_solvable c.self.inside.held.inner.first.now c.self.inside.held.inner.second.first.now (quantities_of c.self.inside.held.inner.second.second) c.self.invariant.stored)
 
 pub returns-clause-fixes : goal.returns-clause-fixes
 returns-clause-fixes c =
     rw (← c.self.view_is)
-    (stored_fixes c.self.inside.held.first.now c.self.inside.held.second.first.now (quantities_of c.self.inside.held.second.second) c.self.invariant.stored)
+    (stored_fixes c.self.inside.held.inner.first.now c.self.inside.held.inner.second.first.now (quantities_of c.self.inside.held.inner.second.second) c.self.invariant.stored)

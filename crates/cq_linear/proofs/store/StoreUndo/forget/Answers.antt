@@ -1,6 +1,8 @@
 use Rattle.std.proofs.Common.{List, map, ap, sym, ◌∙◌}
 use Rattle.std.specs.List.{zip, take-map}
 use Rattle.spec_linear.specs.Solution.{Constraint}
+use Rattle.cq_counted.specs.Counting.{counted}
+use Rattle.cq_dict.specs.DictValue.{quantities_of}
 use Rattle.cq_dict.specs.Roles.{Quantities}
 use Rattle.cq_tableau.specs.declared.names.Name.{Name}
 use Rattle.cq_linear.specs.StoreValue.{kept}
@@ -12,7 +14,9 @@ invariant_of-self c = held_forgotten _ _ _ c.self.invariant c.args.m.number _ c.
 
 pub returns-clause-saved : goal.returns-clause-saved
 returns-clause-saved c =
-    let all = zip c.self.inside.held.first.saved (zip c.self.inside.held.second.first.saved c.self.inside.held.second.second.saved) in
+    let now : List Constraint × (List Name × Quantities) = (c.self.inside.held.inner.first.now, (c.self.inside.held.inner.second.first.now, quantities_of c.self.inside.held.inner.second.second)) in
+    let own = zip c.self.inside.held.inner.first.saved (zip c.self.inside.held.inner.second.first.saved c.self.inside.held.inner.second.second.saved) in
+    let all = counted own c.self.inside.held.marks now in
     let lists = ap (map (λ (h : List Constraint × (List Name × Quantities)). h.0)) c.forget.ensures.saved
     ∙ sym (take-map (λ (h : List Constraint × (List Name × Quantities)). h.0) c.args.m.number all) in
     rw (← c.self.view_is)

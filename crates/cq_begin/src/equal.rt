@@ -1,0 +1,70 @@
+// Pairs of terms that are made equal, where nothing is to be settled then.
+
+ghost use Rattle.std.specs.Prelude.{◌≡◌, ◌≢◌, ◌≤◌, All, Ok, IfOk};
+ghost use Rattle.spec_terms.specs.Unifier.{HasNoUnifier};
+ghost use Rattle.cq_rest.specs.Equal.{MayBeEqual};
+ghost use Rattle.cq_walk.specs.Pairs.{equations};
+ghost use Rattle.cq_begin.specs.Entries.{AreFree, IfApart, IfEqual};
+ghost use Rattle.cq_begin.specs.declared.equal.Equated.TheVariants.{Equal};
+
+use crate::entering::is_free;
+use cq_attr::Attrs;
+use cq_rest::equate;
+use cq_term::Heap;
+use cq_trail::Undo;
+use cq_walk::Pair;
+use std::alloc::AllocError;
+
+/// What pairs of terms come to.
+#[derive(Clone, Copy, Debug)]
+pub(crate) enum Equated {
+    /// They were made equal, with nothing to be settled.
+    Equal,
+    /// Nothing makes them equal.
+    Apart,
+    /// Something is to be settled once they are equal.
+    Unsettled,
+}
+
+/// Makes pairs of terms equal, where nothing is to be settled then. The heap alone is marked: after any other answer, and after
+/// want of memory, it is as at the call.
+pub(crate) fn equate_free(
+    heap: &mut Heap,
+    attrs: &Attrs,
+    pairs: &[Pair],
+) -> Result<Equated, AllocError>
+    requires { All (MayBeEqual heap.old.now) pairs.now }
+    ensures equal { IfOk result (λ e. IfEqual e (AreFree heap.old.now heap.new.now attrs.now.now pairs.now)) }
+    ensures apart { IfOk result (λ e. IfApart e (HasNoUnifier (equations heap.old.now.terms pairs.now))) }
+    ensures unchanged { result ≢ Ok Equal → heap.new.now ≡ heap.old.now }
+    ensures saved { heap.new.saved ≡ heap.old.saved }
+    ensures room { heap.old.room ≤ heap.new.room }
+{
+    heap.reserve(1)?;
+    let start = heap.mark().unwrap();
+    let equated = equate_unmarked(heap, attrs, pairs);
+    if let Ok(Equated::Equal) = equated {
+        heap.forget(start);
+    } else {
+        heap.undo(start);
+    }
+    equated
+}
+
+/// The same, but for what was bound before any other answer, or before memory ran out.
+fn equate_unmarked(heap: &mut Heap, attrs: &Attrs, pairs: &[Pair]) -> Result<Equated, AllocError>
+    requires { All (MayBeEqual heap.old.now) pairs.now }
+    ensures equal { IfOk result (λ e. IfEqual e (AreFree heap.old.now heap.new.now attrs.now.now pairs.now)) }
+    ensures apart { IfOk result (λ e. IfApart e (HasNoUnifier (equations heap.old.now.terms pairs.now))) }
+    ensures saved { heap.new.saved ≡ heap.old.saved }
+    ensures room { heap.old.room ≤ heap.new.room }
+{
+    let Some(newly) = equate(heap, pairs)? else {
+        return Ok(Equated::Apart);
+    };
+    if is_free(attrs, newly.as_slice()) {
+        Ok(Equated::Equal)
+    } else {
+        Ok(Equated::Unsettled)
+    }
+}

@@ -1,5 +1,0 @@
-use Rattle.cq_calls.proofs.Called.{calls_come}
-use Rattle.cq_calls.proofs.laws.called_goals_come_back.Goals as goal
-
-pub returns : goal.returns
-returns c = calls_come
