@@ -10,12 +10,12 @@ use Rattle.cq_term.specs.Built.{Built}
 use Rattle.cq_term.specs.Built as built
 use Rattle.cq_term.specs.Meaning.{HeapTerm, at, blank, raw_cell, meanings}
 use Rattle.cq_term.specs.Rep.{Fits, IsHeap}
-use Rattle.cq_term.specs.Layout.{Contents, with_var, read, all_built, meant, IsKept, IsClosed, IsWhole, Leads}
+use Rattle.cq_term.specs.Layout.{Contents, with_var, with_bound, read, all_built, meant, IsKept, IsClosed, IsWhole, Leads}
 use Rattle.cq_term.specs.Ground.{IsGround}
 use Rattle.cq_term.specs.declared.lists.Cell.{Cell}
 use Rattle.cq_term.specs.declared.lists.Cell.TheVariants as cell
 use Rattle.cq_term.proofs.Meanings.{at-append, length-meanings}
-use Rattle.cq_term.proofs.Kept.{meanings_cell, is_heap_cell, images_cell, is_heap_var, meanings_var, images_var, bind_heap, bind_terms, at-map-subst, empty_heap}
+use Rattle.cq_term.proofs.Kept.{meanings_cell, is_heap_cell, images_cell, is_heap_var, is_heap_bound, meanings_var, images_var, bind_heap, bind_terms, at-map-subst, empty_heap}
 use Rattle.spec_lists.proofs.Places.{map_same, get_push}
 
 -- longer lists beside the cells, by which each cell reads as before
@@ -154,6 +154,17 @@ module _ (x : Contents) (whole : IsWhole x) where
     closed = λ i d h g. subst (λ (l : List HeapTerm). IsGround (at l i)) (sym meant_var)
         (closed_cells x whole x.wide x.args (longer_same x) (cell.Var (length x.bound)) (Var (length x.bound)) (λ no. absurd no) i d h g);
   }
+
+-- a variable that is bound from the start means what the term means
+pub images_with_bound : (x : Contents) (id : ℕ) → map (at (meant x)) (x.vars ++ id ∷ []) ≡ map (at (meant x)) x.vars ++ at (meant x) id ∷ []
+images_with_bound x id = map-append (at (meant x)) x.vars (id ∷ [])
+
+pub whole_bound : (x : Contents) → IsWhole x → (id : ℕ) → id < length x.cells → IsWhole (with_bound id x)
+whole_bound x whole id live = record {
+  kept = whole.kept;
+  heap = is_heap_bound (all_built x) x.vars x.bound x.order id (rw (length-built x) live) whole.heap;
+  closed = whole.closed;
+}
 
 abbrev pub with_binding : Contents → ℕ → ℕ → Contents
 with_binding x v t = record { cells = x.cells; wide = x.wide; args = x.args; vars = x.vars; bound = set x.bound v (Some t); order = x.order ++ record { variable = v; term = t } ∷ [] }

@@ -10,7 +10,7 @@ use Rattle.std.proofs.Common.{get_or-set_same, get_or-set_other}
 use Rattle.spec_terms.specs.Term.{Var, apply, single, Occurs, with_arguments}
 use Rattle.spec_terms.proofs.Substitution.{single_same, single_other, apply-single_absent, occurs_from}
 use Rattle.cq_term.specs.Meaning.{HeapTerm, at, blank, raw_cell, raws_from, after, meanings}
-use Rattle.cq_term.specs.Rep.{IsHeap, Head, Fits, AllBelow, target, left_after, Resolved}
+use Rattle.cq_term.specs.Rep.{IsHeap, IsFree, Head, Fits, AllBelow, target, left_after, Resolved}
 use Rattle.cq_term.specs.Shown.{view_of, arguments}
 use Rattle.cq_term.proofs.Arguments.{apply-with_arguments, occurs_with_arguments, arguments-with_arguments, view_of-with_arguments}
 use Rattle.cq_term.specs.declared.view.View.{View}
@@ -86,6 +86,10 @@ fits_below i j vars (built.Number n) h f = tt
 fits_below i j vars (built.Name n) h f = tt
 fits_below i j vars (built.Compound g args) h f = (f.0, all_below i j args h f.1)
 
+-- a variable stays free where cells are added
+free_with : (cells more : List Built) (vars : List ℕ) (bound : List (Option ℕ)) (v : ℕ) → IsFree cells vars bound v → IsFree (cells ++ more) vars bound v
+free_with cells more vars bound v free = record { there = free.there; unbound = free.unbound; own = λ i h. get_kept cells more i (built.Var v) (free.own i h) }
+
 -- one more cell, which is no variable
 module _ (cells : List Built) (vars : List ℕ) (bound : List (Option ℕ)) (order : List Binding) (c : Built) (heap : IsHeap cells vars bound order) (fits : Fits (length cells) (length bound) c) (plain : (n : ℕ) → c ≡ built.Var n → ⊥) where
   ts : List HeapTerm
@@ -116,10 +120,10 @@ module _ (cells : List Built) (vars : List ℕ) (bound : List (Option ℕ)) (ord
       go (built.Name n) f p = refl
       go (built.Compound g args) f p = ap (with_arguments g) (sym (map_at-append (meanings cells order) (raw_cell (meanings cells order) c ∷ []) args (length cells) (omega (arith, length-meanings cells order)) f.1))
 
-  free_new : (v : ℕ) → Occurs v (raw_cell (meanings cells order) c) → (v < length bound) × (target bound v ≡ None)
+  free_new : (v : ℕ) → Occurs v (raw_cell (meanings cells order) c) → IsFree cells vars bound v
   free_new = go c plain
     where
-      go : (d : Built) → ((n : ℕ) → d ≡ built.Var n → ⊥) → (v : ℕ) → Occurs v (raw_cell (meanings cells order) d) → (v < length bound) × (target bound v ≡ None)
+      go : (d : Built) → ((n : ℕ) → d ≡ built.Var n → ⊥) → (v : ℕ) → Occurs v (raw_cell (meanings cells order) d) → IsFree cells vars bound v
       go (built.Var n) p v o = absurd (p n refl)
       go (built.Number n) p v o = absurd o
       go (built.Name n) p v o = absurd o
@@ -136,11 +140,11 @@ module _ (cells : List Built) (vars : List ℕ) (bound : List (Option ℕ)) (ord
       | inr q ↦ subst (λ (x : Built). Head (meanings cells order ++ raw_cell (meanings cells order) c ∷ []) bound x (at (meanings cells order ++ raw_cell (meanings cells order) c ∷ []) i)) q.1
           (rw (get_or_push (meanings cells order) (raw_cell (meanings cells order) c) blank i (length-meanings cells order ∙ sym q.0)) head_new)
     ]);
-    free = λ i v. rw meanings_cell (λ o. elim (at_cases (meanings cells order) (raw_cell (meanings cells order) c) i) [
+    free = λ i v. rw meanings_cell (λ o. free_with cells (c ∷ []) vars bound v (elim (at_cases (meanings cells order) (raw_cell (meanings cells order) c) i) [
       | inl p ↦ heap.free i v (rw p at o)
       | inr q ↦ free_new v (rw q at o)
-    ]);
-    homes = λ n i h. get_kept cells (c ∷ []) i (built.Var n) (heap.homes n i h);
+    ]));
+    homes = λ n i h. omega (arith, heap.homes n i h, length-append cells (c ∷ []));
     one_each = heap.one_each;
     bindings = λ k b h. let p = heap.bindings k b h in (omega (arith, p.0, length-append cells (c ∷ [])), p.1);
     targets = λ v u h. let p = heap.targets v u h in (omega (arith, p.0, length-append cells (c ∷ [])), p.1);
@@ -153,6 +157,17 @@ module _ (cells : List Built) (vars : List ℕ) (bound : List (Option ℕ)) (ord
 
 fits_grow : (i : ℕ) (bound : List (Option ℕ)) (d : Built) → Fits i (length bound) d → Fits i (length (bound ++ None ∷ [])) d
 fits_grow i bound d f = rw (length-append, add-one) (fits_below i i (length bound) d (omega arith) f)
+
+-- a variable stays free where another is made
+free_behind : (cells : List Built) (vars : List ℕ) (bound : List (Option ℕ)) (id v : ℕ) → length vars ≡ length bound → IsFree cells vars bound v → IsFree cells (vars ++ id ∷ []) (bound ++ None ∷ []) v
+free_behind cells vars bound id v each free = record {
+  there = omega (arith, free.there, length-append bound (None ∷ []));
+  unbound = target-push bound v ∙ free.unbound;
+  own = λ i h. elim (get_push vars id v i h) [
+    | inl p ↦ free.own i p
+    | inr q ↦ absurd (omega (arith, q.0, free.there))
+  ];
+}
 
 -- one more variable
 module _ (cells : List Built) (vars : List ℕ) (bound : List (Option ℕ)) (order : List Binding) (heap : IsHeap cells vars bound order) where
@@ -173,6 +188,16 @@ module _ (cells : List Built) (vars : List ℕ) (bound : List (Option ℕ)) (ord
   head_var_new : Head (meanings cells order ++ Var (length bound) ∷ []) (bound ++ None ∷ []) (built.Var (length bound)) (Var (length bound))
   head_var_new = rw (target-push bound (length bound), target_past bound (length bound) (omega arith)) refl
 
+  free_var_new : IsFree (cells ++ built.Var (length bound) ∷ []) (vars ++ length cells ∷ []) (bound ++ None ∷ []) (length bound)
+  free_var_new = record {
+    there = omega (arith, length-append bound (None ∷ []));
+    unbound = target-push bound (length bound) ∙ target_past bound (length bound) (omega arith);
+    own = λ i h. elim (get_push vars (length cells) (length bound) i h) [
+      | inl p ↦ absurd (omega (arith, heap.one_each, slice_get_within vars (length bound) i p))
+      | inr q ↦ subst (λ (x : ℕ). slice_get (cells ++ built.Var (length bound) ∷ []) x ≡ Some (built.Var (length bound))) q.1 (get_last cells (built.Var (length bound)))
+    ];
+  }
+
   pub is_heap_var : IsHeap (cells ++ built.Var (length bound) ∷ []) (vars ++ length cells ∷ []) (bound ++ None ∷ []) order
   is_heap_var = record {
     fits = λ i d h. elim (get_push cells (built.Var (length bound)) i d h) [
@@ -184,13 +209,13 @@ module _ (cells : List Built) (vars : List ℕ) (bound : List (Option ℕ)) (ord
       | inr q ↦ subst (λ (x : Built). Head (meanings cells order ++ Var (length bound) ∷ []) (bound ++ None ∷ []) x (at (meanings cells order ++ Var (length bound) ∷ []) i)) q.1
           (rw (get_or_push (meanings cells order) (Var (length bound)) blank i (length-meanings cells order ∙ sym q.0)) head_var_new)
     ]);
-    free = λ i v. rw (meanings_var, length-append, target-push bound v) (λ o. elim (at_cases (meanings cells order) (Var (length bound)) i) [
-      | inl p ↦ (let q = heap.free i v (rw p at o) in (omega (arith, q.0), q.1))
-      | inr q ↦ (let e : v ≡ length bound = rw q at o in (omega arith, target_past bound v (omega arith)))
+    free = λ i v. rw meanings_var (λ o. elim (at_cases (meanings cells order) (Var (length bound)) i) [
+      | inl p ↦ free_behind (cells ++ built.Var (length bound) ∷ []) vars bound (length cells) v heap.one_each (free_with cells (built.Var (length bound) ∷ []) vars bound v (heap.free i v (rw p at o)))
+      | inr q ↦ subst (IsFree (cells ++ built.Var (length bound) ∷ []) (vars ++ length cells ∷ []) (bound ++ None ∷ [])) (sym (rw q at o)) free_var_new
     ]);
     homes = λ n i h. elim (get_push vars (length cells) n i h) [
-      | inl p ↦ get_kept cells (built.Var (length bound) ∷ []) i (built.Var n) (heap.homes n i p)
-      | inr q ↦ subst (λ (x : ℕ). slice_get (cells ++ built.Var (length bound) ∷ []) x ≡ Some (built.Var n)) q.1 (rw (q.0, heap.one_each) (get_last cells (built.Var (length bound))))
+      | inl p ↦ omega (arith, heap.homes n i p, length-append cells (built.Var (length bound) ∷ []))
+      | inr q ↦ omega (arith, q.1, length-append cells (built.Var (length bound) ∷ []))
     ];
     one_each = simp (length-append) (omega (arith, heap.one_each));
     bindings = λ k b h. let p = heap.bindings k b h in (omega (arith, p.0, length-append cells (built.Var (length bound) ∷ [])), omega (arith, p.1, length-append bound (None ∷ [])));
@@ -201,6 +226,20 @@ module _ (cells : List Built) (vars : List ℕ) (bound : List (Option ℕ)) (ord
       | inr q ↦ (let w = heap.targets v u h in absurd (omega (arith, w.0, q.0)))
     ]);
   }
+
+-- one more variable, which is bound to a term from the start
+pub is_heap_bound : (cells : List Built) (vars : List ℕ) (bound : List (Option ℕ)) (order : List Binding) (id : ℕ) → id < length cells → IsHeap cells vars bound order → IsHeap cells (vars ++ id ∷ []) (bound ++ None ∷ []) order
+is_heap_bound cells vars bound order id live heap = record {
+  fits = λ i d h. fits_grow i bound d (heap.fits i d h);
+  heads = λ i d h. head_bound (meanings cells order) bound (bound ++ None ∷ []) d (at (meanings cells order) i) (λ n e. target-push bound n) (heap.heads i d h);
+  free = λ i v o. free_behind cells vars bound id v heap.one_each (heap.free i v o);
+  homes = λ n i h. elim (get_push vars id n i h) [ inl p ↦ heap.homes n i p | inr q ↦ omega (arith, q.1) ];
+  one_each = simp (length-append) (omega (arith, heap.one_each));
+  bindings = λ k b h. let p = heap.bindings k b h in (p.0, omega (arith, p.1, length-append bound (None ∷ [])));
+  targets = λ v u. rw (target-push bound v) (heap.targets v u);
+  unbound = λ v. rw (target-push bound v) (heap.unbound v);
+  chain = λ v u m. rw (target-push bound v) (heap.chain v u m);
+}
 
 -- a variable of the result is one of the new term, or another one of the old
 pub occurs_subst : (w v : ℕ) (u t : HeapTerm) → Occurs w (apply (single v u) t) → Occurs w u ⊎ (Occurs w t × (w ≢ v))
@@ -268,11 +307,14 @@ module _ (cells : List Built) (vars : List ℕ) (bound : List (Option ℕ)) (ord
   fits_within : (i : ℕ) (d : Built) → slice_get cells i ≡ Some d → Fits (length cells) (length bound) d
   fits_within i d h = let w : i < length cells = slice_get_within cells i d h in fits_up i (length cells) (length bound) d (omega arith) (heap.fits i d h)
 
-  free_bind : (w : ℕ) (x : HeapTerm) → ((y : ℕ) → Occurs y x → (y < length bound) × (target bound y ≡ None)) → Occurs w (apply (single v u) x) → (w < length (set bound v (Some t))) × (target (set bound v (Some t)) w ≡ None)
-  free_bind w x h o = rw length-set (elim (occurs_subst w v u x o) [
-    | inl a ↦ (let p = heap.free t w a in (p.0, rw (other w (λ e. apart (subst (λ (y : ℕ). Occurs y u) e a))) p.1))
-    | inr b ↦ (let p = h w b.0 in (p.0, rw (other w b.1) p.1))
-  ])
+  free_other : (w : ℕ) → w ≢ v → IsFree cells vars bound w → IsFree cells vars (set bound v (Some t)) w
+  free_other w ne free = record { there = rw length-set free.there; unbound = other w ne ∙ free.unbound; own = free.own }
+
+  free_bind : (w : ℕ) (x : HeapTerm) → ((y : ℕ) → Occurs y x → IsFree cells vars bound y) → Occurs w (apply (single v u) x) → IsFree cells vars (set bound v (Some t)) w
+  free_bind w x h o = elim (occurs_subst w v u x o) [
+    | inl a ↦ free_other w (λ e. apart (subst (λ (y : ℕ). Occurs y u) e a)) (heap.free t w a)
+    | inr b ↦ free_other w b.1 (h w b.0)
+  ]
 
   left_same : left_after (order ++ binding ∷ []) v ≡ 1
   left_same = elim (left_push order binding v) [
@@ -365,7 +407,7 @@ module _ (cells : List Built) (vars : List ℕ) (bound : List (Option ℕ)) (ord
   var_unbound =
       let w : v < length vars = omega (arith, length-map vars (at (meanings cells order))) in
       let h : at (meanings cells order) (get_or vars v 0) ≡ Var v = sym (get_or-map (at (meanings cells order)) vars v 0 blank w) ∙ image in
-      (heap.free (get_or vars v 0) v (subst (λ (x : HeapTerm). Occurs v x) (sym h) refl)).1
+      (heap.free (get_or vars v 0) v (subst (λ (x : HeapTerm). Occurs v x) (sym h) refl)).unbound
 
   module _ (term e : ℕ) (r : Resolved cells bound order term e) (apart : Occurs v (at (meanings cells order) term) → ⊥) where
     pub bind_heap : IsHeap cells vars (set bound v (Some e)) (order ++ record { variable = v; term = e } ∷ [])
@@ -412,7 +454,7 @@ homes_below cells (i ∷ vars) h = (h 0 i refl, homes_below cells vars (λ n j e
 
 module _ (cells : List Built) (vars : List ℕ) (bound : List (Option ℕ)) (order : List Binding) (heap : IsHeap cells vars bound order) where
   pub homes_in : AllBelow (length (meanings cells order)) vars
-  homes_in = rw (length-meanings cells order) (homes_below cells vars (λ n i e. slice_get_within cells i (built.Var n) (heap.homes n i e)))
+  homes_in = rw (length-meanings cells order) (homes_below cells vars heap.homes)
 
   pub images_var : map (at (meanings (cells ++ built.Var (length bound) ∷ []) order)) (vars ++ length cells ∷ []) ≡ map (at (meanings cells order)) vars ++ Var (length bound) ∷ []
   images_var =
@@ -464,7 +506,7 @@ no_arguments cells vars bound order heap id e r (built.Compound g args) s other 
 -- the term of a variable
 module _ (cells : List Built) (vars : List ℕ) (bound : List (Option ℕ)) (order : List Binding) (heap : IsHeap cells vars bound order) (v i : ℕ) (home : slice_get vars v ≡ Some i) where
   pub home_live : i < length (meanings cells order)
-  home_live = rw (length-meanings cells order) (slice_get_within cells i (built.Var v) (heap.homes v i home))
+  home_live = rw (length-meanings cells order) (heap.homes v i home)
 
 pub all_to_below : (n : ℕ) (is : List ℕ) → All (λ i. i < n) is → AllBelow n is
 all_to_below n [] h = tt
@@ -487,10 +529,10 @@ arg_is ts us is i x e lt at_i =
 pub inside_free : (cells : List Built) (vars : List ℕ) (bound : List (Option ℕ)) (order : List Binding) (heap : IsHeap cells vars bound order) (id v : ℕ) → Occurs v (at (meanings cells order) id) → (v < length (map (at (meanings cells order)) vars)) × (at (map (at (meanings cells order)) vars) v ≡ Var v)
 inside_free cells vars bound order heap id v e =
     let f = heap.free id v e in
-    let w : v < length vars = omega (arith, f.0, heap.one_each) in
-    let c = heap.homes v (get_or vars v 0) (slice_get-get_or vars v 0 w) in (
+    let w : v < length vars = omega (arith, f.there, heap.one_each) in
+    let c = f.own (get_or vars v 0) (slice_get-get_or vars v 0 w) in (
       omega (arith, length-map vars (at (meanings cells order))),
-      get_or-map (at (meanings cells order)) vars v 0 blank w ∙ MatchOption-at_none (at (meanings cells order) (get_or vars v 0) ≡ Var v) (λ u. at (meanings cells order) (get_or vars v 0) ≡ at (meanings cells order) u) f.1 (heap.heads (get_or vars v 0) (built.Var v) c),
+      get_or-map (at (meanings cells order)) vars v 0 blank w ∙ MatchOption-at_none (at (meanings cells order) (get_or vars v 0) ≡ Var v) (λ u. at (meanings cells order) (get_or vars v 0) ≡ at (meanings cells order) u) f.unbound (heap.heads (get_or vars v 0) (built.Var v) c),
     )
 
 pub var_free : (cells : List Built) (vars : List ℕ) (bound : List (Option ℕ)) (order : List Binding) (heap : IsHeap cells vars bound order) (id v : ℕ) → at (meanings cells order) id ≡ Var v → (v < length (map (at (meanings cells order)) vars)) × (at (map (at (meanings cells order)) vars) v ≡ Var v)

@@ -12,7 +12,7 @@ use Rattle.cq_term.specs.Built.{Built}
 use Rattle.cq_term.specs.Built as built
 use Rattle.cq_term.specs.Meaning.{HeapTerm, at, raw_cell}
 use Rattle.cq_term.specs.Rep.{Fits, AllBelow, target}
-use Rattle.cq_term.specs.Layout.{Contents, with_var, IsWhole, IsMarked, IsWithin, IsEarlier, contents_at, terms_at, terms_of, unbinding, restored, read, all_built, meant, IsKept, IsClosed, Leads}
+use Rattle.cq_term.specs.Layout.{Contents, with_var, with_bound, IsWhole, IsMarked, IsWithin, IsEarlier, contents_at, terms_at, terms_of, unbinding, restored, read, all_built, meant, IsKept, IsClosed, Leads}
 use Rattle.cq_term.specs.Ground.{IsGround}
 use Rattle.cq_term.specs.declared.lists.Cell.{Cell}
 use Rattle.cq_term.specs.declared.lists.Binding.{Binding}
@@ -21,7 +21,7 @@ use Rattle.cq_term.specs.declared.lists.Cell.TheVariants as cell
 use Rattle.cq_term.proofs.Meanings.{length-meanings}
 use Rattle.cq_term.proofs.Arguments.{absent_with_arguments}
 use Rattle.cq_term.proofs.Kept.{all_to_below, var_unbound}
-use Rattle.cq_term.proofs.Cells.{Longer, longer_same, longer_wide, longer_args, read_new, with_cell, with_binding, whole_cell, meant_cell, images_more, whole_var, whole_binding, whole_new}
+use Rattle.cq_term.proofs.Cells.{Longer, longer_same, longer_wide, longer_args, read_new, with_cell, with_binding, whole_cell, meant_cell, images_more, whole_var, whole_bound, whole_binding, whole_new}
 use Rattle.spec_lists.proofs.Places.{get-drop, get_push, get_take, map_same}
 
 -- each binding is of a variable that is there
@@ -82,6 +82,18 @@ module _ (x : Contents) (whole : IsWhole x) where
   rest_there : (n : ℕ) → AllThere (length x.bound) (drop n x.order)
   rest_there n j b q = all_there (n + j) b (sym (get-drop n x.order j) ∙ q)
 
+  -- what the variables were bound to at a mark, where one is made
+  bound_cut : (p : Place) → IsWithin p x → take p.vars (restored (drop p.order x.order) (x.bound ++ None ∷ [])) ≡ take p.vars (restored (drop p.order x.order) x.bound)
+  bound_cut p w =
+      ap (take p.vars) (restore-append_right (map unbinding (drop p.order x.order)) x.bound (None ∷ []) (there_within (length x.bound) (drop p.order x.order) (rest_there p.order)))
+      ∙ take-append-le p.vars (restored (drop p.order x.order) x.bound) (None ∷ []) (omega (arith, w.vars, whole.heap.one_each, length-restore (map unbinding (drop p.order x.order)) x.bound))
+
+  pub keeps_bound : (id : ℕ) → Keeps x (with_bound id x)
+  keeps_bound id = record {
+    lengths = λ p w. record { cells = w.cells; wide = w.wide; args = w.args; vars = omega (arith, w.vars, length-append x.vars (id ∷ [])); order = w.order };
+    parts = λ p w. same_contents refl refl refl (take-append-le p.vars x.vars (id ∷ []) w.vars) (bound_cut p w) refl;
+  }
+
   pub keeps_var : Keeps x (with_var x)
   keeps_var = record {
     lengths = λ p w. record {
@@ -95,8 +107,7 @@ module _ (x : Contents) (whole : IsWhole x) where
         (take-append-le p.cells x.cells (cell.Var (length x.bound) ∷ []) w.cells)
         refl refl
         (take-append-le p.vars x.vars (length x.cells ∷ []) w.vars)
-        (ap (take p.vars) (restore-append_right (map unbinding (drop p.order x.order)) x.bound (None ∷ []) (there_within (length x.bound) (drop p.order x.order) (rest_there p.order)))
-        ∙ take-append-le p.vars (restored (drop p.order x.order) x.bound) (None ∷ []) (omega (arith, w.vars, whole.heap.one_each, length-restore (map unbinding (drop p.order x.order)) x.bound)))
+        (bound_cut p w)
         refl;
   }
 
@@ -263,6 +274,12 @@ module _ (x : Contents) (marks : List Place) (is : IsMarked x marks) where
 
   pub saved_var : map (terms_at (with_var x)) marks ≡ map (terms_at x) marks
   saved_var = saved_keeps is (keeps_var x is.now)
+
+  pub marked_bound : (id : ℕ) → id < length x.cells → IsMarked (with_bound id x) marks
+  marked_bound id live = marked_keeps is (whole_bound x is.now id live) (keeps_bound x is.now id)
+
+  pub saved_bound : (id : ℕ) → map (terms_at (with_bound id x)) marks ≡ map (terms_at x) marks
+  saved_bound id = saved_keeps is (keeps_bound x is.now id)
 
   -- a binding of an unbound variable to the end of the bindings from a term in which it doesn't stand
   module _ (v : ℕ) (there : v < length (map (at (meant x)) x.vars)) (image : at (map (at (meant x)) x.vars) v ≡ Var v) (term end : ℕ) (leads : Leads x term end) (apart : Occurs v (at (meant x) term) → ⊥) where

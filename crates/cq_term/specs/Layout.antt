@@ -35,6 +35,10 @@ abbrev pub with_vars : ℕ → Contents → Contents
 with_vars zero x = x
 with_vars (suc n) x = with_var (with_vars n x)
 
+-- with one more variable, which is bound to a term from the start
+abbrev pub with_bound : ℕ → Contents → Contents
+with_bound id x = record { cells = x.cells; wide = x.wide; args = x.args; vars = x.vars ++ id ∷ []; bound = x.bound ++ None ∷ []; order = x.order }
+
 -- what a cell was built as, by the wide numbers and the arguments beside it
 abbrev pub read : List ℚ → List ℕ → Cell → Built
 read wide args (cell.Var v) = built.Var v

@@ -35,12 +35,18 @@ abbrev pub left_after : List Binding → ℕ → ℕ
 left_after [] v = 0
 left_after (b ∷ bs) v = cond (b.variable == v) (suc (length bs)) (left_after bs v)
 
+-- the variable is there, isn't bound, and has a cell of its own
+pub record IsFree (cells : List Built) (vars : List ℕ) (bound : List (Option ℕ)) (v : ℕ) : Type 0 where
+  pub there : v < length bound
+  pub unbound : target bound v ≡ None
+  pub own : (i : ℕ) → slice_get vars v ≡ Some i → slice_get cells i ≡ Some (built.Var v)
+
 pub record IsHeap (cells : List Built) (vars : List ℕ) (bound : List (Option ℕ)) (order : List Binding) : Type 0 where
   pub fits : (i : ℕ) (c : Built) → slice_get cells i ≡ Some c → Fits i (length bound) c
   pub heads : (i : ℕ) (c : Built) → slice_get cells i ≡ Some c → Head (meanings cells order) bound c (at (meanings cells order) i)
-  -- a variable in a term is there and isn't bound
-  pub free : (i v : ℕ) → Occurs v (at (meanings cells order) i) → (v < length bound) × (target bound v ≡ None)
-  pub homes : (v i : ℕ) → slice_get vars v ≡ Some i → slice_get cells i ≡ Some (built.Var v)
+  -- a variable in a term is free
+  pub free : (i v : ℕ) → Occurs v (at (meanings cells order) i) → IsFree cells vars bound v
+  pub homes : (v i : ℕ) → slice_get vars v ≡ Some i → i < length cells
   pub one_each : length vars ≡ length bound
   pub bindings : (k : ℕ) (b : Binding) → slice_get order k ≡ Some b → (b.term < length cells) × (b.variable < length bound)
   pub targets : (v u : ℕ) → target bound v ≡ Some u → (u < length cells) × (0 < left_after order v)

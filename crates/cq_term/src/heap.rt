@@ -245,6 +245,30 @@ impl Heap {
         Ok(first)
     }
 
+    /// Makes the youngest variable, which is bound to the term from the start: it takes no cell, and no note of its binding.
+    /// Fails for want of memory, with every term as it was.
+    pub fn new_bound_var(&mut self, term: TermId) -> Result<(), AllocError>
+        requires { term < length self.old.now.terms }
+        ensures few { OnOk result (length self.new.now.images < 2 ^ 64) }
+        ensures terms { self.new.now.terms ≡ self.old.now.terms }
+        ensures images { OnOk result (self.new.now.images ≡ self.old.now.images ++ at self.old.now.terms term ∷ []) }
+        ensures saved { self.new.saved ≡ self.old.saved }
+        ensures room { self.old.room ≤ self.new.room }
+        ensures err { OnErr result (self.new.now ≡ self.old.now) }
+    {
+        self.lists.vars.reserve(1)?;
+        self.lists.bound.push(None)?;
+        self.lists.vars.push_reserved(term);
+        Ok(())
+    }
+
+    /// How many variables there are.
+    pub fn variables(&self) -> usize
+        ensures { result ≡ length self.now.now.images }
+    {
+        self.lists.vars.len()
+    }
+
     /// Binds an unbound variable to a term in which it doesn't stand: each live term is then read with that term in
     /// the variable's place.
     pub fn bind(&mut self, variable: VarId, term: TermId) -> Result<(), AllocError>

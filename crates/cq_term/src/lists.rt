@@ -43,9 +43,9 @@ pub(crate) struct Lists {
     pub wide: Vec<Frac>,
     /// The arguments of all compounds, side by side.
     pub args: Vec<TermId>,
-    /// The cell of each variable.
+    /// The cell of each variable, or of the term that it was bound to from the start.
     pub vars: Vec<TermId>,
-    /// What each variable is bound to.
+    /// What each variable that has a cell is bound to.
     pub bound: Vec<Option<TermId>>,
     /// The bindings, the oldest first.
     pub order: Vec<Binding>,

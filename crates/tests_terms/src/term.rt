@@ -194,6 +194,20 @@ fn makes_several(heap: &mut Heap) -> Result<bool, AllocError> {
     Ok(none == 0 && first == 0 && next == 3)
 }
 
+/// Whether a variable that is bound from the start means its term, and is gone with its mark.
+fn binds_from_the_start(heap: &mut Heap) -> Result<bool, AllocError> {
+    let one = heap.number(Frac::one())?;
+    let number = heap.variables();
+    let m = heap.mark()?;
+    heap.new_bound_var(one)?;
+    if number >= heap.variables() {
+        return Ok(false);
+    }
+    let is_one = heap.view(heap.var_term(VarId(number))) == View::Number(Frac::one());
+    heap.undo(m);
+    Ok(is_one && heap.variables() == number)
+}
+
 /// Whether lists that were kept come back empty.
 fn lends_lists(heap: &mut Heap) -> Result<bool, AllocError> {
     let mut list = heap.spare_list();
@@ -211,6 +225,7 @@ fn terms_are_built_in_one_go(rt: HostRuntime) -> Result<(), Fail> {
     let name = f_named(rt.alloc())?;
     assert!(rt; reads_reversed(&mut Heap::new(rt.alloc()), name)?);
     assert!(rt; makes_several(&mut Heap::new(rt.alloc()))?);
+    assert!(rt; binds_from_the_start(&mut Heap::new(rt.alloc()))?);
     assert!(rt; lends_lists(&mut Heap::new(rt.alloc()))?);
     Ok(())
 }
