@@ -2,9 +2,9 @@
 use Rattle.std.proofs.Common.{◌≡◌, ◌≢◌, ℕ, zero, suc, ◌+◌, ◌<◌, ◌≤◌, List, [], ◌∷◌, ◌++◌, length, Option, None, Some, refl, sym, ap, ◌∙◌, subst, inl, inr, ◌⊎◌, get_or, set, arith, length-append, Bool, true, false, cond, map, eq-eqb, length-set, add-one}
 use Rattle.std.proofs.lemmas.List.{get_or_push, get_or-map, length-map, map-append}
 use Rattle.std.proofs.lemmas.Option.{slice_get_within, same_Some, none-some, MatchOption-at_none, MatchOption-at_some, slice_get_read, slice_get-get_or, slice_get-map}
-use Rattle.std.proofs.lemmas.List.{get_or_read}
+use Rattle.std.proofs.lemmas.List.{get_or_read, get_or_past}
 use Rattle.std.specs.Option.{option_map}
-use Rattle.std.proofs.lemmas.Bool.{cases_eq, eqb-true}
+use Rattle.std.proofs.lemmas.Bool.{cases_eq, cases_lt, eqb-true}
 use Rattle.std.specs.Prelude.{slice_get, MatchOption, ◌==◌, All}
 use Rattle.std.proofs.Common.{get_or-set_same, get_or-set_other}
 use Rattle.spec_terms.specs.Term.{Var, apply, single, Occurs, with_arguments}
@@ -534,6 +534,13 @@ inside_free cells vars bound order heap id v e =
       omega (arith, length-map vars (at (meanings cells order))),
       get_or-map (at (meanings cells order)) vars v 0 blank w ∙ MatchOption-at_none (at (meanings cells order) (get_or vars v 0) ≡ Var v) (λ u. at (meanings cells order) (get_or vars v 0) ≡ at (meanings cells order) u) f.unbound (heap.heads (get_or vars v 0) (built.Var v) c),
     )
+
+-- and so is one that stands in what a variable means
+pub image_free : (cells : List Built) (vars : List ℕ) (bound : List (Option ℕ)) (order : List Binding) (heap : IsHeap cells vars bound order) (x v : ℕ) → Occurs v (at (map (at (meanings cells order)) vars) x) → (v < length (map (at (meanings cells order)) vars)) × (at (map (at (meanings cells order)) vars) v ≡ Var v)
+image_free cells vars bound order heap x v o = elim (cases_lt x (length vars)) [
+  | inl lt ↦ inside_free cells vars bound order heap (get_or vars x 0) v (subst (Occurs v) (get_or-map (at (meanings cells order)) vars x 0 blank lt) o)
+  | inr le ↦ absurd (subst (Occurs v) (get_or_past (map (at (meanings cells order)) vars) x blank (omega (arith, length-map vars (at (meanings cells order))))) o)
+]
 
 pub var_free : (cells : List Built) (vars : List ℕ) (bound : List (Option ℕ)) (order : List Binding) (heap : IsHeap cells vars bound order) (id v : ℕ) → at (meanings cells order) id ≡ Var v → (v < length (map (at (meanings cells order)) vars)) × (at (map (at (meanings cells order)) vars) v ≡ Var v)
 var_free cells vars bound order heap id v e = inside_free cells vars bound order heap id v (subst (λ (x : HeapTerm). Occurs v x) (sym e) refl)

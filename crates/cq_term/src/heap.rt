@@ -390,6 +390,13 @@ impl Heap {
         let _lists = &self.lists;
     }
 
+    /// A variable that stands in what a variable means is unbound.
+    pub fn images_are_unbound(&self)
+        ensures { (x v : ℕ) → Occurs v (at self.now.now.images x) → IsUnbound self.now.now.images v }
+    {
+        let _lists = &self.lists;
+    }
+
     /// An empty list, with the memory of one that was kept, if there is one.
     pub fn spare_list(&mut self) -> Vec<TermId>
         ensures empty { result.items ≡ [] }
