@@ -1,3 +1,4 @@
+pub mod Completed
 pub mod Ends
 pub mod Matched
 pub mod Named

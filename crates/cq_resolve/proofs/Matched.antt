@@ -1,5 +1,5 @@
 -- The state of a match, as it starts, goes on and ends.
-use Rattle.std.proofs.Common.{◌≡◌, ℕ, suc, ◌+◌, ◌-◌, ◌<◌, ◌≤◌, List, [], ◌∷◌, ◌++◌, length, map, reverse, take, drop, get_or, Some, refl, ap, sym, ◌∙◌, subst, inl, inr, arith, append_assoc, append-nil, length-append}
+use Rattle.std.proofs.Common.{◌≡◌, ℕ, suc, ◌+◌, ◌-◌, ◌<◌, ◌≤◌, ◌^◌, List, [], ◌∷◌, ◌++◌, length, map, reverse, take, drop, get_or, Some, refl, ap, sym, ◌∙◌, subst, inl, inr, arith, append_assoc, append-nil, length-append}
 use Rattle.std.specs.Prelude.{All, ◌↔◌, ◌⊎◌}
 use Rattle.std.proofs.lemmas.Bool.{cases_lt}
 use Rattle.std.proofs.lemmas.List.{length-map, map-append, reverse-append, reverse-reverse, length-drop, length-take-le, take-append-drop, length-reverse}
@@ -9,7 +9,7 @@ use Rattle.spec_terms.specs.Term.{Terms, Subst, Var, Number, Name, Compound, one
 use Rattle.spec_terms.specs.Unifier.{Equates, HasNoUnifier}
 use Rattle.spec_terms.proofs.Substitution.{apply-followed_by, apply_agree, occurs_from}
 use Rattle.cq_frac.specs.declared.VarId.{VarId}
-use Rattle.cq_term.specs.Meaning.{HeapTerm, at}
+use Rattle.cq_term.specs.Meaning.{HeapTerm, at, blank}
 use Rattle.cq_term.specs.HeapValue.{Terms as HeapTerms}
 use Rattle.cq_term.specs.Shown.{view_of, arguments, IsUnbound}
 use Rattle.cq_term.proofs.Arguments.{arguments-with_arguments, view_of-with_arguments, length-arguments, apply-with_arguments, count-terms_of}
@@ -17,18 +17,21 @@ use Rattle.cq_term.specs.declared.view.View.{View}
 use Rattle.cq_term.specs.declared.view.View.TheVariants as view
 use Rattle.cq_unify.specs.Unified.{in_turn}
 use Rattle.spec_lists.specs.Prefixes.{IsPrefix}
+use Rattle.spec_lists.proofs.Prefixes.{prefix_get_or, prefix_same}
 use Rattle.cq_walk.specs.Arguments.{PushesArguments}
 use Rattle.cq_walk.specs.Pairs.{pairwise}
 use Rattle.cq_walk.proofs.Arguments.{live_push, terms_push}
 use Rattle.cq_unify.proofs.Places.{prefix_map}
 use Rattle.cq_unify.proofs.Unbound.{at-map}
 use Rattle.cq_stored.specs.Pattern.{put, read, term_of, IsHead}
-use Rattle.cq_stored.specs.Building.{AreThere, image_from}
-use Rattle.cq_resolve.specs.Joined.{Joined, Clash, CanMeet}
-use Rattle.cq_resolve.specs.Matching.{Call, Begun, Matching, Solving, IsFresh, image_of, lefts}
+use Rattle.cq_stored.specs.Building.{image_from}
+use Rattle.cq_resolve.specs.Joined.{Joined, Clash}
+use Rattle.cq_resolve.specs.Resolved.{completed}
+use Rattle.cq_resolve.specs.Matching.{Call, Begun, Matching, Walked, Solving, IsFresh, image_of, lefts}
 use Rattle.cq_stored.proofs.Built.{all_reverse}
 use Rattle.cq_stored.proofs.Reading.{head_fits}
-use Rattle.cq_resolve.proofs.Telling.{in_turn-append, bound_join, unbound_or_not}
+use Rattle.cq_resolve.proofs.Completed.{completed_at, joined_completed, joined_long}
+use Rattle.cq_resolve.proofs.Telling.{in_turn-append, bound_join, unbound_or_not, joined_as, joined_larger}
 use Rattle.cq_resolve.proofs.Unifying.{variable_by, fresh_join, solving_join, solving_same, solving_clash, read_under-pairwise, equates_compounds}
 
 -- ---- variables that are unbound now were unbound at the start
@@ -57,15 +60,11 @@ module _ (c : Call) (head : List View) (first : ℕ) (begun : Begun c head first
 pub image_now : (c : Call) (head : List View) (first : ℕ) (begun : Begun c head first) (images : List HeapTerm) (s : Subst ℕ) → images ≡ map (apply s) c.start.images → (k : ℕ) → k < c.count → at images (c.base + k) ≡ s (c.base + k)
 image_now c head first begun images s e k lt = ap (λ us. at us (c.base + k)) e ∙ at-map s c.start.images (c.base + k) ∙ ap (apply s) (begun.new k lt)
 
-pub images_long : (c : Call) (head : List View) (first : ℕ) (begun : Begun c head first) (images : List HeapTerm) (s : Subst ℕ) → images ≡ map (apply s) c.start.images → length images ≡ c.base + c.count
-images_long c head first begun images s e = ap length e ∙ length-map c.start.images (apply s) ∙ begun.all
-
 -- and a term over the clause's variables
 pub term_now : (c : Call) (head : List View) (first : ℕ) (begun : Begun c head first) (images : List HeapTerm) (s : Subst ℕ) → images ≡ map (apply s) c.start.images → (t : HeapTerm) → ((v : ℕ) → Occurs v t → v < c.count) → apply (image_from images first) t ≡ apply (image_of c.base s) t
 term_now c head first begun images s e t below = apply_agree (image_from images first) (image_of c.base s) t (λ v o.
     let lt : v < c.count = below v o in
-    let here : first ≡ c.base = begun.begins (omega arith) in
-    ap (λ n. at images (n + v)) here ∙ image_now c head first begun images s e v lt)
+    ap (λ n. at images (n + v)) begun.begins ∙ image_now c head first begun images s e v lt)
 
 -- ---- lists of terms under one more substitution
 map_at : (u : Subst ℕ) (ts : List HeapTerm) (ids : List ℕ) → map (at (map (apply u) ts)) ids ≡ map (apply u) (map (at ts) ids)
@@ -112,21 +111,25 @@ equates_shown r (Number x) f n (y ∷ ys) ls rs e l lt = cc
 equates_shown r (Name x) f n (y ∷ ys) ls rs e l lt = cc
 
 -- ---- the next pair of a match
-module _ (c : Call) (head : List View) (first : ℕ) (now : HeapTerms) (after : List VarId) (place met : ℕ) (rest : List ℕ) (g : ℕ) (m : Matching c head first now after place met (rest ++ g ∷ [])) where
+module _ (c : Call) (head : List View) (first : ℕ) (heap : HeapTerms) (after : List VarId) (place met : ℕ) (rest : List ℕ) (g : ℕ) (w : Walked c head first heap after place met (rest ++ g ∷ [])) where
   abbrev s : Subst ℕ
-  s = in_turn m.bindings
+  s = in_turn w.matching.bindings
 
-  lefts_pop : lefts now (rest ++ g ∷ []) ≡ at now.terms g ∷ lefts now rest
-  lefts_pop = ap (map (at now.terms)) (reverse-append rest (g ∷ []))
+  -- a heap as if all of the clause's variables were made
+  abbrev full : HeapTerms → HeapTerms
+  full h = completed (c.base + c.count) h
 
-  live_rest : All (λ id. id < length now.terms) rest
-  live_rest = (All-pop (λ id. id < length now.terms) (rest ++ g ∷ []) rest (Some g) refl m.live).0
+  lefts_pop : lefts heap (rest ++ g ∷ []) ≡ at heap.terms g ∷ lefts heap rest
+  lefts_pop = ap (map (at heap.terms)) (reverse-append rest (g ∷ []))
 
-  pub goal_live : g < length now.terms
-  goal_live = (All-pop (λ id. id < length now.terms) (rest ++ g ∷ []) rest (Some g) refl m.live).1
+  live_rest : All (λ id. id < length heap.terms) rest
+  live_rest = (All-pop (λ id. id < length heap.terms) (rest ++ g ∷ []) rest (Some g) refl w.matching.live).0
+
+  pub goal_live : g < length heap.terms
+  goal_live = (All-pop (λ id. id < length heap.terms) (rest ++ g ∷ []) rest (Some g) refl w.matching.live).1
 
   some_left : length (read (drop place head)) ≡ suc (length rest)
-  some_left = sym m.paired ∙ omega (arith, length-append rest (g ∷ []))
+  some_left = sym w.matching.paired ∙ omega (arith, length-append rest (g ∷ []))
 
   pub some_at : 0 < length (read (drop place head))
   some_at = omega (arith, some_left)
@@ -140,53 +143,24 @@ module _ (c : Call) (head : List View) (first : ℕ) (now : HeapTerms) (after : 
 
   -- a head that stands at the place
   pub head_there : (h : View) → h ≡ get_or head place h → IsHead c.count h (length (read (drop (suc place) head))) × (drop place head ≡ h ∷ drop (suc place) head)
-  head_there h is = head_fits c.count head m.begun.fits (suc place) place h refl (omega (arith, place_within)) is
+  head_there h is = head_fits c.count head w.matching.begun.fits (suc place) place h refl (omega (arith, place_within)) is
 
-  fresh_popped : (v : ℕ) → IsFresh (in_turn m.bindings) (lefts now (rest ++ g ∷ [])) v → IsFresh (in_turn m.bindings) (at now.terms g ∷ lefts now rest) v
-  fresh_popped v f = record { kept = f.kept; alone = f.alone; absent = All-same (λ (t : HeapTerm). Occurs v t → ⊥) (at now.terms g ∷ lefts now rest) (lefts now (rest ++ g ∷ [])) (sym lefts_pop) f.absent }
+  fresh_popped : (v : ℕ) → IsFresh (in_turn w.matching.bindings) (lefts heap (rest ++ g ∷ [])) v → IsFresh (in_turn w.matching.bindings) (at heap.terms g ∷ lefts heap rest) v
+  fresh_popped v f = record { kept = f.kept; alone = f.alone; absent = All-same (λ (t : HeapTerm). Occurs v t → ⊥) (at heap.terms g ∷ lefts heap rest) (lefts heap (rest ++ g ∷ [])) (sym lefts_pop) f.absent }
 
-  pub absent_unmet : (v : ℕ) → c.base + met ≤ v → Occurs v (at now.terms g) → ⊥
-  absent_unmet v le = All-head (λ (t : HeapTerm). Occurs v t → ⊥) (at now.terms g) (lefts now rest) (fresh_popped v (m.unmet v le)).absent
+  pub absent_unmet : (v : ℕ) → c.base + met ≤ v → Occurs v (at heap.terms g) → ⊥
+  absent_unmet v le = All-head (λ (t : HeapTerm). Occurs v t → ⊥) (at heap.terms g) (lefts heap rest) (fresh_popped v (w.matching.unmet v le)).absent
 
-  -- the first variable that wasn't met can become the term of the goal
-  pub can_meet : (v : VarId) (k : ℕ) → v.0 ≡ first + k → k < c.count → met ≤ k → CanMeet now v g
-  can_meet v k e lt le =
-      let here : first ≡ c.base = m.begun.begins (omega arith) in
-      let is : v.0 ≡ c.base + k = omega (arith, here) in
-      let f = m.unmet v.0 (omega (arith, is)) in
-      record {
-        unbound = (
-          omega (arith, is, images_long c head first m.begun now.images s m.bound.images),
-          ap (λ n. at now.images n) is ∙ image_now c head first m.begun now.images s m.bound.images k lt ∙ ap s (sym is) ∙ f.kept,
-        );
-        apart = absent_unmet v.0 (omega (arith, is));
-        older = λ w h. elim (cases_lt w (c.base + met)) [
-          | inl below ↦ omega (arith, is)
-          | inr above ↦ absurd (absent_unmet w above (subst (Occurs w) (sym h) refl))
-        ];
-      }
+  -- the clause's variables that were met
+  pub variable_there : (k : ℕ) → k < met → first + k < length heap.images
+  variable_there k lt = omega (arith, w.matching.begun.begins, w.made)
 
-  same_length : length now.images ≡ length c.start.images
-  same_length = ap length m.bound.images ∙ length-map c.start.images (apply s)
+  front_by : (p : HeapTerm) (behind : List HeapTerm) → read (drop place head) ≡ p ∷ behind → Solving c.goal (in_turn w.matching.bindings) (record { left = at heap.terms g; right = apply (image_of c.base (in_turn w.matching.bindings)) p } ∷ pairwise (lefts heap rest) (map (apply (image_of c.base (in_turn w.matching.bindings))) behind))
+  front_by p behind parts = subst (Solving c.goal (in_turn w.matching.bindings)) (λ i. pairwise (lefts_pop i) (map (apply (image_of c.base (in_turn w.matching.bindings))) (parts i))) w.matching.solving
 
-  pub variable_there : (k : ℕ) → k < c.count → first + k < length now.images
-  variable_there k lt = omega (arith, same_length, m.begun.there)
-
-  pub images_there : AreThere now.images first c.count
-  images_there = record { there = omega (arith, same_length, m.begun.there); fits = m.begun.space }
-
-  pub variable_now : (k : ℕ) → k < c.count → at now.images (first + k) ≡ in_turn m.bindings (c.base + k)
-  variable_now k lt = (let here : first ≡ c.base = m.begun.begins (omega arith) in ap (λ n. at now.images (n + k)) here ∙ image_now c head first m.begun now.images s m.bound.images k lt)
-
-  pub part_now : (t : HeapTerm) → ((v : ℕ) → Occurs v t → v < c.count) → apply (image_from now.images first) t ≡ apply (image_of c.base (in_turn m.bindings)) t
-  part_now t below = term_now c head first m.begun now.images s m.bound.images t below
-
-  front_by : (p : HeapTerm) (behind : List HeapTerm) → read (drop place head) ≡ p ∷ behind → Solving c.goal (in_turn m.bindings) (record { left = at now.terms g; right = apply (image_of c.base (in_turn m.bindings)) p } ∷ pairwise (lefts now rest) (map (apply (image_of c.base (in_turn m.bindings))) behind))
-  front_by p behind parts = subst (Solving c.goal (in_turn m.bindings)) (λ i. pairwise (lefts_pop i) (map (apply (image_of c.base (in_turn m.bindings))) (parts i))) m.solving
-
-  pub matching_clash : (p : HeapTerm) (behind : List HeapTerm) → read (drop place head) ≡ p ∷ behind → Clash (at now.terms g) (apply (image_of c.base (in_turn m.bindings)) p) → HasNoUnifier c.goal
+  pub matching_clash : (p : HeapTerm) (behind : List HeapTerm) → read (drop place head) ≡ p ∷ behind → Clash (at heap.terms g) (apply (image_of c.base (in_turn w.matching.bindings)) p) → HasNoUnifier c.goal
   matching_clash p behind parts none =
-      solving_clash c.goal s (at now.terms g) (apply (image_of c.base (in_turn m.bindings)) p) (pairwise (lefts now rest) (map (apply (image_of c.base (in_turn m.bindings))) behind)) (front_by p behind parts) none
+      solving_clash c.goal s (at heap.terms g) (apply (image_of c.base (in_turn w.matching.bindings)) p) (pairwise (lefts heap rest) (map (apply (image_of c.base (in_turn w.matching.bindings))) behind)) (front_by p behind parts) none
 
   -- a variable, a number or a name stands at the place
   pub leaf_parts : (h : View) (p : HeapTerm) → h ≡ get_or head place h → ((ts : List HeapTerm) → put h ts ≡ p ∷ ts) → (next : ℕ) → next ≡ suc place → read (drop place head) ≡ p ∷ read (drop next head)
@@ -195,72 +169,132 @@ module _ (c : Call) (head : List View) (first : ℕ) (now : HeapTerms) (after : 
   -- the head has a term at the place, and others behind it
   module _ (p : HeapTerm) (next : ℕ) (parts : read (drop place head) ≡ p ∷ read (drop next head)) where
     abbrev right : HeapTerm
-    right = apply (image_of c.base (in_turn m.bindings)) p
+    right = apply (image_of c.base (in_turn w.matching.bindings)) p
 
     abbrev rights : List HeapTerm
-    rights = map (apply (image_of c.base (in_turn m.bindings))) (read (drop next head))
+    rights = map (apply (image_of c.base (in_turn w.matching.bindings))) (read (drop next head))
 
-    front : Solving c.goal (in_turn m.bindings) (record { left = at now.terms g; right = apply (image_of c.base (in_turn m.bindings)) p } ∷ pairwise (lefts now rest) (map (apply (image_of c.base (in_turn m.bindings))) (read (drop next head))))
+    front : Solving c.goal (in_turn w.matching.bindings) (record { left = at heap.terms g; right = apply (image_of c.base (in_turn w.matching.bindings)) p } ∷ pairwise (lefts heap rest) (map (apply (image_of c.base (in_turn w.matching.bindings))) (read (drop next head))))
     front = front_by p (read (drop next head)) parts
 
     less_left : length rest ≡ length (read (drop next head))
     less_left = omega (arith, some_left, ap length parts)
 
-    module _ (new : HeapTerms) (later : List VarId) (told : List VarId) (more_met : ℕ) (h : Joined now new (at now.terms g) (apply (image_of c.base (in_turn m.bindings)) p) told) (listed : later ≡ after ++ told) (le : met ≤ more_met) (known : (v : ℕ) → Occurs v p → v < more_met) where
-      abbrev u : Subst ℕ
-      u = in_turn h.bindings
-
-      abbrev t : Subst ℕ
-      t = in_turn (m.bindings ++ h.bindings)
-
-      lefts_next : lefts new rest ≡ map (apply u) (lefts now rest)
-      lefts_next =
-          prefix_map (map (apply u) now.terms) new.terms (reverse rest) h.terms
-          (live_after u now.terms (map (apply u) now.terms) ([], sym (append-nil (map (apply u) now.terms))) (reverse rest) (all_reverse (λ id. id < length now.terms) rest live_rest))
-          ∙ map_at u now.terms (reverse rest)
-
-      rights_next : map (apply u) rights ≡ map (apply (image_of c.base t)) (read (drop next head))
-      rights_next = map_images c.base s u t (in_turn-append m.bindings h.bindings) (read (drop next head))
-
+    module _ (more_met : ℕ) (le : met ≤ more_met) (known : (v : ℕ) → Occurs v p → v < more_met) where
       -- the clause's variables in the part were met by now
-      not_inside : (v : ℕ) → IsFresh (in_turn m.bindings) (at now.terms g ∷ lefts now rest) v → ((k : ℕ) → k < more_met → c.base + k ≡ v → ⊥) → Occurs v right → ⊥
+      not_inside : (v : ℕ) → IsFresh (in_turn w.matching.bindings) (at heap.terms g ∷ lefts heap rest) v → ((k : ℕ) → k < more_met → c.base + k ≡ v → ⊥) → Occurs v right → ⊥
       not_inside v f n o =
           let from = occurs_from (image_of c.base s) v p o in
           n from.0 (known from.0 from.1) (f.alone (c.base + from.0) from.2)
 
-      fresh_next : (v : ℕ) → IsFresh (in_turn m.bindings) (lefts now (rest ++ g ∷ [])) v → ((k : ℕ) → k < more_met → c.base + k ≡ v → ⊥) → IsFresh (in_turn (m.bindings ++ h.bindings)) (lefts new rest) v
-      fresh_next v f n =
-          let popped = fresh_popped v f in
-          subst (λ ts. IsFresh (in_turn (m.bindings ++ h.bindings)) ts v) (sym lefts_next)
-          (fresh_join s u t (at now.terms g) right (lefts now rest) v popped (not_inside v popped n) h.unifier (in_turn-append m.bindings h.bindings))
+      absent_right : (v : ℕ) → c.base + more_met ≤ v → Occurs v right → ⊥
+      absent_right v b = not_inside v (fresh_popped v (w.matching.unmet v (omega arith))) (λ k l e. absurd (omega arith))
 
-      foreign_next : (v : ℕ) → v < c.base → (IsUnbound c.start.images v → ⊥) → IsFresh (in_turn (m.bindings ++ h.bindings)) (lefts new rest) v
-      foreign_next v lt n = fresh_next v (m.foreign v lt n) (λ k l e. absurd (omega arith))
+      module _ (new : HeapTerms) (later : List VarId) (told : List VarId) (h : Joined (completed (c.base + c.count) heap) (completed (c.base + c.count) new) (at heap.terms g) (apply (image_of c.base (in_turn w.matching.bindings)) p) told) (listed : later ≡ after ++ told)
+          (made : length new.images ≡ c.base + more_met) (some : more_met ≤ c.count) (space : c.base + more_met ≤ 2 ^ 64) where
+        abbrev u : Subst ℕ
+        u = in_turn h.bindings
 
-      images_then : new.images ≡ map (apply t) c.start.images
-      images_then = h.images ∙ ap (map (apply u)) m.bound.images ∙ turns c.start.images
-        where
-          turns : (ts : List HeapTerm) → map (apply u) (map (apply s) ts) ≡ map (apply t) ts
-          turns [] = refl
-          turns (x ∷ ts) = λ i. (sym (apply-followed_by s u x) ∙ apply_agree (followed_by s u) t x (λ k o. sym (in_turn-append m.bindings h.bindings k))) i ∷ turns ts i
+        abbrev t : Subst ℕ
+        t = in_turn (w.matching.bindings ++ h.bindings)
 
-      pub matching_join : Matching c head first new later next more_met rest
-      matching_join = record {
-        begun = m.begun;
-        bindings = m.bindings ++ h.bindings;
-        told = m.told ++ told;
-        listed = listed ∙ ap (λ vs. vs ++ told) m.listed ∙ append_assoc c.before m.told told;
-        live = live_after u now.terms new.terms h.terms rest live_rest;
-        paired = less_left;
-        bound = bound_join c now new m.bindings m.told told (at now.terms g) right m.bound h m.solving.oldest
-            (back c head first m.begun now.images s (lefts now (rest ++ g ∷ [])) m.bound.images m.foreign)
-            (back c head first m.begun new.images t (lefts new rest) images_then foreign_next);
-        solving = subst (Solving c.goal (in_turn (m.bindings ++ h.bindings)))
-            (read_under-pairwise u (lefts now rest) rights ∙ (λ i. pairwise (sym lefts_next i) (rights_next i)))
-            (solving_join c.goal s u t (at now.terms g) right (pairwise (lefts now rest) rights) front h.unifier (in_turn-append m.bindings h.bindings));
-        unmet = λ v b. fresh_next v (m.unmet v (omega arith)) (λ k l e. absurd (omega arith));
-        foreign = foreign_next;
-      }
+        lefts_next : lefts new rest ≡ map (apply u) (lefts heap rest)
+        lefts_next =
+            prefix_map (map (apply u) heap.terms) new.terms (reverse rest) h.terms
+            (live_after u heap.terms (map (apply u) heap.terms) ([], sym (append-nil (map (apply u) heap.terms))) (reverse rest) (all_reverse (λ id. id < length heap.terms) rest live_rest))
+            ∙ map_at u heap.terms (reverse rest)
+
+        rights_next : map (apply u) rights ≡ map (apply (image_of c.base t)) (read (drop next head))
+        rights_next = map_images c.base s u t (in_turn-append w.matching.bindings h.bindings) (read (drop next head))
+
+        fresh_next : (v : ℕ) → IsFresh (in_turn w.matching.bindings) (lefts heap (rest ++ g ∷ [])) v → ((k : ℕ) → k < more_met → c.base + k ≡ v → ⊥) → IsFresh (in_turn (w.matching.bindings ++ h.bindings)) (lefts new rest) v
+        fresh_next v f n =
+            let popped = fresh_popped v f in
+            subst (λ ts. IsFresh (in_turn (w.matching.bindings ++ h.bindings)) ts v) (sym lefts_next)
+            (fresh_join s u t (at heap.terms g) right (lefts heap rest) v popped (not_inside v popped n) h.unifier (in_turn-append w.matching.bindings h.bindings))
+
+        foreign_next : (v : ℕ) → v < c.base → (IsUnbound c.start.images v → ⊥) → IsFresh (in_turn (w.matching.bindings ++ h.bindings)) (lefts new rest) v
+        foreign_next v lt n = fresh_next v (w.matching.foreign v lt n) (λ k l e. absurd (omega arith))
+
+        images_then : (completed (c.base + c.count) new).images ≡ map (apply t) c.start.images
+        images_then = h.images ∙ ap (map (apply u)) w.matching.bound.images ∙ turns c.start.images
+          where
+            turns : (ts : List HeapTerm) → map (apply u) (map (apply s) ts) ≡ map (apply t) ts
+            turns [] = refl
+            turns (x ∷ ts) = λ i. (sym (apply-followed_by s u x) ∙ apply_agree (followed_by s u) t x (λ k o. sym (in_turn-append w.matching.bindings h.bindings k))) i ∷ turns ts i
+
+        matching_join : Matching c head first (completed (c.base + c.count) new) later next more_met rest
+        matching_join = record {
+          begun = w.matching.begun;
+          bindings = w.matching.bindings ++ h.bindings;
+          told = w.matching.told ++ told;
+          listed = listed ∙ ap (λ vs. vs ++ told) w.matching.listed ∙ append_assoc c.before w.matching.told told;
+          live = live_after u heap.terms new.terms h.terms rest live_rest;
+          paired = less_left;
+          bound = bound_join c (full heap) (full new) w.matching.bindings w.matching.told told (at heap.terms g) right w.matching.bound h w.matching.solving.oldest
+              (back c head first w.matching.begun (full heap).images s (lefts heap (rest ++ g ∷ [])) w.matching.bound.images w.matching.foreign)
+              (back c head first w.matching.begun (full new).images t (lefts new rest) images_then foreign_next);
+          solving = subst (Solving c.goal (in_turn (w.matching.bindings ++ h.bindings)))
+              (read_under-pairwise u (lefts heap rest) rights ∙ (λ i. pairwise (sym lefts_next i) (rights_next i)))
+              (solving_join c.goal s u t (at heap.terms g) right (pairwise (lefts heap rest) rights) front h.unifier (in_turn-append w.matching.bindings h.bindings));
+          unmet = λ v b. fresh_next v (w.matching.unmet v (omega arith)) (λ k l e. absurd (omega arith));
+          foreign = foreign_next;
+        }
+
+        pub walked_join : Walked c head first new later next more_met rest
+        walked_join = record { matching = matching_join; made = made; some = some; space = space }
+
+      -- a step on a heap on which the variables are made that were met by now
+      module _ (mid : HeapTerms) (larger : IsPrefix heap.terms mid.terms) (images : (completed (c.base + c.count) mid).images ≡ (completed (c.base + c.count) heap).images) (made : length mid.images ≡ c.base + more_met) (some : more_met ≤ c.count) where
+        image_mid : (v : ℕ) → v < more_met → at mid.images (first + v) ≡ in_turn w.matching.bindings (c.base + v)
+        image_mid v lt =
+            ap (λ n. at mid.images (n + v)) w.matching.begun.begins ∙ sym (completed_at (c.base + c.count) mid (c.base + v) (omega arith)) ∙ ap (λ us. at us (c.base + v)) images
+            ∙ image_now c head first w.matching.begun (full heap).images s w.matching.bound.images v (omega arith)
+
+        part_mid : apply (image_from mid.images first) p ≡ apply (image_of c.base (in_turn w.matching.bindings)) p
+        part_mid = apply_agree (image_from mid.images first) (image_of c.base s) p (λ v o. image_mid v (known v o))
+
+        goal_mid : at mid.terms g ≡ at heap.terms g
+        goal_mid = prefix_get_or heap.terms mid.terms g blank larger goal_live
+
+        pub walked_clash : Clash (at mid.terms g) (apply (image_from mid.images first) p) → HasNoUnifier c.goal
+        walked_clash none = matching_clash p (read (drop next head)) parts (subst (Clash (at heap.terms g)) part_mid (subst (λ (t : HeapTerm). Clash t (apply (image_from mid.images first) p)) goal_mid none))
+
+        module _ (new : HeapTerms) (later told : List VarId) (h : Joined mid new (at mid.terms g) (apply (image_from mid.images first) p) told) (listed : later ≡ after ++ told) (space : c.base + more_met ≤ 2 ^ 64) where
+          here : Joined mid new (at heap.terms g) (apply (image_of c.base (in_turn w.matching.bindings)) p) told
+          here = joined_as mid new (at mid.terms g) (apply (image_from mid.images first) p) (at heap.terms g) right told goal_mid part_mid h
+
+          absent : (v : ℕ) → length mid.images ≤ v → (Occurs v (at heap.terms g) → ⊥) × (Occurs v (apply (image_of c.base (in_turn w.matching.bindings)) p) → ⊥)
+          absent v b = (absent_unmet v (omega arith), absent_right v (omega arith))
+
+          pub walked_met : Walked c head first new later next more_met rest
+          walked_met =
+              walked_join new later told
+              (joined_larger (full heap) (full mid) (full new) (at heap.terms g) right told larger images (joined_completed (c.base + c.count) mid new (at heap.terms g) right told here absent))
+              listed (joined_long (c.base + c.count) mid new (at heap.terms g) right told here absent ∙ made) some space
+
+    -- a step that comes to no variable that wasn't met
+    module _ (known : (v : ℕ) → Occurs v p → v < met) where
+      pub clash_here : Clash (at heap.terms g) (apply (image_from heap.images first) p) → HasNoUnifier c.goal
+      clash_here none = walked_clash met (omega arith) known heap (prefix_same heap.terms heap.terms refl) refl w.made w.some none
+
+      pub join_here : (new : HeapTerms) (later told : List VarId) (more_met : ℕ) → Joined heap new (at heap.terms g) (apply (image_from heap.images first) p) told → later ≡ after ++ told → more_met ≡ met → Walked c head first new later next more_met rest
+      join_here new later told more_met h listed e = subst (λ n. Walked c head first new later next n rest) (sym e) (walked_met met (omega arith) known heap (prefix_same heap.terms heap.terms refl) refl w.made w.some new later told h listed w.space)
+
+    -- a variable that wasn't met is made, bound from the start
+    module _ (new : HeapTerms) (later told : List VarId) (v more_met passed : ℕ) (is : p ≡ Var v) (unmet : met ≤ v) (below : v < c.count) (next_met : more_met ≡ v + 1) (skipped : passed ≡ v - met)
+        (h : Joined (completed (c.base + c.count) heap) (completed (c.base + c.count) new) (at heap.terms g) (Var (length heap.images + passed)) told) (listed : later ≡ after ++ told)
+        (made : length new.images ≡ length heap.images + passed + 1) (space : length new.images ≤ 2 ^ 64) where
+      itself : Var (length heap.images + passed) ≡ apply (image_of c.base (in_turn w.matching.bindings)) p
+      itself =
+          let n : length heap.images + passed ≡ c.base + v = omega (arith, w.made) in
+          ap (λ x. Var x) n ∙ sym (w.matching.unmet (c.base + v) (omega arith)).kept ∙ ap (apply (image_of c.base s)) (sym is)
+
+      pub walked_new : Walked c head first new later next more_met rest
+      walked_new =
+          walked_join more_met (omega arith) (λ x o. (let same : x ≡ v = subst (Occurs x) is o in omega arith)) new later told
+          (joined_as (full heap) (full new) (at heap.terms g) (Var (length heap.images + passed)) (at heap.terms g) right told refl itself h)
+          listed (omega (arith, w.made)) (omega arith) (omega (arith, w.made))
 
   -- a compound meets a compound
   module _ (f n : ℕ) (is : view.Compound f n ≡ get_or head place (view.Compound f n)) where
@@ -279,46 +313,46 @@ module _ (c : Call) (head : List View) (first : ℕ) (now : HeapTerms) (after : 
     args_long : length (take n (read (drop (suc place) head))) ≡ n
     args_long = length-take-le n (read (drop (suc place) head)) fits.1
 
-    pub shown_part : view_of (apply (image_of c.base (in_turn m.bindings)) (with_arguments f (take n (read (drop (suc place) head))))) ≡ view.Compound f n
+    pub shown_part : view_of (apply (image_of c.base (in_turn w.matching.bindings)) (with_arguments f (take n (read (drop (suc place) head))))) ≡ view.Compound f n
     shown_part =
         let xs : List HeapTerm = take n (read (drop (suc place) head)) in
         let long : length (map (apply (image_of c.base s)) xs) ≡ n = length-map xs (apply (image_of c.base s)) ∙ args_long in
         ap view_of (apply-with_arguments (image_of c.base s) f xs) ∙ view_of-with_arguments f (map (apply (image_of c.base s)) xs) (omega (arith, long, fits.0)) ∙ ap (view.Compound f) long
 
     -- their arguments are the next terms
-    module _ (goals : List ℕ) (pushed : PushesArguments now.terms (at now.terms g) 0 rest goals) (shown : view_of (at now.terms g) ≡ view.Compound f n) where
+    module _ (goals : List ℕ) (pushed : PushesArguments heap.terms (at heap.terms g) 0 rest goals) (shown : view_of (at heap.terms g) ≡ view.Compound f n) where
       abbrev xs : List HeapTerm
-      xs = map (apply (image_of c.base (in_turn m.bindings))) (take n (read (drop (suc place) head)))
+      xs = map (apply (image_of c.base (in_turn w.matching.bindings))) (take n (read (drop (suc place) head)))
 
       abbrev ys : List HeapTerm
-      ys = map (apply (image_of c.base (in_turn m.bindings))) (drop n (read (drop (suc place) head)))
+      ys = map (apply (image_of c.base (in_turn w.matching.bindings))) (drop n (read (drop (suc place) head)))
 
-      lefts_spread : lefts now goals ≡ arguments (at now.terms g) ++ lefts now rest
+      lefts_spread : lefts heap goals ≡ arguments (at heap.terms g) ++ lefts heap rest
       lefts_spread =
-          map-reverse (at now.terms) goals ∙ ap reverse (terms_push now.terms (at now.terms g) rest goals pushed)
-          ∙ reverse-append (map (at now.terms) rest) (reverse (arguments (at now.terms g)))
-          ∙ (λ i. reverse-reverse (arguments (at now.terms g)) i ++ sym (map-reverse (at now.terms) rest) i)
+          map-reverse (at heap.terms) goals ∙ ap reverse (terms_push heap.terms (at heap.terms g) rest goals pushed)
+          ∙ reverse-append (map (at heap.terms) rest) (reverse (arguments (at heap.terms g)))
+          ∙ (λ i. reverse-reverse (arguments (at heap.terms g)) i ++ sym (map-reverse (at heap.terms) rest) i)
 
-      rights_spread : xs ++ ys ≡ map (apply (image_of c.base (in_turn m.bindings))) (read (drop (suc place) head))
+      rights_spread : xs ++ ys ≡ map (apply (image_of c.base (in_turn w.matching.bindings))) (read (drop (suc place) head))
       rights_spread = sym (map-append (apply (image_of c.base s)) (take n (read (drop (suc place) head))) (drop n (read (drop (suc place) head)))) ∙ ap (map (apply (image_of c.base s))) (take-append-drop n (read (drop (suc place) head)))
 
       xs_long : length xs ≡ n
       xs_long = length-map (take n (read (drop (suc place) head))) (apply (image_of c.base s)) ∙ args_long
 
-      solving_front : Solving c.goal (in_turn m.bindings) (pairwise (at now.terms g ∷ lefts now rest) (with_arguments f xs ∷ ys))
-      solving_front = subst (λ (t : HeapTerm). Solving c.goal (in_turn m.bindings) (pairwise (at now.terms g ∷ lefts now rest) (t ∷ ys))) (apply-with_arguments (image_of c.base s) f (take n (read (drop (suc place) head))))
+      solving_front : Solving c.goal (in_turn w.matching.bindings) (pairwise (at heap.terms g ∷ lefts heap rest) (with_arguments f xs ∷ ys))
+      solving_front = subst (λ (t : HeapTerm). Solving c.goal (in_turn w.matching.bindings) (pairwise (at heap.terms g ∷ lefts heap rest) (t ∷ ys))) (apply-with_arguments (image_of c.base s) f (take n (read (drop (suc place) head))))
           (front_by (with_arguments f (take n (read (drop (suc place) head)))) (drop n (read (drop (suc place) head))) compound_parts)
 
-      fresh_spread : (v : ℕ) → IsFresh (in_turn m.bindings) (lefts now (rest ++ g ∷ [])) v → IsFresh (in_turn m.bindings) (lefts now goals) v
+      fresh_spread : (v : ℕ) → IsFresh (in_turn w.matching.bindings) (lefts heap (rest ++ g ∷ [])) v → IsFresh (in_turn w.matching.bindings) (lefts heap goals) v
       fresh_spread v fr =
           let popped = fresh_popped v fr in
           record {
             kept = fr.kept;
             alone = fr.alone;
-            absent = All-same (λ (t : HeapTerm). Occurs v t → ⊥) (lefts now goals) (arguments (at now.terms g) ++ lefts now rest) lefts_spread
-                (All-append (λ (t : HeapTerm). Occurs v t → ⊥) (arguments (at now.terms g)) (lefts now rest)
-                (absent_arguments v (at now.terms g) (All-head (λ (t : HeapTerm). Occurs v t → ⊥) (at now.terms g) (lefts now rest) popped.absent))
-                (All-tail (λ (t : HeapTerm). Occurs v t → ⊥) (at now.terms g) (lefts now rest) popped.absent));
+            absent = All-same (λ (t : HeapTerm). Occurs v t → ⊥) (lefts heap goals) (arguments (at heap.terms g) ++ lefts heap rest) lefts_spread
+                (All-append (λ (t : HeapTerm). Occurs v t → ⊥) (arguments (at heap.terms g)) (lefts heap rest)
+                (absent_arguments v (at heap.terms g) (All-head (λ (t : HeapTerm). Occurs v t → ⊥) (at heap.terms g) (lefts heap rest) popped.absent))
+                (All-tail (λ (t : HeapTerm). Occurs v t → ⊥) (at heap.terms g) (lefts heap rest) popped.absent));
           }
 
       goals_long : length goals ≡ length rest + n
@@ -326,27 +360,30 @@ module _ (c : Call) (head : List View) (first : ℕ) (now : HeapTerms) (after : 
         arith,
         ap length pushed.1,
         length-append rest pushed.0,
-        length-map pushed.0 (at now.terms),
+        length-map pushed.0 (at heap.terms),
         ap length pushed.2.terms,
-        length-reverse (arguments (at now.terms g)),
-        length-arguments (at now.terms g) f n shown,
+        length-reverse (arguments (at heap.terms g)),
+        length-arguments (at heap.terms g) f n shown,
       )
 
-      pub matching_spread : (next : ℕ) → next ≡ suc place → Matching c head first now after next met goals
-      matching_spread next e = subst (λ k. Matching c head first now after k met goals) (sym e) (record {
-        begun = m.begun;
-        bindings = m.bindings;
-        told = m.told;
-        listed = m.listed;
-        live = live_push now.terms (at now.terms g) rest goals live_rest pushed;
+      matching_spread : Matching c head first (completed (c.base + c.count) heap) after (suc place) met goals
+      matching_spread = record {
+        begun = w.matching.begun;
+        bindings = w.matching.bindings;
+        told = w.matching.told;
+        listed = w.matching.listed;
+        live = live_push heap.terms (at heap.terms g) rest goals live_rest pushed;
         paired = omega (arith, goals_long, some_left, ap length compound_parts, length-drop n (read (drop (suc place) head)), fits.1);
-        bound = m.bound;
-        solving = subst (Solving c.goal (in_turn m.bindings)) (λ i. pairwise (sym lefts_spread i) (rights_spread i))
-            (solving_same c.goal s (pairwise (at now.terms g ∷ lefts now rest) (with_arguments f xs ∷ ys)) (pairwise (arguments (at now.terms g) ++ lefts now rest) (xs ++ ys)) solving_front
-            (λ r. equates_shown r (at now.terms g) f n xs (lefts now rest) ys shown xs_long fits.0));
-        unmet = λ v le. fresh_spread v (m.unmet v le);
-        foreign = λ v lt k. fresh_spread v (m.foreign v lt k);
-      })
+        bound = w.matching.bound;
+        solving = subst (Solving c.goal (in_turn w.matching.bindings)) (λ i. pairwise (sym lefts_spread i) (rights_spread i))
+            (solving_same c.goal s (pairwise (at heap.terms g ∷ lefts heap rest) (with_arguments f xs ∷ ys)) (pairwise (arguments (at heap.terms g) ++ lefts heap rest) (xs ++ ys)) solving_front
+            (λ r. equates_shown r (at heap.terms g) f n xs (lefts heap rest) ys shown xs_long fits.0));
+        unmet = λ v le. fresh_spread v (w.matching.unmet v le);
+        foreign = λ v lt k. fresh_spread v (w.matching.foreign v lt k);
+      }
+
+      pub walked_spread : (next : ℕ) → next ≡ suc place → Walked c head first heap after next met goals
+      walked_spread next e = subst (λ k. Walked c head first heap after k met goals) (sym e) (record { matching = matching_spread; made = w.made; some = w.some; space = w.space })
 
 -- ---- the end of a part
 pub parts_at : (head : List View) (place next : ℕ) → 0 < length (read (drop place head)) → drop 1 (read (drop place head)) ≡ read (drop next head) → read (drop place head) ≡ term_of (drop place head) ∷ read (drop next head)

@@ -12,9 +12,10 @@ use Rattle.cq_unify.specs.Unified.{Binding, in_turn, variables_of, IsNewlyBound}
 use Rattle.spec_lists.specs.Prefixes.{IsPrefix}
 use Rattle.cq_walk.specs.Pairs.{pairwise}
 use Rattle.cq_stored.specs.Pattern.{read, AreHeads}
+use Rattle.cq_resolve.specs.Resolved.{completed}
 use Rattle.cq_resolve.specs.declared.matching.Walk.{Walk}
 
--- the number of the first of the clause's variables on the heap, how many there are, the heap once these were made, the
+-- the number of the first of the clause's variables on the heap, how many there are, the heap as if these were made, the
 -- goal and the head as terms that are to be equal, and what was told before
 pub record Call : Type 0 where
   pub base : ℕ
@@ -27,9 +28,7 @@ pub record Call : Type 0 where
 pub record Begun (c : Call) (head : List View) (first : ℕ) : Type 0 where
   pub fits : AreHeads c.count head
   pub few : c.count < 2 ^ 64
-  pub begins : 0 < c.count → first ≡ c.base
-  pub there : first + c.count ≤ length c.start.images
-  pub space : first + c.count ≤ 2 ^ 64
+  pub begins : first ≡ c.base
   pub all : length c.start.images ≡ c.base + c.count
   pub new : (k : ℕ) → k < c.count → at c.start.images (c.base + k) ≡ Var (c.base + k)
 
@@ -76,10 +75,17 @@ pub record Matching (c : Call) (head : List View) (first : ℕ) (now : Terms) (a
   pub unmet : (v : ℕ) → c.base + met ≤ v → IsFresh (in_turn bindings) (lefts now goals) v
   pub foreign : (v : ℕ) → v < c.base → (IsUnbound c.start.images v → ⊥) → IsFresh (in_turn bindings) (lefts now goals) v
 
+-- the same on a heap on which only the variables that were met are made
+pub record Walked (c : Call) (head : List View) (first : ℕ) (heap : Terms) (after : List VarId) (place met : ℕ) (goals : List ℕ) : Type 0 where
+  pub matching : Matching c head first (completed (c.base + c.count) heap) after place met goals
+  pub made : length heap.images ≡ c.base + met
+  pub some : met ≤ c.count
+  pub space : c.base + met ≤ 2 ^ 64
+
 -- a walk stands so
 abbrev pub IsAt : Call → List View → ℕ → Terms → List VarId → Walk → Type 0
-IsAt c head first now after walk = Matching c head first now after walk.place walk.met walk.goals.items
+IsAt c head first heap after walk = Walked c head first heap after walk.place walk.met walk.goals.items
 
 -- and so with a term of the goal that was taken off it
 abbrev pub IsNext : Call → List View → ℕ → Terms → List VarId → Walk → ℕ → Type 0
-IsNext c head first now after walk goal = Matching c head first now after walk.place walk.met (walk.goals.items ++ goal ∷ [])
+IsNext c head first heap after walk goal = Walked c head first heap after walk.place walk.met (walk.goals.items ++ goal ∷ [])

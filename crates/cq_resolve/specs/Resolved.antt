@@ -1,5 +1,5 @@
 -- What it means that a goal was resolved with a clause.
-use Rattle.std.specs.Prelude.{◌≡◌, ◌≢◌, ◌↔◌, ℕ, ◌<◌, List, [], ◌∷◌, ◌++◌, map, length, Contains}
+use Rattle.std.specs.Prelude.{◌≡◌, ◌≢◌, ◌↔◌, ℕ, ◌-◌, ◌<◌, List, [], ◌∷◌, ◌++◌, map, length, Contains}
 use Rattle.std.specs.List.{AllPairs}
 use Rattle.spec_terms.specs.Term.{apply}
 use Rattle.spec_terms.specs.Unifier.{Equation, IsUnifier}
@@ -19,6 +19,10 @@ call heap c goal = record { left = at heap.terms goal; right = apply (moved_by (
 -- a heap with so many more variables
 abbrev pub with_variables : Terms → ℕ → Terms
 with_variables heap n = record heap { images = heap.images ++ unbound_from (length heap.images) n }
+
+-- a heap with as many more variables as make so many in all
+abbrev pub completed : ℕ → Terms → Terms
+completed total heap = with_variables heap (total - length heap.images)
 
 -- all terms are read under the unifier of the two, which bindings of these variables make in turn; the clause's variables
 -- are there, and the term of its body

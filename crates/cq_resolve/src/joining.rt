@@ -1,31 +1,30 @@
 // A term of the goal and a part of the head are made equal.
 
-ghost use Rattle.std.specs.Prelude.{◌≡◌, ◌<◌, ◌≤◌, ◌++◌, ℕ, List, length, All, OnOk, Ok, true, false};
-ghost use Rattle.spec_terms.specs.Term.{Number, Name, apply};
+ghost use Rattle.std.specs.Prelude.{◌≡◌, ◌+◌, ◌<◌, ◌≤◌, ◌^◌, ◌++◌, ℕ, List, length, All, OnOk, Ok, true, false};
+ghost use Rattle.spec_terms.specs.Term.{Var, Number, Name, apply};
 ghost use Rattle.cq_frac.specs.declared.VarId.{VarId};
 ghost use Rattle.cq_term.specs.Names.{KeepsNames};
 ghost use Rattle.cq_term.specs.Meaning.{at};
 ghost use Rattle.cq_stored.specs.Pattern.{IsPattern, IsNamedBelow, term_of};
 ghost use Rattle.cq_stored.specs.Building.{AreThere, image_from};
-ghost use Rattle.cq_resolve.specs.Joined.{Joins, Clash, CanMeet};
+ghost use Rattle.cq_resolve.specs.Joined.{Joins, Clash};
+ghost use Rattle.cq_resolve.specs.Resolved.{completed};
 
 use cq_frac::{Frac, VarId};
-use cq_stored::build;
+use cq_stored::{build, new_variables};
 use cq_term::{Atom, Heap, Newly, TermId, View};
 use cq_unify::unify;
 use std::alloc::AllocError;
 
-/// Makes a variable of the clause equal to a term of the goal. A variable that was never met needs no occurs check.
+/// Makes a variable of the clause that was met equal to a term of the goal.
 pub(crate) fn join_variable(
     heap: &mut Heap,
     newly: &mut Newly,
     variable: VarId,
-    is_new: bool,
     goal: TermId,
 ) -> Result<bool, AllocError>
     requires there { variable.0 < length heap.old.now.images }
     requires live { goal < length heap.old.now.terms }
-    requires new { is_new ≡ true → CanMeet heap.old.now variable goal }
     ensures joined { result ≡ Ok true → Joins heap.old.now heap.new.now goal (at heap.old.now.images variable.0) newly.old newly.new }
     ensures clash { result ≡ Ok false → Clash (at heap.old.now.terms goal) (at heap.old.now.images variable.0) }
     ensures told { (more : List VarId) × (newly.new ≡ newly.old ++ more) }
@@ -33,14 +32,35 @@ pub(crate) fn join_variable(
     ensures saved { heap.new.saved ≡ heap.old.saved }
     ensures room { heap.old.room ≤ heap.new.room }
 {
-    if is_new {
-        heap.bind(variable, goal)?;
-        newly.push(variable)?;
-        Ok(true)
-    } else {
-        let met = heap.var_term(variable);
-        join_terms(heap, newly, goal, met)
-    }
+    let met = heap.var_term(variable);
+    join_terms(heap, newly, goal, met)
+}
+
+/// Makes so many variables of the clause that were passed over, and then the next, which is bound to a term of the goal from
+/// the start: it needs no occurs check.
+pub(crate) fn join_new(
+    heap: &mut Heap,
+    newly: &mut Newly,
+    passed: usize,
+    goal: TermId,
+) -> Result<(), AllocError>
+    requires { goal < length heap.old.now.terms }
+    ensures joined { OnOk result ((total : ℕ) → length heap.new.now.images ≤ total
+        → Joins (completed total heap.old.now) (completed total heap.new.now) goal (Var (length heap.old.now.images + passed)) newly.old newly.new) }
+    ensures made { OnOk result (length heap.new.now.images ≡ length heap.old.now.images + passed + 1) }
+    ensures few { OnOk result (length heap.new.now.images < 2 ^ 64) }
+    ensures told { (more : List VarId) × (newly.new ≡ newly.old ++ more) }
+    ensures names { (n : ℕ) → KeepsNames n heap.old.now heap.new.now }
+    ensures saved { heap.new.saved ≡ heap.old.saved }
+    ensures room { heap.old.room ≤ heap.new.room }
+{
+    new_variables(heap, passed)?;
+    heap.variables_are_unbound();
+    heap.images_are_unbound();
+    let variable = VarId(heap.variables());
+    heap.new_bound_var(goal)?;
+    newly.push(variable)?;
+    Ok(())
 }
 
 /// Makes two terms equal.

@@ -5,16 +5,17 @@ ghost use Rattle.spec_terms.specs.Unifier.{HasNoUnifier};
 ghost use Rattle.cq_frac.specs.declared.VarId.{VarId};
 ghost use Rattle.cq_term.specs.Names.{KeepsNames};
 ghost use Rattle.cq_stored.specs.Pattern.{IsNamedBelow};
-ghost use Rattle.cq_resolve.specs.Matching.{Call, Matching, IsAt, IsNext};
+ghost use Rattle.cq_resolve.specs.Matching.{Call, Walked, IsAt, IsNext};
 
-use crate::joining::{join_built, join_name, join_number, join_variable};
+use crate::joining::{join_built, join_name, join_new, join_number, join_variable};
 use crate::parts::{end_of, met_after};
 use cq_frac::VarId;
+use cq_stored::new_variables;
 use cq_term::{Heap, Newly, TermId, View};
 use cq_walk::push_arguments;
 use std::alloc::AllocError;
 
-/// How far the match is: a place of the head, how many of its variables were met, and the terms of the goal that belong
+/// How far the match is: a place of the head, how many of its variables were met and so made, and the terms of the goal that belong
 /// to the parts from the place on, the last one first.
 #[derive(Drop)]
 pub(crate) struct Walk {
@@ -31,10 +32,10 @@ pub(crate) fn match_head(
     first: usize,
     goal: TermId,
 ) -> Result<bool, AllocError>
-    requires { (c : Call) × Matching c head.now first heap.old.now newly.old 0 0 (goal ∷ []) }
-    ensures matched { result ≡ Ok true → (c : Call) → Matching c head.now first heap.old.now newly.old 0 0 (goal ∷ [])
-        → (place : ℕ) × (met : ℕ) × Matching c head.now first heap.new.now newly.new place met [] }
-    ensures none { result ≡ Ok false → (c : Call) → Matching c head.now first heap.old.now newly.old 0 0 (goal ∷ []) → HasNoUnifier c.goal }
+    requires { (c : Call) × Walked c head.now first heap.old.now newly.old 0 0 (goal ∷ []) }
+    ensures matched { result ≡ Ok true → (c : Call) → Walked c head.now first heap.old.now newly.old 0 0 (goal ∷ [])
+        → (place : ℕ) × (met : ℕ) × Walked c head.now first heap.new.now newly.new place met [] }
+    ensures none { result ≡ Ok false → (c : Call) → Walked c head.now first heap.old.now newly.old 0 0 (goal ∷ []) → HasNoUnifier c.goal }
     ensures told { (more : List VarId) × (newly.new ≡ newly.old ++ more) }
     ensures names { OnOk result ((n : ℕ) → All (IsNamedBelow n) head.now → KeepsNames n heap.old.now heap.new.now) }
     ensures saved { heap.new.saved ≡ heap.old.saved }
@@ -62,7 +63,7 @@ fn match_from(
 ) -> Result<bool, AllocError>
     requires { (c : Call) × IsNext c head.now first heap.old.now newly.old walk.old goal }
     ensures matched { result ≡ Ok true → (c : Call) → IsNext c head.now first heap.old.now newly.old walk.old goal
-        → (place : ℕ) × (met : ℕ) × Matching c head.now first heap.new.now newly.new place met [] }
+        → (place : ℕ) × (met : ℕ) × Walked c head.now first heap.new.now newly.new place met [] }
     ensures none { result ≡ Ok false → (c : Call) → IsNext c head.now first heap.old.now newly.old walk.old goal → HasNoUnifier c.goal }
     ensures told { (more : List VarId) × (newly.new ≡ newly.old ++ more) }
     ensures names { OnOk result ((n : ℕ) → All (IsNamedBelow n) head.now → KeepsNames n heap.old.now heap.new.now) }
@@ -103,10 +104,16 @@ fn step(
     let part = head[walk.place];
     match part {
         View::Var(variable) => {
-            let is_new = walk.met <= variable.0;
+            let met = walk.met;
+            let is_new = met <= variable.0;
             walk.place += 1;
-            walk.met = walk.met.max(variable.0 + 1);
-            join_variable(heap, newly, VarId(first + variable.0), is_new, goal)
+            walk.met = met.max(variable.0 + 1);
+            if is_new {
+                join_new(heap, newly, variable.0 - met, goal)?;
+                Ok(true)
+            } else {
+                join_variable(heap, newly, VarId(first + variable.0), goal)
+            }
         }
         View::Number(number) => {
             walk.place += 1;
@@ -154,7 +161,9 @@ fn step_built(
 {
     let end = end_of(head, walk.place);
     let part = &head[walk.place..end];
-    walk.met = met_after(part, walk.met);
+    let met = met_after(part, walk.met);
+    new_variables(heap, met - walk.met)?;
+    walk.met = met;
     walk.place = end;
     join_built(heap, newly, part, first, goal)
 }

@@ -38,6 +38,7 @@ pub(crate) fn met_after(pattern: &[View], met: usize) -> usize
     requires { (count : ℕ) × (count < 2 ^ 64) × AreHeads count pattern.now }
     ensures more { met ≤ result }
     ensures below { HaveBelow result pattern.now }
+    ensures least { (n : ℕ) → met ≤ n → HaveBelow n pattern.now → result ≤ n }
 {
     let mut after = met;
     for i in (0..pattern.len()).rev() {
@@ -51,6 +52,7 @@ fn met_with(head: View, met: usize) -> usize
     requires { (count : ℕ) × (count < 2 ^ 64) × IsBelow count head }
     ensures more { met ≤ result }
     ensures below { IsBelow result head }
+    ensures least { (n : ℕ) → met ≤ n → IsBelow n head → result ≤ n }
 {
     match head {
         View::Var(variable) => met.max(variable.0 + 1),

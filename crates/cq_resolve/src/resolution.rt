@@ -18,8 +18,9 @@ use std::alloc::AllocError;
 
 /// Makes a goal and the head of a clause equal, whose variables are new ones of the heap, and gives the body; or says
 /// that nothing makes them equal. The head is walked along the goal: it is built only where the goal has an unbound
-/// variable, and the body once the head was matched. A variable of the clause needs no occurs check where it is first
-/// met. The variables that get bound, those of the clause too, are told to `newly` in the order of their bindings.
+/// variable, and the body once the head was matched. A variable of the clause is made where it is first met, bound from the
+/// start if the goal has a term for it, which needs no occurs check. The variables that get bound, those of the clause too,
+/// are told to `newly` in the order of their bindings.
 pub fn resolve(
     clause: &Clause,
     heap: &mut Heap,
@@ -69,8 +70,11 @@ pub fn resolve_unmarked(
     ensures room { heap.old.room ≤ heap.new.room }
 {
     heap.variables_are_unbound();
-    let first = new_variables(heap, clause.variables())?;
+    let count = clause.variables();
+    let first = heap.variables();
     if match_head(heap, newly, clause.head(), first, goal)? {
+        let met = heap.variables() - first;
+        new_variables(heap, count - met)?;
         let body = build(heap, clause.body(), first)?;
         Ok(Some(body))
     } else {

@@ -1,12 +1,12 @@
 use Rattle.std.proofs.Common.{◌∙◌, ◌++◌, ◌∷◌, [], List, ℕ, ap, sym, subst, append_assoc, arith, true, false}
-use Rattle.cq_resolve.specs.Matching.{Call, Matching, IsNext}
+use Rattle.cq_resolve.specs.Matching.{Call, Walked, IsNext}
 use Rattle.cq_resolve.proofs.Started.{nil_of, ok_is}
 use Rattle.cq_resolve.proofs.matching.match_from.Goals as goal
 use Rattle.cq_resolve.proofs.matching.match_from.Goals.{After-step-in-Some}
 
 here : (c : After-step-in-Some) → (k : Call) → IsNext k c.args.head.now c.args.first c.args.heap.now.now c.args.newly.now c.args.walk.now c.args.goal →
-    Matching k c.args.head.now c.args.first c.loop-next.heap.now c.loop-next.newly c.loop-next.walk.place c.loop-next.walk.met (c.pop.new.self.items ++ c.in-Some.next ∷ [])
-here c k m = subst (λ (gs : List ℕ). Matching k c.args.head.now c.args.first c.loop-next.heap.now c.loop-next.newly c.loop-next.walk.place c.loop-next.walk.met gs) c.in-Some.ensures.items (c.loop-next.invariant.matching k m)
+    Walked k c.args.head.now c.args.first c.loop-next.heap.now c.loop-next.newly c.loop-next.walk.place c.loop-next.walk.met (c.pop.new.self.items ++ c.in-Some.next ∷ [])
+here c k m = subst (λ (gs : List ℕ). Walked k c.args.head.now c.args.first c.loop-next.heap.now c.loop-next.newly c.loop-next.walk.place c.loop-next.walk.met gs) c.in-Some.ensures.items (c.loop-next.invariant.matching k m)
 
 pub returns-then-not-branch-clause-none : goal.returns-then-not-branch-clause-none
 returns-then-not-branch-clause-none c = λ e k m. c.in_ok-step.ensures.none (ok_is c.in_ok-step.field-0 false c.if-not-branch.true) k m
@@ -34,7 +34,7 @@ pub returns-clause-matched : goal.returns-clause-matched
 returns-clause-matched c = λ e k m. (
   c.loop-next.walk.place,
   c.loop-next.walk.met,
-  subst (λ (gs : List ℕ). Matching k c.args.head.now c.args.first c.loop-next.heap.now c.loop-next.newly c.loop-next.walk.place c.loop-next.walk.met gs)
+  subst (λ (gs : List ℕ). Walked k c.args.head.now c.args.first c.loop-next.heap.now c.loop-next.newly c.loop-next.walk.place c.loop-next.walk.met gs)
       (nil_of c.loop-next.walk.goals.items (let n = c.in_default.ensures.cases in sym c.loop-next.walk.goals.ok.0 ∙ n.0)) (c.loop-next.invariant.matching k m),
 )
 

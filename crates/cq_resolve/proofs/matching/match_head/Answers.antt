@@ -4,14 +4,14 @@ use Rattle.cq_frac.specs.declared.VarId.{VarId}
 use Rattle.cq_term.specs.HeapValue.{HeapValue}
 use Rattle.cq_term.specs.Names.{HasNamesBelow}
 use Rattle.cq_term.specs.declared.view.View.{View}
-use Rattle.cq_resolve.specs.Matching.{Call, Matching}
+use Rattle.cq_resolve.specs.Matching.{Call, Walked}
 use Rattle.cq_resolve.proofs.matching.match_head.Goals as goal
 
 -- the match begins with an empty list that the heap gave
 begun_with : (k : Call) (head : List View) (first : ℕ) (old now : HeapValue) (newly : List VarId) (id : ℕ) (goals : List ℕ) → now ≡ old → goals ≡ [] →
-    Matching k head first old.now newly 0 0 (id ∷ []) → Matching k head first now.now newly 0 0 (goals ++ id ∷ [])
+    Walked k head first old.now newly 0 0 (id ∷ []) → Walked k head first now.now newly 0 0 (goals ++ id ∷ [])
 begun_with k head first old now newly id goals same empty m =
-    subst (λ (h : HeapValue). Matching k head first h.now newly 0 0 (goals ++ id ∷ [])) (sym same) (subst (λ (gs : List ℕ). Matching k head first old.now newly 0 0 (gs ++ id ∷ [])) (sym empty) m)
+    subst (λ (h : HeapValue). Walked k head first h.now newly 0 0 (goals ++ id ∷ [])) (sym same) (subst (λ (gs : List ℕ). Walked k head first old.now newly 0 0 (gs ++ id ∷ [])) (sym empty) m)
 
 pub match_from-requires : goal.match_from-requires
 match_from-requires c = (
@@ -23,7 +23,7 @@ pub returns-clause-matched : goal.returns-clause-matched
 returns-clause-matched c = λ e k m.
     let h = c.in_ok-matched.ensures.matched e k
     (begun_with k c.args.head.now c.args.first c.args.heap.now c.spare_list.new.self c.args.newly.now c.args.goal c.spare_list.result.items c.spare_list.ensures.same c.spare_list.ensures.empty m) in
-    (h.0, h.1, subst (λ (v : HeapValue). Matching k c.args.head.now c.args.first v.now c.match_from.new.newly h.0 h.1 []) (sym c.keep_list.ensures) h.2)
+    (h.0, h.1, subst (λ (v : HeapValue). Walked k c.args.head.now c.args.first v.now c.match_from.new.newly h.0 h.1 []) (sym c.keep_list.ensures) h.2)
 
 pub returns-clause-none : goal.returns-clause-none
 returns-clause-none c = λ e k m.
