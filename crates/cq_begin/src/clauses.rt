@@ -93,7 +93,8 @@ fn begin_free(
     requires clause { IsCounted (length atoms.now) clause.now }
     requires goal { goal < length world.old.heap.now.terms }
     requires rest { rest < length lists.old.now }
-    ensures comes { IfOk result (λ o. IfSome o (ClauseComes atoms.now (value world.old lists.old.now) (value world.new lists.new.now) goal height rest clause.now)) }
+    ensures comes { IfOk result (λ o. IfSome o
+        (ClauseComes atoms.now (value world.old lists.old.now) (value world.new lists.new.now) goal height rest clause.now)) }
     ensures unchanged { IfOk result (λ o. IfSome o (λ b. IfPruned b (now_of world.new ≡ now_of world.old))) }
     ensures none { IfOk result (λ o. IfNone o (value world.new lists.new.now ≡ value world.old lists.old.now)) }
     ensures err { OnErr result (now_of world.new ≡ now_of world.old) }
@@ -218,7 +219,8 @@ fn body_before(
 ) -> Result<Continuation, AllocError>
     requires names { HasNamesBelow (length atoms.now) clause.now.body }
     requires rest { rest < length lists.old.now }
-    ensures cells { IfOk result (λ k. HasCells lists.new.now k (body_cells (named (text_of atoms.now) clause.now.body) body height (items_at lists.old.now rest))) }
+    ensures cells { IfOk result (λ k. HasCells lists.new.now k
+        (body_cells (named (text_of atoms.now) clause.now.body) body height (items_at lists.old.now rest))) }
     ensures keeps { KeepsLists lists.old.now lists.new.now }
     ensures saved { lists.new.saved ≡ lists.old.saved }
     ensures prepared { 0 < lists.old.ready → IsOk result }

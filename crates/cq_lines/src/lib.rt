@@ -44,7 +44,8 @@ pub fn answer_lines(
     requires freeze { slice_get atoms.now freeze ≡ Some (codes "freeze") }
     requires live { All (λ n. n.number < length world.old.heap.now.images) names.now }
     requires distinct { AreDistinct (map (λ n. n.number) names.now) }
-    ensures answer { IfOk result (λ text. (st : State) → IsReadyAs atoms.now (now_of world.old) st → AnswerForm (operators atoms.now ops.now) names.now st text.items) }
+    ensures answer { IfOk result (λ text. (st : State) → IsReadyAs atoms.now (now_of world.old) st
+        → AnswerForm (operators atoms.now ops.now) names.now st text.items) }
     ensures overflow { (pair : Pair) → result ≡ Err (Overflow pair)
         → (st : State) → IsReadyAs atoms.now (now_of world.old) st → IsRefusedAnswering (wanted names.now st) st.linear pair }
     ensures pivots { (n : ℕ) → result ≡ Err (Pivots n)
