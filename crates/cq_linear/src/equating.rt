@@ -441,7 +441,8 @@ fn opposite_row_certificate(
     number: usize,
 ) -> Result<Option<Cert>, AllocError>
     requires { IsRow dict.now.roles q }
-    ensures { IfOk result (λ o. IfSome o (λ cert. (own : Row) → IsAt dict.now.roles q (Basic own) → IsOppositeRowCertificate told.now names.now.now number own cert)) }
+    ensures { IfOk result (λ o. IfSome o (λ cert. (own : Row) → IsAt dict.now.roles q (Basic own)
+        → IsOppositeRowCertificate told.now names.now.now number own cert)) }
 {
     let dropped = opposed(alloc, dict.dropped(q))?;
     if !are_allowed(told, names, &dropped) {
