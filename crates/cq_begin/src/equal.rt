@@ -62,9 +62,7 @@ fn equate_unmarked(heap: &mut Heap, attrs: &Attrs, pairs: &[Pair]) -> Result<Equ
     let Some(newly) = equate(heap, pairs)? else {
         return Ok(Equated::Apart);
     };
-    let free = is_free(attrs, newly.as_slice());
-    heap.keep_newly(newly);
-    if free {
+    if is_free(attrs, newly.as_slice()) {
         Ok(Equated::Equal)
     } else {
         Ok(Equated::Unsettled)

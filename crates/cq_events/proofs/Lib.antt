@@ -8,4 +8,3 @@ mod Turned
 mod Idle
 mod Marks
 mod Read
-mod InFront
