@@ -1,24 +1,24 @@
 -- A variable that becomes a number or a name.
-use Rattle.std.proofs.Common.{◌≡◌, ◌<◌, ◌≤◌, ◌∷◌, [], ℕ, List, length, map, refl, sym, ap, subst, arith}
+use Rattle.std.proofs.Common.{◌≡◌, ◌<◌, ◌∷◌, ◌++◌, ◌∙◌, [], ℕ, List, length, map, refl, sym, ap, subst, arith, append-nil, length-append}
 use Rattle.std.specs.Prelude.{All}
+use Rattle.std.proofs.lemmas.List.{length-map}
 use Rattle.std.proofs.lemmas.List.Elements.{All-push}
+use Rattle.spec_lists.specs.Prefixes.{IsPrefix}
 use Rattle.spec_terms.specs.Term.{Var, Number, Name, Compound, Occurs, apply, single}
+use Rattle.spec_terms.specs.Unifier.{IsUnifier}
 use Rattle.cq_attr.specs.Attributes.{Attributes}
 use Rattle.cq_frac.specs.declared.VarId.{VarId}
+use Rattle.cq_resolve.specs.Joined.{CanMeet, Joined, equal}
+use Rattle.cq_resolve.proofs.Telling.{constant_can, joined_told}
 use Rattle.cq_rest.specs.Equal.{AllEqual, MayBeEqual}
-use Rattle.cq_rest.specs.Ready.{MayBeTold}
-use Rattle.cq_rest.proofs.Pairs.{equal_start, next_equal}
-use Rattle.cq_term.specs.HeapValue.{Terms, HeapValue}
+use Rattle.cq_term.specs.HeapValue.{Terms}
 use Rattle.cq_term.specs.Meaning.{HeapTerm, at}
-use Rattle.cq_term.specs.Shown.{view_of, IsUnbound}
-use Rattle.cq_term.specs.declared.view.View.{View}
+use Rattle.cq_term.specs.Shown.{view_of}
 use Rattle.cq_term.specs.declared.view.View.TheVariants as view
-use Rattle.cq_unify.specs.Unified.{Unified}
-use Rattle.cq_unify.specs.Work.{Demands, IsBound}
-use Rattle.cq_unify.specs.declared.pairs.Demand.TheVariants as demand
-use Rattle.cq_unify.proofs.Heads.{bind_to_right}
-use Rattle.cq_unify.proofs.Named.{names_unified}
-use Rattle.cq_unify.proofs.Progress.{bound_unified}
+use Rattle.cq_term.proofs.Arguments.{shown_variable}
+use Rattle.cq_unify.specs.Unified.{in_turn}
+use Rattle.cq_unify.proofs.Named.{names_bind}
+use Rattle.cq_walk.specs.Pairs.{equations}
 use Rattle.cq_walk.specs.declared.pairs.Pair.{Pair}
 use Rattle.cq_begin.specs.Entries.{AreFree, IsConstant, IsFree}
 
@@ -29,38 +29,48 @@ nothing_inside v (Number q) h o = o
 nothing_inside v (Name a) h o = o
 nothing_inside v (Compound f ts) h o = absurd h
 
-not_a_variable : (t : HeapTerm) (x : VarId) → IsConstant (view_of t) → view_of t ≡ view.Var x → ⊥
-not_a_variable t x h e = subst IsConstant e h
+-- a part that is as long as the whole
+whole : (xs ys : List HeapTerm) → IsPrefix xs ys → length ys ≡ length xs → ys ≡ xs
+whole xs ys p e = by p.0 p.1
+  where
+    by : (more : List HeapTerm) → ys ≡ xs ++ more → ys ≡ xs
+    by [] q = q ∙ append-nil xs
+    by (t ∷ ts) q = absurd (omega (arith, ap length q, length-append xs (t ∷ ts), e))
 
-unbound : (h : Terms) (id : ℕ) → MayBeTold h id → (x : ℕ) → at h.terms id ≡ Var x → IsUnbound h.images x
-unbound h id may x e = may.inside x (subst (Occurs x) (sym e) refl)
+module _ (old new : Terms) (pair : Pair) (may : MayBeEqual old pair) (v : VarId) (shown : view_of (at old.terms pair.left) ≡ view.Var v)
+    (constant : IsConstant (view_of (at old.terms pair.right)))
+    (terms : new.terms ≡ map (apply (single v.0 (at old.terms pair.right))) old.terms)
+    (images : new.images ≡ map (apply (single v.0 (at old.terms pair.right))) old.images) where
+  left_is : at old.terms pair.left ≡ Var v.0
+  left_is = shown_variable (at old.terms pair.left) v shown
 
-module _ (old new : HeapValue) (pair : Pair) (may : MayBeEqual old.now pair) (v : VarId) (shown : view_of (at old.now.terms pair.left) ≡ view.Var v)
-    (constant : IsConstant (view_of (at old.now.terms pair.right)))
-    (terms : new.now.terms ≡ map (apply (single v.0 (at old.now.terms pair.right))) old.now.terms)
-    (images : new.now.images ≡ map (apply (single v.0 (at old.now.terms pair.right))) old.now.images)
-    (saved : new.saved ≡ old.saved) (room : old.room ≤ new.room) where
-  demands : Demands old.now pair.left pair.right (demand.Bind v pair.right)
-  demands =
-      bind_to_right old.now pair.left pair.right v (unbound old.now pair.left may.0) (unbound old.now pair.right may.1) shown may.1.live
-      (λ x e. absurd (not_a_variable (at old.now.terms pair.right) x constant e))
+  can : CanMeet old v pair.right
+  can = constant_can old old v pair.right refl (may.0.inside v.0 (subst (Occurs v.0) (sym left_is) refl)) (λ x o. nothing_inside x (at old.terms pair.right) constant o)
 
-  becomes : IsBound old.now new.now v pair.right
-  becomes = record { apart = nothing_inside v.0 (at old.now.terms pair.right) constant; terms = terms; images = images }
+  joined : Joined old new (Var v.0) (at old.terms pair.right) (v ∷ [])
+  joined = joined_told old new v pair.right can terms images
 
-  united : (more : List VarId) × (v ∷ [] ≡ more) × Unified old.now new.now pair.left pair.right more
-  united = bound_unified old pair.left pair.right may.0.live may.1.live [] v pair.right demands new (v ∷ []) becomes saved room refl
+  same_terms : new.terms ≡ map (apply (in_turn joined.bindings)) old.terms
+  same_terms =
+      whole (map (apply (in_turn joined.bindings)) old.terms) new.terms joined.terms
+      (ap length terms ∙ length-map old.terms (apply (single v.0 (at old.terms pair.right))) ∙ sym (length-map old.terms (apply (in_turn joined.bindings))))
 
-  equal : AllEqual old.now new.now (pair ∷ []) (v ∷ [])
-  equal =
-      next_equal old.now old.now (pair ∷ []) 0 pair refl [] (omega arith) (All-push (MayBeEqual old.now) [] pair (λ k d lt. absurd (omega (arith, lt))) may)
-      (equal_start old.now) new.now (v ∷ []) united
+  equal_now : AllEqual old new (pair ∷ []) (v ∷ [])
+  equal_now = record {
+    read_through = All-push (MayBeEqual old) [] pair (λ k d lt. absurd (omega (arith, lt))) may;
+    unifier = in_turn joined.bindings;
+    unifies = subst (λ (t : HeapTerm). IsUnifier (equal t (at old.terms pair.right)) (in_turn joined.bindings)) (sym left_is) joined.unifier;
+    terms = same_terms;
+    images = joined.images;
+    newly = joined.newly;
+    once = joined.once;
+  }
 
   -- where nothing waits for it, nothing is to be settled
-  pub constant_free : (a : Attributes) → IsFree a (v ∷ []) → AreFree old.now new.now a (pair ∷ [])
+  pub constant_free : (a : Attributes) → IsFree a (v ∷ []) → AreFree old new a (pair ∷ [])
   constant_free a free = record {
     newly = v ∷ [];
-    equal = equal;
+    equal = equal_now;
     free = free;
-    names = λ n. names_unified n old.now new.now pair.left pair.right united.0 united.2 may.0.live may.1.live;
+    names = λ n. names_bind n v.0 old.terms new.terms pair.right terms may.1.live;
   }
