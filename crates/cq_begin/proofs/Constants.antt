@@ -1,6 +1,5 @@
 -- A variable that becomes a number or a name.
-use Rattle.std.proofs.Common.{◌≡◌, ◌<◌, ◌∷◌, ◌++◌, ◌∙◌, [], ℕ, List, length, map, refl, sym, ap, subst, arith, append-nil, length-append}
-use Rattle.std.specs.Prelude.{All}
+use Rattle.std.proofs.Common.{◌≡◌, ◌∷◌, ◌++◌, ◌∙◌, [], ℕ, List, length, map, refl, sym, ap, subst, arith, append-nil, length-append}
 use Rattle.std.proofs.lemmas.List.{length-map}
 use Rattle.std.proofs.lemmas.List.Elements.{All-push}
 use Rattle.spec_lists.specs.Prefixes.{IsPrefix}
@@ -18,7 +17,6 @@ use Rattle.cq_term.specs.declared.view.View.TheVariants as view
 use Rattle.cq_term.proofs.Arguments.{shown_variable}
 use Rattle.cq_unify.specs.Unified.{in_turn}
 use Rattle.cq_unify.proofs.Named.{names_bind}
-use Rattle.cq_walk.specs.Pairs.{equations}
 use Rattle.cq_walk.specs.declared.pairs.Pair.{Pair}
 use Rattle.cq_begin.specs.Entries.{AreFree, IsConstant, IsFree}
 
