@@ -8,4 +8,4 @@ mod Called
 mod Changed
 mod Asked
 mod Heads
-mod Small
+mod Outcomes

@@ -1,7 +1,7 @@
 use Rattle.cq_machine.specs.Machines.{StillStands}
 use Rattle.cq_execute.proofs.Called.{as_row, call_done}
 use Rattle.cq_execute.proofs.Done.{somewhere}
-use Rattle.cq_execute.proofs.Small.{call_refuses, small_done}
+use Rattle.cq_execute.proofs.Outcomes.{call_refuses, small_done}
 use Rattle.cq_execute.proofs.small.execute_procedure.Goals as goal
 
 pub call_procedure-requires-clause-selected : goal.call_procedure-requires-clause-selected

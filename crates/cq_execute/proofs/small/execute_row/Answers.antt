@@ -9,7 +9,7 @@ use Rattle.cq_machine.specs.Machines.{terms}
 use Rattle.cq_machine.specs.Stepping.{row_of, LeadsTo}
 use Rattle.cq_execute.proofs.Table.{so_many}
 use Rattle.cq_execute.proofs.Done.{row_done, stop_done, none_raised, rows_at, stops_at, same_machine, somewhere, still_raised, still_stands}
-use Rattle.cq_execute.proofs.Small.{none_refused, refused_too, still_refused, small_done, another_row}
+use Rattle.cq_execute.proofs.Outcomes.{none_refused, refused_too, still_refused, small_done, another_row}
 use Rattle.cq_execute.proofs.small.execute_row.Goals as goal
 
 pub returns-in-True : goal.returns-in-True
@@ -36,7 +36,7 @@ returns-in-And c =
     (row_done m new c.args.goal c.args.height c.args.rest And calls r c.conjunction.ensures.row c.conjunction.ensures.goes
     (none_raised m new c.args.goal c.args.height c.args.rest And calls c.requires.at.selected (λ p g e h. cc) (λ p g t h. cc) r c.conjunction.ensures.row)
     c.conjunction.ensures.sound c.conjunction.ensures.program c.conjunction.ensures.err)
-    (refused_too r (none_refused m new c.args.goal c.args.height c.args.rest And c.requires.at.selected (λ p g pair h. cc) r c.conjunction.ensures.row))
+    (refused_too _ r (none_refused m new c.args.goal c.args.height c.args.rest And c.requires.at.selected (λ p g pair h. cc) r c.conjunction.ensures.row))
     c.small-in-And.ensures
 
 pub disjunction-requires-clause-two : goal.disjunction-requires-clause-two
@@ -53,7 +53,7 @@ returns-in-Or c =
     (row_done m new c.args.goal c.args.height c.args.rest Or calls r c.disjunction.ensures.row c.disjunction.ensures.goes
     (none_raised m new c.args.goal c.args.height c.args.rest Or calls c.requires.at.selected (λ p g e h. cc) (λ p g t h. cc) r c.disjunction.ensures.row)
     c.disjunction.ensures.sound c.disjunction.ensures.program c.disjunction.ensures.err)
-    (refused_too r (none_refused m new c.args.goal c.args.height c.args.rest Or c.requires.at.selected (λ p g pair h. cc) r c.disjunction.ensures.row))
+    (refused_too _ r (none_refused m new c.args.goal c.args.height c.args.rest Or c.requires.at.selected (λ p g pair h. cc) r c.disjunction.ensures.row))
     c.small-in-Or.ensures
 
 pub returns-in-Cut : goal.returns-in-Cut
@@ -122,7 +122,7 @@ returns-in-Compare c =
     small_done m m c.args.goal c.args.height c.args.rest c.requires.at.selected _ c.small-in-Compare.result
     (row_done m m c.args.goal c.args.height c.args.rest b calls r (rows_at m m c.args.goal c.args.height c.args.rest b calls r c.compare.ensures.row) c.compare.ensures.goes
     (still_raised m r) c.requires.at.sound (same_machine m) (still_stands m r))
-    (refused_too r (still_refused m r))
+    (refused_too _ r (still_refused m r))
     c.small-in-Compare.ensures
 
 pub returns-in_default : goal.returns-in_default

@@ -1,7 +1,7 @@
 use Rattle.std.proofs.Common.{◌<◌, length}
 use Rattle.cq_machine.specs.Machines.{now, terms}
 use Rattle.cq_execute.proofs.Done.{at_goal}
-use Rattle.cq_execute.proofs.Small.{called_nothing}
+use Rattle.cq_execute.proofs.Outcomes.{called_nothing}
 use Rattle.cq_execute.proofs.small.execute_small.Goals as goal
 
 pub find_callee-requires-clause-live : goal.find_callee-requires-clause-live

@@ -50,9 +50,9 @@ still_refused m (Ok (Refuses pair)) = λ db n current s j. j
 still_refused m (Err e) = tt
 
 -- the same of its result as the fault of a query
-pub refused_too : {E : Type 0} {P : Step → Type 0} (r : Result Step E) → IfOk r P → IfOk (as_stop r) P
-refused_too (Ok s) h = h
-refused_too (Err e) h = tt
+pub refused_too : {E : Type 0} (P : Step → Type 0) (r : Result Step E) → IfOk r P → IfOk (as_stop r) P
+refused_too P (Ok s) h = h
+refused_too P (Err e) h = tt
 
 module _ (old new : Machine) (id height rest : ℕ) (at : IsSelectedFrom old id height rest) where
   -- where the row was done with a step
