@@ -58,6 +58,7 @@ pub fn eval(heap: &Heap, atoms: &Atoms, term: TermId) -> Result<Frac, EvalFault>
 }
 
 /// The value of a number, or of an operation on two numbers that comes to one: most expressions of a program. None of any other.
+#[inline(always)]
 fn eval_at_once(heap: &Heap, atoms: &Atoms, term: TermId) -> Option<Frac>
     requires live { term < length heap.now.now.terms }
     requires names { HasNamesBelow (length atoms.now) (at heap.now.now.terms term) }
@@ -77,6 +78,7 @@ fn eval_at_once(heap: &Heap, atoms: &Atoms, term: TermId) -> Option<Frac>
 }
 
 /// The value of a name over two numbers, if it is an operation, and comes to a number.
+#[inline(always)]
 fn apply_at_once(heap: &Heap, atoms: &Atoms, id: TermId, name: Atom) -> Option<Frac>
     requires live { id < length heap.now.now.terms }
     requires names { HasNamesBelow (length atoms.now) (at heap.now.now.terms id) }
@@ -212,6 +214,7 @@ fn visit_two(
 }
 
 /// The number that a term is, if it is one.
+#[inline(always)]
 fn number_of(heap: &Heap, id: TermId) -> Option<Frac>
     requires { id < length heap.now.now.terms }
     ensures { IfSome result (λ q. at heap.now.now.terms id ≡ Number q) }

@@ -80,6 +80,7 @@ fn execute_goal(
 }
 
 /// The predicate that a goal calls, or the error that it raises, a variable or a number.
+#[inline(always)]
 fn predicate_of(heap: &Heap, atoms: &Atoms, goal: TermId) -> Result<Pred, BuiltinError>
     requires live { goal < length heap.now.now.terms }
     requires names { KnowsTerms atoms.now heap.now.now.terms }

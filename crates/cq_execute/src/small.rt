@@ -34,6 +34,7 @@ pub enum Went {
 
 /// Executes the selected goal, as `execute` does, if it calls a user predicate, or is one of control or arithmetic that most
 /// programs use. An error is want of memory.
+#[inline(always)]
 pub fn execute_small(
     m: &mut Machine,
     goal: TermId,
@@ -53,6 +54,7 @@ pub fn execute_small(
 }
 
 /// The same of a goal that calls a user predicate.
+#[inline(always)]
 fn execute_procedure(
     m: &mut Machine,
     predicate: Pred,
@@ -92,6 +94,7 @@ fn execute_row(
 }
 
 /// What the call of a user predicate came to: it is an error that there is no such procedure.
+#[inline(always)]
 fn called(found: Result<Called, AllocError>) -> Result<Went, AllocError>
     ensures { (predicate : Predicate) → IsSmall (as_stop (as_step predicate found)) result }
 {
@@ -106,6 +109,7 @@ fn called(found: Result<Called, AllocError>) -> Result<Went, AllocError>
 }
 
 /// What a step came to that shows nothing.
+#[inline(always)]
 fn outcome_of(step: Step) -> Went
     ensures { result ≡ as_went step }
 {
@@ -119,6 +123,7 @@ fn outcome_of(step: Step) -> Went
 }
 
 /// The same, or want of memory.
+#[inline(always)]
 fn small(step: Result<Step, AllocError>) -> Result<Went, AllocError>
     ensures { IsSmall (as_stop step) result }
 {
@@ -129,6 +134,7 @@ fn small(step: Result<Step, AllocError>) -> Result<Went, AllocError>
 }
 
 /// The same, where a query may stop.
+#[inline(always)]
 fn small_or_stop(step: Result<Step, StoreFault>) -> Result<Went, AllocError>
     ensures { IsSmall step result }
 {

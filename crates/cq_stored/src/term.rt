@@ -40,6 +40,7 @@ impl Model for StoredTerm {
 
 impl StoredTerm {
     /// Keeps a term, read through bindings.
+    #[inline(always)]
     pub fn of(heap: &Heap, term: TermId) -> Result<StoredTerm, AllocError>
         requires { term < length heap.now.now.terms }
         ensures renamed { IfOk result (λ s. s.term ≡ renamed_from 0 (at heap.now.now.terms term)) }
