@@ -8,3 +8,7 @@ mod Turned
 mod Idle
 mod Marks
 mod Read
+mod InFront
+
+-- laws of a lower crate
+pub use Rattle.cq_engine.proofs.Engines

@@ -1,3 +1,5 @@
 pub mod Executions
 pub mod Stops
 pub mod Rows
+pub mod Callees
+pub mod Small
