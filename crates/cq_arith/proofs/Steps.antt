@@ -1,15 +1,14 @@
 -- The steps of an evaluation: what the operations under way make of what a step comes to.
-use Rattle.std.proofs.Common.{◌≡◌, ℕ, suc, ◌+◌, ◌*◌, ◌<◌, List, [], ◌∷◌, ◌++◌, length, None, ◌≢◌, refl, ap, ap₂, sym, ◌∙◌, subst, arith, Some}
+use Rattle.std.proofs.Common.{◌≡◌, ℕ, suc, ◌+◌, ◌*◌, ◌<◌, List, [], ◌∷◌, ◌++◌, length, None, ◌≢◌, refl, ap, sym, ◌∙◌, subst, arith, Some}
 use Rattle.std.specs.Prelude.{All, slice_get}
 use Rattle.std.proofs.lemmas.Option.{same_Some}
 use Rattle.std.proofs.lemmas.List.Elements.{All-push, All-same, All-pop}
-use Rattle.spec_terms.proofs.Substitution.{size_positive}
 use Rattle.spec_terms.specs.Term.{Terms, Var, Number, Name, Compound, one, more, count, size, named, named_all}
 use Rattle.spec_arithmetic.specs.declared.UnaryOperation.{UnaryOperation}
 use Rattle.spec_arithmetic.specs.declared.BinaryOperation.{BinaryOperation}
 use Rattle.spec_lists.specs.Texts.{Text}
-use Rattle.spec_arithmetic.specs.Operations.{unary_named, binary_named, NotEvaluable, Evaluated, Value, Fails, Overflows, ArithmeticError, binary_result}
-use Rattle.spec_arithmetic.specs.Arithmetic.{evaluate, unary_applied, binary_applied, after_both}
+use Rattle.spec_arithmetic.specs.Operations.{unary_named, binary_named, NotEvaluable, Evaluated, Value, Fails, Overflows, ArithmeticError}
+use Rattle.spec_arithmetic.specs.Arithmetic.{evaluate, unary_applied, binary_applied}
 use Rattle.spec_rational.specs.Rational.{ℚ}
 use Rattle.cq_atoms.specs.Texts.{text_of}
 use Rattle.cq_term.specs.Names.{HasNamesBelow}
@@ -178,18 +177,6 @@ module _ (texts : List Text) (ts : List HeapTerm) (old new : List Waiting) where
       let smaller : size (at ts id) ≡ suc (size (at ts left) + size (at ts right)) = ap size e in
       let names = subst (HasNamesBelow (length texts)) e h in
       waits texts ts old new (waiting.Left o right) (evaluated_at texts ts id) (3 * size (at ts id)) (step.Visit left) n (sym came) (right_live, names.1.1) (left_live, names.1.0) (omega (arith, smaller))
-
-  -- on two numbers it waits for none
-  pub applied : (id left right f : ℕ) (o : BinaryOperation) (p q : ℚ) → at ts id ≡ Compound f (more (at ts left) (one (at ts right))) → binary_named (text_of texts f) ≡ Some o
-      → at ts left ≡ Number p → at ts right ≡ Number q → evaluated_at texts ts id ≡ binary_result o p q
-  applied id left right f o p q e d l r =
-      ap (λ u. evaluate (named (text_of texts) u)) e ∙ ap (λ m. binary_applied (text_of texts f) m (evaluated_at texts ts left) (evaluated_at texts ts right)) d
-      ∙ ap₂ (λ t u. after_both o (evaluate (named (text_of texts) t)) (evaluate (named (text_of texts) u))) l r
-
-  -- nor does a term whose value is known
-  pub value_returned : (id : ℕ) (q : ℚ) → evaluated_at texts ts id ≡ Value q → GoesOn texts ts old (evaluated_at texts ts id) (3 * size (at ts id)) old (step.Return q)
-  value_returned id q e =
-      record { leads = ap (all_resumed texts ts old) (sym e); waiting = λ all. all; ready = tt; less = omega (arith, size_positive (at ts id)) }
 
   pub right_waits : (w : Waiting) (o : BinaryOperation) (right : ℕ) (value : ℚ) → w ≡ waiting.Left o right → CanResume texts ts w → new ≡ old ++ waiting.Right o value ∷ [] →
       GoesOn texts ts old (resumed texts ts w (Value value)) (waiting_work ts w) new (step.Visit right)

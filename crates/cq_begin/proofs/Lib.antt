@@ -1,7 +1,6 @@
 mod Woken
 mod Begins
 mod Free
-mod Constants
 mod Leading
 mod Marks
 pub mod Newer

@@ -8,7 +8,3 @@ mod Turned
 mod Idle
 mod Marks
 mod Read
-mod InFront
-
--- laws of a lower crate
-pub use Rattle.cq_engine.proofs.Engines

@@ -7,9 +7,7 @@ mod cells;
 mod engine;
 mod event;
 mod raiser;
-mod running;
 mod turning;
 
-pub use cq_engine::Cause;
 pub use engine::Engine;
 pub use event::Event;

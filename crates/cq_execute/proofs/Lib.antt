@@ -8,4 +8,3 @@ mod Called
 mod Changed
 mod Asked
 mod Heads
-mod Outcomes

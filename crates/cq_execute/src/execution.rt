@@ -1,6 +1,6 @@
 // The execution of a selected goal.
 
-ghost use Rattle.std.specs.Prelude.{◌≡◌, ◌<◌, ℕ, true, length, IfOk, IfErr, IfSome, OnOk, OnErr};
+ghost use Rattle.std.specs.Prelude.{◌≡◌, ◌<◌, true, length, IfOk, IfErr, OnOk, OnErr};
 ghost use Rattle.spec_built.specs.Kinds.{is_callable};
 ghost use Rattle.spec_search.specs.Replies.{Place, Raises};
 ghost use Rattle.spec_search.specs.Rows.{reply_of};
@@ -9,16 +9,14 @@ ghost use Rattle.cq_declarations.specs.Clauses.{IsOf};
 ghost use Rattle.cq_term.specs.Trees.{tree, KnowsTerms};
 ghost use Rattle.cq_machine.specs.Machines.{terms, IsSound, StillStands};
 ghost use Rattle.cq_machine.specs.Stepping.{CanGo, OnRaises};
-ghost use Rattle.cq_selected.specs.Calls.{step_of};
 ghost use Rattle.cq_selected.specs.Stops.{IsSelectedFrom};
 ghost use Rattle.cq_execute.specs.Executions.{Executes, ExecutesCall, IsCallSelectedSomewhere, KeepsClauses, KeepsWalks, HasSameDatabase};
-ghost use Rattle.cq_execute.specs.Callees.{IsCallee};
-ghost use Rattle.cq_execute.specs.Rows.{IsAtGoal, IsCallOf, IsDone};
+ghost use Rattle.cq_execute.specs.Rows.{IsAtGoal, IsDone};
 ghost use Rattle.cq_execute.specs.Stops.{StopsThere};
 
 use crate::executed::Executed;
 use crate::rows::execute_builtin;
-use crate::steps::{quiet, silent, stepped};
+use crate::steps::{quiet, silent};
 use cq_atoms::Atoms;
 use cq_built::{BuiltinError, BuiltinFault, Culprit, ValidType};
 use cq_control::Continuation;
@@ -26,23 +24,19 @@ use cq_linear::store::StoreFault;
 use cq_machine::{Machine, Step};
 use cq_selected::call_procedure;
 use cq_steps::selected_goals_lead;
-use cq_table::Builtin;
 use cq_term::{Heap, Pred, TermId, View};
 use std::alloc::AllocError;
 
 /// Executes the selected goal: what it calls is found by its name and number of arguments, a built-in predicate or else a user
-/// procedure, unless it is `known` to be a built-in predicate. A cut in it goes back to the height. An error is the stop of the
-/// query, or want of memory.
+/// procedure. A cut in it goes back to the height. An error is the stop of the query, or want of memory.
 pub fn execute(
     m: &mut Machine,
-    known: Option<Builtin>,
     goal: TermId,
     height: usize,
     rest: Continuation,
 ) -> Result<Executed, StoreFault>
     requires sound { IsSound m.old }
     requires selected { IsSelectedFrom m.old goal height rest }
-    requires known { IfSome known (IsCallOf m.old goal) }
     ensures row { IfOk result (Executes m.old m.new goal height rest) }
     ensures stop { IfErr result (StopsThere m.old goal height rest) }
     ensures goes { IfOk result (λ x. CanGo m.new x.step) }
@@ -53,10 +47,7 @@ pub fn execute(
     ensures err_database { OnErr result (HasSameDatabase m.old m.new) }
 {
     selected_goals_lead();
-    match known {
-        Some(builtin) => execute_builtin(m, builtin, goal, height, rest),
-        None => execute_goal(m, goal, height, rest),
-    }
+    execute_goal(m, goal, height, rest)
 }
 
 /// The same, where the goal and the continuation are known to be there.
@@ -80,7 +71,6 @@ fn execute_goal(
 }
 
 /// The predicate that a goal calls, or the error that it raises, a variable or a number.
-#[inline(always)]
 fn predicate_of(heap: &Heap, atoms: &Atoms, goal: TermId) -> Result<Pred, BuiltinError>
     requires live { goal < length heap.now.now.terms }
     requires names { KnowsTerms atoms.now heap.now.now.terms }
@@ -122,38 +112,8 @@ fn execute_named(
         Some(builtin) => execute_builtin(m, builtin, goal, height, rest),
         None => {
             let alloc = m.world.first.heap.alloc();
-            let called = call_procedure(m, predicate, goal, rest);
-            quiet(alloc, stepped(Pred { name, arity }, called))
+            quiet(alloc, call_procedure(m, predicate, goal, rest))
         }
-    }
-}
-
-/// What a goal calls.
-#[derive(Clone, Copy, Debug)]
-pub(crate) enum Callee {
-    Builtin(Builtin),
-    /// A user predicate, by its name and number of arguments.
-    Procedure(Pred),
-    /// Nothing: a variable or a number, which is an error.
-    Nothing,
-}
-
-/// What a goal calls, by its name and number of arguments.
-pub(crate) fn find_callee(m: &Machine, goal: TermId) -> Callee
-    requires sound { IsSound m.now }
-    requires live { goal < length (terms m.now) }
-    ensures { IsCallee m.now goal result }
-{
-    let world = &m.world;
-    match predicate_of(&world.first.heap, &m.atoms, goal) {
-        Ok(predicate) => {
-            let Pred { name, arity } = predicate;
-            match m.names.builtins.get(Pred { name, arity }) {
-                Some(builtin) => Callee::Builtin(builtin),
-                None => Callee::Procedure(predicate),
-            }
-        }
-        Err(_) => Callee::Nothing,
     }
 }
 

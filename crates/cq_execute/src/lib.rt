@@ -5,9 +5,7 @@ mod executed;
 mod execution;
 mod printing;
 mod rows;
-mod small;
 mod steps;
 
 pub use executed::Executed;
 pub use execution::{execute, execute_call};
-pub use small::{Went, execute_small};

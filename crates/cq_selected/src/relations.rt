@@ -7,7 +7,6 @@ ghost use Rattle.cq_term.specs.Meaning.{at};
 ghost use Rattle.cq_term.specs.Shown.{arguments};
 ghost use Rattle.cq_machine.specs.Machines.{terms, IsSound, HasSameProgram, StillStands};
 ghost use Rattle.cq_machine.specs.Stepping.{row_of, IsSelectedSomewhere, LeadsTo, CanGo, OnRaises};
-ghost use Rattle.cq_selected.specs.Refusals.{OnRefuses};
 ghost use Rattle.cq_selected.specs.Stops.{StopsAt};
 
 use cq_begin::Begun;
@@ -49,7 +48,6 @@ pub fn unify(m: &mut Machine, goal: TermId, rest: Continuation) -> Result<Step, 
 }
 
 /// `X is E`.
-#[inline(always)]
 pub fn evaluate_to(m: &mut Machine, goal: TermId, rest: Continuation) -> Result<Step, StoreFault>
     requires sound { IsSound m.old }
     requires selected { IsSelectedSomewhere m.old goal rest }
@@ -60,7 +58,6 @@ pub fn evaluate_to(m: &mut Machine, goal: TermId, rest: Continuation) -> Result<
     ensures stop { IfErr result (λ f. (height : ℕ) → StopsAt m.old goal height rest (row_of Is) f) }
     ensures goes { IfOk result (CanGo m.new) }
     ensures raises { IfOk result (λ s. OnRaises s (StillStands m.old m.new)) }
-    ensures refuses { IfOk result (λ s. OnRefuses s (StillStands m.old m.new)) }
     ensures sound { IsSound m.new }
     ensures program { HasSameProgram m.old m.new }
     ensures err { OnErr result (StillStands m.old m.new) }
@@ -92,7 +89,6 @@ pub fn evaluate_to(m: &mut Machine, goal: TermId, rest: Continuation) -> Result<
 }
 
 /// A comparison of the values of two expressions.
-#[inline(always)]
 pub fn compare(
     m: &Machine,
     comparison: Comparison,

@@ -23,7 +23,6 @@ impl<A: Undo, B: Undo> Undo for Both<A, B> {
 
     ghost room = { λ s. min (A.room s.first) (B.room s.second) };
 
-    #[inline(always)]
     fn mark(&mut self) -> Result<Mark, AllocError> {
         let m = self.first.mark()?;
         match self.second.mark() {
@@ -40,7 +39,6 @@ impl<A: Undo, B: Undo> Undo for Both<A, B> {
         self.second.undo(m);
     }
 
-    #[inline(always)]
     fn forget(&mut self, m: Mark) {
         self.first.forget(m);
         self.second.forget(m);
