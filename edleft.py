@@ -4,14 +4,14 @@ for f in glob.glob('/opt/rattle-kept/edits/*'):
     d=json.load(open(f)); m=re.match(r'must-fail (\w+)/(\S+)\.edit',d['text']); done[(m[1],m[2])]+=1
     if d['kind']!='refused': print('NOT REFUSED',d['kind'],d['text'][:300])
 left=collections.OrderedDict(); tot=0; L={}
-for n in sorted(os.listdir('/work/s/fin/crates')):
-    p=f'/work/s/fin/crates/{n}/must-fail'
+for n in sorted(os.listdir('/work/s/gate3/crates')):
+    p=f'/work/s/gate3/crates/{n}/must-fail'
     if os.path.isdir(p):
         es=[e[:-5] for e in os.listdir(p) if e.endswith('.edit')]; tot+=len(es)
         l=[e for e in es if (n,e) not in done]
         if l: left[n]=len(l)
         x=0
-        for dp,dn,fs in os.walk(f'/work/s/fin/crates/{n}'):
+        for dp,dn,fs in os.walk(f'/work/s/gate3/crates/{n}'):
             if 'out' in dn and dp.endswith('/'+n): dn.remove('out')
             for f in fs:
                 if f.endswith(('.rt','.antt')): x+=open(os.path.join(dp,f),errors='replace').read().count('\n')

@@ -1,12 +1,12 @@
 import functools,os,re,time
 d={}
-for l in open('/work/s/wip/crates.txt'):
+for l in open('/work/s/gate3/crates.txt'):
     l=l.split('#')[0].strip()
     if ':' in l:
         n,r=l.split(':',1); d[n.strip()]=r.split()
 lines={}
 for n in d:
-    lines[n]=sum(open(os.path.join(dp,f),errors='replace').read().count('\n') for dp,_,fs in os.walk(f'/work/s/wip/crates/{n}') for f in fs if f.endswith(('.rt','.antt')))
+    lines[n]=sum(open(os.path.join(dp,f),errors='replace').read().count('\n') for dp,_,fs in os.walk(f'/work/s/gate3/crates/{n}') for f in fs if f.endswith(('.rt','.antt')))
 have=set()
 for e in os.listdir('/opt/rattle-kept'):
     m=re.match(r'proof-(\w+)-[0-9a-f]{64}$',e)
