@@ -1,10 +1,10 @@
 // The values of expressions, with the operations under way on a list of their own, so that memory alone bounds the
 // depth of an expression.
 
-ghost use Rattle.std.specs.Prelude.{◌≡◌, ℕ, ◌<◌, ◌++◌, ◌∷◌, [], List, length, IfOk, IfErr, OnOk};
-ghost use Rattle.spec_terms.specs.Term.{named};
+ghost use Rattle.std.specs.Prelude.{◌≡◌, ℕ, ◌<◌, ◌++◌, ◌∷◌, [], List, length, IfOk, IfErr, IfSome, OnOk};
+ghost use Rattle.spec_terms.specs.Term.{named, Number};
 ghost use Rattle.spec_lists.specs.Texts.{Text};
-ghost use Rattle.spec_arithmetic.specs.Operations.{Value};
+ghost use Rattle.spec_arithmetic.specs.Operations.{Value, binary_result};
 ghost use Rattle.spec_arithmetic.specs.Arithmetic.{evaluate};
 ghost use Rattle.cq_atoms.specs.Texts.{text_of};
 ghost use Rattle.cq_term.specs.Meaning.{HeapTerm, at};
@@ -12,7 +12,7 @@ ghost use Rattle.cq_term.specs.Names.{HasNamesBelow};
 ghost use Rattle.cq_term.specs.Shown.{view_of};
 ghost use Rattle.cq_term.specs.declared.view.View.TheVariants.{Compound};
 ghost use Rattle.cq_arith.specs.Faults.{ComesTo, IsNamedBelow};
-ghost use Rattle.cq_arith.specs.Work.{evaluated_at, resumed, AfterVisit, TakesValue};
+ghost use Rattle.cq_arith.specs.Work.{evaluated_at, resumed, AfterVisit, IsReturned, TakesValue};
 
 use crate::faults::{EvalError, EvalFault};
 use crate::operations::{binary, binary_operation, unary, unary_operation};
@@ -149,8 +149,36 @@ fn visit_two(
     };
     let left = heap.arg(id, 0);
     let right = heap.arg(id, 1);
+    if let Some(first) = number_of(heap, left) {
+        if let Some(second) = number_of(heap, right) {
+            return apply(operation, first, second);
+        }
+    }
     wait(under_way, Waiting::Left(operation, right))?;
     Ok(Step::Visit(left))
+}
+
+/// The number that a term is, if it is one.
+fn number_of(heap: &Heap, id: TermId) -> Option<Frac>
+    requires { id < length heap.now.now.terms }
+    ensures { IfSome result (λ q. at heap.now.now.terms id ≡ Number q) }
+{
+    match heap.view(id) {
+        View::Number(value) => Some(value),
+        View::Var(_) | View::Name(_) | View::Compound(_, _) => None,
+    }
+}
+
+/// An operation on two numbers, which has nothing to wait for.
+fn apply(operation: BinaryOperation, left: Frac, right: Frac) -> Result<Step, EvalFault>
+    ensures value { IfOk result (λ next. IsReturned next (binary_result operation left right)) }
+    ensures fault { IfErr result (λ fault. (texts : List Text) → ComesTo texts (binary_result operation left right) fault) }
+    ensures known { IfErr result (λ fault. (n : ℕ) → IsNamedBelow n fault) }
+{
+    match binary(operation, left, right) {
+        Ok(value) => Ok(Step::Return(value)),
+        Err(fault) => Err(fault),
+    }
 }
 
 /// Puts one operation more under way.

@@ -62,7 +62,9 @@ fn equate_unmarked(heap: &mut Heap, attrs: &Attrs, pairs: &[Pair]) -> Result<Equ
     let Some(newly) = equate(heap, pairs)? else {
         return Ok(Equated::Apart);
     };
-    if is_free(attrs, newly.as_slice()) {
+    let free = is_free(attrs, newly.as_slice());
+    heap.keep_newly(newly);
+    if free {
         Ok(Equated::Equal)
     } else {
         Ok(Equated::Unsettled)

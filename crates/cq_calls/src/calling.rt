@@ -83,7 +83,7 @@ pub fn call_procedure(
         }
         return Ok(Called::Back);
     }
-    let next = call_clauses(world, choices, atoms, clauses, goal, walk, rest)?;
+    let next = call_clauses(world, choices, atoms, clauses, goal, &walk, rest)?;
     match next {
         Some(first) => Ok(Called::Goes(first)),
         None => Ok(Called::Back),
@@ -98,18 +98,18 @@ fn call_clauses(
     atoms: &Atoms,
     clauses: &Clauses<ProgramClause>,
     goal: TermId,
-    walk: Walk,
+    walk: &Walk,
     rest: Continuation,
 ) -> Result<Option<Continuation>, AllocError>
     requires ready { IsReady atoms.now (now_of world.old.first) }
     requires different { AreDifferent atoms.now }
     requires program { IsProgram atoms.now clauses.now }
     requires goal { goal < length world.old.first.heap.now.terms }
-    requires walk { IsWalk walk clauses.now }
+    requires walk { IsWalk walk.now clauses.now }
     requires rest { rest < length world.old.second.now }
     requires marked { AreMarked (saved_values world.old.first world.old.second.saved) choices.old }
     ensures comes { IfOk result (WouldCome atoms.now clauses.now (saved_values world.old.first world.old.second.saved) choices.old
-        (value world.old.first world.old.second.now) goal walk rest
+        (value world.old.first world.old.second.now) goal walk.now rest
         (saved_values world.new.first world.new.second.saved) choices.new (value world.new.first world.new.second.now)) }
     ensures there { IfOk result (λ o. IfSome o (λ k. k < length world.new.second.now)) }
     ensures marked { AreMarked (saved_values world.new.first world.new.second.saved) choices.new }
@@ -119,7 +119,7 @@ fn call_clauses(
     ensures back { IfOk result (λ o. IfNone o (now_of world.new.first ≡ now_of world.old.first)) }
     ensures err { OnErr result (IsStill world.old.first world.new.first world.old.second world.new.second choices.old choices.new) }
 {
-    let mut left = walk;
+    let mut left = *walk;
     let Some(number) = clauses.step(&mut left) else {
         return Ok(None);
     };
@@ -141,7 +141,7 @@ fn begin_several(
     clauses: &Clauses<ProgramClause>,
     first: ClauseNo,
     goal: TermId,
-    walk: Walk,
+    walk: &Walk,
     behind: Walk,
     rest: Continuation,
 ) -> Result<Option<Continuation>, AllocError>
@@ -149,14 +149,14 @@ fn begin_several(
     requires different { AreDifferent atoms.now }
     requires program { IsProgram atoms.now clauses.now }
     requires goal { goal < length world.old.first.heap.now.terms }
-    requires walk { IsWalk walk clauses.now }
+    requires walk { IsWalk walk.now clauses.now }
     requires behind { IsWalk behind clauses.now }
     requires known { first < length clauses.now.contents }
-    requires next { LeavesFirst clauses.now walk first behind }
+    requires next { LeavesFirst clauses.now walk.now first behind }
     requires rest { rest < length world.old.second.now }
     requires marked { AreMarked (saved_values world.old.first world.old.second.saved) choices.old }
     ensures comes { IfOk result (WouldCome atoms.now clauses.now (saved_values world.old.first world.old.second.saved) choices.old
-        (value world.old.first world.old.second.now) goal walk rest
+        (value world.old.first world.old.second.now) goal walk.now rest
         (saved_values world.new.first world.new.second.saved) choices.new (value world.new.first world.new.second.now)) }
     ensures there { IfOk result (λ o. IfSome o (λ k. k < length world.new.second.now)) }
     ensures marked { AreMarked (saved_values world.new.first world.new.second.saved) choices.new }
@@ -182,20 +182,20 @@ fn begin_only(
     clauses: &Clauses<ProgramClause>,
     number: ClauseNo,
     goal: TermId,
-    walk: Walk,
+    walk: &Walk,
     rest: Continuation,
 ) -> Result<Option<Continuation>, AllocError>
     requires ready { IsReady atoms.now (now_of world.old.first) }
     requires different { AreDifferent atoms.now }
     requires program { IsProgram atoms.now clauses.now }
     requires goal { goal < length world.old.first.heap.now.terms }
-    requires walk { IsWalk walk clauses.now }
+    requires walk { IsWalk walk.now clauses.now }
     requires known { number < length clauses.now.contents }
-    requires only { LeavesOnly clauses.now walk number }
+    requires only { LeavesOnly clauses.now walk.now number }
     requires rest { rest < length world.old.second.now }
     requires marked { AreMarked (saved_values world.old.first world.old.second.saved) choices.old }
     ensures comes { IfOk result (WouldCome atoms.now clauses.now (saved_values world.old.first world.old.second.saved) choices.old
-        (value world.old.first world.old.second.now) goal walk rest
+        (value world.old.first world.old.second.now) goal walk.now rest
         (saved_values world.new.first world.new.second.saved) choices.new (value world.new.first world.new.second.now)) }
     ensures there { IfOk result (λ o. IfSome o (λ k. k < length world.new.second.now)) }
     ensures marked { AreMarked (saved_values world.new.first world.new.second.saved) choices.new }
@@ -232,19 +232,22 @@ fn wait(
     world: &mut Searching,
     choices: &mut Choices<Alternatives>,
     goal: TermId,
-    walk: Walk,
+    walk: &Walk,
     rest: Continuation,
 ) -> Result<(), AllocError>
     requires marked { AreMarked (saved_values world.old.first world.old.second.saved) choices.old }
     ensures waits { OnOk result (LeavesAlso (saved_values world.old.first world.old.second.saved) choices.old
-        (value world.old.first world.old.second.now) (alternatives.Clauses goal walk rest)
+        (value world.old.first world.old.second.now) (alternatives.Clauses goal walk.now rest)
         (saved_values world.new.first world.new.second.saved) choices.new) }
-    ensures contents { OnOk result (choices.new ≡ alternatives.Clauses goal walk rest ∷ choices.old) }
+    ensures contents { OnOk result (choices.new ≡ alternatives.Clauses goal walk.now rest ∷ choices.old) }
     ensures world { now_of world.new.first ≡ now_of world.old.first }
     ensures lists { world.new.second.now ≡ world.old.second.now }
     ensures marked { AreMarked (saved_values world.new.first world.new.second.saved) choices.new }
     ensures err { OnErr result (choices.new ≡ choices.old) }
     ensures err_saved { OnErr result (saved_values world.new.first world.new.second.saved ≡ saved_values world.old.first world.old.second.saved) }
 {
-    choices.push(world, Alternatives::Clauses(goal, Untried::new(walk), rest))
+    choices.push(
+        world,
+        Alternatives::Clauses(goal, Untried::new(*walk), rest),
+    )
 }

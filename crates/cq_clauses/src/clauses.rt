@@ -189,16 +189,16 @@ impl<C: Keyed + Drop> Clauses<C> {
     pub fn next_matching(
         &self,
         snapshot: Snapshot,
-        key: Option<Key>,
+        key: &Option<Key>,
     ) -> Option<(ClauseNo, Snapshot)>
         requires { IsSnapshot snapshot self.now.procedures }
-        ensures none { IfNone result (seen_matching C.key_of key snapshot self.now ≡ []) }
-        ensures some { IfSome result (λ r. seen_matching C.key_of key snapshot self.now ≡ r.0 ∷ seen_matching C.key_of key r.1 self.now) }
+        ensures none { IfNone result (seen_matching C.key_of key.now snapshot self.now ≡ []) }
+        ensures some { IfSome result (λ r. seen_matching C.key_of key.now snapshot self.now ≡ r.0 ∷ seen_matching C.key_of key.now r.1 self.now) }
         ensures taken { IfSome result (λ r. IsSnapshot r.1 self.now.procedures) }
         ensures known { IfSome result (λ r. r.0 < length self.now.contents) }
     {
         match key {
-            Some(key) => self.next_with(snapshot, &key),
+            Some(key) => self.next_with(snapshot, key),
             None => self.next(snapshot),
         }
     }
@@ -213,7 +213,7 @@ impl<C: Keyed + Drop> Clauses<C> {
         if key.is_some() {
             self.index(&snapshot);
         }
-        let ahead = self.next_matching(snapshot, key);
+        let ahead = self.next_matching(snapshot, &key);
         Walk { key, ahead }
     }
 
@@ -227,7 +227,7 @@ impl<C: Keyed + Drop> Clauses<C> {
         ensures stays { IfNone result (walk.new ≡ walk.old) }
     {
         let (clause, rest) = walk.ahead?;
-        walk.ahead = self.next_matching(rest, walk.key);
+        walk.ahead = self.next_matching(rest, &walk.key);
         Some(clause)
     }
 

@@ -1,6 +1,5 @@
 -- Entries up to a place, whose columns' lists have a row.
-use Rattle.std.proofs.Common.{◌≡◌, ℕ, zero, suc, ◌+◌, ◌<◌, List, [], ◌∷◌, ◌++◌, length, take, get_or, Option, Some, None, true, arith, sym, subst, ◌⊎◌, inl, inr, is_some}
-use Rattle.std.specs.Prelude.{MatchOption}
+use Rattle.std.proofs.Common.{◌≡◌, ℕ, zero, suc, ◌+◌, ◌<◌, List, [], ◌∷◌, ◌++◌, length, take, get_or, arith, sym, subst, ◌⊎◌, inl, inr}
 use Rattle.spec_lists.proofs.Places.{take-next}
 use Rattle.cq_trail.specs.StackValue.{StackValue}
 use Rattle.cq_trail.specs.TrailValue.{TrailValue}
@@ -14,10 +13,6 @@ use Rattle.cq_dict.specs.declared.table.Role.TheVariants.{Basic}
 use Rattle.cq_dict.specs.Holders.{Holds, IsListed, Grows}
 use Rattle.cq_dict.proofs.Lists.{grows_same, grows_on}
 use Rattle.cq_dict.proofs.Written.{changes_end}
-
-pub found_some : {X : Type 0} (o : Option X) (N : Type 0) (S : X → Type 0) → MatchOption o N S → is_some o ≡ true → (x : X) × S x
-found_some None N S m e = cc
-found_some (Some x) N S m e = (x, m)
 
 pub has_here : (xs : List Entry) (i : ℕ) (x : Entry) → i < length xs → x ≡ get_or xs i x → Has x xs
 has_here [] i x l e = absurd (omega arith)

@@ -16,8 +16,8 @@ ghost use Rattle.cq_dict.specs.Holders.{Holds, IsOn, IsListed, AreLists, Grows, 
 ghost use Rattle.cq_dict.specs.Roles.{AreOverColumns};
 
 use crate::table::{Change, Role};
+use cq_row::Entry;
 use cq_row::rows::Row;
-use cq_row::{Entry, entry_at};
 use cq_trail::{Stack, Trail};
 use std::alloc::{AllocError, Global};
 
@@ -84,35 +84,33 @@ fn add(
     Ok(())
 }
 
-/// Whether the role is a row that holds the column.
-fn holds(role: &Role, column: usize) -> bool
-    requires { (own : Row) → role.now ≡ Basic own → IsOver everywhere everywhere own }
-    ensures { OnTrue result ((own : Row) × (role.now ≡ Basic own) × Holds own column) }
+/// Whether an entry of the quantity stands at this place.
+fn stands_at(row: &[Entry], at: usize, quantity: usize) -> bool
+    ensures { OnTrue result ((o : Entry) × Has o row.now × (o.quantity ≡ quantity)) }
 {
-    match role {
-        Role::Basic(row) => {
-            entry_at(row.live(), column).is_some() || entry_at(row.dropped(), column).is_some()
-        }
-        _ => false,
-    }
+    at < row.len() && row[at].quantity == quantity
 }
 
-/// Puts the row of this number on the lists of the entries, but for those on which it is, since it was this role.
+/// Puts the row of this number on the lists of the entries, but for those that stand in `held`, on whose lists it is.
+/// Where both ascend, one walk along `held` finds all of these.
 fn hold_entries(
     heads: &mut Trail<usize>,
     cells: &mut Stack<Cell>,
-    role: &Role,
+    held: &[Entry],
     entries: &[Entry],
     number: usize,
 ) -> Result<(), AllocError>
-    requires role { (own : Row) → role.now ≡ Basic own → IsOver everywhere everywhere own }
-    requires before { (own : Row) (c : ℕ) → role.now ≡ Basic own → Holds own c → IsListed heads.old.now cells.old.now c number }
+    requires held { (o : Entry) → Has o held.now → IsListed heads.old.now cells.old.now o.quantity number }
     requires columns { (m : Entry) → Has m entries.now → m.quantity < length heads.old.now }
     ensures grows { Grows heads.old cells.old heads.new cells.new }
     ensures listed { OnOk result ((m : Entry) → Has m entries.now → IsListed heads.new.now cells.new.now m.quantity number) }
 {
+    let mut at = 0;
     for m in entries {
-        if !holds(role, m.quantity) {
+        while at < held.len() && held[at].quantity < m.quantity {
+            at += 1;
+        }
+        if !stands_at(held, at, m.quantity) {
             add(heads, cells, m.quantity, number)?;
         }
     }
@@ -133,8 +131,12 @@ fn hold_row(
     ensures grows { Grows heads.old cells.old heads.new cells.new }
     ensures listed { OnOk result ((c : ℕ) → Holds row.now c → IsListed heads.new.now cells.new.now c number) }
 {
-    hold_entries(heads, cells, role, row.live(), number)?;
-    hold_entries(heads, cells, role, row.dropped(), number)?;
+    let held: (&[Entry], &[Entry]) = match role {
+        Role::Basic(own) => (own.live(), own.dropped()),
+        _ => (&[], &[]),
+    };
+    hold_entries(heads, cells, held.0, row.live(), number)?;
+    hold_entries(heads, cells, held.1, row.dropped(), number)?;
     Ok(())
 }
 

@@ -8,3 +8,4 @@ mod Turned
 mod Idle
 mod Marks
 mod Read
+mod InFront

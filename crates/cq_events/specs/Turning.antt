@@ -7,6 +7,7 @@ use Rattle.spec_search.specs.Balls.{handed}
 use Rattle.spec_search.specs.Search.{Search, look_at, Selecting}
 use Rattle.spec_search.specs.Turns.{place_of}
 use Rattle.spec_machine.specs.declared.cell.Cell.{Cell}
+use Rattle.spec_machine.specs.declared.cell.Cell.TheVariants.{Goal}
 use Rattle.spec_machine.specs.Standing.{IsStoredAs}
 use Rattle.cq_balls.specs.Balls.{ComesUp, IsCaughtBy}
 use Rattle.cq_control.specs.Items.{items_at}
@@ -17,24 +18,63 @@ use Rattle.cq_steps.specs.Stored.{IsCountedTerm, stored_tree}
 use Rattle.cq_steps.specs.Worlds.{Placed}
 use Rattle.cq_machine.specs.declared.machine.Machine.{Machine}
 use Rattle.cq_machine.specs.Machines.{now, holds, database_of, IsSound, StillStands}
-use Rattle.cq_engine.specs.Fronts.{IsGoal}
+use Rattle.cq_engine.specs.Fronts.{HasWork, IsGoal}
+use Rattle.cq_engine.specs.declared.front.Front.{Front}
+use Rattle.cq_engine.specs.declared.front.Front.TheVariants as front
+use Rattle.cq_engine.specs.declared.front.Front.TheVariants.{Ahead, Escapes}
 use Rattle.cq_engine.specs.Seeking.{IsKept, StandsFor}
 use Rattle.cq_execute.specs.Executions.{Reaches}
 use Rattle.cq_execute.specs.declared.executed.Executed.{Executed}
+use Rattle.cq_execute.specs.Rows.{IsCallOf}
 use Rattle.cq_execute.specs.Stops.{IsStop}
 use Rattle.cq_events.specs.declared.engine.Engine.{Engine}
 use Rattle.cq_events.specs.declared.event.Event.{Event}
 use Rattle.cq_events.specs.declared.event.Event.TheVariants.{Answer, Output, Fail, Ball, Stop}
 use Rattle.cq_events.specs.Raised.{is_raised_by}
 use Rattle.cq_events.specs.declared.raiser.Raiser.{Raiser}
+use Rattle.cq_events.specs.declared.running.Ran.{Ran}
+use Rattle.cq_events.specs.declared.running.Ran.TheVariants.{On, Row, Look}
+use Rattle.cq_table.specs.declared.builtins.Builtin.{Builtin}
 use Rattle.cq_events.specs.Events.{GivesNext, GoesOn, HasCounted}
 
 -- ---- a goal in front
+
+-- where a goal of a number is in front of the continuation, it calls this built-in predicate
+abbrev pub CallsAt : Machine → ℕ → Builtin → Type 0
+CallsAt m k b = (t height : ℕ) (cells : List Cell) → items_at m.world.second.now k ≡ Goal t height ∷ cells → IsCallOf m t b
+
+-- a goal is in front that may be selected, and calls this built-in predicate if it is one of a number
+pub record CallsInFront (m : Machine) (n steps : ℕ) (current : Option ℕ) (b : Builtin) : Type 0 where
+  pub k : ℕ
+  pub at : current ≡ Some k
+  pub work : HasWork steps n m k
+  pub calls : CallsAt m k b
+
+-- so does the goal that the machine came to
+abbrev pub CallsAtFront : Machine → Front → Builtin → Type 0
+CallsAtFront m (Ahead k) b = CallsAt m k b
+CallsAtFront m front.Answer b = ⊤
+CallsAtFront m front.Fail b = ⊤
+CallsAtFront m (Escapes ball) b = ⊤
+CallsAtFront m (front.Stop cause) b = ⊤
+
+-- one more goal was selected, or this is in front
+abbrev pub HasRun : Engine → Engine → Ran → Type 0
+HasRun old new On = old.selected < new.selected
+HasRun old new (Row b) = CallsInFront new.machine new.selected new.steps new.current b
+HasRun old new Look = ⊤
 
 -- this cell is in front of the continuation, and this continuation behind it
 pub record HasInFront (m : Machine) (k : ℕ) (c : Cell) (rest : ℕ) : Type 0 where
   pub earlier : rest < k
   pub cells : items_at m.world.second.now k ≡ c ∷ items_at m.world.second.now rest
+
+-- the goal of the number is in front of what the engine goes on with, and this continuation behind it
+pub record HasGoalInFront (e : Engine) (id rest : ℕ) : Type 0 where
+  pub k : ℕ
+  pub height : ℕ
+  pub current : e.current ≡ Some k
+  pub front : HasInFront e.machine k (Goal id height) rest
 
 -- The search selects a goal next, and so many were before: the goal, its cut height, the items and the branches behind it, and the
 -- state. The continuation stands for the items.

@@ -1,6 +1,6 @@
 // The goal in front is executed, and named where it raises an error.
 
-ghost use Rattle.std.specs.Prelude.{◌≡◌, ◌<◌, ℕ, Some, length, IfOk, IfErr, OnErr};
+ghost use Rattle.std.specs.Prelude.{◌≡◌, ◌<◌, ℕ, Some, length, IfOk, IfErr, IfSome, OnErr};
 ghost use Rattle.spec_search.specs.Search.{Search};
 ghost use Rattle.cq_machine.specs.Machines.{IsSound, StillStands};
 ghost use Rattle.cq_machine.specs.Stepping.{CanGo, OnRaises};
@@ -8,26 +8,30 @@ ghost use Rattle.cq_engine.specs.Seeking.{IsGoing, StandsFor};
 ghost use Rattle.cq_execute.specs.Executions.{KeepsWalks, HasSameDatabase};
 ghost use Rattle.cq_events.specs.Raised.{IsNumbered};
 ghost use Rattle.cq_engine.specs.Fronts.{IsGoal};
-ghost use Rattle.cq_events.specs.Turning.{HasGoal, HasInFront, NamesNext, Reached, MayStop};
+ghost use Rattle.cq_events.specs.Turning.{CallsAt, HasGoal, HasInFront, NamesNext, Reached, MayStop};
 
 use crate::raiser::{Raiser, raiser_of};
 use cq_control::Continuation;
 use cq_execute::{Executed, execute, execute_call};
 use cq_linear::store::StoreFault;
 use cq_machine::Machine;
+use cq_table::Builtin;
 use spec_machine::Cell;
 
-/// Executes the goal in front. An error is the stop of the query, or want of memory.
+/// Executes the goal in front, which calls a built-in predicate that may be known. An error is the stop of the query, or want of
+/// memory.
 pub(crate) fn execute_cell(
     m: &mut Machine,
     k: Continuation,
     cell: Cell,
+    known: Option<Builtin>,
     rest: Continuation,
 ) -> Result<Executed, StoreFault>
     requires sound { IsSound m.old }
     requires going { IsGoing m.old (Some k) }
     requires front { HasInFront m.old k cell rest }
     requires goal { IsGoal cell }
+    requires known { IfSome known (CallsAt m.old k) }
     ensures row { IfOk result (λ x. (n : ℕ) (s : Search) → StandsFor m.old n (Some k) s → Reached m.old m.new n rest x s) }
     ensures stop { IfErr result (λ f. (n : ℕ) (s : Search) → StandsFor m.old n (Some k) s → MayStop m.old n rest f s) }
     ensures goes { IfOk result (λ x. CanGo m.new x.step) }
@@ -38,7 +42,7 @@ pub(crate) fn execute_cell(
     ensures err_database { OnErr result (HasSameDatabase m.old m.new) }
 {
     match cell {
-        Cell::Goal(goal, height) => match execute(m, goal, height, rest) {
+        Cell::Goal(goal, height) => match execute(m, known, goal, height, rest) {
             Ok(executed) => Ok(executed),
             Err(fault) => Err(fault),
         },

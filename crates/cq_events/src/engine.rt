@@ -16,6 +16,7 @@ ghost use Rattle.cq_engine.specs.Seeking.{IsKept};
 ghost use Rattle.cq_events.specs.Events.{IsIdle, IsRunning, GivesNext, GoesOn, HasCounted, Keeps, Stands, HasSameWorld};
 
 use crate::event::Event;
+use crate::running::run;
 use crate::turning::turn;
 use cq_control::{Choices, Continuation, Continuations};
 use cq_kinds::is_callable;
@@ -166,10 +167,13 @@ impl Engine {
         ensures keeps { Keeps self.old self.new }
     {
         'turns: loop {
-            match turn(self) {
-                Ok(told) => match told {
-                    Some(event) => return Ok(event),
-                    None => {}
+            match run(self) {
+                Ok(known) => match turn(self, known) {
+                    Ok(told) => match told {
+                        Some(event) => return Ok(event),
+                        None => {}
+                    },
+                    Err(fault) => return Err(fault),
                 },
                 Err(fault) => return Err(fault),
             }

@@ -7,6 +7,7 @@ mod cells;
 mod engine;
 mod event;
 mod raiser;
+mod running;
 mod turning;
 
 pub use engine::Engine;

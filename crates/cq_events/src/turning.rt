@@ -1,28 +1,32 @@
 // A turn that selects a goal.
 
-ghost use Rattle.std.specs.Prelude.{◌≡◌, ◌<◌, [], None, Some, length, IfOk, OnErr};
+ghost use Rattle.std.specs.Prelude.{◌≡◌, ◌<◌, ◌≤◌, [], None, Some, length, IfOk, IfSome, OnErr};
 ghost use Rattle.cq_built.specs.Errors.{HasCulprit};
 ghost use Rattle.cq_term.specs.Trees.{tree};
 ghost use Rattle.cq_machine.specs.Machines.{terms, now, IsSound, StillStands};
-ghost use Rattle.cq_engine.specs.Fronts.{HasWork};
-ghost use Rattle.cq_engine.specs.Seeking.{IsKept, GainsNames};
+ghost use Rattle.spec_search.specs.Search.{Search};
+ghost use Rattle.spec_stops.specs.Causes.{Budgets};
+ghost use Rattle.cq_engine.specs.Fronts.{HasWork, IsAhead, IsFrontOf};
+ghost use Rattle.cq_engine.specs.Seeking.{IsKept, IsGoing, GoesTo, StandsFor, GainsNames, KeepsNames};
 ghost use Rattle.cq_events.specs.Raised.{IsNumbered, ball_by};
 ghost use Rattle.cq_events.specs.Events.{IsRunning, GoesOn, Keeps};
-ghost use Rattle.cq_events.specs.Turning.{ComesUpOn, HasEnded, IsAsBefore, IsAt, IsRaised, IsThrown, IsTold, Turned};
+ghost use Rattle.cq_events.specs.Turning.{CallsAt, CallsAtFront, CallsInFront, ComesUpOn, HasEnded, IsAsBefore, IsAt, IsRaised, IsThrown, IsTold, Turned};
 
 use crate::balls::build_ball;
 use crate::cells::{execute_cell, raiser_before};
 use crate::engine::Engine;
 use crate::event::Event;
 use crate::raiser::Raiser;
+use crate::running::go_on;
 use cq_balls::hand;
 use cq_built::BuiltinError;
 use cq_control::Continuation;
 use cq_engine::{Cause, Front, halt, look};
 use cq_execute::Executed;
 use cq_linear::store::StoreFault;
-use cq_machine::Step;
+use cq_machine::{Machine, Step};
 use cq_stored::StoredTerm;
+use cq_table::Builtin;
 use cq_term::TermId;
 use std::alloc::AllocError;
 
@@ -46,8 +50,7 @@ fn advance(e: &mut Engine, next: Option<Continuation>, output: Vec<u8>) -> Optio
     ensures at { IsAt e.old e.new next }
     ensures told { IsTold output.items result }
 {
-    e.current = next;
-    e.selected += 1;
+    go_on(e, next);
     if output.is_empty() {
         None
     } else {
@@ -109,11 +112,17 @@ fn raise(
     throw(e, ball, from)
 }
 
-/// Selects the goal in front of what the engine goes on with.
-fn select(e: &mut Engine, k: Continuation) -> Result<Option<Event>, AllocError>
+/// Selects the goal in front of what the engine goes on with; `known` is the built-in predicate that it calls, where that was found
+/// already.
+fn select(
+    e: &mut Engine,
+    k: Continuation,
+    known: Option<Builtin>,
+) -> Result<Option<Event>, AllocError>
     requires running { IsRunning e.old }
     requires current { e.old.current ≡ Some k }
     requires work { HasWork e.old.steps e.old.selected e.old.machine k }
+    requires known { IfSome known (CallsAt e.old.machine k) }
     ensures turned { IfOk result (Turned e.old e.new) }
     ensures err { OnErr result (GoesOn e.old e.new) }
     ensures running { IsRunning e.new }
@@ -122,7 +131,7 @@ fn select(e: &mut Engine, k: Continuation) -> Result<Option<Event>, AllocError>
     let Some((cell, rest)) = e.machine.world.second.first(k) else {
         unreachable!()
     };
-    match execute_cell(&mut e.machine, k, cell, rest) {
+    match execute_cell(&mut e.machine, k, cell, known, rest) {
         Ok(executed) => {
             let Executed { step, output } = executed;
             match step {
@@ -157,9 +166,42 @@ fn select(e: &mut Engine, k: Continuation) -> Result<Option<Event>, AllocError>
     }
 }
 
-/// Goes on to what the query tells next, or past one more selected goal.
-pub(crate) fn turn(e: &mut Engine) -> Result<Option<Event>, AllocError>
-    requires { IsRunning e.old }
+/// What the engine comes to before it selects a goal, as `look` finds it. Where the built-in predicate is known that the goal in front
+/// calls, nothing has to be looked for.
+fn ahead(
+    m: &mut Machine,
+    selected: u64,
+    steps: u64,
+    current: &mut Option<Continuation>,
+    known: Option<Builtin>,
+) -> Result<Front, AllocError>
+    requires kept { IsKept m.old }
+    requires works { IsGoing m.old current.old }
+    requires within { selected ≤ steps }
+    requires known { IfSome known (CallsInFront m.old selected steps current.old) }
+    ensures front { IfOk result (λ f. (budgets : Budgets) → budgets.steps ≡ steps → budgets.pivots ≡ m.old.world.first.store.pivots
+        → (s : Search) → StandsFor m.old selected current.old s → IsFrontOf budgets m.new selected f s) }
+    ensures ahead { IfOk result (IsAhead steps selected m.new) }
+    ensures known { IfOk result (λ f. IfSome known (CallsAtFront m.new f)) }
+    ensures err { OnErr result (GoesTo m.old current.old m.new current.new) }
+    ensures kept { IsKept m.new }
+    ensures program { KeepsNames m.old m.new }
+    ensures budget { m.new.world.first.store.pivots ≡ m.old.world.first.store.pivots }
+{
+    match known {
+        Some(_) => match *current {
+            Some(k) => Ok(Front::Ahead(k)),
+            None => unreachable!(),
+        },
+        None => look(m, selected, steps, current),
+    }
+}
+
+/// Goes on to what the query tells next, or past one more selected goal. `known` is the built-in predicate that a goal calls which
+/// was found in front.
+pub(crate) fn turn(e: &mut Engine, known: Option<Builtin>) -> Result<Option<Event>, AllocError>
+    requires running { IsRunning e.old }
+    requires known { IfSome known (CallsInFront e.old.machine e.old.selected e.old.steps e.old.current) }
     ensures turned { IfOk result (Turned e.old e.new) }
     ensures err { OnErr result (GoesOn e.old e.new) }
     ensures running { IsRunning e.new }
@@ -167,11 +209,11 @@ pub(crate) fn turn(e: &mut Engine) -> Result<Option<Event>, AllocError>
 {
     let mut current = e.current;
     e.current = None;
-    match look(&mut e.machine, e.selected, e.steps, &mut current) {
+    match ahead(&mut e.machine, e.selected, e.steps, &mut current, known) {
         Ok(front) => match front {
             Front::Ahead(k) => {
                 e.current = Some(k);
-                match select(e, k) {
+                match select(e, k, known) {
                     Ok(told) => Ok(told),
                     Err(fault) => Err(fault),
                 }

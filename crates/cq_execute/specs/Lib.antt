@@ -1,3 +1,4 @@
 pub mod Executions
 pub mod Stops
 pub mod Rows
+pub mod Callees

@@ -7,15 +7,18 @@ use Rattle.spec_built.specs.Built.{indicator_of}
 use Rattle.spec_branch.specs.Branch.{Branch}
 use Rattle.spec_search.specs.Builtins.{builtin_of}
 use Rattle.spec_search.specs.Replies.{Place}
+use Rattle.cq_calls.specs.declared.calling.Called.{Called}
 use Rattle.cq_linear.specs.declared.store.StoreFault.{StoreFault}
 use Rattle.cq_linear.specs.declared.store.StoreFault.TheVariants.{NoMemory}
 use Rattle.cq_table.specs.Names.{as_builtin}
 use Rattle.cq_table.specs.declared.builtins.Builtin.{Builtin}
 use Rattle.cq_term.specs.Trees.{tree}
+use Rattle.cq_term.specs.declared.names.Pred.{Pred}
 use Rattle.cq_machine.specs.declared.machine.Machine.{Machine}
 use Rattle.cq_machine.specs.declared.step.Step.{Step}
 use Rattle.cq_machine.specs.Machines.{terms, IsSound, StillStands}
 use Rattle.cq_machine.specs.Stepping.{IsSelectedAt, CanGo, OnRaises}
+use Rattle.cq_selected.specs.Calls.{step_of}
 use Rattle.cq_selected.specs.Stops.{IsSelectedFrom}
 use Rattle.cq_execute.specs.declared.executed.Executed.{Executed}
 use Rattle.cq_execute.specs.Executions.{Reaches, KeepsWalks, HasSameDatabase}
@@ -50,10 +53,19 @@ IsRowDone old new id height rest r = IsDoneBy (λ s. s) (λ s. []) old new id he
 abbrev pub IsDone : Machine → Machine → ℕ → ℕ → ℕ → Result Executed StoreFault → Type 0
 IsDone old new id height rest r = IsDoneBy (λ x. x.step) (λ x. x.output.items) old new id height rest r
 
+-- of a goal that calls the user predicate
+abbrev pub IsCallDone : Machine → Machine → ℕ → ℕ → ℕ → Pred → Result Called StoreFault → Type 0
+IsCallDone old new id height rest pred r = IsDoneBy (step_of pred) (λ c. []) old new id height rest r
+
 -- want of memory as the fault of a query
-abbrev pub as_stop : {E : Type 0} → Result Step E → Result Step StoreFault
+abbrev pub as_stop : {A E : Type 0} → Result A E → Result A StoreFault
 as_stop (Ok s) = Ok s
 as_stop (Err e) = Err NoMemory
+
+-- what the call of a predicate came to as a step, or its fault
+abbrev pub as_step : {E : Type 0} → Pred → Result Called E → Result Step E
+as_step pred (Ok c) = Ok (step_of pred c)
+as_step pred (Err e) = Err e
 
 -- a step without output, or its fault
 abbrev pub IsQuiet : Result Step StoreFault → Result Executed StoreFault → Type 0

@@ -1,6 +1,6 @@
 // The execution of a selected goal.
 
-ghost use Rattle.std.specs.Prelude.{◌≡◌, ◌<◌, true, length, IfOk, IfErr, OnOk, OnErr};
+ghost use Rattle.std.specs.Prelude.{◌≡◌, ◌<◌, ℕ, true, length, IfOk, IfErr, IfSome, OnOk, OnErr};
 ghost use Rattle.spec_built.specs.Kinds.{is_callable};
 ghost use Rattle.spec_search.specs.Replies.{Place, Raises};
 ghost use Rattle.spec_search.specs.Rows.{reply_of};
@@ -8,35 +8,42 @@ ghost use Rattle.cq_built.specs.Errors.{error_tree, HasCulprit};
 ghost use Rattle.cq_declarations.specs.Clauses.{IsOf};
 ghost use Rattle.cq_term.specs.Trees.{tree, KnowsTerms};
 ghost use Rattle.cq_machine.specs.Machines.{terms, IsSound, StillStands};
-ghost use Rattle.cq_machine.specs.Stepping.{CanGo, OnRaises};
+ghost use Rattle.cq_machine.specs.Stepping.{CanGo, IsSelectedSomewhere, OnRaises};
+ghost use Rattle.cq_selected.specs.Calls.{step_of};
 ghost use Rattle.cq_selected.specs.Stops.{IsSelectedFrom};
 ghost use Rattle.cq_execute.specs.Executions.{Executes, ExecutesCall, IsCallSelectedSomewhere, KeepsClauses, KeepsWalks, HasSameDatabase};
-ghost use Rattle.cq_execute.specs.Rows.{IsAtGoal, IsDone};
+ghost use Rattle.cq_execute.specs.Callees.{CallsProcedure, IsCallee};
+ghost use Rattle.cq_execute.specs.Rows.{IsAtGoal, IsCallDone, IsCallOf, IsDone, as_stop};
 ghost use Rattle.cq_execute.specs.Stops.{StopsThere};
 
 use crate::executed::Executed;
 use crate::rows::execute_builtin;
-use crate::steps::{quiet, silent};
+use crate::steps::{quiet, silent, stepped};
 use cq_atoms::Atoms;
 use cq_built::{BuiltinError, BuiltinFault, Culprit, ValidType};
+use cq_calls::Called;
 use cq_control::Continuation;
 use cq_linear::store::StoreFault;
 use cq_machine::{Machine, Step};
 use cq_selected::call_procedure;
 use cq_steps::selected_goals_lead;
+use cq_table::Builtin;
 use cq_term::{Heap, Pred, TermId, View};
 use std::alloc::AllocError;
 
 /// Executes the selected goal: what it calls is found by its name and number of arguments, a built-in predicate or else a user
-/// procedure. A cut in it goes back to the height. An error is the stop of the query, or want of memory.
+/// procedure, unless it is `known` to be a built-in predicate. A cut in it goes back to the height. An error is the stop of the
+/// query, or want of memory.
 pub fn execute(
     m: &mut Machine,
+    known: Option<Builtin>,
     goal: TermId,
     height: usize,
     rest: Continuation,
 ) -> Result<Executed, StoreFault>
     requires sound { IsSound m.old }
     requires selected { IsSelectedFrom m.old goal height rest }
+    requires known { IfSome known (IsCallOf m.old goal) }
     ensures row { IfOk result (Executes m.old m.new goal height rest) }
     ensures stop { IfErr result (StopsThere m.old goal height rest) }
     ensures goes { IfOk result (λ x. CanGo m.new x.step) }
@@ -47,7 +54,10 @@ pub fn execute(
     ensures err_database { OnErr result (HasSameDatabase m.old m.new) }
 {
     selected_goals_lead();
-    execute_goal(m, goal, height, rest)
+    match known {
+        Some(builtin) => execute_builtin(m, builtin, goal, height, rest),
+        None => execute_goal(m, goal, height, rest),
+    }
 }
 
 /// The same, where the goal and the continuation are known to be there.
@@ -112,9 +122,56 @@ fn execute_named(
         Some(builtin) => execute_builtin(m, builtin, goal, height, rest),
         None => {
             let alloc = m.world.first.heap.alloc();
-            quiet(alloc, call_procedure(m, predicate, goal, rest))
+            let called = call_procedure(m, predicate, goal, rest);
+            quiet(alloc, stepped(Pred { name, arity }, called))
         }
     }
+}
+
+/// What a goal calls.
+#[derive(Clone, Copy, Debug)]
+pub enum Callee {
+    Builtin(Builtin),
+    /// A user predicate, by its name and number of arguments.
+    Procedure(Pred),
+    /// Nothing: a variable or a number, which is an error.
+    Nothing,
+}
+
+/// What a goal calls, by its name and number of arguments.
+pub fn find_callee(m: &Machine, goal: TermId) -> Callee
+    requires sound { IsSound m.now }
+    requires live { goal < length (terms m.now) }
+    ensures { IsCallee m.now goal result }
+{
+    let world = &m.world;
+    match predicate_of(&world.first.heap, &m.atoms, goal) {
+        Ok(predicate) => {
+            let Pred { name, arity } = predicate;
+            match m.names.builtins.get(Pred { name, arity }) {
+                Some(builtin) => Callee::Builtin(builtin),
+                None => Callee::Procedure(predicate),
+            }
+        }
+        Err(_) => Callee::Nothing,
+    }
+}
+
+/// Executes the selected goal of a user predicate, as `execute` does, with a result that is small: most goals of a program are such
+/// calls.
+pub fn execute_procedure(
+    m: &mut Machine,
+    predicate: Pred,
+    goal: TermId,
+    rest: Continuation,
+) -> Result<Called, AllocError>
+    requires sound { IsSound m.old }
+    requires selected { IsSelectedSomewhere m.old goal rest }
+    requires live { goal < length (terms m.old) }
+    requires calls { CallsProcedure m.old goal predicate }
+    ensures { (height : ℕ) → IsCallDone m.old m.new goal height rest predicate (as_stop result) }
+{
+    call_procedure(m, predicate, goal, rest)
 }
 
 /// Executes call of a term, which a construct or a goal that woke has put in front so: a cut in it sees no choice that is there

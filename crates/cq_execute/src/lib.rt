@@ -8,4 +8,4 @@ mod rows;
 mod steps;
 
 pub use executed::Executed;
-pub use execution::{execute, execute_call};
+pub use execution::{Callee, execute, execute_call, execute_procedure, find_callee};

@@ -3,6 +3,7 @@ pub mod Wide
 pub mod Parts
 pub mod Products
 pub mod Sums
+pub mod Small
 pub mod Zero
 pub mod Halves
 pub mod Fields

@@ -5,10 +5,11 @@ use Rattle.std.specs.Int.{◌∣◌}
 use Rattle.spec_rational.proofs.Ring.{var, ◌⊗◌, minus}
 use Rattle.spec_rational.proofs.IntRing.{ring_ℤ}
 use mathlib.Core.Bool.{beq}
-use Rattle.spec_rational.specs.Gcd.{gcd, gcd_is, gcd_pos, gcd-quotients}
+use Rattle.spec_rational.specs.Gcd.{gcd, gcd_is, gcd-quotients}
 use Rattle.spec_rational.specs.Rational.{ℚ, denominator, ratio, neg_ℚ, ◌*ℚ◌}
 use Rattle.spec_rational.proofs.Gcd.{coprime_products, coprime_parts}
 use Rattle.spec_rational.proofs.Rational.{ratio_same, ratio-neg, ratio-mul, ratio_back}
+use Rattle.cq_frac.specs.Cancelled.{product_top, product_bottom}
 use Rattle.cq_frac.specs.Fits.{signed, Exceeds, Fits, limit}
 use Rattle.cq_frac.proofs.Parts.{exceeds_parts, fits_parts, bottom_pos}
 
@@ -39,54 +40,42 @@ part_dvd a g h = subst (λ x. a / g ∣ x) (div-mul_cancel g h) (dvd-mul_right (
 regroup : (a b c d g h w x y z : ℕ) → g * w ≡ a → g * z ≡ d → h * x ≡ c → h * y ≡ b → (w * x) * (b * d) ≡ (a * c) * (y * z)
 regroup a b c d g h w x y z e f i j = rw (← e, ← f, ← i, ← j) (omega arith)
 
-pub record Crossed (p q : ℚ) (a b c d g h : ℕ) : Type 0 where
+-- the numbers of the code are the parts of p and q
+pub record Crossed (p q : ℚ) (a b c d : ℕ) : Type 0 where
   pub a_is : a ≡ nat_abs p.numerator
   pub b_is : b ≡ denominator p
   pub c_is : c ≡ nat_abs q.numerator
   pub d_is : d ≡ denominator q
-  pub g_is : g ≡ gcd a d
-  pub h_is : h ≡ gcd c b
 
-module _ {p q : ℚ} {a b c d g h : ℕ} (r : Crossed p q a b c d g h) where
+module _ {p q : ℚ} {a b c d : ℕ} (r : Crossed p q a b c d) where
   b_pos : 0 < b
   b_pos = rw r.b_is (zero-lt-suc p.below)
 
   d_pos : 0 < d
   d_pos = rw r.d_is (zero-lt-suc q.below)
 
-  pub g_pos : 0 < g
-  g_pos = rw r.g_is (gcd_pos a d d_pos)
-
-  pub h_pos : 0 < h
-  h_pos = rw r.h_is (gcd_pos c b b_pos)
-
-  ga : g ∣ a
-  ga = rw r.g_is (gcd_is a d).0
-
-  gd : g ∣ d
-  gd = rw r.g_is (gcd_is a d).1
-
-  hc : h ∣ c
-  hc = rw r.h_is (gcd_is c b).0
-
-  hb : h ∣ b
-  hb = rw r.h_is (gcd_is c b).1
-
-  coprime : gcd ((a / g) * (c / h)) ((b / h) * (d / g)) ≡ 1
+  coprime : gcd (product_top a b c d) (product_bottom a b c d) ≡ 1
   coprime =
-      coprime_products (a / g) (c / h) (b / h) (d / g)
-      (coprime_parts (a / g) (b / h) a b (part_dvd a g ga) (part_dvd b h hb) (rw (r.a_is, r.b_is) p.lowest))
-      (rw r.g_is (gcd-quotients a d d_pos))
-      (rw r.h_is (gcd-quotients c b b_pos))
-      (coprime_parts (c / h) (d / g) c d (part_dvd c h hc) (part_dvd d g gd) (rw (r.c_is, r.d_is) q.lowest))
+      let u = gcd_is a d in
+      let v = gcd_is c b in
+      coprime_products (a / gcd a d) (c / gcd c b) (b / gcd c b) (d / gcd a d)
+      (coprime_parts (a / gcd a d) (b / gcd c b) a b (part_dvd a (gcd a d) u.0) (part_dvd b (gcd c b) v.1) (rw (r.a_is, r.b_is) p.lowest))
+      (gcd-quotients a d d_pos)
+      (gcd-quotients c b b_pos)
+      (coprime_parts (c / gcd c b) (d / gcd a d) c d (part_dvd c (gcd c b) v.0) (part_dvd d (gcd a d) u.1) (rw (r.c_is, r.d_is) q.lowest))
 
-  left_pos : 0 < (b / h) * (d / g)
-  left_pos = mul-pos (rw r.h_is (bottom_pos c b b_pos)) (rw r.g_is (bottom_pos a d d_pos))
+  bottom_above : 0 < product_bottom a b c d
+  bottom_above = mul-pos (bottom_pos c b b_pos) (bottom_pos a d d_pos)
 
-  value : ratio (signed (unlike (int_lt p.numerator (pos 0)) (int_lt q.numerator (pos 0))) ((a / g) * (c / h))) ((b / h) * (d / g)) ≡ p *ℚ q
+  abbrev negative : Bool
+  negative = unlike (int_lt p.numerator (pos 0)) (int_lt q.numerator (pos 0))
+
+  value : ratio (signed negative (product_top a b c d)) (product_bottom a b c d) ≡ p *ℚ q
   value =
-      signed_same (unlike (int_lt p.numerator (pos 0)) (int_lt q.numerator (pos 0))) ((a / g) * (c / h)) (a * c) ((b / h) * (d / g)) (b * d) left_pos (mul-pos b_pos d_pos)
-      (regroup a b c d g h (a / g) (c / h) (b / h) (d / g) (mul-div_cancel' g ga) (mul-div_cancel' g gd) (mul-div_cancel' h hc) (mul-div_cancel' h hb))
+      let u = gcd_is a d in
+      let v = gcd_is c b in
+      signed_same negative (product_top a b c d) (a * c) (product_bottom a b c d) (b * d) bottom_above (mul-pos b_pos d_pos)
+      (regroup a b c d (gcd a d) (gcd c b) (a / gcd a d) (c / gcd c b) (b / gcd c b) (d / gcd a d) (mul-div_cancel' (gcd a d) u.0) (mul-div_cancel' (gcd a d) u.1) (mul-div_cancel' (gcd c b) v.0) (mul-div_cancel' (gcd c b) v.1))
       ∙ ap₂ ratio
       (sym (signed-mul (int_lt p.numerator (pos 0)) (int_lt q.numerator (pos 0)) a c)
       ∙ ap₂ (λ x y. x *ℤ y)
@@ -96,46 +85,19 @@ module _ {p q : ℚ} {a b c d g h : ℕ} (r : Crossed p q a b c d g h) where
       ∙ sym (ratio-mul p.numerator q.numerator (denominator p) (denominator q) (zero-lt-suc p.below) (zero-lt-suc q.below))
       ∙ ap₂ (λ x y. x *ℚ y) (ratio_back p) (ratio_back q)
 
--- the parts that are left, w of a and z of d by g, and x of c and y of b by h
-pub record Cut (p q : ℚ) (a b c d g h w x y z : ℕ) : Type 0 where
-  pub crossed : Crossed p q a b c d g h
-  pub w_is : w ≡ a / g
-  pub x_is : x ≡ c / h
-  pub y_is : y ≡ b / h
-  pub z_is : z ≡ d / g
+  pub exceeds : (limit ≤ product_top a b c d) ⊎ (limit ≤ product_bottom a b c d) → Exceeds (p *ℚ q)
+  exceeds e = (exceeds_parts (p *ℚ q) negative (product_top a b c d) (product_bottom a b c d) bottom_above coprime value).0 e
 
-module _ {p q : ℚ} {a b c d g h w x y z : ℕ} (r : Cut p q a b c d g h w x y z) where
-  top_is : w * x ≡ (a / g) * (c / h)
-  top_is = ap₂ (λ s t. s * t) r.w_is r.x_is
+  pub fits : product_top a b c d < limit → product_bottom a b c d < limit → Fits (p *ℚ q)
+  fits h k = fits_parts (p *ℚ q) negative (product_top a b c d) (product_bottom a b c d) bottom_above coprime value h k
 
-  bottom_is : y * z ≡ (b / h) * (d / g)
-  bottom_is = ap₂ (λ s t. s * t) r.y_is r.z_is
-
-  cut-coprime : gcd (w * x) (y * z) ≡ 1
-  cut-coprime = ap₂ gcd top_is bottom_is ∙ coprime r.crossed
-
-  cut-pos : 0 < y * z
-  cut-pos = rw bottom_is (left_pos r.crossed)
-
-  abbrev negative : Bool
-  negative = unlike (int_lt p.numerator (pos 0)) (int_lt q.numerator (pos 0))
-
-  cut-value : ratio (signed negative (w * x)) (y * z) ≡ p *ℚ q
-  cut-value = ap₂ (λ s t. ratio (signed negative s) t) top_is bottom_is ∙ value r.crossed
-
-  pub cut-exceeds : (limit ≤ w * x) ⊎ (limit ≤ y * z) → Exceeds (p *ℚ q)
-  cut-exceeds e = (exceeds_parts (p *ℚ q) negative (w * x) (y * z) cut-pos cut-coprime cut-value).0 e
-
-  -- the products m and n fit
-  module _ {m n : ℕ} (e : m ≡ w * x) (f : n ≡ y * z) where
+  -- m and n are the parts that are left
+  module _ {m n : ℕ} (e : m ≡ product_top a b c d) (f : n ≡ product_bottom a b c d) where
     pub made-coprime : gcd m n ≡ 1
-    made-coprime = ap₂ gcd e f ∙ cut-coprime
+    made-coprime = ap₂ gcd e f ∙ coprime
 
     pub made-pos : 0 < n
-    made-pos = rw f cut-pos
+    made-pos = rw f bottom_above
 
     pub made-value : (s t : Bool) → s ≡ int_lt p.numerator (pos 0) → t ≡ int_lt q.numerator (pos 0) → ratio (signed (unlike s t) m) n ≡ p *ℚ q
-    made-value s t i j = ap₂ (λ k l. ratio (signed k l) n) (ap₂ unlike i j) e ∙ ap (λ l. ratio (signed negative (w * x)) l) f ∙ cut-value
-
-    pub made-fits : m < limit → n < limit → Fits (p *ℚ q)
-    made-fits k l = fits_parts (p *ℚ q) negative m n made-pos made-coprime (made-value _ _ refl refl) k l
+    made-value s t i j = ap₂ (λ k l. ratio (signed k l) n) (ap₂ unlike i j) e ∙ ap (λ l. ratio (signed negative (product_top a b c d)) l) f ∙ value

@@ -1,20 +1,21 @@
 -- A sum over the least common denominator.
-use Rattle.std.proofs.Common.{◌≡◌, ℕ, [], ◌∷◌, ◌+◌, ◌-◌, ◌*◌, ◌<◌, ◌/◌, Bool, true, false, ℤ, pos, negsuc, neg_ℤ, ◌+ℤ◌, ◌*ℤ◌, nat_abs, arith, refl, ap, ap₂, sym, ◌∙◌, subst, ◌⊎◌, inl, inr, int_lt, mul-pos, mul_comm, zero-lt-suc, to_z, of_z}
+use Rattle.std.proofs.Common.{◌≡◌, ℕ, [], ◌∷◌, ◌+◌, ◌-◌, ◌*◌, ◌<◌, ◌/◌, max, ◌≤◌, Bool, true, false, ℤ, pos, negsuc, neg_ℤ, ◌+ℤ◌, ◌*ℤ◌, nat_abs, arith, refl, ap, ap₂, sym, ◌∙◌, subst, ◌⊎◌, inl, inr, int_lt, mul-pos, mul_comm, zero-lt-suc}
+use Rattle.std.proofs.lemmas.Bool.{cases_lt}
 use Rattle.std.proofs.lemmas.Int.{ints, unsigned_abs-mul}
 use Rattle.std.proofs.lemmas.Nat.Gcd.{same_from_IsGcd}
 use lib.IntN.{+ℤ_comm}
-use mir.Syntax.{w128}
-use Rattle.std.proofs.Math.Nat.{mul-div_cancel', dvd-add, dvd-sub, dvd_refl, dvd_trans, dvd-mul_left, dvd-mul_right_of_dvd, eq-one_of_dvd-one}
+use Rattle.std.proofs.Math.Nat.{mul-div_cancel', div-le_self, dvd-add, dvd-sub, dvd_refl, dvd_trans, dvd-mul_left, dvd-mul_right_of_dvd, eq-one_of_dvd-one}
 use Rattle.std.specs.Int.{◌∣◌}
-use Rattle.spec_rational.specs.Gcd.{gcd, gcd_is, gcd_pos, gauss, gcd-quotients}
+use Rattle.spec_rational.specs.Gcd.{gcd, gcd_is, gauss, gcd-quotients}
 use Rattle.spec_rational.specs.Rational.{ℚ, denominator, ratio, ◌+ℚ◌}
 use Rattle.spec_rational.proofs.Ring.{Poly, var, ◌⊕◌, ◌⊗◌}
 use Rattle.spec_rational.proofs.IntRing.{ring_ℤ}
 use Rattle.spec_rational.proofs.Rational.{ratio_same, ratio-add, ratio_back}
 use Rattle.spec_rational.proofs.Gcd.{gcd_comm, coprime_mul, coprime_parts}
+use Rattle.cq_frac.specs.Cancelled.{AreParts, common_top, common_bottom, sum_peak}
 use Rattle.cq_frac.specs.Fits.{signed, SumAccepted, SumRefused, left_term, right_term, common_den, limit}
-use Rattle.cq_frac.proofs.View.{back, nat_abs-neg}
-use Rattle.cq_frac.proofs.Parts.{bottom_pos, cross, nat_abs-signed}
+use Rattle.cq_frac.proofs.View.{nat_abs-neg}
+use Rattle.cq_frac.proofs.Parts.{bottom_pos, cross}
 use Rattle.cq_frac.proofs.Products.{unlike, signed_back, signed-mul, signed_same, part_dvd}
 
 abbrev x0 : Poly
@@ -32,10 +33,30 @@ x3 = var 3
 abbrev x4 : Poly
 x4 = var 4
 
+-- ---- the greatest of four numbers
+
+abbrev peak_of : ℕ → ℕ → ℕ → ℕ → ℕ
+peak_of w x y z = max (max w x) (max y z)
+
+below_peak : (w x y z k : ℕ) → peak_of w x y z < k → (w < k) × (x < k) × (y < k) × (z < k)
+below_peak w x y z k h = (omega arith, omega arith, omega arith, omega arith)
+
+past_peak : (w x y z k : ℕ) → k ≤ peak_of w x y z → (k ≤ w) ⊎ ((k ≤ x) ⊎ ((k ≤ y) ⊎ (k ≤ z)))
+past_peak w x y z k h = go (cases_lt w k) (cases_lt x k) (cases_lt y k)
+  where
+    go : (w < k) ⊎ (k ≤ w) → (x < k) ⊎ (k ≤ x) → (y < k) ⊎ (k ≤ y) → (k ≤ w) ⊎ ((k ≤ x) ⊎ ((k ≤ y) ⊎ (k ≤ z)))
+    go (inr i) f g = inl i
+    go (inl e) (inr i) g = inr (inl i)
+    go (inl e) (inl f) (inr i) = inr (inr (inl i))
+    go (inl e) (inl f) (inl g) = inr (inr (inr (omega arith)))
+
+pub quotient_below : (v n h k : ℕ) → v ≡ n / h → n < k → v < k
+quotient_below v n h k e l = let i : n / h ≤ n = div-le_self n h in omega arith
+
 -- ---- divisors of a signed sum
 
 -- how far the sizes are apart, or their sum
-size_of_sum : (x y : ℤ) → (nat_abs (x +ℤ y) ≡ nat_abs x + nat_abs y) ⊎ (nat_abs (x +ℤ y) ≡ (nat_abs x - nat_abs y) + (nat_abs y - nat_abs x))
+pub size_of_sum : (x y : ℤ) → (nat_abs (x +ℤ y) ≡ nat_abs x + nat_abs y) ⊎ (nat_abs (x +ℤ y) ≡ (nat_abs x - nat_abs y) + (nat_abs y - nat_abs x))
 size_of_sum (pos a) (pos b) = inl (omega (arith, ints))
 size_of_sum (pos a) (negsuc b) = inr (omega (arith, ints))
 size_of_sum (negsuc a) (pos b) = inr (omega (arith, ints))
@@ -87,159 +108,147 @@ signed-times s z a k e f =
 
 -- ---- the least common denominator
 
--- b and d are the denominators, and g their greatest common divisor
-pub record Aligned (p q : ℚ) (b d g : ℕ) : Type 0 where
+-- m, a and b are the sign and the parts of p, and n, c and d those of q
+pub record Read (p q : ℚ) (m : Bool) (a b : ℕ) (n : Bool) (c d : ℕ) : Type 0 where
+  pub m_is : m ≡ int_lt p.numerator (pos 0)
+  pub a_is : a ≡ nat_abs p.numerator
   pub b_is : b ≡ denominator p
+  pub n_is : n ≡ int_lt q.numerator (pos 0)
+  pub c_is : c ≡ nat_abs q.numerator
   pub d_is : d ≡ denominator q
-  pub g_is : g ≡ gcd b d
 
-module _ {p q : ℚ} {b d g : ℕ} (r : Aligned p q b d g) where
+module _ {p q : ℚ} {m n : Bool} {a b c d : ℕ} (r : Read p q m a b n c d) where
+  -- the parts that are left of the denominators
+  abbrev b_rest : ℕ
+  b_rest = b / gcd b d
+
+  abbrev d_rest : ℕ
+  d_rest = d / gcd b d
+
+  abbrev first : ℤ
+  first = p.numerator *ℤ pos d_rest
+
+  abbrev second : ℤ
+  second = q.numerator *ℤ pos b_rest
+
   b_pos : 0 < b
   b_pos = rw r.b_is (zero-lt-suc p.below)
 
   d_pos : 0 < d
   d_pos = rw r.d_is (zero-lt-suc q.below)
 
-  pub g_pos : 0 < g
-  g_pos = rw r.g_is (gcd_pos b d d_pos)
+  bottom_above : 0 < common_bottom b d
+  bottom_above = mul-pos (subst (λ g. 0 < b / g) (gcd_comm d b) (bottom_pos d b b_pos)) d_pos
 
-  gb : g ∣ b
-  gb = rw r.g_is (gcd_is b d).0
+  top_is : common_top m a b n c d ≡ first +ℤ second
+  top_is = ap₂ (λ x y. x +ℤ y) (signed-times m p.numerator a d_rest r.m_is r.a_is) (signed-times n q.numerator c b_rest r.n_is r.c_is)
 
-  gd : g ∣ d
-  gd = rw r.g_is (gcd_is b d).1
-
-  part_pos : 0 < b / g
-  part_pos = rw (r.g_is, gcd_comm b d) (bottom_pos d b b_pos)
-
-  common_pos : 0 < (b / g) * d
-  common_pos = mul-pos part_pos d_pos
-
-  same_g : gcd (denominator p) (denominator q) ≡ g
-  same_g = sym (r.g_is ∙ ap₂ gcd r.b_is r.d_is)
-
-  left_is : left_term p q ≡ p.numerator *ℤ pos (d / g)
-  left_is = ap₂ (λ x y. p.numerator *ℤ pos (x / y)) (sym r.d_is) same_g
-
-  right_is : right_term p q ≡ q.numerator *ℤ pos (b / g)
-  right_is = ap₂ (λ x y. q.numerator *ℤ pos (x / y)) (sym r.b_is) same_g
-
-  common_is : common_den p q ≡ (b / g) * d
-  common_is = ap₂ (λ x y. x * y) (ap₂ (λ x y. x / y) (sym r.b_is) same_g) (sym r.d_is)
-
-  abs_left : nat_abs (left_term p q) ≡ nat_abs p.numerator * (d / g)
-  abs_left = ap nat_abs left_is ∙ unsigned_abs-mul p.numerator (pos (d / g))
-
-  abs_right : nat_abs (right_term p q) ≡ nat_abs q.numerator * (b / g)
-  abs_right = ap nat_abs right_is ∙ unsigned_abs-mul q.numerator (pos (b / g))
-
-  sum_value : ratio (p.numerator *ℤ pos (d / g) +ℤ q.numerator *ℤ pos (b / g)) ((b / g) * d) ≡ p +ℚ q
+  sum_value : ratio (first +ℤ second) (common_bottom b d) ≡ p +ℚ q
   sum_value =
-      ratio_same _ (p.numerator *ℤ pos d +ℤ q.numerator *ℤ pos b) ((b / g) * d) (b * d) common_pos (mul-pos b_pos d_pos)
-      (ap₂ (λ x y. (p.numerator *ℤ pos (d / g) +ℤ q.numerator *ℤ pos (b / g)) *ℤ pos (x * y)) (sym (mul-div_cancel' g gb)) (sym (mul-div_cancel' g gd))
-      ∙ ring_ℤ (p.numerator ∷ q.numerator ∷ pos (d / g) ∷ pos (b / g) ∷ pos g ∷ [])
+      let g = gcd b d in
+      let e = mul-div_cancel' (gcd b d) (gcd_is b d).0 in
+      let f = mul-div_cancel' (gcd b d) (gcd_is b d).1 in
+      ratio_same _ (p.numerator *ℤ pos d +ℤ q.numerator *ℤ pos b) (common_bottom b d) (b * d) bottom_above (mul-pos b_pos d_pos)
+      (ap₂ (λ x y. (first +ℤ second) *ℤ pos (x * y)) (sym e) (sym f)
+      ∙ ring_ℤ (p.numerator ∷ q.numerator ∷ pos d_rest ∷ pos b_rest ∷ pos g ∷ [])
       ((x0 ⊗ x2 ⊕ x1 ⊗ x3) ⊗ ((x4 ⊗ x3) ⊗ (x4 ⊗ x2))) ((x0 ⊗ (x4 ⊗ x2) ⊕ x1 ⊗ (x4 ⊗ x3)) ⊗ (x3 ⊗ (x4 ⊗ x2))) refl
-      ∙ ap₂ (λ x y. (p.numerator *ℤ pos y +ℤ q.numerator *ℤ pos x) *ℤ pos ((b / g) * y)) (mul-div_cancel' g gb) (mul-div_cancel' g gd))
+      ∙ ap₂ (λ x y. (p.numerator *ℤ pos y +ℤ q.numerator *ℤ pos x) *ℤ pos (b_rest * y)) e f)
       ∙ ap₂ (λ x y. ratio (p.numerator *ℤ pos y +ℤ q.numerator *ℤ pos x) (x * y)) r.b_is r.d_is
       ∙ sym (ratio-add p.numerator q.numerator (denominator p) (denominator q) (zero-lt-suc p.below) (zero-lt-suc q.below))
       ∙ ap₂ (λ x y. x +ℚ y) (ratio_back p) (ratio_back q)
 
+  -- ---- the numbers on the way
+
+  left_is : left_term p q ≡ first
+  left_is = ap₂ (λ x y. p.numerator *ℤ pos (y / gcd x y)) (sym r.b_is) (sym r.d_is)
+
+  right_is : right_term p q ≡ second
+  right_is = ap₂ (λ x y. q.numerator *ℤ pos (x / gcd x y)) (sym r.b_is) (sym r.d_is)
+
+  peak_is : sum_peak m a b n c d ≡ peak_of (nat_abs (left_term p q)) (nat_abs (right_term p q)) (nat_abs (left_term p q +ℤ right_term p q)) (common_den p q)
+  peak_is =
+      ap₂ max
+      (ap₂ max
+      (ap (λ x. x * d_rest) r.a_is ∙ sym (ap nat_abs left_is ∙ unsigned_abs-mul p.numerator (pos d_rest)))
+      (ap (λ x. x * b_rest) r.c_is ∙ sym (ap nat_abs right_is ∙ unsigned_abs-mul q.numerator (pos b_rest))))
+      (ap₂ max
+      (ap nat_abs (top_is ∙ sym (ap₂ (λ x y. x +ℤ y) left_is right_is)))
+      (ap₂ (λ x y. (x / gcd x y) * y) r.b_is r.d_is))
+
+  pub accepted : sum_peak m a b n c d < limit → SumAccepted p q
+  accepted h =
+      let k = below_peak _ _ _ _ limit (subst (λ x. x < limit) peak_is h) in
+      record { left_fits = k.0; right_fits = k.1; sum_fits = k.2; den_fits = k.3 }
+
+  pub refused : limit ≤ sum_peak m a b n c d → SumRefused p q
+  refused h = past_peak _ _ _ _ limit (subst (λ x. limit ≤ x) peak_is h)
+
+  -- ---- its divisors
+
   -- the numerator of the sum is prime to both parts that are left of the denominators
-  num_prime_b : gcd (nat_abs p.numerator * (d / g)) (b / g) ≡ 1
+  num_prime_b : gcd (nat_abs p.numerator * d_rest) b_rest ≡ 1
   num_prime_b =
-      coprime_mul (nat_abs p.numerator) (d / g) (b / g)
-      (coprime_parts (nat_abs p.numerator) (b / g) (nat_abs p.numerator) (denominator p) (dvd_refl (nat_abs p.numerator)) (subst (λ x. b / g ∣ x) r.b_is (part_dvd b g gb)) p.lowest)
-      (gcd_comm (d / g) (b / g) ∙ rw r.g_is (gcd-quotients b d d_pos))
+      coprime_mul (nat_abs p.numerator) d_rest b_rest
+      (coprime_parts (nat_abs p.numerator) b_rest (nat_abs p.numerator) (denominator p) (dvd_refl (nat_abs p.numerator)) (subst (λ x. b_rest ∣ x) r.b_is (part_dvd b (gcd b d) (gcd_is b d).0)) p.lowest)
+      (gcd_comm d_rest b_rest ∙ gcd-quotients b d d_pos)
 
-  num_prime_d : gcd (nat_abs q.numerator * (b / g)) (d / g) ≡ 1
+  num_prime_d : gcd (nat_abs q.numerator * b_rest) d_rest ≡ 1
   num_prime_d =
-      coprime_mul (nat_abs q.numerator) (b / g) (d / g)
-      (coprime_parts (nat_abs q.numerator) (d / g) (nat_abs q.numerator) (denominator q) (dvd_refl (nat_abs q.numerator)) (subst (λ x. d / g ∣ x) r.d_is (part_dvd d g gd)) q.lowest)
-      (rw r.g_is (gcd-quotients b d d_pos))
+      coprime_mul (nat_abs q.numerator) b_rest d_rest
+      (coprime_parts (nat_abs q.numerator) d_rest (nat_abs q.numerator) (denominator q) (dvd_refl (nat_abs q.numerator)) (subst (λ x. d_rest ∣ x) r.d_is (part_dvd d (gcd b d) (gcd_is b d).1)) q.lowest)
+      (gcd-quotients b d d_pos)
 
-  sum_prime_b : gcd (nat_abs (p.numerator *ℤ pos (d / g) +ℤ q.numerator *ℤ pos (b / g))) (b / g) ≡ 1
+  sum_prime_b : gcd (nat_abs (first +ℤ second)) b_rest ≡ 1
   sum_prime_b =
-      prime_sum (p.numerator *ℤ pos (d / g)) (q.numerator *ℤ pos (b / g)) (b / g)
-      (subst (λ x. b / g ∣ x) (sym (unsigned_abs-mul q.numerator (pos (b / g)))) (dvd-mul_left (b / g) (nat_abs q.numerator)))
-      (ap (λ x. gcd x (b / g)) (unsigned_abs-mul p.numerator (pos (d / g))) ∙ num_prime_b)
+      prime_sum first second b_rest
+      (subst (λ x. b_rest ∣ x) (sym (unsigned_abs-mul q.numerator (pos b_rest))) (dvd-mul_left b_rest (nat_abs q.numerator)))
+      (ap (λ x. gcd x b_rest) (unsigned_abs-mul p.numerator (pos d_rest)) ∙ num_prime_b)
 
-  sum_prime_d : gcd (nat_abs (p.numerator *ℤ pos (d / g) +ℤ q.numerator *ℤ pos (b / g))) (d / g) ≡ 1
+  sum_prime_d : gcd (nat_abs (first +ℤ second)) d_rest ≡ 1
   sum_prime_d =
-      ap (λ x. gcd (nat_abs x) (d / g)) (+ℤ_comm (p.numerator *ℤ pos (d / g)) (q.numerator *ℤ pos (b / g)))
-      ∙ prime_sum (q.numerator *ℤ pos (b / g)) (p.numerator *ℤ pos (d / g)) (d / g)
-      (subst (λ x. d / g ∣ x) (sym (unsigned_abs-mul p.numerator (pos (d / g)))) (dvd-mul_left (d / g) (nat_abs p.numerator)))
-      (ap (λ x. gcd x (d / g)) (unsigned_abs-mul q.numerator (pos (b / g))) ∙ num_prime_d)
+      ap (λ x. gcd (nat_abs x) d_rest) (+ℤ_comm first second)
+      ∙ prime_sum second first d_rest
+      (subst (λ x. d_rest ∣ x) (sym (unsigned_abs-mul p.numerator (pos d_rest))) (dvd-mul_left d_rest (nat_abs p.numerator)))
+      (ap (λ x. gcd x d_rest) (unsigned_abs-mul q.numerator (pos b_rest)) ∙ num_prime_d)
+
+  abbrev top : ℕ
+  top = nat_abs (common_top m a b n c d)
 
   -- so its divisors in the common denominator are those in g (Knuth)
-  sum_gcd : gcd (nat_abs (p.numerator *ℤ pos (d / g) +ℤ q.numerator *ℤ pos (b / g))) ((b / g) * d) ≡ gcd (nat_abs (p.numerator *ℤ pos (d / g) +ℤ q.numerator *ℤ pos (b / g))) g
-  sum_gcd =
-      drop_prime _ (b / g) d sum_prime_b
-      ∙ ap (gcd (nat_abs (p.numerator *ℤ pos (d / g) +ℤ q.numerator *ℤ pos (b / g)))) (sym (mul-div_cancel' g gd) ∙ mul_comm g (d / g))
-      ∙ drop_prime _ (d / g) g sum_prime_d
+  divisor_is : gcd top (gcd b d) ≡ gcd top (common_bottom b d)
+  divisor_is =
+      ap (λ x. gcd (nat_abs x) (gcd b d)) top_is
+      ∙ sym (drop_prime _ b_rest d sum_prime_b
+      ∙ ap (gcd (nat_abs (first +ℤ second))) (sym (mul-div_cancel' (gcd b d) (gcd_is b d).1) ∙ mul_comm (gcd b d) d_rest)
+      ∙ drop_prime _ d_rest (gcd b d) sum_prime_d)
+      ∙ ap (λ x. gcd (nat_abs x) (common_bottom b d)) (sym top_is)
 
--- ---- the code's numbers
+  -- ---- the parts that the code makes
 
-pub first_is : (s : Bool) (z f : ℤ) (a k left : ℕ) → s ≡ int_lt z (pos 0) → a ≡ nat_abs z → left ≡ a * k → left < limit → f ≡ signed s left → to_z w128 (of_z w128 f) ≡ z *ℤ pos k
-first_is s z f a k left e i j h w =
-    back f (rw (w, nat_abs-signed s left) h) ∙ w ∙ ap (signed s) j ∙ signed-times s z a k e i
+  module _ {s : Bool} {v w : ℕ} (k : AreParts (common_top m a b n c d) (common_bottom b d) (gcd b d) s v w) where
+    v_is : v ≡ top / gcd top (common_bottom b d)
+    v_is = k.top_is ∙ ap (λ x. top / x) divisor_is
 
--- the numbers that the sum goes through: the two numerators' sizes, the sum z and the denominator y
-pub record Summed (p q : ℚ) (b d g left right y : ℕ) (z : ℤ) : Type 0 where
-  pub aligned : Aligned p q b d g
-  pub left_is : left ≡ nat_abs p.numerator * (d / g)
-  pub left_fits : left < limit
-  pub right_is : right ≡ nat_abs q.numerator * (b / g)
-  pub right_fits : right < limit
-  pub sum_is : z ≡ p.numerator *ℤ pos (d / g) +ℤ q.numerator *ℤ pos (b / g)
-  pub sum_fits : nat_abs z < limit
-  pub y_is : y ≡ (b / g) * d
-  pub y_fits : y < limit
+    w_is : w ≡ common_bottom b d / gcd top (common_bottom b d)
+    w_is = k.bottom_is ∙ ap (λ x. common_bottom b d / x) divisor_is
 
-module _ {p q : ℚ} {b d g left right y : ℕ} {z : ℤ} (r : Summed p q b d g left right y z) where
-  pub accepted : SumAccepted p q
-  accepted = record {
-    left_fits = subst (λ x. x < limit) (sym (abs_left r.aligned ∙ sym r.left_is)) r.left_fits;
-    right_fits = subst (λ x. x < limit) (sym (abs_right r.aligned ∙ sym r.right_is)) r.right_fits;
-    sum_fits = subst (λ x. x < limit) (ap nat_abs (r.sum_is ∙ sym (ap₂ (λ x y. x +ℤ y) (left_is r.aligned) (right_is r.aligned)))) r.sum_fits;
-    den_fits = subst (λ x. x < limit) (sym (common_is r.aligned ∙ sym r.y_is)) r.y_fits;
-  }
+    pub made-coprime : gcd v w ≡ 1
+    made-coprime = ap₂ gcd v_is w_is ∙ gcd-quotients top (common_bottom b d) bottom_above
 
-  y_pos : 0 < y
-  y_pos = rw r.y_is (common_pos r.aligned)
+    pub made-pos : 0 < w
+    made-pos = rw w_is (bottom_pos top (common_bottom b d) bottom_above)
 
-  -- n is the size of the sum as it is read from its bits, and h what divides it and g
-  module _ {n h : ℕ} (e : n ≡ nat_abs (to_z w128 (of_z w128 z))) (f : h ≡ gcd n g) where
-    n_is : n ≡ nat_abs z
-    n_is = e ∙ ap nat_abs (back z r.sum_fits)
+    pub made-value : ratio (signed s v) w ≡ p +ℚ q
+    made-value =
+        ap₂ (λ x y. ratio (signed s x) y) v_is w_is
+        ∙ signed_cut s top (common_bottom b d) bottom_above
+        ∙ ap (λ x. ratio x (common_bottom b d)) (ap (λ t. signed t top) k.sign_is ∙ signed_back (common_top m a b n c d) ∙ top_is)
+        ∙ sum_value
 
-    h_is : h ≡ gcd n y
-    h_is =
-        f ∙ ap (λ x. gcd x g) (n_is ∙ ap nat_abs r.sum_is) ∙ sym (sum_gcd r.aligned)
-        ∙ ap₂ gcd (ap nat_abs (sym r.sum_is) ∙ sym n_is) (sym r.y_is)
-
-    pub h_pos : 0 < h
-    h_pos = rw h_is (gcd_pos n y y_pos)
-
-    module _ {v w : ℕ} (i : v ≡ n / h) (j : w ≡ y / h) where
-      v_is : v ≡ n / gcd n y
-      v_is = i ∙ ap (λ x. n / x) h_is
-
-      w_is : w ≡ y / gcd n y
-      w_is = j ∙ ap (λ x. y / x) h_is
-
-      pub made-coprime : gcd v w ≡ 1
-      made-coprime = ap₂ gcd v_is w_is ∙ gcd-quotients n y y_pos
-
-      pub made-pos : 0 < w
-      made-pos = rw w_is (bottom_pos n y y_pos)
-
-      pub made-value : ratio (signed (int_lt (to_z w128 (of_z w128 z)) (pos 0)) v) w ≡ p +ℚ q
-      made-value =
-          ap₂ (λ k l. ratio (signed (int_lt (to_z w128 (of_z w128 z)) (pos 0)) k) l) v_is w_is
-          ∙ signed_cut (int_lt (to_z w128 (of_z w128 z)) (pos 0)) n y y_pos
-          ∙ ap (λ k. ratio k y) (ap (signed (int_lt (to_z w128 (of_z w128 z)) (pos 0))) e ∙ signed_back (to_z w128 (of_z w128 z)) ∙ back z r.sum_fits ∙ r.sum_is)
-          ∙ ap (ratio (p.numerator *ℤ pos (d / g) +ℤ q.numerator *ℤ pos (b / g))) r.y_is
-          ∙ sum_value r.aligned
+    pub made-fit : sum_peak m a b n c d < limit → (v < limit) × (w < limit)
+    made-fit h =
+        let x = below_peak _ _ _ _ limit h in
+        (quotient_below _ _ _ limit k.top_is x.2, quotient_below _ _ _ limit k.bottom_is x.3)
 
 pub accepted_not_refused : (p q : ℚ) → SumAccepted p q → SumRefused p q → ⊥
 accepted_not_refused p q a (inl x) = let y = a.left_fits in omega arith

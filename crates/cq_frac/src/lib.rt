@@ -18,7 +18,7 @@ ghost use Rattle.cq_frac.specs.Text.{number_text};
 
 mod wholes;
 
-use crate::wholes::{LIMIT, fitting, gcd, order, part, total, with_sign};
+use crate::wholes::{LIMIT, gcd, order, part, product_parts, sum_parts};
 use itoa::Buffer;
 use std::alloc::{AllocError, AllocFailed};
 use std::cmp::Ordering;
@@ -232,29 +232,17 @@ impl Frac {
         ensures overflow { (result ≡ Err FracFault.Overflow) ↔ SumRefused self other }
         ensures other { result ≢ Err FracFault.ZeroDivisor }
     {
-        let b = self.bottom();
-        let d = other.bottom();
-        let g = gcd(b, d);
-        let b_rest = part(b, g);
-        let d_rest = part(d, g);
-        let Some(left) = fitting(self.top(), d_rest) else {
+        let Some((negative, top, bottom)) = sum_parts(
+            self.sign_is_negative(),
+            self.top(),
+            self.bottom(),
+            other.sign_is_negative(),
+            other.top(),
+            other.bottom(),
+        ) else {
             return Err(FracFault::Overflow);
         };
-        let Some(right) = fitting(other.top(), b_rest) else {
-            return Err(FracFault::Overflow);
-        };
-        let Some(bottom) = fitting(b_rest, d) else {
-            return Err(FracFault::Overflow);
-        };
-        let first = with_sign(self.sign_is_negative(), left);
-        let second = with_sign(other.sign_is_negative(), right);
-        let Some(sum) = total(first, second) else {
-            return Err(FracFault::Overflow);
-        };
-        // Only a divisor of g divides both (Knuth, 4.5.1).
-        let top = sum.unsigned_abs();
-        let h = gcd(top, g);
-        Ok(made(sum < 0, part(top, h), part(bottom, h)))
+        Ok(made(negative, top, bottom))
     }
 
     /// The difference: the sum with the negated number.
@@ -274,16 +262,12 @@ impl Frac {
         ensures overflow { (result ≡ Err FracFault.Overflow) ↔ Exceeds (self *ℚ other) }
         ensures other { result ≢ Err FracFault.ZeroDivisor }
     {
-        let a = self.top();
-        let b = self.bottom();
-        let c = other.top();
-        let d = other.bottom();
-        let g = gcd(a, d);
-        let h = gcd(c, b);
-        let Some(top) = fitting(part(a, g), part(c, h)) else {
-            return Err(FracFault::Overflow);
-        };
-        let Some(bottom) = fitting(part(b, h), part(d, g)) else {
+        let Some((top, bottom)) = product_parts(
+            self.top(),
+            self.bottom(),
+            other.top(),
+            other.bottom(),
+        ) else {
             return Err(FracFault::Overflow);
         };
         let negative = self.sign_is_negative() != other.sign_is_negative();

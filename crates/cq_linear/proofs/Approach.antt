@@ -39,7 +39,7 @@ use Rattle.cq_level.specs.Turned.{opposite_row, turned, towards}
 use Rattle.cq_level.specs.Levelled.{StaysRow, CrossesAt, RefusesLevel, SpendsLevel, HoldBelow, HoldAbove, IsShort}
 use Rattle.cq_level.proofs.Goes.{carried_stays}
 use Rattle.cq_level.proofs.Turned.{turned_at, turned_length, turned_dropped, turned_other, turned_is_row, turned_table, flipped, flipped_own, flipped_other, met_turned, met_back}
-use Rattle.cq_linear.specs.Equated.{IsRowBehind, Crosses, StaysBelow, IsToJoin}
+use Rattle.cq_linear.specs.Equated.{IsRowBehind, Crosses, StaysBelow, IsShortBelow, IsShortAbove, IsToJoin}
 use Rattle.cq_linear.specs.StoreValue.{MayRefuse, MayTake, Only}
 use Rattle.cq_linear.proofs.Equations.{row_below, roles_size, form_here, unflagged, asked_behind, crossing_refused}
 use Rattle.cq_linear.proofs.Moments.{speaks_of, behind_spent, asking_refused}
@@ -49,15 +49,18 @@ negated_mentions x [] m = absurd m
 negated_mentions x (p ∷ s) (inl e) = inl e
 negated_mentions x (p ∷ s) (inr h) = inr (negated_mentions x s h)
 
+pub negative_below : (k : ℚ) → IsPositive k → neg_ℚ k <ℚ 0ℚ
+negative_below k p = record { gap = subst IsPositive (ring (k ∷ []) (var 0) (int (pos 0) ⊕ minus (minus (var 0))) refl) p }
+
 -- ---- entries that hold a row below zero, or its negative
-below_entry : (flags : List Bool) (t : List Entry) → ((m : Entry) → rows.Has m t → IsPositive (neg_ℚ m.factor) × (is_restricted flags m.quantity ≡ true)) → (m : Entry)
+pub below_entry : (flags : List Bool) (t : List Entry) → ((m : Entry) → rows.Has m t → IsPositive (neg_ℚ m.factor) × (is_restricted flags m.quantity ≡ true)) → (m : Entry)
     → rows.Has m (rows.negated t) → IsPositive m.factor × (is_restricted flags m.quantity ≡ true)
 below_entry flags [] k m h = absurd h
 below_entry flags (n ∷ t) k m (inl e) =
     (subst IsPositive (sym (ap (λ (y : Entry). y.factor) e)) (k n (inl refl)).0, ap (λ (y : Entry). is_restricted flags y.quantity) e ∙ (k n (inl refl)).1)
 below_entry flags (n ∷ t) k m (inr h) = below_entry flags t (λ y z. k y (inr z)) m h
 
-above_entry : (flags : List Bool) (t : List Entry) → ((m : Entry) → rows.Has m t → IsPositive m.factor × (is_restricted flags m.quantity ≡ true)) → (m : Entry)
+pub above_entry : (flags : List Bool) (t : List Entry) → ((m : Entry) → rows.Has m t → IsPositive m.factor × (is_restricted flags m.quantity ≡ true)) → (m : Entry)
     → rows.Has m (rows.negated (rows.negated t)) → IsPositive m.factor × (is_restricted flags m.quantity ≡ true)
 above_entry flags [] k m h = absurd h
 above_entry flags (n ∷ t) k m (inl e) = (
@@ -111,7 +114,7 @@ module _ (told : List Constraint) (names : List Name) (c : Constraint) (roles : 
       let k : z < length b.stored.forms = grind (arith, l, s, d, e, n) in
       form_more b.stored.forms (negated_form c.form) z k ∙ sym (form_more b.stored.forms c.form z k)
 
-  own_form : form_at (b.stored.forms ++ negated_form c.form ∷ []) q ≡ negated_form c.form
+  pub own_form : form_at (b.stored.forms ++ negated_form c.form ∷ []) q ≡ negated_form c.form
   own_form = ap (form_at (b.stored.forms ++ negated_form c.form ∷ [])) (b.last ∙ sym b.stored.keeps.describes.size) ∙ form_last b.stored.forms (negated_form c.form)
 
   abbrev flip : (ℕ → ℚ) → ℕ → ℚ
@@ -168,13 +171,13 @@ module _ (told : List Constraint) (names : List Name) (c : Constraint) (roles : 
   restricted_below : (z : ℕ) → is_restricted flags z ≡ true → z < length roles
   restricted_below z r = subst (λ n. z < n) b.keeps.size (flag_below flags z r)
 
-  restricted_form : (z : ℕ) → is_restricted flags z ≡ true → form_at (b.stored.forms ++ negated_form c.form ∷ []) z ≡ form_at (b.stored.forms ++ c.form ∷ []) z
+  pub restricted_form : (z : ℕ) → is_restricted flags z ≡ true → form_at (b.stored.forms ++ negated_form c.form ∷ []) z ≡ form_at (b.stored.forms ++ c.form ∷ []) z
   restricted_form z r = other_form z (restricted_below z r) (not_own z r)
 
   restricted_role : (z : ℕ) → is_restricted flags z ≡ true → role_at (turned roles q) z ≡ role_at roles z
   restricted_role z r = turned_other roles q z (not_own z r)
 
-  dropped_form : (z : ℕ) → is_dropped roles z ≡ true → form_at (b.stored.forms ++ negated_form c.form ∷ []) z ≡ form_at (b.stored.forms ++ c.form ∷ []) z
+  pub dropped_form : (z : ℕ) → is_dropped roles z ≡ true → form_at (b.stored.forms ++ negated_form c.form ∷ []) z ≡ form_at (b.stored.forms ++ c.form ∷ []) z
   dropped_form z d =
       other_form z (at_below roles z Dropped (role_dropped roles z d))
       (λ e. let n = dropped_at roles q (Basic b.row.0) b.row.1 in let k = subst (λ y. is_dropped roles y ≡ true) e d in cc)
@@ -201,7 +204,7 @@ module _ (told : List Constraint) (names : List Name) (c : Constraint) (roles : 
   )
   opposite_held Ne f h = tt
 
-  opposite_speaks : Speaks (b.stored.forms ++ negated_form c.form ∷ []) told (turned roles q) flags
+  pub opposite_speaks : Speaks (b.stored.forms ++ negated_form c.form ∷ []) told (turned roles q) flags
   opposite_speaks =
       let i = b.keeps.invariant.sound in
       record {
@@ -240,8 +243,14 @@ module _ (told : List Constraint) (names : List Name) (c : Constraint) (roles : 
   low_not_high : (k : ℚ) → k <ℚ 0ℚ → IsPositive k → ⊥
   low_not_high k l p = lt_irrefl (lt_trans l (pos_to_lt p))
 
+  pub short_below : IsShort roles flags q → (IsPositive b.row.0.constant → ⊥) → IsShortBelow told names c roles flags q
+  short_below h n = record { behind = b; held = elim (h b.row.0 b.row.1) [ inl s ↦ s | inr s ↦ absurd (n s.0) ] }
+
+  pub short_above : IsShort roles flags q → IsPositive b.row.0.constant → IsShortAbove told names c roles flags q
+  short_above h p = record { behind = b; held = elim (h b.row.0 b.row.1) [ inl s ↦ absurd (low_not_high b.row.0.constant s.0 p) | inr s ↦ s ] }
+
   module _ (own : Row) (at : IsAt roles q (Basic own)) where
-    held_below : HoldBelow flags own → StaysBelow told c.form
+    pub held_below : HoldBelow flags own → StaysBelow told c.form
     held_below h =
         let d = tableau roles flags (b.stored.forms ++ c.form ∷ []) in
         let here : row_of q (Basic own) ≡ row_of q (role_at roles q) = ap (row_of q) (sym (role_is roles q (Basic own) at)) in
@@ -255,7 +264,7 @@ module _ (told : List Constraint) (names : List Name) (c : Constraint) (roles : 
           below = h.0;
         }
 
-    held_above : HoldAbove flags own → StaysBelow told (negated_form c.form)
+    pub held_above : HoldAbove flags own → StaysBelow told (negated_form c.form)
     held_above h =
         let d = tableau (turned roles q) flags (b.stored.forms ++ negated_form c.form ∷ []) in
         let there : IsAt (turned roles q) q (Basic (opposite_row own)) = turned_at roles q (Basic own) at in
@@ -268,14 +277,17 @@ module _ (told : List Constraint) (names : List Name) (c : Constraint) (roles : 
               (subst (λ r. IsOptimal d r.live) here
               (optimal_of (turned roles q) flags (b.stored.forms ++ negated_form c.form ∷ []) (rows.negated own.live)
               (λ m k. (above_entry flags own.live h.1 m k).0) (λ m k. (above_entry flags own.live h.1 m k).1)))));
-          below = record { gap = subst IsPositive (ring (own.constant ∷ []) (var 0) (int (pos 0) ⊕ minus (minus (var 0))) refl) h.0 };
+          below = negative_below own.constant h.0;
         }
 
-    pub short_above : IsShort roles flags q → IsPositive own.constant → StaysBelow told (negated_form c.form)
-    short_above h p = elim (h own at) [ inl s ↦ absurd (low_not_high own.constant s.0 p) | inr s ↦ held_above s ]
+-- it stays so at each solution
+pub stays_below : (told : List Constraint) (names : List Name) (c : Constraint) (roles : List Role) (flags : List Bool) (q : ℕ) → IsShortBelow told names c roles flags q
+    → StaysBelow told c.form
+stays_below told names c roles flags q s = held_below told names c roles flags q s.behind s.behind.row.0 s.behind.row.1 s.held
 
-    pub short_below : IsShort roles flags q → (IsPositive own.constant → ⊥) → StaysBelow told c.form
-    short_below h n = elim (h own at) [ inl s ↦ held_below s | inr s ↦ absurd (n s.0) ]
+pub stays_above : (told : List Constraint) (names : List Name) (c : Constraint) (roles : List Role) (flags : List Bool) (q : ℕ) → IsShortAbove told names c roles flags q
+    → StaysBelow told (negated_form c.form)
+stays_above told names c roles flags q s = held_above told names c roles flags q s.behind s.behind.row.0 s.behind.row.1 s.held
 
 -- ---- where the search ends
 pub level_spent : (told : List Constraint) (names : List Name) (c : Constraint) (roles : List Role) (flags : List Bool) (q : ℕ) → IsRowBehind told names c roles flags q

@@ -1,15 +1,19 @@
 -- An equation whose form is a row behind the quantities that have names.
 use Rattle.std.specs.Prelude.{◌≡◌, ◌⊎◌, ℕ, List, [], ◌∷◌, ◌++◌, Bool, true, false, length, ◌+◌, Option, None, Some, MatchOption}
+use Rattle.std.specs.List.{AllByRecursion}
 use Rattle.spec_rational.specs.Rational.{ℚ, 0ℚ, 1ℚ, neg_ℚ, ◌<ℚ◌}
 use Rattle.spec_rational.specs.Sums.{Mentions}
 use Rattle.spec_linear.specs.Form.{Linear, IsForm, negated_form}
 use Rattle.spec_linear.specs.Solution.{Constraint}
+use Rattle.spec_inequalities.specs.Certificate.{IsAllowed}
+use Rattle.spec_tableau.specs.Entries.{entries}
 use Rattle.spec_tableau.specs.Reach.{Rises, IsGreatest}
 use Rattle.spec_tableau.specs.Tableau.{HasFeasibleNumbers}
+use Rattle.cq_form.specs.Entries.{products_of}
 use Rattle.cq_frac.specs.declared.VarId.{VarId}
 use Rattle.cq_row.specs.declared.Entry.{Entry}
 use Rattle.cq_row.specs.Row.{Row}
-use Rattle.cq_row.specs.Rows.{Has}
+use Rattle.cq_row.specs.Rows.{Has, negated}
 use Rattle.cq_dict.specs.declared.table.Role.{Role}
 use Rattle.cq_dict.specs.declared.table.Role.TheVariants.{Basic}
 use Rattle.cq_dict.specs.Roles.{Quantities, IsAt, IsRow, AreOverColumns, HasEntry, IsEliminated, is_dropped, is_restricted, constant_at}
@@ -22,9 +26,11 @@ use Rattle.cq_tableau.specs.Keeps.{Keeps}
 use Rattle.cq_tableau.specs.Looked.{AllStand, IsFallen, IsStrict, IsApart}
 use Rattle.cq_tableau.specs.Numbered.{AreNumbered}
 use Rattle.cq_tableau.specs.Raised.{HasNoFreeColumn}
+use Rattle.cq_tableau.specs.Refuted.{number_in}
 use Rattle.cq_tableau.specs.Restored.{AreFormEntries}
 use Rattle.cq_tableau.specs.Stored.{IsKnown, IsMemberOf, IsStored, IsPlaced}
 use Rattle.cq_tableau.specs.Values.{IsNumber}
+use Rattle.cq_level.specs.Levelled.{HoldBelow, HoldAbove}
 use Rattle.cq_linear.specs.declared.equating.Approached.{Approached}
 use Rattle.cq_linear.specs.declared.equating.Approached.TheVariants.{Zero, Crossing, Below, Above}
 use Rattle.cq_face.specs.Faced.{AllApart}
@@ -86,6 +92,15 @@ pub record StaysBelow (told : List Constraint) (f : Linear) : Type 0 where
   pub greatest : IsGreatest told f value
   pub below : value <ℚ 0ℚ
 
+-- such a form whose row is held below zero by its columns, or above
+pub record IsShortBelow (told : List Constraint) (names : List Name) (c : Constraint) (roles : List Role) (flags : List Bool) (q : ℕ) : Type 0 where
+  pub behind : IsRowBehind told names c roles flags q
+  pub held : HoldBelow flags behind.row.0
+
+pub record IsShortAbove (told : List Constraint) (names : List Name) (c : Constraint) (roles : List Role) (flags : List Bool) (q : ℕ) : Type 0 where
+  pub behind : IsRowBehind told names c roles flags q
+  pub held : HoldAbove flags behind.row.0
+
 -- a constraint that is to join what is stored: its form over the quantities
 pub record IsToJoin (told : List Constraint) (names : List Name) (c : Constraint) (q : Quantities) (places : List Entry) (constant : ℚ) : Type 0 where
   pub stored : IsStored told names q
@@ -108,14 +123,20 @@ OfJoining q places constant P = (told : List Constraint) (names : List Name) (c 
 abbrev pub IsApproached : List Role → List Bool → Approached → List Constraint → List Name → Constraint → Type 0
 IsApproached roles flags (Zero q) told names c = IsRowBehind told names c roles flags q × (constant_at roles q ≡ 0ℚ)
 IsApproached roles flags (Crossing q column) told names c = Crosses told names c roles flags q column
-IsApproached roles flags Below told names c = StaysBelow told c.form
-IsApproached roles flags Above told names c = StaysBelow told (negated_form c.form)
+IsApproached roles flags (Below q) told names c = IsShortBelow told names c roles flags q
+IsApproached roles flags (Above q) told names c = IsShortAbove told names c roles flags q
 
 -- the constraint of this number, taken -1 times, and the entries by which the negative of its form is held to its greatest value
 pub record IsOppositeCertificate (names : List Name) (q : Quantities) (f : Linear) (number : ℕ) (cert : List (ℕ × ℚ)) : Type 0 where
   pub found : List (ℕ × ℚ)
   pub falls : AreFormEntries names q (negated_form f) found
   pub is : cert ≡ (number, neg_ℚ 1ℚ) ∷ found
+
+-- the equation of this number, taken -1 times, with the members of the columns of the row with the other sign, of which those that are
+-- dropped allow their multipliers
+pub record IsOppositeRowCertificate (told : List Constraint) (names : List Name) (number : ℕ) (own : Row) (cert : List (ℕ × ℚ)) : Type 0 where
+  pub allowed : AllByRecursion (IsAllowed told) (entries (number_in names) (products_of (negated own.dropped)))
+  pub is : cert ≡ (number, neg_ℚ 1ℚ) ∷ entries (number_in names) (products_of (negated own.live)) ++ entries (number_in names) (products_of (negated own.dropped))
 
 -- none has fallen, the quantity is named, the quantities are as they were, and these of the variables have a value
 pub record IsConcluded (told : List Constraint) (names : List Name) (q : Quantities) (before : List VarId) (fallen : Option ℕ) (new_names : List Name) (new : Quantities)

@@ -9,8 +9,10 @@ ghost use Rattle.spec_linear.specs.Form.{negated_form};
 ghost use Rattle.spec_limits.specs.Asked.{NoQuestion};
 ghost use Rattle.spec_lists.specs.Prefixes.{IsPrefix};
 ghost use Rattle.cq_frac.specs.declared.Pair.{Pair};
+ghost use Rattle.cq_row.specs.Row.{Row};
+ghost use Rattle.cq_dict.specs.declared.table.Role.TheVariants.{Basic};
 ghost use Rattle.cq_dict.specs.DictValue.{quantities_of};
-ghost use Rattle.cq_dict.specs.Roles.{IsRow, AreOverColumns, HasEntry, constant_at};
+ghost use Rattle.cq_dict.specs.Roles.{IsAt, IsRow, AreOverColumns, HasEntry, constant_at};
 ghost use Rattle.cq_simplex.specs.declared.SimplexFault.TheVariants as of_search;
 ghost use Rattle.cq_tableau.specs.declared.names.Name.TheVariants.{Member};
 ghost use Rattle.cq_tableau.specs.Numbered.{AreNumbered};
@@ -20,7 +22,7 @@ ghost use Rattle.cq_tableau.specs.Stored.{IsKnown, IsStored, IsBetween};
 ghost use Rattle.cq_linear.specs.declared.store.StoreFault.TheVariants.{Overflow, Pivots};
 ghost use Rattle.cq_linear.specs.Alone.{IsNewIn};
 ghost use Rattle.cq_linear.specs.Entered.{IfJoined, IsJoined, IsRefuted, CanJoin};
-ghost use Rattle.cq_linear.specs.Equated.{IsRowBehind, Crosses, IsLevelRow, HasNoLiveEntry, IsHeldBy, IsHeldColumn, StayNumbered, IsConcluded, IsFound, StaysBelow, IsToJoinSome, OfJoining, IsApproached, IsOppositeCertificate};
+ghost use Rattle.cq_linear.specs.Equated.{IsRowBehind, Crosses, IsLevelRow, HasNoLiveEntry, IsHeldBy, IsHeldColumn, StayNumbered, IsConcluded, IsFound, StaysBelow, IsToJoinSome, OfJoining, IsApproached, IsOppositeCertificate, IsOppositeRowCertificate};
 ghost use Rattle.cq_linear.specs.StoreValue.{MayRefuse, MayTake, Only};
 ghost use Rattle.cq_linear.specs.Fallen.{FallsAt};
 
@@ -34,13 +36,14 @@ use cq_form::{Cert, Constraint, Form};
 use cq_frac::{Frac, VarId};
 use cq_level::choosing::lightest_column;
 use cq_level::levelling::{Levelled, level};
-use cq_row::Entry;
+use cq_row::{Entry, opposed};
 use cq_simplex::SimplexFault;
 use cq_tableau::fixing::{fixed_now, open_among, open_variables};
 use cq_tableau::looking::look_again;
 use cq_tableau::names::Name;
 use cq_tableau::negating::negated;
 use cq_tableau::placing::place;
+use cq_tableau::refuting::{add_members, are_allowed, certificate};
 use cq_tableau::restoring::form_entries;
 use cq_tableau::weighing::form_certificate;
 use cq_trail::{Stack, Undo};
@@ -54,10 +57,10 @@ enum Approached {
     Zero(usize),
     /// The row has values on both sides of zero, and where it is zero the column may take its place.
     Crossing(usize, Col),
-    /// The form is below zero at each solution.
-    Below,
-    /// It is above.
-    Above,
+    /// The row of this number is held below zero by its columns.
+    Below(usize),
+    /// It is held above.
+    Above(usize),
 }
 
 /// Names the quantity of a constraint that joins, and tells what it came to: a member falls by it, or none, and then these variables
@@ -354,7 +357,8 @@ fn enter_zero(
     }
 }
 
-/// The certificate for an equation whose form is below zero at each solution of the told list.
+/// The certificate for an equation whose form is below zero at each solution of the told list: the one that was read off its row, or
+/// else one that is sought.
 fn below_certificate(
     alloc: Global,
     pivots: u64,
@@ -363,18 +367,23 @@ fn below_certificate(
     dict: &mut Dict,
     told: &[Constraint],
     c: &Constraint,
+    read: Option<Cert>,
 ) -> Result<Cert, SimplexFault>
     requires equation { c.now.relation ≡ Eq }
     requires numbered { AreNumbered names.now.now numbers.now.entries }
     requires stored { IsStored told.now names.now.now (quantities_of dict.old) }
     requires knows { (x : ℕ) → Mentions x c.now.form.products → IsKnown names.now.now x }
     requires below { StaysBelow told.now c.now.form }
+    requires read { IfSome read (λ cert. Refutes cert (told.now ++ c.now ∷ [])) }
     ensures refuted { IfOk result (λ cert. Refutes cert (told.now ++ c.now ∷ [])) }
     ensures overflow { (pair : Pair) → result ≡ Err (of_search.Overflow pair) → MayRefuse told.now (Only c.now) NoQuestion pair }
     ensures pivots { (n : ℕ) → result ≡ Err (of_search.Pivots n) → (n ≡ pivots) × MayTake told.now (Only c.now) NoQuestion n }
     ensures saved { dict.new.saved ≡ dict.old.saved }
     ensures room { dict.old.room ≤ dict.new.room }
 {
+    if let Some(cert) = read {
+        return Ok(cert);
+    }
     form_certificate(alloc, pivots, numbers, names, dict, &c.form, told.len() + 1)
 }
 
@@ -419,7 +428,36 @@ fn opposite_certificate(
     Ok(Cert::new(entries))
 }
 
-/// The certificate for an equation whose form is above zero at each solution of the told list.
+/// The certificate that a row makes whose constant is its least value, for the equation of this number: the equation, taken -1 times,
+/// and what the row with the other sign makes of its columns.
+///
+/// None where a dropped column is for an inequality that may not be multiplied so.
+fn opposite_row_certificate(
+    alloc: Global,
+    told: &[Constraint],
+    names: &Stack<Name>,
+    dict: &Dict,
+    q: usize,
+    number: usize,
+) -> Result<Option<Cert>, AllocError>
+    requires { IsRow dict.now.roles q }
+    ensures { IfOk result (λ o. IfSome o (λ cert. (own : Row) → IsAt dict.now.roles q (Basic own)
+        → IsOppositeRowCertificate told.now names.now.now number own cert)) }
+{
+    let dropped = opposed(alloc, dict.dropped(q))?;
+    if !are_allowed(told, names, &dropped) {
+        return Ok(None);
+    }
+    let live = opposed(alloc, dict.row(q))?;
+    let mut entries = Vec::new(alloc);
+    entries.push((number, Frac::one().neg()))?;
+    add_members(&mut entries, names, &live)?;
+    add_members(&mut entries, names, &dropped)?;
+    Ok(Some(Cert::new(entries)))
+}
+
+/// The certificate for an equation whose form is above zero at each solution of the told list: the one that was read off its row, or
+/// else one that is sought.
 fn above_certificate(
     alloc: Global,
     pivots: u64,
@@ -428,18 +466,23 @@ fn above_certificate(
     dict: &mut Dict,
     told: &[Constraint],
     c: &Constraint,
+    read: Option<Cert>,
 ) -> Result<Cert, SimplexFault>
     requires equation { c.now.relation ≡ Eq }
     requires numbered { AreNumbered names.now.now numbers.now.entries }
     requires stored { IsStored told.now names.now.now (quantities_of dict.old) }
     requires knows { (x : ℕ) → Mentions x c.now.form.products → IsKnown names.now.now x }
     requires above { StaysBelow told.now (negated_form c.now.form) }
+    requires read { IfSome read (λ cert. Refutes cert (told.now ++ c.now ∷ [])) }
     ensures refuted { IfOk result (λ cert. Refutes cert (told.now ++ c.now ∷ [])) }
     ensures overflow { (pair : Pair) → result ≡ Err (of_search.Overflow pair) → MayRefuse told.now (Only c.now) NoQuestion pair }
     ensures pivots { (n : ℕ) → result ≡ Err (of_search.Pivots n) → (n ≡ pivots) × MayTake told.now (Only c.now) NoQuestion n }
     ensures saved { dict.new.saved ≡ dict.old.saved }
     ensures room { dict.old.room ≤ dict.new.room }
 {
+    if let Some(cert) = read {
+        return Ok(cert);
+    }
     opposite_certificate(alloc, pivots, numbers, names, dict, &c.form, told.len() + 1)
 }
 
@@ -471,14 +514,15 @@ fn approach(
         Levelled::Crossing(column) => Ok(Approached::Crossing(q, column)),
         Levelled::Short => {
             if dict.constant(q).is_positive() {
-                return Ok(Approached::Above);
+                return Ok(Approached::Above(q));
             }
-            Ok(Approached::Below)
+            Ok(Approached::Below(q))
         }
     }
 }
 
-/// Enters an equation behind the told list. Where its form can't be zero, the row is taken away again, and a certificate is sought.
+/// Enters an equation behind the told list. Where its form can't be zero, a certificate is read off the row, which is taken
+/// away again, or else one is sought.
 pub fn enter_equation(
     alloc: Global,
     pivots: u64,
@@ -515,14 +559,16 @@ pub fn enter_equation(
             dict.forget(start);
             enter_crossing(alloc, pivots, numbers, names, dict, told, c, q, column, new)
         }
-        Ok(Approached::Below) => {
+        Ok(Approached::Below(q)) => {
+            let read = certificate(alloc, told, names, dict, q, told.len() + 1);
             dict.undo(start);
-            let cert = below_certificate(alloc, pivots, numbers, names, dict, told, c)?;
+            let cert = below_certificate(alloc, pivots, numbers, names, dict, told, c, read?)?;
             Ok(Entered::Contradiction(cert))
         }
-        Ok(Approached::Above) => {
+        Ok(Approached::Above(q)) => {
+            let read = opposite_row_certificate(alloc, told, names, dict, q, told.len() + 1);
             dict.undo(start);
-            let cert = above_certificate(alloc, pivots, numbers, names, dict, told, c)?;
+            let cert = above_certificate(alloc, pivots, numbers, names, dict, told, c, read?)?;
             Ok(Entered::Contradiction(cert))
         }
         Err(fault) => {
@@ -569,7 +615,7 @@ pub fn can_enter_equation(
             )?;
             Ok(has_joined(entered))
         }
-        Approached::Below => Ok(false),
-        Approached::Above => Ok(false),
+        Approached::Below(_) => Ok(false),
+        Approached::Above(_) => Ok(false),
     }
 }

@@ -1,9 +1,10 @@
 //! The projection of a list of linear constraints on some of its variables: the rows of an answer.
 #![tactic(auto)]
 
-ghost use Rattle.std.specs.Prelude.{◌≡◌, ℕ, IfOk, IfErr};
+ghost use Rattle.std.specs.Prelude.{◌≡◌, ℕ, [], true, IfOk, IfErr};
 ghost use Rattle.spec_linear.specs.Solution.{Solvable};
 ghost use Rattle.spec_echelon.specs.Echelon.{AreDistinct};
+ghost use Rattle.spec_projection.specs.Projection.{disequations_of};
 ghost use Rattle.spec_limits.specs.Answers.{IsProjectionDue};
 ghost use Rattle.cq_frac.specs.declared.Pair.{Pair};
 ghost use Rattle.cq_store.specs.Told.{numbers_of};
@@ -13,13 +14,14 @@ ghost use Rattle.cq_eliminate.specs.Faults.{IfRows};
 ghost use Rattle.cq_projection.specs.Projecting.{IsProjection};
 
 use cq_arrange::{PrintedRow, arranged};
-use cq_eliminate::ProjectFault;
+use cq_eliminate::{ProjectFault, see_forms};
 use cq_form::Constraint;
 use cq_frac::VarId;
 use cq_keep::kept_of;
 use cq_keep::variables::joined;
 use cq_last::last_rows;
 use cq_project::Equation;
+use spec_linear::Relation;
 use std::alloc::Global;
 
 /// How many rows there may be at most while variables are eliminated.
@@ -35,10 +37,9 @@ pub struct Rows {
     pub kept: Vec<VarId>,
 }
 
-/// The rows over `keep`, and over variables that are kept for disequations, that leave these variables just the solutions of
-/// the constraints. `Rows` before an elimination that would leave more rows than the limit. No call of a store makes more
-/// than `pivots` exchanges.
-pub fn project_rows(
+/// The rows over `keep` and the variables that are kept beside them: what of the list is kept, its last rows, and these in
+/// order.
+fn rows_by_steps(
     alloc: Global,
     told: &[Constraint],
     keep: &[VarId],
@@ -73,6 +74,56 @@ pub fn project_rows(
         disequations,
         kept: kept.variables,
     })
+}
+
+/// Whether the list has no disequation.
+fn has_no_disequation(told: &[Constraint]) -> bool
+    ensures { result ≡ true → disequations_of told.now ≡ [] }
+{
+    'told: for row in told {
+        if let Relation::Ne = row.relation {
+            return false;
+        }
+    }
+    true
+}
+
+/// The rows over no variable, where no disequation keeps one: none, since the list has a solution.
+fn no_rows(alloc: Global, told: &[Constraint]) -> Rows
+    requires solvable { Solvable told.now }
+    requires equal { disequations_of told.now ≡ [] }
+    ensures { IsProjection [] told.now result }
+{
+    see_forms(told);
+    Rows {
+        equations: Vec::new(alloc),
+        inequalities: Vec::new(alloc),
+        disequations: Vec::new(alloc),
+        kept: Vec::new(alloc),
+    }
+}
+
+/// The rows over `keep`, and over variables that are kept for disequations, that leave these variables just the solutions of
+/// the constraints. `Rows` before an elimination that would leave more rows than the limit. No call of a store makes more
+/// than `pivots` exchanges.
+pub fn project_rows(
+    alloc: Global,
+    told: &[Constraint],
+    keep: &[VarId],
+    pivots: u64,
+    limit: u64,
+) -> Result<Rows, ProjectFault>
+    requires solvable { Solvable told.now }
+    requires distinct { AreDistinct (numbers_of keep.now) }
+    ensures rows { IfOk result (IsProjection (numbers_of keep.now) told.now) }
+    ensures overflow { (pair : Pair) → result ≡ Err (Overflow pair) → IsRefusedAnswering (numbers_of keep.now) told.now pair }
+    ensures pivots { (n : ℕ) → result ≡ Err (Pivots n) → (n ≡ pivots) × IsSpentAnswering (numbers_of keep.now) told.now n }
+    ensures limit { IfErr result (λ fault. IfRows fault (IsProjectionDue (numbers_of keep.now) told.now limit)) }
+{
+    if keep.is_empty() && has_no_disequation(told) {
+        return Ok(no_rows(alloc, told));
+    }
+    rows_by_steps(alloc, told, keep, pivots, limit)
 }
 
 /// The rows over `keep`, with at most 4096 rows while variables are eliminated.

@@ -41,40 +41,39 @@ pub(crate) fn match_head(
     ensures saved { heap.new.saved ≡ heap.old.saved }
     ensures room { heap.old.room ≤ heap.new.room }
 {
+    let mut goals = heap.spare_list();
+    goals.push(goal)?;
     let mut walk = Walk {
         place: 0,
         met: 0,
-        goals: heap.spare_list(),
+        goals,
     };
-    let matched = match_from(heap, newly, head, first, goal, &mut walk)?;
+    let matched = match_from(heap, newly, head, first, &mut walk)?;
     let Walk { goals, .. } = walk;
     heap.keep_list(goals);
     Ok(matched)
 }
 
-/// The same from a place of the head on, of which the term of the goal was taken off the walk.
+/// The same from a place of the head on.
 fn match_from(
     heap: &mut Heap,
     newly: &mut Newly,
     head: &[View],
     first: usize,
-    goal: TermId,
     walk: &mut Walk,
 ) -> Result<bool, AllocError>
-    requires { (c : Call) × IsNext c head.now first heap.old.now newly.old walk.old goal }
-    ensures matched { result ≡ Ok true → (c : Call) → IsNext c head.now first heap.old.now newly.old walk.old goal
+    requires walk { (c : Call) × IsAt c head.now first heap.old.now newly.old walk.old }
+    requires within { walk.old.place ≤ length head.now }
+    ensures matched { result ≡ Ok true → (c : Call) → IsAt c head.now first heap.old.now newly.old walk.old
         → (place : ℕ) × (met : ℕ) × Walked c head.now first heap.new.now newly.new place met [] }
-    ensures none { result ≡ Ok false → (c : Call) → IsNext c head.now first heap.old.now newly.old walk.old goal → HasNoUnifier c.goal }
+    ensures none { result ≡ Ok false → (c : Call) → IsAt c head.now first heap.old.now newly.old walk.old → HasNoUnifier c.goal }
     ensures told { (more : List VarId) × (newly.new ≡ newly.old ++ more) }
     ensures names { OnOk result ((n : ℕ) → All (IsNamedBelow n) head.now → KeepsNames n heap.old.now heap.new.now) }
     ensures saved { heap.new.saved ≡ heap.old.saved }
     ensures room { heap.old.room ≤ heap.new.room }
 {
-    if !step(heap, newly, head, first, goal, walk)? {
-        return Ok(false);
-    }
-    while let Some(next) = walk.goals.pop() {
-        if !step(heap, newly, head, first, next, walk)? {
+    while let Some(goal) = walk.goals.pop() {
+        if !step(heap, newly, head, first, goal, walk)? {
             return Ok(false);
         }
     }

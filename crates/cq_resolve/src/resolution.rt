@@ -1,12 +1,10 @@
 // A goal resolved with a clause.
 
 ghost use Rattle.std.specs.Prelude.{◌≡◌, ◌≢◌, ◌<◌, ◌≤◌, ◌++◌, ℕ, List, length, All, Ok, Some, None};
-ghost use Rattle.spec_terms.specs.Term.{Occurs};
 ghost use Rattle.spec_terms.specs.Unifier.{HasNoUnifier};
 ghost use Rattle.cq_frac.specs.declared.VarId.{VarId};
 ghost use Rattle.cq_term.specs.Names.{KeepsNames};
 ghost use Rattle.cq_term.specs.Meaning.{at};
-ghost use Rattle.cq_term.specs.Shown.{IsUnbound};
 ghost use Rattle.cq_stored.specs.StoredValue.{HaveNamesBelow};
 ghost use Rattle.cq_resolve.specs.Resolved.{Resolves, call};
 

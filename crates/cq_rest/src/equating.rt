@@ -11,8 +11,8 @@ use cq_unify::unify;
 use cq_walk::Pair;
 use std::alloc::AllocError;
 
-/// Makes pairs of terms equal, one after another, and gives the variables that were bound; None where nothing makes all of
-/// them equal. Then, and after want of memory, some may be equal: the caller undoes.
+/// Makes pairs of terms equal, one after another, and gives the variables that were bound, in a list that the heap lends; None
+/// where nothing makes all of them equal. Then, and after want of memory, some may be equal: the caller undoes.
 pub fn equate(heap: &mut Heap, pairs: &[Pair]) -> Result<Option<Newly>, AllocError>
     requires { All (MayBeEqual heap.old.now) pairs.now }
     ensures equal { IfOk result (λ r. IfSome r (AllEqual heap.old.now heap.new.now pairs.now)) }
@@ -21,7 +21,7 @@ pub fn equate(heap: &mut Heap, pairs: &[Pair]) -> Result<Option<Newly>, AllocErr
     ensures saved { heap.new.saved ≡ heap.old.saved }
     ensures room { heap.old.room ≤ heap.new.room }
 {
-    let mut newly = Newly::new(heap.alloc());
+    let mut newly = heap.spare_newly();
     for pair in pairs {
         if !unify(heap, &mut newly, pair.left, pair.right)? {
             return Ok(None);

@@ -7,8 +7,12 @@ use Rattle.spec_branch.specs.Branch.{Branch}
 use Rattle.spec_search.specs.Control.{user_row}
 use Rattle.spec_search.specs.Replies.{Place, Raises}
 use Rattle.cq_built.specs.Errors.{error_tree}
+use Rattle.cq_built.specs.declared.errors.BuiltinError.TheVariants.{UnknownProcedure}
 use Rattle.cq_calls.specs.Calling.{CallBecomes}
+use Rattle.cq_calls.specs.declared.calling.Called.{Called}
+use Rattle.cq_calls.specs.declared.calling.Called.TheVariants as called
 use Rattle.cq_term.specs.Meaning.{HeapTerm}
+use Rattle.cq_term.specs.declared.names.Pred.{Pred}
 use Rattle.cq_machine.specs.declared.machine.Machine.{Machine}
 use Rattle.cq_machine.specs.declared.step.Step.{Step}
 use Rattle.cq_machine.specs.declared.step.Step.TheVariants as step
@@ -27,6 +31,12 @@ IsCall m (step.Refuses pair) p behind goal = ⊥
 abbrev pub Calls : Machine → Machine → ℕ → ℕ → Step → Type 0
 Calls old new id rest s = (height : ℕ) (p : Place) (behind : List Branch) (goal : Tree) → IsSelectedAt old id height rest p behind goal
     → IsCall new s p behind goal
+
+-- what a call of the predicate came to, as the step of its goal
+abbrev pub step_of : Pred → Called → Step
+step_of pred (called.Goes k) = step.Goes k
+step_of pred called.Back = step.Back
+step_of pred called.Unknown = step.Raises (UnknownProcedure pred)
 
 -- ---- terms that are called
 

@@ -10,10 +10,10 @@ ghost use Rattle.cq_term.specs.Shown.{arguments};
 ghost use Rattle.cq_term.specs.Trees.{tree};
 ghost use Rattle.cq_machine.specs.Machines.{terms, IsSound, HasSameProgram, StillStands, HasBuilt};
 ghost use Rattle.cq_machine.specs.Stepping.{row_of, IsSelectedSomewhere, LeadsTo, CanGo, OnRaises};
-ghost use Rattle.cq_selected.specs.Calls.{Calls, HasName, HasNoName};
+ghost use Rattle.cq_selected.specs.Calls.{Calls, HasName, HasNoName, step_of};
 
 use cq_atoms::Atom;
-use cq_built::{BuiltinError, BuiltinFault};
+use cq_built::BuiltinFault;
 use cq_calls::Called;
 use cq_control::Continuation;
 use cq_machine::{Machine, Step, build};
@@ -27,14 +27,14 @@ pub fn call_procedure(
     predicate: Pred,
     goal: TermId,
     rest: Continuation,
-) -> Result<Step, AllocError>
+) -> Result<Called, AllocError>
     requires sound { IsSound m.old }
     requires selected { IsSelectedSomewhere m.old goal rest }
     requires goal { goal < length (terms m.old) }
     requires predicate { IsOf m.old.atoms predicate (tree m.old.atoms (terms m.old) goal) }
-    ensures row { IfOk result (Calls m.old m.new goal rest) }
-    ensures goes { IfOk result (CanGo m.new) }
-    ensures raises { IfOk result (λ s. OnRaises s (StillStands m.old m.new)) }
+    ensures row { IfOk result (λ c. Calls m.old m.new goal rest (step_of predicate c)) }
+    ensures goes { IfOk result (λ c. CanGo m.new (step_of predicate c)) }
+    ensures raises { IfOk result (λ c. OnRaises (step_of predicate c) (StillStands m.old m.new)) }
     ensures sound { IsSound m.new }
     ensures program { HasSameProgram m.old m.new }
     ensures err { OnErr result (StillStands m.old m.new) }
@@ -50,9 +50,9 @@ pub fn call_procedure(
         rest,
     )?;
     match found {
-        Called::Goes(k) => Ok(Step::Goes(k)),
-        Called::Back => Ok(Step::Back),
-        Called::Unknown => Ok(Step::Raises(BuiltinError::UnknownProcedure(predicate))),
+        Called::Goes(k) => Ok(Called::Goes(k)),
+        Called::Back => Ok(Called::Back),
+        Called::Unknown => Ok(Called::Unknown),
     }
 }
 

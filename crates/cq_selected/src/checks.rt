@@ -71,7 +71,8 @@ fn not_changeable(predicate: Pred) -> BuiltinError
 /// The first of some predicates that is built in.
 fn first_built_in(atoms: &Atoms, predicates: &[Pred]) -> Option<Pred>
     requires { All (λ p. p.name < length atoms.now) predicates.now }
-    ensures some { IfSome result (λ p. built_in_error is_built_in (map (indicator_of atoms.now) predicates.now) ≡ Some (not_changeable (indicator_of atoms.now p))) }
+    ensures some { IfSome result (λ p. built_in_error is_built_in (map (indicator_of atoms.now) predicates.now)
+        ≡ Some (not_changeable (indicator_of atoms.now p))) }
     ensures known { IfSome result (λ p. p.name < length atoms.now) }
     ensures none { IfNone result (built_in_error is_built_in (map (indicator_of atoms.now) predicates.now) ≡ None) }
 {

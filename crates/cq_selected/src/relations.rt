@@ -7,6 +7,7 @@ ghost use Rattle.cq_term.specs.Meaning.{at};
 ghost use Rattle.cq_term.specs.Shown.{arguments};
 ghost use Rattle.cq_machine.specs.Machines.{terms, IsSound, HasSameProgram, StillStands};
 ghost use Rattle.cq_machine.specs.Stepping.{row_of, IsSelectedSomewhere, LeadsTo, CanGo, OnRaises};
+ghost use Rattle.cq_selected.specs.Refusals.{OnRefuses};
 ghost use Rattle.cq_selected.specs.Stops.{StopsAt};
 
 use cq_begin::Begun;
@@ -58,6 +59,7 @@ pub fn evaluate_to(m: &mut Machine, goal: TermId, rest: Continuation) -> Result<
     ensures stop { IfErr result (λ f. (height : ℕ) → StopsAt m.old goal height rest (row_of Is) f) }
     ensures goes { IfOk result (CanGo m.new) }
     ensures raises { IfOk result (λ s. OnRaises s (StillStands m.old m.new)) }
+    ensures refuses { IfOk result (λ s. OnRefuses s (StillStands m.old m.new)) }
     ensures sound { IsSound m.new }
     ensures program { HasSameProgram m.old m.new }
     ensures err { OnErr result (StillStands m.old m.new) }

@@ -49,7 +49,8 @@ fn pass_mark(
         → Arrives steps texts v db n (saved_values world.new.first world.new.second.saved) choices.new (value world.new.first world.new.second.now)
         (past result start) s }
     ensures passes { IsPast result start (items_at world.new.second.now start) }
-    ensures older { KeepsOlder (saved_values world.old.first world.old.second.saved) choices.old (saved_values world.new.first world.new.second.saved) choices.new }
+    ensures older { KeepsOlder (saved_values world.old.first world.old.second.saved) choices.old
+        (saved_values world.new.first world.new.second.saved) choices.new }
     ensures budget { world.new.first.store.pivots ≡ world.old.first.store.pivots }
 {
     let Some((cell, rest)) = world.second.first(start) else {
@@ -84,7 +85,8 @@ fn pass_marks(
         → Stands texts v db n (saved_values world.old.first world.old.second.saved) choices.old (value world.old.first world.old.second.now) (Some start) s
         → Arrives steps texts v db n (saved_values world.new.first world.new.second.saved) choices.new (value world.new.first world.new.second.now) result s }
     ensures front { IfSome result (λ k. IsFront (items_at world.new.second.now k)) }
-    ensures older { KeepsOlder (saved_values world.old.first world.old.second.saved) choices.old (saved_values world.new.first world.new.second.saved) choices.new }
+    ensures older { KeepsOlder (saved_values world.old.first world.old.second.saved) choices.old
+        (saved_values world.new.first world.new.second.saved) choices.new }
     ensures budget { world.new.first.store.pivots ≡ world.old.first.store.pivots }
 {
     let mut current = start;
@@ -110,7 +112,8 @@ fn pass_from(
         → Stands texts v db n (saved_values world.old.first world.old.second.saved) choices.old (value world.old.first world.old.second.now) start s
         → Arrives steps texts v db n (saved_values world.new.first world.new.second.saved) choices.new (value world.new.first world.new.second.now) result s }
     ensures front { IfSome result (λ k. IsFront (items_at world.new.second.now k)) }
-    ensures older { KeepsOlder (saved_values world.old.first world.old.second.saved) choices.old (saved_values world.new.first world.new.second.saved) choices.new }
+    ensures older { KeepsOlder (saved_values world.old.first world.old.second.saved) choices.old
+        (saved_values world.new.first world.new.second.saved) choices.new }
     ensures budget { world.new.first.store.pivots ≡ world.old.first.store.pivots }
 {
     match start {
@@ -127,7 +130,8 @@ fn come_back(world: &mut Searching, choices: &mut Choices<Alternatives>) -> Came
         → Stands texts v db n (saved_values world.old.first world.old.second.saved) choices.old (value world.old.first world.old.second.now) None s
         → Arrives steps texts v db n (saved_values world.new.first world.new.second.saved) choices.new (value world.new.first world.new.second.now)
         (came_to result) s }
-    ensures older { KeepsOlder (saved_values world.old.first world.old.second.saved) choices.old (saved_values world.new.first world.new.second.saved) choices.new }
+    ensures older { KeepsOlder (saved_values world.old.first world.old.second.saved) choices.old
+        (saved_values world.new.first world.new.second.saved) choices.new }
     ensures budget { world.new.first.store.pivots ≡ world.old.first.store.pivots }
     ensures back { HasComeBack result choices.old choices.new }
 {
@@ -170,7 +174,8 @@ pub fn find_front(
         → Arrives steps texts v db n (saved_values world.new.first world.new.second.saved) choices.new (value world.new.first world.new.second.now) result s }
     ensures front { IfSome result (λ k. IsFront (items_at world.new.second.now k)) }
     ensures call { IfNone result (IsCall choices.new) }
-    ensures older { KeepsOlder (saved_values world.old.first world.old.second.saved) choices.old (saved_values world.new.first world.new.second.saved) choices.new }
+    ensures older { KeepsOlder (saved_values world.old.first world.old.second.saved) choices.old
+        (saved_values world.new.first world.new.second.saved) choices.new }
     ensures budget { world.new.first.store.pivots ≡ world.old.first.store.pivots }
 {
     let mut current = start;

@@ -147,7 +147,8 @@ pub fn cut(world: &mut Searching, choices: &mut Choices<Alternatives>, height: u
     ensures world { now_of world.new.first ≡ now_of world.old.first }
     ensures lists { world.new.second.now ≡ world.old.second.now }
     ensures choices { choices.new ≡ last height choices.old }
-    ensures older { KeepsOlder (saved_values world.old.first world.old.second.saved) choices.old (saved_values world.new.first world.new.second.saved) choices.new }
+    ensures older { KeepsOlder (saved_values world.old.first world.old.second.saved) choices.old
+        (saved_values world.new.first world.new.second.saved) choices.new }
     ensures marked { AreMarked (saved_values world.new.first world.new.second.saved) choices.new }
 {
     choices.cut(world, height);

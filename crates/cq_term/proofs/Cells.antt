@@ -155,10 +155,6 @@ module _ (x : Contents) (whole : IsWhole x) where
         (closed_cells x whole x.wide x.args (longer_same x) (cell.Var (length x.bound)) (Var (length x.bound)) (λ no. absurd no) i d h g);
   }
 
--- a variable that is bound from the start means what the term means
-pub images_with_bound : (x : Contents) (id : ℕ) → map (at (meant x)) (x.vars ++ id ∷ []) ≡ map (at (meant x)) x.vars ++ at (meant x) id ∷ []
-images_with_bound x id = map-append (at (meant x)) x.vars (id ∷ [])
-
 pub whole_bound : (x : Contents) → IsWhole x → (id : ℕ) → id < length x.cells → IsWhole (with_bound id x)
 whole_bound x whole id live = record {
   kept = whole.kept;

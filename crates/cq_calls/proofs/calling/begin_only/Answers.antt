@@ -31,7 +31,7 @@ begin_clause-requires-clause-clause c =
 pub returns-in-Goes-clause-comes : goal.returns-in-Goes-clause-comes
 returns-in-Goes-clause-comes c =
     only_comes c.args.atoms.now c.args.clauses.now (saved_values c.args.world.now.first c.args.world.now.second.saved) c.args.choices.now
-    (value c.args.world.now.first c.args.world.now.second.now) c.args.goal c.args.rest c.args.walk c.args.number c.requires.only c.requires.marked
+    (value c.args.world.now.first c.args.world.now.second.now) c.args.goal c.args.rest c.args.walk.now c.args.number c.requires.only c.requires.marked
     c.clause-clause.result.now (kept_is (goal.at.returns-in-Goes-clause-comes c).After-clause-clause) c.height-height.result c.height-height.ensures
     (value c.begin_clause.new.world c.begin_clause.new.lists.now) (Goes c.in-Goes.first) (rw c.in-Goes.is at c.in-Ok.ensures.comes)
     (saved_values c.begin_clause.new.world c.begin_clause.new.lists.saved)
@@ -55,7 +55,7 @@ returns-in-Goes-clause-there c = rw c.in-Goes.is at c.in-Ok.ensures.there
 pub returns-in-Pruned-clause-comes : goal.returns-in-Pruned-clause-comes
 returns-in-Pruned-clause-comes c =
     only_comes c.args.atoms.now c.args.clauses.now (saved_values c.args.world.now.first c.args.world.now.second.saved) c.args.choices.now
-    (value c.args.world.now.first c.args.world.now.second.now) c.args.goal c.args.rest c.args.walk c.args.number c.requires.only c.requires.marked
+    (value c.args.world.now.first c.args.world.now.second.now) c.args.goal c.args.rest c.args.walk.now c.args.number c.requires.only c.requires.marked
     c.clause-clause.result.now (kept_is (goal.at.returns-in-Pruned-clause-comes c).After-clause-clause) c.height-height.result c.height-height.ensures
     (value c.begin_clause.new.world c.begin_clause.new.lists.now) Pruned (rw c.in-Pruned.is at c.in-Ok.ensures.comes)
     (saved_values c.begin_clause.new.world c.begin_clause.new.lists.saved)
@@ -88,16 +88,16 @@ returns-in_ok-wait-in-Err-clause-comes c =
     let mid = value c.begin_clause.new.world c.begin_clause.new.lists.now in
     let more = saved_values c.wait.new.world.first c.wait.new.world.second.saved in
     waits_come c.args.atoms.now c.args.clauses.now (saved_values c.args.world.now.first c.args.world.now.second.saved) c.args.choices.now
-    now c.args.goal c.args.rest c.args.walk mid (same_grown c.args.atoms.now now.0 mid.0 now.1 mid.1 c.in-Err.ensures.err c.in-Err.ensures.keeps)
+    now c.args.goal c.args.rest c.args.walk.now mid (same_grown c.args.atoms.now now.0 mid.0 now.1 mid.1 c.in-Err.ensures.err c.in-Err.ensures.keeps)
     more c.wait.new.choices (value c.wait.new.world.first c.wait.new.world.second.now)
-    (subst (λ (l : List (Value Contents)). LeavesAlso l c.args.choices.now mid (Clauses c.args.goal c.args.walk c.args.rest) more c.wait.new.choices)
+    (subst (λ (l : List (Value Contents)). LeavesAlso l c.args.choices.now mid (Clauses c.args.goal c.args.walk.now c.args.rest) more c.wait.new.choices)
     (ap₂ (λ (x : List Contents) (y : List (List (List Cell))). zip x y) c.in-Err.ensures.saved c.in-Err.ensures.lists) c.in_ok-wait-in-Err.ensures.waits)
 
 pub returns-in_ok-wait-in-Err-clause-open : goal.returns-in_ok-wait-in-Err-clause-open
 returns-in_ok-wait-in-Err-clause-open c = λ o.
     let same = ap₂ (λ (x : List Contents) (y : List (List (List Cell))). zip x y) c.in-Err.ensures.saved c.in-Err.ensures.lists in
     opens_also c.args.atoms.now c.args.clauses.now (saved_values c.begin_clause.new.world c.begin_clause.new.lists.saved) c.args.choices.now
-    c.args.goal c.args.rest c.args.walk (value c.begin_clause.new.world c.begin_clause.new.lists.now)
+    c.args.goal c.args.rest c.args.walk.now (value c.begin_clause.new.world c.begin_clause.new.lists.now)
     (saved_values c.wait.new.world.first c.wait.new.world.second.saved) c.wait.new.choices c.in_ok-wait-in-Err.ensures.waits c.requires.walk
     (subst (λ (l : List (Value Contents)). AreOpen c.args.atoms.now c.args.clauses.now l c.args.choices.now) (sym same) o)
 

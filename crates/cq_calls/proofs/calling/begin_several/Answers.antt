@@ -25,7 +25,7 @@ try_from-requires-clause-rest c = subst (λ (ls : List (List Cell)). c.args.rest
 
 pub try_from-requires-clause-next : goal.try_from-requires-clause-next
 try_from-requires-clause-next c = record {
-  walk = c.args.walk;
+  walk = c.args.walk.now;
   trying = record {
     older = c.args.choices.now;
     newest = c.in_ok-wait.ensures.contents;
@@ -49,13 +49,13 @@ back_before old mid new (Some k) a b = tt
 pub returns-in-Ok-clause-comes : goal.returns-in-Ok-clause-comes
 returns-in-Ok-clause-comes c =
     waited_come c.args.atoms.now c.args.clauses.now (saved_values c.args.world.now.first c.args.world.now.second.saved) c.args.choices.now
-    (value c.args.world.now.first c.args.world.now.second.now) c.args.goal c.args.rest c.args.walk c.wait.new.world.first c.wait.new.world.second c.wait.new.choices
+    (value c.args.world.now.first c.args.world.now.second.now) c.args.goal c.args.rest c.args.walk.now c.wait.new.world.first c.wait.new.world.second c.wait.new.choices
     c.in_ok-wait.ensures.waits c.try_from.new.world.first c.try_from.new.world.second c.try_from.new.choices c.in-Ok.next c.in-Ok.ensures.comes
 
 pub returns-in-Err-clause-comes : goal.returns-in-Err-clause-comes
 returns-in-Err-clause-comes c =
     waited_come c.args.atoms.now c.args.clauses.now (saved_values c.args.world.now.first c.args.world.now.second.saved) c.args.choices.now
-    (value c.args.world.now.first c.args.world.now.second.now) c.args.goal c.args.rest c.args.walk c.wait.new.world.first c.wait.new.world.second c.wait.new.choices
+    (value c.args.world.now.first c.args.world.now.second.now) c.args.goal c.args.rest c.args.walk.now c.wait.new.world.first c.wait.new.world.second c.wait.new.choices
     c.in_ok-wait.ensures.waits c.try_from.new.world.first c.try_from.new.world.second c.try_from.new.choices None c.in-Err.ensures.err
 
 pub returns-in-Err-clause-back : goal.returns-in-Err-clause-back
@@ -70,14 +70,14 @@ pub returns-in-Ok-clause-open : goal.returns-in-Ok-clause-open
 returns-in-Ok-clause-open c = λ o.
     c.try_from.ensures.open
     (opens_also c.args.atoms.now c.args.clauses.now (saved_values c.args.world.now.first c.args.world.now.second.saved) c.args.choices.now
-    c.args.goal c.args.rest c.args.walk (value c.args.world.now.first c.args.world.now.second.now)
+    c.args.goal c.args.rest c.args.walk.now (value c.args.world.now.first c.args.world.now.second.now)
     (saved_values c.wait.new.world.first c.wait.new.world.second.saved) c.wait.new.choices c.in_ok-wait.ensures.waits c.requires.walk o)
 
 pub returns-in-Err-clause-open : goal.returns-in-Err-clause-open
 returns-in-Err-clause-open c = λ o.
     c.try_from.ensures.open
     (opens_also c.args.atoms.now c.args.clauses.now (saved_values c.args.world.now.first c.args.world.now.second.saved) c.args.choices.now
-    c.args.goal c.args.rest c.args.walk (value c.args.world.now.first c.args.world.now.second.now)
+    c.args.goal c.args.rest c.args.walk.now (value c.args.world.now.first c.args.world.now.second.now)
     (saved_values c.wait.new.world.first c.wait.new.world.second.saved) c.wait.new.choices c.in_ok-wait.ensures.waits c.requires.walk o)
 
 pub returns-in-Ok-clause-budget : goal.returns-in-Ok-clause-budget

@@ -14,4 +14,4 @@ begin_only-requires-clause-only c =
 pub returns-in_default-clause-comes : goal.returns-in_default-clause-comes
 returns-in_default-clause-comes c =
     none_comes c.args.atoms.now c.args.clauses.now (saved_values c.args.world.now.first c.args.world.now.second.saved) c.args.choices.now
-    (value c.args.world.now.first c.args.world.now.second.now) c.args.goal c.args.rest c.args.walk c.in_default.ensures.none
+    (value c.args.world.now.first c.args.world.now.second.now) c.args.goal c.args.rest c.args.walk.now c.in_default.ensures.none

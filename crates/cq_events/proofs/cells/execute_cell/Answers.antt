@@ -1,10 +1,16 @@
-use Rattle.std.proofs.Common.{◌∷◌, ap, subst, ◌∙◌}
+use Rattle.std.proofs.Common.{◌≡◌, ◌∷◌, ℕ, List, Option, None, Some, ap, subst, ◌∙◌}
+use Rattle.std.specs.Prelude.{IfSome}
 use Rattle.spec_syntax.specs.Trees.{Tree}
 use Rattle.spec_branch.specs.Branch.{read}
 use Rattle.spec_search.specs.Turns.{place_of}
 use Rattle.cq_control.specs.Items.{items_at}
 use Rattle.spec_machine.specs.declared.cell.Cell.{Cell}
+use Rattle.spec_machine.specs.declared.cell.Cell.TheVariants.{Goal}
+use Rattle.cq_table.specs.declared.builtins.Builtin.{Builtin}
+use Rattle.cq_machine.specs.declared.machine.Machine.{Machine}
 use Rattle.cq_execute.specs.Executions.{Reaches}
+use Rattle.cq_execute.specs.Rows.{IsCallOf}
+use Rattle.cq_events.specs.Turning.{CallsAt}
 use Rattle.cq_events.proofs.Selections.{goal_next, call_next}
 use Rattle.cq_events.proofs.Stops.{may_stop}
 use Rattle.cq_events.proofs.cells.execute_cell.Goals as goal
@@ -17,6 +23,17 @@ execute-requires-clause-selected c =
     let s = w.1 in
     let x = goal_next m w.0 c.args.k c.args.rest s w.2 f.earlier c.in-Goal.goal c.in-Goal.height (f.cells ∙ ap (λ (x : Cell). x ∷ items_at m.world.second.now c.args.rest) c.in-Goal.is) in
     (place_of s x.0.state x.0.items x.0.cut x.0.behind, x.0.behind, read x.0.state x.0.goal, x.1)
+
+some_known : (m : Machine) (k t height : ℕ) (cells : List Cell) (o : Option Builtin) → IfSome o (CallsAt m k) → items_at m.world.second.now k ≡ Goal t height ∷ cells
+    → IfSome o (IsCallOf m t)
+some_known m k t height cells None f e = tt
+some_known m k t height cells (Some b) f e = f t height cells e
+
+pub execute-requires-clause-known : goal.execute-requires-clause-known
+execute-requires-clause-known c =
+    let m = c.args.m.now in
+    some_known m c.args.k c.in-Goal.goal c.in-Goal.height (items_at m.world.second.now c.args.rest) c.args.known c.requires.known
+    (c.requires.front.cells ∙ ap (λ (x : Cell). x ∷ items_at m.world.second.now c.args.rest) c.in-Goal.is)
 
 pub returns-in-Ok-clause-row : goal.returns-in-Ok-clause-row
 returns-in-Ok-clause-row c = λ n s j.

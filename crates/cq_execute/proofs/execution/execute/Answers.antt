@@ -1,15 +1,28 @@
-use Rattle.cq_machine.specs.Machines.{now}
+use Rattle.std.proofs.Common.{◌<◌, ℕ, length}
+use Rattle.cq_machine.specs.declared.machine.Machine.{Machine}
+use Rattle.cq_machine.specs.Machines.{now, terms, IsSound}
+use Rattle.cq_selected.specs.Stops.{IsSelectedFrom}
+use Rattle.cq_execute.specs.Rows.{IsAtGoal}
 use Rattle.cq_execute.proofs.execution.execute.Goals as goal
+
+at_goal : (m : Machine) (id height rest : ℕ) → IsSound m → (s : IsSelectedFrom m id height rest) → id < length (terms m) → IsAtGoal m id height rest
+at_goal m id height rest sound s live = record { sound = sound; selected = s; live = live; there = s.3.selected.place.continuation.there }
+
+pub execute_builtin-requires-clause-at : goal.execute_builtin-requires-clause-at
+execute_builtin-requires-clause-at c =
+    let m = c.args.m.now in
+    let s = c.requires.selected.3 in
+    at_goal m c.args.goal c.args.height c.args.rest c.requires.sound c.requires.selected
+    (c.selected_goals_lead.ensures.there m.atoms (now m).0 c.args.goal c.requires.selected.2 s.reads.0)
+
+pub execute_builtin-requires-clause-calls : goal.execute_builtin-requires-clause-calls
+execute_builtin-requires-clause-calls c = rw c.in-Some.is at c.requires.known
 
 pub execute_goal-requires : goal.execute_goal-requires
 execute_goal-requires c =
     let m = c.args.m.now in
     let s = c.requires.selected.3 in
     record {
-      at = record {
-        sound = c.requires.sound;
-        selected = c.requires.selected;
-        live = c.selected_goals_lead.ensures.there m.atoms (now m).0 c.args.goal c.requires.selected.2 s.reads.0;
-        there = s.selected.place.continuation.there;
-      };
+      at = at_goal m c.args.goal c.args.height c.args.rest c.requires.sound c.requires.selected
+          (c.selected_goals_lead.ensures.there m.atoms (now m).0 c.args.goal c.requires.selected.2 s.reads.0);
     }

@@ -4,7 +4,7 @@ use Rattle.cq_dict.specs.DictValue.{quantities_of}
 use Rattle.cq_level.specs.Levelled.{IsLevelled}
 use Rattle.cq_tableau.proofs.Passed.{searched, never_searched, search_passed, search_spent}
 use Rattle.cq_tableau.proofs.Storing.{entries_below}
-use Rattle.cq_linear.specs.Equated.{IsRowBehind, Crosses}
+use Rattle.cq_linear.specs.Equated.{IsRowBehind, Crosses, IsShortBelow, IsShortAbove}
 use Rattle.cq_linear.proofs.Approach.{row_feasible, moved_behind, crosses_there, level_refused, level_spent, short_above, short_below, joining_behind, joining_refused}
 use Rattle.cq_linear.proofs.Equations.{unflagged, free_crosses}
 use Rattle.cq_linear.proofs.equating.approach.Goals as goal
@@ -90,9 +90,10 @@ returns-then-is_positive-clause-approached c = λ told names k j.
     let q = c.in_ok-q.q in
     let b = joining_behind told names k (quantities_of c.args.dict.now) c.args.places.now c.args.constant j (quantities_of mid) x.roles x.value x.table x.flags q x.number in
     let l = subst (IsLevelled q mid.roles mid.restricted new) c.in-Short.is c.in_ok-level.ensures.levelled in
-    let r = l.0.row in
-    short_above told names k new mid.restricted q (moved_behind told names k mid.roles mid.restricted q b new l.0) r.0 r.1 l.1
-    (subst IsPositive (c.constant.ensures r.0 r.1) (c.is_positive.ensures.positive.0 c.if-is_positive.true))
+    let m = moved_behind told names k mid.roles mid.restricted q b new l.0 in
+    subst (λ (g : List Bool). IsShortAbove told names k new g q) (sym c.in_ok-level.ensures.flags)
+    (short_above told names k new mid.restricted q m l.1
+    (subst IsPositive (c.constant.ensures m.row.0 m.row.1) (c.is_positive.ensures.positive.0 c.if-is_positive.true)))
 
 pub returns-else-is_positive-clause-approached : goal.returns-else-is_positive-clause-approached
 returns-else-is_positive-clause-approached c = λ told names k j.
@@ -102,9 +103,10 @@ returns-else-is_positive-clause-approached c = λ told names k j.
     let q = c.in_ok-q.q in
     let b = joining_behind told names k (quantities_of c.args.dict.now) c.args.places.now c.args.constant j (quantities_of mid) x.roles x.value x.table x.flags q x.number in
     let l = subst (IsLevelled q mid.roles mid.restricted new) c.in-Short.is c.in_ok-level.ensures.levelled in
-    let r = l.0.row in
-    short_below told names k new mid.restricted q (moved_behind told names k mid.roles mid.restricted q b new l.0) r.0 r.1 l.1
-    (λ p. let t = c.is_positive.ensures.positive.1 (subst IsPositive (sym (c.constant.ensures r.0 r.1)) p) in let f = c.if-is_positive.false in cc)
+    let m = moved_behind told names k mid.roles mid.restricted q b new l.0 in
+    subst (λ (g : List Bool). IsShortBelow told names k new g q) (sym c.in_ok-level.ensures.flags)
+    (short_below told names k new mid.restricted q m l.1
+    (λ p. let t = c.is_positive.ensures.positive.1 (subst IsPositive (sym (c.constant.ensures m.row.0 m.row.1)) p) in let f = c.if-is_positive.false in cc))
 
 pub returns-in_err-q-clause-overflow : goal.returns-in_err-q-clause-overflow
 returns-in_err-q-clause-overflow c = λ pair e told names k j.

@@ -11,7 +11,7 @@ use Rattle.cq_linear.specs.Alone.{IsPlaceBehind}
 use Rattle.cq_linear.proofs.Alone.{new_if}
 use Rattle.cq_linear.specs.Equated.{IsRowBehind, Crosses, StaysBelow, OfJoining, IsApproached}
 use Rattle.cq_linear.specs.StoreValue.{MayRefuse, MayTake, Only}
-use Rattle.cq_linear.proofs.Approach.{joining}
+use Rattle.cq_linear.proofs.Approach.{joining, stays_below, stays_above}
 use Rattle.cq_linear.proofs.Passed.{search_refused, spent, store_spent}
 use Rattle.cq_linear.proofs.Possible.{below_never, above_never}
 use Rattle.cq_linear.proofs.equating.can_enter_equation.Goals as goal
@@ -102,7 +102,7 @@ returns-in-Below-clause-solvable c =
     let new = c.approach.new.dict in
     let a = subst (λ (y : Approached). OfJoining (quantities_of c.place.new.dict) c.deref-2.result.now c.constant.result (IsApproached new.roles new.restricted y)) c.in-Below.is
     c.in_ok-q.ensures.approached in
-    below_never told c.args.c.now c.requires.equation (subst (λ (z : Constraint). StaysBelow told z.form) c.c.view_is (a told names k j))
+    below_never told c.args.c.now c.requires.equation (subst (λ (z : Constraint). StaysBelow told z.form) c.c.view_is (stays_below told names k new.roles new.restricted _ (a told names k j)))
 
 pub returns-clause-solvable : goal.returns-clause-solvable
 returns-clause-solvable c =
@@ -114,7 +114,7 @@ returns-clause-solvable c =
     let new = c.approach.new.dict in
     let a = subst (λ (y : Approached). OfJoining (quantities_of c.place.new.dict) c.deref-2.result.now c.constant.result (IsApproached new.roles new.restricted y)) c.in-Above.is
     c.in_ok-q.ensures.approached in
-    above_never told c.args.c.now c.requires.equation (subst (λ (z : Constraint). StaysBelow told (negated_form z.form)) c.c.view_is (a told names k j))
+    above_never told c.args.c.now c.requires.equation (subst (λ (z : Constraint). StaysBelow told (negated_form z.form)) c.c.view_is (stays_above told names k new.roles new.restricted _ (a told names k j)))
 
 pub returns-in_err-entered-in-Zero-clause-pivots : goal.returns-in_err-entered-in-Zero-clause-pivots
 returns-in_err-entered-in-Zero-clause-pivots c = λ n e.

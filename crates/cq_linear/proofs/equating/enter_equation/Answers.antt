@@ -15,9 +15,10 @@ use Rattle.cq_linear.specs.declared.store.StoreFault.TheVariants.{Overflow, Pivo
 use Rattle.cq_row.specs.declared.Entry.{Entry}
 use Rattle.cq_linear.specs.Alone.{IsPlaceBehind}
 use Rattle.cq_linear.proofs.Alone.{new_if}
-use Rattle.cq_linear.specs.Equated.{IsRowBehind, Crosses, StaysBelow, OfJoining, IsApproached}
+use Rattle.cq_linear.specs.Equated.{IsRowBehind, Crosses, StaysBelow, IsShortBelow, IsShortAbove, OfJoining, IsApproached}
 use Rattle.cq_linear.specs.StoreValue.{MayRefuse, MayTake, Only}
-use Rattle.cq_linear.proofs.Approach.{joining}
+use Rattle.cq_linear.proofs.Approach.{joining, stays_below, stays_above}
+use Rattle.cq_linear.proofs.Against.{read_below, read_above}
 use Rattle.cq_linear.proofs.Passed.{told_pair, told_number, one_fault, spent}
 use Rattle.cq_linear.proofs.equating.enter_equation.Goals as goal
 
@@ -71,6 +72,57 @@ enter_crossing-requires-clause-crosses c =
     subst (λ (z : Quantities). Crosses told names c.args.c.now z.roles z.restricted c.in-Ok-Crossing.q c.in-Ok-Crossing.column) (sym c.forget-in-Ok-Crossing.ensures.now)
     (subst (λ (z : Constraint). Crosses told names z new.roles new.restricted c.in-Ok-Crossing.q c.in-Ok-Crossing.column) c.c.view_is (a told names k j))
 
+-- what the row makes
+pub certificate-read-requires : goal.certificate-read-requires
+certificate-read-requires c =
+    let told = c.args.told.now in
+    let names = c.place.new.names.now in
+    let k : Constraint = record { relation = c.c.inside.relation; form = c.c.inside.form } in
+    let p = c.in_ok-places.ensures in
+    let new = c.approach.new.dict in
+    let j = joining told names k _ _ c.mark.ensures.now (p.stored told c.requires.stored) _ _ c.deref-2.ensures.value p.placed p.in_order _ c.constant.ensures in
+    let a = subst (λ (y : Approached). OfJoining (quantities_of c.mark.new.self) c.deref-2.result.now c.constant.result (IsApproached new.roles new.restricted y)) c.in-Ok-Below.field-0-is
+    c.in-Ok-Below.ensures.approached in
+    (a told names k j).behind.row
+
+pub below_certificate-requires-clause-read : goal.below_certificate-requires-clause-read
+below_certificate-requires-clause-read c =
+    let told = c.args.told.now in
+    let names = c.place.new.names.now in
+    let k : Constraint = record { relation = c.c.inside.relation; form = c.c.inside.form } in
+    let p = c.in_ok-places.ensures in
+    let new = c.approach.new.dict in
+    let j = joining told names k _ _ c.mark.ensures.now (p.stored told c.requires.stored) _ _ c.deref-2.ensures.value p.placed p.in_order _ c.constant.ensures in
+    let a = subst (λ (y : Approached). OfJoining (quantities_of c.mark.new.self) c.deref-2.result.now c.constant.result (IsApproached new.roles new.restricted y)) c.in-Ok-Below.field-0-is
+    c.in-Ok-Below.ensures.approached in
+    read_below told names c.args.c.now new.roles new.restricted c.in-Ok-Below.q c.requires.equation
+    (subst (λ (z : Constraint). IsShortBelow told names z new.roles new.restricted c.in-Ok-Below.q) c.c.view_is (a told names k j)) _ c.in_ok-read-in-Ok-Below.ensures
+
+pub opposite_row_certificate-read-requires : goal.opposite_row_certificate-read-requires
+opposite_row_certificate-read-requires c =
+    let told = c.args.told.now in
+    let names = c.place.new.names.now in
+    let k : Constraint = record { relation = c.c.inside.relation; form = c.c.inside.form } in
+    let p = c.in_ok-places.ensures in
+    let new = c.approach.new.dict in
+    let j = joining told names k _ _ c.mark.ensures.now (p.stored told c.requires.stored) _ _ c.deref-2.ensures.value p.placed p.in_order _ c.constant.ensures in
+    let a = subst (λ (y : Approached). OfJoining (quantities_of c.mark.new.self) c.deref-2.result.now c.constant.result (IsApproached new.roles new.restricted y)) c.in-Ok-Above.field-0-is
+    c.in-Ok-Above.ensures.approached in
+    (a told names k j).behind.row
+
+pub above_certificate-requires-clause-read : goal.above_certificate-requires-clause-read
+above_certificate-requires-clause-read c =
+    let told = c.args.told.now in
+    let names = c.place.new.names.now in
+    let k : Constraint = record { relation = c.c.inside.relation; form = c.c.inside.form } in
+    let p = c.in_ok-places.ensures in
+    let new = c.approach.new.dict in
+    let j = joining told names k _ _ c.mark.ensures.now (p.stored told c.requires.stored) _ _ c.deref-2.ensures.value p.placed p.in_order _ c.constant.ensures in
+    let a = subst (λ (y : Approached). OfJoining (quantities_of c.mark.new.self) c.deref-2.result.now c.constant.result (IsApproached new.roles new.restricted y)) c.in-Ok-Above.field-0-is
+    c.in-Ok-Above.ensures.approached in
+    read_above told names c.args.c.now new.roles new.restricted c.in-Ok-Above.q c.requires.equation
+    (subst (λ (z : Constraint). IsShortAbove told names z new.roles new.restricted c.in-Ok-Above.q) c.c.view_is (a told names k j)) _ c.in_ok-read-in-Ok-Above.ensures
+
 -- what is there once the row is taken away again
 pub below_certificate-requires-clause-stored : goal.below_certificate-requires-clause-stored
 below_certificate-requires-clause-stored c =
@@ -96,7 +148,7 @@ below_certificate-requires-clause-below c =
     let j = joining told names k _ _ c.mark.ensures.now (p.stored told c.requires.stored) _ _ c.deref-2.ensures.value p.placed p.in_order _ c.constant.ensures in
     let a = subst (λ (y : Approached). OfJoining (quantities_of c.mark.new.self) c.deref-2.result.now c.constant.result (IsApproached new.roles new.restricted y)) c.in-Ok-Below.field-0-is
     c.in-Ok-Below.ensures.approached in
-    subst (λ (z : Constraint). StaysBelow told z.form) c.c.view_is (a told names k j)
+    subst (λ (z : Constraint). StaysBelow told z.form) c.c.view_is (stays_below told names k new.roles new.restricted c.in-Ok-Below.q (a told names k j))
 
 pub returns-in_err-cert-in-Ok-Below-clause-pivots : goal.returns-in_err-cert-in-Ok-Below-clause-pivots
 returns-in_err-cert-in-Ok-Below-clause-pivots c = λ n e.
@@ -132,7 +184,7 @@ above_certificate-requires-clause-above c =
     let j = joining told names k _ _ c.mark.ensures.now (p.stored told c.requires.stored) _ _ c.deref-2.ensures.value p.placed p.in_order _ c.constant.ensures in
     let a = subst (λ (y : Approached). OfJoining (quantities_of c.mark.new.self) c.deref-2.result.now c.constant.result (IsApproached new.roles new.restricted y)) c.in-Ok-Above.field-0-is
     c.in-Ok-Above.ensures.approached in
-    subst (λ (z : Constraint). StaysBelow told (negated_form z.form)) c.c.view_is (a told names k j)
+    subst (λ (z : Constraint). StaysBelow told (negated_form z.form)) c.c.view_is (stays_above told names k new.roles new.restricted c.in-Ok-Above.q (a told names k j))
 
 pub returns-clause-overflow : goal.returns-clause-overflow
 returns-clause-overflow c = λ pair e.

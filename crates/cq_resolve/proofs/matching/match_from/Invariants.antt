@@ -3,12 +3,12 @@ use Rattle.std.specs.Prelude.{All}
 use Rattle.cq_frac.specs.declared.VarId.{VarId}
 use Rattle.cq_stored.specs.Pattern.{IsNamedBelow}
 use Rattle.cq_term.specs.Names.{KeepsNames}
-use Rattle.cq_resolve.specs.Matching.{Call, IsAt, IsNext}
+use Rattle.cq_resolve.specs.Matching.{Call, IsAt}
 use Rattle.cq_resolve.proofs.matching.match_from.Given as goal
 
-abbrev pub invariant-loop-next : goal.invariant-loop-next
-invariant-loop-next l = record {
-  matching : (c : Call) → IsNext c l.head l.first l.fn.heap.now l.fn.newly l.fn.walk l.fn.goal → IsAt c l.head l.first l.heap.now l.newly l.walk;
+abbrev pub invariant-loop-goal : goal.invariant-loop-goal
+invariant-loop-goal l = record {
+  matching : (c : Call) → IsAt c l.head l.first l.fn.heap.now l.fn.newly l.fn.walk → IsAt c l.head l.first l.heap.now l.newly l.walk;
   within : l.walk.place ≤ length l.head;
   told : (more : List VarId) × (l.newly ≡ l.fn.newly ++ more);
   names : (n : ℕ) → All (IsNamedBelow n) l.head → KeepsNames n l.fn.heap.now l.heap.now;
@@ -16,5 +16,5 @@ invariant-loop-next l = record {
   room : l.fn.heap.room ≤ l.heap.room;
 }
 
-abbrev pub decreases-loop-next : goal.decreases-loop-next
-decreases-loop-next l = length l.head - l.walk.place
+abbrev pub decreases-loop-goal : goal.decreases-loop-goal
+decreases-loop-goal l = length l.head - l.walk.place

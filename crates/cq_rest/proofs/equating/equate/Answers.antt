@@ -1,16 +1,24 @@
-use Rattle.std.proofs.Common.{◌<◌, [], Ok, List, length, refl, ap, ◌∙◌, sym, subst, arith}
+use Rattle.std.proofs.Common.{◌≡◌, ◌<◌, [], Ok, List, length, ap, ◌∙◌, sym, subst, arith}
+use Rattle.std.specs.Prelude.{All}
 use Rattle.cq_frac.specs.declared.VarId.{VarId}
+use Rattle.cq_term.specs.HeapValue.{HeapValue}
+use Rattle.cq_term.specs.Names.{HasNamesBelow}
 use Rattle.cq_rest.specs.Equal.{AllEqual}
 use Rattle.cq_rest.proofs.Pairs.{equal_start, next_equal, next_none}
 use Rattle.cq_rest.proofs.equating.equate.Goals as goal
 
 pub loop-pair-init : goal.loop-pair-init
-loop-pair-init c = record {
-  equal = subst (λ (vs : List VarId). AllEqual c.args.heap.now.now c.args.heap.now.now [] vs) (sym c.new-newly.ensures) (equal_start c.args.heap.now.now);
-  names = λ n k. k;
-  saved = refl;
-  room = omega arith;
-}
+loop-pair-init c =
+    let old = c.args.heap.now in
+    let new = c.spare_newly-newly.new.self in
+    let same : new ≡ old = c.spare_newly-newly.ensures.same in
+    let equal : AllEqual old.now new.now [] [] = subst (λ (h : HeapValue). AllEqual old.now h.now [] []) (sym same) (equal_start old.now) in
+    record {
+      equal = subst (λ (vs : List VarId). AllEqual old.now new.now [] vs) (sym c.spare_newly-newly.ensures.empty) equal;
+      names = λ n k. subst (λ (h : HeapValue). All (HasNamesBelow n) h.now.terms) (sym same) k;
+      saved = ap (λ (h : HeapValue). h.saved) same;
+      room = let equal_room : new.room ≡ old.room = ap (λ (h : HeapValue). h.room) same in omega (arith, equal_room);
+    }
 
 pub returns-then-not-branch-clause-none : goal.returns-then-not-branch-clause-none
 returns-then-not-branch-clause-none c = λ _.

@@ -127,3 +127,9 @@ returns-in-Error-clause-raises c =
     let m = c.args.m.now in
     stands_parts m _ (value c.evaluate_to.new.world c.evaluate_to.new.lists.now) (ap₂ zip c.evaluate_to.ensures.saved c.evaluate_to.ensures.lists)
     (same_grown m.atoms (now m).0 _ (now m).1 _ c.in-Err.ensures.err c.evaluate_to.ensures.keeps)
+
+pub returns-in-Overflow-clause-refuses : goal.returns-in-Overflow-clause-refuses
+returns-in-Overflow-clause-refuses c =
+    let m = c.args.m.now in
+    stands_parts m _ (value c.evaluate_to.new.world c.evaluate_to.new.lists.now) (ap₂ zip c.evaluate_to.ensures.saved c.evaluate_to.ensures.lists)
+    (same_grown m.atoms (now m).0 _ (now m).1 _ c.in-Err.ensures.err c.evaluate_to.ensures.keeps)

@@ -12,7 +12,7 @@ use Rattle.cq_rows.specs.Scaling.{AreDisequations}
 use Rattle.cq_arrange.specs.Lines.{lines_of, inequality_of, disequation_of}
 use Rattle.cq_arrange.specs.Arranging.{HasNoEquation, AreInequalityRows, AreDisequationRows}
 use Rattle.cq_projection.proofs.Whole.{stands_lent, left_lent, last_given, order_is, order_distinct, ordered, unequal, ordered_over, unequal_over, ordered_no_equation, unequal_no_equation, ordered_solvable, unequal_solvable, ordered_irredundant, unequal_irredundant, ordered_due, unequal_due, answer_rows, kept_so}
-use Rattle.cq_projection.proofs.project_rows.Goals as goal
+use Rattle.cq_projection.proofs.rows_by_steps.Goals as goal
 
 pub returns-in_err-kept-clause-overflow : goal.returns-in_err-kept-clause-overflow
 returns-in_err-kept-clause-overflow c = λ pair e.
