@@ -1,9 +1,9 @@
 -- The steps of an evaluation: what the operations under way make of what a step comes to.
 use Rattle.std.proofs.Common.{◌≡◌, ℕ, suc, ◌+◌, ◌*◌, ◌<◌, List, [], ◌∷◌, ◌++◌, length, None, ◌≢◌, refl, ap, ap₂, sym, ◌∙◌, subst, arith, Some}
-use Rattle.std.specs.Prelude.{All, Ok, Err, IfOk, IfErr, slice_get}
-use Rattle.std.specs.declared.result.Result.{Result}
+use Rattle.std.specs.Prelude.{All, slice_get}
 use Rattle.std.proofs.lemmas.Option.{same_Some}
 use Rattle.std.proofs.lemmas.List.Elements.{All-push, All-same, All-pop}
+use Rattle.spec_terms.proofs.Substitution.{size_positive}
 use Rattle.spec_terms.specs.Term.{Terms, Var, Number, Name, Compound, one, more, count, size, named, named_all}
 use Rattle.spec_arithmetic.specs.declared.UnaryOperation.{UnaryOperation}
 use Rattle.spec_arithmetic.specs.declared.BinaryOperation.{BinaryOperation}
@@ -25,7 +25,7 @@ use Rattle.cq_arith.specs.declared.evaluation.Step.TheVariants as step
 use Rattle.cq_arith.specs.declared.faults.EvalFault.{EvalFault}
 use Rattle.cq_arith.specs.declared.faults.EvalFault.TheVariants as fault
 use Rattle.cq_arith.specs.Faults.{ComesTo, told}
-use Rattle.cq_arith.specs.Work.{evaluated_at, outcome, resumed, all_resumed, CanTake, CanResume, step_work, waiting_work, all_work, IsReturned, IsUnderWay, GoesOn}
+use Rattle.cq_arith.specs.Work.{evaluated_at, outcome, resumed, all_resumed, CanTake, CanResume, step_work, waiting_work, all_work, IsUnderWay, GoesOn}
 
 pub all_work-append : (ts : List HeapTerm) (ws us : List Waiting) → all_work ts (ws ++ us) ≡ all_work ts ws + all_work ts us
 all_work-append ts [] us = omega arith
@@ -160,12 +160,6 @@ module _ (texts : List Text) where
       let c : suc (suc (count us)) ≡ n = cc in
       ap (λ m. Fails (NotEvaluable (text_of texts g) m)) (ap (λ m. suc (suc m)) (count-named (text_of texts) us) ∙ c) ∙ ap (λ m. Fails (NotEvaluable (text_of texts m) n)) d
 
--- a fault of the result is one of what comes to it
-pub all_faults : (texts : List Text) (r : Result Step EvalFault) (result came : Evaluated) → came ≡ result → IfErr r (λ f. (texts : List Text) → ComesTo texts result f)
-    → IfErr r (ComesTo texts came)
-all_faults texts (Ok next) result came e h = tt
-all_faults texts (Err f) result came e h = subst (λ x. ComesTo texts x f) (sym e) (h texts)
-
 -- ---- an operation waits for its first argument, or for its second
 module _ (texts : List Text) (ts : List HeapTerm) (old new : List Waiting) where
   pub one_waits : (id argument f : ℕ) (o : UnaryOperation) → at ts id ≡ Compound f (one (at ts argument)) → unary_named (text_of texts f) ≡ Some o → HasNamesBelow (length texts) (at ts id) → argument < length ts → new ≡ old ++ waiting.Only o ∷ [] →
@@ -192,18 +186,10 @@ module _ (texts : List Text) (ts : List HeapTerm) (old new : List Waiting) where
       ap (λ u. evaluate (named (text_of texts) u)) e ∙ ap (λ m. binary_applied (text_of texts f) m (evaluated_at texts ts left) (evaluated_at texts ts right)) d
       ∙ ap₂ (λ t u. after_both o (evaluate (named (text_of texts) t)) (evaluate (named (text_of texts) u))) l r
 
-  value_returned : (id left right f : ℕ) (next : Step) (result : Evaluated) → at ts id ≡ Compound f (more (at ts left) (one (at ts right))) → evaluated_at texts ts id ≡ result
-      → IsReturned next result → GoesOn texts ts old (evaluated_at texts ts id) (3 * size (at ts id)) old next
-  value_returned id left right f (step.Visit other) result e same r = absurd r
-  value_returned id left right f (step.Return q) result e same r =
-      let smaller : size (at ts id) ≡ suc (size (at ts left) + size (at ts right)) = ap size e in
-      record { leads = ap (all_resumed texts ts old) (sym (same ∙ r)); waiting = λ all. all; ready = tt; less = omega (arith, smaller) }
-
-  pub all_returned : (id left right f : ℕ) (r : Result Step EvalFault) (result : Evaluated) → at ts id ≡ Compound f (more (at ts left) (one (at ts right)))
-      → evaluated_at texts ts id ≡ result → IfOk r (λ next. IsReturned next result)
-      → IfOk r (λ next. GoesOn texts ts old (evaluated_at texts ts id) (3 * size (at ts id)) old next)
-  all_returned id left right f (Ok next) result e same h = value_returned id left right f next result e same h
-  all_returned id left right f (Err g) result e same h = tt
+  -- nor does a term whose value is known
+  pub value_returned : (id : ℕ) (q : ℚ) → evaluated_at texts ts id ≡ Value q → GoesOn texts ts old (evaluated_at texts ts id) (3 * size (at ts id)) old (step.Return q)
+  value_returned id q e =
+      record { leads = ap (all_resumed texts ts old) (sym e); waiting = λ all. all; ready = tt; less = omega (arith, size_positive (at ts id)) }
 
   pub right_waits : (w : Waiting) (o : BinaryOperation) (right : ℕ) (value : ℚ) → w ≡ waiting.Left o right → CanResume texts ts w → new ≡ old ++ waiting.Right o value ∷ [] →
       GoesOn texts ts old (resumed texts ts w (Value value)) (waiting_work ts w) new (step.Visit right)

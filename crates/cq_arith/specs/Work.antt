@@ -33,11 +33,6 @@ abbrev pub all_resumed : List Text → List HeapTerm → List Waiting → Evalua
 all_resumed texts ts [] result = result
 all_resumed texts ts (w ∷ ws) result = resumed texts ts w (all_resumed texts ts ws result)
 
--- the step has this result
-abbrev pub IsReturned : Step → Evaluated → Type 0
-IsReturned (step.Visit id) result = ⊥
-IsReturned (step.Return q) result = result ≡ Value q
-
 -- the id is live, and its names have texts
 abbrev pub CanVisit : List Text → List HeapTerm → ℕ → Type 0
 CanVisit texts ts id = (id < length ts) × HasNamesBelow (length texts) (at ts id)

@@ -12,7 +12,7 @@ ghost use Rattle.cq_term.specs.Names.{HasNamesBelow};
 ghost use Rattle.cq_term.specs.Shown.{view_of};
 ghost use Rattle.cq_term.specs.declared.view.View.TheVariants.{Compound};
 ghost use Rattle.cq_arith.specs.Faults.{ComesTo, IsNamedBelow};
-ghost use Rattle.cq_arith.specs.Work.{evaluated_at, resumed, AfterVisit, IsReturned, TakesValue};
+ghost use Rattle.cq_arith.specs.Work.{evaluated_at, resumed, AfterVisit, TakesValue};
 
 use crate::faults::{EvalError, EvalFault};
 use crate::operations::{binary, binary_operation, unary, unary_operation};
@@ -45,6 +45,63 @@ enum Step {
 /// The value of a term, read through bindings, as an arithmetic expression: its arguments are evaluated from left to
 /// right, and then the operation. `atoms` has to know the names in the term.
 pub fn eval(heap: &Heap, atoms: &Atoms, term: TermId) -> Result<Frac, EvalFault>
+    requires live { term < length heap.now.now.terms }
+    requires names { HasNamesBelow (length atoms.now) (at heap.now.now.terms term) }
+    ensures value { IfOk result (λ q. evaluate (named (text_of atoms.now) (at heap.now.now.terms term)) ≡ Value q) }
+    ensures fault { IfErr result (λ fault. ComesTo atoms.now (evaluate (named (text_of atoms.now) (at heap.now.now.terms term))) fault) }
+    ensures known { IfErr result (IsNamedBelow (length atoms.now)) }
+{
+    match eval_at_once(heap, atoms, term) {
+        Some(value) => Ok(value),
+        None => eval_whole(heap, atoms, term),
+    }
+}
+
+/// The value of a number, or of an operation on two numbers that comes to one: most expressions of a program. None of any other.
+#[inline(always)]
+fn eval_at_once(heap: &Heap, atoms: &Atoms, term: TermId) -> Option<Frac>
+    requires live { term < length heap.now.now.terms }
+    requires names { HasNamesBelow (length atoms.now) (at heap.now.now.terms term) }
+    ensures { IfSome result (λ q. evaluated_at atoms.now heap.now.now.terms term ≡ Value q) }
+{
+    match heap.view(term) {
+        View::Number(value) => Some(value),
+        View::Compound(name, arity) => {
+            if arity == 2 {
+                apply_at_once(heap, atoms, term, name)
+            } else {
+                None
+            }
+        }
+        View::Var(_) | View::Name(_) => None,
+    }
+}
+
+/// The value of a name over two numbers, if it is an operation, and comes to a number.
+#[inline(always)]
+fn apply_at_once(heap: &Heap, atoms: &Atoms, id: TermId, name: Atom) -> Option<Frac>
+    requires live { id < length heap.now.now.terms }
+    requires names { HasNamesBelow (length atoms.now) (at heap.now.now.terms id) }
+    requires shown { view_of (at heap.now.now.terms id) ≡ Compound name 2 }
+    ensures { IfSome result (λ q. evaluated_at atoms.now heap.now.now.terms id ≡ Value q) }
+{
+    let Some(left) = number_of(heap, heap.arg(id, 0)) else {
+        return None;
+    };
+    let Some(right) = number_of(heap, heap.arg(id, 1)) else {
+        return None;
+    };
+    let Some(operation) = binary_operation(atoms.text(name)) else {
+        return None;
+    };
+    match binary(operation, left, right) {
+        Ok(value) => Some(value),
+        Err(_) => None,
+    }
+}
+
+/// The same of any term.
+fn eval_whole(heap: &Heap, atoms: &Atoms, term: TermId) -> Result<Frac, EvalFault>
     requires live { term < length heap.now.now.terms }
     requires names { HasNamesBelow (length atoms.now) (at heap.now.now.terms term) }
     ensures value { IfOk result (λ q. evaluate (named (text_of atoms.now) (at heap.now.now.terms term)) ≡ Value q) }
@@ -144,21 +201,20 @@ fn visit_two(
     ensures fault { IfErr result (λ fault. ComesTo atoms.now (evaluated_at atoms.now heap.now.now.terms id) fault) }
     ensures known { IfErr result (IsNamedBelow (length atoms.now)) }
 {
+    if let Some(value) = apply_at_once(heap, atoms, id, name) {
+        return Ok(Step::Return(value));
+    }
     let Some(operation) = binary_operation(atoms.text(name)) else {
         return Err(not_evaluable(name, 2));
     };
     let left = heap.arg(id, 0);
     let right = heap.arg(id, 1);
-    if let Some(first) = number_of(heap, left) {
-        if let Some(second) = number_of(heap, right) {
-            return apply(operation, first, second);
-        }
-    }
     wait(under_way, Waiting::Left(operation, right))?;
     Ok(Step::Visit(left))
 }
 
 /// The number that a term is, if it is one.
+#[inline(always)]
 fn number_of(heap: &Heap, id: TermId) -> Option<Frac>
     requires { id < length heap.now.now.terms }
     ensures { IfSome result (λ q. at heap.now.now.terms id ≡ Number q) }
@@ -166,18 +222,6 @@ fn number_of(heap: &Heap, id: TermId) -> Option<Frac>
     match heap.view(id) {
         View::Number(value) => Some(value),
         View::Var(_) | View::Name(_) | View::Compound(_, _) => None,
-    }
-}
-
-/// An operation on two numbers, which has nothing to wait for.
-fn apply(operation: BinaryOperation, left: Frac, right: Frac) -> Result<Step, EvalFault>
-    ensures value { IfOk result (λ next. IsReturned next (binary_result operation left right)) }
-    ensures fault { IfErr result (λ fault. (texts : List Text) → ComesTo texts (binary_result operation left right) fault) }
-    ensures known { IfErr result (λ fault. (n : ℕ) → IsNamedBelow n fault) }
-{
-    match binary(operation, left, right) {
-        Ok(value) => Ok(Step::Return(value)),
-        Err(fault) => Err(fault),
     }
 }
 

@@ -37,6 +37,7 @@ pub(crate) fn unary_operation(name: &str) -> Option<UnaryOperation>
 }
 
 /// The operation of a name with two arguments.
+#[inline(always)]
 pub(crate) fn binary_operation(name: &str) -> Option<BinaryOperation>
     ensures { result ≡ binary_named name.now }
 {
@@ -122,6 +123,7 @@ fn whole(value: i128) -> Frac
 }
 
 /// The value of an operation on two numbers, its error, or its overflow.
+#[inline(always)]
 pub(crate) fn binary(operation: BinaryOperation, left: Frac, right: Frac) -> Result<Frac, EvalFault>
     ensures value { IfOk result (λ q. binary_result operation left right ≡ Value q) }
     ensures fault { IfErr result (λ fault. (texts : List Text) → ComesTo texts (binary_result operation left right) fault) }
@@ -135,6 +137,7 @@ pub(crate) fn binary(operation: BinaryOperation, left: Frac, right: Frac) -> Res
     }
 }
 
+#[inline(always)]
 fn exact_operation(operation: Operation, left: Frac, right: Frac) -> Result<Frac, EvalFault>
     ensures value { IfOk result (λ q. exact_result operation left right ≡ Value q) }
     ensures fault { IfErr result (λ fault. (texts : List Text) → ComesTo texts (exact_result operation left right) fault) }

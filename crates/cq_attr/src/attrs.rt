@@ -82,6 +82,7 @@ impl Attrs {
     }
 
     /// Whether a variable is numeric.
+    #[inline(always)]
     pub fn is_numeric(&self, variable: VarId) -> bool
         ensures { result ≡ is_numeric self.now.now variable.0 }
     {
@@ -123,6 +124,7 @@ impl Attrs {
 
     /// The numbers that wait for one of the variables, ascending and each once. Only what waited for these variables is
     /// looked at. Fails for want of memory, and only where there is such a number.
+    #[inline(always)]
     pub fn woken(&self, newly: &[VarId]) -> Result<Vec<SuspNo>, AllocError>
         ensures woken { IfOk result (λ ns. (n : ℕ) → Contains ns.items n → IsWokenBy self.now.now (numbers_of newly.now) n) }
         ensures all { IfOk result (λ ns. (n : ℕ) → IsWokenBy self.now.now (numbers_of newly.now) n → Contains ns.items n) }

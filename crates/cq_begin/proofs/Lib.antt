@@ -1,6 +1,7 @@
 mod Woken
 mod Begins
 mod Free
+mod Constants
 mod Leading
 mod Marks
 pub mod Newer

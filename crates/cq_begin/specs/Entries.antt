@@ -5,6 +5,8 @@ use Rattle.cq_frac.specs.declared.VarId.{VarId}
 use Rattle.cq_rest.specs.Equal.{AllEqual}
 use Rattle.cq_term.specs.HeapValue.{Terms}
 use Rattle.cq_term.specs.Names.{KeepsNames}
+use Rattle.cq_term.specs.declared.view.View.{View}
+use Rattle.cq_term.specs.declared.view.View.TheVariants as view
 use Rattle.cq_walk.specs.Places.{numbers_of}
 use Rattle.cq_walk.specs.declared.pairs.Pair.{Pair}
 use Rattle.cq_begin.specs.declared.entering.Entry.{Entry}
@@ -30,6 +32,13 @@ pub record IsFree (a : Attributes) (newly : List VarId) : Type 0 where
   pub awaited : (n : ℕ) → IsWokenBy a (numbers_of newly) n → ⊥
 
 -- ---- pairs of terms
+
+-- a number or a name
+abbrev pub IsConstant : View → Type 0
+IsConstant (view.Var v) = ⊥
+IsConstant (view.Number q) = ⊤
+IsConstant (view.Name a) = ⊤
+IsConstant (view.Compound f n) = ⊥
 
 -- a fact, where they were made equal
 abbrev pub IfEqual : Equated → Type 0 → Type 0

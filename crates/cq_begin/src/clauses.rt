@@ -209,6 +209,7 @@ fn try_clause(
 
 /// The body of a clause in front of a continuation; the body `true` adds nothing. A variable as the body is called, whatever
 /// it was made equal to.
+#[inline(always)]
 fn body_before(
     clause: &Clause,
     lists: &mut Continuations<Cell>,

@@ -83,6 +83,7 @@ fn enter_unmarked(
 }
 
 /// Whether none of the variables is numeric, and nothing waits for one of them; false where want of memory hides it.
+#[inline(always)]
 pub(crate) fn is_free(attrs: &Attrs, newly: &[VarId]) -> bool
     ensures { IsTrue result → IsFree attrs.now.now newly.now }
 {

@@ -1,16 +1,18 @@
 // Pairs of terms that are made equal, where nothing is to be settled then.
 
-ghost use Rattle.std.specs.Prelude.{◌≡◌, ◌≢◌, ◌≤◌, All, Ok, IfOk};
+ghost use Rattle.std.specs.Prelude.{◌≡◌, ◌≢◌, ◌<◌, ◌≤◌, ◌∷◌, [], All, Ok, IfOk, IsTrue, length, true};
 ghost use Rattle.spec_terms.specs.Unifier.{HasNoUnifier};
 ghost use Rattle.cq_rest.specs.Equal.{MayBeEqual};
+ghost use Rattle.cq_term.specs.Meaning.{at};
+ghost use Rattle.cq_term.specs.Shown.{view_of};
 ghost use Rattle.cq_walk.specs.Pairs.{equations};
-ghost use Rattle.cq_begin.specs.Entries.{AreFree, IfApart, IfEqual};
+ghost use Rattle.cq_begin.specs.Entries.{AreFree, IfApart, IfEqual, IsConstant};
 ghost use Rattle.cq_begin.specs.declared.equal.Equated.TheVariants.{Equal};
 
 use crate::entering::is_free;
 use cq_attr::Attrs;
 use cq_rest::equate;
-use cq_term::Heap;
+use cq_term::{Heap, TermId, View};
 use cq_trail::Undo;
 use cq_walk::Pair;
 use std::alloc::AllocError;
@@ -26,8 +28,8 @@ pub(crate) enum Equated {
     Unsettled,
 }
 
-/// Makes pairs of terms equal, where nothing is to be settled then. The heap alone is marked: after any other answer, and after
-/// want of memory, it is as at the call.
+/// Makes pairs of terms equal, where nothing is to be settled then. The heap alone is marked, and not even that for a variable
+/// that is to become a number or a name: after any other answer, and after want of memory, it is as at the call.
 pub(crate) fn equate_free(
     heap: &mut Heap,
     attrs: &Attrs,
@@ -40,6 +42,11 @@ pub(crate) fn equate_free(
     ensures saved { heap.new.saved ≡ heap.old.saved }
     ensures room { heap.old.room ≤ heap.new.room }
 {
+    if pairs.len() == 1 {
+        if bind_constant(heap, attrs, pairs[0])? {
+            return Ok(Equated::Equal);
+        }
+    }
     heap.reserve(1)?;
     let start = heap.mark().unwrap();
     let equated = equate_unmarked(heap, attrs, pairs);
@@ -68,5 +75,35 @@ fn equate_unmarked(heap: &mut Heap, attrs: &Attrs, pairs: &[Pair]) -> Result<Equ
         Ok(Equated::Equal)
     } else {
         Ok(Equated::Unsettled)
+    }
+}
+
+/// Binds an unbound variable that nothing waits for to a number or a name. False, with nothing changed, where the terms are others.
+fn bind_constant(heap: &mut Heap, attrs: &Attrs, pair: Pair) -> Result<bool, AllocError>
+    requires { MayBeEqual heap.old.now pair }
+    ensures bound { result ≡ Ok true → AreFree heap.old.now heap.new.now attrs.now.now (pair ∷ []) }
+    ensures unchanged { result ≢ Ok true → heap.new.now ≡ heap.old.now }
+    ensures saved { heap.new.saved ≡ heap.old.saved }
+    ensures room { heap.old.room ≤ heap.new.room }
+{
+    let View::Var(variable) = heap.view(pair.left) else {
+        return Ok(false);
+    };
+    if is_constant(heap, pair.right) && is_free(attrs, &[variable]) {
+        heap.bind(variable, pair.right)?;
+        Ok(true)
+    } else {
+        Ok(false)
+    }
+}
+
+/// Whether a term is a number or a name.
+fn is_constant(heap: &Heap, id: TermId) -> bool
+    requires { id < length heap.now.now.terms }
+    ensures { IsTrue result → IsConstant (view_of (at heap.now.now.terms id)) }
+{
+    match heap.view(id) {
+        View::Number(_) | View::Name(_) => true,
+        View::Var(_) | View::Compound(_, _) => false,
     }
 }

@@ -1,13 +1,14 @@
 // Terms of a heap that are built by the texts of their names.
 
-ghost use Rattle.std.specs.Prelude.{◌≡◌, ◌<◌, All, length, IfOk};
+ghost use Rattle.std.specs.Prelude.{◌≡◌, ◌<◌, All, length, slice_get, Some, IfOk};
+ghost use Rattle.spec_lists.specs.Texts.{Text};
 ghost use Rattle.spec_terms.specs.Term.{Name, with_arguments};
 ghost use Rattle.spec_syntax.specs.Trees.{natural, list_tree};
 ghost use Rattle.cq_term.specs.Trees.{tree, trees, KnowsTerms};
 ghost use Rattle.cq_built.specs.Growing.{Grows};
 ghost use Rattle.cq_built.specs.Trees.{binary_tree};
 
-use cq_atoms::Atoms;
+use cq_atoms::{Atom, Atoms};
 use cq_frac::Frac;
 use cq_term::{Heap, TermId};
 use std::alloc::AllocError;
@@ -72,6 +73,27 @@ pub(crate) fn over_two(
     compound(heap, atoms, text, &[first, second])
 }
 
+/// A name that is known over two arguments.
+fn over_known(
+    heap: &mut Heap,
+    atoms: &Atoms,
+    name: Atom,
+    first: TermId,
+    second: TermId,
+) -> Result<TermId, AllocError>
+    requires name { name < length atoms.now }
+    requires first { first < length heap.old.now.terms }
+    requires second { second < length heap.old.now.terms }
+    requires names { KnowsTerms atoms.now heap.old.now.terms }
+    ensures live { IfOk result (λ id. id < length heap.new.now.terms) }
+    ensures built { IfOk result (λ id. (text : Text) → slice_get atoms.now name ≡ Some text
+        → tree atoms.now heap.new.now.terms id ≡ binary_tree atoms.now heap.old.now.terms text first second) }
+    ensures grows { Grows atoms.now heap.old atoms.now heap.new }
+{
+    let id = heap.compound(name, &[first, second])?;
+    Ok(id)
+}
+
 /// The list of these elements.
 pub fn list(heap: &mut Heap, atoms: &mut Atoms, elements: &[TermId]) -> Result<TermId, AllocError>
     requires live { All (λ i. i < length heap.old.now.terms) elements.now }
@@ -81,8 +103,9 @@ pub fn list(heap: &mut Heap, atoms: &mut Atoms, elements: &[TermId]) -> Result<T
     ensures grows { Grows atoms.old heap.old atoms.new heap.new }
 {
     let mut whole = atom(heap, atoms, "[]")?;
+    let dot = atoms.intern(".")?;
     for i in (0..elements.len()).rev() {
-        whole = over_two(heap, atoms, ".", elements[i], whole)?;
+        whole = over_known(heap, atoms, dot, elements[i], whole)?;
     }
     Ok(whole)
 }

@@ -228,6 +228,7 @@ fn begin_only(
 }
 
 /// The clauses that a walk leaves of a call wait as the newest choice. After an error nothing has changed.
+#[inline(always)]
 fn wait(
     world: &mut Searching,
     choices: &mut Choices<Alternatives>,

@@ -186,6 +186,7 @@ impl<C: Keyed + Drop> Clauses<C> {
 
     /// The first clause of a snapshot that may match a call with this key, and the snapshot of those behind it; None where
     /// no clause that is left may match. A call has no key where its goal has no argument, or a variable as its first.
+    #[inline(always)]
     pub fn next_matching(
         &self,
         snapshot: Snapshot,
@@ -238,6 +239,7 @@ impl<C: Keyed + Drop> Clauses<C> {
         let _procedures = &self.procedures;
     }
 
+    #[inline(always)]
     fn next_with(&self, snapshot: Snapshot, key: &Key) -> Option<(ClauseNo, Snapshot)>
         requires { IsSnapshot snapshot self.now.procedures }
         ensures none { IfNone result (seen_matching C.key_of (Some key.now) snapshot self.now ≡ []) }

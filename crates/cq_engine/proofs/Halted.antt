@@ -6,7 +6,7 @@ use Rattle.spec_search.specs.Turns.{Turn, Event, keeps, prunes, hands_on, escape
 use Rattle.spec_stops.specs.Causes.{Budgets, Cause, Resolutions, Pivots, Overflow, Projection}
 use Rattle.spec_stops.specs.Due as due
 use Rattle.spec_stops.specs.Due.{Due}
-use Rattle.cq_matching.specs.Matching.{ComesToStop}
+use Rattle.cq_find.specs.Matching.{ComesToStop}
 use Rattle.spec_machine.specs.Cells.{Stack}
 use Rattle.spec_machine.specs.Coming as coming
 use Rattle.spec_machine.specs.Coming.{MayGo, Quietly, at_once, after, StopsFor, runs_out, overflows, Tells, Stops}

@@ -5,13 +5,13 @@ use Rattle.std.specs.declared.result.Result.{Result}
 use Rattle.spec_operators.specs.Operators.{Ops}
 use Rattle.spec_search.specs.Database.{Database}
 use Rattle.cq_linear.specs.declared.store.StoreFault.{StoreFault}
-use Rattle.cq_matching.specs.Matching as over
-use Rattle.cq_matching.specs.Matching.{FaultStops}
+use Rattle.cq_find.specs.Matching as over
+use Rattle.cq_find.specs.Matching.{FaultStops}
 use Rattle.cq_find.specs.Finding.{FoundIs}
 use Rattle.cq_find.specs.declared.finding.Found.{Found}
 use Rattle.cq_find.specs.declared.finding.Found.TheVariants as found
 use Rattle.cq_program.specs.Database.{as_database}
-use Rattle.cq_saved.specs.Taking.{Escapes}
+use Rattle.cq_find.specs.Taking.{Escapes}
 use Rattle.cq_steps.specs.Worlds.{IsBranch, term_in}
 use Rattle.cq_write.specs.Meaning.{operators}
 use Rattle.spec_machine.specs.Coming.{Comes}

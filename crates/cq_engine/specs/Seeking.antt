@@ -16,9 +16,9 @@ use Rattle.cq_steps.specs.Choices.{AreOpen}
 use Rattle.cq_steps.specs.Marks.{IsFront}
 use Rattle.cq_steps.specs.Stored.{IsCountedTerm}
 use Rattle.cq_steps.specs.Worlds.{IsBranch, term_in}
-use Rattle.cq_ways.specs.Held.{Held, held}
-use Rattle.cq_saved.specs.Taking.{Escapes}
-use Rattle.cq_matching.specs.Matching.{FaultStops}
+use Rattle.cq_find.specs.Held.{Held, held}
+use Rattle.cq_find.specs.Taking.{Escapes}
+use Rattle.cq_find.specs.Matching.{FaultStops}
 use Rattle.cq_find.specs.declared.finding.Found.{Found}
 use Rattle.cq_find.specs.declared.finding.Found.TheVariants.{Front, Escaped, Over}
 use Rattle.cq_machine.specs.declared.machine.Machine.{Machine}

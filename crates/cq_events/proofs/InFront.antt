@@ -22,10 +22,10 @@ module _ (e : Engine) (k : ℕ) (at : e.current ≡ Some k) where
   is_sound run = sound_where e.machine run.kept (names_known e.machine k (e.selected, run.search, at_k run.search run.stands))
 
 -- the goal in front is the one that the search selects next
-module _ (e : Engine) (id rest : ℕ) (front : HasGoalInFront e id rest) where
+module _ (e : Engine) (id height rest : ℕ) (front : HasGoalInFront e id height rest) where
   pub selects : (s : Search) → Stands e s
-      → (x : SelectsNext e.machine e.selected rest s) × IsSelectedAt e.machine id front.height rest (place_of s x.state x.items x.cut x.behind) x.behind (read x.state x.goal)
-  selects s j = goal_next e.machine e.selected front.k rest s (at_k e front.k front.current s j) front.front.earlier id front.height front.front.cells
+      → (x : SelectsNext e.machine e.selected rest s) × IsSelectedAt e.machine id height rest (place_of s x.state x.items x.cut x.behind) x.behind (read x.state x.goal)
+  selects s j = goal_next e.machine e.selected front.k rest s (at_k e front.k front.current s j) front.front.earlier id height front.front.cells
 
 -- a machine that stands for the same takes its place
 module _ (e : Engine) (m : Machine) (still : StillStands e.machine m) (same : database_of m ≡ database_of e.machine) where

@@ -69,10 +69,10 @@ pub record HasInFront (m : Machine) (k : ℕ) (c : Cell) (rest : ℕ) : Type 0 w
   pub earlier : rest < k
   pub cells : items_at m.world.second.now k ≡ c ∷ items_at m.world.second.now rest
 
--- the goal of the number is in front of what the engine goes on with, and this continuation behind it
-pub record HasGoalInFront (e : Engine) (id rest : ℕ) : Type 0 where
+-- the goal of the number is in front of what the engine goes on with, and this continuation behind it; a cut in it goes back to the
+-- height
+pub record HasGoalInFront (e : Engine) (id height rest : ℕ) : Type 0 where
   pub k : ℕ
-  pub height : ℕ
   pub current : e.current ≡ Some k
   pub front : HasInFront e.machine k (Goal id height) rest
 

@@ -10,5 +10,6 @@ mod raiser;
 mod running;
 mod turning;
 
+pub use cq_engine::Cause;
 pub use engine::Engine;
 pub use event::Event;

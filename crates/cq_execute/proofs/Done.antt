@@ -1,5 +1,5 @@
 -- A row that was done, for the goal that calls its built-in predicate.
-use Rattle.std.proofs.Common.{◌≡◌, ℕ, List, [], length, drop, Some, refl, sym, ◌∙◌, subst}
+use Rattle.std.proofs.Common.{◌≡◌, ◌<◌, ℕ, List, [], length, drop, Some, refl, sym, ◌∙◌, subst}
 use Rattle.std.specs.Prelude.{Ok, Err, IfOk, IfErr, OnErr}
 use Rattle.std.specs.declared.result.Result.{Result}
 use Rattle.spec_lists.proofs.Prefixes.{prefix_same}
@@ -32,7 +32,7 @@ use Rattle.cq_machine.specs.Stepping.{row_of, IsStep, IsSelectedAt, IsSelectedSo
 use Rattle.cq_selected.specs.Stops.{IsSelectedFrom, StopsAt}
 use Rattle.cq_execute.specs.declared.executed.Executed.{Executed}
 use Rattle.cq_execute.specs.Executions.{KeepsClauses, KeepsWalks, HasSameDatabase}
-use Rattle.cq_execute.specs.Rows.{IsRowDone, IsDone, IsQuiet, as_stop}
+use Rattle.cq_execute.specs.Rows.{IsAtGoal, IsRowDone, IsDone, IsQuiet, as_stop}
 use Rattle.cq_execute.specs.Stops.{IsStop}
 use Rattle.cq_execute.proofs.Table.{none_behind}
 use Rattle.cq_execute.proofs.Reached.{replies, reach, quietly}
@@ -71,6 +71,11 @@ still_raised m (Err e) = tt
 pub still_stands : {E : Type 0} (m : Machine) (r : Result Step E) → OnErr r (StillStands m m)
 still_stands m (Ok s) = tt
 still_stands m (Err e) = λ db n current s j. j
+
+-- ---- a selected goal
+
+pub at_goal : (m : Machine) (id height rest : ℕ) → IsSound m → (s : IsSelectedFrom m id height rest) → id < length (terms m) → IsAtGoal m id height rest
+at_goal m id height rest sound s live = record { sound = sound; selected = s; live = live; there = s.3.selected.place.continuation.there }
 
 -- ---- results
 

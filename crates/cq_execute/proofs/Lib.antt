@@ -8,3 +8,4 @@ mod Called
 mod Changed
 mod Asked
 mod Heads
+mod Outcomes

@@ -8,12 +8,12 @@ ghost use Rattle.cq_built.specs.Errors.{error_tree, HasCulprit};
 ghost use Rattle.cq_declarations.specs.Clauses.{IsOf};
 ghost use Rattle.cq_term.specs.Trees.{tree, KnowsTerms};
 ghost use Rattle.cq_machine.specs.Machines.{terms, IsSound, StillStands};
-ghost use Rattle.cq_machine.specs.Stepping.{CanGo, IsSelectedSomewhere, OnRaises};
+ghost use Rattle.cq_machine.specs.Stepping.{CanGo, OnRaises};
 ghost use Rattle.cq_selected.specs.Calls.{step_of};
 ghost use Rattle.cq_selected.specs.Stops.{IsSelectedFrom};
 ghost use Rattle.cq_execute.specs.Executions.{Executes, ExecutesCall, IsCallSelectedSomewhere, KeepsClauses, KeepsWalks, HasSameDatabase};
-ghost use Rattle.cq_execute.specs.Callees.{CallsProcedure, IsCallee};
-ghost use Rattle.cq_execute.specs.Rows.{IsAtGoal, IsCallDone, IsCallOf, IsDone, as_stop};
+ghost use Rattle.cq_execute.specs.Callees.{IsCallee};
+ghost use Rattle.cq_execute.specs.Rows.{IsAtGoal, IsCallOf, IsDone};
 ghost use Rattle.cq_execute.specs.Stops.{StopsThere};
 
 use crate::executed::Executed;
@@ -21,7 +21,6 @@ use crate::rows::execute_builtin;
 use crate::steps::{quiet, silent, stepped};
 use cq_atoms::Atoms;
 use cq_built::{BuiltinError, BuiltinFault, Culprit, ValidType};
-use cq_calls::Called;
 use cq_control::Continuation;
 use cq_linear::store::StoreFault;
 use cq_machine::{Machine, Step};
@@ -81,6 +80,7 @@ fn execute_goal(
 }
 
 /// The predicate that a goal calls, or the error that it raises, a variable or a number.
+#[inline(always)]
 fn predicate_of(heap: &Heap, atoms: &Atoms, goal: TermId) -> Result<Pred, BuiltinError>
     requires live { goal < length heap.now.now.terms }
     requires names { KnowsTerms atoms.now heap.now.now.terms }
@@ -130,7 +130,7 @@ fn execute_named(
 
 /// What a goal calls.
 #[derive(Clone, Copy, Debug)]
-pub enum Callee {
+pub(crate) enum Callee {
     Builtin(Builtin),
     /// A user predicate, by its name and number of arguments.
     Procedure(Pred),
@@ -139,7 +139,7 @@ pub enum Callee {
 }
 
 /// What a goal calls, by its name and number of arguments.
-pub fn find_callee(m: &Machine, goal: TermId) -> Callee
+pub(crate) fn find_callee(m: &Machine, goal: TermId) -> Callee
     requires sound { IsSound m.now }
     requires live { goal < length (terms m.now) }
     ensures { IsCallee m.now goal result }
@@ -155,23 +155,6 @@ pub fn find_callee(m: &Machine, goal: TermId) -> Callee
         }
         Err(_) => Callee::Nothing,
     }
-}
-
-/// Executes the selected goal of a user predicate, as `execute` does, with a result that is small: most goals of a program are such
-/// calls.
-pub fn execute_procedure(
-    m: &mut Machine,
-    predicate: Pred,
-    goal: TermId,
-    rest: Continuation,
-) -> Result<Called, AllocError>
-    requires sound { IsSound m.old }
-    requires selected { IsSelectedSomewhere m.old goal rest }
-    requires live { goal < length (terms m.old) }
-    requires calls { CallsProcedure m.old goal predicate }
-    ensures { (height : ℕ) → IsCallDone m.old m.new goal height rest predicate (as_stop result) }
-{
-    call_procedure(m, predicate, goal, rest)
 }
 
 /// Executes call of a term, which a construct or a goal that woke has put in front so: a cut in it sees no choice that is there

@@ -5,7 +5,9 @@ mod executed;
 mod execution;
 mod printing;
 mod rows;
+mod small;
 mod steps;
 
 pub use executed::Executed;
-pub use execution::{Callee, execute, execute_call, execute_procedure, find_callee};
+pub use execution::{execute, execute_call};
+pub use small::{Went, execute_small};

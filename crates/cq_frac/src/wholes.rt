@@ -337,6 +337,7 @@ fn wide(a: u128, b: u128) -> (u128, u128)
 }
 
 /// The order of a/b and c/d, by the cross products.
+#[inline(always)]
 pub(crate) fn order(a: u128, b: u128, c: u128, d: u128) -> Ordering
     ensures { result ≡ nat_cmp (a * d) (c * b) }
 {

@@ -15,8 +15,8 @@ use Rattle.cq_steps.specs.Worlds.{KnowsNothing}
 use Rattle.cq_steps.specs.declared.alternatives.Alternatives.{Alternatives}
 use Rattle.cq_machine.specs.Machines.{AreNames, IsSound, now, saved}
 use Rattle.cq_machine.specs.declared.machine.Machine.{Machine}
-use Rattle.cq_engine.specs.Seeking.{IsKept}
-use Rattle.cq_engine.proofs.Engines.{zip_none}
+use Rattle.cq_events.specs.Seeking.{IsKept}
+use Rattle.cq_events.proofs.Engines.{zip_none}
 use Rattle.cq_events.specs.declared.engine.Engine.{Engine}
 use Rattle.cq_events.specs.Events.{IsIdle}
 

@@ -16,7 +16,7 @@ use Rattle.spec_syntax.specs.Trees.{Tree}
 use Rattle.spec_terms.specs.Variables.{renamed_from}
 use Rattle.spec_writing.specs.declared.Style.TheVariants.{Quoted}
 use Rattle.cq_machine.specs.Machines.{database_of}
-use Rattle.cq_engine.specs.Fronts.{as_cause}
+use Rattle.cq_events.specs.Fronts.{as_cause}
 use Rattle.cq_events.specs.Events as engine
 use Rattle.cq_events.specs.Events.{IsRunning, HasBudgets, Stands, Gives, GivesNext, HasCounted}
 use Rattle.cq_events.specs.declared.engine.Engine.{Engine}

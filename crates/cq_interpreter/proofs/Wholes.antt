@@ -14,7 +14,7 @@ use Rattle.cq_program.specs.Database.{as_database}
 use Rattle.cq_write.specs.Meaning.{operators}
 use Rattle.cq_machine.specs.declared.machine.Machine.{Machine}
 use Rattle.cq_machine.specs.Machines.{database_of, HasSameProgram}
-use Rattle.cq_engine.specs.Seeking.{IsKept}
+use Rattle.cq_events.specs.Seeking.{IsKept}
 use Rattle.cq_interpreter.specs.Toplevels.{asked, texts, program_of, IsWhole}
 use Rattle.cq_interpreter.specs.declared.toplevel.Toplevel.{Toplevel}
 use Rattle.cq_interpreter.specs.declared.toplevel.Waiting.{Waiting}

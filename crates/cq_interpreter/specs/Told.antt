@@ -10,7 +10,7 @@ use Rattle.cq_eliminate.specs.declared.ProjectFault.{ProjectFault}
 use Rattle.cq_eliminate.specs.declared.ProjectFault.TheVariants.{Overflow, Pivots, Rows, NoMemory}
 use Rattle.cq_machine.specs.declared.machine.Machine.{Machine}
 use Rattle.cq_machine.specs.Machines.{database_of}
-use Rattle.cq_engine.specs.Fronts.{as_cause}
+use Rattle.cq_events.specs.Fronts.{as_cause}
 use Rattle.cq_events.specs.declared.event.Event as events
 use Rattle.cq_events.specs.declared.event.Event.TheVariants as told
 use Rattle.cq_transcript.specs.declared.interpreter.Answered.{Answered}

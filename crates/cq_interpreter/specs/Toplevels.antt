@@ -16,7 +16,7 @@ use Rattle.cq_term.specs.Meaning.{HeapTerm}
 use Rattle.cq_term.specs.Trees.{tree}
 use Rattle.cq_world.specs.Rest.{IsReadyAs}
 use Rattle.cq_machine.specs.Machines.{IsName, database_of, now, terms}
-use Rattle.cq_engine.specs.Seeking.{IsKept}
+use Rattle.cq_events.specs.Seeking.{IsKept}
 use Rattle.cq_events.specs.Events.{IsRunning, Stands}
 use Rattle.cq_events.specs.declared.engine.Engine.{Engine}
 use Rattle.cq_transcript.specs.Sentences.{Program, budgets_within}

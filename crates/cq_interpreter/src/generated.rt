@@ -4,7 +4,7 @@ ghost use Rattle.std.specs.Prelude.{◌≡◌, ◌<◌, ◌≤◌, [], length, I
 ghost use Rattle.spec_lists.specs.Prefixes.{IsPrefix};
 ghost use Rattle.spec_gen.specs.Query.{query, variables};
 ghost use Rattle.cq_machine.specs.Machines.{terms, database_of};
-ghost use Rattle.cq_engine.specs.Seeking.{IsKept};
+ghost use Rattle.cq_events.specs.Seeking.{IsKept};
 ghost use Rattle.cq_events.specs.Events.{IsIdle};
 ghost use Rattle.cq_interpreter.specs.Toplevels.{images_of, read_in};
 

@@ -9,10 +9,10 @@ ghost use Rattle.cq_term.specs.Names.{HasNamesBelow};
 ghost use Rattle.cq_term.specs.Trees.{tree, KnowsTerms};
 ghost use Rattle.cq_write.specs.Meaning.{operators};
 ghost use Rattle.cq_machine.specs.Machines.{terms, database_of};
-ghost use Rattle.cq_engine.specs.Fronts.{as_cause};
+ghost use Rattle.cq_events.specs.Fronts.{as_cause};
 
 use cq_atoms::Atoms;
-use cq_engine::Cause;
+use cq_events::Cause;
 use cq_machine::Machine;
 use cq_ops::Ops;
 use cq_stored::StoredTerm;

@@ -6,7 +6,7 @@ ghost use Rattle.spec_search.specs.Search.{start};
 ghost use Rattle.spec_transcript.specs.Purposes.{once};
 ghost use Rattle.cq_stored.specs.StoredValue.{HaveNamesBelow};
 ghost use Rattle.cq_machine.specs.Machines.{HasSameProgram, terms, database_of};
-ghost use Rattle.cq_engine.specs.Seeking.{IsKept};
+ghost use Rattle.cq_events.specs.Seeking.{IsKept};
 ghost use Rattle.cq_events.specs.Events.{IsIdle};
 ghost use Rattle.cq_interpreter.specs.Numbered.{AreNumbered};
 ghost use Rattle.cq_interpreter.specs.Toplevels.{IsWhole, IsAsking, asked, images, images_of, program_of, budgets_of, read_in, term_in};

@@ -2,7 +2,7 @@
 
 ghost use Rattle.std.specs.Prelude.{◌≡◌, Some, slice_get, IfOk, OnOk};
 ghost use Rattle.cq_machine.specs.Machines.{IsSound, database_of};
-ghost use Rattle.cq_engine.specs.Seeking.{IsKept};
+ghost use Rattle.cq_events.specs.Seeking.{IsKept};
 
 use cq_atoms::{Atom, numbers_keep_their_texts};
 use cq_events::Engine;

@@ -20,6 +20,7 @@ use cq_term::TermId;
 use std::alloc::AllocError;
 
 /// `A,B`.
+#[inline(always)]
 pub fn conjunction(
     m: &mut Machine,
     goal: TermId,
@@ -100,6 +101,7 @@ pub fn if_then(
 }
 
 /// `!`.
+#[inline(always)]
 pub fn cut(m: &mut Machine, height: usize, rest: Continuation) -> Step
     requires sound { IsSound m.old }
     requires rest { rest < length m.old.world.second.now }

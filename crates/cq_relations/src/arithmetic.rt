@@ -49,6 +49,7 @@ pub fn compare(
 }
 
 /// `X is E`: X is made equal to the value of E. Where the goal has no child, and after an error, the world is as at the call.
+#[inline(always)]
 pub fn evaluate_to(
     world: &mut World,
     lists: &mut Continuations<Cell>,

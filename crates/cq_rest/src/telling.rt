@@ -9,6 +9,7 @@ use cq_term::{Heap, TermId};
 use cq_walk::Pair;
 
 /// A term of a heap is read through its bindings: it may be told.
+#[inline(always)]
 pub fn look_at(heap: &Heap, id: TermId)
     requires live { id < length heap.now.now.terms }
     ensures told { MayBeTold heap.now.now id }
@@ -27,6 +28,7 @@ pub fn look_at_told(heap: &Heap, told: &[TermId])
 }
 
 /// Terms of a heap may be made equal.
+#[inline(always)]
 pub fn look_at_pairs(heap: &Heap, pairs: &[Pair])
     requires live { All (IsLive heap.now.now.terms) pairs.now }
     ensures equal { All (MayBeEqual heap.now.now) pairs.now }

@@ -49,6 +49,7 @@ pub fn unify(m: &mut Machine, goal: TermId, rest: Continuation) -> Result<Step, 
 }
 
 /// `X is E`.
+#[inline(always)]
 pub fn evaluate_to(m: &mut Machine, goal: TermId, rest: Continuation) -> Result<Step, StoreFault>
     requires sound { IsSound m.old }
     requires selected { IsSelectedSomewhere m.old goal rest }
@@ -91,6 +92,7 @@ pub fn evaluate_to(m: &mut Machine, goal: TermId, rest: Continuation) -> Result<
 }
 
 /// A comparison of the values of two expressions.
+#[inline(always)]
 pub fn compare(
     m: &Machine,
     comparison: Comparison,

@@ -48,6 +48,7 @@ pub(crate) fn cell_before(
 }
 
 /// A goal in front of another continuation.
+#[inline(always)]
 pub(crate) fn goal_before(
     heap: &Heap,
     lists: &mut Continuations<Cell>,

@@ -16,6 +16,7 @@ use std::alloc::AllocError;
 
 /// Makes so many variables, the oldest first, and says which number the first has, if there is one. An error is want of
 /// memory.
+#[inline(always)]
 pub fn new_variables(heap: &mut Heap, count: usize) -> Result<usize, AllocError>
     ensures first { IfOk result (λ first. 0 < count → first ≡ length heap.old.now.images) }
     ensures there { IfOk result (λ first. AreThere heap.new.now.images first count) }

@@ -40,6 +40,7 @@ impl Model for StoredTerm {
 
 impl StoredTerm {
     /// Keeps a term, read through bindings.
+    #[inline(always)]
     pub fn of(heap: &Heap, term: TermId) -> Result<StoredTerm, AllocError>
         requires { term < length heap.now.now.terms }
         ensures renamed { IfOk result (λ s. s.term ≡ renamed_from 0 (at heap.now.now.terms term)) }
@@ -65,6 +66,33 @@ impl StoredTerm {
         ensures names { (n : ℕ) → HasNamesBelow n self.now.term → KeepsNames n heap.old.now heap.new.now }
         ensures err { OnErr result (heap.new.now ≡ heap.old.now) }
 
+        ensures saved { heap.new.saved ≡ heap.old.saved }
+        ensures room { heap.old.room ≤ heap.new.room }
+    {
+        if self.variables > 0 {
+            return self.restore_parts(heap);
+        }
+        match self.pattern[0] {
+            View::Number(number) => {
+                let id = heap.number(number)?;
+                Ok(id)
+            }
+            View::Name(name) => {
+                let id = heap.atom(name)?;
+                Ok(id)
+            }
+            View::Var(_) | View::Compound(_, _) => self.restore_parts(heap),
+        }
+    }
+
+    /// The same of any term.
+    fn restore_parts(&self, heap: &mut Heap) -> Result<TermId, AllocError>
+        ensures live { IfOk result (λ id. id < length heap.new.now.terms) }
+        ensures moved { IfOk result (λ id. at heap.new.now.terms id ≡ apply (moved_by (length heap.old.now.images)) self.now.term) }
+        ensures terms { OnOk result (IsPrefix heap.old.now.terms heap.new.now.terms) }
+        ensures images { OnOk result (heap.new.now.images ≡ heap.old.now.images ++ unbound_from (length heap.old.now.images) self.now.variables) }
+        ensures names { (n : ℕ) → HasNamesBelow n self.now.term → KeepsNames n heap.old.now heap.new.now }
+        ensures err { OnErr result (heap.new.now ≡ heap.old.now) }
         ensures saved { heap.new.saved ≡ heap.old.saved }
         ensures room { heap.old.room ≤ heap.new.room }
     {

@@ -92,6 +92,7 @@ impl Heap {
     }
 
     /// A number as a term. Fails for want of memory, with every term as it was.
+    #[inline(always)]
     pub fn number(&mut self, number: Frac) -> Result<TermId, AllocError>
         ensures id { IfOk result (λ id. id ≡ length self.old.now.terms) }
         ensures terms { OnOk result (self.new.now.terms ≡ self.old.now.terms ++ Number number ∷ []) }
@@ -107,6 +108,7 @@ impl Heap {
     }
 
     /// A number that fits a word.
+    #[inline(always)]
     fn whole(&mut self, number: i64) -> Result<TermId, AllocError>
         ensures id { IfOk result (λ id. id ≡ length self.old.now.terms) }
         ensures terms { OnOk result (self.new.now.terms ≡ self.old.now.terms ++ Number (int_ℚ number) ∷ []) }
@@ -138,6 +140,7 @@ impl Heap {
     }
 
     /// An atom as a term. Fails for want of memory, with every term as it was.
+    #[inline(always)]
     pub fn atom(&mut self, name: Atom) -> Result<TermId, AllocError>
         ensures id { IfOk result (λ id. id ≡ length self.old.now.terms) }
         ensures terms { OnOk result (self.new.now.terms ≡ self.old.now.terms ++ Name name ∷ []) }
@@ -232,6 +235,7 @@ impl Heap {
 
     /// Makes so many variables, the oldest first, and says which number the first has. Fails for want of memory, with every
     /// term as it was.
+    #[inline(always)]
     pub fn new_vars(&mut self, count: usize) -> Result<usize, AllocError>
         ensures first { IfOk result (λ first. first ≡ length self.old.now.images) }
         ensures few { OnOk result (length self.new.now.images < 2 ^ 64) }
@@ -271,6 +275,7 @@ impl Heap {
 
     /// Binds an unbound variable to a term in which it doesn't stand: each live term is then read with that term in
     /// the variable's place.
+    #[inline(always)]
     pub fn bind(&mut self, variable: VarId, term: TermId) -> Result<(), AllocError>
         requires unbound { IsUnbound self.old.now.images variable.0 }
         requires live { term < length self.old.now.terms }
@@ -294,6 +299,7 @@ impl Heap {
     }
 
     /// The head of a term. A variable that it shows is unbound.
+    #[inline(always)]
     pub fn view(&self, id: TermId) -> View
         requires { id < length self.now.now.terms }
         ensures view { result ≡ view_of (at self.now.now.terms id) }
@@ -412,6 +418,7 @@ impl Heap {
     }
 
     /// Keeps a list that is done with, for its memory. Where there is no memory to note it in, it is dropped.
+    #[inline(always)]
     pub fn keep_list(&mut self, list: Vec<TermId>)
         ensures { self.new ≡ self.old }
     {
@@ -451,6 +458,7 @@ impl Undo for Heap {
 
     ghost room = { λ h. h.room };
 
+    #[inline(always)]
     fn mark(&mut self) -> Result<Mark, AllocError> {
         let number = self.marks.len();
         self.marks.push(Place {
@@ -463,6 +471,7 @@ impl Undo for Heap {
         Ok(Mark { number })
     }
 
+    #[inline(always)]
     fn undo(&mut self, m: Mark) {
         let place = self.marks[m.number];
         let lists = &mut self.lists;

@@ -69,6 +69,7 @@ impl Lists {
     }
 
     /// Makes so many variables, and says which number the first has. Fails for want of memory, with every list as it was.
+    #[inline(never)]
     pub fn add_vars(&mut self, count: usize) -> Result<usize, AllocError>
         ensures first { IfOk result (λ first. first ≡ length self.old.bound.items) }
         ensures ok { OnOk result (contents self.new ≡ with_vars count (contents self.old)) }

@@ -23,6 +23,7 @@ impl<A: Undo, B: Undo> Undo for Both<A, B> {
 
     ghost room = { λ s. min (A.room s.first) (B.room s.second) };
 
+    #[inline(always)]
     fn mark(&mut self) -> Result<Mark, AllocError> {
         let m = self.first.mark()?;
         match self.second.mark() {
@@ -39,6 +40,7 @@ impl<A: Undo, B: Undo> Undo for Both<A, B> {
         self.second.undo(m);
     }
 
+    #[inline(always)]
     fn forget(&mut self, m: Mark) {
         self.first.forget(m);
         self.second.forget(m);

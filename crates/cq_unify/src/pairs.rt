@@ -51,6 +51,7 @@ pub(crate) fn next(heap: &Heap, work: &mut Vec<Pair>) -> Result<Step, AllocError
 }
 
 /// Terms that share an id are equal, and are not looked into. Of two variables the younger is to be bound.
+#[inline(always)]
 pub(crate) fn demand_of(heap: &Heap, left: TermId, right: TermId) -> Demand
     requires left { left < length heap.now.now.terms }
     requires right { right < length heap.now.now.terms }

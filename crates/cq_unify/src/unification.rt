@@ -21,6 +21,7 @@ use std::alloc::AllocError;
 /// it doesn't stand, and of two variables the younger to the older. The variables that get bound are told to `newly`
 /// in the order of their bindings. (Robinson 1965, with bindings in place of substituted terms.) Only two compounds,
 /// and a compound inside one that a variable is to become, take memory beside that for the bindings.
+#[inline(always)]
 pub fn unify(heap: &mut Heap, newly: &mut Newly, a: TermId, b: TermId) -> Result<bool, AllocError>
     requires a { a < length heap.old.now.terms }
     requires b { b < length heap.old.now.terms }
@@ -101,6 +102,7 @@ fn solve(heap: &mut Heap, newly: &mut Newly, a: TermId, b: TermId) -> Result<boo
 }
 
 /// Binds a variable and tells it, unless it stands in the term.
+#[inline(always)]
 fn bind_apart(
     heap: &mut Heap,
     newly: &mut Newly,

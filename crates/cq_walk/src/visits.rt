@@ -68,6 +68,7 @@ impl Visited {
 }
 
 /// Adds the arguments of a compound to the work, the last one first, so that the first is taken first.
+#[inline(always)]
 pub fn push_arguments(
     heap: &Heap,
     id: TermId,

@@ -50,6 +50,7 @@ impl Undo for World {
 
     ghost room = { room_of };
 
+    #[inline(always)]
     fn mark(&mut self) -> Result<Mark, AllocError> {
         self.reserve(1)?;
         let m = self.heap.mark().unwrap();
@@ -64,6 +65,7 @@ impl Undo for World {
         self.store.undo(m);
     }
 
+    #[inline(always)]
     fn forget(&mut self, m: Mark) {
         self.heap.forget(m);
         self.attrs.forget(m);

@@ -4,14 +4,14 @@ use Rattle.cq_term.specs.Shown.{arguments}
 use Rattle.spec_arithmetic.specs.Operations.{binary_named}
 use Rattle.cq_arith.specs.Faults.{ComesTo}
 use Rattle.cq_arith.specs.Work.{evaluated_at}
-use Rattle.cq_arith.proofs.Steps.{has_two, two_arguments, not_binary, applied, all_returned, all_faults, left_waits}
+use Rattle.cq_arith.proofs.Steps.{has_two, two_arguments, not_binary, left_waits, value_returned}
 use Rattle.cq_arith.proofs.evaluation.visit_two.Goals as goal
 
-pub returns-in_default-clause-fault : goal.returns-in_default-clause-fault
-returns-in_default-clause-fault c =
+pub returns-in_default-binary_operation-clause-fault : goal.returns-in_default-binary_operation-clause-fault
+returns-in_default-binary_operation-clause-fault c =
     subst (ComesTo c.args.atoms.now (evaluated_at c.args.atoms.now c.args.heap.now.now.terms c.args.id)) (sym c.not_evaluable.ensures)
     (not_binary c.args.atoms.now (at c.args.heap.now.now.terms c.args.id) c.args.name c.requires.shown
-    (ap binary_named (sym c.text.ensures.value) ∙ sym c.binary_operation.ensures ∙ c.in_default.is))
+    (ap binary_named (sym c.text.ensures.value) ∙ sym c.binary_operation.ensures ∙ c.in_default-binary_operation.is))
 
 pub arg-left-requires-clause-within : goal.arg-left-requires-clause-within
 arg-left-requires-clause-within c =
@@ -26,29 +26,11 @@ arg-right-requires-clause-within c =
 pub returns-clause-goes_on : goal.returns-clause-goes_on
 returns-clause-goes_on c =
     let ts = c.args.heap.now.now.terms in
-    left_waits c.args.atoms.now ts c.args.under_way.now.items c.wait.new.under_way.items c.args.id c.arg-left.result c.arg-right.result c.args.name c.in-Some.operation
+    left_waits c.args.atoms.now ts c.args.under_way.now.items c.wait.new.under_way.items c.args.id c.arg-left.result c.arg-right.result c.args.name c.in-Some-binary_operation.operation
     (two_arguments (at ts c.args.id) (at ts c.arg-left.result) (at ts c.arg-right.result) c.args.name c.requires.shown c.arg-left.ensures.arg c.arg-right.ensures.arg)
-    (ap binary_named (sym c.text.ensures.value) ∙ sym c.binary_operation.ensures ∙ c.in-Some.is)
+    (ap binary_named (sym c.text.ensures.value) ∙ sym c.binary_operation.ensures ∙ c.in-Some-binary_operation.is)
     c.requires.names c.arg-left.ensures.live c.arg-right.ensures.live c.in_ok-wait.ensures
 
-pub returns-in-Some-number_of-2-clause-goes_on : goal.returns-in-Some-number_of-2-clause-goes_on
-returns-in-Some-number_of-2-clause-goes_on c =
-    let texts = c.args.atoms.now in
-    let ts = c.args.heap.now.now.terms in
-    let both = two_arguments (at ts c.args.id) (at ts c.arg-left.result) (at ts c.arg-right.result) c.args.name c.requires.shown c.arg-left.ensures.arg c.arg-right.ensures.arg in
-    let ws = c.args.under_way.now.items in
-    all_returned texts ts ws ws c.args.id c.arg-left.result c.arg-right.result c.args.name c.apply.result _ both
-    (applied texts ts ws ws c.args.id c.arg-left.result c.arg-right.result c.args.name c.in-Some.operation c.in-Some-number_of.first c.in-Some-number_of-2.second both
-    (ap binary_named (sym c.text.ensures.value) ∙ sym c.binary_operation.ensures ∙ c.in-Some.is) c.in-Some-number_of.ensures c.in-Some-number_of-2.ensures)
-    c.apply.ensures.value
-
-pub returns-in-Some-number_of-2-clause-fault : goal.returns-in-Some-number_of-2-clause-fault
-returns-in-Some-number_of-2-clause-fault c =
-    let texts = c.args.atoms.now in
-    let ts = c.args.heap.now.now.terms in
-    let both = two_arguments (at ts c.args.id) (at ts c.arg-left.result) (at ts c.arg-right.result) c.args.name c.requires.shown c.arg-left.ensures.arg c.arg-right.ensures.arg in
-    let ws = c.args.under_way.now.items in
-    all_faults texts c.apply.result _ (evaluated_at texts ts c.args.id)
-    (applied texts ts ws ws c.args.id c.arg-left.result c.arg-right.result c.args.name c.in-Some.operation c.in-Some-number_of.first c.in-Some-number_of-2.second both
-    (ap binary_named (sym c.text.ensures.value) ∙ sym c.binary_operation.ensures ∙ c.in-Some.is) c.in-Some-number_of.ensures c.in-Some-number_of-2.ensures)
-    c.apply.ensures.fault
+pub returns-in-Some-clause-goes_on : goal.returns-in-Some-clause-goes_on
+returns-in-Some-clause-goes_on c =
+    value_returned c.args.atoms.now c.args.heap.now.now.terms c.args.under_way.now.items c.args.under_way.now.items c.args.id c.in-Some.value c.in-Some.ensures

@@ -13,7 +13,6 @@ run_goal-requires-clause-front c =
     let m = c.args.e.now.machine in
     record {
       k = c.in-Some.k;
-      height = c.in-Goal.field-1;
       current = c.in-Some.is;
       front = record {
         earlier = c.in-Some-first.ensures.earlier;

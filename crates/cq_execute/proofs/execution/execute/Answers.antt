@@ -1,12 +1,6 @@
-use Rattle.std.proofs.Common.{◌<◌, ℕ, length}
-use Rattle.cq_machine.specs.declared.machine.Machine.{Machine}
-use Rattle.cq_machine.specs.Machines.{now, terms, IsSound}
-use Rattle.cq_selected.specs.Stops.{IsSelectedFrom}
-use Rattle.cq_execute.specs.Rows.{IsAtGoal}
+use Rattle.cq_machine.specs.Machines.{now}
+use Rattle.cq_execute.proofs.Done.{at_goal}
 use Rattle.cq_execute.proofs.execution.execute.Goals as goal
-
-at_goal : (m : Machine) (id height rest : ℕ) → IsSound m → (s : IsSelectedFrom m id height rest) → id < length (terms m) → IsAtGoal m id height rest
-at_goal m id height rest sound s live = record { sound = sound; selected = s; live = live; there = s.3.selected.place.continuation.there }
 
 pub execute_builtin-requires-clause-at : goal.execute_builtin-requires-clause-at
 execute_builtin-requires-clause-at c =

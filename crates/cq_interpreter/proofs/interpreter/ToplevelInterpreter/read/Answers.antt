@@ -4,7 +4,7 @@ use Rattle.spec_search.specs.Database.{Database}
 use Rattle.cq_atoms.specs.Texts.{KeepsTexts}
 use Rattle.cq_ops.specs.Tables.{named}
 use Rattle.cq_machine.proofs.Interned.{texts_kept}
-use Rattle.cq_engine.proofs.Engines.{kept_where}
+use Rattle.cq_events.proofs.Engines.{kept_where}
 use Rattle.spec_reading.specs.Decided.{Decided}
 use Rattle.spec_reading.specs.Readings.{Reads}
 use Rattle.cq_term.specs.HeapValue.{Terms}

@@ -1,7 +1,7 @@
 use Rattle.std.proofs.Common.{refl, ◌∙◌, subst}
 use Rattle.spec_transcript.specs.Purposes.{ball_line}
 use Rattle.cq_machine.proofs.Interned.{texts_kept}
-use Rattle.cq_engine.proofs.Engines.{kept_where}
+use Rattle.cq_events.proofs.Engines.{kept_where}
 use Rattle.cq_consult.specs.Consulted.{Consults}
 use Rattle.cq_interpreter.specs.Toplevels.{texts, IsWhole}
 use Rattle.cq_interpreter.specs.declared.toplevel.Toplevel.{Toplevel}

@@ -1,6 +1,6 @@
 use Rattle.std.proofs.Common.{◌+◌}
 use Rattle.cq_arith.specs.Work.{evaluated_at, IsUnderWay, all_work, step_work}
-use Rattle.cq_arith.proofs.evaluation.eval.Given as goal
+use Rattle.cq_arith.proofs.evaluation.eval_whole.Given as goal
 
 abbrev pub invariant-loop-step : goal.invariant-loop-step
 invariant-loop-step l = IsUnderWay l.atoms l.heap.now.terms (evaluated_at l.atoms l.heap.now.terms l.fn.term) l.under_way.items l.step

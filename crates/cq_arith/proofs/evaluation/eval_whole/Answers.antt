@@ -1,7 +1,7 @@
 use Rattle.std.proofs.Common.{length}
 use Rattle.cq_arith.specs.Work.{evaluated_at}
 use Rattle.cq_arith.proofs.Steps.{visit_stops, resume_stops, resume_goes_on, resume_is_less}
-use Rattle.cq_arith.proofs.evaluation.eval.Goals as goal
+use Rattle.cq_arith.proofs.evaluation.eval_whole.Goals as goal
 
 pub returns-in-Err-clause-fault : goal.returns-in-Err-clause-fault
 returns-in-Err-clause-fault c =

@@ -1,0 +1,73 @@
+-- What holds once a goal was executed with a small result.
+use Rattle.std.specs.Prelude.{◌≡◌, ◌<◌, ℕ, List, [], length, Option, Some, None, Ok, Err, IfOk, OnErr, ⊤}
+use Rattle.std.specs.declared.alloc.AllocError.{AllocError}
+use Rattle.std.specs.declared.result.Result.{Result}
+use Rattle.spec_syntax.specs.Trees.{Tree}
+use Rattle.spec_branch.specs.Branch.{Branch}
+use Rattle.spec_search.specs.Replies.{Place}
+use Rattle.cq_linear.specs.declared.store.StoreFault.{StoreFault}
+use Rattle.cq_linear.specs.declared.store.StoreFault.TheVariants.{Overflow, Pivots, NoMemory}
+use Rattle.cq_machine.specs.declared.machine.Machine.{Machine}
+use Rattle.cq_machine.specs.declared.step.Step.{Step}
+use Rattle.cq_machine.specs.declared.step.Step.TheVariants as step
+use Rattle.cq_machine.specs.Machines.{IsSound, StillStands}
+use Rattle.cq_machine.specs.Stepping.{IsSelectedAt}
+use Rattle.cq_execute.specs.declared.small.Went.{Went}
+use Rattle.cq_execute.specs.declared.small.Went.TheVariants.{Goes, Back, Refused, Row}
+use Rattle.cq_execute.specs.Executions.{Continues, KeepsWalks, HasSameDatabase}
+use Rattle.cq_execute.specs.Rows.{IsCallOf}
+use Rattle.cq_table.specs.declared.builtins.Builtin.{Builtin}
+
+-- what a step without output came to
+abbrev pub as_went : Step → Went
+as_went (step.Goes k) = Goes k
+as_went step.Back = Back
+as_went (step.Raises e) = Refused
+as_went (step.Throws id) = Refused
+as_went (step.Refuses pair) = Refused
+
+-- the same, or want of memory
+abbrev pub IsSmall : Result Step StoreFault → Result Went AllocError → Type 0
+IsSmall (Ok s) (Ok w) = w ≡ as_went s
+IsSmall (Ok s) (Err e) = ⊥
+IsSmall (Err (Overflow pair)) (Ok w) = w ≡ Refused
+IsSmall (Err (Overflow pair)) (Err e) = ⊥
+IsSmall (Err (Pivots n)) (Ok w) = w ≡ Refused
+IsSmall (Err (Pivots n)) (Err e) = ⊥
+IsSmall (Err NoMemory) (Ok w) = ⊥
+IsSmall (Err NoMemory) (Err e) = ⊤
+
+-- the machine has come to what the goal's step makes, which shows nothing; of a goal that was refused, or has another row, nothing is said
+abbrev pub ReachesSmall : Machine → Place → List Branch → Tree → Went → Type 0
+ReachesSmall m p behind goal (Goes k) = Continues m (Some k) [] p behind goal
+ReachesSmall m p behind goal Back = Continues m None [] p behind goal
+ReachesSmall m p behind goal Refused = ⊤
+ReachesSmall m p behind goal (Row b) = ⊤
+
+-- what it goes on with is there
+abbrev pub CanGoOn : Machine → Went → Type 0
+CanGoOn m (Goes k) = k < length m.world.second.now
+CanGoOn m Back = ⊤
+CanGoOn m Refused = ⊤
+CanGoOn m (Row b) = ⊤
+
+-- it stands for what it stood for, with the same program
+pub record IsUnmoved (old new : Machine) : Type 0 where
+  pub stands : StillStands old new
+  pub database : HasSameDatabase old new
+
+-- where a goal was refused nothing has changed for a search, and where it calls a predicate with another row nothing at all
+abbrev pub LeavesAlone : Machine → Machine → ℕ → Went → Type 0
+LeavesAlone old new id (Goes k) = ⊤
+LeavesAlone old new id Back = ⊤
+LeavesAlone old new id Refused = IsUnmoved old new
+LeavesAlone old new id (Row b) = (new ≡ old) × IsCallOf old id b
+
+-- the goal was executed with this result
+pub record IsSmallDone (old new : Machine) (id height rest : ℕ) (r : Result Went AllocError) : Type 0 where
+  pub row : IfOk r (λ w. (p : Place) (behind : List Branch) (goal : Tree) → IsSelectedAt old id height rest p behind goal → ReachesSmall new p behind goal w)
+  pub goes : IfOk r (CanGoOn new)
+  pub alone : IfOk r (LeavesAlone old new id)
+  pub sound : IsSound new
+  pub program : KeepsWalks old new
+  pub err : OnErr r (IsUnmoved old new)
