@@ -9,6 +9,5 @@ mod Idle
 mod Marks
 mod Read
 mod InFront
-
 -- laws of a lower crate
 pub use Rattle.cq_engine.proofs.Engines

@@ -1,5 +1,4 @@
 pub mod Finding
-
 -- what its clauses cite of lower crates
 pub use Rattle.cq_matching.specs.Matching
 pub use Rattle.cq_saved.specs.Taking

@@ -18,8 +18,8 @@ returns-clause-grows c =
     let texts = c.args.atoms.now in
     let ts = c.args.heap.now.now.terms in
     let there =
-        All-cons (λ id. id < length ts) c.args.first (c.args.second ∷ []) c.requires.first
-        (All-cons (λ id. id < length ts) c.args.second [] c.requires.second (λ i d m. absurd (omega (arith, m)))) in
+    All-cons (λ id. id < length ts) c.args.first (c.args.second ∷ []) c.requires.first
+    (All-cons (λ id. id < length ts) c.args.second [] c.requires.second (λ i d m. absurd (omega (arith, m)))) in
     grows_term texts texts c.args.heap.now c.compound.new.self (with_arguments c.args.name (map (at ts) (c.args.first ∷ c.args.second ∷ []))) (prefix_same texts texts refl)
     c.in_ok-id.ensures.terms c.in_ok-id.ensures.images
     (λ known. over_known texts ts c.args.name (c.args.first ∷ c.args.second ∷ []) c.requires.name there known)
