@@ -229,6 +229,7 @@ fn try_clause(
 }
 
 /// Leaves the newest choice this to try, by the clauses that a walk leaves; without any it is gone.
+#[inline(always)]
 pub fn leave_untried(
     world: &mut Searching,
     choices: &mut Choices<Alternatives>,

@@ -93,6 +93,7 @@ impl<C: Drop> Choices<C> {
             × (open_choices (W.saved world.old) self.now ≡ (W.now world.new, content) ∷ others) }
         ensures saved { W.saved world.new ≡ W.saved world.old }
         ensures room { W.room world.old ≤ W.room world.new }
+        ensures marked { AreMarked (W.saved world.new) self.now }
     {
         world.undo(Mark {
             number: self.contents.len() - 1,
@@ -151,6 +152,7 @@ impl<C: Drop> Choices<C> {
     }
 
     /// Leaves the newest choice this to try, in place of what it left.
+    #[inline(always)]
     pub fn renew(&mut self, content: C)
         requires { 0 < length self.old }
         ensures { (before : C) × (older : List C) × (self.old ≡ before ∷ older) × (self.new ≡ content ∷ older) }

@@ -32,3 +32,6 @@ returns-clause-saved g c =
     let long : length saved ≡ suc n = omega (arith, c.requires.some, c.requires.marked, ap length c.self.view_is, length-reverse c.self.inside.contents.items, c.len.ensures) in
     let marked = rw c.unwrap.ensures at c.mark.ensures.saved in
     marked ∙ ap (λ s. s ++ now ∷ []) c.undo.ensures.saved ∙ sym (take-last saved n now long c.undo.ensures.now)
+
+pub returns-clause-marked : goal.returns-clause-marked
+returns-clause-marked g c = ap length (returns-clause-saved g c) ∙ c.requires.marked
