@@ -1,7 +1,6 @@
-use Rattle.std.proofs.Common.{◌≡◌, ◌∷◌, ◌<◌, ℕ, List, map, Option, None, Some, refl, sym, ap, ◌∙◌, subst}
-use Rattle.std.specs.Prelude.{Ok, Err, IfNone, IfOk, IfErr, OnOk, OnErr}
+use Rattle.std.proofs.Common.{◌≡◌, ◌∷◌, ◌<◌, List, map, None, refl, sym, ap, ◌∙◌, subst}
+use Rattle.std.specs.Prelude.{Ok, Err, IfOk, IfErr, OnOk, OnErr}
 use Rattle.std.specs.declared.result.Result.{Result}
-use Rattle.cq_clauses.specs.declared.walk.Walk.{Walk}
 use Rattle.cq_control.specs.Open.{open_choices}
 use Rattle.spec_machine.specs.Cells.{Value}
 use Rattle.cq_world.specs.Contents.{Contents}
@@ -12,8 +11,7 @@ use Rattle.cq_steps.proofs.Budgets.{same_budget}
 use Rattle.cq_steps.proofs.Older.{newest_gone}
 use Rattle.cq_begin.specs.Stops.{ComesOn, waiting_in}
 use Rattle.cq_begin.proofs.Back.{back_still, comes_then, stops_then}
-use Rattle.cq_calls.specs.Trying.{IsGone, KeepsOthers}
-use Rattle.cq_calls.proofs.Left.{Opened, opened_is, same-first, gone_past, open_still}
+use Rattle.cq_calls.proofs.Left.{Opened, opened_is, same-first, open_still}
 use Rattle.cq_calls.proofs.Newest.{is_walk, arrives_past, fewer_past, open_past, begins_ready, begins_goal, begins_rest}
 use Rattle.cq_calls.proofs.Waiting.{keeps_all}
 use Rattle.cq_calls.proofs.trying.come_back.Goals as goal
@@ -90,8 +88,8 @@ others c = c.resume.ensures.open.2
 
 was : (c : After-resume) → open_choices (before c) c.args.choices.now ≡ (back c, Clauses c.args.goal c.args.walk c.args.rest) ∷ others c
 was c =
-    let open = c.resume.ensures.open in
-    open.4 ∙ ap (λ (x : Alternatives). (back c, x) ∷ others c) (same-first open.0 (Clauses c.args.goal c.args.walk c.args.rest) open.1 c.requires.newest.0 (sym open.3 ∙ c.requires.newest.1))
+    let o = c.resume.ensures.open in
+    o.4 ∙ ap (λ (x : Alternatives). (back c, x) ∷ others c) (same-first o.0 (Clauses c.args.goal c.args.walk c.args.rest) o.1 c.requires.newest.0 (sym o.3 ∙ c.requires.newest.1))
 
 still : (c : After-resume) → open_choices (saved_values c.resume.new.world.first c.resume.new.world.second.saved) c.args.choices.now
     ≡ (back c, Clauses c.args.goal c.args.walk c.args.rest) ∷ others c

@@ -145,7 +145,7 @@ put_back : (c : After-renew) → c.renew.new.self ≡ Clauses c.args.goal c.args
 put_back c =
     let changed = c.renew.ensures in
     changed.3
-    ∙ ap₂ (λ (x : Walk) (older : List Alternatives). Clauses c.args.goal x c.args.rest ∷ older) c.new-untried.ensures
+    ∙ ap₂ (λ (x : Walk) (older : List Alternatives). Clauses c.args.goal x c.args.rest ∷ older) c.new-untried-in-Pruned.ensures
     (same-others changed.0 (Clauses c.args.goal c.requires.next.walk c.args.rest) changed.1 c.requires.next.trying.older (sym changed.2 ∙ c.requires.next.trying.newest))
 
 left_open : (c : After-renew) → saved_of c.begin_clause.new.world ≡ saved_of c.args.world.now.first → c.begin_clause.new.lists.saved ≡ c.args.world.now.second.saved

@@ -18,7 +18,7 @@ use Rattle.cq_steps.proofs.Budgets.{same_budget}
 use Rattle.cq_steps.proofs.Older.{newest_gone}
 use Rattle.cq_begin.proofs.Back.{back_still}
 use Rattle.cq_calls.specs.Trying.{Leaves}
-use Rattle.cq_calls.proofs.Left.{Opened, AreLeft, opened_is, same-first, open_same, marked_same, of_content, length-opened, are_left, open_still, put_newest, same-others}
+use Rattle.cq_calls.proofs.Left.{Opened, AreLeft, opened_is, same-first, open_same, marked_same, of_content, are_left, open_still, put_newest, same-others}
 use Rattle.cq_matching.proofs.Newest.{is_walk, arrives_past, fewer_past, open_past, begins_ready, begins_asked, begins_rule, begins_rest, arrives_left, arrives_pruned, fewer_wait, open_left, fault_stops}
 use Rattle.cq_matching.proofs.matching.compare_next.Goals as goal
 use Rattle.cq_matching.proofs.matching.compare_next.Goals.{After-back, After-resume, After-clause-clause, After-leave_untried, After-renew}
@@ -95,8 +95,8 @@ others c = c.resume.ensures.open.2
 -- the world goes back to that of the choice, which stays
 was : (c : After-resume) → open_choices (before c) c.args.choices.now ≡ (back c, Matches c.args.asked c.args.walk c.args.removes c.args.rest) ∷ others c
 was c =
-    let open = c.resume.ensures.open in
-    open.4 ∙ ap (λ (x : Alternatives). (back c, x) ∷ others c) (same-first open.0 (Matches c.args.asked c.args.walk c.args.removes c.args.rest) open.1 c.requires.newest.0 (sym open.3 ∙ c.requires.newest.1))
+    let o = c.resume.ensures.open in
+    o.4 ∙ ap (λ (x : Alternatives). (back c, x) ∷ others c) (same-first o.0 (Matches c.args.asked c.args.walk c.args.removes c.args.rest) o.1 c.requires.newest.0 (sym o.3 ∙ c.requires.newest.1))
 
 still : (c : After-resume) → open_choices (saved_values c.resume.new.world.first c.resume.new.world.second.saved) c.args.choices.now
     ≡ (back c, Matches c.args.asked c.args.walk c.args.removes c.args.rest) ∷ others c
