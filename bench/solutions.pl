@@ -13,5 +13,6 @@ digit(9).
 number(3, C) :- digit(_), digit(_), digit(C).
 number(4, D) :- digit(_), digit(_), digit(_), digit(D).
 number(5, E) :- digit(_), digit(_), digit(_), digit(_), digit(E).
+number(6, F) :- digit(_), digit(_), digit(_), digit(_), digit(_), digit(F).
 
 bench(N) :- findall(K, number(N, K), [First|_]), write(First), nl.
