@@ -39,6 +39,7 @@ use std::alloc::AllocError;
 /// A call begins one of its clauses: its head, under new variables, is made equal to the goal, the world is settled, and its body
 /// goes in front of the continuation, behind the goals that woke. A cut in the body goes back to the height. Where the head
 /// can't be made equal, or the constraints have no solution then, and after an error, the world is as at the call.
+#[inline(always)]
 pub fn begin_clause(
     world: &mut World,
     lists: &mut Continuations<Cell>,

@@ -79,7 +79,7 @@ fn equate_unmarked(heap: &mut Heap, attrs: &Attrs, pairs: &[Pair]) -> Result<Equ
 }
 
 /// Binds an unbound variable that nothing waits for to a number or a name. False, with nothing changed, where the terms are others.
-fn bind_constant(heap: &mut Heap, attrs: &Attrs, pair: Pair) -> Result<bool, AllocError>
+pub(crate) fn bind_constant(heap: &mut Heap, attrs: &Attrs, pair: Pair) -> Result<bool, AllocError>
     requires { MayBeEqual heap.old.now pair }
     ensures bound { result ≡ Ok true → AreFree heap.old.now heap.new.now attrs.now.now (pair ∷ []) }
     ensures unchanged { result ≢ Ok true → heap.new.now ≡ heap.old.now }

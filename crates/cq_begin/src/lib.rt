@@ -13,4 +13,4 @@ mod waking;
 pub use beginning::{Begun, begin};
 pub use clauses::begin_clause;
 pub use laws::{rows_stop, settlings_stop};
-pub use rows::{tell, unify};
+pub use rows::{tell, unify, unify_constant};

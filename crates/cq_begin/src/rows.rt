@@ -1,6 +1,6 @@
 // The rows of goals that make terms equal, or tell constraints.
 
-ghost use Rattle.std.specs.Prelude.{◌≡◌, ◌<◌, ◌≤◌, [], ◌∷◌, ℕ, List, All, length, IfOk, OnErr};
+ghost use Rattle.std.specs.Prelude.{◌≡◌, ◌<◌, ◌≤◌, [], ◌∷◌, ℕ, List, All, Some, true, false, length, IfOk, OnErr};
 ghost use Rattle.spec_branch.specs.Branch.{Branch};
 ghost use Rattle.spec_search.specs.Constraints.{told_child};
 ghost use Rattle.spec_search.specs.Replies.{Place, makes, unifies, with_equations};
@@ -15,10 +15,11 @@ ghost use Rattle.cq_world.specs.Rest.{IsReady};
 ghost use Rattle.cq_world.specs.Worlds.{now_of, saved_of, room_of};
 ghost use Rattle.cq_settle.specs.Settled.{MayRefuse, MayTake};
 ghost use Rattle.cq_steps.specs.Lists.{KeepsLists};
-ghost use Rattle.cq_steps.specs.Worlds.{value, Placed, Leads};
+ghost use Rattle.cq_steps.specs.Worlds.{value, with_heap, Placed, Leads};
 ghost use Rattle.cq_begin.specs.Begun.{IfGoes, IfPruned, goes_to, trees_of_pairs, told_work, AtPlaces};
 
 use crate::beginning::{Begun, begin};
+use crate::equal::bind_constant;
 use cq_atoms::Atoms;
 use cq_control::{Continuation, Continuations};
 use cq_linear::store::StoreFault;
@@ -67,6 +68,41 @@ pub fn unify(
     look_at_pairs(&world.heap, pairs);
     let told = Vec::new(world.heap.alloc());
     begin(world, lists, atoms, pairs, told, rest)
+}
+
+/// The same of one pair, a variable that nothing waits for and a number or a name: the variable is bound, with no mark, and nothing
+/// is to be settled. False, with nothing changed, where the pairs are others, and where memory is wanting.
+pub fn unify_constant(
+    world: &mut World,
+    lists: &Continuations<Cell>,
+    atoms: &Atoms,
+    pairs: &[cq_walk::Pair],
+    rest: Continuation,
+) -> bool
+    requires ready { IsReady atoms.now (now_of world.old) }
+    requires different { AreDifferent atoms.now }
+    requires pairs { All (IsLive world.old.heap.now.terms) pairs.now }
+    requires rest { rest < length lists.now.now }
+    ensures row { result ≡ true → (choices : Stack Contents) (p : Place) (behind : List Branch)
+        → Placed atoms.now choices (value world.old lists.now.now) rest p behind
+        → Leads atoms.now choices (value world.new lists.now.now) (Some rest) p behind
+        (unifies p (trees_of_pairs atoms.now world.old.heap.now.terms pairs.now)) }
+    ensures unchanged { result ≡ false → now_of world.new ≡ now_of world.old }
+    ensures others { now_of world.new ≡ with_heap world.new.heap.now (now_of world.old) }
+    ensures saved { saved_of world.new ≡ saved_of world.old }
+    ensures budget { world.new.store.pivots ≡ world.old.store.pivots }
+    ensures room { room_of world.old ≤ room_of world.new }
+{
+    equated_worlds_may_be_settled();
+    look_at_pairs(&world.heap, pairs);
+    let _told = world.store.told();
+    if pairs.len() != 1 {
+        return false;
+    }
+    match bind_constant(&mut world.heap, &world.attrs, pairs[0]) {
+        Ok(bound) => bound,
+        Err(_) => false,
+    }
 }
 
 /// A goal that tells relations, as the members of `{C}`, goes on, and has no child where the constraints have no solution then.

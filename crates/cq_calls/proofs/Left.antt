@@ -1,5 +1,5 @@
 -- The newest choice, as clauses that it leaves are tried one after another, and what is left of it.
-use Rattle.std.proofs.Common.{◌≡◌, ◌⊎◌, inl, inr, ℕ, suc, ◌<◌, List, [], ◌∷◌, ◌++◌, length, Some, refl, sym, ap, ap₂, ◌∙◌, subst, arith, true, length-append}
+use Rattle.std.proofs.Common.{◌≡◌, ◌⊎◌, inl, inr, ℕ, suc, ◌<◌, List, [], ◌∷◌, length, Some, refl, sym, ap, ap₂, ◌∙◌, subst, arith, true}
 use Rattle.std.specs.Prelude.{All, reverse, slice_get}
 use Rattle.std.specs.List.{AllByRecursion, zip}
 use Rattle.std.proofs.lemmas.List.{length-reverse}
@@ -52,7 +52,7 @@ of_content P cs n kept a l e = subst P (get_or_from_slice_get cs n kept kept e) 
 pub same-first : {A : Type 0} (x y : A) (xs ys : List A) → x ∷ xs ≡ y ∷ ys → x ≡ y
 same-first x y xs ys e = cc
 
-same-others : {A : Type 0} (x y : A) (xs ys : List A) → x ∷ xs ≡ y ∷ ys → xs ≡ ys
+pub same-others : {A : Type 0} (x y : A) (xs ys : List A) → x ∷ xs ≡ y ∷ ys → xs ≡ ys
 same-others x y xs ys e = cc
 
 -- the newest of the choices of before was changed again, or is gone
@@ -101,17 +101,6 @@ put_there content rest [] x xs long = absurd (omega (arith, long))
 put_there content rest (v ∷ vs) x xs long = stays {c = (v, x)} {older = zip vs xs} refl refl
 
 -- the contents of the newest choice, where those of the choice with so many older ones were changed
-pub changed_newest : (newer old new xs : List Alternatives) (x y z : Alternatives) (height : ℕ) → old ≡ x ∷ xs → height ≡ length xs
-    → old ≡ newer ++ y ∷ last height old → new ≡ newer ++ z ∷ last height old → new ≡ z ∷ xs
-changed_newest newer old new xs x y z height e high before after =
-    let below : last height old ≡ xs = ap₂ (λ (m : ℕ) (l : List Alternatives). last m l) high e ∙ older-all x xs in
-    let long : length newer ≡ 0 = omega (arith, ap length before, length-append newer (y ∷ last height old), ap length below, ap length e) in
-    after ∙ ap₂ (λ (l m : List Alternatives). l ++ z ∷ m) (is_empty newer long) below
-  where
-    is_empty : (l : List Alternatives) → length l ≡ 0 → l ≡ []
-    is_empty [] e = refl
-    is_empty (a ∷ l) e = absurd (omega (arith, e))
-
 pub put_newest : (content : Alternatives) (rest : Walk) (saved : List (Value Contents)) (old new xs : List Alternatives) (x : Alternatives) → AreMarked saved old → old ≡ x ∷ xs
     → new ≡ content ∷ xs → Leaves content rest (open_choices saved old) (open_choices saved new)
 put_newest content rest saved old new xs x marked e f =

@@ -94,7 +94,7 @@ fn come_back(
         choices.back(world);
         return Ok(None);
     };
-    choices.retry(world, Alternatives::Clauses(goal, Untried::new(walk), rest));
+    choices.resume(world);
     try_from(world, choices, atoms, clauses, number, goal, left, rest)
 }
 
@@ -198,8 +198,6 @@ fn try_clause(
 {
     let clause = clauses.content(number).clause();
     let height = choices.height() - 1;
-    let untried = Untried::new(*left);
-    let others = Alternatives::Clauses(goal, untried, rest);
     match begin_clause(
         &mut world.first,
         &mut world.second,
@@ -211,11 +209,18 @@ fn try_clause(
     ) {
         Ok(begun) => match begun {
             Begun::Goes(first) => {
-                leave_untried(world, choices, *left, others);
+                let untried = Untried::new(*left);
+                leave_untried(
+                    world,
+                    choices,
+                    left,
+                    Alternatives::Clauses(goal, untried, rest),
+                );
                 Ok(Begun::Goes(first))
             }
             Begun::Pruned => {
-                choices.replace_at(height, others);
+                let untried = Untried::new(*left);
+                choices.renew(Alternatives::Clauses(goal, untried, rest));
                 Ok(Begun::Pruned)
             }
         },
@@ -224,24 +229,25 @@ fn try_clause(
 }
 
 /// Leaves the newest choice this to try, by the clauses that a walk leaves; without any it is gone.
+#[inline(always)]
 pub fn leave_untried(
     world: &mut Searching,
     choices: &mut Choices<Alternatives>,
-    left: Walk,
+    left: &Walk,
     others: Alternatives,
 )
     requires marked { AreMarked (saved_values world.old.first world.old.second.saved) choices.old }
     requires some { 0 < length choices.old }
-    ensures leaves { Leaves others left (open_choices (saved_values world.old.first world.old.second.saved) choices.old)
+    ensures leaves { Leaves others left.now (open_choices (saved_values world.old.first world.old.second.saved) choices.old)
         (open_choices (saved_values world.new.first world.new.second.saved) choices.new) }
     ensures first { now_of world.new.first ≡ now_of world.old.first }
     ensures lists { world.new.second.now ≡ world.old.second.now }
     ensures marked { AreMarked (saved_values world.new.first world.new.second.saved) choices.new }
 {
-    let newest = choices.height() - 1;
     if left.is_empty() {
+        let newest = choices.height() - 1;
         choices.cut(world, newest);
     } else {
-        choices.replace_at(newest, others);
+        choices.renew(others);
     }
 }

@@ -85,6 +85,22 @@ impl<C: Drop> Choices<C> {
         mem::replace(&mut self.contents[number], content)
     }
 
+    /// Undoes the world to the newest choice, which stays as it is.
+    pub fn resume<W: Undo>(&self, world: &mut W)
+        requires marked { AreMarked (W.saved world.old) self.now }
+        requires some { 0 < length self.now }
+        ensures open { (content : C) × (older : List C) × (others : List (W.Value × C)) × (self.now ≡ content ∷ older)
+            × (open_choices (W.saved world.old) self.now ≡ (W.now world.new, content) ∷ others) }
+        ensures saved { W.saved world.new ≡ W.saved world.old }
+        ensures room { W.room world.old ≤ W.room world.new }
+        ensures marked { AreMarked (W.saved world.new) self.now }
+    {
+        world.undo(Mark {
+            number: self.contents.len() - 1,
+        });
+        world.mark().unwrap();
+    }
+
     /// Takes the newest choice off, and undoes the world to it; None where no choice is open.
     pub fn back<W: Undo>(&mut self, world: &mut W) -> Option<C>
         requires marked { AreMarked (W.saved world.old) self.old }
@@ -133,6 +149,16 @@ impl<C: Drop> Choices<C> {
             world.forget(Mark { number: height });
             self.contents.truncate(height);
         }
+    }
+
+    /// Leaves the newest choice this to try, in place of what it left.
+    #[inline(always)]
+    pub fn renew(&mut self, content: C)
+        requires { 0 < length self.old }
+        ensures { (before : C) × (older : List C) × (self.old ≡ before ∷ older) × (self.new ≡ content ∷ older) }
+    {
+        let number = self.contents.len() - 1;
+        self.contents[number] = content;
     }
 
     /// What the choice with so many older ones leaves to try.

@@ -208,10 +208,7 @@ fn compare_next(
         choices.back(world);
         return Ok(Compared::Ended);
     };
-    choices.retry(
-        world,
-        Alternatives::Matches(asked, Untried::new(walk), removes, rest),
-    );
+    choices.resume(world);
     let clause = clauses.content(number).clause();
     let untried = Untried::new(left);
     let others = Alternatives::Matches(asked, untried, removes, rest);
@@ -225,15 +222,14 @@ fn compare_next(
     ) {
         Ok(begun) => match begun {
             Begun::Goes(first) => {
-                leave_untried(world, choices, left, others);
+                leave_untried(world, choices, &left, others);
                 Ok(Compared::Goes(Matched {
                     clause: number,
                     first,
                 }))
             }
             Begun::Pruned => {
-                let newest = choices.height() - 1;
-                choices.replace_at(newest, others);
+                choices.renew(others);
                 Ok(Compared::Pruned(left))
             }
         },

@@ -18,7 +18,7 @@ ghost use Rattle.cq_relations.specs.Goals.{AtBoth};
 
 use crate::faults::RelationFault;
 use cq_atoms::Atoms;
-use cq_begin::{Begun, unify};
+use cq_begin::{Begun, unify, unify_constant};
 use cq_builtin::Comparison;
 use cq_control::{Continuation, Continuations};
 use cq_goals::{GoalFault, compare_values, is_value};
@@ -127,6 +127,9 @@ fn evaluated(
     match is_value(&mut world.heap, atoms, expression) {
         Ok(right) => {
             let pairs = [cq_walk::Pair { left, right }];
+            if unify_constant(world, lists, atoms, &pairs, rest) {
+                return Ok(Begun::Goes(rest));
+            }
             match unify(world, lists, atoms, &pairs, rest) {
                 Ok(begun) => Ok(begun),
                 Err(fault) => Err(RelationFault::Settling(fault)),

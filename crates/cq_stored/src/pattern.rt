@@ -23,26 +23,6 @@ pub(crate) fn pattern_of(
     ensures originals { OnOk result (numbers_of originals.new.keys ≡ variables_after (numbers_of originals.old.keys) (at heap.now.now.terms term)) }
     ensures pattern { IfOk result (λ pattern. pattern.items ≡ heads (apply (numbered_from 0 (numbers_of originals.new.keys)) (at heap.now.now.terms term))) }
 {
-    let shown = heap.view(term);
-    match shown {
-        View::Number(_) | View::Name(_) => {
-            let pattern = vec![in heap.alloc(); shown]?;
-            Ok(pattern)
-        }
-        View::Var(_) | View::Compound(_, _) => pattern_along(heap, term, originals),
-    }
-}
-
-/// The same of any term, along its parts.
-fn pattern_along(
-    heap: &Heap,
-    term: TermId,
-    originals: &mut IndexSet<VarId>,
-) -> Result<Vec<View>, AllocError>
-    requires { term < length heap.now.now.terms }
-    ensures originals { OnOk result (numbers_of originals.new.keys ≡ variables_after (numbers_of originals.old.keys) (at heap.now.now.terms term)) }
-    ensures pattern { IfOk result (λ pattern. pattern.items ≡ heads (apply (numbered_from 0 (numbers_of originals.new.keys)) (at heap.now.now.terms term))) }
-{
     let mut pattern = Vec::new(heap.alloc());
     let mut work = vec![in heap.alloc(); term]?;
     while let Some(id) = work.pop() {

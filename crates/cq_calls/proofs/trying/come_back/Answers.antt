@@ -1,7 +1,6 @@
-use Rattle.std.proofs.Common.{◌≡◌, ◌∷◌, ◌<◌, ℕ, List, map, Option, None, Some, refl, sym, ap, ◌∙◌, subst}
-use Rattle.std.specs.Prelude.{Ok, Err, IfNone, IfOk, IfErr, OnOk, OnErr}
+use Rattle.std.proofs.Common.{◌≡◌, ◌∷◌, ◌<◌, List, map, None, refl, sym, ap, ◌∙◌, subst}
+use Rattle.std.specs.Prelude.{Ok, Err, IfOk, IfErr, OnOk, OnErr}
 use Rattle.std.specs.declared.result.Result.{Result}
-use Rattle.cq_clauses.specs.declared.walk.Walk.{Walk}
 use Rattle.cq_control.specs.Open.{open_choices}
 use Rattle.spec_machine.specs.Cells.{Value}
 use Rattle.cq_world.specs.Contents.{Contents}
@@ -12,12 +11,11 @@ use Rattle.cq_steps.proofs.Budgets.{same_budget}
 use Rattle.cq_steps.proofs.Older.{newest_gone}
 use Rattle.cq_begin.specs.Stops.{ComesOn, waiting_in}
 use Rattle.cq_begin.proofs.Back.{back_still, comes_then, stops_then}
-use Rattle.cq_calls.specs.Trying.{IsGone, KeepsOthers}
-use Rattle.cq_calls.proofs.Left.{Opened, opened_is, same-first, gone_past, open_still}
+use Rattle.cq_calls.proofs.Left.{Opened, opened_is, same-first, open_still}
 use Rattle.cq_calls.proofs.Newest.{is_walk, arrives_past, fewer_past, open_past, begins_ready, begins_goal, begins_rest}
 use Rattle.cq_calls.proofs.Waiting.{keeps_all}
 use Rattle.cq_calls.proofs.trying.come_back.Goals as goal
-use Rattle.cq_calls.proofs.trying.come_back.Goals.{After-back, After-retry}
+use Rattle.cq_calls.proofs.trying.come_back.Goals.{After-back, After-resume}
 
 pub step-requires : goal.step-requires
 step-requires c =
@@ -76,76 +74,72 @@ returns-in_default-clause-budget c =
 
 -- ---- the world goes back to that of the choice, which stays
 
-abbrev before : (c : After-retry) → List (Value Contents)
+abbrev before : (c : After-resume) → List (Value Contents)
 before c = saved_values c.args.world.now.first c.args.world.now.second.saved
 
-abbrev now : (c : After-retry) → Value Contents
+abbrev now : (c : After-resume) → Value Contents
 now c = value c.args.world.now.first c.args.world.now.second.now
 
-abbrev back : (c : After-retry) → Value Contents
-back c = value c.retry.new.world.first c.retry.new.world.second.now
+abbrev back : (c : After-resume) → Value Contents
+back c = value c.resume.new.world.first c.resume.new.world.second.now
 
-abbrev others : (c : After-retry) → Opened
-others c = c.retry.ensures.open.0
+abbrev others : (c : After-resume) → Opened
+others c = c.resume.ensures.open.2
 
-was : (c : After-retry) → open_choices (before c) c.args.choices.now ≡ (back c, Clauses c.args.goal c.args.walk c.args.rest) ∷ others c
+was : (c : After-resume) → open_choices (before c) c.args.choices.now ≡ (back c, Clauses c.args.goal c.args.walk c.args.rest) ∷ others c
 was c =
-    c.retry.ensures.open.1
-    ∙ ap (λ (x : Alternatives). (back c, x) ∷ others c)
-    (same-first c.retry.result (Clauses c.args.goal c.args.walk c.args.rest) c.retry.ensures.contents.0 c.requires.newest.0 (sym c.retry.ensures.contents.1 ∙ c.requires.newest.1))
+    let o = c.resume.ensures.open in
+    o.4 ∙ ap (λ (x : Alternatives). (back c, x) ∷ others c) (same-first o.0 (Clauses c.args.goal c.args.walk c.args.rest) o.1 c.requires.newest.0 (sym o.3 ∙ c.requires.newest.1))
 
-still : (c : After-retry) → open_choices (saved_values c.retry.new.world.first c.retry.new.world.second.saved) c.retry.new.self
+still : (c : After-resume) → open_choices (saved_values c.resume.new.world.first c.resume.new.world.second.saved) c.args.choices.now
     ≡ (back c, Clauses c.args.goal c.args.walk c.args.rest) ∷ others c
-still c = c.retry.ensures.open.2 ∙ ap (λ (x : Walk). (back c, Clauses c.args.goal x c.args.rest) ∷ others c) c.new.ensures
+still c = ap (λ (saved : List (Value Contents)). open_choices saved c.args.choices.now) c.resume.ensures.saved ∙ was c
 
-same_exchanges : (c : After-retry) → c.retry.new.world.first.store.pivots ≡ c.args.world.now.first.store.pivots
+same_exchanges : (c : After-resume) → c.resume.new.world.first.store.pivots ≡ c.args.world.now.first.store.pivots
 same_exchanges c =
     same_budget c.args.world.now.first c.args.world.now.second.saved c.args.choices.now (back c) (Clauses c.args.goal c.args.walk c.args.rest) (others c) (was c)
 
 -- so it stands for the same searches
-came : (c : After-retry) → ComesOn c.args.atoms.now c.args.clauses.now c.args.world.now.first c.args.world.now.second c.args.choices.now
-    c.retry.new.world.first c.retry.new.world.second c.retry.new.self None
+came : (c : After-resume) → ComesOn c.args.atoms.now c.args.clauses.now c.args.world.now.first c.args.world.now.second c.args.choices.now
+    c.resume.new.world.first c.resume.new.world.second c.args.choices.now None
 came c =
-    back_still c.args.atoms.now c.args.clauses.now c.args.world.now.first c.retry.new.world.first c.args.world.now.second c.retry.new.world.second c.args.choices.now c.retry.new.self
+    back_still c.args.atoms.now c.args.clauses.now c.args.world.now.first c.resume.new.world.first c.args.world.now.second c.resume.new.world.second c.args.choices.now c.args.choices.now
     (still c ∙ sym (was c))
-
-stayed : (c : After-retry) → KeepsOthers c.args.choices.now c.retry.new.self
-stayed c = (c.retry.result, Clauses c.args.goal c.new.result c.args.rest, c.retry.ensures.contents.0, c.retry.ensures.contents.1, c.retry.ensures.contents.2)
 
 pub try_from-requires-clause-ready : goal.try_from-requires-clause-ready
 try_from-requires-clause-ready c =
-    let r = (goal.at.try_from-requires-clause-ready c).After-retry in
+    let r = (goal.at.try_from-requires-clause-ready c).After-resume in
     let j = c.requires.works in
     begins_ready c.args.atoms.now c.args.clauses.now (before r) c.args.choices.now (now r) (back r) c.args.goal c.args.rest c.args.walk (others r) (was r)
     c.step.new.walk c.in-Some.number c.in-Some.ensures.some j.0 j.1 j.2 j.3
 
 pub try_from-requires-clause-goal : goal.try_from-requires-clause-goal
 try_from-requires-clause-goal c =
-    let r = (goal.at.try_from-requires-clause-goal c).After-retry in
+    let r = (goal.at.try_from-requires-clause-goal c).After-resume in
     let j = c.requires.works in
     begins_goal c.args.atoms.now c.args.clauses.now (before r) c.args.choices.now (now r) (back r) c.args.goal c.args.rest c.args.walk (others r) (was r)
     c.step.new.walk c.in-Some.number c.in-Some.ensures.some j.0 j.1 j.2 j.3
 
 pub try_from-requires-clause-rest : goal.try_from-requires-clause-rest
 try_from-requires-clause-rest c =
-    let r = (goal.at.try_from-requires-clause-rest c).After-retry in
+    let r = (goal.at.try_from-requires-clause-rest c).After-resume in
     let j = c.requires.works in
     begins_rest c.args.atoms.now c.args.clauses.now (before r) c.args.choices.now (now r) (back r) c.args.goal c.args.rest c.args.walk (others r) (was r)
     c.step.new.walk c.in-Some.number c.in-Some.ensures.some j.0 j.1 j.2 j.3
 
 pub try_from-requires-clause-next : goal.try_from-requires-clause-next
 try_from-requires-clause-next c =
-    let r = (goal.at.try_from-requires-clause-next c).After-retry in
+    let r = (goal.at.try_from-requires-clause-next c).After-resume in
     record {
       walk = c.args.walk;
       trying = record {
-        older = c.retry.ensures.contents.0;
-        newest = c.retry.ensures.contents.2 ∙ ap (λ (x : Walk). Clauses c.args.goal x c.args.rest ∷ c.retry.ensures.contents.0) c.new.ensures;
+        older = c.requires.newest.0;
+        newest = c.requires.newest.1;
         back = back r;
         others = others r;
         goes_back = still r;
         world = refl;
-        lists = keeps_all c.retry.new.world.second.now;
+        lists = keeps_all c.resume.new.world.second.now;
       };
       next = c.in-Some.ensures.some;
       opened = c.in-Some.ensures.opened;
@@ -169,43 +163,35 @@ at_err : {A E P Q : Type 0} (r : Result A E) → (P → Q) → OnErr r P → OnE
 at_err (Ok x) f h = h
 at_err (Err e) f h = f h
 
-gone_then : {E : Type 0} (r : Result (Option ℕ) E) (first mid new : List Alternatives) → KeepsOthers first mid → IfOk r (λ k. IfNone k (IsGone mid new))
-    → IfOk r (λ k. IfNone k (IsGone first new))
-gone_then (Ok None) first mid new s g = gone_past g s
-gone_then (Ok (Some k)) first mid new s g = tt
-gone_then (Err e) first mid new s g = tt
-
 pub returns-clause-comes : goal.returns-clause-comes
 returns-clause-comes c =
-    let r = (goal.at.returns-clause-comes c).After-retry in
+    let r = (goal.at.returns-clause-comes c).After-resume in
     let n = c.try_from.new in
     if_ok c.try_from.result
-    (λ k g. comes_then c.args.atoms.now c.args.clauses.now c.args.world.now.first c.retry.new.world.first c.args.world.now.second c.retry.new.world.second c.args.choices.now c.retry.new.self
+    (λ k g. comes_then c.args.atoms.now c.args.clauses.now c.args.world.now.first c.resume.new.world.first c.args.world.now.second c.resume.new.world.second c.args.choices.now c.args.choices.now
     (came r) n.world.first n.world.second n.choices k g) c.try_from.ensures.comes
 
 pub returns-clause-err : goal.returns-clause-err
 returns-clause-err c =
-    let r = (goal.at.returns-clause-err c).After-retry in
+    let r = (goal.at.returns-clause-err c).After-resume in
     let n = c.try_from.new in
     at_err c.try_from.result
-    (comes_then c.args.atoms.now c.args.clauses.now c.args.world.now.first c.retry.new.world.first c.args.world.now.second c.retry.new.world.second c.args.choices.now c.retry.new.self
+    (comes_then c.args.atoms.now c.args.clauses.now c.args.world.now.first c.resume.new.world.first c.args.world.now.second c.resume.new.world.second c.args.choices.now c.args.choices.now
     (came r) n.world.first n.world.second n.choices None) c.try_from.ensures.err
 
 pub returns-clause-stops : goal.returns-clause-stops
 returns-clause-stops c =
-    let r = (goal.at.returns-clause-stops c).After-retry in
+    let r = (goal.at.returns-clause-stops c).After-resume in
     if_err c.try_from.result
-    (λ fault g. stops_then c.args.atoms.now c.args.clauses.now c.args.world.now.first c.retry.new.world.first c.args.world.now.second c.retry.new.world.second c.args.choices.now c.retry.new.self
+    (λ fault g. stops_then c.args.atoms.now c.args.clauses.now c.args.world.now.first c.resume.new.world.first c.args.world.now.second c.resume.new.world.second c.args.choices.now c.args.choices.now
     (came r) fault (same_exchanges r) g) c.try_from.ensures.stops
 
 pub returns-clause-gone : goal.returns-clause-gone
-returns-clause-gone c =
-    let r = (goal.at.returns-clause-gone c).After-retry in
-    gone_then c.try_from.result c.args.choices.now c.retry.new.self c.try_from.new.choices (stayed r) c.try_from.ensures.gone
+returns-clause-gone c = c.try_from.ensures.gone
 
 pub returns-clause-fewer : goal.returns-clause-fewer
 returns-clause-fewer c =
-    let r = (goal.at.returns-clause-fewer c).After-retry in
+    let r = (goal.at.returns-clause-fewer c).After-resume in
     let n = c.try_from.new in
     at_ok c.try_from.result
     (subst (λ (o : Opened). waiting_in (stack c.args.atoms.now c.args.clauses.now (saved_values n.world.first n.world.second.saved) n.choices)
@@ -213,10 +199,10 @@ returns-clause-fewer c =
 
 pub returns-clause-open : goal.returns-clause-open
 returns-clause-open c =
-    let r = (goal.at.returns-clause-open c).After-retry in
+    let r = (goal.at.returns-clause-open c).After-resume in
     c.try_from.ensures.open
-    (open_still c.args.atoms.now c.args.clauses.now (before r) (saved_values c.retry.new.world.first c.retry.new.world.second.saved) c.args.choices.now c.retry.new.self
+    (open_still c.args.atoms.now c.args.clauses.now (before r) (saved_values c.resume.new.world.first c.resume.new.world.second.saved) c.args.choices.now c.args.choices.now
     (still r ∙ sym (was r)) c.requires.open)
 
 pub returns-clause-budget : goal.returns-clause-budget
-returns-clause-budget c = c.try_from.ensures.budget ∙ same_exchanges (goal.at.returns-clause-budget c).After-retry
+returns-clause-budget c = c.try_from.ensures.budget ∙ same_exchanges (goal.at.returns-clause-budget c).After-resume

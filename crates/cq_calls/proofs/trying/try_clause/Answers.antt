@@ -12,15 +12,16 @@ use Rattle.cq_world.specs.declared.world.World.{World}
 use Rattle.spec_machine.specs.declared.cell.Cell.{Cell}
 use Rattle.spec_machine.specs.Cells.{Value}
 use Rattle.cq_steps.specs.Worlds.{Grown, saved_values, value}
+use Rattle.cq_steps.specs.declared.alternatives.Alternatives.{Alternatives}
 use Rattle.cq_steps.specs.declared.alternatives.Alternatives.TheVariants.{Clauses}
 use Rattle.cq_begin.specs.declared.beginning.Begun.TheVariants.{Goes, Pruned}
 use Rattle.cq_begin.proofs.Back.{back_still}
 use Rattle.cq_calls.specs.Trying.{Leaves}
-use Rattle.cq_calls.proofs.Left.{Opened, AreLeft, open_same, marked_same, of_content, length-opened, are_left, open_still, replaced, changed_newest}
+use Rattle.cq_calls.proofs.Left.{Opened, AreLeft, open_same, marked_same, of_content, length-opened, are_left, open_still, replaced, same-others}
 use Rattle.cq_calls.proofs.Newest.{arrives_left, fewer_wait, open_left, fault_stops}
 use Rattle.cq_calls.proofs.Waiting.{same_grown, keeps_on, keeps_both}
 use Rattle.cq_calls.proofs.trying.try_clause.Goals as goal
-use Rattle.cq_calls.proofs.trying.try_clause.Goals.{After-height-height, After-clause-clause, After-leave_untried, After-replace_at}
+use Rattle.cq_calls.proofs.trying.try_clause.Goals.{After-height-height, After-clause-clause, After-leave_untried, After-renew}
 
 abbrev before : (c : After-clause-clause) → List (Value Contents)
 before c = saved_values c.args.world.now.first c.args.world.now.second.saved
@@ -140,38 +141,38 @@ returns-in-Goes-clause-lists c =
 
 -- ---- it is pruned
 
-put_back : (c : After-replace_at) → c.replace_at.new.self ≡ Clauses c.args.goal c.args.left.now c.args.rest ∷ c.requires.next.trying.older
+put_back : (c : After-renew) → c.renew.new.self ≡ Clauses c.args.goal c.args.left.now c.args.rest ∷ c.requires.next.trying.older
 put_back c =
-    changed_newest c.replace_at.ensures.0 c.args.choices.now c.replace_at.new.self c.requires.next.trying.older (Clauses c.args.goal c.requires.next.walk c.args.rest) c.replace_at.result
-    (Clauses c.args.goal c.new-untried.result c.args.rest) (c.height-height.result - 1) c.requires.next.trying.newest
-    (omega (arith, c.height-height.ensures, ap length c.requires.next.trying.newest)) c.replace_at.ensures.1 c.replace_at.ensures.2
-    ∙ ap (λ (x : Walk). Clauses c.args.goal x c.args.rest ∷ c.requires.next.trying.older) c.new-untried.ensures
+    let changed = c.renew.ensures in
+    changed.3
+    ∙ ap₂ (λ (x : Walk) (older : List Alternatives). Clauses c.args.goal x c.args.rest ∷ older) c.new-untried-in-Pruned.ensures
+    (same-others changed.0 (Clauses c.args.goal c.requires.next.walk c.args.rest) changed.1 c.requires.next.trying.older (sym changed.2 ∙ c.requires.next.trying.newest))
 
-left_open : (c : After-replace_at) → saved_of c.begin_clause.new.world ≡ saved_of c.args.world.now.first → c.begin_clause.new.lists.saved ≡ c.args.world.now.second.saved
-    → open_choices (saved_values c.begin_clause.new.world c.begin_clause.new.lists.saved) c.replace_at.new.self
+left_open : (c : After-renew) → saved_of c.begin_clause.new.world ≡ saved_of c.args.world.now.first → c.begin_clause.new.lists.saved ≡ c.args.world.now.second.saved
+    → open_choices (saved_values c.begin_clause.new.world c.begin_clause.new.lists.saved) c.renew.new.self
     ≡ (c.requires.next.trying.back, Clauses c.args.goal c.args.left.now c.args.rest) ∷ c.requires.next.trying.others
 left_open c e f =
     let t = c.requires.next.trying in
-    replaced (saved_values c.begin_clause.new.world c.begin_clause.new.lists.saved) c.args.choices.now c.replace_at.new.self t.older
+    replaced (saved_values c.begin_clause.new.world c.begin_clause.new.lists.saved) c.args.choices.now c.renew.new.self t.older
     (Clauses c.args.goal c.requires.next.walk c.args.rest) (Clauses c.args.goal c.args.left.now c.args.rest) t.back t.others t.newest (put_back c)
     (open_same c.args.world.now.first c.begin_clause.new.world c.args.world.now.second.saved c.begin_clause.new.lists.saved c.args.choices.now _ e f t.goes_back)
 
 pub returns-in-Pruned-clause-comes : goal.returns-in-Pruned-clause-comes
 returns-in-Pruned-clause-comes c = λ steps db n s j.
     let r = (goal.at.returns-in-Pruned-clause-comes c).After-clause-clause in
-    let x = (goal.at.returns-in-Pruned-clause-comes c).After-replace_at in
+    let x = (goal.at.returns-in-Pruned-clause-comes c).After-renew in
     let saved = saved_values c.begin_clause.new.world c.begin_clause.new.lists.saved in
     let later = value c.begin_clause.new.world c.begin_clause.new.lists.now in
     arrives_left c.args.atoms.now c.args.clauses.now (before r) c.args.choices.now (now r) (back r) c.args.goal c.args.rest (walk r) (others r) (was r)
     c.args.left.now c.args.number c.requires.next.next db n s j (now r) (grown r) c.clause-clause.result.now (kept_is (goal.at.returns-in-Pruned-clause-comes c).After-clause-clause)
     (c.height-height.result - 1) (high (goal.at.returns-in-Pruned-clause-comes c).After-height-height) later later refl Pruned (rw c.in-Pruned.is at c.in-Ok.ensures.comes)
-    saved c.replace_at.new.self steps
+    saved c.renew.new.self steps
     (inr (left_open x c.in-Ok.ensures.saved c.in-Ok.ensures.lists))
 
 pub returns-in-Pruned-clause-left : goal.returns-in-Pruned-clause-left
 returns-in-Pruned-clause-left c =
     let t = c.requires.next.trying in
-    let x = (goal.at.returns-in-Pruned-clause-left c).After-replace_at in
+    let x = (goal.at.returns-in-Pruned-clause-left c).After-renew in
     record {
       older = t.older;
       newest = put_back x;
@@ -189,7 +190,7 @@ returns-in-Pruned-clause-others c =
       Clauses c.args.goal c.args.left.now c.args.rest,
       t.older,
       t.newest,
-      put_back (goal.at.returns-in-Pruned-clause-others c).After-replace_at,
+      put_back (goal.at.returns-in-Pruned-clause-others c).After-renew,
     )
 
 pub returns-in-Pruned-clause-back : goal.returns-in-Pruned-clause-back
@@ -198,25 +199,25 @@ returns-in-Pruned-clause-back c = rw c.in-Pruned.is at c.in-Ok.ensures.unchanged
 pub returns-in-Pruned-clause-fewer : goal.returns-in-Pruned-clause-fewer
 returns-in-Pruned-clause-fewer c =
     let r = (goal.at.returns-in-Pruned-clause-fewer c).After-clause-clause in
-    let x = (goal.at.returns-in-Pruned-clause-fewer c).After-replace_at in
+    let x = (goal.at.returns-in-Pruned-clause-fewer c).After-renew in
     let saved = saved_values c.begin_clause.new.world c.begin_clause.new.lists.saved in
     fewer_wait c.args.atoms.now c.args.clauses.now (before r) c.args.choices.now (now r) (back r) c.args.goal c.args.rest (walk r) (others r) (was r)
-    c.args.left.now c.args.number c.requires.next.next saved c.replace_at.new.self
+    c.args.left.now c.args.number c.requires.next.next saved c.renew.new.self
     (inr (left_open x c.in-Ok.ensures.saved c.in-Ok.ensures.lists))
 
 pub returns-in-Pruned-clause-marked : goal.returns-in-Pruned-clause-marked
 returns-in-Pruned-clause-marked c =
     let r = (goal.at.returns-in-Pruned-clause-marked c).After-clause-clause in
     marked_then r c.begin_clause.new.world c.begin_clause.new.lists c.in-Ok.ensures.saved c.in-Ok.ensures.lists
-    ∙ ap length c.requires.next.trying.newest ∙ sym (ap length (put_back (goal.at.returns-in-Pruned-clause-marked c).After-replace_at))
+    ∙ ap length c.requires.next.trying.newest ∙ sym (ap length (put_back (goal.at.returns-in-Pruned-clause-marked c).After-renew))
 
 pub returns-in-Pruned-clause-open : goal.returns-in-Pruned-clause-open
 returns-in-Pruned-clause-open c = λ o.
     let r = (goal.at.returns-in-Pruned-clause-open c).After-clause-clause in
-    let x = (goal.at.returns-in-Pruned-clause-open c).After-replace_at in
+    let x = (goal.at.returns-in-Pruned-clause-open c).After-renew in
     let saved = saved_values c.begin_clause.new.world c.begin_clause.new.lists.saved in
     open_left c.args.atoms.now c.args.clauses.now (before r) c.args.choices.now (now r) (back r) c.args.goal c.args.rest (walk r) (others r) (was r)
-    saved c.replace_at.new.self c.args.left.now c.requires.next.opened o
+    saved c.renew.new.self c.args.left.now c.requires.next.opened o
     (inr (left_open x c.in-Ok.ensures.saved c.in-Ok.ensures.lists))
 
 pub returns-in-Pruned-clause-budget : goal.returns-in-Pruned-clause-budget

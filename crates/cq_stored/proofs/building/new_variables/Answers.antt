@@ -1,4 +1,4 @@
-use Rattle.std.proofs.Common.{◌∙◌, [], ℕ, ap, sym, length, arith, append-nil}
+use Rattle.std.proofs.Common.{◌∙◌, ℕ, ap, sym, length, arith, append-nil}
 use Rattle.std.specs.Prelude.{Ok, Err, OnErr}
 use Rattle.std.specs.declared.result.Result.{Result}
 use Rattle.std.specs.declared.alloc.AllocError.{AllocError}

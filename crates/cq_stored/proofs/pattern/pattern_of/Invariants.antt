@@ -7,7 +7,7 @@ use Rattle.cq_walk.specs.Places.{numbers_of}
 use Rattle.cq_unify.specs.Listing.{variables_through}
 use Rattle.cq_stored.specs.Pattern.{heads}
 use Rattle.cq_stored.proofs.Reading.{all_heads}
-use Rattle.cq_stored.proofs.pattern.pattern_along.Given as goal
+use Rattle.cq_stored.proofs.pattern.pattern_of.Given as goal
 
 abbrev pub invariant-loop-id : goal.invariant-loop-id
 invariant-loop-id l = record {

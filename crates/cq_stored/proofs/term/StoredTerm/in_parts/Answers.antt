@@ -11,8 +11,8 @@ use Rattle.cq_walk.specs.Places.{numbers_of}
 use Rattle.cq_stored.specs.Pattern.{term_of}
 use Rattle.cq_stored.proofs.Reading.{term_of-heads}
 use Rattle.cq_stored.proofs.Numbering.{numbered_pattern}
-use Rattle.cq_stored.proofs.term.StoredTerm.of.Goals as goal
-use Rattle.cq_stored.proofs.term.StoredTerm.of.Goals.{In_ok-pattern}
+use Rattle.cq_stored.proofs.term.StoredTerm.in_parts.Goals as goal
+use Rattle.cq_stored.proofs.term.StoredTerm.in_parts.Goals.{In_ok-pattern}
 
 module _ (c : In_ok-pattern) where
   abbrev original : HeapTerm
