@@ -1,5 +1,5 @@
 -- A row that was done, with a small result.
-use Rattle.std.proofs.Common.{◌≡◌, ℕ, List, refl, sym, ◌∙◌, subst}
+use Rattle.std.proofs.Common.{◌≡◌, ℕ, List, refl, sym, ap, ◌∙◌, subst}
 use Rattle.std.specs.Prelude.{Ok, Err, IfOk, ⊤}
 use Rattle.std.specs.declared.alloc.AllocError.{AllocError}
 use Rattle.std.specs.declared.result.Result.{Result}
@@ -8,13 +8,15 @@ use Rattle.spec_branch.specs.Branch.{Branch}
 use Rattle.spec_search.specs.Builtins.{Builtin}
 use Rattle.spec_search.specs.Replies as reply
 use Rattle.spec_search.specs.Replies.{Place}
+use Rattle.spec_search.specs.Rows.{reply_of}
+use Rattle.spec_search.specs.Steps.{raises}
 use Rattle.cq_frac.specs.declared.Pair.{Pair}
 use Rattle.cq_linear.specs.declared.store.StoreFault.{StoreFault}
 use Rattle.cq_linear.specs.declared.store.StoreFault.TheVariants.{Overflow, Pivots, NoMemory}
 use Rattle.cq_machine.specs.declared.machine.Machine.{Machine}
 use Rattle.cq_machine.specs.declared.step.Step.{Step}
 use Rattle.cq_machine.specs.declared.step.Step.TheVariants.{Goes, Back, Raises, Throws, Refuses}
-use Rattle.cq_machine.specs.Machines.{IsSound, StillStands}
+use Rattle.cq_machine.specs.Machines.{terms, now, IsSound, StillStands}
 use Rattle.cq_machine.specs.Stepping.{row_of, IsSelectedAt, LeadsTo, CanGo, OnRaises}
 use Rattle.cq_selected.specs.Refusals.{OnRefuses}
 use Rattle.cq_selected.specs.Stops.{IsSelectedFrom}
@@ -22,12 +24,15 @@ use Rattle.cq_execute.specs.declared.small.Went.{Went}
 use Rattle.cq_execute.specs.declared.small.Went.TheVariants as went
 use Rattle.cq_execute.specs.Executions.{Reaches, KeepsWalks, HasSameDatabase}
 use Rattle.cq_execute.specs.Rows.{IsCallOf, IsRowDone, as_step, as_stop}
+use Rattle.cq_execute.specs.Stops.{IsStop}
 use Rattle.cq_calls.specs.declared.calling.Called.{Called}
 use Rattle.cq_calls.specs.declared.calling.Called.TheVariants as found
 use Rattle.cq_table.specs.declared.builtins.Builtin as table
+use Rattle.cq_term.specs.Trees.{tree}
 use Rattle.cq_term.specs.declared.names.Pred.{Pred}
+use Rattle.cq_steps.proofs.Added.{reads_tree}
 use Rattle.cq_execute.proofs.Done.{keeps_program, same_machine}
-use Rattle.cq_execute.specs.Small.{ReachesSmall, CanGoOn, IsUnmoved, LeavesAlone, IsSmall, IsSmallDone, as_went}
+use Rattle.cq_execute.specs.Small.{IsRefused, ball, refuses, overflow, pivots, IsOther, IsUnmoved, IsSmall, IsSmallDone, as_went}
 
 -- a row that refuses no numbers
 pub none_refused : {E : Type 0} (old new : Machine) (id height rest : ℕ) (b : Builtin) → IsSelectedFrom old id height rest
@@ -60,7 +65,7 @@ module _ (old new : Machine) (id height rest : ℕ) (at : IsSelectedFrom old id 
   step_done (Goes k) d f = record { row = λ p behind g i. d.row p behind g i; goes = d.goes; alone = tt; sound = d.sound; program = d.program; err = tt }
   step_done Back d f = record { row = λ p behind g i. d.row p behind g i; goes = tt; alone = tt; sound = d.sound; program = d.program; err = tt }
   step_done (Raises e) d f = record {
-    row = λ p behind g i. tt;
+    row = λ p behind g i. ball (d.row p behind g i).step;
     goes = tt;
     alone = record { stands = d.raises; database = sym (d.row at.0 at.1 at.2 at.3).database ∙ at.3.database };
     sound = d.sound;
@@ -68,7 +73,7 @@ module _ (old new : Machine) (id height rest : ℕ) (at : IsSelectedFrom old id 
     err = tt;
   }
   step_done (Throws t) d f = record {
-    row = λ p behind g i. tt;
+    row = λ p behind g i. ball (d.row p behind g i).step;
     goes = tt;
     alone = record { stands = d.raises; database = sym (d.row at.0 at.1 at.2 at.3).database ∙ at.3.database };
     sound = d.sound;
@@ -76,7 +81,7 @@ module _ (old new : Machine) (id height rest : ℕ) (at : IsSelectedFrom old id 
     err = tt;
   }
   step_done (Refuses pair) d f = record {
-    row = λ p behind g i. tt;
+    row = λ p behind g i. refuses (d.row p behind g i).is;
     goes = tt;
     alone = record { stands = f; database = sym (d.row at.0 at.1 at.2 at.3).database ∙ at.3.database };
     sound = d.sound;
@@ -87,24 +92,27 @@ module _ (old new : Machine) (id height rest : ℕ) (at : IsSelectedFrom old id 
   stopped : (f : StoreFault) → IsRowDone old new id height rest (Err f) → IsUnmoved old new
   stopped f d = record { stands = d.err; database = d.err_database }
 
-  refused : (f : StoreFault) → IsRowDone old new id height rest (Err f) → IsSmallDone old new id height rest (Ok went.Refused)
-  refused f d = record { row = λ p behind g i. tt; goes = tt; alone = stopped f d; sound = d.sound; program = d.program; err = tt }
+  refused : (f : StoreFault) → IsRowDone old new id height rest (Err f)
+      → ((p : Place) (g : Tree) → IsStop old.world.first.store.pivots p g f → IsRefused old.world.first.store.pivots p g)
+      → IsSmallDone old new id height rest (Ok went.Refused)
+  refused f d why = record { row = λ p behind g i. why p g (d.stop p behind g i); goes = tt; alone = stopped f d; sound = d.sound; program = d.program; err = tt }
 
   pub small_done : (q : Result Step StoreFault) (r : Result Went AllocError) → IsRowDone old new id height rest q → IfOk q (λ s. OnRefuses s (StillStands old new))
       → IsSmall q r → IsSmallDone old new id height rest r
   small_done (Ok s) (Ok w) d f i = subst (λ (v : Went). IsSmallDone old new id height rest (Ok v)) (sym i) (step_done s d f)
   small_done (Ok s) (Err e) d f i = absurd i
-  small_done (Err (Overflow pair)) (Ok w) d f i = subst (λ (v : Went). IsSmallDone old new id height rest (Ok v)) (sym i) (refused (Overflow pair) d)
+  small_done (Err (Overflow pair)) (Ok w) d f i = subst (λ (v : Went). IsSmallDone old new id height rest (Ok v)) (sym i) (refused (Overflow pair) d (λ p g s. overflow s))
   small_done (Err (Overflow pair)) (Err e) d f i = absurd i
-  small_done (Err (Pivots n)) (Ok w) d f i = subst (λ (v : Went). IsSmallDone old new id height rest (Ok v)) (sym i) (refused (Pivots n) d)
+  small_done (Err (Pivots n)) (Ok w) d f i = subst (λ (v : Went). IsSmallDone old new id height rest (Ok v)) (sym i) (refused (Pivots n) d (λ p g s. pivots s))
   small_done (Err (Pivots n)) (Err e) d f i = absurd i
   small_done (Err NoMemory) (Ok w) d f i = absurd i
   small_done (Err NoMemory) (Err e) d f i = record { row = tt; goes = tt; alone = tt; sound = d.sound; program = d.program; err = stopped NoMemory d }
 
 -- where the predicate that it calls has another row
-pub another_row : (m : Machine) (id height rest : ℕ) (b : table.Builtin) → IsSound m → IsCallOf m id b → IsSmallDone m m id height rest (Ok (went.Row b))
-another_row m id height rest b sound calls = record {
-  row = λ p behind g i. tt;
+pub another_row : (m : Machine) (id height rest : ℕ) (b : table.Builtin) → IsSound m → IsCallOf m id b → IsOther b
+    → IsSmallDone m m id height rest (Ok (went.Row b))
+another_row m id height rest b sound calls other = record {
+  row = λ p behind g i. other;
   goes = tt;
   alone = (refl, calls);
   sound = sound;
@@ -112,10 +120,11 @@ another_row m id height rest b sound calls = record {
   err = tt;
 }
 
--- where it calls nothing
-pub called_nothing : (m : Machine) (id height rest : ℕ) → IsSound m → IsSmallDone m m id height rest (Ok went.Refused)
-called_nothing m id height rest sound = record {
-  row = λ p behind g i. tt;
+-- where it calls nothing, which is an error
+pub called_nothing : (m : Machine) (id height rest : ℕ) → IsSound m → (e : Tree) → ((p : Place) → reply_of p (tree m.atoms (terms m) id) ≡ reply.Raises e)
+    → IsSmallDone m m id height rest (Ok went.Refused)
+called_nothing m id height rest sound e error = record {
+  row = λ p behind g i. ball (raises (ap (reply_of p) (sym (reads_tree m.atoms (now m).0 p.state id g i.reads)) ∙ error p));
   goes = tt;
   alone = record { stands = λ db n current s j. j; database = refl };
   sound = sound;

@@ -3,8 +3,13 @@ use Rattle.std.specs.Prelude.{◌≡◌, ◌<◌, ℕ, List, [], length, Option,
 use Rattle.std.specs.declared.alloc.AllocError.{AllocError}
 use Rattle.std.specs.declared.result.Result.{Result}
 use Rattle.spec_syntax.specs.Trees.{Tree}
-use Rattle.spec_branch.specs.Branch.{Branch}
+use Rattle.spec_branch.specs.Branch.{Branch, Copied}
+use Rattle.spec_search.specs.Replies as reply
 use Rattle.spec_search.specs.Replies.{Place}
+use Rattle.spec_search.specs.Rows.{reply_of}
+use Rattle.spec_search.specs.Steps.{Steps, Ball}
+use Rattle.cq_builtin.specs.declared.comparisons.Comparison.{Comparison}
+use Rattle.cq_frac.specs.declared.Pair.{Pair}
 use Rattle.cq_linear.specs.declared.store.StoreFault.{StoreFault}
 use Rattle.cq_linear.specs.declared.store.StoreFault.TheVariants.{Overflow, Pivots, NoMemory}
 use Rattle.cq_machine.specs.declared.machine.Machine.{Machine}
@@ -16,7 +21,9 @@ use Rattle.cq_execute.specs.declared.small.Went.{Went}
 use Rattle.cq_execute.specs.declared.small.Went.TheVariants.{Goes, Back, Refused, Row}
 use Rattle.cq_execute.specs.Executions.{Continues, KeepsWalks, HasSameDatabase}
 use Rattle.cq_execute.specs.Rows.{IsCallOf}
+use Rattle.cq_execute.specs.Stops.{IsStop}
 use Rattle.cq_table.specs.declared.builtins.Builtin.{Builtin}
+use Rattle.cq_table.specs.declared.builtins.Builtin.TheVariants as table
 
 -- what a step without output came to
 abbrev pub as_went : Step → Went
@@ -37,12 +44,30 @@ IsSmall (Err (Pivots n)) (Err e) = ⊥
 IsSmall (Err NoMemory) (Ok w) = ⊥
 IsSmall (Err NoMemory) (Err e) = ⊤
 
--- the machine has come to what the goal's step makes, which shows nothing; of a goal that was refused, or has another row, nothing is said
-abbrev pub ReachesSmall : Machine → Place → List Branch → Tree → Went → Type 0
-ReachesSmall m p behind goal (Goes k) = Continues m (Some k) [] p behind goal
-ReachesSmall m p behind goal Back = Continues m None [] p behind goal
-ReachesSmall m p behind goal Refused = ⊤
-ReachesSmall m p behind goal (Row b) = ⊤
+-- The goal's step is the ball of an error or of a term, or its reply two numbers that are refused, or a stop of the query is due, by a
+-- budget of so many exchanges.
+pub data IsRefused (budget : ℕ) (p : Place) (goal : Tree) : Type 0 where
+  ball : {c : Copied} → Steps p goal (Ball c) → IsRefused budget p goal
+  refuses : {pair : Pair} → reply_of p goal ≡ reply.Overflows pair → IsRefused budget p goal
+  overflow : {pair : Pair} → IsStop budget p goal (Overflow pair) → IsRefused budget p goal
+  pivots : {n : ℕ} → IsStop budget p goal (Pivots n) → IsRefused budget p goal
+
+-- the built-in predicate is none of those that most goals call
+pub record IsOther (b : Builtin) : Type 0 where
+  pub not_true : b ≡ table.True → ⊥
+  pub not_and : b ≡ table.And → ⊥
+  pub not_or : b ≡ table.Or → ⊥
+  pub not_cut : b ≡ table.Cut → ⊥
+  pub not_unify : b ≡ table.Unify → ⊥
+  pub not_is : b ≡ table.Is → ⊥
+  pub not_compare : (c : Comparison) → b ≡ table.Compare c → ⊥
+
+-- the machine has come to what the goal's step makes, which shows nothing; or the goal is refused for a cause, or calls another predicate
+abbrev pub ReachesSmall : ℕ → Machine → Place → List Branch → Tree → Went → Type 0
+ReachesSmall budget m p behind goal (Goes k) = Continues m (Some k) [] p behind goal
+ReachesSmall budget m p behind goal Back = Continues m None [] p behind goal
+ReachesSmall budget m p behind goal Refused = IsRefused budget p goal
+ReachesSmall budget m p behind goal (Row b) = IsOther b
 
 -- what it goes on with is there
 abbrev pub CanGoOn : Machine → Went → Type 0
@@ -65,7 +90,8 @@ LeavesAlone old new id (Row b) = (new ≡ old) × IsCallOf old id b
 
 -- the goal was executed with this result
 pub record IsSmallDone (old new : Machine) (id height rest : ℕ) (r : Result Went AllocError) : Type 0 where
-  pub row : IfOk r (λ w. (p : Place) (behind : List Branch) (goal : Tree) → IsSelectedAt old id height rest p behind goal → ReachesSmall new p behind goal w)
+  pub row : IfOk r (λ w. (p : Place) (behind : List Branch) (goal : Tree) → IsSelectedAt old id height rest p behind goal
+      → ReachesSmall old.world.first.store.pivots new p behind goal w)
   pub goes : IfOk r (CanGoOn new)
   pub alone : IfOk r (LeavesAlone old new id)
   pub sound : IsSound new

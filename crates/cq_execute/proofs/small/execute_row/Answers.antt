@@ -126,4 +126,14 @@ returns-in-Compare c =
     c.small-in-Compare.ensures
 
 pub returns-in_default : goal.returns-in_default
-returns-in_default c = another_row c.args.m.now c.args.goal c.args.height c.args.rest c.args.builtin c.requires.at.sound c.requires.calls
+returns-in_default c =
+    let d = c.in_default in
+    another_row c.args.m.now c.args.goal c.args.height c.args.rest c.args.builtin c.requires.at.sound c.requires.calls (record {
+      not_true = d.not-True;
+      not_and = d.not-And;
+      not_or = d.not-Or;
+      not_cut = d.not-Cut;
+      not_unify = d.not-Unify;
+      not_is = d.not-Is;
+      not_compare = d.not-Compare;
+    })

@@ -1,4 +1,5 @@
 use Rattle.std.proofs.Common.{◌<◌, length}
+use Rattle.cq_built.specs.Errors.{error_tree}
 use Rattle.cq_machine.specs.Machines.{now, terms}
 use Rattle.cq_execute.proofs.Done.{at_goal}
 use Rattle.cq_execute.proofs.Outcomes.{called_nothing}
@@ -28,4 +29,7 @@ pub execute_procedure-requires-clause-calls : goal.execute_procedure-requires-cl
 execute_procedure-requires-clause-calls c = rw c.in-Procedure.is at c.find_callee.ensures
 
 pub returns-in-Nothing : goal.returns-in-Nothing
-returns-in-Nothing c = called_nothing c.args.m.now c.args.goal c.args.height c.args.rest c.requires.sound
+returns-in-Nothing c =
+    let m = c.args.m.now in
+    let error = rw c.in-Nothing.is at c.find_callee.ensures in
+    called_nothing m c.args.goal c.args.height c.args.rest c.requires.sound (error_tree m.atoms (terms m) error.0) error.1
