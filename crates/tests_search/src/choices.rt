@@ -45,6 +45,28 @@ fn retry(choices: &mut Choices<char>, world: &mut Trail<u32>, left: char) -> Opt
     Some(choices.retry(world, left))
 }
 
+/// Comes back to the newest choice, where there is one, and leaves it as it is.
+fn resume(choices: &Choices<char>, world: &mut Trail<u32>)
+    requires { AreMarked world.old.saved choices.now }
+    ensures { AreMarked world.new.saved choices.now }
+{
+    if choices.height() == 0 {
+        return;
+    }
+    choices.resume(world);
+}
+
+/// Puts other contents into the newest choice, where there is one.
+fn renew(choices: &mut Choices<char>, world: &Trail<u32>, left: char)
+    requires { AreMarked world.now.saved choices.old }
+    ensures { AreMarked world.now.saved choices.new }
+{
+    if choices.height() == 0 {
+        return;
+    }
+    choices.renew(left);
+}
+
 /// Comes back to the choice at a height, where there is one.
 fn back_to(choices: &mut Choices<char>, world: &mut Trail<u32>, height: usize) -> Option<char>
     requires { AreMarked world.old.saved choices.old }
@@ -78,6 +100,8 @@ enum Act {
     Push(u32),
     Back,
     Retry(char),
+    Resume,
+    Renew(char),
     BackTo(usize),
     Replace(usize, char),
     Cut(usize),
@@ -99,6 +123,14 @@ fn done(
         }
         Act::Back => Ok(choices.back(world)),
         Act::Retry(left) => Ok(retry(choices, world, left)),
+        Act::Resume => {
+            resume(choices, world);
+            Ok(None)
+        }
+        Act::Renew(left) => {
+            renew(choices, world, left);
+            Ok(None)
+        }
         Act::BackTo(height) => Ok(back_to(choices, world, height)),
         Act::Replace(height, left) => Ok(replace(choices, world, height, left)),
         Act::Cut(height) => {
@@ -152,7 +184,7 @@ fn played_on_three(alloc: Global, acts: &[Act]) -> Result<String, AllocError> {
     played(alloc, &mut choices, &mut world, acts)
 }
 
-static PLAYS: [(&[Act], &str); 5] = [
+static PLAYS: [(&[Act], &str); 6] = [
     // The newest choice comes first.
     (
         &[Act::Cut(5), Act::Back, Act::Back, Act::Back, Act::Back],
@@ -162,6 +194,17 @@ static PLAYS: [(&[Act], &str); 5] = [
     (
         &[Act::Retry('d'), Act::Push(50), Act::Retry('e'), Act::Back],
         "c3d 10 20 30; -3d 10 20 30 50; d3e 10 20 30; e2b 10 20 30; ",
+    ),
+    // A choice stays as it is while an alternative is tried, and then has others.
+    (
+        &[
+            Act::Resume,
+            Act::Push(50),
+            Act::Renew('d'),
+            Act::Resume,
+            Act::Back,
+        ],
+        "-3c 10 20 30; -3c 10 20 30 50; -3d 10 20 30 50; -3d 10 20 30; d2b 10 20 30; ",
     ),
     // A cut keeps the world, and ends the marks.
     (&[Act::Cut(1), Act::Back], "-1a 10 20 30 40; a0- 10; "),
