@@ -8,7 +8,6 @@ use Rattle.spec_search.specs.Replies as reply
 use Rattle.spec_search.specs.Replies.{Place}
 use Rattle.spec_search.specs.Rows.{reply_of}
 use Rattle.spec_search.specs.Steps.{Steps, Ball}
-use Rattle.cq_builtin.specs.declared.comparisons.Comparison.{Comparison}
 use Rattle.cq_frac.specs.declared.Pair.{Pair}
 use Rattle.cq_linear.specs.declared.store.StoreFault.{StoreFault}
 use Rattle.cq_linear.specs.declared.store.StoreFault.TheVariants.{Overflow, Pivots, NoMemory}
@@ -24,6 +23,7 @@ use Rattle.cq_execute.specs.Rows.{IsCallOf}
 use Rattle.cq_execute.specs.Stops.{IsStop}
 use Rattle.cq_table.specs.declared.builtins.Builtin.{Builtin}
 use Rattle.cq_table.specs.declared.builtins.Builtin.TheVariants as table
+use Rattle.cq_table.specs.declared.builtins.Common.{Common}
 
 -- what a step without output came to
 abbrev pub as_went : Step → Went
@@ -53,14 +53,8 @@ pub data IsRefused (budget : ℕ) (p : Place) (goal : Tree) : Type 0 where
   pivots : {n : ℕ} → IsStop budget p goal (Pivots n) → IsRefused budget p goal
 
 -- the built-in predicate is none of those that most goals call
-pub record IsOther (b : Builtin) : Type 0 where
-  pub not_true : b ≡ table.True → ⊥
-  pub not_and : b ≡ table.And → ⊥
-  pub not_or : b ≡ table.Or → ⊥
-  pub not_cut : b ≡ table.Cut → ⊥
-  pub not_unify : b ≡ table.Unify → ⊥
-  pub not_is : b ≡ table.Is → ⊥
-  pub not_compare : (c : Comparison) → b ≡ table.Compare c → ⊥
+abbrev pub IsOther : Builtin → Type 0
+IsOther b = (c : Common) → b ≡ table.Common c → ⊥
 
 -- the machine has come to what the goal's step makes, which shows nothing; or the goal is refused for a cause, or calls another predicate
 abbrev pub ReachesSmall : ℕ → Machine → Place → List Branch → Tree → Went → Type 0

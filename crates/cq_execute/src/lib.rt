@@ -1,6 +1,7 @@
 //! How an engine executes a goal: what it calls is found by its name and number of arguments, and its row is done.
 #![tactic(auto)]
 
+mod common;
 mod executed;
 mod execution;
 mod printing;

@@ -2,6 +2,7 @@
 
 ghost use Rattle.cq_execute.specs.Rows.{IsAtGoal, IsCallOf, IsDone};
 
+use crate::common::execute_common;
 use crate::executed::Executed;
 use crate::printing::{declare, newline, write};
 use crate::steps::{quiet, quiet_or_stop};
@@ -10,16 +11,13 @@ use cq_clauses::End;
 use cq_control::Continuation;
 use cq_linear::store::StoreFault;
 use cq_machine::{
-    Machine, Step, catch, conjunction, cut, disjunction, findall, if_then, initialization,
-    negation, not_unify, once, throw,
+    Machine, Step, catch, findall, if_then, initialization, negation, not_unify, once, throw,
 };
 use cq_offer::{offer, rows_are_replies};
 use cq_optima::{entailed, extent, optimum};
 use cq_predicates::Predicate;
 use cq_questions::Side;
-use cq_selected::{
-    call_with_more, compare, constrain, discontiguous, evaluate_to, freeze, unify, use_module,
-};
+use cq_selected::{call_with_more, constrain, discontiguous, freeze, use_module};
 use cq_table::Builtin;
 use cq_term::TermId;
 use spec_predicates::predicates_are_found_by_name_and_arity;
@@ -38,23 +36,19 @@ pub(crate) fn execute_builtin(
 {
     let alloc = m.world.first.heap.alloc();
     match builtin {
-        Builtin::True => quiet(alloc, Ok(Step::succeed_if(true, rest))),
+        Builtin::Common(common) => {
+            quiet_or_stop(alloc, execute_common(m, common, goal, height, rest))
+        }
         Builtin::Fail => quiet(alloc, Ok(Step::succeed_if(false, rest))),
-        Builtin::And => quiet(alloc, conjunction(m, goal, height, rest)),
-        Builtin::Or => quiet(alloc, disjunction(m, goal, height, rest)),
         Builtin::IfThen => quiet(alloc, if_then(m, goal, height, rest)),
-        Builtin::Cut => quiet(alloc, Ok(cut(m, height, rest))),
         Builtin::Not => quiet(alloc, negation(m, goal, height, rest)),
         Builtin::Call => call(m, goal, height, rest),
         Builtin::Once => quiet(alloc, once(m, goal, height, rest)),
         Builtin::Catch => quiet(alloc, catch(m, goal, height, rest)),
         Builtin::Throw => quiet(alloc, Ok(throw(m, goal))),
         Builtin::Findall => quiet(alloc, findall(m, goal, height, rest)),
-        Builtin::Unify => quiet_or_stop(alloc, unify(m, goal, rest)),
         Builtin::NotUnify => quiet(alloc, not_unify(m, goal, height, rest)),
         Builtin::Predicate(predicate) => offered(m, predicate, goal, height, rest),
-        Builtin::Is => quiet_or_stop(alloc, evaluate_to(m, goal, rest)),
-        Builtin::Compare(comparison) => quiet(alloc, compare(m, comparison, goal, rest)),
         Builtin::Asserta => quiet(alloc, assert(m, End::First, goal, rest)),
         Builtin::Assertz => quiet(alloc, assert(m, End::Last, goal, rest)),
         Builtin::Retract => quiet(alloc, retract(m, goal, rest)),

@@ -8,12 +8,13 @@ ghost use Rattle.cq_execute.specs.Rows.{IsAtGoal, IsCallOf, as_step, as_stop};
 ghost use Rattle.cq_execute.specs.Small.{IsSmall, IsSmallDone, as_went};
 ghost use Rattle.cq_term.specs.declared.names.Pred.{Pred as Predicate};
 
+use crate::common::execute_common;
 use crate::execution::{Callee, find_callee};
 use cq_calls::Called;
 use cq_control::Continuation;
 use cq_linear::store::StoreFault;
-use cq_machine::{Machine, Step, conjunction, cut, disjunction};
-use cq_selected::{call_procedure, compare, evaluate_to, unify};
+use cq_machine::{Machine, Step};
+use cq_selected::call_procedure;
 use cq_steps::selected_goals_lead;
 use cq_table::Builtin;
 use cq_term::{Pred, TermId};
@@ -82,13 +83,7 @@ fn execute_row(
     ensures { IsSmallDone m.old m.new goal height rest result }
 {
     match builtin {
-        Builtin::True => small(Ok(Step::succeed_if(true, rest))),
-        Builtin::And => small(conjunction(m, goal, height, rest)),
-        Builtin::Or => small(disjunction(m, goal, height, rest)),
-        Builtin::Cut => small(Ok(cut(m, height, rest))),
-        Builtin::Unify => small_or_stop(unify(m, goal, rest)),
-        Builtin::Is => small_or_stop(evaluate_to(m, goal, rest)),
-        Builtin::Compare(comparison) => small(compare(m, comparison, goal, rest)),
+        Builtin::Common(common) => small(execute_common(m, common, goal, height, rest)),
         _ => Ok(Went::Row(builtin)),
     }
 }
@@ -122,20 +117,9 @@ fn outcome_of(step: Step) -> Went
     }
 }
 
-/// The same, or want of memory.
-#[inline(always)]
-fn small(step: Result<Step, AllocError>) -> Result<Went, AllocError>
-    ensures { IsSmall (as_stop step) result }
-{
-    match step {
-        Ok(step) => Ok(outcome_of(step)),
-        Err(fault) => Err(fault),
-    }
-}
-
 /// The same, where a query may stop.
 #[inline(always)]
-fn small_or_stop(step: Result<Step, StoreFault>) -> Result<Went, AllocError>
+fn small(step: Result<Step, StoreFault>) -> Result<Went, AllocError>
     ensures { IsSmall step result }
 {
     match step {

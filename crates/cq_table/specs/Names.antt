@@ -7,6 +7,8 @@ use Rattle.cq_builtin.specs.Rows.{comparison_of}
 use Rattle.cq_predicates.specs.Names.{as_predicate}
 use Rattle.cq_table.specs.declared.builtins.Builtin.{Builtin}
 use Rattle.cq_table.specs.declared.builtins.Builtin.TheVariants as builtin
+use Rattle.cq_table.specs.declared.builtins.Common.{Common}
+use Rattle.cq_table.specs.declared.builtins.Common.TheVariants as common
 
 -- the built-in predicate that a predicate on terms or texts is
 abbrev pub built_in : Predicate → definition.Builtin
@@ -23,24 +25,27 @@ built_in predicate.NumberCodes = definition.NumberCodes
 built_in predicate.AtomConcat = definition.AtomConcat
 built_in predicate.SubAtom = definition.SubAtom
 
+abbrev pub as_common : Common → definition.Builtin
+as_common common.True = definition.True
+as_common common.And = definition.And
+as_common common.Or = definition.Or
+as_common common.Cut = definition.Cut
+as_common common.Unify = definition.Unify
+as_common common.Is = definition.Is
+as_common (common.Compare c) = definition.Compare (comparison_of c)
+
 abbrev pub as_builtin : Builtin → definition.Builtin
-as_builtin builtin.True = definition.True
+as_builtin (builtin.Common c) = as_common c
 as_builtin builtin.Fail = definition.Fail
-as_builtin builtin.And = definition.And
-as_builtin builtin.Or = definition.Or
 as_builtin builtin.IfThen = definition.IfThen
-as_builtin builtin.Cut = definition.Cut
 as_builtin builtin.Not = definition.Not
 as_builtin builtin.Call = definition.Call
 as_builtin builtin.Once = definition.Once
 as_builtin builtin.Catch = definition.Catch
 as_builtin builtin.Throw = definition.Throw
 as_builtin builtin.Findall = definition.Findall
-as_builtin builtin.Unify = definition.Unify
 as_builtin builtin.NotUnify = definition.NotUnify
 as_builtin (builtin.Predicate p) = built_in (as_predicate p)
-as_builtin builtin.Is = definition.Is
-as_builtin (builtin.Compare c) = definition.Compare (comparison_of c)
 as_builtin builtin.Asserta = definition.Assert First
 as_builtin builtin.Assertz = definition.Assert Last
 as_builtin builtin.Retract = definition.Retract

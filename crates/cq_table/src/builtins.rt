@@ -13,27 +13,33 @@ use cq_codes::Conversion;
 use cq_predicates::Predicate;
 use spec_writing::Style;
 
+/// A built-in predicate of control, unification or arithmetic that most goals of programs call.
+#[derive(Clone, Copy, Debug, PartialEq, Eq)]
+pub enum Common {
+    True,
+    And,
+    Or,
+    Cut,
+    Unify,
+    Is,
+    Compare(Comparison),
+}
+
 /// A built-in predicate.
 #[derive(Clone, Copy, Debug, PartialEq, Eq)]
 pub enum Builtin {
-    True,
+    Common(Common),
     Fail,
-    And,
-    Or,
     IfThen,
-    Cut,
     Not,
     Call,
     Once,
     Catch,
     Throw,
     Findall,
-    Unify,
     NotUnify,
     /// A predicate on terms or texts.
     Predicate(Predicate),
-    Is,
-    Compare(Comparison),
     Asserta,
     Assertz,
     Retract,
@@ -89,9 +95,9 @@ fn of_none() -> &'static [Row]
     ensures { AreRows 0 result.now }
 {
     &[
-        ("true", Builtin::True),
+        ("true", Builtin::Common(Common::True)),
         ("fail", Builtin::Fail),
-        ("!", Builtin::Cut),
+        ("!", Builtin::Common(Common::Cut)),
         ("nl", Builtin::Newline),
     ]
 }
@@ -160,19 +166,28 @@ fn of_two() -> &'static [Row]
     ensures { AreRows 2 result.now }
 {
     &[
-        (",", Builtin::And),
-        (";", Builtin::Or),
+        (",", Builtin::Common(Common::And)),
+        (";", Builtin::Common(Common::Or)),
         ("->", Builtin::IfThen),
-        ("=", Builtin::Unify),
+        ("=", Builtin::Common(Common::Unify)),
         ("\\=", Builtin::NotUnify),
         ("call", Builtin::Call),
-        ("is", Builtin::Is),
-        ("=:=", Builtin::Compare(Comparison::Same)),
-        ("=\\=", Builtin::Compare(Comparison::NotSame)),
-        ("<", Builtin::Compare(Comparison::Before)),
-        ("=<", Builtin::Compare(Comparison::BeforeOrSame)),
-        (">", Builtin::Compare(Comparison::After)),
-        (">=", Builtin::Compare(Comparison::AfterOrSame)),
+        ("is", Builtin::Common(Common::Is)),
+        ("=:=", Builtin::Common(Common::Compare(Comparison::Same))),
+        (
+            "=\\=",
+            Builtin::Common(Common::Compare(Comparison::NotSame)),
+        ),
+        ("<", Builtin::Common(Common::Compare(Comparison::Before))),
+        (
+            "=<",
+            Builtin::Common(Common::Compare(Comparison::BeforeOrSame)),
+        ),
+        (">", Builtin::Common(Common::Compare(Comparison::After))),
+        (
+            ">=",
+            Builtin::Common(Common::Compare(Comparison::AfterOrSame)),
+        ),
         ("==", Builtin::Predicate(Predicate::Order(Comparison::Same))),
         (
             "\\==",

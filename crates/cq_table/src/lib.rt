@@ -5,5 +5,5 @@ mod builtins;
 mod listed;
 mod numbered;
 
-pub use builtins::Builtin;
+pub use builtins::{Builtin, Common};
 pub use numbered::Builtins;

@@ -1,50 +1,24 @@
 use Rattle.std.proofs.Common.{refl}
-use Rattle.std.specs.Prelude.{Ok, IfOk}
-use Rattle.spec_search.specs.Builtins.{Least, Greatest, True, Fail, And, Or, IfThen, Cut, Not, Once, Catch, Throw, Findall, Unify, NotUnify, Is, Compare, Assert, Retract, ClauseGoal, DynamicGoal, Discontiguous, Initialization, UseModule, Curly, Entailed, Freeze, Extent, Optimum}
+use Rattle.std.specs.Prelude.{Ok}
+use Rattle.spec_search.specs.Builtins.{Least, Greatest, Fail, IfThen, Not, Once, Catch, Throw, Findall, NotUnify, Assert, Retract, ClauseGoal, DynamicGoal, Discontiguous, Initialization, UseModule, Curly, Entailed, Freeze, Extent, Optimum}
 use Rattle.spec_search.specs.Database.{First, Last}
 use Rattle.cq_atoms.specs.Texts.{text_of}
-use Rattle.cq_builtin.specs.Rows.{comparison_of}
 use Rattle.cq_linear.specs.declared.store.StoreFault.{StoreFault}
 use Rattle.cq_term.specs.Meaning.{at}
 use Rattle.cq_machine.specs.Machines.{terms}
-use Rattle.cq_machine.specs.Stepping.{row_of, LeadsTo}
 use Rattle.cq_execute.proofs.Table.{so_many}
-use Rattle.cq_execute.proofs.Done.{quiet_done, row_done, stop_done, none_raised, rows_at, stops_at, same_machine, somewhere, still_raised, still_stands, freeze_none, freeze_throws}
+use Rattle.cq_execute.proofs.Done.{quiet_done, row_done, stop_done, none_raised, rows_at, same_machine, somewhere, still_raised, still_stands, freeze_none, freeze_throws}
 use Rattle.cq_execute.proofs.Changed.{change_done}
 use Rattle.cq_execute.proofs.Asked.{ask_done}
 use Rattle.cq_execute.proofs.rows.execute_builtin.Goals as goal
 
-pub conjunction-requires-clause-two : goal.conjunction-requires-clause-two
-conjunction-requires-clause-two c =
-    so_many (text_of c.args.m.now.atoms) (at (terms c.args.m.now) c.args.goal) And 2 (rw c.in-And.is at c.requires.calls) (λ n. refl)
+pub execute_common-requires-clause-calls : goal.execute_common-requires-clause-calls
+execute_common-requires-clause-calls c = rw c.in-Common.is at c.requires.calls
 
-pub returns-in-And : goal.returns-in-And
-returns-in-And c =
-    let m = c.args.m.now in
-    let new = c.conjunction.new.m in
-    let r = c.conjunction.result in
-    let calls = rw c.in-And.is at c.requires.calls in
-    quiet_done m new c.args.goal c.args.height c.args.rest _ c.quiet-in-And.result
-    (row_done m new c.args.goal c.args.height c.args.rest And calls r c.conjunction.ensures.row c.conjunction.ensures.goes
-    (none_raised m new c.args.goal c.args.height c.args.rest And calls c.requires.at.selected (λ p g e h. cc) (λ p g t h. cc) r c.conjunction.ensures.row)
-    c.conjunction.ensures.sound c.conjunction.ensures.program c.conjunction.ensures.err)
-    c.quiet-in-And.ensures
-
-pub disjunction-requires-clause-two : goal.disjunction-requires-clause-two
-disjunction-requires-clause-two c =
-    so_many (text_of c.args.m.now.atoms) (at (terms c.args.m.now) c.args.goal) Or 2 (rw c.in-Or.is at c.requires.calls) (λ n. refl)
-
-pub returns-in-Or : goal.returns-in-Or
-returns-in-Or c =
-    let m = c.args.m.now in
-    let new = c.disjunction.new.m in
-    let r = c.disjunction.result in
-    let calls = rw c.in-Or.is at c.requires.calls in
-    quiet_done m new c.args.goal c.args.height c.args.rest _ c.quiet-in-Or.result
-    (row_done m new c.args.goal c.args.height c.args.rest Or calls r c.disjunction.ensures.row c.disjunction.ensures.goes
-    (none_raised m new c.args.goal c.args.height c.args.rest Or calls c.requires.at.selected (λ p g e h. cc) (λ p g t h. cc) r c.disjunction.ensures.row)
-    c.disjunction.ensures.sound c.disjunction.ensures.program c.disjunction.ensures.err)
-    c.quiet-in-Or.ensures
+pub returns-in-Common : goal.returns-in-Common
+returns-in-Common c =
+    quiet_done c.args.m.now c.execute_common.new.m c.args.goal c.args.height c.args.rest c.execute_common.result c.quiet_or_stop.result c.execute_common.ensures.done
+    c.quiet_or_stop.ensures
 
 pub if_then-requires-clause-two : goal.if_then-requires-clause-two
 if_then-requires-clause-two c =
@@ -147,46 +121,6 @@ returns-in-Freeze c =
     c.freeze.ensures.sound c.freeze.ensures.program c.freeze.ensures.err)
     c.quiet-in-Freeze.ensures
 
-pub unify-requires-clause-two : goal.unify-requires-clause-two
-unify-requires-clause-two c =
-    so_many (text_of c.args.m.now.atoms) (at (terms c.args.m.now) c.args.goal) Unify 2 (rw c.in-Unify.is at c.requires.calls) (λ n. refl)
-
-pub unify-requires-clause-selected : goal.unify-requires-clause-selected
-unify-requires-clause-selected c =
-    somewhere c.args.m.now c.args.goal c.args.height c.args.rest c.requires.at.selected
-
-pub returns-in-Unify : goal.returns-in-Unify
-returns-in-Unify c =
-    let m = c.args.m.now in
-    let new = c.unify.new.m in
-    let r = c.unify.result in
-    let calls = rw c.in-Unify.is at c.requires.calls in
-    let row = rows_at m new c.args.goal c.args.height c.args.rest Unify calls r c.unify.ensures.row in
-    quiet_done m new c.args.goal c.args.height c.args.rest r c.quiet_or_stop.result
-    (stop_done m new c.args.goal c.args.height c.args.rest Unify calls r row (stops_at m new c.args.goal c.args.height c.args.rest Unify calls r c.unify.ensures.stop) c.unify.ensures.goes
-    (none_raised m new c.args.goal c.args.height c.args.rest Unify calls c.requires.at.selected (λ p g e h. cc) (λ p g t h. cc) r row)
-    c.unify.ensures.sound c.unify.ensures.program c.unify.ensures.err)
-    c.quiet_or_stop.ensures
-
-pub evaluate_to-requires-clause-two : goal.evaluate_to-requires-clause-two
-evaluate_to-requires-clause-two c =
-    so_many (text_of c.args.m.now.atoms) (at (terms c.args.m.now) c.args.goal) Is 2 (rw c.in-Is.is at c.requires.calls) (λ n. refl)
-
-pub evaluate_to-requires-clause-selected : goal.evaluate_to-requires-clause-selected
-evaluate_to-requires-clause-selected c =
-    somewhere c.args.m.now c.args.goal c.args.height c.args.rest c.requires.at.selected
-
-pub returns-in-Is : goal.returns-in-Is
-returns-in-Is c =
-    let m = c.args.m.now in
-    let new = c.evaluate_to.new.m in
-    let r = c.evaluate_to.result in
-    let calls = rw c.in-Is.is at c.requires.calls in
-    quiet_done m new c.args.goal c.args.height c.args.rest r c.quiet_or_stop-in-Is.result
-    (stop_done m new c.args.goal c.args.height c.args.rest Is calls r (rows_at m new c.args.goal c.args.height c.args.rest Is calls r c.evaluate_to.ensures.row) (stops_at m new c.args.goal c.args.height c.args.rest Is calls r c.evaluate_to.ensures.stop) c.evaluate_to.ensures.goes
-    c.evaluate_to.ensures.raises c.evaluate_to.ensures.sound c.evaluate_to.ensures.program c.evaluate_to.ensures.err)
-    c.quiet_or_stop-in-Is.ensures
-
 pub constrain-requires-clause-one : goal.constrain-requires-clause-one
 constrain-requires-clause-one c =
     so_many (text_of c.args.m.now.atoms) (at (terms c.args.m.now) c.args.goal) Curly 1 (rw c.in-Curly.is at c.requires.calls) (λ n. refl)
@@ -200,21 +134,6 @@ returns-in-Curly c =
     (stop_done m new c.args.goal c.args.height c.args.rest Curly (rw c.in-Curly.is at c.requires.calls) r c.constrain.ensures.row c.constrain.ensures.stop c.constrain.ensures.goes
     c.constrain.ensures.raises c.constrain.ensures.sound c.constrain.ensures.program c.constrain.ensures.err)
     c.quiet_or_stop-in-Curly.ensures
-
-pub compare-requires-clause-two : goal.compare-requires-clause-two
-compare-requires-clause-two c =
-    so_many (text_of c.args.m.now.atoms) (at (terms c.args.m.now) c.args.goal) (Compare (comparison_of c.in-Compare.comparison)) 2 (rw c.in-Compare.is at c.requires.calls) (λ n. refl)
-
-pub returns-in-Compare : goal.returns-in-Compare
-returns-in-Compare c =
-    let m = c.args.m.now in
-    let r = c.compare.result in
-    let b = Compare (comparison_of c.in-Compare.comparison) in
-    let calls = rw c.in-Compare.is at c.requires.calls in
-    quiet_done m m c.args.goal c.args.height c.args.rest _ c.quiet-in-Compare.result
-    (row_done m m c.args.goal c.args.height c.args.rest b calls r (rows_at m m c.args.goal c.args.height c.args.rest b calls r c.compare.ensures.row) c.compare.ensures.goes
-    (still_raised m r) c.requires.at.sound (same_machine m) (still_stands m r))
-    c.quiet-in-Compare.ensures
 
 pub discontiguous-requires-clause-one : goal.discontiguous-requires-clause-one
 discontiguous-requires-clause-one c =
@@ -243,35 +162,14 @@ returns-in-UseModule c =
     c.use_module.ensures.goes (still_raised {E = StoreFault} m (Ok s)) c.requires.at.sound (same_machine m) tt)
     c.quiet-in-UseModule.ensures
 
-pub returns-in-True : goal.returns-in-True
-returns-in-True c =
-    let m = c.args.m.now in
-    let s = c.succeed_if.result in
-    quiet_done m m c.args.goal c.args.height c.args.rest (Ok s) c.quiet.result
-    (stop_done m m c.args.goal c.args.height c.args.rest True (rw c.in-True.is at c.requires.calls) (Ok s) (λ p behind g at. c.succeed_if.ensures.row m c.args.goal c.args.height p behind g at) tt
-    (c.succeed_if.ensures.goes m c.requires.at.there) (still_raised {E = StoreFault} m (Ok s)) c.requires.at.sound (same_machine m) tt)
-    c.quiet.ensures
-
 pub returns-in-Fail : goal.returns-in-Fail
 returns-in-Fail c =
     let m = c.args.m.now in
-    let s = c.succeed_if-in-Fail.result in
-    quiet_done m m c.args.goal c.args.height c.args.rest (Ok s) c.quiet-in-Fail.result
-    (stop_done m m c.args.goal c.args.height c.args.rest Fail (rw c.in-Fail.is at c.requires.calls) (Ok s) (λ p behind g at. c.succeed_if-in-Fail.ensures.row m c.args.goal c.args.height p behind g at) tt
-    (c.succeed_if-in-Fail.ensures.goes m c.requires.at.there) (still_raised {E = StoreFault} m (Ok s)) c.requires.at.sound (same_machine m) tt)
-    c.quiet-in-Fail.ensures
-
-pub returns-in-Cut : goal.returns-in-Cut
-returns-in-Cut c =
-    let m = c.args.m.now in
-    let new = c.cut.new.m in
-    let r = Ok c.cut.result in
-    let calls = rw c.in-Cut.is at c.requires.calls in
-    let row : IfOk r (LeadsTo m new c.args.goal c.args.height c.args.rest (row_of Cut)) = λ p behind g at. c.cut.ensures.row p behind c.args.goal g at in
-    quiet_done m new c.args.goal c.args.height c.args.rest r c.quiet-in-Cut.result
-    (stop_done m new c.args.goal c.args.height c.args.rest Cut calls r row tt c.cut.ensures.goes (none_raised m new c.args.goal c.args.height c.args.rest Cut calls c.requires.at.selected (λ p g e h. cc) (λ p g t h. cc) r row)
-    c.cut.ensures.sound c.cut.ensures.program tt)
-    c.quiet-in-Cut.ensures
+    let s = c.succeed_if.result in
+    quiet_done m m c.args.goal c.args.height c.args.rest (Ok s) c.quiet.result
+    (stop_done m m c.args.goal c.args.height c.args.rest Fail (rw c.in-Fail.is at c.requires.calls) (Ok s) (λ p behind g at. c.succeed_if.ensures.row m c.args.goal c.args.height p behind g at) tt
+    (c.succeed_if.ensures.goes m c.requires.at.there) (still_raised {E = StoreFault} m (Ok s)) c.requires.at.sound (same_machine m) tt)
+    c.quiet.ensures
 
 pub assert-requires-clause-one : goal.assert-requires-clause-one
 assert-requires-clause-one c =
