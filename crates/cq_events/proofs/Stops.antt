@@ -14,7 +14,7 @@ use Rattle.spec_stops.specs.Due as due
 use Rattle.spec_stops.specs.Due.{Due, IsMoment}
 use Rattle.spec_machine.specs.Coming.{MayGo, at_once, after}
 use Rattle.spec_machine.specs.Coming as coming
-use Rattle.cq_begin.specs.Stops.{ComesToStop}
+use Rattle.cq_engine.specs.Stops.{ComesToStop}
 use Rattle.cq_frac.specs.declared.Pair.{Pair}
 use Rattle.cq_linear.specs.declared.store.StoreFault.{StoreFault}
 use Rattle.cq_linear.specs.declared.store.StoreFault.TheVariants.{Overflow, Pivots, NoMemory}

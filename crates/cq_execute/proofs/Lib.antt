@@ -9,3 +9,6 @@ mod Changed
 mod Asked
 mod Heads
 mod Outcomes
+-- laws of a lower crate
+pub use Rattle.cq_offer.proofs.Errors
+pub use Rattle.cq_offer.proofs.Machines

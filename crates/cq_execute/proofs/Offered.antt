@@ -20,8 +20,8 @@ use Rattle.cq_frac.specs.declared.Pair.{Pair}
 use Rattle.cq_table.specs.Names.{built_in}
 use Rattle.cq_term.specs.Trees.{tree}
 use Rattle.cq_steps.proofs.Added.{reads_tree}
-use Rattle.cq_ways.specs.Calls as ways
-use Rattle.cq_ways.proofs.Leading.{made_is}
+use Rattle.cq_offer.specs.Calls as ways
+use Rattle.cq_offer.proofs.Leading.{made_is}
 use Rattle.cq_machine.specs.declared.machine.Machine.{Machine}
 use Rattle.cq_machine.specs.declared.step.Step.{Step}
 use Rattle.cq_machine.specs.declared.step.Step.TheVariants.{Goes, Back, Raises, Throws, Refuses}

@@ -20,7 +20,7 @@ use Rattle.cq_term.specs.Trees.{tree}
 use Rattle.cq_steps.specs.Worlds.{IsBranch, term_in, Selected}
 use Rattle.cq_steps.proofs.Branches.{branches_rest}
 use Rattle.cq_steps.proofs.Control.{goes_on_with}
-use Rattle.cq_ways.proofs.Leading.{same_made}
+use Rattle.cq_offer.proofs.Leading.{same_made}
 use Rattle.cq_machine.specs.declared.machine.Machine.{Machine}
 use Rattle.cq_machine.specs.declared.step.Step.{Step}
 use Rattle.cq_machine.specs.declared.step.Step.TheVariants.{Goes, Raises}

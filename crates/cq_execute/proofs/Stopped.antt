@@ -7,7 +7,7 @@ use Rattle.spec_search.specs.Rows.{reply_of}
 use Rattle.spec_search.specs.Steps as steps
 use Rattle.cq_linear.specs.declared.store.StoreFault.{StoreFault}
 use Rattle.cq_linear.specs.declared.store.StoreFault.TheVariants.{Overflow, Pivots, NoMemory}
-use Rattle.cq_relations.specs.Faults.{IsStopped}
+use Rattle.cq_selected.specs.Faults.{IsStopped}
 use Rattle.cq_execute.specs.Stops.{IsStop, settles, overflow, pivots, no_memory}
 
 -- the reply makes one child, and a stop is due while that is settled

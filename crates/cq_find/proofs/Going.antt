@@ -24,8 +24,8 @@ use Rattle.cq_steps.specs.declared.alternatives.Alternatives.{Alternatives}
 use Rattle.cq_steps.specs.Choices.{CanBeTried, KeepsOlder}
 use Rattle.cq_steps.specs.Worlds.{IsBranch, term_in, left_at, stack, IsWorking}
 use Rattle.cq_steps.proofs.Arrived.{quietly_on}
-use Rattle.cq_begin.specs.Stops.{waiting_in}
-use Rattle.cq_begin.proofs.Back.{told_after}
+use Rattle.cq_matching.specs.Stops.{waiting_in}
+use Rattle.cq_matching.proofs.Back.{told_after}
 use Rattle.cq_ways.specs.Held.{Held, HasMarks, IsOver, open_of, stack_of}
 use Rattle.cq_ways.specs.Trying.{IsSearching, ComesOver, StopsOver}
 use Rattle.cq_saved.specs.Taking.{Escapes, EscapesOver}

@@ -9,7 +9,7 @@ use Rattle.cq_stored.specs.StoredValue.{StoredValue}
 use Rattle.cq_steps.specs.Marks.{IsFront}
 use Rattle.cq_steps.specs.Stored.{IsCountedTerm}
 use Rattle.cq_steps.specs.Worlds.{Stands}
-use Rattle.cq_begin.specs.Stops.{waiting_in}
+use Rattle.cq_matching.specs.Stops.{waiting_in}
 use Rattle.cq_ways.specs.Held.{Held, stack_of}
 use Rattle.cq_saved.specs.Taking.{Escapes}
 use Rattle.cq_matching.specs.Matching.{Reaches}

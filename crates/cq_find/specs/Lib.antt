@@ -3,3 +3,4 @@ pub mod Finding
 pub use Rattle.cq_matching.specs.Matching
 pub use Rattle.cq_saved.specs.Taking
 pub use Rattle.cq_ways.specs.Held
+pub use Rattle.cq_matching.specs.Stops

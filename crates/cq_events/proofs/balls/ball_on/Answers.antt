@@ -3,7 +3,7 @@ use Rattle.spec_syntax.specs.Trees.{Tree}
 use Rattle.spec_built.specs.Built.{Indicator}
 use Rattle.spec_built.specs.Errors.{error_ball}
 use Rattle.cq_built.proofs.Growing.{known_longer, grows_both, grows_names}
-use Rattle.cq_offer.proofs.Errors.{error_same, culprit_on}
+use Rattle.cq_execute.proofs.Errors.{error_same, culprit_on}
 use Rattle.cq_events.proofs.balls.ball_on.Goals as goal
 
 pub ball-requires-clause-names : goal.ball-requires-clause-names

@@ -11,8 +11,8 @@ use Rattle.cq_steps.specs.Worlds.{Stands, stack, with_heap}
 use Rattle.cq_machine.specs.Machines.{saved, now}
 use Rattle.cq_machine.proofs.Built.{lists_same}
 use Rattle.cq_machine.proofs.Interned.{texts_kept, names_kept}
-use Rattle.cq_offer.specs.Offers.{held_by}
-use Rattle.cq_offer.proofs.Machines.{over_sound, named_there}
+use Rattle.cq_execute.specs.Offers.{held_by}
+use Rattle.cq_execute.proofs.Machines.{over_sound, named_there}
 use Rattle.cq_events.proofs.Marks.{marks}
 use Rattle.cq_events.proofs.balls.build_ball.Goals as goal
 

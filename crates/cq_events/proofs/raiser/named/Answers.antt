@@ -4,7 +4,7 @@ use Rattle.spec_lists.proofs.Prefixes.{prefix_same}
 use Rattle.spec_built.specs.Built.{indicator}
 use Rattle.cq_built.proofs.Growing.{longer_by_text}
 use Rattle.cq_term.proofs.Named.{text_is}
-use Rattle.cq_offer.proofs.Machines.{named_there}
+use Rattle.cq_execute.proofs.Machines.{named_there}
 use Rattle.cq_events.proofs.raiser.named.Goals as goal
 
 pub returns-clause-predicate : goal.returns-clause-predicate

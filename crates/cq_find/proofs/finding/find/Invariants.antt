@@ -1,7 +1,7 @@
 use Rattle.std.proofs.Common.{◌≡◌}
 use Rattle.spec_lists.specs.Prefixes.{IsPrefix}
 use Rattle.cq_atoms.specs.Texts.{AreDifferent}
-use Rattle.cq_begin.specs.Stops.{waiting_in}
+use Rattle.cq_matching.specs.Stops.{waiting_in}
 use Rattle.cq_matching.specs.Matching.{Reaches}
 use Rattle.cq_ways.specs.Held.{held, HasMarks, IsOver, stack_of}
 use Rattle.cq_find.proofs.finding.find.Given as goal

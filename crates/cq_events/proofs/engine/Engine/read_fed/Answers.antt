@@ -4,7 +4,7 @@ use Rattle.cq_program.specs.Database.{as_database}
 use Rattle.cq_write.specs.Meaning.{operators}
 use Rattle.cq_machine.specs.Machines.{now}
 use Rattle.cq_machine.proofs.Interned.{names_kept}
-use Rattle.cq_offer.proofs.Machines.{named_there}
+use Rattle.cq_execute.proofs.Machines.{named_there}
 use Rattle.cq_events.proofs.Marks.{marks}
 use Rattle.cq_events.proofs.Read.{left_fed, nothing_read, idle_on}
 use Rattle.cq_events.proofs.engine.Engine.read_fed.Goals as goal
