@@ -86,7 +86,7 @@ pub returns-in-Cut-clause-refuses : goal.returns-in-Cut-clause-refuses
 returns-in-Cut-clause-refuses c =
     let m = c.args.m.now in
     let new = c.cut.new.m in
-    let r = Ok c.cut.result in
+    let r : Result Step StoreFault = Ok c.cut.result in
     let row : IfOk r (LeadsTo m new c.args.goal c.args.height c.args.rest (row_of Cut)) = λ p behind g at. c.cut.ensures.row p behind c.args.goal g at in
     none_refused m new c.args.goal c.args.height c.args.rest Cut c.requires.at.selected (λ p g pair h. cc) r row
 
