@@ -2,7 +2,7 @@
 #![tactic(auto)]
 
 use cq_interpreter::Toplevel;
-use cq_real::{FileShelf, ReaderSource, WriterSink};
+use cq_outside::real::{FileShelf, ReaderSource, WriterSink};
 use cq_session::{run, run_without_words};
 use cq_words::WordsFault;
 use std::io::ErrorKind;

@@ -5,9 +5,9 @@ use Rattle.std.proofs.lemmas.Bool.{cases_lt, false≢true}
 use Rattle.std.proofs.lemmas.List.{map-append, take_more}
 use Rattle.std.proofs.lemmas.List.Elements.{Contains-append_left, Contains-push, Contains-push_cases}
 use Rattle.std.proofs.lemmas.Option.{same_Some}
-use Rattle.spec_lists.proofs.Places.{get_take}
+use Rattle.spec_numbers.proofs.Places.{get_take}
 use Rattle.cq_frac.specs.declared.VarId.{VarId}
-use Rattle.cq_walk.specs.Places.{numbers_of}
+use Rattle.cq_term.specs.Places.{numbers_of}
 use Rattle.cq_attr.specs.declared.susp.Slot.{Slot}
 use Rattle.cq_attr.specs.NotesValue.{behind_newest, IsNoteAt}
 use Rattle.cq_attr.specs.Attributes.{IsWokenBy, Ascends}

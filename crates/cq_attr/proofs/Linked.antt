@@ -7,7 +7,7 @@ use Rattle.std.proofs.lemmas.Bool.{cases_eq, cases_lt, ne_eqb}
 use Rattle.std.proofs.lemmas.List.{map-append, length-map, get_or-set_same, get_or-set_other, get_or_past, append_assoc, take_more, take_all, take_at, take-append-le, take-take}
 use Rattle.std.proofs.lemmas.Option.{slice_get_within, slice_get-map}
 use Rattle.std.proofs.lemmas.List.Elements.{All-more, All-weaker}
-use Rattle.spec_lists.proofs.Places.{get_push, get_kept, get_take, map_same}
+use Rattle.spec_numbers.proofs.Places.{get_push, get_kept, get_take, map_same}
 use Rattle.cq_frac.specs.declared.VarId.{VarId}
 use Rattle.cq_attr.specs.NotesValue.{behind_newest, IsNoteAt, noted}
 use Rattle.cq_attr.specs.Chains.{pairs_of, first_pairs, AreLinked, HasPlaces}

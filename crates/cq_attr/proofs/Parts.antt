@@ -2,7 +2,7 @@
 use Rattle.std.proofs.Common.{◌≡◌, ℕ, List, [], ◌∷◌, ◌++◌, take, Some, inl, inr, subst, sym, arith}
 use Rattle.std.specs.Prelude.{slice_get}
 use Rattle.std.proofs.lemmas.Option.{none-some}
-use Rattle.spec_lists.proofs.Places.{get_push, get_take}
+use Rattle.spec_numbers.proofs.Places.{get_push, get_take}
 use Rattle.cq_attr.specs.Layout.{Parts, HaveSlots, AreParts}
 
 -- the same parts

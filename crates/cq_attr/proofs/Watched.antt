@@ -6,7 +6,7 @@ use Rattle.std.proofs.lemmas.Bool.{eq-eqb, ne_eqb, eqb-true}
 use Rattle.std.proofs.lemmas.Option.{none-some, same_Some}
 use Rattle.std.proofs.lemmas.List.Elements.{filter_map-append, All-head, All-tail}
 use Rattle.cq_frac.specs.declared.VarId.{VarId}
-use Rattle.cq_walk.specs.Places.{numbers_of}
+use Rattle.cq_term.specs.Places.{numbers_of}
 use Rattle.cq_attr.specs.NotesValue.{noted}
 use Rattle.cq_attr.specs.Layout.{Watchers, watcher_of, watched_by}
 use Rattle.cq_attr.proofs.Elements.{contains_here, contains_cases, contains_none, contains_option}

@@ -1,7 +1,7 @@
 -- How attributes are kept: notes that variables are numeric, notes of what waits for them, and the slots by number.
 use Rattle.std.specs.Prelude.{◌≡◌, ℕ, suc, ◌<◌, ◌==◌, List, [], ◌∷◌, map, length, All, true, Option, None, Some, slice_get, if◌then◌else◌}
 use Rattle.std.specs.List.{filter_map, zip}
-use Rattle.cq_counted.specs.Counting.{counted, countable}
+use Rattle.cq_trail.specs.Counting.{counted, countable}
 use Rattle.cq_trail.specs.TrailValue.{TrailValue}
 use Rattle.cq_attr.specs.NotesValue.{NotesValue}
 use Rattle.cq_attr.specs.Attributes.{Waiting, Attributes, AttrsValue}

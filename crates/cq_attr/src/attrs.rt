@@ -1,14 +1,14 @@
 // Numeric variables, and what waits for variables, that go back to what they were at a mark.
 
 ghost use Rattle.std.specs.Prelude.{◌≡◌, ◌⊎◌, ◌<◌, ◌≤◌, ◌++◌, [], ◌∷◌, ℕ, List, length, All, Contains, Some, slice_get, IsTrue, IsOk, IfOk, OnOk, OnErr};
-ghost use Rattle.cq_walk.specs.Places.{numbers_of};
+ghost use Rattle.cq_term.specs.Places.{numbers_of};
 ghost use Rattle.cq_attr.specs.Attributes.{nothing, is_numeric, marked, numbers, Ascends, suspended, watched_more, without, find, IsWokenBy};
 ghost use Rattle.cq_attr.specs.Layout.{HaveSlots, IsAwake};
 
 use crate::notes::Notes;
 use crate::susp::{Slot, Susp, SuspNo};
-use cq_counted::Counted;
 use cq_frac::VarId;
+use cq_trail::counted::Counted;
 use cq_trail::{Both, Mark, Trail, Undo};
 use std::alloc::{AllocError, Global};
 use std::marker::Model;

@@ -1,2 +1,10 @@
+pub mod Arguments
+pub mod Listed
 pub mod Growing
 pub mod Trees
+pub mod SidesErrors
+pub mod Heads
+pub mod Splitting
+pub mod Named
+pub mod Plain
+pub mod Tasks

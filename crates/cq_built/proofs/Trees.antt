@@ -4,11 +4,11 @@ use Rattle.std.specs.Prelude.{All, slice_get}
 use Rattle.std.proofs.lemmas.Option.{slice_get_within}
 use Rattle.std.proofs.lemmas.List.{get_or_push}
 use Rattle.std.proofs.lemmas.List.Elements.{All-head, All-tail, All-map, All-weaker, All-get_or}
-use Rattle.spec_lists.specs.Texts.{Text}
-use Rattle.spec_lists.specs.Prefixes.{IsPrefix}
-use Rattle.spec_lists.proofs.Prefixes.{prefix_get_or}
+use Rattle.spec_numbers.specs.Texts.{Text}
+use Rattle.spec_numbers.specs.Prefixes.{IsPrefix}
+use Rattle.spec_numbers.proofs.Prefixes.{prefix_get_or}
 use Rattle.spec_terms.specs.Term.{Terms, Var, Number, Name, Compound, one, more, named, named_all, terms_of, with_arguments}
-use Rattle.cq_atoms.specs.Texts.{text_of}
+use Rattle.cq_term.specs.Texts.{text_of}
 use Rattle.cq_term.specs.Meaning.{HeapTerm, at, blank}
 use Rattle.cq_term.specs.Names.{HasNamesBelow, HaveNamesBelow}
 use Rattle.cq_term.specs.HeapValue.{HeapValue}
@@ -16,7 +16,7 @@ use Rattle.cq_term.proofs.Known.{names_over}
 use Rattle.cq_term.proofs.Named.{text_is}
 use Rattle.cq_term.specs.Trees.{tree, trees, KnowsTerms}
 use Rattle.cq_term.specs.declared.names.Pred.{Pred}
-use Rattle.spec_built.specs.Built.{indicator}
+use Rattle.spec_builtins.specs.Built.{indicator}
 use Rattle.cq_built.specs.Growing.{Grows}
 use Rattle.cq_built.specs.Errors.{indicator_of}
 

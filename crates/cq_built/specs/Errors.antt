@@ -1,12 +1,12 @@
 -- The errors of built-in predicates as the definitions' terms.
 use Rattle.std.specs.Prelude.{◌≡◌, ◌<◌, List, codes, length, ⊤}
-use Rattle.spec_lists.specs.Texts.{Text}
+use Rattle.spec_numbers.specs.Texts.{Text}
 use Rattle.spec_terms.specs.Term as term
 use Rattle.spec_syntax.specs.Trees.{Tree, binary}
-use Rattle.spec_built.specs.Built.{Indicator, indicator, indicator_term, atom, compound1, compound2, compound3}
-use Rattle.spec_built.specs.Errors.{instantiation, existence_error, error_ball}
+use Rattle.spec_builtins.specs.Built.{Indicator, indicator, indicator_term, atom, compound1, compound2, compound3}
+use Rattle.spec_builtins.specs.Errors.{instantiation, existence_error, error_ball}
 use Rattle.spec_builtins.specs.Alternatives.{Solutions, Faults}
-use Rattle.cq_atoms.specs.Texts.{text_of}
+use Rattle.cq_term.specs.Texts.{text_of}
 use Rattle.cq_term.specs.Meaning.{HeapTerm}
 use Rattle.cq_term.specs.declared.names.Pred.{Pred}
 use Rattle.cq_term.specs.Trees.{tree}

@@ -1,7 +1,7 @@
 -- What the calls that build terms add to the names and to a heap.
 use Rattle.std.specs.Prelude.{◌≡◌, ◌≤◌, List}
-use Rattle.spec_lists.specs.Texts.{Text}
-use Rattle.spec_lists.specs.Prefixes.{IsPrefix}
+use Rattle.spec_numbers.specs.Texts.{Text}
+use Rattle.spec_numbers.specs.Prefixes.{IsPrefix}
 use Rattle.cq_term.specs.HeapValue.{HeapValue}
 use Rattle.cq_term.specs.Trees.{KnowsTerms}
 

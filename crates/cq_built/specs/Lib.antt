@@ -1,4 +1,9 @@
+pub mod Cells
 pub mod Growing
 pub mod Errors
 pub mod Offered
 pub mod Trees
+pub mod Faults
+pub mod Sides
+pub mod Splitting
+pub mod Bodies

@@ -1,12 +1,12 @@
 -- Pairs of terms of a heap as what a predicate offers.
 use Rattle.std.specs.Prelude.{ℕ, List, map}
-use Rattle.spec_lists.specs.Texts.{Text}
+use Rattle.spec_numbers.specs.Texts.{Text}
 use Rattle.spec_terms.specs.Unifier.{Equation}
 use Rattle.spec_builtins.specs.Alternatives.{◌≐◌}
 use Rattle.spec_builtins.specs.Alternatives as definition
 use Rattle.cq_term.specs.Meaning.{HeapTerm}
 use Rattle.cq_term.specs.Trees.{tree}
-use Rattle.cq_walk.specs.declared.pairs.Pair.{Pair}
+use Rattle.cq_term.specs.declared.walk.pairs.Pair.{Pair}
 use Rattle.cq_built.specs.declared.alternatives.Alternative.{Alternative}
 
 -- the two terms of a pair

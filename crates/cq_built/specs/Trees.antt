@@ -1,6 +1,6 @@
 -- Trees over the trees of terms.
 use Rattle.std.specs.Prelude.{ℕ, List}
-use Rattle.spec_lists.specs.Texts.{Text}
+use Rattle.spec_numbers.specs.Texts.{Text}
 use Rattle.spec_syntax.specs.Trees.{Tree, binary}
 use Rattle.cq_term.specs.Meaning.{HeapTerm}
 use Rattle.cq_term.specs.Trees.{tree}

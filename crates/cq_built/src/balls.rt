@@ -3,15 +3,15 @@
 ghost use Rattle.std.specs.Prelude.{◌≡◌, ◌<◌, length, IfOk, OnErr};
 ghost use Rattle.spec_terms.specs.Term.{Name};
 ghost use Rattle.spec_syntax.specs.Trees.{unary};
-ghost use Rattle.spec_built.specs.Built.{indicator_term};
-ghost use Rattle.cq_atoms.specs.Texts.{text_of};
+ghost use Rattle.spec_builtins.specs.Built.{indicator_term};
+ghost use Rattle.cq_term.specs.Texts.{text_of};
 ghost use Rattle.cq_term.specs.Trees.{tree, KnowsTerms};
 ghost use Rattle.cq_built.specs.Growing.{Grows};
 ghost use Rattle.cq_built.specs.Errors.{ball_tree, blaming_tree, error_tree, culprit_tree, indicator_of, HasCulprit, IsThere};
 
 use crate::building::{atom, compound, over_two, whole};
 use crate::errors::{BuiltinError, Culprit, Permission};
-use cq_atoms::Atoms;
+use cq_term::atoms::Atoms;
 use cq_term::{Atom, Heap, Pred, TermId};
 use cq_trail::Undo;
 use std::alloc::AllocError;

@@ -1,15 +1,15 @@
 // Terms of a heap that are built by the texts of their names.
 
 ghost use Rattle.std.specs.Prelude.{◌≡◌, ◌<◌, All, length, slice_get, Some, IfOk};
-ghost use Rattle.spec_lists.specs.Texts.{Text};
+ghost use Rattle.spec_numbers.specs.Texts.{Text};
 ghost use Rattle.spec_terms.specs.Term.{Name, with_arguments};
 ghost use Rattle.spec_syntax.specs.Trees.{natural, list_tree};
 ghost use Rattle.cq_term.specs.Trees.{tree, trees, KnowsTerms};
 ghost use Rattle.cq_built.specs.Growing.{Grows};
 ghost use Rattle.cq_built.specs.Trees.{binary_tree};
 
-use cq_atoms::{Atom, Atoms};
 use cq_frac::Frac;
+use cq_term::atoms::{Atom, Atoms};
 use cq_term::{Heap, TermId};
 use std::alloc::AllocError;
 

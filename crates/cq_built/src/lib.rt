@@ -4,8 +4,11 @@
 
 mod alternatives;
 mod balls;
+pub mod bodies;
 mod building;
 mod errors;
+pub mod kinds;
+pub mod sides;
 
 pub use alternatives::Alternative;
 pub use balls::ball;

@@ -5,8 +5,8 @@ use Rattle.std.proofs.lemmas.Option.{same_Some}
 use Rattle.std.proofs.lemmas.List.{take_at}
 use Rattle.std.proofs.lemmas.List.Elements.{All-same}
 use Rattle.cq_term.specs.Names.{HasNamesBelow}
-use Rattle.spec_lists.specs.Texts.{Text}
-use Rattle.spec_lists.proofs.Prefixes.{prefix_same, prefix_both}
+use Rattle.spec_numbers.specs.Texts.{Text}
+use Rattle.spec_numbers.proofs.Prefixes.{prefix_same, prefix_both}
 use Rattle.spec_terms.specs.Term.{Terms, Var, Number, Name, Compound, one, more, count, apply, named, named_all}
 use Rattle.spec_terms.specs.Variables.{variables, numbered_from, renamed_from, counted_from}
 use Rattle.spec_terms.specs.Unifier.{Equation}
@@ -21,9 +21,9 @@ use Rattle.cq_term.specs.Shown.{view_of}
 use Rattle.cq_term.specs.declared.view.View.TheVariants as view
 use Rattle.cq_term.proofs.Kept.{get_last}
 use Rattle.cq_unify.specs.Copied.{unbound_from}
-use Rattle.cq_stored.specs.Building.{moved_by}
-use Rattle.cq_stored.proofs.Renamed.{new_image}
-use Rattle.cq_walk.specs.declared.pairs.Pair.{Pair}
+use Rattle.cq_resolve.specs.Building.{moved_by}
+use Rattle.cq_resolve.proofs.Renamed.{new_image}
+use Rattle.cq_term.specs.declared.walk.pairs.Pair.{Pair}
 use Rattle.cq_built.specs.Growing.{Grows}
 use Rattle.cq_built.specs.Offered.{equation_of}
 use Rattle.cq_builtin.specs.Over.{OffersOver, GrowsWithVariables}

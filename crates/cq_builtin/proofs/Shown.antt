@@ -4,12 +4,12 @@ use Rattle.std.specs.Prelude.{slice_get}
 use Rattle.std.specs.Option.{option_map}
 use Rattle.std.proofs.lemmas.Option.{slice_get-map}
 use Rattle.std.proofs.lemmas.List.{length-map}
-use Rattle.spec_lists.specs.Texts.{Text}
+use Rattle.spec_numbers.specs.Texts.{Text}
 use Rattle.spec_terms.specs.Term.{Terms, Var, Number, Name, Compound, one, more, named, named_all, list_of}
 use Rattle.spec_syntax.specs.Trees.{Tree, list_tree}
 use Rattle.spec_builtins.specs.Alternatives.{Offers, ◌≐◌, one_way}
 use Rattle.spec_builtins.specs.Terms.{univ_row, arguments, argument_at, is_argument}
-use Rattle.cq_atoms.specs.Texts.{text_of}
+use Rattle.cq_term.specs.Texts.{text_of}
 use Rattle.cq_term.specs.Meaning.{HeapTerm, at}
 use Rattle.cq_term.specs.Shown.{view_of}
 use Rattle.cq_term.specs.Shown as shown

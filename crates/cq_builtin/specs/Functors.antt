@@ -1,6 +1,6 @@
 -- What functor gives of terms of a heap.
 use Rattle.std.specs.Prelude.{◌≡◌, ℕ, List, [], ◌∷◌, map, length}
-use Rattle.spec_lists.specs.Texts.{Text}
+use Rattle.spec_numbers.specs.Texts.{Text}
 use Rattle.spec_terms.specs.Term.{Var, with_arguments}
 use Rattle.spec_terms.specs.Unifier.{Equation}
 use Rattle.spec_terms.specs.Variables.{counted_from}

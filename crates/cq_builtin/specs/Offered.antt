@@ -1,10 +1,10 @@
 -- One pair of terms of a heap, or none, as what a predicate offers.
 use Rattle.std.specs.Prelude.{List, [], ◌∷◌, Option, Some, None, ⊤}
-use Rattle.spec_lists.specs.Texts.{Text}
+use Rattle.spec_numbers.specs.Texts.{Text}
 use Rattle.spec_builtins.specs.Alternatives.{Solutions, Offers, one_way}
 use Rattle.cq_term.specs.Meaning.{HeapTerm}
-use Rattle.cq_walk.specs.Pairs.{IsLive}
-use Rattle.cq_walk.specs.declared.pairs.Pair.{Pair}
+use Rattle.cq_term.specs.Pairs.{IsLive}
+use Rattle.cq_term.specs.declared.walk.pairs.Pair.{Pair}
 use Rattle.cq_built.specs.Offered.{equation_of}
 
 -- one pair, or none

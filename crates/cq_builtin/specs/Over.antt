@@ -1,7 +1,7 @@
 -- What predicates offer over variables that are new on a heap.
 use Rattle.std.specs.Prelude.{◌≡◌, ◌≤◌, ℕ, List, [], ◌∷◌, ◌++◌, map, length, All}
-use Rattle.spec_lists.specs.Texts.{Text}
-use Rattle.spec_lists.specs.Prefixes.{IsPrefix}
+use Rattle.spec_numbers.specs.Texts.{Text}
+use Rattle.spec_numbers.specs.Prefixes.{IsPrefix}
 use Rattle.spec_terms.specs.Unifier.{Equation}
 use Rattle.spec_terms.specs.Variables.{variables, renamed_from}
 use Rattle.spec_syntax.specs.Trees.{Tree}
@@ -10,8 +10,8 @@ use Rattle.cq_term.specs.HeapValue.{HeapValue, Terms}
 use Rattle.cq_term.specs.Meaning.{HeapTerm}
 use Rattle.cq_term.specs.Trees.{tree, KnowsTerms}
 use Rattle.cq_unify.specs.Copied.{unbound_from}
-use Rattle.cq_walk.specs.Pairs.{IsLive}
-use Rattle.cq_walk.specs.declared.pairs.Pair.{Pair}
+use Rattle.cq_term.specs.Pairs.{IsLive}
+use Rattle.cq_term.specs.declared.walk.pairs.Pair.{Pair}
 use Rattle.cq_built.specs.Offered.{equation_of}
 use Rattle.cq_built.specs.declared.alternatives.Alternative.{Alternative}
 

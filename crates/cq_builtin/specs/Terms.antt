@@ -1,13 +1,13 @@
 -- What predicates give of the terms of a heap.
 use Rattle.std.specs.Prelude.{◌≡◌, ℕ, List, [], ◌∷◌}
-use Rattle.spec_lists.specs.Texts.{Text}
+use Rattle.spec_numbers.specs.Texts.{Text}
 use Rattle.spec_terms.specs.Unifier.{Equation}
 use Rattle.spec_syntax.specs.Trees.{list_tree}
 use Rattle.spec_builtins.specs.Alternatives.{Solutions, Faults, ◌≐◌, one_way}
 use Rattle.spec_builtins.specs.Terms.{order_row, arg_row, is_argument, argument_at, arguments, univ_row, univ_built}
 use Rattle.cq_term.specs.Meaning.{HeapTerm}
 use Rattle.cq_term.specs.Trees.{tree, trees}
-use Rattle.cq_walk.specs.declared.pairs.Pair.{Pair}
+use Rattle.cq_term.specs.declared.walk.pairs.Pair.{Pair}
 use Rattle.cq_built.specs.Errors.{error_tree}
 use Rattle.cq_built.specs.Offered.{equation_of}
 use Rattle.cq_built.specs.declared.errors.BuiltinError.{BuiltinError}

@@ -1,15 +1,15 @@
 // arg: the argument of a compound at a place.
 
 ghost use Rattle.std.specs.Prelude.{◌≡◌, ◌<◌, List, length, IfOk, IfErr};
-ghost use Rattle.spec_lists.specs.Texts.{Text};
+ghost use Rattle.spec_numbers.specs.Texts.{Text};
 ghost use Rattle.cq_built.specs.Errors.{HasCulprit};
 ghost use Rattle.cq_builtin.specs.Offered.{offered_pair, IsLiveOrNone};
 ghost use Rattle.cq_builtin.specs.Terms.{GivesError, arg_of, argument_of};
 
+use cq_built::kinds::{is_below_zero, is_compound, is_integer, is_variable, natural_of};
 use cq_built::{BuiltinError, Culprit, ValidDomain, ValidType};
-use cq_kinds::{is_below_zero, is_compound, is_integer, is_variable, natural_of};
+use cq_term::walk::Pair;
 use cq_term::{Heap, TermId, View};
-use cq_walk::Pair;
 
 /// arg(NUMBER,TERM,ARGUMENT): the argument with the one of the compound at that place, counted from 1; nothing where
 /// the compound has no such place.

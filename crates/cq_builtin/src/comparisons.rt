@@ -6,9 +6,9 @@ ghost use Rattle.cq_term.specs.Trees.{KnowsTerms};
 ghost use Rattle.cq_builtin.specs.Rows.{comparison_of};
 ghost use Rattle.cq_builtin.specs.Terms.{order_of};
 
-use cq_atoms::Atoms;
-use cq_order::compare;
+use cq_term::atoms::Atoms;
 use cq_term::{Heap, TermId};
+use cq_unify::order::compare;
 use std::alloc::AllocError;
 use std::cmp::Ordering;
 

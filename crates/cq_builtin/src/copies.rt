@@ -2,13 +2,13 @@
 
 ghost use Rattle.std.specs.Prelude.{◌≡◌, ◌<◌, [], ◌∷◌, length, IfOk, OnErr};
 ghost use Rattle.cq_term.specs.Trees.{KnowsTerms};
-ghost use Rattle.cq_walk.specs.Pairs.{IsLive};
+ghost use Rattle.cq_term.specs.Pairs.{IsLive};
 ghost use Rattle.cq_builtin.specs.Over.{OffersOver, GrowsWithVariables, copied_of};
 
-use cq_atoms::Atoms;
-use cq_stored::StoredTerm;
+use cq_resolve::stored::StoredTerm;
+use cq_term::atoms::Atoms;
+use cq_term::walk::Pair;
 use cq_term::{Heap, TermId};
-use cq_walk::Pair;
 use std::alloc::AllocError;
 
 /// copy_term(ORIGINAL,COPY): the copy with the term to which it is to be unified, which is the original with a new variable

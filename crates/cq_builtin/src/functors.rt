@@ -1,31 +1,31 @@
 // functor: a term with its name and its number of arguments.
 
 ghost use Rattle.std.specs.Prelude.{◌≡◌, ◌<◌, ◌++◌, ℕ, [], ◌∷◌, List, map, length, All, IfOk, IfErr, OnOk, OnErr};
-ghost use Rattle.spec_lists.specs.Texts.{Text};
+ghost use Rattle.spec_numbers.specs.Texts.{Text};
 ghost use Rattle.spec_terms.specs.Term.{Var};
 ghost use Rattle.spec_terms.specs.Variables.{counted_from};
-ghost use Rattle.cq_atoms.specs.Texts.{text_of};
+ghost use Rattle.cq_term.specs.Texts.{text_of};
 ghost use Rattle.cq_term.specs.Meaning.{at};
 ghost use Rattle.cq_term.specs.Shown.{view_of};
 ghost use Rattle.cq_term.specs.declared.view.View.TheVariants.{Compound};
 ghost use Rattle.cq_term.specs.Trees.{tree, KnowsTerms};
 ghost use Rattle.cq_unify.specs.Copied.{unbound_from};
-ghost use Rattle.cq_stored.specs.Building.{AreThere};
+ghost use Rattle.cq_resolve.specs.Building.{AreThere};
 ghost use Rattle.cq_built.specs.Growing.{Grows};
 ghost use Rattle.cq_built.specs.Errors.{Explains, CanBeRaised, HasCulprit};
 ghost use Rattle.cq_builtin.specs.Over.{OffersWay, AreLive, GrowsWithVariables, equations_of};
 ghost use Rattle.cq_builtin.specs.Functors.{functor_of, names_of, built_of, AsksArity, RefusesArity, open_tree};
 
-use cq_atoms::Atoms;
+use cq_built::kinds::{is_below_zero, is_compound, is_integer, is_name, is_variable, natural_of};
 use cq_built::{
     Alternative, BuiltinError, BuiltinFault, Culprit, Representation, ValidDomain, ValidType, whole,
 };
 use cq_frac::VarId;
-use cq_kinds::{is_below_zero, is_compound, is_integer, is_name, is_variable, natural_of};
-use cq_stored::new_variables;
+use cq_resolve::stored::new_variables;
+use cq_term::atoms::Atoms;
+use cq_term::walk::Pair;
 use cq_term::{Atom, Heap, TermId, View};
 use cq_trail::Undo;
-use cq_walk::Pair;
 use std::alloc::AllocError;
 
 /// How many arguments can be asked for.

@@ -2,23 +2,23 @@
 
 ghost use Rattle.std.specs.Prelude.{◌≡◌, ℕ, ◌<◌, ◌∷◌, map, length, All, IfOk, IfErr, OnErr};
 ghost use Rattle.spec_terms.specs.Term.{Var};
-ghost use Rattle.spec_built.specs.Built.{atom};
+ghost use Rattle.spec_builtins.specs.Built.{atom};
 ghost use Rattle.cq_term.specs.Meaning.{at};
 ghost use Rattle.cq_term.specs.Shown.{view_of, arguments};
 ghost use Rattle.cq_term.specs.declared.view.View.TheVariants.{Compound};
-ghost use Rattle.cq_walk.specs.Pairs.{IsLive};
+ghost use Rattle.cq_term.specs.Pairs.{IsLive};
 ghost use Rattle.cq_term.specs.Trees.{tree, KnowsTerms};
 ghost use Rattle.cq_built.specs.Growing.{Grows};
 ghost use Rattle.cq_built.specs.Errors.{Explains, CanBeRaised};
 ghost use Rattle.cq_built.specs.Offered.{equation_of};
 ghost use Rattle.cq_builtin.specs.Terms.{OffersPair, univ_of, univ_built_of, list_of_one};
 
-use cq_atoms::Atoms;
+use cq_built::kinds::{is_nil, is_variable, list_parts};
 use cq_built::{BuiltinError, BuiltinFault, Culprit, ValidDomain, ValidType, list as list_of};
-use cq_kinds::{is_nil, is_variable, list_parts};
+use cq_term::atoms::Atoms;
+use cq_term::walk::Pair;
 use cq_term::{Atom, Heap, TermId, View};
 use cq_trail::Undo;
-use cq_walk::Pair;
 use std::alloc::AllocError;
 
 /// TERM =.. LIST: the pair that is to be unified. After a fault the heap is as it was; names may stay.

@@ -1,15 +1,15 @@
 // The tests of the type of a term.
 
 ghost use Rattle.std.specs.Prelude.{◌≡◌, ◌<◌, length, IfOk};
-ghost use Rattle.spec_built.specs.Kinds.{is_list};
+ghost use Rattle.spec_builtins.specs.Kinds.{is_list};
 ghost use Rattle.spec_builtins.specs.Terms.{passes};
 ghost use Rattle.cq_term.specs.Trees.{tree, KnowsTerms};
 ghost use Rattle.cq_builtin.specs.Rows.{test_of};
 
-use cq_atoms::Atoms;
-use cq_kinds::{
+use cq_built::kinds::{
     is_callable, is_compound, is_integer, is_name, is_nil, is_number, is_variable, list_parts,
 };
+use cq_term::atoms::Atoms;
 use cq_term::{Heap, TermId};
 use std::alloc::AllocError;
 

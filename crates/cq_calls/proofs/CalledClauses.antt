@@ -3,11 +3,11 @@ use Rattle.std.proofs.Common.{◌≡◌, ℕ, suc, ◌<◌, List, [], ◌∷◌,
 use Rattle.std.specs.Prelude.{filter, is_some, not}
 use Rattle.std.specs.Option.{option_map}
 use Rattle.std.proofs.lemmas.Option.{none-some}
-use Rattle.spec_lists.specs.Texts.{Text}
+use Rattle.spec_numbers.specs.Texts.{Text}
 use Rattle.spec_terms.specs.Term.{named}
 use Rattle.spec_syntax.specs.Trees.{Tree}
-use Rattle.spec_built.specs.Built.{Indicator, indicator_of}
-use Rattle.spec_built.specs.Errors.{existence_error}
+use Rattle.spec_builtins.specs.Built.{Indicator, indicator_of}
+use Rattle.spec_builtins.specs.Errors.{existence_error}
 use Rattle.spec_branch.specs.Branch.{State, Item, Branch, read}
 use Rattle.spec_search.specs.Control.{clause_child, calls, user_row}
 use Rattle.spec_search.specs.Database.{Database, Clause, Procedure, procedure_of, snapshot}
@@ -19,26 +19,26 @@ use Rattle.spec_search.specs.Steps.{IsSelection}
 use Rattle.spec_search.specs.Steps as step
 use Rattle.spec_search.specs.Turns.{place_of, after_step}
 use Rattle.spec_search.specs.Turns as turn
-use Rattle.cq_atoms.specs.Texts.{text_of}
+use Rattle.cq_term.specs.Texts.{text_of}
 use Rattle.cq_clauses.specs.Database.{clauses_of, database}
 use Rattle.cq_clauses.specs.Keys.{may_match}
 use Rattle.cq_clauses.specs.Selected.{key_at, matching}
 use Rattle.cq_clauses.specs.Walks.{HasNoneLeft}
 use Rattle.cq_clauses.specs.declared.key.Key.{Key}
 use Rattle.cq_clauses.specs.declared.walk.Walk.{Walk}
-use Rattle.cq_program.specs.Database.{Program, as_clause, as_database, as_indicator}
-use Rattle.cq_program.specs.Keys.{key_of}
-use Rattle.cq_stored.specs.StoredValue.{ClauseValue}
+use Rattle.cq_resolve.specs.Database.{Program, as_clause, as_database, as_indicator}
+use Rattle.cq_resolve.specs.Keys.{key_of}
+use Rattle.cq_resolve.specs.StoredValue.{ClauseValue}
 use Rattle.cq_term.specs.Meaning.{at}
 use Rattle.cq_term.specs.declared.names.Pred.{Pred}
-use Rattle.cq_world.specs.Contents.{Contents}
-use Rattle.spec_machine.specs.Cells.{Clauses, Stack, Value}
-use Rattle.spec_machine.specs.Coming.{after, Comes}
-use Rattle.spec_machine.specs.Standing.{engine, AreWaiting}
-use Rattle.cq_steps.specs.Worlds.{IsBranch, term_in, stack, left_at}
-use Rattle.cq_steps.specs.declared.alternatives.Alternatives.{Alternatives}
-use Rattle.cq_steps.specs.declared.alternatives.Alternatives.TheVariants as alternatives
-use Rattle.cq_steps.proofs.Added.{reads_tree}
+use Rattle.cq_settle.specs.Contents.{Contents}
+use Rattle.spec_engine.specs.Cells.{Clauses, Stack, Value}
+use Rattle.spec_engine.specs.Coming.{after, Comes}
+use Rattle.spec_engine.specs.Standing.{engine, AreWaiting}
+use Rattle.cq_branch.specs.Worlds.{IsBranch, term_in, stack, left_at}
+use Rattle.cq_branch.specs.declared.alternatives.Alternatives.{Alternatives}
+use Rattle.cq_branch.specs.declared.alternatives.Alternatives.TheVariants as alternatives
+use Rattle.cq_branch.proofs.Added.{reads_tree}
 use Rattle.cq_calls.specs.Calling.{IsCalledAt, CallBecomes, WouldStand, WouldCome}
 use Rattle.cq_calls.proofs.Left.{numbers_left}
 use Rattle.cq_calls.proofs.Waiting.{one_more_open}

@@ -5,24 +5,24 @@ use Rattle.std.specs.List.{AllByRecursion, zip}
 use Rattle.std.proofs.lemmas.List.{length-reverse}
 use Rattle.std.proofs.lemmas.Option.{get_or_from_slice_get}
 use Rattle.std.proofs.lemmas.Slice.Zip.{length-zip}
-use Rattle.spec_lists.specs.Texts.{Text}
+use Rattle.spec_numbers.specs.Texts.{Text}
 use Rattle.cq_clauses.specs.Selected.{key_at}
 use Rattle.cq_clauses.specs.Walks.{HasNoneLeft, left}
 use Rattle.cq_clauses.specs.declared.walk.Walk.{Walk}
 use Rattle.cq_control.specs.Open.{AreMarked, last, open_choices}
-use Rattle.cq_program.specs.Database.{Program, as_clause, as_parts}
-use Rattle.cq_program.specs.Keys.{key_of}
-use Rattle.cq_stored.specs.StoredValue.{ClauseValue}
+use Rattle.cq_resolve.specs.Database.{Program, as_clause, as_parts}
+use Rattle.cq_resolve.specs.Keys.{key_of}
+use Rattle.cq_resolve.specs.StoredValue.{ClauseValue}
 use Rattle.cq_term.specs.Meaning.{blank}
-use Rattle.cq_world.specs.Contents.{Contents}
-use Rattle.cq_world.specs.Worlds.{saved_of}
-use Rattle.cq_world.specs.declared.world.World.{World}
-use Rattle.spec_machine.specs.declared.cell.Cell.{Cell}
-use Rattle.spec_machine.specs.Cells.{Value}
-use Rattle.spec_machine.proofs.Kept.{last-older, last-all}
-use Rattle.cq_steps.specs.Choices.{AreOpen, CanBeTried}
-use Rattle.cq_steps.specs.Worlds.{saved_values}
-use Rattle.cq_steps.specs.declared.alternatives.Alternatives.{Alternatives}
+use Rattle.cq_settle.specs.Contents.{Contents}
+use Rattle.cq_settle.specs.Worlds.{saved_of}
+use Rattle.cq_settle.specs.declared.world.World.{World}
+use Rattle.spec_engine.specs.declared.machine.cell.Cell.{Cell}
+use Rattle.spec_engine.specs.Cells.{Value}
+use Rattle.spec_engine.proofs.Kept.{last-older, last-all}
+use Rattle.cq_branch.specs.Choices.{AreOpen, CanBeTried}
+use Rattle.cq_branch.specs.Worlds.{saved_values}
+use Rattle.cq_branch.specs.declared.alternatives.Alternatives.{Alternatives}
 use Rattle.cq_calls.specs.Trying.{IsGone, KeepsOthers, Leaves, gone, stays}
 
 -- the choices below the newest are those that are older than it

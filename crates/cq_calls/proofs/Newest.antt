@@ -3,32 +3,32 @@ use Rattle.std.proofs.Common.{◌≡◌, inl, inr, ℕ, ◌<◌, List, [], ◌�
 use Rattle.std.specs.Prelude.{slice_get}
 use Rattle.std.specs.List.{AllByRecursion}
 use Rattle.std.proofs.lemmas.List.{length-map}
-use Rattle.spec_lists.specs.Texts.{Text}
+use Rattle.spec_numbers.specs.Texts.{Text}
 use Rattle.spec_search.specs.Database.{Database, Clause}
 use Rattle.spec_search.specs.Search.{Search}
 use Rattle.cq_clauses.specs.Walks.{IsWalk}
 use Rattle.cq_clauses.specs.declared.walk.Walk.{Walk}
 use Rattle.cq_control.specs.Open.{open_choices}
 use Rattle.cq_frac.specs.declared.Pair.{Pair}
-use Rattle.cq_linear.specs.declared.store.StoreFault.{StoreFault}
-use Rattle.cq_linear.specs.declared.store.StoreFault.TheVariants as fault
-use Rattle.cq_program.specs.Database.{Program, as_clause, as_parts}
+use Rattle.cq_store.specs.declared.store.StoreFault.{StoreFault}
+use Rattle.cq_store.specs.declared.store.StoreFault.TheVariants as fault
+use Rattle.cq_resolve.specs.Database.{Program, as_clause, as_parts}
 use Rattle.cq_settle.specs.Settled.{MayRefuse, MayTake}
-use Rattle.cq_stored.specs.StoredValue.{ClauseValue}
-use Rattle.cq_world.specs.Contents.{Contents}
-use Rattle.cq_world.specs.Rest.{IsReady}
-use Rattle.spec_machine.specs.Cells.{Clauses, Stack, Value}
-use Rattle.spec_machine.specs.Coming.{Comes}
-use Rattle.spec_machine.specs.Standing.{engine, IsStanding}
-use Rattle.cq_steps.specs.Choices.{AreOpen, CanBeTried}
-use Rattle.cq_steps.specs.Worlds.{IsBranch, term_in, Stands, Arrives, Grown, stack, left_at}
-use Rattle.cq_steps.specs.declared.alternatives.Alternatives.{Alternatives}
-use Rattle.cq_steps.specs.declared.alternatives.Alternatives.TheVariants as alternatives
-use Rattle.cq_steps.proofs.Arrived.{comes_at_once}
-use Rattle.cq_begin.specs.declared.beginning.Begun.{Begun}
-use Rattle.cq_begin.specs.Begun.{goes_to}
-use Rattle.cq_begin.specs.Calls.{ClauseComes, OfClause}
-use Rattle.cq_begin.specs.Stops.{FaultStops, waiting_in}
+use Rattle.cq_resolve.specs.StoredValue.{ClauseValue}
+use Rattle.cq_settle.specs.Contents.{Contents}
+use Rattle.cq_settle.specs.Rest.{IsReady}
+use Rattle.spec_engine.specs.Cells.{Clauses, Stack, Value}
+use Rattle.spec_engine.specs.Coming.{Comes}
+use Rattle.spec_engine.specs.Standing.{engine, IsStanding}
+use Rattle.cq_branch.specs.Choices.{AreOpen, CanBeTried}
+use Rattle.cq_branch.specs.Worlds.{IsBranch, term_in, Stands, Arrives, Grown, stack, left_at}
+use Rattle.cq_branch.specs.declared.alternatives.Alternatives.{Alternatives}
+use Rattle.cq_branch.specs.declared.alternatives.Alternatives.TheVariants as alternatives
+use Rattle.cq_branch.proofs.Arrived.{comes_at_once}
+use Rattle.cq_branch.specs.declared.begin.beginning.Begun.{Begun}
+use Rattle.cq_branch.specs.Begun.{goes_to}
+use Rattle.cq_branch.specs.BeginCalls.{ClauseComes, OfClause}
+use Rattle.cq_branch.specs.Stops.{FaultStops, waiting_in}
 use Rattle.cq_calls.proofs.Left.{Opened, AreLeft, numbers_left, content_is, none_left}
 use Rattle.cq_calls.proofs.Turns.{ComesBackTo, ready, goal_there, rest_there, comes_with_others, comes_without, refused, taken, came_past}
 

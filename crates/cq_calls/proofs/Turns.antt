@@ -1,38 +1,38 @@
 -- What an engine comes to as it begins the next clause of its newest choice.
 use Rattle.std.proofs.Common.{◌≡◌, ℕ, ◌<◌, List, [], ◌∷◌, ◌++◌, length, Option, None, Some, refl, sym, ap, ◌∙◌, subst, arith, inl}
-use Rattle.spec_lists.specs.Texts.{Text}
+use Rattle.spec_numbers.specs.Texts.{Text}
 use Rattle.spec_syntax.specs.Trees.{Tree}
 use Rattle.spec_branch.specs.Branch.{Branch}
 use Rattle.spec_search.specs.Control.{clause_items, clause_state, clause_work}
 use Rattle.spec_search.specs.Database.{Database, Clause}
 use Rattle.spec_search.specs.Replies.{Place}
 use Rattle.spec_search.specs.Search.{Search, look_at, Settling, is_selecting}
-use Rattle.spec_stops.specs.Causes.{Budgets, Cause}
-use Rattle.spec_stops.specs.Causes as cause
-use Rattle.spec_stops.specs.Due.{Due}
+use Rattle.spec_transcript.specs.Causes.{Budgets, Cause}
+use Rattle.spec_transcript.specs.Causes as cause
+use Rattle.spec_transcript.specs.Due.{Due}
 use Rattle.cq_control.specs.Heights.{total}
 use Rattle.cq_control.specs.Items.{items_at}
 use Rattle.cq_control.specs.Open.{last}
 use Rattle.cq_frac.specs.declared.Pair.{Pair}
-use Rattle.cq_program.specs.Database.{as_parts}
+use Rattle.cq_resolve.specs.Database.{as_parts}
 use Rattle.cq_settle.specs.Settled.{MayRefuse, MayTake}
-use Rattle.cq_stored.specs.StoredValue.{ClauseValue}
-use Rattle.cq_world.specs.Contents.{Contents}
-use Rattle.cq_world.specs.Rest.{IsReady}
-use Rattle.spec_machine.specs.Cells.{Fits, Clauses, Stack, Value, size}
-use Rattle.spec_machine.specs.Coming.{at_once, Comes}
-use Rattle.spec_machine.specs.Coming as coming
-use Rattle.spec_machine.specs.Standing.{engine, IsPlace, AreWaiting, IsStanding}
-use Rattle.spec_machine.proofs.Kept.{fits_more, items_older, last-all}
-use Rattle.spec_machine.proofs.Passed.{clause_begun}
-use Rattle.cq_steps.specs.Worlds.{IsBranch, term_in, Grown}
-use Rattle.cq_steps.proofs.Reading.{read_live}
-use Rattle.cq_steps.proofs.Selected.{continuation_grown}
-use Rattle.cq_begin.specs.declared.beginning.Begun.{Begun}
-use Rattle.cq_begin.specs.Begun.{IsPlacedAs, goes_to}
-use Rattle.cq_begin.specs.Calls.{IsCallOf, OfClause, ClauseComes}
-use Rattle.cq_begin.specs.Stops.{ComesToStop}
-use Rattle.cq_begin.proofs.Stopping.{refuses, takes}
+use Rattle.cq_resolve.specs.StoredValue.{ClauseValue}
+use Rattle.cq_settle.specs.Contents.{Contents}
+use Rattle.cq_settle.specs.Rest.{IsReady}
+use Rattle.spec_engine.specs.Cells.{Fits, Clauses, Stack, Value, size}
+use Rattle.spec_engine.specs.Coming.{at_once, Comes}
+use Rattle.spec_engine.specs.Coming as coming
+use Rattle.spec_engine.specs.Standing.{engine, IsPlace, AreWaiting, IsStanding}
+use Rattle.spec_engine.proofs.Kept.{fits_more, items_older, last-all}
+use Rattle.spec_engine.proofs.Passed.{clause_begun}
+use Rattle.cq_branch.specs.Worlds.{IsBranch, term_in, Grown}
+use Rattle.cq_branch.proofs.Reading.{read_live}
+use Rattle.cq_branch.proofs.Selected.{continuation_grown}
+use Rattle.cq_branch.specs.declared.begin.beginning.Begun.{Begun}
+use Rattle.cq_branch.specs.Begun.{IsPlacedAs, goes_to}
+use Rattle.cq_branch.specs.BeginCalls.{IsCallOf, OfClause, ClauseComes}
+use Rattle.cq_branch.specs.Stops.{ComesToStop}
+use Rattle.cq_branch.proofs.Stopping.{refuses, takes}
 use Rattle.cq_calls.proofs.Left.{older-all}
 
 module _ (texts : List Text) (db : Database) (n : ℕ) (s : Search) (older : Stack Contents) (now w : Value Contents) (t k : ℕ) where

@@ -3,32 +3,32 @@ use Rattle.std.proofs.Common.{◌≡◌, ℕ, List, [], ◌∷◌, ◌++◌, len
 use Rattle.std.specs.Prelude.{slice_get}
 use Rattle.std.specs.List.{AllByRecursion, zip}
 use Rattle.std.proofs.lemmas.List.{length-map, reverse-append}
-use Rattle.spec_lists.specs.Texts.{Text}
+use Rattle.spec_numbers.specs.Texts.{Text}
 use Rattle.spec_search.specs.Database.{Database}
 use Rattle.spec_search.specs.Search.{Search}
 use Rattle.cq_clauses.specs.Walks.{IsWalk}
 use Rattle.cq_clauses.specs.declared.walk.Walk.{Walk}
 use Rattle.cq_control.specs.Items.{ContinuationsValue, items_at}
 use Rattle.cq_control.specs.Open.{AreMarked, open_choices}
-use Rattle.cq_program.specs.Database.{Program, as_clause}
-use Rattle.cq_stored.specs.StoredValue.{ClauseValue}
-use Rattle.cq_world.specs.Contents.{Contents}
-use Rattle.cq_world.specs.declared.world.World.{World}
-use Rattle.spec_machine.specs.declared.cell.Cell.{Cell}
-use Rattle.spec_machine.specs.Cells.{Clauses, Stack, Value}
-use Rattle.spec_machine.specs.Coming.{Comes}
-use Rattle.spec_machine.specs.Standing.{engine, AreWaiting, IsStanding}
-use Rattle.cq_steps.specs.Choices.{AreOpen, CanBeTried, LeavesAlso}
-use Rattle.cq_steps.specs.Lists.{KeepsLists}
-use Rattle.cq_steps.specs.Worlds.{IsBranch, term_in, value, saved_values, clauses_left, stack, left_at, Grown}
-use Rattle.cq_steps.specs.declared.alternatives.Alternatives.{Alternatives}
-use Rattle.cq_steps.specs.declared.alternatives.Alternatives.TheVariants as alternatives
-use Rattle.cq_steps.proofs.Arrived.{comes_at_once}
-use Rattle.cq_steps.proofs.Selected.{continuation_grown}
-use Rattle.cq_begin.specs.declared.beginning.Begun.{Begun}
-use Rattle.cq_begin.specs.Begun.{goes_to}
-use Rattle.cq_begin.specs.Calls.{ClauseComes}
-use Rattle.cq_begin.specs.Stops.{ComesOn}
+use Rattle.cq_resolve.specs.Database.{Program, as_clause}
+use Rattle.cq_resolve.specs.StoredValue.{ClauseValue}
+use Rattle.cq_settle.specs.Contents.{Contents}
+use Rattle.cq_settle.specs.declared.world.World.{World}
+use Rattle.spec_engine.specs.declared.machine.cell.Cell.{Cell}
+use Rattle.spec_engine.specs.Cells.{Clauses, Stack, Value}
+use Rattle.spec_engine.specs.Coming.{Comes}
+use Rattle.spec_engine.specs.Standing.{engine, AreWaiting, IsStanding}
+use Rattle.cq_branch.specs.Choices.{AreOpen, CanBeTried, LeavesAlso}
+use Rattle.cq_branch.specs.Lists.{KeepsLists}
+use Rattle.cq_branch.specs.Worlds.{IsBranch, term_in, value, saved_values, clauses_left, stack, left_at, Grown}
+use Rattle.cq_branch.specs.declared.alternatives.Alternatives.{Alternatives}
+use Rattle.cq_branch.specs.declared.alternatives.Alternatives.TheVariants as alternatives
+use Rattle.cq_branch.proofs.Arrived.{comes_at_once}
+use Rattle.cq_branch.proofs.Selected.{continuation_grown}
+use Rattle.cq_branch.specs.declared.begin.beginning.Begun.{Begun}
+use Rattle.cq_branch.specs.Begun.{goes_to}
+use Rattle.cq_branch.specs.BeginCalls.{ClauseComes}
+use Rattle.cq_branch.specs.Stops.{ComesOn}
 use Rattle.cq_calls.specs.Calling.{LeavesOnly, WouldStand, WouldCome}
 use Rattle.cq_calls.proofs.Left.{content_is, length-opened, numbers_left}
 use Rattle.cq_calls.proofs.Newest.{arrives_past}

@@ -1,35 +1,35 @@
 -- What a goal that calls a user predicate becomes.
 use Rattle.std.specs.Prelude.{◌≡◌, ◌<◌, ℕ, List, [], ◌∷◌, ◌++◌, length, map, Option, Some, None, ⊤}
-use Rattle.spec_lists.specs.Texts.{Text}
-use Rattle.spec_operators.specs.Operators.{Ops}
+use Rattle.spec_numbers.specs.Texts.{Text}
+use Rattle.spec_syntax.specs.Operators.{Ops}
 use Rattle.spec_syntax.specs.Trees.{Tree}
-use Rattle.spec_built.specs.Built.{indicator_of}
-use Rattle.spec_built.specs.Errors.{existence_error}
+use Rattle.spec_builtins.specs.Built.{indicator_of}
+use Rattle.spec_builtins.specs.Errors.{existence_error}
 use Rattle.spec_branch.specs.Branch.{Branch}
 use Rattle.spec_search.specs.Control.{clause_child, user_row}
 use Rattle.spec_search.specs.Database.{Clause, Database}
 use Rattle.spec_search.specs.Replies.{Place, Raises, Calls}
 use Rattle.spec_search.specs.Search.{Search}
 use Rattle.spec_search.specs.Steps.{IsSelection}
-use Rattle.cq_atoms.specs.Texts.{AreDifferent}
+use Rattle.cq_term.specs.Texts.{AreDifferent}
 use Rattle.cq_clauses.specs.Walks.{left}
 use Rattle.cq_clauses.specs.declared.walk.Walk.{Walk}
 use Rattle.cq_control.specs.Items.{ContinuationsValue}
-use Rattle.cq_program.specs.Database.{Program, IsProgram, as_database, as_indicator}
-use Rattle.cq_program.specs.Keys.{key_of}
-use Rattle.cq_stored.specs.StoredValue.{ClauseValue}
+use Rattle.cq_resolve.specs.Database.{Program, IsProgram, as_database, as_indicator}
+use Rattle.cq_resolve.specs.Keys.{key_of}
+use Rattle.cq_resolve.specs.StoredValue.{ClauseValue}
 use Rattle.cq_term.specs.declared.names.Pred.{Pred}
-use Rattle.cq_world.specs.Contents.{Contents}
-use Rattle.cq_world.specs.Worlds.{now_of}
-use Rattle.cq_world.specs.declared.world.World.{World}
-use Rattle.spec_machine.specs.declared.cell.Cell.{Cell}
-use Rattle.spec_machine.specs.Cells.{Value, Stack}
-use Rattle.spec_machine.specs.Coming.{Comes}
-use Rattle.spec_machine.specs.Standing.{engine}
-use Rattle.cq_steps.specs.Lists.{KeepsLists}
-use Rattle.cq_steps.specs.Worlds.{IsBranch, term_in, saved_values, ReadsAs, Placed, Stands, Arrives}
-use Rattle.cq_steps.specs.declared.alternatives.Alternatives.{Alternatives}
-use Rattle.cq_steps.specs.declared.alternatives.Alternatives.TheVariants as alternatives
+use Rattle.cq_settle.specs.Contents.{Contents}
+use Rattle.cq_settle.specs.Worlds.{now_of}
+use Rattle.cq_settle.specs.declared.world.World.{World}
+use Rattle.spec_engine.specs.declared.machine.cell.Cell.{Cell}
+use Rattle.spec_engine.specs.Cells.{Value, Stack}
+use Rattle.spec_engine.specs.Coming.{Comes}
+use Rattle.spec_engine.specs.Standing.{engine}
+use Rattle.cq_branch.specs.Lists.{KeepsLists}
+use Rattle.cq_branch.specs.Worlds.{IsBranch, term_in, saved_values, ReadsAs, Placed, Stands, Arrives}
+use Rattle.cq_branch.specs.declared.alternatives.Alternatives.{Alternatives}
+use Rattle.cq_branch.specs.declared.alternatives.Alternatives.TheVariants as alternatives
 use Rattle.cq_calls.specs.declared.calling.Called.{Called}
 use Rattle.cq_calls.specs.declared.calling.Called.TheVariants.{Goes, Back, Unknown}
 

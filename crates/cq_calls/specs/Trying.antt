@@ -3,12 +3,12 @@ use Rattle.std.specs.Prelude.{◌≡◌, ℕ, List, ◌∷◌, true}
 use Rattle.cq_clauses.specs.Walks.{HasNoneLeft, IsWalk}
 use Rattle.cq_clauses.specs.declared.walk.Walk.{Walk}
 use Rattle.cq_control.specs.Open.{open_choices}
-use Rattle.cq_program.specs.Database.{Program}
-use Rattle.cq_world.specs.Contents.{Contents}
-use Rattle.spec_machine.specs.Cells.{Value}
-use Rattle.cq_steps.specs.declared.alternatives.Alternatives.{Alternatives}
-use Rattle.cq_steps.specs.declared.alternatives.Alternatives.TheVariants.{Clauses}
-use Rattle.cq_steps.specs.Lists.{KeepsLists}
+use Rattle.cq_resolve.specs.Database.{Program}
+use Rattle.cq_settle.specs.Contents.{Contents}
+use Rattle.spec_engine.specs.Cells.{Value}
+use Rattle.cq_branch.specs.declared.alternatives.Alternatives.{Alternatives}
+use Rattle.cq_branch.specs.declared.alternatives.Alternatives.TheVariants.{Clauses}
+use Rattle.cq_branch.specs.Lists.{KeepsLists}
 use Rattle.cq_calls.specs.Calling.{LeavesFirst}
 
 -- the newest choice has these clauses of a call left to try

@@ -1,28 +1,28 @@
 // How a call of a user predicate begins.
 
 ghost use Rattle.std.specs.Prelude.{◌≡◌, ◌<◌, ◌∷◌, List, length, Ok, IfOk, IfSome, IfNone, OnOk, OnErr};
-ghost use Rattle.spec_lists.specs.Texts.{Text};
+ghost use Rattle.spec_numbers.specs.Texts.{Text};
 ghost use Rattle.spec_syntax.specs.Trees.{Tree};
 ghost use Rattle.spec_branch.specs.Branch.{Branch};
 ghost use Rattle.spec_search.specs.Replies.{Place};
-ghost use Rattle.cq_atoms.specs.Texts.{AreDifferent};
+ghost use Rattle.cq_term.specs.Texts.{AreDifferent};
 ghost use Rattle.cq_clauses.specs.Walks.{IsWalk};
 ghost use Rattle.cq_control.specs.Open.{AreMarked};
-ghost use Rattle.cq_program.specs.Database.{IsProgram};
-ghost use Rattle.cq_world.specs.Rest.{IsReady};
-ghost use Rattle.cq_world.specs.Worlds.{now_of};
-ghost use Rattle.cq_steps.specs.Choices.{AreOpen, LeavesAlso};
-ghost use Rattle.cq_steps.specs.Worlds.{value, saved_values, stack};
-ghost use Rattle.cq_steps.specs.declared.alternatives.Alternatives.TheVariants as alternatives;
+ghost use Rattle.cq_resolve.specs.Database.{IsProgram};
+ghost use Rattle.cq_settle.specs.Rest.{IsReady};
+ghost use Rattle.cq_settle.specs.Worlds.{now_of};
+ghost use Rattle.cq_branch.specs.Choices.{AreOpen, LeavesAlso};
+ghost use Rattle.cq_branch.specs.Worlds.{value, saved_values, stack};
+ghost use Rattle.cq_branch.specs.declared.alternatives.Alternatives.TheVariants as alternatives;
 ghost use Rattle.cq_calls.specs.Calling.{IsCalledAt, HasCalled, IfCalledGoes, IsStill, LeavesFirst, LeavesOnly, WouldCome};
 
 use crate::trying::try_from;
-use cq_atoms::Atoms;
-use cq_begin::{Begun, begin_clause};
+use cq_branch::begin::{Begun, begin_clause};
+use cq_branch::{Alternatives, Searching, Untried};
 use cq_clauses::{ClauseNo, Clauses, Walk};
 use cq_control::{Choices, Continuation};
-use cq_program::{ProgramClause, calls_read_the_database, goal_key, walks_select_clauses};
-use cq_steps::{Alternatives, Searching, Untried};
+use cq_resolve::program::{ProgramClause, calls_read_the_database, goal_key, walks_select_clauses};
+use cq_term::atoms::Atoms;
 use cq_term::{Pred, TermId};
 use std::alloc::AllocError;
 

@@ -1,19 +1,19 @@
 // What a search comes to where a goal calls clauses.
 
 ghost use Rattle.std.specs.Prelude.{◌≡◌, ◌<◌, ℕ, suc, List, Option};
-ghost use Rattle.spec_lists.specs.Texts.{Text};
+ghost use Rattle.spec_numbers.specs.Texts.{Text};
 ghost use Rattle.spec_syntax.specs.Trees.{Tree};
-ghost use Rattle.spec_built.specs.Built.{indicator_of};
+ghost use Rattle.spec_builtins.specs.Built.{indicator_of};
 ghost use Rattle.spec_branch.specs.Branch.{State, Item, Branch, read};
 ghost use Rattle.spec_search.specs.Control.{user_row};
 ghost use Rattle.spec_search.specs.Rows.{reply_of};
 ghost use Rattle.spec_search.specs.Search.{Search, look_at, Selecting};
 ghost use Rattle.spec_search.specs.Turns.{place_of};
-ghost use Rattle.spec_machine.specs.Cells.{Value, Stack};
-ghost use Rattle.spec_machine.specs.Coming.{Comes};
-ghost use Rattle.spec_machine.specs.Standing.{engine};
-ghost use Rattle.cq_world.specs.Contents.{Contents};
-ghost use Rattle.cq_steps.specs.Worlds.{IsBranch, term_in};
+ghost use Rattle.spec_engine.specs.Cells.{Value, Stack};
+ghost use Rattle.spec_engine.specs.Coming.{Comes};
+ghost use Rattle.spec_engine.specs.Standing.{engine};
+ghost use Rattle.cq_settle.specs.Contents.{Contents};
+ghost use Rattle.cq_branch.specs.Worlds.{IsBranch, term_in};
 ghost use Rattle.cq_calls.specs.Calling.{CallBecomes};
 
 /// Where the selected goal calls a user predicate, the search comes quietly to where the engine is then.

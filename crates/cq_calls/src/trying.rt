@@ -1,26 +1,26 @@
 // The clauses of a call, tried in order.
 
 ghost use Rattle.std.specs.Prelude.{◌≡◌, ◌<◌, None, length, IfNone, IfSome, IfOk, IfErr, OnOk, OnErr};
-ghost use Rattle.cq_atoms.specs.Texts.{AreDifferent};
-ghost use Rattle.cq_begin.specs.Begun.{IfGoes, IfPruned, goes_to};
-ghost use Rattle.cq_begin.specs.Stops.{IsBack, ComesOn, AllStop, still_waiting};
+ghost use Rattle.cq_term.specs.Texts.{AreDifferent};
+ghost use Rattle.cq_branch.specs.Begun.{IfGoes, IfPruned, goes_to};
+ghost use Rattle.cq_branch.specs.Stops.{IsBack, ComesOn, AllStop, still_waiting};
 ghost use Rattle.cq_calls.specs.Trying.{HasLeft, IsGone, IsNext, IsOfCall, IsTrying, KeepsOthers, Leaves};
 ghost use Rattle.cq_control.specs.Open.{AreMarked, open_choices};
-ghost use Rattle.cq_program.specs.Database.{IsProgram};
-ghost use Rattle.cq_steps.specs.Choices.{AreOpen};
-ghost use Rattle.cq_steps.specs.Lists.{KeepsLists};
-ghost use Rattle.cq_steps.specs.Worlds.{saved_values, value};
-ghost use Rattle.cq_world.specs.Rest.{IsReady};
-ghost use Rattle.cq_world.specs.Worlds.{now_of};
+ghost use Rattle.cq_resolve.specs.Database.{IsProgram};
+ghost use Rattle.cq_branch.specs.Choices.{AreOpen};
+ghost use Rattle.cq_branch.specs.Lists.{KeepsLists};
+ghost use Rattle.cq_branch.specs.Worlds.{saved_values, value};
+ghost use Rattle.cq_settle.specs.Rest.{IsReady};
+ghost use Rattle.cq_settle.specs.Worlds.{now_of};
 
-use cq_atoms::Atoms;
-use cq_begin::{Begun, begin_clause};
+use cq_branch::begin::{Begun, begin_clause};
+use cq_branch::{Alternatives, Searching, Untried};
 use cq_clauses::{ClauseNo, Clauses, Walk};
 use cq_control::{Choices, Continuation};
-use cq_linear::store::StoreFault;
-use cq_program::ProgramClause;
-use cq_steps::{Alternatives, Searching, Untried};
+use cq_resolve::program::ProgramClause;
+use cq_store::store::StoreFault;
 use cq_term::TermId;
+use cq_term::atoms::Atoms;
 
 /// The engine comes back to its newest choice, which is of a call: its clauses are tried in order, up to one whose branch is
 /// kept. The engine goes on with that branch; None where there is none. The choice is gone once no clause is left. After an

@@ -3,13 +3,13 @@ use Rattle.std.proofs.Common.{◌≡◌, ℕ, Bool, true, false, Option, Some, N
 use Rattle.std.specs.Prelude.{if◌then◌else◌, codes, bytes_eq}
 use Rattle.spec_linear.specs.Form.{Linear}
 use Rattle.spec_linear.specs.Solution.{Constraint}
-use Rattle.spec_lists.specs.Texts.{Text}
+use Rattle.spec_numbers.specs.Texts.{Text}
 use Rattle.spec_terms.specs.Term.{Compound, one, more}
 use Rattle.spec_syntax.specs.Trees.{Tree}
-use Rattle.spec_rational.specs.Rational.{ℚ}
-use Rattle.spec_told.specs.Expressions.{UnaryName, BinaryName, Plus, Minus, Times, Over, Power, Least, Greatest, unary_name, binary_name, unary_of, binary_of, is_zero_form, form_of, has_zero_divisor}
-use Rattle.spec_told.specs.Relations.{Lin, False, RelationName, relation_name, related_forms, form_or_waits, lin_expression, lin}
-use Rattle.spec_told.proofs.Stable.{is_over as is_quotient}
+use Rattle.spec_numbers.specs.Rational.{ℚ}
+use Rattle.spec_branch.specs.Expressions.{UnaryName, BinaryName, Plus, Minus, Times, Over, Power, Least, Greatest, unary_name, binary_name, unary_of, binary_of, is_zero_form, form_of, has_zero_divisor}
+use Rattle.spec_branch.specs.Relations.{Lin, False, RelationName, relation_name, related_forms, form_or_waits, lin_expression, lin}
+use Rattle.spec_branch.proofs.Stable.{is_over as is_quotient}
 use Rattle.cq_cexpr.specs.Names.{is_over}
 use Rattle.cq_cexpr.specs.Work.{form_in, after_one, after_both}
 

@@ -1,18 +1,18 @@
 -- Forms with another sign, and forms by a number.
 use Rattle.std.proofs.Common.{◌≡◌, ◌≢◌, ℕ, suc, List, [], ◌∷◌, Bool, true, false, cond, not, Option, Some, None, refl, ap, ap₂, sym, subst, ◌∙◌}
 use Rattle.std.specs.Prelude.{◌↔◌, IsTrue, pos}
-use Rattle.spec_rational.specs.Rational.{ℚ, 0ℚ, ◌*ℚ◌, ◌/ℚ◌, inv_ℚ, neg_ℚ}
-use Rattle.spec_rational.specs.Sums.{Monomial, scaled_products, negated_products}
-use Rattle.spec_rational.proofs.Ring.{var, int, ◌⊗◌}
-use Rattle.spec_rational.proofs.Rational.{mul_comm, ring}
-use Rattle.spec_rational.proofs.Sign.{product_zero, inverse_not_zero}
+use Rattle.spec_numbers.specs.Rational.{ℚ, 0ℚ, ◌*ℚ◌, ◌/ℚ◌, inv_ℚ, neg_ℚ}
+use Rattle.spec_numbers.specs.Sums.{Monomial, scaled_products, negated_products}
+use Rattle.spec_numbers.proofs.Ring.{var, int, ◌⊗◌}
+use Rattle.spec_numbers.proofs.RationalLemmas.{mul_comm, ring}
+use Rattle.spec_numbers.proofs.Sign.{product_zero, inverse_not_zero}
 use Rattle.spec_linear.specs.Form.{Linear, IsSumFrom, IsForm, is_zero, without_zeros, scaled_form, negated_form}
 use Rattle.spec_linear.proofs.Values.{is_zero-true, is_zero-of}
 use Rattle.spec_linear.proofs.Ordered.{form_same, IsForm-scaled_form, IsForm-negated_form}
-use Rattle.spec_told.specs.Expressions.{number_of, is_zero_form, quotient_form, power}
-use Rattle.spec_told.proofs.Kept.{is_constant_form}
-use Rattle.cq_row.specs.declared.Entry.{Entry}
-use Rattle.cq_row.specs.Rows.{over, negated}
+use Rattle.spec_branch.specs.Expressions.{number_of, is_zero_form, quotient_form, power}
+use Rattle.spec_branch.proofs.Kept.{is_constant_form}
+use Rattle.cq_frac.specs.declared.row.Entry.{Entry}
+use Rattle.cq_frac.specs.Rows.{over, negated}
 use Rattle.cq_form.specs.Entries.{form_of, products_of}
 
 -- ---- the other sign

@@ -1,25 +1,25 @@
 -- The pairs that operations on forms refuse, as overflows of the operations of a term.
 use Rattle.std.proofs.Common.{◌≡◌, ℕ, zero, suc, ◌<◌, ◌≤◌, Result, Ok, Err, List, [], ◌∷◌, ◌++◌, Some, inl, inr, refl, ap, sym, subst, arith}
 use Rattle.std.specs.Prelude.{IsErrAnd}
-use Rattle.spec_rational.specs.Rational.{ℚ}
-use Rattle.spec_rational.specs.Sums.{factor_of}
-use Rattle.spec_rational.proofs.Rational.{mul_comm}
+use Rattle.spec_numbers.specs.Rational.{ℚ}
+use Rattle.spec_numbers.specs.Sums.{factor_of}
+use Rattle.spec_numbers.proofs.RationalLemmas.{mul_comm}
 use Rattle.spec_linear.specs.Form.{Linear, IsForm, constant_form}
 use Rattle.spec_linear.specs.Solution.{Has}
 use Rattle.spec_linear.proofs.Denominators.{has_left, has_right}
-use Rattle.spec_limits.specs.Overflow.{Operands, on, Moment, IsSumOrDifference, IsNumberOf, of_variable as number_of_variable, of_constant, Makes, coefficients, constants, operands}
-use Rattle.spec_told.specs.Expressions.{number_of, power}
-use Rattle.spec_told.proofs.Kept.{is_constant_form}
-use Rattle.spec_stops.specs.Operands.{power_products}
+use Rattle.spec_simplex.specs.Overflow.{Operands, on, Moment, IsSumOrDifference, IsNumberOf, of_variable as number_of_variable, of_constant, Makes, coefficients, constants, operands}
+use Rattle.spec_branch.specs.Expressions.{number_of, power}
+use Rattle.spec_branch.proofs.Kept.{is_constant_form}
+use Rattle.spec_transcript.specs.Operands.{power_products}
 use Rattle.cq_frac.specs.Fits.{Exceeds}
 use Rattle.cq_frac.specs.Refused.{IsRefused, Refuses, Tells}
 use Rattle.cq_frac.specs.declared.Operation.{Operation}
 use Rattle.cq_frac.specs.declared.Operation.TheVariants.{Difference, Product as Times, Quotient}
 use Rattle.cq_frac.specs.declared.Pair.{Pair}
-use Rattle.cq_row.specs.declared.Entry.{Entry}
-use Rattle.cq_row.specs.declared.Joining.{Joining}
-use Rattle.cq_row.specs.declared.Joining.TheVariants.{Plus, Less}
-use Rattle.cq_row.specs.Rows as row
+use Rattle.cq_frac.specs.declared.row.Entry.{Entry}
+use Rattle.cq_frac.specs.declared.row.Joining.{Joining}
+use Rattle.cq_frac.specs.declared.row.Joining.TheVariants.{Plus, Less}
+use Rattle.cq_frac.specs.Rows as row
 use Rattle.cq_form.specs.Entries.{product_of, products_of}
 use Rattle.cq_form.specs.Steps.{HasCoefficient, of_variable as common, of_variable as multiple, JoinedPair, coefficients as common_pair, constants as constants_pair, ScalePair, coefficient as multiple_pair, constant as constant_pair}
 use Rattle.cq_form.proofs.Forms.{coefficient_is}

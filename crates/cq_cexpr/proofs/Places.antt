@@ -2,19 +2,19 @@
 use Rattle.std.proofs.Common.{◌≡◌, ◌≢◌, ℕ, zero, suc, ◌+◌, ◌<◌, ◌≤◌, List, [], ◌∷◌, ◌++◌, length, take, drop, get_or, Bool, true, false, cond, not, pos, arith, refl, ap, ap₂, sym, subst, ◌∙◌}
 use Rattle.std.specs.Prelude.{slice_set}
 use Rattle.std.specs.List.Sorted.{IsNonDecreasingBy}
-use Rattle.spec_rational.specs.Rational.{ℚ, 0ℚ, ◌+ℚ◌, ◌*ℚ◌}
-use Rattle.spec_rational.specs.Sums as sums
-use Rattle.spec_rational.specs.Sums.{Monomial, unit}
-use Rattle.spec_rational.proofs.Ring.{var, int, ◌⊕◌, ◌⊗◌, minus}
-use Rattle.spec_rational.proofs.Rational.{ring}
-use Rattle.spec_rational.proofs.Sums.{unit-self, unit-other}
+use Rattle.spec_numbers.specs.Rational.{ℚ, 0ℚ, ◌+ℚ◌, ◌*ℚ◌}
+use Rattle.spec_numbers.specs.Sums as sums
+use Rattle.spec_numbers.specs.Sums.{Monomial, unit}
+use Rattle.spec_numbers.proofs.Ring.{var, int, ◌⊕◌, ◌⊗◌, minus}
+use Rattle.spec_numbers.proofs.RationalLemmas.{ring}
+use Rattle.spec_numbers.proofs.Sums.{unit-self, unit-other}
 use Rattle.spec_linear.specs.Form.{IsSumFrom, is_zero, without_zeros}
 use Rattle.spec_linear.proofs.Values.{is_zero-true, is_zero-of, is_zero-false}
-use Rattle.spec_lists.proofs.Places.{take-next}
-use Rattle.cq_row.specs.declared.Entry.{Entry}
-use Rattle.cq_row.specs.declared.Joining.{Joining}
-use Rattle.cq_row.specs.declared.Joining.TheVariants.{Plus, Less}
-use Rattle.cq_row.specs.Rows.{sum_at, joined}
+use Rattle.spec_numbers.proofs.Places.{take-next}
+use Rattle.cq_frac.specs.declared.row.Entry.{Entry}
+use Rattle.cq_frac.specs.declared.row.Joining.{Joining}
+use Rattle.cq_frac.specs.declared.row.Joining.TheVariants.{Plus, Less}
+use Rattle.cq_frac.specs.Rows.{sum_at, joined}
 use Rattle.cq_form.specs.Entries.{product_of, products_of}
 use Rattle.cq_cexpr.specs.Slots.{IsRisingFrom}
 

@@ -1,15 +1,15 @@
 -- The two sides of a relation: what the whole is, and its operations.
 use Rattle.std.proofs.Common.{◌≡◌, ◌≢◌, ℕ, true, false, List, [], ◌++◌, Option, Some, None, refl, ap, ap₂, sym, ◌∙◌, subst, append_assoc}
 use Rattle.spec_linear.specs.Form.{Linear}
-use Rattle.spec_limits.specs.Overflow.{Operands}
-use Rattle.spec_lists.specs.Texts.{Text}
+use Rattle.spec_simplex.specs.Overflow.{Operands}
+use Rattle.spec_numbers.specs.Texts.{Text}
 use Rattle.spec_terms.specs.Term.{Var, Number, Name, Compound, one, more, named}
 use Rattle.spec_syntax.specs.Trees.{Tree}
-use Rattle.spec_told.specs.Expressions.{form_of}
-use Rattle.spec_told.specs.Relations.{Lin, Is, Waits, False, RelationName, relation_name, related_forms, lin_expression, lin}
+use Rattle.spec_branch.specs.Expressions.{form_of}
+use Rattle.spec_branch.specs.Relations.{Lin, Is, Waits, False, RelationName, relation_name, related_forms, lin_expression, lin}
 use Rattle.spec_branch.specs.Alike.{no_values}
-use Rattle.spec_stops.specs.Operands.{both, expression_operands, relation_operands}
-use Rattle.cq_atoms.specs.Texts.{text_of}
+use Rattle.spec_transcript.specs.Operands.{both, expression_operands, relation_operands}
+use Rattle.cq_term.specs.Texts.{text_of}
 use Rattle.cq_frac.specs.declared.Operation.TheVariants.{Difference}
 use Rattle.cq_frac.specs.declared.Pair.{Pair}
 use Rattle.cq_term.specs.Trees.{tree}

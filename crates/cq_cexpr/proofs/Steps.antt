@@ -4,15 +4,15 @@ use Rattle.std.specs.Prelude.{slice_get, if◌then◌else◌, ◌&&◌}
 use Rattle.std.proofs.lemmas.Option.{same_Some}
 use Rattle.spec_linear.specs.Form.{Linear}
 use Rattle.spec_linear.specs.Solution.{Has}
-use Rattle.spec_limits.specs.Overflow.{Operands}
-use Rattle.spec_lists.specs.Texts.{Text}
+use Rattle.spec_simplex.specs.Overflow.{Operands}
+use Rattle.spec_numbers.specs.Texts.{Text}
 use Rattle.spec_terms.specs.Term.{Var, Number, Name, Compound, one, more, count, size, named}
 use Rattle.spec_syntax.specs.Trees.{Tree}
-use Rattle.spec_told.specs.Expressions.{BinaryName, Plus, Minus, Times, Over, Power, Least, Greatest, unary_name, binary_name, binary_of, is_zero_form, form_of}
-use Rattle.spec_told.specs.Relations.{Lin, Waits, False, form_or_waits, lin_expression}
+use Rattle.spec_branch.specs.Expressions.{BinaryName, Plus, Minus, Times, Over, Power, Least, Greatest, unary_name, binary_name, binary_of, is_zero_form, form_of}
+use Rattle.spec_branch.specs.Relations.{Lin, Waits, False, form_or_waits, lin_expression}
 use Rattle.spec_branch.specs.Alike.{no_values}
-use Rattle.spec_stops.specs.Operands.{binary_operands, expression_operands}
-use Rattle.cq_atoms.specs.Texts.{text_of}
+use Rattle.spec_transcript.specs.Operands.{binary_operands, expression_operands}
+use Rattle.cq_term.specs.Texts.{text_of}
 use Rattle.cq_frac.specs.declared.Pair.{Pair}
 use Rattle.cq_term.specs.Trees.{tree}
 use Rattle.cq_term.specs.Meaning.{HeapTerm, at}

@@ -1,25 +1,25 @@
 -- Forms joined to a first one in turn, and slots that have their factors.
 use Rattle.std.proofs.Common.{◌≡◌, ℕ, zero, suc, ◌+◌, ◌<◌, List, [], ◌∷◌, ◌++◌, length, take, get_or, Option, Some, inl, inr, pos, arith, refl, ap, ap₂, sym, subst, ◌∙◌}
-use Rattle.spec_rational.specs.Rational.{ℚ, 0ℚ, ◌+ℚ◌}
-use Rattle.spec_rational.specs.Sums as sums
-use Rattle.spec_rational.specs.Sums.{Monomial, unit, factor_of, negated_products}
-use Rattle.spec_rational.proofs.Ring.{var, int, ◌⊕◌}
-use Rattle.spec_rational.proofs.Rational.{ring}
-use Rattle.spec_rational.proofs.Sums.{factor_of-is, sum_at-negated_products}
+use Rattle.spec_numbers.specs.Rational.{ℚ, 0ℚ, ◌+ℚ◌}
+use Rattle.spec_numbers.specs.Sums as sums
+use Rattle.spec_numbers.specs.Sums.{Monomial, unit, factor_of, negated_products}
+use Rattle.spec_numbers.proofs.Ring.{var, int, ◌⊕◌}
+use Rattle.spec_numbers.proofs.RationalLemmas.{ring}
+use Rattle.spec_numbers.proofs.Sums.{factor_of-is, sum_at-negated_products}
 use Rattle.spec_linear.specs.Form.{Linear, IsForm, without_zeros}
 use Rattle.spec_linear.specs.Solution.{Has}
 use Rattle.spec_linear.proofs.Values.{sum_at-sum_products, sum_at-without_zeros}
 use Rattle.spec_linear.proofs.Ordered.{products_same, form_same}
-use Rattle.spec_limits.specs.Overflow.{Operands, on, coefficients, constants}
-use Rattle.spec_lists.proofs.Places.{take-next}
-use Rattle.spec_told.specs.Expressions.{BinaryName, binary_of}
-use Rattle.spec_stops.specs.Operands.{binary_operands}
+use Rattle.spec_simplex.specs.Overflow.{Operands, on, coefficients, constants}
+use Rattle.spec_numbers.proofs.Places.{take-next}
+use Rattle.spec_branch.specs.Expressions.{BinaryName, binary_of}
+use Rattle.spec_transcript.specs.Operands.{binary_operands}
 use Rattle.cq_frac.specs.Refused.{Tells}
 use Rattle.cq_frac.specs.declared.Pair.{Pair}
-use Rattle.cq_row.specs.declared.Entry.{Entry}
-use Rattle.cq_row.specs.declared.Joining.{Joining}
-use Rattle.cq_row.specs.declared.Joining.TheVariants.{Plus, Less}
-use Rattle.cq_row.specs.Rows.{sum_at, joined, operation_of}
+use Rattle.cq_frac.specs.declared.row.Entry.{Entry}
+use Rattle.cq_frac.specs.declared.row.Joining.{Joining}
+use Rattle.cq_frac.specs.declared.row.Joining.TheVariants.{Plus, Less}
+use Rattle.cq_frac.specs.Rows.{sum_at, joined, operation_of}
 use Rattle.cq_form.specs.Entries.{products_of, form_of}
 use Rattle.cq_form.specs.Steps.{joined_products, joined_form}
 use Rattle.cq_form.proofs.Forms.{joined_in_order, joined_form_is}

@@ -2,7 +2,7 @@
 use Rattle.std.specs.Prelude.{Bool, true, false, List, ⊤, Option, None, Some}
 use Rattle.spec_linear.specs.Form.{Linear}
 use Rattle.spec_linear.specs.Solution.{Constraint}
-use Rattle.spec_told.specs.Relations.{Lin, Is, Waits, False}
+use Rattle.spec_branch.specs.Relations.{Lin, Is, Waits, False}
 use Rattle.cq_frac.specs.declared.VarId.{VarId}
 use Rattle.cq_cexpr.specs.declared.evaluation.LinExpression.{LinExpression}
 use Rattle.cq_cexpr.specs.declared.evaluation.LinExpression.TheVariants as expression

@@ -1,9 +1,9 @@
 -- What the names of the code say in the definitions.
 use Rattle.std.specs.Prelude.{Bool, true, false, Option, Some, None}
-use Rattle.spec_told.specs.Expressions.{UnaryName, Same, Opposite, Absolute, BinaryName, Plus, Minus, Times, Over, Power, Least, Greatest}
-use Rattle.spec_told.specs.Relations.{RelationName, Equals, Differs, Greater, GreaterOrEqual, Lesser, LesserOrEqual}
-use Rattle.cq_row.specs.declared.Joining.{Joining}
-use Rattle.cq_row.specs.declared.Joining.TheVariants as joining
+use Rattle.spec_branch.specs.Expressions.{UnaryName, Same, Opposite, Absolute, BinaryName, Plus, Minus, Times, Over, Power, Least, Greatest}
+use Rattle.spec_branch.specs.Relations.{RelationName, Equals, Differs, Greater, GreaterOrEqual, Lesser, LesserOrEqual}
+use Rattle.cq_frac.specs.declared.row.Joining.{Joining}
+use Rattle.cq_frac.specs.declared.row.Joining.TheVariants as joining
 use Rattle.cq_cexpr.specs.declared.names.Unary.{Unary}
 use Rattle.cq_cexpr.specs.declared.names.Unary.TheVariants as one
 use Rattle.cq_cexpr.specs.declared.names.Binary.{Binary}

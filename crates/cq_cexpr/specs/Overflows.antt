@@ -1,7 +1,7 @@
 -- The overflows of the operations of a term.
 use Rattle.std.specs.Prelude.{List}
 use Rattle.spec_linear.specs.Solution.{Has}
-use Rattle.spec_limits.specs.Overflow.{Operands, Moment, OverflowDue}
+use Rattle.spec_simplex.specs.Overflow.{Operands, Moment, OverflowDue}
 use Rattle.cq_frac.specs.declared.Pair.{Pair}
 
 -- each of the first operations is one of the others

@@ -1,12 +1,12 @@
 -- Slots of variables: entries in ascending order, of which a factor may be zero.
 use Rattle.std.specs.Prelude.{◌≢◌, ℕ, suc, ◌≤◌, List, [], ◌∷◌, ⊤}
-use Rattle.spec_rational.specs.Rational.{ℚ, 0ℚ}
-use Rattle.spec_rational.specs.Sums.{unit}
+use Rattle.spec_numbers.specs.Rational.{ℚ, 0ℚ}
+use Rattle.spec_numbers.specs.Sums.{unit}
 use Rattle.cq_frac.specs.declared.Pair.{Pair}
 use Rattle.cq_frac.specs.Refused.{Tells}
-use Rattle.cq_row.specs.declared.Entry.{Entry}
-use Rattle.cq_row.specs.declared.Joining.{Joining}
-use Rattle.cq_row.specs.Rows.{sum_at, operation_of}
+use Rattle.cq_frac.specs.declared.row.Entry.{Entry}
+use Rattle.cq_frac.specs.declared.row.Joining.{Joining}
+use Rattle.cq_frac.specs.Rows.{sum_at, operation_of}
 
 -- each quantity is at least low and above the one before it
 abbrev pub IsRisingFrom : ℕ → List Entry → Type 0

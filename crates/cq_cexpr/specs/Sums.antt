@@ -1,9 +1,9 @@
 -- A form to which others are to be joined in turn: what they come to, and the operations.
 use Rattle.std.specs.Prelude.{List, [], ◌∷◌, Option, Some, None}
 use Rattle.spec_linear.specs.Form.{Linear}
-use Rattle.spec_limits.specs.Overflow.{Operands, on}
-use Rattle.cq_row.specs.declared.Joining.{Joining}
-use Rattle.cq_row.specs.Rows.{operation_of}
+use Rattle.spec_simplex.specs.Overflow.{Operands, on}
+use Rattle.cq_frac.specs.declared.row.Joining.{Joining}
+use Rattle.cq_frac.specs.Rows.{operation_of}
 use Rattle.cq_form.specs.Steps.{joined_form}
 use Rattle.cq_cexpr.specs.declared.sums.Sum.{Sum}
 

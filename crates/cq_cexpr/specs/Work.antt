@@ -1,13 +1,13 @@
 -- An expression under way: the operations that wait for a form, the innermost last, and the step that is next.
 use Rattle.std.specs.Prelude.{◌≡◌, ℕ, ◌+◌, ◌*◌, ◌<◌, List, [], ◌∷◌, ◌++◌, length, ⊤, if◌then◌else◌, ◌&&◌, Option, Some, None}
 use Rattle.spec_linear.specs.Form.{Linear}
-use Rattle.spec_limits.specs.Overflow.{Operands}
-use Rattle.spec_lists.specs.Texts.{Text}
+use Rattle.spec_simplex.specs.Overflow.{Operands}
+use Rattle.spec_numbers.specs.Texts.{Text}
 use Rattle.spec_terms.specs.Term.{size}
-use Rattle.spec_told.specs.Expressions.{UnaryName, BinaryName, unary_of, binary_of, is_zero_form}
-use Rattle.spec_told.specs.Relations.{Lin, Is, Waits, False, form_or_waits, lin_expression}
+use Rattle.spec_branch.specs.Expressions.{UnaryName, BinaryName, unary_of, binary_of, is_zero_form}
+use Rattle.spec_branch.specs.Relations.{Lin, Is, Waits, False, form_or_waits, lin_expression}
 use Rattle.spec_branch.specs.Alike.{no_values}
-use Rattle.spec_stops.specs.Operands.{binary_operands, expression_operands}
+use Rattle.spec_transcript.specs.Operands.{binary_operands, expression_operands}
 use Rattle.cq_frac.specs.declared.Pair.{Pair}
 use Rattle.cq_term.specs.Trees.{tree}
 use Rattle.cq_term.specs.Meaning.{HeapTerm, at}

@@ -2,10 +2,10 @@
 // the depth of an expression.
 
 ghost use Rattle.std.specs.Prelude.{◌≡◌, ◌&&◌, ◌<◌, ◌++◌, ◌∷◌, [], length, IfOk, OnOk, Some};
-ghost use Rattle.spec_told.specs.Expressions.{is_zero_form, binary_of};
-ghost use Rattle.spec_told.specs.Relations.{form_or_waits, lin_expression};
+ghost use Rattle.spec_branch.specs.Expressions.{is_zero_form, binary_of};
+ghost use Rattle.spec_branch.specs.Relations.{form_or_waits, lin_expression};
 ghost use Rattle.spec_branch.specs.Alike.{no_values};
-ghost use Rattle.spec_stops.specs.Operands.{binary_operands, expression_operands};
+ghost use Rattle.spec_transcript.specs.Operands.{binary_operands, expression_operands};
 ghost use Rattle.cq_frac.specs.declared.Pair.{Pair};
 ghost use Rattle.cq_term.specs.Trees.{tree};
 ghost use Rattle.cq_term.specs.Meaning.{at};
@@ -13,7 +13,7 @@ ghost use Rattle.cq_term.specs.Names.{HasNamesBelow};
 ghost use Rattle.cq_term.specs.Shown.{view_of};
 ghost use Rattle.cq_term.specs.declared.view.View.TheVariants.{Compound};
 ghost use Rattle.cq_cexpr.specs.Found.{expression_of, is_false};
-ghost use Rattle.cq_row.specs.declared.Joining.{Joining};
+ghost use Rattle.cq_frac.specs.declared.row.Joining.{Joining};
 ghost use Rattle.cq_cexpr.specs.Names.{binary_meant, is_over, name_of};
 ghost use Rattle.cq_cexpr.specs.Overflows.{Within, ComesFrom};
 ghost use Rattle.cq_cexpr.specs.Sums.{whole_of, due_in};
@@ -22,10 +22,10 @@ ghost use Rattle.cq_cexpr.specs.Work.{form_in, IsGiven, AfterVisit, AfterResume,
 use crate::names::{self, Binary, Unary};
 use crate::operations;
 use crate::sums::{Sum, whole};
-use cq_atoms::Atoms;
 use cq_form::Form;
 use cq_frac::Refusal;
-use cq_row::Joining;
+use cq_frac::row::Joining;
+use cq_term::atoms::Atoms;
 use cq_term::{Atom, Heap, TermId, View};
 use std::alloc::{AllocError, Global};
 

@@ -1,8 +1,8 @@
 // The names that build expressions, and those of relations.
 
 ghost use Rattle.std.specs.Prelude.{◌≡◌};
-ghost use Rattle.spec_told.specs.Expressions.{unary_name, binary_name};
-ghost use Rattle.spec_told.specs.Relations.{relation_name};
+ghost use Rattle.spec_branch.specs.Expressions.{unary_name, binary_name};
+ghost use Rattle.spec_branch.specs.Relations.{relation_name};
 ghost use Rattle.cq_cexpr.specs.Names.{unary_meant, binary_meant, relation_meant};
 
 /// What a name with one argument builds.

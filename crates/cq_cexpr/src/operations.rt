@@ -1,14 +1,14 @@
 // The operations of expressions on linear forms. None for a form says that the expression waits.
 
 ghost use Rattle.std.specs.Prelude.{◌≡◌, ◌≢◌, ◌∷◌, [], map, IfOk, Some};
-ghost use Rattle.spec_rational.specs.Rational.{0ℚ, inv_ℚ};
+ghost use Rattle.spec_numbers.specs.Rational.{0ℚ, inv_ℚ};
 ghost use Rattle.spec_linear.specs.Form.{IsForm, constant_form, variable_form, sum_form, difference_form, scaled_form, negated_form};
-ghost use Rattle.spec_limits.specs.Overflow.{on};
-ghost use Rattle.spec_arithmetic.specs.Operations.{unary_value, least, greatest};
-ghost use Rattle.spec_arithmetic.specs.declared.UnaryOperation.TheVariants as arithmetic;
-ghost use Rattle.spec_told.specs.Expressions.{is_zero_form, number_of, exponent_of, power as power_of, power_form, power_of_form};
-ghost use Rattle.spec_told.specs.Expressions.{product_form, quotient_form, on_number, on_numbers, unary_of, binary_of, binary_form};
-ghost use Rattle.spec_stops.specs.Operands.{power_products, power_operands, binary_operands};
+ghost use Rattle.spec_simplex.specs.Overflow.{on};
+ghost use Rattle.spec_terms.specs.Operations.{unary_value, least, greatest};
+ghost use Rattle.spec_terms.specs.declared.arithmetic.UnaryOperation.TheVariants as arithmetic;
+ghost use Rattle.spec_branch.specs.Expressions.{is_zero_form, number_of, exponent_of, power as power_of, power_form, power_of_form};
+ghost use Rattle.spec_branch.specs.Expressions.{product_form, quotient_form, on_number, on_numbers, unary_of, binary_of, binary_form};
+ghost use Rattle.spec_transcript.specs.Operands.{power_products, power_operands, binary_operands};
 ghost use Rattle.cq_frac.specs.declared.Operation.TheVariants.{Sum, Difference, Product, Quotient};
 ghost use Rattle.cq_frac.specs.declared.Pair.{Pair};
 ghost use Rattle.cq_form.specs.Entries.{form_of};
@@ -17,8 +17,8 @@ ghost use Rattle.cq_cexpr.specs.Overflows.{ComesFrom};
 
 use crate::names::{Binary, Unary};
 use cq_form::Form;
+use cq_frac::row::{Entry, divided, opposed};
 use cq_frac::{Frac, Pair, Refusal, VarId, product, quotient};
-use cq_row::{Entry, divided, opposed};
 use std::alloc::{AllocError, Global};
 use std::cmp::Ordering;
 

@@ -3,18 +3,18 @@
 
 ghost use Rattle.std.specs.Prelude.{◌≡◌, ◌≢◌, ◌≤◌, ◌<◌, ℕ, true, false, length, slice_index_or, IfOk, OnOk};
 ghost use Rattle.std.specs.List.Sorted.{IsNonDecreasingBy};
-ghost use Rattle.spec_rational.specs.Rational.{ℚ, 0ℚ, ◌*ℚ◌};
-ghost use Rattle.spec_rational.specs.Sums.{unit};
+ghost use Rattle.spec_numbers.specs.Rational.{ℚ, 0ℚ, ◌*ℚ◌};
+ghost use Rattle.spec_numbers.specs.Sums.{unit};
 ghost use Rattle.spec_linear.specs.Form.{IsSumFrom, without_zeros};
 ghost use Rattle.cq_frac.specs.declared.Pair.{Pair};
 ghost use Rattle.cq_frac.specs.Refused.{Tells};
-ghost use Rattle.cq_row.specs.declared.Entry.{Entry};
-ghost use Rattle.cq_row.specs.Rows.{sum_at, joined, IsFoundAt};
+ghost use Rattle.cq_frac.specs.declared.row.Entry.{Entry};
+ghost use Rattle.cq_frac.specs.Rows.{sum_at, joined, IsFoundAt};
 ghost use Rattle.cq_form.specs.Entries.{products_of};
 ghost use Rattle.cq_cexpr.specs.Slots.{IsRisingFrom, Meets, IsMet};
 
+use cq_frac::row::{Entry, Joining};
 use cq_frac::{Frac, Pair, Refusal};
-use cq_row::{Entry, Joining};
 use std::alloc::{AllocError, Global};
 
 /// How many slots are of lower variables.

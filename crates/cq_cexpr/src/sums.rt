@@ -1,10 +1,10 @@
 // Sums of many forms: the operands wait, and then the factors of each variable are added in their turn.
 
 ghost use Rattle.std.specs.Prelude.{◌≡◌, ◌++◌, ◌∷◌, [], ℕ, IfOk};
-ghost use Rattle.spec_rational.specs.Rational.{ℚ};
-ghost use Rattle.spec_rational.specs.Sums as sums;
+ghost use Rattle.spec_numbers.specs.Rational.{ℚ};
+ghost use Rattle.spec_numbers.specs.Sums as sums;
 ghost use Rattle.cq_frac.specs.declared.Pair.{Pair};
-ghost use Rattle.cq_row.specs.Rows.{sum_at};
+ghost use Rattle.cq_frac.specs.Rows.{sum_at};
 ghost use Rattle.cq_cexpr.specs.Overflows.{ComesFrom};
 ghost use Rattle.cq_cexpr.specs.Slots.{IsRisingFrom};
 ghost use Rattle.cq_cexpr.specs.Sums.{all_joined, joining_operands, whole_of, due_in};
@@ -13,7 +13,7 @@ use crate::operations::is_in_order;
 use crate::slots::{filled, join_all, slots_for};
 use cq_form::Form;
 use cq_frac::Refusal;
-use cq_row::{Entry, Joining};
+use cq_frac::row::{Entry, Joining};
 use std::alloc::{AllocError, Global};
 
 /// How many variables a sum has at least whose operands wait. With fewer, each operand is joined at once.

@@ -4,7 +4,7 @@ use Rattle.std.specs.Prelude.{slice_get}
 use Rattle.std.specs.Option.{option_map_or}
 use Rattle.std.proofs.lemmas.List.{map-append}
 use Rattle.std.proofs.lemmas.Option.{same_Some, slice_get_within, slice_get_cases}
-use Rattle.spec_lists.proofs.Places.{map_same, get_kept}
+use Rattle.spec_numbers.proofs.Places.{map_same, get_kept}
 use Rattle.cq_term.specs.declared.names.Pred.{Pred}
 use Rattle.cq_clauses.specs.declared.index.Index.{Index}
 use Rattle.cq_clauses.specs.declared.key.Key.{Key}

@@ -23,7 +23,7 @@ use Rattle.cq_clauses.specs.Database.{ProcedureNow, now_of, database, same_pred,
 use Rattle.cq_clauses.specs.Procedures.{pred_of, is_of, clause_added_to, with_clause, made_dynamic, with_dynamic, with_all_dynamic, StandsAt, IsAt, IsPlace, clause_taken}
 use Rattle.cq_clauses.specs.Snapshots.{seen, seen_part, seen_through, IsPart, IsSnapshot, KeepsSnapshots}
 use Rattle.cq_clauses.proofs.Listed.{seen_front, window_front, seen_back, window_back, seen_removed, window_removed}
-use Rattle.cq_atoms.proofs.Places.{list_any-map}
+use Rattle.cq_term.proofs.AtomsPlaces.{list_any-map}
 use Rattle.cq_clauses.proofs.Writes.{got_here, got_still, got_last}
 use Rattle.cq_clauses.proofs.Found.{changed_still, changed_at, changed_none, find_at, find_none, find-map}
 

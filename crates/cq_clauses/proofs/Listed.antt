@@ -6,7 +6,7 @@ use Rattle.std.proofs.lemmas.List.{take-append-le, drop-append-le, take_all, len
 use Rattle.std.proofs.lemmas.List.Elements.{filter-append}
 use Rattle.std.proofs.lemmas.Option.{none-some, same_Some, slice_get_read, slice_get-map}
 use Rattle.std.proofs.lemmas.Bool.Decides.{nat_tests}
-use Rattle.spec_lists.proofs.Places.{get_push}
+use Rattle.spec_numbers.proofs.Places.{get_push}
 use Rattle.cq_clauses.proofs.Writes.{got_either}
 use Rattle.cq_clauses.specs.declared.list.Window.{Window}
 use Rattle.cq_clauses.specs.Lists.{Entry, ListValue, clause_of, is_there, present}

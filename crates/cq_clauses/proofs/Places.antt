@@ -15,7 +15,7 @@ use Rattle.cq_clauses.specs.Changes.{there, went, no_clauses, list_with, list_wi
 use Rattle.cq_clauses.specs.Database.{first_changed, database, clause_removed}
 use Rattle.cq_clauses.specs.Procedures.{is_of, clause_added_to, with_clause, made_dynamic, with_dynamic, StandsAt, IsAt, IsPlace, clause_taken}
 use Rattle.cq_clauses.specs.Snapshots.{KeepsSnapshots}
-use Rattle.spec_lists.proofs.Places.{get_kept, get_push}
+use Rattle.spec_numbers.proofs.Places.{get_kept, get_push}
 use Rattle.cq_clauses.proofs.Writes.{got_either, got_still, got_last}
 use Rattle.cq_clauses.proofs.Found.{changed_still}
 use Rattle.cq_clauses.proofs.Kept.{keeps_set, follows_without}

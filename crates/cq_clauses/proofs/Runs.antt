@@ -5,7 +5,7 @@ use Rattle.std.specs.Option.{option_map}
 use Rattle.std.proofs.lemmas.List.{map-append, map-set}
 use Rattle.std.proofs.lemmas.Option.{none-some, same_Some, slice_get_read, slice_get-map}
 use Rattle.std.proofs.lemmas.Bool.Decides.{nat_tests}
-use Rattle.spec_lists.proofs.Places.{get_kept, get_push}
+use Rattle.spec_numbers.proofs.Places.{get_kept, get_push}
 use Rattle.cq_clauses.proofs.Writes.{got_here, got_either, got_still}
 use Rattle.cq_clauses.specs.declared.list.Window.{Window}
 use Rattle.cq_clauses.specs.declared.list.Slot.{Slot}

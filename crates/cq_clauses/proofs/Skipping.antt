@@ -6,7 +6,7 @@ use Rattle.std.proofs.Math.Seq.{take-add}
 use Rattle.std.proofs.lemmas.List.{map-append, drop-drop}
 use Rattle.std.proofs.lemmas.List.Elements.{filter-append}
 use Rattle.std.proofs.lemmas.Option.{slice_get-map}
-use Rattle.spec_lists.proofs.Places.{get_take, get-drop}
+use Rattle.spec_numbers.proofs.Places.{get_take, get-drop}
 use Rattle.cq_clauses.specs.declared.key.Key.{Key}
 use Rattle.cq_clauses.specs.declared.list.Window.{Window}
 use Rattle.cq_clauses.specs.declared.procedures.Procedure.{Procedure}

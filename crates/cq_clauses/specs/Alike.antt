@@ -3,9 +3,9 @@ use Rattle.std.proofs.Common.{◌≡◌, ◌==◌, ◌&&◌, true, refl, ap, ap�
 use Rattle.std.specs.Cmp.{IsEquivalence, Equal-is}
 use Rattle.std.specs.Prelude.{IsTrue}
 use Rattle.std.proofs.lemmas.Cmp.{eq_by_cmp_equiv}
-use Rattle.spec_lists.proofs.Tests.{nat_eq-same, nat_eq-self, nat_eq-sym, both_are}
-use Rattle.spec_rational.specs.Order.{cmp_ℚ}
-use Rattle.spec_rational.proofs.Order.{cmp_ℚ-equal, cmp_ℚ-total}
+use Rattle.spec_numbers.proofs.Tests.{nat_eq-same, nat_eq-self, nat_eq-sym, both_are}
+use Rattle.spec_numbers.specs.Order.{cmp_ℚ}
+use Rattle.spec_numbers.proofs.Order.{cmp_ℚ-equal, cmp_ℚ-total}
 use Rattle.cq_clauses.specs.declared.key.Key.{Key}
 use Rattle.cq_clauses.specs.declared.key.Key.TheVariants.{Number, Name, Compound}
 use Rattle.cq_clauses.specs.Keys.{same_key, writes_of}

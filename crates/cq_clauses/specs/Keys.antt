@@ -3,8 +3,8 @@ use Rattle.std.specs.Prelude.{◌+◌, ◌==◌, ◌&&◌, Bool, true, false, na
 use Rattle.std.specs.Ordering.{eq_by_cmp}
 use Rattle.std.specs.Hash as hashed
 use Rattle.std.specs.Hash.{HashWrites}
-use Rattle.spec_rational.specs.Rational.{denominator}
-use Rattle.spec_rational.specs.Order.{cmp_ℚ}
+use Rattle.spec_numbers.specs.Rational.{denominator}
+use Rattle.spec_numbers.specs.Order.{cmp_ℚ}
 use Rattle.cq_clauses.specs.declared.key.Key.{Key}
 use Rattle.cq_clauses.specs.declared.key.Key.TheVariants.{Number, Name, Compound}
 

@@ -1,13 +1,13 @@
 // The kinds of first arguments, by which clauses are looked up.
 
 ghost use Rattle.std.specs.Prelude.{◌≡◌, ◌+◌, Option, nat_abs};
-ghost use Rattle.spec_rational.specs.Rational.{denominator};
+ghost use Rattle.spec_numbers.specs.Rational.{denominator};
 ghost use Rattle.std.specs.Cmp.{partial_equiv_from_equiv};
 ghost use Rattle.cq_clauses.specs.Keys.{same_key, writes_of};
 ghost use Rattle.cq_clauses.specs.Alike.{same_key-equiv, writes_alike};
 
-use cq_atoms::Atom;
 use cq_frac::Frac;
+use cq_term::atoms::Atom;
 use std::hash::{Hash, Hasher};
 
 /// What a first argument is that is no variable, as far as a look-up tells: terms with keys that differ have no unifier.

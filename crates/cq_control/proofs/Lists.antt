@@ -3,7 +3,7 @@ use Rattle.std.proofs.Common.{◌≡◌, ℕ, zero, suc, ◌+◌, ◌-◌, ◌<�
 use Rattle.std.specs.Prelude.{slice_get}
 use Rattle.std.proofs.lemmas.List.{get_or_push}
 use Rattle.std.proofs.lemmas.Option.{same_Some, none-some}
-use Rattle.spec_lists.proofs.Places.{get_push}
+use Rattle.spec_numbers.proofs.Places.{get_push}
 use Rattle.cq_trail.specs.StackValue.{StackValue}
 use Rattle.cq_control.specs.Items.{items_at}
 use Rattle.cq_control.specs.Cells.{with_cell, lists_from, lists, AreEarlier, AreCells}

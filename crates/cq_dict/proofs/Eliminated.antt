@@ -1,10 +1,10 @@
 -- An exchange after which the row's quantity is dropped, written at once.
 use Rattle.std.proofs.Common.{◌≡◌, ℕ, ◌<◌, List, length, true, arith, refl, sym, subst, ◌∙◌, inl, inr}
-use Rattle.spec_rational.specs.Rational.{ℚ}
-use Rattle.cq_row.specs.Row.{Row}
-use Rattle.cq_row.specs.Rows.{everywhere, Lacks, except}
-use Rattle.cq_row.specs.Numbers.{IsOver, also}
-use Rattle.cq_row.proofs.Shifts.{over_anywhere, passes}
+use Rattle.spec_numbers.specs.Rational.{ℚ}
+use Rattle.cq_frac.specs.Row.{Row}
+use Rattle.cq_frac.specs.Rows.{everywhere, Lacks, except}
+use Rattle.cq_frac.specs.Numbers.{IsOver, also}
+use Rattle.cq_frac.proofs.Shifts.{over_anywhere, passes}
 use Rattle.cq_dict.specs.declared.columns.Turn.TheVariants.{Dropping}
 use Rattle.cq_dict.specs.declared.table.Change.{Change}
 use Rattle.cq_dict.specs.declared.table.Role.{Role}

@@ -1,11 +1,11 @@
 -- A role at the end of a table.
 use Rattle.std.proofs.Common.{◌≡◌, ◌↔◌, List, [], ◌∷◌, ◌++◌, length, ap, sym, subst, ◌∙◌, inl, inr}
-use Rattle.spec_rational.specs.Rational.{ℚ, ◌+ℚ◌}
-use Rattle.cq_row.specs.declared.Entry.{Entry}
-use Rattle.cq_row.specs.Row.{Row}
-use Rattle.cq_row.specs.Rows.{sum_at}
-use Rattle.cq_row.specs.Numbers.{right_side, IsOver}
-use Rattle.cq_row.proofs.Units.{row_weaker}
+use Rattle.spec_numbers.specs.Rational.{ℚ, ◌+ℚ◌}
+use Rattle.cq_frac.specs.declared.row.Entry.{Entry}
+use Rattle.cq_frac.specs.Row.{Row}
+use Rattle.cq_frac.specs.Rows.{sum_at}
+use Rattle.cq_frac.specs.Numbers.{right_side, IsOver}
+use Rattle.cq_frac.proofs.Units.{row_weaker}
 use Rattle.cq_dict.specs.declared.table.Role.{Role}
 use Rattle.cq_dict.specs.declared.table.Role.TheVariants.{Live, Basic}
 use Rattle.cq_dict.specs.Dict.{SameMeaning, DefinesLast}

@@ -1,21 +1,21 @@
 -- An exchange of a row and a column: the new roles, the assignments that meet them, and the pairs.
 use Rattle.std.proofs.Common.{◌≡◌, ℕ, ◌≤◌, List, [], ◌∷◌, length, Bool, true, arith, refl, ap, ap₂, sym, subst, ◌∙◌, pos, inl, inr}
-use Rattle.spec_rational.specs.Rational.{ℚ, 0ℚ, 1ℚ, inv_ℚ, ◌+ℚ◌, ◌-ℚ◌, ◌*ℚ◌, ◌/ℚ◌}
-use Rattle.spec_rational.proofs.Ring.{var, int, ◌⊕◌, ◌⊗◌, minus}
-use Rattle.spec_rational.proofs.Rational.{ring}
-use Rattle.spec_rational.proofs.Sign.{product_zero, inverse_not_zero}
+use Rattle.spec_numbers.specs.Rational.{ℚ, 0ℚ, 1ℚ, inv_ℚ, ◌+ℚ◌, ◌-ℚ◌, ◌*ℚ◌, ◌/ℚ◌}
+use Rattle.spec_numbers.proofs.Ring.{var, int, ◌⊕◌, ◌⊗◌, minus}
+use Rattle.spec_numbers.proofs.RationalLemmas.{ring}
+use Rattle.spec_numbers.proofs.Sign.{product_zero, inverse_not_zero}
 use Rattle.cq_frac.specs.declared.Operation.{Operation}
 use Rattle.cq_frac.specs.declared.Operation.TheVariants.{Difference, Product, Quotient}
 use Rattle.cq_frac.specs.declared.Pair.{Pair}
 use Rattle.cq_frac.specs.Refused.{Refuses, IsRefused, Tells}
-use Rattle.cq_row.specs.declared.Entry.{Entry}
-use Rattle.cq_row.specs.declared.Joining.TheVariants.{Less}
-use Rattle.cq_row.specs.Row.{Row}
-use Rattle.cq_row.specs.Rows.{sum_at, IsRowFrom, everywhere, Has, Lacks, over, unit, except}
-use Rattle.cq_row.specs.Numbers.{right_side, IsOver, Site, at_live, at_dropped, at_constant, IsNumber, constant_number, live_number, dropped_number, IsDivided, QuotientPair, quotient_pair, JoinPair, product_pair, joined_pair, ShiftPair, of_rows, of_rate, also, IsEntered}
-use Rattle.cq_row.proofs.Inverse.{times_inverse}
-use Rattle.cq_row.proofs.Shifts.{entry_not_zero, over_anywhere, passes}
-use Rattle.cq_row.proofs.Units.{row_weaker, row_over, sum_at-over, at_unit, except_below}
+use Rattle.cq_frac.specs.declared.row.Entry.{Entry}
+use Rattle.cq_frac.specs.declared.row.Joining.TheVariants.{Less}
+use Rattle.cq_frac.specs.Row.{Row}
+use Rattle.cq_frac.specs.Rows.{sum_at, IsRowFrom, everywhere, Has, Lacks, over, unit, except}
+use Rattle.cq_frac.specs.Numbers.{right_side, IsOver, Site, at_live, at_dropped, at_constant, IsNumber, constant_number, live_number, dropped_number, IsDivided, QuotientPair, quotient_pair, JoinPair, product_pair, joined_pair, ShiftPair, of_rows, of_rate, also, IsEntered}
+use Rattle.cq_frac.proofs.Inverse.{times_inverse}
+use Rattle.cq_frac.proofs.Shifts.{entry_not_zero, over_anywhere, passes}
+use Rattle.cq_frac.proofs.Units.{row_weaker, row_over, sum_at-over, at_unit, except_below}
 use Rattle.cq_dict.specs.declared.table.Change.{Change}
 use Rattle.cq_dict.specs.declared.table.Role.{Role}
 use Rattle.cq_dict.specs.declared.table.Role.TheVariants.{Live, Dropped, Basic}

@@ -1,14 +1,14 @@
 -- The columns of a table are free; and a value is expressed by one row alone.
 use Rattle.std.proofs.Common.{◌≡◌, ℕ, zero, suc, ◌+◌, ◌<◌, List, [], ◌∷◌, Bool, true, false, arith, refl, ap, ap₂, sym, subst, ◌∙◌, pos, ◌⊎◌, inl, inr}
-use Rattle.spec_rational.specs.Rational.{ℚ, 0ℚ, neg_ℚ, ◌+ℚ◌, ◌*ℚ◌}
-use Rattle.spec_rational.proofs.Ring.{var, int, ◌⊕◌, ◌⊗◌, minus}
-use Rattle.spec_rational.proofs.Rational.{ring}
-use Rattle.cq_row.specs.declared.Entry.{Entry}
-use Rattle.cq_row.specs.Row.{Row}
-use Rattle.cq_row.specs.Rows.{sum_at, IsRowFrom, unit}
-use Rattle.cq_row.specs.Numbers.{right_side, IsOver}
-use Rattle.cq_row.proofs.Shifts.{passes}
-use Rattle.cq_row.proofs.Units.{at_unit, unit_above, no_entry}
+use Rattle.spec_numbers.specs.Rational.{ℚ, 0ℚ, neg_ℚ, ◌+ℚ◌, ◌*ℚ◌}
+use Rattle.spec_numbers.proofs.Ring.{var, int, ◌⊕◌, ◌⊗◌, minus}
+use Rattle.spec_numbers.proofs.RationalLemmas.{ring}
+use Rattle.cq_frac.specs.declared.row.Entry.{Entry}
+use Rattle.cq_frac.specs.Row.{Row}
+use Rattle.cq_frac.specs.Rows.{sum_at, IsRowFrom, unit}
+use Rattle.cq_frac.specs.Numbers.{right_side, IsOver}
+use Rattle.cq_frac.proofs.Shifts.{passes}
+use Rattle.cq_frac.proofs.Units.{at_unit, unit_above, no_entry}
 use Rattle.cq_dict.specs.declared.table.Role.{Role}
 use Rattle.cq_dict.specs.declared.table.Role.TheVariants.{Live, Dropped, Basic}
 use Rattle.cq_dict.specs.Roles.{IsAt, is_live, is_dropped, AreOverColumns, Expresses, SameNumbers, AreFree}

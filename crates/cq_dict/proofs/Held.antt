@@ -5,10 +5,10 @@ use Rattle.std.proofs.lemmas.Option.{slice_get_within}
 use Rattle.std.proofs.lemmas.List.Elements.{Contains-append_left, Contains-append_right, Contains-push, Contains-push_cases, Contains-append_cases}
 use Rattle.std.specs.Prelude.{slice_get, take}
 use Rattle.std.specs.List.{Contains}
-use Rattle.spec_lists.proofs.Places.{get_push, get_kept, get_take}
-use Rattle.cq_row.specs.Row.{Row}
-use Rattle.cq_row.specs.Numbers.{IsOver}
-use Rattle.cq_row.proofs.Shifts.{passes}
+use Rattle.spec_numbers.proofs.Places.{get_push, get_kept, get_take}
+use Rattle.cq_frac.specs.Row.{Row}
+use Rattle.cq_frac.specs.Numbers.{IsOver}
+use Rattle.cq_frac.proofs.Shifts.{passes}
 use Rattle.cq_trail.specs.StackValue.{StackValue}
 use Rattle.cq_trail.specs.TrailValue.{TrailValue}
 use Rattle.cq_dict.specs.declared.holders.Cell.{Cell}

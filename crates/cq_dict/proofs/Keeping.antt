@@ -1,14 +1,14 @@
 -- Where a column is dropped or restored, a row holds no column that it did not hold.
 use Rattle.std.proofs.Common.{◌≡◌, ℕ, List, [], ◌∷◌, length, Bool, true, ◌⊎◌, inl, inr, pos, refl, ap, ap₂, sym, subst, ◌∙◌}
-use Rattle.spec_rational.specs.Rational.{ℚ, 0ℚ, ◌+ℚ◌, ◌-ℚ◌, ◌*ℚ◌}
-use Rattle.spec_rational.proofs.Ring.{var, int, ◌⊕◌, ◌⊗◌, minus}
-use Rattle.spec_rational.proofs.Rational.{ring}
-use Rattle.cq_row.specs.declared.Entry.{Entry}
-use Rattle.cq_row.specs.Row.{Row}
-use Rattle.cq_row.specs.Rows.{sum_at, IsRowFrom, everywhere, Has, Lacks, except, unit}
-use Rattle.cq_row.specs.Numbers.{right_side, IsOver, also, IsDropped, IsRestored}
-use Rattle.cq_row.proofs.Shifts.{over_anywhere, entry_not_zero, passes}
-use Rattle.cq_row.proofs.Units.{except_below, no_entry, at_unit, vanished}
+use Rattle.spec_numbers.specs.Rational.{ℚ, 0ℚ, ◌+ℚ◌, ◌-ℚ◌, ◌*ℚ◌}
+use Rattle.spec_numbers.proofs.Ring.{var, int, ◌⊕◌, ◌⊗◌, minus}
+use Rattle.spec_numbers.proofs.RationalLemmas.{ring}
+use Rattle.cq_frac.specs.declared.row.Entry.{Entry}
+use Rattle.cq_frac.specs.Row.{Row}
+use Rattle.cq_frac.specs.Rows.{sum_at, IsRowFrom, everywhere, Has, Lacks, except, unit}
+use Rattle.cq_frac.specs.Numbers.{right_side, IsOver, also, IsDropped, IsRestored}
+use Rattle.cq_frac.proofs.Shifts.{over_anywhere, entry_not_zero, passes}
+use Rattle.cq_frac.proofs.Units.{except_below, no_entry, at_unit, vanished}
 use Rattle.cq_dict.specs.declared.columns.Turn.{Turn}
 use Rattle.cq_dict.specs.declared.columns.Turn.TheVariants.{Dropping, Restoring}
 use Rattle.cq_dict.specs.declared.holders.Cell.{Cell}

@@ -2,7 +2,7 @@
 use Rattle.std.proofs.Common.{◌≡◌, ℕ, zero, suc, ◌<◌, ◌≤◌, List, [], ◌∷◌, ◌++◌, length, set, Some, arith, refl, ap, sym, subst, ◌∙◌, ◌⊎◌, inl, inr, length-append}
 use Rattle.std.proofs.lemmas.Option.{same_Some}
 use Rattle.std.specs.Prelude.{slice_get}
-use Rattle.spec_lists.proofs.Places.{get_push, get_kept}
+use Rattle.spec_numbers.proofs.Places.{get_push, get_kept}
 use Rattle.cq_trail.specs.StackValue.{StackValue}
 use Rattle.cq_trail.specs.TrailValue.{TrailValue}
 use Rattle.cq_dict.specs.declared.holders.Cell.{Cell}

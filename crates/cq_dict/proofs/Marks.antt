@@ -2,7 +2,7 @@
 use Rattle.std.proofs.Common.{◌≡◌, ℕ, zero, suc, ◌<◌, List, [], ◌∷◌, ◌++◌, length, Bool, Some, refl, ap, ap₂, take, arith, inl, inr, length-append, length-take}
 use Rattle.std.proofs.lemmas.Option.{none-some, same_Some, slice_get_within}
 use Rattle.std.specs.Prelude.{slice_get}
-use Rattle.spec_lists.proofs.Places.{get_push, get_take}
+use Rattle.spec_numbers.proofs.Places.{get_push, get_take}
 use Rattle.cq_dict.specs.declared.table.Role.{Role}
 use Rattle.cq_dict.specs.Roles.{AreQuantities}
 use Rattle.cq_dict.specs.DictValue.{saved_quantities, AreMarked}

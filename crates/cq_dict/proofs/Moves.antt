@@ -1,13 +1,13 @@
 -- Another row after an exchange.
 use Rattle.std.proofs.Common.{◌≡◌, ℕ, [], ◌∷◌, Bool, true, false, nat_eq, refl, ap, ap₂, sym, subst, ◌∙◌, pos, ◌⊎◌, inl, inr}
-use Rattle.spec_rational.specs.Rational.{ℚ, 0ℚ, 1ℚ, ◌+ℚ◌, ◌-ℚ◌, ◌*ℚ◌}
-use Rattle.spec_rational.proofs.Ring.{var, int, ◌⊕◌, ◌⊗◌, minus}
-use Rattle.spec_rational.proofs.Rational.{ring}
-use Rattle.cq_row.specs.Row.{Row}
-use Rattle.cq_row.specs.Rows.{sum_at, everywhere, Has, Lacks, choose, unit, except}
-use Rattle.cq_row.specs.Numbers.{right_side, IsOver, also, IsShifted}
-use Rattle.cq_row.proofs.Shifts.{also_self, also_more}
-use Rattle.cq_row.proofs.Units.{row_weaker, vanished, no_entry, at_unit, unit_other, except_below, except_true, same_number}
+use Rattle.spec_numbers.specs.Rational.{ℚ, 0ℚ, 1ℚ, ◌+ℚ◌, ◌-ℚ◌, ◌*ℚ◌}
+use Rattle.spec_numbers.proofs.Ring.{var, int, ◌⊕◌, ◌⊗◌, minus}
+use Rattle.spec_numbers.proofs.RationalLemmas.{ring}
+use Rattle.cq_frac.specs.Row.{Row}
+use Rattle.cq_frac.specs.Rows.{sum_at, everywhere, Has, Lacks, choose, unit, except}
+use Rattle.cq_frac.specs.Numbers.{right_side, IsOver, also, IsShifted}
+use Rattle.cq_frac.proofs.Shifts.{also_self, also_more}
+use Rattle.cq_frac.proofs.Units.{row_weaker, vanished, no_entry, at_unit, unit_other, except_below, except_true, same_number}
 use Rattle.cq_dict.specs.Changes.{IsMoved}
 
 pub also_cases : (l y : ℕ) (p : ℕ → Bool) → also l p y ≡ true → (y ≡ l) ⊎ (p y ≡ true)

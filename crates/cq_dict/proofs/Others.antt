@@ -1,9 +1,9 @@
 -- The roles that are not looked at stay: no row among them holds the column.
 use Rattle.std.proofs.Common.{◌≡◌, ℕ, List, length, refl, sym, subst, inl, inr}
 use Rattle.std.specs.List.{Contains}
-use Rattle.spec_rational.specs.Rational.{ℚ}
-use Rattle.cq_row.specs.Row.{Row}
-use Rattle.cq_row.specs.Rows.{Lacks}
+use Rattle.spec_numbers.specs.Rational.{ℚ}
+use Rattle.cq_frac.specs.Row.{Row}
+use Rattle.cq_frac.specs.Rows.{Lacks}
 use Rattle.cq_dict.specs.declared.columns.Turn.{Turn}
 use Rattle.cq_dict.specs.declared.columns.Turn.TheVariants.{Dropping, Restoring}
 use Rattle.cq_dict.specs.declared.table.Change.{Change}

@@ -1,26 +1,26 @@
 -- The row of a form, product by product.
 use Rattle.std.proofs.Common.{◌≡◌, ℕ, zero, suc, ◌+◌, ◌<◌, ◌≤◌, List, [], ◌∷◌, ◌++◌, length, take, drop, get_or, arith, refl, ap, ap₂, sym, subst, ◌∙◌, pos, inl, inr, take-append-drop, drop-cons, Result, Ok, Err, IfOk}
-use Rattle.spec_rational.specs.Rational.{ℚ, 0ℚ, 1ℚ, ◌+ℚ◌, ◌*ℚ◌}
-use Rattle.spec_rational.proofs.Ring.{var, int, ◌⊕◌, ◌⊗◌}
-use Rattle.spec_rational.proofs.Rational.{ring}
+use Rattle.spec_numbers.specs.Rational.{ℚ, 0ℚ, 1ℚ, ◌+ℚ◌, ◌*ℚ◌}
+use Rattle.spec_numbers.proofs.Ring.{var, int, ◌⊕◌, ◌⊗◌}
+use Rattle.spec_numbers.proofs.RationalLemmas.{ring}
 use Rattle.cq_frac.specs.declared.Operation.{Operation}
 use Rattle.cq_frac.specs.declared.Pair.{Pair}
 use Rattle.cq_frac.specs.Refused.{Refuses, IsRefused}
-use Rattle.cq_row.specs.declared.Entry.{Entry}
-use Rattle.cq_row.specs.declared.Joining.TheVariants.{Plus}
+use Rattle.cq_frac.specs.declared.row.Entry.{Entry}
+use Rattle.cq_frac.specs.declared.row.Joining.TheVariants.{Plus}
 use Rattle.cq_frac.specs.declared.Refusal.{Refusal}
 use Rattle.cq_frac.specs.declared.Refusal.TheVariants.{Overflow}
-use Rattle.cq_row.specs.Row.{Row}
-use Rattle.cq_row.specs.Rows.{sum_at, Has}
-use Rattle.cq_row.specs.Numbers.{IsJoined, Site, IsNumber, constant_number, live_number, dropped_number, JoinPair, product_pair, joined_pair}
+use Rattle.cq_frac.specs.Row.{Row}
+use Rattle.cq_frac.specs.Rows.{sum_at, Has}
+use Rattle.cq_frac.specs.Numbers.{IsJoined, Site, IsNumber, constant_number, live_number, dropped_number, JoinPair, product_pair, joined_pair}
 use Rattle.cq_dict.specs.declared.table.Role.{Role}
 use Rattle.cq_dict.specs.declared.table.Role.TheVariants.{Live, Dropped, Basic}
 use Rattle.cq_dict.specs.Roles.{IsAt, is_live, is_dropped, AreOverColumns, Expresses, SameNumbers, Adding, FormPair, form_product, form_sum}
 use Rattle.cq_dict.specs.Forms.{AddsProduct, RefusesProduct}
 use Rattle.cq_dict.proofs.Roles.{live_at, dropped_at}
 use Rattle.cq_dict.proofs.Free.{tri, same_numbers}
-use Rattle.spec_rational.proofs.Sign.{one_not_zero}
-use Rattle.spec_lists.proofs.Places.{take-next}
+use Rattle.spec_numbers.proofs.Sign.{one_not_zero}
+use Rattle.spec_numbers.proofs.Places.{take-next}
 
 -- ---- the row of a quantity
 module _ (roles : List Role) (q : ℕ) where

@@ -2,13 +2,13 @@
 use Rattle.std.proofs.Common.{◌≡◌, ◌↔◌, ℕ, zero, suc, ◌<◌, List, [], ◌∷◌, ◌++◌, length, get_or, Bool, Some, true, false, nat_eq, arith, refl, ap, sym, subst, ◌∙◌, ◌⊎◌, inl, inr}
 use Rattle.std.specs.Prelude.{slice_get}
 use Rattle.std.proofs.lemmas.Option.{none-some, same_Some}
-use Rattle.cq_row.specs.Row.{Row}
-use Rattle.cq_row.specs.Rows.{sum_at, unit}
-use Rattle.cq_row.proofs.Units.{same_number}
+use Rattle.cq_frac.specs.Row.{Row}
+use Rattle.cq_frac.specs.Rows.{sum_at, unit}
+use Rattle.cq_frac.proofs.Units.{same_number}
 use Rattle.cq_dict.specs.declared.table.Role.{Role}
 use Rattle.cq_dict.specs.declared.table.Role.TheVariants.{Live, Dropped, Basic}
 use Rattle.cq_dict.specs.Roles.{IsAt, IsRow, IsOfOneKind, is_live, is_dropped, is_row, is_restricted, live_role, dropped_role, row_role, role_at, constant_in, constant_at, factor_in, factor_at}
-use Rattle.spec_lists.proofs.Tests.{nat_eq-self}
+use Rattle.spec_numbers.proofs.Tests.{nat_eq-self}
 
 pub at_one : (l : List Role) (i : ℕ) (s t : Role) → IsAt l i s → IsAt l i t → s ≡ t
 at_one [] i s t h k = absurd h

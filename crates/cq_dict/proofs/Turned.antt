@@ -1,10 +1,10 @@
 -- A column that is dropped or restored: the new roles, and the assignments that meet them.
 use Rattle.std.proofs.Common.{◌≡◌, ℕ, List, [], ◌∷◌, ◌++◌, length, true, arith, refl, ap, sym, subst, ◌∙◌, ◌⊎◌, inl, inr}
-use Rattle.cq_row.specs.Row.{Row}
-use Rattle.cq_row.specs.Rows.{Lacks, except}
-use Rattle.cq_row.specs.Numbers.{IsOver, also, IsDropped, IsRestored}
-use Rattle.cq_row.proofs.Shifts.{also_more, passes}
-use Rattle.cq_row.proofs.Units.{row_weaker, vanished, no_entry, except_below}
+use Rattle.cq_frac.specs.Row.{Row}
+use Rattle.cq_frac.specs.Rows.{Lacks, except}
+use Rattle.cq_frac.specs.Numbers.{IsOver, also, IsDropped, IsRestored}
+use Rattle.cq_frac.proofs.Shifts.{also_more, passes}
+use Rattle.cq_frac.proofs.Units.{row_weaker, vanished, no_entry, except_below}
 use Rattle.cq_dict.specs.declared.columns.Turn.{Turn}
 use Rattle.cq_dict.specs.declared.columns.Turn.TheVariants.{Dropping, Restoring}
 use Rattle.cq_dict.specs.declared.table.Change.{Change}

@@ -1,12 +1,12 @@
 -- New roles for some quantities, and what each role becomes.
 use Rattle.std.specs.Prelude.{◌≡◌, ◌⊎◌, ◌↔◌, ℕ, ◌<◌, List, [], ◌∷◌, length, Bool}
-use Rattle.spec_rational.specs.Rational.{ℚ, 1ℚ, ◌+ℚ◌, ◌-ℚ◌, ◌*ℚ◌, ◌/ℚ◌}
+use Rattle.spec_numbers.specs.Rational.{ℚ, 1ℚ, ◌+ℚ◌, ◌-ℚ◌, ◌*ℚ◌, ◌/ℚ◌}
 use Rattle.cq_frac.specs.declared.Operation.{Operation}
 use Rattle.cq_frac.specs.declared.Pair.{Pair}
 use Rattle.cq_frac.specs.Refused.{Refuses, IsRefused}
-use Rattle.cq_row.specs.Row.{Row}
-use Rattle.cq_row.specs.Rows.{sum_at, Has, Lacks, unit, except}
-use Rattle.cq_row.specs.Numbers.{right_side, IsOver, also, ShiftPair, IsDivided, IsEntered, IsDropped, IsRestored}
+use Rattle.cq_frac.specs.Row.{Row}
+use Rattle.cq_frac.specs.Rows.{sum_at, Has, Lacks, unit, except}
+use Rattle.cq_frac.specs.Numbers.{right_side, IsOver, also, ShiftPair, IsDivided, IsEntered, IsDropped, IsRestored}
 use Rattle.cq_dict.specs.declared.table.Change.{Change}
 use Rattle.cq_dict.specs.declared.table.Role.{Role}
 use Rattle.cq_dict.specs.declared.table.Role.TheVariants.{Live, Dropped, Basic}

@@ -1,12 +1,12 @@
 -- What the calls of a dictionary say.
 use Rattle.std.specs.Prelude.{◌≡◌, ◌↔◌, ℕ, List, [], ◌∷◌, ◌++◌, length}
-use Rattle.spec_rational.specs.Rational.{ℚ, ◌+ℚ◌}
+use Rattle.spec_numbers.specs.Rational.{ℚ, ◌+ℚ◌}
 use Rattle.cq_frac.specs.declared.Operation.{Operation}
 use Rattle.cq_frac.specs.declared.Pair.{Pair}
 use Rattle.cq_frac.specs.Refused.{Refuses, IsRefused}
-use Rattle.cq_row.specs.declared.Entry.{Entry}
-use Rattle.cq_row.specs.Row.{Row}
-use Rattle.cq_row.specs.Rows.{sum_at}
+use Rattle.cq_frac.specs.declared.row.Entry.{Entry}
+use Rattle.cq_frac.specs.Row.{Row}
+use Rattle.cq_frac.specs.Rows.{sum_at}
 use Rattle.cq_dict.specs.declared.table.Role.{Role}
 use Rattle.cq_dict.specs.declared.table.Role.TheVariants.{Basic}
 use Rattle.cq_dict.specs.Roles.{IsMet, Expresses, PivotPair, FormPair}

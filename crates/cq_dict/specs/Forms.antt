@@ -1,13 +1,13 @@
 -- One product of a form, added to what came before.
 use Rattle.std.specs.Prelude.{List}
-use Rattle.spec_rational.specs.Rational.{ℚ}
+use Rattle.spec_numbers.specs.Rational.{ℚ}
 use Rattle.cq_frac.specs.declared.Operation.{Operation}
 use Rattle.cq_frac.specs.declared.Pair.{Pair}
 use Rattle.cq_frac.specs.Refused.{Refuses, IsRefused}
-use Rattle.cq_row.specs.declared.Entry.{Entry}
-use Rattle.cq_row.specs.declared.Joining.TheVariants.{Plus}
-use Rattle.cq_row.specs.Row.{Row}
-use Rattle.cq_row.specs.Numbers.{IsJoined, JoinPair}
+use Rattle.cq_frac.specs.declared.row.Entry.{Entry}
+use Rattle.cq_frac.specs.declared.row.Joining.TheVariants.{Plus}
+use Rattle.cq_frac.specs.Row.{Row}
+use Rattle.cq_frac.specs.Numbers.{IsJoined, JoinPair}
 use Rattle.cq_dict.specs.declared.table.Role.{Role}
 use Rattle.cq_dict.specs.Roles.{Expresses}
 

@@ -4,9 +4,9 @@ use Rattle.std.specs.List.{Contains}
 use Rattle.std.specs.List.Sorted.{IsStrictlyIncreasing}
 use Rattle.cq_trail.specs.StackValue.{StackValue}
 use Rattle.cq_trail.specs.TrailValue.{TrailValue}
-use Rattle.cq_row.specs.declared.Entry.{Entry}
-use Rattle.cq_row.specs.Row.{Row}
-use Rattle.cq_row.specs.Rows.{Has}
+use Rattle.cq_frac.specs.declared.row.Entry.{Entry}
+use Rattle.cq_frac.specs.Row.{Row}
+use Rattle.cq_frac.specs.Rows.{Has}
 use Rattle.cq_dict.specs.declared.holders.Cell.{Cell}
 use Rattle.cq_dict.specs.declared.table.Change.{Change}
 use Rattle.cq_dict.specs.declared.table.Role.{Role}

@@ -1,12 +1,12 @@
 -- The quantities of a dictionary by their numbers: what is at each, a live or a dropped column, or a row over columns.
 use Rattle.std.specs.Prelude.{◌≡◌, ℕ, zero, suc, List, [], ◌∷◌, ◌++◌, length, Bool, true, false}
-use Rattle.spec_rational.specs.Rational.{ℚ, 0ℚ, 1ℚ, ◌+ℚ◌, ◌*ℚ◌, ◌/ℚ◌}
+use Rattle.spec_numbers.specs.Rational.{ℚ, 0ℚ, 1ℚ, ◌+ℚ◌, ◌*ℚ◌, ◌/ℚ◌}
 use Rattle.cq_frac.specs.declared.Operation.{Operation}
 use Rattle.cq_frac.specs.declared.Operation.TheVariants.{Sum, Difference, Product, Quotient}
-use Rattle.cq_row.specs.declared.Entry.{Entry}
-use Rattle.cq_row.specs.Row.{Row}
-use Rattle.cq_row.specs.Rows.{sum_at, unit, Has}
-use Rattle.cq_row.specs.Numbers.{right_side, IsOver, Site, IsNumber}
+use Rattle.cq_frac.specs.declared.row.Entry.{Entry}
+use Rattle.cq_frac.specs.Row.{Row}
+use Rattle.cq_frac.specs.Rows.{sum_at, unit, Has}
+use Rattle.cq_frac.specs.Numbers.{right_side, IsOver, Site, IsNumber}
 use Rattle.cq_dict.specs.declared.table.Role.{Role}
 use Rattle.cq_dict.specs.declared.table.Role.TheVariants.{Live, Dropped, Basic}
 

@@ -1,9 +1,9 @@
 //! The new roles where a column is dropped or restored: its own, and those of the rows with an entry there.
 
 ghost use Rattle.std.specs.Prelude.{◌≡◌, ◌<◌, ℕ, List, length, true, unwrap_or, IfOk};
-ghost use Rattle.cq_row.specs.Row.{Row};
-ghost use Rattle.cq_row.specs.Rows.{everywhere, Lacks};
-ghost use Rattle.cq_row.specs.Numbers.{IsOver, IsDropped, IsRestored};
+ghost use Rattle.cq_frac.specs.Row.{Row};
+ghost use Rattle.cq_frac.specs.Rows.{everywhere, Lacks};
+ghost use Rattle.cq_frac.specs.Numbers.{IsOver, IsDropped, IsRestored};
 ghost use Rattle.cq_dict.specs.declared.table.Change.{Change};
 ghost use Rattle.cq_dict.specs.declared.table.Role.{Role};
 ghost use Rattle.cq_dict.specs.declared.table.Role.TheVariants.{Basic};
@@ -12,8 +12,8 @@ ghost use Rattle.cq_dict.specs.Roles.{AreOverColumns};
 ghost use Rattle.cq_dict.specs.Changes.{Changes, IsWritten, had, kind_of, IsTurnedRow, LacksOther, Turned, AreTurned, Turns};
 
 use crate::table::{Change, Role};
-use cq_row::entry_at;
-use cq_row::rows::Row;
+use cq_frac::row::entry_at;
+use cq_frac::row::rows::Row;
 use std::alloc::{AllocError, Global};
 
 /// Which way a column goes.

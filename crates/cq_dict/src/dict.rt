@@ -1,12 +1,12 @@
 //! The dictionary: the quantities by their numbers, and the calls that make and change them.
 
 ghost use Rattle.std.specs.Prelude.{◌≡◌, ◌<◌, ◌≤◌, ◌⊎◌, ◌↔◌, ℕ, List, [], ◌∷◌, ◌++◌, length, true, slice_set, IfOk, OnOk, OnErr, MatchBool};
-ghost use Rattle.spec_rational.specs.Rational.{ℚ};
+ghost use Rattle.spec_numbers.specs.Rational.{ℚ};
 ghost use Rattle.cq_frac.specs.declared.Pair.{Pair};
-ghost use Rattle.cq_row.specs.declared.Entry.{Entry};
-ghost use Rattle.cq_row.specs.Row.{Row};
-ghost use Rattle.cq_row.specs.Numbers.{IsOver};
-ghost use Rattle.cq_row.specs.Rows.{Has, IsRowFrom};
+ghost use Rattle.cq_frac.specs.declared.row.Entry.{Entry};
+ghost use Rattle.cq_frac.specs.Row.{Row};
+ghost use Rattle.cq_frac.specs.Numbers.{IsOver};
+ghost use Rattle.cq_frac.specs.Rows.{Has, IsRowFrom};
 ghost use Rattle.cq_dict.specs.declared.table.Change.{Change};
 ghost use Rattle.cq_dict.specs.declared.table.Role.{Role};
 ghost use Rattle.cq_dict.specs.declared.table.Role.TheVariants.{Live, Dropped, Basic};
@@ -20,9 +20,9 @@ use crate::exchange::{eliminate, exchange};
 use crate::form::expressed;
 use crate::holders::{Cell, Lists, hold_changes, hold_new, listed};
 use crate::table::{Change, Role, write};
+use cq_frac::row::Entry;
+use cq_frac::row::rows::Row;
 use cq_frac::{Frac, Refusal};
-use cq_row::Entry;
-use cq_row::rows::Row;
 use cq_trail::{Mark, Stack, Trail, Undo};
 use std::alloc::{AllocError, Global};
 use std::marker::Model;

@@ -2,11 +2,11 @@
 //! the row's quantity is dropped at once.
 
 ghost use Rattle.std.specs.Prelude.{◌≡◌, ◌≢◌, ◌<◌, ℕ, List, length, unwrap_or, IfOk, OnOk};
-ghost use Rattle.spec_rational.specs.Rational.{ℚ, 0ℚ, 1ℚ};
+ghost use Rattle.spec_numbers.specs.Rational.{ℚ, 0ℚ, 1ℚ};
 ghost use Rattle.cq_frac.specs.declared.Pair.{Pair};
-ghost use Rattle.cq_row.specs.Row.{Row};
-ghost use Rattle.cq_row.specs.Rows.{everywhere, sum_at, unit, Lacks};
-ghost use Rattle.cq_row.specs.Numbers.{IsOver};
+ghost use Rattle.cq_frac.specs.Row.{Row};
+ghost use Rattle.cq_frac.specs.Rows.{everywhere, sum_at, unit, Lacks};
+ghost use Rattle.cq_frac.specs.Numbers.{IsOver};
 ghost use Rattle.cq_dict.specs.declared.table.Change.{Change};
 ghost use Rattle.cq_dict.specs.declared.table.Role.{Role};
 ghost use Rattle.cq_dict.specs.declared.table.Role.TheVariants.{Basic};
@@ -17,9 +17,9 @@ ghost use Rattle.cq_dict.specs.Dict.{RefusesPivot, NoPivotPair};
 
 use crate::columns::Turn;
 use crate::table::{Change, Role};
+use cq_frac::row::entry_at;
+use cq_frac::row::rows::Row;
 use cq_frac::{Frac, Refusal, quotient};
-use cq_row::entry_at;
-use cq_row::rows::Row;
 use std::alloc::Global;
 
 /// What another row becomes; None where it has no entry in the column, and stays.

@@ -1,19 +1,19 @@
 //! A form over quantities as a row over columns.
 
 ghost use Rattle.std.specs.Prelude.{◌≡◌, ◌≢◌, ◌<◌, ℕ, length, IfOk, OnOk};
-ghost use Rattle.spec_rational.specs.Rational.{ℚ, 0ℚ, ◌+ℚ◌};
+ghost use Rattle.spec_numbers.specs.Rational.{ℚ, 0ℚ, ◌+ℚ◌};
 ghost use Rattle.cq_frac.specs.declared.Pair.{Pair};
-ghost use Rattle.cq_row.specs.declared.Entry.{Entry};
-ghost use Rattle.cq_row.specs.Rows.{everywhere, sum_at, Has};
-ghost use Rattle.cq_row.specs.Numbers.{IsOver};
+ghost use Rattle.cq_frac.specs.declared.row.Entry.{Entry};
+ghost use Rattle.cq_frac.specs.Rows.{everywhere, sum_at, Has};
+ghost use Rattle.cq_frac.specs.Numbers.{IsOver};
 ghost use Rattle.cq_dict.specs.Roles.{AreOverColumns, Expresses};
 ghost use Rattle.cq_dict.specs.Dict.{RefusesForm, NoFormPair};
 ghost use Rattle.cq_dict.specs.Forms.{AddsProduct, RefusesProduct};
 
 use crate::table::Role;
+use cq_frac::row::rows::Row;
+use cq_frac::row::{Entry, Joining};
 use cq_frac::{Frac, Refusal};
-use cq_row::rows::Row;
-use cq_row::{Entry, Joining};
 use std::alloc::Global;
 
 /// The row and one product more: its factor times the row of its quantity, which for a column is the column itself.

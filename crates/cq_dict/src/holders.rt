@@ -5,10 +5,10 @@ ghost use Rattle.std.specs.Prelude.{◌≡◌, ◌<◌, ℕ, length, slice_get, 
 ghost use Rattle.std.specs.Bool.{OnTrue};
 ghost use Rattle.std.specs.List.{Contains};
 ghost use Rattle.std.specs.List.Sorted.{IsStrictlyIncreasing};
-ghost use Rattle.cq_row.specs.declared.Entry.{Entry};
-ghost use Rattle.cq_row.specs.Row.{Row};
-ghost use Rattle.cq_row.specs.Rows.{everywhere, Has};
-ghost use Rattle.cq_row.specs.Numbers.{IsOver};
+ghost use Rattle.cq_frac.specs.declared.row.Entry.{Entry};
+ghost use Rattle.cq_frac.specs.Row.{Row};
+ghost use Rattle.cq_frac.specs.Rows.{everywhere, Has};
+ghost use Rattle.cq_frac.specs.Numbers.{IsOver};
 ghost use Rattle.cq_dict.specs.declared.table.Change.{Change};
 ghost use Rattle.cq_dict.specs.declared.table.Role.TheVariants.{Basic};
 ghost use Rattle.cq_dict.specs.Changes.{Changes};
@@ -16,8 +16,8 @@ ghost use Rattle.cq_dict.specs.Holders.{Holds, IsOn, IsListed, AreLists, Grows, 
 ghost use Rattle.cq_dict.specs.Roles.{AreOverColumns};
 
 use crate::table::{Change, Role};
-use cq_row::Entry;
-use cq_row::rows::Row;
+use cq_frac::row::Entry;
+use cq_frac::row::rows::Row;
 use cq_trail::{Stack, Trail};
 use std::alloc::{AllocError, Global};
 

@@ -4,7 +4,7 @@ ghost use Rattle.std.specs.Prelude.{◌≡◌, ◌<◌, ◌≤◌, length, OnOk,
 ghost use Rattle.cq_dict.specs.declared.table.Change.{Change};
 ghost use Rattle.cq_dict.specs.Changes.{Changes, IsWritten};
 
-use cq_row::rows::Row;
+use cq_frac::row::rows::Row;
 use cq_trail::Trail;
 use std::alloc::AllocError;
 

@@ -2,25 +2,25 @@
 use Rattle.std.proofs.Common.{◌≡◌, ℕ, ◌<◌, ◌≤◌, ◌+◌, ◌-◌, length, map, drop, arith, List, [], ◌∷◌, true, Option, None, Some, refl, sym, ap, ◌∙◌, subst}
 use Rattle.std.specs.Prelude.{reverse}
 use Rattle.std.specs.List.{zip}
-use Rattle.spec_lists.proofs.Prefixes.{prefix_both, prefix_same}
-use Rattle.spec_lists.specs.Texts.{Text}
+use Rattle.spec_numbers.proofs.Prefixes.{prefix_both, prefix_same}
+use Rattle.spec_numbers.specs.Texts.{Text}
 use Rattle.spec_search.specs.Database.{Database}
 use Rattle.spec_search.specs.Search.{Search, look_at, is_selecting}
 use Rattle.spec_search.specs.Turns.{with_branches}
-use Rattle.spec_stops.specs.Causes.{Budgets, Resolutions}
+use Rattle.spec_transcript.specs.Causes.{Budgets, Resolutions}
 use Rattle.cq_control.specs.Items.{items_at}
 use Rattle.cq_control.specs.Open.{last}
-use Rattle.cq_gather.specs.Gathering.{IsMark}
-use Rattle.cq_steps.specs.Marks.{IsFront}
-use Rattle.cq_steps.specs.Worlds.{IsBranch, term_in, left_at}
-use Rattle.cq_steps.proofs.Selected.{goal_selected, call_selected}
-use Rattle.cq_world.specs.Contents.{Contents}
-use Rattle.spec_machine.specs.declared.cell.Cell.{Cell}
-use Rattle.spec_machine.specs.declared.cell.Cell.TheVariants.{Goal, Call, CutTo, CutFail, CatchEnd, Collect}
-use Rattle.spec_machine.specs.Cells.{Value, Stack, size}
-use Rattle.spec_machine.specs.Coming.{Quietly, Tells, Stops}
-use Rattle.spec_machine.specs.Coming as coming
-use Rattle.spec_machine.specs.Standing.{engine, AreWaiting, IsStanding}
+use Rattle.cq_catch.specs.Gathering.{IsMark}
+use Rattle.cq_branch.specs.Marks.{IsFront}
+use Rattle.cq_branch.specs.Worlds.{IsBranch, term_in, left_at}
+use Rattle.cq_branch.proofs.Selected.{goal_selected, call_selected}
+use Rattle.cq_settle.specs.Contents.{Contents}
+use Rattle.spec_engine.specs.declared.machine.cell.Cell.{Cell}
+use Rattle.spec_engine.specs.declared.machine.cell.Cell.TheVariants.{Goal, Call, CutTo, CutFail, CatchEnd, Collect}
+use Rattle.spec_engine.specs.Cells.{Value, Stack, size}
+use Rattle.spec_engine.specs.Coming.{Quietly, Tells, Stops}
+use Rattle.spec_engine.specs.Coming as coming
+use Rattle.spec_engine.specs.Standing.{engine, AreWaiting, IsStanding}
 use Rattle.cq_machine.specs.declared.machine.Machine.{Machine}
 use Rattle.cq_machine.specs.Machines.{IsSound, database_of, holds, now, saved, terms}
 use Rattle.cq_term.specs.Trees.{KnowsTerms}
@@ -29,7 +29,7 @@ use Rattle.cq_engine.specs.declared.front.Front.TheVariants.{Ahead, Answer, Fail
 use Rattle.cq_engine.specs.Fronts.{Answers, Ends, Halts, IsFrontOf, IsGoal, ComesNext, left_on}
 use Rattle.cq_engine.specs.declared.front.Next.{Next}
 use Rattle.cq_engine.specs.declared.front.Next.TheVariants.{Told, Mark}
-use Rattle.cq_find.proofs.Counted.{in_hand, quiet_count, standing_count}
+use Rattle.cq_catch.proofs.Counted.{in_hand, quiet_count, standing_count}
 use Rattle.cq_control.specs.Heights.{total}
 use Rattle.cq_engine.specs.Seeking.{IsKept, GainsNames, KeepsNames, StandsFor, ComesTo, IsGoing, GoesTo}
 use Rattle.cq_engine.proofs.Told.{quietly_then, told_then, ends_told, answer_told, comes_back}

@@ -2,14 +2,14 @@
 use Rattle.std.proofs.Common.{◌≡◌, ◌<◌, ℕ, List, None, Some, sym, subst, arith}
 use Rattle.std.specs.Prelude.{Ok, Err, OnOk, OnErr}
 use Rattle.std.specs.declared.result.Result.{Result}
-use Rattle.spec_lists.specs.Texts.{Text}
+use Rattle.spec_numbers.specs.Texts.{Text}
 use Rattle.spec_search.specs.Database.{Database}
 use Rattle.spec_search.specs.Search.{Search}
 use Rattle.cq_control.specs.Heights.{total}
-use Rattle.cq_program.specs.Database.{Program}
-use Rattle.spec_machine.specs.Cells.{size}
-use Rattle.cq_steps.specs.declared.alternatives.Alternatives.{Alternatives}
-use Rattle.cq_steps.specs.Worlds.{stack, Stands, Arrives}
+use Rattle.cq_resolve.specs.Database.{Program}
+use Rattle.spec_engine.specs.Cells.{size}
+use Rattle.cq_branch.specs.declared.alternatives.Alternatives.{Alternatives}
+use Rattle.cq_branch.specs.Worlds.{stack, Stands, Arrives}
 use Rattle.cq_machine.specs.declared.machine.Machine.{Machine}
 use Rattle.cq_machine.specs.Machines.{database_of, now, saved}
 use Rattle.cq_engine.specs.Fronts.{left_on}

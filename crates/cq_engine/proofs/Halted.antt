@@ -3,16 +3,16 @@ use Rattle.std.proofs.Common.{inl, inr, ◌≡◌, ℕ, [], None, refl, sym, ap,
 use Rattle.std.specs.Prelude.{⊤}
 use Rattle.spec_search.specs.Search.{Search, look_at, is_selecting}
 use Rattle.spec_search.specs.Turns.{Turn, Event, keeps, prunes, hands_on, escapes, moves, collects, steps, catches, throws, answers, ends, with_branches}
-use Rattle.spec_stops.specs.Causes.{Budgets, Cause, Resolutions, Pivots, Overflow, Projection}
-use Rattle.spec_stops.specs.Due as due
-use Rattle.spec_stops.specs.Due.{Due}
-use Rattle.cq_find.specs.Matching.{ComesToStop}
-use Rattle.spec_machine.specs.Cells.{Stack}
-use Rattle.spec_machine.specs.Coming as coming
-use Rattle.spec_machine.specs.Coming.{MayGo, Quietly, at_once, after, StopsFor, runs_out, overflows, Tells, Stops}
-use Rattle.spec_machine.specs.Standing.{AreWaiting}
-use Rattle.cq_steps.specs.Worlds.{IsBranch, term_in}
-use Rattle.cq_world.specs.Contents.{Contents}
+use Rattle.spec_transcript.specs.Causes.{Budgets, Cause, Resolutions, Pivots, Overflow, Projection}
+use Rattle.spec_transcript.specs.Due as due
+use Rattle.spec_transcript.specs.Due.{Due}
+use Rattle.cq_catch.specs.Matching.{ComesToStop}
+use Rattle.spec_engine.specs.Cells.{Stack}
+use Rattle.spec_engine.specs.Coming as coming
+use Rattle.spec_engine.specs.Coming.{MayGo, Quietly, at_once, after, StopsFor, runs_out, overflows, Tells, Stops}
+use Rattle.spec_engine.specs.Standing.{AreWaiting}
+use Rattle.cq_branch.specs.Worlds.{IsBranch, term_in}
+use Rattle.cq_settle.specs.Contents.{Contents}
 use Rattle.cq_machine.specs.declared.machine.Machine.{Machine}
 use Rattle.cq_machine.specs.Machines.{database_of, holds}
 use Rattle.cq_engine.specs.Fronts.{Halts}

@@ -2,20 +2,20 @@
 use Rattle.std.proofs.Common.{◌≡◌, ℕ, Option, None, Some, sym, subst}
 use Rattle.std.specs.Prelude.{Ok, Err, IfOk, IfErr, OnErr}
 use Rattle.std.specs.declared.result.Result.{Result}
-use Rattle.spec_operators.specs.Operators.{Ops}
+use Rattle.spec_syntax.specs.Operators.{Ops}
 use Rattle.spec_search.specs.Database.{Database}
-use Rattle.cq_linear.specs.declared.store.StoreFault.{StoreFault}
-use Rattle.cq_find.specs.Matching as over
-use Rattle.cq_find.specs.Matching.{FaultStops}
-use Rattle.cq_find.specs.Finding.{FoundIs}
-use Rattle.cq_find.specs.declared.finding.Found.{Found}
-use Rattle.cq_find.specs.declared.finding.Found.TheVariants as found
-use Rattle.cq_program.specs.Database.{as_database}
-use Rattle.cq_find.specs.Taking.{Escapes}
-use Rattle.cq_steps.specs.Worlds.{IsBranch, term_in}
+use Rattle.cq_store.specs.declared.store.StoreFault.{StoreFault}
+use Rattle.cq_catch.specs.Matching as over
+use Rattle.cq_catch.specs.Matching.{FaultStops}
+use Rattle.cq_catch.specs.Finding.{FoundIs}
+use Rattle.cq_catch.specs.declared.find.Found.{Found}
+use Rattle.cq_catch.specs.declared.find.Found.TheVariants as found
+use Rattle.cq_resolve.specs.Database.{as_database}
+use Rattle.cq_catch.specs.Taking.{Escapes}
+use Rattle.cq_branch.specs.Worlds.{IsBranch, term_in}
 use Rattle.cq_write.specs.Meaning.{operators}
-use Rattle.spec_machine.specs.Coming.{Comes}
-use Rattle.spec_machine.specs.Standing.{engine}
+use Rattle.spec_engine.specs.Coming.{Comes}
+use Rattle.spec_engine.specs.Standing.{engine}
 use Rattle.cq_machine.specs.declared.machine.Machine.{Machine}
 use Rattle.cq_machine.specs.Machines.{holds, now}
 use Rattle.cq_engine.specs.Seeking.{IsKept, IsGoing, GoesTo, AllStop, FindsOn, held_on}

@@ -7,11 +7,11 @@ use Rattle.spec_search.specs.Database.{Database}
 use Rattle.spec_search.specs.Search.{Search, settled, look_at, is_selecting, Answering, Over}
 use Rattle.spec_search.specs.Turns as turn
 use Rattle.spec_search.specs.Turns.{Turn, Event, Wrote, Answered, Threw, Ended, with_branches}
-use Rattle.spec_stops.specs.Causes.{Budgets}
-use Rattle.spec_machine.specs.Cells.{Value, Stack}
-use Rattle.spec_machine.specs.Coming.{MayGo, Quietly, at_once, after, Told, Tells, Shows, shows}
-use Rattle.spec_machine.specs.Coming as coming
-use Rattle.spec_machine.specs.Standing.{engine, IsStanding, AreItems}
+use Rattle.spec_transcript.specs.Causes.{Budgets}
+use Rattle.spec_engine.specs.Cells.{Value, Stack}
+use Rattle.spec_engine.specs.Coming.{MayGo, Quietly, at_once, after, Told, Tells, Shows, shows}
+use Rattle.spec_engine.specs.Coming as coming
+use Rattle.spec_engine.specs.Standing.{engine, IsStanding, AreItems}
 use Rattle.cq_control.specs.Items.{items_at}
 
 -- ---- behind quiet turns

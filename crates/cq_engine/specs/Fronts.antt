@@ -3,17 +3,17 @@ use Rattle.std.specs.Prelude.{◌≡◌, ◌<◌, ℕ, suc, [], ◌∷◌, lengt
 use Rattle.spec_branch.specs.Branch.{State}
 use Rattle.spec_search.specs.Search.{Search}
 use Rattle.spec_search.specs.Turns.{Answered, Ended, with_branches}
-use Rattle.spec_stops.specs.Causes.{Budgets}
-use Rattle.spec_stops.specs.Causes as why
+use Rattle.spec_transcript.specs.Causes.{Budgets}
+use Rattle.spec_transcript.specs.Causes as why
 use Rattle.cq_control.specs.Items.{items_at}
 use Rattle.cq_control.specs.Heights.{total}
-use Rattle.cq_gather.specs.Gathering.{IsMark}
-use Rattle.cq_steps.specs.Stored.{IsCountedTerm}
-use Rattle.cq_steps.specs.Worlds.{IsBranch}
-use Rattle.spec_machine.specs.declared.cell.Cell.{Cell}
-use Rattle.spec_machine.specs.declared.cell.Cell.TheVariants.{Goal, Call, CutTo, CutFail, CatchEnd, Collect}
-use Rattle.spec_machine.specs.Cells.{size}
-use Rattle.spec_machine.specs.Coming.{Quietly, Tells, Shows, Stops}
+use Rattle.cq_catch.specs.Gathering.{IsMark}
+use Rattle.cq_branch.specs.Stored.{IsCountedTerm}
+use Rattle.cq_branch.specs.Worlds.{IsBranch}
+use Rattle.spec_engine.specs.declared.machine.cell.Cell.{Cell}
+use Rattle.spec_engine.specs.declared.machine.cell.Cell.TheVariants.{Goal, Call, CutTo, CutFail, CatchEnd, Collect}
+use Rattle.spec_engine.specs.Cells.{size}
+use Rattle.spec_engine.specs.Coming.{Quietly, Tells, Shows, Stops}
 use Rattle.cq_machine.specs.declared.machine.Machine.{Machine}
 use Rattle.cq_machine.specs.Machines.{IsSound, database_of, holds, now}
 use Rattle.cq_engine.specs.declared.front.Cause.{Cause}

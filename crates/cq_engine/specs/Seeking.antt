@@ -1,26 +1,26 @@
 -- A machine as an engine that stands for searches.
 use Rattle.std.specs.Prelude.{◌≡◌, ℕ, [], length, Option, None, Some}
-use Rattle.spec_lists.specs.Prefixes.{IsPrefix}
+use Rattle.spec_numbers.specs.Prefixes.{IsPrefix}
 use Rattle.spec_search.specs.Search.{Search}
-use Rattle.spec_stops.specs.Causes.{Budgets}
-use Rattle.cq_atoms.specs.Texts.{AreDifferent}
+use Rattle.spec_transcript.specs.Causes.{Budgets}
+use Rattle.cq_term.specs.Texts.{AreDifferent}
 use Rattle.cq_control.specs.Items.{items_at}
 use Rattle.cq_control.specs.Open.{AreMarked}
-use Rattle.cq_linear.specs.declared.store.StoreFault.{StoreFault}
+use Rattle.cq_store.specs.declared.store.StoreFault.{StoreFault}
 use Rattle.cq_ops.specs.Tables.{AreNamed}
-use Rattle.cq_program.specs.Database.{IsProgram}
-use Rattle.cq_stored.specs.StoredValue.{StoredValue}
-use Rattle.spec_machine.specs.Coming.{Comes}
-use Rattle.spec_machine.specs.Standing.{engine, IsStanding}
-use Rattle.cq_steps.specs.Choices.{AreOpen}
-use Rattle.cq_steps.specs.Marks.{IsFront}
-use Rattle.cq_steps.specs.Stored.{IsCountedTerm}
-use Rattle.cq_steps.specs.Worlds.{IsBranch, term_in}
-use Rattle.cq_find.specs.Held.{Held, held}
-use Rattle.cq_find.specs.Taking.{Escapes}
-use Rattle.cq_find.specs.Matching.{FaultStops}
-use Rattle.cq_find.specs.declared.finding.Found.{Found}
-use Rattle.cq_find.specs.declared.finding.Found.TheVariants.{Front, Escaped, Over}
+use Rattle.cq_resolve.specs.Database.{IsProgram}
+use Rattle.cq_resolve.specs.StoredValue.{StoredValue}
+use Rattle.spec_engine.specs.Coming.{Comes}
+use Rattle.spec_engine.specs.Standing.{engine, IsStanding}
+use Rattle.cq_branch.specs.Choices.{AreOpen}
+use Rattle.cq_branch.specs.Marks.{IsFront}
+use Rattle.cq_branch.specs.Stored.{IsCountedTerm}
+use Rattle.cq_branch.specs.Worlds.{IsBranch, term_in}
+use Rattle.cq_choices.specs.Held.{Held, held}
+use Rattle.cq_catch.specs.Taking.{Escapes}
+use Rattle.cq_catch.specs.Matching.{FaultStops}
+use Rattle.cq_catch.specs.declared.find.Found.{Found}
+use Rattle.cq_catch.specs.declared.find.Found.TheVariants.{Front, Escaped, Over}
 use Rattle.cq_machine.specs.declared.machine.Machine.{Machine}
 use Rattle.cq_machine.specs.Machines.{AreNames, IsSound, database_of, holds, now, saved}
 

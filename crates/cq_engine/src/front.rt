@@ -1,25 +1,25 @@
 // What an engine comes to before a goal is selected.
 
 ghost use Rattle.std.specs.Prelude.{◌≡◌, ◌<◌, ◌≤◌, ◌∷◌, [], List, length, true, false, Some, None, IfOk, OnOk, OnErr};
-ghost use Rattle.spec_machine.specs.declared.cell.Cell.{Cell};
+ghost use Rattle.spec_engine.specs.declared.machine.cell.Cell.{Cell};
 ghost use Rattle.spec_search.specs.Search.{Search};
-ghost use Rattle.spec_stops.specs.Causes.{Budgets};
+ghost use Rattle.spec_transcript.specs.Causes.{Budgets};
 ghost use Rattle.cq_control.specs.Items.{items_at};
-ghost use Rattle.cq_gather.specs.Gathering.{IsMark};
+ghost use Rattle.cq_catch.specs.Gathering.{IsMark};
 ghost use Rattle.cq_machine.specs.Machines.{IsSound, holds, now};
-ghost use Rattle.cq_steps.specs.Marks.{IsFront};
+ghost use Rattle.cq_branch.specs.Marks.{IsFront};
 ghost use Rattle.cq_engine.specs.Fronts.{ComesNext, IsAhead, IsFrontOf, IsGoal, left_on};
 ghost use Rattle.cq_engine.specs.Seeking.{IsKept, IsGoing, GoesTo, StandsFor, GainsNames, KeepsNames};
 
 use crate::seeking::seek;
+use cq_catch::find::Found;
+use cq_catch::gather::collect;
 use cq_control::Continuation;
-use cq_find::Found;
 use cq_frac::Pair;
-use cq_gather::collect;
-use cq_linear::store::StoreFault;
 use cq_machine::Machine;
-use cq_stored::StoredTerm;
-use spec_machine::Cell;
+use cq_resolve::stored::StoredTerm;
+use cq_store::store::StoreFault;
+use spec_engine::machine::Cell;
 use std::alloc::AllocError;
 
 /// Why a query stops.

@@ -3,11 +3,11 @@
 ghost use Rattle.std.specs.Prelude.{◌≡◌, None, IfOk, IfErr, OnErr};
 ghost use Rattle.cq_engine.specs.Seeking.{IsKept, IsGoing, GoesTo, AllStop, FindsOn, KeepsNames};
 
+use cq_catch::find::{Found, find};
 use cq_control::Continuation;
-use cq_find::{Found, find};
-use cq_linear::store::StoreFault;
 use cq_machine::Machine;
 use cq_ops::more_names_keep_the_table;
+use cq_store::store::StoreFault;
 
 /// A machine goes on to where a goal is in front, or the mark of a findall, or nothing is left to do, or to a ball that nothing catches;
 /// clauses that a goal removes are gone then. After an error it is one that comes back to its newest choice, and another call goes on

@@ -2,16 +2,16 @@
 use Rattle.std.proofs.Common.{◌≡◌, ◌⊎◌, ℕ, List, [], None, Some, sym, ◌∙◌, subst, inl, inr}
 use Rattle.std.specs.Prelude.{Ok, Err, IfOk, IfErr, OnErr}
 use Rattle.std.specs.declared.result.Result.{Result}
-use Rattle.spec_limits.specs.Chains.{IsBlandChain}
+use Rattle.spec_simplex.specs.Chains.{IsBlandChain}
 use Rattle.spec_syntax.specs.Trees.{Tree}
-use Rattle.spec_built.specs.Built.{indicator_of}
+use Rattle.spec_builtins.specs.Built.{indicator_of}
 use Rattle.spec_branch.specs.Branch.{Branch}
 use Rattle.spec_search.specs.Builtins.{Builtin, builtin_of}
 use Rattle.spec_search.specs.Replies.{Place}
 use Rattle.spec_search.specs.Rows.{reply_of}
-use Rattle.spec_stops.specs.Questions.{IsQuestionMoment}
-use Rattle.cq_linear.specs.declared.store.StoreFault.{StoreFault}
-use Rattle.cq_linear.specs.declared.store.StoreFault.TheVariants.{Overflow, Pivots, NoMemory}
+use Rattle.spec_transcript.specs.Questions.{IsQuestionMoment}
+use Rattle.cq_store.specs.declared.store.StoreFault.{StoreFault}
+use Rattle.cq_store.specs.declared.store.StoreFault.TheVariants.{Overflow, Pivots, NoMemory}
 use Rattle.cq_term.specs.Trees.{tree}
 use Rattle.cq_machine.specs.declared.machine.Machine.{Machine}
 use Rattle.cq_machine.specs.declared.step.Step.{Step}
@@ -20,7 +20,7 @@ use Rattle.cq_machine.specs.Machines.{terms, database_of, IsSound, HasSameProgra
 use Rattle.cq_machine.specs.Stepping.{row_of, CanGo, OnRaises}
 use Rattle.cq_questions.specs.Stops.{TakesIn}
 use Rattle.cq_settle.specs.Settled.{MayTake}
-use Rattle.cq_optima.specs.Asked.{Takes, TakesStep, StepsToOne, IsStoppedAt, StopsStep}
+use Rattle.cq_execute.specs.Asked.{Takes, TakesStep, StepsToOne, IsStoppedAt, StopsStep}
 use Rattle.cq_execute.specs.Executions.{Reaches}
 use Rattle.cq_execute.specs.Rows.{IsRowDone}
 use Rattle.cq_execute.specs.Stops.{IsStop, asks, settles, overflow, pivots, no_memory}

@@ -3,8 +3,8 @@ use Rattle.std.proofs.Common.{◌≡◌, ℕ, List, true, None, sym, ◌∙◌, 
 use Rattle.std.specs.Prelude.{Ok, Err, IfOk, OnErr}
 use Rattle.std.specs.declared.result.Result.{Result}
 use Rattle.spec_syntax.specs.Trees.{Tree}
-use Rattle.spec_built.specs.Built.{indicator_of}
-use Rattle.spec_built.specs.Kinds.{is_callable}
+use Rattle.spec_builtins.specs.Built.{indicator_of}
+use Rattle.spec_builtins.specs.Kinds.{is_callable}
 use Rattle.spec_branch.specs.Branch.{Branch}
 use Rattle.spec_search.specs.Builtins.{builtin_of}
 use Rattle.spec_search.specs.Control.{user_row}
@@ -12,12 +12,12 @@ use Rattle.spec_search.specs.Replies.{Place}
 use Rattle.spec_search.specs.Rows.{reply_of}
 use Rattle.cq_term.specs.Trees.{tree}
 use Rattle.cq_term.specs.declared.names.Pred.{Pred}
-use Rattle.cq_steps.proofs.Added.{reads_tree}
+use Rattle.cq_branch.proofs.Added.{reads_tree}
 use Rattle.cq_machine.specs.declared.machine.Machine.{Machine}
 use Rattle.cq_machine.specs.Machines.{terms, now, IsSound, HasSameProgram, StillStands}
 use Rattle.cq_machine.specs.Stepping.{IsSelectedAt, CanGo, OnRaises}
 use Rattle.cq_calls.specs.declared.calling.Called.{Called}
-use Rattle.cq_selected.specs.Calls.{Calls, step_of}
+use Rattle.cq_machine.specs.Calls.{Calls, step_of}
 use Rattle.cq_execute.specs.Rows.{IsCallDone, IsRowDone, as_step, as_stop}
 use Rattle.cq_execute.specs.Stops.{no_memory}
 use Rattle.cq_execute.proofs.Done.{same_database, keeps_program}

@@ -3,7 +3,7 @@ use Rattle.std.proofs.Common.{◌≡◌, ℕ, List, [], Some, refl, sym, ap, ◌
 use Rattle.std.specs.Prelude.{Ok, Err, IfOk, OnErr}
 use Rattle.std.specs.declared.result.Result.{Result}
 use Rattle.spec_syntax.specs.Trees.{Tree}
-use Rattle.spec_built.specs.Built.{indicator_of}
+use Rattle.spec_builtins.specs.Built.{indicator_of}
 use Rattle.spec_branch.specs.Branch.{Branch}
 use Rattle.spec_search.specs.Builtins.{Builtin, builtin_of}
 use Rattle.spec_search.specs.Replies.{Place, made, onward}
@@ -16,7 +16,7 @@ use Rattle.cq_machine.specs.declared.step.Step.{Step}
 use Rattle.cq_machine.specs.declared.step.Step.TheVariants.{Goes, Back, Raises, Throws, Refuses}
 use Rattle.cq_machine.specs.Machines.{terms, database_of, IsSound, StillStands}
 use Rattle.cq_machine.specs.Stepping.{row_of, IsSelectedAt, CanGo, OnRaises}
-use Rattle.cq_changes.specs.Changing.{IsChange, ChangesTo, KeepsAllButClauses}
+use Rattle.cq_execute.specs.Changing.{IsChange, ChangesTo, KeepsAllButClauses}
 use Rattle.cq_execute.specs.Executions.{KeepsWalks, Reaches}
 use Rattle.cq_execute.specs.Rows.{IsRowDone, as_stop}
 use Rattle.cq_execute.specs.Stops.{no_memory}

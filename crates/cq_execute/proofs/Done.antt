@@ -2,10 +2,10 @@
 use Rattle.std.proofs.Common.{◌≡◌, ◌<◌, ℕ, List, [], length, drop, Some, refl, sym, ◌∙◌, subst}
 use Rattle.std.specs.Prelude.{Ok, Err, IfOk, IfErr, OnErr}
 use Rattle.std.specs.declared.result.Result.{Result}
-use Rattle.spec_lists.proofs.Prefixes.{prefix_same}
+use Rattle.spec_numbers.proofs.Prefixes.{prefix_same}
 use Rattle.spec_terms.specs.Term.{Var, Number, Name, Compound}
 use Rattle.spec_syntax.specs.Trees.{Tree}
-use Rattle.spec_built.specs.Built.{indicator_of}
+use Rattle.spec_builtins.specs.Built.{indicator_of}
 use Rattle.spec_builtins.specs.Terms.{arguments}
 use Rattle.spec_branch.specs.Branch.{Branch}
 use Rattle.spec_search.specs.Builtins.{Builtin, builtin_of}
@@ -15,21 +15,21 @@ use Rattle.spec_search.specs.Control.{call_row}
 use Rattle.spec_search.specs.Replies as reply
 use Rattle.spec_search.specs.Replies.{Place, Reply}
 use Rattle.spec_search.specs.Rows.{nth, reply_of}
-use Rattle.cq_atoms.specs.Texts.{text_of}
-use Rattle.cq_linear.specs.declared.store.StoreFault.{StoreFault}
-use Rattle.cq_program.specs.Database.{as_database}
+use Rattle.cq_term.specs.Texts.{text_of}
+use Rattle.cq_store.specs.declared.store.StoreFault.{StoreFault}
+use Rattle.cq_resolve.specs.Database.{as_database}
 use Rattle.cq_term.specs.Meaning as meaning
 use Rattle.cq_term.specs.Shown as shown
 use Rattle.cq_term.specs.Trees.{tree}
 use Rattle.cq_write.specs.Meaning.{operators}
-use Rattle.cq_steps.proofs.Added.{reads_tree}
-use Rattle.cq_revise.specs.Revised.{KeepsShowing}
+use Rattle.cq_branch.proofs.Added.{reads_tree}
+use Rattle.cq_catch.specs.Revised.{KeepsShowing}
 use Rattle.cq_machine.specs.declared.machine.Machine.{Machine}
 use Rattle.cq_machine.specs.declared.step.Step.{Step}
 use Rattle.cq_machine.specs.declared.step.Step.TheVariants.{Goes, Back, Raises, Throws, Refuses}
 use Rattle.cq_machine.specs.Machines.{terms, now, IsSound, HasSameProgram, StillStands}
 use Rattle.cq_machine.specs.Stepping.{row_of, IsStep, IsSelectedAt, IsSelectedSomewhere, LeadsTo, CanGo, OnRaises}
-use Rattle.cq_selected.specs.Stops.{IsSelectedFrom, StopsAt}
+use Rattle.cq_machine.specs.Stops.{IsSelectedFrom, StopsAt}
 use Rattle.cq_execute.specs.declared.executed.Executed.{Executed}
 use Rattle.cq_execute.specs.Executions.{KeepsClauses, KeepsWalks, HasSameDatabase}
 use Rattle.cq_execute.specs.Rows.{IsAtGoal, IsRowDone, IsDone, IsQuiet, as_stop}

@@ -1,10 +1,10 @@
 -- Goals by what they show.
 use Rattle.std.proofs.Common.{◌≡◌, ℕ, true, refl}
-use Rattle.spec_rational.specs.Rational.{ℚ}
-use Rattle.spec_lists.specs.Texts.{Text}
+use Rattle.spec_numbers.specs.Rational.{ℚ}
+use Rattle.spec_numbers.specs.Texts.{Text}
 use Rattle.spec_terms.specs.Term.{Var, Number, Name, Compound, named}
-use Rattle.spec_built.specs.Errors.{instantiation, type_error}
-use Rattle.spec_built.specs.Kinds.{is_callable}
+use Rattle.spec_builtins.specs.Errors.{instantiation, type_error}
+use Rattle.spec_builtins.specs.Kinds.{is_callable}
 use Rattle.spec_search.specs.Replies.{Place, Raises}
 use Rattle.spec_search.specs.Rows.{reply_of}
 use Rattle.cq_frac.specs.declared.VarId.{VarId}

@@ -1,3 +1,11 @@
+mod Behind
+mod Stored
+mod ChangesChanged
+mod ChangesAsked
+pub mod Kept
+pub mod OptimaAsked
+pub mod Children
+pub mod Stopping
 mod Table
 mod Reached
 mod Stopped
@@ -10,5 +18,5 @@ mod Asked
 mod Heads
 mod Outcomes
 -- laws of a lower crate
-pub use Rattle.cq_offer.proofs.Errors
-pub use Rattle.cq_offer.proofs.Machines
+pub use Rattle.cq_machine.proofs.Errors
+pub use Rattle.cq_machine.proofs.Machines

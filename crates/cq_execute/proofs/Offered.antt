@@ -3,13 +3,13 @@ use Rattle.std.proofs.Common.{◌≡◌, ℕ, List, [], Some, None, refl, sym, a
 use Rattle.std.specs.Prelude.{Ok, Err, IfOk, OnErr, option_and_then}
 use Rattle.std.specs.declared.result.Result.{Result}
 use Rattle.spec_syntax.specs.Trees.{Tree}
-use Rattle.spec_built.specs.Built.{indicator_of}
+use Rattle.spec_builtins.specs.Built.{indicator_of}
 use Rattle.spec_builtins.specs.Alternatives.{Solutions, Faults, Offers}
 use Rattle.spec_builtins.specs.Terms.{arguments}
 use Rattle.spec_branch.specs.Branch.{Branch}
-use Rattle.spec_predicates.specs.Calls.{solutions_of}
-use Rattle.spec_predicates.specs.Predicates.{Predicate, Order, Test, AtomList, Functor, Arg, Univ, CopyTerm, AtomLength, CharCode, NumberCodes, AtomConcat, SubAtom, predicate_of, predicate_named}
-use Rattle.spec_predicates.proofs.Stepping.{called}
+use Rattle.spec_search.specs.Calls.{solutions_of}
+use Rattle.spec_search.specs.Predicates.{Predicate, Order, Test, AtomList, Functor, Arg, Univ, CopyTerm, AtomLength, CharCode, NumberCodes, AtomConcat, SubAtom, predicate_of, predicate_named}
+use Rattle.spec_search.proofs.PredicatesStepping.{called}
 use Rattle.spec_search.specs.Builtins.{Builtin, builtin_of}
 use Rattle.spec_search.specs.Replies as reply
 use Rattle.spec_search.specs.Replies.{Place, Made, Makes, made, offers, alternative_child}
@@ -17,17 +17,17 @@ use Rattle.spec_search.specs.Rows.{builtin_reply}
 use Rattle.spec_search.specs.Steps.{Children}
 use Rattle.cq_built.specs.Errors.{error_tree}
 use Rattle.cq_frac.specs.declared.Pair.{Pair}
-use Rattle.cq_table.specs.Names.{built_in}
+use Rattle.cq_predicates.specs.TableNames.{built_in}
 use Rattle.cq_term.specs.Trees.{tree}
-use Rattle.cq_steps.proofs.Added.{reads_tree}
-use Rattle.cq_offer.specs.Calls as ways
-use Rattle.cq_offer.proofs.Leading.{made_is}
+use Rattle.cq_branch.proofs.Added.{reads_tree}
+use Rattle.cq_choices.specs.Calls as ways
+use Rattle.cq_choices.proofs.Leading.{made_is}
 use Rattle.cq_machine.specs.declared.machine.Machine.{Machine}
 use Rattle.cq_machine.specs.declared.step.Step.{Step}
 use Rattle.cq_machine.specs.declared.step.Step.TheVariants.{Goes, Back, Raises, Throws, Refuses}
 use Rattle.cq_machine.specs.Machines.{terms, now, IsSound, StillStands}
 use Rattle.cq_machine.specs.Stepping.{IsSelectedAt, IsStep, CanGo, OnRaises}
-use Rattle.cq_offer.specs.Offers.{HasMoreNames}
+use Rattle.cq_machine.specs.Offers.{HasMoreNames}
 use Rattle.cq_execute.specs.Executions.{Reaches}
 use Rattle.cq_execute.specs.Rows.{IsRowDone, as_stop}
 use Rattle.cq_execute.specs.Stops.{no_memory}

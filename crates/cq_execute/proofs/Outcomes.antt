@@ -11,15 +11,15 @@ use Rattle.spec_search.specs.Replies.{Place}
 use Rattle.spec_search.specs.Rows.{reply_of}
 use Rattle.spec_search.specs.Steps.{raises}
 use Rattle.cq_frac.specs.declared.Pair.{Pair}
-use Rattle.cq_linear.specs.declared.store.StoreFault.{StoreFault}
-use Rattle.cq_linear.specs.declared.store.StoreFault.TheVariants.{Overflow, Pivots, NoMemory}
+use Rattle.cq_store.specs.declared.store.StoreFault.{StoreFault}
+use Rattle.cq_store.specs.declared.store.StoreFault.TheVariants.{Overflow, Pivots, NoMemory}
 use Rattle.cq_machine.specs.declared.machine.Machine.{Machine}
 use Rattle.cq_machine.specs.declared.step.Step.{Step}
 use Rattle.cq_machine.specs.declared.step.Step.TheVariants.{Goes, Back, Raises, Throws, Refuses}
 use Rattle.cq_machine.specs.Machines.{terms, now, IsSound, StillStands}
 use Rattle.cq_machine.specs.Stepping.{row_of, IsSelectedAt, LeadsTo, CanGo, OnRaises}
-use Rattle.cq_selected.specs.Refusals.{OnRefuses}
-use Rattle.cq_selected.specs.Stops.{IsSelectedFrom}
+use Rattle.cq_machine.specs.Refusals.{OnRefuses}
+use Rattle.cq_machine.specs.Stops.{IsSelectedFrom}
 use Rattle.cq_execute.specs.declared.small.Went.{Went}
 use Rattle.cq_execute.specs.declared.small.Went.TheVariants as went
 use Rattle.cq_execute.specs.Executions.{Reaches, KeepsWalks, HasSameDatabase}
@@ -27,10 +27,10 @@ use Rattle.cq_execute.specs.Rows.{IsCallOf, IsRowDone, as_step, as_stop}
 use Rattle.cq_execute.specs.Stops.{IsStop}
 use Rattle.cq_calls.specs.declared.calling.Called.{Called}
 use Rattle.cq_calls.specs.declared.calling.Called.TheVariants as found
-use Rattle.cq_table.specs.declared.builtins.Builtin as table
+use Rattle.cq_predicates.specs.declared.table.builtins.Builtin as table
 use Rattle.cq_term.specs.Trees.{tree}
 use Rattle.cq_term.specs.declared.names.Pred.{Pred}
-use Rattle.cq_steps.proofs.Added.{reads_tree}
+use Rattle.cq_branch.proofs.Added.{reads_tree}
 use Rattle.cq_execute.proofs.Done.{keeps_program, same_machine}
 use Rattle.cq_execute.specs.Small.{IsRefused, ball, refuses, overflow, pivots, IsOther, IsUnmoved, IsSmall, IsSmallDone, as_went}
 

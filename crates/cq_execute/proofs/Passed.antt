@@ -1,10 +1,10 @@
 -- Goals that go on behind themselves, with output or other operators.
 use Rattle.std.proofs.Common.{◌≡◌, ◌<◌, ℕ, List, [], ◌++◌, length, Some, refl, sym, ap, ◌∙◌, subst}
 use Rattle.std.specs.Prelude.{Ok, Err}
-use Rattle.spec_lists.proofs.Prefixes.{prefix_same}
-use Rattle.spec_lists.specs.Texts.{Text}
+use Rattle.spec_numbers.proofs.Prefixes.{prefix_same}
+use Rattle.spec_numbers.specs.Texts.{Text}
 use Rattle.spec_syntax.specs.Trees.{Tree}
-use Rattle.spec_built.specs.Built.{indicator_of}
+use Rattle.spec_builtins.specs.Built.{indicator_of}
 use Rattle.spec_branch.specs.Branch.{Branch}
 use Rattle.spec_search.specs.Builtins.{Builtin, builtin_of}
 use Rattle.spec_search.specs.Builtins as builtin
@@ -15,12 +15,12 @@ use Rattle.spec_search.specs.Steps as steps
 use Rattle.spec_search.specs.Turns.{older}
 use Rattle.cq_built.specs.Errors.{error_tree, HasCulprit}
 use Rattle.cq_built.specs.declared.errors.BuiltinError.{BuiltinError}
-use Rattle.cq_linear.specs.declared.store.StoreFault.TheVariants.{NoMemory}
+use Rattle.cq_store.specs.declared.store.StoreFault.TheVariants.{NoMemory}
 use Rattle.cq_term.specs.Trees.{tree}
-use Rattle.cq_steps.specs.Worlds.{IsBranch, term_in, Selected}
-use Rattle.cq_steps.proofs.Branches.{branches_rest}
-use Rattle.cq_steps.proofs.Control.{goes_on_with}
-use Rattle.cq_offer.proofs.Leading.{same_made}
+use Rattle.cq_branch.specs.Worlds.{IsBranch, term_in, Selected}
+use Rattle.cq_branch.proofs.Branches.{branches_rest}
+use Rattle.cq_branch.proofs.Control.{goes_on_with}
+use Rattle.cq_choices.proofs.Leading.{same_made}
 use Rattle.cq_machine.specs.declared.machine.Machine.{Machine}
 use Rattle.cq_machine.specs.declared.step.Step.{Step}
 use Rattle.cq_machine.specs.declared.step.Step.TheVariants.{Goes, Raises}

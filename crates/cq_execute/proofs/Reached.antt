@@ -1,10 +1,10 @@
 -- What a step says of the goal that was selected.
 use Rattle.std.proofs.Common.{◌≡◌, ℕ, List, [], map, true, Option, Some, None, refl, sym, ap, ◌∙◌, subst}
-use Rattle.spec_lists.specs.Texts.{Text}
+use Rattle.spec_numbers.specs.Texts.{Text}
 use Rattle.spec_terms.specs.Term.{Var, Number, Name, Compound}
 use Rattle.spec_syntax.specs.Trees.{Tree}
-use Rattle.spec_built.specs.Built.{indicator_of}
-use Rattle.spec_built.specs.Kinds.{is_callable}
+use Rattle.spec_builtins.specs.Built.{indicator_of}
+use Rattle.spec_builtins.specs.Kinds.{is_callable}
 use Rattle.spec_builtins.specs.Terms.{arguments}
 use Rattle.spec_branch.specs.Branch.{Branch, plain_copy, read}
 use Rattle.spec_search.specs.Builtins.{Builtin, builtin_of}
@@ -15,18 +15,18 @@ use Rattle.spec_search.specs.Replies.{Place, Reply, made}
 use Rattle.spec_search.specs.Rows.{reply_of, reply_by, builtin_reply}
 use Rattle.spec_search.specs.Steps as steps
 use Rattle.spec_search.specs.Steps.{Steps, Ball, Children, ball_of}
-use Rattle.spec_machine.specs.Coming.{Comes}
-use Rattle.spec_machine.specs.Standing.{engine}
+use Rattle.spec_engine.specs.Coming.{Comes}
+use Rattle.spec_engine.specs.Standing.{engine}
 use Rattle.cq_built.specs.Errors.{error_tree}
 use Rattle.cq_calls.specs.Calling.{CallBecomes}
-use Rattle.cq_steps.specs.Worlds.{IsBranch, term_in, Leads}
+use Rattle.cq_branch.specs.Worlds.{IsBranch, term_in, Leads}
 use Rattle.cq_term.specs.Trees.{tree}
 use Rattle.cq_machine.specs.declared.machine.Machine.{Machine}
 use Rattle.cq_machine.specs.declared.step.Step.{Step}
 use Rattle.cq_machine.specs.declared.step.Step.TheVariants.{Goes, Back, Raises, Throws, Refuses}
 use Rattle.cq_machine.specs.Machines.{terms, now, holds, database_of}
 use Rattle.cq_machine.specs.Stepping.{IsStep}
-use Rattle.cq_selected.specs.Calls.{IsCall}
+use Rattle.cq_machine.specs.Calls.{IsCall}
 use Rattle.cq_execute.specs.declared.executed.Executed.{Executed}
 use Rattle.cq_execute.specs.Executions.{Continues, HasStep, Reaches}
 

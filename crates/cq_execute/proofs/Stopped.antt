@@ -1,13 +1,13 @@
 -- Why a query stops where a goal's reply makes one child.
 use Rattle.std.proofs.Common.{◌≡◌, ℕ, sym, ◌∙◌, subst}
-use Rattle.spec_limits.specs.Chains.{IsBlandChain}
+use Rattle.spec_simplex.specs.Chains.{IsBlandChain}
 use Rattle.spec_syntax.specs.Trees.{Tree}
 use Rattle.spec_search.specs.Replies.{Place, Reply}
 use Rattle.spec_search.specs.Rows.{reply_of}
 use Rattle.spec_search.specs.Steps as steps
-use Rattle.cq_linear.specs.declared.store.StoreFault.{StoreFault}
-use Rattle.cq_linear.specs.declared.store.StoreFault.TheVariants.{Overflow, Pivots, NoMemory}
-use Rattle.cq_selected.specs.Faults.{IsStopped}
+use Rattle.cq_store.specs.declared.store.StoreFault.{StoreFault}
+use Rattle.cq_store.specs.declared.store.StoreFault.TheVariants.{Overflow, Pivots, NoMemory}
+use Rattle.cq_relations.specs.Faults.{IsStopped}
 use Rattle.cq_execute.specs.Stops.{IsStop, settles, overflow, pivots, no_memory}
 
 -- the reply makes one child, and a stop is due while that is settled

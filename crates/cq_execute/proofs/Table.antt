@@ -3,17 +3,17 @@ use Rattle.std.proofs.Common.{◌≡◌, ◌<◌, ℕ, zero, suc, List, [], ◌�
 use Rattle.std.specs.List.{list_all}
 use Rattle.std.specs.Option.{option_map}
 use Rattle.std.proofs.lemmas.List.{length-map}
-use Rattle.spec_lists.proofs.Tests.{nat_eq-same, both_are}
-use Rattle.spec_lists.specs.Texts.{Text}
+use Rattle.spec_numbers.proofs.Tests.{nat_eq-same, both_are}
+use Rattle.spec_numbers.specs.Texts.{Text}
 use Rattle.spec_terms.specs.Term.{Var, Number, Name, Compound, named}
 use Rattle.spec_syntax.specs.Trees.{Tree}
-use Rattle.spec_built.specs.Built.{Indicator, indicator_of, same_indicator}
+use Rattle.spec_builtins.specs.Built.{Indicator, indicator_of, same_indicator}
 use Rattle.spec_builtins.specs.Terms as builtins
-use Rattle.spec_predicates.proofs.Named.{same_arity}
+use Rattle.spec_search.proofs.Named.{same_arity}
 use Rattle.spec_search.specs.Builtins as builtin
 use Rattle.spec_search.specs.Builtins.{Builtin, Row, built, builtin_of}
 use Rattle.cq_builtin.proofs.Shown.{arguments-named}
-use Rattle.cq_sides.proofs.Heads.{count-named}
+use Rattle.cq_built.proofs.Heads.{count-named}
 use Rattle.cq_term.proofs.Arguments.{length-list_of}
 use Rattle.cq_term.specs.Meaning.{HeapTerm}
 use Rattle.cq_term.specs.Shown.{arguments}

@@ -1,13 +1,13 @@
 -- What a goal calls.
 use Rattle.std.specs.Prelude.{◌≡◌, ℕ, true, None}
-use Rattle.spec_built.specs.Built.{indicator_of}
-use Rattle.spec_built.specs.Kinds.{is_callable}
+use Rattle.spec_builtins.specs.Built.{indicator_of}
+use Rattle.spec_builtins.specs.Kinds.{is_callable}
 use Rattle.spec_search.specs.Builtins.{builtin_of}
 use Rattle.spec_search.specs.Replies.{Place, Raises}
 use Rattle.spec_search.specs.Rows.{reply_of}
 use Rattle.cq_built.specs.Errors.{error_tree}
 use Rattle.cq_built.specs.declared.errors.BuiltinError.{BuiltinError}
-use Rattle.cq_declarations.specs.Clauses.{IsOf}
+use Rattle.cq_goals.specs.Clauses.{IsOf}
 use Rattle.cq_term.specs.Trees.{tree}
 use Rattle.cq_term.specs.declared.names.Pred.{Pred}
 use Rattle.cq_machine.specs.declared.machine.Machine.{Machine}

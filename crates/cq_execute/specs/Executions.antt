@@ -1,9 +1,9 @@
 -- What the execution of a selected goal comes to, and what that is in the search.
 use Rattle.std.specs.Prelude.{◌≡◌, ℕ, List, ◌++◌, Option, Some, None}
-use Rattle.spec_lists.specs.Prefixes.{IsPrefix}
-use Rattle.spec_lists.specs.Texts.{Text}
+use Rattle.spec_numbers.specs.Prefixes.{IsPrefix}
+use Rattle.spec_numbers.specs.Texts.{Text}
 use Rattle.spec_syntax.specs.Trees.{Tree}
-use Rattle.spec_built.specs.Built.{compound1}
+use Rattle.spec_builtins.specs.Built.{compound1}
 use Rattle.spec_branch.specs.Branch.{Branch, plain_copy}
 use Rattle.spec_search.specs.Replies as reply
 use Rattle.spec_search.specs.Replies.{Place, Made, Reply}
@@ -11,12 +11,12 @@ use Rattle.spec_search.specs.Rows.{reply_of}
 use Rattle.spec_search.specs.Search.{Search}
 use Rattle.spec_search.specs.Steps.{Stepped, Steps, Ball, Children, ball_of}
 use Rattle.spec_search.specs.Turns.{older}
-use Rattle.spec_machine.specs.Coming.{Comes}
-use Rattle.spec_machine.specs.Standing.{engine}
+use Rattle.spec_engine.specs.Coming.{Comes}
+use Rattle.spec_engine.specs.Standing.{engine}
 use Rattle.cq_built.specs.Errors.{error_tree}
-use Rattle.cq_steps.specs.Worlds.{IsBranch, term_in, ReadsAs, Placed}
+use Rattle.cq_branch.specs.Worlds.{IsBranch, term_in, ReadsAs, Placed}
 use Rattle.cq_term.specs.Trees.{tree}
-use Rattle.cq_revise.specs.Revised.{KeepsShowing}
+use Rattle.cq_catch.specs.Revised.{KeepsShowing}
 use Rattle.cq_machine.specs.declared.machine.Machine.{Machine}
 use Rattle.cq_machine.specs.declared.step.Step.{Step}
 use Rattle.cq_machine.specs.declared.step.Step.TheVariants.{Goes, Back, Raises, Throws, Refuses}

@@ -1,25 +1,25 @@
 -- What holds once the row of a built-in predicate was done on a machine.
 use Rattle.std.specs.Prelude.{◌≡◌, ◌<◌, ℕ, List, [], length, Some, Ok, Err, IfOk, IfErr, OnErr}
 use Rattle.std.specs.declared.result.Result.{Result}
-use Rattle.spec_lists.specs.Texts.{Text}
+use Rattle.spec_numbers.specs.Texts.{Text}
 use Rattle.spec_syntax.specs.Trees.{Tree}
-use Rattle.spec_built.specs.Built.{indicator_of}
+use Rattle.spec_builtins.specs.Built.{indicator_of}
 use Rattle.spec_branch.specs.Branch.{Branch}
 use Rattle.spec_search.specs.Builtins.{builtin_of}
 use Rattle.spec_search.specs.Replies.{Place}
 use Rattle.cq_calls.specs.declared.calling.Called.{Called}
-use Rattle.cq_linear.specs.declared.store.StoreFault.{StoreFault}
-use Rattle.cq_linear.specs.declared.store.StoreFault.TheVariants.{NoMemory}
-use Rattle.cq_table.specs.Names.{as_builtin}
-use Rattle.cq_table.specs.declared.builtins.Builtin.{Builtin}
+use Rattle.cq_store.specs.declared.store.StoreFault.{StoreFault}
+use Rattle.cq_store.specs.declared.store.StoreFault.TheVariants.{NoMemory}
+use Rattle.cq_predicates.specs.TableNames.{as_builtin}
+use Rattle.cq_predicates.specs.declared.table.builtins.Builtin.{Builtin}
 use Rattle.cq_term.specs.Trees.{tree}
 use Rattle.cq_term.specs.declared.names.Pred.{Pred}
 use Rattle.cq_machine.specs.declared.machine.Machine.{Machine}
 use Rattle.cq_machine.specs.declared.step.Step.{Step}
 use Rattle.cq_machine.specs.Machines.{terms, IsSound, StillStands}
 use Rattle.cq_machine.specs.Stepping.{IsSelectedAt, CanGo, OnRaises}
-use Rattle.cq_selected.specs.Calls.{step_of}
-use Rattle.cq_selected.specs.Stops.{IsSelectedFrom}
+use Rattle.cq_machine.specs.Calls.{step_of}
+use Rattle.cq_machine.specs.Stops.{IsSelectedFrom}
 use Rattle.cq_execute.specs.declared.executed.Executed.{Executed}
 use Rattle.cq_execute.specs.Executions.{Reaches, KeepsWalks, HasSameDatabase}
 use Rattle.cq_execute.specs.Stops.{StopsThere}

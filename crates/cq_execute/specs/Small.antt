@@ -9,8 +9,8 @@ use Rattle.spec_search.specs.Replies.{Place}
 use Rattle.spec_search.specs.Rows.{reply_of}
 use Rattle.spec_search.specs.Steps.{Steps, Ball}
 use Rattle.cq_frac.specs.declared.Pair.{Pair}
-use Rattle.cq_linear.specs.declared.store.StoreFault.{StoreFault}
-use Rattle.cq_linear.specs.declared.store.StoreFault.TheVariants.{Overflow, Pivots, NoMemory}
+use Rattle.cq_store.specs.declared.store.StoreFault.{StoreFault}
+use Rattle.cq_store.specs.declared.store.StoreFault.TheVariants.{Overflow, Pivots, NoMemory}
 use Rattle.cq_machine.specs.declared.machine.Machine.{Machine}
 use Rattle.cq_machine.specs.declared.step.Step.{Step}
 use Rattle.cq_machine.specs.declared.step.Step.TheVariants as step
@@ -21,9 +21,9 @@ use Rattle.cq_execute.specs.declared.small.Went.TheVariants.{Goes, Back, Refused
 use Rattle.cq_execute.specs.Executions.{Continues, KeepsWalks, HasSameDatabase}
 use Rattle.cq_execute.specs.Rows.{IsCallOf}
 use Rattle.cq_execute.specs.Stops.{IsStop}
-use Rattle.cq_table.specs.declared.builtins.Builtin.{Builtin}
-use Rattle.cq_table.specs.declared.builtins.Builtin.TheVariants as table
-use Rattle.cq_table.specs.declared.builtins.Common.{Common}
+use Rattle.cq_predicates.specs.declared.table.builtins.Builtin.{Builtin}
+use Rattle.cq_predicates.specs.declared.table.builtins.Builtin.TheVariants as table
+use Rattle.cq_predicates.specs.declared.table.builtins.Common.{Common}
 
 -- what a step without output came to
 abbrev pub as_went : Step → Went

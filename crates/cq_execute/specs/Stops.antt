@@ -1,17 +1,17 @@
 -- Why a query stops where it selects a goal.
 use Rattle.std.specs.Prelude.{ℕ, List, ◌∷◌}
-use Rattle.spec_limits.specs.Chains.{IsBlandChain}
-use Rattle.spec_limits.specs.Overflow.{Moment, OverflowDue}
+use Rattle.spec_simplex.specs.Chains.{IsBlandChain}
+use Rattle.spec_simplex.specs.Overflow.{Moment, OverflowDue}
 use Rattle.spec_syntax.specs.Trees.{Tree}
 use Rattle.spec_branch.specs.Branch.{State, Item, Branch, Pending}
 use Rattle.spec_search.specs.Replies.{Place, child}
 use Rattle.spec_search.specs.Rows.{reply_of}
 use Rattle.spec_search.specs.Steps.{Steps, children}
-use Rattle.spec_stops.specs.Questions.{IsQuestionMoment}
-use Rattle.spec_stops.specs.Settlings.{IsSettlingMoment}
+use Rattle.spec_transcript.specs.Questions.{IsQuestionMoment}
+use Rattle.spec_transcript.specs.Settlings.{IsSettlingMoment}
 use Rattle.cq_frac.specs.declared.Pair.{Pair}
-use Rattle.cq_linear.specs.declared.store.StoreFault.{StoreFault}
-use Rattle.cq_linear.specs.declared.store.StoreFault.TheVariants.{Overflow, Pivots, NoMemory}
+use Rattle.cq_store.specs.declared.store.StoreFault.{StoreFault}
+use Rattle.cq_store.specs.declared.store.StoreFault.TheVariants.{Overflow, Pivots, NoMemory}
 use Rattle.cq_machine.specs.declared.machine.Machine.{Machine}
 use Rattle.cq_machine.specs.Stepping.{IsSelectedAt}
 

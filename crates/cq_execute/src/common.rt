@@ -2,15 +2,15 @@
 
 ghost use Rattle.std.specs.Prelude.{◌≡◌, IfOk};
 ghost use Rattle.cq_machine.specs.Machines.{StillStands};
-ghost use Rattle.cq_selected.specs.Refusals.{OnRefuses};
+ghost use Rattle.cq_machine.specs.Refusals.{OnRefuses};
 ghost use Rattle.cq_execute.specs.Rows.{IsAtGoal, IsCallOf, IsRowDone, as_stop};
-ghost use Rattle.cq_table.specs.declared.builtins.Builtin.TheVariants as table;
+ghost use Rattle.cq_predicates.specs.declared.table.builtins.Builtin.TheVariants as table;
 
 use cq_control::Continuation;
-use cq_linear::store::StoreFault;
+use cq_machine::selected::{compare, evaluate_to, unify};
 use cq_machine::{Machine, Step, conjunction, cut, disjunction};
-use cq_selected::{compare, evaluate_to, unify};
-use cq_table::Common;
+use cq_predicates::table::Common;
+use cq_store::store::StoreFault;
 use cq_term::TermId;
 use std::alloc::AllocError;
 

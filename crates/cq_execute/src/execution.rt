@@ -1,16 +1,16 @@
 // The execution of a selected goal.
 
 ghost use Rattle.std.specs.Prelude.{◌≡◌, ◌<◌, ℕ, true, length, IfOk, IfErr, IfSome, OnOk, OnErr};
-ghost use Rattle.spec_built.specs.Kinds.{is_callable};
+ghost use Rattle.spec_builtins.specs.Kinds.{is_callable};
 ghost use Rattle.spec_search.specs.Replies.{Place, Raises};
 ghost use Rattle.spec_search.specs.Rows.{reply_of};
 ghost use Rattle.cq_built.specs.Errors.{error_tree, HasCulprit};
-ghost use Rattle.cq_declarations.specs.Clauses.{IsOf};
+ghost use Rattle.cq_goals.specs.Clauses.{IsOf};
 ghost use Rattle.cq_term.specs.Trees.{tree, KnowsTerms};
 ghost use Rattle.cq_machine.specs.Machines.{terms, IsSound, StillStands};
 ghost use Rattle.cq_machine.specs.Stepping.{CanGo, OnRaises};
-ghost use Rattle.cq_selected.specs.Calls.{step_of};
-ghost use Rattle.cq_selected.specs.Stops.{IsSelectedFrom};
+ghost use Rattle.cq_machine.specs.Calls.{step_of};
+ghost use Rattle.cq_machine.specs.Stops.{IsSelectedFrom};
 ghost use Rattle.cq_execute.specs.Executions.{Executes, ExecutesCall, IsCallSelectedSomewhere, KeepsClauses, KeepsWalks, HasSameDatabase};
 ghost use Rattle.cq_execute.specs.Callees.{IsCallee};
 ghost use Rattle.cq_execute.specs.Rows.{IsAtGoal, IsCallOf, IsDone};
@@ -19,14 +19,14 @@ ghost use Rattle.cq_execute.specs.Stops.{StopsThere};
 use crate::executed::Executed;
 use crate::rows::execute_builtin;
 use crate::steps::{quiet, silent, stepped};
-use cq_atoms::Atoms;
+use cq_branch::selected_goals_lead;
 use cq_built::{BuiltinError, BuiltinFault, Culprit, ValidType};
 use cq_control::Continuation;
-use cq_linear::store::StoreFault;
+use cq_machine::selected::call_procedure;
 use cq_machine::{Machine, Step};
-use cq_selected::call_procedure;
-use cq_steps::selected_goals_lead;
-use cq_table::Builtin;
+use cq_predicates::table::Builtin;
+use cq_store::store::StoreFault;
+use cq_term::atoms::Atoms;
 use cq_term::{Heap, Pred, TermId, View};
 use std::alloc::AllocError;
 
@@ -176,7 +176,7 @@ pub fn execute_call(
 {
     selected_goals_lead();
     let alloc = m.world.first.heap.alloc();
-    match cq_steps::call(&mut m.world, &m.choices, &m.atoms, called, rest) {
+    match cq_branch::call(&mut m.world, &m.choices, &m.atoms, called, rest) {
         Ok(k) => Ok(silent(alloc, Step::Goes(k))),
         Err(fault) => match fault {
             BuiltinFault::Error(error) => Ok(silent(alloc, Step::Raises(error))),

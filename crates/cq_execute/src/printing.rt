@@ -1,14 +1,14 @@
 // Rows of output and of operators: the goal goes on behind itself.
 
 ghost use Rattle.cq_execute.specs.Rows.{IsAtGoal, IsCallOf, IsDone};
-ghost use Rattle.cq_table.specs.declared.builtins.Builtin.TheVariants as table;
+ghost use Rattle.cq_predicates.specs.declared.table.builtins.Builtin.TheVariants as table;
 
 use crate::executed::Executed;
 use crate::steps::silent;
 use cq_built::BuiltinFault;
 use cq_control::Continuation;
-use cq_linear::store::StoreFault;
 use cq_machine::{Machine, Step};
+use cq_store::store::StoreFault;
 use cq_term::TermId;
 use cq_write::Style;
 

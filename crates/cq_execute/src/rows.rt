@@ -2,25 +2,25 @@
 
 ghost use Rattle.cq_execute.specs.Rows.{IsAtGoal, IsCallOf, IsDone};
 
+use crate::changes::{assert, clause, declare_dynamic, retract};
 use crate::common::execute_common;
 use crate::executed::Executed;
+use crate::optima::{entailed, extent, optimum};
 use crate::printing::{declare, newline, write};
 use crate::steps::{quiet, quiet_or_stop};
-use cq_changes::{assert, clause, declare_dynamic, retract};
 use cq_clauses::End;
 use cq_control::Continuation;
-use cq_linear::store::StoreFault;
+use cq_machine::offer::{offer, rows_are_replies};
+use cq_machine::selected::{call_with_more, constrain, discontiguous, freeze, use_module};
 use cq_machine::{
     Machine, Step, catch, findall, if_then, initialization, negation, not_unify, once, throw,
 };
-use cq_offer::{offer, rows_are_replies};
-use cq_optima::{entailed, extent, optimum};
 use cq_predicates::Predicate;
+use cq_predicates::table::Builtin;
 use cq_questions::Side;
-use cq_selected::{call_with_more, constrain, discontiguous, freeze, use_module};
-use cq_table::Builtin;
+use cq_store::store::StoreFault;
 use cq_term::TermId;
-use spec_predicates::predicates_are_found_by_name_and_arity;
+use spec_search::predicates::predicates_are_found_by_name_and_arity;
 
 /// Does the row of the built-in predicate that the selected goal calls.
 pub(crate) fn execute_builtin(

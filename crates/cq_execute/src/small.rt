@@ -2,7 +2,7 @@
 
 ghost use Rattle.std.specs.Prelude.{◌≡◌, ◌<◌, length};
 ghost use Rattle.cq_machine.specs.Machines.{terms, IsSound};
-ghost use Rattle.cq_selected.specs.Stops.{IsSelectedFrom};
+ghost use Rattle.cq_machine.specs.Stops.{IsSelectedFrom};
 ghost use Rattle.cq_execute.specs.Callees.{CallsProcedure};
 ghost use Rattle.cq_execute.specs.Rows.{IsAtGoal, IsCallOf, as_step, as_stop};
 ghost use Rattle.cq_execute.specs.Small.{IsSmall, IsSmallDone, as_went};
@@ -10,13 +10,13 @@ ghost use Rattle.cq_term.specs.declared.names.Pred.{Pred as Predicate};
 
 use crate::common::execute_common;
 use crate::execution::{Callee, find_callee};
+use cq_branch::selected_goals_lead;
 use cq_calls::Called;
 use cq_control::Continuation;
-use cq_linear::store::StoreFault;
+use cq_machine::selected::call_procedure;
 use cq_machine::{Machine, Step};
-use cq_selected::call_procedure;
-use cq_steps::selected_goals_lead;
-use cq_table::Builtin;
+use cq_predicates::table::Builtin;
+use cq_store::store::StoreFault;
 use cq_term::{Pred, TermId};
 use std::alloc::AllocError;
 

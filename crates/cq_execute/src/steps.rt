@@ -6,8 +6,8 @@ ghost use Rattle.cq_execute.specs.Rows.{IsQuiet, as_step, as_stop};
 use crate::executed::Executed;
 use cq_built::BuiltinError;
 use cq_calls::Called;
-use cq_linear::store::StoreFault;
 use cq_machine::Step;
+use cq_store::store::StoreFault;
 use cq_term::Pred;
 use std::alloc::{AllocError, Global};
 

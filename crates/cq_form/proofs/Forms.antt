@@ -1,12 +1,12 @@
 -- Forms that are made of constants and lists of pairs: their order, their values, and the pairs that they meet.
 use Rattle.std.proofs.Common.{◌≡◌, ◌≢◌, inl, inr, ℕ, suc, ◌≤◌, List, [], ◌∷◌, Bool, true, false, cond, not, pos, arith, refl, ap, ap₂, sym, subst, ◌∙◌}
 use Rattle.std.specs.Prelude.{◌==◌}
-use Rattle.spec_rational.specs.Gcd.{gcd}
-use Rattle.spec_rational.specs.Rational.{ℚ, 0ℚ, int_ℚ, ratio, ◌+ℚ◌, ◌*ℚ◌}
-use Rattle.spec_rational.specs.Sums.{Monomial, Mentions, factor_of, scaled_products}
-use Rattle.spec_rational.proofs.Ring.{var, int, ◌⊗◌}
-use Rattle.spec_rational.proofs.Rational.{ring}
-use Rattle.spec_rational.proofs.Sums.{sum_at-agrees}
+use Rattle.spec_numbers.specs.Gcd.{gcd}
+use Rattle.spec_numbers.specs.Rational.{ℚ, 0ℚ, int_ℚ, ratio, ◌+ℚ◌, ◌*ℚ◌}
+use Rattle.spec_numbers.specs.Sums.{Monomial, Mentions, factor_of, scaled_products}
+use Rattle.spec_numbers.proofs.Ring.{var, int, ◌⊗◌}
+use Rattle.spec_numbers.proofs.RationalLemmas.{ring}
+use Rattle.spec_numbers.proofs.Sums.{sum_at-agrees}
 use Rattle.spec_linear.specs.Form.{Linear, value_at, IsSumFrom, IsForm, is_zero, without, without_zeros, sum_form, difference_form, scaled_form, substituted_form, changed_at}
 use Rattle.spec_linear.proofs.Values.{is_zero-of, value_at-substituted_form}
 use Rattle.spec_linear.proofs.Ordered.{IsForm-sum_form, IsForm-difference_form, IsForm-scaled_form, IsSumFrom-without, factor_of-first, factor_of-rest, form_same, forms_same}
@@ -15,9 +15,9 @@ use Rattle.cq_frac.specs.declared.Operation.TheVariants.{Product as Times}
 use Rattle.cq_frac.specs.declared.Pair.{Pair}
 use Rattle.cq_frac.specs.Fits.{Fits}
 use Rattle.cq_frac.specs.Refused.{Accepts, IsRefused, Tells}
-use Rattle.cq_row.specs.declared.Joining.{Joining}
-use Rattle.cq_row.specs.declared.Joining.TheVariants.{Plus, Less}
-use Rattle.cq_row.specs.Rows.{joined, operation_of}
+use Rattle.cq_frac.specs.declared.row.Joining.{Joining}
+use Rattle.cq_frac.specs.declared.row.Joining.TheVariants.{Plus, Less}
+use Rattle.cq_frac.specs.Rows.{joined, operation_of}
 use Rattle.cq_form.specs.Steps.{joined_products, joined_form, HasCoefficient, CommonPair, MultiplePair, JoinedPair, SumPair, coefficients, constants, ScalePair, coefficient, constant, SubstPair, of_product, of_sum}
 
 fits_zero : Fits 0ℚ

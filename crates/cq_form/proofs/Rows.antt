@@ -1,11 +1,11 @@
 -- Rows as sums of products: their order, their values, and the pairs that operations on them meet.
 use Rattle.std.proofs.Common.{◌≡◌, ℕ, suc, ◌+◌, List, [], ◌∷◌, Bool, true, false, nat_eq, Option, Some, None, inl, inr, pos, arith, refl, ap, ap₂, sym, subst, ◌∙◌}
 use Rattle.std.specs.Prelude.{◌==◌, cond, not, MatchOption}
-use Rattle.spec_rational.specs.Rational.{ℚ, 0ℚ, neg_ℚ, ◌+ℚ◌, ◌*ℚ◌}
-use Rattle.spec_rational.specs.Sums.{Monomial, Mentions, scaled_products, negated_products, sum_at, unit}
-use Rattle.spec_rational.proofs.Ring.{var, int, ◌⊕◌}
-use Rattle.spec_rational.proofs.Rational.{ring}
-use Rattle.spec_rational.proofs.Sums.{factor_of-is, sum_at-scaled_products, sum_at-negated_products}
+use Rattle.spec_numbers.specs.Rational.{ℚ, 0ℚ, neg_ℚ, ◌+ℚ◌, ◌*ℚ◌}
+use Rattle.spec_numbers.specs.Sums.{Monomial, Mentions, scaled_products, negated_products, sum_at, unit}
+use Rattle.spec_numbers.proofs.Ring.{var, int, ◌⊕◌}
+use Rattle.spec_numbers.proofs.RationalLemmas.{ring}
+use Rattle.spec_numbers.proofs.Sums.{factor_of-is, sum_at-scaled_products, sum_at-negated_products}
 use Rattle.spec_linear.specs.Form.{IsSumFrom, without, without_zeros}
 use Rattle.spec_linear.specs.Solution.{Has}
 use Rattle.spec_linear.proofs.Values.{sum_at-sum_products, sum_at-without_zeros}
@@ -14,11 +14,11 @@ use Rattle.cq_frac.specs.declared.Operation.TheVariants.{Product as Times}
 use Rattle.cq_frac.specs.declared.Pair.{Pair}
 use Rattle.cq_frac.specs.Refused.{Accepts, Refuses, Tells}
 use Rattle.cq_frac.proofs.Refusals.{accepted}
-use Rattle.cq_row.specs.declared.Entry.{Entry}
-use Rattle.cq_row.specs.declared.Joining.{Joining}
-use Rattle.cq_row.specs.declared.Joining.TheVariants.{Plus, Less}
-use Rattle.cq_row.specs.Rows as row
-use Rattle.cq_row.specs.Rows.{IsRowFrom, everywhere, joined, operation_of, choose, IsJoinedPair, IsProductPair, NoJoinedPair, NoProductPair, Lacks}
+use Rattle.cq_frac.specs.declared.row.Entry.{Entry}
+use Rattle.cq_frac.specs.declared.row.Joining.{Joining}
+use Rattle.cq_frac.specs.declared.row.Joining.TheVariants.{Plus, Less}
+use Rattle.cq_frac.specs.Rows as row
+use Rattle.cq_frac.specs.Rows.{IsRowFrom, everywhere, joined, operation_of, choose, IsJoinedPair, IsProductPair, NoJoinedPair, NoProductPair, Lacks}
 use Rattle.cq_form.specs.Entries.{product_of, products_of}
 use Rattle.cq_form.proofs.Forms.{joined_in_order, multiple_in_order}
 use Rattle.cq_form.specs.Steps.{joined_products, HasCoefficient, CommonPair, MultiplePair, of_variable}

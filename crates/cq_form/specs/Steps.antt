@@ -1,14 +1,14 @@
 -- The pairs of numbers that an operation on forms meets. A number that a form doesn't have makes no pair.
 use Rattle.std.specs.Prelude.{ℕ, List}
-use Rattle.spec_rational.specs.Rational.{ℚ}
-use Rattle.spec_rational.specs.Sums.{Monomial, negated_products}
+use Rattle.spec_numbers.specs.Rational.{ℚ}
+use Rattle.spec_numbers.specs.Sums.{Monomial, negated_products}
 use Rattle.spec_linear.specs.Form.{Linear, without, sum_products, sum_form, difference_form, scaled_form}
 use Rattle.spec_linear.specs.Solution.{Has}
 use Rattle.cq_frac.specs.declared.Operation.{Operation}
 use Rattle.cq_frac.specs.declared.Operation.TheVariants.{Product as Times}
-use Rattle.cq_row.specs.declared.Joining.{Joining}
-use Rattle.cq_row.specs.declared.Joining.TheVariants.{Plus, Less}
-use Rattle.cq_row.specs.Rows.{operation_of}
+use Rattle.cq_frac.specs.declared.row.Joining.{Joining}
+use Rattle.cq_frac.specs.declared.row.Joining.TheVariants.{Plus, Less}
+use Rattle.cq_frac.specs.Rows.{operation_of}
 
 -- the sum or the difference, of products and of forms
 abbrev pub joined_products : Joining → List Monomial → List Monomial → List Monomial

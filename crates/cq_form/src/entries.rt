@@ -1,19 +1,19 @@
 // The entries of forms, in terms of their products: sums and differences, multiples, parts.
 
 ghost use Rattle.std.specs.Prelude.{◌≡◌, map, IfOk, OnOk, MatchOption};
-ghost use Rattle.spec_rational.specs.Rational.{ℚ};
-ghost use Rattle.spec_rational.specs.Sums.{Mentions, scaled_products};
+ghost use Rattle.spec_numbers.specs.Rational.{ℚ};
+ghost use Rattle.spec_numbers.specs.Sums.{Mentions, scaled_products};
 ghost use Rattle.spec_linear.specs.Form.{IsSumFrom, without, without_zeros};
 ghost use Rattle.spec_linear.specs.Solution.{Has};
 ghost use Rattle.cq_frac.specs.declared.Operation.TheVariants.{Product};
 ghost use Rattle.cq_frac.specs.declared.Pair.{Pair};
 ghost use Rattle.cq_frac.specs.Refused.{Accepts, Tells};
-ghost use Rattle.cq_row.specs.Rows.{operation_of};
+ghost use Rattle.cq_frac.specs.Rows.{operation_of};
 ghost use Rattle.cq_form.specs.Entries.{entry_of, products_of};
 ghost use Rattle.cq_form.specs.Steps.{joined_products, CommonPair, MultiplePair};
 
+use cq_frac::row::{Entry, Joining, combined, entry_at};
 use cq_frac::{Frac, Refusal, VarId};
-use cq_row::{Entry, Joining, combined, entry_at};
 use std::alloc::{AllocError, Global};
 
 /// The entries of variables with their coefficients.
@@ -45,7 +45,7 @@ pub(crate) fn joined(
         → CommonPair (products_of entries.items) (products_of other.now) pair.left pair.right
         × Tells (operation_of how) pair.left pair.right pair }
 {
-    cq_row::joined(entries, how, other)
+    cq_frac::row::joined(entries, how, other)
 }
 
 /// The list times `k`, zeros left away.
@@ -72,7 +72,7 @@ pub(crate) fn others(
 ) -> Result<Vec<Entry>, AllocError>
     ensures { IfOk result (λ r. products_of r.items ≡ without variable.0 (products_of entries.now)) }
 {
-    cq_row::without(alloc, entries, variable.0)
+    cq_frac::row::without(alloc, entries, variable.0)
 }
 
 /// The coefficient of the variable, if it stands in the list.

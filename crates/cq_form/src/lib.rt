@@ -5,7 +5,7 @@ mod entries;
 
 ghost use Rattle.std.specs.Prelude.{◌≡◌, [], map, IfOk, OnOk, slice_get};
 ghost use Rattle.std.specs.Option.{option_map};
-ghost use Rattle.spec_rational.specs.Rational.{ℚ};
+ghost use Rattle.spec_numbers.specs.Rational.{ℚ};
 ghost use Rattle.spec_linear.specs.Form.{IsForm, sum_form, difference_form, scaled_form, substituted_form};
 ghost use Rattle.cq_frac.specs.declared.Operation.{Operation};
 ghost use Rattle.cq_frac.specs.declared.Pair.{Pair};
@@ -14,8 +14,8 @@ ghost use Rattle.cq_form.specs.Entries.{entry_of, form_of, product_of, products_
 ghost use Rattle.cq_form.specs.Steps.{joined_form, JoinedPair, SumPair, DifferencePair, ScalePair, SubstPair};
 
 use crate::entries::{coefficient, entries_of, joined, others, scaled};
+use cq_frac::row::{Entry, Joining};
 use cq_frac::{Frac, Refusal, VarId, product};
-use cq_row::{Entry, Joining};
 use spec_linear::Relation;
 use std::alloc::{AllocError, Global};
 use std::marker::Model;
@@ -202,7 +202,7 @@ pub struct Cert {
 
 impl Model for Cert {
     ghost use Rattle.std.specs.Prelude.{ℕ, List};
-    ghost use Rattle.spec_rational.specs.Rational.{ℚ};
+    ghost use Rattle.spec_numbers.specs.Rational.{ℚ};
     ghost use Rattle.cq_form.specs.Entries.{cert_code};
 
     ghost Value = { List (ℕ × ℚ) };

@@ -8,12 +8,12 @@ use Rattle.std.specs.declared.cmp.Ordering.TheVariants.{Less, Equal, Greater}
 use Rattle.std.specs.Ordering.{eq_by_cmp, is_eq}
 use mir.Syntax.{w64, w128}
 use mir.Val.{SFits}
-use Rattle.spec_rational.specs.Gcd.{gcd}
-use Rattle.spec_rational.specs.Rational.{ℚ, 0ℚ, denominator, ratio, int_ℚ, neg_ℚ, ◌<ℚ◌, IsPositive, IsNotNegative}
-use Rattle.spec_rational.specs.Order.{cmp_ℚ}
-use Rattle.spec_rational.proofs.Order.{cmp_ℚ-total, cmp_ℚ-equal, lt_from_cross, lt_to_cross}
-use Rattle.spec_rational.proofs.Rational.{suc_pos}
-use Rattle.spec_rational.proofs.Sign.{ratio_nonneg}
+use Rattle.spec_numbers.specs.Gcd.{gcd}
+use Rattle.spec_numbers.specs.Rational.{ℚ, 0ℚ, denominator, ratio, int_ℚ, neg_ℚ, ◌<ℚ◌, IsPositive, IsNotNegative}
+use Rattle.spec_numbers.specs.Order.{cmp_ℚ}
+use Rattle.spec_numbers.proofs.Order.{cmp_ℚ-total, cmp_ℚ-equal, lt_from_cross, lt_to_cross}
+use Rattle.spec_numbers.proofs.RationalLemmas.{suc_pos}
+use Rattle.spec_numbers.proofs.Sign.{ratio_nonneg}
 use Rattle.cq_frac.specs.Fits.{IsLowest, limit}
 use Rattle.cq_frac.proofs.View.{num_is, den_is, back}
 use Rattle.cq_frac.proofs.Zero.{zero_num, num_zero}

@@ -7,8 +7,8 @@ use Rattle.std.proofs.lemmas.Nat.Bits.{bit_at-trailing_zeros}
 use Rattle.std.proofs.lemmas.Nat.Gcd.{IsGcd-from_sub, same_from_IsGcd}
 use Rattle.std.proofs.lemmas.Bool.{cases_lt}
 use mir.Val.{bits}
-use Rattle.spec_rational.specs.Gcd.{gcd, gcd_is, gauss, dvd_gcd_within_mul}
-use Rattle.spec_rational.proofs.Gcd.{gcd_comm, gcd-mod, coprime_mul, coprime_parts}
+use Rattle.spec_numbers.specs.Gcd.{gcd, gcd_is, gauss, dvd_gcd_within_mul}
+use Rattle.spec_numbers.proofs.Gcd.{gcd_comm, gcd-mod, coprime_mul, coprime_parts}
 
 -- ---- the factors 2
 

@@ -9,3 +9,11 @@ pub mod Halves
 pub mod Fields
 pub mod Refusals
 pub mod Exits
+pub mod Inverse
+pub mod Units
+pub mod Steps
+pub mod Merge
+pub mod Placed
+pub mod Pairs
+pub mod Shifts
+pub mod OneMore

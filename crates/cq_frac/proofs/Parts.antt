@@ -4,9 +4,9 @@ use Rattle.std.proofs.lemmas.Bool.Decides.{nat_tests}
 use Rattle.std.proofs.Math.Nat.{mul-div_cancel'}
 use mathlib.Core.Bool.{beq}
 use lib.Signed.{lt_z}
-use Rattle.spec_rational.specs.Gcd.{gcd, gcd_is, gcd_pos, gcd-quotients}
-use Rattle.spec_rational.specs.Rational.{ℚ, denominator, ratio, quotient, neg_ℚ}
-use Rattle.spec_rational.proofs.Rational.{ratio_same, ratio_back, ratio-neg}
+use Rattle.spec_numbers.specs.Gcd.{gcd, gcd_is, gcd_pos, gcd-quotients}
+use Rattle.spec_numbers.specs.Rational.{ℚ, denominator, ratio, quotient, neg_ℚ}
+use Rattle.spec_numbers.proofs.RationalLemmas.{ratio_same, ratio_back, ratio-neg}
 use Rattle.cq_frac.specs.Fits.{signed, Exceeds, Fits, limit}
 
 quotient_pos : (g b : ℕ) → 0 < b → g * (b / g) ≡ b → 0 < b / g

@@ -2,13 +2,13 @@
 use Rattle.std.proofs.Common.{◌≡◌, ℕ, [], ◌∷◌, ◌*◌, ◌<◌, ◌≤◌, ◌/◌, Bool, true, false, not, ℤ, pos, negsuc, ◌*ℤ◌, nat_abs, arith, refl, ap, ap₂, sym, ◌∙◌, subst, ◌⊎◌, int_lt, mul-pos, zero-lt-suc}
 use Rattle.std.proofs.Math.Nat.{mul-div_cancel', dvd-mul_right, div-mul_cancel}
 use Rattle.std.specs.Int.{◌∣◌}
-use Rattle.spec_rational.proofs.Ring.{var, ◌⊗◌, minus}
-use Rattle.spec_rational.proofs.IntRing.{ring_ℤ}
+use Rattle.spec_numbers.proofs.Ring.{var, ◌⊗◌, minus}
+use Rattle.spec_numbers.proofs.IntRing.{ring_ℤ}
 use mathlib.Core.Bool.{beq}
-use Rattle.spec_rational.specs.Gcd.{gcd, gcd_is, gcd-quotients}
-use Rattle.spec_rational.specs.Rational.{ℚ, denominator, ratio, neg_ℚ, ◌*ℚ◌}
-use Rattle.spec_rational.proofs.Gcd.{coprime_products, coprime_parts}
-use Rattle.spec_rational.proofs.Rational.{ratio_same, ratio-neg, ratio-mul, ratio_back}
+use Rattle.spec_numbers.specs.Gcd.{gcd, gcd_is, gcd-quotients}
+use Rattle.spec_numbers.specs.Rational.{ℚ, denominator, ratio, neg_ℚ, ◌*ℚ◌}
+use Rattle.spec_numbers.proofs.Gcd.{coprime_products, coprime_parts}
+use Rattle.spec_numbers.proofs.RationalLemmas.{ratio_same, ratio-neg, ratio-mul, ratio_back}
 use Rattle.cq_frac.specs.Cancelled.{product_top, product_bottom}
 use Rattle.cq_frac.specs.Fits.{signed, Exceeds, Fits, limit}
 use Rattle.cq_frac.proofs.Parts.{exceeds_parts, fits_parts, bottom_pos}

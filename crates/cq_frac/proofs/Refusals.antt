@@ -1,7 +1,7 @@
 -- An operation takes two numbers or refuses them, and never both.
 use Rattle.std.proofs.Common.{◌≤◌, ◌<◌, ℕ, ◌⊎◌, inl, inr, nat_abs, ◌+ℤ◌}
 use Rattle.std.proofs.lemmas.Bool.{cases_lt}
-use Rattle.spec_rational.specs.Rational.{ℚ, denominator, neg_ℚ, ◌*ℚ◌, ◌/ℚ◌}
+use Rattle.spec_numbers.specs.Rational.{ℚ, denominator, neg_ℚ, ◌*ℚ◌, ◌/ℚ◌}
 use Rattle.cq_frac.specs.declared.Operation.{Operation}
 use Rattle.cq_frac.specs.declared.Operation.TheVariants.{Sum, Difference, Product, Quotient}
 use Rattle.cq_frac.specs.Fits.{Fits, Exceeds, SumAccepted, SumRefused, limit, left_term, right_term, common_den}

@@ -1,7 +1,7 @@
 -- Sums and products of small numbers fit.
 use Rattle.std.proofs.Common.{◌≡◌, ℕ, ◌+◌, ◌-◌, ◌*◌, ◌/◌, ◌<◌, ◌≤◌, ◌^◌, Bool, nat_abs, ◌+ℤ◌, arith, refl, ◌⊎◌, inl, inr}
 use Rattle.std.proofs.lemmas.Nat.{mul-le}
-use Rattle.spec_rational.specs.Gcd.{gcd}
+use Rattle.spec_numbers.specs.Gcd.{gcd}
 use Rattle.cq_frac.specs.Cancelled.{sum_peak}
 use Rattle.cq_frac.specs.Fits.{signed, limit}
 use Rattle.cq_frac.proofs.Parts.{nat_abs-signed}

@@ -6,12 +6,12 @@ use Rattle.std.proofs.lemmas.Nat.Gcd.{same_from_IsGcd}
 use lib.IntN.{+ℤ_comm}
 use Rattle.std.proofs.Math.Nat.{mul-div_cancel', div-le_self, dvd-add, dvd-sub, dvd_refl, dvd_trans, dvd-mul_left, dvd-mul_right_of_dvd, eq-one_of_dvd-one}
 use Rattle.std.specs.Int.{◌∣◌}
-use Rattle.spec_rational.specs.Gcd.{gcd, gcd_is, gauss, gcd-quotients}
-use Rattle.spec_rational.specs.Rational.{ℚ, denominator, ratio, ◌+ℚ◌}
-use Rattle.spec_rational.proofs.Ring.{Poly, var, ◌⊕◌, ◌⊗◌}
-use Rattle.spec_rational.proofs.IntRing.{ring_ℤ}
-use Rattle.spec_rational.proofs.Rational.{ratio_same, ratio-add, ratio_back}
-use Rattle.spec_rational.proofs.Gcd.{gcd_comm, coprime_mul, coprime_parts}
+use Rattle.spec_numbers.specs.Gcd.{gcd, gcd_is, gauss, gcd-quotients}
+use Rattle.spec_numbers.specs.Rational.{ℚ, denominator, ratio, ◌+ℚ◌}
+use Rattle.spec_numbers.proofs.Ring.{Poly, var, ◌⊕◌, ◌⊗◌}
+use Rattle.spec_numbers.proofs.IntRing.{ring_ℤ}
+use Rattle.spec_numbers.proofs.RationalLemmas.{ratio_same, ratio-add, ratio_back}
+use Rattle.spec_numbers.proofs.Gcd.{gcd_comm, coprime_mul, coprime_parts}
 use Rattle.cq_frac.specs.Cancelled.{AreParts, common_top, common_bottom, sum_peak}
 use Rattle.cq_frac.specs.Fits.{signed, SumAccepted, SumRefused, left_term, right_term, common_den, limit}
 use Rattle.cq_frac.proofs.View.{nat_abs-neg}

@@ -2,8 +2,8 @@
 use Rattle.std.proofs.Common.{◌≡◌, ◌<◌, ◌^◌, ℤ, pos, negsuc, nat_abs, neg_ℤ, ◌-ℤ◌, arith, ap, ap₂, sym, ◌∙◌, to_z, of_z}
 use Rattle.std.proofs.lemmas.Int.{ints, fits_signed_from_abs, to_z-of_z}
 use mir.Syntax.{w128}
-use Rattle.spec_rational.specs.Rational.{ℚ, denominator, ratio, neg_ℚ}
-use Rattle.spec_rational.proofs.Rational.{ratio-neg}
+use Rattle.spec_numbers.specs.Rational.{ℚ, denominator, ratio, neg_ℚ}
+use Rattle.spec_numbers.proofs.RationalLemmas.{ratio-neg}
 use Rattle.cq_frac.specs.Fits.{IsLowest}
 use Rattle.cq_frac.specs.Lowest.{numerator-ratio, denominator-ratio}
 

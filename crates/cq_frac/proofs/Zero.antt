@@ -4,9 +4,9 @@ use Rattle.std.proofs.lemmas.Int.{ints}
 use Rattle.std.proofs.Math.Nat.{eq-one_of_dvd-one}
 use Rattle.std.specs.Int.{◌∣◌}
 use mir.Syntax.{w128}
-use Rattle.spec_rational.specs.Gcd.{gcd, gcd_is}
-use Rattle.spec_rational.specs.Rational.{ℚ, 0ℚ, denominator, ratio, int_ℚ, inv_ℚ, inverted}
-use Rattle.spec_rational.proofs.Rational.{cross_same}
+use Rattle.spec_numbers.specs.Gcd.{gcd, gcd_is}
+use Rattle.spec_numbers.specs.Rational.{ℚ, 0ℚ, denominator, ratio, int_ℚ, inv_ℚ, inverted}
+use Rattle.spec_numbers.proofs.RationalLemmas.{cross_same}
 use Rattle.cq_frac.specs.Fits.{IsLowest}
 use Rattle.cq_frac.proofs.View.{num_is, den_is, back, minus_back}
 

@@ -1,6 +1,6 @@
 -- What is left of the parts of a sum and of a product of a / b and c / d when common divisors are cancelled.
 use Rattle.std.specs.Prelude.{◌≡◌, ℕ, ◌*◌, ◌/◌, max, Bool, ℤ, pos, nat_abs, int_lt, ◌+ℤ◌}
-use Rattle.spec_rational.specs.Gcd.{gcd}
+use Rattle.spec_numbers.specs.Gcd.{gcd}
 use Rattle.cq_frac.specs.Fits.{signed}
 
 -- the product's numerator, cancelled crosswise

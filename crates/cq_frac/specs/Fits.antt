@@ -1,7 +1,7 @@
 -- Which rationals fit into 128 bits, and which sums are taken or refused.
 use Rattle.std.specs.Prelude.{◌≡◌, ℕ, ◌*◌, ◌<◌, ◌≤◌, ◌^◌, ◌/◌, Bool, true, false, ℤ, pos, nat_abs, neg_ℤ, ◌*ℤ◌, ◌+ℤ◌, ◌⊎◌, ◌<ℤ◌}
-use Rattle.spec_rational.specs.Rational.{ℚ, denominator}
-use Rattle.spec_rational.specs.Gcd.{gcd}
+use Rattle.spec_numbers.specs.Rational.{ℚ, denominator}
+use Rattle.spec_numbers.specs.Gcd.{gcd}
 
 -- one more than the greatest part, 2 ^ 127 - 1
 abbrev pub limit : ℕ

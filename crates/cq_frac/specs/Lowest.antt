@@ -2,8 +2,8 @@
 use Rattle.std.specs.Prelude.{◌≡◌, ℤ, pos, negsuc, nat_abs}
 use Rattle.std.proofs.Common.{zero, suc, arith, ap}
 use Rattle.std.proofs.lemmas.Int.{ints}
-use Rattle.spec_rational.specs.Rational.{ℚ, denominator, ratio}
-use Rattle.spec_rational.proofs.Rational.{ratio_back}
+use Rattle.spec_numbers.specs.Rational.{ℚ, denominator, ratio}
+use Rattle.spec_numbers.proofs.RationalLemmas.{ratio_back}
 use Rattle.cq_frac.specs.Fits.{IsLowest}
 
 pub numerator-ratio : (n d : ℤ) → IsLowest n d → (ratio n (nat_abs d)).numerator ≡ n

@@ -1,6 +1,6 @@
 -- When an operation takes two numbers, and when it refuses them.
 use Rattle.std.specs.Prelude.{◌≡◌, ◌⊎◌}
-use Rattle.spec_rational.specs.Rational.{ℚ, neg_ℚ, ◌*ℚ◌, ◌/ℚ◌}
+use Rattle.spec_numbers.specs.Rational.{ℚ, neg_ℚ, ◌*ℚ◌, ◌/ℚ◌}
 use Rattle.cq_frac.specs.declared.Operation.{Operation}
 use Rattle.cq_frac.specs.declared.Operation.TheVariants.{Sum, Difference, Product, Quotient}
 use Rattle.cq_frac.specs.declared.Pair.{Pair}

@@ -1,7 +1,7 @@
 -- How a number is written: `N`, or `NrD` where it isn't whole.
 use Rattle.std.specs.Prelude.{ℕ, zero, suc, List, [], ◌++◌, codes}
 use Rattle.std.specs.Fmt.{decimal, signed_decimal}
-use Rattle.spec_rational.specs.Rational.{ℚ}
+use Rattle.spec_numbers.specs.Rational.{ℚ}
 
 -- by the denominator less one
 abbrev pub denominator_text : ℕ → List ℕ

@@ -1,15 +1,17 @@
 //! Exact fractions of 128 bits: each is seen as the rational number that it is.
 #![tactic(auto)]
 
+pub mod row;
+
 ghost use Rattle.std.specs.Prelude.{◌≡◌, ◌≢◌, ◌<◌, ◌↔◌, pos, nat_abs, int_lt, Some, IfOk, OnOk, MatchResult, IsTrue};
 ghost use Rattle.std.specs.Bool.{OnFalse};
 ghost use Rattle.std.specs.Cmp.{partial_equiv_from_equiv, eq_by_cmp_equiv, partial_order_from_total};
 ghost use Rattle.std.specs.Ordering.{nat_cmp, eq_by_cmp, as_partial_cmp};
 ghost use Rattle.std.proofs.Common.{refl};
-ghost use Rattle.spec_rational.specs.Gcd.{gcd as gcd_of};
-ghost use Rattle.spec_rational.specs.Order.{cmp_ℚ};
-ghost use Rattle.spec_rational.specs.Rational.{0ℚ, 1ℚ, int_ℚ, quotient, ratio, neg_ℚ, inv_ℚ, ◌+ℚ◌, ◌-ℚ◌, ◌*ℚ◌, ◌/ℚ◌, ◌<ℚ◌, denominator, IsPositive, IsNotNegative};
-ghost use Rattle.spec_rational.proofs.Order.{cmp_ℚ-total};
+ghost use Rattle.spec_numbers.specs.Gcd.{gcd as gcd_of};
+ghost use Rattle.spec_numbers.specs.Order.{cmp_ℚ};
+ghost use Rattle.spec_numbers.specs.Rational.{0ℚ, 1ℚ, int_ℚ, quotient, ratio, neg_ℚ, inv_ℚ, ◌+ℚ◌, ◌-ℚ◌, ◌*ℚ◌, ◌/ℚ◌, ◌<ℚ◌, denominator, IsPositive, IsNotNegative};
+ghost use Rattle.spec_numbers.proofs.Order.{cmp_ℚ-total};
 ghost use Rattle.cq_frac.specs.Fits.{Exceeds, Fits, SumAccepted, SumRefused, limit, signed};
 ghost use Rattle.cq_frac.specs.Refused.{Accepts, Tells, AcceptsOrRefuses, NeverBoth};
 ghost use Rattle.cq_frac.specs.declared.Operation.TheVariants.{Sum, Difference, Product, Quotient};
@@ -98,7 +100,7 @@ pub struct Frac {
 }
 
 impl Model for Frac {
-    ghost use Rattle.spec_rational.specs.Rational.{ℚ, ratio, denominator};
+    ghost use Rattle.spec_numbers.specs.Rational.{ℚ, ratio, denominator};
     ghost use Rattle.cq_frac.specs.Code.{rational_code};
     ghost use Rattle.cq_frac.specs.Fits.{IsLowest};
     ghost use Rattle.std.specs.Prelude.{nat_abs, pos};

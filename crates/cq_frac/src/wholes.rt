@@ -3,7 +3,7 @@
 ghost use Rattle.std.specs.Prelude.{◌≡◌, ◌+◌, ◌*◌, ◌/◌, ◌%◌, ◌<◌, ◌≤◌, ◌^◌, ◌⊎◌, max, nat_abs, ◌+ℤ◌, MatchOption};
 ghost use Rattle.std.specs.Int.{trailing_zeros, w64, w128};
 ghost use Rattle.std.specs.Ordering.{nat_cmp};
-ghost use Rattle.spec_rational.specs.Gcd.{gcd as gcd_of};
+ghost use Rattle.spec_numbers.specs.Gcd.{gcd as gcd_of};
 ghost use Rattle.cq_frac.specs.Cancelled.{AreParts, common_bottom, common_top, product_bottom, product_top, sum_peak};
 ghost use Rattle.cq_frac.specs.Fits.{limit, signed};
 
@@ -206,7 +206,7 @@ fn total_64(first_negative: bool, left: u64, second_negative: bool, right: u64) 
 }
 
 /// The parts of the sum of a/b and c/d in lowest terms, where each number on the way to it fits.
-#[tactic(auto, using(spec_rational::specs::Gcd::gcd_pos))]
+#[tactic(auto, using(spec_numbers::specs::Gcd::gcd_pos))]
 pub(crate) fn sum_parts(
     first_negative: bool,
     a: u128,
@@ -249,7 +249,7 @@ pub(crate) fn sum_parts(
 }
 
 /// The parts of the sum of small numbers, in 64 bits.
-#[tactic(auto, using(spec_rational::specs::Gcd::gcd_pos, crate::proofs::Small::small_times))]
+#[tactic(auto, using(spec_numbers::specs::Gcd::gcd_pos, crate::proofs::Small::small_times))]
 fn small_sum(
     first_negative: bool,
     a: u64,
@@ -273,7 +273,7 @@ fn small_sum(
 }
 
 /// The parts of the product of a/b and c/d in lowest terms, where they fit.
-#[tactic(auto, using(spec_rational::specs::Gcd::gcd_pos))]
+#[tactic(auto, using(spec_numbers::specs::Gcd::gcd_pos))]
 pub(crate) fn product_parts(a: u128, b: u128, c: u128, d: u128) -> Option<(u128, u128)>
     requires b_pos { 0 < b }
     requires d_pos { 0 < d }
@@ -294,7 +294,7 @@ pub(crate) fn product_parts(a: u128, b: u128, c: u128, d: u128) -> Option<(u128,
 }
 
 /// The parts of the product of small numbers, in 64 bits.
-#[tactic(auto, using(spec_rational::specs::Gcd::gcd_pos))]
+#[tactic(auto, using(spec_numbers::specs::Gcd::gcd_pos))]
 fn small_product(a: u64, b: u64, c: u64, d: u64) -> (u64, u64)
     requires small { max (max a b) (max c d) < 2 ^ 31 }
     requires b_pos { 0 < b }

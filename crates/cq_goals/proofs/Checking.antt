@@ -2,20 +2,20 @@
 use Rattle.std.proofs.Common.{◌≡◌, ℕ, ◌+◌, ◌<◌, List, [], ◌∷◌, ◌++◌, length, Option, Some, None, ap, sym, ◌∙◌, arith}
 use Rattle.std.specs.Prelude.{All}
 use Rattle.std.proofs.lemmas.List.Elements.{All-nil, All-push, All-same, All-pop}
-use Rattle.spec_lists.specs.Texts.{Text}
+use Rattle.spec_numbers.specs.Texts.{Text}
 use Rattle.spec_terms.specs.Term.{size}
 use Rattle.spec_syntax.specs.Trees.{Tree, binary}
-use Rattle.spec_built.specs.Errors.{or_error, type_error}
-use Rattle.spec_told.specs.Checks.{constraint_error, question_error}
-use Rattle.cq_atoms.specs.Texts.{text_of}
+use Rattle.spec_builtins.specs.Errors.{or_error, type_error}
+use Rattle.spec_branch.specs.Checks.{constraint_error, question_error}
+use Rattle.cq_term.specs.Texts.{text_of}
 use Rattle.cq_term.specs.Meaning.{HeapTerm, at}
 use Rattle.cq_term.specs.Trees.{tree}
 use Rattle.cq_built.specs.declared.errors.BuiltinFault.{BuiltinFault}
-use Rattle.cq_sides.specs.Faults.{IsFound}
-use Rattle.cq_sides.specs.Sides.{HasSides}
-use Rattle.cq_sides.specs.declared.sides.Sides.{Sides}
-use Rattle.cq_sides.proofs.Errors.{found_first, found_same}
-use Rattle.cq_sides.proofs.Heads.{tree_of_sides, size_of_sides}
+use Rattle.cq_built.specs.Faults.{IsFound}
+use Rattle.cq_built.specs.Sides.{HasSides}
+use Rattle.cq_built.specs.declared.sides.Sides.{Sides}
+use Rattle.cq_built.proofs.SidesErrors.{found_first, found_same}
+use Rattle.cq_built.proofs.Heads.{tree_of_sides, size_of_sides}
 use Rattle.cq_goals.specs.declared.checks.Purpose.{Purpose}
 use Rattle.cq_goals.specs.declared.checks.Purpose.TheVariants as purpose
 use Rattle.cq_goals.specs.declared.checks.Part.{Part}

@@ -2,19 +2,19 @@
 use Rattle.std.proofs.Common.{◌≡◌, ◌≢◌, ℕ, ◌+◌, Bool, true, false, ◌&&◌, ◌||◌, [], ◌∷◌, ◌++◌, Option, Some, None, is_some, nat_eq, refl, ap, ◌∙◌, arith}
 use Rattle.std.specs.Prelude.{if◌then◌else◌}
 use Rattle.std.proofs.lemmas.Bool.Decides.{nat_tests}
-use Rattle.spec_lists.specs.Texts.{Text}
+use Rattle.spec_numbers.specs.Texts.{Text}
 use Rattle.spec_terms.specs.Term.{Var, Number, Name, Compound, one, more, count, named, named_all}
 use Rattle.spec_syntax.specs.Trees.{Tree, binary}
-use Rattle.spec_built.specs.Built.{indicator}
-use Rattle.spec_built.specs.Errors.{instantiation, type_error, not_evaluable, or_error}
-use Rattle.spec_told.specs.Checks.{is_expression, expression_error, expressions_error, constraint_error, question_error, binary_error, is_conjunction, is_disjunction, members, halves, in_conjunction}
-use Rattle.spec_told.specs.Expressions.{unary_name, binary_name}
-use Rattle.spec_told.specs.Relations.{relation_name}
+use Rattle.spec_builtins.specs.Built.{indicator}
+use Rattle.spec_builtins.specs.Errors.{instantiation, type_error, not_evaluable, or_error}
+use Rattle.spec_branch.specs.Checks.{is_expression, expression_error, expressions_error, constraint_error, question_error, binary_error, is_conjunction, is_disjunction, members, halves, in_conjunction}
+use Rattle.spec_branch.specs.Expressions.{unary_name, binary_name}
+use Rattle.spec_branch.specs.Relations.{relation_name}
 use Rattle.cq_term.specs.Meaning.{HeapTerm}
 use Rattle.cq_term.specs.Shown.{view_of}
 use Rattle.cq_term.specs.declared.view.View.TheVariants as view
-use Rattle.cq_sides.specs.Sides.{is_binary}
-use Rattle.cq_sides.proofs.Heads.{count-named}
+use Rattle.cq_built.specs.Sides.{is_binary}
+use Rattle.cq_built.proofs.Heads.{count-named}
 use Rattle.cq_goals.specs.declared.checks.Purpose.{Purpose}
 use Rattle.cq_goals.specs.declared.checks.Purpose.TheVariants as purpose
 use Rattle.cq_goals.specs.Checking.{error_for}

@@ -1,5 +1,13 @@
+pub mod Computed
+pub mod Steps
 pub mod Errors
 pub mod Values
 pub mod Heads
 pub mod Checking
 pub mod Splitting
+pub mod DeclarationsErrors
+pub mod DeclarationsHeads
+pub mod Declaring
+pub mod Declared
+pub mod Libraries
+pub mod Bodies

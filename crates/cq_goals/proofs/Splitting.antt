@@ -3,22 +3,22 @@ use Rattle.std.proofs.Common.{◌≡◌, ◌≢◌, ℕ, ◌+◌, ◌<◌, ◌�
 use Rattle.std.specs.Prelude.{All}
 use Rattle.std.specs.Cmp.Lexicographic.{bytes_decides}
 use Rattle.std.proofs.lemmas.List.Elements.{All-cons, All-push, All-same, All-pop}
-use Rattle.spec_lists.specs.Texts.{Text}
-use Rattle.spec_lists.proofs.Prefixes.{prefix_length, prefix_same}
+use Rattle.spec_numbers.specs.Texts.{Text}
+use Rattle.spec_numbers.proofs.Prefixes.{prefix_length, prefix_same}
 use Rattle.spec_terms.specs.Term.{size, with_arguments}
 use Rattle.spec_syntax.specs.Trees.{binary}
-use Rattle.spec_built.specs.Built.{compound2}
-use Rattle.spec_told.specs.Checks.{Halves, halves, in_conjunction, is_conjunction}
-use Rattle.cq_atoms.specs.Texts.{text_of}
+use Rattle.spec_builtins.specs.Built.{compound2}
+use Rattle.spec_branch.specs.Checks.{Halves, halves, in_conjunction, is_conjunction}
+use Rattle.cq_term.specs.Texts.{text_of}
 use Rattle.cq_term.specs.Meaning.{HeapTerm, at}
 use Rattle.cq_term.specs.HeapValue.{HeapValue}
 use Rattle.cq_term.specs.Trees.{tree, KnowsTerms}
 use Rattle.cq_built.specs.Growing.{Grows}
 use Rattle.cq_built.proofs.Growing.{grows_both, grows_names}
 use Rattle.cq_built.proofs.Trees.{kept, tree_last}
-use Rattle.cq_sides.specs.Sides.{HasSides}
-use Rattle.cq_sides.specs.declared.sides.Sides.{Sides}
-use Rattle.cq_sides.proofs.Heads.{size_of_sides}
+use Rattle.cq_built.specs.Sides.{HasSides}
+use Rattle.cq_built.specs.declared.sides.Sides.{Sides}
+use Rattle.cq_built.proofs.Heads.{size_of_sides}
 use Rattle.cq_goals.specs.declared.halves.Frame.{Frame}
 use Rattle.cq_goals.specs.declared.halves.Frame.TheVariants as frame
 use Rattle.cq_goals.specs.declared.halves.HalfTerms.{HalfTerms}

@@ -1,8 +1,8 @@
 -- What goals of arithmetic come to.
 use Rattle.std.proofs.Common.{◌≡◌, List, sym, subst}
-use Rattle.spec_lists.specs.Texts.{Text}
-use Rattle.spec_rational.specs.Rational.{ℚ}
-use Rattle.spec_arithmetic.specs.Operations.{Evaluated, Value, Fails, Overflows}
+use Rattle.spec_numbers.specs.Texts.{Text}
+use Rattle.spec_numbers.specs.Rational.{ℚ}
+use Rattle.spec_terms.specs.Operations.{Evaluated, Value, Fails, Overflows}
 use Rattle.cq_term.specs.Meaning.{HeapTerm}
 use Rattle.cq_goals.specs.declared.faults.GoalFault.{GoalFault}
 use Rattle.cq_goals.specs.declared.faults.GoalFault.TheVariants as fault

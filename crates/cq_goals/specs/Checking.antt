@@ -1,11 +1,11 @@
 -- A check of a constraint under way: the parts that are still to be looked at, the next one last.
 use Rattle.std.specs.Prelude.{◌≡◌, ℕ, ◌+◌, ◌<◌, List, [], ◌∷◌, Bool, true, false, Option, None, is_some, length, All}
-use Rattle.spec_lists.specs.Texts.{Text}
+use Rattle.spec_numbers.specs.Texts.{Text}
 use Rattle.spec_terms.specs.Term.{size}
 use Rattle.spec_syntax.specs.Trees.{Tree}
-use Rattle.spec_built.specs.Errors.{or_error}
-use Rattle.spec_told.specs.Checks.{constraint_error, question_error, expression_error, is_conjunction, is_disjunction}
-use Rattle.spec_told.specs.Relations.{relation_name}
+use Rattle.spec_builtins.specs.Errors.{or_error}
+use Rattle.spec_branch.specs.Checks.{constraint_error, question_error, expression_error, is_conjunction, is_disjunction}
+use Rattle.spec_branch.specs.Relations.{relation_name}
 use Rattle.cq_term.specs.Meaning.{HeapTerm, at}
 use Rattle.cq_term.specs.Trees.{tree}
 use Rattle.cq_goals.specs.declared.checks.Purpose.{Purpose}

@@ -1,13 +1,13 @@
 -- What the faults of goals say of them.
 use Rattle.std.specs.Prelude.{◌≡◌, Bool, List, ⊤}
-use Rattle.spec_lists.specs.Texts.{Text}
-use Rattle.spec_rational.specs.Rational.{ℚ}
-use Rattle.spec_rational.specs.Order.{cmp_ℚ}
+use Rattle.spec_numbers.specs.Texts.{Text}
+use Rattle.spec_numbers.specs.Rational.{ℚ}
+use Rattle.spec_numbers.specs.Order.{cmp_ℚ}
 use Rattle.spec_terms.specs.Term.{Number}
-use Rattle.spec_arithmetic.specs.Operations.{ArithmeticError, Evaluated, Value, Fails}
-use Rattle.spec_arithmetic.specs.Operations as arithmetic
+use Rattle.spec_terms.specs.Operations.{ArithmeticError, Evaluated, Value, Fails}
+use Rattle.spec_terms.specs.Operations as arithmetic
 use Rattle.spec_syntax.specs.Trees.{Tree}
-use Rattle.spec_built.specs.Errors.{arithmetic_error}
+use Rattle.spec_builtins.specs.Errors.{arithmetic_error}
 use Rattle.spec_builtins.specs.Alternatives.{Comparison, allows}
 use Rattle.cq_term.specs.Meaning.{HeapTerm}
 use Rattle.cq_built.specs.Errors.{error_tree, HasCulprit}

@@ -1,4 +1,9 @@
+pub mod ArithFaults
+pub mod Work
 pub mod Faults
 pub mod Checking
 pub mod Splitting
 pub mod Tellings
+pub mod Operators
+pub mod Declarations
+pub mod Clauses

@@ -1,15 +1,15 @@
 -- The members of a constraint, and its halves, while they are looked for.
 use Rattle.std.specs.Prelude.{◌≡◌, ℕ, ◌+◌, ◌<◌, List, [], ◌∷◌, Option, Some, None, true, length, All}
-use Rattle.spec_lists.specs.Texts.{Text}
+use Rattle.spec_numbers.specs.Texts.{Text}
 use Rattle.spec_terms.specs.Term.{size}
-use Rattle.spec_told.specs.Checks.{is_conjunction, Halves, halves, in_conjunction}
-use Rattle.cq_atoms.specs.Texts.{text_of}
+use Rattle.spec_branch.specs.Checks.{is_conjunction, Halves, halves, in_conjunction}
+use Rattle.cq_term.specs.Texts.{text_of}
 use Rattle.cq_term.specs.Meaning.{HeapTerm, at}
 use Rattle.cq_term.specs.HeapValue.{HeapValue}
 use Rattle.cq_term.specs.Trees.{tree}
 use Rattle.cq_built.specs.Growing.{Grows}
-use Rattle.cq_sides.specs.Sides.{HasSides}
-use Rattle.cq_sides.specs.declared.sides.Sides.{Sides}
+use Rattle.cq_built.specs.Sides.{HasSides}
+use Rattle.cq_built.specs.declared.sides.Sides.{Sides}
 use Rattle.cq_goals.specs.declared.halves.Frame.{Frame}
 use Rattle.cq_goals.specs.declared.halves.Frame.TheVariants as frame
 use Rattle.cq_goals.specs.declared.halves.HalfTerms.{HalfTerms}

@@ -1,11 +1,11 @@
 -- What a constraint is told as.
 use Rattle.std.specs.Prelude.{◌≡◌, ◌<◌, List, Some, None, length}
-use Rattle.spec_lists.specs.Texts.{Text}
+use Rattle.spec_numbers.specs.Texts.{Text}
 use Rattle.spec_syntax.specs.Trees.{Tree}
-use Rattle.spec_told.specs.Checks.{members, halves}
+use Rattle.spec_branch.specs.Checks.{members, halves}
 use Rattle.cq_term.specs.Meaning.{HeapTerm}
 use Rattle.cq_term.specs.Trees.{tree, trees}
-use Rattle.cq_sides.specs.Splitting.{AreLive}
+use Rattle.cq_built.specs.Splitting.{AreLive}
 use Rattle.cq_goals.specs.declared.tellings.Telling.{Telling}
 use Rattle.cq_goals.specs.declared.tellings.Telling.TheVariants as telling
 

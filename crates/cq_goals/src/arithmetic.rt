@@ -1,23 +1,23 @@
 // The goals of arithmetic: the value of an expression, and comparisons of two.
 
 ghost use Rattle.std.specs.Prelude.{◌≡◌, ◌<◌, List, length, IfOk, IfErr, OnErr};
-ghost use Rattle.spec_lists.specs.Texts.{Text};
-ghost use Rattle.spec_arithmetic.specs.Operations.{Evaluated};
-ghost use Rattle.spec_arithmetic.specs.Arithmetic.{evaluate};
-ghost use Rattle.spec_built.specs.Errors.{arithmetic_error};
+ghost use Rattle.spec_numbers.specs.Texts.{Text};
+ghost use Rattle.spec_terms.specs.Operations.{Evaluated};
+ghost use Rattle.spec_terms.specs.Arithmetic.{evaluate};
+ghost use Rattle.spec_builtins.specs.Errors.{arithmetic_error};
 ghost use Rattle.cq_term.specs.Meaning.{HeapTerm};
 ghost use Rattle.cq_term.specs.Trees.{tree, KnowsTerms};
-ghost use Rattle.cq_arith.specs.Faults.{told, ComesTo, BlamesBelow, IsNamedBelow};
+ghost use Rattle.cq_goals.specs.ArithFaults.{told, ComesTo, BlamesBelow, IsNamedBelow};
 ghost use Rattle.cq_built.specs.Errors.{error_tree, HasCulprit};
 ghost use Rattle.cq_built.specs.Growing.{Grows};
 ghost use Rattle.cq_builtin.specs.Rows.{comparison_of};
 ghost use Rattle.cq_goals.specs.Faults.{IsOutcome, IsFirstOutcome, IsValue, Compares, HasItsCulprit};
 
+use crate::arith::{EvalError, EvalFault, eval};
 use crate::faults::GoalFault;
-use cq_arith::{EvalError, EvalFault, eval};
-use cq_atoms::Atoms;
 use cq_built::{BuiltinError, Culprit, ValidType};
 use cq_builtin::{Comparison, is_allowed};
+use cq_term::atoms::Atoms;
 use cq_term::{Heap, Pred, TermId};
 
 /// `X is EXPRESSION`: the number with which X is to be unified. After a fault the heap is as it was.

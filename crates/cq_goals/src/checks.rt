@@ -1,23 +1,23 @@
 // The checks of constraints and expressions, with the parts that are still to be looked at on a list of their own.
 
 ghost use Rattle.std.specs.Prelude.{◌≡◌, ◌<◌, ◌∷◌, ◌++◌, [], None, Some, List, false, is_some, length, IfOk, IfErr, OnOk};
-ghost use Rattle.spec_lists.specs.Texts.{Text};
+ghost use Rattle.spec_numbers.specs.Texts.{Text};
 ghost use Rattle.spec_terms.specs.Term.{size};
-ghost use Rattle.spec_told.specs.Checks.{expression_error};
-ghost use Rattle.spec_told.specs.Expressions.{unary_name, binary_name};
-ghost use Rattle.spec_told.specs.Relations.{relation_name};
+ghost use Rattle.spec_branch.specs.Checks.{expression_error};
+ghost use Rattle.spec_branch.specs.Expressions.{unary_name, binary_name};
+ghost use Rattle.spec_branch.specs.Relations.{relation_name};
 ghost use Rattle.cq_term.specs.Meaning.{at};
 ghost use Rattle.cq_term.specs.Shown.{view_of};
 ghost use Rattle.cq_term.specs.declared.view.View.TheVariants.{Compound};
 ghost use Rattle.cq_term.specs.Trees.{tree, KnowsTerms};
 ghost use Rattle.cq_built.specs.Errors.{error_tree, HasCulprit, CanBeRaised};
-ghost use Rattle.cq_sides.specs.Faults.{IsFound};
-ghost use Rattle.cq_sides.specs.Sides.{HasSides, is_binary};
+ghost use Rattle.cq_built.specs.Faults.{IsFound};
+ghost use Rattle.cq_built.specs.Sides.{HasSides, is_binary};
 ghost use Rattle.cq_goals.specs.Checking.{error_for, part_error, part_id, IsLivePart, GoesOn, ExpressionGoesOn, IsRole};
 
-use cq_atoms::{Atom, Atoms};
+use cq_built::sides::{Sides, sides_of};
 use cq_built::{BuiltinError, BuiltinFault, Culprit, ValidType};
-use cq_sides::{Sides, sides_of};
+use cq_term::atoms::{Atom, Atoms};
 use cq_term::{Heap, Pred, TermId, View};
 use std::alloc::{AllocError, Global};
 

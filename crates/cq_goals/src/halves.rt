@@ -2,17 +2,17 @@
 
 ghost use Rattle.std.specs.Prelude.{◌≡◌, ◌≢◌, ◌<◌, ◌≤◌, ◌++◌, ◌∷◌, [], None, Some, true, List, length, All, IfOk, IfSome, IsNone, OnOk};
 ghost use Rattle.std.specs.Option.{option_map};
-ghost use Rattle.spec_lists.specs.Texts.{Text};
-ghost use Rattle.spec_built.specs.Built.{compound2};
-ghost use Rattle.spec_told.specs.Checks.{halves, is_conjunction};
-ghost use Rattle.cq_atoms.specs.Texts.{text_of};
+ghost use Rattle.spec_numbers.specs.Texts.{Text};
+ghost use Rattle.spec_builtins.specs.Built.{compound2};
+ghost use Rattle.spec_branch.specs.Checks.{halves, is_conjunction};
+ghost use Rattle.cq_term.specs.Texts.{text_of};
 ghost use Rattle.cq_term.specs.Meaning.{HeapTerm};
 ghost use Rattle.cq_term.specs.Trees.{tree, KnowsTerms};
 ghost use Rattle.cq_built.specs.Growing.{Grows};
 ghost use Rattle.cq_goals.specs.Splitting.{HasShape, IsLiveFrame, IsNext, next_work, all_work, all_resumed, resumed, halves_at, AreHalvesLive, IsOccurrence};
 
-use cq_atoms::{Atom, Atoms};
-use cq_sides::{Sides, sides_of};
+use cq_built::sides::{Sides, sides_of};
+use cq_term::atoms::{Atom, Atoms};
 use cq_term::{Heap, TermId};
 use std::alloc::AllocError;
 

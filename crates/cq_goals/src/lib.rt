@@ -2,8 +2,10 @@
 //! as the definitions of the goals look for them.
 #![tactic(auto)]
 
+pub mod arith;
 mod arithmetic;
 mod checks;
+pub mod declarations;
 mod faults;
 mod halves;
 mod members;

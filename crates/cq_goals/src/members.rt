@@ -1,13 +1,13 @@
 // The members of conjunctions.
 
 ghost use Rattle.std.specs.Prelude.{◌≡◌, ◌<◌, ◌∷◌, [], length, IfOk, IfSome, IsNone, OnOk};
-ghost use Rattle.spec_told.specs.Checks.{members};
+ghost use Rattle.spec_branch.specs.Checks.{members};
 ghost use Rattle.cq_term.specs.Trees.{tree, trees, KnowsTerms};
-ghost use Rattle.cq_sides.specs.Splitting.{AreLive, TakesApart};
+ghost use Rattle.cq_built.specs.Splitting.{AreLive, TakesApart};
 ghost use Rattle.cq_goals.specs.Splitting.{AreConjuncts};
 
-use cq_atoms::Atoms;
-use cq_sides::{Sides, sides_of};
+use cq_built::sides::{Sides, sides_of};
+use cq_term::atoms::Atoms;
 use cq_term::{Heap, TermId};
 use std::alloc::AllocError;
 

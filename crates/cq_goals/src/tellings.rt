@@ -1,19 +1,19 @@
 // Constraints that are told, and constraints and expressions that are asked about.
 
 ghost use Rattle.std.specs.Prelude.{◌≡◌, ◌<◌, None, length, IfOk, IfErr, OnOk, OnErr};
-ghost use Rattle.spec_told.specs.Checks.{constraint_error, question_error, expression_error, members};
+ghost use Rattle.spec_branch.specs.Checks.{constraint_error, question_error, expression_error, members};
 ghost use Rattle.cq_term.specs.Trees.{tree, trees, KnowsTerms};
 ghost use Rattle.cq_built.specs.Errors.{CanBeRaised};
 ghost use Rattle.cq_built.specs.Growing.{Grows};
-ghost use Rattle.cq_sides.specs.Faults.{IsFound};
-ghost use Rattle.cq_sides.specs.Splitting.{AreLive};
+ghost use Rattle.cq_built.specs.Faults.{IsFound};
+ghost use Rattle.cq_built.specs.Splitting.{AreLive};
 ghost use Rattle.cq_goals.specs.Tellings.{IsTelling, IsLiveTelling};
 
 use crate::checks::{Part, Purpose, check};
 use crate::halves::halves;
 use crate::members::members;
-use cq_atoms::Atoms;
 use cq_built::BuiltinFault;
+use cq_term::atoms::Atoms;
 use cq_term::{Heap, TermId};
 use cq_trail::Undo;
 use std::alloc::AllocError;

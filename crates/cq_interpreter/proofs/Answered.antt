@@ -2,24 +2,24 @@
 use Rattle.std.proofs.Common.{◌≡◌, ℕ, refl, sym, subst, Result, Ok, Err}
 use Rattle.std.specs.Prelude.{Vec, IfOk, IfErr}
 use Rattle.std.specs.declared.alloc.Global.{Global}
-use Rattle.spec_operators.specs.Operators.{Ops}
-use Rattle.spec_limits.specs.Answers.{IsProjectionDue}
-use Rattle.spec_limits.specs.Chains.{IsBlandChain}
+use Rattle.spec_syntax.specs.Operators.{Ops}
+use Rattle.spec_simplex.specs.Answers.{IsProjectionDue}
+use Rattle.spec_simplex.specs.Chains.{IsBlandChain}
 use Rattle.spec_branch.specs.Branch.{State}
 use Rattle.spec_answers.specs.Answer.{AnswerForm}
 use Rattle.spec_answers.specs.Targets.{wanted}
-use Rattle.spec_session.specs.Parts as parts
-use Rattle.spec_stops.specs.Causes as why
+use Rattle.spec_engine.specs.Parts as parts
+use Rattle.spec_transcript.specs.Causes as why
 use Rattle.cq_frac.specs.declared.Pair.{Pair}
-use Rattle.cq_eliminate.specs.declared.ProjectFault.{ProjectFault}
-use Rattle.cq_eliminate.specs.declared.ProjectFault.TheVariants.{Overflow, Pivots, Rows, NoMemory}
-use Rattle.cq_eliminate.specs.Faults.{IfRows}
-use Rattle.cq_reduce.specs.Answering.{IsRefusedAnswering, IsSpentAnswering}
-use Rattle.cq_world.specs.Rest.{IsReadyAs}
+use Rattle.cq_project.specs.declared.eliminate.ProjectFault.{ProjectFault}
+use Rattle.cq_project.specs.declared.eliminate.ProjectFault.TheVariants.{Overflow, Pivots, Rows, NoMemory}
+use Rattle.cq_project.specs.EliminateFaults.{IfRows}
+use Rattle.cq_project.specs.Answering.{IsRefusedAnswering, IsSpentAnswering}
+use Rattle.cq_settle.specs.Rest.{IsReadyAs}
 use Rattle.cq_machine.specs.Machines.{database_of, now}
-use Rattle.cq_transcript.specs.Events.{IsAnswered}
-use Rattle.cq_transcript.specs.declared.interpreter.Answered.{Answered}
-use Rattle.cq_transcript.specs.declared.interpreter.Answered.TheVariants as answered
+use Rattle.cq_session.specs.Events.{IsAnswered}
+use Rattle.cq_session.specs.declared.transcript.interpreter.Answered.{Answered}
+use Rattle.cq_session.specs.declared.transcript.interpreter.Answered.TheVariants as answered
 use Rattle.cq_interpreter.specs.Told.{IsWritten}
 use Rattle.cq_interpreter.specs.Toplevels.{texts, budgets_of, names_of, HasAnswered}
 use Rattle.cq_interpreter.specs.declared.toplevel.Toplevel.{Toplevel}

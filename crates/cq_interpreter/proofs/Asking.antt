@@ -3,22 +3,22 @@ use Rattle.std.proofs.Common.{◌≡◌, ◌∙◌, ℕ, List, [], Result, Ok, E
 use Rattle.std.specs.declared.alloc.AllocError.{AllocError}
 use Rattle.std.specs.Prelude.{reverse}
 use Rattle.std.specs.List.{AllByRecursion}
-use Rattle.spec_lists.specs.Texts.{Text}
-use Rattle.cq_atoms.specs.Texts.{AreDifferent}
+use Rattle.spec_numbers.specs.Texts.{Text}
+use Rattle.cq_term.specs.Texts.{AreDifferent}
 use Rattle.cq_control.specs.Open.{AreMarked}
 use Rattle.cq_ops.specs.Tables.{AreNamed}
-use Rattle.cq_program.specs.Database.{IsProgram}
-use Rattle.cq_world.specs.Contents.{Contents}
-use Rattle.spec_machine.specs.Cells.{Value}
-use Rattle.cq_steps.specs.Choices.{CanBeTried}
-use Rattle.cq_steps.specs.Worlds.{KnowsNothing}
-use Rattle.cq_steps.specs.declared.alternatives.Alternatives.{Alternatives}
+use Rattle.cq_resolve.specs.Database.{IsProgram}
+use Rattle.cq_settle.specs.Contents.{Contents}
+use Rattle.spec_engine.specs.Cells.{Value}
+use Rattle.cq_branch.specs.Choices.{CanBeTried}
+use Rattle.cq_branch.specs.Worlds.{KnowsNothing}
+use Rattle.cq_branch.specs.declared.alternatives.Alternatives.{Alternatives}
 use Rattle.cq_machine.specs.Machines.{AreNames, IsSound, now, saved}
 use Rattle.cq_machine.specs.declared.machine.Machine.{Machine}
-use Rattle.cq_events.specs.Seeking.{IsKept}
-use Rattle.cq_events.proofs.Engines.{zip_none}
-use Rattle.cq_events.specs.declared.engine.Engine.{Engine}
-use Rattle.cq_events.specs.Events.{IsIdle}
+use Rattle.cq_engine.specs.Seeking.{IsKept}
+use Rattle.cq_engine.proofs.Engines.{zip_none}
+use Rattle.cq_engine.specs.declared.events.engine.Engine.{Engine}
+use Rattle.cq_engine.specs.Events.{IsIdle}
 
 -- with as many marks, and the same choices, of which there are none
 pub kept_on : (old new : Machine) → IsSound old → old.choices ≡ [] → AreNames new.atoms new.names → AreDifferent new.atoms → IsProgram new.atoms new.clauses

@@ -2,7 +2,7 @@
 use Rattle.std.proofs.Common.{◌≡◌, ℕ, zero, suc, ◌≤◌, ◌-◌, List, [], ◌∷◌, ◌++◌, length, drop, Bool, true, false, cond, eqb, Option, Some, None, subst}
 use Rattle.std.specs.Prelude.{⊤}
 use Rattle.std.specs.List.{cons_option}
-use Rattle.spec_lists.specs.Texts.{Text}
+use Rattle.spec_numbers.specs.Texts.{Text}
 use Rattle.spec_terms.specs.Term.{Subst}
 use Rattle.spec_syntax.specs.Trees.{Tree}
 use Rattle.spec_branch.specs.Branch.{read, State, Sleeper, Copied, Item, Goal, CutTo, CutFail, CatchEnd, Collect, Gathered, Branch, Pending, Phase, Settled, Unsettled}
@@ -14,9 +14,9 @@ use Rattle.spec_search.specs.Steps as steps
 use Rattle.spec_search.specs.Steps.{Stepped, Ball, Children, Steps}
 use Rattle.spec_search.specs.Search.{Search, Look, Over, Settling, Moving, Collecting, Selecting, Answering, look_at, look_at_branch, look_at_items, gather, gathered_items}
 use Rattle.spec_search.specs.Turns as turn
-use Rattle.spec_stops.specs.Causes.{Budgets}
-use Rattle.spec_machine.specs.Coming.{Quietly, at_once, after, Told, Shows, Stops, Tells, shows, stops}
-use Rattle.spec_operators.specs.Operators.{Ops}
+use Rattle.spec_transcript.specs.Causes.{Budgets}
+use Rattle.spec_engine.specs.Coming.{Quietly, at_once, after, Told, Shows, Stops, Tells, shows, stops}
+use Rattle.spec_syntax.specs.Operators.{Ops}
 use Rattle.spec_search.specs.Turns.{Turn, Event, place_of, older}
 use Rattle.cq_interpreter.specs.Counted.{CatchesCount, Counts, AllCount}
 use Rattle.cq_interpreter.proofs.Rows.{RepliesCount, landed_fresh, reply_counts, clauses_count}

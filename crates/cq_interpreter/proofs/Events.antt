@@ -2,29 +2,29 @@
 use Rattle.std.proofs.Common.{◌≡◌, ℕ, ◌<◌, ◌++◌, List, codes, length, map, refl, sym, ap, ◌∙◌, subst, arith}
 use Rattle.std.specs.Prelude.{All}
 use Rattle.std.proofs.lemmas.List.Elements.{All-weaker}
-use Rattle.spec_echelon.specs.Echelon.{AreDistinct}
+use Rattle.spec_linear.specs.Echelon.{AreDistinct}
 use Rattle.spec_terms.specs.VariableName.{VariableName}
 use Rattle.spec_search.specs.Database.{Database}
 use Rattle.spec_search.specs.Search.{Search}
-use Rattle.spec_stops.specs.Causes.{Budgets}
-use Rattle.spec_machine.specs.Coming.{Told}
+use Rattle.spec_transcript.specs.Causes.{Budgets}
+use Rattle.spec_engine.specs.Coming.{Told}
 use Rattle.spec_transcript.specs.Purposes.{ball_line}
-use Rattle.spec_lists.specs.Texts.{Text}
-use Rattle.spec_operators.specs.Operators.{Ops}
-use Rattle.spec_renumbered.proofs.Names.{written_same}
+use Rattle.spec_numbers.specs.Texts.{Text}
+use Rattle.spec_syntax.specs.Operators.{Ops}
+use Rattle.spec_text.proofs.RenumberedNames.{written_same}
 use Rattle.spec_syntax.specs.Trees.{Tree}
 use Rattle.spec_terms.specs.Variables.{renamed_from}
-use Rattle.spec_writing.specs.declared.Style.TheVariants.{Quoted}
+use Rattle.spec_text.specs.declared.writing.Style.TheVariants.{Quoted}
 use Rattle.cq_machine.specs.Machines.{database_of}
-use Rattle.cq_events.specs.Fronts.{as_cause}
-use Rattle.cq_events.specs.Events as engine
-use Rattle.cq_events.specs.Events.{IsRunning, HasBudgets, Stands, Gives, GivesNext, HasCounted}
-use Rattle.cq_events.specs.declared.engine.Engine.{Engine}
-use Rattle.cq_events.specs.declared.event.Event as events
-use Rattle.cq_events.specs.declared.event.Event.TheVariants as told
-use Rattle.cq_transcript.specs.Events.{TellsNext, IsEvent, TakesFrom}
-use Rattle.cq_transcript.specs.declared.interpreter.Event.{Event}
-use Rattle.cq_transcript.specs.declared.interpreter.Event.TheVariants as event
+use Rattle.cq_engine.specs.Fronts.{as_cause}
+use Rattle.cq_engine.specs.Events as engine
+use Rattle.cq_engine.specs.Events.{IsRunning, HasBudgets, Stands, Gives, GivesNext, HasCounted}
+use Rattle.cq_engine.specs.declared.events.engine.Engine.{Engine}
+use Rattle.cq_engine.specs.declared.events.event.Event as events
+use Rattle.cq_engine.specs.declared.events.event.Event.TheVariants as told
+use Rattle.cq_session.specs.Events.{TellsNext, IsEvent, TakesFrom}
+use Rattle.cq_session.specs.declared.transcript.interpreter.Event.{Event}
+use Rattle.cq_session.specs.declared.transcript.interpreter.Event.TheVariants as event
 use Rattle.cq_interpreter.specs.Counted.{AllCount}
 use Rattle.cq_interpreter.specs.Numbered.{AreNumbered}
 use Rattle.cq_interpreter.specs.Told.{HasBall, IsTold}

@@ -10,7 +10,7 @@ use Rattle.spec_terms.specs.Variables.{variables_after, variables_in, variables,
 use Rattle.spec_terms.proofs.Substitution.{apply_agree, apply-identity}
 use Rattle.cq_term.specs.Meaning.{HeapTerm}
 use Rattle.cq_unify.specs.Copied.{unbound_from}
-use Rattle.cq_stored.specs.StoredValue.{both}
+use Rattle.cq_resolve.specs.StoredValue.{both}
 
 -- ---- numbers from 0 on
 

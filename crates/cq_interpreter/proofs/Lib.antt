@@ -1,3 +1,7 @@
+pub mod Unary
+pub mod Added
+pub mod Fronts
+pub mod Grown
 pub mod Rows
 pub mod Counting
 pub mod Naming

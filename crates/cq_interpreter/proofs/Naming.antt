@@ -2,19 +2,19 @@
 use Rattle.std.proofs.Common.{inl, inr, ℕ, suc, ◌+◌, ◌<◌, ◌≤◌, List, [], ◌∷◌, ◌++◌, map, Bool, true, false, Option, Some, None, cond, codes, bytes_eq, arith}
 use Rattle.std.specs.Prelude.{⊤, All}
 use Rattle.std.proofs.lemmas.List.Elements.{All-nil, All-cons}
-use Rattle.spec_echelon.specs.Echelon.{AreDistinct}
+use Rattle.spec_linear.specs.Echelon.{AreDistinct}
 use Rattle.spec_linear.specs.Solution.{Has}
-use Rattle.spec_lists.specs.Texts.{Text}
-use Rattle.spec_grammar.specs.declared.Kind.{Kind}
-use Rattle.spec_grammar.specs.declared.Kind.TheVariants as kind
-use Rattle.spec_grammar.specs.Tokens as lexical
-use Rattle.spec_grammar.specs.Tokens.{bytes_of}
-use Rattle.spec_operators.specs.Operators.{Ops}
+use Rattle.spec_numbers.specs.Texts.{Text}
+use Rattle.spec_syntax.specs.declared.grammar.Kind.{Kind}
+use Rattle.spec_syntax.specs.declared.grammar.Kind.TheVariants as kind
+use Rattle.spec_syntax.specs.GrammarTokens as lexical
+use Rattle.spec_syntax.specs.GrammarTokens.{bytes_of}
+use Rattle.spec_syntax.specs.Operators.{Ops}
 use Rattle.spec_syntax.specs.Tokens.{Token}
 use Rattle.spec_syntax.specs.TextTokens.{VariableName, Variables, known, with_name, with_variable, variables_after}
-use Rattle.spec_reading.specs.Later.{name_later}
-use Rattle.spec_reading.specs.Readings as readings
-use Rattle.spec_reading.specs.Readings.{Read, Clause, Ended, Syntax, AreTokens, Reads}
+use Rattle.spec_text.specs.Later.{name_later}
+use Rattle.spec_text.specs.Readings as readings
+use Rattle.spec_text.specs.Readings.{Read, Clause, Ended, Syntax, AreTokens, Reads}
 use Rattle.cq_interpreter.specs.Numbered.{AreNumbered}
 
 -- ---- numbers that ascend

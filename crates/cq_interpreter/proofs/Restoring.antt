@@ -2,23 +2,23 @@
 use Rattle.std.proofs.Common.{◌≡◌, ◌⊎◌, inl, inr, ℕ, zero, suc, ◌+◌, ◌-◌, ◌<◌, ◌≤◌, List, ◌∷◌, ◌++◌, length, map, refl, ap, ◌∙◌, subst, arith, length-append}
 use Rattle.std.proofs.lemmas.Bool.{cases_lt}
 use Rattle.std.proofs.lemmas.List.Elements.{All-map}
-use Rattle.spec_lists.specs.Prefixes.{IsPrefix}
-use Rattle.spec_lists.proofs.Prefixes.{prefix_get_or}
+use Rattle.spec_numbers.specs.Prefixes.{IsPrefix}
+use Rattle.spec_numbers.proofs.Prefixes.{prefix_get_or}
 use Rattle.spec_terms.specs.Term.{Var, with_arguments}
 use Rattle.spec_terms.specs.Variables.{counted_from}
 use Rattle.std.specs.List.{zip}
-use Rattle.spec_machine.specs.declared.cell.Cell.{Cell}
-use Rattle.cq_linear.specs.StoreValue.{kept}
+use Rattle.spec_engine.specs.declared.machine.cell.Cell.{Cell}
+use Rattle.cq_store.specs.StoreValue.{kept}
 use Rattle.cq_term.specs.HeapValue.{HeapValue, Terms}
-use Rattle.cq_world.specs.Contents.{contents_of}
-use Rattle.cq_world.specs.declared.world.World.{World}
-use Rattle.cq_steps.specs.Worlds.{saved_values}
+use Rattle.cq_settle.specs.Contents.{contents_of}
+use Rattle.cq_settle.specs.declared.world.World.{World}
+use Rattle.cq_branch.specs.Worlds.{saved_values}
 use Rattle.cq_term.specs.Meaning.{HeapTerm, at, blank}
 use Rattle.cq_term.specs.Names.{HasNamesBelow}
 use Rattle.cq_term.proofs.Known.{names_over}
 use Rattle.cq_unify.specs.Copied.{unbound_from}
 use Rattle.cq_unify.proofs.Places.{length-unbound_from}
-use Rattle.cq_stored.proofs.Renamed.{new_image}
+use Rattle.cq_resolve.proofs.Renamed.{new_image}
 use Rattle.cq_interpreter.specs.Variables.{AreUnbound}
 
 -- another heap with the same marks

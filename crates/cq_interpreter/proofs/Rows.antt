@@ -2,23 +2,23 @@
 use Rattle.std.proofs.Common.{ℕ, ◌+◌, ◌≤◌, List, [], ◌∷◌, map, length, Bool, true, false, Option, Some, None, if◌then◌else◌, codes, bytes_eq, ◌||◌, ◌==◌, arith}
 use Rattle.std.specs.Prelude.{⊤, drop}
 use Rattle.std.specs.List.{list_any}
-use Rattle.spec_rational.specs.Rational.{ℚ}
-use Rattle.spec_rational.specs.Order.{cmp_ℚ}
-use Rattle.spec_arithmetic.specs.Operations.{Evaluated, Value, Fails, Overflows}
-use Rattle.spec_arithmetic.specs.Arithmetic.{evaluate}
-use Rattle.spec_lists.specs.Texts.{Text}
+use Rattle.spec_numbers.specs.Rational.{ℚ}
+use Rattle.spec_numbers.specs.Order.{cmp_ℚ}
+use Rattle.spec_terms.specs.Operations.{Evaluated, Value, Fails, Overflows}
+use Rattle.spec_terms.specs.Arithmetic.{evaluate}
+use Rattle.spec_numbers.specs.Texts.{Text}
 use Rattle.spec_terms.specs.Term.{Var, Number, Name, Compound, one, more}
 use Rattle.spec_syntax.specs.Trees.{Tree}
-use Rattle.spec_built.specs.Built.{atom, compound1, compound2, is_atom, Indicator, indicator_of}
-use Rattle.spec_built.specs.Bodies.{is_body}
-use Rattle.spec_built.specs.Errors.{type_error}
-use Rattle.spec_built.specs.Kinds.{is_list, is_partial}
+use Rattle.spec_builtins.specs.Built.{atom, compound1, compound2, is_atom, Indicator, indicator_of}
+use Rattle.spec_builtins.specs.Bodies.{is_body}
+use Rattle.spec_builtins.specs.Errors.{type_error}
+use Rattle.spec_builtins.specs.Kinds.{is_list, is_partial}
 use Rattle.spec_builtins.specs.Alternatives.{◌≐◌, Solutions, Faults, Offers, Alternative, Comparison, allows}
 use Rattle.spec_builtins.specs.Clauses.{HeadBody, head_body, first_error, error_if, clause_goal_error, not_readable, declaration_error, declarations, use_module_error}
 use Rattle.spec_builtins.specs.Operators.{operator_error, operator_names, operators_after}
 use Rattle.spec_builtins.specs.Terms.{passes, order_row, functor_row, arg_row, univ_row, arguments}
 use Rattle.spec_builtins.specs.Texts.{atom_length_row, atom_list_row, char_code_row, number_codes_row, atom_concat_row, sub_atom_row}
-use Rattle.spec_told.specs.Checks.{constraint_error, question_error, expression_error, members, halves, Halves}
+use Rattle.spec_branch.specs.Checks.{constraint_error, question_error, expression_error, members, halves, Halves}
 use Rattle.spec_branch.specs.Branch.{Asleep, State, Copied, Item, Goal, CutFail, CatchEnd, Collect, Gathered, Pending, no_work}
 use Rattle.spec_search.specs.Builtins as builtin
 use Rattle.spec_search.specs.Builtins.{Builtin, builtin_of, is_built_in}

@@ -1,23 +1,23 @@
 -- What is read where the heap has no variable.
 use Rattle.std.proofs.Common.{◌≡◌, ℕ, ◌+◌, List, [], ◌∷◌, length, map, refl, sym, ap, ◌∙◌, subst, arith}
-use Rattle.spec_operators.specs.Operators.{Ops}
+use Rattle.spec_syntax.specs.Operators.{Ops}
 use Rattle.spec_terms.specs.Term.{Var, identity}
 use Rattle.spec_terms.proofs.Substitution.{apply_agree, apply-identity}
 use Rattle.spec_syntax.specs.TextTokens.{VariableName, Variables}
 use Rattle.spec_syntax.specs.Trees.{Tree}
-use Rattle.spec_reading.specs.Later.{tree_later, name_later, variables_later, read_later}
-use Rattle.spec_reading.specs.Readings.{Read, Clause, Ended, Syntax, Reads}
+use Rattle.spec_text.specs.Later.{tree_later, name_later, variables_later, read_later}
+use Rattle.spec_text.specs.Readings.{Read, Clause, Ended, Syntax, Reads}
 use Rattle.spec_search.specs.Database.{Database}
 use Rattle.spec_search.specs.Search.{Search, start}
 use Rattle.spec_transcript.specs.Purposes.{Purpose, Fact, Initialization, Directive, Query, purpose}
 use Rattle.spec_transcript.specs.Session.{begun}
 use Rattle.cq_read.specs.Inputs.{Input}
 use Rattle.cq_read.specs.Shown.{IsReadOf}
-use Rattle.cq_transcript.specs.Sentences.{Program, IsSettled, IsFor, Begins, Asks, IsSentence}
+use Rattle.cq_session.specs.Sentences.{Program, IsSettled, IsFor, Begins, Asks, IsSentence}
 use Rattle.spec_transcript.specs.declared.Source.{Source}
-use Rattle.cq_transcript.specs.declared.interpreter.Sentence.{Sentence}
-use Rattle.cq_transcript.specs.declared.interpreter.Sentence.TheVariants as sentence
-use Rattle.spec_lists.specs.Texts.{Text}
+use Rattle.cq_session.specs.declared.transcript.interpreter.Sentence.{Sentence}
+use Rattle.cq_session.specs.declared.transcript.interpreter.Sentence.TheVariants as sentence
+use Rattle.spec_numbers.specs.Texts.{Text}
 use Rattle.cq_term.specs.HeapValue.{Terms}
 use Rattle.cq_term.specs.Trees.{tree}
 use Rattle.cq_read.specs.Names.{variables}

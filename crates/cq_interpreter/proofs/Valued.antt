@@ -2,16 +2,16 @@
 use Rattle.std.proofs.Common.{◌≡◌, ◌<◌, ◌∙◌, ℕ, [], ◌∷◌, length, sym, ap, ap₂, subst}
 use Rattle.std.specs.Prelude.{All}
 use Rattle.std.proofs.lemmas.List.Elements.{All-head}
-use Rattle.spec_lists.specs.Texts.{Text}
-use Rattle.spec_operators.specs.Operators.{Ops}
+use Rattle.spec_numbers.specs.Texts.{Text}
+use Rattle.spec_syntax.specs.Operators.{Ops}
 use Rattle.spec_terms.specs.Term.{named}
 use Rattle.spec_syntax.specs.TextTokens.{VariableName}
 use Rattle.spec_syntax.specs.Trees.{Tree}
 use Rattle.spec_branch.specs.Branch.{State}
-use Rattle.spec_writing.specs.Written.{writeq}
-use Rattle.spec_gen.specs.Outcome.{value_text}
-use Rattle.cq_gen.specs.Counting.{gen_names}
-use Rattle.cq_atoms.specs.Texts.{text_of}
+use Rattle.spec_text.specs.Written.{writeq}
+use Rattle.spec_command.specs.Outcome.{value_text}
+use Rattle.cq_session.specs.Counting.{gen_names}
+use Rattle.cq_term.specs.Texts.{text_of}
 use Rattle.cq_term.specs.Meaning.{at}
 use Rattle.cq_machine.specs.Machines.{database_of, terms}
 use Rattle.cq_interpreter.specs.Toplevels.{images, names_of, term_in, texts, HasAnswered}

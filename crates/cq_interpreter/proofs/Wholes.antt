@@ -2,19 +2,19 @@
 use Rattle.std.proofs.Common.{◌≡◌, ℕ, zero, suc, ◌<◌, ◌≤◌, List, [], ◌∷◌, length, map, refl, sym, ap, ◌∙◌, subst, arith}
 use Rattle.std.specs.Prelude.{All, Some, slice_get, codes}
 use Rattle.std.proofs.lemmas.List.Elements.{All-head, All-tail, All-weaker}
-use Rattle.spec_lists.specs.Texts.{Text}
+use Rattle.spec_numbers.specs.Texts.{Text}
 use Rattle.spec_syntax.specs.Trees.{Tree}
-use Rattle.cq_atoms.specs.Texts.{text_of, KeepsTexts}
+use Rattle.cq_term.specs.Texts.{text_of, KeepsTexts}
 use Rattle.cq_built.proofs.Trees.{named_alike, name_known}
 use Rattle.cq_write.proofs.Steps.{text_there}
 use Rattle.cq_term.proofs.Known.{names_more}
 use Rattle.cq_term.proofs.Named.{text_is}
-use Rattle.cq_stored.specs.StoredValue.{ClauseValue, HaveNamesBelow}
-use Rattle.cq_program.specs.Database.{as_database}
+use Rattle.cq_resolve.specs.StoredValue.{ClauseValue, HaveNamesBelow}
+use Rattle.cq_resolve.specs.Database.{as_database}
 use Rattle.cq_write.specs.Meaning.{operators}
 use Rattle.cq_machine.specs.declared.machine.Machine.{Machine}
 use Rattle.cq_machine.specs.Machines.{database_of, HasSameProgram}
-use Rattle.cq_events.specs.Seeking.{IsKept}
+use Rattle.cq_engine.specs.Seeking.{IsKept}
 use Rattle.cq_interpreter.specs.Toplevels.{asked, texts, program_of, IsWhole}
 use Rattle.cq_interpreter.specs.declared.toplevel.Toplevel.{Toplevel}
 use Rattle.cq_interpreter.specs.declared.toplevel.Waiting.{Waiting}

@@ -1,3 +1,6 @@
+pub mod Consulted
+pub mod Purposes
+pub mod GenerationVariables
 pub mod Counted
 pub mod Numbered
 pub mod Variables

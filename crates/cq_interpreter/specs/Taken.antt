@@ -4,13 +4,13 @@ use Rattle.spec_syntax.specs.TextTokens.{VariableName, Variables}
 use Rattle.spec_syntax.specs.Trees.{Tree}
 use Rattle.spec_search.specs.Changes.{consult_error, consulted}
 use Rattle.spec_search.specs.Search.{Search}
-use Rattle.spec_reading.specs.Readings.{Read, Clause, Ended, Syntax}
+use Rattle.spec_text.specs.Readings.{Read, Clause, Ended, Syntax}
 use Rattle.spec_transcript.specs.Purposes.{Purpose, purpose, Fact, Initialization, Directive, Query, once, ball_line}
 use Rattle.spec_transcript.specs.Session.{refusal_ball}
-use Rattle.cq_transcript.specs.Sentences.{Program, Begins, Asks}
+use Rattle.cq_session.specs.Sentences.{Program, Begins, Asks}
 use Rattle.spec_transcript.specs.declared.Source.{Source}
-use Rattle.cq_transcript.specs.declared.interpreter.Sentence.{Sentence}
-use Rattle.cq_transcript.specs.declared.interpreter.Sentence.TheVariants as sentence
+use Rattle.cq_session.specs.declared.transcript.interpreter.Sentence.{Sentence}
+use Rattle.cq_session.specs.declared.transcript.interpreter.Sentence.TheVariants as sentence
 
 -- a file's clause is added, or refused with its line
 abbrev pub IsAdded : Program → Program → Tree → Sentence → Type 0

@@ -1,22 +1,22 @@
 -- What an engine tells, and what is written of it.
 use Rattle.std.specs.Prelude.{◌≡◌, ℕ, length, Result, Ok, Err, Vec, ⊤}
 use Rattle.std.specs.declared.alloc.Global.{Global}
-use Rattle.spec_stops.specs.Causes as why
-use Rattle.spec_stops.specs.Causes.{Cause, stop_text}
+use Rattle.spec_transcript.specs.Causes as why
+use Rattle.spec_transcript.specs.Causes.{Cause, stop_text}
 use Rattle.spec_transcript.specs.Purposes.{ball_line}
-use Rattle.cq_steps.specs.Stored.{stored_tree}
+use Rattle.cq_branch.specs.Stored.{stored_tree}
 use Rattle.cq_term.specs.Names.{HasNamesBelow}
-use Rattle.cq_eliminate.specs.declared.ProjectFault.{ProjectFault}
-use Rattle.cq_eliminate.specs.declared.ProjectFault.TheVariants.{Overflow, Pivots, Rows, NoMemory}
+use Rattle.cq_project.specs.declared.eliminate.ProjectFault.{ProjectFault}
+use Rattle.cq_project.specs.declared.eliminate.ProjectFault.TheVariants.{Overflow, Pivots, Rows, NoMemory}
 use Rattle.cq_machine.specs.declared.machine.Machine.{Machine}
 use Rattle.cq_machine.specs.Machines.{database_of}
-use Rattle.cq_events.specs.Fronts.{as_cause}
-use Rattle.cq_events.specs.declared.event.Event as events
-use Rattle.cq_events.specs.declared.event.Event.TheVariants as told
-use Rattle.cq_transcript.specs.declared.interpreter.Answered.{Answered}
-use Rattle.cq_transcript.specs.declared.interpreter.Answered.TheVariants as answered
-use Rattle.cq_transcript.specs.declared.interpreter.Event.{Event}
-use Rattle.cq_transcript.specs.declared.interpreter.Event.TheVariants as event
+use Rattle.cq_engine.specs.Fronts.{as_cause}
+use Rattle.cq_engine.specs.declared.events.event.Event as events
+use Rattle.cq_engine.specs.declared.events.event.Event.TheVariants as told
+use Rattle.cq_session.specs.declared.transcript.interpreter.Answered.{Answered}
+use Rattle.cq_session.specs.declared.transcript.interpreter.Answered.TheVariants as answered
+use Rattle.cq_session.specs.declared.transcript.interpreter.Event.{Event}
+use Rattle.cq_session.specs.declared.transcript.interpreter.Event.TheVariants as event
 
 -- the names of a ball have texts
 abbrev pub HasBall : Machine → events.Event → Type 0

@@ -1,25 +1,25 @@
 -- An interpreter as the writer of a transcript sees it.
 use Rattle.std.specs.Prelude.{◌≡◌, ℕ, ◌-◌, ◌<◌, List, map, length, All}
-use Rattle.spec_echelon.specs.Echelon.{AreDistinct}
-use Rattle.spec_lists.specs.Texts.{Text}
-use Rattle.spec_operators.specs.Operators.{Ops}
+use Rattle.spec_linear.specs.Echelon.{AreDistinct}
+use Rattle.spec_numbers.specs.Texts.{Text}
+use Rattle.spec_syntax.specs.Operators.{Ops}
 use Rattle.spec_terms.specs.Term.{named}
 use Rattle.spec_syntax.specs.TextTokens.{VariableName}
 use Rattle.spec_syntax.specs.Trees.{Tree}
 use Rattle.spec_branch.specs.Branch.{State}
 use Rattle.spec_search.specs.Search.{Search}
-use Rattle.spec_stops.specs.Causes.{Budgets}
+use Rattle.spec_transcript.specs.Causes.{Budgets}
 use Rattle.spec_transcript.specs.Session.{Asked}
-use Rattle.cq_atoms.specs.Texts.{text_of}
-use Rattle.cq_stored.specs.StoredValue.{HaveNamesBelow}
+use Rattle.cq_term.specs.Texts.{text_of}
+use Rattle.cq_resolve.specs.StoredValue.{HaveNamesBelow}
 use Rattle.cq_term.specs.Meaning.{HeapTerm}
 use Rattle.cq_term.specs.Trees.{tree}
-use Rattle.cq_world.specs.Rest.{IsReadyAs}
+use Rattle.cq_settle.specs.Rest.{IsReadyAs}
 use Rattle.cq_machine.specs.Machines.{IsName, database_of, now, terms}
-use Rattle.cq_events.specs.Seeking.{IsKept}
-use Rattle.cq_events.specs.Events.{IsRunning, Stands}
-use Rattle.cq_events.specs.declared.engine.Engine.{Engine}
-use Rattle.cq_transcript.specs.Sentences.{Program, budgets_within}
+use Rattle.cq_engine.specs.Seeking.{IsKept}
+use Rattle.cq_engine.specs.Events.{IsRunning, Stands}
+use Rattle.cq_engine.specs.declared.events.engine.Engine.{Engine}
+use Rattle.cq_session.specs.Sentences.{Program, budgets_within}
 use Rattle.cq_interpreter.specs.Counted.{AllCount}
 use Rattle.cq_interpreter.specs.Numbered.{AreNumbered}
 use Rattle.cq_interpreter.specs.declared.toplevel.Waiting.{Waiting}

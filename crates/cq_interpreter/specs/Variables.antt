@@ -1,2 +1,2 @@
 -- Variables of a heap of which nothing is known.
-pub use Rattle.cq_generated.specs.Variables.{AreUnbound}
+pub use Rattle.cq_interpreter.specs.GenerationVariables.{AreUnbound}

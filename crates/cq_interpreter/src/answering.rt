@@ -4,10 +4,10 @@ ghost use Rattle.std.specs.Prelude.{IfOk};
 ghost use Rattle.cq_interpreter.specs.Told.{HasBall, IsTold, IsWritten};
 
 use crate::lines::{stop_line, stored_line};
-use cq_eliminate::ProjectFault;
-use cq_events::Event as Told;
+use cq_engine::events::Event as Told;
 use cq_machine::Machine;
-use cq_transcript::{Answered, Event};
+use cq_project::eliminate::ProjectFault;
+use cq_session::transcript::{Answered, Event};
 use std::alloc::AllocError;
 
 /// What an engine told, with its line.

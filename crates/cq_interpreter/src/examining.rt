@@ -1,13 +1,13 @@
 // An interpreter that is asked the query of a number.
 
 ghost use Rattle.std.specs.Prelude.{◌≡◌, IfOk};
-ghost use Rattle.cq_gen.specs.Counting.{gen_names};
+ghost use Rattle.cq_session.specs.Counting.{gen_names};
 
 use crate::generated::query_on;
 use crate::toplevel::Toplevel;
 use cq_frac::VarId;
-use cq_gen::Examined;
-use cq_names::VariableName;
+use cq_read::names::VariableName;
+use cq_session::generating::Examined;
 use cq_write::{Style, write_term};
 use std::alloc::{AllocError, Global};
 

@@ -1,18 +1,18 @@
 // The query of a number on an engine without a query.
 
 ghost use Rattle.std.specs.Prelude.{◌≡◌, ◌<◌, ◌≤◌, [], length, IfOk, OnOk};
-ghost use Rattle.spec_lists.specs.Prefixes.{IsPrefix};
-ghost use Rattle.spec_gen.specs.Query.{query, variables};
+ghost use Rattle.spec_numbers.specs.Prefixes.{IsPrefix};
+ghost use Rattle.spec_command.specs.Query.{query, variables};
 ghost use Rattle.cq_machine.specs.Machines.{terms, database_of};
-ghost use Rattle.cq_events.specs.Seeking.{IsKept};
-ghost use Rattle.cq_events.specs.Events.{IsIdle};
+ghost use Rattle.cq_engine.specs.Seeking.{IsKept};
+ghost use Rattle.cq_engine.specs.Events.{IsIdle};
 ghost use Rattle.cq_interpreter.specs.Toplevels.{images_of, read_in};
 
-use cq_events::Engine;
-use cq_generated::query;
+use crate::generation::query;
+use cq_engine::events::Engine;
 use cq_ops::more_names_keep_the_table;
-use cq_program::{changes_are_those_of_the_database, programs_stay_programs};
-use cq_stored::new_variables;
+use cq_resolve::program::{changes_are_those_of_the_database, programs_stay_programs};
+use cq_resolve::stored::new_variables;
 use cq_term::TermId;
 use std::alloc::AllocError;
 

@@ -1,18 +1,18 @@
 // Goals on the heap of a machine without a query.
 
 ghost use Rattle.std.specs.Prelude.{◌≡◌, ◌<◌, ◌≤◌, ℕ, All, length, map, IfOk, OnOk};
-ghost use Rattle.spec_lists.specs.Prefixes.{IsPrefix};
+ghost use Rattle.spec_numbers.specs.Prefixes.{IsPrefix};
 ghost use Rattle.spec_terms.specs.Term.{with_arguments};
 ghost use Rattle.spec_terms.specs.Variables.{counted_from};
 ghost use Rattle.spec_transcript.specs.Purposes as purposes;
 ghost use Rattle.cq_unify.specs.Copied.{unbound_from};
-ghost use Rattle.cq_stored.specs.StoredValue.{HaveNamesBelow};
+ghost use Rattle.cq_resolve.specs.StoredValue.{HaveNamesBelow};
 ghost use Rattle.cq_term.specs.Meaning.{at};
 ghost use Rattle.cq_term.specs.Trees.{tree, KnowsTerms};
 ghost use Rattle.cq_interpreter.specs.Variables.{AreUnbound};
 
 use cq_frac::VarId;
-use cq_stored::{Clause, new_variables};
+use cq_resolve::stored::{Clause, new_variables};
 use cq_term::{Atom, Heap, TermId};
 use std::alloc::AllocError;
 

@@ -3,11 +3,11 @@
 use crate::answering::{answered, told};
 use crate::queries::restored;
 use crate::toplevel::Toplevel;
-use cq_events::Engine;
-use cq_lines::answer_lines;
+use cq_answer::answer_lines;
+use cq_engine::events::Engine;
 use cq_ops::more_names_keep_the_table;
 use cq_read::{Fed, Feed};
-use cq_transcript::{Answered, Event, Interpreter, Sentence};
+use cq_session::transcript::{Answered, Event, Interpreter, Sentence};
 use spec_transcript::Source;
 use std::alloc::{AllocError, Global};
 

@@ -2,8 +2,10 @@
 #![tactic(auto)]
 
 mod answering;
+pub mod consult;
 mod examining;
 mod generated;
+pub mod generation;
 mod goals;
 mod interpreter;
 mod lines;

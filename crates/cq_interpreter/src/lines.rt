@@ -1,21 +1,21 @@
 // The lines that are written beside answers.
 
 ghost use Rattle.std.specs.Prelude.{◌≡◌, ◌<◌, length, IfOk};
-ghost use Rattle.spec_stops.specs.Causes.{stop_text};
+ghost use Rattle.spec_transcript.specs.Causes.{stop_text};
 ghost use Rattle.spec_transcript.specs.Purposes.{ball_line};
-ghost use Rattle.cq_steps.specs.Stored.{stored_tree};
+ghost use Rattle.cq_branch.specs.Stored.{stored_tree};
 ghost use Rattle.cq_term.specs.Meaning.{at};
 ghost use Rattle.cq_term.specs.Names.{HasNamesBelow};
 ghost use Rattle.cq_term.specs.Trees.{tree, KnowsTerms};
 ghost use Rattle.cq_write.specs.Meaning.{operators};
 ghost use Rattle.cq_machine.specs.Machines.{terms, database_of};
-ghost use Rattle.cq_events.specs.Fronts.{as_cause};
+ghost use Rattle.cq_engine.specs.Fronts.{as_cause};
 
-use cq_atoms::Atoms;
-use cq_events::Cause;
+use cq_engine::events::Cause;
 use cq_machine::Machine;
 use cq_ops::Ops;
-use cq_stored::StoredTerm;
+use cq_resolve::stored::StoredTerm;
+use cq_term::atoms::Atoms;
 use cq_term::{Heap, TermId};
 use cq_write::{Style, write_term};
 use std::alloc::AllocError;

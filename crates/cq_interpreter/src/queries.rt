@@ -1,19 +1,19 @@
 // Queries and directives that begin.
 
 ghost use Rattle.std.specs.Prelude.{◌≡◌, ◌<◌, ◌+◌, length, IfOk, OnOk};
-ghost use Rattle.spec_reading.specs.Later.{tree_later};
+ghost use Rattle.spec_text.specs.Later.{tree_later};
 ghost use Rattle.spec_search.specs.Search.{start};
 ghost use Rattle.spec_transcript.specs.Purposes.{once};
-ghost use Rattle.cq_stored.specs.StoredValue.{HaveNamesBelow};
+ghost use Rattle.cq_resolve.specs.StoredValue.{HaveNamesBelow};
 ghost use Rattle.cq_machine.specs.Machines.{HasSameProgram, terms, database_of};
-ghost use Rattle.cq_events.specs.Seeking.{IsKept};
-ghost use Rattle.cq_events.specs.Events.{IsIdle};
+ghost use Rattle.cq_engine.specs.Seeking.{IsKept};
+ghost use Rattle.cq_engine.specs.Events.{IsIdle};
 ghost use Rattle.cq_interpreter.specs.Numbered.{AreNumbered};
 ghost use Rattle.cq_interpreter.specs.Toplevels.{IsWhole, IsAsking, asked, images, images_of, program_of, budgets_of, read_in, term_in};
 
 use crate::toplevel::{Toplevel, Waiting};
-use cq_events::Engine;
-use cq_names::VariableName;
+use cq_engine::events::Engine;
+use cq_read::names::VariableName;
 use cq_term::TermId;
 use std::alloc::AllocError;
 

@@ -5,19 +5,19 @@ ghost use Rattle.spec_transcript.specs.Purposes.{purpose};
 ghost use Rattle.cq_read.specs.Names.{variables};
 ghost use Rattle.cq_read.specs.Shown.{read_of, IsLiveRead};
 ghost use Rattle.cq_machine.specs.Machines.{terms};
-ghost use Rattle.cq_events.specs.Events.{IsIdle};
+ghost use Rattle.cq_engine.specs.Events.{IsIdle};
 ghost use Rattle.cq_interpreter.specs.Numbered.{AreNumbered, IsNumbered};
 ghost use Rattle.cq_interpreter.specs.Taken.{IsAdded, IsKeptFor, IsTaken, IsDone};
 ghost use Rattle.cq_interpreter.specs.Toplevels.{IsWhole, IsAsking, images, texts, names_of, program_of, budgets_of, term_in};
 
+use crate::consult::{Purpose, consult, purpose_of};
 use crate::goals::kept;
 use crate::lines::ball_line;
 use crate::toplevel::{Toplevel, Waiting};
-use cq_consult::{Purpose, consult, purpose_of};
-use cq_names::VariableName;
 use cq_read::Read;
+use cq_read::names::VariableName;
+use cq_session::transcript::Sentence;
 use cq_term::TermId;
-use cq_transcript::Sentence;
 use spec_transcript::Source;
 use std::alloc::AllocError;
 

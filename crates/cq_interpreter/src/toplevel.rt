@@ -2,16 +2,16 @@
 
 ghost use Rattle.std.specs.Prelude.{◌≡◌, Some, slice_get, IfOk, OnOk};
 ghost use Rattle.cq_machine.specs.Machines.{IsSound, database_of};
-ghost use Rattle.cq_events.specs.Seeking.{IsKept};
+ghost use Rattle.cq_engine.specs.Seeking.{IsKept};
 
-use cq_atoms::{Atom, numbers_keep_their_texts};
-use cq_events::Engine;
+use cq_choices::names_may_be_added;
+use cq_engine::events::Engine;
 use cq_machine::Machine;
-use cq_names::VariableName;
 use cq_ops::more_names_keep_the_table;
-use cq_program::{changes_are_those_of_the_database, programs_stay_programs};
-use cq_stored::Clause;
-use cq_ways::names_may_be_added;
+use cq_read::names::VariableName;
+use cq_resolve::program::{changes_are_those_of_the_database, programs_stay_programs};
+use cq_resolve::stored::Clause;
+use cq_term::atoms::{Atom, numbers_keep_their_texts};
 use std::alloc::{AllocError, Global};
 use std::collections::VecDeque;
 
@@ -55,8 +55,8 @@ fn intern(machine: &mut Machine, text: &str) -> Result<Atom, AllocError>
 impl Toplevel {
     ghost use Rattle.std.specs.Prelude.{◌≡◌, [], IfOk};
     ghost use Rattle.cq_machine.specs.Machines.{database_of};
-    ghost use Rattle.cq_events.specs.Events.{IsIdle};
-    ghost use Rattle.cq_transcript.specs.Sentences.{budgets_within};
+    ghost use Rattle.cq_engine.specs.Events.{IsIdle};
+    ghost use Rattle.cq_session.specs.Sentences.{budgets_within};
     ghost use Rattle.cq_interpreter.specs.Toplevels.{IsWhole, program_of, budgets_of};
 
     /// An interpreter over an engine without a query.

@@ -1,27 +1,27 @@
 -- What a machine stands for while terms are built and goals put in front.
 use Rattle.std.proofs.Common.{◌≡◌, ◌<◌, ℕ, List, [], ◌∷◌, ◌++◌, length, length-append, Some, true, refl, sym, ap, subst, ◌∙◌, arith}
 use Rattle.std.proofs.lemmas.List.{get_or_push}
-use Rattle.spec_lists.specs.Texts.{Text}
+use Rattle.spec_numbers.specs.Texts.{Text}
 use Rattle.spec_terms.specs.Term.{more}
 use Rattle.spec_syntax.specs.Trees.{Tree}
-use Rattle.spec_built.specs.Kinds.{is_callable}
+use Rattle.spec_builtins.specs.Kinds.{is_callable}
 use Rattle.spec_branch.specs.Branch.{State, Branch, read}
 use Rattle.spec_search.specs.Control.{put}
 use Rattle.spec_search.specs.Replies.{Place, goes_on}
 use Rattle.cq_control.specs.Items.{items_at}
-use Rattle.cq_program.specs.Database.{Program, as_database}
+use Rattle.cq_resolve.specs.Database.{Program, as_database}
 use Rattle.cq_write.specs.Meaning.{operators}
-use Rattle.cq_world.specs.Contents.{Contents}
-use Rattle.spec_machine.specs.declared.cell.Cell.{Cell}
-use Rattle.spec_machine.specs.declared.cell.Cell.TheVariants.{Goal}
-use Rattle.spec_machine.specs.Cells.{Fits, Value, Stack, below}
-use Rattle.spec_machine.specs.Standing.{engine, AreItems, IsStanding}
-use Rattle.cq_steps.specs.Lists.{HasCells, KeepsLists, put_cell}
-use Rattle.cq_steps.specs.declared.alternatives.Alternatives.{Alternatives}
-use Rattle.cq_steps.specs.Worlds.{IsBranch, term_in, stack, ReadsAs, Selected, Leads, Grown}
-use Rattle.cq_steps.proofs.Branches.{branches_rest}
-use Rattle.cq_steps.proofs.Control.{put_items, built, goes_on_with}
-use Rattle.cq_steps.proofs.Selected.{continuation_grown, standing_grown}
+use Rattle.cq_settle.specs.Contents.{Contents}
+use Rattle.spec_engine.specs.declared.machine.cell.Cell.{Cell}
+use Rattle.spec_engine.specs.declared.machine.cell.Cell.TheVariants.{Goal}
+use Rattle.spec_engine.specs.Cells.{Fits, Value, Stack, below}
+use Rattle.spec_engine.specs.Standing.{engine, AreItems, IsStanding}
+use Rattle.cq_branch.specs.Lists.{HasCells, KeepsLists, put_cell}
+use Rattle.cq_branch.specs.declared.alternatives.Alternatives.{Alternatives}
+use Rattle.cq_branch.specs.Worlds.{IsBranch, term_in, stack, ReadsAs, Selected, Leads, Grown}
+use Rattle.cq_branch.proofs.Branches.{branches_rest}
+use Rattle.cq_branch.proofs.Control.{put_items, built, goes_on_with}
+use Rattle.cq_branch.proofs.Selected.{continuation_grown, standing_grown}
 use Rattle.cq_machine.specs.declared.machine.Machine.{Machine}
 use Rattle.cq_machine.specs.Machines.{now, saved, holds, HasBuilt, HasSameProgram, StillStands}
 use Rattle.cq_machine.specs.Stepping.{IsSelectedAt}

@@ -2,11 +2,11 @@
 use Rattle.std.proofs.Common.{◌≡◌, ℕ, zero, suc, List, [], ◌∷◌, ◌++◌, Some, sym, subst}
 use Rattle.std.specs.Prelude.{slice_get}
 use Rattle.std.proofs.lemmas.Option.{none-some}
-use Rattle.spec_lists.specs.Prefixes.{IsPrefix}
-use Rattle.spec_lists.specs.Texts.{Text}
-use Rattle.cq_atoms.specs.Texts.{AreDifferent, KeepsTexts, with_text}
+use Rattle.spec_numbers.specs.Prefixes.{IsPrefix}
+use Rattle.spec_numbers.specs.Texts.{Text}
+use Rattle.cq_term.specs.Texts.{AreDifferent, KeepsTexts, with_text}
 use Rattle.cq_ops.specs.Tables.{GainsNames}
-use Rattle.cq_table.proofs.Entries.{builtins_kept}
+use Rattle.cq_predicates.proofs.Entries.{builtins_kept}
 use Rattle.cq_machine.specs.Machines.{AreNames}
 use Rattle.cq_machine.specs.declared.names.Names.{Names}
 

@@ -2,24 +2,24 @@
 use Rattle.std.proofs.Common.{◌≡◌, ◌<◌, ℕ, List, [], ◌∷◌, ◌++◌, length, Option, Some, subst, sym}
 use Rattle.std.specs.Prelude.{slice_get}
 use Rattle.std.specs.List.{AllByRecursion}
-use Rattle.spec_lists.specs.Texts.{Text}
+use Rattle.spec_numbers.specs.Texts.{Text}
 use Rattle.spec_syntax.specs.Trees.{Tree}
 use Rattle.spec_branch.specs.Branch.{State, Branch}
 use Rattle.spec_builtins.specs.Terms as builtins
 use Rattle.spec_search.specs.Replies.{Place, Reply}
 use Rattle.spec_search.specs.Rows.{nth}
 use Rattle.cq_control.specs.Open.{open_choices}
-use Rattle.cq_program.specs.Database.{Program}
+use Rattle.cq_resolve.specs.Database.{Program}
 use Rattle.cq_term.specs.Meaning.{at}
 use Rattle.cq_term.specs.Shown.{arguments}
 use Rattle.cq_term.specs.Trees.{tree}
-use Rattle.cq_world.specs.Contents.{Contents}
-use Rattle.spec_machine.specs.Cells.{Value}
-use Rattle.cq_steps.specs.declared.alternatives.Alternatives.{Alternatives}
-use Rattle.cq_steps.specs.Choices.{CanBeTried, AreOpen, KeepsOlder}
-use Rattle.cq_steps.specs.Worlds.{ReadsAs, Leads, stack}
-use Rattle.cq_steps.proofs.Added.{reads_tree}
-use Rattle.cq_steps.proofs.Arguments.{argument_reads}
+use Rattle.cq_settle.specs.Contents.{Contents}
+use Rattle.spec_engine.specs.Cells.{Value}
+use Rattle.cq_branch.specs.declared.alternatives.Alternatives.{Alternatives}
+use Rattle.cq_branch.specs.Choices.{CanBeTried, AreOpen, KeepsOlder}
+use Rattle.cq_branch.specs.Worlds.{ReadsAs, Leads, stack}
+use Rattle.cq_branch.proofs.Added.{reads_tree}
+use Rattle.cq_branch.proofs.Arguments.{argument_reads}
 
 -- the same over equal marks
 pub leads_over : (texts : List Text) (v : Program) (saved more : List (Value Contents)) (choices : List Alternatives) (now : Value Contents) (current : Option ℕ) (p : Place)

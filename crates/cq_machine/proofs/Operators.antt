@@ -1,7 +1,7 @@
 -- What `op(P,K,N)` comes to, by the table of the operators that hold.
 use Rattle.std.proofs.Common.{◌≡◌, List, None, sym, ap, ◌∙◌, subst}
-use Rattle.spec_lists.specs.Texts.{Text}
-use Rattle.spec_operators.specs.Operators.{Ops}
+use Rattle.spec_numbers.specs.Texts.{Text}
+use Rattle.spec_syntax.specs.Operators.{Ops}
 use Rattle.spec_syntax.specs.Trees.{Tree}
 use Rattle.spec_builtins.specs.Operators.{operator_error, operators_after, operator_names}
 use Rattle.spec_search.specs.Changes.{op_row}
@@ -9,9 +9,9 @@ use Rattle.spec_search.specs.Database.{Database}
 use Rattle.spec_search.specs.Replies.{Place, changes, unless_error}
 use Rattle.cq_built.specs.declared.errors.BuiltinFault.{BuiltinFault}
 use Rattle.cq_built.specs.declared.errors.BuiltinFault.TheVariants as fault
-use Rattle.cq_program.specs.Database.{Program, as_database}
-use Rattle.cq_sides.specs.Faults.{IsFound}
-use Rattle.cq_steps.specs.Calls.{IsRaised}
+use Rattle.cq_resolve.specs.Database.{Program, as_database}
+use Rattle.cq_built.specs.Faults.{IsFound}
+use Rattle.cq_branch.specs.Calls.{IsRaised}
 use Rattle.cq_term.specs.Meaning.{HeapTerm}
 
 module _ (p : Place) (texts : List Text) (v : Program) (ops : Ops) (n k ns : Tree) (d : p.database ≡ as_database texts ops v) where

@@ -1,13 +1,13 @@
 -- Terms that are built over others read as themselves where these do.
 use Rattle.std.proofs.Common.{◌≡◌, ◌<◌, ℕ, List, length, ap, ap₂}
-use Rattle.spec_lists.specs.Texts.{Text}
+use Rattle.spec_numbers.specs.Texts.{Text}
 use Rattle.spec_terms.specs.Term.{Compound, one, more}
 use Rattle.spec_syntax.specs.Trees.{Tree}
 use Rattle.spec_branch.specs.Branch.{State, read}
 use Rattle.cq_term.specs.Trees.{tree}
-use Rattle.cq_world.specs.Contents.{Contents}
-use Rattle.cq_steps.specs.Worlds.{ReadsAs}
-use Rattle.cq_steps.proofs.Reading.{tree_read}
+use Rattle.cq_settle.specs.Contents.{Contents}
+use Rattle.cq_branch.specs.Worlds.{ReadsAs}
+use Rattle.cq_branch.proofs.Reading.{tree_read}
 
 -- a term over one that reads as itself
 pub reads_over_one : (texts : List Text) (w : Contents) (st : State) (id : ℕ) (f : Text) (a : Tree) → id < length w.heap.terms → tree texts w.heap.terms id ≡ Compound f (one a) → read st a ≡ a

@@ -3,8 +3,8 @@ use Rattle.std.proofs.Common.{◌≡◌, true, false, refl, sym, ◌∙◌}
 use Rattle.std.proofs.lemmas.Bool.{false≢true}
 use Rattle.spec_terms.specs.Term.{Var, Number, Name, Compound}
 use Rattle.spec_syntax.specs.Trees.{Tree}
-use Rattle.spec_built.specs.Errors.{instantiation}
-use Rattle.spec_built.specs.Kinds.{is_variable}
+use Rattle.spec_builtins.specs.Errors.{instantiation}
+use Rattle.spec_builtins.specs.Kinds.{is_variable}
 use Rattle.spec_search.specs.Control.{throw_row}
 use Rattle.spec_search.specs.Replies.{Place, Raises, Throws}
 

@@ -1,22 +1,22 @@
 -- A machine as the definitions see it.
 use Prim.Native.String.{String}
 use Rattle.std.specs.Prelude.{◌≡◌, ℕ, List, Option, Some, codes, slice_get}
-use Rattle.spec_lists.specs.Texts.{Text}
+use Rattle.spec_numbers.specs.Texts.{Text}
 use Rattle.spec_search.specs.Database.{Database}
 use Rattle.spec_search.specs.Search.{Search}
-use Rattle.cq_atoms.specs.Texts.{AreDifferent}
+use Rattle.cq_term.specs.Texts.{AreDifferent}
 use Rattle.cq_control.specs.Open.{AreMarked}
 use Rattle.cq_ops.specs.Tables.{AreNamed}
-use Rattle.cq_program.specs.Database.{IsProgram, as_database}
+use Rattle.cq_resolve.specs.Database.{IsProgram, as_database}
 use Rattle.cq_term.specs.Meaning.{HeapTerm}
 use Rattle.cq_term.specs.Trees.{KnowsTerms}
-use Rattle.cq_world.specs.Contents.{Contents}
+use Rattle.cq_settle.specs.Contents.{Contents}
 use Rattle.cq_write.specs.Meaning.{operators}
-use Rattle.spec_machine.specs.Cells.{Value, Stack}
-use Rattle.spec_machine.specs.Standing.{engine, IsStanding}
-use Rattle.cq_steps.specs.Choices.{AreOpen}
-use Rattle.cq_table.specs.Numbered.{AreBuiltins}
-use Rattle.cq_steps.specs.Worlds.{IsBranch, term_in, value, saved_values, stack, Grown}
+use Rattle.spec_engine.specs.Cells.{Value, Stack}
+use Rattle.spec_engine.specs.Standing.{engine, IsStanding}
+use Rattle.cq_branch.specs.Choices.{AreOpen}
+use Rattle.cq_predicates.specs.Numbered.{AreBuiltins}
+use Rattle.cq_branch.specs.Worlds.{IsBranch, term_in, value, saved_values, stack, Grown}
 use Rattle.cq_machine.specs.declared.machine.Machine.{Machine}
 use Rattle.cq_machine.specs.declared.names.Names.{Names}
 

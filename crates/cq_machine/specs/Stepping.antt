@@ -8,7 +8,7 @@ use Rattle.spec_search.specs.Replies as reply
 use Rattle.spec_search.specs.Replies.{Place, Reply}
 use Rattle.spec_search.specs.Rows.{builtin_reply}
 use Rattle.cq_built.specs.Errors.{error_tree, HasCulprit}
-use Rattle.cq_steps.specs.Worlds.{ReadsAs, Selected, Leads}
+use Rattle.cq_branch.specs.Worlds.{ReadsAs, Selected, Leads}
 use Rattle.cq_term.specs.Trees.{tree}
 use Rattle.cq_machine.specs.declared.machine.Machine.{Machine}
 use Rattle.cq_machine.specs.declared.step.Step.{Step}

@@ -1,26 +1,26 @@
 // Terms that rows build, and goals that they put in front.
 
 ghost use Rattle.std.specs.Prelude.{◌≡◌, ◌<◌, ◌∷◌, ℕ, List, All, Some, true, length, slice_get, IfOk, OnErr};
-ghost use Rattle.spec_lists.specs.Texts.{Text};
+ghost use Rattle.spec_numbers.specs.Texts.{Text};
 ghost use Rattle.spec_terms.specs.Term.{with_arguments};
 ghost use Rattle.spec_syntax.specs.Trees.{Tree};
-ghost use Rattle.spec_built.specs.Kinds.{is_callable};
+ghost use Rattle.spec_builtins.specs.Kinds.{is_callable};
 ghost use Rattle.spec_branch.specs.Branch.{Branch};
 ghost use Rattle.spec_search.specs.Control as control;
 ghost use Rattle.spec_search.specs.Replies.{Place, goes_on};
 ghost use Rattle.cq_built.specs.Growing.{Grows};
 ghost use Rattle.cq_term.specs.Trees.{tree, trees};
-ghost use Rattle.cq_world.specs.Worlds.{now_of, saved_of};
-ghost use Rattle.cq_steps.specs.Worlds.{with_heap, ReadsAs};
+ghost use Rattle.cq_settle.specs.Worlds.{now_of, saved_of};
+ghost use Rattle.cq_branch.specs.Worlds.{with_heap, ReadsAs};
 ghost use Rattle.cq_machine.specs.Machines.{terms, now, IsSound, HasSameProgram, StillStands, HasBuilt};
 ghost use Rattle.cq_machine.specs.Stepping.{IsSelectedAt, IsStep, CanGo};
 
 use crate::machine::Machine;
 use crate::step::Step;
 use cq_control::Continuation;
+use cq_settle::world::World;
 use cq_term::{Atom, TermId};
-use cq_world::World;
-use spec_machine::Cell;
+use spec_engine::machine::Cell;
 use std::alloc::AllocError;
 
 /// A name over terms in a world; the name alone over none.

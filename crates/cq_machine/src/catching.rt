@@ -14,9 +14,9 @@ ghost use Rattle.cq_machine.specs.Stepping.{IsSelectedAt, IsStep, CanGo, OnRaise
 
 use crate::machine::Machine;
 use crate::step::Step;
+use cq_built::kinds::is_variable;
 use cq_built::{BuiltinError, BuiltinFault};
 use cq_control::Continuation;
-use cq_kinds::is_variable;
 use cq_term::TermId;
 use std::alloc::AllocError;
 
@@ -41,7 +41,7 @@ pub fn catch(
     let called = m.world.first.heap.arg(goal, 0);
     let catcher = m.world.first.heap.arg(goal, 1);
     let recovery = m.world.first.heap.arg(goal, 2);
-    let k = cq_steps::catch(
+    let k = cq_branch::catch(
         &mut m.world,
         &mut m.choices,
         called,
@@ -91,7 +91,7 @@ pub fn findall(
     let template = m.world.first.heap.arg(goal, 0);
     let called = m.world.first.heap.arg(goal, 1);
     let list = m.world.first.heap.arg(goal, 2);
-    match cq_steps::findall(
+    match cq_branch::findall(
         &mut m.world,
         &mut m.choices,
         &m.atoms,

@@ -40,7 +40,7 @@ pub fn conjunction(
 {
     let left = m.world.first.heap.arg(goal, 0);
     let right = m.world.first.heap.arg(goal, 1);
-    let k = cq_steps::and(&mut m.world, left, right, height, rest)?;
+    let k = cq_branch::and(&mut m.world, left, right, height, rest)?;
     Ok(Step::Goes(k))
 }
 
@@ -64,7 +64,7 @@ pub fn disjunction(
 {
     let left = m.world.first.heap.arg(goal, 0);
     let right = m.world.first.heap.arg(goal, 1);
-    let k = cq_steps::or(
+    let k = cq_branch::or(
         &mut m.world,
         &mut m.choices,
         &m.atoms,
@@ -96,7 +96,7 @@ pub fn if_then(
 {
     let condition = m.world.first.heap.arg(goal, 0);
     let then = m.world.first.heap.arg(goal, 1);
-    let k = cq_steps::if_then(&mut m.world, &m.choices, condition, then, height, rest)?;
+    let k = cq_branch::if_then(&mut m.world, &m.choices, condition, then, height, rest)?;
     Ok(Step::Goes(k))
 }
 
@@ -111,7 +111,7 @@ pub fn cut(m: &mut Machine, height: usize, rest: Continuation) -> Step
     ensures sound { IsSound m.new }
     ensures program { HasSameProgram m.old m.new }
 {
-    cq_steps::cut(&mut m.world, &mut m.choices, height);
+    cq_branch::cut(&mut m.world, &mut m.choices, height);
     Step::Goes(rest)
 }
 
@@ -134,7 +134,7 @@ pub fn negation(
     ensures err { OnErr result (StillStands m.old m.new) }
 {
     let negated = m.world.first.heap.arg(goal, 0);
-    let k = cq_steps::not(&mut m.world, &mut m.choices, negated, rest)?;
+    let k = cq_branch::not(&mut m.world, &mut m.choices, negated, rest)?;
     Ok(Step::Goes(k))
 }
 
@@ -158,7 +158,7 @@ pub fn call(
     ensures err { OnErr result (StillStands m.old m.new) }
 {
     let called = m.world.first.heap.arg(goal, 0);
-    match cq_steps::call(&mut m.world, &m.choices, &m.atoms, called, rest) {
+    match cq_branch::call(&mut m.world, &m.choices, &m.atoms, called, rest) {
         Ok(k) => Ok(Step::Goes(k)),
         Err(BuiltinFault::Error(error)) => Ok(Step::Raises(error)),
         Err(BuiltinFault::NoMemory) => Err(AllocError),

@@ -94,6 +94,6 @@ pub fn once(
     let inside = m.world.first.heap.arg(goal, 0);
     let name = m.names.truth;
     let truth = build(m, name, &[])?;
-    let k = cq_steps::once(&mut m.world, &m.choices, inside, truth, height, rest)?;
+    let k = cq_branch::once(&mut m.world, &m.choices, inside, truth, height, rest)?;
     Ok(Step::Goes(k))
 }

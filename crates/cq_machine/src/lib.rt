@@ -7,7 +7,9 @@ mod control;
 mod derived;
 mod machine;
 mod names;
+pub mod offer;
 mod output;
+pub mod selected;
 mod step;
 
 pub use building::{build, put};

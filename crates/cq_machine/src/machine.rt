@@ -2,19 +2,21 @@
 
 ghost use Rattle.std.specs.Prelude.{◌≡◌, [], ◌∷◌, IfOk};
 ghost use Rattle.spec_search.specs.Database.{initial};
-ghost use Rattle.cq_world.specs.Contents.{nothing};
-ghost use Rattle.cq_steps.specs.Worlds.{KnowsNothing};
+ghost use Rattle.cq_settle.specs.Contents.{nothing};
+ghost use Rattle.cq_branch.specs.Worlds.{KnowsNothing};
 ghost use Rattle.cq_machine.specs.Machines.{now, saved, database_of, IsSound};
 
 use crate::names::Names;
-use cq_atoms::Atoms;
+use cq_branch::{Alternatives, Searching};
 use cq_clauses::Clauses;
 use cq_control::{Choices, Continuations};
 use cq_ops::{Ops, more_names_keep_the_table};
-use cq_program::{ProgramClause, changes_are_those_of_the_database, programs_stay_programs};
-use cq_steps::{Alternatives, Searching};
+use cq_resolve::program::{
+    ProgramClause, changes_are_those_of_the_database, programs_stay_programs,
+};
+use cq_settle::world::World;
+use cq_term::atoms::Atoms;
 use cq_trail::Both;
-use cq_world::World;
 use std::alloc::{AllocError, Global};
 
 /// The world of a search with what is left to do and to try, and the program.

@@ -4,8 +4,8 @@ ghost use Rattle.std.specs.Prelude.{◌≡◌, Some, slice_get, IfOk};
 ghost use Rattle.cq_ops.specs.Tables.{GainsNames};
 ghost use Rattle.cq_machine.specs.Machines.{AreNames};
 
-use cq_atoms::{Atom, Atoms, numbers_keep_their_texts};
-use cq_table::Builtins;
+use cq_predicates::table::Builtins;
+use cq_term::atoms::{Atom, Atoms, numbers_keep_their_texts};
 use std::alloc::{AllocError, Global};
 
 /// The names of goals and clauses that rows build, and those of the built-in predicates.

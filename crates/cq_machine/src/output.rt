@@ -9,7 +9,7 @@ ghost use Rattle.spec_search.specs.Replies.{Place, outputs, changes};
 ghost use Rattle.spec_search.specs.Builtins.{Newline};
 ghost use Rattle.spec_search.specs.Rows.{nth, builtin_reply};
 ghost use Rattle.cq_built.specs.Errors.{CanBeRaised};
-ghost use Rattle.cq_steps.specs.Calls.{IsRaised};
+ghost use Rattle.cq_branch.specs.Calls.{IsRaised};
 ghost use Rattle.cq_term.specs.Meaning.{at};
 ghost use Rattle.cq_term.specs.Shown.{arguments};
 ghost use Rattle.cq_machine.specs.Machines.{terms, database_of, IsSound};
@@ -17,7 +17,7 @@ ghost use Rattle.cq_machine.specs.Stepping.{IsSelectedAt};
 
 use crate::machine::Machine;
 use cq_built::BuiltinFault;
-use cq_declarations::{OperatorGoal, declare_operators};
+use cq_goals::declarations::{OperatorGoal, declare_operators};
 use cq_term::TermId;
 use cq_write::{Style, write_term};
 use std::alloc::AllocError;

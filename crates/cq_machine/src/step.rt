@@ -7,10 +7,10 @@ ghost use Rattle.spec_search.specs.Replies.{Place, succeeds_if};
 ghost use Rattle.cq_machine.specs.Stepping.{IsSelectedAt, IsStep, CanGo};
 ghost use Rattle.cq_machine.specs.declared.machine.Machine.{Machine};
 
+use cq_branch::goals_succeed_or_fail;
 use cq_built::BuiltinError;
 use cq_control::Continuation;
 use cq_frac::Pair;
-use cq_steps::goals_succeed_or_fail;
 use cq_term::TermId;
 
 /// What a selected goal comes to.

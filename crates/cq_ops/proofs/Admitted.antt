@@ -1,10 +1,10 @@
 -- What is admitted is set.
 use Rattle.std.proofs.Common.{◌≡◌, ℕ, ◌<◌, length, List, ℤ, Ok, sym, subst, refl}
 use Rattle.std.specs.Prelude.{IsOk}
-use Rattle.spec_lists.specs.Texts.{Text}
-use Rattle.spec_operators.specs.declared.OpKind.{OpKind}
-use Rattle.spec_operators.specs.Operators.{set}
-use Rattle.cq_atoms.specs.Texts.{text_of}
+use Rattle.spec_numbers.specs.Texts.{Text}
+use Rattle.spec_syntax.specs.declared.operators.OpKind.{OpKind}
+use Rattle.spec_syntax.specs.Operators.{set}
+use Rattle.cq_term.specs.Texts.{text_of}
 use Rattle.cq_ops.specs.Faults.{IsAdmitted}
 use Rattle.cq_ops.specs.Tables.{Tables, named, put_number}
 use Rattle.cq_ops.proofs.Named.{set_ok}

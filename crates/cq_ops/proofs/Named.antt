@@ -11,16 +11,16 @@ use Rattle.std.specs.FinMap.{FinMap, get, get-insert, get-remove, get-empty, emp
 use Rattle.std.proofs.lemmas.Option.{slice_get_within, get_or_from_slice_get, slice_get-get_or}
 use Rattle.std.proofs.lemmas.List.Sums.{fails_before_first}
 use Rattle.std.specs.List.{position_or_len}
-use Rattle.spec_operators.specs.declared.OpKind.{OpKind}
+use Rattle.spec_syntax.specs.declared.operators.OpKind.{OpKind}
 use Rattle.std.proofs.lemmas.Bool.Decides.{nat_tests}
-use Rattle.cq_atoms.specs.Texts.{AreDifferent, KeepsTexts}
-use Rattle.cq_atoms.proofs.Places.{stands_at}
-use Rattle.spec_operators.specs.declared.OpDef.{OpDef}
-use Rattle.spec_lists.specs.Texts.{Text}
-use Rattle.spec_operators.specs.Operators.{Ops, Position, Prefix, Infix, Postfix, Fits, changed, entry, put, put_at, position_of, in_range, kind_named, is_bracket, is_at_odds, clashes, set, set_checked, Comma, Clash}
+use Rattle.cq_term.specs.Texts.{AreDifferent, KeepsTexts}
+use Rattle.cq_term.proofs.AtomsPlaces.{stands_at}
+use Rattle.spec_syntax.specs.declared.operators.OpDef.{OpDef}
+use Rattle.spec_numbers.specs.Texts.{Text}
+use Rattle.spec_syntax.specs.Operators.{Ops, Position, Prefix, Infix, Postfix, Fits, changed, entry, put, put_at, position_of, in_range, kind_named, is_bracket, is_at_odds, clashes, set, set_checked, Comma, Clash}
 use Rattle.cq_ops.specs.Tables.{Tables, AllFit, AreFit, AllBelow, AreNamed, entry_of, named, change, put_number, put_number_at, is_number_at_odds}
-use Rattle.cq_atoms.specs.Texts.{text_of}
-use Rattle.spec_operators.specs.Standard.{put_names, empty as no_operators}
+use Rattle.cq_term.specs.Texts.{text_of}
+use Rattle.spec_syntax.specs.Standard.{put_names, empty as no_operators}
 use Rattle.cq_ops.proofs.Lookups.{same_test}
 
 -- what stands at the place of a text is that text

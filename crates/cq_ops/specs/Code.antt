@@ -3,8 +3,8 @@ use Rattle.std.specs.Prelude.{refl}
 use Rattle.std.specs.Ordering.{nat_cmp}
 use Rattle.std.specs.Coded.{Coded, code_by, coded×, coded_ℕ}
 use Rattle.std.specs.FinMap.{FinMap, code}
-use Rattle.spec_operators.specs.declared.OpDef.{OpDef}
-use Rattle.spec_operators.specs.contracts.OpDef as op_def
+use Rattle.spec_syntax.specs.declared.operators.OpDef.{OpDef}
+use Rattle.spec_syntax.specs.contracts.operators.OpDef as op_def
 use Rattle.cq_ops.specs.Tables.{Tables}
 
 abbrev pub operators_code : Coded (FinMap nat_cmp OpDef)

@@ -1,9 +1,9 @@
 -- Why `set` refuses, and what it takes.
 use Rattle.std.specs.Prelude.{◌≡◌, ℕ, ℤ, ◌≤◌, ◌&&◌, ◌||◌, ◌==◌, not, false, List, codes, bytes_eq, Some, Result, Err}
-use Rattle.spec_lists.specs.Texts.{Text}
-use Rattle.spec_operators.specs.declared.OpKind.{OpKind}
-use Rattle.spec_operators.specs.Operators.{Ops, Refusal, BadPriority, BadKind, Comma, Clash, in_range, kind_named, is_bracket, position_of}
-use Rattle.cq_atoms.specs.Texts.{AreDifferent, text_of}
+use Rattle.spec_numbers.specs.Texts.{Text}
+use Rattle.spec_syntax.specs.declared.operators.OpKind.{OpKind}
+use Rattle.spec_syntax.specs.Operators.{Ops, Refusal, BadPriority, BadKind, Comma, Clash, in_range, kind_named, is_bracket, position_of}
+use Rattle.cq_term.specs.Texts.{AreDifferent, text_of}
 use Rattle.cq_ops.specs.Tables.{Tables, is_number_at_odds}
 use Rattle.cq_ops.specs.declared.OpFault.{OpFault}
 use Rattle.cq_ops.specs.declared.OpFault.TheVariants as fault

@@ -3,11 +3,11 @@ use Rattle.std.specs.Prelude.{◌≡◌, ℕ, ◌<◌, List, length, Option, Som
 use Rattle.std.specs.Ordering.{nat_cmp}
 use Rattle.std.specs.Option.{option_and_then}
 use Rattle.std.specs.FinMap.{FinMap, get, insert, remove}
-use Rattle.spec_operators.specs.declared.OpDef.{OpDef}
-use Rattle.spec_operators.specs.declared.OpKind.{OpKind}
-use Rattle.spec_lists.specs.Texts.{Text}
-use Rattle.cq_atoms.specs.Texts.{AreDifferent, KeepsTexts}
-use Rattle.spec_operators.specs.Operators.{Ops, Position, Prefix, Infix, Postfix, Fits, position_of, entry}
+use Rattle.spec_syntax.specs.declared.operators.OpDef.{OpDef}
+use Rattle.spec_syntax.specs.declared.operators.OpKind.{OpKind}
+use Rattle.spec_numbers.specs.Texts.{Text}
+use Rattle.cq_term.specs.Texts.{AreDifferent, KeepsTexts}
+use Rattle.spec_syntax.specs.Operators.{Ops, Position, Prefix, Infix, Postfix, Fits, position_of, entry}
 
 -- the operators of each position, by the numbers of their names
 pub record Tables : Type 0 where

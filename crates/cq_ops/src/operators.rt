@@ -3,8 +3,8 @@ ghost use Rattle.std.specs.Prelude.{◌≡◌, OnOk, OnErr};
 ghost use Rattle.std.specs.FinMap as map;
 ghost use Rattle.cq_ops.specs.Tables.{change};
 
-use cq_atoms::Atom;
-use spec_operators::OpDef;
+use cq_term::atoms::Atom;
+use spec_syntax::operators::OpDef;
 use std::alloc::{AllocError, Global};
 use std::collections::HashMap;
 use std::marker::Model;
@@ -19,7 +19,7 @@ impl Model for Operators {
     ghost use Rattle.std.specs.FinMap as map;
     ghost use Rattle.std.specs.Ordering.{nat_cmp};
     ghost use Rattle.cq_ops.specs.Code.{operators_code};
-    ghost use Rattle.spec_operators.specs.declared.OpDef.{OpDef};
+    ghost use Rattle.spec_syntax.specs.declared.operators.OpDef.{OpDef};
 
     ghost Value = { map.FinMap nat_cmp OpDef };
 

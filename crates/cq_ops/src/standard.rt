@@ -1,14 +1,14 @@
 // The operators at the start.
 ghost use Rattle.std.specs.Prelude.{◌≡◌, ◌≤◌, List, map, IfOk, OnOk};
-ghost use Rattle.spec_lists.specs.Texts.{Text};
-ghost use Rattle.cq_atoms.specs.Texts.{KeepsTexts};
-ghost use Rattle.spec_operators.specs.Standard.{standard, put_names, empty};
+ghost use Rattle.spec_numbers.specs.Texts.{Text};
+ghost use Rattle.cq_term.specs.Texts.{KeepsTexts};
+ghost use Rattle.spec_syntax.specs.Standard.{standard, put_names, empty};
 ghost use Rattle.cq_ops.specs.Tables.{AreNamed, named};
 
 use crate::Ops;
 use crate::operators::Operators;
-use cq_atoms::Atoms;
-use spec_operators::OpKind;
+use cq_term::atoms::Atoms;
+use spec_syntax::operators::OpKind;
 use std::alloc::{AllocError, Global};
 
 impl Ops {

@@ -4,3 +4,4 @@ pub mod Calls
 pub mod Files
 pub mod Memory
 pub mod Whole
+pub mod Counted

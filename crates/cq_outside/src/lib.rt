@@ -6,6 +6,7 @@ mod calls;
 mod memory_shelf;
 mod memory_sink;
 mod memory_source;
+pub mod real;
 mod shelf;
 mod sink;
 mod source;

@@ -1,6 +1,6 @@
 -- What is given without new variables.
 use Rattle.std.proofs.Common.{◌≡◌, ℕ, zero, suc, ◌<◌, List, [], ◌∷◌, map, length, get_or, Option, Some, None, refl, sym, ap, ◌∙◌, append-nil, arith}
-use Rattle.spec_lists.specs.Texts.{Text}
+use Rattle.spec_numbers.specs.Texts.{Text}
 use Rattle.spec_terms.specs.Unifier.{Equation}
 use Rattle.spec_builtins.specs.Alternatives as definition
 use Rattle.spec_builtins.specs.Alternatives.{without_new}
@@ -9,13 +9,13 @@ use Rattle.spec_search.specs.Rows.{nth}
 use Rattle.cq_term.specs.HeapValue.{Terms}
 use Rattle.cq_term.specs.Meaning.{HeapTerm}
 use Rattle.cq_builtin.specs.Offered.{offered_pair}
-use Rattle.cq_walk.specs.declared.pairs.Pair.{Pair}
-use Rattle.cq_text.specs.Ways.{offered, split_way, part_way}
-use Rattle.cq_text.specs.Ways as text
-use Rattle.cq_text.specs.Places.{splits_left, parts_left}
-use Rattle.cq_text.specs.declared.ways.Ways.{Ways}
-use Rattle.cq_text.specs.declared.ways.Ways.TheVariants as text_way
-use Rattle.cq_text.specs.declared.ways.TextAlternatives.{TextAlternatives}
+use Rattle.cq_term.specs.declared.walk.pairs.Pair.{Pair}
+use Rattle.cq_predicates.specs.Ways.{offered, split_way, part_way}
+use Rattle.cq_predicates.specs.Ways as text
+use Rattle.cq_predicates.specs.Places.{splits_left, parts_left}
+use Rattle.cq_predicates.specs.declared.text.ways.Ways.{Ways}
+use Rattle.cq_predicates.specs.declared.text.ways.Ways.TheVariants as text_way
+use Rattle.cq_predicates.specs.declared.text.ways.TextAlternatives.{TextAlternatives}
 use Rattle.cq_predicates.specs.Given.{Gives, offers, over}
 use Rattle.cq_predicates.specs.declared.solutions.Ways.TheVariants as way
 use Rattle.cq_predicates.specs.declared.solutions.Solutions.{Solutions}

@@ -1,3 +1,14 @@
-pub mod Table
+pub mod Asked
+pub mod Kept
+pub mod TextRows
+pub mod Offers
+pub mod Started
+pub mod Standing
+pub mod WholeNumbers
+pub mod CodesRows
+pub mod Spelled
+pub mod PredicatesLemmas
 pub mod Givings
 pub mod Staying
+pub mod BuiltinsLemmas
+pub mod Entries

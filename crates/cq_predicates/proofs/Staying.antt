@@ -1,25 +1,25 @@
 -- Alternatives that are still to come stay the same while names, terms and variables are added.
 use Rattle.std.proofs.Common.{◌≡◌, ℕ, ◌<◌, List, [], ◌∷◌, ◌++◌, map, length, All, true, false, Option, Some, None, refl, ap, ap₂}
 use Rattle.std.proofs.lemmas.List.Elements.{All-head, All-tail, All-weaker}
-use Rattle.spec_lists.specs.Texts.{Text}
-use Rattle.spec_lists.proofs.Prefixes.{prefix_within}
+use Rattle.spec_numbers.specs.Texts.{Text}
+use Rattle.spec_numbers.proofs.Prefixes.{prefix_within}
 use Rattle.spec_builtins.specs.Alternatives as definition
 use Rattle.spec_builtins.specs.Alternatives.{◌≐◌}
 use Rattle.cq_term.specs.HeapValue.{HeapValue}
 use Rattle.cq_term.specs.Trees.{KnowsTerms}
-use Rattle.cq_walk.specs.Pairs.{IsLive}
-use Rattle.cq_walk.specs.declared.pairs.Pair.{Pair}
+use Rattle.cq_term.specs.Pairs.{IsLive}
+use Rattle.cq_term.specs.declared.walk.pairs.Pair.{Pair}
 use Rattle.cq_built.specs.Growing.{Grows}
 use Rattle.cq_built.specs.Offered.{equation_of}
 use Rattle.cq_built.specs.declared.alternatives.Alternative.{Alternative}
 use Rattle.cq_built.proofs.Trees.{tree_kept}
-use Rattle.cq_text.specs.Ways.{offered}
-use Rattle.cq_text.specs.Ways as text
-use Rattle.cq_text.specs.Places.{splits_left, parts_left}
-use Rattle.cq_text.specs.declared.ways.Ways.{Ways}
-use Rattle.cq_text.specs.declared.ways.Ways.TheVariants as text_way
-use Rattle.cq_text.specs.declared.ways.TextAlternatives.{TextAlternatives}
-use Rattle.cq_text.proofs.Kept.{split_kept, part_kept, map_kept}
+use Rattle.cq_predicates.specs.Ways.{offered}
+use Rattle.cq_predicates.specs.Ways as text
+use Rattle.cq_predicates.specs.Places.{splits_left, parts_left}
+use Rattle.cq_predicates.specs.declared.text.ways.Ways.{Ways}
+use Rattle.cq_predicates.specs.declared.text.ways.Ways.TheVariants as text_way
+use Rattle.cq_predicates.specs.declared.text.ways.TextAlternatives.{TextAlternatives}
+use Rattle.cq_predicates.proofs.Kept.{split_kept, part_kept, map_kept}
 use Rattle.cq_predicates.specs.Given.{Adds, CanGoOn, at_most_one, has_ways, some_ways, ways_left}
 use Rattle.cq_predicates.specs.declared.solutions.Ways.TheVariants as way
 use Rattle.cq_predicates.specs.declared.solutions.Ways as ways

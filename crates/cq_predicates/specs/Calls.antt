@@ -1,8 +1,8 @@
 -- What calls of predicates with terms of a heap give.
 use Rattle.std.specs.Prelude.{ℕ, List, length}
-use Rattle.spec_lists.specs.Texts.{Text}
+use Rattle.spec_numbers.specs.Texts.{Text}
 use Rattle.spec_builtins.specs.Alternatives.{Solutions}
-use Rattle.spec_predicates.specs.Calls.{solutions_of}
+use Rattle.spec_search.specs.Calls.{solutions_of}
 use Rattle.cq_term.specs.HeapValue.{Terms}
 use Rattle.cq_term.specs.Trees.{trees}
 use Rattle.cq_predicates.specs.declared.predicates.Predicate.{Predicate}

@@ -1,7 +1,7 @@
 -- What a call gives, as alternatives that are made one at a time.
 use Rattle.std.specs.Prelude.{◌≡◌, ◌≤◌, ℕ, List, [], ◌∷◌, ◌++◌, true, false, map, length, Option, Some, None, ⊤}
-use Rattle.spec_lists.specs.Texts.{Text}
-use Rattle.spec_lists.specs.Prefixes.{IsPrefix}
+use Rattle.spec_numbers.specs.Texts.{Text}
+use Rattle.spec_numbers.specs.Prefixes.{IsPrefix}
 use Rattle.spec_terms.specs.Unifier.{Equation}
 use Rattle.spec_builtins.specs.Alternatives.{Offers}
 use Rattle.spec_builtins.specs.Alternatives as definition
@@ -13,8 +13,8 @@ use Rattle.cq_built.specs.Offered.{equation_of}
 use Rattle.cq_built.specs.declared.alternatives.Alternative.{Alternative}
 use Rattle.cq_builtin.specs.Offered.{IsLiveOrNone}
 use Rattle.cq_builtin.specs.Over.{equations_of, AreLive}
-use Rattle.cq_text.specs.Ways.{offered}
-use Rattle.cq_text.specs.Ways as text
+use Rattle.cq_predicates.specs.Ways.{offered}
+use Rattle.cq_predicates.specs.Ways as text
 use Rattle.cq_predicates.specs.declared.solutions.Ways.{Ways}
 use Rattle.cq_predicates.specs.declared.solutions.Ways.TheVariants as way
 use Rattle.cq_predicates.specs.declared.solutions.Solutions.{Solutions}

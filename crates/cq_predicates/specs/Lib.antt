@@ -1,4 +1,15 @@
+pub mod Places
+pub mod Ways
+pub mod Arguments
+pub mod TextRows
+pub mod Elements
+pub mod CodesRows
 pub mod Names
 pub mod Found
 pub mod Given
 pub mod Calls
+pub mod Entries
+pub mod TableFound
+pub mod TableNames
+pub mod Numbered
+pub mod TableRows

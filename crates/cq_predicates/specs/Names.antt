@@ -1,9 +1,9 @@
 -- Predicates as the definitions name them.
-use Rattle.spec_predicates.specs.Predicates as definition
+use Rattle.spec_search.specs.Predicates as definition
 use Rattle.spec_builtins.specs.Texts.{Characters, Codes}
 use Rattle.cq_builtin.specs.Rows.{comparison_of, test_of}
-use Rattle.cq_codes.specs.declared.conversions.Conversion.{Conversion}
-use Rattle.cq_codes.specs.declared.conversions.Conversion.TheVariants as conversion
+use Rattle.cq_predicates.specs.declared.codes.conversions.Conversion.{Conversion}
+use Rattle.cq_predicates.specs.declared.codes.conversions.Conversion.TheVariants as conversion
 use Rattle.cq_predicates.specs.declared.predicates.Predicate.{Predicate}
 use Rattle.cq_predicates.specs.declared.predicates.Predicate.TheVariants as predicate
 

@@ -1,7 +1,7 @@
 // One call for all predicates.
 
 ghost use Rattle.std.specs.Prelude.{◌≡◌, ◌<◌, All, length, IfOk, IfErr, OnErr};
-ghost use Rattle.spec_predicates.specs.Predicates.{arity};
+ghost use Rattle.spec_search.specs.Predicates.{arity};
 ghost use Rattle.cq_term.specs.Trees.{KnowsTerms};
 ghost use Rattle.cq_built.specs.Errors.{Explains, CanBeRaised};
 ghost use Rattle.cq_predicates.specs.Names.{as_predicate};
@@ -12,8 +12,8 @@ use crate::predicates::Predicate;
 use crate::solutions::Solutions;
 use crate::terms::{chosen, compared, copied, listed, related, tested};
 use crate::texts::{converted, joined, measured, parted};
-use cq_atoms::Atoms;
 use cq_built::BuiltinFault;
+use cq_term::atoms::Atoms;
 use cq_term::{Heap, TermId};
 
 /// What a call of a predicate gives: its alternatives, or why it has none. `atoms` has to know the names in the heap's terms.

@@ -1,7 +1,7 @@
 // What is still to come of a call while others go on.
 
 ghost use Rattle.std.specs.Prelude.{◌≡◌, List};
-ghost use Rattle.spec_lists.specs.Texts.{Text};
+ghost use Rattle.spec_numbers.specs.Texts.{Text};
 ghost use Rattle.cq_term.specs.HeapValue.{HeapValue};
 ghost use Rattle.cq_term.specs.Trees.{KnowsTerms};
 ghost use Rattle.cq_predicates.specs.declared.solutions.Solutions.{Solutions};

@@ -3,10 +3,13 @@
 #![tactic(auto)]
 
 mod calls;
+pub mod codes;
 mod laws;
 mod predicates;
 mod solutions;
+pub mod table;
 mod terms;
+pub mod text;
 mod texts;
 
 pub use calls::call;

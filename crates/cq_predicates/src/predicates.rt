@@ -2,13 +2,13 @@
 
 ghost use Rattle.std.specs.Prelude.{◌≡◌, bytes_eq};
 ghost use Rattle.std.specs.Option.{option_map};
-ghost use Rattle.spec_built.specs.Built.{indicator};
-ghost use Rattle.spec_predicates.specs.Predicates.{arity, predicate_named};
+ghost use Rattle.spec_builtins.specs.Built.{indicator};
+ghost use Rattle.spec_search.specs.Predicates.{arity, predicate_named};
 ghost use Rattle.cq_predicates.specs.Found.{IsFirst};
 ghost use Rattle.cq_predicates.specs.Names.{as_predicate};
 
+use crate::codes::Conversion;
 use cq_builtin::{Comparison, TypeTest};
-use cq_codes::Conversion;
 
 /// A predicate on terms or texts.
 #[derive(Clone, Copy, Debug, PartialEq, Eq)]

@@ -1,23 +1,23 @@
 // What a call of a predicate gives.
 
 ghost use Rattle.std.specs.Prelude.{◌≡◌, [], ◌∷◌, List, IfOk, OnErr, true};
-ghost use Rattle.spec_lists.specs.Texts.{Text};
+ghost use Rattle.spec_numbers.specs.Texts.{Text};
 ghost use Rattle.cq_term.specs.Trees.{KnowsTerms};
-ghost use Rattle.cq_text.specs.Ways.{CanBeTried};
-ghost use Rattle.cq_text.specs.Ways.{offered};
-ghost use Rattle.cq_text.specs.Ways as text;
+ghost use Rattle.cq_predicates.specs.Ways.{CanBeTried};
+ghost use Rattle.cq_predicates.specs.Ways.{offered};
+ghost use Rattle.cq_predicates.specs.Ways as text;
 ghost use Rattle.cq_built.specs.Growing.{Grows};
 ghost use Rattle.cq_builtin.specs.Offered.{IsLiveOrNone};
 ghost use Rattle.cq_builtin.specs.Over.{equations_of, AreLive};
 ghost use Rattle.cq_term.specs.Meaning.{HeapTerm};
 ghost use Rattle.cq_predicates.specs.Given.{CanGoOn, HasNoneBack, TakesNext, TakesWay, Adds, ways_left};
 
-use cq_atoms::Atoms;
+use crate::text::TextAlternatives;
 use cq_built::Alternative;
 use cq_term::Heap;
-use cq_text::TextAlternatives;
+use cq_term::atoms::Atoms;
+use cq_term::walk::Pair;
 use cq_trail::Undo;
-use cq_walk::Pair;
 use std::alloc::AllocError;
 
 #[derive(Drop)]

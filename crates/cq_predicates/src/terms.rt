@@ -8,9 +8,9 @@ ghost use Rattle.cq_predicates.specs.Given.{CanGoOn, Gives, Adds};
 
 use crate::predicates::Predicate;
 use crate::solutions::{Solutions, Ways};
-use cq_atoms::Atoms;
 use cq_built::BuiltinFault;
 use cq_builtin::{Comparison, TypeTest, arg, copy_term, functor, order, test, univ};
+use cq_term::atoms::Atoms;
 use cq_term::{Heap, TermId};
 use std::alloc::AllocError;
 

@@ -6,18 +6,18 @@ ghost use Rattle.cq_built.specs.Errors.{Explains, CanBeRaised};
 ghost use Rattle.cq_predicates.specs.Calls.{solutions_on};
 ghost use Rattle.cq_built.specs.Growing.{Grows};
 ghost use Rattle.spec_builtins.specs.Alternatives.{Offers};
-ghost use Rattle.cq_text.specs.Rows.{length_row, concat_row};
-ghost use Rattle.cq_text.specs.Ways.{HasSplitArgs, offered};
-ghost use Rattle.cq_text.specs.Ways as ways_of_text;
+ghost use Rattle.cq_predicates.specs.TextRows.{length_row, concat_row};
+ghost use Rattle.cq_predicates.specs.Ways.{HasSplitArgs, offered};
+ghost use Rattle.cq_predicates.specs.Ways as ways_of_text;
 ghost use Rattle.cq_predicates.specs.Given.{CanGoOn, Gives, Adds};
 
+use crate::codes::{Conversion, convert};
 use crate::predicates::Predicate;
 use crate::solutions::{Solutions, Ways};
-use cq_atoms::Atoms;
+use crate::text::{PartArgs, SplitArgs, TextAlternatives, atom_concat, atom_length, sub_atom};
 use cq_built::BuiltinFault;
-use cq_codes::{Conversion, convert};
+use cq_term::atoms::Atoms;
 use cq_term::{Heap, TermId};
-use cq_text::{PartArgs, SplitArgs, TextAlternatives, atom_concat, atom_length, sub_atom};
 use cq_trail::Undo;
 
 /// A value and its characters or codes.

@@ -1,2 +1,13 @@
-pub mod Rows
-pub mod Faults
+pub mod Sifting
+pub mod Answering
+pub mod Telling
+pub mod Disclosing
+pub mod Passing
+pub mod EliminateFaults
+pub mod Eliminating
+pub mod Lasting
+pub mod Putting
+pub mod EchelonFaults
+pub mod Variables
+pub mod Keeping
+pub mod Projecting

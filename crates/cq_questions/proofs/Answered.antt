@@ -1,10 +1,10 @@
 -- The step of a goal that asks the linear constraints, by the answer; and its stops.
 use Rattle.std.proofs.Common.{◌≡◌, ℕ, List, [], ◌∷◌, None, sym, subst}
-use Rattle.spec_rational.specs.Rational.{ℚ}
-use Rattle.spec_limits.specs.Overflow.{Moment}
-use Rattle.spec_built.specs.Errors.{type_error}
+use Rattle.spec_numbers.specs.Rational.{ℚ}
+use Rattle.spec_simplex.specs.Overflow.{Moment}
+use Rattle.spec_builtins.specs.Errors.{type_error}
 use Rattle.spec_syntax.specs.Trees.{Tree}
-use Rattle.spec_told.specs.Relations.{Waits, False, lin_expression}
+use Rattle.spec_branch.specs.Relations.{Waits, False, lin_expression}
 use Rattle.spec_branch.specs.Branch.{State, Item, Branch, read}
 use Rattle.spec_search.specs.Builtins.{Side}
 use Rattle.spec_search.specs.Replies.{Place, Reply, IfEntailed, WithExtent}
@@ -13,13 +13,13 @@ use Rattle.spec_search.specs.Search.{Search, look_at, Selecting}
 use Rattle.spec_search.specs.Steps as step
 use Rattle.spec_search.specs.Steps.{Steps, ball_of, children}
 use Rattle.spec_search.specs.Turns.{place_of}
-use Rattle.spec_stops.specs.Causes.{Budgets, Overflow, Pivots}
-use Rattle.spec_stops.specs.Due as due
-use Rattle.spec_stops.specs.Due.{Due}
-use Rattle.spec_stops.specs.Questions.{IsQuestionMoment}
+use Rattle.spec_transcript.specs.Causes.{Budgets, Overflow, Pivots}
+use Rattle.spec_transcript.specs.Due as due
+use Rattle.spec_transcript.specs.Due.{Due}
+use Rattle.spec_transcript.specs.Questions.{IsQuestionMoment}
 use Rattle.cq_frac.specs.declared.Pair.{Pair}
-use Rattle.cq_linear.specs.declared.store.Extent.TheVariants.{Value, Unbounded}
-use Rattle.cq_linear.specs.declared.store.StoreFault.{StoreFault}
+use Rattle.cq_store.specs.declared.store.Extent.TheVariants.{Value, Unbounded}
+use Rattle.cq_store.specs.declared.store.StoreFault.{StoreFault}
 use Rattle.cq_questions.specs.Extents.{Reaches}
 use Rattle.cq_questions.specs.Members.{AreEntailed, IsOneBroken, IsFirstWaiting}
 use Rattle.cq_questions.specs.Stops.{RefusesIn, TakesIn, IsDueIn, MembersStop, ExtentStops}

@@ -3,16 +3,16 @@ use Rattle.std.proofs.Common.{◌≡◌, ◌<◌, ℕ, ◌+◌, List, [], ◌∷
 use Rattle.std.specs.Prelude.{Contains, ◌==◌, MatchOption}
 use Rattle.std.proofs.lemmas.List.{length-append, length-map, map-append, take_more}
 use Rattle.std.proofs.lemmas.List.Elements.{Contains-push_cases}
-use Rattle.spec_rational.specs.Rational.{ℚ}
+use Rattle.spec_numbers.specs.Rational.{ℚ}
 use Rattle.spec_linear.specs.Solution.{Constraint, Fixed, Fixes}
-use Rattle.spec_lists.specs.Texts.{Text}
-use Rattle.spec_lists.proofs.Tests.{nat_eq-same, nat_eq-self}
+use Rattle.spec_numbers.specs.Texts.{Text}
+use Rattle.spec_numbers.proofs.Tests.{nat_eq-same, nat_eq-self}
 use Rattle.spec_terms.specs.Term.{Terms, Var, Number, Name, Compound, one, more, Occurs, OccursIn, apply, followed_by, identity, single, named, named_all}
 use Rattle.spec_terms.specs.Variables.{variables}
 use Rattle.spec_terms.proofs.Listed.{occurs_listed}
 use Rattle.spec_terms.proofs.Substitution.{apply-identity, apply-followed_by, apply_agree, named-apply, occurs_from}
 use Rattle.spec_branch.specs.Settling.{value_or_variable}
-use Rattle.cq_atoms.specs.Texts.{text_of}
+use Rattle.cq_term.specs.Texts.{text_of}
 use Rattle.cq_frac.specs.declared.VarId.{VarId}
 use Rattle.cq_term.specs.HeapValue.{Terms as Heap}
 use Rattle.cq_term.specs.Meaning.{HeapTerm, at}
@@ -20,7 +20,7 @@ use Rattle.cq_term.specs.Names.{HasNamesBelow}
 use Rattle.cq_term.specs.Trees.{tree}
 use Rattle.cq_term.proofs.Known.{names_substituted}
 use Rattle.cq_term.proofs.Meanings.{at-append, at-map}
-use Rattle.cq_walk.specs.Places.{numbers_of}
+use Rattle.cq_term.specs.Places.{numbers_of}
 use Rattle.cq_settle.specs.Underway.{valued}
 use Rattle.cq_questions.specs.Values.{IsValued, IsFree}
 

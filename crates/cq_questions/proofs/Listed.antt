@@ -4,11 +4,11 @@ use Rattle.std.specs.Prelude.{find, All, Any, Contains, MatchBool}
 use Rattle.std.specs.List.{AllByRecursion}
 use Rattle.std.proofs.lemmas.List.{map-append, take_more}
 use Rattle.std.proofs.lemmas.List.Elements.{recursion_from_All, Contains-get_or}
-use Rattle.spec_rational.specs.Rational.{ℚ}
+use Rattle.spec_numbers.specs.Rational.{ℚ}
 use Rattle.spec_linear.specs.Solution.{Constraint, Has}
-use Rattle.spec_lists.specs.Texts.{Text}
+use Rattle.spec_numbers.specs.Texts.{Text}
 use Rattle.spec_syntax.specs.Trees.{Tree}
-use Rattle.spec_told.specs.Relations.{Lin, Is, Waits, lin}
+use Rattle.spec_branch.specs.Relations.{Lin, Is, Waits, lin}
 use Rattle.spec_search.specs.Steps.{waits, is_not_linear, IsEntailed, IsBroken, AllEntailed}
 use Rattle.cq_term.specs.Meaning.{HeapTerm}
 use Rattle.cq_term.specs.Trees.{tree, trees}

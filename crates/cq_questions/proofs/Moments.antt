@@ -2,27 +2,27 @@
 use Rattle.std.proofs.Common.{◌≡◌, ℕ, List, [], ◌∷◌, ◌++◌, Option, refl, sym, ◌∙◌, subst, inl, inr, ◌⊎◌}
 use Rattle.std.specs.Prelude.{flat_map}
 use Rattle.std.specs.List.{AllByRecursion}
-use Rattle.spec_rational.specs.Rational.{ℚ}
+use Rattle.spec_numbers.specs.Rational.{ℚ}
 use Rattle.spec_linear.specs.Form.{Linear}
 use Rattle.spec_linear.specs.Solution.{Constraint, Has, Fixes}
-use Rattle.spec_inequalities.specs.Weak.{at_least_zero}
-use Rattle.spec_limits.specs.Asked.{IsAsked, of_member, of_joining, of_question, of_variable, negated, IsInForce, alone, while_joining, while_asked, while_asked_unequal, NoQuestion}
-use Rattle.spec_limits.specs.Later.{HasAll, in_place_of}
-use Rattle.spec_limits.specs.Overflow.{Operands, Moment, settling}
-use Rattle.spec_limits.proofs.Later.{overflow_stays, chain_stays}
+use Rattle.spec_linear.specs.Weak.{at_least_zero}
+use Rattle.spec_simplex.specs.Asked.{IsAsked, of_member, of_joining, of_question, of_variable, negated, IsInForce, alone, while_joining, while_asked, while_asked_unequal, NoQuestion}
+use Rattle.spec_simplex.specs.Later.{HasAll, in_place_of}
+use Rattle.spec_simplex.specs.Overflow.{Operands, Moment, settling}
+use Rattle.spec_simplex.proofs.Later.{overflow_stays, chain_stays}
 use Rattle.spec_syntax.specs.Trees.{Tree}
-use Rattle.spec_told.specs.Relations.{Is, lin_expression}
+use Rattle.spec_branch.specs.Relations.{Is, lin_expression}
 use Rattle.spec_branch.specs.Branch.{State, Branch}
 use Rattle.spec_search.specs.Builtins.{Side}
 use Rattle.spec_search.specs.Replies.{Reply, IfEntailed, WithExtent}
-use Rattle.spec_stops.specs.Operands.{relation_operands, expression_operands}
-use Rattle.spec_stops.specs.Questions.{JoinsNothing, AsksAbout, AsksExtent, member, reaches, asked_operands, IsQuestionMoment}
+use Rattle.spec_transcript.specs.Operands.{relation_operands, expression_operands}
+use Rattle.spec_transcript.specs.Questions.{JoinsNothing, AsksAbout, AsksExtent, member, reaches, asked_operands, IsQuestionMoment}
 use Rattle.cq_cexpr.specs.Overflows.{ComesFrom}
 use Rattle.cq_frac.specs.declared.Pair.{Pair}
-use Rattle.cq_linear.specs.StoreValue.{IsCallList, in_force, joined, IsCallMoment, MayRefuse, MayTake, Only}
-use Rattle.cq_linear.specs.declared.store.StoreFault.{StoreFault}
-use Rattle.cq_linear.specs.declared.store.StoreFault.TheVariants as store
-use Rattle.cq_linear.specs.Faults.{IsFaultOf}
+use Rattle.cq_store.specs.StoreValue.{IsCallList, in_force, joined, IsCallMoment, MayRefuse, MayTake, Only}
+use Rattle.cq_store.specs.declared.store.StoreFault.{StoreFault}
+use Rattle.cq_store.specs.declared.store.StoreFault.TheVariants as store
+use Rattle.cq_store.specs.Faults.{IsFaultOf}
 use Rattle.cq_frac.specs.declared.Refusal.{Refusal}
 use Rattle.cq_frac.specs.declared.Refusal.TheVariants as refusal
 use Rattle.cq_questions.specs.declared.members.Member.{Member}

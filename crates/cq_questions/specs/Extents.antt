@@ -1,14 +1,14 @@
 -- How far an expression reaches on the solutions of a list.
 use Rattle.std.specs.Prelude.{◌≡◌, ℕ, List, Option}
-use Rattle.spec_rational.specs.Rational.{ℚ}
+use Rattle.spec_numbers.specs.Rational.{ℚ}
 use Rattle.spec_linear.specs.Form.{Linear}
 use Rattle.spec_linear.specs.Solution.{Constraint}
 use Rattle.spec_syntax.specs.Trees.{Tree}
-use Rattle.spec_told.specs.Relations.{Is, Waits, False, lin_expression}
+use Rattle.spec_branch.specs.Relations.{Is, Waits, False, lin_expression}
 use Rattle.spec_search.specs.Builtins as search
 use Rattle.spec_search.specs.Steps.{IsExtent, HasNoExtent}
-use Rattle.cq_linear.specs.declared.store.Extent.{Extent}
-use Rattle.cq_linear.specs.declared.store.Extent.TheVariants.{Value, Unbounded}
+use Rattle.cq_store.specs.declared.store.Extent.{Extent}
+use Rattle.cq_store.specs.declared.store.Extent.TheVariants.{Value, Unbounded}
 use Rattle.cq_questions.specs.declared.extents.Side.{Side}
 use Rattle.cq_questions.specs.declared.extents.Side.TheVariants as side
 use Rattle.cq_questions.specs.declared.extents.Reach.{Reach}

@@ -1,10 +1,10 @@
 -- Whether a list entails the members of a constraint.
 use Rattle.std.specs.Prelude.{◌≡◌, ℕ, ◌<◌, List, map, length, find, Contains, Option, Some, None}
-use Rattle.spec_rational.specs.Rational.{ℚ}
+use Rattle.spec_numbers.specs.Rational.{ℚ}
 use Rattle.spec_linear.specs.Solution.{Constraint, Has}
-use Rattle.spec_lists.specs.Texts.{Text}
+use Rattle.spec_numbers.specs.Texts.{Text}
 use Rattle.spec_syntax.specs.Trees.{Tree}
-use Rattle.spec_told.specs.Relations.{Lin, Is, False, lin}
+use Rattle.spec_branch.specs.Relations.{Lin, Is, False, lin}
 use Rattle.spec_search.specs.Steps.{is_not_linear, IsBroken, AllEntailed}
 use Rattle.cq_term.specs.Meaning.{HeapTerm}
 use Rattle.cq_term.specs.Trees.{tree, trees}

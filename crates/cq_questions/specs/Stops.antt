@@ -1,17 +1,17 @@
 -- Why a question to the linear constraints stops.
 use Rattle.std.specs.Prelude.{◌≡◌, ℕ, List, ⊤}
-use Rattle.spec_rational.specs.Rational.{ℚ}
+use Rattle.spec_numbers.specs.Rational.{ℚ}
 use Rattle.spec_linear.specs.Solution.{Constraint}
-use Rattle.spec_limits.specs.Chains.{IsBlandChain}
-use Rattle.spec_limits.specs.Overflow.{Moment, OverflowDue}
+use Rattle.spec_simplex.specs.Chains.{IsBlandChain}
+use Rattle.spec_simplex.specs.Overflow.{Moment, OverflowDue}
 use Rattle.spec_syntax.specs.Trees.{Tree}
 use Rattle.spec_branch.specs.Branch.{State, Branch}
 use Rattle.spec_search.specs.Builtins.{Side}
 use Rattle.spec_search.specs.Replies.{IfEntailed, WithExtent}
-use Rattle.spec_stops.specs.Questions.{IsQuestionMoment}
+use Rattle.spec_transcript.specs.Questions.{IsQuestionMoment}
 use Rattle.cq_frac.specs.declared.Pair.{Pair}
-use Rattle.cq_linear.specs.declared.store.StoreFault.{StoreFault}
-use Rattle.cq_linear.specs.declared.store.StoreFault.TheVariants.{Overflow, Pivots, NoMemory}
+use Rattle.cq_store.specs.declared.store.StoreFault.{StoreFault}
+use Rattle.cq_store.specs.declared.store.StoreFault.TheVariants.{Overflow, Pivots, NoMemory}
 
 -- in some such moment an operation on the pair is due, and is refused
 pub record RefusesIn (P : Moment → Type 0) (pair : Pair) : Type 0 where

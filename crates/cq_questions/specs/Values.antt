@@ -1,8 +1,8 @@
 -- The values that a list of constraints fixes, in the places of a term's variables.
 use Rattle.std.specs.Prelude.{◌≡◌, ℕ, ◌<◌, List, length, Option, None}
-use Rattle.spec_rational.specs.Rational.{ℚ}
+use Rattle.spec_numbers.specs.Rational.{ℚ}
 use Rattle.spec_linear.specs.Solution.{Constraint, Fixes}
-use Rattle.spec_lists.specs.Texts.{Text}
+use Rattle.spec_numbers.specs.Texts.{Text}
 use Rattle.spec_terms.specs.Term.{Occurs, apply}
 use Rattle.cq_settle.specs.Underway.{valued}
 use Rattle.cq_term.specs.HeapValue.{Terms}

@@ -1,24 +1,24 @@
 // Whether the linear constraints of a world entail the members of a constraint.
 
 ghost use Rattle.std.specs.Prelude.{◌≡◌, ◌≤◌, ◌∷◌, [], ℕ, Any, All, IfOk, IfErr, MatchBool};
-ghost use Rattle.spec_limits.specs.Asked.{NoQuestion};
+ghost use Rattle.spec_simplex.specs.Asked.{NoQuestion};
 ghost use Rattle.spec_search.specs.Steps.{IsEntailed, IsBroken};
 ghost use Rattle.cq_frac.specs.declared.Pair.{Pair};
-ghost use Rattle.cq_linear.specs.StoreValue.{MayRefuse, MayTake, Only};
-ghost use Rattle.cq_linear.specs.declared.store.StoreFault.TheVariants.{Overflow, Pivots};
-ghost use Rattle.cq_sides.specs.Splitting.{AreLive};
+ghost use Rattle.cq_store.specs.StoreValue.{MayRefuse, MayTake, Only};
+ghost use Rattle.cq_store.specs.declared.store.StoreFault.TheVariants.{Overflow, Pivots};
+ghost use Rattle.cq_built.specs.Splitting.{AreLive};
 ghost use Rattle.cq_term.specs.Trees.{trees, KnowsTerms};
-ghost use Rattle.cq_world.specs.Worlds.{now_of, saved_of, room_of};
+ghost use Rattle.cq_settle.specs.Worlds.{now_of, saved_of, room_of};
 ghost use Rattle.cq_questions.specs.Members.{lin_of, IsAnswer, AsksOne};
 ghost use Rattle.cq_questions.specs.Stops.{AtStates, MembersStop};
 ghost use Rattle.cq_questions.specs.Values.{AtValues};
 
 use crate::members::{Found, Member, members_now};
 use crate::values::values_are_fixed;
-use cq_atoms::Atoms;
-use cq_linear::store::{Store, StoreFault};
+use cq_settle::world::World;
+use cq_store::store::{Store, StoreFault};
 use cq_term::TermId;
-use cq_world::World;
+use cq_term::atoms::Atoms;
 
 /// Whether the linear constraints entail several relations.
 #[derive(Clone, Copy, Debug)]

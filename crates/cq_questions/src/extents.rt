@@ -1,25 +1,25 @@
 // How far an expression reaches on the solutions of a world's linear constraints.
 
 ghost use Rattle.std.specs.Prelude.{◌≡◌, ◌<◌, ◌≤◌, ℕ, length, IfOk, IfErr};
-ghost use Rattle.spec_inequalities.specs.Weak.{at_least_zero};
-ghost use Rattle.spec_limits.specs.Asked.{NoQuestion};
+ghost use Rattle.spec_linear.specs.Weak.{at_least_zero};
+ghost use Rattle.spec_simplex.specs.Asked.{NoQuestion};
 ghost use Rattle.cq_frac.specs.declared.Pair.{Pair};
-ghost use Rattle.cq_linear.specs.StoreValue.{MayRefuse, MayTake, Only};
-ghost use Rattle.cq_linear.specs.declared.store.StoreFault.TheVariants.{Overflow, Pivots};
+ghost use Rattle.cq_store.specs.StoreValue.{MayRefuse, MayTake, Only};
+ghost use Rattle.cq_store.specs.declared.store.StoreFault.TheVariants.{Overflow, Pivots};
 ghost use Rattle.cq_term.specs.Trees.{tree, KnowsTerms};
-ghost use Rattle.cq_world.specs.Worlds.{now_of, saved_of, room_of};
+ghost use Rattle.cq_settle.specs.Worlds.{now_of, saved_of, room_of};
 ghost use Rattle.cq_questions.specs.Extents.{side_of, IsExtentAt, IsReach};
 ghost use Rattle.cq_questions.specs.Stops.{AtStates, ExtentStops};
 ghost use Rattle.cq_questions.specs.Values.{AtValues};
 
 use crate::terms::expression_now;
 use crate::values::values_are_fixed;
-use cq_atoms::Atoms;
 use cq_cexpr::LinExpression;
 use cq_form::Form;
-use cq_linear::store::{Extent, Store, StoreFault};
+use cq_settle::world::World;
+use cq_store::store::{Extent, Store, StoreFault};
 use cq_term::TermId;
-use cq_world::World;
+use cq_term::atoms::Atoms;
 
 /// An end of the values of an expression.
 #[derive(Clone, Copy, Debug)]

@@ -1,10 +1,10 @@
 // What answers to questions, and their stops, are in a search.
 
 ghost use Rattle.std.specs.Prelude.{◌≡◌, [], ◌∷◌, ℕ, List, None};
-ghost use Rattle.spec_rational.specs.Rational.{ℚ};
-ghost use Rattle.spec_built.specs.Errors.{type_error};
+ghost use Rattle.spec_numbers.specs.Rational.{ℚ};
+ghost use Rattle.spec_builtins.specs.Errors.{type_error};
 ghost use Rattle.spec_syntax.specs.Trees.{Tree};
-ghost use Rattle.spec_told.specs.Relations.{Waits, False, lin_expression};
+ghost use Rattle.spec_branch.specs.Relations.{Waits, False, lin_expression};
 ghost use Rattle.spec_branch.specs.Branch.{State, Item, Branch, read};
 ghost use Rattle.spec_search.specs.Builtins.{Side};
 ghost use Rattle.spec_search.specs.Replies.{Place, IfEntailed, WithExtent};
@@ -12,12 +12,12 @@ ghost use Rattle.spec_search.specs.Rows.{reply_of};
 ghost use Rattle.spec_search.specs.Search.{Search, look_at, Selecting};
 ghost use Rattle.spec_search.specs.Steps.{Steps, ball_of, children};
 ghost use Rattle.spec_search.specs.Turns.{place_of};
-ghost use Rattle.spec_stops.specs.Causes.{Budgets, Overflow, Pivots};
-ghost use Rattle.spec_stops.specs.Due.{Due};
-ghost use Rattle.spec_stops.specs.Questions.{IsQuestionMoment};
+ghost use Rattle.spec_transcript.specs.Causes.{Budgets, Overflow, Pivots};
+ghost use Rattle.spec_transcript.specs.Due.{Due};
+ghost use Rattle.spec_transcript.specs.Questions.{IsQuestionMoment};
 ghost use Rattle.cq_frac.specs.declared.Pair.{Pair};
-ghost use Rattle.cq_linear.specs.declared.store.Extent.TheVariants.{Value, Unbounded};
-ghost use Rattle.cq_linear.specs.declared.store.StoreFault.{StoreFault};
+ghost use Rattle.cq_store.specs.declared.store.Extent.TheVariants.{Value, Unbounded};
+ghost use Rattle.cq_store.specs.declared.store.StoreFault.{StoreFault};
 ghost use Rattle.cq_questions.specs.Extents.{Reaches};
 ghost use Rattle.cq_questions.specs.Members.{AreEntailed, IsOneBroken, IsFirstWaiting};
 ghost use Rattle.cq_questions.specs.Stops.{RefusesIn, TakesIn, IsDueIn, MembersStop, ExtentStops};

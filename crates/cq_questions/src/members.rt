@@ -3,22 +3,22 @@
 ghost use Rattle.std.specs.Prelude.{◌≡◌, ◌≤◌, IfOk, IfSome, IfNone};
 ghost use Rattle.spec_linear.specs.Solution.{Has};
 ghost use Rattle.spec_syntax.specs.Trees.{Tree};
-ghost use Rattle.spec_told.specs.Relations.{Waits};
-ghost use Rattle.spec_stops.specs.Operands.{relation_operands};
+ghost use Rattle.spec_branch.specs.Relations.{Waits};
+ghost use Rattle.spec_transcript.specs.Operands.{relation_operands};
 ghost use Rattle.cq_cexpr.specs.Found.{constraint_of};
 ghost use Rattle.cq_cexpr.specs.Overflows.{ComesFrom};
 ghost use Rattle.cq_frac.specs.declared.Pair.{Pair};
-ghost use Rattle.cq_sides.specs.Splitting.{AreLive};
+ghost use Rattle.cq_built.specs.Splitting.{AreLive};
 ghost use Rattle.cq_term.specs.Trees.{trees, KnowsTerms};
 ghost use Rattle.cq_questions.specs.Members.{lin_of, IsFound};
 ghost use Rattle.cq_questions.specs.Values.{AtValues};
 
 use crate::terms::relation_now;
-use cq_atoms::Atoms;
 use cq_cexpr::Lin;
 use cq_form::Constraint;
 use cq_frac::Refusal;
-use cq_linear::store::Store;
+use cq_store::store::Store;
+use cq_term::atoms::Atoms;
 use cq_term::{Heap, TermId};
 
 /// A member that doesn't wait.

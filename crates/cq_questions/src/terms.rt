@@ -1,8 +1,8 @@
 // Told terms and expressions as linear ones, under the values that the linear constraints fix.
 
 ghost use Rattle.std.specs.Prelude.{◌≡◌, ◌<◌, ◌≤◌, length, IfOk};
-ghost use Rattle.spec_told.specs.Relations.{lin, lin_expression};
-ghost use Rattle.spec_stops.specs.Operands.{relation_operands, expression_operands};
+ghost use Rattle.spec_branch.specs.Relations.{lin, lin_expression};
+ghost use Rattle.spec_transcript.specs.Operands.{relation_operands, expression_operands};
 ghost use Rattle.cq_cexpr.specs.Found.{constraint_of, expression_of};
 ghost use Rattle.cq_cexpr.specs.Overflows.{ComesFrom};
 ghost use Rattle.cq_frac.specs.declared.Pair.{Pair};
@@ -10,10 +10,10 @@ ghost use Rattle.cq_term.specs.Trees.{tree, KnowsTerms};
 ghost use Rattle.cq_questions.specs.Values.{AtValues};
 
 use crate::values::bind_values;
-use cq_atoms::Atoms;
 use cq_cexpr::{Lin, LinExpression, linearise, linearise_expression};
 use cq_frac::Refusal;
-use cq_linear::store::Store;
+use cq_store::store::Store;
+use cq_term::atoms::Atoms;
 use cq_term::{Heap, TermId};
 use cq_trail::Undo;
 

@@ -1,19 +1,19 @@
 // Variables of a term that are bound to the values that the linear constraints fix.
 
 ghost use Rattle.std.specs.Prelude.{◌≡◌, ◌<◌, ◌≤◌, ℕ, List, All, Contains, Option, length, OnOk, MatchBool};
-ghost use Rattle.spec_rational.specs.Rational.{ℚ};
+ghost use Rattle.spec_numbers.specs.Rational.{ℚ};
 ghost use Rattle.spec_linear.specs.Solution.{Fixes};
-ghost use Rattle.spec_lists.specs.Texts.{Text};
+ghost use Rattle.spec_numbers.specs.Texts.{Text};
 ghost use Rattle.spec_terms.specs.Term.{Var, Occurs, apply};
 ghost use Rattle.cq_settle.specs.Underway.{valued};
 ghost use Rattle.cq_term.specs.Meaning.{at};
 ghost use Rattle.cq_term.specs.Names.{HasNamesBelow};
 ghost use Rattle.cq_term.specs.Trees.{tree};
-ghost use Rattle.cq_walk.specs.Places.{numbers_of};
+ghost use Rattle.cq_term.specs.Places.{numbers_of};
 ghost use Rattle.cq_questions.specs.Values.{AtValues, IsValued, IsFree};
 
 use cq_frac::VarId;
-use cq_linear::store::Store;
+use cq_store::store::Store;
 use cq_term::{Heap, TermId, View};
 use cq_unify::vars_of;
 use std::alloc::AllocError;

@@ -5,18 +5,18 @@ use Rattle.std.specs.declared.alloc.AllocError.{AllocError}
 use Rattle.std.proofs.Math.Seq.{drop-cons}
 use Rattle.std.proofs.lemmas.Bool.Decides.{nat_tests}
 use Rattle.std.proofs.lemmas.List.{append-nil, take-append-drop, take_all}
-use Rattle.spec_lists.specs.Texts.{Text}
-use Rattle.spec_operators.specs.Operators.{Ops}
-use Rattle.spec_grammar.specs.Characters.{is_layout, begins_with}
-use Rattle.spec_grammar.specs.Tokens.{ends_clause}
-use Rattle.spec_reading.specs.Readings as readings
-use Rattle.spec_reading.specs.Readings.{Clause, Ended, Syntax, Reads}
-use Rattle.spec_reading.specs.Laws.{MovesOn}
-use Rattle.spec_reading.specs.Later.{read_later}
-use Rattle.spec_reading.specs.Decided.{Decided, IsClosed, IsFullStop}
-use Rattle.spec_reading.proofs.Onward.{moves_on}
-use Rattle.spec_reading.proofs.Decides.{final, closed_final, final_closed, decided_when_closed, stop_there}
-use Rattle.spec_reading.proofs.Anywhere.{read_earlier}
+use Rattle.spec_numbers.specs.Texts.{Text}
+use Rattle.spec_syntax.specs.Operators.{Ops}
+use Rattle.spec_syntax.specs.Characters.{is_layout, begins_with}
+use Rattle.spec_syntax.specs.GrammarTokens.{ends_clause}
+use Rattle.spec_text.specs.Readings as readings
+use Rattle.spec_text.specs.Readings.{Clause, Ended, Syntax, Reads}
+use Rattle.spec_text.specs.Laws.{MovesOn}
+use Rattle.spec_text.specs.Later.{read_later}
+use Rattle.spec_text.specs.Decided.{Decided, IsClosed, IsFullStop}
+use Rattle.spec_text.proofs.Onward.{moves_on}
+use Rattle.spec_text.proofs.Decides.{final, closed_final, final_closed, decided_when_closed, stop_there}
+use Rattle.spec_text.proofs.Anywhere.{read_earlier}
 use Rattle.cq_term.specs.HeapValue.{HeapValue, Terms}
 use Rattle.cq_read.specs.declared.reading.Read.{Read}
 use Rattle.cq_read.specs.declared.reading.Read.TheVariants as read

@@ -5,19 +5,19 @@ use Rattle.std.specs.declared.alloc.AllocError.{AllocError}
 use Rattle.std.proofs.Math.Seq.{get_or-append_seam}
 use Rattle.std.proofs.lemmas.Bool.Decides.{nat_tests}
 use Rattle.std.proofs.lemmas.List.{append-nil}
-use Rattle.spec_lists.specs.Texts.{Text}
-use Rattle.spec_lists.specs.Prefixes.{IsPrefix}
+use Rattle.spec_numbers.specs.Texts.{Text}
+use Rattle.spec_numbers.specs.Prefixes.{IsPrefix}
 use Rattle.spec_terms.specs.Term.{Var}
 use Rattle.spec_syntax.specs.TextTokens.{VariableName}
 use Rattle.cq_term.specs.Meaning.{HeapTerm, at, blank}
 use Rattle.cq_term.specs.HeapValue.{HeapValue}
 use Rattle.cq_term.specs.Shown.{IsUnbound}
-use Rattle.cq_parse.specs.declared.frames.Frame.{Frame}
-use Rattle.cq_parse.specs.declared.frames.State.{State}
-use Rattle.cq_parse.specs.declared.frames.State.TheVariants as state
-use Rattle.cq_parse.specs.Views.{frames_of, state_of, AreLive, IsLiveState}
+use Rattle.cq_read.specs.declared.parse.frames.Frame.{Frame}
+use Rattle.cq_read.specs.declared.parse.frames.State.{State}
+use Rattle.cq_read.specs.declared.parse.frames.State.TheVariants as state
+use Rattle.cq_read.specs.Views.{frames_of, state_of, AreLive, IsLiveState}
 use Rattle.spec_syntax.specs.Machine as machine
-use Rattle.cq_parse.proofs.Kept.{prefix_both, prefix_at, prefix_length, tree_kept, frames_kept}
+use Rattle.cq_read.proofs.Kept.{prefix_both, prefix_at, prefix_length, tree_kept, frames_kept}
 use Rattle.cq_read.specs.Growth.{Grows}
 use Rattle.cq_read.specs.Names.{AreUnbound}
 use Rattle.cq_read.specs.Clauses as clauses

@@ -1,3 +1,11 @@
+pub mod NamesLookups
+mod Next
+mod Readings
+pub mod Kept
+pub mod ParseNaming
+pub mod Trees
+pub mod Interned
+pub mod Defaults
 mod Growth
 mod Naming
 mod Lookups

@@ -6,8 +6,8 @@ use Rattle.indexmap.specs.IndexMap.{insert_entry}
 use Rattle.spec_syntax.specs.TextTokens.{VariableName, Variables, number_of, known, next_number, with_name, with_variable}
 use Rattle.cq_term.specs.Meaning.{HeapTerm}
 use Rattle.cq_term.specs.Shown.{IsUnbound}
-use Rattle.cq_names.specs.Names.{names_of}
-use Rattle.cq_names.proofs.Lookups.{inserts, is_not, with_names}
+use Rattle.cq_read.specs.NamesWords.{names_of}
+use Rattle.cq_read.proofs.NamesLookups.{inserts, is_not, with_names}
 use Rattle.cq_read.specs.Names.{variables, AreUnbound}
 
 -- a name that is not bare is known by the names

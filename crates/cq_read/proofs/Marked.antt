@@ -1,8 +1,8 @@
 -- A heap that was marked.
 use Rattle.std.proofs.Common.{◌≡◌, ℕ, ◌+◌, ◌-◌, ◌≤◌, List, [], ◌∷◌, ◌++◌, take, length, length-append, Some, slice_get, refl, sym, ap, subst, ◌∙◌, arith}
 use Rattle.std.proofs.lemmas.List.{take_at}
-use Rattle.spec_lists.proofs.Places.{newest}
-use Rattle.spec_lists.specs.Prefixes.{IsPrefix}
+use Rattle.spec_numbers.proofs.Places.{newest}
+use Rattle.spec_numbers.specs.Prefixes.{IsPrefix}
 use Rattle.spec_terms.specs.Term.{Var}
 use Rattle.cq_term.specs.Meaning.{HeapTerm, at}
 use Rattle.cq_term.specs.HeapValue.{HeapValue, Terms}

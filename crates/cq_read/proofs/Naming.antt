@@ -3,14 +3,14 @@ use Rattle.std.proofs.Common.{◌≡◌, ◌<◌, ◌≤◌, List, [], ◌∷◌
 use Rattle.std.specs.Prelude.{All, Result, Ok, Err, OnOk}
 use Rattle.std.proofs.lemmas.List.Elements.{All-weaker, All-nil}
 use Rattle.std.proofs.lemmas.Option.{slice_get_within, slice_get-get_or}
-use Rattle.spec_lists.specs.Texts.{Text}
-use Rattle.cq_atoms.specs.Texts.{KeepsTexts}
+use Rattle.spec_numbers.specs.Texts.{Text}
+use Rattle.cq_term.specs.Texts.{KeepsTexts}
 use Rattle.cq_term.specs.Meaning.{HeapTerm}
 use Rattle.cq_term.specs.Names.{HasNamesBelow}
 use Rattle.cq_term.proofs.Known.{names_more}
-use Rattle.cq_parse.specs.declared.frames.Frame.{Frame}
+use Rattle.cq_read.specs.declared.parse.frames.Frame.{Frame}
 use Rattle.cq_term.specs.Trees.{KnowsTerms}
-use Rattle.cq_parse.specs.Known.{KnowsFrame, KnowsNames}
+use Rattle.cq_read.specs.Known.{KnowsFrame, KnowsNames}
 
 kept_length : (old new : List Text) → KeepsTexts old new → length old ≤ length new
 kept_length [] new kept = omega arith

@@ -1,16 +1,16 @@
 -- A token or a fault more behind an error.
 use Rattle.std.proofs.Common.{◌≡◌, ◌≢◌, ℕ, suc, ◌+◌, ◌<◌, ◌≤◌, List, length, Result, Ok, Err, ◌⊎◌, inl, inr, refl, sym, ap, ◌∙◌, subst, arith}
-use Rattle.spec_grammar.specs.declared.Kind.TheVariants as kind
-use Rattle.spec_grammar.specs.declared.LexFault.{LexFault}
-use Rattle.spec_grammar.specs.Gaps.{place}
-use Rattle.spec_grammar.specs.Tokens as lexical
-use Rattle.spec_grammar.specs.Tokens.{next_token}
-use Rattle.spec_operators.specs.Operators.{Ops}
-use Rattle.spec_reading.specs.Readings.{Read, Reads, Resumes, behind, at_the_end, over, past}
-use Rattle.spec_reading.specs.Decided.{IsClosed, FaultComes, here, later, MayGoOn}
-use Rattle.spec_reading.proofs.Once.{resumes_once}
-use Rattle.spec_reading.proofs.Anywhere.{may_go_on}
-use Rattle.spec_reading.proofs.Onward.{end_there, next_there, fault_there}
+use Rattle.spec_syntax.specs.declared.grammar.Kind.TheVariants as kind
+use Rattle.spec_syntax.specs.declared.grammar.LexFault.{LexFault}
+use Rattle.spec_syntax.specs.Gaps.{place}
+use Rattle.spec_syntax.specs.GrammarTokens as lexical
+use Rattle.spec_syntax.specs.GrammarTokens.{next_token}
+use Rattle.spec_syntax.specs.Operators.{Ops}
+use Rattle.spec_text.specs.Readings.{Read, Reads, Resumes, behind, at_the_end, over, past}
+use Rattle.spec_text.specs.Decided.{IsClosed, FaultComes, here, later, MayGoOn}
+use Rattle.spec_text.proofs.Once.{resumes_once}
+use Rattle.spec_text.proofs.Anywhere.{may_go_on}
+use Rattle.spec_text.proofs.Onward.{end_there, next_there, fault_there}
 
 module _ (text : List ℕ) (from at : ℕ) where
   -- where reading goes on is the same

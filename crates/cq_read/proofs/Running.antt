@@ -3,30 +3,30 @@ use Rattle.std.proofs.Common.{◌≡◌, ◌≢◌, ℕ, ◌<◌, ◌≤◌, nat
 use Rattle.std.specs.Prelude.{if◌then◌else◌, IfOk}
 use Rattle.std.specs.declared.alloc.AllocError.{AllocError}
 use Rattle.std.proofs.lemmas.Bool.Decides.{nat_tests}
-use Rattle.spec_lists.specs.Texts.{Text}
-use Rattle.cq_atoms.specs.Texts.{KeepsTexts, AreDifferent}
-use Rattle.spec_operators.specs.Operators.{Ops}
-use Rattle.spec_grammar.specs.declared.Kind.TheVariants as kind
-use Rattle.spec_grammar.specs.declared.LexFault.{LexFault}
-use Rattle.spec_grammar.specs.Gaps as gaps
-use Rattle.spec_grammar.specs.Tokens as lexical
-use Rattle.spec_grammar.specs.Tokens.{next_token}
+use Rattle.spec_numbers.specs.Texts.{Text}
+use Rattle.cq_term.specs.Texts.{KeepsTexts, AreDifferent}
+use Rattle.spec_syntax.specs.Operators.{Ops}
+use Rattle.spec_syntax.specs.declared.grammar.Kind.TheVariants as kind
+use Rattle.spec_syntax.specs.declared.grammar.LexFault.{LexFault}
+use Rattle.spec_syntax.specs.Gaps as gaps
+use Rattle.spec_syntax.specs.GrammarTokens as lexical
+use Rattle.spec_syntax.specs.GrammarTokens.{next_token}
 use Rattle.spec_syntax.specs.Machine as machine
 use Rattle.spec_syntax.specs.Machine.{IsOpen, start}
-use Rattle.spec_reading.specs.Readings.{Read, Clause, Ended, Syntax, Resumes, ended}
-use Rattle.spec_reading.specs.Runs.{ReadsOn, whole, onward, stuck, faulty, cut_off, IsBefore}
-use Rattle.spec_reading.specs.Later.{variables_from}
-use Rattle.spec_reading.proofs.Onward.{next_there}
-use Rattle.spec_reading.proofs.Counted.{counted_back}
+use Rattle.spec_text.specs.Readings.{Read, Clause, Ended, Syntax, Resumes, ended}
+use Rattle.spec_text.specs.Runs.{ReadsOn, whole, onward, stuck, faulty, cut_off, IsBefore}
+use Rattle.spec_text.specs.Later.{variables_from}
+use Rattle.spec_text.proofs.Onward.{next_there}
+use Rattle.spec_text.proofs.ReadingCounted.{counted_back}
 use Rattle.cq_ops.specs.Tables.{Tables, named}
 use Rattle.cq_term.specs.HeapValue.{HeapValue, Terms}
 use Rattle.cq_read.specs.Growth.{IsAsBefore}
-use Rattle.cq_parse.specs.declared.frames.State.{State}
-use Rattle.cq_parse.specs.declared.frames.State.TheVariants as stand
-use Rattle.cq_parse.specs.declared.names.GrammarNames.{GrammarNames}
-use Rattle.cq_parse.specs.Known.{KnowsState, AreGrammarNames}
+use Rattle.cq_read.specs.declared.parse.frames.State.{State}
+use Rattle.cq_read.specs.declared.parse.frames.State.TheVariants as stand
+use Rattle.cq_read.specs.declared.parse.names.GrammarNames.{GrammarNames}
+use Rattle.cq_read.specs.Known.{KnowsState, AreGrammarNames}
 use Rattle.cq_term.specs.Trees.{tree}
-use Rattle.cq_parse.specs.Views.{state_of, frames_of}
+use Rattle.cq_read.specs.Views.{state_of, frames_of}
 use Rattle.cq_read.specs.declared.clause.Clause as declared
 use Rattle.cq_read.specs.declared.reading.Read as result
 use Rattle.cq_read.specs.declared.reading.Read.TheVariants as read

@@ -2,20 +2,20 @@
 use Rattle.std.proofs.Common.{◌≡◌, ◌≢◌, ℕ, ◌≤◌, List, [], ◌∷◌, length, Option, Some, None, Ok, ◌⊎◌, inl, inr, refl, sym, ap, subst, ◌∙◌, arith}
 use Rattle.std.specs.Prelude.{option_map, Result, Err, IfOk}
 use Rattle.std.specs.declared.alloc.AllocError.{AllocError}
-use Rattle.spec_lists.specs.Texts.{Text}
-use Rattle.spec_grammar.specs.declared.Kind.{Kind}
-use Rattle.spec_grammar.specs.declared.Kind.TheVariants as kind
-use Rattle.spec_grammar.specs.Laws.{Stands, IsNext}
-use Rattle.spec_grammar.specs.Tokens as lexical
-use Rattle.spec_grammar.specs.Tokens.{next_token, bytes_of}
-use Rattle.spec_grammar.proofs.Tiles.{stands}
-use Rattle.spec_grammar.proofs.Held.{next_in_quotes}
-use Rattle.spec_grammar.proofs.Names.{word_utf8}
+use Rattle.spec_numbers.specs.Texts.{Text}
+use Rattle.spec_syntax.specs.declared.grammar.Kind.{Kind}
+use Rattle.spec_syntax.specs.declared.grammar.Kind.TheVariants as kind
+use Rattle.spec_syntax.specs.Laws.{Stands, IsNext}
+use Rattle.spec_syntax.specs.GrammarTokens as lexical
+use Rattle.spec_syntax.specs.GrammarTokens.{next_token, bytes_of}
+use Rattle.spec_syntax.proofs.Tiles.{stands}
+use Rattle.spec_syntax.proofs.Held.{next_in_quotes}
+use Rattle.spec_syntax.proofs.Names.{word_utf8}
 use Rattle.spec_syntax.specs.Tokens as grammar
 use Rattle.spec_syntax.specs.TextTokens.{Variables, no_variables, with_variable, next_number, variables_after, bare_name, quoted_name, quoted_text, mark, seen}
-use Rattle.spec_reading.proofs.Seen.{end_or_seen, end_unseen}
-use Rattle.cq_parse.specs.declared.tokens.Token.{Token}
-use Rattle.cq_parse.specs.Views.{token_of}
+use Rattle.spec_text.proofs.ReadingSeen.{end_or_seen, end_unseen}
+use Rattle.cq_read.specs.declared.parse.tokens.Token.{Token}
+use Rattle.cq_read.specs.Views.{token_of}
 use Rattle.cq_read.specs.Tokens.{IsToken, IsOther}
 
 none_some : {A : Type 0} {x : A} → (let o : Option A = None in o ≡ Some x) → ⊥

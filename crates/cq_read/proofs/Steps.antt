@@ -1,17 +1,17 @@
 -- A token more of a clause.
 use Rattle.std.proofs.Common.{◌≡◌, ℕ, List, length, Bool, true, false, Option, Some, None, refl, sym, ap, ◌∙◌, subst}
-use Rattle.spec_lists.specs.Texts.{Text}
-use Rattle.spec_lists.specs.Prefixes.{IsPrefix}
-use Rattle.spec_grammar.specs.Tokens as lexical
+use Rattle.spec_numbers.specs.Texts.{Text}
+use Rattle.spec_numbers.specs.Prefixes.{IsPrefix}
+use Rattle.spec_syntax.specs.GrammarTokens as lexical
 use Rattle.spec_syntax.specs.TextTokens.{seen, variables_after}
 use Rattle.spec_syntax.specs.Machine as machine
 use Rattle.cq_ops.specs.Tables.{Tables, named}
 use Rattle.cq_term.specs.Meaning.{HeapTerm}
 use Rattle.cq_term.specs.HeapValue.{Terms}
-use Rattle.cq_parse.specs.declared.frames.State.{State}
-use Rattle.cq_parse.specs.declared.frames.Frame.{Frame}
-use Rattle.cq_parse.specs.declared.tokens.Token.{Token}
-use Rattle.cq_parse.specs.Views.{token_of, frames_of, state_of, state_or_none, AreLive, IsLiveState}
+use Rattle.cq_read.specs.declared.parse.frames.State.{State}
+use Rattle.cq_read.specs.declared.parse.frames.Frame.{Frame}
+use Rattle.cq_read.specs.declared.parse.tokens.Token.{Token}
+use Rattle.cq_read.specs.Views.{token_of, frames_of, state_of, state_or_none, AreLive, IsLiveState}
 use Rattle.cq_read.specs.declared.clause.Clause.{Clause}
 use Rattle.cq_read.specs.Names.{variables}
 use Rattle.cq_read.specs.Clauses.{IsLive, Advances, state, state_if, variables_so_far}

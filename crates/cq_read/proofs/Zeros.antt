@@ -3,19 +3,19 @@ use Rattle.std.proofs.Common.{◌≡◌, ◌≢◌, ℕ, zero, suc, ◌+◌, Boo
 use Rattle.std.specs.Prelude.{◌&&◌, ◌==◌, if◌then◌else◌}
 use Rattle.std.specs.Char.{is_ascii_digit}
 use Rattle.std.proofs.lemmas.Bool.Decides.{nat_tests}
-use Rattle.spec_grammar.specs.declared.Kind.TheVariants as kind
-use Rattle.spec_grammar.specs.declared.Gap.TheVariants.{Between}
-use Rattle.spec_grammar.specs.declared.LexFault.{LexFault}
-use Rattle.spec_grammar.specs.declared.LexFault.TheVariants.{BadByte, WideNumber}
-use Rattle.spec_grammar.specs.Characters.{begins, begins_with}
-use Rattle.spec_grammar.specs.Gaps.{gap}
-use Rattle.spec_grammar.specs.Quotes.{digits_len, digits_value}
-use Rattle.spec_grammar.specs.Numerals.{Spelling, whole, fraction, plain, marked, is_wide, value, goes_on_as_fraction, goes_on_as_float}
-use Rattle.spec_grammar.specs.Tokens as lexical
-use Rattle.spec_grammar.specs.Tokens.{next_token, token_behind, token_at, numeral}
-use Rattle.spec_grammar.proofs.Again.{numeral_again}
-use Rattle.spec_reading.specs.Readings.{Resumes, over, past}
-use Rattle.spec_reading.proofs.Once.{ResumesAt, resumes_at}
+use Rattle.spec_syntax.specs.declared.grammar.Kind.TheVariants as kind
+use Rattle.spec_syntax.specs.declared.grammar.Gap.TheVariants.{Between}
+use Rattle.spec_syntax.specs.declared.grammar.LexFault.{LexFault}
+use Rattle.spec_syntax.specs.declared.grammar.LexFault.TheVariants.{BadByte, WideNumber}
+use Rattle.spec_syntax.specs.Characters.{begins, begins_with}
+use Rattle.spec_syntax.specs.Gaps.{gap}
+use Rattle.spec_syntax.specs.Quotes.{digits_len, digits_value}
+use Rattle.spec_syntax.specs.Numerals.{Spelling, whole, fraction, plain, marked, is_wide, value, goes_on_as_fraction, goes_on_as_float}
+use Rattle.spec_syntax.specs.GrammarTokens as lexical
+use Rattle.spec_syntax.specs.GrammarTokens.{next_token, token_behind, token_at, numeral}
+use Rattle.spec_syntax.proofs.Again.{numeral_again}
+use Rattle.spec_text.specs.Readings.{Resumes, over, past}
+use Rattle.spec_text.proofs.Once.{ResumesAt, resumes_at}
 use Rattle.cq_read.specs.Zeros.{leads_with_zeros}
 
 -- ---- the bytes at a place

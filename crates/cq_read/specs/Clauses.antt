@@ -1,18 +1,18 @@
 -- A clause that is being read, and a token more of it.
 use Rattle.std.specs.Prelude.{◌≡◌, ℕ, List, length, Bool, true, false, Option, Some, None}
-use Rattle.spec_lists.specs.Texts.{Text}
-use Rattle.spec_grammar.specs.Tokens as lexical
+use Rattle.spec_numbers.specs.Texts.{Text}
+use Rattle.spec_syntax.specs.GrammarTokens as lexical
 use Rattle.spec_syntax.specs.Tokens as grammar
 use Rattle.spec_syntax.specs.TextTokens.{Variables, seen, variables_after}
 use Rattle.spec_syntax.specs.Machine as machine
-use Rattle.cq_atoms.specs.Texts.{KeepsTexts, AreDifferent}
+use Rattle.cq_term.specs.Texts.{KeepsTexts, AreDifferent}
 use Rattle.cq_ops.specs.Tables.{Tables, named}
 use Rattle.cq_term.specs.HeapValue.{Terms}
-use Rattle.cq_parse.specs.declared.frames.State.{State}
-use Rattle.cq_parse.specs.declared.frames.State.TheVariants as stand
-use Rattle.cq_parse.specs.declared.names.GrammarNames.{GrammarNames}
-use Rattle.cq_parse.specs.Known.{AreGrammarNames, KnowsState, KnowsNames}
-use Rattle.cq_parse.specs.Views.{state_of, frames_of, AreLive, IsLiveState}
+use Rattle.cq_read.specs.declared.parse.frames.State.{State}
+use Rattle.cq_read.specs.declared.parse.frames.State.TheVariants as stand
+use Rattle.cq_read.specs.declared.parse.names.GrammarNames.{GrammarNames}
+use Rattle.cq_read.specs.Known.{AreGrammarNames, KnowsState, KnowsNames}
+use Rattle.cq_read.specs.Views.{state_of, frames_of, AreLive, IsLiveState}
 use Rattle.cq_read.specs.declared.clause.Clause.{Clause}
 use Rattle.cq_read.specs.Names.{variables, AreUnbound}
 

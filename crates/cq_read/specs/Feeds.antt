@@ -1,9 +1,9 @@
 -- What a feed answers.
 use Rattle.std.specs.Prelude.{◌≡◌, ℕ, Bool, true, false, nat_lt, List, length, Result, Ok, Err, ◌⊎◌, ⊤}
 use Rattle.std.specs.declared.alloc.AllocError.{AllocError}
-use Rattle.spec_lists.specs.Texts.{Text}
-use Rattle.spec_operators.specs.Operators.{Ops}
-use Rattle.spec_reading.specs.Decided.{Decided}
+use Rattle.spec_numbers.specs.Texts.{Text}
+use Rattle.spec_syntax.specs.Operators.{Ops}
+use Rattle.spec_text.specs.Decided.{Decided}
 use Rattle.cq_term.specs.HeapValue.{HeapValue, Terms}
 use Rattle.cq_read.specs.declared.reading.Read.{Read}
 use Rattle.cq_read.specs.declared.reading.Read.TheVariants as read

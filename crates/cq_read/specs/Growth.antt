@@ -1,7 +1,7 @@
 -- A heap that gets terms and variables.
 use Rattle.std.specs.Prelude.{◌≡◌, ℕ, ◌<◌, ◌≤◌, List, length}
 use Rattle.spec_terms.specs.Term.{Var}
-use Rattle.spec_lists.specs.Prefixes.{IsPrefix}
+use Rattle.spec_numbers.specs.Prefixes.{IsPrefix}
 use Rattle.cq_term.specs.Meaning.{HeapTerm, at}
 use Rattle.cq_term.specs.HeapValue.{HeapValue}
 

@@ -1,8 +1,8 @@
 -- Input that comes in pieces.
 use Rattle.std.specs.Prelude.{ℕ, ◌≤◌, Bool, List, take, length}
-use Rattle.spec_operators.specs.Operators.{Ops}
-use Rattle.spec_reading.specs.Readings.{Read, Reads}
-use Rattle.spec_reading.specs.Decided.{IsClosed}
+use Rattle.spec_syntax.specs.Operators.{Ops}
+use Rattle.spec_text.specs.Readings.{Read, Reads}
+use Rattle.spec_text.specs.Decided.{IsClosed}
 
 -- the bytes so far, the place where the next reading begins, and whether no more bytes come
 pub record Input : Type 0 where

@@ -1,3 +1,9 @@
+pub mod NamesWords
+pub mod Turns
+pub mod LexShown
+pub mod Written
+pub mod Views
+pub mod Known
 pub mod Growth
 pub mod Names
 pub mod Tokens

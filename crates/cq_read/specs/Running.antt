@@ -1,15 +1,15 @@
 -- What is read from a clause on that is being read.
 use Rattle.std.specs.Prelude.{◌≡◌, ℕ, ◌<◌, ◌≤◌, List, length, None, IsSome, ◌⊎◌}
-use Rattle.spec_lists.specs.Texts.{Text}
-use Rattle.cq_atoms.specs.Texts.{KeepsTexts, AreDifferent}
+use Rattle.spec_numbers.specs.Texts.{Text}
+use Rattle.cq_term.specs.Texts.{KeepsTexts, AreDifferent}
 use Rattle.spec_syntax.specs.Machine.{start}
-use Rattle.spec_reading.specs.Readings as readings
-use Rattle.spec_reading.specs.Runs.{ReadsOn, IsBefore}
-use Rattle.spec_reading.specs.Later.{variables_from}
+use Rattle.spec_text.specs.Readings as readings
+use Rattle.spec_text.specs.Runs.{ReadsOn, IsBefore}
+use Rattle.spec_text.specs.Later.{variables_from}
 use Rattle.cq_ops.specs.Tables.{Tables, named}
 use Rattle.cq_term.specs.HeapValue.{Terms}
-use Rattle.cq_parse.specs.declared.frames.State.{State}
-use Rattle.cq_parse.specs.Known.{KnowsState}
+use Rattle.cq_read.specs.declared.parse.frames.State.{State}
+use Rattle.cq_read.specs.Known.{KnowsState}
 use Rattle.cq_read.specs.declared.clause.Clause.{Clause}
 use Rattle.cq_read.specs.declared.reading.Turn.{Turn}
 use Rattle.cq_read.specs.declared.reading.Turn.TheVariants as turn

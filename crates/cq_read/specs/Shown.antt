@@ -1,16 +1,16 @@
 -- What a reading is by the terms of a heap and the texts of the names.
 use Rattle.std.specs.Prelude.{◌≡◌, ℕ, ◌<◌, ◌≤◌, List, length, Bool, true, false, Result, Ok, ◌⊎◌, ⊤}
 use Rattle.std.specs.declared.alloc.AllocError.{AllocError}
-use Rattle.spec_lists.specs.Texts.{Text}
-use Rattle.spec_operators.specs.Operators.{Ops}
-use Rattle.spec_grammar.specs.declared.Kind.TheVariants as kind
-use Rattle.spec_grammar.specs.Tokens as lexical
-use Rattle.spec_grammar.specs.Tokens.{next_token}
+use Rattle.spec_numbers.specs.Texts.{Text}
+use Rattle.spec_syntax.specs.Operators.{Ops}
+use Rattle.spec_syntax.specs.declared.grammar.Kind.TheVariants as kind
+use Rattle.spec_syntax.specs.GrammarTokens as lexical
+use Rattle.spec_syntax.specs.GrammarTokens.{next_token}
 use Rattle.spec_syntax.specs.Machine.{start}
-use Rattle.spec_reading.specs.Readings as readings
-use Rattle.spec_reading.specs.Readings.{Reads}
-use Rattle.spec_reading.specs.Runs.{ReadsOn, IsBefore}
-use Rattle.spec_reading.specs.Later.{read_later, variables_from}
+use Rattle.spec_text.specs.Readings as readings
+use Rattle.spec_text.specs.Readings.{Reads}
+use Rattle.spec_text.specs.Runs.{ReadsOn, IsBefore}
+use Rattle.spec_text.specs.Later.{read_later, variables_from}
 use Rattle.cq_term.specs.HeapValue.{HeapValue, Terms}
 use Rattle.cq_term.specs.Trees.{tree}
 use Rattle.cq_read.specs.declared.reading.Read.{Read}

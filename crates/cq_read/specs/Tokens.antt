@@ -1,10 +1,10 @@
 -- What is known of a token before it is read.
 use Rattle.std.specs.Prelude.{◌≡◌, ◌≤◌, List, ℕ, length, Some, ◌⊎◌, ⊤}
 use Rattle.std.specs.Str.{IsUtf8}
-use Rattle.spec_grammar.specs.declared.Kind.{Kind}
-use Rattle.spec_grammar.specs.declared.Kind.TheVariants as kind
-use Rattle.spec_grammar.specs.Tokens as lexical
-use Rattle.spec_grammar.specs.Tokens.{bytes_of, IsInQuotes}
+use Rattle.spec_syntax.specs.declared.grammar.Kind.{Kind}
+use Rattle.spec_syntax.specs.declared.grammar.Kind.TheVariants as kind
+use Rattle.spec_syntax.specs.GrammarTokens as lexical
+use Rattle.spec_syntax.specs.GrammarTokens.{bytes_of, IsInQuotes}
 use Rattle.spec_syntax.specs.Tokens as grammar
 use Rattle.spec_syntax.specs.TextTokens.{Variables, seen}
 

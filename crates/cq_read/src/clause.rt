@@ -1,21 +1,21 @@
 // A clause that is being read.
 
 ghost use Rattle.std.specs.Prelude.{◌≡◌, [], List, length, IfOk, OnOk, IsTrue, IsSome};
-ghost use Rattle.spec_lists.specs.Texts.{Text};
-ghost use Rattle.cq_atoms.specs.Texts.{KeepsTexts, AreDifferent};
-ghost use Rattle.cq_lex.specs.Shown.{shown};
-ghost use Rattle.cq_parse.specs.Known.{KnowsState};
+ghost use Rattle.spec_numbers.specs.Texts.{Text};
+ghost use Rattle.cq_term.specs.Texts.{KeepsTexts, AreDifferent};
+ghost use Rattle.cq_read.specs.LexShown.{shown};
+ghost use Rattle.cq_read.specs.Known.{KnowsState};
 ghost use Rattle.cq_read.specs.Growth.{Grows};
 ghost use Rattle.cq_read.specs.Clauses.{IsLive, AreTextsFor, Advances, KeepsNames, whole_term};
 ghost use Rattle.cq_read.specs.Ends.{IsClauseRead};
 ghost use Rattle.cq_read.specs.Tokens.{IsToken};
 
+use crate::lex::Token as TextToken;
+use crate::parse::{Frame, Grammar, State, step};
 use crate::reading::Read;
 use crate::tokens::token_of;
 use crate::variables::Variables;
-use cq_atoms::Atoms;
-use cq_lex::Token as TextToken;
-use cq_parse::{Frame, Grammar, State, step};
+use cq_term::atoms::Atoms;
 use cq_term::{Heap, TermId};
 use std::alloc::{AllocError, Global};
 

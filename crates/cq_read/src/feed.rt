@@ -1,9 +1,9 @@
 // Input that comes in pieces.
 
 ghost use Rattle.std.specs.Prelude.{◌≡◌, ◌+◌, ◌<◌, ◌≤◌, ◌||◌, ◌==◌, ◌⊎◌, ℕ, false, true, All, [], ◌++◌, length, IfOk, OnOk, OnErr};
-ghost use Rattle.spec_reading.specs.Decided.{IsFullStop};
-ghost use Rattle.spec_grammar.specs.Characters.{is_layout};
-ghost use Rattle.cq_atoms.specs.Texts.{KeepsTexts};
+ghost use Rattle.spec_text.specs.Decided.{IsFullStop};
+ghost use Rattle.spec_syntax.specs.Characters.{is_layout};
+ghost use Rattle.cq_term.specs.Texts.{KeepsTexts};
 ghost use Rattle.cq_ops.specs.Tables.{named};
 ghost use Rattle.cq_term.specs.Names.{HasNamesBelow};
 ghost use Rattle.cq_read.specs.Inputs.{DecideNothing};
@@ -11,9 +11,9 @@ ghost use Rattle.cq_read.specs.Feeds.{IsFed, goes_on_before, place_after, place_
 
 use crate::reading::{Read, read_clause};
 use crate::resuming::may_go_on;
-use cq_atoms::Atoms;
 use cq_ops::Ops;
 use cq_term::Heap;
+use cq_term::atoms::Atoms;
 use cq_trail::Undo;
 use std::alloc::{AllocError, Global};
 use std::marker::Model;

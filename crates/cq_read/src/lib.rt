@@ -4,11 +4,14 @@
 
 mod clause;
 mod feed;
+pub mod lex;
+pub mod names;
+pub mod parse;
 mod reading;
 mod resuming;
 mod tokens;
 mod variables;
 
-pub use cq_names::VariableName;
+pub use crate::names::VariableName;
 pub use feed::{Fed, Feed};
 pub use reading::{Read, read_clause};

@@ -1,26 +1,26 @@
 // What stands at a place of a text.
 
 ghost use Rattle.std.specs.Prelude.{◌≡◌, ◌≤◌, ℕ, List, All, None, length, IfOk, OnOk, if◌then◌else◌};
-ghost use Rattle.cq_atoms.specs.Texts.{KeepsTexts, AreDifferent};
+ghost use Rattle.cq_term.specs.Texts.{KeepsTexts, AreDifferent};
 ghost use Rattle.cq_ops.specs.Tables.{named};
-ghost use Rattle.spec_lists.specs.Texts.{Text};
+ghost use Rattle.spec_numbers.specs.Texts.{Text};
 ghost use Rattle.cq_term.specs.Names.{HasNamesBelow};
 ghost use Rattle.cq_term.specs.Trees.{KnowsTerms};
-ghost use Rattle.cq_parse.specs.Known.{AreGrammarNames};
-ghost use Rattle.spec_reading.specs.Readings.{Resumes};
+ghost use Rattle.cq_read.specs.Known.{AreGrammarNames};
+ghost use Rattle.spec_text.specs.Readings.{Resumes};
 ghost use Rattle.cq_read.specs.Growth.{Grows};
 ghost use Rattle.cq_read.specs.Shown.{read_of, IsReadOf, IsForward, is_clause, MachineRead, IsLiveRead, Leaves};
 ghost use Rattle.cq_read.specs.Clauses.{IsLive, AreTextsFor, KeepsNames, whole_term};
 ghost use Rattle.cq_read.specs.Running.{IsRunning, Turned, IsStopped};
 
 use crate::clause::Clause;
+use crate::lex::next_token;
+use crate::names::VariableName;
+use crate::parse::{Grammar, GrammarNames};
 use crate::resuming::{place_of, resume};
 use crate::tokens::is_last;
-use cq_atoms::Atoms;
-use cq_lex::next_token;
-use cq_names::VariableName;
 use cq_ops::Ops;
-use cq_parse::{Grammar, GrammarNames};
+use cq_term::atoms::Atoms;
 use cq_term::{Heap, TermId};
 use cq_trail::Undo;
 use std::alloc::AllocError;

@@ -1,15 +1,15 @@
 // Where reading goes on behind an error.
 
 ghost use Rattle.std.specs.Prelude.{◌≡◌, ◌+◌, ◌≤◌, ℕ, false, Some, drop, length, IfSome};
-ghost use Rattle.spec_reading.specs.Readings.{Resumes};
-ghost use Rattle.spec_reading.specs.Decided.{FaultComes};
+ghost use Rattle.spec_text.specs.Readings.{Resumes};
+ghost use Rattle.spec_text.specs.Decided.{FaultComes};
 ghost use Rattle.cq_read.specs.Inputs.{DecideNothing};
-ghost use Rattle.spec_grammar.specs.Characters.{begins_with};
-ghost use Rattle.spec_grammar.specs.Gaps as gaps;
+ghost use Rattle.spec_syntax.specs.Characters.{begins_with};
+ghost use Rattle.spec_syntax.specs.Gaps as gaps;
 ghost use Rattle.cq_read.specs.Zeros.{leads_with_zeros};
 
+use crate::lex::{Kind, LexFault, next_token};
 use crate::tokens::digit_at;
-use cq_lex::{Kind, LexFault, next_token};
 
 /// The place of a fault.
 pub fn place_of(fault: LexFault) -> usize

@@ -3,27 +3,27 @@
 ghost use Rattle.std.specs.Prelude.{◌≡◌, ◌≢◌, ◌≤◌, ℕ, List, ◌∷◌, Some, slice_get, drop, length, option_map, IfOk, IfSome, OnOk, IsTrue, IsFalse};
 ghost use Rattle.std.specs.Char.{is_ascii_digit};
 ghost use Rattle.std.specs.Str.{IsUtf8};
-ghost use Rattle.spec_lists.specs.Texts.{Text};
-ghost use Rattle.spec_grammar.specs.Characters.{begins, begins_with};
-ghost use Rattle.spec_grammar.specs.Tokens.{bytes_of, IsInQuotes};
+ghost use Rattle.spec_numbers.specs.Texts.{Text};
+ghost use Rattle.spec_syntax.specs.Characters.{begins, begins_with};
+ghost use Rattle.spec_syntax.specs.GrammarTokens.{bytes_of, IsInQuotes};
 ghost use Rattle.spec_syntax.specs.Tokens as grammar;
 ghost use Rattle.spec_syntax.specs.TextTokens.{Variables as Known, bare_name, quoted_name, quoted_text, mark, seen, variables_after};
-ghost use Rattle.cq_atoms.specs.Texts.{AreDifferent, KeepsTexts};
-ghost use Rattle.cq_lex.specs.Shown.{shown};
-ghost use Rattle.cq_parse.specs.Views.{token_of, IsLiveToken};
+ghost use Rattle.cq_term.specs.Texts.{AreDifferent, KeepsTexts};
+ghost use Rattle.cq_read.specs.LexShown.{shown};
+ghost use Rattle.cq_read.specs.Views.{token_of, IsLiveToken};
 ghost use Rattle.cq_term.specs.Trees.{KnowsTerms};
-ghost use Rattle.cq_parse.specs.Known.{KnowsToken};
+ghost use Rattle.cq_read.specs.Known.{KnowsToken};
 ghost use Rattle.cq_term.specs.Meaning.{HeapTerm};
 ghost use Rattle.cq_read.specs.Growth.{Grows};
 ghost use Rattle.cq_read.specs.Names.{AreUnbound};
 ghost use Rattle.cq_read.specs.Names as names;
 ghost use Rattle.cq_read.specs.Tokens.{IsToken, IsOther};
 
+use crate::lex::{Kind, Span, Token as TextToken, quoted_text};
+use crate::parse::Token;
 use crate::variables::Variables;
-use cq_atoms::{Atom, Atoms};
-use cq_lex::{Kind, Span, Token as TextToken, quoted_text};
-use cq_parse::Token;
 use cq_term::Heap;
+use cq_term::atoms::{Atom, Atoms};
 use std::alloc::AllocError;
 
 /// Whether a token is the text's end.
@@ -70,7 +70,7 @@ fn word(text: &[u8], span: Span) -> &str
 }
 
 /// The number of a text, where older numbers keep theirs.
-#[tactic(auto, using(cq_parse::proofs::Interned::kept_by))]
+#[tactic(auto, using(crate::proofs::Interned::kept_by))]
 fn interned(atoms: &mut Atoms, text: &str) -> Result<Atom, AllocError>
     ensures number { (texts : List Text) → KeepsTexts atoms.new texts → IfOk result (λ atom. slice_get texts atom ≡ Some text.now) }
     ensures kept { KeepsTexts atoms.old atoms.new }

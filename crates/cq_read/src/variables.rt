@@ -3,14 +3,14 @@
 ghost use Rattle.std.specs.Prelude.{◌≡◌, ◌+◌, ℕ, List, [], None, length, IfOk, OnOk};
 ghost use Rattle.spec_syntax.specs.TextTokens.{known, next_number, with_variable};
 ghost use Rattle.cq_term.specs.Shown.{IsUnbound};
-ghost use Rattle.spec_lists.specs.Texts.{Text};
+ghost use Rattle.spec_numbers.specs.Texts.{Text};
 ghost use Rattle.cq_term.specs.Trees.{KnowsTerms};
 ghost use Rattle.cq_read.specs.Growth.{Grows};
 ghost use Rattle.cq_read.specs.Names.{AreUnbound};
 ghost use Rattle.cq_read.specs.Names as names;
 
+use crate::names::VariableName;
 use cq_frac::VarId;
-use cq_names::VariableName;
 use cq_term::{Heap, View};
 use indexmap::IndexMap;
 use std::alloc::{AllocError, Global};
@@ -26,7 +26,7 @@ pub struct Variables {
 impl Model for Variables {
     ghost use Rattle.std.specs.Prelude.{List};
     ghost use Rattle.spec_terms.specs.VariableName as naming;
-    ghost use Rattle.cq_names.specs.Names.{names_of};
+    ghost use Rattle.cq_read.specs.NamesWords.{names_of};
 
     ghost Value = { List naming.VariableName };
 

@@ -2,7 +2,7 @@
 use Rattle.std.proofs.Common.{◌≡◌, ◌≢◌, ◌<◌, ℕ, suc, List, [], ◌∷◌, ◌++◌, length, true, Some, refl, sym, ap, ◌∙◌, subst, append-nil}
 use Rattle.std.specs.List.{AllZip, AllByRecursion}
 use Rattle.std.proofs.lemmas.List.Elements.{filter-append}
-use Rattle.spec_lists.specs.Texts.{Text}
+use Rattle.spec_numbers.specs.Texts.{Text}
 use Rattle.spec_terms.specs.Term.{Var, Number, Name, Compound, named}
 use Rattle.spec_syntax.specs.Trees.{Tree}
 use Rattle.spec_branch.specs.Branch.{State, Branch, Frozen, Sleeper, no_work}
@@ -12,32 +12,32 @@ use Rattle.spec_search.specs.Control.{call_of}
 use Rattle.spec_search.specs.Replies.{Place, child, made, goes_on}
 use Rattle.spec_search.specs.Replies as reply
 use Rattle.spec_search.specs.Search.{look_at}
-use Rattle.cq_atoms.specs.Texts.{text_of}
+use Rattle.cq_term.specs.Texts.{text_of}
 use Rattle.cq_attr.specs.Attributes.{Waiting, Attributes, suspended}
 use Rattle.cq_attr.specs.declared.susp.Susp.TheVariants as susp
 use Rattle.cq_attr.proofs.Elements.{contains_here}
 use Rattle.cq_control.specs.Items.{items_at}
 use Rattle.cq_frac.specs.declared.VarId.{VarId}
-use Rattle.cq_rest.specs.Ready.{with_attributes}
+use Rattle.cq_settle.specs.Ready.{with_attributes}
 use Rattle.cq_term.specs.Meaning.{HeapTerm, at}
 use Rattle.cq_term.specs.Shown.{IsUnbound, view_of}
 use Rattle.cq_term.specs.declared.view.View.TheVariants as view
 use Rattle.cq_term.specs.Trees.{tree}
-use Rattle.cq_world.specs.Contents.{Contents}
-use Rattle.cq_world.specs.Standing.{Stands, IsConstraint, IsSleeper, is_constraint, is_goal, constraints, goals}
-use Rattle.cq_world.specs.Rest.{IsReadyAs}
-use Rattle.spec_machine.specs.declared.cell.Cell.{Cell}
-use Rattle.spec_machine.specs.declared.cell.Cell.TheVariants.{Call}
-use Rattle.spec_machine.specs.Cells.{Stack}
-use Rattle.spec_machine.specs.Standing.{IsContinuation}
-use Rattle.spec_machine.proofs.Kept.{items_read_on}
-use Rattle.spec_machine.proofs.Made.{child_kept}
-use Rattle.cq_steps.specs.Lists.{HasCells}
-use Rattle.cq_steps.specs.Worlds.{IsBranch, term_in, ReadsAs, Placed, Leads}
-use Rattle.cq_steps.proofs.Added.{reads_tree}
-use Rattle.cq_steps.proofs.Branches.{branches_rest}
-use Rattle.cq_steps.proofs.Control.{built, goes_on_with}
-use Rattle.cq_steps.proofs.Reading.{read_live}
+use Rattle.cq_settle.specs.Contents.{Contents}
+use Rattle.cq_settle.specs.Standing.{Stands, IsConstraint, IsSleeper, is_constraint, is_goal, constraints, goals}
+use Rattle.cq_settle.specs.Rest.{IsReadyAs}
+use Rattle.spec_engine.specs.declared.machine.cell.Cell.{Cell}
+use Rattle.spec_engine.specs.declared.machine.cell.Cell.TheVariants.{Call}
+use Rattle.spec_engine.specs.Cells.{Stack}
+use Rattle.spec_engine.specs.Standing.{IsContinuation}
+use Rattle.spec_engine.proofs.Kept.{items_read_on}
+use Rattle.spec_engine.proofs.Made.{child_kept}
+use Rattle.cq_branch.specs.Lists.{HasCells}
+use Rattle.cq_branch.specs.Worlds.{IsBranch, term_in, ReadsAs, Placed, Leads}
+use Rattle.cq_branch.proofs.Added.{reads_tree}
+use Rattle.cq_branch.proofs.Branches.{branches_rest}
+use Rattle.cq_branch.proofs.Control.{built, goes_on_with}
+use Rattle.cq_branch.proofs.Reading.{read_live}
 use Rattle.cq_relations.specs.Goals.{AtBoth}
 
 -- ---- one more sleeper

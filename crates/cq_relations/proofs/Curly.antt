@@ -1,31 +1,31 @@
 -- {C}, as the relations that are told or the two goals that it becomes.
 use Rattle.std.proofs.Common.{◌≡◌, ℕ, List, [], ◌∷◌, Option, None, Some, sym, ap, ◌∙◌, subst}
-use Rattle.spec_lists.specs.Prefixes.{IsPrefix}
-use Rattle.spec_lists.specs.Texts.{Text}
+use Rattle.spec_numbers.specs.Prefixes.{IsPrefix}
+use Rattle.spec_numbers.specs.Texts.{Text}
 use Rattle.spec_syntax.specs.Trees.{Tree}
-use Rattle.spec_built.specs.Built.{compound1}
+use Rattle.spec_builtins.specs.Built.{compound1}
 use Rattle.spec_branch.specs.Branch.{State, Branch, Pending, read}
 use Rattle.spec_search.specs.Constraints.{curly_row, tell_or_split, told_child}
 use Rattle.spec_search.specs.Control.{or_row}
 use Rattle.spec_search.specs.Replies.{Place, Reply, makes, unless_error}
-use Rattle.spec_told.specs.Checks.{constraint_error, members, halves}
+use Rattle.spec_branch.specs.Checks.{constraint_error, members, halves}
 use Rattle.cq_frac.specs.declared.Pair.{Pair}
 use Rattle.cq_goals.specs.declared.faults.GoalFault.{GoalFault}
-use Rattle.cq_linear.specs.declared.store.StoreFault.{StoreFault}
-use Rattle.cq_linear.specs.declared.store.StoreFault.TheVariants as store
-use Rattle.cq_rest.specs.Ready.{MayBeTold}
+use Rattle.cq_store.specs.declared.store.StoreFault.{StoreFault}
+use Rattle.cq_store.specs.declared.store.StoreFault.TheVariants as store
+use Rattle.cq_settle.specs.Ready.{MayBeTold}
 use Rattle.cq_settle.specs.Settled.{MayRefuse, MayTake}
 use Rattle.cq_term.specs.HeapValue.{Terms}
 use Rattle.cq_term.specs.Trees.{tree, trees, KnowsTerms}
-use Rattle.cq_world.specs.Contents.{Contents}
-use Rattle.cq_world.specs.Rest.{IsReadyAs}
-use Rattle.spec_machine.specs.declared.cell.Cell.{Cell}
-use Rattle.spec_machine.specs.Cells.{Value, Stack}
-use Rattle.cq_steps.specs.Worlds.{IsBranch, with_heap, ReadsAs, Placed, Selected, Leads, Grown}
-use Rattle.cq_steps.proofs.Added.{reads_tree}
-use Rattle.cq_steps.proofs.Disjunctions.{term_there}
-use Rattle.cq_begin.specs.declared.beginning.Begun.{Begun}
-use Rattle.cq_begin.specs.Begun.{goes_to, told_work, AtPlaces}
+use Rattle.cq_settle.specs.Contents.{Contents}
+use Rattle.cq_settle.specs.Rest.{IsReadyAs}
+use Rattle.spec_engine.specs.declared.machine.cell.Cell.{Cell}
+use Rattle.spec_engine.specs.Cells.{Value, Stack}
+use Rattle.cq_branch.specs.Worlds.{IsBranch, with_heap, ReadsAs, Placed, Selected, Leads, Grown}
+use Rattle.cq_branch.proofs.Added.{reads_tree}
+use Rattle.cq_branch.proofs.Disjunctions.{term_there}
+use Rattle.cq_branch.specs.declared.begin.beginning.Begun.{Begun}
+use Rattle.cq_branch.specs.Begun.{goes_to, told_work, AtPlaces}
 use Rattle.cq_relations.specs.declared.faults.RelationFault.TheVariants as fault
 use Rattle.cq_relations.specs.Faults.{IsRefused, Explains}
 use Rattle.cq_relations.specs.Goals.{AtGoals, OverChoices, AreGoals}

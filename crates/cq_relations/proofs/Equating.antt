@@ -1,8 +1,8 @@
 -- X is E, as a goal that makes X and a number equal that was put on the heap.
 use Rattle.std.proofs.Common.{◌≡◌, ℕ, List, [], ◌∷◌, Option, None, sym, ap, ◌∙◌, subst, refl}
-use Rattle.spec_lists.specs.Prefixes.{IsPrefix}
-use Rattle.spec_lists.specs.Texts.{Text}
-use Rattle.spec_arithmetic.specs.Arithmetic.{evaluate}
+use Rattle.spec_numbers.specs.Prefixes.{IsPrefix}
+use Rattle.spec_numbers.specs.Texts.{Text}
+use Rattle.spec_terms.specs.Arithmetic.{evaluate}
 use Rattle.spec_syntax.specs.Trees.{Tree}
 use Rattle.spec_branch.specs.Branch.{Branch, Pending}
 use Rattle.spec_builtins.specs.Alternatives.{◌≐◌}
@@ -11,21 +11,21 @@ use Rattle.spec_search.specs.Replies.{Place, Reply, unifies, with_equations, mak
 use Rattle.cq_frac.specs.declared.Pair.{Pair}
 use Rattle.cq_goals.specs.Faults.{IsValue, IsOutcome}
 use Rattle.cq_goals.specs.declared.faults.GoalFault.{GoalFault}
-use Rattle.cq_linear.specs.declared.store.StoreFault.{StoreFault}
-use Rattle.cq_linear.specs.declared.store.StoreFault.TheVariants as store
+use Rattle.cq_store.specs.declared.store.StoreFault.{StoreFault}
+use Rattle.cq_store.specs.declared.store.StoreFault.TheVariants as store
 use Rattle.cq_term.specs.HeapValue.{Terms}
 use Rattle.cq_term.specs.Meaning.{HeapTerm}
 use Rattle.cq_term.specs.Trees.{tree, KnowsTerms}
-use Rattle.cq_world.specs.Contents.{Contents}
+use Rattle.cq_settle.specs.Contents.{Contents}
 use Rattle.cq_settle.specs.Settled.{MayRefuse, MayTake}
-use Rattle.spec_machine.specs.declared.cell.Cell.{Cell}
-use Rattle.spec_machine.specs.Cells.{Value, Stack}
-use Rattle.cq_steps.specs.Worlds.{with_heap, ReadsAs, Placed, Leads, Grown}
-use Rattle.cq_steps.proofs.Added.{reads_tree}
-use Rattle.cq_steps.proofs.Grown.{tree_same}
-use Rattle.cq_steps.proofs.Reading.{read_live}
-use Rattle.cq_begin.specs.declared.beginning.Begun.{Begun}
-use Rattle.cq_begin.specs.Begun.{goes_to, trees_of_pairs, AtPlaces}
+use Rattle.spec_engine.specs.declared.machine.cell.Cell.{Cell}
+use Rattle.spec_engine.specs.Cells.{Value, Stack}
+use Rattle.cq_branch.specs.Worlds.{with_heap, ReadsAs, Placed, Leads, Grown}
+use Rattle.cq_branch.proofs.Added.{reads_tree}
+use Rattle.cq_branch.proofs.Grown.{tree_same}
+use Rattle.cq_branch.proofs.Reading.{read_live}
+use Rattle.cq_branch.specs.declared.begin.beginning.Begun.{Begun}
+use Rattle.cq_branch.specs.Begun.{goes_to, trees_of_pairs, AtPlaces}
 use Rattle.cq_relations.specs.declared.faults.RelationFault.TheVariants as fault
 use Rattle.cq_relations.specs.Faults.{IsRefused, IsStopped, Explains}
 use Rattle.cq_relations.specs.Goals.{AtBoth}

@@ -2,24 +2,24 @@
 use Rattle.std.proofs.Common.{◌≡◌, ℕ, List, None, refl, sym, subst, arith}
 use Rattle.std.specs.Prelude.{OnErr, Ok, Err}
 use Rattle.std.specs.declared.result.Result.{Result}
-use Rattle.spec_lists.specs.Prefixes.{IsPrefix}
-use Rattle.spec_lists.specs.Texts.{Text}
+use Rattle.spec_numbers.specs.Prefixes.{IsPrefix}
+use Rattle.spec_numbers.specs.Texts.{Text}
 use Rattle.spec_branch.specs.Branch.{State, Branch}
 use Rattle.spec_search.specs.Replies.{Place, Reply}
 use Rattle.cq_term.specs.HeapValue.{Terms}
 use Rattle.cq_term.specs.Trees.{KnowsTerms}
-use Rattle.cq_world.specs.Contents.{Contents}
-use Rattle.cq_world.specs.Rest.{IsReadyAs}
-use Rattle.spec_machine.specs.declared.cell.Cell.{Cell}
-use Rattle.spec_machine.specs.Cells.{Fits, Value, Stack}
-use Rattle.cq_steps.specs.Lists.{KeepsLists}
-use Rattle.cq_steps.specs.Worlds.{IsBranch, term_in, with_heap, Placed, Selected, Leads, Grown}
-use Rattle.cq_begin.specs.declared.beginning.Begun.{Begun}
-use Rattle.cq_begin.specs.declared.beginning.Begun.TheVariants.{Goes, Pruned}
-use Rattle.cq_begin.specs.Begun.{IfPruned}
-use Rattle.cq_steps.proofs.Added.{keeps_on}
-use Rattle.cq_steps.proofs.Grown.{stands_grown, grown}
-use Rattle.cq_steps.proofs.Selected.{continuation_grown}
+use Rattle.cq_settle.specs.Contents.{Contents}
+use Rattle.cq_settle.specs.Rest.{IsReadyAs}
+use Rattle.spec_engine.specs.declared.machine.cell.Cell.{Cell}
+use Rattle.spec_engine.specs.Cells.{Fits, Value, Stack}
+use Rattle.cq_branch.specs.Lists.{KeepsLists}
+use Rattle.cq_branch.specs.Worlds.{IsBranch, term_in, with_heap, Placed, Selected, Leads, Grown}
+use Rattle.cq_branch.specs.declared.begin.beginning.Begun.{Begun}
+use Rattle.cq_branch.specs.declared.begin.beginning.Begun.TheVariants.{Goes, Pruned}
+use Rattle.cq_branch.specs.Begun.{IfPruned}
+use Rattle.cq_branch.proofs.Added.{keeps_on}
+use Rattle.cq_branch.proofs.Grown.{stands_grown, grown}
+use Rattle.cq_branch.proofs.Selected.{continuation_grown}
 
 keeps_itself : (lists : List (List Cell)) → KeepsLists lists lists
 keeps_itself lists = record { more = omega arith; same = λ k l. refl }

@@ -3,12 +3,12 @@ use Rattle.std.proofs.Common.{◌≡◌, ℕ, List, [], ◌∷◌, ◌++◌, map
 use Rattle.std.specs.Prelude.{slice_get}
 use Rattle.std.specs.List.{zip}
 use Rattle.std.proofs.lemmas.Option.{same_Some}
-use Rattle.cq_linear.specs.StoreValue.{kept}
+use Rattle.cq_store.specs.StoreValue.{kept}
 use Rattle.cq_term.specs.HeapValue.{Terms}
 use Rattle.cq_term.proofs.Kept.{get_last}
-use Rattle.cq_world.specs.Contents.{contents_of}
-use Rattle.cq_world.specs.Worlds.{now_of, saved_of}
-use Rattle.cq_world.specs.declared.world.World.{World}
+use Rattle.cq_settle.specs.Contents.{contents_of}
+use Rattle.cq_settle.specs.Worlds.{now_of, saved_of}
+use Rattle.cq_settle.specs.declared.world.World.{World}
 
 module _ (old marked ran : World) (n : ℕ) (number : n ≡ length (saved_of old)) (saved : saved_of marked ≡ saved_of old ++ now_of old ∷ []) (runs : saved_of ran ≡ saved_of marked) where
   -- the world at the mark's end is the one that was marked

@@ -1,7 +1,7 @@
 -- The value of an expression, as the row of a goal says it.
 use Rattle.std.proofs.Common.{◌≡◌, List, [], ◌∷◌, sym, ap, ◌∙◌}
-use Rattle.spec_lists.specs.Texts.{Text}
-use Rattle.spec_arithmetic.specs.Operations.{Evaluated}
+use Rattle.spec_numbers.specs.Texts.{Text}
+use Rattle.spec_terms.specs.Operations.{Evaluated}
 use Rattle.spec_syntax.specs.Trees.{Tree}
 use Rattle.spec_builtins.specs.Alternatives.{◌≐◌}
 use Rattle.spec_search.specs.Changes.{is_value}

@@ -1,14 +1,14 @@
 -- Why a goal goes on in no branch, as its row says.
 use Rattle.std.specs.Prelude.{◌≡◌, ℕ, List, [], ◌∷◌, ⊤}
-use Rattle.spec_lists.specs.Texts.{Text}
+use Rattle.spec_numbers.specs.Texts.{Text}
 use Rattle.spec_branch.specs.Branch.{State, Pending}
 use Rattle.spec_search.specs.Replies.{Place, Reply, Raises, Overflows, child, makes}
 use Rattle.cq_built.specs.Errors.{error_tree}
 use Rattle.cq_goals.specs.Faults.{HasItsCulprit}
 use Rattle.cq_goals.specs.declared.faults.GoalFault.{GoalFault}
 use Rattle.cq_goals.specs.declared.faults.GoalFault.TheVariants as goal
-use Rattle.cq_linear.specs.declared.store.StoreFault.{StoreFault}
-use Rattle.cq_linear.specs.declared.store.StoreFault.TheVariants as store
+use Rattle.cq_store.specs.declared.store.StoreFault.{StoreFault}
+use Rattle.cq_store.specs.declared.store.StoreFault.TheVariants as store
 use Rattle.cq_term.specs.Meaning.{HeapTerm}
 use Rattle.cq_settle.specs.Settled.{MayRefuse, MayTake}
 use Rattle.cq_relations.specs.declared.faults.RelationFault.{RelationFault}

@@ -1,19 +1,19 @@
 -- Goals that are selected, by what their arguments read as.
 use Rattle.std.specs.Prelude.{◌≡◌, ◌⊎◌, ℕ, List}
-use Rattle.spec_lists.specs.Texts.{Text}
+use Rattle.spec_numbers.specs.Texts.{Text}
 use Rattle.spec_syntax.specs.Trees.{Tree}
-use Rattle.spec_built.specs.Built.{compound1}
+use Rattle.spec_builtins.specs.Built.{compound1}
 use Rattle.spec_branch.specs.Branch.{Branch}
 use Rattle.spec_search.specs.Replies.{Place}
 use Rattle.cq_control.specs.Open.{open_choices}
-use Rattle.cq_rest.specs.Ready.{MayBeTold}
+use Rattle.cq_settle.specs.Ready.{MayBeTold}
 use Rattle.cq_term.specs.HeapValue.{Terms}
 use Rattle.cq_term.specs.Trees.{tree}
-use Rattle.cq_world.specs.Contents.{Contents}
-use Rattle.spec_machine.specs.Cells.{Value, Stack}
-use Rattle.cq_steps.specs.declared.alternatives.Alternatives.{Alternatives}
-use Rattle.cq_steps.specs.Choices.{LeavesMore}
-use Rattle.cq_steps.specs.Worlds.{ReadsAs, Placed, Selected}
+use Rattle.cq_settle.specs.Contents.{Contents}
+use Rattle.spec_engine.specs.Cells.{Value, Stack}
+use Rattle.cq_branch.specs.declared.alternatives.Alternatives.{Alternatives}
+use Rattle.cq_branch.specs.Choices.{LeavesMore}
+use Rattle.cq_branch.specs.Worlds.{ReadsAs, Placed, Selected}
 
 -- what holds wherever a goal is selected with this continuation behind it, and this argument
 abbrev pub AtGoals : List Text → Value Contents → ℕ → ℕ → (Stack Contents → Place → List Branch → Tree → Type 0) → Type 0

@@ -4,28 +4,28 @@ ghost use Rattle.std.specs.Prelude.{◌≡◌, ◌<◌, ◌≤◌, length, IfOk,
 ghost use Rattle.spec_syntax.specs.Trees.{Tree};
 ghost use Rattle.spec_search.specs.Changes.{is_row, compare_row};
 ghost use Rattle.spec_search.specs.Replies.{Place, succeeds_if};
-ghost use Rattle.cq_atoms.specs.Texts.{AreDifferent};
+ghost use Rattle.cq_term.specs.Texts.{AreDifferent};
 ghost use Rattle.cq_builtin.specs.Rows.{comparison_of};
 ghost use Rattle.cq_goals.specs.Faults.{HasItsCulprit};
 ghost use Rattle.cq_term.specs.Trees.{KnowsTerms};
-ghost use Rattle.cq_world.specs.Rest.{IsReady};
-ghost use Rattle.cq_world.specs.Worlds.{now_of, saved_of, room_of};
-ghost use Rattle.cq_steps.specs.Lists.{KeepsLists};
-ghost use Rattle.cq_steps.specs.Worlds.{value, ReadsAs, Leads};
-ghost use Rattle.cq_begin.specs.Begun.{IfGoes, IfPruned, goes_to};
+ghost use Rattle.cq_settle.specs.Rest.{IsReady};
+ghost use Rattle.cq_settle.specs.Worlds.{now_of, saved_of, room_of};
+ghost use Rattle.cq_branch.specs.Lists.{KeepsLists};
+ghost use Rattle.cq_branch.specs.Worlds.{value, ReadsAs, Leads};
+ghost use Rattle.cq_branch.specs.Begun.{IfGoes, IfPruned, goes_to};
 ghost use Rattle.cq_relations.specs.Faults.{IsRefused, Explains, HasCulpritOf};
 ghost use Rattle.cq_relations.specs.Goals.{AtBoth};
 
 use crate::faults::RelationFault;
-use cq_atoms::Atoms;
-use cq_begin::{Begun, unify, unify_constant};
+use cq_branch::begin::{Begun, unify, unify_constant};
 use cq_builtin::Comparison;
 use cq_control::{Continuation, Continuations};
 use cq_goals::{GoalFault, compare_values, is_value};
+use cq_settle::world::World;
 use cq_term::TermId;
+use cq_term::atoms::Atoms;
 use cq_trail::Undo;
-use cq_world::World;
-use spec_machine::Cell;
+use spec_engine::machine::Cell;
 
 /// Whether the goal that compares the values of two expressions goes on, or has no child. The left one is evaluated first.
 pub fn compare(
@@ -126,7 +126,7 @@ fn evaluated(
 {
     match is_value(&mut world.heap, atoms, expression) {
         Ok(right) => {
-            let pairs = [cq_walk::Pair { left, right }];
+            let pairs = [cq_term::walk::Pair { left, right }];
             if unify_constant(world, lists, atoms, &pairs, rest) {
                 return Ok(Begun::Goes(rest));
             }

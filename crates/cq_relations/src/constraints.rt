@@ -1,36 +1,36 @@
 // The row of constraints that are told.
 
 ghost use Rattle.std.specs.Prelude.{◌≡◌, ◌<◌, List, Option, Some, length, slice_get, codes, IfOk, IfErr, OnOk, OnErr};
-ghost use Rattle.spec_built.specs.Built.{compound1};
-ghost use Rattle.spec_lists.specs.Texts.{Text};
+ghost use Rattle.spec_builtins.specs.Built.{compound1};
+ghost use Rattle.spec_numbers.specs.Texts.{Text};
 ghost use Rattle.spec_syntax.specs.Trees.{Tree};
 ghost use Rattle.spec_search.specs.Constraints.{curly_row};
 ghost use Rattle.spec_search.specs.Replies.{Reply, unless_error};
-ghost use Rattle.cq_atoms.specs.Texts.{AreDifferent};
+ghost use Rattle.cq_term.specs.Texts.{AreDifferent};
 ghost use Rattle.cq_built.specs.Errors.{CanBeRaised};
 ghost use Rattle.cq_built.specs.Growing.{Grows};
 ghost use Rattle.cq_control.specs.Open.{AreMarked};
 ghost use Rattle.cq_goals.specs.Faults.{HasItsCulprit};
-ghost use Rattle.cq_program.specs.Database.{Program};
-ghost use Rattle.cq_sides.specs.Faults.{IsFound};
+ghost use Rattle.cq_resolve.specs.Database.{Program};
+ghost use Rattle.cq_built.specs.Faults.{IsFound};
 ghost use Rattle.cq_term.specs.Meaning.{HeapTerm};
 ghost use Rattle.cq_term.specs.Trees.{tree, KnowsTerms};
-ghost use Rattle.cq_world.specs.Rest.{IsReady};
-ghost use Rattle.cq_world.specs.Worlds.{now_of};
-ghost use Rattle.cq_steps.specs.Lists.{KeepsLists};
-ghost use Rattle.cq_steps.specs.Worlds.{value, saved_values, stack, Leads, Grown};
-ghost use Rattle.cq_begin.specs.Begun.{IfGoes, IfPruned, goes_to};
+ghost use Rattle.cq_settle.specs.Rest.{IsReady};
+ghost use Rattle.cq_settle.specs.Worlds.{now_of};
+ghost use Rattle.cq_branch.specs.Lists.{KeepsLists};
+ghost use Rattle.cq_branch.specs.Worlds.{value, saved_values, stack, Leads, Grown};
+ghost use Rattle.cq_branch.specs.Begun.{IfGoes, IfPruned, goes_to};
 ghost use Rattle.cq_relations.specs.Faults.{IsRefused, Explains, HasCulpritOf};
 ghost use Rattle.cq_relations.specs.Goals.{AtGoals, OverChoices, LeavesOneAtMost, AreGoals};
 
 use crate::faults::RelationFault;
-use cq_atoms::{Atom, Atoms};
-use cq_begin::{Begun, tell};
+use cq_branch::begin::{Begun, tell};
+use cq_branch::{Alternatives, Searching, or};
 use cq_built::BuiltinFault;
 use cq_control::{Choices, Continuation};
 use cq_goals::{GoalFault, Telling, check_telling};
-use cq_rest::{equated_worlds_may_be_settled, look_at};
-use cq_steps::{Alternatives, Searching, or};
+use cq_settle::rest::{equated_worlds_may_be_settled, look_at};
+use cq_term::atoms::{Atom, Atoms};
 use cq_term::{Heap, TermId};
 use std::alloc::AllocError;
 

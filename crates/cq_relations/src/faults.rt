@@ -5,7 +5,7 @@ ghost use Rattle.cq_goals.specs.declared.faults.GoalFault.TheVariants.{NoMemory}
 ghost use Rattle.cq_relations.specs.declared.faults.RelationFault.TheVariants.{Goal};
 
 use cq_goals::GoalFault;
-use cq_linear::store::StoreFault;
+use cq_store::store::StoreFault;
 use std::alloc::AllocError;
 use thiserror::Error;
 

@@ -1,20 +1,20 @@
 // Goals that sleep until a variable is bound.
 
 ghost use Rattle.std.specs.Prelude.{◌≡◌, ◌<◌, ◌≤◌, ◌∷◌, List, length, Some, IfOk, OnErr};
-ghost use Rattle.spec_lists.specs.Texts.{Text};
+ghost use Rattle.spec_numbers.specs.Texts.{Text};
 ghost use Rattle.spec_search.specs.Constraints.{freeze_row};
 ghost use Rattle.cq_control.specs.Items.{items_at};
-ghost use Rattle.spec_machine.specs.declared.cell.Cell.TheVariants.{Call};
-ghost use Rattle.cq_world.specs.Worlds.{now_of, saved_of, room_of};
-ghost use Rattle.cq_steps.specs.Lists.{HasCells, KeepsLists};
-ghost use Rattle.cq_steps.specs.Worlds.{value, Leads};
+ghost use Rattle.spec_engine.specs.declared.machine.cell.Cell.TheVariants.{Call};
+ghost use Rattle.cq_settle.specs.Worlds.{now_of, saved_of, room_of};
+ghost use Rattle.cq_branch.specs.Lists.{HasCells, KeepsLists};
+ghost use Rattle.cq_branch.specs.Worlds.{value, Leads};
 ghost use Rattle.cq_relations.specs.Goals.{AtBoth};
 
 use cq_attr::Susp;
 use cq_control::{Continuation, Continuations};
+use cq_settle::world::World;
 use cq_term::{TermId, View};
-use cq_world::World;
-use spec_machine::Cell;
+use spec_engine::machine::Cell;
 use std::alloc::AllocError;
 
 /// `freeze(X,G)`: G sleeps where X is an unbound variable, and else becomes `call(G)`. After want of memory the world is as at

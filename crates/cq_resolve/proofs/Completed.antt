@@ -8,13 +8,13 @@ use Rattle.cq_frac.specs.declared.VarId.{VarId}
 use Rattle.cq_term.specs.Meaning.{HeapTerm, at, blank}
 use Rattle.cq_term.specs.HeapValue.{Terms}
 use Rattle.cq_term.specs.Shown.{IsUnbound}
-use Rattle.spec_lists.specs.Prefixes.{IsPrefix}
+use Rattle.spec_numbers.specs.Prefixes.{IsPrefix}
 use Rattle.cq_unify.specs.Unified.{in_turn, IsNewlyBound}
 use Rattle.cq_unify.specs.Copied.{unbound_from}
 use Rattle.cq_unify.proofs.Places.{variables_now}
 use Rattle.cq_unify.proofs.Unbound.{at-map}
-use Rattle.cq_stored.specs.Building.{AreThere}
-use Rattle.cq_stored.proofs.Renamed.{new_image}
+use Rattle.cq_resolve.specs.Building.{AreThere}
+use Rattle.cq_resolve.proofs.Renamed.{new_image}
 use Rattle.cq_resolve.specs.Joined.{Joined, CanMeet}
 use Rattle.cq_resolve.specs.Resolved.{completed}
 use Rattle.cq_resolve.proofs.Unifying.{kept_by}

@@ -5,9 +5,9 @@ use Rattle.std.proofs.Math.Seq.{drop-cons}
 use Rattle.cq_term.specs.Meaning.{HeapTerm}
 use Rattle.cq_term.specs.declared.view.View.{View}
 use Rattle.cq_term.specs.declared.view.View.TheVariants as view
-use Rattle.cq_stored.specs.Pattern.{heads, put, read, term_of, IsHead, AreHeads, arity_in}
+use Rattle.cq_resolve.specs.Pattern.{heads, put, read, term_of, IsHead, AreHeads, arity_in}
 use Rattle.cq_resolve.specs.Parts.{Parts}
-use Rattle.cq_stored.proofs.Reading.{all_heads, all_heads-read, read_some, heads_left, head_fits}
+use Rattle.cq_resolve.proofs.Reading.{all_heads, all_heads-read, read_some, heads_left, head_fits}
 
 -- so many terms are missing at the end
 pub record Ends (hs : List View) (place end missing : ℕ) : Type 0 where

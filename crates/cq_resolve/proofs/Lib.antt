@@ -1,3 +1,9 @@
+pub mod Built
+pub mod FirstArguments
+pub mod StoredNamed
+pub mod Numbering
+pub mod Reading
+pub mod Renamed
 pub mod Completed
 pub mod Ends
 pub mod Matched
@@ -6,3 +12,9 @@ pub mod PartTerms
 pub mod Started
 pub mod Telling
 pub mod Unifying
+mod Excluded
+mod Predicates
+mod Changes
+mod Instances
+mod Selection
+mod Whole

@@ -4,7 +4,7 @@ use Rattle.std.specs.Prelude.{All, ◌↔◌, ◌⊎◌}
 use Rattle.std.proofs.lemmas.Bool.{cases_lt}
 use Rattle.std.proofs.lemmas.List.{length-map, map-append, reverse-append, reverse-reverse, length-drop, length-take-le, take-append-drop, length-reverse}
 use Rattle.std.proofs.lemmas.List.Elements.{All-head, All-tail, All-cons, All-append, All-same, All-pop}
-use Rattle.spec_rational.specs.Rational.{ℚ}
+use Rattle.spec_numbers.specs.Rational.{ℚ}
 use Rattle.spec_terms.specs.Term.{Terms, Subst, Var, Number, Name, Compound, one, more, count, list_of, terms_of, apply, followed_by, Occurs, OccursIn, with_arguments}
 use Rattle.spec_terms.specs.Unifier.{Equates, HasNoUnifier}
 use Rattle.spec_terms.proofs.Substitution.{apply-followed_by, apply_agree, occurs_from}
@@ -16,20 +16,20 @@ use Rattle.cq_term.proofs.Arguments.{arguments-with_arguments, view_of-with_argu
 use Rattle.cq_term.specs.declared.view.View.{View}
 use Rattle.cq_term.specs.declared.view.View.TheVariants as view
 use Rattle.cq_unify.specs.Unified.{in_turn}
-use Rattle.spec_lists.specs.Prefixes.{IsPrefix}
-use Rattle.spec_lists.proofs.Prefixes.{prefix_get_or, prefix_same}
-use Rattle.cq_walk.specs.Arguments.{PushesArguments}
-use Rattle.cq_walk.specs.Pairs.{pairwise}
-use Rattle.cq_walk.proofs.Arguments.{live_push, terms_push}
+use Rattle.spec_numbers.specs.Prefixes.{IsPrefix}
+use Rattle.spec_numbers.proofs.Prefixes.{prefix_get_or, prefix_same}
+use Rattle.cq_term.specs.Arguments.{PushesArguments}
+use Rattle.cq_term.specs.Pairs.{pairwise}
+use Rattle.cq_term.proofs.WalkArguments.{live_push, terms_push}
 use Rattle.cq_unify.proofs.Places.{prefix_map}
 use Rattle.cq_unify.proofs.Unbound.{at-map}
-use Rattle.cq_stored.specs.Pattern.{put, read, term_of, IsHead}
-use Rattle.cq_stored.specs.Building.{image_from}
+use Rattle.cq_resolve.specs.Pattern.{put, read, term_of, IsHead}
+use Rattle.cq_resolve.specs.Building.{image_from}
 use Rattle.cq_resolve.specs.Joined.{Joined, Clash}
 use Rattle.cq_resolve.specs.Resolved.{completed}
 use Rattle.cq_resolve.specs.Matching.{Call, Begun, Matching, Walked, Solving, IsFresh, image_of, lefts}
-use Rattle.cq_stored.proofs.Built.{all_reverse}
-use Rattle.cq_stored.proofs.Reading.{head_fits}
+use Rattle.cq_resolve.proofs.Built.{all_reverse}
+use Rattle.cq_resolve.proofs.Reading.{head_fits}
 use Rattle.cq_resolve.proofs.Completed.{completed_at, joined_completed, joined_long}
 use Rattle.cq_resolve.proofs.Telling.{in_turn-append, bound_join, unbound_or_not, joined_as, joined_larger}
 use Rattle.cq_resolve.proofs.Unifying.{variable_by, fresh_join, solving_join, solving_same, solving_clash, read_under-pairwise, equates_compounds}

@@ -5,7 +5,7 @@ use Rattle.spec_terms.specs.Term.{apply, single}
 use Rattle.cq_term.specs.Meaning.{HeapTerm, at}
 use Rattle.cq_term.specs.Names.{HasNamesBelow}
 use Rattle.cq_unify.proofs.Named.{names_bind}
-use Rattle.cq_stored.proofs.Named.{named_push}
+use Rattle.cq_resolve.proofs.StoredNamed.{named_push}
 
 pub names_bind_new : (n v : ℕ) (ts us ws : List HeapTerm) (t : HeapTerm) (id : ℕ) → us ≡ ts ++ t ∷ [] → id ≡ length ts → ws ≡ map (apply (single v (at us id))) us → HasNamesBelow n t → All (HasNamesBelow n) ts → All (HasNamesBelow n) ws
 names_bind_new n v ts us ws t id longer last e h all =

@@ -3,9 +3,9 @@ use Rattle.std.proofs.Common.{◌≡◌, ℕ, ◌-◌, ◌<◌, List, length, ta
 use Rattle.std.proofs.lemmas.List.{take_at, length-drop}
 use Rattle.spec_terms.specs.Term.{Occurs}
 use Rattle.cq_term.specs.declared.view.View.{View}
-use Rattle.cq_stored.specs.Pattern.{heads, term_of, AreHeads, HaveBelow, IsPattern}
+use Rattle.cq_resolve.specs.Pattern.{heads, term_of, AreHeads, HaveBelow, IsPattern}
 use Rattle.cq_resolve.specs.Parts.{Parts}
-use Rattle.cq_stored.proofs.Reading.{term_of-heads, is_pattern, below_term, below_part, have_below, heads_left}
+use Rattle.cq_resolve.proofs.Reading.{term_of-heads, is_pattern, below_term, below_part, have_below, heads_left}
 
 module _ (head : List View) (place end : ℕ) (p : Parts head place end) where
   long : length (heads (term_of (drop place head))) ≡ end - place

@@ -15,20 +15,20 @@ use Rattle.cq_term.specs.Shown.{IsUnbound}
 use Rattle.cq_term.proofs.Arguments.{all_one}
 use Rattle.cq_term.specs.declared.view.View.{View}
 use Rattle.cq_unify.specs.Unified.{in_turn}
-use Rattle.spec_lists.specs.Prefixes.{IsPrefix}
+use Rattle.spec_numbers.specs.Prefixes.{IsPrefix}
 use Rattle.cq_unify.specs.Copied.{unbound_from}
-use Rattle.cq_walk.specs.Pairs.{pairwise}
-use Rattle.spec_lists.proofs.Prefixes.{prefix_both}
+use Rattle.cq_term.specs.Pairs.{pairwise}
+use Rattle.spec_numbers.proofs.Prefixes.{prefix_both}
 use Rattle.cq_unify.proofs.Places.{variables_now}
-use Rattle.cq_stored.specs.Pattern.{read, term_of, IsPattern}
-use Rattle.cq_stored.specs.Building.{AreThere, moved_by, image_from}
+use Rattle.cq_resolve.specs.Pattern.{read, term_of, IsPattern}
+use Rattle.cq_resolve.specs.Building.{AreThere, moved_by, image_from}
 use Rattle.cq_resolve.specs.Joined.{equal}
 use Rattle.cq_resolve.specs.Resolved.{Resolved, with_variables, completed}
 use Rattle.cq_resolve.specs.Matching.{Call, Begun, Matching, Walked, IsFresh, image_of}
 use Rattle.cq_resolve.proofs.Completed.{names_left}
 use Rattle.cq_resolve.proofs.Matched.{term_now}
-use Rattle.cq_stored.proofs.Reading.{read_pattern, pattern_below}
-use Rattle.cq_stored.proofs.Renamed.{new_image}
+use Rattle.cq_resolve.proofs.Reading.{read_pattern, pattern_below}
+use Rattle.cq_resolve.proofs.Renamed.{new_image}
 use Rattle.cq_unify.proofs.Progress.{map-identity}
 use Rattle.cq_resolve.proofs.Unifying.{solving_start, solving_end}
 

@@ -14,12 +14,12 @@ use Rattle.cq_term.specs.HeapValue.{Terms}
 use Rattle.cq_term.specs.Shown.{IsUnbound}
 use Rattle.cq_term.specs.Shown.{view_of}
 use Rattle.cq_term.specs.declared.view.View.TheVariants as view
-use Rattle.spec_rational.specs.Rational.{ℚ}
+use Rattle.spec_numbers.specs.Rational.{ℚ}
 use Rattle.std.specs.Prelude.{Ok}
 use Rattle.std.specs.declared.result.Result.{Result}
 use Rattle.std.specs.declared.alloc.AllocError.{AllocError}
 use Rattle.cq_unify.specs.Unified.{Binding, in_turn, IsNewlyBound, Unified}
-use Rattle.spec_lists.specs.Prefixes.{IsPrefix}
+use Rattle.spec_numbers.specs.Prefixes.{IsPrefix}
 use Rattle.cq_unify.proofs.Progress.{map-identity, same_variable}
 use Rattle.cq_unify.proofs.Unbound.{at-map, variable_from}
 use Rattle.cq_resolve.specs.Joined.{Joined, equal, CanMeet}

@@ -9,7 +9,7 @@ use Rattle.spec_terms.proofs.Unifiers.{equates_under}
 use Rattle.spec_terms.proofs.Substitution.{apply-identity, apply-followed_by, apply_agree, agree_apply, occurs_from}
 use Rattle.cq_term.specs.Meaning.{HeapTerm}
 use Rattle.cq_unify.proofs.Progress.{equates_agree}
-use Rattle.cq_walk.specs.Pairs.{pairwise}
+use Rattle.cq_term.specs.Pairs.{pairwise}
 use Rattle.cq_resolve.specs.Joined.{equal}
 use Rattle.cq_resolve.specs.Matching.{Solving, IsFresh}
 

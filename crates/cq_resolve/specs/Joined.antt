@@ -8,7 +8,7 @@ use Rattle.cq_term.specs.Meaning.{HeapTerm, at}
 use Rattle.cq_term.specs.HeapValue.{Terms}
 use Rattle.cq_term.specs.Shown.{IsUnbound}
 use Rattle.cq_unify.specs.Unified.{Binding, in_turn, variables_of, IsNewlyBound}
-use Rattle.spec_lists.specs.Prefixes.{IsPrefix}
+use Rattle.spec_numbers.specs.Prefixes.{IsPrefix}
 
 abbrev pub equal : HeapTerm → HeapTerm → List (Equation ℕ)
 equal a b = record { left = a; right = b } ∷ []

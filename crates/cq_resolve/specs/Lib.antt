@@ -1,4 +1,11 @@
+pub mod Pattern
+pub mod FirstArgument
+pub mod StoredValue
+pub mod Building
+pub mod Kept
 pub mod Resolved
 pub mod Parts
 pub mod Joined
 pub mod Matching
+pub mod Keys
+pub mod Database

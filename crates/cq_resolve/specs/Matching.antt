@@ -9,9 +9,9 @@ use Rattle.cq_term.specs.HeapValue.{Terms}
 use Rattle.cq_term.specs.Shown.{IsUnbound}
 use Rattle.cq_term.specs.declared.view.View.{View}
 use Rattle.cq_unify.specs.Unified.{Binding, in_turn, variables_of, IsNewlyBound}
-use Rattle.spec_lists.specs.Prefixes.{IsPrefix}
-use Rattle.cq_walk.specs.Pairs.{pairwise}
-use Rattle.cq_stored.specs.Pattern.{read, AreHeads}
+use Rattle.spec_numbers.specs.Prefixes.{IsPrefix}
+use Rattle.cq_term.specs.Pairs.{pairwise}
+use Rattle.cq_resolve.specs.Pattern.{read, AreHeads}
 use Rattle.cq_resolve.specs.Resolved.{completed}
 use Rattle.cq_resolve.specs.declared.matching.Walk.{Walk}
 

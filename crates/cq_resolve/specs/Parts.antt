@@ -1,7 +1,7 @@
 -- Parts of a pattern.
 use Rattle.std.specs.Prelude.{◌≡◌, ℕ, ◌<◌, ◌≤◌, List, ◌++◌, drop, length}
 use Rattle.cq_term.specs.declared.view.View.{View}
-use Rattle.cq_stored.specs.Pattern.{heads, read, term_of}
+use Rattle.cq_resolve.specs.Pattern.{heads, read, term_of}
 
 -- a part of a pattern, from a place to an end: one term, behind which the other terms begin
 pub record Parts (hs : List View) (place end : ℕ) : Type 0 where

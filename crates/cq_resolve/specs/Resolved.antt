@@ -7,10 +7,10 @@ use Rattle.cq_frac.specs.declared.VarId.{VarId}
 use Rattle.cq_term.specs.Meaning.{at}
 use Rattle.cq_term.specs.HeapValue.{Terms}
 use Rattle.cq_unify.specs.Unified.{Binding, in_turn, variables_of, IsNewlyBound}
-use Rattle.spec_lists.specs.Prefixes.{IsPrefix}
+use Rattle.spec_numbers.specs.Prefixes.{IsPrefix}
 use Rattle.cq_unify.specs.Copied.{unbound_from}
-use Rattle.cq_stored.specs.Building.{moved_by}
-use Rattle.cq_stored.specs.StoredValue.{ClauseValue}
+use Rattle.cq_resolve.specs.Building.{moved_by}
+use Rattle.cq_resolve.specs.StoredValue.{ClauseValue}
 
 -- the goal and the head under the heap's next variables are to be equal
 abbrev pub call : Terms → ClauseValue → ℕ → List (Equation ℕ)

@@ -5,13 +5,13 @@ ghost use Rattle.spec_terms.specs.Term.{Var, Number, Name, apply};
 ghost use Rattle.cq_frac.specs.declared.VarId.{VarId};
 ghost use Rattle.cq_term.specs.Names.{KeepsNames};
 ghost use Rattle.cq_term.specs.Meaning.{at};
-ghost use Rattle.cq_stored.specs.Pattern.{IsPattern, IsNamedBelow, term_of};
-ghost use Rattle.cq_stored.specs.Building.{AreThere, image_from};
+ghost use Rattle.cq_resolve.specs.Pattern.{IsPattern, IsNamedBelow, term_of};
+ghost use Rattle.cq_resolve.specs.Building.{AreThere, image_from};
 ghost use Rattle.cq_resolve.specs.Joined.{Joins, Clash};
 ghost use Rattle.cq_resolve.specs.Resolved.{completed};
 
+use crate::stored::{build, new_variables};
 use cq_frac::{Frac, VarId};
-use cq_stored::{build, new_variables};
 use cq_term::{Atom, Heap, Newly, TermId, View};
 use cq_unify::unify;
 use std::alloc::AllocError;

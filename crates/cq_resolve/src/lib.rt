@@ -4,6 +4,8 @@
 mod joining;
 mod matching;
 mod parts;
+pub mod program;
 mod resolution;
+pub mod stored;
 
 pub use resolution::{resolve, resolve_unmarked};

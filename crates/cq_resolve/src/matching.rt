@@ -4,15 +4,15 @@ ghost use Rattle.std.specs.Prelude.{◌≡◌, ◌<◌, ◌≤◌, ◌++◌, ◌
 ghost use Rattle.spec_terms.specs.Unifier.{HasNoUnifier};
 ghost use Rattle.cq_frac.specs.declared.VarId.{VarId};
 ghost use Rattle.cq_term.specs.Names.{KeepsNames};
-ghost use Rattle.cq_stored.specs.Pattern.{IsNamedBelow};
+ghost use Rattle.cq_resolve.specs.Pattern.{IsNamedBelow};
 ghost use Rattle.cq_resolve.specs.Matching.{Call, Walked, IsAt, IsNext};
 
 use crate::joining::{join_built, join_name, join_new, join_number, join_variable};
 use crate::parts::{end_of, met_after};
+use crate::stored::new_variables;
 use cq_frac::VarId;
-use cq_stored::new_variables;
+use cq_term::walk::push_arguments;
 use cq_term::{Heap, Newly, TermId, View};
-use cq_walk::push_arguments;
 use std::alloc::AllocError;
 
 /// How far the match is: a place of the head, how many of its variables were met and so made, and the terms of the goal that belong

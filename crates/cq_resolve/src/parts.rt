@@ -1,7 +1,7 @@
 // Parts of a pattern: where one ends, and which variables were met behind it.
 
 ghost use Rattle.std.specs.Prelude.{◌≡◌, ◌<◌, ◌≤◌, ◌^◌, ℕ, length};
-ghost use Rattle.cq_stored.specs.Pattern.{AreHeads, IsBelow, HaveBelow, arity_in};
+ghost use Rattle.cq_resolve.specs.Pattern.{AreHeads, IsBelow, HaveBelow, arity_in};
 ghost use Rattle.cq_resolve.specs.Parts.{Parts};
 
 use cq_term::View;

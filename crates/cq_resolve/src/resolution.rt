@@ -5,11 +5,11 @@ ghost use Rattle.spec_terms.specs.Unifier.{HasNoUnifier};
 ghost use Rattle.cq_frac.specs.declared.VarId.{VarId};
 ghost use Rattle.cq_term.specs.Names.{KeepsNames};
 ghost use Rattle.cq_term.specs.Meaning.{at};
-ghost use Rattle.cq_stored.specs.StoredValue.{HaveNamesBelow};
+ghost use Rattle.cq_resolve.specs.StoredValue.{HaveNamesBelow};
 ghost use Rattle.cq_resolve.specs.Resolved.{Resolves, call};
 
 use crate::matching::match_head;
-use cq_stored::{Clause, build, new_variables};
+use crate::stored::{Clause, build, new_variables};
 use cq_term::{Heap, Newly, TermId};
 use cq_trail::Undo;
 use std::alloc::AllocError;

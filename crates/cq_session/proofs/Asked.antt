@@ -9,7 +9,7 @@ use Rattle.clap.specs.ValueTests.{is_unsigned_in}
 use Rattle.clap.specs.Walk.{Row, all_of, first_of}
 use Rattle.clap.specs.declared.builder.value_parser.ValueParser.TheVariants as parser
 use Rattle.clap.proofs.ValueTestLemmas.{accepts-Accepts}
-use Rattle.spec_lists.specs.Texts.{Text}
+use Rattle.spec_numbers.specs.Texts.{Text}
 use Rattle.cq_words.specs.Asked.{Asked, Task, ToRun, ToGen}
 use Rattle.cq_words.specs.Language.{asked_by, asked_in, asked_of, command, gen_in, is_taken, number_or, number_to, task_in}
 use Rattle.cq_words.specs.declared.run.TheConstants.{GREATEST, MOST, STEPS, PIVOTS, ANSWERS}

@@ -1,3 +1,10 @@
+pub mod Steps
+pub mod Searches
+pub mod Clauses
+pub mod Consulting
+pub mod Inputs
+pub mod Halting
+pub mod Courses
 pub mod Asked
 pub mod Lines
 pub mod Outcomes

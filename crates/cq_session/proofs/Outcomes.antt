@@ -6,27 +6,27 @@ use Rattle.cq_outside.specs.declared.shelf.TheConstants.{SIZE_LIMIT}
 use Rattle.cq_words.specs.Asked.{Asked, Task, ToRun, ToGen}
 use Rattle.cq_words.specs.declared.words.WordsFault.{WordsFault}
 use Rattle.cq_words.specs.declared.words.WordsFault.TheVariants as words_fault
-use Rattle.cq_transcript.specs.Halts.{Halts, IsWhole}
-use Rattle.cq_transcript.specs.Progress.{CountsWrites, marks_of}
-use Rattle.cq_transcript.specs.declared.halt.Halt.{Halt}
-use Rattle.cq_transcript.specs.declared.halt.Halt.TheVariants.{Memory}
-use Rattle.cq_transcript.specs.declared.halt.Halt.TheVariants as halt
-use Rattle.cq_transcript.specs.declared.halt.Lines.{Lines}
-use Rattle.cq_gen.specs.Writing as writing
-use Rattle.cq_gen.specs.Writing.{IsBroken}
-use Rattle.spec_gen.specs.Outcome.{GenWrites}
-use Rattle.spec_lists.specs.Texts.{Text}
+use Rattle.cq_session.specs.Halts.{Halts, IsWhole}
+use Rattle.cq_session.specs.Progress.{CountsWrites, marks_of}
+use Rattle.cq_session.specs.declared.transcript.halt.Halt.{Halt}
+use Rattle.cq_session.specs.declared.transcript.halt.Halt.TheVariants.{Memory}
+use Rattle.cq_session.specs.declared.transcript.halt.Halt.TheVariants as halt
+use Rattle.cq_session.specs.declared.transcript.halt.Lines.{Lines}
+use Rattle.cq_session.specs.Writing as writing
+use Rattle.cq_session.specs.Writing.{IsBroken}
+use Rattle.spec_command.specs.Outcome.{GenWrites}
+use Rattle.spec_numbers.specs.Texts.{Text}
 use Rattle.spec_transcript.specs.Session.{Opening, none}
 use Rattle.spec_search.specs.Database.{initial}
-use Rattle.spec_endings.specs.Causes.{Caused, Completeness, counted, Counts, GenCompleteness, IsClear}
-use Rattle.spec_endings.specs.Causes as causes
-use Rattle.spec_endings.specs.Endings.{Ended, Ends, Gains, GenEnded, IsLine, IsTold, Sinks, Tells, memory_line, words_line}
-use Rattle.spec_endings.specs.Endings as endings
-use Rattle.spec_endings.specs.Generated as generated
-use Rattle.spec_endings.specs.Generated.{IsGenClear}
-use Rattle.spec_endings.specs.Outside.{Outside, HasWritten, Transcribes}
-use Rattle.spec_endings.specs.declared.status.Status.{Status}
-use Rattle.spec_endings.specs.declared.status.Status.TheVariants as status
+use Rattle.spec_command.specs.Causes.{Caused, Completeness, counted, Counts, GenCompleteness, IsClear}
+use Rattle.spec_command.specs.Causes as causes
+use Rattle.spec_command.specs.Endings.{Ended, Ends, Gains, GenEnded, IsLine, IsTold, Sinks, Tells, memory_line, words_line}
+use Rattle.spec_command.specs.Endings as endings
+use Rattle.spec_command.specs.Generated as generated
+use Rattle.spec_command.specs.Generated.{IsGenClear}
+use Rattle.spec_command.specs.Outside.{Outside, HasWritten, Transcribes}
+use Rattle.spec_command.specs.declared.endings.status.Status.{Status}
+use Rattle.spec_command.specs.declared.endings.status.Status.TheVariants as status
 use Rattle.cq_session.specs.Outcomes.{GenShows, IfRun, Shows, fault_ending, line_of, status_of, whole_status}
 use Rattle.cq_session.specs.declared.ending.Ending.{Ending}
 use Rattle.cq_session.specs.declared.ending.Ending.TheVariants.{Whole, BadWords, Broken}

@@ -1,1 +1,11 @@
+pub mod Sentences
+pub mod Events
+pub mod Progress
+pub mod Searches
+pub mod Texts
+pub mod Pieces
+pub mod Breaks
+pub mod Halts
+pub mod Counting
+pub mod Writing
 pub mod Outcomes

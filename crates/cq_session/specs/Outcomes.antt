@@ -3,14 +3,14 @@ use Rattle.std.specs.Prelude.{◌≡◌, ℕ, List, [], Bool, true, false, Optio
 use Rattle.cq_words.specs.Asked.{Asked, Task, ToRun, ToGen}
 use Rattle.cq_words.specs.declared.words.WordsFault.{WordsFault}
 use Rattle.cq_words.specs.declared.words.WordsFault.TheVariants as words_fault
-use Rattle.cq_transcript.specs.Halts as halts
-use Rattle.cq_transcript.specs.declared.halt.Halt.TheVariants.{Memory}
-use Rattle.spec_lists.specs.Texts.{Text}
-use Rattle.spec_endings.specs.Endings.{Ends, Gains, words_line}
-use Rattle.spec_endings.specs.Generated.{GenEnds}
-use Rattle.spec_endings.specs.Outside.{Outside}
-use Rattle.spec_endings.specs.declared.status.Status.{Status}
-use Rattle.spec_endings.specs.declared.status.Status.TheVariants as status
+use Rattle.cq_session.specs.Halts as halts
+use Rattle.cq_session.specs.declared.transcript.halt.Halt.TheVariants.{Memory}
+use Rattle.spec_numbers.specs.Texts.{Text}
+use Rattle.spec_command.specs.Endings.{Ends, Gains, words_line}
+use Rattle.spec_command.specs.Generated.{GenEnds}
+use Rattle.spec_command.specs.Outside.{Outside}
+use Rattle.spec_command.specs.declared.endings.status.Status.{Status}
+use Rattle.spec_command.specs.declared.endings.status.Status.TheVariants as status
 use Rattle.cq_session.specs.declared.ending.Ending.{Ending}
 use Rattle.cq_session.specs.declared.ending.Ending.TheVariants.{Whole, BadWords, Broken}
 

@@ -3,13 +3,13 @@
 ghost use Rattle.std.specs.Prelude.{◌≡◌, ◌++◌, OnOk, OnErr, codes};
 ghost use Rattle.cq_outside.specs.Bytes.{Adds, Appends, Begins};
 ghost use Rattle.cq_outside.specs.Counts.{HasCause};
-ghost use Rattle.spec_endings.specs.Endings.{IsTold, sinks};
+ghost use Rattle.spec_command.specs.Endings.{IsTold, sinks};
 ghost use Rattle.cq_session.specs.Outcomes.{fault_ending, line_of, status_of, whole_status};
 
+use crate::transcript::{Halt, Lines};
 use cq_outside::{Sink, SinkFailed, write_whole};
-use cq_transcript::{Halt, Lines};
 use cq_words::WordsFault;
-use spec_endings::Status;
+use spec_command::endings::Status;
 
 /// How a run ended.
 #[derive(Clone, Copy, Debug)]

@@ -2,6 +2,8 @@
 #![tactic(auto)]
 
 mod ending;
+pub mod generating;
 mod running;
+pub mod transcript;
 
 pub use running::{run, run_without_words};

@@ -3,21 +3,21 @@
 ghost use Rattle.std.specs.Prelude.{◌≡◌, ◌<◌, ◌≤◌, ℕ, [], None, Some, IfOk, IfErr, IfSome};
 ghost use Rattle.cq_words.specs.Asked.{ToGen, as_asked};
 ghost use Rattle.cq_words.specs.Language.{asked_by};
-ghost use Rattle.cq_transcript.specs.Breaks.{CausedBy};
-ghost use Rattle.cq_transcript.specs.Halts.{Halts, IsWhole as IsWholeTranscript};
-ghost use Rattle.cq_transcript.specs.Progress.{marks_of};
-ghost use Rattle.spec_endings.specs.Causes.{Caused, IsClear, IsWhole, counted};
-ghost use Rattle.spec_endings.specs.Endings.{Ended, GenEnded, Tells, sinks};
-ghost use Rattle.spec_endings.specs.Generated.{IsGenClear};
-ghost use Rattle.spec_endings.specs.Outside.{outside};
+ghost use Rattle.cq_session.specs.Breaks.{CausedBy};
+ghost use Rattle.cq_session.specs.Halts.{Halts, IsWhole as IsWholeTranscript};
+ghost use Rattle.cq_session.specs.Progress.{marks_of};
+ghost use Rattle.spec_command.specs.Causes.{Caused, IsClear, IsWhole, counted};
+ghost use Rattle.spec_command.specs.Endings.{Ended, GenEnded, Tells, sinks};
+ghost use Rattle.spec_command.specs.Generated.{IsGenClear};
+ghost use Rattle.spec_command.specs.Outside.{outside};
 ghost use Rattle.cq_session.specs.Outcomes.{GenShows, IfRun, NamesNoFile, Shows, fault_ending, status_of};
 
 use crate::ending::{Ending, status_of, tell, without_words};
-use cq_gen::{Examined, write_gen};
+use crate::generating::{Examined, write_gen};
+use crate::transcript::{Halt, Interpreter, Lines, write_transcript};
 use cq_outside::{Shelf, Sink, Source};
-use cq_transcript::{Halt, Interpreter, Lines, write_transcript};
 use cq_words::{Run, Task, WordsFault, read_words};
-use spec_endings::{Status, completeness_follows};
+use spec_command::endings::{Status, completeness_follows};
 use std::alloc::Global;
 
 /// Writes the transcript that is asked for.

@@ -5,23 +5,23 @@ use Rattle.std.specs.List.{cons_option}
 use Rattle.std.proofs.lemmas.Bool.{lt-ltb, ltb-true, cases_lt}
 use Rattle.std.proofs.lemmas.List.{drop_all, drop_at, drop_more, take_more, length-drop, get_or-drop}
 use Rattle.std.proofs.lemmas.List.Elements.{All-head, All-tail, All-contains, Contains-get_or, filter_passes}
-use Rattle.spec_rational.specs.Rational.{ℚ}
+use Rattle.spec_numbers.specs.Rational.{ℚ}
 use Rattle.spec_linear.specs.Solution.{Constraint, Solvable, Fixed}
-use Rattle.spec_lists.specs.Texts.{Text}
-use Rattle.spec_lists.proofs.Tests.{nat_eq-apart}
+use Rattle.spec_numbers.specs.Texts.{Text}
+use Rattle.spec_numbers.proofs.Tests.{nat_eq-apart}
 use Rattle.spec_terms.specs.Term.{Var}
 use Rattle.cq_attr.specs.Attributes.{Waiting, Attributes, Ascends, is_numeric, numbers, find, without}
 use Rattle.cq_attr.specs.declared.susp.Susp.{Susp}
 use Rattle.cq_attr.specs.declared.susp.Susp.TheVariants as susp
 use Rattle.cq_frac.specs.declared.VarId.{VarId}
 use Rattle.cq_tableau.specs.Newly.{AreNewlyFixed}
-use Rattle.cq_linear.specs.StoreValue.{StoreValue}
+use Rattle.cq_store.specs.StoreValue.{StoreValue}
 use Rattle.cq_term.specs.HeapValue.{HeapValue}
 use Rattle.cq_term.specs.Meaning.{HeapTerm, at}
-use Rattle.cq_walk.specs.Places.{numbers_of}
-use Rattle.cq_world.specs.Contents.{Contents}
-use Rattle.cq_world.specs.Standing.{constraints, is_constraint}
-use Rattle.cq_world.specs.declared.world.World.{World}
+use Rattle.cq_term.specs.Places.{numbers_of}
+use Rattle.cq_settle.specs.Contents.{Contents}
+use Rattle.cq_settle.specs.Standing.{constraints, is_constraint}
+use Rattle.cq_settle.specs.declared.world.World.{World}
 use Rattle.cq_settle.specs.Settled.{KeepsMarks}
 use Rattle.cq_settle.specs.Steps.{HasFewer, BindsValues, JoinsAndBinds, WakesOne, goal_that_wakes, unless_given}
 use Rattle.cq_settle.specs.Underway.{ToDo, GoesOn, to_do}

@@ -4,16 +4,16 @@ use Rattle.std.specs.Prelude.{Contains, All, Any, ◌==◌}
 use Rattle.std.proofs.lemmas.Bool.{true≢false}
 use Rattle.std.proofs.lemmas.List.Elements.{All-weaker, All-contains_itself}
 use Rattle.spec_linear.specs.Solution.{Constraint}
-use Rattle.spec_lists.specs.Texts.{Text}
-use Rattle.spec_lists.proofs.Tests.{nat_eq-self}
+use Rattle.spec_numbers.specs.Texts.{Text}
+use Rattle.spec_numbers.proofs.Tests.{nat_eq-self}
 use Rattle.spec_terms.specs.Term.{Subst, Var, named}
 use Rattle.spec_branch.specs.Branch.{State, Pending}
-use Rattle.cq_atoms.specs.Texts.{text_of}
+use Rattle.cq_term.specs.Texts.{text_of}
 use Rattle.cq_attr.specs.Attributes.{is_numeric}
 use Rattle.cq_frac.specs.declared.VarId.{VarId}
 use Rattle.cq_term.specs.Meaning.{at}
-use Rattle.cq_walk.specs.Places.{numbers_of}
-use Rattle.cq_world.specs.Contents.{Contents}
+use Rattle.cq_term.specs.Places.{numbers_of}
+use Rattle.cq_settle.specs.Contents.{Contents}
 use Rattle.cq_settle.specs.Called.{IsCalled, IsNewlyBound}
 use Rattle.cq_settle.specs.Settled.{IsPruned}
 use Rattle.cq_settle.specs.Steps.{AreThere, AreBoundThere, ClashesAt}

@@ -5,31 +5,31 @@ use Rattle.std.specs.List.{AllByRecursion, AllZip, list_any}
 use Rattle.std.proofs.lemmas.Bool.{true≢false}
 use Rattle.std.specs.Cmp.{both_ways}
 use Rattle.std.proofs.lemmas.List.Elements.{All-contains, All-head, All-tail, Contains-append_left, Contains-append_right}
-use Rattle.spec_rational.specs.Rational.{ℚ}
+use Rattle.spec_numbers.specs.Rational.{ℚ}
 use Rattle.spec_linear.specs.Solution.{Constraint, Has, Fixed}
-use Rattle.spec_lists.specs.Texts.{Text}
-use Rattle.spec_lists.proofs.Tests.{one_is, or_right, nat_eq-self, nat_eq-same}
+use Rattle.spec_numbers.specs.Texts.{Text}
+use Rattle.spec_numbers.proofs.Tests.{one_is, or_right, nat_eq-self, nat_eq-same}
 use Rattle.spec_terms.specs.Term.{Subst, Var, Number, Name, Compound, Occurs, apply, named}
 use Rattle.spec_terms.specs.Variables.{variables}
 use Rattle.spec_terms.proofs.Listed.{occurs_listed, listed_occurs}
 use Rattle.spec_terms.proofs.Substitution.{apply-followed_by, apply-identity, apply_agree, occurs_from}
 use Rattle.spec_syntax.specs.Trees.{Tree}
-use Rattle.spec_told.specs.Relations.{Waits, lin}
+use Rattle.spec_branch.specs.Relations.{Waits, lin}
 use Rattle.spec_branch.specs.Alike.{no_values}
 use Rattle.spec_branch.specs.Branch.{State, Pending, Asleep, Frozen, Sleeper}
 use Rattle.spec_branch.specs.Closure.{Moves, no_move}
 use Rattle.spec_branch.specs.Settling.{is_bound, is_no_number, NoClash, newly_bound, stands_in}
 use Rattle.spec_branch.specs.Settling as definitions
-use Rattle.cq_atoms.specs.Texts.{text_of}
+use Rattle.cq_term.specs.Texts.{text_of}
 use Rattle.cq_attr.specs.Attributes.{Waiting, is_numeric}
 use Rattle.cq_attr.proofs.Elements.{any_of_map}
 use Rattle.cq_frac.specs.declared.VarId.{VarId}
 use Rattle.cq_term.specs.Meaning.{HeapTerm, at}
 use Rattle.cq_term.specs.Shown.{IsUnbound}
 use Rattle.cq_term.specs.Trees.{tree, trees}
-use Rattle.cq_walk.specs.Places.{numbers_of}
-use Rattle.cq_world.specs.Contents.{Contents}
-use Rattle.cq_world.specs.Standing.{IsConstraint, IsSleeper, IsAwaited, AreRead, Stands, constraints, goals, is_constraint, is_goal}
+use Rattle.cq_term.specs.Places.{numbers_of}
+use Rattle.cq_settle.specs.Contents.{Contents}
+use Rattle.cq_settle.specs.Standing.{IsConstraint, IsSleeper, IsAwaited, AreRead, Stands, constraints, goals, is_constraint, is_goal}
 use Rattle.cq_settle.specs.Called.{IsCalled, IsNewlyBound}
 use Rattle.cq_settle.specs.Steps.{ClashesAt, WaitsOn, BindsValues, equations_of, numeric_ones, is_image_of, is_the_variable}
 use Rattle.cq_settle.specs.Underway.{IsTask, AreBound, Awaits, IsReached, IsHere, IsUnderway, WaitsOrToDo, unified, numeric_then, bindings_now, state_then}

@@ -3,7 +3,7 @@ use Rattle.std.proofs.Common.{◌≡◌, ℕ, List, ◌++◌, true, sym, ap₂, 
 use Rattle.std.specs.Prelude.{Contains, All, ◌==◌}
 use Rattle.std.specs.List.{list_any}
 use Rattle.spec_linear.specs.Solution.{Constraint}
-use Rattle.spec_lists.specs.Texts.{Text}
+use Rattle.spec_numbers.specs.Texts.{Text}
 use Rattle.spec_terms.specs.Term.{Subst}
 use Rattle.spec_terms.specs.Variables.{variables}
 use Rattle.spec_branch.specs.Branch.{State, Pending}
@@ -12,8 +12,8 @@ use Rattle.cq_frac.specs.declared.VarId.{VarId}
 use Rattle.cq_term.specs.HeapValue.{Terms}
 use Rattle.cq_term.specs.Meaning.{at}
 use Rattle.cq_term.specs.Shown.{IsUnbound}
-use Rattle.cq_walk.specs.Places.{numbers_of}
-use Rattle.cq_world.specs.Contents.{Contents}
+use Rattle.cq_term.specs.Places.{numbers_of}
+use Rattle.cq_settle.specs.Contents.{Contents}
 use Rattle.cq_settle.specs.Called.{IsCalled}
 use Rattle.cq_settle.specs.Steps.{ClashesAt, Follows, HaveJoined, StopsAt, equations_of, numeric_ones, is_image_of}
 use Rattle.cq_settle.specs.Underway.{HasStarted}

@@ -3,10 +3,10 @@ use Rattle.std.proofs.Common.{◌≡◌, ◌<◌, ℕ, ◌+◌, List, [], ◌∷
 use Rattle.std.specs.Prelude.{Contains, All, ◌==◌, MatchOption}
 use Rattle.std.proofs.lemmas.List.{length-append, length-map}
 use Rattle.std.proofs.lemmas.List.Elements.{All-contains, All-weaker, All-map, All-append, All-cons, All-nil, Contains-append_left, Contains-append_right, Contains-push_cases}
-use Rattle.spec_rational.specs.Rational.{ℚ}
+use Rattle.spec_numbers.specs.Rational.{ℚ}
 use Rattle.spec_linear.specs.Solution.{Constraint, Fixed}
 use Rattle.spec_linear.proofs.Lists.{fixed_once}
-use Rattle.spec_lists.proofs.Tests.{nat_eq-same, nat_eq-self}
+use Rattle.spec_numbers.proofs.Tests.{nat_eq-same, nat_eq-self}
 use Rattle.spec_terms.specs.Term.{Var, Number, Name, Compound, apply, single}
 use Rattle.spec_terms.proofs.Substitution.{apply-identity, apply-followed_by, apply_agree}
 use Rattle.cq_attr.specs.Attributes.{Attributes, is_numeric}
@@ -17,7 +17,7 @@ use Rattle.cq_term.specs.Meaning.{HeapTerm, at}
 use Rattle.cq_term.specs.Names.{HasNamesBelow}
 use Rattle.cq_term.proofs.Known.{names_substituted}
 use Rattle.cq_term.proofs.Meanings.{at-append, at-map}
-use Rattle.cq_walk.specs.Places.{numbers_of}
+use Rattle.cq_term.specs.Places.{numbers_of}
 use Rattle.cq_settle.specs.Steps.{BindsValues, valued, value_or_variable}
 use Rattle.cq_settle.proofs.Closed.{nothing_behind}
 use Rattle.cq_settle.proofs.Composed.{first_of, together}

@@ -1,14 +1,14 @@
 -- Fixed values may as well be read as bindings to numbers.
 use Rattle.std.proofs.Common.{◌≡◌, ℕ, Bool, true, false, Option, None, Some, refl, ap, ap₂, ◌∙◌, ◌||◌}
 use Rattle.std.specs.Prelude.{◌&&◌, if◌then◌else◌, bytes_eq, codes}
-use Rattle.spec_rational.specs.Rational.{ℚ}
+use Rattle.spec_numbers.specs.Rational.{ℚ}
 use Rattle.spec_linear.specs.Form.{Linear}
 use Rattle.spec_linear.specs.Solution.{Constraint}
 use Rattle.spec_terms.specs.Term.{Var, Number, Name, Compound, one, more, Occurs, apply}
 use Rattle.spec_terms.proofs.Substitution.{apply_agree}
 use Rattle.spec_syntax.specs.Trees.{Tree}
-use Rattle.spec_told.specs.Expressions.{form_of, has_zero_divisor, is_zero_form, unary_name, unary_of, binary_name, binary_of, variable_under}
-use Rattle.spec_told.specs.Relations.{Lin, False, lin, relation_name, related_forms}
+use Rattle.spec_branch.specs.Expressions.{form_of, has_zero_divisor, is_zero_form, unary_name, unary_of, binary_name, binary_of, variable_under}
+use Rattle.spec_branch.specs.Relations.{Lin, False, lin, relation_name, related_forms}
 use Rattle.spec_branch.specs.Settling.{fixed_values, value_or_variable}
 use Rattle.cq_settle.specs.Underway.{valued}
 use Rattle.spec_branch.specs.Alike.{no_values}
@@ -38,7 +38,7 @@ divisor_same fixed (Compound f (more a (one b))) =
     ap₂ (λ x (y : Option Linear). x || (bytes_eq f (codes "/") && is_zero_form y)) (ap₂ (λ x y. x || y) (divisor_same fixed a) (divisor_same fixed b)) (form_same fixed b)
 divisor_same fixed (Compound f (more a (more b ts))) = refl
 
-variable_waits : (o : Option ℚ) (x : ℕ) → lin no_values (value_or_variable o x) ≡ Rattle.spec_told.specs.Relations.Waits
+variable_waits : (o : Option ℚ) (x : ℕ) → lin no_values (value_or_variable o x) ≡ Rattle.spec_branch.specs.Relations.Waits
 variable_waits None x = refl
 variable_waits (Some q) x = refl
 

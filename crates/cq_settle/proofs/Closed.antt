@@ -2,20 +2,20 @@
 use Rattle.std.proofs.Common.{◌≡◌, ℕ, List, [], ◌∷◌, ◌++◌, true, Option, refl, sym, ap, ◌∙◌, subst, inl, inr, arith}
 use Rattle.std.specs.Prelude.{Contains}
 use Rattle.std.specs.List.{AllByRecursion, AllZip}
-use Rattle.spec_rational.specs.Rational.{ℚ}
+use Rattle.spec_numbers.specs.Rational.{ℚ}
 use Rattle.spec_linear.specs.Solution.{Has, Solvable, Fixes}
-use Rattle.spec_lists.specs.Texts.{Text}
+use Rattle.spec_numbers.specs.Texts.{Text}
 use Rattle.spec_terms.specs.Term.{Subst, Var, Occurs, apply}
 use Rattle.spec_terms.proofs.Substitution.{apply_agree}
 use Rattle.spec_syntax.specs.Trees.{Tree}
-use Rattle.spec_told.specs.Relations.{Waits, lin}
+use Rattle.spec_branch.specs.Relations.{Waits, lin}
 use Rattle.spec_branch.specs.Branch.{State, Item, Pending}
 use Rattle.spec_branch.specs.Closure.{Moves}
 use Rattle.spec_branch.specs.Settling.{Settling, SettlesUnified, Kept, kept, kept_branch, bindings_after, fixed_values}
 use Rattle.cq_attr.specs.Attributes.{Waiting}
 use Rattle.cq_term.specs.Meaning.{HeapTerm}
-use Rattle.cq_world.specs.Contents.{Contents}
-use Rattle.cq_world.specs.Standing.{constraints}
+use Rattle.cq_settle.specs.Contents.{Contents}
+use Rattle.cq_settle.specs.Standing.{constraints}
 use Rattle.cq_settle.specs.Underway.{IsUnderway, WaitsOrToDo, IsToDo, unified, numeric_then, valued, bindings_now}
 use Rattle.cq_settle.proofs.Ends.{AllWait, waiting_closed}
 use Rattle.cq_settle.proofs.Here.{agree, inside}

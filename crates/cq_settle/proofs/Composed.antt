@@ -1,13 +1,13 @@
 -- Values that are bound after other values.
 use Rattle.std.proofs.Common.{◌≡◌, ℕ, List, Option, None, Some, refl, sym, ap, ◌∙◌}
-use Rattle.spec_rational.specs.Rational.{ℚ}
-use Rattle.spec_lists.specs.Texts.{Text}
+use Rattle.spec_numbers.specs.Rational.{ℚ}
+use Rattle.spec_numbers.specs.Texts.{Text}
 use Rattle.spec_terms.specs.Term.{Subst, apply, followed_by, named}
 use Rattle.spec_terms.proofs.Substitution.{apply-followed_by, apply_agree, named-apply}
 use Rattle.spec_syntax.specs.Trees.{Tree}
 use Rattle.spec_branch.specs.Branch.{State}
 use Rattle.spec_branch.specs.Settling.{value_or_variable}
-use Rattle.cq_atoms.specs.Texts.{text_of}
+use Rattle.cq_term.specs.Texts.{text_of}
 use Rattle.cq_term.specs.Meaning.{HeapTerm}
 use Rattle.cq_settle.specs.Steps as heap
 use Rattle.cq_settle.specs.Underway.{unified, valued, bindings_now}

@@ -1,11 +1,11 @@
 -- Where moves end: where each term waits, and where the list has no solution.
 use Rattle.std.proofs.Common.{◌≡◌, ℕ, List, [], ◌∷◌, ◌++◌, Option, None, Some, refl, sym, ap, ◌∙◌, subst, inl, inr}
-use Rattle.spec_rational.specs.Rational.{ℚ}
+use Rattle.spec_numbers.specs.Rational.{ℚ}
 use Rattle.spec_linear.specs.Solution.{Constraint, Unsolvable, Fixes, Has, Equivalent}
-use Rattle.spec_lists.specs.Texts.{Text}
+use Rattle.spec_numbers.specs.Texts.{Text}
 use Rattle.spec_terms.specs.Term.{Subst, apply}
 use Rattle.spec_syntax.specs.Trees.{Tree}
-use Rattle.spec_told.specs.Relations.{Lin, Waits, lin, row_of}
+use Rattle.spec_branch.specs.Relations.{Lin, Waits, lin, row_of}
 use Rattle.spec_branch.specs.Closure.{IsMove, Moves, no_move, move}
 use Rattle.spec_branch.proofs.Waiting.{one_map}
 

@@ -8,8 +8,8 @@ use Rattle.cq_attr.specs.Attributes.{Attributes, is_numeric}
 use Rattle.cq_frac.specs.declared.VarId.{VarId}
 use Rattle.cq_term.specs.HeapValue.{Terms}
 use Rattle.cq_term.specs.Meaning.{at}
-use Rattle.cq_walk.specs.Places.{numbers_of}
-use Rattle.cq_world.specs.Contents.{Contents}
+use Rattle.cq_term.specs.Places.{numbers_of}
+use Rattle.cq_settle.specs.Contents.{Contents}
 use Rattle.cq_settle.specs.Steps.{AreBoundThere, HaveJoined, StopsAt, equation_at, equations_of, numeric_ones, is_image_of}
 use Rattle.cq_settle.proofs.Gather.{bound_same, ones_with, ones_without, equations_with, equations_split, numeric_push, of_images, one_image, told_more}
 use Rattle.cq_settle.proofs.Joined.{one_more_joins, stops_at}

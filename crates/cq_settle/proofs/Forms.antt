@@ -1,16 +1,16 @@
 -- The forms of a variable less an older one, and less a number.
 use Rattle.std.proofs.Common.{◌≡◌, ℕ, ◌<◌, suc, List, [], ◌∷◌, Bool, true, false, cond, nat_eq, pos, refl, sym, ap, ap₂, ◌∙◌, arith}
 use Rattle.std.specs.Prelude.{nat_lt}
-use Rattle.spec_rational.specs.Rational.{ℚ, 0ℚ, 1ℚ, ◌+ℚ◌, neg_ℚ}
-use Rattle.spec_rational.specs.Sums.{Monomial}
-use Rattle.spec_rational.proofs.Ring.{var, int, ◌⊕◌, minus}
-use Rattle.spec_rational.proofs.Rational.{ring}
-use Rattle.spec_rational.proofs.Sign.{one_not_zero}
+use Rattle.spec_numbers.specs.Rational.{ℚ, 0ℚ, 1ℚ, ◌+ℚ◌, neg_ℚ}
+use Rattle.spec_numbers.specs.Sums.{Monomial}
+use Rattle.spec_numbers.proofs.Ring.{var, int, ◌⊕◌, minus}
+use Rattle.spec_numbers.proofs.RationalLemmas.{ring}
+use Rattle.spec_numbers.proofs.Sign.{one_not_zero}
 use Rattle.spec_linear.specs.declared.Relation.TheVariants.{Eq}
 use Rattle.spec_linear.specs.Form.{Linear, variable_form, constant_form, difference_form, is_zero, in_front, with_product}
 use Rattle.spec_linear.specs.Solution.{Constraint, equal_zero}
 use Rattle.spec_linear.proofs.Values.{is_zero-true}
-use Rattle.spec_lists.proofs.Tests.{nat_eq-apart}
+use Rattle.spec_numbers.proofs.Tests.{nat_eq-apart}
 use Rattle.cq_settle.specs.Steps.{zero_difference}
 
 abbrev pub one_of : ℕ → ℚ → Monomial

@@ -6,13 +6,13 @@ use Rattle.std.proofs.lemmas.Bool.{true≢false}
 use Rattle.std.proofs.lemmas.List.{map-append}
 use Rattle.std.proofs.lemmas.List.Elements.{filter-append}
 use Rattle.spec_linear.specs.Solution.{Constraint}
-use Rattle.spec_lists.proofs.Tests.{one_is}
+use Rattle.spec_numbers.proofs.Tests.{one_is}
 use Rattle.spec_terms.specs.Term.{Var, Number, Name, Compound}
 use Rattle.cq_attr.specs.Attributes.{Attributes, is_numeric}
 use Rattle.cq_frac.specs.declared.VarId.{VarId}
 use Rattle.cq_term.specs.Meaning.{HeapTerm, at}
-use Rattle.cq_walk.specs.Places.{numbers_of}
-use Rattle.cq_world.specs.Contents.{Contents}
+use Rattle.cq_term.specs.Places.{numbers_of}
+use Rattle.cq_settle.specs.Contents.{Contents}
 use Rattle.cq_settle.specs.Steps.{HaveJoined, equation_at, equations_of, numeric_ones, is_image_of, is_the_variable}
 use Rattle.cq_settle.proofs.Joined.{numbers_behind}
 use Rattle.cq_settle.proofs.Closed.{nothing_behind}
@@ -77,7 +77,7 @@ pub of_images : (images : List HeapTerm) (P : ℕ → Type 0) (vs : List ℕ) (v
 of_images images P vs v f g x e = elim (one_is (is_image_of images vs x) (is_image_of images (v ∷ []) x) (sym (image_push images vs v x) ∙ e)) [ inl h ↦ f x h | inr h ↦ g x h ]
 
 variable_of : (x : ℕ) (t : HeapTerm) → (is_the_variable x t || false) ≡ true → t ≡ Var x
-variable_of x (Var w) e = elim (one_is (is_the_variable x (Var w)) false e) [ inl h ↦ ap (λ (y : ℕ). Var y) (Rattle.spec_lists.proofs.Tests.nat_eq-same w x h) | inr h ↦ absurd (true≢false (sym h)) ]
+variable_of x (Var w) e = elim (one_is (is_the_variable x (Var w)) false e) [ inl h ↦ ap (λ (y : ℕ). Var y) (Rattle.spec_numbers.proofs.Tests.nat_eq-same w x h) | inr h ↦ absurd (true≢false (sym h)) ]
 variable_of x (Number q) e = absurd (true≢false (sym e))
 variable_of x (Name a) e = absurd (true≢false (sym e))
 variable_of x (Compound f ts) e = absurd (true≢false (sym e))

@@ -1,19 +1,19 @@
 -- What a term that waits or is told comes to over the list, in the middle of a settling.
 use Rattle.std.proofs.Common.{◌≡◌, ℕ, List, Option, ap, ◌∙◌}
 use Rattle.std.specs.Prelude.{true}
-use Rattle.spec_rational.specs.Rational.{ℚ}
+use Rattle.spec_numbers.specs.Rational.{ℚ}
 use Rattle.spec_linear.specs.Solution.{Fixes}
-use Rattle.spec_lists.specs.Texts.{Text}
+use Rattle.spec_numbers.specs.Texts.{Text}
 use Rattle.spec_terms.specs.Term.{Subst, Var, Occurs, apply}
 use Rattle.spec_terms.proofs.Substitution.{apply-followed_by, occurs_from}
 use Rattle.spec_syntax.specs.Trees.{Tree}
-use Rattle.spec_told.specs.Relations.{lin}
+use Rattle.spec_branch.specs.Relations.{lin}
 use Rattle.spec_branch.specs.Alike.{no_values}
 use Rattle.spec_branch.specs.Branch.{State, Pending}
-use Rattle.spec_stops.specs.Operands.{relation_operands}
+use Rattle.spec_transcript.specs.Operands.{relation_operands}
 use Rattle.cq_term.specs.Meaning.{HeapTerm}
 use Rattle.cq_term.specs.Trees.{tree}
-use Rattle.cq_world.specs.Contents.{Contents}
+use Rattle.cq_settle.specs.Contents.{Contents}
 use Rattle.cq_settle.specs.Underway.{IsTask, IsHere, unified, numeric_then, valued, bindings_now}
 use Rattle.cq_settle.proofs.Bound.{lin_same}
 use Rattle.cq_settle.proofs.Operands.{relation_same, relation_agree}

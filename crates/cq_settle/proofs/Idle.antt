@@ -5,10 +5,10 @@ use Rattle.std.specs.List.{AllZip, list_any, filter_map, cons_option}
 use Rattle.std.proofs.lemmas.Bool.{true≢false}
 use Rattle.std.proofs.lemmas.List.{take_more}
 use Rattle.std.proofs.lemmas.List.Elements.{Contains-get_or, Contains-push_cases, All-nil, All-same}
-use Rattle.spec_rational.specs.Rational.{ℚ}
+use Rattle.spec_numbers.specs.Rational.{ℚ}
 use Rattle.spec_linear.specs.Solution.{Constraint, Solvable, Fixes}
-use Rattle.spec_lists.specs.Texts.{Text}
-use Rattle.spec_lists.proofs.Tests.{nat_eq-same}
+use Rattle.spec_numbers.specs.Texts.{Text}
+use Rattle.spec_numbers.proofs.Tests.{nat_eq-same}
 use Rattle.spec_terms.specs.Term.{Subst}
 use Rattle.spec_terms.specs.Variables.{variables}
 use Rattle.spec_branch.specs.Branch.{State, Pending}
@@ -17,8 +17,8 @@ use Rattle.cq_attr.proofs.Elements.{contains_here, contains_later, contains_case
 use Rattle.cq_frac.specs.declared.VarId.{VarId}
 use Rattle.cq_term.specs.Meaning.{at}
 use Rattle.cq_term.specs.Shown.{IsUnbound}
-use Rattle.cq_walk.specs.Places.{numbers_of}
-use Rattle.cq_world.specs.Contents.{Contents}
+use Rattle.cq_term.specs.Places.{numbers_of}
+use Rattle.cq_settle.specs.Contents.{Contents}
 use Rattle.cq_settle.specs.Called.{IsCalled}
 use Rattle.cq_settle.specs.Settled.{IsKept}
 use Rattle.cq_settle.specs.Steps.{ClashesAt, IsIdle, WaitsOn, WakesAll, equations_of, equation_at, numeric_ones, is_image_of, waits_for_one, wakes, goal_that_wakes}

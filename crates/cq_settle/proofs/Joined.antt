@@ -3,19 +3,19 @@ use Rattle.std.proofs.Common.{◌≡◌, ℕ, List, [], ◌∷◌, ◌++◌, Boo
 use Rattle.std.specs.Prelude.{Contains, nat_eq}
 use Rattle.std.proofs.lemmas.List.{map-append}
 use Rattle.std.proofs.lemmas.List.Elements.{Contains-append_left, Contains-append_right}
-use Rattle.spec_rational.specs.Rational.{ℚ}
+use Rattle.spec_numbers.specs.Rational.{ℚ}
 use Rattle.spec_linear.specs.Solution.{Constraint, Solvable, Fixed}
-use Rattle.spec_inequalities.specs.Certificate.{Refutes}
-use Rattle.spec_inequalities.proofs.Refutation.{refuted}
-use Rattle.spec_lists.proofs.Tests.{nat_eq-same, nat_eq-other}
+use Rattle.spec_linear.specs.Certificate.{Refutes}
+use Rattle.spec_linear.proofs.Refutation.{refuted}
+use Rattle.spec_numbers.proofs.Tests.{nat_eq-same, nat_eq-other}
 use Rattle.cq_attr.proofs.Elements.{contains_here, contains_later, contains_cases, contains_none}
 use Rattle.spec_terms.specs.Term.{Var}
 use Rattle.cq_attr.specs.Attributes.{is_numeric}
 use Rattle.cq_frac.specs.declared.VarId.{VarId}
 use Rattle.cq_term.specs.Meaning.{at}
-use Rattle.cq_world.specs.Contents.{Contents}
+use Rattle.cq_settle.specs.Contents.{Contents}
 use Rattle.cq_tableau.specs.Newly.{AreNewlyFixed}
-use Rattle.cq_walk.specs.Places.{numbers_of}
+use Rattle.cq_term.specs.Places.{numbers_of}
 use Rattle.cq_settle.specs.Steps.{HaveJoined, StopsAt, CannotJoin, BindsValues, JoinsAndBinds}
 use Rattle.cq_settle.proofs.Numeric.{contains_of_has}
 

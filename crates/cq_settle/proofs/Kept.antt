@@ -2,24 +2,24 @@
 use Rattle.std.proofs.Common.{◌≡◌, ◌<◌, ℕ, List, [], ◌∷◌, map, length, Bool, true, false, cond, Option, None, Some, refl, sym, ap, ◌∙◌, subst}
 use Rattle.std.specs.Prelude.{Contains, All, ◌&&◌, not, filter, is_some, if◌then◌else◌}
 use Rattle.std.specs.List.{AllByRecursion, AllZip, filter_map, cons_option}
-use Rattle.spec_rational.specs.Rational.{ℚ}
+use Rattle.spec_numbers.specs.Rational.{ℚ}
 use Rattle.spec_linear.specs.Solution.{Solvable, Fixes}
-use Rattle.spec_lists.specs.Texts.{Text}
+use Rattle.spec_numbers.specs.Texts.{Text}
 use Rattle.spec_terms.specs.Term.{Subst, Var, Number, Name, Compound, apply}
 use Rattle.spec_terms.proofs.Substitution.{apply-followed_by}
 use Rattle.spec_syntax.specs.Trees.{Tree}
-use Rattle.spec_built.specs.Kinds.{is_variable}
+use Rattle.spec_builtins.specs.Kinds.{is_variable}
 use Rattle.spec_branch.specs.Branch.{State, Pending, Asleep, Frozen, Sleeper}
 use Rattle.spec_branch.specs.Settling.{is_bound, frozen_state, still_sleeps, state_of, left_asleep, bindings_after, kept_branch, value_or_variable}
-use Rattle.cq_atoms.specs.Texts.{text_of}
+use Rattle.cq_term.specs.Texts.{text_of}
 use Rattle.cq_attr.specs.Attributes.{Waiting, Attributes}
 use Rattle.cq_attr.specs.declared.susp.Susp.{Susp}
 use Rattle.cq_attr.specs.declared.susp.Susp.TheVariants as susp
 use Rattle.cq_frac.specs.declared.VarId.{VarId}
 use Rattle.cq_term.specs.Meaning.{HeapTerm, at}
 use Rattle.cq_term.specs.Trees.{tree}
-use Rattle.cq_world.specs.Contents.{Contents}
-use Rattle.cq_world.specs.Standing.{goals, constraints, is_goal, is_constraint, IsAwaited, IsSleeper, AreRead, Stands}
+use Rattle.cq_settle.specs.Contents.{Contents}
+use Rattle.cq_settle.specs.Standing.{goals, constraints, is_goal, is_constraint, IsAwaited, IsSleeper, AreRead, Stands}
 use Rattle.cq_settle.specs.Settled.{IsKept, woken_goal, woken_goals}
 use Rattle.cq_settle.specs.Steps.{WakesAll, is_unbound_term, goal_that_wakes, waits_for_one}
 use Rattle.cq_settle.specs.Underway.{IsUnderway, unified, valued, bindings_now}

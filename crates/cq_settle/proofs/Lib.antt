@@ -1,3 +1,4 @@
+pub mod Parts
 pub mod Bound
 mod Ends
 pub mod Operands
@@ -41,3 +42,11 @@ mod Shown
 mod Before
 mod Equated
 mod Begun
+mod Names
+mod RestBeginning
+mod Told
+mod Alone
+mod Pairs
+mod RestBound
+mod RestEquated
+mod Asleep

@@ -2,14 +2,14 @@
 use Rattle.std.proofs.Common.{◌≡◌, ℕ, List, [], ◌∷◌, Bool, true, false, Option, None, Some, refl, sym, ◌∙◌, inl, inr, ◌⊎◌}
 use Rattle.std.specs.Prelude.{Contains, ◌&&◌, is_some, is_none}
 use Rattle.std.specs.List.{list_any}
-use Rattle.spec_rational.specs.Rational.{ℚ}
+use Rattle.spec_numbers.specs.Rational.{ℚ}
 use Rattle.spec_linear.specs.Solution.{Has}
 use Rattle.spec_terms.specs.Term.{Subst, Occurs, apply}
 use Rattle.spec_terms.specs.Variables.{variables}
 use Rattle.spec_terms.proofs.Listed.{occurs_listed, listed_occurs}
-use Rattle.spec_lists.specs.Texts.{Text}
+use Rattle.spec_numbers.specs.Texts.{Text}
 use Rattle.spec_syntax.specs.Trees.{Tree}
-use Rattle.spec_told.specs.Relations.{Waits, lin}
+use Rattle.spec_branch.specs.Relations.{Waits, lin}
 use Rattle.cq_attr.specs.Attributes.{Waiting}
 use Rattle.cq_attr.proofs.Elements.{contains_cases, contains_none}
 use Rattle.cq_settle.specs.Underway.{WaitsOrToDo, IsToDo}

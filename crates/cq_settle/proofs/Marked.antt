@@ -4,13 +4,13 @@ use Rattle.std.specs.Prelude.{Contains, All, ◌==◌, if◌then◌else◌}
 use Rattle.std.specs.List.{list_any}
 use Rattle.std.proofs.lemmas.List.{take_more}
 use Rattle.std.proofs.lemmas.List.Elements.{All-weaker, All-map, All-more, All-contains_itself, Contains-append_left, Contains-append_right}
-use Rattle.spec_lists.proofs.Tests.{nat_eq-same}
+use Rattle.spec_numbers.proofs.Tests.{nat_eq-same}
 use Rattle.spec_terms.specs.Variables.{variables}
 use Rattle.cq_attr.specs.Attributes.{Attributes, is_numeric, marked}
 use Rattle.cq_frac.specs.declared.VarId.{VarId}
 use Rattle.cq_term.specs.Meaning.{HeapTerm, at}
 use Rattle.cq_term.specs.Shown.{IsUnbound}
-use Rattle.cq_walk.specs.Places.{numbers_of}
+use Rattle.cq_term.specs.Places.{numbers_of}
 use Rattle.cq_settle.proofs.Gather.{any_append, or_assoc}
 use Rattle.cq_settle.proofs.Joined.{numbers_behind}
 

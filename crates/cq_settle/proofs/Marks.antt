@@ -5,12 +5,12 @@ use Rattle.std.specs.List.{zip}
 use Rattle.std.proofs.lemmas.List.{take_at, length-append}
 use Rattle.spec_linear.specs.Solution.{Constraint}
 use Rattle.cq_attr.specs.Attributes.{Attributes}
-use Rattle.cq_linear.specs.StoreValue.{kept}
+use Rattle.cq_store.specs.StoreValue.{kept}
 use Rattle.cq_term.specs.HeapValue.{Terms}
 use Rattle.cq_term.proofs.Kept.{get_last}
-use Rattle.cq_world.specs.Contents.{Contents, contents_of}
-use Rattle.cq_world.specs.Worlds.{now_of, saved_of, room_of}
-use Rattle.cq_world.specs.declared.world.World.{World}
+use Rattle.cq_settle.specs.Contents.{Contents, contents_of}
+use Rattle.cq_settle.specs.Worlds.{now_of, saved_of, room_of}
+use Rattle.cq_settle.specs.declared.world.World.{World}
 use Rattle.cq_settle.specs.Settled.{KeepsMarks}
 
 abbrev all_of : ℕ → List Terms → List Attributes → List (List Constraint) → List Contents

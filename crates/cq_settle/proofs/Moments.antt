@@ -1,15 +1,15 @@
 -- A moment with more operations, and with more constraints that may join, shows what it showed.
 use Rattle.std.proofs.Common.{ℕ, List, [], ◌∷◌}
 use Rattle.std.specs.List.{AllByRecursion}
-use Rattle.spec_rational.specs.Rational.{ℚ}
+use Rattle.spec_numbers.specs.Rational.{ℚ}
 use Rattle.spec_linear.specs.Form.{Linear}
 use Rattle.spec_linear.specs.Solution.{Constraint, Has}
 use Rattle.cq_frac.specs.declared.Operation.{Operation}
 use Rattle.cq_frac.specs.declared.Pair.{Pair}
-use Rattle.spec_limits.specs.Asked.{IsAsked, of_member, of_joining, of_question, of_variable, negated, IsInForce, alone, while_joining, while_asked, while_asked_unequal}
-use Rattle.spec_limits.specs.Chains.{IsBlandChain}
-use Rattle.spec_limits.specs.Dictionary.{Quantity}
-use Rattle.spec_limits.specs.Overflow.{Operands, Moment, GoesWithFeasible, IsInUse, beside_feasible, in_answer, IsRow, quantity_row, asked_row, Row, Exchange, Adding, Makes, coefficients, constants, operands, quotient, inverse, product, product_inverse, difference, scaled, added, divided, between, between_constants, OverflowDue}
+use Rattle.spec_simplex.specs.Asked.{IsAsked, of_member, of_joining, of_question, of_variable, negated, IsInForce, alone, while_joining, while_asked, while_asked_unequal}
+use Rattle.spec_simplex.specs.Chains.{IsBlandChain}
+use Rattle.spec_simplex.specs.LimitsDictionary.{Quantity}
+use Rattle.spec_simplex.specs.Overflow.{Operands, Moment, GoesWithFeasible, IsInUse, beside_feasible, in_answer, IsRow, quantity_row, asked_row, Row, Exchange, Adding, Makes, coefficients, constants, operands, quotient, inverse, product, product_inverse, difference, scaled, added, divided, between, between_constants, OverflowDue}
 
 -- each is so where each is such
 pub all_so : {A : Type 0} {P Q : A → Type 0} (xs : List A) → ((x : A) → P x → Q x) → AllByRecursion P xs → AllByRecursion Q xs

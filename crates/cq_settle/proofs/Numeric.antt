@@ -3,8 +3,8 @@ use Rattle.std.proofs.Common.{◌≡◌, ◌<◌, ◌≤◌, ℕ, zero, suc, ◌
 use Rattle.std.specs.Prelude.{Contains, ◌==◌, ◌&&◌, ◌||◌, not, filter}
 use Rattle.std.specs.List.{list_any}
 use Rattle.spec_linear.specs.Solution.{Has}
-use Rattle.spec_lists.specs.Texts.{Text}
-use Rattle.spec_lists.proofs.Tests.{one_is, or_left, or_right, nat_eq-same, nat_eq-self}
+use Rattle.spec_numbers.specs.Texts.{Text}
+use Rattle.spec_numbers.proofs.Tests.{one_is, or_left, or_right, nat_eq-same, nat_eq-self}
 use Rattle.spec_terms.specs.Term.{Subst, Var, Number, Name, Compound, Occurs, apply}
 use Rattle.spec_terms.specs.Variables.{variables, counted_from}
 use Rattle.spec_terms.proofs.Listed.{listed_occurs}

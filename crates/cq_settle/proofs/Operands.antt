@@ -1,15 +1,15 @@
 -- The operations of a term are the same with fixed values bound.
 use Rattle.std.proofs.Common.{◌≡◌, ℕ, List, [], ◌++◌, Option, None, Some, refl, sym, ap, ap₂, ◌∙◌}
-use Rattle.spec_rational.specs.Rational.{ℚ}
-use Rattle.spec_limits.specs.Overflow.{Operands}
+use Rattle.spec_numbers.specs.Rational.{ℚ}
+use Rattle.spec_simplex.specs.Overflow.{Operands}
 use Rattle.cq_frac.specs.declared.Operation.TheVariants.{Difference}
 use Rattle.spec_terms.specs.Term.{Var, Number, Name, Compound, one, more, Occurs, apply}
 use Rattle.spec_terms.proofs.Substitution.{apply_agree}
 use Rattle.spec_syntax.specs.Trees.{Tree}
-use Rattle.spec_told.specs.Expressions.{binary_name}
+use Rattle.spec_branch.specs.Expressions.{binary_name}
 use Rattle.spec_branch.specs.Settling.{value_or_variable}
 use Rattle.spec_branch.specs.Alike.{no_values}
-use Rattle.spec_stops.specs.Operands.{both, binary_operands, expression_operands, relation_operands}
+use Rattle.spec_transcript.specs.Operands.{both, binary_operands, expression_operands, relation_operands}
 use Rattle.cq_settle.specs.Underway.{valued}
 use Rattle.cq_settle.proofs.Bound.{form_same}
 

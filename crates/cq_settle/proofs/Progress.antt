@@ -3,13 +3,13 @@ use Rattle.std.proofs.Common.{◌≡◌, ◌<◌, ◌≤◌, ℕ, List, [], ◌�
 use Rattle.std.specs.Prelude.{Contains, All}
 use Rattle.std.specs.List.{AllByRecursion, AllZip}
 use Rattle.std.proofs.lemmas.List.Elements.{All-weaker, All-head, All-tail, filter-append, Contains-append_left, Contains-append_right}
-use Rattle.spec_rational.specs.Rational.{ℚ}
+use Rattle.spec_numbers.specs.Rational.{ℚ}
 use Rattle.spec_linear.specs.Solution.{Constraint}
-use Rattle.spec_lists.specs.Texts.{Text}
+use Rattle.spec_numbers.specs.Texts.{Text}
 use Rattle.spec_terms.specs.Term.{Subst, Var, Occurs, apply}
 use Rattle.spec_terms.proofs.Substitution.{apply-followed_by, occurs_into}
 use Rattle.spec_syntax.specs.Trees.{Tree}
-use Rattle.spec_told.specs.Relations.{Waits, lin}
+use Rattle.spec_branch.specs.Relations.{Waits, lin}
 use Rattle.spec_branch.specs.Branch.{State, Pending, Sleeper}
 use Rattle.spec_branch.specs.Settling.{value_or_variable}
 use Rattle.cq_attr.specs.Attributes.{Waiting, Attributes, suspended, is_numeric}
@@ -17,9 +17,9 @@ use Rattle.cq_attr.specs.declared.susp.Susp.TheVariants as susp
 use Rattle.cq_frac.specs.declared.VarId.{VarId}
 use Rattle.cq_term.specs.Meaning.{HeapTerm}
 use Rattle.cq_term.specs.Trees.{tree, trees}
-use Rattle.cq_walk.specs.Places.{numbers_of}
-use Rattle.cq_world.specs.Contents.{Contents}
-use Rattle.cq_world.specs.Standing.{IsConstraint, IsSleeper, Stands, AreImages, constraints, goals, is_constraint, is_goal}
+use Rattle.cq_term.specs.Places.{numbers_of}
+use Rattle.cq_settle.specs.Contents.{Contents}
+use Rattle.cq_settle.specs.Standing.{IsConstraint, IsSleeper, Stands, AreImages, constraints, goals, is_constraint, is_goal}
 use Rattle.cq_settle.specs.Steps.{BindsValues, JoinsAndBinds}
 use Rattle.cq_settle.specs.Underway.{IsTask, AreBound, Awaits, IsHere, WaitsOrToDo, unified, numeric_then, valued, bindings_now, state_then}
 use Rattle.cq_settle.proofs.Closed.{nothing_behind}

@@ -1,20 +1,20 @@
 -- Steps of a settling in the definitions: a term moves, and a branch is pruned.
 use Rattle.std.proofs.Common.{◌≡◌, ◌<◌, ℕ, List, [], ◌∷◌, ◌++◌, map, length, Option, Some, refl, sym, ap, ◌∙◌, subst, append_assoc}
 use Rattle.std.specs.Prelude.{IsPermutation}
-use Rattle.spec_rational.specs.Rational.{ℚ}
+use Rattle.spec_numbers.specs.Rational.{ℚ}
 use Rattle.spec_linear.specs.Solution.{Constraint, Solvable, Unsolvable, Fixes}
 use Rattle.spec_linear.proofs.Lists.{unsolvable_more}
-use Rattle.spec_lists.specs.Texts.{Text}
+use Rattle.spec_numbers.specs.Texts.{Text}
 use Rattle.spec_terms.specs.Term.{Subst, Var, Number, Name, Compound, apply, named}
 use Rattle.spec_syntax.specs.Trees.{Tree}
-use Rattle.spec_told.specs.Relations.{lin, row_of}
+use Rattle.spec_branch.specs.Relations.{lin, row_of}
 use Rattle.spec_branch.specs.Branch.{State, Pending}
 use Rattle.spec_branch.specs.Closure.{no_move, move}
 use Rattle.spec_branch.specs.Settling.{Settling, Clash, NoSolution, clash, no_solution, NoClash, is_no_number, binding_equation, newly_bound}
-use Rattle.cq_atoms.specs.Texts.{text_of}
+use Rattle.cq_term.specs.Texts.{text_of}
 use Rattle.cq_frac.specs.declared.VarId.{VarId}
 use Rattle.cq_term.specs.Meaning.{HeapTerm, at}
-use Rattle.cq_world.specs.Contents.{Contents}
+use Rattle.cq_settle.specs.Contents.{Contents}
 use Rattle.cq_settle.specs.Called.{IsCalled}
 use Rattle.cq_settle.specs.Settled.{IsPruned}
 use Rattle.cq_settle.specs.Steps.{ClashesAt, is_neither, StopsAt, CannotJoin}

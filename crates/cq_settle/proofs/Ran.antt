@@ -1,13 +1,13 @@
 -- From the call of a settling to its end.
 use Rattle.std.proofs.Common.{◌≡◌, ℕ, List, [], Option, sym, ◌∙◌, subst}
-use Rattle.spec_rational.specs.Rational.{ℚ}
+use Rattle.spec_numbers.specs.Rational.{ℚ}
 use Rattle.spec_linear.specs.Solution.{Constraint, Solvable, Fixes}
-use Rattle.spec_lists.specs.Texts.{Text}
+use Rattle.spec_numbers.specs.Texts.{Text}
 use Rattle.spec_terms.specs.Term.{Subst}
 use Rattle.spec_branch.specs.Branch.{State, Pending}
 use Rattle.cq_attr.specs.Attributes.{Attributes}
 use Rattle.cq_frac.specs.declared.VarId.{VarId}
-use Rattle.cq_world.specs.Contents.{Contents}
+use Rattle.cq_settle.specs.Contents.{Contents}
 use Rattle.cq_settle.specs.Called.{SomeIsCalled, OfCalls}
 use Rattle.cq_settle.specs.Settled.{IsKept}
 use Rattle.cq_settle.specs.Steps.{WakesAll}

@@ -1,18 +1,18 @@
 -- What stops a settling while a constraint joins.
 use Rattle.std.proofs.Common.{◌≡◌, ℕ, List, [], ◌∷◌, ◌++◌, Option, refl, sym, subst}
 use Rattle.std.specs.Prelude.{flat_map}
-use Rattle.spec_rational.specs.Rational.{ℚ}
+use Rattle.spec_numbers.specs.Rational.{ℚ}
 use Rattle.spec_linear.specs.Solution.{Constraint, Has, Fixes}
-use Rattle.spec_limits.specs.Asked.{IsInForce, alone, NoQuestion}
-use Rattle.spec_limits.specs.Overflow.{Operands, Moment}
-use Rattle.spec_lists.specs.Texts.{Text}
+use Rattle.spec_simplex.specs.Asked.{IsInForce, alone, NoQuestion}
+use Rattle.spec_simplex.specs.Overflow.{Operands, Moment}
+use Rattle.spec_numbers.specs.Texts.{Text}
 use Rattle.spec_terms.specs.Term.{Subst, apply, followed_by}
 use Rattle.spec_branch.specs.Branch.{State, Pending}
-use Rattle.spec_stops.specs.Operands.{relation_operands}
-use Rattle.spec_stops.specs.Settlings.{IsListOf, JoinsIn, IsSettlingMoment}
+use Rattle.spec_transcript.specs.Operands.{relation_operands}
+use Rattle.spec_transcript.specs.Settlings.{IsListOf, JoinsIn, IsSettlingMoment}
 use Rattle.cq_frac.specs.declared.Pair.{Pair}
-use Rattle.cq_linear.specs.StoreValue.{Only, IsCallList, in_force, joined, IsCallMoment}
-use Rattle.cq_linear.specs.StoreValue as store
+use Rattle.cq_store.specs.StoreValue.{Only, IsCallList, in_force, joined, IsCallMoment}
+use Rattle.cq_store.specs.StoreValue as store
 use Rattle.cq_settle.specs.Settled.{MayRefuse, MayTake}
 use Rattle.cq_settle.proofs.Moments.{wider, due_wider, chain_wider, asked_more, in_force_more, all_so}
 

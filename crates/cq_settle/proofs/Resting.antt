@@ -2,20 +2,20 @@
 use Rattle.std.proofs.Common.{◌≡◌, ◌≤◌, ℕ, List, [], ◌∷◌, Bool, true, false, Option, None, Some, refl, sym, ap, ◌∙◌, subst, inl, inr, arith}
 use Rattle.std.specs.Prelude.{if◌then◌else◌, ◌==◌, not}
 use Rattle.std.specs.List.{AllByRecursion}
-use Rattle.spec_rational.specs.Rational.{ℚ}
+use Rattle.spec_numbers.specs.Rational.{ℚ}
 use Rattle.spec_linear.specs.Solution.{Has, Fixed, Fixes, Solvable}
-use Rattle.spec_lists.specs.Texts.{Text}
-use Rattle.spec_lists.proofs.Tests.{nat_eq-same}
+use Rattle.spec_numbers.specs.Texts.{Text}
+use Rattle.spec_numbers.proofs.Tests.{nat_eq-same}
 use Rattle.spec_terms.specs.Term.{Subst, Var, Number, Name, Compound, Occurs, apply}
 use Rattle.spec_terms.proofs.Substitution.{apply-followed_by, occurs_from}
 use Rattle.spec_syntax.specs.Trees.{Tree}
-use Rattle.spec_told.specs.Relations.{Waits, lin}
+use Rattle.spec_branch.specs.Relations.{Waits, lin}
 use Rattle.spec_branch.specs.Branch.{State, Pending, Sleeper}
 use Rattle.spec_branch.specs.Alike.{no_values}
 use Rattle.spec_branch.specs.Settling.{is_the_variable, is_bound, is_no_number, NoClash, fixed_values, value_or_variable, bindings_after, kept_branch, still_sleeps, state_of, left_asleep}
 use Rattle.cq_term.specs.Meaning.{HeapTerm}
-use Rattle.cq_world.specs.Contents.{Contents}
-use Rattle.cq_world.specs.Rest.{IsReadThrough, IsAtRest}
+use Rattle.cq_settle.specs.Contents.{Contents}
+use Rattle.cq_settle.specs.Rest.{IsReadThrough, IsAtRest}
 use Rattle.cq_settle.specs.Underway.{IsUnderway, unified, numeric_then}
 use Rattle.cq_settle.proofs.Bound.{lin_bound}
 use Rattle.cq_settle.proofs.Closed.{all_wait, numeric_inside}

@@ -4,28 +4,28 @@ use Rattle.std.specs.Prelude.{Contains, All, not, ◌&&◌, filter, IsPermutatio
 use Rattle.std.proofs.lemmas.List.Elements.{All-contains, All-map, filter_passes}
 use Rattle.std.proofs.lemmas.List.Sorted.{IsPermutation-map}
 use Rattle.std.proofs.lemmas.Bool.{true≢false}
-use Rattle.spec_rational.specs.Rational.{ℚ}
+use Rattle.spec_numbers.specs.Rational.{ℚ}
 use Rattle.spec_linear.specs.declared.Relation.TheVariants.{Eq}
 use Rattle.spec_linear.specs.Form.{Linear, variable_form, difference_form}
 use Rattle.spec_linear.specs.Solution.{Constraint, Has, Fixes}
-use Rattle.spec_lists.specs.Texts.{Text}
-use Rattle.spec_lists.proofs.Tests.{both_are, nat_eq-self}
+use Rattle.spec_numbers.specs.Texts.{Text}
+use Rattle.spec_numbers.proofs.Tests.{both_are, nat_eq-self}
 use Rattle.spec_terms.specs.Term.{Terms, Subst, Var, Number, Name, Compound, one, more, Occurs, OccursIn, apply, named, named_all}
 use Rattle.spec_terms.specs.Variables.{variables, variables_after, variables_in, counted_from}
 use Rattle.spec_syntax.specs.Trees.{Tree}
 use Rattle.spec_branch.specs.Branch.{State, Pending}
 use Rattle.spec_branch.specs.Settling.{is_bound, is_the_variable, is_no_number, NoClash, newly_bound, binding_equation, image_form}
 use Rattle.spec_branch.specs.Closure.{no_move}
-use Rattle.spec_stops.specs.Settlings.{IsListOf, JoinsIn, of_binding, of_row}
-use Rattle.cq_atoms.specs.Texts.{text_of}
+use Rattle.spec_transcript.specs.Settlings.{IsListOf, JoinsIn, of_binding, of_row}
+use Rattle.cq_term.specs.Texts.{text_of}
 use Rattle.cq_attr.specs.Attributes.{is_numeric}
 use Rattle.cq_attr.proofs.Elements.{contains_here, contains_later}
 use Rattle.cq_frac.specs.declared.Pair.{Pair}
 use Rattle.cq_frac.specs.declared.VarId.{VarId}
 use Rattle.cq_term.specs.Meaning.{HeapTerm, at}
 use Rattle.cq_term.specs.Trees.{tree}
-use Rattle.cq_walk.specs.Places.{numbers_of}
-use Rattle.cq_world.specs.Contents.{Contents}
+use Rattle.cq_term.specs.Places.{numbers_of}
+use Rattle.cq_settle.specs.Contents.{Contents}
 use Rattle.cq_settle.specs.Called.{IsCalled, IsNewlyBound}
 use Rattle.cq_settle.specs.Settled.{IsPruned, MayRefuse, MayTake}
 use Rattle.cq_settle.specs.Steps.{StopsAt, CannotJoin, Refuses, Takes, ClashesAt, is_neither, equation_at, equations_of, numeric_ones, form_of_image}

@@ -1,21 +1,21 @@
 -- What waits reads on as values are bound.
 use Rattle.std.proofs.Common.{◌≡◌, ◌<◌, ℕ, zero, suc, List, [], ◌∷◌, map, length, Option, None, Some, refl, sym, ap, ◌∙◌, subst, arith}
 use Rattle.std.proofs.lemmas.List.{length-map}
-use Rattle.spec_rational.specs.Rational.{ℚ}
+use Rattle.spec_numbers.specs.Rational.{ℚ}
 use Rattle.spec_linear.specs.Solution.{Constraint}
-use Rattle.spec_lists.specs.Texts.{Text}
+use Rattle.spec_numbers.specs.Texts.{Text}
 use Rattle.spec_terms.specs.Term.{Subst, Var, Number, Name, Compound, Occurs, apply, named}
 use Rattle.spec_terms.proofs.Substitution.{occurs_from}
 use Rattle.spec_syntax.specs.Trees.{Tree}
 use Rattle.spec_branch.specs.Branch.{State, Asleep, Frozen, Sleeper}
 use Rattle.spec_branch.specs.Settling.{value_or_variable}
-use Rattle.cq_atoms.specs.Texts.{text_of}
+use Rattle.cq_term.specs.Texts.{text_of}
 use Rattle.cq_attr.specs.Attributes.{Attributes, Waiting}
 use Rattle.cq_frac.specs.declared.VarId.{VarId}
 use Rattle.cq_term.specs.HeapValue.{Terms}
 use Rattle.cq_term.specs.Meaning.{HeapTerm, at}
 use Rattle.cq_term.specs.Trees.{tree}
-use Rattle.cq_world.specs.Standing.{IsConstraint, IsSleeper, AreRead, IsAwaited}
+use Rattle.cq_settle.specs.Standing.{IsConstraint, IsSleeper, AreRead, IsAwaited}
 use Rattle.cq_settle.specs.Steps.{BindsValues}
 use Rattle.cq_settle.specs.Steps as heap
 use Rattle.cq_settle.specs.Underway.{valued, bindings_now}

@@ -1,19 +1,19 @@
 -- A term that joins the list in the middle of a settling, or stops it.
 use Rattle.std.proofs.Common.{◌≡◌, ℕ, List, [], ◌∷◌, ◌++◌, Option, refl, sym, ap, subst, inl, inr, append_assoc}
 use Rattle.std.specs.Prelude.{flat_map}
-use Rattle.spec_rational.specs.Rational.{ℚ}
+use Rattle.spec_numbers.specs.Rational.{ℚ}
 use Rattle.spec_linear.specs.Solution.{Constraint, Has, Solvable, Fixes, false_constraint}
 use Rattle.spec_linear.proofs.Lists.{false_unsolvable}
-use Rattle.spec_limits.specs.Asked.{alone}
-use Rattle.spec_limits.specs.Overflow.{Moment, Operands, settling}
-use Rattle.spec_lists.specs.Texts.{Text}
+use Rattle.spec_simplex.specs.Asked.{alone}
+use Rattle.spec_simplex.specs.Overflow.{Moment, Operands, settling}
+use Rattle.spec_numbers.specs.Texts.{Text}
 use Rattle.spec_terms.specs.Term.{Subst, apply}
 use Rattle.spec_syntax.specs.Trees.{Tree}
-use Rattle.spec_told.specs.Relations.{Is, False, lin, row_of}
+use Rattle.spec_branch.specs.Relations.{Is, False, lin, row_of}
 use Rattle.spec_branch.specs.Branch.{State, Pending}
 use Rattle.spec_branch.specs.Closure.{Moves, no_move, move}
-use Rattle.spec_stops.specs.Operands.{relation_operands}
-use Rattle.spec_stops.specs.Settlings.{IsListOf, JoinsIn, of_term}
+use Rattle.spec_transcript.specs.Operands.{relation_operands}
+use Rattle.spec_transcript.specs.Settlings.{IsListOf, JoinsIn, of_term}
 use Rattle.cq_cexpr.specs.Overflows.{ComesFrom}
 use Rattle.cq_frac.specs.declared.Pair.{Pair}
 use Rattle.cq_settle.specs.Settled.{IsPruned, MayRefuse, MayTake}

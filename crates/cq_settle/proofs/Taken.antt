@@ -4,8 +4,8 @@ use Rattle.std.specs.Prelude.{Contains, filter}
 use Rattle.std.specs.List.{AllByRecursion, AllZip}
 use Rattle.std.proofs.lemmas.List.{map-append, length-append}
 use Rattle.std.proofs.lemmas.List.Elements.{All-contains, filter_passes}
-use Rattle.spec_rational.specs.Rational.{ℚ}
-use Rattle.spec_lists.specs.Texts.{Text}
+use Rattle.spec_numbers.specs.Rational.{ℚ}
+use Rattle.spec_numbers.specs.Texts.{Text}
 use Rattle.spec_terms.specs.Term.{Subst, Occurs, apply}
 use Rattle.spec_syntax.specs.Trees.{Tree}
 use Rattle.spec_branch.specs.Branch.{State, Pending}
@@ -14,8 +14,8 @@ use Rattle.cq_attr.specs.declared.susp.Susp.TheVariants as susp
 use Rattle.cq_attr.proofs.Elements.{contains_cases}
 use Rattle.cq_term.specs.Meaning.{HeapTerm}
 use Rattle.cq_term.specs.Trees.{tree}
-use Rattle.cq_world.specs.Contents.{Contents}
-use Rattle.cq_world.specs.Standing.{IsConstraint, IsSleeper, constraints, goals, is_constraint, is_goal}
+use Rattle.cq_settle.specs.Contents.{Contents}
+use Rattle.cq_settle.specs.Standing.{IsConstraint, IsSleeper, constraints, goals, is_constraint, is_goal}
 use Rattle.cq_settle.specs.Underway.{Awaits, IsHere, WaitsOrToDo, unified, numeric_then, bindings_now}
 use Rattle.cq_settle.proofs.Permuted.{IsOnce, once_without}
 use Rattle.cq_settle.proofs.Unique.{WaitsUnder, found_waits, susp_under, number_in, once_filtered, is_other, others_stay, one_taken}

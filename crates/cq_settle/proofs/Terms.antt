@@ -2,15 +2,15 @@
 use Rattle.std.proofs.Common.{◌≡◌, ℕ, List, [], ◌∷◌, ◌++◌, true, Option, Some, refl, sym, ◌∙◌, subst, inl, inr, append_assoc}
 use Rattle.std.specs.Prelude.{Contains}
 use Rattle.std.proofs.lemmas.List.Elements.{Contains-append_left, Contains-append_right}
-use Rattle.spec_rational.specs.Rational.{ℚ}
+use Rattle.spec_numbers.specs.Rational.{ℚ}
 use Rattle.spec_linear.specs.Solution.{Constraint, Solvable, Fixes}
-use Rattle.spec_lists.specs.Texts.{Text}
+use Rattle.spec_numbers.specs.Texts.{Text}
 use Rattle.spec_terms.specs.Term.{Subst, Occurs, apply}
 use Rattle.spec_syntax.specs.Trees.{Tree}
-use Rattle.spec_told.specs.Relations.{Is, Waits, False, lin}
+use Rattle.spec_branch.specs.Relations.{Is, Waits, False, lin}
 use Rattle.spec_branch.specs.Alike.{no_values}
 use Rattle.spec_branch.specs.Branch.{State, Pending}
-use Rattle.spec_stops.specs.Operands.{relation_operands}
+use Rattle.spec_transcript.specs.Operands.{relation_operands}
 use Rattle.cq_attr.specs.Attributes.{Waiting, Attributes, numbers, find, without, suspended}
 use Rattle.cq_attr.specs.declared.susp.Susp.TheVariants as susp
 use Rattle.cq_attr.proofs.Elements.{contains_cases}
@@ -19,9 +19,9 @@ use Rattle.cq_frac.specs.declared.Pair.{Pair}
 use Rattle.cq_frac.specs.declared.VarId.{VarId}
 use Rattle.cq_term.specs.Meaning.{HeapTerm}
 use Rattle.cq_term.specs.Trees.{tree}
-use Rattle.cq_walk.specs.Places.{numbers_of}
-use Rattle.cq_world.specs.Contents.{Contents}
-use Rattle.cq_world.specs.Standing.{IsConstraint, constraints, is_constraint}
+use Rattle.cq_term.specs.Places.{numbers_of}
+use Rattle.cq_settle.specs.Contents.{Contents}
+use Rattle.cq_settle.specs.Standing.{IsConstraint, constraints, is_constraint}
 use Rattle.cq_settle.specs.Settled.{IsPruned, MayRefuse, MayTake}
 use Rattle.cq_settle.specs.Steps.{JoinsAndBinds, CannotJoin, Refuses, Takes}
 use Rattle.cq_settle.specs.Underway.{IsReached, IsHere, IsUnderway, GoesOn, OfEach, WaitsOrToDo, to_do, unified, numeric_then, bindings_now}

@@ -1,7 +1,7 @@
 -- What waits under a number is one.
 use Rattle.std.proofs.Common.{◌≡◌, ℕ, List, [], ◌∷◌, ◌++◌, Bool, true, false, cond, Some, refl, sym, ap, ◌∙◌, subst, inl, inr, ◌⊎◌, arith}
 use Rattle.std.specs.Prelude.{Contains, filter, not, ◌==◌, if◌then◌else◌}
-use Rattle.spec_lists.proofs.Tests.{nat_eq-same, nat_eq-self, nat_eq-apart}
+use Rattle.spec_numbers.proofs.Tests.{nat_eq-same, nat_eq-self, nat_eq-apart}
 use Rattle.cq_attr.specs.Attributes.{Waiting, Ascends, numbers, find}
 use Rattle.cq_attr.specs.declared.susp.Susp.{Susp}
 use Rattle.cq_attr.proofs.Elements.{contains_here, contains_later, contains_cases, contains_none}

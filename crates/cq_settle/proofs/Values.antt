@@ -1,11 +1,11 @@
 -- Fixed values, and a term under two maps of them.
 use Rattle.std.proofs.Common.{◌≡◌, ℕ, Bool, true, false, Option, None, Some, refl, sym, ap, ◌∙◌}
 use Rattle.std.specs.Prelude.{if◌then◌else◌}
-use Rattle.spec_rational.specs.Rational.{ℚ}
+use Rattle.spec_numbers.specs.Rational.{ℚ}
 use Rattle.spec_terms.specs.Term.{Occurs}
 use Rattle.spec_terms.proofs.Substitution.{apply_agree}
 use Rattle.spec_syntax.specs.Trees.{Tree}
-use Rattle.spec_told.specs.Relations.{lin}
+use Rattle.spec_branch.specs.Relations.{lin}
 use Rattle.spec_branch.specs.Alike.{no_values}
 use Rattle.spec_branch.specs.Settling.{value_or_variable}
 use Rattle.cq_settle.specs.Underway.{valued}

@@ -5,7 +5,7 @@ use Rattle.std.specs.List.{list_any, filter_map, cons_option}
 use Rattle.std.proofs.lemmas.Bool.{true≢false}
 use Rattle.std.specs.Cmp.{both_ways}
 use Rattle.std.proofs.lemmas.List.Elements.{filter_map-append, filter_passes, All-contains, Contains-get_or}
-use Rattle.spec_lists.proofs.Tests.{nat_eq-same, nat_eq-self, nat_eq-apart}
+use Rattle.spec_numbers.proofs.Tests.{nat_eq-same, nat_eq-self, nat_eq-apart}
 use Rattle.cq_attr.specs.Attributes.{Waiting, Attributes, Ascends, numbers, find, IsWokenBy}
 use Rattle.cq_attr.specs.declared.susp.Susp.{Susp}
 use Rattle.cq_attr.proofs.Elements.{contains_here, contains_later, contains_cases, contains_none}

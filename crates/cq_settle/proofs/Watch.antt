@@ -5,7 +5,7 @@ use Rattle.std.specs.List.{AllZip}
 use Rattle.std.proofs.lemmas.List.{map-append}
 use Rattle.std.proofs.lemmas.List.Elements.{All-weaker, All-contains_itself, Contains-append_left, Contains-push_cases}
 use Rattle.spec_terms.specs.Term.{Var}
-use Rattle.spec_lists.proofs.Tests.{nat_eq-self}
+use Rattle.spec_numbers.proofs.Tests.{nat_eq-self}
 use Rattle.cq_attr.specs.Attributes.{Waiting, Attributes, IsWokenBy, numbers, watching_more, watched_more}
 use Rattle.cq_attr.proofs.Elements.{contains_here, contains_cases, contains_none}
 use Rattle.cq_term.specs.Meaning.{HeapTerm, at}

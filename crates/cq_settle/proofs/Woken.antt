@@ -2,18 +2,18 @@
 use Rattle.std.proofs.Common.{◌≡◌, ℕ, List, [], ◌∷◌, Bool, true, false, cond, refl, sym, ap, ◌∙◌, inl, inr}
 use Rattle.std.specs.Prelude.{Contains, ◌&&◌, ◌==◌, not, filter, is_some}
 use Rattle.std.specs.List.{AllZip, list_any}
-use Rattle.spec_lists.specs.Texts.{Text}
-use Rattle.spec_lists.proofs.Tests.{or_left, or_right, nat_eq-self}
+use Rattle.spec_numbers.specs.Texts.{Text}
+use Rattle.spec_numbers.proofs.Tests.{or_left, or_right, nat_eq-self}
 use Rattle.spec_terms.specs.Term.{Var, Number, Name, Compound, named}
 use Rattle.spec_syntax.specs.Trees.{Tree}
-use Rattle.spec_built.specs.Kinds.{is_variable}
+use Rattle.spec_builtins.specs.Kinds.{is_variable}
 use Rattle.spec_branch.specs.Settling.{frozen_state, still_sleeps}
 use Rattle.cq_attr.specs.Attributes.{Waiting}
 use Rattle.cq_attr.specs.declared.susp.Susp.{Susp}
 use Rattle.cq_attr.specs.declared.susp.Susp.TheVariants as susp
 use Rattle.cq_attr.proofs.Elements.{contains_cases}
 use Rattle.cq_term.specs.Meaning.{HeapTerm}
-use Rattle.cq_world.specs.Standing.{is_constraint}
+use Rattle.cq_settle.specs.Standing.{is_constraint}
 use Rattle.cq_settle.specs.Steps.{is_unbound_term, goal_that_wakes, waits_for_one, wakes}
 
 -- ---- filters

@@ -2,7 +2,7 @@
 use Rattle.std.specs.Prelude.{◌≡◌, ◌≢◌, ℕ, ◌<◌, List, map, length, All, Contains, true, false}
 use Rattle.std.specs.List.{AllPairs}
 use Rattle.spec_linear.specs.Solution.{Constraint}
-use Rattle.spec_lists.specs.Texts.{Text}
+use Rattle.spec_numbers.specs.Texts.{Text}
 use Rattle.spec_terms.specs.Term.{Subst, apply, followed_by}
 use Rattle.spec_terms.specs.Unifier.{IsUnifier, read_under}
 use Rattle.spec_branch.specs.Branch.{State, Pending}
@@ -10,10 +10,10 @@ use Rattle.spec_branch.specs.Settling.{is_bound}
 use Rattle.cq_frac.specs.declared.VarId.{VarId}
 use Rattle.cq_term.specs.Trees.{trees}
 use Rattle.cq_attr.specs.Attributes.{WaitsFor}
-use Rattle.cq_walk.specs.Places.{numbers_of}
-use Rattle.cq_world.specs.Contents.{Contents}
-use Rattle.cq_world.specs.Standing.{Stands}
-use Rattle.cq_world.specs.Rest.{IsReadThrough, IsAtRest}
+use Rattle.cq_term.specs.Places.{numbers_of}
+use Rattle.cq_settle.specs.Contents.{Contents}
+use Rattle.cq_settle.specs.Standing.{Stands}
+use Rattle.cq_settle.specs.Rest.{IsReadThrough, IsAtRest}
 
 -- the state with its bindings and the unifier behind them
 abbrev pub bound_state : State → Subst Text → State

@@ -1,4 +1,10 @@
+pub mod Contents
+pub mod Worlds
+pub mod Standing
+pub mod Rest
 pub mod Called
 pub mod Settled
 pub mod Underway
 pub mod Steps
+pub mod Ready
+pub mod Equal

@@ -1,23 +1,23 @@
 -- What settling makes of a world.
 use Rattle.std.specs.Prelude.{◌≡◌, ℕ, ◌<◌, ◌≤◌, List, [], map, length, All, ⊤, Option, None, Some}
 use Rattle.std.specs.List.{filter_map}
-use Rattle.spec_rational.specs.Rational.{ℚ}
+use Rattle.spec_numbers.specs.Rational.{ℚ}
 use Rattle.spec_linear.specs.Solution.{Constraint}
-use Rattle.spec_limits.specs.Overflow.{Moment, OverflowDue}
-use Rattle.spec_limits.specs.Chains.{IsBlandChain}
-use Rattle.spec_lists.specs.Texts.{Text}
+use Rattle.spec_simplex.specs.Overflow.{Moment, OverflowDue}
+use Rattle.spec_simplex.specs.Chains.{IsBlandChain}
+use Rattle.spec_numbers.specs.Texts.{Text}
 use Rattle.spec_terms.specs.Term.{Subst, apply, followed_by}
 use Rattle.spec_syntax.specs.Trees.{Tree}
 use Rattle.spec_branch.specs.Branch.{State, Item, Pending, Sleeper}
 use Rattle.spec_branch.specs.Settling.{SleeperState, Sleeps, Wakes, state_of, bindings_after, kept_branch, Why, SettlesUnified, Kept}
 use Rattle.spec_branch.specs.Settling as outcome
-use Rattle.spec_stops.specs.Settlings.{IsSettlingMoment}
+use Rattle.spec_transcript.specs.Settlings.{IsSettlingMoment}
 use Rattle.cq_frac.specs.declared.Pair.{Pair}
 use Rattle.cq_term.specs.Trees.{tree, trees}
-use Rattle.cq_world.specs.Contents.{Contents}
-use Rattle.cq_world.specs.Worlds.{room_of}
-use Rattle.cq_world.specs.Rest.{IsReadyAs}
-use Rattle.cq_world.specs.declared.world.World.{World}
+use Rattle.cq_settle.specs.Contents.{Contents}
+use Rattle.cq_settle.specs.Worlds.{room_of}
+use Rattle.cq_settle.specs.Rest.{IsReadyAs}
+use Rattle.cq_settle.specs.declared.world.World.{World}
 use Rattle.cq_settle.specs.declared.settling.Settled.{Settled}
 use Rattle.cq_settle.specs.declared.settling.Settled.TheVariants.{Woken, Pruned}
 

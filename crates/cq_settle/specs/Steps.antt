@@ -1,24 +1,24 @@
 -- What the steps of a settling do to a world.
 use Rattle.std.specs.Prelude.{◌≡◌, ◌≢◌, ℕ, ◌<◌, ◌≤◌, List, [], ◌∷◌, ◌++◌, map, filter, length, All, Contains, Bool, true, false, not, ◌&&◌, ◌==◌, if◌then◌else◌, Option, None, Some, is_some}
 use Rattle.std.specs.List.{AllZip, list_any, filter_map, cons_option}
-use Rattle.spec_rational.specs.Rational.{ℚ}
+use Rattle.spec_numbers.specs.Rational.{ℚ}
 use Rattle.spec_linear.specs.declared.Relation.TheVariants.{Eq}
 use Rattle.spec_linear.specs.Form.{Linear, constant_form, variable_form, difference_form}
 use Rattle.spec_linear.specs.Solution.{Constraint, Solvable, Unsolvable, Fixed}
-use Rattle.spec_limits.specs.Asked.{NoQuestion}
+use Rattle.spec_simplex.specs.Asked.{NoQuestion}
 use Rattle.spec_terms.specs.Term.{Subst, Var, Number, apply}
 use Rattle.cq_frac.specs.declared.Pair.{Pair}
 use Rattle.cq_frac.specs.declared.VarId.{VarId}
 use Rattle.cq_term.specs.HeapValue.{Terms}
 use Rattle.cq_term.specs.Meaning.{HeapTerm, at}
 use Rattle.cq_term.specs.Names.{KeepsNames}
-use Rattle.cq_walk.specs.Places.{numbers_of}
+use Rattle.cq_term.specs.Places.{numbers_of}
 use Rattle.cq_attr.specs.Attributes.{Waiting, Attributes, is_numeric, find, without, IsWokenBy}
 use Rattle.cq_attr.specs.declared.susp.Susp.{Susp}
 use Rattle.cq_attr.specs.declared.susp.Susp.TheVariants as susp
-use Rattle.cq_linear.specs.StoreValue.{MayRefuse, MayTake, Only}
-use Rattle.cq_world.specs.Contents.{Contents}
-use Rattle.cq_world.specs.Standing.{constraints}
+use Rattle.cq_store.specs.StoreValue.{MayRefuse, MayTake, Only}
+use Rattle.cq_settle.specs.Contents.{Contents}
+use Rattle.cq_settle.specs.Standing.{constraints}
 
 -- ---- variables that were bound
 

@@ -1,13 +1,13 @@
 -- A world in the middle of its settling.
 use Rattle.std.specs.Prelude.{◌≡◌, ◌⊎◌, ℕ, ◌<◌, ◌≤◌, List, [], ◌∷◌, ◌++◌, map, length, All, Contains, true, Option, Some, IsPermutation}
 use Rattle.std.specs.List.{AllByRecursion, AllZip}
-use Rattle.spec_rational.specs.Rational.{ℚ}
+use Rattle.spec_numbers.specs.Rational.{ℚ}
 use Rattle.spec_linear.specs.Solution.{Constraint, Fixed}
-use Rattle.spec_lists.specs.Texts.{Text}
+use Rattle.spec_numbers.specs.Texts.{Text}
 use Rattle.spec_terms.specs.Term.{Subst, Var, Occurs, apply, followed_by}
 use Rattle.spec_terms.specs.Unifier.{IsUnifier, read_under}
 use Rattle.spec_syntax.specs.Trees.{Tree}
-use Rattle.spec_told.specs.Relations.{Waits, lin}
+use Rattle.spec_branch.specs.Relations.{Waits, lin}
 use Rattle.spec_branch.specs.Branch.{State, Pending, Sleeper}
 use Rattle.spec_branch.specs.Closure.{Moves}
 use Rattle.spec_branch.specs.Settling.{is_bound, binding_equation, newly_bound, numeric_after, value_or_variable, NoClash}
@@ -17,9 +17,9 @@ use Rattle.cq_term.specs.Trees.{tree, trees}
 use Rattle.cq_attr.specs.Attributes.{Waiting}
 use Rattle.cq_attr.specs.declared.susp.Susp.{Susp}
 use Rattle.cq_attr.specs.declared.susp.Susp.TheVariants as susp
-use Rattle.cq_world.specs.Contents.{Contents}
-use Rattle.cq_world.specs.Standing.{Stands, constraints, goals, IsAwaited}
-use Rattle.cq_world.specs.Rest.{IsReadThrough, IsAtRest}
+use Rattle.cq_settle.specs.Contents.{Contents}
+use Rattle.cq_settle.specs.Standing.{Stands, constraints, goals, IsAwaited}
+use Rattle.cq_settle.specs.Rest.{IsReadThrough, IsAtRest}
 use Rattle.cq_settle.specs.Called.{bound_state}
 
 -- ---- what a call may rely on, whatever is being settled

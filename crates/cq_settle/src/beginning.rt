@@ -1,21 +1,21 @@
 // The begin of a settling: equations and rows join, and the variables that they fix are bound.
 
 ghost use Rattle.std.specs.Prelude.{◌≡◌, ℕ, List, [], IfOk, MatchBool};
-ghost use Rattle.spec_lists.specs.Texts.{Text};
+ghost use Rattle.spec_numbers.specs.Texts.{Text};
 ghost use Rattle.cq_frac.specs.declared.Pair.{Pair};
-ghost use Rattle.cq_walk.specs.Places.{numbers_of};
-ghost use Rattle.cq_linear.specs.declared.store.StoreFault.TheVariants.{Overflow, Pivots};
-ghost use Rattle.cq_world.specs.Worlds.{now_of};
+ghost use Rattle.cq_term.specs.Places.{numbers_of};
+ghost use Rattle.cq_store.specs.declared.store.StoreFault.TheVariants.{Overflow, Pivots};
+ghost use Rattle.cq_settle.specs.Worlds.{now_of};
 ghost use Rattle.cq_settle.specs.Called.{SomeIsCalled, OfCalls};
 ghost use Rattle.cq_settle.specs.Settled.{IsPruned, MayRefuse, MayTake, KeepsMarks};
 ghost use Rattle.cq_settle.specs.Underway.{HasStarted};
 
 use crate::closing::store_and_numbers;
 use crate::joining::{bind_fixed, clashes, follow, join_equations, join_rows, make_numeric};
+use crate::world::World;
 use cq_form::Constraint;
-use cq_linear::store::StoreFault;
+use cq_store::store::StoreFault;
 use cq_term::{Newly, TermId};
-use cq_world::World;
 
 /// The equations of variables that were bound and the rows join, and the numeric variables that are fixed are bound. False
 /// where a numeric variable is to be an atom or a compound, or where the list has no solution.

@@ -1,27 +1,27 @@
 // The closure: terms join as they become linear, until none can; and the goals that wake.
 
 ghost use Rattle.std.specs.Prelude.{◌≡◌, ◌≢◌, ℕ, ◌<◌, ◌≤◌, List, [], ◌∷◌, ◌++◌, length, drop, All, Contains, Option, ⊤, IfOk, OnOk, MatchBool};
-ghost use Rattle.spec_rational.specs.Rational.{ℚ};
+ghost use Rattle.spec_numbers.specs.Rational.{ℚ};
 ghost use Rattle.spec_linear.specs.Solution.{Solvable, Fixes};
 ghost use Rattle.cq_frac.specs.declared.Pair.{Pair};
 ghost use Rattle.cq_term.specs.Meaning.{at};
-ghost use Rattle.cq_walk.specs.Places.{numbers_of};
+ghost use Rattle.cq_term.specs.Places.{numbers_of};
 ghost use Rattle.cq_attr.specs.Attributes.{numbers, Ascends};
-ghost use Rattle.cq_linear.specs.declared.store.StoreFault.TheVariants.{Overflow, Pivots};
-ghost use Rattle.cq_world.specs.Worlds.{now_of};
+ghost use Rattle.cq_store.specs.declared.store.StoreFault.TheVariants.{Overflow, Pivots};
+ghost use Rattle.cq_settle.specs.Worlds.{now_of};
 ghost use Rattle.cq_settle.specs.Settled.{KeepsMarks, IsPruned, MayRefuse, MayTake};
 ghost use Rattle.cq_settle.specs.Underway.{IsLive, SomeIsUnderway, GoesOn, OfEach, to_do};
 ghost use Rattle.cq_settle.specs.Steps.{CannotJoin, Refuses, Takes, JoinsAndBinds, HasFewer, WakesOne, WakesAll, is_unbound_term};
 
 use crate::joining::bind_fixed;
-use cq_atoms::Atoms;
+use crate::world::World;
 use cq_attr::{Attrs, Susp, SuspNo};
 use cq_cexpr::{Lin, linearise};
 use cq_form::Constraint;
 use cq_frac::VarId;
-use cq_linear::store::{StoreFault, Told};
+use cq_store::store::{StoreFault, Told};
+use cq_term::atoms::Atoms;
 use cq_term::{Heap, Newly, TermId, View};
-use cq_world::World;
 use std::alloc::AllocError;
 
 /// The told list has a solution and fixes values, and the numbers of what waits ascend. This does nothing but prove it.

@@ -2,7 +2,7 @@
 
 ghost use Rattle.std.specs.Prelude.{◌≡◌, ◌↔◌, ℕ, ◌<◌, ◌≤◌, ◌||◌, ◌==◌, [], ◌∷◌, ◌++◌, length, All, Any, Contains, true, Option, Some, IsTrue, IfOk, OnOk, MatchBool};
 ghost use Rattle.std.specs.List.{list_any};
-ghost use Rattle.spec_rational.specs.Rational.{ℚ};
+ghost use Rattle.spec_numbers.specs.Rational.{ℚ};
 ghost use Rattle.spec_linear.specs.Form.{variable_form, constant_form};
 ghost use Rattle.spec_linear.specs.Solution.{Fixed};
 ghost use Rattle.spec_terms.specs.Variables.{variables};
@@ -10,20 +10,20 @@ ghost use Rattle.cq_frac.specs.declared.Pair.{Pair};
 ghost use Rattle.cq_term.specs.Meaning.{at};
 ghost use Rattle.cq_term.specs.Shown.{IsUnbound};
 ghost use Rattle.spec_terms.specs.Term.{Var};
-ghost use Rattle.cq_walk.specs.Places.{numbers_of};
+ghost use Rattle.cq_term.specs.Places.{numbers_of};
 ghost use Rattle.cq_attr.specs.Attributes.{is_numeric, numbers};
-ghost use Rattle.cq_linear.specs.declared.store.StoreFault.TheVariants.{Overflow, Pivots};
-ghost use Rattle.cq_world.specs.Worlds.{now_of};
+ghost use Rattle.cq_store.specs.declared.store.StoreFault.TheVariants.{Overflow, Pivots};
+ghost use Rattle.cq_settle.specs.Worlds.{now_of};
 ghost use Rattle.cq_settle.specs.Settled.{KeepsMarks};
 ghost use Rattle.cq_settle.specs.Steps.{is_neither, ClashesAt, AreThere, AreBoundThere, Follows, AllWatch, zero_difference, equation_at, equations_of, numeric_ones, HaveJoined, StopsAt, CannotJoin, Refuses, Takes, is_image_of, BindsValues};
 
+use crate::world::World;
 use cq_attr::{Attrs, SuspNo};
 use cq_form::{Constraint, Form};
 use cq_frac::{Frac, VarId};
-use cq_linear::store::{Store, StoreFault, Told};
+use cq_store::store::{Store, StoreFault, Told};
 use cq_term::{Heap, Newly, TermId, View};
 use cq_unify::vars_of;
-use cq_world::World;
 use spec_linear::Relation;
 use std::alloc::{AllocError, Global};
 

@@ -4,6 +4,8 @@
 mod beginning;
 mod closing;
 mod joining;
+pub mod rest;
 mod settling;
+pub mod world;
 
 pub use settling::{Settled, Work, settle};

@@ -2,20 +2,20 @@
 
 ghost use Rattle.std.specs.Prelude.{◌≡◌, ℕ, [], IfOk, IsOk, OnErr, IsTrue, true};
 ghost use Rattle.cq_frac.specs.declared.Pair.{Pair};
-ghost use Rattle.cq_linear.specs.declared.store.StoreFault.TheVariants.{Overflow, Pivots};
-ghost use Rattle.cq_world.specs.Worlds.{now_of};
+ghost use Rattle.cq_store.specs.declared.store.StoreFault.TheVariants.{Overflow, Pivots};
+ghost use Rattle.cq_settle.specs.Worlds.{now_of};
 ghost use Rattle.cq_settle.specs.Called.{SomeIsCalled, OfCalls};
 ghost use Rattle.cq_settle.specs.Steps.{IsIdle};
 ghost use Rattle.cq_settle.specs.Settled.{IfWoken, IfPruned, IsKept, IsPruned, MayRefuse, MayTake, KeepsMarks};
 
 use crate::beginning::begin;
 use crate::closing::{close, join_told, store_and_numbers, wake};
-use cq_atoms::Atoms;
+use crate::world::World;
 use cq_form::Constraint;
-use cq_linear::store::StoreFault;
+use cq_store::store::StoreFault;
+use cq_term::atoms::Atoms;
 use cq_term::{Newly, TermId};
 use cq_trail::Undo;
-use cq_world::World;
 use std::alloc::AllocError;
 
 /// What is still to be done: variables that were bound, constraints as terms, and linear ones.

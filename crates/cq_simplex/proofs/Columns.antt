@@ -1,17 +1,17 @@
 -- The roles' dictionary is one of the simplex method, and what satisfies it meets the rows where dropped columns are zero.
 use Rattle.std.proofs.Common.{◌≡◌, ℕ, zero, suc, ◌+◌, ◌<◌, List, [], ◌∷◌, length, Bool, true, false, pos, refl, ap, ap₂, sym, subst, ◌∙◌, inl, inr}
-use Rattle.spec_rational.specs.Rational.{ℚ, 0ℚ, ◌+ℚ◌, ◌*ℚ◌}
-use Rattle.spec_rational.proofs.Ring.{var, int, ◌⊕◌, ◌⊗◌}
-use Rattle.spec_rational.proofs.Rational.{ring}
+use Rattle.spec_numbers.specs.Rational.{ℚ, 0ℚ, ◌+ℚ◌, ◌*ℚ◌}
+use Rattle.spec_numbers.proofs.Ring.{var, int, ◌⊕◌, ◌⊗◌}
+use Rattle.spec_numbers.proofs.RationalLemmas.{ring}
 use Rattle.spec_simplex.specs.Dictionary.{IsDictionary, Satisfies, sum_below, pick}
 use Rattle.spec_simplex.proofs.Sums.{sum_only}
 use Rattle.spec_simplex.proofs.Solutions.{pick_true, pick_false, true_not_false}
-use Rattle.cq_row.specs.declared.Entry.{Entry}
-use Rattle.cq_row.specs.Row.{Row}
-use Rattle.cq_row.specs.Rows.{sum_at, unit, Has, IsRowFrom}
-use Rattle.cq_row.specs.Numbers.{right_side}
-use Rattle.cq_row.proofs.Units.{unit_self, unit_other, no_entry}
-use Rattle.cq_row.proofs.Shifts.{passes}
+use Rattle.cq_frac.specs.declared.row.Entry.{Entry}
+use Rattle.cq_frac.specs.Row.{Row}
+use Rattle.cq_frac.specs.Rows.{sum_at, unit, Has, IsRowFrom}
+use Rattle.cq_frac.specs.Numbers.{right_side}
+use Rattle.cq_frac.proofs.Units.{unit_self, unit_other, no_entry}
+use Rattle.cq_frac.proofs.Shifts.{passes}
 use Rattle.cq_dict.specs.declared.table.Role.{Role}
 use Rattle.cq_dict.specs.declared.table.Role.TheVariants.{Live, Dropped, Basic}
 use Rattle.cq_dict.specs.Roles.{IsAt, IsRow, AreOverColumns, is_live, is_dropped, role_at, row_role, factor_in, is_row, constant_at, factor_at}

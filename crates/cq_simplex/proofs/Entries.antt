@@ -1,15 +1,15 @@
 -- The columns of a row, in order: which are free, and which raises it first.
 use Rattle.std.proofs.Common.{◌≡◌, ℕ, zero, suc, ◌+◌, ◌<◌, ◌≤◌, List, [], ◌∷◌, ◌++◌, length, get_or, take, Bool, true, false, arith, refl, ap, sym, subst, ◌∙◌, ◌⊎◌, inl, inr}
 use Rattle.std.proofs.lemmas.List.{take_more}
-use Rattle.spec_rational.specs.Rational.{0ℚ, neg_ℚ, IsPositive}
-use Rattle.spec_rational.proofs.Sign.{not_pos_zero}
+use Rattle.spec_numbers.specs.Rational.{0ℚ, neg_ℚ, IsPositive}
+use Rattle.spec_numbers.proofs.Sign.{not_pos_zero}
 use Rattle.spec_simplex.specs.Rule.{Raises, Enters, IsFree}
-use Rattle.cq_row.specs.declared.Entry.{Entry}
-use Rattle.cq_row.specs.Row.{Row}
-use Rattle.cq_row.specs.Rows.{Has, Lacks, IsRowFrom, negated}
-use Rattle.cq_row.proofs.Units.{at_unit, no_entry, has_least}
-use Rattle.cq_row.proofs.Steps.{has_end}
-use Rattle.cq_row.proofs.Shifts.{entry_not_zero}
+use Rattle.cq_frac.specs.declared.row.Entry.{Entry}
+use Rattle.cq_frac.specs.Row.{Row}
+use Rattle.cq_frac.specs.Rows.{Has, Lacks, IsRowFrom, negated}
+use Rattle.cq_frac.proofs.Units.{at_unit, no_entry, has_least}
+use Rattle.cq_frac.proofs.Steps.{has_end}
+use Rattle.cq_frac.proofs.Shifts.{entry_not_zero}
 use Rattle.cq_dict.specs.declared.table.Role.{Role}
 use Rattle.cq_dict.specs.declared.table.Role.TheVariants.{Live, Basic}
 use Rattle.cq_dict.specs.Roles.{IsAt, AreOverColumns, HasEntry, is_live, is_restricted, is_row, factor_at}

@@ -1,6 +1,6 @@
 -- A dictionary whose rows are looked at one by one.
 use Rattle.std.proofs.Common.{◌≡◌, ℕ, ◌+◌, ◌<◌, ◌≤◌, List, length, Bool, true, false, arith, ap, sym, subst, ◌⊎◌, inl, inr}
-use Rattle.spec_rational.specs.Rational.{0ℚ, IsNotNegative}
+use Rattle.spec_numbers.specs.Rational.{0ℚ, IsNotNegative}
 use Rattle.spec_simplex.specs.Dictionary.{Dictionary, IsFeasible}
 use Rattle.cq_dict.specs.declared.table.Role.{Role}
 use Rattle.cq_dict.specs.declared.table.Role.TheVariants.{Live, Dropped}

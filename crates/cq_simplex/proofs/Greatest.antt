@@ -1,20 +1,20 @@
 -- What is found in the last dictionary, as an answer about the first.
 use Rattle.std.proofs.Common.{◌≡◌, ℕ, ◌≤◌, ◌^◌, List, [], ◌∷◌, length, Bool, true, false, pos, arith, refl, ap, ap₂, sym, subst, ◌∙◌, inl, inr}
-use Rattle.spec_rational.specs.Rational.{ℚ, 0ℚ, ◌+ℚ◌, ◌-ℚ◌, neg_ℚ, IsPositive, IsNotNegative, ◌≤ℚ◌, ◌<ℚ◌}
-use Rattle.spec_rational.proofs.Ring.{var, int, ◌⊕◌, minus}
-use Rattle.spec_rational.proofs.Rational.{ring}
-use Rattle.spec_rational.proofs.Sign.{nonneg_zero, Sign, is_zero, is_pos, is_neg, sign}
+use Rattle.spec_numbers.specs.Rational.{ℚ, 0ℚ, ◌+ℚ◌, ◌-ℚ◌, neg_ℚ, IsPositive, IsNotNegative, ◌≤ℚ◌, ◌<ℚ◌}
+use Rattle.spec_numbers.proofs.Ring.{var, int, ◌⊕◌, minus}
+use Rattle.spec_numbers.proofs.RationalLemmas.{ring}
+use Rattle.spec_numbers.proofs.Sign.{nonneg_zero, Sign, is_zero, is_pos, is_neg, sign}
 use Rattle.spec_simplex.specs.Dictionary.{Dictionary, IsDictionary, Satisfies, Obeys, IsFeasible, Exceeds, basic_solution, pick}
 use Rattle.spec_simplex.specs.Dictionary as of_spec
 use Rattle.spec_simplex.specs.Rule.{IsOptimal}
 use Rattle.spec_simplex.proofs.Solutions.{pick_true, pick_false, basic_satisfies}
 use Rattle.spec_simplex.proofs.Ends.{greatest_value, unlimited_value, free_value, basic_obeys}
 use Rattle.spec_simplex.proofs.Lengths.{chain_short}
-use Rattle.cq_row.specs.declared.Entry.{Entry}
-use Rattle.cq_row.specs.Row.{Row}
-use Rattle.cq_row.specs.Rows.{sum_at, Has, negated}
-use Rattle.cq_row.proofs.Units.{sum_at-negated}
-use Rattle.cq_row.proofs.Shifts.{entry_not_zero}
+use Rattle.cq_frac.specs.declared.row.Entry.{Entry}
+use Rattle.cq_frac.specs.Row.{Row}
+use Rattle.cq_frac.specs.Rows.{sum_at, Has, negated}
+use Rattle.cq_frac.proofs.Units.{sum_at-negated}
+use Rattle.cq_frac.proofs.Shifts.{entry_not_zero}
 use Rattle.cq_dict.specs.declared.table.Role.{Role}
 use Rattle.cq_dict.specs.declared.table.Role.TheVariants.{Basic}
 use Rattle.cq_dict.specs.Roles.{IsAt, is_live, is_dropped, is_restricted, constant_at, is_row}

@@ -8,3 +8,5 @@ pub mod Steps
 pub mod Greatest
 pub mod Going
 pub mod Feasibility
+pub mod ClimbRising
+pub mod Climbing

@@ -1,12 +1,12 @@
 -- The ratio test: which rows limit a column, and the first of them.
 use Rattle.std.proofs.Common.{◌≡◌, ℕ, ◌≤◌, length, List, [], ◌∷◌, Bool, true, pos, arith, refl, ap, ap₂, sym, subst, ◌∙◌, ◌⊎◌, inl, inr, Option, Some, None}
 use Rattle.std.specs.Prelude.{MatchOption, slice_get}
-use Rattle.spec_rational.specs.Rational.{ℚ, 0ℚ, ◌*ℚ◌, ◌/ℚ◌, neg_ℚ, inv_ℚ, IsPositive, IsNotNegative, ◌≤ℚ◌, ◌<ℚ◌}
-use Rattle.spec_rational.proofs.Ring.{var, int, ◌⊕◌, ◌⊗◌, minus}
-use Rattle.spec_rational.proofs.Rational.{ring}
-use Rattle.spec_rational.proofs.Sign.{not_pos_zero, not_both, times_inverse}
-use Rattle.spec_rational.proofs.Order.{le_refl, lt_to_le, lt_trans, lt_irrefl, cmp_ℚ-matches}
-use Rattle.spec_rational.specs.Order.{cmp_ℚ}
+use Rattle.spec_numbers.specs.Rational.{ℚ, 0ℚ, ◌*ℚ◌, ◌/ℚ◌, neg_ℚ, inv_ℚ, IsPositive, IsNotNegative, ◌≤ℚ◌, ◌<ℚ◌}
+use Rattle.spec_numbers.proofs.Ring.{var, int, ◌⊕◌, ◌⊗◌, minus}
+use Rattle.spec_numbers.proofs.RationalLemmas.{ring}
+use Rattle.spec_numbers.proofs.Sign.{not_pos_zero, not_both, times_inverse}
+use Rattle.spec_numbers.proofs.Order.{le_refl, lt_to_le, lt_trans, lt_irrefl, cmp_ℚ-matches}
+use Rattle.spec_numbers.specs.Order.{cmp_ℚ}
 use Rattle.std.specs.declared.cmp.Ordering.{Ordering}
 use Rattle.std.specs.declared.cmp.Ordering.TheVariants.{Less, Equal, Greater}
 use Rattle.std.specs.Ordering.{MatchOrdering}
@@ -14,11 +14,11 @@ use Rattle.spec_simplex.specs.Rule.{Limits, Leaves, ratio}
 use Rattle.cq_frac.specs.declared.Operation.TheVariants.{Quotient}
 use Rattle.cq_frac.specs.declared.Pair.{Pair}
 use Rattle.cq_frac.specs.Refused.{Tells}
-use Rattle.cq_row.specs.Row.{Row}
-use Rattle.cq_row.specs.Rows.{Has, Lacks}
-use Rattle.cq_row.specs.Numbers.{at_constant, constant_number}
-use Rattle.cq_row.proofs.Units.{at_unit, no_entry}
-use Rattle.cq_row.proofs.Shifts.{entry_not_zero}
+use Rattle.cq_frac.specs.Row.{Row}
+use Rattle.cq_frac.specs.Rows.{Has, Lacks}
+use Rattle.cq_frac.specs.Numbers.{at_constant, constant_number}
+use Rattle.cq_frac.proofs.Units.{at_unit, no_entry}
+use Rattle.cq_frac.proofs.Shifts.{entry_not_zero}
 use Rattle.cq_dict.specs.declared.table.Role.{Role}
 use Rattle.cq_dict.specs.declared.table.Role.TheVariants.{Live, Dropped, Basic}
 use Rattle.cq_dict.specs.Roles.{IsAt, AreOverColumns, HasEntry, PivotPair, pivot_quotient, is_live, is_restricted, role_at, row_role, factor_at}

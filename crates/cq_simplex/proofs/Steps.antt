@@ -1,9 +1,9 @@
 -- One exchange more: what was reached goes on.
 use Rattle.std.proofs.Common.{◌≡◌, ℕ, suc, ◌+◌, List, [], length, Bool, true, pos, arith, refl, ap, sym, subst, ◌∙◌}
-use Rattle.spec_rational.specs.Rational.{ℚ, neg_ℚ, IsPositive}
-use Rattle.spec_rational.proofs.Ring.{int, minus}
-use Rattle.spec_rational.proofs.Rational.{ring}
-use Rattle.spec_rational.proofs.Sign.{not_pos_zero, not_both, pos_nonneg}
+use Rattle.spec_numbers.specs.Rational.{ℚ, neg_ℚ, IsPositive}
+use Rattle.spec_numbers.proofs.Ring.{int, minus}
+use Rattle.spec_numbers.proofs.RationalLemmas.{ring}
+use Rattle.spec_numbers.proofs.Sign.{not_pos_zero, not_both, pos_nonneg}
 use Rattle.spec_simplex.specs.Dictionary.{IsDictionary, Satisfies, AreEquivalent, IsFeasible}
 use Rattle.spec_simplex.specs.Rule.{IsDue, Exchanged, Chain}
 use Rattle.spec_simplex.proofs.Solutions.{writes, alike_itself, true_not_false}

@@ -2,9 +2,9 @@
 use Rattle.std.proofs.Common.{◌≡◌, ℕ, List, Bool, true, false, [], ◌∷◌, pos, refl, subst, ◌↔◌, IsTrue}
 use Rattle.std.specs.Prelude.{MatchBool}
 use Rattle.std.specs.Bool.{OnFalse}
-use Rattle.spec_rational.specs.Rational.{ℚ, 0ℚ, neg_ℚ, IsPositive, IsNotNegative, ◌≤ℚ◌}
-use Rattle.spec_rational.proofs.Ring.{var, int, ◌⊕◌, minus}
-use Rattle.spec_rational.proofs.Rational.{ring}
+use Rattle.spec_numbers.specs.Rational.{ℚ, 0ℚ, neg_ℚ, IsPositive, IsNotNegative, ◌≤ℚ◌}
+use Rattle.spec_numbers.proofs.Ring.{var, int, ◌⊕◌, minus}
+use Rattle.spec_numbers.proofs.RationalLemmas.{ring}
 use Rattle.spec_simplex.specs.Rule.{Raises, Enters, IsOptimal}
 use Rattle.cq_frac.specs.declared.Pair.{Pair}
 use Rattle.cq_dict.specs.declared.table.Role.{Role}

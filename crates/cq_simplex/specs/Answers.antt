@@ -1,15 +1,15 @@
 -- What an answer says of the asked row: of the dictionary at the call, and of the one in which it was found.
 use Rattle.std.specs.Prelude.{◌≡◌, ◌⊎◌, ℕ, ◌≤◌, List, Bool, true}
-use Rattle.spec_rational.specs.Rational.{ℚ, 0ℚ, ◌-ℚ◌, ◌≤ℚ◌, ◌<ℚ◌, IsPositive}
+use Rattle.spec_numbers.specs.Rational.{ℚ, 0ℚ, ◌-ℚ◌, ◌≤ℚ◌, ◌<ℚ◌, IsPositive}
 use Rattle.spec_simplex.specs.Dictionary.{Obeys, basic_solution}
 use Rattle.spec_simplex.specs.Rule.{IsDue, Enters, Limits, IsUnlimited, IsFree}
 use Rattle.cq_frac.specs.declared.Pair.{Pair}
 use Rattle.cq_frac.specs.declared.Refusal.{Refusal}
 use Rattle.cq_frac.specs.declared.Refusal.TheVariants as of_refusal
 use Rattle.cq_frac.specs.Refused.{IsRefused}
-use Rattle.cq_row.specs.declared.Entry.{Entry}
-use Rattle.cq_row.specs.Row.{Row}
-use Rattle.cq_row.specs.Rows.{sum_at, Has, negated}
+use Rattle.cq_frac.specs.declared.row.Entry.{Entry}
+use Rattle.cq_frac.specs.Row.{Row}
+use Rattle.cq_frac.specs.Rows.{sum_at, Has, negated}
 use Rattle.cq_dict.specs.declared.table.Role.{Role}
 use Rattle.cq_dict.specs.declared.table.Role.TheVariants.{Basic}
 use Rattle.cq_dict.specs.Roles.{IsAt, IsMet, PivotPair, is_live, is_dropped, is_restricted, constant_at}

@@ -1,6 +1,6 @@
 -- What a look at one row tells of a dictionary's being feasible.
 use Rattle.std.specs.Prelude.{◌≡◌, ℕ, Bool, true, false}
-use Rattle.spec_rational.specs.Rational.{0ℚ, IsNotNegative}
+use Rattle.spec_numbers.specs.Rational.{0ℚ, IsNotNegative}
 use Rattle.spec_simplex.specs.Dictionary.{Dictionary}
 
 -- the row q, if it is a restricted one, has a constant not below zero, and no entry in a column that is not restricted

@@ -1,12 +1,12 @@
 -- What is found in one dictionary: an answer, or the exchange that is due.
 use Rattle.std.specs.Prelude.{◌≡◌, ◌⊎◌, ℕ, ◌≤◌, List, Bool, true, false, Option, Some, None, MatchOption}
-use Rattle.spec_rational.specs.Rational.{ℚ, 0ℚ, IsPositive, ◌<ℚ◌}
+use Rattle.spec_numbers.specs.Rational.{ℚ, 0ℚ, IsPositive, ◌<ℚ◌}
 use Rattle.spec_simplex.specs.Dictionary.{Dictionary}
 use Rattle.spec_simplex.specs.Rule.{Raises, Enters, Limits, Leaves, IsDue, IsOptimal, IsUnlimited, IsFree, ratio}
 use Rattle.cq_frac.specs.declared.Pair.{Pair}
 use Rattle.cq_frac.specs.Refused.{IsRefused}
-use Rattle.cq_row.specs.Row.{Row}
-use Rattle.cq_row.specs.Rows.{negated}
+use Rattle.cq_frac.specs.Row.{Row}
+use Rattle.cq_frac.specs.Rows.{negated}
 use Rattle.cq_dict.specs.declared.table.Role.{Role}
 use Rattle.cq_dict.specs.declared.table.Role.TheVariants.{Basic}
 use Rattle.cq_dict.specs.Roles.{IsAt, PivotPair, is_restricted, constant_at, is_live, factor_at}

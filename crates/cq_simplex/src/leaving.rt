@@ -6,8 +6,8 @@ ghost use Rattle.cq_dict.specs.Roles.{AreOverColumns, is_live};
 ghost use Rattle.cq_simplex.specs.Turns.{IsRatio, IsLeaving, IsFirstOf, IsRefusedRatio, IsRefusedSome};
 
 use cq_dict::dict::{Col, Dict};
+use cq_frac::row::entry_at;
 use cq_frac::{Frac, Pair, quotient};
-use cq_row::entry_at;
 use std::cmp::Ordering;
 
 /// A row that limits the column, and the column's value there.

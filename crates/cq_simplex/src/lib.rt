@@ -2,6 +2,7 @@
 //! Dantzig (1947) with Bland's rule (1977), by which it ends.
 #![tactic(auto)]
 
+pub mod climb;
 pub mod leaving;
 pub mod rising;
 mod turn;
@@ -16,8 +17,8 @@ ghost use Rattle.cq_simplex.specs.Answers.{IsAnswer, IsWithin, AreSpent, IsOverf
 
 use crate::turn::{Turn, next_turn};
 use cq_dict::dict::{Col, Dict};
+use cq_frac::row::Entry;
 use cq_frac::{Frac, Pair, Refusal};
-use cq_row::Entry;
 use std::alloc::{AllocError, Global};
 use thiserror::Error;
 

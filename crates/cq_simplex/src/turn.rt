@@ -1,7 +1,7 @@
 //! What is to be done in one dictionary: an answer is there, or an exchange is due.
 
 ghost use Rattle.std.specs.Prelude.{◌≡◌, ℕ, IfOk, MatchBool};
-ghost use Rattle.spec_rational.specs.Rational.{IsPositive};
+ghost use Rattle.spec_numbers.specs.Rational.{IsPositive};
 ghost use Rattle.cq_frac.specs.declared.Pair.{Pair};
 ghost use Rattle.cq_dict.specs.Roles.{IsRow, AreOverColumns};
 ghost use Rattle.cq_simplex.specs.declared.Aim.TheVariants.{Positive};
@@ -14,7 +14,7 @@ use crate::rising::{entering, free_column};
 use crate::{Aim, Max, SimplexFault};
 use cq_dict::dict::{Col, Dict};
 use cq_frac::Frac;
-use cq_row::opposed;
+use cq_frac::row::opposed;
 use std::alloc::Global;
 
 impl Aim {

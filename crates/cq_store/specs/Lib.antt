@@ -1,9 +1,9 @@
-pub mod Answers
-pub mod Contents
-pub mod Describes
+pub mod StoreValue
 pub mod Entered
-pub mod Entering
 pub mod Faults
-pub mod Marked
-pub mod Numbered
-pub mod Told
+pub mod Held
+pub mod Questions
+pub mod Fallen
+pub mod Alone
+pub mod Equated
+pub mod Enough

@@ -1,9 +1,11 @@
-//! A store of linear equations over the rationals, in solved form.
-//!
-//! Each told equation is put into a dictionary by Gauss-Jordan elimination: its row is exchanged with the first free
-//! variable in it, and its own quantity, which is zero in every solution, is dropped (Holzbaur 1995).
+//! The store of linear constraints of all relations.
 #![tactic(auto)]
 
-mod entering;
+pub mod asking;
+pub mod budgets;
+pub mod entering;
+pub mod equating;
+pub mod falling;
+pub mod reaching;
+pub mod solving;
 pub mod store;
-pub mod table;

@@ -3,33 +3,33 @@ use Rattle.std.proofs.Common.{◌≡◌, ℕ, suc, ◌+◌, ◌<◌, List, [], �
 use Rattle.std.specs.Prelude.{slice_get, IsSomeAnd, MatchBool}
 use Rattle.std.specs.Bool.{OnFalse}
 use Rattle.std.specs.List.{AllByRecursion}
-use Rattle.spec_lists.proofs.Places.{take-next}
-use Rattle.spec_rational.specs.Rational.{ℚ, neg_ℚ}
-use Rattle.spec_tableau.specs.Entries.{entries}
+use Rattle.spec_numbers.proofs.Places.{take-next}
+use Rattle.spec_numbers.specs.Rational.{ℚ, neg_ℚ}
+use Rattle.spec_simplex.specs.Entries.{entries}
 use Rattle.cq_form.specs.Entries.{products_of}
-use Rattle.cq_row.specs.declared.Entry.{Entry}
-use Rattle.cq_row.specs.Row.{Row}
-use Rattle.cq_row.specs.Rows as rows
-use Rattle.cq_row.specs.Rows.{negated}
+use Rattle.cq_frac.specs.declared.row.Entry.{Entry}
+use Rattle.cq_frac.specs.Row.{Row}
+use Rattle.cq_frac.specs.Rows as rows
+use Rattle.cq_frac.specs.Rows.{negated}
 use Rattle.std.proofs.Common.{Bool, add-one}
 use Rattle.std.proofs.lemmas.Option.{slice_get_within, same_Some}
-use Rattle.spec_rational.specs.Rational.{0ℚ, 1ℚ, ◌+ℚ◌, IsPositive, IsNotNegative, ◌<ℚ◌, ◌≤ℚ◌}
-use Rattle.spec_rational.proofs.Sign.{pos_nonneg, pos_one}
-use Rattle.spec_rational.proofs.Order.{lt_or_le, le_antisym, nonneg_to_le}
+use Rattle.spec_numbers.specs.Rational.{0ℚ, 1ℚ, ◌+ℚ◌, IsPositive, IsNotNegative, ◌<ℚ◌, ◌≤ℚ◌}
+use Rattle.spec_numbers.proofs.Sign.{pos_nonneg, pos_one}
+use Rattle.spec_numbers.proofs.Order.{lt_or_le, le_antisym, nonneg_to_le}
 use Rattle.spec_linear.specs.declared.Relation.{Relation}
 use Rattle.spec_linear.specs.declared.Relation.TheVariants.{Eq, Gt, Ge, Ne}
 use Rattle.spec_linear.specs.Solution.{Constraint}
 use Rattle.spec_linear.specs.Form.{Linear, value_at, negated_form}
 use Rattle.spec_linear.proofs.Values.{value_at-negated_form}
-use Rattle.spec_rational.specs.Sums.{Monomial, sum_at}
-use Rattle.spec_rational.proofs.Ring.{var, int, ◌⊕◌}
-use Rattle.spec_rational.proofs.Rational.{ring}
-use Rattle.spec_inequalities.specs.Certificate.{member, Allows, IsAllowed, SomeStrict, Refutes}
+use Rattle.spec_numbers.specs.Sums.{Monomial, sum_at}
+use Rattle.spec_numbers.proofs.Ring.{var, int, ◌⊕◌}
+use Rattle.spec_numbers.proofs.RationalLemmas.{ring}
+use Rattle.spec_linear.specs.Certificate.{member, Allows, IsAllowed, SomeStrict, Refutes}
 use Rattle.spec_projection.specs.Elimination.{IsInequality}
 use Rattle.spec_simplex.specs.Dictionary.{pick}
-use Rattle.spec_tableau.specs.Entries.{row_entries, AllNumbered, IsNumbered}
-use Rattle.spec_tableau.specs.Tableau.{Tableau, Place, AllIn, IsWritten, IsNothing, numbers, right_side}
-use Rattle.spec_tableau.proofs.Certificate.{once_refutes, apart_refutes}
+use Rattle.spec_simplex.specs.Entries.{row_entries, AllNumbered, IsNumbered}
+use Rattle.spec_simplex.specs.Tableau.{Tableau, Place, AllIn, IsWritten, IsNothing, numbers, right_side}
+use Rattle.spec_simplex.proofs.Certificate.{once_refutes, apart_refutes}
 use Rattle.cq_dict.specs.declared.table.Role.{Role}
 use Rattle.cq_dict.specs.declared.table.Role.TheVariants.{Basic}
 use Rattle.cq_dict.specs.Roles.{Quantities, IsAt, AreOverColumns, is_restricted, is_dropped, constant_at, role_at}

@@ -2,23 +2,23 @@
 use Rattle.std.proofs.Common.{◌≡◌, ◌↔◌, ℕ, zero, suc, pred, ◌<◌, List, length, Bool, true, false, ◌||◌, Option, None, Some, inl, inr, arith, refl, ap, sym, subst, ◌∙◌}
 use Rattle.std.specs.Prelude.{slice_get}
 use Rattle.std.proofs.lemmas.Option.{none-some, slice_get_within}
-use Rattle.spec_lists.proofs.Tests.{one_is, or_left, or_right}
-use Rattle.spec_rational.specs.Sums.{factor_of}
+use Rattle.spec_numbers.proofs.Tests.{one_is, or_left, or_right}
+use Rattle.spec_numbers.specs.Sums.{factor_of}
 use Rattle.spec_linear.specs.Form.{Linear}
 use Rattle.spec_linear.specs.Solution.{Constraint, Has}
-use Rattle.spec_inequalities.specs.Certificate as of_list
+use Rattle.spec_linear.specs.Certificate as of_list
 use Rattle.spec_projection.specs.Elimination.{IsInequality}
 use Rattle.spec_simplex.specs.Dictionary.{IsDictionary}
 use Rattle.spec_simplex.specs.Rule.{IsDue}
-use Rattle.spec_limits.specs.Dictionary.{Quantity, member, member_at, IsQuantity, IsRestricted, form_of, IsWritten}
-use Rattle.spec_limits.specs.Chains.{IsNumbering, IsWrittenWith, Shows, IsBlandChain}
+use Rattle.spec_simplex.specs.LimitsDictionary.{Quantity, member, member_at, IsQuantity, IsRestricted, form_of, IsWritten}
+use Rattle.spec_simplex.specs.Chains.{IsNumbering, IsWrittenWith, Shows, IsBlandChain}
 use Rattle.cq_frac.specs.declared.VarId.{VarId}
 use Rattle.cq_dict.specs.declared.table.Role.{Role}
 use Rattle.cq_dict.specs.declared.table.Role.TheVariants.{Live, Dropped, Basic}
 use Rattle.cq_dict.specs.Roles.{IsAt, IsRow, is_live, is_dropped, is_row, is_restricted, role_at, constant_at, factor_at}
 use Rattle.cq_dict.proofs.Roles.{role_is, at_below, at_exists, live_at, dropped_at, row_is, row_of, factor_is, live_is_no_row, dropped_is_no_row}
 use Rattle.cq_simplex.specs.Dictionary.{dictionary, IsReached}
-use Rattle.cq_store.proofs.Causes.{at_work}
+use Rattle.cq_equations.proofs.Causes.{at_work}
 use Rattle.cq_tableau.specs.declared.names.Name.{Name}
 use Rattle.cq_tableau.specs.declared.names.Name.TheVariants.{Variable, Member}
 use Rattle.cq_tableau.specs.Forms as of_forms

@@ -1,8 +1,8 @@
 -- One column more is dropped.
 use Rattle.std.proofs.Common.{◌≡◌, ℕ, ◌+◌, ◌<◌, List, [], ◌∷◌, ◌++◌, length, take, get_or, zero, suc, arith, Bool, true, false, ◌⊎◌, inl, inr, refl, ap, sym, subst, ◌∙◌}
-use Rattle.spec_lists.proofs.Places.{take-next}
+use Rattle.spec_numbers.proofs.Places.{take-next}
 use Rattle.spec_linear.specs.Solution.{Has}
-use Rattle.cq_row.specs.declared.Entry.{Entry}
+use Rattle.cq_frac.specs.declared.row.Entry.{Entry}
 use Rattle.cq_dict.specs.declared.table.Role.{Role}
 use Rattle.cq_dict.specs.declared.table.Role.TheVariants.{Live, Dropped}
 use Rattle.cq_dict.specs.Roles.{AreOverColumns, ChangesKind, is_live, is_dropped}

@@ -1,19 +1,19 @@
 -- What the role of a variable's quantity tells of its value.
 use Rattle.std.proofs.Common.{◌≡◌, ℕ, suc, arith, List, [], ◌∷◌, length, Option, None, Some, true, false, inl, pos, nat_eq, refl, ap, sym, subst, ◌∙◌}
 use Rattle.std.specs.Prelude.{slice_get, MatchOption}
-use Rattle.spec_lists.proofs.Tests.{nat_eq-self, nat_eq-same}
-use Rattle.spec_rational.specs.Rational.{ℚ, 0ℚ, 1ℚ, ◌+ℚ◌}
-use Rattle.spec_rational.specs.Sums.{factor_of, when}
-use Rattle.spec_rational.proofs.Ring.{int, ◌⊕◌}
-use Rattle.spec_rational.proofs.Rational.{ring}
-use Rattle.spec_rational.proofs.Sign.{one_not_zero}
+use Rattle.spec_numbers.proofs.Tests.{nat_eq-self, nat_eq-same}
+use Rattle.spec_numbers.specs.Rational.{ℚ, 0ℚ, 1ℚ, ◌+ℚ◌}
+use Rattle.spec_numbers.specs.Sums.{factor_of, when}
+use Rattle.spec_numbers.proofs.Ring.{int, ◌⊕◌}
+use Rattle.spec_numbers.proofs.RationalLemmas.{ring}
+use Rattle.spec_numbers.proofs.Sign.{one_not_zero}
 use Rattle.spec_linear.specs.Solution.{Constraint, Fixed}
-use Rattle.spec_tableau.proofs.Written.{fixed, not_fixed}
+use Rattle.spec_simplex.proofs.TableauWritten.{fixed, not_fixed}
 use Rattle.cq_frac.specs.declared.VarId.{VarId}
 use Rattle.cq_form.specs.Entries.{products_of}
-use Rattle.cq_row.specs.declared.Entry.{Entry}
-use Rattle.cq_row.specs.Row.{Row}
-use Rattle.cq_row.specs.Rows.{IsRowFrom}
+use Rattle.cq_frac.specs.declared.row.Entry.{Entry}
+use Rattle.cq_frac.specs.Row.{Row}
+use Rattle.cq_frac.specs.Rows.{IsRowFrom}
 use Rattle.cq_dict.specs.declared.table.Role.TheVariants.{Live, Dropped, Basic}
 use Rattle.cq_dict.specs.Roles.{Quantities, IsAt, is_live}
 use Rattle.cq_dict.proofs.Roles.{role_is}

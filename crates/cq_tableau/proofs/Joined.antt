@@ -2,34 +2,34 @@
 use Rattle.std.proofs.Common.{◌≡◌, ℕ, ◌<◌, List, [], ◌∷◌, length, Bool, true, false, nat_eq, ◌⊎◌, inl, inr, pos, refl, ap, sym, subst, ◌∙◌}
 use Rattle.std.specs.Prelude.{slice_set}
 use Rattle.std.proofs.lemmas.List.{length-set}
-use Rattle.spec_rational.specs.Rational.{ℚ, 0ℚ, 1ℚ, ◌+ℚ◌, neg_ℚ, IsPositive, IsNotNegative, ◌<ℚ◌}
-use Rattle.spec_rational.specs.Sums.{factor_of, when}
-use Rattle.spec_rational.proofs.Ring.{var, int, ◌⊕◌, minus}
-use Rattle.spec_rational.proofs.Rational.{ring}
-use Rattle.spec_rational.proofs.Sign.{Sign, is_pos, is_neg, sign, pos_nonneg, pos_one, nonneg_zero, not_pos_zero}
-use Rattle.spec_rational.proofs.Sign as sign_of
+use Rattle.spec_numbers.specs.Rational.{ℚ, 0ℚ, 1ℚ, ◌+ℚ◌, neg_ℚ, IsPositive, IsNotNegative, ◌<ℚ◌}
+use Rattle.spec_numbers.specs.Sums.{factor_of, when}
+use Rattle.spec_numbers.proofs.Ring.{var, int, ◌⊕◌, minus}
+use Rattle.spec_numbers.proofs.RationalLemmas.{ring}
+use Rattle.spec_numbers.proofs.Sign.{Sign, is_pos, is_neg, sign, pos_nonneg, pos_one, nonneg_zero, not_pos_zero}
+use Rattle.spec_numbers.proofs.Sign as sign_of
 use Rattle.spec_linear.specs.declared.Relation.TheVariants.{Eq, Gt, Ge}
 use Rattle.spec_linear.specs.Form.{Linear}
 use Rattle.spec_linear.specs.Solution.{Constraint, Has}
-use Rattle.spec_inequalities.specs.Weak.{above_zero, at_least_zero}
+use Rattle.spec_linear.specs.Weak.{above_zero, at_least_zero}
 use Rattle.spec_simplex.specs.Rule as of_rule
-use Rattle.spec_tableau.specs.Reach.{Rises}
-use Rattle.spec_tableau.specs.Tableau.{AllIn, IsWritten, IsUnlimited, HasFeasibleNumbers, Changed, Exchanged}
-use Rattle.spec_tableau.proofs.Standing.{clash, pos_not_zero}
-use Rattle.spec_tableau.proofs.Linked.{linked_written}
-use Rattle.spec_tableau.proofs.Steps.{joined_weak, joined_strict, one_of}
-use Rattle.spec_tableau.proofs.More.{dropped_more, still_dropped}
-use Rattle.spec_tableau.proofs.Written.{not_in, free_rises}
-use Rattle.spec_tableau.proofs.Feasible.{free_exchange, unlimited_exchange, restricted_row}
-use Rattle.cq_row.specs.Row.{Row}
-use Rattle.cq_row.specs.Rows as rows
+use Rattle.spec_simplex.specs.Reach.{Rises}
+use Rattle.spec_simplex.specs.Tableau.{AllIn, IsWritten, IsUnlimited, HasFeasibleNumbers, Changed, Exchanged}
+use Rattle.spec_simplex.proofs.Standing.{clash, pos_not_zero}
+use Rattle.spec_simplex.proofs.Linked.{linked_written}
+use Rattle.spec_simplex.proofs.Steps.{joined_weak, joined_strict, one_of}
+use Rattle.spec_simplex.proofs.More.{dropped_more, still_dropped}
+use Rattle.spec_simplex.proofs.TableauWritten.{not_in, free_rises}
+use Rattle.spec_simplex.proofs.Feasible.{free_exchange, unlimited_exchange, restricted_row}
+use Rattle.cq_frac.specs.Row.{Row}
+use Rattle.cq_frac.specs.Rows as rows
 use Rattle.cq_dict.specs.declared.table.Role.{Role}
 use Rattle.cq_dict.specs.declared.table.Role.TheVariants.{Live, Dropped, Basic}
 use Rattle.cq_dict.specs.Roles.{IsAt, IsRow, AreOverColumns, HasEntry, IsExchanged, is_live, is_dropped, is_restricted, role_at, constant_at, factor_at}
 use Rattle.cq_dict.specs.Dict.{SameMeaning}
 use Rattle.cq_dict.proofs.Roles.{role_is, at_below, at_exists, constant_is, dropped_at, factor_is, row_is, is_row_of}
 use Rattle.cq_simplex.specs.Dictionary.{dictionary}
-use Rattle.cq_climb.specs.Climbs.{IsCarried}
+use Rattle.cq_simplex.specs.Climbs.{IsCarried}
 use Rattle.cq_simplex.specs.Answers.{RisesWithoutEnd}
 use Rattle.cq_simplex.proofs.Entries.{has_entry}
 use Rattle.cq_simplex.proofs.Roles.{dropped_after}

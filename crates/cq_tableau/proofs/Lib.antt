@@ -17,3 +17,10 @@ pub mod Passed
 pub mod Restores
 pub mod Weights
 pub mod Blocking
+pub mod Turned
+pub mod Crossing
+pub mod Passing
+pub mod Goes
+pub mod Lights
+pub mod Counts
+pub mod Faces

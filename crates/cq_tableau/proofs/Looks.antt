@@ -3,39 +3,39 @@ use Rattle.std.proofs.Common.{◌≡◌, ℕ, zero, suc, get_or, Option, None, S
 use Rattle.std.specs.Prelude.{MatchBool, slice_get}
 use Rattle.std.proofs.lemmas.Option.{same_Some}
 use Rattle.spec_linear.specs.declared.Relation.{Relation}
-use Rattle.spec_inequalities.specs.Certificate.{member}
+use Rattle.spec_linear.specs.Certificate.{member}
 use Rattle.cq_tableau.specs.declared.names.Name.TheVariants.{Variable, Member}
 use Rattle.cq_tableau.specs.Refuted.{number_of, number_in}
 use Rattle.std.specs.Bool.{OnFalse}
-use Rattle.cq_row.proofs.Units.{no_entry, at_unit}
-use Rattle.spec_rational.specs.Rational.{ℚ, 0ℚ, 1ℚ, ◌+ℚ◌, ◌*ℚ◌, IsPositive, IsNotNegative, ◌≤ℚ◌, ◌<ℚ◌}
-use Rattle.spec_rational.specs.Sums.{factor_of, sum_at, when}
-use Rattle.spec_rational.proofs.Ring.{var, int, ◌⊕◌, ◌⊗◌}
-use Rattle.spec_rational.proofs.Rational.{ring}
-use Rattle.spec_rational.proofs.Sign.{nonneg_zero, product_zero, pos_nonneg, pos_one}
-use Rattle.spec_rational.proofs.Order.{le_antisym, nonneg_to_le, lt_or_le, lt_to_pos}
+use Rattle.cq_frac.proofs.Units.{no_entry, at_unit}
+use Rattle.spec_numbers.specs.Rational.{ℚ, 0ℚ, 1ℚ, ◌+ℚ◌, ◌*ℚ◌, IsPositive, IsNotNegative, ◌≤ℚ◌, ◌<ℚ◌}
+use Rattle.spec_numbers.specs.Sums.{factor_of, sum_at, when}
+use Rattle.spec_numbers.proofs.Ring.{var, int, ◌⊕◌, ◌⊗◌}
+use Rattle.spec_numbers.proofs.RationalLemmas.{ring}
+use Rattle.spec_numbers.proofs.Sign.{nonneg_zero, product_zero, pos_nonneg, pos_one}
+use Rattle.spec_numbers.proofs.Order.{le_antisym, nonneg_to_le, lt_or_le, lt_to_pos}
 use Rattle.spec_linear.specs.Form.{Linear, value_at}
 use Rattle.spec_linear.specs.Solution.{Constraint, Has, Satisfies}
-use Rattle.spec_inequalities.specs.Weak.{weak}
+use Rattle.spec_linear.specs.Weak.{weak}
 use Rattle.spec_simplex.specs.Dictionary as of_simplex
-use Rattle.spec_tableau.specs.Tableau.{numbers, IsWritten, IsOptimal, EachTermZero, Changed, Exchanged, HasRoom, Owned}
-use Rattle.spec_tableau.proofs.Linked.{linked_written}
-use Rattle.spec_tableau.proofs.Steps.{sound_dropped, one_of}
-use Rattle.spec_tableau.proofs.More.{still_dropped}
-use Rattle.spec_tableau.proofs.Feasible.{level_exchange, dropping}
-use Rattle.spec_tableau.proofs.Column.{column_rises}
-use Rattle.spec_tableau.proofs.Written.{row_face, within_is, restricted_nonneg}
+use Rattle.spec_simplex.specs.Tableau.{numbers, IsWritten, IsOptimal, EachTermZero, Changed, Exchanged, HasRoom, Owned}
+use Rattle.spec_simplex.proofs.Linked.{linked_written}
+use Rattle.spec_simplex.proofs.Steps.{sound_dropped, one_of}
+use Rattle.spec_simplex.proofs.More.{still_dropped}
+use Rattle.spec_simplex.proofs.Feasible.{level_exchange, dropping}
+use Rattle.spec_simplex.proofs.Column.{column_rises}
+use Rattle.spec_simplex.proofs.TableauWritten.{row_face, within_is, restricted_nonneg}
 use Rattle.cq_form.specs.Entries.{products_of}
-use Rattle.cq_row.specs.declared.Entry.{Entry}
-use Rattle.cq_row.specs.Row.{Row}
-use Rattle.cq_row.specs.Rows as rows
+use Rattle.cq_frac.specs.declared.row.Entry.{Entry}
+use Rattle.cq_frac.specs.Row.{Row}
+use Rattle.cq_frac.specs.Rows as rows
 use Rattle.cq_dict.specs.declared.table.Role.{Role}
 use Rattle.cq_dict.specs.declared.table.Role.TheVariants.{Live, Dropped, Basic}
 use Rattle.cq_dict.specs.Roles.{AreOverColumns, IsAt, IsRow, IsExchanged, is_live, is_dropped, is_restricted, role_at, constant_at, factor_at}
 use Rattle.cq_dict.specs.Dict.{SameMeaning}
 use Rattle.cq_dict.proofs.Roles.{at_below, at_exists, at_one, role_is, role_live, constant_is, factor_is, dropped_at, live_at}
 use Rattle.cq_simplex.specs.Dictionary.{dictionary}
-use Rattle.cq_climb.specs.Climbs.{IsCarried}
+use Rattle.cq_simplex.specs.Climbs.{IsCarried}
 use Rattle.cq_simplex.specs.Answers.{IsMaximum, AreMultipliers, AreSpent, RisesWithoutEnd}
 use Rattle.cq_simplex.proofs.Roles.{dropped_after}
 use Rattle.cq_tableau.specs.declared.names.Name.{Name}

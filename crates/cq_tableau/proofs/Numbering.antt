@@ -3,13 +3,13 @@ use Rattle.std.proofs.Common.{◌≡◌, ℕ, zero, suc, ◌+◌, List, [], ◌�
 use Rattle.std.specs.Prelude.{slice_get}
 use Rattle.std.specs.List.{AllByRecursion}
 use Rattle.std.proofs.lemmas.Option.{none-some, same_Some}
-use Rattle.spec_lists.proofs.Tests.{nat_eq-self, nat_eq-same}
+use Rattle.spec_numbers.proofs.Tests.{nat_eq-self, nat_eq-same}
 use Rattle.spec_linear.specs.Form.{Linear, variable_form}
 use Rattle.spec_linear.specs.Solution.{Has}
-use Rattle.spec_limits.specs.Dictionary.{Quantity, variable, member, IsSet, SomeFormMentions}
+use Rattle.spec_simplex.specs.LimitsDictionary.{Quantity, variable, member, IsSet, SomeFormMentions}
 use Rattle.cq_frac.specs.declared.VarId.{VarId}
-use Rattle.cq_row.specs.Rows.{choose}
-use Rattle.cq_store.proofs.Dictionary.{has_either}
+use Rattle.cq_frac.specs.Rows.{choose}
+use Rattle.cq_equations.proofs.Dictionary.{has_either}
 use Rattle.cq_tableau.specs.declared.names.Name.{Name}
 use Rattle.cq_tableau.specs.declared.names.Name.TheVariants.{Variable, Member}
 use Rattle.cq_tableau.specs.Quantities.{name_of, quantity_of, stands_for, place, picked, variable_forms}

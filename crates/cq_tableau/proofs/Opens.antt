@@ -2,10 +2,10 @@
 use Rattle.std.proofs.Common.{◌≡◌, ℕ, ◌+◌, ◌-◌, ◌<◌, zero, suc, List, [], ◌∷◌, ◌++◌, length, take, get_or, Option, None, Some, ◌⊎◌, inl, inr, arith, refl, ap, sym, subst, ◌∙◌}
 use Rattle.std.specs.Prelude.{slice_get, slice_index, MatchOption}
 use Rattle.std.specs.List.Sorted.{IsStrictlyIncreasing}
-use Rattle.spec_lists.proofs.Places.{take-next}
-use Rattle.spec_rational.specs.Rational.{ℚ}
+use Rattle.spec_numbers.proofs.Places.{take-next}
+use Rattle.spec_numbers.specs.Rational.{ℚ}
 use Rattle.spec_linear.specs.Solution.{Constraint, Has, Fixed}
-use Rattle.spec_echelon.specs.Echelon.{AreDistinct}
+use Rattle.spec_linear.specs.Echelon.{AreDistinct}
 use Rattle.cq_frac.specs.declared.VarId.{VarId}
 use Rattle.cq_dict.specs.declared.table.Role.{Role}
 use Rattle.cq_dict.specs.Roles.{Quantities}
@@ -14,7 +14,7 @@ use Rattle.cq_tableau.specs.declared.names.Name.TheVariants.{Variable}
 use Rattle.cq_tableau.specs.Stored.{IsStored}
 use Rattle.cq_tableau.specs.Values.{IsNumber}
 use Rattle.cq_tableau.specs.Fixing.{AreOnce, HasNumber, IsOpenHere, AreOpenAt, HasValue, HasNoValue, AreFixedNow}
-use Rattle.cq_store.specs.Told.{numbers_of}
+use Rattle.cq_equations.specs.Told.{numbers_of}
 use Rattle.cq_tableau.proofs.Drops.{has_end, has_left, has_last}
 
 numbers-end : (s : List VarId) (x : VarId) → numbers_of (s ++ x ∷ []) ≡ numbers_of s ++ x.0 ∷ []

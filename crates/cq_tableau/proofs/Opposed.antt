@@ -1,15 +1,15 @@
 -- A tableau with one form more that is zero within, written by hand.
 use Rattle.std.proofs.Common.{◌≡◌, ℕ, suc, ◌<◌, List, [], Bool, true, false, nat_eq, arith, pos, [], ◌∷◌, refl, ap, ap₂, sym, subst, ◌∙◌}
-use Rattle.spec_lists.proofs.Tests.{nat_eq-self, nat_eq-same, nat_eq-other}
-use Rattle.spec_rational.specs.Rational.{ℚ, 0ℚ, ◌+ℚ◌, ◌*ℚ◌, neg_ℚ}
-use Rattle.spec_rational.specs.Sums.{Monomial, sum_at, negated_products}
-use Rattle.spec_rational.proofs.Ring.{var, ◌⊕◌, ◌⊗◌, minus, int}
-use Rattle.spec_rational.proofs.Rational.{ring}
+use Rattle.spec_numbers.proofs.Tests.{nat_eq-self, nat_eq-same, nat_eq-other}
+use Rattle.spec_numbers.specs.Rational.{ℚ, 0ℚ, ◌+ℚ◌, ◌*ℚ◌, neg_ℚ}
+use Rattle.spec_numbers.specs.Sums.{Monomial, sum_at, negated_products}
+use Rattle.spec_numbers.proofs.Ring.{var, ◌⊕◌, ◌⊗◌, minus, int}
+use Rattle.spec_numbers.proofs.RationalLemmas.{ring}
 use Rattle.spec_linear.specs.Form.{Linear, value_at}
-use Rattle.spec_tableau.specs.Tableau.{Tableau, Row, IsWritten, Place, AllIn, numbers, right_side}
-use Rattle.spec_tableau.proofs.Written.{same_sum}
-use Rattle.cq_row.specs.declared.Entry.{Entry}
-use Rattle.cq_row.specs.Rows.{choose, negated}
+use Rattle.spec_simplex.specs.Tableau.{Tableau, Row, IsWritten, Place, AllIn, numbers, right_side}
+use Rattle.spec_simplex.proofs.TableauWritten.{same_sum}
+use Rattle.cq_frac.specs.declared.row.Entry.{Entry}
+use Rattle.cq_frac.specs.Rows.{choose, negated}
 use Rattle.cq_form.specs.Entries.{products_of}
 
 -- each factor with the other sign

@@ -2,30 +2,30 @@
 use Rattle.std.proofs.Common.{◌≡◌, ℕ, zero, suc, ◌+◌, ◌<◌, get_or, List, [], ◌∷◌, ◌++◌, length, Bool, true, false, Some, ◌⊎◌, inl, inr, arith, length-append, refl, ap, sym, subst, ◌∙◌}
 use Rattle.std.specs.Prelude.{slice_get}
 use Rattle.std.proofs.lemmas.Option.{same_Some}
-use Rattle.spec_rational.specs.Rational.{ℚ, ◌+ℚ◌}
-use Rattle.spec_rational.specs.Sums.{Mentions}
-use Rattle.spec_rational.proofs.Order.{lt_le_false}
+use Rattle.spec_numbers.specs.Rational.{ℚ, ◌+ℚ◌}
+use Rattle.spec_numbers.specs.Sums.{Mentions}
+use Rattle.spec_numbers.proofs.Order.{lt_le_false}
 use Rattle.spec_linear.specs.Form.{Linear}
 use Rattle.spec_linear.specs.Solution.{Constraint}
 use Rattle.spec_simplex.specs.Dictionary as of_simplex
-use Rattle.spec_tableau.specs.Reach.{IsGreatest}
-use Rattle.spec_tableau.specs.Tableau.{Restored, IsWritten}
-use Rattle.spec_tableau.proofs.Feasible.{restoring}
-use Rattle.spec_tableau.proofs.Linked.{linked_written}
-use Rattle.spec_tableau.proofs.More.{still_dropped, restored_equations}
-use Rattle.spec_tableau.proofs.Steps.{sound_dropped}
+use Rattle.spec_simplex.specs.Reach.{IsGreatest}
+use Rattle.spec_simplex.specs.Tableau.{Restored, IsWritten}
+use Rattle.spec_simplex.proofs.Feasible.{restoring}
+use Rattle.spec_simplex.proofs.Linked.{linked_written}
+use Rattle.spec_simplex.proofs.More.{still_dropped, restored_equations}
+use Rattle.spec_simplex.proofs.Steps.{sound_dropped}
 use Rattle.cq_frac.specs.declared.Pair.{Pair}
 use Rattle.cq_form.specs.Entries.{products_of}
-use Rattle.cq_row.specs.declared.Entry.{Entry}
-use Rattle.cq_row.specs.Row.{Row}
-use Rattle.cq_row.specs.Rows as rows
+use Rattle.cq_frac.specs.declared.row.Entry.{Entry}
+use Rattle.cq_frac.specs.Row.{Row}
+use Rattle.cq_frac.specs.Rows as rows
 use Rattle.cq_dict.specs.declared.table.Role.{Role}
 use Rattle.cq_dict.specs.declared.table.Role.TheVariants.{Live, Dropped, Basic}
 use Rattle.cq_dict.specs.Roles.{Quantities, AreOverColumns, ChangesKind, IsAt, IsRow, dropped_role, is_live, is_dropped, is_restricted}
 use Rattle.cq_dict.specs.Dict.{SameMeaning, DefinesLast}
 use Rattle.cq_dict.proofs.Roles.{at_below, at_last, dropped_at, equal_or_not, is_row_of, live_at, role_dropped, row_of}
 use Rattle.cq_simplex.specs.Dictionary.{dictionary}
-use Rattle.cq_climb.specs.Climbs.{IsCarried, IsSpentAfter}
+use Rattle.cq_simplex.specs.Climbs.{IsCarried, IsSpentAfter}
 use Rattle.cq_simplex.specs.declared.Aim.TheVariants.{Best}
 use Rattle.cq_simplex.specs.Answers.{AreMultipliers, IsOverflow, AreSpent, RisesWithoutEnd}
 use Rattle.cq_tableau.specs.declared.names.Name.{Name}

@@ -1,8 +1,8 @@
 -- Dictionaries of the simplex method without rows that no exchange moves, and chains of them.
 use Rattle.std.proofs.Common.{◌≡◌, ℕ, zero, suc, ◌<◌, ◌≤◌, Bool, true, false, pos, [], ◌∷◌, arith, refl, ap, ap₂, sym, subst, ◌∙◌}
-use Rattle.spec_rational.specs.Rational.{ℚ, 0ℚ, ◌+ℚ◌, ◌*ℚ◌}
-use Rattle.spec_rational.proofs.Ring.{var, int, ◌⊗◌}
-use Rattle.spec_rational.proofs.Rational.{ring}
+use Rattle.spec_numbers.specs.Rational.{ℚ, 0ℚ, ◌+ℚ◌, ◌*ℚ◌}
+use Rattle.spec_numbers.proofs.Ring.{var, int, ◌⊗◌}
+use Rattle.spec_numbers.proofs.RationalLemmas.{ring}
 use Rattle.spec_simplex.specs.Dictionary.{Dictionary, IsDictionary, Satisfies, AreEquivalent, sum_below, pick}
 use Rattle.spec_simplex.specs.Rule.{Raises, Limits, IsDue, Exchanged, Chain}
 

@@ -3,18 +3,18 @@ use Rattle.std.proofs.Common.{◌≡◌, ℕ, zero, suc, ◌+◌, ◌<◌, List,
 use Rattle.std.specs.Prelude.{slice_set, ◌==◌}
 use Rattle.std.proofs.lemmas.List.{get_or_append_left}
 use Rattle.std.proofs.Math.Seq.{get_or-append_seam}
-use Rattle.spec_lists.proofs.Tests.{nat_eq-apart, nat_eq-self}
+use Rattle.spec_numbers.proofs.Tests.{nat_eq-apart, nat_eq-self}
 use Rattle.std.proofs.lemmas.Bool.{cond-true, cond-false}
-use Rattle.spec_rational.specs.Rational.{ℚ, 0ℚ, ◌+ℚ◌, ◌*ℚ◌, IsNotNegative}
-use Rattle.spec_rational.specs.Sums.{Monomial, Mentions}
-use Rattle.spec_rational.proofs.Sums.{sum_at-agrees}
+use Rattle.spec_numbers.specs.Rational.{ℚ, 0ℚ, ◌+ℚ◌, ◌*ℚ◌, IsNotNegative}
+use Rattle.spec_numbers.specs.Sums.{Monomial, Mentions}
+use Rattle.spec_numbers.proofs.Sums.{sum_at-agrees}
 use Rattle.spec_linear.specs.Form.{Linear, value_at, variable_form, constant_form, changed_at}
 use Rattle.spec_linear.specs.Solution.{Has}
 use Rattle.spec_linear.proofs.Values.{value_at-variable_form}
-use Rattle.spec_tableau.specs.Tableau.{AllIn, Changed, Exchanged, IsFeasible}
-use Rattle.cq_row.specs.declared.Entry.{Entry}
-use Rattle.cq_row.specs.Row.{Row}
-use Rattle.cq_row.specs.Rows as rows
+use Rattle.spec_simplex.specs.Tableau.{AllIn, Changed, Exchanged, IsFeasible}
+use Rattle.cq_frac.specs.declared.row.Entry.{Entry}
+use Rattle.cq_frac.specs.Row.{Row}
+use Rattle.cq_frac.specs.Rows as rows
 use Rattle.cq_dict.specs.declared.table.Role.{Role}
 use Rattle.cq_dict.specs.declared.table.Role.TheVariants.{Live, Dropped, Basic}
 use Rattle.cq_dict.specs.Roles.{IsRow, AreOverColumns, IsMet, IsExchanged, is_live, is_dropped, is_restricted, dropped_role, role_at}

@@ -3,30 +3,30 @@ use Rattle.std.proofs.Common.{◌≡◌, ℕ, zero, suc, ◌+◌, ◌<◌, List,
 use Rattle.std.specs.Prelude.{slice_get, slice_set}
 use Rattle.std.specs.Map.{lookup}
 use Rattle.std.proofs.lemmas.Bool.{cond-true, cond-false}
-use Rattle.spec_lists.proofs.Tests.{nat_eq-self, nat_eq-apart, nat_eq-same, nat_eq-other}
-use Rattle.cq_row.specs.Row.{Row}
-use Rattle.cq_row.proofs.Units.{row_weaker}
+use Rattle.spec_numbers.proofs.Tests.{nat_eq-self, nat_eq-apart, nat_eq-same, nat_eq-other}
+use Rattle.cq_frac.specs.Row.{Row}
+use Rattle.cq_frac.proofs.Units.{row_weaker}
 use Rattle.cq_dict.proofs.Roles.{at_end, at_last, live_left, dropped_left}
 use Rattle.std.proofs.lemmas.Option.{slice_get_within, none-some, same_Some}
-use Rattle.spec_lists.proofs.Places.{get_push, get_kept, take-next}
-use Rattle.spec_rational.specs.Rational.{ℚ, ◌+ℚ◌, ◌*ℚ◌}
-use Rattle.spec_rational.specs.Sums.{Monomial, Mentions, sum_at}
+use Rattle.spec_numbers.proofs.Places.{get_push, get_kept, take-next}
+use Rattle.spec_numbers.specs.Rational.{ℚ, ◌+ℚ◌, ◌*ℚ◌}
+use Rattle.spec_numbers.specs.Sums.{Monomial, Mentions, sum_at}
 use Rattle.spec_linear.specs.Form.{Linear, value_at, variable_form}
 use Rattle.spec_linear.proofs.Values.{value_at-variable_form}
 use Rattle.cq_form.specs.Entries.{product_of, products_of}
-use Rattle.cq_row.specs.declared.Entry.{Entry}
-use Rattle.cq_row.specs.Rows as rows
-use Rattle.spec_lists.specs.Prefixes.{IsPrefix}
+use Rattle.cq_frac.specs.declared.row.Entry.{Entry}
+use Rattle.cq_frac.specs.Rows as rows
+use Rattle.spec_numbers.specs.Prefixes.{IsPrefix}
 use Rattle.spec_linear.specs.Solution.{Constraint, Has, SomeMentions, Solvable, Fixed}
-use Rattle.spec_tableau.specs.Tableau.{Place, Invariant, IsSomething}
-use Rattle.spec_tableau.proofs.Linked.{linked_written}
-use Rattle.spec_tableau.proofs.Steps as of_steps
-use Rattle.spec_tableau.proofs.Members.{invariant_there, told_last, unmentioned_free}
-use Rattle.spec_tableau.proofs.More as of_more
-use Rattle.spec_tableau.proofs.More.{empty_kept, still_dropped}
-use Rattle.spec_tableau.proofs.Written.{solvable_of}
-use Rattle.spec_tableau.specs.Fixing.{is_unmentioned}
-use Rattle.spec_tableau.proofs.Told.{none_newly, not_newly}
+use Rattle.spec_simplex.specs.Tableau.{Place, Invariant, IsSomething}
+use Rattle.spec_simplex.proofs.Linked.{linked_written}
+use Rattle.spec_simplex.proofs.Steps as of_steps
+use Rattle.spec_simplex.proofs.Members.{invariant_there, told_last, unmentioned_free}
+use Rattle.spec_simplex.proofs.More as of_more
+use Rattle.spec_simplex.proofs.More.{empty_kept, still_dropped}
+use Rattle.spec_simplex.proofs.TableauWritten.{solvable_of}
+use Rattle.spec_simplex.specs.Fixing.{is_unmentioned}
+use Rattle.spec_simplex.proofs.Told.{none_newly, not_newly}
 use Rattle.cq_frac.specs.declared.VarId.{VarId}
 use Rattle.cq_dict.specs.declared.table.Role.{Role}
 use Rattle.cq_dict.specs.declared.table.Role.TheVariants.{Live, Basic}
@@ -36,8 +36,8 @@ use Rattle.spec_simplex.specs.Dictionary as of_simplex
 use Rattle.cq_simplex.specs.Dictionary.{dictionary}
 use Rattle.spec_linear.specs.declared.Relation.{Relation}
 use Rattle.spec_linear.specs.declared.Relation.TheVariants.{Eq, Gt, Ge, Ne}
-use Rattle.spec_inequalities.specs.Certificate.{member}
-use Rattle.spec_inequalities.specs.Weak.{above_zero, at_least_zero, not_zero}
+use Rattle.spec_linear.specs.Certificate.{member}
+use Rattle.spec_linear.specs.Weak.{above_zero, at_least_zero, not_zero}
 use Rattle.spec_projection.specs.Elimination.{IsInequality}
 use Rattle.cq_tableau.specs.declared.names.Name.{Name}
 use Rattle.cq_tableau.specs.declared.names.Name.TheVariants.{Variable, Member}
@@ -47,11 +47,11 @@ use Rattle.cq_tableau.specs.Forms.{form_at, tableau, Describes}
 use Rattle.cq_tableau.specs.Keeps.{Keeps, KeepsBoth, Joins}
 use Rattle.cq_tableau.specs.Stored.{IsKnown, IsMemberForm, IsMemberOf, IsEquation, IsStoredBy, IsStored, StaysStored, IsPlaced, JoinsStored}
 use Rattle.cq_tableau.specs.Newly.{AreNewlyFixed}
-use Rattle.spec_tableau.specs.Fixing.{NewlyFixed}
+use Rattle.spec_simplex.specs.Fixing.{NewlyFixed}
 use Rattle.cq_tableau.specs.Numbered.{AreNumbered}
 use Rattle.cq_tableau.proofs.Tied.{linked, flag_below, searchable}
 use Rattle.cq_tableau.proofs.Steps.{unchanged, changed_more, feasible_more, described_column, described_row, flag_only, flag_set, flag_still, dropped_more, form_more, form_last, flag_more, more_length}
-use Rattle.cq_store.specs.Told.{numbers_of}
+use Rattle.cq_equations.specs.Told.{numbers_of}
 use Rattle.cq_tableau.proofs.Joined.{written}
 
 -- ---- nothing yet

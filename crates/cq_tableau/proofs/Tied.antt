@@ -1,37 +1,37 @@
 -- Roles make a linked tableau, and answers of the search say what the laws of a store ask.
 use Rattle.std.proofs.Common.{◌≡◌, ℕ, zero, suc, ◌+◌, ◌<◌, List, [], ◌∷◌, length, Bool, true, false, nat_eq, inl, inr, pos, arith, refl, ap, ap₂, sym, subst, ◌∙◌}
-use Rattle.spec_rational.specs.Rational.{ℚ, 0ℚ, 1ℚ, ◌+ℚ◌, ◌*ℚ◌, neg_ℚ, IsPositive, IsNotNegative, ◌<ℚ◌}
-use Rattle.spec_rational.specs.Sums.{Monomial, factor_of}
-use Rattle.spec_rational.specs.Sums as sums
-use Rattle.spec_rational.proofs.Ring.{var, int, ◌⊕◌, ◌⊗◌}
-use Rattle.spec_rational.proofs.Rational.{ring}
+use Rattle.spec_numbers.specs.Rational.{ℚ, 0ℚ, 1ℚ, ◌+ℚ◌, ◌*ℚ◌, neg_ℚ, IsPositive, IsNotNegative, ◌<ℚ◌}
+use Rattle.spec_numbers.specs.Sums.{Monomial, factor_of}
+use Rattle.spec_numbers.specs.Sums as sums
+use Rattle.spec_numbers.proofs.Ring.{var, int, ◌⊕◌, ◌⊗◌}
+use Rattle.spec_numbers.proofs.RationalLemmas.{ring}
 use Rattle.spec_linear.specs.Form.{Linear, value_at}
 use Rattle.spec_linear.specs.Solution.{Constraint, Satisfies}
-use Rattle.spec_inequalities.specs.Weak.{weak}
+use Rattle.spec_linear.specs.Weak.{weak}
 use Rattle.spec_simplex.specs.Dictionary.{basic_solution}
 use Rattle.spec_simplex.specs.Dictionary as of_simplex
-use Rattle.cq_row.proofs.Units.{at_unit}
-use Rattle.spec_tableau.proofs.Steps.{exchanged}
-use Rattle.spec_tableau.proofs.Linked.{linked_written}
-use Rattle.cq_row.specs.declared.Entry.{Entry}
-use Rattle.cq_row.specs.Row.{Row}
-use Rattle.cq_row.specs.Rows as rows
-use Rattle.cq_row.specs.Numbers as of_row
+use Rattle.cq_frac.proofs.Units.{at_unit}
+use Rattle.spec_simplex.proofs.Steps.{exchanged}
+use Rattle.spec_simplex.proofs.Linked.{linked_written}
+use Rattle.cq_frac.specs.declared.row.Entry.{Entry}
+use Rattle.cq_frac.specs.Row.{Row}
+use Rattle.cq_frac.specs.Rows as rows
+use Rattle.cq_frac.specs.Numbers as of_row
 use Rattle.cq_dict.specs.declared.table.Role.{Role}
 use Rattle.cq_dict.specs.declared.table.Role.TheVariants.{Live, Dropped, Basic}
 use Rattle.cq_dict.specs.Roles.{AreOverColumns, IsMet, IsAt, is_live, is_dropped, is_restricted, role_at, constant_at, constant_in, factor_in}
 use Rattle.cq_dict.specs.Dict.{SameMeaning}
 use Rattle.cq_dict.proofs.Roles.{live_at, dropped_at, role_live, role_dropped, role_is, constant_is, factor_is, row_is, at_exists, at_below}
 use Rattle.cq_simplex.specs.Dictionary.{dictionary}
-use Rattle.cq_climb.specs.Climbs.{IsCarried}
+use Rattle.cq_simplex.specs.Climbs.{IsCarried}
 use Rattle.cq_simplex.specs.Answers.{IsSolution, IsMaximum, AreMultipliers, RisesWithoutEnd}
-use Rattle.spec_tableau.specs.Reach.{Rises, IsGreatest}
-use Rattle.spec_tableau.specs.Tableau.{numbers, AllIn, right_side, MeetsRows, IsShaped, Linked, Sound, IsOptimal, Changed, IsFeasible, HasFeasibleNumbers, Invariant}
-use Rattle.spec_tableau.proofs.Extent.{Grows}
-use Rattle.spec_rational.proofs.Order.{lt_to_pos}
-use Rattle.spec_rational.proofs.Sign.{pos_nonneg, nonneg_zero}
-use Rattle.spec_tableau.proofs.Written.{not_in, solves_weak, restricted_nonneg, rises_by_constant}
-use Rattle.spec_lists.proofs.Tests.{nat_eq-sym}
+use Rattle.spec_simplex.specs.Reach.{Rises, IsGreatest}
+use Rattle.spec_simplex.specs.Tableau.{numbers, AllIn, right_side, MeetsRows, IsShaped, Linked, Sound, IsOptimal, Changed, IsFeasible, HasFeasibleNumbers, Invariant}
+use Rattle.spec_simplex.proofs.Extent.{Grows}
+use Rattle.spec_numbers.proofs.Order.{lt_to_pos}
+use Rattle.spec_numbers.proofs.Sign.{pos_nonneg, nonneg_zero}
+use Rattle.spec_simplex.proofs.TableauWritten.{not_in, solves_weak, restricted_nonneg, rises_by_constant}
+use Rattle.spec_numbers.proofs.Tests.{nat_eq-sym}
 use Rattle.cq_form.specs.Entries.{products_of}
 use Rattle.cq_tableau.specs.Forms.{row_of, form_at, tableau, Describes}
 

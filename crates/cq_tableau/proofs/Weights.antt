@@ -2,23 +2,23 @@
 use Rattle.std.proofs.Common.{◌≡◌, ℕ, ◌<◌, List, [], ◌∷◌, ◌++◌, length, Bool, true, false, Some, ◌⊎◌, inl, inr, refl, ap, sym, subst, ◌∙◌}
 use Rattle.std.specs.Prelude.{IsSomeAnd}
 use Rattle.std.proofs.lemmas.Option.{slice_get_within, same_Some}
-use Rattle.spec_rational.specs.Rational.{ℚ, 0ℚ, 1ℚ, neg_ℚ, IsPositive, IsNotNegative, ◌<ℚ◌}
-use Rattle.spec_rational.proofs.Sign.{pos_nonneg, pos_one}
+use Rattle.spec_numbers.specs.Rational.{ℚ, 0ℚ, 1ℚ, neg_ℚ, IsPositive, IsNotNegative, ◌<ℚ◌}
+use Rattle.spec_numbers.proofs.Sign.{pos_nonneg, pos_one}
 use Rattle.spec_linear.specs.declared.Relation.{Relation}
 use Rattle.spec_linear.specs.declared.Relation.TheVariants.{Eq, Gt, Ge, Ne}
 use Rattle.spec_linear.specs.Form.{Linear, negated_form}
 use Rattle.spec_linear.specs.Solution.{Constraint}
-use Rattle.spec_inequalities.specs.Certificate.{member, Allows, SomeStrict, Refutes}
+use Rattle.spec_linear.specs.Certificate.{member, Allows, SomeStrict, Refutes}
 use Rattle.spec_projection.specs.Elimination.{IsInequality}
-use Rattle.spec_tableau.specs.Entries.{row_entries, AllNumbered, IsNumbered}
-use Rattle.spec_tableau.specs.Reach.{IsGreatest}
-use Rattle.spec_tableau.specs.Tableau.{Tableau, Place, IsWritten, IsOptimal}
-use Rattle.spec_tableau.proofs.Certificate.{once_refutes, apart_refutes}
-use Rattle.spec_tableau.proofs.More.{one_top}
-use Rattle.spec_tableau.proofs.Written.{top}
+use Rattle.spec_simplex.specs.Entries.{row_entries, AllNumbered, IsNumbered}
+use Rattle.spec_simplex.specs.Reach.{IsGreatest}
+use Rattle.spec_simplex.specs.Tableau.{Tableau, Place, IsWritten, IsOptimal}
+use Rattle.spec_simplex.proofs.Certificate.{once_refutes, apart_refutes}
+use Rattle.spec_simplex.proofs.More.{one_top}
+use Rattle.spec_simplex.proofs.TableauWritten.{top}
 use Rattle.cq_form.specs.Entries.{products_of}
-use Rattle.cq_row.specs.declared.Entry.{Entry}
-use Rattle.cq_row.specs.Rows as rows
+use Rattle.cq_frac.specs.declared.row.Entry.{Entry}
+use Rattle.cq_frac.specs.Rows as rows
 use Rattle.cq_dict.specs.declared.table.Role.{Role}
 use Rattle.cq_dict.specs.declared.table.Role.TheVariants.{Basic}
 use Rattle.cq_dict.specs.Roles.{Quantities, is_restricted, is_dropped}

@@ -2,41 +2,41 @@
 use Rattle.std.proofs.Common.{◌≡◌, ℕ, zero, suc, ◌+◌, ◌<◌, List, [], ◌∷◌, ◌++◌, length, Bool, true, false, ◌||◌, nat_eq, Option, None, Some, ◌⊎◌, inl, inr, pos, arith, refl, ap, ap₂, sym, subst, ◌∙◌}
 use Rattle.std.specs.Prelude.{slice_get}
 use Rattle.std.proofs.lemmas.Option.{none-some, same_Some, slice_get_within}
-use Rattle.spec_lists.proofs.Tests.{nat_eq-sym, one_is, or_left, or_right}
-use Rattle.spec_rational.specs.Rational.{ℚ, 0ℚ, 1ℚ, neg_ℚ, ◌+ℚ◌, ◌*ℚ◌, IsNotNegative}
-use Rattle.spec_rational.specs.Sums.{Monomial, factor_of, sum_at, when}
-use Rattle.spec_rational.proofs.Ring.{var, int, ◌⊕◌, ◌⊗◌, minus}
-use Rattle.spec_rational.proofs.Rational.{ring}
-use Rattle.spec_rational.proofs.Sign.{one_not_zero, pos_nonneg}
+use Rattle.spec_numbers.proofs.Tests.{nat_eq-sym, one_is, or_left, or_right}
+use Rattle.spec_numbers.specs.Rational.{ℚ, 0ℚ, 1ℚ, neg_ℚ, ◌+ℚ◌, ◌*ℚ◌, IsNotNegative}
+use Rattle.spec_numbers.specs.Sums.{Monomial, factor_of, sum_at, when}
+use Rattle.spec_numbers.proofs.Ring.{var, int, ◌⊕◌, ◌⊗◌, minus}
+use Rattle.spec_numbers.proofs.RationalLemmas.{ring}
+use Rattle.spec_numbers.proofs.Sign.{one_not_zero, pos_nonneg}
 use Rattle.spec_linear.specs.declared.Relation.{Relation}
 use Rattle.spec_linear.specs.declared.Relation.TheVariants.{Eq, Gt, Ge, Ne}
 use Rattle.spec_linear.specs.Form.{Linear, IsForm, value_at, variable_form}
 use Rattle.spec_linear.specs.Solution.{Constraint, Has, number, Satisfies, SomeMentions}
 use Rattle.spec_linear.proofs.Denominators.{has_left, has_right}
 use Rattle.spec_linear.proofs.Points.{solves_same}
-use Rattle.spec_inequalities.specs.Certificate as of_list
-use Rattle.spec_inequalities.specs.Weak.{weak, with_weak}
+use Rattle.spec_linear.specs.Certificate as of_list
+use Rattle.spec_linear.specs.Weak.{weak, with_weak}
 use Rattle.spec_projection.specs.Elimination.{IsInequality}
-use Rattle.spec_tableau.specs.Tableau.{AllIn, Within, Chosen, Held, Sound, IsWritten as IsWrittenTableau, numbers}
-use Rattle.spec_tableau.proofs.Written.{within_is, not_in}
-use Rattle.spec_limits.specs.Dictionary.{Quantity, variable, member, member_at, IsQuantity, IsRestricted, SomeFormMentions, Expression, amount, sum_over, expressed, form_of, AllZero, IsWritten, AreOne, IsFeasible, in_front_unless_disequation, without_disequations}
-use Rattle.spec_limits.specs.Overflow.{Makes, IsInUse, beside_feasible}
+use Rattle.spec_simplex.specs.Tableau.{AllIn, Within, Chosen, Held, Sound, IsWritten as IsWrittenTableau, numbers}
+use Rattle.spec_simplex.proofs.TableauWritten.{within_is, not_in}
+use Rattle.spec_simplex.specs.LimitsDictionary.{Quantity, variable, member, member_at, IsQuantity, IsRestricted, SomeFormMentions, Expression, amount, sum_over, expressed, form_of, AllZero, IsWritten, AreOne, IsFeasible, in_front_unless_disequation, without_disequations}
+use Rattle.spec_simplex.specs.Overflow.{Makes, IsInUse, beside_feasible}
 use Rattle.cq_frac.specs.declared.VarId.{VarId}
 use Rattle.cq_frac.specs.declared.Operation.{Operation}
-use Rattle.cq_row.specs.declared.Entry.{Entry}
-use Rattle.cq_row.specs.Row.{Row}
-use Rattle.cq_row.specs.Rows.{unit, choose}
+use Rattle.cq_frac.specs.declared.row.Entry.{Entry}
+use Rattle.cq_frac.specs.Row.{Row}
+use Rattle.cq_frac.specs.Rows.{unit, choose}
 use Rattle.cq_dict.specs.declared.table.Role.{Role}
 use Rattle.cq_dict.specs.declared.table.Role.TheVariants.{Live, Dropped, Basic}
 use Rattle.cq_dict.specs.Roles.{IsAt, IsRow, AreOverColumns, IsMet, FormPair, PivotPair, is_live, is_dropped, is_restricted, role_at}
 use Rattle.cq_dict.proofs.Roles.{role_live, role_dropped, at_one, at_below, at_exists, live_at, dropped_at}
 use Rattle.cq_dict.proofs.Free.{sum_agrees}
-use Rattle.cq_store.specs.Describes as of_table
-use Rattle.cq_store.specs.Describes.{placed}
-use Rattle.cq_store.proofs.Dictionary as of_quantities
-use Rattle.cq_store.proofs.Dictionary.{sum_same, sum_zero, sum_plus, pick_one, has_either}
-use Rattle.cq_store.proofs.Feasible.{all_zero, zero_of, turned}
-use Rattle.cq_store.proofs.Causes.{at_work, not_both, form_pairs, pivot_pairs}
+use Rattle.cq_equations.specs.Describes as of_table
+use Rattle.cq_equations.specs.Describes.{placed}
+use Rattle.cq_equations.proofs.Dictionary as of_quantities
+use Rattle.cq_equations.proofs.Dictionary.{sum_same, sum_zero, sum_plus, pick_one, has_either}
+use Rattle.cq_equations.proofs.Feasible.{all_zero, zero_of, turned}
+use Rattle.cq_equations.proofs.Causes.{at_work, not_both, form_pairs, pivot_pairs}
 use Rattle.spec_projection.specs.Interior.{is_equation}
 use Rattle.cq_tableau.specs.declared.names.Name.{Name}
 use Rattle.cq_tableau.specs.declared.names.Name.TheVariants.{Variable, Member}
@@ -45,7 +45,7 @@ use Rattle.cq_tableau.specs.Forms.{form_at, tableau, Describes}
 use Rattle.cq_tableau.specs.Quantities.{name_of, quantity_of, place, picked, stands_apart}
 use Rattle.cq_tableau.specs.Stored.{IsKnown, IsMemberForm, IsMemberOf, IsPlaced}
 use Rattle.cq_tableau.proofs.Tied.{linked}
-use Rattle.spec_tableau.proofs.Linked.{linked_written}
+use Rattle.spec_simplex.proofs.Linked.{linked_written}
 use Rattle.cq_tableau.proofs.Numbering.{IsPicked, in_picked, of_picked, set_picked, set_append, proper, apart, placed_at}
 
 -- what a table holds while forms are asked of a list: each quantity is named for a variable or a member, or it is the row of an asked form

@@ -1,13 +1,13 @@
 -- A row that is zero wherever dropped columns are, or is not.
 use Rattle.std.proofs.Common.{◌≡◌, ℕ, List, [], ◌∷◌, Bool, true, false, inl, refl, ap, sym, subst, ◌∙◌}
 use Rattle.std.specs.Prelude.{◌↔◌, MatchBool}
-use Rattle.spec_rational.specs.Rational.{0ℚ}
-use Rattle.spec_rational.specs.Sums.{factor_of}
-use Rattle.spec_tableau.specs.Tableau.{IsNothing, IsSomething, by_constant, by_entry}
+use Rattle.spec_numbers.specs.Rational.{0ℚ}
+use Rattle.spec_numbers.specs.Sums.{factor_of}
+use Rattle.spec_simplex.specs.Tableau.{IsNothing, IsSomething, by_constant, by_entry}
 use Rattle.cq_form.specs.Entries.{products_of}
-use Rattle.cq_row.specs.declared.Entry.{Entry}
-use Rattle.cq_row.specs.Row.{Row}
-use Rattle.cq_row.specs.Rows.{IsRowFrom}
+use Rattle.cq_frac.specs.declared.row.Entry.{Entry}
+use Rattle.cq_frac.specs.Row.{Row}
+use Rattle.cq_frac.specs.Rows.{IsRowFrom}
 use Rattle.cq_dict.specs.declared.table.Role.{Role}
 use Rattle.cq_dict.specs.declared.table.Role.TheVariants.{Basic}
 use Rattle.cq_dict.specs.Roles.{IsAt, is_live, role_at}

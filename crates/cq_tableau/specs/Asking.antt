@@ -2,7 +2,7 @@
 use Rattle.std.specs.Prelude.{◌≡◌, ℕ, List, [], ◌∷◌, ◌++◌, length, false}
 use Rattle.spec_linear.specs.Form.{Linear, IsForm}
 use Rattle.cq_frac.specs.declared.Pair.{Pair}
-use Rattle.cq_row.specs.declared.Entry.{Entry}
+use Rattle.cq_frac.specs.declared.row.Entry.{Entry}
 use Rattle.cq_dict.specs.Roles.{Quantities, AreOverColumns}
 use Rattle.cq_dict.specs.Dict.{AddsRow, DefinesLast, RefusesForm}
 use Rattle.cq_tableau.specs.declared.names.Name.{Name}

@@ -1,7 +1,7 @@
 -- Columns dropped together.
 use Rattle.std.specs.Prelude.{◌≡◌, ◌⊎◌, ℕ, List, [], ◌∷◌, length, true}
 use Rattle.spec_linear.specs.Solution.{Has}
-use Rattle.cq_row.specs.declared.Entry.{Entry}
+use Rattle.cq_frac.specs.declared.row.Entry.{Entry}
 use Rattle.cq_dict.specs.declared.table.Role.{Role}
 use Rattle.cq_dict.specs.Roles.{AreOverColumns, is_live, is_dropped}
 use Rattle.cq_dict.specs.Dict.{SameMeaning}

@@ -1,15 +1,15 @@
 -- The variables whose value is open, and those of them that have a value afterwards.
 use Rattle.std.specs.Prelude.{◌≡◌, ◌⊎◌, ℕ, ◌<◌, List, Some, slice_get, slice_index}
-use Rattle.spec_rational.specs.Rational.{ℚ}
+use Rattle.spec_numbers.specs.Rational.{ℚ}
 use Rattle.spec_linear.specs.Solution.{Constraint, Has, Fixed}
-use Rattle.spec_echelon.specs.Echelon.{AreDistinct}
+use Rattle.spec_linear.specs.Echelon.{AreDistinct}
 use Rattle.cq_frac.specs.declared.VarId.{VarId}
 use Rattle.cq_dict.specs.declared.table.Role.{Role}
 use Rattle.cq_dict.specs.Roles.{Quantities}
 use Rattle.cq_tableau.specs.declared.names.Name.{Name}
 use Rattle.cq_tableau.specs.declared.names.Name.TheVariants.{Variable}
 use Rattle.cq_tableau.specs.Stored.{IsStored}
-use Rattle.cq_store.specs.Told.{numbers_of}
+use Rattle.cq_equations.specs.Told.{numbers_of}
 use Rattle.cq_tableau.specs.Values.{IsOpen, IsNumber}
 
 -- no name stands twice

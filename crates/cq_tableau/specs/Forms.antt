@@ -1,10 +1,10 @@
 -- The tableau that the quantities of a dictionary make with their forms over the variables.
 use Rattle.std.specs.Prelude.{◌≡◌, ℕ, ◌<◌, List, [], length, map, slice_index_or, Bool}
-use Rattle.spec_rational.specs.Rational.{ℚ, 0ℚ}
+use Rattle.spec_numbers.specs.Rational.{ℚ, 0ℚ}
 use Rattle.spec_linear.specs.Form.{Linear, value_at, constant_form}
-use Rattle.spec_tableau.specs.Tableau.{Row, Tableau, unit_of}
+use Rattle.spec_simplex.specs.Tableau.{Row, Tableau, unit_of}
 use Rattle.cq_form.specs.Entries.{products_of}
-use Rattle.cq_row.specs.declared.Entry.{Entry}
+use Rattle.cq_frac.specs.declared.row.Entry.{Entry}
 use Rattle.cq_dict.specs.declared.table.Role.{Role}
 use Rattle.cq_dict.specs.declared.table.Role.TheVariants.{Live, Dropped, Basic}
 use Rattle.cq_dict.specs.Roles.{IsMet, is_live, is_dropped, is_restricted, role_at}

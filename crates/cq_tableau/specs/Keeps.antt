@@ -2,8 +2,8 @@
 use Rattle.std.specs.Prelude.{◌≡◌, ℕ, List, ◌∷◌, length, Bool}
 use Rattle.spec_linear.specs.Form.{Linear}
 use Rattle.spec_linear.specs.Solution.{Constraint}
-use Rattle.spec_inequalities.specs.Weak.{above_zero, at_least_zero}
-use Rattle.spec_tableau.specs.Tableau.{Sound, Invariant, AreDropped}
+use Rattle.spec_linear.specs.Weak.{above_zero, at_least_zero}
+use Rattle.spec_simplex.specs.Tableau.{Sound, Invariant, AreDropped}
 use Rattle.cq_dict.specs.declared.table.Role.{Role}
 use Rattle.cq_dict.specs.Roles.{AreOverColumns, is_dropped}
 use Rattle.cq_tableau.specs.Forms.{form_at, tableau, Describes}

@@ -12,3 +12,7 @@ pub mod Dropped
 pub mod Looked
 pub mod Fixing
 pub mod Restored
+pub mod Turned
+pub mod Levelled
+pub mod Lightest
+pub mod Faced

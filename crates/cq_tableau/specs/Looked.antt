@@ -1,12 +1,12 @@
 -- A second look at restricted quantities, where a constraint joins on a face.
 use Rattle.std.specs.Prelude.{◌≡◌, ◌⊎◌, ℕ, List, Bool, true, length, Option, MatchOption}
-use Rattle.spec_rational.specs.Rational.{0ℚ, ◌<ℚ◌, IsPositive, IsNotNegative}
+use Rattle.spec_numbers.specs.Rational.{0ℚ, ◌<ℚ◌, IsPositive, IsNotNegative}
 use Rattle.spec_linear.specs.Form.{Linear}
 use Rattle.spec_linear.specs.declared.Relation.{Relation}
 use Rattle.spec_linear.specs.declared.Relation.TheVariants.{Gt, Ne}
 use Rattle.spec_linear.specs.Solution.{Constraint}
-use Rattle.spec_tableau.specs.Reach.{Rises, IsFlat}
-use Rattle.spec_tableau.specs.Tableau.{Within}
+use Rattle.spec_simplex.specs.Reach.{Rises, IsFlat}
+use Rattle.spec_simplex.specs.Tableau.{Within}
 use Rattle.cq_frac.specs.declared.Pair.{Pair}
 use Rattle.cq_frac.specs.Refused.{IsRefused}
 use Rattle.cq_dict.specs.declared.table.Role.{Role}

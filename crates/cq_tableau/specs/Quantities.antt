@@ -2,9 +2,9 @@
 use Rattle.std.specs.Prelude.{ℕ, suc, pred, List, [], ◌∷◌, length, Bool, true, false, nat_eq, Option, None, Some, slice_get}
 use Rattle.spec_linear.specs.Solution.{Constraint}
 use Rattle.spec_linear.specs.Form.{Linear, variable_form}
-use Rattle.spec_limits.specs.Dictionary.{Quantity, variable, member, member_at}
+use Rattle.spec_simplex.specs.LimitsDictionary.{Quantity, variable, member, member_at}
 use Rattle.spec_projection.specs.Interior.{is_equation}
-use Rattle.cq_row.specs.Rows.{choose}
+use Rattle.cq_frac.specs.Rows.{choose}
 use Rattle.cq_tableau.specs.declared.names.Name.{Name}
 use Rattle.cq_tableau.specs.declared.names.Name.TheVariants.{Variable, Member}
 

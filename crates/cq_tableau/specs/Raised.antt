@@ -1,11 +1,11 @@
 -- What became of a quantity that is to be at least zero.
 use Rattle.std.specs.Prelude.{◌≡◌, ℕ, List, Bool, true, false, slice_set}
-use Rattle.spec_rational.specs.Rational.{ℚ, 0ℚ, ◌≤ℚ◌}
+use Rattle.spec_numbers.specs.Rational.{ℚ, 0ℚ, ◌≤ℚ◌}
 use Rattle.cq_dict.specs.declared.table.Role.{Role}
 use Rattle.cq_dict.specs.Roles.{IsRow, PivotPair, is_live, is_restricted, factor_at}
 use Rattle.cq_frac.specs.declared.Pair.{Pair}
 use Rattle.cq_frac.specs.Refused.{IsRefused}
-use Rattle.cq_row.specs.declared.Entry.{Entry}
+use Rattle.cq_frac.specs.declared.row.Entry.{Entry}
 use Rattle.cq_simplex.specs.declared.Aim.TheVariants.{Positive}
 use Rattle.cq_simplex.specs.Answers.{IsMaximum, AreMultipliers, AreSpent}
 use Rattle.cq_tableau.specs.declared.raising.Raised.{Raised}

@@ -1,15 +1,15 @@
 -- The certificates that rows make, with the numbers that names tell.
 use Rattle.std.specs.Prelude.{◌≡◌, ◌⊎◌, ℕ, List, ◌∷◌, ◌++◌, Option, None, Some, slice_get}
 use Rattle.std.specs.List.{AllByRecursion}
-use Rattle.spec_rational.specs.Rational.{ℚ, 0ℚ, 1ℚ, neg_ℚ, ◌<ℚ◌}
+use Rattle.spec_numbers.specs.Rational.{ℚ, 0ℚ, 1ℚ, neg_ℚ, ◌<ℚ◌}
 use Rattle.spec_linear.specs.declared.Relation.{Relation}
 use Rattle.spec_linear.specs.declared.Relation.TheVariants.{Gt}
 use Rattle.spec_linear.specs.Solution.{Constraint}
-use Rattle.spec_inequalities.specs.Certificate.{IsAllowed}
-use Rattle.spec_tableau.specs.Entries.{entries}
+use Rattle.spec_linear.specs.Certificate.{IsAllowed}
+use Rattle.spec_simplex.specs.Entries.{entries}
 use Rattle.cq_form.specs.Entries.{products_of}
-use Rattle.cq_row.specs.Row.{Row}
-use Rattle.cq_row.specs.Rows.{negated}
+use Rattle.cq_frac.specs.Row.{Row}
+use Rattle.cq_frac.specs.Rows.{negated}
 use Rattle.cq_tableau.specs.declared.names.Name.{Name}
 use Rattle.cq_tableau.specs.declared.names.Name.TheVariants.{Variable, Member}
 

@@ -1,17 +1,17 @@
 -- Restricted columns that were dropped are live again, and a row is at its greatest value over what is live then.
 use Rattle.std.specs.Prelude.{◌≡◌, ◌⊎◌, ℕ, ◌<◌, List, [], ◌∷◌, ◌++◌, Bool, true, false, length}
-use Rattle.spec_rational.specs.Rational.{ℚ, 1ℚ, neg_ℚ, IsPositive}
-use Rattle.spec_rational.specs.Sums.{Mentions}
+use Rattle.spec_numbers.specs.Rational.{ℚ, 1ℚ, neg_ℚ, IsPositive}
+use Rattle.spec_numbers.specs.Sums.{Mentions}
 use Rattle.spec_linear.specs.Form.{Linear, IsForm, negated_form}
 use Rattle.spec_linear.specs.Solution.{Constraint}
-use Rattle.spec_tableau.specs.Entries.{entries}
-use Rattle.spec_tableau.specs.Reach.{IsGreatest}
+use Rattle.spec_simplex.specs.Entries.{entries}
+use Rattle.spec_simplex.specs.Reach.{IsGreatest}
 use Rattle.cq_form.specs.Entries.{products_of}
 use Rattle.cq_frac.specs.declared.Pair.{Pair}
 use Rattle.cq_frac.specs.Refused.{IsRefused}
-use Rattle.cq_row.specs.declared.Entry.{Entry}
-use Rattle.cq_row.specs.Row.{Row}
-use Rattle.cq_row.specs.Rows.{Has, negated}
+use Rattle.cq_frac.specs.declared.row.Entry.{Entry}
+use Rattle.cq_frac.specs.Row.{Row}
+use Rattle.cq_frac.specs.Rows.{Has, negated}
 use Rattle.cq_dict.specs.declared.table.Role.{Role}
 use Rattle.cq_dict.specs.declared.table.Role.TheVariants.{Basic}
 use Rattle.cq_dict.specs.Roles.{Quantities, IsAt, IsRow, AreOverColumns, PivotPair, is_live, is_dropped, is_restricted}

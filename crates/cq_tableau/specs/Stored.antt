@@ -1,17 +1,17 @@
 -- What a store holds at one time: the told list, and quantities with names.
 use Rattle.std.specs.Prelude.{◌≡◌, ℕ, ◌<◌, List, [], ◌∷◌, ◌++◌, length, Bool, Some, slice_get, true, ⊤, ◌⊎◌}
-use Rattle.spec_rational.specs.Sums.{Monomial, Mentions}
+use Rattle.spec_numbers.specs.Sums.{Monomial, Mentions}
 use Rattle.spec_linear.specs.declared.Relation.{Relation}
 use Rattle.spec_linear.specs.declared.Relation.TheVariants.{Eq}
 use Rattle.spec_linear.specs.Form.{Linear, variable_form}
 use Rattle.spec_linear.specs.Solution.{Constraint, SomeMentions}
-use Rattle.spec_inequalities.specs.Certificate.{member}
+use Rattle.spec_linear.specs.Certificate.{member}
 use Rattle.spec_projection.specs.Elimination.{IsInequality}
 use Rattle.cq_frac.specs.declared.VarId.{VarId}
-use Rattle.cq_row.specs.declared.Entry.{Entry}
+use Rattle.cq_frac.specs.declared.row.Entry.{Entry}
 use Rattle.cq_dict.specs.declared.table.Role.{Role}
 use Rattle.cq_dict.specs.Roles.{Quantities, is_dropped, is_restricted}
-use Rattle.cq_store.specs.Told.{numbers_of}
+use Rattle.cq_equations.specs.Told.{numbers_of}
 use Rattle.cq_tableau.specs.declared.names.Name.{Name}
 use Rattle.cq_tableau.specs.declared.names.Name.TheVariants.{Variable, Member}
 use Rattle.cq_tableau.specs.Newly.{AreNewlyFixed}

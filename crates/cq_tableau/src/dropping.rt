@@ -6,7 +6,7 @@ ghost use Rattle.cq_dict.specs.Roles.{AreOverColumns, is_live};
 ghost use Rattle.cq_tableau.specs.Dropped.{quantities, DropsEach};
 
 use cq_dict::dict::Dict;
-use cq_row::Entry;
+use cq_frac::row::Entry;
 use std::alloc::AllocError;
 
 /// Drops the columns of the entries.

@@ -2,7 +2,9 @@
 #![tactic(auto)]
 
 pub mod dropping;
+pub mod face;
 pub mod fixing;
+pub mod level;
 pub mod looking;
 pub mod names;
 pub mod negating;

@@ -11,10 +11,10 @@ ghost use Rattle.cq_tableau.specs.Looked.{SpeaksOfSome, LooksOn, Blocks, LeavesR
 use crate::dropping::drop_all;
 use crate::names::Name;
 use crate::refuting::relation_of;
-use cq_climb::ascend;
 use cq_dict::dict::{Col, Dict};
 use cq_form::Constraint;
-use cq_row::entry_at;
+use cq_frac::row::entry_at;
+use cq_simplex::climb::ascend;
 use cq_simplex::{Aim, Max, SimplexFault};
 use cq_trail::Stack;
 use spec_linear::Relation;

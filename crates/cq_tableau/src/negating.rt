@@ -2,10 +2,10 @@
 
 ghost use Rattle.std.specs.Prelude.{◌≡◌, IfOk};
 ghost use Rattle.spec_linear.specs.Form.{negated_form};
-ghost use Rattle.spec_inequalities.specs.Opposite as of_constraint;
+ghost use Rattle.spec_linear.specs.Opposite as of_constraint;
 
 use cq_form::{Constraint, Form};
-use cq_row::opposed;
+use cq_frac::row::opposed;
 use spec_linear::Relation;
 use std::alloc::{AllocError, Global};
 

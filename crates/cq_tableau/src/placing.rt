@@ -1,9 +1,9 @@
 //! Variables as quantities, and new ones made for them.
 
 ghost use Rattle.std.specs.Prelude.{◌≡◌, ◌≤◌, ℕ, Some, slice_get, IfOk, OnOk};
-ghost use Rattle.spec_rational.specs.Sums.{Mentions};
+ghost use Rattle.spec_numbers.specs.Sums.{Mentions};
 ghost use Rattle.spec_linear.specs.Form.{IsForm};
-ghost use Rattle.spec_lists.specs.Prefixes.{IsPrefix};
+ghost use Rattle.spec_numbers.specs.Prefixes.{IsPrefix};
 ghost use Rattle.cq_dict.specs.DictValue.{quantities_of};
 ghost use Rattle.cq_tableau.specs.declared.names.Name.TheVariants.{Variable};
 ghost use Rattle.cq_tableau.specs.Stored.{IsKnown, StaysStored, IsPlaced};
@@ -13,7 +13,7 @@ use crate::names::{Name, number_of};
 use cq_dict::dict::Dict;
 use cq_form::Form;
 use cq_frac::VarId;
-use cq_row::Entry;
+use cq_frac::row::Entry;
 use cq_trail::Stack;
 use indexmap::IndexMap;
 use std::alloc::{AllocError, Global};

@@ -9,10 +9,10 @@ ghost use Rattle.cq_dict.specs.Dict.{SameMeaning, RefusesPivot};
 ghost use Rattle.cq_simplex.specs.Dictionary.{dictionary};
 ghost use Rattle.cq_tableau.specs.Raised.{IsRaised, HasNoFreeColumn, RefusesRaise, SpendsRaise};
 
-use cq_climb::ascend;
 use cq_dict::dict::{Col, Dict};
 use cq_frac::Frac;
-use cq_row::Entry;
+use cq_frac::row::Entry;
+use cq_simplex::climb::ascend;
 use cq_simplex::rising::free_column;
 use cq_simplex::{Aim, Max, SimplexFault};
 use std::alloc::Global;

@@ -2,13 +2,13 @@
 
 ghost use Rattle.std.specs.Prelude.{◌≡◌, ◌++◌, IsTrue, IfOk, IfSome, OnOk, MatchBool, MatchOption};
 ghost use Rattle.std.specs.List.{AllByRecursion};
-ghost use Rattle.spec_rational.specs.Rational.{0ℚ, ◌≤ℚ◌};
+ghost use Rattle.spec_numbers.specs.Rational.{0ℚ, ◌≤ℚ◌};
 ghost use Rattle.spec_linear.specs.declared.Relation.TheVariants.{Ge};
 ghost use Rattle.spec_projection.specs.Elimination.{IsInequality};
-ghost use Rattle.spec_inequalities.specs.Certificate.{Allows, IsAllowed};
-ghost use Rattle.spec_tableau.specs.Entries.{entries};
+ghost use Rattle.spec_linear.specs.Certificate.{Allows, IsAllowed};
+ghost use Rattle.spec_simplex.specs.Entries.{entries};
 ghost use Rattle.cq_form.specs.Entries.{products_of};
-ghost use Rattle.cq_row.specs.Row.{Row};
+ghost use Rattle.cq_frac.specs.Row.{Row};
 ghost use Rattle.cq_dict.specs.declared.table.Role.TheVariants.{Basic};
 ghost use Rattle.cq_dict.specs.Roles.{IsAt, IsRow};
 ghost use Rattle.cq_tableau.specs.Refuted.{number_in, IsRowCertificate, IsTooSmall, IsTwoRuns};
@@ -18,7 +18,7 @@ use crate::names::Name;
 use cq_dict::dict::Dict;
 use cq_form::{Cert, Constraint};
 use cq_frac::Frac;
-use cq_row::{Entry, opposed};
+use cq_frac::row::{Entry, opposed};
 use cq_trail::Stack;
 use spec_linear::Relation;
 use std::alloc::{AllocError, Global};

@@ -2,9 +2,9 @@
 //! greatest value again. The dictionary stays as it is.
 
 ghost use Rattle.std.specs.Prelude.{◌≡◌, ◌≤◌, ◌<◌, ℕ, true, false, length, IfOk, OnOk};
-ghost use Rattle.spec_rational.specs.Sums.{Mentions};
+ghost use Rattle.spec_numbers.specs.Sums.{Mentions};
 ghost use Rattle.cq_frac.specs.declared.Pair.{Pair};
-ghost use Rattle.cq_row.specs.Row.{Row};
+ghost use Rattle.cq_frac.specs.Row.{Row};
 ghost use Rattle.cq_dict.specs.declared.table.Role.TheVariants.{Basic};
 ghost use Rattle.cq_dict.specs.DictValue.{quantities_of};
 ghost use Rattle.cq_dict.specs.Roles.{AreOverColumns, IsAt, IsRow, is_dropped, is_restricted};
@@ -15,10 +15,10 @@ ghost use Rattle.cq_tableau.specs.Restored.{Restores, NoneBelow, HasGreatest, Ar
 use crate::names::Name;
 use crate::placing::place_known;
 use crate::refuting::add_members;
-use cq_climb::ascend;
 use cq_dict::dict::Dict;
 use cq_form::Form;
 use cq_frac::{Frac, VarId};
+use cq_simplex::climb::ascend;
 use cq_simplex::{Aim, Max, SimplexFault};
 use cq_trail::{Stack, Undo};
 use indexmap::IndexMap;

@@ -1,7 +1,7 @@
 //! The values that a store's rows give its variables.
 
 ghost use Rattle.std.specs.Prelude.{◌≡◌, ◌<◌, List, length, MatchOption};
-ghost use Rattle.spec_rational.specs.Rational.{ℚ};
+ghost use Rattle.spec_numbers.specs.Rational.{ℚ};
 ghost use Rattle.spec_linear.specs.Solution.{Constraint, Fixed};
 ghost use Rattle.cq_dict.specs.DictValue.{quantities_of};
 ghost use Rattle.cq_tableau.specs.Stored.{IsStored};

@@ -1,7 +1,7 @@
 //! Certificates with entries that are found over restored columns.
 
 ghost use Rattle.std.specs.Prelude.{◌≡◌, ◌≤◌, ◌∷◌, ◌++◌, ℕ, IfOk};
-ghost use Rattle.spec_rational.specs.Rational.{1ℚ, neg_ℚ};
+ghost use Rattle.spec_numbers.specs.Rational.{1ℚ, neg_ℚ};
 ghost use Rattle.spec_linear.specs.Form.{negated_form};
 ghost use Rattle.cq_frac.specs.declared.Pair.{Pair};
 ghost use Rattle.cq_dict.specs.DictValue.{quantities_of};

@@ -3,7 +3,7 @@ use Rattle.std.proofs.Common.{◌≡◌, ℕ, ◌<◌, ◌≤◌, List, [], ◌�
 use Rattle.std.specs.Prelude.{slice_get}
 use Rattle.std.proofs.lemmas.List.{get_or_push, length-map, map-append, get_or_append_left, drop-append-le, take-append-le, drop_at, take_all}
 use Rattle.std.proofs.lemmas.Option.{slice_get_within, none-some}
-use Rattle.spec_rational.specs.Rational.{ℚ, 0ℚ}
+use Rattle.spec_numbers.specs.Rational.{ℚ, 0ℚ}
 use Rattle.spec_terms.specs.Term.{Var, Occurs, apply, single}
 use Rattle.spec_terms.proofs.Substitution.{occurs_from}
 use Rattle.cq_term.specs.Built.{Built}
@@ -16,7 +16,7 @@ use Rattle.cq_term.specs.declared.lists.Cell.{Cell}
 use Rattle.cq_term.specs.declared.lists.Cell.TheVariants as cell
 use Rattle.cq_term.proofs.Meanings.{at-append, length-meanings}
 use Rattle.cq_term.proofs.Kept.{meanings_cell, is_heap_cell, images_cell, is_heap_var, is_heap_bound, meanings_var, images_var, bind_heap, bind_terms, at-map-subst, empty_heap}
-use Rattle.spec_lists.proofs.Places.{map_same, get_push}
+use Rattle.spec_numbers.proofs.Places.{map_same, get_push}
 
 -- longer lists beside the cells, by which each cell reads as before
 pub record Longer (x : Contents) (wide : List ℚ) (args : List ℕ) : Type 0 where

@@ -19,7 +19,7 @@ use Rattle.cq_term.specs.Built.{Built}
 use Rattle.cq_term.specs.Built as built
 use Rattle.cq_term.specs.declared.lists.Binding.{Binding}
 use Rattle.cq_term.proofs.Meanings.{raws_push, length-raws, after_push, length-meanings, at-append, map_at-append, map_at-map, after_more, subst-new, steps_left, left_at}
-use Rattle.spec_lists.proofs.Places.{get_push, get_kept}
+use Rattle.spec_numbers.proofs.Places.{get_push, get_kept}
 
 pub get_last : {X : Type 0} (xs : List X) (y : X) → slice_get (xs ++ y ∷ []) (length xs) ≡ Some y
 get_last [] y = refl

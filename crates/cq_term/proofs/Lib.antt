@@ -1,3 +1,4 @@
+pub mod AtomsPlaces
 pub mod Arguments
 pub mod Meanings
 pub mod Kept
@@ -9,3 +10,7 @@ pub mod Named
 pub mod Images
 pub mod Variables
 pub mod Reversed
+pub mod WalkArguments
+pub mod Ground
+pub mod SideBySide
+pub mod WalkPlaces

@@ -4,7 +4,7 @@ use Rattle.std.specs.Prelude.{slice_get, All, Bool, IsTrue, ℤ}
 use Rattle.std.specs.List.{take-map}
 use Rattle.std.proofs.lemmas.List.{take-append-le, take-take, take_all, drop_all, get_or_push, length-map, map-append, drop-map, set-set, set-get_or}
 use Rattle.std.proofs.lemmas.Option.{slice_get_within, none-some, same_Some}
-use Rattle.spec_rational.specs.Rational.{ℚ, int_ℚ, 0ℚ}
+use Rattle.spec_numbers.specs.Rational.{ℚ, int_ℚ, 0ℚ}
 use Rattle.spec_terms.specs.Term.{Var, Number, Name, Occurs, with_arguments}
 use Rattle.cq_trail.specs.Log.{restore}
 use Rattle.cq_trail.proofs.Restore.{Within, length-restore, restore-append_right, restore-take-restore, restore_last}
@@ -22,7 +22,7 @@ use Rattle.cq_term.proofs.Meanings.{length-meanings}
 use Rattle.cq_term.proofs.Arguments.{absent_with_arguments}
 use Rattle.cq_term.proofs.Kept.{all_to_below, var_unbound}
 use Rattle.cq_term.proofs.Cells.{Longer, longer_same, longer_wide, longer_args, read_new, with_cell, with_binding, whole_cell, meant_cell, images_more, whole_var, whole_bound, whole_binding, whole_new}
-use Rattle.spec_lists.proofs.Places.{get-drop, get_push, get_take, map_same}
+use Rattle.spec_numbers.proofs.Places.{get-drop, get_push, get_take, map_same}
 
 -- each binding is of a variable that is there
 abbrev pub AllThere : ℕ → List Binding → Type 0

@@ -1,7 +1,7 @@
 -- How a heap lies in its lists, and what it keeps true now and at each mark.
 use Rattle.std.specs.Prelude.{◌≡◌, ℕ, zero, suc, ◌+◌, ◌<◌, ◌≤◌, List, [], ◌∷◌, ◌++◌, map, take, drop, slice_index_or, slice_get, length, None, Some, IsTrue, ⊤}
 use Rattle.std.specs.declared.option.Option.{Option}
-use Rattle.spec_rational.specs.Rational.{ℚ, int_ℚ, 0ℚ}
+use Rattle.spec_numbers.specs.Rational.{ℚ, int_ℚ, 0ℚ}
 use Rattle.cq_trail.specs.Log.{restore}
 use Rattle.cq_term.specs.Built.{Built}
 use Rattle.cq_term.specs.Built as built

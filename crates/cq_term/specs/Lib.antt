@@ -1,3 +1,4 @@
+pub mod Texts
 pub mod Built
 pub mod Meaning
 pub mod Ground
@@ -7,3 +8,7 @@ pub mod Rep
 pub mod Layout
 pub mod Names
 pub mod Trees
+pub mod Arguments
+pub mod Pairs
+pub mod Places
+pub mod Visits

@@ -2,16 +2,16 @@
 
 ghost use Rattle.std.specs.Prelude.{List, ℕ, ◌≡◌, ◌<◌, ◌≤◌, ◌^◌, ◌++◌, [], ◌∷◌, map, length, reverse, All, slice_get, Some, IfOk, OnOk, OnErr, IsTrue};
 ghost use Rattle.spec_terms.specs.Term.{Var, Number, Name, Occurs, with_arguments, apply, single};
-ghost use Rattle.spec_rational.specs.Rational.{int_ℚ};
+ghost use Rattle.spec_numbers.specs.Rational.{int_ℚ};
 ghost use Rattle.cq_term.specs.Meaning.{at};
 ghost use Rattle.cq_term.specs.Ground.{IsGround};
 ghost use Rattle.cq_term.specs.Names.{HasNamesOfTerms};
 ghost use Rattle.cq_term.specs.Shown.{view_of, arguments, variables_from, IsUnbound};
 
+use crate::atoms::Atom;
 use crate::lists::{Binding, Cell, Lists, push_reversed, unbind, word};
 use crate::names::{Newly, TermId};
 use crate::view::View;
-use cq_atoms::Atom;
 use cq_frac::{Frac, VarId};
 use cq_trail::{Mark, Undo};
 use std::alloc::{AllocError, Global};

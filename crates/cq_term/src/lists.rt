@@ -1,11 +1,11 @@
 // The lists that a heap is made of: cells of one small size, and beside them what has no room there.
 
 ghost use Rattle.std.specs.Prelude.{ℕ, ◌≡◌, ◌≤◌, ◌<◌, ◌+◌, ◌++◌, length, take, drop, reverse, slice_get, vec_len, vec_capacity, Some, IfSome, IfOk, OnOk, OnErr};
-ghost use Rattle.spec_rational.specs.Rational.{int_ℚ};
+ghost use Rattle.spec_numbers.specs.Rational.{int_ℚ};
 ghost use Rattle.cq_term.specs.Layout.{IsWhole, Leads, contents, restored, with_vars};
 
+use crate::atoms::Atom;
 use crate::names::TermId;
-use cq_atoms::Atom;
 use cq_frac::Frac;
 use std::alloc::AllocError;
 

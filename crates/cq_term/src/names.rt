@@ -2,7 +2,7 @@
 
 ghost use Rattle.std.specs.Prelude.{◌≡◌, ◌++◌, [], ◌∷◌, List, take, OnOk, OnErr};
 
-use cq_atoms::Atom;
+use crate::atoms::Atom;
 use cq_frac::VarId;
 use std::alloc::{AllocError, Global};
 use std::marker::Model;

@@ -1,6 +1,6 @@
 // What a term shows at its head.
 
-use cq_atoms::Atom;
+use crate::atoms::Atom;
 use cq_frac::{Frac, VarId};
 
 /// The head of a term, read through bindings: a variable is unbound, a compound has its name and how many arguments.

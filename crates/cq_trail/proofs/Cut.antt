@@ -5,7 +5,7 @@ use Rattle.std.specs.List.{take-map}
 use Rattle.std.proofs.lemmas.List.{take-append-le, take-take}
 use Rattle.std.proofs.lemmas.Option.{slice_get_within, none-some}
 use Rattle.cq_trail.specs.StackValue.{IsStack, cut_at}
-use Rattle.spec_lists.proofs.Places.{get_push, get_take, map_same}
+use Rattle.spec_numbers.proofs.Places.{get_push, get_take, map_same}
 
 module _ {T : Type 0} (xs : List T) (marks : List ℕ) (is : IsStack xs marks) where
   pub stack_push : (x : T) → IsStack (xs ++ x ∷ []) marks

@@ -11,7 +11,7 @@ use Rattle.cq_trail.specs.TrailValue.{newest, SavesOnce}
 use Rattle.cq_trail.specs.Log.{restore, old_values, old_stamps, places, at_mark, saved_since, IsTrail, NeedsNoSaving, NeedsSaving}
 use Rattle.cq_trail.proofs.Restore.{Within, length-restore, restore-append_right, within_drop, restore_covered, take-restore-set, restore-saved, restore-take-restore, restore_last, drop-take-drop}
 use Rattle.cq_trail.proofs.Stamps.{EntriesWithin, value_of, stamp_of, place_of, values_within, stamps_within, has_value, saved_has, has_earlier, stamp_saved, saved_stamp}
-use Rattle.spec_lists.proofs.Places.{get_push, get_take, map_same}
+use Rattle.spec_numbers.proofs.Places.{get_push, get_take, map_same}
 
 get_or-append_zero : (xs : List ℕ) (i : ℕ) → get_or (xs ++ 0 ∷ []) i 0 ≡ get_or xs i 0
 get_or-append_zero [] zero = refl

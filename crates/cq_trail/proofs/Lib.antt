@@ -3,3 +3,4 @@ pub mod Stamps
 pub mod Kept
 pub mod Zip
 pub mod Cut
+pub mod Counting

@@ -5,7 +5,7 @@ use Rattle.std.proofs.lemmas.List.{set-append_left, set-set, set_comm, set-get_o
 use Rattle.std.proofs.lemmas.Option.{none-some, same_Some}
 use Rattle.std.proofs.lemmas.Bool.{cases_eq}
 use Rattle.cq_trail.specs.Log.{restore}
-use Rattle.spec_lists.proofs.Places.{get-drop, get_push, get_kept, get_take, map_same}
+use Rattle.spec_numbers.proofs.Places.{get-drop, get_push, get_kept, get_take, map_same}
 
 -- what lies from p on, before q and from q on
 pub drop-take-drop : {X : Type 0} (p q : ℕ) (xs : List X) → p ≤ q → drop p (take q xs) ++ drop q xs ≡ drop p xs

@@ -8,7 +8,7 @@ use Rattle.cq_trail.specs.declared.trail.Entry.{Entry}
 use Rattle.cq_trail.specs.Log.{restore, old_values, old_stamps, places}
 use Rattle.cq_trail.proofs.Restore.{Within, Has, has_or_not, get_or-restore_apart, restore_last, drop-take-drop}
 use Rattle.std.proofs.Math.Seq.{drop-cons}
-use Rattle.spec_lists.proofs.Places.{get-drop, get_kept}
+use Rattle.spec_numbers.proofs.Places.{get-drop, get_kept}
 
 module _ {T : Type 0} where
   abbrev pub EntriesWithin : ℕ → List (Entry T) → Type 0

@@ -1,3 +1,4 @@
 pub mod TrailValue
 pub mod Log
 pub mod StackValue
+pub mod Counting

@@ -3,6 +3,7 @@
 #![tactic(auto)]
 
 mod both;
+pub mod counted;
 mod stack;
 mod trail;
 mod undo;

@@ -8,9 +8,9 @@ use Rattle.cq_term.specs.Meaning.{HeapTerm, at}
 use Rattle.cq_term.specs.HeapValue.{Terms as HeapTerms}
 use Rattle.cq_term.specs.Shown.{arguments}
 use Rattle.cq_frac.specs.declared.VarId.{VarId}
-use Rattle.cq_walk.specs.Pairs.{IsLive, equation_of, equations, HaveSameFunctor, pairwise, PushesPairs}
-use Rattle.cq_walk.specs.declared.pairs.Pair.{Pair}
-use Rattle.cq_walk.proofs.SideBySide.{equations_pop, equations_push, live_pop, live_push}
+use Rattle.cq_term.specs.Pairs.{IsLive, equation_of, equations, HaveSameFunctor, pairwise, PushesPairs}
+use Rattle.cq_term.specs.declared.walk.pairs.Pair.{Pair}
+use Rattle.cq_term.proofs.SideBySide.{equations_pop, equations_push, live_pop, live_push}
 use Rattle.cq_unify.specs.Work.{Demands, Narrowed}
 use Rattle.cq_unify.specs.declared.pairs.Demand.TheVariants as demand
 use Rattle.cq_unify.specs.declared.pairs.Step.TheVariants as step

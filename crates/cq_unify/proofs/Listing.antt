@@ -8,7 +8,7 @@ use Rattle.std.proofs.lemmas.List.Folds.{list_any_at}
 use Rattle.std.proofs.lemmas.List.Elements.{All-push, Contains-append_left}
 use Rattle.indexmap.specs.IndexSet.{insert_key}
 use Rattle.indexmap.proofs.CallerLemmas.{Contains-insert_key}
-use Rattle.spec_rational.specs.Rational.{ℚ}
+use Rattle.spec_numbers.specs.Rational.{ℚ}
 use Rattle.spec_terms.specs.Term.{Terms, Var, Number, Name, Compound, one, more, list_of, Occurs, OccursIn}
 use Rattle.spec_terms.specs.Variables.{with_variable, variables_after, variables_in}
 use Rattle.cq_term.specs.Meaning.{HeapTerm, at}
@@ -16,8 +16,8 @@ use Rattle.cq_term.specs.Shown.{view_of, arguments}
 use Rattle.cq_term.specs.declared.view.View.{View}
 use Rattle.cq_term.specs.declared.view.View.TheVariants as view
 use Rattle.cq_frac.specs.declared.VarId.{VarId}
-use Rattle.cq_walk.specs.Arguments.{PushesArguments}
-use Rattle.cq_walk.proofs.Arguments.{terms_pop, terms_push}
+use Rattle.cq_term.specs.Arguments.{PushesArguments}
+use Rattle.cq_term.proofs.WalkArguments.{terms_pop, terms_push}
 use Rattle.cq_unify.specs.Listing.{variables_through}
 
 through-append : (vs : List ℕ) (ts us : List HeapTerm) → variables_through vs (ts ++ us) ≡ variables_through (variables_through vs us) ts

@@ -4,7 +4,7 @@ use Rattle.std.specs.Prelude.{All, ◌↔◌, ◌⊎◌, slice_get}
 use Rattle.std.proofs.lemmas.List.{reverse-append, take_more}
 use Rattle.std.proofs.lemmas.List.Elements.{All-append, All-push, All-same, All-pop}
 use Rattle.std.proofs.lemmas.Option.{none-some, same_Some}
-use Rattle.spec_rational.specs.Rational.{ℚ}
+use Rattle.spec_numbers.specs.Rational.{ℚ}
 use Rattle.spec_terms.specs.Term.{Var, Number, Name, Compound, one, more, list_of, Occurs, OccursIn, Terms, with_arguments}
 use Rattle.cq_term.specs.Meaning.{HeapTerm, at}
 use Rattle.cq_term.specs.Shown.{view_of, arguments}
@@ -13,8 +13,8 @@ use Rattle.cq_term.specs.declared.view.View.TheVariants as view
 use Rattle.cq_term.proofs.Arguments.{absent_with_arguments, with_arguments-list_of}
 use Rattle.cq_term.proofs.Kept.{arg_is}
 use Rattle.cq_frac.specs.declared.VarId.{VarId}
-use Rattle.cq_walk.specs.Arguments.{PushesArguments}
-use Rattle.cq_walk.proofs.Arguments.{terms_pop, terms_push}
+use Rattle.cq_term.specs.Arguments.{PushesArguments}
+use Rattle.cq_term.proofs.WalkArguments.{terms_pop, terms_push}
 use Rattle.cq_unify.specs.Work.{HasInnerCompound}
 
 -- the variable stands in one of the terms

@@ -5,14 +5,14 @@ use Rattle.std.specs.List.{position, position_or_len}
 use Rattle.std.proofs.lemmas.Bool.{cases_eq, eq-eqb, ne_eqb, cond_below}
 use Rattle.std.proofs.lemmas.List.{map-append, length-map, get_or_append_left, get_or_push, take-map}
 use Rattle.std.proofs.lemmas.List.Elements.{All-head, All-tail, All-take}
-use Rattle.spec_lists.specs.Prefixes.{IsPrefix}
-use Rattle.spec_lists.proofs.Prefixes.{prefix_get_or}
+use Rattle.spec_numbers.specs.Prefixes.{IsPrefix}
+use Rattle.spec_numbers.proofs.Prefixes.{prefix_get_or}
 use Rattle.spec_terms.specs.Term.{Var, with_arguments}
 use Rattle.spec_terms.specs.Variables.{counted_from}
 use Rattle.cq_term.specs.Meaning.{HeapTerm, at, blank}
 use Rattle.cq_frac.specs.declared.VarId.{VarId}
-use Rattle.cq_walk.specs.Places.{numbers_of, place_of}
-use Rattle.cq_walk.proofs.Places.{position_or_len-place}
+use Rattle.cq_term.specs.Places.{numbers_of, place_of}
+use Rattle.cq_term.proofs.WalkPlaces.{position_or_len-place}
 use Rattle.cq_unify.specs.Copied.{unbound_from}
 use Rattle.cq_unify.specs.Copying.{with_compound}
 

@@ -14,9 +14,9 @@ use Rattle.cq_term.specs.Meaning.{HeapTerm, at}
 use Rattle.cq_term.specs.HeapValue.{Terms, HeapValue}
 use Rattle.cq_term.specs.Shown.{IsUnbound}
 use Rattle.cq_unify.specs.Unified.{Binding, in_turn, variables_of, equation, IsNewlyBound, Unified}
-use Rattle.cq_walk.specs.Pairs.{IsLive, equations}
-use Rattle.cq_walk.specs.declared.pairs.Pair.{Pair}
-use Rattle.cq_walk.proofs.SideBySide.{live_one}
+use Rattle.cq_term.specs.Pairs.{IsLive, equations}
+use Rattle.cq_term.specs.declared.walk.pairs.Pair.{Pair}
+use Rattle.cq_term.proofs.SideBySide.{live_one}
 use Rattle.cq_unify.specs.Work.{CanBind, IsBound, Demands, Narrowed}
 use Rattle.cq_unify.specs.declared.pairs.Demand.TheVariants as demand
 use Rattle.cq_unify.specs.declared.pairs.Step.TheVariants as step

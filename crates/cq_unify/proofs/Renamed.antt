@@ -12,11 +12,11 @@ use Rattle.cq_term.specs.Meaning.{HeapTerm, at, blank}
 use Rattle.cq_term.specs.Shown.{IsUnbound}
 use Rattle.cq_frac.specs.declared.VarId.{VarId}
 use Rattle.cq_unify.specs.declared.copies.Renaming.{Renaming}
-use Rattle.cq_walk.specs.Places.{numbers_of, place_of}
+use Rattle.cq_term.specs.Places.{numbers_of, place_of}
 use Rattle.cq_unify.specs.Copied.{ShareNoVariable, unbound_from}
 use Rattle.cq_unify.specs.Copying.{IsRenaming, image_of}
 use Rattle.cq_term.specs.Ground.{IsGround}
-use Rattle.cq_walk.proofs.Ground.{after_ground}
+use Rattle.cq_term.proofs.Ground.{after_ground}
 use Rattle.cq_unify.proofs.Places.{place_within, length-unbound_from, at-unbound_from}
 
 module _ (ts : List HeapTerm) (t : HeapTerm) (r : Renaming) (n : ℕ) (listed : numbers_of r.originals.keys ≡ variables t) (fresh : map (at ts) r.images.items ≡ unbound_from n (length r.originals.keys)) where

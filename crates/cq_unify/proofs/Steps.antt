@@ -5,7 +5,7 @@ use Rattle.std.specs.List.{sum_by}
 use Rattle.std.proofs.lemmas.List.{map-append, length-map, reverse-append, reverse-reverse, take_at, drop_at}
 use Rattle.std.proofs.lemmas.List.Elements.{All-head, All-tail, All-push, All-same, All-get_or}
 use Rattle.std.proofs.lemmas.List.Sums.{sum_by-append}
-use Rattle.spec_rational.specs.Rational.{ℚ}
+use Rattle.spec_numbers.specs.Rational.{ℚ}
 use Rattle.spec_terms.specs.Term.{Terms, Subst, Var, Number, Name, Compound, one, more, size, list_of, apply, apply_all, OccursIn, with_arguments}
 use Rattle.cq_term.specs.Meaning.{HeapTerm, at, blank}
 use Rattle.cq_term.specs.Shown.{view_of, arguments}
@@ -15,12 +15,12 @@ use Rattle.cq_term.specs.declared.view.View.TheVariants as view
 use Rattle.cq_unify.specs.declared.copies.Renaming.{Renaming}
 use Rattle.cq_unify.specs.declared.copies.Step.{Step}
 use Rattle.cq_unify.specs.declared.copies.Step.TheVariants.{Visit, Build}
-use Rattle.cq_walk.specs.Arguments.{PushesArguments}
-use Rattle.cq_walk.specs.Places.{numbers_of, place_of}
-use Rattle.cq_walk.proofs.Arguments.{sizes_arguments, pushes_more}
-use Rattle.spec_lists.specs.Prefixes.{IsPrefix}
+use Rattle.cq_term.specs.Arguments.{PushesArguments}
+use Rattle.cq_term.specs.Places.{numbers_of, place_of}
+use Rattle.cq_term.proofs.WalkArguments.{sizes_arguments, pushes_more}
+use Rattle.spec_numbers.specs.Prefixes.{IsPrefix}
 use Rattle.cq_unify.specs.Copying.{image_of, Covers, with_compound, act, finish, CanAct, CanFinish, Leads, PushesVisits, work_left}
-use Rattle.spec_lists.proofs.Prefixes.{prefix_get_or, prefix_all_within, prefix_within}
+use Rattle.spec_numbers.proofs.Prefixes.{prefix_get_or, prefix_all_within, prefix_within}
 use Rattle.cq_unify.proofs.Places.{place_within}
 
 -- ---- steps one after another

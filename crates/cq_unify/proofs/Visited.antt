@@ -10,10 +10,10 @@ use Rattle.spec_terms.specs.Term.{size, Occurs}
 use Rattle.cq_term.specs.Meaning.{HeapTerm, at}
 use Rattle.cq_term.specs.Shown.{view_of, arguments}
 use Rattle.cq_term.specs.declared.view.View.TheVariants as view
-use Rattle.cq_walk.specs.Arguments.{PushesArguments}
-use Rattle.cq_walk.specs.Visits.{Visits, VisitsArguments}
+use Rattle.cq_term.specs.Arguments.{PushesArguments}
+use Rattle.cq_term.specs.Visits.{Visits, VisitsArguments}
 use Rattle.cq_term.specs.Ground.{IsGround}
-use Rattle.cq_walk.proofs.Arguments.{live_push, sizes_arguments, sizes_pop, sizes_push, terms_pop, terms_push}
+use Rattle.cq_term.proofs.WalkArguments.{live_push, sizes_arguments, sizes_pop, sizes_push, terms_pop, terms_push}
 use Rattle.cq_unify.specs.Listing.{variables_through}
 use Rattle.cq_unify.proofs.Listing.{through_known, through_push}
 use Rattle.cq_unify.proofs.Occurrences.{StandsAmong, among_arguments, Looks, looks_past, looks_push}

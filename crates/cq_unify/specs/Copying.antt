@@ -2,8 +2,8 @@
 use Rattle.std.specs.Prelude.{◌≡◌, ℕ, ◌+◌, ◌*◌, ◌<◌, List, [], ◌∷◌, ◌++◌, map, take, drop, length, slice_index, All, Contains, ⊤}
 use Rattle.spec_terms.specs.Term.{Subst, Occurs, apply, size, with_arguments}
 use Rattle.cq_term.specs.Meaning.{HeapTerm, at}
-use Rattle.cq_walk.specs.Arguments.{AreArguments}
-use Rattle.cq_walk.specs.Places.{numbers_of, place_of}
+use Rattle.cq_term.specs.Arguments.{AreArguments}
+use Rattle.cq_term.specs.Places.{numbers_of, place_of}
 use Rattle.cq_unify.specs.declared.copies.Renaming.{Renaming}
 use Rattle.cq_unify.specs.declared.copies.Step.{Step}
 use Rattle.cq_unify.specs.declared.copies.Step.TheVariants.{Visit, Build}

@@ -3,3 +3,5 @@ pub mod Copying
 pub mod Listing
 pub mod Unified
 pub mod Work
+pub mod Standing
+pub mod OrderWork

@@ -7,8 +7,8 @@ use Rattle.cq_term.specs.Meaning.{HeapTerm, at}
 use Rattle.cq_term.specs.HeapValue.{Terms}
 use Rattle.cq_term.specs.Shown.{view_of, arguments, IsUnbound}
 use Rattle.cq_term.specs.declared.view.View.TheVariants as view
-use Rattle.cq_walk.specs.Pairs.{IsLive, equations, HaveSameFunctor}
-use Rattle.cq_walk.specs.declared.pairs.Pair.{Pair}
+use Rattle.cq_term.specs.Pairs.{IsLive, equations, HaveSameFunctor}
+use Rattle.cq_term.specs.declared.walk.pairs.Pair.{Pair}
 use Rattle.cq_unify.specs.declared.pairs.Demand.{Demand}
 use Rattle.cq_unify.specs.declared.pairs.Demand.TheVariants as demand
 use Rattle.cq_unify.specs.declared.pairs.Step.{Step}

@@ -3,6 +3,7 @@
 
 mod copies;
 mod occurs;
+pub mod order;
 mod pairs;
 mod unification;
 mod variables;

@@ -7,8 +7,8 @@ ghost use Rattle.cq_term.specs.Shown.{arguments};
 ghost use Rattle.cq_unify.specs.Work.{HasInnerCompound};
 
 use cq_frac::VarId;
+use cq_term::walk::Visited;
 use cq_term::{Heap, TermId, View};
-use cq_walk::Visited;
 use std::alloc::AllocError;
 
 /// Whether an unbound variable stands in a term. Without a compound inside a compound this takes no memory.

@@ -1,12 +1,12 @@
 // Pairs of terms that are still to be made equal, and the comparison of two terms at their heads.
 
 ghost use Rattle.std.specs.Prelude.{◌≡◌, ◌<◌, length, All, IfOk, if◌then◌else◌};
-ghost use Rattle.cq_walk.specs.Pairs.{IsLive};
+ghost use Rattle.cq_term.specs.Pairs.{IsLive};
 ghost use Rattle.cq_unify.specs.Work.{Demands, Narrowed};
 
 use cq_frac::VarId;
+use cq_term::walk::{Pair, push_pairs};
 use cq_term::{Heap, TermId, View};
-use cq_walk::{Pair, push_pairs};
 use std::alloc::AllocError;
 
 /// What it takes to make two terms equal, by their heads.

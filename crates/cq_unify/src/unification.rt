@@ -12,9 +12,9 @@ ghost use Rattle.cq_unify.specs.Work.{CanBind, IsBound};
 use crate::occurs::occurs;
 use crate::pairs::{self, Demand, Step, demand_of};
 use cq_frac::VarId;
+use cq_term::walk::Pair;
 use cq_term::{Heap, Newly, TermId};
 use cq_trail::Undo;
-use cq_walk::Pair;
 use std::alloc::AllocError;
 
 /// Makes two terms equal by binding variables, or says that nothing does. Each variable is bound to a term in which

@@ -4,11 +4,11 @@ ghost use Rattle.std.specs.Prelude.{◌≡◌, ◌<◌, length, All, IfOk};
 ghost use Rattle.spec_terms.specs.Variables.{variables as variables_of_term};
 ghost use Rattle.cq_term.specs.Meaning.{at};
 ghost use Rattle.cq_term.specs.Shown.{IsUnbound};
-ghost use Rattle.cq_walk.specs.Places.{numbers_of};
+ghost use Rattle.cq_term.specs.Places.{numbers_of};
 
 use cq_frac::VarId;
+use cq_term::walk::Visited;
 use cq_term::{Heap, TermId, View};
-use cq_walk::Visited;
 use indexmap::IndexSet;
 use std::alloc::AllocError;
 

@@ -1,6 +1,6 @@
 -- What the words of the command line ask for.
 use Rattle.std.specs.Prelude.{ℕ, List, map}
-use Rattle.spec_lists.specs.Texts.{Text}
+use Rattle.spec_numbers.specs.Texts.{Text}
 use Rattle.cq_words.specs.declared.run.Run.{Run}
 use Rattle.cq_words.specs.declared.run.Task as words
 use Rattle.cq_words.specs.declared.run.Task.TheVariants as task

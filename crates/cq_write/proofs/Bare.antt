@@ -8,21 +8,21 @@ use Rattle.std.proofs.Math.Bool.{and-false}
 use Rattle.std.proofs.lemmas.Bool.Decides.{nat_tests}
 use Rattle.std.proofs.lemmas.Str.{chars-IsAscii}
 use Rattle.std.proofs.lemmas.Str.Ascii.{IsAscii-nil}
-use Rattle.spec_lists.proofs.Tests.{nat_eq-apart, neither_is}
-use Rattle.spec_lists.specs.Texts.{Text}
-use Rattle.spec_grammar.specs.declared.Kind.TheVariants.{Name}
-use Rattle.spec_grammar.specs.declared.Gap.TheVariants.{Between}
-use Rattle.spec_grammar.specs.Characters.{is_layout, is_symbol, first_char, passes, starts_name, starts_variable, continues_name, name_end, begins_with}
-use Rattle.spec_grammar.specs.Gaps.{gap}
-use Rattle.spec_grammar.specs.Tokens.{token, ends_clause, token_at, next_token}
-use Rattle.spec_grammar.specs.Laws.{AllPass}
-use Rattle.spec_grammar.proofs.Again.{first_char-ascii, symbol_small, symbol_starts_none}
+use Rattle.spec_numbers.proofs.Tests.{nat_eq-apart, neither_is}
+use Rattle.spec_numbers.specs.Texts.{Text}
+use Rattle.spec_syntax.specs.declared.grammar.Kind.TheVariants.{Name}
+use Rattle.spec_syntax.specs.declared.grammar.Gap.TheVariants.{Between}
+use Rattle.spec_syntax.specs.Characters.{is_layout, is_symbol, first_char, passes, starts_name, starts_variable, continues_name, name_end, begins_with}
+use Rattle.spec_syntax.specs.Gaps.{gap}
+use Rattle.spec_syntax.specs.GrammarTokens.{token, ends_clause, token_at, next_token}
+use Rattle.spec_syntax.specs.Laws.{AllPass}
+use Rattle.spec_syntax.proofs.Again.{first_char-ascii, symbol_small, symbol_starts_none}
 use Rattle.spec_syntax.specs.Writing.{is_name_to, is_spaced, needs_quotes}
-use Rattle.spec_writing.specs.Texts.{name_text}
-use Rattle.spec_writing.proofs.Names.{all_by}
-use Rattle.spec_writing.specs.declared.Style.{Style}
-use Rattle.spec_writing.specs.declared.Style.TheVariants.{Plain, Quoted}
-use Rattle.cq_atoms.specs.Texts.{text_of}
+use Rattle.spec_text.specs.Texts.{name_text}
+use Rattle.spec_text.proofs.WritingNames.{all_by}
+use Rattle.spec_text.specs.declared.writing.Style.{Style}
+use Rattle.spec_text.specs.declared.writing.Style.TheVariants.{Plain, Quoted}
+use Rattle.cq_term.specs.Texts.{text_of}
 use Rattle.cq_write.specs.Spelled.{Spelled}
 use Rattle.cq_write.specs.Work.{Setting, infix_word}
 use Rattle.cq_write.specs.Looks.{HasLooks, IsBare, IsPlainText, continues_word, is_alone}

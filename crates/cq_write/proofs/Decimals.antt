@@ -3,8 +3,8 @@ use Rattle.std.proofs.Common.{◌≡◌, ℕ, zero, suc, ◌+◌, ◌/◌, ◌%�
 use Rattle.std.proofs.lemmas.Bool.{cases_lt}
 use Rattle.std.specs.Fmt.{decimal, digits, digits_onto, digit_glyph}
 use Rattle.std.proofs.lemmas.Fmt.{hex_one_digit, hex_two_digits}
-use Rattle.spec_writing.specs.Numbers.{whole_text}
-use Rattle.spec_writing.proofs.Decimals.{whole_is}
+use Rattle.spec_text.specs.Numbers.{whole_text}
+use Rattle.spec_text.proofs.Decimals.{whole_is}
 
 -- out gains `_` and one more than a number
 pub writes_counted : (n : ℕ) (old first : List ℕ) → n + 1 < 10 ^ 64 → first ≡ old ++ codes "_" → first ++ decimal (n + 1) ≡ old ++ (codes "_" ++ whole_text (1 + n))

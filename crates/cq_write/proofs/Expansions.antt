@@ -2,20 +2,20 @@
 use Rattle.std.proofs.Common.{◌≡◌, ℕ, zero, suc, ◌+◌, ◌<◌, ◌≤◌, Bool, true, false, List, [], ◌∷◌, ◌++◌, length, slice_get, Some, None, codes, refl, ap, sym, ◌∙◌, subst, append-nil, arith}
 use Rattle.std.specs.Prelude.{bytes_eq, not, ◌&&◌, if◌then◌else◌}
 use Rattle.std.specs.Cmp.Lexicographic.{bytes_decides}
-use Rattle.spec_rational.specs.Rational.{ℚ, neg_ℚ}
-use Rattle.spec_grammar.specs.Characters.{first_char}
-use Rattle.spec_lists.specs.Texts.{Text}
-use Rattle.spec_operators.specs.declared.OpDef.{OpDef}
-use Rattle.spec_operators.specs.Operators.{Ops, right_most}
+use Rattle.spec_numbers.specs.Rational.{ℚ, neg_ℚ}
+use Rattle.spec_syntax.specs.Characters.{first_char}
+use Rattle.spec_numbers.specs.Texts.{Text}
+use Rattle.spec_syntax.specs.declared.operators.OpDef.{OpDef}
+use Rattle.spec_syntax.specs.Operators.{Ops, right_most}
 use Rattle.spec_terms.specs.Term.{Terms, Var, Number, Name, Compound, one, more, named, named_all, list_of}
 use Rattle.spec_syntax.specs.Trees.{Tree}
 use Rattle.spec_syntax.specs.Writing.{Alone, InList, is_negative, is_bare_right, is_bare_left, is_bare_argument, is_signed, is_spaced, needs_quotes, name_before, infix_token}
 use Rattle.spec_syntax.specs.Tokens.{Token, Open, Close, OpenList, CloseList, OpenCurly, CloseCurly, Comma, Bar, Minus, Numeral, Named, Functor, Variable, Codes, End}
-use Rattle.spec_writing.specs.Pieces.{Piece, piece, infix_piece, tokens, pieces, pieces_at, argument_pieces, unless, as_argument, placed, functional, name_pieces, number_pieces, atom_pieces, unary_pieces, operand_pieces, prefix_pieces, infix_pieces, binary_pieces}
-use Rattle.spec_writing.specs.Texts.{name_text, token_text}
-use Rattle.spec_writing.specs.declared.Style.{Style}
-use Rattle.spec_writing.specs.declared.Style.TheVariants.{Plain, Quoted}
-use Rattle.cq_atoms.specs.Texts.{text_of}
+use Rattle.spec_text.specs.Pieces.{Piece, piece, infix_piece, tokens, pieces, pieces_at, argument_pieces, unless, as_argument, placed, functional, name_pieces, number_pieces, atom_pieces, unary_pieces, operand_pieces, prefix_pieces, infix_pieces, binary_pieces}
+use Rattle.spec_text.specs.Texts.{name_text, token_text}
+use Rattle.spec_text.specs.declared.writing.Style.{Style}
+use Rattle.spec_text.specs.declared.writing.Style.TheVariants.{Plain, Quoted}
+use Rattle.cq_term.specs.Texts.{text_of}
 use Rattle.cq_term.specs.Meaning.{HeapTerm, at}
 use Rattle.cq_term.specs.Shown.{arguments}
 use Rattle.cq_write.specs.Spelled.{Spelled, spelled}

@@ -3,8 +3,8 @@ use Rattle.std.proofs.Common.{◌≡◌, ℕ, ◌+◌, ◌<◌, List, [], ◌∷
 use Rattle.std.specs.Prelude.{nat_le}
 use Rattle.std.proofs.lemmas.List.{reverse-append, reverse-reverse}
 use Rattle.spec_syntax.specs.Writing.{priority}
-use Rattle.spec_writing.specs.Pieces.{pieces, unless}
-use Rattle.spec_writing.specs.Written.{text_by, pieces_within}
+use Rattle.spec_text.specs.Pieces.{pieces, unless}
+use Rattle.spec_text.specs.Written.{text_by, pieces_within}
 use Rattle.cq_write.specs.Spelled.{Written, put_all, blank_line}
 use Rattle.cq_write.specs.Work.{Setting, tree, spelled_all, job_pieces, all_pieces, IsReady, AreReady, jobs_weight, part_weight, Expands, IsOperand}
 use Rattle.cq_write.specs.declared.jobs.Part.{Part}

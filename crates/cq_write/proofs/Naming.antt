@@ -10,14 +10,14 @@ use Rattle.cq_term.specs.Shown.{view_of}
 use Rattle.cq_term.specs.declared.view.View.TheVariants as view
 use Rattle.cq_unify.specs.Listing.{variables_through}
 use Rattle.cq_unify.proofs.Listing.{through_visit, through_push}
-use Rattle.cq_walk.proofs.Arguments.{live_push, sizes_pop, sizes_push}
-use Rattle.cq_walk.proofs.Ground.{after_ground}
-use Rattle.spec_lists.proofs.Tests.{nat_eq-sym}
-use Rattle.spec_lists.specs.Texts.{Text}
+use Rattle.cq_term.proofs.WalkArguments.{live_push, sizes_pop, sizes_push}
+use Rattle.cq_term.proofs.Ground.{after_ground}
+use Rattle.spec_numbers.proofs.Tests.{nat_eq-sym}
+use Rattle.spec_numbers.specs.Texts.{Text}
 use Rattle.spec_terms.specs.VariableName.{VariableName}
 use Rattle.spec_terms.specs.Term.{size}
 use Rattle.spec_terms.specs.Variables.{with_variable}
-use Rattle.spec_writing.specs.Written.{given_name, is_unnamed, shown, counted_name}
+use Rattle.spec_text.specs.Written.{given_name, is_unnamed, shown, counted_name}
 use Rattle.cq_write.specs.Naming.{kept_or, AreFound, Opens, with_unnamed}
 
 -- ---- one more name

@@ -1,9 +1,9 @@
 -- Steps that several functions take.
 use Rattle.std.proofs.Common.{◌≡◌, ℕ, zero, suc, ◌<◌, Bool, List, [], ◌∷◌, ◌++◌, length, reverse, true, false, slice_get, Some, Ok, Err, refl, ap, sym, ◌∙◌, arith, append_assoc, append-nil, subst}
 use Rattle.std.specs.Prelude.{OnOk, bytes_eq, Result}
-use Rattle.spec_lists.specs.Texts.{Text}
-use Rattle.spec_writing.specs.Texts.{last_of, all_escaped, escaped}
-use Rattle.cq_atoms.specs.Texts.{text_of}
+use Rattle.spec_numbers.specs.Texts.{Text}
+use Rattle.spec_text.specs.Texts.{last_of, all_escaped, escaped}
+use Rattle.cq_term.specs.Texts.{text_of}
 use Rattle.cq_write.specs.Spelled.{Written}
 use Rattle.cq_write.specs.Work.{Setting, Begins, Expands, IsExpansion, IsKnown, IsOperand}
 use Rattle.cq_write.specs.declared.jobs.Part.{Part}

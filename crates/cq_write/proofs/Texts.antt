@@ -1,10 +1,10 @@
 -- What is put into a line one behind another is the joined text.
 use Rattle.std.proofs.Common.{◌≡◌, ℕ, Bool, true, false, List, [], ◌∷◌, ◌++◌, length, refl, ap, sym, ◌∙◌, append_assoc, append-nil}
 use Rattle.std.specs.Prelude.{not, ◌&&◌, ◌==◌, if◌then◌else◌, map, Option, Some, None}
-use Rattle.spec_lists.specs.Texts.{Text}
-use Rattle.spec_writing.specs.Pieces.{Piece}
-use Rattle.spec_writing.specs.Texts.{text_of, joined, seen, is_apart as is_apart_of, blank_behind}
-use Rattle.spec_writing.specs.declared.Style.{Style}
+use Rattle.spec_numbers.specs.Texts.{Text}
+use Rattle.spec_text.specs.Pieces.{Piece}
+use Rattle.spec_text.specs.Texts.{text_of, joined, seen, is_apart as is_apart_of, blank_behind}
+use Rattle.spec_text.specs.declared.writing.Style.{Style}
 use Rattle.cq_write.specs.Spelled.{Written, spelled, put_all, blank_before, last_piece, blank_line}
 use Rattle.cq_write.specs.declared.line.Last.{Last}
 

@@ -2,11 +2,11 @@
 use Rattle.std.specs.Prelude.{◌≡◌, ℕ, Bool, true, false, ◌&&◌, ◌||◌, ◌==◌, List, [], ◌∷◌, length, ⊤}
 use Rattle.std.specs.Char.{is_ascii_alphanumeric}
 use Rattle.std.specs.Str.{IsAscii}
-use Rattle.spec_lists.specs.Texts.{Text}
-use Rattle.spec_grammar.specs.Characters.{passes, first_char, continues_name, begins_with}
+use Rattle.spec_numbers.specs.Texts.{Text}
+use Rattle.spec_syntax.specs.Characters.{passes, first_char, continues_name, begins_with}
 use Rattle.spec_syntax.specs.Writing.{needs_quotes}
-use Rattle.spec_writing.specs.Texts.{name_text}
-use Rattle.cq_atoms.specs.Texts.{text_of}
+use Rattle.spec_text.specs.Texts.{name_text}
+use Rattle.cq_term.specs.Texts.{text_of}
 use Rattle.cq_write.specs.Work.{Setting}
 use Rattle.cq_write.specs.declared.looks.Looks.{Looks}
 use Rattle.cq_write.specs.declared.looks.Looks.TheVariants as looks

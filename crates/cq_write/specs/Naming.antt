@@ -3,9 +3,9 @@ use Rattle.std.specs.Prelude.{◌≡◌, ◌<◌, ◌⊎◌, ℕ, Bool, List, le
 use Rattle.indexmap.specs.IndexSet.{insert_key}
 use Rattle.spec_terms.specs.Variables.{variables}
 use Rattle.spec_terms.specs.VariableName.{VariableName}
-use Rattle.spec_writing.specs.Written.{given_name, is_unnamed}
+use Rattle.spec_text.specs.Written.{given_name, is_unnamed}
 use Rattle.cq_term.specs.Meaning.{HeapTerm, at}
-use Rattle.cq_walk.specs.Arguments.{PushesArguments}
+use Rattle.cq_term.specs.Arguments.{PushesArguments}
 use Rattle.cq_term.specs.Ground.{IsGround}
 
 -- the place that was noted for a variable, or this one where it is that variable's

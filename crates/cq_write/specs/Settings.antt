@@ -1,8 +1,8 @@
 -- What a writer writes, and how.
 use Rattle.std.specs.Prelude.{ℕ, nat_eq}
 use Rattle.indexmap.specs.IndexMap.{get}
-use Rattle.spec_lists.specs.Texts.{Text}
-use Rattle.spec_writing.specs.Written.{shown}
+use Rattle.spec_numbers.specs.Texts.{Text}
+use Rattle.spec_text.specs.Written.{shown}
 use Rattle.cq_write.specs.Meaning.{operators}
 use Rattle.cq_write.specs.Naming.{AreFound}
 use Rattle.cq_write.specs.Work.{Setting}

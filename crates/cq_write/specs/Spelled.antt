@@ -1,11 +1,11 @@
 -- Pieces by their texts, and the text that they make one behind another.
 use Rattle.std.specs.Prelude.{ℕ, Bool, not, ◌&&◌, ◌||◌, ◌==◌, if◌then◌else◌, List, [], ◌∷◌, ◌++◌, length, codes, chars, bytes_eq, Option, Some, None}
 use Rattle.std.specs.Char.{is_ascii_digit}
-use Rattle.spec_lists.specs.Texts.{Text}
-use Rattle.spec_grammar.specs.Characters.{is_symbol, continues_name, begins, begins_with, first_char, passes}
-use Rattle.spec_writing.specs.Pieces.{Piece}
-use Rattle.spec_writing.specs.Texts.{text_of, last_of, ends_name}
-use Rattle.spec_writing.specs.declared.Style.{Style}
+use Rattle.spec_numbers.specs.Texts.{Text}
+use Rattle.spec_syntax.specs.Characters.{is_symbol, continues_name, begins, begins_with, first_char, passes}
+use Rattle.spec_text.specs.Pieces.{Piece}
+use Rattle.spec_text.specs.Texts.{text_of, last_of, ends_name}
+use Rattle.spec_text.specs.declared.writing.Style.{Style}
 use Rattle.cq_write.specs.declared.line.Line.{Line}
 use Rattle.cq_write.specs.declared.line.Last.{Last}
 use Rattle.cq_write.specs.declared.line.Manner.{Manner}

@@ -1,15 +1,15 @@
 -- What is still to be written: jobs, and the pieces that they stand for.
 use Rattle.std.specs.Prelude.{ℕ, zero, suc, ◌≡◌, ◌<◌, ◌≤◌, ◌+◌, Bool, true, false, List, [], ◌∷◌, ◌++◌, map, reverse, length, codes, bytes_eq, ⊤}
-use Rattle.spec_lists.specs.Texts.{Text}
-use Rattle.spec_operators.specs.Operators.{Ops}
+use Rattle.spec_numbers.specs.Texts.{Text}
+use Rattle.spec_syntax.specs.Operators.{Ops}
 use Rattle.spec_terms.specs.Term.{Terms, Var, Number, Name, Compound, one, more, named}
 use Rattle.spec_syntax.specs.Writing.{InList, is_spaced, is_bare_argument}
 use Rattle.spec_syntax.specs.Trees.{Tree}
-use Rattle.spec_writing.specs.Numbers.{number_text}
-use Rattle.spec_writing.specs.Pieces.{Piece, pieces, pieces_at, unless, placed, argument_pieces}
-use Rattle.spec_writing.specs.Texts.{name_text}
-use Rattle.spec_writing.specs.declared.Style.{Style}
-use Rattle.cq_atoms.specs.Texts.{text_of}
+use Rattle.spec_text.specs.Numbers.{number_text}
+use Rattle.spec_text.specs.Pieces.{Piece, pieces, pieces_at, unless, placed, argument_pieces}
+use Rattle.spec_text.specs.Texts.{name_text}
+use Rattle.spec_text.specs.declared.writing.Style.{Style}
+use Rattle.cq_term.specs.Texts.{text_of}
 use Rattle.cq_term.specs.Meaning.{HeapTerm, at}
 use Rattle.cq_term.specs.Names.{HasNamesBelow}
 use Rattle.cq_term.specs.Shown.{arguments}

@@ -1,8 +1,8 @@
 //! What characters may touch: those of names of symbol characters, and those of names of letters, variables and numerals.
 
 ghost use Rattle.std.specs.Prelude.{◌≡◌};
-ghost use Rattle.spec_grammar.specs.Characters.{is_symbol as is_symbol_of, starts_name as starts_name_of, continues_name as continues_name_of};
-ghost use Rattle.spec_writing.specs.Texts.{ends_name as ends_name_of};
+ghost use Rattle.spec_syntax.specs.Characters.{is_symbol as is_symbol_of, starts_name as starts_name_of, continues_name as continues_name_of};
+ghost use Rattle.spec_text.specs.Texts.{ends_name as ends_name_of};
 
 /// One of the characters of which names of symbols are made.
 pub(crate) fn is_symbol(c: char) -> bool

@@ -3,9 +3,9 @@
 ghost use Rattle.std.specs.Prelude.{◌≡◌, ◌++◌, OnOk, IsAscii, reverse};
 ghost use Rattle.cq_write.specs.Work.{mark_text};
 
-use cq_atoms::Atom;
 use cq_frac::{Frac, VarId};
 use cq_term::TermId;
+use cq_term::atoms::Atom;
 use std::alloc::AllocError;
 
 /// Punctuation, and the sign of a number below zero.

@@ -16,7 +16,7 @@ mod writer;
 ghost use Rattle.std.specs.Prelude.{◌≡◌, ◌<◌, length, IfOk};
 ghost use Rattle.cq_term.specs.Meaning.{at};
 ghost use Rattle.cq_term.specs.Names.{HasNamesBelow};
-ghost use Rattle.spec_writing.specs.Written.{text_within};
+ghost use Rattle.spec_text.specs.Written.{text_within};
 ghost use Rattle.cq_term.specs.Trees.{tree};
 ghost use Rattle.cq_write.specs.Meaning.{operators};
 
@@ -25,11 +25,11 @@ use crate::line::Line;
 use crate::parts::operand_job;
 use crate::variables::Names;
 use crate::writer::Writer;
-use cq_atoms::Atoms;
-use cq_names::VariableName;
 use cq_ops::Ops;
+use cq_read::names::VariableName;
+use cq_term::atoms::Atoms;
 use cq_term::{Heap, TermId};
-pub use spec_writing::Style;
+pub use spec_text::writing::Style;
 use std::alloc::AllocError;
 
 /// The text of a term, read through bindings, within a priority: a term of a higher one stands in parentheses.

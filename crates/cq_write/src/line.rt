@@ -1,14 +1,14 @@
 //! The text of the pieces so far, with blanks where their neighbours ask for one.
 
 ghost use Rattle.std.specs.Prelude.{◌≡◌, ◌||◌, OnOk, IsAscii, chars};
-ghost use Rattle.spec_grammar.specs.Characters.{first_char as first_char_of};
-ghost use Rattle.spec_writing.specs.Texts.{last_of};
+ghost use Rattle.spec_syntax.specs.Characters.{first_char as first_char_of};
+ghost use Rattle.spec_text.specs.Texts.{last_of};
 ghost use Rattle.cq_write.specs.Spelled.{Spelled, written, blank_line, run_together as run_together_of, would_bind as would_bind_of, is_apart as is_apart_of, put};
 ghost use Rattle.cq_write.specs.Work.{plain, mark_text};
 
 use crate::characters::{continues_name, ends_name, is_symbol};
 use crate::jobs::Mark;
-use cq_lex::first_char;
+use cq_read::lex::first_char;
 use std::alloc::{AllocError, Global};
 
 /// What round a piece decides about blanks, apart from its text.

@@ -2,7 +2,7 @@
 
 ghost use Rattle.std.specs.Prelude.{◌≡◌, ◌≤◌, ◌&&◌, ◌==◌, ◌||◌, length};
 ghost use Rattle.std.specs.List.{prefix_len};
-ghost use Rattle.spec_grammar.specs.Characters.{is_symbol as is_symbol_of, begins_with};
+ghost use Rattle.spec_syntax.specs.Characters.{is_symbol as is_symbol_of, begins_with};
 ghost use Rattle.cq_write.specs.Looks.{HasLooks, continues_word, is_alone};
 
 use crate::characters::is_symbol;

@@ -4,11 +4,11 @@ ghost use Rattle.std.specs.Prelude.{◌≡◌, ◌++◌, ◌∷◌, ◌<◌, ◌
 ghost use Rattle.std.specs.Char.{is_control};
 ghost use Rattle.std.specs.Fmt.{digits_onto};
 ghost use Rattle.spec_syntax.specs.Writing.{needs_quotes as needs_quotes_of, is_name_to as is_name_to_of};
-ghost use Rattle.spec_writing.specs.Texts.{escaped, all_escaped, in_quotes, is_quoted as is_quoted_of, name_text};
-ghost use Rattle.cq_lex.specs.Shown.{shown};
+ghost use Rattle.spec_text.specs.Texts.{escaped, all_escaped, in_quotes, is_quoted as is_quoted_of, name_text};
+ghost use Rattle.cq_read.specs.LexShown.{shown};
 
-use cq_lex::{Kind, Token, next_token};
-use spec_writing::Style;
+use cq_read::lex::{Kind, Token, next_token};
+use spec_text::writing::Style;
 use std::alloc::AllocError;
 
 fn is_name_to(end: usize, token: Token) -> bool
@@ -86,7 +86,7 @@ fn push_quoted(out: &mut String, name: &str) -> Result<(), AllocError>
 }
 
 /// A name as the style has it.
-#[tactic(auto, unfolding(spec_writing::specs::Texts::name_text))]
+#[tactic(auto, unfolding(spec_text::specs::Texts::name_text))]
 pub(crate) fn push_name(style: Style, name: &str, out: &mut String) -> Result<(), AllocError>
     ensures { OnOk result (string_bytes out.new ≡ string_bytes out.old ++ name_text style name.now) }
 {

@@ -1,8 +1,8 @@
 //! The texts of numbers and of variables without a name.
 
 ghost use Rattle.std.specs.Prelude.{◌≡◌, ◌++◌, ◌+◌, ◌<◌, ◌^◌, OnOk, string_bytes};
-ghost use Rattle.spec_writing.specs.Numbers.{number_text};
-ghost use Rattle.spec_writing.specs.Written.{counted_name};
+ghost use Rattle.spec_text.specs.Numbers.{number_text};
+ghost use Rattle.spec_text.specs.Written.{counted_name};
 
 use cq_frac::Frac;
 use itoa::Buffer;

@@ -1,18 +1,18 @@
 //! Which operands and arguments stand without parentheses.
 
 ghost use Rattle.std.specs.Prelude.{◌≡◌, ◌<◌, length, IfSome};
-ghost use Rattle.cq_atoms.specs.Texts.{text_of};
-ghost use Rattle.spec_operators.specs.Operators.{left_most as left_most_of, right_most as right_most_of, is_operator as is_operator_of};
+ghost use Rattle.cq_term.specs.Texts.{text_of};
+ghost use Rattle.spec_syntax.specs.Operators.{left_most as left_most_of, right_most as right_most_of, is_operator as is_operator_of};
 ghost use Rattle.spec_syntax.specs.Writing.{unary_operator as unary_operator_of, binary_operator as binary_operator_of, operator_of, priority as priority_of, open_end as open_end_of, is_never_bare as is_never_bare_of, is_bare_right as is_bare_right_of, is_bare_left as is_bare_left_of, is_bare_argument as is_bare_argument_of, is_signed as is_signed_of, is_negative as is_negative_of};
 ghost use Rattle.cq_write.specs.Work.{IsKnown, tree};
 ghost use Rattle.cq_write.specs.Settings.{setting};
 
 use crate::shapes::Shape;
 use crate::writer::Writer;
-use cq_atoms::Atom;
 use cq_frac::Frac;
 use cq_term::TermId;
-use spec_operators::{OpDef, OpKind};
+use cq_term::atoms::Atom;
+use spec_syntax::operators::{OpDef, OpKind};
 
 /// The most that the priority of an operator's left operand may be.
 fn left_most(op: OpDef) -> u16

@@ -1,7 +1,7 @@
 //! Parts of terms taken apart: each into the pieces and the smaller parts of which it is made.
 
 ghost use Rattle.std.specs.Prelude.{◌≡◌, ◌<◌, OnOk, bytes_eq, codes, false, length, Some};
-ghost use Rattle.cq_atoms.specs.Texts.{text_of};
+ghost use Rattle.cq_term.specs.Texts.{text_of};
 ghost use Rattle.cq_write.specs.Spelled.{written};
 ghost use Rattle.cq_write.specs.Work.{HasShape, IsKnown, Setting, Begins, BeginsOperand, Expands, PutsCell, IsReadyPart, IsOperand, one_word, functional_jobs, at_id};
 ghost use Rattle.cq_write.specs.Settings.{setting};
@@ -11,11 +11,11 @@ use crate::line::{Line, Manner};
 use crate::operands::is_negative;
 use crate::shapes::{Shape, Tail};
 use crate::writer::Writer;
-use cq_atoms::Atom;
 use cq_frac::Frac;
 use cq_term::TermId;
+use cq_term::atoms::Atom;
 use itoa::Buffer;
-use spec_operators::OpDef;
+use spec_syntax::operators::OpDef;
 use std::alloc::AllocError;
 
 /// A term, in parentheses where it does not stand bare.

@@ -6,8 +6,8 @@ ghost use Rattle.cq_write.specs.Work.{HasShape, IsTail, IsKnown, at_id};
 ghost use Rattle.cq_write.specs.Settings.{setting};
 
 use crate::writer::Writer;
-use cq_atoms::Atom;
 use cq_frac::{Frac, VarId};
+use cq_term::atoms::Atom;
 use cq_term::{TermId, View};
 
 /// The head of a term, and its arguments where they are one or two.

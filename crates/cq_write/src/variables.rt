@@ -4,7 +4,7 @@ ghost use Rattle.std.specs.Prelude.{◌≡◌, ◌++◌, ◌<◌, OnOk, IfOk, le
 ghost use Rattle.indexmap.specs.IndexMap.{get};
 ghost use Rattle.spec_terms.specs.Variables.{variables};
 ghost use Rattle.spec_terms.specs.VariableName.{VariableName};
-ghost use Rattle.spec_writing.specs.Written.{is_unnamed};
+ghost use Rattle.spec_text.specs.Written.{is_unnamed};
 ghost use Rattle.cq_term.specs.Meaning.{at};
 ghost use Rattle.cq_term.specs.Shown.{arguments};
 ghost use Rattle.cq_write.specs.Naming.{AreFound, AreUnnamed, Opens, kept_or, with_unnamed};
@@ -12,9 +12,9 @@ ghost use Rattle.cq_write.specs.Settings.{IsIndexed, shown_by};
 
 use crate::numbers::push_counted;
 use cq_frac::VarId;
-use cq_names::VariableName;
+use cq_read::names::VariableName;
+use cq_term::walk::push_arguments;
 use cq_term::{Heap, TermId, View};
-use cq_walk::push_arguments;
 use indexmap::{IndexMap, IndexSet};
 use std::alloc::{AllocError, Global};
 

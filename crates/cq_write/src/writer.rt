@@ -1,9 +1,9 @@
 //! The writer: what is written, and the texts of its pieces.
 
 ghost use Rattle.std.specs.Prelude.{◌≡◌, ◌<◌, OnOk, IfSome, false, length};
-ghost use Rattle.cq_atoms.specs.Texts.{text_of};
+ghost use Rattle.cq_term.specs.Texts.{text_of};
 ghost use Rattle.spec_syntax.specs.Writing.{is_spaced as is_spaced_of};
-ghost use Rattle.spec_writing.specs.Numbers.{number_text};
+ghost use Rattle.spec_text.specs.Numbers.{number_text};
 ghost use Rattle.cq_write.specs.Spelled.{Spelled, written, put};
 ghost use Rattle.cq_write.specs.Work.{IsReadyWord, plain, spelled_name, infix_word, spelled_word};
 ghost use Rattle.cq_write.specs.Looks.{IsPlainText};
@@ -15,12 +15,12 @@ use crate::looks::{Looks, looks_of};
 use crate::names::{needs_quotes, push_name};
 use crate::numbers::push_number;
 use crate::variables::Names;
-use cq_atoms::{Atom, Atoms};
 use cq_frac::{Frac, VarId};
-use cq_lex::first_char;
 use cq_ops::Ops;
+use cq_read::lex::first_char;
 use cq_term::Heap;
-use spec_writing::Style;
+use cq_term::atoms::{Atom, Atoms};
+use spec_text::writing::Style;
 use std::alloc::AllocError;
 
 /// What is written, in which style, and with which names of variables.

@@ -1,13 +1,13 @@
 -- The answer of X>0.
 use Rattle.std.proofs.Common.{◌≡◌, ◌↔◌, ℕ, List, [], ◌∷◌, ◌++◌, pos, inl, inr, codes, refl, sym, ap, ap₂, ◌∙◌, subst}
-use Rattle.spec_rational.specs.Gcd.{gcd}
-use Rattle.spec_rational.specs.Rational.{ℚ, 0ℚ, 1ℚ, ratio, int_ℚ, neg_ℚ, ◌+ℚ◌, ◌-ℚ◌, ◌*ℚ◌, IsPositive}
-use Rattle.spec_rational.specs.Sums.{Monomial, sum_at}
-use Rattle.spec_rational.proofs.Ring.{var, int, ◌⊕◌, ◌⊗◌, minus}
-use Rattle.spec_rational.proofs.Rational.{ring}
-use Rattle.spec_rational.proofs.Sums.{sum_at-agrees, sum_at-times}
-use Rattle.spec_rational.proofs.Sign.{pos_one, pos_add, pos_nonneg, not_pos_zero, one_not_zero}
-use Rattle.spec_lists.proofs.Places.{nothing_within}
+use Rattle.spec_numbers.specs.Gcd.{gcd}
+use Rattle.spec_numbers.specs.Rational.{ℚ, 0ℚ, 1ℚ, ratio, int_ℚ, neg_ℚ, ◌+ℚ◌, ◌-ℚ◌, ◌*ℚ◌, IsPositive}
+use Rattle.spec_numbers.specs.Sums.{Monomial, sum_at}
+use Rattle.spec_numbers.proofs.Ring.{var, int, ◌⊕◌, ◌⊗◌, minus}
+use Rattle.spec_numbers.proofs.RationalLemmas.{ring}
+use Rattle.spec_numbers.proofs.Sums.{sum_at-agrees, sum_at-times}
+use Rattle.spec_numbers.proofs.Sign.{pos_one, pos_add, pos_nonneg, not_pos_zero, one_not_zero}
+use Rattle.spec_numbers.proofs.Places.{nothing_within}
 use Rattle.spec_linear.specs.declared.Relation.TheVariants.{Gt, Ge}
 use Rattle.spec_linear.specs.Form.{Linear, value_at, constant_form, variable_form, difference_form}
 use Rattle.spec_linear.specs.Solution.{Constraint, Entails, Satisfies, Extends, Same, Has, SomeMentions, MentionsOnly, number, equal_zero}
@@ -15,8 +15,8 @@ use Rattle.spec_linear.proofs.Values.{value_at-constant_form, value_at-variable_
 use Rattle.spec_linear.proofs.Points.{holds_same, solves_same}
 use Rattle.spec_linear.proofs.Denominators.{extends}
 use Rattle.spec_linear.proofs.Lists.{entails_same}
-use Rattle.spec_echelon.specs.Echelon.{IsEchelon, IsOver}
-use Rattle.spec_operators.specs.Standard.{standard}
+use Rattle.spec_linear.specs.Echelon.{IsEchelon, IsOver}
+use Rattle.spec_syntax.specs.Standard.{standard}
 use Rattle.spec_projection.specs.Others.{AreOthers}
 use Rattle.spec_projection.specs.Printed.{Above}
 use Rattle.spec_projection.specs.Strict.{HasForm}

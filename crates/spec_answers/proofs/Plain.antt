@@ -1,11 +1,11 @@
 -- Answers of branches without linear constraints, and of lists without disequations, for which no variable is kept.
 use Rattle.std.proofs.Common.{◌≡◌, ℕ, List, [], ◌∷◌, ◌++◌, map, refl, sym, subst}
-use Rattle.spec_lists.proofs.Places.{nothing_within}
+use Rattle.spec_numbers.proofs.Places.{nothing_within}
 use Rattle.spec_linear.specs.Form.{Linear}
 use Rattle.spec_linear.specs.Solution.{Constraint, Has, MentionsOnly, Same}
 use Rattle.spec_linear.proofs.Denominators.{extends}
-use Rattle.spec_echelon.specs.Echelon.{Solved, IsEchelon}
-use Rattle.spec_operators.specs.Operators.{Ops}
+use Rattle.spec_linear.specs.Echelon.{Solved, IsEchelon}
+use Rattle.spec_syntax.specs.Operators.{Ops}
 use Rattle.spec_syntax.specs.TextTokens.{VariableName}
 use Rattle.spec_projection.specs.Others.{AreOthers}
 use Rattle.spec_projection.specs.Substitution.{put_into, solved_variables}

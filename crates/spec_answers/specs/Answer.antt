@@ -1,16 +1,16 @@
 -- The text of an answer: bindings, rows, delayed constraints, suspended goals.
 use Rattle.std.specs.Prelude.{◌≡◌, ℕ, ◌==◌, List, ◌++◌, map, filter, fold, codes, ◌&&◌}
 use Rattle.std.specs.List.{list_any}
-use Rattle.spec_operators.specs.Operators.{Ops}
+use Rattle.spec_syntax.specs.Operators.{Ops}
 use Rattle.spec_terms.specs.Variables.{variables_after}
 use Rattle.spec_syntax.specs.TextTokens.{VariableName}
 use Rattle.spec_syntax.specs.Trees.{Tree}
-use Rattle.spec_writing.specs.declared.Style.TheVariants.{Quoted}
-use Rattle.spec_writing.specs.Written.{is_unnamed, shown, text_by}
+use Rattle.spec_text.specs.declared.writing.Style.TheVariants.{Quoted}
+use Rattle.spec_text.specs.Written.{is_unnamed, shown, text_by}
 use Rattle.spec_projection.specs.Others.{AreOthers, AreAscending}
 use Rattle.spec_projection.specs.Projection.{Keeps}
 use Rattle.spec_branch.specs.Branch.{State, read}
-use Rattle.spec_lists.specs.Texts.{Text}
+use Rattle.spec_numbers.specs.Texts.{Text}
 use Rattle.spec_answers.specs.Lines.{or_true, lines_text}
 use Rattle.spec_answers.specs.Rows.{Rows, row_variables, row_texts}
 use Rattle.spec_answers.specs.Forms.{AreAnswerRows}

@@ -1,10 +1,10 @@
 -- When rows are in the form of an answer.
 use Rattle.std.specs.Prelude.{◌≡◌, ◌≢◌, ◌⊎◌, ℕ, ◌<◌, List, [], ◌∷◌, ⊤}
 use Rattle.std.specs.List.{AllByRecursion}
-use Rattle.spec_rational.specs.Rational.{ℚ, 0ℚ, 1ℚ, ◌<ℚ◌}
-use Rattle.spec_rational.specs.Sums.{Monomial, factor_of}
+use Rattle.spec_numbers.specs.Rational.{ℚ, 0ℚ, 1ℚ, ◌<ℚ◌}
+use Rattle.spec_numbers.specs.Sums.{Monomial, factor_of}
 use Rattle.spec_linear.specs.Solution.{Constraint}
-use Rattle.spec_echelon.specs.Echelon.{InOrder, variables}
+use Rattle.spec_linear.specs.Echelon.{InOrder, variables}
 use Rattle.spec_projection.specs.Printed.{Comparison, AtLeast, Above, AtMost, Below}
 use Rattle.spec_projection.specs.Projection.{AreProjectedRows}
 use Rattle.spec_answers.specs.Rows.{Inequality, Disequation, Rows, other_constraints}

@@ -1,6 +1,6 @@
 -- The lines of an answer, whatever they say.
 use Rattle.std.specs.Prelude.{List, [], ◌∷◌, ◌++◌, codes, Bool, false, ◌==◌}
-use Rattle.spec_lists.specs.Texts.{Text}
+use Rattle.spec_numbers.specs.Texts.{Text}
 
 -- the text begins with `_`
 abbrev pub is_hidden : Text → Bool

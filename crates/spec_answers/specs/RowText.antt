@@ -1,12 +1,12 @@
 -- The text of an equation of an answer: a variable, `=`, and what it is.
 use Rattle.std.specs.Prelude.{ℕ, List, [], ◌∷◌, ◌++◌, codes, ◌==◌, ◌&&◌, Bool, false, if◌then◌else◌}
 use Rattle.std.specs.Ordering.{int_eq}
-use Rattle.spec_rational.specs.Rational.{ℚ, 1ℚ, neg_ℚ}
-use Rattle.spec_rational.specs.Sums.{Monomial}
+use Rattle.spec_numbers.specs.Rational.{ℚ, 1ℚ, neg_ℚ}
+use Rattle.spec_numbers.specs.Sums.{Monomial}
 use Rattle.spec_linear.specs.Form.{is_zero}
-use Rattle.spec_echelon.specs.Echelon.{Solved}
-use Rattle.spec_lists.specs.Texts.{Text}
-use Rattle.spec_writing.specs.Numbers.{number_text}
+use Rattle.spec_linear.specs.Echelon.{Solved}
+use Rattle.spec_numbers.specs.Texts.{Text}
+use Rattle.spec_text.specs.Numbers.{number_text}
 
 -- the numbers are the same
 abbrev pub same_number : ℚ → ℚ → Bool

@@ -1,12 +1,12 @@
 -- The rows of an answer as they are printed, what they say, and their texts.
 use Rattle.std.specs.Prelude.{ℕ, List, [], ◌∷◌, ◌++◌, map, codes}
-use Rattle.spec_rational.specs.Rational.{ℚ, 0ℚ}
-use Rattle.spec_rational.specs.Sums.{Monomial}
+use Rattle.spec_numbers.specs.Rational.{ℚ, 0ℚ}
+use Rattle.spec_numbers.specs.Sums.{Monomial}
 use Rattle.spec_linear.specs.Solution.{Constraint}
-use Rattle.spec_echelon.specs.Echelon.{Solved, variables}
+use Rattle.spec_linear.specs.Echelon.{Solved, variables}
 use Rattle.spec_projection.specs.Printed.{Comparison, AtLeast, Above, AtMost, Below, compared, unequal_to}
-use Rattle.spec_lists.specs.Texts.{Text}
-use Rattle.spec_writing.specs.Numbers.{number_text}
+use Rattle.spec_numbers.specs.Texts.{Text}
+use Rattle.spec_text.specs.Numbers.{number_text}
 use Rattle.spec_answers.specs.RowText.{related, linear_text, equation_text}
 
 -- products, a comparison, and the number on the right

@@ -1,16 +1,16 @@
 -- Answers to try the texts on.
 use Rattle.std.specs.Prelude.{ℕ, List, [], ◌∷◌, codes, pos, negsuc, ℤ, false}
-use Rattle.spec_rational.specs.Rational.{int_ℚ, 0ℚ}
-use Rattle.spec_rational.specs.Sums.{Monomial}
+use Rattle.spec_numbers.specs.Rational.{int_ℚ, 0ℚ}
+use Rattle.spec_numbers.specs.Sums.{Monomial}
 use Rattle.spec_linear.specs.declared.Relation.TheVariants.{Gt}
 use Rattle.spec_linear.specs.Form.{variable_form, constant_form, difference_form}
-use Rattle.spec_operators.specs.Standard.{standard}
+use Rattle.spec_syntax.specs.Standard.{standard}
 use Rattle.spec_terms.specs.Term.{identity, Name, Var}
 use Rattle.spec_syntax.specs.TextTokens.{VariableName}
 use Rattle.spec_syntax.specs.Trees.{binary}
 use Rattle.spec_projection.specs.Printed.{AtLeast, Above}
 use Rattle.spec_branch.specs.Branch.{State, Frozen}
-use Rattle.spec_lists.specs.Texts.{Text}
+use Rattle.spec_numbers.specs.Texts.{Text}
 use Rattle.spec_answers.specs.Lines.{or_true, lines_text}
 use Rattle.spec_answers.specs.Rows.{Rows, no_rows}
 use Rattle.spec_answers.specs.Answer.{answer_lines}

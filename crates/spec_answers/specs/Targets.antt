@@ -3,7 +3,7 @@ use Rattle.std.specs.Prelude.{ℕ, List, ◌++◌, map, filter, fold, not}
 use Rattle.spec_terms.specs.Variables.{variables_after}
 use Rattle.spec_syntax.specs.TextTokens.{VariableName}
 use Rattle.spec_syntax.specs.Trees.{Tree}
-use Rattle.spec_built.specs.Built.{compound2}
+use Rattle.spec_builtins.specs.Built.{compound2}
 use Rattle.spec_branch.specs.Branch.{State, Asleep, Frozen, read}
 use Rattle.spec_branch.specs.Settling.{is_bound}
 use Rattle.spec_answers.specs.Lines.{is_hidden}

@@ -3,8 +3,8 @@
 #![tactic(auto)]
 
 ghost use Rattle.std.specs.Prelude.{◌≡◌, List, codes, [], ◌∷◌, ◌++◌};
-ghost use Rattle.spec_operators.specs.Operators.{Ops};
-ghost use Rattle.spec_operators.specs.Standard.{standard};
+ghost use Rattle.spec_syntax.specs.Operators.{Ops};
+ghost use Rattle.spec_syntax.specs.Standard.{standard};
 ghost use Rattle.spec_syntax.specs.TextTokens.{VariableName};
 ghost use Rattle.spec_branch.specs.Branch.{State};
 ghost use Rattle.spec_answers.specs.Lines.{or_true, lines_text};

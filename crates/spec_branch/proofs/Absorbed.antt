@@ -1,13 +1,13 @@
 -- A solvable closure satisfies each other one that begins at a list with the same solutions.
 use Rattle.std.proofs.Common.{◌≡◌, ◌↔◌, ℕ, List, [], ◌∷◌, ◌++◌, Option, Some, refl, sym, ap, ◌∙◌, subst, inl, inr, ◌⊎◌}
-use Rattle.spec_rational.specs.Rational.{ℚ}
+use Rattle.spec_numbers.specs.Rational.{ℚ}
 use Rattle.spec_linear.specs.Solution.{Constraint, Point, Solves, Solvable, Holds, Fixes, Has, Equivalent, false_constraint}
 use Rattle.spec_linear.proofs.Lists.{solves_append, false_unsolvable}
-use Rattle.spec_lists.specs.Texts.{Text}
+use Rattle.spec_numbers.specs.Texts.{Text}
 use Rattle.spec_terms.specs.Term.{Subst, apply}
 use Rattle.spec_syntax.specs.Trees.{Tree}
-use Rattle.spec_told.specs.Relations.{Lin, Is, Waits, False, lin, row_of, IsLin}
-use Rattle.spec_told.proofs.AtPoints.{linear_over, false_stays}
+use Rattle.spec_branch.specs.Relations.{Lin, Is, Waits, False, lin, row_of, IsLin}
+use Rattle.spec_branch.proofs.AtPoints.{linear_over, false_stays}
 use Rattle.spec_branch.specs.Closure.{IsMove, Moves, no_move, move, IsClosure}
 
 -- ---- lists

@@ -1,14 +1,14 @@
 -- A branch that settling keeps is settled.
 use Rattle.std.proofs.Common.{◌≡◌, ℕ, List, [], ◌∷◌, ◌++◌, Bool, true, false, cond, Option, Some, None, refl, sym, ap, ap₂, ◌∙◌, ◌||◌, ◌&&◌}
 use Rattle.std.specs.Prelude.{codes, bytes_eq}
-use Rattle.spec_rational.specs.Rational.{ℚ}
+use Rattle.spec_numbers.specs.Rational.{ℚ}
 use Rattle.spec_linear.specs.Solution.{Constraint, Solvable, Fixes, Has, false_constraint}
-use Rattle.spec_lists.specs.Texts.{Text}
+use Rattle.spec_numbers.specs.Texts.{Text}
 use Rattle.spec_terms.specs.Term.{Subst, Var, Number, Name, Compound, one, more, apply, followed_by}
 use Rattle.spec_terms.proofs.Substitution.{apply-followed_by}
 use Rattle.spec_syntax.specs.Trees.{Tree}
-use Rattle.spec_told.specs.Expressions.{variable_under, unary_name, binary_name, unary_of, binary_of, form_of, has_zero_divisor, is_zero_form}
-use Rattle.spec_told.specs.Relations.{Lin, Is, Waits, False, lin, related_forms, relation_name, row_of, IsLin}
+use Rattle.spec_branch.specs.Expressions.{variable_under, unary_name, binary_name, unary_of, binary_of, form_of, has_zero_divisor, is_zero_form}
+use Rattle.spec_branch.specs.Relations.{Lin, Is, Waits, False, lin, related_forms, relation_name, row_of, IsLin}
 use Rattle.spec_branch.specs.Branch.{State, Item, Pending, Branch}
 use Rattle.spec_branch.specs.Settling.{Settling, Settles, SettlesUnified, Kept, unified, kept, kept_branch, fixed_values, value_or_variable, numeric_after}
 use Rattle.spec_branch.specs.Meaning.{IsSettled}

@@ -1,9 +1,9 @@
 -- Settling is determined by the solutions of the linear constraints: a branch that is kept once is never pruned, and is
 -- kept as one branch.
 use Rattle.std.proofs.Common.{◌≡◌, ℕ, List, Option, true, false, ◌++◌, refl, sym, subst, ◌∙◌}
-use Rattle.spec_rational.specs.Rational.{ℚ}
+use Rattle.spec_numbers.specs.Rational.{ℚ}
 use Rattle.spec_linear.specs.Solution.{Constraint, Solvable, Unsolvable, Fixes, Equivalent}
-use Rattle.spec_lists.specs.Texts.{Text}
+use Rattle.spec_numbers.specs.Texts.{Text}
 use Rattle.spec_terms.specs.Term.{Subst, followed_by}
 use Rattle.spec_terms.specs.Unifier.{IsUnifier, read_under}
 use Rattle.spec_terms.proofs.Unifiers.{unifier_unique}

@@ -1,12 +1,12 @@
 -- Settling where no variable is numeric, and nothing waits or sleeps: the pairs are unified, and that is all.
 use Rattle.std.proofs.Common.{◌≡◌, ℕ, List, [], ◌∷◌, Bool, true, false, ◌&&◌, not, pos, map, refl, sym, ap, ◌∙◌}
 use Rattle.std.specs.Prelude.{filter, IsPermutation}
-use Rattle.spec_rational.specs.Rational.{ℚ, int_ℚ}
-use Rattle.spec_rational.proofs.Sign.{one_not_zero}
+use Rattle.spec_numbers.specs.Rational.{ℚ, int_ℚ}
+use Rattle.spec_numbers.proofs.Sign.{one_not_zero}
 use Rattle.spec_linear.specs.Solution.{Fixed, Fixes}
 use Rattle.spec_linear.proofs.Points.{all_at}
-use Rattle.spec_lists.specs.Texts.{Text}
-use Rattle.spec_lists.proofs.Places.{nothing_within}
+use Rattle.spec_numbers.specs.Texts.{Text}
+use Rattle.spec_numbers.proofs.Places.{nothing_within}
 use Rattle.spec_terms.specs.Term.{Subst, followed_by}
 use Rattle.spec_terms.specs.Unifier.{Equation, IsUnifier, read_under}
 use Rattle.spec_terms.specs.Variables.{counted_from}

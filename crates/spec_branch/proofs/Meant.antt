@@ -1,20 +1,20 @@
 -- Moves, closures and settling keep the solutions.
 use Rattle.std.proofs.Common.{◌≡◌, ◌↔◌, ℕ, List, [], ◌∷◌, ◌++◌, map, Bool, true, false, cond, Option, Some, None, refl, sym, ap, ap₂, subst}
 use Rattle.std.specs.List.{AllByRecursion}
-use Rattle.spec_rational.specs.Rational.{ℚ}
+use Rattle.spec_numbers.specs.Rational.{ℚ}
 use Rattle.spec_linear.specs.Solution.{Constraint, Point, number, Solves, Holds, Fixes, false_constraint}
 use Rattle.spec_linear.proofs.Lists.{solves_append}
-use Rattle.spec_lists.specs.Texts.{Text}
+use Rattle.spec_numbers.specs.Texts.{Text}
 use Rattle.spec_terms.specs.Term.{Subst, Var, Number, Name, Compound, one, more, apply, followed_by}
 use Rattle.spec_terms.specs.Unifier.{IsUnifier, read_under}
 use Rattle.spec_terms.proofs.Substitution.{apply-followed_by}
 use Rattle.spec_syntax.specs.Trees.{Tree}
-use Rattle.spec_told.specs.Expressions.{unary_name, binary_name}
-use Rattle.spec_told.specs.Relations.{Lin, Is, Waits, False, row_of, IsLin, relation_name}
-use Rattle.spec_told.specs.Values.{value_of, unary_at, binary_at, SidesStand, IsTrueAt, Agrees}
-use Rattle.spec_told.proofs.AtPoints.{agrees}
-use Rattle.spec_told.proofs.Truth.{joins_as_truth, false_over}
-use Rattle.spec_told.proofs.Members.{both_parts}
+use Rattle.spec_branch.specs.Expressions.{unary_name, binary_name}
+use Rattle.spec_branch.specs.Relations.{Lin, Is, Waits, False, row_of, IsLin, relation_name}
+use Rattle.spec_branch.specs.Values.{value_of, unary_at, binary_at, SidesStand, IsTrueAt, Agrees}
+use Rattle.spec_branch.proofs.AtPoints.{agrees}
+use Rattle.spec_branch.proofs.Truth.{joins_as_truth, false_over}
+use Rattle.spec_branch.proofs.Members.{both_parts}
 use Rattle.spec_branch.specs.Branch.{State, Item, Pending, Branch}
 use Rattle.spec_branch.specs.Closure.{IsMove, Moves, no_move, move, IsClosure}
 use Rattle.spec_branch.specs.Settling.{Settling, Settles, SettlesUnified, Kept, Pruned, NoSolution, unified, kept, no_solution, kept_branch, fixed_values, value_or_variable, numeric_after, newly_bound, binding_equation}

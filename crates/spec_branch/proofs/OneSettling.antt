@@ -1,10 +1,10 @@
 -- Two kept outcomes of one settling, from linear constraints with the same solutions, are the same branch but for these.
 use Rattle.std.proofs.Common.{◌≡◌, ℕ, List, ◌++◌, Option, map, refl, ap}
 use Rattle.std.proofs.lemmas.List.Sorted.{IsPermutation-sym, IsPermutation-trans}
-use Rattle.spec_rational.specs.Rational.{ℚ}
+use Rattle.spec_numbers.specs.Rational.{ℚ}
 use Rattle.spec_linear.specs.Solution.{Constraint, Solvable, Fixes, Equivalent}
 use Rattle.spec_linear.proofs.Lists.{solves_append}
-use Rattle.spec_lists.specs.Texts.{Text}
+use Rattle.spec_numbers.specs.Texts.{Text}
 use Rattle.spec_terms.specs.Term.{Subst, followed_by}
 use Rattle.spec_branch.specs.Branch.{State, Item, Pending}
 use Rattle.std.specs.Prelude.{IsPermutation}

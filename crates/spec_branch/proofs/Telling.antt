@@ -1,17 +1,17 @@
 -- Telling a constraint adds just that it is met.
 use Rattle.std.proofs.Common.{◌≡◌, ◌↔◌, ℕ, List, [], ◌∷◌, ◌++◌, map, filter, append-nil, Bool, true, false, cond, not, ◌&&◌, None, refl, sym, ap, ◌∙◌, subst}
 use Rattle.std.specs.List.{AllByRecursion}
-use Rattle.spec_rational.specs.Rational.{ℚ}
+use Rattle.spec_numbers.specs.Rational.{ℚ}
 use Rattle.spec_linear.specs.Solution.{Constraint, Point, number, Solves}
-use Rattle.spec_lists.specs.Texts.{Text}
-use Rattle.spec_lists.proofs.Tests.{nat_eq-self}
+use Rattle.spec_numbers.specs.Texts.{Text}
+use Rattle.spec_numbers.proofs.Tests.{nat_eq-self}
 use Rattle.spec_terms.specs.Term.{Subst, Var, Number, Name, Compound, one, more, identity, apply, followed_by}
 use Rattle.spec_terms.specs.Unifier.{IsUnifier}
 use Rattle.spec_terms.proofs.Substitution.{apply-identity}
 use Rattle.spec_syntax.specs.Trees.{Tree, binary}
-use Rattle.spec_told.specs.Checks.{is_conjunction, constraint_error, members, halves}
-use Rattle.spec_told.specs.Values.{IsTrueAt, IsMetAt}
-use Rattle.spec_told.proofs.Members.{both_parts, members_true}
+use Rattle.spec_branch.specs.Checks.{is_conjunction, constraint_error, members, halves}
+use Rattle.spec_branch.specs.Values.{IsTrueAt, IsMetAt}
+use Rattle.spec_branch.proofs.Members.{both_parts, members_true}
 use Rattle.spec_branch.specs.Branch.{State, Item, Pending, Branch, no_work}
 use Rattle.spec_branch.specs.Settling.{Settles, Kept, Pruned, NoSolution, is_bound, newly_bound, binding_equation}
 use Rattle.spec_branch.specs.Meaning.{IsSolution, SolvesState, SolvesPending}

@@ -1,13 +1,13 @@
 -- Closures reached in different orders leave the same terms waiting, and fix the same values.
 use Rattle.std.proofs.Common.{◌≡◌, ℕ, List, [], ◌∷◌, ◌++◌, Bool, true, false, cond, not, Option, None, Some, refl, sym, ap, ◌∙◌, inl, inr}
 use Rattle.std.specs.Prelude.{filter, is_some}
-use Rattle.spec_rational.specs.Rational.{ℚ}
+use Rattle.spec_numbers.specs.Rational.{ℚ}
 use Rattle.spec_linear.specs.Solution.{Constraint, Solvable, Fixes, Has, Equivalent, false_constraint}
 use Rattle.spec_linear.proofs.Lists.{told_once, alike_fixed, alike_sym}
-use Rattle.spec_lists.specs.Texts.{Text}
+use Rattle.spec_numbers.specs.Texts.{Text}
 use Rattle.spec_terms.specs.Term.{Subst, apply}
 use Rattle.spec_syntax.specs.Trees.{Tree}
-use Rattle.spec_told.specs.Relations.{Lin, Is, Waits, False, lin, row_of}
+use Rattle.spec_branch.specs.Relations.{Lin, Is, Waits, False, lin, row_of}
 use Rattle.spec_branch.specs.Closure.{IsMove, Moves, no_move, move, IsClosure}
 use Rattle.spec_branch.specs.Alike.{SameClosure}
 use Rattle.spec_branch.proofs.Absorbed.{moves_below, became, can_move, Row, closures_agree}

@@ -1,10 +1,10 @@
 -- Waiting terms become linear, in any order, until none can (Holzbaur 1995).
 use Rattle.std.specs.Prelude.{◌≡◌, List, [], ◌∷◌, ◌++◌, Some}
 use Rattle.spec_linear.specs.Solution.{Constraint, Solvable}
-use Rattle.spec_lists.specs.Texts.{Text}
+use Rattle.spec_numbers.specs.Texts.{Text}
 use Rattle.spec_terms.specs.Term.{Subst, apply}
 use Rattle.spec_syntax.specs.Trees.{Tree}
-use Rattle.spec_told.specs.Relations.{Lin, row_of, IsLin}
+use Rattle.spec_branch.specs.Relations.{Lin, row_of, IsLin}
 
 -- over a solvable list one waiting term is linear or false: it leaves, and its constraint joins
 pub record IsMove (s : Subst Text) (l : List Constraint) (w : List Tree) (l' : List Constraint) (w' : List Tree) : Type 0 where

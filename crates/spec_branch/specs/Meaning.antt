@@ -1,13 +1,13 @@
 -- What linear constraints and waiting terms say together of the values of variables. It helps to state laws.
 use Rattle.std.specs.Prelude.{◌≡◌, ℕ, List, ◌++◌, map, true}
 use Rattle.std.specs.List.{AllByRecursion}
-use Rattle.spec_rational.specs.Rational.{ℚ}
+use Rattle.spec_numbers.specs.Rational.{ℚ}
 use Rattle.spec_linear.specs.Solution.{Constraint, Point, number, Solves, Solvable, Fixed, Has}
-use Rattle.spec_lists.specs.Texts.{Text}
+use Rattle.spec_numbers.specs.Texts.{Text}
 use Rattle.spec_terms.specs.Term.{Subst, Var, apply, followed_by}
 use Rattle.spec_syntax.specs.Trees.{Tree}
-use Rattle.spec_told.specs.Relations.{Lin, Waits, IsLin}
-use Rattle.spec_told.specs.Values.{IsTrueAt}
+use Rattle.spec_branch.specs.Relations.{Lin, Waits, IsLin}
+use Rattle.spec_branch.specs.Values.{IsTrueAt}
 use Rattle.spec_branch.specs.Branch.{State, Pending, read}
 use Rattle.spec_branch.specs.Settling.{newly_bound, binding_equation}
 

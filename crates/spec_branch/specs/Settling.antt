@@ -1,16 +1,16 @@
 -- Settling: bindings, equations, told constraints, waiting terms, fixed values and woken goals.
 use Rattle.std.specs.Prelude.{◌≡◌, ℕ, List, ◌++◌, map, filter, Bool, true, false, if◌then◌else◌, not, ◌&&◌, ◌||◌, ◌==◌, Option, Some, None, IsPermutation}
 use Rattle.std.specs.List.{list_any, filter_map}
-use Rattle.spec_rational.specs.Rational.{ℚ}
+use Rattle.spec_numbers.specs.Rational.{ℚ}
 use Rattle.spec_linear.specs.declared.Relation.TheVariants.{Eq}
 use Rattle.spec_linear.specs.Form.{Linear, constant_form, variable_form, difference_form}
 use Rattle.spec_linear.specs.Solution.{Constraint, Solvable, Unsolvable, Fixes}
-use Rattle.spec_lists.specs.Texts.{Text}
+use Rattle.spec_numbers.specs.Texts.{Text}
 use Rattle.spec_terms.specs.Term.{Subst, Var, Number, apply, followed_by}
 use Rattle.spec_terms.specs.Unifier.{IsUnifier, HasNoUnifier, read_under}
 use Rattle.spec_terms.specs.Variables.{variables, counted_from}
 use Rattle.spec_syntax.specs.Trees.{Tree}
-use Rattle.spec_built.specs.Built.{compound1}
+use Rattle.spec_builtins.specs.Built.{compound1}
 use Rattle.spec_branch.specs.Branch.{Asleep, Frozen, Sleeper, State, Item, Goal, Pending, Settled, Branch}
 use Rattle.spec_branch.specs.Closure.{IsClosure}
 

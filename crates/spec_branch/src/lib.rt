@@ -2,15 +2,17 @@
 //! body, and its contract is a law of the definitions.
 #![tactic(auto)]
 
+pub mod told;
+
 ghost use Rattle.std.specs.Prelude.{◌≡◌, ◌↔◌, ℕ, List, [], Bool, false, Option, None};
-ghost use Rattle.spec_rational.specs.Rational.{ℚ};
+ghost use Rattle.spec_numbers.specs.Rational.{ℚ};
 ghost use Rattle.spec_linear.specs.Solution.{Constraint, Point, number, Solvable, Fixes, Equivalent};
-ghost use Rattle.spec_lists.specs.Texts.{Text};
+ghost use Rattle.spec_numbers.specs.Texts.{Text};
 ghost use Rattle.spec_terms.specs.Term.{Subst};
 ghost use Rattle.spec_terms.specs.Unifier.{Equation, IsUnifier, read_under};
 ghost use Rattle.spec_syntax.specs.Trees.{Tree};
-ghost use Rattle.spec_told.specs.Checks.{constraint_error, members, halves};
-ghost use Rattle.spec_told.specs.Values.{IsMetAt};
+ghost use Rattle.spec_branch.specs.Checks.{constraint_error, members, halves};
+ghost use Rattle.spec_branch.specs.Values.{IsMetAt};
 ghost use Rattle.spec_branch.specs.Branch.{Item, State, Pending, Branch, no_work, read};
 ghost use Rattle.spec_branch.specs.Closure.{IsClosure};
 ghost use Rattle.spec_branch.specs.Settling.{Settles, Kept, Pruned, Why, NoSolution, kept_branch};

@@ -1,11 +1,11 @@
 -- A name with more arguments than there may be is refused.
 use Rattle.std.proofs.Common.{◌≡◌, ℕ, ◌<◌, Bool, true, pos, sym, subst, ap, arith, nat_lt}
 use Rattle.std.proofs.lemmas.Bool.Decides.{nat_tests}
-use Rattle.spec_rational.specs.Rational.{ℚ}
-use Rattle.spec_arithmetic.proofs.Rounded.{int_ℚ-is}
+use Rattle.spec_numbers.specs.Rational.{ℚ}
+use Rattle.spec_terms.proofs.Rounded.{int_ℚ-is}
 use Rattle.spec_terms.specs.Term.{Number}
-use Rattle.spec_built.specs.Built.{atom, natural}
-use Rattle.spec_built.specs.Errors.{representation_error}
+use Rattle.spec_builtins.specs.Built.{atom, natural}
+use Rattle.spec_builtins.specs.Errors.{representation_error}
 use Rattle.spec_builtins.specs.Alternatives.{Solutions, Faults, faults_if}
 use Rattle.spec_builtins.specs.Terms.{functor_row}
 use Rattle.spec_builtins.specs.Examples.{X}

@@ -4,13 +4,13 @@ use Rattle.std.specs.declared.cmp.Ordering.{Ordering}
 use Rattle.std.specs.declared.cmp.Ordering.TheVariants.{Less, Equal, Greater}
 use Rattle.std.specs.Ordering.{ordering_reverse}
 use Rattle.std.specs.List.{list_all, AllByRecursion}
-use Rattle.spec_lists.specs.Texts.{Text}
+use Rattle.spec_numbers.specs.Texts.{Text}
 use Rattle.spec_terms.specs.Term.{Subst, Var, Number, Name, Compound, apply}
 use Rattle.spec_terms.specs.Unifier.{Equation, HasNoUnifier}
-use Rattle.spec_order.specs.Order.{compare_terms}
-use Rattle.spec_order.proofs.Orders.{compare_terms-equal, compare_terms-turned, compare_terms-total, compare_terms-itself}
+use Rattle.spec_terms.specs.Order.{compare_terms}
+use Rattle.spec_terms.proofs.Orders.{compare_terms-equal, compare_terms-turned, compare_terms-total, compare_terms-itself}
 use Rattle.spec_syntax.specs.Trees.{Tree}
-use Rattle.spec_built.specs.Kinds.{is_variable, is_compound}
+use Rattle.spec_builtins.specs.Kinds.{is_variable, is_compound}
 use Rattle.spec_builtins.specs.Alternatives.{Solutions, Offers, one_way, holds_if, Comparison, Same, NotSame, Before, BeforeOrSame, After, AfterOrSame, allows, same_term}
 use Rattle.spec_builtins.specs.Terms.{order_row}
 use Rattle.spec_builtins.specs.Texts.{may_match}

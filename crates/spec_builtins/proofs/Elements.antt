@@ -3,13 +3,13 @@ use Rattle.std.proofs.Common.{◌≡◌, ℕ, List, [], ◌∷◌, ◌++◌, map
 use Rattle.std.specs.List.{list_any}
 use Rattle.std.proofs.lemmas.Str.{chars-encodes, encodes-append, encodes-chars, scalars-chars}
 use lib.Utf8.{scalar, scalars}
-use Rattle.spec_lists.specs.Texts.{Text}
-use Rattle.spec_lists.proofs.Tests.{both_are}
+use Rattle.spec_numbers.specs.Texts.{Text}
+use Rattle.spec_numbers.proofs.Tests.{both_are}
 use Rattle.spec_terms.specs.Term.{Var, Name}
 use Rattle.spec_syntax.specs.Trees.{Tree, list_tree}
-use Rattle.spec_built.specs.Built.{is_atom, natural}
-use Rattle.spec_built.specs.Kinds.{is_variable, is_integer, natural_of, Parts}
-use Rattle.spec_built.specs.Errors.{instantiation, type_error, representation_error, or_error}
+use Rattle.spec_builtins.specs.Built.{is_atom, natural}
+use Rattle.spec_builtins.specs.Kinds.{is_variable, is_integer, natural_of, Parts}
+use Rattle.spec_builtins.specs.Errors.{instantiation, type_error, representation_error, or_error}
 use Rattle.spec_builtins.specs.Alternatives.{◌≐◌, one_way, faults_if}
 use Rattle.spec_builtins.specs.Texts.{name_of, is_character, is_scalar, is_code, code_of, ElementKind, Characters, Codes, element_of, element_error, elements_error, from_elements, atom_list_row, char_code_row, atom_concat_row, first_or_zero}
 use Rattle.spec_builtins.proofs.Rebuilt.{by_whole, parts-list_tree}

@@ -6,24 +6,24 @@ use Rattle.std.specs.Char.{is_digit, is_ascii_digit}
 use lib.Utf8.{scalar}
 use Rattle.std.proofs.lemmas.Bool.Decides.{nat_tests}
 use Rattle.std.proofs.lemmas.Str.{encodes-IsAscii}
-use Rattle.spec_rational.specs.Gcd.{gcd}
-use Rattle.spec_rational.specs.Rational.{ℚ, neg_ℚ}
-use Rattle.spec_rational.proofs.Rational.{ratio_back}
-use Rattle.spec_grammar.specs.Characters.{is_layout, begins, begins_with, first_char}
-use Rattle.spec_grammar.specs.Tokens.{token_at}
-use Rattle.spec_grammar.specs.Laws.{AllPass}
-use Rattle.spec_lists.specs.Texts.{Text}
-use Rattle.spec_lists.proofs.Tests.{nat_eq-self}
+use Rattle.spec_numbers.specs.Gcd.{gcd}
+use Rattle.spec_numbers.specs.Rational.{ℚ, neg_ℚ}
+use Rattle.spec_numbers.proofs.RationalLemmas.{ratio_back}
+use Rattle.spec_syntax.specs.Characters.{is_layout, begins, begins_with, first_char}
+use Rattle.spec_syntax.specs.GrammarTokens.{token_at}
+use Rattle.spec_syntax.specs.Laws.{AllPass}
+use Rattle.spec_numbers.specs.Texts.{Text}
+use Rattle.spec_numbers.proofs.Tests.{nat_eq-self}
 use Rattle.spec_syntax.specs.Writing.{is_negative}
 use Rattle.spec_syntax.specs.Trees.{Tree, list_tree}
-use Rattle.spec_writing.specs.Numbers.{whole_text, under_text, parts_text, number_text}
-use Rattle.spec_writing.specs.ReadingBack.{FitsNumber}
-use Rattle.spec_writing.proofs.Numerals.{StopsNumeral, number_cut, number_begins}
-use Rattle.spec_writing.proofs.Wholes.{whole_digits}
+use Rattle.spec_text.specs.Numbers.{whole_text, under_text, parts_text, number_text}
+use Rattle.spec_text.specs.ReadingBack.{FitsNumber}
+use Rattle.spec_text.proofs.Numerals.{StopsNumeral, number_cut, number_begins}
+use Rattle.spec_text.proofs.Wholes.{whole_digits}
 use Rattle.spec_terms.specs.Term.{Var, Number}
-use Rattle.spec_built.specs.Built.{is_atom, natural}
-use Rattle.spec_built.specs.Kinds.{natural_of, Parts}
-use Rattle.spec_built.specs.Errors.{instantiation}
+use Rattle.spec_builtins.specs.Built.{is_atom, natural}
+use Rattle.spec_builtins.specs.Kinds.{natural_of, Parts}
+use Rattle.spec_builtins.specs.Errors.{instantiation}
 use Rattle.spec_builtins.specs.Alternatives.{◌≐◌, one_way, faults_if}
 use Rattle.spec_builtins.specs.Texts.{is_code, whole_number, signed_number, number_in, number_read, codes_of_number, number_codes_row}
 use Rattle.spec_builtins.proofs.Rebuilt.{parts-list_tree}

@@ -2,15 +2,15 @@
 use Rattle.std.proofs.Common.{◌≡◌, ℕ, zero, suc, ◌<◌, ◌≤◌, pos, arith, List, [], ◌∷◌, ◌++◌, map, length, Bool, true, false, not, ◌&&◌, nat_lt, slice_get, Some, refl, sym, subst, ap, ap₂, ◌∙◌}
 use Rattle.std.proofs.lemmas.Bool.Decides.{nat_tests}
 use Rattle.std.proofs.lemmas.Option.{slice_get_past}
-use Rattle.spec_rational.specs.Rational.{ℚ}
-use Rattle.spec_arithmetic.proofs.Rounded.{int_ℚ-is, whole_number}
-use Rattle.spec_lists.specs.Texts.{Text}
+use Rattle.spec_numbers.specs.Rational.{ℚ}
+use Rattle.spec_terms.proofs.Rounded.{int_ℚ-is, whole_number}
+use Rattle.spec_numbers.specs.Texts.{Text}
 use Rattle.spec_terms.specs.Term.{Terms, Var, Number, Name, Compound, one, more, count, list_of, terms_of, with_arguments}
 use Rattle.spec_terms.specs.Variables.{counted_from}
 use Rattle.spec_syntax.specs.Trees.{Tree, nil, list_tree}
-use Rattle.spec_built.specs.Built.{is_atom, natural}
-use Rattle.spec_built.specs.Kinds.{is_variable, parts, Parts}
-use Rattle.spec_built.specs.Errors.{instantiation, type_error, representation_error}
+use Rattle.spec_builtins.specs.Built.{is_atom, natural}
+use Rattle.spec_builtins.specs.Kinds.{is_variable, parts, Parts}
+use Rattle.spec_builtins.specs.Errors.{instantiation, type_error, representation_error}
 use Rattle.spec_builtins.specs.Alternatives.{Offers, ◌≐◌, one_way, faults_if}
 use Rattle.spec_builtins.specs.Terms.{functor_row, functor_built, arg_row, is_argument, univ_row, univ_built}
 

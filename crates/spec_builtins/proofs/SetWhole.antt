@@ -1,13 +1,13 @@
 -- What op/3 does not refuse it does for each name.
 use Rattle.std.proofs.Common.{◌≡◌, ℕ, List, [], ◌∷◌, Bool, true, false, cond, not, ◌||◌, ◌&&◌, ◌==◌, bytes_eq, codes, is_none, Option, Some, None, Ok, Err, refl, sym, ap, ◌∙◌}
 use Rattle.std.specs.List.{list_any, list_all, AllByRecursion}
-use Rattle.spec_lists.specs.Texts.{Text}
-use Rattle.spec_operators.specs.declared.OpDef.{OpDef}
-use Rattle.spec_operators.specs.declared.OpKind.{OpKind}
-use Rattle.spec_operators.specs.Operators.{Ops, Comma, Clash, Position, Prefix, Infix, Postfix, position_of, entry, put_at, put, is_bracket, is_at_odds, clashes, set_checked}
+use Rattle.spec_numbers.specs.Texts.{Text}
+use Rattle.spec_syntax.specs.declared.operators.OpDef.{OpDef}
+use Rattle.spec_syntax.specs.declared.operators.OpKind.{OpKind}
+use Rattle.spec_syntax.specs.Operators.{Ops, Comma, Clash, Position, Prefix, Infix, Postfix, position_of, entry, put_at, put, is_bracket, is_at_odds, clashes, set_checked}
 use Rattle.spec_syntax.specs.Trees.{Tree}
-use Rattle.spec_built.specs.Kinds.{is_variable, is_name, is_integer, name_text, is_list, is_partial}
-use Rattle.spec_built.specs.Errors.{instantiation, type_error, domain_error, permission_error}
+use Rattle.spec_builtins.specs.Kinds.{is_variable, is_name, is_integer, name_text, is_list, is_partial}
+use Rattle.spec_builtins.specs.Errors.{instantiation, type_error, domain_error, permission_error}
 use Rattle.spec_builtins.specs.Clauses.{first_error, error_if, error_at_first}
 use Rattle.spec_builtins.specs.Operators.{priority_of, kind_of, operator_names, is_comma, is_clash, named_set, operator_error, table_or, operators_after, put_all}
 

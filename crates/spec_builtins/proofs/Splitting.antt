@@ -4,14 +4,14 @@ use Rattle.std.proofs.lemmas.List.{take_at, drop_at}
 use Rattle.std.proofs.lemmas.Str.{chars-encodes, encodes-append, encodes-chars, scalars-chars, chars-append}
 use lib.Utf8.{scalar, scalars}
 use mathlib.Core.List.{map-map}
-use Rattle.spec_lists.specs.Texts.{Text}
-use Rattle.spec_lists.proofs.Tests.{both_are}
+use Rattle.spec_numbers.specs.Texts.{Text}
+use Rattle.spec_numbers.proofs.Tests.{both_are}
 use Rattle.spec_terms.specs.Term.{Name}
 use Rattle.spec_terms.specs.Variables.{counted_from}
 use Rattle.spec_syntax.specs.Trees.{Tree}
-use Rattle.spec_built.specs.Built.{natural}
-use Rattle.spec_built.specs.Kinds.{is_name, is_integer, is_other}
-use Rattle.spec_built.specs.Errors.{type_error}
+use Rattle.spec_builtins.specs.Built.{natural}
+use Rattle.spec_builtins.specs.Kinds.{is_name, is_integer, is_other}
+use Rattle.spec_builtins.specs.Errors.{type_error}
 use Rattle.spec_builtins.specs.Alternatives.{◌≐◌, faults_if}
 use Rattle.spec_builtins.specs.Texts.{name_of, matching, split_at, part_at, parts_at, atom_concat_row, sub_atom_row}
 use Rattle.spec_builtins.specs.Splits.{ListsAll, size, Split, IsSplit, HasShorterFirst, split_pairs, Part, IsPart, IsEarlier, part_pairs}

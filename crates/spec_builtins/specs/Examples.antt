@@ -1,6 +1,6 @@
 -- Terms and ways to try the predicates with.
 use Rattle.std.specs.Prelude.{List, map}
-use Rattle.spec_lists.specs.Texts.{Text}
+use Rattle.spec_numbers.specs.Texts.{Text}
 use Rattle.spec_terms.specs.Term.{Var}
 use Rattle.spec_terms.specs.Unifier.{Equation}
 use Rattle.spec_syntax.specs.Trees.{Tree}

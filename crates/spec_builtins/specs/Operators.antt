@@ -1,12 +1,12 @@
 -- op(P,K,N): its checks, and the table after it.
 use Rattle.std.specs.Prelude.{ℕ, List, [], ◌∷◌, Bool, true, false, if◌then◌else◌, not, ◌&&◌, ◌||◌, ℤ, pos, Option, is_none, Result, Ok, Err}
 use Rattle.std.specs.List.{list_any, list_all}
-use Rattle.spec_operators.specs.declared.OpKind.{OpKind}
-use Rattle.spec_operators.specs.Operators.{Ops, Refusal, Comma, Clash, kind_named, in_range, set_checked, put}
+use Rattle.spec_syntax.specs.declared.operators.OpKind.{OpKind}
+use Rattle.spec_syntax.specs.Operators.{Ops, Refusal, Comma, Clash, kind_named, in_range, set_checked, put}
 use Rattle.spec_terms.specs.Term.{Number}
 use Rattle.spec_syntax.specs.Trees.{Tree}
-use Rattle.spec_built.specs.Kinds.{is_variable, is_name, is_integer, name_text, parts, is_list, is_partial}
-use Rattle.spec_built.specs.Errors.{instantiation, type_error, domain_error, permission_error}
+use Rattle.spec_builtins.specs.Kinds.{is_variable, is_name, is_integer, name_text, parts, is_list, is_partial}
+use Rattle.spec_builtins.specs.Errors.{instantiation, type_error, domain_error, permission_error}
 use Rattle.spec_builtins.specs.Clauses.{first_error, error_if, error_at_first}
 
 -- the whole number that a term is, or 0

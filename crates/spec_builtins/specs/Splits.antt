@@ -1,11 +1,11 @@
 -- Texts that are split, and parts of texts: what the alternatives of atom_concat and sub_atom say. They help to state laws.
 use Rattle.std.specs.Prelude.{◌≡◌, ◌⊎◌, ℕ, ◌<◌, List, [], ◌∷◌, ◌++◌, length, All, AllPairs, Contains, chars, IsUtf8, false}
-use Rattle.spec_lists.specs.Texts.{Text}
+use Rattle.spec_numbers.specs.Texts.{Text}
 use Rattle.spec_terms.specs.Term.{Name}
 use Rattle.spec_terms.specs.Unifier.{Equation}
 use Rattle.spec_syntax.specs.Trees.{Tree}
-use Rattle.spec_built.specs.Built.{natural}
-use Rattle.spec_built.specs.Kinds.{is_variable, is_compound}
+use Rattle.spec_builtins.specs.Built.{natural}
+use Rattle.spec_builtins.specs.Kinds.{is_variable, is_compound}
 use Rattle.spec_builtins.specs.Alternatives.{◌≐◌}
 
 -- the list has just the things with P, each once, in the order of Before

@@ -1,22 +1,22 @@
 -- The predicates on the characters of atoms and on the codes of numbers.
 use Rattle.std.specs.Prelude.{ℕ, ◌+◌, ◌-◌, List, [], ◌∷◌, ◌++◌, Bool, false, if◌then◌else◌, not, ◌&&◌, ◌||◌, ◌==◌, nat_lt, nat_le, map, length, take, drop, filter, chars, encode_utf8_all, flat_map, Option, Some, None, option_map, Result, Ok, Err}
 use Rattle.std.specs.List.{list_any, list_all, prefix_len}
-use Rattle.spec_rational.specs.Rational.{ℚ, neg_ℚ}
-use Rattle.spec_arithmetic.specs.Operations.{is_whole}
-use Rattle.spec_grammar.specs.declared.LexFault.{LexFault}
-use Rattle.spec_grammar.specs.Characters.{is_layout, begins_with}
-use Rattle.spec_grammar.specs.Tokens as lexical
-use Rattle.spec_grammar.specs.Tokens.{token_at}
-use Rattle.spec_lists.specs.Texts.{Text}
-use Rattle.spec_writing.specs.Numbers.{number_text}
+use Rattle.spec_numbers.specs.Rational.{ℚ, neg_ℚ}
+use Rattle.spec_terms.specs.Operations.{is_whole}
+use Rattle.spec_syntax.specs.declared.grammar.LexFault.{LexFault}
+use Rattle.spec_syntax.specs.Characters.{is_layout, begins_with}
+use Rattle.spec_syntax.specs.GrammarTokens as lexical
+use Rattle.spec_syntax.specs.GrammarTokens.{token_at}
+use Rattle.spec_numbers.specs.Texts.{Text}
+use Rattle.spec_text.specs.Numbers.{number_text}
 use Rattle.spec_terms.specs.Term.{Number, Name}
 use Rattle.spec_terms.specs.Variables.{counted_from}
 use Rattle.spec_terms.specs.Unifier.{Equation}
 use Rattle.spec_syntax.specs.Writing.{is_negative}
 use Rattle.spec_syntax.specs.Trees.{Tree, list_tree}
-use Rattle.spec_built.specs.Built.{atom, compound1, natural}
-use Rattle.spec_built.specs.Kinds.{is_variable, is_name, is_integer, is_other, is_below_zero, natural_of, natural_or_zero, parts, is_list, is_partial}
-use Rattle.spec_built.specs.Errors.{instantiation, type_error, domain_error, representation_error, or_error}
+use Rattle.spec_builtins.specs.Built.{atom, compound1, natural}
+use Rattle.spec_builtins.specs.Kinds.{is_variable, is_name, is_integer, is_other, is_below_zero, natural_of, natural_or_zero, parts, is_list, is_partial}
+use Rattle.spec_builtins.specs.Errors.{instantiation, type_error, domain_error, representation_error, or_error}
 use Rattle.spec_builtins.specs.Alternatives.{Solutions, Faults, Offers, ◌≐◌, one_way, without_new, faults_if, same_term}
 
 -- ---- characters and their codes

@@ -2,21 +2,21 @@
 use Rattle.std.proofs.Common.{◌≡◌, ℕ, List, [], ◌∷◌, pos, inl, codes, refl, sym, ap, ◌∙◌}
 use Rattle.std.specs.Char.{encode_utf8}
 use Rattle.std.specs.Str.{chars, is_utf8}
-use Rattle.spec_rational.specs.Gcd.{gcd}
-use Rattle.spec_rational.specs.Rational.{ℚ, ratio, int_ℚ, neg_ℚ, inv_ℚ, ◌+ℚ◌, ◌*ℚ◌}
-use Rattle.spec_rational.proofs.Sign.{pos_one, pos_add, pos_nonneg}
+use Rattle.spec_numbers.specs.Gcd.{gcd}
+use Rattle.spec_numbers.specs.Rational.{ℚ, ratio, int_ℚ, neg_ℚ, inv_ℚ, ◌+ℚ◌, ◌*ℚ◌}
+use Rattle.spec_numbers.proofs.Sign.{pos_one, pos_add, pos_nonneg}
 use Rattle.spec_linear.specs.declared.Relation.TheVariants.{Gt}
 use Rattle.spec_linear.specs.Form.{variable_form, constant_form, difference_form}
 use Rattle.spec_linear.specs.Solution.{Constraint, Solves, Fixed, Fixes}
 use Rattle.spec_linear.proofs.Points.{all_at}
-use Rattle.spec_grammar.specs.Characters.{first_char}
+use Rattle.spec_syntax.specs.Characters.{first_char}
 use Rattle.spec_syntax.specs.Grammar.{use_of, begins_term}
 use Rattle.spec_syntax.specs.Trees.{Tree}
 use Rattle.spec_terms.specs.Term.{Subst, Var, identity, single, followed_by}
 use Rattle.spec_terms.specs.Unifier.{IsUnifier}
-use Rattle.spec_built.specs.Built.{natural, atom, compound2}
+use Rattle.spec_builtins.specs.Built.{natural, atom, compound2}
 use Rattle.spec_builtins.specs.Alternatives.{◌≐◌}
-use Rattle.spec_told.specs.Relations.{Is, lin}
+use Rattle.spec_branch.specs.Relations.{Is, lin}
 use Rattle.spec_branch.specs.Branch.{Item, Goal, Pending, Branch, Unsettled, no_work}
 use Rattle.spec_branch.specs.Settling.{Settles, unified, clash, kept, Kept, Pruned, Clash, kept_branch}
 use Rattle.spec_branch.specs.Alike.{no_values}
@@ -26,7 +26,7 @@ use Rattle.spec_search.specs.Turns as turn
 use Rattle.spec_transcript.specs.declared.Source.TheVariants.{Input}
 use Rattle.spec_transcript.specs.Session as session
 use Rattle.spec_transcript.specs.Session.{Reader, AQuery, Opening, Searching, plain_line}
-use Rattle.spec_lists.specs.Texts.{Text}
+use Rattle.spec_numbers.specs.Texts.{Text}
 use Rattle.spec_examples.specs.Rows.{some_goals, no_files, Writes}
 use Rattle.spec_examples.proofs.Unify.{no_pairs, bound}
 use Rattle.spec_examples.proofs.Told.{x_alone, telling, unsettled, search_of, settling}

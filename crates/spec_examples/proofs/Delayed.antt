@@ -2,19 +2,19 @@
 use Rattle.std.proofs.Common.{◌≡◌, ℕ, List, [], ◌∷◌, ◌++◌, Option, Some, None, inl, codes, refl, sym, ap, ◌∙◌, subst}
 use Rattle.std.specs.Char.{encode_utf8}
 use Rattle.std.specs.Str.{chars, is_utf8}
-use Rattle.spec_rational.specs.Gcd.{gcd}
-use Rattle.spec_rational.specs.Rational.{ℚ, ratio, int_ℚ, neg_ℚ, inv_ℚ, ◌+ℚ◌, ◌*ℚ◌}
+use Rattle.spec_numbers.specs.Gcd.{gcd}
+use Rattle.spec_numbers.specs.Rational.{ℚ, ratio, int_ℚ, neg_ℚ, inv_ℚ, ◌+ℚ◌, ◌*ℚ◌}
 use Rattle.spec_linear.specs.Solution.{Constraint, Fixes}
-use Rattle.spec_grammar.specs.Characters.{first_char}
+use Rattle.spec_syntax.specs.Characters.{first_char}
 use Rattle.spec_syntax.specs.Grammar.{use_of, begins_term}
 use Rattle.spec_syntax.specs.Writing.{is_bare_right, is_bare_left, is_bare_argument, needs_quotes, is_spaced, infix_token}
-use Rattle.spec_writing.specs.Pieces.{pieces_at, argument_pieces}
-use Rattle.spec_writing.specs.Texts.{name_text, is_apart}
+use Rattle.spec_text.specs.Pieces.{pieces_at, argument_pieces}
+use Rattle.spec_text.specs.Texts.{name_text, is_apart}
 use Rattle.spec_syntax.specs.Trees.{Tree}
 use Rattle.spec_syntax.specs.TextTokens.{VariableName}
 use Rattle.spec_terms.specs.Term.{Var, identity, apply}
-use Rattle.spec_built.specs.Built.{natural, compound2}
-use Rattle.spec_told.specs.Relations.{Lin, Waits, lin, row_of, IsLin}
+use Rattle.spec_builtins.specs.Built.{natural, compound2}
+use Rattle.spec_branch.specs.Relations.{Lin, Waits, lin, row_of, IsLin}
 use Rattle.spec_branch.specs.Branch.{Branch}
 use Rattle.spec_branch.specs.Closure.{no_move}
 use Rattle.spec_branch.specs.Settling.{Settling, Settles, unified, kept, Kept, kept_branch}
@@ -26,8 +26,8 @@ use Rattle.spec_search.specs.Turns as turn
 use Rattle.spec_transcript.specs.declared.Source.TheVariants.{Input}
 use Rattle.spec_transcript.specs.Session as session
 use Rattle.spec_transcript.specs.Session.{Reader, AQuery, Opening, Searching, plain_line}
-use Rattle.spec_lists.specs.Texts.{Text}
-use Rattle.spec_lists.proofs.Places.{nothing_within}
+use Rattle.spec_numbers.specs.Texts.{Text}
+use Rattle.spec_numbers.proofs.Places.{nothing_within}
 use Rattle.spec_examples.specs.Rows.{some_goals, no_files, Writes}
 use Rattle.spec_examples.proofs.Unify.{no_pairs}
 use Rattle.spec_examples.proofs.Told.{telling, unsettled, search_of, nothing_solvable}

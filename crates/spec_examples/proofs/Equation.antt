@@ -1,20 +1,20 @@
 -- The equation 2*X+3=7, its row and its solved form.
 use Rattle.std.proofs.Common.{◌≡◌, ◌↔◌, ℕ, zero, suc, [], ◌∷◌, pos, Option, Some, None, inl, inr, refl, sym, ap, ◌∙◌, subst}
-use Rattle.spec_rational.specs.Gcd.{gcd}
-use Rattle.spec_rational.specs.Rational.{ℚ, 0ℚ, 1ℚ, ratio, int_ℚ, neg_ℚ, ◌+ℚ◌, ◌-ℚ◌, ◌*ℚ◌}
-use Rattle.spec_rational.specs.Sums.{Mentions}
-use Rattle.spec_rational.proofs.Ring.{var, int, ◌⊕◌, ◌⊗◌, minus as less}
-use Rattle.spec_rational.proofs.Rational.{ring, cross_same}
+use Rattle.spec_numbers.specs.Gcd.{gcd}
+use Rattle.spec_numbers.specs.Rational.{ℚ, 0ℚ, 1ℚ, ratio, int_ℚ, neg_ℚ, ◌+ℚ◌, ◌-ℚ◌, ◌*ℚ◌}
+use Rattle.spec_numbers.specs.Sums.{Mentions}
+use Rattle.spec_numbers.proofs.Ring.{var, int, ◌⊕◌, ◌⊗◌, minus as less}
+use Rattle.spec_numbers.proofs.RationalLemmas.{ring, cross_same}
 use Rattle.spec_linear.specs.Form.{Linear, constant_form, variable_form, sum_form, scaled_form, value_at}
 use Rattle.spec_linear.specs.Solution.{Constraint, HoldsAt, Satisfies, MentionsOnly, Fixes}
 use Rattle.spec_linear.proofs.Values.{value_at-constant_form, value_at-variable_form, value_at-sum_form, value_at-scaled_form, value_at-difference_form}
-use Rattle.spec_echelon.specs.Echelon.{IsBefore}
-use Rattle.spec_echelon.specs.SolvedForm.{IsSolvedForm, Agrees, number_in}
-use Rattle.spec_echelon.proofs.Values.{solved_form_fixes}
+use Rattle.spec_linear.specs.Echelon.{IsBefore}
+use Rattle.spec_linear.specs.SolvedForm.{IsSolvedForm, Agrees, number_in}
+use Rattle.spec_linear.proofs.EchelonValues.{solved_form_fixes}
 use Rattle.spec_terms.specs.Term.{Var}
 use Rattle.spec_syntax.specs.Trees.{Tree}
-use Rattle.spec_built.specs.Built.{natural, compound2}
-use Rattle.spec_told.specs.Relations.{Is, lin, related, Equals}
+use Rattle.spec_builtins.specs.Built.{natural, compound2}
+use Rattle.spec_branch.specs.Relations.{Is, lin, related, Equals}
 use Rattle.spec_branch.specs.Alike.{no_values}
 
 abbrev pub equation : Tree

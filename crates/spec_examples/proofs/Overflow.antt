@@ -3,29 +3,29 @@ use Rattle.std.proofs.Common.{[], ◌∷◌, inl, codes, refl}
 use Rattle.std.specs.Prelude.{Some}
 use Rattle.std.specs.Char.{encode_utf8}
 use Rattle.std.specs.Str.{chars, is_utf8}
-use Rattle.spec_rational.specs.Gcd.{gcd}
-use Rattle.spec_rational.specs.Rational.{ratio, int_ℚ, neg_ℚ, inv_ℚ, ◌+ℚ◌, ◌*ℚ◌}
-use Rattle.spec_limits.specs.Overflow.{Moment, settling}
-use Rattle.spec_limits.proofs.PastGreatest.{greatest, past_greatest, past_greatest_due}
-use Rattle.spec_limits.specs.Asked.{alone}
-use Rattle.spec_grammar.specs.Characters.{first_char}
+use Rattle.spec_numbers.specs.Gcd.{gcd}
+use Rattle.spec_numbers.specs.Rational.{ratio, int_ℚ, neg_ℚ, inv_ℚ, ◌+ℚ◌, ◌*ℚ◌}
+use Rattle.spec_simplex.specs.Overflow.{Moment, settling}
+use Rattle.spec_simplex.proofs.PastGreatest.{greatest, past_greatest, past_greatest_due}
+use Rattle.spec_simplex.specs.Asked.{alone}
+use Rattle.spec_syntax.specs.Characters.{first_char}
 use Rattle.spec_syntax.specs.Grammar.{use_of, begins_term}
 use Rattle.spec_syntax.specs.Trees.{Tree}
 use Rattle.spec_terms.specs.Term.{Var, identity}
-use Rattle.spec_built.specs.Built.{natural, compound2}
+use Rattle.spec_builtins.specs.Built.{natural, compound2}
 use Rattle.spec_branch.specs.Closure.{no_move}
 use Rattle.spec_branch.specs.Alike.{no_values}
 use Rattle.spec_branch.proofs.Idle.{fixes_nothing}
 use Rattle.spec_search.specs.Database.{initial}
 use Rattle.spec_search.specs.Search.{Search, empty_state}
-use Rattle.spec_stops.specs.Causes.{Overflow, stop_text}
-use Rattle.spec_stops.specs.Operands.{relation_operands}
-use Rattle.spec_stops.specs.Settlings.{IsListOf, IsSettlingMoment}
-use Rattle.spec_stops.specs.Due.{Due, overflow, settles}
+use Rattle.spec_transcript.specs.Causes.{Overflow, stop_text}
+use Rattle.spec_transcript.specs.Operands.{relation_operands}
+use Rattle.spec_transcript.specs.Settlings.{IsListOf, IsSettlingMoment}
+use Rattle.spec_transcript.specs.Due.{Due, overflow, settles}
 use Rattle.spec_transcript.specs.declared.Source.TheVariants.{Input}
 use Rattle.spec_transcript.specs.Session as session
 use Rattle.spec_transcript.specs.Session.{Reader, AQuery, Opening, Reading, stop_line}
-use Rattle.spec_lists.specs.Texts.{Text}
+use Rattle.spec_numbers.specs.Texts.{Text}
 use Rattle.spec_examples.specs.Rows.{some_goals, no_files, WritesStop}
 use Rattle.spec_examples.proofs.Unify.{no_pairs}
 use Rattle.spec_examples.proofs.Told.{x_alone, telling, unsettled, search_of}

@@ -1,19 +1,19 @@
 -- What stands at a place of a text, found within so many steps, with its proof.
 use Rattle.std.proofs.Common.{◌≡◌, ◌≢◌, ℕ, zero, suc, List, length, Option, Some, None, Result, Ok, Err, refl, sym, ◌∙◌, subst}
-use Rattle.spec_operators.specs.Operators.{Ops}
-use Rattle.spec_grammar.specs.declared.Kind.{Kind}
-use Rattle.spec_grammar.specs.declared.Kind.TheVariants as kind
-use Rattle.spec_grammar.specs.declared.LexFault.{LexFault}
-use Rattle.spec_grammar.specs.Gaps.{place}
-use Rattle.spec_grammar.specs.Tokens as lexical
-use Rattle.spec_grammar.specs.Tokens.{next_token}
+use Rattle.spec_syntax.specs.Operators.{Ops}
+use Rattle.spec_syntax.specs.declared.grammar.Kind.{Kind}
+use Rattle.spec_syntax.specs.declared.grammar.Kind.TheVariants as kind
+use Rattle.spec_syntax.specs.declared.grammar.LexFault.{LexFault}
+use Rattle.spec_syntax.specs.Gaps.{place}
+use Rattle.spec_syntax.specs.GrammarTokens as lexical
+use Rattle.spec_syntax.specs.GrammarTokens.{next_token}
 use Rattle.spec_syntax.specs.Tokens.{Token}
 use Rattle.spec_syntax.specs.Trees.{Tree}
 use Rattle.spec_syntax.specs.TextTokens.{Variables, no_variables, variables_after, seen}
 use Rattle.spec_syntax.specs.Machine.{State, BeforeTerm, AfterOperand, AfterName, AfterFunctor, AfterMinus, AfterOpenList, AfterOpenCurly, Whole, IsOpen, start, step}
-use Rattle.spec_reading.specs.Readings.{Read, Clause, Ended, Syntax, Resumes, behind, at_the_end, over, past, Reads, ended}
-use Rattle.spec_reading.specs.Runs.{ReadsOn, whole, onward, stuck, faulty, cut_off}
-use Rattle.spec_reading.proofs.ByMachine.{reads_there, fails_there}
+use Rattle.spec_text.specs.Readings.{Read, Clause, Ended, Syntax, Resumes, behind, at_the_end, over, past, Reads, ended}
+use Rattle.spec_text.specs.Runs.{ReadsOn, whole, onward, stuck, faulty, cut_off}
+use Rattle.spec_text.proofs.ByMachine.{reads_there, fails_there}
 
 -- the clause is whole, or not yet
 pub data Wholeness (s : State) : Type 0 where

@@ -2,11 +2,11 @@
 use Rattle.std.proofs.Common.{◌≡◌, ℕ, List, [], ◌∷◌, pos, codes, refl}
 use Rattle.spec_linear.specs.Solution.{Constraint, Solvable}
 use Rattle.spec_linear.proofs.Points.{all_at}
-use Rattle.spec_lists.proofs.Places.{nothing_within}
+use Rattle.spec_numbers.proofs.Places.{nothing_within}
 use Rattle.spec_syntax.specs.Trees.{Tree}
 use Rattle.spec_syntax.specs.TextTokens.{VariableName}
 use Rattle.spec_terms.specs.Term.{identity, apply}
-use Rattle.spec_told.specs.Relations.{Is, lin}
+use Rattle.spec_branch.specs.Relations.{Is, lin}
 use Rattle.spec_branch.specs.Alike.{no_values}
 use Rattle.spec_branch.specs.Branch.{Item, Pending, Branch, Unsettled, no_work}
 use Rattle.spec_branch.specs.Closure.{IsMove, no_move, move}

@@ -2,17 +2,17 @@
 use Rattle.std.proofs.Common.{ℕ, [], ◌∷◌, ◌++◌, inl, inr, codes, refl}
 use Rattle.std.specs.Char.{encode_utf8}
 use Rattle.std.specs.Str.{chars, is_utf8}
-use Rattle.spec_rational.specs.Gcd.{gcd}
-use Rattle.spec_rational.specs.Rational.{ratio, int_ℚ, neg_ℚ, inv_ℚ, ◌+ℚ◌, ◌*ℚ◌}
+use Rattle.spec_numbers.specs.Gcd.{gcd}
+use Rattle.spec_numbers.specs.Rational.{ratio, int_ℚ, neg_ℚ, inv_ℚ, ◌+ℚ◌, ◌*ℚ◌}
 use Rattle.spec_linear.specs.Solution.{Has, SomeMentions}
-use Rattle.spec_echelon.specs.SolvedForm.{rows_of}
-use Rattle.spec_echelon.proofs.Solving.{solvable, echelon, same-rows}
-use Rattle.spec_operators.specs.Standard.{standard}
-use Rattle.spec_grammar.specs.Characters.{first_char}
+use Rattle.spec_linear.specs.SolvedForm.{rows_of}
+use Rattle.spec_linear.proofs.Solving.{solvable, echelon, same-rows}
+use Rattle.spec_syntax.specs.Standard.{standard}
+use Rattle.spec_syntax.specs.Characters.{first_char}
 use Rattle.spec_syntax.specs.Grammar.{use_of, begins_term}
 use Rattle.spec_syntax.specs.Writing.{is_bare_right, is_bare_left, is_bare_argument, needs_quotes, is_spaced, infix_token}
-use Rattle.spec_writing.specs.Pieces.{pieces_at, argument_pieces}
-use Rattle.spec_writing.specs.Texts.{name_text, is_apart}
+use Rattle.spec_text.specs.Pieces.{pieces_at, argument_pieces}
+use Rattle.spec_text.specs.Texts.{name_text, is_apart}
 use Rattle.spec_terms.specs.Term.{identity}
 use Rattle.spec_projection.specs.Others.{AreOthers}
 use Rattle.spec_branch.specs.Branch.{Branch}
@@ -27,8 +27,8 @@ use Rattle.spec_transcript.specs.declared.Source.TheVariants.{Input}
 use Rattle.spec_transcript.specs.Purposes.{answer_end}
 use Rattle.spec_transcript.specs.Session as session
 use Rattle.spec_transcript.specs.Session.{Reader, AQuery, Opening, Searching, plain_line}
-use Rattle.spec_lists.specs.Texts.{Text}
-use Rattle.spec_lists.proofs.Places.{nothing_within}
+use Rattle.spec_numbers.specs.Texts.{Text}
+use Rattle.spec_numbers.proofs.Places.{nothing_within}
 use Rattle.spec_examples.specs.Rows.{some_goals, no_files, Writes}
 use Rattle.spec_examples.proofs.Unify.{no_pairs}
 use Rattle.spec_examples.proofs.Equation.{equation, row, row_is, two_at, solved, fixed, fixes}

@@ -3,12 +3,12 @@ use Rattle.std.proofs.Common.{◌≡◌, ℕ, zero, suc, List, [], ◌∷◌, �
 use Rattle.std.specs.Prelude.{nat_lt, length, map}
 use Rattle.std.proofs.lemmas.Bool.Decides.{Decides-eqb, Decides-ltb}
 use Rattle.spec_linear.specs.Solution.{Constraint}
-use Rattle.spec_lists.specs.Texts.{Text}
+use Rattle.spec_numbers.specs.Texts.{Text}
 use Rattle.spec_syntax.specs.TextTokens.{VariableName, Variables}
 use Rattle.spec_syntax.specs.Trees.{Tree}
-use Rattle.spec_reading.specs.Readings.{Clause, Ended as TextEnds, Syntax, Reads}
-use Rattle.spec_built.specs.Built.{indicator_of}
-use Rattle.spec_built.specs.Errors.{error_ball}
+use Rattle.spec_text.specs.Readings.{Clause, Ended as TextEnds, Syntax, Reads}
+use Rattle.spec_builtins.specs.Built.{indicator_of}
+use Rattle.spec_builtins.specs.Errors.{error_ball}
 use Rattle.spec_answers.specs.Answer.{answer_lines}
 use Rattle.spec_answers.specs.Lines.{or_true, lines_text}
 use Rattle.spec_answers.specs.Rows.{no_rows}
@@ -29,7 +29,7 @@ use Rattle.spec_search.specs.Search as looks
 use Rattle.spec_search.specs.Search.{Search, Look, look_at, is_selecting, gather}
 use Rattle.spec_search.specs.Turns as turn
 use Rattle.spec_search.specs.Turns.{Turn, place_of, after_removal, after_step, after_ball, with_branches}
-use Rattle.spec_stops.specs.Causes.{Budgets, Resolutions, Overflow, stop_text}
+use Rattle.spec_transcript.specs.Causes.{Budgets, Resolutions, Overflow, stop_text}
 use Rattle.spec_transcript.specs.declared.Source.{Source}
 use Rattle.spec_transcript.specs.declared.Source.TheVariants.{File, Input}
 use Rattle.spec_transcript.specs.Purposes.{Purpose, Directive, Initialization, Query, Fact, purpose, once, answer_end, no_line, more_line, ball_line, syntax_line}

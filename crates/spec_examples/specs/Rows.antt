@@ -1,7 +1,7 @@
 -- What commands write: with a hundred goals and ten answers to each query, where nothing else is said.
 use Rattle.std.specs.Prelude.{ℕ, List, [], ◌∷◌, codes, true, false, Option, Some, None}
-use Rattle.spec_lists.specs.Texts.{Text}
-use Rattle.spec_stops.specs.Causes.{Budgets}
+use Rattle.spec_numbers.specs.Texts.{Text}
+use Rattle.spec_transcript.specs.Causes.{Budgets}
 use Rattle.spec_transcript.specs.Session.{Marks, unmarked, Transcript}
 
 abbrev pub some_goals : Budgets

@@ -1,13 +1,13 @@
 -- Each input has a transcript, and what is written so far begins one.
 use Rattle.std.proofs.Common.{ℕ, ◌<◌, List, ◌++◌, Option, append-nil, append_assoc, sym, ap, subst, ◌∙◌}
-use Rattle.spec_lists.specs.Texts.{Text}
+use Rattle.spec_numbers.specs.Texts.{Text}
 use Rattle.spec_search.specs.Database.{initial}
-use Rattle.spec_stops.specs.Causes.{Budgets}
+use Rattle.spec_transcript.specs.Causes.{Budgets}
 use Rattle.spec_transcript.specs.Session as session
 use Rattle.spec_transcript.specs.Session.{Session, Opening, Mark, Marks, marked, Runs, Transcript, WrittenSoFar}
-use Rattle.spec_answered.proofs.Answered.{answer_exists}
-use Rattle.spec_transcribed.specs.Existing.{AreThere, AnswersHaveForms}
-use Rattle.spec_transcribed.proofs.Going.{runs_ready, goes_to_an_end, transcript_exists}
+use Rattle.cq_elimination.proofs.AnsweredLemmas.{answer_exists}
+use Rattle.spec_existence.specs.Existing.{AreThere, AnswersHaveForms}
+use Rattle.spec_existence.proofs.Going.{runs_ready, goes_to_an_end, transcript_exists}
 
 pub forms : AnswersHaveForms
 forms ops names st numbered sound solvable = answer_exists ops names st numbered sound.forms solvable

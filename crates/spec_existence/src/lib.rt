@@ -1,11 +1,16 @@
 //! Each input has a transcript. No code: the function has an empty body, and its contract is a law of the definitions.
 #![tactic(auto)]
 
+pub mod ended;
+pub mod progress;
+pub mod settled;
+pub mod transcribed;
+
 ghost use Rattle.std.specs.Prelude.{ℕ, ◌<◌, List, ◌++◌, Option};
-ghost use Rattle.spec_lists.specs.Texts.{Text};
-ghost use Rattle.spec_stops.specs.Causes.{Budgets};
+ghost use Rattle.spec_numbers.specs.Texts.{Text};
+ghost use Rattle.spec_transcript.specs.Causes.{Budgets};
 ghost use Rattle.spec_transcript.specs.Session.{Marks, Transcript, WrittenSoFar};
-ghost use Rattle.spec_transcribed.specs.Existing.{AreThere};
+ghost use Rattle.spec_existence.specs.Existing.{AreThere};
 
 /// Files that are there and an input have a transcript, for any budgets that allow an answer: whatever they hold, each clause
 /// of theirs is read or refused, each query comes to an end or a stop, and each answer has a text. And what some steps wrote so

@@ -1,15 +1,15 @@
 -- Rationals for finitely many variables have one denominator, so rationals that satisfy a list extend to a solution.
 use Rattle.std.proofs.Common.{◌≡◌, ◌↔◌, ◌⊎◌, inl, inr, ℕ, ◌*◌, List, [], ◌∷◌, ◌++◌, Bool, true, false, cond, ℤ, pos, ◌*ℤ◌, arith, refl, ap, sym, subst, ◌∙◌, mul-pos, zero-lt-suc}
 use Rattle.std.specs.Prelude.{◌==◌}
-use Rattle.spec_rational.specs.Rational.{ℚ, denominator, ratio, ◌+ℚ◌}
-use Rattle.spec_rational.specs.Sums.{Monomial, Mentions}
-use Rattle.spec_rational.proofs.Ring.{var, ◌⊗◌}
-use Rattle.spec_rational.proofs.IntRing.{ring_ℤ}
-use Rattle.spec_rational.proofs.Rational.{ratio_same, ratio_back}
-use Rattle.spec_rational.proofs.Sums.{sum_at-agrees}
+use Rattle.spec_numbers.specs.Rational.{ℚ, denominator, ratio, ◌+ℚ◌}
+use Rattle.spec_numbers.specs.Sums.{Monomial, Mentions}
+use Rattle.spec_numbers.proofs.Ring.{var, ◌⊗◌}
+use Rattle.spec_numbers.proofs.IntRing.{ring_ℤ}
+use Rattle.spec_numbers.proofs.RationalLemmas.{ratio_same, ratio_back}
+use Rattle.spec_numbers.proofs.Sums.{sum_at-agrees}
 use Rattle.spec_linear.specs.Form.{variables}
 use Rattle.spec_linear.specs.Solution.{Constraint, Meets, Point, number, Solvable, HoldsAt, Satisfies, AgreesOn, Extends, Has, SomeMentions}
-use Rattle.spec_lists.proofs.Tests.{nat_eq-same}
+use Rattle.spec_numbers.proofs.Tests.{nat_eq-same}
 use Rattle.spec_linear.proofs.Points.{solves_same}
 
 -- ---- lists that have what another has

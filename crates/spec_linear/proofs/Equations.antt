@@ -1,11 +1,11 @@
 -- The solutions of equations: with two of them, all points of their line.
 use Rattle.std.proofs.Common.{◌≡◌, ◌≢◌, ℕ, List, [], ◌∷◌, pos, refl, ap, ap₂, sym, subst, ◌∙◌}
-use Rattle.spec_rational.specs.Rational.{ℚ, 0ℚ, 1ℚ, ◌+ℚ◌, ◌-ℚ◌, ◌*ℚ◌, ◌/ℚ◌, inv_ℚ}
-use Rattle.spec_rational.specs.Sums.{sum_at}
-use Rattle.spec_rational.proofs.Ring.{var, int, ◌⊕◌, ◌⊗◌, minus}
-use Rattle.spec_rational.proofs.Rational.{ring}
-use Rattle.spec_rational.proofs.Sign.{times_inverse}
-use Rattle.spec_rational.proofs.Sums.{sum_at-plus, sum_at-times}
+use Rattle.spec_numbers.specs.Rational.{ℚ, 0ℚ, 1ℚ, ◌+ℚ◌, ◌-ℚ◌, ◌*ℚ◌, ◌/ℚ◌, inv_ℚ}
+use Rattle.spec_numbers.specs.Sums.{sum_at}
+use Rattle.spec_numbers.proofs.Ring.{var, int, ◌⊕◌, ◌⊗◌, minus}
+use Rattle.spec_numbers.proofs.RationalLemmas.{ring}
+use Rattle.spec_numbers.proofs.Sign.{times_inverse}
+use Rattle.spec_numbers.proofs.Sums.{sum_at-plus, sum_at-times}
 use Rattle.spec_linear.specs.declared.Relation.{Relation}
 use Rattle.spec_linear.specs.declared.Relation.TheVariants.{Eq}
 use Rattle.spec_linear.specs.Form.{Linear, value_at}

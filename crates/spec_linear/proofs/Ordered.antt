@@ -1,15 +1,15 @@
 -- Forms stay forms, and two forms with the same values are the same form.
 use Rattle.std.proofs.Common.{◌≡◌, ◌≢◌, ℕ, suc, ◌≤◌, ◌<◌, List, [], ◌∷◌, Bool, true, false, cond, not, pos, arith, refl, sym, ap, ap₂, subst, ◌∙◌}
 use Rattle.std.specs.Prelude.{◌==◌, nat_eq, nat_lt}
-use Rattle.spec_rational.specs.Rational.{ℚ, 0ℚ, ◌+ℚ◌, ◌*ℚ◌, neg_ℚ}
-use Rattle.spec_rational.specs.Sums.{Monomial, when, unit, factor_of, scaled_products, negated_products}
-use Rattle.spec_rational.proofs.Ring.{var, int, ◌⊕◌, minus}
-use Rattle.spec_rational.proofs.Rational.{ring}
-use Rattle.spec_rational.proofs.Sums.{factor_of-is, sum_at-nowhere}
-use Rattle.spec_rational.proofs.Sign.{one_not_zero}
+use Rattle.spec_numbers.specs.Rational.{ℚ, 0ℚ, ◌+ℚ◌, ◌*ℚ◌, neg_ℚ}
+use Rattle.spec_numbers.specs.Sums.{Monomial, when, unit, factor_of, scaled_products, negated_products}
+use Rattle.spec_numbers.proofs.Ring.{var, int, ◌⊕◌, minus}
+use Rattle.spec_numbers.proofs.RationalLemmas.{ring}
+use Rattle.spec_numbers.proofs.Sums.{factor_of-is, sum_at-nowhere}
+use Rattle.spec_numbers.proofs.Sign.{one_not_zero}
 use Rattle.spec_linear.specs.Form.{Linear, value_at, IsSumFrom, IsForm, is_zero, in_front, with_product, sum_products, without_zeros, without, constant_form, variable_form, sum_form, scaled_form, negated_form, difference_form, substituted_form}
 use Rattle.spec_linear.proofs.Values.{is_zero-false}
-use Rattle.spec_lists.proofs.Tests.{nat_eq-same}
+use Rattle.spec_numbers.proofs.Tests.{nat_eq-same}
 
 -- ---- sums stay in order
 

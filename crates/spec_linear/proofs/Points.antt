@@ -1,11 +1,11 @@
 -- A form multiplied through is the denominator times its value at the rationals, so a point and its rationals solve the same lists.
 use Rattle.std.proofs.Common.{◌≡◌, ◌≢◌, ◌↔◌, ℕ, List, [], ◌∷◌, ℤ, pos, arith, refl, ap, ap₂, sym, subst, ◌∙◌}
-use Rattle.spec_rational.specs.Rational.{ℚ, 0ℚ, int_ℚ, ◌+ℚ◌, ◌*ℚ◌, inv_ℚ, IsPositive}
-use Rattle.spec_rational.specs.Sums.{Monomial, sum_at}
-use Rattle.spec_rational.proofs.Ring.{var, int, ◌⊕◌, ◌⊗◌}
-use Rattle.spec_rational.proofs.IntRing.{ring_ℤ}
-use Rattle.spec_rational.proofs.Rational.{ring, ratio-mul, ratio_same}
-use Rattle.spec_rational.proofs.Sign.{pos_mul, nonneg_mul, pos_nonneg, ratio_pos, product_zero, inv_mul, inv_pos, not_pos_zero}
+use Rattle.spec_numbers.specs.Rational.{ℚ, 0ℚ, int_ℚ, ◌+ℚ◌, ◌*ℚ◌, inv_ℚ, IsPositive}
+use Rattle.spec_numbers.specs.Sums.{Monomial, sum_at}
+use Rattle.spec_numbers.proofs.Ring.{var, int, ◌⊕◌, ◌⊗◌}
+use Rattle.spec_numbers.proofs.IntRing.{ring_ℤ}
+use Rattle.spec_numbers.proofs.RationalLemmas.{ring, ratio-mul, ratio_same}
+use Rattle.spec_numbers.proofs.Sign.{pos_mul, nonneg_mul, pos_nonneg, ratio_pos, product_zero, inv_mul, inv_pos, not_pos_zero}
 use Rattle.spec_linear.specs.declared.Relation.{Relation}
 use Rattle.spec_linear.specs.declared.Relation.TheVariants.{Eq, Gt, Ge, Ne}
 use Rattle.spec_linear.specs.Form.{Linear, value_at, scaled_form}

@@ -1,6 +1,6 @@
 -- The same solutions on the targets: an equivalence of lists over them, which keeps what is solvable, entailed and fixed there.
 use Rattle.std.proofs.Common.{◌↔◌, inl, ℕ, List, [], ◌∷◌, refl, sym, ◌∙◌}
-use Rattle.spec_rational.specs.Rational.{ℚ}
+use Rattle.spec_numbers.specs.Rational.{ℚ}
 use Rattle.spec_linear.specs.Solution.{Constraint, Point, number, Solves, Solvable, Fixed, Entails, Equivalent, Satisfies, AgreesOn, Extends, Has, MentionsOnly, Same}
 use Rattle.spec_linear.proofs.Points.{holds_same, solves_same}
 use Rattle.spec_linear.proofs.Denominators.{extends, agrees_at, satisfies_agrees, holds_agrees}

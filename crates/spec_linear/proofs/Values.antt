@@ -2,14 +2,14 @@
 use Rattle.std.proofs.Common.{◌≡◌, ◌≢◌, ℕ, List, [], ◌∷◌, Bool, true, false, cond, not, ℤ, pos, negsuc, nat_abs, ◌*ℤ◌, arith, refl, sym, ap, ap₂, ◌∙◌}
 use Rattle.std.proofs.lemmas.Int.{ints}
 use Rattle.std.specs.Prelude.{◌==◌, nat_eq, nat_lt}
-use Rattle.spec_rational.specs.Gcd.{gcd}
-use Rattle.spec_rational.specs.Rational.{ℚ, denominator, 0ℚ, int_ℚ, ratio, ◌+ℚ◌, ◌-ℚ◌, ◌*ℚ◌, neg_ℚ}
-use Rattle.spec_rational.specs.Sums.{Monomial, sum_at, when, factor_of, scaled_products}
-use Rattle.spec_rational.proofs.Ring.{var, int, ◌⊕◌, ◌⊗◌, minus}
-use Rattle.spec_rational.proofs.Rational.{ring, cross_same}
-use Rattle.spec_rational.proofs.Sums.{sum_at-scaled_products, sum_at-negated_products}
+use Rattle.spec_numbers.specs.Gcd.{gcd}
+use Rattle.spec_numbers.specs.Rational.{ℚ, denominator, 0ℚ, int_ℚ, ratio, ◌+ℚ◌, ◌-ℚ◌, ◌*ℚ◌, neg_ℚ}
+use Rattle.spec_numbers.specs.Sums.{Monomial, sum_at, when, factor_of, scaled_products}
+use Rattle.spec_numbers.proofs.Ring.{var, int, ◌⊕◌, ◌⊗◌, minus}
+use Rattle.spec_numbers.proofs.RationalLemmas.{ring, cross_same}
+use Rattle.spec_numbers.proofs.Sums.{sum_at-scaled_products, sum_at-negated_products}
 use Rattle.spec_linear.specs.Form.{Linear, value_at, is_zero, in_front, with_product, sum_products, without_zeros, without, constant_form, variable_form, sum_form, scaled_form, negated_form, difference_form, substituted_form, changed_at}
-use Rattle.spec_lists.proofs.Tests.{nat_eq-same}
+use Rattle.spec_numbers.proofs.Tests.{nat_eq-same}
 
 -- ---- the test of zero
 

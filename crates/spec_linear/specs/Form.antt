@@ -1,8 +1,8 @@
 -- Linear forms: a sum of products of a factor and a variable, and a constant.
 -- A form lists its products by ascending variable, each variable once and no factor zero.
 use Rattle.std.specs.Prelude.{◌≢◌, ℕ, suc, ◌≤◌, List, [], ◌∷◌, ⊤, Bool, true, false, cond, not, ◌==◌, nat_eq, nat_lt, nat_abs, filter, map}
-use Rattle.spec_rational.specs.Rational.{ℚ, 0ℚ, 1ℚ, ◌+ℚ◌, ◌*ℚ◌, neg_ℚ}
-use Rattle.spec_rational.specs.Sums.{Monomial, sum_at, factor_of, scaled_products, negated_products}
+use Rattle.spec_numbers.specs.Rational.{ℚ, 0ℚ, 1ℚ, ◌+ℚ◌, ◌*ℚ◌, neg_ℚ}
+use Rattle.spec_numbers.specs.Sums.{Monomial, sum_at, factor_of, scaled_products, negated_products}
 
 -- the products, and the constant
 pub record Linear : Type 0 where

@@ -3,8 +3,8 @@
 use Rattle.std.specs.Prelude.{◌≡◌, ◌↔◌, ◌⊎◌, ℕ, ◌<◌, List, [], ◌∷◌, ⊤, Option, Some, ℤ, pos}
 use Rattle.spec_linear.specs.declared.Relation.{Relation}
 use Rattle.spec_linear.specs.declared.Relation.TheVariants.{Eq, Gt, Ge, Ne}
-use Rattle.spec_rational.specs.Rational.{ℚ, 0ℚ, 1ℚ, ratio, int_ℚ, ◌+ℚ◌, ◌*ℚ◌, IsPositive, IsNotNegative}
-use Rattle.spec_rational.specs.Sums.{Mentions, sum_at}
+use Rattle.spec_numbers.specs.Rational.{ℚ, 0ℚ, 1ℚ, ratio, int_ℚ, ◌+ℚ◌, ◌*ℚ◌, IsPositive, IsNotNegative}
+use Rattle.spec_numbers.specs.Sums.{Mentions, sum_at}
 use Rattle.spec_linear.specs.Form.{Linear, constant_form, variable_form, difference_form, value_at}
 
 -- a form, and how it stands to zero

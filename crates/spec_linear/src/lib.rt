@@ -2,8 +2,12 @@
 //! enum of relations. The functions here have empty bodies: each contract is a law.
 #![tactic(auto)]
 
+pub mod echelon;
+pub mod extremes;
+pub mod inequalities;
+
 ghost use Rattle.std.specs.Prelude.{◌≡◌, ◌≢◌, ◌↔◌, ◌++◌, [], ◌∷◌, ℕ, List, Option, Some};
-ghost use Rattle.spec_rational.specs.Rational.{ℚ, 0ℚ, ◌+ℚ◌, ◌-ℚ◌, ◌*ℚ◌, neg_ℚ, IsPositive};
+ghost use Rattle.spec_numbers.specs.Rational.{ℚ, 0ℚ, ◌+ℚ◌, ◌-ℚ◌, ◌*ℚ◌, neg_ℚ, IsPositive};
 ghost use Rattle.spec_linear.specs.Form.{Linear, value_at, IsForm, constant_form, variable_form, sum_form, scaled_form, negated_form, difference_form, substituted_form, changed_at};
 ghost use Rattle.spec_linear.specs.Solution.{Constraint, false_constraint, equal_to, Point, number, Holds, Solves, Solvable, Unsolvable, Fixed, Fixes, Entails, Equivalent, AreEquations, HoldsAt, Satisfies, Extends, Has, MentionsOnly, Same};
 

@@ -1,11 +1,11 @@
 -- Lists of multiples of each other's constraints have the same solutions and mention the same variables.
 use Rattle.std.proofs.Common.{inl, inr, subst, ◌++◌, ◌≡◌, ℕ, List, [], ◌∷◌, pos, refl, ap, ap₂, sym, ◌∙◌}
-use Rattle.spec_rational.specs.Rational.{0ℚ, ◌-ℚ◌, ◌*ℚ◌, inv_ℚ}
-use Rattle.spec_rational.specs.Sums.{Mentions, factor_of, unit, sum_at}
-use Rattle.spec_rational.proofs.Ring.{var, int, ◌⊕◌, ◌⊗◌, minus}
-use Rattle.spec_rational.proofs.Rational.{ring}
-use Rattle.spec_rational.proofs.Sign.{product_zero, times_inverse, inverse_not_zero}
-use Rattle.spec_rational.proofs.Sums.{factor_of-is}
+use Rattle.spec_numbers.specs.Rational.{0ℚ, ◌-ℚ◌, ◌*ℚ◌, inv_ℚ}
+use Rattle.spec_numbers.specs.Sums.{Mentions, factor_of, unit, sum_at}
+use Rattle.spec_numbers.proofs.Ring.{var, int, ◌⊕◌, ◌⊗◌, minus}
+use Rattle.spec_numbers.proofs.RationalLemmas.{ring}
+use Rattle.spec_numbers.proofs.Sign.{product_zero, times_inverse, inverse_not_zero}
+use Rattle.spec_numbers.proofs.Sums.{factor_of-is}
 use Rattle.spec_linear.specs.Form.{Linear, value_at}
 use Rattle.spec_linear.specs.Solution.{Constraint, Equivalent, Has, SomeMentions}
 use Rattle.spec_projection.specs.Strict.{AreMultiples, IsMultiple, AreScaled, no_row, one_row, HasForm}
@@ -16,7 +16,7 @@ use Rattle.spec_projection.proofs.Reordered.{reordered_has, reordered_back, reor
 use Rattle.spec_projection.proofs.Strong.{scaled_alike, scaled_both, scaled_irredundant}
 use Rattle.spec_projection.proofs.Mentions.{factor_mentioned, some_mentions, mentioning}
 use Rattle.spec_linear.proofs.Lists.{alike_trans}
-use Rattle.spec_inequalities.proofs.NoVariable.{constant_is}
+use Rattle.spec_linear.proofs.NoVariable.{constant_is}
 use Rattle.spec_linear.proofs.Points.{times_zero}
 
 -- a member of the list of which c is a multiple

@@ -1,16 +1,16 @@
 -- The equations that a list entails: its own and its weak rows that are never strict. With them it holds strictly somewhere.
 use Rattle.std.proofs.Common.{◌≡◌, ◌⊎◌, inl, inr, ℕ, List, [], ◌∷◌, ◌++◌, true, false, refl, ap, sym, subst, ◌∙◌}
-use Rattle.spec_rational.specs.Rational.{ℚ, 0ℚ, IsPositive, IsNotNegative}
-use Rattle.spec_rational.specs.Sums.{Mentions}
-use Rattle.spec_rational.proofs.Sign.{nonneg_cases, nonneg_zero, pos_nonneg}
+use Rattle.spec_numbers.specs.Rational.{ℚ, 0ℚ, IsPositive, IsNotNegative}
+use Rattle.spec_numbers.specs.Sums.{Mentions}
+use Rattle.spec_numbers.proofs.Sign.{nonneg_cases, nonneg_zero, pos_nonneg}
 use Rattle.spec_linear.specs.declared.Relation.{Relation}
 use Rattle.spec_linear.specs.declared.Relation.TheVariants.{Eq, Gt, Ge, Ne}
 use Rattle.spec_linear.specs.Form.{Linear, value_at}
 use Rattle.spec_linear.specs.Solution.{Constraint, Meets, HoldsAt, Satisfies, Solvable, Entails, Equivalent, AreEquations, Has, SomeMentions, equal_zero, Satisfiable}
 use Rattle.spec_linear.proofs.Denominators.{solvable_same, has_left, has_right}
 use Rattle.spec_linear.proofs.Lists.{entails_same, alike_solvable, alike_entails, alike_sym}
-use Rattle.spec_inequalities.specs.Weak.{above_zero, at_least_zero, with_weak, weak}
-use Rattle.spec_inequalities.proofs.Far.{Weakly, weak_satisfied, weak_member}
+use Rattle.spec_linear.specs.Weak.{above_zero, at_least_zero, with_weak, weak}
+use Rattle.spec_linear.proofs.Far.{Weakly, weak_satisfied, weak_member}
 use Rattle.spec_projection.specs.Interior.{strictly, is_equation, equations_of}
 use Rattle.spec_projection.proofs.Members.{has_either, has_filtered, alike_by_members, member_entailed}
 use Rattle.spec_projection.proofs.Splits.{entails_members}

@@ -2,16 +2,16 @@
 use Rattle.std.proofs.Common.{zero, suc, ◌≡◌, ◌↔◌, ℕ, [], ◌∷◌, Bool, true, false, cond, ℤ, pos, negsuc, ◌<ℤ◌, arith, refl, ap, ap₂, sym, subst, ◌∙◌}
 use Rattle.std.proofs.lemmas.Int.{ints}
 use Rattle.std.specs.Prelude.{◌==◌}
-use Rattle.spec_rational.specs.Rational.{ℚ, 0ℚ, 1ℚ, ◌+ℚ◌, ◌-ℚ◌, ◌*ℚ◌, neg_ℚ, inv_ℚ, IsPositive}
-use Rattle.spec_rational.specs.Sums.{unit, when, factor_of, sum_at}
-use Rattle.spec_rational.proofs.Ring.{var, int, ◌⊕◌, ◌⊗◌, minus}
-use Rattle.spec_rational.proofs.Rational.{ring}
-use Rattle.spec_rational.proofs.Sign.{inv_mul}
-use Rattle.spec_rational.proofs.Sums.{sum_at-plus, sum_at-times, sum_at-agrees, factor_of-is}
+use Rattle.spec_numbers.specs.Rational.{ℚ, 0ℚ, 1ℚ, ◌+ℚ◌, ◌-ℚ◌, ◌*ℚ◌, neg_ℚ, inv_ℚ, IsPositive}
+use Rattle.spec_numbers.specs.Sums.{unit, when, factor_of, sum_at}
+use Rattle.spec_numbers.proofs.Ring.{var, int, ◌⊕◌, ◌⊗◌, minus}
+use Rattle.spec_numbers.proofs.RationalLemmas.{ring}
+use Rattle.spec_numbers.proofs.Sign.{inv_mul}
+use Rattle.spec_numbers.proofs.Sums.{sum_at-plus, sum_at-times, sum_at-agrees, factor_of-is}
 use Rattle.spec_linear.specs.Form.{Linear, value_at, scaled_form, changed_at}
 use Rattle.spec_linear.specs.Solution.{Constraint, Meets, HoldsAt}
 use Rattle.spec_linear.proofs.Values.{value_at-sum_form, value_at-scaled_form}
-use Rattle.spec_lists.proofs.Tests.{nat_eq-same}
+use Rattle.spec_numbers.proofs.Tests.{nat_eq-same}
 use Rattle.spec_linear.proofs.Points.{meets_same}
 use Rattle.spec_projection.specs.Elimination.{is_above_zero, is_positive, coefficient, combination}
 

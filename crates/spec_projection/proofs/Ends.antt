@@ -2,11 +2,11 @@
 use Rattle.std.proofs.Common.{◌≡◌, inl, inr, ℕ, List, [], ◌∷◌, ◌++◌, refl, ap, sym, subst, ◌∙◌}
 use Rattle.std.specs.Prelude.{map}
 use Rattle.std.proofs.lemmas.List.{append_assoc}
-use Rattle.spec_rational.specs.Sums.{Mentions}
+use Rattle.spec_numbers.specs.Sums.{Mentions}
 use Rattle.spec_linear.specs.declared.Relation.TheVariants.{Eq, Ge, Ne}
 use Rattle.spec_linear.specs.Form.{Linear}
 use Rattle.spec_linear.specs.Solution.{Constraint, Solvable, Equivalent, Has, MentionsOnly, Same}
-use Rattle.spec_echelon.specs.Echelon.{Solved, equation, equations, AreDistinct}
+use Rattle.spec_linear.specs.Echelon.{Solved, equation, equations, AreDistinct}
 use Rattle.spec_projection.specs.Targets.{SameOn}
 use Rattle.spec_projection.specs.Lists.{AreForms}
 use Rattle.spec_projection.specs.Elimination.{IsInequality}

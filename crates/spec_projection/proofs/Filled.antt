@@ -1,15 +1,15 @@
 -- Values of the free variables give the variables that equations are solved for theirs.
 use Rattle.std.proofs.Common.{◌≡◌, ◌↔◌, inl, inr, ℕ, List, [], ◌∷◌, ◌++◌, refl, ap, sym, subst, ◌∙◌}
 use Rattle.std.specs.List.{AllByRecursion}
-use Rattle.spec_rational.specs.Rational.{ℚ}
-use Rattle.spec_rational.specs.Sums.{Monomial, Mentions}
+use Rattle.spec_numbers.specs.Rational.{ℚ}
+use Rattle.spec_numbers.specs.Sums.{Monomial, Mentions}
 use Rattle.spec_linear.specs.Form.{Linear, value_at, changed_at}
 use Rattle.spec_linear.specs.Solution.{Constraint, HoldsAt, Satisfies, Entails, Has}
 use Rattle.spec_linear.proofs.Denominators.{holds_agrees}
 use Rattle.spec_linear.proofs.Lists.{entails_same}
-use Rattle.spec_echelon.specs.Echelon.{Solved, equation, equations, MentionsNone, AreDistinct}
-use Rattle.spec_echelon.proofs.Filled.{equation-said, value_at-agrees}
-use Rattle.spec_inequalities.proofs.Far.{member_satisfied}
+use Rattle.spec_linear.specs.Echelon.{Solved, equation, equations, MentionsNone, AreDistinct}
+use Rattle.spec_linear.proofs.Filled.{equation-said, value_at-agrees}
+use Rattle.spec_linear.proofs.Far.{member_satisfied}
 use Rattle.spec_projection.specs.Substitution.{solved_variables, AreReduced, AreFreeOf}
 use Rattle.spec_projection.specs.Targets.{SameOn}
 use Rattle.spec_projection.proofs.Members.{satisfies_all, satisfies_parts, satisfies_both, has_mapped, has_image}

@@ -2,13 +2,13 @@
 use Rattle.std.proofs.Common.{◌≡◌, ◌≢◌, ◌⊎◌, inl, inr, ℕ, List, [], ◌∷◌, Bool, true, false, cond, not, arith, refl, sym, subst}
 use Rattle.std.specs.Prelude.{map, ◌==◌, nat_lt}
 use Rattle.std.specs.List.{AllByRecursion}
-use Rattle.spec_rational.specs.Rational.{ℚ, 0ℚ, ◌+ℚ◌, ◌*ℚ◌}
-use Rattle.spec_rational.specs.Sums.{Monomial, Mentions, factor_of, scaled_products}
+use Rattle.spec_numbers.specs.Rational.{ℚ, 0ℚ, ◌+ℚ◌, ◌*ℚ◌}
+use Rattle.spec_numbers.specs.Sums.{Monomial, Mentions, factor_of, scaled_products}
 use Rattle.spec_linear.specs.Form.{Linear, IsForm, IsSumFrom, is_zero, in_front, with_product, sum_products, without_zeros, without}
 use Rattle.spec_linear.specs.Solution.{Constraint, Has}
 use Rattle.spec_linear.proofs.Values.{is_zero-false}
 use Rattle.spec_linear.proofs.Ordered.{IsSumFrom-without, IsForm-sum_form}
-use Rattle.spec_echelon.specs.Echelon.{Solved, MentionsNone}
+use Rattle.spec_linear.specs.Echelon.{Solved, MentionsNone}
 use Rattle.spec_projection.specs.Lists.{AreForms}
 use Rattle.spec_projection.specs.Substitution.{with_form_of, with_forms_of, put_into, solved_variables, AreReduced, AreFreeOf}
 use Rattle.spec_projection.proofs.Members.{has_mapped, has_image}

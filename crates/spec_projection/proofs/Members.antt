@@ -1,7 +1,7 @@
 -- What holds of a list holds of each of its members.
 use Rattle.std.proofs.Common.{◌≡◌, ◌↔◌, ◌⊎◌, inl, inr, ℕ, List, [], ◌∷◌, ◌++◌, Bool, true, false, cond, refl, ap, sym, ◌∙◌}
 use Rattle.std.specs.Prelude.{map, filter}
-use Rattle.spec_rational.specs.Rational.{ℚ}
+use Rattle.spec_numbers.specs.Rational.{ℚ}
 use Rattle.spec_linear.specs.Solution.{Constraint, Point, Holds, Solves, Entails, Equivalent, HoldsAt, Satisfies, Has}
 use Rattle.spec_linear.proofs.Lists.{member_holds, solves_append}
 

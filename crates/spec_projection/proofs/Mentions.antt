@@ -1,16 +1,16 @@
 -- A form mentions just the variables whose coefficient is not zero.
 use Rattle.std.proofs.Common.{◌≡◌, ◌≢◌, ◌⊎◌, inl, inr, ℕ, suc, ◌≤◌, List, [], ◌∷◌, Bool, true, false, arith, pos, refl, ap, ap₂, sym, subst, ◌∙◌}
 use Rattle.std.specs.Prelude.{nat_eq}
-use Rattle.spec_rational.specs.Rational.{ℚ, 0ℚ, ◌+ℚ◌, ◌*ℚ◌, neg_ℚ, inv_ℚ, IsPositive}
-use Rattle.spec_rational.specs.Sums.{Monomial, Mentions, factor_of, when, unit, scaled_products}
-use Rattle.spec_rational.proofs.Ring.{var, int, ◌⊕◌, ◌⊗◌, minus}
-use Rattle.spec_rational.proofs.Rational.{ring}
-use Rattle.spec_rational.proofs.Sign.{zero_or_not, inv_mul}
-use Rattle.spec_rational.proofs.Sums.{factor_of-is, sum_at-scaled_products}
+use Rattle.spec_numbers.specs.Rational.{ℚ, 0ℚ, ◌+ℚ◌, ◌*ℚ◌, neg_ℚ, inv_ℚ, IsPositive}
+use Rattle.spec_numbers.specs.Sums.{Monomial, Mentions, factor_of, when, unit, scaled_products}
+use Rattle.spec_numbers.proofs.Ring.{var, int, ◌⊕◌, ◌⊗◌, minus}
+use Rattle.spec_numbers.proofs.RationalLemmas.{ring}
+use Rattle.spec_numbers.proofs.Sign.{zero_or_not, inv_mul}
+use Rattle.spec_numbers.proofs.Sums.{factor_of-is, sum_at-scaled_products}
 use Rattle.spec_linear.specs.Form.{Linear, IsSumFrom, IsForm, sum_form, scaled_form}
 use Rattle.spec_linear.specs.Solution.{Constraint, Has, SomeMentions}
 use Rattle.spec_linear.proofs.Values.{sum_at-sum_products, sum_at-without_zeros}
-use Rattle.spec_lists.proofs.Tests.{nat_eq-same}
+use Rattle.spec_numbers.proofs.Tests.{nat_eq-same}
 use Rattle.spec_linear.proofs.Ordered.{factor_of-first, factor_of-rest, IsForm-sum_form, IsForm-scaled_form}
 use Rattle.spec_projection.specs.Elimination.{coefficient, lower_rows, upper_rows, other_rows, combination, combinations, eliminated}
 use Rattle.spec_projection.specs.Lists.{AreForms}

@@ -1,17 +1,17 @@
 -- Whether a form is a multiple of another, and whether a list has a disequation of a form.
 use Rattle.std.proofs.Common.{◌≡◌, ◌≢◌, ◌⊎◌, inl, inr, ℕ, List, [], ◌∷◌, pos, refl, ap, ap₂, sym, subst, ◌∙◌}
-use Rattle.spec_rational.specs.Rational.{ℚ, 0ℚ, 1ℚ, ◌+ℚ◌, ◌-ℚ◌, ◌*ℚ◌, inv_ℚ}
-use Rattle.spec_rational.specs.Sums.{Monomial, Mentions, factor_of, sum_at}
-use Rattle.spec_rational.proofs.Ring.{var, int, ◌⊕◌, ◌⊗◌, minus}
-use Rattle.spec_rational.proofs.Rational.{ring}
-use Rattle.spec_rational.proofs.Sign.{zero_or_not, one_not_zero, times_inverse}
+use Rattle.spec_numbers.specs.Rational.{ℚ, 0ℚ, 1ℚ, ◌+ℚ◌, ◌-ℚ◌, ◌*ℚ◌, inv_ℚ}
+use Rattle.spec_numbers.specs.Sums.{Monomial, Mentions, factor_of, sum_at}
+use Rattle.spec_numbers.proofs.Ring.{var, int, ◌⊕◌, ◌⊗◌, minus}
+use Rattle.spec_numbers.proofs.RationalLemmas.{ring}
+use Rattle.spec_numbers.proofs.Sign.{zero_or_not, one_not_zero, times_inverse}
 use Rattle.spec_linear.specs.declared.Relation.{Relation}
 use Rattle.spec_linear.specs.declared.Relation.TheVariants.{Eq, Gt, Ge, Ne}
 use Rattle.spec_linear.specs.Form.{Linear, value_at, IsForm, scaled_form, difference_form}
 use Rattle.spec_linear.specs.Solution.{Constraint}
 use Rattle.spec_linear.proofs.Values.{value_at-scaled_form, value_at-difference_form}
 use Rattle.spec_linear.proofs.Ordered.{IsForm-scaled_form, IsForm-difference_form}
-use Rattle.spec_inequalities.proofs.NoVariable.{same_number_everywhere, constant_is}
+use Rattle.spec_linear.proofs.NoVariable.{same_number_everywhere, constant_is}
 use Rattle.spec_projection.specs.Lists.{AreForms}
 use Rattle.spec_projection.specs.Strict.{AreMultiples, HasForm}
 use Rattle.spec_projection.proofs.Mentions.{mentioned_factor}

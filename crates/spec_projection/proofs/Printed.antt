@@ -1,10 +1,10 @@
 -- What a printed inequality says of the sum of its products.
 use Rattle.std.proofs.Common.{◌≡◌, ◌≢◌, ◌↔◌, ℕ, List, [], ◌∷◌, pos, refl, ap, sym, subst, ◌∙◌}
-use Rattle.spec_rational.specs.Rational.{ℚ, 0ℚ, ◌+ℚ◌, ◌-ℚ◌, neg_ℚ, IsPositive, IsNotNegative, ◌≤ℚ◌, ◌<ℚ◌}
-use Rattle.spec_rational.specs.Sums.{Monomial, sum_at, negated_products}
-use Rattle.spec_rational.proofs.Ring.{var, int, ◌⊕◌, minus}
-use Rattle.spec_rational.proofs.Rational.{ring, add_comm}
-use Rattle.spec_rational.proofs.Sums.{sum_at-negated_products}
+use Rattle.spec_numbers.specs.Rational.{ℚ, 0ℚ, ◌+ℚ◌, ◌-ℚ◌, neg_ℚ, IsPositive, IsNotNegative, ◌≤ℚ◌, ◌<ℚ◌}
+use Rattle.spec_numbers.specs.Sums.{Monomial, sum_at, negated_products}
+use Rattle.spec_numbers.proofs.Ring.{var, int, ◌⊕◌, minus}
+use Rattle.spec_numbers.proofs.RationalLemmas.{ring, add_comm}
+use Rattle.spec_numbers.proofs.Sums.{sum_at-negated_products}
 use Rattle.spec_linear.specs.Solution.{HoldsAt}
 use Rattle.spec_projection.specs.Printed.{AtLeast, Above, AtMost, Below, compared, unequal_to}
 

@@ -5,7 +5,7 @@ use Rattle.spec_linear.specs.declared.Relation.{Relation}
 use Rattle.spec_linear.specs.declared.Relation.TheVariants.{Eq, Gt, Ge, Ne}
 use Rattle.spec_linear.specs.Solution.{Constraint, Entails, Equivalent, Has, MentionsOnly}
 use Rattle.spec_linear.proofs.Denominators.{has_left, has_right}
-use Rattle.spec_echelon.specs.Echelon.{Solved, equation, equations, AreDistinct, IsEchelon}
+use Rattle.spec_linear.specs.Echelon.{Solved, equation, equations, AreDistinct, IsEchelon}
 use Rattle.spec_projection.specs.Lists.{AreForms}
 use Rattle.spec_projection.specs.Elimination.{IsInequality}
 use Rattle.spec_projection.specs.Partial.{AreInequalities}

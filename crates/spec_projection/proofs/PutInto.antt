@@ -1,15 +1,15 @@
 -- Putting solved equations into constraints changes nothing where the equations hold, and takes their variables out.
 use Rattle.std.proofs.Common.{◌≡◌, ◌↔◌, ℕ, List, [], ◌∷◌, ◌++◌, refl, ap, sym, subst, ◌∙◌}
 use Rattle.std.specs.Prelude.{map}
-use Rattle.spec_rational.specs.Rational.{ℚ}
-use Rattle.spec_rational.specs.Sums.{factor_of}
-use Rattle.spec_rational.proofs.Rational.{add_comm}
+use Rattle.spec_numbers.specs.Rational.{ℚ}
+use Rattle.spec_numbers.specs.Sums.{factor_of}
+use Rattle.spec_numbers.proofs.RationalLemmas.{add_comm}
 use Rattle.spec_linear.specs.Form.{Linear, value_at, changed_at, without, scaled_form}
 use Rattle.spec_linear.specs.Solution.{Constraint, Meets, Satisfies, Equivalent, number}
 use Rattle.spec_linear.proofs.Values.{value_at-sum_form, value_at-substituted_form}
 use Rattle.spec_linear.proofs.Points.{solves_same}
-use Rattle.spec_echelon.specs.Echelon.{Solved, equations}
-use Rattle.spec_echelon.proofs.Filled.{equation-says, value_at-agrees}
+use Rattle.spec_linear.specs.Echelon.{Solved, equations}
+use Rattle.spec_linear.proofs.Filled.{equation-says, value_at-agrees}
 use Rattle.spec_projection.specs.Substitution.{with_form_of, with_forms_of, put_into}
 use Rattle.spec_projection.proofs.Members.{satisfies_parts, satisfies_both}
 use Rattle.spec_projection.proofs.Projected.{changed_to_itself}

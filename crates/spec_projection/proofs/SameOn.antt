@@ -1,6 +1,6 @@
 -- Lists that leave the targets the same values: an equivalence, which ends in rows over the targets alone.
 use Rattle.std.proofs.Common.{◌↔◌, inl, ℕ, List, [], ◌∷◌, refl, ◌∙◌}
-use Rattle.spec_rational.specs.Rational.{ℚ}
+use Rattle.spec_numbers.specs.Rational.{ℚ}
 use Rattle.spec_linear.specs.Solution.{Constraint, number, Solvable, Entails, Equivalent, Satisfies, Extends, Has, MentionsOnly, Same}
 use Rattle.spec_linear.proofs.Points.{solves_same}
 use Rattle.spec_linear.proofs.Denominators.{extends, agrees_at, satisfies_agrees, holds_agrees, agrees_on}

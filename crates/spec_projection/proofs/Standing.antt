@@ -1,8 +1,8 @@
 -- Whether a variable stands in a list, and which of some variables do.
 use Rattle.std.proofs.Common.{◌≡◌, ◌⊎◌, inl, inr, ℕ, List, [], ◌∷◌, sym, subst}
-use Rattle.spec_rational.specs.Sums.{Monomial, Mentions}
+use Rattle.spec_numbers.specs.Sums.{Monomial, Mentions}
 use Rattle.spec_linear.specs.Solution.{Constraint, Has, SomeMentions}
-use Rattle.spec_projection.proofs.Decided.{nat_dec}
+use Rattle.spec_projection.proofs.DecidedLemmas.{nat_dec}
 
 mention_or_not : (x : ℕ) (s : List Monomial) → Mentions x s ⊎ (Mentions x s → ⊥)
 mention_or_not x [] = inr (λ h. h)

@@ -1,15 +1,15 @@
 -- Multiples of constraints hold where these do, and a weak row beside a disequation of its form holds strictly.
 use Rattle.std.proofs.Common.{◌≡◌, ◌≢◌, ◌↔◌, inl, inr, ℕ, List, [], ◌∷◌, ◌++◌, refl, ap, sym, subst, ◌∙◌}
-use Rattle.spec_rational.specs.Rational.{ℚ, 0ℚ, ◌*ℚ◌, IsPositive}
-use Rattle.spec_rational.proofs.Sign.{product_zero, nonneg_cases, pos_nonneg, not_pos_zero}
+use Rattle.spec_numbers.specs.Rational.{ℚ, 0ℚ, ◌*ℚ◌, IsPositive}
+use Rattle.spec_numbers.proofs.Sign.{product_zero, nonneg_cases, pos_nonneg, not_pos_zero}
 use Rattle.spec_linear.specs.declared.Relation.{Relation}
 use Rattle.spec_linear.specs.declared.Relation.TheVariants.{Eq, Gt, Ge, Ne}
 use Rattle.spec_linear.specs.Form.{Linear, value_at}
 use Rattle.spec_linear.specs.Solution.{Constraint, Meets, number, HoldsAt, Satisfies, Entails, Equivalent, Has}
 use Rattle.spec_linear.proofs.Points.{meets_same, solves_same, times_zero}
 use Rattle.spec_linear.proofs.Lists.{entails_same, solves_append}
-use Rattle.spec_inequalities.specs.Weak.{above_zero, at_least_zero, not_zero}
-use Rattle.spec_inequalities.proofs.Far.{member_satisfied}
+use Rattle.spec_linear.specs.Weak.{above_zero, at_least_zero, not_zero}
+use Rattle.spec_linear.proofs.Far.{member_satisfied}
 use Rattle.spec_projection.specs.Elimination.{IsInequality}
 use Rattle.spec_projection.specs.Irredundant.{IsIrredundant}
 use Rattle.spec_projection.specs.Strict.{AreMultiples, IsMultiple, AreScaled, no_row, one_row, HasForm, Strengthened, no_more, made_strict, left_alone}

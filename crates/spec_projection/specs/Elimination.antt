@@ -2,8 +2,8 @@
 -- others.
 use Rattle.std.proofs.Common.{zero}
 use Rattle.std.specs.Prelude.{◌≡◌, ◌⊎◌, ℕ, suc, List, [], ◌∷◌, ◌++◌, map, filter, Bool, true, false, ⊤, ℤ, pos, negsuc}
-use Rattle.spec_rational.specs.Rational.{ℚ, 0ℚ, neg_ℚ, inv_ℚ}
-use Rattle.spec_rational.specs.Sums.{factor_of}
+use Rattle.spec_numbers.specs.Rational.{ℚ, 0ℚ, neg_ℚ, inv_ℚ}
+use Rattle.spec_numbers.specs.Sums.{factor_of}
 use Rattle.spec_linear.specs.declared.Relation.{Relation}
 use Rattle.spec_linear.specs.declared.Relation.TheVariants.{Eq, Gt, Ge, Ne}
 use Rattle.spec_linear.specs.Form.{is_zero, sum_form, scaled_form}

@@ -1,9 +1,9 @@
 -- Inequalities as they are printed: products, a comparison, and a number on the right.
 use Rattle.std.specs.Prelude.{List}
-use Rattle.spec_rational.specs.Rational.{ℚ, neg_ℚ}
-use Rattle.spec_rational.specs.Sums.{Monomial, negated_products}
+use Rattle.spec_numbers.specs.Rational.{ℚ, neg_ℚ}
+use Rattle.spec_numbers.specs.Sums.{Monomial, negated_products}
 use Rattle.spec_linear.specs.Solution.{Constraint}
-use Rattle.spec_inequalities.specs.Weak.{above_zero, at_least_zero, not_zero}
+use Rattle.spec_linear.specs.Weak.{above_zero, at_least_zero, not_zero}
 
 -- >= > =< <
 pub data Comparison : Type 0 where

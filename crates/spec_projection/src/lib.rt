@@ -2,16 +2,17 @@
 //! No code: each function has an empty body, and its contract is a law of the definitions.
 #![tactic(auto)]
 
+pub mod decided;
 pub mod projections;
 
 ghost use Rattle.std.specs.Prelude.{◌≡◌, ◌↔◌, ◌⊎◌, ◌+◌, ◌*◌, ◌<◌, ℕ, List, [], ◌∷◌, ◌++◌, map, length};
-ghost use Rattle.spec_rational.specs.Rational.{ℚ, 0ℚ, ◌<ℚ◌};
+ghost use Rattle.spec_numbers.specs.Rational.{ℚ, 0ℚ, ◌<ℚ◌};
 ghost use Rattle.spec_linear.specs.Form.{Linear, negated_form, difference_form, changed_at};
 ghost use Rattle.spec_linear.specs.Solution.{Constraint, Satisfies, HoldsAt, Solvable, Unsolvable, Entails, Equivalent, Extends, Has, SomeMentions, MentionsOnly, Same, equal_zero};
-ghost use Rattle.spec_echelon.specs.Echelon.{Solved, equation, equations, AreDistinct, IsEchelon};
-ghost use Rattle.spec_echelon.specs.SolvedForm.{NotFixed};
-ghost use Rattle.spec_inequalities.specs.Weak.{above_zero, at_least_zero, not_zero, weak};
-ghost use Rattle.spec_inequalities.specs.Certificate.{HasNoVariable};
+ghost use Rattle.spec_linear.specs.Echelon.{Solved, equation, equations, AreDistinct, IsEchelon};
+ghost use Rattle.spec_linear.specs.SolvedForm.{NotFixed};
+ghost use Rattle.spec_linear.specs.Weak.{above_zero, at_least_zero, not_zero, weak};
+ghost use Rattle.spec_linear.specs.Certificate.{HasNoVariable};
 ghost use Rattle.spec_projection.specs.Targets.{AgreeOn, SameOn};
 ghost use Rattle.spec_projection.specs.Lists.{AreForms};
 ghost use Rattle.spec_projection.specs.Samples.{x, y, between, strictly_between, above_both};
@@ -19,7 +20,7 @@ ghost use Rattle.spec_projection.specs.Elimination.{lower_rows, upper_rows, othe
 ghost use Rattle.spec_projection.specs.Substitution.{put_into, solved_variables, AreReduced, AreFreeOf};
 ghost use Rattle.spec_projection.specs.Irredundant.{IsIrredundant, IsSublist, IsIrredundantSublist, NoneFollows, Sifts};
 ghost use Rattle.spec_projection.specs.Strict.{AreMultiples, IsMultiple, AreScaled, Strengthened};
-ghost use Rattle.spec_inequalities.specs.Opposite.{opposite};
+ghost use Rattle.spec_linear.specs.Opposite.{opposite};
 ghost use Rattle.spec_projection.specs.Follows.{IsGreatest};
 ghost use Rattle.spec_projection.specs.Interior.{strictly, equations_of};
 ghost use Rattle.spec_projection.specs.Partial.{AreInequalities, IsPartial, RowsDue, Eliminates};

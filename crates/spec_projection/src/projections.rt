@@ -1,10 +1,10 @@
 //! That projections exist, what rows they end in, and what printed rows say.
 
 ghost use Rattle.std.specs.Prelude.{◌≢◌, ◌↔◌, ◌⊎◌, ℕ, List, ◌++◌};
-ghost use Rattle.spec_rational.specs.Rational.{ℚ, ◌≤ℚ◌, ◌<ℚ◌};
-ghost use Rattle.spec_rational.specs.Sums.{Monomial, sum_at};
+ghost use Rattle.spec_numbers.specs.Rational.{ℚ, ◌≤ℚ◌, ◌<ℚ◌};
+ghost use Rattle.spec_numbers.specs.Sums.{Monomial, sum_at};
 ghost use Rattle.spec_linear.specs.Solution.{Constraint, HoldsAt, Solvable, Unsolvable, Entails, MentionsOnly, Has};
-ghost use Rattle.spec_echelon.specs.Echelon.{Solved, AreDistinct, IsEchelon};
+ghost use Rattle.spec_linear.specs.Echelon.{Solved, AreDistinct, IsEchelon};
 ghost use Rattle.spec_projection.specs.Lists.{AreForms};
 ghost use Rattle.spec_projection.specs.Irredundant.{Sifts};
 ghost use Rattle.spec_projection.specs.Printed.{AtLeast, Above, AtMost, Below, compared, unequal_to};

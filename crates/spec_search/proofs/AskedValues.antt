@@ -1,20 +1,20 @@
 -- Questions to the linear constraints are answered by truth and values on the solutions.
 use Rattle.std.proofs.Common.{◌≡◌, ℕ, List, [], ◌∷◌, Bool, true, false, cond, Option, Some, None, refl, sym, ap, ◌∙◌, subst}
-use Rattle.spec_rational.specs.Rational.{ℚ, neg_ℚ, ◌≤ℚ◌, ◌<ℚ◌}
-use Rattle.spec_rational.proofs.Ring.{var, minus}
-use Rattle.spec_rational.proofs.Rational.{ring}
-use Rattle.spec_rational.proofs.Order.{neg_le, neg_lt}
+use Rattle.spec_numbers.specs.Rational.{ℚ, neg_ℚ, ◌≤ℚ◌, ◌<ℚ◌}
+use Rattle.spec_numbers.proofs.Ring.{var, minus}
+use Rattle.spec_numbers.proofs.RationalLemmas.{ring}
+use Rattle.spec_numbers.proofs.Order.{neg_le, neg_lt}
 use Rattle.spec_linear.specs.Form.{Linear, value_at, negated_form}
 use Rattle.spec_linear.specs.Solution.{Constraint, Point, number, Solves, Solvable, Fixes}
 use Rattle.spec_linear.proofs.Values.{value_at-negated_form}
 use Rattle.spec_linear.proofs.Points.{holds_same}
 use Rattle.spec_syntax.specs.Trees.{Tree}
-use Rattle.spec_told.specs.Expressions.{form_of, has_zero_divisor}
-use Rattle.spec_told.specs.Relations.{Lin, Is, Waits, False, lin, form_or_waits, lin_expression}
-use Rattle.spec_told.specs.Values.{value_of, IsTrueAt}
-use Rattle.spec_told.proofs.AtPoints.{agrees}
-use Rattle.spec_told.proofs.FormValues.{form_value}
-use Rattle.spec_told.proofs.Truth.{linear_holds, false_nowhere}
+use Rattle.spec_branch.specs.Expressions.{form_of, has_zero_divisor}
+use Rattle.spec_branch.specs.Relations.{Lin, Is, Waits, False, lin, form_or_waits, lin_expression}
+use Rattle.spec_branch.specs.Values.{value_of, IsTrueAt}
+use Rattle.spec_branch.proofs.AtPoints.{agrees}
+use Rattle.spec_branch.proofs.FormValues.{form_value}
+use Rattle.spec_branch.proofs.Truth.{linear_holds, false_nowhere}
 use Rattle.spec_search.specs.Builtins.{Least, Greatest}
 use Rattle.spec_search.specs.Steps.{IsEntailed, IsBroken, IsExtent, HasNoExtent}
 use Rattle.spec_search.specs.Asked.{Takes, IsValued, IsLeastUpperBound, IsGreatestLowerBound, HasNoUpperBound, HasNoLowerBound}

@@ -2,8 +2,8 @@
 use Rattle.std.proofs.Common.{◌≡◌, ℕ, List, [], ◌∷◌, map, filter, find, Bool, true, false, cond, not, ◌&&◌, ◌==◌, Option, Some, None, unwrap_or, refl, sym, ap, ap₂, ◌∙◌}
 use Rattle.std.specs.Prelude.{bytes_eq}
 use Rattle.std.specs.Cmp.Lexicographic.{bytes_decides}
-use Rattle.spec_lists.proofs.Tests.{nat_eq-same, nat_eq-self, both_are}
-use Rattle.spec_built.specs.Built.{Indicator, same_indicator, indicator_of}
+use Rattle.spec_numbers.proofs.Tests.{nat_eq-same, nat_eq-self, both_are}
+use Rattle.spec_builtins.specs.Built.{Indicator, same_indicator, indicator_of}
 use Rattle.spec_builtins.specs.Clauses.{HeadBody, stored}
 use Rattle.spec_search.specs.Database.{Kind, Clause, Procedure, Database, End, procedure_of, snapshot, with_procedure, procedure_or_new, clauses_with, clause_added, without_clause, clause_removed}
 

@@ -3,7 +3,7 @@ use Rattle.std.proofs.Common.{◌≡◌, ℕ, zero, suc, ◌+◌, ◌<◌, ◌�
 use Rattle.spec_terms.specs.Term.{Occurs}
 use Rattle.spec_terms.specs.Variables.{variables, numbered_from, original_from, renamed_from, counted_from}
 use Rattle.spec_terms.proofs.Listed.{occurs_listed, renamed_back, variables-renamed_from}
-use Rattle.spec_order.specs.Variants.{AreVariants}
+use Rattle.spec_terms.specs.Variants.{AreVariants}
 use Rattle.spec_syntax.specs.Trees.{Tree}
 use Rattle.spec_branch.specs.Branch.{State, plain_copy}
 use Rattle.spec_builtins.specs.Clauses.{rule}

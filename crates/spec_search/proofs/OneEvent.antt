@@ -1,6 +1,6 @@
 -- All turns of one search show the same.
 use Rattle.std.proofs.Common.{◌≡◌, ℕ, List, [], Option, Some, None, refl, sym, ap, ◌∙◌, subst}
-use Rattle.spec_lists.specs.Texts.{Text}
+use Rattle.spec_numbers.specs.Texts.{Text}
 use Rattle.spec_syntax.specs.Trees.{Tree}
 use Rattle.spec_branch.specs.Branch.{State, Item, Branch, Copied, Pending, read}
 use Rattle.spec_branch.specs.Settling.{Settles, Kept, Pruned, Why}

@@ -1,15 +1,15 @@
 -- A goal has one step, but for the clauses that a call leaves out.
 use Rattle.std.proofs.Common.{◌≡◌, ℕ, List, [], ◌∷◌, Option, Some, None, inl, inr, refl, sym, ap, ◌∙◌, subst}
 use Rattle.std.specs.Prelude.{find, map}
-use Rattle.spec_rational.specs.Rational.{ℚ, neg_ℚ}
-use Rattle.spec_rational.proofs.Ring.{var, minus}
-use Rattle.spec_rational.proofs.Rational.{ring}
+use Rattle.spec_numbers.specs.Rational.{ℚ, neg_ℚ}
+use Rattle.spec_numbers.proofs.Ring.{var, minus}
+use Rattle.spec_numbers.proofs.RationalLemmas.{ring}
 use Rattle.spec_linear.specs.Form.{Linear, negated_form}
 use Rattle.spec_linear.specs.Solution.{Constraint, Fixes, Has}
-use Rattle.spec_extremes.proofs.Reached.{one_supremum, never_both}
+use Rattle.spec_linear.proofs.Reached.{one_supremum, never_both}
 use Rattle.spec_syntax.specs.Trees.{Tree}
-use Rattle.spec_built.specs.Errors.{type_error}
-use Rattle.spec_told.specs.Relations.{Lin, Is, Waits, False, lin, lin_expression}
+use Rattle.spec_builtins.specs.Errors.{type_error}
+use Rattle.spec_branch.specs.Relations.{Lin, Is, Waits, False, lin, lin_expression}
 use Rattle.spec_branch.specs.Branch.{Branch, plain_copy, read}
 use Rattle.spec_branch.proofs.Waiting.{one_map}
 use Rattle.spec_search.specs.Database.{Clause}

@@ -1,7 +1,7 @@
 -- Each goal of the examples raises its error.
 use Rattle.std.specs.Str.{chars}
-use Rattle.spec_rational.specs.Rational.{int_ℚ, ratio, ◌+ℚ◌, ◌*ℚ◌, neg_ℚ, inv_ℚ}
-use Rattle.spec_rational.specs.Gcd.{gcd}
+use Rattle.spec_numbers.specs.Rational.{int_ℚ, ratio, ◌+ℚ◌, ◌*ℚ◌, neg_ℚ, inv_ℚ}
+use Rattle.spec_numbers.specs.Gcd.{gcd}
 use lib.Utf8.{encode}
 use Rattle.std.proofs.Common.{refl}
 use Rattle.spec_search.specs.Examples.{here, beside_procedures}

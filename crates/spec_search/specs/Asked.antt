@@ -1,9 +1,9 @@
 -- What questions to the linear constraints are about: the values of the expression on the solutions. It helps to state laws.
 use Rattle.std.specs.Prelude.{◌≡◌, List, Some}
-use Rattle.spec_rational.specs.Rational.{ℚ, ◌≤ℚ◌, ◌<ℚ◌}
+use Rattle.spec_numbers.specs.Rational.{ℚ, ◌≤ℚ◌, ◌<ℚ◌}
 use Rattle.spec_linear.specs.Solution.{Constraint, Point, number, Solves}
 use Rattle.spec_syntax.specs.Trees.{Tree}
-use Rattle.spec_told.specs.Values.{value_of}
+use Rattle.spec_branch.specs.Values.{value_of}
 
 -- the expression has this value at some solution
 pub record Takes (l : List Constraint) (e : Tree) (v : ℚ) : Type 0 where

@@ -1,11 +1,11 @@
 -- Goals and the errors that they raise, each error of each predicate once.
 use Prim.Native.String.{String}
 use Rattle.std.specs.Prelude.{◌≡◌, ℕ, pos, List, [], ◌∷◌, ⊤, codes}
-use Rattle.spec_rational.specs.Rational.{int_ℚ, ratio, neg_ℚ}
+use Rattle.spec_numbers.specs.Rational.{int_ℚ, ratio, neg_ℚ}
 use Rattle.spec_terms.specs.Term.{Number}
 use Rattle.spec_syntax.specs.Trees.{Tree, list_tree}
-use Rattle.spec_built.specs.Built.{atom, compound1, compound2, natural, indicator, indicator_term}
-use Rattle.spec_built.specs.Errors.{instantiation, type_error, domain_error, representation_error, permission_error, existence_error, not_evaluable}
+use Rattle.spec_builtins.specs.Built.{atom, compound1, compound2, natural, indicator, indicator_term}
+use Rattle.spec_builtins.specs.Errors.{instantiation, type_error, domain_error, representation_error, permission_error, existence_error, not_evaluable}
 use Rattle.spec_builtins.specs.Terms.{arguments}
 use Rattle.spec_search.specs.Builtins.{Builtin, Throw, Findall, Assert, Retract, ClauseGoal, DynamicGoal, Entailed, Extent, Optimum, Least, Greatest}
 use Rattle.spec_search.specs.Database.{First, Last}

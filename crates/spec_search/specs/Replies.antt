@@ -1,12 +1,12 @@
 -- What a selected goal comes to: an error, a throw, an overflow, children, or a question to the linear constraints.
 use Rattle.std.specs.Prelude.{ℕ, ◌+◌, suc, List, [], ◌∷◌, ◌++◌, Bool, if◌then◌else◌, ◌||◌, ◌==◌, map, length, Option, Some, None}
 use Rattle.std.specs.List.{list_any, position_or_len}
-use Rattle.spec_rational.specs.Rational.{ℚ}
-use Rattle.spec_rational.specs.Sums.{Monomial}
+use Rattle.spec_numbers.specs.Rational.{ℚ}
+use Rattle.spec_numbers.specs.Sums.{Monomial}
 use Rattle.cq_frac.specs.declared.Pair.{Pair}
 use Rattle.spec_linear.specs.Form.{with_product}
 use Rattle.spec_linear.specs.Solution.{Constraint}
-use Rattle.spec_lists.specs.Texts.{Text}
+use Rattle.spec_numbers.specs.Texts.{Text}
 use Rattle.spec_terms.specs.Term.{apply}
 use Rattle.spec_terms.specs.Unifier.{Equation}
 use Rattle.spec_terms.specs.Variables.{numbered_from}

@@ -1,15 +1,15 @@
 -- The steps of a selected goal: a ball, or children.
 use Rattle.std.specs.Prelude.{◌≡◌, ℕ, List, [], ◌∷◌, Bool, true, false, Option, Some, None, ⊤, find, map}
-use Rattle.spec_rational.specs.Rational.{ℚ}
+use Rattle.spec_numbers.specs.Rational.{ℚ}
 use Rattle.spec_linear.specs.Form.{Linear, negated_form}
 use Rattle.spec_linear.specs.Solution.{Constraint, Fixes, Entails, Has}
-use Rattle.spec_extremes.specs.Extremes.{Leaves, IsSupremum, IsInfimum, IsUnbounded}
+use Rattle.spec_linear.specs.Extremes.{Leaves, IsSupremum, IsInfimum, IsUnbounded}
 use Rattle.spec_terms.specs.Unifier.{HasNoUnifier}
 use Rattle.spec_syntax.specs.Trees.{Tree}
-use Rattle.spec_built.specs.Built.{indicator_of}
-use Rattle.spec_built.specs.Errors.{type_error, error_ball}
+use Rattle.spec_builtins.specs.Built.{indicator_of}
+use Rattle.spec_builtins.specs.Errors.{type_error, error_ball}
 use Rattle.spec_builtins.specs.Alternatives.{◌≐◌}
-use Rattle.spec_told.specs.Relations.{Lin, Is, Waits, False, lin, lin_expression}
+use Rattle.spec_branch.specs.Relations.{Lin, Is, Waits, False, lin, lin_expression}
 use Rattle.spec_branch.specs.Branch.{Branch, Copied, plain_copy, IsCopy}
 use Rattle.spec_search.specs.Database.{Clause}
 use Rattle.spec_search.specs.Builtins.{Side, Least, Greatest}

@@ -1,8 +1,8 @@
 -- The turns of a search, and what they show.
 use Rattle.std.specs.Prelude.{◌≡◌, ℕ, suc, List, [], ◌∷◌, ◌++◌, length, Option, Some, None}
 use Rattle.cq_frac.specs.declared.Pair.{Pair}
-use Rattle.spec_lists.specs.Texts.{Text}
-use Rattle.spec_operators.specs.Operators.{Ops}
+use Rattle.spec_numbers.specs.Texts.{Text}
+use Rattle.spec_syntax.specs.Operators.{Ops}
 use Rattle.spec_syntax.specs.Trees.{Tree}
 use Rattle.spec_branch.specs.Branch.{State, Copied, Item, Branch, Pending, read, IsCopy}
 use Rattle.spec_branch.specs.Settling.{Settles, Kept, Pruned, Why}

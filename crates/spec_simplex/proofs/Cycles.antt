@@ -1,9 +1,9 @@
 -- Exchanges by the rule never come back to the same rows.
 use Rattle.std.proofs.Common.{◌≡◌, ℕ, zero, suc, ◌+◌, ◌-◌, ◌<◌, ◌≤◌, [], ◌∷◌, Bool, true, false, pos, arith, refl, ap, sym, subst, ◌∙◌, ◌⊎◌, inl, inr}
-use Rattle.spec_rational.specs.Rational.{ℚ, 0ℚ, 1ℚ, ◌+ℚ◌, ◌*ℚ◌, neg_ℚ, ◌-ℚ◌, inv_ℚ, IsPositive, IsNotNegative}
-use Rattle.spec_rational.proofs.Ring.{var, int, ◌⊕◌, ◌⊗◌, minus}
-use Rattle.spec_rational.proofs.Rational.{ring}
-use Rattle.spec_rational.proofs.Sign.{nonneg_add, nonneg_mul, pos_nonneg, not_pos_zero, nonneg_zero, Sign, is_zero, is_pos, is_neg, sign, not_both}
+use Rattle.spec_numbers.specs.Rational.{ℚ, 0ℚ, 1ℚ, ◌+ℚ◌, ◌*ℚ◌, neg_ℚ, ◌-ℚ◌, inv_ℚ, IsPositive, IsNotNegative}
+use Rattle.spec_numbers.proofs.Ring.{var, int, ◌⊕◌, ◌⊗◌, minus}
+use Rattle.spec_numbers.proofs.RationalLemmas.{ring}
+use Rattle.spec_numbers.proofs.Sign.{nonneg_add, nonneg_mul, pos_nonneg, not_pos_zero, nonneg_zero, Sign, is_zero, is_pos, is_neg, sign, not_both}
 use Rattle.spec_simplex.specs.Dictionary.{Dictionary, IsFeasible, basic_solution}
 use Rattle.spec_simplex.specs.Rule.{Raises, Limits, IsDue, Exchanged, ratio}
 use Rattle.spec_simplex.proofs.Sums.{equal_or_not, some_positive}

@@ -1,14 +1,14 @@
 -- What a feasible dictionary says of the greatest value of its asked form.
 use Rattle.std.proofs.Common.{◌≡◌, ℕ, [], ◌∷◌, Bool, true, false, nat_eq, pos, refl, ap, sym, subst, ◌∙◌}
-use Rattle.spec_rational.specs.Rational.{ℚ, 0ℚ, 1ℚ, ◌+ℚ◌, ◌*ℚ◌, neg_ℚ, ◌-ℚ◌, inv_ℚ, IsPositive, IsNotNegative}
-use Rattle.spec_rational.proofs.Ring.{var, int, ◌⊕◌, ◌⊗◌, minus}
-use Rattle.spec_rational.proofs.Rational.{ring}
-use Rattle.spec_rational.proofs.Sign.{pos_add, nonneg_add, nonneg_mul, pos_nonneg, pos_one, nonneg_zero, Sign, is_zero, is_pos, is_neg, sign, inv_mul, inv_pos, times_inverse}
+use Rattle.spec_numbers.specs.Rational.{ℚ, 0ℚ, 1ℚ, ◌+ℚ◌, ◌*ℚ◌, neg_ℚ, ◌-ℚ◌, inv_ℚ, IsPositive, IsNotNegative}
+use Rattle.spec_numbers.proofs.Ring.{var, int, ◌⊕◌, ◌⊗◌, minus}
+use Rattle.spec_numbers.proofs.RationalLemmas.{ring}
+use Rattle.spec_numbers.proofs.Sign.{pos_add, nonneg_add, nonneg_mul, pos_nonneg, pos_one, nonneg_zero, Sign, is_zero, is_pos, is_neg, sign, inv_mul, inv_pos, times_inverse}
 use Rattle.spec_simplex.specs.Dictionary.{Dictionary, IsDictionary, IsFeasible, Obeys, IsGreatest, Exceeds, IsUnbounded, sum_below, pick, ray, basic_solution}
 use Rattle.spec_simplex.specs.Rule.{IsOptimal, IsUnlimited, IsFree}
 use Rattle.spec_simplex.proofs.Sums.{sum_falls}
 use Rattle.spec_simplex.proofs.Solutions.{true_not_false, basic_satisfies, ray_satisfies}
-use Rattle.spec_lists.proofs.Tests.{nat_eq-same}
+use Rattle.spec_numbers.proofs.Tests.{nat_eq-same}
 
 module _ (size : ℕ) (restricted : ℕ → Bool) (d : Dictionary) (w : IsDictionary size d) (f : IsFeasible restricted d) where
   pub basic_obeys : Obeys restricted (basic_solution d)

@@ -1,15 +1,15 @@
 -- One exchange of the rule: the value does not fall, the dictionary stays feasible, and where the value stays the basic
 -- solution stays.
 use Rattle.std.proofs.Common.{◌≡◌, ℕ, [], ◌∷◌, Bool, true, false, nat_eq, pos, arith, refl, ap, ap₂, sym, subst, ◌∙◌, ◌⊎◌, inl, inr}
-use Rattle.spec_rational.specs.Rational.{ℚ, 0ℚ, 1ℚ, ◌+ℚ◌, ◌*ℚ◌, neg_ℚ, ◌-ℚ◌, inv_ℚ, IsPositive, IsNotNegative}
-use Rattle.spec_rational.proofs.Ring.{var, int, ◌⊕◌, ◌⊗◌, minus}
-use Rattle.spec_rational.proofs.Rational.{ring}
-use Rattle.spec_rational.proofs.Sign.{nonneg_add, nonneg_mul, pos_nonneg, not_pos_zero, nonneg_zero, Sign, is_zero, is_pos, is_neg, sign, inv_mul, inv_pos, product_zero}
+use Rattle.spec_numbers.specs.Rational.{ℚ, 0ℚ, 1ℚ, ◌+ℚ◌, ◌*ℚ◌, neg_ℚ, ◌-ℚ◌, inv_ℚ, IsPositive, IsNotNegative}
+use Rattle.spec_numbers.proofs.Ring.{var, int, ◌⊕◌, ◌⊗◌, minus}
+use Rattle.spec_numbers.proofs.RationalLemmas.{ring}
+use Rattle.spec_numbers.proofs.Sign.{nonneg_add, nonneg_mul, pos_nonneg, not_pos_zero, nonneg_zero, Sign, is_zero, is_pos, is_neg, sign, inv_mul, inv_pos, product_zero}
 use Rattle.spec_simplex.specs.Dictionary.{Dictionary, IsFeasible, pick, ray, basic_solution, sum_below}
 use Rattle.spec_simplex.specs.Rule.{Raises, Limits, IsDue, Exchanged, ratio}
 use Rattle.spec_simplex.proofs.Sums.{sum_none, sum_only, sum_difference}
 use Rattle.spec_simplex.proofs.Solutions.{Writes, true_not_false, pick_true, pick_false}
-use Rattle.spec_lists.proofs.Tests.{nat_eq-same, nat_eq-self, nat_eq-other, nat_eq-apart}
+use Rattle.spec_numbers.proofs.Tests.{nat_eq-same, nat_eq-self, nat_eq-other, nat_eq-apart}
 
 -- ---- one dictionary
 module _ (size : ℕ) (S : (ℕ → ℚ) → ℚ → Type 0) (d : Dictionary) (w : Writes size S d) where

@@ -1,11 +1,11 @@
 -- A dictionary and the solutions that it writes: its columns are free, so rays are solutions.
 use Rattle.std.proofs.Common.{◌≡◌, ℕ, ◌<◌, [], ◌∷◌, Bool, true, false, nat_eq, pos, refl, ap, sym, subst, ◌∙◌}
-use Rattle.spec_rational.specs.Rational.{ℚ, 0ℚ, ◌+ℚ◌, ◌*ℚ◌}
-use Rattle.spec_rational.proofs.Ring.{var, int, ◌⊕◌, ◌⊗◌}
-use Rattle.spec_rational.proofs.Rational.{ring}
+use Rattle.spec_numbers.specs.Rational.{ℚ, 0ℚ, ◌+ℚ◌, ◌*ℚ◌}
+use Rattle.spec_numbers.proofs.Ring.{var, int, ◌⊕◌, ◌⊗◌}
+use Rattle.spec_numbers.proofs.RationalLemmas.{ring}
 use Rattle.spec_simplex.specs.Dictionary.{Dictionary, IsDictionary, Satisfies, AreEquivalent, sum_below, pick, ray, basic_solution}
 use Rattle.spec_simplex.proofs.Sums.{sum_none, sum_only}
-use Rattle.spec_lists.proofs.Tests.{nat_eq-apart, nat_eq-self}
+use Rattle.spec_numbers.proofs.Tests.{nat_eq-apart, nat_eq-self}
 
 -- ---- small facts
 pub true_not_false : (b : Bool) → b ≡ true → b ≡ false → ⊥

@@ -1,9 +1,9 @@
 -- Sums over the numbers below a size.
 use Rattle.std.proofs.Common.{◌≡◌, ℕ, zero, suc, ◌<◌, [], ◌∷◌, pos, arith, refl, ap, ap₂, subst, ◌∙◌, ◌⊎◌, inl, inr}
-use Rattle.spec_rational.specs.Rational.{ℚ, 0ℚ, ◌+ℚ◌, ◌*ℚ◌, neg_ℚ, ◌-ℚ◌, IsPositive, IsNotNegative}
-use Rattle.spec_rational.proofs.Ring.{var, int, ◌⊕◌, ◌⊗◌, minus}
-use Rattle.spec_rational.proofs.Rational.{ring}
-use Rattle.spec_rational.proofs.Sign.{pos_add, nonneg_add, pos_nonneg, not_pos_zero, nonneg_zero, Sign, is_zero, is_pos, is_neg, sign}
+use Rattle.spec_numbers.specs.Rational.{ℚ, 0ℚ, ◌+ℚ◌, ◌*ℚ◌, neg_ℚ, ◌-ℚ◌, IsPositive, IsNotNegative}
+use Rattle.spec_numbers.proofs.Ring.{var, int, ◌⊕◌, ◌⊗◌, minus}
+use Rattle.spec_numbers.proofs.RationalLemmas.{ring}
+use Rattle.spec_numbers.proofs.Sign.{pos_add, nonneg_add, pos_nonneg, not_pos_zero, nonneg_zero, Sign, is_zero, is_pos, is_neg, sign}
 use Rattle.spec_simplex.specs.Dictionary.{sum_below}
 
 pub equal_or_not : (x y : ℕ) → (x ≡ y) ⊎ (x ≡ y → ⊥)

@@ -1,6 +1,6 @@
 -- Dictionaries: some quantities written by others, the columns, and an asked form written by the columns too.
 use Rattle.std.specs.Prelude.{◌≡◌, ◌↔◌, ℕ, zero, suc, ◌<◌, Bool, true, false, nat_eq}
-use Rattle.spec_rational.specs.Rational.{ℚ, 0ℚ, ◌+ℚ◌, ◌*ℚ◌, ◌<ℚ◌, ◌≤ℚ◌, IsNotNegative}
+use Rattle.spec_numbers.specs.Rational.{ℚ, 0ℚ, ◌+ℚ◌, ◌*ℚ◌, ◌<ℚ◌, ◌≤ℚ◌, IsNotNegative}
 
 -- a quantity that is neither a row nor a column stands nowhere
 pub record Dictionary : Type 0 where

@@ -1,2 +1,12 @@
 pub mod Dictionary
 pub mod Rule
+pub mod Reach
+pub mod Tableau
+pub mod Entries
+pub mod Fixing
+pub mod LimitsDictionary
+pub mod Overflow
+pub mod Asked
+pub mod Answers
+pub mod Chains
+pub mod Later

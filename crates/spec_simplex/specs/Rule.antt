@@ -1,6 +1,6 @@
 -- Exchanges by the rule of the least numbers (Bland 1977), and chains of them.
 use Rattle.std.specs.Prelude.{◌≡◌, ℕ, suc, ◌<◌, ◌≤◌, Bool, true, false}
-use Rattle.spec_rational.specs.Rational.{ℚ, 0ℚ, ◌/ℚ◌, neg_ℚ, IsPositive, ◌≤ℚ◌}
+use Rattle.spec_numbers.specs.Rational.{ℚ, 0ℚ, ◌/ℚ◌, neg_ℚ, IsPositive, ◌≤ℚ◌}
 use Rattle.spec_simplex.specs.Dictionary.{Dictionary, IsDictionary, AreEquivalent}
 
 -- a restricted column with a positive coefficient in the asked form

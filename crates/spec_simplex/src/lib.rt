@@ -3,8 +3,12 @@
 //! each contract is a law.
 #![tactic(auto)]
 
+pub mod budgets;
+pub mod limits;
+pub mod tableau;
+
 ghost use Rattle.std.specs.Prelude.{◌≡◌, ℕ, suc, ◌<◌, ◌≤◌, ◌^◌, Bool};
-ghost use Rattle.spec_rational.specs.Rational.{◌≤ℚ◌};
+ghost use Rattle.spec_numbers.specs.Rational.{◌≤ℚ◌};
 ghost use Rattle.spec_simplex.specs.Dictionary.{Dictionary, IsDictionary, AreEquivalent, IsFeasible, IsGreatest, IsUnbounded};
 ghost use Rattle.spec_simplex.specs.Rule.{IsDue, Exchanged, Chain, IsOptimal, IsUnlimited, IsFree};
 

@@ -1,7 +1,7 @@
 -- Each step behind an operand keeps what the grammar allows.
 use Rattle.std.proofs.Common.{◌≡◌, ℕ, ◌≤◌, false, List, [], ◌∷◌, codes, inl, inr, refl, sym, ap, subst, arith, nat_le}
-use Rattle.spec_lists.specs.Texts.{Text}
-use Rattle.spec_operators.specs.Operators.{Ops}
+use Rattle.spec_numbers.specs.Texts.{Text}
+use Rattle.spec_syntax.specs.Operators.{Ops}
 use Rattle.spec_terms.specs.Term.{Terms, Compound, one, more}
 use Rattle.spec_syntax.specs.Tokens.{Token, Close, CloseList, CloseCurly, Comma, Bar, End}
 use Rattle.spec_syntax.specs.Trees.{Tree, unary, binary, nil, cell}

@@ -1,8 +1,8 @@
 -- What the machine says of whole lists of tokens.
 use Rattle.std.proofs.Common.{◌≡◌, ℕ, Bool, false, List, [], ◌∷◌, ◌++◌, codes, Option, Some, None, inl, inr, refl, sym, ap, ◌∙◌, subst, append-nil}
-use Rattle.spec_rational.specs.Rational.{0ℚ, neg_ℚ}
-use Rattle.spec_lists.specs.Texts.{Text}
-use Rattle.spec_operators.specs.Operators.{Ops}
+use Rattle.spec_numbers.specs.Rational.{0ℚ, neg_ℚ}
+use Rattle.spec_numbers.specs.Texts.{Text}
+use Rattle.spec_syntax.specs.Operators.{Ops}
 use Rattle.spec_terms.specs.Term.{Number, Name, Compound, one}
 use Rattle.spec_syntax.specs.Tokens.{Token, Numeral, Named, Functor, Minus, Open, Close, OpenList, CloseList, OpenCurly, CloseCurly, End}
 use Rattle.spec_syntax.specs.Trees.{Tree, unary, binary, nil, cell}

@@ -1,9 +1,9 @@
 -- Each step keeps what the grammar allows.
 use Rattle.std.proofs.Common.{◌≡◌, ℕ, ◌≤◌, Bool, true, false, List, [], ◌∷◌, codes, Option, Some, None, refl, subst, nat_le}
-use Rattle.spec_rational.specs.Rational.{neg_ℚ}
-use Rattle.spec_operators.specs.declared.OpDef.{OpDef}
-use Rattle.spec_lists.specs.Texts.{Text}
-use Rattle.spec_operators.specs.Operators.{Ops, right_most}
+use Rattle.spec_numbers.specs.Rational.{neg_ℚ}
+use Rattle.spec_syntax.specs.declared.operators.OpDef.{OpDef}
+use Rattle.spec_numbers.specs.Texts.{Text}
+use Rattle.spec_syntax.specs.Operators.{Ops, right_most}
 use Rattle.spec_terms.specs.Term.{Var, Number, Name, Compound}
 use Rattle.spec_syntax.specs.Tokens.{Token, Variable, Numeral, Codes, Named, Functor, Minus, Open, Close, OpenList, CloseList, OpenCurly, CloseCurly}
 use Rattle.spec_syntax.specs.Trees.{Tree, unary, nil, code_list}
@@ -11,7 +11,7 @@ use Rattle.spec_syntax.specs.Grammar.{applied_as, IsTerm, term, IsOperand, varia
 use Rattle.spec_syntax.specs.Machine.{Frame, OperandOf, InCurly, InElements, State, BeforeTerm, AfterOperand, AfterName, AfterFunctor, AfterMinus, AfterOpenList, AfterOpenCurly, Whole, before_term, apply_if, after_name, after_functor, after_minus, after_open_list, after_open_curly, step}
 use Rattle.spec_syntax.specs.Yields.{Then, Fills, FromOperand, Yields, YieldsFrom}
 use Rattle.spec_syntax.proofs.Behind.{not_low, after_operand_to, after_operand_back, arguments_to, arguments_back, elements_to, elements_back}
-use Rattle.spec_lists.proofs.Tests.{true_le}
+use Rattle.spec_numbers.proofs.Tests.{true_le}
 
 module _ (ops : Ops) where
   -- quotes do not matter to the name itself

@@ -3,14 +3,14 @@ use Rattle.std.proofs.Common.{◌≡◌, ℕ, ◌≤◌, ℤ, pos, negsuc, Bool,
 use Rattle.std.specs.Prelude.{if◌then◌else◌, bytes_eq, ◌==◌}
 use Rattle.std.specs.Cmp.Lexicographic.{bytes_decides}
 use Rattle.std.proofs.lemmas.Bool.Decides.{nat_tests}
-use Rattle.spec_operators.specs.declared.OpDef.{OpDef}
-use Rattle.spec_operators.specs.declared.OpKind.{OpKind}
-use Rattle.spec_lists.specs.Texts.{Text}
-use Rattle.spec_operators.specs.Operators.{Ops, Position, Prefix, Infix, Postfix, Fits, position_of, entry, changed, put_at, put, Refusal, kind_named, is_bracket, is_at_odds, clashes, in_range, set_checked, set}
-use Rattle.spec_operators.specs.Standard.{Row, rows, put_names, put_rows, empty, standard}
+use Rattle.spec_syntax.specs.declared.operators.OpDef.{OpDef}
+use Rattle.spec_syntax.specs.declared.operators.OpKind.{OpKind}
+use Rattle.spec_numbers.specs.Texts.{Text}
+use Rattle.spec_syntax.specs.Operators.{Ops, Position, Prefix, Infix, Postfix, Fits, position_of, entry, changed, put_at, put, Refusal, kind_named, is_bracket, is_at_odds, clashes, in_range, set_checked, set}
+use Rattle.spec_syntax.specs.Standard.{Row, rows, put_names, put_rows, empty, standard}
 use Rattle.spec_syntax.specs.Writing.{IsTable}
-use Rattle.spec_lists.proofs.Tests.{true_le, both_are}
-use Rattle.spec_lists.proofs.Places.{none_is}
+use Rattle.spec_numbers.proofs.Tests.{true_le, both_are}
+use Rattle.spec_numbers.proofs.Places.{none_is}
 
 -- the operators of each position may stand there
 record AreFitting (ops : Ops) : Type 0 where
@@ -165,7 +165,7 @@ checked_table ops after (Some p) None name are low e = cc
 checked_table ops after (Some p) (Some kind) name are low e = by _ _ refl refl e
   where
     by : (b c : Bool) → bytes_eq name (codes ",") ≡ b → clashes ops p kind name ≡ c →
-        (if b then Err Rattle.spec_operators.specs.Operators.Comma else if c then Err Rattle.spec_operators.specs.Operators.Clash else Ok (put ops p kind name)) ≡ Ok after → IsTable after
+        (if b then Err Rattle.spec_syntax.specs.Operators.Comma else if c then Err Rattle.spec_syntax.specs.Operators.Clash else Ok (put ops p kind name)) ≡ Ok after → IsTable after
     by true c i j e = cc
     by false true i j e = cc
     by false false i j e = subst IsTable (same_table _ after _ refl e) (put_table ops p kind name are (low p refl) i j)

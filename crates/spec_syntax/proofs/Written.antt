@@ -3,19 +3,19 @@ use Rattle.std.proofs.Common.{◌≡◌, ℕ, ◌≤◌, ◌<◌, Bool, true, fa
 use Rattle.std.specs.Prelude.{if◌then◌else◌, bytes_eq}
 use Rattle.std.specs.Cmp.Lexicographic.{bytes_decides}
 use Rattle.std.proofs.lemmas.Bool.Decides.{nat_tests}
-use Rattle.spec_rational.specs.Rational.{ℚ}
-use Rattle.spec_operators.specs.declared.OpDef.{OpDef}
-use Rattle.spec_operators.specs.declared.OpKind.{OpKind}
-use Rattle.spec_operators.specs.declared.OpKind.TheVariants.{Xfx, Xfy, Yfx, Fy, Fx, Xf, Yf}
-use Rattle.spec_lists.specs.Texts.{Text}
-use Rattle.spec_operators.specs.Operators.{Ops, left_most, right_most, is_operator}
+use Rattle.spec_numbers.specs.Rational.{ℚ}
+use Rattle.spec_syntax.specs.declared.operators.OpDef.{OpDef}
+use Rattle.spec_syntax.specs.declared.operators.OpKind.{OpKind}
+use Rattle.spec_syntax.specs.declared.operators.OpKind.TheVariants.{Xfx, Xfy, Yfx, Fy, Fx, Xf, Yf}
+use Rattle.spec_numbers.specs.Texts.{Text}
+use Rattle.spec_syntax.specs.Operators.{Ops, left_most, right_most, is_operator}
 use Rattle.spec_terms.specs.Term.{Var, Number, Name, Compound, one, more}
 use Rattle.spec_syntax.specs.Tokens.{Token, Numeral, Named, Minus, Open, Comma}
 use Rattle.spec_syntax.specs.Trees.{Tree}
 use Rattle.spec_syntax.specs.Grammar.{operator_name, allowed, AsInfix, AsPostfix, Outside, use_of, Stops, may_begin, begins_term, applied_as}
 use Rattle.spec_syntax.specs.Writing.{IsTable, or_else, operator_of, priority_of, right_end, priority, open_end, is_negative, is_never_bare, is_bare_right, is_bare_left, is_bare_argument, unless, needs_quotes, name_before, infix_token, Alone, InList, number_tokens, atom_tokens, name_tokens, is_signed, prefix_tokens, operand_tokens, unary_tokens, infix_tokens, binary_tokens, written_at}
-use Rattle.spec_lists.proofs.Tests.{le_false, le_true, neither_is, true_le}
-use Rattle.spec_lists.proofs.Places.{none_is}
+use Rattle.spec_numbers.proofs.Tests.{le_false, le_true, neither_is, true_le}
+use Rattle.spec_numbers.proofs.Places.{none_is}
 
 true_lt : (x m : ℕ) → nat_lt x m ≡ true → x < m
 true_lt x m e = grind (arith, nat_tests)

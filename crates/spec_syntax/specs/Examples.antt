@@ -1,9 +1,9 @@
 -- Trees in short, for examples, and what the examples say.
 use Rattle.std.specs.Prelude.{◌≡◌, ◌∷◌, ◌++◌, ℕ, take, slice_index_or, List, [], pos, codes, unwrap_or}
-use Rattle.spec_rational.specs.Rational.{ratio, neg_ℚ}
-use Rattle.spec_operators.specs.Operators.{Ops, put}
-use Rattle.spec_operators.specs.Standard.{standard}
-use Rattle.spec_operators.specs.declared.OpKind.TheVariants.{Xf}
+use Rattle.spec_numbers.specs.Rational.{ratio, neg_ℚ}
+use Rattle.spec_syntax.specs.Operators.{Ops, put}
+use Rattle.spec_syntax.specs.Standard.{standard}
+use Rattle.spec_syntax.specs.declared.operators.OpKind.TheVariants.{Xf}
 use Rattle.spec_terms.specs.Term.{Number}
 use Rattle.spec_syntax.specs.Tokens.{Token, End}
 use Rattle.spec_syntax.specs.Trees.{Tree}

@@ -1,9 +1,9 @@
 -- The grammar of clauses over tokens, with an operator table.
 use Rattle.std.specs.Prelude.{◌≡◌, ℕ, ◌≤◌, Bool, true, false, not, ◌||◌, ◌&&◌, nat_le, if◌then◌else◌, List, [], ◌∷◌, ◌++◌, codes, ⊤, Option, Some, None, is_some}
-use Rattle.spec_rational.specs.Rational.{ℚ, neg_ℚ}
-use Rattle.spec_operators.specs.declared.OpDef.{OpDef}
-use Rattle.spec_lists.specs.Texts.{Text}
-use Rattle.spec_operators.specs.Operators.{Ops, left_most, right_most}
+use Rattle.spec_numbers.specs.Rational.{ℚ, neg_ℚ}
+use Rattle.spec_syntax.specs.declared.operators.OpDef.{OpDef}
+use Rattle.spec_numbers.specs.Texts.{Text}
+use Rattle.spec_syntax.specs.Operators.{Ops, left_most, right_most}
 use Rattle.spec_terms.specs.Term.{Terms, Var, Number, Name, Compound, one, more}
 use Rattle.spec_syntax.specs.Tokens.{Token, Variable, Numeral, Codes, Named, Functor, Minus, Open, Close, OpenList, CloseList, OpenCurly, CloseCurly, Comma, Bar, End}
 use Rattle.spec_syntax.specs.Trees.{Tree, unary, binary, nil, cell, code_list}

@@ -1,3 +1,11 @@
+pub mod Operators
+pub mod Standard
+pub mod Characters
+pub mod Gaps
+pub mod Quotes
+pub mod Numerals
+pub mod GrammarTokens
+pub mod Laws
 pub mod Tokens
 pub mod Trees
 pub mod Grammar

@@ -1,9 +1,9 @@
 -- The tokens of a text, as the grammar sees them.
 use Rattle.std.specs.Prelude.{ℕ, zero, suc, ◌&&◌, ◌==◌, drop, length, Bool, true, false, if◌then◌else◌, List, [], ◌∷◌, Option, Some, None, option_map, Ok, Err, codes, bytes_eq}
-use Rattle.spec_lists.specs.Texts.{Text}
-use Rattle.spec_grammar.specs.declared.Kind.TheVariants as kind
-use Rattle.spec_grammar.specs.Tokens as lexical
-use Rattle.spec_grammar.specs.Tokens.{next_token, opens_directly, digit_directly, bytes_of, quotes_at, meant}
+use Rattle.spec_numbers.specs.Texts.{Text}
+use Rattle.spec_syntax.specs.declared.grammar.Kind.TheVariants as kind
+use Rattle.spec_syntax.specs.GrammarTokens as lexical
+use Rattle.spec_syntax.specs.GrammarTokens.{next_token, opens_directly, digit_directly, bytes_of, quotes_at, meant}
 use Rattle.spec_syntax.specs.Tokens.{Token, Variable, Numeral, Codes, Named, Functor, Minus, Open, Close, OpenList, CloseList, OpenCurly, CloseCurly, Comma, Bar, End}
 pub use Rattle.spec_terms.specs.VariableName.{VariableName, Variables, no_variables, number_of, known, next_number, with_name}
 

@@ -1,7 +1,7 @@
 -- The tokens of a clause, as the grammar sees them.
 use Rattle.std.specs.Prelude.{ℕ, Bool}
-use Rattle.spec_rational.specs.Rational.{ℚ}
-use Rattle.spec_lists.specs.Texts.{Text}
+use Rattle.spec_numbers.specs.Rational.{ℚ}
+use Rattle.spec_numbers.specs.Texts.{Text}
 
 -- A name and a sign say what stands directly behind them, since the grammar asks it; so what a token is doesn't depend on the
 -- next one. A variable has a number in its clause: 0, 1 and so on in the order of first occurrence, each bare `_` a new one. So

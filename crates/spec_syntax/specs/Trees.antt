@@ -1,7 +1,7 @@
 -- What the grammar makes of tokens.
 use Rattle.std.specs.Prelude.{ℕ, List, [], ◌∷◌, codes, chars, map, pos}
-use Rattle.spec_rational.specs.Rational.{int_ℚ}
-use Rattle.spec_lists.specs.Texts.{Text}
+use Rattle.spec_numbers.specs.Rational.{int_ℚ}
+use Rattle.spec_numbers.specs.Texts.{Text}
 use Rattle.spec_terms.specs.Term.{Term, Number, Name, Compound, one, more}
 
 -- a term whose names are texts

@@ -1,16 +1,16 @@
 -- The tokens of a term as it is written.
 use Rattle.std.specs.Prelude.{◌≡◌, ℕ, ◌==◌, nat_le, nat_lt, codes, bytes_eq, length, Bool, true, false, not, ◌||◌, ◌&&◌, if◌then◌else◌, List, [], ◌∷◌, ◌++◌, Option, Some, None, Result, Ok, Err, pos, negsuc}
-use Rattle.spec_rational.specs.Rational.{ℚ, neg_ℚ}
-use Rattle.spec_operators.specs.declared.OpDef.{OpDef}
-use Rattle.spec_operators.specs.declared.OpKind.TheVariants.{Xfy}
-use Rattle.spec_lists.specs.Texts.{Text}
-use Rattle.spec_operators.specs.Operators.{Ops, left_most, right_most, is_operator, Prefix, Infix, Postfix, Fits}
+use Rattle.spec_numbers.specs.Rational.{ℚ, neg_ℚ}
+use Rattle.spec_syntax.specs.declared.operators.OpDef.{OpDef}
+use Rattle.spec_syntax.specs.declared.operators.OpKind.TheVariants.{Xfy}
+use Rattle.spec_numbers.specs.Texts.{Text}
+use Rattle.spec_syntax.specs.Operators.{Ops, left_most, right_most, is_operator, Prefix, Infix, Postfix, Fits}
 use Rattle.spec_terms.specs.Term.{Terms, Var, Number, Name, Compound, one, more}
-use Rattle.spec_grammar.specs.declared.Kind.TheVariants as kind
-use Rattle.spec_grammar.specs.declared.LexFault.{LexFault}
-use Rattle.spec_grammar.specs.Characters.{passes, first_char, continues_name}
-use Rattle.spec_grammar.specs.Tokens as lexical
-use Rattle.spec_grammar.specs.Tokens.{next_token}
+use Rattle.spec_syntax.specs.declared.grammar.Kind.TheVariants as kind
+use Rattle.spec_syntax.specs.declared.grammar.LexFault.{LexFault}
+use Rattle.spec_syntax.specs.Characters.{passes, first_char, continues_name}
+use Rattle.spec_syntax.specs.GrammarTokens as lexical
+use Rattle.spec_syntax.specs.GrammarTokens.{next_token}
 use Rattle.spec_syntax.specs.Tokens.{Token, Variable, Numeral, Named, Functor, Minus, Open, Close, OpenList, CloseList, OpenCurly, CloseCurly, Comma, Bar}
 use Rattle.spec_syntax.specs.Trees.{Tree}
 

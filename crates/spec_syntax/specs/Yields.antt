@@ -1,7 +1,7 @@
 -- What the grammar still allows from each state of the machine.
 use Rattle.std.specs.Prelude.{◌≡◌, ℕ, false, List, [], ◌∷◌, codes, Option, Some, None, ◌⊎◌}
-use Rattle.spec_lists.specs.Texts.{Text}
-use Rattle.spec_operators.specs.Operators.{Ops}
+use Rattle.spec_numbers.specs.Texts.{Text}
+use Rattle.spec_syntax.specs.Operators.{Ops}
 use Rattle.spec_terms.specs.Term.{Terms, Compound, one, more}
 use Rattle.spec_syntax.specs.Tokens.{Token, Named, Functor, Minus, Close, OpenList, CloseList, OpenCurly, CloseCurly, Comma, Bar, End}
 use Rattle.spec_syntax.specs.Trees.{Tree, unary, binary, nil, cell}

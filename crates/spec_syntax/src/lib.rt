@@ -2,10 +2,13 @@
 //! code; the functions here have empty bodies: each contract is a law or an example.
 #![tactic(auto)]
 
+pub mod grammar;
+pub mod operators;
+
 ghost use Rattle.std.specs.Prelude.{◌≡◌, ◌↔◌, List, [], ◌∷◌, ◌++◌, Some, None, Ok, ℤ, codes};
-ghost use Rattle.spec_lists.specs.Texts.{Text};
-ghost use Rattle.spec_operators.specs.Operators.{Ops, set};
-ghost use Rattle.spec_operators.specs.Standard.{standard};
+ghost use Rattle.spec_numbers.specs.Texts.{Text};
+ghost use Rattle.spec_syntax.specs.Operators.{Ops, set};
+ghost use Rattle.spec_syntax.specs.Standard.{standard};
 ghost use Rattle.spec_terms.specs.Term.{Compound, Name, Var, more, one, with_arguments};
 ghost use Rattle.spec_syntax.specs.Tokens.{Token, End};
 ghost use Rattle.spec_syntax.specs.Trees.{Tree, natural, unary, binary, nil, cell};

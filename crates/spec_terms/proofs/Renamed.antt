@@ -3,7 +3,7 @@ use Rattle.std.proofs.Common.{◌≡◌, ℕ, ◌<◌, List, [], ◌∷◌, refl
 use Rattle.spec_terms.specs.Term.{Term, Terms, Subst, Var, Number, Name, Compound, one, more, apply, named, named_all}
 use Rattle.spec_terms.specs.Unifier.{Equation, Equates, IsUnifier, HasNoUnifier}
 use Rattle.spec_terms.proofs.Substitution.{named-apply}
-use Rattle.spec_lists.specs.Texts.{Text}
+use Rattle.spec_numbers.specs.Texts.{Text}
 use Rattle.spec_terms.specs.Names.{EachName, EachNameIn, EachNameInPairs, AreDifferentBelow, named_pairs, named_images}
 use Rattle.spec_terms.proofs.Numbering.{number, number_same, number_back}
 

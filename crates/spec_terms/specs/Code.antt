@@ -2,8 +2,8 @@
 use base.Stored.{Coded, Gv, gnil, gnum, gcons}
 use Rattle.std.specs.Prelude.{◌≡◌, ℕ, ℤ}
 use Rattle.std.specs.Coded.{code_by, coded×, coded_ℕ, coded_ℤ}
-use Rattle.spec_rational.specs.Rational.{ℚ, denominator, ratio}
-use Rattle.spec_rational.proofs.Rational.{ratio_back}
+use Rattle.spec_numbers.specs.Rational.{ℚ, denominator, ratio}
+use Rattle.spec_numbers.proofs.RationalLemmas.{ratio_back}
 use Rattle.spec_terms.specs.Term.{Term, Terms, Var, Number, Name, Compound, one, more}
 
 -- a rational as a stored value

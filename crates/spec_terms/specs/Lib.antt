@@ -4,3 +4,9 @@ pub mod Unifier
 pub mod Variables
 pub mod Names
 pub mod Code
+pub mod Order
+pub mod Variants
+pub mod Rounding
+pub mod Operations
+pub mod Arithmetic
+pub mod Examples

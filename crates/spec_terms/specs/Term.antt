@@ -1,6 +1,6 @@
 -- Terms over numbered variables and rationals, and substitutions of their variables.
 use Rattle.std.specs.Prelude.{◌≡◌, ℕ, suc, ◌+◌, ◌==◌, ◌⊎◌, cond, List, [], ◌∷◌}
-use Rattle.spec_rational.specs.Rational.{ℚ}
+use Rattle.spec_numbers.specs.Rational.{ℚ}
 
 mutual
   -- a variable by its number (the smaller is the older), a rational, an atom by its name, or a name with arguments;

@@ -1,6 +1,6 @@
 -- The variables that a text gives names to.
 use Rattle.std.specs.Prelude.{ℕ, List, [], ◌∷◌, ◌++◌, Option, Some, None, unwrap_or, codes, bytes_eq, if◌then◌else◌}
-use Rattle.spec_lists.specs.Texts.{Text}
+use Rattle.spec_numbers.specs.Texts.{Text}
 
 -- a variable's name, and its number
 pub record VariableName : Type 0 where

@@ -2,9 +2,13 @@
 //! functions here have empty bodies: each contract is a law, for names of any type.
 #![tactic(auto)]
 
+pub mod arithmetic;
+pub mod order;
+pub mod unified;
+
 ghost use Rattle.std.specs.Prelude.{◌≡◌, ◌≢◌, ◌↔◌, ℕ, ◌<◌, ◌≤◌, List, ◌++◌, length, Contains};
 ghost use Rattle.std.specs.List.{AllPairs};
-ghost use Rattle.spec_lists.specs.Texts.{Text};
+ghost use Rattle.spec_numbers.specs.Texts.{Text};
 ghost use Rattle.spec_terms.specs.Term.{Term, Subst, Var, apply, identity, single, followed_by, Occurs, size, named};
 ghost use Rattle.spec_terms.specs.Unifier.{Equation, IsUnifier, HasNoUnifier, read_under};
 ghost use Rattle.spec_terms.specs.Variables.{variables, renamed_from, original_from, counted_from};

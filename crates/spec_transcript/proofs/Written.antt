@@ -1,7 +1,7 @@
 -- What is written so far.
 use Rattle.std.proofs.Common.{ℕ, List, [], ◌++◌, Option, sym, ◌∙◌, append-nil, append_assoc}
-use Rattle.spec_lists.specs.Texts.{Text}
-use Rattle.spec_stops.specs.Causes.{Budgets}
+use Rattle.spec_numbers.specs.Texts.{Text}
+use Rattle.spec_transcript.specs.Causes.{Budgets}
 use Rattle.spec_transcript.specs.Session.{Marks, Over, Transcript, WrittenSoFar}
 
 module _ (budgets : Budgets) (shelf : Text → Option (List ℕ)) (input : List ℕ) (files : List Text) where

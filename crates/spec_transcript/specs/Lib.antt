@@ -1,2 +1,8 @@
+pub mod Causes
+pub mod Operands
+pub mod Samples
+pub mod Settlings
+pub mod Questions
+pub mod Due
 pub mod Purposes
 pub mod Session

@@ -1,12 +1,12 @@
 -- What the clauses of a text are for, and the lines that are written beside answers.
 use Rattle.std.specs.Prelude.{ℕ, ◌++◌, codes, bytes_eq, if◌then◌else◌}
-use Rattle.spec_lists.specs.Texts.{Text}
-use Rattle.spec_operators.specs.Operators.{Ops}
+use Rattle.spec_numbers.specs.Texts.{Text}
+use Rattle.spec_syntax.specs.Operators.{Ops}
 use Rattle.spec_terms.specs.Term.{Compound, one}
 use Rattle.spec_syntax.specs.Trees.{Tree}
-use Rattle.spec_writing.specs.Numbers.{whole_text}
-use Rattle.spec_writing.specs.Written.{writeq}
-use Rattle.spec_built.specs.Built.{compound1}
+use Rattle.spec_text.specs.Numbers.{whole_text}
+use Rattle.spec_text.specs.Written.{writeq}
+use Rattle.spec_builtins.specs.Built.{compound1}
 use Rattle.spec_transcript.specs.declared.Source.{Source}
 use Rattle.spec_transcript.specs.declared.Source.TheVariants.{File, Input}
 

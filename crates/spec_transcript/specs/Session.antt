@@ -1,14 +1,14 @@
 -- The transcript: what the texts of some files and of the input write, step by step.
 use Rattle.std.specs.Prelude.{◌≡◌, ◌⊎◌, ℕ, suc, ◌+◌, ◌<◌, List, [], ◌∷◌, ◌++◌, true, false, Option, Some, None, codes}
 use Rattle.cq_frac.specs.declared.Pair.{Pair}
-use Rattle.spec_lists.specs.Texts.{Text}
-use Rattle.spec_operators.specs.Operators.{Ops}
+use Rattle.spec_numbers.specs.Texts.{Text}
+use Rattle.spec_syntax.specs.Operators.{Ops}
 use Rattle.spec_syntax.specs.TextTokens.{VariableName, Variables}
 use Rattle.spec_syntax.specs.Trees.{Tree}
-use Rattle.spec_reading.specs.Readings.{Reads, Clause, Ended as TextEnds, Syntax}
-use Rattle.spec_reading.specs.Later.{tree_later, variables_later}
-use Rattle.spec_built.specs.Built.{indicator}
-use Rattle.spec_built.specs.Errors.{error_ball}
+use Rattle.spec_text.specs.Readings.{Reads, Clause, Ended as TextEnds, Syntax}
+use Rattle.spec_text.specs.Later.{tree_later, variables_later}
+use Rattle.spec_builtins.specs.Built.{indicator}
+use Rattle.spec_builtins.specs.Errors.{error_ball}
 use Rattle.spec_answers.specs.Answer.{AnswerForm}
 pub use Rattle.spec_answers.specs.Marks.{Mark, plain_line, error_line, stop_line, Marks, unmarked, marked}
 use Rattle.spec_branch.specs.Branch.{State, Copied}
@@ -16,8 +16,8 @@ use Rattle.spec_search.specs.Database.{Database, initial}
 use Rattle.spec_search.specs.Changes.{consult_error, consulted}
 use Rattle.spec_search.specs.Search.{Search, start, look_at, is_selecting}
 use Rattle.spec_search.specs.Turns.{Wrote, Answered, Threw, Ended, Turn, Refuses}
-use Rattle.spec_stops.specs.Causes.{Budgets, Cause, Resolutions, Overflow, stop_text}
-use Rattle.spec_stops.specs.Due.{Due}
+use Rattle.spec_transcript.specs.Causes.{Budgets, Cause, Resolutions, Overflow, stop_text}
+use Rattle.spec_transcript.specs.Due.{Due}
 use Rattle.spec_transcript.specs.declared.Source.{Source}
 use Rattle.spec_transcript.specs.declared.Source.TheVariants.{File, Input}
 use Rattle.spec_transcript.specs.Purposes.{Purpose, Directive, Initialization, Query, Fact, purpose, once, answer_end, no_line, more_line, ball_line, syntax_line}

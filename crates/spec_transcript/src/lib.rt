@@ -2,12 +2,14 @@
 //! contract is a law of the definitions.
 #![tactic(auto)]
 
+pub mod stops;
+
 ghost use Rattle.std.specs.Prelude.{◌≡◌, ℕ, ◌<◌, List, ◌++◌, Option, true};
 ghost use Rattle.cq_frac.specs.declared.Pair.{Pair};
-ghost use Rattle.spec_lists.specs.Texts.{Text};
+ghost use Rattle.spec_numbers.specs.Texts.{Text};
 ghost use Rattle.spec_search.specs.Search.{Search, look_at, is_selecting};
 ghost use Rattle.spec_search.specs.Turns.{Refuses};
-ghost use Rattle.spec_stops.specs.Causes.{Budgets, Resolutions, stop_text};
+ghost use Rattle.spec_transcript.specs.Causes.{Budgets, Resolutions, stop_text};
 ghost use Rattle.spec_transcript.specs.Session.{Asker, Reader, Session, Searching, Mark, stop_line, Marks, Step, Transcript, WrittenSoFar};
 
 /// Where a text comes from.

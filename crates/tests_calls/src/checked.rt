@@ -8,19 +8,19 @@ ghost use Rattle.cq_goals.specs.Tellings.{IsLiveTelling};
 
 use crate::forms::{form_of, form_where};
 use crate::written::{ball_text, put, written};
-use cq_atoms::Atoms;
 use cq_built::BuiltinFault;
 use cq_builtin::Comparison;
 use cq_cexpr::{Lin, linearise};
-use cq_declarations::{
+use cq_frac::Refusal;
+use cq_goals::declarations::{
     OperatorGoal, check_clause, check_clause_goal, check_declaration, check_module,
     declare_operators,
 };
-use cq_frac::Refusal;
 use cq_goals::{
     GoalFault, Telling, check_expression, check_question, check_telling, compare_values, is_value,
 };
 use cq_ops::Ops;
+use cq_term::atoms::Atoms;
 use cq_term::{Heap, Pred, TermId};
 use std::alloc::{AllocError, Global};
 

@@ -4,10 +4,10 @@ ghost use Rattle.std.specs.Prelude.{◌<◌, length};
 ghost use Rattle.cq_term.specs.Trees.{KnowsTerms};
 
 use crate::outcomes::first_wrong;
-use cq_atoms::Atoms;
-use cq_declarations::{OperatorGoal, declare_operators};
+use cq_goals::declarations::{OperatorGoal, declare_operators};
 use cq_ops::Ops;
 use cq_read::{Read, read_clause};
+use cq_term::atoms::Atoms;
 use cq_term::{Heap, TermId};
 use std::alloc::{AllocError, Global};
 use std::test::Fail;

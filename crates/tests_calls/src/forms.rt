@@ -5,10 +5,10 @@ ghost use Rattle.std.specs.Prelude.{◌<◌, length};
 ghost use Rattle.cq_term.specs.Trees.{KnowsTerms};
 
 use crate::outcomes::first_wrong;
-use cq_atoms::Atoms;
 use cq_cexpr::{Lin, linearise};
 use cq_form::Constraint;
 use cq_frac::{Refusal, VarId};
+use cq_term::atoms::Atoms;
 use cq_term::{Heap, Newly, TermId};
 use cq_unify::unify;
 use std::alloc::{AllocError, Global};

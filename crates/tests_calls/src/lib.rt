@@ -15,9 +15,11 @@ mod deep;
 mod forms;
 #[cfg(test)]
 mod outcomes;
+pub mod questions;
 #[cfg(test)]
 mod terms;
 #[cfg(test)]
 mod texts;
+pub mod world;
 #[cfg(test)]
 mod written;

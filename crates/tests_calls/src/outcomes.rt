@@ -1,20 +1,20 @@
 // What goals come to, as texts.
 
 ghost use Rattle.std.specs.Prelude.{◌≡◌, ◌<◌, All, length};
-ghost use Rattle.spec_lists.specs.Prefixes.{IsPrefix};
-ghost use Rattle.spec_predicates.specs.Predicates.{arity};
+ghost use Rattle.spec_numbers.specs.Prefixes.{IsPrefix};
+ghost use Rattle.spec_search.specs.Predicates.{arity};
 ghost use Rattle.cq_term.specs.Trees.{KnowsTerms};
-ghost use Rattle.cq_walk.specs.Pairs.{IsLive};
+ghost use Rattle.cq_term.specs.Pairs.{IsLive};
 ghost use Rattle.cq_predicates.specs.Names.{as_predicate};
 ghost use Rattle.cq_predicates.specs.Given.{CanGoOn};
 
 use crate::checked::{of_one, of_three, of_two};
 use crate::written::{ball_text, put, written};
-use cq_atoms::Atoms;
 use cq_built::Alternative;
 use cq_ops::Ops;
 use cq_predicates::{Predicate, Solutions, call};
 use cq_read::{Read, read_clause};
+use cq_term::atoms::Atoms;
 use cq_term::{Heap, Newly, Pred, TermId, View};
 use cq_trail::Undo;
 use cq_unify::unify;

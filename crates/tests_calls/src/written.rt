@@ -4,9 +4,9 @@ ghost use Rattle.std.specs.Prelude.{◌<◌, length};
 ghost use Rattle.cq_term.specs.Trees.{KnowsTerms};
 ghost use Rattle.cq_built.specs.Errors.{CanBeRaised};
 
-use cq_atoms::Atoms;
 use cq_built::{BuiltinFault, ball};
 use cq_ops::Ops;
+use cq_term::atoms::Atoms;
 use cq_term::{Heap, Pred, TermId};
 use cq_write::{Style, write_term};
 use std::alloc::AllocError;

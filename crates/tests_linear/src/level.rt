@@ -1,8 +1,8 @@
 // Rows of small dictionaries by hand: rows that come to zero, that can cross it, and that stay on one side.
 use crate::problems::{Problem, is_feasible, made};
-use cq_level::choosing::lightest_column;
-use cq_level::levelling::{Levelled, level};
 use cq_simplex::SimplexFault;
+use cq_tableau::level::choosing::lightest_column;
+use cq_tableau::level::levelling::{Levelled, level};
 use std::alloc::{AllocError, Global};
 use std::test::Fail;
 

@@ -9,5 +9,6 @@ mod linear;
 mod problems;
 #[cfg(test)]
 mod simplex;
+pub mod store;
 #[cfg(test)]
 mod weighing;

@@ -5,7 +5,7 @@ ghost use Rattle.std.specs.Prelude.{◌≡◌};
 use crate::weighing::is_refuted;
 use cq_form::{Constraint, Form};
 use cq_frac::{Frac, VarId};
-use cq_linear::store::{Extent, Store, StoreFault, Told};
+use cq_store::store::{Extent, Store, StoreFault, Told};
 use cq_trail::Undo;
 use spec_linear::Relation;
 use std::alloc::Global;

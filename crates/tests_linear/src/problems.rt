@@ -2,15 +2,15 @@
 ghost use Rattle.std.specs.Prelude.{◌≡◌, ◌<◌, ℕ, length};
 ghost use Rattle.std.specs.Bool.{OnTrue};
 ghost use Rattle.spec_simplex.specs.Dictionary.{IsFeasible};
-ghost use Rattle.cq_row.specs.declared.Entry.{Entry};
-ghost use Rattle.cq_row.specs.Rows.{Has};
+ghost use Rattle.cq_frac.specs.declared.row.Entry.{Entry};
+ghost use Rattle.cq_frac.specs.Rows.{Has};
 ghost use Rattle.cq_dict.specs.Roles.{AreOverColumns, is_restricted};
 ghost use Rattle.cq_simplex.specs.Checked.{IsRowFeasible};
 ghost use Rattle.cq_simplex.specs.Dictionary.{dictionary};
 
 use cq_dict::dict::Dict;
+use cq_frac::row::Entry;
 use cq_frac::{Frac, Refusal};
-use cq_row::Entry;
 use cq_simplex::rising::free_column;
 use std::alloc::Global;
 use std::test::Fail;

@@ -1,9 +1,9 @@
 // Maxima of small dictionaries by hand, Beale's example (1955) among them, on which the rule of the greatest coefficient
 // goes round in a circle: exchanges made, ties, columns without a limit, and numbers past 128 bits.
 use crate::problems::{Problem, is_feasible, made};
-use cq_climb::ascend;
 use cq_frac::Frac;
-use cq_row::Entry;
+use cq_frac::row::Entry;
+use cq_simplex::climb::ascend;
 use cq_simplex::{Aim, Max, SimplexFault, maximise};
 use std::alloc::{AllocError, Global};
 use std::test::Fail;

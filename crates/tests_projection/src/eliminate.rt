@@ -7,10 +7,10 @@ ghost use Rattle.spec_projection.specs.Partial.{AreInequalities};
 
 use crate::given::{Given, are_given, rows};
 use crate::sift::can_hold;
-use cq_eliminate::{ProjectFault, eliminate};
 use cq_form::Constraint;
 use cq_frac::VarId;
-use cq_linear::store::StoreFault;
+use cq_project::eliminate::{ProjectFault, eliminate};
+use cq_store::store::StoreFault;
 use spec_linear::Relation;
 use std::alloc::Global;
 use std::test::Fail;

@@ -1,7 +1,7 @@
 // Eliminations worked by hand.
 use crate::given::{Given, are_given, rows};
-use cq_fourier::eliminated;
-use cq_fourier::next::{Elimination, next_of};
+use cq_elimination::fourier::eliminated;
+use cq_elimination::fourier::next::{Elimination, next_of};
 use cq_frac::{Operation, Refusal, VarId};
 use spec_linear::Relation;
 use std::test::Fail;

@@ -5,7 +5,7 @@ ghost use Rattle.spec_linear.specs.Solution.{Solvable};
 
 use cq_form::{Constraint, Form};
 use cq_frac::{Frac, Refusal, VarId};
-use cq_linear::store::{Store, StoreFault, Told};
+use cq_store::store::{Store, StoreFault, Told};
 use spec_linear::Relation;
 use std::alloc::{AllocError, Global};
 

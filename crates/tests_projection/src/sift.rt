@@ -5,8 +5,8 @@ ghost use Rattle.spec_linear.specs.Solution.{Solvable};
 
 use crate::given::{Given, are_given, rows, tells};
 use cq_form::Constraint;
-use cq_linear::store::{Store, StoreFault};
-use cq_sift::sift;
+use cq_project::sift::sift;
+use cq_store::store::{Store, StoreFault};
 use spec_linear::Relation;
 use std::alloc::Global;
 use std::test::Fail;

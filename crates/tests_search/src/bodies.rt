@@ -4,10 +4,10 @@ ghost use Rattle.std.specs.Prelude.{◌<◌, length};
 ghost use Rattle.cq_term.specs.Trees.{KnowsTerms};
 
 use crate::texts::{is_told, written};
-use cq_atoms::Atoms;
-use cq_bodies::convert_body;
+use cq_built::bodies::convert_body;
 use cq_ops::Ops;
 use cq_read::{Read, read_clause};
+use cq_term::atoms::Atoms;
 use cq_term::{Heap, TermId};
 use std::alloc::{AllocError, Global};
 use std::test::Fail;

@@ -3,10 +3,10 @@
 ghost use Rattle.cq_clauses.specs.Snapshots.{IsSnapshot, KeepsSnapshots};
 
 use crate::names::p_named;
-use cq_atoms::{Atom, Atoms};
 use cq_clauses::{Clauses, Key, Keyed, Kind, Snapshot};
 use cq_frac::Frac;
 use cq_term::Pred;
+use cq_term::atoms::{Atom, Atoms};
 use std::alloc::{AllocError, Global};
 use std::test::Fail;
 

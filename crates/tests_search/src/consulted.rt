@@ -4,12 +4,12 @@ ghost use Rattle.std.specs.Prelude.{◌<◌, length};
 ghost use Rattle.cq_term.specs.Trees.{KnowsTerms};
 
 use crate::texts::{is_told, written};
-use cq_atoms::Atoms;
 use cq_clauses::{Clauses, Kind};
-use cq_consult::add_clause;
+use cq_interpreter::consult::add_clause;
 use cq_ops::Ops;
-use cq_program::ProgramClause;
 use cq_read::{Read, read_clause};
+use cq_resolve::program::ProgramClause;
+use cq_term::atoms::Atoms;
 use cq_term::{Heap, Pred, TermId};
 use std::alloc::{AllocError, Global};
 use std::test::Fail;

@@ -3,11 +3,11 @@
 ghost use Rattle.std.specs.Prelude.{◌<◌, length, IfOk};
 
 use crate::names::p_named;
-use cq_atoms::Atom;
 use cq_clauses::{Clauses, Kind};
 use cq_frac::Frac;
-use cq_program::{ProgramClause, goal_key};
-use cq_stored::Clause;
+use cq_resolve::program::{ProgramClause, goal_key};
+use cq_resolve::stored::Clause;
+use cq_term::atoms::Atom;
 use cq_term::{Heap, Pred, TermId};
 use std::alloc::{AllocError, Global};
 use std::test::Fail;

@@ -2,13 +2,13 @@
 
 ghost use Rattle.std.specs.Prelude.{◌≡◌, ◌<◌, length};
 ghost use Rattle.cq_term.specs.Trees.{KnowsTerms};
-ghost use Rattle.cq_consult.specs.Purposes.{term_of};
+ghost use Rattle.cq_interpreter.specs.Purposes.{term_of};
 
 use crate::texts::{is_told, written};
-use cq_atoms::Atoms;
-use cq_consult::{Purpose, purpose_of};
+use cq_interpreter::consult::{Purpose, purpose_of};
 use cq_ops::Ops;
 use cq_read::{Read, read_clause};
+use cq_term::atoms::Atoms;
 use cq_term::{Heap, TermId};
 use spec_transcript::Source;
 use std::alloc::{AllocError, Global};

@@ -4,7 +4,7 @@ ghost use Rattle.std.specs.Prelude.{◌<◌, ◌≤◌, length, All, IfOk};
 
 use crate::names::p_named;
 use cq_frac::VarId;
-use cq_stored::{Clause, StoredTerm, first_argument};
+use cq_resolve::stored::{Clause, StoredTerm, first_argument};
 use cq_term::{Atom, Heap, TermId, View};
 use std::alloc::{AllocError, Global};
 use std::test::Fail;

@@ -3,8 +3,8 @@
 ghost use Rattle.std.specs.Prelude.{◌<◌, length};
 ghost use Rattle.cq_term.specs.Trees.{KnowsTerms};
 
-use cq_atoms::Atoms;
 use cq_ops::Ops;
+use cq_term::atoms::Atoms;
 use cq_term::{Heap, TermId};
 use cq_write::{Style, write_term};
 use std::alloc::AllocError;

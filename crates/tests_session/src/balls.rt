@@ -1,7 +1,7 @@
 // Worked rows of balls: how they are copied, caught and told.
 
 use crate::given::{Row, first_wrong};
-use spec_endings::Status;
+use spec_command::endings::Status;
 use std::test::Fail;
 
 /// What a catch does with a ball, and without one.

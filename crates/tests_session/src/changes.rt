@@ -1,7 +1,7 @@
 // Worked rows of goals that change the clauses of a program.
 
 use crate::given::{Row, first_wrong};
-use spec_endings::Status;
+use spec_command::endings::Status;
 use std::test::Fail;
 
 /// The order of clauses, and what a clause holds.

@@ -1,7 +1,7 @@
 // Worked rows of options and of files.
 
 use crate::given::{Given, Wanted, does_either_way, input_of, written};
-use spec_endings::Status;
+use spec_command::endings::Status;
 use std::alloc::{AllocError, Global};
 use std::test::Fail;
 

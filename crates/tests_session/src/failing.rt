@@ -1,7 +1,7 @@
 // Loads, reads and writes that fail.
 
 use crate::given::{Given, Pieces, Wanted, does, input_of};
-use spec_endings::Status;
+use spec_command::endings::Status;
 use std::alloc::{AllocError, Global};
 use std::test::Fail;
 

@@ -5,7 +5,7 @@ ghost use Rattle.std.specs.Prelude.{◌<◌};
 use cq_interpreter::Toplevel;
 use cq_outside::{MemShelf, MemSink, MemSource};
 use cq_session::run;
-use spec_endings::Status;
+use spec_command::endings::Status;
 use std::alloc::{AllocError, Global};
 
 /// How much is read and written at once.

@@ -1,7 +1,7 @@
 // Worked rows of lists of all solutions.
 
 use crate::given::{Row, first_wrong};
-use spec_endings::Status;
+use spec_command::endings::Status;
 use std::test::Fail;
 
 /// The solutions in their order, as a list that is unified.

@@ -1,7 +1,7 @@
 // Worked rows of goals that ask the linear constraints, or tell that an expression has its least or greatest value.
 
 use crate::given::{does_either_way, input_of, written};
-use spec_endings::Status;
+use spec_command::endings::Status;
 use std::alloc::{AllocError, Global};
 use std::test::Fail;
 

@@ -1,7 +1,7 @@
 // Worked rows of clauses that goals remove and read.
 
 use crate::given::{Row, first_wrong};
-use spec_endings::Status;
+use spec_command::endings::Status;
 use std::test::Fail;
 
 /// Clauses that are removed, one for each way to unify.

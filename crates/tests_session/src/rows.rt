@@ -1,7 +1,7 @@
 // Worked rows of an input alone.
 
 use crate::given::{does_either_way, input_of, written};
-use spec_endings::Status;
+use spec_command::endings::Status;
 use std::alloc::{AllocError, Global};
 use std::test::Fail;
 

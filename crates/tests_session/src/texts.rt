@@ -1,7 +1,7 @@
 // Long and deep texts, bytes that are no text, and texts that are cut off.
 
 use crate::given::{Wanted, does, does_either_way, input_of, written};
-use spec_endings::Status;
+use spec_command::endings::Status;
 use std::alloc::{AllocError, Global};
 use std::test::Fail;
 

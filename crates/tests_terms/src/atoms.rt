@@ -1,6 +1,6 @@
 // Names by their numbers.
 
-use cq_atoms::Atoms;
+use cq_term::atoms::Atoms;
 use std::alloc::{AllocError, Global};
 use std::test::Fail;
 

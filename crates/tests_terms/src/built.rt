@@ -1,13 +1,13 @@
 // The terms of the two errors that no goal of `tests_calls` raises.
 
 ghost use Rattle.std.specs.Prelude.{◌<◌, List, length};
-ghost use Rattle.spec_lists.specs.Texts.{Text};
+ghost use Rattle.spec_numbers.specs.Texts.{Text};
 ghost use Rattle.cq_term.specs.Meaning.{HeapTerm};
 ghost use Rattle.cq_term.specs.Trees.{KnowsTerms};
 ghost use Rattle.cq_built.specs.Errors.{HasCulprit};
 
-use cq_atoms::Atoms;
 use cq_built::{BuiltinError, Culprit, Permission, ball};
+use cq_term::atoms::Atoms;
 use cq_term::{Atom, Heap, Pred, View};
 use std::alloc::{AllocError, Global};
 use std::test::Fail;

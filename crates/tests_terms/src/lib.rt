@@ -11,6 +11,7 @@ mod built;
 mod names;
 #[cfg(test)]
 mod order;
+pub mod resolve;
 #[cfg(test)]
 mod term;
 #[cfg(test)]

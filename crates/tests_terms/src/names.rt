@@ -1,6 +1,6 @@
 // A name.
 
-use cq_atoms::{Atom, Atoms};
+use cq_term::atoms::{Atom, Atoms};
 use std::alloc::{AllocError, Global};
 
 /// The atom `f` of a table of its own.

@@ -3,8 +3,8 @@
 ghost use Rattle.std.specs.Prelude.{◌<◌, ◌≤◌, length, IfOk};
 
 use crate::names::f_named;
-use cq_order::variant;
 use cq_term::{Atom, Heap, TermId};
+use cq_unify::order::variant;
 use std::alloc::{AllocError, Global};
 use std::test::Fail;
 

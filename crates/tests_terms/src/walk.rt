@@ -3,8 +3,8 @@
 ghost use Rattle.std.specs.Prelude.{◌<◌, length, IfOk};
 
 use crate::names::f_named;
+use cq_term::walk::Visited;
 use cq_term::{Atom, Heap, TermId, View};
-use cq_walk::Visited;
 use std::alloc::{AllocError, Global};
 use std::test::Fail;
 

@@ -1,5 +1,5 @@
 // Tables of texts with their tokens or faults, worked out by hand from the rules.
-use cq_lex::{Kind, next_token, quoted_text};
+use cq_read::lex::{Kind, next_token, quoted_text};
 use std::alloc::{AllocError, Global};
 use std::fmt::Write;
 use std::test::Fail;

@@ -7,5 +7,6 @@ mod lex;
 mod ops;
 #[cfg(test)]
 mod read;
+pub mod round_trip;
 #[cfg(test)]
 mod write;

@@ -1,8 +1,8 @@
 // Operators that are set and taken away.
 
-use cq_atoms::Atoms;
 use cq_ops::{OpFault, Ops};
-use spec_operators::{OpDef, OpKind};
+use cq_term::atoms::Atoms;
+use spec_syntax::operators::{OpDef, OpKind};
 use std::alloc::{AllocError, Global};
 use std::test::Fail;
 

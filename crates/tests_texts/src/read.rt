@@ -3,9 +3,9 @@
 ghost use Rattle.std.specs.Prelude.{◌≡◌, ◌<◌, false, length};
 ghost use Rattle.cq_term.specs.Trees.{KnowsTerms};
 
-use cq_atoms::Atoms;
 use cq_ops::Ops;
 use cq_read::{Fed, Feed, Read, read_clause};
+use cq_term::atoms::Atoms;
 use cq_term::{Heap, TermId};
 use cq_write::{Style, write_term};
 use std::alloc::{AllocError, Global};

@@ -4,10 +4,10 @@ ghost use Rattle.std.specs.Prelude.{◌≡◌, ◌<◌, [], length, IfOk};
 ghost use Rattle.cq_term.specs.Meaning.{at};
 ghost use Rattle.cq_term.specs.Names.{HasNamesBelow};
 
-use cq_atoms::{Atom, Atoms};
 use cq_frac::VarId;
-use cq_names::VariableName;
 use cq_ops::Ops;
+use cq_read::names::VariableName;
+use cq_term::atoms::{Atom, Atoms};
 use cq_term::{Heap, TermId};
 use cq_write::{Style, write_term};
 use std::alloc::{AllocError, Global};

@@ -1,9 +1,9 @@
 use Rattle.std.proofs.Common.{◌≡◌, ◌++◌, ◌∷◌, [], ◌∙◌, ap, sym, reverse, take, ◌-◌, append-nil}
 use Rattle.std.specs.Prelude.{nat_le, filter}
 use Rattle.spec_terms.proofs.RenamedVariables.{variables_named}
-use Rattle.spec_writing.specs.Written.{shown, is_unnamed, text_by}
+use Rattle.spec_text.specs.Written.{shown, is_unnamed, text_by}
 use Rattle.cq_term.specs.Meaning.{at}
-use Rattle.cq_atoms.specs.Texts.{text_of}
+use Rattle.cq_term.specs.Texts.{text_of}
 use Rattle.cq_term.specs.Trees.{tree}
 use Rattle.cq_write.specs.Spelled.{written, put_all}
 use Rattle.cq_write.specs.Work.{all_pieces}

@@ -1,5 +1,5 @@
 use Rattle.std.proofs.Common.{◌≡◌, reverse}
-use Rattle.spec_writing.specs.Written.{text_by}
+use Rattle.spec_text.specs.Written.{text_by}
 use Rattle.cq_write.specs.Spelled.{written, put_all}
 use Rattle.cq_write.specs.Work.{AreReady, all_pieces, jobs_weight, tree}
 use Rattle.cq_write.specs.Settings.{setting}

@@ -1,6 +1,6 @@
 use Rattle.std.proofs.Common.{refl}
-use Rattle.spec_rational.specs.Rational.{int_ℚ, ratio}
-use Rattle.spec_rational.specs.Gcd.{gcd}
+use Rattle.spec_numbers.specs.Rational.{int_ℚ, ratio}
+use Rattle.spec_numbers.specs.Gcd.{gcd}
 use Rattle.spec_builtins.proofs.Arities.{too_many}
 use Rattle.spec_builtins.proofs.goals_on_terms.Goals as goal
 

@@ -1,8 +1,8 @@
 use Rattle.std.proofs.Common.{refl}
 use Rattle.std.specs.Str.{chars}
 use lib.Utf8.{encode}
-use Rattle.spec_rational.specs.Rational.{int_ℚ, ratio}
-use Rattle.spec_rational.specs.Gcd.{gcd}
+use Rattle.spec_numbers.specs.Rational.{int_ℚ, ratio}
+use Rattle.spec_numbers.specs.Gcd.{gcd}
 use Rattle.spec_builtins.proofs.goals_on_texts.Goals as goal
 
 pub returns : goal.returns

@@ -1,9 +1,9 @@
 use Rattle.std.proofs.Common.{refl}
 use Rattle.std.specs.Str.{chars, is_utf8}
 use lib.Utf8.{encode}
-use Rattle.spec_rational.specs.Rational.{int_ℚ, ratio, ◌*ℚ◌, neg_ℚ}
-use Rattle.spec_rational.specs.Gcd.{gcd}
-use Rattle.spec_grammar.specs.Characters.{first_char}
+use Rattle.spec_numbers.specs.Rational.{int_ℚ, ratio, ◌*ℚ◌, neg_ℚ}
+use Rattle.spec_numbers.specs.Gcd.{gcd}
+use Rattle.spec_syntax.specs.Characters.{first_char}
 use Rattle.spec_builtins.proofs.texts_of_numbers.Goals as goal
 
 pub returns : goal.returns

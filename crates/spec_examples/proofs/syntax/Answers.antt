@@ -1,13 +1,13 @@
 use Rattle.std.proofs.Common.{[], codes, refl}
 use Rattle.std.specs.Char.{encode_utf8}
 use Rattle.std.specs.Str.{chars, is_utf8}
-use Rattle.spec_rational.specs.Gcd.{gcd}
-use Rattle.spec_rational.specs.Rational.{ratio, int_ℚ, neg_ℚ, inv_ℚ, ◌+ℚ◌, ◌*ℚ◌}
-use Rattle.spec_grammar.specs.Characters.{first_char}
+use Rattle.spec_numbers.specs.Gcd.{gcd}
+use Rattle.spec_numbers.specs.Rational.{ratio, int_ℚ, neg_ℚ, inv_ℚ, ◌+ℚ◌, ◌*ℚ◌}
+use Rattle.spec_syntax.specs.Characters.{first_char}
 use Rattle.spec_syntax.specs.Grammar.{use_of, begins_term}
 use Rattle.spec_syntax.specs.Writing.{is_bare_right, is_bare_left, is_bare_argument, needs_quotes, is_spaced, infix_token}
-use Rattle.spec_writing.specs.Pieces.{pieces_at, argument_pieces}
-use Rattle.spec_writing.specs.Texts.{name_text, is_apart}
+use Rattle.spec_text.specs.Pieces.{pieces_at, argument_pieces}
+use Rattle.spec_text.specs.Texts.{name_text, is_apart}
 use Rattle.spec_examples.specs.Rows.{some_goals, no_files}
 use Rattle.spec_examples.proofs.Walk.{derived}
 use Rattle.spec_examples.proofs.syntax.Goals as goal

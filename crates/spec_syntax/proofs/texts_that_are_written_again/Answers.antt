@@ -1,9 +1,9 @@
 use Rattle.std.proofs.Common.{refl}
 use Rattle.std.specs.Char.{encode_utf8}
 use Rattle.std.specs.Str.{chars, is_utf8}
-use Rattle.spec_rational.specs.Gcd.{gcd}
-use Rattle.spec_rational.specs.Rational.{ratio, neg_ℚ}
-use Rattle.spec_grammar.specs.Characters.{first_char}
+use Rattle.spec_numbers.specs.Gcd.{gcd}
+use Rattle.spec_numbers.specs.Rational.{ratio, neg_ℚ}
+use Rattle.spec_syntax.specs.Characters.{first_char}
 use Rattle.spec_syntax.specs.Grammar.{use_of, begins_term}
 use Rattle.spec_syntax.specs.Writing.{is_bare_right, is_bare_left, is_bare_argument, needs_quotes, is_spaced, infix_token, written_at, arguments_written}
 use Rattle.spec_syntax.proofs.Runs.{run_parses}

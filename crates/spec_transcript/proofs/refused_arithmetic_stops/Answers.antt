@@ -1,4 +1,4 @@
-use Rattle.spec_transcript.proofs.Stops.{refused_stops}
+use Rattle.spec_transcript.proofs.StopsLemmas.{refused_stops}
 use Rattle.spec_transcript.proofs.refused_arithmetic_stops.Goals as goal
 
 pub returns : goal.returns

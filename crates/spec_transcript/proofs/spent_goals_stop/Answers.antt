@@ -1,4 +1,4 @@
-use Rattle.spec_transcript.proofs.Stops.{spent_goals}
+use Rattle.spec_transcript.proofs.StopsLemmas.{spent_goals}
 use Rattle.spec_transcript.proofs.spent_goals_stop.Goals as goal
 
 pub returns : goal.returns

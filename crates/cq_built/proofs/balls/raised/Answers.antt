@@ -1,7 +1,7 @@
 use Rattle.std.proofs.Common.{◌∙◌, codes, ap}
 use Rattle.std.proofs.lemmas.Result.{IfOk-weaker}
 use Rattle.spec_syntax.specs.Trees.{binary}
-use Rattle.spec_built.specs.Built.{indicator_term}
+use Rattle.spec_builtins.specs.Built.{indicator_term}
 use Rattle.cq_built.proofs.Growing.{grows_both}
 use Rattle.cq_built.proofs.Trees.{kept, indicator_kept}
 use Rattle.cq_built.proofs.balls.raised.Goals as goal

@@ -2,7 +2,7 @@ use Rattle.std.proofs.Common.{◌≡◌, ◌<◌, ◌-◌, ◌+◌, ◌∙◌, �
 use Rattle.std.proofs.Math.Seq.{drop-length}
 use Rattle.std.proofs.lemmas.List.{drop_more}
 use Rattle.std.proofs.lemmas.List.Elements.{All-get_or}
-use Rattle.spec_lists.proofs.Prefixes.{prefix_length, prefix_same}
+use Rattle.spec_numbers.proofs.Prefixes.{prefix_length, prefix_same}
 use Rattle.spec_syntax.specs.Trees.{binary, list_tree}
 use Rattle.cq_term.specs.Trees.{trees}
 use Rattle.cq_built.proofs.Growing.{grows_both, grows_names, longer_by_text}

@@ -1,7 +1,7 @@
 use Rattle.std.proofs.Common.{[], ◌∷◌, map, refl, arith}
 use Rattle.std.proofs.lemmas.List.Elements.{All-cons}
 use Rattle.std.specs.Prelude.{◌<◌, length}
-use Rattle.spec_lists.proofs.Prefixes.{prefix_same}
+use Rattle.spec_numbers.proofs.Prefixes.{prefix_same}
 use Rattle.spec_terms.specs.Term.{with_arguments}
 use Rattle.cq_term.specs.Meaning.{at}
 use Rattle.cq_built.proofs.Growing.{grows_term}

@@ -1,10 +1,10 @@
 use Rattle.std.proofs.Common.{◌≡◌, ◌∙◌, ap, subst, arith, pos, IfOk}
 use Rattle.std.proofs.lemmas.Int.{to_z_pos}
 use mir.Syntax.{w128}
-use Rattle.spec_rational.specs.Rational.{ℚ, ratio}
+use Rattle.spec_numbers.specs.Rational.{ℚ, ratio}
 use Rattle.spec_terms.specs.Term.{Number}
 use Rattle.cq_frac.specs.Fits.{Exceeds}
-use Rattle.spec_arithmetic.proofs.Wholes.{is_taken, is_whole_number}
+use Rattle.spec_terms.proofs.Wholes.{is_taken, is_whole_number}
 use Rattle.cq_built.proofs.Trees.{tree_last}
 use Rattle.cq_built.proofs.building.whole.Goals as goal
 

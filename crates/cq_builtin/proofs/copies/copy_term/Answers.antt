@@ -1,14 +1,14 @@
 use Rattle.std.proofs.Common.{◌≡◌, ◌∷◌, ◌∙◌, ◌++◌, [], length, refl, ap, sym}
-use Rattle.spec_lists.proofs.Prefixes.{prefix_same}
+use Rattle.spec_numbers.proofs.Prefixes.{prefix_same}
 use Rattle.spec_terms.specs.Term.{apply, named}
 use Rattle.spec_terms.specs.Variables.{variables, renamed_from}
 use Rattle.spec_terms.proofs.RenamedVariables.{variables_named, renamed_named}
 use Rattle.spec_builtins.specs.Alternatives.{Offers, ◌≐◌}
-use Rattle.cq_atoms.specs.Texts.{text_of}
+use Rattle.cq_term.specs.Texts.{text_of}
 use Rattle.cq_term.specs.Meaning.{at}
 use Rattle.cq_term.specs.Trees.{tree}
 use Rattle.cq_unify.specs.Copied.{unbound_from}
-use Rattle.cq_stored.specs.Building.{moved_by}
+use Rattle.cq_resolve.specs.Building.{moved_by}
 use Rattle.cq_built.proofs.Growing.{grows_names}
 use Rattle.cq_built.proofs.Trees.{tree_kept, known_at}
 use Rattle.cq_builtin.proofs.Over.{grows_alone, renamed_moved}

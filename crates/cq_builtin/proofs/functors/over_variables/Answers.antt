@@ -1,9 +1,9 @@
 use Rattle.std.proofs.Common.{◌<◌, ◌∙◌, map, length, refl, ap}
 use Rattle.std.proofs.lemmas.List.Elements.{All-same}
-use Rattle.spec_lists.proofs.Prefixes.{prefix_same}
+use Rattle.spec_numbers.proofs.Prefixes.{prefix_same}
 use Rattle.spec_terms.specs.Term.{named, with_arguments}
 use Rattle.spec_terms.specs.Variables.{counted_from}
-use Rattle.cq_atoms.specs.Texts.{text_of}
+use Rattle.cq_term.specs.Texts.{text_of}
 use Rattle.cq_term.specs.Meaning.{at}
 use Rattle.cq_unify.specs.Copied.{unbound_from}
 use Rattle.cq_built.proofs.Growing.{grows_names, grows_term}

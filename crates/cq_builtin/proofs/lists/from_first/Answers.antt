@@ -1,10 +1,10 @@
 use Rattle.std.proofs.Common.{◌≡◌, ◌<◌, ◌∷◌, ◌∙◌, [], map, length, refl, sym, ap}
 use Rattle.std.proofs.lemmas.Option.{slice_get-get_or}
-use Rattle.spec_lists.proofs.Prefixes.{prefix_same}
+use Rattle.spec_numbers.proofs.Prefixes.{prefix_same}
 use Rattle.spec_terms.specs.Term.{with_arguments}
 use Rattle.spec_builtins.specs.Alternatives.{◌≐◌, one_way}
 use Rattle.spec_builtins.specs.Terms.{univ_built}
-use Rattle.cq_atoms.specs.Texts.{text_of}
+use Rattle.cq_term.specs.Texts.{text_of}
 use Rattle.cq_term.specs.Meaning.{at}
 use Rattle.cq_term.specs.Shown.{view_of}
 use Rattle.cq_term.specs.declared.view.View.TheVariants as view

@@ -1,9 +1,9 @@
 use Rattle.std.proofs.Common.{◌≡◌, ◌∷◌, ◌∙◌, [], map, length, refl, sym, ap}
-use Rattle.spec_lists.proofs.Prefixes.{prefix_same, prefix_get_or}
+use Rattle.spec_numbers.proofs.Prefixes.{prefix_same, prefix_get_or}
 use Rattle.spec_terms.specs.Term.{Name, named}
 use Rattle.spec_syntax.specs.Trees.{list_tree}
 use Rattle.spec_builtins.specs.Alternatives.{◌≐◌, one_way}
-use Rattle.cq_atoms.specs.Texts.{text_of}
+use Rattle.cq_term.specs.Texts.{text_of}
 use Rattle.cq_term.specs.Meaning.{at, blank}
 use Rattle.cq_term.specs.Shown.{arguments}
 use Rattle.cq_term.specs.Trees.{trees}

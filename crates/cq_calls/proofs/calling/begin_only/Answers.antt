@@ -2,16 +2,16 @@ use Rattle.std.proofs.Common.{◌≡◌, List, length, Some, sym, ap, ap₂, ◌
 use Rattle.std.specs.Prelude.{slice_get}
 use Rattle.std.specs.List.{zip}
 use Rattle.cq_attr.proofs.Elements.{on_err}
-use Rattle.cq_program.specs.Database.{IsCounted}
-use Rattle.cq_stored.specs.StoredValue.{ClauseValue}
-use Rattle.cq_world.specs.Contents.{Contents}
-use Rattle.spec_machine.specs.declared.cell.Cell.{Cell}
-use Rattle.spec_machine.specs.Cells.{Value}
-use Rattle.cq_steps.specs.Choices.{AreOpen, LeavesAlso}
-use Rattle.cq_steps.specs.Worlds.{saved_values, value}
-use Rattle.cq_steps.specs.declared.alternatives.Alternatives.{Alternatives}
-use Rattle.cq_steps.specs.declared.alternatives.Alternatives.TheVariants.{Clauses}
-use Rattle.cq_begin.specs.declared.beginning.Begun.TheVariants.{Goes, Pruned}
+use Rattle.cq_resolve.specs.Database.{IsCounted}
+use Rattle.cq_resolve.specs.StoredValue.{ClauseValue}
+use Rattle.cq_settle.specs.Contents.{Contents}
+use Rattle.spec_engine.specs.declared.machine.cell.Cell.{Cell}
+use Rattle.spec_engine.specs.Cells.{Value}
+use Rattle.cq_branch.specs.Choices.{AreOpen, LeavesAlso}
+use Rattle.cq_branch.specs.Worlds.{saved_values, value}
+use Rattle.cq_branch.specs.declared.alternatives.Alternatives.{Alternatives}
+use Rattle.cq_branch.specs.declared.alternatives.Alternatives.TheVariants.{Clauses}
+use Rattle.cq_branch.specs.declared.begin.beginning.Begun.TheVariants.{Goes, Pruned}
 use Rattle.cq_calls.specs.Calling.{IsStill}
 use Rattle.cq_calls.proofs.Left.{of_content, marked_same}
 use Rattle.cq_calls.proofs.Waiting.{only_comes, waits_come, opens_also, same_grown, keeps_on}

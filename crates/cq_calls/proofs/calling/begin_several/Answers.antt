@@ -1,15 +1,15 @@
 use Rattle.std.proofs.Common.{◌≡◌, ◌<◌, ℕ, List, length, Option, None, Some, sym, ap, ◌∙◌, subst}
 use Rattle.std.specs.Prelude.{IfNone}
 use Rattle.cq_attr.proofs.Elements.{on_err}
-use Rattle.cq_world.specs.Contents.{Contents}
-use Rattle.cq_world.specs.Rest.{IsReady}
-use Rattle.cq_world.specs.Worlds.{now_of}
-use Rattle.spec_machine.specs.Cells.{Value}
-use Rattle.spec_machine.specs.declared.cell.Cell.{Cell}
+use Rattle.cq_settle.specs.Contents.{Contents}
+use Rattle.cq_settle.specs.Rest.{IsReady}
+use Rattle.cq_settle.specs.Worlds.{now_of}
+use Rattle.spec_engine.specs.Cells.{Value}
+use Rattle.spec_engine.specs.declared.machine.cell.Cell.{Cell}
 use Rattle.cq_control.specs.Open.{open_choices}
-use Rattle.cq_steps.specs.Choices.{AreOpen}
-use Rattle.cq_steps.specs.Worlds.{saved_values, value}
-use Rattle.cq_steps.specs.declared.alternatives.Alternatives.{Alternatives}
+use Rattle.cq_branch.specs.Choices.{AreOpen}
+use Rattle.cq_branch.specs.Worlds.{saved_values, value}
+use Rattle.cq_branch.specs.declared.alternatives.Alternatives.{Alternatives}
 use Rattle.cq_calls.specs.Calling.{IsStill}
 use Rattle.cq_calls.proofs.Waiting.{waited_come, opens_also, keeps_same}
 use Rattle.cq_calls.proofs.calling.begin_several.Goals as goal

@@ -1,6 +1,6 @@
 use Rattle.std.proofs.Common.{◌∷◌, ℕ, List, ap, ◌∙◌, subst}
 use Rattle.cq_clauses.specs.Walks.{HasNoneLeft}
-use Rattle.cq_steps.specs.Worlds.{saved_values, value}
+use Rattle.cq_branch.specs.Worlds.{saved_values, value}
 use Rattle.cq_calls.proofs.Left.{none_left}
 use Rattle.cq_calls.proofs.Waiting.{none_comes}
 use Rattle.cq_calls.proofs.calling.call_clauses.Goals as goal

@@ -4,21 +4,21 @@ use Rattle.spec_syntax.specs.Trees.{Tree}
 use Rattle.spec_branch.specs.Branch.{Branch}
 use Rattle.spec_search.specs.Control.{user_row}
 use Rattle.spec_search.specs.Replies.{Place, Calls}
-use Rattle.spec_built.specs.Built.{indicator_of}
+use Rattle.spec_builtins.specs.Built.{indicator_of}
 use Rattle.cq_attr.proofs.Elements.{on_err}
 use Rattle.cq_clauses.specs.Database.{clauses_of, database, kind_of}
 use Rattle.cq_clauses.specs.Selected.{key_at, matching}
 use Rattle.cq_clauses.specs.Walks.{HasNoneLeft, IsWalk}
 use Rattle.cq_clauses.specs.declared.key.Key.{Key}
-use Rattle.cq_program.specs.Database.{Program, IsProgram, as_clause, as_kind}
-use Rattle.cq_program.specs.Keys.{key_of}
-use Rattle.cq_stored.specs.StoredValue.{ClauseValue}
+use Rattle.cq_resolve.specs.Database.{Program, IsProgram, as_clause, as_kind}
+use Rattle.cq_resolve.specs.Keys.{key_of}
+use Rattle.cq_resolve.specs.StoredValue.{ClauseValue}
 use Rattle.cq_term.specs.Meaning.{at, blank}
-use Rattle.cq_world.specs.Contents.{Contents}
-use Rattle.spec_machine.specs.Cells.{Value}
-use Rattle.cq_steps.specs.Choices.{AreOpen}
-use Rattle.cq_steps.specs.Worlds.{saved_values, stack, value}
-use Rattle.cq_steps.specs.declared.alternatives.Alternatives.{Alternatives}
+use Rattle.cq_settle.specs.Contents.{Contents}
+use Rattle.spec_engine.specs.Cells.{Value}
+use Rattle.cq_branch.specs.Choices.{AreOpen}
+use Rattle.cq_branch.specs.Worlds.{saved_values, stack, value}
+use Rattle.cq_branch.specs.declared.alternatives.Alternatives.{Alternatives}
 use Rattle.cq_calls.specs.Calling.{CallBecomes, IsCalledAt, WouldCome}
 use Rattle.cq_calls.proofs.CalledClauses.{raises, known, some_left, becomes, none_known, some_known}
 use Rattle.cq_calls.proofs.Left.{numbers_left, none_left}

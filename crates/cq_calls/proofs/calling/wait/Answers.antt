@@ -1,9 +1,9 @@
 use Rattle.std.proofs.Common.{◌≡◌, ◌∷◌, subst}
 use Rattle.std.specs.Prelude.{OnOk}
 use Rattle.cq_clauses.specs.declared.walk.Walk.{Walk}
-use Rattle.cq_steps.specs.Choices.{LeavesAlso}
-use Rattle.cq_steps.specs.Worlds.{saved_values, value}
-use Rattle.cq_steps.specs.declared.alternatives.Alternatives.TheVariants.{Clauses}
+use Rattle.cq_branch.specs.Choices.{LeavesAlso}
+use Rattle.cq_branch.specs.Worlds.{saved_values, value}
+use Rattle.cq_branch.specs.declared.alternatives.Alternatives.TheVariants.{Clauses}
 use Rattle.cq_calls.proofs.calling.wait.Goals as goal
 
 pub returns-clause-waits : goal.returns-clause-waits

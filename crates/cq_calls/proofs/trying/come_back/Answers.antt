@@ -2,15 +2,15 @@ use Rattle.std.proofs.Common.{◌≡◌, ◌∷◌, ◌<◌, List, map, None, re
 use Rattle.std.specs.Prelude.{Ok, Err, IfOk, IfErr, OnOk, OnErr}
 use Rattle.std.specs.declared.result.Result.{Result}
 use Rattle.cq_control.specs.Open.{open_choices}
-use Rattle.spec_machine.specs.Cells.{Value}
-use Rattle.cq_world.specs.Contents.{Contents}
-use Rattle.cq_steps.specs.Worlds.{saved_values, value, stack, left_at}
-use Rattle.cq_steps.specs.declared.alternatives.Alternatives.{Alternatives}
-use Rattle.cq_steps.specs.declared.alternatives.Alternatives.TheVariants.{Clauses}
-use Rattle.cq_steps.proofs.Budgets.{same_budget}
-use Rattle.cq_steps.proofs.Older.{newest_gone}
-use Rattle.cq_begin.specs.Stops.{ComesOn, waiting_in}
-use Rattle.cq_begin.proofs.Back.{back_still, comes_then, stops_then}
+use Rattle.spec_engine.specs.Cells.{Value}
+use Rattle.cq_settle.specs.Contents.{Contents}
+use Rattle.cq_branch.specs.Worlds.{saved_values, value, stack, left_at}
+use Rattle.cq_branch.specs.declared.alternatives.Alternatives.{Alternatives}
+use Rattle.cq_branch.specs.declared.alternatives.Alternatives.TheVariants.{Clauses}
+use Rattle.cq_branch.proofs.Budgets.{same_budget}
+use Rattle.cq_branch.proofs.Older.{newest_gone}
+use Rattle.cq_branch.specs.Stops.{ComesOn, waiting_in}
+use Rattle.cq_branch.proofs.Back.{back_still, comes_then, stops_then}
 use Rattle.cq_calls.proofs.Left.{Opened, opened_is, same-first, open_still}
 use Rattle.cq_calls.proofs.Newest.{is_walk, arrives_past, fewer_past, open_past, begins_ready, begins_goal, begins_rest}
 use Rattle.cq_calls.proofs.Waiting.{keeps_all}

@@ -1,8 +1,8 @@
 use Rattle.std.proofs.Common.{List, [], ◌∷◌, ◌<◌, ◌≡◌, ◌-◌, length, refl, ap, arith, subst}
 use Rattle.cq_clauses.specs.Walks.{HasNoneLeft}
 use Rattle.cq_control.specs.Open.{open_choices}
-use Rattle.cq_steps.specs.Worlds.{saved_values}
-use Rattle.cq_steps.specs.declared.alternatives.Alternatives.{Alternatives}
+use Rattle.cq_branch.specs.Worlds.{saved_values}
+use Rattle.cq_branch.specs.declared.alternatives.Alternatives.{Alternatives}
 use Rattle.cq_calls.proofs.Left.{cut_away, length-opened, put_newest}
 use Rattle.cq_calls.proofs.trying.leave_untried.Goals as goal
 

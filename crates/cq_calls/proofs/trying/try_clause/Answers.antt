@@ -3,19 +3,19 @@ use Rattle.std.specs.Prelude.{slice_get, Err}
 use Rattle.cq_clauses.specs.declared.walk.Walk.{Walk}
 use Rattle.cq_control.specs.Items.{ContinuationsValue}
 use Rattle.cq_control.specs.Open.{AreMarked, open_choices}
-use Rattle.cq_linear.specs.declared.store.StoreFault.{StoreFault}
-use Rattle.cq_program.specs.Database.{IsCounted}
-use Rattle.cq_stored.specs.StoredValue.{ClauseValue}
-use Rattle.cq_world.specs.Contents.{Contents}
-use Rattle.cq_world.specs.Worlds.{saved_of}
-use Rattle.cq_world.specs.declared.world.World.{World}
-use Rattle.spec_machine.specs.declared.cell.Cell.{Cell}
-use Rattle.spec_machine.specs.Cells.{Value}
-use Rattle.cq_steps.specs.Worlds.{Grown, saved_values, value}
-use Rattle.cq_steps.specs.declared.alternatives.Alternatives.{Alternatives}
-use Rattle.cq_steps.specs.declared.alternatives.Alternatives.TheVariants.{Clauses}
-use Rattle.cq_begin.specs.declared.beginning.Begun.TheVariants.{Goes, Pruned}
-use Rattle.cq_begin.proofs.Back.{back_still}
+use Rattle.cq_store.specs.declared.store.StoreFault.{StoreFault}
+use Rattle.cq_resolve.specs.Database.{IsCounted}
+use Rattle.cq_resolve.specs.StoredValue.{ClauseValue}
+use Rattle.cq_settle.specs.Contents.{Contents}
+use Rattle.cq_settle.specs.Worlds.{saved_of}
+use Rattle.cq_settle.specs.declared.world.World.{World}
+use Rattle.spec_engine.specs.declared.machine.cell.Cell.{Cell}
+use Rattle.spec_engine.specs.Cells.{Value}
+use Rattle.cq_branch.specs.Worlds.{Grown, saved_values, value}
+use Rattle.cq_branch.specs.declared.alternatives.Alternatives.{Alternatives}
+use Rattle.cq_branch.specs.declared.alternatives.Alternatives.TheVariants.{Clauses}
+use Rattle.cq_branch.specs.declared.begin.beginning.Begun.TheVariants.{Goes, Pruned}
+use Rattle.cq_branch.proofs.Back.{back_still}
 use Rattle.cq_calls.specs.Trying.{Leaves}
 use Rattle.cq_calls.proofs.Left.{Opened, AreLeft, open_same, marked_same, of_content, length-opened, are_left, open_still, replaced, same-others}
 use Rattle.cq_calls.proofs.Newest.{arrives_left, fewer_wait, open_left, fault_stops}

@@ -1,7 +1,7 @@
 use Rattle.std.proofs.Common.{◌∷◌, sym, ap, ◌∙◌}
 use Rattle.cq_clauses.specs.declared.walk.Walk.{Walk}
-use Rattle.cq_steps.specs.declared.alternatives.Alternatives.{Alternatives}
-use Rattle.cq_steps.specs.declared.alternatives.Alternatives.TheVariants.{Clauses}
+use Rattle.cq_branch.specs.declared.alternatives.Alternatives.{Alternatives}
+use Rattle.cq_branch.specs.declared.alternatives.Alternatives.TheVariants.{Clauses}
 use Rattle.cq_calls.proofs.trying.try_clauses.Goals as goal
 
 pub come_back-requires-clause-newest : goal.come_back-requires-clause-newest

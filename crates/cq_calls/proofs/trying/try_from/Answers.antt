@@ -1,15 +1,15 @@
 use Rattle.std.proofs.Common.{◌≡◌, ◌<◌, ◌∷◌, length, Some, None, refl, sym, ap, ◌∙◌, subst, arith}
 use Rattle.cq_control.specs.Open.{open_choices}
-use Rattle.cq_world.specs.Contents.{Contents}
-use Rattle.cq_world.specs.Rest.{IsReady}
-use Rattle.spec_machine.specs.Cells.{Value}
-use Rattle.cq_steps.specs.Worlds.{saved_values, value}
-use Rattle.cq_steps.specs.declared.alternatives.Alternatives.{Alternatives}
-use Rattle.cq_steps.specs.declared.alternatives.Alternatives.TheVariants.{Clauses}
-use Rattle.cq_steps.proofs.Budgets.{same_budget}
-use Rattle.cq_steps.proofs.Older.{newest_gone}
-use Rattle.cq_begin.specs.Stops.{ComesOn}
-use Rattle.cq_begin.proofs.Back.{back_still, comes_then, stops_then}
+use Rattle.cq_settle.specs.Contents.{Contents}
+use Rattle.cq_settle.specs.Rest.{IsReady}
+use Rattle.spec_engine.specs.Cells.{Value}
+use Rattle.cq_branch.specs.Worlds.{saved_values, value}
+use Rattle.cq_branch.specs.declared.alternatives.Alternatives.{Alternatives}
+use Rattle.cq_branch.specs.declared.alternatives.Alternatives.TheVariants.{Clauses}
+use Rattle.cq_branch.proofs.Budgets.{same_budget}
+use Rattle.cq_branch.proofs.Older.{newest_gone}
+use Rattle.cq_branch.specs.Stops.{ComesOn}
+use Rattle.cq_branch.proofs.Back.{back_still, comes_then, stops_then}
 use Rattle.cq_calls.specs.Trying.{IsTrying}
 use Rattle.cq_calls.proofs.Left.{same-first, gone_past, others_on}
 use Rattle.cq_calls.proofs.Newest.{arrives_past, fewer_past, open_past}

@@ -1,11 +1,11 @@
 use Rattle.std.proofs.Common.{◌≡◌, ◌≤◌, ◌<◌, length}
 use Rattle.std.specs.Prelude.{None}
-use Rattle.cq_begin.specs.Stops.{ComesOn, still_waiting}
+use Rattle.cq_branch.specs.Stops.{ComesOn, still_waiting}
 use Rattle.cq_control.specs.Open.{AreMarked}
-use Rattle.cq_steps.specs.Choices.{AreOpen}
-use Rattle.cq_steps.specs.Lists.{KeepsLists}
-use Rattle.cq_steps.specs.Worlds.{saved_values, value}
-use Rattle.cq_world.specs.Worlds.{now_of}
+use Rattle.cq_branch.specs.Choices.{AreOpen}
+use Rattle.cq_branch.specs.Lists.{KeepsLists}
+use Rattle.cq_branch.specs.Worlds.{saved_values, value}
+use Rattle.cq_settle.specs.Worlds.{now_of}
 use Rattle.cq_calls.specs.Trying.{IsNext, KeepsOthers}
 use Rattle.cq_calls.proofs.trying.try_from.Given as goal
 

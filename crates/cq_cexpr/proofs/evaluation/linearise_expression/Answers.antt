@@ -1,6 +1,6 @@
 use Rattle.std.proofs.Common.{Err, ap}
 use Rattle.spec_branch.specs.Alike.{no_values}
-use Rattle.spec_stops.specs.Operands.{expression_operands}
+use Rattle.spec_transcript.specs.Operands.{expression_operands}
 use Rattle.cq_frac.proofs.Exits.{refusal_told}
 use Rattle.cq_term.specs.Trees.{tree}
 use Rattle.cq_cexpr.specs.Sums.{due_in}

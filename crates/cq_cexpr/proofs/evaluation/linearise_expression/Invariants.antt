@@ -1,7 +1,7 @@
 use Rattle.std.proofs.Common.{◌+◌}
 use Rattle.cq_term.specs.Trees.{tree}
 use Rattle.spec_branch.specs.Alike.{no_values}
-use Rattle.spec_stops.specs.Operands.{expression_operands}
+use Rattle.spec_transcript.specs.Operands.{expression_operands}
 use Rattle.cq_cexpr.specs.Work.{read_at, IsUnderWay, all_work, step_work}
 use Rattle.cq_cexpr.proofs.evaluation.linearise_expression.Given as goal
 

@@ -1,6 +1,6 @@
 use Rattle.std.proofs.Common.{Err, ◌++◌, ap, subst}
 use Rattle.std.proofs.lemmas.Result.{IfOk-weaker}
-use Rattle.spec_stops.specs.Operands.{binary_operands}
+use Rattle.spec_transcript.specs.Operands.{binary_operands}
 use Rattle.cq_frac.proofs.Exits.{refusal_told}
 use Rattle.cq_cexpr.specs.Names.{binary_meant}
 use Rattle.cq_cexpr.specs.Overflows.{ComesFrom}

@@ -1,5 +1,5 @@
 use Rattle.std.proofs.Common.{ap, ◌∙◌}
-use Rattle.spec_told.specs.Expressions.{unary_name}
+use Rattle.spec_branch.specs.Expressions.{unary_name}
 use Rattle.cq_term.specs.Meaning.{at}
 use Rattle.cq_term.proofs.Arguments.{some_arguments}
 use Rattle.cq_cexpr.proofs.Steps.{one_argument, one_waits}

@@ -1,6 +1,6 @@
 use Rattle.std.proofs.Common.{◌<◌, length, refl, ap, ◌∙◌, arith}
-use Rattle.spec_told.specs.Expressions.{binary_name}
-use Rattle.cq_kinds.proofs.Arguments.{has_two, two_arguments}
+use Rattle.spec_branch.specs.Expressions.{binary_name}
+use Rattle.cq_built.proofs.Arguments.{has_two, two_arguments}
 use Rattle.cq_term.specs.Meaning.{at}
 use Rattle.cq_term.specs.Shown.{arguments}
 use Rattle.cq_cexpr.proofs.Steps.{left_waits}

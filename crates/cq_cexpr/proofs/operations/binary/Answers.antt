@@ -1,6 +1,6 @@
 use Rattle.std.proofs.Common.{Some, sym, subst}
 use Rattle.cq_cexpr.specs.Names.{binary_meant, binary_of_code}
-use Rattle.spec_stops.specs.Operands.{binary_operands}
+use Rattle.spec_transcript.specs.Operands.{binary_operands}
 use Rattle.cq_cexpr.specs.Overflows.{ComesFrom}
 use Rattle.cq_cexpr.proofs.operations.binary.Goals as goal
 

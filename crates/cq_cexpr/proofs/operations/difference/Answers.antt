@@ -1,4 +1,4 @@
-use Rattle.cq_row.specs.declared.Joining.TheVariants.{Less}
+use Rattle.cq_frac.specs.declared.row.Joining.TheVariants.{Less}
 use Rattle.cq_cexpr.proofs.Overflowing.{joined_comes}
 use Rattle.cq_cexpr.proofs.operations.difference.Goals as goal
 

@@ -1,5 +1,5 @@
 use Rattle.std.proofs.Common.{ap, sym, subst, ◌∙◌}
-use Rattle.spec_rational.specs.Rational.{neg_ℚ}
+use Rattle.spec_numbers.specs.Rational.{neg_ℚ}
 use Rattle.spec_linear.specs.Form.{IsForm}
 use Rattle.cq_form.specs.Entries.{form_of}
 use Rattle.cq_cexpr.proofs.Numbers.{negated_is, negated_in_order}

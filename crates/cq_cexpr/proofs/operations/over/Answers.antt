@@ -1,6 +1,6 @@
 use Rattle.std.proofs.Common.{◌≡◌, true, Some, Err, ap, sym, subst, ◌∙◌, ◌∷◌, []}
-use Rattle.spec_limits.specs.Overflow.{on}
-use Rattle.spec_told.proofs.Kept.{is_constant_form}
+use Rattle.spec_simplex.specs.Overflow.{on}
+use Rattle.spec_branch.proofs.Kept.{is_constant_form}
 use Rattle.cq_frac.proofs.Exits.{refusal_told}
 use Rattle.cq_frac.specs.declared.Operation.TheVariants.{Quotient}
 use Rattle.cq_cexpr.specs.Overflows.{ComesFrom}

@@ -1,7 +1,7 @@
 use Rattle.std.proofs.Common.{Err, ap, sym, subst, ◌∙◌}
-use Rattle.spec_rational.specs.Rational.{◌/ℚ◌}
+use Rattle.spec_numbers.specs.Rational.{◌/ℚ◌}
 use Rattle.spec_linear.specs.Form.{IsForm}
-use Rattle.spec_limits.specs.Overflow.{IsNumberOf, of_constant}
+use Rattle.spec_simplex.specs.Overflow.{IsNumberOf, of_constant}
 use Rattle.cq_frac.specs.Refused.{Tells}
 use Rattle.cq_frac.specs.declared.Operation.TheVariants.{Quotient}
 use Rattle.cq_frac.proofs.Exits.{pair_told, refusal_told}

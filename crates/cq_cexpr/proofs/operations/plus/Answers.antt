@@ -1,5 +1,5 @@
 use Rattle.std.proofs.Common.{Err, ap}
-use Rattle.cq_row.specs.declared.Joining.TheVariants.{Plus}
+use Rattle.cq_frac.specs.declared.row.Joining.TheVariants.{Plus}
 use Rattle.cq_frac.proofs.Exits.{refusal_told}
 use Rattle.cq_cexpr.proofs.Overflowing.{joined_comes}
 use Rattle.cq_cexpr.proofs.operations.plus.Goals as goal

@@ -1,6 +1,6 @@
 use Rattle.std.proofs.Common.{◌≡◌, ◌+◌, suc, ap, subst, ◌∙◌, arith}
-use Rattle.spec_rational.specs.Rational.{◌*ℚ◌}
-use Rattle.spec_told.specs.Expressions.{power}
+use Rattle.spec_numbers.specs.Rational.{◌*ℚ◌}
+use Rattle.spec_branch.specs.Expressions.{power}
 use Rattle.cq_frac.specs.Refused.{Tells}
 use Rattle.cq_frac.specs.declared.Operation.TheVariants.{Product}
 use Rattle.cq_cexpr.proofs.Overflowing.{power_comes, error_told}

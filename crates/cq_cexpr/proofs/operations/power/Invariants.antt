@@ -1,5 +1,5 @@
 use Rattle.std.proofs.Common.{◌≡◌}
-use Rattle.spec_told.specs.Expressions.{power}
+use Rattle.spec_branch.specs.Expressions.{power}
 use Rattle.cq_cexpr.proofs.operations.power.Given as goal
 
 abbrev pub invariant-loop-factor : goal.invariant-loop-factor

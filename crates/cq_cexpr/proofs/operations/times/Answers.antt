@@ -1,6 +1,6 @@
 use Rattle.std.proofs.Common.{Err, ap, subst, sym, ◌∙◌, ◌∷◌, []}
-use Rattle.spec_limits.specs.Overflow.{on}
-use Rattle.spec_told.proofs.Kept.{is_constant_form}
+use Rattle.spec_simplex.specs.Overflow.{on}
+use Rattle.spec_branch.proofs.Kept.{is_constant_form}
 use Rattle.cq_frac.proofs.Exits.{refusal_told}
 use Rattle.cq_frac.specs.declared.Operation.TheVariants.{Product}
 use Rattle.cq_cexpr.specs.Overflows.{ComesFrom}

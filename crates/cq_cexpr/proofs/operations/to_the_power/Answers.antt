@@ -1,7 +1,7 @@
 use Rattle.std.proofs.Common.{Some, Err, ap, sym, subst, ◌∙◌}
-use Rattle.spec_told.specs.Expressions.{number_of, exponent_of}
+use Rattle.spec_branch.specs.Expressions.{number_of, exponent_of}
 use Rattle.cq_frac.proofs.Exits.{pair_told}
-use Rattle.spec_stops.specs.Operands.{power_operands}
+use Rattle.spec_transcript.specs.Operands.{power_operands}
 use Rattle.cq_cexpr.specs.Overflows.{ComesFrom}
 use Rattle.cq_cexpr.proofs.operations.to_the_power.Goals as goal
 

@@ -1,7 +1,7 @@
 use Rattle.std.proofs.Common.{Some, Err, ap, sym, subst, ◌++◌}
 use Rattle.cq_frac.proofs.Exits.{refusal_told}
 use Rattle.cq_frac.specs.declared.Operation.TheVariants.{Difference}
-use Rattle.spec_stops.specs.Operands.{both}
+use Rattle.spec_transcript.specs.Operands.{both}
 use Rattle.cq_cexpr.specs.Overflows.{ComesFrom}
 use Rattle.cq_cexpr.proofs.relations.constraint.Goals as goal
 

@@ -1,7 +1,7 @@
 use Rattle.std.proofs.Common.{◌<◌, length, Err, refl, ap, sym, subst, ◌∙◌, arith}
-use Rattle.spec_told.specs.Relations.{relation_name}
+use Rattle.spec_branch.specs.Relations.{relation_name}
 use Rattle.cq_frac.proofs.Exits.{refusal_told}
-use Rattle.cq_kinds.proofs.Arguments.{has_two, two_arguments}
+use Rattle.cq_built.proofs.Arguments.{has_two, two_arguments}
 use Rattle.cq_term.specs.Meaning.{at}
 use Rattle.cq_term.specs.Names.{HasNamesBelow}
 use Rattle.cq_term.specs.Shown.{arguments}

@@ -1,8 +1,8 @@
 use Rattle.std.proofs.Common.{◌∙◌, [], ◌∷◌, pos, refl, ap, sym}
-use Rattle.spec_rational.specs.Rational.{0ℚ}
-use Rattle.spec_rational.proofs.Ring.{var, int, ◌⊕◌, minus}
-use Rattle.spec_rational.proofs.Rational.{ring}
-use Rattle.cq_row.specs.Rows.{joined}
+use Rattle.spec_numbers.specs.Rational.{0ℚ}
+use Rattle.spec_numbers.proofs.Ring.{var, int, ◌⊕◌, minus}
+use Rattle.spec_numbers.proofs.RationalLemmas.{ring}
+use Rattle.cq_frac.specs.Rows.{joined}
 use Rattle.cq_cexpr.proofs.slots.alone.Goals as goal
 
 pub returns-in-Plus : goal.returns-in-Plus

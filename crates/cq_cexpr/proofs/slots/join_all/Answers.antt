@@ -1,8 +1,8 @@
 use Rattle.std.proofs.Common.{◌<◌, ◌≤◌, ◌∙◌, Err, length, arith, ap, sym, subst}
 use Rattle.std.proofs.lemmas.List.{take_all}
-use Rattle.spec_rational.specs.Sums.{unit}
+use Rattle.spec_numbers.specs.Sums.{unit}
 use Rattle.cq_frac.proofs.Exits.{refusal_told}
-use Rattle.cq_row.specs.Rows.{sum_at, joined}
+use Rattle.cq_frac.specs.Rows.{sum_at, joined}
 use Rattle.cq_cexpr.specs.Slots.{Meets}
 use Rattle.cq_cexpr.proofs.Places.{rising_of, none_before, slot_factor, joined_nothing, joined_next}
 use Rattle.cq_cexpr.proofs.slots.join_all.Goals as goal

@@ -1,6 +1,6 @@
 use Rattle.std.proofs.Common.{◌≡◌, ℕ, take}
-use Rattle.spec_rational.specs.Rational.{ℚ}
-use Rattle.cq_row.specs.Rows.{sum_at, joined}
+use Rattle.spec_numbers.specs.Rational.{ℚ}
+use Rattle.cq_frac.specs.Rows.{sum_at, joined}
 use Rattle.cq_cexpr.specs.Slots.{IsRisingFrom}
 use Rattle.cq_cexpr.proofs.slots.join_all.Given as goal
 

@@ -1,10 +1,10 @@
 use Rattle.std.proofs.Common.{◌≡◌, ◌∙◌, Err, ap, sym, subst}
-use Rattle.spec_rational.specs.Rational.{◌*ℚ◌}
-use Rattle.spec_rational.specs.Sums.{unit}
+use Rattle.spec_numbers.specs.Rational.{◌*ℚ◌}
+use Rattle.spec_numbers.specs.Sums.{unit}
 use Rattle.cq_frac.proofs.Exits.{pair_told}
-use Rattle.cq_row.specs.declared.Entry.{Entry}
-use Rattle.cq_row.specs.Rows.{sum_at, joined}
-use Rattle.cq_row.proofs.OneMore.{set_value}
+use Rattle.cq_frac.specs.declared.row.Entry.{Entry}
+use Rattle.cq_frac.specs.Rows.{sum_at, joined}
+use Rattle.cq_frac.proofs.OneMore.{set_value}
 use Rattle.cq_cexpr.specs.Slots.{Meets}
 use Rattle.cq_cexpr.proofs.Places.{rising_set, slot_factor}
 use Rattle.cq_cexpr.proofs.slots.join_entry.Goals as goal

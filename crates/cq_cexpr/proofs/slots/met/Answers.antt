@@ -1,5 +1,5 @@
 use Rattle.std.proofs.Common.{◌∙◌, ap, sym}
-use Rattle.cq_row.specs.Rows.{joined}
+use Rattle.cq_frac.specs.Rows.{joined}
 use Rattle.cq_cexpr.proofs.slots.met.Goals as goal
 
 pub returns-then-is_zero-clause-value : goal.returns-then-is_zero-clause-value

@@ -1,8 +1,8 @@
 use Rattle.std.proofs.Common.{◌≡◌, ℕ, ◌<◌, ◌≤◌, ◌∙◌, length, get_or, arith, ap, sym, subst}
-use Rattle.spec_rational.specs.Rational.{◌+ℚ◌, ◌*ℚ◌}
-use Rattle.cq_row.specs.Rows.{sum_at}
-use Rattle.cq_row.specs.declared.Entry.{Entry}
-use Rattle.cq_row.proofs.Placed.{sum_at-insert}
+use Rattle.spec_numbers.specs.Rational.{◌+ℚ◌, ◌*ℚ◌}
+use Rattle.cq_frac.specs.Rows.{sum_at}
+use Rattle.cq_frac.specs.declared.row.Entry.{Entry}
+use Rattle.cq_frac.proofs.Placed.{sum_at-insert}
 use Rattle.cq_cexpr.specs.Slots.{IsRisingFrom}
 use Rattle.cq_cexpr.proofs.Places.{rising, rising_insert, nothing_added}
 use Rattle.cq_cexpr.proofs.slots.slot_for.Goals as goal

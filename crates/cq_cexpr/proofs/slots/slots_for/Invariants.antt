@@ -1,6 +1,6 @@
 use Rattle.std.proofs.Common.{◌≡◌, ℕ}
-use Rattle.spec_rational.specs.Rational.{ℚ, 0ℚ}
-use Rattle.cq_row.specs.Rows.{sum_at}
+use Rattle.spec_numbers.specs.Rational.{ℚ, 0ℚ}
+use Rattle.cq_frac.specs.Rows.{sum_at}
 use Rattle.cq_cexpr.specs.Slots.{IsRisingFrom}
 use Rattle.cq_cexpr.proofs.slots.slots_for.Given as goal
 

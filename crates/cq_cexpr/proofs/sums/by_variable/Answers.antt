@@ -3,7 +3,7 @@ use Rattle.std.proofs.lemmas.List.{take_all}
 use Rattle.spec_linear.specs.Form.{without_zeros}
 use Rattle.cq_frac.specs.Refused.{Tells}
 use Rattle.cq_frac.proofs.Exits.{pair_told, refusal_told}
-use Rattle.cq_row.specs.Rows.{joined, operation_of}
+use Rattle.cq_frac.specs.Rows.{joined, operation_of}
 use Rattle.cq_form.specs.Entries.{products_of}
 use Rattle.cq_cexpr.specs.Sums.{all_joined}
 use Rattle.cq_cexpr.proofs.Turns.{constant_due, coefficient_due, held_next, left_in_order, left_is}

@@ -1,5 +1,5 @@
 use Rattle.std.proofs.Common.{Err, ap}
-use Rattle.spec_rational.specs.Sums.{unit}
+use Rattle.spec_numbers.specs.Sums.{unit}
 use Rattle.cq_frac.proofs.Exits.{refusal_told}
 use Rattle.cq_cexpr.proofs.Turns.{first_value}
 use Rattle.cq_cexpr.proofs.sums.first_slots.Goals as goal

@@ -1,5 +1,5 @@
 use Rattle.std.proofs.Common.{refl, subst}
-use Rattle.cq_row.specs.Rows.{Lacks}
+use Rattle.cq_frac.specs.Rows.{Lacks}
 use Rattle.cq_dict.proofs.Turned.{stays_dropped}
 use Rattle.cq_dict.proofs.columns.dropped.Goals as goal
 

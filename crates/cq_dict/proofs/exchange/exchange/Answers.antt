@@ -1,12 +1,12 @@
 use Rattle.std.proofs.Common.{◌≡◌, ◌∙◌, Err, refl, ap, sym, subst}
-use Rattle.spec_rational.specs.Rational.{◌/ℚ◌}
+use Rattle.spec_numbers.specs.Rational.{◌/ℚ◌}
 use Rattle.cq_frac.specs.declared.Operation.TheVariants.{Quotient}
 use Rattle.cq_frac.specs.Refused.{Refuses, Tells}
-use Rattle.cq_row.specs.Row.{Row}
-use Rattle.cq_row.specs.Rows.{IsRowFrom, everywhere, Has}
+use Rattle.cq_frac.specs.Row.{Row}
+use Rattle.cq_frac.specs.Rows.{IsRowFrom, everywhere, Has}
 use Rattle.cq_frac.proofs.Exits.{pair_told, refusal_told}
 use Rattle.cq_frac.proofs.Refusals.{never_both}
-use Rattle.cq_row.proofs.Shifts.{anywhere}
+use Rattle.cq_frac.proofs.Shifts.{anywhere}
 use Rattle.cq_dict.specs.declared.table.Role.TheVariants.{Basic}
 use Rattle.cq_dict.specs.Roles.{IsAt, is_live}
 use Rattle.cq_dict.specs.Changes.{Moved, IsSolved}

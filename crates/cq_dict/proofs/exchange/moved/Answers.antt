@@ -1,9 +1,9 @@
 use Rattle.std.proofs.Common.{◌≡◌, ◌∙◌, Err, ap, sym, subst, refl}
-use Rattle.cq_row.specs.Rows.{everywhere, Has, Lacks}
-use Rattle.cq_row.specs.Numbers.{ShiftPair}
+use Rattle.cq_frac.specs.Rows.{everywhere, Has, Lacks}
+use Rattle.cq_frac.specs.Numbers.{ShiftPair}
 use Rattle.cq_frac.proofs.Exits.{refusal_told}
-use Rattle.cq_row.proofs.Shifts.{entry_not_zero}
-use Rattle.cq_row.proofs.Units.{at_unit}
+use Rattle.cq_frac.proofs.Shifts.{entry_not_zero}
+use Rattle.cq_frac.proofs.Units.{at_unit}
 use Rattle.cq_dict.proofs.Moves.{moved_some, moved_none}
 use Rattle.cq_dict.proofs.exchange.moved.Goals as goal
 use Rattle.cq_dict.proofs.exchange.moved.Goals.{In-Some}

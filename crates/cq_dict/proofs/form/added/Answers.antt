@@ -1,5 +1,5 @@
 use Rattle.std.proofs.Common.{subst, sym}
-use Rattle.cq_row.proofs.Shifts.{over_anywhere}
+use Rattle.cq_frac.proofs.Shifts.{over_anywhere}
 use Rattle.cq_dict.specs.Roles.{IsAt, is_live, is_dropped, Expresses}
 use Rattle.cq_dict.proofs.Roles.{at_index}
 use Rattle.cq_dict.proofs.Products.{of_live, of_dropped, of_row, adds_product, refuses_product}

@@ -1,8 +1,8 @@
 use Rattle.std.proofs.Common.{◌<◌, ◌≤◌, Err, ap, sym, subst, arith, length}
-use Rattle.spec_rational.specs.Rational.{◌+ℚ◌, 0ℚ}
+use Rattle.spec_numbers.specs.Rational.{◌+ℚ◌, 0ℚ}
 use Rattle.cq_frac.proofs.Exits.{refusal_told}
-use Rattle.cq_row.proofs.Shifts.{over_anywhere}
-use Rattle.cq_row.proofs.Steps.{has_at}
+use Rattle.cq_frac.proofs.Shifts.{over_anywhere}
+use Rattle.cq_frac.proofs.Steps.{has_at}
 use Rattle.cq_dict.specs.Roles.{Expresses, is_live, is_dropped}
 use Rattle.cq_dict.proofs.Products.{nothing_yet, zero_more, one_more, form_pair, none_at_first, none_by_zero, none_by_join, none_at_end}
 use Rattle.cq_dict.proofs.form.expressed.Goals as goal

@@ -1,6 +1,6 @@
 use Rattle.std.proofs.Common.{take}
-use Rattle.spec_rational.specs.Rational.{◌+ℚ◌}
-use Rattle.cq_row.specs.Rows.{sum_at}
+use Rattle.spec_numbers.specs.Rational.{◌+ℚ◌}
+use Rattle.cq_frac.specs.Rows.{sum_at}
 use Rattle.cq_dict.specs.Roles.{Expresses}
 use Rattle.cq_dict.proofs.Products.{NoneBefore}
 use Rattle.cq_dict.proofs.form.expressed.Given as goal

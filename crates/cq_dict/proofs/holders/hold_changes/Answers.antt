@@ -2,8 +2,8 @@ use Rattle.std.proofs.Common.{◌≡◌, ◌∙◌, ◌+◌, ◌<◌, ℕ, lengt
 use Rattle.std.proofs.Math.Seq.{take-length}
 use Rattle.cq_trail.specs.StackValue.{StackValue}
 use Rattle.cq_trail.specs.TrailValue.{TrailValue}
-use Rattle.cq_row.specs.Row.{Row}
-use Rattle.cq_row.proofs.Shifts.{over_anywhere}
+use Rattle.cq_frac.specs.Row.{Row}
+use Rattle.cq_frac.proofs.Shifts.{over_anywhere}
 use Rattle.cq_dict.specs.declared.holders.Cell.{Cell}
 use Rattle.cq_dict.specs.declared.table.Role.TheVariants.{Basic}
 use Rattle.cq_dict.specs.Changes.{Changes}

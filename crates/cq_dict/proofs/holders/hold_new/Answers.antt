@@ -1,5 +1,5 @@
 use Rattle.std.proofs.Common.{◌≡◌, ◌∙◌, sym, subst}
-use Rattle.cq_row.specs.Row.{Row}
+use Rattle.cq_frac.specs.Row.{Row}
 use Rattle.cq_dict.specs.declared.table.Role.TheVariants.{Basic}
 use Rattle.cq_dict.specs.Holders.{Holds}
 use Rattle.cq_dict.proofs.Written.{on_ok}

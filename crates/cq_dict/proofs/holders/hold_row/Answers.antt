@@ -1,5 +1,5 @@
 use Rattle.std.proofs.Common.{arith, sym, subst, refl, inl, inr}
-use Rattle.cq_row.specs.Rows.{Has}
+use Rattle.cq_frac.specs.Rows.{Has}
 use Rattle.cq_dict.specs.Holders.{IsListed}
 use Rattle.cq_dict.proofs.holders.hold_row.Goals as goal
 use Rattle.cq_dict.proofs.holders.hold_row.Goals.{in-Basic, in_default}

@@ -1,5 +1,5 @@
 use Rattle.std.proofs.Common.{refl}
-use Rattle.spec_lists.proofs.Prefixes.{prefix_same}
+use Rattle.spec_numbers.proofs.Prefixes.{prefix_same}
 use Rattle.cq_machine.specs.Machines.{database_of}
 use Rattle.cq_engine.proofs.Gathered.{gathers, fewer, stays}
 use Rattle.cq_engine.proofs.front.gather.Goals as goal

@@ -1,11 +1,11 @@
 use Rattle.std.proofs.Common.{◌-◌, map, refl, sym, ap, ◌∙◌, subst}
 use Rattle.std.specs.List.{AllByRecursion}
-use Rattle.spec_lists.proofs.Prefixes.{prefix_same}
-use Rattle.cq_world.specs.Contents.{Contents}
-use Rattle.spec_machine.specs.Cells.{Value}
-use Rattle.cq_steps.specs.declared.alternatives.Alternatives.{Alternatives}
-use Rattle.cq_steps.specs.Choices.{CanBeTried}
-use Rattle.cq_steps.specs.Worlds.{left_at}
+use Rattle.spec_numbers.proofs.Prefixes.{prefix_same}
+use Rattle.cq_settle.specs.Contents.{Contents}
+use Rattle.spec_engine.specs.Cells.{Value}
+use Rattle.cq_branch.specs.declared.alternatives.Alternatives.{Alternatives}
+use Rattle.cq_branch.specs.Choices.{CanBeTried}
+use Rattle.cq_branch.specs.Worlds.{left_at}
 use Rattle.cq_control.specs.Open.{open_choices}
 use Rattle.cq_machine.specs.Machines.{saved}
 use Rattle.cq_engine.proofs.Engines.{last-none}

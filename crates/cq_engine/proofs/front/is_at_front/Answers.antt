@@ -1,6 +1,6 @@
 use Rattle.std.proofs.Common.{sym, subst}
 use Rattle.cq_control.specs.Items.{items_at}
-use Rattle.cq_steps.specs.Marks.{IsFront}
+use Rattle.cq_branch.specs.Marks.{IsFront}
 use Rattle.cq_engine.proofs.front.is_at_front.Goals as goal
 
 pub returns-in-Some : goal.returns-in-Some

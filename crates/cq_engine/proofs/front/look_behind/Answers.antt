@@ -1,5 +1,5 @@
 use Rattle.std.proofs.Common.{Some, None}
-use Rattle.spec_stops.specs.Causes as why
+use Rattle.spec_transcript.specs.Causes as why
 use Rattle.cq_engine.proofs.Engines.{keeps_on, going_on, ends_next, next_then, look_front}
 use Rattle.cq_engine.proofs.Halted.{halts_next, selecting_none}
 use Rattle.cq_engine.specs.declared.front.Front.TheVariants.{Fail}

@@ -2,14 +2,14 @@ use Rattle.std.proofs.Common.{refl, sym, subst}
 use Rattle.std.specs.Prelude.{Ok, IfOk}
 use Rattle.std.specs.declared.result.Result.{Result}
 use Rattle.spec_search.specs.Builtins.{True, And, Or, Cut, Unify, Is, Compare}
-use Rattle.cq_atoms.specs.Texts.{text_of}
+use Rattle.cq_term.specs.Texts.{text_of}
 use Rattle.cq_builtin.specs.Rows.{comparison_of}
-use Rattle.cq_linear.specs.declared.store.StoreFault.{StoreFault}
+use Rattle.cq_store.specs.declared.store.StoreFault.{StoreFault}
 use Rattle.cq_term.specs.Meaning.{at}
 use Rattle.cq_machine.specs.declared.step.Step.{Step}
 use Rattle.cq_machine.specs.Machines.{terms, StillStands}
 use Rattle.cq_machine.specs.Stepping.{row_of, LeadsTo}
-use Rattle.cq_selected.specs.Refusals.{OnRefuses}
+use Rattle.cq_machine.specs.Refusals.{OnRefuses}
 use Rattle.cq_execute.specs.Rows.{IsRowDone}
 use Rattle.cq_execute.proofs.Table.{so_many}
 use Rattle.cq_execute.proofs.Done.{row_done, stop_done, none_raised, rows_at, stops_at, same_machine, somewhere, still_raised, still_stands}

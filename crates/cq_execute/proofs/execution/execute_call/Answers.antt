@@ -1,11 +1,11 @@
 use Rattle.std.proofs.Common.{[], Some, refl, sym, ap, subst, ◌∙◌}
-use Rattle.spec_lists.proofs.Prefixes.{prefix_same}
-use Rattle.spec_built.specs.Built.{compound1}
+use Rattle.spec_numbers.proofs.Prefixes.{prefix_same}
+use Rattle.spec_builtins.specs.Built.{compound1}
 use Rattle.spec_search.specs.Control.{call_row}
 use Rattle.spec_search.specs.Replies.{Raises}
 use Rattle.cq_built.specs.Errors.{error_tree, HasCulprit}
-use Rattle.cq_world.specs.Contents.{Contents}
-use Rattle.cq_steps.proofs.Done.{length-stack}
+use Rattle.cq_settle.specs.Contents.{Contents}
+use Rattle.cq_branch.proofs.Done.{length-stack}
 use Rattle.cq_machine.specs.declared.step.Step.{Step}
 use Rattle.cq_machine.specs.declared.step.Step.TheVariants as step
 use Rattle.cq_machine.specs.Machines.{now, saved, holds, StillStands}
@@ -13,7 +13,7 @@ use Rattle.cq_machine.specs.Stepping.{CanGo, OnRaises}
 use Rattle.cq_machine.proofs.Built.{stands_still}
 use Rattle.cq_machine.proofs.Kept.{leads_over}
 use Rattle.cq_calls.proofs.Waiting.{same_grown}
-use Rattle.cq_selected.proofs.Reached.{names_same, sound_still, marked_still, open_still}
+use Rattle.cq_machine.proofs.Reached.{names_same, sound_still, marked_still, open_still}
 use Rattle.cq_execute.proofs.Reached.{reach, quietly}
 use Rattle.cq_execute.proofs.execution.execute_call.Goals as goal
 

@@ -1,5 +1,5 @@
 use Rattle.std.proofs.Common.{◌∙◌, ap, sym}
-use Rattle.cq_steps.proofs.Added.{reads_tree}
+use Rattle.cq_branch.proofs.Added.{reads_tree}
 use Rattle.cq_machine.specs.Machines.{now}
 use Rattle.spec_search.specs.Rows.{reply_of}
 use Rattle.cq_execute.proofs.Passed.{raise_done}

@@ -2,9 +2,9 @@ use Rattle.std.proofs.Common.{◌≡◌, None, ap, sym, ◌∙◌, subst}
 use Rattle.std.specs.Option.{option_map}
 use Rattle.std.specs.declared.alloc.AllocError.{AllocError}
 use Rattle.std.specs.declared.result.Result.{Result}
-use Rattle.spec_built.specs.Built.{indicator_of}
+use Rattle.spec_builtins.specs.Built.{indicator_of}
 use Rattle.spec_search.specs.Builtins.{builtin_of}
-use Rattle.cq_table.specs.Names.{as_builtin}
+use Rattle.cq_predicates.specs.TableNames.{as_builtin}
 use Rattle.cq_term.specs.Trees.{tree}
 use Rattle.cq_machine.specs.Machines.{terms}
 use Rattle.cq_machine.specs.declared.step.Step.{Step}

@@ -1,7 +1,7 @@
 use Rattle.std.proofs.Common.{ap, sym, ◌∙◌}
 use Rattle.std.specs.Option.{option_map}
 use Rattle.spec_search.specs.Builtins.{builtin_of}
-use Rattle.cq_table.specs.Names.{as_builtin}
+use Rattle.cq_predicates.specs.TableNames.{as_builtin}
 use Rattle.cq_execute.proofs.execution.find_callee.Goals as goal
 
 pub returns-in-Some : goal.returns-in-Some

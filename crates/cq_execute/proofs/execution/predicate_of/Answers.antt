@@ -1,10 +1,10 @@
 use Rattle.std.proofs.Common.{◌∙◌, length, sym, ap}
 use Rattle.spec_search.specs.Replies.{Raises}
-use Rattle.cq_atoms.specs.Texts.{text_of}
+use Rattle.cq_term.specs.Texts.{text_of}
 use Rattle.cq_built.specs.Errors.{error_tree}
 use Rattle.cq_built.specs.declared.errors.BuiltinError.{BuiltinError}
 use Rattle.cq_built.proofs.Trees.{known_at}
-use Rattle.cq_declarations.proofs.Heads.{atom_indicator, compound_indicator}
+use Rattle.cq_goals.proofs.DeclarationsHeads.{atom_indicator, compound_indicator}
 use Rattle.cq_term.specs.Meaning.{at}
 use Rattle.cq_term.proofs.Named.{name_below, functor_below}
 use Rattle.cq_execute.proofs.Heads.{variable_raises, number_raises, name_callable, compound_callable}

@@ -1,6 +1,6 @@
 use Rattle.std.proofs.Common.{refl, ◌∙◌}
 use Rattle.spec_search.specs.Builtins.{Op}
-use Rattle.cq_atoms.specs.Texts.{text_of}
+use Rattle.cq_term.specs.Texts.{text_of}
 use Rattle.cq_term.specs.Meaning.{at}
 use Rattle.cq_machine.specs.Machines.{terms}
 use Rattle.cq_execute.proofs.Table.{so_many}

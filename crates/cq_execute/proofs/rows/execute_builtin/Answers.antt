@@ -2,8 +2,8 @@ use Rattle.std.proofs.Common.{refl}
 use Rattle.std.specs.Prelude.{Ok}
 use Rattle.spec_search.specs.Builtins.{Least, Greatest, Fail, IfThen, Not, Once, Catch, Throw, Findall, NotUnify, Assert, Retract, ClauseGoal, DynamicGoal, Discontiguous, Initialization, UseModule, Curly, Entailed, Freeze, Extent, Optimum}
 use Rattle.spec_search.specs.Database.{First, Last}
-use Rattle.cq_atoms.specs.Texts.{text_of}
-use Rattle.cq_linear.specs.declared.store.StoreFault.{StoreFault}
+use Rattle.cq_term.specs.Texts.{text_of}
+use Rattle.cq_store.specs.declared.store.StoreFault.{StoreFault}
 use Rattle.cq_term.specs.Meaning.{at}
 use Rattle.cq_machine.specs.Machines.{terms}
 use Rattle.cq_execute.proofs.Table.{so_many}

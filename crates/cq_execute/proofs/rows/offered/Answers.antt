@@ -1,6 +1,6 @@
 use Rattle.std.proofs.Common.{◌∙◌}
-use Rattle.spec_built.specs.Built.{indicator_of}
-use Rattle.cq_atoms.specs.Texts.{text_of}
+use Rattle.spec_builtins.specs.Built.{indicator_of}
+use Rattle.cq_term.specs.Texts.{text_of}
 use Rattle.cq_predicates.specs.Names.{as_predicate}
 use Rattle.cq_term.specs.Meaning.{at}
 use Rattle.cq_term.specs.Trees.{tree}

@@ -2,7 +2,7 @@ use Rattle.std.proofs.Common.{◌∙◌, Err, ap, ap₂, sym, subst}
 use Rattle.spec_linear.specs.Form.{Linear, IsSumFrom}
 use Rattle.cq_frac.specs.Refused.{Tells}
 use Rattle.cq_frac.proofs.Exits.{pair_told, refusal_told}
-use Rattle.cq_row.specs.Rows.{joined, operation_of}
+use Rattle.cq_frac.specs.Rows.{joined, operation_of}
 use Rattle.cq_form.specs.Entries.{form_of, products_of}
 use Rattle.cq_form.specs.Steps.{joined_products}
 use Rattle.cq_form.proofs.Forms.{joined_in_order, joined_form_is, constants_refused, coefficients_refused, joined_accepted}

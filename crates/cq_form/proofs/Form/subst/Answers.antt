@@ -1,11 +1,11 @@
 use Rattle.std.proofs.Common.{◌≡◌, ◌∙◌, Err, ap, sym, subst}
-use Rattle.spec_rational.specs.Sums.{Mentions}
+use Rattle.spec_numbers.specs.Sums.{Mentions}
 use Rattle.spec_linear.specs.Form.{Linear, IsSumFrom, IsForm, without}
 use Rattle.spec_linear.proofs.Ordered.{IsSumFrom-without, form_same}
 use Rattle.cq_form.specs.Entries.{products_of, form_of}
 use Rattle.cq_form.specs.Steps.{HasCoefficient}
 use Rattle.cq_frac.proofs.Exits.{refusal_told}
-use Rattle.cq_row.proofs.OneMore.{if_ok, on_ok}
+use Rattle.cq_frac.proofs.OneMore.{if_ok, on_ok}
 use Rattle.cq_form.proofs.Forms.{not_substituted, no_pair, substituted, product_refused, sum_refused, substitution_accepted}
 use Rattle.cq_form.proofs.Form.subst.Goals as goal
 use Rattle.cq_form.proofs.Form.subst.Goals.{In-Some, In_default, In_ok-others}

@@ -1,5 +1,5 @@
 use Rattle.cq_form.proofs.Rows.{row_of, joined_is, common_told, common_accepted}
-use Rattle.cq_row.proofs.OneMore.{if_both, on_ok}
+use Rattle.cq_frac.proofs.OneMore.{if_both, on_ok}
 use Rattle.cq_form.proofs.entries.joined.Goals as goal
 
 pub joined-requires-clause-row : goal.joined-requires-clause-row

@@ -1,5 +1,5 @@
 use Rattle.std.proofs.Common.{◌∙◌, ap}
-use Rattle.cq_row.proofs.OneMore.{if_ok}
+use Rattle.cq_frac.proofs.OneMore.{if_ok}
 use Rattle.cq_form.specs.Entries.{products_of}
 use Rattle.cq_form.proofs.Rows.{others_are}
 use Rattle.cq_form.proofs.entries.others.Goals as goal

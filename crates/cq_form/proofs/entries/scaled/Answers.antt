@@ -1,6 +1,6 @@
 use Rattle.std.proofs.Common.{◌∙◌, inl, inr, ap, sym}
-use Rattle.cq_row.specs.Rows.{everywhere}
-use Rattle.cq_row.proofs.OneMore.{if_both, on_ok}
+use Rattle.cq_frac.specs.Rows.{everywhere}
+use Rattle.cq_frac.proofs.OneMore.{if_both, on_ok}
 use Rattle.cq_form.specs.Entries.{products_of}
 use Rattle.cq_form.proofs.Forms.{nothing_left, zero_accepted}
 use Rattle.cq_form.proofs.Rows.{row_of, multiple_is, multiple_told, multiple_accepted}

@@ -1,7 +1,7 @@
 use Rattle.std.proofs.Common.{arith, refl}
 use Rattle.std.proofs.lemmas.Int.{ints}
-use Rattle.spec_rational.specs.Gcd.{gcd}
-use Rattle.spec_rational.specs.Rational.{int_ℚ}
+use Rattle.spec_numbers.specs.Gcd.{gcd}
+use Rattle.spec_numbers.specs.Rational.{int_ℚ}
 use Rattle.cq_frac.proofs.Frac.one.Goals as goal
 
 pub invariant_of-result : goal.invariant_of-result

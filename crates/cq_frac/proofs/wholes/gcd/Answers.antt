@@ -1,6 +1,6 @@
 use Rattle.std.proofs.Common.{◌∙◌, sym, ap, inl, inr}
-use Rattle.spec_rational.specs.Gcd.{gcd as gcd_of}
-use Rattle.spec_rational.proofs.Gcd.{gcd-zero, gcd_comm, gcd-mod}
+use Rattle.spec_numbers.specs.Gcd.{gcd as gcd_of}
+use Rattle.spec_numbers.proofs.Gcd.{gcd-zero, gcd_comm, gcd-mod}
 use Rattle.cq_frac.proofs.Halves.{gcd-one}
 use Rattle.cq_frac.proofs.wholes.gcd.Goals as goal
 

@@ -1,6 +1,6 @@
 use Rattle.std.proofs.Common.{◌∙◌, sym, ap₂, inl, inr, ◌*◌, ◌^◌}
 use Rattle.std.specs.Int.{w64}
-use Rattle.spec_rational.proofs.Gcd.{gcd-zero, gcd_comm}
+use Rattle.spec_numbers.proofs.Gcd.{gcd-zero, gcd_comm}
 use Rattle.cq_frac.proofs.Halves.{gcd-one, gcd-halved, gcd_fits, shifted}
 use Rattle.cq_frac.proofs.wholes.gcd_64.Goals as goal
 

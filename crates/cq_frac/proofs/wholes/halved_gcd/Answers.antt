@@ -1,6 +1,6 @@
 use Rattle.std.proofs.Common.{◌∙◌, sym, ap₂, arith, ◌*◌, ◌^◌}
 use Rattle.std.specs.Int.{w128}
-use Rattle.spec_rational.proofs.Gcd.{gcd-zero}
+use Rattle.spec_numbers.proofs.Gcd.{gcd-zero}
 use Rattle.cq_frac.proofs.Halves.{gcd-halved, gcd_fits, shifted}
 use Rattle.cq_frac.proofs.wholes.halved_gcd.Goals as goal
 

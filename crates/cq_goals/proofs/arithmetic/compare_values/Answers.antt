@@ -1,5 +1,5 @@
 use Rattle.std.proofs.Common.{ap, ◌∙◌}
-use Rattle.spec_arithmetic.specs.Arithmetic.{evaluate}
+use Rattle.spec_terms.specs.Arithmetic.{evaluate}
 use Rattle.spec_builtins.specs.Alternatives.{allows}
 use Rattle.cq_term.specs.Trees.{tree}
 use Rattle.cq_builtin.specs.Rows.{comparison_of}

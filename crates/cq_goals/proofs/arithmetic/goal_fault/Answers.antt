@@ -1,5 +1,5 @@
 use Rattle.std.proofs.Common.{length, subst}
-use Rattle.cq_arith.specs.Faults.{IsNamedBelow}
+use Rattle.cq_goals.specs.ArithFaults.{IsNamedBelow}
 use Rattle.cq_goals.proofs.arithmetic.goal_fault.Goals as goal
 
 pub returns-in-Error-clause-culprit : goal.returns-in-Error-clause-culprit

@@ -1,5 +1,5 @@
 use Rattle.spec_terms.specs.Term.{Number}
-use Rattle.spec_arithmetic.specs.Arithmetic.{evaluate}
+use Rattle.spec_terms.specs.Arithmetic.{evaluate}
 use Rattle.cq_term.specs.Trees.{tree}
 use Rattle.cq_built.proofs.Trees.{tree_last}
 use Rattle.cq_goals.proofs.arithmetic.is_value.Goals as goal

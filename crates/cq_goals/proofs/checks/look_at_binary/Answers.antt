@@ -1,14 +1,14 @@
 use Rattle.std.proofs.Common.{◌≡◌, ◌<◌, ◌∙◌, true, false, is_some, length, sym, subst, ap, arith}
 use Rattle.spec_terms.specs.Term.{Compound, one, more, size}
-use Rattle.spec_told.specs.Checks.{expression_error}
-use Rattle.spec_told.specs.Expressions.{binary_name}
-use Rattle.cq_atoms.specs.Texts.{text_of}
+use Rattle.spec_branch.specs.Checks.{expression_error}
+use Rattle.spec_branch.specs.Expressions.{binary_name}
+use Rattle.cq_term.specs.Texts.{text_of}
 use Rattle.cq_term.specs.Meaning.{at}
 use Rattle.cq_term.specs.Shown.{arguments}
 use Rattle.cq_term.specs.Trees.{tree}
 use Rattle.cq_term.proofs.Arguments.{both_arguments}
-use Rattle.cq_arith.proofs.Steps.{has_two, two_arguments}
-use Rattle.cq_sides.specs.Faults.{IsFound}
+use Rattle.cq_goals.proofs.Steps.{has_two, two_arguments}
+use Rattle.cq_built.specs.Faults.{IsFound}
 use Rattle.cq_goals.specs.declared.checks.Part.TheVariants as part
 use Rattle.cq_goals.proofs.Heads.{not_two, two_expression}
 use Rattle.cq_goals.proofs.Checking.{goes_to_both}

@@ -1,9 +1,9 @@
 use Rattle.std.proofs.Common.{◌∙◌, sym, subst}
-use Rattle.spec_told.specs.Checks.{expression_error}
-use Rattle.cq_atoms.specs.Texts.{text_of}
+use Rattle.spec_branch.specs.Checks.{expression_error}
+use Rattle.cq_term.specs.Texts.{text_of}
 use Rattle.cq_term.specs.Meaning.{at}
 use Rattle.cq_term.specs.Trees.{tree}
-use Rattle.cq_sides.specs.Faults.{IsFound}
+use Rattle.cq_built.specs.Faults.{IsFound}
 use Rattle.cq_goals.proofs.Heads.{many_expression}
 use Rattle.cq_goals.proofs.checks.look_at_expression.Goals as goal
 

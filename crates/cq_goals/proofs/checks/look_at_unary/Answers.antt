@@ -1,12 +1,12 @@
 use Rattle.std.proofs.Common.{◌≡◌, ◌∙◌, is_some, sym, subst, ap, arith}
 use Rattle.spec_terms.specs.Term.{Compound, one, size}
-use Rattle.spec_told.specs.Checks.{expression_error}
-use Rattle.spec_told.specs.Expressions.{unary_name}
-use Rattle.cq_atoms.specs.Texts.{text_of}
+use Rattle.spec_branch.specs.Checks.{expression_error}
+use Rattle.spec_branch.specs.Expressions.{unary_name}
+use Rattle.cq_term.specs.Texts.{text_of}
 use Rattle.cq_term.specs.Meaning.{at}
 use Rattle.cq_term.specs.Trees.{tree}
-use Rattle.cq_arith.proofs.Steps.{only_argument, has_one, one_argument}
-use Rattle.cq_sides.specs.Faults.{IsFound}
+use Rattle.cq_goals.proofs.Steps.{only_argument, has_one, one_argument}
+use Rattle.cq_built.specs.Faults.{IsFound}
 use Rattle.cq_goals.specs.declared.checks.Part.TheVariants as part
 use Rattle.cq_goals.proofs.Heads.{not_one, one_expression}
 use Rattle.cq_goals.proofs.Checking.{goes_to}

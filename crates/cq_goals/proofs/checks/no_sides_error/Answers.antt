@@ -1,5 +1,5 @@
 use Rattle.std.proofs.Common.{◌∙◌, sym}
-use Rattle.cq_atoms.specs.Texts.{text_of}
+use Rattle.cq_term.specs.Texts.{text_of}
 use Rattle.cq_term.specs.Meaning.{at}
 use Rattle.cq_goals.proofs.Heads.{unbound_constraint, no_constraint}
 use Rattle.cq_goals.proofs.checks.no_sides_error.Goals as goal

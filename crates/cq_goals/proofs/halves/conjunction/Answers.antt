@@ -1,5 +1,5 @@
 use Rattle.std.proofs.Common.{[], ◌∷◌, map, refl}
-use Rattle.spec_lists.proofs.Prefixes.{prefix_same}
+use Rattle.spec_numbers.proofs.Prefixes.{prefix_same}
 use Rattle.spec_terms.specs.Term.{with_arguments}
 use Rattle.cq_term.specs.Meaning.{at}
 use Rattle.cq_built.proofs.Growing.{grows_names, grows_term}

@@ -1,8 +1,8 @@
 use Rattle.std.proofs.Common.{arith}
-use Rattle.spec_told.specs.Checks.{halves}
+use Rattle.spec_branch.specs.Checks.{halves}
 use Rattle.cq_term.specs.Meaning.{at}
 use Rattle.cq_term.specs.Trees.{tree}
-use Rattle.cq_sides.proofs.Heads.{size_positive, side_name_known}
+use Rattle.cq_built.proofs.Heads.{size_positive, side_name_known}
 use Rattle.cq_goals.proofs.Splitting.{left_next, left_less, searched, work_now}
 use Rattle.cq_goals.proofs.halves.first_disjunction.Goals as goal
 

@@ -1,4 +1,4 @@
-use Rattle.spec_told.specs.Checks.{halves}
+use Rattle.spec_branch.specs.Checks.{halves}
 use Rattle.cq_term.specs.Trees.{tree}
 use Rattle.cq_goals.specs.Splitting.{IsNext, next_work}
 use Rattle.cq_goals.proofs.halves.first_disjunction.Given as goal

@@ -1,6 +1,6 @@
 use Rattle.std.proofs.Common.{◌≡◌, ◌≤◌, List, None, length}
 use Rattle.std.specs.Prelude.{All}
-use Rattle.spec_lists.specs.Texts.{Text}
+use Rattle.spec_numbers.specs.Texts.{Text}
 use Rattle.cq_term.specs.Meaning.{HeapTerm}
 use Rattle.cq_goals.specs.Splitting.{all_resumed, IsLiveFrame, all_work}
 use Rattle.cq_goals.proofs.halves.next_side.Given as goal

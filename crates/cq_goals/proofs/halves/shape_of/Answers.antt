@@ -1,10 +1,10 @@
 use Rattle.std.proofs.Common.{◌≡◌, ◌∙◌, true, false, codes, refl, sym, ap}
 use Rattle.std.specs.Prelude.{bytes_eq}
-use Rattle.spec_told.specs.Checks.{halves, is_conjunction, is_disjunction}
-use Rattle.cq_atoms.specs.Texts.{text_of}
+use Rattle.spec_branch.specs.Checks.{halves, is_conjunction, is_disjunction}
+use Rattle.cq_term.specs.Texts.{text_of}
 use Rattle.cq_term.specs.Meaning.{at}
 use Rattle.cq_term.specs.Trees.{tree}
-use Rattle.cq_sides.proofs.Heads.{side_name_known, tree_of_sides}
+use Rattle.cq_built.proofs.Heads.{side_name_known, tree_of_sides}
 use Rattle.cq_goals.proofs.Heads.{halves_of_disjunction, halves_of_conjunction, no_halves, halves_of_other}
 use Rattle.cq_goals.proofs.halves.shape_of.Goals as goal
 

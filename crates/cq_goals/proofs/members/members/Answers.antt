@@ -1,7 +1,7 @@
 use Rattle.std.proofs.Common.{arith}
-use Rattle.spec_told.specs.Checks.{members}
+use Rattle.spec_branch.specs.Checks.{members}
 use Rattle.cq_term.specs.Trees.{tree}
-use Rattle.cq_sides.proofs.Splitting.{taken_apart_starts, part_live, takes, takes_less, all_found}
+use Rattle.cq_built.proofs.Splitting.{taken_apart_starts, part_live, takes, takes_less, all_found}
 use Rattle.cq_goals.proofs.members.members.Goals as goal
 
 pub loop-id-init : goal.loop-id-init

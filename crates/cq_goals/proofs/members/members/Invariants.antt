@@ -1,6 +1,6 @@
-use Rattle.spec_told.specs.Checks.{members}
+use Rattle.spec_branch.specs.Checks.{members}
 use Rattle.cq_term.specs.Trees.{tree}
-use Rattle.cq_sides.specs.Splitting.{waiting_size, IsTakenApart}
+use Rattle.cq_built.specs.Splitting.{waiting_size, IsTakenApart}
 use Rattle.cq_goals.proofs.members.members.Given as goal
 
 abbrev pub invariant-loop-id : goal.invariant-loop-id

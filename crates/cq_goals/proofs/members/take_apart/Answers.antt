@@ -1,9 +1,9 @@
 use Rattle.std.proofs.Common.{◌∷◌, ◌++◌, [], ◌∙◌, ap, refl}
-use Rattle.spec_told.specs.Checks.{members}
-use Rattle.cq_atoms.specs.Texts.{text_of}
+use Rattle.spec_branch.specs.Checks.{members}
+use Rattle.cq_term.specs.Texts.{text_of}
 use Rattle.cq_term.specs.Trees.{tree}
-use Rattle.cq_sides.proofs.Heads.{tree_of_sides}
-use Rattle.cq_sides.proofs.Splitting.{sides_wait, part_found}
+use Rattle.cq_built.proofs.Heads.{tree_of_sides}
+use Rattle.cq_built.proofs.Splitting.{sides_wait, part_found}
 use Rattle.cq_goals.proofs.Heads.{members_of_conjunction}
 use Rattle.cq_goals.proofs.members.take_apart.Goals as goal
 

@@ -1,6 +1,6 @@
 use Rattle.std.proofs.Common.{◌∙◌, ap}
 use Rattle.std.specs.Option.{option_map}
-use Rattle.spec_told.specs.Checks.{members}
+use Rattle.spec_branch.specs.Checks.{members}
 use Rattle.cq_built.proofs.Trees.{kept}
 use Rattle.cq_goals.specs.Splitting.{halves_at}
 use Rattle.cq_goals.proofs.tellings.members_or_halves.Goals as goal

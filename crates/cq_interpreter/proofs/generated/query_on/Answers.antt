@@ -1,12 +1,12 @@
 use Rattle.std.proofs.Common.{◌≡◌, ◌∙◌, ◌+◌, length, suc, refl, ap, arith}
-use Rattle.spec_lists.proofs.Prefixes.{prefix_same}
-use Rattle.spec_operators.specs.Operators.{Ops}
-use Rattle.cq_atoms.specs.Texts.{KeepsTexts}
+use Rattle.spec_numbers.proofs.Prefixes.{prefix_same}
+use Rattle.spec_syntax.specs.Operators.{Ops}
+use Rattle.cq_term.specs.Texts.{KeepsTexts}
 use Rattle.cq_built.proofs.Trees.{name_known}
-use Rattle.cq_program.specs.Database.{as_database}
+use Rattle.cq_resolve.specs.Database.{as_database}
 use Rattle.cq_write.specs.Meaning.{operators}
 use Rattle.cq_machine.proofs.Interned.{names_kept, texts_kept}
-use Rattle.cq_generated.proofs.Grown.{still_unbound}
+use Rattle.cq_interpreter.proofs.Grown.{still_unbound}
 use Rattle.cq_interpreter.specs.Variables.{AreUnbound}
 use Rattle.cq_interpreter.proofs.Asking.{always, idle_on, kept_on}
 use Rattle.cq_interpreter.proofs.Restoring.{marks, longer_by, unbound_more}

@@ -1,12 +1,12 @@
 use Rattle.std.proofs.Common.{◌≡◌, ◌<◌, ◌∙◌, ℕ, length, sym, ap, ap₂, subst}
-use Rattle.spec_lists.proofs.Prefixes.{prefix_get_or}
+use Rattle.spec_numbers.proofs.Prefixes.{prefix_get_or}
 use Rattle.spec_terms.specs.Term.{Occurs, with_arguments}
 use Rattle.spec_terms.specs.Variables.{variables, renamed_from}
 use Rattle.cq_built.proofs.Trees.{known_at}
 use Rattle.cq_term.specs.Meaning.{HeapTerm, at, blank}
 use Rattle.cq_term.specs.Names.{HasNamesBelow}
 use Rattle.cq_unify.specs.Copied.{unbound_from}
-use Rattle.cq_stored.specs.StoredValue.{both}
+use Rattle.cq_resolve.specs.StoredValue.{both}
 use Rattle.cq_interpreter.proofs.Keeping.{kept_goal, counted_all}
 use Rattle.cq_interpreter.proofs.Restoring.{names_over_variables}
 use Rattle.cq_interpreter.proofs.goals.kept.Goals as goal

@@ -2,7 +2,7 @@ use Rattle.std.proofs.Common.{◌≡◌, ◌∙◌, length, map, ap, arith}
 use Rattle.spec_terms.specs.Term.{with_arguments}
 use Rattle.cq_term.specs.Meaning.{at}
 use Rattle.cq_unify.specs.Copied.{unbound_from}
-use Rattle.cq_stored.proofs.Built.{last_at}
+use Rattle.cq_resolve.proofs.Built.{last_at}
 use Rattle.cq_interpreter.proofs.Restoring.{the_variables}
 use Rattle.cq_interpreter.proofs.goals.over_variables.Goals as goal
 use Rattle.cq_interpreter.proofs.goals.over_variables.Goals.{In_ok-ids}

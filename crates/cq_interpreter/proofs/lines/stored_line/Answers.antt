@@ -3,8 +3,8 @@ use Rattle.std.specs.Prelude.{IfOk}
 use Rattle.spec_terms.specs.Term.{Subst, Var, apply, named}
 use Rattle.spec_terms.proofs.Substitution.{apply-identity}
 use Rattle.spec_transcript.specs.Purposes.{ball_line}
-use Rattle.cq_atoms.specs.Texts.{text_of}
-use Rattle.cq_stored.specs.Building.{moved_by}
+use Rattle.cq_term.specs.Texts.{text_of}
+use Rattle.cq_resolve.specs.Building.{moved_by}
 use Rattle.cq_term.specs.Meaning.{HeapTerm, at}
 use Rattle.cq_term.specs.Names.{HasNamesBelow}
 use Rattle.cq_write.specs.Meaning.{operators}

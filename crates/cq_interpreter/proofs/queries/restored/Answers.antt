@@ -1,12 +1,12 @@
 use Rattle.std.proofs.Common.{List, sym, ap, ◌∙◌, subst, length}
 use Rattle.spec_terms.proofs.Substitution.{named-apply}
-use Rattle.spec_machine.specs.Cells.{Value}
-use Rattle.cq_atoms.specs.Texts.{text_of}
+use Rattle.spec_engine.specs.Cells.{Value}
+use Rattle.cq_term.specs.Texts.{text_of}
 use Rattle.cq_control.specs.Open.{AreMarked}
 use Rattle.spec_terms.specs.Term.{named}
-use Rattle.cq_stored.specs.Building.{moved_by}
-use Rattle.cq_world.specs.Contents.{Contents}
-use Rattle.cq_steps.specs.Choices.{AreOpen}
+use Rattle.cq_resolve.specs.Building.{moved_by}
+use Rattle.cq_settle.specs.Contents.{Contents}
+use Rattle.cq_branch.specs.Choices.{AreOpen}
 use Rattle.cq_interpreter.proofs.Restoring.{marks, longer_by, unbound_more}
 use Rattle.cq_interpreter.proofs.queries.restored.Goals as goal
 

@@ -1,10 +1,10 @@
 use Rattle.std.proofs.Common.{sym, ap, ◌∙◌, subst}
-use Rattle.spec_operators.specs.Operators.{Ops}
-use Rattle.cq_atoms.specs.Texts.{KeepsTexts}
-use Rattle.cq_program.specs.Database.{as_database}
+use Rattle.spec_syntax.specs.Operators.{Ops}
+use Rattle.cq_term.specs.Texts.{KeepsTexts}
+use Rattle.cq_resolve.specs.Database.{as_database}
 use Rattle.cq_write.specs.Meaning.{operators}
 use Rattle.cq_built.proofs.Growing.{longer_by_text}
-use Rattle.cq_events.specs.Seeking.{held_on}
+use Rattle.cq_engine.specs.Seeking.{held_on}
 use Rattle.cq_machine.proofs.Interned.{names_kept}
 use Rattle.cq_interpreter.proofs.toplevel.intern.Goals as goal
 

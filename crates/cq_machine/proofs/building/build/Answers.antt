@@ -1,7 +1,7 @@
 use Rattle.std.proofs.Common.{refl, sym, ap, subst}
 use Rattle.std.specs.List.{zip}
-use Rattle.cq_steps.specs.Worlds.{Grown}
-use Rattle.cq_steps.proofs.Grown.{grown}
+use Rattle.cq_branch.specs.Worlds.{Grown}
+use Rattle.cq_branch.proofs.Grown.{grown}
 use Rattle.cq_machine.specs.Machines.{now}
 use Rattle.cq_machine.proofs.Built.{lists_same, stands_on}
 use Rattle.cq_machine.proofs.building.build.Goals as goal

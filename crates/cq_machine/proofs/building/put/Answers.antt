@@ -1,9 +1,9 @@
 use Rattle.std.proofs.Common.{◌∷◌, Some, ap, ◌∙◌, sym}
-use Rattle.spec_built.specs.Kinds.{is_callable}
+use Rattle.spec_builtins.specs.Kinds.{is_callable}
 use Rattle.cq_control.specs.Items.{items_at}
-use Rattle.spec_machine.specs.declared.cell.Cell.TheVariants.{Goal}
-use Rattle.cq_steps.specs.Worlds.{saved_values}
-use Rattle.cq_steps.proofs.Added.{reads_tree}
+use Rattle.spec_engine.specs.declared.machine.cell.Cell.TheVariants.{Goal}
+use Rattle.cq_branch.specs.Worlds.{saved_values}
+use Rattle.cq_branch.proofs.Added.{reads_tree}
 use Rattle.cq_machine.specs.Machines.{now, saved, holds}
 use Rattle.cq_machine.proofs.Built.{put_leads, last_cells}
 use Rattle.cq_machine.proofs.Kept.{leads_over}

@@ -1,4 +1,4 @@
-use Rattle.cq_steps.proofs.Arguments.{argument_reads}
+use Rattle.cq_branch.proofs.Arguments.{argument_reads}
 use Rattle.cq_machine.specs.Machines.{now}
 use Rattle.cq_machine.proofs.catching.catch.Goals as goal
 

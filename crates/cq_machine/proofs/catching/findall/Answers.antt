@@ -4,10 +4,10 @@ use Rattle.spec_search.specs.Control.{findall_row}
 use Rattle.spec_search.specs.Replies.{Raises}
 use Rattle.spec_search.specs.Rows.{nth}
 use Rattle.cq_built.specs.Errors.{error_tree}
-use Rattle.cq_steps.proofs.Arguments.{argument_reads}
-use Rattle.cq_steps.specs.Calls.{IsRaised}
-use Rattle.cq_steps.specs.Worlds.{Grown}
-use Rattle.cq_world.specs.Contents.{Contents}
+use Rattle.cq_branch.proofs.Arguments.{argument_reads}
+use Rattle.cq_branch.specs.Calls.{IsRaised}
+use Rattle.cq_branch.specs.Worlds.{Grown}
+use Rattle.cq_settle.specs.Contents.{Contents}
 use Rattle.cq_machine.specs.Machines.{terms, now}
 use Rattle.cq_machine.proofs.Built.{stands_still}
 use Rattle.cq_machine.proofs.catching.findall.Goals as goal

@@ -3,7 +3,7 @@ use Rattle.spec_syntax.specs.Trees.{Tree}
 use Rattle.spec_branch.specs.Branch.{read}
 use Rattle.spec_search.specs.Control.{throw_row}
 use Rattle.cq_term.specs.Trees.{tree}
-use Rattle.cq_steps.proofs.Arguments.{argument_reads}
+use Rattle.cq_branch.proofs.Arguments.{argument_reads}
 use Rattle.cq_machine.specs.Machines.{terms, now}
 use Rattle.cq_machine.proofs.Kept.{argument_is}
 use Rattle.cq_machine.proofs.Thrown.{throws_variable, throws_other}

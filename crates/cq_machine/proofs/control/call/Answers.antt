@@ -2,13 +2,13 @@ use Rattle.std.proofs.Common.{◌≡◌, [], Some, refl, sym, ap, subst, ◌∙�
 use Rattle.spec_builtins.specs.Terms as builtins
 use Rattle.spec_search.specs.Control.{call_row}
 use Rattle.spec_search.specs.Rows.{nth}
-use Rattle.cq_steps.specs.Calls.{IsRaised}
+use Rattle.cq_branch.specs.Calls.{IsRaised}
 use Rattle.spec_search.specs.Replies.{Raises}
 use Rattle.cq_built.specs.Errors.{error_tree}
-use Rattle.cq_world.specs.Contents.{Contents}
-use Rattle.cq_steps.specs.Worlds.{Grown}
-use Rattle.cq_steps.proofs.Arguments.{argument_reads}
-use Rattle.cq_steps.proofs.Done.{length-stack}
+use Rattle.cq_settle.specs.Contents.{Contents}
+use Rattle.cq_branch.specs.Worlds.{Grown}
+use Rattle.cq_branch.proofs.Arguments.{argument_reads}
+use Rattle.cq_branch.proofs.Done.{length-stack}
 use Rattle.cq_machine.specs.Machines.{terms, now, saved, holds}
 use Rattle.cq_machine.proofs.Built.{stands_still}
 use Rattle.cq_machine.proofs.Kept.{leads_over}

@@ -1,5 +1,5 @@
 use Rattle.std.proofs.Common.{Some}
-use Rattle.cq_steps.proofs.Arguments.{argument_reads}
+use Rattle.cq_branch.proofs.Arguments.{argument_reads}
 use Rattle.cq_machine.specs.Machines.{now, saved, holds}
 use Rattle.cq_machine.proofs.Kept.{leads_over}
 use Rattle.cq_machine.proofs.control.conjunction.Goals as goal

@@ -1,6 +1,6 @@
 use Rattle.std.proofs.Common.{Some}
-use Rattle.cq_steps.proofs.Arguments.{argument_reads}
-use Rattle.cq_steps.proofs.Done.{length-stack}
+use Rattle.cq_branch.proofs.Arguments.{argument_reads}
+use Rattle.cq_branch.proofs.Done.{length-stack}
 use Rattle.cq_machine.specs.Machines.{now, saved, holds}
 use Rattle.cq_machine.proofs.Kept.{leads_over}
 use Rattle.cq_machine.proofs.control.if_then.Goals as goal

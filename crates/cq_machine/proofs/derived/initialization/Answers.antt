@@ -1,12 +1,12 @@
 use Rattle.std.proofs.Common.{◌≡◌, [], ◌∷◌, codes, ap, ◌∙◌}
-use Rattle.spec_built.specs.Built.{compound1}
+use Rattle.spec_builtins.specs.Built.{compound1}
 use Rattle.spec_builtins.specs.Terms as builtins
 use Rattle.spec_search.specs.Rows.{nth}
 use Rattle.spec_syntax.specs.Trees.{Tree}
 use Rattle.spec_terms.specs.Term.{Compound, one, more, with_arguments}
 use Rattle.cq_attr.proofs.Elements.{on_err}
 use Rattle.cq_term.specs.Trees.{tree}
-use Rattle.cq_steps.proofs.Arguments.{argument_reads}
+use Rattle.cq_branch.proofs.Arguments.{argument_reads}
 use Rattle.cq_machine.specs.Machines.{terms, now}
 use Rattle.cq_machine.proofs.Built.{selected_on, stands_then}
 use Rattle.cq_machine.proofs.Kept.{argument_is}

@@ -1,15 +1,15 @@
 use Rattle.std.proofs.Common.{◌≡◌, ◌<◌, Some, List, [], ◌∷◌, length, codes, sym, ap, ap₂, ◌∙◌, subst}
 use Rattle.std.specs.Prelude.{slice_get}
 use Rattle.std.proofs.lemmas.Option.{slice_get_within}
-use Rattle.spec_built.specs.Built.{compound1, compound2}
+use Rattle.spec_builtins.specs.Built.{compound1, compound2}
 use Rattle.spec_builtins.specs.Terms as builtins
-use Rattle.spec_lists.specs.Texts.{Text}
+use Rattle.spec_numbers.specs.Texts.{Text}
 use Rattle.spec_search.specs.Rows.{nth}
 use Rattle.spec_syntax.specs.Trees.{Tree}
 use Rattle.spec_terms.specs.Term.{Compound, one, more, with_arguments}
 use Rattle.cq_attr.proofs.Elements.{on_err}
 use Rattle.cq_term.specs.Trees.{tree}
-use Rattle.cq_steps.proofs.Arguments.{argument_reads}
+use Rattle.cq_branch.proofs.Arguments.{argument_reads}
 use Rattle.cq_machine.specs.Machines.{terms, now}
 use Rattle.cq_machine.proofs.Built.{selected_on, stands_then}
 use Rattle.cq_machine.proofs.Kept.{argument_is}

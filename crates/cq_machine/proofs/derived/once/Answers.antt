@@ -4,12 +4,12 @@ use Rattle.spec_search.specs.Rows.{nth}
 use Rattle.spec_terms.specs.Term.{more}
 use Rattle.cq_attr.proofs.Elements.{on_err}
 use Rattle.cq_term.specs.Trees.{tree}
-use Rattle.cq_steps.proofs.Arguments.{argument_reads}
+use Rattle.cq_branch.proofs.Arguments.{argument_reads}
 use Rattle.cq_machine.specs.Machines.{terms, now, holds}
 use Rattle.cq_machine.proofs.Built.{selected_on, reads_on}
-use Rattle.spec_built.specs.Built.{atom}
-use Rattle.cq_steps.proofs.Done.{length-stack}
-use Rattle.cq_steps.proofs.Reading.{read_live, tree_read}
+use Rattle.spec_builtins.specs.Built.{atom}
+use Rattle.cq_branch.proofs.Done.{length-stack}
+use Rattle.cq_branch.proofs.Reading.{read_live, tree_read}
 use Rattle.cq_machine.specs.Machines.{saved}
 use Rattle.cq_machine.proofs.Kept.{leads_over}
 use Rattle.cq_machine.proofs.derived.once.Goals as goal

@@ -2,7 +2,7 @@ use Rattle.std.proofs.Common.{◌≡◌}
 use Rattle.spec_search.specs.Changes.{op_row}
 use Rattle.spec_search.specs.Replies.{changes}
 use Rattle.cq_write.specs.Meaning.{operators}
-use Rattle.cq_steps.specs.Calls.{IsRaised}
+use Rattle.cq_branch.specs.Calls.{IsRaised}
 use Rattle.cq_term.specs.Trees.{tree}
 use Rattle.cq_machine.specs.Machines.{terms, now, database_of}
 use Rattle.cq_machine.proofs.Kept.{argument_is}

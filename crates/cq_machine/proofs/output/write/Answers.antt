@@ -4,7 +4,7 @@ use Rattle.spec_search.specs.Database.{Database}
 use Rattle.spec_search.specs.Replies.{outputs}
 use Rattle.spec_search.specs.Rows.{nth}
 use Rattle.spec_syntax.specs.Trees.{Tree}
-use Rattle.spec_writing.specs.Written.{text_within}
+use Rattle.spec_text.specs.Written.{text_within}
 use Rattle.cq_write.specs.Meaning.{operators}
 use Rattle.cq_machine.specs.Machines.{now}
 use Rattle.cq_machine.proofs.Kept.{argument_is}

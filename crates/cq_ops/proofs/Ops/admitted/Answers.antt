@@ -2,8 +2,8 @@ use Rattle.std.proofs.Common.{◌≡◌, Some, true, false, ap, ◌∙◌}
 use Rattle.std.specs.Int.{w128}
 use Rattle.std.proofs.lemmas.Int.{to_z-of_z}
 use Rattle.std.specs.Prelude.{bytes_eq, codes}
-use Rattle.cq_atoms.specs.Texts.{text_of}
-use Rattle.spec_operators.specs.Operators.{in_range}
+use Rattle.cq_term.specs.Texts.{text_of}
+use Rattle.spec_syntax.specs.Operators.{in_range}
 use Rattle.cq_ops.proofs.Named.{clash, set_clash}
 use Rattle.cq_ops.proofs.Ops.admitted.Goals as goal
 

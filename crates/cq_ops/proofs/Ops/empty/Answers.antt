@@ -1,5 +1,5 @@
 use Rattle.std.proofs.Common.{length, sym, subst, ap, ◌∙◌}
-use Rattle.spec_operators.specs.Operators.{Prefix, Infix, Postfix}
+use Rattle.spec_syntax.specs.Operators.{Prefix, Infix, Postfix}
 use Rattle.cq_ops.specs.Tables.{AllFit, AllBelow, named}
 use Rattle.cq_ops.proofs.Named.{none, none_below, named-empty}
 use Rattle.cq_ops.proofs.Ops.empty.Goals as goal

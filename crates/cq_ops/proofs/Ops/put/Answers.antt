@@ -1,5 +1,5 @@
 use Rattle.std.proofs.Common.{ap, inl, inr}
-use Rattle.spec_operators.specs.Operators.{Prefix, Infix, Postfix, position_of}
+use Rattle.spec_syntax.specs.Operators.{Prefix, Infix, Postfix, position_of}
 use Rattle.cq_ops.proofs.Named.{fit-set, made_fits}
 use Rattle.cq_ops.proofs.Ops.put.Goals as goal
 

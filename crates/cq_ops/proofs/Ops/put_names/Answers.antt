@@ -1,6 +1,6 @@
 use Rattle.std.proofs.Common.{[], subst, sym, ◌∙◌, get_or}
-use Rattle.cq_atoms.specs.Texts.{KeepsTexts}
-use Rattle.cq_atoms.proofs.Places.{kept-with_text}
+use Rattle.cq_term.specs.Texts.{KeepsTexts}
+use Rattle.cq_term.proofs.AtomsPlaces.{kept-with_text}
 use Rattle.cq_ops.proofs.Named.{named-next, known-next, step}
 use Rattle.cq_ops.proofs.Ops.put_names.Goals as goal
 

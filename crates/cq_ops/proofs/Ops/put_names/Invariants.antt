@@ -1,6 +1,6 @@
 use Rattle.std.proofs.Common.{◌≡◌, map, drop}
-use Rattle.cq_atoms.specs.Texts.{KeepsTexts}
-use Rattle.spec_operators.specs.Standard.{put_names}
+use Rattle.cq_term.specs.Texts.{KeepsTexts}
+use Rattle.spec_syntax.specs.Standard.{put_names}
 use Rattle.cq_ops.specs.Tables.{AreNamed, named}
 use Rattle.cq_ops.proofs.Ops.put_names.Given as goal
 

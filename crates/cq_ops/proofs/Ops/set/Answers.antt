@@ -3,8 +3,8 @@ use Rattle.std.specs.Int.{w128}
 use Rattle.std.proofs.lemmas.Int.{to_z-of_z}
 use Rattle.cq_ops.specs.Faults.{IsAdmitted}
 use Rattle.spec_syntax.proofs.Tables.{set_table}
-use Rattle.cq_atoms.specs.Texts.{text_of}
-use Rattle.spec_operators.specs.Operators.{position_of, entry}
+use Rattle.cq_term.specs.Texts.{text_of}
+use Rattle.spec_syntax.specs.Operators.{position_of, entry}
 use Rattle.cq_ops.specs.Tables.{AreNamed, named}
 use Rattle.cq_ops.proofs.Named.{are_named-put_number}
 use Rattle.cq_ops.proofs.Admitted.{sets}

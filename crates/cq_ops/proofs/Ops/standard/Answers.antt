@@ -1,8 +1,8 @@
 use Rattle.std.proofs.Common.{◌≡◌, [], ◌∷◌, ap, ◌∙◌}
 use Rattle.std.specs.Prelude.{codes}
-use Rattle.spec_operators.specs.declared.OpKind.TheVariants.{Xfx, Xfy, Yfx, Fy, Fx}
-use Rattle.spec_operators.specs.Operators.{Ops}
-use Rattle.spec_operators.specs.Standard.{Row, row, put_names}
+use Rattle.spec_syntax.specs.declared.operators.OpKind.TheVariants.{Xfx, Xfy, Yfx, Fy, Fx}
+use Rattle.spec_syntax.specs.Operators.{Ops}
+use Rattle.spec_syntax.specs.Standard.{Row, row, put_names}
 use Rattle.cq_ops.proofs.Ops.standard.Goals as goal
 
 pub returns-in_err-put_names-4-clause-kept : goal.returns-in_err-put_names-4-clause-kept

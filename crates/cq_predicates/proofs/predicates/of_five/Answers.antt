@@ -1,6 +1,6 @@
 use Rattle.std.proofs.Common.{Bor, ℕ, List, refl}
 use Rattle.cq_predicates.specs.declared.predicates.Predicate.{Predicate}
-use Rattle.cq_predicates.proofs.Table.{found}
+use Rattle.cq_predicates.proofs.PredicatesLemmas.{found}
 use Rattle.cq_predicates.proofs.predicates.of_five.Goals as goal
 
 pub returns : goal.returns

@@ -1,13 +1,13 @@
 use Rattle.std.proofs.Common.{◌≡◌, ℕ, List, map, length, ◌∙◌, sym, subst, arith}
 use Rattle.cq_predicates.proofs.Givings.{nth_is, gives_none_new}
-use Rattle.spec_lists.specs.Texts.{Text}
+use Rattle.spec_numbers.specs.Texts.{Text}
 use Rattle.spec_builtins.specs.Texts.{Characters, Codes, atom_list_row, char_code_row, number_codes_row}
 use Rattle.spec_syntax.specs.Trees.{Tree}
 use Rattle.spec_search.specs.Rows.{nth}
-use Rattle.spec_predicates.specs.Calls.{solutions_of}
-use Rattle.cq_codes.specs.Rows.{conversion_of}
-use Rattle.cq_codes.specs.declared.conversions.Conversion.{Conversion}
-use Rattle.cq_codes.specs.declared.conversions.Conversion.TheVariants as conversion
+use Rattle.spec_search.specs.Calls.{solutions_of}
+use Rattle.cq_predicates.specs.CodesRows.{conversion_of}
+use Rattle.cq_predicates.specs.declared.codes.conversions.Conversion.{Conversion}
+use Rattle.cq_predicates.specs.declared.codes.conversions.Conversion.TheVariants as conversion
 use Rattle.cq_predicates.specs.Names.{as_conversion}
 use Rattle.cq_built.specs.Errors.{Explains}
 use Rattle.cq_term.specs.Meaning.{HeapTerm}

@@ -3,10 +3,10 @@ use Rattle.std.specs.Prelude.{All}
 use Rattle.std.proofs.lemmas.List.{take_all}
 use Rattle.std.proofs.lemmas.List.Elements.{All-more}
 use Rattle.spec_linear.specs.Solution.{Constraint}
-use Rattle.spec_limits.specs.Asked.{NoQuestion}
+use Rattle.spec_simplex.specs.Asked.{NoQuestion}
 use Rattle.spec_search.specs.Steps.{IsEntailed}
-use Rattle.cq_linear.proofs.Passed.{passed, store_spent}
-use Rattle.cq_linear.specs.StoreValue.{MayRefuse, MayTake, Only}
+use Rattle.cq_store.proofs.Passed.{passed, store_spent}
+use Rattle.cq_store.specs.StoreValue.{MayRefuse, MayTake, Only}
 use Rattle.cq_questions.specs.Members.{lin_of}
 use Rattle.cq_questions.specs.declared.members.Member.{Member}
 use Rattle.cq_questions.proofs.Listed.{asks_among}

@@ -1,15 +1,15 @@
 use Rattle.std.proofs.Common.{Err, List, ap, ◌∙◌, subst}
 use Rattle.std.specs.Prelude.{All, Any, MatchBool}
 use Rattle.spec_search.specs.Steps.{IsEntailed, IsBroken}
-use Rattle.spec_limits.specs.Asked.{NoQuestion}
+use Rattle.spec_simplex.specs.Asked.{NoQuestion}
 use Rattle.cq_frac.specs.declared.Refusal.{Refusal}
-use Rattle.cq_linear.specs.StoreValue.{MayRefuse, MayTake, Only}
-use Rattle.cq_linear.specs.declared.store.StoreFault.{StoreFault}
+use Rattle.cq_store.specs.StoreValue.{MayRefuse, MayTake, Only}
+use Rattle.cq_store.specs.declared.store.StoreFault.{StoreFault}
 use Rattle.cq_questions.specs.Members.{lin_of, AsksOne}
 use Rattle.cq_questions.specs.declared.members.Member.{Member}
 use Rattle.cq_term.specs.Trees.{trees}
 use Rattle.spec_search.specs.Replies.{IfEntailed}
-use Rattle.spec_stops.specs.Questions.{IsQuestionMoment}
+use Rattle.spec_transcript.specs.Questions.{IsQuestionMoment}
 use Rattle.cq_questions.proofs.Listed.{answer_of}
 use Rattle.cq_questions.proofs.Moments.{asked_due, member_refuses, refusal_due}
 use Rattle.cq_questions.proofs.entailment.entailed.Goals as goal

@@ -1,9 +1,9 @@
 use Rattle.std.proofs.Common.{Err, ap, ◌∙◌, sym}
 use Rattle.cq_frac.specs.declared.Refusal.{Refusal}
-use Rattle.cq_linear.specs.declared.store.StoreFault.{StoreFault}
+use Rattle.cq_store.specs.declared.store.StoreFault.{StoreFault}
 use Rattle.cq_term.specs.Trees.{tree}
 use Rattle.spec_search.specs.Replies.{WithExtent}
-use Rattle.spec_stops.specs.Questions.{IsQuestionMoment}
+use Rattle.spec_transcript.specs.Questions.{IsQuestionMoment}
 use Rattle.cq_questions.specs.Extents.{side_of}
 use Rattle.cq_questions.proofs.Moments.{expression_refuses, reach_due, refusal_due}
 use Rattle.cq_questions.proofs.extents.reach_of.Goals as goal

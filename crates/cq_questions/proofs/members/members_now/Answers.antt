@@ -1,8 +1,8 @@
 use Rattle.std.proofs.Common.{◌≡◌, map, Err, ◌<◌, ◌≤◌, ◌∙◌, ℕ, List, length, take, Some, ◌+◌, refl, sym, ap, subst, arith}
 use Rattle.std.proofs.lemmas.List.{take_all}
 use Rattle.spec_linear.specs.Solution.{Has}
-use Rattle.spec_told.specs.Relations.{lin}
-use Rattle.spec_stops.specs.Operands.{relation_operands}
+use Rattle.spec_branch.specs.Relations.{lin}
+use Rattle.spec_transcript.specs.Operands.{relation_operands}
 use Rattle.cq_cexpr.specs.Overflows.{ComesFrom}
 use Rattle.cq_term.specs.HeapValue.{Terms}
 use Rattle.cq_term.specs.Trees.{tree, trees, KnowsTerms}

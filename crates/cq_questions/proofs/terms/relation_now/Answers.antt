@@ -1,7 +1,7 @@
 use Rattle.std.proofs.Common.{◌≡◌, subst}
 use Rattle.std.specs.Prelude.{IfOk}
-use Rattle.spec_told.specs.Relations.{lin}
-use Rattle.spec_stops.specs.Operands.{relation_operands}
+use Rattle.spec_branch.specs.Relations.{lin}
+use Rattle.spec_transcript.specs.Operands.{relation_operands}
 use Rattle.cq_cexpr.specs.Found.{constraint_of}
 use Rattle.cq_cexpr.specs.Overflows.{ComesFrom}
 use Rattle.cq_term.specs.HeapValue.{Terms}

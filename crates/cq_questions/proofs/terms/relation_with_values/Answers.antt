@@ -1,9 +1,9 @@
 use Rattle.std.proofs.Common.{List, length, ap, subst, ◌∙◌}
-use Rattle.spec_limits.specs.Overflow.{Operands}
+use Rattle.spec_simplex.specs.Overflow.{Operands}
 use Rattle.spec_syntax.specs.Trees.{Tree}
-use Rattle.spec_told.specs.Relations.{lin}
+use Rattle.spec_branch.specs.Relations.{lin}
 use Rattle.spec_branch.specs.Alike.{no_values}
-use Rattle.spec_stops.specs.Operands.{relation_operands}
+use Rattle.spec_transcript.specs.Operands.{relation_operands}
 use Rattle.cq_cexpr.specs.Overflows.{ComesFrom}
 use Rattle.cq_term.specs.Meaning.{blank}
 use Rattle.cq_term.specs.Trees.{tree}

@@ -2,7 +2,7 @@ use Rattle.std.proofs.Common.{◌<◌, ◌≤◌, ◌∙◌, List, refl, sym, su
 use Rattle.std.specs.Prelude.{Contains}
 use Rattle.std.proofs.lemmas.List.{take_all}
 use Rattle.cq_frac.specs.declared.VarId.{VarId}
-use Rattle.cq_walk.specs.Places.{numbers_of}
+use Rattle.cq_term.specs.Places.{numbers_of}
 use Rattle.cq_questions.proofs.Binding.{valued_nothing, valued_then, free_more}
 use Rattle.cq_questions.proofs.values.bind_each.Goals as goal
 

@@ -2,7 +2,7 @@ use Rattle.std.proofs.Common.{◌≡◌, ◌≤◌, ℕ, take}
 use Rattle.std.specs.Prelude.{Contains}
 use Rattle.cq_term.specs.Meaning.{at}
 use Rattle.cq_term.specs.Names.{HasNamesBelow}
-use Rattle.cq_walk.specs.Places.{numbers_of}
+use Rattle.cq_term.specs.Places.{numbers_of}
 use Rattle.cq_questions.specs.Values.{IsValued, IsFree}
 use Rattle.cq_questions.proofs.values.bind_each.Given as goal
 

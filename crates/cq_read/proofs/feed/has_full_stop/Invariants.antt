@@ -1,5 +1,5 @@
 use Rattle.std.proofs.Common.{ℕ, ◌<◌, ◌≤◌, ◌-◌, length}
-use Rattle.spec_reading.specs.Decided.{IsFullStop}
+use Rattle.spec_text.specs.Decided.{IsFullStop}
 use Rattle.cq_read.proofs.feed.has_full_stop.Given as goal
 
 abbrev pub invariant-loop-at : goal.invariant-loop-at

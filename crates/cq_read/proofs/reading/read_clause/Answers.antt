@@ -3,7 +3,7 @@ use Rattle.cq_ops.specs.Tables.{named}
 use Rattle.cq_read.specs.Shown.{read_of}
 use Rattle.cq_read.proofs.Marked.{IsMarked, as_before}
 use Rattle.cq_read.proofs.Running.{stands_on, read_anywhere, leaves_not}
-use Rattle.cq_atoms.specs.Texts.{KeepsTexts}
+use Rattle.cq_term.specs.Texts.{KeepsTexts}
 use Rattle.cq_term.specs.Trees.{KnowsTerms}
 use Rattle.cq_read.proofs.Naming.{terms_known}
 use Rattle.cq_read.proofs.Feeding.{forward}

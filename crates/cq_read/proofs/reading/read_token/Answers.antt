@@ -1,11 +1,11 @@
 use Rattle.std.proofs.Common.{◌≡◌, ◌≢◌, ◌≤◌, Ok, sym, subst, ap, ◌∙◌, arith, length, nat_lt, true, false, refl}
 use Rattle.std.specs.Prelude.{IsTrue, IsFalse}
-use Rattle.spec_grammar.specs.declared.Kind.TheVariants as kind
-use Rattle.spec_grammar.specs.Tokens.{next_token}
-use Rattle.cq_lex.specs.Shown.{shown}
-use Rattle.cq_parse.specs.Known.{AreGrammarNames}
+use Rattle.spec_syntax.specs.declared.grammar.Kind.TheVariants as kind
+use Rattle.spec_syntax.specs.GrammarTokens.{next_token}
+use Rattle.cq_read.specs.LexShown.{shown}
+use Rattle.cq_read.specs.Known.{AreGrammarNames}
 use Rattle.cq_read.specs.Clauses.{Advances, IsLive}
-use Rattle.spec_reading.proofs.Onward.{next_there, fault_there}
+use Rattle.spec_text.proofs.Onward.{next_there, fault_there}
 use Rattle.cq_read.proofs.Seen.{is_token}
 use Rattle.cq_read.proofs.Running.{stops_at_fault, stops_at_end, stops_at_token, goes_on, grammar_kept, live_error, live_end}
 use Rattle.cq_read.proofs.reading.read_token.Goals as goal

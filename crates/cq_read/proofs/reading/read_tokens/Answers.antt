@@ -1,5 +1,5 @@
 use Rattle.std.proofs.Common.{subst, arith, length}
-use Rattle.cq_atoms.specs.Texts.{KeepsTexts}
+use Rattle.cq_term.specs.Texts.{KeepsTexts}
 use Rattle.cq_read.specs.Running.{Turned}
 use Rattle.cq_read.proofs.Growth.{grows_both}
 use Rattle.cq_read.proofs.Running.{grammar_kept, stopped}

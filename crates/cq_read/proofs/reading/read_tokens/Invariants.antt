@@ -1,6 +1,6 @@
 use Rattle.std.proofs.Common.{◌-◌, List, length}
-use Rattle.spec_lists.specs.Texts.{Text}
-use Rattle.cq_atoms.specs.Texts.{KeepsTexts, AreDifferent}
+use Rattle.spec_numbers.specs.Texts.{Text}
+use Rattle.cq_term.specs.Texts.{KeepsTexts, AreDifferent}
 use Rattle.cq_read.specs.Growth.{Grows}
 use Rattle.cq_read.specs.Clauses.{KeepsNames}
 use Rattle.cq_read.specs.Running.{IsRunning}

@@ -1,6 +1,6 @@
 use Rattle.std.proofs.Common.{Some, sym, ap, ◌∙◌, arith}
-use Rattle.spec_reading.proofs.Onward.{next_there, fault_there}
-use Rattle.cq_lex.specs.Shown.{shown}
+use Rattle.spec_text.proofs.Onward.{next_there, fault_there}
+use Rattle.cq_read.specs.LexShown.{shown}
 use Rattle.cq_read.proofs.Passing.{fault_here, no_fault_at_end, no_fault_at_eof, fault_behind}
 use Rattle.cq_read.proofs.resuming.first_fault.Goals as goal
 

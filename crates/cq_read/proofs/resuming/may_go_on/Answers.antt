@@ -1,6 +1,6 @@
 use Rattle.std.proofs.Common.{◌≡◌, ◌≤◌, ℕ, None, Some, sym, ap, subst, ◌∙◌, arith, length, nat_lt, false}
 use Rattle.std.proofs.lemmas.Bool.Decides.{nat_tests}
-use Rattle.spec_reading.specs.Readings.{Resumes}
+use Rattle.spec_text.specs.Readings.{Resumes}
 use Rattle.cq_read.proofs.Passing.{stays}
 use Rattle.cq_read.proofs.resuming.may_go_on.Goals as goal
 

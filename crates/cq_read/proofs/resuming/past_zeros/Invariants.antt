@@ -1,5 +1,5 @@
 use Rattle.std.proofs.Common.{ℕ, ◌≤◌, ◌-◌, length}
-use Rattle.spec_reading.specs.Readings.{Resumes}
+use Rattle.spec_text.specs.Readings.{Resumes}
 use Rattle.cq_read.proofs.resuming.past_zeros.Given as goal
 
 abbrev pub invariant-loop-at : goal.invariant-loop-at

@@ -1,6 +1,6 @@
 use Rattle.std.proofs.Common.{ℕ, sym, subst, ap, ◌+◌, ◌∙◌, ◌≤◌, ◌<◌, arith, length}
-use Rattle.spec_reading.specs.Readings.{Resumes}
-use Rattle.cq_lex.specs.Shown.{shown}
+use Rattle.spec_text.specs.Readings.{Resumes}
+use Rattle.cq_read.specs.LexShown.{shown}
 use Rattle.cq_read.proofs.Passing.{at_stop, at_last, over_token, past_last, past_fault, Same}
 use Rattle.cq_read.proofs.resuming.resume.Goals as goal
 

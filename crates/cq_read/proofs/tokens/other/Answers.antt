@@ -1,5 +1,5 @@
 use Rattle.std.proofs.Common.{refl, ◌∙◌}
-use Rattle.cq_lex.specs.Shown.{shown}
+use Rattle.cq_read.specs.LexShown.{shown}
 use Rattle.cq_read.proofs.Seen.{no_value, no_other, sees_mark}
 use Rattle.cq_read.proofs.tokens.other.Goals as goal
 

@@ -1,6 +1,6 @@
 use Rattle.std.proofs.Common.{refl, [], None}
-use Rattle.spec_grammar.specs.Tokens.{bytes_of}
-use Rattle.cq_lex.specs.Shown.{shown}
+use Rattle.spec_syntax.specs.GrammarTokens.{bytes_of}
+use Rattle.cq_read.specs.LexShown.{shown}
 use Rattle.cq_read.proofs.Seen.{no_bytes, no_mark, first_mark}
 use Rattle.cq_read.proofs.tokens.punctuation.Goals as goal
 

@@ -1,7 +1,7 @@
-use Rattle.spec_grammar.specs.Tokens.{bytes_of}
+use Rattle.spec_syntax.specs.GrammarTokens.{bytes_of}
 use Rattle.spec_syntax.specs.Tokens as grammar
 use Rattle.spec_syntax.specs.TextTokens.{bare_name, quoted_name, quoted_text}
-use Rattle.cq_lex.specs.Shown.{shown}
+use Rattle.cq_read.specs.LexShown.{shown}
 use Rattle.cq_read.specs.Names.{variables}
 use Rattle.cq_read.proofs.Seen.{sees_name, sees_quoted, sees_codes, seen_if}
 use Rattle.cq_read.proofs.tokens.token_of.Goals as goal

@@ -1,6 +1,6 @@
 use Rattle.std.proofs.Common.{None, Some, ap, sym}
-use Rattle.cq_world.specs.Contents.{Contents}
-use Rattle.cq_world.specs.Worlds.{now_of}
+use Rattle.cq_settle.specs.Contents.{Contents}
+use Rattle.cq_settle.specs.Worlds.{now_of}
 use Rattle.cq_relations.proofs.Equating.{row_from, row_back}
 use Rattle.cq_relations.proofs.Marks.{went_back}
 use Rattle.cq_relations.proofs.arithmetic.evaluate_to.Goals as goal

@@ -2,15 +2,15 @@ use Rattle.std.proofs.Common.{◌≡◌, ◌∙◌, ◌∷◌, [], List, ap, sym
 use Rattle.std.specs.Prelude.{Err}
 use Rattle.spec_branch.specs.Branch.{Branch}
 use Rattle.spec_search.specs.Replies.{Place, unifies, with_equations}
-use Rattle.spec_machine.specs.Cells.{Stack}
-use Rattle.cq_linear.specs.declared.store.StoreFault.{StoreFault}
+use Rattle.spec_engine.specs.Cells.{Stack}
+use Rattle.cq_store.specs.declared.store.StoreFault.{StoreFault}
 use Rattle.cq_settle.specs.Settled.{MayRefuse, MayTake}
-use Rattle.cq_world.specs.Contents.{Contents}
-use Rattle.cq_world.specs.Rest.{IsReady}
-use Rattle.cq_world.specs.Worlds.{now_of}
-use Rattle.cq_steps.specs.Worlds.{value, with_heap, Placed, Leads}
-use Rattle.cq_begin.specs.Begun.{goes_to, trees_of_pairs, AtPlaces}
-use Rattle.cq_begin.specs.declared.beginning.Begun.TheVariants.{Goes}
+use Rattle.cq_settle.specs.Contents.{Contents}
+use Rattle.cq_settle.specs.Rest.{IsReady}
+use Rattle.cq_settle.specs.Worlds.{now_of}
+use Rattle.cq_branch.specs.Worlds.{value, with_heap, Placed, Leads}
+use Rattle.cq_branch.specs.Begun.{goes_to, trees_of_pairs, AtPlaces}
+use Rattle.cq_branch.specs.declared.begin.beginning.Begun.TheVariants.{Goes}
 use Rattle.cq_relations.proofs.Equating.{leads_to, is_not_settled, has_no_value}
 use Rattle.cq_relations.proofs.Growing.{ready_grown}
 use Rattle.cq_relations.proofs.arithmetic.evaluated.Goals as goal

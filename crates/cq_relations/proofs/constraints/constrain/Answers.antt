@@ -7,16 +7,16 @@ use Rattle.spec_branch.specs.Branch.{State, read}
 use Rattle.spec_search.specs.Constraints.{curly_row}
 use Rattle.cq_built.proofs.Growing.{grows_both}
 use Rattle.cq_built.specs.Growing.{Grows}
-use Rattle.cq_rest.specs.Ready.{MayBeTold}
-use Rattle.cq_world.specs.Rest.{IsReadyAs}
-use Rattle.cq_linear.specs.declared.store.StoreFault.{StoreFault}
+use Rattle.cq_settle.specs.Ready.{MayBeTold}
+use Rattle.cq_settle.specs.Rest.{IsReadyAs}
+use Rattle.cq_store.specs.declared.store.StoreFault.{StoreFault}
 use Rattle.cq_term.specs.Trees.{tree}
-use Rattle.cq_world.specs.Contents.{Contents}
-use Rattle.cq_world.specs.Worlds.{now_of}
-use Rattle.spec_machine.specs.declared.cell.Cell.{Cell}
-use Rattle.spec_machine.specs.Cells.{Value}
-use Rattle.cq_steps.specs.Worlds.{value, saved_values, stack, with_heap, Selected, Leads}
-use Rattle.cq_begin.specs.Begun.{goes_to}
+use Rattle.cq_settle.specs.Contents.{Contents}
+use Rattle.cq_settle.specs.Worlds.{now_of}
+use Rattle.spec_engine.specs.declared.machine.cell.Cell.{Cell}
+use Rattle.spec_engine.specs.Cells.{Value}
+use Rattle.cq_branch.specs.Worlds.{value, saved_values, stack, with_heap, Selected, Leads}
+use Rattle.cq_branch.specs.Begun.{goes_to}
 use Rattle.cq_relations.proofs.Curly.{told_leads, told_stops, split_leads, refused_at}
 use Rattle.cq_relations.proofs.Growing.{ready_grown, grown_terms, grown_still, grown_if, after_error}
 use Rattle.cq_relations.proofs.Marks.{saved_still}

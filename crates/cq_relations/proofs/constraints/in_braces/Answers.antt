@@ -1,6 +1,6 @@
 use Rattle.std.proofs.Common.{[], ◌∷◌, map, refl, codes, arith}
 use Rattle.std.proofs.lemmas.List.Elements.{All-cons}
-use Rattle.spec_lists.proofs.Prefixes.{prefix_same}
+use Rattle.spec_numbers.proofs.Prefixes.{prefix_same}
 use Rattle.spec_terms.specs.Term.{with_arguments}
 use Rattle.std.specs.Prelude.{◌<◌, length}
 use Rattle.cq_term.specs.Meaning.{at}

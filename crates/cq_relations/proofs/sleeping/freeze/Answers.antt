@@ -1,11 +1,11 @@
 use Rattle.std.proofs.Common.{List, Some, sym, subst, ◌∙◌}
-use Rattle.spec_lists.specs.Texts.{Text}
+use Rattle.spec_numbers.specs.Texts.{Text}
 use Rattle.spec_search.specs.Constraints.{freeze_row}
 use Rattle.cq_attr.specs.Attributes.{Attributes}
-use Rattle.cq_rest.specs.Ready.{with_attributes}
+use Rattle.cq_settle.specs.Ready.{with_attributes}
 use Rattle.cq_term.specs.Meaning.{at}
-use Rattle.cq_world.specs.Worlds.{now_of}
-use Rattle.cq_steps.specs.Worlds.{Leads}
+use Rattle.cq_settle.specs.Worlds.{now_of}
+use Rattle.cq_branch.specs.Worlds.{Leads}
 use Rattle.cq_relations.specs.Goals.{AtBoth}
 use Rattle.cq_relations.proofs.Asleep.{goes_to_sleep, is_called, variable_is}
 use Rattle.cq_relations.proofs.sleeping.freeze.Goals as goal

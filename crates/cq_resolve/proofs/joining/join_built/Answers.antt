@@ -4,9 +4,9 @@ use Rattle.std.specs.declared.result.Result.{Result}
 use Rattle.std.specs.declared.alloc.AllocError.{AllocError}
 use Rattle.spec_terms.specs.Term.{apply}
 use Rattle.cq_term.specs.Meaning.{at, blank}
-use Rattle.spec_lists.proofs.Prefixes.{prefix_get_or}
-use Rattle.cq_stored.specs.Pattern.{term_of}
-use Rattle.cq_stored.specs.Building.{image_from}
+use Rattle.spec_numbers.proofs.Prefixes.{prefix_get_or}
+use Rattle.cq_resolve.specs.Pattern.{term_of}
+use Rattle.cq_resolve.specs.Building.{image_from}
 use Rattle.cq_resolve.proofs.Telling.{joined_as, joined_larger}
 use Rattle.cq_resolve.proofs.joining.join_built.Goals as goal
 

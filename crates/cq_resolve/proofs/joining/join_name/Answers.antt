@@ -5,7 +5,7 @@ use Rattle.cq_term.specs.Meaning.{at}
 use Rattle.cq_term.proofs.Arguments.{shown_variable}
 use Rattle.cq_resolve.specs.Joined.{CanMeet}
 use Rattle.cq_resolve.proofs.Named.{names_bind_new}
-use Rattle.cq_stored.proofs.Built.{last_at}
+use Rattle.cq_resolve.proofs.Built.{last_at}
 use Rattle.cq_resolve.proofs.Telling.{joined_told, joined_as, joined_larger, joined_same, constant_can, shown_name, ok_true}
 use Rattle.cq_resolve.proofs.joining.join_name.Goals as goal
 use Rattle.cq_resolve.proofs.joining.join_name.Goals.{In_ok-id-in-Var}

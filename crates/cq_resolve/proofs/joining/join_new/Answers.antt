@@ -2,7 +2,7 @@ use Rattle.std.proofs.Common.{[], ◌∷◌, length, ap, arith, length-append}
 use Rattle.cq_frac.specs.declared.VarId.{VarId}
 use Rattle.cq_term.specs.Meaning.{at, blank}
 use Rattle.cq_unify.proofs.Places.{variables_now}
-use Rattle.spec_lists.proofs.Prefixes.{prefix_get_or}
+use Rattle.spec_numbers.proofs.Prefixes.{prefix_get_or}
 use Rattle.cq_resolve.proofs.Completed.{joined_new}
 use Rattle.cq_resolve.proofs.joining.join_new.Goals as goal
 

@@ -1,7 +1,7 @@
 use Rattle.std.proofs.Common.{◌≡◌, ◌≤◌, ◌-◌, ◌++◌, ℕ, List, length}
 use Rattle.std.specs.Prelude.{All}
 use Rattle.cq_frac.specs.declared.VarId.{VarId}
-use Rattle.cq_stored.specs.Pattern.{IsNamedBelow}
+use Rattle.cq_resolve.specs.Pattern.{IsNamedBelow}
 use Rattle.cq_term.specs.Names.{KeepsNames}
 use Rattle.cq_resolve.specs.Matching.{Call, IsAt}
 use Rattle.cq_resolve.proofs.matching.match_from.Given as goal

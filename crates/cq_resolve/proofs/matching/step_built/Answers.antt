@@ -3,13 +3,13 @@ use Rattle.std.specs.Prelude.{All}
 use Rattle.std.proofs.lemmas.List.Elements.{All-take, All-drop}
 use Rattle.std.proofs.lemmas.Result.{on_ok_weaker}
 use Rattle.spec_terms.specs.Term.{apply}
-use Rattle.spec_lists.proofs.Prefixes.{prefix_within}
+use Rattle.spec_numbers.proofs.Prefixes.{prefix_within}
 use Rattle.cq_term.specs.Meaning.{HeapTerm, at}
 use Rattle.cq_term.specs.Names.{KeepsNames}
 use Rattle.cq_unify.proofs.Places.{variables_now}
-use Rattle.cq_stored.specs.Pattern.{read, term_of, IsNamedBelow}
-use Rattle.cq_stored.specs.Building.{image_from}
-use Rattle.cq_stored.proofs.Reading.{have_below}
+use Rattle.cq_resolve.specs.Pattern.{read, term_of, IsNamedBelow}
+use Rattle.cq_resolve.specs.Building.{image_from}
+use Rattle.cq_resolve.proofs.Reading.{have_below}
 use Rattle.cq_resolve.specs.Joined.{Joined, Clash}
 use Rattle.cq_resolve.specs.Matching.{Call, IsNext}
 use Rattle.cq_resolve.specs.Resolved.{completed}

@@ -1,6 +1,6 @@
 use Rattle.std.proofs.Common.{◌≡◌, ◌-◌, drop, arith, sym, subst}
-use Rattle.cq_stored.specs.Pattern.{HaveBelow}
-use Rattle.cq_stored.proofs.Reading.{head_fits, have_below, have_below_more, heads_left}
+use Rattle.cq_resolve.specs.Pattern.{HaveBelow}
+use Rattle.cq_resolve.proofs.Reading.{head_fits, have_below, have_below_more, heads_left}
 use Rattle.cq_resolve.proofs.parts.met_after.Goals as goal
 
 pub met_with-after-requires : goal.met_with-after-requires

@@ -1,5 +1,5 @@
 use Rattle.std.proofs.Common.{◌≤◌, ℕ, drop}
-use Rattle.cq_stored.specs.Pattern.{HaveBelow}
+use Rattle.cq_resolve.specs.Pattern.{HaveBelow}
 use Rattle.cq_resolve.proofs.parts.met_after.Given as goal
 
 abbrev pub invariant-loop-i : goal.invariant-loop-i

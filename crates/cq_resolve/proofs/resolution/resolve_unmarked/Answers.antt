@@ -1,9 +1,9 @@
 use Rattle.std.proofs.Common.{◌≡◌, ◌+◌, ◌-◌, ◌∷◌, [], ℕ, sym, subst, arith, true, false}
 use Rattle.spec_terms.specs.Unifier.{HasNoUnifier}
 use Rattle.cq_term.specs.Names.{HasNamesBelow}
-use Rattle.cq_stored.specs.StoredValue.{ClauseValue}
-use Rattle.cq_stored.specs.Pattern.{IsPattern, term_of}
-use Rattle.cq_stored.proofs.Named.{named_pattern}
+use Rattle.cq_resolve.specs.StoredValue.{ClauseValue}
+use Rattle.cq_resolve.specs.Pattern.{IsPattern, term_of}
+use Rattle.cq_resolve.proofs.StoredNamed.{named_pattern}
 use Rattle.cq_resolve.specs.Matching.{Call, Walked}
 use Rattle.cq_resolve.specs.Resolved.{Resolved, call}
 use Rattle.cq_resolve.proofs.Started.{ok_is, ok_some, the_call, walked_start, resolved_end, all_there}

@@ -5,12 +5,12 @@ use Rattle.spec_linear.specs.Solution.{Constraint}
 use Rattle.spec_terms.specs.Term.{Var}
 use Rattle.cq_attr.specs.Attributes.{Attributes, is_numeric}
 use Rattle.cq_frac.specs.declared.VarId.{VarId}
-use Rattle.cq_linear.proofs.Passed.{passed, store_spent}
+use Rattle.cq_store.proofs.Passed.{passed, store_spent}
 use Rattle.cq_term.specs.HeapValue.{Terms}
 use Rattle.cq_term.specs.Meaning.{at}
-use Rattle.cq_walk.specs.Places.{numbers_of}
-use Rattle.cq_world.specs.Contents.{Contents}
-use Rattle.cq_world.specs.Worlds.{now_of}
+use Rattle.cq_term.specs.Places.{numbers_of}
+use Rattle.cq_settle.specs.Contents.{Contents}
+use Rattle.cq_settle.specs.Worlds.{now_of}
 use Rattle.cq_settle.specs.Steps.{AreThere, AreBoundThere, ClashesAt, Follows, HaveJoined, StopsAt, CannotJoin, Refuses, Takes, equations_of, numeric_ones, is_image_of}
 use Rattle.cq_settle.proofs.Before.{all_there, all_bound, all_older, one_clashes, numeric_there_below}
 use Rattle.cq_settle.proofs.Begin.{HasBegun}

@@ -1,8 +1,8 @@
 use Rattle.std.proofs.Common.{◌≤◌, ◌+◌, ◌*◌, [], length, drop}
 use Rattle.std.specs.Prelude.{if◌then◌else◌, nat_lt}
-use Rattle.cq_walk.specs.Places.{numbers_of}
-use Rattle.cq_world.specs.Standing.{constraints}
-use Rattle.cq_world.specs.Worlds.{now_of}
+use Rattle.cq_term.specs.Places.{numbers_of}
+use Rattle.cq_settle.specs.Standing.{constraints}
+use Rattle.cq_settle.specs.Worlds.{now_of}
 use Rattle.cq_settle.specs.Settled.{KeepsMarks}
 use Rattle.cq_settle.specs.Underway.{GoesOn, to_do}
 use Rattle.cq_settle.proofs.closing.close.Given as goal

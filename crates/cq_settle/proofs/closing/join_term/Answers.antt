@@ -3,14 +3,14 @@ use Rattle.std.specs.Prelude.{Contains}
 use Rattle.std.proofs.lemmas.List.Elements.{All-head}
 use Rattle.std.proofs.lemmas.Result.{IfOk-weaker}
 use Rattle.spec_terms.proofs.Listed.{occurs_listed}
-use Rattle.cq_atoms.specs.Texts.{text_of}
+use Rattle.cq_term.specs.Texts.{text_of}
 use Rattle.cq_attr.specs.Attributes.{Attributes}
 use Rattle.cq_cexpr.specs.Found.{constraint_of}
-use Rattle.cq_linear.proofs.Passed.{refused, never_spent}
+use Rattle.cq_store.proofs.Passed.{refused, never_spent}
 use Rattle.cq_term.specs.Meaning.{at}
 use Rattle.cq_term.specs.Trees.{tree}
-use Rattle.cq_walk.specs.Places.{numbers_of}
-use Rattle.cq_world.specs.Worlds.{now_of}
+use Rattle.cq_term.specs.Places.{numbers_of}
+use Rattle.cq_settle.specs.Worlds.{now_of}
 use Rattle.cq_settle.specs.Underway.{GoesOn, to_do}
 use Rattle.cq_settle.proofs.Again.{by_yes}
 use Rattle.cq_settle.proofs.Start.{variables_named}

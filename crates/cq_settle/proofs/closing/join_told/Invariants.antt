@@ -1,6 +1,6 @@
 use Rattle.std.proofs.Common.{[], drop}
-use Rattle.cq_walk.specs.Places.{numbers_of}
-use Rattle.cq_world.specs.Worlds.{now_of}
+use Rattle.cq_term.specs.Places.{numbers_of}
+use Rattle.cq_settle.specs.Worlds.{now_of}
 use Rattle.cq_settle.specs.Settled.{KeepsMarks}
 use Rattle.cq_settle.specs.Underway.{GoesOn, to_do}
 use Rattle.cq_settle.proofs.closing.join_told.Given as goal

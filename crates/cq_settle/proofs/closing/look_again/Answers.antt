@@ -1,8 +1,8 @@
 use Rattle.std.proofs.Common.{◌+◌, ◌<◌, ◌≤◌, [], ◌∷◌, List, ℕ, Err, length, drop, ap, refl, sym, subst, ◌∙◌, arith}
 use Rattle.std.proofs.lemmas.List.{drop_all}
-use Rattle.cq_linear.proofs.Passed.{passed, store_spent}
-use Rattle.cq_walk.specs.Places.{numbers_of}
-use Rattle.cq_world.specs.Worlds.{now_of}
+use Rattle.cq_store.proofs.Passed.{passed, store_spent}
+use Rattle.cq_term.specs.Places.{numbers_of}
+use Rattle.cq_settle.specs.Worlds.{now_of}
 use Rattle.cq_settle.specs.Settled.{IsPruned, MayRefuse, MayTake}
 use Rattle.cq_settle.specs.Underway.{GoesOn, to_do}
 use Rattle.cq_settle.proofs.Again.{at_number, none_behind, behind_then, fewer_none, fewer_then, waits_there, wait_on}

@@ -1,8 +1,8 @@
 use Rattle.std.proofs.Common.{[], drop, length}
 use Rattle.std.specs.Prelude.{All, Contains}
 use Rattle.cq_attr.specs.Attributes.{numbers}
-use Rattle.cq_walk.specs.Places.{numbers_of}
-use Rattle.cq_world.specs.Worlds.{now_of}
+use Rattle.cq_term.specs.Places.{numbers_of}
+use Rattle.cq_settle.specs.Worlds.{now_of}
 use Rattle.cq_settle.specs.Settled.{KeepsMarks}
 use Rattle.cq_settle.specs.Steps.{HasFewer}
 use Rattle.cq_settle.specs.Underway.{GoesOn, to_do}

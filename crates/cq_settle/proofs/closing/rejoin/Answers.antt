@@ -4,9 +4,9 @@ use Rattle.std.proofs.lemmas.Result.{IfOk-weaker}
 use Rattle.cq_attr.specs.Attributes.{Attributes}
 use Rattle.cq_attr.specs.declared.susp.Susp.{Susp}
 use Rattle.cq_cexpr.specs.Found.{constraint_of}
-use Rattle.cq_linear.proofs.Passed.{refused, never_spent}
-use Rattle.cq_walk.specs.Places.{numbers_of}
-use Rattle.cq_world.specs.Worlds.{now_of}
+use Rattle.cq_store.proofs.Passed.{refused, never_spent}
+use Rattle.cq_term.specs.Places.{numbers_of}
+use Rattle.cq_settle.specs.Worlds.{now_of}
 use Rattle.cq_settle.specs.Underway.{GoesOn, to_do}
 use Rattle.cq_settle.proofs.Again.{by_yes, behind, none_behind, joins_fewer, others_wait, no_constraint}
 use Rattle.cq_settle.proofs.Terms.{under_false, under_refusal, under_none, under_overflow, under_pivots, under_joins, under_waits}

@@ -1,6 +1,6 @@
 use Rattle.std.proofs.Common.{Err, ap}
-use Rattle.cq_linear.proofs.Passed.{passed, store_spent}
-use Rattle.cq_world.specs.Worlds.{now_of}
+use Rattle.cq_store.proofs.Passed.{passed, store_spent}
+use Rattle.cq_settle.specs.Worlds.{now_of}
 use Rattle.cq_settle.proofs.Again.{joins_then}
 use Rattle.cq_settle.proofs.Joined.{cannot_join}
 use Rattle.cq_settle.proofs.closing.tell.Goals as goal

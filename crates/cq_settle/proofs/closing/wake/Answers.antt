@@ -3,7 +3,7 @@ use Rattle.std.specs.Prelude.{All, Contains}
 use Rattle.std.proofs.lemmas.List.{take_all}
 use Rattle.cq_attr.specs.Attributes.{Waiting, numbers}
 use Rattle.cq_term.specs.HeapValue.{Terms}
-use Rattle.cq_walk.specs.Places.{numbers_of}
+use Rattle.cq_term.specs.Places.{numbers_of}
 use Rattle.cq_settle.specs.Steps.{WakesOne}
 use Rattle.cq_settle.specs.Underway.{IsLive}
 use Rattle.cq_settle.proofs.Again.{attrs_marks, take_here, element}

@@ -1,7 +1,7 @@
 use Rattle.std.proofs.Common.{◌∙◌, ap, sym, Some}
 use Rattle.std.proofs.lemmas.Bool.{true≢false}
 use Rattle.std.proofs.lemmas.Result.{on_ok_weaker}
-use Rattle.spec_rational.specs.Rational.{ℚ}
+use Rattle.spec_numbers.specs.Rational.{ℚ}
 use Rattle.spec_linear.specs.Solution.{Fixed}
 use Rattle.spec_linear.proofs.Lists.{fixed_once}
 use Rattle.cq_settle.proofs.Binding.{none, only, binds_nothing, one_binds, only_itself, numeric_within, none_fixed}

@@ -1,6 +1,6 @@
 use Rattle.std.proofs.Common.{take}
 use Rattle.std.specs.Prelude.{All}
-use Rattle.cq_world.specs.Worlds.{now_of}
+use Rattle.cq_settle.specs.Worlds.{now_of}
 use Rattle.cq_settle.specs.Steps.{ClashesAt}
 use Rattle.cq_settle.proofs.joining.clashes.Given as goal
 

@@ -7,8 +7,8 @@ use Rattle.cq_frac.specs.declared.VarId.{VarId}
 use Rattle.cq_term.specs.HeapValue.{Terms}
 use Rattle.cq_term.specs.Meaning.{at}
 use Rattle.cq_term.specs.Shown.{view_of}
-use Rattle.cq_walk.specs.Places.{numbers_of}
-use Rattle.cq_world.specs.declared.world.World.{World}
+use Rattle.cq_term.specs.Places.{numbers_of}
+use Rattle.cq_settle.specs.declared.world.World.{World}
 use Rattle.cq_settle.specs.Settled.{KeepsMarks}
 use Rattle.cq_settle.specs.Steps.{Follows}
 use Rattle.cq_settle.proofs.Joined.{numbers_behind}

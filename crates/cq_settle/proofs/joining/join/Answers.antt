@@ -1,5 +1,5 @@
 use Rattle.std.proofs.Common.{ap, ◌∙◌, ◌++◌, Err}
-use Rattle.cq_linear.proofs.Passed.{store_spent}
+use Rattle.cq_store.proofs.Passed.{store_spent}
 use Rattle.cq_settle.proofs.Joined.{cannot_join, one_joins}
 use Rattle.cq_settle.proofs.joining.join.Goals as goal
 

@@ -6,12 +6,12 @@ use Rattle.spec_linear.specs.Solution.{Constraint}
 use Rattle.spec_terms.specs.Term.{Var}
 use Rattle.cq_attr.specs.Attributes.{is_numeric}
 use Rattle.cq_frac.specs.declared.VarId.{VarId}
-use Rattle.cq_linear.proofs.Passed.{passed, store_spent}
+use Rattle.cq_store.proofs.Passed.{passed, store_spent}
 use Rattle.cq_term.specs.HeapValue.{Terms}
 use Rattle.cq_term.specs.Meaning.{at}
-use Rattle.cq_walk.specs.Places.{numbers_of}
-use Rattle.cq_world.specs.Worlds.{now_of}
-use Rattle.cq_world.specs.declared.world.World.{World}
+use Rattle.cq_term.specs.Places.{numbers_of}
+use Rattle.cq_settle.specs.Worlds.{now_of}
+use Rattle.cq_settle.specs.declared.world.World.{World}
 use Rattle.cq_settle.specs.Settled.{KeepsMarks}
 use Rattle.cq_settle.specs.Steps.{HaveJoined, StopsAt, CannotJoin, Refuses, Takes, equation_at, equations_of, numeric_ones, is_image_of}
 use Rattle.cq_settle.proofs.Equated.{ones_same, numeric_here, equation_joins, equation_stops, numeric_next, images_next, unbound_next}

@@ -3,8 +3,8 @@ use Rattle.std.specs.Prelude.{Contains}
 use Rattle.spec_terms.specs.Term.{Var}
 use Rattle.cq_attr.specs.Attributes.{is_numeric}
 use Rattle.cq_term.specs.Meaning.{at}
-use Rattle.cq_walk.specs.Places.{numbers_of}
-use Rattle.cq_world.specs.Worlds.{now_of}
+use Rattle.cq_term.specs.Places.{numbers_of}
+use Rattle.cq_settle.specs.Worlds.{now_of}
 use Rattle.cq_settle.specs.Settled.{KeepsMarks}
 use Rattle.cq_settle.specs.Steps.{HaveJoined, equations_of, numeric_ones, is_image_of}
 use Rattle.cq_settle.proofs.joining.join_equations.Given as goal

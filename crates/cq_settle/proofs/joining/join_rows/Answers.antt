@@ -4,7 +4,7 @@ use Rattle.std.proofs.lemmas.Bool.Decides.{when_true, when_false}
 use Rattle.std.specs.Prelude.{ℕ, List}
 use Rattle.spec_linear.specs.Solution.{Constraint}
 use Rattle.cq_settle.specs.Steps.{HaveJoined, CannotJoin, Refuses, Takes}
-use Rattle.cq_linear.proofs.Passed.{passed, store_spent}
+use Rattle.cq_store.proofs.Passed.{passed, store_spent}
 use Rattle.cq_settle.proofs.Joined.{joins_nothing, one_more_joins, stops_at}
 use Rattle.cq_settle.proofs.joining.join_rows.Goals as goal
 

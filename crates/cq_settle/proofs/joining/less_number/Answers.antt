@@ -1,5 +1,5 @@
 use Rattle.std.proofs.Common.{◌∙◌, sym, arith}
-use Rattle.spec_rational.proofs.Sign.{one_not_zero}
+use Rattle.spec_numbers.proofs.Sign.{one_not_zero}
 use Rattle.cq_settle.proofs.Forms.{one_differs}
 use Rattle.cq_settle.proofs.joining.less_number.Goals as goal
 

@@ -1,6 +1,6 @@
 use Rattle.std.proofs.Common.{◌∙◌, ap, sym, arith}
-use Rattle.spec_rational.specs.Rational.{neg_ℚ}
-use Rattle.spec_rational.proofs.Sign.{one_not_zero}
+use Rattle.spec_numbers.specs.Rational.{neg_ℚ}
+use Rattle.spec_numbers.proofs.Sign.{one_not_zero}
 use Rattle.cq_settle.proofs.Forms.{two_differ, neg_one_not_zero}
 use Rattle.cq_settle.proofs.joining.less_variable.Goals as goal
 

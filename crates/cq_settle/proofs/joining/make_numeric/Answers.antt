@@ -7,7 +7,7 @@ use Rattle.cq_frac.specs.declared.VarId.{VarId}
 use Rattle.cq_term.specs.HeapValue.{Terms}
 use Rattle.cq_term.specs.Meaning.{at}
 use Rattle.cq_term.specs.Shown.{IsUnbound}
-use Rattle.cq_walk.specs.Places.{numbers_of}
+use Rattle.cq_term.specs.Places.{numbers_of}
 use Rattle.cq_settle.proofs.Marked.{all_numeric, all_unbound, all_told}
 use Rattle.cq_settle.proofs.Marks.{marks_more}
 use Rattle.cq_settle.proofs.joining.make_numeric.Goals as goal

@@ -5,7 +5,7 @@ use Rattle.spec_terms.specs.Variables.{variables}
 use Rattle.cq_attr.specs.Attributes.{is_numeric}
 use Rattle.cq_term.specs.Meaning.{at}
 use Rattle.cq_term.specs.Shown.{IsUnbound}
-use Rattle.cq_walk.specs.Places.{numbers_of}
+use Rattle.cq_term.specs.Places.{numbers_of}
 use Rattle.cq_settle.specs.Settled.{KeepsMarks}
 use Rattle.cq_settle.proofs.joining.make_numeric.Given as goal
 

@@ -4,8 +4,8 @@ use Rattle.std.proofs.lemmas.List.{take_all}
 use Rattle.std.proofs.lemmas.Bool.{true≢false}
 use Rattle.cq_attr.specs.Attributes.{is_numeric, IsWokenBy}
 use Rattle.cq_frac.specs.declared.VarId.{VarId}
-use Rattle.cq_walk.specs.Places.{numbers_of}
-use Rattle.cq_world.specs.Worlds.{now_of}
+use Rattle.cq_term.specs.Places.{numbers_of}
+use Rattle.cq_settle.specs.Worlds.{now_of}
 use Rattle.cq_settle.proofs.Idle.{empty_list, not_empty, no_length, nothing_in, at_place, one_more, is_idle_then, nothing_bound}
 use Rattle.cq_settle.proofs.settling.is_idle.Goals as goal
 

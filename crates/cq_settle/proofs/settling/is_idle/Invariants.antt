@@ -1,7 +1,7 @@
 use Rattle.std.proofs.Common.{◌≡◌, ℕ, take, false}
 use Rattle.std.specs.Prelude.{Contains}
 use Rattle.cq_attr.specs.Attributes.{is_numeric}
-use Rattle.cq_walk.specs.Places.{numbers_of}
+use Rattle.cq_term.specs.Places.{numbers_of}
 use Rattle.cq_settle.proofs.settling.is_idle.Given as goal
 
 abbrev pub invariant-loop-variable : goal.invariant-loop-variable

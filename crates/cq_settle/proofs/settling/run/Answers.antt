@@ -1,8 +1,8 @@
 use Rattle.std.proofs.Common.{◌∙◌, List, ℕ, [], Err, ap, subst}
-use Rattle.cq_linear.proofs.Passed.{passed, store_spent}
-use Rattle.cq_walk.specs.Places.{numbers_of}
-use Rattle.cq_world.specs.Contents.{Contents}
-use Rattle.cq_world.specs.Worlds.{now_of}
+use Rattle.cq_store.proofs.Passed.{passed, store_spent}
+use Rattle.cq_term.specs.Places.{numbers_of}
+use Rattle.cq_settle.specs.Contents.{Contents}
+use Rattle.cq_settle.specs.Worlds.{now_of}
 use Rattle.cq_settle.specs.Called.{OfCalls}
 use Rattle.cq_settle.specs.Settled.{IsKept, IsPruned, MayRefuse, MayTake}
 use Rattle.cq_settle.specs.Steps.{WakesAll}

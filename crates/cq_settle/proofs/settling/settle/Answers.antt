@@ -1,6 +1,6 @@
 use Rattle.std.proofs.Common.{◌∙◌, List, ℕ, ap, sym, subst}
-use Rattle.cq_world.specs.Contents.{Contents}
-use Rattle.cq_world.specs.Worlds.{now_of}
+use Rattle.cq_settle.specs.Contents.{Contents}
+use Rattle.cq_settle.specs.Worlds.{now_of}
 use Rattle.cq_settle.specs.Called.{SomeIsCalled, OfCalls}
 use Rattle.cq_settle.specs.Settled.{IsKept, IsPruned, MayRefuse, MayTake}
 use Rattle.cq_settle.proofs.Again.{no_room}

@@ -1,9 +1,9 @@
 use Rattle.std.proofs.Common.{◌≡◌, ◌∙◌, true, false, arith, ap, sym, subst}
-use Rattle.spec_rational.specs.Rational.{0ℚ, ◌<ℚ◌, ◌/ℚ◌}
+use Rattle.spec_numbers.specs.Rational.{0ℚ, ◌<ℚ◌, ◌/ℚ◌}
 use Rattle.cq_frac.specs.declared.Operation.TheVariants.{Quotient}
 use Rattle.cq_frac.specs.Refused.{Tells}
-use Rattle.cq_row.specs.Rows.{Has, Lacks, IsRowFrom, everywhere}
-use Rattle.cq_row.proofs.Shifts.{anywhere}
+use Rattle.cq_frac.specs.Rows.{Has, Lacks, IsRowFrom, everywhere}
+use Rattle.cq_frac.proofs.Shifts.{anywhere}
 use Rattle.cq_dict.specs.Roles.{is_live, is_restricted}
 use Rattle.cq_simplex.proofs.Ratios.{none_past, column_no_limit, lacks_no_limit, rising_no_limit, not_zero_here, limits_here, ratio_here, refused_here}
 use Rattle.cq_simplex.proofs.Exits.{pair_kept}

@@ -1,9 +1,9 @@
 use Rattle.std.proofs.Common.{◌≡◌, ◌<◌, length, get_or, take, take_all, true, rules, sym, subst, ◌∙◌}
-use Rattle.spec_rational.specs.Rational.{IsPositive}
-use Rattle.spec_rational.proofs.Sign.{not_both}
-use Rattle.cq_row.specs.declared.Entry.{Entry}
-use Rattle.cq_row.specs.Rows.{Has}
-use Rattle.cq_row.proofs.Steps.{has_at}
+use Rattle.spec_numbers.specs.Rational.{IsPositive}
+use Rattle.spec_numbers.proofs.Sign.{not_both}
+use Rattle.cq_frac.specs.declared.row.Entry.{Entry}
+use Rattle.cq_frac.specs.Rows.{Has}
+use Rattle.cq_frac.proofs.Steps.{has_at}
 use Rattle.cq_dict.specs.Roles.{is_restricted}
 use Rattle.cq_simplex.proofs.Entries.{entry_below, first_enters, none_raises, each_more}
 use Rattle.cq_simplex.proofs.rising.entering.Goals as goal

@@ -1,6 +1,6 @@
 use Rattle.std.proofs.Common.{◌≡◌, take, take_all, true, false, rules, sym, subst, ◌∙◌}
-use Rattle.cq_row.specs.Rows.{Has}
-use Rattle.cq_row.proofs.Steps.{has_at}
+use Rattle.cq_frac.specs.Rows.{Has}
+use Rattle.cq_frac.proofs.Steps.{has_at}
 use Rattle.cq_dict.specs.Roles.{is_restricted}
 use Rattle.cq_simplex.proofs.Entries.{entry_below, free_is, none_free, each_more}
 use Rattle.cq_simplex.proofs.rising.free_column.Goals as goal

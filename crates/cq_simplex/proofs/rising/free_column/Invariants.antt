@@ -1,6 +1,6 @@
 use Rattle.std.proofs.Common.{◌≡◌, true, take}
-use Rattle.cq_row.specs.declared.Entry.{Entry}
-use Rattle.cq_row.specs.Rows.{Has}
+use Rattle.cq_frac.specs.declared.row.Entry.{Entry}
+use Rattle.cq_frac.specs.Rows.{Has}
 use Rattle.cq_dict.specs.Roles.{is_restricted}
 use Rattle.cq_simplex.proofs.rising.free_column.Given as goal
 

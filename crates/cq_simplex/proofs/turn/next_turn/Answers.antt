@@ -1,8 +1,8 @@
 use Rattle.std.proofs.Common.{◌≡◌, ◌∙◌, ℕ, Err, ap, sym, subst}
 use Rattle.std.specs.Prelude.{MatchOption}
-use Rattle.spec_rational.specs.Rational.{IsPositive, ◌≤ℚ◌, 0ℚ}
+use Rattle.spec_numbers.specs.Rational.{IsPositive, ◌≤ℚ◌, 0ℚ}
 use Rattle.spec_simplex.specs.Rule.{Limits, Leaves}
-use Rattle.cq_row.specs.Rows.{negated}
+use Rattle.cq_frac.specs.Rows.{negated}
 use Rattle.cq_dict.specs.Roles.{is_restricted, constant_at}
 use Rattle.cq_simplex.specs.Dictionary.{dictionary}
 use Rattle.cq_simplex.proofs.Exits.{simplex_told}

@@ -1,7 +1,7 @@
 use Rattle.std.proofs.Common.{◌∙◌, sym, subst}
-use Rattle.spec_rational.specs.Rational.{IsPositive}
-use Rattle.cq_row.specs.Rows.{Has, Lacks, IsRowFrom, everywhere}
-use Rattle.cq_row.proofs.Shifts.{anywhere}
+use Rattle.spec_numbers.specs.Rational.{IsPositive}
+use Rattle.cq_frac.specs.Rows.{Has, Lacks, IsRowFrom, everywhere}
+use Rattle.cq_frac.proofs.Shifts.{anywhere}
 use Rattle.cq_dict.specs.Roles.{is_live}
 use Rattle.cq_tableau.proofs.Looks.{column_leaves, unflagged_leaves, positive_leaves, lacking_leaves, entry_blocks}
 use Rattle.cq_tableau.proofs.looking.blocks.Goals as goal

@@ -1,6 +1,6 @@
 use Rattle.std.proofs.Common.{◌≡◌, ℕ, List, Err, true, refl, ap, sym, subst}
 use Rattle.spec_linear.specs.Solution.{Has}
-use Rattle.cq_row.specs.declared.Entry.{Entry}
+use Rattle.cq_frac.specs.declared.row.Entry.{Entry}
 use Rattle.cq_dict.specs.Roles.{is_live}
 use Rattle.cq_simplex.specs.Answers.{IsAnswer, AreSpent}
 use Rattle.cq_simplex.specs.declared.Aim.TheVariants as aim_of

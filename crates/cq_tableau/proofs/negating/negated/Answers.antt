@@ -1,6 +1,6 @@
 use Rattle.std.proofs.Common.{◌≡◌, ap, ap₂, sym, subst, ◌∙◌}
-use Rattle.spec_rational.specs.Rational.{neg_ℚ}
-use Rattle.spec_rational.specs.Sums.{negated_products}
+use Rattle.spec_numbers.specs.Rational.{neg_ℚ}
+use Rattle.spec_numbers.specs.Sums.{negated_products}
 use Rattle.spec_linear.specs.Form.{IsForm, negated_form}
 use Rattle.spec_linear.proofs.Ordered.{IsForm-negated_form}
 use Rattle.cq_form.specs.Entries.{form_of, products_of}

@@ -1,5 +1,5 @@
 use Rattle.std.proofs.Common.{◌+◌, take, arith, sym, subst, ◌∙◌}
-use Rattle.spec_lists.proofs.Prefixes.{prefix_both}
+use Rattle.spec_numbers.proofs.Prefixes.{prefix_both}
 use Rattle.cq_form.specs.Entries.{products_of}
 use Rattle.cq_tableau.specs.Stored.{IsPlaced}
 use Rattle.cq_tableau.proofs.Storing.{placed_more}

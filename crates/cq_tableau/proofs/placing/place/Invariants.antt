@@ -1,6 +1,6 @@
 -- The products so far, over the quantities.
 use Rattle.std.proofs.Common.{◌≡◌, ◌≤◌, take}
-use Rattle.spec_lists.specs.Prefixes.{IsPrefix}
+use Rattle.spec_numbers.specs.Prefixes.{IsPrefix}
 use Rattle.cq_form.specs.Entries.{products_of}
 use Rattle.cq_dict.specs.DictValue.{quantities_of}
 use Rattle.cq_tableau.specs.Stored.{StaysStored, IsPlaced}

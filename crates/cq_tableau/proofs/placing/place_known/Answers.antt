@@ -1,7 +1,7 @@
 use Rattle.std.proofs.Common.{◌≡◌, ℕ, ◌+◌, take, Option, None, Some, refl, sym, subst}
 use Rattle.std.specs.Prelude.{MatchOption, IsSome, slice_get}
-use Rattle.spec_rational.specs.Sums.{Mentions}
-use Rattle.spec_lists.proofs.Prefixes.{prefix_same}
+use Rattle.spec_numbers.specs.Sums.{Mentions}
+use Rattle.spec_numbers.proofs.Prefixes.{prefix_same}
 use Rattle.cq_form.specs.Entries.{products_of}
 use Rattle.cq_tableau.specs.declared.names.Name.TheVariants.{Variable}
 use Rattle.cq_tableau.specs.Stored.{IsKnown, IsPlaced}

@@ -1,5 +1,5 @@
 use Rattle.std.proofs.Common.{Err, true, slice_set, refl, ap, sym, subst, ◌∙◌}
-use Rattle.spec_rational.specs.Rational.{ℚ, 0ℚ, IsNotNegative, ◌<ℚ◌}
+use Rattle.spec_numbers.specs.Rational.{ℚ, 0ℚ, IsNotNegative, ◌<ℚ◌}
 use Rattle.cq_dict.specs.declared.table.Role.TheVariants.{Basic}
 use Rattle.cq_dict.specs.Roles.{is_restricted, constant_at}
 use Rattle.cq_dict.proofs.Roles.{at_below}

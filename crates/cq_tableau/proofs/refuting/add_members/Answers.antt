@@ -1,5 +1,5 @@
 use Rattle.std.proofs.Common.{◌<◌, ◌++◌, [], ◌∷◌, length, arith, ap, ap₂, sym, append_assoc, ◌∙◌}
-use Rattle.spec_tableau.specs.Entries.{entries}
+use Rattle.spec_simplex.specs.Entries.{entries}
 use Rattle.cq_form.specs.Entries.{products_of}
 use Rattle.cq_tableau.specs.Refuted.{number_in}
 use Rattle.std.proofs.Common.{take}

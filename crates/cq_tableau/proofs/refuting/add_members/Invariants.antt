@@ -1,6 +1,6 @@
 -- The entries so far are added.
 use Rattle.std.proofs.Common.{◌≡◌, ◌++◌, take}
-use Rattle.spec_tableau.specs.Entries.{entries}
+use Rattle.spec_simplex.specs.Entries.{entries}
 use Rattle.cq_form.specs.Entries.{products_of}
 use Rattle.cq_tableau.specs.Refuted.{number_in}
 use Rattle.cq_tableau.proofs.refuting.add_members.Given as goal

@@ -1,7 +1,7 @@
 use Rattle.std.proofs.Common.{◌<◌, length, arith, subst}
-use Rattle.spec_rational.specs.Rational.{ℚ}
+use Rattle.spec_numbers.specs.Rational.{ℚ}
 use Rattle.std.proofs.Common.{ℕ}
-use Rattle.spec_inequalities.specs.Certificate.{IsAllowed}
+use Rattle.spec_linear.specs.Certificate.{IsAllowed}
 use Rattle.cq_tableau.specs.Refuted.{number_in}
 use Rattle.cq_tableau.proofs.Certified.{all_next}
 use Rattle.cq_tableau.proofs.refuting.are_allowed.Goals as goal

@@ -1,8 +1,8 @@
 -- The entries so far are allowed.
 use Rattle.std.proofs.Common.{take}
 use Rattle.std.specs.List.{AllByRecursion}
-use Rattle.spec_inequalities.specs.Certificate.{IsAllowed}
-use Rattle.spec_tableau.specs.Entries.{entries}
+use Rattle.spec_linear.specs.Certificate.{IsAllowed}
+use Rattle.spec_simplex.specs.Entries.{entries}
 use Rattle.cq_form.specs.Entries.{products_of}
 use Rattle.cq_tableau.specs.Refuted.{number_in}
 use Rattle.cq_tableau.proofs.refuting.are_allowed.Given as goal

@@ -1,7 +1,7 @@
 use Rattle.std.proofs.Common.{◌<◌, List, Err, length, ap, sym, subst}
-use Rattle.spec_rational.specs.Rational.{ℚ}
-use Rattle.cq_row.specs.declared.Entry.{Entry}
-use Rattle.cq_row.specs.Rows.{Has}
+use Rattle.spec_numbers.specs.Rational.{ℚ}
+use Rattle.cq_frac.specs.declared.row.Entry.{Entry}
+use Rattle.cq_frac.specs.Rows.{Has}
 use Rattle.cq_dict.specs.Dict.{AddsRow, DefinesLast, RefusesForm}
 use Rattle.cq_dict.specs.DictValue.{quantities_of}
 use Rattle.cq_dict.specs.Roles.{IsRow}

@@ -1,7 +1,7 @@
 use Rattle.std.proofs.Common.{◌≡◌, List, Bool, Err, ap, sym, subst}
 use Rattle.cq_simplex.specs.declared.Aim.TheVariants as aim_of
 use Rattle.cq_simplex.specs.Answers.{IsAnswer, RisesWithoutEnd}
-use Rattle.cq_climb.specs.Climbs.{IsSpentAfter}
+use Rattle.cq_simplex.specs.Climbs.{IsSpentAfter}
 use Rattle.cq_tableau.proofs.Passed.{search_passed, search_spent}
 use Rattle.cq_tableau.proofs.Restores.{restored_feasible, found_highest, raise_refuses, raise_spends, not_without_end}
 use Rattle.cq_tableau.proofs.restoring.highest.Goals as goal

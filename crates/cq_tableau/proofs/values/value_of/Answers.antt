@@ -1,4 +1,4 @@
-use Rattle.spec_rational.specs.Rational.{ℚ}
+use Rattle.spec_numbers.specs.Rational.{ℚ}
 use Rattle.spec_linear.specs.Solution.{Fixed}
 use Rattle.cq_dict.specs.DictValue.{quantities_of}
 use Rattle.cq_tableau.specs.Values.{IsOpen, IsNumber}

@@ -1,5 +1,5 @@
 use Rattle.std.proofs.Common.{ℕ, List, ◌∷◌, ◌++◌, Err, inl, inr, ap, ap₂, sym, subst, ◌∙◌}
-use Rattle.spec_rational.specs.Rational.{ℚ, 1ℚ, neg_ℚ}
+use Rattle.spec_numbers.specs.Rational.{ℚ, 1ℚ, neg_ℚ}
 use Rattle.spec_linear.specs.Form.{Linear, negated_form}
 use Rattle.cq_dict.specs.DictValue.{quantities_of}
 use Rattle.cq_dict.specs.Roles.{Quantities}

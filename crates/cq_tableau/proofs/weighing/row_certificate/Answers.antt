@@ -1,5 +1,5 @@
 use Rattle.std.proofs.Common.{ℕ, List, ◌∷◌, Err, ap, ◌∙◌}
-use Rattle.spec_rational.specs.Rational.{ℚ, 1ℚ}
+use Rattle.spec_numbers.specs.Rational.{ℚ, 1ℚ}
 use Rattle.cq_tableau.proofs.Passed.{search_passed, search_spent}
 use Rattle.cq_tableau.proofs.weighing.row_certificate.Goals as goal
 

@@ -3,7 +3,7 @@ use Rattle.std.proofs.lemmas.List.{take-append-le}
 use Rattle.cq_term.specs.Layout.{restored}
 use Rattle.cq_term.proofs.Marks.{unbind_last}
 use Rattle.cq_term.proofs.lists.unbind.Goals as goal
-use Rattle.spec_lists.proofs.Places.{get_kept}
+use Rattle.spec_numbers.proofs.Places.{get_kept}
 
 pub loop-order-preserved-in-Some : goal.loop-order-preserved-in-Some
 loop-order-preserved-in-Some c =

@@ -6,8 +6,8 @@ use Rattle.std.specs.declared.result.Result.{Result}
 use Rattle.std.specs.declared.result.Result.TheVariants.{Ok, Err}
 use mir.Val.{SFits}
 use mir.Syntax.{w128}
-use Rattle.spec_rational.specs.Rational.{ℚ, int_ℚ, ratio, denominator}
-use Rattle.spec_rational.proofs.Rational.{ratio_back}
+use Rattle.spec_numbers.specs.Rational.{ℚ, int_ℚ, ratio, denominator}
+use Rattle.spec_numbers.proofs.RationalLemmas.{ratio_back}
 use Rattle.cq_term.proofs.lists.word.Goals as goal
 
 whole_number : (q : ℚ) (n d : ℤ) → n ≡ q.numerator → d ≡ pos (denominator q) → of_z w128 d ≡ 1 → q ≡ int_ℚ n

@@ -1,7 +1,7 @@
 use Rattle.std.proofs.Common.{refl, length}
 use Rattle.spec_terms.specs.Variables.{variables, numbered_from}
 use Rattle.cq_term.specs.Meaning.{at}
-use Rattle.spec_lists.proofs.Prefixes.{prefix_same}
+use Rattle.spec_numbers.proofs.Prefixes.{prefix_same}
 use Rattle.cq_unify.proofs.Renamed.{ground_stays, ground_images}
 use Rattle.cq_unify.proofs.copies.copy.Goals as goal
 

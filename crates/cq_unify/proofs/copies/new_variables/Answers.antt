@@ -1,7 +1,7 @@
 use Rattle.std.proofs.Common.{◌≡◌, ◌<◌, ◌+◌, ◌++◌, ◌∷◌, [], suc, length, length-append, arith, ap, refl, ◌∙◌}
 use Rattle.std.proofs.lemmas.List.Elements.{All-push, All-same}
 use Rattle.spec_terms.specs.Term.{Var}
-use Rattle.spec_lists.proofs.Prefixes.{prefix_same, prefix_push, prefix_all_within}
+use Rattle.spec_numbers.proofs.Prefixes.{prefix_same, prefix_push, prefix_all_within}
 use Rattle.cq_unify.proofs.Places.{variable_over, variables_now, images_more}
 use Rattle.cq_unify.proofs.copies.new_variables.Goals as goal
 

@@ -1,6 +1,6 @@
 use Rattle.std.proofs.Common.{◌≡◌, ◌<◌, ◌≤◌, ◌++◌, length, map, All}
 use Rattle.cq_term.specs.Meaning.{at}
-use Rattle.spec_lists.specs.Prefixes.{IsPrefix}
+use Rattle.spec_numbers.specs.Prefixes.{IsPrefix}
 use Rattle.cq_unify.specs.Copied.{unbound_from}
 use Rattle.cq_unify.proofs.copies.new_variables.Given as goal
 

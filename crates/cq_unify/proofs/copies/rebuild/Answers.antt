@@ -2,7 +2,7 @@ use Rattle.std.proofs.Common.{◌≡◌, ◌<◌, ◌++◌, ◌∷◌, [], ◌�
 use Rattle.cq_term.specs.Meaning.{at}
 use Rattle.cq_unify.specs.declared.copies.Step.TheVariants.{Visit, Build}
 use Rattle.cq_unify.specs.Copying.{image_of, Leads, work_left}
-use Rattle.spec_lists.proofs.Prefixes.{prefix_both}
+use Rattle.spec_numbers.proofs.Prefixes.{prefix_both}
 use Rattle.cq_unify.proofs.Steps.{build_can, leads_compounded, less_compounded, work_left-append}
 use Rattle.cq_unify.proofs.copies.rebuild.Goals as goal
 use Rattle.cq_unify.proofs.copies.rebuild.Goals.{In-Build}

@@ -1,6 +1,6 @@
 use Rattle.std.proofs.Common.{◌≡◌, ◌≤◌}
 use Rattle.cq_term.specs.Meaning.{at}
-use Rattle.spec_lists.specs.Prefixes.{IsPrefix}
+use Rattle.spec_numbers.specs.Prefixes.{IsPrefix}
 use Rattle.cq_unify.specs.Copying.{image_of, Leads, work_left}
 use Rattle.cq_unify.proofs.copies.rebuild.Given as goal
 

@@ -4,10 +4,10 @@ use Rattle.spec_terms.specs.Variables.{variables as variables_of_term, renamed_f
 use Rattle.spec_terms.specs.Term.{apply}
 use Rattle.cq_term.specs.Meaning.{HeapTerm, at, blank}
 use Rattle.cq_unify.specs.declared.copies.Renaming.{Renaming}
-use Rattle.cq_walk.specs.Places.{numbers_of}
+use Rattle.cq_term.specs.Places.{numbers_of}
 use Rattle.cq_unify.specs.Copied.{unbound_from}
 use Rattle.cq_unify.specs.Copying.{image_of}
-use Rattle.spec_lists.proofs.Prefixes.{prefix_get_or, prefix_both}
+use Rattle.spec_numbers.proofs.Prefixes.{prefix_get_or, prefix_both}
 use Rattle.cq_unify.proofs.Renamed.{is_renaming, renamed_by, renamed_apart}
 use Rattle.cq_unify.proofs.copies.renamed.Goals as goal
 use Rattle.cq_unify.proofs.copies.renamed.Goals.{In_ok-images}

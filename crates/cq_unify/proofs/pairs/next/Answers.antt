@@ -1,7 +1,7 @@
 use Rattle.std.proofs.Common.{sym, ◌∙◌}
 use Rattle.cq_term.specs.Meaning.{at}
 use Rattle.cq_term.proofs.Arguments.{length-arguments}
-use Rattle.cq_walk.proofs.SideBySide.{pop_less, push_less}
+use Rattle.cq_term.proofs.SideBySide.{pop_less, push_less}
 use Rattle.cq_unify.proofs.Equations.{remains_same, remains_spread, remains_clash, remains_bind, equates_none}
 use Rattle.cq_unify.proofs.pairs.next.Goals as goal
 

@@ -1,4 +1,4 @@
-use Rattle.cq_walk.proofs.SideBySide.{weight}
+use Rattle.cq_term.proofs.SideBySide.{weight}
 use Rattle.cq_unify.proofs.Equations.{Remains}
 use Rattle.cq_unify.proofs.pairs.next.Given as goal
 

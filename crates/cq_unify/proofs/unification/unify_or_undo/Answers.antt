@@ -1,7 +1,7 @@
 use Rattle.std.proofs.Common.{◌≡◌, ◌∙◌, ◌++◌, ◌∷◌, [], length, Ok, ap, sym, subst, rules}
 use Rattle.cq_term.specs.HeapValue.{Terms}
 use Rattle.cq_unify.specs.Unified.{Unified}
-use Rattle.spec_lists.proofs.Places.{newest}
+use Rattle.spec_numbers.proofs.Places.{newest}
 use Rattle.cq_unify.proofs.Named.{names_unified, names_same}
 use Rattle.cq_unify.proofs.unification.unify_or_undo.Goals as goal
 

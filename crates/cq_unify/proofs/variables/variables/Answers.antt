@@ -7,10 +7,10 @@ use Rattle.spec_terms.specs.Term.{Occurs}
 use Rattle.cq_term.specs.Meaning.{at}
 use Rattle.cq_term.specs.Shown.{IsUnbound}
 use Rattle.cq_term.proofs.Arguments.{length-arguments, shown_variable}
-use Rattle.cq_walk.specs.Places.{numbers_of}
+use Rattle.cq_term.specs.Places.{numbers_of}
 use Rattle.cq_unify.proofs.Listing.{through_visit, with_kept, with_last, none_in_constant, all_insert_key}
-use Rattle.cq_walk.proofs.Ground.{after_ground}
-use Rattle.cq_walk.proofs.Places.{numbers_of-insert_key}
+use Rattle.cq_term.proofs.Ground.{after_ground}
+use Rattle.cq_term.proofs.WalkPlaces.{numbers_of-insert_key}
 use Rattle.cq_unify.proofs.Occurrences.{not_in_constant}
 use Rattle.cq_unify.proofs.Visited.{all_past, all_visit, live_visit, through_visits, sizes_visit}
 use Rattle.cq_unify.proofs.variables.variables.Goals as goal

@@ -5,7 +5,7 @@ use Rattle.spec_terms.specs.Term.{size}
 use Rattle.spec_terms.specs.Variables.{variables as variables_of_term}
 use Rattle.cq_term.specs.Meaning.{at}
 use Rattle.cq_term.specs.Shown.{IsUnbound}
-use Rattle.cq_walk.specs.Places.{numbers_of}
+use Rattle.cq_term.specs.Places.{numbers_of}
 use Rattle.cq_unify.specs.Listing.{variables_through}
 use Rattle.cq_unify.proofs.Visited.{AreVisited}
 use Rattle.cq_unify.proofs.variables.variables.Given as goal

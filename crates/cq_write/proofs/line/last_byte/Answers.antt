@@ -1,5 +1,5 @@
 use Rattle.std.proofs.Common.{Some, ap, sym, ◌∙◌}
-use Rattle.spec_writing.specs.Texts.{last_of}
+use Rattle.spec_text.specs.Texts.{last_of}
 use Rattle.cq_write.proofs.Steps.{last_of-snoc}
 use Rattle.cq_write.proofs.line.last_byte.Goals as goal
 

@@ -2,7 +2,7 @@ use Rattle.std.proofs.Common.{sym, ap, ◌∙◌}
 use Rattle.std.proofs.lemmas.Iterator.{YieldsList-from_chars}
 use Rattle.std.proofs.lemmas.Iterator.Consumers.{YieldsList-end}
 use Rattle.std.proofs.lemmas.List.{map-id}
-use Rattle.spec_writing.specs.Texts.{last_of}
+use Rattle.spec_text.specs.Texts.{last_of}
 use Rattle.std.proofs.lemmas.Str.{chars-IsAscii}
 use Rattle.cq_write.proofs.Steps.{last_of-snoc}
 use Rattle.cq_write.proofs.line.last_char.Goals as goal

@@ -1,7 +1,7 @@
 use Rattle.std.proofs.Common.{◌≡◌, ◌∷◌, true, false, length, rules, subst, sym}
 use Rattle.std.specs.Char.{is_ascii_lowercase}
 use Rattle.std.specs.List.{prefix_len}
-use Rattle.spec_grammar.specs.Characters.{is_symbol}
+use Rattle.spec_syntax.specs.Characters.{is_symbol}
 use Rattle.cq_write.specs.Looks.{IsBare, continues_word, is_alone}
 use Rattle.cq_write.proofs.Bare.{bare_letters, bare_symbols}
 use Rattle.cq_write.proofs.looks.looks_of.Goals as goal

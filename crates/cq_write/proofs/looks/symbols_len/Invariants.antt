@@ -1,6 +1,6 @@
 use Rattle.std.proofs.Common.{◌≡◌, ◌+◌, drop}
 use Rattle.std.specs.List.{prefix_len}
-use Rattle.spec_grammar.specs.Characters.{is_symbol}
+use Rattle.spec_syntax.specs.Characters.{is_symbol}
 use Rattle.cq_write.proofs.looks.symbols_len.Given as goal
 
 abbrev pub invariant-loop-len : goal.invariant-loop-len

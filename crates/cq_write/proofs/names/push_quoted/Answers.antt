@@ -2,7 +2,7 @@ use Rattle.std.proofs.Common.{◌++◌, ◌∷◌, [], sym, ap, ◌∙◌, strin
 use Rattle.std.proofs.lemmas.Iterator.{YieldsList-from_chars}
 use Rattle.std.proofs.lemmas.Iterator.Consumers.{YieldsList-end}
 use Rattle.std.proofs.lemmas.List.{map-id}
-use Rattle.spec_writing.specs.Texts.{all_escaped, escaped}
+use Rattle.spec_text.specs.Texts.{all_escaped, escaped}
 use Rattle.cq_write.proofs.Steps.{all_escaped-snoc}
 use Rattle.cq_write.proofs.names.push_quoted.Goals as goal
 

@@ -1,5 +1,5 @@
 use Rattle.std.proofs.Common.{◌≡◌, ◌++◌, ◌∷◌, string_bytes}
-use Rattle.spec_writing.specs.Texts.{all_escaped}
+use Rattle.spec_text.specs.Texts.{all_escaped}
 use Rattle.cq_write.proofs.names.push_quoted.Given as goal
 
 abbrev pub invariant-loop-c : goal.invariant-loop-c

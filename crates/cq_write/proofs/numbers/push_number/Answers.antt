@@ -1,6 +1,6 @@
 use Rattle.std.proofs.Common.{◌≡◌, ◌∙◌, ap, ◌++◌, rules, string_bytes}
 use Rattle.std.specs.Fmt.{signed_decimal}
-use Rattle.spec_writing.proofs.Decimals.{writes_integer, writes_quotient}
+use Rattle.spec_text.proofs.Decimals.{writes_integer, writes_quotient}
 use Rattle.cq_write.proofs.numbers.push_number.Goals as goal
 
 pub returns-in_ok-push_str-3 : goal.returns-in_ok-push_str-3

@@ -5,7 +5,7 @@ use Rattle.indexmap.specs.IndexMap.{get}
 use Rattle.spec_terms.specs.Term.{size}
 use Rattle.spec_terms.specs.Variables.{variables}
 use Rattle.spec_terms.specs.VariableName.{VariableName}
-use Rattle.spec_writing.specs.Written.{is_unnamed}
+use Rattle.spec_text.specs.Written.{is_unnamed}
 use Rattle.cq_term.specs.Meaning.{at}
 use Rattle.cq_unify.specs.Listing.{variables_through}
 use Rattle.cq_write.specs.Naming.{AreFound}

@@ -1,6 +1,6 @@
 use Rattle.std.proofs.Common.{◌∷◌, [], length, map, arith, length-append, ap, ◌∙◌}
 use Rattle.std.proofs.lemmas.List.{length-map}
-use Rattle.cq_linear.specs.StoreValue.{kept}
+use Rattle.cq_store.specs.StoreValue.{kept}
 use Rattle.tests_linear.proofs.linear.changes_come.Goals as goal
 
 pub undo-requires : goal.undo-requires

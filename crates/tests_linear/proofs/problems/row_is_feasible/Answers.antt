@@ -1,5 +1,5 @@
 use Rattle.std.proofs.Common.{◌∙◌, sym, subst}
-use Rattle.spec_rational.specs.Rational.{IsNotNegative}
+use Rattle.spec_numbers.specs.Rational.{IsNotNegative}
 use Rattle.cq_dict.specs.Roles.{is_restricted}
 use Rattle.cq_dict.proofs.Roles.{constant_is}
 use Rattle.cq_simplex.proofs.Feasibility.{column_feasible, free_feasible, restricted_feasible}

@@ -1,8 +1,8 @@
 use Rattle.std.proofs.Common.{◌≡◌, ◌<◌, ◌∷◌, ◌++◌, [], inl, inr, length, take, take_all, arith, rules, ap, sym, subst, ◌∙◌}
 use Rattle.std.proofs.lemmas.List.{take_more}
-use Rattle.cq_row.specs.declared.Entry.{Entry}
-use Rattle.cq_row.specs.Rows.{Has}
-use Rattle.cq_row.proofs.Steps.{has_end}
+use Rattle.cq_frac.specs.declared.row.Entry.{Entry}
+use Rattle.cq_frac.specs.Rows.{Has}
+use Rattle.cq_frac.proofs.Steps.{has_end}
 use Rattle.tests_linear.proofs.problems.within.Goals as goal
 
 pub loop-m-preserved : goal.loop-m-preserved

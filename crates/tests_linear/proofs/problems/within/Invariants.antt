@@ -1,6 +1,6 @@
 use Rattle.std.proofs.Common.{◌<◌, take}
-use Rattle.cq_row.specs.declared.Entry.{Entry}
-use Rattle.cq_row.specs.Rows.{Has}
+use Rattle.cq_frac.specs.declared.row.Entry.{Entry}
+use Rattle.cq_frac.specs.Rows.{Has}
 use Rattle.tests_linear.proofs.problems.within.Given as goal
 
 abbrev pub invariant-loop-m : goal.invariant-loop-m

@@ -1,6 +1,6 @@
 use Rattle.std.proofs.Common.{rules, ◌≡◌, ◌<◌, ◌≤◌, [], ◌∷◌, ◌++◌, length, get_or, arith, ap, sym, subst, ◌∙◌, append-nil}
 use Rattle.std.proofs.lemmas.List.{take_all}
-use Rattle.cq_sift.proofs.Parts.{next_told}
+use Rattle.cq_project.proofs.Parts.{next_told}
 use Rattle.tests_projection.proofs.given.tells.Goals as goal
 
 pub rows-init : goal.rows-init

@@ -1,5 +1,5 @@
 use Rattle.std.proofs.Common.{◌∙◌, arith, sym}
-use Rattle.spec_rational.proofs.Sign.{one_not_zero}
+use Rattle.spec_numbers.proofs.Sign.{one_not_zero}
 use Rattle.tests_projection.proofs.given.variable.Goals as goal
 
 pub new-requires : goal.new-requires

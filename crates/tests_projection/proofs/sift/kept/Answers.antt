@@ -1,6 +1,6 @@
 use Rattle.std.proofs.Common.{◌≡◌, ◌++◌, IfSome, Option, sym, subst}
 use Rattle.spec_linear.specs.Solution.{Solvable}
-use Rattle.cq_linear.specs.StoreValue.{StoreValue}
+use Rattle.cq_store.specs.StoreValue.{StoreValue}
 use Rattle.tests_projection.proofs.sift.kept.Goals as goal
 
 pub sift-requires : goal.sift-requires

@@ -1,7 +1,7 @@
 use Rattle.std.proofs.Common.{length}
-use Rattle.cq_stored.specs.StoredValue.{ClauseValue}
+use Rattle.cq_resolve.specs.StoredValue.{ClauseValue}
 use Rattle.cq_clauses.specs.Walks.{IsWalk, left}
-use Rattle.cq_program.specs.Keys.{key_of}
+use Rattle.cq_resolve.specs.Keys.{key_of}
 use Rattle.tests_search.proofs.program.tries.Given as goal
 
 abbrev pub invariant-loop-clause : goal.invariant-loop-clause

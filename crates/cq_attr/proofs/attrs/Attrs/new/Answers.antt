@@ -1,6 +1,6 @@
 use Rattle.std.proofs.Common.{ap}
 use Rattle.std.specs.List.{zip}
-use Rattle.cq_counted.specs.Counting.{counted}
+use Rattle.cq_trail.specs.Counting.{counted}
 use Rattle.cq_attr.proofs.Parts.{empty_parts}
 use Rattle.cq_attr.proofs.attrs.Attrs.new.Goals as goal
 

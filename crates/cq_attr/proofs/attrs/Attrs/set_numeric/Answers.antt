@@ -1,6 +1,6 @@
 use Rattle.std.proofs.Common.{◌≡◌, ℕ, false, ◌==◌, ◌++◌, [], ◌∷◌, map, true≢false, ap, sym, ◌∙◌}
 use Rattle.std.specs.List.{zip}
-use Rattle.cq_counted.proofs.Counting.{counted_changed}
+use Rattle.cq_trail.proofs.Counting.{counted_changed}
 use Rattle.cq_attr.proofs.Changes.{attributes_numeric, attributes_marked}
 use Rattle.cq_attr.proofs.Parts.{slots_same, parts_changed}
 use Rattle.cq_attr.specs.Attributes.{is_numeric}

@@ -1,7 +1,7 @@
 use Rattle.std.proofs.Common.{◌≡◌, ◌++◌, ◌∷◌, [], ◌∙◌, true, map, ap, ap₂, length}
 use Rattle.std.specs.List.{zip}
-use Rattle.cq_counted.proofs.Counting.{counted_changed}
-use Rattle.cq_walk.specs.Places.{numbers_of}
+use Rattle.cq_trail.proofs.Counting.{counted_changed}
+use Rattle.cq_term.specs.Places.{numbers_of}
 use Rattle.cq_attr.specs.declared.susp.Slot.{Slot}
 use Rattle.cq_attr.specs.Attributes.{suspended}
 use Rattle.cq_attr.specs.Layout.{Parts, HaveSlots, attributes_by}

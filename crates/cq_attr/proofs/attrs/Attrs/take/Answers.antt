@@ -1,6 +1,6 @@
 use Rattle.std.proofs.Common.{◌≡◌, ◌∙◌, map, ap, length, arith}
 use Rattle.std.specs.List.{zip}
-use Rattle.cq_counted.proofs.Counting.{counted_changed}
+use Rattle.cq_trail.proofs.Counting.{counted_changed}
 use Rattle.cq_attr.specs.Attributes.{without}
 use Rattle.cq_attr.specs.Layout.{Parts, HaveSlots, attributes_by}
 use Rattle.cq_attr.proofs.Changes.{attributes_taken, have_taken}

@@ -7,7 +7,7 @@ use Rattle.std.proofs.lemmas.List.Sorted.{Contains-permutation, IsPermutation-sy
 use Rattle.std.proofs.lemmas.Map.Keys.{IsStrictlyIncreasing-dedup}
 use Rattle.cq_frac.specs.declared.VarId.{VarId}
 use Rattle.cq_attr.proofs.Elements.{contains_none, on_err}
-use Rattle.cq_walk.specs.Places.{numbers_of}
+use Rattle.cq_term.specs.Places.{numbers_of}
 use Rattle.cq_attr.proofs.Awake.{Found, found_more, woken_from, found_woken, woken_by, none_woken, ascends_short}
 use Rattle.cq_attr.proofs.attrs.Attrs.woken.Goals as goal
 

@@ -3,7 +3,7 @@ use Rattle.std.specs.Prelude.{slice_get}
 use Rattle.std.specs.Option.{option_map, option_map_or}
 use Rattle.std.proofs.lemmas.List.{length-map}
 use Rattle.std.proofs.lemmas.Option.{slice_get-map, get_or_from_slice_get}
-use Rattle.spec_lists.proofs.Places.{take-next}
+use Rattle.spec_numbers.proofs.Places.{take-next}
 use Rattle.cq_clauses.specs.declared.clauses.Stored.{Stored}
 use Rattle.cq_clauses.specs.declared.key.Key.{Key}
 use Rattle.cq_clauses.specs.ClausesValue.{ClausesValue}

@@ -2,7 +2,7 @@ use Rattle.std.proofs.Common.{◌≡◌, ◌∙◌, ◌+◌, ◌++◌, [], ◌�
 use Rattle.std.proofs.Math.Seq.{take-length}
 use Rattle.std.proofs.lemmas.List.Elements.{Contains-get_or}
 use Rattle.std.specs.Prelude.{unwrap_or, slice_index_or}
-use Rattle.cq_row.proofs.Shifts.{over_anywhere}
+use Rattle.cq_frac.proofs.Shifts.{over_anywhere}
 use Rattle.cq_dict.specs.declared.table.Role.{Role}
 use Rattle.cq_dict.specs.Roles.{IsAt, is_live, is_dropped}
 use Rattle.cq_dict.specs.Changes.{Covers, Turned}

@@ -1,6 +1,6 @@
 use Rattle.std.proofs.Common.{◌<◌, length, sym, subst}
-use Rattle.spec_rational.specs.Rational.{◌+ℚ◌}
-use Rattle.cq_row.specs.Rows.{sum_at}
+use Rattle.spec_numbers.specs.Rational.{◌+ℚ◌}
+use Rattle.cq_frac.specs.Rows.{sum_at}
 use Rattle.cq_dict.specs.Roles.{AreOverColumns, Expresses}
 use Rattle.cq_dict.proofs.Ends.{row_table, row_defines}
 use Rattle.cq_dict.proofs.dict.Dict.add_row.Goals as goal

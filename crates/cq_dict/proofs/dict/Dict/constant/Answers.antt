@@ -1,5 +1,5 @@
 use Rattle.std.proofs.Common.{◌∙◌, ap}
-use Rattle.cq_row.specs.Row.{Row}
+use Rattle.cq_frac.specs.Row.{Row}
 use Rattle.cq_dict.proofs.Roles.{row_one}
 use Rattle.cq_dict.proofs.dict.Dict.constant.Goals as goal
 

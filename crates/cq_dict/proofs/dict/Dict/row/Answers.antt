@@ -1,6 +1,6 @@
 use Rattle.std.proofs.Common.{◌∙◌, ap, sym, subst}
-use Rattle.cq_row.specs.Row.{Row}
-use Rattle.cq_row.specs.Rows.{IsRowFrom}
+use Rattle.cq_frac.specs.Row.{Row}
+use Rattle.cq_frac.specs.Rows.{IsRowFrom}
 use Rattle.cq_dict.specs.Roles.{is_live}
 use Rattle.cq_dict.proofs.Roles.{row_one}
 use Rattle.cq_dict.proofs.dict.Dict.row.Goals as goal

@@ -1,11 +1,11 @@
 use Rattle.std.proofs.Common.{◌≡◌, ◌∙◌, ◌≤◌, OnOk, suc, length, refl, sym, ap, arith, subst}
-use Rattle.spec_lists.proofs.Prefixes.{prefix_both}
+use Rattle.spec_numbers.proofs.Prefixes.{prefix_both}
 use Rattle.spec_search.specs.Search.{Search, start}
 use Rattle.spec_syntax.specs.TextTokens.{VariableName}
 use Rattle.std.specs.Prelude.{List}
 use Rattle.cq_machine.proofs.Interned.{texts_kept}
-use Rattle.cq_events.proofs.Engines.{kept_where}
-use Rattle.cq_transcript.specs.Sentences.{budgets_within}
+use Rattle.cq_engine.proofs.Engines.{kept_where}
+use Rattle.cq_session.specs.Sentences.{budgets_within}
 use Rattle.cq_interpreter.specs.Numbered.{AreNumbered}
 use Rattle.cq_interpreter.specs.Toplevels.{texts, images_of, IsAsking}
 use Rattle.cq_interpreter.specs.declared.toplevel.Toplevel.{Toplevel}

@@ -2,10 +2,10 @@ use Rattle.std.proofs.Common.{◌≡◌, List, Result, Ok, Err, IfOk}
 use Rattle.std.specs.Prelude.{Vec, ℕ}
 use Rattle.std.specs.declared.alloc.AllocError.{AllocError}
 use Rattle.std.specs.declared.alloc.Global.{Global}
-use Rattle.spec_lists.specs.Texts.{Text}
-use Rattle.spec_operators.specs.Operators.{Ops}
+use Rattle.spec_numbers.specs.Texts.{Text}
+use Rattle.spec_syntax.specs.Operators.{Ops}
 use Rattle.spec_branch.specs.Branch.{State}
-use Rattle.spec_gen.specs.Outcome.{value_text}
+use Rattle.spec_command.specs.Outcome.{value_text}
 use Rattle.cq_built.proofs.Trees.{known_at}
 use Rattle.cq_machine.specs.Machines.{terms}
 use Rattle.cq_interpreter.specs.Toplevels.{texts, HasAnswered}

@@ -2,8 +2,8 @@ use Rattle.std.proofs.Common.{◌≡◌, ◌∷◌, length, map, refl, sym, ap, 
 use Rattle.spec_search.specs.Search.{start}
 use Rattle.spec_transcript.specs.Purposes.{once}
 use Rattle.spec_transcript.specs.Session.{Asked}
-use Rattle.spec_reading.specs.Later.{tree_later}
-use Rattle.cq_atoms.specs.Texts.{KeepsTexts}
+use Rattle.spec_text.specs.Later.{tree_later}
+use Rattle.cq_term.specs.Texts.{KeepsTexts}
 use Rattle.cq_machine.proofs.Interned.{texts_kept}
 use Rattle.cq_machine.specs.Machines.{database_of}
 use Rattle.cq_interpreter.specs.Toplevels.{asked, texts, images_of, program_of, IsAsking, IsWhole}

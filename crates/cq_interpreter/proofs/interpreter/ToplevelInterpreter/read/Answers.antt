@@ -1,20 +1,20 @@
 use Rattle.std.proofs.Common.{◌≡◌, ◌⊎◌, length, true, refl, sym, ap, ◌∙◌, subst, Ok}
-use Rattle.spec_operators.specs.Operators.{Ops}
+use Rattle.spec_syntax.specs.Operators.{Ops}
 use Rattle.spec_search.specs.Database.{Database}
-use Rattle.cq_atoms.specs.Texts.{KeepsTexts}
+use Rattle.cq_term.specs.Texts.{KeepsTexts}
 use Rattle.cq_ops.specs.Tables.{named}
 use Rattle.cq_machine.proofs.Interned.{texts_kept}
-use Rattle.cq_events.proofs.Engines.{kept_where}
-use Rattle.spec_reading.specs.Decided.{Decided}
-use Rattle.spec_reading.specs.Readings.{Reads}
+use Rattle.cq_engine.proofs.Engines.{kept_where}
+use Rattle.spec_text.specs.Decided.{Decided}
+use Rattle.spec_text.specs.Readings.{Reads}
 use Rattle.cq_term.specs.HeapValue.{Terms}
-use Rattle.cq_events.specs.declared.engine.Engine.{Engine}
+use Rattle.cq_engine.specs.declared.events.engine.Engine.{Engine}
 use Rattle.cq_read.specs.Inputs.{Input}
 use Rattle.cq_read.specs.Shown.{read_of}
 use Rattle.cq_read.specs.declared.feed.Fed.{Fed}
 use Rattle.cq_read.specs.declared.feed.Fed.TheVariants as fed
 use Rattle.cq_read.specs.Feeds.{IsFed, place_behind}
-use Rattle.cq_transcript.specs.Sentences.{Program, IsSettled}
+use Rattle.cq_session.specs.Sentences.{Program, IsSettled}
 use Rattle.cq_interpreter.specs.Taken.{IsDone}
 use Rattle.cq_interpreter.specs.Toplevels.{texts, names_of, program_of, IsWhole, IsAsking}
 use Rattle.cq_interpreter.specs.declared.toplevel.Toplevel.{Toplevel}

@@ -1,8 +1,8 @@
 use Rattle.std.proofs.Common.{refl, ◌∙◌, subst}
 use Rattle.spec_transcript.specs.Purposes.{ball_line}
 use Rattle.cq_machine.proofs.Interned.{texts_kept}
-use Rattle.cq_events.proofs.Engines.{kept_where}
-use Rattle.cq_consult.specs.Consulted.{Consults}
+use Rattle.cq_engine.proofs.Engines.{kept_where}
+use Rattle.cq_interpreter.specs.Consulted.{Consults}
 use Rattle.cq_interpreter.specs.Toplevels.{texts, IsWhole}
 use Rattle.cq_interpreter.specs.declared.toplevel.Toplevel.{Toplevel}
 use Rattle.cq_interpreter.proofs.Wholes.{goals_kept, program_kept, whole_kept}

@@ -2,7 +2,7 @@ use Rattle.std.proofs.Common.{refl, ap, ◌∙◌, subst}
 use Rattle.spec_transcript.specs.Purposes.{Purpose, purpose, once}
 use Rattle.cq_read.specs.Names.{variables}
 use Rattle.cq_machine.specs.Machines.{database_of}
-use Rattle.cq_transcript.specs.declared.interpreter.Sentence.TheVariants as sentence
+use Rattle.cq_session.specs.declared.transcript.interpreter.Sentence.TheVariants as sentence
 use Rattle.cq_interpreter.specs.Taken.{IsTaken}
 use Rattle.cq_interpreter.specs.Toplevels.{images, names_of, program_of, term_in, IsAsking}
 use Rattle.cq_interpreter.proofs.Taking.{begins_here, asks_here}

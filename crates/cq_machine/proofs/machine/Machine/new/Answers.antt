@@ -1,15 +1,15 @@
 use Rattle.std.proofs.Common.{◌≡◌, List, [], length, refl, sym, ap, ap₂, ◌∙◌, subst, arith}
 use Rattle.std.specs.List.{zip}
-use Rattle.spec_lists.specs.Texts.{Text}
-use Rattle.spec_operators.specs.Operators.{Ops}
-use Rattle.spec_operators.specs.Standard.{standard}
-use Rattle.cq_program.specs.Database.{as_database}
+use Rattle.spec_numbers.specs.Texts.{Text}
+use Rattle.spec_syntax.specs.Operators.{Ops}
+use Rattle.spec_syntax.specs.Standard.{standard}
+use Rattle.cq_resolve.specs.Database.{as_database}
 use Rattle.cq_term.specs.Trees.{KnowsTerms}
-use Rattle.cq_world.specs.Contents.{Contents}
-use Rattle.spec_machine.specs.Cells.{Value}
-use Rattle.cq_steps.specs.Choices.{AreOpen}
-use Rattle.cq_steps.specs.Worlds.{saved_values, KnowsNothing}
-use Rattle.cq_steps.specs.declared.alternatives.Alternatives.{Alternatives}
+use Rattle.cq_settle.specs.Contents.{Contents}
+use Rattle.spec_engine.specs.Cells.{Value}
+use Rattle.cq_branch.specs.Choices.{AreOpen}
+use Rattle.cq_branch.specs.Worlds.{saved_values, KnowsNothing}
+use Rattle.cq_branch.specs.declared.alternatives.Alternatives.{Alternatives}
 use Rattle.cq_machine.proofs.machine.Machine.new.Goals as goal
 
 no_terms : (texts : List Text) → KnowsTerms texts []

@@ -1,6 +1,6 @@
 use Rattle.std.proofs.Common.{◌≡◌, Some, ℕ, codes}
 use Rattle.std.specs.Prelude.{slice_get}
-use Rattle.spec_lists.specs.Texts.{Text}
+use Rattle.spec_numbers.specs.Texts.{Text}
 use Rattle.cq_machine.proofs.Interned.{gains_then}
 use Rattle.cq_machine.proofs.names.Names.new.Goals as goal
 

@@ -1,6 +1,6 @@
 use Rattle.std.proofs.Common.{◌≡◌, Bool, None, sym, subst}
 use Rattle.spec_search.specs.Replies.{succeeds_if}
-use Rattle.cq_steps.specs.Worlds.{Leads}
+use Rattle.cq_branch.specs.Worlds.{Leads}
 use Rattle.cq_machine.specs.Machines.{now, holds}
 use Rattle.cq_machine.proofs.step.Step.succeed_if.Goals as goal
 

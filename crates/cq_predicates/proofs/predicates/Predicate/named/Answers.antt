@@ -1,5 +1,5 @@
 use Rattle.std.proofs.Common.{arith}
-use Rattle.cq_predicates.proofs.Table.{none_other}
+use Rattle.cq_predicates.proofs.PredicatesLemmas.{none_other}
 use Rattle.cq_predicates.proofs.predicates.Predicate.named.Goals as goal
 
 pub returns-in_default : goal.returns-in_default

@@ -1,7 +1,7 @@
 use Rattle.std.proofs.Common.{sym, ap, subst, ◌∙◌, true, false}
-use Rattle.cq_lex.specs.Shown.{shown}
-use Rattle.cq_parse.specs.Known.{Knows, KnowsOrNone}
-use Rattle.cq_parse.specs.Views.{state_or_none}
+use Rattle.cq_read.specs.LexShown.{shown}
+use Rattle.cq_read.specs.Known.{Knows, KnowsOrNone}
+use Rattle.cq_read.specs.Views.{state_or_none}
 use Rattle.cq_read.specs.Names.{variables}
 use Rattle.cq_read.proofs.Steps.{advances}
 use Rattle.cq_read.proofs.clause.Clause.advance.Goals as goal

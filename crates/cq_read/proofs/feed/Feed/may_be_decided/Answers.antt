@@ -1,7 +1,7 @@
 use Rattle.std.proofs.lemmas.Grind.{common_steps}
 use Rattle.std.proofs.Common.{rules, arith, ◌≡◌, ℕ, ◌≤◌, sym, subst, length}
-use Rattle.spec_reading.specs.Readings.{Reads}
-use Rattle.spec_reading.specs.Decided.{IsClosed, IsFullStop}
+use Rattle.spec_text.specs.Readings.{Reads}
+use Rattle.spec_text.specs.Decided.{IsClosed, IsFullStop}
 use Rattle.cq_read.specs.Inputs.{IsTried}
 use Rattle.cq_read.proofs.Feeding.{undecided, tried_all, near_within}
 use Rattle.cq_read.proofs.feed.Feed.may_be_decided.Goals as goal

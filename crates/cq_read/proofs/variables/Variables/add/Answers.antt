@@ -4,10 +4,10 @@ use Rattle.indexmap.specs.IndexMap.{insert_entry}
 use Rattle.spec_terms.specs.VariableName.{VariableName}
 use Rattle.spec_syntax.specs.TextTokens.{known, with_variable}
 use Rattle.cq_term.specs.Shown.{IsUnbound}
-use Rattle.cq_names.specs.Names.{names_of}
+use Rattle.cq_read.specs.NamesWords.{names_of}
 use Rattle.cq_read.specs.Names.{AreUnbound}
 use Rattle.cq_read.proofs.Lookups.{adds_named, added_names}
-use Rattle.cq_names.proofs.Lookups.{with_names}
+use Rattle.cq_read.proofs.NamesLookups.{with_names}
 use Rattle.cq_read.proofs.Growth.{all_unbound_kept, unbound_push}
 use Rattle.cq_read.proofs.variables.Variables.add.Goals as goal
 

@@ -1,7 +1,7 @@
 use Rattle.std.proofs.Common.{◌∙◌, sym}
 use Rattle.cq_read.proofs.Lookups.{known_named}
-use Rattle.cq_names.proofs.Lookups.{looks_up, with_names}
-use Rattle.cq_names.specs.Names.{names_of}
+use Rattle.cq_read.proofs.NamesLookups.{looks_up, with_names}
+use Rattle.cq_read.specs.NamesWords.{names_of}
 use Rattle.cq_read.proofs.variables.Variables.known.Goals as goal
 
 pub returns : goal.returns

@@ -1,100 +1,176 @@
--- What the entered equation makes of the told list; one that is refused leaves the table of the mark.
-use Rattle.std.proofs.Common.{◌≡◌, [], ◌∷◌, ◌++◌, List, ap, ap₂, sym, subst, ◌∙◌}
-use Rattle.spec_linear.specs.Solution.{Constraint}
-use Rattle.cq_store.specs.Contents.{Named, Contents, IsStored}
-use Rattle.cq_store.specs.Entering.{TakesEquation, IsRefused, EnteringPair}
-use Rattle.cq_store.specs.Told.{numbers_of}
-use Rattle.cq_store.proofs.Solved.{solved_form}
-use Rattle.cq_store.proofs.Gained.{told_stored, told_fixed, told_order, told_solvable, told_unsolvable, call_makes, moved_err}
-use Rattle.spec_lists.proofs.Places.{newest}
+-- What is entered between a mark and its end; one that is refused leaves what is held at the mark.
+use Rattle.std.proofs.Common.{◌≡◌, List, map, ◌++◌, [], ◌∷◌, ap, ap₂, sym, subst, ◌∙◌}
+use Rattle.std.specs.List.{zip}
+use Rattle.spec_linear.specs.Solution.{Constraint, Solvable}
+use Rattle.spec_linear.specs.Certificate.{Refutes}
+use Rattle.cq_trail.proofs.Counting.{counted_changed}
+use Rattle.cq_dict.specs.DictValue.{quantities_of}
+use Rattle.cq_dict.specs.Roles.{Quantities}
+use Rattle.cq_tableau.specs.declared.names.Name.{Name}
+use Rattle.cq_store.specs.StoreValue.{StoreValue}
+use Rattle.cq_tableau.specs.Stored.{IsStored, JoinsStored}
+use Rattle.cq_store.proofs.Holding.{held_joined, held_undone, last_undone, left_same, room_kept}
+use Rattle.cq_tableau.proofs.Storing.{stored_solvable}
+use Rattle.spec_simplex.specs.Asked.{NoQuestion}
+use Rattle.cq_equations.proofs.Gained.{moved_err}
+use Rattle.cq_store.specs.declared.store.StoreFault.TheVariants.{Pivots}
+use Rattle.cq_store.specs.StoreValue.{MayTake, Only}
+use Rattle.cq_store.proofs.Spent.{not_spent}
 use Rattle.cq_store.proofs.store.Store.tell.Goals as goal
-use Rattle.cq_store.proofs.store.Store.tell.Goals.{After-unwrap, After-undo, After-undo-in-Err}
-
-told_is : (c : After-unwrap) → c.push.new.self.items ≡ c.self.inside.told.items ++ c.args.c ∷ []
-told_is c = (rw c.unwrap.ensures at c.push.ensures.items) ∙ ap (λ l. l ++ c.args.c ∷ []) c.reserve.ensures.items
-
-entered : (c : After-unwrap) → TakesEquation c.self.inside.table.now c.c.inside.form (numbers_of c.in-Ok-Joined.fixed.items) c.forget.new.self.now
-entered c =
-    subst (λ t. TakesEquation c.self.inside.table.now c.c.inside.form (numbers_of c.in-Ok-Joined.fixed.items) t) (sym c.forget.ensures.now)
-    (subst (λ t. TakesEquation t c.c.inside.form (numbers_of c.in-Ok-Joined.fixed.items) c.enter.new.table.now) c.mark.ensures.now (rw c.in-Ok-Joined.field-0-is at c.in-Ok-Joined.ensures.joined))
-
-undone : (c : After-undo) → c.undo.new.self.now ≡ c.self.inside.table.now
-undone c = newest c.self.inside.table.saved c.self.inside.table.now c.in_ok-start.start.number c.in_ok-start.ensures.mark c.enter.new.table.saved (c.enter.ensures.saved ∙ c.in_ok-start.ensures.saved) c.undo.new.self.now c.undo.ensures.now
-
-undone_after_fault : (c : After-undo-in-Err) → c.undo-in-Err.new.self.now ≡ c.self.inside.table.now
-undone_after_fault c = newest c.self.inside.table.saved c.self.inside.table.now c.in_ok-start.start.number c.in_ok-start.ensures.mark c.enter.new.table.saved (c.enter.ensures.saved ∙ c.in_ok-start.ensures.saved) c.undo-in-Err.new.self.now c.undo-in-Err.ensures.now
-
--- the same list and the same table
-still_stored : (l told : List Constraint) (old t : Named) → IsStored l old → told ≡ l → t ≡ old → IsStored told t
-still_stored l told old t s e f = subst (λ m. IsStored m t) (sym e) (subst (IsStored l) (sym f) s)
-
-pub returns-in_err-reserve-clause-solved : goal.returns-in_err-reserve-clause-solved
-returns-in_err-reserve-clause-solved c = solved_form c.reserve.new.self.items c.self.inside.table.now (subst (λ l. IsStored l c.self.inside.table.now) (sym c.reserve.ensures.items) c.self.invariant)
-
-pub returns-in_err-start-clause-solved : goal.returns-in_err-start-clause-solved
-returns-in_err-start-clause-solved c = solved_form c.reserve.new.self.items c.mark.new.self.now (still_stored c.self.inside.told.items c.reserve.new.self.items c.self.inside.table.now c.mark.new.self.now c.self.invariant c.reserve.ensures.items c.mark.ensures.now)
+use Rattle.cq_store.proofs.store.Store.tell.Goals.{After-undo}
 
 pub invariant_of-self-in-Ok-Joined : goal.invariant_of-self-in-Ok-Joined
 invariant_of-self-in-Ok-Joined c =
-    let k = (goal.at.invariant_of-self-in-Ok-Joined c).After-unwrap in
-    told_stored c.self.inside.told.items c.self.inside.table.now c.self.invariant c.args.c c.requires c.c.inside.form (ap (λ (z : Constraint). z.form) c.c.view_is) (numbers_of c.in-Ok-Joined.fixed.items) c.forget.new.self.now (entered k) c.push.new.self.items (told_is k)
+    let told = ap (λ (z : List Constraint × (List Name × Quantities)). z.0) c.begin.ensures.now in
+    let j : JoinsStored c.begin.new.self.inner.first.now c.args.c c.in-Ok-Joined.fixed.items c.enter.new.held.second.first.now (quantities_of c.enter.new.held.second.second) =
+    rw c.in-Ok-Joined.field-0-is at c.in-Ok-Joined.ensures.joined in
+    let t : c.enter.new.held.first.now ≡ c.begin.new.self.inner.first.now ++ c.args.c ∷ [] = rw c.in-Ok-Joined.field-0-is at c.in-Ok-Joined.ensures.told in
+    held_joined _ _ _ c.self.invariant c.in_ok-start.start.number c.in_ok-start.ensures.mark _ c.begin.ensures.now
+    (c.enter.new.held.first.now, (c.enter.new.held.second.first.now, quantities_of c.enter.new.held.second.second)) c.enter.ensures.grows c.enter.new.numbers.entries
+    c.enter.ensures.numbered
+    _ (counted_changed _ _ c.in_ok-start.ensures.all (zip c.enter.new.held.first.saved (zip c.enter.new.held.second.first.saved c.enter.new.held.second.second.saved))
+    (ap₂ (λ a b. zip a b) c.enter.ensures.told_saved (ap₂ (λ a b. zip a b) c.enter.ensures.names_saved c.enter.ensures.dict_saved)) (c.enter.new.held.first.now, (c.enter.new.held.second.first.now, quantities_of c.enter.new.held.second.second))
+    ∙ c.in_ok-start.ensures.put)
+    _ _ c.forget.ensures.saved c.forget.ensures.now
+    (subst (λ l. IsStored l c.enter.new.held.second.first.now (quantities_of c.enter.new.held.second.second)) (sym t) j.stored)
 
-pub invariant_of-self-in-Contradiction-1 : goal.invariant_of-self-in-Contradiction-1
-invariant_of-self-in-Contradiction-1 c =
-    let k = (goal.at.invariant_of-self-in-Contradiction-1 c).After-undo in
-    still_stored c.self.inside.told.items c.reserve.new.self.items c.self.inside.table.now c.undo.new.self.now c.self.invariant c.reserve.ensures.items (undone k)
+pub invariant_of-self-in-Ok-Contradiction : goal.invariant_of-self-in-Ok-Contradiction
+invariant_of-self-in-Ok-Contradiction c =
+    held_undone _ _ _ c.self.invariant c.in_ok-start.start.number c.in_ok-start.ensures.mark _ c.begin.ensures.now
+    (c.enter.new.held.first.now, (c.enter.new.held.second.first.now, quantities_of c.enter.new.held.second.second)) c.enter.ensures.grows c.enter.new.numbers.entries
+    c.enter.ensures.numbered
+    _ (counted_changed _ _ c.in_ok-start.ensures.all (zip c.enter.new.held.first.saved (zip c.enter.new.held.second.first.saved c.enter.new.held.second.second.saved))
+    (ap₂ (λ a b. zip a b) c.enter.ensures.told_saved (ap₂ (λ a b. zip a b) c.enter.ensures.names_saved c.enter.ensures.dict_saved)) (c.enter.new.held.first.now, (c.enter.new.held.second.first.now, quantities_of c.enter.new.held.second.second))
+    ∙ c.in_ok-start.ensures.put)
+    _ _ c.undo.ensures.saved c.undo.ensures.now
 
-pub invariant_of-self-in-Err-1 : goal.invariant_of-self-in-Err-1
-invariant_of-self-in-Err-1 c =
-    let k = (goal.at.invariant_of-self-in-Err-1 c).After-undo-in-Err in
-    still_stored c.self.inside.told.items c.reserve.new.self.items c.self.inside.table.now c.undo-in-Err.new.self.now c.self.invariant c.reserve.ensures.items (undone_after_fault k)
+pub invariant_of-self-in-Err : goal.invariant_of-self-in-Err
+invariant_of-self-in-Err c =
+    held_undone _ _ _ c.self.invariant c.in_ok-start.start.number c.in_ok-start.ensures.mark _ c.begin.ensures.now
+    (c.enter.new.held.first.now, (c.enter.new.held.second.first.now, quantities_of c.enter.new.held.second.second)) c.enter.ensures.grows c.enter.new.numbers.entries
+    c.enter.ensures.numbered
+    _ (counted_changed _ _ c.in_ok-start.ensures.all (zip c.enter.new.held.first.saved (zip c.enter.new.held.second.first.saved c.enter.new.held.second.second.saved))
+    (ap₂ (λ a b. zip a b) c.enter.ensures.told_saved (ap₂ (λ a b. zip a b) c.enter.ensures.names_saved c.enter.ensures.dict_saved)) (c.enter.new.held.first.now, (c.enter.new.held.second.first.now, quantities_of c.enter.new.held.second.second))
+    ∙ c.in_ok-start.ensures.put)
+    _ _ c.undo-in-Err.ensures.saved c.undo-in-Err.ensures.now
+
+undone_told : (c : After-undo) → c.undo.new.self.inner.first.now ≡ c.args.self.now.told
+undone_told c =
+    ap (λ (z : List Constraint × (List Name × Quantities)). z.0)
+    (last_undone _ _ _ c.self.invariant c.in_ok-start.start.number c.in_ok-start.ensures.mark _ c.begin.ensures.now
+    (c.enter.new.held.first.now, (c.enter.new.held.second.first.now, quantities_of c.enter.new.held.second.second)) c.enter.ensures.grows c.enter.new.numbers.entries
+    c.enter.ensures.numbered
+    _ (counted_changed _ _ c.in_ok-start.ensures.all (zip c.enter.new.held.first.saved (zip c.enter.new.held.second.first.saved c.enter.new.held.second.second.saved))
+    (ap₂ (λ a b. zip a b) c.enter.ensures.told_saved (ap₂ (λ a b. zip a b) c.enter.ensures.names_saved c.enter.ensures.dict_saved)) (c.enter.new.held.first.now, (c.enter.new.held.second.first.now, quantities_of c.enter.new.held.second.second))
+    ∙ c.in_ok-start.ensures.put)
+    _ _ c.undo.ensures.saved c.undo.ensures.now)
+    ∙ ap (λ (z : StoreValue). z.told) c.self.view_is
 
 pub returns-in-Ok-Joined-clause-kept : goal.returns-in-Ok-Joined-clause-kept
 returns-in-Ok-Joined-clause-kept c =
-    let k = (goal.at.returns-in-Ok-Joined-clause-kept c).After-unwrap in
-    (told_solvable c.self.inside.told.items c.self.inside.table.now c.self.invariant c.args.c c.requires c.c.inside.form (ap (λ (z : Constraint). z.form) c.c.view_is) (numbers_of c.in-Ok-Joined.fixed.items) c.forget.new.self.now (entered k) c.push.new.self.items (told_is k), told_is k ∙ ap (λ (z : Contents). z.told ++ c.args.c ∷ []) c.self.view_is)
-
-pub returns-in-Ok-Joined-clause-fixed : goal.returns-in-Ok-Joined-clause-fixed
-returns-in-Ok-Joined-clause-fixed c =
-    let k = (goal.at.returns-in-Ok-Joined-clause-fixed c).After-unwrap in
-    rw (← c.self.view_is) (told_fixed c.self.inside.told.items c.self.inside.table.now c.self.invariant c.args.c c.requires c.c.inside.form (ap (λ (z : Constraint). z.form) c.c.view_is) (numbers_of c.in-Ok-Joined.fixed.items) c.forget.new.self.now (entered k) c.push.new.self.items (told_is k))
-
-pub returns-in-Ok-Joined-clause-order : goal.returns-in-Ok-Joined-clause-order
-returns-in-Ok-Joined-clause-order c =
-    let k = (goal.at.returns-in-Ok-Joined-clause-order c).After-unwrap in
-    rw (← c.self.view_is) (told_order c.self.inside.told.items c.self.inside.table.now c.self.invariant c.args.c c.requires c.c.inside.form (ap (λ (z : Constraint). z.form) c.c.view_is) (numbers_of c.in-Ok-Joined.fixed.items) c.forget.new.self.now (entered k) c.push.new.self.items (told_is k))
-
-pub returns-in-Ok-Joined-clause-solved : goal.returns-in-Ok-Joined-clause-solved
-returns-in-Ok-Joined-clause-solved c =
-    let k = (goal.at.returns-in-Ok-Joined-clause-solved c).After-unwrap in
-    solved_form c.push.new.self.items c.forget.new.self.now (told_stored c.self.inside.told.items c.self.inside.table.now c.self.invariant c.args.c c.requires c.c.inside.form (ap (λ (z : Constraint). z.form) c.c.view_is) (numbers_of c.in-Ok-Joined.fixed.items) c.forget.new.self.now (entered k) c.push.new.self.items (told_is k))
+    let was : c.begin.new.self.inner.first.now ≡ c.args.self.now.told = ap (λ (z : List Constraint × (List Name × Quantities)). z.0) c.begin.ensures.now ∙ ap (λ (z : StoreValue). z.told) c.self.view_is in
+    let j : JoinsStored c.begin.new.self.inner.first.now c.args.c c.in-Ok-Joined.fixed.items c.enter.new.held.second.first.now (quantities_of c.enter.new.held.second.second) =
+    rw c.in-Ok-Joined.field-0-is at c.in-Ok-Joined.ensures.joined in
+    let t : c.enter.new.held.first.now ≡ c.begin.new.self.inner.first.now ++ c.args.c ∷ [] = rw c.in-Ok-Joined.field-0-is at c.in-Ok-Joined.ensures.told in
+    let e : c.forget.new.self.inner.first.now ≡ c.begin.new.self.inner.first.now ++ c.args.c ∷ [] =
+    ap (λ (z : List Constraint × (List Name × Quantities)). z.0) c.forget.ensures.now ∙ t in (
+      subst Solvable (sym e) (stored_solvable (c.begin.new.self.inner.first.now ++ c.args.c ∷ []) c.enter.new.held.second.first.now (quantities_of c.enter.new.held.second.second) j.stored),
+      e ∙ ap (λ l. l ++ c.args.c ∷ []) was,
+    )
 
 pub returns-in-Ok-Contradiction-clause-unsolvable : goal.returns-in-Ok-Contradiction-clause-unsolvable
 returns-in-Ok-Contradiction-clause-unsolvable c =
     let k = (goal.at.returns-in-Ok-Contradiction-clause-unsolvable c).After-undo in
-    let r : IsRefused c.mark.new.self.now c.c.inside.form = rw c.in-Ok-Contradiction.field-0-is at c.in-Ok-Contradiction.ensures.contradiction in (
-      rw (← c.self.view_is) (told_unsolvable c.self.inside.told.items c.self.inside.table.now c.self.invariant c.args.c c.requires c.c.inside.form (ap (λ (z : Constraint). z.form) c.c.view_is) (subst (λ t. IsRefused t c.c.inside.form) c.mark.ensures.now r)),
-      c.empty.ensures,
-      ap₂ (λ t n. record { pivots = c.self.inside.pivots; told = t; table = n }) c.reserve.ensures.items (undone k) ∙ c.self.view_is,
+    let was : c.begin.new.self.inner.first.now ≡ c.args.self.now.told = ap (λ (z : List Constraint × (List Name × Quantities)). z.0) c.begin.ensures.now ∙ ap (λ (z : StoreValue). z.told) c.self.view_is in
+    let r : Refutes c.in-Ok-Contradiction.cert (c.begin.new.self.inner.first.now ++ c.args.c ∷ []) = rw c.in-Ok-Contradiction.field-0-is at c.in-Ok-Contradiction.ensures.refuted in (
+      subst (λ l. Refutes c.in-Ok-Contradiction.cert (l ++ c.args.c ∷ [])) was r,
+      undone_told k,
     )
-
-pub returns-in-Ok-Contradiction-clause-solved : goal.returns-in-Ok-Contradiction-clause-solved
-returns-in-Ok-Contradiction-clause-solved c =
-    let k = (goal.at.returns-in-Ok-Contradiction-clause-solved c).After-undo in
-    solved_form c.reserve.new.self.items c.undo.new.self.now (still_stored c.self.inside.told.items c.reserve.new.self.items c.self.inside.table.now c.undo.new.self.now c.self.invariant c.reserve.ensures.items (undone k))
-
-pub returns-in-Err-clause-overflow : goal.returns-in-Err-clause-overflow
-returns-in-Err-clause-overflow c = λ pair e.
-    let p = c.in-Err.ensures.overflow pair (moved_err c.in-Err.fault _ e) in
-    let met = subst (λ t. EnteringPair t c.c.inside.form pair.operation pair.left pair.right) c.mark.ensures.now p.0 in
-    rw (← c.self.view_is) (call_makes c.self.inside.told.items c.self.inside.table.now c.self.invariant c.args.c c.requires c.c.inside.form (ap (λ (z : Constraint). z.form) c.c.view_is) c.in-Err.ensures.in_order pair met p.1)
 
 pub returns-in-Err-clause-err : goal.returns-in-Err-clause-err
 returns-in-Err-clause-err c =
-    let k = (goal.at.returns-in-Err-clause-err c).After-undo-in-Err in
-    ap₂ (λ t n. record { pivots = c.self.inside.pivots; told = t; table = n }) c.reserve.ensures.items (undone_after_fault k) ∙ c.self.view_is
+    ap (λ (z : List Constraint × (List Name × Quantities)). z.0)
+    (last_undone _ _ _ c.self.invariant c.in_ok-start.start.number c.in_ok-start.ensures.mark _ c.begin.ensures.now
+    (c.enter.new.held.first.now, (c.enter.new.held.second.first.now, quantities_of c.enter.new.held.second.second)) c.enter.ensures.grows c.enter.new.numbers.entries
+    c.enter.ensures.numbered
+    _ (counted_changed _ _ c.in_ok-start.ensures.all (zip c.enter.new.held.first.saved (zip c.enter.new.held.second.first.saved c.enter.new.held.second.second.saved))
+    (ap₂ (λ a b. zip a b) c.enter.ensures.told_saved (ap₂ (λ a b. zip a b) c.enter.ensures.names_saved c.enter.ensures.dict_saved)) (c.enter.new.held.first.now, (c.enter.new.held.second.first.now, quantities_of c.enter.new.held.second.second))
+    ∙ c.in_ok-start.ensures.put)
+    _ _ c.undo-in-Err.ensures.saved c.undo-in-Err.ensures.now)
+    ∙ ap (λ (z : StoreValue). z.told) c.self.view_is
 
-pub returns-in-Err-clause-solved : goal.returns-in-Err-clause-solved
-returns-in-Err-clause-solved c =
-    let k = (goal.at.returns-in-Err-clause-solved c).After-undo-in-Err in
-    solved_form c.reserve.new.self.items c.undo-in-Err.new.self.now (still_stored c.self.inside.told.items c.reserve.new.self.items c.self.inside.table.now c.undo-in-Err.new.self.now c.self.invariant c.reserve.ensures.items (undone_after_fault k))
+pub returns-in-Err-clause-pivots : goal.returns-in-Err-clause-pivots
+returns-in-Err-clause-pivots c = λ n e.
+    let was : c.begin.new.self.inner.first.now ≡ c.args.self.now.told = ap (λ (z : List Constraint × (List Name × Quantities)). z.0) c.begin.ensures.now ∙ ap (λ (z : StoreValue). z.told) c.self.view_is in
+    let o = c.in-Err.ensures.pivots n (moved_err c.in-Err.fault (Pivots n) e) in (
+      o.0 ∙ ap (λ (z : StoreValue). z.pivots) c.self.view_is,
+      subst (λ (l : List Constraint). MayTake l (Only c.args.c) NoQuestion n) was o.1,
+    )
+
+pub returns-in-Err-clause-enough : goal.returns-in-Err-clause-enough
+returns-in-Err-clause-enough c = λ h n e.
+    let o = returns-in-Err-clause-pivots c n e in
+    not_spent c.args.self.now.told (Only c.args.c) NoQuestion c.args.self.now.pivots n h o.0 o.1
+
+pub returns-in-Ok-Joined-clause-saved : goal.returns-in-Ok-Joined-clause-saved
+returns-in-Ok-Joined-clause-saved c =
+    rw (← c.self.view_is)
+    (ap (map (λ (h : List Constraint × (List Name × Quantities)). h.0))
+    (left_same _ _ _ c.self.invariant c.in_ok-start.start.number c.in_ok-start.ensures.mark _ c.begin.ensures.now
+    (c.enter.new.held.first.now, (c.enter.new.held.second.first.now, quantities_of c.enter.new.held.second.second)) c.enter.ensures.grows c.enter.new.numbers.entries
+    c.enter.ensures.numbered
+    _ (counted_changed _ _ c.in_ok-start.ensures.all (zip c.enter.new.held.first.saved (zip c.enter.new.held.second.first.saved c.enter.new.held.second.second.saved))
+    (ap₂ (λ a b. zip a b) c.enter.ensures.told_saved (ap₂ (λ a b. zip a b) c.enter.ensures.names_saved c.enter.ensures.dict_saved)) (c.enter.new.held.first.now, (c.enter.new.held.second.first.now, quantities_of c.enter.new.held.second.second))
+    ∙ c.in_ok-start.ensures.put)
+    (c.enter.new.held.first.now, (c.enter.new.held.second.first.now, quantities_of c.enter.new.held.second.second)) _ c.forget.ensures.saved))
+
+pub returns-in-Ok-Joined-clause-room : goal.returns-in-Ok-Joined-clause-room
+returns-in-Ok-Joined-clause-room c =
+    rw (← c.self.view_is)
+    (room_kept _ _ c.in_ok-start.start.number c.in_ok-start.ensures.mark
+    _ (counted_changed _ _ c.in_ok-start.ensures.all (zip c.enter.new.held.first.saved (zip c.enter.new.held.second.first.saved c.enter.new.held.second.second.saved))
+    (ap₂ (λ a b. zip a b) c.enter.ensures.told_saved (ap₂ (λ a b. zip a b) c.enter.ensures.names_saved c.enter.ensures.dict_saved)) (c.enter.new.held.first.now, (c.enter.new.held.second.first.now, quantities_of c.enter.new.held.second.second))
+    ∙ c.in_ok-start.ensures.put)
+    _ _ _ c.begin.ensures.room c.forget.ensures.room)
+
+pub returns-in-Ok-Contradiction-clause-saved : goal.returns-in-Ok-Contradiction-clause-saved
+returns-in-Ok-Contradiction-clause-saved c =
+    rw (← c.self.view_is)
+    (ap (map (λ (h : List Constraint × (List Name × Quantities)). h.0))
+    (left_same _ _ _ c.self.invariant c.in_ok-start.start.number c.in_ok-start.ensures.mark _ c.begin.ensures.now
+    (c.enter.new.held.first.now, (c.enter.new.held.second.first.now, quantities_of c.enter.new.held.second.second)) c.enter.ensures.grows c.enter.new.numbers.entries
+    c.enter.ensures.numbered
+    _ (counted_changed _ _ c.in_ok-start.ensures.all (zip c.enter.new.held.first.saved (zip c.enter.new.held.second.first.saved c.enter.new.held.second.second.saved))
+    (ap₂ (λ a b. zip a b) c.enter.ensures.told_saved (ap₂ (λ a b. zip a b) c.enter.ensures.names_saved c.enter.ensures.dict_saved)) (c.enter.new.held.first.now, (c.enter.new.held.second.first.now, quantities_of c.enter.new.held.second.second))
+    ∙ c.in_ok-start.ensures.put)
+    (c.enter.new.held.first.now, (c.enter.new.held.second.first.now, quantities_of c.enter.new.held.second.second)) _ c.undo.ensures.saved))
+
+pub returns-in-Ok-Contradiction-clause-room : goal.returns-in-Ok-Contradiction-clause-room
+returns-in-Ok-Contradiction-clause-room c =
+    rw (← c.self.view_is)
+    (room_kept _ _ c.in_ok-start.start.number c.in_ok-start.ensures.mark
+    _ (counted_changed _ _ c.in_ok-start.ensures.all (zip c.enter.new.held.first.saved (zip c.enter.new.held.second.first.saved c.enter.new.held.second.second.saved))
+    (ap₂ (λ a b. zip a b) c.enter.ensures.told_saved (ap₂ (λ a b. zip a b) c.enter.ensures.names_saved c.enter.ensures.dict_saved)) (c.enter.new.held.first.now, (c.enter.new.held.second.first.now, quantities_of c.enter.new.held.second.second))
+    ∙ c.in_ok-start.ensures.put)
+    _ _ _ c.begin.ensures.room c.undo.ensures.room)
+
+pub returns-in-Err-clause-saved : goal.returns-in-Err-clause-saved
+returns-in-Err-clause-saved c =
+    rw (← c.self.view_is)
+    (ap (map (λ (h : List Constraint × (List Name × Quantities)). h.0))
+    (left_same _ _ _ c.self.invariant c.in_ok-start.start.number c.in_ok-start.ensures.mark _ c.begin.ensures.now
+    (c.enter.new.held.first.now, (c.enter.new.held.second.first.now, quantities_of c.enter.new.held.second.second)) c.enter.ensures.grows c.enter.new.numbers.entries
+    c.enter.ensures.numbered
+    _ (counted_changed _ _ c.in_ok-start.ensures.all (zip c.enter.new.held.first.saved (zip c.enter.new.held.second.first.saved c.enter.new.held.second.second.saved))
+    (ap₂ (λ a b. zip a b) c.enter.ensures.told_saved (ap₂ (λ a b. zip a b) c.enter.ensures.names_saved c.enter.ensures.dict_saved)) (c.enter.new.held.first.now, (c.enter.new.held.second.first.now, quantities_of c.enter.new.held.second.second))
+    ∙ c.in_ok-start.ensures.put)
+    (c.enter.new.held.first.now, (c.enter.new.held.second.first.now, quantities_of c.enter.new.held.second.second)) _ c.undo-in-Err.ensures.saved))
+
+pub returns-in-Err-clause-room : goal.returns-in-Err-clause-room
+returns-in-Err-clause-room c =
+    rw (← c.self.view_is)
+    (room_kept _ _ c.in_ok-start.start.number c.in_ok-start.ensures.mark
+    _ (counted_changed _ _ c.in_ok-start.ensures.all (zip c.enter.new.held.first.saved (zip c.enter.new.held.second.first.saved c.enter.new.held.second.second.saved))
+    (ap₂ (λ a b. zip a b) c.enter.ensures.told_saved (ap₂ (λ a b. zip a b) c.enter.ensures.names_saved c.enter.ensures.dict_saved)) (c.enter.new.held.first.now, (c.enter.new.held.second.first.now, quantities_of c.enter.new.held.second.second))
+    ∙ c.in_ok-start.ensures.put)
+    _ _ _ c.begin.ensures.room c.undo-in-Err.ensures.room)

@@ -3,7 +3,7 @@ use mir.Val.{SFits}
 use mir.Syntax.{w64}
 use Rattle.std.proofs.Common.{rules, ◌<◌, ◌∙◌, ap, sym, length}
 use Rattle.std.proofs.lemmas.List.{get_or_read}
-use Rattle.spec_rational.specs.Rational.{0ℚ}
+use Rattle.spec_numbers.specs.Rational.{0ℚ}
 use Rattle.cq_term.specs.Layout.{contents, all_built}
 use Rattle.cq_term.specs.declared.lists.Cell.TheVariants as cell
 use Rattle.cq_term.specs.declared.view.View.TheVariants as view

@@ -2,7 +2,7 @@ use Rattle.std.proofs.Common.{◌≡◌, ◌<◌, ◌∙◌, ap, sym, refl, subs
 use Rattle.std.specs.Option.{IsSome}
 use Rattle.std.proofs.lemmas.Option.{same_Some}
 use Rattle.std.proofs.lemmas.List.{get_or_default}
-use Rattle.cq_walk.specs.Places.{place_of}
+use Rattle.cq_term.specs.Places.{place_of}
 use Rattle.cq_unify.proofs.Places.{position-place, place_within}
 use Rattle.cq_unify.proofs.copies.Renaming.image.Goals as goal
 

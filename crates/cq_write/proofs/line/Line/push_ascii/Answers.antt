@@ -1,6 +1,6 @@
 use Rattle.std.proofs.Common.{◌∙◌, ap, sym}
 use Rattle.std.proofs.lemmas.Str.{chars-IsAscii}
-use Rattle.spec_writing.specs.Texts.{last_of}
+use Rattle.spec_text.specs.Texts.{last_of}
 use Rattle.cq_write.proofs.line.Line.push_ascii.Goals as goal
 
 pub place-requires : goal.place-requires

@@ -2,7 +2,7 @@ use Rattle.std.proofs.Common.{◌∷◌, [], sym}
 use Rattle.cq_write.specs.Spelled.{written}
 use Rattle.cq_write.specs.Work.{functional_jobs, tree}
 use Rattle.cq_write.specs.Settings.{setting}
-use Rattle.spec_operators.specs.Operators.{right_most}
+use Rattle.spec_syntax.specs.Operators.{right_most}
 use Rattle.spec_syntax.specs.Writing.{is_bare_right, is_bare_left}
 use Rattle.cq_write.specs.declared.jobs.Word.TheVariants as word
 use Rattle.cq_write.specs.declared.jobs.Part.TheVariants as part

@@ -1,6 +1,6 @@
 use Rattle.std.proofs.Common.{◌≡◌, ◌∙◌, [], ap, refl, rules}
 use Rattle.std.specs.Fmt.{signed_decimal}
-use Rattle.spec_writing.proofs.Decimals.{writes_integer}
+use Rattle.spec_text.proofs.Decimals.{writes_integer}
 use Rattle.cq_write.specs.Work.{one_word, plain}
 use Rattle.cq_write.specs.Settings.{setting}
 use Rattle.cq_write.specs.Spelled.{written, put}

@@ -1,5 +1,5 @@
 use Rattle.std.proofs.Common.{◌≡◌, ◌∷◌, [], ◌∙◌, Bool, true, false, ap, refl, sym, arith}
-use Rattle.spec_writing.specs.Pieces.{unless}
+use Rattle.spec_text.specs.Pieces.{unless}
 use Rattle.cq_write.specs.Work.{IsKnown, IsOperand, Setting}
 use Rattle.cq_write.specs.Settings.{setting}
 use Rattle.cq_write.specs.Spelled.{written, put}

@@ -1,4 +1,4 @@
-use Rattle.cq_atoms.specs.Texts.{text_of}
+use Rattle.cq_term.specs.Texts.{text_of}
 use Rattle.cq_write.proofs.Steps.{text_there}
 use Rattle.cq_write.proofs.writer.Writer.postfix.Goals as goal
 

@@ -1,5 +1,5 @@
 use Rattle.std.proofs.Common.{◌≡◌, codes, false, subst, inl, inr}
-use Rattle.cq_atoms.specs.Texts.{text_of}
+use Rattle.cq_term.specs.Texts.{text_of}
 use Rattle.cq_term.specs.Meaning.{at}
 use Rattle.cq_write.specs.Settings.{setting}
 use Rattle.cq_write.specs.Work.{HasShape}

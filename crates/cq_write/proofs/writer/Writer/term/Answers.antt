@@ -1,5 +1,5 @@
 use Rattle.std.proofs.Common.{codes, true, refl}
-use Rattle.cq_atoms.specs.Texts.{text_of}
+use Rattle.cq_term.specs.Texts.{text_of}
 use Rattle.cq_write.specs.Spelled.{written}
 use Rattle.cq_write.specs.Work.{one_word, functional_jobs, cell_jobs}
 use Rattle.cq_write.specs.Settings.{setting}

@@ -1,5 +1,5 @@
 use Rattle.std.proofs.Common.{◌∙◌, ap, sym, codes, true, false}
-use Rattle.cq_atoms.specs.Texts.{text_of}
+use Rattle.cq_term.specs.Texts.{text_of}
 use Rattle.cq_write.specs.Settings.{setting}
 use Rattle.cq_write.specs.Spelled.{written, put}
 use Rattle.cq_write.specs.Work.{infix_word}

@@ -1,5 +1,0 @@
-use Rattle.cq_fourier.proofs.Bounds.{is_negative}
-use Rattle.cq_apart.proofs.side_of.Goals as goal
-
-pub returns-else-is_positive : goal.returns-else-is_positive
-returns-else-is_positive c = is_negative c.args.factor c.requires.nonzero c.if-is_positive.ensures.otherwise

@@ -1,5 +1,0 @@
-use Rattle.cq_apart.proofs.Bounding.{StandApart}
-use Rattle.cq_apart.proofs.stand_apart.Given as goal
-
-abbrev pub invariant-rows : goal.invariant-rows
-invariant-rows l = StandApart l.rows l.beside l.at

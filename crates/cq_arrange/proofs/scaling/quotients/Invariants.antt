@@ -1,7 +1,0 @@
-use Rattle.std.proofs.Common.{◌≡◌, take, map}
-use Rattle.cq_arrange.specs.Lines.{monomials_of}
-use Rattle.cq_arrange.specs.Arranging.{over_lead}
-use Rattle.cq_arrange.proofs.scaling.quotients.Given as goal
-
-abbrev pub invariant-products : goal.invariant-products
-invariant-products l = monomials_of l.quotients.items ≡ map (over_lead l.divisor) (monomials_of (take l.x-index l.products))

@@ -1,4 +1,0 @@
-pub mod Begun
-pub mod Entries
-pub mod Calls
-pub mod Stops

@@ -1,0 +1,12 @@
+pub mod Lists
+pub mod Stored
+pub mod Choices
+pub mod Selecting
+pub mod Worlds
+pub mod Marks
+pub mod Sides
+pub mod Calls
+pub mod Begun
+pub mod Entries
+pub mod BeginCalls
+pub mod Stops

@@ -1,0 +1,36 @@
+-- The nearest end of a catch, and the choice that it speaks of.
+use Rattle.std.proofs.Common.{◌≡◌, ◌<◌, ℕ, List, ◌∷◌, length, Option, None, Some, Bool, true, false, not, sym, ap, ◌∙◌, arith}
+use Rattle.std.specs.Prelude.{Ok, IfNone, IfSome, is_some}
+use Rattle.std.specs.declared.result.Result.{Result}
+use Rattle.cq_control.specs.Items.{items_at}
+use Rattle.cq_control.specs.Open.{AreMarked}
+use Rattle.cq_settle.specs.Contents.{Contents}
+use Rattle.spec_engine.specs.Cells.{Value}
+use Rattle.spec_engine.proofs.Thrown.{nearest_fits}
+use Rattle.cq_branch.specs.Worlds.{stack}
+use Rattle.cq_branch.specs.declared.alternatives.Alternatives.{Alternatives}
+use Rattle.cq_branch.proofs.Done.{length-stack}
+use Rattle.cq_catch.specs.Balls.{ComesUpSomewhere, IsNearest}
+use Rattle.cq_catch.specs.declared.balls.End.{End}
+
+-- the height is of a choice that is there
+pub within : (saved : List (Value Contents)) (choices : List Alternatives) (now : Value Contents) (from : ℕ) → AreMarked saved choices
+    → (e : End) → IsNearest (items_at now.1 from) e → ComesUpSomewhere saved choices now from → e.height < length choices
+within saved choices now from marked e near w =
+    let rs = stack w.0 w.1 saved choices in
+    let f = nearest_fits (length rs) (items_at now.1 from) (e.height, e.catcher, e.recovery, near.0) w.5.continuation.fits near.1 in
+    omega (arith, f.0, length-stack w.0 w.1 saved choices marked)
+
+-- the newest of choices is one
+pub same_newest : {A : Type 0} (x y : A) (xs ys zs : List A) → zs ≡ x ∷ xs → zs ≡ y ∷ ys → x ≡ y
+same_newest x y xs ys zs e f = let h : x ∷ xs ≡ y ∷ ys = sym e ∙ f in cc
+
+-- ---- what holds by whether there is a value
+
+pub told_none : {A E P : Type 0} (r : Option A) (b : Bool) → is_some r ≡ not b → ◌≡◌ {A = Result Bool E} (Ok b) (Ok true) → IfNone r P → P
+told_none None b e o p = p
+told_none (Some x) b e o p = (let h : b ≡ true = cc in let k : true ≡ false = e ∙ ap not h in cc)
+
+pub told_some : {A E P : Type 0} (r : Option A) (b : Bool) → is_some r ≡ not b → ◌≡◌ {A = Result Bool E} (Ok b) (Ok false) → IfSome r (λ _. P) → P
+told_some None b e o p = (let h : b ≡ false = cc in let k : false ≡ true = e ∙ ap not h in cc)
+told_some (Some x) b e o p = p

@@ -1,4 +1,0 @@
-mod Behind
-mod Stored
-mod Changed
-mod Asked

@@ -1,6 +1,0 @@
--- What the exchanges so far keep.
-use Rattle.cq_climb.proofs.Climbing.{Climbing}
-use Rattle.cq_climb.proofs.climb.Given as goal
-
-abbrev pub invariant-loop : goal.invariant-loop
-invariant-loop l = Climbing l.row l.fn.dict l.dict

@@ -1,4 +1,0 @@
-pub mod Standing
-pub mod WholeNumbers
-pub mod Rows
-pub mod Spelled

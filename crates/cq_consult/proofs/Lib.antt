@@ -1,2 +1,0 @@
-pub mod Unary
-pub mod Added

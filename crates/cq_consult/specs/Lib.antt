@@ -1,2 +1,0 @@
-pub mod Consulted
-pub mod Purposes

@@ -1,9 +1,0 @@
-use Rattle.std.proofs.Common.{◌≡◌, List, drop}
-use Rattle.std.specs.List.{list_all}
-use Rattle.spec_lists.specs.Texts.{Text}
-use Rattle.spec_built.specs.Kinds.{is_name}
-use Rattle.cq_term.specs.Trees.{trees}
-use Rattle.cq_declarations.proofs.operators.all_names.Given as goal
-
-abbrev pub invariant-loop-id : goal.invariant-loop-id
-invariant-loop-id l = (texts : List Text) → list_all is_name (trees texts l.heap.now.terms l.ids) ≡ list_all is_name (trees texts l.heap.now.terms (drop l.id-index l.ids))

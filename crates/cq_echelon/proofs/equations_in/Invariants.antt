@@ -1,6 +1,0 @@
-use Rattle.std.proofs.Common.{◌≡◌, take}
-use Rattle.spec_projection.specs.Interior.{equations_of}
-use Rattle.cq_echelon.proofs.equations_in.Given as goal
-
-abbrev pub invariant-rows : goal.invariant-rows
-invariant-rows l = l.equations.items ≡ equations_of (take l.row-index l.rows)

@@ -1,7 +1,0 @@
-use Rattle.std.proofs.Common.{◌≡◌, map, take}
-use Rattle.spec_projection.specs.Substitution.{put_into}
-use Rattle.cq_project.specs.Rows.{equations_of}
-use Rattle.cq_echelon.proofs.putting.put_into.Given as goal
-
-abbrev pub invariant-rows : goal.invariant-rows
-invariant-rows l = l.all.items ≡ map (put_into (equations_of l.equations)) (take l.row-index l.rows)

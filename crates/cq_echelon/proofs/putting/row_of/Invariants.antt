@@ -1,7 +1,0 @@
-use Rattle.std.proofs.Common.{◌≡◌, ℕ, drop}
-use Rattle.spec_rational.specs.Rational.{ℚ}
-use Rattle.cq_echelon.specs.Putting.{value_of, all_solved_by}
-use Rattle.cq_echelon.proofs.putting.row_of.Given as goal
-
-abbrev pub invariant-rows : goal.invariant-rows
-invariant-rows l = (a : ℕ → ℚ) → value_of (all_solved_by l.rows) a l.variable.0 ≡ value_of (all_solved_by (drop l.row-index l.rows)) a l.variable.0

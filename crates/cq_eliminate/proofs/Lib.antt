@@ -1,5 +1,0 @@
-pub mod Exits
-pub mod Fresh
-pub mod Standing
-pub mod Steps
-pub mod Stops

@@ -1,6 +1,0 @@
-use Rattle.std.proofs.Common.{take}
-use Rattle.spec_projection.specs.Lists.{AreForms}
-use Rattle.cq_eliminate.proofs.see_forms.Given as goal
-
-abbrev pub invariant-rows : goal.invariant-rows
-invariant-rows l = AreForms (take l.row-index l.rows)

@@ -1,7 +1,0 @@
-use Rattle.std.proofs.Common.{◌≡◌, ◌++◌, take}
-use Rattle.std.specs.Prelude.{map}
-use Rattle.cq_fourier.specs.Sides.{between}
-use Rattle.cq_fourier.proofs.push_combined.Given as goal
-
-abbrev pub invariant-upper : goal.invariant-upper
-invariant-upper l = l.rows.items ≡ l.fn.rows.items ++ map (between l.lower) (take l.bound-index l.upper)

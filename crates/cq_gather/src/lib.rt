@@ -1,6 +1,0 @@
-//! Copies that a findall gathers.
-#![tactic(auto)]
-
-mod collecting;
-
-pub use collecting::collect;

@@ -1,7 +1,0 @@
-use Rattle.std.proofs.Common.{◌*◌, ◌%◌, add-one}
-use Rattle.spec_gen.specs.Query.{gap}
-use Rattle.cq_generated.proofs.bounds.gap.Goals as goal
-
-pub returns : goal.returns
-unfolding gap
-returns c = add-one ((c.args.place * c.args.place) % 7)

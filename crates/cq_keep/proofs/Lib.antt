@@ -1,4 +1,0 @@
-pub mod Listing
-pub mod Parted
-pub mod Strengthening
-pub mod Keeping

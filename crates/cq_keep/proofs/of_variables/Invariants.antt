@@ -1,8 +1,0 @@
-use Rattle.std.proofs.Common.{◌≡◌}
-use Rattle.cq_store.specs.Told.{numbers_of}
-use Rattle.cq_project.specs.Rows.{equations_of}
-use Rattle.cq_keep.specs.Variables.{solved_for}
-use Rattle.cq_keep.proofs.of_variables.Given as goal
-
-abbrev pub invariant-equations : goal.invariant-equations
-invariant-equations l = equations_of l.chosen.items ≡ solved_for (numbers_of l.variables) (equations_of l.yielded)

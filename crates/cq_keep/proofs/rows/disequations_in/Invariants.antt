@@ -1,6 +1,0 @@
-use Rattle.std.proofs.Common.{◌≡◌, take}
-use Rattle.spec_projection.specs.Projection.{disequations_of}
-use Rattle.cq_keep.proofs.rows.disequations_in.Given as goal
-
-abbrev pub invariant-rows : goal.invariant-rows
-invariant-rows l = l.disequations.items ≡ disequations_of (take l.row-index l.rows)

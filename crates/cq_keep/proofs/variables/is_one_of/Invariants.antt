@@ -1,7 +1,0 @@
-use Rattle.std.proofs.Common.{◌≡◌, drop}
-use Rattle.cq_store.specs.Told.{numbers_of}
-use Rattle.cq_keep.specs.Variables.{is_among}
-use Rattle.cq_keep.proofs.variables.is_one_of.Given as goal
-
-abbrev pub invariant-variables : goal.invariant-variables
-invariant-variables l = is_among (numbers_of l.variables) l.variable.0 ≡ is_among (numbers_of (drop l.other-index l.variables)) l.variable.0

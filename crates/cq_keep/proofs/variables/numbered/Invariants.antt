@@ -1,6 +1,0 @@
-use Rattle.std.proofs.Common.{◌≡◌, take}
-use Rattle.cq_store.specs.Told.{numbers_of}
-use Rattle.cq_keep.proofs.variables.numbered.Given as goal
-
-abbrev pub invariant-numbers : goal.invariant-numbers
-invariant-numbers l = numbers_of l.all.items ≡ take l.number-index l.numbers

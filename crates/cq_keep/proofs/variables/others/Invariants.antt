@@ -1,7 +1,0 @@
-use Rattle.std.proofs.Common.{◌≡◌, take}
-use Rattle.cq_store.specs.Told.{numbers_of}
-use Rattle.cq_keep.specs.Variables.{others_than}
-use Rattle.cq_keep.proofs.variables.others.Given as goal
-
-abbrev pub invariant-variables : goal.invariant-variables
-invariant-variables l = numbers_of l.others.items ≡ others_than (numbers_of l.taken) (numbers_of (take l.variable-index l.variables))

@@ -1,7 +1,0 @@
--- The touched rows so far are counted.
-use Rattle.std.proofs.Common.{◌≤◌}
-use Rattle.cq_level.proofs.Counts.{IsCounted}
-use Rattle.cq_level.proofs.choosing.count_among.Given as goal
-
-abbrev pub invariant-loop-q : goal.invariant-loop-q
-invariant-loop-q l = IsCounted l.dict.roles l.c l.touched l.q-index l.rows × (l.rows ≤ l.q-index)

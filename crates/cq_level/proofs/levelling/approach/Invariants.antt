@@ -1,6 +1,0 @@
--- The row is off zero still, and the exchanges are those of the rule.
-use Rattle.cq_level.proofs.Goes.{Approaches}
-use Rattle.cq_level.proofs.levelling.approach.Given as goal
-
-abbrev pub invariant-loop : goal.invariant-loop
-invariant-loop l = Approaches l.fn.q l.fn.up l.counter l.fn.dict l.dict

@@ -1,5 +1,0 @@
-use Rattle.cq_lex.proofs.Readings.{based_wide}
-use Rattle.cq_lex.proofs.numerals.based.Goals as goal
-
-pub returns-in-None : goal.returns-in-None
-returns-in-None c = based_wide c.args.base c.args.text.now c.in-None.ensures.value

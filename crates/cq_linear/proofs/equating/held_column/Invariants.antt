@@ -1,9 +1,0 @@
--- None of the entries so far is restricted.
-use Rattle.std.proofs.Common.{◌≡◌, false, take}
-use Rattle.cq_row.specs.declared.Entry.{Entry}
-use Rattle.cq_row.specs.Rows.{Has}
-use Rattle.cq_dict.specs.Roles.{is_restricted}
-use Rattle.cq_linear.proofs.equating.held_column.Given as goal
-
-abbrev pub invariant-loop-m : goal.invariant-loop-m
-invariant-loop-m l = (n : Entry) → Has n (take l.m-index l.m-items) → is_restricted l.dict.restricted n.quantity ≡ false

@@ -1,9 +1,0 @@
-pub mod StoreValue
-pub mod Entered
-pub mod Faults
-pub mod Held
-pub mod Questions
-pub mod Fallen
-pub mod Alone
-pub mod Equated
-pub mod Enough

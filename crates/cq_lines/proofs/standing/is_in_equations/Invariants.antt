@@ -1,8 +1,0 @@
-use Rattle.std.proofs.Common.{◌≡◌, drop}
-use Rattle.spec_answers.specs.Rows.{equation_variables}
-use Rattle.cq_project.specs.Rows.{equations_of}
-use Rattle.cq_lines.specs.Numbered.{has_variable}
-use Rattle.cq_lines.proofs.standing.is_in_equations.Given as goal
-
-abbrev pub invariant-rows : goal.invariant-rows
-invariant-rows l = has_variable (equation_variables (equations_of (drop l.row-index l.rows))) l.variable.0 ≡ has_variable (equation_variables (equations_of l.rows)) l.variable.0

@@ -1,4 +1,0 @@
-pub mod Kept
-pub mod Asked
-pub mod Children
-pub mod Stopping

@@ -1,4 +1,0 @@
-pub mod Ahead
-pub mod Sameness
-pub mod Ranks
-pub mod Matches

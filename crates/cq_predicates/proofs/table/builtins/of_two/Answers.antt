@@ -1,0 +1,6 @@
+use Rattle.std.proofs.Common.{refl}
+use Rattle.cq_predicates.proofs.BuiltinsLemmas.{are_rows}
+use Rattle.cq_predicates.proofs.table.builtins.of_two.Goals as goal
+
+pub returns : goal.returns
+returns c = are_rows 2 _ (refl, (refl, (refl, (refl, (refl, (refl, (refl, (refl, (refl, (refl, (refl, (refl, (refl, (refl, (refl, (refl, (refl, (refl, (refl, (refl, (refl, (refl, (refl, (refl, (refl, (refl, (refl, (refl, (refl, (refl, tt)))))))))))))))))))))))))))))) refl

@@ -1,3 +1,0 @@
-mod Products
-pub mod Lines
-mod Joined

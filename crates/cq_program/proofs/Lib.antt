@@ -1,6 +1,0 @@
-mod Excluded
-mod Predicates
-mod Changes
-mod Instances
-mod Selection
-mod Whole

@@ -1,9 +1,0 @@
-use Rattle.std.proofs.Common.{◌≡◌, take}
-use Rattle.spec_echelon.specs.SolvedForm.{rows_of}
-use Rattle.cq_store.specs.Contents.{solved_of}
-use Rattle.cq_store.specs.Told.{numbers_of}
-use Rattle.cq_project.specs.Rows.{equations_of}
-use Rattle.cq_project.proofs.equations_in.Given as goal
-
-abbrev pub invariant-wanted : goal.invariant-wanted
-invariant-wanted l = equations_of l.equations.items ≡ rows_of (solved_of l.store) (numbers_of (take l.x-index l.keep))

@@ -1,0 +1,5 @@
+use Rattle.std.proofs.Common.{◌≡◌, ◌++◌}
+use Rattle.cq_project.proofs.sift.append.Given as goal
+
+abbrev pub invariant-more : goal.invariant-more
+invariant-more l = l.rows.items ≡ l.initial.rows.items ++ l.yielded

@@ -1,6 +1,0 @@
-use Rattle.std.proofs.Common.{◌≡◌, take, map}
-use Rattle.cq_project.specs.Rows.{monomial_of}
-use Rattle.cq_project.proofs.solved_for.Given as goal
-
-abbrev pub invariant-places : goal.invariant-places
-invariant-places l = map monomial_of l.products.items ≡ take l.i l.form.products

@@ -1,5 +1,0 @@
-use Rattle.cq_projection.proofs.Nothing.{nothing}
-use Rattle.cq_projection.proofs.no_rows.Goals as goal
-
-pub returns : goal.returns
-returns c = nothing c.args.told.now c.requires.equal c.see_forms.ensures c.requires.solvable _ c.new.ensures.items c.new-2.ensures.items c.new-3.ensures.items c.new-4.ensures.items

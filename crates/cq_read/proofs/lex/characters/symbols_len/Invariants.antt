@@ -1,0 +1,7 @@
+use Rattle.std.proofs.Common.{◌≡◌, ◌+◌, drop}
+use Rattle.std.specs.List.{prefix_len}
+use Rattle.spec_syntax.specs.Characters.{is_symbol}
+use Rattle.cq_read.proofs.lex.characters.symbols_len.Given as goal
+
+abbrev pub invariant-loop-len : goal.invariant-loop-len
+invariant-loop-len l = l.len + prefix_len is_symbol (drop l.len l.text) ≡ prefix_len is_symbol l.text

@@ -1,9 +1,0 @@
-use Rattle.std.proofs.Common.{◌≡◌, [], take}
-use Rattle.cq_reduce.proofs.telling.holding.Given as goal
-
-abbrev pub invariant-rows : goal.invariant-rows
-invariant-rows l = record {
-  told : l.store.told ≡ take l.row-index l.rows;
-  saved : l.store.saved ≡ [];
-  pivots : l.store.pivots ≡ l.fn.pivots;
-}

@@ -1,4 +1,0 @@
-pub mod Named
-pub mod Variables
-mod Found
-pub mod Asleep

@@ -1,6 +1,0 @@
-use Rattle.std.proofs.Common.{◌≡◌, take, map}
-use Rattle.cq_residues.specs.Shown.{all_waiting}
-use Rattle.cq_residues.proofs.waiting.all_waiting.Given as goal
-
-abbrev pub invariant-numbers : goal.invariant-numbers
-invariant-numbers l = l.all.items ≡ take l.number-index (all_waiting l.attrs.now)

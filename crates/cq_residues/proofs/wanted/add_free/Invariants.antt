@@ -1,7 +1,0 @@
-use Rattle.std.proofs.Common.{◌≡◌, take, map}
-use Rattle.cq_walk.specs.Places.{numbers_of}
-use Rattle.cq_residues.proofs.Variables.{with_all}
-use Rattle.cq_residues.proofs.wanted.add_free.Given as goal
-
-abbrev pub invariant-free : goal.invariant-free
-invariant-free l = numbers_of l.found.keys ≡ with_all (numbers_of l.fn.found.keys) (map (λ n. n.number) (take l.named-index l.free))

@@ -1,5 +1,0 @@
-use Rattle.cq_rest.proofs.Told.{may_be_told}
-use Rattle.cq_rest.proofs.laws.constraints_may_be_told.Goals as goal
-
-pub returns : goal.returns
-returns c = record { called = may_be_told }

@@ -1,5 +1,0 @@
-use Rattle.cq_rest.proofs.Asleep.{goal_sleeps}
-use Rattle.cq_rest.proofs.laws.goals_may_be_put_to_sleep.Goals as goal
-
-pub returns : goal.returns
-returns c = record { ready = goal_sleeps }

@@ -1,5 +1,0 @@
-use Rattle.cq_rest.proofs.Told.{left_ready, left_live, left_goals, ready_names}
-use Rattle.cq_rest.proofs.laws.kept_worlds_are_ready.Goals as goal
-
-pub returns : goal.returns
-returns c = record { ready = left_ready; live = left_live; goals = left_goals; names = ready_names }

@@ -1,7 +1,0 @@
-use Rattle.std.proofs.Common.{take}
-use Rattle.std.specs.Prelude.{All}
-use Rattle.cq_rest.specs.Equal.{MayBeEqual}
-use Rattle.cq_rest.proofs.telling.look_at_pairs.Given as goal
-
-abbrev pub invariant-loop-pair : goal.invariant-loop-pair
-invariant-loop-pair l = All (MayBeEqual l.heap.now) (take l.pair-index l.pairs)

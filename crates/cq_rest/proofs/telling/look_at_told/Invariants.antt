@@ -1,7 +1,0 @@
-use Rattle.std.proofs.Common.{take}
-use Rattle.std.specs.Prelude.{All}
-use Rattle.cq_rest.specs.Ready.{MayBeTold}
-use Rattle.cq_rest.proofs.telling.look_at_told.Given as goal
-
-abbrev pub invariant-loop-id : goal.invariant-loop-id
-invariant-loop-id l = All (MayBeTold l.heap.now) (take l.id-index l.told)

@@ -1,3 +1,0 @@
-mod Showing
-pub mod Refused
-mod Declared

@@ -1,9 +1,0 @@
-use Rattle.std.proofs.Common.{◌≡◌, take}
-use Rattle.cq_row.specs.Rows.{over, NoQuotientPair}
-use Rattle.cq_row.proofs.divided.Given as goal
-
-abbrev pub invariant-loop-m : goal.invariant-loop-m
-invariant-loop-m l = record {
-  value : l.quotients.items ≡ over l.divisor (take l.m-index l.row);
-  accepted : NoQuotientPair (take l.m-index l.row) l.divisor;
-}

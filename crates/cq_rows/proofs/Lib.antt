@@ -1,4 +1,0 @@
-pub mod Canonical
-pub mod Leading
-pub mod Same
-pub mod Beside

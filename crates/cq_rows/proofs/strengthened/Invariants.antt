@@ -1,6 +1,0 @@
-use Rattle.std.proofs.Common.{take}
-use Rattle.spec_projection.specs.Strict.{Strengthened}
-use Rattle.cq_rows.proofs.strengthened.Given as goal
-
-abbrev pub invariant-rows : goal.invariant-rows
-invariant-rows l = Strengthened l.disequations (take l.row-index l.rows) l.strict.items

@@ -1,9 +1,0 @@
-pub mod Moved
-pub mod Recovered
-pub mod Handing
-pub mod Listed
-pub mod Gathering
-pub mod Restored
-pub mod Newest
-pub mod Settled
-pub mod Known

@@ -1,8 +1,0 @@
-pub mod Reached
-mod Stopped
-mod Equal
-mod Called
-mod More
-mod Whole
-mod Grown
-mod Declared

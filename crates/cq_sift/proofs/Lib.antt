@@ -1,4 +1,0 @@
-pub mod Parts
-pub mod Halves
-pub mod Marked
-pub mod Whole

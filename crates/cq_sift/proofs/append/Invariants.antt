@@ -1,5 +1,0 @@
-use Rattle.std.proofs.Common.{◌≡◌, ◌++◌}
-use Rattle.cq_sift.proofs.append.Given as goal
-
-abbrev pub invariant-more : goal.invariant-more
-invariant-more l = l.rows.items ≡ l.initial.rows.items ++ l.yielded

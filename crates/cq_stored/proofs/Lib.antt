@@ -1,6 +1,0 @@
-pub mod Built
-pub mod FirstArguments
-pub mod Named
-pub mod Numbering
-pub mod Reading
-pub mod Renamed

@@ -1,5 +1,0 @@
-use Rattle.cq_stored.proofs.FirstArguments.{told_apart}
-use Rattle.cq_stored.proofs.first.first_arguments_tell_apart.Goals as goal
-
-pub returns : goal.returns
-returns c = told_apart

@@ -1,6 +1,0 @@
-use Rattle.std.proofs.Common.{refl}
-use Rattle.cq_table.proofs.Table.{are_rows}
-use Rattle.cq_table.proofs.builtins.of_seven.Goals as goal
-
-pub returns : goal.returns
-returns c = are_rows 7 _ (refl, tt) refl

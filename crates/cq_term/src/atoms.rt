@@ -1,0 +1,103 @@
+//! Names as numbers: equal texts have equal numbers, and a number keeps its text.
+#![tactic(auto)]
+
+ghost use Rattle.std.specs.Prelude.{◌≡◌, ℕ, ◌<◌, List, [], Some, length, slice_get, IfOk, OnOk, OnErr};
+ghost use Rattle.spec_numbers.specs.Texts.{Text};
+ghost use Rattle.cq_term.specs.Texts.{AreDifferent, KeepsTexts, with_text, text_of};
+
+use indexmap::IndexSet;
+use std::alloc::{AllocError, Global};
+use std::marker::Model;
+
+/// A name, as its number among the names of one `Atoms`. Contracts see it as that number.
+#[derive(Clone, Copy, Debug, PartialEq, Eq, Hash)]
+pub struct Atom {
+    number: usize,
+}
+
+impl Model for Atom {
+    ghost use Rattle.std.specs.Prelude.{ℕ};
+
+    ghost Value = { ℕ };
+
+    ghost view = { λ atom. atom.number };
+
+    ghost inverse = { λ n. record { number = n } };
+}
+
+impl Atom {
+    /// The number, for lists by name.
+    pub fn index(self) -> usize
+        ensures { result ≡ self }
+    {
+        self.number
+    }
+}
+
+/// The names that were given so far. Contracts see the list of their texts, by number.
+#[derive(Drop)]
+pub struct Atoms {
+    texts: IndexSet<String>,
+    alloc: Global,
+}
+
+impl Model for Atoms {
+    ghost use Rattle.std.specs.Prelude.{List, map};
+    ghost use Rattle.std.specs.String.{string_bytes};
+    ghost use Rattle.spec_numbers.specs.Texts.{Text};
+    ghost use Rattle.cq_term.specs.Texts.{AreDifferent};
+
+    ghost Value = { List Text };
+
+    ghost view = { λ atoms. map string_bytes atoms.texts.keys };
+
+    ghost invariant = { λ atoms. AreDifferent (map string_bytes atoms.texts.keys) };
+}
+
+impl Atoms {
+    /// No names; it takes no memory until the first is given.
+    pub fn new(alloc: Global) -> Atoms
+        ensures { result ≡ [] }
+    {
+        Atoms {
+            texts: IndexSet::new(alloc),
+            alloc,
+        }
+    }
+
+    /// The number of a text, which is new where no name has the text. A known text is not copied.
+    pub fn intern(&mut self, text: &str) -> Result<Atom, AllocError>
+        ensures number { IfOk result (λ atom. slice_get self.new atom ≡ Some text.now) }
+        ensures texts { OnOk result (self.new ≡ with_text self.old text.now) }
+        ensures different { AreDifferent self.new }
+        ensures was_different { AreDifferent self.old }
+        ensures err { OnErr result (self.new ≡ self.old) }
+    {
+        if let Some(number) = self.texts.get_index_of(text) {
+            return Ok(Atom { number });
+        }
+        let copy = String::from_str(self.alloc, text)?;
+        let (number, _) = self.texts.insert_full(copy)?;
+        Ok(Atom { number })
+    }
+
+    /// The text of a name.
+    pub fn text(&self, atom: Atom) -> &str
+        requires { atom < length self.now }
+        ensures value { result.now ≡ text_of self.now atom }
+        ensures different { AreDifferent self.now }
+    {
+        let texts = self.texts.as_slice();
+        texts[atom.number].as_str()
+    }
+}
+
+/// Each number keeps its text, whatever text is given a number after it.
+pub fn numbers_keep_their_texts()
+    ensures { (texts : List Text) (text : Text) → KeepsTexts texts (with_text texts text) }
+{}
+
+/// A text has one number.
+pub fn equal_texts_have_equal_numbers()
+    ensures { (texts : List Text) (text : Text) → with_text (with_text texts text) text ≡ with_text texts text }
+{}

@@ -1,5 +1,0 @@
-pub mod Asked
-pub mod Kept
-pub mod Rows
-pub mod Offers
-pub mod Started

@@ -1,6 +1,0 @@
-use Rattle.std.proofs.Common.{[]}
-use Rattle.spec_builtins.specs.Alternatives.{Offers}
-use Rattle.cq_text.proofs.lengths.atom_length.Goals as goal
-
-pub returns-in-Err-clause-culprit : goal.returns-in-Err-clause-culprit
-returns-in-Err-clause-culprit c = (c.in-Err.ensures.err c.args.atoms.now (Offers [])).1

@@ -1,4 +1,0 @@
-pub mod Places
-pub mod Ways
-pub mod Arguments
-pub mod Rows

@@ -1,4 +1,0 @@
-pub mod Arguments
-pub mod Ground
-pub mod SideBySide
-pub mod Places

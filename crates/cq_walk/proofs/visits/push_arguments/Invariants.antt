@@ -1,6 +1,0 @@
-use Rattle.cq_term.specs.Meaning.{at}
-use Rattle.cq_walk.specs.Arguments.{PushesArguments}
-use Rattle.cq_walk.proofs.visits.push_arguments.Given as goal
-
-abbrev pub invariant-loop-i : goal.invariant-loop-i
-invariant-loop-i l = PushesArguments l.heap.now.terms (at l.heap.now.terms l.fn.id) l.i l.fn.work.items l.work.items

@@ -1,4 +1,0 @@
-pub mod Arguments
-pub mod Pairs
-pub mod Places
-pub mod Visits

@@ -1,4 +1,0 @@
-pub mod Contents
-pub mod Worlds
-pub mod Standing
-pub mod Rest

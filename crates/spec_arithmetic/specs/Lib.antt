@@ -1,4 +1,0 @@
-pub mod Rounding
-pub mod Operations
-pub mod Arithmetic
-pub mod Examples

@@ -1,5 +1,0 @@
-pub mod Apart
-pub mod Codes
-pub mod Masks
-pub mod Turns
-pub mod Ends

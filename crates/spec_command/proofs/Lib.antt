@@ -1,0 +1,12 @@
+pub mod Least
+pub mod Told
+pub mod Bound
+pub mod Courses
+pub mod Beginning
+pub mod Telling
+pub mod Knowing
+pub mod Asking
+pub mod Answering
+pub mod Written
+pub mod GeneratingWhole
+pub mod EndingsWhole

@@ -1,2 +1,0 @@
-pub mod Echelon
-pub mod SolvedForm

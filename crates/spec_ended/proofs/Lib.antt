@@ -1,4 +1,0 @@
-pub mod GenLine
-pub mod AnswersAllowed
-pub mod AsFar
-pub mod Opened

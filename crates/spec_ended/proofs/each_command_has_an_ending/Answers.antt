@@ -1,6 +1,0 @@
-use Rattle.spec_ended.proofs.AnswersAllowed.{answers_allowed}
-use Rattle.spec_ended.proofs.Opened.{command_ends}
-use Rattle.spec_ended.proofs.each_command_has_an_ending.Goals as goal
-
-pub returns : goal.returns
-returns c = record { answers = answers_allowed; some = command_ends }

@@ -1,5 +1,0 @@
-pub mod Outside
-pub mod Lines
-pub mod Generated
-pub mod Endings
-pub mod Causes

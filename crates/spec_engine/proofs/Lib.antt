@@ -1,0 +1,9 @@
+pub mod Kept
+pub mod Passed
+pub mod Made
+pub mod Thrown
+pub mod Gathered
+pub mod Landed
+pub mod Joined
+pub mod Told
+pub mod Stand

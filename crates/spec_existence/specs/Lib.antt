@@ -1,0 +1,4 @@
+pub mod Bounded
+pub mod Sound
+pub mod Existing
+pub mod Own

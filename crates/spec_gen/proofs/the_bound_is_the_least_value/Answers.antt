@@ -1,5 +1,0 @@
-use Rattle.spec_gen.proofs.Bound.{bound_is_least}
-use Rattle.spec_gen.proofs.the_bound_is_the_least_value.Goals as goal
-
-pub returns : goal.returns
-returns c k small l e q solutions valued h = bound_is_least k small l e solutions valued q h

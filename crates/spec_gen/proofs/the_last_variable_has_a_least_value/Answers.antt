@@ -1,5 +1,0 @@
-use Rattle.spec_gen.proofs.Least.{least_value}
-use Rattle.spec_gen.proofs.the_last_variable_has_a_least_value.Goals as goal
-
-pub returns : goal.returns
-returns c = least_value

@@ -1,5 +1,0 @@
-use Rattle.spec_grammar.proofs.Names.{word_utf8}
-use Rattle.spec_grammar.proofs.names_are_texts.Goals as goal
-
-pub returns : goal.returns
-returns c = word_utf8

@@ -1,5 +1,0 @@
-use Rattle.spec_grammar.proofs.Held.{next_in_quotes}
-use Rattle.spec_grammar.proofs.quotes_hold_a_text.Goals as goal
-
-pub returns : goal.returns
-returns c = next_in_quotes

@@ -1,5 +1,0 @@
-use Rattle.spec_grammar.proofs.Again.{variable_again}
-use Rattle.spec_grammar.proofs.variables_are_read_again.Goals as goal
-
-pub returns : goal.returns
-returns c = variable_again

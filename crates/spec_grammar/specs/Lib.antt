@@ -1,6 +1,0 @@
-pub mod Characters
-pub mod Gaps
-pub mod Quotes
-pub mod Numerals
-pub mod Tokens
-pub mod Laws

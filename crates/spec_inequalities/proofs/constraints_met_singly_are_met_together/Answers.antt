@@ -1,5 +1,0 @@
-use Rattle.spec_inequalities.proofs.Together.{met_together}
-use Rattle.spec_inequalities.proofs.constraints_met_singly_are_met_together.Goals as goal
-
-pub returns : goal.returns
-returns c = met_together

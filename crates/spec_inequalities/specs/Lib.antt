@@ -1,3 +1,0 @@
-pub mod Weak
-pub mod Certificate
-pub mod Opposite

@@ -1,4 +1,0 @@
-pub mod Written
-pub mod InUse
-pub mod PastGreatest
-pub mod Later

@@ -1,4 +1,0 @@
-pub mod Cells
-pub mod Standing
-pub mod Coming
-pub mod Trying

@@ -1,0 +1,10 @@
+pub mod Tests
+pub mod Places
+pub mod Prefixes
+pub mod Ring
+pub mod IntRing
+pub mod RationalLemmas
+pub mod Sign
+pub mod Gcd
+pub mod Order
+pub mod Sums

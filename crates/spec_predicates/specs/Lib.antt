@@ -1,2 +1,0 @@
-pub mod Predicates
-pub mod Calls

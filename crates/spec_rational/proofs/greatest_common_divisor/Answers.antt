@@ -1,8 +1,0 @@
-use Rattle.spec_rational.proofs.greatest_common_divisor.Goals as goal
-use Rattle.spec_rational.specs.Gcd.{gcd_is, gauss}
-
-pub returns-clause-greatest : goal.returns-clause-greatest
-returns-clause-greatest c = gcd_is
-
-pub returns-clause-gauss : goal.returns-clause-gauss
-returns-clause-gauss c = gauss

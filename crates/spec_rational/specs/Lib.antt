@@ -1,4 +1,0 @@
-pub mod Gcd
-pub mod Rational
-pub mod Order
-pub mod Sums

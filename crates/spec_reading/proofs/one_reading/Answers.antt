@@ -1,6 +1,0 @@
-use Rattle.spec_reading.proofs.Onward.{some_reading}
-use Rattle.spec_reading.proofs.ByMachine.{read_once}
-use Rattle.spec_reading.proofs.one_reading.Goals as goal
-
-pub returns : goal.returns
-returns c = record { one = read_once; some = some_reading }

@@ -1,5 +1,0 @@
-use Rattle.spec_reading.proofs.ByMachine.{by_machine, from_machine}
-use Rattle.spec_reading.proofs.the_machine_reads_texts.Goals as goal
-
-pub returns : goal.returns
-returns c ops text at r = (by_machine ops text at r, from_machine ops text at r)

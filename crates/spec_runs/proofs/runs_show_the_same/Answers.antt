@@ -1,5 +1,0 @@
-use Rattle.spec_runs.proofs.SameRuns.{runs_agree, catches_up}
-use Rattle.spec_runs.proofs.runs_show_the_same.Goals as goal
-
-pub returns : goal.returns
-returns c = record { same = runs_agree; goes_on = catches_up }

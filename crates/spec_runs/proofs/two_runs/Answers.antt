@@ -1,5 +1,0 @@
-use Rattle.spec_runs.proofs.TwoRuns.{left_out, taken, pruned}
-use Rattle.spec_runs.proofs.two_runs.Goals as goal
-
-pub returns : goal.returns
-returns c = record { left_out = left_out; taken = taken; pruned = pruned }

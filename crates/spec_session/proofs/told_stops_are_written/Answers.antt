@@ -1,5 +1,0 @@
-use Rattle.spec_session.proofs.Told as told
-use Rattle.spec_session.proofs.told_stops_are_written.Goals as goal
-
-pub returns : goal.returns
-returns c = record { stop = told.stop; answer = told.stop_at_answer }

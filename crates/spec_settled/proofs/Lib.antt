@@ -1,4 +1,0 @@
-pub mod Closing
-pub mod Settled
-pub mod Bounds
-pub mod Forms

@@ -1,6 +1,0 @@
-pub mod Causes
-pub mod Operands
-pub mod Samples
-pub mod Settlings
-pub mod Questions
-pub mod Due

@@ -1,0 +1,11 @@
+-- Expressions over two numbers.
+use Rattle.std.specs.Prelude.{ℤ}
+use Rattle.spec_numbers.specs.Rational.{int_ℚ}
+use Rattle.spec_terms.specs.Term.{Term, Number, Compound, one, more}
+use Rattle.spec_numbers.specs.Texts.{Text}
+
+abbrev pub whole : ℤ → Term Text
+whole z = Number (int_ℚ z)
+
+abbrev pub binary : Text → Term Text → Term Text → Term Text
+binary f t u = Compound f (more t (one u))

@@ -1,0 +1,10 @@
+pub mod Readings
+pub mod Runs
+pub mod Laws
+pub mod Later
+pub mod Decided
+pub mod Numbers
+pub mod Pieces
+pub mod Texts
+pub mod Written
+pub mod ReadingBack

@@ -1,5 +1,0 @@
-use Rattle.spec_told.proofs.SameArithmetic.{same_value}
-use Rattle.spec_told.proofs.arithmetic_gives_the_same_values.Goals as goal
-
-pub returns : goal.returns
-returns c = λ a e q h k. same_value a e q h k

@@ -1,5 +1,0 @@
-use Rattle.spec_told.proofs.Truth.{expression_worth, relation_worth}
-use Rattle.spec_told.proofs.nothing_waits_for_no_variable.Goals as goal
-
-pub returns : goal.returns
-returns c = record { expression = expression_worth; relation = relation_worth }

@@ -1,6 +1,0 @@
-pub mod Numbered
-pub mod Effects
-pub mod Searching
-pub mod Clauses
-pub mod Reading
-pub mod Going

@@ -1,5 +1,0 @@
-use Rattle.spec_transcribed.proofs.Going.{transcript_exists}
-use Rattle.spec_transcribed.proofs.transcripts_exist.Goals as goal
-
-pub returns : goal.returns
-returns c = λ budgets shelf input files some_answer there forms. transcript_exists budgets shelf input some_answer forms files there

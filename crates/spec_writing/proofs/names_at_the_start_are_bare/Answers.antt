@@ -1,5 +1,0 @@
-use Rattle.spec_writing.proofs.Start.{standard_bare}
-use Rattle.spec_writing.proofs.names_at_the_start_are_bare.Goals as goal
-
-pub returns : goal.returns
-returns c = standard_bare

@@ -1,5 +1,0 @@
-pub mod Numbers
-pub mod Pieces
-pub mod Texts
-pub mod Written
-pub mod ReadingBack

@@ -1,0 +1,6 @@
+use Rattle.std.proofs.Common.{◌∙◌, arith, sym}
+use Rattle.spec_numbers.proofs.Sign.{one_not_zero}
+use Rattle.tests_linear.proofs.store.form.with_product.Goals as goal
+
+pub new-requires : goal.new-requires
+new-requires c = record { in_order = (omega arith, (λ z. one_not_zero (sym c.one.ensures ∙ z)), tt) }

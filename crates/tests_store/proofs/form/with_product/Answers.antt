@@ -1,6 +1,0 @@
-use Rattle.std.proofs.Common.{◌∙◌, arith, sym}
-use Rattle.spec_rational.proofs.Sign.{one_not_zero}
-use Rattle.tests_store.proofs.form.with_product.Goals as goal
-
-pub new-requires : goal.new-requires
-new-requires c = record { in_order = (omega arith, (λ z. one_not_zero (sym c.one.ensures ∙ z)), tt) }
