@@ -5,7 +5,7 @@ from __future__ import annotations
 import re
 from typing import List, Optional, Tuple
 
-from .operators import INFIX, PREFIX, is_operator
+from .operators import INFIX, PREFIX
 from .terms import Atom, Steps, Struct, Term, Unread, Var, cell, number_of, walked, written
 from .tokens import Kind, Token, TokenFault, tokens
 
@@ -107,11 +107,15 @@ class _Reader:
         return (yield self.bracketed(token))
 
     def bracketed(self, token: Token) -> Steps:
+        closes = {"[": "]", "{": "}"}.get(str(token.value))
+        if closes and self.has(closes):
+            self.at += 1
+            name = f"{token.value}{closes}"
+            if self.text.startswith("(", self.tokens[self.at - 1].end):
+                return (yield self.compound(name))
+            return [] if name == "[]" else Atom(name), 0
         if token.value == "[":
             return (yield self.listed())
-        if token.value == "{" and self.has("}"):
-            self.at += 1
-            return Atom("{}"), 0
         if token.value not in ("(", "{"):
             raise NotRead(self.text)
         inner, _ = yield self.term(1200)
@@ -119,9 +123,6 @@ class _Reader:
         return inner if token.value == "(" else Struct("{}", (inner,)), 0
 
     def listed(self) -> Steps:
-        if self.has("]"):
-            self.at += 1
-            return [], 0
         items: List[Term] = []
         tail: Term = []
         while True:
@@ -169,6 +170,3 @@ class _Reader:
             args.append((yield self.term(999))[0])
         self.take(")")
         return (cell(*args) if name == "." and len(args) == 2 else Struct(name, tuple(args))), 0
-
-
-__all__ = ["NotRead", "is_operator", "read", "read_or_keep"]

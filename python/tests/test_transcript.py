@@ -123,7 +123,6 @@ class Texts(unittest.TestCase):
         for text, own, bindings in [
             ("abX = 1\n;", "ab", {"X": 1}),
             ("abX = 1\nY = 2\n;", "ab", {"X": 1, "Y": 2}),
-            ("X = X = 1\n;", "X = ", {"X": 1}),
             ("atrue\n;", "a", {}),
             ("> aX = 1\n;", "> a", {"X": 1}),
         ]:
