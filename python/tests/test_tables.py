@@ -7,15 +7,10 @@ from decimal import Decimal
 from fractions import Fraction
 
 import clpq
-from clpq import Answer, Atom, Source, facts
-from clpq.tables import csv_rows, frame, table
+from clpq import Answer, Atom, facts
+from clpq.tables import csv_rows, table
 
 from .around import PROGRAM
-
-try:
-    import pandas
-except ImportError:
-    pandas = None
 
 PRICES = "article,price,note\n007,12.50,it's\n8,-0.05,\n9,3,\"a\nb, c\"\n10,1e5,1.\n"
 
@@ -74,28 +69,6 @@ class Tables(unittest.TestCase):
             {"query": 1, "X": None, "Y": None, "where": ""},
         ])  # fmt: skip
         self.assertEqual(table([]), [])
-
-    @unittest.skipUnless(pandas, "python3-pandas is not there")
-    def test_frames(self):
-        exact = frame(self.ITEMS)
-        self.assertEqual([*exact.columns], ["query", "X", "Y", "where"])
-        self.assertEqual(exact["X"][1], Fraction(1, 3))
-        self.assertEqual(frame(self.ITEMS, floats=True)["X"][1], 1 / 3)
-        given = pandas.DataFrame({"a": ["x", "y"], "b": [Decimal("0.1"), Decimal("2")], "c": [1, 2]})
-        self.assertEqual(facts("p", given), Source("p(x,1r10,1).\np(y,2,2).\n", "facts.pl"))
-        self.assertEqual(facts("p", given, columns=["c", "a"]).text, "p(1,x).\np(2,y).\n")
-        day = pandas.DataFrame({"d": pandas.to_datetime(["2026-01-03"])})
-        self.assertEqual(facts("p", day, days=datetime.date(2026, 1, 1)).text, "p(2).\n")
-
-    @unittest.skipUnless(pandas, "python3-pandas is not there")
-    def test_frames_of_floats(self):
-        given = pandas.DataFrame({"a": [0.1, 0.25]})
-        with self.assertRaises(TypeError):
-            facts("p", given)
-        self.assertEqual(facts("p", given, floats="shortest").text, "p(1r10).\np(1r4).\n")
-        for missing in [{"a": [0.1, None]}, {"a": ["x", None]}, {"a": [pandas.NaT]}]:
-            with self.subTest(missing), self.assertRaises((TypeError, ValueError)):
-                facts("p", pandas.DataFrame(missing), floats="shortest", days=datetime.date(2026, 1, 1))
 
 
 if __name__ == "__main__":

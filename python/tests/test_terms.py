@@ -163,26 +163,6 @@ class ThroughTheProgram(unittest.TestCase):
         names = ["".join(chance.choice(signs) for _ in range(chance.randrange(1, 9))) for _ in range(60)]
         self.assertEqual(self.back(names), [[] if it == "[]" else Atom(it) for it in names])
 
-    def test_by_hypothesis(self):
-        try:
-            from hypothesis import HealthCheck, given, settings, strategies
-        except ImportError:
-            self.skipTest("python3-hypothesis is not there")
-
-        @settings(max_examples=300, deadline=None, suppress_health_check=list(HealthCheck))
-        @given(strategies.recursive(
-            strategies.one_of(
-                strategies.integers(-LIMIT, LIMIT), strategies.text(strategies.characters(blacklist_categories=["Cs"])).map(Atom),
-            ),
-            lambda inner: strategies.builds(lambda name, args: Struct(name, tuple(args)), strategies.sampled_from(["f", "-", "mod", "a b"]),
-                                            strategies.lists(inner, min_size=1, max_size=3)),
-            max_leaves=8,
-        ))  # fmt: skip
-        def there_and_back(term):
-            self.assertEqual(read(written(term)), term if term != Atom("[]") else [])
-
-        there_and_back()
-
 
 if __name__ == "__main__":
     unittest.main()
