@@ -5,7 +5,7 @@ from __future__ import annotations
 from fractions import Fraction
 from typing import Any, Iterable, List, Optional, Sequence, Tuple, Union
 
-from .regions import Box, Line, Point, Region, inner, joined, region_of
+from .regions import Box, Line, Point, Region, box_of, inner, region_of
 from .transcript import Answer, Item
 
 _STEPS = 12
@@ -34,6 +34,7 @@ def draw(
     axes = _axes(axes, x, y, frame)
     for number, region in enumerate(regions):
         _draw_region(axes, region, frame, f"C{number % 10}", labels[number] if labels else None)
+        _draw_dots(axes, [region], frame, f"C{number % 10}")
     if labels:
         axes.legend()
     return axes
@@ -62,18 +63,21 @@ def curve(
     colour = axes._get_lines.get_next_color() if axes.lines else "C0"
     for number, region in enumerate(regions):
         _draw_region(axes, region, frame, colour, label if not number else None)
+    _draw_dots(axes, regions, frame, colour)
     if label:
         axes.legend()
     return axes
 
 
-def save(axes: Any, path: str) -> None:
-    """Writes the picture of the axes into a file whose name says the kind: the same picture gives the same file."""
+def save(axes: Any, file: Any, kind: Optional[str] = None) -> None:
+    """Writes the picture of the axes into a file, whose name's ending says the kind where it isn't given: the same picture gives the
+    same file."""
     import matplotlib
 
-    kinds = {"svg": {"Date": None}, "pdf": {"CreationDate": None}}
+    kind = kind or str(file).rpartition(".")[2].lower()
+    metadata = {"svg": {"Date": None}, "pdf": {"CreationDate": None}}.get(kind)
     with matplotlib.rc_context({"svg.hashsalt": "clpq", "svg.fonttype": "none"}):
-        axes.figure.savefig(path, metadata=kinds.get(str(path).rpartition(".")[2].lower()))
+        axes.figure.savefig(file, format=kind, metadata=metadata)
 
 
 def _answers(given: Union[Answer, Iterable[Item]]) -> List[Answer]:
@@ -85,7 +89,7 @@ def _answers(given: Union[Answer, Iterable[Item]]) -> List[Answer]:
 
 def _frame(regions: Sequence[Region], box: Optional[Tuple[float, float, float, float]]) -> Box:
     if box is None:
-        return joined([it.box() for it in regions])
+        return box_of(regions)
     left, right, low, high = (Fraction(it) for it in box)
     if left >= right or low >= high:
         raise ValueError("box is the least and greatest X and the least and greatest Y")
@@ -113,7 +117,6 @@ def _draw_region(axes: Any, region: Region, frame: Box, colour: str, label: Opti
     corners = region.within(frame)
     if len(corners) > 2:
         _fill(axes, region, frame, colour, label)
-        label = None
     for line in region.lines:
         if line.relation == "=\\=":
             _draw_line(axes, region, line, frame, colour, ":", None)
@@ -121,11 +124,15 @@ def _draw_region(axes: Any, region: Region, frame: Box, colour: str, label: Opti
             _draw_line(axes, region, line, frame, colour, "-" if line.relation == "=<" else "--", None)
     if len(corners) == 2:
         _draw_segment(axes, corners, frame, colour, "-", label)
-        label = None
-    for at in _dots(region, frame):
-        full = region.holds(at)
-        axes.plot(*_floats([at]), "o", color=colour, markerfacecolor=colour if full else "white", markersize=5, label=label, clip_on=False)
-        label = None
+    elif len(corners) == 1:
+        axes.plot(*_floats(corners), "", color=colour, label=label)
+
+
+def _draw_dots(axes: Any, regions: Sequence[Region], frame: Box, colour: str) -> None:
+    """Draws the vertices: full where one of the regions has them."""
+    for at in dict.fromkeys(at for it in regions for at in _dots(it, frame)):
+        full = any(it.holds(at) for it in regions)
+        axes.plot(*_floats([at]), "o", color=colour, markerfacecolor=colour if full else "white", markersize=5, clip_on=False, zorder=3)
 
 
 def _fill(axes: Any, region: Region, frame: Box, colour: str, label: Optional[str]) -> None:

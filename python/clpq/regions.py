@@ -77,16 +77,6 @@ class Region:
         """The two ends of the part of a line that is in the closure and in a box; one or none where the line only touches it."""
         return Region((*self.lines, Line(line.a, line.b, "=", line.c))).within(box)
 
-    def box(self) -> Box:
-        """A box that shows the region: all its vertices, and room where it has no bound."""
-        points = self.vertices() or [_foot(it) for it in self.lines] or [(Fraction(0), Fraction(0))]
-        xs, ys = [it[0] for it in points], [it[1] for it in points]
-        size = max(max(xs) - min(xs), max(ys) - min(ys)) or Fraction(2)
-        tight = (min(xs), max(xs), min(ys), max(ys))
-        if self.unbounded(_wider(tight, size / 10, size / 10)):
-            return _wider(tight, size * 3 / 5, size * 3 / 5)
-        return _wider(tight, (tight[1] - tight[0]) / 10 or size / 10, (tight[3] - tight[2]) / 10 or size / 10)
-
     def unbounded(self, box: Box) -> bool:
         """Whether the region goes on beyond a box that has all its vertices inside."""
         left, right, low, high = box
@@ -218,9 +208,15 @@ def _wider(box: Box, by_x: Fraction, by_y: Fraction) -> Box:
     return box[0] - by_x, box[1] + by_x, box[2] - by_y, box[3] + by_y
 
 
-def joined(boxes: Sequence[Box]) -> Box:
-    """The least box that has all of these in it."""
-    return (min(it[0] for it in boxes), max(it[1] for it in boxes), min(it[2] for it in boxes), max(it[3] for it in boxes))
+def box_of(regions: Sequence[Region]) -> Box:
+    """A box that shows regions: all their vertices, and room where one has no bound."""
+    points = [at for it in regions for at in it.vertices()] or [_foot(line) for it in regions for line in it.lines] or [(Fraction(0), Fraction(0))]
+    xs, ys = [it[0] for it in points], [it[1] for it in points]
+    width, height = max(xs) - min(xs), max(ys) - min(ys)
+    width, height = width or height or Fraction(2), height or width or Fraction(2)
+    tight = (min(xs), max(xs), min(ys), max(ys))
+    near = _wider(tight, width / 10, height / 10)
+    return _wider(tight, width * 3 / 5, height * 3 / 5) if any(it.unbounded(near) for it in regions) else near
 
 
 def inner(box: Box, part: Fraction) -> Box:
