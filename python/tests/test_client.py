@@ -51,7 +51,7 @@ class Said(unittest.TestCase):
     def test_places_of_faults(self):
         texts = ["X = 1.", "é = é,\n  X = ]", "X = 'é\n'.", "X = ", "X = 1"]
         faults = [(it.query, it.byte, it.line) for it in ask([], texts) if isinstance(it, SyntaxFault)]
-        self.assertEqual(faults, [(1, 14, 2), (2, 7, 1), (3, 4, 1)])
+        self.assertEqual(faults, [(1, 15, 2), (2, 7, 1), (3, 4, 1)])
 
     def test_a_file_at_fault(self):
         items = [*ask(Source("a.\nb c.\n:- throw(late).\n?- X = 1 ; X = 2.\n:- write('> ready'), nl.\n"), ["a"])]
@@ -211,7 +211,7 @@ class Worked(unittest.TestCase):
         chosen = [it for it in rows if "syntax" not in it["out"] and not any("\udc80" <= c <= "\udcff" for c in it["input"])]
         for row in chosen[:: max(1, len(chosen) // 40)]:
             with self.subTest(row["input"]):
-                said = "".join(str(it) for it in ask([], row["input"]) if not isinstance(it, Done))
+                said = "".join(str(it) for it in ask([], row["input"]))
                 self.assertEqual(said, row["out"])
 
 
