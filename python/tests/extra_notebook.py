@@ -37,7 +37,7 @@ class Shown(unittest.TestCase):
 
     def test_the_line_of_a_cell(self):
         shown = asked(f"--program '{PROGRAM}' --answers 1 --draw X Y", "?- {X>=0, X=<1, Y>=0, Y=<X}.\n?- X = Y ; true.\n")
-        self.assertEqual([type(it).__name__ for it in shown.items], ["Answer", "NoMore", "Answer", "More"])
+        self.assertEqual([type(it).__name__ for it in shown.items], ["Answer", "More", "Answer", "More"])
         self.assertIn("<svg", shown._repr_html_())
 
 
