@@ -1,0 +1,86 @@
+# Installs clpq, and makes a Debian package of it. The program is the one that .ci/run has proved and built.
+#
+#   make install [PREFIX=/usr/local] [DESTDIR=]
+#   make uninstall [PREFIX=/usr/local] [DESTDIR=]
+#   make deb                                       out/clpq_VERSION_ARCHITECTURE.deb
+#
+# PROGRAM=PATH takes another build. No licence is chosen yet, so the package has no copyright file and must not be passed on as free
+# software.
+
+PREFIX = /usr/local
+DESTDIR =
+PROGRAM = crates/clpq/out/clpq
+
+to = $(DESTDIR)$(PREFIX)
+doc = $(to)/share/doc/clpq
+pages = REFERENCE.md GUIDE.md FROM-SWI.md
+
+.PHONY: install uninstall deb
+
+$(PROGRAM):
+	@echo "$(PROGRAM) does not stand here: .ci/run proves and builds it" >&2; exit 1
+
+install: $(PROGRAM)
+	install -D -m 755 $(PROGRAM) $(to)/bin/clpq
+	install -D -m 644 docs/clpq.1 $(to)/share/man/man1/clpq.1
+	install -d $(to)/share/clpq/lib $(doc)/docs $(doc)/examples
+	install -m 644 lib/*.pl $(to)/share/clpq/lib
+	install -m 644 README.md CHANGELOG.md $(doc)
+	install -m 644 $(addprefix docs/,$(pages)) $(doc)/docs
+	install -m 644 examples/README.md examples/*.pl examples/*.in examples/*.out $(doc)/examples
+	ln -sfn ../../clpq/lib $(doc)/lib
+	install -D -m 644 editors/clpq.vim $(to)/share/vim/vimfiles/syntax/clpq.vim
+	install -D -m 644 editors/clpq.bash $(to)/share/bash-completion/completions/clpq
+
+uninstall:
+	rm -f $(to)/bin/clpq $(to)/share/man/man1/clpq.1 $(to)/share/vim/vimfiles/syntax/clpq.vim $(to)/share/bash-completion/completions/clpq
+	rm -rf $(to)/share/clpq $(doc)
+
+date = $(shell git log -1 --format=%cd --date=format:%Y%m%d)
+version = 0~$(date).$(shell git log -1 --format=%h --abbrev=8)-1
+architecture = $(shell dpkg --print-architecture)
+maintainer = $(shell git log -1 --format='%an <%ae>')
+# the newest version of the C library that the program names
+libc = $(shell objdump -T $(PROGRAM) | grep -o 'GLIBC_[0-9.]*' | sort -Vu | tail -n 1 | cut -d_ -f2)
+tree = out/deb
+package = out/clpq_$(version)_$(architecture).deb
+
+define control
+Package: clpq
+Version: $(version)
+Architecture: $(architecture)
+Maintainer: $(maintainer)
+Installed-Size: @SIZE@
+Depends: libc6 (>= $(libc))
+Section: math
+Priority: optional
+Description: Prolog with exact rational linear constraints
+ clpq answers queries over clauses and linear constraints between fractions,
+ forwards, backwards and with unknowns. Every number is exact, and the program
+ is proved to write what its definitions say.
+ .
+ The package has the program, its manual page, a guide, a reference, worked
+ examples, and a library of common predicates in /usr/share/clpq/lib.
+endef
+export control
+
+define changes
+clpq ($(version)) unstable; urgency=medium
+
+  * Made of the sources of this day; /usr/share/doc/clpq/CHANGELOG.md says
+    what changed.
+
+ -- $(maintainer)  $(shell git log -1 --format=%cD)
+endef
+export changes
+
+deb: $(PROGRAM)
+	rm -rf $(tree)
+	$(MAKE) --no-print-directory install DESTDIR=$(tree) PREFIX=/usr
+	strip --strip-unneeded $(tree)/usr/bin/clpq
+	gzip -9n $(tree)/usr/share/man/man1/clpq.1
+	echo "$$changes" | gzip -9n > $(tree)/usr/share/doc/clpq/changelog.Debian.gz
+	install -d $(tree)/DEBIAN
+	echo "$$control" | sed "s/@SIZE@/$$(du -sk $(tree)/usr | cut -f1)/" > $(tree)/DEBIAN/control
+	cd $(tree) && find usr -type f -print0 | sort -z | xargs -0 md5sum > DEBIAN/md5sums
+	dpkg-deb --root-owner-group --build $(tree) $(package)
