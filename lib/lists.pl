@@ -43,8 +43,8 @@ memberchk(X, Xs) :- member(X, Xs), !.
 %!  length(?Xs, ?N) is nondet.
 %
 %   Xs has N elements: `det` for a list, or for an open one with a given N; else the open list gets more and more elements, and ends
-%   where constraints bound N above (SWI-Prolog goes on). Errors: type_error(list, Xs), type_error(integer, N),
-%   domain_error(not_less_than_zero, N).
+%   where constraints bound N above (SWI-Prolog goes on). Errors: type_error(integer, N), domain_error(not_less_than_zero, N),
+%   type_error(list, Xs).
 %   - `?- length([a,b], N).` gives `N = 2`, `;`, `no`
 %   - `?- length(Xs, 2).` gives `Xs = [_1,_2]`, `;`, `no`
 %   - `?- length([a|Xs], 1).` gives `Xs = []`, `;`, `no`
@@ -52,14 +52,15 @@ memberchk(X, Xs) :- member(X, Xs), !.
 %   - `?- {N >= 1, N < 3}, length(Xs, N).` gives `N = 1`, `Xs = [_1]`, `;`, `N = 2`, `Xs = [_1,_2]`, `;`, `no`
 %   - `?- length(a, _).` gives `error: error(type_error(list,a),length/2)`
 %   - `?- length(_, -1).` gives `error: error(domain_error(not_less_than_zero,-1),length/2)`
+%   - `?- length([a|b], a).` gives `error: error(type_error(integer,a),length/2)`
 %   - `?- length([a], 1r2).` gives `error: error(type_error(integer,1r2),length/2)`
 length(Xs, N) :-
     length_walk_(Xs, 0, K, End),
-    ( nonvar(End), End \== [] -> throw(error(type_error(list, Xs), length/2)) ; true ),
     ( var(N) -> true
     ; \+ integer(N) -> throw(error(type_error(integer, N), length/2))
     ; N < 0 -> throw(error(domain_error(not_less_than_zero, N), length/2))
     ; true ),
+    ( nonvar(End), End \== [] -> throw(error(type_error(list, Xs), length/2)) ; true ),
     length_end_(End, K, N).
 
 % the elements that are there, and what stands behind them

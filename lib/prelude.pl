@@ -18,11 +18,11 @@ memberchk(X, Xs) :- member(X, Xs), !.
 
 length(Xs, N) :-
     length_walk_(Xs, 0, K, End),
-    ( nonvar(End), End \== [] -> throw(error(type_error(list, Xs), length/2)) ; true ),
     ( var(N) -> true
     ; \+ integer(N) -> throw(error(type_error(integer, N), length/2))
     ; N < 0 -> throw(error(domain_error(not_less_than_zero, N), length/2))
     ; true ),
+    ( nonvar(End), End \== [] -> throw(error(type_error(list, Xs), length/2)) ; true ),
     length_end_(End, K, N).
 
 length_walk_(Xs, K, K, Xs) :- var(Xs), !.

@@ -5,6 +5,7 @@
 :- use_module(library(aggregate)).
 :- set_prolog_flag(prefer_rationals, true).
 :- set_prolog_flag(double_quotes, codes).
+:- set_prolog_flag(occurs_check, true).
 
 % the most answers of a query
 most(20).
