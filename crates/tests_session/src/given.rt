@@ -122,38 +122,3 @@ pub(crate) fn does(
             && err.bytes() == wanted.line.as_bytes(),
     )
 }
-
-/// Whether a run does what is wanted both in one piece and byte by byte.
-pub(crate) fn does_either_way(
-    alloc: Global,
-    given: Given<'_>,
-    wanted: Wanted<'_>,
-) -> Result<bool, AllocError> {
-    for pieces in [Pieces::Whole, Pieces::Bytes] {
-        if !does(alloc, Given { pieces, ..given }, wanted)? {
-            return Ok(false);
-        }
-    }
-    Ok(true)
-}
-
-/// The text of a file `prog.pl`, the input, and what is written.
-pub(crate) type Row = (&'static str, &'static str, &'static str);
-
-/// The place of the first row that a run does otherwise.
-pub(crate) fn first_wrong(
-    alloc: Global,
-    rows: &[Row],
-    status: Status,
-) -> Result<Option<usize>, AllocError> {
-    for (i, (text, input, out)) in rows.iter().enumerate() {
-        let given = Given {
-            files: &[("prog.pl", text)],
-            ..input_of(&["run", "prog.pl"], input.as_bytes())
-        };
-        if !does_either_way(alloc, given, written(out, status))? {
-            return Ok(Some(i));
-        }
-    }
-    Ok(None)
-}

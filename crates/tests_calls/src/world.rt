@@ -1,5 +1,0 @@
-//! Tests of worlds: what no clause says of them.
-#![tactic(auto)]
-
-#[cfg(test)]
-mod world;
