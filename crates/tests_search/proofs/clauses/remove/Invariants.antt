@@ -1,9 +1,0 @@
-use Rattle.std.proofs.Common.{◌≡◌, length}
-use Rattle.cq_clauses.specs.Snapshots.{IsSnapshot, seen}
-use Rattle.tests_search.proofs.clauses.remove.Given as goal
-
-abbrev pub invariant-loop-clause : goal.invariant-loop-clause
-invariant-loop-clause l = record { opened : IsSnapshot l.rest l.clauses.procedures; same : l.clauses ≡ l.fn.clauses }
-
-abbrev pub decreases-loop-clause : goal.decreases-loop-clause
-decreases-loop-clause l = length (seen l.rest l.clauses.procedures)
