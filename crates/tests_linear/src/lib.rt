@@ -1,4 +1,5 @@
-//! Tests of the crates of greatest values, of rows brought to zero and of the store of all relations: what no clause says of them.
+//! Tests of numbers, of forms, of greatest values and of rows brought to zero: what no clause says of them, and no row through the
+//! built program shows.
 #![tactic(auto)]
 
 #[cfg(test)]
@@ -10,5 +11,3 @@ mod problems;
 #[cfg(test)]
 mod simplex;
 pub mod store;
-#[cfg(test)]
-mod weighing;

@@ -1,12 +1,7 @@
-//! Tests of the crates that read and write texts: what no clause says of them.
+//! Tests of the crate that reads texts: what no clause says of it, and no row through the built program shows.
 #![tactic(auto)]
 
 #[cfg(test)]
 mod lex;
 #[cfg(test)]
-mod ops;
-#[cfg(test)]
 mod read;
-pub mod round_trip;
-#[cfg(test)]
-mod write;

@@ -15,7 +15,7 @@ fn number(n: i128, d: i128) -> Frac {
 }
 
 /// The form and the product of a number and a variable.
-pub(crate) fn with_product(
+fn with_product(
     alloc: Global,
     form: Form,
     factor: Frac,
