@@ -1,7 +1,9 @@
-//! Tests of the crates of numbers and of forms: what no clause says of them.
+//! Tests of the crates of numbers, of undo and of forms: what no clause says of them.
 #![tactic(auto)]
 
 #[cfg(test)]
 mod form;
 #[cfg(test)]
 mod frac;
+#[cfg(test)]
+mod trail;
