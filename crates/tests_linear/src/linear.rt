@@ -71,11 +71,7 @@ fn has_its_certificate(alloc: Global) -> Result<bool, Fail> {
     tell_form(&mut store, alloc, Relation::Gt, &[(1, 0), (-1, 1)])?;
     tell_form(&mut store, alloc, Relation::Gt, &[(1, 1), (-1, 2)])?;
     let last = constraint(alloc, Relation::Gt, &[(-1, 0), (1, 2)], 0)?;
-    Ok(is_refused_with(
-        &mut store,
-        last,
-        &[(3, 1), (1, 1), (2, 1)],
-    ))
+    Ok(is_refused_with(&mut store, last, &[(3, 1), (1, 1), (2, 1)]))
 }
 
 #[test]

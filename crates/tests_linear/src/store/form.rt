@@ -15,12 +15,7 @@ fn number(n: i128, d: i128) -> Frac {
 }
 
 /// The form and the product of a number and a variable.
-fn with_product(
-    alloc: Global,
-    form: Form,
-    factor: Frac,
-    x: usize,
-) -> Result<Form, Refusal> {
+fn with_product(alloc: Global, form: Form, factor: Frac, x: usize) -> Result<Form, Refusal> {
     let variable = Form::new(alloc, Frac::zero(), &[(VarId(x), Frac::one())])?;
     let product = variable.scale(factor)?;
     form.add(&product)
