@@ -62,7 +62,6 @@ Description: Prolog with exact rational linear constraints
  The package has the program, its manual page, a guide, a reference, worked
  examples, and a library of common predicates in /usr/share/clpq/lib.
 endef
-export control
 
 define changes
 clpq ($(version)) unstable; urgency=medium
@@ -72,15 +71,16 @@ clpq ($(version)) unstable; urgency=medium
 
  -- $(maintainer)  $(shell git log -1 --format=%cD)
 endef
-export changes
 
+deb: export CONTROL = $(control)
+deb: export CHANGES = $(changes)
 deb: $(PROGRAM)
 	rm -rf $(tree)
 	$(MAKE) --no-print-directory install DESTDIR=$(tree) PREFIX=/usr
 	strip --strip-unneeded $(tree)/usr/bin/clpq
 	gzip -9n $(tree)/usr/share/man/man1/clpq.1
-	echo "$$changes" | gzip -9n > $(tree)/usr/share/doc/clpq/changelog.Debian.gz
+	echo "$$CHANGES" | gzip -9n > $(tree)/usr/share/doc/clpq/changelog.Debian.gz
 	install -d $(tree)/DEBIAN
-	echo "$$control" | sed "s/@SIZE@/$$(du -sk $(tree)/usr | cut -f1)/" > $(tree)/DEBIAN/control
+	echo "$$CONTROL" | sed "s/@SIZE@/$$(du -sk $(tree)/usr | cut -f1)/" > $(tree)/DEBIAN/control
 	cd $(tree) && find usr -type f -print0 | sort -z | xargs -0 md5sum > DEBIAN/md5sums
 	dpkg-deb --root-owner-group --build $(tree) $(package)
