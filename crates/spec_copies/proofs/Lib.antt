@@ -1,0 +1,12 @@
+pub mod Apart
+pub mod Led
+pub mod Parts
+pub mod Listed
+pub mod Sorted
+pub mod Plain
+pub mod Projected
+pub mod Exists
+pub mod Same
+pub mod Unkept
+pub mod Numeric
+pub mod Known

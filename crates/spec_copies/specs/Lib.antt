@@ -1,0 +1,5 @@
+pub mod Reach
+pub mod Parts
+pub mod Copies
+pub mod Alike
+pub mod Samples
