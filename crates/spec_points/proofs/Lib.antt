@@ -1,0 +1,9 @@
+pub mod Holding
+pub mod Inside
+pub mod Search
+pub mod Steps
+pub mod Chosen
+pub mod Exists
+pub mod Unique
+pub mod Lines
+pub mod Sampled
