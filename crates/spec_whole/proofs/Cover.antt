@@ -1,17 +1,17 @@
 -- A whole number lies on one side of each split.
-use Rattle.std.proofs.Common.{◌≡◌, ◌⊎◌, inl, inr, ℕ, zero, suc, ◌<◌, ℤ, pos, negsuc, neg_ℤ, ◌+ℤ◌, ◌<ℤ◌, ◌≤ℤ◌, arith, List, [], ◌∷◌, refl, sym, ap, ap₂, subst, ◌∙◌}
+use Rattle.std.proofs.Common.{◌≡◌, ◌⊎◌, inl, inr, ℕ, ℤ, pos, negsuc, neg_ℤ, ◌+ℤ◌, ◌<ℤ◌, ◌≤ℤ◌, arith, List, [], ◌∷◌, refl, sym, ap, ap₂, subst, ◌∙◌}
 use Rattle.std.proofs.lemmas.Int.{ints}
 use Rattle.std.specs.declared.cmp.Ordering.{Ordering}
 use Rattle.std.specs.declared.cmp.Ordering.TheVariants.{Less, Equal, Greater}
 use Rattle.std.specs.Ordering.{MatchOrdering}
-use Rattle.spec_numbers.specs.Rational.{ℚ, 0ℚ, 1ℚ, int_ℚ, neg_ℚ, ◌+ℚ◌, ◌-ℚ◌, ◌<ℚ◌, ◌≤ℚ◌, IsPositive, IsNotNegative}
+use Rattle.spec_numbers.specs.Rational.{ℚ, 1ℚ, int_ℚ, neg_ℚ, ◌+ℚ◌, ◌-ℚ◌, ◌<ℚ◌, ◌≤ℚ◌, IsPositive, IsNotNegative}
 use Rattle.spec_numbers.specs.Order.{cmp_ℚ}
 use Rattle.spec_numbers.proofs.Order.{cmp_ℚ-matches, lt_or_le}
 use Rattle.spec_numbers.proofs.Sign.{pos_ratio, ratio_nonneg}
 use Rattle.spec_numbers.proofs.RationalLemmas.{ℚ_ring, ring, ratio-neg}
 use Rattle.spec_numbers.proofs.Ring.{int, var, minus, ◌⊕◌}
-use Rattle.spec_linear.specs.Form.{value_at, constant_form, variable_form}
-use Rattle.spec_linear.specs.Solution.{Constraint, Point, number, Holds, HoldsAt, Solves, equal_to}
+use Rattle.spec_linear.specs.Form.{constant_form, variable_form}
+use Rattle.spec_linear.specs.Solution.{Constraint, Point, number, Holds, HoldsAt, equal_to}
 use Rattle.spec_linear.proofs.Values.{value_at-constant_form, value_at-variable_form, value_at-difference_form}
 use Rattle.spec_linear.proofs.Points.{solves_same}
 use Rattle.spec_whole.specs.Whole.{IsWhole, at_most, at_least, Splits, around, between}

@@ -1,17 +1,17 @@
 -- A search by bounds loses no whole solution that is better than its best leaf.
-use Rattle.std.proofs.Common.{◌≡◌, ◌⊎◌, inl, inr, ℕ, suc, List, [], ◌∷◌, ◌++◌, map, Option, Some, None, refl, sym, ap, ap₂, subst, ◌∙◌}
+use Rattle.std.proofs.Common.{◌≡◌, ◌⊎◌, inl, inr, ℕ, List, [], ◌∷◌, ◌++◌, map, Option, Some, None, refl, sym, subst}
 use Rattle.std.specs.Prelude.{⊤}
 use Rattle.std.specs.List.{AllByRecursion}
 use Rattle.spec_numbers.specs.Rational.{ℚ, neg_ℚ, ◌<ℚ◌, ◌≤ℚ◌}
-use Rattle.spec_numbers.proofs.Order.{lt_to_le, le_trans, neg_le, neg_lt, lt_le_trans}
+use Rattle.spec_numbers.proofs.Order.{lt_to_le, le_trans, neg_le, neg_lt}
 use Rattle.spec_numbers.proofs.RationalLemmas.{ring}
 use Rattle.spec_numbers.proofs.Ring.{var, minus}
 use Rattle.spec_linear.specs.Form.{Linear, value_at, negated_form}
-use Rattle.spec_linear.specs.Solution.{Constraint, Point, number, Solves, Holds, Solvable, Unsolvable, Fixed, Has}
+use Rattle.spec_linear.specs.Solution.{Constraint, Point, number, Solves, Has}
 use Rattle.spec_linear.proofs.Values.{value_at-negated_form}
 use Rattle.spec_linear.proofs.Lists.{solves_append}
 use Rattle.spec_linear.specs.Extremes.{IsInfimum}
-use Rattle.spec_whole.specs.Whole.{IsWhole, IsWholeOn, IsWholeInfimum, HasNoWhole, Splits, Standing, IsBelow, IsOpened, AreWhole, SomeBroken, IsFirstFree, Looks, empty, no_better, leaf, broken, splits, Searches, here, on, begun, HasSearched}
+use Rattle.spec_whole.specs.Whole.{IsWhole, IsWholeOn, IsWholeInfimum, HasNoWhole, Splits, Standing, IsBelow, IsOpened, AreWhole, Looks, empty, no_better, leaf, broken, splits, Searches, here, on, begun, HasSearched}
 use Rattle.spec_whole.proofs.Cover.{SomeHolds, covers}
 
 -- ---- the infimum, in its own words

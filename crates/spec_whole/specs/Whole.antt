@@ -1,5 +1,5 @@
 -- How far a form falls on the solutions that are whole on some variables, and the search for it by bounds (Land and Doig 1960).
-use Rattle.std.specs.Prelude.{◌≡◌, ◌⊎◌, ℕ, suc, ◌<◌, List, [], ◌∷◌, ◌++◌, map, Option, Some, None, ℤ, ⊤}
+use Rattle.std.specs.Prelude.{◌≡◌, ℕ, suc, List, [], ◌∷◌, ◌++◌, map, Option, Some, None, ℤ, ⊤}
 use Rattle.std.specs.List.{AllByRecursion}
 use Rattle.spec_numbers.specs.Rational.{ℚ, 1ℚ, int_ℚ, ◌+ℚ◌, ◌-ℚ◌, ◌<ℚ◌, ◌≤ℚ◌}
 use Rattle.spec_linear.specs.declared.Relation.TheVariants.{Ge}
