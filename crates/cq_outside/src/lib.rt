@@ -10,8 +10,6 @@ pub mod real;
 mod shelf;
 mod sink;
 mod source;
-#[cfg(test)]
-mod tests;
 mod whole;
 
 pub use memory_shelf::{MemShelf, SteadyShelf};

@@ -5,8 +5,6 @@
 
 mod file_shelf;
 mod reader_source;
-#[cfg(test)]
-mod tests;
 mod writer_sink;
 
 pub use file_shelf::FileShelf;

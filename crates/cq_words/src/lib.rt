@@ -2,8 +2,6 @@
 #![tactic(auto)]
 
 mod run;
-#[cfg(test)]
-mod tests;
 mod words;
 
 pub use run::{ANSWERS, GREATEST, MOST, PIVOTS, Run, STEPS, Task};

@@ -1,6 +1,7 @@
 // What the objects in memory do where they are told to fail, which no clause says.
 use cq_outside::{
-    MemShelf, MemSink, MemSource, ReadFault, Shelf, ShelfFault, SteadySource, read_whole, write_whole,
+    MemShelf, MemSink, MemSource, ReadFault, Shelf, ShelfFault, SteadySource, read_whole,
+    write_whole,
 };
 use std::test::Fail;
 
