@@ -13,7 +13,9 @@ PROGRAM = crates/clpq/out/clpq
 
 to = $(DESTDIR)$(PREFIX)
 doc = $(to)/share/doc/clpq
-pages = REFERENCE.md GUIDE.md FROM-SWI.md
+# where Debian's Python looks under /usr; elsewhere it is to be named in PYTHONPATH
+site = $(to)/lib/python3/dist-packages/clpq
+pages = REFERENCE.md GUIDE.md FROM-SWI.md PYTHON.md SCALE.md
 
 .PHONY: install uninstall deb
 
@@ -29,12 +31,15 @@ install: $(PROGRAM)
 	install -m 644 $(addprefix docs/,$(pages)) $(doc)/docs
 	install -m 644 examples/README.md examples/*.pl examples/*.in examples/*.out $(doc)/examples
 	ln -sfn ../../clpq/lib $(doc)/lib
+	install -d $(doc)/docs/pictures $(site)
+	install -m 644 docs/pictures/*.svg $(doc)/docs/pictures
+	install -m 644 python/clpq/*.py python/clpq/py.typed $(site)
 	install -D -m 644 editors/clpq.vim $(to)/share/vim/vimfiles/syntax/clpq.vim
 	install -D -m 644 editors/clpq.bash $(to)/share/bash-completion/completions/clpq
 
 uninstall:
 	rm -f $(to)/bin/clpq $(to)/share/man/man1/clpq.1 $(to)/share/vim/vimfiles/syntax/clpq.vim $(to)/share/bash-completion/completions/clpq
-	rm -rf $(to)/share/clpq $(doc)
+	rm -rf $(to)/share/clpq $(doc) $(site)
 
 date = $(shell git log -1 --format=%cd --date=format:%Y%m%d)
 version = 0~$(date).$(shell git log -1 --format=%h --abbrev=8)-1
@@ -52,6 +57,8 @@ Architecture: $(architecture)
 Maintainer: $(maintainer)
 Installed-Size: @SIZE@
 Depends: libc6 (>= $(libc))
+Recommends: python3
+Suggests: python3-matplotlib
 Section: math
 Priority: optional
 Description: Prolog with exact rational linear constraints
@@ -60,7 +67,8 @@ Description: Prolog with exact rational linear constraints
  is proved to write what its definitions say.
  .
  The package has the program, its manual page, a guide, a reference, worked
- examples, and a library of common predicates in /usr/share/clpq/lib.
+ examples, a library of common predicates in /usr/share/clpq/lib, and a
+ module for Python.
 endef
 
 define changes
