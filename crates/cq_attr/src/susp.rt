@@ -7,14 +7,14 @@ use cq_term::TermId;
 use std::marker::Model;
 
 /// What waits: a goal, with the variable that it is frozen on, or a constraint that is not linear yet.
-#[derive(Clone, Copy, Debug, PartialEq, Eq)]
+#[derive(Clone, Copy, PartialEq, Eq)]
 pub enum Susp {
     Goal(VarId, TermId),
     Delayed(TermId),
 }
 
 /// The number of what waits: a later one is greater.
-#[derive(Clone, Copy, Debug, PartialEq, Eq, PartialOrd, Ord)]
+#[derive(Clone, Copy, PartialEq, Eq, PartialOrd, Ord)]
 pub struct SuspNo {
     number: usize,
 }
@@ -44,7 +44,7 @@ impl SuspNo {
 }
 
 /// What was suspended under a number, and whether it still waits.
-#[derive(Clone, Copy, Debug)]
+#[derive(Clone, Copy)]
 pub(crate) struct Slot {
     pub susp: Susp,
     pub waits: bool,

@@ -13,7 +13,7 @@ use std::alloc::AllocError;
 use std::cmp::Ordering;
 
 /// How one term is to stand to another: `==`, `\==`, `@<`, `@=<`, `@>` and `@>=`.
-#[derive(Clone, Copy, Debug, PartialEq, Eq)]
+#[derive(Clone, Copy, PartialEq, Eq)]
 pub enum Comparison {
     Same,
     NotSame,

@@ -14,7 +14,7 @@ use cq_term::{Heap, TermId};
 use std::alloc::AllocError;
 
 /// The tests of one term. `rational` is the test `Number`.
-#[derive(Clone, Copy, Debug, PartialEq, Eq)]
+#[derive(Clone, Copy, PartialEq, Eq)]
 pub enum TypeTest {
     Var,
     Nonvar,

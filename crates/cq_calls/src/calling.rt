@@ -27,7 +27,7 @@ use cq_term::{Pred, TermId};
 use std::alloc::AllocError;
 
 /// What a goal that calls a predicate came to.
-#[derive(Clone, Copy, Debug)]
+#[derive(Clone, Copy)]
 pub enum Called {
     /// The branch of a clause is kept, and the engine goes on with this continuation.
     Goes(Continuation),

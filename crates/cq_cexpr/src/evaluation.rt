@@ -30,7 +30,7 @@ use cq_term::{Atom, Heap, TermId, View};
 use std::alloc::{AllocError, Global};
 
 /// What an expression is now.
-#[derive(Debug, Drop)]
+#[derive(Drop)]
 pub enum LinExpression {
     Linear(Form),
     /// It is linear only once some of its variables have values.
@@ -62,7 +62,7 @@ impl LinExpression {
 }
 
 /// An operation under way, and what it waits with for a form.
-#[derive(Debug, Drop)]
+#[derive(Drop)]
 enum Waiting {
     /// The form is that of the only argument.
     Only(Option<Unary>),
@@ -73,7 +73,7 @@ enum Waiting {
 }
 
 /// What is next.
-#[derive(Debug, Drop)]
+#[derive(Drop)]
 enum Step {
     /// The term is looked at.
     Visit(TermId),

@@ -6,7 +6,7 @@ ghost use Rattle.spec_branch.specs.Relations.{relation_name};
 ghost use Rattle.cq_cexpr.specs.Names.{unary_meant, binary_meant, relation_meant};
 
 /// What a name with one argument builds.
-#[derive(Clone, Copy, Debug)]
+#[derive(Clone, Copy)]
 pub(crate) enum Unary {
     Same,
     Opposite,
@@ -14,7 +14,7 @@ pub(crate) enum Unary {
 }
 
 /// What a name with two arguments builds.
-#[derive(Clone, Copy, Debug)]
+#[derive(Clone, Copy)]
 pub(crate) enum Binary {
     Plus,
     Minus,
@@ -26,7 +26,7 @@ pub(crate) enum Binary {
 }
 
 /// How the left side of a relation stands to the right one.
-#[derive(Clone, Copy, Debug)]
+#[derive(Clone, Copy)]
 pub(crate) enum Comparison {
     Equals,
     Differs,

@@ -31,7 +31,7 @@ use spec_linear::Relation;
 use std::alloc::AllocError;
 
 /// What a told term is now.
-#[derive(Debug, Drop)]
+#[derive(Drop)]
 pub enum Lin {
     Linear(Constraint),
     /// It waits: these are its unbound variables by first occurrence.

@@ -20,7 +20,7 @@ use std::alloc::{AllocError, Global};
 const MANY: usize = 64;
 
 /// A form, and the forms that are still to be joined to it, in turn.
-#[derive(Debug, Drop)]
+#[derive(Drop)]
 pub(crate) struct Sum {
     first: Form,
     more: Vec<(Joining, Form)>,

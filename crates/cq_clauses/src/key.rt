@@ -11,7 +11,7 @@ use cq_term::atoms::Atom;
 use std::hash::{Hash, Hasher};
 
 /// What a first argument is that is no variable, as far as a look-up tells: terms with keys that differ have no unifier.
-#[derive(Clone, Copy, Debug)]
+#[derive(Clone, Copy)]
 pub enum Key {
     Number(Frac),
     Name(Atom),

@@ -7,7 +7,7 @@ use crate::key::Key;
 use crate::procedures::Snapshot;
 
 /// The clauses that a call has still to try. The next is known ahead, so that a call leaves no choice behind at its last.
-#[derive(Clone, Copy, Debug)]
+#[derive(Clone, Copy)]
 pub struct Walk {
     pub(crate) key: Option<Key>,
     pub(crate) ahead: Option<(ClauseNo, Snapshot)>,

@@ -9,7 +9,7 @@ use std::marker::Model;
 
 /// A continuation by its number: they are numbered in the order in which they are made, and the one with nothing to do
 /// is the first.
-#[derive(Clone, Copy, Debug, PartialEq, Eq)]
+#[derive(Clone, Copy, PartialEq, Eq)]
 pub struct Continuation {
     number: usize,
 }

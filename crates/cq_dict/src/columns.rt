@@ -17,7 +17,7 @@ use cq_frac::row::rows::Row;
 use std::alloc::{AllocError, Global};
 
 /// Which way a column goes.
-#[derive(Clone, Copy, Debug, PartialEq, Eq)]
+#[derive(Clone, Copy, PartialEq, Eq)]
 pub enum Turn {
     Dropping,
     Restoring,

@@ -23,7 +23,7 @@ use std::alloc::{AllocError, Global};
 
 /// A row on a column's list, and the list that it was put in front of: the number of its newest cell, counted from 1,
 /// or 0 where it was empty.
-#[derive(Clone, Copy, Debug, Drop)]
+#[derive(Clone, Copy, Drop)]
 pub struct Cell {
     pub row: usize,
     pub older: usize,

@@ -9,7 +9,7 @@ use cq_trail::Trail;
 use std::alloc::AllocError;
 
 /// What a quantity is: a live or a dropped column, or a row over columns.
-#[derive(Debug, Drop)]
+#[derive(Drop)]
 pub enum Role {
     Live,
     Dropped,
@@ -17,7 +17,7 @@ pub enum Role {
 }
 
 /// A new role for a quantity.
-#[derive(Debug, Drop)]
+#[derive(Drop)]
 pub struct Change {
     pub at: usize,
     pub role: Role,

@@ -16,7 +16,7 @@ use cq_frac::Frac;
 use cq_frac::row::entry_at;
 
 /// A side from which a row bounds a variable.
-#[derive(Clone, Copy, Debug)]
+#[derive(Clone, Copy)]
 enum Side {
     Below,
     Above,

@@ -24,7 +24,7 @@ use cq_frac::{Frac, Refusal, VarId};
 use std::alloc::{AllocError, Global};
 
 /// How products stand to a number: `>=`, `>`, `=<`, `<` or `=\=`.
-#[derive(Clone, Copy, Debug)]
+#[derive(Clone, Copy)]
 pub enum Comparison {
     AtLeast,
     Above,
@@ -50,7 +50,7 @@ impl Comparison {
 
 /// An inequality or a disequation as it is printed: products in the order of the variables, and how they stand to a
 /// number.
-#[derive(Debug, Drop)]
+#[derive(Drop)]
 pub struct PrintedRow {
     pub products: Vec<(VarId, Frac)>,
     pub comparison: Comparison,

@@ -21,7 +21,7 @@ use std::alloc::Global;
 
 /// How a row stands to a variable: it bounds the variable from below or from above, by this coefficient, or the
 /// variable does not stand in it.
-#[derive(Clone, Copy, Debug)]
+#[derive(Clone, Copy)]
 pub(crate) enum Side {
     Lower(Frac),
     Upper(Frac),
@@ -29,7 +29,7 @@ pub(crate) enum Side {
 }
 
 /// The rows in which a variable does not stand, and its lower and its upper rows, each divided by its coefficient.
-#[derive(Debug, Drop)]
+#[derive(Drop)]
 struct Sides {
     others: Vec<Constraint>,
     lower: Vec<Constraint>,

@@ -23,7 +23,7 @@ use spec_engine::machine::Cell;
 use std::alloc::AllocError;
 
 /// Why a query stops.
-#[derive(Clone, Copy, Debug)]
+#[derive(Clone, Copy)]
 pub enum Cause {
     /// So many goals were selected, and one more would be.
     Resolutions(u64),

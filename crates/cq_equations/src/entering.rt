@@ -15,7 +15,7 @@ use cq_frac::VarId;
 use std::alloc::{AllocError, Global};
 
 /// What entering an equation came to.
-#[derive(Debug, Drop)]
+#[derive(Drop)]
 pub enum Entered {
     /// It joined, and these variables have got a number by it.
     Joined(Vec<VarId>),

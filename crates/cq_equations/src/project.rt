@@ -20,7 +20,7 @@ use std::alloc::{AllocError, AllocFailed, Global};
 use thiserror::Error;
 
 /// An equation of an answer: the variable that it is solved for, and what that is.
-#[derive(Debug, Drop)]
+#[derive(Drop)]
 pub struct Equation {
     pub variable: VarId,
     pub products: Vec<(VarId, Frac)>,
@@ -28,7 +28,7 @@ pub struct Equation {
 }
 
 /// The rows of an answer. (Equations alone: inequalities and disequations come later.)
-#[derive(Debug, Drop)]
+#[derive(Drop)]
 pub struct Rows {
     pub equations: Vec<Equation>,
 }

@@ -21,7 +21,7 @@ use std::marker::Model;
 use thiserror::Error;
 
 /// What became of a constraint.
-#[derive(Debug, Drop)]
+#[derive(Drop)]
 pub enum Told {
     /// It was kept, and these variables have got a value by it.
     Kept(Vec<VarId>),

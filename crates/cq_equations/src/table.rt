@@ -23,14 +23,14 @@ use std::alloc::{AllocError, Global};
 use std::marker::Model;
 
 /// What a quantity stands for: a variable, or the form of a told constraint, these in the order of telling.
-#[derive(Clone, Copy, Debug)]
+#[derive(Clone, Copy)]
 pub enum Name {
     Variable(VarId),
     Member,
 }
 
 /// The form of a variable that is solved for: a constant, and products of free variables in the store's order.
-#[derive(Debug, Drop)]
+#[derive(Drop)]
 pub struct SolvedRow<'a> {
     constant: Frac,
     entries: &'a [Entry],

@@ -129,7 +129,7 @@ fn execute_named(
 }
 
 /// What a goal calls.
-#[derive(Clone, Copy, Debug)]
+#[derive(Clone, Copy)]
 pub(crate) enum Callee {
     Builtin(Builtin),
     /// A user predicate, by its name and number of arguments.

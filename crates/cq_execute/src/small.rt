@@ -21,7 +21,7 @@ use cq_term::{Pred, TermId};
 use std::alloc::AllocError;
 
 /// What a goal came to, or that it is to be executed as any other.
-#[derive(Clone, Copy, Debug)]
+#[derive(Clone, Copy)]
 pub enum Went {
     /// The engine goes on with a continuation.
     Goes(Continuation),

@@ -195,7 +195,7 @@ impl Clone for Constraint {
 }
 
 /// Numbers, from 1, of constraints of a list, each with a multiplier: their sum shows that the list has no solution.
-#[derive(Debug, Drop)]
+#[derive(Drop)]
 pub struct Cert {
     entries: Vec<(usize, Frac)>,
 }

@@ -23,7 +23,7 @@ pub struct Entry {
 }
 
 /// How a second number is joined to a first.
-#[derive(Clone, Copy, Debug, PartialEq, Eq)]
+#[derive(Clone, Copy, PartialEq, Eq)]
 pub enum Joining {
     Plus,
     Less,
@@ -52,7 +52,7 @@ impl Joining {
 }
 
 /// What comes next where two rows are merged: the entry of the lower quantity, or both, where they are of one.
-#[derive(Clone, Copy, Debug)]
+#[derive(Clone, Copy)]
 enum Next {
     Left(Entry),
     Right(Entry),

@@ -14,7 +14,7 @@ use cq_frac::Pair;
 use cq_term::TermId;
 
 /// What a selected goal comes to.
-#[derive(Clone, Copy, Debug)]
+#[derive(Clone, Copy)]
 pub enum Step {
     /// The engine goes on with a continuation.
     Goes(Continuation),

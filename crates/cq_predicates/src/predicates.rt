@@ -11,7 +11,7 @@ use crate::codes::Conversion;
 use cq_builtin::{Comparison, TypeTest};
 
 /// A predicate on terms or texts.
-#[derive(Clone, Copy, Debug, PartialEq, Eq)]
+#[derive(Clone, Copy, PartialEq, Eq)]
 pub enum Predicate {
     Order(Comparison),
     Test(TypeTest),

@@ -31,7 +31,7 @@ use cq_store::store::StoreFault;
 use std::alloc::{AllocError, Global};
 
 /// The equations that a list entails, and its inequalities and disequations with these put in.
-#[derive(Debug, Drop)]
+#[derive(Drop)]
 struct Substituted {
     equations: Vec<Equation>,
     inequalities: Vec<Constraint>,
@@ -39,14 +39,14 @@ struct Substituted {
 }
 
 /// Inequalities, of which no weak one has the form of a disequation, and disequations that don't follow.
-#[derive(Debug, Drop)]
+#[derive(Drop)]
 struct Left {
     inequalities: Vec<Constraint>,
     disequations: Vec<Constraint>,
 }
 
 /// What of a list of constraints is kept for its rows over the targets.
-#[derive(Debug, Drop)]
+#[derive(Drop)]
 pub struct Kept {
     /// The equations that are solved for targets.
     pub equations: Vec<Equation>,

@@ -20,7 +20,7 @@ use cq_frac::VarId;
 use std::alloc::Global;
 
 /// Inequalities and disequations, of which none follows from the others together.
-#[derive(Debug, Drop)]
+#[derive(Drop)]
 pub struct LastRows {
     pub inequalities: Vec<Constraint>,
     pub disequations: Vec<Constraint>,

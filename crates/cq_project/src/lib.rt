@@ -36,7 +36,7 @@ use std::alloc::Global;
 const ROWS: u64 = 4096;
 
 /// The rows of an answer over some variables, the targets, and those that are kept beside them.
-#[derive(Debug, Drop)]
+#[derive(Drop)]
 pub struct Rows {
     pub equations: Vec<Equation>,
     pub inequalities: Vec<PrintedRow>,

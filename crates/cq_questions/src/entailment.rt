@@ -21,7 +21,7 @@ use cq_term::TermId;
 use cq_term::atoms::Atoms;
 
 /// Whether the linear constraints entail several relations.
-#[derive(Clone, Copy, Debug)]
+#[derive(Clone, Copy)]
 pub enum Entailment {
     /// They entail each.
     Entailed,

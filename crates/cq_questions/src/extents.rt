@@ -22,14 +22,14 @@ use cq_term::TermId;
 use cq_term::atoms::Atoms;
 
 /// An end of the values of an expression.
-#[derive(Clone, Copy, Debug)]
+#[derive(Clone, Copy)]
 pub enum Side {
     Least,
     Greatest,
 }
 
 /// How far an expression reaches.
-#[derive(Clone, Copy, Debug)]
+#[derive(Clone, Copy)]
 pub enum Reach {
     /// It is linear, with this extent.
     Linear(Extent),

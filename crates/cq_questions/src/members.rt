@@ -22,7 +22,7 @@ use cq_term::atoms::Atoms;
 use cq_term::{Heap, TermId};
 
 /// A member that doesn't wait.
-#[derive(Debug, Drop)]
+#[derive(Drop)]
 pub(crate) enum Member {
     Linear(Constraint),
     /// A divisor in it is zero.
@@ -30,7 +30,7 @@ pub(crate) enum Member {
 }
 
 /// What the members of a constraint are.
-#[derive(Debug, Drop)]
+#[derive(Drop)]
 pub(crate) enum Found {
     /// None of them waits.
     All(Vec<Member>),

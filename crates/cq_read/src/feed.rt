@@ -19,7 +19,7 @@ use std::alloc::{AllocError, Global};
 use std::marker::Model;
 
 /// What a feed answers.
-#[derive(Debug, Drop)]
+#[derive(Drop)]
 pub enum Fed {
     /// What stands at the feed's place.
     Read(Read),

@@ -27,7 +27,7 @@ pub use spec_syntax::grammar::{Kind, LexFault, Span};
 use std::alloc::{AllocError, Global};
 
 /// A token: its kind, its bytes, and its value if it is a numeral.
-#[derive(Clone, Copy, Debug)]
+#[derive(Clone, Copy)]
 pub struct Token {
     pub kind: Kind,
     pub span: Span,

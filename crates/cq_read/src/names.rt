@@ -6,7 +6,7 @@ use std::marker::Model;
 
 /// A variable and its name, as a clause that was read gives it. Lists of them are in the order of first occurrence.
 /// Contracts see the name's bytes and the variable's number.
-#[derive(Debug, Drop)]
+#[derive(Drop)]
 pub struct VariableName {
     pub name: String,
     pub variable: VarId,

@@ -26,7 +26,7 @@ use cq_trail::Undo;
 use std::alloc::AllocError;
 
 /// What stands at a place of a text. Places count in the text's bytes.
-#[derive(Debug, Drop)]
+#[derive(Drop)]
 pub enum Read {
     /// A clause: its term, its named variables by first occurrence, and the place behind its end token.
     Clause {
@@ -76,7 +76,7 @@ fn at_the_end(text: &[u8], is_begun: bool) -> Read
 }
 
 /// What the next token of a clause leads to.
-#[derive(Debug, Drop)]
+#[derive(Drop)]
 enum Turn {
     /// The clause goes on at a place.
     Goes(usize),

@@ -12,7 +12,7 @@ use cq_words::WordsFault;
 use spec_command::endings::Status;
 
 /// How a run ended.
-#[derive(Clone, Copy, Debug)]
+#[derive(Clone, Copy)]
 pub(crate) enum Ending<'a> {
     /// The whole transcript was written; the kinds of its lines.
     Whole(Lines),

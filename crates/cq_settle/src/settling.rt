@@ -27,7 +27,7 @@ pub struct Work {
 }
 
 /// What became of a branch.
-#[derive(Debug, Drop)]
+#[derive(Drop)]
 pub enum Settled {
     /// It is kept, and these goals woke, the oldest first.
     Woken(Vec<TermId>),

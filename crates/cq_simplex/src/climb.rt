@@ -25,7 +25,7 @@ use std::alloc::{AllocError, Global};
 use std::cmp::Ordering;
 
 /// An exchange by which the asked row rises, and by how much.
-#[derive(Clone, Copy, Debug)]
+#[derive(Clone, Copy)]
 pub struct Rise {
     pub leaving: usize,
     pub entering: Col,

@@ -11,7 +11,7 @@ use cq_frac::{Frac, Pair, quotient};
 use std::cmp::Ordering;
 
 /// A row that limits the column, and the column's value there.
-#[derive(Clone, Copy, Debug)]
+#[derive(Clone, Copy)]
 struct Limit {
     row: usize,
     ratio: Frac,

@@ -23,14 +23,14 @@ use std::alloc::{AllocError, Global};
 use thiserror::Error;
 
 /// What is wanted of a row: its greatest value, or no more than a value above zero.
-#[derive(Clone, Copy, Debug)]
+#[derive(Clone, Copy)]
 pub enum Aim {
     Best,
     Positive,
 }
 
 /// What is known of a row's greatest value.
-#[derive(Debug, Drop)]
+#[derive(Drop)]
 pub enum Max {
     /// The greatest value, and the columns that hold the row to it, each with its multiplier.
     At(Frac, Vec<Entry>),

@@ -30,7 +30,7 @@ impl Aim {
 }
 
 /// An answer, or the row that leaves and the column that enters.
-#[derive(Debug, Drop)]
+#[derive(Drop)]
 pub enum Turn {
     Ends(Max),
     Exchange(usize, Col),

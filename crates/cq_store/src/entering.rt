@@ -42,7 +42,7 @@ use std::alloc::Global;
 pub type Held = Both<Stack<Constraint>, Both<Stack<Name>, Dict>>;
 
 /// What entering a constraint came to.
-#[derive(Debug, Drop)]
+#[derive(Drop)]
 pub enum Entered {
     /// It joined, and these variables have got a value by it.
     Joined(Vec<VarId>),

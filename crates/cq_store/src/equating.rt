@@ -51,7 +51,7 @@ use indexmap::IndexMap;
 use std::alloc::{AllocError, Global};
 
 /// Where an equation's row has come to.
-#[derive(Clone, Copy, Debug)]
+#[derive(Clone, Copy)]
 enum Approached {
     /// The row of this number is zero.
     Zero(usize),

@@ -32,7 +32,7 @@ use std::marker::Model;
 use thiserror::Error;
 
 /// What became of a constraint.
-#[derive(Debug, Drop)]
+#[derive(Drop)]
 pub enum Told {
     /// It was kept, and these variables have got a value by it.
     Kept(Vec<VarId>),
@@ -41,7 +41,7 @@ pub enum Told {
 }
 
 /// How far a form reaches.
-#[derive(Clone, Copy, Debug)]
+#[derive(Clone, Copy)]
 pub enum Extent {
     /// Its supremum.
     Value(Frac),

@@ -21,7 +21,7 @@ use spec_linear::Relation;
 use std::alloc::Global;
 
 /// What is known of a restricted quantity.
-#[derive(Clone, Copy, Debug)]
+#[derive(Clone, Copy)]
 pub enum Seen {
     /// It is above zero somewhere.
     Rises,

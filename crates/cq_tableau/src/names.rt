@@ -10,7 +10,7 @@ use cq_trail::Stack;
 use indexmap::IndexMap;
 
 /// What a quantity stands for: a variable, or the form of the told constraint of this number, from 1.
-#[derive(Clone, Copy, Debug)]
+#[derive(Clone, Copy)]
 pub enum Name {
     Variable(VarId),
     Member(usize),

@@ -18,7 +18,7 @@ use cq_simplex::{Aim, Max, SimplexFault};
 use std::alloc::Global;
 
 /// What became of a quantity that is to be at least zero.
-#[derive(Debug, Drop)]
+#[derive(Drop)]
 pub enum Raised {
     /// It is above zero somewhere, and is restricted now.
     Rises,

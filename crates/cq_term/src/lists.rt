@@ -10,7 +10,7 @@ use cq_frac::Frac;
 use std::alloc::AllocError;
 
 /// What was built: a variable, a number, a name, or a name over terms that were built before.
-#[derive(Clone, Copy, Debug)]
+#[derive(Clone, Copy)]
 pub(crate) enum Cell {
     Var(usize),
     /// A whole number that fits a word.
@@ -29,7 +29,7 @@ pub(crate) enum Cell {
 }
 
 /// A variable and the term that it was bound to.
-#[derive(Clone, Copy, Debug)]
+#[derive(Clone, Copy)]
 pub(crate) struct Binding {
     pub variable: usize,
     pub term: TermId,

@@ -45,7 +45,7 @@ pub struct Pred {
 }
 
 /// The variables that were bound, in order.
-#[derive(Debug, Drop)]
+#[derive(Drop)]
 pub struct Newly {
     variables: Vec<VarId>,
 }

@@ -20,7 +20,7 @@ struct Entry<T> {
 }
 
 /// The lengths of the list and of the log at a mark.
-#[derive(Clone, Copy, Debug)]
+#[derive(Clone, Copy)]
 struct Place {
     items: usize,
     log: usize,

@@ -26,7 +26,7 @@ struct Renaming {
 }
 
 /// What is left to do.
-#[derive(Clone, Copy, Debug)]
+#[derive(Clone, Copy)]
 enum Step {
     /// The term is to be copied.
     Visit(TermId),

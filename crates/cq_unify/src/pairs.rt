@@ -10,7 +10,7 @@ use cq_term::{Heap, TermId, View};
 use std::alloc::AllocError;
 
 /// What it takes to make two terms equal, by their heads.
-#[derive(Clone, Copy, Debug)]
+#[derive(Clone, Copy)]
 pub(crate) enum Demand {
     /// Nothing: they are equal.
     Same,
@@ -23,7 +23,7 @@ pub(crate) enum Demand {
 }
 
 /// What is to be done next to make the pairs of a list equal.
-#[derive(Clone, Copy, Debug)]
+#[derive(Clone, Copy)]
 pub(crate) enum Step {
     /// Nothing: they are equal.
     Done,

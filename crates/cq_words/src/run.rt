@@ -13,7 +13,7 @@ pub const PIVOTS: u64 = 10_000;
 pub const ANSWERS: u64 = 1_000;
 
 /// What `run` is asked to do.
-#[derive(Debug, Drop)]
+#[derive(Drop)]
 pub struct Run<'a> {
     /// How many goals a query may select.
     pub steps: u64,
@@ -29,7 +29,7 @@ pub struct Run<'a> {
 pub const GREATEST: u64 = 200;
 
 /// What the words of a command line ask for.
-#[derive(Debug, Drop)]
+#[derive(Drop)]
 pub enum Task<'a> {
     /// The transcript of files and of the input.
     Run(Run<'a>),

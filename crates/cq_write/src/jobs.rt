@@ -9,7 +9,7 @@ use cq_term::atoms::Atom;
 use std::alloc::AllocError;
 
 /// Punctuation, and the sign of a number below zero.
-#[derive(Clone, Copy, Debug, PartialEq, Eq)]
+#[derive(Clone, Copy, PartialEq, Eq)]
 pub(crate) enum Mark {
     Open,
     Close,
@@ -42,7 +42,7 @@ impl Mark {
 }
 
 /// A piece of the text.
-#[derive(Clone, Copy, Debug)]
+#[derive(Clone, Copy)]
 pub(crate) enum Word {
     Mark(Mark),
     Name(Atom),
@@ -55,7 +55,7 @@ pub(crate) enum Word {
 }
 
 /// A part of a term that is still to be taken apart.
-#[derive(Clone, Copy, Debug)]
+#[derive(Clone, Copy)]
 pub(crate) enum Part {
     /// A term by itself.
     Term(TermId),
@@ -67,7 +67,7 @@ pub(crate) enum Part {
     Arguments(TermId, usize),
 }
 
-#[derive(Clone, Copy, Debug)]
+#[derive(Clone, Copy)]
 pub(crate) enum Job {
     Word(Word),
     Part(Part),

@@ -12,7 +12,7 @@ use cq_read::lex::first_char;
 use std::alloc::{AllocError, Global};
 
 /// What round a piece decides about blanks, apart from its text.
-#[derive(Clone, Copy, Debug)]
+#[derive(Clone, Copy)]
 pub(crate) struct Manner {
     /// It has a blank on each side.
     pub(crate) has_blanks: bool,
@@ -38,7 +38,7 @@ impl Manner {
 }
 
 /// What the next piece has to know of the last one.
-#[derive(Clone, Copy, Debug)]
+#[derive(Clone, Copy)]
 pub(crate) struct Last {
     manner: Manner,
     character: Option<char>,

@@ -8,7 +8,7 @@ ghost use Rattle.cq_write.specs.Looks.{HasLooks, continues_word, is_alone};
 use crate::characters::is_symbol;
 
 /// How a name looks.
-#[derive(Clone, Copy, Debug, PartialEq, Eq)]
+#[derive(Clone, Copy, PartialEq, Eq)]
 pub(crate) enum Looks {
     /// A small letter, and then letters, digits and `_`, all of ASCII.
     Letters,

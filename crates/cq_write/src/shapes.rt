@@ -11,7 +11,7 @@ use cq_term::atoms::Atom;
 use cq_term::{TermId, View};
 
 /// The head of a term, and its arguments where they are one or two.
-#[derive(Clone, Copy, Debug)]
+#[derive(Clone, Copy)]
 pub(crate) enum Shape {
     Variable(VarId),
     Number(Frac),
@@ -23,7 +23,7 @@ pub(crate) enum Shape {
 }
 
 /// What a term is behind the first elements of a list.
-#[derive(Clone, Copy, Debug)]
+#[derive(Clone, Copy)]
 pub(crate) enum Tail {
     End,
     /// One more element, and what is behind it.

@@ -14,7 +14,7 @@ ghost use Rattle.spec_syntax.specs.GrammarTokens.{Token, token, in_quotes, token
 use thiserror::Error;
 
 /// The kinds of tokens.
-#[derive(Clone, Copy, Debug, PartialEq, Eq)]
+#[derive(Clone, Copy, PartialEq, Eq)]
 pub enum Kind {
     /// An unquoted name.
     Name,
@@ -32,7 +32,7 @@ pub enum Kind {
 }
 
 /// The place of a token's first byte, and the place behind its last.
-#[derive(Clone, Copy, Debug, PartialEq, Eq)]
+#[derive(Clone, Copy, PartialEq, Eq)]
 pub struct Span {
     pub start: usize,
     pub end: usize,
@@ -56,7 +56,7 @@ pub enum LexFault {
 }
 
 /// What a reader stands in before a token.
-#[derive(Clone, Copy, Debug, PartialEq, Eq)]
+#[derive(Clone, Copy, PartialEq, Eq)]
 pub enum Gap {
     /// Between tokens.
     Between,
@@ -71,7 +71,7 @@ pub enum Gap {
 }
 
 /// An escape: how many bytes it has behind its backslash, and the character that it stands for, or none.
-#[derive(Clone, Copy, Debug, PartialEq, Eq)]
+#[derive(Clone, Copy, PartialEq, Eq)]
 pub struct Escape {
     pub size: usize,
     pub stands_for: Option<char>,

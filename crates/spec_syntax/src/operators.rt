@@ -7,7 +7,7 @@ ghost use Rattle.spec_syntax.specs.Operators.{Ops, set, Position, Prefix, Infix,
 ghost use Rattle.spec_syntax.specs.Standard.{standard};
 
 /// The kinds of operators: `f` is the operator, `y` an operand of at most its priority, `x` one of a lower priority.
-#[derive(Clone, Copy, Debug, PartialEq, Eq)]
+#[derive(Clone, Copy, PartialEq, Eq)]
 pub enum OpKind {
     Xfx,
     Xfy,
@@ -19,7 +19,7 @@ pub enum OpKind {
 }
 
 /// What a name is as an operator: its priority, from 1 to 1200, and its kind.
-#[derive(Clone, Copy, Debug, PartialEq, Eq)]
+#[derive(Clone, Copy, PartialEq, Eq)]
 pub struct OpDef {
     pub priority: u16,
     pub kind: OpKind,

@@ -16,7 +16,7 @@ ghost use Rattle.spec_terms.specs.Examples.{binary, whole};
 use cq_frac::Operation;
 
 /// The operations on one number.
-#[derive(Clone, Copy, Debug, PartialEq, Eq)]
+#[derive(Clone, Copy, PartialEq, Eq)]
 pub enum UnaryOperation {
     Same,
     Opposite,
@@ -28,7 +28,7 @@ pub enum UnaryOperation {
 }
 
 /// The operations on two whole numbers.
-#[derive(Clone, Copy, Debug, PartialEq, Eq)]
+#[derive(Clone, Copy, PartialEq, Eq)]
 pub enum WholeOperation {
     WholeQuotient,
     Remainder,
@@ -36,7 +36,7 @@ pub enum WholeOperation {
 }
 
 /// The operations on two numbers.
-#[derive(Clone, Copy, Debug, PartialEq, Eq)]
+#[derive(Clone, Copy, PartialEq, Eq)]
 pub enum BinaryOperation {
     Exact(Operation),
     Whole(WholeOperation),

@@ -15,7 +15,7 @@ ghost use Rattle.spec_text.specs.Written.{write, writeq};
 ghost use Rattle.spec_text.specs.ReadingBack.{NamesAreBare, CanBeRead, ReadsBack};
 
 /// How names are written.
-#[derive(Clone, Copy, Debug, PartialEq, Eq)]
+#[derive(Clone, Copy, PartialEq, Eq)]
 pub enum Style {
     /// As they are.
     Plain,

@@ -13,7 +13,7 @@ ghost use Rattle.spec_transcript.specs.Causes.{Budgets, Resolutions, stop_text};
 ghost use Rattle.spec_transcript.specs.Session.{Asker, Reader, Session, Searching, Mark, stop_line, Marks, Step, Transcript, WrittenSoFar};
 
 /// Where a text comes from.
-#[derive(Clone, Copy, Debug, PartialEq, Eq)]
+#[derive(Clone, Copy, PartialEq, Eq)]
 pub enum Source {
     File,
     Input,

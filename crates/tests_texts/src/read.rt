@@ -143,7 +143,7 @@ fn places_have_what_stands_there(rt: HostRuntime) -> Result<(), Fail> {
 }
 
 /// What was read, as far as these tests compare it.
-#[derive(Clone, Copy, Debug, PartialEq, Eq)]
+#[derive(Clone, Copy, PartialEq, Eq)]
 enum Outcome {
     /// How many named variables, and the place behind.
     Clause(usize, usize),

@@ -27,7 +27,7 @@ use cq_trail::Undo;
 use spec_engine::machine::Cell;
 
 /// What became of a branch that was begun.
-#[derive(Clone, Copy, Debug)]
+#[derive(Clone, Copy)]
 pub enum Begun {
     /// It is kept, and goes on with this continuation.
     Goes(Continuation),

@@ -17,7 +17,7 @@ use cq_trail::Undo;
 use std::alloc::AllocError;
 
 /// What the head of a clause comes to at a goal.
-#[derive(Clone, Copy, Debug)]
+#[derive(Clone, Copy)]
 pub(crate) enum Entry {
     /// They were made equal, with nothing to be settled, and this is the body.
     Body(TermId),

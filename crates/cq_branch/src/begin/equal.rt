@@ -18,7 +18,7 @@ use cq_trail::Undo;
 use std::alloc::AllocError;
 
 /// What pairs of terms come to.
-#[derive(Clone, Copy, Debug)]
+#[derive(Clone, Copy)]
 pub(crate) enum Equated {
     /// They were made equal, with nothing to be settled.
     Equal,

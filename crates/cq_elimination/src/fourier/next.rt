@@ -11,7 +11,7 @@ use cq_form::Constraint;
 use cq_frac::VarId;
 
 /// A variable, and how many rows bound it from below, bound it from above, and are without it.
-#[derive(Clone, Copy, Debug)]
+#[derive(Clone, Copy)]
 pub struct Elimination {
     pub variable: VarId,
     pub lower: usize,

@@ -13,7 +13,7 @@ use spec_engine::machine::Cell;
 use std::alloc::AllocError;
 
 /// What became of the goal in front.
-#[derive(Clone, Copy, Debug)]
+#[derive(Clone, Copy)]
 pub(crate) enum Ran {
     /// It was selected, and shows nothing.
     On,

@@ -15,7 +15,7 @@ use std::alloc::{AllocError, Global};
 use std::marker::Model;
 
 /// A quantity as a constant and factors of columns. Columns are live or dropped, and no column is both.
-#[derive(Debug, Drop)]
+#[derive(Drop)]
 pub struct Row {
     live: Vec<Entry>,
     dropped: Vec<Entry>,

@@ -23,7 +23,7 @@ use spec_terms::arithmetic::{BinaryOperation, UnaryOperation};
 use std::alloc::AllocError;
 
 /// An operation under way, and what it waits with for a value.
-#[derive(Clone, Copy, Debug)]
+#[derive(Clone, Copy)]
 enum Waiting {
     /// The value is the only argument.
     Only(UnaryOperation),
@@ -34,7 +34,7 @@ enum Waiting {
 }
 
 /// What is next.
-#[derive(Clone, Copy, Debug)]
+#[derive(Clone, Copy)]
 enum Step {
     /// The term is evaluated.
     Visit(TermId),

@@ -12,7 +12,7 @@ use cq_term::{Atom, Heap, TermId, View};
 use spec_transcript::Source;
 
 /// What a clause is for, with its term.
-#[derive(Clone, Copy, Debug)]
+#[derive(Clone, Copy)]
 pub enum Purpose {
     /// A goal that runs at once.
     Directive(TermId),

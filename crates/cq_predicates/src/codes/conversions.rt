@@ -18,7 +18,7 @@ use cq_term::{Heap, TermId};
 use cq_trail::Undo;
 
 /// The predicates `atom_chars`, `atom_codes`, `char_code` and `number_codes`.
-#[derive(Clone, Copy, Debug, PartialEq, Eq)]
+#[derive(Clone, Copy, PartialEq, Eq)]
 pub enum Conversion {
     AtomChars,
     AtomCodes,

@@ -16,7 +16,7 @@ use cq_term::{Heap, TermId, View};
 use std::alloc::AllocError;
 
 /// What the elements of a list stand for characters by.
-#[derive(Clone, Copy, Debug, PartialEq, Eq)]
+#[derive(Clone, Copy, PartialEq, Eq)]
 pub(crate) enum ElementKind {
     Characters,
     Codes,

@@ -14,7 +14,7 @@ use cq_builtin::{Comparison, TypeTest};
 use spec_text::writing::Style;
 
 /// A built-in predicate of control, unification or arithmetic that most goals of programs call.
-#[derive(Clone, Copy, Debug, PartialEq, Eq)]
+#[derive(Clone, Copy, PartialEq, Eq)]
 pub enum Common {
     True,
     And,
@@ -26,7 +26,7 @@ pub enum Common {
 }
 
 /// A built-in predicate.
-#[derive(Clone, Copy, Debug, PartialEq, Eq)]
+#[derive(Clone, Copy, PartialEq, Eq)]
 pub enum Builtin {
     Common(Common),
     Fail,

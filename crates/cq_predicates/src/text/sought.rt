@@ -6,14 +6,14 @@ ghost use Rattle.cq_predicates.specs.Places.{admits, admits_text, fits, fitting,
 use crate::text::characters::are_same;
 
 /// Where a part of a text stands: how many characters before it, and how many in it.
-#[derive(Clone, Copy, Debug)]
+#[derive(Clone, Copy)]
 pub(crate) struct Place {
     pub(crate) before: usize,
     pub(crate) len: usize,
 }
 
 /// What is asked of a count of characters.
-#[derive(Clone, Copy, Debug)]
+#[derive(Clone, Copy)]
 pub(crate) enum Wanted {
     Any,
     Count(usize),

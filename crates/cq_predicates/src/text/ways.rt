@@ -19,14 +19,14 @@ use cq_term::{Heap, TermId};
 use std::alloc::AllocError;
 
 /// The two texts of a split, as arguments.
-#[derive(Clone, Copy, Debug)]
+#[derive(Clone, Copy)]
 pub struct SplitArgs {
     pub first: TermId,
     pub last: TermId,
 }
 
 /// How many characters stand before, in and after a part, and the part, as arguments.
-#[derive(Clone, Copy, Debug)]
+#[derive(Clone, Copy)]
 pub struct PartArgs {
     pub before: TermId,
     pub len: TermId,

@@ -17,7 +17,7 @@ use cq_frac::{Frac, Refusal, VarId};
 use std::alloc::{AllocError, Global};
 
 /// A variable and the form that it is, whose products stand by ascending variable.
-#[derive(Debug, Drop)]
+#[derive(Drop)]
 struct Row {
     variable: VarId,
     form: Form,

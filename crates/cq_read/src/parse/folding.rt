@@ -21,7 +21,7 @@ use cq_term::{Heap, TermId};
 use std::alloc::AllocError;
 
 /// What becomes of an operand.
-#[derive(Clone, Copy, Debug)]
+#[derive(Clone, Copy)]
 pub enum Folded {
     /// An operand of the term around it.
     Operand {

@@ -6,7 +6,7 @@ use spec_syntax::operators::OpDef;
 
 /// What a term that is being read is for, with the most that the priority of the term around it may be. The frames of a
 /// clause stand in a vector, the innermost last; arguments and elements that were read stand in their order.
-#[derive(Debug, Drop)]
+#[derive(Drop)]
 pub enum Frame {
     /// The right operand of an infix operator.
     RightOf {
@@ -48,7 +48,7 @@ pub enum Frame {
 }
 
 /// Where the machine stands in the innermost frame, with the most that the priority of the term there may be.
-#[derive(Clone, Copy, Debug)]
+#[derive(Clone, Copy)]
 pub enum State {
     /// Where a term begins. A clause begins here, at 1200 and with no frames.
     BeforeTerm {

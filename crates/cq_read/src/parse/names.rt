@@ -19,7 +19,7 @@ pub fn interned(atoms: &mut Atoms, text: &str) -> Result<Atom, AllocError>
 }
 
 /// The numbers of `-`, `,`, `[]`, `{}` and `.`, which the grammar puts into terms or takes as operators by itself.
-#[derive(Clone, Copy, Debug)]
+#[derive(Clone, Copy)]
 pub struct GrammarNames {
     pub minus: Atom,
     pub comma: Atom,

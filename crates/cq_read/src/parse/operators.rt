@@ -16,7 +16,7 @@ use cq_term::atoms::Atom;
 use spec_syntax::operators::{OpDef, OpKind};
 
 /// What a term does at the token behind an operand.
-#[derive(Clone, Copy, Debug)]
+#[derive(Clone, Copy)]
 pub enum UseThere {
     Infix(Atom, OpDef),
     Postfix(Atom, OpDef),

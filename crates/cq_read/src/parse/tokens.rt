@@ -4,7 +4,7 @@ use cq_frac::{Frac, VarId};
 use cq_term::atoms::Atom;
 
 /// A token. A name and a sign say what stands directly behind them.
-#[derive(Debug, Drop)]
+#[derive(Drop)]
 pub enum Token {
     /// A variable of the heap, which must be unbound.
     Variable(VarId),

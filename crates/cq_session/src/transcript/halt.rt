@@ -6,7 +6,7 @@ use cq_outside::{SinkFailed, SourceFailed};
 use std::alloc::AllocError;
 
 /// Why a transcript ends before its end.
-#[derive(Clone, Copy, Debug, PartialEq, Eq)]
+#[derive(Clone, Copy, PartialEq, Eq)]
 pub enum Halt<'a> {
     /// There is no file of this name.
     Absent(&'a str),
@@ -53,7 +53,7 @@ impl<'a> From<AllocError> for Halt<'a> {
 }
 
 /// Whether a transcript has an error line, and whether it has a stop.
-#[derive(Clone, Copy, Debug, PartialEq, Eq)]
+#[derive(Clone, Copy, PartialEq, Eq)]
 pub struct Lines {
     pub faulty: bool,
     pub stopped: bool,

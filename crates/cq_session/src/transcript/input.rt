@@ -17,7 +17,7 @@ use spec_transcript::Source;
 use std::alloc::Global;
 
 /// What was read of the input.
-#[derive(Clone, Copy, Debug, PartialEq, Eq)]
+#[derive(Clone, Copy, PartialEq, Eq)]
 enum Piece {
     /// Bytes, behind which there is room for so many more.
     Bytes(usize),

@@ -15,7 +15,7 @@ use spec_transcript::Source;
 use std::alloc::{AllocError, Global};
 
 /// What was read of a text.
-#[derive(Debug, Drop)]
+#[derive(Drop)]
 pub enum Sentence {
     /// The bytes so far don't decide what stands there.
     Needs,
@@ -36,7 +36,7 @@ pub enum Sentence {
 }
 
 /// What an interpreter tells of the query that it runs.
-#[derive(Debug, Drop)]
+#[derive(Drop)]
 pub enum Event {
     /// Output.
     Wrote(Vec<u8>),
@@ -51,7 +51,7 @@ pub enum Event {
 }
 
 /// What an answer is written as.
-#[derive(Debug, Drop)]
+#[derive(Drop)]
 pub enum Answered {
     /// Its lines.
     Lines(Vec<u8>),

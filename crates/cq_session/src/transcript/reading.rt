@@ -17,7 +17,7 @@ use std::alloc::{AllocError, Global};
 use std::fmt::Write;
 
 /// Why no more of a text was read.
-#[derive(Clone, Copy, Debug, PartialEq, Eq)]
+#[derive(Clone, Copy, PartialEq, Eq)]
 pub(crate) enum Pause {
     /// Its bytes don't decide what stands next.
     Needs,
@@ -26,7 +26,7 @@ pub(crate) enum Pause {
 }
 
 /// What one clause or error of a text came to.
-#[derive(Clone, Copy, Debug, PartialEq, Eq)]
+#[derive(Clone, Copy, PartialEq, Eq)]
 enum Turn {
     /// It was written, with these lines.
     Goes(Lines),

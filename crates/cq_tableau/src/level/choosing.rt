@@ -10,7 +10,7 @@ use cq_frac::row::{Entry, entry_at};
 use std::alloc::AllocError;
 
 /// An unrestricted column, and in how many rows it stands.
-#[derive(Clone, Copy, Debug)]
+#[derive(Clone, Copy)]
 struct Candidate {
     column: Col,
     rows: usize,

@@ -22,7 +22,7 @@ use cq_trail::Undo;
 use std::alloc::AllocError;
 
 /// What became of a row that is to be zero.
-#[derive(Clone, Copy, Debug)]
+#[derive(Clone, Copy)]
 pub enum Levelled {
     /// It is zero.
     Level,
@@ -33,7 +33,7 @@ pub enum Levelled {
 }
 
 /// What is to be done next: nothing more, or an exchange of the row and the column.
-#[derive(Clone, Copy, Debug)]
+#[derive(Clone, Copy)]
 enum Step {
     Ends(Levelled),
     Exchange(usize, Col),

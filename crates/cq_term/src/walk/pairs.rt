@@ -9,7 +9,7 @@ use crate::{Heap, TermId};
 use std::alloc::AllocError;
 
 /// Two terms of a heap.
-#[derive(Clone, Copy, Debug)]
+#[derive(Clone, Copy)]
 pub struct Pair {
     pub left: TermId,
     pub right: TermId,

@@ -16,7 +16,7 @@ use std::alloc::AllocError;
 use std::cmp::Ordering;
 
 /// How two terms stand, as far as their heads say.
-#[derive(Clone, Copy, Debug)]
+#[derive(Clone, Copy)]
 enum Standing {
     /// They are the same.
     Same,

@@ -9,7 +9,7 @@ use cq_frac::VarId;
 use cq_term::{Heap, TermId, View};
 
 /// What the heads of two terms say of the terms.
-#[derive(Clone, Copy, Debug)]
+#[derive(Clone, Copy)]
 pub(crate) enum Heads {
     /// Both are this number or this name.
     Same,
