@@ -9,6 +9,7 @@ ghost use Rattle.cq_session.specs.Progress.{marks_of};
 ghost use Rattle.spec_command.specs.Causes.{Caused, IsClear, IsWhole, counted};
 ghost use Rattle.spec_command.specs.Endings.{Ended, GenEnded, Tells, sinks};
 ghost use Rattle.spec_command.specs.Generated.{IsGenClear};
+ghost use Rattle.spec_command.specs.Limits.{AreLimits};
 ghost use Rattle.spec_command.specs.Outside.{outside};
 ghost use Rattle.cq_session.specs.Outcomes.{GenShows, IfRun, NamesNoFile, Shows, fault_ending, status_of};
 
@@ -134,6 +135,9 @@ pub fn run<P: Examined + Drop, F: Shelf, I: Source, O: Sink, E: Sink>(
         (sinks (E.held err.old) (E.held err.new) (E.faults err.old) (E.faults err.new)) }
     ensures alone { (n : ℕ) → asked_by words.now ≡ Some (ToGen n) → (shelf.new ≡ shelf.old) × (input.new ≡ input.old) }
     ensures generates_whole { (n : ℕ) → asked_by words.now ≡ Some (ToGen n) → IsGenClear n (O.faults out.old) (O.faults out.new) → IsWhole result }
+
+    // The numbers that the clauses above take from the code.
+    ensures limits { AreLimits }
 {
     completeness_follows();
     let how = answer::<P, F, I, O>(alloc, words, shelf, input, out);

@@ -5,3 +5,4 @@ pub mod Lines
 pub mod Generated
 pub mod Endings
 pub mod Causes
+pub mod Limits

@@ -1,3 +1,4 @@
+use Rattle.std.proofs.Common.{refl}
 use Rattle.cq_words.specs.Language.{asked_by}
 use Rattle.cq_session.proofs.Outcomes.{complete, ended, gen_complete, gen_ended, if_some, tells}
 use Rattle.cq_session.proofs.running.run.Goals as goal
@@ -20,3 +21,6 @@ pub returns-clause-generates_whole : goal.returns-clause-generates_whole
 returns-clause-generates_whole g c = λ n asked clear.
     gen_complete n _ c.status_of.result c.status_of.ensures _ _ _ _ c.completeness_follows.ensures.generated (asked_by c.args.words.now) asked
     c.answer-how.ensures.cause (c.answer-how.ensures.generates n asked) clear
+
+pub returns-clause-limits : goal.returns-clause-limits
+returns-clause-limits g c = (refl, refl, refl, refl, refl, refl)
