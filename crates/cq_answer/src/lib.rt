@@ -1,4 +1,15 @@
 //! The text of an answer: bindings, rows, delayed constraints and suspended goals.
+//!
+//! An answer says what its branch leaves to the query's variables, in four parts, each in an order of its own:
+//!
+//! 1. The bindings, `X = f(Y)`, of the query variables that are bound, in the query's order (`residual`).
+//! 2. The rows of the branch's linear constraints over the variables that are to be seen, by the projection of `cq_project`: equations, then inequalities,
+//!    then disequations (`printing`). To be seen are the free query variables, the variables of what is bound, and those of what waits.
+//! 3. The constraints that wait still, read under what is bound by now.
+//! 4. The goals that are suspended on a variable, as `freeze(X, G)`.
+//!
+//! A variable that is printed and is none of the query's is `_1`, `_2` and so on (`naming`); rows have such a name only where a disequation can't be
+//! said without it. `true` stands where there is no line. Together the rows leave the query's variables exactly the solutions of the branch's list.
 #![tactic(auto)]
 
 mod lines;

@@ -1,4 +1,16 @@
 //! The projection of a list of linear constraints on some of its variables: the rows of an answer.
+//!
+//! A query's answer speaks of the query's variables alone, and its rows have just the solutions on them that the branch's list leaves. The way there:
+//!
+//! 1. `reduce`: weak rows that are zero in every solution are made equations, which a store tells (`X >= 1, X =< 1` is `X = 1`).
+//! 2. `echelon`, `keep`: the equations are solved by elimination (Gauss, Jordan), for variables that are not wanted first, and put into the other rows. What
+//!    is solved for such a variable is left out: some value of it always serves.
+//! 3. `keep`: a weak row that has a disequation's form is strict, and disequations that follow are dropped. A variable that stands in one that is
+//!    left can't be eliminated, as solutions without a point are no rows: it is kept, and is printed under a name of its own.
+//! 4. `eliminate`: each other variable goes by adding each row that bounds it from below to each that bounds it from above (Fourier 1826, Motzkin
+//!    1936), next the one with the fewest pairs. Rows that follow from the others are dropped after each step (`sift`, `pass`), so that they don't square
+//!    each time; before a step that would leave more than the limit the projection stops with the numbers of rows.
+//! 5. `last`: of what is left no row follows from the others, and it is put in the order of an answer.
 #![tactic(auto)]
 
 pub mod echelon;

@@ -1,5 +1,20 @@
 //! The greatest value of a row of a dictionary, where restricted quantities are not below zero: the simplex method of
 //! Dantzig (1947) with Bland's rule (1977), by which it ends.
+//!
+//! A dictionary says of each row what it is over the columns: `z = c + a1*x1 + .. + an*xn`. Where every column is zero a row has its constant for
+//! its value, and the dictionary is feasible where no restricted row is below zero there. The signs of the entries tell what is next:
+//!
+//! - an entry at a column that is not restricted: `z` rises without end, one way or the other along that column;
+//! - no restricted column with an entry above zero: `c` is the greatest value, and the entries are the multipliers that prove it;
+//! - else such a column enters. It rises until the first restricted row that falls by it is zero (the ratio test, `leaving`), and this row and
+//!   the column are exchanged: the same solutions, seen from a point where `z` is at least as great. Where no row falls, `z` rises without end.
+//!
+//! An exchange may leave `z` where it is, and a choice at will could come round to the same dictionary for ever. Where of the columns the least
+//! number enters, and of the rows that are zero first the least number leaves, no dictionary comes twice (Bland 1977), and there are finitely many.
+//! That rule is slow, so a climb by the greatest gain comes first (`climb`); it promises nothing, and the rule goes on from where it ends.
+//!
+//! Numbers are exact. An exchange with a number past 128 bits is refused with the pair of numbers that made it, and the dictionary stays the last that
+//! was reached.
 #![tactic(auto)]
 
 pub mod climb;

@@ -1,4 +1,14 @@
 //! Each input has a transcript. No code: the function has an empty body, and its contract is a law of the definitions.
+//!
+//! The contract of `run` says: what is written is a transcript of the input, as a relation between the two. A relation may be empty, and then a
+//! contract that speaks of it says nothing, or asks for what cannot be done. The law here says that it never is: for all files, every
+//! input and every budget there is a transcript, whatever the program of the files does.
+//!
+//! The proof follows the derivation. A turn of a search always comes to something (`progress`): its goal has a row in the table of built-in predicates or
+//! is a call; a branch settles, since each pass joins a constraint that waited or is the last (`settled`); a list of constraints has
+//! a solution or a certificate, and an answer's rows exist, as elimination makes them (`cq_elimination`'s laws); where a number or a count is past
+//! its limit the stop is due, and names it. A query ends since each turn spends one of its budgeted goals (`ended`), and a text is read clause by clause
+//! to its end (`transcribed`).
 #![tactic(auto)]
 
 pub mod ended;
