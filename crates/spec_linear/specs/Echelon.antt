@@ -20,6 +20,7 @@ difference e = record { products = record { variable = e.variable; factor = 1ℚ
 abbrev pub equation : Solved → Constraint
 equation e = equal_zero (difference e)
 
+-- the equations that the solved rows are
 abbrev pub equations : List Solved → List Constraint
 equations es = map equation es
 

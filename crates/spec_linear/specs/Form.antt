@@ -56,21 +56,27 @@ without_zeros s = filter (λ m. not (is_zero m.factor)) s
 abbrev pub without : ℕ → List Monomial → List Monomial
 without x s = filter (λ m. not (x == m.variable)) s
 
+-- a number, as a form
 abbrev pub constant_form : ℚ → Linear
 constant_form q = record { products = []; constant = q }
 
+-- a variable, as a form
 abbrev pub variable_form : ℕ → Linear
 variable_form x = record { products = record { variable = x; factor = 1ℚ } ∷ []; constant = 0ℚ }
 
+-- f + g
 abbrev pub sum_form : Linear → Linear → Linear
 sum_form f g = record { products = sum_products f.products g.products; constant = f.constant +ℚ g.constant }
 
+-- k times f
 abbrev pub scaled_form : ℚ → Linear → Linear
 scaled_form k f = record { products = without_zeros (scaled_products k f.products); constant = k *ℚ f.constant }
 
+-- -f
 abbrev pub negated_form : Linear → Linear
 negated_form f = record { products = negated_products f.products; constant = neg_ℚ f.constant }
 
+-- f - g
 abbrev pub difference_form : Linear → Linear → Linear
 difference_form f g = sum_form f (negated_form g)
 
@@ -79,6 +85,7 @@ abbrev pub substituted_form : ℕ → Linear → Linear → Linear
 substituted_form x g f =
     sum_form (record { products = without x f.products; constant = f.constant }) (scaled_form (factor_of x f.products) g)
 
+-- no product stands there
 abbrev pub is_empty : List Monomial → Bool
 is_empty [] = true
 is_empty (m ∷ s) = false

@@ -12,5 +12,6 @@ opposite_of Gt f = at_least_zero (negated_form f)
 opposite_of Ge f = above_zero (negated_form f)
 opposite_of Ne f = equal_zero f
 
+-- what holds just where the constraint does not; of an equation this is a disequation
 abbrev pub opposite : Constraint → Constraint
 opposite c = opposite_of c.relation c.form

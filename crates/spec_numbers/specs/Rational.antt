@@ -4,12 +4,14 @@ use Rattle.std.proofs.Common.{zero, suc, pred, arith, refl}
 use Rattle.std.proofs.Math.Nat.{mul-div_cancel'}
 use Rattle.spec_numbers.specs.Gcd.{gcd, gcd-quotients, gcd_is}
 
+-- a rational number in lowest terms, with a positive denominator
 pub record ℚ : Type 0 where
   pub numerator : ℤ
   -- the denominator less one
   pub below : ℕ
   pub lowest : gcd (nat_abs numerator) (suc below) ≡ 1
 
+-- a rational number in lowest terms, with a positive denominator
 abbrev pub denominator : ℚ → ℕ
 denominator q = suc q.below
 
@@ -61,6 +63,7 @@ p *ℚ q = ratio (p.numerator *ℤ q.numerator) (denominator p * denominator q)
 unfoldable pub neg_ℚ : ℚ → ℚ
 neg_ℚ p = ratio (neg_ℤ p.numerator) (denominator p)
 
+-- a rational number in lowest terms, with a positive denominator
 abbrev pub ◌-ℚ◌ : ℚ → ℚ → ℚ
 p -ℚ q = p +ℚ neg_ℚ q
 
@@ -77,19 +80,24 @@ inv_ℚ q = inverted q.numerator (denominator q)
 pub record IsPositive (q : ℚ) : Type 0 where
   pub positive : pos 0 <ℤ q.numerator
 
+-- zero or more
 pub record IsNotNegative (q : ℚ) : Type 0 where
   pub not_negative : pos 0 ≤ℤ q.numerator
 
+-- a rational number in lowest terms, with a positive denominator
 abbrev pub 0ℚ : ℚ
 0ℚ = int_ℚ (pos 0)
 
+-- a rational number in lowest terms, with a positive denominator
 abbrev pub 1ℚ : ℚ
 1ℚ = int_ℚ (pos 1)
 
 infix 5 ◌≤ℚ◌ ◌<ℚ◌
+-- q - p is not negative
 pub record ◌≤ℚ◌ (p q : ℚ) : Type 0 where
   pub gap : IsNotNegative (q -ℚ p)
 
+-- q - p is positive
 pub record ◌<ℚ◌ (p q : ℚ) : Type 0 where
   pub gap : IsPositive (q -ℚ p)
 
@@ -99,5 +107,6 @@ quotient n (pos d) = ratio n d
 quotient n (negsuc d) = ratio (neg_ℤ n) (suc d)
 
 infixl 7 ◌/ℚ◌
+-- a rational number in lowest terms, with a positive denominator
 abbrev pub ◌/ℚ◌ : ℚ → ℚ → ℚ
 p /ℚ q = p *ℚ inv_ℚ q

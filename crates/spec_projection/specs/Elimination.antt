@@ -29,6 +29,7 @@ is_above_zero (pos zero) = false
 is_above_zero (pos (suc n)) = true
 is_above_zero (negsuc n) = false
 
+-- above zero
 abbrev pub is_positive : ℚ → Bool
 is_positive q = is_above_zero q.numerator
 

@@ -18,6 +18,7 @@ abbrev pub sum_below : ℕ → (ℕ → ℚ) → ℚ
 sum_below zero f = 0ℚ
 sum_below (suc n) f = f n +ℚ sum_below n f
 
+-- the first of two numbers, or the second
 abbrev pub pick : Bool → ℚ → ℚ → ℚ
 pick true p q = p
 pick false p q = q
@@ -71,5 +72,6 @@ pub record Exceeds (size : ℕ) (restricted : ℕ → Bool) (d : Dictionary) (r 
   pub obeys : Obeys restricted at
   pub above : r <ℚ value
 
+-- the row exceeds every number
 abbrev pub IsUnbounded : ℕ → (ℕ → Bool) → Dictionary → Type 0
 IsUnbounded size restricted d = (r : ℚ) → Exceeds size restricted d r

@@ -92,6 +92,7 @@ in_front_unless_disequation Gt c l = c ∷ l
 in_front_unless_disequation Ge c l = c ∷ l
 in_front_unless_disequation Ne c l = l
 
+-- the other constraints of the list, in their order
 abbrev pub without_disequations : List Constraint → List Constraint
 without_disequations [] = []
 without_disequations (c ∷ l) = in_front_unless_disequation c.relation c (without_disequations l)

@@ -70,6 +70,7 @@ pub data RowIndex : Type 0 where
   constant : RowIndex
   column : Quantity → RowIndex
 
+-- a place of a row over these columns: that of its constant, or that of one of the columns
 abbrev pub IsRowIndex : List Quantity → RowIndex → Type 0
 IsRowIndex columns constant = ⊤
 IsRowIndex columns (column q) = Has q columns
@@ -89,6 +90,7 @@ pub record Exchange (m : Moment) : Type 0 where
   pub is_column : Has column columns
   pub not_zero : row.numbers.entry column ≡ 0ℚ → ⊥
 
+-- the entry at which an exchange turns: that of the leaving row at the entering column
 abbrev pub pivot_entry : {m : Moment} → Exchange m → ℚ
 pivot_entry x = x.row.numbers.entry x.column
 
@@ -113,9 +115,11 @@ pub record Adding (m : Moment) : Type 0 where
 
 -- ---- the pairs
 
+-- an operation that adds
 abbrev pub IsSumOrDifference : Operation → Type 0
 IsSumOrDifference o = (o ≡ Sum) ⊎ (o ≡ Difference)
 
+-- an operation that multiplies
 abbrev pub IsProductOrQuotient : Operation → Type 0
 IsProductOrQuotient o = (o ≡ Times) ⊎ (o ≡ Quotient)
 

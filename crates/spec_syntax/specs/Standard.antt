@@ -11,6 +11,7 @@ pub record Row : Type 0 where
   pub kind : OpKind
   pub names : List Text
 
+-- a row of the table: these names have this kind and priority
 abbrev pub row : ℕ → OpKind → List Text → Row
 row priority kind names = record { priority = priority; kind = kind; names = names }
 

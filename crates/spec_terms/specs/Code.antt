@@ -10,6 +10,7 @@ use Rattle.spec_terms.specs.Term.{Term, Terms, Var, Number, Name, Compound, one,
 abbrev pub coded_rational : Coded ℚ
 coded_rational = code_by (ℤ × ℕ) (coded× coded_ℤ coded_ℕ) (λ q. (q.numerator, denominator q)) (λ p. ratio p.0 p.1) ratio_back
 
+-- a term as a value of the general kind, and its arguments
 abbrev mutual
   pub term_code : {A : Type 0} → Coded A → Term A → Gv
   term_code c (Var n) = gcons gnil (gnum n)

@@ -65,6 +65,7 @@ pub data Evaluated : Type 0 where
 
 -- ---- tests
 
+-- the number 0
 abbrev pub is_zero : ℤ → Bool
 is_zero (pos zero) = true
 is_zero (pos (suc n)) = false
@@ -75,6 +76,7 @@ abbrev pub is_one : ℕ → Bool
 is_one zero = true
 is_one (suc below) = false
 
+-- the number is whole
 abbrev pub is_whole : ℚ → Bool
 is_whole q = is_one q.below
 
@@ -107,6 +109,7 @@ unary_value Floor q = int_ℚ (floor q)
 unary_value Ceiling q = int_ℚ (ceiling q)
 unary_value Truncate q = int_ℚ (truncate q)
 
+-- what an exact operation gives of two numbers
 abbrev pub exact_value : Operation → ℚ → ℚ → ℚ
 exact_value Sum p q = p +ℚ q
 exact_value Difference p q = p -ℚ q
@@ -128,6 +131,7 @@ exact_result Difference p q = unless_refused Difference p q
 exact_result Product p q = unless_refused Product p q
 exact_result Quotient p q = if is_zero q.numerator then Fails ZeroDivisor else unless_refused Quotient p q
 
+-- what an operation on whole numbers gives
 abbrev pub whole_value : WholeOperation → ℤ → ℤ → ℤ
 whole_value WholeQuotient m n = whole_quotient m n
 whole_value Remainder m n = remainder m n
@@ -141,12 +145,15 @@ whole_result o p q =
     else if is_zero q.numerator then Fails ZeroDivisor
     else Value (int_ℚ (whole_value o p.numerator q.numerator))
 
+-- the lesser of two numbers
 abbrev pub least : ℚ → ℚ → ℚ
 least p q = elim (cmp_ℚ p q) [ Less ↦ p | Equal ↦ p | Greater ↦ q ]
 
+-- the greater of two numbers
 abbrev pub greatest : ℚ → ℚ → ℚ
 greatest p q = elim (cmp_ℚ p q) [ Less ↦ q | Equal ↦ p | Greater ↦ p ]
 
+-- what an operation of two arguments evaluates to
 abbrev pub binary_result : BinaryOperation → ℚ → ℚ → Evaluated
 binary_result (Exact o) p q = exact_result o p q
 binary_result (Whole o) p q = whole_result o p q

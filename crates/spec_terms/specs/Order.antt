@@ -19,6 +19,7 @@ rank (Number q) = 1
 rank (Name a) = 2
 rank (Compound f ts) = 3
 
+-- the standard order of terms, and of lists of arguments
 abbrev mutual
   -- variables by age, the older first; numbers by value; atoms by their texts; compounds by how many arguments,
   -- then by name, then by the arguments from left to right
